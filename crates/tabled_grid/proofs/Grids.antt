@@ -1,0 +1,107 @@
+-- Grids with another cell at a place, and the grids of texts.
+use Rattle.std.specs.Global.{Vec}
+use Rattle.std.proofs.Common.{◌≡◌, ℕ, zero, suc, ◌<◌, ◌≢◌, List, [], ◌∷◌, ◌⊎◌, inl, inr, refl, sym, ap, ap₂, ◌∙◌, map, length, get_or, set, Some, arith}
+use Rattle.std.specs.Prelude.{slice_get, vec_len}
+use Rattle.std.specs.List.{AllByRecursion}
+use Rattle.std.specs.Option.{option_map}
+use Rattle.std.specs.Vec.{with_item}
+use Rattle.std.proofs.lemmas.List.{map-set, length-set, length-map, get_or-set_same, get_or-set_other, get_or-map as get_or-map_within}
+use Rattle.std.proofs.lemmas.List.Elements.{All-from_recursion}
+use Rattle.std.proofs.lemmas.Option.{slice_get-map, slice_get-get_or, slice_get_read}
+use Rattle.std.proofs.lemmas.Bool.{cases_eq}
+use Rattle.std.proofs.Math.ListN.{get_or-map}
+use Rattle.tabled_grid.specs.declared.config.position.Position.{Position}
+use Rattle.tabled_grid.specs.Grid.{Grid, IsGrid, IsInside, map_grid, cell_at, with_cell, map_items, rows_grid, WritesText}
+use Rattle.tabled_grid.specs.Entity.{place}
+
+-- what f gives of a grid with another cell
+pub map_grid-with_cell : {A B : Type 0} (f : A → B) (g : Grid A) (p : Position) (x : A) → map_grid f (with_cell g p x) ≡ with_cell (map_grid f g) p (f x)
+map_grid-with_cell {A} {B} f g p x =
+    let row : List A = get_or g.cells p.row [] in
+    let cells : map (map f) (set g.cells p.row (set row p.col x)) ≡ set (map (map f) g.cells) p.row (set (get_or (map (map f) g.cells) p.row []) p.col (f x)) =
+    map-set (map f) g.cells p.row (set row p.col x)
+    ∙ ap (set (map (map f) g.cells) p.row) (map-set f row p.col x ∙ ap (λ ys. set ys p.col (f x)) (sym (get_or-map (map f) g.cells p.row []))) in
+    ap (λ (ys : List (List B)). let h : Grid B = record { rows = g.rows; columns = g.columns; cells = ys } in h) cells
+
+-- a list of rows that are all as long, with another cell
+wide-set : {A : Type 0} (n : ℕ) (rows : List (List A)) (i j : ℕ) (x : A) → AllByRecursion (λ (row : List A). length row ≡ n) rows → AllByRecursion (λ (row : List A). length row ≡ n) (set rows i (set (get_or rows i []) j x))
+wide-set n [] i j x a = a
+wide-set n (row ∷ rows) zero j x a = (length-set row j x ∙ a.0, a.1)
+wide-set n (row ∷ rows) (suc i) j x a = (a.0, wide-set n rows i j x a.1)
+
+pub IsGrid-with_cell : {A : Type 0} (g : Grid A) (p : Position) (x : A) → IsGrid g → IsGrid (with_cell g p x)
+IsGrid-with_cell g p x h = record {
+  tall = length-set g.cells p.row _ ∙ h.tall;
+  wide = wide-set g.columns g.cells p.row p.col x h.wide;
+}
+
+wide-map : {A B : Type 0} (f : A → B) (n : ℕ) (rows : List (List A)) → AllByRecursion (λ (row : List A). length row ≡ n) rows → AllByRecursion (λ (row : List B). length row ≡ n) (map (map f) rows)
+wide-map f n [] a = tt
+wide-map f n (row ∷ rows) a = (length-map row f ∙ a.0, wide-map f n rows a.1)
+
+pub IsGrid-map_grid : {A B : Type 0} (f : A → B) (g : Grid A) → IsGrid g → IsGrid (map_grid f g)
+IsGrid-map_grid f g h = record { tall = length-map g.cells (map f) ∙ h.tall; wide = wide-map f g.columns g.cells h.wide }
+
+-- what f gives of the cell at a place
+pub cell_at-map_grid : {A B : Type 0} (f : A → B) (g : Grid A) (p : Position) → cell_at (map_grid f g) p ≡ option_map f (cell_at g p)
+cell_at-map_grid f g p = ap (λ ys. slice_get ys p.col) (get_or-map (map f) g.cells p.row []) ∙ slice_get-map f (get_or g.cells p.row []) p.col
+
+pub cell_at-map_grid_some : {A B : Type 0} (f : A → B) (g : Grid A) (p : Position) (x : A) → cell_at g p ≡ Some x → cell_at (map_grid f g) p ≡ Some (f x)
+cell_at-map_grid_some f g p x e = cell_at-map_grid f g p ∙ ap (option_map f) e
+
+slice_get-set_same : {A : Type 0} (xs : List A) (i : ℕ) (x : A) → i < length xs → slice_get (set xs i x) i ≡ Some x
+slice_get-set_same xs i x h = slice_get-get_or (set xs i x) i x (rw length-set h) ∙ ap Some (get_or-set_same xs i x x h)
+
+slice_get-set_other : {A : Type 0} (xs : List A) (i j : ℕ) (x : A) → j ≢ i → slice_get (set xs i x) j ≡ slice_get xs j
+slice_get-set_other [] i j x h = refl
+slice_get-set_other (y ∷ ys) zero zero x h = absurd (h refl)
+slice_get-set_other (y ∷ ys) zero (suc j) x h = refl
+slice_get-set_other (y ∷ ys) (suc i) zero x h = refl
+slice_get-set_other (y ∷ ys) (suc i) (suc j) x h = slice_get-set_other ys i j x (λ e. h (ap suc e))
+
+row-set_same : {A : Type 0} (rows : List (List A)) (i j k : ℕ) (x : A) → k ≢ j → slice_get (get_or (set rows i (set (get_or rows i []) j x)) i []) k ≡ slice_get (get_or rows i []) k
+row-set_same [] i j k x h = refl
+row-set_same (row ∷ rows) zero j k x h = slice_get-set_other row j k x h
+row-set_same (row ∷ rows) (suc i) j k x h = row-set_same rows i j k x h
+
+-- the cell that was put at a place, and the cells at the others
+pub cell_at-with_cell_same : {A : Type 0} (g : Grid A) (p : Position) (x : A) → IsGrid g → IsInside g p → cell_at (with_cell g p x) p ≡ Some x
+cell_at-with_cell_same g p x h i =
+    let below : p.row < length g.cells = omega (arith, h.tall, i.row) in
+    let wide : length (get_or g.cells p.row []) ≡ g.columns = All-from_recursion _ _ h.wide p.row [] below in
+    ap (λ row. slice_get row p.col) (get_or-set_same g.cells p.row (set (get_or g.cells p.row []) p.col x) [] below)
+    ∙ slice_get-set_same (get_or g.cells p.row []) p.col x (omega (arith, wide, i.col))
+
+pub cell_at-with_cell_other : {A : Type 0} (g : Grid A) (p q : Position) (x : A) → q ≢ p → cell_at (with_cell g p x) q ≡ cell_at g q
+cell_at-with_cell_other g p q x h = other (cases_eq q.row p.row)
+  where
+    other : (q.row ≡ p.row) ⊎ (q.row ≢ p.row) → cell_at (with_cell g p x) q ≡ cell_at g q
+    other (inl e) =
+        let ne : q.col ≢ p.col = λ k. h (ap₂ place e k) in
+        rw e (row-set_same g.cells p.row p.col q.col x ne)
+    other (inr ne) = ap (λ row. slice_get row q.col) (get_or-set_other g.cells p.row q.row (set (get_or g.cells p.row []) p.col x) [] ne)
+
+-- a text is written where a cell with that text is
+pub texts_written : {A : Type 0} (text_of : A → List ℕ) (old new : Grid A) (p : Position) (text : List ℕ) → WritesText text_of old new p text → map_grid text_of new ≡ with_cell (map_grid text_of old) p text
+texts_written text_of old new p text w = ap (map_grid text_of) w.is ∙ map_grid-with_cell text_of old p w.cell ∙ ap (with_cell (map_grid text_of old) p) w.has
+
+-- the row at p of the rows that vectors hold
+module _ {A : Type 0} (columns : ℕ) (lines : Vec (Vec A)) (p : Position) (row : Vec A) (even : IsGrid (rows_grid columns lines)) (inside : IsInside (rows_grid columns lines) p) (is : row ≡ get_or lines.items p.row row) where
+  row_items : get_or (map_items lines.items) p.row [] ≡ row.items
+  row_items = get_or-map_within (λ (v : Vec A). v.items) lines.items p.row row [] (omega (arith, lines.ok.0, inside.row)) ∙ ap (λ (v : Vec A). v.items) (sym is)
+
+  -- the place is inside the row
+  pub row_holds : p.col < vec_len row
+  row_holds =
+      let wide : length (get_or (map_items lines.items) p.row []) ≡ columns = All-from_recursion _ _ even.wide p.row [] (omega (arith, even.tall, inside.row)) in
+      omega (arith, row.ok.0, inside.col, rw row_items at wide)
+
+  pub row_cell : (x : A) → x ≡ get_or row.items p.col x → cell_at (rows_grid columns lines) p ≡ Some x
+  row_cell x e = ap (λ ys. slice_get ys p.col) row_items ∙ slice_get_read row.items (vec_len row) p.col x row.ok.0 row_holds e
+
+  pub row_written : (x : A) → rows_grid columns (with_item lines p.row (with_item row p.col x)) ≡ with_cell (rows_grid columns lines) p x
+  row_written x =
+      let cells : map_items (set lines.items p.row (with_item row p.col x)) ≡ set (map_items lines.items) p.row (set (get_or (map_items lines.items) p.row []) p.col x) =
+      map-set (λ (v : Vec A). v.items) lines.items p.row (with_item row p.col x)
+      ∙ ap (λ ys. set (map_items lines.items) p.row (set ys p.col x)) (sym row_items) in
+      ap (λ (ys : List (List A)). let g : Grid A = record { rows = vec_len lines; columns = columns; cells = ys } in g) cells

@@ -1,0 +1,2 @@
+pub mod Entity
+pub mod Grid

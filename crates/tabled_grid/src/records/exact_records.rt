@@ -1,0 +1,16 @@
+//! Stores that know their rows.
+
+ghost use Rattle.std.specs.Prelude.{◌≡◌};
+ghost use Rattle.tabled_grid.specs.Grid.{IsGrid};
+
+use crate::records::grid_store::GridStore;
+
+/// A store that knows its number of rows.
+///
+/// Ported from `tabled::grid::records::ExactRecords`.
+pub trait ExactRecords: GridStore {
+    fn count_rows(&self) -> usize
+        requires { Self.is_well_formed self.now }
+        ensures rows { result ≡ (Self.grid self.now).rows }
+        ensures even { IsGrid (Self.grid self.now) };
+}

@@ -1,0 +1,24 @@
+//! Stores of cells, and the traits that every store keeps.
+//!
+//! A contract sees a store as its grid alone, a shape and the list of its rows.
+
+mod blank;
+mod cell_text;
+mod exact_records;
+mod grid_store;
+mod peekable_records;
+#[allow(clippy::module_inception)]
+mod records;
+mod records_mut;
+#[cfg(test)]
+mod tests;
+pub mod vec_records;
+
+pub use blank::Blank;
+pub use cell_text::CellText;
+pub use exact_records::ExactRecords;
+pub use grid_store::GridStore;
+pub use peekable_records::PeekableRecords;
+pub use records::Records;
+pub use records_mut::RecordsMut;
+pub use vec_records::{Text, VecRecords};

@@ -1,0 +1,20 @@
+//! Stores that know their columns.
+
+ghost use Rattle.std.specs.Prelude.{◌≡◌, Some};
+ghost use Rattle.tabled_grid.specs.Grid.{IsGrid};
+
+use crate::records::grid_store::GridStore;
+
+/// A store that knows its number of columns.
+///
+/// Ported from `tabled::grid::records::Records`.
+pub trait Records: GridStore {
+    fn count_columns(&self) -> usize
+        requires { Self.is_well_formed self.now }
+        ensures columns { result ≡ (Self.grid self.now).columns }
+        ensures even { IsGrid (Self.grid self.now) };
+
+    fn hint_count_rows(&self) -> Option<usize>
+        requires { Self.is_well_formed self.now }
+        ensures { result ≡ Some ((Self.grid self.now).rows) };
+}

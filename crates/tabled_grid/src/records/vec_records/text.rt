@@ -1,0 +1,67 @@
+//! A cell that is a text.
+
+ghost use Rattle.std.specs.Prelude.{◌≡◌};
+
+use crate::records::blank::Blank;
+use crate::records::cell_text::CellText;
+use std::alloc::Global;
+use std::marker::Model;
+
+/// A cell that holds its text alone. A contract sees it as that text.
+///
+/// Ported from `tabled::grid::records::vec_records::Text`.
+#[derive(Drop)]
+pub struct Text<S> {
+    text: S,
+}
+
+impl<S> Model for Text<S> {
+    ghost Value = { S };
+
+    ghost view = { λ a. a.text };
+
+    ghost inverse = { λ text. record { text = text } };
+}
+
+impl<S> Text<S> {
+    pub fn new(text: S) -> Self
+        ensures { result ≡ text }
+    {
+        Text { text }
+    }
+
+    pub fn into_inner(self) -> S
+        ensures { result ≡ self }
+    {
+        let Text { text } = self;
+        text
+    }
+}
+
+impl<S: CellText> Text<S> {
+    pub fn as_str(&self) -> &str
+        ensures { result.now ≡ S.text_of self.now }
+    {
+        self.text.text()
+    }
+}
+
+impl<S: Blank> Blank for Text<S> {
+    ghost is_blank = { S.is_blank };
+
+    fn blank(alloc: Global) -> Self {
+        Text {
+            text: S::blank(alloc),
+        }
+    }
+}
+
+impl<S: CellText> CellText for Text<S> {
+    ghost text_of = { S.text_of };
+
+    ghost blank_is_empty = { S.blank_is_empty };
+
+    fn text(&self) -> &str {
+        self.text.text()
+    }
+}

@@ -1,0 +1,7 @@
+use Rattle.std.proofs.Common.{◌≡◌, ◌∷◌, ◌++◌, take}
+use Rattle.std.specs.List.{flat_map}
+use Rattle.tabled_script.specs.Output.{escaped}
+use Rattle.tabled_script.proofs.output.push_line.Given as goal
+
+abbrev pub invariant-loop-text : goal.invariant-loop-text
+invariant-loop-text g l = l.out.items ≡ l.initial.out.items ++ flat_map (λ t. 9 ∷ escaped (g.T.CellText.text_of t)) (take l.text-index l.texts)

@@ -1,0 +1,64 @@
+-- How the words of a line are read, from the left.
+use Rattle.std.specs.Prelude.{◌≡◌, ℕ, List, [], ◌∷◌, codes, if◌then◌else◌, Option, None, Some, Result, Ok, Err, MatchResult}
+use Rattle.std.specs.Str.{bytes_eq}
+use Rattle.tabled_grid.specs.declared.config.entity.Entity.{Entity}
+use Rattle.tabled_grid.specs.declared.config.entity.Entity.TheVariants.{Global, Row, Cell}
+use Rattle.tabled_script.specs.declared.fault.Fault.{Fault}
+use Rattle.tabled_script.specs.declared.fault.Fault.TheVariants.{UnknownWord, WordCount, NumberRange}
+use Rattle.tabled_script.specs.Step.{Step}
+use Rattle.tabled_script.specs.Word.{number_of}
+
+-- what reading from the front of texts gives, with the texts left, or the fault that it meets
+abbrev pub Reading : Type 0 → Type 0
+Reading A = List (List ℕ) → Result (A × List (List ℕ)) Fault
+
+-- a value, and no word read
+abbrev pub gives : {A : Type 0} → A → Reading A
+gives x texts = Ok (x, texts)
+
+-- a fault
+abbrev pub fails : {A : Type 0} → Fault → Reading A
+fails fault texts = Err fault
+
+-- one reading, and then another by what it gave
+abbrev pub then_reads : {A B : Type 0} → Reading A → (A → Reading B) → Reading B
+then_reads {A} {B} first next texts = go (first texts)
+  where
+    go : Result (A × List (List ℕ)) Fault → Result (B × List (List ℕ)) Fault
+    go (Ok read) = next read.0 read.1
+    go (Err fault) = Err fault
+
+-- a word
+abbrev pub reads_word : Reading (List ℕ)
+reads_word [] = Err WordCount
+reads_word (text ∷ texts) = Ok (text, texts)
+
+-- a number in range
+abbrev pub reads_number : Reading ℕ
+reads_number = then_reads reads_word (λ text. in_range (number_of text))
+  where
+    in_range : Option ℕ → Reading ℕ
+    in_range None = fails NumberRange
+    in_range (Some n) = gives n
+
+-- the words of a selector, in prefix form
+abbrev pub reads_selector : Reading Entity
+reads_selector = then_reads reads_word (λ word.
+    if bytes_eq word (codes "all") then gives Global else
+    (if bytes_eq word (codes "cell") then then_reads reads_number (λ i. then_reads reads_number (λ j. gives (Cell i j))) else
+    (if bytes_eq word (codes "row") then then_reads reads_number (λ i. gives (Row i)) else fails UnknownWord)))
+
+-- the words of a step
+abbrev pub reads_step : Reading Step
+reads_step = then_reads reads_word (λ word.
+    if bytes_eq word (codes "set") then then_reads reads_selector (λ entity. then_reads reads_word (λ text. gives (record { entity = entity; text = text })))
+    else fails UnknownWord)
+
+-- no word is left
+abbrev pub reads_end : {A : Type 0} → A → Reading A
+reads_end x [] = Ok (x, [])
+reads_end x (text ∷ texts) = Err WordCount
+
+-- code read as a reading says, from texts to those left, with what it gave seen through a view
+abbrev pub Reads : {A X : Type 0} → (X → A) → Reading A → List (List ℕ) → Result X Fault → List (List ℕ) → Type 0
+Reads view reading old result new = MatchResult result (λ x. reading old ≡ Ok (view x, new)) (λ fault. reading old ≡ Err fault)

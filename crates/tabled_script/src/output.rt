@@ -1,0 +1,81 @@
+//! How a table is written.
+
+ghost use Rattle.std.specs.Prelude.{◌≡◌, ◌∷◌, ◌++◌, map, IfOk, IsTrue, OnOk};
+ghost use Rattle.std.specs.String.{string_bytes};
+ghost use Rattle.tabled_grid.specs.Grid.{map_grid};
+ghost use Rattle.tabled_script.specs.Output.{escaped, escaped_byte, line, print as printed};
+
+use std::alloc::{AllocError, Global};
+use tabled_grid::records::{CellText, ExactRecords, Records, Text, VecRecords};
+
+/// Writes a table: its shape, and then its rows.
+pub(crate) fn print(alloc: Global, store: &VecRecords<Text<String>>) -> Result<Vec<u8>, AllocError>
+    ensures { IfOk result (λ out. out.items ≡ printed (map_grid string_bytes store.now)) }
+{
+    let rows = store.count_rows();
+    let shape = [
+        rows.to_string(alloc)?,
+        store.count_columns().to_string(alloc)?,
+    ];
+    let mut out = Vec::new(alloc);
+    push_line(&mut out, "shape", &shape)?;
+    for i in 0..rows {
+        push_line(&mut out, "row", store.row(i))?;
+    }
+    Ok(out)
+}
+
+/// Appends the line of a name and texts.
+fn push_line<T: CellText>(out: &mut Vec<u8>, name: &str, texts: &[T]) -> Result<(), AllocError>
+    ensures { OnOk result (out.new.items ≡ out.old.items ++ line (name.now ∷ map T.text_of texts.now)) }
+{
+    push_escaped(out, name)?;
+    for text in texts {
+        out.push(b'\t')?;
+        push_escaped(out, text.text())?;
+    }
+    out.push(b'\n')?;
+    Ok(())
+}
+
+/// Appends the word that stands for a text.
+fn push_escaped(out: &mut Vec<u8>, text: &str) -> Result<(), AllocError>
+    ensures { OnOk result (out.new.items ≡ out.old.items ++ escaped text.now) }
+{
+    let bytes = text.as_bytes();
+    // Few texts have a byte to escape, and the others are copied whole.
+    if is_plain(bytes) {
+        return out.extend_from_slice(bytes);
+    }
+    for byte in bytes {
+        push_escaped_byte(out, *byte)?;
+    }
+    Ok(())
+}
+
+/// Says whether a text is a word as it is.
+fn is_plain(text: &[u8]) -> bool
+    ensures { IsTrue result → escaped text.now ≡ text.now }
+{
+    for byte in text {
+        if matches!(*byte, b'\t' | b'\n' | b'\\') {
+            return false;
+        }
+    }
+    true
+}
+
+/// Appends a byte as it stands in a word.
+fn push_escaped_byte(out: &mut Vec<u8>, byte: u8) -> Result<(), AllocError>
+    ensures { OnOk result (out.new.items ≡ out.old.items ++ escaped_byte byte) }
+{
+    match byte {
+        b'\t' => out.extend_from_slice(b"\\t"),
+        b'\n' => out.extend_from_slice(b"\\n"),
+        b'\\' => out.extend_from_slice(b"\\\\"),
+        _ => {
+            out.push(byte)?;
+            Ok(())
+        }
+    }
+}

@@ -1,0 +1,118 @@
+//! What the lines of a script say, one after another.
+
+ghost use Rattle.std.specs.Prelude.{◌≡◌, IfOk, MatchResult, Ok, Err};
+ghost use Rattle.tabled_script.specs.Line.{parse};
+
+use crate::fault::Fault;
+use crate::output::print;
+use crate::step::{Step, run};
+use crate::table::padded;
+use crate::words::{Words, parts, texts_of};
+use std::alloc::{AllocError, Global};
+use std::marker::Model;
+use tabled_grid::records::Text;
+
+/// The records of a script, and its steps.
+#[derive(Drop)]
+pub(crate) struct Script {
+    records: Vec<Vec<Text<String>>>,
+    steps: Vec<Step>,
+}
+
+impl Model for Script {
+    ghost use Rattle.std.specs.Prelude.{map};
+    ghost use Rattle.std.specs.String.{string_bytes};
+    ghost use Rattle.tabled_grid.specs.Grid.{map_items};
+    ghost use Rattle.tabled_script.specs.Line.{Script};
+
+    ghost Value = { Script };
+
+    ghost view = { λ a. record { records = map (map string_bytes) (map_items a.records.items); steps = a.steps.items } };
+}
+
+impl Script {
+    ghost use Rattle.std.specs.Prelude.{◌≡◌, [], map, IfOk, Some};
+    ghost use Rattle.std.specs.String.{string_bytes};
+    ghost use Rattle.tabled_grid.specs.Grid.{map_items};
+    ghost use Rattle.tabled_script.specs.Line.{ReadsLine, line_of, meaning_of};
+
+    fn new(alloc: Global) -> Self
+        ensures records { result.records ≡ [] }
+        ensures steps { result.steps ≡ [] }
+    {
+        Script {
+            records: Vec::new(alloc),
+            steps: Vec::new(alloc),
+        }
+    }
+
+    /// Adds what a line says, or says what is wrong with it.
+    fn read_line(&mut self, alloc: Global, line: &[u8]) -> Result<Result<(), Fault>, AllocError>
+        ensures { IfOk result (λ read. ReadsLine self.old (line_of line.now) read self.new) }
+    {
+        if line.is_empty() {
+            return Ok(Ok(()));
+        }
+        let words = parts(alloc, line, b'\t')?;
+        match texts_of(alloc, &words)? {
+            None => Ok(Err(Fault::Escape)),
+            Some(texts) => self.read_texts(texts),
+        }
+    }
+
+    /// Adds what a line's texts say, or says what is wrong with them.
+    fn read_texts(&mut self, mut texts: Vec<Text<String>>) -> Result<Result<(), Fault>, AllocError>
+        ensures { IfOk result (λ read. ReadsLine self.old (meaning_of (Some (map string_bytes texts.items))) read self.new) }
+    {
+        let Some(first) = texts.first() else {
+            return Ok(Ok(()));
+        };
+        if first.as_str() != "row" {
+            return match Words::new(texts).change() {
+                Ok(step) => {
+                    self.steps.push(step)?;
+                    Ok(Ok(()))
+                }
+                Err(fault) => Ok(Err(fault)),
+            };
+        }
+        if !self.steps.is_empty() {
+            return Ok(Err(Fault::RowAfterStep));
+        }
+        let _row = texts.remove(0);
+        self.records.push(texts)?;
+        Ok(Ok(()))
+    }
+}
+
+impl Script {
+    ghost use Rattle.std.specs.Prelude.{◌≡◌, IfOk};
+    ghost use Rattle.tabled_script.specs.Answer.{output_of};
+
+    /// The output: the table of the records after the steps.
+    pub(crate) fn output(self, alloc: Global) -> Result<Vec<u8>, AllocError>
+        ensures { IfOk result (λ output. output.items ≡ output_of self) }
+    {
+        let Script { records, steps } = self;
+        let mut table = padded(alloc, records)?;
+        run(alloc, &mut table, &steps)?;
+        print(alloc, &table)
+    }
+}
+
+/// The script that bytes write, or the number of its first faulty line and the fault.
+pub(crate) fn parse(
+    alloc: Global,
+    input: &[u8],
+) -> Result<Result<Script, (usize, Fault)>, AllocError>
+    ensures { IfOk result (λ script. MatchResult script (λ s. parse input.now ≡ Ok s) (λ fault. parse input.now ≡ Err fault)) }
+{
+    let lines = parts(alloc, input, b'\n')?;
+    let mut script = Script::new(alloc);
+    for (i, line) in lines.iter().enumerate() {
+        if let Err(fault) = script.read_line(alloc, line)? {
+            return Ok(Err((i + 1, fault)));
+        }
+    }
+    Ok(Ok(script))
+}

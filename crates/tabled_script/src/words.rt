@@ -1,0 +1,130 @@
+//! The texts of a line, read from the left.
+
+ghost use Rattle.std.specs.Prelude.{◌≡◌, ◌==◌, map, IfOk, MatchResult, Ok, Err};
+ghost use Rattle.std.specs.Option.{option_map};
+ghost use Rattle.std.specs.String.{string_bytes};
+ghost use Rattle.tabled_script.specs.Line.{texts_of};
+ghost use Rattle.std.specs.List.{slice_split};
+
+use crate::fault::Fault;
+use crate::step::Step;
+use crate::word::{number_of, text_of_word};
+use std::alloc::{AllocError, Global};
+use std::marker::Model;
+use std::vec;
+use tabled_grid::config::Entity;
+use tabled_grid::records::Text;
+
+/// The parts of bytes between the places of one byte.
+pub(crate) fn parts(alloc: Global, bytes: &[u8], at: u8) -> Result<Vec<&[u8]>, AllocError>
+    ensures { IfOk result (λ parts. map (λ part. part.now) parts.items ≡ slice_split (λ b. b == at) bytes.now) }
+{
+    bytes.split(|byte| *byte == at).collect(alloc)
+}
+
+/// The texts of words, or nothing where a word has a bad escape or isn't UTF-8.
+pub(crate) fn texts_of(alloc: Global, words: &[&[u8]]) -> Result<Option<Vec<Text<String>>>, AllocError>
+    ensures { IfOk result (λ texts. option_map (λ v. map string_bytes v.items) texts ≡ texts_of (map (λ word. word.now) words.now)) }
+{
+    let mut texts = Vec::with_capacity(alloc, words.len())?;
+    for word in words {
+        match text_of_word(alloc, *word)? {
+            Some(text) => texts.push(Text::new(text))?,
+            None => return Ok(None),
+        }
+    }
+    Ok(Some(texts))
+}
+
+/// Texts that are read from the front. A contract sees them as the list of those left.
+#[derive(Drop)]
+pub(crate) struct Words {
+    texts: vec::IntoIter<Text<String>>,
+}
+
+impl Model for Words {
+    ghost use Rattle.std.specs.Prelude.{ℕ, List, map};
+    ghost use Rattle.std.specs.String.{string_bytes};
+    ghost use Rattle.std.specs.Vec.Iter.{into_iter_items};
+
+    ghost Value = { List (List ℕ) };
+
+    ghost view = { λ a. map string_bytes (into_iter_items a.texts) };
+}
+
+impl Words {
+    ghost use Rattle.std.specs.Prelude.{◌≡◌, map};
+    ghost use Rattle.std.specs.String.{string_bytes};
+    ghost use Rattle.tabled_script.specs.Words.{Reads, reads_end, reads_number, reads_selector, reads_step, reads_word, then_reads};
+
+    pub(crate) fn new(texts: Vec<Text<String>>) -> Self
+        ensures { result ≡ map string_bytes texts.items }
+    {
+        Words {
+            texts: texts.into_iter(),
+        }
+    }
+
+    fn word(&mut self) -> Result<String, Fault>
+        ensures { Reads string_bytes reads_word self.old result self.new }
+    {
+        match self.texts.next() {
+            Some(text) => Ok(text.into_inner()),
+            None => Err(Fault::WordCount),
+        }
+    }
+
+    fn number(&mut self) -> Result<usize, Fault>
+        ensures { Reads (λ number. number) reads_number self.old result self.new }
+    {
+        let word = self.word()?;
+        match number_of(word.as_str()) {
+            Some(number) => Ok(number),
+            None => Err(Fault::NumberRange),
+        }
+    }
+
+    fn selector(&mut self) -> Result<Entity, Fault>
+        ensures { Reads (λ entity. entity) reads_selector self.old result self.new }
+    {
+        let word = self.word()?;
+        match word.as_str() {
+            "all" => Ok(Entity::Global),
+            "cell" => {
+                let row = self.number()?;
+                let col = self.number()?;
+                Ok(Entity::Cell(row, col))
+            }
+            "row" => {
+                let row = self.number()?;
+                Ok(Entity::Row(row))
+            }
+            _ => Err(Fault::UnknownWord),
+        }
+    }
+
+    /// A step, and no word behind it.
+    pub(crate) fn change(&mut self) -> Result<Step, Fault>
+        ensures { Reads (λ step. step) (then_reads reads_step reads_end) self.old result self.new }
+    {
+        let step = self.step()?;
+        match self.texts.next() {
+            None => Ok(step),
+            Some(_) => Err(Fault::WordCount),
+        }
+    }
+
+    fn step(&mut self) -> Result<Step, Fault>
+        ensures { Reads (λ step. step) reads_step self.old result self.new }
+    {
+        let word = self.word()?;
+        match word.as_str() {
+            "set" => {
+                let entity = self.selector()?;
+                let text = self.word()?;
+                Ok(Step::new(entity, text))
+            }
+            _ => Err(Fault::UnknownWord),
+        }
+    }
+}
