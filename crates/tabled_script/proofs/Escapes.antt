@@ -1,5 +1,5 @@
 -- Escapes undone byte by byte.
-use Rattle.std.proofs.Common.{◌≡◌, ◌≢◌, ℕ, ◌<◌, ◌+◌, Bool, true, false, cond, eqb, not, ◌||◌, List, [], ◌∷◌, ◌++◌, Option, Some, None, length, get_or, drop, arith, rules, refl, sym, ap, ◌∙◌}
+use Rattle.std.proofs.Common.{◌≡◌, ℕ, Bool, true, false, cond, eqb, ◌||◌, List, [], ◌∷◌, ◌++◌, Option, Some, None, refl, sym, ap, ◌∙◌}
 use Rattle.std.proofs.lemmas.Bool.{false≢true}
 use Rattle.std.proofs.lemmas.List.{append_assoc}
 use Rattle.std.specs.List.{list_any}
@@ -38,6 +38,7 @@ unescaped-clean (b ∷ bs) e =
     or-false-left : (x y : Bool) → (x || y) ≡ false → x ≡ false
     or-false-left false y h = refl
     or-false-left true y h = h
+
     or-false-right : (x y : Bool) → (x || y) ≡ false → y ≡ false
     or-false-right false y h = h
     or-false-right true y h = absurd (false≢true (sym h))

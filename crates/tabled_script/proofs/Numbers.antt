@@ -1,11 +1,11 @@
 -- What `parse` reads of a text without a sign, in the words of `number_of`.
-use Rattle.std.proofs.Common.{◌≡◌, ◌≢◌, ℕ, ◌<◌, ◌≤◌, ◌^◌, Bool, true, false, cond, ◌&&◌, not, eqb, leb, List, Option, Some, None, Result, Ok, Err, length, get_or, arith, rules, refl, sym, ap, ◌∙◌, lit<}
+use Rattle.std.proofs.Common.{◌≡◌, ◌≢◌, ℕ, ◌<◌, ◌≤◌, ◌^◌, Bool, true, false, cond, ◌&&◌, not, eqb, leb, List, Some, None, Result, Ok, Err, length, get_or, arith, refl, ap, ◌∙◌}
 use Rattle.std.proofs.lemmas.Bool.Decides.{nat_tests}
 use Rattle.std.proofs.lemmas.Str.Parse.{IsNumeralModel, numerals_by_value, tells_all_ascii_digits, parse_plain}
 use Rattle.std.specs.Str.{all_ascii_digits}
 use Rattle.std.specs.Str.Parse.{ParsesUnsigned, digits_value}
-use Rattle.std.specs.Result.{OkIff, result_ok}
-use Rattle.tabled_script.specs.Word.{number_of, largest_number}
+use Rattle.std.specs.Result.{result_ok}
+use Rattle.tabled_script.specs.Word.{number_of}
 
 -- digits and their value are std's
 own : IsNumeralModel (λ ds. all_ascii_digits ds ≡ true) (digits_value 10)
@@ -28,10 +28,10 @@ pub number_of-refused : {E : Type 0} (text : List ℕ) (r : Result ℕ E) → Pa
 number_of-refused {E} text (Ok n) h plain e = cc
 number_of-refused {E} text (Err e) h plain is =
     none_unless (not (eqb (length text) 0)) (all_ascii_digits text) (leb (digits_value 10 text) 10000) (digits_value 10 text) (λ some digits small.
-        let least : 0 < length text = grind (arith, nat_tests) in
-        let most : digits_value 10 text ≤ 10000 = grind (arith, nat_tests) in
-        let fits : digits_value 10 text < 2 ^ 64 = omega arith in
-        parse_plain own {E = E} 64 text (Err e) h plain (digits, least, fits))
+    let least : 0 < length text = grind (arith, nat_tests) in
+    let most : digits_value 10 text ≤ 10000 = grind (arith, nat_tests) in
+    let fits : digits_value 10 text < 2 ^ 64 = omega arith in
+    parse_plain own {E = E} 64 text (Err e) h plain (digits, least, fits))
 
 -- what it reads is the number, if that isn't too large
 pub number_of-read : {E : Type 0} (text : List ℕ) (r : Result ℕ E) (n : ℕ) → ParsesUnsigned 64 10 text r → get_or text 0 0 ≢ 43 → Some n ≡ result_ok r → n ≤ 10000 → Some n ≡ number_of text

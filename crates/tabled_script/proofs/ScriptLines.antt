@@ -4,8 +4,7 @@ use Rattle.std.proofs.lemmas.List.{append-nil, append_assoc, length_push}
 use Rattle.std.proofs.lemmas.Bool.Decides.{nat_tests}
 use Rattle.std.specs.List.{filter_map, cons_option}
 use Rattle.std.specs.Option.{option_to_list}
-use Rattle.tabled_script.specs.declared.fault.Fault.{Fault}
-use Rattle.tabled_script.specs.Line.{Line, Empty, Record, Change, Faulty, Script, fault_of, first_fault, has_step, is_change, record_in, step_in, with_line}
+use Rattle.tabled_script.specs.Line.{Line, Empty, Record, Change, Faulty, Script, fault_of, first_fault, has_step, is_change, with_line}
 use Rattle.tabled_script.specs.Step.{Step}
 
 has_step-push : (steps : List Step) (step : Step) → not (eqb (length (steps ++ step ∷ [])) 0) ≡ true

@@ -1,7 +1,7 @@
 -- Bytes that are a text.
 use Rattle.std.specs.Global.{Vec, Global}
 use Rattle.std.specs.Prelude.{String}
-use Rattle.std.proofs.Common.{◌≡◌, ℕ, Bool, true, false, cond, List, Option, Some, None, Result, Ok, Err, rules, refl, sym, ap, ◌∙◌, subst}
+use Rattle.std.proofs.Common.{◌≡◌, ℕ, Bool, true, false, cond, Some, None, Result, Ok, Err, refl, ap, subst}
 use Rattle.std.proofs.lemmas.Str.{IsUtf8-from_is_utf8, is_utf8-from_IsUtf8, IsUtf8-string_bytes}
 use Rattle.std.specs.Option.{option_map}
 use Rattle.std.specs.Result.{IfOk, IsOk, result_ok}

@@ -1,9 +1,9 @@
 -- What the program writes for a script.
-use Rattle.std.specs.Prelude.{ℕ, List, [], ◌∷◌, ◌++◌, codes, Result, Ok, Err}
+use Rattle.std.specs.Prelude.{ℕ, List, [], ◌∷◌, ◌++◌, codes}
 use Rattle.std.specs.Fmt.{decimal}
 use Rattle.tabled_script.specs.declared.fault.Fault.{Fault}
 use Rattle.tabled_script.specs.declared.fault.Fault.TheVariants.{UnknownWord, WordCount, NumberRange, Escape, RowAfterStep}
-use Rattle.tabled_script.specs.Line.{Script, parse}
+use Rattle.tabled_script.specs.Line.{Script}
 use Rattle.tabled_script.specs.Output.{print}
 use Rattle.tabled_script.specs.Step.{after_all, padded}
 

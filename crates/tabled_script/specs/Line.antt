@@ -2,6 +2,7 @@
 use Rattle.std.specs.Prelude.{◌≡◌, ℕ, ◌+◌, Bool, true, false, ◌||◌, ◌==◌, not, List, [], ◌∷◌, ◌++◌, length, map, option_to_list, codes, if◌then◌else◌, Option, None, Some, Result, Ok, Err, MatchResult, filter_map}
 use Rattle.std.specs.List.{slice_split}
 use Rattle.std.specs.Str.{bytes_eq}
+use Rattle.std.specs.Borrow.{Bor}
 use Rattle.std.specs.Option.{option_map}
 use Rattle.tabled_script.specs.declared.fault.Fault.{Fault}
 use Rattle.tabled_script.specs.declared.fault.Fault.TheVariants.{Escape, RowAfterStep}
@@ -23,6 +24,11 @@ lines_of input = slice_split (λ b. b == 10) input
 -- the words of a line, which single tabs part
 abbrev pub words_of : List ℕ → List (List ℕ)
 words_of line = slice_split (λ b. b == 9) line
+
+-- the parts of bytes between the places of one byte, if there are bytes
+abbrev pub parts_left : ℕ → Option (Bor (List ℕ)) → List (List ℕ)
+parts_left at None = []
+parts_left at (Some bytes) = slice_split (λ b. b == at) bytes.now
 
 -- the texts of words, or nothing where a word has none
 abbrev pub texts_of : List (List ℕ) → Option (List (List ℕ))

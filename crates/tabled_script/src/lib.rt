@@ -3,10 +3,13 @@
 
 mod fault;
 mod output;
+mod parts;
 mod program;
 mod script;
 mod step;
 mod table;
+#[cfg(test)]
+mod tests;
 mod word;
 mod words;
 

@@ -5,9 +5,10 @@ ghost use Rattle.tabled_script.specs.Line.{parse};
 
 use crate::fault::Fault;
 use crate::output::print;
+use crate::parts::Parts;
 use crate::step::{Step, run};
 use crate::table::padded;
-use crate::words::{Words, parts, texts_of};
+use crate::words::{Words, texts_of};
 use std::alloc::{AllocError, Global};
 use std::marker::Model;
 use tabled_grid::records::Text;
@@ -53,8 +54,7 @@ impl Script {
         if line.is_empty() {
             return Ok(Ok(()));
         }
-        let words = parts(alloc, line, b'\t')?;
-        match texts_of(alloc, &words)? {
+        match texts_of(alloc, line)? {
             None => Ok(Err(Fault::Escape)),
             Some(texts) => self.read_texts(texts),
         }
@@ -107,11 +107,12 @@ pub(crate) fn parse(
 ) -> Result<Result<Script, (usize, Fault)>, AllocError>
     ensures { IfOk result (λ script. MatchResult script (λ s. parse input.now ≡ Ok s) (λ fault. parse input.now ≡ Err fault)) }
 {
-    let lines = parts(alloc, input, b'\n')?;
     let mut script = Script::new(alloc);
-    for (i, line) in lines.iter().enumerate() {
+    let mut number = 0;
+    for line in Parts::new(input, b'\n') {
+        number += 1;
         if let Err(fault) = script.read_line(alloc, line)? {
-            return Ok(Err((i + 1, fault)));
+            return Ok(Err((number, fault)));
         }
     }
     Ok(Ok(script))

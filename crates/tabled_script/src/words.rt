@@ -1,12 +1,12 @@
 //! The texts of a line, read from the left.
 
-ghost use Rattle.std.specs.Prelude.{◌≡◌, ◌==◌, map, IfOk, MatchResult, Ok, Err};
+ghost use Rattle.std.specs.Prelude.{◌≡◌, map, IfOk, MatchResult, Ok, Err};
 ghost use Rattle.std.specs.Option.{option_map};
 ghost use Rattle.std.specs.String.{string_bytes};
-ghost use Rattle.tabled_script.specs.Line.{texts_of};
-ghost use Rattle.std.specs.List.{slice_split};
+ghost use Rattle.tabled_script.specs.Line.{texts_of, words_of};
 
 use crate::fault::Fault;
+use crate::parts::Parts;
 use crate::step::Step;
 use crate::word::{number_of, text_of_word};
 use std::alloc::{AllocError, Global};
@@ -15,20 +15,14 @@ use std::vec;
 use tabled_grid::config::Entity;
 use tabled_grid::records::Text;
 
-/// The parts of bytes between the places of one byte.
-pub(crate) fn parts(alloc: Global, bytes: &[u8], at: u8) -> Result<Vec<&[u8]>, AllocError>
-    ensures { IfOk result (λ parts. map (λ part. part.now) parts.items ≡ slice_split (λ b. b == at) bytes.now) }
+/// The texts of a line's words, or nothing where a word has a bad escape or isn't UTF-8.
+pub(crate) fn texts_of(alloc: Global, line: &[u8]) -> Result<Option<Vec<Text<String>>>, AllocError>
+    ensures { IfOk result (λ texts. option_map (λ v. map string_bytes v.items) texts ≡ texts_of (words_of line.now)) }
 {
-    bytes.split(|byte| *byte == at).collect(alloc)
-}
-
-/// The texts of words, or nothing where a word has a bad escape or isn't UTF-8.
-pub(crate) fn texts_of(alloc: Global, words: &[&[u8]]) -> Result<Option<Vec<Text<String>>>, AllocError>
-    ensures { IfOk result (λ texts. option_map (λ v. map string_bytes v.items) texts ≡ texts_of (map (λ word. word.now) words.now)) }
-{
-    let mut texts = Vec::with_capacity(alloc, words.len())?;
-    for word in words {
-        match text_of_word(alloc, *word)? {
+    let tabs = line.iter().filter(|byte| **byte == b'\t').count();
+    let mut texts = Vec::with_capacity(alloc, tabs + 1)?;
+    for word in Parts::new(line, b'\t') {
+        match text_of_word(alloc, word)? {
             Some(text) => texts.push(Text::new(text))?,
             None => return Ok(None),
         }

@@ -62,6 +62,27 @@ fn is_empty<C: CellText>(alloc: Global) -> bool {
     C::blank(alloc).text().is_empty()
 }
 
+/// The first table of the README.
+fn first_table(alloc: Global) -> Result<VecRecords<Text<String>>, AllocError> {
+    let head = vec![in alloc; cell(alloc, "Fruit")?, cell(alloc, "Count")?]?;
+    let apple = vec![in alloc; cell(alloc, "Apple")?, cell(alloc, "3")?]?;
+    let pear = vec![in alloc; cell(alloc, "Pear")?, cell(alloc, "")?]?;
+    let mut table = VecRecords::new(alloc, vec![in alloc; head, apple, pear]?)?;
+    table.set(alloc, Position::new(2, 1), "5")?;
+    Ok(table)
+}
+
+#[test]
+fn makes_the_first_table(rt: HostRuntime) -> Result<(), Fail> {
+    let alloc = rt.alloc();
+    let table = first_table(alloc)?;
+    assert_eq!(rt;
+        spelled(alloc, &table)?.as_str(),
+        "3 2 Some(3)\n[Fruit][Count]\n[Apple][3]\n[Pear][5]"
+    );
+    Ok(())
+}
+
 #[test]
 fn reads_the_cells(rt: HostRuntime) -> Result<(), Fail> {
     let alloc = rt.alloc();

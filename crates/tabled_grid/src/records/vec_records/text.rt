@@ -42,7 +42,7 @@ impl<S: CellText> Text<S> {
     pub fn as_str(&self) -> &str
         ensures { result.now ≡ S.text_of self.now }
     {
-        self.text.text()
+        self.text()
     }
 }
 

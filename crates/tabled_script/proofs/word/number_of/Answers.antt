@@ -1,5 +1,4 @@
-use Rattle.std.proofs.Common.{rules, arith, ◌≡◌, ◌≢◌, eqb, false, sym, ◌∙◌, get_or}
-use Rattle.std.proofs.lemmas.Bool.Decides.{nat_tests}
+use Rattle.std.proofs.Common.{rules, ◌≢◌, sym, ◌∙◌, get_or}
 use Rattle.tabled_script.proofs.Numbers.{number_of-refused, number_of-read}
 use Rattle.tabled_script.proofs.word.number_of.Goals as goal
 

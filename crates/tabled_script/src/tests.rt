@@ -1,0 +1,252 @@
+//! Scripts run over readers and writers in memory.
+
+use crate::run_script;
+use std::alloc::Global;
+use std::io::{self, ErrorKind, Read, Write};
+use std::test::Fail;
+
+/// The status for a script, and what was written.
+fn answer(alloc: Global, script: &[u8]) -> (u8, Vec<u8>) {
+    let mut reader = script;
+    let mut written = Vec::new(alloc);
+    let status = run_script(alloc, &mut reader, &mut written);
+    (status, written)
+}
+
+#[test]
+fn writes_tables(rt: HostRuntime) -> Result<(), Fail> {
+    for (script, output) in [
+        ("", "shape\t0\t0\n"),
+        ("\n\n", "shape\t0\t0\n"),
+        ("row", "shape\t1\t0\nrow\n"),
+        ("row\t\n", "shape\t1\t1\nrow\t\n"),
+        ("row\nrow\n", "shape\t2\t0\nrow\nrow\n"),
+        (
+            "row\ta\tb\nrow\tc\nset\tcell\t0\t1\tx\n",
+            "shape\t2\t2\nrow\ta\tx\nrow\tc\t\n",
+        ),
+        ("row\ta\nset\tcell\t5\t5\tx\n", "shape\t1\t1\nrow\ta\n"),
+        ("row\ta\nset\tcell\t0\t1\tx\n", "shape\t1\t1\nrow\ta\n"),
+        ("row\ta\nset\tcell\t1\t0\tx\n", "shape\t1\t1\nrow\ta\n"),
+        (
+            "row\ta\n\nrow\tb\tc\td\nrow\n",
+            "shape\t3\t3\nrow\ta\t\t\nrow\tb\tc\td\nrow\t\t\t\n",
+        ),
+        (
+            "row\ta\tb\nrow\tc\td\nset\trow\t1\tx\nset\trow\t2\ty",
+            "shape\t2\t2\nrow\ta\tb\nrow\tx\tx\n",
+        ),
+        (
+            "row\ta\tb\nset\tall\tx\nset\tcell\t000\t01\ty\n",
+            "shape\t1\t2\nrow\tx\ty\n",
+        ),
+        ("row\nset\tall\tx\n", "shape\t1\t0\nrow\n"),
+        (
+            "row\ta\nset\tcell\t10000\t10000\tx\n",
+            "shape\t1\t1\nrow\ta\n",
+        ),
+        // Escapes, and characters that are plain: a carriage return, and what is no ASCII.
+        (
+            "row\t\\t\\n\\\\\ta\\\\nb\n",
+            "shape\t1\t2\nrow\t\\t\\n\\\\\ta\\\\nb\n",
+        ),
+        (
+            "row\ta\r\nrow\tä\u{1f633}\n",
+            "shape\t2\t1\nrow\ta\r\nrow\tä\u{1f633}\n",
+        ),
+        ("row\ta\nset\tall\t\\\\t\n", "shape\t1\t1\nrow\t\\\\t\n"),
+    ] {
+        let (status, written) = answer(rt.alloc(), script.as_bytes());
+        assert_eq!(rt; status, 0, "at {script:?}");
+        assert_eq!(rt; written.as_slice(), output.as_bytes(), "at {script:?}");
+    }
+    Ok(())
+}
+
+#[test]
+fn names_the_first_fault(rt: HostRuntime) -> Result<(), Fail> {
+    for (script, line) in [
+        ("spin", "line 1: fault 1\n"),
+        ("row\r", "line 1: fault 1\n"),
+        ("\t", "line 1: fault 1\n"),
+        ("span\t0\t0\t1\t2", "line 1: fault 1\n"),
+        ("shape\t0\t0", "line 1: fault 1\n"),
+        ("hmerge\n", "line 1: fault 1\n"),
+        ("row\ta\nset\tsome\tx\n", "line 2: fault 1\n"),
+        ("set", "line 1: fault 2\n"),
+        ("set\tall", "line 1: fault 2\n"),
+        ("set\tcell\t0", "line 1: fault 2\n"),
+        ("set\tcell\t0\t0\n", "line 1: fault 2\n"),
+        ("set\tall\tx\ty", "line 1: fault 2\n"),
+        ("set\tall\tx\t", "line 1: fault 2\n"),
+        ("set\trow\t10001\tx", "line 1: fault 3\n"),
+        ("set\trow\t18446744073709551616\tx", "line 1: fault 3\n"),
+        ("set\trow\t\tx", "line 1: fault 3\n"),
+        ("set\trow\t+1\tx", "line 1: fault 3\n"),
+        ("set\trow\t-0\tx", "line 1: fault 3\n"),
+        ("set\trow\t1a\tx", "line 1: fault 3\n"),
+        // Read from the left: the number stands before the missing words.
+        ("set\tcell\tone", "line 1: fault 3\n"),
+        ("row\ta\nrow\tb\\q\n", "line 2: fault 4\n"),
+        ("row\ta\\", "line 1: fault 4\n"),
+        ("\n\nrow\ta\\\tb\n", "line 3: fault 4\n"),
+        // A bad escape comes before all else in its line.
+        ("spin\t\\q", "line 1: fault 4\n"),
+        ("row\ta\nset\tall\tx\nrow\tb\n", "line 3: fault 6\n"),
+        ("set\tall\tx\nrow\t\\q\n", "line 2: fault 4\n"),
+        ("set\tall\tx\nrow\nspin\n", "line 2: fault 6\n"),
+    ] {
+        let (status, written) = answer(rt.alloc(), script.as_bytes());
+        assert_eq!(rt; status, 2, "at {script:?}");
+        assert_eq!(rt; written.as_slice(), line.as_bytes(), "at {script:?}");
+    }
+    let (status, written) = answer(rt.alloc(), b"row\ta\nrow\t\xff\n");
+    assert_eq!(rt; status, 2);
+    assert_eq!(rt; written.as_slice(), b"line 2: fault 4\n".as_slice());
+    Ok(())
+}
+
+#[test]
+fn ends_well_where_a_script_is_cut(rt: HostRuntime) -> Result<(), Fail> {
+    let script = "row\ta\\t\tä\n\nrow\tb\r\nset\tcell\t0\t1\tx\\\\\nset\trow\t007\ty\n";
+    let bytes = script.as_bytes();
+    for end in 0..bytes.len() {
+        let (status, written) = answer(rt.alloc(), &bytes[..end]);
+        let shown = written.as_slice();
+        assert!(rt; status == 0 || status == 2, "cut at {end}");
+        assert_eq!(rt; shown.starts_with(b"shape\t"), status == 0, "cut at {end}");
+        assert_eq!(rt; shown.starts_with(b"line "), status == 2, "cut at {end}");
+    }
+    Ok(())
+}
+
+/// A reader that gives one byte a call, and fails at a call.
+#[derive(Drop)]
+struct FailingReader<'a> {
+    bytes: &'a [u8],
+    calls_before: usize,
+}
+
+impl Read for FailingReader<'_> {
+    fn read(&mut self, buf: &mut [u8]) -> io::Result<usize> {
+        if self.calls_before == 0 {
+            return Err(io::Error::from(ErrorKind::BrokenPipe));
+        }
+        self.calls_before -= 1;
+        let Some((first, rest)) = self.bytes.split_first() else {
+            return Ok(0);
+        };
+        if buf.is_empty() {
+            return Ok(0);
+        }
+        buf[0] = *first;
+        self.bytes = rest;
+        Ok(1)
+    }
+}
+
+#[test]
+fn fails_where_a_read_fails(rt: HostRuntime) -> Result<(), Fail> {
+    let script = b"row\ta\nset\tall\tx\n";
+    // The call after the last byte tells the end.
+    for calls_before in 0..script.len() + 3 {
+        let mut reader = FailingReader {
+            bytes: script,
+            calls_before,
+        };
+        let mut written = Vec::new(rt.alloc());
+        let status = run_script(rt.alloc(), &mut reader, &mut written);
+        let failed = calls_before <= script.len();
+        assert_eq!(rt;
+            status,
+            if failed { 4 } else { 0 },
+            "after {calls_before} reads"
+        );
+        assert_eq!(rt; written.is_empty(), failed, "after {calls_before} reads");
+    }
+    Ok(())
+}
+
+/// A writer that takes one byte a call, and fails at a call.
+#[derive(Drop)]
+struct FailingWriter {
+    calls_before: usize,
+}
+
+impl Write for FailingWriter {
+    fn write(&mut self, buf: &[u8]) -> io::Result<usize> {
+        if self.calls_before == 0 {
+            return Err(io::Error::from(ErrorKind::BrokenPipe));
+        }
+        self.calls_before -= 1;
+        Ok(buf.len().min(1))
+    }
+
+    fn flush(&mut self) -> io::Result<()> {
+        Ok(())
+    }
+}
+
+#[test]
+fn fails_where_a_write_fails(rt: HostRuntime) -> Result<(), Fail> {
+    for (script, length, status) in [("row\ta\n", 16, 0), ("spin\n", 16, 2)] {
+        for calls_before in 0..length + 2 {
+            let mut reader = script.as_bytes();
+            let mut writer = FailingWriter { calls_before };
+            let answered = run_script(rt.alloc(), &mut reader, &mut writer);
+            let want = if calls_before < length { 4 } else { status };
+            assert_eq!(rt; answered, want, "{script:?} after {calls_before} writes");
+        }
+    }
+    Ok(())
+}
+
+/// The report of examples/sales.script, and its table of examples/sales.table.
+const SALES: (&str, &str) = (
+    "\
+row\tRegion\tMonth\tUnits\tRevenue\n\
+row\tNorth\tJanuary\t120\t2400\n\
+row\tNorth\tFebruary\t98\t1960\n\
+row\tNorth\tMarch\t143\t2860\n\
+row\tSouth\tJanuary\t87\t1740\n\
+row\tSouth\tFebruary\t101\n\
+row\tSouth\tMarch\t95\t1900\n\
+row\tEast\tJanuary\t64\t1280\n\
+row\tEast\tFebruary\t71\t1420\n\
+row\tEast\tMarch\t80\t1600\n\
+row\tWest\tJanuary\t132\t2640\n\
+row\tWest\tFebruary\t127\t2540\n\
+row\tWest\tMarch\t119\t2380\n\
+row\tTotal\n\
+\n\
+set\tcell\t5\t3\t2020\n\
+set\tcell\t13\t2\t1237\n\
+set\tcell\t13\t3\t24740\n\
+set\tcell\t13\t1\tJanuary to March\n\
+",
+    "\
+shape\t14\t4\n\
+row\tRegion\tMonth\tUnits\tRevenue\n\
+row\tNorth\tJanuary\t120\t2400\n\
+row\tNorth\tFebruary\t98\t1960\n\
+row\tNorth\tMarch\t143\t2860\n\
+row\tSouth\tJanuary\t87\t1740\n\
+row\tSouth\tFebruary\t101\t2020\n\
+row\tSouth\tMarch\t95\t1900\n\
+row\tEast\tJanuary\t64\t1280\n\
+row\tEast\tFebruary\t71\t1420\n\
+row\tEast\tMarch\t80\t1600\n\
+row\tWest\tJanuary\t132\t2640\n\
+row\tWest\tFebruary\t127\t2540\n\
+row\tWest\tMarch\t119\t2380\n\
+row\tTotal\tJanuary to March\t1237\t24740\n\
+",
+);
+
+#[test]
+fn writes_the_report_of_the_examples(rt: HostRuntime) -> Result<(), Fail> {
+    let (status, written) = answer(rt.alloc(), SALES.0.as_bytes());
+    assert_eq!(rt; status, 0);
+    assert_eq!(rt; written.as_slice(), SALES.1.as_bytes());
+    Ok(())
+}
