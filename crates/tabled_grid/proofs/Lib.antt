@@ -1,2 +1,11 @@
+pub mod Blanks
 pub mod Grids
+pub mod Lists
+pub mod Mapped
 pub mod Places
+pub mod Resized
+pub mod RowByRow
+pub mod SamePlaces
+pub mod SortedEntries
+pub mod Spans
+pub mod Swaps

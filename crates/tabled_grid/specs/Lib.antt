@@ -1,2 +1,4 @@
 pub mod Entity
 pub mod Grid
+pub mod Resized
+pub mod Spans

@@ -2,8 +2,10 @@
 
 mod entity;
 mod position;
+mod spanned_config;
 #[cfg(test)]
 mod tests;
 
 pub use entity::{Entity, EntityIterator};
 pub use position::Position;
+pub use spanned_config::SpannedConfig;

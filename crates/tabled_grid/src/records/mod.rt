@@ -6,10 +6,12 @@ mod blank;
 mod cell_text;
 mod exact_records;
 mod grid_store;
+mod nested_rows;
 mod peekable_records;
 #[allow(clippy::module_inception)]
 mod records;
 mod records_mut;
+mod resizable;
 #[cfg(test)]
 mod tests;
 pub mod vec_records;
@@ -21,4 +23,5 @@ pub use grid_store::GridStore;
 pub use peekable_records::PeekableRecords;
 pub use records::Records;
 pub use records_mut::RecordsMut;
+pub use resizable::Resizable;
 pub use vec_records::{Text, VecRecords};

@@ -10,11 +10,11 @@ use crate::config::Position;
 use std::alloc::{AllocError, Global};
 use std::test::Fail;
 
-fn cell(alloc: Global, text: &str) -> Result<Text<String>, AllocError> {
+pub(crate) fn cell(alloc: Global, text: &str) -> Result<Text<String>, AllocError> {
     Ok(Text::new(String::from_str(alloc, text)?))
 }
 
-fn two_rows(alloc: Global) -> Result<VecRecords<Text<String>>, AllocError>
+pub(crate) fn two_rows(alloc: Global) -> Result<VecRecords<Text<String>>, AllocError>
     ensures rows { IfOk result (λ store. store.rows ≡ 2) }
     ensures columns { IfOk result (λ store. store.columns ≡ 2) }
 {
@@ -24,7 +24,7 @@ fn two_rows(alloc: Global) -> Result<VecRecords<Text<String>>, AllocError>
 }
 
 /// The texts of a store, each in brackets, and a line for each row.
-fn spelled<R>(alloc: Global, records: &R) -> Result<String, AllocError>
+pub(crate) fn spelled<R>(alloc: Global, records: &R) -> Result<String, AllocError>
 where
     R: Records + ExactRecords + PeekableRecords,
     R::Cell: CellText,

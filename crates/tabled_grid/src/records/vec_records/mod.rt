@@ -1,5 +1,8 @@
 //! A store of nested rows.
 
+mod resizable;
+#[cfg(test)]
+mod tests;
 mod text;
 
 ghost use Rattle.std.specs.Prelude.{◌≡◌, ◌<◌, Some, slice_get, IfOk, vec_len};

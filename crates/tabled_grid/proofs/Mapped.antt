@@ -1,0 +1,65 @@
+-- What a function gives of each cell of a grid whose rows and columns were changed.
+use Rattle.std.proofs.Common.{◌≡◌, ℕ, List, [], ◌∷◌, Option, None, Some, refl, sym, ap, ap₂, ◌∙◌, map, length, replicate}
+use Rattle.std.specs.List.{AllByRecursion, insert, remove, swap, zip}
+use Rattle.std.specs.Option.{option_map}
+use Rattle.tabled_grid.specs.declared.config.position.Position.{Position}
+use Rattle.tabled_grid.specs.Grid.{Grid, cell_at, map_grid}
+use Rattle.tabled_grid.specs.Resized.{AreBlanks, InsertsRow, InsertsColumn, with_row, with_column, with_rows_swapped, with_columns_swapped, with_cell_if, with_cells_swapped, without_row, without_column}
+use Rattle.tabled_grid.proofs.Grids.{cell_at-map_grid, map_grid-with_cell}
+use Rattle.tabled_grid.proofs.Lists.{map-insert, map-remove, map-swap}
+
+-- two maps, one after the other, that agree at each member with two others
+maps_agree : {A B C D : Type 0} (f : B → D) (g : A → B) (k : C → D) (h : A → C) → ((x : A) → f (g x) ≡ k (h x)) → (xs : List A) → map f (map g xs) ≡ map k (map h xs)
+maps_agree f g k h agree [] = refl
+maps_agree f g k h agree (x ∷ xs) = ap₂ (λ y ys. y ∷ ys) (agree x) (maps_agree f g k h agree xs)
+
+module _ {A B : Type 0} (f : A → B) where
+  column_put : (j : ℕ) (rows : List (List A)) (column : List A) →
+      map (map f) (map (λ (p : List A × A). insert p.0 j p.1) (zip rows column)) ≡ map (λ (p : List B × B). insert p.0 j p.1) (zip (map (map f) rows) (map f column))
+  column_put j [] column = refl
+  column_put j (row ∷ rows) [] = refl
+  column_put j (row ∷ rows) (cell ∷ column) = ap₂ (λ r rs. r ∷ rs) (map-insert f row j cell) (column_put j rows column)
+
+  pub map_grid-with_row : (g : Grid A) (i : ℕ) (row : List A) → map_grid f (with_row g i row) ≡ with_row (map_grid f g) i (map f row)
+  map_grid-with_row g i row = rw (map-insert (map f) g.cells i row) refl
+
+  pub map_grid-with_column : (g : Grid A) (j : ℕ) (column : List A) → map_grid f (with_column g j column) ≡ with_column (map_grid f g) j (map f column)
+  map_grid-with_column g j column = rw (column_put j g.cells column) refl
+
+  pub map_grid-with_rows_swapped : (g : Grid A) (i k : ℕ) → map_grid f (with_rows_swapped g i k) ≡ with_rows_swapped (map_grid f g) i k
+  map_grid-with_rows_swapped g i k = rw (map-swap (map f) g.cells i k) refl
+
+  pub map_grid-with_columns_swapped : (g : Grid A) (j k : ℕ) → map_grid f (with_columns_swapped g j k) ≡ with_columns_swapped (map_grid f g) j k
+  map_grid-with_columns_swapped g j k = rw (maps_agree (map f) (λ row. swap row j k) (λ row. swap row j k) (map f) (λ row. map-swap f row j k) g.cells) refl
+
+  map_grid-with_cell_if : (g : Grid A) (p : Position) (cell : Option A) → map_grid f (with_cell_if g p cell) ≡ with_cell_if (map_grid f g) p (option_map f cell)
+  map_grid-with_cell_if g p None = refl
+  map_grid-with_cell_if g p (Some x) = map_grid-with_cell f g p x
+
+  pub map_grid-with_cells_swapped : (g : Grid A) (p q : Position) → map_grid f (with_cells_swapped g p q) ≡ with_cells_swapped (map_grid f g) p q
+  map_grid-with_cells_swapped g p q =
+      map_grid-with_cell_if (with_cell_if g p (cell_at g q)) q (cell_at g p)
+      ∙ ap₂ (λ (h : Grid B) (cell : Option B). with_cell_if h q cell)
+      (map_grid-with_cell_if g p (cell_at g q) ∙ ap (with_cell_if (map_grid f g) p) (sym (cell_at-map_grid f g q)))
+      (sym (cell_at-map_grid f g p))
+
+  pub map_grid-without_row : (g : Grid A) (i : ℕ) → map_grid f (without_row g i) ≡ without_row (map_grid f g) i
+  map_grid-without_row g i = rw (map-remove (map f) g.cells i) refl
+
+  pub map_grid-without_column : (g : Grid A) (j : ℕ) → map_grid f (without_column g j) ≡ without_column (map_grid f g) j
+  map_grid-without_column g j = rw (maps_agree (map f) (λ row. remove row j) (λ row. remove row j) (map f) (λ row. map-remove f row j) g.cells) refl
+
+-- rows and columns of blanks are seen as empty texts
+module _ {A : Type 0} (text_of : A → List ℕ) (is_blank : A → Type 0) (empty : (x : A) → is_blank x → text_of x ≡ []) where
+  texts_of_blanks : (cells : List A) → AllByRecursion is_blank cells → map text_of cells ≡ replicate (length cells) []
+  texts_of_blanks [] h = refl
+  texts_of_blanks (cell ∷ cells) h = ap₂ (λ text texts. text ∷ texts) (empty cell h.0) (texts_of_blanks cells h.1)
+
+  blank_texts : (count : ℕ) (cells : List A) → AreBlanks is_blank count cells → map text_of cells ≡ replicate count []
+  blank_texts count cells h = texts_of_blanks cells h.blank ∙ ap (λ n. replicate n []) h.many
+
+  pub texts-inserts_row : (old new : Grid A) (i : ℕ) → InsertsRow is_blank old new i → map_grid text_of new ≡ with_row (map_grid text_of old) i (replicate old.columns [])
+  texts-inserts_row old new i w = rw w.is (map_grid-with_row text_of old i w.row ∙ ap (with_row (map_grid text_of old) i) (blank_texts old.columns w.row w.blanks))
+
+  pub texts-inserts_column : (old new : Grid A) (j : ℕ) → InsertsColumn is_blank old new j → map_grid text_of new ≡ with_column (map_grid text_of old) j (replicate old.rows [])
+  texts-inserts_column old new j w = rw w.is (map_grid-with_column text_of old j w.column ∙ ap (with_column (map_grid text_of old) j) (blank_texts old.rows w.column w.blanks))

@@ -1,0 +1,90 @@
+-- Grids with rows and columns put in, exchanged and taken away.
+use Rattle.std.specs.Global.{Vec}
+use Rattle.std.proofs.Common.{◌≡◌, ℕ, ◌+◌, ◌-◌, ◌<◌, ◌≤◌, List, [], Option, None, Some, refl, sym, ap, ◌∙◌, subst, Bool, true, false, cond, eqb, map, length, get_or, arith}
+use Rattle.std.specs.List.{All, AllByRecursion, insert, remove, zip}
+use Rattle.std.proofs.lemmas.Bool.{eqb-true, ne_eqb}
+use Rattle.std.proofs.lemmas.List.{length-map, nil_from_length}
+use Rattle.std.proofs.lemmas.List.Edits.{length-insert, length-remove, length-swap}
+use Rattle.std.specs.Prelude.{vec_len}
+use Rattle.std.proofs.lemmas.List.Elements.{All-from_recursion}
+use Rattle.std.proofs.Math.ListN.{get_or-map}
+use Rattle.std.proofs.lemmas.Slice.Zip.{length-zip}
+use Rattle.tabled_grid.specs.declared.config.position.Position.{Position}
+use Rattle.tabled_grid.specs.Grid.{Grid, IsGrid, cell_at, map_items, rows_grid}
+use Rattle.tabled_grid.specs.Resized.{with_row, with_column, with_rows_swapped, with_columns_swapped, with_cell_if, with_cells_swapped, without_row, without_column}
+use Rattle.tabled_grid.proofs.Grids.{IsGrid-with_cell}
+use Rattle.tabled_grid.proofs.Lists.{map-remove, all-insert, all-remove, all-swap, all-zip, all-map}
+
+-- a row is so long
+abbrev IsWide : {A : Type 0} → ℕ → List A → Type 0
+IsWide n row = length row ≡ n
+
+module _ {A : Type 0} (g : Grid A) (even : IsGrid g) where
+  pub IsGrid-with_row : (i : ℕ) (row : List A) → i ≤ g.rows → length row ≡ g.columns → IsGrid (with_row g i row)
+  IsGrid-with_row i row h w = record {
+    tall = length-insert g.cells i row (omega (arith, even.tall)) ∙ ap (λ n. n + 1) even.tall;
+    wide = all-insert (IsWide g.columns) g.cells i row even.wide w;
+  }
+
+  pub IsGrid-with_rows_swapped : (i k : ℕ) → IsGrid (with_rows_swapped g i k)
+  IsGrid-with_rows_swapped i k = record { tall = length-swap g.cells i k ∙ even.tall; wide = all-swap (IsWide g.columns) g.cells i k even.wide }
+
+  pub IsGrid-with_columns_swapped : (j k : ℕ) → IsGrid (with_columns_swapped g j k)
+  IsGrid-with_columns_swapped j k = record {
+    tall = length-map g.cells _ ∙ even.tall;
+    wide = all-map (IsWide g.columns) (IsWide g.columns) _ (λ row w. length-swap row j k ∙ w) g.cells even.wide;
+  }
+
+  pub IsGrid-without_column : (j : ℕ) → j < g.columns → IsGrid (without_column g j)
+  IsGrid-without_column j h = record {
+    tall = length-map g.cells _ ∙ even.tall;
+    wide = all-map (IsWide g.columns) (IsWide (g.columns - 1)) _ (λ row w. omega (arith, length-remove row j (omega (arith, w)), w)) g.cells even.wide;
+  }
+
+-- where a test shows that there are no rows, they are as wide as can be said
+wide_if : {A : Type 0} (b : Bool) (n m : ℕ) (rows : List (List A)) → (b ≡ true → rows ≡ []) → AllByRecursion (IsWide m) rows → AllByRecursion (IsWide (cond b n m)) rows
+wide_if true n m rows none a = rw (none refl) tt
+wide_if false n m rows none a = a
+
+module _ {A : Type 0} where
+  pub IsGrid-without_row : (g : Grid A) (i : ℕ) → i < g.rows → IsGrid g → IsGrid (without_row g i)
+  IsGrid-without_row g i h even =
+      let tall : length (remove g.cells i) ≡ g.rows - 1 = omega (arith, length-remove g.cells i (omega (arith, even.tall)), even.tall) in
+      record {
+        tall = tall;
+        wide = wide_if (eqb g.rows 1) 0 g.columns (remove g.cells i)
+            (λ e. nil_from_length (remove g.cells i) (omega (arith, tall, eqb-true g.rows 1 e)))
+            (all-remove (IsWide g.columns) g.cells i even.wide);
+      }
+
+  pub IsGrid-with_column : (g : Grid A) (j : ℕ) (column : List A) → j ≤ g.columns → length column ≡ g.rows → IsGrid g → IsGrid (with_column g j column)
+  IsGrid-with_column g j column h tall even =
+      let long : length (map (λ (p : List A × A). insert p.0 j p.1) (zip g.cells column)) ≡ g.rows = omega (arith, length-map (zip g.cells column) (λ (p : List A × A). insert p.0 j p.1), length-zip g.cells column, even.tall, tall) in
+      record {
+        tall = long;
+        wide = wide_if (eqb g.rows 0) g.columns (g.columns + 1) _
+            (λ e. nil_from_length _ (omega (arith, long, eqb-true g.rows 0 e)))
+            (all-map (λ (p : List A × A). IsWide g.columns p.0) (IsWide (g.columns + 1)) _ (λ p w. omega (arith, length-insert p.0 j p.1 (omega (arith, w)), w)) _ (all-zip (IsWide g.columns) g.cells column even.wide));
+      }
+
+  pub IsGrid-with_cell_if : (g : Grid A) (p : Position) (cell : Option A) → IsGrid g → IsGrid (with_cell_if g p cell)
+  IsGrid-with_cell_if g p None even = even
+  IsGrid-with_cell_if g p (Some x) even = IsGrid-with_cell g p x even
+
+  pub IsGrid-with_cells_swapped : (g : Grid A) (p q : Position) → IsGrid g → IsGrid (with_cells_swapped g p q)
+  IsGrid-with_cells_swapped g p q even = IsGrid-with_cell_if _ q (cell_at g p) (IsGrid-with_cell_if g p (cell_at g q) even)
+
+-- what holds of the number of columns holds of each row that a vector holds
+pub each_wide : {A : Type 0} (P : ℕ → Type 0) (columns : ℕ) (lines : Vec (Vec A)) → IsGrid (rows_grid columns lines) → P columns → All (λ (row : Vec A). P (vec_len row)) lines.items
+each_wide {A} P columns lines even h i d within =
+    let lists : List (List A) = map_items lines.items in
+    let long : length (get_or lists i d.items) ≡ columns = All-from_recursion _ _ even.wide i d.items (omega (arith, length-map lines.items (λ (v : Vec A). v.items))) in
+    subst P (sym long ∙ ap length (get_or-map (λ (v : Vec A). v.items) lines.items i d) ∙ sym (get_or lines.items i d).ok.0) h
+
+-- a row taken out of vectors where another is left
+pub row_taken : {A : Type 0} (columns : ℕ) (lines rest : Vec (Vec A)) (i : ℕ) → rest.items ≡ remove lines.items i → vec_len rest + 1 ≡ vec_len lines → 0 < vec_len rest → rows_grid columns rest ≡ without_row (rows_grid columns lines) i
+row_taken {A} columns lines rest i items len some =
+    let cells : map_items rest.items ≡ remove (map_items lines.items) i = ap map_items items ∙ map-remove (λ (v : Vec A). v.items) lines.items i in
+    let fewer : vec_len lines - 1 ≡ vec_len rest = omega arith in
+    let more : eqb (vec_len lines) 1 ≡ false = ne_eqb _ _ (λ e. omega arith) in
+    rw (fewer, more, cells) refl

@@ -1,0 +1,7 @@
+use Rattle.std.proofs.Common.{[], ap, length, ◌∙◌}
+use Rattle.std.specs.FinMap.{empty_of_len, entries-from_sorted, len-entries}
+use Rattle.tabled_grid.specs.Spans.{position_cmp}
+use Rattle.tabled_grid.proofs.config.spanned_config.SpannedConfig.new.Goals as goal
+
+pub returns : goal.returns
+returns c = rw c.new.ensures.items (empty_of_len _ (len-entries _ ∙ ap length (entries-from_sorted position_cmp [] tt)))

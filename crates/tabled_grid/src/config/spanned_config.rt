@@ -1,0 +1,167 @@
+//! Which cells are merged.
+
+ghost use Rattle.std.specs.Prelude.{◌≡◌, ◌<◌, ◌≤◌, ℕ, OnErr, OnOk, SomeIff, length};
+ghost use Rattle.std.specs.FinMap as map;
+ghost use Rattle.std.specs.List.Sorted.{IsBinarySearchResult, IsSearchInRange};
+ghost use Rattle.tabled_grid.specs.Spans.{IsSpanSize, position_cmp, size_at, with_column_span, with_row_span, with_size};
+ghost use Rattle.tabled_grid.specs.declared.config.position.Position.{Position};
+
+use crate::config::position::Position;
+use std::alloc::{AllocError, Global};
+use std::marker::Model;
+
+/// Which cells are merged: rectangles of cells, each of which goes right and down from its anchor.
+///
+/// A contract sees it as a finite map from anchors to heights and widths, both at least 1 and not
+/// both 1. Rectangles need not lie inside a table, and may share cells.
+///
+/// Ported from the spans of `tabled::grid::config::SpannedConfig`.
+#[derive(Drop)]
+pub struct SpannedConfig {
+    /// The anchors and the height and width of each, row by row.
+    anchors: Vec<(Position, (usize, usize))>,
+}
+
+impl Model for SpannedConfig {
+    ghost use Rattle.std.specs.FinMap as map;
+    ghost use Rattle.tabled_grid.specs.Spans.{AreAnchors, SpanMap, span_code};
+
+    ghost Value = { SpanMap };
+
+    ghost coded = { span_code };
+
+    ghost view = { λ a. map.from_sorted a.anchors.items };
+
+    ghost invariant = { λ a. AreAnchors a.anchors.items };
+}
+
+impl SpannedConfig {
+    /// No merged cells.
+    pub fn new(alloc: Global) -> Self
+        ensures { result ≡ map.empty }
+    {
+        SpannedConfig {
+            anchors: Vec::new(alloc),
+        }
+    }
+
+    /// The width of the rectangle that is anchored at a place, if that is above 1.
+    pub fn get_column_span(&self, pos: Position) -> Option<usize>
+        ensures { SomeIff result (1 < (size_at self.now pos).1) (size_at self.now pos).1 }
+    {
+        let (_, width) = self.size(pos);
+        (width > 1).then_some(width)
+    }
+
+    /// The height of the rectangle that is anchored at a place, if that is above 1.
+    pub fn get_row_span(&self, pos: Position) -> Option<usize>
+        ensures { SomeIff result (1 < (size_at self.now pos).0) (size_at self.now pos).0 }
+    {
+        let (height, _) = self.size(pos);
+        (height > 1).then_some(height)
+    }
+
+    /// Sets the width of the rectangle that is anchored at a place, and leaves its height. A width of 0
+    /// changes nothing. A rectangle of one cell is none.
+    ///
+    /// Refused for memory, it changes nothing.
+    pub fn set_column_span(
+        &mut self,
+        _alloc: Global,
+        pos: Position,
+        width: usize,
+    ) -> Result<(), AllocError>
+        ensures ok { OnOk result (self.new ≡ with_column_span self.old pos width) }
+        ensures err { OnErr result (self.new ≡ self.old) }
+    {
+        if width == 0 {
+            return Ok(());
+        }
+        let (height, _) = self.size(pos);
+        self.set_size(pos, (height, width))
+    }
+
+    /// Sets the height of the rectangle that is anchored at a place, and leaves its width. A height of 0
+    /// changes nothing. A rectangle of one cell is none.
+    ///
+    /// Refused for memory, it changes nothing.
+    pub fn set_row_span(
+        &mut self,
+        _alloc: Global,
+        pos: Position,
+        height: usize,
+    ) -> Result<(), AllocError>
+        ensures ok { OnOk result (self.new ≡ with_row_span self.old pos height) }
+        ensures err { OnErr result (self.new ≡ self.old) }
+    {
+        if height == 0 {
+            return Ok(());
+        }
+        let (_, width) = self.size(pos);
+        self.set_size(pos, (height, width))
+    }
+
+    /// Sets the size at a place. Refused for memory, it changes nothing.
+    fn set_size(&mut self, pos: Position, size: (usize, usize)) -> Result<(), AllocError>
+        requires height { 1 ≤ size.0 }
+        requires width { 1 ≤ size.1 }
+        ensures ok { OnOk result (self.new ≡ with_size self.old pos size) }
+        ensures err { OnErr result (self.new ≡ self.old) }
+    {
+        if size == (1, 1) {
+            self.remove(pos);
+            return Ok(());
+        }
+        self.insert(pos, size)
+    }
+
+    /// Puts an anchor of a size at a place. Refused for memory, it changes nothing.
+    fn insert(&mut self, pos: Position, size: (usize, usize)) -> Result<(), AllocError>
+        requires { IsSpanSize size }
+        ensures ok { OnOk result (self.new ≡ map.insert self.old pos size) }
+        ensures err { OnErr result (self.new ≡ self.old) }
+    {
+        match search(&self.anchors, pos) {
+            Ok(i) => {
+                self.anchors[i] = (pos, size);
+                Ok(())
+            }
+            Err(i) => {
+                self.anchors.insert(i, (pos, size))?;
+                Ok(())
+            }
+        }
+    }
+
+    /// Takes away the anchor at a place, if there is one.
+    fn remove(&mut self, pos: Position)
+        ensures { self.new ≡ map.remove self.old pos }
+    {
+        match search(&self.anchors, pos) {
+            Ok(i) => {
+                let _anchor = self.anchors.remove(i);
+            }
+            Err(_) => {}
+        }
+    }
+
+    /// The height and the width at a place, both 1 where there is no anchor.
+    fn size(&self, pos: Position) -> (usize, usize)
+        ensures value { result ≡ size_at self.now pos }
+        ensures height { 1 ≤ result.0 }
+        ensures width { 1 ≤ result.1 }
+    {
+        match search(&self.anchors, pos) {
+            Ok(i) => self.anchors[i].1,
+            Err(_) => (1, 1),
+        }
+    }
+}
+
+/// The index of the anchor at a place, or else that where it would stand.
+fn search(anchors: &[(Position, (usize, usize))], pos: Position) -> Result<usize, usize>
+    ensures within { IsSearchInRange result (length anchors.now) }
+    ensures found { IsBinarySearchResult (λ (anchor : Position × (ℕ × ℕ)). position_cmp anchor.0 pos) anchors.now result }
+{
+    anchors.binary_search_by_key(&pos, |anchor| anchor.0)
+}

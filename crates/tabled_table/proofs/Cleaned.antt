@@ -1,0 +1,156 @@
+-- Columns that are brought to the front of each row, and rows that are kept.
+use Rattle.std.proofs.Common.{◌≡◌, ◌≢◌, ℕ, ◌+◌, ◌<◌, ◌≤◌, Bool, true, false, cond, not, List, [], ◌∷◌, ◌++◌, ◌&&◌, inl, inr, ◌⊎◌, refl, ap, ap₂, sym, ◌∙◌, map, take, drop, set, get_or, length, arith}
+use Rattle.std.specs.List.{AllByRecursion, AllZip, filter, list_all, range_with_len, swap}
+use Rattle.std.proofs.lemmas.Bool.{cases_eq}
+use Rattle.std.proofs.lemmas.List.{drop-drop, drop-set-lt, get_or-set_same, append-nil, length_push, get_or-set_other, length-map, length-set, map-append, map-id, take-set, take-set-le, take_more}
+use Rattle.std.proofs.lemmas.List.Edits.{length-swap, swap_is}
+use Rattle.std.proofs.lemmas.List.FromFn.{filter_of_map_range_with_len_more}
+use Rattle.std.proofs.lemmas.Slice.Zip.{AllZip-map}
+use Rattle.tabled_table.specs.Builder.{AreRecords, has_text_in, is_empty_text}
+use Rattle.tabled_table.proofs.Columns.{first_left}
+
+-- the list with the members of ks in front, and from j on as it was
+pub record Gathered {A : Type 0} (d : A) (columns kept j : ℕ) (ks : List ℕ) (old new : List A) : Type 0 where
+  pub front : take kept new ≡ map (λ k. get_or old k d) ks
+  pub rest : drop j new ≡ drop j old
+  pub long : length new ≡ columns
+
+module _ {A : Type 0} (d : A) (columns : ℕ) where
+  -- the one at j is still as it was
+  gathered_next : (kept j : ℕ) (ks : List ℕ) (old new : List A) → Gathered d columns kept j ks old new → get_or new j d ≡ get_or old j d
+  gathered_next kept j ks old new h = sym (first_left new j d) ∙ ap (λ xs. get_or xs 0 d) h.rest ∙ first_left old j d
+
+  gathered_rest : (j : ℕ) (old new : List A) → drop j new ≡ drop j old → drop (j + 1) new ≡ drop (j + 1) old
+  gathered_rest j old new rest = sym (drop-drop 1 j new) ∙ ap (drop 1) rest ∙ drop-drop 1 j old
+
+  gathered_skip : (kept j : ℕ) (ks : List ℕ) (old new : List A) → Gathered d columns kept j ks old new → Gathered d columns kept (j + 1) ks old new
+  gathered_skip kept j ks old new h = record { front = h.front; rest = gathered_rest j old new h.rest; long = h.long }
+
+  -- what an exchange brings to the front
+  swapped_front : (xs : List A) (kept j : ℕ) → kept ≤ j → j < length xs → get_or (set (set xs kept (get_or xs j d)) j (get_or xs kept d)) kept d ≡ get_or xs j d
+  swapped_front xs kept j below within = at (cases_eq kept j)
+    where
+      at : (kept ≡ j) ⊎ (kept ≢ j) → get_or (set (set xs kept (get_or xs j d)) j (get_or xs kept d)) kept d ≡ get_or xs j d
+      at (inl e) = rw e (get_or-set_same (set xs j (get_or xs j d)) j (get_or xs j d) d (omega (arith, length-set xs j (get_or xs j d))))
+      at (inr ne) = get_or-set_other (set xs kept (get_or xs j d)) j kept (get_or xs kept d) d ne ∙ get_or-set_same xs kept (get_or xs j d) d (omega arith)
+
+  gathered_swap : (kept j : ℕ) (ks : List ℕ) (old new : List A) → kept ≤ j → j < columns → Gathered d columns kept j ks old new → Gathered d columns (kept + 1) (j + 1) (ks ++ j ∷ []) old (swap new kept j)
+  gathered_swap kept j ks old new below within h =
+      let inside : j < length new = omega (arith, h.long) in
+      let before : kept < length new = omega arith in
+      let once = set new kept (get_or new j d) in
+      let twice = set once j (get_or new kept d) in
+      let is : swap new kept j ≡ twice = sym (swap_is new kept j d before inside) in
+      let wide : kept < length twice = omega (arith, length-set once j (get_or new kept d), length-set new kept (get_or new j d)) in
+      record {
+        front = ap (take (kept + 1)) is
+            ∙ take_more twice kept d wide
+            ∙ ap₂ (λ xs x. xs ++ x ∷ []) (take-set-le kept once j (get_or new kept d) below ∙ take-set new kept (get_or new j d) ∙ h.front) (swapped_front new kept j below inside ∙ gathered_next kept j ks old new h)
+            ∙ sym (map-append (λ k. get_or old k d) ks (j ∷ []));
+        rest = ap (drop (j + 1)) is ∙ drop-set-lt (j + 1) once j (get_or new kept d) (omega arith) ∙ drop-set-lt (j + 1) new kept (get_or new j d) (omega arith) ∙ gathered_rest j old new h.rest;
+        long = length-swap new kept j ∙ h.long;
+      }
+
+-- relations of the members of two lists, where those of the second are changed
+AllZip-changed : {A B : Type 0} (R Q : A → B → Type 0) (g : B → B) → ((x : A) (y : B) → R x y → Q x (g y)) → (xs : List A) (ys : List B) → AllZip R xs ys → AllZip Q xs (map g ys)
+AllZip-changed R Q g h [] [] z = tt
+AllZip-changed R Q g h [] (y ∷ ys) z = absurd z
+AllZip-changed R Q g h (x ∷ xs) [] z = absurd z
+AllZip-changed R Q g h (x ∷ xs) (y ∷ ys) z = (h x y z.0, AllZip-changed R Q g h xs ys z.1)
+
+AllZip-weaker : {A B : Type 0} (R Q : A → B → Type 0) → ((x : A) (y : B) → R x y → Q x y) → (xs : List A) (ys : List B) → AllZip R xs ys → AllZip Q xs ys
+AllZip-weaker R Q h [] [] z = tt
+AllZip-weaker R Q h [] (y ∷ ys) z = absurd z
+AllZip-weaker R Q h (x ∷ xs) [] z = absurd z
+AllZip-weaker R Q h (x ∷ xs) (y ∷ ys) z = (h x y z.0, AllZip-weaker R Q h xs ys z.1)
+
+-- so many columns with a text, those below j in order, were brought to the front of each row
+pub record GatheredRows (columns kept j : ℕ) (old new : List (List (List ℕ))) : Type 0 where
+  pub count : kept ≡ length (filter (has_text_in old) (range_with_len 0 j))
+  pub below : kept ≤ j
+  pub rows : AllZip (Gathered [] columns kept j (filter (has_text_in old) (range_with_len 0 j))) old new
+
+module _ (columns : ℕ) where
+  pub gathered_rows_none : (old : List (List (List ℕ))) → AreRecords columns old → GatheredRows columns 0 0 old old
+  gathered_rows_none old even = record { count = refl; below = omega arith; rows = each old even }
+    where
+      each : (rows : List (List (List ℕ))) → AreRecords columns rows → AllZip (Gathered [] columns 0 0 []) rows rows
+      each [] e = tt
+      each (row ∷ rows) e = (record { front = refl; rest = refl; long = e.0 }, each rows e.1)
+
+  -- column j still has the texts that it had
+  pub gathered_rows_next : (kept j : ℕ) (old new : List (List (List ℕ))) → GatheredRows columns kept j old new → has_text_in new j ≡ has_text_in old j
+  gathered_rows_next kept j old new h = ap not (each old new h.rows)
+    where
+      each : (xs ys : List (List (List ℕ))) → AllZip (Gathered [] columns kept j (filter (has_text_in old) (range_with_len 0 j))) xs ys →
+          list_all (λ row. is_empty_text (get_or row j [])) ys ≡ list_all (λ row. is_empty_text (get_or row j [])) xs
+      each [] [] z = refl
+      each [] (y ∷ ys) z = absurd z
+      each (x ∷ xs) [] z = absurd z
+      each (x ∷ xs) (y ∷ ys) z = ap₂ (λ a b. is_empty_text a && b) (gathered_next [] columns kept j _ x y z.0) (each xs ys z.1)
+
+  gathered_columns : (j : ℕ) (old : List (List (List ℕ))) → filter (has_text_in old) (range_with_len 0 (j + 1)) ≡ filter (has_text_in old) (range_with_len 0 j) ++ cond (has_text_in old j) (j ∷ []) []
+  gathered_columns j old =
+      let more = filter_of_map_range_with_len_more (has_text_in old) (λ k. k) 0 j j (omega arith) in
+      rw (map-id, map-id) at more
+
+  pub gathered_rows_even : (kept j : ℕ) (old new : List (List (List ℕ))) → GatheredRows columns kept j old new → AreRecords columns new
+  gathered_rows_even kept j old new h = each old new h.rows
+    where
+      each : (xs ys : List (List (List ℕ))) → AllZip (Gathered [] columns kept j (filter (has_text_in old) (range_with_len 0 j))) xs ys → AreRecords columns ys
+      each [] [] z = tt
+      each [] (y ∷ ys) z = absurd z
+      each (x ∷ xs) [] z = absurd z
+      each (x ∷ xs) (y ∷ ys) z = (z.0.long, each xs ys z.1)
+
+  pub gathered_rows_skip : (kept j : ℕ) (old new : List (List (List ℕ))) → GatheredRows columns kept j old new → has_text_in new j ≡ false → GatheredRows columns kept (j + 1) old new
+  gathered_rows_skip kept j old new h none =
+      let ks = filter (has_text_in old) (range_with_len 0 j) in
+      let same : filter (has_text_in old) (range_with_len 0 (j + 1)) ≡ ks = gathered_columns j old ∙ ap (λ b. ks ++ cond b (j ∷ []) []) (sym (gathered_rows_next kept j old new h) ∙ none) ∙ append-nil ks in
+      record {
+        count = h.count ∙ ap length (sym same);
+        below = omega (arith, h.below);
+        rows = rw same (AllZip-weaker (Gathered [] columns kept j ks) (Gathered [] columns kept (j + 1) ks) (λ x y r. gathered_skip [] columns kept j ks x y r) old new h.rows);
+      }
+
+  pub gathered_rows_swap : (kept j : ℕ) (old new : List (List (List ℕ))) → j < columns → GatheredRows columns kept j old new → has_text_in new j ≡ true → GatheredRows columns (kept + 1) (j + 1) old (map (λ row. swap row kept j) new)
+  gathered_rows_swap kept j old new within h some =
+      let ks = filter (has_text_in old) (range_with_len 0 j) in
+      let more : filter (has_text_in old) (range_with_len 0 (j + 1)) ≡ ks ++ j ∷ [] = gathered_columns j old ∙ ap (λ b. ks ++ cond b (j ∷ []) []) (sym (gathered_rows_next kept j old new h) ∙ some) in
+      record {
+        count = rw more (ap (λ n. n + 1) h.count ∙ sym (length_push ks j));
+        below = omega (arith, h.below);
+        rows = rw more (AllZip-changed (Gathered [] columns kept j ks) (Gathered [] columns (kept + 1) (j + 1) (ks ++ j ∷ [])) (λ row. swap row kept j) (λ x y r. gathered_swap [] columns kept j ks x y h.below within r) old new h.rows);
+      }
+
+  pub gathered_rows_all : (kept : ℕ) (old new : List (List (List ℕ))) → GatheredRows columns kept columns old new →
+      map (take kept) new ≡ map (λ row. map (λ j. get_or row j []) (filter (has_text_in old) (range_with_len 0 columns))) old
+  gathered_rows_all kept old new h =
+      let ks = filter (has_text_in old) (range_with_len 0 columns) in
+      AllZip-map (λ row. map (λ j. get_or row j []) ks) old (map (take kept) new)
+      (AllZip-changed (Gathered [] columns kept columns ks) (λ x y. y ≡ map (λ j. get_or x j []) ks) (take kept) (λ x y r. r.front) old new h.rows)
+
+-- what a filter keeps, seen through a function
+pub map-filter : {A B : Type 0} (f : A → B) (test : B → Bool) (xs : List A) → map f (filter (λ x. test (f x)) xs) ≡ filter test (map f xs)
+map-filter f test [] = refl
+map-filter {A} {B} f test (x ∷ xs) = each (test (f x)) ∙ ap (λ ys. cond (test (f x)) (f x ∷ ys) ys) (map-filter f test xs)
+  where
+    each : (b : Bool) → map f (cond b (x ∷ filter (λ x. test (f x)) xs) (filter (λ x. test (f x)) xs)) ≡ cond b (f x ∷ map f (filter (λ x. test (f x)) xs)) (map f (filter (λ x. test (f x)) xs))
+    each true = refl
+    each false = refl
+
+all-filter_more : {A : Type 0} (P : A → Type 0) (x : A) (xs : List A) → P x → AllByRecursion P xs → (b : Bool) → AllByRecursion P (cond b (x ∷ xs) xs)
+all-filter_more P x xs p h true = (p, h)
+all-filter_more P x xs p h false = h
+
+pub all-filter : {A : Type 0} (P : A → Type 0) (test : A → Bool) (xs : List A) → AllByRecursion P xs → AllByRecursion P (filter test xs)
+all-filter P test [] h = tt
+all-filter P test (x ∷ xs) h = all-filter_more P x (filter test xs) h.0 (all-filter P test xs h.1) (test x)
+
+-- the kept members of each row, where rows without a text are gone
+pub even-cleaned : (ks : List ℕ) (rows : List (List (List ℕ))) (test : List (List ℕ) → Bool) → AreRecords (length ks) (filter test (map (λ row. map (λ j. get_or row j []) ks) rows))
+even-cleaned ks rows test = all-filter (λ row. length row ≡ length ks) test (map (λ row. map (λ j. get_or row j []) ks) rows) (each rows)
+  where
+    each : (xs : List (List (List ℕ))) → AreRecords (length ks) (map (λ row. map (λ j. get_or row j []) ks) xs)
+    each [] = tt
+    each (x ∷ xs) = (length-map ks (λ j. get_or x j []), each xs)

@@ -1,0 +1,48 @@
+-- Rows of the texts that entries print, and rows in order.
+use Rattle.std.proofs.Common.{◌≡◌, ℕ, ◌+◌, ◌<◌, Bool, List, [], ◌∷◌, ◌++◌, None, String, refl, ap, ap₂, sym, ◌∙◌, map, get_or, length, arith}
+use Rattle.std.specs.Global.{Global, Vec}
+use Rattle.std.specs.Cmp.Lexicographic.{slice_cmp}
+use Rattle.std.specs.Iterator.{Drains}
+use Rattle.std.specs.List.{AllZip}
+use Rattle.std.specs.List.Sorted.{IsPermutation, IsSorted, IsSortedBy}
+use Rattle.std.specs.Map.Iter.{TakesFirst}
+use Rattle.std.specs.Ordering.{is_lt, ordering_then}
+use Rattle.std.specs.String.{string_bytes, string_cmp}
+use Rattle.std.proofs.lemmas.List.{append-nil, get_or-map, length-map, map-id}
+use Rattle.std.proofs.lemmas.List.Elements.{All-from_recursion, recursion_from_All}
+use Rattle.std.proofs.lemmas.List.Sorted.{All-permutation}
+use Rattle.std.proofs.lemmas.Map.Iter.{rest_all, rest_so_far}
+use Rattle.tabled_table.specs.Builder.{AreRecords, row_texts}
+use Rattle.tabled_table.specs.Printed.{row_cmp}
+
+-- an iterator over a list gave that list
+pub drained : {X : Type 0} (items it all : List X) → it ≡ all → Drains (TakesFirst (λ (x : X). x)) it items → items ≡ all
+drained {X} items it all is d =
+    sym (rest_so_far (λ (x : X). x) items it d.1.0 d.1.1 ∙ ap₂ (λ xs ys. xs ++ ys) (map-id items) (rest_all (λ (x : X). x) d.1.0 d.0 None refl d.1.2) ∙ append-nil items) ∙ is
+
+-- rows of which each has so many texts
+pub even-each : {E : Type 0} (n : ℕ) (R : E → List (List ℕ) → Type 0) → ((e : E) (row : List (List ℕ)) → R e row → length row ≡ n) → (entries : List E) (rows : List (List (List ℕ))) → AllZip R entries rows → AreRecords n rows
+even-each n R h [] [] z = tt
+even-each n R h [] (row ∷ rows) z = absurd z
+even-each n R h (e ∷ entries) [] z = absurd z
+even-each n R h (e ∷ entries) (row ∷ rows) z = (h e row z.0, even-each n R h entries rows z.1)
+
+pub even-permutation : (n : ℕ) (xs ys : List (List (List ℕ))) → IsPermutation xs ys → AreRecords n xs → AreRecords n ys
+even-permutation n xs ys same even = recursion_from_All (λ (row : List (List ℕ)). length row ≡ n) ys (All-permutation (λ (row : List (List ℕ)). length row ≡ n) xs ys same (All-from_recursion (λ (row : List (List ℕ)). length row ≡ n) xs even))
+
+-- a list in order, seen through a function that keeps the order
+sorted-map : {X Y : Type 0} (f : X → Y) (lt : X → X → Bool) (below : Y → Y → Bool) → ((x y : X) → below (f x) (f y) ≡ lt x y) → (xs : List X) → IsSortedBy lt xs → IsSortedBy below (map f xs)
+sorted-map f lt below same [] sorted k d low high = absurd (omega arith)
+sorted-map {X} f lt below same (x ∷ xs) sorted k d low high =
+    let all : List X = x ∷ xs in
+    let inside : k + 1 < length all = omega (arith, length-map all f) in
+    ap₂ below (get_or-map f all (k + 1) x d inside) (get_or-map f all k x d (omega arith)) ∙ same (get_or all (k + 1) x) (get_or all k x) ∙ sorted k x low inside
+
+row_cmp-texts : (xs ys : List (String Global)) → row_cmp (map string_bytes xs) (map string_bytes ys) ≡ slice_cmp string_cmp xs ys
+row_cmp-texts [] [] = refl
+row_cmp-texts [] (y ∷ ys) = refl
+row_cmp-texts (x ∷ xs) [] = refl
+row_cmp-texts (x ∷ xs) (y ∷ ys) = ap (ordering_then (string_cmp x y)) (row_cmp-texts xs ys)
+
+pub sorted_rows : (rows : List (Vec (String Global))) → IsSorted (λ (x y : Vec (String Global)). slice_cmp string_cmp x.items y.items) rows → IsSorted row_cmp (row_texts rows)
+sorted_rows rows sorted = sorted-map (λ (row : Vec (String Global)). map string_bytes row.items) (λ x y. is_lt (slice_cmp string_cmp x.items y.items)) (λ x y. is_lt (row_cmp x y)) (λ x y. ap is_lt (row_cmp-texts x.items y.items)) rows sorted

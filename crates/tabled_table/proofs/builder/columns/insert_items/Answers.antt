@@ -1,0 +1,33 @@
+use Rattle.std.proofs.Common.{◌<◌, ◌∙◌, String, ap, ap₂, sym, arith, map, length}
+use Rattle.std.specs.Global.{Global, Vec}
+use Rattle.std.specs.List.{insert}
+use Rattle.std.specs.String.{string_bytes}
+use Rattle.std.proofs.lemmas.List.{length-map, get_or-map}
+use Rattle.tabled_table.proofs.Lists.{map-insert}
+use Rattle.tabled_table.proofs.Columns.{next_item, puts_next, puts_more}
+use Rattle.tabled_table.proofs.RowTexts.{same_lens}
+use Rattle.tabled_table.proofs.builder.columns.insert_items.Goals as goal
+
+pub insert-requires : goal.insert-requires
+insert-requires c =
+    rw (puts_next _ _ _ _ _ c.loop-row.row-index c.row-item.result c.loop-row.invariant.puts)
+    (rw (same_lens _ _ c.loop-row.row-index c.row-item.result c.in_ok-reserve_each.ensures.texts) (c.requires.within c.loop-row.row-index c.row-item.result (omega (arith, c.reserve_each.auto.rows))))
+
+pub unwrap-requires : goal.unwrap-requires
+unwrap-requires c = c.insert.ensures.succeeds (rw (puts_next _ _ _ _ _ c.loop-row.row-index c.row-item.result c.loop-row.invariant.puts) (c.in_ok-reserve_each.ensures.room _ _ (omega arith)))
+
+pub loop-row-preserved : goal.loop-row-preserved
+loop-row-preserved c =
+    let texts = λ (row : Vec (String Global)). map string_bytes row.items in
+    let i = c.loop-row.row-index in
+    let item = c.unwrap-item.result in
+    let given = c.args.items.items in
+    let next = next_item given _ i item (sym c.loop-row.invariant.left ∙ rw c.unwrap-item.ensures at c.next.ensures.items) in
+    let few : i < length given = omega (arith, c.args.items.ok.0, c.requires.many, c.reserve_each.auto.rows) in
+    record {
+      puts = puts_more texts c.args.j (map string_bytes given) _ _ i c.row-item.result c.insert.new.self (string_bytes item) (omega arith) (omega (arith, length-map given string_bytes)) c.loop-row.invariant.puts
+          (ap (map string_bytes) (rw c.unwrap.ensures at c.insert.ensures.items)
+          ∙ map-insert string_bytes _ c.args.j item
+          ∙ ap₂ (λ (row : Vec (String Global)) text. insert (texts row) c.args.j text) (puts_next _ _ _ _ _ i c.row-item.result c.loop-row.invariant.puts) (ap string_bytes next.0 ∙ sym (get_or-map string_bytes given i item (string_bytes item) few)));
+      left = next.1;
+    }

@@ -1,0 +1,24 @@
+use Rattle.std.proofs.Common.{ap, length, subst}
+use Rattle.std.specs.List.{AllZip}
+use Rattle.std.proofs.lemmas.Result.{IfOk-weaker}
+use Rattle.tabled_table.specs.Builder.{row_texts}
+use Rattle.tabled_table.specs.Printed.{PrintsPair}
+use Rattle.tabled_table.proofs.Printed.{drained, even-each, even-permutation}
+use Rattle.tabled_table.proofs.builder.table_builder.Builder.from_hash_map.Goals as goal
+
+pub of_rows-requires : goal.of_rows-requires
+of_rows-requires g c =
+    let gave = c.in_ok-rows.ensures in
+    even-permutation 2 _ _ (rw gave.6 at c.sort_rows.ensures.same) (even-each 2 (PrintsPair g.K.Display.output g.V.Display.output) (λ e row r. ap length r.is) gave.1 gave.2 gave.5)
+
+pub returns : goal.returns
+returns g c =
+    let gave = c.in_ok-rows.ensures in
+    IfOk-weaker c.of_rows.result _ _ (λ b e. record {
+      unsorted = gave.2;
+      each = subst (λ entries. AllZip (PrintsPair g.K.Display.output g.V.Display.output) entries gave.2) (drained gave.1 gave.0 c.args.map.entries gave.3.0 gave.4) gave.5;
+      rows = row_texts c.sort_rows.new.rows.items;
+      same = rw gave.6 at c.sort_rows.ensures.same;
+      sorted = c.in_ok-sort_rows.ensures.sorted;
+      is = e;
+    }) c.of_rows.ensures

@@ -1,0 +1,7 @@
+use Rattle.std.proofs.Common.{◌≡◌, ℕ, List}
+use Rattle.tabled_table.specs.Builder.{from_uneven}
+use Rattle.tabled_table.specs.Given.{GaveRows}
+use Rattle.tabled_table.proofs.builder.table_builder.Builder.from_rows.Given as goal
+
+abbrev pub invariant-loop-row : goal.invariant-loop-row
+invariant-loop-row g l = (rows : List (List (List ℕ))) × GaveRows g.R.IntoIterator.into_iter_gives g.R.IntoIter.Iterator.next_gives l.yielded rows × (l.builder ≡ from_uneven rows)

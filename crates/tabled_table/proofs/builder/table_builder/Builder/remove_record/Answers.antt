@@ -1,0 +1,11 @@
+use Rattle.std.proofs.Common.{String, map, refl}
+use Rattle.std.specs.Global.{Global, Vec}
+use Rattle.std.specs.String.{string_bytes}
+use Rattle.tabled_table.proofs.Lists.{all-remove, map-remove}
+use Rattle.tabled_table.proofs.builder.table_builder.Builder.remove_record.Goals as goal
+
+pub invariant_of-self : goal.invariant_of-self
+invariant_of-self c = rw (c.remove-record.ensures.items, map-remove (λ (row : Vec (String Global)). map string_bytes row.items) c.self.inside.rows.items c.args.i) (all-remove _ _ c.args.i c.self.invariant)
+
+pub returns : goal.returns
+returns c = rw (← c.self.view_is, c.remove-record.ensures.items, map-remove (λ (row : Vec (String Global)). map string_bytes row.items) c.self.inside.rows.items c.args.i) refl

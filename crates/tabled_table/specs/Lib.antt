@@ -1,0 +1,4 @@
+pub mod Builder
+pub mod Given
+pub mod Printed
+pub mod Table

@@ -1,0 +1,205 @@
+//! Work on the rows of a builder, cell by cell and row by row.
+
+ghost use Rattle.std.specs.Prelude.{◌≡◌, ℕ, ◌<◌, ◌≤◌, ◌++◌, IfOk, OnOk, OnErr, length, map, replicate, take, vec_len};
+ghost use Rattle.std.specs.List.{filter, insert};
+ghost use Rattle.std.specs.String.{string_bytes};
+ghost use Rattle.tabled_table.specs.Builder.{AreRecords, has_text as row_has_text, longest as longest_of, padded_to, row_texts, with_items};
+ghost use Rattle.tabled_table.specs.Given.{GaveTexts, MayBeAsked};
+
+use crate::builder::columns::insert_items;
+use std::alloc::{AllocError, Global};
+use tabled_grid::records::Text;
+
+/// The texts that are handed in, for which it first makes some room if it can.
+pub(super) fn collect<R>(
+    alloc: Global,
+    room: usize,
+    texts: R,
+) -> Result<Vec<Text<String>>, AllocError>
+where
+    R: IntoIterator<Item = String>,
+    requires { MayBeAsked R.into_iter_gives R.IntoIter.can_next R.IntoIter.remaining texts }
+    ensures { IfOk result (λ row. GaveTexts R.into_iter_gives R.IntoIter.next_gives texts (λ given. map string_bytes row.items ≡ given)) }
+{
+    let mut row = Vec::new(alloc);
+    let _ = row.reserve_exact(room);
+    for text in texts {
+        row.push(Text::new(text))?;
+    }
+    Ok(row)
+}
+
+/// Puts copies of a text behind a row, up to a length. Refused, it leaves in front what was there.
+pub(super) fn pad(
+    alloc: Global,
+    row: &mut Vec<Text<String>>,
+    columns: usize,
+    empty: &str,
+) -> Result<(), AllocError>
+    ensures ok { OnOk result (map string_bytes row.new.items ≡ padded_to columns empty.now (map string_bytes row.old.items)) }
+    ensures front { take (vec_len row.old) (map string_bytes row.new.items) ≡ map string_bytes row.old.items }
+{
+    row.reserve(columns.saturating_sub(row.len()))?;
+    while row.len() < columns {
+        row.push(Text::new(String::from_str(alloc, empty)?))?;
+    }
+    Ok(())
+}
+
+/// Pads each row to a length. Refused, it leaves in front what was there.
+pub(super) fn try_pad_each(
+    alloc: Global,
+    rows: &mut [Vec<Text<String>>],
+    columns: usize,
+    empty: &str,
+) -> Result<(), AllocError>
+    ensures ok { OnOk result (row_texts rows.new ≡ map (padded_to columns empty.now) (row_texts rows.old)) }
+    ensures front { (from : ℕ) → AreRecords from (row_texts rows.old) → map (take from) (row_texts rows.new) ≡ row_texts rows.old }
+{
+    for row in rows.iter_mut() {
+        pad(alloc, row, columns, empty)?;
+    }
+    Ok(())
+}
+
+/// Cuts each row off behind its first cells.
+pub(super) fn truncate_each(rows: &mut [Vec<Text<String>>], columns: usize)
+    ensures { row_texts rows.new ≡ map (take columns) (row_texts rows.old) }
+{
+    for row in rows.iter_mut() {
+        row.truncate(columns);
+    }
+}
+
+/// Pads rows of one length to another. Refused, it leaves them as they were.
+pub(super) fn pad_each(
+    alloc: Global,
+    rows: &mut [Vec<Text<String>>],
+    from: usize,
+    columns: usize,
+    empty: &str,
+) -> Result<(), AllocError>
+    requires { AreRecords from (row_texts rows.old) }
+    ensures ok { OnOk result (row_texts rows.new ≡ map (padded_to columns empty.now) (row_texts rows.old)) }
+    ensures err { OnErr result (row_texts rows.new ≡ row_texts rows.old) }
+{
+    let padded = try_pad_each(alloc, rows, columns, empty);
+    if padded.is_err() {
+        truncate_each(rows, from);
+    }
+    padded
+}
+
+/// Puts in a row that is as long as the others, or longer, where these are padded. Refused, it
+/// leaves them as they were.
+pub(super) fn insert_row(
+    alloc: Global,
+    rows: &mut Vec<Vec<Text<String>>>,
+    from: usize,
+    i: usize,
+    row: Vec<Text<String>>,
+    empty: &str,
+) -> Result<(), AllocError>
+    requires within { i ≤ vec_len rows.old }
+    requires even { AreRecords from (row_texts rows.old.items) }
+    requires long { from ≤ vec_len row }
+    ensures ok { OnOk result (row_texts rows.new.items ≡ insert (map (padded_to (vec_len row) empty.now) (row_texts rows.old.items)) i (map string_bytes row.items)) }
+    ensures err { OnErr result (row_texts rows.new.items ≡ row_texts rows.old.items) }
+{
+    rows.reserve(1)?;
+    if from < row.len() {
+        pad_each(alloc, rows, from, row.len(), empty)?;
+    }
+    rows.insert(i, row).unwrap();
+    Ok(())
+}
+
+/// Puts rows of copies of a text behind the others, up to a count. Refused, it leaves in front what
+/// was there.
+fn pad_rows(
+    alloc: Global,
+    rows: &mut Vec<Vec<Text<String>>>,
+    count: usize,
+    columns: usize,
+    empty: &str,
+) -> Result<(), AllocError>
+    ensures ok { OnOk result (row_texts rows.new.items ≡ padded_to count (replicate columns empty.now) (row_texts rows.old.items)) }
+    ensures front { take (vec_len rows.old) (row_texts rows.new.items) ≡ row_texts rows.old.items }
+{
+    while rows.len() < count {
+        let mut row = Vec::new(alloc);
+        pad(alloc, &mut row, columns, empty)?;
+        rows.push(row)?;
+    }
+    Ok(())
+}
+
+/// Puts an item behind each row, after rows for the surplus items. Refused, it leaves in front what
+/// was there.
+fn try_push_items(
+    alloc: Global,
+    rows: &mut Vec<Vec<Text<String>>>,
+    columns: usize,
+    items: Vec<Text<String>>,
+    empty: &str,
+) -> Result<(), AllocError>
+    requires even { AreRecords columns (row_texts rows.old.items) }
+    requires many { vec_len rows.old ≤ vec_len items }
+    ensures ok { OnOk result (row_texts rows.new.items ≡ with_items columns (padded_to (vec_len items) (replicate columns empty.now) (row_texts rows.old.items)) (map string_bytes items.items)) }
+    ensures err { OnErr result (take (vec_len rows.old) (row_texts rows.new.items) ≡ row_texts rows.old.items) }
+{
+    pad_rows(alloc, rows, items.len(), columns, empty)?;
+    insert_items(rows, columns, items)
+}
+
+/// Puts an item behind each row, after rows for the surplus items. Refused, it leaves the rows as
+/// they were.
+pub(super) fn push_items(
+    alloc: Global,
+    rows: &mut Vec<Vec<Text<String>>>,
+    columns: usize,
+    items: Vec<Text<String>>,
+    empty: &str,
+) -> Result<(), AllocError>
+    requires even { AreRecords columns (row_texts rows.old.items) }
+    requires many { vec_len rows.old ≤ vec_len items }
+    ensures ok { OnOk result (row_texts rows.new.items ≡ with_items columns (padded_to (vec_len items) (replicate columns empty.now) (row_texts rows.old.items)) (map string_bytes items.items)) }
+    ensures err { OnErr result (row_texts rows.new.items ≡ row_texts rows.old.items) }
+{
+    let count = rows.len();
+    let put = try_push_items(alloc, rows, columns, items, empty);
+    if put.is_err() {
+        rows.truncate(count);
+    }
+    put
+}
+
+/// Whether a row has a text.
+fn has_text(row: &[Text<String>]) -> bool
+    ensures { result ≡ row_has_text (map string_bytes row.now) }
+{
+    for cell in row {
+        if !cell.as_str().is_empty() {
+            return true;
+        }
+    }
+    false
+}
+
+/// Keeps the rows that have a text.
+pub(super) fn retain_texts(rows: &mut Vec<Vec<Text<String>>>)
+    ensures { row_texts rows.new.items ≡ filter row_has_text (row_texts rows.old.items) }
+{
+    rows.retain(|row| has_text(row));
+}
+
+/// The length of the longest row.
+pub(super) fn longest(rows: &[Vec<Text<String>>]) -> usize
+    ensures { result ≡ longest_of (row_texts rows.now) }
+{
+    let mut most = 0;
+    for row in rows {
+        most = row.len().max(most);
+    }
+    most
+}

@@ -1,0 +1,16 @@
+//! Laws of what the calls say they do. Each is the contract of a function that does nothing.
+
+ghost use Rattle.std.specs.Prelude.{◌≡◌};
+ghost use Rattle.tabled_table.specs.Builder.{IsClean, cleaned};
+
+use crate::builder::Builder;
+
+/// A builder that is cleaned twice is as if it was cleaned once.
+pub fn cleaned_twice_is_once(_builder: &Builder)
+    ensures { cleaned (cleaned _builder.now) ≡ cleaned _builder.now }
+{}
+
+/// In a cleaned builder no row and no column has empty texts alone.
+pub fn cleaned_is_clean(_builder: &Builder)
+    ensures { IsClean (cleaned _builder.now) }
+{}
