@@ -1,0 +1,43 @@
+-- Selections as lists of places, and their combinations.
+use Rattle.std.specs.Prelude.{ℕ, Bool, ◌==◌, ◌&&◌, List, [], ◌∷◌, ◌++◌, map, not}
+use Rattle.std.specs.List.{filter, flat_map, list_any}
+use Rattle.tabled_grid.specs.Entity.{inside}
+use Rattle.tabled_grid.specs.declared.config.position.Position.{Position}
+use Rattle.tabled_grid.specs.declared.config.entity.Entity.{Entity}
+use Rattle.tabled_grid.specs.declared.config.entity.Entity.TheVariants.{Cell, Global}
+
+-- the places of a table that entities name, of one entity after another
+abbrev pub flat : List Entity → ℕ → ℕ → List Position
+flat entities rows columns = flat_map (λ e. inside e rows columns) entities
+
+-- the entities that name one place each
+abbrev pub cells_of : List Position → List Entity
+cells_of = map (λ (p : Position). Cell p.row p.col)
+
+abbrev pub same_place : Position → Position → Bool
+same_place p q = (p.row == q.row) && (p.col == q.col)
+
+-- a place is one of these
+abbrev pub is_among : List Position → Position → Bool
+is_among places p = list_any (same_place p) places
+
+-- each place once, where it first stands
+abbrev pub firsts : List Position → List Position
+firsts [] = []
+firsts (p ∷ places) = p ∷ filter (λ q. not (same_place p q)) (firsts places)
+
+-- the places of both, each once
+abbrev pub union_of : List Position → List Position → List Position
+union_of a b = firsts (a ++ b)
+
+-- the places of the one that aren't in the other
+abbrev pub difference_of : List Position → List Position → List Position
+difference_of a b = filter (λ p. not (is_among b p)) a
+
+-- the places of the one that are in the other too
+abbrev pub intersection_of : List Position → List Position → List Position
+intersection_of a b = filter (is_among b) a
+
+-- the places of a table that aren't among these
+abbrev pub inversion_of : List Position → ℕ → ℕ → List Position
+inversion_of a rows columns = difference_of (inside Global rows columns) a

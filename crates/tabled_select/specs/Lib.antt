@@ -1,0 +1,3 @@
+pub mod Algebra
+pub mod Listed
+pub mod Steps

@@ -1,0 +1,4 @@
+//! Selectors: what names cells of a table, and how selections combine.
+#![tactic(auto)]
+
+pub mod object;

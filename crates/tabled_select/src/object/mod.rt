@@ -1,0 +1,50 @@
+//! Objects, which name cells of a table.
+//!
+//! A contract sees an object as the list of the entities that it names in a table.
+
+ghost use Rattle.std.specs.Prelude.{◌≡◌, List, IfOk};
+ghost use Rattle.tabled_grid.specs.Grid.{Grid};
+ghost use Rattle.tabled_grid.specs.declared.config.entity.Entity.{Entity};
+ghost use Rattle.tabled_select.specs.Listed.{ListsAll};
+
+mod cell;
+mod iterator;
+mod union;
+
+pub use cell::EntityOnce;
+pub use iterator::{FilterObject, ObjectIterator, SkipObject};
+pub use union::{UnionCombination, UnionIter};
+
+use std::alloc::{AllocError, Global};
+use tabled_grid::config::Entity;
+use tabled_grid::records::GridStore;
+
+/// Names cells of a store.
+///
+/// An object may name an entity more than once, and entities outside the table.
+///
+/// Ported from `tabled::settings::object::Object`.
+pub trait Object<R: GridStore> {
+    type Iter: Iterator<Item = Entity> + Drop;
+
+    /// The entities that are named in a store with a grid.
+    ghost lists: { Self → Grid R.Cell → List Entity → Type 0 };
+
+    /// The condition of use: a closure may be called on every argument of its kind.
+    ghost can_list: { Self → Type 0 };
+
+    /// Goes over the named entities. Refused for memory, it gives nothing else.
+    fn cells(&self, alloc: Global, records: &R) -> Result<Self::Iter, AllocError>
+        requires well { R.is_well_formed records.now }
+        requires can { can_list self.now }
+        ensures lists { IfOk result (λ iter. (entities : List Entity) × lists self.now (R.grid records.now) entities × ListsAll Self.Iter.can_next Self.Iter.next_gives Self.Iter.remaining iter entities) };
+
+    /// The cells of both, each once.
+    final fn and<O>(self, rhs: O) -> UnionCombination<Self, O, R>
+    where
+        Self: Sized,
+        ensures { result ≡ (self, rhs) }
+    {
+        UnionCombination::new(self, rhs)
+    }
+}

@@ -1,0 +1,101 @@
+//! The cells of two objects.
+
+ghost use Rattle.std.specs.Prelude.{◌≡◌, List};
+ghost use Rattle.tabled_grid.specs.declared.config.entity.Entity.{Entity};
+ghost use Rattle.tabled_select.specs.Algebra.{cells_of, flat, union_of};
+
+use crate::object::Object;
+use std::alloc::{AllocError, Global};
+use std::marker::{Model, PhantomData};
+use std::vec;
+use tabled_grid::config::Entity;
+use tabled_grid::records::{ExactRecords, Records};
+
+/// The cells of two objects, each once. A contract sees it as the two objects.
+///
+/// Ported from `tabled::settings::object::UnionCombination`.
+#[derive(Drop)]
+pub struct UnionCombination<L, R, I> {
+    lhs: L,
+    rhs: R,
+    records: PhantomData<I>,
+}
+
+impl<L, R, I> Model for UnionCombination<L, R, I> {
+    ghost Value = { L × R };
+
+    ghost view = { λ a. (a.lhs, a.rhs) };
+}
+
+impl<L, R, I> UnionCombination<L, R, I> {
+    ghost use Rattle.std.specs.Prelude.{◌≡◌};
+
+    pub(super) fn new(lhs: L, rhs: R) -> Self
+        ensures { result ≡ (lhs, rhs) }
+    {
+        UnionCombination {
+            lhs,
+            rhs,
+            records: PhantomData,
+        }
+    }
+}
+
+impl<L, R, I> Clone for UnionCombination<L, R, I>
+where
+    L: Clone,
+    R: Clone,
+{
+    ghost is_clone = { λ a b. L.is_clone a.0 b.0 × R.is_clone a.1 b.1 };
+
+    fn clone(&self) -> Result<Self, AllocError> {
+        Ok(UnionCombination::new(self.lhs.clone()?, self.rhs.clone()?))
+    }
+}
+
+impl<L, R, I> Object<I> for UnionCombination<L, R, I>
+where
+    L: Object<I>,
+    R: Object<I>,
+    I: Records + ExactRecords,
+{
+    type Iter = UnionIter;
+
+    ghost lists = { λ s g entities. (a b : List Entity) × L.lists s.0 g a × R.lists s.1 g b × (entities ≡ cells_of (union_of (flat a g.rows g.columns) (flat b g.rows g.columns))) };
+
+    ghost can_list = { λ s. L.can_list s.0 × R.can_list s.1 };
+
+    fn cells(&self, _alloc: Global, _records: &I) -> Result<UnionIter, AllocError> {
+        Err(AllocError)
+    }
+}
+
+/// Gives the cells of a union. A contract sees it as the list of what is left.
+#[derive(Drop)]
+pub struct UnionIter {
+    cells: vec::IntoIter<Entity>,
+}
+
+impl Model for UnionIter {
+    ghost use Rattle.std.specs.Prelude.{List};
+    ghost use Rattle.std.specs.Vec.Iter.{into_iter_items};
+    ghost use Rattle.tabled_grid.specs.declared.config.entity.Entity.{Entity};
+
+    ghost Value = { List Entity };
+
+    ghost view = { λ a. into_iter_items a.cells };
+}
+
+impl Iterator for UnionIter {
+    type Item = Entity;
+
+    ghost use Rattle.std.specs.Iterator.{YieldsFirst, item_count};
+
+    ghost next_gives = { YieldsFirst (λ s. s) };
+
+    ghost remaining = { item_count (λ s. s) };
+
+    fn next(&mut self) -> Option<Entity> {
+        self.cells.next()
+    }
+}
