@@ -1,6 +1,7 @@
 pub mod Cleaned
 pub mod CleanedLaws
 pub mod Columns
+pub mod Indexed
 pub mod Lists
 pub mod Padded
 pub mod Printed
@@ -9,4 +10,5 @@ pub mod Results
 pub mod RowByRow
 pub mod RowTexts
 pub mod Tables
+pub mod Transposed
 pub mod Uneven

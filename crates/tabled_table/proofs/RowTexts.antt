@@ -38,3 +38,6 @@ same_lens old new i d e =
 -- rows written back into a vector
 pub rows_written : (lines : Vec (Vec (String Global))) (rows : List (Vec (String Global))) → length rows ≡ vec_len lines → row_texts (with_items lines rows).items ≡ row_texts rows
 rows_written lines rows long = ap row_texts (with_items_is lines rows long)
+
+pub vec_len-rows : (rows : Vec (Vec (String Global))) → vec_len rows ≡ length (row_texts rows.items)
+vec_len-rows rows = rows.ok.0 ∙ sym (length-map rows.items (λ (row : Vec (String Global)). map string_bytes row.items))

@@ -1,4 +1,5 @@
 pub mod Builder
 pub mod Given
+pub mod Index
 pub mod Printed
 pub mod Table

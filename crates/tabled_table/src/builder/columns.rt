@@ -1,12 +1,13 @@
 //! Work on the columns of a builder, a cell in each row.
 
-ghost use Rattle.std.specs.Prelude.{◌≡◌, ◌<◌, ◌≤◌, OnOk, OnErr, String, length, map, not, take, vec_capacity, vec_len, slice_index_or, []};
+ghost use Rattle.std.specs.Prelude.{◌≡◌, ◌<◌, ◌≤◌, IfOk, OnOk, OnErr, String, length, map, not, replicate, take, vec_capacity, vec_len, slice_index_or, []};
 ghost use Rattle.std.specs.Global.{Global as Heap, Vec};
 ghost use Rattle.std.specs.List.{All, filter, list_all, range_with_len, remove, swap};
 ghost use Rattle.std.specs.String.{string_bytes};
 ghost use Rattle.tabled_table.specs.Builder.{AreRecords, has_text_in as has_text_in_column, is_empty_text, row_texts, with_items};
+ghost use Rattle.tabled_table.specs.Index.{column_of, transposed as turned_rows};
 
-use std::alloc::AllocError;
+use std::alloc::{AllocError, Global};
 use tabled_grid::records::Text;
 
 /// Makes room for one more cell in each row, which changes no cell.
@@ -88,4 +89,54 @@ pub(super) fn gather(rows: &mut [Vec<Text<String>>], columns: usize) -> usize
         }
     }
     kept
+}
+
+/// Takes the cell at `j` out of each row, and answers these.
+pub(super) fn take_column(
+    alloc: Global,
+    rows: &mut [Vec<Text<String>>],
+    j: usize,
+) -> Result<Vec<Text<String>>, AllocError>
+    requires { All (λ (row : Vec (String Heap)). j < vec_len row) rows.old }
+    ensures column { IfOk result (λ column. map string_bytes column.items ≡ column_of (row_texts rows.old) j) }
+    ensures rows { OnOk result (row_texts rows.new ≡ map (λ row. remove row j) (row_texts rows.old)) }
+{
+    let mut column = Vec::with_capacity(alloc, rows.len())?;
+    for row in rows.iter_mut() {
+        column.push(row.remove(j))?;
+    }
+    Ok(column)
+}
+
+/// So many rows without cells, with room for some.
+fn empty_rows(
+    alloc: Global,
+    count: usize,
+    room: usize,
+) -> Result<Vec<Vec<Text<String>>>, AllocError>
+    ensures { IfOk result (λ rows. row_texts rows.items ≡ replicate count []) }
+{
+    let mut rows = Vec::with_capacity(alloc, count)?;
+    for _ in 0..count {
+        rows.push(Vec::with_capacity(alloc, room)?)?;
+    }
+    Ok(rows)
+}
+
+/// The columns as rows.
+pub(super) fn transposed(
+    alloc: Global,
+    rows: Vec<Vec<Text<String>>>,
+    columns: usize,
+) -> Result<Vec<Vec<Text<String>>>, AllocError>
+    requires { AreRecords columns (row_texts rows.items) }
+    ensures { IfOk result (λ turned. row_texts turned.items ≡ turned_rows columns (row_texts rows.items)) }
+{
+    let mut turned = empty_rows(alloc, columns, rows.len())?;
+    let mut count = 0;
+    for row in rows {
+        insert_items(&mut turned, count, row)?;
+        count += 1;
+    }
+    Ok(turned)
 }

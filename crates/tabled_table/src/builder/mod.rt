@@ -1,6 +1,8 @@
 //! What builds tables from records.
 
 mod columns;
+mod index_builder;
+mod indexed;
 mod maps;
 mod rows;
 mod table_builder;
@@ -8,4 +10,5 @@ mod table_builder;
 mod tests;
 mod texts;
 
+pub use index_builder::IndexBuilder;
 pub use table_builder::Builder;

@@ -1,6 +1,6 @@
 //! Records gathered one after another, all of one length.
 
-use crate::builder::{columns, rows, texts};
+use crate::builder::{columns, rows, texts, IndexBuilder};
 use crate::table::Table;
 use std::alloc::{AllocError, Global};
 use std::marker::Model;
@@ -33,6 +33,7 @@ impl Builder {
     ghost use Rattle.std.specs.String.{string_bytes};
     ghost use Rattle.tabled_table.specs.Builder.{AreRecords, cleaned, cleared, from_uneven, row_texts, table_of, with_column, with_last_column, with_record, without_column, without_record};
     ghost use Rattle.tabled_grid.specs.Grid.{map_grid, width_of};
+    ghost use Rattle.tabled_table.specs.Index.{indexed_rows};
     ghost use Rattle.tabled_table.specs.Given.{EachMayBeAsked, GaveRecords, GaveRows, GaveTexts, MayBeAsked};
 
     /// A builder with no columns and no records (0 x 0), whose empty text is `""`.
@@ -189,6 +190,23 @@ impl Builder {
             empty_text: _,
         } = self;
         Ok(Table::from_records(alloc, VecRecords::new(alloc, rows)?))
+    }
+
+    /// The records with an index: the first record is the header, and the numbers of the others are
+    /// the index.
+    ///
+    /// Refused where memory runs out.
+    ///
+    /// Ported from `tabled::builder::Builder::index`.
+    pub fn index(self, alloc: Global) -> Result<IndexBuilder, AllocError>
+        ensures { IfOk result (λ x. x ≡ indexed_rows self.rows) }
+    {
+        let Builder {
+            rows,
+            count_columns: _,
+            empty_text: _,
+        } = self;
+        IndexBuilder::of_rows(alloc, rows)
     }
 
     /// The number of declared columns.

@@ -1,0 +1,10 @@
+use Rattle.std.proofs.Common.{◌∙◌, ap, map, length}
+use Rattle.std.specs.String.{string_bytes}
+use Rattle.tabled_table.specs.Builder.{AreRecords, row_texts}
+use Rattle.tabled_table.specs.Index.{numbers}
+use Rattle.tabled_table.proofs.Indexed.{IsIndexed-numbers}
+use Rattle.tabled_table.proofs.RowTexts.{vec_len-texts, vec_len-rows}
+use Rattle.tabled_table.proofs.builder.indexed.Indexed.new.Goals as goal
+
+pub invariant_of-result : goal.invariant_of-result
+invariant_of-result c = IsIndexed-numbers _ (c.in_ok-index.ensures ∙ ap numbers (c.len.ensures ∙ vec_len-rows c.args.body)) (rw (vec_len-texts c.args.header) at c.requires)

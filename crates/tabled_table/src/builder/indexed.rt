@@ -1,0 +1,236 @@
+//! A table's parts where it has an index.
+
+ghost use Rattle.std.specs.Prelude.{◌≡◌, [], ◌∷◌, IfOk, map, vec_len};
+ghost use Rattle.std.specs.String.{string_bytes};
+ghost use Rattle.tabled_table.specs.Builder.{row_texts, with_items};
+ghost use Rattle.tabled_table.specs.Index.{numbers, with_name};
+
+use crate::builder::{columns, rows};
+use std::alloc::{AllocError, Global};
+use std::marker::Model;
+use tabled_grid::records::{Blank, Text};
+
+/// A header above a body, and an index beside it.
+#[derive(Drop)]
+pub(super) struct Indexed {
+    header: Vec<Text<String>>,
+    index: Vec<Text<String>>,
+    body: Vec<Vec<Text<String>>>,
+    name: Option<Text<String>>,
+    is_shown: bool,
+    is_turned: bool,
+}
+
+impl Model for Indexed {
+    ghost use Rattle.std.specs.Prelude.{map, option_map};
+    ghost use Rattle.std.specs.String.{string_bytes};
+    ghost use Rattle.tabled_table.specs.Builder.{row_texts};
+    ghost use Rattle.tabled_table.specs.Index.{Indexed, IsIndexed};
+
+    ghost Value = { Indexed };
+
+    ghost view = { λ a. record { header = map string_bytes a.header.items; index = map string_bytes a.index.items; body = row_texts a.body.items; name = option_map string_bytes a.name; shown = a.is_shown; turned = a.is_turned } };
+
+    ghost invariant = { λ a. IsIndexed (record { header = map string_bytes a.header.items; index = map string_bytes a.index.items; body = row_texts a.body.items; name = option_map string_bytes a.name; shown = a.is_shown; turned = a.is_turned }) };
+}
+
+impl Indexed {
+    ghost use Rattle.std.specs.Prelude.{◌≡◌, ◌<◌, None, IfOk, true, false, length, map, option_map, vec_len};
+    ghost use Rattle.std.specs.String.{string_bytes};
+    ghost use Rattle.tabled_grid.specs.Grid.{width_of};
+    ghost use Rattle.tabled_table.specs.Builder.{AreRecords, row_texts};
+    ghost use Rattle.tabled_table.specs.Index.{IsIndexed, is_bare as has_nothing, numbers, rows_of, turned_over, with_column_as_index};
+
+    /// A header and a body with the numbers of its rows as the index.
+    pub(super) fn new(
+        alloc: Global,
+        header: Vec<Text<String>>,
+        body: Vec<Vec<Text<String>>>,
+    ) -> Result<Self, AllocError>
+        requires { AreRecords (vec_len header) (row_texts body.items) }
+        ensures { IfOk result (λ x. x ≡ record { header = map string_bytes header.items; index = numbers (vec_len body); body = row_texts body.items; name = None; shown = true; turned = false }) }
+    {
+        let index = numbers_below(alloc, body.len())?;
+        Ok(Indexed {
+            header,
+            index,
+            body,
+            name: None,
+            is_shown: true,
+            is_turned: false,
+        })
+    }
+
+    pub(super) fn hide(&mut self)
+        ensures { self.new ≡ record self.old { shown = false } }
+    {
+        self.is_shown = false;
+    }
+
+    pub(super) fn set_name(&mut self, name: Option<String>)
+        ensures { self.new ≡ record self.old { name = option_map string_bytes name } }
+    {
+        self.name = name.map(Text::new);
+    }
+
+    pub(super) fn count_columns(&self) -> usize
+        ensures { result ≡ length self.now.header }
+    {
+        self.header.len()
+    }
+
+    /// Makes a column the index and its header the name.
+    pub(super) fn take_column(self, alloc: Global, column: usize) -> Result<Self, AllocError>
+        requires { column < length self.header }
+        ensures { IfOk result (λ x. x ≡ with_column_as_index column self) }
+    {
+        let Indexed {
+            mut header,
+            index: _,
+            mut body,
+            name: _,
+            is_shown,
+            is_turned,
+        } = self;
+        let index = columns::take_column(alloc, &mut body, column)?;
+        let name = Some(header.remove(column));
+        Ok(Indexed {
+            header,
+            index,
+            body,
+            name,
+            is_shown,
+            is_turned,
+        })
+    }
+
+    /// Exchanges header and index, and turns the body with them.
+    pub(super) fn turn_over(self, alloc: Global) -> Result<Self, AllocError>
+        ensures { IfOk result (λ x. x ≡ turned_over self) }
+    {
+        let Indexed {
+            header,
+            index,
+            body,
+            name,
+            is_shown,
+            is_turned,
+        } = self;
+        let body = columns::transposed(alloc, body, header.len())?;
+        Ok(Indexed {
+            header: index,
+            index: header,
+            body,
+            name,
+            is_shown,
+            is_turned: !is_turned,
+        })
+    }
+
+    /// Says whether there is no header, no index and no name.
+    pub(super) fn is_bare(&self) -> bool
+        ensures { result ≡ has_nothing self.now }
+    {
+        self.header.is_empty() && self.index.is_empty() && self.name.is_none()
+    }
+
+    /// The rows of the table: the header and the body, with the index and its name.
+    pub(super) fn into_rows(self, alloc: Global) -> Result<Vec<Vec<Text<String>>>, AllocError>
+        ensures rows { IfOk result (λ rows. row_texts rows.items ≡ rows_of self) }
+        ensures even { IfOk result (λ rows. AreRecords (width_of (row_texts rows.items)) (row_texts rows.items)) }
+    {
+        let Indexed {
+            header,
+            index,
+            body,
+            name,
+            is_shown,
+            is_turned,
+        } = self;
+        let rows = if is_shown {
+            rows_with_index(alloc, header, index, body)?
+        } else {
+            rows_with_header(header, body)?
+        };
+        match name {
+            None => Ok(rows),
+            Some(name) => rows_with_name(alloc, rows, name, is_shown && is_turned),
+        }
+    }
+
+    /// What every such table keeps.
+    pub(super) fn keeps_its_shape(&self)
+        ensures { IsIndexed self.now }
+    {
+        let _ = &self.header;
+    }
+}
+
+/// The header, and the body below it.
+fn rows_with_header(
+    header: Vec<Text<String>>,
+    body: Vec<Vec<Text<String>>>,
+) -> Result<Vec<Vec<Text<String>>>, AllocError>
+    ensures { IfOk result (λ rows. row_texts rows.items ≡ map string_bytes header.items ∷ row_texts body.items) }
+{
+    let mut rows = body;
+    rows.insert(0, header)?;
+    Ok(rows)
+}
+
+/// The header, and the body below it, with a text of the index first in each row of the body.
+fn rows_with_index(
+    alloc: Global,
+    header: Vec<Text<String>>,
+    index: Vec<Text<String>>,
+    body: Vec<Vec<Text<String>>>,
+) -> Result<Vec<Vec<Text<String>>>, AllocError>
+    requires { vec_len index ≡ vec_len body }
+    ensures { IfOk result (λ rows. row_texts rows.items ≡ with_items 0 (map string_bytes header.items ∷ row_texts body.items) ([] ∷ map string_bytes index.items)) }
+{
+    let mut rows = rows_with_header(header, body)?;
+    let mut first = index;
+    first.insert(0, Text::blank(alloc))?;
+    columns::insert_items(&mut rows, 0, first)?;
+    Ok(rows)
+}
+
+/// The rows with a name in the first cell of the header, or first in a row of its own below it.
+/// Without cells the name is left out.
+fn rows_with_name(
+    alloc: Global,
+    rows: Vec<Vec<Text<String>>>,
+    name: Text<String>,
+    in_header: bool,
+) -> Result<Vec<Vec<Text<String>>>, AllocError>
+    ensures { IfOk result (λ named. row_texts named.items ≡ with_name in_header (string_bytes name) (row_texts rows.items)) }
+{
+    let mut rows = rows;
+    let columns = match rows.first() {
+        None => 0,
+        Some(header) => header.len(),
+    };
+    if columns == 0 {
+        return Ok(rows);
+    }
+    if in_header {
+        rows[0][0] = name;
+        return Ok(rows);
+    }
+    let mut row = Vec::with_capacity(alloc, columns)?;
+    row.push(name)?;
+    rows::pad(alloc, &mut row, columns, "")?;
+    rows.insert(1, row)?;
+    Ok(rows)
+}
+
+/// The numbers from 0 on, below one, as texts.
+fn numbers_below(alloc: Global, count: usize) -> Result<Vec<Text<String>>, AllocError>
+    ensures { IfOk result (λ texts. map string_bytes texts.items ≡ numbers count) }
+{
+    let mut texts = Vec::with_capacity(alloc, count)?;
+    for i in 0..count {
+        texts.push(Text::new(i.to_string(alloc)?))?;
+    }
+    Ok(texts)
+}
