@@ -1,5 +1,5 @@
 -- A table with an index: its rows are equally long, and turning it twice changes nothing.
-use Rattle.std.proofs.Common.{◌≡◌, ℕ, ◌+◌, ◌-◌, ◌<◌, ◌≤◌, Bool, true, false, List, [], ◌∷◌, Option, None, Some, refl, ap, sym, subst, ◌∙◌, get_or, length, map, arith}
+use Rattle.std.proofs.Common.{◌≡◌, ℕ, ◌+◌, ◌-◌, ◌<◌, ◌≤◌, Bool, true, false, not, List, [], ◌∷◌, Option, None, Some, IfSome, option_map, refl, ap, sym, subst, ◌∙◌, get_or, length, map, arith}
 use Rattle.std.specs.Fmt.{decimal}
 use Rattle.std.specs.List.{remove}
 use Rattle.std.proofs.lemmas.List.{length-map}
@@ -10,7 +10,7 @@ use Rattle.tabled_table.specs.Builder.{AreRecords, padded_to, with_items}
 use Rattle.tabled_table.specs.Index.{Indexed, IsIndexed, numbers, rows_of, transposed, turned_over, with_column_as_index, with_index, with_name, with_name_if}
 use Rattle.tabled_table.proofs.Columns.{even-with_items, even-without}
 use Rattle.tabled_table.proofs.Padded.{length-padded_to}
-use Rattle.tabled_table.proofs.Transposed.{even-transposed, length-transposed}
+use Rattle.tabled_table.proofs.Transposed.{even-transposed, length-transposed, transposed-transposed}
 
 -- rows of one length are as long as the first
 even-width : {A : Type 0} (n : ℕ) (rows : List (List A)) → AreRecords n rows → AreRecords (width_of rows) rows
@@ -54,3 +54,16 @@ IsIndexed-column c x within h =
       tall = length-map x.body (λ row. remove row c) ∙ sym (length-map x.body (λ row. get_or row c []));
       wide = subst (λ n. AreRecords n (map (λ row. remove row c) x.body)) shorter (even-without (length x.header) c x.body within h.wide);
     }
+
+not_twice : (b : Bool) → not (not b) ≡ b
+not_twice true = refl
+not_twice false = refl
+
+pub turned_over-turned_over : (x : Indexed) → IsIndexed x → turned_over (turned_over x) ≡ x
+turned_over-turned_over x h =
+    let body : transposed (length x.index) (transposed (length x.header) x.body) ≡ x.body = ap (λ n. transposed n (transposed (length x.header) x.body)) (sym h.tall) ∙ transposed-transposed (length x.header) x.body h.wide in
+    rw (body, not_twice x.turned) refl
+
+pub turned_twice : (x : Option Indexed) → IfSome x IsIndexed → option_map turned_over (option_map turned_over x) ≡ x
+turned_twice None h = refl
+turned_twice (Some x) h = ap Some (turned_over-turned_over x h)

@@ -4,7 +4,9 @@ use Rattle.std.specs.Global.{Global, Vec}
 use Rattle.std.specs.List.{insert, range_with_len}
 use Rattle.std.specs.String.{string_bytes}
 use Rattle.std.proofs.lemmas.List.{append_assoc, drop_all, drop-drop, get_or-map, length-append, length-map, map-append, map_push, take_all, take_more}
+use Rattle.std.proofs.lemmas.List.Elements.{All-from_recursion}
 use Rattle.std.proofs.lemmas.List.FromFn.{length-map-range_with_len}
+use Rattle.std.proofs.lemmas.Simd.{map-map}
 use Rattle.tabled_table.specs.Builder.{AreRecords, row_texts, with_items}
 use Rattle.tabled_table.specs.Index.{column_of, transposed}
 use Rattle.tabled_table.proofs.Columns.{first_left}
@@ -31,8 +33,8 @@ push_from a i done row (text ∷ texts) long here =
     let same : get_or row a [] ≡ text = sym (first_left row a []) ∙ ap (λ ts. get_or ts 0 []) here in
     let next : drop (a + 1) row ≡ texts = sym (drop-drop 1 a row) ∙ ap (drop 1) here in
     ap₂ (λ t ts. t ∷ ts)
-      (insert_last (column_of done a) i text (length-column_of done a ∙ long) ∙ ap (λ t. column_of done a ++ t ∷ []) (sym same) ∙ sym (map-append (λ r. get_or r a []) done (row ∷ [])))
-      (push_from (a + 1) i done row texts long next)
+    (insert_last (column_of done a) i text (length-column_of done a ∙ long) ∙ ap (λ t. column_of done a ++ t ∷ []) (sym same) ∙ sym (map-append (λ r. get_or r a []) done (row ∷ [])))
+    (push_from (a + 1) i done row texts long next)
 
 pub transposed-push : (columns i : ℕ) (done : List (List (List ℕ))) (row : List (List ℕ)) → length done ≡ i → length row ≡ columns →
     with_items i (transposed columns done) row ≡ transposed columns (done ++ row ∷ [])
@@ -55,7 +57,7 @@ transposes_more columns count all row rest turned h = record {
   many = omega (arith, length-append h.done (row ∷ []), h.many);
   even = h.even.1;
   turns = ap (λ rows. with_items count rows row) h.turns ∙ transposed-push columns count h.done row h.many h.even.0;
-  }
+}
 
 nothing_turned : (a n : ℕ) → replicate n [] ≡ map (column_of []) (range_with_len a n)
 nothing_turned a zero = refl
@@ -87,3 +89,25 @@ column_taken rows column i j row cell inside is before =
 
 pub column_all : (rows : List (Vec (String Global))) (i j : ℕ) → length rows ≤ i → column_of (take i (row_texts rows)) j ≡ column_of (row_texts rows) j
 column_all rows i j past = ap (λ rs. column_of rs j) (take_all i (row_texts rows) (omega (arith, length-map rows (λ (v : Vec (String Global)). map string_bytes v.items))))
+
+same_on_range : {A : Type 0} (f g : ℕ → A) (a n : ℕ) → ((i : ℕ) → a ≤ i → i < a + n → f i ≡ g i) → map f (range_with_len a n) ≡ map g (range_with_len a n)
+same_on_range f g a zero same = refl
+same_on_range f g a (suc n) same = ap₂ (λ x xs. x ∷ xs) (same a (omega arith) (omega arith)) (same_on_range f g (a + 1) n (λ i from below. same i (omega arith) (omega arith)))
+
+-- a list read place by place
+read_from : {A : Type 0} (d : A) (whole : List A) (a : ℕ) (left : List A) → drop a whole ≡ left → map (λ j. get_or whole j d) (range_with_len a (length left)) ≡ left
+read_from d whole a [] here = refl
+read_from d whole a (x ∷ xs) here = ap₂ (λ y ys. y ∷ ys) (sym (first_left whole a d) ∙ ap (λ ys. get_or ys 0 d) here) (read_from d whole (a + 1) xs (sym (drop-drop 1 a whole) ∙ ap (drop 1) here))
+
+-- turned twice, rows are as they were
+pub transposed-transposed : (n : ℕ) (rows : List (List (List ℕ))) → AreRecords n rows → transposed (length rows) (transposed n rows) ≡ rows
+transposed-transposed n rows even = same_on_range (column_of (transposed n rows)) (λ i. get_or rows i []) 0 (length rows) row_back ∙ read_from [] rows 0 rows refl
+  where
+    row_back : (i : ℕ) → 0 ≤ i → i < 0 + length rows → column_of (transposed n rows) i ≡ get_or rows i []
+    row_back i from below =
+        let within : i < length rows = omega arith in
+        let wide : length (get_or rows i []) ≡ n = All-from_recursion (λ row. length row ≡ n) rows even i [] within in
+        map-map (λ row. get_or row i []) (column_of rows) (range_with_len 0 n)
+        ∙ same_on_range (λ j. get_or (column_of rows j) i []) (λ j. get_or (get_or rows i []) j []) 0 n (λ j _ _. get_or-map (λ row. get_or row j []) rows i [] [] within)
+        ∙ ap (λ k. map (λ j. get_or (get_or rows i []) j []) (range_with_len 0 k)) (sym wide)
+        ∙ read_from [] (get_or rows i []) 0 (get_or rows i []) refl

@@ -1,9 +1,10 @@
 //! Laws of what the calls say they do. Each is the contract of a function that does nothing.
 
-ghost use Rattle.std.specs.Prelude.{◌≡◌};
+ghost use Rattle.std.specs.Prelude.{◌≡◌, option_map};
 ghost use Rattle.tabled_table.specs.Builder.{IsClean, cleaned};
+ghost use Rattle.tabled_table.specs.Index.{turned_over};
 
-use crate::builder::Builder;
+use crate::builder::{Builder, IndexBuilder};
 
 /// A builder that is cleaned twice is as if it was cleaned once.
 pub fn cleaned_twice_is_once(_builder: &Builder)
@@ -14,3 +15,10 @@ pub fn cleaned_twice_is_once(_builder: &Builder)
 pub fn cleaned_is_clean(_builder: &Builder)
     ensures { IsClean (cleaned _builder.now) }
 {}
+
+/// An index builder that is transposed twice is as it was.
+pub fn transposed_twice_is_as_it_was(builder: &IndexBuilder)
+    ensures { option_map turned_over (option_map turned_over builder.now) ≡ builder.now }
+{
+    builder.keeps_its_shape();
+}

@@ -1,7 +1,7 @@
 //! A table that gets an index.
 
-use crate::builder::indexed::Indexed;
 use crate::builder::Builder;
+use crate::builder::indexed::Indexed;
 use crate::table::Table;
 use std::alloc::{AllocError, Global};
 use std::marker::Model;

@@ -2,6 +2,8 @@
 
 mod columns;
 mod index_builder;
+#[cfg(test)]
+mod index_tests;
 mod indexed;
 mod maps;
 mod rows;

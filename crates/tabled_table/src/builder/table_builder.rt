@@ -1,6 +1,6 @@
 //! Records gathered one after another, all of one length.
 
-use crate::builder::{columns, rows, texts, IndexBuilder};
+use crate::builder::{IndexBuilder, columns, rows, texts};
 use crate::table::Table;
 use std::alloc::{AllocError, Global};
 use std::marker::Model;

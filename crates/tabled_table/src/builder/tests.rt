@@ -8,7 +8,7 @@ use tabled_grid::config::Position;
 use tabled_grid::records::Text;
 
 /// Texts written as words, where `_` is an empty one.
-fn texts(alloc: Global, words: &str) -> Result<Vec<String>, AllocError> {
+pub(super) fn texts(alloc: Global, words: &str) -> Result<Vec<String>, AllocError> {
     let mut texts = Vec::new(alloc);
     for word in words.split_whitespace() {
         texts.push(String::from_str(alloc, if word == "_" { "" } else { word })?)?;
@@ -17,7 +17,7 @@ fn texts(alloc: Global, words: &str) -> Result<Vec<String>, AllocError> {
 }
 
 /// A builder of records, each written as words.
-fn builder(alloc: Global, records: &[&str]) -> Result<Builder, AllocError> {
+pub(super) fn builder(alloc: Global, records: &[&str]) -> Result<Builder, AllocError> {
     let mut builder = Builder::new(alloc);
     for words in records {
         builder.push_record(alloc, texts(alloc, *words)?)?;
@@ -26,7 +26,7 @@ fn builder(alloc: Global, records: &[&str]) -> Result<Builder, AllocError> {
 }
 
 /// The records of a builder, each as words and a slash.
-fn spelled(alloc: Global, builder: Builder) -> Result<String, AllocError> {
+pub(super) fn spelled(alloc: Global, builder: Builder) -> Result<String, AllocError> {
     let mut spelled = String::new(alloc);
     for row in &builder.into_strings(alloc)? {
         for text in row {

@@ -17,10 +17,10 @@ loop-row-preserved c =
     let same = changed_next _ _ _ _ c.loop-row.row-index c.row-item.result (omega arith) (omega arith) c.loop-row.invariant.rows in
     let within : c.args.j < length row.items = omega (arith, row.ok.0, same_len row (get_or c.args.rows.now c.loop-row.row-index c.row-item.result) same, c.requires c.loop-row.row-index c.row-item.result (omega arith)) in
     record {
-  rows = changed_more _ _ _ _ _ c.row-item.result c.remove.new.self (omega arith) (omega arith) c.loop-row.invariant.rows (ap (map string_bytes) c.remove.ensures.items ∙ map-remove string_bytes _ _);
-  column = ap (map string_bytes) c.in_ok-push.ensures.items
-      ∙ column_taken c.args.rows.now c.loop-row.column.items c.loop-row.row-index c.args.j c.row-item.result c.remove.result (omega arith) (ap string_bytes c.remove.ensures.value ∙ sym (get_or-map string_bytes row.items c.args.j c.remove.result [] within) ∙ ap (λ texts. get_or texts c.args.j []) same) c.loop-row.invariant.column;
-  }
+      rows = changed_more _ _ _ _ _ c.row-item.result c.remove.new.self (omega arith) (omega arith) c.loop-row.invariant.rows (ap (map string_bytes) c.remove.ensures.items ∙ map-remove string_bytes _ _);
+      column = ap (map string_bytes) c.in_ok-push.ensures.items
+          ∙ column_taken c.args.rows.now c.loop-row.column.items c.loop-row.row-index c.args.j c.row-item.result c.remove.result (omega arith) (ap string_bytes c.remove.ensures.value ∙ sym (get_or-map string_bytes row.items c.args.j c.remove.result [] within) ∙ ap (λ texts. get_or texts c.args.j []) same) c.loop-row.invariant.column;
+    }
 
 pub returns-clause-column : goal.returns-clause-column
 returns-clause-column c = c.loop-row.invariant.column ∙ column_all c.args.rows.now c.loop-row.row-index c.args.j (omega arith)

@@ -12,4 +12,4 @@ loop-i-preserved c =
     let left : c.args.count - i ≡ suc (c.args.count - (i + 1)) = omega arith in
     let rest = map decimal (range_with_len (i + 1) (c.args.count - (i + 1))) in
     rw (c.in_ok-push.ensures.items, map_push string_bytes texts c.new.result, c.new.ensures, c.in_ok-to_string.ensures.ok)
-      (append_assoc (map string_bytes texts) (decimal i ∷ []) rest ∙ ap (λ n. map string_bytes texts ++ map decimal (range_with_len i n)) (sym left) ∙ c.loop-i.invariant)
+    (append_assoc (map string_bytes texts) (decimal i ∷ []) rest ∙ ap (λ n. map string_bytes texts ++ map decimal (range_with_len i n)) (sym left) ∙ c.loop-i.invariant)

@@ -1,0 +1,94 @@
+//! Tables with an index.
+
+use super::tests::{builder, spelled};
+use super::{Builder, IndexBuilder};
+use std::alloc::{AllocError, Global};
+use std::test::Fail;
+
+/// The rows of the table that is built, as words and slashes.
+fn rows(alloc: Global, index: IndexBuilder) -> Result<String, AllocError> {
+    spelled(alloc, index.into_builder(alloc)?)
+}
+
+/// An index over records, each written as words.
+fn index(alloc: Global, records: &[&str]) -> Result<IndexBuilder, AllocError> {
+    builder(alloc, records)?.index(alloc)
+}
+
+#[test]
+fn numbers_the_records(rt: HostRuntime) -> Result<(), Fail> {
+    let alloc = rt.alloc();
+    let records = ["i col-1", "0 value-1", "2 value-3"];
+    assert_eq!(rt;
+        rows(alloc, index(alloc, &records)?)?.as_str(),
+        "_ i col-1 /0 0 value-1 /1 2 value-3 /"
+    );
+    assert_eq!(rt;
+        rows(alloc, index(alloc, &records)?.hide())?.as_str(),
+        "i col-1 /0 value-1 /2 value-3 /"
+    );
+    assert_eq!(rt;
+        rows(alloc, index(alloc, &records)?.column(alloc, 2)?)?.as_str(),
+        "_ i col-1 /0 0 value-1 /1 2 value-3 /"
+    );
+    Ok(())
+}
+
+#[test]
+fn takes_a_column_as_the_index(rt: HostRuntime) -> Result<(), Fail> {
+    let alloc = rt.alloc();
+    let records = ["i column1 column2", "0 value1 value2"];
+    let named = index(alloc, &records)?
+        .column(alloc, 1)?
+        .name(Some(String::from_str(alloc, "index")?));
+    assert_eq!(rt;
+        rows(alloc, named)?.as_str(),
+        "_ i column2 /index _ _ /value1 0 value2 /"
+    );
+    let unnamed = index(alloc, &records)?.column(alloc, 1)?.name(None);
+    assert_eq!(rt;
+        rows(alloc, unnamed)?.as_str(),
+        "_ i column2 /value1 0 value2 /"
+    );
+    let second = index(alloc, &records)?.column(alloc, 1)?.column(alloc, 0)?;
+    assert_eq!(rt; rows(alloc, second)?.as_str(), "_ column2 /i _ /0 value2 /");
+    Ok(())
+}
+
+#[test]
+fn turns_the_table(rt: HostRuntime) -> Result<(), Fail> {
+    let alloc = rt.alloc();
+    let records = [
+        "i column-1 column-2 column-3",
+        "0 value-1 value-2 value-3",
+        "1 value-4 value-5 value-6",
+        "2 value-7 value-8 value-9",
+    ];
+    let turned = index(alloc, &records)?.column(alloc, 1)?.transpose(alloc)?;
+    assert_eq!(rt;
+        rows(alloc, turned)?.as_str(),
+        "column-1 value-1 value-4 value-7 /i 0 1 2 /column-2 value-2 value-5 value-8 /column-3 value-3 value-6 value-9 /"
+    );
+    let back = index(alloc, &records)?.transpose(alloc)?.transpose(alloc)?;
+    assert_eq!(rt;
+        rows(alloc, back.hide())?.as_str(),
+        "i column-1 column-2 column-3 /0 value-1 value-2 value-3 /1 value-4 value-5 value-6 /2 value-7 value-8 value-9 /"
+    );
+    Ok(())
+}
+
+#[test]
+fn builds_from_little(rt: HostRuntime) -> Result<(), Fail> {
+    let alloc = rt.alloc();
+    let bare = index(alloc, &["h", "v"])?.column(alloc, 0)?.hide();
+    assert_eq!(rt; bare.build(alloc)?.shape(), (2, 0));
+    let declared = Builder::with_capacity(alloc, 0, 3)?.index(alloc)?;
+    let named = declared.name(Some(String::from_str(alloc, "n")?));
+    assert_eq!(rt; named.build(alloc)?.shape(), (0, 0));
+    let empty = IndexBuilder::from_builder(alloc, Builder::new(alloc))?;
+    let turned = empty.column(alloc, 0)?.transpose(alloc)?;
+    assert_eq!(rt; turned.hide().build(alloc)?.shape(), (0, 0));
+    let header = index(alloc, &["a b"])?.transpose(alloc)?.hide();
+    assert_eq!(rt; header.build(alloc)?.shape(), (3, 0));
+    Ok(())
+}
