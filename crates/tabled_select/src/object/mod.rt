@@ -9,15 +9,19 @@ ghost use Rattle.tabled_select.specs.Listed.{ListsAll};
 
 mod cell;
 mod columns;
+mod frame;
 mod from_last;
 mod iterator;
 mod rows;
+mod segment;
 mod union;
 
 pub use cell::{Cell, EntityOnce};
 pub use columns::{Column, Columns, ColumnsIter, FirstColumn, LastColumn, LastColumnOffset};
+pub use frame::{Frame, FrameIter};
 pub use iterator::{FilterObject, ObjectIterator, SkipObject};
 pub use rows::{FirstRow, LastRow, LastRowOffset, Row, Rows, RowsIter};
+pub use segment::{SectorIter, Segment, SegmentAll};
 use std::alloc::{AllocError, Global};
 use tabled_grid::config::Entity;
 use tabled_grid::records::GridStore;
