@@ -1,10 +1,9 @@
 -- Walks over blocks and over the edge of a table.
-use Rattle.std.proofs.Common.{◌≡◌, ℕ, zero, suc, ◌+◌, ◌-◌, ◌<◌, ◌≤◌, Bool, true, false, List, [], ◌∷◌, refl, sym, ap, ◌∙◌, drop, arith}
+use Rattle.std.proofs.Common.{◌≡◌, ℕ, zero, suc, ◌+◌, ◌-◌, ◌<◌, ◌≤◌, true, [], ◌∷◌, refl, sym, ap, ◌∙◌, drop, arith}
 use Rattle.std.specs.List.{filter}
 use Rattle.std.proofs.lemmas.Bool.{ne_eqb}
 use Rattle.tabled_grid.proofs.Places.{block-no_columns, block-no_rows, drop-place, drop-row, last_in_row, inside-Global}
 use Rattle.tabled_grid.specs.Entity.{block, place}
-use Rattle.tabled_grid.specs.declared.config.position.Position.{Position}
 use Rattle.tabled_grid.specs.declared.config.entity.Entity.TheVariants.{Cell}
 use Rattle.tabled_select.specs.Algebra.{cells_of}
 use Rattle.tabled_select.specs.Selectors.{Sector, sector_left, FrameWalk, frame, frame_left, on_edge}

@@ -23,7 +23,7 @@ columns_of = map Column
 abbrev pub if_cells : ℕ → ℕ → List Entity → List Entity
 if_cells rows columns entities = if (rows == 0) || (columns == 0) then [] else entities
 
--- the one index so far before or past the last of so many, or none where it is no index
+-- the index so far before or past the last of so many, or none where there is no such index
 abbrev pub index_from_last : FromLast → ℕ → List ℕ
 index_from_last from_last count = if count == 0 then [] else beside from_last.side
   where
@@ -31,9 +31,13 @@ index_from_last from_last count = if count == 0 then [] else beside from_last.si
     beside Before = if nat_lt (count - 1) from_last.offset then [] else (count - 1 - from_last.offset) ∷ []
     beside Past = if nat_lt (count - 1 + from_last.offset) (2 ^ 64) then (count - 1 + from_last.offset) ∷ [] else []
 
--- the places in ranges of rows and of columns, row by row
+-- the one entity that names all cells
+abbrev pub everything : List Entity
+everything = Global ∷ []
+
+-- the places in a range of rows and a range of columns, row by row
 abbrev pub segment : (Bound ℕ × Bound ℕ) → (Bound ℕ × Bound ℕ) → ℕ → ℕ → List Position
-segment across down rows columns = block (first_index across.0) (end_index across.1 rows) (first_index down.0) (end_index down.1 columns)
+segment down across rows columns = block (first_index down.0) (end_index down.1 rows) (first_index across.0) (end_index across.1 columns)
 
 -- where a walk over a block stands, and where it ends
 pub record Sector : Type 0 where

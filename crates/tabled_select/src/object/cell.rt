@@ -39,6 +39,7 @@ impl Model for Cell {
 impl Cell {
     ghost use Rattle.std.specs.Prelude.{◌≡◌};
 
+    /// The cell in a row and a column.
     pub fn new(row: usize, col: usize) -> Self
         ensures row { result.row ≡ row }
         ensures col { result.col ≡ col }

@@ -44,6 +44,7 @@ impl<R> Model for Columns<R> {
 impl<R: ToBounds> Columns<R> {
     ghost use Rattle.std.specs.Prelude.{◌≡◌};
 
+    /// The columns of a range.
     pub fn new(range: R) -> Self
         ensures { result ≡ range }
     {

@@ -14,6 +14,8 @@ mod from_last;
 mod iterator;
 mod rows;
 mod segment;
+#[cfg(test)]
+mod tests;
 mod union;
 
 pub use cell::{Cell, EntityOnce};

@@ -44,6 +44,7 @@ impl<R> Model for Rows<R> {
 impl<R: ToBounds> Rows<R> {
     ghost use Rattle.std.specs.Prelude.{◌≡◌};
 
+    /// The rows of a range.
     pub fn new(range: R) -> Self
         ensures { result ≡ range }
     {

@@ -1,11 +1,10 @@
 //! Blocks of cells.
 
-ghost use Rattle.std.specs.Prelude.{◌≡◌, [], ◌∷◌};
+ghost use Rattle.std.specs.Prelude.{◌≡◌};
 ghost use Rattle.std.specs.Iterator.{YieldsFirst, item_count};
 ghost use Rattle.tabled_grid.specs.Entity.{block};
-ghost use Rattle.tabled_grid.specs.declared.config.entity.Entity.TheVariants.{Global as Everything};
 ghost use Rattle.tabled_select.specs.Algebra.{cells_of};
-ghost use Rattle.tabled_select.specs.Selectors.{sector_left, segment};
+ghost use Rattle.tabled_select.specs.Selectors.{everything, sector_left, segment};
 
 use crate::object::Object;
 use crate::object::cell::EntityOnce;
@@ -44,6 +43,7 @@ impl<C, R> Model for Segment<C, R> {
 impl<C: ToBounds, R: ToBounds> Segment<C, R> {
     ghost use Rattle.std.specs.Prelude.{◌≡◌};
 
+    /// The cells in both ranges.
     pub fn new(rows: R, columns: C) -> Self
         ensures { result ≡ (rows, columns) }
     {
@@ -94,7 +94,7 @@ pub struct SegmentAll;
 impl<I: GridStore> Object<I> for SegmentAll {
     type Iter = EntityOnce;
 
-    ghost lists = { λ _ _ entities. entities ≡ Everything ∷ [] };
+    ghost lists = { λ _ _ entities. entities ≡ everything };
 
     ghost can_list = { λ _. Unit {0} };
 

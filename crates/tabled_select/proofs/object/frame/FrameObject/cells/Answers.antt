@@ -5,5 +5,5 @@ use Rattle.tabled_select.proofs.object.frame.FrameObject.cells.Goals as goal
 
 pub returns : goal.returns
 returns g c = record {
-  lists = (_, refl, shown_are_listed _ _ _ _ tt (ap cells_of (rw (c.new.ensures, c.count_rows.ensures.rows, c.count_columns.ensures.columns) refl)))
+  lists = (_, refl, shown_are_listed _ _ _ _ tt (ap cells_of (rw (c.new.ensures, c.count_rows.ensures.rows, c.count_columns.ensures.columns) refl)));
 }

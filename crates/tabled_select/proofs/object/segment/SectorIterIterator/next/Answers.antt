@@ -1,6 +1,5 @@
 use Rattle.std.proofs.Common.{rules, ap, length}
 use Rattle.tabled_select.proofs.Walks.{sector-next, sector-next_row}
-use Rattle.tabled_select.specs.Selectors.{Sector, sector_left}
 use Rattle.tabled_select.proofs.object.segment.SectorIterIterator.next.Goals as goal
 
 pub returns-then-self-2-clause-steps : goal.returns-then-self-2-clause-steps
