@@ -1,3 +1,4 @@
+pub mod Bounds
 pub mod Entity
 pub mod Grid
 pub mod Resized

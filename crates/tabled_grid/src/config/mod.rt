@@ -1,11 +1,15 @@
 //! Places of a table, and what names them.
 
+mod bounds;
 mod entity;
+mod offset;
 mod position;
 mod spanned_config;
 #[cfg(test)]
 mod tests;
 
+pub use bounds::ToBounds;
 pub use entity::{Entity, EntityIterator};
+pub use offset::Offset;
 pub use position::Position;
 pub use spanned_config::SpannedConfig;

@@ -1,7 +1,8 @@
-//! What entities and places are, at examples and at the ends of `usize`.
+//! What entities, places, ranges and offsets are, at examples and at the ends of `usize`.
 
-use super::{Entity, Position, SpannedConfig};
+use super::{Entity, Offset, Position, SpannedConfig, ToBounds};
 use std::hash::{DefaultHasher, Hash, Hasher};
+use std::ops::Bound;
 use std::test::Fail;
 
 fn hash_of<T: Hash>(value: &T) -> u64 {
@@ -146,4 +147,50 @@ fn keeps_spans(rt: HostRuntime) -> Result<(), Fail> {
     assert_eq!(rt; spans.get_column_span(corner), None);
     assert_eq!(rt; spans.get_row_span(corner), Some(2));
     Ok(())
+}
+
+/// The first index of a range and the one past its last, of 5 where it has no end.
+fn ends_of<B: ToBounds>(range: &B) -> (usize, usize) {
+    let indexes = range.to_range(5);
+    (indexes.start, indexes.end)
+}
+
+#[test]
+fn tells_the_indexes_of_ranges(rt: HostRuntime) {
+    let max = usize::MAX;
+    let mut gone_through = 2..=2;
+    assert_eq!(rt; gone_through.next(), Some(2));
+    for (ends, want) in [
+        (ends_of(&(1..3)), (1, 3)),
+        (ends_of(&(1..=3)), (1, 4)),
+        (ends_of(&(1..)), (1, 5)),
+        (ends_of(&(..3)), (0, 3)),
+        (ends_of(&(..=3)), (0, 4)),
+        (ends_of(&(..)), (0, 5)),
+        (ends_of(&gone_through), (2, 2)),
+        (ends_of(&(3..1)), (3, 1)),
+        (ends_of(&(7..9)), (7, 9)),
+        (ends_of(&(0..=max)), (0, max)),
+        (ends_of(&(..=max)), (0, max)),
+        (ends_of(&(max..)), (max, 5)),
+        (ends_of(&(Bound::Included(1), Bound::Included(3))), (1, 4)),
+        (ends_of(&(Bound::Excluded(1), Bound::Excluded(3))), (2, 3)),
+        (ends_of(&(Bound::Excluded(max), Bound::Unbounded)), (max, 5)),
+        (ends_of(&(Bound::Unbounded, Bound::Unbounded)), (0, 5)),
+    ] {
+        assert_eq!(rt; ends, want);
+    }
+}
+
+#[test]
+fn compares_offsets(rt: HostRuntime) {
+    let offsets = [
+        Offset::Start(0),
+        Offset::Start(7),
+        Offset::End(0),
+        Offset::End(1),
+    ];
+    assert!(rt; offsets.iter().is_sorted());
+    assert_ne!(rt; Offset::Start(1), Offset::End(1));
+    assert_ne!(rt; hash_of(&Offset::Start(1)), hash_of(&Offset::End(1)));
 }

@@ -8,16 +8,26 @@ ghost use Rattle.tabled_grid.specs.declared.config.entity.Entity.{Entity};
 ghost use Rattle.tabled_select.specs.Listed.{ListsAll};
 
 mod cell;
+mod columns;
+mod frame;
+mod from_last;
 mod iterator;
+mod rows;
+mod segment;
+#[cfg(test)]
+mod tests;
 mod union;
 
-pub use cell::EntityOnce;
+pub use cell::{Cell, EntityOnce};
+pub use columns::{Column, Columns, ColumnsIter, FirstColumn, LastColumn, LastColumnOffset};
+pub use frame::{Frame, FrameIter};
 pub use iterator::{FilterObject, ObjectIterator, SkipObject};
-pub use union::{UnionCombination, UnionIter};
-
+pub use rows::{FirstRow, LastRow, LastRowOffset, Row, Rows, RowsIter};
+pub use segment::{SectorIter, Segment, SegmentAll};
 use std::alloc::{AllocError, Global};
 use tabled_grid::config::Entity;
 use tabled_grid::records::GridStore;
+pub use union::{UnionCombination, UnionIter};
 
 /// Names cells of a store.
 ///

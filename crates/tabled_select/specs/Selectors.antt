@@ -1,0 +1,75 @@
+-- What selectors name.
+use Rattle.std.specs.Prelude.{◌≡◌, ◌<◌, ℕ, ◌+◌, ◌-◌, ◌^◌, Bool, true, ◌==◌, ◌||◌, if◌then◌else◌, List, [], ◌∷◌, drop, map, nat_lt}
+use Rattle.std.specs.List.{filter}
+use Rattle.std.specs.declared.ops.Bound.{Bound}
+use Rattle.tabled_grid.specs.Bounds.{end_index, first_index}
+use Rattle.tabled_grid.specs.Entity.{block, inside, place}
+use Rattle.tabled_grid.specs.declared.config.position.Position.{Position}
+use Rattle.tabled_grid.specs.declared.config.entity.Entity.{Entity}
+use Rattle.tabled_grid.specs.declared.config.entity.Entity.TheVariants.{Column, Global, Row}
+use Rattle.tabled_select.specs.declared.object.from_last.FromLast.{FromLast}
+use Rattle.tabled_select.specs.declared.object.from_last.Side.{Side}
+use Rattle.tabled_select.specs.declared.object.from_last.Side.TheVariants.{Before, Past}
+
+-- the entities that name one row each
+abbrev pub rows_of : List ℕ → List Entity
+rows_of = map Row
+
+-- the entities that name one column each
+abbrev pub columns_of : List ℕ → List Entity
+columns_of = map Column
+
+-- the entities, or none where a table has no cells
+abbrev pub if_cells : ℕ → ℕ → List Entity → List Entity
+if_cells rows columns entities = if (rows == 0) || (columns == 0) then [] else entities
+
+-- the index so far before or past the last of so many, or none where there is no such index
+abbrev pub index_from_last : FromLast → ℕ → List ℕ
+index_from_last from_last count = if count == 0 then [] else beside from_last.side
+  where
+    beside : Side → List ℕ
+    beside Before = if nat_lt (count - 1) from_last.offset then [] else (count - 1 - from_last.offset) ∷ []
+    beside Past = if nat_lt (count - 1 + from_last.offset) (2 ^ 64) then (count - 1 + from_last.offset) ∷ [] else []
+
+-- the one entity that names all cells
+abbrev pub everything : List Entity
+everything = Global ∷ []
+
+-- the places in a range of rows and a range of columns, row by row
+abbrev pub segment : (Bound ℕ × Bound ℕ) → (Bound ℕ × Bound ℕ) → ℕ → ℕ → List Position
+segment down across rows columns = block (first_index down.0) (end_index down.1 rows) (first_index across.0) (end_index across.1 columns)
+
+-- where a walk over a block stands, and where it ends
+pub record Sector : Type 0 where
+  pub row : ℕ
+  pub end_row : ℕ
+  pub col : ℕ
+  pub first_col : ℕ
+  pub end_col : ℕ
+
+-- the places that are left of a walk over a block
+abbrev pub sector_left : Sector → List Position
+sector_left s = drop (s.col - s.first_col) (block s.row s.end_row s.first_col s.end_col)
+
+-- a place is in the first or last row or column of a table
+abbrev pub on_edge : ℕ → ℕ → Position → Bool
+on_edge rows columns p = (p.row == 0) || (p.row == rows - 1) || (p.col == 0) || (p.col == columns - 1)
+
+-- the places on the edge of a table, row by row
+abbrev pub frame : ℕ → ℕ → List Position
+frame rows columns = filter (on_edge rows columns) (inside Global rows columns)
+
+-- where a walk over the edge of a table stands
+pub record FrameWalk : Type 0 where
+  pub rows : ℕ
+  pub columns : ℕ
+  pub row : ℕ
+  pub col : ℕ
+
+-- the places that are left of a walk over the edge of a table
+abbrev pub frame_left : FrameWalk → List Position
+frame_left s = filter (on_edge s.rows s.columns) (drop s.col (block s.row s.rows 0 s.columns))
+
+-- a walk over the edge of a table stands there until it ends
+abbrev pub StandsOnEdge : ℕ → ℕ → ℕ → ℕ → Type 0
+StandsOnEdge rows columns row col = row < rows → 0 < columns → (col < columns) × (on_edge rows columns (place row col) ≡ true)
