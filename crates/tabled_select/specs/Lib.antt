@@ -1,3 +1,4 @@
 pub mod Algebra
 pub mod Listed
+pub mod Marks
 pub mod Steps

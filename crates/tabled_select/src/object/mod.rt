@@ -9,6 +9,8 @@ ghost use Rattle.tabled_select.specs.Listed.{ListsAll};
 
 mod cell;
 mod iterator;
+mod place_set;
+mod places;
 mod union;
 
 pub use cell::EntityOnce;

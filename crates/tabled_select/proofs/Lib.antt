@@ -1,0 +1,2 @@
+pub mod MarkedPlaces
+pub mod NamedPlaces

@@ -1,0 +1,57 @@
+-- What one more mark changes.
+use Rattle.std.proofs.Common.{◌≡◌, ℕ, ◌+◌, ◌*◌, ◌<◌, ◌≤◌, Bool, true, false, List, [], ◌∷◌, refl, sym, ap, ap₂, ◌∙◌, ◌⊎◌, inl, inr, length, get_or, set, mul_comm, arith}
+use Rattle.std.specs.Prelude.{ltb, ◌==◌, ◌&&◌, ◌||◌, not}
+use Rattle.std.specs.List.{AllByRecursion}
+use Rattle.std.proofs.lemmas.Bool.{lt-ltb, le-ltb, eq-eqb, ne_eqb, cases_eq, cases_lt}
+use Rattle.std.proofs.lemmas.List.{get_or-set_same, get_or-set_other, length-set}
+use Rattle.std.proofs.lemmas.Nat.{mul-add-lt, same_from_place}
+use Rattle.tabled_grid.specs.declared.config.position.Position.{Position}
+use Rattle.tabled_select.specs.Algebra.{same_place, is_among}
+use Rattle.tabled_select.specs.Marks.{Marks, IsPlaceOf, MarksJust, has, mark_index, with_mark}
+use Rattle.tabled_select.proofs.NamedPlaces.{IsWithin}
+
+-- a place of a table has its mark
+pub IsPlaceOf-within : (s : Marks) (rows columns : ℕ) (p : Position) → s.columns ≡ columns → length s.marks ≡ rows * columns → IsWithin rows columns p → IsPlaceOf s p
+IsPlaceOf-within s rows columns p e l w = record {
+  col = rw e w.1;
+  index = rw (e, l) (rw (mul_comm columns rows) at (mul-add-lt p.row columns p.col rows w.0 w.1));
+  }
+
+same-false : (p q : Position) → ((p.row ≡ q.row) × (p.col ≡ q.col) → ⊥) → same_place p q ≡ false
+same-false p q h = elim (cases_eq p.row q.row) [
+    inl e ↦ rw (eq-eqb p.row q.row e) (ne_eqb p.col q.col (λ f. h (e, f)))
+    | inr d ↦ rw (ne_eqb p.row q.row d) refl
+    ]
+
+same-true : (p q : Position) → p.row ≡ q.row → p.col ≡ q.col → same_place p q ≡ true
+same-true p q e f = rw (eq-eqb p.row q.row e, eq-eqb p.col q.col f) refl
+
+-- a place is marked if it was, or if it is the one that is marked now
+pub has-with_mark : (s : Marks) (q p : Position) → IsPlaceOf s q → has (with_mark s q) p ≡ same_place p q || has s p
+has-with_mark s q p at = elim (cases_lt p.col s.columns) [
+    inl h ↦ elim (cases_eq (mark_index s p) (mark_index s q)) [
+        inl e ↦
+          let same = same_from_place p.row p.col q.row q.col s.columns h at.col e in
+          rw (same-true p q same.0 same.1, lt-ltb p.col s.columns h, e, get_or-set_same s.marks (mark_index s q) true false at.index) refl
+        | inr d ↦
+          rw (same-false p q (λ same. d (ap₂ (λ i j. i * s.columns + j) same.0 same.1)), get_or-set_other s.marks (mark_index s q) (mark_index s p) true false d) refl
+        ]
+    | inr h ↦ rw (same-false p q (λ same. omega (arith, same.1, at.col)), le-ltb p.col s.columns h) refl
+    ]
+
+or_false : (b : Bool) → (b || false) ≡ b
+or_false true = refl
+or_false false = refl
+
+or_move : (a b c : Bool) → (b || (a || c)) ≡ ((a || b) || c)
+or_move true true c = refl
+or_move true false c = refl
+or_move false b c = refl
+
+-- all places are still to be marked
+pub marked-first : (s : Marks) (left all : List Position) (p : Position) → left ≡ all → has s p ≡ false → (is_among left p || has s p) ≡ is_among all p
+marked-first s left all p e f = rw (e, f) (or_false (is_among all p))
+
+-- one more of them is marked
+pub marked-next : (s : Marks) (q : Position) (left rest all : List Position) (p : Position) → left ≡ q ∷ rest → IsPlaceOf s q → (is_among left p || has s p) ≡ is_among all p → (is_among rest p || has (with_mark s q) p) ≡ is_among all p
+marked-next s q left rest all p e at h = ap (λ b. is_among rest p || b) (has-with_mark s q p at) ∙ or_move (same_place p q) (is_among rest p) (has s p) ∙ (rw e at h)
