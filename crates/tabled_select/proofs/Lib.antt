@@ -1,2 +1,3 @@
 pub mod MarkedPlaces
 pub mod NamedPlaces
+pub mod Sifted

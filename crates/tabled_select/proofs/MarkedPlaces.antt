@@ -1,14 +1,16 @@
 -- What one more mark changes.
 use Rattle.std.proofs.Common.{◌≡◌, ℕ, ◌+◌, ◌*◌, ◌<◌, ◌≤◌, Bool, true, false, List, [], ◌∷◌, refl, sym, ap, ap₂, ◌∙◌, ◌⊎◌, inl, inr, length, get_or, set, mul_comm, arith}
 use Rattle.std.specs.Prelude.{ltb, ◌==◌, ◌&&◌, ◌||◌, not}
-use Rattle.std.specs.List.{AllByRecursion}
+use Rattle.std.specs.List.{AllByRecursion, filter}
 use Rattle.std.proofs.lemmas.Bool.{lt-ltb, le-ltb, eq-eqb, ne_eqb, cases_eq, cases_lt}
 use Rattle.std.proofs.lemmas.List.{get_or-set_same, get_or-set_other, length-set}
+use Rattle.std.proofs.lemmas.List.Elements.{filter_agree}
 use Rattle.std.proofs.lemmas.Nat.{mul-add-lt, same_from_place}
 use Rattle.tabled_grid.specs.declared.config.position.Position.{Position}
-use Rattle.tabled_select.specs.Algebra.{same_place, is_among}
-use Rattle.tabled_select.specs.Marks.{Marks, IsPlaceOf, MarksJust, has, mark_index, with_mark}
-use Rattle.tabled_select.proofs.NamedPlaces.{IsWithin}
+use Rattle.tabled_grid.specs.declared.config.entity.Entity.{Entity}
+use Rattle.tabled_select.specs.Algebra.{flat, same_place, is_among, difference_of, intersection_of}
+use Rattle.tabled_select.specs.Marks.{Marks, IsPlaceOf, MarksJust, has, mark_index, passes, with_mark}
+use Rattle.tabled_select.proofs.NamedPlaces.{IsWithin, flat-within}
 
 -- a place of a table has its mark
 pub IsPlaceOf-within : (s : Marks) (rows columns : ℕ) (p : Position) → s.columns ≡ columns → length s.marks ≡ rows * columns → IsWithin rows columns p → IsPlaceOf s p
@@ -55,3 +57,19 @@ marked-first s left all p e f = rw (e, f) (or_false (is_among all p))
 -- one more of them is marked
 pub marked-next : (s : Marks) (q : Position) (left rest all : List Position) (p : Position) → left ≡ q ∷ rest → IsPlaceOf s q → (is_among left p || has s p) ≡ is_among all p → (is_among rest p || has (with_mark s q) p) ≡ is_among all p
 marked-next s q left rest all p e at h = ap (λ b. is_among rest p || b) (has-with_mark s q p at) ∙ or_move (same_place p q) (is_among rest p) (has s p) ∙ (rw e at h)
+
+all-places : (s : Marks) (rows columns : ℕ) → s.columns ≡ columns → length s.marks ≡ rows * columns → (ps : List Position) → AllByRecursion (IsWithin rows columns) ps → AllByRecursion (IsPlaceOf s) ps
+all-places s rows columns e l [] a = tt
+all-places s rows columns e l (p ∷ ps) a = (IsPlaceOf-within s rows columns p e l a.0, all-places s rows columns e l ps a.1)
+
+module _ (s : Marks) (rows columns : ℕ) (marked : List Position) (just : MarksJust s rows columns marked) where
+  -- what entities name in the table has marks
+  pub flat-places : (entities : List Entity) → AllByRecursion (IsPlaceOf s) (flat entities rows columns)
+  flat-places entities = all-places s rows columns just.columns_are just.size (flat entities rows columns) (flat-within entities rows columns)
+
+  -- what passes
+  pub passes-difference : (ps : List Position) → filter (passes false s) ps ≡ difference_of ps marked
+  passes-difference ps = filter_agree (passes false s) (λ p. not (is_among marked p)) (λ p. ap not (just.marked p)) ps
+
+  pub passes-intersection : (ps : List Position) → filter (passes true s) ps ≡ intersection_of ps marked
+  passes-intersection ps = filter_agree (passes true s) (is_among marked) just.marked ps

@@ -1,5 +1,5 @@
 -- The marked places of a table.
-use Rattle.std.specs.Prelude.{◌≡◌, ℕ, ◌+◌, ◌*◌, ◌<◌, Bool, true, false, ltb, ◌&&◌, List, length, get_or, set}
+use Rattle.std.specs.Prelude.{◌≡◌, ℕ, ◌+◌, ◌*◌, ◌<◌, Bool, true, false, ltb, ◌&&◌, not, List, length, get_or, set}
 use Rattle.tabled_grid.specs.declared.config.position.Position.{Position}
 use Rattle.tabled_select.specs.Algebra.{is_among}
 
@@ -30,3 +30,8 @@ pub record MarksJust (s : Marks) (rows columns : ℕ) (places : List Position) :
   pub columns_are : s.columns ≡ columns
   pub size : length s.marks ≡ rows * columns
   pub marked : (p : Position) → has s p ≡ is_among places p
+
+-- of the places of a table the marked ones pass, or else the others
+abbrev pub passes : Bool → Marks → Position → Bool
+passes true s p = has s p
+passes false s p = not (has s p)

@@ -11,6 +11,7 @@ mod cell;
 mod iterator;
 mod place_set;
 mod places;
+mod sieve;
 mod union;
 
 pub use cell::EntityOnce;
