@@ -1,3 +1,5 @@
+pub mod Listing
 pub mod MarkedPlaces
 pub mod NamedPlaces
 pub mod Sifted
+pub mod Uniting

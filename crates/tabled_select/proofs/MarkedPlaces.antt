@@ -28,6 +28,15 @@ same-false p q h = elim (cases_eq p.row q.row) [
 same-true : (p q : Position) → p.row ≡ q.row → p.col ≡ q.col → same_place p q ≡ true
 same-true p q e f = rw (eq-eqb p.row q.row e, eq-eqb p.col q.col f) refl
 
+eqb-turned : (m n : ℕ) → (m == n) ≡ (n == m)
+eqb-turned m n = elim (cases_eq m n) [
+    inl e ↦ rw (eq-eqb m n e, eq-eqb n m (sym e)) refl
+    | inr d ↦ rw (ne_eqb m n d, ne_eqb n m (λ e. d (sym e))) refl
+    ]
+
+pub same_place-turned : (p q : Position) → same_place p q ≡ same_place q p
+same_place-turned p q = ap₂ (λ b c. b && c) (eqb-turned p.row q.row) (eqb-turned p.col q.col)
+
 -- a place is marked if it was, or if it is the one that is marked now
 pub has-with_mark : (s : Marks) (q p : Position) → IsPlaceOf s q → has (with_mark s q) p ≡ same_place p q || has s p
 has-with_mark s q p at = elim (cases_lt p.col s.columns) [
@@ -73,3 +82,8 @@ module _ (s : Marks) (rows columns : ℕ) (marked : List Position) (just : Marks
 
   pub passes-intersection : (ps : List Position) → filter (passes true s) ps ≡ intersection_of ps marked
   passes-intersection ps = filter_agree (passes true s) (is_among marked) just.marked ps
+
+-- one more mark leaves the places of the table
+pub places-with_mark : (s : Marks) (q : Position) (ps : List Position) → AllByRecursion (IsPlaceOf s) ps → AllByRecursion (IsPlaceOf (with_mark s q)) ps
+places-with_mark s q [] a = tt
+places-with_mark s q (p ∷ ps) a = (record { col = a.0.col; index = rw length-set a.0.index }, places-with_mark s q ps a.1)

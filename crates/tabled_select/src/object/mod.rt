@@ -8,14 +8,22 @@ ghost use Rattle.tabled_grid.specs.declared.config.entity.Entity.{Entity};
 ghost use Rattle.tabled_select.specs.Listed.{ListsAll};
 
 mod cell;
+mod diff;
+mod intersection;
+mod inversion;
 mod iterator;
+mod listed;
 mod place_set;
 mod places;
 mod sieve;
 mod union;
 
 pub use cell::EntityOnce;
+pub use diff::{DiffCombination, DiffIter};
+pub use intersection::{IntersectIter, IntersectionCombination};
+pub use inversion::{InversionCombination, InversionIter};
 pub use iterator::{FilterObject, ObjectIterator, SkipObject};
+pub use listed::entities;
 pub use union::{UnionCombination, UnionIter};
 
 use std::alloc::{AllocError, Global};
@@ -49,5 +57,31 @@ pub trait Object<R: GridStore> {
         ensures { result ≡ (self, rhs) }
     {
         UnionCombination::new(self, rhs)
+    }
+    /// The cells that the other doesn't name, with repeats.
+    final fn not<O>(self, rhs: O) -> DiffCombination<Self, O, R>
+    where
+        Self: Sized,
+        ensures { result ≡ (self, rhs) }
+    {
+        DiffCombination::new(self, rhs)
+    }
+
+    /// The cells that the other names too, with repeats.
+    final fn intersect<O>(self, rhs: O) -> IntersectionCombination<Self, O, R>
+    where
+        Self: Sized,
+        ensures { result ≡ (self, rhs) }
+    {
+        IntersectionCombination::new(self, rhs)
+    }
+
+    /// The cells of the table that aren't named.
+    final fn inverse(self) -> InversionCombination<Self, R>
+    where
+        Self: Sized,
+        ensures { result ≡ self }
+    {
+        InversionCombination::new(self)
     }
 }
