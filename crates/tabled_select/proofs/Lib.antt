@@ -1,5 +1,7 @@
+pub mod Filtered
 pub mod Listing
 pub mod MarkedPlaces
 pub mod NamedPlaces
 pub mod Sifted
+pub mod Stepped
 pub mod Uniting

@@ -22,7 +22,10 @@ pub use cell::EntityOnce;
 pub use diff::{DiffCombination, DiffIter};
 pub use intersection::{IntersectIter, IntersectionCombination};
 pub use inversion::{InversionCombination, InversionIter};
-pub use iterator::{FilterObject, ObjectIterator, SkipObject};
+pub use iterator::{
+    FilterObject, FilterObjectIter, ObjectIterator, SkipObject, SkipObjectIter, StepByObject,
+    StepByObjectIter,
+};
 pub use listed::entities;
 pub use union::{UnionCombination, UnionIter};
 
