@@ -11,4 +11,4 @@ ListsAll-rest can_next iter can = record {
   can = can;
   ends = tt;
   gives = (YieldsList-from_first (λ e. e) (λ s. s) {s = iter} iter refl).runs;
-  }
+}

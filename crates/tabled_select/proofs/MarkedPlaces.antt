@@ -17,22 +17,22 @@ pub IsPlaceOf-within : (s : Marks) (rows columns : ℕ) (p : Position) → s.col
 IsPlaceOf-within s rows columns p e l w = record {
   col = rw e w.1;
   index = rw (e, l) (rw (mul_comm columns rows) at (mul-add-lt p.row columns p.col rows w.0 w.1));
-  }
+}
 
 same-false : (p q : Position) → ((p.row ≡ q.row) × (p.col ≡ q.col) → ⊥) → same_place p q ≡ false
 same-false p q h = elim (cases_eq p.row q.row) [
-    inl e ↦ rw (eq-eqb p.row q.row e) (ne_eqb p.col q.col (λ f. h (e, f)))
-    | inr d ↦ rw (ne_eqb p.row q.row d) refl
-    ]
+  | inl e ↦ rw (eq-eqb p.row q.row e) (ne_eqb p.col q.col (λ f. h (e, f)))
+  | inr d ↦ rw (ne_eqb p.row q.row d) refl
+]
 
 same-true : (p q : Position) → p.row ≡ q.row → p.col ≡ q.col → same_place p q ≡ true
 same-true p q e f = rw (eq-eqb p.row q.row e, eq-eqb p.col q.col f) refl
 
 eqb-turned : (m n : ℕ) → (m == n) ≡ (n == m)
 eqb-turned m n = elim (cases_eq m n) [
-    inl e ↦ rw (eq-eqb m n e, eq-eqb n m (sym e)) refl
-    | inr d ↦ rw (ne_eqb m n d, ne_eqb n m (λ e. d (sym e))) refl
-    ]
+  | inl e ↦ rw (eq-eqb m n e, eq-eqb n m (sym e)) refl
+  | inr d ↦ rw (ne_eqb m n d, ne_eqb n m (λ e. d (sym e))) refl
+]
 
 pub same_place-turned : (p q : Position) → same_place p q ≡ same_place q p
 same_place-turned p q = ap₂ (λ b c. b && c) (eqb-turned p.row q.row) (eqb-turned p.col q.col)
@@ -40,15 +40,15 @@ same_place-turned p q = ap₂ (λ b c. b && c) (eqb-turned p.row q.row) (eqb-tur
 -- a place is marked if it was, or if it is the one that is marked now
 pub has-with_mark : (s : Marks) (q p : Position) → IsPlaceOf s q → has (with_mark s q) p ≡ same_place p q || has s p
 has-with_mark s q p at = elim (cases_lt p.col s.columns) [
-    inl h ↦ elim (cases_eq (mark_index s p) (mark_index s q)) [
-        inl e ↦
-          let same = same_from_place p.row p.col q.row q.col s.columns h at.col e in
-          rw (same-true p q same.0 same.1, lt-ltb p.col s.columns h, e, get_or-set_same s.marks (mark_index s q) true false at.index) refl
-        | inr d ↦
-          rw (same-false p q (λ same. d (ap₂ (λ i j. i * s.columns + j) same.0 same.1)), get_or-set_other s.marks (mark_index s q) (mark_index s p) true false d) refl
-        ]
-    | inr h ↦ rw (same-false p q (λ same. omega (arith, same.1, at.col)), le-ltb p.col s.columns h) refl
-    ]
+  | inl h ↦ elim (cases_eq (mark_index s p) (mark_index s q)) [
+    | inl e ↦
+        let same = same_from_place p.row p.col q.row q.col s.columns h at.col e in
+        rw (same-true p q same.0 same.1, lt-ltb p.col s.columns h, e, get_or-set_same s.marks (mark_index s q) true false at.index) refl
+    | inr d ↦
+        rw (same-false p q (λ same. d (ap₂ (λ i j. i * s.columns + j) same.0 same.1)), get_or-set_other s.marks (mark_index s q) (mark_index s p) true false d) refl
+  ]
+  | inr h ↦ rw (same-false p q (λ same. omega (arith, same.1, at.col)), le-ltb p.col s.columns h) refl
+]
 
 or_false : (b : Bool) → (b || false) ≡ b
 or_false true = refl

@@ -88,9 +88,9 @@ module _ {S A B : Type 0} (steps : S → Option A → S → Type 0) (v : A → B
   gives-every (y ∷ ys) all s gives e = (
     (λ t p. some_item y ys (sym e ∙ at-none all s t gives p)),
     λ x t p.
-      let next = at-some all s t x gives p in
-      let same = sym next.1 ∙ e in
-      (ap (head y) same, gives-every ys next.0 t next.2 (ap tail same)),
+        let next = at-some all s t x gives p in
+        let same = sym next.1 ∙ e in
+        (ap (head y) same, gives-every ys next.0 t next.2 (ap tail same)),
   )
 
 -- a fresh `step_by`

@@ -27,11 +27,10 @@ pub use iterator::{
     StepByObjectIter,
 };
 pub use listed::entities;
-pub use union::{UnionCombination, UnionIter};
-
 use std::alloc::{AllocError, Global};
 use tabled_grid::config::Entity;
 use tabled_grid::records::GridStore;
+pub use union::{UnionCombination, UnionIter};
 
 /// Names cells of a store.
 ///

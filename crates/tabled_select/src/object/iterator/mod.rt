@@ -6,11 +6,10 @@ mod filter;
 mod skip;
 mod step_by;
 
+use crate::object::Object;
 pub use filter::{FilterObject, FilterObjectIter};
 pub use skip::{SkipObject, SkipObjectIter};
 pub use step_by::{StepByObject, StepByObjectIter};
-
-use crate::object::Object;
 use tabled_grid::config::Entity;
 use tabled_grid::records::GridStore;
 

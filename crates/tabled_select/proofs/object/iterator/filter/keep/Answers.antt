@@ -1,4 +1,4 @@
-use Rattle.std.proofs.Common.{rules, of_calls}
+use Rattle.std.proofs.Common.{of_calls}
 use Rattle.std.specs.Fn.Refs.{Mut-at_ref}
 use Rattle.tabled_select.proofs.Filtered.{Filters-from_IsFiltered}
 use Rattle.tabled_select.proofs.object.iterator.filter.keep.Goals as goal

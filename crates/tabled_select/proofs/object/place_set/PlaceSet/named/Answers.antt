@@ -1,4 +1,4 @@
-use Rattle.std.proofs.Common.{rules, ◌≡◌, ◌∙◌, refl, arith}
+use Rattle.std.proofs.Common.{◌∙◌}
 use Rattle.std.proofs.lemmas.List.{length-set}
 use Rattle.tabled_select.proofs.MarkedPlaces.{IsPlaceOf-within, marked-first, marked-next}
 use Rattle.tabled_select.proofs.NamedPlaces.{flat-within}

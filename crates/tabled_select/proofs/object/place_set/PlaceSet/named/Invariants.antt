@@ -1,4 +1,4 @@
-use Rattle.std.proofs.Common.{◌≡◌, ◌*◌, Bool, length}
+use Rattle.std.proofs.Common.{◌≡◌, ◌*◌, length}
 use Rattle.std.specs.Prelude.{◌||◌}
 use Rattle.std.specs.List.{AllByRecursion}
 use Rattle.tabled_grid.specs.declared.config.position.Position.{Position}
@@ -15,4 +15,4 @@ invariant-loop-pos l = record {
   size : length l.set.marks ≡ l.fn.rows * l.fn.columns;
   left : AllByRecursion (IsWithin l.fn.rows l.fn.columns) l.pos-iterator;
   marked : (p : Position) → is_among l.pos-iterator p || has l.set p ≡ is_among (flat l.fn.entities.items l.fn.rows l.fn.columns) p;
-  }
+}

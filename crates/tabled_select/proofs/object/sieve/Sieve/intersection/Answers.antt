@@ -1,4 +1,3 @@
-use Rattle.std.proofs.Common.{◌∙◌}
 use Rattle.tabled_select.proofs.MarkedPlaces.{flat-places, passes-intersection}
 use Rattle.tabled_select.proofs.object.sieve.Sieve.intersection.Goals as goal
 

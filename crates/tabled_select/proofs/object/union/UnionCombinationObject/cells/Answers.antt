@@ -1,5 +1,3 @@
-use Rattle.std.proofs.Common.{rules, ◌∙◌, ap}
-use Rattle.tabled_select.specs.Algebra.{cells_of, firsts}
 use Rattle.tabled_select.proofs.Listing.{ListsAll-rest}
 use Rattle.tabled_select.proofs.NamedPlaces.{flat-append}
 use Rattle.tabled_select.proofs.object.union.UnionCombinationObject.cells.Goals as goal

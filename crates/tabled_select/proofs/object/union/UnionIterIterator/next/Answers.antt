@@ -1,4 +1,4 @@
-use Rattle.std.proofs.Common.{rules, ◌≡◌, ◌∙◌, sym, ap, length}
+use Rattle.std.proofs.Common.{rules, ap, length}
 use Rattle.tabled_select.proofs.MarkedPlaces.{places-with_mark}
 use Rattle.tabled_select.proofs.Uniting.{fresh-new, fresh-old}
 use Rattle.tabled_select.proofs.object.union.UnionIterIterator.next.Goals as goal

@@ -8,7 +8,7 @@ abbrev pub invariant-loop-pos : goal.invariant-loop-pos
 invariant-loop-pos l = record {
   within : AllByRecursion (IsPlaceOf l.self-inside.seen) l.self-inside.places;
   same : cells_of (filter (passes false l.self-inside.seen) (firsts l.self-inside.places)) ≡ l.fn.self;
-  }
+}
 
 abbrev pub decreases-loop-pos : goal.decreases-loop-pos
 decreases-loop-pos l = length l.self-inside.places

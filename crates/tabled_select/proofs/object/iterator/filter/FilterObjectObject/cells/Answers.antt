@@ -1,4 +1,3 @@
-use Rattle.std.proofs.Common.{rules}
 use Rattle.tabled_select.proofs.Listing.{ListsAll-rest}
 use Rattle.tabled_select.proofs.object.iterator.filter.FilterObjectObject.cells.Goals as goal
 
@@ -9,4 +8,4 @@ returns g c = record {
     (c.in_ok-all.all.items, rw (← c.self.view_is) c.in_ok-all.ensures, rw (← c.self.view_is, c.into_iter.ensures.rest) c.keep.ensures),
     ListsAll-rest _ _ tt,
   );
-  }
+}
