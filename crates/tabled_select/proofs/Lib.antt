@@ -1,2 +1,10 @@
+pub mod Filtered
+pub mod Inverted
+pub mod Listing
+pub mod MarkedPlaces
+pub mod NamedPlaces
 pub mod Shown
+pub mod Sifted
+pub mod Stepped
+pub mod Uniting
 pub mod Walks

@@ -1,4 +1,5 @@
 pub mod Algebra
 pub mod Listed
+pub mod Marks
 pub mod Selectors
 pub mod Steps

@@ -1,4 +1,5 @@
 //! Selectors: what names cells of a table, and how selections combine.
 #![tactic(auto)]
 
+pub mod laws;
 pub mod object;

@@ -9,25 +9,40 @@ ghost use Rattle.tabled_select.specs.Listed.{ListsAll};
 
 mod cell;
 mod columns;
+mod diff;
 mod frame;
 mod from_last;
+mod intersection;
+mod inversion;
 mod iterator;
+mod listed;
+mod place_set;
+mod places;
 mod rows;
 mod segment;
+mod sieve;
 #[cfg(test)]
 mod tests;
 mod union;
 
 pub use cell::{Cell, EntityOnce};
 pub use columns::{Column, Columns, ColumnsIter, FirstColumn, LastColumn, LastColumnOffset};
+pub use diff::{DiffCombination, DiffIter};
 pub use frame::{Frame, FrameIter};
-pub use iterator::{FilterObject, ObjectIterator, SkipObject};
+pub use intersection::{IntersectIter, IntersectionCombination};
+pub use inversion::{InversionCombination, InversionIter};
+pub use iterator::{
+    FilterObject, FilterObjectIter, ObjectIterator, SkipObject, SkipObjectIter, StepByObject,
+    StepByObjectIter,
+};
+pub use listed::entities;
 pub use rows::{FirstRow, LastRow, LastRowOffset, Row, Rows, RowsIter};
 pub use segment::{SectorIter, Segment, SegmentAll};
+pub use union::{UnionCombination, UnionIter};
+
 use std::alloc::{AllocError, Global};
 use tabled_grid::config::Entity;
 use tabled_grid::records::GridStore;
-pub use union::{UnionCombination, UnionIter};
 
 /// Names cells of a store.
 ///
@@ -56,5 +71,31 @@ pub trait Object<R: GridStore> {
         ensures { result ≡ (self, rhs) }
     {
         UnionCombination::new(self, rhs)
+    }
+    /// The cells that the other doesn't name, with repeats.
+    final fn not<O>(self, rhs: O) -> DiffCombination<Self, O, R>
+    where
+        Self: Sized,
+        ensures { result ≡ (self, rhs) }
+    {
+        DiffCombination::new(self, rhs)
+    }
+
+    /// The cells that the other names too, with repeats.
+    final fn intersect<O>(self, rhs: O) -> IntersectionCombination<Self, O, R>
+    where
+        Self: Sized,
+        ensures { result ≡ (self, rhs) }
+    {
+        IntersectionCombination::new(self, rhs)
+    }
+
+    /// The cells of the table that aren't named.
+    final fn inverse(self) -> InversionCombination<Self, R>
+    where
+        Self: Sized,
+        ensures { result ≡ self }
+    {
+        InversionCombination::new(self)
     }
 }

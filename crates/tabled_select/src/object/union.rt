@@ -4,10 +4,11 @@ ghost use Rattle.std.specs.Prelude.{◌≡◌, List};
 ghost use Rattle.tabled_grid.specs.declared.config.entity.Entity.{Entity};
 ghost use Rattle.tabled_select.specs.Algebra.{cells_of, flat, union_of};
 
-use crate::object::Object;
+use crate::object::place_set::PlaceSet;
+use crate::object::places::Places;
+use crate::object::{Object, entities};
 use std::alloc::{AllocError, Global};
 use std::marker::{Model, PhantomData};
-use std::vec;
 use tabled_grid::config::Entity;
 use tabled_grid::records::{ExactRecords, Records};
 
@@ -65,25 +66,52 @@ where
 
     ghost can_list = { λ s. L.can_list s.0 × R.can_list s.1 };
 
-    fn cells(&self, _alloc: Global, _records: &I) -> Result<UnionIter, AllocError> {
-        Err(AllocError)
+    fn cells(&self, alloc: Global, records: &I) -> Result<UnionIter, AllocError> {
+        let rows = records.count_rows();
+        let columns = records.count_columns();
+        let mut all = entities(alloc, &self.lhs, records)?;
+        let mut rhs = entities(alloc, &self.rhs, records)?;
+        all.append(&mut rhs)?;
+        let seen = PlaceSet::new(alloc, rows, columns)?;
+        Ok(UnionIter::new(all, seen, rows, columns))
     }
 }
 
 /// Gives the cells of a union. A contract sees it as the list of what is left.
 #[derive(Drop)]
 pub struct UnionIter {
-    cells: vec::IntoIter<Entity>,
+    places: Places,
+    seen: PlaceSet,
 }
 
 impl Model for UnionIter {
-    ghost use Rattle.std.specs.Prelude.{List};
-    ghost use Rattle.std.specs.Vec.Iter.{into_iter_items};
+    ghost use Rattle.std.specs.Prelude.{List, false};
+    ghost use Rattle.std.specs.List.{AllByRecursion, filter};
     ghost use Rattle.tabled_grid.specs.declared.config.entity.Entity.{Entity};
+    ghost use Rattle.tabled_select.specs.Algebra.{cells_of, firsts};
+    ghost use Rattle.tabled_select.specs.Marks.{IsPlaceOf, passes};
 
     ghost Value = { List Entity };
 
-    ghost view = { λ a. into_iter_items a.cells };
+    ghost view = { λ a. cells_of (filter (passes false a.seen) (firsts a.places)) };
+
+    ghost invariant = { λ a. AllByRecursion (IsPlaceOf a.seen) a.places };
+}
+
+impl UnionIter {
+    ghost use Rattle.std.specs.Prelude.{◌≡◌, []};
+    ghost use Rattle.tabled_select.specs.Algebra.{cells_of, firsts, flat};
+    ghost use Rattle.tabled_select.specs.Marks.{MarksJust};
+
+    fn new(entities: Vec<Entity>, seen: PlaceSet, rows: usize, columns: usize) -> Self
+        requires { MarksJust seen rows columns [] }
+        ensures { result ≡ cells_of (firsts (flat entities.items rows columns)) }
+    {
+        UnionIter {
+            places: Places::new(entities, rows, columns),
+            seen,
+        }
+    }
 }
 
 impl Iterator for UnionIter {
@@ -96,6 +124,11 @@ impl Iterator for UnionIter {
     ghost remaining = { item_count (λ s. s) };
 
     fn next(&mut self) -> Option<Entity> {
-        self.cells.next()
+        while let Some(pos) = self.places.next() {
+            if self.seen.insert(pos) {
+                return Some(Entity::from(pos));
+            }
+        }
+        None
     }
 }

@@ -1,0 +1,21 @@
+-- What answers of a closure keep.
+use Rattle.std.proofs.Common.{◌≡◌, ℕ, Bool, true, false, List, [], ◌∷◌, refl, sym, ap, subst, length, arith}
+use Rattle.std.specs.List.{items_where_true}
+use Rattle.std.specs.List.Retain.{IsFiltered, ReturnsInTurn}
+use Rattle.tabled_select.specs.Steps.{Filters}
+
+module _ {X P : Type 0} (R : P → X → Bool → P → Type 0) (answers : X → Bool → Type 0) (p : P) (says : (x : X) (b : Bool) (q : P) → R p x b q → (q ≡ p) × answers x b) where
+  kept : (bs : List Bool) (xs : List X) (q : P) → length bs ≡ length xs → ReturnsInTurn R p bs xs q → Filters answers xs (items_where_true bs xs)
+  kept [] [] q l r = refl
+  kept [] (x ∷ xs) q l r = absurd (omega arith)
+  kept (b ∷ bs) [] q l r = absurd (omega arith)
+  kept (true ∷ bs) (x ∷ xs) q l r =
+      let said = says x true r.0 r.1 in
+      (true, items_where_true bs xs, said.1, kept bs xs q (omega arith) (subst (λ (j : P). ReturnsInTurn R j bs xs q) said.0 r.2), refl)
+  kept (false ∷ bs) (x ∷ xs) q l r =
+      let said = says x false r.0 r.1 in
+      (false, items_where_true bs xs, said.1, kept bs xs q (omega arith) (subst (λ (j : P). ReturnsInTurn R j bs xs q) said.0 r.2), refl)
+
+-- a closure that stays as it was, asked in turn
+pub Filters-from_IsFiltered : {X P : Type 0} {R : P → X → Bool → P → Type 0} {p : P} (answers : X → Bool → Type 0) (xs ys : List X) → IsFiltered R p xs ys → ((x : X) (b : Bool) (q : P) → R p x b q → (q ≡ p) × answers x b) → Filters answers xs ys
+Filters-from_IsFiltered {R = R} {p = p} answers xs ys f says = subst (λ zs. Filters answers xs zs) (sym f.4) (kept R answers p says f.0 xs f.1 f.2 f.3)

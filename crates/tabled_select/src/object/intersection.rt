@@ -1,0 +1,120 @@
+//! The cells that two objects share.
+
+ghost use Rattle.std.specs.Prelude.{◌≡◌, List};
+ghost use Rattle.tabled_grid.specs.declared.config.entity.Entity.{Entity};
+ghost use Rattle.tabled_select.specs.Algebra.{cells_of, intersection_of, flat};
+
+use crate::object::sieve::Sieve;
+use crate::object::{Object, entities};
+use std::alloc::{AllocError, Global};
+use std::marker::{Model, PhantomData};
+use tabled_grid::config::Entity;
+use tabled_grid::records::{ExactRecords, Records};
+
+/// The cells of the first object that the second names too, with the first's repeats. A contract
+/// sees it as the two objects.
+///
+/// Ported from `tabled::settings::object::IntersectionCombination`.
+#[derive(Drop)]
+pub struct IntersectionCombination<L, R, I> {
+    lhs: L,
+    rhs: R,
+    records: PhantomData<I>,
+}
+
+impl<L, R, I> Model for IntersectionCombination<L, R, I> {
+    ghost Value = { L × R };
+
+    ghost view = { λ a. (a.lhs, a.rhs) };
+}
+
+impl<L, R, I> IntersectionCombination<L, R, I> {
+    ghost use Rattle.std.specs.Prelude.{◌≡◌};
+
+    pub(super) fn new(lhs: L, rhs: R) -> Self
+        ensures { result ≡ (lhs, rhs) }
+    {
+        IntersectionCombination {
+            lhs,
+            rhs,
+            records: PhantomData,
+        }
+    }
+}
+
+impl<L, R, I> Clone for IntersectionCombination<L, R, I>
+where
+    L: Clone,
+    R: Clone,
+{
+    ghost is_clone = { λ a b. L.is_clone a.0 b.0 × R.is_clone a.1 b.1 };
+
+    fn clone(&self) -> Result<Self, AllocError> {
+        Ok(IntersectionCombination::new(self.lhs.clone()?, self.rhs.clone()?))
+    }
+}
+
+impl<L, R, I> Object<I> for IntersectionCombination<L, R, I>
+where
+    L: Object<I>,
+    R: Object<I>,
+    I: Records + ExactRecords,
+{
+    type Iter = IntersectIter<L::Iter>;
+
+    ghost lists = { λ s g entities. (a b : List Entity) × L.lists s.0 g a × R.lists s.1 g b × (entities ≡ cells_of (intersection_of (flat a g.rows g.columns) (flat b g.rows g.columns))) };
+
+    ghost can_list = { λ s. L.can_list s.0 × R.can_list s.1 };
+
+    fn cells(&self, alloc: Global, records: &I) -> Result<IntersectIter<L::Iter>, AllocError> {
+        let rows = records.count_rows();
+        let columns = records.count_columns();
+        let lhs = entities(alloc, &self.lhs, records)?;
+        let rhs = entities(alloc, &self.rhs, records)?;
+        let places = Sieve::intersection(alloc, lhs, rhs, rows, columns)?;
+        Ok(IntersectIter::new(places))
+    }
+}
+
+/// Gives the cells of an intersection. A contract sees it as the list of what is left.
+#[derive(Drop)]
+pub struct IntersectIter<L> {
+    places: Sieve,
+    listed: PhantomData<L>,
+}
+
+impl<L> Model for IntersectIter<L> {
+    ghost use Rattle.std.specs.Prelude.{List};
+    ghost use Rattle.tabled_grid.specs.declared.config.entity.Entity.{Entity};
+    ghost use Rattle.tabled_select.specs.Algebra.{cells_of};
+
+    ghost Value = { List Entity };
+
+    ghost view = { λ a. cells_of a.places };
+}
+
+impl<L> IntersectIter<L> {
+    fn new(places: Sieve) -> Self
+        ensures { result ≡ cells_of places }
+    {
+        IntersectIter {
+            places,
+            listed: PhantomData,
+        }
+    }
+}
+
+impl<L> Iterator for IntersectIter<L> {
+    type Item = Entity;
+
+    ghost use Rattle.std.specs.Iterator.{YieldsFirst, item_count};
+
+    ghost next_gives = { YieldsFirst (λ s. s) };
+
+    ghost remaining = { item_count (λ s. s) };
+
+    fn next(&mut self) -> Option<Entity> {
+        let pos = self.places.next()?;
+        Some(Entity::from(pos))
+    }
+}

@@ -1,0 +1,104 @@
+//! The cells that an object leaves out.
+
+ghost use Rattle.std.specs.Prelude.{◌≡◌, List};
+ghost use Rattle.tabled_grid.specs.declared.config.entity.Entity.{Entity};
+ghost use Rattle.tabled_select.specs.Algebra.{cells_of, flat, inversion_of};
+
+use crate::object::sieve::Sieve;
+use crate::object::{Object, entities};
+use std::alloc::{AllocError, Global};
+use std::marker::{Model, PhantomData};
+use tabled_grid::config::Entity;
+use tabled_grid::records::{ExactRecords, Records};
+
+/// The cells of the table that an object doesn't name, row by row. A contract sees it as the
+/// object.
+///
+/// Ported from `tabled::settings::object::InversionCombination`.
+#[derive(Drop)]
+pub struct InversionCombination<O, I> {
+    object: O,
+    records: PhantomData<I>,
+}
+
+impl<O, I> Model for InversionCombination<O, I> {
+    ghost Value = { O };
+
+    ghost view = { λ a. a.object };
+}
+
+impl<O, I> InversionCombination<O, I> {
+    ghost use Rattle.std.specs.Prelude.{◌≡◌};
+
+    pub(super) fn new(object: O) -> Self
+        ensures { result ≡ object }
+    {
+        InversionCombination {
+            object,
+            records: PhantomData,
+        }
+    }
+}
+
+impl<O, I> Clone for InversionCombination<O, I>
+where
+    O: Clone,
+{
+    ghost is_clone = { λ a b. O.is_clone a b };
+
+    fn clone(&self) -> Result<Self, AllocError> {
+        Ok(InversionCombination::new(self.object.clone()?))
+    }
+}
+
+impl<O, I> Object<I> for InversionCombination<O, I>
+where
+    O: Object<I>,
+    I: Records + ExactRecords,
+{
+    type Iter = InversionIter;
+
+    ghost lists = { λ s g entities. (a : List Entity) × O.lists s g a × (entities ≡ cells_of (inversion_of (flat a g.rows g.columns) g.rows g.columns)) };
+
+    ghost can_list = { λ s. O.can_list s };
+
+    fn cells(&self, alloc: Global, records: &I) -> Result<InversionIter, AllocError> {
+        let rows = records.count_rows();
+        let columns = records.count_columns();
+        let named = entities(alloc, &self.object, records)?;
+        let all = vec![in alloc; Entity::Global]?;
+        let places = Sieve::difference(alloc, all, named, rows, columns)?;
+        Ok(InversionIter { places })
+    }
+}
+
+/// Gives the cells of an inversion. A contract sees it as the list of what is left.
+#[derive(Drop)]
+pub struct InversionIter {
+    places: Sieve,
+}
+
+impl Model for InversionIter {
+    ghost use Rattle.std.specs.Prelude.{List};
+    ghost use Rattle.tabled_grid.specs.declared.config.entity.Entity.{Entity};
+    ghost use Rattle.tabled_select.specs.Algebra.{cells_of};
+
+    ghost Value = { List Entity };
+
+    ghost view = { λ a. cells_of a.places };
+}
+
+impl Iterator for InversionIter {
+    type Item = Entity;
+
+    ghost use Rattle.std.specs.Iterator.{YieldsFirst, item_count};
+
+    ghost next_gives = { YieldsFirst (λ s. s) };
+
+    ghost remaining = { item_count (λ s. s) };
+
+    fn next(&mut self) -> Option<Entity> {
+        let pos = self.places.next()?;
+        Some(Entity::from(pos))
+    }
+}

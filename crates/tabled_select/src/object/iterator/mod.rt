@@ -1,0 +1,49 @@
+//! Objects made of the entities that another object lists.
+
+ghost use Rattle.std.specs.Prelude.{◌≡◌};
+
+mod filter;
+mod skip;
+mod step_by;
+
+use crate::object::Object;
+pub use filter::{FilterObject, FilterObjectIter};
+pub use skip::{SkipObject, SkipObjectIter};
+pub use step_by::{StepByObject, StepByObjectIter};
+use tabled_grid::config::Entity;
+use tabled_grid::records::GridStore;
+
+/// What every object can be made into.
+///
+/// Ported from `tabled::settings::object::ObjectIterator`.
+pub trait ObjectIterator<R: GridStore>: Object<R> {
+    /// Leaves out the first entities.
+    final fn skip(self, n: usize) -> SkipObject<Self, R>
+    where
+        Self: Sized,
+        ensures { result ≡ (self, n) }
+    {
+        SkipObject::new(self, n)
+    }
+
+    /// Keeps the entities 0, n, 2n and so on, and none where n is 0.
+    final fn step_by(self, n: usize) -> StepByObject<Self, R>
+    where
+        Self: Sized,
+        ensures { result ≡ (self, n) }
+    {
+        StepByObject::new(self, n)
+    }
+
+    /// Keeps the entities for which the closure says yes.
+    final fn filter<F>(self, predicate: F) -> FilterObject<Self, F, R>
+    where
+        Self: Sized,
+        F: Fn(&Entity) -> bool,
+        ensures { result ≡ (self, predicate) }
+    {
+        FilterObject::new(self, predicate)
+    }
+}
+
+impl<O: Object<R>, R: GridStore> ObjectIterator<R> for O {}

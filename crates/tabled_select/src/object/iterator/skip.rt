@@ -1,0 +1,84 @@
+//! Objects without their first entities.
+
+ghost use Rattle.std.specs.Prelude.{◌≡◌, List, drop};
+ghost use Rattle.tabled_grid.specs.declared.config.entity.Entity.{Entity};
+
+use crate::object::Object;
+use std::alloc::{AllocError, Global};
+use std::iter::Skip;
+use std::marker::{Model, PhantomData};
+use tabled_grid::config::Entity;
+use tabled_grid::records::GridStore;
+
+/// An object without its first entities. A contract sees it as the object and their number.
+///
+/// Ported from `tabled::settings::object::SkipObject`.
+#[derive(Clone, Copy, Drop)]
+pub struct SkipObject<O, R> {
+    object: O,
+    n: usize,
+    records: PhantomData<R>,
+}
+
+impl<O, R> Model for SkipObject<O, R> {
+    ghost use Rattle.std.specs.Prelude.{ℕ};
+
+    ghost Value = { O × ℕ };
+
+    ghost view = { λ a. (a.object, a.n) };
+
+    ghost inverse = { λ v. record { object = v.0; n = v.1; records = record {} } };
+}
+
+impl<O, R> SkipObject<O, R> {
+    ghost use Rattle.std.specs.Prelude.{◌≡◌};
+
+    pub(super) fn new(object: O, n: usize) -> Self
+        ensures { result ≡ (object, n) }
+    {
+        SkipObject {
+            object,
+            n,
+            records: PhantomData,
+        }
+    }
+}
+
+impl<O: Object<R>, R: GridStore> Object<R> for SkipObject<O, R> {
+    type Iter = SkipObjectIter<O::Iter>;
+
+    ghost lists = { λ s g entities. (all : List Entity) × O.lists s.0 g all × (entities ≡ drop s.1 all) };
+
+    ghost can_list = { λ s. O.can_list s.0 };
+
+    fn cells(&self, alloc: Global, records: &R) -> Result<SkipObjectIter<O::Iter>, AllocError> {
+        let all = self.object.cells(alloc, records)?;
+        Ok(SkipObjectIter {
+            entities: all.skip(self.n),
+        })
+    }
+}
+
+/// Gives what an iterator gives after its first entities.
+#[derive(Drop)]
+pub struct SkipObjectIter<I> {
+    entities: Skip<I>,
+}
+
+impl<I: Iterator<Item = Entity>> Iterator for SkipObjectIter<I> {
+    type Item = Entity;
+
+    ghost use Rattle.std.specs.Prelude.{◌-◌};
+    ghost use Rattle.std.specs.Iterator.{count_map};
+    ghost use Rattle.std.specs.Iterator.Adapters.{skip_count, skip_source, skip_steps};
+
+    ghost can_next = { λ s. I.can_next (skip_source s.entities) };
+
+    ghost next_gives = { λ s r t. skip_steps I.next_gives s.entities r t.entities };
+
+    ghost remaining = { λ s. count_map (λ n. n - skip_count s.entities) (I.remaining (skip_source s.entities)) };
+
+    fn next(&mut self) -> Option<Entity> {
+        self.entities.next()
+    }
+}

@@ -1,0 +1,62 @@
+//! The places that entities name.
+
+ghost use Rattle.std.specs.Prelude.{◌≡◌};
+ghost use Rattle.std.specs.Iterator.{YieldsFirst, item_count};
+ghost use Rattle.tabled_select.specs.Algebra.{flat};
+
+use std::marker::Model;
+use std::vec;
+use tabled_grid::config::{Entity, EntityIterator, Position};
+
+/// Goes over the places of a table that entities name, of one entity after another.
+///
+/// A contract sees it as the list of the places that are left.
+#[derive(Drop)]
+pub(super) struct Places {
+    rows: usize,
+    columns: usize,
+    current: EntityIterator,
+    entities: vec::IntoIter<Entity>,
+}
+
+impl Model for Places {
+    ghost use Rattle.std.specs.Prelude.{◌++◌, List};
+    ghost use Rattle.std.specs.Vec.Iter.{into_iter_items};
+    ghost use Rattle.tabled_grid.specs.declared.config.position.Position.{Position};
+    ghost use Rattle.tabled_select.specs.Algebra.{flat};
+
+    ghost Value = { List Position };
+
+    ghost view = { λ a. a.current ++ flat (into_iter_items a.entities) a.rows a.columns };
+}
+
+impl Places {
+    pub(super) fn new(entities: Vec<Entity>, rows: usize, columns: usize) -> Self
+        ensures { result ≡ flat entities.items rows columns }
+    {
+        Places {
+            rows,
+            columns,
+            current: Entity::Global.iter(0, 0),
+            entities: entities.into_iter(),
+        }
+    }
+}
+
+impl Iterator for Places {
+    type Item = Position;
+
+    ghost next_gives = { YieldsFirst (λ s. s) };
+
+    ghost remaining = { item_count (λ s. s) };
+
+    fn next(&mut self) -> Option<Position> {
+        loop {
+            if let Some(pos) = self.current.next() {
+                return Some(pos);
+            }
+            let entity = self.entities.next()?;
+            self.current = entity.iter(self.rows, self.columns);
+        }
+    }
+}
