@@ -9,4 +9,5 @@ pub mod Results
 pub mod RowByRow
 pub mod RowTexts
 pub mod Tables
+pub mod Turns
 pub mod Uneven

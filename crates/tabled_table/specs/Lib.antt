@@ -1,4 +1,7 @@
 pub mod Builder
+pub mod Does
 pub mod Given
+pub mod Hints
 pub mod Printed
 pub mod Table
+pub mod Writes

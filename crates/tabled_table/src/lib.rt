@@ -2,7 +2,17 @@
 #![tactic(auto)]
 
 pub mod builder;
+mod cell_option;
+mod hints;
 pub mod laws;
+mod modify;
+mod settings_list;
 mod table;
+mod table_option;
 
+pub use cell_option::CellOption;
+pub use hints::combine_entity;
+pub use modify::{Modify, ModifyList};
+pub use settings_list::{EmptySettings, Settings};
 pub use table::Table;
+pub use table_option::TableOption;
