@@ -11,3 +11,4 @@ pub mod RowTexts
 pub mod Tables
 pub mod Turns
 pub mod Uneven
+pub mod Writes

@@ -5,14 +5,18 @@ pub mod builder;
 mod cell_option;
 mod hints;
 pub mod laws;
+mod option_list;
 mod modify;
 mod settings_list;
 mod table;
 mod table_option;
+mod writers;
 
 pub use cell_option::CellOption;
 pub use hints::combine_entity;
+pub use option_list::OptionSlice;
 pub use modify::{Modify, ModifyList};
 pub use settings_list::{EmptySettings, Settings};
 pub use table::Table;
 pub use table_option::TableOption;
+pub use writers::TextRef;
