@@ -10,6 +10,7 @@ mod modify;
 mod settings_list;
 mod table;
 mod table_option;
+mod tuples;
 mod writers;
 
 pub use cell_option::CellOption;
