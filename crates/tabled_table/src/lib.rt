@@ -6,10 +6,14 @@ mod cell_option;
 mod hints;
 pub mod laws;
 mod option_list;
+#[cfg(test)]
+mod option_tests;
 mod modify;
 mod settings_list;
 mod table;
 mod table_option;
+#[cfg(test)]
+mod testing;
 mod tuples;
 mod writers;
 
