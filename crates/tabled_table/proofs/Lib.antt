@@ -11,4 +11,6 @@ pub mod RowByRow
 pub mod RowTexts
 pub mod Tables
 pub mod Transposed
+pub mod Turns
 pub mod Uneven
+pub mod Writes

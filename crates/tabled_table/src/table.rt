@@ -1,9 +1,13 @@
 //! Tables.
 
-use std::alloc::Global;
+use crate::cell_option::CellOption;
+use crate::modify::{Modify, ModifyList};
+use crate::table_option::TableOption;
+use std::alloc::{AllocError, Global};
 use std::marker::Model;
 use tabled_grid::config::SpannedConfig;
 use tabled_grid::records::{ExactRecords, Records, Text, VecRecords};
+use tabled_select::object::Object;
 
 /// A table of texts and its merged cells. A contract sees its grid of cells and its map of spans.
 ///
@@ -27,8 +31,9 @@ impl Model for Table {
 }
 
 impl Table {
-    ghost use Rattle.std.specs.Prelude.{◌≡◌};
+    ghost use Rattle.std.specs.Prelude.{◌≡◌, OnOk, OnErr, IsOk};
     ghost use Rattle.std.specs.FinMap as map;
+    ghost use Rattle.tabled_table.specs.Does.{CopiesAlike, Each, EachUntil, SameOr};
 
     /// A table of the cells of a store, with no merged cells.
     pub fn from_records(alloc: Global, records: VecRecords<Text<String>>) -> Self
@@ -39,6 +44,35 @@ impl Table {
             records,
             config: SpannedConfig::new(alloc),
         }
+    }
+
+    /// Changes the table by an option. Refused for memory, it keeps what the option leaves.
+    ///
+    /// Ported from `tabled::Table::with`.
+    pub fn with<O>(&mut self, alloc: Global, option: O) -> Result<(), AllocError>
+    where
+        O: TableOption<VecRecords<Text<String>>, SpannedConfig, ()>,
+        requires { O.can_change option }
+        ensures ok { OnOk result (O.does option self.old.cells self.old.spans self.new.cells self.new.spans) }
+        ensures err { OnErr result (O.leaves option self.old.cells self.old.spans self.new.cells self.new.spans) }
+        ensures promised { O.never_refused option self.old.cells self.old.spans → IsOk result }
+    {
+        option.change(alloc, &mut self.records, &mut self.config, &mut ())
+    }
+
+    /// Changes what an object lists by an option on cells. Refused for memory, it keeps what is left.
+    ///
+    /// Ported from `tabled::Table::modify`.
+    pub fn modify<O, M>(&mut self, alloc: Global, object: O, option: M) -> Result<(), AllocError>
+    where
+        O: Object<VecRecords<Text<String>>> + Drop,
+        M: CellOption<VecRecords<Text<String>>, SpannedConfig> + Clone + Drop,
+        requires list { O.can_list object }
+        requires copies { CopiesAlike M.is_clone M.can_change M.does M.leaves option }
+        ensures ok { OnOk result (⟦<ModifyList<O, M> as TableOption<VecRecords<Text<String>>, SpannedConfig, ()>>⟧.does (object, option) self.old.cells self.old.spans self.new.cells self.new.spans) }
+        ensures err { OnErr result (⟦<ModifyList<O, M> as TableOption<VecRecords<Text<String>>, SpannedConfig, ()>>⟧.leaves (object, option) self.old.cells self.old.spans self.new.cells self.new.spans) }
+    {
+        self.with(alloc, Modify::list(object, option))
     }
 
     /// The number of rows and the number of columns.

@@ -1,0 +1,24 @@
+-- What hints of changes combine to.
+use Rattle.std.specs.Prelude.{Bool, true, false, ◌==◌, ◌&&◌, if◌then◌else◌, Option, Some, None}
+use Rattle.tabled_grid.specs.declared.config.entity.Entity.{Entity}
+use Rattle.tabled_grid.specs.declared.config.entity.Entity.TheVariants.{Global, Column, Row, Cell}
+
+-- all cells that the second entity names, the first names too
+abbrev pub covers : Entity → Entity → Bool
+covers Global b = true
+covers (Column j) (Column l) = j == l
+covers (Column j) (Cell k l) = j == l
+covers (Row i) (Row k) = i == k
+covers (Row i) (Cell k l) = i == k
+covers (Cell i j) (Cell k l) = (i == k) && (j == l)
+covers a b = false
+
+-- the one of two entities that covers the other, or all cells
+abbrev pub combined : Entity → Entity → Entity
+combined a b = if covers a b then a else (if covers b a then b else Global)
+
+-- the hints that are there, combined
+abbrev pub combined_hint : Option Entity → Option Entity → Option Entity
+combined_hint None b = b
+combined_hint a None = a
+combined_hint (Some a) (Some b) = Some (combined a b)

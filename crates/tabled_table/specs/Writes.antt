@@ -1,0 +1,25 @@
+-- A text written to several cells.
+use Rattle.std.specs.Prelude.{◌≡◌, ◌<◌, ℕ, List, [], ◌∷◌, length, take}
+use Rattle.tabled_grid.specs.Entity.{inside}
+use Rattle.tabled_grid.specs.Grid.{Grid, with_cell}
+use Rattle.tabled_grid.specs.declared.config.entity.Entity.{Entity}
+use Rattle.tabled_grid.specs.declared.config.position.Position.{Position}
+
+-- a text written to one place after another
+abbrev pub written : List ℕ → List Position → Grid (List ℕ) → Grid (List ℕ)
+written text [] g = g
+written text (p ∷ places) g = written text places (with_cell g p text)
+
+-- a text written to the places before one of these, in order
+pub record WrittenUntil (text : List ℕ) (places : List Position) (g h : Grid (List ℕ)) : Type 0 where
+  pub count : ℕ
+  pub within : count < length places
+  pub is : h ≡ written text (take count places) g
+
+-- a text in each cell inside that an entity names, row by row
+abbrev pub WritesEach : List ℕ → Entity → Grid (List ℕ) → Grid (List ℕ) → Type 0
+WritesEach text e g h = h ≡ written text (inside e g.rows g.columns) g
+
+-- the same for the cells before one of them
+abbrev pub WritesFirst : List ℕ → Entity → Grid (List ℕ) → Grid (List ℕ) → Type 0
+WritesFirst text e g h = WrittenUntil text (inside e g.rows g.columns) g h
