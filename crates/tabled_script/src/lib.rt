@@ -7,7 +7,6 @@ mod parts;
 mod program;
 mod script;
 mod step;
-mod table;
 #[cfg(test)]
 mod tests;
 mod word;

@@ -7,11 +7,11 @@ use crate::fault::Fault;
 use crate::output::print;
 use crate::parts::Parts;
 use crate::step::{Step, run};
-use crate::table::padded;
 use crate::words::{Words, texts_of};
 use std::alloc::{AllocError, Global};
 use std::marker::Model;
 use tabled_grid::records::Text;
+use tabled_table::builder::Builder;
 
 /// The records of a script, and its steps.
 #[derive(Drop)]
@@ -94,9 +94,9 @@ impl Script {
         ensures { IfOk result (λ output. output.items ≡ output_of self) }
     {
         let Script { records, steps } = self;
-        let mut table = padded(alloc, records)?;
+        let mut table = Builder::from_cells(alloc, records)?.build(alloc)?;
         run(alloc, &mut table, &steps)?;
-        print(alloc, &table)
+        print(alloc, table.get_records())
     }
 }
 

@@ -1,13 +1,15 @@
 //! What a script does to its table.
 
-ghost use Rattle.std.specs.Prelude.{◌≡◌, OnOk, OnErr};
+ghost use Rattle.std.specs.Prelude.{◌≡◌, OnOk};
+ghost use Rattle.std.specs.String.{string_bytes};
 ghost use Rattle.tabled_grid.specs.Grid.{map_grid};
-ghost use Rattle.tabled_script.specs.Step.{after, after_all, writes_of, StoppedAt, StoppedIn};
+ghost use Rattle.tabled_script.specs.Step.{after_all};
 
 use std::alloc::{AllocError, Global};
 use std::marker::Model;
 use tabled_grid::config::Entity;
-use tabled_grid::records::{CellText, ExactRecords, Records, RecordsMut};
+use tabled_select::object::{Cell, Columns, Rows, Segment};
+use tabled_table::{Table, TextRef};
 
 /// A text written to the cells that an entity names.
 #[derive(Drop)]
@@ -26,8 +28,10 @@ impl Model for Step {
 }
 
 impl Step {
-    ghost use Rattle.std.specs.Prelude.{◌≡◌};
+    ghost use Rattle.std.specs.Prelude.{◌≡◌, OnOk};
     ghost use Rattle.std.specs.String.{string_bytes};
+    ghost use Rattle.tabled_grid.specs.Grid.{map_grid};
+    ghost use Rattle.tabled_script.specs.Step.{after};
 
     pub(crate) fn new(entity: Entity, text: String) -> Self
         ensures entity { result.entity ≡ entity }
@@ -35,43 +39,27 @@ impl Step {
     {
         Step { entity, text }
     }
+
+    /// Does the step to a table.
+    fn run(&self, alloc: Global, table: &mut Table) -> Result<(), AllocError>
+        ensures { OnOk result (map_grid string_bytes table.new.cells ≡ after self.now (map_grid string_bytes table.old.cells)) }
+    {
+        let text = TextRef(self.text.as_str());
+        match self.entity {
+            Entity::Global => table.modify(alloc, Segment::all(), text),
+            Entity::Column(col) => table.modify(alloc, Columns::one(col), text),
+            Entity::Row(row) => table.modify(alloc, Rows::one(row), text),
+            Entity::Cell(row, col) => table.modify(alloc, Cell::new(row, col), text),
+        }
+    }
 }
 
-/// Runs steps in order. Refused for memory, it stops in the midst of one.
-pub(crate) fn run<'a, R>(
-    alloc: Global,
-    records: &mut R,
-    steps: &'a [Step],
-) -> Result<(), AllocError>
-where
-    R: Records + ExactRecords + RecordsMut<&'a str>,
-    R::Cell: CellText,
-    requires { R.is_well_formed records.old }
-    ensures well { R.is_well_formed records.new }
-    ensures ok { OnOk result (map_grid R.Cell.text_of (R.grid records.new) ≡ after_all steps.now (map_grid R.Cell.text_of (R.grid records.old))) }
-    ensures err { OnErr result (StoppedIn steps.now (map_grid R.Cell.text_of (R.grid records.old)) (map_grid R.Cell.text_of (R.grid records.new))) }
+/// Does steps to a table, in order.
+pub(crate) fn run(alloc: Global, table: &mut Table, steps: &[Step]) -> Result<(), AllocError>
+    ensures { OnOk result (map_grid string_bytes table.new.cells ≡ after_all steps.now (map_grid string_bytes table.old.cells)) }
 {
     for step in steps {
-        write_text(alloc, records, step)?;
-    }
-    Ok(())
-}
-
-/// Writes a step's text to each cell that its entity names.
-fn write_text<'a, R>(alloc: Global, records: &mut R, step: &'a Step) -> Result<(), AllocError>
-where
-    R: Records + ExactRecords + RecordsMut<&'a str>,
-    R::Cell: CellText,
-    requires { R.is_well_formed records.old }
-    ensures well { R.is_well_formed records.new }
-    ensures ok { OnOk result (map_grid R.Cell.text_of (R.grid records.new) ≡ after step.now (map_grid R.Cell.text_of (R.grid records.old))) }
-    ensures err { OnErr result (StoppedAt (writes_of step.now (map_grid R.Cell.text_of (R.grid records.old))) (map_grid R.Cell.text_of (R.grid records.old)) (map_grid R.Cell.text_of (R.grid records.new))) }
-{
-    let rows = records.count_rows();
-    let columns = records.count_columns();
-    let text = step.text.as_str();
-    for pos in step.entity.iter(rows, columns) {
-        records.set(alloc, pos, text)?;
+        step.run(alloc, table)?;
     }
     Ok(())
 }

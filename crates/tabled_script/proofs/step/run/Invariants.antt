@@ -1,12 +1,8 @@
 use Rattle.std.proofs.Common.{◌≡◌, take}
+use Rattle.std.specs.String.{string_bytes}
 use Rattle.tabled_grid.specs.Grid.{map_grid}
 use Rattle.tabled_script.specs.Step.{after_all}
 use Rattle.tabled_script.proofs.step.run.Given as goal
 
 abbrev pub invariant-loop-step : goal.invariant-loop-step
-invariant-loop-step g l =
-    let texts = λ (r : _). map_grid g.R.Cell.CellText.text_of (g.R.GridStore.grid r) in
-    record {
-      well : g.R.GridStore.is_well_formed l.records;
-      done : texts l.records ≡ after_all (take l.step-index l.steps) (texts l.fn.records);
-    }
+invariant-loop-step l = map_grid string_bytes l.table.cells ≡ after_all (take l.step-index l.steps) (map_grid string_bytes l.fn.table.cells)
