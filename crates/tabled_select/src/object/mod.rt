@@ -8,6 +8,8 @@ ghost use Rattle.tabled_grid.specs.declared.config.entity.Entity.{Entity};
 ghost use Rattle.tabled_select.specs.Listed.{ListsAll};
 
 mod cell;
+#[cfg(test)]
+mod combination_tests;
 mod diff;
 mod intersection;
 mod inversion;
