@@ -45,7 +45,7 @@ pub(super) fn table(
 }
 
 /// What a selection lists, and what it should.
-type Case<'a> = (&'a str, Vec<Entity>, &'a [Entity]);
+pub(super) type Case<'a> = (&'a str, Vec<Entity>, &'a [Entity]);
 
 #[test]
 fn combines_cells_and_rows(rt: HostRuntime) -> Result<(), Fail> {
