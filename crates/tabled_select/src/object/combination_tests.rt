@@ -2,6 +2,7 @@
 
 ghost use Rattle.std.specs.Prelude.{◌≡◌};
 
+use super::place_set::PlaceSet;
 use super::{Object, entities};
 use std::alloc::{AllocError, Global};
 use std::test::Fail;
@@ -238,4 +239,10 @@ fn keeps_repeats_of_the_first_alone(rt: HostRuntime) -> Result<(), Fail> {
         assert_eq!(rt; cells.as_slice(), *want, "{case}");
     }
     Ok(())
+}
+
+#[test]
+fn refuses_more_places_than_a_number_counts(rt: HostRuntime) {
+    assert!(rt; PlaceSet::new(rt.alloc(), usize::MAX, 2).is_err());
+    assert!(rt; PlaceSet::new(rt.alloc(), usize::MAX, 0).is_ok());
 }

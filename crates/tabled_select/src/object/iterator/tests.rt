@@ -3,6 +3,7 @@
 use super::ObjectIterator;
 use crate::object::combination_tests::{Case, Listed, table};
 use crate::object::entities;
+use std::cell;
 use std::test::Fail;
 use tabled_grid::config::Entity::{self, Cell, Column, Row};
 use tabled_grid::config::Position;
@@ -145,5 +146,26 @@ fn takes_entities_as_they_are(rt: HostRuntime) -> Result<(), Fail> {
     for (case, listed, want) in &cases {
         assert_eq!(rt; listed.as_slice(), *want, "{case}");
     }
+    Ok(())
+}
+
+#[test]
+fn asks_the_closure_once_an_entity(rt: HostRuntime) -> Result<(), Fail> {
+    let alloc = rt.alloc();
+    let records = table(alloc, 2, 2)?;
+    let rows = Listed {
+        entities: &[Row(1), Row(1), Row(2), Row(3)],
+    };
+    let asked = cell::Cell::new(0u8);
+    let listed = entities(
+        alloc,
+        &rows.filter(|_| {
+            asked.set(asked.get().wrapping_add(1));
+            asked.get() % 2 == 0
+        }),
+        &records,
+    )?;
+    assert_eq!(rt; listed.as_slice(), [Row(1), Row(3)].as_slice());
+    assert_eq!(rt; asked.get(), 4);
     Ok(())
 }
