@@ -9,6 +9,8 @@ ghost use Rattle.tabled_select.specs.Listed.{ListsAll};
 
 mod cell;
 mod columns;
+#[cfg(test)]
+mod combination_tests;
 mod diff;
 mod frame;
 mod from_last;

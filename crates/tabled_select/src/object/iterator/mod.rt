@@ -7,6 +7,10 @@ mod skip;
 mod step_by;
 
 use crate::object::Object;
+
+#[cfg(test)]
+mod tests;
+
 pub use filter::{FilterObject, FilterObjectIter};
 pub use skip::{SkipObject, SkipObjectIter};
 pub use step_by::{StepByObject, StepByObjectIter};
