@@ -98,7 +98,6 @@ fn cell_hint_of<O: CellOption<Store, Log>>(option: &O) -> Option<Entity> {
 }
 
 #[test]
-#[tactic(auto, using(crate::proofs::Copies::copies_in_order))]
 fn changes_tables(rt: HostRuntime) -> Result<(), Fail> {
     let alloc = rt.alloc();
     let mut table = Table::from_records(alloc, two_rows(alloc)?);

@@ -1,6 +1,6 @@
 //! What refused options leave, for a refusal at each place in turn.
 
-use super::{apply, apply_to, logged, logged_at, two_rows, Store};
+use super::{Store, apply, apply_to, logged, logged_at, two_rows};
 use crate::testing::{CountedCopies, Letter, Log, Named, Refusing, spelled};
 use crate::{CellOption, Modify, OptionSlice, Settings, TableOption, TextRef};
 use std::alloc::{AllocError, Global};
@@ -59,7 +59,10 @@ fn settings_stop_at_a_refusal(rt: HostRuntime) -> Result<(), Fail> {
     assert_eq!(rt; refused(alloc, settings, 3)?.as_str(), want.as_str());
     assert_eq!(rt; refused_at(alloc, settings, 3)?.as_str(), want.as_str());
     let options = [a, b, c];
-    assert_eq!(rt; refused(alloc, OptionSlice(&options), 3)?.as_str(), want.as_str());
+    assert_eq!(rt;
+        refused(alloc, OptionSlice(&options), 3)?.as_str(),
+        want.as_str()
+    );
     let mut told = String::new(alloc);
     for limit in 0..=3 {
         let options = vec![in alloc; a, b, c]?;
@@ -78,8 +81,16 @@ fn tuples_stop_at_a_refusal(rt: HostRuntime) -> Result<(), Fail> {
     let (g, h, i) = (Letter::new('g'), Letter::new('h'), Letter::new('i'));
     let j = Letter::new('j');
     let cases = [
-        ("ab", refused(alloc, (a, b), 2)?, refused_at(alloc, (a, b), 2)?),
-        ("abc", refused(alloc, (a, b, c), 3)?, refused_at(alloc, (a, b, c), 3)?),
+        (
+            "ab",
+            refused(alloc, (a, b), 2)?,
+            refused_at(alloc, (a, b), 2)?,
+        ),
+        (
+            "abc",
+            refused(alloc, (a, b, c), 3)?,
+            refused_at(alloc, (a, b, c), 3)?,
+        ),
         (
             "abcd",
             refused(alloc, (a, b, c, d), 4)?,
