@@ -1,6 +1,7 @@
 pub mod Cleaned
 pub mod CleanedLaws
 pub mod Columns
+pub mod Copies
 pub mod Indexed
 pub mod Lists
 pub mod Padded

@@ -5,10 +5,10 @@ pub mod builder;
 mod cell_option;
 mod hints;
 pub mod laws;
+mod modify;
 mod option_list;
 #[cfg(test)]
 mod option_tests;
-mod modify;
 mod settings_list;
 mod table;
 mod table_option;
@@ -19,8 +19,8 @@ mod writers;
 
 pub use cell_option::CellOption;
 pub use hints::combine_entity;
-pub use option_list::OptionSlice;
 pub use modify::{Modify, ModifyList};
+pub use option_list::OptionSlice;
 pub use settings_list::{EmptySettings, Settings};
 pub use table::Table;
 pub use table_option::TableOption;

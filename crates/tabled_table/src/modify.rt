@@ -16,7 +16,7 @@ use tabled_select::object::Object;
 /// An object whose cells are to be changed. A contract sees it as the object.
 ///
 /// Ported from `tabled::settings::Modify`.
-#[derive(Clone, Copy, Drop)]
+#[derive(Copy, Drop)]
 pub struct Modify<O> {
     object: O,
 }
@@ -27,6 +27,18 @@ impl<O> Model for Modify<O> {
     ghost view = { λ a. a.object };
 
     ghost inverse = { λ object. record { object = object } };
+}
+
+impl<O: Clone> Clone for Modify<O> {
+    ghost is_clone = { O.is_clone };
+
+    ghost is_infallible = { O.is_infallible };
+
+    fn clone(&self) -> Result<Self, AllocError> {
+        Ok(Modify {
+            object: self.object.clone()?,
+        })
+    }
 }
 
 impl<O> Modify<O> {

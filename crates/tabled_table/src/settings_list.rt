@@ -22,7 +22,7 @@ pub struct EmptySettings;
 /// One option, and then another. A contract sees it as the pair of them.
 ///
 /// Ported from `tabled::settings::Settings`.
-#[derive(Clone, Copy, Drop)]
+#[derive(Copy, Drop)]
 pub struct Settings<A, B>(A, B);
 
 impl<A, B> Model for Settings<A, B> {
@@ -31,6 +31,16 @@ impl<A, B> Model for Settings<A, B> {
     ghost view = { λ a. (a.0, a.1) };
 
     ghost inverse = { λ pair. record { 0 = pair.0; 1 = pair.1 } };
+}
+
+impl<A: Clone, B: Clone> Clone for Settings<A, B> {
+    ghost is_clone = { λ s t. A.is_clone s.0 t.0 × B.is_clone s.1 t.1 };
+
+    ghost is_infallible = { λ s. A.is_infallible s.0 × B.is_infallible s.1 };
+
+    fn clone(&self) -> Result<Self, AllocError> {
+        Ok(Settings(self.0.clone()?, self.1.clone()?))
+    }
 }
 
 impl Settings<EmptySettings, EmptySettings> {

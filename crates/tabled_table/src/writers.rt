@@ -76,12 +76,7 @@ where
 }
 
 /// Writes a copy of a text to each cell inside that an entity names.
-fn write<R, T>(
-    alloc: Global,
-    records: &mut R,
-    entity: Entity,
-    text: T,
-) -> Result<(), AllocError>
+fn write<R, T>(alloc: Global, records: &mut R, entity: Entity, text: T) -> Result<(), AllocError>
 where
     R: Records + ExactRecords + RecordsMut<T>,
     R::Cell: CellText,

@@ -1,36 +1,219 @@
-//! What options do to tables, and what refused ones leave.
+//! What options do to tables.
 
-use crate::testing::{Named, spelled};
-use crate::{EmptySettings, ModifyList, Settings, Table, TextRef};
+mod refusals;
+
+ghost use Rattle.std.specs.Prelude.{◌≡◌, IfOk};
+
+use crate::testing::{Letter, Log, Named, spelled};
+use crate::{
+    CellOption, EmptySettings, Modify, OptionSlice, Settings, Table, TableOption, TextRef,
+    combine_entity,
+};
 use std::alloc::{AllocError, Global};
 use std::test::Fail;
 use tabled_grid::config::{Entity, Position};
-use tabled_grid::records::{Text, VecRecords};
+use tabled_grid::records::{GridStore, Text, VecRecords};
 
-/// The table `a b / c d`.
-fn two_rows(alloc: Global) -> Result<Table, AllocError> {
-    let mut builder = crate::builder::Builder::new(alloc);
-    for record in [["a", "b"], ["c", "d"]] {
-        let mut texts = Vec::new(alloc);
-        for text in &record {
-            texts.push(String::from_str(alloc, *text)?)?;
-        }
-        builder.push_record(alloc, texts)?;
-    }
-    builder.build(alloc)
+type Store = VecRecords<Text<String>>;
+
+/// The store `a b / c d`.
+fn two_rows(alloc: Global) -> Result<Store, AllocError> {
+    let first = vec![in alloc; cell(alloc, "a")?, cell(alloc, "b")?]?;
+    let second = vec![in alloc; cell(alloc, "c")?, cell(alloc, "d")?]?;
+    VecRecords::new(alloc, vec![in alloc; first, second]?)
+}
+
+fn cell(alloc: Global, text: &str) -> Result<Text<String>, AllocError> {
+    Ok(Text::new(String::from_str(alloc, text)?))
+}
+
+/// Applies an option to a table.
+fn apply<R, C, D, O>(
+    alloc: Global,
+    option: O,
+    records: &mut R,
+    cfg: &mut C,
+    dimension: &mut D,
+) -> Result<(), AllocError>
+where
+    R: GridStore,
+    O: TableOption<R, C, D>,
+    requires well { R.is_well_formed records.old }
+    requires can { O.can_change option }
+    ensures { R.is_well_formed records.new }
+{
+    option.change(alloc, records, cfg, dimension)
+}
+
+/// Applies an option to an entity.
+fn apply_to<R, C, O>(
+    alloc: Global,
+    option: O,
+    records: &mut R,
+    cfg: &mut C,
+    entity: Entity,
+) -> Result<(), AllocError>
+where
+    R: GridStore,
+    O: CellOption<R, C>,
+    requires well { R.is_well_formed records.old }
+    requires can { O.can_change option }
+    ensures { R.is_well_formed records.new }
+{
+    option.change(alloc, records, cfg, entity)
+}
+
+/// The letters that an option on tables writes into a log with a limit, and `!` where it is refused.
+fn logged<O>(alloc: Global, option: O, limit: usize) -> Result<String, AllocError>
+where
+    O: TableOption<Store, Log, ()> + Drop,
+    requires { O.can_change option }
+{
+    let mut store = two_rows(alloc)?;
+    let mut log = Log::new(alloc, limit);
+    let done = apply(alloc, option, &mut store, &mut log, &mut ());
+    log.told(alloc, done)
+}
+
+/// The letters that an option on cells writes into a log with a limit, and `!` where it is refused.
+fn logged_at<O>(alloc: Global, option: O, limit: usize) -> Result<String, AllocError>
+where
+    O: CellOption<Store, Log> + Drop,
+    requires { O.can_change option }
+{
+    let mut store = two_rows(alloc)?;
+    let mut log = Log::new(alloc, limit);
+    let done = apply_to(alloc, option, &mut store, &mut log, Entity::Row(1));
+    log.told(alloc, done)
+}
+
+/// What an option on tables hints at.
+fn hint_of<O: TableOption<Store, Log, ()>>(option: &O) -> Option<Entity> {
+    option.hint_change()
+}
+
+/// What an option on cells hints at.
+fn cell_hint_of<O: CellOption<Store, Log>>(option: &O) -> Option<Entity> {
+    option.hint_change()
 }
 
 #[test]
 fn changes_tables(rt: HostRuntime) -> Result<(), Fail> {
     let alloc = rt.alloc();
-    let mut table = two_rows(alloc)?;
-    let rows = [Entity::Row(1)];
+    let mut table = Table::from_records(alloc, two_rows(alloc)?);
+    let row = [Entity::Row(1)];
     let settings = Settings::empty()
         .modify(Position::new(0, 0), TextRef("x"))
-        .modify(Named(&rows), TextRef("y"));
+        .modify(Named(&row), TextRef("y"));
     table.with(alloc, settings)?;
     assert_eq!(rt; spelled(alloc, table.get_records())?.as_str(), "x b /y y /");
     table.modify(alloc, Position::new(0, 1), String::from_str(alloc, "z")?)?;
     assert_eq!(rt; spelled(alloc, table.get_records())?.as_str(), "x z /y y /");
+    let settings: Settings<EmptySettings, EmptySettings> = Settings::default();
+    table.with(alloc, settings)?;
+    table.with(alloc, EmptySettings)?;
+    assert_eq!(rt; spelled(alloc, table.get_records())?.as_str(), "x z /y y /");
+    let both = Modify::new(Position::new(1, 0))
+        .with(TextRef("u"))
+        .with(TextRef("v"));
+    table.with(alloc, both)?;
+    assert_eq!(rt; spelled(alloc, table.get_records())?.as_str(), "x z /v y /");
+    table.modify(alloc, Position::new(2, 0), TextRef("w"))?;
+    assert_eq!(rt; spelled(alloc, table.get_records())?.as_str(), "x z /v y /");
+    Ok(())
+}
+
+#[test]
+fn goes_over_each_entity_listed(rt: HostRuntime) -> Result<(), Fail> {
+    let alloc = rt.alloc();
+    let entities = [
+        Entity::Row(0),
+        Entity::Row(0),
+        Entity::Cell(5, 5),
+        Entity::Global,
+    ];
+    let listed = Modify::list(Named(&entities), Letter::new('a'));
+    assert_eq!(rt; logged(alloc, listed, 9)?.as_str(), "aaaa");
+    let listed = Modify::list(Named(&[]), Letter::new('a'));
+    assert_eq!(rt; logged(alloc, listed, 9)?.as_str(), "");
+
+    let mut store = two_rows(alloc)?;
+    apply(
+        alloc,
+        Modify::list(Named(&entities[..3]), TextRef("x")),
+        &mut store,
+        &mut (),
+        &mut (),
+    )?;
+    assert_eq!(rt; spelled(alloc, &store)?.as_str(), "x x /c d /");
+    apply_to(
+        alloc,
+        String::from_str(alloc, "y")?,
+        &mut store,
+        &mut (),
+        Entity::Column(1),
+    )?;
+    assert_eq!(rt; spelled(alloc, &store)?.as_str(), "x y /c y /");
+    apply_to(
+        alloc,
+        Settings::new(TextRef("z"), TextRef("w")),
+        &mut store,
+        &mut (),
+        Entity::Row(1),
+    )?;
+    assert_eq!(rt; spelled(alloc, &store)?.as_str(), "x y /w w /");
+    Ok(())
+}
+
+#[test]
+fn combines_entities(rt: HostRuntime) {
+    let cases = [
+        (Entity::Row(1), Entity::Cell(1, 2), Entity::Row(1)),
+        (Entity::Row(1), Entity::Cell(2, 1), Entity::Global),
+        (Entity::Row(1), Entity::Row(1), Entity::Row(1)),
+        (Entity::Row(1), Entity::Row(0), Entity::Global),
+        (Entity::Row(0), Entity::Column(0), Entity::Global),
+        (Entity::Column(1), Entity::Cell(2, 1), Entity::Column(1)),
+        (Entity::Column(1), Entity::Cell(1, 2), Entity::Global),
+        (Entity::Column(1), Entity::Column(1), Entity::Column(1)),
+        (Entity::Cell(1, 1), Entity::Cell(1, 1), Entity::Cell(1, 1)),
+        (Entity::Cell(1, 1), Entity::Cell(1, 2), Entity::Global),
+        (Entity::Global, Entity::Row(1), Entity::Global),
+        (Entity::Global, Entity::Global, Entity::Global),
+    ];
+    for (a, b, want) in cases {
+        assert_eq!(rt; combine_entity(a, b), want, "{a:?} and {b:?}");
+        assert_eq!(rt; combine_entity(b, a), want, "{b:?} and {a:?}");
+    }
+}
+
+#[test]
+fn hints_at_changes(rt: HostRuntime) -> Result<(), Fail> {
+    let alloc = rt.alloc();
+    let none = Letter::new('a');
+    let row = Letter::hinting('b', Entity::Row(1));
+    let first = Letter::hinting('c', Entity::Cell(0, 0));
+    let second = Letter::hinting('d', Entity::Cell(0, 1));
+    let above = Letter::hinting('e', Entity::Row(0));
+    assert_eq!(rt; hint_of(&(none, row)), Some(Entity::Row(1)));
+    assert_eq!(rt; hint_of(&(row, none)), Some(Entity::Row(1)));
+    assert_eq!(rt; hint_of(&(none, none)), None);
+    assert_eq!(rt; cell_hint_of(&(none, row)), Some(Entity::Row(1)));
+    assert_eq!(rt; cell_hint_of(&(none, none)), None);
+    assert_eq!(rt; hint_of(&(first, second, above)), Some(Entity::Global));
+    assert_eq!(rt; cell_hint_of(&(first, second, above)), Some(Entity::Global));
+    let nested = Settings::new(first, Settings::new(second, above));
+    assert_eq!(rt; hint_of(&nested), Some(Entity::Row(0)));
+    assert_eq!(rt; cell_hint_of(&nested), Some(Entity::Row(0)));
+    let listed = Modify::list(Position::new(0, 0), row);
+    assert_eq!(rt; hint_of(&listed), Some(Entity::Row(1)));
+    let listed = Modify::list(Position::new(0, 0), none);
+    assert_eq!(rt; hint_of(&listed), None);
+    let options = vec![in alloc; none, none]?;
+    assert_eq!(rt; hint_of(&OptionSlice(&options)), Some(Entity::Global));
+    assert_eq!(rt; hint_of(&options), Some(Entity::Global));
+    assert_eq!(rt; hint_of(&EmptySettings), Some(Entity::Global));
+    assert_eq!(rt; cell_hint_of(&EmptySettings), Some(Entity::Global));
+    assert_eq!(rt; cell_hint_of(&TextRef("a")), Some(Entity::Global));
     Ok(())
 }

@@ -1,6 +1,7 @@
 //! Options that write what they did into a log.
 
 ghost use Rattle.std.specs.Prelude.{◌≡◌, ◌++◌, OnOk, OnErr};
+ghost use Rattle.std.specs.Char.{encode_utf8};
 ghost use Rattle.tabled_table.specs.Does.{Same};
 
 use crate::cell_option::CellOption;
@@ -35,35 +36,44 @@ impl Log {
         }
     }
 
-    pub(crate) fn letters(&self) -> &str {
-        self.letters.as_str()
+    /// The letters, and `!` where a call was refused.
+    pub(crate) fn told(
+        self,
+        alloc: Global,
+        done: Result<(), AllocError>,
+    ) -> Result<String, AllocError> {
+        let mut told = String::from_str(alloc, self.letters.as_str())?;
+        if done.is_err() {
+            told.push('!')?;
+        }
+        Ok(told)
     }
 
     /// Puts a letter behind the others, if the limit allows.
-    fn push(&mut self, letter: &str) -> Result<(), AllocError>
-        ensures ok { OnOk result (self.new ≡ self.old ++ letter.now) }
+    fn push(&mut self, letter: char) -> Result<(), AllocError>
+        ensures ok { OnOk result (self.new ≡ self.old ++ encode_utf8 letter) }
         ensures err { OnErr result (self.new ≡ self.old) }
     {
         if self.letters.len() >= self.limit {
             return Err(AllocError);
         }
-        self.letters.push_str(letter)
+        self.letters.push(letter)
     }
 }
 
 /// Writes its letter into the log, for a table once and for cells at each entity.
 #[derive(Debug, Clone, Copy)]
-pub(crate) struct Letter<'a> {
-    letter: &'a str,
+pub(crate) struct Letter {
+    letter: char,
     hint: Option<Entity>,
 }
 
-impl<'a> Letter<'a> {
-    pub(crate) fn new(letter: &'a str) -> Self {
+impl Letter {
+    pub(crate) fn new(letter: char) -> Self {
         Letter { letter, hint: None }
     }
 
-    pub(crate) fn hinting(letter: &'a str, entity: Entity) -> Self {
+    pub(crate) fn hinting(letter: char, entity: Entity) -> Self {
         Letter {
             letter,
             hint: Some(entity),
@@ -71,8 +81,8 @@ impl<'a> Letter<'a> {
     }
 }
 
-impl<'a, R: GridStore, D> TableOption<R, Log, D> for Letter<'a> {
-    ghost does = { λ s g c h d. (h ≡ g) × (d ≡ c ++ s.letter.now) };
+impl<R: GridStore, D> TableOption<R, Log, D> for Letter {
+    ghost does = { λ s g c h d. (h ≡ g) × (d ≡ c ++ encode_utf8 s.letter) };
 
     ghost leaves = { λ _. Same };
 
@@ -97,8 +107,8 @@ impl<'a, R: GridStore, D> TableOption<R, Log, D> for Letter<'a> {
     }
 }
 
-impl<'a, R: GridStore> CellOption<R, Log> for Letter<'a> {
-    ghost does = { λ s _ g c h d. (h ≡ g) × (d ≡ c ++ s.letter.now) };
+impl<R: GridStore> CellOption<R, Log> for Letter {
+    ghost does = { λ s _ g c h d. (h ≡ g) × (d ≡ c ++ encode_utf8 s.letter) };
 
     ghost leaves = { λ _ _. Same };
 

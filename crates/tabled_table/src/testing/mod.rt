@@ -7,7 +7,6 @@ mod refusing;
 pub(crate) use letter::{CountedCopies, Letter, Log};
 pub(crate) use named::Named;
 pub(crate) use refusing::Refusing;
-
 use std::alloc::{AllocError, Global};
 use tabled_grid::config::Position;
 use tabled_grid::records::{CellText, ExactRecords, PeekableRecords, Records};

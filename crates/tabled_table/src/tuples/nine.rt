@@ -8,7 +8,8 @@ use std::alloc::{AllocError, Global};
 use tabled_grid::config::Entity;
 use tabled_grid::records::GridStore;
 
-impl<R, C, D, T0, T1, T2, T3, T4, T5, T6, T7, T8> TableOption<R, C, D> for (T0, T1, T2, T3, T4, T5, T6, T7, T8)
+impl<R, C, D, T0, T1, T2, T3, T4, T5, T6, T7, T8> TableOption<R, C, D>
+    for (T0, T1, T2, T3, T4, T5, T6, T7, T8)
 where
     R: GridStore,
     T0: TableOption<R, C, D>,
@@ -55,7 +56,8 @@ where
     }
 }
 
-impl<R, C, T0, T1, T2, T3, T4, T5, T6, T7, T8> CellOption<R, C> for (T0, T1, T2, T3, T4, T5, T6, T7, T8)
+impl<R, C, T0, T1, T2, T3, T4, T5, T6, T7, T8> CellOption<R, C>
+    for (T0, T1, T2, T3, T4, T5, T6, T7, T8)
 where
     R: GridStore,
     T0: CellOption<R, C>,

@@ -8,7 +8,8 @@ use std::alloc::{AllocError, Global};
 use tabled_grid::config::Entity;
 use tabled_grid::records::GridStore;
 
-impl<R, C, D, T0, T1, T2, T3, T4, T5, T6, T7, T8, T9> TableOption<R, C, D> for (T0, T1, T2, T3, T4, T5, T6, T7, T8, T9)
+impl<R, C, D, T0, T1, T2, T3, T4, T5, T6, T7, T8, T9> TableOption<R, C, D>
+    for (T0, T1, T2, T3, T4, T5, T6, T7, T8, T9)
 where
     R: GridStore,
     T0: TableOption<R, C, D>,
@@ -40,7 +41,9 @@ where
         dimension: &mut D,
     ) -> Result<(), AllocError> {
         let (first, second, third, fourth, fifth, sixth, seventh, eighth, ninth, tenth) = self;
-        let before = (first, second, third, fourth, fifth, sixth, seventh, eighth, ninth);
+        let before = (
+            first, second, third, fourth, fifth, sixth, seventh, eighth, ninth,
+        );
         Settings::new(before, tenth).change(alloc, records, cfg, dimension)
     }
 
@@ -57,7 +60,8 @@ where
     }
 }
 
-impl<R, C, T0, T1, T2, T3, T4, T5, T6, T7, T8, T9> CellOption<R, C> for (T0, T1, T2, T3, T4, T5, T6, T7, T8, T9)
+impl<R, C, T0, T1, T2, T3, T4, T5, T6, T7, T8, T9> CellOption<R, C>
+    for (T0, T1, T2, T3, T4, T5, T6, T7, T8, T9)
 where
     R: GridStore,
     T0: CellOption<R, C>,
@@ -89,7 +93,9 @@ where
         entity: Entity,
     ) -> Result<(), AllocError> {
         let (first, second, third, fourth, fifth, sixth, seventh, eighth, ninth, tenth) = self;
-        let before = (first, second, third, fourth, fifth, sixth, seventh, eighth, ninth);
+        let before = (
+            first, second, third, fourth, fifth, sixth, seventh, eighth, ninth,
+        );
         Settings::new(before, tenth).change(alloc, records, cfg, entity)
     }
 

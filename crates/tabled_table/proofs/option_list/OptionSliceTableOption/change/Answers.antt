@@ -24,5 +24,5 @@ returns-in_err-change-clause-err g c =
     let next = drop_more _ _ c.option-item.result c.loop-option-test.true in
     let can = rw (next, ← c.option-item.is) at c.loop-option.invariant.can in
     on_err c.from_residual-in_err-change.result
-      (c.loop-option.invariant.leaves _ _ (rw (next, ← c.option-item.is)
-        (inl (inr (can.0.leaves_alike _ tt _ _ _ _ c.in_ok-clone.ensures.cases c.in_err-change.ensures.err)))))
+    (c.loop-option.invariant.leaves _ _ (rw (next, ← c.option-item.is)
+    (inl (inr (can.0.leaves_alike _ tt _ _ _ _ c.in_ok-clone.ensures.cases c.in_err-change.ensures.err)))))

@@ -13,4 +13,4 @@ loop-option-preserved g c = record {
   never = λ n. (rw c.in-Some.ensures.items at (c.loop-option.invariant.never n)).1 _ _ c.in_ok-change.ensures.ok;
   does = λ h d e. c.loop-option.invariant.does h d (rw c.in-Some.ensures.items (_, _, c.in_ok-change.ensures.ok, e));
   leaves = λ h d e. c.loop-option.invariant.leaves h d (rw c.in-Some.ensures.items (inr (_, _, c.in_ok-change.ensures.ok, e)));
-  }
+}

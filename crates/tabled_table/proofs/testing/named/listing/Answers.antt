@@ -7,4 +7,4 @@ returns c = record {
   can = search rules;
   ends = search rules;
   gives = (YieldsList-from_vec {s = c.into_iter.result} c.args.entities.items c.into_iter.ensures.rest (search rules)).runs;
-  }
+}
