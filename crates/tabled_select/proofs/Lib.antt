@@ -1,6 +1,5 @@
 pub mod Filtered
 pub mod Inverted
-pub mod Listing
 pub mod MarkedPlaces
 pub mod NamedPlaces
 pub mod Shown

@@ -1,5 +1,5 @@
 -- Iterators that show what is left.
-use Rattle.std.proofs.Common.{◌≡◌, List}
+use Rattle.std.proofs.Common.{◌≡◌, List, refl}
 use Rattle.std.specs.Iterator.{YieldsFirst, item_count}
 use Rattle.std.proofs.lemmas.Iterator.Consumers.{YieldsList-from_first}
 use Rattle.tabled_grid.specs.declared.config.entity.Entity.{Entity}
@@ -12,3 +12,7 @@ shown_are_listed can rest s entities h e = record {
   ends = tt;
   gives = (YieldsList-from_first (λ (x : Entity). x) rest entities e).runs;
 }
+
+-- an iterator that is seen as the list of what it has left
+pub ListsAll-rest : (can : List Entity → Type 0) (iter : List Entity) → can iter → ListsAll can (YieldsFirst (λ s. s)) (item_count (λ s. s)) iter iter
+ListsAll-rest can iter h = shown_are_listed can (λ s. s) iter iter h refl

@@ -5,7 +5,7 @@ use Rattle.std.proofs.lemmas.List.{append_assoc, append-nil, take_all, drop_all,
 use Rattle.std.proofs.lemmas.List.Edits.{length-insert, length-remove}
 use Rattle.std.proofs.lemmas.Slice.Zip.{length-zip}
 use Rattle.tabled_table.specs.Builder.{AreRecords, with_items}
-use Rattle.tabled_table.proofs.Lists.{all-map, all-zip}
+use Rattle.tabled_grid.proofs.Lists.{all-map, all-zip}
 
 -- the first i rows have their items, and the others are as they were
 pub record PutsItems {A B : Type 0} (f : A → List B) (j : ℕ) (items : List B) (old new : List A) (i : ℕ) : Type 0 where

@@ -3,7 +3,6 @@ pub mod CleanedLaws
 pub mod Columns
 pub mod Copies
 pub mod Indexed
-pub mod Lists
 pub mod Padded
 pub mod Printed
 pub mod Records

@@ -1,9 +1,14 @@
 -- Lists padded to a length.
-use Rattle.std.proofs.Common.{◌≡◌, ℕ, suc, ◌-◌, ◌<◌, ◌≤◌, List, [], ◌∷◌, ◌++◌, refl, ap, ap₂, sym, ◌∙◌, map, take, set, get_or, replicate, length, arith}
+use Rattle.std.proofs.Common.{◌≡◌, ℕ, zero, suc, ◌-◌, ◌<◌, ◌≤◌, List, [], ◌∷◌, ◌++◌, refl, ap, ap₂, sym, ◌∙◌, map, take, set, get_or, replicate, length, arith}
 use Rattle.std.proofs.lemmas.List.{append-nil, append_assoc, take_all, take-take, take-append-le, length-append, length-map, length-replicate, length-take, length_push, map-set, set-get_or, get_or-map}
 use Rattle.std.proofs.lemmas.List.Elements.{All-from_recursion}
-use Rattle.tabled_table.proofs.Lists.{all-append, all-map, all-replicate}
+use Rattle.std.specs.List.{AllByRecursion}
+use Rattle.tabled_grid.proofs.Lists.{all-append, all-map}
 use Rattle.tabled_table.specs.Builder.{AreRecords, padded_to}
+
+all-replicate : {A : Type 0} (P : A → Type 0) (n : ℕ) (x : A) → P x → AllByRecursion P (replicate n x)
+all-replicate P zero x p = tt
+all-replicate P (suc n) x p = (p, all-replicate P n x p)
 
 -- one more filler, where the list is too short
 pub padded_to-push : {A : Type 0} (n : ℕ) (filler : A) (xs : List A) → length xs < n → padded_to n filler (xs ++ filler ∷ []) ≡ padded_to n filler xs

@@ -3,7 +3,7 @@ use Rattle.std.proofs.Common.{◌≡◌, ℕ, ◌+◌, ◌<◌, ◌≤◌, max, 
 use Rattle.std.specs.List.{insert}
 use Rattle.std.proofs.lemmas.Bool.{cases_lt}
 use Rattle.tabled_table.specs.Builder.{AreRecords, Builder, padded_to, with_items, with_items_at, with_last_column, with_record}
-use Rattle.tabled_table.proofs.Lists.{all-insert}
+use Rattle.tabled_grid.proofs.Lists.{all-insert}
 use Rattle.tabled_table.proofs.Padded.{padded_to-long, length-padded_to, even-padded}
 
 -- a record padded to the declared columns is as long as all records will be

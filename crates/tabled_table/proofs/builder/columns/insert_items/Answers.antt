@@ -3,7 +3,7 @@ use Rattle.std.specs.Global.{Global, Vec}
 use Rattle.std.specs.List.{insert}
 use Rattle.std.specs.String.{string_bytes}
 use Rattle.std.proofs.lemmas.List.{length-map, get_or-map}
-use Rattle.tabled_table.proofs.Lists.{map-insert}
+use Rattle.tabled_grid.proofs.Lists.{map-insert}
 use Rattle.tabled_table.proofs.Columns.{next_item, puts_next, puts_more}
 use Rattle.tabled_table.proofs.RowTexts.{same_lens}
 use Rattle.tabled_table.proofs.builder.columns.insert_items.Goals as goal

@@ -1,6 +1,6 @@
 use Rattle.std.proofs.Common.{◌∙◌, arith, ap, get_or, map}
 use Rattle.std.specs.String.{string_bytes}
-use Rattle.tabled_table.proofs.Lists.{map-swap}
+use Rattle.tabled_grid.proofs.Lists.{map-swap}
 use Rattle.tabled_table.proofs.RowByRow.{changed_more, changed_next, changed_all}
 use Rattle.tabled_table.proofs.RowTexts.{same_len}
 use Rattle.tabled_table.proofs.builder.columns.swap_each.Goals as goal

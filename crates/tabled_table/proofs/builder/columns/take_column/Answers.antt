@@ -1,7 +1,7 @@
 use Rattle.std.proofs.Common.{◌<◌, ◌∙◌, [], ap, arith, get_or, length, map, sym}
 use Rattle.std.specs.String.{string_bytes}
 use Rattle.std.proofs.lemmas.List.{get_or-map}
-use Rattle.tabled_table.proofs.Lists.{map-remove}
+use Rattle.tabled_grid.proofs.Lists.{map-remove}
 use Rattle.tabled_table.proofs.RowByRow.{changed_more, changed_next, changed_all}
 use Rattle.tabled_table.proofs.RowTexts.{same_len}
 use Rattle.tabled_table.proofs.Transposed.{column_taken, column_all}

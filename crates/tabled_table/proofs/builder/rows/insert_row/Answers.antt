@@ -4,7 +4,7 @@ use Rattle.std.specs.List.{insert}
 use Rattle.std.specs.String.{string_bytes}
 use Rattle.std.proofs.lemmas.List.{with_items_is}
 use Rattle.tabled_table.specs.Builder.{padded_to, row_texts}
-use Rattle.tabled_table.proofs.Lists.{map-insert}
+use Rattle.tabled_grid.proofs.Lists.{map-insert}
 use Rattle.tabled_table.proofs.Padded.{padded_all}
 use Rattle.tabled_table.proofs.builder.rows.insert_row.Goals as goal
 use Rattle.tabled_table.proofs.builder.rows.insert_row.Goals.{then-from-len+in_ok-pad_each, else-from-len}

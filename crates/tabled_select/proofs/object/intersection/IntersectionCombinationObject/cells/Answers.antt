@@ -1,6 +1,6 @@
 use Rattle.std.proofs.Common.{◌∙◌, ap}
 use Rattle.tabled_select.specs.Algebra.{cells_of}
-use Rattle.tabled_select.proofs.Listing.{ListsAll-rest}
+use Rattle.tabled_select.proofs.Shown.{ListsAll-rest}
 use Rattle.tabled_select.proofs.object.intersection.IntersectionCombinationObject.cells.Goals as goal
 
 pub returns : goal.returns

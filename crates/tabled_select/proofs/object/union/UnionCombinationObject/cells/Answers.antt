@@ -1,4 +1,4 @@
-use Rattle.tabled_select.proofs.Listing.{ListsAll-rest}
+use Rattle.tabled_select.proofs.Shown.{ListsAll-rest}
 use Rattle.tabled_select.proofs.NamedPlaces.{flat-append}
 use Rattle.tabled_select.proofs.object.union.UnionCombinationObject.cells.Goals as goal
 

@@ -7,7 +7,7 @@ use Rattle.std.proofs.lemmas.Option.{slice_get-get_or}
 use Rattle.tabled_table.specs.Builder.{row_texts}
 use Rattle.tabled_table.specs.Index.{column_of}
 use Rattle.tabled_table.proofs.Indexed.{IsIndexed-column}
-use Rattle.tabled_table.proofs.Lists.{map-remove}
+use Rattle.tabled_grid.proofs.Lists.{map-remove}
 use Rattle.tabled_table.proofs.RowTexts.{All-lens, rows_written}
 use Rattle.tabled_table.proofs.builder.indexed.Indexed.take_column.Goals as goal
 

@@ -1,7 +1,7 @@
 use Rattle.std.proofs.Common.{String, map, refl}
 use Rattle.std.specs.Global.{Global, Vec}
 use Rattle.std.specs.String.{string_bytes}
-use Rattle.tabled_table.proofs.Lists.{all-remove, map-remove}
+use Rattle.tabled_grid.proofs.Lists.{all-remove, map-remove}
 use Rattle.tabled_table.proofs.builder.table_builder.Builder.remove_record.Goals as goal
 
 pub invariant_of-self : goal.invariant_of-self

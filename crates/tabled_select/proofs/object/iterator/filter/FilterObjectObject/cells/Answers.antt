@@ -1,4 +1,4 @@
-use Rattle.tabled_select.proofs.Listing.{ListsAll-rest}
+use Rattle.tabled_select.proofs.Shown.{ListsAll-rest}
 use Rattle.tabled_select.proofs.object.iterator.filter.FilterObjectObject.cells.Goals as goal
 
 pub returns : goal.returns
