@@ -13,6 +13,8 @@ mod settings_list;
 mod table;
 mod table_option;
 #[cfg(test)]
+mod tests;
+#[cfg(test)]
 mod testing;
 mod tuples;
 mod writers;

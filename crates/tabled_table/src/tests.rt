@@ -1,0 +1,38 @@
+//! The first table of the README.
+
+use crate::builder::Builder;
+use crate::{Table, TextRef};
+use std::alloc::{AllocError, Global};
+use std::test::Fail;
+use tabled_grid::config::Position;
+use tabled_select::object::{Columns, Object, Rows};
+
+fn languages(alloc: Global) -> Result<Table, AllocError> {
+    let mut builder = Builder::new(alloc);
+    for record in ["Name Designer Year", "C Ritchie 1972", "Go Pike"] {
+        builder.push_record(alloc, words(alloc, record)?)?;
+    }
+    let mut table = builder.build(alloc)?;
+    let corner = Rows::last().intersect(Columns::last());
+    table.modify(alloc, corner, TextRef("2009"))?;
+    Ok(table)
+}
+
+fn words(alloc: Global, text: &str) -> Result<Vec<String>, AllocError> {
+    let mut words = Vec::new(alloc);
+    for word in text.split_whitespace() {
+        words.push(String::from_str(alloc, word)?)?;
+    }
+    Ok(words)
+}
+
+#[test]
+fn builds_the_first_table(rt: HostRuntime) -> Result<(), Fail> {
+    let alloc = rt.alloc();
+    let table = languages(alloc)?;
+    assert_eq!(rt; table.shape(), (3, 3));
+    for (col, text) in [(0, "Go"), (1, "Pike"), (2, "2009")] {
+        assert_eq!(rt; table.get_records().get(Position::new(2, col)).as_str(), text);
+    }
+    Ok(())
+}
