@@ -5,12 +5,10 @@ ghost use Rattle.std.specs.Prelude.{◌≡◌};
 mod filter;
 mod skip;
 mod step_by;
-
-use crate::object::Object;
-
 #[cfg(test)]
 mod tests;
 
+use crate::object::Object;
 pub use filter::{FilterObject, FilterObjectIter};
 pub use skip::{SkipObject, SkipObjectIter};
 pub use step_by::{StepByObject, StepByObjectIter};
