@@ -1,5 +1,5 @@
 -- Iterators that give all items of a list, one turn further.
-use Rattle.std.proofs.Common.{◌≡◌, List, [], ◌∷◌, Option, Some, None, refl, ap, subst, sym}
+use Rattle.std.proofs.Common.{◌≡◌, List, [], ◌∷◌, Option, Some, None, refl, ap, sym}
 use Rattle.std.specs.Iterator.{AlwaysYields}
 
 -- what is left after a turn

@@ -1,5 +1,5 @@
 -- A text written to several cells, one after another.
-use Rattle.std.proofs.Common.{◌≡◌, ℕ, suc, List, [], ◌∷◌, refl, arith}
+use Rattle.std.proofs.Common.{ℕ, suc, List, ◌∷◌, refl, arith}
 use Rattle.tabled_grid.specs.Grid.{Grid, with_cell}
 use Rattle.tabled_grid.specs.declared.config.position.Position.{Position}
 use Rattle.tabled_table.specs.Writes.{WrittenUntil}

@@ -1,4 +1,4 @@
-use Rattle.std.proofs.Common.{rules, ◌∙◌, [], ◌∷◌, refl}
+use Rattle.std.proofs.Common.{rules, ◌∙◌, refl}
 use Rattle.tabled_grid.proofs.Places.{inside-within}
 use Rattle.tabled_table.proofs.Results.{on_err}
 use Rattle.tabled_table.proofs.Writes.{WrittenUntil-first, WrittenUntil-next}

@@ -1,9 +1,6 @@
-use Rattle.std.proofs.Common.{rules, ◌≡◌, List, [], ◌∷◌, inl, inr, refl, ap, Some, None}
-use Rattle.std.specs.Iterator.{AlwaysYields}
-use Rattle.tabled_grid.specs.declared.config.entity.Entity.{Entity}
-use Rattle.tabled_table.specs.Does.{Each, EachUntil, SameOr, CopiesAlike}
+use Rattle.std.proofs.Common.{rules, inl, inr, refl, ap}
 use Rattle.tabled_table.proofs.Results.{on_err}
-use Rattle.tabled_table.proofs.Turns.{turn, last_at, Turned}
+use Rattle.tabled_table.proofs.Turns.{turn, last_at}
 use Rattle.tabled_table.proofs.modify.ModifyListTableOption.change.Goals as goal
 
 pub returns-in_err-copy-clause-err : goal.returns-in_err-copy-clause-err

@@ -1,4 +1,4 @@
-use Rattle.std.proofs.Common.{◌≡◌, List}
+use Rattle.std.proofs.Common.{List}
 use Rattle.std.specs.Iterator.{AlwaysYields}
 use Rattle.tabled_grid.specs.declared.config.entity.Entity.{Entity}
 use Rattle.tabled_table.specs.Does.{Each, EachUntil, SameOr}

@@ -1,4 +1,4 @@
-use Rattle.std.proofs.Common.{rules, ◌≡◌, List, [], ◌∷◌, inl, inr, refl}
+use Rattle.std.proofs.Common.{inl, inr, refl}
 use Rattle.std.proofs.lemmas.List.{drop_more}
 use Rattle.tabled_table.proofs.Results.{on_err}
 use Rattle.tabled_table.proofs.option_list.OptionSliceTableOption.change.Goals as goal

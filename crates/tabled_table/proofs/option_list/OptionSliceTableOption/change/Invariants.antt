@@ -1,4 +1,4 @@
-use Rattle.std.proofs.Common.{◌≡◌, List, drop}
+use Rattle.std.proofs.Common.{drop}
 use Rattle.std.specs.List.{AllByRecursion}
 use Rattle.tabled_table.specs.Does.{Each, EachUntil, SameOr, TableCopiesAlike}
 use Rattle.tabled_table.proofs.option_list.OptionSliceTableOption.change.Given as goal

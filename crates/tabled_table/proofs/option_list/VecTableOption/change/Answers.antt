@@ -1,6 +1,4 @@
-use Rattle.std.proofs.Common.{rules, ◌≡◌, List, [], ◌∷◌, subst, inr}
-use Rattle.std.specs.List.{AllByRecursion}
-use Rattle.tabled_table.specs.Does.{Each, EachUntil, NeverRefused}
+use Rattle.std.proofs.Common.{inr}
 use Rattle.tabled_table.proofs.option_list.VecTableOption.change.Goals as goal
 
 pub change-requires-clause-can : goal.change-requires-clause-can

@@ -1,4 +1,3 @@
-use Rattle.std.proofs.Common.{rules}
 use Rattle.tabled_table.proofs.table.Table.modify.Goals as goal
 
 pub returns-clause-err : goal.returns-clause-err
