@@ -1,0 +1,57 @@
+"""What the time and the memory of a program's run are."""
+
+import ctypes
+import os
+import sys
+import time
+
+PR_SET_CHILD_SUBREAPER = 36  # of linux/prctl.h
+
+
+def adopt_orphans():
+    """Makes programs whose shell has ended children of this script, as `megabytes_of` needs."""
+    if ctypes.CDLL(None).prctl(PR_SET_CHILD_SUBREAPER, 1, 0, 0, 0) != 0:
+        stop("this system doesn't tell the peak memory")
+
+
+def seconds_of(command, script):
+    """The wall time of one run. The system throws the output away: no reader takes part."""
+    files = [
+        (os.POSIX_SPAWN_OPEN, 0, script, os.O_RDONLY, 0),
+        (os.POSIX_SPAWN_OPEN, 1, os.devnull, os.O_WRONLY, 0),
+    ]
+    start = time.perf_counter()
+    try:
+        child = os.posix_spawnp(command[0], command, os.environ, file_actions=files)
+    except OSError as error:
+        stop(error)
+    _, status = os.waitpid(child, 0)
+    seconds = time.perf_counter() - start
+    demand_success(command, status)
+    return seconds
+
+
+def megabytes_of(command, script):
+    """The peak memory of one run."""
+    # A peak begins with the memory of the process that starts the program. This script
+    # holds more than some cases need, so a shell starts it, ends, and leaves it to us.
+    line = 'script=$1; shift; "$@" < "$script" > /dev/null &'
+    shell = os.posix_spawnp("sh", ["sh", "-c", line, "sh", script] + command, os.environ)
+    os.waitpid(shell, 0)
+    _, status, usage = os.wait4(-1, 0)
+    demand_success(command, status)
+    return usage.ru_maxrss * 1024 / 1e6
+
+
+def demand_success(command, status):
+    if status != 0:
+        stop(f"{command[0]}: status {os.waitstatus_to_exitcode(status)}")
+
+
+def stop(message):
+    sys.exit(f"{sys.argv[0]}: {message}")
+
+
+def judged(figure, limit):
+    note = f" > {limit}" if figure > limit else ""
+    return f"{figure:.2f}{note}"

@@ -1,0 +1,60 @@
+//! The cases.
+
+use crate::{builders, selectors};
+use std::alloc::{AllocError, Global};
+use tabled_grid::records::ExactRecords;
+
+/// What is done: timed calls, or only the making of what they are given.
+#[derive(Clone, Copy)]
+pub(crate) enum Case {
+    Records,
+    Push,
+    Widening,
+    Widen,
+    Gapped,
+    Clean,
+    Square,
+    Transpose,
+    Store,
+    Frame,
+    NotFrame,
+    And,
+}
+
+impl Case {
+    pub(crate) fn of_name(name: &str) -> Option<Case> {
+        match name {
+            "records" => Some(Case::Records),
+            "push" => Some(Case::Push),
+            "widening" => Some(Case::Widening),
+            "widen" => Some(Case::Widen),
+            "gapped" => Some(Case::Gapped),
+            "clean" => Some(Case::Clean),
+            "square" => Some(Case::Square),
+            "transpose" => Some(Case::Transpose),
+            "store" => Some(Case::Store),
+            "frame" => Some(Case::Frame),
+            "not_frame" => Some(Case::NotFrame),
+            "and" => Some(Case::And),
+            _ => None,
+        }
+    }
+
+    /// Does the calls once, and counts something of what comes out.
+    pub(crate) fn run(self, alloc: Global, size: usize) -> Result<usize, AllocError> {
+        match self {
+            Case::Records => Ok(builders::count_records(builders::records(alloc, size)?)),
+            Case::Push => builders::push(alloc, size),
+            Case::Widening => Ok(builders::count_records(builders::widening(alloc, size)?)),
+            Case::Widen => builders::widen(alloc, size),
+            Case::Gapped => Ok(builders::count_columns(builders::gapped(alloc, size)?)),
+            Case::Clean => builders::clean(alloc, size),
+            Case::Square => Ok(builders::count_columns(builders::square(alloc, size)?)),
+            Case::Transpose => builders::transpose(alloc, size),
+            Case::Store => Ok(selectors::store(alloc, size)?.count_rows()),
+            Case::Frame => selectors::frame(alloc, size),
+            Case::NotFrame => selectors::not_frame(alloc, size),
+            Case::And => selectors::and(alloc, size),
+        }
+    }
+}

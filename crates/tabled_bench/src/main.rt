@@ -1,0 +1,46 @@
+//! Does the calls of one case once, so that a command can time the run.
+//!
+//! Standard input is a line: the name of the case, a tab and its size.
+#![tactic(auto)]
+
+mod builders;
+mod case;
+mod selectors;
+
+use case::Case;
+use std::process::ExitCode;
+
+/// The line names no case, or reading or writing failed.
+const FAILED: u8 = 1;
+
+/// Memory was refused.
+const OUT_OF_MEMORY: u8 = 3;
+
+fn main(rt: HostRuntime) -> ExitCode {
+    let alloc = rt.alloc();
+    let mut line = String::new(alloc);
+    if rt.read_line(&mut line).is_err() {
+        return ExitCode::from(FAILED);
+    }
+    if line.is_empty() {
+        // Nothing is asked for.
+        return ExitCode::SUCCESS;
+    }
+    let Some((case, size)) = case_of(line.as_str()) else {
+        return ExitCode::from(FAILED);
+    };
+    let Ok(outcome) = case.run(alloc, size) else {
+        return ExitCode::from(OUT_OF_MEMORY);
+    };
+    // It is written so that no compiler leaves out what it is counted from.
+    match println!(rt; "{outcome}") {
+        Ok(()) => ExitCode::SUCCESS,
+        Err(_) => ExitCode::from(FAILED),
+    }
+}
+
+/// The case and the size that a line names.
+fn case_of(line: &str) -> Option<(Case, usize)> {
+    let (name, size) = line.trim_end().split_once('\t')?;
+    Some((Case::of_name(name)?, size.parse::<usize>().ok()?))
+}

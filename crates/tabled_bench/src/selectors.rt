@@ -1,0 +1,60 @@
+//! Calls of selectors.
+
+use std::alloc::{AllocError, Global};
+use tabled_grid::records::{Resizable, VecRecords};
+use tabled_select::object::{Frame, Object, Rows, Segment};
+
+/// A frame is listed so often, as it has few cells.
+const FRAMES: usize = 1_000;
+
+/// A store of `size x size` blanks.
+pub(crate) fn store(alloc: Global, size: usize) -> Result<VecRecords<usize>, AllocError> {
+    let mut store = VecRecords::new(alloc, Vec::new(alloc))?;
+    store.push_row(alloc)?;
+    for _ in 0..size {
+        store.push_column(alloc)?;
+    }
+    // A row that comes now has all its cells at once.
+    for _ in 1..size {
+        store.push_row(alloc)?;
+    }
+    Ok(store)
+}
+
+/// Counts the entities that an object names.
+fn count<O: Object<VecRecords<usize>>>(
+    alloc: Global,
+    object: &O,
+    store: &VecRecords<usize>,
+) -> Result<usize, AllocError>
+    requires can { O.can_list object.now }
+{
+    let mut count: usize = 0;
+    for _ in object.cells(alloc, store)? {
+        count = count.wrapping_add(1);
+    }
+    Ok(count)
+}
+
+pub(crate) fn frame(alloc: Global, size: usize) -> Result<usize, AllocError> {
+    let store = store(alloc, size)?;
+    let mut total: usize = 0;
+    for _ in 0..FRAMES {
+        total = total.wrapping_add(count(alloc, &Frame, &store)?);
+    }
+    Ok(total)
+}
+
+pub(crate) fn not_frame(alloc: Global, size: usize) -> Result<usize, AllocError> {
+    let store = store(alloc, size)?;
+    count(alloc, &Segment::all().not(Frame), &store)
+}
+
+/// Counts the cells of two parts that share a third of the table.
+pub(crate) fn and(alloc: Global, size: usize) -> Result<usize, AllocError> {
+    let store = store(alloc, size)?;
+    let third = size / 3;
+    let upper = Rows::new(0..size - third);
+    let lower = Rows::new(third..size);
+    count(alloc, &upper.and(lower), &store)
+}
