@@ -13,9 +13,9 @@ mod settings_list;
 mod table;
 mod table_option;
 #[cfg(test)]
-mod tests;
-#[cfg(test)]
 mod testing;
+#[cfg(test)]
+mod tests;
 mod tuples;
 mod writers;
 

@@ -32,7 +32,10 @@ fn builds_the_first_table(rt: HostRuntime) -> Result<(), Fail> {
     let table = languages(alloc)?;
     assert_eq!(rt; table.shape(), (3, 3));
     for (col, text) in [(0, "Go"), (1, "Pike"), (2, "2009")] {
-        assert_eq!(rt; table.get_records().get(Position::new(2, col)).as_str(), text);
+        assert_eq!(rt;
+            table.get_records().get(Position::new(2, col)).as_str(),
+            text
+        );
     }
     Ok(())
 }

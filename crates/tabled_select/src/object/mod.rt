@@ -40,11 +40,10 @@ pub use iterator::{
 pub use listed::entities;
 pub use rows::{FirstRow, LastRow, LastRowOffset, Row, Rows, RowsIter};
 pub use segment::{SectorIter, Segment, SegmentAll};
-pub use union::{UnionCombination, UnionIter};
-
 use std::alloc::{AllocError, Global};
 use tabled_grid::config::Entity;
 use tabled_grid::records::GridStore;
+pub use union::{UnionCombination, UnionIter};
 
 /// Names cells of a store.
 ///
