@@ -6,6 +6,8 @@ mod index_builder;
 mod index_tests;
 mod indexed;
 mod maps;
+#[cfg(test)]
+mod refusal_tests;
 mod rows;
 mod table_builder;
 #[cfg(test)]
