@@ -23,7 +23,7 @@ pub struct EmptySettings;
 ///
 /// Ported from `tabled::settings::Settings`.
 #[derive(Copy, Drop)]
-pub struct Settings<A, B>(A, B);
+pub struct Settings<A = EmptySettings, B = EmptySettings>(A, B);
 
 impl<A, B> Model for Settings<A, B> {
     ghost Value = { A × B };
@@ -43,7 +43,7 @@ impl<A: Clone, B: Clone> Clone for Settings<A, B> {
     }
 }
 
-impl Settings<EmptySettings, EmptySettings> {
+impl Settings {
     /// No options, to which others can be added.
     pub fn empty() -> Self
         ensures { result ≡ (record {}, record {}) }
@@ -52,7 +52,7 @@ impl Settings<EmptySettings, EmptySettings> {
     }
 }
 
-impl Default for Settings<EmptySettings, EmptySettings> {
+impl Default for Settings {
     fn default() -> Self {
         Settings::empty()
     }

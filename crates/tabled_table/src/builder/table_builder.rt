@@ -150,11 +150,12 @@ impl Builder {
         Ok(builder)
     }
 
-    /// The rows.
+    /// The rows, all equally long.
     ///
     /// Ported from `impl From<tabled::builder::Builder> for Vec<Vec<Text<String>>>`.
     pub fn into_cells(self) -> Vec<Vec<Text<String>>>
-        ensures { row_texts result.items ≡ self.rows }
+        ensures rows { row_texts result.items ≡ self.rows }
+        ensures even { AreRecords (width_of (row_texts result.items)) (row_texts result.items) }
     {
         let Builder {
             rows,
@@ -209,11 +210,12 @@ impl Builder {
         IndexBuilder::of_rows(alloc, rows)
     }
 
-    /// The number of declared columns.
+    /// The number of declared columns, which is the length of each record.
     ///
     /// Ported from `tabled::builder::Builder::count_columns`.
     pub fn count_columns(&self) -> usize
-        ensures { result ≡ self.now.columns }
+        ensures count { result ≡ self.now.columns }
+        ensures even { AreRecords self.now.columns self.now.rows }
     {
         self.count_columns
     }
