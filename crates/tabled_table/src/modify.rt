@@ -42,6 +42,9 @@ impl<O: Clone> Clone for Modify<O> {
 }
 
 impl<O> Modify<O> {
+    /// The cells of an object.
+    ///
+    /// Ported from `tabled::settings::Modify::new`.
     pub fn new(object: O) -> Self
         ensures { result ≡ object }
     {
@@ -49,6 +52,8 @@ impl<O> Modify<O> {
     }
 
     /// An option on what an object lists.
+    ///
+    /// Ported from `tabled::settings::Modify::list`.
     pub fn list<M>(object: O, option: M) -> ModifyList<O, M>
         ensures { result ≡ (object, option) }
     {
@@ -56,6 +61,8 @@ impl<O> Modify<O> {
     }
 
     /// An option on what the object lists.
+    ///
+    /// Ported from `tabled::settings::Modify::with`.
     pub fn with<M>(self, option: M) -> ModifyList<O, M>
         ensures { result ≡ (self, option) }
     {
@@ -82,6 +89,8 @@ impl<O, M> Model for ModifyList<O, M> {
 
 impl<O, M> ModifyList<O, M> {
     /// The same, and then another option on each entity.
+    ///
+    /// Ported from `tabled::settings::ModifyList::with`.
     pub fn with<N>(self, option: N) -> ModifyList<O, Settings<M, N>>
         ensures { result ≡ (self.0, (self.1, option)) }
     {

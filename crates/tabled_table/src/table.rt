@@ -60,7 +60,9 @@ impl Table {
         option.change(alloc, &mut self.records, &mut self.config, &mut ())
     }
 
-    /// Changes what an object lists by an option on cells. Refused for memory, it keeps what is left.
+    /// Changes each entity that an object lists by a copy of an option on cells, one after another.
+    ///
+    /// Refused for memory, it keeps what the changes before did, and what the refused one leaves.
     ///
     /// Ported from `tabled::Table::modify`.
     pub fn modify<O, M>(&mut self, alloc: Global, object: O, option: M) -> Result<(), AllocError>

@@ -1,4 +1,4 @@
-//! The first table of the README.
+//! The table of the code in the README.
 
 use crate::builder::Builder;
 use crate::{Table, TextRef};

@@ -7,7 +7,9 @@ use std::alloc::{AllocError, Global};
 use tabled_grid::config::Entity;
 use tabled_grid::records::GridStore;
 
-/// The entities that an object names in a store.
+/// The entities that an object names in a store, in order.
+///
+/// Refused where memory runs out.
 pub fn entities<R: GridStore, O: Object<R>>(
     alloc: Global,
     object: &O,

@@ -51,6 +51,7 @@ pub use union::{UnionCombination, UnionIter};
 ///
 /// Ported from `tabled::settings::object::Object`.
 pub trait Object<R: GridStore> {
+    /// What goes over the named entities.
     type Iter: Iterator<Item = Entity> + Drop;
 
     /// The entities that are named in a store with a grid.
@@ -59,13 +60,19 @@ pub trait Object<R: GridStore> {
     /// The condition of use: a closure may be called on every argument of its kind.
     ghost can_list: { Self → Type 0 };
 
-    /// Goes over the named entities. Refused for memory, it gives nothing else.
+    /// Goes over the named entities, in order.
+    ///
+    /// Refused where memory runs out. The store is only read.
+    ///
+    /// Ported from `tabled::settings::object::Object::cells`.
     fn cells(&self, alloc: Global, records: &R) -> Result<Self::Iter, AllocError>
         requires well { R.is_well_formed records.now }
         requires can { can_list self.now }
         ensures lists { IfOk result (λ iter. (entities : List Entity) × lists self.now (R.grid records.now) entities × ListsAll Self.Iter.can_next Self.Iter.next_gives Self.Iter.remaining iter entities) };
 
-    /// The cells of both, each once.
+    /// The cells of both inside the table, each once.
+    ///
+    /// Ported from `tabled::settings::object::Object::and`.
     final fn and<O>(self, rhs: O) -> UnionCombination<Self, O, R>
     where
         Self: Sized,
@@ -73,7 +80,9 @@ pub trait Object<R: GridStore> {
     {
         UnionCombination::new(self, rhs)
     }
-    /// The cells that the other doesn't name, with repeats.
+    /// The cells inside the table that the other doesn't name, with repeats.
+    ///
+    /// Ported from `tabled::settings::object::Object::not`.
     final fn not<O>(self, rhs: O) -> DiffCombination<Self, O, R>
     where
         Self: Sized,
@@ -82,7 +91,9 @@ pub trait Object<R: GridStore> {
         DiffCombination::new(self, rhs)
     }
 
-    /// The cells that the other names too, with repeats.
+    /// The cells inside the table that the other names too, with repeats.
+    ///
+    /// Ported from `tabled::settings::object::Object::intersect`.
     final fn intersect<O>(self, rhs: O) -> IntersectionCombination<Self, O, R>
     where
         Self: Sized,
@@ -92,6 +103,8 @@ pub trait Object<R: GridStore> {
     }
 
     /// The cells of the table that aren't named.
+    ///
+    /// Ported from `tabled::settings::object::Object::inverse`.
     final fn inverse(self) -> InversionCombination<Self, R>
     where
         Self: Sized,

@@ -13,6 +13,14 @@ use tabled_grid::records::Text;
 /// column is taken for it. A contract sees the header, the index, the body, the name of the index,
 /// and whether the index is shown and the table turned; or nothing, where there were no records.
 ///
+/// Of the records `h1 h2`, `a b`, `c d` it builds, with `.` for an empty text,
+///
+/// ```text
+/// . h1 h2
+/// 0 a  b
+/// 1 c  d
+/// ```
+///
 /// Ported from `tabled::builder::IndexBuilder`.
 #[derive(Drop)]
 pub struct IndexBuilder {
@@ -64,7 +72,7 @@ impl IndexBuilder {
         })
     }
 
-    /// Leaves the index out of the table that is built.
+    /// Leaves the index out of the table that is built (r x c, not r x c+1). A name still makes a row.
     ///
     /// Ported from `tabled::builder::IndexBuilder::hide`.
     pub fn hide(mut self) -> Self
@@ -76,7 +84,15 @@ impl IndexBuilder {
         self
     }
 
-    /// Gives the index a name, or none.
+    /// Gives the index a name, or none. The name stands first in a row of its own below the header,
+    /// or in the first cell of a table that is turned and shows its index. `name(Some("n"))` makes it
+    ///
+    /// ```text
+    /// . h1 h2
+    /// n .  .
+    /// 0 a  b
+    /// 1 c  d
+    /// ```
     ///
     /// Ported from `tabled::builder::IndexBuilder::name`.
     pub fn name(mut self, name: Option<String>) -> Self
@@ -89,7 +105,14 @@ impl IndexBuilder {
     }
 
     /// Takes a column out as the index, and its header as the name. The index before is lost. Past
-    /// the last column this changes nothing.
+    /// the last column this changes nothing. `column(0)` makes it
+    ///
+    /// ```text
+    /// .  h2
+    /// h1 .
+    /// a  b
+    /// c  d
+    /// ```
     ///
     /// Refused for memory, the builder is dropped.
     ///
@@ -106,7 +129,13 @@ impl IndexBuilder {
         Ok(IndexBuilder { indexed })
     }
 
-    /// Exchanges the header and the index, and turns the body with them.
+    /// Exchanges the header and the index, and turns the body with them. Of the table above this is
+    ///
+    /// ```text
+    /// .  0 1
+    /// h1 a c
+    /// h2 b d
+    /// ```
     ///
     /// Refused for memory, the builder is dropped.
     ///
