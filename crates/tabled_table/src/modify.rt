@@ -1,8 +1,7 @@
 //! A cell option on what an object lists.
 
-ghost use Rattle.std.specs.Prelude.{◌≡◌, ◌⊎◌, List};
-ghost use Rattle.tabled_grid.specs.declared.config.entity.Entity.{Entity};
-ghost use Rattle.tabled_table.specs.Does.{CopiesAlike, Each, EachUntil, Same, SameOr};
+ghost use Rattle.std.specs.Prelude.{◌≡◌};
+ghost use Rattle.tabled_table.specs.Does.{CopiesAlike, EachListed, EachListedUntil, SameOr};
 
 use crate::cell_option::CellOption;
 use crate::settings_list::Settings;
@@ -115,9 +114,9 @@ where
     M: CellOption<R, C> + Clone,
     R: Records + ExactRecords,
 {
-    ghost does = { λ s g c h d. (entities : List Entity) × O.lists s.0 g entities × Each (M.does s.1) entities g c h d };
+    ghost does = { λ s. EachListed (O.lists s.0) (M.does s.1) };
 
-    ghost leaves = { λ s. SameOr (λ g c h d. (entities : List Entity) × O.lists s.0 g entities × EachUntil (M.does s.1) (λ e. SameOr (M.leaves s.1 e)) entities g c h d) };
+    ghost leaves = { λ s. SameOr (EachListedUntil (O.lists s.0) (M.does s.1) (λ e. SameOr (M.leaves s.1 e))) };
 
     ghost can_change = { λ s. O.can_list s.0 × CopiesAlike M.is_clone M.can_change M.does M.leaves s.1 };
 

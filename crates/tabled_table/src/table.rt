@@ -33,7 +33,7 @@ impl Model for Table {
 impl Table {
     ghost use Rattle.std.specs.Prelude.{◌≡◌, OnOk, OnErr, IsOk};
     ghost use Rattle.std.specs.FinMap as map;
-    ghost use Rattle.tabled_table.specs.Does.{CopiesAlike, Each, EachUntil, SameOr};
+    ghost use Rattle.tabled_table.specs.Does.{CopiesAlike, EachListed, EachListedUntil, SameOr};
 
     /// A table of the cells of a store, with no merged cells.
     pub fn from_records(alloc: Global, records: VecRecords<Text<String>>) -> Self
@@ -71,8 +71,8 @@ impl Table {
         M: CellOption<VecRecords<Text<String>>, SpannedConfig> + Clone + Drop,
         requires list { O.can_list object }
         requires copies { CopiesAlike M.is_clone M.can_change M.does M.leaves option }
-        ensures ok { OnOk result (⟦<ModifyList<O, M> as TableOption<VecRecords<Text<String>>, SpannedConfig, ()>>⟧.does (object, option) self.old.cells self.old.spans self.new.cells self.new.spans) }
-        ensures err { OnErr result (⟦<ModifyList<O, M> as TableOption<VecRecords<Text<String>>, SpannedConfig, ()>>⟧.leaves (object, option) self.old.cells self.old.spans self.new.cells self.new.spans) }
+        ensures ok { OnOk result (EachListed (O.lists object) (M.does option) self.old.cells self.old.spans self.new.cells self.new.spans) }
+        ensures err { OnErr result (SameOr (EachListedUntil (O.lists object) (M.does option) (λ e. SameOr (M.leaves option e))) self.old.cells self.old.spans self.new.cells self.new.spans) }
     {
         self.with(alloc, Modify::list(object, option))
     }

@@ -42,7 +42,7 @@ impl IndexBuilder {
     ghost use Rattle.std.specs.String.{string_bytes};
     ghost use Rattle.tabled_grid.specs.Grid.{map_grid, width_of};
     ghost use Rattle.tabled_table.specs.Builder.{AreRecords, row_texts, table_of};
-    ghost use Rattle.tabled_table.specs.Index.{Indexed as Parts, IsIndexed, builder_of, indexed_rows, turned_over, with_column};
+    ghost use Rattle.tabled_table.specs.Index.{Indexed as Parts, IsIndexed, builder_of, indexed_rows, turned_over, with_column_as_index_if_there};
 
     /// The records of a builder, of which the first is the header, with their numbers as the index.
     ///
@@ -118,7 +118,7 @@ impl IndexBuilder {
     ///
     /// Ported from `tabled::builder::IndexBuilder::column`.
     pub fn column(self, alloc: Global, column: usize) -> Result<Self, AllocError>
-        ensures { IfOk result (λ x. x ≡ option_map (with_column column) self) }
+        ensures { IfOk result (λ x. x ≡ option_map (with_column_as_index_if_there column) self) }
     {
         let indexed = match self.indexed {
             Some(indexed) if column < indexed.count_columns() => {
