@@ -1,13 +1,14 @@
 -- Columns that are brought to the front of each row, and rows that are kept.
-use Rattle.std.proofs.Common.{◌≡◌, ◌≢◌, ℕ, ◌+◌, ◌<◌, ◌≤◌, Bool, true, false, cond, not, List, [], ◌∷◌, ◌++◌, ◌&&◌, inl, inr, ◌⊎◌, refl, ap, ap₂, sym, ◌∙◌, map, take, drop, set, get_or, length, arith}
-use Rattle.std.specs.List.{AllByRecursion, AllZip, filter, list_all, range_with_len, swap}
+use Rattle.std.proofs.Common.{◌≡◌, ◌≢◌, ℕ, zero, suc, ◌+◌, ◌<◌, ◌≤◌, Bool, true, false, cond, not, List, [], ◌∷◌, ◌++◌, ◌&&◌, inl, inr, ◌⊎◌, refl, ap, ap₂, sym, ◌∙◌, map, take, drop, set, get_or, length, replicate, arith}
+use Rattle.std.specs.List.{AllByRecursion, AllZip, EachIndex, filter, list_all, range_with_len, swap}
 use Rattle.std.proofs.lemmas.Bool.{cases_eq}
-use Rattle.std.proofs.lemmas.List.{drop-drop, drop-set-lt, get_or-set_same, append-nil, length_push, get_or-set_other, length-map, length-set, map-append, map-id, take-set, take-set-le, take_more}
+use Rattle.std.proofs.lemmas.List.{drop_more, drop-drop, drop-set-lt, get_or-drop, get_or-set_same, append-nil, length_push, get_or-set_other, length-map, length-set, length-take, map-append, map-id, take-set, take-set-le, take_more}
 use Rattle.std.proofs.lemmas.List.Edits.{length-swap, swap_is}
 use Rattle.std.proofs.lemmas.List.FromFn.{filter_of_map_range_with_len_more}
+use Rattle.std.proofs.lemmas.Simd.{map-map}
 use Rattle.std.proofs.lemmas.Slice.Zip.{AllZip-map}
-use Rattle.tabled_table.specs.Builder.{AreRecords, has_text_in, is_empty_text}
-use Rattle.tabled_table.proofs.Columns.{first_left}
+use Rattle.std.proofs.Math.Nat.{add-zero}
+use Rattle.tabled_table.specs.Builder.{AreRecords, brought_forward, has_text_in, is_empty_text}
 
 -- the list with the members of ks in front, and from j on as it was
 pub record Gathered {A : Type 0} (d : A) (columns kept j : ℕ) (ks : List ℕ) (old new : List A) : Type 0 where
@@ -16,9 +17,9 @@ pub record Gathered {A : Type 0} (d : A) (columns kept j : ℕ) (ks : List ℕ) 
   pub long : length new ≡ columns
 
 module _ {A : Type 0} (d : A) (columns : ℕ) where
-  -- the one at j is still as it was
-  gathered_next : (kept j : ℕ) (ks : List ℕ) (old new : List A) → Gathered d columns kept j ks old new → get_or new j d ≡ get_or old j d
-  gathered_next kept j ks old new h = sym (first_left new j d) ∙ ap (λ xs. get_or xs 0 d) h.rest ∙ first_left old j d
+  -- those from j on are still as they were
+  gathered_next : (kept j k : ℕ) (ks : List ℕ) (old new : List A) → Gathered d columns kept j ks old new → get_or new (j + k) d ≡ get_or old (j + k) d
+  gathered_next kept j k ks old new h = sym (get_or-drop j new k d) ∙ ap (λ xs. get_or xs k d) h.rest ∙ get_or-drop j old k d
 
   gathered_rest : (j : ℕ) (old new : List A) → drop j new ≡ drop j old → drop (j + 1) new ≡ drop (j + 1) old
   gathered_rest j old new rest = sym (drop-drop 1 j new) ∙ ap (drop 1) rest ∙ drop-drop 1 j old
@@ -41,11 +42,13 @@ module _ {A : Type 0} (d : A) (columns : ℕ) where
       let once = set new kept (get_or new j d) in
       let twice = set once j (get_or new kept d) in
       let is : swap new kept j ≡ twice = sym (swap_is new kept j d before inside) in
+      let same : j + 0 ≡ j = omega arith in
+      let next : get_or new j d ≡ get_or old j d = rw same at (gathered_next kept j 0 ks old new h) in
       let wide : kept < length twice = omega (arith, length-set once j (get_or new kept d), length-set new kept (get_or new j d)) in
       record {
         front = ap (take (kept + 1)) is
             ∙ take_more twice kept d wide
-            ∙ ap₂ (λ xs x. xs ++ x ∷ []) (take-set-le kept once j (get_or new kept d) below ∙ take-set new kept (get_or new j d) ∙ h.front) (swapped_front new kept j below inside ∙ gathered_next kept j ks old new h)
+            ∙ ap₂ (λ xs x. xs ++ x ∷ []) (take-set-le kept once j (get_or new kept d) below ∙ take-set new kept (get_or new j d) ∙ h.front) (swapped_front new kept j below inside ∙ next)
             ∙ sym (map-append (λ k. get_or old k d) ks (j ∷ []));
         rest = ap (drop (j + 1)) is ∙ drop-set-lt (j + 1) once j (get_or new kept d) (omega arith) ∙ drop-set-lt (j + 1) new kept (get_or new j d) (omega arith) ∙ gathered_rest j old new h.rest;
         long = length-swap new kept j ∙ h.long;
@@ -64,6 +67,22 @@ AllZip-weaker R Q h [] (y ∷ ys) z = absurd z
 AllZip-weaker R Q h (x ∷ xs) [] z = absurd z
 AllZip-weaker R Q h (x ∷ xs) (y ∷ ys) z = (h x y z.0, AllZip-weaker R Q h xs ys z.1)
 
+-- as many marks as are taken
+pub few_marks : (m n : ℕ) → length (take m (replicate n false)) ≤ m
+few_marks m n = omega (arith, length-take m (replicate n false))
+
+-- nothing is marked at first
+pub unmarked : (m n i : ℕ) → get_or (take m (replicate n false)) i false ≡ false
+unmarked zero n i = refl
+unmarked (suc m) zero i = refl
+unmarked (suc m) (suc n) zero = refl
+unmarked (suc m) (suc n) (suc i) = unmarked m n i
+
+-- the next of the marks that are left
+pub brought_next : {A : Type 0} (mark : Bool) (marks : List Bool) (i front j : ℕ) (xs : List A) → i < length marks → get_or marks i false ≡ mark →
+    brought_forward (drop i marks) front j xs ≡ brought_forward (mark ∷ drop (i + 1) marks) front j xs
+brought_next mark marks i front j xs inside is = ap (λ ms. brought_forward ms front j xs) (drop_more marks i false inside ∙ ap (λ m. m ∷ drop (i + 1) marks) is)
+
 -- so many columns with a text, those below j in order, were brought to the front of each row
 pub record GatheredRows (columns kept j : ℕ) (old new : List (List (List ℕ))) : Type 0 where
   pub count : kept ≡ length (filter (has_text_in old) (range_with_len 0 j))
@@ -78,16 +97,16 @@ module _ (columns : ℕ) where
       each [] e = tt
       each (row ∷ rows) e = (record { front = refl; rest = refl; long = e.0 }, each rows e.1)
 
-  -- column j still has the texts that it had
-  pub gathered_rows_next : (kept j : ℕ) (old new : List (List (List ℕ))) → GatheredRows columns kept j old new → has_text_in new j ≡ has_text_in old j
-  gathered_rows_next kept j old new h = ap not (each old new h.rows)
+  -- the columns from j on still have the texts that they had
+  pub gathered_rows_next : (kept j k : ℕ) (old new : List (List (List ℕ))) → GatheredRows columns kept j old new → has_text_in new (j + k) ≡ has_text_in old (j + k)
+  gathered_rows_next kept j k old new h = ap not (each old new h.rows)
     where
       each : (xs ys : List (List (List ℕ))) → AllZip (Gathered [] columns kept j (filter (has_text_in old) (range_with_len 0 j))) xs ys →
-          list_all (λ row. is_empty_text (get_or row j [])) ys ≡ list_all (λ row. is_empty_text (get_or row j [])) xs
+          list_all (λ row. is_empty_text (get_or row (j + k) [])) ys ≡ list_all (λ row. is_empty_text (get_or row (j + k) [])) xs
       each [] [] z = refl
       each [] (y ∷ ys) z = absurd z
       each (x ∷ xs) [] z = absurd z
-      each (x ∷ xs) (y ∷ ys) z = ap₂ (λ a b. is_empty_text a && b) (gathered_next [] columns kept j _ x y z.0) (each xs ys z.1)
+      each (x ∷ xs) (y ∷ ys) z = ap₂ (λ a b. is_empty_text a && b) (gathered_next [] columns kept j k _ x y z.0) (each xs ys z.1)
 
   gathered_columns : (j : ℕ) (old : List (List (List ℕ))) → filter (has_text_in old) (range_with_len 0 (j + 1)) ≡ filter (has_text_in old) (range_with_len 0 j) ++ cond (has_text_in old j) (j ∷ []) []
   gathered_columns j old =
@@ -103,25 +122,45 @@ module _ (columns : ℕ) where
       each (x ∷ xs) [] z = absurd z
       each (x ∷ xs) (y ∷ ys) z = (z.0.long, each xs ys z.1)
 
-  pub gathered_rows_skip : (kept j : ℕ) (old new : List (List (List ℕ))) → GatheredRows columns kept j old new → has_text_in new j ≡ false → GatheredRows columns kept (j + 1) old new
+  gathered_rows_skip : (kept j : ℕ) (old new : List (List (List ℕ))) → GatheredRows columns kept j old new → has_text_in old j ≡ false → GatheredRows columns kept (j + 1) old new
   gathered_rows_skip kept j old new h none =
       let ks = filter (has_text_in old) (range_with_len 0 j) in
-      let same : filter (has_text_in old) (range_with_len 0 (j + 1)) ≡ ks = gathered_columns j old ∙ ap (λ b. ks ++ cond b (j ∷ []) []) (sym (gathered_rows_next kept j old new h) ∙ none) ∙ append-nil ks in
+      let same : filter (has_text_in old) (range_with_len 0 (j + 1)) ≡ ks = gathered_columns j old ∙ ap (λ b. ks ++ cond b (j ∷ []) []) none ∙ append-nil ks in
       record {
         count = h.count ∙ ap length (sym same);
         below = omega (arith, h.below);
         rows = rw same (AllZip-weaker (Gathered [] columns kept j ks) (Gathered [] columns kept (j + 1) ks) (λ x y r. gathered_skip [] columns kept j ks x y r) old new h.rows);
       }
 
-  pub gathered_rows_swap : (kept j : ℕ) (old new : List (List (List ℕ))) → j < columns → GatheredRows columns kept j old new → has_text_in new j ≡ true → GatheredRows columns (kept + 1) (j + 1) old (map (λ row. swap row kept j) new)
+  gathered_rows_swap : (kept j : ℕ) (old new : List (List (List ℕ))) → j < columns → GatheredRows columns kept j old new → has_text_in old j ≡ true → GatheredRows columns (kept + 1) (j + 1) old (map (λ row. swap row kept j) new)
   gathered_rows_swap kept j old new within h some =
       let ks = filter (has_text_in old) (range_with_len 0 j) in
-      let more : filter (has_text_in old) (range_with_len 0 (j + 1)) ≡ ks ++ j ∷ [] = gathered_columns j old ∙ ap (λ b. ks ++ cond b (j ∷ []) []) (sym (gathered_rows_next kept j old new h) ∙ some) in
+      let more : filter (has_text_in old) (range_with_len 0 (j + 1)) ≡ ks ++ j ∷ [] = gathered_columns j old ∙ ap (λ b. ks ++ cond b (j ∷ []) []) some in
       record {
         count = rw more (ap (λ n. n + 1) h.count ∙ sym (length_push ks j));
         below = omega (arith, h.below);
         rows = rw more (AllZip-changed (Gathered [] columns kept j ks) (Gathered [] columns (kept + 1) (j + 1) (ks ++ j ∷ [])) (λ row. swap row kept j) (λ x y r. gathered_swap [] columns kept j ks x y h.below within r) old new h.rows);
       }
+
+  later : (mark : Bool) (marks : List Bool) (j : ℕ) (old : List (List (List ℕ))) → EachIndex (mark ∷ marks) (λ k. get_or (mark ∷ marks) k false ≡ has_text_in old (j + k)) → EachIndex marks (λ k. get_or marks k false ≡ has_text_in old (j + 1 + k))
+  later mark marks j old is k inside = let same : j + suc k ≡ j + 1 + k = omega arith in rw same at (is (suc k) (omega arith))
+
+  -- so many columns more, of which those with a text are marked
+  pub gathered_rows_more : (marks : List Bool) (kept j : ℕ) (old new : List (List (List ℕ))) → j + length marks ≤ columns → EachIndex marks (λ k. get_or marks k false ≡ has_text_in old (j + k)) → GatheredRows columns kept j old new →
+      GatheredRows columns (kept + length (filter (λ mark. mark) marks)) (j + length marks) old (map (brought_forward marks kept j) new)
+  gathered_rows_more [] kept j old new within is h = rw (add-zero kept, add-zero j, map-id new) h
+  gathered_rows_more (true ∷ marks) kept j old new within is h =
+      let n = length (filter (λ mark. mark) marks) in
+      let here : has_text_in old j ≡ true = sym (rw (add-zero j) at (is 0 (omega arith))) in
+      let next = gathered_rows_more marks (kept + 1) (j + 1) old (map (λ row. swap row kept j) new) (omega arith) (later true marks j old is) (gathered_rows_swap kept j old new (omega arith) h here) in
+      let more : kept + 1 + n ≡ kept + suc n = omega arith in
+      let past : j + 1 + length marks ≡ j + suc (length marks) = omega arith in
+      rw (more, past, map-map (brought_forward marks (kept + 1) (j + 1)) (λ row. swap row kept j) new) at next
+  gathered_rows_more (false ∷ marks) kept j old new within is h =
+      let none : has_text_in old j ≡ false = sym (rw (add-zero j) at (is 0 (omega arith))) in
+      let next = gathered_rows_more marks kept (j + 1) old new (omega arith) (later false marks j old is) (gathered_rows_skip kept j old new h none) in
+      let past : j + 1 + length marks ≡ j + suc (length marks) = omega arith in
+      rw past at next
 
   pub gathered_rows_all : (kept : ℕ) (old new : List (List (List ℕ))) → GatheredRows columns kept columns old new →
       map (take kept) new ≡ map (λ row. map (λ j. get_or row j []) (filter (has_text_in old) (range_with_len 0 columns))) old

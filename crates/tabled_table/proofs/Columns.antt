@@ -7,9 +7,13 @@ use Rattle.std.proofs.lemmas.Slice.Zip.{length-zip}
 use Rattle.tabled_table.specs.Builder.{AreRecords, with_items}
 use Rattle.tabled_grid.proofs.Lists.{all-map, all-zip}
 
+-- each row with its item put in
+abbrev each_with : {B : Type 0} → (List B → B → List B) → List (List B) → List B → List (List B)
+each_with {B} insert_item rows items = map (λ (p : List B × B). insert_item p.0 p.1) (zip rows items)
+
 -- the first i rows have their items, and the others are as they were
-pub record PutsItems {A B : Type 0} (f : A → List B) (j : ℕ) (items : List B) (old new : List A) (i : ℕ) : Type 0 where
-  pub put : map f new ≡ with_items j (take i (map f old)) items ++ drop i (map f old)
+pub record PutsItems {A B : Type 0} (f : A → List B) (insert_item : List B → B → List B) (items : List B) (old new : List A) (i : ℕ) : Type 0 where
+  pub put : map f new ≡ each_with insert_item (take i (map f old)) items ++ drop i (map f old)
   pub rest : drop i new ≡ drop i old
   pub same : length new ≡ length old
 
@@ -18,50 +22,50 @@ pub first_left : {X : Type 0} (xs : List X) (i : ℕ) (d : X) → get_or (drop i
 first_left xs i d = let same : i + 0 ≡ i = omega arith in get_or-drop i xs 0 d ∙ ap (λ n. get_or xs n d) same
 
 -- one more row and its item
-with_items-push : {B : Type 0} (j : ℕ) (rows : List (List B)) (row : List B) (items : List B) (d : B) → length rows < length items →
-    with_items j (rows ++ row ∷ []) items ≡ with_items j rows items ++ insert row j (get_or items (length rows) d) ∷ []
-with_items-push j [] row [] d short = absurd (omega arith)
-with_items-push j [] row (item ∷ items) d short = refl
-with_items-push j (r ∷ rows) row [] d short = absurd (omega arith)
-with_items-push j (r ∷ rows) row (item ∷ items) d short = ap (λ rs. insert r j item ∷ rs) (with_items-push j rows row items d (omega arith))
+each_with-push : {B : Type 0} (insert_item : List B → B → List B) (rows : List (List B)) (row : List B) (items : List B) (d : B) → length rows < length items →
+    each_with insert_item (rows ++ row ∷ []) items ≡ each_with insert_item rows items ++ insert_item row (get_or items (length rows) d) ∷ []
+each_with-push insert_item [] row [] d short = absurd (omega arith)
+each_with-push insert_item [] row (item ∷ items) d short = refl
+each_with-push insert_item (r ∷ rows) row [] d short = absurd (omega arith)
+each_with-push insert_item (r ∷ rows) row (item ∷ items) d short = ap (λ rs. insert_item r item ∷ rs) (each_with-push insert_item rows row items d (omega arith))
 
-length-with_items : {B : Type 0} (j : ℕ) (rows : List (List B)) (items : List B) → length rows ≤ length items → length (with_items j rows items) ≡ length rows
-length-with_items j rows items short = omega (arith, length-map (zip rows items) (λ p. insert p.0 j p.1), length-zip rows items)
+length-each_with : {B : Type 0} (insert_item : List B → B → List B) (rows : List (List B)) (items : List B) → length rows ≤ length items → length (each_with insert_item rows items) ≡ length rows
+length-each_with insert_item rows items short = omega (arith, length-map (zip rows items) (λ p. insert_item p.0 p.1), length-zip rows items)
 
-module _ {A B : Type 0} (f : A → List B) (j : ℕ) (items : List B) where
-  pub puts_none : (rows : List A) → PutsItems f j items rows rows 0
+module _ {A B : Type 0} (f : A → List B) (insert_item : List B → B → List B) (items : List B) where
+  pub puts_none : (rows : List A) → PutsItems f insert_item items rows rows 0
   puts_none rows = record { put = refl; rest = refl; same = refl }
 
   -- the next row is still as it was
-  pub puts_next : (old new : List A) (i : ℕ) (d : A) → PutsItems f j items old new i → get_or new i d ≡ get_or old i d
+  pub puts_next : (old new : List A) (i : ℕ) (d : A) → PutsItems f insert_item items old new i → get_or new i d ≡ get_or old i d
   puts_next old new i d h = sym (first_left new i d) ∙ ap (λ rows. get_or rows 0 d) h.rest ∙ first_left old i d
 
-  pub puts_more : (old new : List A) (i : ℕ) (d y : A) (item : B) → i < length old → i < length items → PutsItems f j items old new i → f y ≡ insert (f (get_or old i d)) j (get_or items i item) → PutsItems f j items old (set new i y) (i + 1)
+  pub puts_more : (old new : List A) (i : ℕ) (d y : A) (item : B) → i < length old → i < length items → PutsItems f insert_item items old new i → f y ≡ insert_item (f (get_or old i d)) (get_or items i item) → PutsItems f insert_item items old (set new i y) (i + 1)
   puts_more old new i d y item inside few h written =
       let within : i < length (map f old) = omega (arith, length-map old f) in
       let row = f (get_or old i d) in
       let here : get_or (map f old) i row ≡ row = get_or-map f old i d row inside in
-      let front = with_items j (take i (map f old)) items in
+      let front = each_with insert_item (take i (map f old)) items in
       let taken : length (take i (map f old)) ≡ i = omega (arith, length-take i (map f old)) in
-      let long : length front ≡ i = length-with_items j (take i (map f old)) items (omega arith) ∙ taken in
+      let long : length front ≡ i = length-each_with insert_item (take i (map f old)) items (omega arith) ∙ taken in
       let split : drop i (map f old) ≡ row ∷ drop (i + 1) (map f old) = drop_more (map f old) i row within ∙ ap (λ r. r ∷ drop (i + 1) (map f old)) here in
       let more : take (i + 1) (map f old) ≡ take i (map f old) ++ row ∷ [] = take_more (map f old) i row within ∙ ap (λ r. take i (map f old) ++ r ∷ []) here in
-      let pushed : with_items j (take (i + 1) (map f old)) items ≡ front ++ insert row j (get_or items i item) ∷ [] =
-      ap (λ rows. with_items j rows items) more ∙ with_items-push j (take i (map f old)) row items item (omega arith) ∙ ap (λ n. front ++ insert row j (get_or items n item) ∷ []) taken in
+      let pushed : each_with insert_item (take (i + 1) (map f old)) items ≡ front ++ insert_item row (get_or items i item) ∷ [] =
+      ap (λ rows. each_with insert_item rows items) more ∙ each_with-push insert_item (take i (map f old)) row items item (omega arith) ∙ ap (λ n. front ++ insert_item row (get_or items n item) ∷ []) taken in
       record {
         put = map-set f new i y
             ∙ ap₂ (λ rows r. set rows i r) (h.put ∙ ap (λ rows. front ++ rows) split) written
-            ∙ set_at front row (drop (i + 1) (map f old)) (insert row j (get_or items i item)) i long
-            ∙ sym (append_assoc front (insert row j (get_or items i item) ∷ []) (drop (i + 1) (map f old)))
+            ∙ set_at front row (drop (i + 1) (map f old)) (insert_item row (get_or items i item)) i long
+            ∙ sym (append_assoc front (insert_item row (get_or items i item) ∷ []) (drop (i + 1) (map f old)))
             ∙ ap (λ rows. rows ++ drop (i + 1) (map f old)) (sym pushed);
         rest = drop-set-lt (i + 1) new i y (omega arith) ∙ sym (drop-drop 1 i new) ∙ ap (drop 1) h.rest ∙ drop-drop 1 i old;
         same = length-set new i y ∙ h.same;
       }
 
-  pub puts_all : (old new : List A) (i : ℕ) → length old ≤ i → PutsItems f j items old new i → map f new ≡ with_items j (map f old) items
+  pub puts_all : (old new : List A) (i : ℕ) → length old ≤ i → PutsItems f insert_item items old new i → map f new ≡ each_with insert_item (map f old) items
   puts_all old new i past h =
       let within : length (map f old) ≤ i = omega (arith, length-map old f) in
-      h.put ∙ ap₂ (λ xs ys. with_items j xs items ++ ys) (take_all i (map f old) within) (drop_all i (map f old) within) ∙ append-nil (with_items j (map f old) items)
+      h.put ∙ ap₂ (λ xs ys. each_with insert_item xs items ++ ys) (take_all i (map f old) within) (drop_all i (map f old) within) ∙ append-nil (each_with insert_item (map f old) items)
 
 -- rows of one length are one longer with their items
 pub even-with_items : {B : Type 0} (n j : ℕ) (rows : List (List B)) (items : List B) → j ≤ n → AreRecords n rows → AreRecords (n + 1) (with_items j rows items)

@@ -1,44 +1,40 @@
 -- Rows turned into columns, one after another.
 use Rattle.std.proofs.Common.{◌≡◌, ℕ, zero, suc, ◌+◌, ◌<◌, ◌≤◌, List, [], ◌∷◌, ◌++◌, refl, ap, ap₂, sym, ◌∙◌, map, drop, take, get_or, replicate, length, arith, String}
 use Rattle.std.specs.Global.{Global, Vec}
-use Rattle.std.specs.List.{insert, range_with_len}
+use Rattle.std.specs.List.{range_with_len}
 use Rattle.std.specs.String.{string_bytes}
-use Rattle.std.proofs.lemmas.List.{append_assoc, drop_all, drop-drop, get_or-map, length-append, length-map, map-append, map_push, take_all, take_more}
+use Rattle.std.proofs.lemmas.List.{append_assoc, drop-drop, get_or-map, length-map, map-append, map_push, take_all, take_more}
 use Rattle.std.proofs.lemmas.List.Elements.{All-from_recursion}
 use Rattle.std.proofs.lemmas.List.FromFn.{length-map-range_with_len}
 use Rattle.std.proofs.lemmas.Simd.{map-map}
-use Rattle.tabled_table.specs.Builder.{AreRecords, row_texts, with_items}
+use Rattle.tabled_table.specs.Builder.{AreRecords, row_texts, with_items_behind}
 use Rattle.tabled_table.specs.Index.{column_of, transposed}
 use Rattle.tabled_table.proofs.Columns.{first_left}
 
 -- some rows were turned, and the others are left
-pub record Transposes (columns : ℕ) (all rest : List (List (List ℕ))) (count : ℕ) (turned : List (List (List ℕ))) : Type 0 where
+pub record Transposes (columns : ℕ) (all rest turned : List (List (List ℕ))) : Type 0 where
   pub done : List (List (List ℕ))
   pub is : all ≡ done ++ rest
-  pub many : length done ≡ count
   pub even : AreRecords columns rest
   pub turns : turned ≡ transposed columns done
 
 length-column_of : (rows : List (List (List ℕ))) (j : ℕ) → length (column_of rows j) ≡ length rows
 length-column_of rows j = length-map rows (λ row. get_or row j [])
 
-insert_last : {A : Type 0} (xs : List A) (i : ℕ) (x : A) → length xs ≡ i → insert xs i x ≡ xs ++ x ∷ []
-insert_last xs i x e = rw (take_all i xs (omega arith), drop_all i xs (omega arith)) refl
-
 -- each column with the next row's text behind
-push_from : (a i : ℕ) (done : List (List (List ℕ))) (row left : List (List ℕ)) → length done ≡ i → drop a row ≡ left →
-    with_items i (map (column_of done) (range_with_len a (length left))) left ≡ map (column_of (done ++ row ∷ [])) (range_with_len a (length left))
-push_from a i done row [] long here = refl
-push_from a i done row (text ∷ texts) long here =
+push_from : (a : ℕ) (done : List (List (List ℕ))) (row left : List (List ℕ)) → drop a row ≡ left →
+    with_items_behind (map (column_of done) (range_with_len a (length left))) left ≡ map (column_of (done ++ row ∷ [])) (range_with_len a (length left))
+push_from a done row [] here = refl
+push_from a done row (text ∷ texts) here =
     let same : get_or row a [] ≡ text = sym (first_left row a []) ∙ ap (λ ts. get_or ts 0 []) here in
     let next : drop (a + 1) row ≡ texts = sym (drop-drop 1 a row) ∙ ap (drop 1) here in
     ap₂ (λ t ts. t ∷ ts)
-    (insert_last (column_of done a) i text (length-column_of done a ∙ long) ∙ ap (λ t. column_of done a ++ t ∷ []) (sym same) ∙ sym (map-append (λ r. get_or r a []) done (row ∷ [])))
-    (push_from (a + 1) i done row texts long next)
+    (ap (λ t. column_of done a ++ t ∷ []) (sym same) ∙ sym (map-append (λ r. get_or r a []) done (row ∷ [])))
+    (push_from (a + 1) done row texts next)
 
-pub transposed-push : (columns i : ℕ) (done : List (List (List ℕ))) (row : List (List ℕ)) → length done ≡ i → length row ≡ columns →
-    with_items i (transposed columns done) row ≡ transposed columns (done ++ row ∷ [])
-transposed-push columns i done row long wide = rw (sym wide) (push_from 0 i done row row long refl)
+pub transposed-push : (columns : ℕ) (done : List (List (List ℕ))) (row : List (List ℕ)) → length row ≡ columns →
+    with_items_behind (transposed columns done) row ≡ transposed columns (done ++ row ∷ [])
+transposed-push columns done row wide = rw (sym wide) (push_from 0 done row row refl)
 
 pub length-transposed : (columns : ℕ) (rows : List (List (List ℕ))) → length (transposed columns rows) ≡ columns
 length-transposed columns rows = length-map-range_with_len (column_of rows) 0 columns
@@ -50,30 +46,23 @@ even-columns (j ∷ js) rows = (length-column_of rows j, even-columns js rows)
 pub even-transposed : (columns : ℕ) (rows : List (List (List ℕ))) → AreRecords (length rows) (transposed columns rows)
 even-transposed columns rows = even-columns (range_with_len 0 columns) rows
 
-pub transposes_more : (columns count : ℕ) (all : List (List (List ℕ))) (row : List (List ℕ)) (rest turned : List (List (List ℕ))) → Transposes columns all (row ∷ rest) count turned → Transposes columns all rest (count + 1) (with_items count turned row)
-transposes_more columns count all row rest turned h = record {
+pub transposes_more : (columns : ℕ) (all : List (List (List ℕ))) (row : List (List ℕ)) (rest turned : List (List (List ℕ))) → Transposes columns all (row ∷ rest) turned → Transposes columns all rest (with_items_behind turned row)
+transposes_more columns all row rest turned h = record {
   done = h.done ++ row ∷ [];
   is = h.is ∙ sym (append_assoc h.done (row ∷ []) rest);
-  many = omega (arith, length-append h.done (row ∷ []), h.many);
   even = h.even.1;
-  turns = ap (λ rows. with_items count rows row) h.turns ∙ transposed-push columns count h.done row h.many h.even.0;
+  turns = ap (λ rows. with_items_behind rows row) h.turns ∙ transposed-push columns h.done row h.even.0;
 }
 
 nothing_turned : (a n : ℕ) → replicate n [] ≡ map (column_of []) (range_with_len a n)
 nothing_turned a zero = refl
 nothing_turned a (suc n) = ap (λ rows. [] ∷ rows) (nothing_turned (a + 1) n)
 
-pub transposes_none : (columns : ℕ) (rows turned : List (List (List ℕ))) → AreRecords columns rows → turned ≡ replicate columns [] → Transposes columns rows rows 0 turned
-transposes_none columns rows turned even empty = record { done = []; is = refl; many = refl; even = even; turns = empty ∙ nothing_turned 0 columns }
+pub transposes_none : (columns : ℕ) (rows turned : List (List (List ℕ))) → AreRecords columns rows → turned ≡ replicate columns [] → Transposes columns rows rows turned
+transposes_none columns rows turned even empty = record { done = []; is = refl; even = even; turns = empty ∙ nothing_turned 0 columns }
 
-pub even-turned : (columns count : ℕ) (all rest turned : List (List (List ℕ))) → Transposes columns all rest count turned → AreRecords count turned
-even-turned columns count all rest turned h = rw (h.turns, ← h.many) (even-transposed columns h.done)
-
-pub length-turned : (columns count : ℕ) (all rest turned : List (List (List ℕ))) → Transposes columns all rest count turned → length turned ≡ columns
-length-turned columns count all rest turned h = rw h.turns (length-transposed columns h.done)
-
-pub below_all : (columns count : ℕ) (all : List (List (List ℕ))) (row : List (List ℕ)) (rest turned : List (List (List ℕ))) → Transposes columns all (row ∷ rest) count turned → count + 1 ≤ length all
-below_all columns count all row rest turned h = omega (arith, ap length h.is, length-append h.done (row ∷ rest), h.many)
+pub length-turned : (columns : ℕ) (all rest turned : List (List (List ℕ))) → Transposes columns all rest turned → length turned ≡ columns
+length-turned columns all rest turned h = rw h.turns (length-transposed columns h.done)
 
 -- the text that is taken out of the next row belongs to the column
 pub column_taken : (rows : List (Vec (String Global))) (column : List (String Global)) (i j : ℕ) (row : Vec (String Global)) (cell : String Global) → i < length rows → string_bytes cell ≡ get_or (map string_bytes (get_or rows i row).items) j [] →

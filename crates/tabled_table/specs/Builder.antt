@@ -1,7 +1,7 @@
 -- What a builder holds, and what its calls make of it.
-use Rattle.std.specs.Prelude.{◌≡◌, ℕ, ◌+◌, ◌-◌, ◌<◌, Bool, true, ◌==◌, not, List, [], ◌∷◌, ◌++◌, length, map, max, replicate, take, slice_index_or, String}
+use Rattle.std.specs.Prelude.{◌≡◌, ℕ, ◌+◌, ◌-◌, ◌<◌, Bool, true, false, ◌==◌, not, List, [], ◌∷◌, ◌++◌, length, map, max, replicate, take, slice_index_or, String}
 use Rattle.std.specs.Global.{Global, Vec}
-use Rattle.std.specs.List.{AllByRecursion, filter, insert, list_all, range_with_len, remove, zip}
+use Rattle.std.specs.List.{AllByRecursion, filter, insert, list_all, range_with_len, remove, swap, zip}
 use Rattle.std.specs.String.{string_bytes}
 use Rattle.tabled_grid.specs.Grid.{Grid}
 
@@ -37,6 +37,10 @@ with_record b i texts =
 -- each row with its item put in at j
 abbrev pub with_items : {A : Type 0} → ℕ → List (List A) → List A → List (List A)
 with_items {A} j rows items = map (λ (p : List A × A). insert p.0 j p.1) (zip rows items)
+
+-- each row with its item behind
+abbrev pub with_items_behind : {A : Type 0} → List (List A) → List A → List (List A)
+with_items_behind {A} rows items = map (λ (p : List A × A). p.0 ++ p.1 ∷ []) (zip rows items)
 
 -- each row with its item, or with the empty text, put in at j
 abbrev pub with_items_at : ℕ → List ℕ → List (List (List ℕ)) → List (List ℕ) → List (List (List ℕ))
@@ -75,6 +79,12 @@ has_text_in rows j = not (list_all (λ row. is_empty_text (slice_index_or row j 
 -- the columns with a text
 abbrev pub columns_with_text : Builder → List ℕ
 columns_with_text b = filter (has_text_in b.rows) (range_with_len 0 b.columns)
+
+-- the marked members from j on, each exchanged with the next one from `front` on
+abbrev pub brought_forward : {A : Type 0} → List Bool → ℕ → ℕ → List A → List A
+brought_forward [] front j xs = xs
+brought_forward (true ∷ marks) front j xs = brought_forward marks (front + 1) (j + 1) (swap xs front j)
+brought_forward (false ∷ marks) front j xs = brought_forward marks front (j + 1) xs
 
 -- the columns without a text taken away, and then the rows without one
 abbrev pub cleaned : Builder → Builder

@@ -1,10 +1,10 @@
 //! Work on the columns of a builder, a cell in each row.
 
-ghost use Rattle.std.specs.Prelude.{◌≡◌, ◌<◌, ◌≤◌, IfOk, OnOk, OnErr, String, length, map, not, replicate, take, vec_capacity, vec_len, slice_index_or, []};
+ghost use Rattle.std.specs.Prelude.{◌≡◌, ◌+◌, ◌<◌, ◌≤◌, ◌||◌, false, EachIndex, IfOk, OnOk, OnErr, String, length, map, not, replicate, take, vec_capacity, vec_len, slice_index_or, []};
 ghost use Rattle.std.specs.Global.{Global as Heap, Vec};
-ghost use Rattle.std.specs.List.{All, filter, list_all, range_with_len, remove, swap};
+ghost use Rattle.std.specs.List.{All, count_by, filter, range_with_len, remove};
 ghost use Rattle.std.specs.String.{string_bytes};
-ghost use Rattle.tabled_table.specs.Builder.{AreRecords, has_text_in as has_text_in_column, is_empty_text, row_texts, with_items};
+ghost use Rattle.tabled_table.specs.Builder.{AreRecords, brought_forward, has_text_in, is_empty_text, row_texts, with_items, with_items_behind};
 ghost use Rattle.tabled_table.specs.Index.{column_of, transposed as turned_rows};
 
 use std::alloc::{AllocError, Global};
@@ -51,42 +51,90 @@ pub(super) fn remove_each(rows: &mut [Vec<Text<String>>], j: usize)
     }
 }
 
-/// Exchanges the cells at `j` and `k` in each row.
-fn swap_each(rows: &mut [Vec<Text<String>>], j: usize, k: usize)
-    requires j_within { All (λ (row : Vec (String Heap)). j < vec_len row) rows.old }
-    requires k_within { All (λ (row : Vec (String Heap)). k < vec_len row) rows.old }
-    ensures { row_texts rows.new ≡ map (λ row. swap row j k) (row_texts rows.old) }
+/// How many columns are gathered at once, by two passes over the rows. What a row has of them lies
+/// side by side, and is read in order.
+const BLOCK: usize = 1024;
+
+/// Marks the columns from `start` on in which the row has a text.
+fn mark_row(row: &[Text<String>], start: usize, marks: &mut [bool])
+    requires { start + length marks.old ≤ length row.now }
+    ensures { EachIndex marks.new (λ i. slice_index_or marks.new i false ≡ (slice_index_or marks.old i false || not (is_empty_text (slice_index_or (map string_bytes row.now) (start + i) [])))) }
 {
-    for row in rows.iter_mut() {
-        row.swap(j, k);
+    for (i, mark) in marks.iter_mut().enumerate() {
+        if !row[start + i].as_str().is_empty() {
+            *mark = true;
+        }
     }
 }
 
-/// Whether some row has a text in column `j`.
-fn has_text_in(rows: &[Vec<Text<String>>], j: usize) -> bool
-    requires { All (λ (row : Vec (String Heap)). j < vec_len row) rows.now }
-    ensures { result ≡ has_text_in_column (row_texts rows.now) j }
+/// Marks the columns from `start` on in which some row has a text, where none is marked before.
+fn mark_columns(rows: &[Vec<Text<String>>], start: usize, marks: &mut [bool])
+    requires within { All (λ (row : Vec (String Heap)). start + length marks.old ≤ vec_len row) rows.now }
+    requires unmarked { EachIndex marks.old (λ i. slice_index_or marks.old i false ≡ false) }
+    ensures { EachIndex marks.new (λ i. slice_index_or marks.new i false ≡ has_text_in (row_texts rows.now) (start + i)) }
 {
     for row in rows {
-        if !row[j].as_str().is_empty() {
-            return true;
+        if !marks.contains(&false) {
+            return;
+        }
+        mark_row(row, start, marks);
+    }
+}
+
+/// Exchanges the marked cells from `start` on, one after another, with those from `kept` on.
+fn bring_forward(row: &mut [Text<String>], start: usize, marks: &[bool], kept: usize)
+    requires below { kept ≤ start }
+    requires within { start + length marks.now ≤ length row.old }
+    ensures { map string_bytes row.new ≡ brought_forward marks.now kept start (map string_bytes row.old) }
+{
+    let mut front = kept;
+    for (i, mark) in marks.iter().enumerate() {
+        if *mark {
+            row.swap(front, start + i);
+            front += 1;
         }
     }
-    false
+}
+
+/// Exchanges cells so in each row.
+fn bring_each_forward(rows: &mut [Vec<Text<String>>], start: usize, marks: &[bool], kept: usize)
+    requires below { kept ≤ start }
+    requires within { All (λ (row : Vec (String Heap)). start + length marks.now ≤ vec_len row) rows.old }
+    ensures { row_texts rows.new ≡ map (brought_forward marks.now kept start) (row_texts rows.old) }
+{
+    for row in rows.iter_mut() {
+        bring_forward(row, start, marks, kept);
+    }
+}
+
+/// How many columns are marked.
+fn count_marks(marks: &[bool]) -> usize
+    ensures { result ≡ count_by (λ mark. mark) marks.now }
+{
+    let mut count = 0;
+    for mark in marks {
+        if *mark {
+            count += 1;
+        }
+    }
+    count
 }
 
 /// Brings the columns with a text to the front, and answers how many these are.
 pub(super) fn gather(rows: &mut [Vec<Text<String>>], columns: usize) -> usize
     requires { AreRecords columns (row_texts rows.old) }
-    ensures count { result ≡ length (filter (has_text_in_column (row_texts rows.old)) (range_with_len 0 columns)) }
-    ensures front { map (take result) (row_texts rows.new) ≡ map (λ row. map (λ j. slice_index_or row j []) (filter (has_text_in_column (row_texts rows.old)) (range_with_len 0 columns))) (row_texts rows.old) }
+    ensures count { result ≡ length (filter (has_text_in (row_texts rows.old)) (range_with_len 0 columns)) }
+    ensures front { map (take result) (row_texts rows.new) ≡ map (λ row. map (λ j. slice_index_or row j []) (filter (has_text_in (row_texts rows.old)) (range_with_len 0 columns))) (row_texts rows.old) }
 {
     let mut kept = 0;
-    for j in 0..columns {
-        if has_text_in(rows, j) {
-            swap_each(rows, kept, j);
-            kept += 1;
-        }
+    let mut start = 0;
+    while start < columns {
+        let mut block = [false; BLOCK];
+        let marks = &mut block[..BLOCK.min(columns - start)];
+        mark_columns(rows, start, marks);
+        bring_each_forward(rows, start, marks, kept);
+        kept += count_marks(marks);
+        start += marks.len();
     }
     kept
 }
@@ -106,6 +154,18 @@ pub(super) fn take_column(
         column.push(row.remove(j))?;
     }
     Ok(column)
+}
+
+/// Puts an item behind each row.
+fn push_items(rows: &mut [Vec<Text<String>>], items: Vec<Text<String>>) -> Result<(), AllocError>
+    requires { vec_len items ≡ length rows.old }
+    ensures { OnOk result (row_texts rows.new ≡ with_items_behind (row_texts rows.old) (map string_bytes items.items)) }
+{
+    let mut items = items.into_iter();
+    for row in rows.iter_mut() {
+        row.push(items.next().unwrap())?;
+    }
+    Ok(())
 }
 
 /// So many rows without cells, with room for some.
@@ -133,10 +193,8 @@ pub(super) fn transposed(
     ensures { IfOk result (λ turned. row_texts turned.items ≡ turned_rows columns (row_texts rows.items)) }
 {
     let mut turned = empty_rows(alloc, columns, rows.len())?;
-    let mut count = 0;
     for row in rows {
-        insert_items(&mut turned, count, row)?;
-        count += 1;
+        push_items(&mut turned, row)?;
     }
     Ok(turned)
 }

@@ -1,29 +1,45 @@
-use Rattle.std.proofs.Common.{◌≡◌, ◌<◌, arith, sym}
+use Rattle.std.proofs.Common.{◌+◌, ◌≤◌, ◌≡◌, ◌∙◌, arith, false, length, replicate, sym, take}
+use Rattle.std.proofs.lemmas.List.Sums.{count_by-le-length, length-filter}
 use Rattle.tabled_table.proofs.RowTexts.{All-lens}
-use Rattle.tabled_table.proofs.Cleaned.{gathered_rows_none, gathered_rows_even, gathered_rows_skip, gathered_rows_swap, gathered_rows_all}
+use Rattle.tabled_table.proofs.Cleaned.{few_marks, unmarked, gathered_rows_none, gathered_rows_next, gathered_rows_even, gathered_rows_more, gathered_rows_all}
 use Rattle.tabled_table.proofs.builder.columns.gather.Goals as goal
-use Rattle.tabled_table.proofs.builder.columns.gather.Goals.{then-has_text_in, else-has_text_in}
 
-pub loop-j-init : goal.loop-j-init
-loop-j-init c = gathered_rows_none _ _ c.requires
+pub loop-start-init : goal.loop-start-init
+loop-start-init c = record { gathered = gathered_rows_none _ _ c.requires; within = omega arith }
 
-pub has_text_in-requires : goal.has_text_in-requires
-has_text_in-requires c = All-lens (λ n. c.loop-j.j < n) c.args.columns c.loop-j.rows (omega arith) (gathered_rows_even c.args.columns _ _ _ _ c.loop-j.invariant)
+pub mark_columns-requires-clause-within : goal.mark_columns-requires-clause-within
+mark_columns-requires-clause-within c =
+    All-lens (λ n. c.loop-start.start + length (take c.min.result (replicate 1024 false)) ≤ n) c.args.columns c.loop-start.rows (omega (arith, few_marks c.min.result 1024)) (gathered_rows_even c.args.columns _ _ _ _ c.loop-start.invariant.gathered)
 
-pub swap_each-requires-clause-j_within : goal.swap_each-requires-clause-j_within
-swap_each-requires-clause-j_within c = All-lens (λ n. c.loop-j.kept < n) c.args.columns c.loop-j.rows (omega (arith, c.loop-j.invariant.below)) (gathered_rows_even c.args.columns _ _ _ _ c.loop-j.invariant)
+pub mark_columns-requires-clause-unmarked : goal.mark_columns-requires-clause-unmarked
+mark_columns-requires-clause-unmarked c i within = unmarked c.min.result 1024 i
 
-pub swap_each-requires-clause-k_within : goal.swap_each-requires-clause-k_within
-swap_each-requires-clause-k_within c = All-lens (λ n. c.loop-j.j < n) c.args.columns c.loop-j.rows (omega arith) (gathered_rows_even c.args.columns _ _ _ _ c.loop-j.invariant)
+pub bring_each_forward-requires-clause-within : goal.bring_each_forward-requires-clause-within
+bring_each_forward-requires-clause-within c =
+    let few : length c.mark_columns.new.marks ≤ c.min.result = rw c.mark_columns.auto.marks (few_marks c.min.result 1024) in
+    All-lens (λ n. c.loop-start.start + length c.mark_columns.new.marks ≤ n) c.args.columns c.loop-start.rows (omega arith) (gathered_rows_even c.args.columns _ _ _ _ c.loop-start.invariant.gathered)
 
-pub loop-j-preserved : goal.loop-j-preserved
-loop-j-preserved c =
-    elim c.if-has_text_in.branch [
-      | then-has_text_in w ↦ rw (w.rows-is, w.kept-is, w.swap_each.ensures) (gathered_rows_swap c.args.columns _ _ _ _ (omega arith) c.loop-j.invariant (sym w.if-has_text_in.ensures))
-      | else-has_text_in w ↦ rw (w.rows-is, w.kept-is) (gathered_rows_skip c.args.columns _ _ _ _ c.loop-j.invariant (sym w.if-has_text_in.ensures))
-    ]
+pub overflow_add-kept : goal.overflow_add-kept
+overflow_add-kept c =
+    let few : length c.mark_columns.new.marks ≤ c.min.result = rw c.mark_columns.auto.marks (few_marks c.min.result 1024) in
+    omega (arith, c.loop-start.invariant.gathered.below, count_by-le-length (λ mark. mark) c.mark_columns.new.marks)
+
+pub loop-start-preserved : goal.loop-start-preserved
+loop-start-preserved c =
+    let marks = c.mark_columns.new.marks in
+    let few : length marks ≤ c.min.result = rw c.mark_columns.auto.marks (few_marks c.min.result 1024) in
+    let gathered = c.loop-start.invariant.gathered in
+    rw (c.bring_each_forward.ensures, c.count_marks-kept.ensures, sym (length-filter (λ mark. mark) marks)) (record {
+      gathered = gathered_rows_more c.args.columns marks _ _ _ _ (omega arith) (λ k inside. c.mark_columns.ensures k inside ∙ gathered_rows_next c.args.columns _ _ k _ _ gathered) gathered;
+      within = omega arith;
+    })
+
+pub returns-clause-count : goal.returns-clause-count
+returns-clause-count c =
+    let end : c.loop-start.start ≡ c.args.columns = omega arith in
+    (rw end at c.loop-start.invariant.gathered).count
 
 pub returns-clause-front : goal.returns-clause-front
 returns-clause-front c =
-    let end : c.loop-j.j ≡ c.args.columns = omega arith in
-    gathered_rows_all c.args.columns _ _ _ (rw end at c.loop-j.invariant)
+    let end : c.loop-start.start ≡ c.args.columns = omega arith in
+    gathered_rows_all c.args.columns _ _ _ (rw end at c.loop-start.invariant.gathered)

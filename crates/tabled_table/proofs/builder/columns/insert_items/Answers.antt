@@ -25,7 +25,7 @@ loop-row-preserved c =
     let next = next_item given _ i item (sym c.loop-row.invariant.left ∙ rw c.unwrap-item.ensures at c.next.ensures.items) in
     let few : i < length given = omega (arith, c.args.items.ok.0, c.requires.many, c.reserve_each.auto.rows) in
     record {
-      puts = puts_more texts c.args.j (map string_bytes given) _ _ i c.row-item.result c.insert.new.self (string_bytes item) (omega arith) (omega (arith, length-map given string_bytes)) c.loop-row.invariant.puts
+      puts = puts_more texts (λ row text. insert row c.args.j text) (map string_bytes given) _ _ i c.row-item.result c.insert.new.self (string_bytes item) (omega arith) (omega (arith, length-map given string_bytes)) c.loop-row.invariant.puts
           (ap (map string_bytes) (rw c.unwrap.ensures at c.insert.ensures.items)
           ∙ map-insert string_bytes _ c.args.j item
           ∙ ap₂ (λ (row : Vec (String Global)) text. insert (texts row) c.args.j text) (puts_next _ _ _ _ _ i c.row-item.result c.loop-row.invariant.puts) (ap string_bytes next.0 ∙ sym (get_or-map string_bytes given i item (string_bytes item) few)));
