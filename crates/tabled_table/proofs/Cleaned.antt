@@ -8,7 +8,8 @@ use Rattle.std.proofs.lemmas.List.FromFn.{filter_of_map_range_with_len_more}
 use Rattle.std.proofs.lemmas.Simd.{map-map}
 use Rattle.std.proofs.lemmas.Slice.Zip.{AllZip-map}
 use Rattle.std.proofs.Math.Nat.{add-zero}
-use Rattle.tabled_table.specs.Builder.{AreRecords, brought_forward, has_text_in, is_empty_text}
+use Rattle.tabled_table.specs.Builder.{AreRecords, has_text_in, is_empty_text}
+use Rattle.tabled_table.specs.Gathering.{brought_forward}
 
 -- the list with the members of ks in front, and from j on as it was
 pub record Gathered {A : Type 0} (d : A) (columns kept j : ℕ) (ks : List ℕ) (old new : List A) : Type 0 where

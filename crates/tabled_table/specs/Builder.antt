@@ -1,7 +1,7 @@
 -- What a builder holds, and what its calls make of it.
-use Rattle.std.specs.Prelude.{◌≡◌, ℕ, ◌+◌, ◌-◌, ◌<◌, Bool, true, false, ◌==◌, not, List, [], ◌∷◌, ◌++◌, length, map, max, replicate, take, slice_index_or, String}
+use Rattle.std.specs.Prelude.{◌≡◌, ℕ, ◌+◌, ◌-◌, ◌<◌, Bool, true, ◌==◌, not, List, [], ◌∷◌, ◌++◌, length, map, max, replicate, take, slice_index_or, String}
 use Rattle.std.specs.Global.{Global, Vec}
-use Rattle.std.specs.List.{AllByRecursion, filter, insert, list_all, range_with_len, remove, swap, zip}
+use Rattle.std.specs.List.{AllByRecursion, filter, insert, list_all, range_with_len, remove, zip}
 use Rattle.std.specs.String.{string_bytes}
 use Rattle.tabled_grid.specs.Grid.{Grid}
 
@@ -79,12 +79,6 @@ has_text_in rows j = not (list_all (λ row. is_empty_text (slice_index_or row j 
 -- the columns with a text
 abbrev pub columns_with_text : Builder → List ℕ
 columns_with_text b = filter (has_text_in b.rows) (range_with_len 0 b.columns)
-
--- the marked members from j on, each exchanged with the next one from `front` on
-abbrev pub brought_forward : {A : Type 0} → List Bool → ℕ → ℕ → List A → List A
-brought_forward [] front j xs = xs
-brought_forward (true ∷ marks) front j xs = brought_forward marks (front + 1) (j + 1) (swap xs front j)
-brought_forward (false ∷ marks) front j xs = brought_forward marks front (j + 1) xs
 
 -- the columns without a text taken away, and then the rows without one
 abbrev pub cleaned : Builder → Builder

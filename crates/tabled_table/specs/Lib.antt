@@ -1,5 +1,6 @@
 pub mod Builder
 pub mod Does
+pub mod Gathering
 pub mod Given
 pub mod Hints
 pub mod Index

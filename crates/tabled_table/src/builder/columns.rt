@@ -4,7 +4,8 @@ ghost use Rattle.std.specs.Prelude.{◌≡◌, ◌+◌, ◌<◌, ◌≤◌, ◌|
 ghost use Rattle.std.specs.Global.{Global as Heap, Vec};
 ghost use Rattle.std.specs.List.{All, count_by, filter, range_with_len, remove};
 ghost use Rattle.std.specs.String.{string_bytes};
-ghost use Rattle.tabled_table.specs.Builder.{AreRecords, brought_forward, has_text_in, is_empty_text, row_texts, with_items, with_items_behind};
+ghost use Rattle.tabled_table.specs.Builder.{AreRecords, has_text_in, is_empty_text, row_texts, with_items, with_items_behind};
+ghost use Rattle.tabled_table.specs.Gathering.{brought_forward};
 ghost use Rattle.tabled_table.specs.Index.{column_of, transposed as turned_rows};
 
 use std::alloc::{AllocError, Global};

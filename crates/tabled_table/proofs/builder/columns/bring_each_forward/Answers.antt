@@ -1,7 +1,7 @@
 use Rattle.std.proofs.Common.{◌∙◌, ap, arith, get_or, map}
 use Rattle.std.specs.String.{string_bytes}
 use Rattle.std.proofs.lemmas.List.{with_items_is}
-use Rattle.tabled_table.specs.Builder.{brought_forward}
+use Rattle.tabled_table.specs.Gathering.{brought_forward}
 use Rattle.tabled_table.proofs.RowByRow.{changed_more, changed_next, changed_all}
 use Rattle.tabled_table.proofs.RowTexts.{same_len}
 use Rattle.tabled_table.proofs.builder.columns.bring_each_forward.Goals as goal

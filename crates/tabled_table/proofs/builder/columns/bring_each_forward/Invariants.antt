@@ -1,7 +1,7 @@
 use Rattle.std.proofs.Common.{ℕ, List, String, map}
 use Rattle.std.specs.Global.{Global, Vec}
 use Rattle.std.specs.String.{string_bytes}
-use Rattle.tabled_table.specs.Builder.{brought_forward}
+use Rattle.tabled_table.specs.Gathering.{brought_forward}
 use Rattle.tabled_table.proofs.RowByRow.{ChangedBy}
 use Rattle.tabled_table.proofs.builder.columns.bring_each_forward.Given as goal
 
