@@ -100,6 +100,32 @@ fn exchanges_nothing_of_one_column(rt: HostRuntime) -> Result<(), Fail> {
     Ok(())
 }
 
+/// Puts a row in and takes it away again, also where it is the first.
+fn push_and_remove_row<R>(alloc: Global, records: &mut R) -> Result<(), AllocError>
+where
+    R: Resizable + ExactRecords,
+    R::Cell: Blank,
+    requires { R.is_well_formed records.old }
+    ensures { R.grid records.new ≡ R.grid records.old }
+{
+    let rows = records.count_rows();
+    records.push_row(alloc)?;
+    records.remove_row(rows);
+    Ok(())
+}
+
+#[test]
+fn takes_a_row_back(rt: HostRuntime) -> Result<(), Fail> {
+    let alloc = rt.alloc();
+    let mut store: VecRecords<Text<String>> = VecRecords::new(alloc, Vec::new(alloc))?;
+    push_and_remove_row(alloc, &mut store)?;
+    assert_eq!(rt; spelled(alloc, &store)?.as_str(), "0 0 Some(0)");
+    let mut store = one_column(alloc)?;
+    push_and_remove_row(alloc, &mut store)?;
+    assert_eq!(rt; spelled(alloc, &store)?.as_str(), "2 1 Some(2)\n[a]\n[b]");
+    Ok(())
+}
+
 #[test]
 fn takes_rows_and_columns_away(rt: HostRuntime) -> Result<(), Fail> {
     let alloc = rt.alloc();
