@@ -1,18 +1,19 @@
 -- The order of places, and lists of anchors after an edit.
-use Rattle.std.proofs.Common.{◌≡◌, ℕ, ◌<◌, ◌≤◌, List, Err, sym, ap, subst, length, set}
+use Rattle.std.proofs.Common.{◌≡◌, ℕ, ◌<◌, ◌≤◌, Bool, true, false, cond, List, [], ◌∷◌, Some, Err, sym, ap, subst, ◌∙◌, length, set}
 use Rattle.std.specs.Prelude.{T, not}
 use Rattle.std.specs.declared.cmp.Ordering.TheVariants.{Equal}
 use Rattle.std.specs.Cmp.{IsTotalOrder}
 use Rattle.std.specs.FinMap as map
-use Rattle.std.specs.FinMap.{IsAntisymmetric, from_sorted, is_sorted}
+use Rattle.std.specs.FinMap.{IsAntisymmetric, find, from_sorted, get-from_sorted, is_sorted}
 use Rattle.std.specs.FinMap.Entries.{is_sorted-put, is_sorted-where_key, put, where_key}
 use Rattle.std.specs.List.{AllByRecursion, HoldsAt, insert, remove}
 use Rattle.std.specs.List.Sorted.{IsBinarySearchResult}
-use Rattle.std.specs.Ordering.{eq_by_cmp, nat_cmp}
+use Rattle.std.specs.Ordering.{eq_by_cmp, is_eq, nat_cmp}
 use Rattle.std.proofs.lemmas.Cmp.{on_total, then_total, nat_cmp_total}
+use Rattle.std.proofs.lemmas.Option.{none-some, same_Some}
 use Rattle.std.proofs.lemmas.Map.Lookups.{exact_pairs, exact_unsigned}
 use Rattle.tabled_grid.specs.declared.config.position.Position.{Position}
-use Rattle.tabled_grid.specs.Spans.{AreAnchors, IsSpanSize, SpanMap, position_cmp}
+use Rattle.tabled_grid.specs.Spans.{AreAnchors, AreSpanSizes, IsSpanSize, SpanMap, position_cmp}
 use Rattle.tabled_grid.proofs.Lists.{all-insert, all-remove, all-set}
 use Rattle.tabled_grid.proofs.SortedEntries.{map_put, map_without, put_found, put_missed, searchable, without_found, without_missed}
 
@@ -30,6 +31,18 @@ pub record Makes (anchors : List (Position × (ℕ × ℕ))) (m : SpanMap) : Typ
 
 abbrev HasSize : Position × (ℕ × ℕ) → Type 0
 HasSize anchor = IsSpanSize anchor.1
+
+-- what is found in a list of anchors is the size of one of them
+found_size : (anchors : List (Position × (ℕ × ℕ))) (p : Position) (size : ℕ × ℕ) → AllByRecursion HasSize anchors → find position_cmp p anchors ≡ Some size → IsSpanSize size
+found_size [] p size all is = absurd (none-some size is)
+found_size (anchor ∷ anchors) p size all is = either (is_eq (position_cmp p anchor.0)) (found_size anchors p size all.1) is
+  where
+    either : (b : Bool) → (find position_cmp p anchors ≡ Some size → IsSpanSize size) → cond b (Some anchor.1) (find position_cmp p anchors) ≡ Some size → IsSpanSize size
+    either true below e = subst IsSpanSize (same_Some anchor.1 size e) all.0
+    either false below e = below e
+
+pub span_sizes : (anchors : List (Position × (ℕ × ℕ))) → AreAnchors anchors → AreSpanSizes (from_sorted anchors)
+span_sizes anchors valid = record { each = λ p size is. found_size anchors p size valid.sizes (sym (get-from_sorted position_cmp anchors p valid.sorted) ∙ is) }
 
 module _ (anchors : List (Position × (ℕ × ℕ))) (valid : AreAnchors anchors) (p : Position) where
   with_anchor : (new : List (Position × (ℕ × ℕ))) (size : ℕ × ℕ) → AllByRecursion HasSize new → new ≡ put position_cmp p size anchors → Makes new (map.insert (from_sorted anchors) p size)

@@ -15,6 +15,10 @@ pub record IsGrid {A : Type 0} (g : Grid A) : Type 0 where
   pub tall : length g.cells ≡ g.rows
   pub wide : AllByRecursion (λ (row : List A). length row ≡ g.columns) g.cells
 
+-- without rows there are no columns
+abbrev pub IsEmptyWithoutRows : {A : Type 0} → Grid A → Type 0
+IsEmptyWithoutRows g = g.rows ≡ 0 → g.columns ≡ 0
+
 -- a place is inside the shape
 pub record IsInside {A : Type 0} (g : Grid A) (p : Position) : Type 0 where
   pub row : p.row < g.rows

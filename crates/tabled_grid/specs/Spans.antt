@@ -1,5 +1,5 @@
 -- Merged cells: a finite map from anchors to the sizes of their rectangles.
-use Rattle.std.specs.Prelude.{◌<◌, ◌≤◌, ◌⊎◌, ◌==◌, ◌&&◌, if◌then◌else◌, ℕ, T, List, refl}
+use Rattle.std.specs.Prelude.{◌≡◌, ◌<◌, ◌≤◌, ◌⊎◌, ◌==◌, ◌&&◌, if◌then◌else◌, ℕ, T, List, Some, refl}
 use Rattle.std.specs.Coded.{Coded, code_by, coded×, coded_ℕ}
 use Rattle.std.specs.FinMap as map
 use Rattle.std.specs.FinMap.{FinMap, get, is_sorted}
@@ -34,6 +34,10 @@ pub record IsSpanSize (size : ℕ × ℕ) : Type 0 where
   pub height : 1 ≤ size.0
   pub width : 1 ≤ size.1
   pub merges : (1 < size.0) ⊎ (1 < size.1)
+
+-- each size that a map has is that of more than one cell
+pub record AreSpanSizes (m : SpanMap) : Type 0 where
+  pub each : (p : Position) (size : ℕ × ℕ) → get m p ≡ Some size → IsSpanSize size
 
 -- anchors with their sizes, each once, row by row
 pub record AreAnchors (anchors : List (Position × (ℕ × ℕ))) : Type 0 where

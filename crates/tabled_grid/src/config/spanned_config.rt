@@ -3,7 +3,7 @@
 ghost use Rattle.std.specs.Prelude.{◌≡◌, ◌<◌, ◌≤◌, ℕ, OnErr, OnOk, SomeIff, length};
 ghost use Rattle.std.specs.FinMap as map;
 ghost use Rattle.std.specs.List.Sorted.{IsBinarySearchResult, IsSearchInRange};
-ghost use Rattle.tabled_grid.specs.Spans.{IsSpanSize, position_cmp, size_at, with_column_span, with_row_span, with_size};
+ghost use Rattle.tabled_grid.specs.Spans.{AreSpanSizes, IsSpanSize, position_cmp, size_at, with_column_span, with_row_span, with_size};
 ghost use Rattle.tabled_grid.specs.declared.config.position.Position.{Position};
 
 use crate::config::position::Position;
@@ -13,7 +13,7 @@ use std::marker::Model;
 /// Which cells are merged: rectangles of cells, each of which goes right and down from its anchor.
 ///
 /// A contract sees it as a finite map from anchors to heights and widths, both at least 1 and not
-/// both 1. Rectangles need not lie inside a table, and may share cells.
+/// both 1 (`sizes`). Rectangles need not lie inside a table, and may share cells.
 ///
 /// Ported from the spans of `tabled::grid::config::SpannedConfig`.
 #[derive(Drop)]
@@ -49,7 +49,8 @@ impl SpannedConfig {
     ///
     /// Ported from `tabled::grid::config::SpannedConfig::get_column_span`.
     pub fn get_column_span(&self, pos: Position) -> Option<usize>
-        ensures { SomeIff result (1 < (size_at self.now pos).1) (size_at self.now pos).1 }
+        ensures span { SomeIff result (1 < (size_at self.now pos).1) (size_at self.now pos).1 }
+        ensures sizes { AreSpanSizes self.now }
     {
         let (_, width) = self.size(pos);
         (width > 1).then_some(width)
@@ -59,7 +60,8 @@ impl SpannedConfig {
     ///
     /// Ported from `tabled::grid::config::SpannedConfig::get_row_span`.
     pub fn get_row_span(&self, pos: Position) -> Option<usize>
-        ensures { SomeIff result (1 < (size_at self.now pos).0) (size_at self.now pos).0 }
+        ensures span { SomeIff result (1 < (size_at self.now pos).0) (size_at self.now pos).0 }
+        ensures sizes { AreSpanSizes self.now }
     {
         let (height, _) = self.size(pos);
         (height > 1).then_some(height)
@@ -156,6 +158,7 @@ impl SpannedConfig {
     /// The height and the width at a place, both 1 where there is no anchor.
     fn size(&self, pos: Position) -> (usize, usize)
         ensures value { result ≡ size_at self.now pos }
+        ensures sizes { AreSpanSizes self.now }
         ensures height { 1 ≤ result.0 }
         ensures width { 1 ≤ result.1 }
     {

@@ -1,7 +1,7 @@
 //! Stores that can grow and shrink.
 
 ghost use Rattle.std.specs.Prelude.{◌≡◌, ◌<◌, ◌≤◌, OnOk, OnErr};
-ghost use Rattle.tabled_grid.specs.Grid.{IsInside};
+ghost use Rattle.tabled_grid.specs.Grid.{IsEmptyWithoutRows, IsInside};
 ghost use Rattle.tabled_grid.specs.Resized.{InsertsColumn, InsertsRow, with_cells_swapped, with_columns_swapped, with_rows_swapped, without_column, without_row};
 
 use crate::config::Position;
@@ -14,6 +14,9 @@ use std::alloc::{AllocError, Global};
 /// A call that grows may be refused for memory, and then leaves the store as it was. The others take
 /// no memory and can't be refused.
 ///
+/// A store without rows has no columns. Each call that isn't refused says so of the store as it was
+/// (`rowless`), and what it says of the store that it leaves carries this over.
+///
 /// Ported from `tabled::grid::records::Resizable`.
 pub trait Resizable: GridStore
 where
@@ -25,6 +28,7 @@ where
     fn push_row(&mut self, alloc: Global) -> Result<(), AllocError>
         requires well { Self.is_well_formed self.old }
         ensures well { Self.is_well_formed self.new }
+        ensures rowless { OnOk result (IsEmptyWithoutRows (Self.grid self.old)) }
         ensures ok { OnOk result (InsertsRow Self.Cell.is_blank (Self.grid self.old) (Self.grid self.new) ((Self.grid self.old).rows)) }
         ensures err { OnErr result (Self.grid self.new ≡ Self.grid self.old) };
 
@@ -34,6 +38,7 @@ where
     fn push_column(&mut self, alloc: Global) -> Result<(), AllocError>
         requires well { Self.is_well_formed self.old }
         ensures well { Self.is_well_formed self.new }
+        ensures rowless { OnOk result (IsEmptyWithoutRows (Self.grid self.old)) }
         ensures ok { OnOk result (InsertsColumn Self.Cell.is_blank (Self.grid self.old) (Self.grid self.new) ((Self.grid self.old).columns)) }
         ensures err { OnErr result (Self.grid self.new ≡ Self.grid self.old) };
 
@@ -45,6 +50,7 @@ where
         requires well { Self.is_well_formed self.old }
         requires within { i ≤ (Self.grid self.old).rows }
         ensures well { Self.is_well_formed self.new }
+        ensures rowless { OnOk result (IsEmptyWithoutRows (Self.grid self.old)) }
         ensures ok { OnOk result (InsertsRow Self.Cell.is_blank (Self.grid self.old) (Self.grid self.new) i) }
         ensures err { OnErr result (Self.grid self.new ≡ Self.grid self.old) };
 
@@ -56,6 +62,7 @@ where
         requires well { Self.is_well_formed self.old }
         requires within { j ≤ (Self.grid self.old).columns }
         ensures well { Self.is_well_formed self.new }
+        ensures rowless { OnOk result (IsEmptyWithoutRows (Self.grid self.old)) }
         ensures ok { OnOk result (InsertsColumn Self.Cell.is_blank (Self.grid self.old) (Self.grid self.new) j) }
         ensures err { OnErr result (Self.grid self.new ≡ Self.grid self.old) };
 
@@ -67,6 +74,7 @@ where
         requires well { Self.is_well_formed self.old }
         requires within { i < (Self.grid self.old).rows }
         ensures well { Self.is_well_formed self.new }
+        ensures rowless { IsEmptyWithoutRows (Self.grid self.old) }
         ensures removed { Self.grid self.new ≡ without_row (Self.grid self.old) i };
 
     /// Takes away column `j` (r x c to r x c-1). The rows stay, also where it was the last column.
@@ -76,6 +84,7 @@ where
         requires well { Self.is_well_formed self.old }
         requires within { j < (Self.grid self.old).columns }
         ensures well { Self.is_well_formed self.new }
+        ensures rowless { IsEmptyWithoutRows (Self.grid self.old) }
         ensures removed { Self.grid self.new ≡ without_column (Self.grid self.old) j };
 
     /// Exchanges two cells. Equal places change nothing.
@@ -86,6 +95,7 @@ where
         requires p_inside { IsInside (Self.grid self.old) p }
         requires q_inside { IsInside (Self.grid self.old) q }
         ensures well { Self.is_well_formed self.new }
+        ensures rowless { IsEmptyWithoutRows (Self.grid self.old) }
         ensures swapped { Self.grid self.new ≡ with_cells_swapped (Self.grid self.old) p q };
 
     /// Exchanges two rows. Equal ones change nothing.
@@ -96,6 +106,7 @@ where
         requires i_within { i < (Self.grid self.old).rows }
         requires k_within { k < (Self.grid self.old).rows }
         ensures well { Self.is_well_formed self.new }
+        ensures rowless { IsEmptyWithoutRows (Self.grid self.old) }
         ensures swapped { Self.grid self.new ≡ with_rows_swapped (Self.grid self.old) i k };
 
     /// Exchanges two columns. Equal ones change nothing.
@@ -106,5 +117,6 @@ where
         requires j_within { j < (Self.grid self.old).columns }
         requires k_within { k < (Self.grid self.old).columns }
         ensures well { Self.is_well_formed self.new }
+        ensures rowless { IsEmptyWithoutRows (Self.grid self.old) }
         ensures swapped { Self.grid self.new ≡ with_columns_swapped (Self.grid self.old) j k };
 }

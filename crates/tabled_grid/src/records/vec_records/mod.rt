@@ -29,14 +29,14 @@ pub struct VecRecords<T> {
 }
 
 impl<T> Model for VecRecords<T> {
-    ghost use Rattle.tabled_grid.specs.Grid.{Grid, IsGrid, rows_grid};
+    ghost use Rattle.tabled_grid.specs.Grid.{Grid, IsEmptyWithoutRows, IsGrid, rows_grid};
     ghost use Rattle.std.specs.Prelude.{vec_len};
 
     ghost Value = { Grid T };
 
     ghost view = { λ a. rows_grid a.columns a.lines };
 
-    ghost invariant = { λ a. IsGrid (rows_grid a.columns a.lines) };
+    ghost invariant = { λ a. IsGrid (rows_grid a.columns a.lines) × IsEmptyWithoutRows (rows_grid a.columns a.lines) };
 }
 
 impl<T: Drop> VecRecords<T> {

@@ -5,9 +5,11 @@ use Rattle.tabled_grid.proofs.records.vec_records.resizable.VecRecordsResizable.
 
 pub invariant_of-self-else-is_empty : goal.invariant_of-self-else-is_empty
 invariant_of-self-else-is_empty g c =
-    let some : 0 < vec_len c.remove-row.new.self = grind (arith, nat_tests) in
-    rw (row_taken c.self.inside.columns c.self.inside.lines c.remove-row.new.self c.args.i c.remove-row.ensures.items c.remove-row.ensures.len some)
-    (IsGrid-without_row _ c.args.i (rw (← c.self.view_is) at c.requires.within) c.self.invariant)
+    let some : 0 < vec_len c.remove-row.new.self = grind (arith, nat_tests) in (
+      rw (row_taken c.self.inside.columns c.self.inside.lines c.remove-row.new.self c.args.i c.remove-row.ensures.items c.remove-row.ensures.len some)
+          (IsGrid-without_row _ c.args.i (rw (← c.self.view_is) at c.requires.within) c.self.invariant.0),
+      λ none. absurd (omega (arith, some, none)),
+    )
 
 pub returns-clause-removed : goal.returns-clause-removed
 returns-clause-removed g c =
