@@ -15,7 +15,7 @@ use tabled_grid::records::{ExactRecords, Records};
 /// object.
 ///
 /// Ported from `tabled::settings::object::InversionCombination`.
-#[derive(Drop)]
+#[derive(Copy, Drop)]
 pub struct InversionCombination<O, I> {
     object: O,
     records: PhantomData<I>,
@@ -25,6 +25,8 @@ impl<O, I> Model for InversionCombination<O, I> {
     ghost Value = { O };
 
     ghost view = { λ a. a.object };
+
+    ghost inverse = { λ object. record { object = object; records = record {} } };
 }
 
 impl<O, I> InversionCombination<O, I> {
@@ -44,7 +46,9 @@ impl<O, I> Clone for InversionCombination<O, I>
 where
     O: Clone,
 {
-    ghost is_clone = { λ a b. O.is_clone a b };
+    ghost is_clone = { O.is_clone };
+
+    ghost is_infallible = { O.is_infallible };
 
     fn clone(&self) -> Result<Self, AllocError> {
         Ok(InversionCombination::new(self.object.clone()?))
