@@ -81,6 +81,8 @@ where
 }
 
 /// Gives the cells of a difference. A contract sees it as the list of what is left.
+///
+/// Ported from `tabled::settings::object::DiffIter`.
 #[derive(Drop)]
 pub struct DiffIter<L> {
     places: Sieve,

@@ -81,6 +81,8 @@ where
 }
 
 /// Gives the cells of an intersection. A contract sees it as the list of what is left.
+///
+/// Ported from `tabled::settings::object::IntersectIter`.
 #[derive(Drop)]
 pub struct IntersectIter<L> {
     places: Sieve,

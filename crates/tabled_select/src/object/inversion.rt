@@ -77,6 +77,8 @@ where
 }
 
 /// Gives the cells of an inversion. A contract sees it as the list of what is left.
+///
+/// Ported from `tabled::settings::object::InversionIter`.
 #[derive(Drop)]
 pub struct InversionIter {
     places: Sieve,

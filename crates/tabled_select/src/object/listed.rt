@@ -7,7 +7,11 @@ use std::alloc::{AllocError, Global};
 use tabled_grid::config::Entity;
 use tabled_grid::records::GridStore;
 
-/// The entities that an object names in a store.
+/// The entities that an object names in a store, in order.
+///
+/// Refused for memory, it gives no part of them. Object and store are only read.
+///
+/// Our own.
 pub fn entities<R: GridStore, O: Object<R>>(
     alloc: Global,
     object: &O,

@@ -82,6 +82,8 @@ where
 }
 
 /// Gives the cells of a union. A contract sees it as the list of what is left.
+///
+/// Ported from `tabled::settings::object::UnionIter`.
 #[derive(Drop)]
 pub struct UnionIter {
     places: Places,

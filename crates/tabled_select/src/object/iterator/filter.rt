@@ -76,6 +76,8 @@ fn keep<F: Fn(&Entity) -> bool>(entities: &mut Vec<Entity>, predicate: &F)
 }
 
 /// Gives the entities to which a closure said yes. A contract sees it as the list of what is left.
+///
+/// Ported from `tabled::settings::object::FilterObjectIter`.
 #[derive(Drop)]
 pub struct FilterObjectIter {
     entities: vec::IntoIter<Entity>,

@@ -60,6 +60,8 @@ impl<O: Object<R>, R: GridStore> Object<R> for SkipObject<O, R> {
 }
 
 /// Gives what an iterator gives after its first entities.
+///
+/// Ported from `tabled::settings::object::SkipObjectIter`.
 #[derive(Drop)]
 pub struct SkipObjectIter<I> {
     entities: Skip<I>,
