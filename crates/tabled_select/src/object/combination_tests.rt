@@ -88,36 +88,41 @@ fn combines_rows_and_columns(rt: HostRuntime) -> Result<(), Fail> {
     Ok(())
 }
 
+/// Entities with repeats and with a place outside small tables.
+const REPEATS: [Entity; 4] = [
+    Entity::Row(0),
+    Entity::Row(0),
+    Entity::Cell(5, 5),
+    Entity::Global,
+];
+
+const LAST: [Entity; 3] = [Entity::Cell(1, 1), Entity::Cell(1, 1), Entity::Cell(0, 1)];
+
 #[test]
 fn keeps_repeats_of_the_first_alone(rt: HostRuntime) -> Result<(), Fail> {
     let alloc = rt.alloc();
     let table = numbers(alloc, 2, 2)?;
-    let repeats = Listed {
-        entities: &[
-            Entity::Row(0),
-            Entity::Row(0),
-            Entity::Cell(5, 5),
-            Entity::Global,
-        ],
-    };
-    let last = Listed {
-        entities: &[Entity::Cell(1, 1), Entity::Cell(1, 1), Entity::Cell(0, 1)],
-    };
+    let repeats = Listed { entities: &REPEATS };
+    let last = Listed { entities: &LAST };
     assert_named(&rt, alloc, repeats.and(repeats), &table, "0:0 0:1 1:0 1:1")?;
     assert_named(&rt, alloc, repeats.and(last), &table, "0:0 0:1 1:0 1:1")?;
     assert_named(&rt, alloc, last.and(repeats), &table, "1:1 0:1 0:0 1:0")?;
     assert_named(&rt, alloc, repeats.not(last), &table, "0:0 0:0 0:0 1:0")?;
     assert_named(&rt, alloc, repeats.not(repeats), &table, "")?;
     assert_named(&rt, alloc, last.not(Cell::new(0, 0)), &table, "1:1 1:1 0:1")?;
+    Ok(())
+}
+
+#[test]
+fn keeps_repeats_of_what_both_name(rt: HostRuntime) -> Result<(), Fail> {
+    let alloc = rt.alloc();
+    let table = numbers(alloc, 2, 2)?;
+    let repeats = Listed { entities: &REPEATS };
+    let last = Listed { entities: &LAST };
     let all = "0:0 0:1 0:0 0:1 0:0 0:1 1:0 1:1";
     assert_named(&rt, alloc, repeats.intersect(repeats), &table, all)?;
-    assert_named(
-        &rt,
-        alloc,
-        repeats.intersect(last),
-        &table,
-        "0:1 0:1 0:1 1:1",
-    )?;
+    let shared = "0:1 0:1 0:1 1:1";
+    assert_named(&rt, alloc, repeats.intersect(last), &table, shared)?;
     assert_named(&rt, alloc, last.intersect(repeats), &table, "1:1 1:1 0:1")?;
     assert_named(&rt, alloc, repeats.inverse(), &table, "")?;
     assert_named(&rt, alloc, last.inverse(), &table, "0:0 1:0")?;
