@@ -21,6 +21,7 @@ SpanMap = FinMap position_cmp (ℕ × ℕ)
 abbrev pub position_code : Coded Position
 position_code = code_by (ℕ × ℕ) (coded× coded_ℕ coded_ℕ) (λ p. (p.row, p.col)) (λ pair. record { row = pair.0; col = pair.1 }) (λ _. refl)
 
+-- a map is stored as its anchors with their heights and widths
 abbrev pub span_code : Coded SpanMap
 span_code = map.code position_code (coded× coded_ℕ coded_ℕ)
 

@@ -7,6 +7,7 @@ use Rattle.tabled_script.specs.Line.{Script}
 use Rattle.tabled_script.specs.Output.{print}
 use Rattle.tabled_script.specs.Step.{after_all, padded}
 
+-- the number that stands for a fault in what is written
 abbrev pub fault_number : Fault → ℕ
 fault_number UnknownWord = 1
 fault_number WordCount = 2

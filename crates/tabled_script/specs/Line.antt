@@ -81,12 +81,14 @@ first_fault n stepped (line ∷ lines) = go (fault_of stepped line) (first_fault
     go None later = later
     go (Some fault) later = Some (n, fault)
 
+-- the record that a line says, if it says one
 abbrev pub record_in : Line → Option (List (List ℕ))
 record_in Empty = None
 record_in (Record texts) = Some texts
 record_in (Change step) = None
 record_in (Faulty fault) = None
 
+-- the step that a line says, if it says one
 abbrev pub step_in : Line → Option Step
 step_in Empty = None
 step_in (Record texts) = None

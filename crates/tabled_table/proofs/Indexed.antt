@@ -1,12 +1,12 @@
 -- A table with an index: its rows are equally long, and turning it twice changes nothing.
-use Rattle.std.proofs.Common.{◌≡◌, ℕ, ◌+◌, ◌-◌, ◌<◌, ◌≤◌, Bool, true, false, not, List, [], ◌∷◌, Option, None, Some, IfSome, option_map, refl, ap, sym, subst, ◌∙◌, get_or, length, map, arith}
+use Rattle.std.proofs.Common.{◌≡◌, ℕ, ◌+◌, ◌-◌, ◌<◌, Bool, true, false, not, List, [], ◌∷◌, Option, None, Some, IfSome, option_map, refl, ap, sym, subst, ◌∙◌, get_or, length, map, arith}
 use Rattle.std.specs.Fmt.{decimal}
 use Rattle.std.specs.List.{remove}
 use Rattle.std.proofs.lemmas.List.{length-map}
 use Rattle.std.proofs.lemmas.List.Edits.{length-remove}
 use Rattle.std.proofs.lemmas.List.FromFn.{length-map-range_with_len}
 use Rattle.tabled_grid.specs.Grid.{width_of}
-use Rattle.tabled_table.specs.Builder.{AreRecords, padded_to, with_items}
+use Rattle.tabled_table.specs.Builder.{AreRecords}
 use Rattle.tabled_table.specs.Index.{Indexed, IsIndexed, numbers, rows_of, transposed, turned_over, with_column_as_index, with_index, with_name, with_name_if}
 use Rattle.tabled_table.proofs.Columns.{even-with_items, even-without}
 use Rattle.tabled_table.proofs.Padded.{length-padded_to}

@@ -52,9 +52,11 @@ with_last_column b items =
     let rows = padded_to (length items) (replicate b.columns b.empty) b.rows in
     record b { columns = b.columns + 1; rows = with_items_at b.columns b.empty rows items }
 
+-- the builder without record i; the declared columns stay
 abbrev pub without_record : Builder → ℕ → Builder
 without_record b i = record b { rows = remove b.rows i }
 
+-- the builder without column j
 abbrev pub without_column : Builder → ℕ → Builder
 without_column b j = record b { columns = b.columns - 1; rows = map (λ (row : List (List ℕ)). remove row j) b.rows }
 

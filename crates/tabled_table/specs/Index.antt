@@ -41,8 +41,8 @@ abbrev pub with_column_as_index : ℕ → Indexed → Indexed
 with_column_as_index c x = record x { header = remove x.header c; index = column_of x.body c; body = map (λ (row : List (List ℕ)). remove row c) x.body; name = slice_get x.header c }
 
 -- the same where there is such a column, and nothing changed where there is none
-abbrev pub with_column : ℕ → Indexed → Indexed
-with_column c x = if nat_lt c (length x.header) then with_column_as_index c x else x
+abbrev pub with_column_as_index_if_there : ℕ → Indexed → Indexed
+with_column_as_index_if_there c x = if nat_lt c (length x.header) then with_column_as_index c x else x
 
 -- header and index exchanged, and the body turned with them
 abbrev pub turned_over : Indexed → Indexed

@@ -1,8 +1,7 @@
 //! A cell option on what an object lists.
 
-ghost use Rattle.std.specs.Prelude.{◌≡◌, ◌⊎◌, List};
-ghost use Rattle.tabled_grid.specs.declared.config.entity.Entity.{Entity};
-ghost use Rattle.tabled_table.specs.Does.{CopiesAlike, Each, EachUntil, Same, SameOr};
+ghost use Rattle.std.specs.Prelude.{◌≡◌};
+ghost use Rattle.tabled_table.specs.Does.{CopiesAlike, EachListed, EachListedUntil, SameOr};
 
 use crate::cell_option::CellOption;
 use crate::settings_list::Settings;
@@ -42,6 +41,9 @@ impl<O: Clone> Clone for Modify<O> {
 }
 
 impl<O> Modify<O> {
+    /// The cells of an object.
+    ///
+    /// Ported from `tabled::settings::Modify::new`.
     pub fn new(object: O) -> Self
         ensures { result ≡ object }
     {
@@ -49,6 +51,8 @@ impl<O> Modify<O> {
     }
 
     /// An option on what an object lists.
+    ///
+    /// Ported from `tabled::settings::Modify::list`.
     pub fn list<M>(object: O, option: M) -> ModifyList<O, M>
         ensures { result ≡ (object, option) }
     {
@@ -56,6 +60,8 @@ impl<O> Modify<O> {
     }
 
     /// An option on what the object lists.
+    ///
+    /// Ported from `tabled::settings::Modify::with`.
     pub fn with<M>(self, option: M) -> ModifyList<O, M>
         ensures { result ≡ (self, option) }
     {
@@ -82,6 +88,8 @@ impl<O, M> Model for ModifyList<O, M> {
 
 impl<O, M> ModifyList<O, M> {
     /// The same, and then another option on each entity.
+    ///
+    /// Ported from `tabled::settings::ModifyList::with`.
     pub fn with<N>(self, option: N) -> ModifyList<O, Settings<M, N>>
         ensures { result ≡ (self.0, (self.1, option)) }
     {
@@ -106,9 +114,9 @@ where
     M: CellOption<R, C> + Clone,
     R: Records + ExactRecords,
 {
-    ghost does = { λ s g c h d. (entities : List Entity) × O.lists s.0 g entities × Each (M.does s.1) entities g c h d };
+    ghost does = { λ s. EachListed (O.lists s.0) (M.does s.1) };
 
-    ghost leaves = { λ s. SameOr (λ g c h d. (entities : List Entity) × O.lists s.0 g entities × EachUntil (M.does s.1) (λ e. SameOr (M.leaves s.1 e)) entities g c h d) };
+    ghost leaves = { λ s. SameOr (EachListedUntil (O.lists s.0) (M.does s.1) (λ e. SameOr (M.leaves s.1 e))) };
 
     ghost can_change = { λ s. O.can_list s.0 × CopiesAlike M.is_clone M.can_change M.does M.leaves s.1 };
 

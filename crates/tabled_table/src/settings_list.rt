@@ -23,7 +23,7 @@ pub struct EmptySettings;
 ///
 /// Ported from `tabled::settings::Settings`.
 #[derive(Copy, Drop)]
-pub struct Settings<A, B>(A, B);
+pub struct Settings<A = EmptySettings, B = EmptySettings>(A, B);
 
 impl<A, B> Model for Settings<A, B> {
     ghost Value = { A × B };
@@ -43,8 +43,10 @@ impl<A: Clone, B: Clone> Clone for Settings<A, B> {
     }
 }
 
-impl Settings<EmptySettings, EmptySettings> {
+impl Settings {
     /// No options, to which others can be added.
+    ///
+    /// Ported from `tabled::settings::Settings::empty`.
     pub fn empty() -> Self
         ensures { result ≡ (record {}, record {}) }
     {
@@ -52,7 +54,7 @@ impl Settings<EmptySettings, EmptySettings> {
     }
 }
 
-impl Default for Settings<EmptySettings, EmptySettings> {
+impl Default for Settings {
     fn default() -> Self {
         Settings::empty()
     }
@@ -60,6 +62,8 @@ impl Default for Settings<EmptySettings, EmptySettings> {
 
 impl<A, B> Settings<A, B> {
     /// The first option, and then the second.
+    ///
+    /// Ported from `tabled::settings::Settings::new`.
     pub fn new(first: A, second: B) -> Self
         ensures { result ≡ (first, second) }
     {
@@ -67,6 +71,8 @@ impl<A, B> Settings<A, B> {
     }
 
     /// These options, and then one more.
+    ///
+    /// Ported from `tabled::settings::Settings::with`.
     pub fn with<O>(self, option: O) -> Settings<Self, O>
         ensures { result ≡ (self, option) }
     {
@@ -74,6 +80,8 @@ impl<A, B> Settings<A, B> {
     }
 
     /// These options, and then a cell option on what an object lists.
+    ///
+    /// Ported from `tabled::settings::Settings::modify`.
     pub fn modify<O, M>(self, object: O, option: M) -> Settings<Self, ModifyList<O, M>>
         ensures { result ≡ (self, (object, option)) }
     {
@@ -129,6 +137,7 @@ impl<R: GridStore, C> CellOption<R, C> for EmptySettings {
     }
 }
 
+/// The first option, and then the second where the first wasn't refused.
 impl<R, C, D, A, B> TableOption<R, C, D> for Settings<A, B>
 where
     R: GridStore,
@@ -162,6 +171,7 @@ where
     }
 }
 
+/// The first option, and then the second where the first wasn't refused.
 impl<R, C, A, B> CellOption<R, C> for Settings<A, B>
 where
     R: GridStore,

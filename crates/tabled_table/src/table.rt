@@ -33,7 +33,7 @@ impl Model for Table {
 impl Table {
     ghost use Rattle.std.specs.Prelude.{◌≡◌, OnOk, OnErr, IsOk};
     ghost use Rattle.std.specs.FinMap as map;
-    ghost use Rattle.tabled_table.specs.Does.{CopiesAlike, Each, EachUntil, SameOr};
+    ghost use Rattle.tabled_table.specs.Does.{CopiesAlike, EachListed, EachListedUntil, SameOr};
 
     /// A table of the cells of a store, with no merged cells.
     pub fn from_records(alloc: Global, records: VecRecords<Text<String>>) -> Self
@@ -60,7 +60,9 @@ impl Table {
         option.change(alloc, &mut self.records, &mut self.config, &mut ())
     }
 
-    /// Changes what an object lists by an option on cells. Refused for memory, it keeps what is left.
+    /// Changes each entity that an object lists by a copy of an option on cells, one after another.
+    ///
+    /// Refused for memory, it keeps what the changes before did, and what the refused one leaves.
     ///
     /// Ported from `tabled::Table::modify`.
     pub fn modify<O, M>(&mut self, alloc: Global, object: O, option: M) -> Result<(), AllocError>
@@ -69,8 +71,8 @@ impl Table {
         M: CellOption<VecRecords<Text<String>>, SpannedConfig> + Clone + Drop,
         requires list { O.can_list object }
         requires copies { CopiesAlike M.is_clone M.can_change M.does M.leaves option }
-        ensures ok { OnOk result (⟦<ModifyList<O, M> as TableOption<VecRecords<Text<String>>, SpannedConfig, ()>>⟧.does (object, option) self.old.cells self.old.spans self.new.cells self.new.spans) }
-        ensures err { OnErr result (⟦<ModifyList<O, M> as TableOption<VecRecords<Text<String>>, SpannedConfig, ()>>⟧.leaves (object, option) self.old.cells self.old.spans self.new.cells self.new.spans) }
+        ensures ok { OnOk result (EachListed (O.lists object) (M.does option) self.old.cells self.old.spans self.new.cells self.new.spans) }
+        ensures err { OnErr result (SameOr (EachListedUntil (O.lists object) (M.does option) (λ e. SameOr (M.leaves option e))) self.old.cells self.old.spans self.new.cells self.new.spans) }
     {
         self.with(alloc, Modify::list(object, option))
     }

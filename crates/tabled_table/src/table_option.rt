@@ -33,6 +33,10 @@ pub trait TableOption<R: GridStore, C, D> {
     ghost hint: { Self → Option Entity } = { λ _. Some Global };
 
     /// Changes the table.
+    ///
+    /// Refused for memory, it leaves what `leaves` says.
+    ///
+    /// Ported from `tabled::settings::TableOption::change`.
     fn change(
         self,
         alloc: Global,
@@ -49,6 +53,8 @@ pub trait TableOption<R: GridStore, C, D> {
 
     /// Hints at the part of the table that it may change, or at none. Where nothing better is known, this
     /// is `Some(Entity::Global)`.
+    ///
+    /// Ported from `tabled::settings::TableOption::hint_change`.
     fn hint_change(&self) -> Option<Entity>
         ensures { result ≡ hint self.now };
 }

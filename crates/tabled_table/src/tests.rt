@@ -1,8 +1,9 @@
-//! The first table of the README.
+//! The table of the code in the README.
 
 use crate::builder::Builder;
 use crate::{Table, TextRef};
 use std::alloc::{AllocError, Global};
+use std::collections::BTreeMap;
 use std::test::Fail;
 use tabled_grid::config::Position;
 use tabled_select::object::{Columns, Object, Rows};
@@ -36,6 +37,30 @@ fn builds_the_first_table(rt: HostRuntime) -> Result<(), Fail> {
             table.get_records().get(Position::new(2, col)).as_str(),
             text
         );
+    }
+    Ok(())
+}
+
+/// Prices by their names, turned so that each name has a column.
+fn prices(alloc: Global) -> Result<Vec<Vec<String>>, AllocError> {
+    let mut prices = BTreeMap::new(alloc);
+    for (name, price) in [("pear", 3), ("apple", 2)] {
+        prices.insert(name, price)?;
+    }
+    let mut builder = Builder::from_btree_map(alloc, prices)?;
+    builder.insert_record(alloc, 0, words(alloc, "fruit price")?)?;
+    let turned = builder.index(alloc)?.column(alloc, 0)?.transpose(alloc)?;
+    turned.into_builder(alloc)?.into_strings(alloc)
+}
+
+#[test]
+fn turns_a_table_by_its_index(rt: HostRuntime) -> Result<(), Fail> {
+    let alloc = rt.alloc();
+    let prices = prices(alloc)?;
+    assert_eq!(rt; prices.len(), 2);
+    for (row, want) in prices.iter().zip(["fruit apple pear", "price 2 3"]) {
+        let words = words(alloc, want)?;
+        assert_eq!(rt; *row, words);
     }
     Ok(())
 }

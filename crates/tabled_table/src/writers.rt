@@ -11,7 +11,8 @@ use std::alloc::{AllocError, Global};
 use tabled_grid::config::Entity;
 use tabled_grid::records::{CellText, ExactRecords, Records, RecordsMut};
 
-/// Writes the text to each cell, row by row. Refused for memory, it leaves the cells that it wrote.
+/// Writes the text to each cell of the table that the entity names, row by row. Refused for memory,
+/// it leaves the cells that it wrote.
 impl<R, C> CellOption<R, C> for String
 where
     R: Records + ExactRecords + RecordsMut<String>,
@@ -40,8 +41,8 @@ where
     }
 }
 
-/// A text that is written to each cell, row by row. Refused for memory, it leaves the cells that it
-/// wrote.
+/// A text that is written to each cell of the table that an entity names, row by row. Refused for
+/// memory, it leaves the cells that it wrote.
 ///
 /// It stands for `&str`, which is an option in `tabled`.
 #[derive(Debug, Clone, Copy)]

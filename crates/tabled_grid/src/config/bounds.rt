@@ -13,15 +13,17 @@ use std::ops::{Bound, Range, RangeFrom, RangeFull, RangeInclusive, RangeTo, Rang
 /// It stands for `std::ops::RangeBounds<usize>`, of which the original takes no range with an excluded
 /// start.
 pub trait ToBounds {
-    /// Where the range begins and where it ends.
+    /// The two bounds of the range.
     ghost bounds_of: { Self → Bound ℕ × Bound ℕ };
 
+    /// Where the range begins and where it ends.
     fn bounds(&self) -> (Bound<usize>, Bound<usize>)
         ensures { result ≡ bounds_of self.now };
 
     /// The indexes of the range, of `count` where it has no end.
     ///
-    /// They may lie past `count`. No index is past `usize::MAX`.
+    /// They may lie past `count`. An excluded start begins one further and an included end ends one
+    /// further, both cut at `usize::MAX`, so the index `usize::MAX` itself is never among them.
     final fn to_range(&self, count: usize) -> Range<usize>
         ensures start { result.start ≡ first_index (bounds_of self.now).0 }
         ensures end { result.end ≡ end_index (bounds_of self.now).1 count }

@@ -12,14 +12,21 @@ use std::marker::Model;
 /// Ported from `tabled::grid::config::Entity`.
 #[derive(Clone, Copy, Debug, PartialEq, Eq, PartialOrd, Ord, Hash)]
 pub enum Entity {
+    /// All cells.
     Global,
+    /// The cells of a column.
     Column(usize),
+    /// The cells of a row.
     Row(usize),
+    /// The cell in a row and a column.
     Cell(usize, usize),
 }
 
 impl Entity {
-    /// Goes over the named cells of a table of `count_rows x count_columns`, row by row.
+    /// Goes over the named cells of a table of `count_rows x count_columns`, row by row. Those that
+    /// it names outside the table are left out.
+    ///
+    /// Ported from `tabled::grid::config::Entity::iter`.
     pub fn iter(&self, count_rows: usize, count_columns: usize) -> EntityIterator
         ensures { result ≡ inside self.now count_rows count_columns }
     {
@@ -60,6 +67,8 @@ impl From<(usize, usize)> for Entity {
 }
 
 /// Goes over places, row by row. A contract sees it as the list of the places that are left.
+///
+/// Ported from `tabled::grid::config::EntityIterator`.
 #[derive(Debug, Drop)]
 pub struct EntityIterator {
     row: usize,

@@ -12,6 +12,9 @@ pub struct Position {
 }
 
 impl Position {
+    /// The place in a row and a column.
+    ///
+    /// Ported from `tabled::grid::config::Position::new`.
     pub const fn new(row: usize, col: usize) -> Self
         ensures row { result.row ≡ row }
         ensures col { result.col ≡ col }
@@ -20,6 +23,8 @@ impl Position {
     }
 
     /// Says whether this place is both below `other` and right of it.
+    ///
+    /// Ported from `tabled::grid::config::Position::has_coverage`.
     pub const fn has_coverage(&self, other: Position) -> bool
         ensures { IsTrue result ↔ ((other.row < self.now.row) × (other.col < self.now.col)) }
     {

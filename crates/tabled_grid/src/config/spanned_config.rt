@@ -46,6 +46,8 @@ impl SpannedConfig {
     }
 
     /// The width of the rectangle that is anchored at a place, if that is above 1.
+    ///
+    /// Ported from `tabled::grid::config::SpannedConfig::get_column_span`.
     pub fn get_column_span(&self, pos: Position) -> Option<usize>
         ensures { SomeIff result (1 < (size_at self.now pos).1) (size_at self.now pos).1 }
     {
@@ -54,6 +56,8 @@ impl SpannedConfig {
     }
 
     /// The height of the rectangle that is anchored at a place, if that is above 1.
+    ///
+    /// Ported from `tabled::grid::config::SpannedConfig::get_row_span`.
     pub fn get_row_span(&self, pos: Position) -> Option<usize>
         ensures { SomeIff result (1 < (size_at self.now pos).0) (size_at self.now pos).0 }
     {
@@ -65,6 +69,8 @@ impl SpannedConfig {
     /// changes nothing. A rectangle of one cell is none.
     ///
     /// Refused for memory, it changes nothing.
+    ///
+    /// Ported from `tabled::grid::config::SpannedConfig::set_column_span`.
     pub fn set_column_span(
         &mut self,
         _alloc: Global,
@@ -85,6 +91,8 @@ impl SpannedConfig {
     /// changes nothing. A rectangle of one cell is none.
     ///
     /// Refused for memory, it changes nothing.
+    ///
+    /// Ported from `tabled::grid::config::SpannedConfig::set_row_span`.
     pub fn set_row_span(
         &mut self,
         _alloc: Global,

@@ -7,8 +7,10 @@ use std::alloc::Global;
 
 /// A cell that can be made empty, which takes no memory.
 pub trait Blank: Drop {
+    /// The cell is empty.
     ghost is_blank: { Self → Type 0 };
 
+    /// An empty cell.
     fn blank(alloc: Global) -> Self
         ensures { is_blank result };
 }

@@ -7,11 +7,14 @@ use crate::records::blank::Blank;
 
 /// A cell that has a text, which is empty in a blank.
 pub trait CellText: Blank {
+    /// The text of a cell, as its bytes.
     ghost text_of: { Self → List ℕ };
 
+    /// The text of the cell.
     fn text(&self) -> &str
         ensures { result.now ≡ text_of self.now };
 
+    /// A blank has no text.
     ghost blank_is_empty: { (cell : Self) → Self.is_blank cell → text_of cell ≡ [] };
 }
 

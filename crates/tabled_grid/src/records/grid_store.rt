@@ -6,6 +6,7 @@ ghost use Rattle.tabled_grid.specs.Grid.{Grid};
 ///
 /// Each call of the record traits asks for a well-formed store and keeps it so.
 pub trait GridStore {
+    /// What its cells are.
     type Cell;
 
     /// The shape, and the rows of cells.

@@ -15,6 +15,8 @@ where
     Self::Cell: CellText,
 {
     /// The text of a cell inside the shape.
+    ///
+    /// Ported from `tabled::grid::records::PeekableRecords::get_text`.
     fn get_text(&self, pos: Position) -> &str
         requires well { Self.is_well_formed self.now }
         requires inside { IsInside (Self.grid self.now) pos }

@@ -19,6 +19,8 @@ where
     /// Writes the text of a cell inside the shape, and changes no other cell.
     ///
     /// Refused for memory, it leaves the store as it was.
+    ///
+    /// Ported from `tabled::grid::records::RecordsMut::set`.
     fn set(&mut self, alloc: Global, pos: Position, text: T) -> Result<(), AllocError>
         requires well { Self.is_well_formed self.old }
         requires inside { IsInside (Self.grid self.old) pos }

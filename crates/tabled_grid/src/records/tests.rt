@@ -62,7 +62,7 @@ fn is_empty<C: CellText>(alloc: Global) -> bool {
     C::blank(alloc).text().is_empty()
 }
 
-/// The first table of the README.
+/// The table of the script in the README.
 fn first_table(alloc: Global) -> Result<VecRecords<Text<String>>, AllocError> {
     let head = vec![in alloc; cell(alloc, "Fruit")?, cell(alloc, "Count")?]?;
     let apple = vec![in alloc; cell(alloc, "Apple")?, cell(alloc, "3")?]?;

@@ -40,6 +40,8 @@ impl Cell {
     ghost use Rattle.std.specs.Prelude.{◌≡◌};
 
     /// The cell in a row and a column.
+    ///
+    /// Ported from `tabled::settings::object::Cell::new`.
     pub fn new(row: usize, col: usize) -> Self
         ensures row { result.row ≡ row }
         ensures col { result.col ≡ col }

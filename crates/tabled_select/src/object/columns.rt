@@ -45,6 +45,8 @@ impl<R: ToBounds> Columns<R> {
     ghost use Rattle.std.specs.Prelude.{◌≡◌};
 
     /// The columns of a range.
+    ///
+    /// Ported from `tabled::settings::object::Columns::new`.
     pub fn new(range: R) -> Self
         ensures { result ≡ range }
     {
@@ -54,6 +56,8 @@ impl<R: ToBounds> Columns<R> {
 
 impl Columns<()> {
     /// One column.
+    ///
+    /// Ported from `tabled::settings::object::Columns::one`.
     pub fn one(index: usize) -> Column
         ensures { result ≡ index }
     {
@@ -61,11 +65,15 @@ impl Columns<()> {
     }
 
     /// The first column.
+    ///
+    /// Ported from `tabled::settings::object::Columns::first`.
     pub fn first() -> FirstColumn {
         FirstColumn
     }
 
     /// The last column.
+    ///
+    /// Ported from `tabled::settings::object::Columns::last`.
     pub fn last() -> LastColumn {
         LastColumn
     }

@@ -14,6 +14,8 @@ use tabled_grid::records::{ExactRecords, Records};
 /// The cells of the first object that the second doesn't name, with the first's repeats. A
 /// contract sees it as the two objects.
 ///
+/// Listing is refused where memory runs out, and for a table of more than `usize::MAX` cells.
+///
 /// Ported from `tabled::settings::object::DiffCombination`.
 #[derive(Copy, Drop)]
 pub struct DiffCombination<L, R, I> {

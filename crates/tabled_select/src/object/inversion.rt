@@ -14,6 +14,8 @@ use tabled_grid::records::{ExactRecords, Records};
 /// The cells of the table that an object doesn't name, row by row. A contract sees it as the
 /// object.
 ///
+/// Listing is refused where memory runs out, and for a table of more than `usize::MAX` cells.
+///
 /// Ported from `tabled::settings::object::InversionCombination`.
 #[derive(Copy, Drop)]
 pub struct InversionCombination<O, I> {

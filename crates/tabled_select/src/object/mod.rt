@@ -51,6 +51,7 @@ pub use union::{UnionCombination, UnionIter};
 ///
 /// Ported from `tabled::settings::object::Object`.
 pub trait Object<R: GridStore> {
+    /// What goes over the named entities.
     type Iter: Iterator<Item = Entity> + Drop;
 
     /// The entities that are named in a store with a grid.
@@ -59,7 +60,11 @@ pub trait Object<R: GridStore> {
     /// The condition of use: a closure may be called on every argument of its kind.
     ghost can_list: { Self → Type 0 };
 
-    /// Goes over the named entities. Refused for memory, it gives nothing else.
+    /// Goes over the named entities, in order.
+    ///
+    /// Refused where memory runs out. The store is only read.
+    ///
+    /// Ported from `tabled::settings::object::Object::cells`.
     fn cells(&self, alloc: Global, records: &R) -> Result<Self::Iter, AllocError>
         requires well { R.is_well_formed records.now }
         requires can { can_list self.now }
@@ -68,6 +73,8 @@ pub trait Object<R: GridStore> {
     /// The cells of both, each once, in the order of their first places: its own, then the other's.
     ///
     /// All are listed as `Cell`. What is named outside the table is left out.
+    ///
+    /// Ported from `tabled::settings::object::Object::and`.
     final fn and<O>(self, rhs: O) -> UnionCombination<Self, O, R>
     where
         Self: Sized,
@@ -79,6 +86,8 @@ pub trait Object<R: GridStore> {
     /// Its own cells that the other doesn't name, in its own order and with its repeats.
     ///
     /// All are listed as `Cell`. What is named outside the table is left out.
+    ///
+    /// Ported from `tabled::settings::object::Object::not`.
     final fn not<O>(self, rhs: O) -> DiffCombination<Self, O, R>
     where
         Self: Sized,
@@ -90,6 +99,8 @@ pub trait Object<R: GridStore> {
     /// Its own cells that the other names too, in its own order and with its repeats.
     ///
     /// All are listed as `Cell`. What is named outside the table is left out.
+    ///
+    /// Ported from `tabled::settings::object::Object::intersect`.
     final fn intersect<O>(self, rhs: O) -> IntersectionCombination<Self, O, R>
     where
         Self: Sized,
@@ -99,6 +110,8 @@ pub trait Object<R: GridStore> {
     }
 
     /// The cells of the table that aren't named, row by row. All are listed as `Cell`.
+    ///
+    /// Ported from `tabled::settings::object::Object::inverse`.
     final fn inverse(self) -> InversionCombination<Self, R>
     where
         Self: Sized,

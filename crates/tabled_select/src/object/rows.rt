@@ -45,6 +45,8 @@ impl<R: ToBounds> Rows<R> {
     ghost use Rattle.std.specs.Prelude.{◌≡◌};
 
     /// The rows of a range.
+    ///
+    /// Ported from `tabled::settings::object::Rows::new`.
     pub fn new(range: R) -> Self
         ensures { result ≡ range }
     {
@@ -54,6 +56,8 @@ impl<R: ToBounds> Rows<R> {
 
 impl Rows<()> {
     /// One row.
+    ///
+    /// Ported from `tabled::settings::object::Rows::one`.
     pub fn one(index: usize) -> Row
         ensures { result ≡ index }
     {
@@ -61,11 +65,15 @@ impl Rows<()> {
     }
 
     /// The first row.
+    ///
+    /// Ported from `tabled::settings::object::Rows::first`.
     pub fn first() -> FirstRow {
         FirstRow
     }
 
     /// The last row.
+    ///
+    /// Ported from `tabled::settings::object::Rows::last`.
     pub fn last() -> LastRow {
         LastRow
     }

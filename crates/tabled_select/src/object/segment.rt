@@ -45,6 +45,8 @@ impl<C: ToBounds, R: ToBounds> Segment<C, R> {
     ghost use Rattle.std.specs.Prelude.{◌≡◌};
 
     /// The cells in both ranges.
+    ///
+    /// Ported from `tabled::settings::object::Segment::new`.
     pub fn new(rows: R, columns: C) -> Self
         ensures { result ≡ (rows, columns) }
     {
@@ -54,6 +56,8 @@ impl<C: ToBounds, R: ToBounds> Segment<C, R> {
 
 impl Segment<RangeFull, RangeFull> {
     /// All cells of a table.
+    ///
+    /// Ported from `tabled::settings::object::Segment::all`.
     pub fn all() -> SegmentAll {
         SegmentAll
     }

@@ -12,7 +12,9 @@ use std::marker::{Model, PhantomData};
 use tabled_grid::config::Entity;
 use tabled_grid::records::{ExactRecords, Records};
 
-/// The cells of two objects, each once. A contract sees it as the two objects.
+/// The cells of two objects inside the table, each once. A contract sees it as the two objects.
+///
+/// Listing is refused where memory runs out, and for a table of more than `usize::MAX` cells.
 ///
 /// Ported from `tabled::settings::object::UnionCombination`.
 #[derive(Copy, Drop)]

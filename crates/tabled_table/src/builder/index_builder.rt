@@ -13,6 +13,14 @@ use tabled_grid::records::Text;
 /// column is taken for it. A contract sees the header, the index, the body, the name of the index,
 /// and whether the index is shown and the table turned; or nothing, where there were no records.
 ///
+/// Of the records `h1 h2`, `a b`, `c d` it builds, with `.` for an empty text,
+///
+/// ```text
+/// . h1 h2
+/// 0 a  b
+/// 1 c  d
+/// ```
+///
 /// Ported from `tabled::builder::IndexBuilder`.
 #[derive(Drop)]
 pub struct IndexBuilder {
@@ -34,7 +42,7 @@ impl IndexBuilder {
     ghost use Rattle.std.specs.String.{string_bytes};
     ghost use Rattle.tabled_grid.specs.Grid.{map_grid, width_of};
     ghost use Rattle.tabled_table.specs.Builder.{AreRecords, row_texts, table_of};
-    ghost use Rattle.tabled_table.specs.Index.{Indexed as Parts, IsIndexed, builder_of, indexed_rows, turned_over, with_column};
+    ghost use Rattle.tabled_table.specs.Index.{Indexed as Parts, IsIndexed, builder_of, indexed_rows, turned_over, with_column_as_index_if_there};
 
     /// The records of a builder, of which the first is the header, with their numbers as the index.
     ///
@@ -64,7 +72,7 @@ impl IndexBuilder {
         })
     }
 
-    /// Leaves the index out of the table that is built.
+    /// Leaves the index out of the table that is built (r x c, not r x c+1). A name still makes a row.
     ///
     /// Ported from `tabled::builder::IndexBuilder::hide`.
     pub fn hide(mut self) -> Self
@@ -76,7 +84,15 @@ impl IndexBuilder {
         self
     }
 
-    /// Gives the index a name, or none.
+    /// Gives the index a name, or none. The name stands first in a row of its own below the header,
+    /// or in the first cell of a table that is turned and shows its index. `name(Some("n"))` makes it
+    ///
+    /// ```text
+    /// . h1 h2
+    /// n .  .
+    /// 0 a  b
+    /// 1 c  d
+    /// ```
     ///
     /// Ported from `tabled::builder::IndexBuilder::name`.
     pub fn name(mut self, name: Option<String>) -> Self
@@ -89,13 +105,20 @@ impl IndexBuilder {
     }
 
     /// Takes a column out as the index, and its header as the name. The index before is lost. Past
-    /// the last column this changes nothing.
+    /// the last column this changes nothing. `column(0)` makes it
+    ///
+    /// ```text
+    /// .  h2
+    /// h1 .
+    /// a  b
+    /// c  d
+    /// ```
     ///
     /// Refused for memory, the builder is dropped.
     ///
     /// Ported from `tabled::builder::IndexBuilder::column`.
     pub fn column(self, alloc: Global, column: usize) -> Result<Self, AllocError>
-        ensures { IfOk result (λ x. x ≡ option_map (with_column column) self) }
+        ensures { IfOk result (λ x. x ≡ option_map (with_column_as_index_if_there column) self) }
     {
         let indexed = match self.indexed {
             Some(indexed) if column < indexed.count_columns() => {
@@ -106,7 +129,13 @@ impl IndexBuilder {
         Ok(IndexBuilder { indexed })
     }
 
-    /// Exchanges the header and the index, and turns the body with them.
+    /// Exchanges the header and the index, and turns the body with them. Of the table above this is
+    ///
+    /// ```text
+    /// .  0 1
+    /// h1 a c
+    /// h2 b d
+    /// ```
     ///
     /// Refused for memory, the builder is dropped.
     ///

@@ -77,18 +77,39 @@ fn turns_the_table(rt: HostRuntime) -> Result<(), Fail> {
     Ok(())
 }
 
+/// The shape of the table that is built.
+fn shape(alloc: Global, index: IndexBuilder) -> Result<(usize, usize), AllocError> {
+    Ok(index.build(alloc)?.shape())
+}
+
+/// The index with the name `n`.
+fn named(alloc: Global, index: IndexBuilder) -> Result<IndexBuilder, AllocError> {
+    Ok(index.name(Some(String::from_str(alloc, "n")?)))
+}
+
+#[test]
+fn builds_from_no_records(rt: HostRuntime) -> Result<(), Fail> {
+    let alloc = rt.alloc();
+    let declared = Builder::with_capacity(alloc, 0, 3)?.index(alloc)?;
+    assert_eq!(rt; shape(alloc, named(alloc, declared)?)?, (0, 0));
+    let empty = IndexBuilder::from_builder(alloc, Builder::new(alloc))?;
+    let turned = empty.column(alloc, 0)?.transpose(alloc)?;
+    assert_eq!(rt; shape(alloc, turned.hide())?, (0, 0));
+    Ok(())
+}
+
 #[test]
 fn builds_from_little(rt: HostRuntime) -> Result<(), Fail> {
     let alloc = rt.alloc();
-    let bare = index(alloc, &["h", "v"])?.column(alloc, 0)?.hide();
-    assert_eq!(rt; bare.build(alloc)?.shape(), (2, 0));
-    let declared = Builder::with_capacity(alloc, 0, 3)?.index(alloc)?;
-    let named = declared.name(Some(String::from_str(alloc, "n")?));
-    assert_eq!(rt; named.build(alloc)?.shape(), (0, 0));
-    let empty = IndexBuilder::from_builder(alloc, Builder::new(alloc))?;
-    let turned = empty.column(alloc, 0)?.transpose(alloc)?;
-    assert_eq!(rt; turned.hide().build(alloc)?.shape(), (0, 0));
-    let header = index(alloc, &["a b"])?.transpose(alloc)?.hide();
-    assert_eq!(rt; header.build(alloc)?.shape(), (3, 0));
+    let taken = index(alloc, &["h", "v"])?.column(alloc, 0)?;
+    assert_eq!(rt; shape(alloc, taken.hide())?, (2, 0));
+    let turned = index(alloc, &["a b"])?.transpose(alloc)?;
+    assert_eq!(rt; shape(alloc, turned.hide())?, (3, 0));
+    let bare = index(alloc, &[""])?;
+    assert_eq!(rt; shape(alloc, bare)?, (0, 0));
+    let hidden = named(alloc, index(alloc, &[""])?)?.hide();
+    assert_eq!(rt; shape(alloc, hidden)?, (1, 0));
+    let shown = named(alloc, index(alloc, &[""])?)?;
+    assert_eq!(rt; rows(alloc, shown)?.as_str(), "_ /n /");
     Ok(())
 }

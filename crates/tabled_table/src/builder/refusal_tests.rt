@@ -4,37 +4,10 @@
 //! run for each N meets each refusal.
 
 use super::Builder;
-use super::tests::{builder, spelled, texts};
+use super::tests::{Call, builder, spelled, texts};
 use std::alloc::{AllocError, Global};
 use std::collections::{BTreeMap, BTreeSet, HashMap, HashSet};
 use std::test::Fail;
-
-/// The calls that leave a builder as it was.
-#[derive(Clone, Copy)]
-enum Call {
-    PushRecord,
-    ExtendRecord,
-    InsertRecord,
-    PushColumn,
-    InsertColumn,
-}
-
-impl Call {
-    fn make(
-        self,
-        alloc: Global,
-        builder: &mut Builder,
-        given: Vec<String>,
-    ) -> Result<(), AllocError> {
-        match self {
-            Call::PushRecord => builder.push_record(alloc, given),
-            Call::ExtendRecord => builder.extend_record(alloc, given),
-            Call::InsertRecord => builder.insert_record(alloc, 0, given),
-            Call::PushColumn => builder.push_column(alloc, given),
-            Call::InsertColumn => builder.insert_column(alloc, 0, given),
-        }
-    }
-}
 
 /// Makes a call, and says whether the builder is as it was if that is refused.
 fn keeps(alloc: Global, call: Call, words: &str) -> Result<bool, AllocError> {
@@ -55,9 +28,9 @@ fn keeps_the_builder_at_a_refusal(rt: HostRuntime) -> Result<(), Fail> {
     for call in [
         Call::PushRecord,
         Call::ExtendRecord,
-        Call::InsertRecord,
+        Call::InsertRecord(1),
         Call::PushColumn,
-        Call::InsertColumn,
+        Call::InsertColumn(1),
     ] {
         for words in ["x", "x y z"] {
             // Where the builder itself is refused, there is nothing to compare.
@@ -69,33 +42,62 @@ fn keeps_the_builder_at_a_refusal(rt: HostRuntime) -> Result<(), Fail> {
     Ok(())
 }
 
-/// Makes the calls that drop what they were given at a refusal.
-fn consume(alloc: Global) -> Result<(), AllocError> {
-    let _declared = Builder::with_capacity(alloc, 2, 2)?;
-    let rows = vec![in alloc; texts(alloc, "a b")?, texts(alloc, "c")?]?;
+/// Makes the calls on rows that drop what they were given at a refusal.
+fn consume_rows(alloc: Global) -> Result<(), AllocError> {
+    let rows = vec![in alloc; texts(alloc, "a b")?]?;
     let strings = Builder::from_strings(alloc, rows)?.into_strings(alloc)?;
     let cells = Builder::from_rows(alloc, strings)?.into_cells();
-    let index = Builder::from_cells(alloc, cells)?.index(alloc)?;
-    let turned = index.column(alloc, 1)?.transpose(alloc)?;
-    let _table = turned.build(alloc)?;
+    Builder::from_cells(alloc, cells)?.build(alloc)?;
+    Ok(())
+}
+
+/// Makes the calls on an index that drop what they were given at a refusal.
+fn consume_index(alloc: Global) -> Result<(), AllocError> {
+    let index = builder(alloc, &["a b", "c"])?.index(alloc)?;
+    index.column(alloc, 1)?.transpose(alloc)?.build(alloc)?;
+    Ok(())
+}
+
+/// Makes the calls on maps that drop what they were given at a refusal.
+fn consume_maps(alloc: Global) -> Result<(), AllocError> {
     let mut sorted = BTreeMap::new(alloc);
     sorted.insert(1, 2)?;
-    let _entries = Builder::from_btree_map(alloc, sorted)?;
+    Builder::from_btree_map(alloc, sorted)?;
     let mut hashed = HashMap::new(alloc);
     hashed.insert(1, 2)?;
-    let _entries = Builder::from_hash_map(alloc, hashed)?;
+    Builder::from_hash_map(alloc, hashed)?;
+    Ok(())
+}
+
+/// Makes the calls on sets that drop what they were given at a refusal.
+fn consume_sets(alloc: Global) -> Result<(), AllocError> {
     let mut sorted = BTreeSet::new(alloc);
     sorted.insert(1)?;
-    let _keys = Builder::from_btree_set(alloc, sorted)?;
+    Builder::from_btree_set(alloc, sorted)?;
     let mut hashed = HashSet::new(alloc);
     hashed.insert(1)?;
-    let _keys = Builder::from_hash_set(alloc, hashed)?;
+    Builder::from_hash_set(alloc, hashed)?;
     Ok(())
+}
+
+/// Makes the calls in turn, up to the first that is refused.
+fn consume(alloc: Global) -> Result<(), AllocError> {
+    Builder::with_capacity(alloc, 2, 2)?;
+    consume_rows(alloc)?;
+    consume_index(alloc)?;
+    consume_maps(alloc)?;
+    consume_sets(alloc)
 }
 
 #[test]
 fn ends_well_at_a_refusal(rt: HostRuntime) -> Result<(), Fail> {
     // With memory this is Ok, and with a refusal it ends all the same.
     let _ = consume(rt.alloc());
+    Ok(())
+}
+
+#[test]
+fn takes_what_it_is_given(rt: HostRuntime) -> Result<(), Fail> {
+    consume(rt.alloc())?;
     Ok(())
 }

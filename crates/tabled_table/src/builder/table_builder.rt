@@ -150,11 +150,12 @@ impl Builder {
         Ok(builder)
     }
 
-    /// The rows.
+    /// The rows, all equally long.
     ///
     /// Ported from `impl From<tabled::builder::Builder> for Vec<Vec<Text<String>>>`.
     pub fn into_cells(self) -> Vec<Vec<Text<String>>>
-        ensures { row_texts result.items ≡ self.rows }
+        ensures rows { row_texts result.items ≡ self.rows }
+        ensures even { AreRecords (width_of (row_texts result.items)) (row_texts result.items) }
     {
         let Builder {
             rows,
@@ -209,11 +210,12 @@ impl Builder {
         IndexBuilder::of_rows(alloc, rows)
     }
 
-    /// The number of declared columns.
+    /// The number of declared columns, which is the length of each record.
     ///
     /// Ported from `tabled::builder::Builder::count_columns`.
     pub fn count_columns(&self) -> usize
-        ensures { result ≡ self.now.columns }
+        ensures count { result ≡ self.now.columns }
+        ensures even { AreRecords self.now.columns self.now.rows }
     {
         self.count_columns
     }
@@ -237,7 +239,13 @@ impl Builder {
     }
 
     /// Adds a record behind the others (r x c to r+1 x max(c, n) for n texts). A shorter one is padded
-    /// with the empty text; for a longer one all others are.
+    /// with the empty text; for a longer one all others are. A record `c d e` behind `a b`
+    /// makes, with `.` for the empty text,
+    ///
+    /// ```text
+    /// a b .
+    /// c d e
+    /// ```
     ///
     /// Refused for memory, it leaves the builder as it was.
     ///
@@ -295,7 +303,12 @@ impl Builder {
 
     /// Adds a column behind the others (r x c to max(r, n) x c+1 for n texts). A row without a text
     /// takes the empty text, and each surplus text makes a new last row of empty texts with the text
-    /// last.
+    /// last. A column `x y` behind `a b` makes
+    ///
+    /// ```text
+    /// a b x
+    /// . . y
+    /// ```
     ///
     /// Refused for memory, or past `usize::MAX` columns, it leaves the builder as it was.
     ///
@@ -376,7 +389,13 @@ impl Builder {
     }
 
     /// Takes the columns out whose cells are all `""`, and then the rows whose cells are all `""`.
-    /// Without rows no columns are left. It takes no memory.
+    /// Without rows no columns are left. It takes no memory. With `.` for `""`,
+    /// `a . b / . . . / c . .` is then
+    ///
+    /// ```text
+    /// a b
+    /// c .
+    /// ```
     ///
     /// Ported from `tabled::builder::Builder::clean`.
     pub fn clean(&mut self)

@@ -25,6 +25,36 @@ pub(super) fn builder(alloc: Global, records: &[&str]) -> Result<Builder, AllocE
     Ok(builder)
 }
 
+/// The calls that put something into a builder.
+#[derive(Clone, Copy)]
+pub(super) enum Call {
+    PushRecord,
+    ExtendRecord,
+    InsertRecord(usize),
+    PushColumn,
+    InsertColumn(usize),
+}
+
+impl Call {
+    /// Makes the call, at the end where there is no such place.
+    pub(super) fn make(
+        self,
+        alloc: Global,
+        builder: &mut Builder,
+        given: Vec<String>,
+    ) -> Result<(), AllocError> {
+        let records = builder.count_records();
+        let columns = builder.count_columns();
+        match self {
+            Call::PushRecord => builder.push_record(alloc, given),
+            Call::ExtendRecord => builder.extend_record(alloc, given),
+            Call::InsertRecord(i) => builder.insert_record(alloc, i.min(records), given),
+            Call::PushColumn => builder.push_column(alloc, given),
+            Call::InsertColumn(j) => builder.insert_column(alloc, j.min(columns), given),
+        }
+    }
+}
+
 /// The records of a builder, each as words and a slash.
 pub(super) fn spelled(alloc: Global, builder: Builder) -> Result<String, AllocError> {
     let mut spelled = String::new(alloc);
@@ -38,18 +68,29 @@ pub(super) fn spelled(alloc: Global, builder: Builder) -> Result<String, AllocEr
     Ok(spelled)
 }
 
+/// The records that a call makes of others, given words.
+fn after(alloc: Global, records: &[&str], call: Call, words: &str) -> Result<String, AllocError> {
+    let mut builder = builder(alloc, records)?;
+    builder.set_empty(String::from_str(alloc, "-")?);
+    call.make(alloc, &mut builder, texts(alloc, words)?)?;
+    spelled(alloc, builder)
+}
+
 #[test]
 fn pads_records(rt: HostRuntime) -> Result<(), Fail> {
     let alloc = rt.alloc();
     let mut padded = Builder::new(alloc);
-    padded.set_empty(String::from_str(alloc, "-")?);
-    padded.push_record(alloc, texts(alloc, "a b")?)?;
-    padded.push_record(alloc, texts(alloc, "c")?)?;
-    padded.extend_record(alloc, texts(alloc, "d e f")?)?;
+    for (empty, call, words) in [
+        ("-", Call::PushRecord, "a b"),
+        ("-", Call::PushRecord, "c"),
+        ("-", Call::PushRecord, "d e f"),
+        ("", Call::InsertRecord(0), ""),
+    ] {
+        padded.set_empty(String::from_str(alloc, empty)?);
+        call.make(alloc, &mut padded, texts(alloc, words)?)?;
+    }
     assert_eq!(rt; padded.count_columns(), 3);
-    assert_eq!(rt; padded.count_records(), 3);
-    padded.set_empty(String::new(alloc));
-    padded.insert_record(alloc, 0, texts(alloc, "")?)?;
+    assert_eq!(rt; padded.count_records(), 4);
     assert_eq!(rt;
         spelled(alloc, padded)?.as_str(),
         "_ _ _ /a b - /c - - /d e f /"
@@ -58,54 +99,88 @@ fn pads_records(rt: HostRuntime) -> Result<(), Fail> {
 }
 
 #[test]
-fn builds_tables(rt: HostRuntime) -> Result<(), Fail> {
+fn puts_texts_in(rt: HostRuntime) -> Result<(), Fail> {
     let alloc = rt.alloc();
-    let mut languages = Builder::new(alloc);
-    for record in [["C", "Dennis Ritchie", "1972"], ["Go", "Rob Pike", "2009"]] {
-        let mut texts = Vec::new(alloc);
-        for text in &record {
-            texts.push(String::from_str(alloc, *text)?)?;
-        }
-        languages.push_record(alloc, texts)?;
+    for (call, words, want) in [
+        (Call::PushRecord, "x", "a b /c _ /x - /"),
+        (Call::ExtendRecord, "x y z", "a b - /c _ - /x y z /"),
+        (Call::InsertRecord(0), "x", "x - /a b /c _ /"),
+        (Call::InsertRecord(1), "x y z", "a b - /x y z /c _ - /"),
+        (Call::InsertRecord(2), "", "a b /c _ /- - /"),
+        (Call::PushColumn, "x y z", "a b x /c _ y /- - z /"),
+        (Call::PushColumn, "x", "a b x /c _ - /"),
+        (Call::InsertColumn(0), "x", "x a b /- c _ /"),
+        (Call::InsertColumn(1), "x y z", "a x b /c y _ /"),
+        (Call::InsertColumn(2), "", "a b - /c _ - /"),
+    ] {
+        let spelled = after(alloc, &["a b", "c _"], call, words)?;
+        assert_eq!(rt; spelled.as_str(), want);
     }
-    let table = languages.build(alloc)?;
-    assert_eq!(rt; table.shape(), (2, 3));
-    assert_eq!(rt; table.count_rows(), 2);
-    assert_eq!(rt; table.count_columns(), 3);
-    assert_eq!(rt;
-        table.get_records().get(Position::new(1, 1)).as_str(),
-        "Rob Pike"
-    );
-    assert_eq!(rt;
-        table.get_config().get_column_span(Position::new(0, 0)),
-        None
-    );
-    let declared = Builder::with_capacity(alloc, 2, 3)?;
-    assert_eq!(rt; declared.count_columns(), 3);
-    assert_eq!(rt; declared.build(alloc)?.shape(), (0, 0));
     Ok(())
 }
 
 #[test]
-fn puts_columns_in(rt: HostRuntime) -> Result<(), Fail> {
+fn refuses_more_columns_than_a_number_counts(rt: HostRuntime) -> Result<(), Fail> {
     let alloc = rt.alloc();
-    let mut longer = builder(alloc, &["a", "b"])?;
-    longer.push_column(alloc, texts(alloc, "x y z")?)?;
-    assert_eq!(rt; spelled(alloc, longer)?.as_str(), "a x /b y /_ z /");
-    let mut shorter = builder(alloc, &["a", "b"])?;
-    shorter.insert_column(alloc, 0, texts(alloc, "p")?)?;
-    assert_eq!(rt; spelled(alloc, shorter)?.as_str(), "p a /_ b /");
-    let mut surplus = builder(alloc, &["a", "b"])?;
-    surplus.insert_column(alloc, 0, texts(alloc, "p q r")?)?;
-    assert_eq!(rt; spelled(alloc, surplus)?.as_str(), "p a /q b /");
     let mut full = Builder::with_capacity(alloc, 0, usize::MAX)?;
-    assert_eq!(rt; full.push_column(alloc, texts(alloc, "")?), Err(AllocError));
-    assert_eq!(rt;
-        full.insert_column(alloc, 0, texts(alloc, "a")?),
-        Err(AllocError)
-    );
-    assert_eq!(rt; full.count_columns(), usize::MAX);
-    assert_eq!(rt; full.count_records(), 0);
+    for (call, words) in [
+        (Call::PushRecord, ""),
+        (Call::ExtendRecord, "a"),
+        (Call::InsertRecord(0), "a"),
+        (Call::PushColumn, ""),
+        (Call::InsertColumn(0), "a"),
+    ] {
+        let done = call.make(alloc, &mut full, texts(alloc, words)?);
+        assert_eq!(rt; done, Err(AllocError));
+        assert_eq!(rt; full.count_columns(), usize::MAX);
+        assert_eq!(rt; full.count_records(), 0);
+    }
+    Ok(())
+}
+
+const LANGUAGES: [[&str; 3]; 2] = [["C", "Dennis Ritchie", "1972"], ["Go", "Rob Pike", "2009"]];
+
+/// A builder of the languages.
+fn languages(alloc: Global) -> Result<Builder, AllocError> {
+    let mut languages = Builder::new(alloc);
+    for record in &LANGUAGES {
+        let mut texts = Vec::new(alloc);
+        for text in record {
+            texts.push(String::from_str(alloc, *text)?)?;
+        }
+        languages.push_record(alloc, texts)?;
+    }
+    Ok(languages)
+}
+
+#[test]
+fn builds_tables(rt: HostRuntime) -> Result<(), Fail> {
+    let alloc = rt.alloc();
+    let table = languages(alloc)?.build(alloc)?;
+    assert!(rt; table.shape() == (2, 3));
+    assert_eq!(rt; table.count_rows(), 2);
+    assert_eq!(rt; table.count_columns(), 3);
+    for (row, record) in LANGUAGES.iter().enumerate() {
+        for (col, text) in record.iter().enumerate() {
+            let pos = Position::new(row, col);
+            assert!(rt; row < table.count_rows() && col < table.count_columns());
+            assert_eq!(rt; table.get_records().get(pos).as_str(), *text);
+            assert_eq!(rt; table.get_config().get_column_span(pos), None);
+            assert_eq!(rt; table.get_config().get_row_span(pos), None);
+        }
+    }
+    Ok(())
+}
+
+#[test]
+fn keeps_the_columns_declared(rt: HostRuntime) -> Result<(), Fail> {
+    let alloc = rt.alloc();
+    let declared = Builder::with_capacity(alloc, 2, 3)?;
+    assert_eq!(rt; declared.count_columns(), 3);
+    assert_eq!(rt; declared.build(alloc)?.shape(), (0, 0));
+    let mut cleaned = Builder::with_capacity(alloc, 0, 3)?;
+    cleaned.clean();
+    assert_eq!(rt; cleaned.count_columns(), 0);
     Ok(())
 }
 
@@ -118,18 +193,6 @@ fn takes_records_and_columns_out(rt: HostRuntime) -> Result<(), Fail> {
     cut.remove_record(0);
     assert_eq!(rt; cut.count_columns(), 2);
     assert_eq!(rt; spelled(alloc, cut)?.as_str(), "d f /");
-    let mut clean = builder(alloc, &["_ a", "_ _"])?;
-    clean.clean();
-    assert_eq!(rt; clean.count_columns(), 1);
-    assert_eq!(rt; spelled(alloc, clean)?.as_str(), "a /");
-    let mut declared = Builder::with_capacity(alloc, 0, 3)?;
-    declared.clean();
-    assert_eq!(rt; declared.count_columns(), 0);
-    let mut padded = builder(alloc, &["a _ b", "_ _ _"])?;
-    padded.set_empty(String::from_str(alloc, "-")?);
-    padded.push_record(alloc, texts(alloc, "c")?)?;
-    padded.clean();
-    assert_eq!(rt; spelled(alloc, padded)?.as_str(), "a _ b /c - - /");
     let mut cleared = builder(alloc, &["a"])?;
     cleared.clear();
     assert_eq!(rt; cleared.count_columns(), 0);
@@ -138,29 +201,67 @@ fn takes_records_and_columns_out(rt: HostRuntime) -> Result<(), Fail> {
 }
 
 #[test]
-fn takes_rows_whole(rt: HostRuntime) -> Result<(), Fail> {
+fn cleans(rt: HostRuntime) -> Result<(), Fail> {
     let alloc = rt.alloc();
-    let rows = vec![in alloc; texts(alloc, "a b")?, texts(alloc, "c")?, texts(alloc, "")?]?;
-    assert_eq!(rt;
-        spelled(alloc, Builder::from_strings(alloc, rows)?)?.as_str(),
-        "a b /c _ /_ _ /"
-    );
-    let rows = vec![in alloc; texts(alloc, "a")?, texts(alloc, "b c")?]?;
-    assert_eq!(rt;
-        spelled(alloc, Builder::from_rows(alloc, rows)?)?.as_str(),
-        "a _ /b c /"
-    );
-    let cell = Text::new(String::from_str(alloc, "a")?);
-    let cells = vec![in alloc; vec![in alloc; cell]?, Vec::new(alloc)]?;
+    for (records, width, want) in [
+        (["_ a", "_ _"], 1, "a /"),
+        (["a _ b", "_ _ _"], 2, "a b /"),
+        (["a _", "_ b"], 2, "a _ /_ b /"),
+        (["_ _", "_ _"], 0, ""),
+    ] {
+        let mut cleaned = builder(alloc, &records)?;
+        cleaned.clean();
+        assert_eq!(rt; cleaned.count_columns(), width);
+        assert_eq!(rt; spelled(alloc, cleaned)?.as_str(), want);
+    }
+    Ok(())
+}
+
+#[test]
+fn cleans_no_padding(rt: HostRuntime) -> Result<(), Fail> {
+    let alloc = rt.alloc();
+    let mut padded = builder(alloc, &["a _ b", "_ _ _"])?;
+    padded.set_empty(String::from_str(alloc, "-")?);
+    padded.push_record(alloc, texts(alloc, "c")?)?;
+    padded.clean();
+    assert_eq!(rt; spelled(alloc, padded)?.as_str(), "a _ b /c - - /");
+    Ok(())
+}
+
+/// A row of a cell of a text.
+fn row(alloc: Global, text: &str) -> Result<Vec<Text<String>>, AllocError> {
+    Ok(vec![in alloc; Text::new(String::from_str(alloc, text)?)]?)
+}
+
+#[test]
+fn takes_rows_of_texts(rt: HostRuntime) -> Result<(), Fail> {
+    let alloc = rt.alloc();
+    let mut rows = Vec::new(alloc);
+    let mut same_rows = Vec::new(alloc);
+    for words in ["a b", "c", ""] {
+        rows.push(texts(alloc, words)?)?;
+        same_rows.push(texts(alloc, words)?)?;
+    }
+    let want = "a b /c _ /_ _ /";
+    let strings = Builder::from_strings(alloc, rows)?;
+    assert_eq!(rt; spelled(alloc, strings)?.as_str(), want);
+    let records = Builder::from_rows(alloc, same_rows)?;
+    assert_eq!(rt; spelled(alloc, records)?.as_str(), want);
+    Ok(())
+}
+
+#[test]
+fn takes_rows_of_cells(rt: HostRuntime) -> Result<(), Fail> {
+    let alloc = rt.alloc();
+    let mut cells = Vec::new(alloc);
+    cells.push(row(alloc, "a")?)?;
+    cells.push(Vec::new(alloc))?;
     let uneven = Builder::from_cells(alloc, cells)?;
     assert_eq!(rt; uneven.count_columns(), 1);
-    let rows = uneven.into_cells();
-    assert_eq!(rt; rows.len(), 2);
+    let even = Builder::from_vec(alloc, uneven.into_cells());
+    assert_eq!(rt; spelled(alloc, even)?.as_str(), "a /_ /");
     let none: Vec<Vec<Text<String>>> = Vec::new(alloc);
     assert_eq!(rt; Builder::from_vec(alloc, none).count_records(), 0);
-    let cell = Text::new(String::from_str(alloc, "b")?);
-    let even = Builder::from_vec(alloc, vec![in alloc; vec![in alloc; cell]?]?);
-    assert_eq!(rt; spelled(alloc, even)?.as_str(), "b /");
     Ok(())
 }
 

@@ -11,8 +11,9 @@ use crate::{
 };
 use std::alloc::{AllocError, Global};
 use std::test::Fail;
-use tabled_grid::config::{Entity, Position};
+use tabled_grid::config::{Entity, Position, SpannedConfig};
 use tabled_grid::records::{GridStore, Text, VecRecords};
+use tabled_select::object::{Cell, Columns, Object, Rows, Segment};
 
 type Store = VecRecords<Text<String>>;
 
@@ -97,29 +98,88 @@ fn cell_hint_of<O: CellOption<Store, Log>>(option: &O) -> Option<Entity> {
     option.hint_change()
 }
 
+/// What an option makes of the table `a b / c d`.
+fn table_after<O>(alloc: Global, option: O) -> Result<String, AllocError>
+where
+    O: TableOption<Store, SpannedConfig, ()> + Drop,
+    requires { O.can_change option }
+{
+    let mut table = Table::from_records(alloc, two_rows(alloc)?);
+    table.with(alloc, option)?;
+    spelled(alloc, table.get_records())
+}
+
+/// What a text on what an object lists makes of the table `a b / c d`.
+fn table_modified<O>(alloc: Global, object: O) -> Result<String, AllocError>
+where
+    O: Object<Store> + Drop,
+    requires { O.can_list object }
+{
+    let mut table = Table::from_records(alloc, two_rows(alloc)?);
+    table.modify(alloc, object, TextRef("x"))?;
+    spelled(alloc, table.get_records())
+}
+
+/// What an option on cells makes of the store `a b / c d`.
+fn store_after<O>(alloc: Global, option: O, entity: Entity) -> Result<String, AllocError>
+where
+    O: CellOption<Store, ()> + Drop,
+    requires { O.can_change option }
+{
+    let mut store = two_rows(alloc)?;
+    apply_to(alloc, option, &mut store, &mut (), entity)?;
+    spelled(alloc, &store)
+}
+
 #[test]
 fn changes_tables(rt: HostRuntime) -> Result<(), Fail> {
     let alloc = rt.alloc();
-    let mut table = Table::from_records(alloc, two_rows(alloc)?);
-    let row = [Entity::Row(1)];
     let settings = Settings::empty()
-        .modify(Position::new(0, 0), TextRef("x"))
-        .modify(Named(&row), TextRef("y"));
-    table.with(alloc, settings)?;
-    assert_eq!(rt; spelled(alloc, table.get_records())?.as_str(), "x b /y y /");
-    table.modify(alloc, Position::new(0, 1), String::from_str(alloc, "z")?)?;
-    assert_eq!(rt; spelled(alloc, table.get_records())?.as_str(), "x z /y y /");
-    let settings: Settings<EmptySettings, EmptySettings> = Settings::default();
-    table.with(alloc, settings)?;
-    table.with(alloc, EmptySettings)?;
-    assert_eq!(rt; spelled(alloc, table.get_records())?.as_str(), "x z /y y /");
-    let both = Modify::new(Position::new(1, 0))
+        .modify(Cell::new(0, 0), TextRef("x"))
+        .modify(Rows::one(1), TextRef("y"));
+    assert_eq!(rt; table_after(alloc, settings)?.as_str(), "x b /y y /");
+    let none: Settings = Settings::default();
+    assert_eq!(rt; table_after(alloc, none)?.as_str(), "a b /c d /");
+    assert_eq!(rt; table_after(alloc, EmptySettings)?.as_str(), "a b /c d /");
+    let both = Modify::new(Columns::one(1))
         .with(TextRef("u"))
         .with(TextRef("v"));
-    table.with(alloc, both)?;
-    assert_eq!(rt; spelled(alloc, table.get_records())?.as_str(), "x z /v y /");
-    table.modify(alloc, Position::new(2, 0), TextRef("w"))?;
-    assert_eq!(rt; spelled(alloc, table.get_records())?.as_str(), "x z /v y /");
+    assert_eq!(rt; table_after(alloc, both)?.as_str(), "a v /c v /");
+    Ok(())
+}
+
+#[test]
+fn changes_what_objects_list(rt: HostRuntime) -> Result<(), Fail> {
+    let alloc = rt.alloc();
+    assert_eq!(rt; table_modified(alloc, (0, 1))?.as_str(), "a x /c d /");
+    assert_eq!(rt;
+        table_modified(alloc, Position::new(2, 0))?.as_str(),
+        "a b /c d /"
+    );
+    assert_eq!(rt;
+        table_modified(alloc, Segment::all())?.as_str(),
+        "x x /x x /"
+    );
+    let rows = [Entity::Row(0), Entity::Row(0), Entity::Cell(5, 5)];
+    assert_eq!(rt; table_modified(alloc, Named(&rows))?.as_str(), "x x /c d /");
+    Ok(())
+}
+
+#[test]
+fn changes_cells(rt: HostRuntime) -> Result<(), Fail> {
+    let alloc = rt.alloc();
+    for (entity, want) in [
+        (Entity::Row(1), "a b /y y /"),
+        (Entity::Column(1), "a y /c y /"),
+        (Entity::Cell(0, 0), "y b /c d /"),
+        (Entity::Cell(0, 2), "a b /c d /"),
+        (Entity::Global, "y y /y y /"),
+    ] {
+        let text = String::from_str(alloc, "y")?;
+        assert_eq!(rt; store_after(alloc, text, entity)?.as_str(), want);
+        let both = Settings::new(TextRef("z"), TextRef("y"));
+        assert_eq!(rt; store_after(alloc, both, entity)?.as_str(), want);
+    }
     Ok(())
 }
 
@@ -136,32 +196,6 @@ fn goes_over_each_entity_listed(rt: HostRuntime) -> Result<(), Fail> {
     assert_eq!(rt; logged(alloc, listed, 9)?.as_str(), "aaaa");
     let listed = Modify::list(Named(&[]), Letter::new('a'));
     assert_eq!(rt; logged(alloc, listed, 9)?.as_str(), "");
-
-    let mut store = two_rows(alloc)?;
-    apply(
-        alloc,
-        Modify::list(Named(&entities[..3]), TextRef("x")),
-        &mut store,
-        &mut (),
-        &mut (),
-    )?;
-    assert_eq!(rt; spelled(alloc, &store)?.as_str(), "x x /c d /");
-    apply_to(
-        alloc,
-        String::from_str(alloc, "y")?,
-        &mut store,
-        &mut (),
-        Entity::Column(1),
-    )?;
-    assert_eq!(rt; spelled(alloc, &store)?.as_str(), "x y /c y /");
-    apply_to(
-        alloc,
-        Settings::new(TextRef("z"), TextRef("w")),
-        &mut store,
-        &mut (),
-        Entity::Row(1),
-    )?;
-    assert_eq!(rt; spelled(alloc, &store)?.as_str(), "x y /w w /");
     Ok(())
 }
 

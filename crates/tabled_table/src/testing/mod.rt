@@ -2,10 +2,12 @@
 
 mod letter;
 mod named;
+mod push_row;
 mod refusing;
 
 pub(crate) use letter::{CountedCopies, Letter, Log};
 pub(crate) use named::Named;
+pub(crate) use push_row::PushRow;
 pub(crate) use refusing::Refusing;
 use std::alloc::{AllocError, Global};
 use tabled_grid::config::Position;

@@ -40,7 +40,11 @@ impl<T> Model for VecRecords<T> {
 }
 
 impl<T: Drop> VecRecords<T> {
-    /// Makes a store of rows, which have to be equally long.
+    /// Makes a store of rows (r x c, or 0 x 0 without rows), which have to be equally long.
+    ///
+    /// Refused for memory, it drops the rows.
+    ///
+    /// Ported from `tabled::grid::records::vec_records::VecRecords::new`.
     pub fn new(_alloc: Global, rows: Vec<Vec<T>>) -> Result<Self, AllocError>
         requires { IsGrid (grid_of (map_items rows.items)) }
         ensures { IfOk result (λ store. store ≡ grid_of (map_items rows.items)) }
@@ -56,6 +60,10 @@ impl<T: Drop> VecRecords<T> {
     }
 
     /// Takes the rows out.
+    ///
+    /// Refused for memory, it drops them.
+    ///
+    /// Ported from `impl From<VecRecords<T>> for Vec<Vec<T>>`.
     pub fn into_rows(self, _alloc: Global) -> Result<Vec<Vec<T>>, AllocError>
         ensures { IfOk result (λ rows. map_items rows.items ≡ self.cells) }
     {
@@ -74,7 +82,7 @@ impl<T: Drop> VecRecords<T> {
 }
 
 impl<T> VecRecords<T> {
-    /// The cell at a place inside the shape.
+    /// The cell at a place inside the shape. It stands for `[row][col]`.
     pub fn get(&self, pos: Position) -> &T
         requires { IsInside self.now pos }
         ensures { cell_at self.now pos ≡ Some result.now }
@@ -83,7 +91,7 @@ impl<T> VecRecords<T> {
         &row[pos.col]
     }
 
-    /// The cells of a row below the number of rows.
+    /// The cells of a row below the number of rows. It stands for `[row]`.
     pub fn row(&self, i: usize) -> &[T]
         requires { i < self.now.rows }
         ensures { slice_get self.now.cells i ≡ Some result.now }

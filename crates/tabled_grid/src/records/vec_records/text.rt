@@ -24,12 +24,18 @@ impl<S> Model for Text<S> {
 }
 
 impl<S> Text<S> {
+    /// A cell of a text.
+    ///
+    /// Ported from `tabled::grid::records::vec_records::Text::new`.
     pub fn new(text: S) -> Self
         ensures { result ≡ text }
     {
         Text { text }
     }
 
+    /// The text, taken out of its cell.
+    ///
+    /// Ported from `tabled::grid::records::vec_records::Text::into_inner`.
     pub fn into_inner(self) -> S
         ensures { result ≡ self }
     {
@@ -39,6 +45,7 @@ impl<S> Text<S> {
 }
 
 impl<S: CellText> Text<S> {
+    /// The text.
     pub fn as_str(&self) -> &str
         ensures { result.now ≡ S.text_of self.now }
     {

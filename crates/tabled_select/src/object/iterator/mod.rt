@@ -20,6 +20,8 @@ use tabled_grid::records::GridStore;
 /// Ported from `tabled::settings::object::ObjectIterator`.
 pub trait ObjectIterator<R: GridStore>: Object<R> {
     /// Leaves out the first entities.
+    ///
+    /// Ported from `tabled::settings::object::ObjectIterator::skip`.
     final fn skip(self, n: usize) -> SkipObject<Self, R>
     where
         Self: Sized,
@@ -29,6 +31,8 @@ pub trait ObjectIterator<R: GridStore>: Object<R> {
     }
 
     /// Keeps the entities 0, n, 2n and so on, and none where n is 0.
+    ///
+    /// Ported from `tabled::settings::object::ObjectIterator::step_by`.
     final fn step_by(self, n: usize) -> StepByObject<Self, R>
     where
         Self: Sized,
@@ -38,6 +42,8 @@ pub trait ObjectIterator<R: GridStore>: Object<R> {
     }
 
     /// Keeps the entities for which the closure says yes.
+    ///
+    /// Ported from `tabled::settings::object::ObjectIterator::filter`.
     final fn filter<F>(self, predicate: F) -> FilterObject<Self, F, R>
     where
         Self: Sized,

@@ -64,7 +64,7 @@ impl<O: Object<R>, R: GridStore> Object<R> for StepByObject<O, R> {
     }
 }
 
-/// Gives every n-th of what an iterator gives, or nothing.
+/// Gives every n-th of what an iterator gives, the first one included, or nothing.
 ///
 /// Ported from `tabled::settings::object::StepByObjectIter`.
 #[derive(Drop)]

@@ -1,4 +1,4 @@
-use Rattle.std.proofs.Common.{◌≤◌, ◌∙◌, String, ap, sym, arith, length, map}
+use Rattle.std.proofs.Common.{◌≤◌, ◌∙◌, String, ap, sym, arith, map}
 use Rattle.std.specs.Global.{Global, Vec}
 use Rattle.std.specs.String.{string_bytes}
 use Rattle.std.proofs.lemmas.List.{length-map}

@@ -1,4 +1,3 @@
-use Rattle.std.proofs.Common.{◌≡◌, ◌-◌, List, ℕ, ◌++◌, length}
 use Rattle.std.specs.Vec.Iter.{into_iter_items}
 use Rattle.tabled_table.specs.Builder.{row_texts}
 use Rattle.tabled_table.proofs.Transposed.{Transposes}

@@ -1,6 +1,4 @@
-use Rattle.std.proofs.Common.{◌∙◌, ap, map, length}
-use Rattle.std.specs.String.{string_bytes}
-use Rattle.tabled_table.specs.Builder.{AreRecords, row_texts}
+use Rattle.std.proofs.Common.{◌∙◌, ap}
 use Rattle.tabled_table.specs.Index.{numbers}
 use Rattle.tabled_table.proofs.Indexed.{IsIndexed-numbers}
 use Rattle.tabled_table.proofs.RowTexts.{vec_len-texts, vec_len-rows}
