@@ -1,11 +1,17 @@
 -- What iterators made of iterators give.
-use Rattle.std.proofs.Common.{rules, ◌≡◌, ℕ, zero, suc, ◌+◌, ◌≤◌, Bool, true, false, cond, IsTrue, List, [], ◌∷◌, ◌++◌, Option, None, Some, refl, sym, ap, ap₂, subst, ◌∙◌, map, length, arith}
+use Rattle.std.proofs.Common.{rules, ◌≡◌, ℕ, zero, suc, ◌+◌, ◌-◌, ◌*◌, ◌%◌, ◌≤◌, Bool, true, false, cond, IsTrue, List, [], ◌∷◌, ◌++◌, Option, None, Some, refl, sym, ap, ap₂, subst, ◌∙◌, map, length, arith}
 use Rattle.std.proofs.iter.Yields.{gives_left}
+use Rattle.std.proofs.Math.Nat.{mul-mod_left}
+use Rattle.std.proofs.lemmas.Bool.{ne_eqb}
 use Rattle.std.proofs.lemmas.List.{append-nil, length-map}
+use Rattle.std.proofs.lemmas.Nat.{mod-mul-add}
 use Rattle.std.specs.Iterator.{AlwaysYields}
 use Rattle.std.specs.Iterator.Adapters.{step_by_first_take, step_by_gap, step_by_source, step_by_steps}
+use Rattle.std.specs.List.{enumerate_from, filter}
+use Rattle.std.specs.Prelude.{◌==◌}
 use Rattle.std.specs.declared.iter.StepBy.{StepBy}
-use Rattle.tabled_select.specs.Steps.{StepsIfAny, every, every_from}
+use Rattle.tabled_select.specs.Steps.{every}
+use Rattle.tabled_select.specs.Walks.{StepsIfAny}
 
 abbrev head : {B : Type 0} → B → List B → B
 head d [] = d
@@ -37,6 +43,23 @@ gives-any {S} {A} steps v (y ∷ all) s gives = (
   (λ t p. gives.0 p.0 p.2),
   λ x t p. let next = gives.1 x p.0 p.2 in (next.0, subst (λ (u : Option S). AlwaysYields (StepsIfAny steps) v u all) (sym p.1) (gives-any steps v all p.0 next.1)),
 )
+
+-- the members at the places k, k + 1 + n, k + 2 (1 + n) and so on
+abbrev every_from : {A : Type 0} → ℕ → ℕ → List A → List A
+every_from n k [] = []
+every_from n zero (x ∷ xs) = x ∷ every_from n n xs
+every_from n (suc k) (x ∷ xs) = every_from n k xs
+
+-- of places from i on, those that 1 + n divides: the first such place is i + k
+every-from : {A : Type 0} (n k i q : ℕ) (xs : List A) → k ≤ n → i + k ≡ q * suc n → map (λ p. p.1) (filter (λ p. p.0 % suc n == 0) (enumerate_from i xs)) ≡ every_from n k xs
+every-from n k i q [] h e = refl
+every-from n zero i q (x ∷ xs) h e =
+    let divides : i % suc n ≡ 0 = ap (λ m. m % suc n) (omega (arith, e)) ∙ mul-mod_left q (suc n) in
+    rw divides (ap (λ ys. x ∷ ys) (every-from n n (i + 1) (q + 1) xs (omega arith) (omega (arith, e))))
+every-from n (suc k) i zero (x ∷ xs) h e = absurd (omega (arith, e))
+every-from n (suc k) i (suc q) (x ∷ xs) h e =
+    let rest : i % suc n ≡ n - k = ap (λ m. m % suc n) (omega (arith, e)) ∙ mod-mul-add q (suc n) (n - k) (omega arith) in
+    rw (rest, ne_eqb (n - k) 0 (λ z. omega arith)) (every-from n k (i + 1) (suc q) xs (omega arith) (omega (arith, e)))
 
 module _ {B : Type 0} (gap : ℕ) where
   -- too few members for the gap
@@ -98,5 +121,5 @@ pub every_from-fresh : {B : Type 0} (n gap : ℕ) (first : Bool) (all : List B) 
 every_from-fresh zero gap first all e t = absurd (omega arith)
 every_from-fresh (suc n) gap true all e t =
     let same : gap ≡ n = omega arith in
-    ap (λ k. every_from k 0 all) same
+    ap (λ k. every_from k 0 all) same ∙ sym (every-from n 0 0 0 all (omega arith) (omega arith))
 every_from-fresh (suc n) gap false all e t = absurd (search rules)

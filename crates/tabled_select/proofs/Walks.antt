@@ -6,7 +6,8 @@ use Rattle.tabled_grid.proofs.Places.{block-no_columns, block-no_rows, drop-plac
 use Rattle.tabled_grid.specs.Entity.{block, place}
 use Rattle.tabled_grid.specs.declared.config.entity.Entity.TheVariants.{Cell}
 use Rattle.tabled_select.specs.Algebra.{cells_of}
-use Rattle.tabled_select.specs.Selectors.{Sector, sector_left, FrameWalk, frame, frame_left, on_edge}
+use Rattle.tabled_select.specs.Selectors.{frame, on_edge}
+use Rattle.tabled_select.specs.Walks.{FrameWalk, Sector, frame_left, sector_left}
 
 -- one place of a block after another
 pub sector-next : (s : Sector) → s.row < s.end_row → s.first_col ≤ s.col → s.col < s.end_col → cells_of (sector_left s) ≡ Cell s.row s.col ∷ cells_of (sector_left (record s { col = s.col + 1 }))

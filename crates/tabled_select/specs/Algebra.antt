@@ -14,7 +14,7 @@ flat entities rows columns = flat_map (λ e. inside e rows columns) entities
 abbrev pub cells_of : List Position → List Entity
 cells_of = map (λ (p : Position). Cell p.row p.col)
 
--- two places are one
+-- two places are in the same row and the same column
 abbrev pub same_place : Position → Position → Bool
 same_place p q = (p.row == q.row) && (p.col == q.col)
 

@@ -3,3 +3,4 @@ pub mod Listed
 pub mod Marks
 pub mod Selectors
 pub mod Steps
+pub mod Walks

@@ -1,9 +1,9 @@
 -- What selectors name.
-use Rattle.std.specs.Prelude.{◌≡◌, ◌<◌, ℕ, ◌+◌, ◌-◌, ◌^◌, Bool, true, ◌==◌, ◌||◌, if◌then◌else◌, List, [], ◌∷◌, drop, map, nat_lt}
+use Rattle.std.specs.Prelude.{ℕ, ◌+◌, ◌-◌, ◌^◌, Bool, ◌==◌, ◌||◌, if◌then◌else◌, List, [], ◌∷◌, map, nat_lt}
 use Rattle.std.specs.List.{filter}
 use Rattle.std.specs.declared.ops.Bound.{Bound}
 use Rattle.tabled_grid.specs.Bounds.{end_index, first_index}
-use Rattle.tabled_grid.specs.Entity.{block, inside, place}
+use Rattle.tabled_grid.specs.Entity.{block, inside}
 use Rattle.tabled_grid.specs.declared.config.position.Position.{Position}
 use Rattle.tabled_grid.specs.declared.config.entity.Entity.{Entity}
 use Rattle.tabled_grid.specs.declared.config.entity.Entity.TheVariants.{Column, Global, Row}
@@ -39,18 +39,6 @@ everything = Global ∷ []
 abbrev pub segment : (Bound ℕ × Bound ℕ) → (Bound ℕ × Bound ℕ) → ℕ → ℕ → List Position
 segment down across rows columns = block (first_index down.0) (end_index down.1 rows) (first_index across.0) (end_index across.1 columns)
 
--- where a walk over a block stands, and where it ends
-pub record Sector : Type 0 where
-  pub row : ℕ
-  pub end_row : ℕ
-  pub col : ℕ
-  pub first_col : ℕ
-  pub end_col : ℕ
-
--- the places that are left of a walk over a block
-abbrev pub sector_left : Sector → List Position
-sector_left s = drop (s.col - s.first_col) (block s.row s.end_row s.first_col s.end_col)
-
 -- a place is in the first or last row or column of a table
 abbrev pub on_edge : ℕ → ℕ → Position → Bool
 on_edge rows columns p = (p.row == 0) || (p.row == rows - 1) || (p.col == 0) || (p.col == columns - 1)
@@ -58,18 +46,3 @@ on_edge rows columns p = (p.row == 0) || (p.row == rows - 1) || (p.col == 0) || 
 -- the places on the edge of a table, row by row
 abbrev pub frame : ℕ → ℕ → List Position
 frame rows columns = filter (on_edge rows columns) (inside Global rows columns)
-
--- where a walk over the edge of a table stands
-pub record FrameWalk : Type 0 where
-  pub rows : ℕ
-  pub columns : ℕ
-  pub row : ℕ
-  pub col : ℕ
-
--- the places that are left of a walk over the edge of a table
-abbrev pub frame_left : FrameWalk → List Position
-frame_left s = filter (on_edge s.rows s.columns) (drop s.col (block s.row s.rows 0 s.columns))
-
--- a walk over the edge of a table stands there until it ends
-abbrev pub StandsOnEdge : ℕ → ℕ → ℕ → ℕ → Type 0
-StandsOnEdge rows columns row col = row < rows → 0 < columns → (col < columns) × (on_edge rows columns (place row col) ≡ true)

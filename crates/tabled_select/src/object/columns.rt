@@ -233,7 +233,8 @@ impl Sub<usize> for LastColumn {
     }
 }
 
-/// The column so far right of the last one, which no table has but where it is the last one itself.
+/// The column so far right of the last one. It is outside the table unless `n` is 0, and past
+/// `usize::MAX` there is none.
 impl Add<usize> for LastColumn {
     type Output = LastColumnOffset;
 
@@ -251,8 +252,8 @@ impl Add<usize> for LastColumn {
 
 /// One column, counted from the last. A contract sees it as how far before or past that it is.
 ///
-/// A table without columns has none, and there is none before the first column. It is named also in a
-/// table without rows. `Columns::last() - 1` is
+/// A table without columns has none, and there is none before the first column or past `usize::MAX`.
+/// It is named also in a table without rows. `Columns::last() - 1` is
 ///
 /// ```text
 /// . x .

@@ -3,7 +3,8 @@
 ghost use Rattle.std.specs.Prelude.{◌≡◌};
 ghost use Rattle.std.specs.Iterator.{YieldsFirst, item_count};
 ghost use Rattle.tabled_select.specs.Algebra.{cells_of};
-ghost use Rattle.tabled_select.specs.Selectors.{frame, frame_left};
+ghost use Rattle.tabled_select.specs.Selectors.{frame};
+ghost use Rattle.tabled_select.specs.Walks.{frame_left};
 
 use crate::object::Object;
 use std::alloc::{AllocError, Global};
@@ -50,7 +51,7 @@ pub struct FrameIter {
 }
 
 impl Model for FrameIter {
-    ghost use Rattle.tabled_select.specs.Selectors.{FrameWalk, StandsOnEdge};
+    ghost use Rattle.tabled_select.specs.Walks.{FrameWalk, StandsOnEdge};
 
     ghost Value = { FrameWalk };
 

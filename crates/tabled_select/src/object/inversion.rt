@@ -17,7 +17,7 @@ use tabled_grid::records::{ExactRecords, Records};
 /// Listing is refused where memory runs out, and for a table of more than `usize::MAX` cells.
 ///
 /// Ported from `tabled::settings::object::InversionCombination`.
-#[derive(Drop)]
+#[derive(Copy, Drop)]
 pub struct InversionCombination<O, I> {
     object: O,
     records: PhantomData<I>,
@@ -27,6 +27,8 @@ impl<O, I> Model for InversionCombination<O, I> {
     ghost Value = { O };
 
     ghost view = { λ a. a.object };
+
+    ghost inverse = { λ object. record { object = object; records = record {} } };
 }
 
 impl<O, I> InversionCombination<O, I> {
@@ -46,7 +48,9 @@ impl<O, I> Clone for InversionCombination<O, I>
 where
     O: Clone,
 {
-    ghost is_clone = { λ a b. O.is_clone a b };
+    ghost is_clone = { O.is_clone };
+
+    ghost is_infallible = { O.is_infallible };
 
     fn clone(&self) -> Result<Self, AllocError> {
         Ok(InversionCombination::new(self.object.clone()?))

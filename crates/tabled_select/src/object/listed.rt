@@ -9,7 +9,9 @@ use tabled_grid::records::GridStore;
 
 /// The entities that an object names in a store, in order.
 ///
-/// Refused where memory runs out.
+/// Refused where memory runs out, it gives no part of them. Object and store are only read.
+///
+/// Our own.
 pub fn entities<R: GridStore, O: Object<R>>(
     alloc: Global,
     object: &O,

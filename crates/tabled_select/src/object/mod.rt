@@ -70,7 +70,9 @@ pub trait Object<R: GridStore> {
         requires can { can_list self.now }
         ensures lists { IfOk result (λ iter. (entities : List Entity) × lists self.now (R.grid records.now) entities × ListsAll Self.Iter.can_next Self.Iter.next_gives Self.Iter.remaining iter entities) };
 
-    /// The cells of both inside the table, each once.
+    /// The cells of both, each once, in the order of their first places: its own, then the other's.
+    ///
+    /// All are listed as `Cell`. What is named outside the table is left out.
     ///
     /// Ported from `tabled::settings::object::Object::and`.
     final fn and<O>(self, rhs: O) -> UnionCombination<Self, O, R>
@@ -80,7 +82,10 @@ pub trait Object<R: GridStore> {
     {
         UnionCombination::new(self, rhs)
     }
-    /// The cells inside the table that the other doesn't name, with repeats.
+
+    /// Its own cells that the other doesn't name, in its own order and with its repeats.
+    ///
+    /// All are listed as `Cell`. What is named outside the table is left out.
     ///
     /// Ported from `tabled::settings::object::Object::not`.
     final fn not<O>(self, rhs: O) -> DiffCombination<Self, O, R>
@@ -91,7 +96,9 @@ pub trait Object<R: GridStore> {
         DiffCombination::new(self, rhs)
     }
 
-    /// The cells inside the table that the other names too, with repeats.
+    /// Its own cells that the other names too, in its own order and with its repeats.
+    ///
+    /// All are listed as `Cell`. What is named outside the table is left out.
     ///
     /// Ported from `tabled::settings::object::Object::intersect`.
     final fn intersect<O>(self, rhs: O) -> IntersectionCombination<Self, O, R>
@@ -102,7 +109,7 @@ pub trait Object<R: GridStore> {
         IntersectionCombination::new(self, rhs)
     }
 
-    /// The cells of the table that aren't named.
+    /// The cells of the table that aren't named, row by row. All are listed as `Cell`.
     ///
     /// Ported from `tabled::settings::object::Object::inverse`.
     final fn inverse(self) -> InversionCombination<Self, R>

@@ -233,7 +233,8 @@ impl Sub<usize> for LastRow {
     }
 }
 
-/// The row so far below the last one, which no table has but where it is the last one itself.
+/// The row so far below the last one. It is outside the table unless `n` is 0, and past `usize::MAX`
+/// there is none.
 impl Add<usize> for LastRow {
     type Output = LastRowOffset;
 
@@ -251,7 +252,8 @@ impl Add<usize> for LastRow {
 
 /// One row, counted from the last. A contract sees it as how far before or past that it is.
 ///
-/// A table without cells has none, and there is none before the first row. `Rows::last() - 1` is
+/// A table without cells has none, and there is none before the first row or past `usize::MAX`.
+/// `Rows::last() - 1` is
 ///
 /// ```text
 /// . . .

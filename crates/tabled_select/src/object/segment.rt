@@ -4,7 +4,8 @@ ghost use Rattle.std.specs.Prelude.{◌≡◌};
 ghost use Rattle.std.specs.Iterator.{YieldsFirst, item_count};
 ghost use Rattle.tabled_grid.specs.Entity.{block};
 ghost use Rattle.tabled_select.specs.Algebra.{cells_of};
-ghost use Rattle.tabled_select.specs.Selectors.{everything, sector_left, segment};
+ghost use Rattle.tabled_select.specs.Selectors.{everything, segment};
+ghost use Rattle.tabled_select.specs.Walks.{sector_left};
 
 use crate::object::Object;
 use crate::object::cell::EntityOnce;
@@ -121,7 +122,7 @@ pub struct SectorIter {
 
 impl Model for SectorIter {
     ghost use Rattle.std.specs.Prelude.{◌<◌, ◌≤◌};
-    ghost use Rattle.tabled_select.specs.Selectors.{Sector};
+    ghost use Rattle.tabled_select.specs.Walks.{Sector};
 
     ghost Value = { Sector };
 

@@ -1,6 +1,6 @@
 //! What each object names, in tables of blanks.
 
-use super::{Cell, Column, Columns, Frame, LastColumnOffset, Object, Row, Rows, Segment};
+use super::{Cell, Column, Columns, Frame, LastColumnOffset, Object, Row, Rows, Segment, entities};
 use std::alloc::{AllocError, Global};
 use std::ops::Bound;
 use std::process::Abort;
@@ -24,19 +24,13 @@ fn blanks<T: Blank>(
     Ok(store)
 }
 
-fn numbers(alloc: Global, rows: usize, columns: usize) -> Result<VecRecords<usize>, AllocError> {
+/// A table of zeros.
+pub(super) fn numbers(
+    alloc: Global,
+    rows: usize,
+    columns: usize,
+) -> Result<VecRecords<usize>, AllocError> {
     blanks(alloc, rows, columns)
-}
-
-/// The entities that an object names.
-fn entities<R, O>(alloc: Global, object: &O, records: &R) -> Result<Vec<Entity>, AllocError>
-where
-    R: GridStore,
-    O: Object<R>,
-    requires well { R.is_well_formed records.now }
-    requires can { O.can_list object.now }
-{
-    object.cells(alloc, records)?.collect(alloc)
 }
 
 /// The entities that an object names, as words: `all`, `c0` for a column, `r0` for a row, `0:0` for a cell.
@@ -64,7 +58,7 @@ where
 }
 
 /// Asserts what an object names, in words.
-fn assert_named<R, O>(
+pub(super) fn assert_named<R, O>(
     rt: &impl Abort,
     alloc: Global,
     object: O,

@@ -17,7 +17,7 @@ use tabled_grid::records::{ExactRecords, Records};
 /// Listing is refused where memory runs out, and for a table of more than `usize::MAX` cells.
 ///
 /// Ported from `tabled::settings::object::UnionCombination`.
-#[derive(Drop)]
+#[derive(Copy, Drop)]
 pub struct UnionCombination<L, R, I> {
     lhs: L,
     rhs: R,
@@ -28,6 +28,8 @@ impl<L, R, I> Model for UnionCombination<L, R, I> {
     ghost Value = { L × R };
 
     ghost view = { λ a. (a.lhs, a.rhs) };
+
+    ghost inverse = { λ v. record { lhs = v.0; rhs = v.1; records = record {} } };
 }
 
 impl<L, R, I> UnionCombination<L, R, I> {
@@ -50,6 +52,8 @@ where
     R: Clone,
 {
     ghost is_clone = { λ a b. L.is_clone a.0 b.0 × R.is_clone a.1 b.1 };
+
+    ghost is_infallible = { λ a. L.is_infallible a.0 × R.is_infallible a.1 };
 
     fn clone(&self) -> Result<Self, AllocError> {
         Ok(UnionCombination::new(self.lhs.clone()?, self.rhs.clone()?))

@@ -77,7 +77,7 @@ impl<I: Iterator<Item = Entity>> Iterator for StepByObjectIter<I> {
 
     ghost use Rattle.std.specs.Prelude.{IfSome};
     ghost use Rattle.std.specs.Iterator.Adapters.{step_by_source, step_by_steps};
-    ghost use Rattle.tabled_select.specs.Steps.{StepsIfAny, left_if_any};
+    ghost use Rattle.tabled_select.specs.Walks.{StepsIfAny, left_if_any};
 
     ghost can_next = { λ s. IfSome s.entities (λ entities. I.can_next (step_by_source entities)) };
 

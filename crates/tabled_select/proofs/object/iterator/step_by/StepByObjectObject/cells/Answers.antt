@@ -1,6 +1,7 @@
 use Rattle.std.proofs.Common.{[], refl}
 use Rattle.std.specs.Iterator.Adapters.{step_by_steps}
-use Rattle.tabled_select.specs.Steps.{StepsIfAny, every}
+use Rattle.tabled_select.specs.Steps.{every}
+use Rattle.tabled_select.specs.Walks.{StepsIfAny}
 use Rattle.tabled_select.proofs.Stepped.{every_from-fresh, gives-any, gives-every, gives-inside, some_none}
 use Rattle.tabled_select.proofs.object.iterator.step_by.StepByObjectObject.cells.Goals as goal
 
