@@ -1,9 +1,9 @@
-use Rattle.std.proofs.Common.{◌≡◌, ◌∙◌, String, ap, map, sym}
+use Rattle.std.proofs.Common.{◌∙◌, String, ap, map, sym}
 use Rattle.std.specs.Global.{Global, Vec}
 use Rattle.std.specs.String.{string_bytes}
 use Rattle.std.proofs.lemmas.Result.{IfOk-weaker}
 use Rattle.std.proofs.lemmas.Simd.{map-map}
-use Rattle.tabled_grid.specs.Grid.{map_grid, map_items}
+use Rattle.tabled_grid.specs.Grid.{map_grid}
 use Rattle.tabled_table.specs.Builder.{from_uneven, table_of}
 use Rattle.tabled_script.specs.Answer.{output_of}
 use Rattle.tabled_script.specs.Output.{print}
