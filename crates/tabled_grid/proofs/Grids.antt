@@ -11,7 +11,7 @@ use Rattle.std.proofs.lemmas.Option.{slice_get-map, slice_get-get_or, slice_get_
 use Rattle.std.proofs.lemmas.Bool.{cases_eq}
 use Rattle.std.proofs.Math.ListN.{get_or-map}
 use Rattle.tabled_grid.specs.declared.config.position.Position.{Position}
-use Rattle.tabled_grid.specs.Grid.{Grid, IsGrid, IsInside, map_grid, cell_at, with_cell, map_items, rows_grid, WritesText}
+use Rattle.tabled_grid.specs.Grid.{Grid, IsEven, IsInside, map_grid, cell_at, with_cell, map_items, rows_grid, WritesText}
 use Rattle.tabled_grid.specs.Entity.{place}
 
 -- what f gives of a grid with another cell
@@ -29,8 +29,8 @@ wide-set n [] i j x a = a
 wide-set n (row ∷ rows) zero j x a = (length-set row j x ∙ a.0, a.1)
 wide-set n (row ∷ rows) (suc i) j x a = (a.0, wide-set n rows i j x a.1)
 
-pub IsGrid-with_cell : {A : Type 0} (g : Grid A) (p : Position) (x : A) → IsGrid g → IsGrid (with_cell g p x)
-IsGrid-with_cell g p x h = record {
+pub IsEven-with_cell : {A : Type 0} (g : Grid A) (p : Position) (x : A) → IsEven g → IsEven (with_cell g p x)
+IsEven-with_cell g p x h = record {
   tall = length-set g.cells p.row _ ∙ h.tall;
   wide = wide-set g.columns g.cells p.row p.col x h.wide;
 }
@@ -39,8 +39,8 @@ wide-map : {A B : Type 0} (f : A → B) (n : ℕ) (rows : List (List A)) → All
 wide-map f n [] a = tt
 wide-map f n (row ∷ rows) a = (length-map row f ∙ a.0, wide-map f n rows a.1)
 
-pub IsGrid-map_grid : {A B : Type 0} (f : A → B) (g : Grid A) → IsGrid g → IsGrid (map_grid f g)
-IsGrid-map_grid f g h = record { tall = length-map g.cells (map f) ∙ h.tall; wide = wide-map f g.columns g.cells h.wide }
+pub IsEven-map_grid : {A B : Type 0} (f : A → B) (g : Grid A) → IsEven g → IsEven (map_grid f g)
+IsEven-map_grid f g h = record { tall = length-map g.cells (map f) ∙ h.tall; wide = wide-map f g.columns g.cells h.wide }
 
 -- what f gives of the cell at a place
 pub cell_at-map_grid : {A B : Type 0} (f : A → B) (g : Grid A) (p : Position) → cell_at (map_grid f g) p ≡ option_map f (cell_at g p)
@@ -65,7 +65,7 @@ row-set_same (row ∷ rows) zero j k x h = slice_get-set_other row j k x h
 row-set_same (row ∷ rows) (suc i) j k x h = row-set_same rows i j k x h
 
 -- the cell that was put at a place, and the cells at the others
-pub cell_at-with_cell_same : {A : Type 0} (g : Grid A) (p : Position) (x : A) → IsGrid g → IsInside g p → cell_at (with_cell g p x) p ≡ Some x
+pub cell_at-with_cell_same : {A : Type 0} (g : Grid A) (p : Position) (x : A) → IsEven g → IsInside g p → cell_at (with_cell g p x) p ≡ Some x
 cell_at-with_cell_same g p x h i =
     let below : p.row < length g.cells = omega (arith, h.tall, i.row) in
     let wide : length (get_or g.cells p.row []) ≡ g.columns = All-from_recursion _ _ h.wide p.row [] below in
@@ -86,7 +86,7 @@ pub texts_written : {A : Type 0} (text_of : A → List ℕ) (old new : Grid A) (
 texts_written text_of old new p text w = ap (map_grid text_of) w.is ∙ map_grid-with_cell text_of old p w.cell ∙ ap (with_cell (map_grid text_of old) p) w.has
 
 -- the row at p of the rows that vectors hold
-module _ {A : Type 0} (columns : ℕ) (lines : Vec (Vec A)) (p : Position) (row : Vec A) (even : IsGrid (rows_grid columns lines)) (inside : IsInside (rows_grid columns lines) p) (is : row ≡ get_or lines.items p.row row) where
+module _ {A : Type 0} (columns : ℕ) (lines : Vec (Vec A)) (p : Position) (row : Vec A) (even : IsEven (rows_grid columns lines)) (inside : IsInside (rows_grid columns lines) p) (is : row ≡ get_or lines.items p.row row) where
   row_items : get_or (map_items lines.items) p.row [] ≡ row.items
   row_items = get_or-map_within (λ (v : Vec A). v.items) lines.items p.row row [] (omega (arith, lines.ok.0, inside.row)) ∙ ap (λ (v : Vec A). v.items) (sym is)
 

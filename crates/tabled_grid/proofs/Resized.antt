@@ -10,33 +10,33 @@ use Rattle.std.proofs.lemmas.List.Elements.{All-from_recursion}
 use Rattle.std.proofs.Math.ListN.{get_or-map}
 use Rattle.std.proofs.lemmas.Slice.Zip.{length-zip}
 use Rattle.tabled_grid.specs.declared.config.position.Position.{Position}
-use Rattle.tabled_grid.specs.Grid.{Grid, IsGrid, cell_at, map_items, rows_grid}
+use Rattle.tabled_grid.specs.Grid.{Grid, IsEven, cell_at, map_items, rows_grid}
 use Rattle.tabled_grid.specs.Resized.{with_row, with_column, with_rows_swapped, with_columns_swapped, with_cell_if, with_cells_swapped, without_row, without_column}
-use Rattle.tabled_grid.proofs.Grids.{IsGrid-with_cell}
+use Rattle.tabled_grid.proofs.Grids.{IsEven-with_cell}
 use Rattle.tabled_grid.proofs.Lists.{map-remove, all-insert, all-remove, all-swap, all-zip, all-map}
 
 -- a row is so long
 abbrev IsWide : {A : Type 0} → ℕ → List A → Type 0
 IsWide n row = length row ≡ n
 
-module _ {A : Type 0} (g : Grid A) (even : IsGrid g) where
-  pub IsGrid-with_row : (i : ℕ) (row : List A) → i ≤ g.rows → length row ≡ g.columns → IsGrid (with_row g i row)
-  IsGrid-with_row i row h w = record {
+module _ {A : Type 0} (g : Grid A) (even : IsEven g) where
+  pub IsEven-with_row : (i : ℕ) (row : List A) → i ≤ g.rows → length row ≡ g.columns → IsEven (with_row g i row)
+  IsEven-with_row i row h w = record {
     tall = length-insert g.cells i row (omega (arith, even.tall)) ∙ ap (λ n. n + 1) even.tall;
     wide = all-insert (IsWide g.columns) g.cells i row even.wide w;
   }
 
-  pub IsGrid-with_rows_swapped : (i k : ℕ) → IsGrid (with_rows_swapped g i k)
-  IsGrid-with_rows_swapped i k = record { tall = length-swap g.cells i k ∙ even.tall; wide = all-swap (IsWide g.columns) g.cells i k even.wide }
+  pub IsEven-with_rows_swapped : (i k : ℕ) → IsEven (with_rows_swapped g i k)
+  IsEven-with_rows_swapped i k = record { tall = length-swap g.cells i k ∙ even.tall; wide = all-swap (IsWide g.columns) g.cells i k even.wide }
 
-  pub IsGrid-with_columns_swapped : (j k : ℕ) → IsGrid (with_columns_swapped g j k)
-  IsGrid-with_columns_swapped j k = record {
+  pub IsEven-with_columns_swapped : (j k : ℕ) → IsEven (with_columns_swapped g j k)
+  IsEven-with_columns_swapped j k = record {
     tall = length-map g.cells _ ∙ even.tall;
     wide = all-map (IsWide g.columns) (IsWide g.columns) _ (λ row w. length-swap row j k ∙ w) g.cells even.wide;
   }
 
-  pub IsGrid-without_column : (j : ℕ) → j < g.columns → IsGrid (without_column g j)
-  IsGrid-without_column j h = record {
+  pub IsEven-without_column : (j : ℕ) → j < g.columns → IsEven (without_column g j)
+  IsEven-without_column j h = record {
     tall = length-map g.cells _ ∙ even.tall;
     wide = all-map (IsWide g.columns) (IsWide (g.columns - 1)) _ (λ row w. omega (arith, length-remove row j (omega (arith, w)), w)) g.cells even.wide;
   }
@@ -47,8 +47,8 @@ wide_if true n m rows none a = rw (none refl) tt
 wide_if false n m rows none a = a
 
 module _ {A : Type 0} where
-  pub IsGrid-without_row : (g : Grid A) (i : ℕ) → i < g.rows → IsGrid g → IsGrid (without_row g i)
-  IsGrid-without_row g i h even =
+  pub IsEven-without_row : (g : Grid A) (i : ℕ) → i < g.rows → IsEven g → IsEven (without_row g i)
+  IsEven-without_row g i h even =
       let tall : length (remove g.cells i) ≡ g.rows - 1 = omega (arith, length-remove g.cells i (omega (arith, even.tall)), even.tall) in
       record {
         tall = tall;
@@ -57,8 +57,8 @@ module _ {A : Type 0} where
             (all-remove (IsWide g.columns) g.cells i even.wide);
       }
 
-  pub IsGrid-with_column : (g : Grid A) (j : ℕ) (column : List A) → j ≤ g.columns → length column ≡ g.rows → IsGrid g → IsGrid (with_column g j column)
-  IsGrid-with_column g j column h tall even =
+  pub IsEven-with_column : (g : Grid A) (j : ℕ) (column : List A) → j ≤ g.columns → length column ≡ g.rows → IsEven g → IsEven (with_column g j column)
+  IsEven-with_column g j column h tall even =
       let long : length (map (λ (p : List A × A). insert p.0 j p.1) (zip g.cells column)) ≡ g.rows = omega (arith, length-map (zip g.cells column) (λ (p : List A × A). insert p.0 j p.1), length-zip g.cells column, even.tall, tall) in
       record {
         tall = long;
@@ -67,15 +67,15 @@ module _ {A : Type 0} where
             (all-map (λ (p : List A × A). IsWide g.columns p.0) (IsWide (g.columns + 1)) _ (λ p w. omega (arith, length-insert p.0 j p.1 (omega (arith, w)), w)) _ (all-zip (IsWide g.columns) g.cells column even.wide));
       }
 
-  pub IsGrid-with_cell_if : (g : Grid A) (p : Position) (cell : Option A) → IsGrid g → IsGrid (with_cell_if g p cell)
-  IsGrid-with_cell_if g p None even = even
-  IsGrid-with_cell_if g p (Some x) even = IsGrid-with_cell g p x even
+  pub IsEven-with_cell_if : (g : Grid A) (p : Position) (cell : Option A) → IsEven g → IsEven (with_cell_if g p cell)
+  IsEven-with_cell_if g p None even = even
+  IsEven-with_cell_if g p (Some x) even = IsEven-with_cell g p x even
 
-  pub IsGrid-with_cells_swapped : (g : Grid A) (p q : Position) → IsGrid g → IsGrid (with_cells_swapped g p q)
-  IsGrid-with_cells_swapped g p q even = IsGrid-with_cell_if _ q (cell_at g p) (IsGrid-with_cell_if g p (cell_at g q) even)
+  pub IsEven-with_cells_swapped : (g : Grid A) (p q : Position) → IsEven g → IsEven (with_cells_swapped g p q)
+  IsEven-with_cells_swapped g p q even = IsEven-with_cell_if _ q (cell_at g p) (IsEven-with_cell_if g p (cell_at g q) even)
 
 -- what holds of the number of columns holds of each row that a vector holds
-pub each_wide : {A : Type 0} (P : ℕ → Type 0) (columns : ℕ) (lines : Vec (Vec A)) → IsGrid (rows_grid columns lines) → P columns → All (λ (row : Vec A). P (vec_len row)) lines.items
+pub each_wide : {A : Type 0} (P : ℕ → Type 0) (columns : ℕ) (lines : Vec (Vec A)) → IsEven (rows_grid columns lines) → P columns → All (λ (row : Vec A). P (vec_len row)) lines.items
 each_wide {A} P columns lines even h i d within =
     let lists : List (List A) = map_items lines.items in
     let long : length (get_or lists i d.items) ≡ columns = All-from_recursion _ _ even.wide i d.items (omega (arith, length-map lines.items (λ (v : Vec A). v.items))) in

@@ -10,8 +10,8 @@ pub record Grid (A : Type 0) : Type 0 where
   pub columns : ℕ
   pub cells : List (List A)
 
--- as many rows as the shape says, and in each as many cells
-pub record IsGrid {A : Type 0} (g : Grid A) : Type 0 where
+-- as many rows as the shape says, and each row as many cells
+pub record IsEven {A : Type 0} (g : Grid A) : Type 0 where
   pub tall : length g.cells ≡ g.rows
   pub wide : AllByRecursion (λ (row : List A). length row ≡ g.columns) g.cells
 

@@ -5,7 +5,7 @@ use Rattle.std.specs.List.{AllByRecursion}
 use Rattle.std.specs.String.{string_bytes}
 use Rattle.std.proofs.lemmas.List.{length-map}
 use Rattle.std.proofs.lemmas.Simd.{map-map}
-use Rattle.tabled_grid.specs.Grid.{IsGrid, grid_of, map_grid, map_items, width_of}
+use Rattle.tabled_grid.specs.Grid.{IsEven, grid_of, map_grid, map_items, width_of}
 use Rattle.tabled_table.specs.Builder.{AreRecords, Builder, row_texts, table_of}
 
 row_width : (row : Vec (String Global)) → length row.items ≡ length (map string_bytes row.items)
@@ -22,8 +22,8 @@ wide : (n : ℕ) (rows : List (Vec (String Global))) → AreRecords n (row_texts
 wide n [] even = tt
 wide n (row ∷ rows) even = wide-rows n (width_of (map_items (row ∷ rows))) (row ∷ rows) (sym (width-rows n row rows even)) even
 
-pub IsGrid-rows : (n : ℕ) (rows : List (Vec (String Global))) → AreRecords n (row_texts rows) → IsGrid (grid_of (map_items rows))
-IsGrid-rows n rows even = record { tall = refl; wide = wide n rows even }
+pub IsEven-rows : (n : ℕ) (rows : List (Vec (String Global))) → AreRecords n (row_texts rows) → IsEven (grid_of (map_items rows))
+IsEven-rows n rows even = record { tall = refl; wide = wide n rows even }
 
 cells-rows : (rows : List (Vec (String Global))) → map (map string_bytes) (map_items rows) ≡ row_texts rows
 cells-rows rows = map-map (map string_bytes) (λ (row : Vec (String Global)). row.items) rows

@@ -1,7 +1,7 @@
 //! Stores that know their rows.
 
 ghost use Rattle.std.specs.Prelude.{◌≡◌};
-ghost use Rattle.tabled_grid.specs.Grid.{IsGrid};
+ghost use Rattle.tabled_grid.specs.Grid.{IsEven};
 
 use crate::records::grid_store::GridStore;
 
@@ -15,5 +15,5 @@ pub trait ExactRecords: GridStore {
     fn count_rows(&self) -> usize
         requires { Self.is_well_formed self.now }
         ensures rows { result ≡ (Self.grid self.now).rows }
-        ensures even { IsGrid (Self.grid self.now) };
+        ensures even { IsEven (Self.grid self.now) };
 }

@@ -1,7 +1,7 @@
 //! Stores that know their columns.
 
 ghost use Rattle.std.specs.Prelude.{◌≡◌, Some};
-ghost use Rattle.tabled_grid.specs.Grid.{IsGrid};
+ghost use Rattle.tabled_grid.specs.Grid.{IsEven};
 
 use crate::records::grid_store::GridStore;
 
@@ -15,7 +15,7 @@ pub trait Records: GridStore {
     fn count_columns(&self) -> usize
         requires { Self.is_well_formed self.now }
         ensures columns { result ≡ (Self.grid self.now).columns }
-        ensures even { IsGrid (Self.grid self.now) };
+        ensures even { IsEven (Self.grid self.now) };
 
     /// The number of rows, which every store knows.
     ///

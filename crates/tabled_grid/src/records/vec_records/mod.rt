@@ -6,7 +6,7 @@ mod tests;
 mod text;
 
 ghost use Rattle.std.specs.Prelude.{◌≡◌, ◌<◌, Some, slice_get, IfOk, vec_len};
-ghost use Rattle.tabled_grid.specs.Grid.{Grid, IsGrid, IsInside, cell_at, grid_of, map_items, with_cell};
+ghost use Rattle.tabled_grid.specs.Grid.{Grid, IsEven, IsInside, cell_at, grid_of, map_items, with_cell};
 
 use crate::config::Position;
 use crate::records::cell_text::CellText;
@@ -29,14 +29,14 @@ pub struct VecRecords<T> {
 }
 
 impl<T> Model for VecRecords<T> {
-    ghost use Rattle.tabled_grid.specs.Grid.{Grid, IsEmptyWithoutRows, IsGrid, rows_grid};
+    ghost use Rattle.tabled_grid.specs.Grid.{Grid, IsEmptyWithoutRows, IsEven, rows_grid};
     ghost use Rattle.std.specs.Prelude.{vec_len};
 
     ghost Value = { Grid T };
 
     ghost view = { λ a. rows_grid a.columns a.lines };
 
-    ghost invariant = { λ a. IsGrid (rows_grid a.columns a.lines) × IsEmptyWithoutRows (rows_grid a.columns a.lines) };
+    ghost invariant = { λ a. IsEven (rows_grid a.columns a.lines) × IsEmptyWithoutRows (rows_grid a.columns a.lines) };
 }
 
 impl<T: Drop> VecRecords<T> {
@@ -46,7 +46,7 @@ impl<T: Drop> VecRecords<T> {
     ///
     /// Ported from `tabled::grid::records::vec_records::VecRecords::new`.
     pub fn new(_alloc: Global, rows: Vec<Vec<T>>) -> Result<Self, AllocError>
-        requires { IsGrid (grid_of (map_items rows.items)) }
+        requires { IsEven (grid_of (map_items rows.items)) }
         ensures { IfOk result (λ store. store ≡ grid_of (map_items rows.items)) }
     {
         let columns = match rows.first() {

@@ -2,7 +2,7 @@ use Rattle.std.proofs.Common.{◌≡◌, ◌<◌, ◌≤◌, refl, sym, length, 
 use Rattle.std.proofs.lemmas.Grind.{common_steps}
 use Rattle.std.proofs.lemmas.Option.{slice_get_within}
 use Rattle.std.specs.Vec.{with_items}
-use Rattle.tabled_grid.proofs.Blanks.{IsGrid-inserts_column, column_put}
+use Rattle.tabled_grid.proofs.Blanks.{IsEven-inserts_column, column_put}
 use Rattle.tabled_grid.proofs.Resized.{each_wide}
 use Rattle.tabled_grid.proofs.records.vec_records.resizable.VecRecordsResizable.insert_column.Goals as goal
 
@@ -21,6 +21,6 @@ pub invariant_of-self-in-Some : goal.invariant_of-self-in-Some
 invariant_of-self-in-Some g c =
     let new = with_items c.self.inside.lines c.insert_blanks.new.rows in
     let some : 0 < length new.items = slice_get_within new.items 0 c.in-Some.row.now (sym (rw c.deref.ensures.value at c.in-Some.ensures.value)) in (
-      IsGrid-inserts_column g.T.Blank.is_blank c.args.self.now _ c.args.j c.requires.within (returns-in-Some-clause-ok g c) (rw (← c.self.view_is) c.self.invariant.0),
+      IsEven-inserts_column g.T.Blank.is_blank c.args.self.now _ c.args.j c.requires.within (returns-in-Some-clause-ok g c) (rw (← c.self.view_is) c.self.invariant.0),
       λ none. absurd (omega (arith, none, new.ok.0, some)),
     )

@@ -3,7 +3,7 @@ use Rattle.std.proofs.lemmas.Grind.{common_steps}
 use Rattle.std.specs.Vec.{with_items}
 use Rattle.tabled_grid.specs.Grid.{rows_grid}
 use Rattle.tabled_grid.specs.Resized.{with_columns_swapped}
-use Rattle.tabled_grid.proofs.Resized.{IsGrid-with_columns_swapped, each_wide}
+use Rattle.tabled_grid.proofs.Resized.{IsEven-with_columns_swapped, each_wide}
 use Rattle.tabled_grid.proofs.records.vec_records.resizable.VecRecordsResizable.swap_column.Goals as goal
 
 pub swap_each-requires-clause-j_within : goal.swap_each-requires-clause-j_within
@@ -15,4 +15,4 @@ swap_each-requires-clause-k_within g c = rw c.deref_mut.ensures.value (each_wide
 pub invariant_of-self : goal.invariant_of-self
 invariant_of-self g c =
     let is : rows_grid c.self.inside.columns (with_items c.self.inside.lines c.swap_each.new.rows) ≡ with_columns_swapped (rows_grid c.self.inside.columns c.self.inside.lines) c.args.j c.args.k = grind (arith, common_steps) in
-    rw is (IsGrid-with_columns_swapped _ c.self.invariant.0 c.args.j c.args.k, c.self.invariant.1)
+    rw is (IsEven-with_columns_swapped _ c.self.invariant.0 c.args.j c.args.k, c.self.invariant.1)
