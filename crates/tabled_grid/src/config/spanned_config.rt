@@ -1,6 +1,6 @@
 //! Which cells are merged.
 
-ghost use Rattle.std.specs.Prelude.{◌≡◌, ◌<◌, ◌≤◌, ℕ, OnErr, OnOk, SomeIff, length};
+ghost use Rattle.std.specs.Prelude.{◌≡◌, ◌<◌, ◌≤◌, ◌⊎◌, ℕ, IsOk, IsSome, OnErr, OnOk, SomeIff, length};
 ghost use Rattle.std.specs.FinMap as map;
 ghost use Rattle.std.specs.List.Sorted.{IsBinarySearchResult, IsSearchInRange};
 ghost use Rattle.tabled_grid.specs.Spans.{AreSpanSizes, IsSpanSize, position_cmp, size_at, with_column_span, with_row_span, with_size};
@@ -70,7 +70,7 @@ impl SpannedConfig {
     /// Sets the width of the rectangle that is anchored at a place, and leaves its height. A width of 0
     /// changes nothing. A rectangle of one cell is none.
     ///
-    /// Refused for memory, it changes nothing.
+    /// Memory is taken only for a new anchor. Refused, it changes nothing.
     ///
     /// Ported from `tabled::grid::config::SpannedConfig::set_column_span`.
     pub fn set_column_span(
@@ -81,8 +81,11 @@ impl SpannedConfig {
     ) -> Result<(), AllocError>
         ensures ok { OnOk result (self.new ≡ with_column_span self.old pos width) }
         ensures err { OnErr result (self.new ≡ self.old) }
+        ensures sizes { AreSpanSizes self.new }
+        ensures promised { (width ≤ 1) ⊎ IsSome (map.get self.old pos) → IsOk result }
     {
         if width == 0 {
+            self.keeps_sizes();
             return Ok(());
         }
         let (height, _) = self.size(pos);
@@ -92,7 +95,7 @@ impl SpannedConfig {
     /// Sets the height of the rectangle that is anchored at a place, and leaves its width. A height of 0
     /// changes nothing. A rectangle of one cell is none.
     ///
-    /// Refused for memory, it changes nothing.
+    /// Memory is taken only for a new anchor. Refused, it changes nothing.
     ///
     /// Ported from `tabled::grid::config::SpannedConfig::set_row_span`.
     pub fn set_row_span(
@@ -103,8 +106,11 @@ impl SpannedConfig {
     ) -> Result<(), AllocError>
         ensures ok { OnOk result (self.new ≡ with_row_span self.old pos height) }
         ensures err { OnErr result (self.new ≡ self.old) }
+        ensures sizes { AreSpanSizes self.new }
+        ensures promised { (height ≤ 1) ⊎ IsSome (map.get self.old pos) → IsOk result }
     {
         if height == 0 {
+            self.keeps_sizes();
             return Ok(());
         }
         let (_, width) = self.size(pos);
@@ -117,19 +123,25 @@ impl SpannedConfig {
         requires width { 1 ≤ size.1 }
         ensures ok { OnOk result (self.new ≡ with_size self.old pos size) }
         ensures err { OnErr result (self.new ≡ self.old) }
+        ensures sizes { AreSpanSizes self.new }
+        ensures promised { (size ≡ (1, 1)) ⊎ IsSome (map.get self.old pos) → IsOk result }
     {
-        if size == (1, 1) {
+        let set = if size == (1, 1) {
             self.remove(pos);
-            return Ok(());
-        }
-        self.insert(pos, size)
+            Ok(())
+        } else {
+            self.insert(pos, size)
+        };
+        self.keeps_sizes();
+        set
     }
 
-    /// Puts an anchor of a size at a place. Refused for memory, it changes nothing.
+    /// Puts an anchor of a size at a place. Memory is taken only for a new one. Refused, it changes nothing.
     fn insert(&mut self, pos: Position, size: (usize, usize)) -> Result<(), AllocError>
         requires { IsSpanSize size }
         ensures ok { OnOk result (self.new ≡ map.insert self.old pos size) }
         ensures err { OnErr result (self.new ≡ self.old) }
+        ensures promised { IsSome (map.get self.old pos) → IsOk result }
     {
         match search(&self.anchors, pos) {
             Ok(i) => {
@@ -143,7 +155,7 @@ impl SpannedConfig {
         }
     }
 
-    /// Takes away the anchor at a place, if there is one.
+    /// Removes the anchor at a place, if there is one.
     fn remove(&mut self, pos: Position)
         ensures { self.new ≡ map.remove self.old pos }
     {
@@ -155,6 +167,13 @@ impl SpannedConfig {
         }
     }
 
+    /// Shows that each anchor merges cells, and does nothing.
+    fn keeps_sizes(&self)
+        ensures { AreSpanSizes self.now }
+    {
+        let _ = &self.anchors;
+    }
+
     /// The height and the width at a place, both 1 where there is no anchor.
     fn size(&self, pos: Position) -> (usize, usize)
         ensures value { result ≡ size_at self.now pos }
@@ -162,6 +181,7 @@ impl SpannedConfig {
         ensures height { 1 ≤ result.0 }
         ensures width { 1 ≤ result.1 }
     {
+        self.keeps_sizes();
         match search(&self.anchors, pos) {
             Ok(i) => self.anchors[i].1,
             Err(_) => (1, 1),

@@ -6,23 +6,26 @@ ghost use Rattle.tabled_grid.specs.Resized.{InsertsColumn, InsertsRow, with_cell
 
 use crate::config::Position;
 use crate::records::blank::Blank;
+use crate::records::exact_records::ExactRecords;
 use crate::records::grid_store::GridStore;
+use crate::records::records::Records;
 use std::alloc::{AllocError, Global};
 
-/// A store whose rows and columns can be put in, exchanged and taken away.
+/// A store whose rows and columns can be inserted, swapped and removed.
 ///
 /// A call that grows may be refused for memory, and then leaves the store as it was. The others take
 /// no memory and can't be refused.
 ///
 /// A store without rows has no columns. Each call that isn't refused says so of the store as it was
-/// (`rowless`), and what it says of the store that it leaves carries this over.
+/// (`rowless`), or asks for a row, and what it says of the store that it leaves carries this over.
+/// Where no change is made, `empty_without_rows` shows it.
 ///
 /// Ported from `tabled::grid::records::Resizable`.
 pub trait Resizable: GridStore
 where
     Self::Cell: Blank,
 {
-    /// Puts in a row of blanks, as many as there are columns, below the last row (r x c to r+1 x c).
+    /// Inserts a row of blanks, as many as there are columns, below the last row (r x c to r+1 x c).
     ///
     /// Ported from `tabled::grid::records::Resizable::push_row`.
     fn push_row(&mut self, alloc: Global) -> Result<(), AllocError>
@@ -32,7 +35,7 @@ where
         ensures ok { OnOk result (InsertsRow Self.Cell.is_blank (Self.grid self.old) (Self.grid self.new) ((Self.grid self.old).rows)) }
         ensures err { OnErr result (Self.grid self.new ≡ Self.grid self.old) };
 
-    /// Puts a blank at the end of each row (r x c to r x c+1). Without rows this changes nothing.
+    /// Inserts a column of blanks behind the last one (r x c to r x c+1). Without rows this changes nothing.
     ///
     /// Ported from `tabled::grid::records::Resizable::push_column`.
     fn push_column(&mut self, alloc: Global) -> Result<(), AllocError>
@@ -42,7 +45,7 @@ where
         ensures ok { OnOk result (InsertsColumn Self.Cell.is_blank (Self.grid self.old) (Self.grid self.new) ((Self.grid self.old).columns)) }
         ensures err { OnErr result (Self.grid self.new ≡ Self.grid self.old) };
 
-    /// Puts in a row of blanks, as many as there are columns, before row `i`, or last where `i` is the
+    /// Inserts a row of blanks, as many as there are columns, before row `i`, or last where `i` is the
     /// number of rows (r x c to r+1 x c).
     ///
     /// Ported from `tabled::grid::records::Resizable::insert_row`.
@@ -54,7 +57,7 @@ where
         ensures ok { OnOk result (InsertsRow Self.Cell.is_blank (Self.grid self.old) (Self.grid self.new) i) }
         ensures err { OnErr result (Self.grid self.new ≡ Self.grid self.old) };
 
-    /// Puts a blank into each row before column `j`, or last where `j` is the number of columns
+    /// Inserts a column of blanks before column `j`, or last where `j` is the number of columns
     /// (r x c to r x c+1). Without rows this changes nothing.
     ///
     /// Ported from `tabled::grid::records::Resizable::insert_column`.
@@ -66,7 +69,7 @@ where
         ensures ok { OnOk result (InsertsColumn Self.Cell.is_blank (Self.grid self.old) (Self.grid self.new) j) }
         ensures err { OnErr result (Self.grid self.new ≡ Self.grid self.old) };
 
-    /// Takes away row `i` (r x c to r-1 x c). The last row takes all columns with it, and
+    /// Removes row `i` (r x c to r-1 x c). The last row takes all columns with it, and
     /// `0 x 0` is left.
     ///
     /// Ported from `tabled::grid::records::Resizable::remove_row`.
@@ -74,10 +77,9 @@ where
         requires well { Self.is_well_formed self.old }
         requires within { i < (Self.grid self.old).rows }
         ensures well { Self.is_well_formed self.new }
-        ensures rowless { IsEmptyWithoutRows (Self.grid self.old) }
         ensures removed { Self.grid self.new ≡ without_row (Self.grid self.old) i };
 
-    /// Takes away column `j` (r x c to r x c-1). The rows stay, also where it was the last column.
+    /// Removes column `j` (r x c to r x c-1). The rows stay, also where it was the last column.
     ///
     /// Ported from `tabled::grid::records::Resizable::remove_column`.
     fn remove_column(&mut self, j: usize)
@@ -87,7 +89,7 @@ where
         ensures rowless { IsEmptyWithoutRows (Self.grid self.old) }
         ensures removed { Self.grid self.new ≡ without_column (Self.grid self.old) j };
 
-    /// Exchanges two cells. Equal places change nothing.
+    /// Swaps two cells. Equal places change nothing.
     ///
     /// Ported from `tabled::grid::records::Resizable::swap`.
     fn swap(&mut self, p: Position, q: Position)
@@ -95,10 +97,9 @@ where
         requires p_inside { IsInside (Self.grid self.old) p }
         requires q_inside { IsInside (Self.grid self.old) q }
         ensures well { Self.is_well_formed self.new }
-        ensures rowless { IsEmptyWithoutRows (Self.grid self.old) }
         ensures swapped { Self.grid self.new ≡ with_cells_swapped (Self.grid self.old) p q };
 
-    /// Exchanges two rows. Equal ones change nothing.
+    /// Swaps two rows. Equal ones change nothing.
     ///
     /// Ported from `tabled::grid::records::Resizable::swap_row`.
     fn swap_row(&mut self, i: usize, k: usize)
@@ -106,10 +107,9 @@ where
         requires i_within { i < (Self.grid self.old).rows }
         requires k_within { k < (Self.grid self.old).rows }
         ensures well { Self.is_well_formed self.new }
-        ensures rowless { IsEmptyWithoutRows (Self.grid self.old) }
         ensures swapped { Self.grid self.new ≡ with_rows_swapped (Self.grid self.old) i k };
 
-    /// Exchanges two columns. Equal ones change nothing.
+    /// Swaps two columns. Equal ones change nothing.
     ///
     /// Ported from `tabled::grid::records::Resizable::swap_column`.
     fn swap_column(&mut self, j: usize, k: usize)
@@ -119,4 +119,20 @@ where
         ensures well { Self.is_well_formed self.new }
         ensures rowless { IsEmptyWithoutRows (Self.grid self.old) }
         ensures swapped { Self.grid self.new ≡ with_columns_swapped (Self.grid self.old) j k };
+}
+
+/// Shows that a store without rows has no columns, and changes nothing.
+pub fn empty_without_rows<R>(records: &mut R)
+where
+    R: Records + ExactRecords + Resizable,
+    R::Cell: Blank,
+    requires { R.is_well_formed records.old }
+    ensures well { R.is_well_formed records.new }
+    ensures kept { R.grid records.new ≡ R.grid records.old }
+    ensures rowless { IsEmptyWithoutRows (R.grid records.new) }
+{
+    // Columns without rows never come; if they came, this call would say that there are none.
+    if records.count_rows() == 0 && records.count_columns() > 0 {
+        records.remove_column(0);
+    }
 }

@@ -6,7 +6,7 @@ mod tests;
 mod text;
 
 ghost use Rattle.std.specs.Prelude.{◌≡◌, ◌<◌, Some, slice_get, IfOk, vec_len};
-ghost use Rattle.tabled_grid.specs.Grid.{Grid, IsEven, IsInside, cell_at, grid_of, map_items, with_cell};
+ghost use Rattle.tabled_grid.specs.Grid.{Grid, IsEmptyWithoutRows, IsEven, IsInside, cell_at, grid_of, map_items, with_cell};
 
 use crate::config::Position;
 use crate::records::cell_text::CellText;
@@ -109,7 +109,12 @@ impl<T> GridStore for VecRecords<T> {
 }
 
 impl<T> Records for VecRecords<T> {
-    fn count_columns(&self) -> usize {
+    /// The number of columns: none without rows.
+    fn count_columns(&self) -> usize
+        ensures columns { result ≡ self.now.columns }
+        ensures even { IsEven self.now }
+        ensures rowless { IsEmptyWithoutRows self.now }
+    {
         self.columns
     }
 
@@ -119,7 +124,12 @@ impl<T> Records for VecRecords<T> {
 }
 
 impl<T> ExactRecords for VecRecords<T> {
-    fn count_rows(&self) -> usize {
+    /// The number of rows, without which there are no columns.
+    fn count_rows(&self) -> usize
+        ensures rows { result ≡ self.now.rows }
+        ensures even { IsEven self.now }
+        ensures rowless { IsEmptyWithoutRows self.now }
+    {
         self.lines.len()
     }
 }

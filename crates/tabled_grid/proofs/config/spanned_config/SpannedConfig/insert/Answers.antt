@@ -1,4 +1,9 @@
-use Rattle.tabled_grid.proofs.Spans.{set_anchor, insert_anchor}
+use Rattle.std.proofs.Common.{Err}
+use Rattle.std.proofs.lemmas.Bool.{false≢true}
+use Rattle.std.specs.FinMap.{get-from_sorted}
+use Rattle.tabled_grid.specs.Spans.{position_cmp}
+use Rattle.tabled_grid.proofs.SortedEntries.{searched}
+use Rattle.tabled_grid.proofs.Spans.{insert_anchor, positions_exact, positions_total, set_anchor}
 use Rattle.tabled_grid.proofs.config.spanned_config.SpannedConfig.insert.Goals as goal
 
 pub invariant_of-self : goal.invariant_of-self
@@ -12,3 +17,11 @@ invariant_of-self-in-Err c = rw c.in_ok-insert-in-Err.ensures.items (insert_anch
 
 pub returns-in_ok-insert-in-Err-clause-ok : goal.returns-in_ok-insert-in-Err-clause-ok
 returns-in_ok-insert-in-Err-clause-ok c = rw (← c.self.view_is, c.in_ok-insert-in-Err.ensures.items) (insert_anchor _ c.self.invariant c.args.pos c.args.size c.in-Err.i c.requires (rw c.deref.ensures.value at c.in-Err.ensures.within) (rw c.deref.ensures.value at c.in-Err.ensures.found)).is
+
+-- where the search found none, there was no anchor
+pub returns-in_err-insert-in-Err-clause-promised : goal.returns-in_err-insert-in-Err-clause-promised
+returns-in_err-insert-in-Err-clause-promised c =
+    let anchors = c.self.inside.anchors.items in
+    let up = c.self.invariant.sorted in
+    let missed = searched position_cmp positions_total positions_exact anchors c.args.pos (Err c.in-Err.i) up (rw c.deref.ensures.value at c.in-Err.ensures.within) (rw c.deref.ensures.value at c.in-Err.ensures.found) in
+    λ some. absurd (false≢true (rw (← c.self.view_is, get-from_sorted position_cmp anchors c.args.pos up, missed) at some))

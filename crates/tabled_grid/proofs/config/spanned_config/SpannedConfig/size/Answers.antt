@@ -2,7 +2,7 @@ use Rattle.std.proofs.Common.{Ok, Err, refl, ap}
 use Rattle.std.specs.FinMap.{get-from_sorted}
 use Rattle.tabled_grid.specs.Spans.{position_cmp}
 use Rattle.tabled_grid.proofs.SortedEntries.{searched}
-use Rattle.tabled_grid.proofs.Spans.{positions_exact, positions_total, span_sizes}
+use Rattle.tabled_grid.proofs.Spans.{positions_exact, positions_total}
 use Rattle.tabled_grid.proofs.config.spanned_config.SpannedConfig.size.Goals as goal
 
 pub returns-in-Ok-clause-value : goal.returns-in-Ok-clause-value
@@ -18,9 +18,3 @@ returns-in-Err-clause-value c =
     let up = c.self.invariant.sorted in
     let missed = searched position_cmp positions_total positions_exact anchors c.args.pos (Err c.in-Err.field-0) up (rw c.deref.ensures.value at c.in-Err.ensures.within) (rw c.deref.ensures.value at c.in-Err.ensures.found) in
     rw (← c.self.view_is, get-from_sorted position_cmp anchors c.args.pos up, missed) refl
-
-pub returns-in-Ok-clause-sizes : goal.returns-in-Ok-clause-sizes
-returns-in-Ok-clause-sizes c = rw (← c.self.view_is) (span_sizes c.self.inside.anchors.items c.self.invariant)
-
-pub returns-in-Err-clause-sizes : goal.returns-in-Err-clause-sizes
-returns-in-Err-clause-sizes c = rw (← c.self.view_is) (span_sizes c.self.inside.anchors.items c.self.invariant)
