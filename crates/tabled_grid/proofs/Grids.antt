@@ -1,17 +1,15 @@
 -- Grids with another cell at a place, and the grids of texts.
-use Rattle.std.specs.Global.{Vec}
 use Rattle.std.proofs.Common.{◌≡◌, ℕ, zero, suc, ◌<◌, ◌≢◌, List, [], ◌∷◌, ◌⊎◌, inl, inr, refl, sym, ap, ap₂, ◌∙◌, map, length, get_or, set, Some, arith}
-use Rattle.std.specs.Prelude.{slice_get, vec_len}
+use Rattle.std.specs.Prelude.{slice_get}
 use Rattle.std.specs.List.{AllByRecursion}
 use Rattle.std.specs.Option.{option_map}
-use Rattle.std.specs.Vec.{with_item}
-use Rattle.std.proofs.lemmas.List.{map-set, length-set, length-map, get_or-set_same, get_or-set_other, get_or-map as get_or-map_within}
+use Rattle.std.proofs.lemmas.List.{map-set, length-set, length-map, get_or-set_same, get_or-set_other}
 use Rattle.std.proofs.lemmas.List.Elements.{All-from_recursion}
-use Rattle.std.proofs.lemmas.Option.{slice_get-map, slice_get-get_or, slice_get_read}
+use Rattle.std.proofs.lemmas.Option.{slice_get-map, slice_get-get_or}
 use Rattle.std.proofs.lemmas.Bool.{cases_eq}
 use Rattle.std.proofs.Math.ListN.{get_or-map}
 use Rattle.tabled_grid.specs.declared.config.position.Position.{Position}
-use Rattle.tabled_grid.specs.Grid.{Grid, IsEven, IsInside, map_grid, cell_at, with_cell, map_items, rows_grid, WritesText}
+use Rattle.tabled_grid.specs.Grid.{Grid, IsEven, IsInside, map_grid, cell_at, with_cell, WritesText}
 use Rattle.tabled_grid.specs.Entity.{place}
 
 -- what f gives of a grid with another cell
@@ -84,24 +82,3 @@ cell_at-with_cell_other g p q x h = other (cases_eq q.row p.row)
 -- a text is written where a cell with that text is
 pub texts_written : {A : Type 0} (text_of : A → List ℕ) (old new : Grid A) (p : Position) (text : List ℕ) → WritesText text_of old new p text → map_grid text_of new ≡ with_cell (map_grid text_of old) p text
 texts_written text_of old new p text w = ap (map_grid text_of) w.is ∙ map_grid-with_cell text_of old p w.cell ∙ ap (with_cell (map_grid text_of old) p) w.has
-
--- the row at p of the rows that vectors hold
-module _ {A : Type 0} (columns : ℕ) (lines : Vec (Vec A)) (p : Position) (row : Vec A) (even : IsEven (rows_grid columns lines)) (inside : IsInside (rows_grid columns lines) p) (is : row ≡ get_or lines.items p.row row) where
-  row_items : get_or (map_items lines.items) p.row [] ≡ row.items
-  row_items = get_or-map_within (λ (v : Vec A). v.items) lines.items p.row row [] (omega (arith, lines.ok.0, inside.row)) ∙ ap (λ (v : Vec A). v.items) (sym is)
-
-  -- the place is inside the row
-  pub row_holds : p.col < vec_len row
-  row_holds =
-      let wide : length (get_or (map_items lines.items) p.row []) ≡ columns = All-from_recursion _ _ even.wide p.row [] (omega (arith, even.tall, inside.row)) in
-      omega (arith, row.ok.0, inside.col, rw row_items at wide)
-
-  pub row_cell : (x : A) → x ≡ get_or row.items p.col x → cell_at (rows_grid columns lines) p ≡ Some x
-  row_cell x e = ap (λ ys. slice_get ys p.col) row_items ∙ slice_get_read row.items (vec_len row) p.col x row.ok.0 row_holds e
-
-  pub row_written : (x : A) → rows_grid columns (with_item lines p.row (with_item row p.col x)) ≡ with_cell (rows_grid columns lines) p x
-  row_written x =
-      let cells : map_items (set lines.items p.row (with_item row p.col x)) ≡ set (map_items lines.items) p.row (set (get_or (map_items lines.items) p.row []) p.col x) =
-      map-set (λ (v : Vec A). v.items) lines.items p.row (with_item row p.col x)
-      ∙ ap (λ ys. set (map_items lines.items) p.row (set ys p.col x)) (sym row_items) in
-      ap (λ (ys : List (List A)). let g : Grid A = record { rows = vec_len lines; columns = columns; cells = ys } in g) cells

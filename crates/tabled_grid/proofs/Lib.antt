@@ -1,7 +1,16 @@
 pub mod Blanks
+pub mod Flat
+pub mod FlatCells
+pub mod FlatColumns
+pub mod FlatRows
+pub mod FlatSlides
+pub mod FlatSplits
+pub mod FlatSpreads
+pub mod FlatStore
 pub mod Grids
 pub mod Lists
 pub mod Mapped
+pub mod NestedRows
 pub mod Places
 pub mod Resized
 pub mod RowByRow

@@ -1,19 +1,15 @@
--- Grids with rows and columns put in, exchanged and taken away.
-use Rattle.std.specs.Global.{Vec}
-use Rattle.std.proofs.Common.{◌≡◌, ℕ, ◌+◌, ◌-◌, ◌<◌, ◌≤◌, List, [], Option, None, Some, refl, sym, ap, ◌∙◌, subst, Bool, true, false, cond, eqb, map, length, get_or, arith}
-use Rattle.std.specs.List.{All, AllByRecursion, insert, remove, zip}
-use Rattle.std.proofs.lemmas.Bool.{eqb-true, ne_eqb}
+-- Grids with rows and columns inserted, swapped and removed.
+use Rattle.std.proofs.Common.{◌≡◌, ℕ, ◌+◌, ◌-◌, ◌<◌, ◌≤◌, List, [], Option, None, Some, refl, ap, ◌∙◌, Bool, true, false, cond, eqb, map, length, arith}
+use Rattle.std.specs.List.{AllByRecursion, insert, remove, zip}
+use Rattle.std.proofs.lemmas.Bool.{eqb-true}
 use Rattle.std.proofs.lemmas.List.{length-map, nil_from_length}
 use Rattle.std.proofs.lemmas.List.Edits.{length-insert, length-remove, length-swap}
-use Rattle.std.specs.Prelude.{vec_len}
-use Rattle.std.proofs.lemmas.List.Elements.{All-from_recursion}
-use Rattle.std.proofs.Math.ListN.{get_or-map}
 use Rattle.std.proofs.lemmas.Slice.Zip.{length-zip}
 use Rattle.tabled_grid.specs.declared.config.position.Position.{Position}
-use Rattle.tabled_grid.specs.Grid.{Grid, IsEven, cell_at, map_items, rows_grid}
+use Rattle.tabled_grid.specs.Grid.{Grid, IsEmptyWithoutRows, IsEven, cell_at}
 use Rattle.tabled_grid.specs.Resized.{with_row, with_column, with_rows_swapped, with_columns_swapped, with_cell_if, with_cells_swapped, without_row, without_column}
 use Rattle.tabled_grid.proofs.Grids.{IsEven-with_cell}
-use Rattle.tabled_grid.proofs.Lists.{map-remove, all-insert, all-remove, all-swap, all-zip, all-map}
+use Rattle.tabled_grid.proofs.Lists.{all-insert, all-remove, all-swap, all-zip, all-map}
 
 -- a row is so long
 abbrev IsWide : {A : Type 0} → ℕ → List A → Type 0
@@ -74,17 +70,16 @@ module _ {A : Type 0} where
   pub IsEven-with_cells_swapped : (g : Grid A) (p q : Position) → IsEven g → IsEven (with_cells_swapped g p q)
   IsEven-with_cells_swapped g p q even = IsEven-with_cell_if _ q (cell_at g p) (IsEven-with_cell_if g p (cell_at g q) even)
 
--- what holds of the number of columns holds of each row that a vector holds
-pub each_wide : {A : Type 0} (P : ℕ → Type 0) (columns : ℕ) (lines : Vec (Vec A)) → IsEven (rows_grid columns lines) → P columns → All (λ (row : Vec A). P (vec_len row)) lines.items
-each_wide {A} P columns lines even h i d within =
-    let lists : List (List A) = map_items lines.items in
-    let long : length (get_or lists i d.items) ≡ columns = All-from_recursion _ _ even.wide i d.items (omega (arith, length-map lines.items (λ (v : Vec A). v.items))) in
-    subst P (sym long ∙ ap length (get_or-map (λ (v : Vec A). v.items) lines.items i d) ∙ sym (get_or lines.items i d).ok.0) h
+module _ {A : Type 0} (g : Grid A) where
+  -- a grid without rows stays without columns
+  pub rowless-with_row : (i : ℕ) (row : List A) → IsEmptyWithoutRows (with_row g i row)
+  rowless-with_row i row e = absurd (omega (arith, e))
 
--- a row taken out of vectors where another is left
-pub row_taken : {A : Type 0} (columns : ℕ) (lines rest : Vec (Vec A)) (i : ℕ) → rest.items ≡ remove lines.items i → vec_len rest + 1 ≡ vec_len lines → 0 < vec_len rest → rows_grid columns rest ≡ without_row (rows_grid columns lines) i
-row_taken {A} columns lines rest i items len some =
-    let cells : map_items rest.items ≡ remove (map_items lines.items) i = ap map_items items ∙ map-remove (λ (v : Vec A). v.items) lines.items i in
-    let fewer : vec_len lines - 1 ≡ vec_len rest = omega arith in
-    let more : eqb (vec_len lines) 1 ≡ false = ne_eqb _ _ (λ e. omega arith) in
-    rw (fewer, more, cells) refl
+  pub rowless-with_column : (j : ℕ) (column : List A) → IsEmptyWithoutRows g → IsEmptyWithoutRows (with_column g j column)
+  rowless-with_column j column none e = rw e (none e)
+
+  pub rowless-without_row : (i : ℕ) → i < g.rows → IsEmptyWithoutRows (without_row g i)
+  rowless-without_row i h e = let last : g.rows ≡ 1 = omega (arith, e, h) in rw last refl
+
+  pub rowless-without_column : (j : ℕ) → IsEmptyWithoutRows g → IsEmptyWithoutRows (without_column g j)
+  rowless-without_column j none e = omega (arith, none e)

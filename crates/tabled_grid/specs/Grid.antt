@@ -1,6 +1,6 @@
 -- A store's one meaning: a shape and the rows of cells.
 use Rattle.std.specs.Global.{Vec}
-use Rattle.std.specs.Prelude.{◌≡◌, ◌<◌, ℕ, List, [], ◌∷◌, length, map, Option, slice_get, slice_set, slice_index_or, vec_len}
+use Rattle.std.specs.Prelude.{◌≡◌, ◌<◌, ℕ, List, [], ◌∷◌, length, map, Option, slice_get, slice_set, slice_index_or}
 use Rattle.std.specs.List.{AllByRecursion}
 use Rattle.tabled_grid.specs.declared.config.position.Position.{Position}
 
@@ -54,7 +54,3 @@ grid_of rows = record { rows = length rows; columns = width_of rows; cells = row
 -- the lists of the items of vectors
 abbrev pub map_items : {A : Type 0} → List (Vec A) → List (List A)
 map_items {A} vs = map (λ (v : Vec A). v.items) vs
-
--- the grid of so many columns whose rows vectors hold
-abbrev pub rows_grid : {A : Type 0} → ℕ → Vec (Vec A) → Grid A
-rows_grid columns lines = record { rows = vec_len lines; columns = columns; cells = map_items lines.items }

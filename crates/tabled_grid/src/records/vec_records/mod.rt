@@ -1,60 +1,67 @@
-//! A store of nested rows.
+//! A store of one vector of cells, row after row.
 
+mod moves;
 mod resizable;
 #[cfg(test)]
 mod tests;
 mod text;
 
-ghost use Rattle.std.specs.Prelude.{◌≡◌, ◌<◌, Some, slice_get, IfOk, vec_len};
+ghost use Rattle.std.specs.Prelude.{◌≡◌, ◌<◌, Some, slice_get, IfOk};
 ghost use Rattle.tabled_grid.specs.Grid.{Grid, IsEmptyWithoutRows, IsEven, IsInside, cell_at, grid_of, map_items, with_cell};
 
 use crate::config::Position;
 use crate::records::cell_text::CellText;
 use crate::records::exact_records::ExactRecords;
 use crate::records::grid_store::GridStore;
+use crate::records::nested_rows::moves::width;
 use crate::records::peekable_records::PeekableRecords;
 use crate::records::records::Records;
 use crate::records::records_mut::RecordsMut;
+use moves::{join, split};
 use std::alloc::{AllocError, Global};
 use std::marker::Model;
 pub use text::Text;
 
-/// A store of rows of cells, all equally long. A contract sees it as its grid.
+/// A store of rows of cells, all equally long, in one vector. A contract sees it as its grid.
+///
+/// More rows or cells than `usize::MAX` are a growth refused.
 ///
 /// Ported from `tabled::grid::records::vec_records::VecRecords`.
 #[derive(Drop)]
 pub struct VecRecords<T> {
-    lines: Vec<Vec<T>>,
+    cells: Vec<T>,
+    rows: usize,
     columns: usize,
 }
 
 impl<T> Model for VecRecords<T> {
-    ghost use Rattle.tabled_grid.specs.Grid.{Grid, IsEmptyWithoutRows, IsEven, rows_grid};
-    ghost use Rattle.std.specs.Prelude.{vec_len};
+    ghost use Rattle.tabled_grid.specs.Flat.{IsFull, flat_grid};
+    ghost use Rattle.tabled_grid.specs.Grid.{Grid};
 
     ghost Value = { Grid T };
 
-    ghost view = { λ a. rows_grid a.columns a.lines };
+    ghost view = { λ a. flat_grid a.rows a.columns a.cells.items };
 
-    ghost invariant = { λ a. IsEven (rows_grid a.columns a.lines) × IsEmptyWithoutRows (rows_grid a.columns a.lines) };
+    ghost invariant = { λ a. IsFull a.rows a.columns a.cells.items };
 }
 
 impl<T: Drop> VecRecords<T> {
-    /// Makes a store of rows (r x c, or 0 x 0 without rows), which have to be equally long.
+    /// Makes a store of rows (r x c, or 0 x 0 without rows), which have to be equally long. The cells
+    /// move after one growth.
     ///
     /// Refused for memory, it drops the rows.
     ///
     /// Ported from `tabled::grid::records::vec_records::VecRecords::new`.
-    pub fn new(_alloc: Global, rows: Vec<Vec<T>>) -> Result<Self, AllocError>
+    pub fn new(alloc: Global, rows: Vec<Vec<T>>) -> Result<Self, AllocError>
         requires { IsEven (grid_of (map_items rows.items)) }
         ensures { IfOk result (λ store. store ≡ grid_of (map_items rows.items)) }
     {
-        let columns = match rows.first() {
-            None => 0,
-            Some(row) => row.len(),
-        };
+        let count = rows.len();
+        let columns = width(&rows);
+        let cells = join(alloc, rows, columns)?;
         Ok(VecRecords {
-            lines: rows,
+            cells,
+            rows: count,
             columns,
         })
     }
@@ -64,11 +71,15 @@ impl<T: Drop> VecRecords<T> {
     /// Refused for memory, it drops them.
     ///
     /// Ported from `impl From<VecRecords<T>> for Vec<Vec<T>>`.
-    pub fn into_rows(self, _alloc: Global) -> Result<Vec<Vec<T>>, AllocError>
+    pub fn into_rows(self, alloc: Global) -> Result<Vec<Vec<T>>, AllocError>
         ensures { IfOk result (λ rows. map_items rows.items ≡ self.cells) }
     {
-        let VecRecords { lines, columns: _ } = self;
-        Ok(lines)
+        let VecRecords {
+            cells,
+            rows,
+            columns,
+        } = self;
+        split(alloc, cells, rows, columns)
     }
 
     /// Replaces the cell at a place inside the shape.
@@ -76,8 +87,8 @@ impl<T: Drop> VecRecords<T> {
         requires { IsInside self.old pos }
         ensures { self.new ≡ with_cell self.old pos cell }
     {
-        let row = &mut self.lines[pos.row];
-        row[pos.col] = cell;
+        let place = pos.row * self.columns + pos.col;
+        self.cells[place] = cell;
     }
 }
 
@@ -87,8 +98,8 @@ impl<T> VecRecords<T> {
         requires { IsInside self.now pos }
         ensures { cell_at self.now pos ≡ Some result.now }
     {
-        let row = &self.lines[pos.row];
-        &row[pos.col]
+        let place = pos.row * self.columns + pos.col;
+        &self.cells[place]
     }
 
     /// The cells of a row below the number of rows. It stands for `[row]`.
@@ -96,7 +107,8 @@ impl<T> VecRecords<T> {
         requires { i < self.now.rows }
         ensures { slice_get self.now.cells i ≡ Some result.now }
     {
-        &self.lines[i]
+        let start = i * self.columns;
+        &self.cells[start..start + self.columns]
     }
 }
 
@@ -119,7 +131,7 @@ impl<T> Records for VecRecords<T> {
     }
 
     fn hint_count_rows(&self) -> Option<usize> {
-        Some(self.lines.len())
+        Some(self.rows)
     }
 }
 
@@ -130,7 +142,7 @@ impl<T> ExactRecords for VecRecords<T> {
         ensures even { IsEven self.now }
         ensures rowless { IsEmptyWithoutRows self.now }
     {
-        self.lines.len()
+        self.rows
     }
 }
 

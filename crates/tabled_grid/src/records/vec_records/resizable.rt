@@ -1,10 +1,12 @@
-//! A store of nested rows that grows and shrinks.
+//! A store of one vector of cells that grows and shrinks.
 
 use super::VecRecords;
+use super::moves::{
+    close_up, insert_blanks, push_blanks, remove_run, spread, swap_each, swap_runs,
+};
 use crate::config::Position;
 use crate::records::blank::Blank;
 use crate::records::exact_records::ExactRecords;
-use crate::records::nested_rows::{blanks, insert_blanks, remove_each, swap_cells, swap_each};
 use crate::records::records::Records;
 use crate::records::resizable::Resizable;
 use std::alloc::{AllocError, Global};
@@ -19,40 +21,54 @@ impl<T: Blank> Resizable for VecRecords<T> {
     }
 
     fn insert_row(&mut self, alloc: Global, i: usize) -> Result<(), AllocError> {
-        let row = blanks(alloc, self.columns)?;
-        self.lines.insert(i, row)?;
+        let Some(rows) = self.rows.checked_add(1) else {
+            return Err(AllocError);
+        };
+        insert_blanks(alloc, &mut self.cells, i * self.columns, self.columns)?;
+        self.rows = rows;
         Ok(())
     }
 
     fn insert_column(&mut self, alloc: Global, j: usize) -> Result<(), AllocError> {
-        insert_blanks(alloc, &mut self.lines, j)?;
-        if let Some(row) = self.lines.first() {
-            self.columns = row.len();
+        if self.rows == 0 {
+            return Ok(());
         }
+        push_blanks(alloc, &mut self.cells, self.rows)?;
+        spread(&mut self.cells, self.rows, self.columns, j);
+        self.columns += 1;
         Ok(())
     }
 
     fn remove_row(&mut self, i: usize) {
-        let _row = self.lines.remove(i);
-        if self.lines.is_empty() {
+        remove_run(&mut self.cells, i * self.columns, self.columns);
+        self.rows -= 1;
+        if self.rows == 0 {
             self.columns = 0;
         }
     }
 
     fn remove_column(&mut self, j: usize) {
-        remove_each(&mut self.lines, j);
+        close_up(&mut self.cells, self.rows, self.columns, j);
         self.columns -= 1;
+        self.cells.truncate(self.rows * self.columns);
     }
 
     fn swap(&mut self, p: Position, q: Position) {
-        swap_cells(&mut self.lines, p, q);
+        let first = p.row * self.columns + p.col;
+        let second = q.row * self.columns + q.col;
+        self.cells.swap(first, second);
     }
 
     fn swap_row(&mut self, i: usize, k: usize) {
-        self.lines.swap(i, k);
+        if i == k {
+            return;
+        }
+        let first = i.min(k) * self.columns;
+        let second = i.max(k) * self.columns;
+        swap_runs(&mut self.cells, first, second, self.columns);
     }
 
     fn swap_column(&mut self, j: usize, k: usize) {
-        swap_each(&mut self.lines, j, k);
+        swap_each(&mut self.cells, self.rows, self.columns, j, k);
     }
 }

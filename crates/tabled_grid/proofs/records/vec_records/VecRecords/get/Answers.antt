@@ -1,9 +1,10 @@
-use Rattle.std.proofs.Common.{arith}
-use Rattle.tabled_grid.proofs.Grids.{row_holds, row_cell}
+use Rattle.std.proofs.Common.{refl}
+use Rattle.std.proofs.lemmas.Option.{slice_get_read}
+use Rattle.tabled_grid.proofs.FlatStore.{cell_read, cell_within}
 use Rattle.tabled_grid.proofs.records.vec_records.VecRecords.get.Goals as goal
 
-pub index-requires : goal.index-requires
-index-requires g c = omega (arith, row_holds c.self.inside.columns c.self.inside.lines c.args.pos c.index-row.result.now c.self.invariant.0 (rw (← c.self.view_is) at c.requires) c.index-row.ensures)
-
 pub returns : goal.returns
-returns g c = rw (← c.self.view_is) (row_cell c.self.inside.columns c.self.inside.lines c.args.pos c.index-row.result.now c.self.invariant.0 (rw (← c.self.view_is) at c.requires) c.index-row.ensures c.index.result.now c.index.ensures)
+returns g c =
+    rw (← c.self.view_is)
+    (cell_read _ _ _ c.self.invariant c.args.pos _ _ (rw (← c.self.view_is) at c.requires) refl
+    (slice_get_read _ _ _ _ refl (cell_within _ _ _ c.self.invariant c.args.pos _ (rw (← c.self.view_is) at c.requires) refl) c.index.ensures))

@@ -1,26 +1,14 @@
-use Rattle.std.proofs.Common.{◌≡◌, ◌<◌, ◌≤◌, refl, sym, length, arith}
+use Rattle.std.proofs.Common.{◌≡◌, arith}
 use Rattle.std.proofs.lemmas.Grind.{common_steps}
-use Rattle.std.proofs.lemmas.Option.{slice_get_within}
 use Rattle.std.specs.Vec.{with_items}
-use Rattle.tabled_grid.proofs.Blanks.{IsEven-inserts_column, column_put}
-use Rattle.tabled_grid.proofs.Resized.{each_wide}
+use Rattle.tabled_grid.proofs.FlatStore.{blanks_behind, column_inserted}
 use Rattle.tabled_grid.proofs.records.vec_records.resizable.VecRecordsResizable.insert_column.Goals as goal
 
-pub insert_blanks-requires : goal.insert_blanks-requires
-insert_blanks-requires g c = rw c.deref_mut.ensures.value (each_wide (λ n. c.args.j ≤ n) c.self.inside.columns c.self.inside.lines c.self.invariant.0 (rw (← c.self.view_is) at c.requires.within))
+pub spread-requires-clause-blanks : goal.spread-requires-clause-blanks
+spread-requires-clause-blanks g c = rw c.deref_mut.ensures.value (blanks_behind _ _ _ c.self.invariant g.T.Blank.is_blank _ c.in_ok-push_blanks.ensures.ok)
 
-pub returns-in-Some-clause-ok : goal.returns-in-Some-clause-ok
-returns-in-Some-clause-ok g c =
-    let new = with_items c.self.inside.lines c.insert_blanks.new.rows in
-    let items : new.items ≡ c.insert_blanks.new.rows = grind (arith, common_steps) in
-    rw (← c.self.view_is, c.len-self-inside.ensures)
-    (column_put g.T.Blank.is_blank c.self.inside.columns c.args.j c.self.inside.lines new c.in-Some.row.now c.self.invariant.0 (rw (← c.self.view_is) at c.requires.within)
-    (rw items (rw c.deref_mut.ensures.value at c.in_ok-insert_blanks.ensures.ok)) refl (rw c.deref.ensures.value at c.in-Some.ensures.value))
-
-pub invariant_of-self-in-Some : goal.invariant_of-self-in-Some
-invariant_of-self-in-Some g c =
-    let new = with_items c.self.inside.lines c.insert_blanks.new.rows in
-    let some : 0 < length new.items = slice_get_within new.items 0 c.in-Some.row.now (sym (rw c.deref.ensures.value at c.in-Some.ensures.value)) in (
-      IsEven-inserts_column g.T.Blank.is_blank c.args.self.now _ c.args.j c.requires.within (returns-in-Some-clause-ok g c) (rw (← c.self.view_is) c.self.invariant.0),
-      λ none. absurd (omega (arith, none, new.ok.0, some)),
-    )
+pub returns-clause-ok : goal.returns-clause-ok
+returns-clause-ok g c =
+    let items : (with_items c.push_blanks.new.cells c.spread.new.cells).items ≡ c.spread.new.cells = grind (arith, common_steps) in
+    rw (← c.self.view_is)
+    (column_inserted _ _ _ c.self.invariant g.T.Blank.is_blank _ c.in_ok-push_blanks.ensures.ok c.args.j _ (rw (← c.self.view_is) at c.requires.within) c.if-self-eq0.false (rw items (rw c.deref_mut.ensures.value at c.spread.ensures)))

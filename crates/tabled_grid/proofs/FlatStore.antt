@@ -1,0 +1,119 @@
+-- What one list of cells shows of its grid, cell by cell.
+use Rattle.std.proofs.Common.{◌≡◌, ℕ, ◌+◌, ◌*◌, ◌-◌, ◌<◌, ◌≤◌, ◌≢◌, List, [], ◌∷◌, ◌++◌, Some, ◌⊎◌, inl, inr, refl, sym, ap, ap₂, ◌∙◌, false, eqb, min, max, length, map, take, drop, set, arith}
+use Rattle.std.specs.Prelude.{slice_get}
+use Rattle.std.specs.List.{remove, swap}
+use Rattle.std.proofs.lemmas.Bool.{ne_eqb, cases_lt}
+use Rattle.std.proofs.lemmas.List.{drop_at, take_at}
+use Rattle.std.proofs.lemmas.Nat.{mul-add-lt}
+use Rattle.std.proofs.lemmas.Option.{slice_get-get_or}
+use Rattle.tabled_grid.specs.declared.config.position.Position.{Position}
+use Rattle.tabled_grid.specs.Grid.{IsInside, cell_at, width_of, with_cell}
+use Rattle.tabled_grid.specs.Resized.{AreBlanks, InsertsColumn, InsertsRow, with_cells_swapped, with_column, with_columns_swapped, with_row, with_rows_swapped, without_column, without_row}
+use Rattle.tabled_grid.proofs.Blanks.{blank_column}
+use Rattle.tabled_grid.proofs.Grids.{IsEven-with_cell}
+use Rattle.tabled_grid.proofs.Resized.{IsEven-with_cells_swapped, IsEven-with_column, IsEven-with_columns_swapped, IsEven-with_row, IsEven-with_rows_swapped, IsEven-without_column, IsEven-without_row}
+use Rattle.tabled_grid.specs.Flat.{IsFull, chunks, flat_grid, joined}
+use Rattle.tabled_grid.specs.Moves.{AddsBlanks, InsertsBlanks, PutsBlanks, with_runs_swapped}
+use Rattle.tabled_grid.proofs.Flat.{full_of, is_even, joined-chunks, view_of}
+use Rattle.tabled_grid.proofs.FlatCells.{cell-joined, written-joined, swapped-joined}
+use Rattle.tabled_grid.proofs.FlatRows.{joined-insert, joined-remove, joined-swap, row-joined, swap-turned}
+
+-- without rows there is no first one
+pub no_width : {A : Type 0} (rows : List (List A)) → length rows ≡ 0 → width_of rows ≡ 0
+no_width [] h = refl
+no_width (row ∷ rows) h = absurd (omega (arith, h))
+
+module _ {A : Type 0} (r c : ℕ) (xs : List A) (h : IsFull r c xs) where
+  pub cells_are : xs ≡ joined (flat_grid r c xs).cells
+  cells_are = sym (joined-chunks r c xs h.full)
+
+  pub cell_within : (p : Position) (n : ℕ) → IsInside (flat_grid r c xs) p → n ≡ p.row * c + p.col → n < length xs
+  cell_within p n inside e = omega (arith, e, h.full, mul-add-lt p.row c p.col r inside.row inside.col)
+
+  pub cell_read : (p : Position) (n : ℕ) (x : A) → IsInside (flat_grid r c xs) p → n ≡ p.row * c + p.col → slice_get xs n ≡ Some x → cell_at (flat_grid r c xs) p ≡ Some x
+  cell_read p n x inside e read = sym (cell-joined (flat_grid r c xs) (is_even r c xs h) p n inside e) ∙ ap (λ ys. slice_get ys n) (sym cells_are) ∙ read
+
+  pub cell_written : (p : Position) (n : ℕ) (x : A) → IsInside (flat_grid r c xs) p → n ≡ p.row * c + p.col → flat_grid r c (set xs n x) ≡ with_cell (flat_grid r c xs) p x
+  cell_written p n x inside e =
+      view_of (with_cell (flat_grid r c xs) p x) r c (set xs n x) (IsEven-with_cell _ p x (is_even r c xs h)) refl refl
+      (ap (λ ys. set ys n x) cells_are ∙ written-joined (flat_grid r c xs) (is_even r c xs h) p n x inside e)
+
+  pub cells_swapped : (p q : Position) (m n : ℕ) → IsInside (flat_grid r c xs) p → IsInside (flat_grid r c xs) q → m ≡ p.row * c + p.col → n ≡ q.row * c + q.col → flat_grid r c (swap xs m n) ≡ with_cells_swapped (flat_grid r c xs) p q
+  cells_swapped p q m n in_p in_q e f =
+      view_of (with_cells_swapped (flat_grid r c xs) p q) r c (swap xs m n) (IsEven-with_cells_swapped _ p q (is_even r c xs h)) refl refl
+      (ap (λ ys. swap ys m n) cells_are ∙ swapped-joined (flat_grid r c xs) p q m n (is_even r c xs h) in_p in_q e f)
+
+  row_count : length (flat_grid r c xs).cells ≡ r
+  row_count = (is_even r c xs h).tall
+
+  pub row_read : (i m n : ℕ) → i < r → m ≡ c → n ≡ i * c → slice_get (flat_grid r c xs).cells i ≡ Some (take m (drop n xs))
+  row_read i m n within e f =
+      let below : i < length (flat_grid r c xs).cells = omega (arith, row_count, within) in
+      slice_get-get_or (flat_grid r c xs).cells i [] below
+      ∙ ap Some (sym (row-joined c (flat_grid r c xs).cells i (is_even r c xs h).wide below) ∙ ap (λ ys. take c (drop (i * c) ys)) (sym cells_are))
+      ∙ rw (e, f) refl
+
+  -- rows
+  module _ (is_blank : A → Type 0) (i rows : ℕ) (new : List A) (within : i ≤ r) (more : rows ≡ r + 1) (put : InsertsBlanks is_blank xs new (i * c) c) where
+    row_inserted_cells : new ≡ joined (with_row (flat_grid r c xs) i put.cells).cells
+    row_inserted_cells = put.is ∙ ap (λ ys. take (i * c) ys ++ (put.cells ++ drop (i * c) ys)) cells_are ∙ sym (joined-insert c (flat_grid r c xs).cells i put.cells (is_even r c xs h).wide)
+
+    pub row_inserted : InsertsRow is_blank (flat_grid r c xs) (flat_grid rows c new) i
+    row_inserted = record {
+      row = put.cells;
+      blanks = put.blanks;
+      is = view_of (with_row (flat_grid r c xs) i put.cells) rows c new (IsEven-with_row _ (is_even r c xs h) i put.cells within put.blanks.many) more refl row_inserted_cells;
+    }
+
+    pub row_inserted_full : IsFull rows c new
+    row_inserted_full = full_of (with_row (flat_grid r c xs) i put.cells) rows c new (IsEven-with_row _ (is_even r c xs h) i put.cells within put.blanks.many) more refl row_inserted_cells (λ e. absurd (omega (arith, e)))
+
+  pub row_removed : (i : ℕ) (new : List A) → i < r → r - 1 ≢ 0 → new ≡ take (i * c) xs ++ drop (i * c + c) xs → flat_grid (r - 1) c new ≡ without_row (flat_grid r c xs) i
+  row_removed i new within some is =
+      let several : eqb r 1 ≡ false = ne_eqb r 1 (λ e. some (omega (arith, e))) in
+      view_of (without_row (flat_grid r c xs) i) (r - 1) c new (IsEven-without_row _ i within (is_even r c xs h)) refl (rw several refl)
+      (is ∙ ap (λ ys. take (i * c) ys ++ drop (i * c + c) ys) cells_are ∙ sym (joined-remove c (flat_grid r c xs).cells i (i * c + c) (is_even r c xs h).wide refl))
+
+  rows_in_order : (i k : ℕ) (new : List A) → i < k → k < r → new ≡ with_runs_swapped xs (i * c) (k * c) c → flat_grid r c new ≡ with_rows_swapped (flat_grid r c xs) i k
+  rows_in_order i k new before within is =
+      view_of (with_rows_swapped (flat_grid r c xs) i k) r c new (IsEven-with_rows_swapped _ (is_even r c xs h) i k) refl refl
+      (is ∙ ap (λ ys. with_runs_swapped ys (i * c) (k * c) c) cells_are ∙ joined-swap c (flat_grid r c xs).cells i k (is_even r c xs h).wide before (omega (arith, row_count, within)))
+
+  pub rows_swapped : (i k first second : ℕ) (new : List A) → i < r → k < r → i ≢ k → first ≡ min i k → second ≡ max i k → new ≡ with_runs_swapped xs (first * c) (second * c) c → flat_grid r c new ≡ with_rows_swapped (flat_grid r c xs) i k
+  rows_swapped i k first second new i_in k_in apart e f is = either (cases_lt i k)
+    where
+      either : (i < k) ⊎ (k ≤ i) → flat_grid r c new ≡ with_rows_swapped (flat_grid r c xs) i k
+      either (inl before) =
+          let low : first ≡ i = omega (arith, e, before) in
+          let high : second ≡ k = omega (arith, f, before) in
+          rows_in_order i k new before k_in (is ∙ ap₂ (λ m n. with_runs_swapped xs (m * c) (n * c) c) low high)
+      either (inr after) =
+          let low : first ≡ k = omega (arith, e, after) in
+          let high : second ≡ i = omega (arith, f, after) in
+          let before : k < i = omega (arith, after, apart) in
+          rows_in_order k i new before i_in (is ∙ ap₂ (λ m n. with_runs_swapped xs (m * c) (n * c) c) low high)
+          ∙ rw (swap-turned (flat_grid r c xs).cells i k apart) refl
+
+  -- columns
+  pub columns_swapped : (j k : ℕ) (new : List A) → new ≡ joined (map (λ (row : List A). swap row j k) (chunks r c xs)) → flat_grid r c new ≡ with_columns_swapped (flat_grid r c xs) j k
+  columns_swapped j k new is = view_of (with_columns_swapped (flat_grid r c xs) j k) r c new (IsEven-with_columns_swapped _ (is_even r c xs h) j k) refl refl is
+
+  pub column_removed : (j : ℕ) (new : List A) → j < c → new ≡ joined (map (λ (row : List A). remove row j) (chunks r c xs)) → flat_grid r (c - 1) new ≡ without_column (flat_grid r c xs) j
+  column_removed j new within is = view_of (without_column (flat_grid r c xs) j) r (c - 1) new (IsEven-without_column _ (is_even r c xs h) j within) refl refl is
+
+  module _ (is_blank : A → Type 0) (room : List A) (put : AddsBlanks is_blank xs room r) where
+    -- the blanks lie behind the cells
+    pub blanks_behind : AreBlanks is_blank r (drop (r * c) room)
+    blanks_behind = rw (put.is, drop_at xs put.cells (r * c) h.full) put.blanks
+
+    pub column_inserted : (j : ℕ) (new : List A) → j ≤ c → r ≢ 0 → PutsBlanks is_blank (chunks r c (take (r * c) room)) new j → InsertsColumn is_blank (flat_grid r c xs) (flat_grid r (c + 1) new) j
+    column_inserted j new within some spread =
+        let before : take (r * c) room ≡ xs = ap (take (r * c)) put.is ∙ take_at xs put.cells (r * c) h.full in
+        let b = blank_column is_blank j (chunks r c xs) spread.wide (rw before at spread.each) in
+        let long : length b.column ≡ r = b.blanks.many ∙ row_count in
+        let several : eqb r 0 ≡ false = ne_eqb r 0 some in
+        record {
+          column = b.column;
+          blanks = record { blank = b.blanks.blank; many = long };
+          is = view_of (with_column (flat_grid r c xs) j b.column) r (c + 1) new (IsEven-with_column _ j b.column within long (is_even r c xs h)) refl (rw several refl) (spread.is ∙ ap joined b.is);
+        }

@@ -1,0 +1,71 @@
+-- Rows that vectors hold, as a grid of their own.
+use Rattle.std.specs.Global.{Vec}
+use Rattle.std.proofs.Common.{◌≡◌, ℕ, ◌<◌, ◌≤◌, List, [], ◌∷◌, Some, refl, sym, ap, ◌∙◌, subst, length, get_or, set, arith}
+use Rattle.std.specs.Prelude.{slice_get, vec_len}
+use Rattle.std.specs.List.{All, AllByRecursion, AllZip}
+use Rattle.std.specs.Vec.{with_item}
+use Rattle.std.proofs.lemmas.List.{map-set, length-map, get_or-map as get_or-map_within}
+use Rattle.std.proofs.lemmas.List.Elements.{All-from_recursion}
+use Rattle.std.proofs.lemmas.Option.{slice_get_read}
+use Rattle.std.proofs.Math.ListN.{get_or-map}
+use Rattle.tabled_grid.specs.declared.config.position.Position.{Position}
+use Rattle.tabled_grid.specs.Grid.{Grid, IsEmptyWithoutRows, IsEven, IsInside, cell_at, grid_of, map_items, width_of, with_cell}
+use Rattle.tabled_grid.specs.Resized.{InsertsBlank, InsertsColumn}
+use Rattle.tabled_grid.proofs.Blanks.{blank_column}
+use Rattle.tabled_grid.proofs.Grids.{IsEven-with_cell}
+use Rattle.tabled_grid.proofs.Resized.{IsEven-with_column, rowless-with_column}
+
+-- rows whose grid is this one
+pub record HaveGrid {A : Type 0} (rows : List (List A)) (g : Grid A) : Type 0 where
+  pub well : IsEven (grid_of rows)
+  pub is : grid_of rows ≡ g
+
+module _ {A : Type 0} where
+  width_is : (rows columns : ℕ) (cells : List (List A)) → length cells ≡ rows → AllByRecursion (λ (row : List A). length row ≡ columns) cells → (rows ≡ 0 → columns ≡ 0) → width_of cells ≡ columns
+  width_is rows columns [] tall wide none = sym (none (sym tall))
+  width_is rows columns (row ∷ cells) tall wide none = wide.0
+
+  pub rowless : (rows : List (List A)) → IsEmptyWithoutRows (grid_of rows)
+  rowless [] e = refl
+  rowless (row ∷ rows) e = absurd (omega (arith, e))
+
+  -- the rows of an even grid that has no columns without rows
+  pub have_grid : (g : Grid A) (rows : List (List A)) → IsEven g → IsEmptyWithoutRows g → rows ≡ g.cells → HaveGrid rows g
+  have_grid g rows even none e =
+      let is : grid_of rows ≡ g = ap grid_of e ∙ (rw (even.tall, width_is g.rows g.columns g.cells even.tall even.wide none) refl) in
+      record { well = subst IsEven (sym is) even; is = is }
+
+  -- what holds of the number of columns holds of the length of each row
+  pub each_long : (P : ℕ → Type 0) (columns : ℕ) (rows : List (Vec A)) → AllByRecursion (λ (row : List A). length row ≡ columns) (map_items rows) → P columns → All (λ (row : Vec A). P (vec_len row)) rows
+  each_long P columns rows wide h i d within =
+      let long : length (get_or (map_items rows) i d.items) ≡ columns = All-from_recursion _ _ wide i d.items (omega (arith, length-map rows (λ (v : Vec A). v.items))) in
+      subst P (sym long ∙ ap length (get_or-map (λ (v : Vec A). v.items) rows i d) ∙ sym (get_or rows i d).ok.0) h
+
+  -- a blank in each row is a column of blanks
+  pub column_inserted : (is_blank : A → Type 0) (j : ℕ) (old new : List (List A)) → IsEven (grid_of old) → j ≤ width_of old → AllZip (InsertsBlank is_blank j) old new → InsertsColumn is_blank (grid_of old) (grid_of new) j
+  column_inserted is_blank j old new even h put =
+      let c = blank_column is_blank j old new put in
+      record {
+        column = c.column;
+        blanks = c.blanks;
+        is = (have_grid _ new (IsEven-with_column (grid_of old) j c.column h c.blanks.many even) (rowless-with_column (grid_of old) j c.column (rowless old)) c.is).is;
+      }
+
+-- the row at p
+module _ {A : Type 0} (rows : List (Vec A)) (p : Position) (row : Vec A) (even : IsEven (grid_of (map_items rows))) (inside : IsInside (grid_of (map_items rows)) p) (is : row ≡ get_or rows p.row row) where
+  row_items : get_or (map_items rows) p.row [] ≡ row.items
+  row_items = get_or-map_within (λ (v : Vec A). v.items) rows p.row row [] (omega (arith, length-map rows (λ (v : Vec A). v.items), inside.row)) ∙ ap (λ (v : Vec A). v.items) (sym is)
+
+  -- the place is inside the row
+  pub row_holds : p.col < vec_len row
+  row_holds =
+      let wide : length (get_or (map_items rows) p.row []) ≡ width_of (map_items rows) = All-from_recursion _ _ even.wide p.row [] inside.row in
+      omega (arith, row.ok.0, inside.col, rw row_items at wide)
+
+  pub row_cell : (x : A) → x ≡ get_or row.items p.col x → cell_at (grid_of (map_items rows)) p ≡ Some x
+  row_cell x e = ap (λ ys. slice_get ys p.col) row_items ∙ slice_get_read row.items (vec_len row) p.col x row.ok.0 row_holds e
+
+  pub row_written : (x : A) → HaveGrid (map_items (set rows p.row (with_item row p.col x))) (with_cell (grid_of (map_items rows)) p x)
+  row_written x =
+      have_grid _ _ (IsEven-with_cell _ p x even) (rowless (map_items rows))
+      (map-set (λ (v : Vec A). v.items) rows p.row (with_item row p.col x) ∙ ap (λ ys. set (map_items rows) p.row (set ys p.col x)) (sym row_items))

@@ -1,0 +1,10 @@
+use Rattle.std.proofs.Common.{ap}
+use Rattle.std.specs.String.{string_bytes}
+use Rattle.tabled_grid.proofs.Grids.{texts_written}
+use Rattle.tabled_grid.proofs.records.nested_rows.VecVecTextStringRecordsMutString.set.Goals as goal
+
+pub returns-clause-ok : goal.returns-clause-ok
+returns-clause-ok c = record { cell = c.new.result; has = ap string_bytes c.new.ensures; is = c.write.ensures }
+
+pub returns-clause-texts : goal.returns-clause-texts
+returns-clause-texts c = texts_written _ _ _ _ _ (returns-clause-ok c)

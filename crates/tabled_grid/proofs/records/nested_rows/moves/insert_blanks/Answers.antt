@@ -1,0 +1,17 @@
+use Rattle.std.proofs.Common.{arith}
+use Rattle.tabled_grid.proofs.RowByRow.{changed_next, changed_more, changed_all, same_lens}
+use Rattle.tabled_grid.proofs.records.nested_rows.moves.insert_blanks.Goals as goal
+
+pub insert-requires : goal.insert-requires
+insert-requires g c = rw (changed_next _ _ _ c.loop-row.row-index c.row-item.result c.loop-row.invariant) (rw (same_lens _ _ c.loop-row.row-index c.row-item.result c.in_ok-reserve_each.ensures.cells) (c.requires c.loop-row.row-index c.row-item.result (omega arith)))
+
+pub unwrap-requires : goal.unwrap-requires
+unwrap-requires g c = c.insert.ensures.succeeds (rw (changed_next _ _ _ c.loop-row.row-index c.row-item.result c.loop-row.invariant) (c.in_ok-reserve_each.ensures.room _ _ (omega arith)))
+
+pub loop-row-preserved : goal.loop-row-preserved
+loop-row-preserved g c =
+    changed_more _ _ _ _ c.row-item.result _ (omega arith) c.loop-row.invariant
+    (rw (← changed_next _ _ _ c.loop-row.row-index c.row-item.result c.loop-row.invariant) (record { cell = c.blank.result; blank = c.blank.ensures; is = rw c.unwrap.ensures at c.insert.ensures.items }))
+
+pub returns-clause-ok : goal.returns-clause-ok
+returns-clause-ok g c = rw (← c.in_ok-reserve_each.ensures.cells) (changed_all _ _ _ _ (omega arith) c.loop-row.invariant)

@@ -1,7 +1,0 @@
-use Rattle.std.proofs.Common.{◌≡◌}
-use Rattle.std.specs.List.{swap}
-use Rattle.tabled_grid.proofs.RowByRow.{Changed}
-use Rattle.tabled_grid.proofs.records.nested_rows.swap_each.Given as goal
-
-abbrev pub invariant-loop-row : goal.invariant-loop-row
-invariant-loop-row g l = Changed (λ old new. new ≡ swap old l.j l.k) l.fn.rows l.rows l.row-index

@@ -1,0 +1,11 @@
+use Rattle.std.proofs.Common.{◌≡◌, ◌-◌, ◌*◌, ◌++◌, length}
+use Rattle.std.specs.Vec.Iter.{into_iter_items}
+use Rattle.tabled_grid.specs.Grid.{map_items}
+use Rattle.tabled_grid.specs.Flat.{chunks}
+use Rattle.tabled_grid.proofs.records.vec_records.moves.split.Given as goal
+
+abbrev pub invariant-loop : goal.invariant-loop
+invariant-loop g l = record {
+  size : length (into_iter_items l.left) ≡ (l.rows - l.counter) * l.columns;
+  whole : chunks l.rows l.columns l.fn.cells.items ≡ map_items l.nested.items ++ chunks (l.rows - l.counter) l.columns (into_iter_items l.left);
+}

@@ -1,0 +1,100 @@
+//! Work on rows in vectors of their own, row by row.
+
+ghost use Rattle.std.specs.Prelude.{◌≡◌, ◌<◌, ◌≤◌, List, IfOk, OnErr, OnOk, length, map, vec_capacity, vec_len};
+ghost use Rattle.std.specs.List.{All, AllZip, remove, swap};
+ghost use Rattle.std.specs.Global.{Vec};
+ghost use Rattle.tabled_grid.specs.Grid.{grid_of, map_items, width_of};
+ghost use Rattle.tabled_grid.specs.Resized.{AreBlanks, InsertsBlank, with_cells_swapped};
+
+use crate::config::Position;
+use crate::records::blank::Blank;
+use std::alloc::{AllocError, Global};
+use std::mem;
+
+/// The number of cells of the first row.
+pub(crate) fn width<T>(rows: &[Vec<T>]) -> usize
+    ensures { result ≡ width_of (map_items rows.now) }
+{
+    match rows.first() {
+        None => 0,
+        Some(row) => row.len(),
+    }
+}
+
+/// So many blanks.
+pub(crate) fn blanks<T: Blank>(alloc: Global, count: usize) -> Result<Vec<T>, AllocError>
+    ensures { IfOk result (λ cells. AreBlanks T.is_blank count cells.items) }
+{
+    let mut cells = Vec::with_capacity(alloc, count)?;
+    for _ in 0..count {
+        cells.push(T::blank(alloc))?;
+    }
+    Ok(cells)
+}
+
+/// Makes room for one more cell in each row, which changes no cell.
+fn reserve_each<T>(rows: &mut [Vec<T>]) -> Result<(), AllocError>
+    ensures cells { map_items rows.new ≡ map_items rows.old }
+    ensures room { OnOk result (All (λ (row : Vec T). vec_len row < vec_capacity row) rows.new) }
+{
+    for row in rows.iter_mut() {
+        row.reserve(1)?;
+    }
+    Ok(())
+}
+
+/// Inserts a blank into each row before place `j`. Refused, it leaves the cells as they were.
+pub(crate) fn insert_blanks<T: Blank>(
+    alloc: Global,
+    rows: &mut [Vec<T>],
+    j: usize,
+) -> Result<(), AllocError>
+    requires { All (λ (row : Vec T). j ≤ vec_len row) rows.old }
+    ensures ok { OnOk result (AllZip (InsertsBlank T.is_blank j) (map_items rows.old) (map_items rows.new)) }
+    ensures err { OnErr result (map_items rows.new ≡ map_items rows.old) }
+{
+    reserve_each(rows)?;
+    for row in rows.iter_mut() {
+        row.insert(j, T::blank(alloc)).unwrap();
+    }
+    Ok(())
+}
+
+/// Removes the cell at `j` from each row.
+pub(crate) fn remove_each<T: Drop>(rows: &mut [Vec<T>], j: usize)
+    requires { All (λ (row : Vec T). j < vec_len row) rows.old }
+    ensures { map_items rows.new ≡ map (λ (row : List T). remove row j) (map_items rows.old) }
+{
+    for row in rows.iter_mut() {
+        let _cell = row.remove(j);
+    }
+}
+
+/// Swaps the cells at `j` and `k` in each row.
+pub(crate) fn swap_each<T>(rows: &mut [Vec<T>], j: usize, k: usize)
+    requires j_within { All (λ (row : Vec T). j < vec_len row) rows.old }
+    requires k_within { All (λ (row : Vec T). k < vec_len row) rows.old }
+    ensures { map_items rows.new ≡ map (λ (row : List T). swap row j k) (map_items rows.old) }
+{
+    for row in rows.iter_mut() {
+        row.swap(j, k);
+    }
+}
+
+/// Swaps two cells.
+pub(crate) fn swap_cells<T: Drop>(rows: &mut [Vec<T>], p: Position, q: Position)
+    requires p_row { p.row < length rows.old }
+    requires p_col { All (λ (row : Vec T). p.col < vec_len row) rows.old }
+    requires q_row { q.row < length rows.old }
+    requires q_col { All (λ (row : Vec T). q.col < vec_len row) rows.old }
+    ensures { map_items rows.new ≡ (with_cells_swapped (grid_of (map_items rows.old)) p q).cells }
+{
+    if p.row == q.row {
+        rows[p.row].swap(p.col, q.col);
+        return;
+    }
+    let none = Vec::new(*rows[p.row].allocator());
+    let mut row = mem::replace(&mut rows[p.row], none);
+    mem::swap(&mut row[p.col], &mut rows[q.row][q.col]);
+    rows[p.row] = row;
+}

@@ -1,0 +1,50 @@
+//! Rows in vectors of their own, that grow and shrink.
+
+use super::moves::{blanks, insert_blanks, remove_each, swap_cells, swap_each};
+use crate::config::Position;
+use crate::records::blank::Blank;
+use crate::records::exact_records::ExactRecords;
+use crate::records::records::Records;
+use crate::records::resizable::Resizable;
+use std::alloc::{AllocError, Global};
+
+impl<T: Blank> Resizable for Vec<Vec<T>> {
+    fn push_row(&mut self, alloc: Global) -> Result<(), AllocError> {
+        self.insert_row(alloc, self.count_rows())
+    }
+
+    fn push_column(&mut self, alloc: Global) -> Result<(), AllocError> {
+        self.insert_column(alloc, self.count_columns())
+    }
+
+    fn insert_row(&mut self, alloc: Global, i: usize) -> Result<(), AllocError> {
+        let row = blanks(alloc, self.count_columns())?;
+        self.insert(i, row)?;
+        Ok(())
+    }
+
+    fn insert_column(&mut self, alloc: Global, j: usize) -> Result<(), AllocError> {
+        insert_blanks(alloc, self, j)?;
+        Ok(())
+    }
+
+    fn remove_row(&mut self, i: usize) {
+        let _row = self.remove(i);
+    }
+
+    fn remove_column(&mut self, j: usize) {
+        remove_each(self, j);
+    }
+
+    fn swap(&mut self, p: Position, q: Position) {
+        swap_cells(self, p, q);
+    }
+
+    fn swap_row(&mut self, i: usize, k: usize) {
+        self.as_mut_slice().swap(i, k);
+    }
+
+    fn swap_column(&mut self, j: usize, k: usize) {
+        swap_each(self, j, k);
+    }
+}
