@@ -5,8 +5,6 @@ mod entity;
 mod offset;
 mod position;
 mod spanned_config;
-#[cfg(test)]
-mod tests;
 
 pub use bounds::ToBounds;
 pub use entity::{Entity, EntityIterator};

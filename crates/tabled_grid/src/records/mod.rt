@@ -3,6 +3,7 @@
 //! A contract sees a store as its grid alone, a shape and the list of its rows.
 
 mod blank;
+mod borrowed;
 mod cell_text;
 mod exact_records;
 mod grid_store;
@@ -12,8 +13,6 @@ mod peekable_records;
 mod records;
 mod records_mut;
 mod resizable;
-#[cfg(test)]
-mod tests;
 pub mod vec_records;
 
 pub use blank::Blank;
@@ -23,5 +22,5 @@ pub use grid_store::GridStore;
 pub use peekable_records::PeekableRecords;
 pub use records::Records;
 pub use records_mut::RecordsMut;
-pub use resizable::Resizable;
+pub use resizable::{Resizable, empty_without_rows};
 pub use vec_records::{Text, VecRecords};

@@ -2,8 +2,6 @@
 
 mod moves;
 mod resizable;
-#[cfg(test)]
-mod tests;
 mod text;
 
 ghost use Rattle.std.specs.Prelude.{◌≡◌, ◌<◌, Some, slice_get, IfOk};

@@ -1,9 +1,9 @@
 //! What entities, places, ranges and offsets are, at examples and at the ends of `usize`.
 
-use super::{Entity, Offset, Position, SpannedConfig, ToBounds};
 use std::hash::{DefaultHasher, Hash, Hasher};
 use std::ops::Bound;
 use std::test::Fail;
+use tabled_grid::config::{Entity, Offset, Position, SpannedConfig, ToBounds};
 
 fn hash_of<T: Hash>(value: &T) -> u64 {
     let mut hasher = DefaultHasher::default();

@@ -1,0 +1,6 @@
+//! What an outsider writes over the libraries: each public call, once, and what it answers.
+#![tactic(auto)]
+
+#[cfg(test)]
+mod places;
+pub mod stores;

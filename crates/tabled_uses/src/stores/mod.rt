@@ -1,0 +1,169 @@
+//! Stores: made, read, written, grown and shrunk, whatever keeps their cells.
+
+ghost use Rattle.std.specs.Prelude.{◌≡◌, ◌+◌, ◌<◌, IfOk, OnErr, OnOk};
+ghost use Rattle.tabled_grid.specs.Grid.{IsEmptyWithoutRows, IsEven, IsInside, grid_of, map_items};
+
+#[cfg(test)]
+mod tests;
+
+use std::alloc::{AllocError, Global};
+use tabled_grid::config::Position;
+use tabled_grid::records::{
+    Blank, CellText, ExactRecords, PeekableRecords, Records, RecordsMut, Resizable, Text,
+    VecRecords, empty_without_rows,
+};
+
+/// A cell of a text.
+pub fn cell(alloc: Global, text: &str) -> Result<Text<String>, AllocError> {
+    Ok(Text::new(String::from_str(alloc, text)?))
+}
+
+/// The rows `a b / c d`, each in a vector of its own.
+pub fn two_rows(alloc: Global) -> Result<Vec<Vec<Text<String>>>, AllocError>
+    ensures { IfOk result (λ rows. IsEven (grid_of (map_items rows.items))) }
+{
+    let first = vec![in alloc; cell(alloc, "a")?, cell(alloc, "b")?]?;
+    let second = vec![in alloc; cell(alloc, "c")?, cell(alloc, "d")?]?;
+    Ok(vec![in alloc; first, second]?)
+}
+
+/// The table of the script in the README.
+pub fn fruits(alloc: Global) -> Result<VecRecords<Text<String>>, AllocError> {
+    let head = vec![in alloc; cell(alloc, "Fruit")?, cell(alloc, "Count")?]?;
+    let apple = vec![in alloc; cell(alloc, "Apple")?, cell(alloc, "3")?]?;
+    let pear = vec![in alloc; cell(alloc, "Pear")?, cell(alloc, "")?]?;
+    let mut table = VecRecords::new(alloc, vec![in alloc; head, apple, pear]?)?;
+    table.set(alloc, Position::new(2, 1), "5")?;
+    Ok(table)
+}
+
+/// A row of a store and the cell of it at a column, or nothing outside.
+pub fn read<T>(records: &VecRecords<T>, pos: Position) -> Option<(&[T], &T)> {
+    if pos.row < records.count_rows() && pos.col < records.count_columns() {
+        return Some((records.row(pos.row), records.get(pos)));
+    }
+    None
+}
+
+/// The shape of a store, and then a line for each row, with each text in brackets.
+pub fn spelled<R>(alloc: Global, records: &R) -> Result<String, AllocError>
+where
+    R: Records + ExactRecords + PeekableRecords,
+    R::Cell: CellText,
+    requires { R.is_well_formed records.now }
+{
+    let rows = records.count_rows();
+    let columns = records.count_columns();
+    let mut spelled = format!(in alloc; "{rows} x {columns}")?;
+    for row in 0..rows {
+        spelled.push('\n')?;
+        for col in 0..columns {
+            let text = records.get_text(Position::new(row, col));
+            spelled.push('[')?;
+            spelled.push_str(text)?;
+            spelled.push(']')?;
+        }
+    }
+    Ok(spelled)
+}
+
+/// A change of a store, at places that are cut down to its shape.
+#[derive(Clone, Copy, Debug)]
+pub enum Change {
+    PushRow,
+    PushColumn,
+    InsertRow(usize),
+    InsertColumn(usize),
+    RemoveRow(usize),
+    RemoveColumn(usize),
+    SwapRow(usize, usize),
+    SwapColumn(usize, usize),
+    Swap((usize, usize), (usize, usize)),
+    Set(usize, usize),
+}
+
+/// Changes any store, as a generic caller does.
+pub fn make_change<R>(alloc: Global, records: &mut R, change: Change) -> Result<(), AllocError>
+where
+    R: Resizable + Records + ExactRecords + RecordsMut<String>,
+    R::Cell: CellText,
+    requires { R.is_well_formed records.old }
+    ensures { R.is_well_formed records.new }
+{
+    let rows = records.count_rows();
+    let columns = records.count_columns();
+    match change {
+        Change::PushRow => return records.push_row(alloc),
+        Change::PushColumn => return records.push_column(alloc),
+        Change::InsertRow(i) => return records.insert_row(alloc, i.min(rows)),
+        Change::InsertColumn(j) => return records.insert_column(alloc, j.min(columns)),
+        _ => {}
+    }
+    if rows == 0 || columns == 0 {
+        return Ok(());
+    }
+    match change {
+        Change::RemoveRow(i) => records.remove_row(i % rows),
+        Change::RemoveColumn(j) => records.remove_column(j % columns),
+        Change::SwapRow(i, k) => records.swap_row(i % rows, k % rows),
+        Change::SwapColumn(j, l) => records.swap_column(j % columns, l % columns),
+        Change::Swap((i, j), (k, l)) => records.swap(
+            Position::new(i % rows, j % columns),
+            Position::new(k % rows, l % columns),
+        ),
+        Change::Set(i, j) => {
+            let text = format!(in alloc; "{i}{j}")?;
+            return records.set(alloc, Position::new(i % rows, j % columns), text);
+        }
+        _ => {}
+    }
+    Ok(())
+}
+
+/// Changes a store that is lent, through its `&mut`.
+pub fn change_lent<R>(alloc: Global, mut records: &mut R) -> Result<(), AllocError>
+where
+    R: Resizable + ExactRecords + RecordsMut<String>,
+    R::Cell: CellText,
+    requires { R.is_well_formed records.old }
+    ensures rows { OnOk result ((R.grid records.new).rows ≡ (R.grid records.old).rows + 1) }
+    ensures err { OnErr result (R.grid records.new ≡ R.grid records.old) }
+{
+    records.push_row(alloc)
+}
+
+/// Inserts a row and removes it again, also where it is the first.
+pub fn push_and_remove_row<R>(alloc: Global, records: &mut R) -> Result<(), AllocError>
+where
+    R: Resizable + ExactRecords,
+    R::Cell: Blank,
+    requires { R.is_well_formed records.old }
+    ensures { R.grid records.new ≡ R.grid records.old }
+{
+    let rows = records.count_rows();
+    records.push_row(alloc)?;
+    records.remove_row(rows);
+    Ok(())
+}
+
+/// The shape of any store: no columns without rows.
+pub fn shape<R>(records: &mut R) -> (usize, usize)
+where
+    R: Resizable + Records + ExactRecords,
+    R::Cell: Blank,
+    requires { R.is_well_formed records.old }
+    ensures rows { result.0 ≡ (R.grid records.old).rows }
+    ensures columns { result.1 ≡ (R.grid records.old).columns }
+    ensures kept { R.grid records.new ≡ R.grid records.old }
+    ensures rowless { IsEmptyWithoutRows (R.grid records.old) }
+{
+    empty_without_rows(records);
+    (records.count_rows(), records.count_columns())
+}
+
+/// The same of the stores of rows, which say so where their counts are read.
+pub fn columns_of<T>(records: &VecRecords<T>) -> usize
+    ensures { IsEmptyWithoutRows records.now }
+{
+    records.count_columns()
+}

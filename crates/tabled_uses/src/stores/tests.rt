@@ -1,0 +1,197 @@
+//! What the stores of rows hold after the same changes.
+
+ghost use Rattle.std.specs.Prelude.{◌<◌};
+
+use super::{
+    Change, cell, change_lent, fruits, make_change, push_and_remove_row, read, shape, spelled,
+    two_rows,
+};
+use std::alloc::{AllocError, Global};
+use std::marker::Model;
+use std::test::Fail;
+use tabled_grid::config::Position;
+use tabled_grid::records::{Blank, CellText, RecordsMut, Text, VecRecords};
+
+/// Rows that are equally long, each in a vector of its own.
+#[derive(Drop)]
+struct Nested {
+    rows: Vec<Vec<Text<String>>>,
+}
+
+impl Model for Nested {
+    ghost use Rattle.std.specs.Prelude.{String};
+    ghost use Rattle.std.specs.Global.{Global};
+    ghost use Rattle.tabled_grid.specs.Grid.{Grid, IsEven, grid_of, map_items};
+
+    ghost Value = { Grid (String Global) };
+
+    ghost view = { λ a. grid_of (map_items a.rows.items) };
+
+    ghost invariant = { λ a. IsEven (grid_of (map_items a.rows.items)) };
+}
+
+/// The same rows in each kind of store.
+#[derive(Drop)]
+struct Both {
+    flat: VecRecords<Text<String>>,
+    nested: Nested,
+}
+
+impl Both {
+    fn two_rows(alloc: Global) -> Result<Self, AllocError> {
+        Ok(Both {
+            flat: VecRecords::new(alloc, two_rows(alloc)?)?,
+            nested: Nested {
+                rows: two_rows(alloc)?,
+            },
+        })
+    }
+
+    fn change(&mut self, alloc: Global, kind: Change) -> Result<(), AllocError> {
+        make_change(alloc, &mut self.flat, kind)?;
+        make_change(alloc, &mut self.nested.rows, kind)
+    }
+
+    fn spelled(&self, alloc: Global) -> Result<(String, String), AllocError> {
+        Ok((
+            spelled(alloc, &self.flat)?,
+            spelled(alloc, &self.nested.rows)?,
+        ))
+    }
+}
+
+#[test]
+fn changes_rows_columns_and_cells(rt: HostRuntime) -> Result<(), Fail> {
+    use Change::*;
+    let alloc = rt.alloc();
+    let cases = [
+        (
+            [SwapRow(1, 1), SwapColumn(0, 0), Swap((1, 0), (1, 0))],
+            "2 x 2\n[a][b]\n[c][d]",
+        ),
+        (
+            [SwapRow(0, 1), SwapColumn(1, 0), Set(1, 1)],
+            "2 x 2\n[d][c]\n[b][11]",
+        ),
+        (
+            [Swap((0, 1), (1, 0)), Swap((1, 1), (1, 0)), PushRow],
+            "3 x 2\n[a][c]\n[d][b]\n[][]",
+        ),
+        (
+            [InsertColumn(1), InsertRow(0), SwapColumn(0, 2)],
+            "3 x 3\n[][][]\n[b][][a]\n[d][][c]",
+        ),
+        (
+            [PushRow, InsertRow(1), PushColumn],
+            "4 x 3\n[a][b][]\n[][][]\n[c][d][]\n[][][]",
+        ),
+        ([RemoveColumn(0), RemoveRow(0), PushColumn], "1 x 2\n[d][]"),
+        ([RemoveRow(1), RemoveRow(0), PushColumn], "0 x 0"),
+        ([RemoveRow(0), RemoveRow(0), PushRow], "1 x 0\n"),
+        ([RemoveColumn(1), RemoveColumn(0), PushRow], "3 x 0\n\n\n"),
+        (
+            [RemoveColumn(1), RemoveColumn(0), PushColumn],
+            "2 x 1\n[]\n[]",
+        ),
+    ];
+    for (changes, want) in cases {
+        let mut both = Both::two_rows(alloc)?;
+        let [first, second, third] = changes;
+        both.change(alloc, first)?;
+        both.change(alloc, second)?;
+        both.change(alloc, third)?;
+        let (flat, nested) = both.spelled(alloc)?;
+        assert_eq!(rt; flat.as_str(), want, "{changes:?}");
+        assert_eq!(rt; nested.as_str(), want, "{changes:?}");
+    }
+    Ok(())
+}
+
+/// The next number of a fixed sequence, below a bound.
+fn next_below(seed: &mut u64, bound: u64) -> usize
+    requires { 0 < bound }
+{
+    *seed = seed
+        .wrapping_mul(6364136223846793005)
+        .wrapping_add(1442695040888963407);
+    (*seed >> 33) as usize % bound as usize
+}
+
+#[test]
+fn agrees_after_random_changes(rt: HostRuntime) -> Result<(), Fail> {
+    let alloc = rt.alloc();
+    let mut both = Both::two_rows(alloc)?;
+    let mut seed = 1;
+    for _ in 0..600 {
+        let kind = next_below(&mut seed, 12);
+        let (i, j) = (next_below(&mut seed, 8), next_below(&mut seed, 8));
+        let (k, l) = (next_below(&mut seed, 8), next_below(&mut seed, 8));
+        let kind = match kind {
+            0 => Change::PushRow,
+            1 => Change::PushColumn,
+            2 => Change::InsertRow(i),
+            3 => Change::InsertColumn(j),
+            4 => Change::RemoveRow(i),
+            5 => Change::RemoveColumn(j),
+            6 => Change::SwapRow(i, k),
+            7 => Change::SwapColumn(j, l),
+            8 => Change::Swap((i, j), (k, l)),
+            _ => Change::Set(i, j),
+        };
+        both.change(alloc, kind)?;
+        let (flat, nested) = both.spelled(alloc)?;
+        assert_eq!(rt; flat.as_str(), nested.as_str(), "{kind:?}");
+    }
+    Ok(())
+}
+
+#[test]
+fn reads_and_writes(rt: HostRuntime) -> Result<(), Fail> {
+    let alloc = rt.alloc();
+    let mut table = fruits(alloc)?;
+    assert_eq!(rt;
+        spelled(alloc, &table)?.as_str(),
+        "3 x 2\n[Fruit][Count]\n[Apple][3]\n[Pear][5]"
+    );
+    let (row, text) = match read(&table, Position::new(1, 0)) {
+        Some((row, cell)) => (row.len(), cell.as_str()),
+        None => (0, ""),
+    };
+    assert_eq!(rt; (row, text), (2, "Apple"));
+    assert!(rt; read(&table, Position::new(3, 0)).is_none());
+    push_and_remove_row(alloc, &mut table)?;
+    change_lent(alloc, &mut table)?;
+    assert_eq!(rt; shape(&mut table), (4, 2));
+    let rows = table.into_rows(alloc)?;
+    assert_eq!(rt;
+        rows.iter()
+            .map(|row| row.len())
+            .collect::<Vec<_>>(alloc)?
+            .as_slice(),
+        [2, 2, 2, 2].as_slice()
+    );
+    let mut none: VecRecords<Text<String>> = VecRecords::new(alloc, Vec::new(alloc))?;
+    push_and_remove_row(alloc, &mut none)?;
+    assert_eq!(rt; shape(&mut none), (0, 0));
+    Ok(())
+}
+
+fn is_empty<C: CellText>(alloc: Global) -> bool {
+    C::blank(alloc).text().is_empty()
+}
+
+#[test]
+fn holds_numbers_and_blanks(rt: HostRuntime) -> Result<(), Fail> {
+    let alloc = rt.alloc();
+    let numbers = vec![in alloc; vec![in alloc; 1_usize, 2, 3]?, vec![in alloc; 4, 5, 6]?]?;
+    let store = VecRecords::new(alloc, numbers)?;
+    assert_eq!(rt; *store.get(Position::new(1, 2)), 6);
+    assert_eq!(rt; store.row(0), [1, 2, 3].as_slice());
+    assert!(rt; is_empty::<String>(alloc));
+    assert!(rt; is_empty::<&str>(alloc));
+    assert!(rt; is_empty::<Text<String>>(alloc));
+    assert_eq!(rt; usize::blank(alloc), 0);
+    assert_eq!(rt; Text::new("a").into_inner(), "a");
+    assert_eq!(rt; cell(alloc, "b")?.as_str(), "b");
+    Ok(())
+}
