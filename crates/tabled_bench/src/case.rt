@@ -1,6 +1,7 @@
 //! The cases.
 
-use crate::{builders, selectors};
+use crate::stores::Change;
+use crate::{builders, selectors, stores};
 use std::alloc::{AllocError, Global};
 use tabled_grid::records::ExactRecords;
 
@@ -19,6 +20,8 @@ pub(crate) enum Case {
     Frame,
     NotFrame,
     And,
+    Flat(Change),
+    Nested(Change),
 }
 
 impl Case {
@@ -36,6 +39,23 @@ impl Case {
             "frame" => Some(Case::Frame),
             "not_frame" => Some(Case::NotFrame),
             "and" => Some(Case::And),
+            _ => Case::of_store(name),
+        }
+    }
+
+    fn of_store(name: &str) -> Option<Case> {
+        let (store, change) = name.split_once('_')?;
+        let change = match change {
+            "store" => Change::Nothing,
+            "row" => Change::MiddleRow,
+            "column" => Change::MiddleColumn,
+            "rows" => Change::Rows,
+            "columns" => Change::Columns,
+            _ => return None,
+        };
+        match store {
+            "flat" => Some(Case::Flat(change)),
+            "nested" => Some(Case::Nested(change)),
             _ => None,
         }
     }
@@ -55,6 +75,8 @@ impl Case {
             Case::Frame => selectors::frame(alloc, size),
             Case::NotFrame => selectors::not_frame(alloc, size),
             Case::And => selectors::and(alloc, size),
+            Case::Flat(change) => stores::flat(alloc, size, change),
+            Case::Nested(change) => stores::nested(alloc, size, change),
         }
     }
 }

@@ -6,6 +6,7 @@
 mod builders;
 mod case;
 mod selectors;
+mod stores;
 
 use case::Case;
 use std::process::ExitCode;

@@ -1,0 +1,95 @@
+//! Calls of the two stores of rows.
+//!
+//! The cells are blank texts, which take no memory of their own.
+
+use std::alloc::{AllocError, Global};
+use std::mem;
+use tabled_grid::records::{ExactRecords, Records, Resizable, Text, VecRecords};
+
+/// How often each change is made and undone.
+const TIMES: usize = 20;
+
+/// What is changed.
+#[derive(Clone, Copy)]
+pub(crate) enum Change {
+    /// Nothing: the store is only made.
+    Nothing,
+    /// A row or column is inserted in the middle and removed again.
+    MiddleRow,
+    MiddleColumn,
+    /// The first row or column is swapped with the last.
+    Rows,
+    Columns,
+}
+
+/// A store of `size x size` blanks in one vector, changed many times.
+pub(crate) fn flat(alloc: Global, size: usize, change: Change) -> Result<usize, AllocError> {
+    let mut store: VecRecords<Text<String>> = VecRecords::new(alloc, Vec::new(alloc))?;
+    store.push_row(alloc)?;
+    for _ in 0..size {
+        store.push_column(alloc)?;
+    }
+    for _ in 1..size {
+        store.push_row(alloc)?;
+    }
+    change_often(alloc, &mut store, change)?;
+    let rows = store.count_rows();
+    mem::forget(store);
+    Ok(rows)
+}
+
+/// The same in a vector for each row.
+pub(crate) fn nested(alloc: Global, size: usize, change: Change) -> Result<usize, AllocError> {
+    let mut store: Vec<Vec<Text<String>>> = Vec::new(alloc);
+    store.push_row(alloc)?;
+    for _ in 0..size {
+        store.push_column(alloc)?;
+    }
+    for _ in 1..size {
+        store.push_row(alloc)?;
+    }
+    change_often(alloc, &mut store, change)?;
+    let rows = store.count_rows();
+    mem::forget(store);
+    Ok(rows)
+}
+
+fn change_often<R>(alloc: Global, records: &mut R, change: Change) -> Result<(), AllocError>
+where
+    R: Resizable + Records + ExactRecords,
+    R::Cell: tabled_grid::records::Blank,
+    requires { R.is_well_formed records.old }
+    ensures { R.is_well_formed records.new }
+{
+    for _ in 0..TIMES {
+        change_once(alloc, records, change)?;
+    }
+    Ok(())
+}
+
+fn change_once<R>(alloc: Global, records: &mut R, change: Change) -> Result<(), AllocError>
+where
+    R: Resizable + Records + ExactRecords,
+    R::Cell: tabled_grid::records::Blank,
+    requires { R.is_well_formed records.old }
+    ensures { R.is_well_formed records.new }
+{
+    let (rows, columns) = (records.count_rows(), records.count_columns());
+    if rows == 0 || columns == 0 {
+        return Ok(());
+    }
+    match change {
+        Change::Nothing => {}
+        Change::MiddleRow => {
+            records.insert_row(alloc, rows / 2)?;
+            records.remove_row(rows / 2);
+        }
+        Change::MiddleColumn => {
+            records.insert_column(alloc, columns / 2)?;
+            records.remove_column(columns / 2);
+        }
+        Change::Rows => records.swap_row(0, rows - 1),
+        Change::Columns => records.swap_column(0, columns - 1),
+    }
+    Ok(())
+}
