@@ -4,7 +4,7 @@
 
 use std::alloc::{AllocError, Global};
 use std::mem;
-use tabled_grid::records::{ExactRecords, Records, Resizable, Text, VecRecords};
+use tabled_grid::records::{Blank, ExactRecords, Records, Resizable, Text, VecRecords};
 
 /// How often each change is made and undone.
 const TIMES: usize = 20;
@@ -25,13 +25,7 @@ pub(crate) enum Change {
 /// A store of `size x size` blanks in one vector, changed many times.
 pub(crate) fn flat(alloc: Global, size: usize, change: Change) -> Result<usize, AllocError> {
     let mut store: VecRecords<Text<String>> = VecRecords::new(alloc, Vec::new(alloc))?;
-    store.push_row(alloc)?;
-    for _ in 0..size {
-        store.push_column(alloc)?;
-    }
-    for _ in 1..size {
-        store.push_row(alloc)?;
-    }
+    fill(alloc, &mut store, size)?;
     change_often(alloc, &mut store, change)?;
     let rows = store.count_rows();
     mem::forget(store);
@@ -41,23 +35,35 @@ pub(crate) fn flat(alloc: Global, size: usize, change: Change) -> Result<usize, 
 /// The same in a vector for each row.
 pub(crate) fn nested(alloc: Global, size: usize, change: Change) -> Result<usize, AllocError> {
     let mut store: Vec<Vec<Text<String>>> = Vec::new(alloc);
-    store.push_row(alloc)?;
-    for _ in 0..size {
-        store.push_column(alloc)?;
-    }
-    for _ in 1..size {
-        store.push_row(alloc)?;
-    }
+    fill(alloc, &mut store, size)?;
     change_often(alloc, &mut store, change)?;
     let rows = store.count_rows();
     mem::forget(store);
     Ok(rows)
 }
 
+/// Grows a store by `size` rows and columns.
+fn fill<R>(alloc: Global, records: &mut R, size: usize) -> Result<(), AllocError>
+where
+    R: Resizable,
+    R::Cell: Blank,
+    requires { R.is_well_formed records.old }
+    ensures { R.is_well_formed records.new }
+{
+    records.push_row(alloc)?;
+    for _ in 0..size {
+        records.push_column(alloc)?;
+    }
+    for _ in 1..size {
+        records.push_row(alloc)?;
+    }
+    Ok(())
+}
+
 fn change_often<R>(alloc: Global, records: &mut R, change: Change) -> Result<(), AllocError>
 where
     R: Resizable + Records + ExactRecords,
-    R::Cell: tabled_grid::records::Blank,
+    R::Cell: Blank,
     requires { R.is_well_formed records.old }
     ensures { R.is_well_formed records.new }
 {
@@ -70,7 +76,7 @@ where
 fn change_once<R>(alloc: Global, records: &mut R, change: Change) -> Result<(), AllocError>
 where
     R: Resizable + Records + ExactRecords,
-    R::Cell: tabled_grid::records::Blank,
+    R::Cell: Blank,
     requires { R.is_well_formed records.old }
     ensures { R.is_well_formed records.new }
 {
