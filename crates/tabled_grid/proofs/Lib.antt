@@ -1,4 +1,5 @@
 pub mod Blanks
+pub mod FittingAnchors
 pub mod Flat
 pub mod FlatCells
 pub mod FlatColumns
@@ -7,14 +8,19 @@ pub mod FlatSlides
 pub mod FlatSplits
 pub mod FlatSpreads
 pub mod FlatStore
+pub mod Geometry
 pub mod Grids
 pub mod Lists
 pub mod Mapped
+pub mod MarkedAnchors
 pub mod NestedRows
+pub mod PassedAnchors
 pub mod Places
 pub mod Resized
 pub mod RowByRow
 pub mod SamePlaces
+pub mod SortedAnchors
 pub mod SortedEntries
+pub mod SpanMaps
 pub mod Spans
 pub mod Swaps

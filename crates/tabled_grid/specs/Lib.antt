@@ -1,7 +1,9 @@
+pub mod Anchors
 pub mod Bounds
 pub mod Entity
 pub mod Flat
 pub mod Grid
 pub mod Moves
+pub mod Rectangles
 pub mod Resized
 pub mod Spans

@@ -1,5 +1,6 @@
 //! Places of a table, and what names them.
 
+mod anchors;
 mod bounds;
 mod entity;
 mod offset;

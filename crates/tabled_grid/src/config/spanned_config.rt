@@ -1,11 +1,13 @@
 //! Which cells are merged.
 
-ghost use Rattle.std.specs.Prelude.{◌≡◌, ◌<◌, ◌≤◌, ◌⊎◌, ℕ, IsOk, IsSome, OnErr, OnOk, SomeIff, length};
+ghost use Rattle.std.specs.Prelude.{◌≡◌, ◌<◌, ◌≤◌, ◌↔◌, ◌⊎◌, ℕ, IfOk, IsOk, IsSome, IsTrue, OnErr, OnOk, SomeIff, length};
 ghost use Rattle.std.specs.FinMap as map;
 ghost use Rattle.std.specs.List.Sorted.{IsBinarySearchResult, IsSearchInRange};
+ghost use Rattle.tabled_grid.specs.Rectangles.{Fits, column_spans, drop_hidden, is_covered_across, is_covered_down, is_visible, row_spans};
 ghost use Rattle.tabled_grid.specs.Spans.{AreSpanSizes, IsSpanSize, position_cmp, size_at, with_column_span, with_row_span, with_size};
 ghost use Rattle.tabled_grid.specs.declared.config.position.Position.{Position};
 
+use crate::config::anchors::{self, Anchor};
 use crate::config::position::Position;
 use std::alloc::{AllocError, Global};
 use std::marker::Model;
@@ -19,7 +21,7 @@ use std::marker::Model;
 #[derive(Drop)]
 pub struct SpannedConfig {
     /// The anchors and the height and width of each, row by row.
-    anchors: Vec<(Position, (usize, usize))>,
+    anchors: Vec<Anchor>,
 }
 
 impl Model for SpannedConfig {
@@ -117,6 +119,78 @@ impl SpannedConfig {
         self.set_size(pos, (height, width))
     }
 
+    /// The anchors of rectangles wider than one column, and their widths, row by row.
+    ///
+    /// Ported from `tabled::grid::config::SpannedConfig::get_column_spans`.
+    pub fn get_column_spans(&self, alloc: Global) -> Result<Vec<(Position, usize)>, AllocError>
+        ensures { IfOk result (λ spans. spans.items ≡ column_spans self.now) }
+    {
+        anchors::widths(alloc, &self.anchors)
+    }
+
+    /// The anchors of rectangles higher than one row, and their heights, row by row.
+    ///
+    /// Ported from `tabled::grid::config::SpannedConfig::get_row_spans`.
+    pub fn get_row_spans(&self, alloc: Global) -> Result<Vec<(Position, usize)>, AllocError>
+        ensures { IfOk result (λ spans. spans.items ≡ row_spans self.now) }
+    {
+        anchors::heights(alloc, &self.anchors)
+    }
+
+    /// Says whether no other anchor's rectangle holds a cell.
+    ///
+    /// Ported from `tabled::grid::config::SpannedConfig::is_cell_visible`.
+    pub fn is_cell_visible(&self, pos: Position) -> bool
+        ensures visible { result ≡ is_visible self.now pos }
+        ensures sizes { AreSpanSizes self.now }
+    {
+        self.keeps_sizes();
+        !anchors::is_hidden(&self.anchors, pos)
+    }
+
+    /// Says whether an anchor in a cell's row, left of it, has a width that reaches it.
+    ///
+    /// Ported from `tabled::grid::config::SpannedConfig::is_cell_covered_by_column_span`.
+    pub fn is_cell_covered_by_column_span(&self, pos: Position) -> bool
+        ensures { result ≡ is_covered_across self.now pos }
+    {
+        anchors::is_covered_across(&self.anchors, pos)
+    }
+
+    /// Says whether an anchor in a cell's column, above it, has a height that reaches it.
+    ///
+    /// Ported from `tabled::grid::config::SpannedConfig::is_cell_covered_by_row_span`.
+    pub fn is_cell_covered_by_row_span(&self, pos: Position) -> bool
+        ensures { result ≡ is_covered_down self.now pos }
+    {
+        anchors::is_covered_down(&self.anchors, pos)
+    }
+
+    /// Removes, at once, all anchors that another anchor's rectangle holds. It takes no memory.
+    pub fn drop_hidden(&mut self)
+        ensures { self.new ≡ drop_hidden self.old }
+    {
+        anchors::drop_hidden(&mut self.anchors);
+    }
+
+    /// Says whether all rectangles lie inside a table (`rows x columns`) and no two share a cell.
+    pub fn fits(&self, rows: usize, columns: usize) -> bool
+        ensures fits { IsTrue result ↔ Fits self.now rows columns }
+        ensures sizes { AreSpanSizes self.now }
+    {
+        self.keeps_sizes();
+        anchors::fit(&self.anchors, rows, columns)
+    }
+
+    /// A copy.
+    pub fn copy(&self, _alloc: Global) -> Result<SpannedConfig, AllocError>
+        ensures { IfOk result (λ copy. copy ≡ self.now) }
+    {
+        Ok(SpannedConfig {
+            anchors: self.anchors.clone()?,
+        })
+    }
+
     /// Sets the size at a place. Refused for memory, it changes nothing.
     fn set_size(&mut self, pos: Position, size: (usize, usize)) -> Result<(), AllocError>
         requires height { 1 ≤ size.0 }
@@ -190,7 +264,7 @@ impl SpannedConfig {
 }
 
 /// The index of the anchor at a place, or else that where it would stand.
-fn search(anchors: &[(Position, (usize, usize))], pos: Position) -> Result<usize, usize>
+fn search(anchors: &[Anchor], pos: Position) -> Result<usize, usize>
     ensures within { IsSearchInRange result (length anchors.now) }
     ensures found { IsBinarySearchResult (λ (anchor : Position × (ℕ × ℕ)). position_cmp anchor.0 pos) anchors.now result }
 {

@@ -1,0 +1,192 @@
+-- Going through sorted anchors from one on, and stopping once they are past its rectangle.
+use Rattle.std.proofs.Common.{◌≡◌, ℕ, zero, suc, ◌+◌, ◌-◌, ◌<◌, ◌≤◌, ◌⊎◌, inl, inr, Bool, true, false, cond, List, [], ◌∷◌, ◌++◌, refl, sym, ap, ap₂, subst, ◌∙◌, arith, length, get_or, take, drop, set, map, append_assoc}
+use Rattle.std.specs.Prelude.{T, ◌&&◌, ◌||◌, ◌==◌, nat_le, nat_lt, not}
+use Rattle.std.specs.FinMap.{is_sorted}
+use Rattle.std.specs.FinMap.Entries.{below_all}
+use Rattle.std.specs.List.{list_all}
+use Rattle.std.specs.Ordering.{MatchOrdering, is_lt, nat_cmp, ordering_then}
+use Rattle.std.specs.declared.cmp.Ordering.{Ordering}
+use Rattle.std.specs.declared.cmp.Ordering.TheVariants.{Less, Equal, Greater}
+use Rattle.std.proofs.lemmas.Bool.{and_from, and_parts, cases_Bool, false_from_ne_true, or_cases, or_left, or_right}
+use Rattle.std.proofs.lemmas.Cmp.{ranked}
+use Rattle.std.proofs.lemmas.List.{append-nil, drop-drop, drop_all, drop-set-lt, get_or_default, take_more, take_more_set, drop_more, get_or-drop, map-append, map_more, take_all, take-append-drop, length-drop}
+use Rattle.std.proofs.lemmas.Grind.{drop_more_same}
+use borrow.Author.Tests.{eq-eqb, eqb-true, le-leb, leb-true, lt-ltb, ltb-true}
+use Rattle.tabled_grid.specs.Spans.{position_cmp}
+use Rattle.tabled_grid.specs.declared.config.position.Position.{Position}
+use Rattle.tabled_grid.specs.Anchors.{Anchor, is_past, meets, unless_held}
+use Rattle.tabled_grid.specs.Rectangles.{in_rect}
+use Rattle.tabled_grid.proofs.Geometry.{In}
+use Rattle.tabled_grid.proofs.SpanMaps.{in_rect-true, halves, less}
+
+-- the first comes before the second, row by row
+abbrev pub Earlier : Position → Position → Type 0
+Earlier p q = (p.row < q.row) ⊎ ((p.row ≡ q.row) × (p.col < q.col))
+
+pub earlier : (p q : Position) → position_cmp p q ≡ Less → Earlier p q
+earlier p q h = by_row (nat_cmp p.row q.row) (ranked p.row q.row (nat_cmp p.row q.row) refl) h
+  where
+    col : MatchOrdering (nat_cmp p.col q.col) (p.col < q.col) (p.col ≡ q.col) (q.col < p.col) → nat_cmp p.col q.col ≡ Less → p.col < q.col
+    col m e = subst (λ (o : Ordering). MatchOrdering o (p.col < q.col) (p.col ≡ q.col) (q.col < p.col)) e m
+
+    by_row : (o : Ordering) → MatchOrdering o (p.row < q.row) (p.row ≡ q.row) (q.row < p.row) → ordering_then o (nat_cmp p.col q.col) ≡ Less → Earlier p q
+    by_row Less m e = inl m
+    by_row Equal m e = inr (m, col (ranked p.col q.col (nat_cmp p.col q.col) refl) e)
+    by_row Greater m e = cc
+
+-- what the test says
+pub record IsPast (a : Anchor) (p : Position) : Type 0 where
+  pub after : a.0.row ≤ p.row
+  pub below : (a.0.row + a.1.0 ≤ p.row) ⊎ ((a.0.row + a.1.0 ≡ p.row + 1) × (a.0.col + a.1.1 ≤ p.col))
+
+pub past-true : (a : Anchor) (p : Position) → is_past a p ≡ true → IsPast a p
+past-true a p t = let parts = and_parts _ _ t in record { after = leb-true _ _ parts.0; below = either (or_cases _ _ parts.1) }
+  where
+    either : (nat_le (a.0.row + a.1.0) p.row ≡ true) ⊎ (((a.0.row + a.1.0 == p.row + 1) && nat_le (a.0.col + a.1.1) p.col) ≡ true) → (a.0.row + a.1.0 ≤ p.row) ⊎ ((a.0.row + a.1.0 ≡ p.row + 1) × (a.0.col + a.1.1 ≤ p.col))
+    either (inl b) = inl (leb-true _ _ b)
+    either (inr b) = let ends = and_parts _ _ b in inr (eqb-true _ _ ends.0, leb-true _ _ ends.1)
+
+-- past a rectangle, and so is what comes later
+pub past_later : (a : Anchor) (p q : Position) → IsPast a p → Earlier p q → IsPast a q
+past_later a p q past later = by past.below later
+  where
+    after : a.0.row ≤ p.row
+    after = past.after
+
+    by : (a.0.row + a.1.0 ≤ p.row) ⊎ ((a.0.row + a.1.0 ≡ p.row + 1) × (a.0.col + a.1.1 ≤ p.col)) → Earlier p q → IsPast a q
+    by (inl b) (inl l) = record { after = omega (arith, past.after); below = inl (omega arith) }
+    by (inl b) (inr l) = record { after = omega (arith, past.after); below = inl (omega arith) }
+    by (inr b) (inl l) = record { after = omega (arith, past.after); below = inl (omega arith) }
+    by (inr b) (inr l) = record { after = omega (arith, past.after); below = inr (omega arith, omega arith) }
+
+pub past_out : (a : Anchor) (p : Position) → IsPast a p → in_rect a.0 a.1 p ≡ false
+past_out a p past = false_from_ne_true _ (λ t. out past.below (in_rect-true a.0 p a.1 t))
+  where
+    out : (a.0.row + a.1.0 ≤ p.row) ⊎ ((a.0.row + a.1.0 ≡ p.row + 1) × (a.0.col + a.1.1 ≤ p.col)) → In a.0 a.1 p → ⊥
+    out (inl b) h = omega (arith, h.bottom)
+    out (inr b) h = omega (arith, h.right)
+
+-- two rectangles share a cell
+pub record Meets (a b : Anchor) : Type 0 where
+  pub above : a.0.row < b.0.row + b.1.0
+  pub below : b.0.row < a.0.row + a.1.0
+  pub left : a.0.col < b.0.col + b.1.1
+  pub right : b.0.col < a.0.col + a.1.1
+
+pub meets-true : (a b : Anchor) → meets a b ≡ true → Meets a b
+meets-true a b t =
+    let rows = and_parts _ _ (and_parts _ _ t).0 in
+    let columns = and_parts _ _ (and_parts _ _ t).1 in
+    record { above = ltb-true _ _ rows.0; below = ltb-true _ _ rows.1; left = ltb-true _ _ columns.0; right = ltb-true _ _ columns.1 }
+
+pub meets-from : (a b : Anchor) → Meets a b → meets a b ≡ true
+meets-from a b m = and_from _ _ (and_from _ _ (lt-ltb _ _ m.above) (lt-ltb _ _ m.below)) (and_from _ _ (lt-ltb _ _ m.left) (lt-ltb _ _ m.right))
+
+pub past_apart : (a b : Anchor) → IsPast a b.0 → meets a b ≡ false
+past_apart a b past = false_from_ne_true _ (λ t. out past.below (meets-true a b t))
+  where
+    out : (a.0.row + a.1.0 ≤ b.0.row) ⊎ ((a.0.row + a.1.0 ≡ b.0.row + 1) × (a.0.col + a.1.1 ≤ b.0.col)) → Meets a b → ⊥
+    out (inl b) h = omega (arith, h.below)
+    out (inr b) h = omega (arith, h.right)
+
+-- a list in order whose first is past an anchor's rectangle
+past_first : (a e f : Anchor) (es : List Anchor) → T (is_sorted position_cmp (e ∷ f ∷ es)) → IsPast a e.0 → IsPast a f.0
+past_first a e f es up past = past_later a e.0 f.0 past (earlier e.0 f.0 (less _ (halves _ _ (halves _ _ up).0).0))
+
+pub none_held : (a e : Anchor) (es : List Anchor) → T (is_sorted position_cmp (e ∷ es)) → IsPast a e.0 → map (unless_held a) (e ∷ es) ≡ e ∷ es
+none_held a e [] up past = ap (λ b. cond b (e.0, (0, 0)) e ∷ []) (past_out a e.0 past)
+none_held a e (f ∷ es) up past = ap₂ (λ x xs. x ∷ xs) (ap (λ b. cond b (e.0, (0, 0)) e) (past_out a e.0 past)) (none_held a f es (halves _ _ up).1 (past_first a e f es up past))
+
+pub none_meets : (a e : Anchor) (es : List Anchor) → T (is_sorted position_cmp (e ∷ es)) → IsPast a e.0 → list_all (λ (f : Anchor). not (meets a f)) (e ∷ es) ≡ true
+none_meets a e [] up past = and_from _ _ (ap not (past_apart a e past)) refl
+none_meets a e (f ∷ es) up past = and_from _ _ (ap not (past_apart a e past)) (none_meets a f es (halves _ _ up).1 (past_first a e f es up past))
+
+-- what is left of a list in order is in order
+pub sorted_drop : (n : ℕ) (es : List Anchor) → T (is_sorted position_cmp es) → T (is_sorted position_cmp (drop n es))
+sorted_drop zero es up = up
+sorted_drop (suc n) [] up = tt
+sorted_drop (suc n) (e ∷ es) up = sorted_drop n es (halves _ _ up).1
+
+module _ {A : Type 0} (f : A → A) (old : List A) (first : ℕ) where
+  -- from index first to k the members were changed, and from there on they are as they were
+  pub record ChangedTo (new : List A) (k : ℕ) : Type 0 where
+    pub done : take k new ≡ take first old ++ map f (take (k - first) (drop first old))
+    pub left : drop k new ≡ drop k old
+
+  pub changed_start : ChangedTo old first
+  changed_start = record { done = sym (ap (λ n. take first old ++ map f (take n (drop first old))) (none first) ∙ append-nil _); left = refl }
+    where
+      none : (n : ℕ) → n - n ≡ 0
+      none n = omega arith
+
+  -- the rest of the members from first on
+  rest_is : (k : ℕ) → first ≤ k → drop (k - first) (drop first old) ≡ drop k old
+  rest_is k low = drop-drop (k - first) first old ∙ ap (λ n. drop n old) (whole k low)
+    where
+      whole : (n : ℕ) → first ≤ n → first + (n - first) ≡ n
+      whole n l = omega arith
+
+  pub changed_more : (new newer : List A) (k : ℕ) (e : A) → first ≤ k → k < length old → get_or old k e ≡ e → ChangedTo new k → take (k + 1) newer ≡ take k new ++ f e ∷ [] → drop (k + 1) newer ≡ drop (k + 1) old → ChangedTo newer (k + 1)
+  changed_more new newer k e low here is changed taken left =
+      let within : k - first < length (drop first old) = omega (arith, length-drop first old) in
+      let one : (k + 1) - first ≡ (k - first) + 1 = omega arith in
+      let at : first + (k - first) ≡ k = omega arith in
+      let item : get_or (drop first old) (k - first) e ≡ e = get_or-drop first old (k - first) e ∙ ap (λ n. get_or old n e) at ∙ is in
+      record {
+        done = taken ∙ ap (λ xs. xs ++ f e ∷ []) changed.done ∙ append_assoc (take first old) _ _ ∙ ap (λ xs. take first old ++ xs) (ap (λ x. map f (take (k - first) (drop first old)) ++ f x ∷ []) (sym item) ∙ sym (map_more f (drop first old) (k - first) e within) ∙ ap (λ n. map f (take n (drop first old))) (sym one));
+        left = left;
+      }
+
+  -- once the change would leave the rest as it is, all is done
+  pub changed_all : (new : List A) (k : ℕ) → first ≤ k → ChangedTo new k → map f (drop k old) ≡ drop k old → new ≡ take first old ++ map f (drop first old)
+  changed_all new k low changed same =
+      sym (take-append-drop k new) ∙ ap₂ (λ xs ys. xs ++ ys) changed.done (changed.left ∙ sym same ∙ ap (map f) (sym (rest_is k low)))
+      ∙ append_assoc (take first old) _ _ ∙ ap (λ xs. take first old ++ xs) (sym (map-append f (take (k - first) (drop first old)) (drop (k - first) (drop first old))) ∙ ap (map f) (take-append-drop (k - first) (drop first old)))
+
+-- a member of the rest that is as it was
+left_item : {A : Type 0} (old new : List A) (k : ℕ) (d : A) → drop k new ≡ drop k old → get_or old k d ≡ get_or new k d
+left_item old new k d left =
+    let at : k + 0 ≡ k = omega arith in
+    sym (get_or-drop k old 0 d ∙ ap (λ n. get_or old n d) at) ∙ ap (λ xs. get_or xs 0 d) (sym left) ∙ get_or-drop k new 0 d ∙ ap (λ n. get_or new n d) at
+
+module _ (by : Anchor) (old new : List Anchor) (first k : ℕ) (d : Anchor) (low : first ≤ k) (here : k < length new) (same : length new ≡ length old) (changed : ChangedTo (unless_held by) old first new k) where
+  is_item : get_or old k (get_or new k d) ≡ get_or new k d
+  is_item = left_item old new k (get_or new k d) changed.left ∙ get_or_default new k (get_or new k d) d here
+
+  pub hidden_held : in_rect by.0 by.1 (get_or new k d).0 ≡ true → ChangedTo (unless_held by) old first (set new k ((get_or new k d).0, (0, 0))) (k + 1)
+  hidden_held held =
+      let v : Anchor = ((get_or new k d).0, (0, 0)) in
+      changed_more (unless_held by) old first new (set new k v) k (get_or new k d) low (omega arith) is_item changed
+      (take_more_set new k v here ∙ ap (λ b. take k new ++ cond b ((get_or new k d).0, (0, 0)) (get_or new k d) ∷ []) (sym held))
+      (drop-set-lt (k + 1) new k v (omega arith) ∙ drop_more_same new old k changed.left)
+
+  pub hidden_other : in_rect by.0 by.1 (get_or new k d).0 ≡ false → ChangedTo (unless_held by) old first new (k + 1)
+  hidden_other out = changed_more (unless_held by) old first new new k (get_or new k d) low (omega arith) is_item changed
+      (take_more new k d here ∙ ap (λ b. take k new ++ cond b ((get_or new k d).0, (0, 0)) (get_or new k d) ∷ []) (sym out))
+      (drop_more_same new old k changed.left)
+
+  pub hidden_past : T (is_sorted position_cmp (by ∷ drop first old)) → is_past by (get_or new k d).0 ≡ true → new ≡ take first old ++ map (unless_held by) (drop first old)
+  hidden_past up past =
+      let within : k < length old = omega arith in
+      let e = get_or new k d in
+      let rest : drop k old ≡ e ∷ drop (k + 1) old = drop_more old k e within ∙ ap (λ x. x ∷ drop (k + 1) old) is_item in
+      let sorted = sorted_drop (k - first) (drop first old) (halves _ _ up).1 in
+      let at : first + (k - first) ≡ k = omega arith in
+      let up_here = subst (λ es. T (is_sorted position_cmp es)) (drop-drop (k - first) first old ∙ ap (λ n. drop n old) at ∙ rest) sorted in
+      changed_all (unless_held by) old first new k low changed (ap (map (unless_held by)) rest ∙ none_held by e (drop (k + 1) old) up_here (past-true by e.0 past) ∙ sym rest)
+
+-- all was changed
+pub hidden_end : (by : Anchor) (old new : List Anchor) (first k : ℕ) → first ≤ k → length new ≤ k → length new ≡ length old → ChangedTo (unless_held by) old first new k → new ≡ take first old ++ map (unless_held by) (drop first old)
+hidden_end by old new first k low end same changed =
+    let none : drop k old ≡ [] = drop_all k old (omega arith) in
+    changed_all (unless_held by) old first new k low changed (ap (map (unless_held by)) none ∙ sym none)
+
+-- none of the rest meets once one is past
+pub apart_past : (a : Anchor) (es : List Anchor) (first k : ℕ) (d : Anchor) → first ≤ k → k < length es → T (is_sorted position_cmp (a ∷ drop first es)) → is_past a (get_or es k d).0 ≡ true → list_all (λ (e : Anchor). not (meets a e)) (drop k es) ≡ true
+apart_past a es first k d low here up past =
+    let e = get_or es k d in
+    let sorted = sorted_drop (k - first) (drop first es) (halves _ _ up).1 in
+    let at : first + (k - first) ≡ k = omega arith in
+    let rest = drop_more es k d here in
+    let up_here = subst (λ fs. T (is_sorted position_cmp fs)) (drop-drop (k - first) first es ∙ ap (λ n. drop n es) at ∙ rest) sorted in
+    ap (list_all (λ (f : Anchor). not (meets a f))) rest ∙ none_meets a e (drop (k + 1) es) up_here (past-true a e.0 past)

@@ -1,0 +1,52 @@
+-- Sorted lists of anchors, and the maps that they make.
+use Rattle.std.proofs.Common.{◌≡◌, ℕ, Bool, List, refl, sym, ap, ◌∙◌, cond, None}
+use Rattle.std.specs.Prelude.{T, ◌&&◌, not}
+use Rattle.std.specs.FinMap.{entries-from_sorted, find, from_sorted, get, get-from_sorted, is_sorted, same_map}
+use Rattle.std.specs.FinMap.Entries.{find-where_key, is_sorted-where_key}
+use Rattle.std.specs.List.{list_any}
+use Rattle.std.specs.Option.{unwrap_or}
+use Rattle.std.proofs.lemmas.List.Elements.{All-filter, All-from_recursion, recursion_from_All}
+use Rattle.tabled_grid.specs.Anchors.{Anchor, dropped, is_hidden_in}
+use Rattle.tabled_grid.specs.Rectangles.{drop_hidden, in_rect, is_hidden, same_place}
+use Rattle.tabled_grid.specs.Spans.{AreAnchors, IsSpanSize, SpanMap, position_cmp, size_at}
+use Rattle.tabled_grid.specs.declared.config.position.Position.{Position}
+use Rattle.tabled_grid.proofs.SpanMaps.{get-drop_hidden}
+use Rattle.tabled_grid.proofs.Spans.{positions_exact, positions_total}
+
+-- a list of anchors in order, and the map that it makes
+pub record Lists (es : List Anchor) (m : SpanMap) : Type 0 where
+  pub up : T (is_sorted position_cmp es)
+  pub is : m ≡ from_sorted es
+
+abbrev pub size_in : List Anchor → Position → ℕ × ℕ
+size_in es p = unwrap_or (find position_cmp p es) (1, 1)
+
+abbrev pub visible_in : List Anchor → Position → Bool
+visible_in es p = not (is_hidden_in es p)
+
+pub size_is : (es : List Anchor) (m : SpanMap) (p : Position) → Lists es m → size_at m p ≡ size_in es p
+size_is es m p l = rw l.is (ap (λ (s : _). unwrap_or s (1, 1)) (get-from_sorted position_cmp es p l.up))
+
+pub hidden_is : (es : List Anchor) (m : SpanMap) (p : Position) → Lists es m → is_hidden m p ≡ is_hidden_in es p
+hidden_is es m p l = rw l.is (ap (list_any (λ (e : Anchor). in_rect e.0 e.1 p && not (same_place e.0 p))) (entries-from_sorted position_cmp es l.up))
+
+pub dropped_is : (es : List Anchor) (m : SpanMap) → Lists es m → Lists (dropped es) (drop_hidden m)
+dropped_is es m l = record {
+  up = up;
+  is = same_map positions_total positions_exact _ _ (λ q.
+      get-drop_hidden m q
+      ∙ ap (λ b. cond (not b) (get m q) None) (hidden_is es m q l)
+      ∙ ap (λ s. cond (visible_in es q) s None) (ap (λ (n : SpanMap). get n q) l.is ∙ get-from_sorted position_cmp es q l.up)
+      ∙ sym (find-where_key position_cmp (visible_in es) q (λ x t. ap (visible_in es) (sym (positions_exact q x t))) es)
+      ∙ sym (get-from_sorted position_cmp (dropped es) q up));
+}
+  where
+    up : T (is_sorted position_cmp (dropped es))
+    up = is_sorted-where_key position_cmp (visible_in es) es l.up
+
+-- the anchors that are left are anchors
+pub anchors_dropped : (es : List Anchor) → AreAnchors es → AreAnchors (dropped es)
+anchors_dropped es valid = record {
+  sorted = (dropped_is es (from_sorted es) (record { up = valid.sorted; is = refl })).up;
+  sizes = recursion_from_All _ _ (All-filter (λ (e : Anchor). visible_in es e.0) (λ (e : Anchor). IsSpanSize e.1) es (All-from_recursion _ _ valid.sizes));
+}

@@ -1,0 +1,258 @@
+-- What maps of spans have at each place, after each change.
+use Rattle.std.proofs.Common.{◌≡◌, ℕ, suc, ◌+◌, ◌<◌, ◌≤◌, ◌≢◌, ◌⊎◌, inl, inr, Bool, true, false, cond, List, [], ◌∷◌, Some, None, Option, refl, sym, ap, ap₂, subst, ◌∙◌, arith}
+use Rattle.std.specs.Prelude.{T, not, ◌&&◌, ◌==◌, nat_le, nat_lt}
+use Rattle.std.specs.declared.cmp.Ordering.{Ordering}
+use Rattle.std.specs.declared.cmp.Ordering.TheVariants.{Less, Equal, Greater}
+use Rattle.std.specs.Cmp.{IsTotalOrder}
+use Rattle.std.specs.Ordering.{eq_by_cmp, is_eq, is_lt, ordering_reverse}
+use Rattle.std.specs.FinMap as map
+use Rattle.std.specs.FinMap.{FinMap, IsAntisymmetric, find, get, get-entries, get-insert, get-remove, get-retain_keys, is_sorted, entries, entries_sorted}
+use Rattle.std.specs.FinMap.Entries.{below_all}
+use Rattle.std.specs.List.{list_any}
+use Rattle.std.specs.Option.{unwrap_or}
+use Rattle.std.proofs.lemmas.Bool.{and_parts, and_from, or_cases, or_left, or_right, cases_Bool, cases_lt, not_from_true, not_from_false, cond-true, cond-false}
+use Rattle.std.proofs.lemmas.Cmp.{tied_itself}
+use Rattle.std.proofs.lemmas.Option.{none-some, same_Some}
+use borrow.Author.Tests.{leb-true, ltb-true, le-leb, lt-ltb, eqb-true, eq-eqb}
+use Rattle.tabled_grid.specs.Spans.{AreSpanSizes, IsSpanSize, SpanMap, position_cmp, size_at, with_column_span, with_row_span, with_size}
+use Rattle.tabled_grid.specs.Entity.{place}
+use Rattle.tabled_grid.specs.declared.config.position.Position.{Position}
+use Rattle.tabled_grid.proofs.Spans.{positions_exact, positions_total}
+use Rattle.tabled_grid.specs.Rectangles.{drop_hidden, in_rect, is_hidden, is_visible, same_place}
+use Rattle.tabled_grid.proofs.Geometry.{Flat, Full, In, Sizes, Visible, Widened, cases_place, flip, flipped}
+
+pub halves : (a b : Bool) → T (a && b) → T a × T b
+halves true b h = (tt, h)
+halves false b h = absurd h
+
+pub less : (o : Ordering) → T (is_lt o) → o ≡ Less
+less Less h = refl
+less Equal h = absurd h
+less Greater h = absurd h
+
+pub equal : (o : Ordering) → is_eq o ≡ true → o ≡ Equal
+equal Less h = cc
+equal Equal h = refl
+equal Greater h = cc
+
+module _ {K X : Type 0} (R : K → K → Ordering) (o : IsTotalOrder R) (exact : IsAntisymmetric R) where
+  -- a key that is found stands above what stands below all
+  pub found_above : (k : K) (x : K) (es : List (K × X)) (v : X) → T (below_all R x es) → find R k es ≡ Some v → R x k ≡ Less
+  found_above k x [] v below is = absurd (none-some v is)
+  found_above k x (e ∷ es) v below is = either (cases_Bool (is_eq (R k e.0))) (found_above k x es v (halves _ _ below).1)
+    where
+      either : (is_eq (R k e.0) ≡ true) ⊎ (is_eq (R k e.0) ≡ false) → (find R k es ≡ Some v → R x k ≡ Less) → R x k ≡ Less
+      either (inl t) later = subst (λ y. R x y ≡ Less) (sym (exact k e.0 (equal _ t))) (less _ (halves _ _ below).0)
+      either (inr f) later = later (subst (λ b. cond b (Some e.1) (find R k es) ≡ Some v) f is)
+
+  -- an entry that passes a test
+  pub record Passes (test : K × X → Bool) (es : List (K × X)) : Type 0 where
+    pub key : K
+    pub value : X
+    pub is : find R key es ≡ Some value
+    pub passes : test (key, value) ≡ true
+
+  pub any-found : (test : K × X → Bool) (es : List (K × X)) → T (is_sorted R es) → list_any test es ≡ true → Passes test es
+  any-found test [] up any = cc
+  any-found test (e ∷ es) up any = either (or_cases (test e) (list_any test es) any) (any-found test es (halves _ _ up).1)
+    where
+      either : (test e ≡ true) ⊎ (list_any test es ≡ true) → (list_any test es ≡ true → Passes test es) → Passes test (e ∷ es)
+      either (inl t) go = record { key = e.0; value = e.1; is = ap (λ r. cond (is_eq r) (Some e.1) (find R e.0 es)) (tied_itself o e.0); passes = t }
+      either (inr later) go =
+          let rest = go later in
+          let below = found_above rest.key e.0 es rest.value (halves _ _ up).0 rest.is in
+          let apart : is_eq (R rest.key e.0) ≡ false = ap is_eq (o.antisymm rest.key e.0 ∙ ap ordering_reverse below) in
+          record { key = rest.key; value = rest.value; is = ap (λ b. cond b (Some e.1) (find R rest.key es)) apart ∙ rest.is; passes = rest.passes }
+
+  pub found-any : (test : K × X → Bool) (es : List (K × X)) (k : K) (v : X) → find R k es ≡ Some v → test (k, v) ≡ true → list_any test es ≡ true
+  found-any test [] k v is t = absurd (none-some v is)
+  found-any test (e ∷ es) k v is t = either (cases_Bool (is_eq (R k e.0))) (λ h. found-any test es k v h t)
+    where
+      either : (is_eq (R k e.0) ≡ true) ⊎ (is_eq (R k e.0) ≡ false) → (find R k es ≡ Some v → list_any test es ≡ true) → list_any test (e ∷ es) ≡ true
+      either (inl b) later =
+          let value = same_Some _ _ (sym (ap (λ c. cond c (Some e.1) (find R k es)) b) ∙ is) in
+          or_left (test e) (list_any test es) (ap₂ (λ x y. test (x, y)) (sym (exact k e.0 (equal _ b))) value ∙ t)
+      either (inr f) later = or_right (test e) (list_any test es) (later (subst (λ b. cond b (Some e.1) (find R k es) ≡ Some v) f is))
+
+-- the test of a rectangle says what it says
+pub in_rect-true : (a p : Position) (size : ℕ × ℕ) → in_rect a size p ≡ true → In a size p
+in_rect-true a p size t =
+    let rows = and_parts _ _ (and_parts _ _ t).0 in
+    let columns = and_parts _ _ (and_parts _ _ t).1 in
+    record { top = leb-true _ _ rows.0; bottom = ltb-true _ _ rows.1; left = leb-true _ _ columns.0; right = ltb-true _ _ columns.1 }
+
+pub in_rect-from : (a p : Position) (size : ℕ × ℕ) → In a size p → in_rect a size p ≡ true
+in_rect-from a p size i = and_from _ _ (and_from _ _ (le-leb _ _ i.top) (lt-ltb _ _ i.bottom)) (and_from _ _ (le-leb _ _ i.left) (lt-ltb _ _ i.right))
+
+pub same_place-true : (a b : Position) → same_place a b ≡ true → a ≡ b
+same_place-true a b t = let parts = and_parts _ _ t in ap₂ place (eqb-true _ _ parts.0) (eqb-true _ _ parts.1)
+
+pub same_place-self : (a : Position) → same_place a a ≡ true
+same_place-self a = and_from _ _ (eq-eqb a.row a.row refl) (eq-eqb a.col a.col refl)
+
+pub same_place-apart : (a b : Position) → a ≢ b → same_place a b ≡ false
+same_place-apart a b apart = either (cases_Bool (same_place a b))
+  where
+    either : (same_place a b ≡ true) ⊎ (same_place a b ≡ false) → same_place a b ≡ false
+    either (inl t) = absurd (apart (same_place-true a b t))
+    either (inr f) = f
+
+-- another anchor whose rectangle holds a place
+pub record HiddenBy (m : SpanMap) (p : Position) : Type 0 where
+  pub anchor : Position
+  pub size : ℕ × ℕ
+  pub has : get m anchor ≡ Some size
+  pub holds : In anchor size p
+  pub other : anchor ≢ p
+
+hides : Position → Position × (ℕ × ℕ) → Bool
+hides p e = in_rect e.0 e.1 p && not (same_place e.0 p)
+
+pub hidden_by : (m : SpanMap) (p : Position) → is_hidden m p ≡ true → HiddenBy m p
+unfolding hides
+hidden_by m p h =
+    let found = any-found position_cmp positions_total positions_exact (hides p) (entries m) (entries_sorted m) h in
+    let parts = and_parts _ _ found.passes in
+    record {
+      anchor = found.key;
+      size = found.value;
+      has = get-entries m found.key ∙ found.is;
+      holds = in_rect-true found.key p found.value parts.0;
+      other = λ e. true_false (sym (not_from_true (same_place found.key p) (subst (λ (x : Position). same_place found.key x ≡ true) e (same_place-self found.key))) ∙ parts.1);
+    }
+  where
+    true_false : false ≡ true → ⊥
+    true_false e = cc
+
+pub hidden-from : (m : SpanMap) (a p : Position) (size : ℕ × ℕ) → get m a ≡ Some size → In a size p → a ≢ p → is_hidden m p ≡ true
+unfolding hides
+hidden-from m a p size has holds other =
+    found-any position_cmp positions_total positions_exact (hides p) (entries m) a size (sym (get-entries m a) ∙ has)
+    (and_from _ _ (in_rect-from a p size holds) (not_from_false _ (same_place-apart a p other)))
+
+-- the size at a place is that of its anchor
+pub size_at-some : (m : SpanMap) (a : Position) (size : ℕ × ℕ) → get m a ≡ Some size → size_at m a ≡ size
+size_at-some m a size has = ap (λ (s : Option (ℕ × ℕ)). unwrap_or s (1, 1)) has
+
+pub size_at-none : (m : SpanMap) (a : Position) → get m a ≡ None → size_at m a ≡ (1, 1)
+size_at-none m a has = ap (λ (s : Option (ℕ × ℕ)). unwrap_or s (1, 1)) has
+
+-- a place has an anchor or has none
+pub data At (m : SpanMap) (a : Position) : Type 0 where
+  none : get m a ≡ None → At m a
+  some : (size : ℕ × ℕ) → get m a ≡ Some size → At m a
+
+pub at : (m : SpanMap) (a : Position) → At m a
+at m a = either (get m a) refl
+  where
+    either : (s : Option (ℕ × ℕ)) → get m a ≡ s → At m a
+    either None e = none e
+    either (Some size) e = some size e
+
+-- a visible place is in no other rectangle
+pub visible : (m : SpanMap) (p : Position) → is_visible m p ≡ true → Visible (size_at m) p
+visible m p shown a holds = by_anchor (at m a) (cases_place a p)
+  where
+    by_anchor : At m a → (a ≡ p) ⊎ (a ≢ p) → a ≡ p
+    by_anchor s (inl e) = e
+    by_anchor (none e) (inr n) = let h = rw (size_at-none m a e) at holds in absurd (n (ap₂ place (omega (arith, h.top, h.bottom)) (omega (arith, h.left, h.right))))
+    by_anchor (some size e) (inr n) =
+        let hidden = hidden-from m a p size e (rw (size_at-some m a size e) at holds) n in
+        let never : false ≡ true = sym (not_from_true _ hidden) ∙ shown in cc
+
+-- all sizes are those of more than one cell: no rectangle is empty
+pub full : (m : SpanMap) → AreSpanSizes m → Full (size_at m)
+full m sizes = record { height = λ a. height a (at m a); width = λ a. width a (at m a) }
+  where
+    height : (a : Position) → At m a → 1 ≤ (size_at m a).0
+    height a (none e) = rw (size_at-none m a e) (omega arith)
+    height a (some size e) = rw (size_at-some m a size e) (sizes.each a size e).height
+
+    width : (a : Position) → At m a → 1 ≤ (size_at m a).1
+    width a (none e) = rw (size_at-none m a e) (omega arith)
+    width a (some size e) = rw (size_at-some m a size e) (sizes.each a size e).width
+
+tied : (p : Position) → eq_by_cmp position_cmp p p ≡ true
+tied p = ap is_eq (tied_itself positions_total p)
+
+untied : (q p : Position) → q ≢ p → eq_by_cmp position_cmp q p ≡ false
+untied q p n = either (cases_Bool (eq_by_cmp position_cmp q p))
+  where
+    either : (eq_by_cmp position_cmp q p ≡ true) ⊎ (eq_by_cmp position_cmp q p ≡ false) → eq_by_cmp position_cmp q p ≡ false
+    either (inl t) = absurd (n (positions_exact q p (equal _ t)))
+    either (inr f) = f
+
+-- what the map has at the place whose size was set, and elsewhere
+module _ (m : SpanMap) (p : Position) (size : ℕ × ℕ) where
+  pub with_size-other : (q : Position) → q ≢ p → get (with_size m p size) q ≡ get m q
+  with_size-other q n = either (cases_Bool ((size.0 == 1) && (size.1 == 1)))
+    where
+      either : (((size.0 == 1) && (size.1 == 1)) ≡ true) ⊎ (((size.0 == 1) && (size.1 == 1)) ≡ false) → get (with_size m p size) q ≡ get m q
+      either (inl t) = rw t (get-remove positions_total m p q ∙ cond-false _ _ _ (untied q p n))
+      either (inr f) = rw f (get-insert positions_total m p size q ∙ cond-false _ _ _ (untied q p n))
+
+  pub size_at-with_size-other : (q : Position) → q ≢ p → size_at (with_size m p size) q ≡ size_at m q
+  size_at-with_size-other q n = ap (λ (s : Option (ℕ × ℕ)). unwrap_or s (1, 1)) (with_size-other q n)
+
+  pub size_at-with_size : size_at (with_size m p size) p ≡ size
+  size_at-with_size = either (cases_Bool ((size.0 == 1) && (size.1 == 1)))
+    where
+      either : (((size.0 == 1) && (size.1 == 1)) ≡ true) ⊎ (((size.0 == 1) && (size.1 == 1)) ≡ false) → size_at (with_size m p size) p ≡ size
+      either (inl t) =
+          let parts = and_parts _ _ t in
+          let gone : get (map.remove m p) p ≡ None = get-remove positions_total m p p ∙ cond-true _ _ _ (tied p) in
+          rw t (size_at-none (map.remove m p) p gone ∙ ap₂ (λ h w. (h, w)) (sym (eqb-true _ _ parts.0)) (sym (eqb-true _ _ parts.1)))
+      either (inr f) =
+          let put : get (map.insert m p size) p ≡ Some size = get-insert positions_total m p size p ∙ cond-true _ _ _ (tied p) in
+          rw f (size_at-some (map.insert m p size) p size put)
+
+  pub sizes-with_size : 1 ≤ size.0 → 1 ≤ size.1 → AreSpanSizes m → AreSpanSizes (with_size m p size)
+  sizes-with_size tall wide sizes = record { each = λ a s has. by_place a s has (cases_place a p) (cases_Bool ((size.0 == 1) && (size.1 == 1))) }
+    where
+      more : ((size.0 == 1) && (size.1 == 1)) ≡ false → (1 < size.0) ⊎ (1 < size.1)
+      more f = either (cases_lt 1 size.0) (cases_lt 1 size.1)
+        where
+          either : (1 < size.0) ⊎ (size.0 ≤ 1) → (1 < size.1) ⊎ (size.1 ≤ 1) → (1 < size.0) ⊎ (1 < size.1)
+          either (inl h) c = inl h
+          either (inr l) (inl h) = inr h
+          either (inr l) (inr k) =
+              let one : ((size.0 == 1) && (size.1 == 1)) ≡ true = and_from _ _ (eq-eqb size.0 1 (omega arith)) (eq-eqb size.1 1 (omega arith)) in
+              let never : false ≡ true = sym f ∙ one in cc
+
+      here : (s : ℕ × ℕ) → get (with_size m p size) p ≡ Some s → (((size.0 == 1) && (size.1 == 1)) ≡ true) ⊎ (((size.0 == 1) && (size.1 == 1)) ≡ false) → IsSpanSize s
+      here s has (inl t) =
+          let gone : get (map.remove m p) p ≡ None = get-remove positions_total m p p ∙ cond-true _ _ _ (tied p) in
+          absurd (none-some s (sym gone ∙ (rw t at has)))
+      here s has (inr f) =
+          let put : get (map.insert m p size) p ≡ Some size = get-insert positions_total m p size p ∙ cond-true _ _ _ (tied p) in
+          subst IsSpanSize (same_Some size s (sym put ∙ (rw f at has))) (record { height = tall; width = wide; merges = more f })
+
+      by_place : (a : Position) (s : ℕ × ℕ) → get (with_size m p size) a ≡ Some s → (a ≡ p) ⊎ (a ≢ p) → (((size.0 == 1) && (size.1 == 1)) ≡ true) ⊎ (((size.0 == 1) && (size.1 == 1)) ≡ false) → IsSpanSize s
+      by_place a s has (inl e) b = here s (subst (λ (x : Position). get (with_size m p size) x ≡ Some s) e has) b
+      by_place a s has (inr n) b = sizes.each a s (sym (with_size-other a n) ∙ has)
+
+-- what is left after hidden anchors are dropped
+pub get-drop_hidden : (m : SpanMap) (q : Position) → get (drop_hidden m) q ≡ cond (is_visible m q) (get m q) None
+get-drop_hidden m q = get-retain_keys m (is_visible m) q (λ x t. ap (is_visible m) (sym (positions_exact q x t)))
+
+pub record Kept (m : SpanMap) (a : Position) (size : ℕ × ℕ) : Type 0 where
+  pub had : get m a ≡ Some size
+  pub shown : is_visible m a ≡ true
+
+pub kept : (m : SpanMap) (a : Position) (size : ℕ × ℕ) → get (drop_hidden m) a ≡ Some size → Kept m a size
+kept m a size has = either (cases_Bool (is_visible m a)) (sym (get-drop_hidden m a) ∙ has)
+  where
+    either : (is_visible m a ≡ true) ⊎ (is_visible m a ≡ false) → cond (is_visible m a) (get m a) None ≡ Some size → Kept m a size
+    either (inl t) e = record { had = rw t at e; shown = t }
+    either (inr f) e = absurd (none-some size (rw f at e))
+
+pub sizes-drop_hidden : (m : SpanMap) → AreSpanSizes m → AreSpanSizes (drop_hidden m)
+sizes-drop_hidden m sizes = record { each = λ a size has. sizes.each a size (kept m a size has).had }
+
+-- after hidden anchors are dropped a place has the size that it had, or that of one cell
+pub kept_or_one : (m : SpanMap) (a : Position) → (size_at (drop_hidden m) a ≡ size_at m a) ⊎ (size_at (drop_hidden m) a ≡ (1, 1))
+kept_or_one m a = either (cases_Bool (is_visible m a))
+  where
+    either : (is_visible m a ≡ true) ⊎ (is_visible m a ≡ false) → (size_at (drop_hidden m) a ≡ size_at m a) ⊎ (size_at (drop_hidden m) a ≡ (1, 1))
+    either (inl t) = inl (ap (λ (s : Option (ℕ × ℕ)). unwrap_or s (1, 1)) (get-drop_hidden m a ∙ ap (λ b. cond b (get m a) None) t))
+    either (inr f) = inr (ap (λ (s : Option (ℕ × ℕ)). unwrap_or s (1, 1)) (get-drop_hidden m a ∙ ap (λ b. cond b (get m a) None) f))

@@ -1,0 +1,17 @@
+use Rattle.std.proofs.Common.{◌≡◌, ◌+◌, ◌-◌, ◌<◌, ◌∷◌, ◌∙◌, T, ap, sym, subst, arith, drop, get_or, length}
+use Rattle.std.specs.FinMap.{is_sorted}
+use Rattle.tabled_grid.specs.Spans.{position_cmp}
+use Rattle.tabled_grid.specs.Anchors.{Anchor}
+use Rattle.tabled_grid.proofs.MarkedAnchors.{mark_more, marked_from, sorted_mark}
+use Rattle.tabled_grid.proofs.PassedAnchors.{sorted_drop}
+use Rattle.tabled_grid.proofs.config.anchors.mark_hidden.Goals as goal
+
+pub hide-requires-clause-sorted : goal.hide-requires-clause-sorted
+hide-requires-clause-sorted c =
+    let old = c.args.anchors.now in
+    let i = c.loop-i.i - 1 in
+    let here : i < length old = omega arith in
+    let back : i + 1 ≡ c.loop-i.i = omega arith in
+    let e : c.loop-i.anchors ≡ marked_from old (i + 1) = c.loop-i.invariant ∙ ap (marked_from old) (sym back) in
+    let d : Anchor = (record { row = 0; col = 0 }, (0, 0)) in
+    subst (λ xs. T (is_sorted position_cmp (get_or xs i d ∷ drop (i + 1) xs))) (sym e) (sorted_mark old i here d (λ n. sorted_drop n old c.requires))

@@ -1,0 +1,10 @@
+use Rattle.std.proofs.Common.{refl, sym}
+use Rattle.std.specs.FinMap.{from_sorted}
+use Rattle.tabled_grid.proofs.SortedAnchors.{anchors_dropped, dropped_is}
+use Rattle.tabled_grid.proofs.config.spanned_config.SpannedConfig.drop_hidden.Goals as goal
+
+pub invariant_of-self : goal.invariant_of-self
+invariant_of-self c = rw c.drop_hidden.ensures (anchors_dropped c.self.inside.anchors.items c.self.invariant)
+
+pub returns : goal.returns
+returns c = rw (← c.self.view_is, c.drop_hidden.ensures) (sym (dropped_is c.self.inside.anchors.items (from_sorted c.self.inside.anchors.items) (record { up = c.self.invariant.sorted; is = refl })).is)

@@ -1,0 +1,8 @@
+use Rattle.std.proofs.Common.{◌∙◌, ap, refl, sym}
+use Rattle.std.specs.Prelude.{not}
+use Rattle.std.specs.FinMap.{from_sorted}
+use Rattle.tabled_grid.proofs.SortedAnchors.{hidden_is}
+use Rattle.tabled_grid.proofs.config.spanned_config.SpannedConfig.is_cell_visible.Goals as goal
+
+pub returns-clause-visible : goal.returns-clause-visible
+returns-clause-visible c = rw (← c.self.view_is, c.is_hidden.ensures, c.deref.ensures.value) (ap not (sym (hidden_is c.self.inside.anchors.items (from_sorted c.self.inside.anchors.items) c.args.pos (record { up = c.self.invariant.sorted; is = refl }))))

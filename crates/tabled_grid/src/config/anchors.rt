@@ -1,0 +1,209 @@
+//! Sorted lists of anchors: which are hidden, and whether their rectangles lie well.
+
+ghost use Rattle.std.specs.Prelude.{◌≡◌, ◌+◌, ◌≤◌, ◌∷◌, ◌++◌, ℕ, IfOk, T, drop, length, map, nat_lt, not, take};
+ghost use Rattle.std.specs.FinMap.{is_sorted};
+ghost use Rattle.std.specs.List.{filter, list_all, list_any};
+ghost use Rattle.tabled_grid.specs.Anchors.{dropped, is_hidden_in, is_past, lie_well, lies_inside, marked, meets, unless_held};
+ghost use Rattle.tabled_grid.specs.Rectangles.{heights_in, in_rect, reaches_across, reaches_down, same_place, widths_in};
+ghost use Rattle.tabled_grid.specs.Spans.{AreAnchors, position_cmp};
+ghost use Rattle.tabled_grid.specs.declared.config.position.Position.{Position};
+
+use crate::config::position::Position;
+use std::alloc::{AllocError, Global};
+
+/// A place, and the height and the width of the rectangle that is anchored there.
+pub(super) type Anchor = (Position, (usize, usize));
+
+/// Says whether the rectangle of an anchor holds a place.
+fn holds(anchor: Anchor, pos: Position) -> bool
+    ensures { result ≡ in_rect anchor.0 anchor.1 pos }
+{
+    let (first, (height, width)) = anchor;
+    first.row <= pos.row
+        && pos.row - first.row < height
+        && first.col <= pos.col
+        && pos.col - first.col < width
+}
+
+/// Says whether the rectangle of an anchor at another place holds a place.
+pub(super) fn is_hidden(anchors: &[Anchor], pos: Position) -> bool
+    ensures { result ≡ is_hidden_in anchors.now pos }
+{
+    anchors
+        .iter()
+        .any(|anchor| holds(*anchor, pos) && !is_same(anchor.0, pos))
+}
+
+/// Says whether the rectangle of an anchor to the left in a place's row reaches it across.
+pub(super) fn is_covered_across(anchors: &[Anchor], pos: Position) -> bool
+    ensures { result ≡ list_any (λ (e : Position × (ℕ × ℕ)). reaches_across e pos) anchors.now }
+{
+    anchors.iter().any(|anchor| {
+        let (first, (_, width)) = *anchor;
+        first.row == pos.row && first.col < pos.col && pos.col - first.col < width
+    })
+}
+
+/// Says whether the rectangle of an anchor above in a place's column reaches it down.
+pub(super) fn is_covered_down(anchors: &[Anchor], pos: Position) -> bool
+    ensures { result ≡ list_any (λ (e : Position × (ℕ × ℕ)). reaches_down e pos) anchors.now }
+{
+    anchors.iter().any(|anchor| {
+        let (first, (height, _)) = *anchor;
+        first.col == pos.col && first.row < pos.row && pos.row - first.row < height
+    })
+}
+
+/// The anchors whose rectangles are wider than one column, and their widths.
+pub(super) fn widths(
+    alloc: Global,
+    anchors: &[Anchor],
+) -> Result<Vec<(Position, usize)>, AllocError>
+    ensures { IfOk result (λ widths. widths.items ≡ widths_in anchors.now) }
+{
+    anchors
+        .iter()
+        .filter_map(|anchor| {
+            let (pos, (_, width)) = *anchor;
+            (width > 1).then_some((pos, width))
+        })
+        .collect(alloc)
+}
+
+/// The anchors whose rectangles are higher than one row, and their heights.
+pub(super) fn heights(
+    alloc: Global,
+    anchors: &[Anchor],
+) -> Result<Vec<(Position, usize)>, AllocError>
+    ensures { IfOk result (λ heights. heights.items ≡ heights_in anchors.now) }
+{
+    anchors
+        .iter()
+        .filter_map(|anchor| {
+            let (pos, (height, _)) = *anchor;
+            (height > 1).then_some((pos, height))
+        })
+        .collect(alloc)
+}
+
+/// Says whether two places are one.
+fn is_same(a: Position, b: Position) -> bool
+    ensures { result ≡ same_place a b }
+{
+    a.row == b.row && a.col == b.col
+}
+
+/// Says whether a place comes after all cells of an anchor's rectangle, row by row.
+fn is_past(anchor: Anchor, pos: Position) -> bool
+    ensures { result ≡ is_past anchor pos }
+{
+    let (first, (height, width)) = anchor;
+    if pos.row < first.row {
+        return false;
+    }
+    let down = pos.row - first.row;
+    down >= height || (down + 1 == height && pos.col >= first.col && pos.col - first.col >= width)
+}
+
+/// Marks the anchors from an index on that an anchor before them holds, by an empty size.
+fn hide(anchors: &mut [Anchor], first: usize, by: Anchor)
+    requires within { first ≤ length anchors.old }
+    requires sorted { T (is_sorted position_cmp (by ∷ drop first anchors.old)) }
+    ensures { anchors.new ≡ take first anchors.old ++ map (unless_held by) (drop first anchors.old) }
+{
+    for k in first..anchors.len() {
+        let pos = anchors[k].0;
+        if is_past(by, pos) {
+            return;
+        }
+        if holds(by, pos) {
+            anchors[k] = (pos, (0, 0));
+        }
+    }
+}
+
+/// Marks the anchors that another holds, by an empty size.
+fn mark_hidden(anchors: &mut [Anchor])
+    requires { T (is_sorted position_cmp anchors.old) }
+    ensures { anchors.new ≡ marked anchors.old }
+{
+    for i in (0..anchors.len()).rev() {
+        let by = anchors[i];
+        hide(anchors, i + 1, by);
+    }
+}
+
+/// Removes the anchors that are hidden.
+pub(super) fn drop_hidden(anchors: &mut Vec<Anchor>)
+    requires { AreAnchors anchors.old.items }
+    ensures { anchors.new.items ≡ dropped anchors.old.items }
+{
+    mark_hidden(anchors);
+    drop_empty(anchors);
+}
+
+/// Removes the anchors of an empty size.
+fn drop_empty(anchors: &mut Vec<Anchor>)
+    ensures { anchors.new.items ≡ filter (λ (e : Position × (ℕ × ℕ)). nat_lt 0 e.1.0) anchors.old.items }
+{
+    anchors.retain(|anchor| anchor.1.0 > 0);
+}
+
+/// Says whether the rectangles of two anchors share a cell.
+fn meet(a: Anchor, b: Anchor) -> bool
+    ensures { result ≡ meets a b }
+{
+    let (p, (height, width)) = a;
+    let (q, (other_height, other_width)) = b;
+    begins_before(p.row, q.row, other_height)
+        && begins_before(q.row, p.row, height)
+        && begins_before(p.col, q.col, other_width)
+        && begins_before(q.col, p.col, width)
+}
+
+/// Says whether an index is below the end of so many indexes from another on.
+fn begins_before(index: usize, first: usize, many: usize) -> bool
+    ensures { result ≡ nat_lt index (first + many) }
+{
+    index < first || index - first < many
+}
+
+/// Says whether no rectangle after an anchor's meets it.
+fn is_apart(anchors: &[Anchor], first: usize, from: Anchor) -> bool
+    requires within { first ≤ length anchors.now }
+    requires sorted { T (is_sorted position_cmp (from ∷ drop first anchors.now)) }
+    ensures { result ≡ list_all (λ (e : Position × (ℕ × ℕ)). not (meets from e)) (drop first anchors.now) }
+{
+    for k in first..anchors.len() {
+        let anchor = anchors[k];
+        if is_past(from, anchor.0) {
+            return true;
+        }
+        if meet(from, anchor) {
+            return false;
+        }
+    }
+    true
+}
+
+/// Says whether the rectangle of an anchor lies inside a table.
+fn is_inside(anchor: Anchor, rows: usize, columns: usize) -> bool
+    ensures { result ≡ lies_inside rows columns anchor }
+{
+    let (first, (height, width)) = anchor;
+    height <= rows && first.row <= rows - height && width <= columns && first.col <= columns - width
+}
+
+/// Says whether all rectangles lie inside a table and no two of them share a cell.
+pub(super) fn fit(anchors: &[Anchor], rows: usize, columns: usize) -> bool
+    requires { AreAnchors anchors.now }
+    ensures { result ≡ lie_well rows columns anchors.now }
+{
+    for i in 0..anchors.len() {
+        let anchor = anchors[i];
+        if !is_inside(anchor, rows, columns) || !is_apart(anchors, i + 1, anchor) {
+            return false;
+        }
+    }
+    true
+}
