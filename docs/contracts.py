@@ -166,7 +166,7 @@ def first_sentence(words):
 def told(item, owner=""):
     """An item's lines: its first sentence, its signature, and its clauses."""
     lines = [f"// {first_sentence(item.words)}"] if item.words else []
-    head = re.sub(r"^pub ", "", item.head)
+    head = re.sub(r"([(,] ?)mut (\w)", r"\1\2", item.head.removeprefix("pub ")).rstrip(",")
     if owner:
         head = re.sub(r"\bfn ", f"fn {owner}::", head, count=1)
     return [*lines, head, *(f"  {it}" for it in item.clauses)]
@@ -176,10 +176,8 @@ def members(item):
     """The lines of a trait's members, or of an impl's of a trait."""
     lines = []
     for it in items(item.body):
-        if it.kind == "ghost":
-            lines += [f"  {it.head}"]
-        elif it.kind == "type":
-            lines += [f"  {it.head}"]
+        if it.kind in ("ghost", "type"):
+            lines += [f"  {line}" for line in told(it)]
         elif it.kind == "fn" and (item.kind == "trait" or it.clauses):
             lines += [f"  {line}" for line in told(it)]
     return lines
@@ -225,7 +223,7 @@ def of_impl(item, public):
     said = members(item)
     if trait == "Model":
         said = [it for it in said if it.startswith("  ghost Value")]
-    return [item.head, *said] if said else []
+    return [item.head.rstrip(","), *said] if said else []
 
 
 def function_text(text, name):
