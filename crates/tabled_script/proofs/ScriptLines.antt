@@ -1,41 +1,67 @@
--- One line more of a script.
-use Rattle.std.proofs.Common.{◌≡◌, ℕ, ◌+◌, Bool, true, false, not, eqb, ◌||◌, List, [], ◌∷◌, ◌++◌, length, Option, Some, None, refl, sym, ap, ◌∙◌, arith}
-use Rattle.std.proofs.lemmas.List.{append-nil, append_assoc, length_push}
+-- A script read line by line.
+use Rattle.std.proofs.Common.{◌≡◌, ℕ, ◌+◌, List, [], ◌∷◌, ◌++◌, length, Some, None, Ok, Err, refl, sym, ap, ◌∙◌, arith}
 use Rattle.std.proofs.lemmas.Bool.Decides.{nat_tests}
-use Rattle.std.specs.List.{filter_map, cons_option}
-use Rattle.std.specs.Option.{option_to_list}
-use Rattle.tabled_script.specs.Line.{Line, Empty, Record, Change, Faulty, Script, fault_of, first_fault, has_step, is_change, with_line}
-use Rattle.tabled_script.specs.Step.{Step}
+use Rattle.std.proofs.lemmas.List.{append-nil, append_assoc, length-append}
+use Rattle.std.proofs.lemmas.List.Elements.{filter_map-append}
+use Rattle.std.specs.List.{list_any}
+use Rattle.tabled_script.specs.declared.fault.Fault.{Fault}
+use Rattle.tabled_script.specs.Line.{Script, script_of, fault_of, first_fault, is_step, record_in, step_in, script_or_fault}
+use Rattle.tabled_script.specs.Parsing.{has_step, with_line}
+use Rattle.tabled_script.specs.Verb.{Line, EmptyLine, RecordLine, StepLine, FaultyLine}
 
-has_step-push : (steps : List Step) (step : Step) → not (eqb (length (steps ++ step ∷ [])) 0) ≡ true
-has_step-push steps step = let n = length_push steps step in grind (arith, nat_tests)
+-- of all lines a number was read into a script, and the rest is left
+pub record HasRead (all rest : List Line) (number : ℕ) (script : Script) : Type 0 where
+  pub earlier : List Line
+  pub split : earlier ++ rest ≡ all
+  pub counted : length earlier ≡ number
+  pub is : script ≡ script_of earlier
+  pub faults : first_fault earlier rest ≡ first_fault [] all
 
-or-false : (b : Bool) → (b || false) ≡ b
-or-false true = refl
-or-false false = refl
+-- a script has a step where one of its lines is a step
+has_step-any : (lines : List Line) → has_step (script_of lines) ≡ list_any is_step lines
+has_step-any [] = refl
+has_step-any (EmptyLine ∷ lines) = has_step-any lines
+has_step-any (RecordLine texts ∷ lines) = has_step-any lines
+has_step-any (StepLine step ∷ lines) = grind (arith, nat_tests)
+has_step-any (FaultyLine fault ∷ lines) = has_step-any lines
 
-or-true : (b : Bool) → (b || true) ≡ true
-or-true true = refl
-or-true false = refl
+-- what a script has of lines is what a fault asks of them
+fault_of-script : (script : Script) (lines : List Line) (line : Line) → script ≡ script_of lines → fault_of (list_any is_step lines) line ≡ fault_of (has_step script) line
+fault_of-script script lines line is = sym (ap (λ s. fault_of (has_step s) line) is ∙ ap (λ b. fault_of b line) (has_step-any lines))
 
-has_step-same : (steps : List Step) → not (eqb (length (steps ++ [])) 0) ≡ (not (eqb (length steps) 0) || false)
-has_step-same steps = rw (append-nil steps) (sym (or-false _))
+-- one line more is what it says
+script_of-push : (lines : List Line) (line : Line) → script_of (lines ++ line ∷ []) ≡ with_line (script_of lines) line
+script_of-push lines line = rw (filter_map-append record_in lines (line ∷ []), filter_map-append step_in lines (line ∷ [])) refl
 
--- after a step there is one
-pub has_step-with_line : (script : Script) (line : Line) → has_step (with_line script line) ≡ (has_step script || is_change line)
-has_step-with_line script Empty = has_step-same script.steps
-has_step-with_line script (Record texts) = has_step-same script.steps
-has_step-with_line script (Change step) = has_step-push script.steps step ∙ sym (or-true (has_step script))
-has_step-with_line script (Faulty fault) = has_step-same script.steps
+-- no line is read yet
+pub has_read-none : (all : List Line) → HasRead all all 0 (script_of [])
+has_read-none all = record { earlier = []; split = refl; counted = refl; is = refl; faults = refl }
 
--- past a line without a fault
-pub first_fault_more : (n : ℕ) (script : Script) (line : Line) (lines : List Line) → fault_of (has_step script) line ≡ None → first_fault n (has_step script) (line ∷ lines) ≡ first_fault (n + 1) (has_step (with_line script line)) lines
-first_fault_more n script line lines fine = rw (fine, has_step-with_line script line) refl
+-- each line is read or left
+pub has_read-counts : {all rest : List Line} {number : ℕ} {script : Script} → HasRead all rest number script → number + length rest ≡ length all
+has_read-counts {all} {rest} {number} {script} h = ap (λ n. n + length rest) (sym h.counted) ∙ sym (length-append h.earlier rest) ∙ ap length h.split
 
--- what one line gives, before what the others give
-pub filter_map_more : {X Y : Type 0} (h : X → Option Y) (x : X) (xs : List X) (ys : List Y) → (ys ++ option_to_list (h x)) ++ filter_map h xs ≡ ys ++ filter_map h (x ∷ xs)
-filter_map_more h x xs ys = append_assoc ys (option_to_list (h x)) (filter_map h xs) ∙ ap (λ zs. ys ++ zs) (go (h x) (filter_map h xs))
-  where
-    go : {Y : Type 0} (o : Option Y) (zs : List Y) → option_to_list o ++ zs ≡ cons_option o zs
-    go None zs = refl
-    go (Some y) zs = refl
+-- one line more, without a fault
+pub has_read-more : {all rest : List Line} {number : ℕ} {script : Script} (line : Line) → HasRead all (line ∷ rest) number script → fault_of (has_step script) line ≡ None → HasRead all rest (number + 1) (with_line script line)
+has_read-more {all} {rest} {number} {script} line h fine =
+    let none : fault_of (list_any is_step h.earlier) line ≡ None = fault_of-script script h.earlier line h.is ∙ fine in
+    record {
+      earlier = h.earlier ++ line ∷ [];
+      split = append_assoc h.earlier (line ∷ []) rest ∙ h.split;
+      counted = length-append h.earlier (line ∷ []) ∙ ap (λ n. n + 1) h.counted;
+      is = ap (λ s. with_line s line) h.is ∙ sym (script_of-push h.earlier line);
+      faults = (rw none at h.faults);
+    }
+
+-- the first line with a fault
+pub has_read-fault : {all rest : List Line} {number : ℕ} {script : Script} (line : Line) (fault : Fault) → HasRead all (line ∷ rest) number script → fault_of (has_step script) line ≡ Some fault → script_or_fault all ≡ Err (number + 1, fault)
+has_read-fault {all} {rest} {number} {script} line fault h bad =
+    let here : fault_of (list_any is_step h.earlier) line ≡ Some fault = fault_of-script script h.earlier line h.is ∙ bad in
+    let first : first_fault [] all ≡ Some (length h.earlier + 1, fault) = sym (rw here at h.faults) in
+    rw (first, h.counted) refl
+
+-- the end of a script without faults
+pub has_read-all : {all : List Line} {number : ℕ} {script : Script} → HasRead all [] number script → script_or_fault all ≡ Ok script
+has_read-all {all} {number} {script} h =
+    let whole : h.earlier ≡ all = sym (append-nil h.earlier) ∙ h.split in
+    rw (← h.faults, h.is, whole) refl

@@ -12,7 +12,7 @@ escaped_byte b = if b == 9 then codes "\\t" else (if b == 10 then codes "\\n" el
 abbrev pub escaped : List ℕ → List ℕ
 escaped text = flat_map escaped_byte text
 
--- the line of texts: words parted by tabs, and a newline
+-- the line of texts: words separated by tabs, and a newline
 abbrev pub line : List (List ℕ) → List ℕ
 line texts = join_with_byte 9 (map escaped texts) ++ 10 ∷ []
 

@@ -1,11 +1,10 @@
 -- How the words of a line are read, from the left.
-use Rattle.std.specs.Prelude.{◌≡◌, ℕ, List, [], ◌∷◌, codes, if◌then◌else◌, Option, None, Some, Result, Ok, Err, MatchResult}
+use Rattle.std.specs.Prelude.{ℕ, List, [], ◌∷◌, codes, if◌then◌else◌, Option, None, Some, Result, Ok, Err}
 use Rattle.std.specs.Str.{bytes_eq}
 use Rattle.tabled_grid.specs.declared.config.entity.Entity.{Entity}
 use Rattle.tabled_grid.specs.declared.config.entity.Entity.TheVariants.{Global, Row, Cell}
 use Rattle.tabled_script.specs.declared.fault.Fault.{Fault}
 use Rattle.tabled_script.specs.declared.fault.Fault.TheVariants.{UnknownWord, WordCount, NumberRange}
-use Rattle.tabled_script.specs.Step.{Step}
 use Rattle.tabled_script.specs.Word.{number_of}
 
 -- what reading from the front of texts gives, with the texts left, or the fault that it meets
@@ -46,19 +45,18 @@ abbrev pub reads_selector : Reading Entity
 reads_selector = then_reads reads_word (λ word.
     if bytes_eq word (codes "all") then gives Global else
     (if bytes_eq word (codes "cell") then then_reads reads_number (λ i. then_reads reads_number (λ j. gives (Cell i j))) else
-    (if bytes_eq word (codes "row") then then_reads reads_number (λ i. gives (Row i)) else fails UnknownWord)))
+    (if bytes_eq word (codes "row") then then_reads reads_number (λ i. gives (Row i)) else
+    fails UnknownWord)))
 
--- the words of a step
-abbrev pub reads_step : Reading Step
-reads_step = then_reads reads_word (λ word.
-    if bytes_eq word (codes "set") then then_reads reads_selector (λ entity. then_reads reads_word (λ text. gives (record { entity = entity; text = text })))
-    else fails UnknownWord)
+-- a value, where no word is left over
+abbrev pub ended : {A : Type 0} → A → List (List ℕ) → Result A Fault
+ended x [] = Ok x
+ended x (text ∷ texts) = Err WordCount
 
--- no word is left
-abbrev pub reads_end : {A : Type 0} → A → Reading A
-reads_end x [] = Ok (x, [])
-reads_end x (text ∷ texts) = Err WordCount
-
--- code read as a reading says, from texts to those left, with what it gave seen through a view
-abbrev pub Reads : {A X : Type 0} → (X → A) → Reading A → List (List ℕ) → Result X Fault → List (List ℕ) → Type 0
-Reads view reading old result new = MatchResult result (λ x. reading old ≡ Ok (view x, new)) (λ fault. reading old ≡ Err fault)
+-- what a reading gives of all of these texts
+abbrev pub whole : {A : Type 0} → Reading A → List (List ℕ) → Result A Fault
+whole {A} reading texts = go (reading texts)
+  where
+    go : Result (A × List (List ℕ)) Fault → Result A Fault
+    go (Ok read) = ended read.0 read.1
+    go (Err fault) = Err fault

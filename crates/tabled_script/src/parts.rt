@@ -1,9 +1,9 @@
-//! Bytes parted at the places of one byte.
+//! Bytes separated at the places of one byte.
 
 ghost use Rattle.std.specs.Prelude.{◌≡◌, ◌==◌, ◌∷◌};
 ghost use Rattle.std.specs.Iterator.{YieldsFirstRef, item_count};
 ghost use Rattle.std.specs.List.{slice_split};
-ghost use Rattle.tabled_script.specs.Line.{parts_left};
+ghost use Rattle.tabled_script.specs.Parsing.{parts_left};
 
 use std::marker::Model;
 
@@ -17,7 +17,7 @@ pub(crate) struct Parts<'a> {
 
 impl<'a> Model for Parts<'a> {
     ghost use Rattle.std.specs.Prelude.{ℕ, List};
-    ghost use Rattle.tabled_script.specs.Line.{parts_left};
+    ghost use Rattle.tabled_script.specs.Parsing.{parts_left};
 
     ghost Value = { List (List ℕ) };
 

@@ -1,6 +1,6 @@
 //! The program: a script read, and what it says written.
 
-ghost use Rattle.std.specs.Prelude.{◌≡◌, ◌≢◌, ◌⊎◌, ℕ, Ok, Err, IfOk, IfSome, MatchResult};
+ghost use Rattle.std.specs.Prelude.{◌≡◌, ◌⊎◌, ℕ, Ok, Err, IfOk, IfSome, MatchResult, OnOk};
 ghost use Rattle.std.specs.Io.KnownBytes.{Appends};
 ghost use Rattle.std.specs.String.{string_bytes};
 ghost use Rattle.tabled_script.specs.Answer.{fault_line, memory_line, output_of};
@@ -10,7 +10,7 @@ ghost use Rattle.tabled_script.specs.declared.fault.Fault.{Fault};
 use crate::fault::Fault;
 use crate::script::parse;
 use std::alloc::{AllocError, Global};
-use std::io::{ErrorKind, Read, Write};
+use std::io::{self, ErrorKind, Read, Write};
 
 /// The output was written.
 const DONE: u8 = 0;
@@ -18,46 +18,47 @@ const DONE: u8 = 0;
 /// A line is faulty, and its number and fault were written.
 const FAULTY: u8 = 2;
 
-/// Memory was refused, and that was written.
+/// Memory ran out, and that was written.
 const OUT_OF_MEMORY: u8 = 3;
 
 /// Reading or writing failed.
 const FAILED: u8 = 4;
 
+/// The line that is written where memory ran out.
+const MEMORY_LINE: &[u8] = b"out of memory\n";
+
+/// What answers a script: its output, or the line that names its first fault.
+type Answer = Result<Vec<u8>, String>;
+
 /// Runs the script that a reader has, and answers a status.
 ///
 /// - 0: the output was written: the table of its records after its steps.
 /// - 2: `line N: fault K` was written, for the first faulty line.
-/// - 3: `out of memory` was written: memory was refused.
+/// - 3: `out of memory` was written: memory ran out.
 /// - 4: reading or writing failed, and nothing is said of what was written.
 ///
-/// Nothing of the output is written before all lines are read.
+/// Nothing of the output is written before all lines are read. With 0, 2 and 3 the writer was
+/// flushed, too.
 pub fn run_script<R: Read, W: Write>(alloc: Global, reader: &mut R, writer: &mut W) -> u8
-    ensures known { (result ≡ DONE) ⊎ ((result ≡ FAULTY) ⊎ ((result ≡ OUT_OF_MEMORY) ⊎ (result ≡ FAILED))) }
-    ensures done { result ≡ DONE → IfSome (R.remaining reader.old) (λ input.
+    ensures known { (result ≡ 0) ⊎ ((result ≡ 2) ⊎ ((result ≡ 3) ⊎ (result ≡ 4))) }
+    ensures done { result ≡ 0 → IfSome (R.remaining reader.old) (λ input.
         (script : Script) × (parse input ≡ Ok script) × Appends (W.contents writer.old) (W.contents writer.new) (output_of script)) }
-    ensures faulty { result ≡ FAULTY → IfSome (R.remaining reader.old) (λ input.
+    ensures faulty { result ≡ 2 → IfSome (R.remaining reader.old) (λ input.
         (fault : ℕ × Fault) × (parse input ≡ Err fault) × Appends (W.contents writer.old) (W.contents writer.new) (fault_line fault)) }
-    ensures memory { result ≡ OUT_OF_MEMORY → Appends (W.contents writer.old) (W.contents writer.new) memory_line }
+    ensures memory { result ≡ 3 → Appends (W.contents writer.old) (W.contents writer.new) memory_line }
 {
     let mut input = Vec::new(alloc);
     if let Err(error) = reader.read_to_end(&mut input) {
         if error.kind() == ErrorKind::OutOfMemory {
-            return written(writer, MEMORY_LINE, OUT_OF_MEMORY);
+            return write_answer(writer, Err(AllocError));
         }
         return FAILED;
     }
-    match answer(alloc, input) {
-        Ok(Ok(output)) => written(writer, &output, DONE),
-        Ok(Err(line)) => written(writer, line.as_bytes(), FAULTY),
-        Err(_) => written(writer, MEMORY_LINE, OUT_OF_MEMORY),
-    }
+    write_answer(writer, answer(alloc, input))
 }
 
-const MEMORY_LINE: &[u8] = b"out of memory\n";
-
-/// The output for a script, or the line that says its first fault.
-fn answer(alloc: Global, input: Vec<u8>) -> Result<Result<Vec<u8>, String>, AllocError>
+/// What answers a script.
+fn answer(alloc: Global, input: Vec<u8>) -> Result<Answer, AllocError>
     ensures { IfOk result (λ answer. MatchResult answer
         (λ output. (script : Script) × (parse input.items ≡ Ok script) × (output.items ≡ output_of script))
         (λ line. (fault : ℕ × Fault) × (parse input.items ≡ Err fault) × (string_bytes line ≡ fault_line fault))) }
@@ -79,14 +80,29 @@ fn fault_line(alloc: Global, fault: (usize, Fault)) -> Result<String, AllocError
     format!(in alloc; "line {line}: fault {number}\n")
 }
 
-/// Writes bytes and answers the status, or that writing failed.
-fn written<W: Write>(writer: &mut W, bytes: &[u8], status: u8) -> u8
-    requires { status ≢ FAILED }
-    ensures value { (result ≡ FAILED) ⊎ (result ≡ status) }
-    ensures bytes { result ≢ FAILED → Appends (W.contents writer.old) (W.contents writer.new) bytes.now }
+/// Writes an answer, or that memory ran out, and answers the status.
+pub(crate) fn write_answer<W: Write>(writer: &mut W, answer: Result<Answer, AllocError>) -> u8
+    ensures { (result ≡ 4) ⊎ MatchResult answer
+        (λ told. MatchResult told
+        (λ output. (result ≡ 0) × Appends (W.contents writer.old) (W.contents writer.new) output.items)
+        (λ line. (result ≡ 2) × Appends (W.contents writer.old) (W.contents writer.new) (string_bytes line)))
+        (λ _. (result ≡ 3) × Appends (W.contents writer.old) (W.contents writer.new) memory_line) }
 {
-    match writer.write_all(bytes) {
+    let (bytes, status) = match &answer {
+        Ok(Ok(output)) => (output.as_slice(), DONE),
+        Ok(Err(line)) => (line.as_bytes(), FAULTY),
+        Err(_) => (MEMORY_LINE, OUT_OF_MEMORY),
+    };
+    match write_whole(writer, bytes) {
         Ok(()) => status,
         Err(_) => FAILED,
     }
+}
+
+/// Writes bytes, and flushes the writer.
+fn write_whole<W: Write>(writer: &mut W, bytes: &[u8]) -> io::Result<()>
+    ensures { OnOk result (Appends (W.contents writer.old) (W.contents writer.new) bytes.now) }
+{
+    writer.write_all(bytes)?;
+    writer.flush()
 }

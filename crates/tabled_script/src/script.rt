@@ -35,7 +35,9 @@ impl Script {
     ghost use Rattle.std.specs.Prelude.{◌≡◌, [], map, IfOk, Some};
     ghost use Rattle.std.specs.String.{string_bytes};
     ghost use Rattle.tabled_grid.specs.Grid.{map_items};
-    ghost use Rattle.tabled_script.specs.Line.{ReadsLine, line_of, meaning_of};
+    ghost use Rattle.tabled_script.specs.Line.{line_of, meaning_of};
+    ghost use Rattle.tabled_script.specs.Parsing.{ReadsLine};
+    ghost use Rattle.tabled_script.specs.Verb.{RecordLine, step_line};
 
     fn new(alloc: Global) -> Self
         ensures records { result.records ≡ [] }
@@ -64,24 +66,40 @@ impl Script {
     fn read_texts(&mut self, mut texts: Vec<Text<String>>) -> Result<Result<(), Fault>, AllocError>
         ensures { IfOk result (λ read. ReadsLine self.old (meaning_of (Some (map string_bytes texts.items))) read self.new) }
     {
-        let Some(first) = texts.first() else {
+        if texts.is_empty() {
             return Ok(Ok(()));
-        };
-        if first.as_str() != "row" {
-            return match Words::new(texts).change() {
-                Ok(step) => {
-                    self.steps.push(step)?;
-                    Ok(Ok(()))
-                }
-                Err(fault) => Ok(Err(fault)),
-            };
         }
+        let verb = texts.remove(0);
+        // A verb of the language has its arm here.
+        match verb.as_str() {
+            "row" => self.add_record(texts),
+            "set" => self.add_step(Words::new(texts).set()),
+            _ => Ok(Err(Fault::UnknownWord)),
+        }
+    }
+
+    /// Adds a record, or says that it stands behind a step.
+    fn add_record(&mut self, texts: Vec<Text<String>>) -> Result<Result<(), Fault>, AllocError>
+        ensures { IfOk result (λ read. ReadsLine self.old (RecordLine (map string_bytes texts.items)) read self.new) }
+    {
         if !self.steps.is_empty() {
             return Ok(Err(Fault::RowAfterStep));
         }
-        let _row = texts.remove(0);
         self.records.push(texts)?;
         Ok(Ok(()))
+    }
+
+    /// Adds a step that was read, or says what is wrong with it.
+    fn add_step(&mut self, read: Result<Step, Fault>) -> Result<Result<(), Fault>, AllocError>
+        ensures { IfOk result (λ added. ReadsLine self.old (step_line read) added self.new) }
+    {
+        match read {
+            Ok(step) => {
+                self.steps.push(step)?;
+                Ok(Ok(()))
+            }
+            Err(fault) => Ok(Err(fault)),
+        }
     }
 }
 

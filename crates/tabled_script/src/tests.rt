@@ -1,7 +1,8 @@
 //! Scripts run over readers and writers in memory.
 
+use crate::program::write_answer;
 use crate::run_script;
-use std::alloc::Global;
+use std::alloc::{AllocError, Global};
 use std::io::{self, ErrorKind, Read, Write};
 use std::test::Fail;
 
@@ -59,6 +60,61 @@ fn writes_tables(rt: HostRuntime) -> Result<(), Fail> {
         let (status, written) = answer(rt.alloc(), script.as_bytes());
         assert_eq!(rt; status, 0, "at {script:?}");
         assert_eq!(rt; written.as_slice(), output.as_bytes(), "at {script:?}");
+    }
+    Ok(())
+}
+
+/// A text once, another so many times, and a third once.
+fn repeated(
+    alloc: Global,
+    start: &str,
+    text: &str,
+    times: usize,
+    end: &str,
+) -> Result<Vec<u8>, AllocError> {
+    let mut bytes = Vec::from_slice(alloc, start.as_bytes())?;
+    for _ in 0..times {
+        bytes.extend_from_slice(text.as_bytes())?;
+    }
+    bytes.extend_from_slice(end.as_bytes())?;
+    Ok(bytes)
+}
+
+#[test]
+fn reads_long_lines(rt: HostRuntime) -> Result<(), Fail> {
+    // Rows that are as long as each other are written as they were read, behind their shape.
+    for (start, text, times, shape) in [
+        ("row", "\t", 255, "shape\t1\t255\n"),
+        ("row", "\t", 256, "shape\t1\t256\n"),
+        ("row", "\t", 1_000, "shape\t1\t1000\n"),
+        ("row", "\ta", 70_000, "shape\t1\t70000\n"),
+        ("row\t", "x", 70_000, "shape\t1\t1\n"),
+        ("row\tx\t", "ä", 300, "shape\t1\t2\n"),
+        ("row\tx\t", "\\\\", 300, "shape\t1\t2\n"),
+        ("row\ta", "\nrow\tb", 70_000, "shape\t70001\t1\n"),
+    ] {
+        let script = repeated(rt.alloc(), start, text, times, "\n")?;
+        let mut output = Vec::from_slice(rt.alloc(), shape.as_bytes())?;
+        output.extend_from_slice(&script)?;
+        let (status, written) = answer(rt.alloc(), &script);
+        assert_eq!(rt; status, 0, "{times} times {text:?}");
+        assert!(rt; written == output, "{times} times {text:?}");
+    }
+    for (start, text, times, end, line) in [
+        ("", "\n", 70_000, "spin", "line 70001: fault 1\n"),
+        ("row", "\t", 70_000, "\\", "line 1: fault 4\n"),
+        ("set\tall", "\t", 255, "", "line 1: fault 2\n"),
+        ("set\trow\t", "9", 255, "\tx", "line 1: fault 3\n"),
+        ("s", "e", 70_000, "t", "line 1: fault 1\n"),
+    ] {
+        let script = repeated(rt.alloc(), start, text, times, end)?;
+        let (status, written) = answer(rt.alloc(), &script);
+        assert_eq!(rt; status, 2, "{times} times {text:?}");
+        assert_eq!(rt;
+            written.as_slice(),
+            line.as_bytes(),
+            "{times} times {text:?}"
+        );
     }
     Ok(())
 }
@@ -125,12 +181,13 @@ fn ends_well_where_a_script_is_cut(rt: HostRuntime) -> Result<(), Fail> {
 struct FailingReader<'a> {
     bytes: &'a [u8],
     calls_before: usize,
+    kind: ErrorKind,
 }
 
 impl Read for FailingReader<'_> {
     fn read(&mut self, buf: &mut [u8]) -> io::Result<usize> {
         if self.calls_before == 0 {
-            return Err(io::Error::from(ErrorKind::BrokenPipe));
+            return Err(io::Error::from(self.kind));
         }
         self.calls_before -= 1;
         let Some((first, rest)) = self.bytes.split_first() else {
@@ -146,57 +203,94 @@ impl Read for FailingReader<'_> {
 }
 
 #[test]
-fn fails_where_a_read_fails(rt: HostRuntime) -> Result<(), Fail> {
+fn says_that_a_read_failed(rt: HostRuntime) -> Result<(), Fail> {
     let script = b"row\ta\nset\tall\tx\n";
-    // The call after the last byte tells the end.
-    for calls_before in 0..script.len() + 3 {
-        let mut reader = FailingReader {
-            bytes: script,
-            calls_before,
-        };
-        let mut written = Vec::new(rt.alloc());
-        let status = run_script(rt.alloc(), &mut reader, &mut written);
-        let failed = calls_before <= script.len();
-        assert_eq!(rt;
-            status,
-            if failed { 4 } else { 0 },
-            "after {calls_before} reads"
-        );
-        assert_eq!(rt; written.is_empty(), failed, "after {calls_before} reads");
+    for (kind, status, line) in [
+        (ErrorKind::BrokenPipe, 4, ""),
+        (ErrorKind::OutOfMemory, 3, "out of memory\n"),
+    ] {
+        // The call after the last byte tells the end.
+        for calls_before in 0..script.len() + 3 {
+            let mut reader = FailingReader {
+                bytes: script,
+                calls_before,
+                kind,
+            };
+            let mut written = Vec::new(rt.alloc());
+            let answered = run_script(rt.alloc(), &mut reader, &mut written);
+            if calls_before > script.len() {
+                assert_eq!(rt; answered, 0, "after {calls_before} reads");
+            } else {
+                assert_eq!(rt; answered, status, "after {calls_before} reads");
+                assert_eq!(rt;
+                    written.as_slice(),
+                    line.as_bytes(),
+                    "after {calls_before} reads"
+                );
+            }
+        }
     }
     Ok(())
 }
 
-/// A writer that takes one byte a call, and fails at a call.
+/// A writer that takes one byte a call, and fails at a call. To flush it is a call, too.
 #[derive(Drop)]
 struct FailingWriter {
     calls_before: usize,
 }
 
-impl Write for FailingWriter {
-    fn write(&mut self, buf: &[u8]) -> io::Result<usize> {
+impl FailingWriter {
+    fn call(&mut self) -> io::Result<()> {
         if self.calls_before == 0 {
             return Err(io::Error::from(ErrorKind::BrokenPipe));
         }
         self.calls_before -= 1;
-        Ok(buf.len().min(1))
-    }
-
-    fn flush(&mut self) -> io::Result<()> {
         Ok(())
     }
 }
 
+impl Write for FailingWriter {
+    fn write(&mut self, buf: &[u8]) -> io::Result<usize> {
+        self.call()?;
+        Ok(buf.len().min(1))
+    }
+
+    fn flush(&mut self) -> io::Result<()> {
+        self.call()
+    }
+}
+
 #[test]
-fn fails_where_a_write_fails(rt: HostRuntime) -> Result<(), Fail> {
-    for (script, length, status) in [("row\ta\n", 16, 0), ("spin\n", 16, 2)] {
-        for calls_before in 0..length + 2 {
+fn fails_where_a_write_or_a_flush_fails(rt: HostRuntime) -> Result<(), Fail> {
+    for (script, calls, status) in [("row\ta\n", 17, 0), ("spin\n", 17, 2)] {
+        for calls_before in 0..calls + 2 {
             let mut reader = script.as_bytes();
             let mut writer = FailingWriter { calls_before };
             let answered = run_script(rt.alloc(), &mut reader, &mut writer);
-            let want = if calls_before < length { 4 } else { status };
-            assert_eq!(rt; answered, want, "{script:?} after {calls_before} writes");
+            let want = if calls_before < calls { 4 } else { status };
+            assert_eq!(rt; answered, want, "{script:?} after {calls_before} calls");
         }
+    }
+    for calls_before in 0..17 {
+        let mut writer = FailingWriter { calls_before };
+        let answered = write_answer(&mut writer, Err(AllocError));
+        let want = if calls_before < 15 { 4 } else { 3 };
+        assert_eq!(rt; answered, want, "after {calls_before} calls");
+    }
+    Ok(())
+}
+
+#[test]
+fn writes_what_answers_a_script(rt: HostRuntime) -> Result<(), Fail> {
+    let alloc = rt.alloc();
+    for (answer, status, bytes) in [
+        (Ok(Ok(Vec::from_slice(alloc, b"shape\n")?)), 0, "shape\n"),
+        (Ok(Err(String::from_str(alloc, "line\n")?)), 2, "line\n"),
+        (Err(AllocError), 3, "out of memory\n"),
+    ] {
+        let mut written = Vec::new(alloc);
+        assert_eq!(rt; write_answer(&mut written, answer), status);
+        assert_eq!(rt; written.as_slice(), bytes.as_bytes());
     }
     Ok(())
 }

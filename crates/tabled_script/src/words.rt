@@ -1,6 +1,6 @@
 //! The texts of a line, read from the left.
 
-ghost use Rattle.std.specs.Prelude.{◌≡◌, map, IfOk, MatchResult, Ok, Err};
+ghost use Rattle.std.specs.Prelude.{◌≡◌, map, IfOk};
 ghost use Rattle.std.specs.Option.{option_map};
 ghost use Rattle.std.specs.String.{string_bytes};
 ghost use Rattle.tabled_script.specs.Line.{texts_of, words_of};
@@ -49,7 +49,8 @@ impl Model for Words {
 impl Words {
     ghost use Rattle.std.specs.Prelude.{◌≡◌, map};
     ghost use Rattle.std.specs.String.{string_bytes};
-    ghost use Rattle.tabled_script.specs.Words.{Reads, reads_end, reads_number, reads_selector, reads_step, reads_word, then_reads};
+    ghost use Rattle.tabled_script.specs.Parsing.{Reads};
+    ghost use Rattle.tabled_script.specs.Words.{ended, reads_number, reads_selector, reads_word};
 
     pub(crate) fn new(texts: Vec<Text<String>>) -> Self
         ensures { result ≡ map string_bytes texts.items }
@@ -97,28 +98,29 @@ impl Words {
         }
     }
 
-    /// A step, and no word behind it.
-    pub(crate) fn change(&mut self) -> Result<Step, Fault>
-        ensures { Reads (λ step. step) (then_reads reads_step reads_end) self.old result self.new }
+    /// A step that was read, where no word is left over.
+    fn ended(mut self, step: Step) -> Result<Step, Fault>
+        ensures { result ≡ ended step self }
     {
-        let step = self.step()?;
         match self.texts.next() {
             None => Ok(step),
             Some(_) => Err(Fault::WordCount),
         }
     }
+}
 
-    fn step(&mut self) -> Result<Step, Fault>
-        ensures { Reads (λ step. step) reads_step self.old result self.new }
+// A method for each verb whose line is a step.
+impl Words {
+    ghost use Rattle.std.specs.Prelude.{◌≡◌};
+    ghost use Rattle.tabled_script.specs.Verb.{reads_set};
+    ghost use Rattle.tabled_script.specs.Words.{whole};
+
+    /// `set`: a selector, and the text to write.
+    pub(crate) fn set(mut self) -> Result<Step, Fault>
+        ensures { result ≡ whole reads_set self }
     {
-        let word = self.word()?;
-        match word.as_str() {
-            "set" => {
-                let entity = self.selector()?;
-                let text = self.word()?;
-                Ok(Step::new(entity, text))
-            }
-            _ => Err(Fault::UnknownWord),
-        }
+        let entity = self.selector()?;
+        let text = self.word()?;
+        self.ended(Step::new(entity, text))
     }
 }
