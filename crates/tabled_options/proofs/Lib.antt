@@ -1,0 +1,4 @@
+pub mod Copies
+pub mod Results
+pub mod Turns
+pub mod Writes

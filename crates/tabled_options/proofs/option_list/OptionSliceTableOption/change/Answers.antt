@@ -1,0 +1,28 @@
+use Rattle.std.proofs.Common.{inl, inr, refl}
+use Rattle.std.proofs.lemmas.List.{drop_more}
+use Rattle.tabled_options.proofs.Results.{on_err}
+use Rattle.tabled_options.proofs.option_list.OptionSliceTableOption.change.Goals as goal
+
+pub loop-option-preserved : goal.loop-option-preserved
+loop-option-preserved g c =
+    let next = drop_more _ _ c.option-item.result c.loop-option-test.true in
+    let can = rw (next, ← c.option-item.is) at c.loop-option.invariant.can in
+    let done = can.0.does_alike _ tt _ _ _ _ c.in_ok-clone.ensures.cases c.in_ok-change.ensures.ok in
+    record {
+      well = c.change.ensures.well;
+      can = can.1;
+      does = λ h d e. c.loop-option.invariant.does h d (rw (next, ← c.option-item.is) (_, _, done, e));
+      leaves = λ h d e. c.loop-option.invariant.leaves h d (rw (next, ← c.option-item.is) (inr (_, _, done, e)));
+    }
+
+pub returns-in_err-clone-clause-err : goal.returns-in_err-clone-clause-err
+returns-in_err-clone-clause-err g c =
+    on_err c.from_residual.result (c.loop-option.invariant.leaves _ _ (rw (drop_more _ _ c.option-item.result c.loop-option-test.true) (inl (inl (refl, refl)))))
+
+pub returns-in_err-change-clause-err : goal.returns-in_err-change-clause-err
+returns-in_err-change-clause-err g c =
+    let next = drop_more _ _ c.option-item.result c.loop-option-test.true in
+    let can = rw (next, ← c.option-item.is) at c.loop-option.invariant.can in
+    on_err c.from_residual-in_err-change.result
+    (c.loop-option.invariant.leaves _ _ (rw (next, ← c.option-item.is)
+    (inl (inr (can.0.leaves_alike _ tt _ _ _ _ c.in_ok-clone.ensures.cases c.in_err-change.ensures.err)))))

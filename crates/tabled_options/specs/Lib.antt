@@ -1,0 +1,3 @@
+pub mod Does
+pub mod Hints
+pub mod Writes

@@ -1,0 +1,5 @@
+//! The calls of the other crates, as a crate above them makes them.
+#![tactic(auto)]
+
+#[cfg(test)]
+mod options;

@@ -1,0 +1,4 @@
+//! What options do to tables.
+
+mod testing;
+mod tests;
