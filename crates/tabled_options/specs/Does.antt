@@ -1,5 +1,5 @@
 -- What options do to a table, one after another.
-use Rattle.std.specs.Prelude.{◌≡◌, ◌⊎◌, List, [], ◌∷◌}
+use Rattle.std.specs.Prelude.{◌≡◌, ◌⊎◌, ℕ, List, [], ◌∷◌, Some, slice_get, take}
 use Rattle.tabled_grid.specs.Grid.{Grid}
 
 -- what relates an old grid and its configuration to new ones
@@ -27,10 +27,18 @@ abbrev pub Each : {A C X : Type 0} → (X → Change A C) → List X → Change 
 Each does [] = Same
 Each does (x ∷ xs) = Then (does x) (Each does xs)
 
--- the changes for the items before one, and what the refused change for that one leaves
+-- the changes for the items before the one at place k, and what the refused change for that one leaves
+pub record EachUntilAt {A C X : Type 0} (does leaves : X → Change A C) (items : List X) (k : ℕ) (g : Grid A) (c : C) (h : Grid A) (d : C) : Type 0 where
+  pub item : X
+  pub is : slice_get items k ≡ Some item
+  pub grid : Grid A
+  pub configuration : C
+  pub before : Each does (take k items) g c grid configuration
+  pub left : leaves item grid configuration h d
+
+-- the same for some place
 abbrev pub EachUntil : {A C X : Type 0} → (X → Change A C) → (X → Change A C) → List X → Change A C
-EachUntil does leaves [] g c h d = ⊥
-EachUntil does leaves (x ∷ xs) g c h d = ThenLeaves (does x) (leaves x) (EachUntil does leaves xs) g c h d
+EachUntil does leaves items g c h d = (k : ℕ) × EachUntilAt does leaves items k g c h d
 
 -- a change for each item that is listed in the old grid, in order
 abbrev pub EachListed : {A C X : Type 0} → (Grid A → List X → Type 0) → (X → Change A C) → Change A C
@@ -49,12 +57,25 @@ abbrev pub NeverRefused : {A C X : Type 0} → (X → Change A C) → (X → Gri
 NeverRefused does never [] g c = Unit {0}
 NeverRefused does never (x ∷ xs) g c = never x g c × AfterNeverRefused (does x) (NeverRefused does never xs) g c
 
--- a copy may be used, and does and leaves what the original does and leaves, at each thing that it is used on
-pub record CopiesAlike {A C M X : Type 0} (is_clone : M → M → Type 0) (can : M → Type 0) (does leaves : M → X → Change A C) (original : M) : Type 0 where
-  pub can_be_used : (copy : M) → is_clone original copy → can copy
-  pub does_alike : (copy : M) (x : X) (g : Grid A) (c : C) (h : Grid A) (d : C) → is_clone original copy → does copy x g c h d → does original x g c h d
-  pub leaves_alike : (copy : M) (x : X) (g : Grid A) (c : C) (h : Grid A) (d : C) → is_clone original copy → leaves copy x g c h d → leaves original x g c h d
+-- a second option may be used where a first may, and does and leaves what the first does and leaves
+pub record ActsLike {A C X : Type 0} (can second_can : Type 0) (does second_does leaves second_leaves : X → Change A C) : Type 0 where
+  pub can_be_used : can → second_can
+  pub does_alike : (x : X) (g : Grid A) (c : C) (h : Grid A) (d : C) → second_does x g c h d → does x g c h d
+  pub leaves_alike : (x : X) (g : Grid A) (c : C) (h : Grid A) (d : C) → second_leaves x g c h d → leaves x g c h d
 
--- the same of what is used on the whole table
-abbrev pub TableCopiesAlike : {A C M : Type 0} → (M → M → Type 0) → (M → Type 0) → (M → Change A C) → (M → Change A C) → M → Type 0
-TableCopiesAlike is_clone can does leaves = CopiesAlike {X = Unit {0}} is_clone can (λ m _. does m) (λ m _. leaves m)
+-- the same of options on the whole table
+abbrev pub TableActsLike : {A C : Type 0} → Type 0 → Type 0 → Change A C → Change A C → Change A C → Change A C → Type 0
+TableActsLike can second_can does second_does leaves second_leaves = ActsLike {X = Unit {0}} can second_can (λ _. does) (λ _. second_does) (λ _. leaves) (λ _. second_leaves)
+
+-- each copy of an option is like it
+abbrev pub CopiesAlike : {M : Type 0} → (M → M → Type 0) → (M → M → Type 0) → M → Type 0
+CopiesAlike {M} is_clone is_like original = (copy : M) → is_clone original copy → is_like original copy
+
+-- what has the property before a change has it after the change
+abbrev pub Keeps : {A C : Type 0} → (Grid A → C → Type 0) → Change A C → Type 0
+Keeps {A} {C} holds change = (g : Grid A) (c : C) (h : Grid A) (d : C) → holds g c → change g c h d → holds h d
+
+-- what has the property has it after an option, whether the option is done or refused
+pub record OptionKeeps {A C : Type 0} (holds : Grid A → C → Type 0) (does leaves : Change A C) : Type 0 where
+  pub done : Keeps holds does
+  pub refused : Keeps holds leaves

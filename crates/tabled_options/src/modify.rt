@@ -2,6 +2,7 @@
 
 ghost use Rattle.std.specs.Prelude.{◌≡◌};
 ghost use Rattle.tabled_options.specs.Does.{CopiesAlike, EachListed, EachListedUntil, SameOr};
+ghost use Rattle.std.proofs.Common.{rules};
 
 use crate::cell_option::CellOption;
 use crate::settings_list::Settings;
@@ -118,7 +119,7 @@ where
 
     ghost leaves = { λ s. SameOr (EachListedUntil (O.lists s.0) (M.does s.1) (λ e. SameOr (M.leaves s.1 e))) };
 
-    ghost can_change = { λ s. O.can_list s.0 × CopiesAlike M.is_clone M.can_change M.does M.leaves s.1 };
+    ghost can_change = { λ s. O.can_list s.0 × (M.can_change s.1 × CopiesAlike M.is_clone M.is_like s.1) };
 
     ghost never_refused = { λ _ _ _. ⊥ };
 
@@ -143,4 +144,6 @@ where
     fn hint_change(&self) -> Option<Entity> {
         self.option.hint_change()
     }
+
+    ghost acts_like = { Prim.search rules };
 }

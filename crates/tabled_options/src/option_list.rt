@@ -2,7 +2,8 @@
 
 ghost use Rattle.std.specs.Prelude.{◌≡◌, ◌⊎◌, []};
 ghost use Rattle.std.specs.List.{AllByRecursion};
-ghost use Rattle.tabled_options.specs.Does.{Each, EachUntil, NeverRefused, SameOr, TableCopiesAlike};
+ghost use Rattle.tabled_options.specs.Does.{CopiesAlike, Each, EachUntil, NeverRefused, SameOr};
+ghost use Rattle.std.proofs.Common.{rules};
 
 use crate::table_option::TableOption;
 use std::alloc::{AllocError, Global};
@@ -40,6 +41,8 @@ where
     fn hint_change(&self) -> Option<Entity> {
         Some(Entity::Global)
     }
+
+    ghost acts_like = { Prim.search rules };
 }
 
 /// Options in a slice, of which copies are applied in order. A refused copy or option ends the call
@@ -58,7 +61,7 @@ where
 
     ghost leaves = { λ s. EachUntil T.does (λ x. SameOr (T.leaves x)) s.0.now };
 
-    ghost can_change = { λ s. AllByRecursion (TableCopiesAlike T.is_clone T.can_change T.does T.leaves) s.0.now };
+    ghost can_change = { λ s. AllByRecursion (λ x. T.can_change x × CopiesAlike T.is_clone T.is_like x) s.0.now };
 
     ghost never_refused = { λ s _ _. s.0.now ≡ [] };
 
@@ -78,4 +81,6 @@ where
     fn hint_change(&self) -> Option<Entity> {
         Some(Entity::Global)
     }
+
+    ghost acts_like = { Prim.search rules };
 }

@@ -3,6 +3,8 @@
 ghost use Rattle.std.specs.Prelude.{◌≡◌, ◌⊎◌, Option};
 ghost use Rattle.tabled_options.specs.Does.{AfterNeverRefused, Same, Then, ThenLeaves};
 ghost use Rattle.tabled_options.specs.Hints.{combined_hint};
+ghost use Rattle.std.proofs.Common.{rules};
+ghost use Rattle.tabled_options.specs.Copies.{act_like_in_order};
 
 use crate::cell_option::CellOption;
 use crate::hints::combine_hints;
@@ -111,6 +113,8 @@ impl<R: GridStore, C, D> TableOption<R, C, D> for EmptySettings {
     fn hint_change(&self) -> Option<Entity> {
         Some(Entity::Global)
     }
+
+    ghost acts_like = { Prim.search rules };
 }
 
 impl<R: GridStore, C> CellOption<R, C> for EmptySettings {
@@ -135,6 +139,8 @@ impl<R: GridStore, C> CellOption<R, C> for EmptySettings {
     fn hint_change(&self) -> Option<Entity> {
         Some(Entity::Global)
     }
+
+    ghost acts_like = { Prim.search rules };
 }
 
 /// The first option, and then the second where the first wasn't refused.
@@ -151,6 +157,8 @@ where
     ghost can_change = { λ s. A.can_change s.0 × B.can_change s.1 };
 
     ghost never_refused = { λ s g c. A.never_refused s.0 g c × AfterNeverRefused (A.does s.0) (B.never_refused s.1) g c };
+
+    ghost is_like = { λ p q. A.is_like p.0 q.0 × B.is_like p.1 q.1 };
 
     ghost hint = { λ s. combined_hint (A.hint s.0) (B.hint s.1) };
 
@@ -169,6 +177,8 @@ where
     fn hint_change(&self) -> Option<Entity> {
         combine_hints(self.0.hint_change(), self.1.hint_change())
     }
+
+    ghost acts_like = { λ p q e. act_like_in_order (A.acts_like p.0 q.0 e.0) (B.acts_like p.1 q.1 e.1) };
 }
 
 /// The first option, and then the second where the first wasn't refused.
@@ -185,6 +195,8 @@ where
     ghost can_change = { λ s. A.can_change s.0 × B.can_change s.1 };
 
     ghost never_refused = { λ s e g c. A.never_refused s.0 e g c × AfterNeverRefused (A.does s.0 e) (B.never_refused s.1 e) g c };
+
+    ghost is_like = { λ p q. A.is_like p.0 q.0 × B.is_like p.1 q.1 };
 
     ghost hint = { λ s. combined_hint (A.hint s.0) (B.hint s.1) };
 
@@ -203,4 +215,6 @@ where
     fn hint_change(&self) -> Option<Entity> {
         combine_hints(self.0.hint_change(), self.1.hint_change())
     }
+
+    ghost acts_like = { λ p q e. act_like_in_order (A.acts_like p.0 q.0 e.0) (B.acts_like p.1 q.1 e.1) };
 }

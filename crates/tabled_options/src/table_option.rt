@@ -4,7 +4,7 @@ ghost use Rattle.std.specs.Prelude.{◌≡◌, OnOk, OnErr, IsOk, Option, Some};
 ghost use Rattle.tabled_grid.specs.Grid.{Grid};
 ghost use Rattle.tabled_grid.specs.declared.config.entity.Entity.{Entity};
 ghost use Rattle.tabled_grid.specs.declared.config.entity.Entity.TheVariants.{Global};
-ghost use Rattle.tabled_options.specs.Does.{Change};
+ghost use Rattle.tabled_options.specs.Does.{Change, TableActsLike};
 
 use std::alloc::{AllocError, Global};
 use tabled_grid::config::Entity;
@@ -28,6 +28,9 @@ pub trait TableOption<R: GridStore, C, D> {
 
     /// It takes no memory at this grid and configuration, so that it can't be refused.
     ghost never_refused: { Self → Grid R.Cell → C → Type 0 };
+
+    /// The second option may stand for the first, as its copies may.
+    ghost is_like: { Self → Self → Type 0 } = { λ first second. second ≡ first };
 
     /// The part of the table that may change, or none.
     ghost hint: { Self → Option Entity } = { λ _. Some Global };
@@ -57,4 +60,7 @@ pub trait TableOption<R: GridStore, C, D> {
     /// Ported from `tabled::settings::TableOption::hint_change`.
     fn hint_change(&self) -> Option<Entity>
         ensures { result ≡ hint self.now };
+
+    /// An option that may stand for another acts like it.
+    ghost acts_like: { (first second : Self) → is_like first second → TableActsLike (can_change first) (can_change second) (does first) (does second) (leaves first) (leaves second) };
 }

@@ -5,6 +5,7 @@ ghost use Rattle.std.specs.String.{string_bytes};
 ghost use Rattle.tabled_grid.specs.Entity.{inside};
 ghost use Rattle.tabled_grid.specs.Grid.{map_grid};
 ghost use Rattle.tabled_options.specs.Writes.{WritesEach, WritesFirst};
+ghost use Rattle.std.proofs.Common.{rules};
 
 use crate::cell_option::CellOption;
 use std::alloc::{AllocError, Global};
@@ -26,6 +27,8 @@ where
 
     ghost never_refused = { λ _ e g _. inside e g.rows g.columns ≡ [] };
 
+    ghost is_like = { λ first second. string_bytes second ≡ string_bytes first };
+
     fn change(
         self,
         alloc: Global,
@@ -39,6 +42,8 @@ where
     fn hint_change(&self) -> Option<Entity> {
         Some(Entity::Global)
     }
+
+    ghost acts_like = { Prim.search rules };
 }
 
 /// A text that is written to each cell of the table that an entity names, row by row. Refused for
@@ -74,6 +79,8 @@ where
     fn hint_change(&self) -> Option<Entity> {
         Some(Entity::Global)
     }
+
+    ghost acts_like = { Prim.search rules };
 }
 
 /// Writes a copy of a text to each cell inside that an entity names.

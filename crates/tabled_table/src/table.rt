@@ -68,7 +68,8 @@ impl Table {
         O: Object<VecRecords<Text<String>>> + Drop,
         M: CellOption<VecRecords<Text<String>>, SpannedConfig> + Clone + Drop,
         requires list { O.can_list object }
-        requires copies { CopiesAlike M.is_clone M.can_change M.does M.leaves option }
+        requires can { M.can_change option }
+        requires copies { CopiesAlike M.is_clone M.is_like option }
         ensures ok { OnOk result (EachListed (O.lists object) (M.does option) self.old.cells self.old.spans self.new.cells self.new.spans) }
         ensures err { OnErr result (SameOr (EachListedUntil (O.lists object) (M.does option) (λ e. SameOr (M.leaves option e))) self.old.cells self.old.spans self.new.cells self.new.spans) }
     {

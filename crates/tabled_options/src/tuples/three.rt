@@ -1,5 +1,7 @@
 //! Tuples of three options.
 
+ghost use Rattle.tabled_options.specs.Copies.{act_like_in_order};
+
 use crate::cell_option::CellOption;
 use crate::hints::combine_hints;
 use crate::settings_list::Settings;
@@ -23,6 +25,8 @@ where
 
     ghost never_refused = { λ s. ⟦<Settings<(T0, T1), T2> as TableOption<R, C, D>>⟧.never_refused ((s.0, s.1), s.2) };
 
+    ghost is_like = { λ p q. ⟦<Settings<(T0, T1), T2> as TableOption<R, C, D>>⟧.is_like ((p.0, p.1), p.2) ((q.0, q.1), q.2) };
+
     ghost hint = { λ s. ⟦<Settings<(T0, T1), T2> as TableOption<R, C, D>>⟧.hint ((s.0, s.1), s.2) };
 
     fn change(
@@ -41,6 +45,8 @@ where
         let hint = combine_hints(self.0.hint_change(), self.1.hint_change());
         combine_hints(hint, self.2.hint_change())
     }
+
+    ghost acts_like = { λ p q e. act_like_in_order (act_like_in_order (T0.acts_like p.0 q.0 e.0.0) (T1.acts_like p.1 q.1 e.0.1)) (T2.acts_like p.2 q.2 e.1) };
 }
 
 impl<R, C, T0, T1, T2> CellOption<R, C> for (T0, T1, T2)
@@ -57,6 +63,8 @@ where
     ghost can_change = { λ s. ⟦<Settings<(T0, T1), T2> as CellOption<R, C>>⟧.can_change ((s.0, s.1), s.2) };
 
     ghost never_refused = { λ s. ⟦<Settings<(T0, T1), T2> as CellOption<R, C>>⟧.never_refused ((s.0, s.1), s.2) };
+
+    ghost is_like = { λ p q. ⟦<Settings<(T0, T1), T2> as CellOption<R, C>>⟧.is_like ((p.0, p.1), p.2) ((q.0, q.1), q.2) };
 
     ghost hint = { λ s. ⟦<Settings<(T0, T1), T2> as CellOption<R, C>>⟧.hint ((s.0, s.1), s.2) };
 
@@ -76,4 +84,6 @@ where
         let hint = combine_hints(self.0.hint_change(), self.1.hint_change());
         combine_hints(hint, self.2.hint_change())
     }
+
+    ghost acts_like = { λ p q e. act_like_in_order (act_like_in_order (T0.acts_like p.0 q.0 e.0.0) (T1.acts_like p.1 q.1 e.0.1)) (T2.acts_like p.2 q.2 e.1) };
 }

@@ -1,5 +1,7 @@
 //! Tuples of two options.
 
+ghost use Rattle.tabled_options.specs.Copies.{act_like_in_order};
+
 use crate::cell_option::CellOption;
 use crate::hints::combine_hints;
 use crate::settings_list::Settings;
@@ -22,6 +24,8 @@ where
 
     ghost never_refused = { λ s. ⟦<Settings<T0, T1> as TableOption<R, C, D>>⟧.never_refused (s.0, s.1) };
 
+    ghost is_like = { λ p q. ⟦<Settings<T0, T1> as TableOption<R, C, D>>⟧.is_like (p.0, p.1) (q.0, q.1) };
+
     ghost hint = { λ s. ⟦<Settings<T0, T1> as TableOption<R, C, D>>⟧.hint (s.0, s.1) };
 
     fn change(
@@ -38,6 +42,8 @@ where
     fn hint_change(&self) -> Option<Entity> {
         combine_hints(self.0.hint_change(), self.1.hint_change())
     }
+
+    ghost acts_like = { λ p q e. act_like_in_order (T0.acts_like p.0 q.0 e.0) (T1.acts_like p.1 q.1 e.1) };
 }
 
 impl<R, C, T0, T1> CellOption<R, C> for (T0, T1)
@@ -53,6 +59,8 @@ where
     ghost can_change = { λ s. ⟦<Settings<T0, T1> as CellOption<R, C>>⟧.can_change (s.0, s.1) };
 
     ghost never_refused = { λ s. ⟦<Settings<T0, T1> as CellOption<R, C>>⟧.never_refused (s.0, s.1) };
+
+    ghost is_like = { λ p q. ⟦<Settings<T0, T1> as CellOption<R, C>>⟧.is_like (p.0, p.1) (q.0, q.1) };
 
     ghost hint = { λ s. ⟦<Settings<T0, T1> as CellOption<R, C>>⟧.hint (s.0, s.1) };
 
@@ -70,4 +78,6 @@ where
     fn hint_change(&self) -> Option<Entity> {
         combine_hints(self.0.hint_change(), self.1.hint_change())
     }
+
+    ghost acts_like = { λ p q e. act_like_in_order (T0.acts_like p.0 q.0 e.0) (T1.acts_like p.1 q.1 e.1) };
 }

@@ -2,6 +2,7 @@
 
 ghost use Rattle.std.specs.Prelude.{◌≡◌, ◌++◌, OnOk, OnErr};
 ghost use Rattle.std.specs.Char.{encode_utf8};
+ghost use Rattle.std.proofs.Common.{rules};
 ghost use Rattle.tabled_options.specs.Does.{Same};
 
 use std::alloc::{AllocError, Global};
@@ -104,6 +105,8 @@ impl<R: GridStore, D> TableOption<R, Log, D> for Letter {
     fn hint_change(&self) -> Option<Entity> {
         self.hint
     }
+
+    ghost acts_like = { Prim.search rules };
 }
 
 impl<R: GridStore> CellOption<R, Log> for Letter {
@@ -130,6 +133,8 @@ impl<R: GridStore> CellOption<R, Log> for Letter {
     fn hint_change(&self) -> Option<Entity> {
         self.hint
     }
+
+    ghost acts_like = { Prim.search rules };
 }
 
 /// An option of which so many copies can be made as are left.
@@ -176,6 +181,8 @@ where
 
     ghost never_refused = { λ s. O.never_refused s.option };
 
+    ghost is_like = { λ first second. second.option ≡ first.option };
+
     ghost hint = { λ s. O.hint s.option };
 
     fn change(
@@ -191,6 +198,8 @@ where
     fn hint_change(&self) -> Option<Entity> {
         self.option.hint_change()
     }
+
+    ghost acts_like = { Prim.search rules };
 }
 
 impl<'a, R, C, O> CellOption<R, C> for CountedCopies<'a, O>
@@ -205,6 +214,8 @@ where
     ghost can_change = { λ s. O.can_change s.option };
 
     ghost never_refused = { λ s. O.never_refused s.option };
+
+    ghost is_like = { λ first second. second.option ≡ first.option };
 
     ghost hint = { λ s. O.hint s.option };
 
@@ -221,4 +232,6 @@ where
     fn hint_change(&self) -> Option<Entity> {
         self.option.hint_change()
     }
+
+    ghost acts_like = { Prim.search rules };
 }

@@ -1,6 +1,7 @@
 //! An option that grows a store.
 
 ghost use Rattle.std.specs.Prelude.{◌≡◌};
+ghost use Rattle.std.proofs.Common.{rules};
 ghost use Rattle.tabled_grid.specs.Resized.{InsertsRow};
 ghost use Rattle.tabled_options.specs.Does.{Same};
 
@@ -9,7 +10,7 @@ use tabled_grid::config::Entity;
 use tabled_grid::records::{Blank, Resizable};
 use tabled_options::TableOption;
 
-/// Puts a row of blanks below the last one.
+/// Pushes a row of blanks below the last one.
 #[derive(Debug, Clone, Copy)]
 pub(crate) struct PushRow;
 
@@ -39,4 +40,6 @@ where
     fn hint_change(&self) -> Option<Entity> {
         Some(Entity::Global)
     }
+
+    ghost acts_like = { Prim.search rules };
 }
