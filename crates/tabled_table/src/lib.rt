@@ -4,8 +4,6 @@
 pub mod builder;
 pub mod laws;
 mod table;
-#[cfg(test)]
-mod tests;
 
 pub use table::Table;
 pub use tabled_options::{

@@ -2,4 +2,6 @@
 #![tactic(auto)]
 
 #[cfg(test)]
+mod builders;
+#[cfg(test)]
 mod options;

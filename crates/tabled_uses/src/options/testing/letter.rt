@@ -49,7 +49,7 @@ impl Log {
         Ok(told)
     }
 
-    /// Puts a letter behind the others, if the limit allows.
+    /// Pushes a letter, if the limit allows.
     fn push(&mut self, letter: char) -> Result<(), AllocError>
         ensures ok { OnOk result (self.new ≡ self.old ++ encode_utf8 letter) }
         ensures err { OnErr result (self.new ≡ self.old) }

@@ -1,12 +1,12 @@
 //! The table of the code in the README.
 
-use crate::builder::Builder;
-use crate::{Table, TextRef};
 use std::alloc::{AllocError, Global};
 use std::collections::BTreeMap;
 use std::test::Fail;
 use tabled_grid::config::Position;
 use tabled_select::object::{Columns, Object, Rows};
+use tabled_table::builder::Builder;
+use tabled_table::{Table, TextRef};
 
 fn languages(alloc: Global) -> Result<Table, AllocError> {
     let mut builder = Builder::new(alloc);

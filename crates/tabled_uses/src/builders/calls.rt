@@ -1,11 +1,11 @@
 //! Builders, call by call.
 
-use super::Builder;
 use std::alloc::{AllocError, Global};
 use std::collections::{BTreeMap, BTreeSet, HashMap, HashSet};
 use std::test::Fail;
 use tabled_grid::config::Position;
 use tabled_grid::records::Text;
+use tabled_table::builder::Builder;
 
 /// Texts written as words, where `_` is an empty one.
 pub(super) fn texts(alloc: Global, words: &str) -> Result<Vec<String>, AllocError> {
@@ -25,7 +25,7 @@ pub(super) fn builder(alloc: Global, records: &[&str]) -> Result<Builder, AllocE
     Ok(builder)
 }
 
-/// The calls that put something into a builder.
+/// The calls that add something to a builder.
 #[derive(Clone, Copy)]
 pub(super) enum Call {
     PushRecord,
@@ -99,7 +99,7 @@ fn pads_records(rt: HostRuntime) -> Result<(), Fail> {
 }
 
 #[test]
-fn puts_texts_in(rt: HostRuntime) -> Result<(), Fail> {
+fn inserts_texts(rt: HostRuntime) -> Result<(), Fail> {
     let alloc = rt.alloc();
     for (call, words, want) in [
         (Call::PushRecord, "x", "a b /c _ /x - /"),
@@ -115,6 +115,23 @@ fn puts_texts_in(rt: HostRuntime) -> Result<(), Fail> {
     ] {
         let spelled = after(alloc, &["a b", "c _"], call, words)?;
         assert_eq!(rt; spelled.as_str(), want);
+    }
+    Ok(())
+}
+
+#[test]
+fn fills_empty_builders(rt: HostRuntime) -> Result<(), Fail> {
+    let alloc = rt.alloc();
+    for (call, words, width, want) in [
+        (Call::PushRecord, "x y", 2, "x y /"),
+        (Call::PushColumn, "x y", 1, "x /y /"),
+        (Call::PushColumn, "", 1, ""),
+        (Call::InsertColumn(0), "x y", 1, ""),
+    ] {
+        let mut filled = Builder::new(alloc);
+        call.make(alloc, &mut filled, texts(alloc, words)?)?;
+        assert_eq!(rt; filled.count_columns(), width);
+        assert_eq!(rt; spelled(alloc, filled)?.as_str(), want);
     }
     Ok(())
 }
@@ -185,7 +202,7 @@ fn keeps_the_columns_declared(rt: HostRuntime) -> Result<(), Fail> {
 }
 
 #[test]
-fn takes_records_and_columns_out(rt: HostRuntime) -> Result<(), Fail> {
+fn removes_records_and_columns(rt: HostRuntime) -> Result<(), Fail> {
     let alloc = rt.alloc();
     let mut cut = builder(alloc, &["a b c", "d e f"])?;
     assert!(rt; cut.count_records() == 2 && cut.count_columns() == 3);

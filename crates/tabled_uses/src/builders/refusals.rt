@@ -3,11 +3,11 @@
 //! With ample memory each call is made. `rt try --test --fail-alloc N` refuses the allocation N, so that a
 //! run for each N meets each refusal.
 
-use super::Builder;
-use super::tests::{Call, builder, spelled, texts};
+use super::calls::{Call, builder, spelled, texts};
 use std::alloc::{AllocError, Global};
 use std::collections::{BTreeMap, BTreeSet, HashMap, HashSet};
 use std::test::Fail;
+use tabled_table::builder::Builder;
 
 /// Makes a call, and says whether the builder is as it was if that is refused.
 fn keeps(alloc: Global, call: Call, words: &str) -> Result<bool, AllocError> {

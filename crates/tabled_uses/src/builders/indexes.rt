@@ -1,9 +1,9 @@
 //! Tables with an index.
 
-use super::tests::{builder, spelled};
-use super::{Builder, IndexBuilder};
+use super::calls::{builder, spelled};
 use std::alloc::{AllocError, Global};
 use std::test::Fail;
+use tabled_table::builder::{Builder, IndexBuilder};
 
 /// The rows of the table that is built, as words and slashes.
 fn rows(alloc: Global, index: IndexBuilder) -> Result<String, AllocError> {
@@ -103,6 +103,8 @@ fn builds_from_little(rt: HostRuntime) -> Result<(), Fail> {
     let alloc = rt.alloc();
     let taken = index(alloc, &["h", "v"])?.column(alloc, 0)?;
     assert_eq!(rt; shape(alloc, taken.hide())?, (2, 0));
+    let turned = index(alloc, &["a b"])?.transpose(alloc)?;
+    assert_eq!(rt; rows(alloc, turned.hide())?.as_str(), "///");
     let turned = index(alloc, &["a b"])?.transpose(alloc)?;
     assert_eq!(rt; shape(alloc, turned.hide())?, (3, 0));
     let bare = index(alloc, &[""])?;
