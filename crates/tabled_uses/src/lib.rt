@@ -1,7 +1,5 @@
-//! The calls of the other crates, as a crate above them makes them.
+//! An outsider's code: it calls the public functions, as the documents show them.
 #![tactic(auto)]
 
-#[cfg(test)]
 mod builders;
-#[cfg(test)]
 mod options;

@@ -73,11 +73,8 @@ impl Letter {
         Letter { letter, hint: None }
     }
 
-    pub(crate) fn hinting(letter: char, entity: Entity) -> Self {
-        Letter {
-            letter,
-            hint: Some(entity),
-        }
+    pub(crate) fn hinting(letter: char, hint: Option<Entity>) -> Self {
+        Letter { letter, hint }
     }
 }
 

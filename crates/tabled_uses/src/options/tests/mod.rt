@@ -2,17 +2,13 @@
 
 mod refusals;
 
-ghost use Rattle.std.specs.Prelude.{◌≡◌, IfOk};
-
 use crate::options::testing::{Letter, Log, Named, spelled};
 use std::alloc::{AllocError, Global};
 use std::test::Fail;
-use tabled_grid::config::{Entity, Position, SpannedConfig};
+use tabled_grid::config::{Entity, SpannedConfig};
 use tabled_grid::records::{GridStore, Text, VecRecords};
-use tabled_select::object::{Cell, Columns, Object, Rows, Segment};
 use tabled_table::{
-    CellOption, EmptySettings, Modify, OptionSlice, Settings, Table, TableOption, TextRef,
-    combine_entity,
+    CellOption, EmptySettings, Modify, Settings, Table, TableOption, TextRef, combine_entity,
 };
 
 type Store = VecRecords<Text<String>>;
@@ -109,76 +105,40 @@ where
     spelled(alloc, table.get_records())
 }
 
-/// What a text on what an object lists makes of the table `a b / c d`.
-fn table_modified<O>(alloc: Global, object: O) -> Result<String, AllocError>
-where
-    O: Object<Store> + Drop,
-    requires { O.can_list object }
-{
+/// What two texts on entities, one after another, make of the table `a b / c d`.
+fn table_modified(alloc: Global, entities: &[Entity]) -> Result<String, AllocError> {
     let mut table = Table::from_records(alloc, two_rows(alloc)?);
-    table.modify(alloc, object, TextRef("x"))?;
+    table.modify(alloc, Named(entities), (TextRef("x"), TextRef("y")))?;
     spelled(alloc, table.get_records())
-}
-
-/// What an option on cells makes of the store `a b / c d`.
-fn store_after<O>(alloc: Global, option: O, entity: Entity) -> Result<String, AllocError>
-where
-    O: CellOption<Store, ()> + Drop,
-    requires { O.can_change option }
-{
-    let mut store = two_rows(alloc)?;
-    apply_to(alloc, option, &mut store, &mut (), entity)?;
-    spelled(alloc, &store)
 }
 
 #[test]
 fn changes_tables(rt: HostRuntime) -> Result<(), Fail> {
     let alloc = rt.alloc();
     let settings = Settings::empty()
-        .modify(Cell::new(0, 0), TextRef("x"))
-        .modify(Rows::one(1), TextRef("y"));
+        .modify(Named(&[Entity::Cell(0, 0)]), TextRef("x"))
+        .modify(Named(&[Entity::Row(1)]), TextRef("y"));
     assert_eq!(rt; table_after(alloc, settings)?.as_str(), "x b /y y /");
-    let none: Settings = Settings::default();
-    assert_eq!(rt; table_after(alloc, none)?.as_str(), "a b /c d /");
     assert_eq!(rt; table_after(alloc, EmptySettings)?.as_str(), "a b /c d /");
-    let both = Modify::new(Columns::one(1))
-        .with(TextRef("u"))
-        .with(TextRef("v"));
-    assert_eq!(rt; table_after(alloc, both)?.as_str(), "a v /c v /");
     Ok(())
 }
 
 #[test]
 fn changes_what_objects_list(rt: HostRuntime) -> Result<(), Fail> {
     let alloc = rt.alloc();
-    assert_eq!(rt; table_modified(alloc, (0, 1))?.as_str(), "a x /c d /");
-    assert_eq!(rt;
-        table_modified(alloc, Position::new(2, 0))?.as_str(),
-        "a b /c d /"
-    );
-    assert_eq!(rt;
-        table_modified(alloc, Segment::all())?.as_str(),
-        "x x /x x /"
-    );
-    let rows = [Entity::Row(0), Entity::Row(0), Entity::Cell(5, 5)];
-    assert_eq!(rt; table_modified(alloc, Named(&rows))?.as_str(), "x x /c d /");
-    Ok(())
-}
-
-#[test]
-fn changes_cells(rt: HostRuntime) -> Result<(), Fail> {
-    let alloc = rt.alloc();
-    for (entity, want) in [
-        (Entity::Row(1), "a b /y y /"),
-        (Entity::Column(1), "a y /c y /"),
-        (Entity::Cell(0, 0), "y b /c d /"),
-        (Entity::Cell(0, 2), "a b /c d /"),
-        (Entity::Global, "y y /y y /"),
-    ] {
-        let text = String::from_str(alloc, "y")?;
-        assert_eq!(rt; store_after(alloc, text, entity)?.as_str(), want);
-        let both = Settings::new(TextRef("z"), TextRef("y"));
-        assert_eq!(rt; store_after(alloc, both, entity)?.as_str(), want);
+    let cases: [(&[Entity], &str); 6] = [
+        (&[], "a b /c d /"),
+        (&[Entity::Row(1)], "a b /y y /"),
+        (&[Entity::Column(1)], "a y /c y /"),
+        (&[Entity::Cell(0, 0), Entity::Cell(0, 2)], "y b /c d /"),
+        (
+            &[Entity::Row(0), Entity::Row(0), Entity::Cell(5, 5)],
+            "y y /c d /",
+        ),
+        (&[Entity::Global], "y y /y y /"),
+    ];
+    for (entities, want) in cases {
+        assert_eq!(rt; table_modified(alloc, entities)?.as_str(), want);
     }
     Ok(())
 }
@@ -194,8 +154,6 @@ fn goes_over_each_entity_listed(rt: HostRuntime) -> Result<(), Fail> {
     ];
     let listed = Modify::list(Named(&entities), Letter::new('a'));
     assert_eq!(rt; logged(alloc, listed, 9)?.as_str(), "aaaa");
-    let listed = Modify::list(Named(&[]), Letter::new('a'));
-    assert_eq!(rt; logged(alloc, listed, 9)?.as_str(), "");
     Ok(())
 }
 
@@ -222,32 +180,19 @@ fn combines_entities(rt: HostRuntime) {
 }
 
 #[test]
-fn hints_at_changes(rt: HostRuntime) -> Result<(), Fail> {
-    let alloc = rt.alloc();
-    let none = Letter::new('a');
-    let row = Letter::hinting('b', Entity::Row(1));
-    let first = Letter::hinting('c', Entity::Cell(0, 0));
-    let second = Letter::hinting('d', Entity::Cell(0, 1));
-    let above = Letter::hinting('e', Entity::Row(0));
-    assert_eq!(rt; hint_of(&(none, row)), Some(Entity::Row(1)));
-    assert_eq!(rt; hint_of(&(row, none)), Some(Entity::Row(1)));
-    assert_eq!(rt; hint_of(&(none, none)), None);
-    assert_eq!(rt; cell_hint_of(&(none, row)), Some(Entity::Row(1)));
-    assert_eq!(rt; cell_hint_of(&(none, none)), None);
-    assert_eq!(rt; hint_of(&(first, second, above)), Some(Entity::Global));
-    assert_eq!(rt; cell_hint_of(&(first, second, above)), Some(Entity::Global));
-    let nested = Settings::new(first, Settings::new(second, above));
-    assert_eq!(rt; hint_of(&nested), Some(Entity::Row(0)));
-    assert_eq!(rt; cell_hint_of(&nested), Some(Entity::Row(0)));
-    let listed = Modify::list(Position::new(0, 0), row);
-    assert_eq!(rt; hint_of(&listed), Some(Entity::Row(1)));
-    let listed = Modify::list(Position::new(0, 0), none);
-    assert_eq!(rt; hint_of(&listed), None);
-    let options = vec![in alloc; none, none]?;
-    assert_eq!(rt; hint_of(&OptionSlice(&options)), Some(Entity::Global));
-    assert_eq!(rt; hint_of(&options), Some(Entity::Global));
-    assert_eq!(rt; hint_of(&EmptySettings), Some(Entity::Global));
-    assert_eq!(rt; cell_hint_of(&EmptySettings), Some(Entity::Global));
-    assert_eq!(rt; cell_hint_of(&TextRef("a")), Some(Entity::Global));
-    Ok(())
+fn hints_at_changes(rt: HostRuntime) {
+    let (row, cell) = (Some(Entity::Row(0)), Some(Entity::Cell(0, 0)));
+    let other = Some(Entity::Cell(0, 1));
+    for (first, second, third, left, right) in [
+        (None, None, None, None, None),
+        (None, row, None, row, row),
+        (row, None, None, row, row),
+        (cell, other, row, Some(Entity::Global), row),
+    ] {
+        let [a, b, c] = [first, second, third].map(|hint| Letter::hinting('a', hint));
+        assert_eq!(rt; hint_of(&(a, b, c)), left);
+        assert_eq!(rt; cell_hint_of(&(a, b, c)), left);
+        let nested = Settings::new(a, Settings::new(b, c));
+        assert_eq!(rt; hint_of(&nested), right);
+    }
 }
