@@ -4,7 +4,7 @@ use Rattle.tabled_grid.specs.Entity.{inside}
 use Rattle.tabled_grid.specs.Grid.{Grid}
 use Rattle.tabled_grid.specs.declared.config.entity.Entity.{Entity}
 use Rattle.tabled_table.specs.Builder.{from_uneven, table_of}
-use Rattle.tabled_table.specs.Writes.{written}
+use Rattle.tabled_options.specs.Writes.{written}
 
 -- the text that a step writes, and to which cells
 pub record Step : Type 0 where

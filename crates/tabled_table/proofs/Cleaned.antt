@@ -28,7 +28,7 @@ module _ {A : Type 0} (d : A) (columns : ℕ) where
   gathered_skip : (kept j : ℕ) (ks : List ℕ) (old new : List A) → Gathered d columns kept j ks old new → Gathered d columns kept (j + 1) ks old new
   gathered_skip kept j ks old new h = record { front = h.front; rest = gathered_rest j old new h.rest; long = h.long }
 
-  -- what an exchange brings to the front
+  -- what a swap brings to the front
   swapped_front : (xs : List A) (kept j : ℕ) → kept ≤ j → j < length xs → get_or (set (set xs kept (get_or xs j d)) j (get_or xs kept d)) kept d ≡ get_or xs j d
   swapped_front xs kept j below within = at (cases_eq kept j)
     where

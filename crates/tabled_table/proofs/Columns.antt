@@ -7,7 +7,7 @@ use Rattle.std.proofs.lemmas.Slice.Zip.{length-zip}
 use Rattle.tabled_table.specs.Builder.{AreRecords, with_items}
 use Rattle.tabled_grid.proofs.Lists.{all-map, all-zip}
 
--- each row with its item put in
+-- each row with its item inserted
 abbrev each_with : {B : Type 0} → (List B → B → List B) → List (List B) → List B → List (List B)
 each_with {B} insert_item rows items = map (λ (p : List B × B). insert_item p.0 p.1) (zip rows items)
 

@@ -1,16 +1,12 @@
 pub mod Cleaned
 pub mod CleanedLaws
 pub mod Columns
-pub mod Copies
 pub mod Indexed
 pub mod Padded
 pub mod Printed
 pub mod Records
-pub mod Results
 pub mod RowByRow
 pub mod RowTexts
 pub mod Tables
 pub mod Transposed
-pub mod Turns
 pub mod Uneven
-pub mod Writes

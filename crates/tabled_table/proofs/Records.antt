@@ -19,7 +19,7 @@ padded_to-longest columns filler given = ⊎_elim
     (λ (h : length given ≤ columns). let same : columns ≡ max columns (length given) = omega arith in ap (λ n. padded_to n filler given) same)
     (cases_lt columns (length given))
 
--- a padded record put in among the others
+-- a padded record inserted among the others
 pub with_record-padded : (b : Builder) (i n : ℕ) (given row : List (List ℕ)) → row ≡ padded_to b.columns b.empty given → n ≡ length row →
     (let c : Builder = record b { columns = n; rows = insert (map (padded_to n b.empty) b.rows) i row } in c) ≡ with_record b i given
 with_record-padded b i n given row is long =

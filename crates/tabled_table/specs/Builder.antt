@@ -28,13 +28,13 @@ longest (row ∷ rows) = max (length row) (longest rows)
 abbrev pub from_uneven : List (List (List ℕ)) → Builder
 from_uneven rows = record { columns = longest rows; rows = map (padded_to (longest rows) []) rows; empty = [] }
 
--- a record put in before record i, where all are padded to the longest
+-- a record inserted before record i, where all are padded to the longest
 abbrev pub with_record : Builder → ℕ → List (List ℕ) → Builder
 with_record b i texts =
     let columns = max b.columns (length texts) in
     record b { columns = columns; rows = insert (map (padded_to columns b.empty) b.rows) i (padded_to columns b.empty texts) }
 
--- each row with its item put in at j
+-- each row with its item inserted at j
 abbrev pub with_items : {A : Type 0} → ℕ → List (List A) → List A → List (List A)
 with_items {A} j rows items = map (λ (p : List A × A). insert p.0 j p.1) (zip rows items)
 
@@ -42,11 +42,11 @@ with_items {A} j rows items = map (λ (p : List A × A). insert p.0 j p.1) (zip 
 abbrev pub with_items_behind : {A : Type 0} → List (List A) → List A → List (List A)
 with_items_behind {A} rows items = map (λ (p : List A × A). p.0 ++ p.1 ∷ []) (zip rows items)
 
--- each row with its item, or with the empty text, put in at j
+-- each row with its item, or with the empty text, inserted at j
 abbrev pub with_items_at : ℕ → List ℕ → List (List (List ℕ)) → List (List ℕ) → List (List (List ℕ))
 with_items_at j empty rows items = with_items j rows (padded_to (length rows) empty items)
 
--- a column put in before column j, without its surplus items
+-- a column inserted before column j, without its surplus items
 abbrev pub with_column : Builder → ℕ → List (List ℕ) → Builder
 with_column b j items = record b { columns = b.columns + 1; rows = with_items_at j b.empty b.rows (take (length b.rows) items) }
 
@@ -80,7 +80,7 @@ has_text_in rows j = not (list_all (λ row. is_empty_text (slice_index_or row j 
 abbrev pub columns_with_text : Builder → List ℕ
 columns_with_text b = filter (has_text_in b.rows) (range_with_len 0 b.columns)
 
--- the columns without a text taken away, and then the rows without one
+-- the columns without a text removed, and then the rows without one
 abbrev pub cleaned : Builder → Builder
 cleaned b =
     let kept = columns_with_text b in

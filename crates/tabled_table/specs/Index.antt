@@ -44,7 +44,7 @@ with_column_as_index c x = record x { header = remove x.header c; index = column
 abbrev pub with_column_as_index_if_there : ℕ → Indexed → Indexed
 with_column_as_index_if_there c x = if nat_lt c (length x.header) then with_column_as_index c x else x
 
--- header and index exchanged, and the body turned with them
+-- header and index swapped, and the body turned with them
 abbrev pub turned_over : Indexed → Indexed
 turned_over x = record x { header = x.index; index = x.header; body = transposed (length x.header) x.body; turned = not x.turned }
 

@@ -1,9 +1,6 @@
 pub mod Builder
-pub mod Does
 pub mod Gathering
 pub mod Given
-pub mod Hints
 pub mod Index
 pub mod Printed
 pub mod Table
-pub mod Writes

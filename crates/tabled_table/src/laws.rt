@@ -1,13 +1,11 @@
 //! Laws of what the calls say they do. Each is the contract of a function that does nothing.
 
-ghost use Rattle.std.specs.Prelude.{◌≡◌, option_map, true};
-ghost use Rattle.tabled_grid.specs.Entity.{names};
+ghost use Rattle.std.specs.Prelude.{◌≡◌, option_map};
 ghost use Rattle.tabled_table.specs.Builder.{IsClean, cleaned};
-ghost use Rattle.tabled_table.specs.Hints.{combined};
 ghost use Rattle.tabled_table.specs.Index.{turned_over};
 
 use crate::builder::{Builder, IndexBuilder};
-use tabled_grid::config::{Entity, Position};
+pub use tabled_options::laws::{combined_either_way, combined_names_both};
 
 /// A builder that is cleaned twice is as if it was cleaned once.
 pub fn cleaned_twice_is_once(_builder: &Builder)
@@ -25,14 +23,3 @@ pub fn transposed_twice_is_as_it_was(builder: &IndexBuilder)
 {
     builder.keeps_its_shape();
 }
-
-/// Two entities combine to the same one either way.
-pub fn combined_either_way(_a: Entity, _b: Entity)
-    ensures { combined _a _b ≡ combined _b _a }
-{}
-
-/// What two entities combine to names each place that one of them names.
-pub fn combined_names_both(_a: Entity, _b: Entity, _pos: Position)
-    ensures first { names _a _pos ≡ true → names (combined _a _b) _pos ≡ true }
-    ensures second { names _b _pos ≡ true → names (combined _a _b) _pos ≡ true }
-{}

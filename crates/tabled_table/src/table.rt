@@ -1,12 +1,10 @@
 //! Tables.
 
-use crate::cell_option::CellOption;
-use crate::modify::{Modify, ModifyList};
-use crate::table_option::TableOption;
 use std::alloc::{AllocError, Global};
 use std::marker::Model;
 use tabled_grid::config::SpannedConfig;
 use tabled_grid::records::{ExactRecords, Records, Text, VecRecords};
+use tabled_options::{CellOption, Modify, TableOption};
 use tabled_select::object::Object;
 
 /// A table of texts and its merged cells. A contract sees its grid of cells and its map of spans.
@@ -33,7 +31,7 @@ impl Model for Table {
 impl Table {
     ghost use Rattle.std.specs.Prelude.{◌≡◌, OnOk, OnErr, IsOk};
     ghost use Rattle.std.specs.FinMap as map;
-    ghost use Rattle.tabled_table.specs.Does.{CopiesAlike, EachListed, EachListedUntil, SameOr};
+    ghost use Rattle.tabled_options.specs.Does.{CopiesAlike, EachListed, EachListedUntil, SameOr};
 
     /// A table of the cells of a store, with no merged cells.
     pub fn from_records(alloc: Global, records: VecRecords<Text<String>>) -> Self
@@ -70,7 +68,8 @@ impl Table {
         O: Object<VecRecords<Text<String>>> + Drop,
         M: CellOption<VecRecords<Text<String>>, SpannedConfig> + Clone + Drop,
         requires list { O.can_list object }
-        requires copies { CopiesAlike M.is_clone M.can_change M.does M.leaves option }
+        requires can { M.can_change option }
+        requires copies { CopiesAlike M.is_clone M.is_like option }
         ensures ok { OnOk result (EachListed (O.lists object) (M.does option) self.old.cells self.old.spans self.new.cells self.new.spans) }
         ensures err { OnErr result (SameOr (EachListedUntil (O.lists object) (M.does option) (λ e. SameOr (M.leaves option e))) self.old.cells self.old.spans self.new.cells self.new.spans) }
     {

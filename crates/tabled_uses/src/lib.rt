@@ -1,6 +1,8 @@
 //! What an outsider writes over the libraries: each public call, once, and what it answers.
 #![tactic(auto)]
 
+pub mod builders;
+pub mod options;
 #[cfg(test)]
 mod places;
 pub mod stores;

@@ -22,7 +22,7 @@ fn reserve_each(rows: &mut [Vec<Text<String>>]) -> Result<(), AllocError>
     Ok(())
 }
 
-/// Puts an item into each row before place `j`. Refused, it leaves the rows as they were.
+/// Inserts an item into each row before place `j`. Refused, it leaves the rows as they were.
 pub(super) fn insert_items(
     rows: &mut [Vec<Text<String>>],
     j: usize,
@@ -42,7 +42,7 @@ pub(super) fn insert_items(
     Ok(())
 }
 
-/// Takes the cell at `j` out of each row.
+/// Removes the cell at `j` of each row.
 pub(super) fn remove_each(rows: &mut [Vec<Text<String>>], j: usize)
     requires { All (λ (row : Vec (String Heap)). j < vec_len row) rows.old }
     ensures { row_texts rows.new ≡ map (λ row. remove row j) (row_texts rows.old) }
@@ -82,7 +82,7 @@ fn mark_columns(rows: &[Vec<Text<String>>], start: usize, marks: &mut [bool])
     }
 }
 
-/// Exchanges the marked cells from `start` on, one after another, with those from `kept` on.
+/// Swaps the marked cells from `start` on, one after another, with those from `kept` on.
 fn bring_forward(row: &mut [Text<String>], start: usize, marks: &[bool], kept: usize)
     requires below { kept ≤ start }
     requires within { start + length marks.now ≤ length row.old }
@@ -97,7 +97,7 @@ fn bring_forward(row: &mut [Text<String>], start: usize, marks: &[bool], kept: u
     }
 }
 
-/// Exchanges cells so in each row.
+/// Swaps cells so in each row.
 fn bring_each_forward(rows: &mut [Vec<Text<String>>], start: usize, marks: &[bool], kept: usize)
     requires below { kept ≤ start }
     requires within { All (λ (row : Vec (String Heap)). start + length marks.now ≤ vec_len row) rows.old }
@@ -112,13 +112,7 @@ fn bring_each_forward(rows: &mut [Vec<Text<String>>], start: usize, marks: &[boo
 fn count_marks(marks: &[bool]) -> usize
     ensures { result ≡ count_by (λ mark. mark) marks.now }
 {
-    let mut count = 0;
-    for mark in marks {
-        if *mark {
-            count += 1;
-        }
-    }
-    count
+    marks.iter().filter(|mark| **mark).count()
 }
 
 /// Brings the columns with a text to the front, and answers how many these are.
@@ -140,7 +134,7 @@ pub(super) fn gather(rows: &mut [Vec<Text<String>>], columns: usize) -> usize
     kept
 }
 
-/// Takes the cell at `j` out of each row, and answers these.
+/// Removes the cell at `j` of each row, and answers these.
 pub(super) fn take_column(
     alloc: Global,
     rows: &mut [Vec<Text<String>>],
@@ -157,7 +151,7 @@ pub(super) fn take_column(
     Ok(column)
 }
 
-/// Puts an item behind each row.
+/// Pushes an item to each row.
 fn push_items(rows: &mut [Vec<Text<String>>], items: Vec<Text<String>>) -> Result<(), AllocError>
     requires { vec_len items ≡ length rows.old }
     ensures { OnOk result (row_texts rows.new ≡ with_items_behind (row_texts rows.old) (map string_bytes items.items)) }

@@ -38,11 +38,11 @@ impl Model for IndexBuilder {
 
 impl IndexBuilder {
     ghost use Rattle.std.specs.FinMap as map;
-    ghost use Rattle.std.specs.Prelude.{◌≡◌, IfOk, IfSome, false, option_map};
+    ghost use Rattle.std.specs.Prelude.{◌≡◌, ◌≤◌, [], IfOk, IfSome, IsOk, None, true, false, length, option_map};
     ghost use Rattle.std.specs.String.{string_bytes};
     ghost use Rattle.tabled_grid.specs.Grid.{map_grid, width_of};
     ghost use Rattle.tabled_table.specs.Builder.{AreRecords, row_texts, table_of};
-    ghost use Rattle.tabled_table.specs.Index.{Indexed as Parts, IsIndexed, builder_of, indexed_rows, turned_over, with_column_as_index_if_there};
+    ghost use Rattle.tabled_table.specs.Index.{Indexed as Parts, IsIndexed, builder_of, indexed_rows, is_bare, turned_over, with_column_as_index_if_there};
 
     /// The records of a builder, of which the first is the header, with their numbers as the index.
     ///
@@ -50,7 +50,8 @@ impl IndexBuilder {
     ///
     /// Ported from `impl From<Builder> for tabled::builder::IndexBuilder`.
     pub fn from_builder(alloc: Global, builder: Builder) -> Result<Self, AllocError>
-        ensures { IfOk result (λ x. x ≡ indexed_rows builder.rows) }
+        ensures ok { IfOk result (λ x. x ≡ indexed_rows builder.rows) }
+        ensures promised { builder.rows ≡ [] → IsOk result }
     {
         builder.index(alloc)
     }
@@ -61,7 +62,8 @@ impl IndexBuilder {
         mut rows: Vec<Vec<Text<String>>>,
     ) -> Result<Self, AllocError>
         requires { AreRecords (width_of (row_texts rows.items)) (row_texts rows.items) }
-        ensures { IfOk result (λ x. x ≡ indexed_rows (row_texts rows.items)) }
+        ensures ok { IfOk result (λ x. x ≡ indexed_rows (row_texts rows.items)) }
+        ensures promised { row_texts rows.items ≡ [] → IsOk result }
     {
         if rows.is_empty() {
             return Ok(IndexBuilder { indexed: None });
@@ -104,7 +106,7 @@ impl IndexBuilder {
         self
     }
 
-    /// Takes a column out as the index, and its header as the name. The index before is lost. Past
+    /// Makes a column the index, and its header as the name. The index before is lost. Past
     /// the last column this changes nothing. `column(0)` makes it
     ///
     /// ```text
@@ -118,7 +120,8 @@ impl IndexBuilder {
     ///
     /// Ported from `tabled::builder::IndexBuilder::column`.
     pub fn column(self, alloc: Global, column: usize) -> Result<Self, AllocError>
-        ensures { IfOk result (λ x. x ≡ option_map (with_column_as_index_if_there column) self) }
+        ensures ok { IfOk result (λ x. x ≡ option_map (with_column_as_index_if_there column) self) }
+        ensures promised { IfSome self (λ x. length x.header ≤ column) → IsOk result }
     {
         let indexed = match self.indexed {
             Some(indexed) if column < indexed.count_columns() => {
@@ -129,7 +132,7 @@ impl IndexBuilder {
         Ok(IndexBuilder { indexed })
     }
 
-    /// Exchanges the header and the index, and turns the body with them. Of the table above this is
+    /// Swaps the header and the index, and turns the body with them. Of the table above this is
     ///
     /// ```text
     /// .  0 1
@@ -141,7 +144,8 @@ impl IndexBuilder {
     ///
     /// Ported from `tabled::builder::IndexBuilder::transpose`.
     pub fn transpose(self, alloc: Global) -> Result<Self, AllocError>
-        ensures { IfOk result (λ x. x ≡ option_map turned_over self) }
+        ensures ok { IfOk result (λ x. x ≡ option_map turned_over self) }
+        ensures promised { self ≡ None → IsOk result }
     {
         match self.indexed {
             None => Ok(IndexBuilder { indexed: None }),
@@ -157,7 +161,8 @@ impl IndexBuilder {
     ///
     /// Ported from `impl From<IndexBuilder> for tabled::builder::Builder`.
     pub fn into_builder(self, alloc: Global) -> Result<Builder, AllocError>
-        ensures { IfOk result (λ b. b ≡ builder_of self) }
+        ensures ok { IfOk result (λ b. b ≡ builder_of self) }
+        ensures promised { IfSome self (λ x. is_bare x ≡ true) → IsOk result }
     {
         match self.indexed {
             Some(indexed) if !indexed.is_bare() => {

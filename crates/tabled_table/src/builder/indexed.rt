@@ -104,7 +104,7 @@ impl Indexed {
         })
     }
 
-    /// Exchanges header and index, and turns the body with them.
+    /// Swaps header and index, and turns the body with them.
     pub(super) fn turn_over(self, alloc: Global) -> Result<Self, AllocError>
         ensures { IfOk result (λ x. x ≡ turned_over self) }
     {
@@ -206,10 +206,7 @@ fn rows_with_name(
     ensures { IfOk result (λ named. row_texts named.items ≡ with_name in_header (string_bytes name) (row_texts rows.items)) }
 {
     let mut rows = rows;
-    let columns = match rows.first() {
-        None => 0,
-        Some(header) => header.len(),
-    };
+    let columns = rows::width(&rows);
     if columns == 0 {
         return Ok(rows);
     }

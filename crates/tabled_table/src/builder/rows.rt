@@ -3,6 +3,7 @@
 ghost use Rattle.std.specs.Prelude.{◌≡◌, ℕ, ◌<◌, ◌≤◌, ◌++◌, IfOk, OnOk, OnErr, length, map, replicate, take, vec_len};
 ghost use Rattle.std.specs.List.{filter, insert};
 ghost use Rattle.std.specs.String.{string_bytes};
+ghost use Rattle.tabled_grid.specs.Grid.{width_of};
 ghost use Rattle.tabled_table.specs.Builder.{AreRecords, has_text as row_has_text, longest as longest_of, padded_to, row_texts, with_items};
 ghost use Rattle.tabled_table.specs.Given.{GaveTexts, MayBeAsked};
 
@@ -29,7 +30,7 @@ where
     Ok(row)
 }
 
-/// Puts copies of a text behind a row, up to a length. Refused, it leaves in front what was there.
+/// Pads a row with copies of a text, up to a length. Refused, it leaves in front what was there.
 pub(super) fn pad(
     alloc: Global,
     row: &mut Vec<Text<String>>,
@@ -90,8 +91,8 @@ pub(super) fn pad_each(
     padded
 }
 
-/// Puts in a row that is as long as the others, or longer, where these are padded. Refused, it
-/// leaves them as they were.
+/// Inserts a row that is as long as the others, or longer, where these are padded. Refused, it leaves
+/// them as they were.
 pub(super) fn insert_row(
     alloc: Global,
     rows: &mut Vec<Vec<Text<String>>>,
@@ -114,7 +115,7 @@ pub(super) fn insert_row(
     Ok(())
 }
 
-/// Puts rows of copies of a text behind the others, up to a count. Refused, it leaves in front what
+/// Pushes rows of copies of a text, up to a count. Refused, it leaves in front what
 /// was there.
 fn pad_rows(
     alloc: Global,
@@ -134,7 +135,7 @@ fn pad_rows(
     Ok(())
 }
 
-/// Puts an item behind each row, after rows for the surplus items. Refused, it leaves in front what
+/// Pushes an item to each row, after rows for the surplus items. Refused, it leaves in front what
 /// was there.
 fn try_push_items(
     alloc: Global,
@@ -152,7 +153,7 @@ fn try_push_items(
     insert_items(rows, columns, items)
 }
 
-/// Puts an item behind each row, after rows for the surplus items. Refused, it leaves the rows as
+/// Pushes an item to each row, after rows for the surplus items. Refused, it leaves the rows as
 /// they were.
 pub(super) fn push_items(
     alloc: Global,
@@ -202,4 +203,14 @@ pub(super) fn longest(rows: &[Vec<Text<String>>]) -> usize
         most = row.len().max(most);
     }
     most
+}
+
+/// The length of the first row.
+pub(super) fn width(rows: &[Vec<Text<String>>]) -> usize
+    ensures { result ≡ width_of (row_texts rows.now) }
+{
+    match rows.first() {
+        None => 0,
+        Some(row) => row.len(),
+    }
 }

@@ -29,7 +29,7 @@ impl Model for Builder {
 
 impl Builder {
     ghost use Rattle.std.specs.FinMap as map;
-    ghost use Rattle.std.specs.Prelude.{◌≡◌, ◌<◌, ◌≤◌, [], IfOk, OnOk, OnErr, length};
+    ghost use Rattle.std.specs.Prelude.{◌≡◌, ◌<◌, ◌≤◌, [], IfOk, IsOk, OnOk, OnErr, length};
     ghost use Rattle.std.specs.String.{string_bytes};
     ghost use Rattle.tabled_table.specs.Builder.{AreRecords, cleaned, cleared, from_uneven, row_texts, table_of, with_column, with_last_column, with_record, without_column, without_record};
     ghost use Rattle.tabled_grid.specs.Grid.{map_grid, width_of};
@@ -75,10 +75,7 @@ impl Builder {
         requires { AreRecords (width_of (row_texts rows.items)) (row_texts rows.items) }
         ensures { result ≡ record { columns = width_of (row_texts rows.items); rows = row_texts rows.items; empty = [] } }
     {
-        let count_columns = match rows.first() {
-            None => 0,
-            Some(row) => row.len(),
-        };
+        let count_columns = rows::width(&rows);
         Builder {
             rows,
             count_columns,
@@ -156,6 +153,7 @@ impl Builder {
     pub fn into_cells(self) -> Vec<Vec<Text<String>>>
         ensures rows { row_texts result.items ≡ self.rows }
         ensures even { AreRecords (width_of (row_texts result.items)) (row_texts result.items) }
+        ensures wide { AreRecords self.columns self.rows }
     {
         let Builder {
             rows,
@@ -185,12 +183,8 @@ impl Builder {
         ensures cells { IfOk result (λ table. map_grid string_bytes table.cells ≡ table_of self) }
         ensures spans { IfOk result (λ table. table.spans ≡ map.empty) }
     {
-        let Builder {
-            rows,
-            count_columns: _,
-            empty_text: _,
-        } = self;
-        Ok(Table::from_records(alloc, VecRecords::new(alloc, rows)?))
+        let records = VecRecords::new(alloc, self.into_cells())?;
+        Ok(Table::from_records(alloc, records))
     }
 
     /// The records with an index: the first record is the header, and the numbers of the others are
@@ -200,14 +194,10 @@ impl Builder {
     ///
     /// Ported from `tabled::builder::Builder::index`.
     pub fn index(self, alloc: Global) -> Result<IndexBuilder, AllocError>
-        ensures { IfOk result (λ x. x ≡ indexed_rows self.rows) }
+        ensures ok { IfOk result (λ x. x ≡ indexed_rows self.rows) }
+        ensures promised { self.rows ≡ [] → IsOk result }
     {
-        let Builder {
-            rows,
-            count_columns: _,
-            empty_text: _,
-        } = self;
-        IndexBuilder::of_rows(alloc, rows)
+        IndexBuilder::of_rows(alloc, self.into_cells())
     }
 
     /// The number of declared columns, which is the length of each record.
@@ -276,7 +266,7 @@ impl Builder {
         self.push_record(alloc, texts)
     }
 
-    /// Puts a record in before record `i`, which is at most the number of records (r x c to
+    /// Inserts a record before record `i`, which is at most the number of records (r x c to
     /// r+1 x max(c, n) for n texts). A shorter one is padded with the empty text; for a longer one all
     /// others are.
     ///
@@ -331,7 +321,7 @@ impl Builder {
         Ok(())
     }
 
-    /// Puts a column in before column `j`, which is at most the number of columns (r x c to r x c+1).
+    /// Inserts a column before column `j`, which is at most the number of columns (r x c to r x c+1).
     /// A row without a text takes the empty text, and surplus texts are dropped.
     ///
     /// Refused for memory, or past `usize::MAX` columns, it leaves the builder as it was.
@@ -355,7 +345,7 @@ impl Builder {
         Ok(())
     }
 
-    /// Takes record `i` out, which is below the number of records (r x c to r-1 x c). The declared
+    /// Removes record `i`, which is below the number of records (r x c to r-1 x c). The declared
     /// columns stay. It takes no memory.
     ///
     /// Ported from `tabled::builder::Builder::remove_record`.
@@ -366,7 +356,7 @@ impl Builder {
         let _record = self.rows.remove(i);
     }
 
-    /// Takes column `j` out, which is below the number of columns (r x c to r x c-1). It takes no
+    /// Removes column `j`, which is below the number of columns (r x c to r x c-1). It takes no
     /// memory.
     ///
     /// Ported from `tabled::builder::Builder::remove_column`.
@@ -378,7 +368,7 @@ impl Builder {
         self.count_columns -= 1;
     }
 
-    /// Takes all records and columns out (to 0 x 0). The empty text stays. It takes no memory.
+    /// Removes all records and columns (to 0 x 0). The empty text stays. It takes no memory.
     ///
     /// Ported from `tabled::builder::Builder::clear`.
     pub fn clear(&mut self)
@@ -388,7 +378,7 @@ impl Builder {
         self.count_columns = 0;
     }
 
-    /// Takes the columns out whose cells are all `""`, and then the rows whose cells are all `""`.
+    /// Removes the columns whose cells are all `""`, and then the rows whose cells are all `""`.
     /// Without rows no columns are left. It takes no memory. With `.` for `""`,
     /// `a . b / . . . / c . .` is then
     ///

@@ -1,4 +1,4 @@
-use Rattle.std.proofs.Common.{◌∙◌, ap}
+use Rattle.std.proofs.Common.{◌∙◌, ap, refl}
 use Rattle.std.specs.String.{string_bytes}
 use Rattle.tabled_grid.specs.Grid.{map_grid}
 use Rattle.tabled_table.specs.Builder.{table_of}
@@ -6,10 +6,11 @@ use Rattle.tabled_table.proofs.Tables.{IsEven-rows, map_grid-rows}
 use Rattle.tabled_table.proofs.builder.table_builder.Builder.build.Goals as goal
 
 pub new-requires : goal.new-requires
-new-requires c = IsEven-rows _ c.self.inside.rows.items c.self.invariant
+new-requires c = IsEven-rows _ c.into_cells.result.items c.into_cells.ensures.even
 
 pub returns-clause-cells : goal.returns-clause-cells
 returns-clause-cells c =
-    ap (map_grid string_bytes) (c.from_records.ensures.cells ∙ c.in_ok-new.ensures)
-    ∙ map_grid-rows c.self.inside.count_columns (string_bytes c.self.inside.empty_text) c.self.inside.rows.items c.self.invariant
-    ∙ ap table_of c.self.view_is
+    let b = c.args.self in
+    ap (map_grid string_bytes) (c.from_records.ensures.cells ∙ c.in_ok-records.ensures)
+    ∙ map_grid-rows b.columns b.empty c.into_cells.result.items (rw c.into_cells.ensures.rows c.into_cells.ensures.wide)
+    ∙ rw c.into_cells.ensures.rows refl

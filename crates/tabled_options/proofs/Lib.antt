@@ -1,0 +1,5 @@
+pub mod Keeps
+pub mod Results
+pub mod Turns
+pub mod Until
+pub mod Writes

@@ -1,0 +1,25 @@
+use Rattle.std.proofs.Common.{◌≡◌, ◌<◌, ℕ, List, []}
+use Rattle.std.specs.List.{AllByRecursion}
+use Rattle.tabled_grid.specs.Entity.{inside}
+use Rattle.tabled_grid.specs.Grid.{Grid, map_grid}
+use Rattle.tabled_grid.specs.declared.config.position.Position.{Position}
+use Rattle.tabled_options.specs.Writes.{written, WrittenUntil}
+use Rattle.tabled_options.proofs.writers.write.Given as goal
+
+abbrev pub invariant-loop-pos : goal.invariant-loop-pos
+invariant-loop-pos g l =
+    let first = g.R.GridStore.grid l.fn.records in
+    let texts = λ (r : _). map_grid g.R.Cell.CellText.text_of (g.R.GridStore.grid r) in
+    let text = g.T.CellText.text_of l.fn.text in
+    let all = inside l.fn.entity first.rows first.columns in
+    record {
+      can : (goal.iterator-loop-pos g).can_next l.pos-iterator;
+      ends : (goal.iterator-loop-pos g).is_finite l.pos-iterator;
+      well : g.R.GridStore.is_well_formed l.records;
+      rows : (g.R.GridStore.grid l.records).rows ≡ first.rows;
+      columns : (g.R.GridStore.grid l.records).columns ≡ first.columns;
+      inside : AllByRecursion (λ (p : Position). (p.row < first.rows) × (p.col < first.columns)) l.pos-iterator;
+      ok : written text l.pos-iterator (texts l.records) ≡ written text all (texts l.fn.records);
+      err : (h : Grid (List ℕ)) → WrittenUntil text l.pos-iterator (texts l.records) h → WrittenUntil text all (texts l.fn.records) h;
+      promised : all ≡ [] → l.pos-iterator ≡ [];
+    }

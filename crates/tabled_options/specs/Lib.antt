@@ -1,0 +1,4 @@
+pub mod Copies
+pub mod Does
+pub mod Hints
+pub mod Writes

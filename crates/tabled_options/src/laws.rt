@@ -1,0 +1,101 @@
+//! Laws of what options do and leave. Each is the contract of a function that does nothing.
+
+ghost use Rattle.std.specs.Prelude.{◌≡◌, true};
+ghost use Rattle.std.specs.List.{AllByRecursion};
+ghost use Rattle.tabled_grid.specs.Entity.{names};
+ghost use Rattle.tabled_grid.specs.declared.config.entity.Entity.{Entity};
+ghost use Rattle.tabled_options.specs.Does.{CopiesAlike, OptionKeeps};
+ghost use Rattle.tabled_options.specs.Hints.{combined};
+
+use crate::cell_option::CellOption;
+use crate::modify::ModifyList;
+use crate::option_list::OptionSlice;
+use crate::property::Property;
+use crate::settings_list::Settings;
+use crate::table_option::TableOption;
+use tabled_grid::config::{Entity, Position};
+use tabled_grid::records::{ExactRecords, GridStore, Records};
+use tabled_select::object::Object;
+
+/// Two entities combine to the same one either way.
+pub fn combined_either_way(_a: Entity, _b: Entity)
+    ensures { combined _a _b ≡ combined _b _a }
+{}
+
+/// What two entities combine to names each place that one of them names.
+pub fn combined_names_both(_a: Entity, _b: Entity, _pos: Position)
+    ensures first { names _a _pos ≡ true → names (combined _a _b) _pos ≡ true }
+    ensures second { names _b _pos ≡ true → names (combined _a _b) _pos ≡ true }
+{}
+
+/// Copies of settings on tables, and of pairs, are like them where those of their parts are.
+pub fn settings_copied<R, C, D, A, B>(_first: &A, _second: &B)
+where
+    R: GridStore,
+    A: TableOption<R, C, D> + Clone,
+    B: TableOption<R, C, D> + Clone + Drop,
+    ensures settings { CopiesAlike A.is_clone A.is_like _first.now → CopiesAlike B.is_clone B.is_like _second.now → CopiesAlike ⟦<Settings<A, B> as Clone>⟧.is_clone ⟦<Settings<A, B> as TableOption<R, C, D>>⟧.is_like (_first.now, _second.now) }
+    ensures pairs { CopiesAlike A.is_clone A.is_like _first.now → CopiesAlike B.is_clone B.is_like _second.now → CopiesAlike ⟦<(A, B) as Clone>⟧.is_clone ⟦<(A, B) as TableOption<R, C, D>>⟧.is_like (_first.now, _second.now) }
+{}
+
+/// Copies of settings on cells, and of pairs, are like them where those of their parts are.
+pub fn cell_settings_copied<R, C, A, B>(_first: &A, _second: &B)
+where
+    R: GridStore,
+    A: CellOption<R, C> + Clone,
+    B: CellOption<R, C> + Clone + Drop,
+    ensures settings { CopiesAlike A.is_clone A.is_like _first.now → CopiesAlike B.is_clone B.is_like _second.now → CopiesAlike ⟦<Settings<A, B> as Clone>⟧.is_clone ⟦<Settings<A, B> as CellOption<R, C>>⟧.is_like (_first.now, _second.now) }
+    ensures pairs { CopiesAlike A.is_clone A.is_like _first.now → CopiesAlike B.is_clone B.is_like _second.now → CopiesAlike ⟦<(A, B) as Clone>⟧.is_clone ⟦<(A, B) as CellOption<R, C>>⟧.is_like (_first.now, _second.now) }
+{}
+
+/// Settings on tables, and pairs, keep what both of their parts keep, also where they are refused.
+///
+/// A longer tuple is the settings of the parts before its last one, and of that one.
+pub fn settings_keep<P, R, C, D, A, B>(_first: &A, _second: &B)
+where
+    R: GridStore,
+    P: Property<R::Cell, C>,
+    A: TableOption<R, C, D>,
+    B: TableOption<R, C, D> + Drop,
+    ensures settings { OptionKeeps P.holds (A.does _first.now) (A.leaves _first.now) → OptionKeeps P.holds (B.does _second.now) (B.leaves _second.now) → OptionKeeps P.holds (⟦<Settings<A, B> as TableOption<R, C, D>>⟧.does (_first.now, _second.now)) (⟦<Settings<A, B> as TableOption<R, C, D>>⟧.leaves (_first.now, _second.now)) }
+    ensures pairs { OptionKeeps P.holds (A.does _first.now) (A.leaves _first.now) → OptionKeeps P.holds (B.does _second.now) (B.leaves _second.now) → OptionKeeps P.holds (⟦<(A, B) as TableOption<R, C, D>>⟧.does (_first.now, _second.now)) (⟦<(A, B) as TableOption<R, C, D>>⟧.leaves (_first.now, _second.now)) }
+{}
+
+/// Settings on cells, and pairs, keep on an entity what both of their parts keep on it.
+pub fn cell_settings_keep<P, R, C, A, B>(_first: &A, _second: &B)
+where
+    R: GridStore,
+    P: Property<R::Cell, C>,
+    A: CellOption<R, C>,
+    B: CellOption<R, C> + Drop,
+    ensures settings { (e : Entity) → OptionKeeps P.holds (A.does _first.now e) (A.leaves _first.now e) → OptionKeeps P.holds (B.does _second.now e) (B.leaves _second.now e) → OptionKeeps P.holds (⟦<Settings<A, B> as CellOption<R, C>>⟧.does (_first.now, _second.now) e) (⟦<Settings<A, B> as CellOption<R, C>>⟧.leaves (_first.now, _second.now) e) }
+    ensures pairs { (e : Entity) → OptionKeeps P.holds (A.does _first.now e) (A.leaves _first.now e) → OptionKeeps P.holds (B.does _second.now e) (B.leaves _second.now e) → OptionKeeps P.holds (⟦<(A, B) as CellOption<R, C>>⟧.does (_first.now, _second.now) e) (⟦<(A, B) as CellOption<R, C>>⟧.leaves (_first.now, _second.now) e) }
+{}
+
+/// A vector of options keeps what each of them keeps.
+pub fn vectors_keep<P, R, C, D, T>(_options: &Vec<T>)
+where
+    R: GridStore,
+    P: Property<R::Cell, C>,
+    T: TableOption<R, C, D> + Drop,
+    ensures { AllByRecursion (λ x. OptionKeeps P.holds (T.does x) (T.leaves x)) _options.now.items → OptionKeeps P.holds (⟦<Vec<T> as TableOption<R, C, D>>⟧.does _options.now) (⟦<Vec<T> as TableOption<R, C, D>>⟧.leaves _options.now) }
+{}
+
+/// A slice of options keeps what each of them keeps.
+pub fn slices_keep<'a, P, R, C, D, T>(_options: &OptionSlice<'a, T>)
+where
+    R: GridStore,
+    P: Property<R::Cell, C>,
+    T: TableOption<R, C, D> + Clone,
+    ensures { AllByRecursion (λ x. OptionKeeps P.holds (T.does x) (T.leaves x)) _options.now.0.now → OptionKeeps P.holds (⟦<OptionSlice<'a, T> as TableOption<R, C, D>>⟧.does _options.now) (⟦<OptionSlice<'a, T> as TableOption<R, C, D>>⟧.leaves _options.now) }
+{}
+
+/// An option on what an object lists keeps what it keeps on each entity.
+pub fn modified_keep<P, R, C, D, O, M>(_object: &O, _option: &M)
+where
+    R: Records + ExactRecords,
+    P: Property<R::Cell, C>,
+    O: Object<R> + Drop,
+    M: CellOption<R, C> + Clone,
+    ensures { ((e : Entity) → OptionKeeps P.holds (M.does _option.now e) (M.leaves _option.now e)) → OptionKeeps P.holds (⟦<ModifyList<O, M> as TableOption<R, C, D>>⟧.does (_object.now, _option.now)) (⟦<ModifyList<O, M> as TableOption<R, C, D>>⟧.leaves (_object.now, _option.now)) }
+{}

@@ -1,0 +1,149 @@
+//! A cell option on what an object lists.
+
+ghost use Rattle.std.specs.Prelude.{◌≡◌};
+ghost use Rattle.tabled_options.specs.Does.{CopiesAlike, EachListed, EachListedUntil, SameOr};
+ghost use Rattle.std.proofs.Common.{rules};
+
+use crate::cell_option::CellOption;
+use crate::settings_list::Settings;
+use crate::table_option::TableOption;
+use std::alloc::{AllocError, Global};
+use std::marker::Model;
+use tabled_grid::config::Entity;
+use tabled_grid::records::{ExactRecords, Records};
+use tabled_select::object::Object;
+
+/// An object whose cells are to be changed. A contract sees it as the object.
+///
+/// Ported from `tabled::settings::Modify`.
+#[derive(Copy, Drop)]
+pub struct Modify<O> {
+    object: O,
+}
+
+impl<O> Model for Modify<O> {
+    ghost Value = { O };
+
+    ghost view = { λ a. a.object };
+
+    ghost inverse = { λ object. record { object = object } };
+}
+
+impl<O: Clone> Clone for Modify<O> {
+    ghost is_clone = { O.is_clone };
+
+    ghost is_infallible = { O.is_infallible };
+
+    fn clone(&self) -> Result<Self, AllocError> {
+        Ok(Modify {
+            object: self.object.clone()?,
+        })
+    }
+}
+
+impl<O> Modify<O> {
+    /// The cells of an object.
+    ///
+    /// Ported from `tabled::settings::Modify::new`.
+    pub fn new(object: O) -> Self
+        ensures { result ≡ object }
+    {
+        Modify { object }
+    }
+
+    /// An option on what an object lists.
+    ///
+    /// Ported from `tabled::settings::Modify::list`.
+    pub fn list<M>(object: O, option: M) -> ModifyList<O, M>
+        ensures { result ≡ (object, option) }
+    {
+        ModifyList { object, option }
+    }
+
+    /// An option on what the object lists.
+    ///
+    /// Ported from `tabled::settings::Modify::with`.
+    pub fn with<M>(self, option: M) -> ModifyList<O, M>
+        ensures { result ≡ (self, option) }
+    {
+        Modify::list(self.object, option)
+    }
+}
+
+/// A cell option on what an object lists. A contract sees it as the pair of them.
+///
+/// Ported from `tabled::settings::ModifyList`.
+#[derive(Drop)]
+pub struct ModifyList<O, M> {
+    object: O,
+    option: M,
+}
+
+impl<O, M> Model for ModifyList<O, M> {
+    ghost Value = { O × M };
+
+    ghost view = { λ a. (a.object, a.option) };
+
+    ghost inverse = { λ pair. record { object = pair.0; option = pair.1 } };
+}
+
+impl<O, M> ModifyList<O, M> {
+    /// The same, and then another option on each entity.
+    ///
+    /// Ported from `tabled::settings::ModifyList::with`.
+    pub fn with<N>(self, option: N) -> ModifyList<O, Settings<M, N>>
+        ensures { result ≡ (self.0, (self.1, option)) }
+    {
+        let ModifyList {
+            object,
+            option: first,
+        } = self;
+        ModifyList {
+            object,
+            option: Settings::new(first, option),
+        }
+    }
+}
+
+/// Changes the entities that the object lists in the table as it is before any change, one after
+/// another, each by a copy of the option.
+///
+/// A refused list changes nothing. A refused copy or change ends the call there.
+impl<O, M, R, C, D> TableOption<R, C, D> for ModifyList<O, M>
+where
+    O: Object<R> + Drop,
+    M: CellOption<R, C> + Clone,
+    R: Records + ExactRecords,
+{
+    ghost does = { λ s. EachListed (O.lists s.0) (M.does s.1) };
+
+    ghost leaves = { λ s. SameOr (EachListedUntil (O.lists s.0) (M.does s.1) (λ e. SameOr (M.leaves s.1 e))) };
+
+    ghost can_change = { λ s. O.can_list s.0 × (M.can_change s.1 × CopiesAlike M.is_clone M.is_like s.1) };
+
+    ghost never_refused = { λ _ _ _. ⊥ };
+
+    ghost hint = { λ s. M.hint s.1 };
+
+    fn change(
+        self,
+        alloc: Global,
+        records: &mut R,
+        cfg: &mut C,
+        _dimension: &mut D,
+    ) -> Result<(), AllocError> {
+        let ModifyList { object, option } = self;
+        let mut entities = object.cells(alloc, records)?;
+        while let Some(entity) = entities.next() {
+            let copy = option.clone()?;
+            copy.change(alloc, records, cfg, entity)?;
+        }
+        Ok(())
+    }
+
+    fn hint_change(&self) -> Option<Entity> {
+        self.option.hint_change()
+    }
+
+    ghost acts_like = { Prim.search rules };
+}
