@@ -9,7 +9,7 @@ use Rattle.tabled_grid.proofs.Grids.{cell_at-map_grid, map_grid-with_cell}
 use Rattle.tabled_grid.proofs.Lists.{map-insert, map-remove, map-swap}
 
 -- two maps, one after the other, that agree at each member with two others
-maps_agree : {A B C D : Type 0} (f : B → D) (g : A → B) (k : C → D) (h : A → C) → ((x : A) → f (g x) ≡ k (h x)) → (xs : List A) → map f (map g xs) ≡ map k (map h xs)
+pub maps_agree : {A B C D : Type 0} (f : B → D) (g : A → B) (k : C → D) (h : A → C) → ((x : A) → f (g x) ≡ k (h x)) → (xs : List A) → map f (map g xs) ≡ map k (map h xs)
 maps_agree f g k h agree [] = refl
 maps_agree f g k h agree (x ∷ xs) = ap₂ (λ y ys. y ∷ ys) (agree x) (maps_agree f g k h agree xs)
 

@@ -1,13 +1,30 @@
 -- The texts of rows that vectors hold, and the lengths of these.
-use Rattle.std.proofs.Common.{◌≡◌, ℕ, List, [], ◌∷◌, String, ap, sym, subst, ◌∙◌, map, set, get_or, length, vec_len}
+use Rattle.std.proofs.Common.{◌≡◌, ℕ, List, [], ◌∷◌, String, refl, ap, sym, subst, ◌∙◌, map, set, get_or, length, vec_len}
 use Rattle.std.specs.Global.{Global, Vec}
-use Rattle.std.specs.List.{All, AllByRecursion}
+use Rattle.std.specs.List.{All, AllByRecursion, remove}
 use Rattle.std.specs.String.{string_bytes}
 use Rattle.std.specs.Vec.{with_items}
 use Rattle.std.proofs.lemmas.List.{length-map, map-set, set-get_or, with_items_is}
 use Rattle.std.proofs.Math.ListN.{get_or-map}
 use Rattle.std.proofs.lemmas.List.Elements.{All-from_recursion}
+use Rattle.tabled_grid.specs.Grid.{map_items}
+use Rattle.tabled_grid.proofs.Lists.{map-remove}
+use Rattle.tabled_grid.proofs.Mapped.{maps_agree}
 use Rattle.tabled_table.specs.Builder.{AreRecords, row_texts}
+
+-- the texts of rows are those of their cells
+row_texts-items : (rows : List (Vec (String Global))) → row_texts rows ≡ map (map string_bytes) (map_items rows)
+row_texts-items [] = refl
+row_texts-items (row ∷ rows) = ap (λ texts. map string_bytes row.items ∷ texts) (row_texts-items rows)
+
+pub texts_kept : (old new : List (Vec (String Global))) → map_items new ≡ map_items old → row_texts new ≡ row_texts old
+texts_kept old new e = row_texts-items new ∙ ap (map (map string_bytes)) e ∙ sym (row_texts-items old)
+
+pub texts_removed : (old new : List (Vec (String Global))) (j : ℕ) → map_items new ≡ map (λ (row : List (String Global)). remove row j) (map_items old) → row_texts new ≡ map (λ (row : List (List ℕ)). remove row j) (row_texts old)
+texts_removed old new j e =
+    row_texts-items new ∙ ap (map (map string_bytes)) e
+    ∙ maps_agree (map string_bytes) (λ row. remove row j) (λ row. remove row j) (map string_bytes) (λ row. map-remove string_bytes row j) (map_items old)
+    ∙ ap (map (λ (row : List (List ℕ)). remove row j)) (sym (row_texts-items old))
 
 pub vec_len-texts : (row : Vec (String Global)) → vec_len row ≡ length (map string_bytes row.items)
 vec_len-texts row = row.ok.0 ∙ sym (length-map row.items string_bytes)

@@ -7,7 +7,7 @@ mod borrowed;
 mod cell_text;
 mod exact_records;
 mod grid_store;
-mod nested_rows;
+pub mod nested_rows;
 mod peekable_records;
 #[allow(clippy::module_inception)]
 mod records;

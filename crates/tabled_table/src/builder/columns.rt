@@ -10,17 +10,7 @@ ghost use Rattle.tabled_table.specs.Index.{column_of, transposed as turned_rows}
 
 use std::alloc::{AllocError, Global};
 use tabled_grid::records::Text;
-
-/// Makes room for one more cell in each row, which changes no cell.
-fn reserve_each(rows: &mut [Vec<Text<String>>]) -> Result<(), AllocError>
-    ensures texts { row_texts rows.new ≡ row_texts rows.old }
-    ensures room { OnOk result (All (λ (row : Vec (String Heap)). vec_len row < vec_capacity row) rows.new) }
-{
-    for row in rows.iter_mut() {
-        row.reserve(1)?;
-    }
-    Ok(())
-}
+use tabled_grid::records::nested_rows::reserve_each;
 
 /// Inserts an item into each row before place `j`. Refused, it leaves the rows as they were.
 pub(super) fn insert_items(
@@ -40,16 +30,6 @@ pub(super) fn insert_items(
         row.insert(j, item).unwrap();
     }
     Ok(())
-}
-
-/// Removes the cell at `j` of each row.
-pub(super) fn remove_each(rows: &mut [Vec<Text<String>>], j: usize)
-    requires { All (λ (row : Vec (String Heap)). j < vec_len row) rows.old }
-    ensures { row_texts rows.new ≡ map (λ row. remove row j) (row_texts rows.old) }
-{
-    for row in rows.iter_mut() {
-        let _cell = row.remove(j);
-    }
 }
 
 /// How many columns are gathered at once, by two passes over the rows. What a row has of them lies

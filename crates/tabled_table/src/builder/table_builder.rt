@@ -4,6 +4,7 @@ use crate::builder::{IndexBuilder, columns, rows, texts};
 use crate::table::Table;
 use std::alloc::{AllocError, Global};
 use std::marker::Model;
+use tabled_grid::records::nested_rows::remove_each;
 use tabled_grid::records::{Text, VecRecords};
 
 /// Records of texts, all as long as there are declared columns.
@@ -364,7 +365,7 @@ impl Builder {
         requires { j < self.old.columns }
         ensures { self.new ≡ without_column self.old j }
     {
-        columns::remove_each(&mut self.rows, j);
+        remove_each(&mut self.rows, j);
         self.count_columns -= 1;
     }
 

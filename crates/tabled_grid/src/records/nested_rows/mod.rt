@@ -17,6 +17,7 @@ use crate::records::records::Records;
 use crate::records::records_mut::RecordsMut;
 use crate::records::vec_records::Text;
 use moves::width;
+pub use moves::{remove_each, reserve_each};
 use std::alloc::{AllocError, Global};
 
 impl<T> GridStore for Vec<Vec<T>> {

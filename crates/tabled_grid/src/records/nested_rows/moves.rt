@@ -33,7 +33,7 @@ pub(crate) fn blanks<T: Blank>(alloc: Global, count: usize) -> Result<Vec<T>, Al
 }
 
 /// Makes room for one more cell in each row, which changes no cell.
-fn reserve_each<T>(rows: &mut [Vec<T>]) -> Result<(), AllocError>
+pub fn reserve_each<T>(rows: &mut [Vec<T>]) -> Result<(), AllocError>
     ensures cells { map_items rows.new ≡ map_items rows.old }
     ensures room { OnOk result (All (λ (row : Vec T). vec_len row < vec_capacity row) rows.new) }
 {
@@ -61,7 +61,7 @@ pub(crate) fn insert_blanks<T: Blank>(
 }
 
 /// Removes the cell at `j` from each row.
-pub(crate) fn remove_each<T: Drop>(rows: &mut [Vec<T>], j: usize)
+pub fn remove_each<T: Drop>(rows: &mut [Vec<T>], j: usize)
     requires { All (λ (row : Vec T). j < vec_len row) rows.old }
     ensures { map_items rows.new ≡ map (λ (row : List T). remove row j) (map_items rows.old) }
 {

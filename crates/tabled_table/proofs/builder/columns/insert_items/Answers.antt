@@ -5,13 +5,13 @@ use Rattle.std.specs.String.{string_bytes}
 use Rattle.std.proofs.lemmas.List.{length-map, get_or-map}
 use Rattle.tabled_grid.proofs.Lists.{map-insert}
 use Rattle.tabled_table.proofs.Columns.{next_item, puts_next, puts_more}
-use Rattle.tabled_table.proofs.RowTexts.{same_lens}
+use Rattle.tabled_table.proofs.RowTexts.{same_lens, texts_kept}
 use Rattle.tabled_table.proofs.builder.columns.insert_items.Goals as goal
 
 pub insert-requires : goal.insert-requires
 insert-requires c =
     rw (puts_next _ _ _ _ _ c.loop-row.row-index c.row-item.result c.loop-row.invariant.puts)
-    (rw (same_lens _ _ c.loop-row.row-index c.row-item.result c.in_ok-reserve_each.ensures.texts) (c.requires.within c.loop-row.row-index c.row-item.result (omega (arith, c.reserve_each.auto.rows))))
+    (rw (same_lens _ _ c.loop-row.row-index c.row-item.result (texts_kept _ _ c.in_ok-reserve_each.ensures.cells)) (c.requires.within c.loop-row.row-index c.row-item.result (omega (arith, c.reserve_each.auto.rows))))
 
 pub unwrap-requires : goal.unwrap-requires
 unwrap-requires c = c.insert.ensures.succeeds (rw (puts_next _ _ _ _ _ c.loop-row.row-index c.row-item.result c.loop-row.invariant.puts) (c.in_ok-reserve_each.ensures.room _ _ (omega arith)))

@@ -3,7 +3,7 @@ use Rattle.std.specs.List.{remove}
 use Rattle.std.proofs.lemmas.List.{with_items_is}
 use Rattle.tabled_table.specs.Builder.{row_texts}
 use Rattle.tabled_table.proofs.Columns.{even-without}
-use Rattle.tabled_table.proofs.RowTexts.{All-lens}
+use Rattle.tabled_table.proofs.RowTexts.{All-lens, texts_removed}
 use Rattle.tabled_table.proofs.builder.table_builder.Builder.remove_column.Goals as goal
 
 pub remove_each-requires : goal.remove_each-requires
@@ -11,5 +11,5 @@ remove_each-requires c = rw c.deref_mut.ensures.value (All-lens (λ n. c.args.j 
 
 pub invariant_of-self : goal.invariant_of-self
 invariant_of-self c =
-    let texts = ap row_texts (with_items_is c.self.inside.rows c.remove_each.new.rows (c.remove_each.auto.rows ∙ c.deref_mut.ensures.len)) ∙ c.remove_each.ensures ∙ ap (λ rows. map (λ row. remove row c.args.j) (row_texts rows)) c.deref_mut.ensures.value in
+    let texts = ap row_texts (with_items_is c.self.inside.rows c.remove_each.new.rows (c.remove_each.auto.rows ∙ c.deref_mut.ensures.len)) ∙ texts_removed _ _ c.args.j c.remove_each.ensures ∙ ap (λ rows. map (λ row. remove row c.args.j) (row_texts rows)) c.deref_mut.ensures.value in
     rw texts (even-without c.self.inside.count_columns c.args.j (row_texts c.self.inside.rows.items) (rw (← c.self.view_is) at c.requires) c.self.invariant)
