@@ -4,6 +4,7 @@ use Rattle.std.specs.List.{filter, list_all, list_any}
 use Rattle.tabled_grid.specs.declared.config.position.Position.{Position}
 use Rattle.tabled_grid.specs.Rectangles.{in_rect, same_place}
 
+-- a place, and the height and the width of the rectangle that is anchored there
 abbrev pub Anchor : Type 0
 Anchor = Position × (ℕ × ℕ)
 

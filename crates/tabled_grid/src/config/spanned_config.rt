@@ -40,11 +40,14 @@ impl Model for SpannedConfig {
 impl SpannedConfig {
     /// No merged cells.
     pub fn new(alloc: Global) -> Self
-        ensures { result ≡ map.empty }
+        ensures empty { result ≡ map.empty }
+        ensures sizes { AreSpanSizes result }
     {
-        SpannedConfig {
+        let config = SpannedConfig {
             anchors: Vec::new(alloc),
-        }
+        };
+        config.keeps_sizes();
+        config
     }
 
     /// The width of the rectangle that is anchored at a place, if that is above 1.
@@ -123,8 +126,10 @@ impl SpannedConfig {
     ///
     /// Ported from `tabled::grid::config::SpannedConfig::get_column_spans`.
     pub fn get_column_spans(&self, alloc: Global) -> Result<Vec<(Position, usize)>, AllocError>
-        ensures { IfOk result (λ spans. spans.items ≡ column_spans self.now) }
+        ensures spans { IfOk result (λ spans. spans.items ≡ column_spans self.now) }
+        ensures sizes { AreSpanSizes self.now }
     {
+        self.keeps_sizes();
         anchors::widths(alloc, &self.anchors)
     }
 
@@ -132,8 +137,10 @@ impl SpannedConfig {
     ///
     /// Ported from `tabled::grid::config::SpannedConfig::get_row_spans`.
     pub fn get_row_spans(&self, alloc: Global) -> Result<Vec<(Position, usize)>, AllocError>
-        ensures { IfOk result (λ spans. spans.items ≡ row_spans self.now) }
+        ensures spans { IfOk result (λ spans. spans.items ≡ row_spans self.now) }
+        ensures sizes { AreSpanSizes self.now }
     {
+        self.keeps_sizes();
         anchors::heights(alloc, &self.anchors)
     }
 
@@ -152,8 +159,10 @@ impl SpannedConfig {
     ///
     /// Ported from `tabled::grid::config::SpannedConfig::is_cell_covered_by_column_span`.
     pub fn is_cell_covered_by_column_span(&self, pos: Position) -> bool
-        ensures { result ≡ is_covered_across self.now pos }
+        ensures covered { result ≡ is_covered_across self.now pos }
+        ensures sizes { AreSpanSizes self.now }
     {
+        self.keeps_sizes();
         anchors::is_covered_across(&self.anchors, pos)
     }
 
@@ -161,16 +170,20 @@ impl SpannedConfig {
     ///
     /// Ported from `tabled::grid::config::SpannedConfig::is_cell_covered_by_row_span`.
     pub fn is_cell_covered_by_row_span(&self, pos: Position) -> bool
-        ensures { result ≡ is_covered_down self.now pos }
+        ensures covered { result ≡ is_covered_down self.now pos }
+        ensures sizes { AreSpanSizes self.now }
     {
+        self.keeps_sizes();
         anchors::is_covered_down(&self.anchors, pos)
     }
 
     /// Removes, at once, all anchors that another anchor's rectangle holds. It takes no memory.
     pub fn drop_hidden(&mut self)
-        ensures { self.new ≡ drop_hidden self.old }
+        ensures dropped { self.new ≡ drop_hidden self.old }
+        ensures sizes { AreSpanSizes self.new }
     {
         anchors::drop_hidden(&mut self.anchors);
+        self.keeps_sizes();
     }
 
     /// Says whether all rectangles lie inside a table (`rows x columns`) and no two share a cell.
@@ -184,8 +197,10 @@ impl SpannedConfig {
 
     /// A copy.
     pub fn copy(&self, _alloc: Global) -> Result<SpannedConfig, AllocError>
-        ensures { IfOk result (λ copy. copy ≡ self.now) }
+        ensures copy { IfOk result (λ copy. copy ≡ self.now) }
+        ensures sizes { AreSpanSizes self.now }
     {
+        self.keeps_sizes();
         Ok(SpannedConfig {
             anchors: self.anchors.clone()?,
         })

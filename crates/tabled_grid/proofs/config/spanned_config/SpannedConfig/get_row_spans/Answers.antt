@@ -2,5 +2,5 @@ use Rattle.std.specs.FinMap.{entries-from_sorted}
 use Rattle.tabled_grid.specs.Spans.{position_cmp}
 use Rattle.tabled_grid.proofs.config.spanned_config.SpannedConfig.get_row_spans.Goals as goal
 
-pub returns : goal.returns
-returns c = rw (← c.self.view_is, entries-from_sorted position_cmp c.self.inside.anchors.items c.self.invariant.sorted) (rw c.deref.ensures.value at c.heights.ensures)
+pub returns-clause-spans : goal.returns-clause-spans
+returns-clause-spans c = rw (← c.self.view_is, entries-from_sorted position_cmp c.self.inside.anchors.items c.self.invariant.sorted) (rw c.deref.ensures.value at c.heights.ensures)

@@ -6,7 +6,7 @@ use Rattle.tabled_grid.specs.Rectangles.{reaches_down}
 use Rattle.tabled_grid.specs.Spans.{position_cmp}
 use Rattle.tabled_grid.proofs.config.spanned_config.SpannedConfig.is_cell_covered_by_row_span.Goals as goal
 
-pub returns : goal.returns
-returns c =
+pub returns-clause-covered : goal.returns-clause-covered
+returns-clause-covered c =
     rw (← c.self.view_is, c.is_covered_down.ensures, c.deref.ensures.value)
     (ap (list_any (λ (e : Anchor). reaches_down e c.args.pos)) (sym (entries-from_sorted position_cmp c.self.inside.anchors.items c.self.invariant.sorted)))

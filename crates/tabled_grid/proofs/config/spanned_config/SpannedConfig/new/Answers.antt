@@ -3,5 +3,5 @@ use Rattle.std.specs.FinMap.{empty_of_len, entries-from_sorted, len-entries}
 use Rattle.tabled_grid.specs.Spans.{position_cmp}
 use Rattle.tabled_grid.proofs.config.spanned_config.SpannedConfig.new.Goals as goal
 
-pub returns : goal.returns
-returns c = rw c.new.ensures.items (empty_of_len _ (len-entries _ ∙ ap length (entries-from_sorted position_cmp [] tt)))
+pub returns-clause-empty : goal.returns-clause-empty
+returns-clause-empty c = rw c.new.ensures.items (empty_of_len _ (len-entries _ ∙ ap length (entries-from_sorted position_cmp [] tt)))
