@@ -7,7 +7,6 @@ use crate::object::Object;
 use std::alloc::{AllocError, Global};
 use std::marker::{Model, PhantomData};
 use std::mem;
-use tabled_grid::config::Entity;
 use tabled_grid::records::GridStore;
 
 /// An object without its first entities. A contract sees it as the object and their number.
@@ -80,8 +79,11 @@ impl<I> Model for SkipObjectIter<I> {
     ghost inverse = { λ v. record { entities = v.0; ahead = v.1 } };
 }
 
-impl<I: Iterator<Item = Entity>> Iterator for SkipObjectIter<I> {
-    type Item = Entity;
+impl<I: Iterator> Iterator for SkipObjectIter<I>
+where
+    I::Item: Drop,
+{
+    type Item = I::Item;
 
     ghost use Rattle.std.specs.Prelude.{◌-◌};
     ghost use Rattle.std.specs.Iterator.{count_map};
@@ -93,7 +95,7 @@ impl<I: Iterator<Item = Entity>> Iterator for SkipObjectIter<I> {
 
     ghost remaining = { λ s. count_map (λ n. n - s.1) (I.remaining s.0) };
 
-    fn next(&mut self) -> Option<Entity> {
+    fn next(&mut self) -> Option<I::Item> {
         let ahead = mem::replace(&mut self.ahead, 0);
         self.entities.nth(ahead)
     }

@@ -8,7 +8,6 @@ use crate::object::Object;
 use std::alloc::{AllocError, Global};
 use std::marker::{Model, PhantomData};
 use std::mem;
-use tabled_grid::config::Entity;
 use tabled_grid::records::GridStore;
 
 /// The entities 0, n, 2n and so on of an object, and none where n is 0. A contract sees it as the
@@ -91,8 +90,11 @@ impl<I> Model for StepByObjectIter<I> {
     ghost inverse = { λ s. record { entities = s.source; ahead = s.ahead; gap = s.gap } };
 }
 
-impl<I: Iterator<Item = Entity>> Iterator for StepByObjectIter<I> {
-    type Item = Entity;
+impl<I: Iterator> Iterator for StepByObjectIter<I>
+where
+    I::Item: Drop,
+{
+    type Item = I::Item;
 
     ghost use Rattle.std.specs.Prelude.{IfSome};
     ghost use Rattle.tabled_select.specs.Walks.{HopsIfAny, hops_left};
@@ -103,7 +105,7 @@ impl<I: Iterator<Item = Entity>> Iterator for StepByObjectIter<I> {
 
     ghost remaining = { λ s. hops_left I.remaining s.source s.ahead s.gap };
 
-    fn next(&mut self) -> Option<Entity> {
+    fn next(&mut self) -> Option<I::Item> {
         match &mut self.entities {
             Some(entities) => {
                 let ahead = mem::replace(&mut self.ahead, self.gap);
