@@ -47,7 +47,7 @@ pub trait ObjectIterator<R: GridStore>: Object<R> {
     final fn filter<F>(self, predicate: F) -> FilterObject<Self, F, R>
     where
         Self: Sized,
-        F: Fn(&Entity) -> bool,
+        F: Fn(Entity) -> bool,
         ensures { result ≡ (self, predicate) }
     {
         FilterObject::new(self, predicate)

@@ -67,7 +67,7 @@ fn filters(rt: HostRuntime) -> Result<(), Fail> {
     assert_named(
         &rt,
         alloc,
-        rows.clone()?.filter(|entity| *entity == Row(3)),
+        rows.clone()?.filter(|entity| entity == Row(3)),
         &table,
         "r3",
     )?;
@@ -87,7 +87,7 @@ fn takes_entities_as_they_are(rt: HostRuntime) -> Result<(), Fail> {
     assert_named(
         &rt,
         alloc,
-        repeats.filter(|entity| *entity != Cell(5, 5)),
+        repeats.filter(|entity| entity != Cell(5, 5)),
         &table,
         "r0 r0 all",
     )?;
