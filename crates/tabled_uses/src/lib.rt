@@ -1,0 +1,4 @@
+//! An outsider's code: it calls the public functions, as the documents show them.
+#![tactic(auto)]
+
+mod select;
