@@ -18,6 +18,8 @@ mod intersection;
 mod inversion;
 mod iterator;
 mod listed;
+mod listed_marks;
+mod marked;
 mod place_set;
 mod places;
 mod rows;
