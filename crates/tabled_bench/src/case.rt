@@ -19,6 +19,7 @@ pub(crate) enum Case {
     Frame,
     NotFrame,
     And,
+    Pairs,
 }
 
 impl Case {
@@ -36,6 +37,7 @@ impl Case {
             "frame" => Some(Case::Frame),
             "not_frame" => Some(Case::NotFrame),
             "and" => Some(Case::And),
+            "pairs" => Some(Case::Pairs),
             _ => None,
         }
     }
@@ -55,6 +57,7 @@ impl Case {
             Case::Frame => selectors::frame(alloc, size),
             Case::NotFrame => selectors::not_frame(alloc, size),
             Case::And => selectors::and(alloc, size),
+            Case::Pairs => selectors::pairs(alloc, size),
         }
     }
 }

@@ -2,3 +2,5 @@
 #![tactic(auto)]
 
 mod select;
+#[cfg(test)]
+mod select_tests;

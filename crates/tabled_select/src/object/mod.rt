@@ -25,8 +25,6 @@ mod places;
 mod rows;
 mod segment;
 mod sieve;
-#[cfg(test)]
-mod tests;
 mod union;
 
 pub use cell::{Cell, EntityOnce};

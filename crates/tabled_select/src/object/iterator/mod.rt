@@ -5,8 +5,6 @@ ghost use Rattle.std.specs.Prelude.{◌≡◌};
 mod filter;
 mod skip;
 mod step_by;
-#[cfg(test)]
-mod tests;
 
 use crate::object::Object;
 pub use filter::{FilterObject, FilterObjectIter};
