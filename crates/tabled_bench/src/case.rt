@@ -20,6 +20,7 @@ pub(crate) enum Case {
     Frame,
     NotFrame,
     And,
+    Pairs,
     Flat(Change),
     Nested(Change),
 }
@@ -39,6 +40,7 @@ impl Case {
             "frame" => Some(Case::Frame),
             "not_frame" => Some(Case::NotFrame),
             "and" => Some(Case::And),
+            "pairs" => Some(Case::Pairs),
             _ => Case::of_store(name),
         }
     }
@@ -75,6 +77,7 @@ impl Case {
             Case::Frame => selectors::frame(alloc, size),
             Case::NotFrame => selectors::not_frame(alloc, size),
             Case::And => selectors::and(alloc, size),
+            Case::Pairs => selectors::pairs(alloc, size),
             Case::Flat(change) => stores::flat(alloc, size, change),
             Case::Nested(change) => stores::nested(alloc, size, change),
         }

@@ -2,10 +2,13 @@
 
 use std::alloc::{AllocError, Global};
 use tabled_grid::records::{Resizable, VecRecords};
-use tabled_select::object::{Frame, Object, Rows, Segment};
+use tabled_select::object::{Cell, Frame, Object, Rows, Segment};
 
 /// A frame is listed so often, as it has few cells.
 const FRAMES: usize = 1_000;
+
+/// So many combinations of two cells are listed.
+const PAIRS: usize = 100_000;
 
 /// A store of `size x size` blanks.
 pub(crate) fn store(alloc: Global, size: usize) -> Result<VecRecords<usize>, AllocError> {
@@ -57,4 +60,21 @@ pub(crate) fn and(alloc: Global, size: usize) -> Result<usize, AllocError> {
     let upper = Rows::new(0..size - third);
     let lower = Rows::new(third..size);
     count(alloc, &upper.and(lower), &store)
+}
+
+/// Counts what combinations of two cells name, of which the table has at least the first.
+pub(crate) fn pairs(alloc: Global, size: usize) -> Result<usize, AllocError> {
+    let store = store(alloc, size)?;
+    let mut total: usize = 0;
+    for i in 0..PAIRS {
+        let first = Cell::new(0, i % 100);
+        let second = Cell::new(i % 1_000, 0);
+        let listed = match i % 3 {
+            0 => count(alloc, &first.and(second), &store)?,
+            1 => count(alloc, &first.not(second), &store)?,
+            _ => count(alloc, &first.intersect(second), &store)?,
+        };
+        total = total.wrapping_add(listed);
+    }
+    Ok(total)
 }

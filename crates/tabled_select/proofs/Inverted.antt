@@ -9,7 +9,7 @@ use Rattle.tabled_grid.specs.declared.config.entity.Entity.{Entity}
 use Rattle.tabled_grid.specs.declared.config.entity.Entity.TheVariants.{Cell, Global}
 use Rattle.tabled_grid.proofs.Places.{inside-Cell, inside-Global, inside-within}
 use Rattle.tabled_select.specs.Algebra.{cells_of, difference_of, flat, intersection_of, inversion_of, is_among, same_place}
-use Rattle.tabled_select.proofs.MarkedPlaces.{same_place-turned}
+use Rattle.tabled_select.proofs.MarkedPlaces.{is-same, same_place-turned}
 use Rattle.tabled_select.proofs.NamedPlaces.{IsWithin, flat-within}
 use Rattle.tabled_select.proofs.Sifted.{all-filter, filter-agree_within, list_any-filter}
 
@@ -35,11 +35,6 @@ is_among-all p rows columns w =
     any-agree : (qs : List Position) → is_among qs p ≡ list_any (names (Cell p.row p.col)) qs
     any-agree [] = refl
     any-agree (q ∷ qs) = ap₂ (λ b c. b || c) (same_place-turned p q) (any-agree qs)
-
-is-same : (p q : Position) → same_place p q ≡ true → p ≡ q
-is-same p q e =
-    let parts = and_parts (p.row == q.row) (p.col == q.col) e in
-    ap₂ place (eqb-true p.row q.row parts.0) (eqb-true p.col q.col parts.1)
 
 and_false : (b : Bool) → (b && false) ≡ false
 and_false true = refl

@@ -1,23 +1,18 @@
 -- What one more mark changes.
-use Rattle.std.proofs.Common.{◌≡◌, ℕ, ◌+◌, ◌*◌, Bool, true, false, List, [], ◌∷◌, refl, sym, ap, ap₂, ◌∙◌, inl, inr, length, mul_comm, arith}
-use Rattle.std.specs.Prelude.{◌==◌, ◌&&◌, ◌||◌, not}
+use Rattle.std.proofs.Common.{rules, ◌≡◌, ℕ, ◌+◌, ◌*◌, ◌<◌, Bool, true, false, List, [], ◌∷◌, refl, sym, ap, ap₂, ◌∙◌, inl, inr, length, mul_comm, get_or, set, arith}
+use Rattle.std.specs.Prelude.{◌==◌, ◌&&◌, ◌||◌, if◌then◌else◌, ltb, not, replicate, Option, Some, None}
 use Rattle.std.specs.List.{AllByRecursion, filter}
-use Rattle.std.proofs.lemmas.Bool.{lt-ltb, le-ltb, eq-eqb, ne_eqb, cases_eq, cases_lt}
-use Rattle.std.proofs.lemmas.List.{get_or-set_same, get_or-set_other, length-set}
+use Rattle.std.specs.Option.{IsSome, unwrap_or}
+use Rattle.std.proofs.lemmas.Bool.{and_parts, eqb-true, lt-ltb, le-ltb, eq-eqb, ne_eqb, cases_eq, cases_lt}
+use Rattle.std.proofs.lemmas.List.{get_or-replicate, get_or-set_same, get_or-set_other, length-replicate, length-set}
 use Rattle.std.proofs.lemmas.List.Elements.{filter_agree}
 use Rattle.std.proofs.lemmas.Nat.{mul-add-lt, same_from_place}
+use Rattle.tabled_grid.specs.Entity.{place}
 use Rattle.tabled_grid.specs.declared.config.position.Position.{Position}
 use Rattle.tabled_grid.specs.declared.config.entity.Entity.{Entity}
-use Rattle.tabled_select.specs.Algebra.{flat, same_place, is_among, difference_of, intersection_of}
-use Rattle.tabled_select.specs.Marks.{Marks, IsPlaceOf, MarksJust, has, mark_index, passes, with_mark}
+use Rattle.tabled_select.specs.Algebra.{difference_of, flat, intersection_of, is_among, same_place, sifted}
+use Rattle.tabled_select.specs.Marks.{HasRoom, Marks, MarksAll, SetsMark, has, mark_at, mark_index, passes}
 use Rattle.tabled_select.proofs.NamedPlaces.{IsWithin, flat-within}
-
--- a place of a table has its mark
-pub IsPlaceOf-within : (s : Marks) (rows columns : ℕ) (p : Position) → s.columns ≡ columns → length s.marks ≡ rows * columns → IsWithin rows columns p → IsPlaceOf s p
-IsPlaceOf-within s rows columns p e l w = record {
-  col = rw e w.1;
-  index = rw (e, l) (rw (mul_comm columns rows) at (mul-add-lt p.row columns p.col rows w.0 w.1));
-}
 
 same-false : (p q : Position) → ((p.row ≡ q.row) × (p.col ≡ q.col) → ⊥) → same_place p q ≡ false
 same-false p q h = elim (cases_eq p.row q.row) [
@@ -37,18 +32,9 @@ eqb-turned m n = elim (cases_eq m n) [
 pub same_place-turned : (p q : Position) → same_place p q ≡ same_place q p
 same_place-turned p q = ap₂ (λ b c. b && c) (eqb-turned p.row q.row) (eqb-turned p.col q.col)
 
--- a place is marked if it was, or if it is the one that is marked now
-pub has-with_mark : (s : Marks) (q p : Position) → IsPlaceOf s q → has (with_mark s q) p ≡ same_place p q || has s p
-has-with_mark s q p at = elim (cases_lt p.col s.columns) [
-  | inl h ↦ elim (cases_eq (mark_index s p) (mark_index s q)) [
-    | inl e ↦
-        let same = same_from_place p.row p.col q.row q.col s.columns h at.col e in
-        rw (same-true p q same.0 same.1, lt-ltb p.col s.columns h, e, get_or-set_same s.marks (mark_index s q) true false at.index) refl
-    | inr d ↦
-        rw (same-false p q (λ same. d (ap₂ (λ i j. i * s.columns + j) same.0 same.1)), get_or-set_other s.marks (mark_index s q) (mark_index s p) true false d) refl
-  ]
-  | inr h ↦ rw (same-false p q (λ same. omega (arith, same.1, at.col)), le-ltb p.col s.columns h) refl
-]
+or_true : (b : Bool) → (b || true) ≡ true
+or_true true = refl
+or_true false = refl
 
 or_false : (b : Bool) → (b || false) ≡ b
 or_false true = refl
@@ -59,31 +45,176 @@ or_move true true c = refl
 or_move true false c = refl
 or_move false b c = refl
 
+and_true : (b : Bool) → (b && true) ≡ b
+and_true true = refl
+and_true false = refl
+
+and_false : (b : Bool) → (b && false) ≡ false
+and_false true = refl
+and_false false = refl
+
+-- what each place has that is among some, each of these has
+all-among : (P : Position → Type 0) (ps : List Position) → ((p : Position) → is_among ps p ≡ true → P p) → AllByRecursion P ps
+all-among P [] h = tt
+all-among P (q ∷ ps) h = (h q (rw (same-true q q refl refl) refl), all-among P ps (λ p e. h p (rw e (or_true (same_place p q)))))
+
+-- a place is marked if it was, or if it is the one that is marked now
+marked-now : (b : Bool) (mark : Option Bool) → unwrap_or (if b then Some true else mark) false ≡ b || unwrap_or mark false
+marked-now true mark = refl
+marked-now false mark = refl
+
+pub has-marked : (old new : Marks) (q p : Position) → SetsMark old new q true → has new p ≡ same_place p q || has old p
+has-marked old new q p sets = ap (λ m. unwrap_or m false) (sets p) ∙ marked-now (same_place q p) (old p) ∙ ap (λ b. b || has old p) (same_place-turned q p)
+
+room-now : (b mark : Bool) (m : Option Bool) → IsSome m → IsSome (if b then Some mark else m)
+room-now true mark m h = refl
+room-now false mark m h = h
+
+-- where there was room there is room
+pub room-kept : (old new : Marks) (q : Position) (mark : Bool) → SetsMark old new q mark → (ps : List Position) → AllByRecursion (HasRoom old) ps → AllByRecursion (HasRoom new) ps
+room-kept old new q mark sets [] a = tt
+room-kept old new q mark sets (p ∷ ps) a = (rw (sets p) (room-now (same_place q p) mark (old p) a.0), room-kept old new q mark sets ps a.1)
+
+-- none is marked where all have a no
+pub none-marked : (s : Marks) (room : List Position) → MarksAll s room false → (p : Position) → has s p ≡ false
+none-marked s room none p = none.just p ∙ and_false (is_among room p)
+
+pub is-same : (p q : Position) → same_place p q ≡ true → p ≡ q
+is-same p q e =
+    let parts = and_parts (p.row == q.row) (p.col == q.col) e in
+    ap₂ place (eqb-true p.row q.row parts.0) (eqb-true p.col q.col parts.1)
+
+marked-so : (m : Option Bool) → unwrap_or m false ≡ true → m ≡ Some true
+marked-so None e = absurd (search rules)
+marked-so (Some b) e = ap Some e
+
+-- a mark that is there is set by doing nothing
+pub marked-already : (s : Marks) (p : Position) → has s p ≡ true → SetsMark s s p true
+marked-already s p e q = go (same_place p q) refl
+  where
+    go : (b : Bool) → same_place p q ≡ b → s q ≡ (if b then Some true else s q)
+    go true same = ap s (sym (is-same p q same)) ∙ marked-so (s p) e
+    go false same = refl
+
+-- ---- marks of all places of a table
+
+-- the mark of a place of the table
+mark-inside : (columns : ℕ) (marks : List Bool) (p : Position) → p.col < columns → mark_index columns p < length marks → mark_at columns marks p ≡ Some (get_or marks (mark_index columns p) false)
+mark-inside columns marks p h k = rw (lt-ltb p.col columns h, lt-ltb (mark_index columns p) (length marks) k) refl
+
+mark-outside : (columns : ℕ) (marks : List Bool) (p : Position) → ((p.col < columns) × (mark_index columns p < length marks) → ⊥) → mark_at columns marks p ≡ None
+mark-outside columns marks p h = elim (cases_lt p.col columns) [
+  | inl k ↦ elim (cases_lt (mark_index columns p) (length marks)) [
+    | inl l ↦ absurd (h (k, l))
+    | inr l ↦ rw (lt-ltb p.col columns k, le-ltb (mark_index columns p) (length marks) l) refl
+  ]
+  | inr k ↦ rw (le-ltb p.col columns k) refl
+]
+
+-- one more mark
+pub sets-mark : (columns : ℕ) (marks : List Bool) (p : Position) (i : ℕ) → (p.col < columns) × (mark_index columns p < length marks) → i ≡ mark_index columns p → SetsMark (mark_at columns marks) (mark_at columns (set marks i true)) p true
+sets-mark columns marks p i at e = rw e (λ q. elim (cases_lt q.col columns) [
+  | inl h ↦ elim (cases_lt (mark_index columns q) (length marks)) [
+    | inl k ↦ elim (cases_eq (mark_index columns q) (mark_index columns p)) [
+      | inl f ↦
+          let same = same_from_place q.row q.col p.row p.col columns h at.0 f in
+          rw (same-true p q (sym same.0) (sym same.1), mark-inside columns (set marks (mark_index columns p) true) q h (rw length-set k), f, get_or-set_same marks (mark_index columns p) true false at.1) refl
+      | inr d ↦
+          rw (same-false p q (λ same. d (sym (ap₂ (λ i j. i * columns + j) same.0 same.1))), mark-inside columns (set marks (mark_index columns p) true) q h (rw length-set k), mark-inside columns marks q h k, get_or-set_other marks (mark_index columns p) (mark_index columns q) true false d) refl
+    ]
+    | inr k ↦
+        rw (same-false p q (λ same. let far = ap₂ (λ i j. i * columns + j) same.0 same.1 in omega (arith, at.1)), mark-outside columns (set marks (mark_index columns p) true) q (λ j. let l = rw length-set at j.1 in omega arith), mark-outside columns marks q (λ j. let l = j.1 in omega arith)) refl
+  ]
+  | inr h ↦
+      rw (same-false p q (λ same. omega (arith, same.1, at.0)), mark-outside columns (set marks (mark_index columns p) true) q (λ j. let l = j.0 in omega arith), mark-outside columns marks q (λ j. let l = j.0 in omega arith)) refl
+])
+
+-- no room without a place
+pub no-room : (columns : ℕ) (marks : List Bool) (p : Position) → HasRoom (mark_at columns marks) p → ((p.col < columns) × (mark_index columns p < length marks) → ⊥) → ⊥
+no-room columns marks p room h = no_mark (rw (mark-outside columns marks p h) at room)
+  where
+    no_mark : IsSome {T = Bool} None → ⊥
+    no_mark e = search rules
+
+unmarked : (columns n : ℕ) (p : Position) → has (mark_at columns (replicate n false)) p ≡ false
+unmarked columns n p = elim (cases_lt p.col columns) [
+  | inl h ↦ elim (cases_lt (mark_index columns p) n) [
+    | inl k ↦ rw (mark-inside columns (replicate n false) p h (rw length-replicate k)) (get_or-replicate n (mark_index columns p) false false k)
+    | inr k ↦ rw (mark-outside columns (replicate n false) p (λ j. let l = rw length-replicate at j.1 in omega arith)) refl
+  ]
+  | inr h ↦ rw (mark-outside columns (replicate n false) p (λ j. let l = j.0 in omega arith)) refl
+]
+
+room-inside : (columns n : ℕ) (p : Position) → p.col < columns → mark_index columns p < n → HasRoom (mark_at columns (replicate n false)) p
+room-inside columns n p h k = rw (mark-inside columns (replicate n false) p h (rw length-replicate k)) refl
+
+-- all marks are no at first
+pub marks-none : (rows columns n : ℕ) → n ≡ rows * columns → (entities : List Entity) → MarksAll (mark_at columns (replicate n false)) (flat entities rows columns) false
+marks-none rows columns n e entities = record {
+  room = all-room (flat entities rows columns) (flat-within entities rows columns);
+  just = λ p. unmarked columns n p ∙ sym (and_false (is_among (flat entities rows columns) p));
+}
+  where
+    all-room : (ps : List Position) → AllByRecursion (IsWithin rows columns) ps → AllByRecursion (HasRoom (mark_at columns (replicate n false))) ps
+    all-room [] a = tt
+    all-room (p ∷ ps) a = (room-inside columns n p a.0.1 (rw (e, mul_comm rows columns) (mul-add-lt p.row columns p.col rows a.0.0 a.0.1)), all-room ps a.1)
+
+-- ---- marks set one after another
+
 -- all places are still to be marked
-pub marked-first : (s : Marks) (left all : List Position) (p : Position) → left ≡ all → has s p ≡ false → (is_among left p || has s p) ≡ is_among all p
-marked-first s left all p e f = rw (e, f) (or_false (is_among all p))
+pub marked-first : (s : Marks) (left all : List Position) → left ≡ all → ((p : Position) → has s p ≡ (is_among all p && false)) → (p : Position) → (is_among left p || has s p) ≡ is_among all p
+marked-first s left all e h p = rw (e, h p, and_false (is_among all p)) (or_false (is_among all p))
 
 -- one more of them is marked
-pub marked-next : (s : Marks) (q : Position) (left rest all : List Position) (p : Position) → left ≡ q ∷ rest → IsPlaceOf s q → (is_among left p || has s p) ≡ is_among all p → (is_among rest p || has (with_mark s q) p) ≡ is_among all p
-marked-next s q left rest all p e at h = ap (λ b. is_among rest p || b) (has-with_mark s q p at) ∙ or_move (same_place p q) (is_among rest p) (has s p) ∙ (rw e at h)
+pub marked-next : (old new : Marks) (q : Position) (left rest all : List Position) → left ≡ q ∷ rest → SetsMark old new q true → ((p : Position) → (is_among left p || has old p) ≡ is_among all p) → (p : Position) → (is_among rest p || has new p) ≡ is_among all p
+marked-next old new q left rest all e sets h p = ap (λ b. is_among rest p || b) (has-marked old new q p sets) ∙ or_move (same_place p q) (is_among rest p) (has old p) ∙ (rw e at (h p))
 
-all-places : (s : Marks) (rows columns : ℕ) → s.columns ≡ columns → length s.marks ≡ rows * columns → (ps : List Position) → AllByRecursion (IsWithin rows columns) ps → AllByRecursion (IsPlaceOf s) ps
-all-places s rows columns e l [] a = tt
-all-places s rows columns e l (p ∷ ps) a = (IsPlaceOf-within s rows columns p e l a.0, all-places s rows columns e l ps a.1)
+-- all of them are
+pub marked-last : (s : Marks) (left all : List Position) → left ≡ [] → AllByRecursion (HasRoom s) all → ((p : Position) → (is_among left p || has s p) ≡ is_among all p) → MarksAll s all true
+marked-last s left all e room h = record {
+  room = room;
+  just = λ p. (rw e at (h p)) ∙ sym (and_true (is_among all p));
+}
 
-module _ (s : Marks) (rows columns : ℕ) (marked : List Position) (just : MarksJust s rows columns marked) where
-  -- what entities name in the table has marks
-  pub flat-places : (entities : List Entity) → AllByRecursion (IsPlaceOf s) (flat entities rows columns)
-  flat-places entities = all-places s rows columns just.columns_are just.size (flat entities rows columns) (flat-within entities rows columns)
+-- ---- room made for one place after another
 
-  -- what passes
-  pub passes-difference : (ps : List Position) → filter (passes false s) ps ≡ difference_of ps marked
-  passes-difference ps = filter_agree (passes false s) (λ p. not (is_among marked p)) (λ p. ap not (just.marked p)) ps
+-- the mark of each place that is among some
+abbrev pub given : List Position → Bool → Marks
+given all mark p = if is_among all p then Some mark else None
 
-  pub passes-intersection : (ps : List Position) → filter (passes true s) ps ≡ intersection_of ps marked
-  passes-intersection ps = filter_agree (passes true s) (is_among marked) just.marked ps
+-- those that have none yet get theirs
+pub given-first : (s : Marks) (left all : List Position) (mark : Bool) → left ≡ all → ((p : Position) → s p ≡ None) → (p : Position) → (if is_among left p then Some mark else s p) ≡ given all mark p
+given-first s left all mark e h p = rw (e, h p) refl
 
--- one more mark leaves the places of the table
-pub places-with_mark : (s : Marks) (q : Position) (ps : List Position) → AllByRecursion (IsPlaceOf s) ps → AllByRecursion (IsPlaceOf (with_mark s q)) ps
-places-with_mark s q [] a = tt
-places-with_mark s q (p ∷ ps) a = (record { col = a.0.col; index = rw length-set a.0.index }, places-with_mark s q ps a.1)
+given-now : (b c mark : Bool) (m : Option Bool) → (if c then Some mark else (if b then Some mark else m)) ≡ (if (b || c) then Some mark else m)
+given-now true true mark m = refl
+given-now true false mark m = refl
+given-now false true mark m = refl
+given-now false false mark m = refl
+
+pub given-next : (old new : Marks) (q : Position) (left rest all : List Position) (mark : Bool) → left ≡ q ∷ rest → SetsMark old new q mark → ((p : Position) → (if is_among left p then Some mark else old p) ≡ given all mark p) → (p : Position) → (if is_among rest p then Some mark else new p) ≡ given all mark p
+given-next old new q left rest all mark e sets h p =
+    ap (λ m. if is_among rest p then Some mark else m) (sets p)
+    ∙ given-now (same_place q p) (is_among rest p) mark (old p)
+    ∙ ap (λ b. if (b || is_among rest p) then Some mark else old p) (same_place-turned q p)
+    ∙ (rw e at (h p))
+
+has-given : (b mark : Bool) → unwrap_or (if b then Some mark else None) false ≡ (b && mark)
+has-given true mark = refl
+has-given false mark = refl
+
+pub given-last : (s : Marks) (left all : List Position) (mark : Bool) → left ≡ [] → ((p : Position) → (if is_among left p then Some mark else s p) ≡ given all mark p) → MarksAll s all mark
+given-last s left all mark e h = record {
+  room = all-among (HasRoom s) all (λ p among. rw (h-at p, among) refl);
+  just = λ p. ap (λ m. unwrap_or m false) (h-at p) ∙ has-given (is_among all p) mark;
+}
+  where
+    h-at : (p : Position) → s p ≡ given all mark p
+    h-at p = rw e at (h p)
+
+-- ---- what passes
+
+-- the marked places pass, or the others
+pub passes-sifted : (s : Marks) (marked : List Position) (keeps : Bool) (ps : List Position) → MarksAll s marked true → filter (passes keeps s) ps ≡ sifted keeps ps marked
+passes-sifted s marked true ps all = filter_agree (passes true s) (is_among marked) (λ p. all.just p ∙ and_true (is_among marked p)) ps
+passes-sifted s marked false ps all = filter_agree (passes false s) (λ p. not (is_among marked p)) (λ p. ap not (all.just p ∙ and_true (is_among marked p))) ps

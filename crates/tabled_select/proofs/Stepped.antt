@@ -1,17 +1,15 @@
 -- What iterators made of iterators give.
-use Rattle.std.proofs.Common.{rules, ◌≡◌, ℕ, zero, suc, ◌+◌, ◌-◌, ◌*◌, ◌%◌, ◌≤◌, Bool, true, false, cond, IsTrue, List, [], ◌∷◌, ◌++◌, Option, None, Some, refl, sym, ap, ap₂, subst, ◌∙◌, map, length, arith}
+use Rattle.std.proofs.Common.{rules, ◌≡◌, ℕ, zero, suc, ◌+◌, ◌-◌, ◌*◌, ◌%◌, ◌/◌, ◌<◌, ◌≤◌, inl, inr, List, [], ◌∷◌, ◌++◌, Option, None, Some, refl, sym, ap, ap₂, subst, ◌∙◌, map, drop, length, arith}
 use Rattle.std.proofs.iter.Yields.{gives_left}
-use Rattle.std.proofs.Math.Nat.{mul-mod_left}
-use Rattle.std.proofs.lemmas.Bool.{ne_eqb}
+use Rattle.std.proofs.Math.Nat.{div-eq_of_lt, div-mul-le_self, mul-mod_left}
+use Rattle.std.proofs.lemmas.Bool.{cases_lt, ne_eqb}
 use Rattle.std.proofs.lemmas.List.{append-nil, length-map}
-use Rattle.std.proofs.lemmas.Nat.{mod-mul-add}
-use Rattle.std.specs.Iterator.{AlwaysYields}
-use Rattle.std.specs.Iterator.Adapters.{step_by_first_take, step_by_gap, step_by_source, step_by_steps}
+use Rattle.std.proofs.lemmas.Nat.{le-div, mod-mul-add}
+use Rattle.std.specs.Iterator.{AlwaysYields, Count, IsFinite, MakesProgress, size}
 use Rattle.std.specs.List.{enumerate_from, filter}
-use Rattle.std.specs.Prelude.{◌==◌}
-use Rattle.std.specs.declared.iter.StepBy.{StepBy}
+use Rattle.std.specs.Prelude.{◌==◌, IfNone, IfSome, OnSome}
 use Rattle.tabled_select.specs.Steps.{every}
-use Rattle.tabled_select.specs.Walks.{StepsIfAny}
+use Rattle.tabled_select.specs.Walks.{Hops, HopsIfAny, HopsOver, hops_left}
 
 abbrev head : {B : Type 0} → B → List B → B
 head d [] = d
@@ -23,26 +21,6 @@ tail (y ∷ ys) = ys
 
 some_item : {B : Type 0} (y : B) (ys : List B) → y ∷ ys ≡ [] → ⊥
 some_item y ys e = omega (arith, ap length e)
-
--- an iterator gives what the one inside it gives
-pub gives-inside : {S W A B : Type 0} (inside : W → S) (steps : S → Option A → S → Type 0) (v : A → B) (all : List B) (w : W) → AlwaysYields steps v (inside w) all → AlwaysYields (λ old item new. steps (inside old) item (inside new)) v w all
-gives-inside inside steps v [] w gives = λ x t p. gives x (inside t) p
-gives-inside inside steps v (y ∷ all) w gives = (
-  (λ t p. gives.0 (inside t) p),
-  λ x t p. let next = gives.1 x (inside t) p in (next.0, gives-inside inside steps v all t next.1),
-)
-
--- nothing comes where something came
-pub some_none : {A : Type 0} {x : A} → Some x ≡ None → ⊥
-some_none e = search rules
-
--- an iterator that may not be there gives what it gives
-pub gives-any : {S A B : Type 0} (steps : S → Option A → S → Type 0) (v : A → B) (all : List B) (s : S) → AlwaysYields steps v s all → AlwaysYields (StepsIfAny steps) v (Some s) all
-gives-any steps v [] s gives = λ x t p. gives x p.0 p.2
-gives-any {S} {A} steps v (y ∷ all) s gives = (
-  (λ t p. gives.0 p.0 p.2),
-  λ x t p. let next = gives.1 x p.0 p.2 in (next.0, subst (λ (u : Option S). AlwaysYields (StepsIfAny steps) v u all) (sym p.1) (gives-any steps v all p.0 next.1)),
-)
 
 -- the members at the places k, k + 1 + n, k + 2 (1 + n) and so on
 abbrev every_from : {A : Type 0} → ℕ → ℕ → List A → List A
@@ -75,11 +53,14 @@ module _ {B : Type 0} (gap : ℕ) where
   every_from-past (suc k) [] y ys h = absurd (omega arith)
   every_from-past (suc k) (x ∷ xs) y ys h = every_from-past k xs y ys (omega arith)
 
-module _ {S A B : Type 0} (steps : S → Option A → S → Type 0) (v : A → B) where
-  -- how many are passed over before the next
-  abbrev wait : StepBy S → ℕ
-  wait s = cond (step_by_first_take s) 0 (step_by_gap s)
+-- without a gap all past the first so many are left
+pub every_from-no_gap : {B : Type 0} (k : ℕ) (xs : List B) → every_from 0 k xs ≡ drop k xs
+every_from-no_gap zero [] = refl
+every_from-no_gap (suc k) [] = refl
+every_from-no_gap zero (x ∷ xs) = ap (λ ys. x ∷ ys) (every_from-no_gap zero xs)
+every_from-no_gap (suc k) (x ∷ xs) = every_from-no_gap k xs
 
+module _ {S A B : Type 0} (steps : S → Option A → S → Type 0) (v : A → B) where
   ended : (more : List B) (t u : S) → AlwaysYields steps v t more → steps t None u → more ≡ []
   ended [] t u gives p = refl
   ended (y ∷ ys) t u gives p = absurd (gives.0 u p)
@@ -88,38 +69,83 @@ module _ {S A B : Type 0} (steps : S → Option A → S → Type 0) (v : A → B
   went [] t u x gives p = absurd (gives x u p)
   went (y ∷ ys) t u x gives p = let next = gives.1 x u p in (ys, ap (λ z. z ∷ ys) (sym next.0), next.1)
 
-  -- what came when `step_by` gave no more
-  at-none : (all : List B) (s t : StepBy S) → AlwaysYields steps v (step_by_source s) all → step_by_steps steps s None t → every_from (step_by_gap s) (wait s) all ≡ []
-  at-none all s t gives p =
-      let left = gives_left steps v p.2.1 all _ _ gives p.2.3.1 in
-      let whole : all ≡ map v p.2.1 = left.1 ∙ ap (λ ys. map v p.2.1 ++ ys) (ended left.0 _ _ left.2 p.2.3.2) ∙ append-nil _ in
-      every_from-few (step_by_gap s) (wait s) all (omega (arith, ap length whole, length-map p.2.1 v, p.2.2, p.2.4))
+  module _ (gap : ℕ) where
+    -- what came where no more comes
+    at-none : (all : List B) (s t : S × ℕ) → AlwaysYields steps v s.0 all → HopsOver steps gap s None t → every_from gap s.1 all ≡ []
+    at-none all s t gives p =
+        let left = gives_left steps v p.0.0 all _ _ gives p.0.1.1 in
+        let whole : all ≡ map v p.0.0 = left.1 ∙ ap (λ ys. map v p.0.0 ++ ys) (ended left.0 _ _ left.2 p.0.1.2) ∙ append-nil _ in
+        every_from-few gap s.1 all (omega (arith, ap length whole, length-map p.0.0 v, p.0.2))
 
-  -- what is left when `step_by` gave one more
-  at-some : (all : List B) (s t : StepBy S) (x : A) → AlwaysYields steps v (step_by_source s) all → step_by_steps steps s (Some x) t → (rest : List B) × (every_from (step_by_gap s) (wait s) all ≡ v x ∷ every_from (step_by_gap t) (wait t) rest) × AlwaysYields steps v (step_by_source t) rest
-  at-some all s t x gives p =
-      let left = gives_left steps v p.2.1 all _ _ gives p.2.3.1 in
-      let next = went left.0 _ _ x left.2 p.2.3.2 in
-      let whole : all ≡ map v p.2.1 ++ v x ∷ next.0 = left.1 ∙ ap (λ ys. map v p.2.1 ++ ys) next.1 in
-      let long : length (map v p.2.1) ≡ wait s = omega (arith, length-map p.2.1 v, p.2.2, p.2.4) in
-      let waits : step_by_gap s ≡ wait t = rw p.1 (sym p.0) in
-      (next.0, ap (every_from (step_by_gap s) (wait s)) whole ∙ every_from-past (step_by_gap s) (wait s) (map v p.2.1) (v x) next.0 long ∙ ap₂ (λ g k. v x ∷ every_from g k next.0) (sym p.0) waits, next.2)
+    -- what is left where one more comes
+    at-some : (all : List B) (s t : S × ℕ) (x : A) → AlwaysYields steps v s.0 all → HopsOver steps gap s (Some x) t → (rest : List B) × (every_from gap s.1 all ≡ v x ∷ every_from gap t.1 rest) × AlwaysYields steps v t.0 rest
+    at-some all s t x gives p =
+        let left = gives_left steps v p.0.0 all _ _ gives p.0.1.1 in
+        let next = went left.0 _ _ x left.2 p.0.1.2 in
+        let whole : all ≡ map v p.0.0 ++ v x ∷ next.0 = left.1 ∙ ap (λ ys. map v p.0.0 ++ ys) next.1 in
+        let long : length (map v p.0.0) ≡ s.1 = omega (arith, length-map p.0.0 v, p.0.2) in
+        (next.0, ap (every_from gap s.1) whole ∙ every_from-past gap s.1 (map v p.0.0) (v x) next.0 long ∙ ap (λ k. v x ∷ every_from gap k next.0) (sym p.1), next.2)
 
-  -- `step_by` gives every so-manieth of what its source gives
-  pub gives-every : (ys all : List B) (s : StepBy S) → AlwaysYields steps v (step_by_source s) all → every_from (step_by_gap s) (wait s) all ≡ ys → AlwaysYields (step_by_steps steps) v s ys
-  gives-every [] all s gives e = λ x t p. some_item _ _ (sym (at-some all s t x gives p).1 ∙ e)
-  gives-every (y ∷ ys) all s gives e = (
-    (λ t p. some_item y ys (sym e ∙ at-none all s t gives p)),
+    -- an iterator that passes over gaps gives every so-manieth of what its source gives
+    pub gives-hops : (ys all : List B) (s : S × ℕ) → AlwaysYields steps v s.0 all → every_from gap s.1 all ≡ ys → AlwaysYields (HopsOver steps gap) v s ys
+    gives-hops [] all s gives e = λ x t p. some_item _ _ (sym (at-some all s t x gives p).1 ∙ e)
+    gives-hops (y ∷ ys) all s gives e = (
+      (λ t p. some_item y ys (sym e ∙ at-none all s t gives p)),
+      λ x t p.
+          let next = at-some all s t x gives p in
+          let same = sym next.1 ∙ e in
+          (ap (head y) same, gives-hops ys next.0 t next.2 (ap tail same)),
+    )
+
+  -- one that skips gives what its source gives past the first so many
+  pub gives-skipped : (all : List B) (s : S) (n : ℕ) → AlwaysYields steps v s all → AlwaysYields (HopsOver steps 0) v (s, n) (drop n all)
+  gives-skipped all s n gives = gives-hops 0 (drop n all) all (s, n) gives (every_from-no_gap n all)
+
+  -- one whose source is there
+  pub gives-if_any : (ys : List B) (h : Hops S) (s : S) → h.source ≡ Some s → AlwaysYields (HopsOver steps h.gap) v (s, h.ahead) ys → AlwaysYields (HopsIfAny steps) v h ys
+  gives-if_any [] h s e gives = λ x t p. let q = rw e at p.1 in gives x (q.0, t.ahead) q.2
+  gives-if_any (y ∷ ys) h s e gives = (
+    (λ t p. let q = rw e at p.1 in gives.0 (q.0, t.ahead) q.2),
     λ x t p.
-        let next = at-some all s t x gives p in
-        let same = sym next.1 ∙ e in
-        (ap (head y) same, gives-every ys next.0 t next.2 (ap tail same)),
+        let q = rw e at p.1 in
+        let next = gives.1 x (q.0, t.ahead) q.2 in
+        (next.0, gives-if_any ys t q.0 q.1 (rw p.0 next.1)),
   )
 
--- a fresh `step_by`
-pub every_from-fresh : {B : Type 0} (n gap : ℕ) (first : Bool) (all : List B) → gap + 1 ≡ n → IsTrue first → every_from gap (cond first 0 gap) all ≡ every n all
-every_from-fresh zero gap first all e t = absurd (omega arith)
-every_from-fresh (suc n) gap true all e t =
+-- nothing comes where there is no source
+pub some_none : {A : Type 0} {x : A} → Some x ≡ None → ⊥
+some_none e = search rules
+
+-- no member is every 0-th
+pub every-none : {B : Type 0} (n : ℕ) (all : List B) → (1 ≤ n → ⊥) → [] ≡ every n all
+every-none zero all h = refl
+every-none (suc n) all h = absurd (h (omega arith))
+
+-- every n-th, the first one included
+pub every_from-fresh : {B : Type 0} (n gap : ℕ) (all : List B) → gap + 1 ≡ n → every_from gap 0 all ≡ every n all
+every_from-fresh zero gap all e = absurd (omega arith)
+every_from-fresh (suc n) gap all e =
     let same : gap ≡ n = omega arith in
     ap (λ k. every_from k 0 all) same ∙ sym (every-from n 0 0 0 all (omega arith) (omega arith))
-every_from-fresh (suc n) gap false all e t = absurd (search rules)
+
+-- past a gap fewer are left
+pub hops-fewer : (gap ahead m n : ℕ) → m + ahead < n → (m - gap + gap) / (gap + 1) < (n - ahead + gap) / (gap + 1)
+hops-fewer gap ahead m n h = elim (cases_lt m gap) [
+  | inl few ↦
+      let none : (m - gap + gap) / (gap + 1) ≡ 0 = div-eq_of_lt (omega arith) in
+      let some : 1 ≤ (n - ahead + gap) / (gap + 1) = le-div 1 (n - ahead + gap) (gap + 1) (omega arith) (omega arith) in
+      omega arith
+  | inr many ↦
+      let below : (m - gap + gap) / (gap + 1) * (gap + 1) ≤ m - gap + gap = div-mul-le_self (m - gap + gap) (gap + 1) in
+      let more : (m - gap + gap) / (gap + 1) + 1 ≤ (n - ahead + gap) / (gap + 1) = le-div ((m - gap + gap) / (gap + 1) + 1) (n - ahead + gap) (gap + 1) (omega arith) (omega arith) in
+      omega arith
+]
+
+-- a call that passes over what is ahead makes progress
+pub hops-progress : {S A : Type 0} (can : S → Type 0) (left : S → Count) (old : Hops S) (s t : S) (r : Option A) → old.source ≡ Some s → (IsFinite (left s) → OnSome r (can t × IsFinite (left t) × (size (left t) + old.ahead < size (left s)))) → OnSome r (can t) → (IsFinite (left s) → IfNone r (IsFinite (left t))) → MakesProgress (λ h. IfSome h.source can) (λ h. hops_left left h.source h.ahead h.gap) old r (record { source = Some t; ahead = old.gap; gap = old.gap })
+hops-progress can left old s t None e p k f = rw e (record { on = λ _. tt; keeps = tt; rests = f })
+hops-progress can left old s t (Some x) e p k f = rw e (record {
+  on = λ finite. let more = p finite in (more.0, more.1, hops-fewer old.gap old.ahead (size (left t)) (size (left s)) more.2);
+  keeps = k;
+  rests = λ _. tt;
+})

@@ -1,5 +1,5 @@
 -- Selections as lists of places, and their combinations.
-use Rattle.std.specs.Prelude.{ℕ, Bool, ◌==◌, ◌&&◌, List, [], ◌∷◌, ◌++◌, map, not}
+use Rattle.std.specs.Prelude.{ℕ, Bool, false, true, ◌==◌, ◌&&◌, List, [], ◌∷◌, ◌++◌, map, not}
 use Rattle.std.specs.List.{filter, flat_map, list_any}
 use Rattle.tabled_grid.specs.Entity.{inside}
 use Rattle.tabled_grid.specs.declared.config.position.Position.{Position}
@@ -38,6 +38,11 @@ difference_of a b = filter (λ p. not (is_among b p)) a
 -- the places of the one that are in the other too
 abbrev pub intersection_of : List Position → List Position → List Position
 intersection_of a b = filter (is_among b) a
+
+-- the places of the one that are in the other too, or else the others
+abbrev pub sifted : Bool → List Position → List Position → List Position
+sifted true a b = intersection_of a b
+sifted false a b = difference_of a b
 
 -- the places of a table that aren't among these
 abbrev pub inversion_of : List Position → ℕ → ℕ → List Position

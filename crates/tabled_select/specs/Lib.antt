@@ -2,5 +2,6 @@ pub mod Algebra
 pub mod Listed
 pub mod Marks
 pub mod Selectors
+pub mod Sets
 pub mod Steps
 pub mod Walks

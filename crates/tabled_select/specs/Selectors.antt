@@ -1,5 +1,5 @@
 -- What selectors name.
-use Rattle.std.specs.Prelude.{ℕ, ◌+◌, ◌-◌, ◌^◌, Bool, ◌==◌, ◌||◌, if◌then◌else◌, List, [], ◌∷◌, map, nat_lt}
+use Rattle.std.specs.Prelude.{ℕ, ◌+◌, ◌-◌, ◌^◌, Bool, false, true, ◌==◌, ◌||◌, if◌then◌else◌, List, [], ◌∷◌, map, nat_lt}
 use Rattle.std.specs.List.{filter}
 use Rattle.std.specs.declared.ops.Bound.{Bound}
 use Rattle.tabled_grid.specs.Bounds.{end_index, first_index}
@@ -7,9 +7,6 @@ use Rattle.tabled_grid.specs.Entity.{block, inside}
 use Rattle.tabled_grid.specs.declared.config.position.Position.{Position}
 use Rattle.tabled_grid.specs.declared.config.entity.Entity.{Entity}
 use Rattle.tabled_grid.specs.declared.config.entity.Entity.TheVariants.{Column, Global, Row}
-use Rattle.tabled_select.specs.declared.object.from_last.FromLast.{FromLast}
-use Rattle.tabled_select.specs.declared.object.from_last.Side.{Side}
-use Rattle.tabled_select.specs.declared.object.from_last.Side.TheVariants.{Before, Past}
 
 -- the entities that name one row each
 abbrev pub rows_of : List ℕ → List Entity
@@ -23,13 +20,28 @@ columns_of = map Column
 abbrev pub if_cells : ℕ → ℕ → List Entity → List Entity
 if_cells rows columns entities = if (rows == 0) || (columns == 0) then [] else entities
 
+-- how far an index is from the last one, and whether it is past it
+pub record FromLast : Type 0 where
+  pub offset : ℕ
+  pub is_past : Bool
+
+-- so far before the last one
+abbrev pub before_last : ℕ → FromLast
+before_last n = record { offset = n; is_past = false }
+
+-- so far past the last one
+abbrev pub past_last : ℕ → FromLast
+past_last n = record { offset = n; is_past = true }
+
 -- the index so far before or past the last of so many, or none where there is no such index
 abbrev pub index_from_last : FromLast → ℕ → List ℕ
-index_from_last from_last count = if count == 0 then [] else beside from_last.side
+index_from_last from_last count = if count == 0 then [] else (if from_last.is_past then past (count - 1 + from_last.offset) else before (count - 1))
   where
-    beside : Side → List ℕ
-    beside Before = if nat_lt (count - 1) from_last.offset then [] else (count - 1 - from_last.offset) ∷ []
-    beside Past = if nat_lt (count - 1 + from_last.offset) (2 ^ 64) then (count - 1 + from_last.offset) ∷ [] else []
+    past : ℕ → List ℕ
+    past index = if nat_lt index (2 ^ 64) then index ∷ [] else []
+
+    before : ℕ → List ℕ
+    before last = if nat_lt last from_last.offset then [] else (last - from_last.offset) ∷ []
 
 -- the one entity that names all cells
 abbrev pub everything : List Entity

@@ -1,10 +1,15 @@
 //! Laws of what objects list. Each is the contract of a function that does nothing.
 
-ghost use Rattle.std.specs.Prelude.{◌≡◌, ◌↔◌, List};
+ghost use Rattle.std.specs.Prelude.{◌≡◌, ◌<◌, ◌↔◌, ℕ, List};
+ghost use Rattle.std.specs.declared.cmp.Ordering.TheVariants.{Less};
+ghost use Rattle.tabled_grid.specs.Spans.{position_cmp};
+ghost use Rattle.tabled_select.specs.Selectors.{before_last, past_last};
 ghost use Rattle.tabled_grid.specs.declared.config.entity.Entity.{Entity};
 ghost use Rattle.tabled_select.specs.Algebra.{cells_of, difference_of, flat, intersection_of, inversion_of};
 
-use crate::object::{DiffCombination, IntersectionCombination, InversionCombination, Object};
+use crate::object::{
+    Cell, DiffCombination, IntersectionCombination, InversionCombination, LastColumnOffset, Object,
+};
 use tabled_grid::config::Entity;
 use tabled_grid::records::{ExactRecords, Records};
 
@@ -26,4 +31,19 @@ where
     B: Object<R>,
     R: Records + ExactRecords,
     ensures { (entities : List Entity) → ⟦<DiffCombination<A, B, R> as Object<R>>⟧.lists (_a.now, _b.now) (R.grid _records.now) entities ↔ ⟦<IntersectionCombination<A, InversionCombination<B, R>, R> as Object<R>>⟧.lists (_a.now, _b.now) (R.grid _records.now) entities }
+{}
+
+/// Cells are ordered row by row.
+pub fn cells_are_ordered_row_by_row(_cell: Cell, _other: Cell)
+    ensures { ⟦<Cell as Ord>⟧.cmp _cell _other ≡ position_cmp _cell _other }
+{}
+
+/// Columns counted from the last are ordered by how far they are from it, and then those before it
+/// come first.
+pub fn columns_from_the_last_are_ordered_by_offset(
+    _column: LastColumnOffset,
+    _other: LastColumnOffset,
+)
+    ensures offset { _column.offset < _other.offset → ⟦<LastColumnOffset as Ord>⟧.cmp _column _other ≡ Less }
+    ensures side { (n : ℕ) → ⟦<LastColumnOffset as Ord>⟧.cmp (before_last n) (past_last n) ≡ Less }
 {}

@@ -5,4 +5,7 @@ pub mod builders;
 pub mod options;
 #[cfg(test)]
 mod places;
+mod select;
+#[cfg(test)]
+mod select_tests;
 pub mod stores;

@@ -14,7 +14,7 @@ use tabled_grid::records::{ExactRecords, Records};
 /// The cells of the first object that the second doesn't name, with the first's repeats. A
 /// contract sees it as the two objects.
 ///
-/// Listing is refused where memory runs out, and for a table of more than `usize::MAX` cells.
+/// Listing is refused where memory runs out.
 ///
 /// Ported from `tabled::settings::object::DiffCombination`.
 #[derive(Copy, Drop)]
@@ -77,7 +77,7 @@ where
         let columns = records.count_columns();
         let lhs = entities(alloc, &self.lhs, records)?;
         let rhs = entities(alloc, &self.rhs, records)?;
-        let places = Sieve::difference(alloc, lhs, rhs, rows, columns)?;
+        let places = Sieve::new(alloc, lhs, rhs, rows, columns, false)?;
         Ok(DiffIter::new(places))
     }
 }

@@ -14,7 +14,7 @@ use tabled_grid::records::{ExactRecords, Records};
 /// The cells of the table that an object doesn't name, row by row. A contract sees it as the
 /// object.
 ///
-/// Listing is refused where memory runs out, and for a table of more than `usize::MAX` cells.
+/// Listing is refused where memory runs out.
 ///
 /// Ported from `tabled::settings::object::InversionCombination`.
 #[derive(Copy, Drop)]
@@ -73,7 +73,7 @@ where
         let columns = records.count_columns();
         let named = entities(alloc, &self.object, records)?;
         let all = vec![in alloc; Entity::Global]?;
-        let places = Sieve::difference(alloc, all, named, rows, columns)?;
+        let places = Sieve::new(alloc, all, named, rows, columns, false)?;
         Ok(InversionIter { places })
     }
 }

@@ -18,13 +18,13 @@ mod intersection;
 mod inversion;
 mod iterator;
 mod listed;
+mod listed_marks;
+mod marked;
 mod place_set;
 mod places;
 mod rows;
 mod segment;
 mod sieve;
-#[cfg(test)]
-mod tests;
 mod union;
 
 pub use cell::{Cell, EntityOnce};

@@ -1,78 +1,99 @@
 //! Sets of places.
 
-ghost use Rattle.std.specs.Prelude.{◌≡◌, [], IfOk, not};
+ghost use Rattle.std.specs.Prelude.{◌≡◌, ◌*◌, IfOk, IfSome, false, not, true};
 ghost use Rattle.tabled_select.specs.Algebra.{flat};
-ghost use Rattle.tabled_select.specs.Marks.{IsPlaceOf, MarksJust, has, mark_index, with_mark};
+ghost use Rattle.tabled_select.specs.Sets.{marks_of};
+ghost use Rattle.tabled_select.specs.Marks.{HasRoom, MarksAll, SetsMark, has};
 
-use crate::object::places::Places;
+use crate::object::listed_marks::ListedMarks;
+use crate::object::marked::Marked;
 use std::alloc::{AllocError, Global};
-use std::marker::Model;
 use tabled_grid::config::{Entity, Position};
 
-/// Some of the places of a table. A contract sees a mark for each place of the table.
+/// All cells of a table are given a mark, where it has no more cells than this for each that is named.
+const CELLS_PER_NAMED: usize = 8;
+
+/// Some of the places of a table.
 #[derive(Drop)]
 pub(super) struct PlaceSet {
-    columns: usize,
-    marks: Vec<bool>,
+    form: Form,
 }
 
-impl Model for PlaceSet {
-    ghost use Rattle.tabled_select.specs.Marks.{Marks};
-
-    ghost Value = { Marks };
-
-    ghost view = { λ a. record { columns = a.columns; marks = a.marks.items } };
+/// Marks of all places of a table, or of a few.
+#[derive(Drop)]
+enum Form {
+    All(Marked),
+    Few(ListedMarks),
 }
 
 impl PlaceSet {
-    /// No place of a table of `rows x columns`.
-    pub(super) fn new(alloc: Global, rows: usize, columns: usize) -> Result<Self, AllocError>
-        ensures { IfOk result (λ set. MarksJust set rows columns []) }
-    {
-        let size = rows.checked_mul(columns).ok_or(AllocError)?;
-        let marks = vec![in alloc; false; size]?;
-        Ok(PlaceSet { columns, marks })
-    }
-
-    /// The places of a table of `rows x columns` that entities name.
-    pub(super) fn named(
+    /// The places of a table of `rows x columns` that entities name. `named` is how many cells are
+    /// gone through in all, or about so many.
+    ///
+    /// Refused where memory runs out.
+    pub(super) fn of(
         alloc: Global,
         entities: Vec<Entity>,
         rows: usize,
         columns: usize,
+        named: usize,
     ) -> Result<Self, AllocError>
-        ensures { IfOk result (λ set. MarksJust set rows columns (flat entities.items rows columns)) }
+        ensures { IfOk result (λ set. MarksAll (marks_of set) (flat entities.items rows columns) true) }
     {
-        let mut set = PlaceSet::new(alloc, rows, columns)?;
-        for pos in Places::new(entities, rows, columns) {
-            set.insert(pos);
-        }
-        Ok(set)
+        let form = match dense_size(rows, columns, named) {
+            Some(size) => Form::All(Marked::of(alloc, entities, rows, columns, size)?),
+            None => Form::Few(ListedMarks::of(alloc, entities, rows, columns, true)?),
+        };
+        Ok(PlaceSet { form })
+    }
+
+    /// No place, and room for those that entities name in a table of `rows x columns`.
+    ///
+    /// Refused where memory runs out.
+    pub(super) fn room_for(
+        alloc: Global,
+        entities: &[Entity],
+        rows: usize,
+        columns: usize,
+        named: usize,
+    ) -> Result<Self, AllocError>
+        ensures { IfOk result (λ set. MarksAll (marks_of set) (flat entities.now rows columns) false) }
+    {
+        let form = match dense_size(rows, columns, named) {
+            Some(size) => Form::All(Marked::new(alloc, rows, columns, size)?),
+            None => {
+                let entities = Vec::from_slice(alloc, entities)?;
+                Form::Few(ListedMarks::of(alloc, entities, rows, columns, false)?)
+            }
+        };
+        Ok(PlaceSet { form })
     }
 
     pub(super) fn contains(&self, pos: Position) -> bool
-        requires { IsPlaceOf self.now pos }
-        ensures { result ≡ has self.now pos }
+        ensures { result ≡ has (marks_of self.now) pos }
     {
-        self.marks[self.index_of(pos)]
+        match &self.form {
+            Form::All(marks) => marks.contains(pos),
+            Form::Few(marks) => marks.contains(pos),
+        }
     }
 
-    /// Puts a place in, and says whether it is new.
-    pub(super) fn insert(&mut self, pos: Position) -> bool
-        requires { IsPlaceOf self.old pos }
-        ensures is_new { result ≡ not (has self.old pos) }
-        ensures set { self.new ≡ with_mark self.old pos }
+    /// Marks a place.
+    pub(super) fn mark(&mut self, pos: Position)
+        requires { HasRoom (marks_of self.old) pos }
+        ensures { SetsMark (marks_of self.old) (marks_of self.new) pos true }
     {
-        let index = self.index_of(pos);
-        let is_new = !self.marks[index];
-        self.marks[index] = true;
-        is_new
+        match &mut self.form {
+            Form::All(marks) => marks.mark(pos),
+            Form::Few(marks) => marks.mark(pos),
+        }
     }
+}
 
-    fn index_of(&self, pos: Position) -> usize
-        requires { IsPlaceOf self.now pos }
-        ensures { result ≡ mark_index self.now pos }
-    {
-        pos.row * self.columns + pos.col
-    }
+/// The cells of a table, where they are worth a mark each.
+fn dense_size(rows: usize, columns: usize, named: usize) -> Option<usize>
+    ensures { IfSome result (λ size. size ≡ rows * columns) }
+{
+    let size = rows.checked_mul(columns)?;
+    (size / CELLS_PER_NAMED <= named).then_some(size)
 }

@@ -60,3 +60,17 @@ impl Iterator for Places {
         }
     }
 }
+
+/// How many cells of a table of `rows x columns` entities name, cut at `usize::MAX`.
+pub(super) fn count_named(entities: &[Entity], rows: usize, columns: usize) -> usize {
+    let mut count: usize = 0;
+    for entity in entities {
+        count = count.saturating_add(match entity {
+            Entity::Global => rows.saturating_mul(columns),
+            Entity::Column(_) => rows,
+            Entity::Row(_) => columns,
+            Entity::Cell(_, _) => 1,
+        });
+    }
+    count
+}

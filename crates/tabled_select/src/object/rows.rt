@@ -4,12 +4,11 @@ ghost use Rattle.std.specs.Prelude.{◌≡◌, ◌-◌, [], ◌∷◌};
 ghost use Rattle.std.specs.Iterator.{YieldsFirst, item_count};
 ghost use Rattle.std.specs.List.{range_with_len};
 ghost use Rattle.tabled_grid.specs.Bounds.{indexes};
-ghost use Rattle.tabled_select.specs.Selectors.{if_cells, index_from_last, rows_of};
-ghost use Rattle.tabled_select.specs.declared.object.from_last.Side.TheVariants.{Before, Past};
+ghost use Rattle.tabled_select.specs.Selectors.{before_last, if_cells, index_from_last, past_last, rows_of};
 
 use crate::object::Object;
 use crate::object::cell::EntityOnce;
-use crate::object::from_last::{FromLast, Side};
+use crate::object::from_last::FromLast;
 use std::alloc::{AllocError, Global};
 use std::marker::Model;
 use std::ops::{Add, Sub};
@@ -221,14 +220,11 @@ impl<I: Records + ExactRecords> Object<I> for LastRow {
 impl Sub<usize> for LastRow {
     type Output = LastRowOffset;
 
-    ghost sub_gives = { λ _ n row. row ≡ record { offset = n; side = Before } };
+    ghost sub_gives = { λ _ n row. row ≡ before_last n };
 
     fn sub(self, n: usize) -> LastRowOffset {
         LastRowOffset {
-            from_last: FromLast {
-                offset: n,
-                side: Side::Before,
-            },
+            from_last: FromLast::before(n),
         }
     }
 }
@@ -238,14 +234,11 @@ impl Sub<usize> for LastRow {
 impl Add<usize> for LastRow {
     type Output = LastRowOffset;
 
-    ghost add_gives = { λ _ n row. row ≡ record { offset = n; side = Past } };
+    ghost add_gives = { λ _ n row. row ≡ past_last n };
 
     fn add(self, n: usize) -> LastRowOffset {
         LastRowOffset {
-            from_last: FromLast {
-                offset: n,
-                side: Side::Past,
-            },
+            from_last: FromLast::past(n),
         }
     }
 }
@@ -268,7 +261,7 @@ pub struct LastRowOffset {
 }
 
 impl Model for LastRowOffset {
-    ghost use Rattle.tabled_select.specs.declared.object.from_last.FromLast.{FromLast};
+    ghost use Rattle.tabled_select.specs.Selectors.{FromLast};
 
     ghost Value = { FromLast };
 

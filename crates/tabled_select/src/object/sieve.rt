@@ -2,10 +2,10 @@
 
 ghost use Rattle.std.specs.Prelude.{◌≡◌, IfOk};
 ghost use Rattle.std.specs.Iterator.{YieldsFirst, item_count};
-ghost use Rattle.tabled_select.specs.Algebra.{difference_of, flat, intersection_of};
+ghost use Rattle.tabled_select.specs.Algebra.{flat, sifted};
 
 use crate::object::place_set::PlaceSet;
-use crate::object::places::Places;
+use crate::object::places::{Places, count_named};
 use std::alloc::{AllocError, Global};
 use std::marker::Model;
 use tabled_grid::config::{Entity, Position};
@@ -22,53 +22,38 @@ pub(super) struct Sieve {
 
 impl Model for Sieve {
     ghost use Rattle.std.specs.Prelude.{List};
-    ghost use Rattle.std.specs.List.{AllByRecursion, filter};
+    ghost use Rattle.std.specs.List.{filter};
     ghost use Rattle.tabled_grid.specs.declared.config.position.Position.{Position};
-    ghost use Rattle.tabled_select.specs.Marks.{IsPlaceOf, passes};
+    ghost use Rattle.tabled_select.specs.Marks.{passes};
+    ghost use Rattle.tabled_select.specs.Sets.{marks_of};
 
     ghost Value = { List Position };
 
-    ghost view = { λ a. filter (passes a.keeps_members a.set) a.places };
-
-    ghost invariant = { λ a. AllByRecursion (IsPlaceOf a.set) a.places };
+    ghost view = { λ a. filter (passes a.keeps_members (marks_of a.set)) a.places };
 }
 
 impl Sieve {
-    /// The places in a table of `rows x columns` that entities name and others don't.
-    pub(super) fn difference(
+    /// The places in a table of `rows x columns` that entities name and others name too, or else don't.
+    ///
+    /// Refused where memory runs out.
+    pub(super) fn new(
         alloc: Global,
         entities: Vec<Entity>,
         others: Vec<Entity>,
         rows: usize,
         columns: usize,
+        keeps_members: bool,
     ) -> Result<Self, AllocError>
-        ensures { IfOk result (λ left. left ≡ difference_of (flat entities.items rows columns) (flat others.items rows columns)) }
+        ensures { IfOk result (λ left. left ≡ sifted keeps_members (flat entities.items rows columns) (flat others.items rows columns)) }
     {
-        let set = PlaceSet::named(alloc, others, rows, columns)?;
-        let places = Places::new(entities, rows, columns);
+        let named = count_named(&entities, rows, columns).saturating_add(count_named(
+            &others, rows, columns,
+        ));
+        let set = PlaceSet::of(alloc, others, rows, columns, named)?;
         Ok(Sieve {
-            places,
+            places: Places::new(entities, rows, columns),
             set,
-            keeps_members: false,
-        })
-    }
-
-    /// The places in a table of `rows x columns` that entities name and others too.
-    pub(super) fn intersection(
-        alloc: Global,
-        entities: Vec<Entity>,
-        others: Vec<Entity>,
-        rows: usize,
-        columns: usize,
-    ) -> Result<Self, AllocError>
-        ensures { IfOk result (λ left. left ≡ intersection_of (flat entities.items rows columns) (flat others.items rows columns)) }
-    {
-        let set = PlaceSet::named(alloc, others, rows, columns)?;
-        let places = Places::new(entities, rows, columns);
-        Ok(Sieve {
-            places,
-            set,
-            keeps_members: true,
+            keeps_members,
         })
     }
 }

@@ -5,7 +5,7 @@ ghost use Rattle.tabled_grid.specs.declared.config.entity.Entity.{Entity};
 ghost use Rattle.tabled_select.specs.Algebra.{cells_of, flat, union_of};
 
 use crate::object::place_set::PlaceSet;
-use crate::object::places::Places;
+use crate::object::places::{Places, count_named};
 use crate::object::{Object, entities};
 use std::alloc::{AllocError, Global};
 use std::marker::{Model, PhantomData};
@@ -14,7 +14,7 @@ use tabled_grid::records::{ExactRecords, Records};
 
 /// The cells of two objects inside the table, each once. A contract sees it as the two objects.
 ///
-/// Listing is refused where memory runs out, and for a table of more than `usize::MAX` cells.
+/// Listing is refused where memory runs out.
 ///
 /// Ported from `tabled::settings::object::UnionCombination`.
 #[derive(Copy, Drop)]
@@ -78,7 +78,8 @@ where
         let mut all = entities(alloc, &self.lhs, records)?;
         let mut rhs = entities(alloc, &self.rhs, records)?;
         all.append(&mut rhs)?;
-        let seen = PlaceSet::new(alloc, rows, columns)?;
+        let named = count_named(&all, rows, columns);
+        let seen = PlaceSet::room_for(alloc, &all, rows, columns, named)?;
         Ok(UnionIter::new(all, seen, rows, columns))
     }
 }
@@ -97,22 +98,24 @@ impl Model for UnionIter {
     ghost use Rattle.std.specs.List.{AllByRecursion, filter};
     ghost use Rattle.tabled_grid.specs.declared.config.entity.Entity.{Entity};
     ghost use Rattle.tabled_select.specs.Algebra.{cells_of, firsts};
-    ghost use Rattle.tabled_select.specs.Marks.{IsPlaceOf, passes};
+    ghost use Rattle.tabled_select.specs.Marks.{HasRoom, passes};
+    ghost use Rattle.tabled_select.specs.Sets.{marks_of};
 
     ghost Value = { List Entity };
 
-    ghost view = { λ a. cells_of (filter (passes false a.seen) (firsts a.places)) };
+    ghost view = { λ a. cells_of (filter (passes false (marks_of a.seen)) (firsts a.places)) };
 
-    ghost invariant = { λ a. AllByRecursion (IsPlaceOf a.seen) a.places };
+    ghost invariant = { λ a. AllByRecursion (HasRoom (marks_of a.seen)) a.places };
 }
 
 impl UnionIter {
-    ghost use Rattle.std.specs.Prelude.{◌≡◌, []};
+    ghost use Rattle.std.specs.Prelude.{◌≡◌, false};
     ghost use Rattle.tabled_select.specs.Algebra.{cells_of, firsts, flat};
-    ghost use Rattle.tabled_select.specs.Marks.{MarksJust};
+    ghost use Rattle.tabled_select.specs.Marks.{MarksAll};
+    ghost use Rattle.tabled_select.specs.Sets.{marks_of};
 
     fn new(entities: Vec<Entity>, seen: PlaceSet, rows: usize, columns: usize) -> Self
-        requires { MarksJust seen rows columns [] }
+        requires { MarksAll (marks_of seen) (flat entities.items rows columns) false }
         ensures { result ≡ cells_of (firsts (flat entities.items rows columns)) }
     {
         UnionIter {
@@ -133,7 +136,8 @@ impl Iterator for UnionIter {
 
     fn next(&mut self) -> Option<Entity> {
         while let Some(pos) = self.places.next() {
-            if self.seen.insert(pos) {
+            if !self.seen.contains(pos) {
+                self.seen.mark(pos);
                 return Some(Entity::from(pos));
             }
         }

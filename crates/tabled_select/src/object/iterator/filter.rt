@@ -1,7 +1,7 @@
 //! Objects that keep the entities that a closure picks.
 
 ghost use Rattle.std.specs.Prelude.{◌≡◌, List};
-ghost use Rattle.std.specs.Fn.{FnReturnsAt};
+ghost use Rattle.std.specs.Fn.{FnReturns};
 ghost use Rattle.tabled_grid.specs.declared.config.entity.Entity.{Entity};
 ghost use Rattle.tabled_select.specs.Steps.{Filters};
 
@@ -49,12 +49,12 @@ impl<O, F, R> FilterObject<O, F, R> {
 impl<O, F, R> Object<R> for FilterObject<O, F, R>
 where
     O: Object<R>,
-    F: Fn(&Entity) -> bool,
+    F: Fn(Entity) -> bool,
     R: GridStore,
 {
     type Iter = FilterObjectIter;
 
-    ghost lists = { λ s g entities. (all : List Entity) × O.lists s.0 g all × Filters (λ e b. FnReturnsAt F.Fn s.1 e b) all entities };
+    ghost lists = { λ s g entities. (all : List Entity) × O.lists s.0 g all × Filters (λ e b. FnReturns F.Fn s.1 (e, tt) b) all entities };
 
     ghost can_list = { λ s. O.can_list s.0 × F.IsAlwaysCallable s.1 };
 
@@ -68,11 +68,11 @@ where
 }
 
 /// Keeps the entities to which a closure says yes, asking it once for each, in order.
-fn keep<F: Fn(&Entity) -> bool>(entities: &mut Vec<Entity>, predicate: &F)
+fn keep<F: Fn(Entity) -> bool>(entities: &mut Vec<Entity>, predicate: &F)
     requires { F.IsAlwaysCallable predicate.now }
-    ensures { Filters (λ e b. FnReturnsAt F.Fn predicate.now e b) entities.old.items entities.new.items }
+    ensures { Filters (λ e b. FnReturns F.Fn predicate.now (e, tt) b) entities.old.items entities.new.items }
 {
-    entities.retain(predicate);
+    entities.retain(|entity| predicate(*entity));
 }
 
 /// Gives the entities to which a closure said yes. A contract sees it as the list of what is left.

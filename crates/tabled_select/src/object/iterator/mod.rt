@@ -5,8 +5,6 @@ ghost use Rattle.std.specs.Prelude.{◌≡◌};
 mod filter;
 mod skip;
 mod step_by;
-#[cfg(test)]
-mod tests;
 
 use crate::object::Object;
 pub use filter::{FilterObject, FilterObjectIter};
@@ -47,7 +45,7 @@ pub trait ObjectIterator<R: GridStore>: Object<R> {
     final fn filter<F>(self, predicate: F) -> FilterObject<Self, F, R>
     where
         Self: Sized,
-        F: Fn(&Entity) -> bool,
+        F: Fn(Entity) -> bool,
         ensures { result ≡ (self, predicate) }
     {
         FilterObject::new(self, predicate)

@@ -5,9 +5,8 @@ ghost use Rattle.tabled_grid.specs.declared.config.entity.Entity.{Entity};
 
 use crate::object::Object;
 use std::alloc::{AllocError, Global};
-use std::iter::Skip;
 use std::marker::{Model, PhantomData};
-use tabled_grid::config::Entity;
+use std::mem;
 use tabled_grid::records::GridStore;
 
 /// An object without its first entities. A contract sees it as the object and their number.
@@ -54,33 +53,50 @@ impl<O: Object<R>, R: GridStore> Object<R> for SkipObject<O, R> {
     fn cells(&self, alloc: Global, records: &R) -> Result<SkipObjectIter<O::Iter>, AllocError> {
         let all = self.object.cells(alloc, records)?;
         Ok(SkipObjectIter {
-            entities: all.skip(self.n),
+            entities: all,
+            ahead: self.n,
         })
     }
 }
 
-/// Gives what an iterator gives after its first entities.
+/// Gives what an iterator gives after its first entities. A contract sees it as the iterator and
+/// how many are still to be passed over.
 ///
 /// Ported from `tabled::settings::object::SkipObjectIter`.
 #[derive(Drop)]
 pub struct SkipObjectIter<I> {
-    entities: Skip<I>,
+    entities: I,
+    ahead: usize,
 }
 
-impl<I: Iterator<Item = Entity>> Iterator for SkipObjectIter<I> {
-    type Item = Entity;
+impl<I> Model for SkipObjectIter<I> {
+    ghost use Rattle.std.specs.Prelude.{ℕ};
+
+    ghost Value = { I × ℕ };
+
+    ghost view = { λ a. (a.entities, a.ahead) };
+
+    ghost inverse = { λ v. record { entities = v.0; ahead = v.1 } };
+}
+
+impl<I: Iterator> Iterator for SkipObjectIter<I>
+where
+    I::Item: Drop,
+{
+    type Item = I::Item;
 
     ghost use Rattle.std.specs.Prelude.{◌-◌};
     ghost use Rattle.std.specs.Iterator.{count_map};
-    ghost use Rattle.std.specs.Iterator.Adapters.{skip_count, skip_source, skip_steps};
+    ghost use Rattle.tabled_select.specs.Walks.{HopsOver};
 
-    ghost can_next = { λ s. I.can_next (skip_source s.entities) };
+    ghost can_next = { λ s. I.can_next s.0 };
 
-    ghost next_gives = { λ s r t. skip_steps I.next_gives s.entities r t.entities };
+    ghost next_gives = { HopsOver I.next_gives 0 };
 
-    ghost remaining = { λ s. count_map (λ n. n - skip_count s.entities) (I.remaining (skip_source s.entities)) };
+    ghost remaining = { λ s. count_map (λ n. n - s.1) (I.remaining s.0) };
 
-    fn next(&mut self) -> Option<Entity> {
-        self.entities.next()
+    fn next(&mut self) -> Option<I::Item> {
+        let ahead = mem::replace(&mut self.ahead, 0);
+        self.entities.nth(ahead)
     }
 }

@@ -6,9 +6,8 @@ ghost use Rattle.tabled_select.specs.Steps.{every};
 
 use crate::object::Object;
 use std::alloc::{AllocError, Global};
-use std::iter::StepBy;
 use std::marker::{Model, PhantomData};
-use tabled_grid::config::Entity;
+use std::mem;
 use tabled_grid::records::GridStore;
 
 /// The entities 0, n, 2n and so on of an object, and none where n is 0. A contract sees it as the
@@ -55,39 +54,63 @@ impl<O: Object<R>, R: GridStore> Object<R> for StepByObject<O, R> {
 
     fn cells(&self, alloc: Global, records: &R) -> Result<StepByObjectIter<O::Iter>, AllocError> {
         let all = self.object.cells(alloc, records)?;
-        if self.n == 0 {
-            return Ok(StepByObjectIter { entities: None });
+        match self.n.checked_sub(1) {
+            Some(gap) => Ok(StepByObjectIter {
+                entities: Some(all),
+                ahead: 0,
+                gap,
+            }),
+            None => Ok(StepByObjectIter {
+                entities: None,
+                ahead: 0,
+                gap: 0,
+            }),
         }
-        Ok(StepByObjectIter {
-            entities: Some(all.step_by(self.n)),
-        })
     }
 }
 
-/// Gives every n-th of what an iterator gives, the first one included, or nothing.
+/// Gives every n-th of what an iterator gives, the first one included, or nothing. A contract sees
+/// it as the iterator, if there is one, and how many are passed over now and then each time.
 ///
 /// Ported from `tabled::settings::object::StepByObjectIter`.
 #[derive(Drop)]
 pub struct StepByObjectIter<I> {
-    entities: Option<StepBy<I>>,
+    entities: Option<I>,
+    ahead: usize,
+    gap: usize,
 }
 
-impl<I: Iterator<Item = Entity>> Iterator for StepByObjectIter<I> {
-    type Item = Entity;
+impl<I> Model for StepByObjectIter<I> {
+    ghost use Rattle.tabled_select.specs.Walks.{Hops};
+
+    ghost Value = { Hops I };
+
+    ghost view = { λ a. record { source = a.entities; ahead = a.ahead; gap = a.gap } };
+
+    ghost inverse = { λ s. record { entities = s.source; ahead = s.ahead; gap = s.gap } };
+}
+
+impl<I: Iterator> Iterator for StepByObjectIter<I>
+where
+    I::Item: Drop,
+{
+    type Item = I::Item;
 
     ghost use Rattle.std.specs.Prelude.{IfSome};
-    ghost use Rattle.std.specs.Iterator.Adapters.{step_by_source, step_by_steps};
-    ghost use Rattle.tabled_select.specs.Walks.{StepsIfAny, left_if_any};
+    ghost use Rattle.tabled_select.specs.Walks.{HopsIfAny, hops_left};
 
-    ghost can_next = { λ s. IfSome s.entities (λ entities. I.can_next (step_by_source entities)) };
+    ghost can_next = { λ s. IfSome s.source I.can_next };
 
-    ghost next_gives = { λ s r t. StepsIfAny (step_by_steps I.next_gives) s.entities r t.entities };
+    ghost next_gives = { HopsIfAny I.next_gives };
 
-    ghost remaining = { λ s. left_if_any I.remaining s.entities };
+    ghost remaining = { λ s. hops_left I.remaining s.source s.ahead s.gap };
 
-    fn next(&mut self) -> Option<Entity> {
+    fn next(&mut self) -> Option<I::Item> {
         match &mut self.entities {
-            Some(entities) => entities.next(),
+            Some(entities) => {
+                let ahead = mem::replace(&mut self.ahead, self.gap);
+                entities.nth(ahead)
+            }
             None => None,
         }
     }

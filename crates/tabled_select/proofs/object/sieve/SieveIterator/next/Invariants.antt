@@ -1,13 +1,11 @@
 use Rattle.std.proofs.Common.{◌≡◌, length}
-use Rattle.std.specs.List.{AllByRecursion, filter}
-use Rattle.tabled_select.specs.Marks.{IsPlaceOf, passes}
+use Rattle.std.specs.List.{filter}
+use Rattle.tabled_select.specs.Marks.{passes}
+use Rattle.tabled_select.specs.Sets.{marks_of}
 use Rattle.tabled_select.proofs.object.sieve.SieveIterator.next.Given as goal
 
 abbrev pub invariant-loop-pos : goal.invariant-loop-pos
-invariant-loop-pos l = record {
-  within : AllByRecursion (IsPlaceOf l.self-inside.set) l.self-inside.places;
-  same : filter (passes l.self-inside.keeps_members l.self-inside.set) l.self-inside.places ≡ l.fn.self;
-}
+invariant-loop-pos l = filter (passes l.self-inside.keeps_members (marks_of l.self-inside.set)) l.self-inside.places ≡ l.fn.self
 
 abbrev pub decreases-loop-pos : goal.decreases-loop-pos
 decreases-loop-pos l = length l.self-inside.places

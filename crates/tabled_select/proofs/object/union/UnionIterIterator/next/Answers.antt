@@ -1,19 +1,18 @@
 use Rattle.std.proofs.Common.{rules, ap, length}
-use Rattle.tabled_select.proofs.MarkedPlaces.{places-with_mark}
+use Rattle.tabled_select.specs.Sets.{marks_of}
+use Rattle.tabled_select.proofs.MarkedPlaces.{room-kept}
 use Rattle.tabled_select.proofs.Uniting.{fresh-new, fresh-old}
 use Rattle.tabled_select.proofs.object.union.UnionIterIterator.next.Goals as goal
 
-pub returns-then-insert : goal.returns-then-insert
-returns-then-insert c =
-    let within = rw c.in-Some.ensures.steps at c.loop-pos.invariant.within in
-    let step = fresh-new _ _ _ _ _ within.0 c.in-Some.ensures.steps c.loop-pos.invariant.same _ (search rules) c.insert.ensures.set in
-    let shorter = ap length step in
-    record { steps = rw c.from.ensures step; goes = search rules }
+pub returns-then-not-contains-clause-steps : goal.returns-then-not-contains-clause-steps
+returns-then-not-contains-clause-steps c = rw c.from.ensures (fresh-new (marks_of c.loop-pos.self-inside.seen) (marks_of c.mark.new.self) _ c.mark.ensures _ _ _ c.in-Some.ensures.steps c.loop-pos.invariant.same (search rules))
+
+pub returns-then-not-contains-clause-goes : goal.returns-then-not-contains-clause-goes
+returns-then-not-contains-clause-goes c =
+    let shorter = ap length (returns-then-not-contains-clause-steps c) in search rules
 
 pub loop-pos-preserved : goal.loop-pos-preserved
-loop-pos-preserved c =
-    let within = rw c.in-Some.ensures.steps at c.loop-pos.invariant.within in
-    record {
-      within = rw c.insert.ensures.set (places-with_mark _ _ _ within.1);
-      same = fresh-old _ _ _ _ _ within.0 c.in-Some.ensures.steps c.loop-pos.invariant.same _ (search rules) c.insert.ensures.set;
-    }
+loop-pos-preserved c = record {
+  within = (rw c.in-Some.ensures.steps at c.loop-pos.invariant.within).1;
+  same = fresh-old (marks_of c.loop-pos.self-inside.seen) _ _ _ _ c.in-Some.ensures.steps c.loop-pos.invariant.same (search rules);
+}

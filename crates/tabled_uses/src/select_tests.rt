@@ -1,12 +1,15 @@
-//! What each object names, in tables of blanks.
+//! What selectors name, in tables of blanks.
 
-use super::{Cell, Column, Columns, Frame, LastColumnOffset, Object, Row, Rows, Segment, entities};
 use std::alloc::{AllocError, Global};
 use std::ops::Bound;
 use std::process::Abort;
 use std::test::Fail;
 use tabled_grid::config::{Entity, Position};
 use tabled_grid::records::{Blank, GridStore, Resizable, Text, VecRecords};
+use tabled_select::object::{
+    Cell, Column, Columns, Frame, LastColumnOffset, Object, ObjectIterator, Row, Rows, Segment,
+    entities,
+};
 
 /// A store of blanks.
 fn blanks<T: Blank>(
@@ -25,11 +28,7 @@ fn blanks<T: Blank>(
 }
 
 /// A table of zeros.
-pub(super) fn numbers(
-    alloc: Global,
-    rows: usize,
-    columns: usize,
-) -> Result<VecRecords<usize>, AllocError> {
+fn numbers(alloc: Global, rows: usize, columns: usize) -> Result<VecRecords<usize>, AllocError> {
     blanks(alloc, rows, columns)
 }
 
@@ -58,7 +57,7 @@ where
 }
 
 /// Asserts what an object names, in words.
-pub(super) fn assert_named<R, O>(
+fn assert_named<R, O>(
     rt: &impl Abort,
     alloc: Global,
     object: O,
@@ -167,29 +166,13 @@ fn counts_rows_from_either_end(rt: HostRuntime) -> Result<(), Fail> {
     assert_named(&rt, alloc, Rows::first(), &table, "r0")?;
     assert_named(&rt, alloc, Rows::last(), &table, "r4")?;
     assert_named(&rt, alloc, Rows::last(), &numbers(alloc, 100, 2)?, "r99")?;
-    for (n, want) in [
-        (0, "r4"),
-        (1, "r3"),
-        (2, "r2"),
-        (3, "r1"),
-        (4, "r0"),
-        (5, ""),
-        (100, ""),
-    ] {
+    for (n, want) in [(0, "r4"), (1, "r3"), (4, "r0"), (5, ""), (100, "")] {
         assert_named(&rt, alloc, Rows::last() - n, &table, want)?;
     }
     for (n, want) in [(0, "r4"), (1, "r5"), (usize::MAX, "")] {
         assert_named(&rt, alloc, Rows::last() + n, &table, want)?;
     }
-    for (n, want) in [
-        (0, "r0"),
-        (1, "r1"),
-        (2, "r2"),
-        (3, "r3"),
-        (4, "r4"),
-        (5, "r5"),
-        (100, "r100"),
-    ] {
+    for (n, want) in [(0, "r0"), (1, "r1"), (5, "r5"), (100, "r100")] {
         assert_named(&rt, alloc, Rows::first() + n, &table, want)?;
     }
     for rows in [0, 5] {
@@ -255,4 +238,159 @@ fn converts_and_compares(rt: HostRuntime) {
     assert!(rt; Columns::last() - 1 < Columns::last() + 1);
     assert!(rt; Columns::last() + 1 < Columns::last() - 2);
     assert_ne!(rt; Columns::last() - 0, Columns::last() + 0);
+}
+
+#[test]
+fn combines_cells(rt: HostRuntime) -> Result<(), Fail> {
+    let alloc = rt.alloc();
+    let table = numbers(alloc, 2, 3)?;
+    let first = Cell::new(0, 0);
+    let last = Cell::new(1, 2);
+    assert_named(&rt, alloc, first.and(last), &table, "0:0 1:2")?;
+    assert_named(&rt, alloc, first.and(first), &table, "0:0")?;
+    assert_named(&rt, alloc, first.and(last), &numbers(alloc, 0, 0)?, "")?;
+    assert_named(&rt, alloc, first.not(first), &table, "")?;
+    assert_named(&rt, alloc, first.intersect(first), &table, "0:0")?;
+    assert_named(&rt, alloc, first.inverse(), &table, "0:1 0:2 1:0 1:1 1:2")?;
+    Ok(())
+}
+
+#[test]
+fn combines_rows_and_cells(rt: HostRuntime) -> Result<(), Fail> {
+    let alloc = rt.alloc();
+    let table = numbers(alloc, 2, 3)?;
+    let first = Cell::new(0, 0);
+    assert_named(&rt, alloc, Rows::first().not(first), &table, "0:1 0:2")?;
+    assert_named(&rt, alloc, Rows::first().intersect(first), &table, "0:0")?;
+    assert_named(&rt, alloc, Rows::first().inverse(), &table, "1:0 1:1 1:2")?;
+    assert_named(
+        &rt,
+        alloc,
+        Segment::all().intersect(Rows::one(1)),
+        &table,
+        "1:0 1:1 1:2",
+    )?;
+    assert_named(&rt, alloc, Segment::all().inverse(), &table, "")?;
+    assert_named(
+        &rt,
+        alloc,
+        Rows::one(1).inverse(),
+        &numbers(alloc, 0, 0)?,
+        "",
+    )?;
+    Ok(())
+}
+
+#[test]
+fn combines_rows_and_columns(rt: HostRuntime) -> Result<(), Fail> {
+    let alloc = rt.alloc();
+    let table = numbers(alloc, 3, 3)?;
+    let row = Rows::one(1);
+    let column = Columns::one(1);
+    assert_named(&rt, alloc, Columns::one(1).not(row), &table, "0:1 2:1")?;
+    assert_named(&rt, alloc, row.not(column), &table, "1:0 1:2")?;
+    assert_named(
+        &rt,
+        alloc,
+        row.intersect(column),
+        &numbers(alloc, 2, 1)?,
+        "",
+    )?;
+    Ok(())
+}
+
+#[test]
+fn skips(rt: HostRuntime) -> Result<(), Fail> {
+    let alloc = rt.alloc();
+    let table = numbers(alloc, 10, 10)?;
+    for (n, want) in [
+        (0, "r1 r2 r3 r4"),
+        (1, "r2 r3 r4"),
+        (4, ""),
+        (usize::MAX, ""),
+    ] {
+        assert_named(&rt, alloc, Rows::new(1..5).skip(n), &table, want)?;
+    }
+    assert_named(&rt, alloc, Columns::new(5..).skip(1), &table, "c6 c7 c8 c9")?;
+    assert_named(&rt, alloc, (1, 5).skip(0), &table, "1:5")?;
+    assert_named(&rt, alloc, (1, 5).skip(1), &table, "")?;
+    Ok(())
+}
+
+#[test]
+fn steps(rt: HostRuntime) -> Result<(), Fail> {
+    let alloc = rt.alloc();
+    let table = numbers(alloc, 10, 10)?;
+    for (n, want) in [
+        (0, ""),
+        (1, "r1 r2 r3 r4"),
+        (2, "r1 r3"),
+        (3, "r1 r4"),
+        (100, "r1"),
+        (usize::MAX, "r1"),
+    ] {
+        assert_named(&rt, alloc, Rows::new(1..5).step_by(n), &table, want)?;
+    }
+    assert_named(
+        &rt,
+        alloc,
+        Columns::new(5..).step_by(1),
+        &table,
+        "c5 c6 c7 c8 c9",
+    )?;
+    assert_named(&rt, alloc, (1, 5).step_by(1), &table, "1:5")?;
+    assert_named(&rt, alloc, (1, 5).step_by(2), &table, "1:5")?;
+    Ok(())
+}
+
+#[test]
+fn filters(rt: HostRuntime) -> Result<(), Fail> {
+    let alloc = rt.alloc();
+    let table = numbers(alloc, 10, 10)?;
+    let rows = Rows::new(1..5);
+    assert_named(
+        &rt,
+        alloc,
+        rows.clone()?.filter(|_| true),
+        &table,
+        "r1 r2 r3 r4",
+    )?;
+    assert_named(
+        &rt,
+        alloc,
+        rows.clone()?.filter(|entity| entity == Entity::Row(3)),
+        &table,
+        "r3",
+    )?;
+    assert_named(&rt, alloc, rows.filter(|_| false), &table, "")?;
+    Ok(())
+}
+
+#[test]
+fn combines_many_cells(rt: HostRuntime) -> Result<(), Fail> {
+    let alloc = rt.alloc();
+    for (rows, columns) in [(1, 2_000), (2_000, 1), (40, 40)] {
+        let table = numbers(alloc, rows, columns)?;
+        let all = Segment::new(.., ..);
+        let cells = entities(alloc, &all.clone()?, &table)?.len();
+        let first = Cell::new(0, 0);
+        assert_eq!(rt;
+            entities(alloc, &all.clone()?.and(first), &table)?.len(),
+            cells
+        );
+        assert_eq!(rt;
+            entities(alloc, &all.clone()?.not(first), &table)?.len(),
+            cells.wrapping_sub(1)
+        );
+        assert_eq!(rt;
+            entities(alloc, &first.intersect(all.clone()?), &table)?.len(),
+            1
+        );
+        assert_eq!(rt;
+            entities(alloc, &first.inverse(), &table)?.len(),
+            cells.wrapping_sub(1)
+        );
+        assert_eq!(rt; entities(alloc, &all.inverse(), &table)?.len(), 0);
+    }
+    Ok(())
 }

@@ -1,0 +1,34 @@
+use Rattle.std.proofs.Common.{◌∙◌}
+use Rattle.tabled_select.specs.Sets.{all_marks}
+use Rattle.tabled_select.proofs.MarkedPlaces.{marked-first, marked-last, marked-next, room-kept}
+use Rattle.tabled_select.proofs.object.marked.Marked.of.Goals as goal
+
+pub loop-pos-init : goal.loop-pos-init
+loop-pos-init c =
+    let all = c.into_iter-pos-iterator.ensures.into_iter_gives ∙ c.new-pos-items.ensures in
+    let none = c.in_ok-set.ensures c.args.entities.items in
+    record {
+      can = tt;
+      ends = tt;
+      left = rw all none.room;
+      room = none.room;
+      marked = marked-first (all_marks c.in_ok-set.set) _ _ all none.just;
+    }
+
+pub mark-requires : goal.mark-requires
+mark-requires c = (rw c.in-Some.ensures.steps at c.loop-pos.invariant.left).0
+
+pub loop-pos-preserved : goal.loop-pos-preserved
+loop-pos-preserved c =
+    let before = c.loop-pos.invariant in
+    let left = rw c.in-Some.ensures.steps at before.left in
+    record {
+      can = tt;
+      ends = tt;
+      left = room-kept _ _ _ _ c.mark.ensures _ left.1;
+      room = room-kept _ _ _ _ c.mark.ensures _ before.room;
+      marked = marked-next _ _ _ _ _ _ c.in-Some.ensures.steps c.mark.ensures before.marked;
+    }
+
+pub returns : goal.returns
+returns c = marked-last _ _ _ c.in-None.ensures.steps.0 c.loop-pos.invariant.room c.loop-pos.invariant.marked
