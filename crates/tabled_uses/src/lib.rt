@@ -5,7 +5,7 @@ pub mod builders;
 pub mod options;
 #[cfg(test)]
 mod places;
-mod select;
+pub mod select;
 #[cfg(test)]
 mod select_tests;
 pub mod stores;
