@@ -1,10 +1,11 @@
-use Rattle.std.proofs.Common.{◌<◌, ◌∙◌, String, ap, ap₂, sym, arith, map, length}
+use Rattle.std.proofs.Common.{◌<◌, ◌∙◌, ℕ, List, String, ap, ap₂, sym, arith, map, length}
 use Rattle.std.specs.Global.{Global, Vec}
 use Rattle.std.specs.List.{insert}
 use Rattle.std.specs.String.{string_bytes}
 use Rattle.std.proofs.lemmas.List.{length-map, get_or-map}
 use Rattle.tabled_grid.proofs.Lists.{map-insert}
-use Rattle.tabled_table.proofs.Columns.{next_item, puts_next, puts_more}
+use Rattle.tabled_table.proofs.Columns.{next_item, puts_all, puts_more, puts_next}
+use Rattle.tabled_options.proofs.Results.{on_err}
 use Rattle.tabled_table.proofs.RowTexts.{same_lens, texts_kept}
 use Rattle.tabled_table.proofs.builder.columns.insert_items.Goals as goal
 
@@ -31,3 +32,12 @@ loop-row-preserved c =
           ∙ ap₂ (λ (row : Vec (String Global)) text. insert (texts row) c.args.j text) (puts_next _ _ _ _ _ i c.row-item.result c.loop-row.invariant.puts) (ap string_bytes next.0 ∙ sym (get_or-map string_bytes given i item (string_bytes item) few)));
       left = next.1;
     }
+
+pub returns-in_err-reserve_each-clause-err : goal.returns-in_err-reserve_each-clause-err
+returns-in_err-reserve_each-clause-err c = on_err _ (texts_kept _ _ c.in_err-reserve_each.ensures.cells)
+
+pub returns-clause-ok : goal.returns-clause-ok
+returns-clause-ok c =
+    let texts = λ (row : Vec (String Global)). map string_bytes row.items in
+    let insert_item = λ (row : List (List ℕ)) (text : List ℕ). insert row c.args.j text in
+    rw (← texts_kept _ _ c.in_ok-reserve_each.ensures.cells) (puts_all texts insert_item (map string_bytes c.args.items.items) _ _ c.loop-row.row-index c.loop-row-test.false c.loop-row.invariant.puts)
