@@ -1,9 +1,10 @@
 -- A text written to several cells.
 use Rattle.std.specs.Prelude.{◌≡◌, ◌<◌, ℕ, List, [], ◌∷◌, length, take}
 use Rattle.tabled_grid.specs.Entity.{inside}
-use Rattle.tabled_grid.specs.Grid.{Grid, with_cell}
+use Rattle.tabled_grid.specs.Grid.{Grid, map_grid, with_cell}
 use Rattle.tabled_grid.specs.declared.config.entity.Entity.{Entity}
 use Rattle.tabled_grid.specs.declared.config.position.Position.{Position}
+use Rattle.tabled_options.specs.Does.{Change}
 
 -- a text written to one place after another
 abbrev pub written : List ℕ → List Position → Grid (List ℕ) → Grid (List ℕ)
@@ -23,3 +24,11 @@ WritesEach text e g h = h ≡ written text (inside e g.rows g.columns) g
 -- the same for the cells before one of them
 abbrev pub WritesFirst : List ℕ → Entity → Grid (List ℕ) → Grid (List ℕ) → Type 0
 WritesFirst text e g h = WrittenUntil text (inside e g.rows g.columns) g h
+
+-- the text in the cells inside that an entity names, and the configuration as it was
+abbrev pub Writes : {A C : Type 0} → (A → List ℕ) → List ℕ → Entity → Change A C
+Writes text_of text e g c h d = WritesEach text e (map_grid text_of g) (map_grid text_of h) × (d ≡ c)
+
+-- the same for the cells before one of them
+abbrev pub WritesBefore : {A C : Type 0} → (A → List ℕ) → List ℕ → Entity → Change A C
+WritesBefore text_of text e g c h d = WritesFirst text e (map_grid text_of g) (map_grid text_of h) × (d ≡ c)

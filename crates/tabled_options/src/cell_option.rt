@@ -61,6 +61,7 @@ pub trait CellOption<R: GridStore, C> {
     fn hint_change(&self) -> Option<Entity>
         ensures { result ≡ hint self.now };
 
-    /// An option that may stand for another acts like it.
+    /// An option that may stand for another acts like it: `Prim.search rules` proves it where `is_like` is
+    /// an equation.
     ghost acts_like: { (first second : Self) → is_like first second → ActsLike (can_change first) (can_change second) (does first) (does second) (leaves first) (leaves second) };
 }

@@ -4,7 +4,7 @@ ghost use Rattle.std.specs.Prelude.{◌≡◌, [], OnOk, OnErr, IsOk};
 ghost use Rattle.std.specs.String.{string_bytes};
 ghost use Rattle.tabled_grid.specs.Entity.{inside};
 ghost use Rattle.tabled_grid.specs.Grid.{map_grid};
-ghost use Rattle.tabled_options.specs.Writes.{WritesEach, WritesFirst};
+ghost use Rattle.tabled_options.specs.Writes.{Writes, WritesBefore, WritesEach, WritesFirst};
 ghost use Rattle.std.proofs.Common.{rules};
 
 use crate::cell_option::CellOption;
@@ -19,9 +19,9 @@ where
     R: Records + ExactRecords + RecordsMut<String>,
     R::Cell: CellText,
 {
-    ghost does = { λ s e g c h d. WritesEach (string_bytes s) e (map_grid R.Cell.text_of g) (map_grid R.Cell.text_of h) × (d ≡ c) };
+    ghost does = { λ s. Writes R.Cell.text_of (string_bytes s) };
 
-    ghost leaves = { λ s e g c h d. WritesFirst (string_bytes s) e (map_grid R.Cell.text_of g) (map_grid R.Cell.text_of h) × (d ≡ c) };
+    ghost leaves = { λ s. WritesBefore R.Cell.text_of (string_bytes s) };
 
     ghost can_change = { λ _. Unit {0} };
 
@@ -58,9 +58,9 @@ where
     R: Records + ExactRecords + RecordsMut<&'a str>,
     R::Cell: CellText,
 {
-    ghost does = { λ s e g c h d. WritesEach s.0.now e (map_grid R.Cell.text_of g) (map_grid R.Cell.text_of h) × (d ≡ c) };
+    ghost does = { λ s. Writes R.Cell.text_of s.0.now };
 
-    ghost leaves = { λ s e g c h d. WritesFirst s.0.now e (map_grid R.Cell.text_of g) (map_grid R.Cell.text_of h) × (d ≡ c) };
+    ghost leaves = { λ s. WritesBefore R.Cell.text_of s.0.now };
 
     ghost can_change = { λ _. Unit {0} };
 

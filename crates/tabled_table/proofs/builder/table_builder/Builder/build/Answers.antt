@@ -1,7 +1,6 @@
 use Rattle.std.proofs.Common.{◌∙◌, ap, refl}
 use Rattle.std.specs.String.{string_bytes}
 use Rattle.tabled_grid.specs.Grid.{map_grid}
-use Rattle.tabled_table.specs.Builder.{table_of}
 use Rattle.tabled_table.proofs.Tables.{IsEven-rows, map_grid-rows}
 use Rattle.tabled_table.proofs.builder.table_builder.Builder.build.Goals as goal
 
