@@ -69,6 +69,7 @@ impl<L> Iterator for SieveIter<L> {
 
     ghost remaining = { item_count (λ s. s) };
 
+    #[inline]
     fn next(&mut self) -> Option<Entity> {
         while let Some(pos) = self.places.next() {
             if self.set.contains(pos) == self.keeps_members {
