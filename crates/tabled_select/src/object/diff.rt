@@ -4,7 +4,7 @@ ghost use Rattle.std.specs.Prelude.{◌≡◌, List};
 ghost use Rattle.tabled_grid.specs.declared.config.entity.Entity.{Entity};
 ghost use Rattle.tabled_select.specs.Algebra.{cells_of, difference_of, flat};
 
-use crate::object::sieve::Sieve;
+use crate::object::sieve::SieveIter;
 use crate::object::{Object, entities};
 use std::alloc::{AllocError, Global};
 use std::marker::{Model, PhantomData};
@@ -77,52 +77,11 @@ where
         let columns = records.count_columns();
         let lhs = entities(alloc, &self.lhs, records)?;
         let rhs = entities(alloc, &self.rhs, records)?;
-        let places = Sieve::new(alloc, lhs, rhs, rows, columns, false)?;
-        Ok(DiffIter::new(places))
+        SieveIter::new(alloc, lhs, rhs, rows, columns, false)
     }
 }
 
 /// Gives the cells of a difference. A contract sees it as the list of what is left.
 ///
 /// Ported from `tabled::settings::object::DiffIter`.
-#[derive(Drop)]
-pub struct DiffIter<L> {
-    places: Sieve,
-    listed: PhantomData<L>,
-}
-
-impl<L> Model for DiffIter<L> {
-    ghost use Rattle.std.specs.Prelude.{List};
-    ghost use Rattle.tabled_grid.specs.declared.config.entity.Entity.{Entity};
-    ghost use Rattle.tabled_select.specs.Algebra.{cells_of};
-
-    ghost Value = { List Entity };
-
-    ghost view = { λ a. cells_of a.places };
-}
-
-impl<L> DiffIter<L> {
-    fn new(places: Sieve) -> Self
-        ensures { result ≡ cells_of places }
-    {
-        DiffIter {
-            places,
-            listed: PhantomData,
-        }
-    }
-}
-
-impl<L> Iterator for DiffIter<L> {
-    type Item = Entity;
-
-    ghost use Rattle.std.specs.Iterator.{YieldsFirst, item_count};
-
-    ghost next_gives = { YieldsFirst (λ s. s) };
-
-    ghost remaining = { item_count (λ s. s) };
-
-    fn next(&mut self) -> Option<Entity> {
-        let pos = self.places.next()?;
-        Some(Entity::from(pos))
-    }
-}
+pub type DiffIter<L> = SieveIter<L>;

@@ -4,7 +4,8 @@ ghost use Rattle.std.specs.Prelude.{◌≡◌, List};
 ghost use Rattle.tabled_grid.specs.declared.config.entity.Entity.{Entity};
 ghost use Rattle.tabled_select.specs.Algebra.{cells_of, flat, inversion_of};
 
-use crate::object::sieve::Sieve;
+use crate::object::cell::EntityOnce;
+use crate::object::sieve::SieveIter;
 use crate::object::{Object, entities};
 use std::alloc::{AllocError, Global};
 use std::marker::{Model, PhantomData};
@@ -73,40 +74,11 @@ where
         let columns = records.count_columns();
         let named = entities(alloc, &self.object, records)?;
         let all = vec![in alloc; Entity::Global]?;
-        let places = Sieve::new(alloc, all, named, rows, columns, false)?;
-        Ok(InversionIter { places })
+        SieveIter::new(alloc, all, named, rows, columns, false)
     }
 }
 
 /// Gives the cells of an inversion. A contract sees it as the list of what is left.
 ///
 /// Ported from `tabled::settings::object::InversionIter`.
-#[derive(Drop)]
-pub struct InversionIter {
-    places: Sieve,
-}
-
-impl Model for InversionIter {
-    ghost use Rattle.std.specs.Prelude.{List};
-    ghost use Rattle.tabled_grid.specs.declared.config.entity.Entity.{Entity};
-    ghost use Rattle.tabled_select.specs.Algebra.{cells_of};
-
-    ghost Value = { List Entity };
-
-    ghost view = { λ a. cells_of a.places };
-}
-
-impl Iterator for InversionIter {
-    type Item = Entity;
-
-    ghost use Rattle.std.specs.Iterator.{YieldsFirst, item_count};
-
-    ghost next_gives = { YieldsFirst (λ s. s) };
-
-    ghost remaining = { item_count (λ s. s) };
-
-    fn next(&mut self) -> Option<Entity> {
-        let pos = self.places.next()?;
-        Some(Entity::from(pos))
-    }
-}
+pub type InversionIter = SieveIter<EntityOnce>;

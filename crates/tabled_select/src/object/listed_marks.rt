@@ -44,6 +44,8 @@ impl ListedMarks {
         Ok(set)
     }
 
+    // A call apart keeps the walk over dense marks short.
+    #[inline(never)]
     pub(super) fn contains(&self, pos: Position) -> bool
         ensures { result ≡ has (few_marks self.now) pos }
     {
@@ -64,6 +66,7 @@ impl ListedMarks {
     }
 
     /// Marks a place that there is room for.
+    #[inline(never)]
     pub(super) fn mark(&mut self, pos: Position)
         requires { HasRoom (few_marks self.old) pos }
         ensures { SetsMark (few_marks self.old) (few_marks self.new) pos true }

@@ -50,6 +50,7 @@ impl Marked {
         Ok(set)
     }
 
+    #[inline]
     pub(super) fn contains(&self, pos: Position) -> bool
         ensures { result ≡ has (all_marks self.now) pos }
     {
@@ -60,6 +61,7 @@ impl Marked {
     }
 
     /// Marks a place.
+    #[inline]
     pub(super) fn mark(&mut self, pos: Position)
         requires { HasRoom (all_marks self.old) pos }
         ensures { SetsMark (all_marks self.old) (all_marks self.new) pos true }
@@ -71,6 +73,7 @@ impl Marked {
 }
 
 /// Where the mark of a place stands in rows of `columns` marks, if there is one.
+#[inline]
 fn index_of(marks: &[bool], columns: usize, pos: Position) -> Option<usize>
     ensures { SomeIff result ((pos.col < columns) × (mark_index columns pos < length marks.now)) (mark_index columns pos) }
 {

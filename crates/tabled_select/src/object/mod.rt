@@ -40,6 +40,7 @@ pub use iterator::{
 pub use listed::entities;
 pub use rows::{FirstRow, LastRow, LastRowOffset, Row, Rows, RowsIter};
 pub use segment::{SectorIter, Segment, SegmentAll};
+pub use sieve::SieveIter;
 use std::alloc::{AllocError, Global};
 use tabled_grid::config::Entity;
 use tabled_grid::records::GridStore;

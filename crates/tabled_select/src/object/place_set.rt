@@ -69,6 +69,7 @@ impl PlaceSet {
         Ok(PlaceSet { form })
     }
 
+    #[inline]
     pub(super) fn contains(&self, pos: Position) -> bool
         ensures { result ≡ has (marks_of self.now) pos }
     {
@@ -79,6 +80,7 @@ impl PlaceSet {
     }
 
     /// Marks a place.
+    #[inline]
     pub(super) fn mark(&mut self, pos: Position)
         requires { HasRoom (marks_of self.old) pos }
         ensures { SetsMark (marks_of self.old) (marks_of self.new) pos true }

@@ -50,6 +50,7 @@ impl Iterator for Places {
 
     ghost remaining = { item_count (λ s. s) };
 
+    #[inline(always)]
     fn next(&mut self) -> Option<Position> {
         loop {
             if let Some(pos) = self.current.next() {

@@ -1,39 +1,42 @@
-//! Places sifted by a set of places.
+//! Cells sifted by a set of places.
 
 ghost use Rattle.std.specs.Prelude.{◌≡◌, IfOk};
 ghost use Rattle.std.specs.Iterator.{YieldsFirst, item_count};
-ghost use Rattle.tabled_select.specs.Algebra.{flat, sifted};
+ghost use Rattle.tabled_select.specs.Algebra.{cells_of, flat, sifted};
 
 use crate::object::place_set::PlaceSet;
 use crate::object::places::{Places, count_named};
 use std::alloc::{AllocError, Global};
-use std::marker::Model;
-use tabled_grid::config::{Entity, Position};
+use std::marker::{Model, PhantomData};
+use tabled_grid::config::Entity;
 
-/// Goes over those of some places that are in a set, or else over the others.
+/// Gives those cells of one object that another names too, or else the others. A contract sees it as
+/// the list of what is left.
 ///
-/// A contract sees it as the list of the places that are left.
+/// Our own, for `DiffIter`, `IntersectIter` and `InversionIter`. `L` is the iterator of the one object.
 #[derive(Drop)]
-pub(super) struct Sieve {
+pub struct SieveIter<L> {
     places: Places,
     set: PlaceSet,
     keeps_members: bool,
+    listed: PhantomData<L>,
 }
 
-impl Model for Sieve {
+impl<L> Model for SieveIter<L> {
     ghost use Rattle.std.specs.Prelude.{List};
     ghost use Rattle.std.specs.List.{filter};
-    ghost use Rattle.tabled_grid.specs.declared.config.position.Position.{Position};
+    ghost use Rattle.tabled_grid.specs.declared.config.entity.Entity.{Entity};
+    ghost use Rattle.tabled_select.specs.Algebra.{cells_of};
     ghost use Rattle.tabled_select.specs.Marks.{passes};
     ghost use Rattle.tabled_select.specs.Sets.{marks_of};
 
-    ghost Value = { List Position };
+    ghost Value = { List Entity };
 
-    ghost view = { λ a. filter (passes a.keeps_members (marks_of a.set)) a.places };
+    ghost view = { λ a. cells_of (filter (passes a.keeps_members (marks_of a.set)) a.places) };
 }
 
-impl Sieve {
-    /// The places in a table of `rows x columns` that entities name and others name too, or else don't.
+impl<L> SieveIter<L> {
+    /// The cells in a table of `rows x columns` that entities name and others name too, or else don't.
     ///
     /// Refused where memory runs out.
     pub(super) fn new(
@@ -44,31 +47,33 @@ impl Sieve {
         columns: usize,
         keeps_members: bool,
     ) -> Result<Self, AllocError>
-        ensures { IfOk result (λ left. left ≡ sifted keeps_members (flat entities.items rows columns) (flat others.items rows columns)) }
+        ensures { IfOk result (λ left. left ≡ cells_of (sifted keeps_members (flat entities.items rows columns) (flat others.items rows columns))) }
     {
         let named = count_named(&entities, rows, columns).saturating_add(count_named(
             &others, rows, columns,
         ));
         let set = PlaceSet::of(alloc, others, rows, columns, named)?;
-        Ok(Sieve {
+        Ok(SieveIter {
             places: Places::new(entities, rows, columns),
             set,
             keeps_members,
+            listed: PhantomData,
         })
     }
 }
 
-impl Iterator for Sieve {
-    type Item = Position;
+impl<L> Iterator for SieveIter<L> {
+    type Item = Entity;
 
     ghost next_gives = { YieldsFirst (λ s. s) };
 
     ghost remaining = { item_count (λ s. s) };
 
-    fn next(&mut self) -> Option<Position> {
+    #[inline]
+    fn next(&mut self) -> Option<Entity> {
         while let Some(pos) = self.places.next() {
             if self.set.contains(pos) == self.keeps_members {
-                return Some(pos);
+                return Some(Entity::from(pos));
             }
         }
         None

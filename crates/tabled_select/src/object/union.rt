@@ -134,6 +134,7 @@ impl Iterator for UnionIter {
 
     ghost remaining = { item_count (λ s. s) };
 
+    #[inline]
     fn next(&mut self) -> Option<Entity> {
         while let Some(pos) = self.places.next() {
             if !self.seen.contains(pos) {
