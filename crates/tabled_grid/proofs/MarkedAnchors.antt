@@ -12,7 +12,8 @@ use borrow.Author.Tests.{lt-ltb}
 use Rattle.tabled_grid.specs.Spans.{AreAnchors, IsSpanSize, position_cmp}
 use Rattle.tabled_grid.specs.declared.config.position.Position.{Position}
 use Rattle.tabled_grid.specs.Anchors.{Anchor, dropped, is_hidden_in, marked, unless_held}
-use Rattle.tabled_grid.specs.Rectangles.{in_rect, same_place}
+use Rattle.tabled_grid.specs.Rectangles.{in_rect}
+use Rattle.tabled_grid.specs.Entity.{same_place}
 use Rattle.tabled_grid.proofs.Geometry.{In}
 use Rattle.tabled_grid.proofs.SpanMaps.{halves, in_rect-true, less, same_place-apart, same_place-self}
 use Rattle.tabled_grid.proofs.PassedAnchors.{Earlier, earlier}

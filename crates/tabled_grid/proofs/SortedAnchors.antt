@@ -7,7 +7,8 @@ use Rattle.std.specs.List.{list_any}
 use Rattle.std.specs.Option.{unwrap_or}
 use Rattle.std.proofs.lemmas.List.Elements.{All-filter, All-from_recursion, recursion_from_All}
 use Rattle.tabled_grid.specs.Anchors.{Anchor, dropped, is_hidden_in}
-use Rattle.tabled_grid.specs.Rectangles.{drop_hidden, in_rect, is_hidden, same_place}
+use Rattle.tabled_grid.specs.Rectangles.{drop_hidden, in_rect, is_hidden}
+use Rattle.tabled_grid.specs.Entity.{same_place}
 use Rattle.tabled_grid.specs.Spans.{AreAnchors, IsSpanSize, SpanMap, position_cmp, size_at}
 use Rattle.tabled_grid.specs.declared.config.position.Position.{Position}
 use Rattle.tabled_grid.proofs.SpanMaps.{get-drop_hidden}

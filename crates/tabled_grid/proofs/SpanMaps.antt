@@ -18,7 +18,8 @@ use Rattle.tabled_grid.specs.Spans.{AreSpanSizes, IsSpanSize, SpanMap, position_
 use Rattle.tabled_grid.specs.Entity.{place}
 use Rattle.tabled_grid.specs.declared.config.position.Position.{Position}
 use Rattle.tabled_grid.proofs.Spans.{positions_exact, positions_total}
-use Rattle.tabled_grid.specs.Rectangles.{drop_hidden, in_rect, is_hidden, is_visible, same_place}
+use Rattle.tabled_grid.specs.Rectangles.{drop_hidden, in_rect, is_hidden, is_visible}
+use Rattle.tabled_grid.specs.Entity.{same_place}
 use Rattle.tabled_grid.proofs.Geometry.{Flat, Full, In, Sizes, Visible, Widened, cases_place, flip, flipped}
 
 pub halves : (a b : Bool) → T (a && b) → T a × T b

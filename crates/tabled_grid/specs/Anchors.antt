@@ -2,7 +2,8 @@
 use Rattle.std.specs.Prelude.{◌+◌, ◌&&◌, ◌||◌, ◌==◌, ℕ, Bool, true, if◌then◌else◌, List, [], ◌∷◌, map, nat_le, nat_lt, not}
 use Rattle.std.specs.List.{filter, list_all, list_any}
 use Rattle.tabled_grid.specs.declared.config.position.Position.{Position}
-use Rattle.tabled_grid.specs.Rectangles.{in_rect, same_place}
+use Rattle.tabled_grid.specs.Rectangles.{in_rect}
+use Rattle.tabled_grid.specs.Entity.{same_place}
 
 -- a place, and the height and the width of the rectangle that is anchored there
 abbrev pub Anchor : Type 0

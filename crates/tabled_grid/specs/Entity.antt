@@ -9,6 +9,10 @@ use Rattle.tabled_grid.specs.declared.config.entity.Entity.TheVariants.{Global, 
 abbrev pub place : ℕ → ℕ → Position
 place i j = record { row = i; col = j }
 
+-- two places are in the same row and the same column
+abbrev pub same_place : Position → Position → Bool
+same_place p q = (p.row == q.row) && (p.col == q.col)
+
 -- the places of row i in the columns c to d, without d
 abbrev pub row_places : ℕ → ℕ → ℕ → List Position
 row_places c d i = map (place i) (range_with_len c (d - c))

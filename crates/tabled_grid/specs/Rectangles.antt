@@ -2,16 +2,13 @@
 use Rattle.std.specs.Prelude.{◌≡◌, ◌+◌, ◌≤◌, ◌&&◌, ◌==◌, if◌then◌else◌, ℕ, Bool, IsTrue, List, None, Some, filter_map, nat_le, nat_lt, not}
 use Rattle.std.specs.FinMap as map
 use Rattle.std.specs.List.{list_any}
+use Rattle.tabled_grid.specs.Entity.{same_place}
 use Rattle.tabled_grid.specs.Spans.{AreSpanSizes, SpanMap}
 use Rattle.tabled_grid.specs.declared.config.position.Position.{Position}
 
 -- a place is in the rectangle of a size at a place
 abbrev pub in_rect : Position → ℕ × ℕ → Position → Bool
 in_rect a size p = (nat_le a.row p.row && nat_lt p.row (a.row + size.0)) && (nat_le a.col p.col && nat_lt p.col (a.col + size.1))
-
--- two places are one
-abbrev pub same_place : Position → Position → Bool
-same_place a b = (a.row == b.row) && (a.col == b.col)
 
 -- another anchor's rectangle holds the place
 abbrev pub is_hidden : SpanMap → Position → Bool

@@ -8,7 +8,8 @@ use Rattle.tabled_grid.specs.declared.config.position.Position.{Position}
 use Rattle.tabled_grid.specs.declared.config.entity.Entity.{Entity}
 use Rattle.tabled_grid.specs.declared.config.entity.Entity.TheVariants.{Cell, Global}
 use Rattle.tabled_grid.proofs.Places.{inside-Cell, inside-Global, inside-within}
-use Rattle.tabled_select.specs.Algebra.{cells_of, difference_of, flat, intersection_of, inversion_of, is_among, same_place}
+use Rattle.tabled_select.specs.Algebra.{cells_of, difference_of, flat, intersection_of, inversion_of, is_among}
+use Rattle.tabled_grid.specs.Entity.{same_place}
 use Rattle.tabled_select.proofs.MarkedPlaces.{is-same, same_place-turned}
 use Rattle.tabled_select.proofs.NamedPlaces.{IsWithin, flat-within}
 use Rattle.tabled_select.proofs.Sifted.{all-filter, filter-agree_within, list_any-filter}

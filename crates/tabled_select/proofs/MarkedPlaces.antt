@@ -10,7 +10,8 @@ use Rattle.std.proofs.lemmas.Nat.{mul-add-lt, same_from_place}
 use Rattle.tabled_grid.specs.Entity.{place}
 use Rattle.tabled_grid.specs.declared.config.position.Position.{Position}
 use Rattle.tabled_grid.specs.declared.config.entity.Entity.{Entity}
-use Rattle.tabled_select.specs.Algebra.{difference_of, flat, intersection_of, is_among, same_place, sifted}
+use Rattle.tabled_select.specs.Algebra.{difference_of, flat, intersection_of, is_among, sifted}
+use Rattle.tabled_grid.specs.Entity.{same_place}
 use Rattle.tabled_select.specs.Marks.{HasRoom, Marks, MarksAll, SetsMark, has, mark_at, mark_index, passes}
 use Rattle.tabled_select.proofs.NamedPlaces.{IsWithin, flat-within}
 

@@ -6,7 +6,8 @@ use Rattle.std.proofs.lemmas.List.Elements.{filter_agree}
 use Rattle.tabled_grid.specs.declared.config.position.Position.{Position}
 use Rattle.tabled_grid.specs.declared.config.entity.Entity.{Entity}
 use Rattle.tabled_grid.specs.declared.config.entity.Entity.TheVariants.{Cell}
-use Rattle.tabled_select.specs.Algebra.{cells_of, firsts, same_place}
+use Rattle.tabled_select.specs.Algebra.{cells_of, firsts}
+use Rattle.tabled_grid.specs.Entity.{same_place}
 use Rattle.tabled_select.specs.Marks.{Marks, MarksAll, SetsMark, has, passes}
 use Rattle.tabled_select.proofs.MarkedPlaces.{has-marked, marked-already, none-marked, same_place-turned}
 use Rattle.tabled_select.proofs.Sifted.{filter_all, filter-filter}

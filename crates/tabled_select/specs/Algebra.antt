@@ -1,7 +1,7 @@
 -- Selections as lists of places, and their combinations.
 use Rattle.std.specs.Prelude.{ℕ, Bool, false, true, ◌==◌, ◌&&◌, List, [], ◌∷◌, ◌++◌, map, not}
 use Rattle.std.specs.List.{filter, flat_map, list_any}
-use Rattle.tabled_grid.specs.Entity.{inside}
+use Rattle.tabled_grid.specs.Entity.{inside, same_place}
 use Rattle.tabled_grid.specs.declared.config.position.Position.{Position}
 use Rattle.tabled_grid.specs.declared.config.entity.Entity.{Entity}
 use Rattle.tabled_grid.specs.declared.config.entity.Entity.TheVariants.{Cell, Global}
@@ -13,10 +13,6 @@ flat entities rows columns = flat_map (λ e. inside e rows columns) entities
 -- the entities that name one place each
 abbrev pub cells_of : List Position → List Entity
 cells_of = map (λ (p : Position). Cell p.row p.col)
-
--- two places are in the same row and the same column
-abbrev pub same_place : Position → Position → Bool
-same_place p q = (p.row == q.row) && (p.col == q.col)
 
 -- a place is one of these
 abbrev pub is_among : List Position → Position → Bool

@@ -3,7 +3,8 @@ use Rattle.std.specs.Prelude.{◌≡◌, ℕ, ◌+◌, ◌*◌, Bool, true, fals
 use Rattle.std.specs.List.{AllByRecursion}
 use Rattle.std.specs.Option.{IsSome, unwrap_or}
 use Rattle.tabled_grid.specs.declared.config.position.Position.{Position}
-use Rattle.tabled_select.specs.Algebra.{is_among, same_place}
+use Rattle.tabled_select.specs.Algebra.{is_among}
+use Rattle.tabled_grid.specs.Entity.{same_place}
 
 -- of each place the mark, yes or no, where there is room for one
 abbrev pub Marks : Type 0

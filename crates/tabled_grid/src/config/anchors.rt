@@ -4,7 +4,8 @@ ghost use Rattle.std.specs.Prelude.{◌≡◌, ◌+◌, ◌≤◌, ◌∷◌, �
 ghost use Rattle.std.specs.FinMap.{is_sorted};
 ghost use Rattle.std.specs.List.{filter, list_all, list_any};
 ghost use Rattle.tabled_grid.specs.Anchors.{dropped, is_hidden_in, is_past, lie_well, lies_inside, marked, meets, unless_held};
-ghost use Rattle.tabled_grid.specs.Rectangles.{heights_in, in_rect, reaches_across, reaches_down, same_place, widths_in};
+ghost use Rattle.tabled_grid.specs.Rectangles.{heights_in, in_rect, reaches_across, reaches_down, widths_in};
+ghost use Rattle.tabled_grid.specs.Entity.{same_place};
 ghost use Rattle.tabled_grid.specs.Spans.{AreAnchors, position_cmp};
 ghost use Rattle.tabled_grid.specs.declared.config.position.Position.{Position};
 
