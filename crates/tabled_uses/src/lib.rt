@@ -8,4 +8,6 @@ mod places;
 pub mod select;
 #[cfg(test)]
 mod select_tests;
+#[cfg(test)]
+mod spans;
 pub mod stores;

@@ -3,7 +3,7 @@
 use std::hash::{DefaultHasher, Hash, Hasher};
 use std::ops::Bound;
 use std::test::Fail;
-use tabled_grid::config::{Entity, Offset, Position, SpannedConfig, ToBounds};
+use tabled_grid::config::{Entity, Offset, Position, ToBounds};
 
 fn hash_of<T: Hash>(value: &T) -> u64 {
     let mut hasher = DefaultHasher::default();
@@ -123,30 +123,6 @@ fn compares_places_and_entities(rt: HostRuntime) {
         hash_of(&Entity::from((3, 4))),
         hash_of(&Entity::Cell(3, 4))
     );
-}
-
-#[test]
-fn keeps_spans(rt: HostRuntime) -> Result<(), Fail> {
-    let alloc = rt.alloc();
-    let mut spans = SpannedConfig::new(alloc);
-    let corner = Position::new(0, 0);
-    let end = Position::new(usize::MAX, usize::MAX);
-    assert_eq!(rt; spans.get_column_span(corner), None);
-    spans.set_column_span(alloc, corner, 0)?;
-    assert_eq!(rt; spans.get_column_span(corner), None);
-    spans.set_column_span(alloc, corner, 3)?;
-    spans.set_row_span(alloc, corner, 2)?;
-    spans.set_column_span(alloc, end, usize::MAX)?;
-    spans.set_row_span(alloc, Position::new(0, 1), 4)?;
-    assert_eq!(rt; spans.get_column_span(corner), Some(3));
-    assert_eq!(rt; spans.get_row_span(corner), Some(2));
-    assert_eq!(rt; spans.get_column_span(end), Some(usize::MAX));
-    assert_eq!(rt; spans.get_row_span(end), None);
-    assert_eq!(rt; spans.get_row_span(Position::new(0, 1)), Some(4));
-    spans.set_column_span(alloc, corner, 1)?;
-    assert_eq!(rt; spans.get_column_span(corner), None);
-    assert_eq!(rt; spans.get_row_span(corner), Some(2));
-    Ok(())
 }
 
 /// The first index of a range and the one past its last, of 5 where it has no end.

@@ -1,0 +1,127 @@
+//! Merged cells: sizes set and read, what is hidden, and whether rectangles fit.
+
+use std::alloc::{AllocError, Global};
+use std::test::Fail;
+use tabled_grid::config::{Position, SpannedConfig};
+
+/// An anchor: its row and column, and the height and the width of its rectangle.
+type Anchor = (usize, usize, usize, usize);
+
+fn merged(alloc: Global, anchors: &[Anchor]) -> Result<SpannedConfig, AllocError> {
+    let mut spans = SpannedConfig::new(alloc);
+    for (row, col, height, width) in anchors {
+        let pos = Position::new(*row, *col);
+        spans.set_row_span(alloc, pos, *height)?;
+        spans.set_column_span(alloc, pos, *width)?;
+    }
+    Ok(spans)
+}
+
+/// The anchors of a map, as `row col height width`, each with a semicolon behind.
+fn listed(alloc: Global, spans: &SpannedConfig) -> Result<String, AllocError> {
+    let mut listed = String::new(alloc);
+    for (pos, width) in &spans.get_column_spans(alloc)? {
+        let height = spans.get_row_span(*pos).unwrap_or(1);
+        let anchor = format!(in alloc; "{} {} {height} {width};", pos.row, pos.col)?;
+        listed.push_str(anchor.as_str())?;
+    }
+    for (pos, height) in &spans.get_row_spans(alloc)? {
+        if spans.get_column_span(*pos).is_none() {
+            let anchor = format!(in alloc; "{} {} {height} 1;", pos.row, pos.col)?;
+            listed.push_str(anchor.as_str())?;
+        }
+    }
+    Ok(listed)
+}
+
+#[test]
+fn keeps_spans(rt: HostRuntime) -> Result<(), Fail> {
+    let alloc = rt.alloc();
+    let mut spans = SpannedConfig::new(alloc);
+    let corner = Position::new(0, 0);
+    let end = Position::new(usize::MAX, usize::MAX);
+    assert_eq!(rt; spans.get_column_span(corner), None);
+    spans.set_column_span(alloc, corner, 0)?;
+    assert_eq!(rt; spans.get_column_span(corner), None);
+    spans.set_column_span(alloc, corner, 3)?;
+    spans.set_row_span(alloc, corner, 2)?;
+    spans.set_column_span(alloc, end, usize::MAX)?;
+    spans.set_row_span(alloc, Position::new(0, 1), 4)?;
+    assert_eq!(rt; spans.get_column_span(corner), Some(3));
+    assert_eq!(rt; spans.get_row_span(corner), Some(2));
+    assert_eq!(rt; spans.get_column_span(end), Some(usize::MAX));
+    assert_eq!(rt; spans.get_row_span(end), None);
+    assert_eq!(rt; spans.get_row_span(Position::new(0, 1)), Some(4));
+    spans.set_column_span(alloc, corner, 1)?;
+    assert_eq!(rt; spans.get_column_span(corner), None);
+    assert_eq!(rt; spans.get_row_span(corner), Some(2));
+    Ok(())
+}
+
+#[test]
+fn drops_all_that_are_hidden_at_once(rt: HostRuntime) -> Result<(), Fail> {
+    let alloc = rt.alloc();
+    // An anchor may be hidden by one that is hidden itself.
+    let chain: [Anchor; 3] = [(0, 0, 1, 2), (0, 1, 1, 2), (0, 2, 1, 2)];
+    let tall: [Anchor; 3] = [(0, 1, 3, 1), (1, 0, 1, 2), (2, 1, 1, 4)];
+    let apart: [Anchor; 2] = [(0, 0, 2, 2), (2, 0, 1, 2)];
+    let none: [Anchor; 0] = [];
+    for (anchors, fits_before, left, fits_after) in [
+        (chain.as_slice(), false, "0 0 1 2;", true),
+        (tall.as_slice(), false, "1 0 1 2;0 1 3 1;", false),
+        (apart.as_slice(), true, "0 0 2 2;2 0 1 2;", true),
+        (none.as_slice(), true, "", true),
+    ] {
+        let mut spans = merged(alloc, anchors)?;
+        assert_eq!(rt; spans.fits(3, 4), fits_before, "{anchors:?}");
+        let before = listed(alloc, &spans)?;
+        let copy = spans.copy(alloc)?;
+        spans.drop_hidden();
+        assert_eq!(rt; listed(alloc, &spans)?.as_str(), left, "{anchors:?}");
+        assert_eq!(rt; spans.fits(3, 4), fits_after, "{anchors:?}");
+        assert_eq!(rt; listed(alloc, &copy)?.as_str(), before.as_str());
+    }
+    Ok(())
+}
+
+#[test]
+fn fits_to_the_last_row_and_column(rt: HostRuntime) -> Result<(), Fail> {
+    let alloc = rt.alloc();
+    let far: [Anchor; 1] = [(usize::MAX, usize::MAX, 2, 2)];
+    let last: [Anchor; 1] = [(2, 1, 1, 3)];
+    let corner: [Anchor; 1] = [(0, 0, 1, 2)];
+    for (anchors, rows, columns, want) in [
+        (last.as_slice(), 3, 4, true),
+        (last.as_slice(), 2, 4, false),
+        (last.as_slice(), 3, 3, false),
+        (corner.as_slice(), 1, 1, false),
+        (corner.as_slice(), 0, 0, false),
+        (far.as_slice(), usize::MAX, usize::MAX, false),
+    ] {
+        let spans = merged(alloc, anchors)?;
+        assert_eq!(rt; spans.fits(rows, columns), want, "{anchors:?} in {rows} x {columns}");
+    }
+    Ok(())
+}
+
+#[test]
+fn tells_which_cells_are_covered(rt: HostRuntime) -> Result<(), Fail> {
+    let alloc = rt.alloc();
+    let anchors: [Anchor; 1] = [(1, 1, 2, 3)];
+    let spans = merged(alloc, anchors.as_slice())?;
+    for (row, col, visible, across, down) in [
+        (1, 1, true, false, false),
+        (1, 3, false, true, false),
+        (2, 1, false, false, true),
+        (2, 2, false, false, false),
+        (1, 4, true, false, false),
+        (3, 1, true, false, false),
+        (0, 1, true, false, false),
+    ] {
+        let pos = Position::new(row, col);
+        assert_eq!(rt; spans.is_cell_visible(pos), visible, "{pos:?}");
+        assert_eq!(rt; spans.is_cell_covered_by_column_span(pos), across, "{pos:?}");
+        assert_eq!(rt; spans.is_cell_covered_by_row_span(pos), down, "{pos:?}");
+    }
+    Ok(())
+}
