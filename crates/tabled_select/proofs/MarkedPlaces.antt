@@ -1,6 +1,6 @@
 -- What one more mark changes.
 use Rattle.std.proofs.Common.{rules, ◌≡◌, ℕ, ◌+◌, ◌*◌, ◌<◌, Bool, true, false, List, [], ◌∷◌, refl, sym, ap, ap₂, ◌∙◌, inl, inr, length, mul_comm, get_or, set, arith}
-use Rattle.std.specs.Prelude.{◌==◌, ◌&&◌, ◌||◌, if◌then◌else◌, ltb, not, replicate, Option, Some, None}
+use Rattle.std.specs.Prelude.{◌==◌, ◌&&◌, ◌||◌, if◌then◌else◌, not, replicate, Option, Some, None}
 use Rattle.std.specs.List.{AllByRecursion, filter}
 use Rattle.std.specs.Option.{IsSome, unwrap_or}
 use Rattle.std.proofs.lemmas.Bool.{and_parts, eqb-true, lt-ltb, le-ltb, eq-eqb, ne_eqb, cases_eq, cases_lt}
@@ -10,8 +10,8 @@ use Rattle.std.proofs.lemmas.Nat.{mul-add-lt, same_from_place}
 use Rattle.tabled_grid.specs.Entity.{place}
 use Rattle.tabled_grid.specs.declared.config.position.Position.{Position}
 use Rattle.tabled_grid.specs.declared.config.entity.Entity.{Entity}
-use Rattle.tabled_select.specs.Algebra.{difference_of, flat, intersection_of, is_among, sifted}
 use Rattle.tabled_grid.specs.Entity.{same_place}
+use Rattle.tabled_select.specs.Algebra.{flat, is_among, sifted}
 use Rattle.tabled_select.specs.Marks.{HasRoom, Marks, MarksAll, SetsMark, has, mark_at, mark_index, passes}
 use Rattle.tabled_select.proofs.NamedPlaces.{IsWithin, flat-within}
 

@@ -99,7 +99,11 @@ fn fits_to_the_last_row_and_column(rt: HostRuntime) -> Result<(), Fail> {
         (far.as_slice(), usize::MAX, usize::MAX, false),
     ] {
         let spans = merged(alloc, anchors)?;
-        assert_eq!(rt; spans.fits(rows, columns), want, "{anchors:?} in {rows} x {columns}");
+        assert_eq!(rt;
+            spans.fits(rows, columns),
+            want,
+            "{anchors:?} in {rows} x {columns}"
+        );
     }
     Ok(())
 }
@@ -120,7 +124,11 @@ fn tells_which_cells_are_covered(rt: HostRuntime) -> Result<(), Fail> {
     ] {
         let pos = Position::new(row, col);
         assert_eq!(rt; spans.is_cell_visible(pos), visible, "{pos:?}");
-        assert_eq!(rt; spans.is_cell_covered_by_column_span(pos), across, "{pos:?}");
+        assert_eq!(rt;
+            spans.is_cell_covered_by_column_span(pos),
+            across,
+            "{pos:?}"
+        );
         assert_eq!(rt; spans.is_cell_covered_by_row_span(pos), down, "{pos:?}");
     }
     Ok(())

@@ -1,6 +1,5 @@
 use Rattle.std.proofs.Common.{rules, ap, length}
 use Rattle.tabled_select.specs.Sets.{marks_of}
-use Rattle.tabled_select.proofs.MarkedPlaces.{room-kept}
 use Rattle.tabled_select.proofs.Uniting.{fresh-new, fresh-old}
 use Rattle.tabled_select.proofs.object.union.UnionIterIterator.next.Goals as goal
 
