@@ -1,0 +1,11 @@
+//! Sources of rows, and what limits and skips their rows and columns.
+
+mod into_records;
+mod iter_rows;
+mod limit_rows;
+mod skip_rows;
+
+pub use into_records::IntoRecords;
+pub use iter_rows::IterRows;
+pub use limit_rows::{LimitRows, LimitRowsIter};
+pub use skip_rows::{SkipRows, SkipRowsIter};
