@@ -1,7 +1,7 @@
 -- What iterators made of iterators give.
 use Rattle.std.proofs.Common.{rules, ◌≡◌, ℕ, zero, suc, ◌+◌, ◌-◌, ◌<◌, ◌≤◌, List, [], ◌∷◌, ◌++◌, Option, None, Some, refl, sym, ap, ap₂, subst, ◌∙◌, map, length, take, drop, arith}
 use Rattle.std.proofs.lemmas.List.{drop_all, length-drop, nil_from_length}
-use Rattle.std.specs.Iterator.{Yields}
+use Rattle.std.specs.Iterator.{Count, Yields, at_most, count_min}
 use Rattle.std.specs.Iterator.Adapters.{skip_count, skip_source, skip_steps, take_count, take_source, take_steps}
 use Rattle.std.specs.declared.iter.Skip.{Skip}
 use Rattle.std.specs.declared.iter.Take.{Take}
@@ -9,7 +9,9 @@ use Rattle.std.specs.declared.vec.IntoIter.{IntoIter}
 use Rattle.std.specs.declared.vec.Vec.{Vec}
 use Rattle.std.specs.Vec.{vec_len}
 use Rattle.std.specs.Vec.Iter.{into_iter_items, into_iter_len, into_iter_steps}
-use Rattle.tabled_rows.specs.Listed.{GivesEach}
+use Rattle.std.specs.Option.{option_map}
+use Rattle.tabled_rows.specs.Listed.{GivesEach, GoesOver}
+use Rattle.tabled_rows.specs.Steps.{GivesLimited}
 
 abbrev head : {B : Type 0} → B → List B → B
 head d [] = d
@@ -100,6 +102,38 @@ gives-inside inside next_gives stands_for (y ∷ all) w g = (
   (λ t p. g.0 (inside t) p),
   λ x t p. let next = g.1 x (inside t) p in (next.0, gives-inside inside next_gives stands_for all t next.1),
 )
+
+-- an iterator that limits each row gives the limited rows
+module _ {S U T V W A B : Type 0} (next_gives : S → Option U → S → Type 0) (becomes : U → T → Type 0) (can : T → Type 0) (cell_gives : T → Option A → T → Type 0) (remaining : T → Count) (shows : A → B → Type 0) (cells_of : V → Take T) (rows_of : W → S) (limit_of : W → ℕ) where
+  -- what a row gives, and what it gives limited
+  abbrev gives-row : U → List B → Type 0
+  gives-row row cells = GoesOver becomes can cell_gives remaining shows row cells
+
+  abbrev gives-limited_row : V → List B → Type 0
+  gives-limited_row row cells = GoesOver (λ s r. r ≡ s) (λ s. can (take_source (cells_of s))) (λ s r t. take_steps cell_gives (cells_of s) r (cells_of t)) (λ s. count_min (at_most (take_count (cells_of s))) (remaining (take_source (cells_of s)))) shows row cells
+
+  limited_row : (n : ℕ) (row : U) (limited : V) (xs : List B) → gives-row row xs → becomes row (take_source (cells_of limited)) → take_count (cells_of limited) ≡ n → gives-limited_row limited (take n xs)
+  limited_row n row limited xs over source long it same =
+      let all = over _ source in
+      rw same (record {
+        can = all.can;
+        ends = tt;
+        gives = rw (← long) (gives-inside cells_of (take_steps cell_gives) shows _ limited (gives-take cell_gives shows xs (cells_of limited) all.gives));
+      })
+
+  pub gives-limited : (n : ℕ) (all : List (List B)) (w : W) → GivesEach next_gives gives-row (rows_of w) all → limit_of w ≡ n → GivesEach (λ s r t. GivesLimited next_gives becomes (limit_of s) (rows_of s) (option_map cells_of r) (rows_of t) × (limit_of t ≡ limit_of s)) gives-limited_row w (map (take n) all)
+  gives-limited n all w g is = gives-by_state (λ s r t. GivesLimited next_gives becomes (limit_of s) (rows_of s) (option_map cells_of r) (rows_of t) × (limit_of t ≡ limit_of s)) gives-limited_row (λ u zs. (rest : List (List B)) × GivesEach next_gives gives-row (rows_of u) rest × (limit_of u ≡ n) × (zs ≡ map (take n) rest))
+      (λ u t zs j p. j.3 ∙ ap (map (take n)) (gives-ended next_gives gives-row j.0 _ _ j.1 p.0))
+      (λ u t x zs j p.
+      let next = gives-went next_gives gives-row j.0 _ _ p.0.0 j.1 p.0.1 in
+      record {
+        first = take n next.first;
+        others = map (take n) next.others;
+        are = j.3 ∙ ap (map (take n)) next.are;
+        stands = limited_row n p.0.0 x next.first next.stands p.0.2 (p.0.3 ∙ j.2);
+        leaves = (next.others, next.leaves, p.1 ∙ j.2, refl);
+      })
+      _ w (all, g, is, refl)
 
 -- a vector's iterator gives what f says of its items
 pub gives-vec : {A B Z : Type 0} (f : A → B) (stands_for : A → B → Type 0) → ((x : A) → stands_for x (f x)) → (v : Vec A Z) (s : IntoIter A Z) → into_iter_items s ≡ v.items → into_iter_len s ≡ vec_len v → GivesEach (into_iter_steps {X = A} {Z = Z}) stands_for s (map f v.items)

@@ -2,10 +2,12 @@
 
 mod into_records;
 mod iter_rows;
+mod limit_columns;
 mod limit_rows;
 mod skip_rows;
 
 pub use into_records::IntoRecords;
 pub use iter_rows::IterRows;
+pub use limit_columns::{LimitColumns, LimitColumnsColumnsIter, LimitColumnsIter};
 pub use limit_rows::{LimitRows, LimitRowsIter};
 pub use skip_rows::{SkipRows, SkipRowsIter};
