@@ -1,8 +1,14 @@
 -- What iterators made of iterators give.
-use Rattle.std.proofs.Common.{rules, ◌≡◌, ℕ, zero, suc, ◌+◌, ◌-◌, ◌<◌, ◌≤◌, List, [], ◌∷◌, ◌++◌, Option, None, Some, refl, sym, ap, ap₂, subst, ◌∙◌, map, length, take, drop, arith}
-use Rattle.std.proofs.lemmas.List.{drop_all, length-drop, nil_from_length}
+use denote.Ref.{Bor}
+use Rattle.std.specs.List.{slice_get}
+use Rattle.std.specs.Prelude.{replicate}
+use Rattle.std.specs.Slice.Iter.{iter_rest, iter_steps}
+use Rattle.std.specs.declared.iter.RepeatN.{RepeatN}
+use Rattle.std.proofs.lemmas.Option.{get_or_from_slice_get, slice_get_within}
+use Rattle.std.proofs.Common.{rules, Iter, ◌≡◌, ℕ, zero, suc, ◌+◌, ◌-◌, ◌<◌, ◌≤◌, List, [], ◌∷◌, ◌++◌, Option, None, Some, refl, sym, ap, ap₂, subst, ◌∙◌, map, length, take, drop, arith}
+use Rattle.std.proofs.lemmas.List.{drop_all, drop_more, length-drop, nil_from_length}
 use Rattle.std.specs.Iterator.{Count, Yields, at_most, count_min}
-use Rattle.std.specs.Iterator.Adapters.{skip_count, skip_source, skip_steps, take_count, take_source, take_steps}
+use Rattle.std.specs.Iterator.Adapters.{repeat_n_count, repeat_n_item, repeat_n_steps, skip_count, skip_source, skip_steps, take_count, take_source, take_steps}
 use Rattle.std.specs.declared.iter.Skip.{Skip}
 use Rattle.std.specs.declared.iter.Take.{Take}
 use Rattle.std.specs.declared.vec.IntoIter.{IntoIter}
@@ -11,6 +17,7 @@ use Rattle.std.specs.Vec.{vec_len}
 use Rattle.std.specs.Vec.Iter.{into_iter_items, into_iter_len, into_iter_steps}
 use Rattle.std.specs.Option.{option_map}
 use Rattle.tabled_rows.specs.Listed.{GivesEach, GoesOver}
+use Rattle.tabled_rows.specs.Rows.{Shows}
 use Rattle.tabled_rows.specs.Steps.{GivesLimited}
 
 abbrev head : {B : Type 0} → B → List B → B
@@ -147,3 +154,57 @@ gives-vec {A} {B} {Z} f stands_for is v s items long = gives-by_state (into_iter
       leaves = (omega (arith, j.0, p.1, ap length p.0), refl);
     })
     _ s (omega (arith, ap length items, long, v.ok.0), ap (map f) (sym items))
+
+-- an iterator whose state shows what is left
+pub gives-shown : {S A B : Type 0} (next_gives : S → Option A → S → Type 0) (stands_for : A → B → Type 0) (rest : S → List B) (view : A → B) → ((x : A) → stands_for x (view x)) → ((s t : S) → next_gives s None t → length (rest s) ≡ 0) → ((s t : S) (x : A) → next_gives s (Some x) t → rest s ≡ view x ∷ rest t) → (s : S) → GivesEach next_gives stands_for s (rest s)
+gives-shown next_gives stands_for rest view is stop go s = gives-by_state next_gives stands_for (λ u ys. ys ≡ rest u)
+    (λ u t ys j p. j ∙ nil_from_length (rest u) (stop u t p))
+    (λ u t x ys j p. record {
+      first = view x;
+      others = rest t;
+      are = j ∙ go u t x p;
+      stands = is x;
+      leaves = refl;
+    })
+    _ s refl
+
+-- a slice's iterator gives references to its items
+pub gives-slice : {A : Type 0} (stands_for : Bor A → A → Type 0) → ((x : Bor A) → stands_for x x.now) → (s : Iter A) → GivesEach iter_steps stands_for s (iter_rest s)
+gives-slice {A} stands_for is s = gives-shown (iter_steps {A = A}) stands_for iter_rest (λ x. x.now) is (λ u t p. p.0) (λ u t x p. p) s
+
+-- `repeat_n` gives clones of its item
+pub gives-repeat : {A B : Type 0} (clones : A → A → Type 0) (stands_for : A → B → Type 0) (x : B) (s : RepeatN A) → ((y : A) → clones (repeat_n_item s) y → stands_for y x) → GivesEach (repeat_n_steps clones) stands_for s (replicate (repeat_n_count s) x)
+gives-repeat {A} {B} clones stands_for x s is = gives-by_state (repeat_n_steps clones) stands_for (λ u ys. (repeat_n_item u ≡ repeat_n_item s) × (ys ≡ replicate (repeat_n_count u) x))
+    (λ u t ys j p. j.1 ∙ ap (λ n. replicate n x) p.1.0)
+    (λ u t y ys j p.
+    let more : repeat_n_count u ≡ suc (repeat_n_count t) = omega (arith, p.1.1) in
+    record {
+      first = x;
+      others = replicate (repeat_n_count t) x;
+      are = j.1 ∙ ap (λ n. replicate n x) more;
+      stands = is y (subst (λ item. clones item y) j.0 p.1.0);
+      leaves = (p.0 ∙ j.0, refl);
+    })
+    _ s (refl, refl)
+
+-- `repeat_n` of `repeat_n` gives rows of one item
+module _ {A B : Type 0} (shown : A → B) where
+  abbrev row-clones : RepeatN A → RepeatN A → Type 0
+  row-clones x y = (repeat_n_item y ≡ repeat_n_item x) × (repeat_n_count y ≡ repeat_n_count x)
+
+  abbrev gives-cells : RepeatN A → List B → Type 0
+  gives-cells row cells = GoesOver (λ u r. r ≡ u) (λ _. Unit {0}) (repeat_n_steps (λ x y. y ≡ x)) (λ u. at_most (repeat_n_count u)) (Shows shown) row cells
+
+  filled_row : (row it : RepeatN A) → it ≡ row → (n : ℕ) (x : B) → repeat_n_count row ≡ n → shown (repeat_n_item row) ≡ x → GivesEach (repeat_n_steps (λ u v. v ≡ u)) (Shows shown) it (replicate n x)
+  filled_row row it same n x many is = rw (same, ← many) (gives-repeat (λ u v. v ≡ u) (Shows shown) x row (λ y like. ap shown like ∙ is))
+
+  pub gives-filled : (s : RepeatN (RepeatN A)) (rows columns : ℕ) (x : B) → repeat_n_count s ≡ rows → repeat_n_count (repeat_n_item s) ≡ columns → shown (repeat_n_item (repeat_n_item s)) ≡ x → GivesEach (repeat_n_steps row-clones) gives-cells s (replicate rows (replicate columns x))
+  gives-filled s rows columns x tall wide is = rw (← tall) (gives-repeat row-clones gives-cells (replicate columns x) s (λ row like it same. record {
+    can = tt;
+    ends = tt;
+    gives = filled_row row it same columns x (like.1 ∙ wide) (ap shown like.0 ∙ is);
+  }))
+
+-- the item at a place, and those past it
+pub drop-get : {A : Type 0} (xs : List A) (i : ℕ) (x : A) → slice_get xs i ≡ Some x → drop i xs ≡ x ∷ drop (i + 1) xs
+drop-get xs i x e = drop_more xs i x (slice_get_within xs i x e) ∙ ap (λ y. y ∷ drop (i + 1) xs) (get_or_from_slice_get xs i x x e)
