@@ -35,3 +35,7 @@ empty_text = record { ref_ptr = (0, 0); now = [] }
 -- the grid of empty texts, also where it has columns and no rows
 abbrev pub empty_grid : Shape → Grid (Bor (List ℕ))
 empty_grid s = record { rows = s.rows; columns = s.columns; cells = filled s empty_text }
+
+-- what a contract sees of rows of cells
+abbrev pub all_shown : {A B : Type 0} → (A → B) → List (List A) → List (List B)
+all_shown shown rows = map (map shown) rows

@@ -1,5 +1,6 @@
 //! Sources of rows, and what limits and skips their rows and columns.
 
+mod buf_records;
 mod either_string;
 mod empty_records;
 mod into_records;
@@ -9,6 +10,7 @@ mod limit_rows;
 mod skip_rows;
 mod vec_rows;
 
+pub use buf_records::{BufIterator, BufRecords, BufRecordsIter};
 pub use either_string::EitherString;
 pub use empty_records::EmptyRecords;
 pub use into_records::IntoRecords;
