@@ -8,7 +8,7 @@ ghost use Rattle.tabled_rows.specs.Rows.{Shows, all_shown, first_rows};
 use crate::records::into_records::IntoRecords;
 use std::alloc::{AllocError, Global};
 use std::iter::Fuse;
-use std::marker::Model;
+use std::marker::{Model, PhantomData};
 use std::vec;
 
 /// A source whose first rows are read ahead into a buffer. A contract sees it as the rows in the
@@ -16,33 +16,34 @@ use std::vec;
 ///
 /// Ported from `tabled::grid::records::into_records::BufRecords`.
 #[derive(Drop)]
-pub struct BufRecords<S: IntoRecords> {
-    buffer: Vec<Vec<S::Cell>>,
-    rows: Fuse<<S::IterRows as IntoIterator>::IntoIter>,
+pub struct BufRecords<S, I, T> {
+    buffer: Vec<Vec<T>>,
+    rows: Fuse<I>,
+    source: PhantomData<S>,
 }
 
-impl<S: IntoRecords> Model for BufRecords<S> {
+impl<S, I, T> Model for BufRecords<S, I, T> {
     ghost use Rattle.std.specs.Prelude.{List};
     ghost use Rattle.tabled_grid.specs.Grid.{map_items};
     ghost use Rattle.std.specs.declared.iter.Fuse.{Fuse};
 
-    ghost Value = { List (List S.Cell) × Fuse S.IterRows.IntoIter };
+    ghost Value = { List (List T) × Fuse I };
 
     ghost view = { λ a. (map_items a.buffer.items, a.rows) };
 }
 
-impl<S: IntoRecords> BufRecords<S> {
+impl<S, I, T> BufRecords<S, I, T> {
     /// The rows in the buffer.
     ///
     /// Ported from `tabled::grid::records::into_records::BufRecords::as_slice`.
-    pub fn as_slice(&self) -> &[Vec<S::Cell>]
+    pub fn as_slice(&self) -> &[Vec<T>]
         ensures { map_items result.now ≡ self.now.0 }
     {
         self.buffer.as_slice()
     }
 }
 
-impl<S: IntoRecords> BufRecords<S>
+impl<S: IntoRecords> BufRecords<S, <S::IterRows as IntoIterator>::IntoIter, S::Cell>
 where
     S::Cell: Drop,
 {
@@ -54,7 +55,7 @@ where
     pub fn new(alloc: Global, records: S, n: usize) -> Result<Self, AllocError>
         requires { (rows : List (List S.Shown)) × S.gives records rows }
         ensures buffered { (rows : List (List S.Shown)) → S.gives records rows → IfOk result (λ ahead. all_shown S.shown ahead.0 ≡ first_rows n rows) }
-        ensures same { (rows : List (List S.Shown)) → S.gives records rows → IfOk result (λ ahead. ⟦<BufRecords<S> as IntoRecords>⟧.gives ahead rows) }
+        ensures same { (rows : List (List S.Shown)) → S.gives records rows → IfOk result (λ ahead. ⟦<BufRecords<S, <S::IterRows as IntoIterator>::IntoIter, S::Cell> as IntoRecords>⟧.gives ahead rows) }
     {
         let mut rows = records.iter_rows().into_iter().fuse();
         let mut buffer = Vec::new(alloc);
@@ -64,12 +65,16 @@ where
             };
             buffer.push(row.into_iter().collect::<Vec<_>>(alloc)?)?;
         }
-        Ok(BufRecords { buffer, rows })
+        Ok(BufRecords {
+            buffer,
+            rows,
+            source: PhantomData,
+        })
     }
 }
 
 /// The rows of the source: those in the buffer, and then the others.
-impl<S: IntoRecords> IntoRecords for BufRecords<S>
+impl<S: IntoRecords> IntoRecords for BufRecords<S, <S::IterRows as IntoIterator>::IntoIter, S::Cell>
 where
     S::Cell: Drop,
 {
@@ -86,7 +91,7 @@ where
     ghost gives = { λ s rows. (others : List (List S.Shown)) × ListsEachOnce S.IterRows.IntoIter.can_next S.IterRows.IntoIter.next_gives S.IterRows.IntoIter.remaining (GoesOver S.IterColumns.into_iter_gives S.IterColumns.IntoIter.can_next S.IterColumns.IntoIter.next_gives S.IterColumns.IntoIter.remaining (Shows S.shown)) s.1 others × (rows ≡ all_shown S.shown s.0 ++ others) };
 
     fn iter_rows(self) -> BufRecordsIter<Fuse<<S::IterRows as IntoIterator>::IntoIter>, S::Cell> {
-        let BufRecords { buffer, rows } = self;
+        let BufRecords { buffer, rows, .. } = self;
         BufRecordsIter {
             buffer: buffer.into_iter(),
             rows,

@@ -3,7 +3,7 @@ use Rattle.std.specs.Iterator.{IsFinite}
 use Rattle.std.specs.Iterator.Adapters.{fuse_done, fuse_source, fuse_steps}
 use Rattle.std.specs.Prelude.{vec_len}
 use Rattle.tabled_rows.proofs.Buffered.{IsReadAhead}
-use Rattle.tabled_rows.proofs.records.buf_records.BufRecords.new.Given as goal
+use Rattle.tabled_rows.proofs.records.buf_records.BufRecords+S+S+IterRows+IntoIterator+IntoIter+S+Cell.new.Given as goal
 
 abbrev pub invariant-loop-alloc : goal.invariant-loop-alloc
 invariant-loop-alloc g l =

@@ -2,7 +2,7 @@ use Rattle.std.proofs.Common.{refl}
 use Rattle.std.specs.Iterator.Adapters.{fuse_steps}
 use Rattle.tabled_rows.specs.declared.records.buf_records.BufRecordsIter.{BufRecordsIter}
 use Rattle.tabled_rows.proofs.Buffered.{gives-buffered}
-use Rattle.tabled_rows.proofs.records.buf_records.BufRecordsIntoRecords.iter_rows.Goals as goal
+use Rattle.tabled_rows.proofs.records.buf_records.BufRecordsIntoIterCellIntoRecords.iter_rows.Goals as goal
 
 pub returns : goal.returns
 returns g c = λ rows given iter same.

@@ -5,8 +5,8 @@ use Rattle.tabled_grid.specs.Grid.{map_items}
 use Rattle.tabled_rows.specs.Rows.{all_shown}
 use Rattle.tabled_rows.proofs.Buffered.{can-read, first-read, gives-fuse, gives-fused, gives-unread, read-row}
 use Rattle.tabled_rows.proofs.Listed.{gives-ended}
-use Rattle.tabled_rows.proofs.records.buf_records.BufRecords.new.Goals.{else-loop-alloc-test, then-loop-alloc-test+in_default}
-use Rattle.tabled_rows.proofs.records.buf_records.BufRecords.new.Goals as goal
+use Rattle.tabled_rows.proofs.records.buf_records.BufRecords+S+S+IterRows+IntoIterator+IntoIter+S+Cell.new.Goals.{else-loop-alloc-test, then-loop-alloc-test+in_default}
+use Rattle.tabled_rows.proofs.records.buf_records.BufRecords+S+S+IterRows+IntoIterator+IntoIter+S+Cell.new.Goals as goal
 
 pub loop-alloc-init : goal.loop-alloc-init
 loop-alloc-init g c =
