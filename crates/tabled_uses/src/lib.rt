@@ -5,6 +5,8 @@ pub mod builders;
 pub mod options;
 #[cfg(test)]
 mod places;
+#[cfg(test)]
+mod rows;
 pub mod select;
 #[cfg(test)]
 mod select_tests;

@@ -1,0 +1,16 @@
+use Rattle.std.proofs.Common.{refl, sym, subst, map, map-id}
+use Rattle.std.specs.Vec.Iter.{into_iter_steps}
+use Rattle.tabled_rows.specs.Listed.{GivesEach}
+use Rattle.tabled_rows.proofs.Listed.{gives-vec}
+use Rattle.tabled_rows.proofs.records.into_records.VecVecIntoRecords.iter_rows.Goals as goal
+
+pub returns : goal.returns
+returns g c = λ rows is iter became. record {
+  can = tt;
+  ends = tt;
+  gives = rw is (gives-vec (λ v. v.items) _ (λ v it from. record {
+    can = tt;
+    ends = tt;
+    gives = subst (GivesEach into_iter_steps _ it) (map-id v.items) (gives-vec (λ x. x) _ (λ x. refl) v it from.0 from.1);
+  }) c.args.self iter became.0 became.1);
+}

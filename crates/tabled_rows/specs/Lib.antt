@@ -1,0 +1,4 @@
+pub mod Listed
+pub mod Rows
+pub mod Steps
+pub mod Texts

@@ -1,0 +1,4 @@
+//! Rows of cells, one after another, and what limits and skips them.
+#![tactic(auto)]
+
+pub mod records;
