@@ -15,17 +15,19 @@ abbrev pub GivesLimited : {S U T : Type 0} → (S → Option U → S → Type 0)
 GivesLimited next_gives becomes n rows None left = next_gives rows None left
 GivesLimited {U = U} next_gives becomes n rows (Some cells) left = (row : U) × next_gives rows (Some row) left × becomes row (take_source cells) × (take_count cells ≡ n)
 
--- what is asked, given and left, of cells that are buffered and of cells that come
+-- the next cell may be asked for, of cells that are buffered or of cells that come
 abbrev pub can_come : {T I : Type 0} → (I → Type 0) → BufIterator I T → Type 0
 can_come can_next (Buffered cells) = Unit {0}
 can_come can_next (Iterator cells) = can_next cells
 
+-- what a call gives and leaves of these cells
 abbrev pub Comes : {T I : Type 0} → (I → Option T → I → Type 0) → BufIterator I T → Option T → BufIterator I T → Type 0
 Comes next_gives (Buffered cells) cell (Buffered left) = into_iter_steps cells cell left
 Comes next_gives (Buffered cells) cell (Iterator left) = ⊥
 Comes next_gives (Iterator cells) cell (Buffered left) = ⊥
 Comes next_gives (Iterator cells) cell (Iterator left) = next_gives cells cell left
 
+-- how many of these cells are left at most
 abbrev pub still_to_come : {T I : Type 0} → (I → Count) → BufIterator I T → Count
 still_to_come remaining (Buffered cells) = at_most (into_iter_len cells)
 still_to_come remaining (Iterator cells) = remaining cells
