@@ -7,8 +7,6 @@ use crate::records::into_records::IntoRecords;
 use std::marker::Model;
 
 /// A source of the rows that something goes over. A contract sees it as what goes over them.
-///
-/// Ported from `tabled::grid::records::IterRows`.
 #[derive(Clone, Copy, Drop)]
 pub struct IterRows<I> {
     rows: I,
