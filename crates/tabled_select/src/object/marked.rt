@@ -80,6 +80,10 @@ fn index_of(marks: &[bool], columns: usize, pos: Position) -> Option<usize>
     if pos.col >= columns {
         return None;
     }
-    let index = pos.row.checked_mul(columns)?.checked_add(pos.col)?;
-    (index < marks.len()).then_some(index)
+    // One product, in twice the width, where it can't overflow.
+    let index = pos.row as u128 * columns as u128 + pos.col as u128;
+    if index < marks.len() as u128 {
+        return Some(index as usize);
+    }
+    None
 }

@@ -2,6 +2,7 @@
 
 ghost use Rattle.std.specs.Prelude.{◌≡◌};
 ghost use Rattle.std.specs.Iterator.{YieldsFirst, item_count};
+ghost use Rattle.tabled_grid.specs.Entity.{inside};
 ghost use Rattle.tabled_select.specs.Algebra.{flat};
 
 use std::marker::Model;
@@ -57,9 +58,18 @@ impl Iterator for Places {
                 return Some(pos);
             }
             let entity = self.entities.next()?;
-            self.current = entity.iter(self.rows, self.columns);
+            self.current = places_of(entity, self.rows, self.columns);
         }
     }
+}
+
+/// Goes over the places of a table of `rows x columns` that an entity names.
+// A call apart keeps the walk over the places of one entity short.
+#[inline(never)]
+fn places_of(entity: Entity, rows: usize, columns: usize) -> EntityIterator
+    ensures { result ≡ inside entity rows columns }
+{
+    entity.iter(rows, columns)
 }
 
 /// How many cells of a table of `rows x columns` entities name, cut at `usize::MAX`.

@@ -69,7 +69,7 @@ impl<L> Iterator for SieveIter<L> {
 
     ghost remaining = { item_count (λ s. s) };
 
-    #[inline]
+    #[inline(always)]
     fn next(&mut self) -> Option<Entity> {
         while let Some(pos) = self.places.next() {
             if self.set.contains(pos) == self.keeps_members {

@@ -134,7 +134,7 @@ impl Iterator for UnionIter {
 
     ghost remaining = { item_count (λ s. s) };
 
-    #[inline]
+    #[inline(always)]
     fn next(&mut self) -> Option<Entity> {
         while let Some(pos) = self.places.next() {
             if !self.seen.contains(pos) {
