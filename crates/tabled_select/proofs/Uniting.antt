@@ -9,7 +9,7 @@ use Rattle.tabled_grid.specs.declared.config.entity.Entity.TheVariants.{Cell}
 use Rattle.tabled_select.specs.Algebra.{cells_of, firsts}
 use Rattle.tabled_grid.specs.Entity.{same_place}
 use Rattle.tabled_select.specs.Marks.{Marks, MarksAll, SetsMark, has, passes}
-use Rattle.tabled_select.proofs.MarkedPlaces.{has-marked, marked-already, none-marked, same_place-turned}
+use Rattle.tabled_select.proofs.MarkedPlaces.{has-marked, none-marked, same_place-turned}
 use Rattle.tabled_select.proofs.Sifted.{filter_all, filter-filter}
 
 -- the first places that aren't marked
@@ -43,11 +43,11 @@ module _ (old new : Marks) (p : Position) (sets : SetsMark old new p true) where
       ∙ ap cells_of (fresh-next ps)
       ∙ rw is_new refl
 
--- a place that is marked is passed over
-pub fresh-old : (s : Marks) (p : Position) (left ps : List Position) (all : List Entity) → left ≡ p ∷ ps → cells_of (fresh s left) ≡ all → has s p ≡ true → cells_of (fresh s ps) ≡ all
-fresh-old s p left ps all steps same is_old = sym (
-    sym same
-    ∙ ap (λ qs. cells_of (fresh s qs)) steps
-    ∙ ap cells_of (fresh-next s s p (marked-already s p is_old) ps)
-    ∙ rw is_old refl
-    )
+  -- a place that was marked is passed over
+  pub fresh-seen : (left ps : List Position) (all : List Entity) → left ≡ p ∷ ps → cells_of (fresh old left) ≡ all → has old p ≡ true → cells_of (fresh new ps) ≡ all
+  fresh-seen left ps all steps same is_old = sym (
+      sym same
+      ∙ ap (λ qs. cells_of (fresh old qs)) steps
+      ∙ ap cells_of (fresh-next ps)
+      ∙ rw is_old refl
+      )

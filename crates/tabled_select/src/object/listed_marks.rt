@@ -1,6 +1,6 @@
 //! Marks of a few places.
 
-ghost use Rattle.std.specs.Prelude.{◌≡◌, IfOk, None, OnOk, true};
+ghost use Rattle.std.specs.Prelude.{◌≡◌, not, IfOk, None, OnOk, true};
 ghost use Rattle.tabled_grid.specs.declared.config.position.Position.{Position};
 ghost use Rattle.tabled_select.specs.Algebra.{flat};
 ghost use Rattle.tabled_select.specs.Sets.{few_marks};
@@ -65,13 +65,16 @@ impl ListedMarks {
         }
     }
 
-    /// Marks a place that there is room for.
+    /// Marks a place that there is room for, and says whether it wasn't marked before.
     #[inline(never)]
-    pub(super) fn mark(&mut self, pos: Position)
+    pub(super) fn insert(&mut self, pos: Position) -> bool
         requires { HasRoom (few_marks self.old) pos }
-        ensures { SetsMark (few_marks self.old) (few_marks self.new) pos true }
+        ensures is_new { result ≡ not (has (few_marks self.old) pos) }
+        ensures set { SetsMark (few_marks self.old) (few_marks self.new) pos true }
     {
+        let is_new = !self.contains(pos);
         // A place that has a mark takes no memory, so this isn't refused.
         let _ = self.marks.insert(pos, true);
+        is_new
     }
 }

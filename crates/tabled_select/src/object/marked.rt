@@ -1,6 +1,6 @@
 //! Marks of all places of a table.
 
-ghost use Rattle.std.specs.Prelude.{◌≡◌, ◌*◌, ◌<◌, IfOk, List, SomeIff, false, length, true};
+ghost use Rattle.std.specs.Prelude.{◌≡◌, ◌*◌, ◌<◌, IfOk, List, SomeIff, false, length, not, true};
 ghost use Rattle.tabled_grid.specs.declared.config.entity.Entity.{Entity};
 ghost use Rattle.tabled_select.specs.Algebra.{flat};
 ghost use Rattle.tabled_select.specs.Sets.{all_marks};
@@ -60,9 +60,26 @@ impl Marked {
         }
     }
 
+    /// Marks a place, and says whether it wasn't marked before.
+    #[inline]
+    pub(super) fn insert(&mut self, pos: Position) -> bool
+        requires { HasRoom (all_marks self.old) pos }
+        ensures is_new { result ≡ not (has (all_marks self.old) pos) }
+        ensures set { SetsMark (all_marks self.old) (all_marks self.new) pos true }
+    {
+        match index_of(&self.marks, self.columns, pos) {
+            Some(index) => {
+                let is_new = !self.marks[index];
+                self.marks[index] = true;
+                is_new
+            }
+            None => false,
+        }
+    }
+
     /// Marks a place.
     #[inline]
-    pub(super) fn mark(&mut self, pos: Position)
+    fn mark(&mut self, pos: Position)
         requires { HasRoom (all_marks self.old) pos }
         ensures { SetsMark (all_marks self.old) (all_marks self.new) pos true }
     {

@@ -79,15 +79,16 @@ impl PlaceSet {
         }
     }
 
-    /// Marks a place.
+    /// Marks a place, and says whether it wasn't marked before.
     #[inline]
-    pub(super) fn mark(&mut self, pos: Position)
+    pub(super) fn insert(&mut self, pos: Position) -> bool
         requires { HasRoom (marks_of self.old) pos }
-        ensures { SetsMark (marks_of self.old) (marks_of self.new) pos true }
+        ensures is_new { result ≡ not (has (marks_of self.old) pos) }
+        ensures set { SetsMark (marks_of self.old) (marks_of self.new) pos true }
     {
         match &mut self.form {
-            Form::All(marks) => marks.mark(pos),
-            Form::Few(marks) => marks.mark(pos),
+            Form::All(marks) => marks.insert(pos),
+            Form::Few(marks) => marks.insert(pos),
         }
     }
 }

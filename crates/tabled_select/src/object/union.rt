@@ -137,8 +137,7 @@ impl Iterator for UnionIter {
     #[inline(always)]
     fn next(&mut self) -> Option<Entity> {
         while let Some(pos) = self.places.next() {
-            if !self.seen.contains(pos) {
-                self.seen.mark(pos);
+            if self.seen.insert(pos) {
                 return Some(Entity::from(pos));
             }
         }
