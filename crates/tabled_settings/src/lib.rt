@@ -1,0 +1,2 @@
+//! Options for the cells, the rows and the columns of a table.
+#![tactic(auto)]
