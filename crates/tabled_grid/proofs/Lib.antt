@@ -10,6 +10,7 @@ pub mod FlatSpreads
 pub mod FlatStore
 pub mod Geometry
 pub mod Grids
+pub mod Hiders
 pub mod Lists
 pub mod Mapped
 pub mod MarkedAnchors
@@ -23,4 +24,6 @@ pub mod SortedAnchors
 pub mod SortedEntries
 pub mod SpanMaps
 pub mod Spans
+pub mod Stepping
 pub mod Swaps
+pub mod Tables

@@ -1,5 +1,6 @@
 pub mod Anchors
 pub mod Bounds
+pub mod Covers
 pub mod Entity
 pub mod Flat
 pub mod Grid
