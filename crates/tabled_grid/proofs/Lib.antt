@@ -14,6 +14,7 @@ pub mod Hiders
 pub mod Lists
 pub mod Mapped
 pub mod MarkedAnchors
+pub mod Merging
 pub mod NestedRows
 pub mod PassedAnchors
 pub mod Places

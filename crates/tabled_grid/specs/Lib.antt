@@ -4,6 +4,7 @@ pub mod Covers
 pub mod Entity
 pub mod Flat
 pub mod Grid
+pub mod Midway
 pub mod Moves
 pub mod Rectangles
 pub mod Resized
