@@ -9,9 +9,8 @@ ghost use Rattle.tabled_select.specs.Listed.{ListsAll};
 
 mod cell;
 mod columns;
-#[cfg(test)]
-mod combination_tests;
 mod diff;
+mod entity_list;
 mod frame;
 mod from_last;
 mod intersection;
@@ -30,6 +29,7 @@ mod union;
 pub use cell::{Cell, EntityOnce};
 pub use columns::{Column, Columns, ColumnsIter, FirstColumn, LastColumn, LastColumnOffset};
 pub use diff::{DiffCombination, DiffIter};
+pub use entity_list::EntityList;
 pub use frame::{Frame, FrameIter};
 pub use intersection::{IntersectIter, IntersectionCombination};
 pub use inversion::{InversionCombination, InversionIter};

@@ -1,9 +1,5 @@
 //! Calls of options: what compositions of them make of a table.
 
-#[cfg(test)]
-mod testing;
-#[cfg(test)]
-mod tests;
 
 ghost use Rattle.std.proofs.Common.{rules};
 ghost use Rattle.tabled_options.specs.Does.{CopiesAlike, Same};

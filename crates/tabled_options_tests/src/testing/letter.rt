@@ -36,17 +36,13 @@ impl Log {
         }
     }
 
-    /// The letters, and `!` where a call was refused.
-    pub(crate) fn told(
-        self,
-        alloc: Global,
-        done: Result<(), AllocError>,
-    ) -> Result<String, AllocError> {
-        let mut told = String::from_str(alloc, self.letters.as_str())?;
-        if done.is_err() {
-            told.push('!')?;
-        }
-        Ok(told)
+    /// Whether these are the letters, with `!` behind them where a call was refused.
+    pub(crate) fn is_told(&self, done: Result<(), AllocError>, want: &str) -> bool {
+        let letters = match done {
+            Ok(()) => Some(want),
+            Err(_) => want.strip_suffix('!'),
+        };
+        letters == Some(self.letters.as_str())
     }
 
     /// Pushes a letter, if the limit allows.

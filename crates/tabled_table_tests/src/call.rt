@@ -1,0 +1,82 @@
+//! Calls that builders are made by, and what a builder holds, as words.
+
+use std::alloc::{AllocError, Global};
+use tabled_table::builder::Builder;
+
+/// Texts written as words, where `_` is an empty one.
+pub(crate) fn texts(alloc: Global, words: &str) -> Result<Vec<String>, AllocError> {
+    let mut texts = Vec::new(alloc);
+    for word in words.split_whitespace() {
+        texts.push(String::from_str(alloc, if word == "_" { "" } else { word })?)?;
+    }
+    Ok(texts)
+}
+
+/// A builder of records, each written as words.
+pub(crate) fn builder(alloc: Global, records: &[&str]) -> Result<Builder, AllocError> {
+    let mut builder = Builder::new(alloc);
+    for words in records {
+        builder.push_record(alloc, texts(alloc, *words)?)?;
+    }
+    Ok(builder)
+}
+
+/// The calls that add something to a builder.
+#[derive(Clone, Copy)]
+pub(crate) enum Call {
+    PushRecord,
+    ExtendRecord,
+    InsertRecord(usize),
+    PushColumn,
+    InsertColumn(usize),
+}
+
+impl Call {
+    /// Makes the call, at the end where there is no such place.
+    pub(crate) fn make(
+        self,
+        alloc: Global,
+        builder: &mut Builder,
+        given: Vec<String>,
+    ) -> Result<(), AllocError> {
+        let records = builder.count_records();
+        let columns = builder.count_columns();
+        match self {
+            Call::PushRecord => builder.push_record(alloc, given),
+            Call::ExtendRecord => builder.extend_record(alloc, given),
+            Call::InsertRecord(i) => builder.insert_record(alloc, i.min(records), given),
+            Call::PushColumn => builder.push_column(alloc, given),
+            Call::InsertColumn(j) => builder.insert_column(alloc, j.min(columns), given),
+        }
+    }
+}
+
+/// The records of a builder, each as words and a slash.
+pub(crate) fn spelled(alloc: Global, builder: Builder) -> Result<String, AllocError> {
+    let mut spelled = String::new(alloc);
+    for row in &builder.into_strings(alloc)? {
+        for text in row {
+            spelled.push_str(if text.is_empty() { "_" } else { text.as_str() })?;
+            spelled.push(' ')?;
+        }
+        spelled.push('/')?;
+    }
+    Ok(spelled)
+}
+
+/// Whether a builder was made, declares so many columns, and holds these records.
+pub(crate) fn holds(
+    alloc: Global,
+    made: Result<Builder, AllocError>,
+    columns: usize,
+    want: &str,
+) -> bool {
+    let Ok(builder) = made else {
+        return false;
+    };
+    let same_width = builder.count_columns() == columns;
+    match spelled(alloc, builder) {
+        Ok(spelled) => same_width && spelled.as_str() == want,
+        Err(_) => false,
+    }
+}

@@ -1,0 +1,92 @@
+//! Tables with an index.
+
+use crate::call::{builder, holds};
+use std::alloc::{AllocError, Global};
+use tabled_table::builder::{Builder, IndexBuilder};
+
+/// A call of an index.
+#[derive(Clone, Copy)]
+enum Turn {
+    Hide,
+    Name,
+    Unname,
+    Column(usize),
+    Transpose,
+    Keep,
+}
+
+impl Turn {
+    fn make(self, alloc: Global, index: IndexBuilder) -> Result<IndexBuilder, AllocError> {
+        match self {
+            Turn::Hide => Ok(index.hide()),
+            Turn::Name => Ok(index.name(Some(String::from_str(alloc, "n")?))),
+            Turn::Unname => Ok(index.name(None)),
+            Turn::Column(column) => index.column(alloc, column),
+            Turn::Transpose => index.transpose(alloc),
+            Turn::Keep => Ok(index),
+        }
+    }
+}
+
+/// What two calls make of the index of a builder.
+fn turned(alloc: Global, builder: Builder, turns: [Turn; 2]) -> Result<Builder, AllocError> {
+    let [first, second] = turns;
+    let index = first.make(alloc, IndexBuilder::from_builder(alloc, builder)?)?;
+    second.make(alloc, index)?.into_builder(alloc)
+}
+
+/// What two calls make of the index of records.
+fn indexed(alloc: Global, records: &[&str], turns: [Turn; 2]) -> Result<Builder, AllocError> {
+    turned(alloc, builder(alloc, records)?, turns)
+}
+
+#[test]
+fn indexes_records(rt: HostRuntime) {
+    use Turn::*;
+    let alloc = rt.alloc();
+    let records = ["i a b", "0 v w", "2 x y"];
+    for (turns, columns, want) in [
+        ([Keep, Keep], 4, "_ i a b /0 0 v w /1 2 x y /"),
+        ([Hide, Keep], 3, "i a b /0 v w /2 x y /"),
+        ([Column(3), Keep], 4, "_ i a b /0 0 v w /1 2 x y /"),
+        ([Column(1), Name], 3, "_ i b /n _ _ /v 0 w /x 2 y /"),
+        ([Column(1), Unname], 3, "_ i b /v 0 w /x 2 y /"),
+        ([Column(1), Column(0)], 2, "_ b /i _ /0 w /2 y /"),
+        ([Column(1), Transpose], 3, "a v x /i 0 2 /b w y /"),
+        ([Transpose, Transpose], 4, "_ i a b /0 0 v w /1 2 x y /"),
+        ([Column(1), Hide], 2, "i b /a _ /0 w /2 y /"),
+    ] {
+        assert!(rt; holds(alloc, indexed(alloc, &records, turns), columns, want));
+    }
+}
+
+#[test]
+fn indexes_little(rt: HostRuntime) {
+    use Turn::*;
+    let alloc = rt.alloc();
+    for (records, turns, want) in [
+        (["h", "v"].as_slice(), [Column(0), Hide], "//"),
+        (["a b"].as_slice(), [Transpose, Hide], "///"),
+        ([""].as_slice(), [Keep, Keep], ""),
+        ([""].as_slice(), [Name, Hide], "/"),
+        ([""].as_slice(), [Name, Keep], "_ /n /"),
+    ] {
+        let made = indexed(alloc, records, turns);
+        let columns = if want == "_ /n /" { 1 } else { 0 };
+        assert!(rt; holds(alloc, made, columns, want));
+    }
+}
+
+/// What two calls make of the index of a builder with three columns and no records.
+fn declared(alloc: Global, turns: [Turn; 2]) -> Result<Builder, AllocError> {
+    turned(alloc, Builder::with_capacity(alloc, 0, 3)?, turns)
+}
+
+#[test]
+fn indexes_nothing(rt: HostRuntime) {
+    let alloc = rt.alloc();
+    for turns in [[Turn::Name, Turn::Hide], [Turn::Column(0), Turn::Transpose]] {
+        assert!(rt; holds(alloc, declared(alloc, turns), 0, ""));
+        assert!(rt; holds(alloc, indexed(alloc, &[], turns), 0, ""));
+    }
+}
