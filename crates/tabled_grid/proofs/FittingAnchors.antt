@@ -1,6 +1,6 @@
 -- A sorted list of anchors lies well just where its map fits.
-use Rattle.std.proofs.Common.{◌≡◌, ℕ, ◌+◌, ◌<◌, ◌≤◌, ◌⊎◌, inl, inr, Bool, true, false, cond, List, [], ◌∷◌, Some, None, Option, refl, sym, ap, ap₂, subst, ◌∙◌, arith, max}
-use Rattle.std.specs.Prelude.{T, ◌&&◌, not, ◌↔◌, IsTrue}
+use Rattle.std.proofs.Common.{◌≡◌, ℕ, ◌+◌, ◌≤◌, ◌⊎◌, inl, inr, Bool, true, false, cond, List, [], ◌∷◌, Some, refl, sym, ap, ap₂, subst, ◌∙◌, arith, max}
+use Rattle.std.specs.Prelude.{T, not}
 use Rattle.std.specs.Bool.{Decides}
 use Rattle.std.specs.FinMap.{find, from_sorted, get, get-from_sorted, is_sorted}
 use Rattle.std.specs.FinMap.Entries.{below_all}
@@ -13,7 +13,7 @@ use Rattle.std.proofs.lemmas.Cmp.{tied_itself}
 use Rattle.std.proofs.lemmas.Option.{none-some, same_Some}
 use borrow.Author.Tests.{leb-true, le-leb}
 use Rattle.tabled_grid.specs.Entity.{place}
-use Rattle.tabled_grid.specs.Spans.{AreAnchors, IsSpanSize, SpanMap, position_cmp}
+use Rattle.tabled_grid.specs.Spans.{AreAnchors, IsSpanSize, position_cmp}
 use Rattle.tabled_grid.specs.declared.config.position.Position.{Position}
 use Rattle.tabled_grid.proofs.Spans.{positions_exact, positions_total, span_sizes}
 use Rattle.tabled_grid.specs.Anchors.{Anchor, lie_well, lies_inside, meets}

@@ -1,33 +1,14 @@
 -- Rectangles given by a size at each place, and what holds in the middle of a span option.
-use Rattle.std.proofs.Common.{◌≡◌, ℕ, ◌+◌, ◌<◌, ◌≤◌, ◌≢◌, ◌⊎◌, inl, inr, refl, sym, ap, ap₂, subst, ◌∙◌, arith}
+use Rattle.std.proofs.Common.{◌≡◌, ℕ, ◌+◌, ◌<◌, ◌≤◌, ◌≢◌, ◌⊎◌, inl, inr, sym, ap, ap₂, subst, ◌∙◌, arith}
 use Rattle.std.proofs.lemmas.Bool.{cases_eq, cases_lt}
 use Rattle.tabled_grid.specs.Entity.{place}
 use Rattle.tabled_grid.specs.declared.config.position.Position.{Position}
-
--- the height and the width of the rectangle at each place, both 1 where nothing is merged
-abbrev pub Sizes : Type 0
-Sizes = Position → ℕ × ℕ
-
--- the rectangle of a size at a place holds a place
-pub record In (a : Position) (size : ℕ × ℕ) (p : Position) : Type 0 where
-  pub top : a.row ≤ p.row
-  pub bottom : p.row < a.row + size.0
-  pub left : a.col ≤ p.col
-  pub right : p.col < a.col + size.1
-
--- of two rectangles that share a cell, one has its first cell in the other
-pub record Hooked (s : Sizes) : Type 0 where
-  pub hook : (a b p : Position) → In a (s a) p → In b (s b) p → In a (s a) b ⊎ In b (s b) a
+pub use Rattle.tabled_grid.specs.Midway.{Flat, Hooked, In, Narrow, Sizes, Within}
 
 -- no rectangle is empty
 pub record Full (s : Sizes) : Type 0 where
   pub height : (a : Position) → 1 ≤ (s a).0
   pub width : (a : Position) → 1 ≤ (s a).1
-
--- each rectangle of more than one cell lies inside a table
-pub record Within (s : Sizes) (rows columns : ℕ) : Type 0 where
-  pub tall : (a : Position) → (1 < (s a).0) ⊎ (1 < (s a).1) → a.row + (s a).0 ≤ rows
-  pub wide : (a : Position) → (1 < (s a).0) ⊎ (1 < (s a).1) → a.col + (s a).1 ≤ columns
 
 -- no other rectangle holds the place
 abbrev pub Visible : Sizes → Position → Type 0
@@ -137,9 +118,6 @@ pub visible_flipped : (s : Sizes) (p : Position) → Visible s p → Visible (fl
 visible_flipped s p visible a h = ap flip (visible (flip a) (In-flip a (flip p) _ _ h))
 
 -- where all heights are 1, rectangles are hooked
-pub record Flat (s : Sizes) : Type 0 where
-  pub height : (a : Position) → (s a).0 ≡ 1
-
 pub hooked_flat : (s : Sizes) → Full s → Flat s → Hooked s
 hooked_flat s full flat = record { hook = λ a b p ha hb. by_col a b p ha hb (cases_lt b.col a.col) }
   where
@@ -180,3 +158,9 @@ flat_widened s t p w is flat = record { height = λ a. height a (cases_place a p
     height : (a : Position) → (a ≡ p) ⊎ (a ≢ p) → (t a).0 ≡ 1
     height a (inl e) = subst (λ (x : Position). (t x).0 ≡ 1) (sym e) (rw is.here (flat.height p))
     height a (inr n) = rw (is.others a n) (flat.height a)
+
+pub narrow_flipped : (s : Sizes) → Narrow s → Flat (flipped s)
+narrow_flipped s narrow = record { height = λ a. narrow.width (flip a) }
+
+pub flat_flipped : (s : Sizes) → Flat (flipped s) → Narrow s
+flat_flipped s flat = record { width = λ a. flat.height (flip a) }

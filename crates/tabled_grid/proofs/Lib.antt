@@ -10,9 +10,11 @@ pub mod FlatSpreads
 pub mod FlatStore
 pub mod Geometry
 pub mod Grids
+pub mod Hiders
 pub mod Lists
 pub mod Mapped
 pub mod MarkedAnchors
+pub mod Merging
 pub mod NestedRows
 pub mod PassedAnchors
 pub mod Places
@@ -23,4 +25,6 @@ pub mod SortedAnchors
 pub mod SortedEntries
 pub mod SpanMaps
 pub mod Spans
+pub mod Stepping
 pub mod Swaps
+pub mod Tables

@@ -1,15 +1,14 @@
 -- Anchors that are marked where another holds them, from the last to the first, and what is left of them.
-use Rattle.std.proofs.Common.{◌≡◌, ℕ, zero, suc, ◌+◌, ◌<◌, ◌≤◌, ◌⊎◌, inl, inr, Bool, true, false, cond, List, [], ◌∷◌, ◌++◌, refl, sym, ap, ap₂, subst, ◌∙◌, arith, length, get_or, take, drop, map, append_assoc}
+use Rattle.std.proofs.Common.{◌≡◌, ℕ, suc, ◌+◌, ◌<◌, inl, inr, Bool, true, false, cond, List, [], ◌∷◌, ◌++◌, refl, sym, ap, ap₂, subst, ◌∙◌, arith, length, get_or, take, drop, map, append_assoc}
 use Rattle.std.specs.Prelude.{T, ◌&&◌, ◌||◌, nat_lt, not}
 use Rattle.std.specs.FinMap.{is_sorted}
 use Rattle.std.specs.FinMap.Entries.{below_all}
-use Rattle.std.specs.List.{AllByRecursion, filter, list_any}
+use Rattle.std.specs.List.{AllByRecursion, filter}
 use Rattle.std.specs.Ordering.{is_lt}
-use Rattle.std.specs.declared.cmp.Ordering.TheVariants.{Less}
-use Rattle.std.proofs.lemmas.Bool.{cases_Bool, false_from_ne_true}
-use Rattle.std.proofs.lemmas.List.{append-nil, drop_at, drop_more, get_or_append_left, get_or-take, length-take, take_at, take_more, get_or_default}
+use Rattle.std.proofs.lemmas.Bool.{false_from_ne_true}
+use Rattle.std.proofs.lemmas.List.{drop_at, drop_more, get_or_append_left, get_or-take, length-take, take_at, take_more}
 use borrow.Author.Tests.{lt-ltb}
-use Rattle.tabled_grid.specs.Spans.{AreAnchors, IsSpanSize, position_cmp}
+use Rattle.tabled_grid.specs.Spans.{IsSpanSize, position_cmp}
 use Rattle.tabled_grid.specs.declared.config.position.Position.{Position}
 use Rattle.tabled_grid.specs.Anchors.{Anchor, dropped, is_hidden_in, marked, unless_held}
 use Rattle.tabled_grid.specs.Rectangles.{in_rect}

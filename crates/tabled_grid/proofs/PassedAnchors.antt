@@ -1,17 +1,16 @@
 -- Going through sorted anchors from one on, and stopping once they are past its rectangle.
-use Rattle.std.proofs.Common.{◌≡◌, ℕ, zero, suc, ◌+◌, ◌-◌, ◌<◌, ◌≤◌, ◌⊎◌, inl, inr, Bool, true, false, cond, List, [], ◌∷◌, ◌++◌, refl, sym, ap, ap₂, subst, ◌∙◌, arith, length, get_or, take, drop, set, map, append_assoc}
-use Rattle.std.specs.Prelude.{T, ◌&&◌, ◌||◌, ◌==◌, nat_le, nat_lt, not}
+use Rattle.std.proofs.Common.{◌≡◌, ℕ, zero, suc, ◌+◌, ◌-◌, ◌<◌, ◌≤◌, ◌⊎◌, inl, inr, true, false, cond, List, [], ◌∷◌, ◌++◌, refl, sym, ap, ap₂, subst, ◌∙◌, arith, length, get_or, take, drop, set, map, append_assoc}
+use Rattle.std.specs.Prelude.{T, ◌&&◌, ◌==◌, nat_le, not}
 use Rattle.std.specs.FinMap.{is_sorted}
-use Rattle.std.specs.FinMap.Entries.{below_all}
 use Rattle.std.specs.List.{list_all}
-use Rattle.std.specs.Ordering.{MatchOrdering, is_lt, nat_cmp, ordering_then}
+use Rattle.std.specs.Ordering.{MatchOrdering, nat_cmp, ordering_then}
 use Rattle.std.specs.declared.cmp.Ordering.{Ordering}
 use Rattle.std.specs.declared.cmp.Ordering.TheVariants.{Less, Equal, Greater}
-use Rattle.std.proofs.lemmas.Bool.{and_from, and_parts, cases_Bool, false_from_ne_true, or_cases, or_left, or_right}
+use Rattle.std.proofs.lemmas.Bool.{and_from, and_parts, false_from_ne_true, or_cases}
 use Rattle.std.proofs.lemmas.Cmp.{ranked}
-use Rattle.std.proofs.lemmas.List.{append-nil, drop-drop, drop_all, drop-set-lt, get_or_default, take_more, take_more_set, drop_more, get_or-drop, map-append, map_more, take_all, take-append-drop, length-drop}
+use Rattle.std.proofs.lemmas.List.{append-nil, drop-drop, drop_all, drop-set-lt, get_or_default, take_more, take_more_set, drop_more, get_or-drop, map-append, map_more, take-append-drop, length-drop}
 use Rattle.std.proofs.lemmas.Grind.{drop_more_same}
-use borrow.Author.Tests.{eq-eqb, eqb-true, le-leb, leb-true, lt-ltb, ltb-true}
+use borrow.Author.Tests.{eqb-true, leb-true, lt-ltb, ltb-true}
 use Rattle.tabled_grid.specs.Spans.{position_cmp}
 use Rattle.tabled_grid.specs.declared.config.position.Position.{Position}
 use Rattle.tabled_grid.specs.Anchors.{Anchor, is_past, meets, unless_held}

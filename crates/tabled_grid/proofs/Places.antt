@@ -76,7 +76,7 @@ filter-outside j a zero h = refl
 filter-outside j a (suc n) h = rw (ne_eqb a j (λ e. omega arith)) (filter-outside j (a + 1) n (omega arith))
 
 -- a block of n rows and m columns
-block-is : (a b c d n m : ℕ) → b - a ≡ n → d - c ≡ m → block a b c d ≡ places (range_with_len a n) (range_with_len c m)
+pub block-is : (a b c d n m : ℕ) → b - a ≡ n → d - c ≡ m → block a b c d ≡ places (range_with_len a n) (range_with_len c m)
 block-is a b c d n m e f = ap (λ k. places (range_with_len a k) (range_with_len c (d - c))) e ∙ ap (λ k. places (range_with_len a n) (range_with_len c k)) f
 
 pub block-no_rows : (a b c d : ℕ) → b ≤ a → block a b c d ≡ []

@@ -1,12 +1,12 @@
 -- What maps of spans have at each place, after each change.
-use Rattle.std.proofs.Common.{◌≡◌, ℕ, suc, ◌+◌, ◌<◌, ◌≤◌, ◌≢◌, ◌⊎◌, inl, inr, Bool, true, false, cond, List, [], ◌∷◌, Some, None, Option, refl, sym, ap, ap₂, subst, ◌∙◌, arith}
-use Rattle.std.specs.Prelude.{T, not, ◌&&◌, ◌==◌, nat_le, nat_lt}
+use Rattle.std.proofs.Common.{◌≡◌, ℕ, ◌<◌, ◌≤◌, ◌≢◌, ◌⊎◌, inl, inr, Bool, true, false, cond, List, [], ◌∷◌, Some, None, Option, refl, sym, ap, ap₂, subst, ◌∙◌, arith}
+use Rattle.std.specs.Prelude.{T, not, ◌&&◌, ◌==◌}
 use Rattle.std.specs.declared.cmp.Ordering.{Ordering}
 use Rattle.std.specs.declared.cmp.Ordering.TheVariants.{Less, Equal, Greater}
 use Rattle.std.specs.Cmp.{IsTotalOrder}
 use Rattle.std.specs.Ordering.{eq_by_cmp, is_eq, is_lt, ordering_reverse}
 use Rattle.std.specs.FinMap as map
-use Rattle.std.specs.FinMap.{FinMap, IsAntisymmetric, find, get, get-entries, get-insert, get-remove, get-retain_keys, is_sorted, entries, entries_sorted}
+use Rattle.std.specs.FinMap.{IsAntisymmetric, find, get, get-entries, get-insert, get-remove, get-retain_keys, is_sorted, entries, entries_sorted}
 use Rattle.std.specs.FinMap.Entries.{below_all}
 use Rattle.std.specs.List.{list_any}
 use Rattle.std.specs.Option.{unwrap_or}
@@ -14,13 +14,13 @@ use Rattle.std.proofs.lemmas.Bool.{and_parts, and_from, or_cases, or_left, or_ri
 use Rattle.std.proofs.lemmas.Cmp.{tied_itself}
 use Rattle.std.proofs.lemmas.Option.{none-some, same_Some}
 use borrow.Author.Tests.{leb-true, ltb-true, le-leb, lt-ltb, eqb-true, eq-eqb}
-use Rattle.tabled_grid.specs.Spans.{AreSpanSizes, IsSpanSize, SpanMap, position_cmp, size_at, with_column_span, with_row_span, with_size}
+use Rattle.tabled_grid.specs.Spans.{AreSpanSizes, IsSpanSize, SpanMap, position_cmp, size_at, with_size}
 use Rattle.tabled_grid.specs.Entity.{place}
 use Rattle.tabled_grid.specs.declared.config.position.Position.{Position}
 use Rattle.tabled_grid.proofs.Spans.{positions_exact, positions_total}
 use Rattle.tabled_grid.specs.Rectangles.{drop_hidden, in_rect, is_hidden, is_visible}
 use Rattle.tabled_grid.specs.Entity.{same_place}
-use Rattle.tabled_grid.proofs.Geometry.{Flat, Full, In, Sizes, Visible, Widened, cases_place, flip, flipped}
+use Rattle.tabled_grid.proofs.Geometry.{Full, In, Visible, cases_place}
 
 pub halves : (a b : Bool) → T (a && b) → T a × T b
 halves true b h = (tt, h)

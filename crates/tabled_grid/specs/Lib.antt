@@ -1,8 +1,10 @@
 pub mod Anchors
 pub mod Bounds
+pub mod Covers
 pub mod Entity
 pub mod Flat
 pub mod Grid
+pub mod Midway
 pub mod Moves
 pub mod Rectangles
 pub mod Resized

@@ -1,9 +1,14 @@
 //! Laws of what the calls of stores say they do. Each is the contract of a function that does nothing.
 
-ghost use Rattle.std.specs.Prelude.{◌≡◌};
+ghost use Rattle.std.specs.Prelude.{◌≡◌, ◌+◌, ◌<◌, ◌≤◌, ℕ, Some, true};
+ghost use Rattle.std.specs.FinMap as map;
 ghost use Rattle.std.specs.Ordering.{nat_cmp};
 ghost use Rattle.std.specs.declared.cmp.Ordering.TheVariants.{Less};
-ghost use Rattle.tabled_grid.specs.Spans.{position_cmp};
+ghost use Rattle.tabled_grid.specs.Entity.{place};
+ghost use Rattle.tabled_grid.specs.Midway.{Flat, In, Midway, Narrow, Within};
+ghost use Rattle.tabled_grid.specs.Rectangles.{Fits, drop_hidden, is_visible};
+ghost use Rattle.tabled_grid.specs.Spans.{AreSpanSizes, IsSpanSize, SpanMap, position_cmp, size_at, with_column_span, with_row_span, with_size};
+ghost use Rattle.tabled_grid.specs.declared.config.position.Position.{Position};
 ghost use Rattle.tabled_grid.specs.declared.config.entity.Entity.TheVariants.{Cell, Column, Global, Row};
 ghost use Rattle.tabled_grid.specs.declared.config.offset.Offset.TheVariants.{End, Start};
 ghost use Rattle.tabled_grid.specs.Resized.{with_cells_swapped, with_columns_swapped, with_rows_swapped};
@@ -50,4 +55,24 @@ pub fn offsets_in_order(_n: usize, _m: usize)
     ensures kinds { ⟦<Offset as Ord>⟧.cmp (Start _n) (End _m) ≡ Less }
     ensures starts { ⟦<Offset as Ord>⟧.cmp (Start _n) (Start _m) ≡ nat_cmp _n _m }
     ensures ends { ⟦<Offset as Ord>⟧.cmp (End _n) (End _m) ≡ nat_cmp _n _m }
+{}
+
+/// Spans over visible cells, one after another, and then without hidden anchors, keep merged cells
+/// inside and apart: what holds in between is `Midway`.
+pub fn spans_over_visible_cells_fit_once_hidden_anchors_go()
+    ensures starts { (m : SpanMap) (rows columns : ℕ) → Fits m rows columns → Midway m rows columns }
+    ensures wider { (m : SpanMap) (p : Position) (width rows columns : ℕ) → 1 ≤ width → p.row < rows → p.col + width ≤ columns → ((j : ℕ) → p.col ≤ j → j < p.col + width → is_visible m (place p.row j) ≡ true) → Midway m rows columns → Midway (with_column_span m p width) rows columns }
+    ensures higher { (m : SpanMap) (p : Position) (height rows columns : ℕ) → 1 ≤ height → p.col < columns → p.row + height ≤ rows → ((i : ℕ) → p.row ≤ i → i < p.row + height → is_visible m (place i p.col) ≡ true) → Midway m rows columns → Midway (with_row_span m p height) rows columns }
+    ensures ends { (m : SpanMap) (rows columns : ℕ) → Midway m rows columns → Fits (drop_hidden m) rows columns }
+{}
+
+/// Where all heights are 1, widths may be set over any cells, hidden ones too. Heights alike.
+pub fn flat_spans_fit_once_hidden_anchors_go()
+    ensures flat { (m : SpanMap) (rows columns : ℕ) → AreSpanSizes m → Flat (size_at m) → Within (size_at m) rows columns → Fits (drop_hidden m) rows columns × Flat (size_at (drop_hidden m)) }
+    ensures narrow { (m : SpanMap) (rows columns : ℕ) → AreSpanSizes m → Narrow (size_at m) → Within (size_at m) rows columns → Fits (drop_hidden m) rows columns × Narrow (size_at (drop_hidden m)) }
+{}
+
+/// A rectangle over cells that no other has keeps merged cells inside and apart.
+pub fn a_rectangle_over_free_cells_fits()
+    ensures { (m : SpanMap) (p : Position) (size : ℕ × ℕ) (rows columns : ℕ) → IsSpanSize size → p.row + size.0 ≤ rows → p.col + size.1 ≤ columns → ((a q : Position) (s : ℕ × ℕ) → map.get m a ≡ Some s → In a s q → In p size q → a ≡ p) → Fits m rows columns → Fits (with_size m p size) rows columns }
 {}

@@ -2,12 +2,15 @@
 
 mod anchors;
 mod bounds;
+mod cover_map;
 mod entity;
+mod hiders;
 mod offset;
 mod position;
 mod spanned_config;
 
 pub use bounds::ToBounds;
+pub use cover_map::CoverMap;
 pub use entity::{Entity, EntityIterator};
 pub use offset::Offset;
 pub use position::Position;

@@ -256,6 +256,13 @@ impl SpannedConfig {
         }
     }
 
+    /// The anchors and their sizes, row by row.
+    pub(super) fn anchors(&self) -> &[Anchor]
+        ensures { result.now ≡ map.entries self.now }
+    {
+        &self.anchors
+    }
+
     /// Shows that each anchor merges cells, and does nothing.
     fn keeps_sizes(&self)
         ensures { AreSpanSizes self.now }

@@ -1,4 +1,4 @@
-use Rattle.std.proofs.Common.{◌+◌, ◌<◌, ◌∷◌, T, subst, arith, drop, length}
+use Rattle.std.proofs.Common.{T, subst, arith}
 use Rattle.std.specs.FinMap.{is_sorted}
 use Rattle.std.proofs.lemmas.List.{drop_more}
 use Rattle.tabled_grid.specs.Spans.{position_cmp}

@@ -2,7 +2,7 @@ use Rattle.std.proofs.Common.{◌≡◌, ◌+◌, ◌-◌, ◌<◌, ◌∷◌, �
 use Rattle.std.specs.FinMap.{is_sorted}
 use Rattle.tabled_grid.specs.Spans.{position_cmp}
 use Rattle.tabled_grid.specs.Anchors.{Anchor}
-use Rattle.tabled_grid.proofs.MarkedAnchors.{mark_more, marked_from, sorted_mark}
+use Rattle.tabled_grid.proofs.MarkedAnchors.{marked_from, sorted_mark}
 use Rattle.tabled_grid.proofs.PassedAnchors.{sorted_drop}
 use Rattle.tabled_grid.proofs.config.anchors.mark_hidden.Goals as goal
 

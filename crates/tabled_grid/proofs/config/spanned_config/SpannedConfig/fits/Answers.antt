@@ -1,4 +1,3 @@
-use Rattle.std.proofs.Common.{◌∙◌, sym}
 use Rattle.tabled_grid.proofs.FittingAnchors.{fits_decided}
 use Rattle.tabled_grid.proofs.config.spanned_config.SpannedConfig.fits.Goals as goal
 

@@ -1,4 +1,4 @@
-use Rattle.std.proofs.Common.{◌∙◌, ap, refl, sym}
+use Rattle.std.proofs.Common.{ap, refl, sym}
 use Rattle.std.specs.Prelude.{not}
 use Rattle.std.specs.FinMap.{from_sorted}
 use Rattle.tabled_grid.proofs.SortedAnchors.{hidden_is}

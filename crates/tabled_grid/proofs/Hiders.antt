@@ -1,0 +1,215 @@
+-- How many anchors hide a place, and how that follows the map.
+use Rattle.std.proofs.Common.{◌≡◌, ℕ, ◌+◌, ◌*◌, ◌<◌, ◌≤◌, ◌≢◌, ◌⊎◌, inl, inr, Bool, true, false, cond, List, [], ◌∷◌, Some, None, Option, refl, sym, ap, ap₂, subst, ◌∙◌, length, take, get_or, replicate, arith}
+use Rattle.std.specs.Prelude.{T, ◌||◌, ◌^◌, nat_lt, not}
+use Rattle.std.specs.FinMap.{entries, entries-from_sorted, entries_sorted, find, from_sorted, get, get-entries, get-from_sorted, is_sorted, same_map}
+use Rattle.std.specs.FinMap.Entries.{below_all, find-where_key, is_sorted-where_key, where_key}
+use Rattle.std.specs.List.{AllByRecursion, count_by, list_any}
+use Rattle.std.specs.Option.{unwrap_or}
+use Rattle.std.specs.declared.cmp.Ordering.TheVariants.{Equal, Less}
+use Rattle.std.specs.Ordering.{eq_by_cmp, is_eq}
+use Rattle.std.proofs.lemmas.Bool.{cases_Bool, cases_lt, false_from_ne_true}
+use Rattle.std.proofs.lemmas.Cmp.{tied_itself}
+use Rattle.std.proofs.lemmas.List.Sums.{count_by_more_no, count_by_more_yes, sum_by-cons, sum_by-take-le}
+use Rattle.std.proofs.Math.Nat.{mul-le-mul_right}
+use borrow.Author.Tests.{lt-ltb}
+use Rattle.tabled_grid.specs.Anchors.{Anchor}
+use Rattle.tabled_grid.specs.Covers.{Stepped, Steps, hiders_in, hiders_of, hides, table}
+use Rattle.tabled_grid.specs.Entity.{place}
+use Rattle.tabled_grid.specs.Rectangles.{is_hidden}
+use Rattle.tabled_grid.specs.Spans.{SpanMap, position_cmp, size_at, with_size}
+use Rattle.tabled_grid.specs.declared.config.position.Position.{Position}
+use Rattle.tabled_grid.proofs.PassedAnchors.{Earlier, earlier}
+use Rattle.tabled_grid.proofs.Spans.{positions_exact, positions_total}
+use Rattle.tabled_grid.proofs.SpanMaps.{equal, found_above, halves, less, size_at-with_size, with_size-other}
+use Rattle.tabled_grid.proofs.Stepping.{Hides, hides-true}
+use Rattle.tabled_grid.proofs.Tables.{table-zero}
+
+module _ {X : Type 0} (test : X → Bool) where
+  count-yes : (x : X) (xs : List X) → test x ≡ true → count_by test (x ∷ xs) ≡ 1 + count_by test xs
+  count-yes x xs t = sum_by-cons (λ y. cond (test y) 1 0) x xs ∙ ap (λ (b : Bool). cond b 1 0 + count_by test xs) t
+
+  count-no : (x : X) (xs : List X) → test x ≡ false → count_by test (x ∷ xs) ≡ count_by test xs
+  count-no x xs t = sum_by-cons (λ y. cond (test y) 1 0) x xs ∙ ap (λ (b : Bool). cond b 1 0 + count_by test xs) t ∙ (omega arith)
+
+  -- some pass just where their number isn't 0
+  pub any-counts : (xs : List X) → list_any test xs ≡ nat_lt 0 (count_by test xs)
+  any-counts [] = refl
+  any-counts (x ∷ xs) = by (cases_Bool (test x)) (any-counts xs)
+    where
+      by : (test x ≡ true) ⊎ (test x ≡ false) → list_any test xs ≡ nat_lt 0 (count_by test xs) → list_any test (x ∷ xs) ≡ nat_lt 0 (count_by test (x ∷ xs))
+      by (inl t) rest = ap (λ b. b || list_any test xs) t ∙ sym (lt-ltb 0 (count_by test (x ∷ xs)) (omega (arith, count-yes x xs t)))
+      by (inr t) rest = ap (λ b. b || list_any test xs) t ∙ rest ∙ ap (nat_lt 0) (sym (count-no x xs t))
+
+pub hidden-counts : (m : SpanMap) (p : Position) → is_hidden m p ≡ nat_lt 0 (hiders_of m p)
+hidden-counts m p = any-counts (hides p) (entries m)
+
+-- the place of a cell in the list of a shape's cells
+abbrev code : ℕ → Position → ℕ
+code columns p = p.row * columns + p.col
+
+code-less : (columns : ℕ) (p q : Position) → Earlier p q → p.col < columns → code columns p < code columns q
+code-less columns p q (inl above) h =
+    let rows : (p.row + 1) * columns ≤ q.row * columns = mul-le-mul_right columns (omega arith) in
+    omega (arith, rows)
+code-less columns p q (inr beside) h =
+    let row : p.row * columns ≡ q.row * columns = ap (λ n. n * columns) beside.0 in
+    omega (arith, row, beside.1)
+
+-- what hides a place comes before it
+hider-before : (columns : ℕ) (p : Position) (e : Anchor) → p.col < columns → hides p e ≡ true → (e.0.col < columns) × (code columns e.0 < code columns p)
+hider-before columns p e h t = by (hides-true e p t)
+  where
+    earlier_than : Hides e p → (e.0.row < p.row) ⊎ (p.row ≤ e.0.row) → (e.0.col < p.col) ⊎ (p.col ≤ e.0.col) → Earlier e.0 p
+    earlier_than at (inl l) c = inl l
+    earlier_than at (inr l) (inl k) = inr (omega (arith, at.holds.top), k)
+    earlier_than at (inr l) (inr k) = absurd (at.other (ap₂ place (omega (arith, at.holds.top)) (omega (arith, at.holds.left))))
+
+    by : Hides e p → (e.0.col < columns) × (code columns e.0 < code columns p)
+    by at = let inside : e.0.col < columns = omega (arith, at.holds.left) in (inside, code-less columns e.0 p (earlier_than at (cases_lt e.0.row p.row) (cases_lt e.0.col p.col)) inside)
+
+-- those that hide a place, if they begin from place k on, are at most the places from there up to it
+few : (columns k : ℕ) (p : Position) (es : List Anchor) → T (is_sorted position_cmp es) → p.col < columns → k ≤ code columns p → AllByRecursion (λ (e : Anchor). hides p e ≡ true → k ≤ code columns e.0) es → hiders_in es p + k ≤ code columns p
+few columns k p [] up h l all = omega (arith, l)
+few columns k p (e ∷ es) up h l all = by (cases_Bool (hides p e)) (few columns k p es (halves _ _ up).1 h l all.1) (λ j below rest. few columns j p es (halves _ _ up).1 h below rest)
+  where
+    after : (fs : List Anchor) → hides p e ≡ true → T (below_all position_cmp e.0 fs) → AllByRecursion (λ (f : Anchor). hides p f ≡ true → code columns e.0 + 1 ≤ code columns f.0) fs
+    after [] t below = tt
+    after (f ∷ fs) t below = ((λ u. omega (arith, code-less columns e.0 f.0 (earlier e.0 f.0 (less _ (halves _ _ below).0)) (hider-before columns p e h t).0)), after fs t (halves _ _ below).1)
+
+    by : (hides p e ≡ true) ⊎ (hides p e ≡ false) → hiders_in es p + k ≤ code columns p → ((j : ℕ) → j ≤ code columns p → AllByRecursion (λ (f : Anchor). hides p f ≡ true → j ≤ code columns f.0) es → hiders_in es p + j ≤ code columns p) → hiders_in (e ∷ es) p + k ≤ code columns p
+    by (inl t) same go =
+        let more = go (code columns e.0 + 1) (omega (arith, (hider-before columns p e h t).1)) (after es t (halves _ _ up).0) in
+        omega (arith, more, all.0 t, count-yes (hides p) e es t)
+    by (inr t) same go = omega (arith, same, count-no (hides p) e es t)
+
+from_start : (columns : ℕ) (p : Position) (es : List Anchor) → AllByRecursion (λ (e : Anchor). hides p e ≡ true → 0 ≤ code columns e.0) es
+from_start columns p [] = tt
+from_start columns p (e ∷ es) = ((λ t. omega arith), from_start columns p es)
+
+-- so their number fits a word where that of the shape's cells does
+pub hiders-fit : (rows columns : ℕ) (p : Position) (es : List Anchor) → T (is_sorted position_cmp es) → p.row < rows → p.col < columns → rows * columns < 2 ^ 64 → hiders_in es p < 2 ^ 64
+hiders-fit rows columns p es up row col fits =
+    let before : hiders_in es p + 0 ≤ code columns p = few columns 0 p es up col (omega arith) (from_start columns p es) in
+    let inside : (p.row + 1) * columns ≤ rows * columns = mul-le-mul_right columns (omega arith) in
+    omega (arith, before, inside)
+
+-- the entries of a map but that at a place
+rest : SpanMap → Position → List Anchor
+rest m a = where_key position_cmp (λ q. not (eq_by_cmp position_cmp a q)) (entries m)
+
+rest-same : (m n : SpanMap) (a : Position) → ((q : Position) → q ≢ a → get n q ≡ get m q) → rest n a ≡ rest m a
+unfolding rest
+rest-same m n a same = sym (entries-from_sorted position_cmp (rest n a) (up n)) ∙ ap entries (same_map positions_total positions_exact _ _ each) ∙ entries-from_sorted position_cmp (rest m a) (up m)
+  where
+    up : (k : SpanMap) → T (is_sorted position_cmp (rest k a))
+    up k = is_sorted-where_key position_cmp (λ q. not (eq_by_cmp position_cmp a q)) (entries k) (entries_sorted k)
+
+    found : (k : SpanMap) (q : Position) → get (from_sorted {R = position_cmp} (rest k a)) q ≡ cond (not (eq_by_cmp position_cmp a q)) (get k q) None
+    found k q = get-from_sorted position_cmp (rest k a) q (up k) ∙ find-where_key position_cmp (λ x. not (eq_by_cmp position_cmp a x)) q (λ x t. ap (λ y. not (eq_by_cmp position_cmp a y)) (sym (positions_exact q x t))) (entries k) ∙ ap (λ v. cond (not (eq_by_cmp position_cmp a q)) v None) (sym (get-entries k q))
+
+    each : (q : Position) → get (from_sorted {R = position_cmp} (rest n a)) q ≡ get (from_sorted {R = position_cmp} (rest m a)) q
+    each q = found n q ∙ by (cases_Bool (eq_by_cmp position_cmp a q)) ∙ sym (found m q)
+      where
+        by : (eq_by_cmp position_cmp a q ≡ true) ⊎ (eq_by_cmp position_cmp a q ≡ false) → cond (not (eq_by_cmp position_cmp a q)) (get n q) None ≡ cond (not (eq_by_cmp position_cmp a q)) (get m q) None
+        by (inl t) = rw t refl
+        by (inr f) = ap (λ v. cond (not (eq_by_cmp position_cmp a q)) v None) (same q (λ e. absurd (both (sym f ∙ ap (λ x. eq_by_cmp position_cmp a x) e ∙ ap is_eq (tied_itself positions_total a)))))
+          where
+            both : false ≡ true → ⊥
+            both e = cc
+
+-- nothing is found at a place below all
+none_below : (a : Position) (es : List Anchor) → T (below_all position_cmp a es) → find position_cmp a es ≡ None
+none_below a es below = by (find position_cmp a es) refl
+  where
+    by : (s : Option (ℕ × ℕ)) → find position_cmp a es ≡ s → s ≡ None
+    by None e = refl
+    by (Some v) e = absurd (never (sym (tied_itself positions_total a) ∙ found_above position_cmp positions_total positions_exact a a es v below e))
+      where
+        never : Equal ≡ Less → ⊥
+        never e = cc
+
+-- a place of one cell is none that an entry may have for nothing
+counts-apart : (test : Anchor → Bool) (a : Position) (es : List Anchor) → test (a, (1, 1)) ≡ false → T (is_sorted position_cmp es) → count_by test es ≡ count_by test (where_key position_cmp (λ q. not (eq_by_cmp position_cmp a q)) es) + cond (test (a, unwrap_or (find position_cmp a es) (1, 1))) 1 0
+counts-apart test a [] one up = ap (λ (b : Bool). 0 + cond b 1 0) (sym one)
+counts-apart test a (e ∷ es) one up = by (cases_Bool (eq_by_cmp position_cmp a e.0)) (cases_Bool (test e)) (counts-apart test a es one (halves _ _ up).1)
+  where
+    others : List Anchor
+    others = where_key position_cmp (λ q. not (eq_by_cmp position_cmp a q)) es
+
+    at : Option (ℕ × ℕ) → ℕ
+    at v = cond (test (a, unwrap_or v (1, 1))) 1 0
+
+    kept : (b : Bool) → eq_by_cmp position_cmp a e.0 ≡ b → where_key position_cmp (λ q. not (eq_by_cmp position_cmp a q)) (e ∷ es) ≡ cond (not b) (e ∷ others) others
+    kept b t = ap (λ c. cond (not c) (e ∷ others) others) t
+
+    looked : (b : Bool) → eq_by_cmp position_cmp a e.0 ≡ b → find position_cmp a (e ∷ es) ≡ cond b (Some e.1) (find position_cmp a es)
+    looked b t = ap (λ c. cond c (Some e.1) (find position_cmp a es)) t
+
+    here : eq_by_cmp position_cmp a e.0 ≡ true → at (find position_cmp a es) ≡ 0
+    here t = ap at (none_below a es (subst (λ x. T (below_all position_cmp x es)) (sym (positions_exact a e.0 (equal _ t))) (halves _ _ up).0)) ∙ ap (λ (b : Bool). cond b 1 0) one
+
+    this : eq_by_cmp position_cmp a e.0 ≡ true → at (Some e.1) ≡ cond (test e) 1 0
+    this t = ap (λ x. cond (test (x, e.1)) 1 0) (positions_exact a e.0 (equal _ t))
+
+    by : (eq_by_cmp position_cmp a e.0 ≡ true) ⊎ (eq_by_cmp position_cmp a e.0 ≡ false) → (test e ≡ true) ⊎ (test e ≡ false) → count_by test es ≡ count_by test others + at (find position_cmp a es) → count_by test (e ∷ es) ≡ count_by test (where_key position_cmp (λ q. not (eq_by_cmp position_cmp a q)) (e ∷ es)) + at (find position_cmp a (e ∷ es))
+    by (inl t) c go =
+        let value : at (find position_cmp a (e ∷ es)) ≡ cond (test e) 1 0 = ap at (looked true t) ∙ this t in
+        rw (kept true t, value) (omega (arith, go, here t, sum_by-cons (λ y. cond (test y) 1 0) e es))
+    by (inr f) c go =
+        rw (kept false f, looked false f) (omega (arith, go, sum_by-cons (λ y. cond (test y) 1 0) e es, sum_by-cons (λ y. cond (test y) 1 0) e others))
+
+one_cell : (a p : Position) → hides p (a, (1, 1)) ≡ false
+one_cell a p = false_from_ne_true _ (λ t. let at = hides-true (a, (1, 1)) p t in at.other (ap₂ place (omega (arith, at.holds.top, at.holds.bottom)) (omega (arith, at.holds.left, at.holds.right))))
+
+-- an anchor hides a place, or not, beside all others
+hiders-apart : (m : SpanMap) (a p : Position) → hiders_of m p ≡ hiders_in (rest m a) p + cond (hides p (a, size_at m a)) 1 0
+unfolding rest
+hiders-apart m a p = counts-apart (hides p) a (entries m) (one_cell a p) (entries_sorted m) ∙ ap (λ v. hiders_in (rest m a) p + cond (hides p (a, unwrap_or v (1, 1))) 1 0) (sym (get-entries m a))
+
+hiders-with : (m : SpanMap) (a p : Position) (new : ℕ × ℕ) → hiders_of (with_size m a new) p ≡ hiders_in (rest m a) p + cond (hides p (a, new)) 1 0
+hiders-with m a p new =
+    hiders-apart (with_size m a new) a p
+    ∙ ap₂ (λ es size. hiders_in es p + cond (hides p (a, size)) 1 0) (rest-same m (with_size m a new) a (λ q n. with_size-other m a new q n)) (size_at-with_size m a new)
+
+abbrev number : Bool → ℕ
+number b = cond b 1 0
+
+one-if : (b : Bool) → b ≡ true → number b ≡ 1
+one-if b t = ap number t
+
+none-if : (b : Bool) → b ≡ false → number b ≡ 0
+none-if b t = ap number t
+
+module _ (m : SpanMap) (a : Position) (old new : ℕ × ℕ) (rows columns : ℕ) (has : size_at m a ≡ old) (fits : rows * columns < 2 ^ 64) where
+  few_of : (n : SpanMap) (i j : ℕ) → i < rows → j < columns → hiders_of n (place i j) < 2 ^ 64
+  few_of n i j h k = hiders-fit rows columns (place i j) (entries n) (entries_sorted n) h k fits
+
+  taken : Stepped (λ p. hides p (a, old)) 18446744073709551615 rows columns (hiders_of m) (hiders_in (rest m a))
+  taken = record {
+    here = λ i j h k t. omega (arith, was i j, one-if (hides (place i j) (a, old)) t, few_of m i j h k);
+    others = λ i j h k t. omega (arith, was i j, none-if (hides (place i j) (a, old)) t);
+  }
+    where
+      was : (i j : ℕ) → hiders_of m (place i j) ≡ hiders_in (rest m a) (place i j) + cond (hides (place i j) (a, old)) 1 0
+      was i j = hiders-apart m a (place i j) ∙ ap (λ size. hiders_in (rest m a) (place i j) + cond (hides (place i j) (a, size)) 1 0) has
+
+  given : Stepped (λ p. hides p (a, new)) 1 rows columns (hiders_in (rest m a)) (hiders_of (with_size m a new))
+  given = record {
+    here = λ i j h k t. omega (arith, hiders-with m a (place i j) new, one-if (hides (place i j) (a, new)) t, few_of (with_size m a new) i j h k);
+    others = λ i j h k t. omega (arith, hiders-with m a (place i j) new, none-if (hides (place i j) (a, new)) t);
+  }
+
+  -- a rectangle is taken away, and another given
+  pub hiders-replaced : (xs ys zs : List ℕ) → Steps xs ys (λ p. hides p (a, old)) 18446744073709551615 rows columns → Steps ys zs (λ p. hides p (a, new)) 1 rows columns → xs ≡ table (hiders_of m) rows columns → zs ≡ table (hiders_of (with_size m a new)) rows columns
+  hiders-replaced xs ys zs back on is = on.is (hiders_in (rest m a)) (hiders_of (with_size m a new)) given (back.is (hiders_of m) (hiders_in (rest m a)) taken is)
+
+-- one anchor of a sorted list more
+pub hiders-more : (es : List Anchor) (n : ℕ) (d : Anchor) (xs ys : List ℕ) (rows columns : ℕ) → T (is_sorted position_cmp es) → n < length es → rows * columns < 2 ^ 64 → Steps xs ys (λ p. hides p (get_or es n d)) 1 rows columns → xs ≡ table (hiders_in (take n es)) rows columns → ys ≡ table (hiders_in (take (n + 1) es)) rows columns
+hiders-more es n d xs ys rows columns up here fits steps is = steps.is (hiders_in (take n es)) (hiders_in (take (n + 1) es)) (record {
+  here = λ i j h k t. omega (arith, count_by_more_yes (hides (place i j)) es n d here t, sum_by-take-le (λ e. cond (hides (place i j) e) 1 0) es (n + 1), hiders-fit rows columns (place i j) es up h k fits);
+  others = λ i j h k t. count_by_more_no (hides (place i j)) es n d here t;
+}) is
+
+-- no anchor hides a place yet
+pub hiders-none : (rows columns count : ℕ) (xs : List ℕ) → count ≡ rows * columns → xs ≡ replicate count 0 → xs ≡ table (hiders_in []) rows columns
+hiders-none rows columns count xs e is = is ∙ sym (table-zero rows columns count (sym e))

@@ -1,0 +1,149 @@
+-- Which cells of a table a step over rows and columns reaches.
+use Rattle.std.proofs.Common.{◌≡◌, ℕ, ◌+◌, ◌<◌, ◌≤◌, ◌⊎◌, inl, inr, true, false, List, refl, sym, ap, ap₂, subst, ◌∙◌, ◌≢◌, get_or, set, min, arith}
+use Rattle.std.specs.Prelude.{◌*◌, ◌%◌, ◌^◌, ◌↔◌, ◌||◌, ◌&&◌, nat_lt}
+use Rattle.std.proofs.lemmas.Bool.{and_parts, and_from, cases_eq, cases_lt, or_cases, or_left, or_right, false_from_ne_true, not_from_true, not_from_false}
+use Rattle.std.specs.Cmp.{both_ways}
+use borrow.Author.Tests.{leb-true, ltb-true, le-leb, lt-ltb, eqb-true, eq-eqb}
+use Rattle.tabled_grid.specs.Anchors.{Anchor}
+use Rattle.tabled_grid.specs.Covers.{Steps, hides, in_run}
+use Rattle.tabled_grid.specs.Entity.{place, same_place}
+use Rattle.tabled_grid.specs.declared.config.position.Position.{Position}
+use Rattle.tabled_grid.proofs.Geometry.{In}
+use Rattle.tabled_grid.proofs.SpanMaps.{in_rect-from, in_rect-true, same_place-apart, same_place-true, same_place-self}
+use Rattle.tabled_grid.proofs.Tables.{steps_joined, steps_nowhere, steps_one, steps_same}
+
+record InRun (i : ℕ) (run : ℕ × ℕ) (p : Position) : Type 0 where
+  row : p.row ≡ i
+  left : run.0 ≤ p.col
+  right : p.col < run.1
+
+in_run-true : (i : ℕ) (run : ℕ × ℕ) (p : Position) → in_run i run p ≡ true → InRun i run p
+in_run-true i run p t =
+    let parts = and_parts _ _ t in
+    let columns = and_parts _ _ parts.1 in
+    record { row = eqb-true _ _ parts.0; left = leb-true _ _ columns.0; right = ltb-true _ _ columns.1 }
+
+in_run-from : (i : ℕ) (run : ℕ × ℕ) (p : Position) → InRun i run p → in_run i run p ≡ true
+in_run-from i run p h = and_from _ _ (eq-eqb _ _ h.row) (and_from _ _ (le-leb _ _ h.left) (lt-ltb _ _ h.right))
+
+-- a run that ends where it begins, or before
+no_run : (i : ℕ) (run : ℕ × ℕ) (p : Position) → run.1 ≤ run.0 → in_run i run p ≡ false
+no_run i run p h = false_from_ne_true _ (λ t. let at = in_run-true i run p t in omega (arith, at.left, at.right))
+
+-- one column more
+run_next : (i first j : ℕ) (p : Position) → first ≤ j → in_run i (first, j + 1) p ≡ (in_run i (first, j) p || same_place (place i j) p)
+run_next i first j p h = both_ways _ _ to (λ t. from (or_cases _ _ t))
+  where
+    to : in_run i (first, j + 1) p ≡ true → (in_run i (first, j) p || same_place (place i j) p) ≡ true
+    to t = either (in_run-true i (first, j + 1) p t) (cases_lt p.col j)
+      where
+        either : InRun i (first, j + 1) p → (p.col < j) ⊎ (j ≤ p.col) → (in_run i (first, j) p || same_place (place i j) p) ≡ true
+        either at (inl l) = or_left _ _ (in_run-from i (first, j) p (record { row = at.row; left = at.left; right = l }))
+        either at (inr l) = or_right _ _ (and_from _ _ (eq-eqb _ _ (sym at.row)) (eq-eqb _ _ (omega (arith, at.right))))
+
+    from : (in_run i (first, j) p ≡ true) ⊎ (same_place (place i j) p ≡ true) → in_run i (first, j + 1) p ≡ true
+    from (inl t) = let at = in_run-true i (first, j) p t in in_run-from i (first, j + 1) p (record { row = at.row; left = at.left; right = omega (arith, at.right) })
+    from (inr s) =
+        let same = same_place-true (place i j) p s in
+        in_run-from i (first, j + 1) p (record { row = sym (ap (λ (q : Position). q.row) same); left = omega (arith, ap (λ (q : Position). q.col) same); right = omega (arith, ap (λ (q : Position). q.col) same) })
+
+-- a row that is stepped up to a column
+pub record RunTo (old new : List ℕ) (i : ℕ) (run : ℕ × ℕ) (j step rows columns : ℕ) : Type 0 where
+  pub steps : Steps old new (in_run i (run.0, j)) step rows columns
+  pub empty : run.1 < run.0 → j ≡ run.0
+
+pub run_starts : (xs : List ℕ) (i : ℕ) (run : ℕ × ℕ) (step rows columns : ℕ) → RunTo xs xs i run run.0 step rows columns
+run_starts xs i run step rows columns = record { steps = steps_nowhere xs _ step rows columns (λ r c h k. no_run i (run.0, run.0) (place r c) (omega arith)); empty = λ h. refl }
+
+pub run_more : (old xs : List ℕ) (i j k d x : ℕ) (run : ℕ × ℕ) (step rows columns : ℕ) → RunTo old xs i run j step rows columns → run.0 ≤ j → j < run.1 → i < rows → run.1 ≤ columns → k ≡ i * columns + j → x ≡ (get_or xs k d + step) % 2 ^ 64 → RunTo old (set xs k x) i run (j + 1) step rows columns
+run_more old xs i j k d x run step rows columns so from below row end e value = record {
+  steps = steps_joined old xs (set xs k x) (in_run i (run.0, j)) (same_place (place i j)) (in_run i (run.0, j + 1)) step rows columns
+      (λ r c h l. run_next i run.0 j (place r c) from)
+      (λ r c h l t s. let at = in_run-true i (run.0, j) (place r c) t in omega (arith, at.right, ap (λ (q : Position). q.col) (same_place-true (place i j) (place r c) s)))
+      so.steps (steps_one xs i j k d x step rows columns row (omega arith) e value);
+  empty = λ h. absurd (omega arith);
+}
+
+-- all of a run
+pub run_done : (old xs : List ℕ) (i j : ℕ) (run : ℕ × ℕ) (step rows columns : ℕ) → RunTo old xs i run j step rows columns → run.1 ≤ j → (run.0 ≤ run.1 → j ≤ run.1) → Steps old xs (in_run i run) step rows columns
+run_done old xs i j run step rows columns so past near = either (cases_lt run.1 run.0)
+  where
+    either : (run.1 < run.0) ⊎ (run.0 ≤ run.1) → Steps old xs (in_run i run) step rows columns
+    either (inl h) = steps_same old xs (in_run i (run.0, j)) (in_run i run) step rows columns (λ r c u v. no_run i (run.0, j) (place r c) (omega (arith, so.empty h)) ∙ sym (no_run i run (place r c) (omega arith))) so.steps
+    either (inr h) =
+        let end : j ≡ run.1 = omega (arith, near h) in
+        steps_same old xs (in_run i (run.0, j)) (in_run i run) step rows columns (λ r c u v. ap (λ n. in_run i (run.0, n) (place r c)) end) so.steps
+
+-- an anchor's rectangle, cut at the shape, and the rows of it that are stepped
+pub record EachTo (old new : List ℕ) (anchor : Anchor) (i step rows columns : ℕ) : Type 0 where
+  pub steps : Steps old new (λ p. hides p anchor && nat_lt p.row i) step rows columns
+
+-- what it is for an anchor to hide a place
+pub record Hides (anchor : Anchor) (p : Position) : Type 0 where
+  pub holds : In anchor.0 anchor.1 p
+  pub other : anchor.0 ≢ p
+
+pub hides-true : (anchor : Anchor) (p : Position) → hides p anchor ≡ true → Hides anchor p
+hides-true anchor p t =
+    let parts = and_parts _ _ t in
+    record { holds = in_rect-true anchor.0 p anchor.1 parts.0; other = λ e. true_false (sym (not_from_true _ (subst (λ (x : Position). same_place anchor.0 x ≡ true) e (same_place-self anchor.0))) ∙ parts.1) }
+  where
+    true_false : false ≡ true → ⊥
+    true_false e = cc
+
+hides-from : (anchor : Anchor) (p : Position) → Hides anchor p → hides p anchor ≡ true
+hides-from anchor p h = and_from _ _ (in_rect-from anchor.0 p anchor.1 h.holds) (not_from_false _ (same_place-apart anchor.0 p h.other))
+
+pub each_starts : (xs : List ℕ) (anchor : Anchor) (step rows columns : ℕ) → EachTo xs xs anchor anchor.0.row step rows columns
+each_starts xs anchor step rows columns = record {
+  steps = steps_nowhere xs _ step rows columns (λ r c h k. false_from_ne_true _ (λ t.
+      let parts = and_parts _ _ t in
+      let at = hides-true anchor (place r c) parts.0 in
+      omega (arith, at.holds.top, ltb-true _ _ parts.1)));
+}
+
+-- one row more
+pub each_more : (old xs ys : List ℕ) (anchor : Anchor) (i left right step rows columns : ℕ) → EachTo old xs anchor i step rows columns → Steps xs ys (in_run i (left, right)) step rows columns → anchor.0.row ≤ i → i < anchor.0.row + anchor.1.0 → ((j : ℕ) → j < columns → (left ≤ j) ↔ ((anchor.0.col ≤ j) × (i ≡ anchor.0.row → j ≡ anchor.0.col → ⊥))) → ((j : ℕ) → j < columns → (j < right) ↔ (j < anchor.0.col + anchor.1.1)) → EachTo old ys anchor (i + 1) step rows columns
+each_more old xs ys anchor i left right step rows columns so run low high first end = record {
+  steps = steps_joined old xs ys (λ p. hides p anchor && nat_lt p.row i) (in_run i (left, right)) (λ p. hides p anchor && nat_lt p.row (i + 1)) step rows columns
+      (λ r c h k. both_ways _ _ (to r c k) (λ t. from r c k (or_cases _ _ t)))
+      (λ r c h k t s. let at = in_run-true i (left, right) (place r c) s in omega (arith, at.row, ltb-true r i (and_parts (hides (place r c) anchor) (nat_lt r i) t).1))
+      so.steps run;
+}
+  where
+    to : (r c : ℕ) → c < columns → (hides (place r c) anchor && nat_lt r (i + 1)) ≡ true → ((hides (place r c) anchor && nat_lt r i) || in_run i (left, right) (place r c)) ≡ true
+    to r c k t = let parts = and_parts (hides (place r c) anchor) (nat_lt r (i + 1)) t in either (hides-true anchor (place r c) parts.0) (cases_lt r i) (ltb-true r (i + 1) parts.1)
+      where
+        either : Hides anchor (place r c) → (r < i) ⊎ (i ≤ r) → r < i + 1 → ((hides (place r c) anchor && nat_lt r i) || in_run i (left, right) (place r c)) ≡ true
+        either at (inl l) below = or_left _ _ (and_from _ _ (hides-from anchor (place r c) at) (lt-ltb _ _ l))
+        either at (inr l) below =
+            let row : r ≡ i = omega arith in
+            or_right _ _ (in_run-from i (left, right) (place r c) (record { row = row; left = (first c k).1 (at.holds.left, λ e f. at.other (ap₂ place (omega (arith, e, row)) (sym f))); right = (end c k).1 at.holds.right }))
+
+    from : (r c : ℕ) → c < columns → ((hides (place r c) anchor && nat_lt r i) ≡ true) ⊎ (in_run i (left, right) (place r c) ≡ true) → (hides (place r c) anchor && nat_lt r (i + 1)) ≡ true
+    from r c k (inl t) = let parts = and_parts (hides (place r c) anchor) (nat_lt r i) t in and_from _ _ parts.0 (lt-ltb _ _ (omega (arith, ltb-true r i parts.1)))
+    from r c k (inr s) =
+        let at = in_run-true i (left, right) (place r c) s in
+        let begin = (first c k).0 at.left in
+        and_from _ _ (hides-from anchor (place r c) (record {
+          holds = record { top = omega (arith, at.row); bottom = omega (arith, at.row); left = begin.0; right = (end c k).0 at.right };
+          other = λ e. begin.1 (omega (arith, at.row, ap (λ (q : Position). q.row) e)) (sym (ap (λ (q : Position). q.col) e));
+        })) (lt-ltb _ _ (omega (arith, at.row)))
+
+-- all rows of the shape that the rectangle has
+pub each_done : (old xs : List ℕ) (anchor : Anchor) (i step rows columns : ℕ) → EachTo old xs anchor i step rows columns → ((r : ℕ) → r < rows → r < anchor.0.row + anchor.1.0 → r < i) → Steps old xs (λ p. hides p anchor) step rows columns
+each_done old xs anchor i step rows columns so past = steps_same old xs _ _ step rows columns (λ r c h k. both_ways _ _ (λ t. (and_parts _ _ t).0) (λ t. and_from _ _ t (lt-ltb _ _ (past r h (hides-true anchor (place r c) t).holds.bottom)))) so.steps
+
+-- where the first of an anchor's columns is another's place
+abbrev pub Begins : Anchor → ℕ → ℕ → ℕ → Type 0
+Begins anchor i left columns = (j : ℕ) → j < columns → (left ≤ j) ↔ ((anchor.0.col ≤ j) × (i ≡ anchor.0.row → j ≡ anchor.0.col → ⊥))
+
+pub begins_after : (anchor : Anchor) (i left columns : ℕ) → columns < 2 ^ 64 → i ≡ anchor.0.row → left ≡ min (anchor.0.col + 1) 18446744073709551615 → Begins anchor i left columns
+begins_after anchor i left columns fits row is = λ j h. (λ l. (omega arith, λ e f. omega arith), λ b. by (cases_eq j anchor.0.col) b h)
+  where
+    by : {j : ℕ} → (j ≡ anchor.0.col) ⊎ (j ≡ anchor.0.col → ⊥) → (anchor.0.col ≤ j) × (i ≡ anchor.0.row → j ≡ anchor.0.col → ⊥) → j < columns → left ≤ j
+    by (inl e) b h = absurd (b.1 row e)
+    by (inr n) b h = omega (arith, b.0, n)
+
+pub begins_at : (anchor : Anchor) (i left columns : ℕ) → (i ≡ anchor.0.row → ⊥) → left ≡ anchor.0.col → Begins anchor i left columns
+begins_at anchor i left columns apart is = λ j h. (λ l. (omega arith, λ e f. apart e), λ b. omega (arith, b.0))

@@ -1,0 +1,48 @@
+-- How many anchors hide each cell of a table.
+use Rattle.std.specs.Prelude.{◌≡◌, ◌+◌, ◌<◌, ◌%◌, ◌^◌, ◌==◌, ℕ, ◌&&◌, Bool, true, false, List, map, nat_le, nat_lt, not}
+use Rattle.std.specs.FinMap.{entries}
+use Rattle.std.specs.List.{count_by}
+use Rattle.tabled_grid.specs.Anchors.{Anchor}
+use Rattle.tabled_grid.specs.Entity.{block, place, same_place}
+use Rattle.tabled_grid.specs.Rectangles.{in_rect}
+use Rattle.tabled_grid.specs.Spans.{SpanMap}
+use Rattle.tabled_grid.specs.declared.config.position.Position.{Position}
+
+-- the rectangle of an anchor at another place holds the place
+abbrev pub hides : Position → Anchor → Bool
+hides p e = in_rect e.0 e.1 p && not (same_place e.0 p)
+
+-- how many anchors of a list hide the place
+abbrev pub hiders_in : List Anchor → Position → ℕ
+hiders_in es p = count_by (hides p) es
+
+-- how many anchors hide the place
+abbrev pub hiders_of : SpanMap → Position → ℕ
+hiders_of m p = hiders_in (entries m) p
+
+-- a number for each place of a shape, row by row
+abbrev pub table : (Position → ℕ) → ℕ → ℕ → List ℕ
+table f rows columns = map f (block 0 rows 0 columns)
+
+-- a shape, and how many anchors hide each of its places, row by row
+pub record Cover : Type 0 where
+  pub rows : ℕ
+  pub columns : ℕ
+  pub hiders : List ℕ
+
+-- what a map covers of a shape
+abbrev pub cover_of : SpanMap → ℕ → ℕ → Cover
+cover_of m rows columns = record { rows = rows; columns = columns; hiders = table (hiders_of m) rows columns }
+
+-- the place is in a row, between two columns
+abbrev pub in_run : ℕ → ℕ × ℕ → Position → Bool
+in_run i run p = (p.row == i) && (nat_le run.0 p.col && nat_lt p.col run.1)
+
+-- numbers for the places of a shape differ by a step, round the end of a word, at those that pass a test, and are the same at the others
+pub record Stepped (test : Position → Bool) (step rows columns : ℕ) (f g : Position → ℕ) : Type 0 where
+  pub here : (i j : ℕ) → i < rows → j < columns → test (place i j) ≡ true → g (place i j) ≡ (f (place i j) + step) % 2 ^ 64
+  pub others : (i j : ℕ) → i < rows → j < columns → test (place i j) ≡ false → g (place i j) ≡ f (place i j)
+
+-- a list is stepped at the places of a shape that pass a test
+pub record Steps (old new : List ℕ) (test : Position → Bool) (step rows columns : ℕ) : Type 0 where
+  pub is : (f g : Position → ℕ) → Stepped test step rows columns f g → old ≡ table f rows columns → new ≡ table g rows columns
