@@ -1,4 +1,9 @@
+pub mod AddedColumns
+pub mod AddedRows
+pub mod Along
 pub mod Blanks
+pub mod Diagonal
+pub mod FirstLines
 pub mod FittingAnchors
 pub mod Flat
 pub mod FlatCells
@@ -23,4 +28,7 @@ pub mod SortedAnchors
 pub mod SortedEntries
 pub mod SpanMaps
 pub mod Spans
+pub mod Squares
+pub mod SwappedCells
 pub mod Swaps
+pub mod Transposed
