@@ -15,12 +15,12 @@ use Rattle.tabled_grid.proofs.AddedColumns.{IsEven-adds_columns, columns_front}
 use Rattle.tabled_grid.proofs.AddedRows.{IsEven-adds_rows}
 
 -- what is read of a list by place
-slice_get-some : {A : Type 0} (xs : List A) (b : ℕ) → get_or (map Some xs) b None ≡ slice_get xs b
+pub slice_get-some : {A : Type 0} (xs : List A) (b : ℕ) → get_or (map Some xs) b None ≡ slice_get xs b
 slice_get-some [] b = refl
 slice_get-some (x ∷ xs) zero = refl
 slice_get-some (x ∷ xs) (suc b) = slice_get-some xs b
 
-slice_get-take : {A : Type 0} (n : ℕ) (xs : List A) (b : ℕ) → b < n → slice_get (take n xs) b ≡ slice_get xs b
+pub slice_get-take : {A : Type 0} (n : ℕ) (xs : List A) (b : ℕ) → b < n → slice_get (take n xs) b ≡ slice_get xs b
 slice_get-take zero xs b h = absurd (omega arith)
 slice_get-take (suc n) [] b h = refl
 slice_get-take (suc n) (x ∷ xs) zero h = refl
