@@ -1,4 +1,9 @@
+pub mod AddedColumns
+pub mod AddedRows
+pub mod Along
 pub mod Blanks
+pub mod Diagonal
+pub mod FirstLines
 pub mod FittingAnchors
 pub mod Flat
 pub mod FlatCells
@@ -25,6 +30,9 @@ pub mod SortedAnchors
 pub mod SortedEntries
 pub mod SpanMaps
 pub mod Spans
+pub mod Squares
 pub mod Stepping
+pub mod SwappedCells
 pub mod Swaps
 pub mod Tables
+pub mod Transposed

@@ -1,2 +1,7 @@
 //! Options for the cells, the rows and the columns of a table.
 #![tactic(auto)]
+
+pub mod extract;
+mod lines;
+pub mod reverse;
+pub mod rotate;

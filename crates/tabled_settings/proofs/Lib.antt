@@ -1,0 +1,4 @@
+pub mod Kept
+pub mod LineReads
+pub mod Reversed
+pub mod Rotated

@@ -1,0 +1,45 @@
+//! Work on the rows or on the columns of a store.
+
+ghost use Rattle.std.specs.Prelude.{◌≡◌, ◌≤◌};
+ghost use Rattle.tabled_grid.specs.Along.{count_along};
+ghost use Rattle.tabled_grid.specs.Grid.{IsEven};
+ghost use Rattle.tabled_settings.specs.Lines.{KeepsLines, ReversesLines};
+
+use std::ops::Range;
+use tabled_grid::records::{Axis, Blank, ExactRecords, Records, Resizable};
+
+/// Puts the lines from `start` up to `end` into the opposite order, by swaps from both ends.
+pub(crate) fn reverse<R>(axis: Axis, records: &mut R, start: usize, end: usize)
+where
+    R: Resizable,
+    R::Cell: Blank,
+    requires well { R.is_well_formed records.old }
+    requires even { IsEven (R.grid records.old) }
+    requires order { start ≤ end }
+    requires within { end ≤ count_along axis (R.grid records.old) }
+    ensures well { R.is_well_formed records.new }
+    ensures reversed { ReversesLines axis start end (R.grid records.old) (R.grid records.new) }
+{
+    for k in 0..(end - start) / 2 {
+        axis.swap(records, start + k, end - 1 - k);
+    }
+}
+
+/// Keeps the lines of a range alone: brings them to the front and cuts off the rest.
+pub(crate) fn keep<R>(axis: Axis, records: &mut R, range: Range<usize>)
+where
+    R: Records + ExactRecords + Resizable,
+    R::Cell: Blank,
+    requires well { R.is_well_formed records.old }
+    ensures well { R.is_well_formed records.new }
+    ensures kept { KeepsLines axis range.start range.end (R.grid records.old) (R.grid records.new) }
+{
+    let end = axis.count(records).min(range.end);
+    let kept = end.saturating_sub(range.start);
+    // Lines at the front stay where they are.
+    let moved = if range.start > 0 { kept } else { 0 };
+    for k in 0..moved {
+        axis.swap(records, k, range.start + k);
+    }
+    axis.truncate(records, kept);
+}
