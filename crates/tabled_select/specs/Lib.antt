@@ -1,5 +1,6 @@
 pub mod Algebra
 pub mod Listed
+pub mod Located
 pub mod Marks
 pub mod Selectors
 pub mod Sets
