@@ -6,11 +6,22 @@ ghost use Rattle.std.specs.Prelude.{◌≡◌, List, IfOk};
 ghost use Rattle.tabled_grid.specs.Grid.{Grid};
 ghost use Rattle.tabled_select.specs.Located.{GoesOver};
 
+mod by_column_name;
+mod by_condition;
+mod by_content;
+mod by_value;
 mod columns;
 mod found;
+mod locator;
 mod rows;
+mod search;
 
+pub use by_column_name::ByColumnName;
+pub use by_condition::ByCondition;
+pub use by_content::ByContent;
+pub use by_value::ByValue;
 pub use found::coordinates;
+pub use locator::Locator;
 use std::alloc::{AllocError, Global};
 use tabled_grid::records::GridStore;
 
