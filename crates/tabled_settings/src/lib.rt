@@ -1,2 +1,4 @@
 //! Options for the cells, the rows and the columns of a table.
 #![tactic(auto)]
+
+mod rewrite;
