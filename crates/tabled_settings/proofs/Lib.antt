@@ -1,4 +1,7 @@
+pub mod Apart
 pub mod Kept
 pub mod LineReads
+pub mod Results
 pub mod Reversed
+pub mod Rewriting
 pub mod Rotated
