@@ -4,4 +4,5 @@
 pub mod extract;
 mod lines;
 pub mod reverse;
+mod rewrite;
 pub mod rotate;
