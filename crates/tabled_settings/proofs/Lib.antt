@@ -1,10 +1,7 @@
-<<<<<<< HEAD
+pub mod Apart
 pub mod Kept
 pub mod LineReads
-pub mod Reversed
-pub mod Rotated
-=======
-pub mod Apart
 pub mod Results
+pub mod Reversed
 pub mod Rewriting
->>>>>>> d6eeb0214403fd9bc10409ced195bb210ed8e148
+pub mod Rotated
