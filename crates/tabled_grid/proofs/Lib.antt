@@ -1,3 +1,4 @@
+pub mod Across
 pub mod AddedColumns
 pub mod AddedRows
 pub mod Along

@@ -1,9 +1,11 @@
 -- Grids with many rows or columns more, and grids whose rows are columns.
 use Rattle.std.specs.Prelude.{◌≡◌, ◌≤◌, ◌<◌, ◌⊎◌, ◌==◌, ℕ, ◌+◌, if◌then◌else◌, List, [], ◌∷◌, ◌++◌, Option, None, Some, length, map, replicate, slice_index_or}
 use Rattle.std.specs.List.{AllByRecursion, AllZip, zip}
-use Rattle.tabled_grid.specs.Grid.{Grid, map_grid}
+use Rattle.tabled_grid.specs.Entity.{place}
+use Rattle.tabled_grid.specs.Grid.{Grid, cell_at, map_grid, with_cell}
 use Rattle.tabled_grid.specs.Moves.{AddsBlanks}
 use Rattle.tabled_grid.specs.Resized.{AreBlanks}
+use Rattle.tabled_grid.specs.declared.config.position.Position.{Position}
 
 -- so many rows of blanks are put below the last row
 pub record AddsRows {A : Type 0} (is_blank : A → Type 0) (many : ℕ) (old new : Grid A) : Type 0 where
@@ -46,3 +48,17 @@ pub record HalfTransposedIn {A : Type 0} (is_blank : A → Type 0) (size i j : �
   pub rows_added : AddsRows is_blank many old grown
   pub columns_added : AddsColumns is_blank more grown square
   pub turned : HalfTransposed (cell_in square) (cell_in new) size i j
+
+-- a cell of one grid and a cell of another have changed places
+pub record Exchanges {A : Type 0} (p q : Position) (old new other_old other_new : Grid A) : Type 0 where
+  pub here : A
+  pub there : A
+  pub was_here : cell_at old p ≡ Some here
+  pub was_there : cell_at other_old q ≡ Some there
+  pub is_here : new ≡ with_cell old p there
+  pub is_there : other_new ≡ with_cell other_old q here
+
+-- the cells of a grid before a place, row by row, have come to the place across in another one; the others are where they were
+pub record MovesAcross {A : Type 0} (i j : ℕ) (old now turned : Grid A) : Type 0 where
+  pub done : (a b : ℕ) → a < old.rows → b < old.columns → (a < i) ⊎ ((a ≡ i) × (b < j)) → cell_at turned (place b a) ≡ cell_at old (place a b)
+  pub left : (a b : ℕ) → a < old.rows → b < old.columns → (i < a) ⊎ ((a ≡ i) × (j ≤ b)) → cell_at now (place a b) ≡ cell_at old (place a b)

@@ -71,4 +71,8 @@ impl<T: Blank> Resizable for VecRecords<T> {
     fn swap_column(&mut self, j: usize, k: usize) {
         swap_each(&mut self.cells, self.rows, self.columns, j, k);
     }
+
+    fn transpose(&mut self, alloc: Global) -> Result<(), AllocError> {
+        self.turn(alloc)
+    }
 }
