@@ -1,5 +1,5 @@
 -- Cells moved across, from one grid to another.
-use Rattle.std.proofs.Common.{◌≡◌, ℕ, ◌+◌, ◌<◌, ◌≤◌, ◌≢◌, ◌⊎◌, inl, inr, Bool, false, cond, eqb, List, [], ◌∷◌, Some, refl, sym, ap, ap₂, ◌∙◌, subst, length, arith}
+use Rattle.std.proofs.Common.{◌≡◌, ℕ, ◌+◌, ◌<◌, ◌≤◌, ◌≢◌, ◌⊎◌, inl, inr, false, cond, eqb, List, refl, sym, ap, ◌∙◌, subst, length, arith}
 use Rattle.std.specs.List.{AllByRecursion}
 use Rattle.std.proofs.lemmas.Bool.{cases_eq, cases_lt, ne_eqb}
 use Rattle.tabled_grid.specs.Bulk.{Exchanges, MovesAcross, transposed, transposed_rows}

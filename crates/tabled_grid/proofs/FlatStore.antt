@@ -10,8 +10,11 @@ use Rattle.tabled_grid.specs.declared.config.position.Position.{Position}
 use Rattle.tabled_grid.specs.Grid.{IsInside, cell_at, width_of, with_cell}
 use Rattle.tabled_grid.specs.Resized.{AreBlanks, InsertsColumn, InsertsRow, with_cells_swapped, with_column, with_columns_swapped, with_row, with_rows_swapped, without_column, without_row}
 use Rattle.tabled_grid.proofs.Blanks.{blank_column}
+use Rattle.tabled_grid.proofs.FirstLines.{IsEven-first}
 use Rattle.tabled_grid.proofs.Grids.{IsEven-with_cell}
 use Rattle.tabled_grid.proofs.Resized.{IsEven-with_cells_swapped, IsEven-with_column, IsEven-with_columns_swapped, IsEven-with_row, IsEven-with_rows_swapped, IsEven-without_column, IsEven-without_row}
+use Rattle.tabled_grid.specs.Along.{first_along}
+use Rattle.tabled_grid.specs.declared.records.axis.Axis.TheVariants.{Columns}
 use Rattle.tabled_grid.specs.Flat.{IsFull, chunks, flat_grid, joined}
 use Rattle.tabled_grid.specs.Moves.{AddsBlanks, InsertsBlanks, PutsBlanks, with_runs_swapped}
 use Rattle.tabled_grid.proofs.Flat.{full_of, is_even, joined-chunks, view_of}
@@ -100,6 +103,9 @@ module _ {A : Type 0} (r c : ℕ) (xs : List A) (h : IsFull r c xs) where
 
   pub column_removed : (j : ℕ) (new : List A) → j < c → new ≡ joined (map (λ (row : List A). remove row j) (chunks r c xs)) → flat_grid r (c - 1) new ≡ without_column (flat_grid r c xs) j
   column_removed j new within is = view_of (without_column (flat_grid r c xs) j) r (c - 1) new (IsEven-without_column _ (is_even r c xs h) j within) refl refl is
+
+  pub columns_cut : (n : ℕ) (new : List A) → n ≤ c → new ≡ joined (map (λ (row : List A). take n row) (chunks r c xs)) → flat_grid r n new ≡ first_along Columns n (flat_grid r c xs)
+  columns_cut n new within is = view_of (first_along Columns n (flat_grid r c xs)) r n new (IsEven-first Columns n _ within (is_even r c xs h)) refl refl is
 
   module _ (is_blank : A → Type 0) (room : List A) (put : AddsBlanks is_blank xs room r) where
     -- the blanks lie behind the cells

@@ -2,7 +2,7 @@
 
 use super::VecRecords;
 use super::moves::{
-    close_up, insert_blanks, push_blanks, remove_run, spread, swap_each, swap_runs,
+    close_up, insert_blanks, keep_fronts, push_blanks, remove_run, spread, swap_each, swap_runs,
 };
 use crate::config::Position;
 use crate::records::blank::Blank;
@@ -70,6 +70,12 @@ impl<T: Blank> Resizable for VecRecords<T> {
 
     fn swap_column(&mut self, j: usize, k: usize) {
         swap_each(&mut self.cells, self.rows, self.columns, j, k);
+    }
+
+    fn truncate_columns(&mut self, count: usize) {
+        keep_fronts(&mut self.cells, self.rows, self.columns, count);
+        self.columns = count;
+        self.cells.truncate(self.rows * count);
     }
 
     fn transpose(&mut self, alloc: Global) -> Result<(), AllocError> {

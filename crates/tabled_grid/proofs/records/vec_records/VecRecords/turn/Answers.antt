@@ -1,4 +1,4 @@
-use Rattle.std.proofs.Common.{◌+◌, ◌∙◌, sym, ap, refl, arith}
+use Rattle.std.proofs.Common.{◌+◌, ◌∙◌, ap, refl, arith}
 use Rattle.tabled_grid.proofs.Across.{across_all, across_more, across_none, facing_more}
 use Rattle.tabled_grid.proofs.Flat.{is_even}
 use Rattle.tabled_grid.proofs.records.vec_records.VecRecords.turn.Goals as goal
