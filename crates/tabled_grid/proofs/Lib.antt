@@ -1,3 +1,4 @@
+pub mod BesideAnchors
 pub mod Blanks
 pub mod FittingAnchors
 pub mod Flat

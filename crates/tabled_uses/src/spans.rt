@@ -146,10 +146,15 @@ fn keeps_which_cells_are_hidden(rt: HostRuntime) -> Result<(), Fail> {
         (far.as_slice(), [false; 4]),
     ] {
         let cover = CoverMap::new(alloc, &merged(alloc, anchors)?, 2, 2)?;
-        let mut k = 0;
-        for want in hidden {
-            assert_eq!(rt; cover.is_hidden(Position::new(k / 2, k % 2)), want, "{anchors:?}");
-            k += 1;
+        for i in 0..2 {
+            for j in 0..2 {
+                let cell = Position::new(i, j);
+                assert_eq!(rt;
+                    cover.is_hidden(cell),
+                    hidden[2 * i + j],
+                    "{anchors:?} {cell:?}"
+                );
+            }
         }
     }
     assert!(rt; CoverMap::new(alloc, &merged(alloc, &[])?, usize::MAX, 2).is_err());
@@ -182,7 +187,11 @@ fn follows_sizes_that_change(rt: HostRuntime) -> Result<(), Fail> {
         for i in 0..3 {
             for j in 0..3 {
                 let cell = Position::new(i, j);
-                assert_eq!(rt; cover.is_hidden(cell), !spans.is_cell_visible(cell), "{pos:?} {cell:?}");
+                assert_eq!(rt;
+                    cover.is_hidden(cell),
+                    !spans.is_cell_visible(cell),
+                    "{pos:?} {cell:?}"
+                );
             }
         }
     }

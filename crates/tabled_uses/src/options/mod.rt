@@ -1,6 +1,5 @@
 //! Calls of options: what compositions of them make of a table.
 
-
 ghost use Rattle.std.proofs.Common.{rules};
 ghost use Rattle.tabled_options.specs.Does.{CopiesAlike, Same};
 ghost use Rattle.std.specs.Prelude.{None};
