@@ -17,6 +17,7 @@ pub mod Mapped
 pub mod MarkedAnchors
 pub mod Merging
 pub mod NestedRows
+pub mod OwnStore
 pub mod PassedAnchors
 pub mod Places
 pub mod Resized
