@@ -1,7 +1,8 @@
 //! The cases.
 
+use crate::spans::{Call, Merged};
 use crate::stores::Change;
-use crate::{builders, selectors, stores};
+use crate::{builders, selectors, spans, stores};
 use std::alloc::{AllocError, Global};
 use tabled_grid::records::ExactRecords;
 
@@ -23,6 +24,7 @@ pub(crate) enum Case {
     Pairs,
     Flat(Change),
     Nested(Change),
+    Spans(Merged, Call),
 }
 
 impl Case {
@@ -41,7 +43,7 @@ impl Case {
             "not_frame" => Some(Case::NotFrame),
             "and" => Some(Case::And),
             "pairs" => Some(Case::Pairs),
-            _ => Case::of_store(name),
+            _ => Case::of_store(name).or(Case::of_spans(name)),
         }
     }
 
@@ -62,6 +64,25 @@ impl Case {
         }
     }
 
+    fn of_spans(name: &str) -> Option<Case> {
+        let (merged, call) = name.split_once('_')?;
+        let merged = match merged {
+            "flatspans" => Merged::Flat,
+            "tallspans" => Merged::Tall,
+            "coveredspans" => Merged::Covered,
+            "tenthspans" => Merged::Tenths,
+            _ => return None,
+        };
+        let call = match call {
+            "made" => Call::Nothing,
+            "fits" => Call::Fits,
+            "drop" => Call::DropHidden,
+            "cover" => Call::Cover,
+            _ => return None,
+        };
+        Some(Case::Spans(merged, call))
+    }
+
     /// Does the calls once, and counts something of what comes out.
     pub(crate) fn run(self, alloc: Global, size: usize) -> Result<usize, AllocError> {
         match self {
@@ -80,6 +101,7 @@ impl Case {
             Case::Pairs => selectors::pairs(alloc, size),
             Case::Flat(change) => stores::flat(alloc, size, change),
             Case::Nested(change) => stores::nested(alloc, size, change),
+            Case::Spans(merged, call) => spans::run(alloc, size, merged, call),
         }
     }
 }

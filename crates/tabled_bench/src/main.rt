@@ -6,6 +6,7 @@
 mod builders;
 mod case;
 mod selectors;
+mod spans;
 mod stores;
 
 use case::Case;

@@ -2,6 +2,7 @@ pub mod Across
 pub mod AddedColumns
 pub mod AddedRows
 pub mod Along
+pub mod BesideAnchors
 pub mod Blanks
 pub mod Diagonal
 pub mod FirstLines
@@ -24,6 +25,7 @@ pub mod Mapped
 pub mod MarkedAnchors
 pub mod Merging
 pub mod NestedRows
+pub mod OwnStore
 pub mod PassedAnchors
 pub mod Places
 pub mod Resized

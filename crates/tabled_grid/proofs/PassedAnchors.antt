@@ -8,7 +8,8 @@ use Rattle.std.specs.declared.cmp.Ordering.{Ordering}
 use Rattle.std.specs.declared.cmp.Ordering.TheVariants.{Less, Equal, Greater}
 use Rattle.std.proofs.lemmas.Bool.{and_from, and_parts, false_from_ne_true, or_cases}
 use Rattle.std.proofs.lemmas.Cmp.{ranked}
-use Rattle.std.proofs.lemmas.List.{append-nil, drop-drop, drop_all, drop-set-lt, get_or_default, take_more, take_more_set, drop_more, get_or-drop, map-append, map_more, take-append-drop, length-drop}
+use Rattle.std.proofs.lemmas.List.{append-nil, drop-drop, drop_all, drop-set-lt, get_or_default, take_more, take_more_set, drop_more, get_or-drop, map-append, map_more, take-append-drop, take_all, length-drop}
+use Rattle.std.proofs.Math.Seq.{take-add}
 use Rattle.std.proofs.lemmas.Grind.{drop_more_same}
 use borrow.Author.Tests.{eqb-true, leb-true, lt-ltb, ltb-true}
 use Rattle.tabled_grid.specs.Spans.{position_cmp}
@@ -136,6 +137,16 @@ module _ {A : Type 0} (f : A → A) (old : List A) (first : ℕ) where
         left = left;
       }
 
+  -- so many more are passed over that the change would leave as they are
+  pub changed_over : (new : List A) (k n : ℕ) → first ≤ k → ChangedTo new k → map f (take n (drop k old)) ≡ take n (drop k old) → ChangedTo new (k + n)
+  changed_over new k n low changed same =
+      let more : (k + n) - first ≡ (k - first) + n = omega arith in
+      record {
+        done = take-add k n new ∙ ap₂ (λ xs ys. xs ++ ys) changed.done (ap (take n) changed.left ∙ sym same ∙ ap (λ xs. map f (take n xs)) (sym (rest_is k low)))
+            ∙ append_assoc (take first old) _ _ ∙ ap (λ xs. take first old ++ xs) (sym (map-append f (take (k - first) (drop first old)) (take n (drop (k - first) (drop first old)))) ∙ ap (map f) (sym (take-add (k - first) n (drop first old)) ∙ ap (λ m. take m (drop first old)) (sym more)));
+        left = sym (drop-drop n k new) ∙ ap (drop n) changed.left ∙ drop-drop n k old;
+      }
+
   -- once the change would leave the rest as it is, all is done
   pub changed_all : (new : List A) (k : ℕ) → first ≤ k → ChangedTo new k → map f (drop k old) ≡ drop k old → new ≡ take first old ++ map f (drop first old)
   changed_all new k low changed same =
@@ -163,6 +174,26 @@ module _ (by : Anchor) (old new : List Anchor) (first k : ℕ) (d : Anchor) (low
   hidden_other out = changed_more (unless_held by) old first new new k (get_or new k d) low (omega arith) is_item changed
       (take_more new k d here ∙ ap (λ b. take k new ++ cond b ((get_or new k d).0, (0, 0)) (get_or new k d) ∷ []) (sym out))
       (drop_more_same new old k changed.left)
+
+  -- the anchors after it, as a slice of those that are gone through
+  after_is : take (length new - (k + 1)) (drop (k + 1) new) ≡ drop (k + 1) new
+  after_is = take_all (length new - (k + 1)) (drop (k + 1) new) (omega (arith, length-drop (k + 1) new))
+
+  pub sorted_after : T (is_sorted position_cmp (by ∷ drop first old)) → T (is_sorted position_cmp (get_or new k d ∷ take (length new - (k + 1)) (drop (k + 1) new)))
+  sorted_after up =
+      let within : k < length old = omega arith in
+      let e = get_or new k d in
+      let rest : drop k old ≡ e ∷ drop (k + 1) old = drop_more old k e within ∙ ap (λ x. x ∷ drop (k + 1) old) is_item in
+      let at : first + (k - first) ≡ k = omega arith in
+      let sorted = sorted_drop (k - first) (drop first old) (halves _ _ up).1 in
+      subst (λ es. T (is_sorted position_cmp es)) (drop-drop (k - first) first old ∙ ap (λ n. drop n old) at ∙ rest ∙ ap (λ xs. e ∷ xs) (sym (drop_more_same new old k changed.left) ∙ sym after_is)) sorted
+
+  pub hidden_over : (n : ℕ) → in_rect by.0 by.1 (get_or new k d).0 ≡ false → map (unless_held by) (take n (take (length new - (k + 1)) (drop (k + 1) new))) ≡ take n (take (length new - (k + 1)) (drop (k + 1) new)) → ChangedTo (unless_held by) old first new (k + (1 + n))
+  hidden_over n out free =
+      let same_rest : take (length new - (k + 1)) (drop (k + 1) new) ≡ drop (k + 1) old = after_is ∙ drop_more_same new old k changed.left in
+      let all : (k + 1) + n ≡ k + (1 + n) = omega arith in
+      subst (λ m. ChangedTo (unless_held by) old first new m) all
+      (changed_over (unless_held by) old first new (k + 1) n (omega arith) (hidden_other out) (subst (λ xs. map (unless_held by) (take n xs) ≡ take n xs) same_rest free))
 
   pub hidden_past : T (is_sorted position_cmp (by ∷ drop first old)) → is_past by (get_or new k d).0 ≡ true → new ≡ take first old ++ map (unless_held by) (drop first old)
   hidden_past up past =

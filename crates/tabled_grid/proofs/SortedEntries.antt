@@ -31,7 +31,7 @@ turned true x y = refl
 turned false x y = refl
 
 module _ {K X : Type 0} (R : K → K → Ordering) where
-  below_at : (k : K) (es : List (K × X)) (i : ℕ) (d : K × X) → T (below_all R k es) → i < length es → R k (get_or es i d).0 ≡ Less
+  pub below_at : (k : K) (es : List (K × X)) (i : ℕ) (d : K × X) → T (below_all R k es) → i < length es → R k (get_or es i d).0 ≡ Less
   below_at k [] i d h within = absurd (omega arith)
   below_at k (e ∷ es) zero d h within = less _ (halves _ _ h).0
   below_at k (e ∷ es) (suc i) d h within = below_at k es i d (halves _ _ h).1 (omega arith)

@@ -2,6 +2,7 @@
 #![tactic(auto)]
 
 pub mod options;
+pub mod own_store;
 #[cfg(test)]
 mod places;
 #[cfg(test)]

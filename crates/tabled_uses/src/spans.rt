@@ -2,7 +2,7 @@
 
 use std::alloc::{AllocError, Global};
 use std::test::Fail;
-use tabled_grid::config::{Position, SpannedConfig};
+use tabled_grid::config::{CoverMap, Position, SpannedConfig};
 
 /// An anchor: its row and column, and the height and the width of its rectangle.
 type Anchor = (usize, usize, usize, usize);
@@ -130,6 +130,70 @@ fn tells_which_cells_are_covered(rt: HostRuntime) -> Result<(), Fail> {
             "{pos:?}"
         );
         assert_eq!(rt; spans.is_cell_covered_by_row_span(pos), down, "{pos:?}");
+    }
+    Ok(())
+}
+
+#[test]
+fn keeps_which_cells_are_hidden(rt: HostRuntime) -> Result<(), Fail> {
+    let alloc = rt.alloc();
+    let past: [Anchor; 3] = [(0, 0, 3, 1), (0, 1, 1, 9), (5, 5, 2, 2)];
+    let whole: [Anchor; 1] = [(0, 0, 2, 2)];
+    let far: [Anchor; 1] = [(usize::MAX, usize::MAX, 2, 2)];
+    for (anchors, hidden) in [
+        (past.as_slice(), [false, false, true, false]),
+        (whole.as_slice(), [false, true, true, true]),
+        (far.as_slice(), [false; 4]),
+    ] {
+        let cover = CoverMap::new(alloc, &merged(alloc, anchors)?, 2, 2)?;
+        for i in 0..2 {
+            for j in 0..2 {
+                let cell = Position::new(i, j);
+                assert_eq!(rt;
+                    cover.is_hidden(cell),
+                    hidden[2 * i + j],
+                    "{anchors:?} {cell:?}"
+                );
+            }
+        }
+    }
+    assert!(rt; CoverMap::new(alloc, &merged(alloc, &[])?, usize::MAX, 2).is_err());
+    Ok(())
+}
+
+#[test]
+fn follows_sizes_that_change(rt: HostRuntime) -> Result<(), Fail> {
+    let alloc = rt.alloc();
+    let mut spans = SpannedConfig::new(alloc);
+    let mut cover = CoverMap::new(alloc, &spans, 3, 3)?;
+    let changes: [Anchor; 7] = [
+        (0, 0, 1, 2),
+        (0, 1, 3, 1),
+        (0, 0, 2, 2),
+        (1, 0, 1, 9),
+        (0, 1, 1, 1),
+        (7, 0, 2, 2),
+        (0, 0, 1, 1),
+    ];
+    for (row, col, height, width) in changes {
+        let pos = Position::new(row, col);
+        let old = (
+            spans.get_row_span(pos).unwrap_or(1),
+            spans.get_column_span(pos).unwrap_or(1),
+        );
+        spans.set_row_span(alloc, pos, height)?;
+        spans.set_column_span(alloc, pos, width)?;
+        cover.replace(pos, old, (height, width));
+        for i in 0..3 {
+            for j in 0..3 {
+                let cell = Position::new(i, j);
+                assert_eq!(rt;
+                    cover.is_hidden(cell),
+                    !spans.is_cell_visible(cell),
+                    "{pos:?} {cell:?}"
+                );
+            }
+        }
     }
     Ok(())
 }

@@ -1,8 +1,9 @@
 //! Sorted lists of anchors: which are hidden, and whether their rectangles lie well.
 
-ghost use Rattle.std.specs.Prelude.{◌≡◌, ◌+◌, ◌≤◌, ◌∷◌, ◌++◌, ℕ, IfOk, T, drop, length, map, nat_lt, not, take};
+ghost use Rattle.std.specs.Prelude.{false, ◌≡◌, ◌+◌, ◌≤◌, ◌∷◌, ◌++◌, ℕ, IfOk, T, drop, length, map, nat_lt, not, take};
 ghost use Rattle.std.specs.FinMap.{is_sorted};
 ghost use Rattle.std.specs.List.{filter, list_all, list_any};
+ghost use Rattle.std.specs.List.Sorted.{IsBinarySearchResult, IsSearchInRange};
 ghost use Rattle.tabled_grid.specs.Anchors.{dropped, is_hidden_in, is_past, lie_well, lies_inside, marked, meets, unless_held};
 ghost use Rattle.tabled_grid.specs.Rectangles.{heights_in, in_rect, reaches_across, reaches_down, widths_in};
 ghost use Rattle.tabled_grid.specs.Entity.{same_place};
@@ -14,6 +15,14 @@ use std::alloc::{AllocError, Global};
 
 /// A place, and the height and the width of the rectangle that is anchored there.
 pub(super) type Anchor = (Position, (usize, usize));
+
+/// The index of the anchor at a place, or else that where it would stand.
+pub(super) fn search(anchors: &[Anchor], pos: Position) -> Result<usize, usize>
+    ensures within { IsSearchInRange result (length anchors.now) }
+    ensures found { IsBinarySearchResult (λ (anchor : Position × (ℕ × ℕ)). position_cmp anchor.0 pos) anchors.now result }
+{
+    anchors.binary_search_by_key(&pos, |anchor| anchor.0)
+}
 
 /// Says whether the rectangle of an anchor holds a place.
 fn holds(anchor: Anchor, pos: Position) -> bool
@@ -112,14 +121,37 @@ fn hide(anchors: &mut [Anchor], first: usize, by: Anchor)
     requires sorted { T (is_sorted position_cmp (by ∷ drop first anchors.old)) }
     ensures { anchors.new ≡ take first anchors.old ++ map (unless_held by) (drop first anchors.old) }
 {
-    for k in first..anchors.len() {
+    let mut k = first;
+    while k < anchors.len() {
         let pos = anchors[k].0;
         if is_past(by, pos) {
             return;
         }
         if holds(by, pos) {
             anchors[k] = (pos, (0, 0));
+            k += 1;
+        } else {
+            k += 1 + beside(&anchors[k + 1..], by, pos);
         }
+    }
+}
+
+/// How many of the anchors after a place outside of a rectangle stand there before the row that the
+/// rectangle next reaches, and before the rectangle in that row.
+fn beside(anchors: &[Anchor], by: Anchor, pos: Position) -> usize
+    requires sorted { T (is_sorted position_cmp ((pos, by.1) ∷ anchors.now)) }
+    requires out { in_rect by.0 by.1 pos ≡ false }
+    ensures within { result ≤ length anchors.now }
+    ensures free { map (unless_held by) (take result anchors.now) ≡ take result anchors.now }
+{
+    let left = by.0.col;
+    let row = if pos.col < left {
+        pos.row
+    } else {
+        pos.row.saturating_add(1)
+    };
+    match search(anchors, Position::new(row, left)) {
+        Ok(i) | Err(i) => i,
     }
 }
 

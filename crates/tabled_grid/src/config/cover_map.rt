@@ -75,6 +75,8 @@ impl CoverMap {
     ///
     /// What is left is promised where `old` is the size that the map had.
     pub fn replace(&mut self, pos: Position, old: (usize, usize), new: (usize, usize))
+        ensures rows { self.new.rows ≡ self.old.rows }
+        ensures columns { self.new.columns ≡ self.old.columns }
         ensures cover { (m : SpanMap) (rows columns : ℕ) → self.old ≡ cover_of m rows columns → size_at m pos ≡ old → self.new ≡ cover_of (with_size m pos new) rows columns }
     {
         follow(&mut self.hiders, self.rows, self.columns, pos, old, new);

@@ -2,7 +2,6 @@
 
 ghost use Rattle.std.specs.Prelude.{◌≡◌, ◌<◌, ◌≤◌, ◌↔◌, ◌⊎◌, ℕ, IfOk, IsOk, IsSome, IsTrue, OnErr, OnOk, SomeIff, length};
 ghost use Rattle.std.specs.FinMap as map;
-ghost use Rattle.std.specs.List.Sorted.{IsBinarySearchResult, IsSearchInRange};
 ghost use Rattle.tabled_grid.specs.Rectangles.{Fits, column_spans, drop_hidden, is_covered_across, is_covered_down, is_visible, row_spans};
 ghost use Rattle.tabled_grid.specs.Spans.{AreSpanSizes, IsSpanSize, position_cmp, size_at, with_column_span, with_row_span, with_size};
 ghost use Rattle.tabled_grid.specs.declared.config.position.Position.{Position};
@@ -232,7 +231,7 @@ impl SpannedConfig {
         ensures err { OnErr result (self.new ≡ self.old) }
         ensures promised { IsSome (map.get self.old pos) → IsOk result }
     {
-        match search(&self.anchors, pos) {
+        match anchors::search(&self.anchors, pos) {
             Ok(i) => {
                 self.anchors[i] = (pos, size);
                 Ok(())
@@ -248,7 +247,7 @@ impl SpannedConfig {
     fn remove(&mut self, pos: Position)
         ensures { self.new ≡ map.remove self.old pos }
     {
-        match search(&self.anchors, pos) {
+        match anchors::search(&self.anchors, pos) {
             Ok(i) => {
                 let _anchor = self.anchors.remove(i);
             }
@@ -278,17 +277,9 @@ impl SpannedConfig {
         ensures width { 1 ≤ result.1 }
     {
         self.keeps_sizes();
-        match search(&self.anchors, pos) {
+        match anchors::search(&self.anchors, pos) {
             Ok(i) => self.anchors[i].1,
             Err(_) => (1, 1),
         }
     }
-}
-
-/// The index of the anchor at a place, or else that where it would stand.
-fn search(anchors: &[Anchor], pos: Position) -> Result<usize, usize>
-    ensures within { IsSearchInRange result (length anchors.now) }
-    ensures found { IsBinarySearchResult (λ (anchor : Position × (ℕ × ℕ)). position_cmp anchor.0 pos) anchors.now result }
-{
-    anchors.binary_search_by_key(&pos, |anchor| anchor.0)
 }

@@ -1,13 +1,23 @@
-use Rattle.std.proofs.Common.{◌∙◌, sym, arith}
-use Rattle.tabled_grid.proofs.PassedAnchors.{hidden_held, hidden_other, hidden_past}
+use Rattle.std.proofs.Common.{◌∙◌, sym, arith, length-set}
+use Rattle.tabled_grid.proofs.PassedAnchors.{hidden_held, hidden_over, hidden_past, sorted_after}
 use Rattle.tabled_grid.proofs.config.anchors.hide.Goals as goal
-use Rattle.tabled_grid.proofs.config.anchors.hide.Goals.{then-holds, else-holds}
 
 pub returns-then-is_past : goal.returns-then-is_past
-returns-then-is_past c = hidden_past c.args.by c.args.anchors.now c.loop-k.anchors c.args.first c.loop-k.k _ c.loop-k.auto.k (omega arith) c.loop-k.auto.anchors c.loop-k.invariant c.requires.sorted (sym c.is_past.ensures ∙ c.if-is_past.true)
+returns-then-is_past c = hidden_past c.args.by c.args.anchors.now c.loop-k.anchors c.args.first c.loop-k.k _ c.loop-k.invariant.from c.loop-k-test.true c.loop-k.invariant.long c.loop-k.invariant.changed c.requires.sorted (sym c.is_past.ensures ∙ c.if-is_past.true)
+
+pub loop-k-preserved-then-holds : goal.loop-k-preserved-then-holds
+loop-k-preserved-then-holds c = record {
+  from = omega (arith, c.loop-k.invariant.from);
+  long = length-set c.loop-k.anchors c.loop-k.k _ ∙ c.loop-k.invariant.long;
+  changed = hidden_held c.args.by c.args.anchors.now c.loop-k.anchors c.args.first c.loop-k.k _ c.loop-k.invariant.from c.loop-k-test.true c.loop-k.invariant.long c.loop-k.invariant.changed (sym c.holds.ensures ∙ c.if-holds.true);
+}
+
+pub beside-requires-clause-sorted : goal.beside-requires-clause-sorted
+beside-requires-clause-sorted c = sorted_after c.args.by c.args.anchors.now c.loop-k.anchors c.args.first c.loop-k.k _ c.loop-k.invariant.from c.loop-k-test.true c.loop-k.invariant.long c.loop-k.invariant.changed c.requires.sorted
 
 pub loop-k-preserved : goal.loop-k-preserved
-loop-k-preserved c = elim c.if-holds.branch [
-  | then-holds w ↦ rw w.anchors-is (hidden_held c.args.by c.args.anchors.now c.loop-k.anchors c.args.first c.loop-k.k _ c.loop-k.auto.k (omega arith) c.loop-k.auto.anchors c.loop-k.invariant (sym c.holds.ensures ∙ w.if-holds.true))
-  | else-holds w ↦ rw w.anchors-is (hidden_other c.args.by c.args.anchors.now c.loop-k.anchors c.args.first c.loop-k.k _ c.loop-k.auto.k (omega arith) c.loop-k.auto.anchors c.loop-k.invariant (sym c.holds.ensures ∙ w.if-holds.false))
-]
+loop-k-preserved c = record {
+  from = omega (arith, c.loop-k.invariant.from);
+  long = c.loop-k.invariant.long;
+  changed = hidden_over c.args.by c.args.anchors.now c.loop-k.anchors c.args.first c.loop-k.k _ c.loop-k.invariant.from c.loop-k-test.true c.loop-k.invariant.long c.loop-k.invariant.changed c.beside.result (sym c.holds.ensures ∙ c.if-holds.false) c.beside.ensures.free;
+}

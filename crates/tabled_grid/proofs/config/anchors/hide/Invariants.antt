@@ -1,6 +1,14 @@
+use Rattle.std.proofs.Common.{◌≡◌, ◌-◌, ◌≤◌, length}
 use Rattle.tabled_grid.specs.Anchors.{unless_held}
 use Rattle.tabled_grid.proofs.PassedAnchors.{ChangedTo}
 use Rattle.tabled_grid.proofs.config.anchors.hide.Given as goal
 
 abbrev pub invariant-loop-k : goal.invariant-loop-k
-invariant-loop-k l = ChangedTo (unless_held l.fn.by) l.fn.anchors l.fn.first l.anchors l.k
+invariant-loop-k l = record {
+  from : l.first ≤ l.k;
+  long : length l.anchors ≡ length l.fn.anchors;
+  changed : ChangedTo (unless_held l.by) l.fn.anchors l.first l.anchors l.k;
+}
+
+abbrev pub decreases-loop-k : goal.decreases-loop-k
+decreases-loop-k l = length l.anchors - l.k

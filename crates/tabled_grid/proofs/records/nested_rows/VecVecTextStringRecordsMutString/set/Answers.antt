@@ -1,6 +1,6 @@
 use Rattle.std.proofs.Common.{ap}
 use Rattle.std.specs.String.{string_bytes}
-use Rattle.tabled_grid.proofs.Grids.{texts_written}
+use Rattle.tabled_grid.proofs.OwnStore.{texts_written}
 use Rattle.tabled_grid.proofs.records.nested_rows.VecVecTextStringRecordsMutString.set.Goals as goal
 
 pub returns-clause-ok : goal.returns-clause-ok

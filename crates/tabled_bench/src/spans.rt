@@ -1,0 +1,92 @@
+//! Calls of merged cells.
+
+use std::alloc::{AllocError, Global};
+use tabled_grid::config::{CoverMap, Position, SpannedConfig};
+
+/// How cells are merged.
+#[derive(Clone, Copy)]
+pub(crate) enum Merged {
+    /// `size` rectangles of 1 x 2 side by side in one row.
+    Flat,
+    /// `size` rectangles of 2 x 1 side by side in one row.
+    Tall,
+    /// `size` rectangles of 1 x 2 below one that covers all.
+    Covered,
+    /// A rectangle of 1 x 2 at each tenth place of `size x size`.
+    Tenths,
+}
+
+/// What is done with them.
+#[derive(Clone, Copy)]
+pub(crate) enum Call {
+    /// Nothing: they are only made.
+    Nothing,
+    Fits,
+    DropHidden,
+    /// A cover map is made.
+    Cover,
+}
+
+/// Merges cells, does a call, and counts something of what it says or leaves.
+pub(crate) fn run(
+    alloc: Global,
+    size: usize,
+    merged: Merged,
+    call: Call,
+) -> Result<usize, AllocError> {
+    let mut spans = make(alloc, size, merged)?;
+    let first = Position::new(0, 0);
+    match call {
+        Call::Nothing => {}
+        Call::Fits => return Ok(usize::from(spans.fits(2, usize::MAX))),
+        Call::DropHidden => spans.drop_hidden(),
+        Call::Cover => {
+            let cover = CoverMap::new(alloc, &spans, size, size)?;
+            return Ok(if size > 0 && cover.is_hidden(first) {
+                1
+            } else {
+                0
+            });
+        }
+    }
+    Ok(spans.get_column_span(first).unwrap_or(1))
+}
+
+fn make(alloc: Global, size: usize, merged: Merged) -> Result<SpannedConfig, AllocError> {
+    let mut spans = SpannedConfig::new(alloc);
+    match merged {
+        Merged::Flat => in_row(alloc, &mut spans, 0, size)?,
+        Merged::Tall => {
+            for j in 0..size {
+                spans.set_row_span(alloc, Position::new(0, j), 2)?;
+            }
+        }
+        Merged::Covered => {
+            let first = Position::new(0, 0);
+            spans.set_row_span(alloc, first, 2)?;
+            spans.set_column_span(alloc, first, usize::MAX)?;
+            in_row(alloc, &mut spans, 1, size)?;
+        }
+        Merged::Tenths => {
+            for i in 0..size {
+                for j in (0..size).step_by(10) {
+                    spans.set_column_span(alloc, Position::new(i, j), 2)?;
+                }
+            }
+        }
+    }
+    Ok(spans)
+}
+
+/// Merges two cells, so many times in one row.
+fn in_row(
+    alloc: Global,
+    spans: &mut SpannedConfig,
+    row: usize,
+    many: usize,
+) -> Result<(), AllocError> {
+    for k in 0..many {
+        spans.set_column_span(alloc, Position::new(row, k.saturating_mul(2)), 2)?;
+    }
+    Ok(())
+}

@@ -1,0 +1,77 @@
+-- Anchors that stand beside a rectangle are passed over.
+use Rattle.std.proofs.Common.{◌≡◌, ℕ, zero, suc, ◌+◌, ◌<◌, ◌≤◌, ◌⊎◌, inl, inr, Bool, true, false, cond, List, [], ◌∷◌, Err, refl, sym, ap, ap₂, subst, ◌∙◌, arith, length, get_or, take, map}
+use Rattle.std.specs.Prelude.{T}
+use Rattle.std.specs.FinMap.{is_sorted}
+use Rattle.std.specs.FinMap.Entries.{below_all}
+use Rattle.std.specs.List.Sorted.{IsBinarySearchResult}
+use Rattle.std.specs.declared.cmp.Ordering.TheVariants.{Equal, Less}
+use Rattle.std.proofs.lemmas.Bool.{cases_lt, false_from_ne_true}
+use Rattle.tabled_grid.specs.Anchors.{Anchor, unless_held}
+use Rattle.tabled_grid.specs.Rectangles.{in_rect}
+use Rattle.tabled_grid.specs.Spans.{position_cmp}
+use Rattle.tabled_grid.specs.declared.config.position.Position.{Position}
+use Rattle.tabled_grid.proofs.Geometry.{In}
+use Rattle.tabled_grid.proofs.PassedAnchors.{Earlier, earlier}
+use Rattle.tabled_grid.proofs.SortedEntries.{below_at, searchable}
+use Rattle.tabled_grid.proofs.Spans.{positions_exact, positions_total}
+use Rattle.tabled_grid.proofs.SpanMaps.{halves, in_rect-from, in_rect-true, less}
+
+-- of anchors in order one before another comes before it
+before : (es : List Anchor) (j i : ℕ) (d : Anchor) → T (is_sorted position_cmp es) → j < i → i < length es → position_cmp (get_or es j d).0 (get_or es i d).0 ≡ Less
+before [] j i d up h within = absurd (omega arith)
+before (e ∷ es) zero zero d up h within = absurd (omega arith)
+before (e ∷ es) zero (suc i) d up h within = below_at position_cmp e.0 es i d (halves _ _ up).0 (omega arith)
+before (e ∷ es) (suc j) zero d up h within = absurd (omega arith)
+before (e ∷ es) (suc j) (suc i) d up h within = before es j i d (halves _ _ up).1 (omega arith) (omega arith)
+
+-- what stands before the place that a search finds, or where it would stand, comes before that place
+pub before_found : (es : List Anchor) (p : Position) (i : ℕ) → T (is_sorted position_cmp es) → i < length es → ((d : Anchor) → position_cmp (get_or es i d).0 p ≡ Equal) → (j : ℕ) (d : Anchor) → j < i → position_cmp (get_or es j d).0 p ≡ Less
+before_found es p i up within at j d h = subst (λ q. position_cmp (get_or es j d).0 q ≡ Less) (positions_exact _ _ (at d)) (before es j i d up h within)
+
+pub before_missed : (es : List Anchor) (p : Position) (i : ℕ) → T (is_sorted position_cmp es) → IsBinarySearchResult (λ (e : Anchor). position_cmp e.0 p) es (Err i) → (j : ℕ) (d : Anchor) → j < i → position_cmp (get_or es j d).0 p ≡ Less
+before_missed es p i up at j d h = (at (searchable position_cmp positions_total positions_exact es p up)).0 j d (omega arith) h
+
+-- the row that a rectangle reaches next, from a place outside of it on
+pub record Reaches (by : Anchor) (pos : Position) (row : ℕ) : Type 0 where
+  pub here : pos.col < by.0.col → row ≡ pos.row
+  pub next : by.0.col ≤ pos.col → row ≤ pos.row + 1
+
+pub reaches_here : (by : Anchor) (pos : Position) (row : ℕ) → pos.col < by.0.col → row ≡ pos.row → Reaches by pos row
+reaches_here by pos row l is = record { here = λ h. is; next = λ h. absurd (omega arith) }
+
+pub reaches_next : (by : Anchor) (pos : Position) (row : ℕ) → by.0.col ≤ pos.col → row ≤ pos.row + 1 → Reaches by pos row
+reaches_next by pos row r is = record { here = λ h. absurd (omega arith); next = λ h. is }
+
+module _ (by : Anchor) (pos : Position) (row : ℕ) (reaches : Reaches by pos row) (out : in_rect by.0 by.1 pos ≡ false) where
+  out_of : (p : Position) → Earlier pos p → (p.row < row) ⊎ ((p.row ≡ row) × (p.col < by.0.col)) → (pos.col < by.0.col) ⊎ (by.0.col ≤ pos.col) → In by.0 by.1 p → ⊥
+  out_of p after until (inl l) h = by_order after until
+    where
+      by_order : Earlier pos p → (p.row < row) ⊎ ((p.row ≡ row) × (p.col < by.0.col)) → ⊥
+      by_order (inl a) (inl u) = omega (arith, reaches.here l)
+      by_order (inl a) (inr u) = omega (arith, h.left, u.1)
+      by_order (inr a) (inl u) = omega (arith, a.0, reaches.here l)
+      by_order (inr a) (inr u) = omega (arith, h.left, u.1)
+  out_of p after until (inr r) h = by_order after until
+    where
+      same_row : pos.row ≡ p.row → pos.col < p.col → ⊥
+      same_row e l =
+          let inside : in_rect by.0 by.1 pos ≡ true = in_rect-from by.0 pos by.1 (record { top = omega (arith, h.top); bottom = omega (arith, h.bottom); left = r; right = omega (arith, h.right) }) in
+          never (sym out ∙ inside)
+        where
+          never : false ≡ true → ⊥
+          never e = cc
+
+      by_order : Earlier pos p → (p.row < row) ⊎ ((p.row ≡ row) × (p.col < by.0.col)) → ⊥
+      by_order (inl a) (inl u) = omega (arith, reaches.next r)
+      by_order (inl a) (inr u) = omega (arith, h.left, u.1)
+      by_order (inr a) u = same_row a.0 a.1
+
+  pub passed_over : (es : List Anchor) (i : ℕ) → T (below_all position_cmp pos es) → ((j : ℕ) (d : Anchor) → j < i → position_cmp (get_or es j d).0 (record { row = row; col = by.0.col }) ≡ Less) → i ≤ length es → map (unless_held by) (take i es) ≡ take i es
+  passed_over [] zero below until within = refl
+  passed_over [] (suc i) below until within = refl
+  passed_over (e ∷ es) zero below until within = refl
+  passed_over (e ∷ es) (suc i) below until within =
+      let after = earlier pos e.0 (less _ (halves _ _ below).0) in
+      let stop = earlier e.0 (record { row = row; col = by.0.col }) (until 0 e (omega arith)) in
+      let free : in_rect by.0 by.1 e.0 ≡ false = false_from_ne_true _ (λ t. out_of e.0 after stop (cases_lt pos.col by.0.col) (in_rect-true by.0 e.0 by.1 t)) in
+      ap₂ (λ x xs. x ∷ xs) (ap (λ (b : Bool). cond b (e.0, (0, 0)) e) free) (passed_over es i (halves _ _ below).1 (λ j d h. until (suc j) d (omega arith)) (omega arith))
