@@ -1,4 +1,6 @@
+pub mod Among
 pub mod Apart
+pub mod Dropped
 pub mod Kept
 pub mod LineReads
 pub mod Results
