@@ -36,7 +36,7 @@ module _ {A : Type 0} (axis : Axis) (s : ℕ) where
       behind = λ i h. moved.2 i (λ at. absurd (omega (arith, at, h, next))) (λ at. absurd (omega (arith, at, h, next))) ∙ b.behind i (omega (arith, h, next));
     }
 
-has_lines : {A : Type 0} (axis : Axis) (n : ℕ) (g cur new : Grid A) → n ≤ count_along axis cur → cur.rows ≡ g.rows → cur.columns ≡ g.columns → IsEven cur → new ≡ first_along axis n cur → HasLines axis n g new
+pub has_lines : {A : Type 0} (axis : Axis) (n : ℕ) (g cur new : Grid A) → n ≤ count_along axis cur → cur.rows ≡ g.rows → cur.columns ≡ g.columns → IsEven cur → new ≡ first_along axis n cur → HasLines axis n g new
 has_lines {A} Rows n g cur new h rows columns even is = record {
   even = rw is (IsEven-first Rows n cur h even);
   rows = ap (λ (h : Grid A). h.rows) is;
@@ -65,7 +65,7 @@ kept_all {A} axis s e k n g cur new b all is cut =
         first i (inl less) = b.front i less
         first i (inr more) = b.behind i (omega (arith, more, e)) ∙ ap (line axis g) (omega (arith, e))
 
-lines_are : {A : Type 0} (axis : Axis) (n : ℕ) (g new : Grid A) → HasLines axis n g new → count_along axis new ≡ n
+pub lines_are : {A : Type 0} (axis : Axis) (n : ℕ) (g new : Grid A) → HasLines axis n g new → count_along axis new ≡ n
 lines_are Rows n g new s = s.rows
 lines_are Columns n g new s = s.columns
 

@@ -1,3 +1,4 @@
+pub mod Joined
 pub mod Lines
 pub mod Places
 pub mod Rearranged

@@ -1,10 +1,10 @@
 -- The rows or the columns of a grid, one after another.
-use Rattle.std.specs.Prelude.{◌≡◌, ◌<◌, ◌≤◌, ◌⊎◌, ℕ, ◌+◌, ◌-◌, List, [], Option, Some, map, min, slice_get, slice_index_or}
+use Rattle.std.specs.Prelude.{◌≡◌, ◌<◌, ◌≤◌, ◌⊎◌, ℕ, ◌+◌, ◌-◌, List, [], Option, Some, length, map, min, slice_get, slice_index_or}
 use Rattle.tabled_grid.specs.Along.{count_along}
 use Rattle.tabled_grid.specs.Grid.{Grid, IsEven}
 use Rattle.tabled_grid.specs.declared.records.axis.Axis.{Axis}
 use Rattle.tabled_grid.specs.declared.records.axis.Axis.TheVariants.{Rows, Columns}
-use Rattle.tabled_settings.specs.Rearranged.{columns_if}
+use Rattle.tabled_settings.specs.Rearranged.{columns_if, left_over}
 
 -- the cells of a row, or those of a column
 abbrev pub line : {A : Type 0} → Axis → Grid A → ℕ → List (Option A)
@@ -57,3 +57,16 @@ pub record HasLines {A : Type 0} (axis : Axis) (n : ℕ) (old new : Grid A) : Ty
 pub record KeepsLines {A : Type 0} (axis : Axis) (s e : ℕ) (old new : Grid A) : Type 0 where
   pub shape : HasLines axis (min e (count_along axis old) - s) old new
   pub kept : (i : ℕ) → i < min e (count_along axis old) - s → line axis new i ≡ line axis old (s + i)
+
+-- of the first i lines, those whose indexes are not among some have come to the front; the lines from i on are as they were
+pub record ThinsLines {A : Type 0} (axis : Axis) (found : List ℕ) (i k : ℕ) (old new : Grid A) : Type 0 where
+  pub shape : IsShapedAs old new
+  pub many : k ≡ length (left_over found i)
+  pub few : k ≤ i
+  pub front : (a : ℕ) → a < k → line axis new a ≡ line axis old (slice_index_or (left_over found i) a 0)
+  pub behind : (a : ℕ) → i ≤ a → line axis new a ≡ line axis old a
+
+-- the lines are gone whose indexes are among some
+pub record DropsLines {A : Type 0} (axis : Axis) (found : List ℕ) (old new : Grid A) : Type 0 where
+  pub shape : HasLines axis (length (left_over found (count_along axis old))) old new
+  pub kept : (a : ℕ) → a < length (left_over found (count_along axis old)) → line axis new a ≡ line axis old (slice_index_or (left_over found (count_along axis old)) a 0)

@@ -1,5 +1,6 @@
 -- The rearrangements: where their cells come from, in a table of so many rows and columns.
-use Rattle.std.specs.Prelude.{ℕ, ◌+◌, ◌-◌, ◌==◌, ◌&&◌, if◌then◌else◌, Some, min, nat_le, nat_lt}
+use Rattle.std.specs.Prelude.{ℕ, ◌+◌, ◌-◌, ◌==◌, ◌&&◌, if◌then◌else◌, Bool, List, Some, length, min, nat_le, nat_lt, not, slice_index_or}
+use Rattle.std.specs.List.{filter, list_any, range_with_len}
 use Rattle.std.specs.declared.ops.Bound.{Bound}
 use Rattle.tabled_grid.specs.Bounds.{end_index, first_index}
 use Rattle.tabled_grid.specs.Entity.{place}
@@ -56,3 +57,16 @@ extracted in_rows in_columns rows columns = record {
   columns = columns_if (count_in in_rows rows) (count_in in_columns columns);
   old_place = λ (p : Position). Some (place (first_index in_rows.0 + p.row) (first_index in_columns.0 + p.col));
 }
+
+-- an index is among some
+abbrev pub is_among : List ℕ → ℕ → Bool
+is_among found i = list_any (λ (k : ℕ). k == i) found
+
+-- the indexes below n that are not among some, in order
+abbrev pub left_over : List ℕ → ℕ → List ℕ
+left_over found n = filter (λ (i : ℕ). not (is_among found i)) (range_with_len 0 n)
+
+-- the rows, or the columns, whose indexes are not among some
+abbrev pub removed : Axis → List ℕ → ℕ → ℕ → Places
+removed Rows found rows columns = lines_from Rows (λ (i : ℕ). slice_index_or (left_over found rows) i 0) (length (left_over found rows)) (columns_if (length (left_over found rows)) columns)
+removed Columns found rows columns = lines_from Columns (λ (j : ℕ). slice_index_or (left_over found columns) j 0) rows (length (left_over found columns))

@@ -1,9 +1,12 @@
 //! Work on the rows or on the columns of a store.
 
 ghost use Rattle.std.specs.Prelude.{◌≡◌, ◌≤◌};
+ghost use Rattle.std.specs.List.Sorted.{IsSorted};
+ghost use Rattle.std.specs.Ordering.{nat_cmp};
 ghost use Rattle.tabled_grid.specs.Along.{count_along};
 ghost use Rattle.tabled_grid.specs.Grid.{IsEven};
-ghost use Rattle.tabled_settings.specs.Lines.{KeepsLines, ReversesLines};
+ghost use Rattle.tabled_settings.specs.Lines.{DropsLines, KeepsLines, ReversesLines};
+ghost use Rattle.tabled_settings.specs.Rearranged.{is_among};
 
 use std::ops::Range;
 use tabled_grid::records::{Axis, Blank, ExactRecords, Records, Resizable};
@@ -42,4 +45,33 @@ where
         axis.swap(records, k, range.start + k);
     }
     axis.truncate(records, kept);
+}
+
+/// Removes the lines whose indexes are in a list that rises. Those that stay come to the front, in order,
+/// each by one swap, and the rest is cut off.
+pub(crate) fn remove<R>(axis: Axis, records: &mut R, found: &[usize])
+where
+    R: Records + ExactRecords + Resizable,
+    R::Cell: Blank,
+    requires well { R.is_well_formed records.old }
+    requires sorted { IsSorted nat_cmp found.now }
+    ensures well { R.is_well_formed records.new }
+    ensures dropped { DropsLines axis found.now (R.grid records.old) (R.grid records.new) }
+{
+    let mut kept = 0;
+    for i in 0..axis.count(records) {
+        if !contains(found, i) {
+            axis.swap(records, kept, i);
+            kept += 1;
+        }
+    }
+    axis.truncate(records, kept);
+}
+
+/// Says whether a list that rises has an index.
+fn contains(sorted: &[usize], index: usize) -> bool
+    requires { IsSorted nat_cmp sorted.now }
+    ensures { result ≡ is_among sorted.now index }
+{
+    sorted.binary_search(&index).is_ok()
 }
