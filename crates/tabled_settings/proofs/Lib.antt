@@ -1,3 +1,4 @@
 pub mod Apart
 pub mod Results
 pub mod Rewriting
+pub mod Turns

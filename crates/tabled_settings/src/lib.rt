@@ -1,4 +1,5 @@
 //! Options for the cells, the rows and the columns of a table.
 #![tactic(auto)]
 
+pub mod format;
 mod rewrite;
