@@ -1,4 +1,6 @@
 pub mod Apart
+pub mod Mapped
+pub mod Replacing
 pub mod Results
 pub mod Rewriting
 pub mod Turns

@@ -1,2 +1,3 @@
+pub mod Charsets
 pub mod Contents
 pub mod Rewrites

@@ -2,4 +2,5 @@
 #![tactic(auto)]
 
 pub mod format;
+pub mod formatting;
 mod rewrite;

@@ -20,8 +20,12 @@ loop-line-init g c =
       can = search (rules, of_calls);
       next = tt;
       ends = tt;
-      rest = (t.rest, rw c.into_iter-line-iterator.ensures.into_iter_gives t.gives, λ answers last asked.
-        (string_bytes c.in_ok-joined.joined ∷ answers, rw t.is (string_bytes c.in_ok-joined.joined, c.f.new.self, answers, (c.args.alloc, c.in-Some.first, c.in_ok-joined.joined, refl, c.in_ok-joined.ensures, refl), asked, refl), refl));
+      rest = (
+        t.rest,
+        rw c.into_iter-line-iterator.ensures.into_iter_gives t.gives,
+        λ answers last asked.
+            (string_bytes c.in_ok-joined.joined ∷ answers, rw t.is (string_bytes c.in_ok-joined.joined, c.f.new.self, answers, (c.args.alloc, c.in-Some.first, c.in_ok-joined.joined, refl, c.in_ok-joined.ensures, refl), asked, refl), refl),
+      );
     }
 
 pub loop-line-preserved : goal.loop-line-preserved
@@ -33,9 +37,13 @@ loop-line-preserved g c =
       can = search (rules, of_calls);
       next = tt;
       ends = tt;
-      rest = (t.rest, t.gives, λ answers last asked.
-        let all = i.2 (string_bytes c.in_ok-answer.answer ∷ answers) last (rw t.is (string_bytes c.in_ok-answer.answer, c.f-in-loop-line.new.self, answers, (c.args.alloc, c.in-Some-line.line, c.in_ok-answer.answer, refl, c.in_ok-answer.ensures, refl), asked, refl)) in
-        (all.0, all.1, all.2 ∙ rw (c.in_ok-push_str.ensures.bytes, c.in_ok-push.ensures.bytes, append_assoc, append_assoc, c.as_str.ensures.value, newline) refl));
+      rest = (
+        t.rest,
+        t.gives,
+        λ answers last asked.
+            let all = i.2 (string_bytes c.in_ok-answer.answer ∷ answers) last (rw t.is (string_bytes c.in_ok-answer.answer, c.f-in-loop-line.new.self, answers, (c.args.alloc, c.in-Some-line.line, c.in_ok-answer.answer, refl, c.in_ok-answer.ensures, refl), asked, refl)) in
+            (all.0, all.1, all.2 ∙ rw (c.in_ok-push_str.ensures.bytes, c.in_ok-push.ensures.bytes, append_assoc, append_assoc, c.as_str.ensures.value, newline) refl),
+      );
     }
 
 pub returns : goal.returns
