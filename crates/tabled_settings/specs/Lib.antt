@@ -1,3 +1,5 @@
+pub mod Charsets
+pub mod Contents
 pub mod Joined
 pub mod Lines
 pub mod Places

@@ -6,5 +6,7 @@ pub mod disable;
 pub mod extract;
 mod lines;
 pub mod reverse;
+pub mod format;
+pub mod formatting;
 mod rewrite;
 pub mod rotate;
