@@ -4,9 +4,9 @@
 pub mod concat;
 pub mod disable;
 pub mod extract;
-mod lines;
-pub mod reverse;
 pub mod format;
 pub mod formatting;
+mod lines;
+pub mod reverse;
 mod rewrite;
 pub mod rotate;
