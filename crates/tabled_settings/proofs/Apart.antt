@@ -1,5 +1,5 @@
 -- The places that an entity names are apart from each other.
-use Rattle.std.proofs.Common.{◌≡◌, ◌≢◌, ℕ, zero, suc, ◌+◌, ◌-◌, ◌<◌, ◌≤◌, Bool, true, false, cond, List, [], ◌∷◌, ◌++◌, map, ap, refl, arith}
+use Rattle.std.proofs.Common.{◌≡◌, ◌≢◌, ℕ, zero, suc, ◌+◌, ◌-◌, ◌<◌, Bool, true, false, cond, List, [], ◌∷◌, ◌++◌, map, ap, refl, arith}
 use Rattle.std.specs.List.{AllByRecursion, filter, range_with_len}
 use Rattle.tabled_grid.specs.Entity.{block, inside, names, place}
 use Rattle.tabled_grid.specs.declared.config.entity.Entity.{Entity}

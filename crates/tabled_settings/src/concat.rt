@@ -14,7 +14,7 @@ use tabled_grid::config::{Entity, Position};
 use tabled_grid::records::{
     Axis, CellText, ExactRecords, PeekableRecords, Records, RecordsMut, Resizable, Text, VecRecords,
 };
-use tabled_options::TableOption;
+use tabled_table::{Table, TableOption};
 
 /// Joins a second table to a table, below it or right of it. A contract sees it as where the second table
 /// goes, its texts and the text for cells that the first table lacks.
@@ -29,12 +29,12 @@ use tabled_options::TableOption;
 ///
 /// Refused for memory, it leaves the table as it was.
 ///
-/// Ported from `tabled::settings::Concat`. It takes the cells of the second table, and leaves its merged
-/// cells out, as the original does.
+/// Ported from `tabled::settings::Concat`. Merged cells of the second table are left out, as in the
+/// original.
 #[derive(Drop)]
 pub struct Concat {
     axis: Axis,
-    second: VecRecords<Text<String>>,
+    second: Table,
     default: String,
 }
 
@@ -46,15 +46,15 @@ impl Model for Concat {
 
     ghost Value = { Axis × Grid (List ℕ) × List ℕ };
 
-    ghost view = { λ a. (a.axis, map_grid string_bytes a.second, string_bytes a.default) };
+    ghost view = { λ a. (a.axis, map_grid string_bytes a.second.cells, string_bytes a.default) };
 }
 
 impl Concat {
     /// The second table below the first (r x c and r2 x c2 to r+r2 x max(c, c2)).
     ///
     /// Ported from `tabled::settings::Concat::vertical`.
-    pub fn vertical(alloc: Global, second: VecRecords<Text<String>>) -> Self
-        ensures { result ≡ (Rows, map_grid string_bytes second, []) }
+    pub fn vertical(alloc: Global, second: Table) -> Self
+        ensures { result ≡ (Rows, map_grid string_bytes second.cells, []) }
     {
         Concat {
             axis: Axis::Rows,
@@ -66,8 +66,8 @@ impl Concat {
     /// The second table right of the first (r x c and r2 x c2 to max(r, r2) x c+c2).
     ///
     /// Ported from `tabled::settings::Concat::horizontal`.
-    pub fn horizontal(alloc: Global, second: VecRecords<Text<String>>) -> Self
-        ensures { result ≡ (Columns, map_grid string_bytes second, []) }
+    pub fn horizontal(alloc: Global, second: Table) -> Self
+        ensures { result ≡ (Columns, map_grid string_bytes second.cells, []) }
     {
         Concat {
             axis: Axis::Columns,
@@ -121,7 +121,13 @@ where
                 col: records.count_columns(),
             },
         };
-        join(alloc, records, corner, &self.second, self.default.as_str())
+        join(
+            alloc,
+            records,
+            corner,
+            self.second.get_records(),
+            self.default.as_str(),
+        )
     }
 
     fn hint_change(&self) -> Option<Entity> {

@@ -1,11 +1,9 @@
-use Rattle.std.proofs.Common.{rules, ◌≡◌, ◌∙◌, List, [], ◌∷◌, ◌++◌, ap, refl, sym}
+use Rattle.std.proofs.Common.{◌≡◌, ◌∙◌, [], ◌∷◌, refl}
 use Rattle.std.proofs.lemmas.List.{append_assoc}
-use Rattle.std.specs.List.{AllByRecursion}
-use Rattle.tabled_grid.specs.declared.config.position.Position.{Position}
 use Rattle.tabled_grid.specs.Entity.{inside}
 use Rattle.tabled_grid.specs.Grid.{map_grid}
 use Rattle.tabled_grid.proofs.Places.{inside-within}
-use Rattle.tabled_settings.proofs.Apart.{Apart, inside-apart}
+use Rattle.tabled_settings.proofs.Apart.{inside-apart}
 use Rattle.tabled_settings.proofs.Results.{on_err}
 use Rattle.tabled_settings.proofs.Rewriting.{rewritten-all, rewritten-more, rewritten-none, rewritten-until, same-texts, untouched}
 use Rattle.tabled_settings.proofs.rewrite.rewrite.Goals as goal

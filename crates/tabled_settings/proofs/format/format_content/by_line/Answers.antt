@@ -1,4 +1,4 @@
-use Rattle.std.proofs.Common.{rules, arith, of_calls, ◌∙◌, List, ℕ, [], ◌∷◌, string_bytes, append-nil, refl, sym}
+use Rattle.std.proofs.Common.{rules, arith, of_calls, ◌∙◌, [], ◌∷◌, string_bytes, append-nil, refl, sym}
 use Rattle.std.proofs.lemmas.Iterator.Splits.{YieldsList-from_lines}
 use Rattle.std.proofs.lemmas.List.{append_assoc}
 use Rattle.std.proofs.lemmas.Str.{encode_ascii}

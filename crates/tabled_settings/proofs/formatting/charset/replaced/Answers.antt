@@ -1,4 +1,4 @@
-use Rattle.std.proofs.Common.{rules, ◌∙◌, [], append-nil, refl, sym}
+use Rattle.std.proofs.Common.{[], append-nil, refl}
 use Rattle.std.proofs.lemmas.Bool.{ne_eqb}
 use Rattle.std.proofs.lemmas.List.{nil_from_length}
 use Rattle.tabled_settings.proofs.Replacing.{replaced-more}

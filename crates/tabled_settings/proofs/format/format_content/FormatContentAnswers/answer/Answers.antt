@@ -1,4 +1,4 @@
-use Rattle.std.proofs.Common.{rules, ◌≡◌, true, false, String, string_bytes, refl, ap, sym}
+use Rattle.std.proofs.Common.{◌≡◌, true, String, string_bytes, refl}
 use Rattle.std.specs.Global.{Global}
 use Rattle.std.proofs.lemmas.Result.{IfOk-weaker}
 use Rattle.tabled_settings.specs.Contents.{AnswersContent, Asked, AskedByLine}

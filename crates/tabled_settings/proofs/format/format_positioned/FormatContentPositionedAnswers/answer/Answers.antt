@@ -1,4 +1,4 @@
-use Rattle.std.proofs.Common.{rules, refl, String, string_bytes}
+use Rattle.std.proofs.Common.{refl, String, string_bytes}
 use Rattle.std.specs.Global.{Global}
 use Rattle.tabled_settings.specs.Contents.{AskedAt}
 use Rattle.tabled_settings.proofs.Results.{if_ok}
