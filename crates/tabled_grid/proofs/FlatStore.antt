@@ -7,13 +7,18 @@ use Rattle.std.proofs.lemmas.List.{drop_at, take_at}
 use Rattle.std.proofs.lemmas.Nat.{mul-add-lt}
 use Rattle.std.proofs.lemmas.Option.{slice_get-get_or}
 use Rattle.tabled_grid.specs.declared.config.position.Position.{Position}
-use Rattle.tabled_grid.specs.Grid.{IsInside, cell_at, width_of, with_cell}
+use Rattle.tabled_grid.specs.Grid.{IsEven, IsInside, cell_at, width_of, with_cell}
 use Rattle.tabled_grid.specs.Resized.{AreBlanks, InsertsColumn, InsertsRow, with_cells_swapped, with_column, with_columns_swapped, with_row, with_rows_swapped, without_column, without_row}
 use Rattle.tabled_grid.proofs.Blanks.{blank_column}
+use Rattle.tabled_grid.proofs.FirstLines.{IsEven-first}
 use Rattle.tabled_grid.proofs.Grids.{IsEven-with_cell}
 use Rattle.tabled_grid.proofs.Resized.{IsEven-with_cells_swapped, IsEven-with_column, IsEven-with_columns_swapped, IsEven-with_row, IsEven-with_rows_swapped, IsEven-without_column, IsEven-without_row}
+use Rattle.tabled_grid.specs.Along.{first_along}
+use Rattle.tabled_grid.specs.declared.records.axis.Axis.TheVariants.{Columns}
 use Rattle.tabled_grid.specs.Flat.{IsFull, chunks, flat_grid, joined}
-use Rattle.tabled_grid.specs.Moves.{AddsBlanks, InsertsBlanks, PutsBlanks, with_runs_swapped}
+use Rattle.tabled_grid.specs.Bulk.{AddsColumns}
+use Rattle.tabled_grid.proofs.AddedColumns.{IsEven-adds_columns}
+use Rattle.tabled_grid.specs.Moves.{AddsBlanks, InsertsBlanks, PutsBlanks, WidensRows, with_runs_swapped}
 use Rattle.tabled_grid.proofs.Flat.{full_of, is_even, joined-chunks, view_of}
 use Rattle.tabled_grid.proofs.FlatCells.{cell-joined, written-joined, swapped-joined}
 use Rattle.tabled_grid.proofs.FlatRows.{joined-insert, joined-remove, joined-swap, row-joined, swap-turned}
@@ -101,6 +106,9 @@ module _ {A : Type 0} (r c : ℕ) (xs : List A) (h : IsFull r c xs) where
   pub column_removed : (j : ℕ) (new : List A) → j < c → new ≡ joined (map (λ (row : List A). remove row j) (chunks r c xs)) → flat_grid r (c - 1) new ≡ without_column (flat_grid r c xs) j
   column_removed j new within is = view_of (without_column (flat_grid r c xs) j) r (c - 1) new (IsEven-without_column _ (is_even r c xs h) j within) refl refl is
 
+  pub columns_cut : (n : ℕ) (new : List A) → n ≤ c → new ≡ joined (map (λ (row : List A). take n row) (chunks r c xs)) → flat_grid r n new ≡ first_along Columns n (flat_grid r c xs)
+  columns_cut n new within is = view_of (first_along Columns n (flat_grid r c xs)) r n new (IsEven-first Columns n _ within (is_even r c xs h)) refl refl is
+
   module _ (is_blank : A → Type 0) (room : List A) (put : AddsBlanks is_blank xs room r) where
     -- the blanks lie behind the cells
     pub blanks_behind : AreBlanks is_blank r (drop (r * c) room)
@@ -117,3 +125,28 @@ module _ {A : Type 0} (r c : ℕ) (xs : List A) (h : IsFull r c xs) where
           blanks = record { blank = b.blanks.blank; many = long };
           is = view_of (with_column (flat_grid r c xs) j b.column) r (c + 1) new (IsEven-with_column _ j b.column within long (is_even r c xs h)) refl (rw several refl) (spread.is ∙ ap joined b.is);
         }
+
+  -- without rows there are no columns to put
+  pub columns_put_none : (is_blank : A → Type 0) (many : ℕ) → r ≡ 0 → AddsColumns is_blank many (flat_grid r c xs) (flat_grid r c xs)
+  columns_put_none is_blank many e = rw e (record { rows = refl; columns = refl; each = tt })
+
+  module _ (is_blank : A → Type 0) (many k : ℕ) (room : List A) (put : AddsBlanks is_blank xs room k) where
+    -- so many blanks lie behind the cells
+    pub blanks_put : AreBlanks is_blank k (drop (r * c) room)
+    blanks_put = rw (put.is, drop_at xs put.cells (r * c) h.full) put.blanks
+
+    module _ (n : ℕ) (new : List A) (some : r ≢ 0) (e : n ≡ c + many) (widens : WidensRows is_blank (chunks r c (take (r * c) room)) new many) where
+      adds : AddsColumns is_blank many (flat_grid r c xs) (record { rows = r; columns = n; cells = widens.wide })
+      adds =
+          let before : take (r * c) room ≡ xs = ap (take (r * c)) put.is ∙ take_at xs put.cells (r * c) h.full in
+          let several : eqb r 0 ≡ false = ne_eqb r 0 some in
+          record { rows = refl; columns = rw several e; each = rw before at widens.each }
+
+      even : IsEven (record { rows = r; columns = n; cells = widens.wide })
+      even = IsEven-adds_columns is_blank many (flat_grid r c xs) _ adds (is_even r c xs h)
+
+      pub columns_put : AddsColumns is_blank many (flat_grid r c xs) (flat_grid r n new)
+      columns_put = rw (view_of (record { rows = r; columns = n; cells = widens.wide }) r n new even refl refl widens.is) adds
+
+      pub full_put : IsFull r n new
+      full_put = full_of (record { rows = r; columns = n; cells = widens.wide }) r n new even refl refl widens.is (λ (z : r ≡ 0). absurd (some z))

@@ -38,7 +38,7 @@ module _ {A : Type 0} (g : Grid A) (even : IsEven g) where
   }
 
 -- where a test shows that there are no rows, they are as wide as can be said
-wide_if : {A : Type 0} (b : Bool) (n m : ℕ) (rows : List (List A)) → (b ≡ true → rows ≡ []) → AllByRecursion (IsWide m) rows → AllByRecursion (IsWide (cond b n m)) rows
+pub wide_if : {A : Type 0} (b : Bool) (n m : ℕ) (rows : List (List A)) → (b ≡ true → rows ≡ []) → AllByRecursion (IsWide m) rows → AllByRecursion (IsWide (cond b n m)) rows
 wide_if true n m rows none a = rw (none refl) tt
 wide_if false n m rows none a = a
 

@@ -1,5 +1,7 @@
+pub mod Along
 pub mod Anchors
 pub mod Bounds
+pub mod Bulk
 pub mod Covers
 pub mod Entity
 pub mod Flat

@@ -56,9 +56,12 @@ where
         "abcdefgh!",
         "abcdefghi!",
     ];
-    told.iter().take(count).enumerate().all(|(limit, want)| {
-        logs(alloc, option, limit, *want) && logs_at(alloc, option, limit, *want)
-    })
+    for (limit, want) in told.iter().take(count).enumerate() {
+        if !logs(alloc, option, limit, *want) || !logs_at(alloc, option, limit, *want) {
+            return false;
+        }
+    }
+    true
 }
 
 #[test]

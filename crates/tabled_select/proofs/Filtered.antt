@@ -1,6 +1,6 @@
 -- What answers of a closure keep.
-use Rattle.std.proofs.Common.{◌≡◌, Bool, true, false, List, [], ◌∷◌, refl, sym, subst, length, arith}
-use Rattle.std.specs.List.{items_where_true}
+use Rattle.std.proofs.Common.{◌≡◌, ◌∙◌, Bool, true, false, List, [], ◌∷◌, refl, sym, subst, length, arith}
+use Rattle.std.specs.List.{filter, items_where_true}
 use Rattle.std.specs.List.Retain.{IsFiltered, ReturnsInTurn}
 use Rattle.tabled_select.specs.Steps.{Filters}
 
@@ -19,3 +19,8 @@ module _ {X P : Type 0} (R : P → X → Bool → P → Type 0) (answers : X →
 -- a closure that stays as it was, asked in turn
 pub Filters-from_IsFiltered : {X P : Type 0} {R : P → X → Bool → P → Type 0} {p : P} (answers : X → Bool → Type 0) (xs ys : List X) → IsFiltered R p xs ys → ((x : X) (b : Bool) (q : P) → R p x b q → (q ≡ p) × answers x b) → Filters answers xs ys
 Filters-from_IsFiltered {R = R} {p = p} answers xs ys f says = subst (λ zs. Filters answers xs zs) (sym f.4) (kept R answers p says f.0 xs f.1 f.2 f.3)
+
+-- answers that are those of a test
+pub Filters-is : {X : Type 0} (answers : X → Bool → Type 0) (test : X → Bool) → ((x : X) (b : Bool) → answers x b → b ≡ test x) → (xs kept : List X) → Filters answers xs kept → kept ≡ filter test xs
+Filters-is answers test says [] kept f = f
+Filters-is answers test says (x ∷ xs) kept f = f.4 ∙ rw (says x f.0 f.2, Filters-is answers test says xs f.1 f.3) refl

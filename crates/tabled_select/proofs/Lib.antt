@@ -1,5 +1,6 @@
 pub mod Filtered
 pub mod Inverted
+pub mod Located
 pub mod MarkedPlaces
 pub mod NamedPlaces
 pub mod Shown

@@ -1,5 +1,5 @@
 -- Selections as lists of places, and their combinations.
-use Rattle.std.specs.Prelude.{ℕ, Bool, false, true, ◌==◌, ◌&&◌, List, [], ◌∷◌, ◌++◌, map, not}
+use Rattle.std.specs.Prelude.{ℕ, Bool, false, true, List, [], ◌∷◌, ◌++◌, map, not}
 use Rattle.std.specs.List.{filter, flat_map, list_any}
 use Rattle.tabled_grid.specs.Entity.{inside, same_place}
 use Rattle.tabled_grid.specs.declared.config.position.Position.{Position}

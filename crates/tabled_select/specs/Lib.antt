@@ -1,5 +1,7 @@
 pub mod Algebra
 pub mod Listed
+pub mod Located
+pub mod Locators
 pub mod Marks
 pub mod Selectors
 pub mod Sets

@@ -1,2 +1,12 @@
 //! Options for the cells, the rows and the columns of a table.
 #![tactic(auto)]
+
+pub mod concat;
+pub mod disable;
+pub mod extract;
+pub mod format;
+pub mod formatting;
+mod lines;
+pub mod reverse;
+mod rewrite;
+pub mod rotate;

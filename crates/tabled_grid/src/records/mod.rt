@@ -2,6 +2,7 @@
 //!
 //! A contract sees a store as its grid alone, a shape and the list of its rows.
 
+mod axis;
 mod blank;
 mod borrowed;
 mod cell_text;
@@ -15,6 +16,7 @@ mod records_mut;
 mod resizable;
 pub mod vec_records;
 
+pub use axis::Axis;
 pub use blank::Blank;
 pub use cell_text::CellText;
 pub use exact_records::ExactRecords;

@@ -1,8 +1,11 @@
 //! Stores that can grow and shrink.
 
 ghost use Rattle.std.specs.Prelude.{◌≡◌, ◌<◌, ◌≤◌, OnOk, OnErr};
+ghost use Rattle.tabled_grid.specs.Along.{first_along};
+ghost use Rattle.tabled_grid.specs.Bulk.{AddsColumns, AddsRows, transposed};
 ghost use Rattle.tabled_grid.specs.Grid.{IsEmptyWithoutRows, IsInside};
 ghost use Rattle.tabled_grid.specs.Resized.{InsertsColumn, InsertsRow, with_cells_swapped, with_columns_swapped, with_rows_swapped, without_column, without_row};
+ghost use Rattle.tabled_grid.specs.declared.records.axis.Axis.TheVariants.{Columns, Rows};
 
 use crate::config::Position;
 use crate::records::blank::Blank;
@@ -119,6 +122,132 @@ where
         ensures well { Self.is_well_formed self.new }
         ensures rowless { IsEmptyWithoutRows (Self.grid self.old) }
         ensures swapped { Self.grid self.new ≡ with_columns_swapped (Self.grid self.old) j k };
+
+    /// Keeps the first `count` rows alone (r x c to count x c, or to 0 x 0).
+    ///
+    /// Of this project: `tabled` removes row by row.
+    fn truncate_rows(&mut self, count: usize)
+    where
+        Self: Records + ExactRecords,
+        requires well { Self.is_well_formed self.old }
+        requires within { count ≤ (Self.grid self.old).rows }
+        ensures well { Self.is_well_formed self.new }
+        ensures rowless { IsEmptyWithoutRows (Self.grid self.old) }
+        ensures first { Self.grid self.new ≡ first_along Rows count (Self.grid self.old) }
+    {
+        let mut left = self.count_rows();
+        // Columns without rows never come; if they came, this call would say that there are none.
+        if left == 0 && self.count_columns() > 0 {
+            self.remove_column(0);
+        }
+        while left > count {
+            left -= 1;
+            self.remove_row(left);
+        }
+    }
+
+    /// Keeps the first `count` columns alone (r x c to r x count).
+    ///
+    /// Of this project: `tabled` removes column by column.
+    fn truncate_columns(&mut self, count: usize)
+    where
+        Self: Records + ExactRecords,
+        requires well { Self.is_well_formed self.old }
+        requires within { count ≤ (Self.grid self.old).columns }
+        ensures well { Self.is_well_formed self.new }
+        ensures rowless { IsEmptyWithoutRows (Self.grid self.old) }
+        ensures first { Self.grid self.new ≡ first_along Columns count (Self.grid self.old) }
+    {
+        self.truncate_rows(self.count_rows());
+        let mut left = self.count_columns();
+        while left > count {
+            left -= 1;
+            self.remove_column(left);
+        }
+    }
+
+    /// Adds `many` rows of blanks below the last row (r x c to r+many x c). Refused, it leaves the store
+    /// as it was.
+    ///
+    /// Of this project: `tabled` adds row by row.
+    fn push_rows(&mut self, alloc: Global, many: usize) -> Result<(), AllocError>
+    where
+        Self: Records + ExactRecords,
+        requires well { Self.is_well_formed self.old }
+        ensures well { Self.is_well_formed self.new }
+        ensures rowless { IsEmptyWithoutRows (Self.grid self.old) }
+        ensures ok { OnOk result (AddsRows Self.Cell.is_blank many (Self.grid self.old) (Self.grid self.new)) }
+        ensures err { OnErr result (Self.grid self.new ≡ Self.grid self.old) }
+    {
+        let rows = self.count_rows();
+        self.truncate_rows(rows);
+        for pushed in 0..many {
+            let _ = pushed;
+            if let Err(error) = self.push_row(alloc) {
+                self.truncate_rows(rows);
+                return Err(error);
+            }
+        }
+        Ok(())
+    }
+
+    /// Adds `many` columns of blanks behind the last one (r x c to r x c+many). Without rows this changes
+    /// nothing. Refused, it leaves the store as it was.
+    ///
+    /// Of this project: `tabled` adds column by column.
+    fn push_columns(&mut self, alloc: Global, many: usize) -> Result<(), AllocError>
+    where
+        Self: Records + ExactRecords,
+        requires well { Self.is_well_formed self.old }
+        ensures well { Self.is_well_formed self.new }
+        ensures rowless { IsEmptyWithoutRows (Self.grid self.old) }
+        ensures ok { OnOk result (AddsColumns Self.Cell.is_blank many (Self.grid self.old) (Self.grid self.new)) }
+        ensures err { OnErr result (Self.grid self.new ≡ Self.grid self.old) }
+    {
+        let columns = self.count_columns();
+        self.truncate_columns(columns);
+        for pushed in 0..many {
+            let _ = pushed;
+            if let Err(error) = self.push_column(alloc) {
+                self.truncate_columns(columns);
+                return Err(error);
+            }
+        }
+        Ok(())
+    }
+
+    /// Makes rows of columns (r x c to c x r, or to 0 x 0). Refused, it leaves the store as it was.
+    ///
+    /// Of this project, as a call of its own. A store that says nothing better pads to a square, swaps
+    /// cells across the diagonal and cuts off what is left, as `tabled::settings::Rotate` does.
+    fn transpose(&mut self, alloc: Global) -> Result<(), AllocError>
+    where
+        Self: Records + ExactRecords,
+        requires well { Self.is_well_formed self.old }
+        ensures well { Self.is_well_formed self.new }
+        ensures rowless { IsEmptyWithoutRows (Self.grid self.old) }
+        ensures ok { OnOk result (Self.grid self.new ≡ transposed (Self.grid self.old)) }
+        ensures err { OnErr result (Self.grid self.new ≡ Self.grid self.old) }
+    {
+        let rows = self.count_rows();
+        let columns = self.count_columns();
+        let size = rows.max(columns);
+        self.push_rows(alloc, size - rows)?;
+        if let Err(error) = self.push_columns(alloc, size - columns) {
+            self.truncate_rows(rows);
+            return Err(error);
+        }
+        for i in 0..size {
+            for j in i + 1..size {
+                self.swap(Position { row: i, col: j }, Position { row: j, col: i });
+            }
+        }
+        self.truncate_rows(columns);
+        if columns > 0 {
+            self.truncate_columns(rows);
+        }
+        Ok(())
+    }
 }
 
 /// Shows that a store without rows has no columns, and changes nothing.

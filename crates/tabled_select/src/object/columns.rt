@@ -51,6 +51,13 @@ impl<R: ToBounds> Columns<R> {
     {
         Columns { range }
     }
+
+    /// The range.
+    pub(crate) fn get_range(&self) -> &R
+        ensures { result.now ≡ self.now }
+    {
+        &self.range
+    }
 }
 
 impl Columns<()> {

@@ -1,7 +1,8 @@
 //! Marks of all places of a table.
 
-ghost use Rattle.std.specs.Prelude.{◌≡◌, ◌*◌, ◌<◌, IfOk, List, SomeIff, false, length, not, true};
+ghost use Rattle.std.specs.Prelude.{◌≡◌, ◌*◌, ◌<◌, IfOk, List, false, length, not, true};
 ghost use Rattle.tabled_grid.specs.declared.config.entity.Entity.{Entity};
+ghost use Rattle.std.specs.List.{AllByRecursion};
 ghost use Rattle.tabled_select.specs.Algebra.{flat};
 ghost use Rattle.tabled_select.specs.Sets.{all_marks};
 ghost use Rattle.tabled_select.specs.Marks.{HasRoom, MarksAll, SetsMark, has, mark_index};
@@ -41,7 +42,8 @@ impl Marked {
         size: usize,
     ) -> Result<Self, AllocError>
         requires { size ≡ rows * columns }
-        ensures { IfOk result (λ set. MarksAll (all_marks set) (flat entities.items rows columns) true) }
+        ensures marked { IfOk result (λ set. MarksAll (all_marks set) (flat entities.items rows columns) true) }
+        ensures room { IfOk result (λ set. (others : List Entity) → AllByRecursion (HasRoom (all_marks set)) (flat others rows columns)) }
     {
         let mut set = Marked::new(alloc, rows, columns, size)?;
         for pos in Places::new(entities, rows, columns) {
@@ -52,12 +54,10 @@ impl Marked {
 
     #[inline]
     pub(super) fn contains(&self, pos: Position) -> bool
+        requires { HasRoom (all_marks self.now) pos }
         ensures { result ≡ has (all_marks self.now) pos }
     {
-        match index_of(&self.marks, self.columns, pos) {
-            Some(index) => self.marks[index],
-            None => false,
-        }
+        self.marks[self.index_of(pos)]
     }
 
     /// Marks a place, and says whether it wasn't marked before.
@@ -67,14 +67,10 @@ impl Marked {
         ensures is_new { result ≡ not (has (all_marks self.old) pos) }
         ensures set { SetsMark (all_marks self.old) (all_marks self.new) pos true }
     {
-        match index_of(&self.marks, self.columns, pos) {
-            Some(index) => {
-                let is_new = !self.marks[index];
-                self.marks[index] = true;
-                is_new
-            }
-            None => false,
-        }
+        let index = self.index_of(pos);
+        let is_new = !self.marks[index];
+        self.marks[index] = true;
+        is_new
     }
 
     /// Marks a place.
@@ -83,24 +79,17 @@ impl Marked {
         requires { HasRoom (all_marks self.old) pos }
         ensures { SetsMark (all_marks self.old) (all_marks self.new) pos true }
     {
-        if let Some(index) = index_of(&self.marks, self.columns, pos) {
-            self.marks[index] = true;
-        }
+        let index = self.index_of(pos);
+        self.marks[index] = true;
     }
-}
 
-/// Where the mark of a place stands in rows of `columns` marks, if there is one.
-#[inline]
-fn index_of(marks: &[bool], columns: usize, pos: Position) -> Option<usize>
-    ensures { SomeIff result ((pos.col < columns) × (mark_index columns pos < length marks.now)) (mark_index columns pos) }
-{
-    if pos.col >= columns {
-        return None;
+    /// Where the mark of a place of the table stands.
+    #[inline]
+    fn index_of(&self, pos: Position) -> usize
+        requires { HasRoom (all_marks self.now) pos }
+        ensures place { result ≡ mark_index self.now.columns pos }
+        ensures inside { (pos.col < self.now.columns) × (mark_index self.now.columns pos < length self.now.marks.items) }
+    {
+        pos.row * self.columns + pos.col
     }
-    // One product, in twice the width, where it can't overflow.
-    let index = pos.row as u128 * columns as u128 + pos.col as u128;
-    if index < marks.len() as u128 {
-        return Some(index as usize);
-    }
-    None
 }

@@ -38,6 +38,7 @@ pub use iterator::{
     StepByObjectIter,
 };
 pub use listed::entities;
+pub(crate) use places::Places;
 pub use rows::{FirstRow, LastRow, LastRowOffset, Row, Rows, RowsIter};
 pub use segment::{SectorIter, Segment, SegmentAll};
 pub use sieve::SieveIter;

@@ -1,8 +1,10 @@
 //! Sets of places.
 
-ghost use Rattle.std.specs.Prelude.{◌≡◌, ◌*◌, IfOk, IfSome, false, not, true};
+ghost use Rattle.std.specs.Prelude.{◌≡◌, ◌*◌, IfOk, IfSome, List, false, not, true};
+ghost use Rattle.std.specs.List.{AllByRecursion};
+ghost use Rattle.tabled_grid.specs.declared.config.entity.Entity.{Entity};
 ghost use Rattle.tabled_select.specs.Algebra.{flat};
-ghost use Rattle.tabled_select.specs.Sets.{marks_of};
+ghost use Rattle.tabled_select.specs.Sets.{covers, marks_of};
 ghost use Rattle.tabled_select.specs.Marks.{HasRoom, MarksAll, SetsMark, has};
 
 use crate::object::listed_marks::ListedMarks;
@@ -38,7 +40,8 @@ impl PlaceSet {
         columns: usize,
         named: usize,
     ) -> Result<Self, AllocError>
-        ensures { IfOk result (λ set. MarksAll (marks_of set) (flat entities.items rows columns) true) }
+        ensures marked { IfOk result (λ set. MarksAll (marks_of set) (flat entities.items rows columns) true) }
+        ensures covers { IfOk result (λ set. (others : List Entity) → AllByRecursion (covers set) (flat others rows columns)) }
     {
         let form = match dense_size(rows, columns, named) {
             Some(size) => Form::All(Marked::of(alloc, entities, rows, columns, size)?),
@@ -71,6 +74,7 @@ impl PlaceSet {
 
     #[inline]
     pub(super) fn contains(&self, pos: Position) -> bool
+        requires { covers self.now pos }
         ensures { result ≡ has (marks_of self.now) pos }
     {
         match &self.form {

@@ -13,7 +13,7 @@ use tabled_grid::config::{Entity, EntityIterator, Position};
 ///
 /// A contract sees it as the list of the places that are left.
 #[derive(Drop)]
-pub(super) struct Places {
+pub(crate) struct Places {
     rows: usize,
     columns: usize,
     current: EntityIterator,
@@ -32,7 +32,7 @@ impl Model for Places {
 }
 
 impl Places {
-    pub(super) fn new(entities: Vec<Entity>, rows: usize, columns: usize) -> Self
+    pub(crate) fn new(entities: Vec<Entity>, rows: usize, columns: usize) -> Self
         ensures { result ≡ flat entities.items rows columns }
     {
         Places {

@@ -24,15 +24,17 @@ pub struct SieveIter<L> {
 
 impl<L> Model for SieveIter<L> {
     ghost use Rattle.std.specs.Prelude.{List};
-    ghost use Rattle.std.specs.List.{filter};
+    ghost use Rattle.std.specs.List.{AllByRecursion, filter};
     ghost use Rattle.tabled_grid.specs.declared.config.entity.Entity.{Entity};
     ghost use Rattle.tabled_select.specs.Algebra.{cells_of};
     ghost use Rattle.tabled_select.specs.Marks.{passes};
-    ghost use Rattle.tabled_select.specs.Sets.{marks_of};
+    ghost use Rattle.tabled_select.specs.Sets.{covers, marks_of};
 
     ghost Value = { List Entity };
 
     ghost view = { λ a. cells_of (filter (passes a.keeps_members (marks_of a.set)) a.places) };
+
+    ghost invariant = { λ a. AllByRecursion (covers a.set) a.places };
 }
 
 impl<L> SieveIter<L> {

@@ -82,7 +82,7 @@ pub enum Change {
     Set(usize, usize),
 }
 
-/// Changes any store, as a generic caller does.
+/// Changes any store that tells its shape.
 pub fn make_change<R>(alloc: Global, records: &mut R, change: Change) -> Result<(), AllocError>
 where
     R: Resizable + Records + ExactRecords + RecordsMut<String>,
@@ -90,8 +90,37 @@ where
     requires { R.is_well_formed records.old }
     ensures { R.is_well_formed records.new }
 {
-    let rows = records.count_rows();
-    let columns = records.count_columns();
+    let shape = (records.count_rows(), records.count_columns());
+    change_shaped(alloc, records, shape, change)
+}
+
+/// Changes a store that is lent, through its `&mut`, which is a store itself.
+pub fn make_lent_change(
+    alloc: Global,
+    mut records: &mut VecRecords<Text<String>>,
+    change: Change,
+) -> Result<(), AllocError> {
+    let shape = (records.count_rows(), records.count_columns());
+    change_shaped(alloc, &mut records, shape, change)
+}
+
+/// Changes any store whose shape is known, as a generic caller does.
+fn change_shaped<R>(
+    alloc: Global,
+    records: &mut R,
+    shape: (usize, usize),
+    change: Change,
+) -> Result<(), AllocError>
+where
+    R: Resizable + RecordsMut<String>,
+    R::Cell: CellText,
+    requires well { R.is_well_formed records.old }
+    requires even { IsEven (R.grid records.old) }
+    requires rows { shape.0 ≡ (R.grid records.old).rows }
+    requires columns { shape.1 ≡ (R.grid records.old).columns }
+    ensures { R.is_well_formed records.new }
+{
+    let (rows, columns) = shape;
     match change {
         Change::PushRow => return records.push_row(alloc),
         Change::PushColumn => return records.push_column(alloc),

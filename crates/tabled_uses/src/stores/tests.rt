@@ -3,8 +3,8 @@
 ghost use Rattle.std.specs.Prelude.{◌<◌};
 
 use super::{
-    Change, cell, change_lent, fruits, make_change, push_and_remove_row, read, shape, spelled,
-    two_rows,
+    Change, cell, change_lent, fruits, make_change, make_lent_change, push_and_remove_row, read,
+    shape, spelled, two_rows,
 };
 use std::alloc::{AllocError, Global};
 use std::marker::Model;
@@ -30,7 +30,7 @@ impl Model for Nested {
     ghost invariant = { λ a. IsEven (grid_of (map_items a.rows.items)) };
 }
 
-/// The same rows in each kind of store.
+/// The same rows in each kind of store, of which the flat one is lent where it is changed.
 #[derive(Drop)]
 struct Both {
     flat: VecRecords<Text<String>>,
@@ -48,7 +48,7 @@ impl Both {
     }
 
     fn change(&mut self, alloc: Global, kind: Change) -> Result<(), AllocError> {
-        make_change(alloc, &mut self.flat, kind)?;
+        make_lent_change(alloc, &mut self.flat, kind)?;
         make_change(alloc, &mut self.nested.rows, kind)
     }
 

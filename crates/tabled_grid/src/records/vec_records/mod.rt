@@ -1,5 +1,6 @@
 //! A store of one vector of cells, row after row.
 
+mod bulk;
 mod moves;
 mod resizable;
 mod text;

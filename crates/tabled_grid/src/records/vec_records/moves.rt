@@ -6,7 +6,7 @@ ghost use Rattle.std.specs.Vec.Iter.{into_iter_items};
 ghost use Rattle.tabled_grid.specs.Grid.{map_items};
 ghost use Rattle.tabled_grid.specs.Resized.{AreBlanks};
 ghost use Rattle.tabled_grid.specs.Flat.{chunks, joined};
-ghost use Rattle.tabled_grid.specs.Moves.{AddsBlanks, InsertsBlanks, PutsBlanks, Slid, SlidBack, with_runs_swapped};
+ghost use Rattle.tabled_grid.specs.Moves.{AddsBlanks, InsertsBlanks, PutsBlanks, Slid, SlidBack, WidensRows, with_runs_swapped};
 
 use crate::records::blank::Blank;
 use std::alloc::{AllocError, Global};
@@ -112,6 +112,19 @@ pub(super) fn spread<T: Blank>(cells: &mut [T], rows: usize, columns: usize, j: 
     }
 }
 
+/// Brings each row but the first behind the blanks of those before it, so that `many` of the last cells
+/// lie behind each.
+pub(super) fn widen<T: Blank>(cells: &mut [T], rows: usize, columns: usize, many: usize)
+    requires size { length cells.old ≡ rows * columns + rows * many }
+    requires blanks { AreBlanks T.is_blank (rows * many) (drop (rows * columns) cells.old) }
+    ensures { WidensRows T.is_blank (chunks rows columns (take (rows * columns) cells.old)) cells.new many }
+{
+    for n in 0..rows {
+        let i = rows - 1 - n;
+        slide_back(cells, i * columns, columns, i * many);
+    }
+}
+
 /// Brings the cells that are not in column `j` forward, and leaves the others behind them.
 pub(super) fn close_up<T>(cells: &mut [T], rows: usize, columns: usize, j: usize)
     requires size { length cells.old ≡ rows * columns }
@@ -121,6 +134,17 @@ pub(super) fn close_up<T>(cells: &mut [T], rows: usize, columns: usize, j: usize
     for i in 0..rows {
         slide(cells, i * (columns - 1), i, j);
         slide(cells, i * (columns - 1) + j, i + 1, columns - 1 - j);
+    }
+}
+
+/// Brings the first `count` cells of each row forward, and leaves the others behind them.
+pub(super) fn keep_fronts<T>(cells: &mut [T], rows: usize, columns: usize, count: usize)
+    requires size { length cells.old ≡ rows * columns }
+    requires within { count ≤ columns }
+    ensures { take (rows * count) cells.new ≡ joined (map (λ (row : List T). take count row) (chunks rows columns cells.old)) }
+{
+    for i in 0..rows {
+        slide(cells, i * count, i * (columns - count), count);
     }
 }
 

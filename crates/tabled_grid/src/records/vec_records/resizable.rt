@@ -2,7 +2,8 @@
 
 use super::VecRecords;
 use super::moves::{
-    close_up, insert_blanks, push_blanks, remove_run, spread, swap_each, swap_runs,
+    close_up, insert_blanks, keep_fronts, push_blanks, remove_run, spread, swap_each, swap_runs,
+    widen,
 };
 use crate::config::Position;
 use crate::records::blank::Blank;
@@ -70,5 +71,31 @@ impl<T: Blank> Resizable for VecRecords<T> {
 
     fn swap_column(&mut self, j: usize, k: usize) {
         swap_each(&mut self.cells, self.rows, self.columns, j, k);
+    }
+
+    fn push_columns(&mut self, alloc: Global, many: usize) -> Result<(), AllocError> {
+        if self.rows == 0 {
+            return Ok(());
+        }
+        let Some(columns) = self.columns.checked_add(many) else {
+            return Err(AllocError);
+        };
+        let Some(count) = self.rows.checked_mul(many) else {
+            return Err(AllocError);
+        };
+        push_blanks(alloc, &mut self.cells, count)?;
+        widen(&mut self.cells, self.rows, self.columns, many);
+        self.columns = columns;
+        Ok(())
+    }
+
+    fn truncate_columns(&mut self, count: usize) {
+        keep_fronts(&mut self.cells, self.rows, self.columns, count);
+        self.columns = count;
+        self.cells.truncate(self.rows * count);
+    }
+
+    fn transpose(&mut self, alloc: Global) -> Result<(), AllocError> {
+        self.turn(alloc)
     }
 }

@@ -12,6 +12,7 @@ loop-pos-init c =
       ends = tt;
       left = rw all none.room;
       room = none.room;
+      others = λ others. (c.in_ok-set.ensures others).room;
       marked = marked-first (all_marks c.in_ok-set.set) _ _ all none.just;
     }
 
@@ -27,8 +28,9 @@ loop-pos-preserved c =
       ends = tt;
       left = room-kept _ _ _ _ c.mark.ensures _ left.1;
       room = room-kept _ _ _ _ c.mark.ensures _ before.room;
+      others = λ others. room-kept _ _ _ _ c.mark.ensures _ (before.others others);
       marked = marked-next _ _ _ _ _ _ c.in-Some.ensures.steps c.mark.ensures before.marked;
     }
 
-pub returns : goal.returns
-returns c = marked-last _ _ _ c.in-None.ensures.steps.0 c.loop-pos.invariant.room c.loop-pos.invariant.marked
+pub returns-clause-marked : goal.returns-clause-marked
+returns-clause-marked c = marked-last _ _ _ c.in-None.ensures.steps.0 c.loop-pos.invariant.room c.loop-pos.invariant.marked

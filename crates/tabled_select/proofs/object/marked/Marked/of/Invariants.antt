@@ -1,6 +1,7 @@
 use Rattle.std.proofs.Common.{◌≡◌}
-use Rattle.std.specs.Prelude.{◌||◌}
+use Rattle.std.specs.Prelude.{◌||◌, List}
 use Rattle.std.specs.List.{AllByRecursion}
+use Rattle.tabled_grid.specs.declared.config.entity.Entity.{Entity}
 use Rattle.tabled_grid.specs.declared.config.position.Position.{Position}
 use Rattle.tabled_select.specs.Algebra.{flat, is_among}
 use Rattle.tabled_select.specs.Marks.{HasRoom, has}
@@ -13,5 +14,6 @@ invariant-loop-pos l = record {
   ends : goal.iterator-loop-pos.is_finite l.pos-iterator;
   left : AllByRecursion (HasRoom (all_marks l.set)) l.pos-iterator;
   room : AllByRecursion (HasRoom (all_marks l.set)) (flat l.fn.entities.items l.fn.rows l.fn.columns);
+  others : (others : List Entity) → AllByRecursion (HasRoom (all_marks l.set)) (flat others l.fn.rows l.fn.columns);
   marked : (p : Position) → (is_among l.pos-iterator p || has (all_marks l.set) p) ≡ is_among (flat l.fn.entities.items l.fn.rows l.fn.columns) p;
 }

@@ -1,0 +1,80 @@
+-- The first lines of a grid.
+use Rattle.std.proofs.Common.{◌≡◌, ℕ, zero, suc, ◌-◌, ◌≤◌, Bool, true, false, cond, eqb, List, refl, sym, ap₂, ◌∙◌, map, take, length, arith}
+use Rattle.std.specs.List.{remove}
+use Rattle.std.proofs.lemmas.Bool.{eqb-true, ne_eqb}
+use Rattle.std.proofs.lemmas.List.{append-nil, map-id, take_all, drop_all, take-take, length-map, length-take, length-take-le, nil_from_length}
+use Rattle.tabled_grid.specs.Along.{count_along, first_along, with_lines, without_line}
+use Rattle.tabled_grid.specs.Grid.{Grid, IsEmptyWithoutRows, IsEven}
+use Rattle.tabled_grid.specs.declared.records.axis.Axis.{Axis}
+use Rattle.tabled_grid.specs.declared.records.axis.Axis.TheVariants.{Rows, Columns}
+use Rattle.tabled_grid.proofs.Along.{each_after, each_agrees, each_same}
+use Rattle.tabled_grid.proofs.Lists.{all-map, all-take}
+use Rattle.tabled_grid.proofs.Resized.{wide_if}
+
+-- without the last of its first ones
+remove_last : {X : Type 0} (m : ℕ) (xs : List X) → remove (take (suc m) xs) m ≡ take m xs
+remove_last m xs = rw (take-take m (suc m) xs (omega arith), drop_all (suc m) (take (suc m) xs) (omega (arith, length-take (suc m) xs))) (append-nil _)
+
+-- how many columns there are once a row is gone
+columns_left : (m columns : ℕ) → cond (eqb (suc m) 1) 0 (cond (eqb (suc m) 0) 0 columns) ≡ cond (eqb m 0) 0 columns
+columns_left zero columns = refl
+columns_left (suc m) columns =
+    let a : eqb (suc (suc m)) 1 ≡ false = ne_eqb _ _ (λ e. omega arith) in
+    let b : eqb (suc (suc m)) 0 ≡ false = ne_eqb _ _ (λ e. omega arith) in
+    let c : eqb (suc m) 0 ≡ false = ne_eqb _ _ (λ e. omega arith) in
+    rw (a, b, c) refl
+
+-- none without rows
+pub either_way : (b : Bool) (columns : ℕ) → (b ≡ true → columns ≡ 0) → cond b 0 columns ≡ columns
+either_way true columns none = sym (none refl)
+either_way false columns none = refl
+
+module _ {A : Type 0} where
+  pub count-with_lines : (axis : Axis) (n : ℕ) (f : (X : Type 0) → List X → List X) (g : Grid A) → count_along axis (with_lines axis n f g) ≡ n
+  count-with_lines Rows n f g = refl
+  count-with_lines Columns n f g = refl
+
+  pub with_lines_agrees : (axis : Axis) (n : ℕ) (f k : (X : Type 0) → List X → List X) (g : Grid A) → IsEven g →
+      ((X : Type 0) (xs : List X) → length xs ≡ count_along axis g → f X xs ≡ k X xs) → with_lines axis n f g ≡ with_lines axis n k g
+  with_lines_agrees Rows n f k g even e = rw (e (List A) g.cells even.tall) refl
+  with_lines_agrees Columns n f k g even e = rw (each_agrees g.columns (f A) (k A) (e A) g.cells even.wide) refl
+
+  -- all lines
+  pub first_all : (axis : Axis) (n : ℕ) (g : Grid A) → n ≡ count_along axis g → IsEven g → IsEmptyWithoutRows g → g ≡ first_along axis n g
+  first_all Rows n g e even none = rw (e, either_way (eqb g.rows 0) g.columns (λ is. none (eqb-true g.rows 0 is)), take_all g.rows g.cells (omega (arith, even.tall))) refl
+  first_all Columns n g e even none =
+      let all : map (take n) g.cells ≡ g.cells = each_agrees g.columns (take n) (λ xs. xs) (λ xs len. take_all n xs (omega (arith, len, e))) g.cells even.wide ∙ map-id g.cells in
+      ap₂ (λ (m : ℕ) (rows : List (List A)). let h : Grid A = record { rows = g.rows; columns = m; cells = rows } in h) (sym e) (sym all)
+
+  -- one line fewer
+  first_fewer : (axis : Axis) (m : ℕ) (g : Grid A) → without_line axis m (first_along axis (suc m) g) ≡ first_along axis m g
+  first_fewer Rows m g =
+      let fewer : suc m - 1 ≡ m = omega arith in
+      rw (remove_last m g.cells, columns_left m g.columns, fewer) refl
+  first_fewer Columns m g =
+      let fewer : suc m - 1 ≡ m = omega arith in
+      ap₂ (λ (n : ℕ) (rows : List (List A)). let h : Grid A = record { rows = g.rows; columns = n; cells = rows } in h) fewer
+      (each_after (λ (row : List A). remove row m) (take (suc m)) g.cells ∙ each_same (λ (row : List A). remove (take (suc m) row) m) (take m) (remove_last m) g.cells)
+
+  pub first_step : (axis : Axis) (left m : ℕ) (cur new g : Grid A) → cur ≡ first_along axis left g → new ≡ without_line axis m cur → left ≡ suc m → new ≡ first_along axis m g
+  first_step axis left m cur new g is removed e = removed ∙ rw (is, e) (first_fewer axis m g)
+
+  pub IsEven-first : (axis : Axis) (n : ℕ) (g : Grid A) → n ≤ count_along axis g → IsEven g → IsEven (first_along axis n g)
+  IsEven-first Rows n g h even =
+      let long : length (take n g.cells) ≡ n = length-take-le n g.cells (omega (arith, even.tall, h)) in
+      record {
+        tall = long;
+        wide = wide_if (eqb n 0) 0 g.columns (take n g.cells) (λ e. nil_from_length _ (omega (arith, long, eqb-true n 0 e))) (all-take (λ (row : List A). length row ≡ g.columns) n g.cells even.wide);
+      }
+  IsEven-first Columns n g h even = record {
+    tall = length-map g.cells _ ∙ even.tall;
+    wide = all-map (λ (row : List A). length row ≡ g.columns) (λ (row : List A). length row ≡ n) _ (λ row w. length-take-le n row (omega (arith, w, h))) g.cells even.wide;
+  }
+
+  pub rowless-first : (axis : Axis) (n : ℕ) (g : Grid A) → n ≤ count_along axis g → IsEmptyWithoutRows g → IsEmptyWithoutRows (first_along axis n g)
+  rowless-first Rows n g h none e = rw e refl
+  rowless-first Columns n g h none e = omega (arith, none e, h)
+
+  -- keeping all lines changes nothing
+  pub kept_all : (axis : Axis) (n : ℕ) (g new : Grid A) → n ≡ count_along axis g → IsEven g → IsEmptyWithoutRows g → new ≡ first_along axis n g → new ≡ g
+  kept_all axis n g new e even none is = is ∙ sym (first_all axis n g e even none)

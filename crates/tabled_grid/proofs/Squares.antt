@@ -1,0 +1,99 @@
+-- Grids padded to a square, and transposed there.
+use Rattle.std.proofs.Common.{◌≡◌, ℕ, ◌+◌, ◌<◌, ◌≤◌, Bool, true, false, cond, eqb, Option, None, Some, refl, ap, ◌∙◌, arith}
+use Rattle.std.proofs.lemmas.Bool.{eqb-true}
+use Rattle.tabled_grid.specs.declared.config.position.Position.{Position}
+use Rattle.tabled_grid.specs.Along.{first_along}
+use Rattle.tabled_grid.specs.Bulk.{AddsColumns, AddsRows, HalfTransposedIn, cell_in, transposed}
+use Rattle.tabled_grid.specs.Grid.{Grid, IsEmptyWithoutRows, IsEven, IsInside}
+use Rattle.tabled_grid.specs.Resized.{with_cells_swapped}
+use Rattle.tabled_grid.specs.declared.records.axis.Axis.TheVariants.{Rows, Columns}
+use Rattle.tabled_grid.proofs.AddedColumns.{IsEven-adds_columns}
+use Rattle.tabled_grid.proofs.AddedRows.{IsEven-adds_rows}
+use Rattle.tabled_grid.proofs.Diagonal.{all_transposed, half_begun, half_more, half_none, half_row}
+use Rattle.tabled_grid.proofs.SwappedCells.{Swaps, views_swapped}
+use Rattle.tabled_grid.proofs.Transposed.{transposed_none, transposed_some}
+
+wide_enough : (b : Bool) (c more size : ℕ) → (b ≡ true → size ≡ c) → c + more ≡ size → cond b c (c + more) ≡ size
+wide_enough true c more size none e = let same = none refl in omega (arith, same)
+wide_enough false c more size none e = e
+
+module _ {A : Type 0} (is_blank : A → Type 0) where
+  -- a padded grid is a square
+  pub record Square (size : ℕ) (g : Grid A) : Type 0 where
+    pub even : IsEven g
+    pub rows : g.rows ≡ size
+    pub columns : g.columns ≡ size
+
+  pub square_made : (size many more : ℕ) (old grown square : Grid A) → IsEven old → IsEmptyWithoutRows grown → old.rows + many ≡ size → old.columns + more ≡ size →
+      AddsRows is_blank many old grown → AddsColumns is_blank more grown square → Square size square
+  square_made size many more old grown square even none tall wide rows columns =
+      let high : grown.rows ≡ size = ap (λ (h : Grid A). h.rows) rows.is ∙ tall in
+      let broad : grown.columns ≡ old.columns = ap (λ (h : Grid A). h.columns) rows.is in
+      record {
+        even = IsEven-adds_columns is_blank more grown square columns (IsEven-adds_rows is_blank many old grown rows even);
+        rows = columns.rows ∙ high;
+        columns = columns.columns ∙ wide_enough (eqb grown.rows 0) grown.columns more size (λ is. let no_rows = eqb-true grown.rows 0 is in omega (arith, none no_rows, no_rows, high)) (omega (arith, broad, wide));
+      }
+
+  pub square_begins : (size many more : ℕ) (old grown square : Grid A) → old.rows + many ≡ size → AddsRows is_blank many old grown → AddsColumns is_blank more grown square → HalfTransposedIn is_blank size 0 0 old square
+  square_begins size many more old grown square tall rows columns = record {
+    many = many;
+    grown = grown;
+    more = more;
+    square = square;
+    tall = tall;
+    rows_added = rows;
+    columns_added = columns;
+    turned = half_none _ size;
+  }
+
+  module _ (old cur : Grid A) (size i j : ℕ) (t : HalfTransposedIn is_blank size i j old cur) where
+    pub square_more : (new : Grid A) (p q : Position) (next : ℕ) → next ≡ j + 1 → i < j → p.row ≡ i → p.col ≡ j → q.row ≡ j → q.col ≡ i → j < size → Square size cur → new ≡ with_cells_swapped cur p q → HalfTransposedIn is_blank size i next old new
+    square_more new p q next e h pr pc qr qc below s is =
+        let none : Option A = None in
+        let at_p : IsInside cur p = record { row = omega (arith, pr, h, below, s.rows); col = omega (arith, pc, below, s.columns) } in
+        let at_q : IsInside cur q = record { row = omega (arith, qr, below, s.rows); col = omega (arith, qc, h, below, s.columns) } in
+        let swapped : Swaps (cell_in cur) (cell_in new) p.row p.col q.row q.col = views_swapped Some none cur new p q s.even at_p at_q (λ same. absurd (omega (arith, same, pr, qr, h))) is in
+        let pair : Swaps (cell_in cur) (cell_in new) i j j i = (rw (pr, pc, qr, qc) at swapped) in
+        record {
+          many = t.many;
+          grown = t.grown;
+          more = t.more;
+          square = t.square;
+          tall = t.tall;
+          rows_added = t.rows_added;
+          columns_added = t.columns_added;
+          turned = half_more _ (cell_in cur) (cell_in new) size i j next e h t.turned pair;
+        }
+
+    pub square_row : (next : ℕ) → next ≡ i + 1 → size ≤ j → HalfTransposedIn is_blank size next next old cur
+    square_row next e h = record {
+      many = t.many;
+      grown = t.grown;
+      more = t.more;
+      square = t.square;
+      tall = t.tall;
+      rows_added = t.rows_added;
+      columns_added = t.columns_added;
+      turned = half_row _ (cell_in cur) size i j next e h t.turned;
+    }
+
+  module _ (old cur : Grid A) (size i : ℕ) (t : HalfTransposedIn is_blank size i i old cur) where
+    pub square_begun : (next : ℕ) → next ≡ i + 1 → HalfTransposedIn is_blank size i next old cur
+    square_begun next e = record {
+      many = t.many;
+      grown = t.grown;
+      more = t.more;
+      square = t.square;
+      tall = t.tall;
+      rows_added = t.rows_added;
+      columns_added = t.columns_added;
+      turned = half_begun _ (cell_in cur) size i next e t.turned;
+    }
+
+    module _ (even : IsEven old) (s : Square size cur) (wide : old.columns ≤ size) (all : size ≤ i) where
+      pub square_cut : (front new : Grid A) (r c : ℕ) → r ≡ old.rows → c ≡ old.columns → 0 < c → front ≡ first_along Rows c cur → new ≡ first_along Columns r front → new ≡ transposed old
+      square_cut = transposed_some is_blank old t.grown t.square cur size t.many t.more even t.rows_added t.columns_added t.tall wide (all_transposed _ (cell_in cur) size i all t.turned) s.even s.rows s.columns
+
+      pub square_cut_to_none : (new : Grid A) (c : ℕ) → c ≡ old.columns → c ≤ 0 → new ≡ first_along Rows c cur → new ≡ transposed old
+      square_cut_to_none = transposed_none is_blank old t.grown t.square cur size t.many t.more even t.rows_added t.columns_added t.tall wide (all_transposed _ (cell_in cur) size i all t.turned) s.even s.rows s.columns

@@ -1,0 +1,70 @@
+-- Two cells swapped, by place.
+use Rattle.std.proofs.Common.{◌≡◌, ℕ, ◌<◌, ◌≢◌, List, [], Some, refl, sym, ap, ◌∙◌, subst, length, get_or, arith}
+use Rattle.std.proofs.lemmas.List.{get_or-set_same, get_or-set_other}
+use Rattle.std.proofs.lemmas.List.Elements.{All-from_recursion}
+use Rattle.std.proofs.lemmas.Option.{slice_get-get_or}
+use Rattle.tabled_grid.specs.declared.config.position.Position.{Position}
+use Rattle.tabled_grid.specs.Grid.{Grid, IsEven, IsInside, cell_at, map_grid, with_cell}
+use Rattle.tabled_grid.specs.Resized.{with_cells_swapped}
+use Rattle.tabled_grid.proofs.Grids.{IsEven-map_grid, IsEven-with_cell}
+use Rattle.tabled_grid.proofs.Mapped.{map_grid-with_cells_swapped}
+
+-- what stands at two places is swapped
+pub record Swaps {B : Type 0} (old new : ℕ → ℕ → B) (i j k l : ℕ) : Type 0 where
+  pub here : new i j ≡ old k l
+  pub there : new k l ≡ old i j
+  pub in_here : (b : ℕ) → b ≢ j → new i b ≡ old i b
+  pub in_there : (b : ℕ) → b ≢ l → new k b ≡ old k b
+  pub elsewhere : (a b : ℕ) → a ≢ i → a ≢ k → new a b ≡ old a b
+
+-- what stands at a place of a list of lists
+abbrev pub entry : {B : Type 0} → B → List (List B) → ℕ → ℕ → B
+entry d rows a b = get_or (get_or rows a []) b d
+
+module _ {B : Type 0} (d : B) (g : Grid B) (p : Position) (x : B) (even : IsEven g) (inside : IsInside g p) where
+  row_of : p.row < length g.cells
+  row_of = omega (arith, even.tall, inside.row)
+
+  wide_at : (a : ℕ) → a < g.rows → length (get_or g.cells a []) ≡ g.columns
+  wide_at a h = All-from_recursion _ g.cells even.wide a [] (omega (arith, even.tall, h))
+
+  has_entry : cell_at g p ≡ Some (entry d g.cells p.row p.col)
+  has_entry = slice_get-get_or (get_or g.cells p.row []) p.col d (omega (arith, wide_at p.row inside.row, inside.col))
+
+  entry_same : entry d (with_cell g p x).cells p.row p.col ≡ x
+  entry_same = ap (λ row. get_or row p.col d) (get_or-set_same g.cells p.row _ [] row_of) ∙ get_or-set_same (get_or g.cells p.row []) p.col x d (omega (arith, wide_at p.row inside.row, inside.col))
+
+  entry_in_row : (b : ℕ) → b ≢ p.col → entry d (with_cell g p x).cells p.row b ≡ entry d g.cells p.row b
+  entry_in_row b apart = ap (λ row. get_or row b d) (get_or-set_same g.cells p.row _ [] row_of) ∙ get_or-set_other (get_or g.cells p.row []) p.col b x d apart
+
+  entry_other : (a b : ℕ) → a ≢ p.row → entry d (with_cell g p x).cells a b ≡ entry d g.cells a b
+  entry_other a b apart = ap (λ row. get_or row b d) (get_or-set_other g.cells p.row a _ [] apart)
+
+-- two cells of different rows swapped
+entries_swapped : {B : Type 0} (d : B) (g : Grid B) (p q : Position) → IsEven g → IsInside g p → IsInside g q → p.row ≢ q.row →
+    Swaps (entry d g.cells) (entry d (with_cells_swapped g p q).cells) p.row p.col q.row q.col
+entries_swapped {B} d g p q even at_p at_q apart =
+    let x : B = entry d g.cells q.row q.col in
+    let y : B = entry d g.cells p.row p.col in
+    let half : Grid B = with_cell g p x in
+    let half_even : IsEven half = IsEven-with_cell g p x even in
+    let half_q : IsInside half q = record { row = at_q.row; col = at_q.col } in
+    let is : with_cells_swapped g p q ≡ with_cell half q y = rw (has_entry d g q d even at_q, has_entry d g p d even at_p) refl in
+    let cells : (a b : ℕ) → entry d (with_cells_swapped g p q).cells a b ≡ entry d (with_cell half q y).cells a b = λ a b. ap (λ (h : Grid B). entry d h.cells a b) is in
+    record {
+      here = cells p.row p.col ∙ entry_other d half q y half_even half_q p.row p.col apart ∙ entry_same d g p x even at_p;
+      there = cells q.row q.col ∙ entry_same d half q y half_even half_q;
+      in_here = λ b h. cells p.row b ∙ entry_other d half q y half_even half_q p.row b apart ∙ entry_in_row d g p x even at_p b h;
+      in_there = λ b h. cells q.row b ∙ entry_in_row d half q y half_even half_q b h ∙ entry_other d g p x even at_p q.row b (λ e. apart (sym e));
+      elsewhere = λ a b h k. cells a b ∙ entry_other d half q y half_even half_q a b k ∙ entry_other d g p x even at_p a b h;
+    }
+
+-- what f gives of two cells that are swapped, where there is d outside
+pub views_swapped : {A B : Type 0} (f : A → B) (d : B) (g new : Grid A) (p q : Position) → IsEven g → IsInside g p → IsInside g q → p.row ≢ q.row → new ≡ with_cells_swapped g p q →
+    Swaps (entry d (map_grid f g).cells) (entry d (map_grid f new).cells) p.row p.col q.row q.col
+views_swapped {A} {B} f d g new p q even at_p at_q apart is =
+    let seen : Grid B = map_grid f g in
+    let moved : map_grid f new ≡ with_cells_swapped seen p q = ap (map_grid f) is ∙ map_grid-with_cells_swapped f g p q in
+    let all : Swaps (entry d seen.cells) (entry d (with_cells_swapped seen p q).cells) p.row p.col q.row q.col =
+    entries_swapped d seen p q (IsEven-map_grid f g even) (record { row = at_p.row; col = at_p.col }) (record { row = at_q.row; col = at_q.col }) apart in
+    subst (λ (h : Grid B). Swaps (entry d seen.cells) (entry d h.cells) p.row p.col q.row q.col) (sym moved) all

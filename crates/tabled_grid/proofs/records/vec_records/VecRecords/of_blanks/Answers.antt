@@ -1,0 +1,7 @@
+use Rattle.std.proofs.Common.{arith}
+use Rattle.std.proofs.lemmas.Grind.{common_steps}
+use Rattle.tabled_grid.proofs.Flat.{is_even}
+use Rattle.tabled_grid.proofs.records.vec_records.VecRecords.of_blanks.Goals as goal
+
+pub returns-clause-even : goal.returns-clause-even
+returns-clause-even g c = is_even _ _ _ (record { full = grind (arith, common_steps); rowless = λ e. absurd (omega (arith, e, c.requires)) })

@@ -1,0 +1,19 @@
+use Rattle.std.proofs.Common.{◌≡◌, ◌*◌, length, ap, refl, arith}
+use Rattle.tabled_grid.specs.Flat.{chunks}
+use Rattle.tabled_grid.proofs.Flat.{length-chunks, wide-chunks}
+use Rattle.tabled_grid.proofs.FlatFronts.{fronts_none, fronts_more, fronts_all}
+use Rattle.tabled_grid.proofs.records.vec_records.moves.keep_fronts.Goals as goal
+
+pub loop-i-init : goal.loop-i-init
+loop-i-init g c = fronts_none _ _ _ _ c.requires.size
+
+pub loop-i-preserved : goal.loop-i-preserved
+loop-i-preserved g c =
+    fronts_more c.args.columns c.args.count _ _ _ _ _ _ (wide-chunks _ _ _ c.requires.size) c.requires.within (omega (arith, length-chunks c.args.rows c.args.columns c.args.cells.now))
+    c.loop-i.invariant c.slide.ensures refl refl
+
+pub returns : goal.returns
+returns g c =
+    let done : c.args.rows ≡ c.loop-i.i = omega arith in
+    let tall : length (chunks c.args.rows c.args.columns c.args.cells.now) ≡ c.loop-i.i = omega (arith, length-chunks c.args.rows c.args.columns c.args.cells.now) in
+    fronts_all c.args.columns c.args.count _ _ _ _ (wide-chunks _ _ _ c.requires.size) c.requires.within tall c.loop-i.invariant (ap (λ n. n * c.args.count) done)

@@ -1,0 +1,39 @@
+-- What locators find by the texts of a table.
+use Rattle.std.specs.Prelude.{◌≡◌, ℕ, Bool, if◌then◌else◌, List, [], ◌∷◌, map, nat_eq}
+use Rattle.std.specs.Cmp.Lexicographic.{pointwise}
+use Rattle.std.specs.List.{FoldsTo, filter}
+use Rattle.std.specs.Option.{unwrap_or}
+use Rattle.tabled_grid.specs.Entity.{inside}
+use Rattle.tabled_grid.specs.Grid.{Grid, cell_at}
+use Rattle.tabled_grid.specs.declared.config.position.Position.{Position}
+use Rattle.tabled_grid.specs.declared.config.entity.Entity.TheVariants.{Global, Row}
+use Rattle.tabled_select.specs.Steps.{Filters}
+
+-- the text at a place of a table
+abbrev pub text_at : Grid (List ℕ) → Position → List ℕ
+text_at g p = unwrap_or (cell_at g p) []
+
+-- the text at a place is this one
+abbrev pub has_text : List ℕ → Grid (List ℕ) → Position → Bool
+has_text text g p = pointwise nat_eq (text_at g p) text
+
+-- the places with a text, row by row
+abbrev pub places_with : List ℕ → Grid (List ℕ) → List Position
+places_with text g = filter (has_text text g) (inside Global g.rows g.columns)
+
+-- the columns with a text in the first row
+abbrev pub columns_with : List ℕ → Grid (List ℕ) → List ℕ
+columns_with text g = map (λ (p : Position). p.col) (filter (has_text text g) (inside (Row 0) g.rows g.columns))
+
+-- the places with a text to which the answer was yes, each asked for once, row by row
+abbrev pub PicksPlaces : (List ℕ → Bool → Type 0) → Grid (List ℕ) → List Position → Type 0
+PicksPlaces answers g picked = Filters (λ p. answers (text_at g p)) (inside Global g.rows g.columns) picked
+
+-- one place is held, and then the next one, if the answer to its text and to the held one was yes
+abbrev pub HoldsNext : (List ℕ → List ℕ → Bool → Type 0) → Grid (List ℕ) → Position → Position → Position → Type 0
+HoldsNext answers g held p next = (yes : Bool) × answers (text_at g p) (text_at g held) yes × (next ≡ (if yes then p else held))
+
+-- of these places the one that is held last, where the first is held first
+abbrev pub HeldLast : (List ℕ → List ℕ → Bool → Type 0) → Grid (List ℕ) → List Position → List Position → Type 0
+HeldLast answers g [] last = last ≡ []
+HeldLast answers g (p ∷ places) last = (held : Position) × FoldsTo (HoldsNext answers g) p places held × (last ≡ held ∷ [])

@@ -1,0 +1,121 @@
+//! The walk over texts that locators share.
+
+ghost use Rattle.std.specs.Prelude.{◌≡◌, IfOk, List, map};
+ghost use Rattle.std.specs.Fn.{FnReturnsAt};
+ghost use Rattle.std.specs.List.{filter};
+ghost use Rattle.tabled_grid.specs.Entity.{inside};
+ghost use Rattle.tabled_grid.specs.Grid.{map_grid};
+ghost use Rattle.tabled_grid.specs.declared.config.position.Position.{Position};
+ghost use Rattle.tabled_grid.specs.declared.config.entity.Entity.TheVariants.{Cell, Column};
+ghost use Rattle.tabled_select.specs.Locators.{has_text, text_at};
+ghost use Rattle.tabled_select.specs.Steps.{Filters};
+
+use std::alloc::{AllocError, Global};
+use tabled_grid::config::{Entity, Position};
+use tabled_grid::records::{CellText, ExactRecords, PeekableRecords, Records};
+
+/// What is kept of a place that was found.
+pub(super) trait Keep {
+    type Kept: Drop;
+
+    /// What is kept of a place.
+    ghost kept: { Position → Self.Kept };
+
+    fn keep(pos: Position) -> Self::Kept
+        ensures { result ≡ kept pos };
+}
+
+/// Places themselves.
+pub(super) enum Places {}
+
+impl Keep for Places {
+    type Kept = Position;
+
+    ghost kept = { λ p. p };
+
+    fn keep(pos: Position) -> Position {
+        pos
+    }
+}
+
+/// The entities of places.
+pub(super) enum Cells {}
+
+impl Keep for Cells {
+    type Kept = Entity;
+
+    ghost kept = { λ p. Cell p.row p.col };
+
+    fn keep(pos: Position) -> Entity {
+        Entity::from(pos)
+    }
+}
+
+/// The indexes of the columns of places.
+pub(super) enum ColumnIndexes {}
+
+impl Keep for ColumnIndexes {
+    type Kept = usize;
+
+    ghost kept = { λ p. p.col };
+
+    fn keep(pos: Position) -> usize {
+        pos.col
+    }
+}
+
+/// The entities of the columns of places.
+pub(super) enum WholeColumns {}
+
+impl Keep for WholeColumns {
+    type Kept = Entity;
+
+    ghost kept = { λ p. Column p.col };
+
+    fn keep(pos: Position) -> Entity {
+        Entity::Column(pos.col)
+    }
+}
+
+/// The places with a text, of those inside that an entity names.
+pub(super) fn search_text<K, R>(
+    alloc: Global,
+    records: &R,
+    entity: Entity,
+    wanted: &str,
+) -> Result<Vec<K::Kept>, AllocError>
+where
+    K: Keep,
+    R: Records + ExactRecords + PeekableRecords,
+    R::Cell: CellText,
+    requires well { R.is_well_formed records.now }
+    ensures { IfOk result (λ all. all.items ≡ map K.kept (filter (has_text wanted.now (map_grid R.Cell.text_of (R.grid records.now))) (inside entity (R.grid records.now).rows (R.grid records.now).columns))) }
+{
+    search::<K, R, _>(alloc, records, entity, &|text: &str| text == wanted)
+}
+
+/// The places inside that an entity names and to whose texts a closure says yes, each asked for once
+/// and in order.
+pub(super) fn search<K, R, F>(
+    alloc: Global,
+    records: &R,
+    entity: Entity,
+    says: &F,
+) -> Result<Vec<K::Kept>, AllocError>
+where
+    K: Keep,
+    R: Records + ExactRecords + PeekableRecords,
+    R::Cell: CellText,
+    F: Fn(&str) -> bool,
+    requires well { R.is_well_formed records.now }
+    requires can { F.IsAlwaysCallable says.now }
+    ensures { IfOk result (λ all. (picked : List Position) × Filters (λ p yes. FnReturnsAt F.Fn says.now (text_at (map_grid R.Cell.text_of (R.grid records.now)) p) yes) (inside entity (R.grid records.now).rows (R.grid records.now).columns) picked × (all.items ≡ map K.kept picked)) }
+{
+    let mut found = Vec::new(alloc);
+    for pos in entity.iter(records.count_rows(), records.count_columns()) {
+        if says(records.get_text(pos)) {
+            found.push(K::keep(pos))?;
+        }
+    }
+    Ok(found)
+}

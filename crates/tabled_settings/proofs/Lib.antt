@@ -1,0 +1,14 @@
+pub mod Among
+pub mod Apart
+pub mod Dropped
+pub mod Joins
+pub mod Kept
+pub mod LineReads
+pub mod Mapped
+pub mod Replacing
+pub mod Results
+pub mod Reversed
+pub mod Rewriting
+pub mod Rotated
+pub mod SameCells
+pub mod Turns

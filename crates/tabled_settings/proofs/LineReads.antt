@@ -1,0 +1,97 @@
+-- The rows or the columns of a grid, one after another.
+use Rattle.std.proofs.Common.{◌≡◌, ℕ, ◌<◌, List, [], ◌∷◌, Option, None, Some, refl, sym, ap, ap₂, ◌∙◌, map, take, length, get_or, arith}
+use Rattle.std.specs.Prelude.{slice_get}
+use Rattle.std.specs.List.{AllByRecursion, swap}
+use Rattle.std.proofs.lemmas.List.{get_or-take, length-map}
+use Rattle.std.proofs.lemmas.List.Edits.{Swapped, swapped_from_swap}
+use Rattle.std.proofs.Math.ListN.{get_or-map}
+use Rattle.tabled_grid.specs.Along.{along, count_along, first_along}
+use Rattle.tabled_grid.specs.Grid.{Grid, IsEven, IsInside, cell_at}
+use Rattle.tabled_grid.specs.declared.config.position.Position.{Position}
+use Rattle.tabled_grid.specs.declared.records.axis.Axis.{Axis}
+use Rattle.tabled_grid.specs.declared.records.axis.Axis.TheVariants.{Rows, Columns}
+use Rattle.tabled_grid.proofs.Lists.{map-swap}
+use Rattle.tabled_grid.proofs.Resized.{IsEven-with_rows_swapped, IsEven-with_columns_swapped}
+use Rattle.tabled_grid.proofs.Transposed.{slice_get-some, slice_get-take}
+use Rattle.tabled_settings.specs.Lines.{IsShapedAs, line}
+use Rattle.tabled_settings.specs.Places.{ReadsThrough, in_line, line_of, lines_from}
+
+-- maps that agree on what has a property
+pub maps_agree_on : {X Y Z : Type 0} (P : X → Type 0) (f : Y → Z) (g : X → Y) (h : X → Z) → ((x : X) → P x → f (g x) ≡ h x) → (xs : List X) → AllByRecursion P xs → map f (map g xs) ≡ map h xs
+maps_agree_on P f g h agree [] all = refl
+maps_agree_on P f g h agree (x ∷ xs) all = ap₂ (λ y ys. y ∷ ys) (agree x all.0) (maps_agree_on P f g h agree xs all.1)
+
+-- what stands at each place of a list, where two items are swapped
+slots_swapped : {X : Type 0} (xs : List X) (i k : ℕ) → i < length xs → k < length xs → Swapped (slice_get xs) (slice_get (swap xs i k)) i k
+slots_swapped {X} xs i k h l =
+    let none : Option X = None in
+    let long : length (map Some xs) ≡ length xs = length-map xs Some in
+    let moved = swapped_from_swap (map Some xs) (map Some (swap xs i k)) i k none (omega (arith, long, h)) (omega (arith, long, l)) (map-swap Some xs i k) in
+    let at : (m : ℕ) → get_or (map Some (swap xs i k)) m none ≡ slice_get (swap xs i k) m = slice_get-some (swap xs i k) in
+    (sym (at i) ∙ moved.0 ∙ slice_get-some xs k, sym (at k) ∙ moved.1 ∙ slice_get-some xs i, λ m a b. sym (at m) ∙ moved.2 m a b ∙ slice_get-some xs m)
+
+module _ {A : Type 0} where
+  -- a column of rows in which two cells each are swapped
+  column_swapped : (c j k m n : ℕ) (rows : List (List A)) → AllByRecursion (λ (row : List A). length row ≡ c) rows → ((row : List A) → length row ≡ c → slice_get (swap row j k) m ≡ slice_get row n) →
+      map (λ (row : List A). slice_get row m) (map (λ (row : List A). swap row j k) rows) ≡ map (λ (row : List A). slice_get row n) rows
+  column_swapped c j k m n rows wide same = maps_agree_on (λ (row : List A). length row ≡ c) (λ (row : List A). slice_get row m) (λ (row : List A). swap row j k) (λ (row : List A). slice_get row n) same rows wide
+
+  pub lines_swapped : (axis : Axis) (g new : Grid A) (i k : ℕ) → IsEven g → i < count_along axis g → k < count_along axis g → new ≡ along axis (λ _ xs. swap xs i k) g → Swapped (line axis g) (line axis new) i k
+  lines_swapped Rows g new i k even h l is =
+      let moved = swapped_from_swap g.cells new.cells i k [] (omega (arith, even.tall, h)) (omega (arith, even.tall, l)) (ap (λ (h : Grid A). h.cells) is) in
+      (ap (map Some) moved.0, ap (map Some) moved.1, λ m a b. ap (map Some) (moved.2 m a b))
+  lines_swapped Columns g new j k even h l is =
+      let cells : (m : ℕ) → line Columns new m ≡ line Columns (along Columns (λ _ xs. swap xs j k) g) m = λ m. ap (λ (h : Grid A). line Columns h m) is in
+      let slots : (row : List A) → length row ≡ g.columns → Swapped (slice_get row) (slice_get (swap row j k)) j k = λ row long. slots_swapped row j k (omega (arith, long, h)) (omega (arith, long, l)) in (
+        cells j ∙ column_swapped g.columns j k j k g.cells even.wide (λ row long. (slots row long).0),
+        cells k ∙ column_swapped g.columns j k k j g.cells even.wide (λ row long. (slots row long).1),
+        λ m a b. cells m ∙ column_swapped g.columns j k m m g.cells even.wide (λ row long. (slots row long).2 m a b),
+      )
+
+  pub shape_swapped : (axis : Axis) (g new : Grid A) (i k : ℕ) → IsEven g → new ≡ along axis (λ _ xs. swap xs i k) g → IsShapedAs g new
+  shape_swapped Rows g new i k even is = record { even = rw is (IsEven-with_rows_swapped g even i k); rows = ap (λ (h : Grid A). h.rows) is; columns = ap (λ (h : Grid A). h.columns) is }
+  shape_swapped Columns g new i k even is = record { even = rw is (IsEven-with_columns_swapped g even i k); rows = ap (λ (h : Grid A). h.rows) is; columns = ap (λ (h : Grid A). h.columns) is }
+
+  pub same_count : (axis : Axis) (g new : Grid A) → IsShapedAs g new → count_along axis new ≡ count_along axis g
+  same_count Rows g new s = s.rows
+  same_count Columns g new s = s.columns
+
+  pub same_shape : (g : Grid A) → IsEven g → IsShapedAs g g
+  same_shape g even = record { even = even; rows = refl; columns = refl }
+
+  pub shape_after : (g h new : Grid A) → IsShapedAs g h → IsShapedAs h new → IsShapedAs g new
+  shape_after g h new s t = record { even = t.even; rows = t.rows ∙ s.rows; columns = t.columns ∙ s.columns }
+
+  -- the first lines are as they were
+  pub line_first : (axis : Axis) (g new : Grid A) (n i : ℕ) → IsEven g → i < n → new ≡ first_along axis n g → line axis new i ≡ line axis g i
+  line_first Rows g new n i even h is = ap (λ (h : Grid A). line Rows h i) is ∙ ap (map Some) (get_or-take n g.cells i [] h)
+  line_first Columns g new n i even h is =
+      ap (λ (h : Grid A). line Columns h i) is
+      ∙ maps_agree_on (λ (row : List A). length row ≡ g.columns) (λ (row : List A). slice_get row i) (λ (row : List A). take n row) (λ (row : List A). slice_get row i) (λ row long. slice_get-take n row i h) g.cells even.wide
+
+  -- a cell as one of its line
+  abbrev cell_in_line : Axis → Grid A → Position → Option A
+  cell_in_line Rows g p = get_or (line Rows g p.row) p.col None
+  cell_in_line Columns g p = get_or (line Columns g p.col) p.row None
+
+  cell_of_line : (axis : Axis) (g : Grid A) (p : Position) → cell_at g p ≡ cell_in_line axis g p
+  cell_of_line Rows g p = sym (slice_get-some (get_or g.cells p.row []) p.col)
+  cell_of_line Columns g p = sym (get_or-map (λ (row : List A). slice_get row p.col) g.cells p.row [])
+
+  read_line : (axis : Axis) (g h : Grid A) (p : Position) (i : ℕ) → line axis h (line_of axis p) ≡ line axis g i → cell_in_line axis h p ≡ cell_in_line axis g (in_line axis p i)
+  read_line Rows g h p i e = let none : Option A = None in ap (λ (cells : List (Option A)). get_or cells p.col none) e
+  read_line Columns g h p i e = let none : Option A = None in ap (λ (cells : List (Option A)). get_or cells p.row none) e
+
+  below : (axis : Axis) (h : Grid A) (p : Position) → IsInside h p → line_of axis p < count_along axis h
+  below Rows h p inside = inside.row
+  below Columns h p inside = inside.col
+
+  -- a grid whose lines each come from an old one
+  pub lines_read : (axis : Axis) (from : ℕ → ℕ) (rows columns : ℕ) (g h : Grid A) → IsEven h → h.rows ≡ rows → h.columns ≡ columns → ((i : ℕ) → i < count_along axis h → line axis h i ≡ line axis g (from i)) →
+      ReadsThrough (lines_from axis from rows columns) g h
+  lines_read axis from rows columns g h even tall wide each = record {
+    even = even;
+    rows = tall;
+    columns = wide;
+    moved = λ p inside. cell_of_line axis h p ∙ read_line axis g h p (from (line_of axis p)) (each (line_of axis p) (below axis h p inside)) ∙ sym (cell_of_line axis g (in_line axis p (from (line_of axis p))));
+  }

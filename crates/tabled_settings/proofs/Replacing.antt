@@ -1,0 +1,46 @@
+-- Characters replaced, byte by byte.
+use Rattle.std.proofs.Common.{◌≡◌, ◌∙◌, ◌≤◌, ℕ, ◌+◌, ◌/◌, ◌%◌, Bool, true, false, cond, List, [], ◌∷◌, ◌++◌, append-nil, refl, ap, arith, encode_utf8, ltb, replicate}
+use Rattle.std.proofs.lemmas.Bool.{le-ltb, ltb-false, ltb-true, ne_eqb}
+use Rattle.std.proofs.lemmas.Grind.{flat_map-append}
+use Rattle.std.proofs.lemmas.List.{append_assoc}
+use Rattle.std.proofs.lemmas.Str.{encode_ascii}
+use Rattle.std.specs.List.{AllByRecursion, flat_map}
+use Rattle.std.specs.Prelude.{◌==◌}
+use Rattle.tabled_settings.specs.Charsets.{replaced, stays}
+
+-- a byte of a character that isn't ASCII stays
+stays_high : (cleans : Bool) (b : ℕ) → 128 ≤ b → stays cleans b ≡ true
+stays_high true b h = rw (ne_eqb b 10 (λ e. omega (arith, h, e)), le-ltb b 32 (omega (arith, h))) refl
+stays_high false b h = refl
+
+replaced_high : (cleans : Bool) (n b : ℕ) → 128 ≤ b → replaced cleans n b ≡ b ∷ []
+replaced_high cleans n b h = rw (ne_eqb b 9 (λ e. omega (arith, h, e)), stays_high cleans b h) refl
+
+all_high : (cleans : Bool) (n : ℕ) (bs : List ℕ) → AllByRecursion (λ b. 128 ≤ b) bs → flat_map (replaced cleans n) bs ≡ bs
+all_high cleans n [] h = refl
+all_high cleans n (b ∷ bs) h = rw (replaced_high cleans n b h.0, all_high cleans n bs h.1) refl
+
+encode_high : (c : ℕ) → 128 ≤ c → AllByRecursion (λ b. 128 ≤ b) (encode_utf8 c)
+unfolding lib.Utf8.encode
+encode_high c h = rw (le-ltb c 128 h) (by (ltb c 2048) (ltb c 65536))
+  where
+    by : (two three : Bool) → AllByRecursion (λ b. 128 ≤ b) (cond two ((192 + c / 64) ∷ (128 + c % 64) ∷ []) (cond three ((224 + c / 4096) ∷ (128 + (c / 64) % 64) ∷ (128 + c % 64) ∷ []) ((240 + c / 262144) ∷ (128 + (c / 4096) % 64) ∷ (128 + (c / 64) % 64) ∷ (128 + c % 64) ∷ [])))
+    by true three = (omega arith, (omega arith, tt))
+    by false true = (omega arith, (omega arith, (omega arith, tt)))
+    by false false = (omega arith, (omega arith, (omega arith, (omega arith, tt))))
+
+-- what comes in the place of a character
+pub replaced-char : (cleans : Bool) (n c : ℕ) → flat_map (replaced cleans n) (encode_utf8 c) ≡ cond (c == 9) (replicate n 32) (cond (stays cleans c) (encode_utf8 c) [])
+replaced-char cleans n c = by (ltb c 128) refl
+  where
+    by : (b : Bool) → ltb c 128 ≡ b → flat_map (replaced cleans n) (encode_utf8 c) ≡ cond (c == 9) (replicate n 32) (cond (stays cleans c) (encode_utf8 c) [])
+    by true e = rw (encode_ascii c (ltb-true c 128 e)) (append-nil (replaced cleans n c))
+    by false e =
+        let high : 128 ≤ c = ltb-false c 128 e in
+        all_high cleans n (encode_utf8 c) (encode_high c high) ∙ rw (ne_eqb c 9 (λ x. omega (arith, high, x)), stays_high cleans c high) refl
+
+-- one more character replaced
+pub replaced-more : (cleans : Bool) (n c : ℕ) (out put rest whole all : List ℕ) → whole ≡ encode_utf8 c ++ rest → put ≡ cond (c == 9) (replicate n 32) (cond (stays cleans c) (encode_utf8 c) []) → out ++ flat_map (replaced cleans n) whole ≡ all → (out ++ put) ++ flat_map (replaced cleans n) rest ≡ all
+replaced-more cleans n c out put rest whole all e is same =
+    append_assoc out put (flat_map (replaced cleans n) rest)
+    ∙ rw is (rw (e, flat_map-append (replaced cleans n) (encode_utf8 c) rest, replaced-char cleans n c) at same)

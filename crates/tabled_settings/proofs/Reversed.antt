@@ -1,0 +1,123 @@
+-- Lines in the opposite order, by swaps from both ends.
+use Rattle.std.proofs.Common.{◌≡◌, ℕ, ◌+◌, ◌-◌, ◌<◌, ◌≤◌, ◌≢◌, ◌⊎◌, inl, inr, Bool, true, false, cond, refl, sym, ap, ◌∙◌, subst, arith}
+use Rattle.std.specs.Prelude.{nat_le, nat_lt, ◌&&◌}
+use Rattle.std.specs.List.{swap}
+use Rattle.std.proofs.lemmas.Bool.{cases_eq, cases_lt, le-leb, le-ltb, lt-leb, lt-ltb}
+use Rattle.tabled_grid.specs.Along.{along, count_along}
+use Rattle.tabled_grid.specs.Grid.{Grid, IsEven}
+use Rattle.tabled_grid.specs.declared.config.offset.Offset.{Offset}
+use Rattle.tabled_grid.specs.declared.records.axis.Axis.{Axis}
+use Rattle.tabled_grid.specs.declared.records.axis.Axis.TheVariants.{Rows, Columns}
+use Rattle.tabled_settings.specs.Lines.{ReversesEnds, ReversesLines, line}
+use Rattle.tabled_settings.specs.Places.{ReadsThrough, count_of, lines_from}
+use Rattle.tabled_settings.specs.Rearranged.{limit_end, reversed, reversed_index}
+use Rattle.tabled_settings.proofs.LineReads.{lines_read, lines_swapped, same_count, same_shape, shape_after, shape_swapped}
+
+module _ {A : Type 0} (axis : Axis) (s e : ℕ) where
+  pub ends_none : (g : Grid A) → IsEven g → ReversesEnds axis s e 0 g g
+  ends_none g even = record {
+    shape = same_shape g even;
+    front = λ i h l. absurd (omega (arith, h, l));
+    back = λ i h l. absurd (omega (arith, h, l));
+    between = λ i h l. refl;
+    outside = λ i h. refl;
+  }
+
+  -- one swap more
+  module _ (k n low high : ℕ) (g cur new : Grid A) (r : ReversesEnds axis s e k g cur) (is : new ≡ along axis (λ _ xs. swap xs low high) cur)
+      (next : n ≡ k + 1) (at_low : low ≡ s + k) (at_high : high + k + 1 ≡ e) (apart : low < high) (within : high < count_along axis cur) where
+    moved : (line axis new low ≡ line axis cur high) × (line axis new high ≡ line axis cur low) × ((m : ℕ) → m ≢ low → m ≢ high → line axis new m ≡ line axis cur m)
+    moved = lines_swapped axis cur new low high r.shape.even (omega (arith, apart, within)) within is
+
+    front_at : (i : ℕ) → s ≤ i → i < s + n → (i ≡ low) ⊎ (i ≢ low) → line axis new i ≡ line axis g (s + e - 1 - i)
+    front_at i h l (inl at) =
+        let from : high ≡ s + e - 1 - i = omega (arith, at, at_low, at_high) in
+        ap (line axis new) at ∙ moved.0 ∙ r.between high (omega (arith, at_low, apart)) (omega (arith, at_high)) ∙ ap (line axis g) from
+    front_at i h l (inr off) = moved.2 i off (λ at. absurd (omega (arith, at, l, off, next, at_low, apart))) ∙ r.front i h (omega (arith, l, off, next, at_low))
+
+    back_at : (i : ℕ) → e ≤ i + n → i < e → (i ≡ high) ⊎ (i ≢ high) → line axis new i ≡ line axis g (s + e - 1 - i)
+    back_at i h l (inl at) =
+        let from : low ≡ s + e - 1 - i = omega (arith, at, at_low, at_high) in
+        ap (line axis new) at ∙ moved.1 ∙ r.between low (omega (arith, at_low)) (omega (arith, at_high, apart)) ∙ ap (line axis g) from
+    back_at i h l (inr off) = moved.2 i (λ at. absurd (omega (arith, at, h, off, next, at_high, apart))) off ∙ r.back i (omega (arith, h, off, next, at_high)) l
+
+    pub ends_more : ReversesEnds axis s e n g new
+    ends_more = record {
+      shape = shape_after g cur new r.shape (shape_swapped axis cur new low high r.shape.even is);
+      front = λ i h l. front_at i h l (cases_eq i low);
+      back = λ i h l. back_at i h l (cases_eq i high);
+      between = λ i h l. moved.2 i (λ at. absurd (omega (arith, at, h, next, at_low))) (λ at. absurd (omega (arith, at, l, next, at_high))) ∙ r.between i (omega (arith, h, next)) (omega (arith, l, next));
+      outside = λ i h. off i h;
+    }
+      where
+        off : (i : ℕ) → (i < s) ⊎ (e ≤ i) → line axis new i ≡ line axis g i
+        off i (inl less) = moved.2 i (λ at. absurd (omega (arith, at, less, at_low))) (λ at. absurd (omega (arith, at, less, at_low, apart))) ∙ r.outside i (inl less)
+        off i (inr more) = moved.2 i (λ at. absurd (omega (arith, at, more, at_high, apart))) (λ at. absurd (omega (arith, at, more, at_high))) ∙ r.outside i (inr more)
+
+  -- all of them
+  pub ends_all : (k : ℕ) (g new : Grid A) → s + k ≤ e → e ≤ s + k + k + 1 → ReversesEnds axis s e k g new → ReversesLines axis s e g new
+  ends_all k g new fits all r = record { shape = r.shape; inside = λ i h l. at i h l (cases_lt i (s + k)) (cases_lt (i + k) e); outside = r.outside }
+    where
+      at : (i : ℕ) → s ≤ i → i < e → (i < s + k) ⊎ (s + k ≤ i) → (i + k < e) ⊎ (e ≤ i + k) → line axis new i ≡ line axis g (s + e - 1 - i)
+      at i h l (inl low) high = r.front i h low
+      at i h l (inr low) (inr high) = r.back i high l
+      at i h l (inr low) (inl high) =
+          let same : i ≡ s + e - 1 - i = omega (arith, low, high, all) in
+          r.between i low high ∙ ap (line axis g) same
+
+count_is : {A : Type 0} (axis : Axis) (g : Grid A) → count_of axis g.rows g.columns ≡ count_along axis g
+count_is Rows g = refl
+count_is Columns g = refl
+
+-- the index where a line comes from
+index_inside : (s e n i : ℕ) → e ≤ n → s ≤ i → i < e → reversed_index s e n i ≡ s + e - 1 - i
+index_inside s e n i fits h l = rw (le-leb e n fits, le-leb s i h, lt-ltb i e l) refl
+
+not_first : (a c : Bool) (x y : ℕ) → cond (a && (false && c)) x y ≡ y
+not_first true c x y = refl
+not_first false c x y = refl
+
+not_last : (a b : Bool) (x y : ℕ) → cond (a && (b && false)) x y ≡ y
+not_last true true x y = refl
+not_last true false x y = refl
+not_last false b x y = refl
+
+index_outside : (s e n i : ℕ) → (i < s) ⊎ (e ≤ i) → reversed_index s e n i ≡ i
+index_outside s e n i (inl less) = rw (lt-leb s i less) (not_first (nat_le e n) (nat_lt i e) _ i)
+index_outside s e n i (inr past) = rw (le-ltb i e past) (not_last (nat_le e n) (nat_le s i) _ i)
+
+-- nothing is reversed where there are no lines between the two ends, or where the last one is past them
+not_fitting : (s e n i : ℕ) → n < e → reversed_index s e n i ≡ i
+not_fitting s e n i past = rw (lt-leb e n past) refl
+
+module _ {A : Type 0} (axis : Axis) (s e : ℕ) where
+  pub reversed_read : (n : ℕ) (g new : Grid A) → n ≡ count_along axis g → e ≤ n → ReversesLines axis s e g new → ReadsThrough (lines_from axis (reversed_index s e n) g.rows g.columns) g new
+  reversed_read n g new is fits r = lines_read axis (reversed_index s e n) g.rows g.columns g new r.shape.even r.shape.rows r.shape.columns (λ i h. at i (cases_lt i s) (cases_lt i e))
+    where
+      at : (i : ℕ) → (i < s) ⊎ (s ≤ i) → (i < e) ⊎ (e ≤ i) → line axis new i ≡ line axis g (reversed_index s e n i)
+      at i (inl less) end = r.outside i (inl less) ∙ ap (line axis g) (sym (index_outside s e n i (inl less)))
+      at i (inr from) (inr past) = r.outside i (inr past) ∙ ap (line axis g) (sym (index_outside s e n i (inr past)))
+      at i (inr from) (inl below) = r.inside i from below ∙ ap (line axis g) (sym (index_inside s e n i fits from below))
+
+  pub reversed_none : (n : ℕ) (g : Grid A) → IsEven g → (e ≤ s) ⊎ (n < e) → ReadsThrough (lines_from axis (reversed_index s e n) g.rows g.columns) g g
+  reversed_none n g even none = lines_read axis (reversed_index s e n) g.rows g.columns g g even refl refl (λ i h. ap (line axis g) (sym (at i none (cases_lt i s))))
+    where
+      at : (i : ℕ) → (e ≤ s) ⊎ (n < e) → (i < s) ⊎ (s ≤ i) → reversed_index s e n i ≡ i
+      at i (inr past) where_it_is = not_fitting s e n i past
+      at i (inl empty) (inl less) = index_outside s e n i (inl less)
+      at i (inl empty) (inr from) = index_outside s e n i (inr (omega (arith, empty, from)))
+
+-- a whole grid
+pub whole_read : {A : Type 0} (axis : Axis) (n : ℕ) (g new : Grid A) → n ≡ count_along axis g → ReversesLines axis 0 n g new → ReadsThrough (lines_from axis (λ i. n - 1 - i) g.rows g.columns) g new
+whole_read axis n g new is r = lines_read axis (λ i. n - 1 - i) g.rows g.columns g new r.shape.even r.shape.rows r.shape.columns
+    (λ i h. let same : 0 + n - 1 - i ≡ n - 1 - i = omega arith in r.inside i (omega arith) (omega (arith, h, is, same_count axis g new r.shape)) ∙ ap (line axis g) same)
+
+module _ {A : Type 0} (axis : Axis) (s : ℕ) (limit : Offset) (n : ℕ) (g : Grid A) (is : n ≡ count_along axis g) where
+  in_table : (new : Grid A) → ReadsThrough (lines_from axis (reversed_index s (limit_end limit s n) n) g.rows g.columns) g new → ReadsThrough (reversed axis s limit g.rows g.columns) g new
+  in_table new = subst (λ (m : ℕ). ReadsThrough (lines_from axis (reversed_index s (limit_end limit s m) m) g.rows g.columns) g new) (is ∙ sym (count_is axis g))
+
+  pub reversed_done : (e : ℕ) (new : Grid A) → e ≡ limit_end limit s n → e ≤ n → ReversesLines axis s e g new → ReadsThrough (reversed axis s limit g.rows g.columns) g new
+  reversed_done e new at fits r = in_table new (subst (λ (k : ℕ). ReadsThrough (lines_from axis (reversed_index s k n) g.rows g.columns) g new) at (reversed_read axis s e n g new is fits r))
+
+  pub reversed_not : IsEven g → (limit_end limit s n ≤ s) ⊎ (n < limit_end limit s n) → ReadsThrough (reversed axis s limit g.rows g.columns) g g
+  reversed_not even none = in_table g (reversed_none axis s (limit_end limit s n) n g even none)

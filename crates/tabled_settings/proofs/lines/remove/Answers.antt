@@ -1,0 +1,26 @@
+use Rattle.std.proofs.Common.{◌+◌, ◌∙◌, sym, refl, arith}
+use Rattle.tabled_settings.proofs.Dropped.{thins_all, thins_gone, thins_kept, thins_none}
+use Rattle.tabled_settings.proofs.LineReads.{same_count}
+use Rattle.tabled_settings.proofs.lines.remove.Goals as goal
+use Rattle.tabled_settings.proofs.lines.remove.Goals.{then-not-contains, else-not-contains}
+
+pub loop-i-init : goal.loop-i-init
+loop-i-init g c = record { well = c.requires.well; thins = thins_none _ _ _ c.count-i-end.ensures.even }
+
+pub loop-i-preserved : goal.loop-i-preserved
+loop-i-preserved g c =
+    let i = c.loop-i.invariant in
+    let same = same_count c.args.axis (g.R.GridStore.grid c.args.records.now) (g.R.GridStore.grid c.loop-i.records) i.thins.shape in
+    elim c.if-not-contains.branch [
+      | then-not-contains w ↦ rw (w.records-is, w.kept-is) (record {
+        well = w.swap.ensures.well;
+        thins = thins_kept c.args.axis c.args.found.now c.loop-i.i (c.loop-i.i + 1) c.loop-i.kept (c.loop-i.kept + 1) _ _ _ refl refl (sym c.contains.ensures ∙ w.if-not-contains.true) i.thins w.swap.ensures.swapped (omega (arith, same, c.loop-i-test.true, c.count-i-end.ensures.count));
+      })
+      | else-not-contains w ↦ rw (w.records-is, w.kept-is) (record {
+        well = i.well;
+        thins = thins_gone c.args.axis c.args.found.now c.loop-i.i (c.loop-i.i + 1) c.loop-i.kept _ _ refl (sym c.contains.ensures ∙ w.if-not-contains.false) i.thins;
+      })
+    ]
+
+pub returns-clause-dropped : goal.returns-clause-dropped
+returns-clause-dropped g c = thins_all _ _ c.loop-i.i c.loop-i.kept _ _ _ (omega (arith, c.loop-i-test.false, c.loop-i.auto.i-end, c.count-i-end.ensures.count)) c.loop-i.invariant.thins c.truncate.ensures.first

@@ -1,0 +1,42 @@
+-- Two tables joined.
+use Rattle.std.specs.Prelude.{◌≡◌, ◌<◌, ◌≤◌, ◌⊎◌, ℕ, ◌+◌, ◌-◌, ◌&&◌, if◌then◌else◌, List, [], None, Some, max, nat_le, nat_lt}
+use Rattle.std.specs.Option.{unwrap_or}
+use Rattle.tabled_grid.specs.Entity.{place}
+use Rattle.tabled_grid.specs.Grid.{Grid, IsEven, cell_at, map_grid}
+use Rattle.tabled_grid.specs.declared.config.position.Position.{Position}
+use Rattle.tabled_grid.specs.declared.records.axis.Axis.{Axis}
+use Rattle.tabled_grid.specs.declared.records.axis.Axis.TheVariants.{Rows, Columns}
+use Rattle.tabled_settings.specs.Places.{Places, ReadsThrough}
+
+-- a larger shape, in which the old places stay where they are
+abbrev pub widened : ℕ → ℕ → ℕ → ℕ → Places
+widened rows columns new_rows new_columns = record { rows = new_rows; columns = new_columns; old_place = λ (p : Position). if nat_lt p.row rows && nat_lt p.col columns then Some p else None }
+
+-- where the second table begins in a first one of so many rows and columns: below it, or right of it
+abbrev pub corner_of : Axis → ℕ → ℕ → Position
+corner_of Rows rows columns = place rows 0
+corner_of Columns rows columns = place 0 columns
+
+-- the text at a place outside of the first table: from the corner on that of the second one, empty where it lacks the cell, and else the default
+abbrev pub joined_text : Position → Grid (List ℕ) → List ℕ → ℕ → ℕ → List ℕ
+joined_text corner second default a b = if nat_le corner.row a && nat_le corner.col b then unwrap_or (cell_at second (place (a - corner.row) (b - corner.col))) [] else default
+
+-- the cells of the first table stay, and all others have the texts of the second, of the default or none
+pub record JoinsAt {A : Type 0} (text_of : A → List ℕ) (corner : Position) (second : Grid (List ℕ)) (default : List ℕ) (old new : Grid A) : Type 0 where
+  pub first : ReadsThrough (widened old.rows old.columns (max old.rows (corner.row + second.rows)) (max old.columns (corner.col + second.columns))) old new
+  pub others : (a b : ℕ) → a < new.rows → b < new.columns → (old.rows ≤ a) ⊎ (old.columns ≤ b) → cell_at (map_grid text_of new) (place a b) ≡ Some (joined_text corner second default a b)
+
+-- a grid of a larger shape, with the old cells where they were
+pub record GrowsTo {A : Type 0} (rows columns : ℕ) (old new : Grid A) : Type 0 where
+  pub even : IsEven new
+  pub rows_are : new.rows ≡ rows
+  pub columns_are : new.columns ≡ columns
+  pub kept : (a b : ℕ) → a < old.rows → b < old.columns → cell_at new (place a b) ≡ cell_at old (place a b)
+
+-- the cells outside of so many rows and columns, before a place, row by row, have certain texts; the others are as they were
+pub record FillsTo {A : Type 0} (text_of : A → List ℕ) (want : ℕ → ℕ → List ℕ) (rows columns i j : ℕ) (old new : Grid A) : Type 0 where
+  pub even : IsEven new
+  pub rows_are : new.rows ≡ old.rows
+  pub columns_are : new.columns ≡ old.columns
+  pub kept : (a b : ℕ) → a < rows → b < columns → cell_at new (place a b) ≡ cell_at old (place a b)
+  pub done : (a b : ℕ) → b < new.columns → (rows ≤ a) ⊎ (columns ≤ b) → (a < i) ⊎ ((a ≡ i) × (b < j)) → cell_at (map_grid text_of new) (place a b) ≡ Some (want a b)

@@ -1,0 +1,7 @@
+pub mod Charsets
+pub mod Contents
+pub mod Joined
+pub mod Lines
+pub mod Places
+pub mod Rearranged
+pub mod Rewrites

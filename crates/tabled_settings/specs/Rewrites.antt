@@ -1,0 +1,48 @@
+-- Texts written to cells in place of the old ones.
+use Rattle.std.specs.Prelude.{◌≡◌, ◌<◌, ℕ, List, length, map, take}
+use Rattle.std.specs.List.{FoldsTo, fold}
+use Rattle.tabled_grid.specs.Entity.{inside}
+use Rattle.tabled_grid.specs.Grid.{Grid, map_grid, with_cell}
+use Rattle.tabled_grid.specs.declared.config.entity.Entity.{Entity}
+use Rattle.tabled_grid.specs.declared.config.position.Position.{Position}
+use Rattle.tabled_options.specs.Does.{Change}
+use Rattle.tabled_select.specs.Locators.{text_at}
+
+-- a place and the text that is written there
+pub record Write : Type 0 where
+  pub place : Position
+  pub text : List ℕ
+
+-- the grid with these texts written, in order
+abbrev pub with_writes : List Write → Grid (List ℕ) → Grid (List ℕ)
+with_writes writes g = fold (λ h (w : Write). with_cell h w.place w.text) g writes
+
+-- what says how something, asked for a place and its text, answers another text and becomes something else
+abbrev pub Asking : Type 0 → Type 1
+Asking S = S → Position → List ℕ → List ℕ → S → Type 0
+
+-- asked for one place after another with its text in this grid, it answers what is written there
+abbrev pub AnswersInTurn : {S : Type 0} → Asking S → S → Grid (List ℕ) → List Write → S → Type 0
+AnswersInTurn asks first g writes last = FoldsTo (λ s (w : Write) t. asks s w.place (text_at g w.place) w.text t) first writes last
+
+-- the answers to these places and their old texts, written there
+pub record RewritesAt {S : Type 0} (asks : Asking S) (first : S) (places : List Position) (g h : Grid (List ℕ)) : Type 0 where
+  pub writes : List Write
+  pub last : S
+  pub at : map (λ (w : Write). w.place) writes ≡ places
+  pub answers : AnswersInTurn asks first g writes last
+  pub is : h ≡ with_writes writes g
+
+-- the same for the places before one of these
+pub record RewritesUntil {S : Type 0} (asks : Asking S) (first : S) (places : List Position) (g h : Grid (List ℕ)) : Type 0 where
+  pub count : ℕ
+  pub within : count < length places
+  pub before : RewritesAt asks first (take count places) g h
+
+-- the answers to the cells inside that an entity names, row by row, and the configuration as it was
+abbrev pub Rewrites : {A C S : Type 0} → (A → List ℕ) → Asking S → S → Entity → Change A C
+Rewrites text_of asks first e g c h d = RewritesAt asks first (inside e g.rows g.columns) (map_grid text_of g) (map_grid text_of h) × (d ≡ c)
+
+-- the same for the cells before one of them
+abbrev pub RewritesBefore : {A C S : Type 0} → (A → List ℕ) → Asking S → S → Entity → Change A C
+RewritesBefore text_of asks first e g c h d = RewritesUntil asks first (inside e g.rows g.columns) (map_grid text_of g) (map_grid text_of h) × (d ≡ c)

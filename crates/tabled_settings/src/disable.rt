@@ -1,0 +1,171 @@
+//! Rows or columns that are located, taken away.
+
+ghost use Rattle.std.specs.Prelude.{◌≡◌, ℕ, List, OnErr, OnOk};
+ghost use Rattle.tabled_grid.specs.declared.records.axis.Axis.TheVariants.{Columns, Rows};
+ghost use Rattle.tabled_options.specs.Does.{Same};
+ghost use Rattle.tabled_settings.specs.Places.{ReadsThrough};
+ghost use Rattle.tabled_settings.specs.Rearranged.{removed};
+ghost use Rattle.std.proofs.Common.{rules};
+
+use crate::lines;
+use std::alloc::{AllocError, Global};
+use std::marker::{Model, PhantomData};
+use tabled_grid::config::Entity;
+use tabled_grid::records::{Axis, Blank, ExactRecords, Records, Resizable};
+use tabled_options::TableOption;
+use tabled_select::location::{Location, coordinates};
+
+/// Takes away the rows, or the columns, that a location finds. A contract sees it as the location.
+///
+/// They are all located before the first is removed, so they may be found in any order, more than once and
+/// outside the table. Refused for memory, it leaves the table as it was. `Remove::row(Rows::new(1..3))` makes
+///
+/// ```text
+/// a b      a b
+/// c d  of  g h
+/// e f
+/// g h
+/// ```
+///
+/// Without rows no columns are left; without columns the rows stay.
+///
+/// Ported from `tabled::settings::Remove`, which goes wrong where indexes are found unordered or repeated.
+#[derive(Drop)]
+pub struct Remove<L, Target> {
+    locator: L,
+    target: PhantomData<Target>,
+}
+
+impl<L, Target> Model for Remove<L, Target> {
+    ghost Value = { L };
+
+    ghost view = { λ a. a.locator };
+}
+
+/// Says that `Remove` takes rows away.
+///
+/// Ported from `tabled::settings::disable::TargetRow`.
+#[derive(Debug)]
+pub struct TargetRow;
+
+/// Says that `Remove` takes columns away.
+///
+/// Ported from `tabled::settings::disable::TargetColumn`.
+#[derive(Debug)]
+pub struct TargetColumn;
+
+impl<L> Remove<L, TargetRow> {
+    /// The rows that a location finds.
+    ///
+    /// Ported from `tabled::settings::Remove::row`.
+    pub fn row(locator: L) -> Self
+        ensures { result ≡ locator }
+    {
+        Remove {
+            locator,
+            target: PhantomData,
+        }
+    }
+}
+
+impl<L> Remove<L, TargetColumn> {
+    /// The columns that a location finds.
+    ///
+    /// Ported from `tabled::settings::Remove::column`.
+    pub fn column(locator: L) -> Self
+        ensures { result ≡ locator }
+    {
+        Remove {
+            locator,
+            target: PhantomData,
+        }
+    }
+}
+
+impl<L, R, C, D> TableOption<R, C, D> for Remove<L, TargetRow>
+where
+    L: Location<R, Coordinate = usize> + Drop,
+    <L::IntoIter as IntoIterator>::IntoIter: Drop,
+    R: Records + ExactRecords + Resizable,
+    R::Cell: Blank,
+{
+    ghost does = { λ s g c h d. ((found : List ℕ) × L.locates s g found × ReadsThrough (removed Rows found g.rows g.columns) g h) × (d ≡ c) };
+
+    ghost leaves = { λ _. Same };
+
+    ghost can_change = { λ s. L.can_locate s };
+
+    ghost never_refused = { λ _ _ _. ⊥ };
+
+    fn change(
+        mut self,
+        alloc: Global,
+        records: &mut R,
+        _cfg: &mut C,
+        _dimension: &mut D,
+    ) -> Result<(), AllocError> {
+        remove_located(alloc, records, &mut self.locator, Axis::Rows)
+    }
+
+    fn hint_change(&self) -> Option<Entity> {
+        Some(Entity::Global)
+    }
+
+    ghost acts_like = { Prim.search rules };
+}
+
+impl<L, R, C, D> TableOption<R, C, D> for Remove<L, TargetColumn>
+where
+    L: Location<R, Coordinate = usize> + Drop,
+    <L::IntoIter as IntoIterator>::IntoIter: Drop,
+    R: Records + ExactRecords + Resizable,
+    R::Cell: Blank,
+{
+    ghost does = { λ s g c h d. ((found : List ℕ) × L.locates s g found × ReadsThrough (removed Columns found g.rows g.columns) g h) × (d ≡ c) };
+
+    ghost leaves = { λ _. Same };
+
+    ghost can_change = { λ s. L.can_locate s };
+
+    ghost never_refused = { λ _ _ _. ⊥ };
+
+    fn change(
+        mut self,
+        alloc: Global,
+        records: &mut R,
+        _cfg: &mut C,
+        _dimension: &mut D,
+    ) -> Result<(), AllocError> {
+        remove_located(alloc, records, &mut self.locator, Axis::Columns)
+    }
+
+    fn hint_change(&self) -> Option<Entity> {
+        Some(Entity::Global)
+    }
+
+    ghost acts_like = { Prim.search rules };
+}
+
+/// Removes the rows or the columns that a location finds. Only to list these takes memory.
+fn remove_located<R, L>(
+    alloc: Global,
+    records: &mut R,
+    locator: &mut L,
+    axis: Axis,
+) -> Result<(), AllocError>
+where
+    L: Location<R, Coordinate = usize>,
+    <L::IntoIter as IntoIterator>::IntoIter: Drop,
+    R: Records + ExactRecords + Resizable,
+    R::Cell: Blank,
+    requires well { R.is_well_formed records.old }
+    requires can { L.can_locate locator.old }
+    ensures well { R.is_well_formed records.new }
+    ensures ok { OnOk result ((found : List ℕ) × L.locates locator.old (R.grid records.old) found × ReadsThrough (removed axis found ((R.grid records.old).rows) ((R.grid records.old).columns)) (R.grid records.old) (R.grid records.new)) }
+    ensures err { OnErr result (R.grid records.new ≡ R.grid records.old) }
+{
+    let mut found = coordinates(alloc, locator, records)?;
+    found.sort_unstable();
+    lines::remove(axis, records, &found);
+    Ok(())
+}

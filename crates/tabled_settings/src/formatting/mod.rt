@@ -1,0 +1,5 @@
+//! Options that replace characters.
+
+mod charset;
+
+pub use charset::Charset;

@@ -1,0 +1,77 @@
+//! Work on the rows or on the columns of a store.
+
+ghost use Rattle.std.specs.Prelude.{◌≡◌, ◌≤◌};
+ghost use Rattle.std.specs.List.Sorted.{IsSorted};
+ghost use Rattle.std.specs.Ordering.{nat_cmp};
+ghost use Rattle.tabled_grid.specs.Along.{count_along};
+ghost use Rattle.tabled_grid.specs.Grid.{IsEven};
+ghost use Rattle.tabled_settings.specs.Lines.{DropsLines, KeepsLines, ReversesLines};
+ghost use Rattle.tabled_settings.specs.Rearranged.{is_among};
+
+use std::ops::Range;
+use tabled_grid::records::{Axis, Blank, ExactRecords, Records, Resizable};
+
+/// Puts the lines from `start` up to `end` into the opposite order, by swaps from both ends.
+pub(crate) fn reverse<R>(axis: Axis, records: &mut R, start: usize, end: usize)
+where
+    R: Resizable,
+    R::Cell: Blank,
+    requires well { R.is_well_formed records.old }
+    requires even { IsEven (R.grid records.old) }
+    requires order { start ≤ end }
+    requires within { end ≤ count_along axis (R.grid records.old) }
+    ensures well { R.is_well_formed records.new }
+    ensures reversed { ReversesLines axis start end (R.grid records.old) (R.grid records.new) }
+{
+    for k in 0..(end - start) / 2 {
+        axis.swap(records, start + k, end - 1 - k);
+    }
+}
+
+/// Keeps the lines of a range alone: brings them to the front and cuts off the rest.
+pub(crate) fn keep<R>(axis: Axis, records: &mut R, range: Range<usize>)
+where
+    R: Records + ExactRecords + Resizable,
+    R::Cell: Blank,
+    requires well { R.is_well_formed records.old }
+    ensures well { R.is_well_formed records.new }
+    ensures kept { KeepsLines axis range.start range.end (R.grid records.old) (R.grid records.new) }
+{
+    let end = axis.count(records).min(range.end);
+    let kept = end.saturating_sub(range.start);
+    // Lines at the front stay where they are.
+    let moved = if range.start > 0 { kept } else { 0 };
+    for k in 0..moved {
+        axis.swap(records, k, range.start + k);
+    }
+    axis.truncate(records, kept);
+}
+
+/// Removes the lines whose indexes are in a list that rises. Those that stay come to the front, in order,
+/// each by one swap, and the rest is cut off.
+pub(crate) fn remove<R>(axis: Axis, records: &mut R, found: &[usize])
+where
+    R: Records + ExactRecords + Resizable,
+    R::Cell: Blank,
+    requires well { R.is_well_formed records.old }
+    requires sorted { IsSorted nat_cmp found.now }
+    ensures well { R.is_well_formed records.new }
+    ensures dropped { DropsLines axis found.now (R.grid records.old) (R.grid records.new) }
+{
+    let mut kept = 0;
+    for i in 0..axis.count(records) {
+        if !contains(found, i) {
+            axis.swap(records, kept, i);
+            kept += 1;
+        }
+    }
+    axis.truncate(records, kept);
+}
+
+/// Says whether a list that rises has an index.
+fn contains(sorted: &[usize], index: usize) -> bool
+    requires { IsSorted nat_cmp sorted.now }
+    ensures { result ≡ is_among sorted.now index }
+{
+    sorted.binary_search(&index).is_ok()
+}

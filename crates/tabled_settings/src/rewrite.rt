@@ -1,0 +1,53 @@
+//! The walk of all writers that answer the text of a cell anew.
+
+ghost use Rattle.std.specs.Prelude.{◌≡◌, [], ℕ, List, IfOk, IsOk, OnErr, OnOk};
+ghost use Rattle.std.specs.String.{string_bytes};
+ghost use Rattle.tabled_grid.specs.Entity.{inside};
+ghost use Rattle.tabled_grid.specs.Grid.{map_grid};
+ghost use Rattle.tabled_grid.specs.declared.config.position.Position.{Position};
+ghost use Rattle.tabled_settings.specs.Rewrites.{RewritesAt, RewritesUntil};
+
+use std::alloc::{AllocError, Global};
+use tabled_grid::config::{Entity, Position};
+use tabled_grid::records::{CellText, ExactRecords, PeekableRecords, Records, RecordsMut};
+
+/// What answers the text of a cell anew.
+pub(crate) trait Answers: Drop {
+    /// Asked for a place and its text, it may answer a text and become another.
+    ghost asks: { Self → Position → List ℕ → List ℕ → Self → Type 0 };
+
+    /// It may be asked.
+    ghost can_answer: { Self → Type 0 };
+
+    fn answer(&mut self, alloc: Global, pos: Position, text: &str) -> Result<String, AllocError>
+        requires can { can_answer self.old }
+        ensures can { IfOk result (λ _. can_answer self.new) }
+        ensures asks { IfOk result (λ new. asks self.old pos text.now (string_bytes new) self.new) };
+}
+
+/// Writes to each cell inside that an entity names what is answered to its old text, row by row.
+///
+/// Refused for memory, it leaves the cells that it wrote.
+pub(crate) fn rewrite<A, R>(
+    alloc: Global,
+    records: &mut R,
+    entity: Entity,
+    mut answers: A,
+) -> Result<(), AllocError>
+where
+    A: Answers,
+    R: Records + ExactRecords + PeekableRecords + RecordsMut<String>,
+    R::Cell: CellText,
+    requires well { R.is_well_formed records.old }
+    requires can { A.can_answer answers }
+    ensures well { R.is_well_formed records.new }
+    ensures ok { OnOk result (RewritesAt A.asks answers (inside entity (R.grid records.old).rows (R.grid records.old).columns) (map_grid R.Cell.text_of (R.grid records.old)) (map_grid R.Cell.text_of (R.grid records.new))) }
+    ensures err { OnErr result (RewritesUntil A.asks answers (inside entity (R.grid records.old).rows (R.grid records.old).columns) (map_grid R.Cell.text_of (R.grid records.old)) (map_grid R.Cell.text_of (R.grid records.new))) }
+    ensures promised { inside entity (R.grid records.old).rows (R.grid records.old).columns ≡ [] → IsOk result }
+{
+    for pos in entity.iter(records.count_rows(), records.count_columns()) {
+        let text = answers.answer(alloc, pos, records.get_text(pos))?;
+        records.set(alloc, pos, text)?;
+    }
+    Ok(())
+}
