@@ -1,0 +1,5 @@
+use Rattle.std.proofs.Common.{◌≡◌}
+use Rattle.tabled_uses.proofs.spans.follows_sizes_that_change.Given as goal
+
+abbrev pub invariant-loop-row : goal.invariant-loop-row
+invariant-loop-row g l = (l.cover.rows ≡ 3) × (l.cover.columns ≡ 3)
