@@ -4,6 +4,7 @@
 pub mod concat;
 pub mod disable;
 pub mod extract;
+pub mod laws;
 mod lines;
 pub mod reverse;
 mod rewrite;
