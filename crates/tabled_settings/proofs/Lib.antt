@@ -11,4 +11,5 @@ pub mod Reversed
 pub mod Rewriting
 pub mod Rotated
 pub mod SameCells
+pub mod TakenOnce
 pub mod Turns

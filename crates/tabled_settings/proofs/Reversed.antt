@@ -70,7 +70,7 @@ count_is Rows g = refl
 count_is Columns g = refl
 
 -- the index where a line comes from
-index_inside : (s e n i : ℕ) → e ≤ n → s ≤ i → i < e → reversed_index s e n i ≡ s + e - 1 - i
+pub index_inside : (s e n i : ℕ) → e ≤ n → s ≤ i → i < e → reversed_index s e n i ≡ s + e - 1 - i
 index_inside s e n i fits h l = rw (le-leb e n fits, le-leb s i h, lt-ltb i e l) refl
 
 not_first : (a c : Bool) (x y : ℕ) → cond (a && (false && c)) x y ≡ y
@@ -82,12 +82,12 @@ not_last true true x y = refl
 not_last true false x y = refl
 not_last false b x y = refl
 
-index_outside : (s e n i : ℕ) → (i < s) ⊎ (e ≤ i) → reversed_index s e n i ≡ i
+pub index_outside : (s e n i : ℕ) → (i < s) ⊎ (e ≤ i) → reversed_index s e n i ≡ i
 index_outside s e n i (inl less) = rw (lt-leb s i less) (not_first (nat_le e n) (nat_lt i e) _ i)
 index_outside s e n i (inr past) = rw (le-ltb i e past) (not_last (nat_le e n) (nat_le s i) _ i)
 
 -- nothing is reversed where there are no lines between the two ends, or where the last one is past them
-not_fitting : (s e n i : ℕ) → n < e → reversed_index s e n i ≡ i
+pub not_fitting : (s e n i : ℕ) → n < e → reversed_index s e n i ≡ i
 not_fitting s e n i past = rw (lt-leb e n past) refl
 
 module _ {A : Type 0} (axis : Axis) (s e : ℕ) where

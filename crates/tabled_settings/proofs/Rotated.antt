@@ -16,7 +16,7 @@ use Rattle.tabled_settings.specs.Rearranged.{columns_if, rotated, turn_of, upsid
 use Rattle.tabled_settings.proofs.Reversed.{whole_read}
 
 -- there are as many columns as there were rows, where there is a row
-as_wide : (c r : ℕ) → 0 < c → columns_if c r ≡ r
+pub as_wide : (c r : ℕ) → 0 < c → columns_if c r ≡ r
 as_wide c r some = let more : eqb c 0 ≡ false = ne_eqb c 0 (λ e. omega (arith, e, some)) in rw more refl
 
 module _ {A : Type 0} where

@@ -1,5 +1,5 @@
 -- Where the cells of a table come from.
-use Rattle.std.specs.Prelude.{◌≡◌, ℕ, Option, Some}
+use Rattle.std.specs.Prelude.{◌≡◌, ◌<◌, ℕ, Option, Some}
 use Rattle.std.specs.Option.{IfSome}
 use Rattle.tabled_grid.specs.Entity.{place}
 use Rattle.tabled_grid.specs.Grid.{Grid, IsEven, IsInside, cell_at}
@@ -38,3 +38,11 @@ in_line Columns p j = place p.row j
 -- each row, or each column, comes from an old one
 abbrev pub lines_from : Axis → (ℕ → ℕ) → ℕ → ℕ → Places
 lines_from axis from rows columns = record { rows = rows; columns = columns; old_place = λ (p : Position). Some (in_line axis p (from (line_of axis p))) }
+
+-- an old place is that of exactly one new place
+pub record IsTakenOnce (places : Places) (q : Position) : Type 0 where
+  pub to : Position
+  pub row : to.row < places.rows
+  pub col : to.col < places.columns
+  pub takes : places.old_place to ≡ Some q
+  pub alone : (p : Position) → p.row < places.rows → p.col < places.columns → places.old_place p ≡ Some q → p ≡ to

@@ -70,3 +70,7 @@ left_over found n = filter (λ (i : ℕ). not (is_among found i)) (range_with_le
 abbrev pub removed : Axis → List ℕ → ℕ → ℕ → Places
 removed Rows found rows columns = lines_from Rows (λ (i : ℕ). slice_index_or (left_over found rows) i 0) (length (left_over found rows)) (columns_if (length (left_over found rows)) columns)
 removed Columns found rows columns = lines_from Columns (λ (j : ℕ). slice_index_or (left_over found columns) j 0) rows (length (left_over found columns))
+
+-- a table with its rows and its columns in the opposite order
+abbrev pub turned_half : ℕ → ℕ → Places
+turned_half rows columns = record { rows = rows; columns = columns; old_place = λ (p : Position). Some (place (rows - 1 - p.row) (columns - 1 - p.col)) }

@@ -6,6 +6,7 @@ pub mod disable;
 pub mod extract;
 pub mod format;
 pub mod formatting;
+pub mod laws;
 mod lines;
 pub mod reverse;
 mod rewrite;

@@ -1,0 +1,5 @@
+use Rattle.tabled_settings.proofs.Turns.{left_then_right}
+use Rattle.tabled_settings.proofs.laws.left_then_right_is_as_it_was.Goals as goal
+
+pub returns : goal.returns
+returns g c = left_then_right _ _ _

@@ -1,0 +1,5 @@
+use Rattle.tabled_settings.proofs.Turns.{left_twice}
+use Rattle.tabled_settings.proofs.laws.left_twice_is_a_half_turn.Goals as goal
+
+pub returns : goal.returns
+returns g c = left_twice _ _ _

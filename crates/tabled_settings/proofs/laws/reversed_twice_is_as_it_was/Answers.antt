@@ -1,0 +1,5 @@
+use Rattle.tabled_settings.proofs.Turns.{reversed_twice}
+use Rattle.tabled_settings.proofs.laws.reversed_twice_is_as_it_was.Goals as goal
+
+pub returns : goal.returns
+returns g c = reversed_twice c.args._reverse.axis c.args._reverse.start c.args._reverse.limit _ _ _

@@ -1,0 +1,57 @@
+//! Laws of rearrangements, over the maps of places. Each is the contract of a function that does nothing.
+
+ghost use Rattle.std.specs.Prelude.{◌≡◌, ◌<◌};
+ghost use Rattle.tabled_grid.specs.Grid.{IsEven};
+ghost use Rattle.tabled_settings.specs.declared.rotate.Rotate.TheVariants.{Bottom, Left, Right, Top};
+ghost use Rattle.tabled_settings.specs.Places.{IsTakenOnce, ReadsThrough};
+ghost use Rattle.tabled_settings.specs.Rearranged.{reversed, rotated, turned_half};
+
+use crate::reverse::Reverse;
+use crate::rotate::Rotate;
+use tabled_grid::config::Position;
+use tabled_grid::records::GridStore;
+
+/// A table with a row and a column that is turned to the left and then to the right is as it was.
+pub fn left_then_right_is_as_it_was<R: GridStore>(_old: &R, _turned: &R, _new: &R)
+where
+    ensures { IsEven (R.grid _old.now) → 0 < (R.grid _old.now).rows → 0 < (R.grid _old.now).columns → ReadsThrough (rotated Left ((R.grid _old.now).rows) ((R.grid _old.now).columns)) (R.grid _old.now) (R.grid _turned.now) → ReadsThrough (rotated Right ((R.grid _turned.now).rows) ((R.grid _turned.now).columns)) (R.grid _turned.now) (R.grid _new.now) → R.grid _new.now ≡ R.grid _old.now }
+{}
+
+/// A table with a row and a column that is turned to the left twice has its rows and its columns in the
+/// opposite order.
+pub fn left_twice_is_a_half_turn<R: GridStore>(_old: &R, _turned: &R, _new: &R)
+where
+    ensures { 0 < (R.grid _old.now).rows → 0 < (R.grid _old.now).columns → ReadsThrough (rotated Left ((R.grid _old.now).rows) ((R.grid _old.now).columns)) (R.grid _old.now) (R.grid _turned.now) → ReadsThrough (rotated Left ((R.grid _turned.now).rows) ((R.grid _turned.now).columns)) (R.grid _turned.now) (R.grid _new.now) → ReadsThrough (turned_half ((R.grid _old.now).rows) ((R.grid _old.now).columns)) (R.grid _old.now) (R.grid _new.now) }
+{}
+
+/// To the top and to the bottom are one turn.
+pub fn top_is_bottom(_rows: usize, _columns: usize)
+    ensures { rotated Top _rows _columns ≡ rotated Bottom _rows _columns }
+{}
+
+/// A table that is turned upside down twice is as it was.
+pub fn top_twice_is_as_it_was<R: GridStore>(_old: &R, _turned: &R, _new: &R)
+where
+    ensures { IsEven (R.grid _old.now) → ReadsThrough (rotated Top ((R.grid _old.now).rows) ((R.grid _old.now).columns)) (R.grid _old.now) (R.grid _turned.now) → ReadsThrough (rotated Top ((R.grid _turned.now).rows) ((R.grid _turned.now).columns)) (R.grid _turned.now) (R.grid _new.now) → R.grid _new.now ≡ R.grid _old.now }
+{}
+
+/// A table whose rows or columns are reversed twice, from the same start up to the same limit, is as it was.
+pub fn reversed_twice_is_as_it_was<R: GridStore>(_reverse: Reverse, _old: &R, _turned: &R, _new: &R)
+where
+    ensures { IsEven (R.grid _old.now) → ReadsThrough (reversed _reverse.axis _reverse.start _reverse.limit ((R.grid _old.now).rows) ((R.grid _old.now).columns)) (R.grid _old.now) (R.grid _turned.now) → ReadsThrough (reversed _reverse.axis _reverse.start _reverse.limit ((R.grid _turned.now).rows) ((R.grid _turned.now).columns)) (R.grid _turned.now) (R.grid _new.now) → R.grid _new.now ≡ R.grid _old.now }
+{}
+
+/// A turn takes each old cell to exactly one new place.
+pub fn rotate_takes_each_cell_once(_rotate: &Rotate, _rows: usize, _columns: usize, _pos: Position)
+    ensures { _pos.row < _rows → _pos.col < _columns → IsTakenOnce (rotated _rotate.now _rows _columns) _pos }
+{}
+
+/// A reversal takes each old cell to exactly one new place.
+pub fn reverse_takes_each_cell_once(
+    _reverse: Reverse,
+    _rows: usize,
+    _columns: usize,
+    _pos: Position,
+)
+    ensures { _pos.row < _rows → _pos.col < _columns → IsTakenOnce (reversed _reverse.axis _reverse.start _reverse.limit _rows _columns) _pos }
+{}
