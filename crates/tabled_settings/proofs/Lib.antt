@@ -3,4 +3,5 @@ pub mod Mapped
 pub mod Replacing
 pub mod Results
 pub mod Rewriting
+pub mod Rounds
 pub mod Turns

@@ -1,6 +1,7 @@
 //! Options for the cells, the rows and the columns of a table.
 #![tactic(auto)]
 
+pub mod duplicate;
 pub mod format;
 pub mod formatting;
 mod rewrite;
