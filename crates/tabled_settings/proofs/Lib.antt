@@ -1,4 +1,5 @@
 pub mod Apart
+pub mod Cleaned
 pub mod Mapped
 pub mod Replacing
 pub mod Results

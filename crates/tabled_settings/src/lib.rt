@@ -4,4 +4,5 @@
 pub mod duplicate;
 pub mod format;
 pub mod formatting;
+pub mod laws;
 mod rewrite;
