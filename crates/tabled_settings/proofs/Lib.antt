@@ -1,5 +1,6 @@
 pub mod Among
 pub mod Apart
+pub mod Cleaned
 pub mod Dropped
 pub mod Joins
 pub mod Kept
@@ -10,6 +11,7 @@ pub mod Results
 pub mod Reversed
 pub mod Rewriting
 pub mod Rotated
+pub mod Rounds
 pub mod SameCells
 pub mod TakenOnce
 pub mod Turns

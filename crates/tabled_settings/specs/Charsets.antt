@@ -1,5 +1,5 @@
 -- Texts with tabs replaced and control characters taken out.
-use Rattle.std.specs.Prelude.{◌≡◌, ◌<◌, ℕ, Bool, false, true, ◌==◌, ◌||◌, if◌then◌else◌, List, [], ◌∷◌, Option, None, Some, is_some, length, map, nat_lt, not, replicate, take}
+use Rattle.std.specs.Prelude.{◌≡◌, ◌<◌, ◌≤◌, ◌⊎◌, ℕ, Bool, false, true, ◌==◌, ◌||◌, if◌then◌else◌, List, [], ◌∷◌, Option, None, Some, is_some, length, map, nat_lt, not, replicate, take}
 use Rattle.std.specs.List.{flat_map}
 use Rattle.tabled_grid.specs.Entity.{inside}
 use Rattle.tabled_grid.specs.Grid.{Grid, map_grid}
@@ -50,3 +50,7 @@ DoesWrites text_of writes g c h d = (map_grid text_of h ≡ with_writes (writes 
 -- the same for the writes before one of these
 abbrev pub DoesFirstWrites : {A C : Type 0} → (A → List ℕ) → (Grid (List ℕ) → List Write) → Change A C
 DoesFirstWrites text_of writes g c h d = (k : ℕ) × (k < length (writes (map_grid text_of g))) × (map_grid text_of h ≡ with_writes (take k (writes (map_grid text_of g))) (map_grid text_of g)) × (d ≡ c)
+
+-- a byte of no control character, or a newline; bytes below 32 are characters of their own
+abbrev pub IsClean : ℕ → Type 0
+IsClean b = (b ≡ 10) ⊎ (32 ≤ b)

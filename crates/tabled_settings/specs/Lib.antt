@@ -1,5 +1,6 @@
 pub mod Charsets
 pub mod Contents
+pub mod Dups
 pub mod Joined
 pub mod Lines
 pub mod Places

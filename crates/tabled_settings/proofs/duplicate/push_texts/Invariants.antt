@@ -1,0 +1,18 @@
+use Rattle.std.proofs.Common.{◌≡◌, ◌<◌, ◌++◌, map, string_bytes}
+use Rattle.std.specs.List.{AllByRecursion}
+use Rattle.tabled_grid.specs.Entity.{inside}
+use Rattle.tabled_grid.specs.Grid.{map_grid}
+use Rattle.tabled_grid.specs.declared.config.position.Position.{Position}
+use Rattle.tabled_select.specs.Locators.{text_at}
+use Rattle.tabled_settings.proofs.duplicate.push_texts.Given as goal
+
+abbrev pub invariant-loop-pos : goal.invariant-loop-pos
+invariant-loop-pos g l =
+    let grid = g.R.GridStore.grid l.fn.records in
+    let text = text_at (map_grid g.R.Cell.CellText.text_of grid) in
+    record {
+      can : (goal.iterator-loop-pos g).can_next l.pos-iterator;
+      ends : (goal.iterator-loop-pos g).is_finite l.pos-iterator;
+      within : AllByRecursion (λ (p : Position). (p.row < grid.rows) × (p.col < grid.columns)) l.pos-iterator;
+      same : map string_bytes l.texts.items ++ map text l.pos-iterator ≡ map string_bytes l.fn.texts.items ++ map text (inside l.fn.entity grid.rows grid.columns);
+    }

@@ -1,0 +1,177 @@
+//! Texts of some cells written to others.
+
+ghost use Rattle.std.specs.Prelude.{◌≡◌, ◌<◌, ◌++◌, List, ℕ, length, map, OnErr, OnOk, IfOk};
+ghost use Rattle.std.specs.String.{string_bytes};
+ghost use Rattle.tabled_grid.specs.Entity.{inside};
+ghost use Rattle.tabled_grid.specs.Grid.{map_grid};
+ghost use Rattle.tabled_select.specs.Locators.{text_at};
+ghost use Rattle.tabled_settings.specs.Dups.{Duplicates, DuplicatesFirst, WritesSome, round_from, round_writes, source_texts};
+ghost use Rattle.tabled_settings.specs.Rewrites.{with_writes};
+ghost use Rattle.std.proofs.Common.{rules};
+
+use std::alloc::{AllocError, Global};
+use std::marker::Model;
+use tabled_grid::config::Entity;
+use tabled_grid::records::{CellText, ExactRecords, PeekableRecords, Records, RecordsMut};
+use tabled_options::TableOption;
+use tabled_select::object::{Object, entities};
+
+/// Writes the texts of one object's cells to the cells of another. A contract sees it as both, the
+/// destination first.
+///
+/// All texts of the source are read before any is written. Each entity of the destination takes them from
+/// the first on, and after the last one the first again. A source without cells changes nothing.
+/// Refused for memory, it leaves the cells that it wrote.
+///
+/// Ported from `tabled::settings::Dup`.
+#[derive(Clone, Copy, Drop)]
+pub struct Dup<Dst, Src> {
+    src: Src,
+    dst: Dst,
+}
+
+impl<Dst, Src> Model for Dup<Dst, Src> {
+    ghost Value = { Dst × Src };
+
+    ghost view = { λ a. (a.dst, a.src) };
+
+    ghost inverse = { λ s. record { src = s.1; dst = s.0 } };
+}
+
+impl<Dst, Src> Dup<Dst, Src> {
+    ghost use Rattle.std.specs.Prelude.{◌≡◌};
+
+    /// The texts of a source, written to a destination.
+    ///
+    /// Ported from `tabled::settings::Dup::new`.
+    pub fn new(dst: Dst, src: Src) -> Self
+        ensures { result ≡ (dst, src) }
+    {
+        Dup { src, dst }
+    }
+}
+
+impl<Dst, Src, R, C, D> TableOption<R, C, D> for Dup<Dst, Src>
+where
+    Dst: Object<R> + Drop,
+    Src: Object<R> + Drop,
+    R: Records + ExactRecords + PeekableRecords + RecordsMut<String>,
+    R::Cell: CellText,
+{
+    ghost does = { λ s. Duplicates R.Cell.text_of (Dst.lists s.0) (Src.lists s.1) };
+
+    ghost leaves = { λ s. DuplicatesFirst R.Cell.text_of (Dst.lists s.0) (Src.lists s.1) };
+
+    ghost can_change = { λ s. Dst.can_list s.0 × Src.can_list s.1 };
+
+    ghost never_refused = { λ _ _ _. ⊥ };
+
+    fn change(
+        self,
+        alloc: Global,
+        records: &mut R,
+        _cfg: &mut C,
+        _dimension: &mut D,
+    ) -> Result<(), AllocError> {
+        let sources = entities(alloc, &self.src, records)?;
+        let texts = texts_of(alloc, records, sources)?;
+        if texts.is_empty() {
+            return Ok(());
+        }
+        let targets = entities(alloc, &self.dst, records)?;
+        write_rounds(alloc, records, targets, &texts)
+    }
+
+    fn hint_change(&self) -> Option<Entity> {
+        Some(Entity::Global)
+    }
+
+    ghost acts_like = { Prim.search rules };
+}
+
+/// Appends copies of the texts of the cells inside that an entity names.
+fn push_texts<R>(
+    alloc: Global,
+    records: &R,
+    entity: Entity,
+    texts: &mut Vec<String>,
+) -> Result<(), AllocError>
+where
+    R: Records + ExactRecords + PeekableRecords,
+    R::Cell: CellText,
+    requires well { R.is_well_formed records.now }
+    ensures { OnOk result (map string_bytes texts.new.items ≡ map string_bytes texts.old.items ++ map (text_at (map_grid R.Cell.text_of (R.grid records.now))) (inside entity (R.grid records.now).rows (R.grid records.now).columns)) }
+{
+    for pos in entity.iter(records.count_rows(), records.count_columns()) {
+        texts.push(String::from_str(alloc, records.get_text(pos))?)?;
+    }
+    Ok(())
+}
+
+/// Copies of the texts of what entities name.
+fn texts_of<R>(alloc: Global, records: &R, entities: Vec<Entity>) -> Result<Vec<String>, AllocError>
+where
+    R: Records + ExactRecords + PeekableRecords,
+    R::Cell: CellText,
+    requires well { R.is_well_formed records.now }
+    ensures { IfOk result (λ texts. map string_bytes texts.items ≡ source_texts (map_grid R.Cell.text_of (R.grid records.now)) entities.items) }
+{
+    let mut texts = Vec::new(alloc);
+    let mut rest = entities.into_iter();
+    while let Some(entity) = rest.next() {
+        push_texts(alloc, records, entity, &mut texts)?;
+    }
+    Ok(texts)
+}
+
+/// Writes texts to the cells inside that an entity names, from the first on, round and round.
+fn write_round<R>(
+    alloc: Global,
+    records: &mut R,
+    entity: Entity,
+    texts: &[String],
+) -> Result<(), AllocError>
+where
+    R: Records + ExactRecords + RecordsMut<String>,
+    R::Cell: CellText,
+    requires well { R.is_well_formed records.old }
+    requires some { 0 < length texts.now }
+    ensures well { R.is_well_formed records.new }
+    ensures rows { (R.grid records.new).rows ≡ (R.grid records.old).rows }
+    ensures columns { (R.grid records.new).columns ≡ (R.grid records.old).columns }
+    ensures ok { OnOk result (map_grid R.Cell.text_of (R.grid records.new) ≡ with_writes (round_from 0 (map string_bytes texts.now) (inside entity (R.grid records.old).rows (R.grid records.old).columns)) (map_grid R.Cell.text_of (R.grid records.old))) }
+    ensures err { OnErr result (WritesSome (round_from 0 (map string_bytes texts.now) (inside entity (R.grid records.old).rows (R.grid records.old).columns)) (map_grid R.Cell.text_of (R.grid records.old)) (map_grid R.Cell.text_of (R.grid records.new))) }
+{
+    let mut next = 0;
+    for pos in entity.iter(records.count_rows(), records.count_columns()) {
+        records.set(alloc, pos, texts[next].clone()?)?;
+        next += 1;
+        if next == texts.len() {
+            next = 0;
+        }
+    }
+    Ok(())
+}
+
+/// Writes texts to what entities name, for each of them from the first on.
+fn write_rounds<R>(
+    alloc: Global,
+    records: &mut R,
+    entities: Vec<Entity>,
+    texts: &[String],
+) -> Result<(), AllocError>
+where
+    R: Records + ExactRecords + RecordsMut<String>,
+    R::Cell: CellText,
+    requires well { R.is_well_formed records.old }
+    requires some { 0 < length texts.now }
+    ensures well { R.is_well_formed records.new }
+    ensures ok { OnOk result (map_grid R.Cell.text_of (R.grid records.new) ≡ with_writes (round_writes (map string_bytes texts.now) (R.grid records.old).rows (R.grid records.old).columns entities.items) (map_grid R.Cell.text_of (R.grid records.old))) }
+    ensures err { OnErr result (WritesSome (round_writes (map string_bytes texts.now) (R.grid records.old).rows (R.grid records.old).columns entities.items) (map_grid R.Cell.text_of (R.grid records.old)) (map_grid R.Cell.text_of (R.grid records.new))) }
+{
+    let mut rest = entities.into_iter();
+    while let Some(entity) = rest.next() {
+        write_round(alloc, records, entity, texts)?;
+    }
+    Ok(())
+}
