@@ -1,8 +1,10 @@
-//! Laws of rearrangements, over the maps of places. Each is the contract of a function that does nothing.
+//! Laws of what options do. Each is the contract of a function that does nothing.
 
 ghost use Rattle.std.specs.Prelude.{◌≡◌, ◌<◌};
+ghost use Rattle.std.specs.List.{AllByRecursion};
 ghost use Rattle.tabled_grid.specs.Grid.{IsEven};
 ghost use Rattle.tabled_settings.specs.declared.rotate.Rotate.TheVariants.{Bottom, Left, Right, Top};
+ghost use Rattle.tabled_settings.specs.Charsets.{IsClean, cleaned, with_tabs};
 ghost use Rattle.tabled_settings.specs.Places.{IsTakenOnce, ReadsThrough};
 ghost use Rattle.tabled_settings.specs.Rearranged.{reversed, rotated, turned_half};
 
@@ -54,11 +56,7 @@ pub fn reverse_takes_each_cell_once(
     _pos: Position,
 )
     ensures { _pos.row < _rows → _pos.col < _columns → IsTakenOnce (reversed _reverse.axis _reverse.start _reverse.limit _rows _columns) _pos }
-//! Laws of what options do. Each is the contract of a function that does nothing.
-
-ghost use Rattle.std.specs.Prelude.{◌≡◌};
-ghost use Rattle.std.specs.List.{AllByRecursion};
-ghost use Rattle.tabled_settings.specs.Charsets.{IsClean, cleaned, with_tabs};
+{}
 
 /// A clean text has no control character but the newline.
 pub fn clean_leaves_no_control_character(_text: &str, _tab_size: usize)

@@ -3,15 +3,12 @@
 
 pub mod concat;
 pub mod disable;
+pub mod duplicate;
 pub mod extract;
 pub mod format;
 pub mod formatting;
 pub mod laws;
 mod lines;
 pub mod reverse;
-pub mod duplicate;
-pub mod format;
-pub mod formatting;
-pub mod laws;
 mod rewrite;
 pub mod rotate;
