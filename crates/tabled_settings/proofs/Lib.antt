@@ -14,4 +14,5 @@ pub mod Rotated
 pub mod Rounds
 pub mod SameCells
 pub mod TakenOnce
+pub mod TurnedTwice
 pub mod Turns

@@ -11,7 +11,7 @@ use Rattle.tabled_settings.specs.declared.rotate.Rotate.TheVariants.{Left, Right
 use Rattle.tabled_settings.specs.Places.{IsTakenOnce}
 use Rattle.tabled_settings.specs.Rearranged.{limit_end, reversed, reversed_index, rotated, upside_down}
 use Rattle.tabled_settings.proofs.Rotated.{as_wide}
-use Rattle.tabled_settings.proofs.Turns.{reversed_back, reversed_below}
+use Rattle.tabled_settings.proofs.TurnedTwice.{reversed_back, reversed_below}
 
 -- what is in two equal places
 same_place : (p q : Position) → Some p ≡ Some q → p ≡ q

@@ -1,4 +1,4 @@
-use Rattle.std.proofs.Common.{rules, ◌≡◌, ◌∙◌, ◌∷◌, [], map, string_bytes, append-nil, refl, sym}
+use Rattle.std.proofs.Common.{◌≡◌, ◌∙◌, append-nil, refl}
 use Rattle.std.proofs.lemmas.List.{append_assoc, map-append}
 use Rattle.tabled_grid.specs.Entity.{inside}
 use Rattle.tabled_grid.proofs.Places.{inside-within}

@@ -1,4 +1,4 @@
-use Rattle.std.proofs.Common.{rules, arith, ◌≡◌, ◌∙◌, [], ◌++◌, map, string_bytes, append-nil, refl}
+use Rattle.std.proofs.Common.{arith, ◌≡◌, [], append-nil, refl}
 use Rattle.std.proofs.lemmas.Grind.{common_steps}
 use Rattle.std.proofs.lemmas.List.{append_assoc, map-append, nil_from_length}
 use Rattle.std.specs.Vec.Iter.{into_iter_items}

@@ -1,4 +1,4 @@
-use Rattle.std.proofs.Common.{rules, arith, ◌≡◌, ◌<◌, ◌∙◌, ◌+◌, ◌%◌, ◌∷◌, [], get_or, map, length, string_bytes, refl, sym, ap}
+use Rattle.std.proofs.Common.{arith, ◌≡◌, ◌<◌, ◌∙◌, ◌+◌, ◌%◌, [], get_or, map, length, string_bytes, refl, sym, ap}
 use Rattle.std.proofs.lemmas.List.{get_or-map, length-map}
 use Rattle.tabled_grid.specs.Entity.{inside}
 use Rattle.tabled_grid.specs.Grid.{map_grid, with_cell}

@@ -1,4 +1,4 @@
-use Rattle.std.proofs.Common.{◌∙◌, map, string_bytes, refl, sym, ap, ap₂, subst}
+use Rattle.std.proofs.Common.{◌∙◌, map, string_bytes, sym, ap, ap₂, subst}
 use Rattle.std.specs.Vec.Iter.{into_iter_items}
 use Rattle.tabled_grid.specs.Entity.{inside}
 use Rattle.tabled_grid.specs.Grid.{map_grid}

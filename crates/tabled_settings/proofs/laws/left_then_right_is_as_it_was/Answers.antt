@@ -1,4 +1,4 @@
-use Rattle.tabled_settings.proofs.Turns.{left_then_right}
+use Rattle.tabled_settings.proofs.TurnedTwice.{left_then_right}
 use Rattle.tabled_settings.proofs.laws.left_then_right_is_as_it_was.Goals as goal
 
 pub returns : goal.returns

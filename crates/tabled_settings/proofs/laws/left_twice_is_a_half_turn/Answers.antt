@@ -1,4 +1,4 @@
-use Rattle.tabled_settings.proofs.Turns.{left_twice}
+use Rattle.tabled_settings.proofs.TurnedTwice.{left_twice}
 use Rattle.tabled_settings.proofs.laws.left_twice_is_a_half_turn.Goals as goal
 
 pub returns : goal.returns

@@ -1,4 +1,4 @@
-use Rattle.tabled_settings.proofs.Turns.{reversed_twice}
+use Rattle.tabled_settings.proofs.TurnedTwice.{reversed_twice}
 use Rattle.tabled_settings.proofs.laws.reversed_twice_is_as_it_was.Goals as goal
 
 pub returns : goal.returns

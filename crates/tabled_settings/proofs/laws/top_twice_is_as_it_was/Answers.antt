@@ -1,4 +1,4 @@
-use Rattle.tabled_settings.proofs.Turns.{top_twice}
+use Rattle.tabled_settings.proofs.TurnedTwice.{top_twice}
 use Rattle.tabled_settings.proofs.laws.top_twice_is_as_it_was.Goals as goal
 
 pub returns : goal.returns
