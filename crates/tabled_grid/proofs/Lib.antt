@@ -9,6 +9,7 @@ pub mod FittingAnchors
 pub mod Flat
 pub mod FlatCells
 pub mod FlatColumns
+pub mod FlatFronts
 pub mod FlatRows
 pub mod FlatSlides
 pub mod FlatSplits

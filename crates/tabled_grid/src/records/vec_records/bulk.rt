@@ -1,10 +1,13 @@
-//! Rows and columns of a store exchanged, each cell moved once.
+//! Rows and columns of a store exchanged, or columns cut off, each cell moved once.
 
-ghost use Rattle.std.specs.Prelude.{◌≡◌, ◌<◌, IfOk, OnErr, OnOk};
+ghost use Rattle.std.specs.Prelude.{◌≡◌, ◌<◌, ◌≤◌, IfOk, OnErr, OnOk};
+ghost use Rattle.tabled_grid.specs.Along.{first_along};
 ghost use Rattle.tabled_grid.specs.Bulk.{Exchanges, transposed};
 ghost use Rattle.tabled_grid.specs.Grid.{IsEmptyWithoutRows, IsEven, IsInside};
+ghost use Rattle.tabled_grid.specs.declared.records.axis.Axis.TheVariants.{Columns};
 
 use super::VecRecords;
+use super::moves::cut_down;
 use crate::config::Position;
 use crate::records::blank::Blank;
 use crate::records::nested_rows::moves::blanks;
@@ -35,6 +38,17 @@ impl<T: Blank> VecRecords<T> {
         }
         *self = turned;
         Ok(())
+    }
+
+    /// Keeps the first `count` columns alone, and brings them together row by row.
+    pub(super) fn cut(&mut self, count: usize)
+        requires { count ≤ self.old.columns }
+        ensures rowless { IsEmptyWithoutRows self.old }
+        ensures first { self.new ≡ first_along Columns count self.old }
+    {
+        cut_down(&mut self.cells, self.rows, self.columns, count);
+        self.cells.truncate(self.rows * count);
+        self.columns = count;
     }
 
     /// A store of blanks (r x c), which has a row.

@@ -124,6 +124,17 @@ pub(super) fn close_up<T>(cells: &mut [T], rows: usize, columns: usize, j: usize
     }
 }
 
+/// Brings the first `count` cells of each row forward, and leaves the others behind them.
+pub(super) fn cut_down<T>(cells: &mut [T], rows: usize, columns: usize, count: usize)
+    requires size { length cells.old ≡ rows * columns }
+    requires within { count ≤ columns }
+    ensures { take (rows * count) cells.new ≡ joined (map (λ (row : List T). take count row) (chunks rows columns cells.old)) }
+{
+    for i in 0..rows {
+        slide(cells, i * count, i * (columns - count), count);
+    }
+}
+
 /// Swaps two runs of `count` cells.
 pub(super) fn swap_runs<T>(cells: &mut [T], first: usize, second: usize, count: usize)
     requires apart { first + count ≤ second }

@@ -72,6 +72,10 @@ impl<T: Blank> Resizable for VecRecords<T> {
         swap_each(&mut self.cells, self.rows, self.columns, j, k);
     }
 
+    fn truncate_columns(&mut self, count: usize) {
+        self.cut(count);
+    }
+
     fn transpose(&mut self, alloc: Global) -> Result<(), AllocError> {
         self.turn(alloc)
     }
