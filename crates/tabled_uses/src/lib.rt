@@ -8,6 +8,7 @@ mod places;
 #[cfg(test)]
 mod rows;
 pub mod select;
+pub mod settings;
 #[cfg(test)]
 mod spans;
 pub mod stores;
