@@ -53,13 +53,13 @@ module _ {A : Type 0} (is_blank : A → Type 0) where
       )
 
   -- rows that blanks were added to are as many, and so much longer
-  each_tall : (k : ℕ) (rows cur : List (List A)) → AddsEach k rows cur → length cur ≡ length rows
+  pub each_tall : (k : ℕ) (rows cur : List (List A)) → AddsEach k rows cur → length cur ≡ length rows
   each_tall k [] [] a = refl
   each_tall k [] (r ∷ cur) a = absurd a
   each_tall k (row ∷ rows) [] a = absurd a
   each_tall k (row ∷ rows) (r ∷ cur) a = ap suc (each_tall k rows cur a.1)
 
-  each_wide : (k c : ℕ) (rows cur : List (List A)) → AddsEach k rows cur → AllByRecursion (λ (row : List A). length row ≡ c) rows → AllByRecursion (λ (row : List A). length row ≡ c + k) cur
+  pub each_wide : (k c : ℕ) (rows cur : List (List A)) → AddsEach k rows cur → AllByRecursion (λ (row : List A). length row ≡ c) rows → AllByRecursion (λ (row : List A). length row ≡ c + k) cur
   each_wide k c [] [] a wide = tt
   each_wide k c [] (r ∷ cur) a wide = absurd a
   each_wide k c (row ∷ rows) [] a wide = absurd a

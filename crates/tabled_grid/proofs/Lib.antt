@@ -15,6 +15,7 @@ pub mod FlatSlides
 pub mod FlatSplits
 pub mod FlatSpreads
 pub mod FlatStore
+pub mod FlatWidened
 pub mod Geometry
 pub mod Grids
 pub mod Lists

@@ -46,3 +46,9 @@ pub record AddsBlanks {A : Type 0} (is_blank : A → Type 0) (old new : List A) 
   pub cells : List A
   pub blanks : AreBlanks is_blank count cells
   pub is : new ≡ old ++ cells
+
+-- so many blanks are put last in each row
+pub record WidensTo {A : Type 0} (is_blank : A → Type 0) (many : ℕ) (rows : List (List A)) (cells : List A) : Type 0 where
+  pub wide : List (List A)
+  pub each : AllZip (λ (row wide : List A). AddsBlanks is_blank row wide many) rows wide
+  pub is : cells ≡ joined wide

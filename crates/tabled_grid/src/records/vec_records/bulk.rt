@@ -2,12 +2,12 @@
 
 ghost use Rattle.std.specs.Prelude.{◌≡◌, ◌<◌, ◌≤◌, IfOk, OnErr, OnOk};
 ghost use Rattle.tabled_grid.specs.Along.{first_along};
-ghost use Rattle.tabled_grid.specs.Bulk.{Exchanges, transposed};
+ghost use Rattle.tabled_grid.specs.Bulk.{AddsColumns, Exchanges, transposed};
 ghost use Rattle.tabled_grid.specs.Grid.{IsEmptyWithoutRows, IsEven, IsInside};
 ghost use Rattle.tabled_grid.specs.declared.records.axis.Axis.TheVariants.{Columns};
 
 use super::VecRecords;
-use super::moves::cut_down;
+use super::moves::{cut_down, push_blanks, widen};
 use crate::config::Position;
 use crate::records::blank::Blank;
 use crate::records::nested_rows::moves::blanks;
@@ -49,6 +49,32 @@ impl<T: Blank> VecRecords<T> {
         cut_down(&mut self.cells, self.rows, self.columns, count);
         self.cells.truncate(self.rows * count);
         self.columns = count;
+    }
+
+    /// Adds so many columns of blanks behind the last one, in one growth. Without rows this changes
+    /// nothing. Refused, it leaves the store as it was.
+    pub(super) fn push_blank_columns(
+        &mut self,
+        alloc: Global,
+        many: usize,
+    ) -> Result<(), AllocError>
+        ensures rowless { IsEmptyWithoutRows self.old }
+        ensures ok { OnOk result (AddsColumns T.is_blank many self.old self.new) }
+        ensures err { OnErr result (self.new ≡ self.old) }
+    {
+        if self.rows == 0 {
+            return Ok(());
+        }
+        let Some(columns) = self.columns.checked_add(many) else {
+            return Err(AllocError);
+        };
+        let Some(count) = self.rows.checked_mul(many) else {
+            return Err(AllocError);
+        };
+        push_blanks(alloc, &mut self.cells, count)?;
+        widen(&mut self.cells, self.rows, self.columns, many);
+        self.columns = columns;
+        Ok(())
     }
 
     /// A store of blanks (r x c), which has a row.

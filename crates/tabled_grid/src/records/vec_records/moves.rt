@@ -6,7 +6,7 @@ ghost use Rattle.std.specs.Vec.Iter.{into_iter_items};
 ghost use Rattle.tabled_grid.specs.Grid.{map_items};
 ghost use Rattle.tabled_grid.specs.Resized.{AreBlanks};
 ghost use Rattle.tabled_grid.specs.Flat.{chunks, joined};
-ghost use Rattle.tabled_grid.specs.Moves.{AddsBlanks, InsertsBlanks, PutsBlanks, Slid, SlidBack, with_runs_swapped};
+ghost use Rattle.tabled_grid.specs.Moves.{WidensTo, AddsBlanks, InsertsBlanks, PutsBlanks, Slid, SlidBack, with_runs_swapped};
 
 use crate::records::blank::Blank;
 use std::alloc::{AllocError, Global};
@@ -132,6 +132,18 @@ pub(super) fn cut_down<T>(cells: &mut [T], rows: usize, columns: usize, count: u
 {
     for i in 0..rows {
         slide(cells, i * count, i * (columns - count), count);
+    }
+}
+
+/// Brings the last cells, `many` for each row, behind the rows before them.
+pub(super) fn widen<T: Blank>(cells: &mut [T], rows: usize, columns: usize, many: usize)
+    requires size { length cells.old ≡ rows * columns + rows * many }
+    requires blanks { AreBlanks T.is_blank (rows * many) (drop (rows * columns) cells.old) }
+    ensures { WidensTo T.is_blank many (chunks rows columns (take (rows * columns) cells.old)) cells.new }
+{
+    for n in 0..rows {
+        let i = rows - 1 - n;
+        slide_back(cells, i * columns, columns, i * many);
     }
 }
 

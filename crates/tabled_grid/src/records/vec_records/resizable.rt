@@ -72,6 +72,10 @@ impl<T: Blank> Resizable for VecRecords<T> {
         swap_each(&mut self.cells, self.rows, self.columns, j, k);
     }
 
+    fn push_columns(&mut self, alloc: Global, many: usize) -> Result<(), AllocError> {
+        self.push_blank_columns(alloc, many)
+    }
+
     fn truncate_columns(&mut self, count: usize) {
         self.cut(count);
     }
