@@ -24,7 +24,7 @@ use tabled_options::TableOption;
 /// Rows without cells become no rows.
 ///
 /// Ported from `tabled::settings::Rotate`.
-#[derive(Debug)]
+#[derive(Debug, Drop)]
 pub enum Rotate {
     /// By a quarter to the left (r x c to c x r): the last column becomes the first row.
     Left,
