@@ -1,17 +1,18 @@
 -- Anchors that stand beside a rectangle are passed over.
 use Rattle.std.proofs.Common.{◌≡◌, ℕ, zero, suc, ◌+◌, ◌<◌, ◌≤◌, ◌⊎◌, inl, inr, Bool, true, false, cond, List, [], ◌∷◌, Err, refl, sym, ap, ap₂, subst, ◌∙◌, arith, length, get_or, take, map}
-use Rattle.std.specs.Prelude.{T}
+use Rattle.std.specs.Prelude.{T, not}
 use Rattle.std.specs.FinMap.{is_sorted}
 use Rattle.std.specs.FinMap.Entries.{below_all}
+use Rattle.std.specs.List.{list_all}
 use Rattle.std.specs.List.Sorted.{IsBinarySearchResult}
 use Rattle.std.specs.declared.cmp.Ordering.TheVariants.{Equal, Less}
-use Rattle.std.proofs.lemmas.Bool.{cases_lt, false_from_ne_true}
-use Rattle.tabled_grid.specs.Anchors.{Anchor, unless_held}
+use Rattle.std.proofs.lemmas.Bool.{and_from, cases_lt, false_from_ne_true, not_from_false}
+use Rattle.tabled_grid.specs.Anchors.{Anchor, meets, unless_held}
 use Rattle.tabled_grid.specs.Rectangles.{in_rect}
 use Rattle.tabled_grid.specs.Spans.{position_cmp}
 use Rattle.tabled_grid.specs.declared.config.position.Position.{Position}
 use Rattle.tabled_grid.proofs.Geometry.{In}
-use Rattle.tabled_grid.proofs.PassedAnchors.{Earlier, earlier}
+use Rattle.tabled_grid.proofs.PassedAnchors.{Earlier, earlier, meets-true}
 use Rattle.tabled_grid.proofs.SortedEntries.{below_at, searchable}
 use Rattle.tabled_grid.proofs.Spans.{positions_exact, positions_total}
 use Rattle.tabled_grid.proofs.SpanMaps.{halves, in_rect-from, in_rect-true, less}
@@ -75,3 +76,18 @@ module _ (by : Anchor) (pos : Position) (row : ℕ) (reaches : Reaches by pos ro
       let stop = earlier e.0 (record { row = row; col = by.0.col }) (until 0 e (omega arith)) in
       let free : in_rect by.0 by.1 e.0 ≡ false = false_from_ne_true _ (λ t. out_of e.0 after stop (cases_lt pos.col by.0.col) (in_rect-true by.0 e.0 by.1 t)) in
       ap₂ (λ x xs. x ∷ xs) (ap (λ (b : Bool). cond b (e.0, (0, 0)) e) free) (passed_over es i (halves _ _ below).1 (λ j d h. until (suc j) d (omega arith)) (omega arith))
+
+-- what stands in a row behind a place that is right of a rectangle doesn't meet it
+module _ (from : Anchor) (pos : Position) (row : ℕ) (next : row ≤ pos.row + 1) (right : from.0.col + from.1.1 ≤ pos.col) where
+  pub apart_beyond : (es : List Anchor) (i : ℕ) → T (below_all position_cmp pos es) → ((j : ℕ) (d : Anchor) → j < i → position_cmp (get_or es j d).0 (record { row = row; col = 0 }) ≡ Less) → i ≤ length es → list_all (λ (e : Anchor). not (meets from e)) (take i es) ≡ true
+  apart_beyond [] zero below until within = refl
+  apart_beyond [] (suc i) below until within = refl
+  apart_beyond (e ∷ es) zero below until within = refl
+  apart_beyond (e ∷ es) (suc i) below until within =
+      and_from _ _ (not_from_false _ (false_from_ne_true _ (λ t. out (earlier pos e.0 (less _ (halves _ _ below).0)) (earlier e.0 (record { row = row; col = 0 }) (until 0 e (omega arith))) (meets-true from e t).right)))
+      (apart_beyond es i (halves _ _ below).1 (λ j d h. until (suc j) d (omega arith)) (omega arith))
+    where
+      out : Earlier pos e.0 → (e.0.row < row) ⊎ ((e.0.row ≡ row) × (e.0.col < 0)) → e.0.col < from.0.col + from.1.1 → ⊥
+      out (inl a) (inl u) h = omega (arith, a, u)
+      out (inl a) (inr u) h = omega (arith, u.1)
+      out (inr a) u h = omega (arith, a.1)

@@ -1,5 +1,5 @@
 -- Going through sorted anchors from one on, and stopping once they are past its rectangle.
-use Rattle.std.proofs.Common.{◌≡◌, ℕ, zero, suc, ◌+◌, ◌-◌, ◌<◌, ◌≤◌, ◌⊎◌, inl, inr, true, false, cond, List, [], ◌∷◌, ◌++◌, refl, sym, ap, ap₂, subst, ◌∙◌, arith, length, get_or, take, drop, set, map, append_assoc}
+use Rattle.std.proofs.Common.{◌≡◌, ℕ, zero, suc, ◌+◌, ◌-◌, ◌<◌, ◌≤◌, ◌⊎◌, inl, inr, Bool, true, false, cond, List, [], ◌∷◌, ◌++◌, refl, sym, ap, ap₂, subst, ◌∙◌, arith, length, get_or, take, drop, set, map, append_assoc}
 use Rattle.std.specs.Prelude.{T, ◌&&◌, ◌==◌, nat_le, not}
 use Rattle.std.specs.FinMap.{is_sorted}
 use Rattle.std.specs.List.{list_all}
@@ -220,3 +220,29 @@ apart_past a es first k d low here up past =
     let rest = drop_more es k d here in
     let up_here = subst (λ fs. T (is_sorted position_cmp fs)) (drop-drop (k - first) first es ∙ ap (λ n. drop n es) at ∙ rest) sorted in
     ap (list_all (λ (f : Anchor). not (meets a f))) rest ∙ none_meets a e (drop (k + 1) es) up_here (past-true a e.0 past)
+
+-- the anchors after one, as a slice of those that are gone through
+all_after : (es : List Anchor) (k : ℕ) → take (length es - (k + 1)) (drop (k + 1) es) ≡ drop (k + 1) es
+all_after es k = take_all (length es - (k + 1)) (drop (k + 1) es) (omega (arith, length-drop (k + 1) es))
+
+pub apart_sorted : (a : Anchor) (es : List Anchor) (first k : ℕ) (d : Anchor) → first ≤ k → k < length es → T (is_sorted position_cmp (a ∷ drop first es)) → T (is_sorted position_cmp (get_or es k d ∷ take (length es - (k + 1)) (drop (k + 1) es)))
+apart_sorted a es first k d low here up =
+    let at : first + (k - first) ≡ k = omega arith in
+    subst (λ fs. T (is_sorted position_cmp fs)) (drop-drop (k - first) first es ∙ ap (λ n. drop n es) at ∙ drop_more es k d here ∙ ap (λ fs. get_or es k d ∷ fs) (sym (all_after es k))) (sorted_drop (k - first) (drop first es) (halves _ _ up).1)
+
+-- the first so many pass, so all do just where the others do
+passed : (test : Anchor → Bool) (n : ℕ) (es : List Anchor) → list_all test (take n es) ≡ true → list_all test (drop n es) ≡ list_all test es
+passed test zero es h = refl
+passed test (suc n) [] h = refl
+passed test (suc n) (e ∷ es) h =
+    let parts = and_parts (test e) (list_all test (take n es)) h in
+    passed test n es parts.1 ∙ sym (ap (λ b. b && list_all test es) parts.0)
+
+pub apart_over : (a : Anchor) (es : List Anchor) (k n : ℕ) (d : Anchor) (all : Bool) → k < length es → meets a (get_or es k d) ≡ false → list_all (λ (e : Anchor). not (meets a e)) (take n (take (length es - (k + 1)) (drop (k + 1) es))) ≡ true → list_all (λ (e : Anchor). not (meets a e)) (drop k es) ≡ all → list_all (λ (e : Anchor). not (meets a e)) (drop (k + (1 + n)) es) ≡ all
+apart_over a es k n d all here out free so =
+    let sum : (k + 1) + n ≡ k + (1 + n) = omega arith in
+    ap (λ m. list_all (λ (e : Anchor). not (meets a e)) (drop m es)) (sym sum)
+    ∙ ap (list_all (λ (e : Anchor). not (meets a e))) (sym (drop-drop n (k + 1) es))
+    ∙ passed (λ (e : Anchor). not (meets a e)) n (drop (k + 1) es) (ap (λ fs. list_all (λ (e : Anchor). not (meets a e)) (take n fs)) (sym (all_after es k)) ∙ free)
+    ∙ sym (ap (list_all (λ (e : Anchor). not (meets a e))) (drop_more es k d here) ∙ ap (λ b. not b && list_all (λ (e : Anchor). not (meets a e)) (drop (k + 1) es)) out)
+    ∙ so

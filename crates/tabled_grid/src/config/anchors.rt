@@ -1,6 +1,6 @@
 //! Sorted lists of anchors: which are hidden, and whether their rectangles lie well.
 
-ghost use Rattle.std.specs.Prelude.{false, ◌≡◌, ◌+◌, ◌≤◌, ◌∷◌, ◌++◌, ℕ, IfOk, T, drop, length, map, nat_lt, not, take};
+ghost use Rattle.std.specs.Prelude.{false, true, ◌≡◌, ◌+◌, ◌≤◌, ◌∷◌, ◌++◌, ℕ, IfOk, T, drop, length, map, nat_lt, not, take};
 ghost use Rattle.std.specs.FinMap.{is_sorted};
 ghost use Rattle.std.specs.List.{filter, list_all, list_any};
 ghost use Rattle.std.specs.List.Sorted.{IsBinarySearchResult, IsSearchInRange};
@@ -207,7 +207,8 @@ fn is_apart(anchors: &[Anchor], first: usize, from: Anchor) -> bool
     requires sorted { T (is_sorted position_cmp (from ∷ drop first anchors.now)) }
     ensures { result ≡ list_all (λ (e : Position × (ℕ × ℕ)). not (meets from e)) (drop first anchors.now) }
 {
-    for k in first..anchors.len() {
+    let mut k = first;
+    while k < anchors.len() {
         let anchor = anchors[k];
         if is_past(from, anchor.0) {
             return true;
@@ -215,8 +216,24 @@ fn is_apart(anchors: &[Anchor], first: usize, from: Anchor) -> bool
         if meet(from, anchor) {
             return false;
         }
+        k += 1 + beyond(&anchors[k + 1..], from, anchor.0);
     }
     true
+}
+
+/// How many of the anchors after a place stand in its row, where the place is right of a rectangle.
+fn beyond(anchors: &[Anchor], from: Anchor, pos: Position) -> usize
+    requires { T (is_sorted position_cmp ((pos, from.1) ∷ anchors.now)) }
+    ensures within { result ≤ length anchors.now }
+    ensures apart { list_all (λ (e : Position × (ℕ × ℕ)). not (meets from e)) (take result anchors.now) ≡ true }
+{
+    let (first, (_, width)) = from;
+    if pos.col < first.col || pos.col - first.col < width {
+        return 0;
+    }
+    match search(anchors, Position::new(pos.row.saturating_add(1), 0)) {
+        Ok(i) | Err(i) => i,
+    }
 }
 
 /// Says whether the rectangle of an anchor lies inside a table.

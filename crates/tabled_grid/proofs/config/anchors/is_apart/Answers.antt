@@ -1,6 +1,15 @@
 use Rattle.std.proofs.Common.{◌∙◌, sym, arith}
-use Rattle.tabled_grid.proofs.PassedAnchors.{apart_past}
+use Rattle.tabled_grid.proofs.PassedAnchors.{apart_over, apart_past, apart_sorted}
 use Rattle.tabled_grid.proofs.config.anchors.is_apart.Goals as goal
 
 pub returns-then-is_past : goal.returns-then-is_past
-returns-then-is_past c = sym (apart_past c.args.from c.args.anchors.now c.args.first c.loop-k.k _ c.loop-k.auto.k (omega arith) c.requires.sorted (sym c.is_past.ensures ∙ c.if-is_past.true)) ∙ c.loop-k.invariant
+returns-then-is_past c = sym (apart_past c.args.from c.args.anchors.now c.args.first c.loop-k.k _ c.loop-k.invariant.low c.loop-k-test.true c.requires.sorted (sym c.is_past.ensures ∙ c.if-is_past.true)) ∙ c.loop-k.invariant.rest
+
+pub beyond-requires : goal.beyond-requires
+beyond-requires c = apart_sorted c.args.from c.args.anchors.now c.args.first c.loop-k.k _ c.loop-k.invariant.low c.loop-k-test.true c.requires.sorted
+
+pub loop-k-preserved : goal.loop-k-preserved
+loop-k-preserved c = record {
+  low = omega (arith, c.loop-k.invariant.low);
+  rest = apart_over c.args.from c.args.anchors.now c.loop-k.k c.beyond.result _ _ c.loop-k-test.true (sym c.meet.ensures ∙ c.if-meet.false) c.beyond.ensures.apart c.loop-k.invariant.rest;
+}
