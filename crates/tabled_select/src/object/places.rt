@@ -58,18 +58,18 @@ impl Iterator for Places {
                 return Some(pos);
             }
             let entity = self.entities.next()?;
-            self.current = places_of(entity, self.rows, self.columns);
+            enter(&mut self.current, entity, self.rows, self.columns);
         }
     }
 }
 
-/// Goes over the places of a table of `rows x columns` that an entity names.
+/// Goes on to the places of a table of `rows x columns` that an entity names.
 // A call apart keeps the walk over the places of one entity short.
 #[inline(never)]
-fn places_of(entity: Entity, rows: usize, columns: usize) -> EntityIterator
-    ensures { result ≡ inside entity rows columns }
+fn enter(current: &mut EntityIterator, entity: Entity, rows: usize, columns: usize)
+    ensures { current.new ≡ inside entity rows columns }
 {
-    entity.iter(rows, columns)
+    *current = entity.iter(rows, columns);
 }
 
 /// How many cells of a table of `rows x columns` entities name, cut at `usize::MAX`.
