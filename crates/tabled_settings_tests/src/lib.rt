@@ -3,3 +3,9 @@
 
 #[cfg(test)]
 mod content;
+#[cfg(test)]
+mod refusing;
+#[cfg(test)]
+mod rotations;
+#[cfg(test)]
+mod tables;
