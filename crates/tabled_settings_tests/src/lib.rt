@@ -4,6 +4,10 @@
 #[cfg(test)]
 mod content;
 #[cfg(test)]
+mod cuts;
+#[cfg(test)]
+mod joins;
+#[cfg(test)]
 mod refusing;
 #[cfg(test)]
 mod rotations;
