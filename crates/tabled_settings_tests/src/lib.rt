@@ -3,3 +3,13 @@
 
 #[cfg(test)]
 mod content;
+#[cfg(test)]
+mod cuts;
+#[cfg(test)]
+mod joins;
+#[cfg(test)]
+mod refusing;
+#[cfg(test)]
+mod rotations;
+#[cfg(test)]
+mod tables;

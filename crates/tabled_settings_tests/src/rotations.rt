@@ -1,0 +1,131 @@
+//! Tables that are turned, and rows or columns that are reversed.
+
+use crate::tables::{makes_flat, makes_nested, makes_refusing};
+use std::alloc::{AllocError, Global};
+use std::test::Fail;
+use tabled_grid::config::Offset::{End, Start};
+use tabled_grid::records::VecRecords;
+use tabled_options::TableOption;
+use tabled_settings::reverse::Reverse;
+use tabled_settings::rotate::Rotate;
+
+/// What each turn makes of tables.
+fn turns() -> [(&'static str, Rotate, &'static str); 12] {
+    [
+        ("a b c / d e f /", Rotate::Left, "c f / b e / a d /"),
+        ("a b c / d e f /", Rotate::Right, "d a / e b / f c /"),
+        ("a b c / d e f /", Rotate::Top, "d e f / a b c /"),
+        ("a b c / d e f /", Rotate::Bottom, "d e f / a b c /"),
+        ("a / b / c /", Rotate::Left, "a b c /"),
+        ("a / b / c /", Rotate::Right, "c b a /"),
+        ("a b c /", Rotate::Left, "c / b / a /"),
+        ("a / b / c /", Rotate::Bottom, "c / b / a /"),
+        ("/ /", Rotate::Left, ""),
+        ("/ /", Rotate::Right, ""),
+        ("/ /", Rotate::Top, "/ /"),
+        ("", Rotate::Left, ""),
+    ]
+}
+
+#[test]
+fn tables_are_turned(rt: HostRuntime) -> Result<(), Fail> {
+    for (old, turn, new) in turns() {
+        assert!(rt; makes_flat(rt.alloc(), old, turn, new));
+    }
+    for (old, turn, new) in turns() {
+        assert!(rt; makes_nested(rt.alloc(), old, turn, new));
+    }
+    Ok(())
+}
+
+#[test]
+fn turns_that_are_refused_are_undone(rt: HostRuntime) -> Result<(), Fail> {
+    let cases = [
+        (0, "a b c /", Rotate::Left, "a b c /!"),
+        (1, "a b c /", Rotate::Left, "a b c /!"),
+        (2, "a b c /", Rotate::Left, "c / b / a /"),
+        (0, "a / b / c /", Rotate::Right, "a / b / c /!"),
+        (1, "a / b / c /", Rotate::Right, "a / b / c /!"),
+        (2, "a / b / c /", Rotate::Right, "c b a /"),
+        (0, "a b / c d /", Rotate::Left, "b d / a c /"),
+        (0, "a b / c d /", Rotate::Top, "c d / a b /"),
+    ];
+    for (left, old, turn, new) in cases {
+        assert!(rt; makes_refusing(rt.alloc(), left, old, turn, new));
+    }
+    Ok(())
+}
+
+#[test]
+fn rows_and_columns_are_reversed(rt: HostRuntime) -> Result<(), Fail> {
+    let cases = [
+        ("a / b / c /", Reverse::rows(0), "c / b / a /"),
+        ("a b c / d e f /", Reverse::columns(1), "a c b / d f e /"),
+        ("a b c /", Reverse::columns(0).limit(End(1)), "b a c /"),
+        ("a b c /", Reverse::columns(0).limit(End(4)), "a b c /"),
+        ("a b c /", Reverse::columns(1).limit(End(2)), "a b c /"),
+        (
+            "a b c /",
+            Reverse::columns(0).limit(End(usize::MAX)),
+            "a b c /",
+        ),
+        (
+            "a / b / c /",
+            Reverse::rows(0).limit(Start(2)),
+            "b / a / c /",
+        ),
+        (
+            "a / b / c /",
+            Reverse::rows(1).limit(Start(2)),
+            "a / c / b /",
+        ),
+        (
+            "a / b / c /",
+            Reverse::rows(1).limit(Start(3)),
+            "a / b / c /",
+        ),
+        (
+            "a / b / c /",
+            Reverse::rows(1).limit(Start(usize::MAX)),
+            "a / b / c /",
+        ),
+        ("a / b / c /", Reverse::rows(usize::MAX), "a / b / c /"),
+        ("/ /", Reverse::rows(0), "/ /"),
+        ("/ /", Reverse::columns(0), "/ /"),
+        ("", Reverse::rows(0), ""),
+    ];
+    for (old, reverse, new) in cases {
+        assert!(rt; makes_flat(rt.alloc(), old, reverse, new));
+        assert!(rt; makes_nested(rt.alloc(), old, reverse, new));
+        assert!(rt; makes_refusing(rt.alloc(), 0, old, reverse, new));
+    }
+    Ok(())
+}
+
+/// The numbers from 0 to 8 in three rows, after a reversal.
+fn reversed(alloc: Global, reverse: Reverse) -> Result<Vec<Vec<usize>>, AllocError> {
+    let rows = vec![in alloc;
+        vec![in alloc; 0, 1, 2]?,
+        vec![in alloc; 3, 4, 5]?,
+        vec![in alloc; 6, 7, 8]?,
+    ]?;
+    let mut numbers = VecRecords::new(alloc, rows)?;
+    reverse.change(alloc, &mut numbers, &mut (), &mut ())?;
+    numbers.into_rows(alloc)
+}
+
+#[test]
+fn numbers_are_reversed(rt: HostRuntime) -> Result<(), Fail> {
+    let alloc = rt.alloc();
+    let rows = reversed(alloc, Reverse::rows(0))?.into_iter().flatten();
+    assert_eq!(rt;
+        rows.collect::<Vec<_>>(alloc)?.as_slice(),
+        [6, 7, 8, 3, 4, 5, 0, 1, 2].as_slice()
+    );
+    let columns = reversed(alloc, Reverse::columns(0))?.into_iter().flatten();
+    assert_eq!(rt;
+        columns.collect::<Vec<_>>(alloc)?.as_slice(),
+        [2, 1, 0, 5, 4, 3, 8, 7, 6].as_slice()
+    );
+    Ok(())
+}
