@@ -1,8 +1,10 @@
-//! Tests of selectors: what each names in tables of zeros.
+//! Tests of selectors: what each names in tables of zeros or of texts.
 #![tactic(auto)]
 
 #[cfg(test)]
 mod combinations;
+#[cfg(test)]
+mod locators;
 #[cfg(test)]
 mod named;
 #[cfg(test)]

@@ -28,7 +28,7 @@ fn word(alloc: Global, entity: Entity) -> Result<String, AllocError> {
 }
 
 /// The words of entities, with a blank between them.
-fn words(alloc: Global, entities: Vec<Entity>) -> Result<String, AllocError> {
+pub(crate) fn words(alloc: Global, entities: Vec<Entity>) -> Result<String, AllocError> {
     let mut words = String::new(alloc);
     for entity in entities {
         if !words.is_empty() {
