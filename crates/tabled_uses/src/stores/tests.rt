@@ -145,6 +145,32 @@ fn agrees_after_random_changes(rt: HostRuntime) -> Result<(), Fail> {
     Ok(())
 }
 
+/// Changes both stores, and says whether one that refuses is as it was.
+fn keeps(alloc: Global, change: Change) -> Result<bool, AllocError> {
+    let mut both = Both::two_rows(alloc)?;
+    let (before, _) = both.spelled(alloc)?;
+    let flat = make_lent_change(alloc, &mut both.flat, change);
+    let nested = make_change(alloc, &mut both.nested.rows, change);
+    let (flat_after, nested_after) = both.spelled(alloc)?;
+    Ok((flat.is_ok() || flat_after == before) && (nested.is_ok() || nested_after == before))
+}
+
+// With ample memory nothing is refused. `rt try --test --fail-alloc N` refuses the allocation N, so that a run
+// for each N meets each refusal.
+#[test]
+fn keeps_the_stores_at_a_refusal(rt: HostRuntime) {
+    for change in [
+        Change::PushRow,
+        Change::PushColumn,
+        Change::InsertRow(1),
+        Change::InsertColumn(1),
+        Change::Set(0, 1),
+    ] {
+        // Where a store itself is refused, there is nothing to compare.
+        assert!(rt; keeps(rt.alloc(), change) != Ok(false), "{change:?}");
+    }
+}
+
 #[test]
 fn reads_and_writes(rt: HostRuntime) -> Result<(), Fail> {
     let alloc = rt.alloc();
