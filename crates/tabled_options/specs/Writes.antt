@@ -1,10 +1,20 @@
--- A text written to several cells.
+-- Texts written to cells.
 use Rattle.std.specs.Prelude.{◌≡◌, ◌<◌, ℕ, List, [], ◌∷◌, length, take}
+use Rattle.std.specs.List.{fold}
 use Rattle.tabled_grid.specs.Entity.{inside}
 use Rattle.tabled_grid.specs.Grid.{Grid, map_grid, with_cell}
 use Rattle.tabled_grid.specs.declared.config.entity.Entity.{Entity}
 use Rattle.tabled_grid.specs.declared.config.position.Position.{Position}
 use Rattle.tabled_options.specs.Does.{Change}
+
+-- a place and the text that is written there
+pub record Write : Type 0 where
+  pub place : Position
+  pub text : List ℕ
+
+-- the grid with these texts written, in order
+abbrev pub with_writes : List Write → Grid (List ℕ) → Grid (List ℕ)
+with_writes writes g = fold (λ h (w : Write). with_cell h w.place w.text) g writes
 
 -- a text written to one place after another
 abbrev pub written : List ℕ → List Position → Grid (List ℕ) → Grid (List ℕ)

@@ -16,7 +16,7 @@ pub use cell_option::CellOption;
 pub use hints::combine_entity;
 pub use modify::{Modify, ModifyList};
 pub use option_list::OptionSlice;
-pub use property::Property;
+pub use property::{MergedCellsFit, Property};
 pub use settings_list::{EmptySettings, Settings};
 pub use table_option::TableOption;
 pub use writers::TextRef;

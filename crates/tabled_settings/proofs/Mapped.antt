@@ -9,7 +9,8 @@ use Rattle.tabled_grid.specs.declared.config.entity.Entity.{Entity}
 use Rattle.tabled_grid.specs.declared.config.position.Position.{Position}
 use Rattle.tabled_select.specs.Locators.{text_at}
 use Rattle.tabled_settings.specs.Charsets.{charset_writes, is_set, mapped_writes, recoded}
-use Rattle.tabled_settings.specs.Rewrites.{AnswersInTurn, Asking, RewritesAt, RewritesUntil, Write, with_writes}
+use Rattle.tabled_options.specs.Writes.{Write, with_writes}
+use Rattle.tabled_settings.specs.Rewrites.{AnswersInTurn, Asking, RewritesAt, RewritesUntil}
 
 module _ {S : Type 0} (asks : Asking S) (s : S) (f : List ℕ → List ℕ) (says : (p : Position) (old new : List ℕ) (t : S) → asks s p old new t → (t ≡ s) × (new ≡ f old)) (g : Grid (List ℕ)) where
   writes-are : (writes : List Write) (last : S) → AnswersInTurn asks s g writes last → writes ≡ mapped_writes f g (map (λ (w : Write). w.place) writes)

@@ -8,7 +8,8 @@ use Rattle.tabled_grid.proofs.Grids.{cell_at-with_cell_other}
 use Rattle.tabled_grid.specs.Grid.{Grid, with_cell}
 use Rattle.tabled_grid.specs.declared.config.position.Position.{Position}
 use Rattle.tabled_select.specs.Locators.{text_at}
-use Rattle.tabled_settings.specs.Rewrites.{AnswersInTurn, Asking, RewritesAt, RewritesUntil, Write, with_writes}
+use Rattle.tabled_options.specs.Writes.{Write, with_writes}
+use Rattle.tabled_settings.specs.Rewrites.{AnswersInTurn, Asking, RewritesAt, RewritesUntil}
 
 -- one step more
 folds-more : {P A : Type 0} (R : P → A → P → Type 0) (p : P) (xs : List A) (q : P) (x : A) (r : P) → FoldsTo R p xs q → R q x r → FoldsTo R p (xs ++ x ∷ []) r

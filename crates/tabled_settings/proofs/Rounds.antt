@@ -7,7 +7,7 @@ use Rattle.std.proofs.lemmas.List.{length-append, take-append-le}
 use Rattle.std.proofs.lemmas.Nat.{div-add-mod', mod-mul-add}
 use Rattle.tabled_grid.specs.Grid.{Grid, with_cell}
 use Rattle.tabled_settings.specs.Dups.{WritesSome}
-use Rattle.tabled_settings.specs.Rewrites.{Write, with_writes}
+use Rattle.tabled_options.specs.Writes.{Write, with_writes}
 
 -- the next place in a round
 pub next_mod : (k n : ℕ) → k % n + 1 < n → (k + 1) % n ≡ k % n + 1

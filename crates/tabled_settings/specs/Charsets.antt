@@ -7,7 +7,7 @@ use Rattle.tabled_grid.specs.declared.config.entity.Entity.{Entity}
 use Rattle.tabled_grid.specs.declared.config.position.Position.{Position}
 use Rattle.tabled_options.specs.Does.{Change}
 use Rattle.tabled_select.specs.Locators.{text_at}
-use Rattle.tabled_settings.specs.Rewrites.{Write, with_writes}
+use Rattle.tabled_options.specs.Writes.{Write, with_writes}
 
 -- a byte stays: all do where nothing is cleaned, and else a newline and what is no control character
 abbrev pub stays : Bool → ℕ → Bool

@@ -8,7 +8,7 @@ use Rattle.tabled_grid.specs.declared.config.position.Position.{Position}
 use Rattle.tabled_options.specs.Does.{Change}
 use Rattle.tabled_select.specs.Algebra.{flat}
 use Rattle.tabled_select.specs.Locators.{text_at}
-use Rattle.tabled_settings.specs.Rewrites.{Write, with_writes}
+use Rattle.tabled_options.specs.Writes.{Write, with_writes}
 
 -- texts for places, the i-th one for the first of them, and after the last one the first again
 abbrev pub round_from : ℕ → List (List ℕ) → List Position → List Write

@@ -1,21 +1,13 @@
 -- Texts written to cells in place of the old ones.
 use Rattle.std.specs.Prelude.{◌≡◌, ◌<◌, ℕ, List, length, map, take}
-use Rattle.std.specs.List.{FoldsTo, fold}
+use Rattle.std.specs.List.{FoldsTo}
 use Rattle.tabled_grid.specs.Entity.{inside}
-use Rattle.tabled_grid.specs.Grid.{Grid, map_grid, with_cell}
+use Rattle.tabled_grid.specs.Grid.{Grid, map_grid}
 use Rattle.tabled_grid.specs.declared.config.entity.Entity.{Entity}
 use Rattle.tabled_grid.specs.declared.config.position.Position.{Position}
 use Rattle.tabled_options.specs.Does.{Change}
+use Rattle.tabled_options.specs.Writes.{Write, with_writes}
 use Rattle.tabled_select.specs.Locators.{text_at}
-
--- a place and the text that is written there
-pub record Write : Type 0 where
-  pub place : Position
-  pub text : List ℕ
-
--- the grid with these texts written, in order
-abbrev pub with_writes : List Write → Grid (List ℕ) → Grid (List ℕ)
-with_writes writes g = fold (λ h (w : Write). with_cell h w.place w.text) g writes
 
 -- what says how something, asked for a place and its text, answers another text and becomes something else
 abbrev pub Asking : Type 0 → Type 1

@@ -6,7 +6,7 @@ ghost use Rattle.tabled_grid.specs.Entity.{inside};
 ghost use Rattle.tabled_grid.specs.Grid.{map_grid};
 ghost use Rattle.tabled_select.specs.Locators.{text_at};
 ghost use Rattle.tabled_settings.specs.Dups.{Duplicates, DuplicatesFirst, WritesSome, round_from, round_writes, source_texts};
-ghost use Rattle.tabled_settings.specs.Rewrites.{with_writes};
+ghost use Rattle.tabled_options.specs.Writes.{with_writes};
 ghost use Rattle.std.proofs.Common.{rules};
 
 use std::alloc::{AllocError, Global};

@@ -7,7 +7,7 @@ ghost use Rattle.tabled_grid.specs.Entity.{inside};
 ghost use Rattle.tabled_grid.specs.Grid.{map_grid};
 ghost use Rattle.tabled_grid.specs.declared.config.entity.Entity.TheVariants.{Global};
 ghost use Rattle.tabled_settings.specs.Charsets.{DoesFirstWrites, DoesWrites, charset_writes, is_set, recoded, replaced, stays};
-ghost use Rattle.tabled_settings.specs.Rewrites.{with_writes};
+ghost use Rattle.tabled_options.specs.Writes.{with_writes};
 ghost use Rattle.std.proofs.Common.{rules};
 
 use crate::rewrite::{Answers, rewrite};

@@ -4,7 +4,7 @@ use Rattle.tabled_grid.specs.Entity.{inside}
 use Rattle.tabled_grid.specs.Grid.{Grid, map_grid}
 use Rattle.tabled_grid.specs.declared.config.position.Position.{Position}
 use Rattle.tabled_settings.specs.Dups.{WritesSome, round_from}
-use Rattle.tabled_settings.specs.Rewrites.{with_writes}
+use Rattle.tabled_options.specs.Writes.{with_writes}
 use Rattle.tabled_settings.proofs.duplicate.write_round.Given as goal
 
 abbrev pub invariant-loop-pos : goal.invariant-loop-pos

@@ -3,7 +3,7 @@ use Rattle.std.specs.Vec.Iter.{into_iter_items}
 use Rattle.tabled_grid.specs.Entity.{inside}
 use Rattle.tabled_grid.specs.Grid.{map_grid}
 use Rattle.tabled_settings.specs.Dups.{WritesSome, round_from, round_writes}
-use Rattle.tabled_settings.specs.Rewrites.{with_writes}
+use Rattle.tabled_options.specs.Writes.{with_writes}
 use Rattle.tabled_settings.proofs.Results.{on_err}
 use Rattle.tabled_settings.proofs.Rounds.{some-first, some-later, writes-append}
 use Rattle.tabled_settings.proofs.duplicate.write_rounds.Goals as goal

@@ -2,7 +2,7 @@ use Rattle.std.proofs.Common.{◌≡◌, ℕ, List, length, map, string_bytes}
 use Rattle.std.specs.Vec.Iter.{into_iter_items}
 use Rattle.tabled_grid.specs.Grid.{Grid, map_grid}
 use Rattle.tabled_settings.specs.Dups.{WritesSome, round_writes}
-use Rattle.tabled_settings.specs.Rewrites.{with_writes}
+use Rattle.tabled_options.specs.Writes.{with_writes}
 use Rattle.tabled_settings.proofs.duplicate.write_rounds.Given as goal
 
 abbrev pub invariant-loop-entity : goal.invariant-loop-entity

@@ -1,0 +1,2 @@
+//! Options that merge cells.
+#![tactic(auto)]

@@ -1,0 +1,2 @@
+//! Tests of the options that merge cells, by public calls alone.
+#![tactic(auto)]
