@@ -31,6 +31,7 @@ pub mod Places
 pub mod Resized
 pub mod RowByRow
 pub mod SamePlaces
+pub mod Shifts
 pub mod SortedAnchors
 pub mod SortedEntries
 pub mod SpanMaps
