@@ -32,6 +32,7 @@ pub mod Places
 pub mod Resized
 pub mod RowByRow
 pub mod SamePlaces
+pub mod ShiftedFits
 pub mod Shifts
 pub mod SortedAnchors
 pub mod SortedEntries

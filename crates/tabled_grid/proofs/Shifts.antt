@@ -120,7 +120,7 @@ module _ (axis : Axis) (from : ℕ) where
       either None js rest = rw js rest
       either (Some p) js rest = rw js (both _ _ (is_less _ (from_earlier y p (next_later axis from x e.0 y p (earlier x e.0 (less _ (halves _ _ h).0)) (comes axis from x y is) (comes axis from e.0 p js)))) rest)
 
-  sorted_shifted : (es : List Anchor) → T (is_sorted position_cmp es) → T (is_sorted position_cmp (shifted_in axis from es))
+  pub sorted_shifted : (es : List Anchor) → T (is_sorted position_cmp es) → T (is_sorted position_cmp (shifted_in axis from es))
   sorted_shifted [] h = tt
   sorted_shifted (e ∷ es) h = either (shifted_place axis from e.0) refl (sorted_shifted es (halves _ _ h).1)
     where
