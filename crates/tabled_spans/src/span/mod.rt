@@ -1,0 +1,3 @@
+//! Spans of columns and of rows.
+
+mod along;
