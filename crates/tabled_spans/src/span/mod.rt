@@ -1,3 +1,4 @@
 //! Spans of columns and of rows.
 
 mod along;
+mod pull;
