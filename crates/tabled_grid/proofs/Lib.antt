@@ -23,6 +23,7 @@ pub mod Hiders
 pub mod Lists
 pub mod Mapped
 pub mod MarkedAnchors
+pub mod MergedAnchors
 pub mod Merging
 pub mod NestedRows
 pub mod OwnStore

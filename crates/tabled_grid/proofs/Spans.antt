@@ -29,7 +29,7 @@ pub record Makes (anchors : List (Position × (ℕ × ℕ))) (m : SpanMap) : Typ
   pub valid : AreAnchors anchors
   pub is : from_sorted anchors ≡ m
 
-abbrev HasSize : Position × (ℕ × ℕ) → Type 0
+abbrev pub HasSize : Position × (ℕ × ℕ) → Type 0
 HasSize anchor = IsSpanSize anchor.1
 
 -- what is found in a list of anchors is the size of one of them
@@ -45,12 +45,12 @@ pub span_sizes : (anchors : List (Position × (ℕ × ℕ))) → AreAnchors anch
 span_sizes anchors valid = record { each = λ p size is. found_size anchors p size valid.sizes (sym (get-from_sorted position_cmp anchors p valid.sorted) ∙ is) }
 
 module _ (anchors : List (Position × (ℕ × ℕ))) (valid : AreAnchors anchors) (p : Position) where
-  with_anchor : (new : List (Position × (ℕ × ℕ))) (size : ℕ × ℕ) → AllByRecursion HasSize new → new ≡ put position_cmp p size anchors → Makes new (map.insert (from_sorted anchors) p size)
+  pub with_anchor : (new : List (Position × (ℕ × ℕ))) (size : ℕ × ℕ) → AllByRecursion HasSize new → new ≡ put position_cmp p size anchors → Makes new (map.insert (from_sorted anchors) p size)
   with_anchor new size sizes is =
       let up : T (is_sorted position_cmp new) = subst (λ es. T (is_sorted position_cmp es)) (sym is) (is_sorted-put position_cmp positions_total p size anchors valid.sorted) in
       record { valid = record { sorted = up; sizes = sizes }; is = map_put position_cmp positions_total positions_exact anchors new p size valid.sorted up is }
 
-  without_anchor : (new : List (Position × (ℕ × ℕ))) → AllByRecursion HasSize new → new ≡ where_key position_cmp (λ q. not (eq_by_cmp position_cmp p q)) anchors → Makes new (map.remove (from_sorted anchors) p)
+  pub without_anchor : (new : List (Position × (ℕ × ℕ))) → AllByRecursion HasSize new → new ≡ where_key position_cmp (λ q. not (eq_by_cmp position_cmp p q)) anchors → Makes new (map.remove (from_sorted anchors) p)
   without_anchor new sizes is =
       let up : T (is_sorted position_cmp new) = subst (λ es. T (is_sorted position_cmp es)) (sym is) (is_sorted-where_key position_cmp (λ q. not (eq_by_cmp position_cmp p q)) anchors valid.sorted) in
       record { valid = record { sorted = up; sizes = sizes }; is = map_without position_cmp positions_total positions_exact anchors new p valid.sorted up is }

@@ -1,13 +1,33 @@
 -- Lists of anchors with their sizes, row by row.
 use Rattle.std.specs.Prelude.{◌+◌, ◌&&◌, ◌||◌, ◌==◌, ℕ, Bool, true, if◌then◌else◌, List, [], ◌∷◌, map, nat_le, nat_lt, not}
-use Rattle.std.specs.List.{filter, list_all, list_any}
+use Rattle.std.specs.FinMap.Entries.{put, where_key}
+use Rattle.std.specs.List.{filter, fold, list_all, list_any}
+use Rattle.std.specs.Ordering.{eq_by_cmp, is_eq}
 use Rattle.tabled_grid.specs.declared.config.position.Position.{Position}
 use Rattle.tabled_grid.specs.Rectangles.{in_rect}
 use Rattle.tabled_grid.specs.Entity.{same_place}
+use Rattle.tabled_grid.specs.Spans.{position_cmp}
 
 -- a place, and the height and the width of the rectangle that is anchored there
 abbrev pub Anchor : Type 0
 Anchor = Position × (ℕ × ℕ)
+
+-- the anchors with a size at a place, where the size of one cell is no anchor
+abbrev pub with_size_in : List Anchor → Anchor → List Anchor
+with_size_in es e = if (e.1.0 == 1) && (e.1.1 == 1) then where_key position_cmp (λ p. not (eq_by_cmp position_cmp e.0 p)) es else put position_cmp e.0 e.1 es
+
+-- the anchors with one size after another
+abbrev pub with_sizes_in : List Anchor → List Anchor → List Anchor
+with_sizes_in es sizes = fold with_size_in es sizes
+
+-- an anchor of a size, of which the size of one cell is none
+abbrev pub anchor_of : Anchor → List Anchor
+anchor_of e = if (e.1.0 == 1) && (e.1.1 == 1) then [] else e ∷ []
+
+-- sorted anchors without the first one, if that is at a place
+abbrev pub without_first_at : Position → List Anchor → List Anchor
+without_first_at p [] = []
+without_first_at p (e ∷ es) = if is_eq (position_cmp e.0 p) then es else e ∷ es
 
 -- another anchor's rectangle holds the place
 abbrev pub is_hidden_in : List Anchor → Position → Bool

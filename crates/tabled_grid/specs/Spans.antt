@@ -3,7 +3,7 @@ use Rattle.std.specs.Prelude.{◌≡◌, ◌<◌, ◌≤◌, ◌⊎◌, ◌==◌
 use Rattle.std.specs.Coded.{Coded, code_by, coded×, coded_ℕ}
 use Rattle.std.specs.FinMap as map
 use Rattle.std.specs.FinMap.{FinMap, get, is_sorted}
-use Rattle.std.specs.List.{AllByRecursion}
+use Rattle.std.specs.List.{AllByRecursion, fold}
 use Rattle.std.specs.Option.{unwrap_or}
 use Rattle.std.specs.Ordering.{nat_cmp, ordering_then}
 use Rattle.std.specs.declared.cmp.Ordering.{Ordering}
@@ -47,6 +47,15 @@ pub record AreAnchors (anchors : List (Position × (ℕ × ℕ))) : Type 0 where
 -- the map with a size at a place, where the size of one cell is no anchor
 abbrev pub with_size : SpanMap → Position → ℕ × ℕ → SpanMap
 with_size m p size = if (size.0 == 1) && (size.1 == 1) then map.remove m p else map.insert m p size
+
+-- a height and a width of at least 1, at some place
+pub record IsSizeAt (change : Position × (ℕ × ℕ)) : Type 0 where
+  pub height : 1 ≤ change.1.0
+  pub width : 1 ≤ change.1.1
+
+-- the map with one size after another, of which the later ones count
+abbrev pub with_sizes : SpanMap → List (Position × (ℕ × ℕ)) → SpanMap
+with_sizes m sizes = fold (λ (k : SpanMap) (s : Position × (ℕ × ℕ)). with_size k s.0 s.1) m sizes
 
 -- the map with a width at a place, of which 0 changes nothing
 abbrev pub with_column_span : SpanMap → Position → ℕ → SpanMap

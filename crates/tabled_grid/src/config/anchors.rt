@@ -1,10 +1,10 @@
 //! Sorted lists of anchors: which are hidden, and whether their rectangles lie well.
 
-ghost use Rattle.std.specs.Prelude.{false, true, ◌≡◌, ◌+◌, ◌≤◌, ◌∷◌, ◌++◌, ℕ, IfOk, T, drop, length, map, nat_lt, not, take};
+ghost use Rattle.std.specs.Prelude.{false, true, ◌≡◌, ◌+◌, ◌≤◌, ◌∷◌, ◌++◌, ℕ, IfOk, OnOk, T, drop, length, map, nat_lt, not, take};
 ghost use Rattle.std.specs.FinMap.{is_sorted};
 ghost use Rattle.std.specs.List.{filter, list_all, list_any};
 ghost use Rattle.std.specs.List.Sorted.{IsBinarySearchResult, IsSearchInRange};
-ghost use Rattle.tabled_grid.specs.Anchors.{dropped, is_hidden_in, is_past, lie_well, lies_inside, marked, meets, unless_held};
+ghost use Rattle.tabled_grid.specs.Anchors.{dropped, is_hidden_in, is_past, lie_well, lies_inside, marked, meets, unless_held, anchor_of, with_sizes_in, without_first_at};
 ghost use Rattle.tabled_grid.specs.Rectangles.{heights_in, in_rect, reaches_across, reaches_down, widths_in};
 ghost use Rattle.tabled_grid.specs.Entity.{same_place};
 ghost use Rattle.tabled_grid.specs.Spans.{AreAnchors, position_cmp};
@@ -256,4 +256,60 @@ pub(super) fn fit(anchors: &[Anchor], rows: usize, columns: usize) -> bool
         }
     }
     true
+}
+
+/// The anchors of a sorted list with the sizes that another one sets. Both are gone through once.
+pub(super) fn merge(
+    alloc: Global,
+    anchors: &[Anchor],
+    sizes: &[Anchor],
+) -> Result<Vec<Anchor>, AllocError>
+    requires anchors { T (is_sorted position_cmp anchors.now) }
+    requires sizes { T (is_sorted position_cmp sizes.now) }
+    ensures { IfOk result (λ merged. merged.items ≡ with_sizes_in anchors.now sizes.now) }
+{
+    let Some(count) = anchors.len().checked_add(sizes.len()) else {
+        return Err(AllocError);
+    };
+    let mut merged = Vec::with_capacity(alloc, count)?;
+    let mut next = 0;
+    for k in 0..sizes.len() {
+        let (pos, size) = sizes[k];
+        while next < anchors.len() && anchors[next].0.cmp(&pos).is_lt() {
+            merged.push(anchors[next])?;
+            next += 1;
+        }
+        next = after(anchors, next, pos);
+        push_anchor(&mut merged, pos, size)?;
+    }
+    merged.extend_from_slice(&anchors[next..])?;
+    Ok(merged)
+}
+
+/// The index of the next anchor, or the one after it if it is at a place.
+fn after(anchors: &[Anchor], next: usize, pos: Position) -> usize
+    requires { next ≤ length anchors.now }
+    ensures within { result ≤ length anchors.now }
+    ensures after { drop result anchors.now ≡ without_first_at pos (drop next anchors.now) }
+{
+    if next < anchors.len() && anchors[next].0.cmp(&pos).is_eq() {
+        next + 1
+    } else {
+        next
+    }
+}
+
+/// Puts an anchor of a size last, unless the size is that of one cell.
+fn push_anchor(
+    anchors: &mut Vec<Anchor>,
+    pos: Position,
+    size: (usize, usize),
+) -> Result<(), AllocError>
+    ensures { OnOk result (anchors.new.items ≡ anchors.old.items ++ anchor_of (pos, size)) }
+{
+    if size == (1, 1) {
+        return Ok(());
+    }
+    anchors.push((pos, size))?;
+    Ok(())
 }

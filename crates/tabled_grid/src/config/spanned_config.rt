@@ -1,9 +1,11 @@
 //! Which cells are merged.
 
-ghost use Rattle.std.specs.Prelude.{◌≡◌, ◌<◌, ◌≤◌, ◌↔◌, ◌⊎◌, ℕ, IfOk, IsOk, IsSome, IsTrue, OnErr, OnOk, SomeIff, length};
+ghost use Rattle.std.specs.Prelude.{◌≡◌, ◌<◌, ◌≤◌, ◌↔◌, ◌⊎◌, ℕ, IfOk, IsOk, IsSome, IsTrue, OnErr, OnOk, SomeIff, T, length};
 ghost use Rattle.std.specs.FinMap as map;
+ghost use Rattle.std.specs.FinMap.{is_sorted};
+ghost use Rattle.std.specs.List.{AllByRecursion};
 ghost use Rattle.tabled_grid.specs.Rectangles.{Fits, column_spans, drop_hidden, is_covered_across, is_covered_down, is_visible, row_spans};
-ghost use Rattle.tabled_grid.specs.Spans.{AreSpanSizes, IsSpanSize, position_cmp, size_at, with_column_span, with_row_span, with_size};
+ghost use Rattle.tabled_grid.specs.Spans.{AreSpanSizes, IsSizeAt, IsSpanSize, position_cmp, size_at, with_column_span, with_row_span, with_size, with_sizes};
 ghost use Rattle.tabled_grid.specs.declared.config.position.Position.{Position};
 
 use crate::config::anchors::{self, Anchor};
@@ -119,6 +121,37 @@ impl SpannedConfig {
         }
         let (_, width) = self.size(pos);
         self.set_size(pos, (height, width))
+    }
+
+    /// Sets the sizes of many rectangles at once, each `(height, width)`, where `(1, 1)` stands for no
+    /// anchor. The places are given row by row, each once.
+    ///
+    /// It costs the anchors and the sizes, where one call each would cost their product. Refused for
+    /// memory, it changes nothing.
+    ///
+    /// Of this project.
+    pub fn set_sizes(
+        &mut self,
+        alloc: Global,
+        sizes: &[(Position, (usize, usize))],
+    ) -> Result<(), AllocError>
+        requires sorted { T (is_sorted position_cmp sizes.now) }
+        requires each { AllByRecursion IsSizeAt sizes.now }
+        ensures ok { OnOk result (self.new ≡ with_sizes self.old sizes.now) }
+        ensures err { OnErr result (self.new ≡ self.old) }
+        ensures sizes { AreSpanSizes self.new }
+    {
+        match anchors::merge(alloc, &self.anchors, sizes) {
+            Ok(merged) => {
+                self.anchors = merged;
+                self.keeps_sizes();
+                Ok(())
+            }
+            Err(error) => {
+                self.keeps_sizes();
+                Err(error)
+            }
+        }
     }
 
     /// The anchors of rectangles wider than one column, and their widths, row by row.

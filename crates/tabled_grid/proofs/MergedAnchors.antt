@@ -1,0 +1,234 @@
+-- Sorted anchors and sorted sizes, merged from the front.
+use Rattle.std.proofs.Common.{◌≡◌, ◌<◌, ◌≤◌, ◌+◌, ℕ, length, drop, get_or, ◌⊎◌, arith, inl, inr, Bool, true, false, cond, List, [], ◌∷◌, ◌++◌, refl, sym, ap, subst, ◌∙◌}
+use Rattle.std.specs.Prelude.{T, not, ◌&&◌, ◌==◌}
+use Rattle.std.specs.declared.cmp.Ordering.{Ordering}
+use Rattle.std.specs.declared.cmp.Ordering.TheVariants.{Less, Equal, Greater}
+use Rattle.std.specs.Ordering.{eq_by_cmp, is_eq, is_lt, ordering_reverse}
+use Rattle.std.specs.FinMap.{from_sorted, is_sorted}
+use Rattle.std.specs.FinMap.Entries.{below_all, by_order, put, where_key}
+use Rattle.std.specs.List.{AllByRecursion}
+use Rattle.std.proofs.lemmas.Bool.{cases_Bool, cases_lt, and_from}
+use Rattle.std.proofs.lemmas.List.{append_assoc, drop_more}
+use Rattle.std.proofs.Math.ListN.{drop_of_length-le}
+use Rattle.std.proofs.Math.Seq.{drop-cons}
+use borrow.Author.Tests.{eq-eqb}
+use Rattle.tabled_grid.proofs.Spans.{Makes, positions_exact, positions_total, with_anchor, without_anchor}
+use Rattle.tabled_grid.proofs.SpanMaps.{halves, less}
+use Rattle.tabled_grid.specs.Anchors.{Anchor, anchor_of, with_size_in, with_sizes_in, without_first_at}
+use Rattle.tabled_grid.specs.Spans.{AreAnchors, IsSizeAt, IsSpanSize, position_cmp, with_size, with_sizes}
+use Rattle.tabled_grid.specs.declared.config.position.Position.{Position}
+
+is_one : Anchor → Bool
+is_one c = (c.1.0 == 1) && (c.1.1 == 1)
+
+differs : Position → Position → Bool
+differs p q = not (eq_by_cmp position_cmp p q)
+
+-- the size in front of anchors that come after it
+pub kept : Anchor → List Anchor → List Anchor
+kept c es = cond (is_one c) es (c ∷ es)
+
+abbrev pub Below : Position → List Anchor → Type 0
+Below p es = T (below_all position_cmp p es)
+
+both : (a b : Bool) → T a → T b → T (a && b)
+both true b p q = q
+both false b p q = p
+
+from_less : (p q : Position) → position_cmp p q ≡ Less → T (is_lt (position_cmp p q))
+from_less p q h = subst (λ r. T (is_lt r)) (sym h) tt
+
+above : (p q : Position) → position_cmp p q ≡ Less → position_cmp q p ≡ Greater
+above p q h = positions_total.antisymm q p ∙ ap ordering_reverse h
+
+-- what is below a place is below all that the place is below
+pub below_more : (p q : Position) (es : List Anchor) → position_cmp p q ≡ Less → Below q es → Below p es
+below_more p q [] h b = tt
+below_more p q (e ∷ es) h b = let parts = halves _ _ b in both _ _ (from_less p e.0 (positions_total.trans p q e.0 h (less _ parts.0))) (below_more p q es h parts.1)
+
+-- a size at a place after the first anchor leaves that anchor first
+after_first : (e c : Anchor) (es : List Anchor) → position_cmp e.0 c.0 ≡ Less → with_size_in (e ∷ es) c ≡ e ∷ with_size_in es c
+unfolding is_one differs
+after_first e c es h = either (cases_Bool (is_one c))
+  where
+    either : (is_one c ≡ true) ⊎ (is_one c ≡ false) → with_size_in (e ∷ es) c ≡ e ∷ with_size_in es c
+    either (inl t) = rw (t, above e.0 c.0 h) refl
+    either (inr f) = rw (f, above e.0 c.0 h) refl
+
+-- sizes after the first anchor leave it first
+pub first_stays : (e : Anchor) (es sizes : List Anchor) → Below e.0 sizes → with_sizes_in (e ∷ es) sizes ≡ e ∷ with_sizes_in es sizes
+first_stays e es [] b = refl
+first_stays e es (c ∷ sizes) b =
+    let parts = halves _ _ b in
+    ap (λ xs. with_sizes_in xs sizes) (after_first e c es (less _ parts.0)) ∙ first_stays e (with_size_in es c) sizes parts.1
+
+-- no anchor after a place is at it
+none_at : (p : Position) (es : List Anchor) → Below p es → where_key position_cmp (differs p) es ≡ es
+unfolding differs
+none_at p [] b = refl
+none_at p (e ∷ es) b =
+    let parts = halves _ _ b in
+    let first : position_cmp p e.0 ≡ Less = less _ parts.0 in
+    rw first (ap (λ xs. e ∷ xs) (none_at p es parts.1))
+
+-- a size before all anchors
+pub before : (c : Anchor) (es : List Anchor) → Below c.0 es → with_size_in es c ≡ kept c es
+unfolding kept is_one differs
+before c es b = either (cases_Bool (is_one c))
+  where
+    put_first : (xs : List Anchor) → Below c.0 xs → put position_cmp c.0 c.1 xs ≡ c ∷ xs
+    put_first [] below = refl
+    put_first (x ∷ xs) below = let first : position_cmp c.0 x.0 ≡ Less = less _ (halves _ _ below).0 in rw first refl
+
+    either : (is_one c ≡ true) ⊎ (is_one c ≡ false) → with_size_in es c ≡ kept c es
+    either (inl t) = rw t (none_at c.0 es b)
+    either (inr f) = rw f (put_first es b)
+
+-- a size at the place of the first anchor
+pub here : (c e : Anchor) (es : List Anchor) → position_cmp e.0 c.0 ≡ Equal → Below e.0 es → with_size_in (e ∷ es) c ≡ kept c es
+unfolding kept is_one differs
+here c e es same b = either (cases_Bool (is_one c))
+  where
+    at : e.0 ≡ c.0
+    at = positions_exact e.0 c.0 same
+
+    tied : position_cmp c.0 e.0 ≡ Equal
+    tied = positions_total.antisymm c.0 e.0 ∙ ap ordering_reverse same
+
+    either : (is_one c ≡ true) ⊎ (is_one c ≡ false) → with_size_in (e ∷ es) c ≡ kept c es
+    either (inl t) = rw (t, tied) (none_at c.0 es (subst (λ p. Below p es) at b))
+    either (inr f) = rw (f, tied) (ap (λ p. (p, c.1) ∷ es) at)
+
+-- what is kept of a size stands in front of what follows
+behind : (c : Anchor) (merged rest : List Anchor) → (merged ++ anchor_of c) ++ rest ≡ merged ++ kept c rest
+unfolding kept is_one
+behind c merged rest = either (cases_Bool (is_one c))
+  where
+    either : (is_one c ≡ true) ⊎ (is_one c ≡ false) → (merged ++ anchor_of c) ++ rest ≡ merged ++ kept c rest
+    either (inl t) = rw t (append_assoc merged [] rest)
+    either (inr f) = rw f (append_assoc merged (c ∷ []) rest)
+
+-- sizes after one that was set leave it first
+pub kept_stays : (c : Anchor) (es sizes : List Anchor) → Below c.0 sizes → with_sizes_in (kept c es) sizes ≡ kept c (with_sizes_in es sizes)
+unfolding kept
+kept_stays c es sizes b = either (cases_Bool (is_one c))
+  where
+    either : (is_one c ≡ true) ⊎ (is_one c ≡ false) → with_sizes_in (kept c es) sizes ≡ kept c (with_sizes_in es sizes)
+    either (inl t) = rw t refl
+    either (inr f) = rw f (first_stays c es sizes b)
+
+-- no anchor is before a place, where the first is not
+pub starts_from : Position → List Anchor → Bool
+starts_from p [] = true
+starts_from p (e ∷ es) = not (is_lt (position_cmp e.0 p))
+
+-- a size where no anchor is before it
+at_front : (c : Anchor) (es : List Anchor) → T (is_sorted position_cmp es) → T (starts_from c.0 es) → with_size_in es c ≡ kept c (without_first_at c.0 es)
+unfolding starts_from
+at_front c [] up from = before c [] tt
+at_front c (e ∷ es) up from = either (position_cmp e.0 c.0) refl from
+  where
+    either : (o : Ordering) → position_cmp e.0 c.0 ≡ o → T (not (is_lt o)) → with_size_in (e ∷ es) c ≡ kept c (cond (is_eq o) es (e ∷ es))
+    either Less is below = absurd below
+    either Equal is below = here c e es is (halves _ _ up).0
+    either Greater is below =
+        let first : position_cmp c.0 e.0 ≡ Less = positions_total.antisymm c.0 e.0 ∙ ap ordering_reverse is in
+        before c (e ∷ es) (both _ _ (from_less c.0 e.0 first) (below_more c.0 e.0 es first (halves _ _ up).0))
+
+rest_sorted : (c : Anchor) (es : List Anchor) → T (is_sorted position_cmp es) → T (is_sorted position_cmp (without_first_at c.0 es))
+rest_sorted c [] up = tt
+rest_sorted c (e ∷ es) up = elim (is_eq (position_cmp e.0 c.0)) as (λ b. T (is_sorted position_cmp (cond b es (e ∷ es)))) [ true ↦ (halves _ _ up).1 | false ↦ up ]
+
+-- from the next anchor on none is before a place, where it is not, or there is none left
+pub starts_at : (anchors : List Anchor) (next : ℕ) (d : Anchor) (p : Position) → next < length anchors → is_lt (position_cmp (get_or anchors next d).0 p) ≡ false → T (starts_from p (drop next anchors))
+unfolding starts_from
+starts_at anchors next d p within late = rw (drop-cons anchors next d within) (subst (λ b. T (not b)) (sym late) tt)
+
+pub starts_past : (anchors : List Anchor) (next : ℕ) (p : Position) → length anchors ≤ next → T (starts_from p (drop next anchors))
+unfolding starts_from
+starts_past anchors next p past = rw (drop_of_length-le anchors past) tt
+
+-- the sizes left, set on the anchors left, stand behind what is merged
+pub record IsMerged (merged anchors sizes all_anchors all_sizes : List Anchor) : Type 0 where
+  pub sorted : T (is_sorted position_cmp anchors)
+  pub sizes_sorted : T (is_sorted position_cmp sizes)
+  pub is : merged ++ with_sizes_in anchors sizes ≡ with_sizes_in all_anchors all_sizes
+
+pub begun : (anchors sizes : List Anchor) → T (is_sorted position_cmp anchors) → T (is_sorted position_cmp sizes) → IsMerged [] anchors sizes anchors sizes
+begun anchors sizes up rising = record { sorted = up; sizes_sorted = rising; is = refl }
+
+module _ (merged all_anchors all_sizes : List Anchor) where
+  -- an anchor before the next size
+  pub anchor_passed : (e c : Anchor) (es cs : List Anchor) → position_cmp e.0 c.0 ≡ Less → IsMerged merged (e ∷ es) (c ∷ cs) all_anchors all_sizes → IsMerged (merged ++ (e ∷ [])) es (c ∷ cs) all_anchors all_sizes
+  anchor_passed e c es cs first m =
+      let later : Below e.0 (c ∷ cs) = both _ _ (from_less e.0 c.0 first) (below_more e.0 c.0 cs first (halves _ _ m.sizes_sorted).0) in
+      record {
+        sorted = (halves _ _ m.sorted).1;
+        sizes_sorted = m.sizes_sorted;
+        is = append_assoc merged (e ∷ []) _ ∙ ap (λ xs. merged ++ xs) (sym (first_stays e es (c ∷ cs) later)) ∙ m.is;
+      }
+
+  -- a size, where no anchor left is before it
+  pub size_passed : (c : Anchor) (es cs : List Anchor) → T (starts_from c.0 es) → IsMerged merged es (c ∷ cs) all_anchors all_sizes → IsMerged (merged ++ anchor_of c) (without_first_at c.0 es) cs all_anchors all_sizes
+  unfolding kept starts_from
+  size_passed c es cs from m =
+      let step : with_size_in es c ≡ kept c (without_first_at c.0 es) = at_front c es m.sorted from in
+      record {
+        sorted = rest_sorted c es m.sorted;
+        sizes_sorted = (halves _ _ m.sizes_sorted).1;
+        is = behind c merged (with_sizes_in (without_first_at c.0 es) cs) ∙ ap (λ xs. merged ++ xs) (sym (kept_stays c (without_first_at c.0 es) cs (halves _ _ m.sizes_sorted).0) ∙ ap (λ xs. with_sizes_in xs cs) (sym step)) ∙ m.is;
+      }
+
+abbrev HasSize : Anchor → Type 0
+HasSize e = IsSpanSize e.1
+
+-- a size that is not that of one cell
+span_size : (c : Anchor) → IsSizeAt c → is_one c ≡ false → IsSpanSize c.1
+unfolding is_one
+span_size c size other = record { height = size.height; width = size.width; merges = either (cases_lt 1 c.1.0) (cases_lt 1 c.1.1) }
+  where
+    either : (1 < c.1.0) ⊎ (c.1.0 ≤ 1) → (1 < c.1.1) ⊎ (c.1.1 ≤ 1) → (1 < c.1.0) ⊎ (1 < c.1.1)
+    either (inl h) w = inl h
+    either (inr h) (inl w) = inr w
+    either (inr h) (inr w) =
+        let one : ((c.1.0 == 1) && (c.1.1 == 1)) ≡ true = and_from _ _ (eq-eqb c.1.0 1 (omega (arith, size.height))) (eq-eqb c.1.1 1 (omega (arith, size.width))) in
+        let never : false ≡ true = sym other ∙ one in cc
+
+sizes_put : (p : Position) (size : ℕ × ℕ) (es : List Anchor) → IsSpanSize size → AllByRecursion HasSize es → AllByRecursion HasSize (put position_cmp p size es)
+sizes_put p size [] ok all = (ok, tt)
+sizes_put p size (e ∷ es) ok all = elim (position_cmp p e.0) as (λ o. AllByRecursion HasSize (by_order o ((p, size) ∷ e ∷ es) ((e.0, size) ∷ es) (e ∷ put position_cmp p size es))) [
+  | Less ↦ (ok, all)
+  | Equal ↦ (ok, all.1)
+  | Greater ↦ (all.0, sizes_put p size es ok all.1)
+]
+
+sizes_where : (q : Position → Bool) (es : List Anchor) → AllByRecursion HasSize es → AllByRecursion HasSize (where_key position_cmp q es)
+sizes_where q [] all = tt
+sizes_where q (e ∷ es) all = elim (q e.0) as (λ b. AllByRecursion HasSize (cond b (e ∷ where_key position_cmp q es) (where_key position_cmp q es))) [ true ↦ (all.0, sizes_where q es all.1) | false ↦ sizes_where q es all.1 ]
+
+-- a list of anchors with a size makes the map with that size
+with_size_makes : (es : List Anchor) (c : Anchor) → AreAnchors es → IsSizeAt c → Makes (with_size_in es c) (with_size (from_sorted es) c.0 c.1)
+unfolding is_one
+with_size_makes es c valid size = either (cases_Bool (is_one c))
+  where
+    either : (is_one c ≡ true) ⊎ (is_one c ≡ false) → Makes (with_size_in es c) (with_size (from_sorted es) c.0 c.1)
+    either (inl t) = rw t (without_anchor es valid c.0 (where_key position_cmp (λ q. not (eq_by_cmp position_cmp c.0 q)) es) (sizes_where _ es valid.sizes) refl)
+    either (inr f) = rw f (with_anchor es valid c.0 (put position_cmp c.0 c.1 es) c.1 (sizes_put c.0 c.1 es (span_size c size f) valid.sizes) refl)
+
+pub with_sizes_make : (es sizes : List Anchor) → AreAnchors es → AllByRecursion IsSizeAt sizes → Makes (with_sizes_in es sizes) (with_sizes (from_sorted es) sizes)
+with_sizes_make es [] valid all = record { valid = valid; is = refl }
+with_sizes_make es (c ∷ sizes) valid all =
+    let one = with_size_makes es c valid all.0 in
+    let rest = with_sizes_make (with_size_in es c) sizes one.valid all.1 in
+    record { valid = rest.valid; is = rest.is ∙ ap (λ m. with_sizes m sizes) one.is }
+
+-- the same at two places of the lists
+module _ (merged anchors sizes : List Anchor) (next k : ℕ) (d : Anchor) where
+  pub anchor_step : next < length anchors → k < length sizes → is_lt (position_cmp (get_or anchors next d).0 (get_or sizes k d).0) ≡ true → IsMerged merged (drop next anchors) (drop k sizes) anchors sizes → IsMerged (merged ++ (get_or anchors next d ∷ [])) (drop (next + 1) anchors) (drop k sizes) anchors sizes
+  anchor_step within here first m =
+      rw (drop_more sizes k d here)
+      (anchor_passed merged anchors sizes (get_or anchors next d) (get_or sizes k d) (drop (next + 1) anchors) (drop (k + 1) sizes) (less _ (subst T (sym first) tt))
+      (rw (← drop_more sizes k d here, ← drop_more anchors next d within) m))
+
+  pub size_step : (rest : List Anchor) → k < length sizes → T (starts_from (get_or sizes k d).0 (drop next anchors)) → rest ≡ without_first_at (get_or sizes k d).0 (drop next anchors) → IsMerged merged (drop next anchors) (drop k sizes) anchors sizes → IsMerged (merged ++ anchor_of (get_or sizes k d)) rest (drop (k + 1) sizes) anchors sizes
+  size_step rest here from is m = rw is (size_passed merged anchors sizes (get_or sizes k d) (drop next anchors) (drop (k + 1) sizes) from (rw (← drop_more sizes k d here) m))
