@@ -5,8 +5,9 @@ use Rattle.std.specs.List.{fold, list_all, range_with_len}
 use Rattle.std.specs.Option.{unwrap_or}
 use Rattle.tabled_grid.specs.Entity.{inside, place}
 use Rattle.tabled_grid.specs.Grid.{Grid, cell_at, map_grid}
+use Rattle.tabled_grid.specs.Midway.{Flat, Narrow}
 use Rattle.tabled_grid.specs.Rectangles.{drop_hidden, is_visible}
-use Rattle.tabled_grid.specs.Spans.{SpanMap, with_column_span, with_row_span}
+use Rattle.tabled_grid.specs.Spans.{SpanMap, size_at, with_column_span, with_row_span}
 use Rattle.tabled_grid.specs.declared.config.entity.Entity.{Entity}
 use Rattle.tabled_grid.specs.declared.config.position.Position.{Position}
 use Rattle.tabled_grid.specs.declared.records.axis.Axis.{Axis}
@@ -119,3 +120,8 @@ pub record SpansFirst {A : Type 0} (text_of : A → List ℕ) (axis : Axis) (siz
   pub texts : FirstWritten (span_writes axis size e (map_grid text_of g)) (map_grid text_of g) (map_grid text_of h)
   pub cells : pos 0 <ℤ size → h ≡ g
   pub spans : k ≡ c
+
+-- no rectangle has more than one line: one column for spans of rows, one row for spans of columns
+abbrev pub IsFlat : Axis → SpanMap → Type 0
+IsFlat Rows m = Narrow (size_at m)
+IsFlat Columns m = Flat (size_at m)
