@@ -1,2 +1,9 @@
 //! Tests of the options that merge cells, by public calls alone.
 #![tactic(auto)]
+
+#[cfg(test)]
+mod refusing;
+#[cfg(test)]
+mod spans;
+#[cfg(test)]
+mod tables;

@@ -1,0 +1,5 @@
+pub mod FreeCells
+pub mod RisingPlaces
+pub mod SpanChanges
+pub mod SpanGeometry
+pub mod SpanWrites

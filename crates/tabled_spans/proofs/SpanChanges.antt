@@ -1,0 +1,118 @@
+-- Sizes that are set at rising places, and what spans make of them.
+use Rattle.std.proofs.Common.{◌≡◌, ℕ, ◌-◌, ◌<◌, ◌≤◌, ◌≢◌, ◌⊎◌, inl, inr, true, false, List, [], ◌∷◌, ◌++◌, Some, None, Option, refl, sym, ap, subst, ◌∙◌, append_assoc, arith}
+use Rattle.std.proofs.lemmas.List.{append-nil}
+use Rattle.std.specs.Prelude.{T, min, SomeIff}
+use Rattle.std.specs.FinMap.{is_sorted}
+use Rattle.std.specs.FinMap.Entries.{below_all}
+use Rattle.std.specs.List.{AllByRecursion, list_all}
+use Rattle.std.specs.Option.{unwrap_or}
+use Rattle.std.specs.Ordering.{is_eq}
+use Rattle.std.specs.declared.cmp.Ordering.TheVariants.{Less}
+use Rattle.std.proofs.lemmas.Bool.{cases_Bool}
+use Rattle.std.proofs.lemmas.Cmp.{tied_itself}
+use Rattle.tabled_grid.specs.Anchors.{Anchor}
+use Rattle.tabled_grid.specs.Covers.{cover_of}
+use Rattle.tabled_grid.specs.Rectangles.{is_visible}
+use Rattle.tabled_grid.specs.Spans.{IsSizeAt, SpanMap, position_cmp, size_at, with_size, with_sizes}
+use Rattle.tabled_grid.specs.declared.config.position.Position.{Position}
+use Rattle.tabled_grid.specs.declared.records.axis.Axis.{Axis}
+use Rattle.tabled_grid.specs.declared.records.axis.Axis.TheVariants.{Rows, Columns}
+use Rattle.tabled_grid.proofs.Merging.{column_span-is, row_span-is}
+use Rattle.tabled_grid.proofs.SpanMaps.{halves, less, size_at-with_size-other}
+use Rattle.tabled_grid.proofs.Spans.{positions_total}
+use Rattle.tabled_spans.specs.Spanned.{count_of, grown_each, index, stretch, with_span, with_visible_span}
+use Rattle.tabled_spans.specs.SpanSteps.{change_at, line_of, lines_of, resized}
+use Rattle.tabled_spans.proofs.RisingPlaces.{both}
+
+pub with_sizes-append : (m : SpanMap) (xs ys : List Anchor) → with_sizes m (xs ++ ys) ≡ with_sizes (with_sizes m xs) ys
+with_sizes-append m [] ys = refl
+with_sizes-append m (x ∷ xs) ys = with_sizes-append (with_size m x.0 x.1) xs ys
+
+-- what stands below all of a list stands below each of it
+below_here : (k : Position) (xs : List Anchor) (p : Position) (s : ℕ × ℕ) (rest : List Anchor) → T (below_all position_cmp k (xs ++ (p, s) ∷ rest)) → position_cmp k p ≡ Less
+below_here k [] p s rest b = less _ (halves _ _ b).0
+below_here k (x ∷ xs) p s rest b = below_here k xs p s rest (halves _ _ b).1
+
+below_set : (k : Position) (xs : List Anchor) (p : Position) (s t : ℕ × ℕ) (rest : List Anchor) → T (below_all position_cmp k (xs ++ (p, s) ∷ rest)) → T (below_all position_cmp k (xs ++ (p, t) ∷ rest))
+below_set k [] p s t rest b = b
+below_set k (x ∷ xs) p s t rest b = both _ _ (halves _ _ b).0 (below_set k xs p s t rest (halves _ _ b).1)
+
+below_skip : (k : Position) (xs : List Anchor) (p : Position) (s : ℕ × ℕ) (rest : List Anchor) → T (below_all position_cmp k (xs ++ (p, s) ∷ rest)) → T (below_all position_cmp k (xs ++ rest))
+below_skip k [] p s rest b = (halves _ _ b).1
+below_skip k (x ∷ xs) p s rest b = both _ _ (halves _ _ b).0 (below_skip k xs p s rest (halves _ _ b).1)
+
+sorted_set : (xs : List Anchor) (p : Position) (s t : ℕ × ℕ) (rest : List Anchor) → T (is_sorted position_cmp (xs ++ (p, s) ∷ rest)) → T (is_sorted position_cmp (xs ++ (p, t) ∷ rest))
+sorted_set [] p s t rest up = up
+sorted_set (x ∷ xs) p s t rest up = both _ _ (below_set x.0 xs p s t rest (halves _ _ up).0) (sorted_set xs p s t rest (halves _ _ up).1)
+
+sorted_skip : (xs : List Anchor) (p : Position) (s : ℕ × ℕ) (rest : List Anchor) → T (is_sorted position_cmp (xs ++ (p, s) ∷ rest)) → T (is_sorted position_cmp (xs ++ rest))
+sorted_skip [] p s rest up = (halves _ _ up).1
+sorted_skip (x ∷ xs) p s rest up = both _ _ (below_skip x.0 xs p s rest (halves _ _ up).0) (sorted_skip xs p s rest (halves _ _ up).1)
+
+-- sizes set at places before do not touch a place
+pub size-before : (m : SpanMap) (xs : List Anchor) (p : Position) (s : ℕ × ℕ) (rest : List Anchor) → T (is_sorted position_cmp (xs ++ (p, s) ∷ rest)) → size_at (with_sizes m xs) p ≡ size_at m p
+size-before m [] p s rest up = refl
+size-before m (x ∷ xs) p s rest up = size-before (with_size m x.0 x.1) xs p s rest (halves _ _ up).1 ∙ size_at-with_size-other m x.0 x.1 p apart
+  where
+    apart : p ≢ x.0
+    apart e =
+        let below : position_cmp p p ≡ Less = subst (λ (q : Position). position_cmp q p ≡ Less) (sym e) (below_here x.0 xs p s rest (halves _ _ up).0) in
+        let never : false ≡ true = sym (ap is_eq below) ∙ ap is_eq (tied_itself positions_total p) in cc
+
+-- a height or a width of at least 1 is a size
+pub span-is : (axis : Axis) (m : SpanMap) (p : Position) (many : ℕ) → 1 ≤ many → with_span axis m p many ≡ with_size m p (resized axis (size_at m p) many)
+span-is Rows m p many some = row_span-is m p many some
+span-is Columns m p many some = column_span-is m p many some
+
+-- the change at a place makes the span there
+pub change-is : (axis : Axis) (m : SpanMap) (p : Position) (many : ℕ) → 1 ≤ many → with_sizes m (change_at axis m p many) ≡ with_visible_span axis m p many
+change-is axis m p many some = either (cases_Bool (list_all (is_visible m) (stretch axis p (index axis p) many)))
+  where
+    either : (list_all (is_visible m) (stretch axis p (index axis p) many) ≡ true) ⊎ (list_all (is_visible m) (stretch axis p (index axis p) many) ≡ false) → with_sizes m (change_at axis m p many) ≡ with_visible_span axis m p many
+    either (inl t) = rw t (sym (span-is axis m p many some))
+    either (inr f) = rw f refl
+
+-- after the change at a place, the next places still rise
+pub sorted-change : (axis : Axis) (m : SpanMap) (p : Position) (many : ℕ) (xs rest : List Anchor) → T (is_sorted position_cmp (xs ++ (p, (1, 1)) ∷ rest)) → T (is_sorted position_cmp ((xs ++ change_at axis m p many) ++ rest))
+sorted-change axis m p many xs rest up = subst (λ (es : List Anchor). T (is_sorted position_cmp es)) (sym (append_assoc xs (change_at axis m p many) rest)) (either (cases_Bool (list_all (is_visible m) (stretch axis p (index axis p) many))))
+  where
+    either : (list_all (is_visible m) (stretch axis p (index axis p) many) ≡ true) ⊎ (list_all (is_visible m) (stretch axis p (index axis p) many) ≡ false) → T (is_sorted position_cmp (xs ++ (change_at axis m p many ++ rest)))
+    either (inl t) = rw t (sorted_set xs p (1, 1) (resized axis (size_at m p) many) rest up)
+    either (inr f) = rw f (sorted_skip xs p (1, 1) rest up)
+
+pub all-more : (xs ys : List Anchor) → AllByRecursion IsSizeAt xs → AllByRecursion IsSizeAt ys → AllByRecursion IsSizeAt (xs ++ ys)
+all-more [] ys h k = k
+all-more (x ∷ xs) ys h k = (h.0, all-more xs ys h.1 k)
+
+-- a number above 1, or else 1
+pub or_one : (o : Option ℕ) (n : ℕ) → SomeIff o (1 < n) n → 1 ≤ n → unwrap_or o 1 ≡ n
+or_one (Some k) n is some = is.1
+or_one None n is some = omega arith
+
+pub change-none : (axis : Axis) (m : SpanMap) (p : Position) (many : ℕ) (xs : List Anchor) → list_all (is_visible m) (stretch axis p (index axis p) many) ≡ false → xs ≡ xs ++ change_at axis m p many
+change-none axis m p many xs f = rw f (sym (append-nil xs))
+
+pub cover-none : (axis : Axis) (m : SpanMap) (p : Position) (many : ℕ) → list_all (is_visible m) (stretch axis p (index axis p) many) ≡ false → m ≡ with_sizes m (change_at axis m p many)
+cover-none axis m p many f = rw f refl
+
+pub change-one : (axis : Axis) (m : SpanMap) (p : Position) (many : ℕ) → list_all (is_visible m) (stretch axis p (index axis p) many) ≡ true → change_at axis m p many ≡ (p, resized axis (size_at m p) many) ∷ []
+change-one axis m p many t = rw t refl
+
+-- the change at a place, and spans at those that follow
+pub changes-more : (cfg : SpanMap) (xs new : List Anchor) (p : Position) (rest : List Position) (axis : Axis) (size n many : ℕ) → many ≡ min size (n - index axis p) → 1 ≤ many → new ≡ xs ++ change_at axis (with_sizes cfg xs) p many → grown_each axis size n (with_sizes cfg new) rest ≡ grown_each axis size n (with_sizes cfg xs) (p ∷ rest)
+changes-more cfg xs new p rest axis size n many is some added =
+    let m = with_sizes cfg xs in
+    ap (λ (es : List Anchor). grown_each axis size n (with_sizes cfg es) rest) added
+    ∙ ap (λ (k : SpanMap). grown_each axis size n k rest) (with_sizes-append cfg xs (change_at axis m p many) ∙ change-is axis m p many some ∙ ap (with_visible_span axis m p) is)
+
+pub line_within : (axis : Axis) (p : Position) (rows columns : ℕ) → p.row < rows → p.col < columns → line_of axis p < lines_of axis rows columns
+line_within Rows p rows columns row col = col
+line_within Columns p rows columns row col = row
+
+pub index_within : (axis : Axis) (p : Position) (rows columns : ℕ) → p.row < rows → p.col < columns → index axis p < count_of axis rows columns
+index_within Rows p rows columns row col = row
+index_within Columns p rows columns row col = col
+
+-- what the cover map follows
+pub cover-change : (cfg : SpanMap) (xs new : List Anchor) (axis : Axis) (p : Position) (many rows columns : ℕ) → new ≡ xs ++ change_at axis (with_sizes cfg xs) p many → cover_of (with_sizes (with_sizes cfg xs) (change_at axis (with_sizes cfg xs) p many)) rows columns ≡ cover_of (with_sizes cfg new) rows columns
+cover-change cfg xs new axis p many rows columns added = ap (λ (m : SpanMap). cover_of m rows columns) (sym (ap (with_sizes cfg) added ∙ with_sizes-append cfg xs (change_at axis (with_sizes cfg xs) p many)))

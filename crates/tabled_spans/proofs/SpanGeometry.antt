@@ -1,0 +1,137 @@
+-- How merged cells lie after spans.
+use Rattle.std.proofs.Common.{◌≡◌, Option, ℕ, zero, suc, ◌+◌, ◌-◌, ◌<◌, ◌≤◌, ◌⊎◌, inl, inr, true, false, List, [], ◌∷◌, Some, None, refl, ap, ◌∙◌, take, arith}
+use Rattle.std.specs.Prelude.{ℤ, pos, negsuc, min, ◌<ℤ◌}
+use Rattle.std.specs.List.{AllByRecursion, list_all}
+use Rattle.std.proofs.lemmas.Bool.{cases_Bool}
+use Rattle.tabled_grid.specs.Entity.{inside}
+use Rattle.tabled_grid.specs.Grid.{Grid, map_grid, with_cell}
+use Rattle.tabled_grid.specs.Midway.{Midway, Within}
+use Rattle.tabled_grid.specs.Rectangles.{Fits, drop_hidden, is_visible}
+use Rattle.tabled_grid.specs.Spans.{AreSpanSizes, SpanMap, size_at}
+use Rattle.tabled_grid.specs.declared.config.entity.Entity.{Entity}
+use Rattle.tabled_grid.specs.declared.config.position.Position.{Position}
+use Rattle.tabled_grid.specs.declared.records.axis.Axis.{Axis}
+use Rattle.tabled_grid.specs.declared.records.axis.Axis.TheVariants.{Rows, Columns}
+use Rattle.tabled_grid.proofs.Merging.{fits_dropped, flat_column_span, flat_dropped, fold-keeps, midway, midway_flat, midway_heightened, midway_narrow, midway_widened, narrow_dropped, narrow_row_span, sizes_heightened, sizes_widened, within_high, within_wide}
+use Rattle.tabled_grid.proofs.Places.{inside-within}
+use Rattle.tabled_options.specs.Does.{OptionKeeps}
+use Rattle.tabled_options.specs.Writes.{Write, with_writes}
+use Rattle.tabled_spans.specs.Spanned.{IsFlat, Spans, SpansFirst, at_index, count_of, grown, grown_at, grown_each, index, pulled, pulled_at, span_writes, spanned, stretch, taken, with_span}
+use Rattle.tabled_spans.proofs.FreeCells.{all_pass}
+use Rattle.tabled_spans.proofs.SpanChanges.{index_within}
+
+-- a span over visible cells of a table keeps what holds in the middle
+midway_visible : (axis : Axis) (m : SpanMap) (p : Position) (many rows columns : ℕ) → 1 ≤ many → p.row < rows → p.col < columns → index axis p + many ≤ count_of axis rows columns → list_all (is_visible m) (stretch axis p (index axis p) many) ≡ true → Midway m rows columns → Midway (with_span axis m p many) rows columns
+midway_visible Columns m p many rows columns some row col fits all mid = midway_widened m p many some rows columns row fits (all_pass (is_visible m) Columns p p.col many all) mid
+midway_visible Rows m p many rows columns some row col fits all mid = midway_heightened m p many some rows columns col fits (all_pass (is_visible m) Rows p p.row many all) mid
+
+-- what a span over visible cells keeps where it is made, it keeps
+grown-keeps : (P : SpanMap → Type 0) (axis : Axis) (size n : ℕ) (m : SpanMap) (p : Position) → (list_all (is_visible m) (stretch axis p (index axis p) (min size (n - index axis p))) ≡ true → P (with_span axis m p (min size (n - index axis p)))) → P m → P (grown_at axis size n m p)
+grown-keeps P axis size n m p made kept = either (cases_Bool (list_all (is_visible m) (stretch axis p (index axis p) (min size (n - index axis p)))))
+  where
+    either : (list_all (is_visible m) (stretch axis p (index axis p) (min size (n - index axis p))) ≡ true) ⊎ (list_all (is_visible m) (stretch axis p (index axis p) (min size (n - index axis p))) ≡ false) → P (grown_at axis size n m p)
+    either (inl t) = rw t (made t)
+    either (inr f) = rw f kept
+
+midway_grown : (axis : Axis) (size rows columns : ℕ) → 1 ≤ size → (m : SpanMap) (p : Position) → p.row < rows → p.col < columns → Midway m rows columns → Midway (grown_at axis size (count_of axis rows columns) m p) rows columns
+midway_grown axis size rows columns least m p row col mid =
+    let room = index_within axis p rows columns row col in
+    grown-keeps (λ k. Midway k rows columns) axis size (count_of axis rows columns) m p (λ t. midway_visible axis m p (min size (count_of axis rows columns - index axis p)) rows columns (omega arith) row col (omega arith) t mid) mid
+
+-- spans at places of a table, one after another, keep what holds in the middle
+pub midway_each : (axis : Axis) (size : ℕ) (places : List Position) (m : SpanMap) (rows columns : ℕ) → 1 ≤ size → AllByRecursion (λ (p : Position). (p.row < rows) × (p.col < columns)) places → Midway m rows columns → Midway (grown_each axis size (count_of axis rows columns) m places) rows columns
+midway_each axis size places m rows columns least within mid = fold-keeps (λ k. Midway k rows columns) (grown_at axis size (count_of axis rows columns)) rows columns (midway_grown axis size rows columns least) places m within mid
+
+-- spans of size at least 1 keep merged cells inside and apart
+fits_grown : (axis : Axis) (size : ℕ) (e : Entity) (m : SpanMap) (rows columns : ℕ) → 1 ≤ size → Fits m rows columns → Fits (grown axis size e rows columns m) rows columns
+fits_grown axis size e m rows columns least fits = fits_dropped _ rows columns (midway_each axis size (inside e rows columns) m rows columns least (inside-within e rows columns) (midway m rows columns fits))
+
+-- merged cells of one row, or of one column, inside a table
+record AreFlat (axis : Axis) (m : SpanMap) (rows columns : ℕ) : Type 0 where
+  pub sizes : AreSpanSizes m
+  pub flat : IsFlat axis m
+  pub within : Within (size_at m) rows columns
+
+flat_span : (axis : Axis) (m : SpanMap) (p : Position) (many rows columns : ℕ) → 1 ≤ many → p.row < rows → p.col < columns → index axis p + many ≤ count_of axis rows columns → AreFlat axis m rows columns → AreFlat axis (with_span axis m p many) rows columns
+flat_span Columns m p many rows columns some row col fits flat = record { sizes = sizes_widened m p many some flat.sizes; flat = flat_column_span m p many some flat.flat; within = within_wide m p many some rows columns row fits flat.within }
+flat_span Rows m p many rows columns some row col fits flat = record { sizes = sizes_heightened m p many some flat.sizes; flat = narrow_row_span m p many some flat.flat; within = within_high m p many some rows columns col fits flat.within }
+
+flat_grown : (axis : Axis) (size rows columns : ℕ) → 1 ≤ size → (m : SpanMap) (p : Position) → p.row < rows → p.col < columns → AreFlat axis m rows columns → AreFlat axis (grown_at axis size (count_of axis rows columns) m p) rows columns
+flat_grown axis size rows columns least m p row col flat =
+    let room = index_within axis p rows columns row col in
+    grown-keeps (λ k. AreFlat axis k rows columns) axis size (count_of axis rows columns) m p (λ t. flat_span axis m p (min size (count_of axis rows columns - index axis p)) rows columns (omega arith) row col (omega arith) flat) flat
+
+-- the place in another row or column of the table is in the table
+moved : (axis : Axis) (p : Position) (k many rows columns : ℕ) → p.row < rows → p.col < columns → k < count_of axis rows columns → ((at_index axis p k).row < rows) × ((at_index axis p k).col < columns)
+moved Rows p k many rows columns row col h = (h, col)
+moved Columns p k many rows columns row col h = (row, h)
+
+index_moved : (axis : Axis) (p : Position) (k : ℕ) → index axis (at_index axis p k) ≡ k
+index_moved Rows p k = refl
+index_moved Columns p k = refl
+
+-- the cells that a span takes are in its line
+record Takes (cells : ℕ × ℕ) (n : ℕ) : Type 0 where
+  pub some : 1 ≤ cells.1
+  pub within : cells.0 + cells.1 ≤ n
+
+takes : (back : Option ℕ) (n j : ℕ) → j < n → Takes (taken back n j) n
+takes None n j h = record { some = omega arith; within = omega arith }
+takes (Some back) n j h = record { some = omega arith; within = omega arith }
+
+flat_pulled : (axis : Axis) (back : Option ℕ) (rows columns : ℕ) (m : SpanMap) (p : Position) → p.row < rows → p.col < columns → AreFlat axis m rows columns → AreFlat axis (pulled_at axis back (count_of axis rows columns) m p) rows columns
+flat_pulled axis back rows columns m p row col flat =
+    let n = count_of axis rows columns in
+    let cells = taken back n (index axis p) in
+    let t = takes back n (index axis p) (index_within axis p rows columns row col) in
+    let there = moved axis p cells.0 cells.1 rows columns row col (omega (arith, t.some, t.within)) in
+    flat_span axis m (at_index axis p cells.0) cells.1 rows columns t.some there.0 there.1 (rw (index_moved axis p cells.0) t.within) flat
+
+flat_dropped_along : (axis : Axis) (m : SpanMap) (rows columns : ℕ) → AreFlat axis m rows columns → Fits (drop_hidden m) rows columns × IsFlat axis (drop_hidden m)
+flat_dropped_along Columns m rows columns flat = (fits_dropped m rows columns (midway_flat m rows columns flat.sizes flat.flat flat.within), flat_dropped m flat.flat)
+flat_dropped_along Rows m rows columns flat = (fits_dropped m rows columns (midway_narrow m rows columns flat.sizes flat.flat flat.within), narrow_dropped m flat.flat)
+
+-- spans of any size along lines keep merged cells of one line so, inside and apart
+pub flat_spanned : (axis : Axis) (size : ℤ) (e : Entity) (m : SpanMap) (rows columns : ℕ) → Fits m rows columns → IsFlat axis m → Fits (spanned axis size e rows columns m) rows columns × IsFlat axis (spanned axis size e rows columns m)
+flat_spanned axis size e m rows columns fits flat = by_sign size
+  where
+    start : AreFlat axis m rows columns
+    start = record { sizes = fits.sizes; flat = flat; within = (midway m rows columns fits).within }
+
+    all : (back : Option ℕ) → Fits (pulled axis back e rows columns m) rows columns × IsFlat axis (pulled axis back e rows columns m)
+    all back = flat_dropped_along axis _ rows columns (fold-keeps (λ k. AreFlat axis k rows columns) (pulled_at axis back (count_of axis rows columns)) rows columns (flat_pulled axis back rows columns) (inside e rows columns) m (inside-within e rows columns) start)
+
+    by_sign : (s : ℤ) → Fits (spanned axis s e rows columns m) rows columns × IsFlat axis (spanned axis s e rows columns m)
+    by_sign (pos (suc s)) = flat_dropped_along axis _ rows columns (fold-keeps (λ k. AreFlat axis k rows columns) (grown_at axis (suc s) (count_of axis rows columns)) rows columns (flat_grown axis (suc s) rows columns (omega arith)) (inside e rows columns) m (inside-within e rows columns) start)
+    by_sign (pos zero) = all None
+    by_sign (negsuc s) = all (Some (s + 1))
+
+-- writes keep the shape
+record SameShape (g h : Grid (List ℕ)) : Type 0 where
+  pub rows : h.rows ≡ g.rows
+  pub columns : h.columns ≡ g.columns
+
+shape_written : (writes : List Write) (g : Grid (List ℕ)) → SameShape g (with_writes writes g)
+shape_written [] g = record { rows = refl; columns = refl }
+shape_written (w ∷ writes) g = let rest = shape_written writes (with_cell g w.place w.text) in record { rows = rest.rows; columns = rest.columns }
+
+module _ {A : Type 0} (text_of : A → List ℕ) (axis : Axis) (size : ℤ) (e : Entity) (P : SpanMap → ℕ → ℕ → Type 0) where
+  -- what a span keeps of the merged cells of a table, the option keeps, also where it is refused
+  pub option_keeps : ((m : SpanMap) (rows columns : ℕ) → P m rows columns → P (spanned axis size e rows columns m) rows columns) → OptionKeeps (λ (g : Grid A) (c : SpanMap). P c g.rows g.columns) (Spans text_of axis size e) (SpansFirst text_of axis size e)
+  option_keeps keeps = record {
+    done = λ g c h d holds s.
+        let shape = shape_written (span_writes axis size e (map_grid text_of g)) (map_grid text_of g) in
+        let rows : h.rows ≡ g.rows = ap (λ (k : Grid (List ℕ)). k.rows) s.texts ∙ shape.rows in
+        let columns : h.columns ≡ g.columns = ap (λ (k : Grid (List ℕ)). k.columns) s.texts ∙ shape.columns in
+        rw (rows, columns, s.spans) (keeps c g.rows g.columns holds);
+    refused = λ g c h d holds s.
+        let shape = shape_written (take s.texts.count (span_writes axis size e (map_grid text_of g))) (map_grid text_of g) in
+        let rows : h.rows ≡ g.rows = ap (λ (k : Grid (List ℕ)). k.rows) s.texts.is ∙ shape.rows in
+        let columns : h.columns ≡ g.columns = ap (λ (k : Grid (List ℕ)). k.columns) s.texts.is ∙ shape.columns in
+        rw (rows, columns, s.spans) holds;
+  }
+
+pub fits_spanned : (axis : Axis) (size : ℤ) (e : Entity) → pos 0 <ℤ size → (m : SpanMap) (rows columns : ℕ) → Fits m rows columns → Fits (spanned axis size e rows columns m) rows columns
+fits_spanned axis (pos (suc s)) e positive m rows columns fits = fits_grown axis (suc s) e m rows columns (omega arith) fits
+fits_spanned axis (pos zero) e positive m rows columns fits = absurd (omega (arith, positive))
+fits_spanned axis (negsuc s) e positive m rows columns fits = absurd (omega (arith, positive))

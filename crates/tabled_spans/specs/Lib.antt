@@ -1,0 +1,2 @@
+pub mod SpanSteps
+pub mod Spanned

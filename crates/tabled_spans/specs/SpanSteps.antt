@@ -1,0 +1,29 @@
+-- What a span over visible cells changes at one place after another.
+use Rattle.std.specs.Prelude.{ℕ, List, [], ◌∷◌, if◌then◌else◌}
+use Rattle.std.specs.List.{list_all}
+use Rattle.tabled_grid.specs.Anchors.{Anchor}
+use Rattle.tabled_grid.specs.Rectangles.{is_visible}
+use Rattle.tabled_grid.specs.Spans.{SpanMap, size_at}
+use Rattle.tabled_grid.specs.declared.config.position.Position.{Position}
+use Rattle.tabled_grid.specs.declared.records.axis.Axis.{Axis}
+use Rattle.tabled_grid.specs.declared.records.axis.Axis.TheVariants.{Rows, Columns}
+use Rattle.tabled_spans.specs.Spanned.{index, stretch}
+
+-- the column that a span of rows goes down at a place, or the row that one of columns goes along
+abbrev pub line_of : Axis → Position → ℕ
+line_of Rows p = p.col
+line_of Columns p = p.row
+
+-- how many of these there are
+abbrev pub lines_of : Axis → ℕ → ℕ → ℕ
+lines_of Rows rows columns = columns
+lines_of Columns rows columns = rows
+
+-- the size with so many rows or columns
+abbrev pub resized : Axis → ℕ × ℕ → ℕ → ℕ × ℕ
+resized Rows size many = (many, size.1)
+resized Columns size many = (size.0, many)
+
+-- the new size at a place, if so many cells from there on are all visible
+abbrev pub change_at : Axis → SpanMap → Position → ℕ → List Anchor
+change_at axis m p many = if list_all (is_visible m) (stretch axis p (index axis p) many) then (p, resized axis (size_at m p) many) ∷ [] else []

@@ -1,0 +1,167 @@
+//! Spans over visible cells, from a place on.
+
+ghost use Rattle.std.specs.Prelude.{◌≡◌, ◌+◌, ◌<◌, ◌≤◌, ◌++◌, ◌^◌, ℕ, IfOk, OnErr, OnOk, T};
+ghost use Rattle.std.specs.FinMap.{is_sorted};
+ghost use Rattle.std.specs.List.{AllByRecursion, list_all};
+ghost use Rattle.tabled_grid.specs.Covers.{cover_of};
+ghost use Rattle.tabled_grid.specs.Entity.{inside};
+ghost use Rattle.tabled_grid.specs.Rectangles.{is_visible};
+ghost use Rattle.tabled_grid.specs.Spans.{IsSizeAt, SpanMap, position_cmp, size_at, with_sizes};
+ghost use Rattle.tabled_spans.specs.Spanned.{count_of, grown, grown_each, index, stretch};
+ghost use Rattle.tabled_spans.specs.SpanSteps.{change_at, line_of, lines_of, resized};
+
+use crate::span::along::{at_index, count_of, index};
+use std::alloc::{AllocError, Global};
+use tabled_grid::config::{CoverMap, Entity, Position, SpannedConfig};
+use tabled_grid::records::Axis;
+
+/// The column that a span of rows goes down at a place, or the row that one of columns goes along.
+fn line_of(axis: Axis, pos: Position) -> usize
+    ensures { result ≡ line_of axis pos }
+{
+    match axis {
+        Axis::Rows => pos.col,
+        Axis::Columns => pos.row,
+    }
+}
+
+/// How many of these there are.
+fn lines_of(axis: Axis, rows: usize, columns: usize) -> usize
+    ensures { result ≡ lines_of axis rows columns }
+{
+    match axis {
+        Axis::Rows => columns,
+        Axis::Columns => rows,
+    }
+}
+
+/// The height and the width at a place, both 1 where there is no anchor.
+fn size_at(cfg: &SpannedConfig, pos: Position) -> (usize, usize)
+    ensures value { result ≡ size_at cfg.now pos }
+    ensures height { 1 ≤ result.0 }
+    ensures width { 1 ≤ result.1 }
+{
+    let height = cfg.get_row_span(pos).unwrap_or(1);
+    let width = cfg.get_column_span(pos).unwrap_or(1);
+    (height, width)
+}
+
+/// The size with so many rows or columns.
+fn resized(axis: Axis, size: (usize, usize), many: usize) -> (usize, usize)
+    requires height { 1 ≤ size.0 }
+    requires width { 1 ≤ size.1 }
+    requires some { 1 ≤ many }
+    ensures size { result ≡ resized axis size many }
+    ensures height { 1 ≤ result.0 }
+    ensures width { 1 ≤ result.1 }
+{
+    match axis {
+        Axis::Rows => (many, size.1),
+        Axis::Columns => (size.0, many),
+    }
+}
+
+/// Says whether so many cells are all visible, from a place on.
+///
+/// A hidden one that it meets is kept as the line's hint, and is asked first for the next place. So it
+/// goes over no cell of a line twice.
+fn is_free(cover: &CoverMap, axis: Axis, pos: Position, many: usize, hint: &mut usize) -> bool
+    requires row { pos.row < cover.now.rows }
+    requires col { pos.col < cover.now.columns }
+    requires within { index axis pos + many ≤ count_of axis cover.now.rows cover.now.columns }
+    requires end { index axis pos + many < 2 ^ 64 }
+    ensures { (m : SpanMap) (rows columns : ℕ) → cover.now ≡ cover_of m rows columns → result ≡ list_all (is_visible m) (stretch axis pos (index axis pos) many) }
+{
+    let first = index(axis, pos);
+    let end = first + many;
+    let known = *hint;
+    if first <= known && known < end && cover.is_hidden(at_index(axis, pos, known)) {
+        return false;
+    }
+    for k in first..end {
+        if cover.is_hidden(at_index(axis, pos, k)) {
+            *hint = k;
+            return false;
+        }
+    }
+    true
+}
+
+/// Adds the new size at a place to the changes and to the cover map, if so many cells from there on are
+/// all visible.
+fn grow_at(
+    alloc: Global,
+    cover: &mut CoverMap,
+    changes: &mut Vec<(Position, (usize, usize))>,
+    cfg: &SpannedConfig,
+    axis: Axis,
+    pos: Position,
+    many: usize,
+    hint: &mut usize,
+) -> Result<(), AllocError>
+    requires row { pos.row < cover.old.rows }
+    requires col { pos.col < cover.old.columns }
+    requires some { 1 ≤ many }
+    requires within { index axis pos + many ≤ count_of axis cover.old.rows cover.old.columns }
+    requires end { index axis pos + many < 2 ^ 64 }
+    ensures ok { (m : SpanMap) (rows columns : ℕ) → cover.old ≡ cover_of m rows columns → size_at m pos ≡ size_at cfg.now pos → OnOk result (changes.new.items ≡ changes.old.items ++ change_at axis m pos many) }
+    ensures full { AllByRecursion IsSizeAt changes.old.items → OnOk result (AllByRecursion IsSizeAt changes.new.items) }
+    ensures cover { (m : SpanMap) (rows columns : ℕ) → cover.old ≡ cover_of m rows columns → size_at m pos ≡ size_at cfg.now pos → OnOk result (cover.new ≡ cover_of (with_sizes m (change_at axis m pos many)) rows columns) }
+{
+    if !is_free(cover, axis, pos, many, hint) {
+        return Ok(());
+    }
+    let old = size_at(cfg, pos);
+    let new = resized(axis, old, many);
+    cover.replace(pos, old, new);
+    changes.push((pos, new))?;
+    Ok(())
+}
+
+/// The new sizes that spans from each place on leave that an entity names in a table (`rows x columns`).
+fn changes(
+    alloc: Global,
+    cfg: &SpannedConfig,
+    axis: Axis,
+    size: usize,
+    entity: Entity,
+    rows: usize,
+    columns: usize,
+) -> Result<Vec<(Position, (usize, usize))>, AllocError>
+    requires { 1 ≤ size }
+    ensures sorted { IfOk result (λ changes. T (is_sorted position_cmp changes.items)) }
+    ensures full { IfOk result (λ changes. AllByRecursion IsSizeAt changes.items) }
+    ensures sizes { IfOk result (λ changes. with_sizes cfg.now changes.items ≡ grown_each axis size (count_of axis rows columns) cfg.now (inside entity rows columns)) }
+{
+    let count = count_of(axis, rows, columns);
+    let mut cover = CoverMap::new(alloc, cfg, rows, columns)?;
+    let mut hints = vec![in alloc; 0; lines_of(axis, rows, columns)]?;
+    let mut changes = Vec::new(alloc);
+    for pos in entity.iter(rows, columns) {
+        let many = size.min(count - index(axis, pos));
+        let hint = &mut hints[line_of(axis, pos)];
+        grow_at(alloc, &mut cover, &mut changes, cfg, axis, pos, many, hint)?;
+    }
+    Ok(changes)
+}
+
+/// Merges cells from each place on that an entity names in a table (`rows x columns`), and drops what is
+/// hidden then. Refused for memory, it changes nothing.
+pub(super) fn grow(
+    alloc: Global,
+    cfg: &mut SpannedConfig,
+    axis: Axis,
+    size: usize,
+    entity: Entity,
+    rows: usize,
+    columns: usize,
+) -> Result<(), AllocError>
+    requires { 1 ≤ size }
+    ensures ok { OnOk result (cfg.new ≡ grown axis size entity rows columns cfg.old) }
+    ensures err { OnErr result (cfg.new ≡ cfg.old) }
+{
+    let changes = changes(alloc, cfg, axis, size, entity, rows, columns)?;
+    cfg.set_sizes(alloc, &changes)?;
+    cfg.drop_hidden();
+    Ok(())
+}

@@ -1,0 +1,223 @@
+//! Tables of words, and what spans make of them.
+//!
+//! A table is spelled by its words with a slash after each row, as in `a b / c _ /`, where `_` stands for
+//! an empty text. Behind it stands each anchor in it, as `0.1:2x3` for 2 rows and 3 columns from row 0 and
+//! column 1.
+
+ghost use Rattle.std.specs.Prelude.{IfOk};
+
+use crate::refusing::Refusing;
+use std::alloc::{AllocError, Global};
+use tabled_grid::config::{Entity, Position, SpannedConfig};
+use tabled_grid::records::{
+    CellText, ExactRecords, PeekableRecords, Records, RecordsMut, Resizable, Text, VecRecords,
+};
+use tabled_options::CellOption;
+use tabled_spans::span::Span;
+
+/// A store of one vector of cells.
+pub(crate) type Flat = VecRecords<Text<String>>;
+
+/// A store of a vector for each row.
+pub(crate) type Nested = Vec<Vec<Text<String>>>;
+
+/// A span on an entity, or nothing.
+#[derive(Clone, Copy)]
+pub(crate) enum Step {
+    Nothing,
+    Columns(isize, Entity),
+    Rows(isize, Entity),
+}
+
+/// The shape of a table that is spelled.
+fn shape_of(table: &str) -> (usize, usize) {
+    let mut rows: usize = 0;
+    let mut words: usize = 0;
+    for word in table.split_whitespace() {
+        if word == "/" {
+            rows = rows.saturating_add(1);
+        } else {
+            words = words.saturating_add(1);
+        }
+    }
+    (rows, words.checked_div(rows).unwrap_or(0))
+}
+
+/// Grows an empty store to a table that is spelled.
+fn filled<R>(alloc: Global, mut records: R, table: &str) -> Result<R, AllocError>
+where
+    R: Records + ExactRecords + PeekableRecords + RecordsMut<String> + Resizable + Drop,
+    R::Cell: CellText,
+    requires { R.is_well_formed records }
+    ensures { IfOk result (λ records. R.is_well_formed records) }
+{
+    let (rows, columns) = shape_of(table);
+    records.push_rows(alloc, rows)?;
+    records.push_columns(alloc, columns)?;
+    let mut words = table.split_whitespace();
+    for pos in Entity::Global.iter(rows, columns) {
+        let word = match words.next() {
+            Some("/") => words.next(),
+            word => word,
+        };
+        let text = String::from_str(alloc, word.unwrap_or(""))?;
+        text.change(alloc, &mut records, &mut (), Entity::Cell(pos.row, pos.col))?;
+    }
+    Ok(records)
+}
+
+/// Writes a word behind others.
+fn push_word(words: &mut String, word: &str) -> Result<(), AllocError> {
+    if !words.is_empty() {
+        words.push(' ')?;
+    }
+    words.push_str(word)
+}
+
+/// Spells a table and the merged cells in it.
+fn spelled<R>(alloc: Global, records: &R, cfg: &SpannedConfig) -> Result<String, AllocError>
+where
+    R: Records + ExactRecords + PeekableRecords,
+    R::Cell: CellText,
+    requires { R.is_well_formed records.now }
+{
+    let rows = records.count_rows();
+    let columns = records.count_columns();
+    let mut words = String::new(alloc);
+    for row in 0..rows {
+        for col in 0..columns {
+            let text = records.get_text(Position { row, col });
+            push_word(&mut words, if text.is_empty() { "_" } else { text })?;
+        }
+        push_word(&mut words, "/")?;
+    }
+    push_spans(alloc, &mut words, cfg, rows, columns)?;
+    Ok(words)
+}
+
+/// Writes the merged cells of a table behind its words.
+fn push_spans(
+    alloc: Global,
+    words: &mut String,
+    cfg: &SpannedConfig,
+    rows: usize,
+    columns: usize,
+) -> Result<(), AllocError> {
+    for pos in Entity::Global.iter(rows, columns) {
+        let height = cfg.get_row_span(pos).unwrap_or(1);
+        let width = cfg.get_column_span(pos).unwrap_or(1);
+        if height > 1 || width > 1 {
+            let (row, col) = (pos.row, pos.col);
+            let span = format!(in alloc; "{row}.{col}:{height}x{width}")?;
+            push_word(words, span.as_str())?;
+        }
+    }
+    Ok(())
+}
+
+/// Makes a span.
+fn change<R>(
+    alloc: Global,
+    records: &mut R,
+    cfg: &mut SpannedConfig,
+    step: Step,
+) -> Result<(), AllocError>
+where
+    R: Records + ExactRecords + PeekableRecords + RecordsMut<String>,
+    R::Cell: CellText,
+    requires { R.is_well_formed records.old }
+    ensures { R.is_well_formed records.new }
+{
+    match step {
+        Step::Nothing => Ok(()),
+        Step::Columns(size, entity) => Span::column(size).change(alloc, records, cfg, entity),
+        Step::Rows(size, entity) => Span::row(size).change(alloc, records, cfg, entity),
+    }
+}
+
+/// Makes three spans.
+fn change_all<R>(
+    alloc: Global,
+    records: &mut R,
+    cfg: &mut SpannedConfig,
+    steps: [Step; 3],
+) -> Result<(), AllocError>
+where
+    R: Records + ExactRecords + PeekableRecords + RecordsMut<String>,
+    R::Cell: CellText,
+    requires { R.is_well_formed records.old }
+    ensures { R.is_well_formed records.new }
+{
+    let [first, second, third] = steps;
+    change(alloc, records, cfg, first)?;
+    change(alloc, records, cfg, second)?;
+    change(alloc, records, cfg, third)
+}
+
+/// What spans make of a table, with `!` behind it where one was refused.
+fn made<R>(alloc: Global, mut records: R, steps: [Step; 3]) -> Result<String, AllocError>
+where
+    R: Records + ExactRecords + PeekableRecords + RecordsMut<String> + Drop,
+    R::Cell: CellText,
+    requires { R.is_well_formed records }
+{
+    let mut cfg = SpannedConfig::new(alloc);
+    let done = change_all(alloc, &mut records, &mut cfg, steps);
+    let mut words = spelled(alloc, &records, &cfg)?;
+    if done.is_err() {
+        words.push('!')?;
+    }
+    Ok(words)
+}
+
+/// Whether these are the words.
+fn is_word(made: Result<String, AllocError>, want: &str) -> bool {
+    match made {
+        Ok(words) => words.as_str() == want,
+        Err(_) => false,
+    }
+}
+
+/// The store of one vector.
+fn flat(alloc: Global, table: &str) -> Result<Flat, AllocError> {
+    filled(alloc, VecRecords::new(alloc, Vec::new(alloc))?, table)
+}
+
+fn made_flat(alloc: Global, old: &str, steps: [Step; 3]) -> Result<String, AllocError> {
+    made(alloc, flat(alloc, old)?, steps)
+}
+
+/// Whether spans make one table of another in one vector of cells.
+pub(crate) fn makes_flat(alloc: Global, old: &str, steps: [Step; 3], new: &str) -> bool {
+    is_word(made_flat(alloc, old, steps), new)
+}
+
+fn made_nested(alloc: Global, old: &str, steps: [Step; 3]) -> Result<String, AllocError> {
+    let empty: Nested = Vec::new(alloc);
+    made(alloc, filled(alloc, empty, old)?, steps)
+}
+
+/// The same in a vector for each row.
+pub(crate) fn makes_nested(alloc: Global, old: &str, steps: [Step; 3], new: &str) -> bool {
+    is_word(made_nested(alloc, old, steps), new)
+}
+
+fn made_refusing(
+    alloc: Global,
+    left: usize,
+    old: &str,
+    steps: [Step; 3],
+) -> Result<String, AllocError> {
+    made(alloc, Refusing::new(flat(alloc, old)?, left), steps)
+}
+
+/// The same in a store that refuses all but so many writes. A refusal is told by `!`.
+pub(crate) fn makes_refusing(
+    alloc: Global,
+    left: usize,
+    old: &str,
+    steps: [Step; 3],
+    new: &str,
+) -> bool {
+    is_word(made_refusing(alloc, left, old, steps), new)
+}
