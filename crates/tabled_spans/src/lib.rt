@@ -1,2 +1,4 @@
 //! Options that merge cells.
 #![tactic(auto)]
+
+pub mod panel;

@@ -1,0 +1,3 @@
+pub mod PanelGeometry
+pub mod PanelLines
+pub mod PanelMaps

@@ -1,0 +1,2 @@
+pub mod PanelSteps
+pub mod Panels
