@@ -2,5 +2,9 @@
 #![tactic(auto)]
 
 mod select;
+mod step;
+mod steps;
 
 pub use select::Select;
+pub use step::Step;
+pub use steps::run;

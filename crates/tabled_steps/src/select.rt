@@ -88,9 +88,7 @@ impl Select {
             Select::Columns(a, b) => entities(alloc, &Columns::new(*a..*b), records),
             Select::Segment(a, b, c, d) => entities(alloc, &Segment::new(*a..*b, *c..*d), records),
             Select::Frame => entities(alloc, &Frame, records),
-            Select::Content(text) => {
-                entities(alloc, &ByContent::new(text.clone()?), records)
-            }
+            Select::Content(text) => { entities(alloc, &ByContent::new(text.clone()?), records) }
             Select::Name(text) => entities(alloc, &ByColumnName::new(text.clone()?), records),
             Select::And(x, y) => {
                 let lhs = EntityList(x.list(alloc, records)?);

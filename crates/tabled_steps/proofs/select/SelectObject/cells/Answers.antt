@@ -3,4 +3,6 @@ use Rattle.tabled_select.proofs.Located.{vec-lists}
 use Rattle.tabled_steps.proofs.select.SelectObject.cells.Goals as goal
 
 pub returns : goal.returns
-returns g c = record { lists = (c.in_ok-list.field-0.items, c.in_ok-list.ensures, vec-lists _ _ _ c.into_iter.ensures.rest c.into_iter.ensures.len refl) }
+returns g c =
+    let listed = c.in_ok-list.field-0 in
+    record { lists = (listed.items, c.in_ok-list.ensures, vec-lists listed c.into_iter.result listed.items c.into_iter.ensures.rest c.into_iter.ensures.len refl) }

@@ -1,0 +1,73 @@
+use Rattle.std.proofs.Common.{inr, rules, w64}
+use Rattle.std.proofs.lemmas.Int.{to_z-of_z}
+use mir.Val.{SFits}
+use Rattle.std.proofs.lemmas.Result.{IfErr-weaker, on_ok_weaker}
+use Rattle.tabled_steps.proofs.step.Step.+apply.Goals as goal
+
+pub returns-in-Set-clause-ok : goal.returns-in-Set-clause-ok
+returns-in-Set-clause-ok g n c = rw c.in-Set.is (rw c.list.ensures at c.change.ensures.ok)
+
+pub returns-in-Set-clause-err : goal.returns-in-Set-clause-err
+returns-in-Set-clause-err g n c = rw c.in-Set.is (rw c.list.ensures at c.change.ensures.err)
+
+pub returns-in-Dup-clause-ok : goal.returns-in-Dup-clause-ok
+returns-in-Dup-clause-ok g n c = rw c.in-Dup.is (rw c.new.ensures at c.change-in-Dup.ensures.ok)
+
+pub returns-in-Dup-clause-err : goal.returns-in-Dup-clause-err
+returns-in-Dup-clause-err g n c = rw c.in-Dup.is (rw c.new.ensures at c.change-in-Dup.ensures.err)
+
+pub returns-in-Charset-clause-ok : goal.returns-in-Charset-clause-ok
+returns-in-Charset-clause-ok g n c = rw c.in-Charset.is (rw c.list-in-Charset.ensures at c.change-in-Charset.ensures.ok)
+
+pub returns-in-Charset-clause-err : goal.returns-in-Charset-clause-err
+returns-in-Charset-clause-err g n c = rw c.in-Charset.is (rw c.list-in-Charset.ensures at c.change-in-Charset.ensures.err)
+
+pub returns-in-ColumnSpan-clause-ok : goal.returns-in-ColumnSpan-clause-ok
+returns-in-ColumnSpan-clause-ok g n c =
+    let fits : SFits w64 c.in-ColumnSpan.size = search rules in
+    let same = to_z-of_z w64 c.in-ColumnSpan.size fits in
+    rw c.in-ColumnSpan.is (rw (c.list-in-ColumnSpan.ensures, c.column.ensures, same) at c.change-in-ColumnSpan.ensures.ok)
+
+pub returns-in-ColumnSpan-clause-err : goal.returns-in-ColumnSpan-clause-err
+returns-in-ColumnSpan-clause-err g n c =
+    let fits : SFits w64 c.in-ColumnSpan.size = search rules in
+    let same = to_z-of_z w64 c.in-ColumnSpan.size fits in
+    rw c.in-ColumnSpan.is (rw (c.list-in-ColumnSpan.ensures, c.column.ensures, same) at c.change-in-ColumnSpan.ensures.err)
+
+pub returns-in-RowSpan-clause-ok : goal.returns-in-RowSpan-clause-ok
+returns-in-RowSpan-clause-ok g n c =
+    let fits : SFits w64 c.in-RowSpan.size = search rules in
+    let same = to_z-of_z w64 c.in-RowSpan.size fits in
+    rw c.in-RowSpan.is (rw (c.list-in-RowSpan.ensures, c.row.ensures, same) at c.change-in-RowSpan.ensures.ok)
+
+pub returns-in-RowSpan-clause-err : goal.returns-in-RowSpan-clause-err
+returns-in-RowSpan-clause-err g n c =
+    let fits : SFits w64 c.in-RowSpan.size = search rules in
+    let same = to_z-of_z w64 c.in-RowSpan.size fits in
+    rw c.in-RowSpan.is (rw (c.list-in-RowSpan.ensures, c.row.ensures, same) at c.change-in-RowSpan.ensures.err)
+
+pub returns-in-HorizontalPanel-clause-ok : goal.returns-in-HorizontalPanel-clause-ok
+returns-in-HorizontalPanel-clause-ok g n c = rw c.in-HorizontalPanel.is c.change-in-HorizontalPanel.ensures.ok
+
+pub returns-in-VerticalPanel-clause-ok : goal.returns-in-VerticalPanel-clause-ok
+returns-in-VerticalPanel-clause-ok g n c = rw c.in-VerticalPanel.is c.change-in-VerticalPanel.ensures.ok
+
+pub returns-in-Header-clause-ok : goal.returns-in-Header-clause-ok
+returns-in-Header-clause-ok g n c = rw c.in-Header.is c.change-in-Header.ensures.ok
+
+pub returns-in-Footer-clause-ok : goal.returns-in-Footer-clause-ok
+returns-in-Footer-clause-ok g n c = rw c.in-Footer.is c.change-in-Footer.ensures.ok
+
+pub returns-in-RemoveNamed-clause-ok : goal.returns-in-RemoveNamed-clause-ok
+returns-in-RemoveNamed-clause-ok g n c =
+    rw c.in-RemoveNamed.is (on_ok_weaker c.change-in-RemoveNamed.result (λ d. (rw (← d.0.1) d.0.2, d.1)) (rw (c.column-in-RemoveNamed.ensures, c.new-in-RemoveNamed.ensures) at c.change-in-RemoveNamed.ensures.ok))
+
+pub returns-in_ok-apply-in-Both-clause-ok : goal.returns-in_ok-apply-in-Both-clause-ok
+returns-in_ok-apply-in-Both-clause-ok g n c =
+    let first = rw c.into_inner.ensures at c.in_ok-apply-in-Both.ensures.ok in
+    rw c.in-Both.is (on_ok_weaker c.apply-in-Both.result (λ second. (_, _, first, second)) (rw c.into_inner-in-Both.ensures at c.apply-in-Both.ensures.ok))
+
+pub returns-in_ok-apply-in-Both-clause-err : goal.returns-in_ok-apply-in-Both-clause-err
+returns-in_ok-apply-in-Both-clause-err g n c =
+    let first = rw c.into_inner.ensures at c.in_ok-apply-in-Both.ensures.ok in
+    rw c.in-Both.is (IfErr-weaker c.apply-in-Both.result _ _ (λ _ second. inr (_, _, first, second)) (rw c.into_inner-in-Both.ensures at c.apply-in-Both.ensures.err))

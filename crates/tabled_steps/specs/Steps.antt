@@ -1,0 +1,81 @@
+-- What steps do to the cells and the merged cells of a table, and what they leave where memory is refused.
+use Rattle.std.specs.Prelude.{◌≡◌, ◌⊎◌, ℕ, false, List}
+use Rattle.std.specs.String.{string_bytes}
+use Rattle.tabled_grid.specs.Grid.{Grid, map_grid}
+use Rattle.tabled_grid.specs.Spans.{SpanMap}
+use Rattle.tabled_grid.specs.declared.config.entity.Entity.{Entity}
+use Rattle.tabled_grid.specs.declared.records.axis.Axis.TheVariants.{Rows, Columns}
+use Rattle.tabled_options.specs.Does.{AfterNeverRefused, Change, EachListed, EachListedUntil, Same, SameOr, Then, ThenLeaves}
+use Rattle.tabled_options.specs.Writes.{Writes, WritesBefore}
+use Rattle.tabled_select.specs.Locators.{columns_with}
+use Rattle.tabled_settings.specs.Charsets.{DoesFirstWrites, DoesWrites, charset_writes}
+use Rattle.tabled_settings.specs.Dups.{Duplicates, DuplicatesFirst}
+use Rattle.tabled_settings.specs.Joined.{JoinsAt, corner_of}
+use Rattle.tabled_settings.specs.Places.{Places, ReadsThrough}
+use Rattle.tabled_settings.specs.Rearranged.{extracted, removed, reversed, rotated}
+use Rattle.tabled_settings.specs.declared.rotate.Rotate.TheVariants.{Bottom, Top}
+use Rattle.tabled_grid.specs.Bounds.{indexes}
+use Rattle.tabled_spans.specs.Panels.{Panels, has_room}
+use Rattle.tabled_spans.specs.Spanned.{Spans, SpansFirst}
+use Rattle.tabled_steps.specs.Selected.{half_open, selected}
+use Rattle.tabled_steps.specs.declared.select.Select.{Select}
+use Rattle.tabled_steps.specs.declared.step.Step.{Step}
+use Rattle.tabled_steps.specs.declared.step.Step.TheVariants as step
+
+-- these are the entities that a selector names in a table
+abbrev pub Names : {A : Type 0} → (A → List ℕ) → Select → Grid A → List Entity → Type 0
+Names text_of select g entities = entities ≡ selected (map_grid text_of g) select
+
+-- the cells are read through a map of places, and merged cells stay where they are
+abbrev pub Rearranges : {A : Type 0} → (ℕ → ℕ → Places) → Change A SpanMap
+Rearranges places g c h d = ReadsThrough (places g.rows g.columns) g h × (d ≡ c)
+
+-- what a step does
+abbrev pub Does : {A : Type 0} → (A → List ℕ) → Step → Change A SpanMap
+Does text_of (step.Set select text) = EachListed (Names text_of select) (Writes text_of (string_bytes text))
+Does text_of (step.Dup destination source) = Duplicates text_of (Names text_of destination) (Names text_of source)
+Does text_of (step.Charset charset select) = EachListed (Names text_of select) (λ e. DoesWrites text_of (charset_writes charset e))
+Does text_of (step.ColumnSpan size select) = EachListed (Names text_of select) (Spans text_of Columns size)
+Does text_of (step.RowSpan size select) = EachListed (Names text_of select) (Spans text_of Rows size)
+Does text_of (step.HorizontalPanel panel) = Panels text_of Rows panel.0 panel.1
+Does text_of (step.VerticalPanel panel) = Panels text_of Columns panel.0 panel.1
+Does text_of (step.Header text) = Panels text_of Rows 0 text
+Does text_of (step.Footer text) = λ g. Panels text_of Rows g.rows text g
+Does text_of (step.Rotate rotate) = Rearranges (rotated rotate)
+Does text_of (step.Reverse reverse) = Rearranges (reversed reverse.axis reverse.start reverse.limit)
+Does text_of (step.Concat concat) = λ g c h d. JoinsAt text_of (corner_of concat.0 g.rows g.columns) concat.1 concat.2 g h × (d ≡ c)
+Does text_of (step.Extract a b c d) = Rearranges (extracted (half_open a b) (half_open c d))
+Does text_of (step.RemoveRows a b) = λ g. Rearranges (removed Rows (indexes (half_open a b) g.rows)) g
+Does text_of (step.RemoveColumns a b) = λ g. Rearranges (removed Columns (indexes (half_open a b) g.columns)) g
+Does text_of (step.RemoveNamed name) = λ g. Rearranges (removed Columns (columns_with (string_bytes name) (map_grid text_of g))) g
+Does text_of (step.Both' _ first _ second) = Then (Does text_of first) (Does text_of second)
+
+-- nothing, or the changes for the entities that a selector names before one, and what the refused change for that one leaves
+abbrev pub LeavesFirst : {A : Type 0} → (A → List ℕ) → Select → (Entity → Change A SpanMap) → (Entity → Change A SpanMap) → Change A SpanMap
+LeavesFirst text_of select does leaves = SameOr (EachListedUntil (Names text_of select) does (λ e. SameOr (leaves e)))
+
+-- what a refused step leaves
+abbrev pub Leaves : {A : Type 0} → (A → List ℕ) → Step → Change A SpanMap
+Leaves text_of (step.Set select text) = LeavesFirst text_of select (Writes text_of (string_bytes text)) (WritesBefore text_of (string_bytes text))
+Leaves text_of (step.Dup destination source) = DuplicatesFirst text_of (Names text_of destination) (Names text_of source)
+Leaves text_of (step.Charset charset select) = LeavesFirst text_of select (λ e. DoesWrites text_of (charset_writes charset e)) (λ e. DoesFirstWrites text_of (charset_writes charset e))
+Leaves text_of (step.ColumnSpan size select) = LeavesFirst text_of select (Spans text_of Columns size) (SpansFirst text_of Columns size)
+Leaves text_of (step.RowSpan size select) = LeavesFirst text_of select (Spans text_of Rows size) (SpansFirst text_of Rows size)
+Leaves text_of (step.Both' _ first _ second) = ThenLeaves (Does text_of first) (Leaves text_of first) (Leaves text_of second)
+Leaves text_of _ = Same
+
+-- a step that takes no memory on a table, and so is not refused
+abbrev pub TakesNoMemory : {A : Type 0} → (A → List ℕ) → Step → Grid A → SpanMap → Type 0
+TakesNoMemory text_of (step.HorizontalPanel panel) g c = has_room Rows panel.0 g c ≡ false
+TakesNoMemory text_of (step.VerticalPanel panel) g c = has_room Columns panel.0 g c ≡ false
+TakesNoMemory text_of (step.Header _) g c = has_room Rows 0 g c ≡ false
+TakesNoMemory text_of (step.Footer _) g c = has_room Rows g.rows g c ≡ false
+TakesNoMemory text_of (step.Rotate rotate) g c = (rotate ≡ Top) ⊎ (rotate ≡ Bottom)
+TakesNoMemory text_of (step.Reverse _) g c = Unit {0}
+TakesNoMemory text_of (step.Extract _ _ _ _) g c = Unit {0}
+TakesNoMemory text_of (step.Both' _ first _ second) g c = TakesNoMemory text_of first g c × AfterNeverRefused (Does text_of first) (TakesNoMemory text_of second) g c
+TakesNoMemory text_of _ g c = ⊥
+
+-- a step that takes memory is refused, and leaves what it leaves
+abbrev pub Refused : {A : Type 0} → (A → List ℕ) → Step → Change A SpanMap
+Refused text_of step g c h d = Leaves text_of step g c h d × (TakesNoMemory text_of step g c → ⊥)

@@ -1,0 +1,152 @@
+//! Steps as data.
+
+ghost use Rattle.std.specs.Prelude.{◌≡◌, IsOk, OnErr, OnOk};
+ghost use Rattle.tabled_steps.specs.Steps.{Does, Leaves, TakesNoMemory};
+ghost use Rattle.std.proofs.Common.{rules};
+
+use crate::select::Select;
+use std::alloc::{AllocError, Global};
+use tabled_grid::config::{Entity, SpannedConfig};
+use tabled_grid::records::{
+    CellText, ExactRecords, PeekableRecords, Records, RecordsMut, Resizable,
+};
+use tabled_options::{Modify, TableOption};
+use tabled_select::location::ByColumnName;
+use tabled_select::object::{Columns, Rows};
+use tabled_settings::concat::Concat;
+use tabled_settings::disable::Remove;
+use tabled_settings::duplicate::Dup;
+use tabled_settings::extract::Extract;
+use tabled_settings::formatting::Charset;
+use tabled_settings::reverse::Reverse;
+use tabled_settings::rotate::Rotate;
+use tabled_spans::panel::{Footer, Header, HorizontalPanel, VerticalPanel};
+use tabled_spans::span::Span;
+
+/// An option that is data: it does to a table what the option of its name does.
+///
+/// One with a selector does it on each entity that the selector names in the table as it is before the
+/// step, one after another.
+///
+/// Our own.
+#[derive(Drop)]
+pub enum Step {
+    /// Writes a text to cells.
+    Set(Select, String),
+    /// Writes to the first cells the texts of the second ones.
+    Dup(Select, Select),
+    /// Cleans the texts of cells.
+    Charset(Charset, Select),
+    /// Merges cells along rows, by a span's size.
+    ColumnSpan(isize, Select),
+    /// Merges cells along columns, by a span's size.
+    RowSpan(isize, Select),
+    HorizontalPanel(HorizontalPanel),
+    VerticalPanel(VerticalPanel),
+    Header(Header),
+    Footer(Footer),
+    Rotate(Rotate),
+    Reverse(Reverse),
+    Concat(Concat),
+    /// Keeps a range of rows and a range of columns, each by its start and its end.
+    Extract(usize, usize, usize, usize),
+    /// Takes away the rows of a range.
+    RemoveRows(usize, usize),
+    RemoveColumns(usize, usize),
+    /// Takes away the columns with a text in the first row.
+    RemoveNamed(String),
+    /// One step, and then another.
+    Both(Box<Step>, Box<Step>),
+}
+
+impl Step {
+    /// Does the step on a table.
+    fn apply<R, D>(
+        self,
+        alloc: Global,
+        records: &mut R,
+        cfg: &mut SpannedConfig,
+        dimension: &mut D,
+    ) -> Result<(), AllocError>
+    where
+        R: Records + ExactRecords + PeekableRecords + RecordsMut<String> + Resizable,
+        R::Cell: CellText,
+        requires well { R.is_well_formed records.old }
+        ensures well { R.is_well_formed records.new }
+        ensures ok { OnOk result (Does R.Cell.text_of self (R.grid records.old) cfg.old (R.grid records.new) cfg.new) }
+        ensures err { OnErr result (Leaves R.Cell.text_of self (R.grid records.old) cfg.old (R.grid records.new) cfg.new) }
+        ensures promised { TakesNoMemory R.Cell.text_of self (R.grid records.old) cfg.old → IsOk result }
+    {
+        match self {
+            Step::Set(select, text) => {
+                Modify::list(select, text).change(alloc, records, cfg, dimension)
+            }
+            Step::Dup(destination, source) => {
+                Dup::new(destination, source).change(alloc, records, cfg, dimension)
+            }
+            Step::Charset(charset, select) => {
+                Modify::list(select, charset).change(alloc, records, cfg, dimension)
+            }
+            Step::ColumnSpan(size, select) => {
+                Modify::list(select, Span::column(size)).change(alloc, records, cfg, dimension)
+            }
+            Step::RowSpan(size, select) => {
+                Modify::list(select, Span::row(size)).change(alloc, records, cfg, dimension)
+            }
+            Step::HorizontalPanel(panel) => panel.change(alloc, records, cfg, dimension),
+            Step::VerticalPanel(panel) => panel.change(alloc, records, cfg, dimension),
+            Step::Header(header) => header.change(alloc, records, cfg, dimension),
+            Step::Footer(footer) => footer.change(alloc, records, cfg, dimension),
+            Step::Rotate(rotate) => rotate.change(alloc, records, cfg, dimension),
+            Step::Reverse(reverse) => reverse.change(alloc, records, cfg, dimension),
+            Step::Concat(concat) => concat.change(alloc, records, cfg, dimension),
+            Step::Extract(a, b, c, d) => {
+                Extract::segment(a..b, c..d).change(alloc, records, cfg, dimension)
+            }
+            Step::RemoveRows(a, b) => {
+                Remove::row(Rows::new(a..b)).change(alloc, records, cfg, dimension)
+            }
+            Step::RemoveColumns(a, b) => {
+                Remove::column(Columns::new(a..b)).change(alloc, records, cfg, dimension)
+            }
+            Step::RemoveNamed(name) => {
+                Remove::column(ByColumnName::new(name)).change(alloc, records, cfg, dimension)
+            }
+            Step::Both(first, second) => {
+                Box::into_inner(first).apply(alloc, records, cfg, dimension)?;
+                Box::into_inner(second).apply(alloc, records, cfg, dimension)
+            }
+        }
+    }
+}
+
+/// Does the step. Refused, it leaves what the option of its name leaves.
+impl<R, D> TableOption<R, SpannedConfig, D> for Step
+where
+    R: Records + ExactRecords + PeekableRecords + RecordsMut<String> + Resizable,
+    R::Cell: CellText,
+{
+    ghost does = { λ s. Does R.Cell.text_of s };
+
+    ghost leaves = { λ s. Leaves R.Cell.text_of s };
+
+    ghost can_change = { λ _. Unit {0} };
+
+    ghost never_refused = { λ s. TakesNoMemory R.Cell.text_of s };
+
+    fn change(
+        self,
+        alloc: Global,
+        records: &mut R,
+        cfg: &mut SpannedConfig,
+        dimension: &mut D,
+    ) -> Result<(), AllocError> {
+        self.apply(alloc, records, cfg, dimension)
+    }
+
+    fn hint_change(&self) -> Option<Entity> {
+        Some(Entity::Global)
+    }
+
+    ghost acts_like = { Prim.search rules };
+}
