@@ -1,4 +1,5 @@
 pub mod FreeCells
+pub mod Reach
 pub mod RisingPlaces
 pub mod SpanChanges
 pub mod SpanGeometry
