@@ -2,7 +2,8 @@
 
 use crate::spans::{Call, Merged};
 use crate::stores::Change;
-use crate::{builders, selectors, spans, stores};
+use crate::tables::Shape;
+use crate::{builders, selectors, spans, stores, tables};
 use std::alloc::{AllocError, Global};
 use tabled_grid::records::ExactRecords;
 
@@ -25,6 +26,7 @@ pub(crate) enum Case {
     Flat(Change),
     Nested(Change),
     Spans(Merged, Call),
+    Table(Shape, tables::Change),
 }
 
 impl Case {
@@ -43,7 +45,9 @@ impl Case {
             "not_frame" => Some(Case::NotFrame),
             "and" => Some(Case::And),
             "pairs" => Some(Case::Pairs),
-            _ => Case::of_store(name).or(Case::of_spans(name)),
+            _ => Case::of_store(name)
+                .or(Case::of_spans(name))
+                .or(Case::of_table(name)),
         }
     }
 
@@ -83,6 +87,16 @@ impl Case {
         Some(Case::Spans(merged, call))
     }
 
+    fn of_table(name: &str) -> Option<Case> {
+        let (shape, change) = name.split_once('_')?;
+        let shape = match shape {
+            "square" => Shape::Square,
+            "tall" => Shape::Tall,
+            _ => return None,
+        };
+        Some(Case::Table(shape, tables::Change::of_name(change)?))
+    }
+
     /// Does the calls once, and counts something of what comes out.
     pub(crate) fn run(self, alloc: Global, size: usize) -> Result<usize, AllocError> {
         match self {
@@ -102,6 +116,7 @@ impl Case {
             Case::Flat(change) => stores::flat(alloc, size, change),
             Case::Nested(change) => stores::nested(alloc, size, change),
             Case::Spans(merged, call) => spans::run(alloc, size, merged, call),
+            Case::Table(shape, change) => tables::run(alloc, size, shape, change),
         }
     }
 }

@@ -8,6 +8,7 @@ mod case;
 mod selectors;
 mod spans;
 mod stores;
+mod tables;
 
 use case::Case;
 use std::process::ExitCode;

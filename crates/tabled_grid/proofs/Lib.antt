@@ -32,6 +32,8 @@ pub mod Places
 pub mod Resized
 pub mod RowByRow
 pub mod SamePlaces
+pub mod ShiftedFits
+pub mod Shifts
 pub mod SortedAnchors
 pub mod SortedEntries
 pub mod SpanMaps

@@ -173,10 +173,10 @@ full m sizes = record { height = λ a. height a (at m a); width = λ a. width a 
     width a (none e) = rw (size_at-none m a e) (omega arith)
     width a (some size e) = rw (size_at-some m a size e) (sizes.each a size e).width
 
-tied : (p : Position) → eq_by_cmp position_cmp p p ≡ true
+pub tied : (p : Position) → eq_by_cmp position_cmp p p ≡ true
 tied p = ap is_eq (tied_itself positions_total p)
 
-untied : (q p : Position) → q ≢ p → eq_by_cmp position_cmp q p ≡ false
+pub untied : (q p : Position) → q ≢ p → eq_by_cmp position_cmp q p ≡ false
 untied q p n = either (cases_Bool (eq_by_cmp position_cmp q p))
   where
     either : (eq_by_cmp position_cmp q p ≡ true) ⊎ (eq_by_cmp position_cmp q p ≡ false) → eq_by_cmp position_cmp q p ≡ false

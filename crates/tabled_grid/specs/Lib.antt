@@ -10,4 +10,5 @@ pub mod Midway
 pub mod Moves
 pub mod Rectangles
 pub mod Resized
+pub mod Shifts
 pub mod Spans

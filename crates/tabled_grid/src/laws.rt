@@ -1,16 +1,19 @@
 //! Laws of what the calls of stores say they do. Each is the contract of a function that does nothing.
 
-ghost use Rattle.std.specs.Prelude.{◌≡◌, ◌+◌, ◌<◌, ◌≤◌, ℕ, Some, true};
+ghost use Rattle.std.specs.Prelude.{◌≡◌, ◌+◌, ◌<◌, ◌≤◌, ℕ, Some, false, true};
 ghost use Rattle.std.specs.FinMap as map;
 ghost use Rattle.std.specs.Ordering.{nat_cmp};
 ghost use Rattle.std.specs.declared.cmp.Ordering.TheVariants.{Less};
 ghost use Rattle.tabled_grid.specs.Entity.{place};
 ghost use Rattle.tabled_grid.specs.Midway.{Flat, In, Midway, Narrow, Within};
 ghost use Rattle.tabled_grid.specs.Rectangles.{Fits, drop_hidden, is_visible};
+ghost use Rattle.tabled_grid.specs.Shifts.{is_crossed, line_of, shifted};
 ghost use Rattle.tabled_grid.specs.Spans.{AreSpanSizes, IsSpanSize, SpanMap, position_cmp, size_at, with_column_span, with_row_span, with_size};
 ghost use Rattle.tabled_grid.specs.declared.config.position.Position.{Position};
 ghost use Rattle.tabled_grid.specs.declared.config.entity.Entity.TheVariants.{Cell, Column, Global, Row};
 ghost use Rattle.tabled_grid.specs.declared.config.offset.Offset.TheVariants.{End, Start};
+ghost use Rattle.tabled_grid.specs.declared.records.axis.Axis.{Axis};
+ghost use Rattle.tabled_grid.specs.declared.records.axis.Axis.TheVariants.{Columns, Rows};
 ghost use Rattle.tabled_grid.specs.Resized.{with_cells_swapped, with_columns_swapped, with_rows_swapped};
 
 use crate::config::{Entity, Offset, Position};
@@ -75,4 +78,12 @@ pub fn flat_spans_fit_once_hidden_anchors_go()
 /// A rectangle over cells that no other has keeps merged cells inside and apart.
 pub fn a_rectangle_over_free_cells_fits()
     ensures { (m : SpanMap) (p : Position) (size : ℕ × ℕ) (rows columns : ℕ) → IsSpanSize size → p.row + size.0 ≤ rows → p.col + size.1 ≤ columns → ((a q : Position) (s : ℕ × ℕ) → map.get m a ≡ Some s → In a s q → In p size q → a ≡ p) → Fits m rows columns → Fits (with_size m p size) rows columns }
+{}
+
+/// Rectangles that don't cross a line which is put in fit the table with one line more, and leave that
+/// line free.
+pub fn shifted_rectangles_fit()
+    ensures rows { (m : SpanMap) (line rows columns : ℕ) → is_crossed Rows line m ≡ false → Fits m rows columns → Fits (shifted Rows line m) (rows + 1) columns }
+    ensures columns { (m : SpanMap) (line rows columns : ℕ) → is_crossed Columns line m ≡ false → Fits m rows columns → Fits (shifted Columns line m) rows (columns + 1) }
+    ensures free { (axis : Axis) (m : SpanMap) (line : ℕ) (a q : Position) (size : ℕ × ℕ) → is_crossed axis line m ≡ false → map.get (shifted axis line m) a ≡ Some size → In a size q → line_of axis q ≡ line → ⊥ }
 {}

@@ -4,12 +4,12 @@ ghost use Rattle.std.specs.Prelude.{◌≡◌};
 
 use crate::tables::{makes_flat, makes_nested, makes_refusing};
 use std::alloc::{AllocError, Global};
-use std::ops::{Bound, Range};
+use std::ops::Range;
 use std::test::Fail;
 use tabled_grid::records::GridStore;
 use tabled_select::location::Location;
 use tabled_select::object::{Columns, Rows};
-use tabled_settings::disable::{Remove, TargetColumn, TargetRow};
+use tabled_settings::disable::Remove;
 use tabled_settings::extract::Extract;
 
 type Segment = Extract<Range<usize>, Range<usize>>;

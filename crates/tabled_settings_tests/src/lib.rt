@@ -8,6 +8,8 @@ mod cuts;
 #[cfg(test)]
 mod joins;
 #[cfg(test)]
+mod refused_writers;
+#[cfg(test)]
 mod refusing;
 #[cfg(test)]
 mod rotations;

@@ -91,7 +91,7 @@ where
 }
 
 /// What an option makes of an empty store that is grown to a table, with `!` behind it where it was refused.
-fn made<R, O>(alloc: Global, mut records: R, option: O) -> Result<String, AllocError>
+pub(crate) fn made<R, O>(alloc: Global, mut records: R, option: O) -> Result<String, AllocError>
 where
     R: Records + ExactRecords + PeekableRecords + Resizable + Drop,
     R::Cell: CellText,
@@ -108,7 +108,7 @@ where
 }
 
 /// Whether these are the words.
-fn is_word(made: Result<String, AllocError>, want: &str) -> bool {
+pub(crate) fn is_word(made: Result<String, AllocError>, want: &str) -> bool {
     match made {
         Ok(words) => words.as_str() == want,
         Err(_) => false,

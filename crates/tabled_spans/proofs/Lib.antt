@@ -1,4 +1,7 @@
 pub mod FreeCells
+pub mod PanelGeometry
+pub mod PanelLines
+pub mod PanelMaps
 pub mod Reach
 pub mod RisingPlaces
 pub mod SpanChanges

@@ -7,6 +7,7 @@ mod entity;
 mod hiders;
 mod offset;
 mod position;
+mod shifts;
 mod spanned_config;
 
 pub use bounds::ToBounds;

@@ -5,11 +5,14 @@ ghost use Rattle.std.specs.FinMap as map;
 ghost use Rattle.std.specs.FinMap.{is_sorted};
 ghost use Rattle.std.specs.List.{AllByRecursion};
 ghost use Rattle.tabled_grid.specs.Rectangles.{Fits, column_spans, drop_hidden, is_covered_across, is_covered_down, is_visible, row_spans};
+ghost use Rattle.tabled_grid.specs.Shifts.{is_crossed, shifted};
 ghost use Rattle.tabled_grid.specs.Spans.{AreSpanSizes, IsSizeAt, IsSpanSize, position_cmp, size_at, with_column_span, with_row_span, with_size, with_sizes};
 ghost use Rattle.tabled_grid.specs.declared.config.position.Position.{Position};
 
 use crate::config::anchors::{self, Anchor};
 use crate::config::position::Position;
+use crate::config::shifts;
+use crate::records::Axis;
 use std::alloc::{AllocError, Global};
 use std::marker::Model;
 
@@ -216,6 +219,30 @@ impl SpannedConfig {
     {
         anchors::drop_hidden(&mut self.anchors);
         self.keeps_sizes();
+    }
+
+    /// Moves all anchors whose row (or column) is at least `from` one row (or column) further, at once.
+    /// One at `usize::MAX` goes away. It takes no memory.
+    ///
+    /// Of this project: `tabled::settings::Panel` moves them one after another.
+    pub fn shift(&mut self, axis: Axis, from: usize)
+        ensures shifted { self.new ≡ shifted axis from self.old }
+        ensures sizes { AreSpanSizes self.new }
+    {
+        shifts::shift(&mut self.anchors, axis, from);
+        self.keeps_sizes();
+    }
+
+    /// Says whether a rectangle begins before a row (or column) and holds a cell of it, inside a table or
+    /// not.
+    ///
+    /// Of this project: `tabled::settings::Panel` asks each cell of the table's row (or column).
+    pub fn crosses(&self, axis: Axis, line: usize) -> bool
+        ensures crosses { result ≡ is_crossed axis line self.now }
+        ensures sizes { AreSpanSizes self.now }
+    {
+        self.keeps_sizes();
+        shifts::cross(&self.anchors, axis, line)
     }
 
     /// Says whether all rectangles lie inside a table (`rows x columns`) and no two share a cell.

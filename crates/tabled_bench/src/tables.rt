@@ -1,0 +1,142 @@
+//! Options on whole tables of one-letter texts.
+
+use std::alloc::{AllocError, Global};
+use std::mem;
+use tabled_grid::config::{Offset, SpannedConfig};
+use tabled_grid::records::{ExactRecords, Records, Resizable, Text, VecRecords};
+use tabled_options::TableOption;
+use tabled_select::object::{Columns, Rows};
+use tabled_settings::concat::Concat;
+use tabled_settings::disable::Remove;
+use tabled_settings::duplicate::Dup;
+use tabled_settings::extract::Extract;
+use tabled_settings::format::Format;
+use tabled_settings::formatting::Charset;
+use tabled_settings::reverse::Reverse;
+use tabled_settings::rotate::Rotate;
+use tabled_table::Table;
+
+type Store = VecRecords<Text<String>>;
+
+/// The shape of a table of a size.
+#[derive(Clone, Copy)]
+pub(crate) enum Shape {
+    /// As many columns as rows.
+    Square,
+    /// A hundred rows to a column.
+    Tall,
+}
+
+/// What is done to a table.
+#[derive(Clone, Copy)]
+pub(crate) enum Change {
+    /// Nothing: the table is only made.
+    Nothing,
+    Left,
+    Right,
+    Top,
+    Reverse,
+    Extract,
+    RemoveRows,
+    RemoveColumns,
+    Concat,
+    Content,
+    Lines,
+    Clean,
+    Dup,
+}
+
+impl Change {
+    pub(crate) fn of_name(name: &str) -> Option<Change> {
+        match name {
+            "made" => Some(Change::Nothing),
+            "left" => Some(Change::Left),
+            "right" => Some(Change::Right),
+            "top" => Some(Change::Top),
+            "reverse" => Some(Change::Reverse),
+            "extract" => Some(Change::Extract),
+            "removerows" => Some(Change::RemoveRows),
+            "removecolumns" => Some(Change::RemoveColumns),
+            "concat" => Some(Change::Concat),
+            "content" => Some(Change::Content),
+            "lines" => Some(Change::Lines),
+            "clean" => Some(Change::Clean),
+            "dup" => Some(Change::Dup),
+            _ => None,
+        }
+    }
+}
+
+/// Changes a table of a size, and counts its rows.
+pub(crate) fn run(
+    alloc: Global,
+    size: usize,
+    shape: Shape,
+    change: Change,
+) -> Result<usize, AllocError> {
+    let columns = match shape {
+        Shape::Square => size,
+        Shape::Tall => size / 100,
+    };
+    let mut store = made(alloc, size, columns)?;
+    change_once(alloc, &mut store, size, columns, change)?;
+    let rows = store.count_rows();
+    mem::forget(store);
+    Ok(rows)
+}
+
+/// A table whose texts are all `x`.
+fn made(alloc: Global, rows: usize, columns: usize) -> Result<Store, AllocError> {
+    let mut store = VecRecords::new(alloc, Vec::new(alloc))?;
+    store.push_rows(alloc, rows)?;
+    store.push_columns(alloc, columns)?;
+    apply(alloc, Format::content(a_letter), &mut store)?;
+    Ok(store)
+}
+
+fn a_letter(alloc: Global, _: &str) -> Result<String, AllocError> {
+    String::from_str(alloc, "x")
+}
+
+/// Applies an option to a table.
+fn apply<O>(alloc: Global, option: O, store: &mut Store) -> Result<(), AllocError>
+where
+    O: TableOption<Store, SpannedConfig, ()>,
+    requires can { O.can_change option }
+{
+    let mut cfg = SpannedConfig::new(alloc);
+    option.change(alloc, store, &mut cfg, &mut ())
+}
+
+fn change_once(
+    alloc: Global,
+    store: &mut Store,
+    rows: usize,
+    columns: usize,
+    change: Change,
+) -> Result<(), AllocError> {
+    match change {
+        Change::Nothing => Ok(()),
+        Change::Left => apply(alloc, Rotate::Left, store),
+        Change::Right => apply(alloc, Rotate::Right, store),
+        Change::Top => apply(alloc, Rotate::Top, store),
+        Change::Reverse => {
+            apply(alloc, Reverse::columns(0).limit(Offset::End(0)), store)
+        }
+        Change::Extract => {
+            apply(alloc, Extract::segment(rows / 4..rows - rows / 4, columns / 4..columns - columns / 4), store)
+        }
+        Change::RemoveRows => apply(alloc, Remove::row(Rows::new(rows / 4..rows / 2)), store),
+        Change::RemoveColumns => {
+            apply(alloc, Remove::column(Columns::new(columns / 4..columns / 2)), store)
+        }
+        Change::Concat => {
+            let second = Table::from_records(alloc, made(alloc, 1, 1)?);
+            apply(alloc, Concat::vertical(alloc, second), store)
+        }
+        Change::Content => apply(alloc, Format::content(a_letter), store),
+        Change::Lines => apply(alloc, Format::content(a_letter).multiline(), store),
+        Change::Clean => apply(alloc, Charset::new().clean(), store),
+        Change::Dup => apply(alloc, Dup::new(Rows::new(1..), Rows::first()), store),
+    }
+}

@@ -1,0 +1,141 @@
+-- Anchors when a line is put in: one after another in a list, and in the map that it makes.
+use Rattle.std.proofs.Common.{◌≡◌, ℕ, zero, suc, ◌+◌, ◌^◌, ◌<◌, ◌≤◌, inl, inr, ◌⊎◌, Bool, true, false, List, [], ◌∷◌, None, Some, Option, refl, sym, ap, ap₂, arith, length, get_or, set, map}
+use Rattle.std.specs.Prelude.{◌&&◌, T, nat_lt}
+use Rattle.std.specs.declared.cmp.Ordering.{Ordering}
+use Rattle.std.specs.declared.cmp.Ordering.TheVariants.{Less, Equal, Greater}
+use Rattle.std.specs.FinMap.{is_sorted}
+use Rattle.std.specs.FinMap.Entries.{below_all}
+use Rattle.std.specs.List.{AllByRecursion, filter}
+use Rattle.std.specs.Option.{is_some, unwrap_or}
+use Rattle.std.specs.Ordering.{MatchOrdering, is_lt, nat_cmp, ordering_then}
+use Rattle.std.proofs.lemmas.Bool.{cases_Bool}
+use Rattle.std.proofs.lemmas.Cmp.{ranked}
+use Rattle.std.proofs.lemmas.Option.{none-some, same_Some}
+use borrow.Author.Tests.{ltb-true, ltb-false}
+use Rattle.tabled_grid.specs.Anchors.{Anchor}
+use Rattle.tabled_grid.specs.Shifts.{line_of, next_line, shifted_in, shifted_place}
+use Rattle.tabled_grid.specs.Spans.{AreAnchors, IsSpanSize, position_cmp}
+use Rattle.tabled_grid.specs.declared.config.position.Position.{Position}
+use Rattle.tabled_grid.specs.declared.records.axis.Axis.{Axis}
+use Rattle.tabled_grid.specs.declared.records.axis.Axis.TheVariants.{Rows, Columns}
+use Rattle.tabled_grid.proofs.PassedAnchors.{Earlier, earlier}
+use Rattle.tabled_grid.proofs.SpanMaps.{halves, less}
+
+-- a list whose first k items were changed
+abbrev pub first_changed : {X : Type 0} → (X → X) → ℕ → List X → List X
+first_changed f zero xs = xs
+first_changed f (suc k) [] = []
+first_changed f (suc k) (x ∷ xs) = f x ∷ first_changed f k xs
+
+module _ {X : Type 0} (f : X → X) where
+  pub length_first_changed : (k : ℕ) (xs : List X) → length (first_changed f k xs) ≡ length xs
+  length_first_changed zero xs = refl
+  length_first_changed (suc k) [] = refl
+  length_first_changed (suc k) (x ∷ xs) = ap suc (length_first_changed k xs)
+
+  pub one_more_changed : (k : ℕ) (xs : List X) (d : X) → k < length xs → set (first_changed f k xs) k (f (get_or (first_changed f k xs) k d)) ≡ first_changed f (suc k) xs
+  one_more_changed zero [] d within = absurd (omega arith)
+  one_more_changed zero (x ∷ xs) d within = refl
+  one_more_changed (suc k) [] d within = refl
+  one_more_changed (suc k) (x ∷ xs) d within = ap (λ ys. f x ∷ ys) (one_more_changed k xs d (omega arith))
+
+  pub all_changed : (xs : List X) → first_changed f (length xs) xs ≡ map f xs
+  all_changed [] = refl
+  all_changed (x ∷ xs) = ap (λ ys. f x ∷ ys) (all_changed xs)
+
+-- the anchor where it is once a line is put in, or where it was if no index is left
+abbrev pub shifted_or_kept : Axis → ℕ → Anchor → Anchor
+shifted_or_kept axis from e = (unwrap_or (shifted_place axis from e.0) e.0, e.1)
+
+abbrev pub has_place : Axis → ℕ → Anchor → Bool
+has_place axis from e = is_some (shifted_place axis from e.0)
+
+-- where a place comes to
+pub data Comes (axis : Axis) (from : ℕ) (p q : Position) : Type 0 where
+  stays : line_of axis p < from → q ≡ p → Comes axis from p q
+  moves : from ≤ line_of axis p → q ≡ next_line axis p → Comes axis from p q
+
+module _ (axis : Axis) (from : ℕ) where
+  -- those with an index left, each moved
+  pub moved_one_by_one : (es : List Anchor) → map (shifted_or_kept axis from) (filter (has_place axis from) es) ≡ shifted_in axis from es
+  moved_one_by_one [] = refl
+  moved_one_by_one (e ∷ es) = either (shifted_place axis from e.0) refl (moved_one_by_one es)
+    where
+      either : (s : Option Position) → shifted_place axis from e.0 ≡ s → map (shifted_or_kept axis from) (filter (has_place axis from) es) ≡ shifted_in axis from es → map (shifted_or_kept axis from) (filter (has_place axis from) (e ∷ es)) ≡ shifted_in axis from (e ∷ es)
+      either None is rest = rw is rest
+      either (Some p) is rest = rw is (ap₂ (λ (x : Anchor) xs. x ∷ xs) (ap (λ s. (unwrap_or s e.0, e.1)) is) rest)
+
+  pub comes : (p q : Position) → shifted_place axis from p ≡ Some q → Comes axis from p q
+  comes p q is = either (cases_Bool (nat_lt (line_of axis p) from)) (cases_Bool (nat_lt (line_of axis p + 1) (2 ^ 64)))
+    where
+      either : (nat_lt (line_of axis p) from ≡ true) ⊎ (nat_lt (line_of axis p) from ≡ false) → (nat_lt (line_of axis p + 1) (2 ^ 64) ≡ true) ⊎ (nat_lt (line_of axis p + 1) (2 ^ 64) ≡ false) → Comes axis from p q
+      either (inl t) c = stays (ltb-true _ _ t) (sym (same_Some p q (rw t at is)))
+      either (inr f) (inl t) = moves (ltb-false _ _ f) (sym (same_Some (next_line axis p) q (rw (f, t) at is)))
+      either (inr f) (inr g) = absurd (none-some q (rw (f, g) at is))
+
+-- places keep their order
+next_later : (axis : Axis) (from : ℕ) (p q p' q' : Position) → Earlier p q → Comes axis from p p' → Comes axis from q q' → Earlier p' q'
+next_later axis from p q p' q' e (stays a is) (stays b js) = rw (is, js) e
+next_later Rows from p q p' q' (inl e) (stays a is) (moves b js) = rw (is, js) (inl (omega arith))
+next_later Rows from p q p' q' (inr e) (stays a is) (moves b js) = rw (is, js) (inl (omega arith))
+next_later Rows from p q p' q' (inl e) (moves a is) (stays b js) = absurd (omega arith)
+next_later Rows from p q p' q' (inr e) (moves a is) (stays b js) = absurd (omega arith)
+next_later Rows from p q p' q' (inl e) (moves a is) (moves b js) = rw (is, js) (inl (omega arith))
+next_later Rows from p q p' q' (inr e) (moves a is) (moves b js) = rw (is, js) (inr (omega arith, e.1))
+next_later Columns from p q p' q' (inl e) (stays a is) (moves b js) = rw (is, js) (inl e)
+next_later Columns from p q p' q' (inr e) (stays a is) (moves b js) = rw (is, js) (inr (e.0, omega arith))
+next_later Columns from p q p' q' (inl e) (moves a is) (stays b js) = rw (is, js) (inl e)
+next_later Columns from p q p' q' (inr e) (moves a is) (stays b js) = absurd (omega arith)
+next_later Columns from p q p' q' (inl e) (moves a is) (moves b js) = rw (is, js) (inl e)
+next_later Columns from p q p' q' (inr e) (moves a is) (moves b js) = rw (is, js) (inr (e.0, omega arith))
+
+pub from_earlier : (p q : Position) → Earlier p q → position_cmp p q ≡ Less
+from_earlier p q e = by_row (nat_cmp p.row q.row) refl (ranked p.row q.row (nat_cmp p.row q.row) refl) e
+  where
+    by_col : (p.row ≡ q.row) → p.col < q.col → (o : Ordering) → MatchOrdering o (p.col < q.col) (p.col ≡ q.col) (q.col < p.col) → o ≡ Less
+    by_col same e Less m = refl
+    by_col same e Equal m = absurd (omega arith)
+    by_col same e Greater m = absurd (omega arith)
+
+    by_row : (o : Ordering) → nat_cmp p.row q.row ≡ o → MatchOrdering o (p.row < q.row) (p.row ≡ q.row) (q.row < p.row) → Earlier p q → ordering_then o (nat_cmp p.col q.col) ≡ Less
+    by_row Less is m e = refl
+    by_row Equal is m (inl e) = absurd (omega arith)
+    by_row Equal is m (inr e) = by_col m e.1 (nat_cmp p.col q.col) (ranked p.col q.col (nat_cmp p.col q.col) refl)
+    by_row Greater is m (inl e) = absurd (omega arith)
+    by_row Greater is m (inr e) = absurd (omega arith)
+
+both : (a b : Bool) → T a → T b → T (a && b)
+both true b p q = q
+both false b p q = p
+
+is_less : (o : Ordering) → o ≡ Less → T (is_lt o)
+is_less o e = rw e tt
+
+module _ (axis : Axis) (from : ℕ) where
+  below_shifted : (x y : Position) (es : List Anchor) → shifted_place axis from x ≡ Some y → T (below_all position_cmp x es) → T (below_all position_cmp y (shifted_in axis from es))
+  below_shifted x y [] is h = tt
+  below_shifted x y (e ∷ es) is h = either (shifted_place axis from e.0) refl (below_shifted x y es is (halves _ _ h).1)
+    where
+      either : (s : Option Position) → shifted_place axis from e.0 ≡ s → T (below_all position_cmp y (shifted_in axis from es)) → T (below_all position_cmp y (shifted_in axis from (e ∷ es)))
+      either None js rest = rw js rest
+      either (Some p) js rest = rw js (both _ _ (is_less _ (from_earlier y p (next_later axis from x e.0 y p (earlier x e.0 (less _ (halves _ _ h).0)) (comes axis from x y is) (comes axis from e.0 p js)))) rest)
+
+  pub sorted_shifted : (es : List Anchor) → T (is_sorted position_cmp es) → T (is_sorted position_cmp (shifted_in axis from es))
+  sorted_shifted [] h = tt
+  sorted_shifted (e ∷ es) h = either (shifted_place axis from e.0) refl (sorted_shifted es (halves _ _ h).1)
+    where
+      either : (s : Option Position) → shifted_place axis from e.0 ≡ s → T (is_sorted position_cmp (shifted_in axis from es)) → T (is_sorted position_cmp (shifted_in axis from (e ∷ es)))
+      either None js rest = rw js rest
+      either (Some p) js rest = rw js (both _ _ (below_shifted e.0 p es js (halves _ _ h).0) rest)
+
+  sizes_shifted : (es : List Anchor) → AllByRecursion (λ (e : Anchor). IsSpanSize e.1) es → AllByRecursion (λ (e : Anchor). IsSpanSize e.1) (shifted_in axis from es)
+  sizes_shifted [] h = h
+  sizes_shifted (e ∷ es) h = either (shifted_place axis from e.0) refl (sizes_shifted es h.1)
+    where
+      either : (s : Option Position) → shifted_place axis from e.0 ≡ s → AllByRecursion (λ (e : Anchor). IsSpanSize e.1) (shifted_in axis from es) → AllByRecursion (λ (e : Anchor). IsSpanSize e.1) (shifted_in axis from (e ∷ es))
+      either None js rest = rw js rest
+      either (Some p) js rest = rw js (h.0, rest)
+
+  -- anchors that are shifted are anchors
+  pub anchors_shifted : (es : List Anchor) → AreAnchors es → AreAnchors (shifted_in axis from es)
+  anchors_shifted es valid = record { sorted = sorted_shifted es valid.sorted; sizes = sizes_shifted es valid.sizes }

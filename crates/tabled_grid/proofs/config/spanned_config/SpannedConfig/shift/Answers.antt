@@ -1,0 +1,14 @@
+use Rattle.std.proofs.Common.{ap, sym}
+use Rattle.std.specs.FinMap.{entries-from_sorted, from_sorted}
+use Rattle.tabled_grid.specs.Shifts.{shifted_in}
+use Rattle.tabled_grid.specs.Spans.{position_cmp}
+use Rattle.tabled_grid.proofs.Shifts.{anchors_shifted}
+use Rattle.tabled_grid.proofs.config.spanned_config.SpannedConfig.shift.Goals as goal
+
+pub invariant_of-self : goal.invariant_of-self
+invariant_of-self c = rw c.shift.ensures (anchors_shifted c.args.axis c.args.from c.self.inside.anchors.items c.self.invariant)
+
+pub returns-clause-shifted : goal.returns-clause-shifted
+returns-clause-shifted c =
+    rw (← c.self.view_is, c.shift.ensures)
+    (ap (λ es. from_sorted (shifted_in c.args.axis c.args.from es)) (sym (entries-from_sorted position_cmp c.self.inside.anchors.items c.self.invariant.sorted)))

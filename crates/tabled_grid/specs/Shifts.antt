@@ -1,0 +1,50 @@
+-- Merged cells when a line, which is a row or a column, is put in: anchors from it on go one further.
+use Rattle.std.specs.Prelude.{◌+◌, ◌^◌, ◌&&◌, if◌then◌else◌, ℕ, Bool, List, None, Option, Some, filter_map, nat_lt}
+use Rattle.std.specs.FinMap as map
+use Rattle.std.specs.List.{list_any}
+use Rattle.std.specs.Option.{option_map}
+use Rattle.tabled_grid.specs.Anchors.{Anchor}
+use Rattle.tabled_grid.specs.Entity.{place}
+use Rattle.tabled_grid.specs.Spans.{SpanMap}
+use Rattle.tabled_grid.specs.declared.config.position.Position.{Position}
+use Rattle.tabled_grid.specs.declared.records.axis.Axis.{Axis}
+use Rattle.tabled_grid.specs.declared.records.axis.Axis.TheVariants.{Rows, Columns}
+
+-- the index of a place's line
+abbrev pub line_of : Axis → Position → ℕ
+line_of Rows p = p.row
+line_of Columns p = p.col
+
+-- how many lines a size takes
+abbrev pub lines_in : Axis → ℕ × ℕ → ℕ
+lines_in Rows size = size.0
+lines_in Columns size = size.1
+
+-- the place beside this one in the next line
+abbrev pub next_line : Axis → Position → Position
+next_line Rows p = place (p.row + 1) p.col
+next_line Columns p = place p.row (p.col + 1)
+
+-- where a place is once a line is put in before line `from`: none where no index is left for it
+abbrev pub shifted_place : Axis → ℕ → Position → Option Position
+shifted_place axis from p = if nat_lt (line_of axis p) from then Some p else (if nat_lt (line_of axis p + 1) (2 ^ 64) then Some (next_line axis p) else None)
+
+-- an anchor there, with the size that it had
+abbrev pub shifted_anchor : Axis → ℕ → Anchor → Option Anchor
+shifted_anchor axis from e = option_map (λ (p : Position). (p, e.1)) (shifted_place axis from e.0)
+
+-- the anchors of a list where they are once a line is put in
+abbrev pub shifted_in : Axis → ℕ → List Anchor → List Anchor
+shifted_in axis from es = filter_map (shifted_anchor axis from) es
+
+-- the map once a line is put in before line `from`: all its anchors from there on go one further, at once
+abbrev pub shifted : Axis → ℕ → SpanMap → SpanMap
+shifted axis from m = map.from_sorted (shifted_in axis from (map.entries m))
+
+-- the rectangle of an anchor begins before a line and holds a cell of it
+abbrev pub crosses_line : Axis → ℕ → Anchor → Bool
+crosses_line axis line e = nat_lt (line_of axis e.0) line && nat_lt line (line_of axis e.0 + lines_in axis e.1)
+
+-- one of the rectangles does
+abbrev pub is_crossed : Axis → ℕ → SpanMap → Bool
+is_crossed axis line m = list_any (crosses_line axis line) (map.entries m)

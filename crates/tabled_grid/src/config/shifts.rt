@@ -1,0 +1,69 @@
+//! Lists of anchors when a line, which is a row or a column, is put in.
+
+ghost use Rattle.std.specs.Prelude.{◌≡◌, ℕ, map};
+ghost use Rattle.std.specs.Option.{unwrap_or};
+ghost use Rattle.std.specs.List.{list_any};
+ghost use Rattle.tabled_grid.specs.Shifts.{crosses_line, line_of, shifted_in, shifted_place};
+ghost use Rattle.tabled_grid.specs.declared.config.position.Position.{Position};
+
+use crate::config::anchors::Anchor;
+use crate::config::position::Position;
+use crate::records::Axis;
+
+/// Moves all anchors from a line on one line further. One that has no index left goes away.
+pub(super) fn shift(anchors: &mut Vec<Anchor>, axis: Axis, from: usize)
+    ensures { anchors.new.items ≡ shifted_in axis from anchors.old.items }
+{
+    anchors.retain(|anchor| place_once_shifted(axis, from, anchor.0).is_some());
+    shift_each(anchors, axis, from);
+}
+
+/// Moves anchors from a line on one line further, where an index is left.
+fn shift_each(anchors: &mut [Anchor], axis: Axis, from: usize)
+    ensures { anchors.new ≡ map (λ (e : Position × (ℕ × ℕ)). (unwrap_or (shifted_place axis from e.0) e.0, e.1)) anchors.old }
+{
+    for k in 0..anchors.len() {
+        let (pos, size) = anchors[k];
+        anchors[k] = (place_once_shifted(axis, from, pos).unwrap_or(pos), size);
+    }
+}
+
+/// Says whether a rectangle begins before a line and holds a cell of it.
+pub(super) fn cross(anchors: &[Anchor], axis: Axis, line: usize) -> bool
+    ensures { result ≡ list_any (crosses_line axis line) anchors.now }
+{
+    anchors.iter().any(|anchor| {
+        let (pos, (height, width)) = *anchor;
+        let first = line_of(axis, pos);
+        let many = match axis {
+            Axis::Rows => height,
+            Axis::Columns => width,
+        };
+        first < line && line - first < many
+    })
+}
+
+/// Where a place is once a line is put in before line `from`, if an index is left for it.
+fn place_once_shifted(axis: Axis, from: usize, pos: Position) -> Option<Position>
+    ensures { result ≡ shifted_place axis from pos }
+{
+    let line = line_of(axis, pos);
+    if line < from {
+        return Some(pos);
+    }
+    let next = line.checked_add(1)?;
+    Some(match axis {
+        Axis::Rows => Position::new(next, pos.col),
+        Axis::Columns => Position::new(pos.row, next),
+    })
+}
+
+/// The index of a place's line.
+fn line_of(axis: Axis, pos: Position) -> usize
+    ensures { result ≡ line_of axis pos }
+{
+    match axis {
+        Axis::Rows => pos.row,
+        Axis::Columns => pos.col,
+    }
+}

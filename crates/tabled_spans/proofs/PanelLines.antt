@@ -1,0 +1,98 @@
+-- A line put in, with a text in its first cell, and the way back.
+use Rattle.std.proofs.Common.{◌≡◌, ℕ, zero, suc, ◌+◌, ◌-◌, ◌≤◌, false, cond, List, [], ◌∷◌, refl, ap, ap₂, ◌∙◌, arith, length, get_or, set, map}
+use Rattle.std.specs.Prelude.{nat_eq, replicate}
+use Rattle.std.specs.List.{AllByRecursion, insert, remove, zip}
+use Rattle.std.proofs.lemmas.Bool.{false_from_ne_true}
+use borrow.Author.Tests.{eqb-true}
+use Rattle.tabled_grid.specs.Along.{count_along, without_line}
+use Rattle.tabled_grid.specs.Entity.{place}
+use Rattle.tabled_grid.specs.Grid.{Grid, IsEmptyWithoutRows, IsEven, WritesText, with_cell}
+use Rattle.tabled_grid.specs.Resized.{AreBlanks, with_column, with_row, without_column, without_row}
+use Rattle.tabled_grid.specs.declared.records.axis.Axis.{Axis}
+use Rattle.tabled_grid.specs.declared.records.axis.Axis.TheVariants.{Rows, Columns}
+use Rattle.tabled_spans.specs.PanelSteps.{InsertsLine}
+use Rattle.tabled_spans.specs.Panels.{PutsIn, cells_along, start_of_line}
+
+module _ {X : Type 0} where
+  pub got_inserted : (xs : List X) (i : ℕ) (x d : X) → i ≤ length xs → get_or (insert xs i x) i d ≡ x
+  got_inserted [] zero x d h = refl
+  got_inserted [] (suc i) x d h = absurd (omega arith)
+  got_inserted (y ∷ xs) zero x d h = refl
+  got_inserted (y ∷ xs) (suc i) x d h = got_inserted xs i x d (omega arith)
+
+  pub set_inserted : (xs : List X) (i : ℕ) (x y : X) → i ≤ length xs → set (insert xs i x) i y ≡ insert xs i y
+  set_inserted [] zero x y h = refl
+  set_inserted [] (suc i) x y h = absurd (omega arith)
+  set_inserted (z ∷ xs) zero x y h = refl
+  set_inserted (z ∷ xs) (suc i) x y h = ap (λ zs. z ∷ zs) (set_inserted xs i x y (omega arith))
+
+  pub removed_inserted : (xs : List X) (i : ℕ) (x : X) → i ≤ length xs → remove (insert xs i x) i ≡ xs
+  removed_inserted [] zero x h = refl
+  removed_inserted [] (suc i) x h = absurd (omega arith)
+  removed_inserted (z ∷ xs) zero x h = refl
+  removed_inserted (z ∷ xs) (suc i) x h = ap (λ zs. z ∷ zs) (removed_inserted xs i x (omega arith))
+
+module _ {A : Type 0} where
+  wide_columns : (columns j : ℕ) (rows : List (List A)) (cells : List A) → AllByRecursion (λ (row : List A). length row ≡ columns) rows → length cells ≡ length rows → j ≤ columns → map (λ (row : List A). remove row j) (map (λ (p : List A × A). insert p.0 j p.1) (zip rows cells)) ≡ rows
+  wide_columns columns j [] cells wide long h = refl
+  wide_columns columns j (row ∷ rows) [] wide long h = absurd (omega arith)
+  wide_columns columns j (row ∷ rows) (x ∷ cells) wide long h = ap₂ (λ (r : List A) rs. r ∷ rs) (removed_inserted row j x (omega (arith, wide.0))) (wide_columns columns j rows cells wide.1 (omega arith) h)
+
+  no_rows : (g : Grid A) → IsEmptyWithoutRows g → 1 ≤ g.columns → nat_eq (g.rows + 1) 1 ≡ false
+  no_rows g none cells = false_from_ne_true _ (λ e. let f = none (omega (arith, eqb-true _ _ e)) in omega arith)
+
+  some_rows : (g : Grid A) → 1 ≤ g.rows → nat_eq g.rows 0 ≡ false
+  some_rows g h = false_from_ne_true _ (λ e. omega (arith, eqb-true _ _ e))
+
+  -- a line that is put in and removed leaves what was there
+  pub undone : (is_blank : A → Type 0) (axis : Axis) (line : ℕ) (old mid : Grid A) → IsEven old → IsEmptyWithoutRows old → line ≤ count_along axis old → 1 ≤ cells_along axis old → InsertsLine is_blank axis old mid line → without_line axis line mid ≡ old
+  undone is_blank Rows line old mid even none within cells inserts = ap (λ h. without_row h line) inserts.is ∙ back
+    where
+      back : without_row (with_row old line inserts.row) line ≡ old
+      back =
+          ap₂ (λ n cs. let g : Grid A = record { rows = n; columns = cond (nat_eq (old.rows + 1) 1) 0 old.columns; cells = cs } in g) (omega arith) (removed_inserted old.cells line inserts.row (omega (arith, even.tall)))
+          ∙ ap (λ b. let g : Grid A = record { rows = old.rows; columns = cond b 0 old.columns; cells = old.cells } in g) (no_rows old none cells)
+  undone is_blank Columns line old mid even none within cells inserts = ap (λ h. without_column h line) inserts.is ∙ back
+    where
+      back : without_column (with_column old line inserts.column) line ≡ old
+      back =
+          ap₂ (λ b cs. let g : Grid A = record { rows = old.rows; columns = cond b old.columns (old.columns + 1) - 1; cells = cs } in g) (some_rows old cells) (wide_columns old.columns line old.cells inserts.column even.wide (omega (arith, inserts.blanks.many, even.tall)) within)
+          ∙ ap (λ n. let g : Grid A = record { rows = old.rows; columns = n; cells = old.cells } in g) (omega arith)
+
+module _ {A : Type 0} (is_blank : A → Type 0) (text_of : A → List ℕ) (empty : (x : A) → is_blank x → text_of x ≡ []) where
+  no_texts : (cells : List A) (n : ℕ) → AllByRecursion is_blank cells → length cells ≡ n → map text_of cells ≡ replicate n []
+  no_texts [] zero blank long = refl
+  no_texts [] (suc n) blank long = absurd (omega arith)
+  no_texts (x ∷ cells) zero blank long = absurd (omega arith)
+  no_texts (x ∷ cells) (suc n) blank long = ap₂ (λ (t : List ℕ) ts. t ∷ ts) (empty x blank.0) (no_texts cells n blank.1 (omega arith))
+
+  module _ (line : ℕ) (text : List ℕ) (old mid new : Grid A) (even : IsEven old) where
+    by_row : line ≤ old.rows → 1 ≤ old.columns → (row : List A) → AreBlanks is_blank old.columns row → mid ≡ with_row old line row → WritesText text_of mid new (place line 0) text → PutsIn text_of Rows line text old new
+    by_row within some [] blanks is writes = absurd (omega (arith, blanks.many))
+    by_row within some (x ∷ row) blanks is writes = record {
+      cells = writes.cell ∷ row;
+      texts = ap₂ (λ (t : List ℕ) ts. t ∷ ts) writes.has (no_texts row (old.columns - 1) blanks.blank.1 (omega (arith, blanks.many)));
+      is = writes.is ∙ ap (λ h. with_cell h (place line 0) writes.cell) is ∙ ap (λ cs. let g : Grid A = record { rows = old.rows + 1; columns = old.columns; cells = cs } in g) put;
+    }
+      where
+        high : line ≤ length old.cells
+        high = omega (arith, even.tall)
+
+        put : set (insert old.cells line (x ∷ row)) line (set (get_or (insert old.cells line (x ∷ row)) line []) 0 writes.cell) ≡ insert old.cells line (writes.cell ∷ row)
+        put = ap (λ (r : List A). set (insert old.cells line (x ∷ row)) line (set r 0 writes.cell)) (got_inserted old.cells line (x ∷ row) [] high) ∙ set_inserted old.cells line (x ∷ row) (writes.cell ∷ row) high
+
+    by_column : line ≤ old.columns → 1 ≤ old.rows → (column : List A) → AreBlanks is_blank old.rows column → mid ≡ with_column old line column → WritesText text_of mid new (place 0 line) text → PutsIn text_of Columns line text old new
+    by_column within some [] blanks is writes = absurd (omega (arith, blanks.many))
+    by_column within some (x ∷ column) blanks is writes = record {
+      cells = writes.cell ∷ column;
+      texts = ap₂ (λ (t : List ℕ) ts. t ∷ ts) writes.has (no_texts column (old.rows - 1) blanks.blank.1 (omega (arith, blanks.many)));
+      is = writes.is ∙ ap (λ h. with_cell h (place 0 line) writes.cell) is ∙ ap (λ cs. let g : Grid A = record { rows = old.rows; columns = cond (nat_eq old.rows 0) old.columns (old.columns + 1); cells = cs } in g) (put old.cells even.wide (omega (arith, even.tall)));
+    }
+      where
+        put : (rows : List (List A)) → AllByRecursion (λ (r : List A). length r ≡ old.columns) rows → 1 ≤ length rows → set (map (λ (p : List A × A). insert p.0 line p.1) (zip rows (x ∷ column))) 0 (set (get_or (map (λ (p : List A × A). insert p.0 line p.1) (zip rows (x ∷ column))) 0 []) line writes.cell) ≡ map (λ (p : List A × A). insert p.0 line p.1) (zip rows (writes.cell ∷ column))
+        put [] wide h = absurd (omega arith)
+        put (r ∷ rows) wide h = ap (λ (s : List A). s ∷ map (λ (p : List A × A). insert p.0 line p.1) (zip rows column)) (set_inserted r line x writes.cell (omega (arith, wide.0)))
+
+  pub put_in : (axis : Axis) (line : ℕ) (text : List ℕ) (old mid new : Grid A) → IsEven old → line ≤ count_along axis old → 1 ≤ cells_along axis old → InsertsLine is_blank axis old mid line → WritesText text_of mid new (start_of_line axis line) text → PutsIn text_of axis line text old new
+  put_in Rows line text old mid new even within some inserts writes = by_row line text old mid new even within some inserts.row inserts.blanks inserts.is writes
+  put_in Columns line text old mid new even within some inserts writes = by_column line text old mid new even within some inserts.column inserts.blanks inserts.is writes

@@ -1,0 +1,52 @@
+-- Panels: a line, which is a row or a column, with one text is put in before a line of a table.
+use Rattle.std.specs.Prelude.{◌≡◌, ◌-◌, ◌&&◌, ℕ, Bool, true, false, List, [], ◌∷◌, map, nat_le, nat_lt, not, replicate}
+use Rattle.tabled_grid.specs.Along.{count_along}
+use Rattle.tabled_grid.specs.Entity.{place}
+use Rattle.tabled_grid.specs.Grid.{Grid}
+use Rattle.tabled_grid.specs.Resized.{with_column, with_row}
+use Rattle.tabled_grid.specs.Shifts.{is_crossed, shifted}
+use Rattle.tabled_grid.specs.Spans.{SpanMap, with_size}
+use Rattle.tabled_grid.specs.declared.config.position.Position.{Position}
+use Rattle.tabled_grid.specs.declared.records.axis.Axis.{Axis}
+use Rattle.tabled_grid.specs.declared.records.axis.Axis.TheVariants.{Rows, Columns}
+use Rattle.tabled_options.specs.Does.{Same}
+
+-- how many cells a line has
+abbrev pub cells_along : {A : Type 0} → Axis → Grid A → ℕ
+cells_along Rows g = g.columns
+cells_along Columns g = g.rows
+
+-- the first place of a line
+abbrev pub start_of_line : Axis → ℕ → Position
+start_of_line Rows i = place i 0
+start_of_line Columns j = place 0 j
+
+-- the size of a piece of a line of so many cells
+abbrev pub size_of_piece : Axis → ℕ → ℕ × ℕ
+size_of_piece Rows many = (1, many)
+size_of_piece Columns many = (many, 1)
+
+-- the grid with a line put in before another
+abbrev pub with_line : {A : Type 0} → Axis → ℕ → List A → Grid A → Grid A
+with_line Rows i cells g = with_row g i cells
+with_line Columns j cells g = with_column g j cells
+
+-- a line is put in before another, with a text in its first cell and none in the others
+pub record PutsIn {A : Type 0} (text_of : A → List ℕ) (axis : Axis) (line : ℕ) (text : List ℕ) (old new : Grid A) : Type 0 where
+  pub cells : List A
+  pub texts : map text_of cells ≡ text ∷ replicate (cells_along axis old - 1) []
+  pub is : new ≡ with_line axis line cells old
+
+-- the map: anchors from the line on go one further, and the line is one rectangle
+abbrev pub with_panel : Axis → ℕ → ℕ → SpanMap → SpanMap
+with_panel axis line many m = with_size (shifted axis line m) (start_of_line axis line) (size_of_piece axis many)
+
+-- a panel may stand before a line: it isn't past the last one, lines have cells, and no rectangle begins before it and holds a cell of it
+abbrev pub has_room : {A : Type 0} → Axis → ℕ → Grid A → SpanMap → Bool
+has_room axis line g m = nat_le line (count_along axis g) && (nat_lt 0 (cells_along axis g) && not (is_crossed axis line m))
+
+-- a panel before a line, where it may stand, and else nothing
+pub record Panels {A : Type 0} (text_of : A → List ℕ) (axis : Axis) (line : ℕ) (text : List ℕ) (g : Grid A) (m : SpanMap) (h : Grid A) (n : SpanMap) : Type 0 where
+  pub puts : has_room axis line g m ≡ true → PutsIn text_of axis line text g h
+  pub merges : has_room axis line g m ≡ true → n ≡ with_panel axis line (cells_along axis g) m
+  pub leaves : has_room axis line g m ≡ false → Same g m h n

@@ -1,0 +1,140 @@
+//! Selectors as data.
+
+ghost use Rattle.std.specs.Prelude.{◌≡◌, IfOk};
+ghost use Rattle.tabled_grid.specs.Grid.{map_grid};
+ghost use Rattle.tabled_steps.specs.Selected.{selected};
+
+use std::alloc::{AllocError, Global};
+use std::vec;
+use tabled_grid::config::Entity;
+use tabled_grid::records::{CellText, ExactRecords, PeekableRecords, Records};
+use tabled_select::location::{ByColumnName, ByContent};
+use tabled_select::object::{
+    Cell, Column, Columns, EntityList, FirstColumn, FirstRow, Frame, LastColumn, LastRow, Object,
+    ObjectIterator, Row, Rows, Segment, entities,
+};
+
+/// A selector that is data: it names what the selector of the same name in `tabled_select` names.
+///
+/// Our own.
+#[derive(Debug, Drop)]
+pub enum Select {
+    /// All cells, as one entity.
+    All,
+    /// A cell, by its row and column.
+    Cell(usize, usize),
+    Row(usize),
+    Column(usize),
+    FirstRow,
+    LastRow,
+    FirstColumn,
+    LastColumn,
+    /// The row so far before the last one.
+    LastRowMinus(usize),
+    /// The row so far past the last one.
+    LastRowPlus(usize),
+    LastColumnMinus(usize),
+    LastColumnPlus(usize),
+    /// The rows of a range, by its start and its end.
+    Rows(usize, usize),
+    Columns(usize, usize),
+    /// The cells of a range of rows and a range of columns.
+    Segment(usize, usize, usize, usize),
+    /// The cells on the edge.
+    Frame,
+    /// The cells with a text.
+    Content(String),
+    /// The columns with a text in the first row.
+    Name(String),
+    /// The cells of both, each once.
+    And(Box<Select>, Box<Select>),
+    /// The cells of the first that the second doesn't name.
+    Not(Box<Select>, Box<Select>),
+    /// The cells of the first that the second names, too.
+    Intersect(Box<Select>, Box<Select>),
+    /// The cells that aren't named.
+    Inverse(Box<Select>),
+    /// What is named without the first so many entities.
+    Skip(usize, Box<Select>),
+    /// Of what is named the entities 0, n, 2n and so on.
+    StepBy(usize, Box<Select>),
+}
+
+impl Select {
+    /// The entities that are named in a store, in order.
+    ///
+    /// A combination lists its parts first, so its work grows with the cells and entities of both.
+    fn list<R>(&self, alloc: Global, records: &R) -> Result<Vec<Entity>, AllocError>
+    where
+        R: Records + ExactRecords + PeekableRecords,
+        R::Cell: CellText,
+        requires { R.is_well_formed records.now }
+        ensures { IfOk result (λ all. all.items ≡ selected (map_grid R.Cell.text_of (R.grid records.now)) self.now) }
+    {
+        match self {
+            Select::All => entities(alloc, &Segment::all(), records),
+            Select::Cell(i, j) => entities(alloc, &Cell::new(*i, *j), records),
+            Select::Row(i) => entities(alloc, &Row::from(*i), records),
+            Select::Column(j) => entities(alloc, &Column::from(*j), records),
+            Select::FirstRow => entities(alloc, &FirstRow, records),
+            Select::LastRow => entities(alloc, &LastRow, records),
+            Select::FirstColumn => entities(alloc, &FirstColumn, records),
+            Select::LastColumn => entities(alloc, &LastColumn, records),
+            Select::LastRowMinus(n) => entities(alloc, &(LastRow - *n), records),
+            Select::LastRowPlus(n) => entities(alloc, &(LastRow + *n), records),
+            Select::LastColumnMinus(n) => entities(alloc, &(LastColumn - *n), records),
+            Select::LastColumnPlus(n) => entities(alloc, &(LastColumn + *n), records),
+            Select::Rows(a, b) => entities(alloc, &Rows::new(*a..*b), records),
+            Select::Columns(a, b) => entities(alloc, &Columns::new(*a..*b), records),
+            Select::Segment(a, b, c, d) => entities(alloc, &Segment::new(*a..*b, *c..*d), records),
+            Select::Frame => entities(alloc, &Frame, records),
+            Select::Content(text) => {
+                entities(alloc, &ByContent::new(text.clone()?), records)
+            }
+            Select::Name(text) => entities(alloc, &ByColumnName::new(text.clone()?), records),
+            Select::And(x, y) => {
+                let lhs = EntityList(x.list(alloc, records)?);
+                let rhs = EntityList(y.list(alloc, records)?);
+                entities(alloc, &lhs.and(rhs), records)
+            }
+            Select::Not(x, y) => {
+                let lhs = EntityList(x.list(alloc, records)?);
+                let rhs = EntityList(y.list(alloc, records)?);
+                entities(alloc, &lhs.not(rhs), records)
+            }
+            Select::Intersect(x, y) => {
+                let lhs = EntityList(x.list(alloc, records)?);
+                let rhs = EntityList(y.list(alloc, records)?);
+                entities(alloc, &lhs.intersect(rhs), records)
+            }
+            Select::Inverse(x) => {
+                let listed = EntityList(x.list(alloc, records)?);
+                entities(alloc, &listed.inverse(), records)
+            }
+            Select::Skip(n, x) => {
+                let listed = EntityList(x.list(alloc, records)?);
+                entities(alloc, &listed.skip(*n), records)
+            }
+            Select::StepBy(n, x) => {
+                let listed = EntityList(x.list(alloc, records)?);
+                entities(alloc, &listed.step_by(*n), records)
+            }
+        }
+    }
+}
+
+impl<R> Object<R> for Select
+where
+    R: Records + ExactRecords + PeekableRecords,
+    R::Cell: CellText,
+{
+    type Iter = vec::IntoIter<Entity>;
+
+    ghost lists = { λ s g entities. entities ≡ selected (map_grid R.Cell.text_of g) s };
+
+    ghost can_list = { λ _. Unit {0} };
+
+    fn cells(&self, alloc: Global, records: &R) -> Result<vec::IntoIter<Entity>, AllocError> {
+        Ok(self.list(alloc, records)?.into_iter())
+    }
+}
