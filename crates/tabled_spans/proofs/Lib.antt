@@ -2,6 +2,7 @@ pub mod FreeCells
 pub mod PanelGeometry
 pub mod PanelLines
 pub mod PanelMaps
+pub mod Reach
 pub mod RisingPlaces
 pub mod SpanChanges
 pub mod SpanGeometry

@@ -7,11 +7,27 @@ use Rattle.tabled_grid.specs.declared.records.axis.Axis.{Axis}
 use Rattle.tabled_options.specs.Writes.{Write, with_writes}
 use Rattle.tabled_spans.specs.Spanned.{FirstWritten, at_index, count_of, emptying, index, pull_writes, pulling, taken}
 
-pub FirstWritten-none : (writes : List Write) (g : Grid (List ℕ)) → FirstWritten writes g g
-FirstWritten-none writes g = record { count = 0; within = omega arith; is = refl }
+-- with some of all writes done, the rest leads where all lead, and where its first lead
+pub record Continues (all : List Write) (old : Grid (List ℕ)) (rest : List Write) (new : Grid (List ℕ)) : Type 0 where
+  pub ok : with_writes rest new ≡ with_writes all old
+  pub err : (h : Grid (List ℕ)) → FirstWritten rest new h → FirstWritten all old h
 
-pub FirstWritten-next : (w : Write) (writes : List Write) (g h : Grid (List ℕ)) → FirstWritten writes (with_cell g w.place w.text) h → FirstWritten (w ∷ writes) g h
+pub continues-start : (all : List Write) (old : Grid (List ℕ)) → Continues all old all old
+continues-start all old = record { ok = refl; err = λ h f. f }
+
+FirstWritten-next : (w : Write) (writes : List Write) (g h : Grid (List ℕ)) → FirstWritten writes (with_cell g w.place w.text) h → FirstWritten (w ∷ writes) g h
 FirstWritten-next w writes g h f = record { count = suc f.count; within = omega (arith, f.within); is = f.is }
+
+-- one more write
+pub continues-next : (all : List Write) (old : Grid (List ℕ)) (p : Position) (text : List ℕ) (rest : List Write) (g m : Grid (List ℕ)) → m ≡ with_cell g p text → Continues all old (record { place = p; text = text } ∷ rest) g → Continues all old rest m
+continues-next all old p text rest g m is so_far = record {
+  ok = ap (with_writes rest) is ∙ so_far.ok;
+  err = λ h f. so_far.err h (FirstWritten-next (record { place = p; text = text }) rest g h (subst (λ (k : Grid (List ℕ)). FirstWritten rest k h) is f));
+}
+
+-- a refused write
+pub continues-refused : (all : List Write) (old : Grid (List ℕ)) (rest : List Write) (g : Grid (List ℕ)) → Continues all old rest g → FirstWritten all old g
+continues-refused all old rest g so_far = so_far.err g (record { count = 0; within = omega arith; is = refl })
 
 with_writes-append : (xs ys : List Write) (g : Grid (List ℕ)) → with_writes (xs ++ ys) g ≡ with_writes ys (with_writes xs g)
 with_writes-append [] ys g = refl
@@ -35,27 +51,43 @@ FirstWritten-later (x ∷ xs) ys g h f = FirstWritten-next x (xs ++ ys) g h (Fir
 pub emptying-more : (axis : Axis) (p : Position) (k end : ℕ) → k < end → emptying axis p k (end - k) ≡ record { place = at_index axis p k; text = [] } ∷ emptying axis p (k + 1) (end - (k + 1))
 emptying-more axis p k end h = let one : end - k ≡ suc (end - (k + 1)) = omega arith in ap (emptying axis p k) one
 
--- after the first, what is left to be emptied
+pub emptying-done : (axis : Axis) (p : Position) (k end : ℕ) → end ≤ k → emptying axis p k (end - k) ≡ []
+emptying-done axis p k end h = let none : end - k ≡ 0 = omega arith in ap (emptying axis p k) none
+
+-- the text that is pulled, and then what is left to be emptied
 pub pulling-rest : (axis : Axis) (p : Position) (first many : ℕ) (g : Grid (List ℕ)) (text : List ℕ) → cell_at g p ≡ Some text → pulling axis p (first, many) g ≡ record { place = at_index axis p first; text = text } ∷ emptying axis p (first + 1) ((first + many) - (first + 1))
 pulling-rest axis p first many g text is =
     let left : many - 1 ≡ (first + many) - (first + 1) = omega arith in
     ap (λ (t : List ℕ). record { place = at_index axis p first; text = t } ∷ emptying axis p (first + 1) (many - 1)) (ap (λ (o : Option (List ℕ)). unwrap_or o []) is)
     ∙ ap (λ n. record { place = at_index axis p first; text = text } ∷ emptying axis p (first + 1) n) left
 
+-- after the text was pulled
+pub pull-start : (axis : Axis) (p : Position) (first many : ℕ) (g m : Grid (List ℕ)) (found text : List ℕ) (q : Position) → cell_at g p ≡ Some found → text ≡ found → q ≡ at_index axis p first → m ≡ with_cell g q text → Continues (pulling axis p (first, many) g) g (emptying axis p (first + 1) ((first + many) - (first + 1))) m
+pull-start axis p first many g m found text q is copied here made = continues-next (pulling axis p (first, many) g) g (at_index axis p first) text (emptying axis p (first + 1) ((first + many) - (first + 1))) g m (made ∙ ap (λ x. with_cell g x text) here) (subst (λ ws. Continues (pulling axis p (first, many) g) g ws g) (pulling-rest axis p first many g text (is ∙ ap Some (sym copied))) (continues-start (pulling axis p (first, many) g) g))
+
+-- after one more cell was emptied
+pub pull-more : (all : List Write) (old : Grid (List ℕ)) (axis : Axis) (p : Position) (k end : ℕ) (g m : Grid (List ℕ)) (text : List ℕ) (q : Position) → k < end → text ≡ [] → q ≡ at_index axis p k → m ≡ with_cell g q text → Continues all old (emptying axis p k (end - k)) g → Continues all old (emptying axis p (k + 1) (end - (k + 1))) m
+pull-more all old axis p k end g m text q low none here made so_far = continues-next all old (at_index axis p k) [] (emptying axis p (k + 1) (end - (k + 1))) g m (made ∙ ap₂ (with_cell g) here none) (subst (λ ws. Continues all old ws g) (emptying-more axis p k end low) so_far)
+
+-- after the last
+pub pull-end : (all : List Write) (old : Grid (List ℕ)) (axis : Axis) (p : Position) (k end : ℕ) (g : Grid (List ℕ)) → end ≤ k → Continues all old (emptying axis p k (end - k)) g → g ≡ with_writes all old
+pull-end all old axis p k end g done so_far = (subst (λ ws. Continues all old ws g) (emptying-done axis p k end done) so_far).ok
+
 -- the cells that a span takes, by the values that a body has
 pub cells_is : (axis : Axis) (p : Position) (back : Option ℕ) (count at rows columns all_rows all_columns : ℕ) (cells : ℕ × ℕ) → cells ≡ taken back count at → count ≡ count_of axis rows columns → rows ≡ all_rows → columns ≡ all_columns → at ≡ index axis p → cells ≡ taken back (count_of axis all_rows all_columns) (index axis p)
 cells_is axis p back count at rows columns all_rows all_columns cells is all r c here = is ∙ ap₂ (taken back) (all ∙ ap₂ (count_of axis) r c) here
 
-module _ (axis : Axis) (back : Option ℕ) (n : ℕ) (p : Position) (places : List Position) (cells : ℕ × ℕ) (is : cells ≡ taken back n (index axis p)) (g : Grid (List ℕ)) where
+module _ (all : List Write) (old : Grid (List ℕ)) (axis : Axis) (back : Option ℕ) (n : ℕ) (p : Position) (places : List Position) (cells : ℕ × ℕ) (is : cells ≡ taken back n (index axis p)) (g : Grid (List ℕ)) (so_far : Continues all old (pull_writes axis back n (p ∷ places) g) g) where
   here : pull_writes axis back n (p ∷ places) g ≡ pulling axis p cells g ++ pull_writes axis back n places (with_writes (pulling axis p cells g) g)
   here = ap (λ (c : ℕ × ℕ). pulling axis p c g ++ pull_writes axis back n places (with_writes (pulling axis p c g) g)) (sym is)
 
-  pub pull-first : (h : Grid (List ℕ)) → FirstWritten (pulling axis p cells g) g h → FirstWritten (pull_writes axis back n (p ∷ places) g) g h
-  pull-first h f = subst (λ (ws : List Write). FirstWritten ws g h) (sym here) (FirstWritten-front (pulling axis p cells g) _ g h f)
+  -- the texts of a place were pulled
+  pub pulled-here : (m : Grid (List ℕ)) → m ≡ with_writes (pulling axis p cells g) g → Continues all old (pull_writes axis back n places m) m
+  pulled-here m after = subst (λ (k : Grid (List ℕ)). Continues all old (pull_writes axis back n places k) k) (sym after) (record {
+    ok = sym (with_writes-append (pulling axis p cells g) (pull_writes axis back n places (with_writes (pulling axis p cells g) g)) g) ∙ ap (λ ws. with_writes ws g) (sym here) ∙ so_far.ok;
+    err = λ h f. so_far.err h (subst (λ (ws : List Write). FirstWritten ws g h) (sym here) (FirstWritten-later (pulling axis p cells g) (pull_writes axis back n places (with_writes (pulling axis p cells g) g)) g h f));
+  })
 
-  module _ (m : Grid (List ℕ)) (after : m ≡ with_writes (pulling axis p cells g) g) where
-    pub pull-later : (h : Grid (List ℕ)) → FirstWritten (pull_writes axis back n places m) m h → FirstWritten (pull_writes axis back n (p ∷ places) g) g h
-    pull-later h f = subst (λ (ws : List Write). FirstWritten ws g h) (sym here) (FirstWritten-later (pulling axis p cells g) _ g h (subst (λ (k : Grid (List ℕ)). FirstWritten (pull_writes axis back n places k) k h) after f))
-
-    pub pull-all : with_writes (pull_writes axis back n places m) m ≡ with_writes (pull_writes axis back n (p ∷ places) g) g
-    pull-all = ap (λ (k : Grid (List ℕ)). with_writes (pull_writes axis back n places k) k) after ∙ sym (with_writes-append (pulling axis p cells g) _ g) ∙ ap (λ (ws : List Write). with_writes ws g) (sym here)
+  -- they were pulled in part
+  pub pulled-first : (h : Grid (List ℕ)) → FirstWritten (pulling axis p cells g) g h → FirstWritten all old h
+  pulled-first h f = so_far.err h (subst (λ (ws : List Write). FirstWritten ws g h) (sym here) (FirstWritten-front (pulling axis p cells g) (pull_writes axis back n places (with_writes (pulling axis p cells g) g)) g h f))

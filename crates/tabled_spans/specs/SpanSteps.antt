@@ -1,13 +1,15 @@
 -- What a span over visible cells changes at one place after another.
-use Rattle.std.specs.Prelude.{ℕ, List, [], ◌∷◌, if◌then◌else◌}
+use Rattle.std.specs.Prelude.{◌≡◌, ◌+◌, ◌-◌, ◌<◌, ◌≤◌, ℕ, true, min, List, [], ◌∷◌, if◌then◌else◌}
 use Rattle.std.specs.List.{list_all}
 use Rattle.tabled_grid.specs.Anchors.{Anchor}
+use Rattle.tabled_grid.specs.Entity.{names}
 use Rattle.tabled_grid.specs.Rectangles.{is_visible}
 use Rattle.tabled_grid.specs.Spans.{SpanMap, size_at}
+use Rattle.tabled_grid.specs.declared.config.entity.Entity.{Entity}
 use Rattle.tabled_grid.specs.declared.config.position.Position.{Position}
 use Rattle.tabled_grid.specs.declared.records.axis.Axis.{Axis}
 use Rattle.tabled_grid.specs.declared.records.axis.Axis.TheVariants.{Rows, Columns}
-use Rattle.tabled_spans.specs.Spanned.{index, stretch}
+use Rattle.tabled_spans.specs.Spanned.{count_of, index, stretch}
 
 -- the column that a span of rows goes down at a place, or the row that one of columns goes along
 abbrev pub line_of : Axis → Position → ℕ
@@ -27,3 +29,14 @@ resized Columns size many = (size.0, many)
 -- the new size at a place, if so many cells from there on are all visible
 abbrev pub change_at : Axis → SpanMap → Position → ℕ → List Anchor
 change_at axis m p many = if list_all (is_visible m) (stretch axis p (index axis p) many) then (p, resized axis (size_at m p) many) ∷ [] else []
+
+-- the cells that a span takes from a place on lie in the first so many rows and columns
+pub record InReach (axis : Axis) (size n bottom right : ℕ) (p : Position) : Type 0 where
+  pub row : p.row < bottom
+  pub col : p.col < right
+  pub line : index axis p < n
+  pub end : index axis p + min size (n - index axis p) ≤ count_of axis bottom right
+
+-- those that it takes from the places of a table on that an entity names
+pub record IsReach (axis : Axis) (size : ℕ) (e : Entity) (rows columns : ℕ) (reach : ℕ × ℕ) : Type 0 where
+  pub each : (p : Position) → names e p ≡ true → p.row < rows → p.col < columns → InReach axis size (count_of axis rows columns) reach.0 reach.1 p

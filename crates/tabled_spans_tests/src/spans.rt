@@ -175,7 +175,7 @@ fn over_all_cells() -> [(&'static str, [Step; 3], &'static str); 14] {
         (
             "a b / c d /",
             [Rows(2, Cell(0, 1)), Columns(-1, Cell(1, 1)), Nothing],
-            "a b / d _ / 0.1:2x1 1.0:1x2",
+            "a b / d _ / 0.1:2x1 1.0:1x2 meeting",
         ),
         // Hidden anchors go.
         (

@@ -2,7 +2,7 @@
 //!
 //! A table is spelled by its words with a slash after each row, as in `a b / c _ /`, where `_` stands for
 //! an empty text. Behind it stands each anchor in it, as `0.1:2x3` for 2 rows and 3 columns from row 0 and
-//! column 1.
+//! column 1, and `meeting` where merged cells don't lie inside it and apart.
 
 ghost use Rattle.std.specs.Prelude.{IfOk};
 
@@ -92,6 +92,9 @@ where
         push_word(&mut words, "/")?;
     }
     push_spans(alloc, &mut words, cfg, rows, columns)?;
+    if !cfg.fits(rows, columns) {
+        push_word(&mut words, "meeting")?;
+    }
     Ok(words)
 }
 

@@ -8,7 +8,7 @@ ghost use Rattle.tabled_grid.specs.Entity.{inside};
 ghost use Rattle.tabled_grid.specs.Rectangles.{is_visible};
 ghost use Rattle.tabled_grid.specs.Spans.{IsSizeAt, SpanMap, position_cmp, size_at, with_sizes};
 ghost use Rattle.tabled_spans.specs.Spanned.{count_of, grown, grown_each, index, stretch};
-ghost use Rattle.tabled_spans.specs.SpanSteps.{change_at, line_of, lines_of, resized};
+ghost use Rattle.tabled_spans.specs.SpanSteps.{IsReach, change_at, line_of, lines_of, resized};
 
 use crate::span::along::{at_index, count_of, index};
 use std::alloc::{AllocError, Global};
@@ -118,6 +118,23 @@ fn grow_at(
     Ok(())
 }
 
+/// So many rows and columns, from the first on, hold all cells that spans take from the places on that an
+/// entity names in a table.
+fn reach(axis: Axis, size: usize, entity: Entity, rows: usize, columns: usize) -> (usize, usize)
+    ensures { IsReach axis size entity rows columns result }
+{
+    let (bottom, right) = match entity {
+        Entity::Global => (rows, columns),
+        Entity::Row(row) => (row.saturating_add(1), columns),
+        Entity::Column(col) => (rows, col.saturating_add(1)),
+        Entity::Cell(row, col) => (row.saturating_add(1), col.saturating_add(1)),
+    };
+    match axis {
+        Axis::Rows => (bottom.saturating_add(size).min(rows), right.min(columns)),
+        Axis::Columns => (bottom.min(rows), right.saturating_add(size).min(columns)),
+    }
+}
+
 /// The new sizes that spans from each place on leave that an entity names in a table (`rows x columns`).
 fn changes(
     alloc: Global,
@@ -134,8 +151,9 @@ fn changes(
     ensures sizes { IfOk result (λ changes. with_sizes cfg.now changes.items ≡ grown_each axis size (count_of axis rows columns) cfg.now (inside entity rows columns)) }
 {
     let count = count_of(axis, rows, columns);
-    let mut cover = CoverMap::new(alloc, cfg, rows, columns)?;
-    let mut hints = vec![in alloc; 0; lines_of(axis, rows, columns)]?;
+    let (bottom, right) = reach(axis, size, entity, rows, columns);
+    let mut cover = CoverMap::new(alloc, cfg, bottom, right)?;
+    let mut hints = vec![in alloc; 0; lines_of(axis, bottom, right)]?;
     let mut changes = Vec::new(alloc);
     for pos in entity.iter(rows, columns) {
         let many = size.min(count - index(axis, pos));

@@ -3,17 +3,17 @@ use Rattle.std.specs.Prelude.{T, min}
 use Rattle.std.specs.FinMap.{is_sorted}
 use Rattle.tabled_grid.specs.Covers.{Cover}
 use Rattle.tabled_grid.specs.Spans.{position_cmp, size_at, with_sizes}
-use Rattle.tabled_grid.proofs.Places.{inside-within}
 use Rattle.tabled_spans.specs.Spanned.{count_of, index}
+use Rattle.tabled_spans.proofs.Reach.{inside-reach}
 use Rattle.tabled_spans.proofs.RisingPlaces.{ones, sorted_inside}
-use Rattle.tabled_spans.proofs.SpanChanges.{changes-more, cover-change, index_within, line_within, size-before, sorted-change}
+use Rattle.tabled_spans.proofs.SpanChanges.{changes-more, cover-change, line_within, size-before, sorted-change}
 use Rattle.tabled_spans.proofs.span.grow.changes.Goals as goal
 
 pub loop-pos-init : goal.loop-pos-init
 loop-pos-init c =
     let items = c.into_iter-pos-iterator.ensures.into_iter_gives ∙ c.iter-pos-items.ensures in
     record {
-      within = rw items (inside-within c.args.entity c.args.rows c.args.columns);
+      within = rw items (inside-reach c.args.axis c.args.size c.args.entity c.args.rows c.args.columns c.reach-bottom.result c.reach-bottom.ensures);
       cover = rw c.new-changes.ensures.items c.in_ok-cover.ensures.cover;
       sorted = rw (items, c.new-changes.ensures.items) (sorted_inside c.args.entity c.args.rows c.args.columns);
       full = rw c.new-changes.ensures.items tt;
@@ -24,22 +24,20 @@ loop-pos-init c =
 pub index_mut-hint-requires : goal.index_mut-hint-requires
 index_mut-hint-requires c =
     let here = (rw c.in-Some.ensures.steps at c.loop-pos.invariant.within).0 in
-    let line = line_within c.args.axis c.in-Some.pos c.args.rows c.args.columns here.0 here.1 in
+    let line = line_within c.args.axis c.in-Some.pos c.reach-bottom.result.0 c.reach-bottom.result.1 here.row here.col in
     omega (arith, line, c.line_of.ensures, c.loop-pos.invariant.hints, c.loop-pos.hints.ok.0)
 
 pub grow_at-requires-clause-some : goal.grow_at-requires-clause-some
 grow_at-requires-clause-some c =
     let here = (rw c.in-Some.ensures.steps at c.loop-pos.invariant.within).0 in
-    let room = index_within c.args.axis c.in-Some.pos c.args.rows c.args.columns here.0 here.1 in
-    omega (arith, room, c.min-many.ensures, c.index.ensures, c.count_of-count.ensures, c.requires)
+    omega (arith, here.line, c.min-many.ensures, c.index.ensures, c.count_of-count.ensures, c.requires)
 
 pub grow_at-requires-clause-within : goal.grow_at-requires-clause-within
 grow_at-requires-clause-within c =
     let here = (rw c.in-Some.ensures.steps at c.loop-pos.invariant.within).0 in
-    let room = index_within c.args.axis c.in-Some.pos c.args.rows c.args.columns here.0 here.1 in
-    let tall : c.loop-pos.cover.rows ≡ c.args.rows = ap (λ (k : Cover). k.rows) c.loop-pos.invariant.cover in
-    let wide : c.loop-pos.cover.columns ≡ c.args.columns = ap (λ (k : Cover). k.columns) c.loop-pos.invariant.cover in
-    rw (tall, wide) (omega (arith, room, c.min-many.ensures, c.index.ensures, c.count_of-count.ensures))
+    let tall : c.loop-pos.cover.rows ≡ c.reach-bottom.result.0 = ap (λ (k : Cover). k.rows) c.loop-pos.invariant.cover in
+    let wide : c.loop-pos.cover.columns ≡ c.reach-bottom.result.1 = ap (λ (k : Cover). k.columns) c.loop-pos.invariant.cover in
+    rw (tall, wide) (omega (arith, here.end, c.min-many.ensures, c.index.ensures, c.count_of-count.ensures))
 
 pub loop-pos-preserved : goal.loop-pos-preserved
 loop-pos-preserved c =
@@ -51,16 +49,15 @@ loop-pos-preserved c =
     let xs = c.loop-pos.changes.items in
     let m = with_sizes cfg xs in
     let here = (rw c.in-Some.ensures.steps at c.loop-pos.invariant.within) in
-    let room = index_within axis p c.args.rows c.args.columns here.0.0 here.0.1 in
     let up : T (is_sorted position_cmp (xs ++ (p, (1, 1)) ∷ ones rest)) = rw c.in-Some.ensures.steps at c.loop-pos.invariant.sorted in
     let before : size_at m p ≡ size_at cfg p = size-before cfg xs p (1, 1) (ones rest) up in
-    let added = c.in_ok-grow_at.ensures.ok m c.args.rows c.args.columns c.loop-pos.invariant.cover before in
-    let covered = c.in_ok-grow_at.ensures.cover m c.args.rows c.args.columns c.loop-pos.invariant.cover before in
-    let some : 1 ≤ many = omega (arith, room, c.min-many.ensures, c.index.ensures, c.count_of-count.ensures, c.requires) in
+    let added = c.in_ok-grow_at.ensures.ok m c.reach-bottom.result.0 c.reach-bottom.result.1 c.loop-pos.invariant.cover before in
+    let covered = c.in_ok-grow_at.ensures.cover m c.reach-bottom.result.0 c.reach-bottom.result.1 c.loop-pos.invariant.cover before in
+    let some : 1 ≤ many = omega (arith, here.0.line, c.min-many.ensures, c.index.ensures, c.count_of-count.ensures, c.requires) in
     let is : many ≡ min c.args.size (count_of axis c.args.rows c.args.columns - index axis p) = c.min-many.ensures ∙ rw (c.index.ensures, c.count_of-count.ensures) refl in
     record {
       within = here.1;
-      cover = covered ∙ cover-change cfg xs _ axis p many c.args.rows c.args.columns added;
+      cover = covered ∙ cover-change cfg xs _ axis p many c.reach-bottom.result.0 c.reach-bottom.result.1 added;
       sorted = rw added (sorted-change axis m p many xs (ones rest) up);
       full = c.in_ok-grow_at.ensures.full c.loop-pos.invariant.full;
       sizes = changes-more cfg xs _ p rest axis c.args.size (count_of axis c.args.rows c.args.columns) many is some added ∙ (rw c.in-Some.ensures.steps at c.loop-pos.invariant.sizes);

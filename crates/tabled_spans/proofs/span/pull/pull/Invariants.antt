@@ -1,19 +1,16 @@
-use Rattle.std.proofs.Common.{◌≡◌, ◌-◌, ℕ, List}
-use Rattle.tabled_grid.specs.Grid.{Grid, map_grid}
-use Rattle.tabled_options.specs.Writes.{with_writes}
-use Rattle.tabled_spans.specs.Spanned.{FirstWritten, emptying, pulling}
+use Rattle.std.proofs.Common.{◌≡◌, ◌-◌}
+use Rattle.tabled_grid.specs.Grid.{map_grid}
+use Rattle.tabled_spans.specs.Spanned.{emptying, pulling}
+use Rattle.tabled_spans.proofs.SpanWrites.{Continues}
 use Rattle.tabled_spans.proofs.span.pull.pull.Given as goal
 
 abbrev pub invariant-loop-k : goal.invariant-loop-k
 invariant-loop-k g l =
     let old = map_grid g.R.Cell.CellText.text_of (g.R.GridStore.grid l.fn.records) in
     let new = map_grid g.R.Cell.CellText.text_of (g.R.GridStore.grid l.records) in
-    let all = pulling l.axis l.pos (l.first, l.many) old in
-    let rest = emptying l.axis l.pos l.k (l.k-end - l.k) in
     record {
       well : g.R.GridStore.is_well_formed l.records;
       rows : (g.R.GridStore.grid l.records).rows ≡ (g.R.GridStore.grid l.fn.records).rows;
       columns : (g.R.GridStore.grid l.records).columns ≡ (g.R.GridStore.grid l.fn.records).columns;
-      ok : with_writes rest new ≡ with_writes all old;
-      err : (h : Grid (List ℕ)) → FirstWritten rest new h → FirstWritten all old h;
+      texts : Continues (pulling l.axis l.pos (l.first, l.many) old) old (emptying l.axis l.pos l.k (l.k-end - l.k)) new;
     }

@@ -1,10 +1,9 @@
-use Rattle.std.proofs.Common.{◌≡◌, ◌<◌, ℕ, List}
+use Rattle.std.proofs.Common.{◌≡◌, ◌<◌}
 use Rattle.std.specs.List.{AllByRecursion}
-use Rattle.tabled_grid.specs.Entity.{inside}
-use Rattle.tabled_grid.specs.Grid.{Grid, map_grid}
+use Rattle.tabled_grid.specs.Grid.{map_grid}
 use Rattle.tabled_grid.specs.declared.config.position.Position.{Position}
-use Rattle.tabled_options.specs.Writes.{with_writes}
-use Rattle.tabled_spans.specs.Spanned.{FirstWritten, count_of, pull_writes}
+use Rattle.tabled_spans.specs.Spanned.{count_of, pull_writes, pull_writes_on}
+use Rattle.tabled_spans.proofs.SpanWrites.{Continues}
 use Rattle.tabled_spans.proofs.span.pull.pull_texts.Given as goal
 
 abbrev pub invariant-loop-pos : goal.invariant-loop-pos
@@ -12,9 +11,6 @@ invariant-loop-pos g l =
     let start = g.R.GridStore.grid l.fn.records in
     let old = map_grid g.R.Cell.CellText.text_of start in
     let new = map_grid g.R.Cell.CellText.text_of (g.R.GridStore.grid l.records) in
-    let n = count_of l.axis start.rows start.columns in
-    let all = pull_writes l.axis l.fn.back n (inside l.fn.entity start.rows start.columns) old in
-    let rest = pull_writes l.axis l.fn.back n l.pos-iterator new in
     record {
       can : (goal.iterator-loop-pos g).can_next l.pos-iterator;
       ends : (goal.iterator-loop-pos g).is_finite l.pos-iterator;
@@ -22,6 +18,5 @@ invariant-loop-pos g l =
       rows : (g.R.GridStore.grid l.records).rows ≡ start.rows;
       columns : (g.R.GridStore.grid l.records).columns ≡ start.columns;
       within : AllByRecursion (λ (p : Position). (p.row < start.rows) × (p.col < start.columns)) l.pos-iterator;
-      texts : with_writes rest new ≡ with_writes all old;
-      first : (h : Grid (List ℕ)) → FirstWritten rest new h → FirstWritten all old h;
+      texts : Continues (pull_writes_on l.axis l.fn.back l.fn.entity old) old (pull_writes l.axis l.fn.back (count_of l.axis start.rows start.columns) l.pos-iterator new) new;
     }
