@@ -6,6 +6,13 @@ pub mod Joins
 pub mod Kept
 pub mod LineReads
 pub mod Mapped
+pub mod PieceReads
+pub mod PieceTexts
+pub mod PiecesCut
+pub mod PiecesDone
+pub mod PiecesGrown
+pub mod PiecesKept
+pub mod PiecesPut
 pub mod Replacing
 pub mod Results
 pub mod Reversed
