@@ -2,10 +2,12 @@ pub mod Among
 pub mod Apart
 pub mod Cleaned
 pub mod Dropped
+pub mod Glued
 pub mod Joins
 pub mod Kept
 pub mod LineReads
 pub mod Mapped
+pub mod PiecePlaces
 pub mod PieceReads
 pub mod PieceTexts
 pub mod PiecesCut

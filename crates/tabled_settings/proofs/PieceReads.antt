@@ -21,7 +21,7 @@ use Rattle.tabled_grid.proofs.Transposed.{at-transposed, length-transposed, wide
 use Rattle.tabled_settings.specs.declared.split.Behavior.{Behavior}
 use Rattle.tabled_settings.specs.declared.split.Behavior.TheVariants.{Concat, Zip}
 use Rattle.tabled_settings.specs.declared.split.Split.{Split}
-use Rattle.tabled_settings.specs.PieceMoves.{place_in}
+use Rattle.tabled_settings.specs.Places.{place_in}
 use Rattle.tabled_settings.specs.Pieces.{across, cut_rows, nth_piece, piece, piece_at, staying, turned}
 use Rattle.tabled_settings.proofs.SameCells.{same_cells}
 

@@ -14,7 +14,8 @@ use Rattle.tabled_grid.specs.declared.records.axis.Axis.TheVariants.{Rows, Colum
 use Rattle.tabled_grid.proofs.Grids.{cell_at-map_grid}
 use Rattle.tabled_grid.proofs.Transposed.{slice_get-some}
 use Rattle.tabled_settings.specs.Lines.{line}
-use Rattle.tabled_settings.specs.PieceMoves.{has_text, place_in}
+use Rattle.tabled_settings.specs.PieceMoves.{has_text}
+use Rattle.tabled_settings.specs.Places.{place_in}
 use Rattle.tabled_settings.specs.Pieces.{across, is_text}
 
 drop_all : {X : Type 0} (xs : List X) (n : ℕ) → length xs ≤ n → drop n xs ≡ []

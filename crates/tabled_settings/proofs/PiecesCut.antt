@@ -11,7 +11,8 @@ use Rattle.tabled_grid.specs.declared.records.axis.Axis.{Axis}
 use Rattle.tabled_grid.specs.declared.records.axis.Axis.TheVariants.{Rows, Columns}
 use Rattle.tabled_grid.proofs.FirstLines.{IsEven-first}
 use Rattle.tabled_settings.specs.declared.split.Split.{Split}
-use Rattle.tabled_settings.specs.PieceMoves.{AddsLines, ComesFrom, IsCut, PutsPieces, place_in, source}
+use Rattle.tabled_settings.specs.PieceMoves.{AddsLines, ComesFrom, IsCut, PutsPieces, source}
+use Rattle.tabled_settings.specs.Places.{place_in}
 use Rattle.tabled_settings.specs.Pieces.{across, nth_piece}
 use Rattle.tabled_settings.proofs.LineReads.{line_first, same_count}
 use Rattle.tabled_settings.proofs.PieceTexts.{at_line}

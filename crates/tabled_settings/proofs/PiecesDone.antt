@@ -17,9 +17,9 @@ use Rattle.tabled_settings.specs.declared.split.Display.{Display}
 use Rattle.tabled_settings.specs.declared.split.Display.TheVariants.{Clean, Retain}
 use Rattle.tabled_settings.specs.declared.split.Split.{Split}
 use Rattle.tabled_settings.specs.Lines.{DropsLines, HasLines, line}
-use Rattle.tabled_settings.specs.PieceMoves.{ComesFrom, IsCut, has_text, is_empty_piece, place_in, source}
+use Rattle.tabled_settings.specs.PieceMoves.{ComesFrom, IsCut, has_text, is_empty_piece, source}
 use Rattle.tabled_settings.specs.Pieces.{across, has_pieces, is_text, nth_piece, piece_at, split, staying, stays, turned}
-use Rattle.tabled_settings.specs.Places.{count_of}
+use Rattle.tabled_settings.specs.Places.{count_of, place_in}
 use Rattle.tabled_settings.specs.Rearranged.{left_over}
 use Rattle.tabled_settings.proofs.PieceReads.{filter_all, filter_alike, filter_below, filter_some, first_number, length-piece, piece_text, pieces_are, some_inside, turned_cell, turned_even, turned_rows}
 use Rattle.tabled_settings.proofs.PieceTexts.{at_line, inside_of, length-line}
@@ -31,11 +31,11 @@ pub map_count : {A B : Type 0} (f : A → B) (axis : Axis) (g : Grid A) → coun
 map_count f Rows g = refl
 map_count f Columns g = refl
 
-counted : {A : Type 0} (axis : Axis) (g : Grid A) → count_of axis g.rows g.columns ≡ count_along axis g
+pub counted : {A : Type 0} (axis : Axis) (g : Grid A) → count_of axis g.rows g.columns ≡ count_along axis g
 counted Rows g = refl
 counted Columns g = refl
 
-past_line : {A : Type 0} (axis : Axis) (g : Grid A) (i j : ℕ) → IsEven g → count_along (across axis) g ≤ j → cell_at g (place_in axis i j) ≡ None
+pub past_line : {A : Type 0} (axis : Axis) (g : Grid A) (i j : ℕ) → IsEven g → count_along (across axis) g ≤ j → cell_at g (place_in axis i j) ≡ None
 past_line Rows g i j even h = none_outside g i j even (inr h)
 past_line Columns g i j even h = none_outside g j i even (inl h)
 

@@ -13,16 +13,17 @@ use Rattle.tabled_grid.specs.declared.records.axis.Axis.{Axis}
 use Rattle.tabled_grid.specs.declared.records.axis.Axis.TheVariants.{Rows, Columns}
 use Rattle.tabled_grid.proofs.AddedColumns.{IsEven-adds_columns, columns_taken_back}
 use Rattle.tabled_grid.proofs.AddedRows.{IsEven-adds_rows, rows_taken_back}
-use Rattle.tabled_settings.specs.PieceMoves.{AddsLines, place_in}
+use Rattle.tabled_settings.specs.PieceMoves.{AddsLines}
+use Rattle.tabled_settings.specs.Places.{place_in}
 use Rattle.tabled_settings.specs.Pieces.{across}
 
 -- a list read behind another one
-front_read : {A : Type 0} (xs ys : List A) (j : ℕ) → j < length xs → slice_get (xs ++ ys) j ≡ slice_get xs j
+pub front_read : {A : Type 0} (xs ys : List A) (j : ℕ) → j < length xs → slice_get (xs ++ ys) j ≡ slice_get xs j
 front_read [] ys j h = absurd (omega (arith, h))
 front_read (x ∷ xs) ys zero h = refl
 front_read (x ∷ xs) ys (suc j) h = front_read xs ys j (omega (arith, h))
 
-back_read : {A : Type 0} (xs ys : List A) (j : ℕ) → length xs ≤ j → slice_get (xs ++ ys) j ≡ slice_get ys (j - length xs)
+pub back_read : {A : Type 0} (xs ys : List A) (j : ℕ) → length xs ≤ j → slice_get (xs ++ ys) j ≡ slice_get ys (j - length xs)
 back_read [] ys j h = let same : j ≡ j - 0 = omega arith in ap (slice_get ys) same
 back_read (x ∷ xs) ys zero h = absurd (omega (arith, h))
 back_read (x ∷ xs) ys (suc j) h = let same : j - length xs ≡ suc j - suc (length xs) = omega arith in back_read xs ys j (omega (arith, h)) ∙ ap (slice_get ys) same

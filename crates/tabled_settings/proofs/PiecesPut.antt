@@ -18,7 +18,8 @@ use Rattle.tabled_settings.specs.declared.split.Behavior.{Behavior}
 use Rattle.tabled_settings.specs.declared.split.Behavior.TheVariants.{Concat, Zip}
 use Rattle.tabled_settings.specs.declared.split.Split.{Split}
 use Rattle.tabled_settings.specs.Lines.{IsShapedAs}
-use Rattle.tabled_settings.specs.PieceMoves.{MovesPieces, PutsPieces, place_in, source}
+use Rattle.tabled_settings.specs.PieceMoves.{MovesPieces, PutsPieces, source}
+use Rattle.tabled_settings.specs.Places.{place_in}
 use Rattle.tabled_settings.specs.Pieces.{across, nth_piece}
 use Rattle.tabled_settings.proofs.LineReads.{same_shape, shape_after}
 use Rattle.tabled_settings.proofs.PieceTexts.{inside_of}

@@ -4,6 +4,7 @@ pub mod Dups
 pub mod Joined
 pub mod Lines
 pub mod PieceMoves
+pub mod PiecePlaces
 pub mod Pieces
 pub mod Places
 pub mod Rearranged

@@ -4,19 +4,14 @@ use Rattle.std.specs.Int.{div_ceil}
 use Rattle.std.specs.List.{list_any}
 use Rattle.tabled_grid.specs.Along.{count_along}
 use Rattle.tabled_grid.specs.Bulk.{AddsColumns, AddsRows}
-use Rattle.tabled_grid.specs.Entity.{place}
 use Rattle.tabled_grid.specs.Grid.{Grid, IsEven, cell_at}
 use Rattle.tabled_grid.specs.declared.config.position.Position.{Position}
 use Rattle.tabled_grid.specs.declared.records.axis.Axis.{Axis}
 use Rattle.tabled_grid.specs.declared.records.axis.Axis.TheVariants.{Rows, Columns}
 use Rattle.tabled_settings.specs.declared.split.Split.{Split}
 use Rattle.tabled_settings.specs.Lines.{IsShapedAs, line}
+use Rattle.tabled_settings.specs.Places.{place_in}
 use Rattle.tabled_settings.specs.Pieces.{across, is_text, nth_piece}
-
--- the place of a cell of a line
-abbrev pub place_in : Axis → ℕ → ℕ → Position
-place_in Rows i j = place i j
-place_in Columns i j = place j i
 
 -- so many lines of blanks are put behind the last one
 abbrev pub AddsLines : {A : Type 0} → (A → Type 0) → Axis → ℕ → Grid A → Grid A → Type 0

@@ -6,7 +6,8 @@ ghost use Rattle.std.specs.List.{list_any};
 ghost use Rattle.tabled_grid.specs.Along.{count_along};
 ghost use Rattle.tabled_grid.specs.Grid.{IsEmptyWithoutRows, IsEven};
 ghost use Rattle.tabled_settings.specs.Lines.{DropsLines, line};
-ghost use Rattle.tabled_settings.specs.PieceMoves.{AddsLines, IsCut, PutsPieces, has_text, is_empty_piece, place_in};
+ghost use Rattle.tabled_settings.specs.PieceMoves.{AddsLines, IsCut, PutsPieces, has_text, is_empty_piece};
+ghost use Rattle.tabled_settings.specs.Places.{place_in};
 ghost use Rattle.tabled_settings.specs.Pieces.{across};
 
 use crate::split::Split;

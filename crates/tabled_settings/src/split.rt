@@ -1,12 +1,12 @@
 //! Tables with their rows or columns cut into pieces.
 
 ghost use Rattle.std.specs.Prelude.{◌≡◌, ◌<◌, false};
-ghost use Rattle.tabled_grid.specs.Grid.{map_grid};
 ghost use Rattle.tabled_grid.specs.declared.records.axis.Axis.TheVariants.{Columns, Rows};
 ghost use Rattle.tabled_options.specs.Does.{Same};
 ghost use Rattle.tabled_settings.specs.declared.split.Behavior.TheVariants.{Concat, Zip};
 ghost use Rattle.tabled_settings.specs.declared.split.Display.TheVariants.{Clean, Retain};
-ghost use Rattle.tabled_settings.specs.Pieces.{has_pieces, nth_piece, split};
+ghost use Rattle.tabled_settings.specs.PiecePlaces.{Splits};
+ghost use Rattle.tabled_settings.specs.Pieces.{has_pieces, nth_piece};
 ghost use Rattle.std.proofs.Common.{rules};
 
 use crate::pieces;
@@ -160,7 +160,7 @@ where
     R: Records + ExactRecords + PeekableRecords + Resizable,
     R::Cell: CellText,
 {
-    ghost does = { λ s g c h d. (map_grid R.Cell.text_of h ≡ split s (map_grid R.Cell.text_of g)) × (d ≡ c) };
+    ghost does = { λ s g c h d. Splits R.Cell.text_of s g h × (d ≡ c) };
 
     ghost leaves = { λ _. Same };
 
