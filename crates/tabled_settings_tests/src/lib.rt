@@ -12,4 +12,6 @@ mod refusing;
 #[cfg(test)]
 mod rotations;
 #[cfg(test)]
+mod splits;
+#[cfg(test)]
 mod tables;
