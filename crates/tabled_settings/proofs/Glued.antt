@@ -119,6 +119,10 @@ turned_twice Columns g even some any =
     (turned_count Columns (turned Columns g) (omega (arith, high, any))) (turned_across Columns (turned Columns g) ∙ high)
     (λ i j l m. turned_back Columns (turned Columns g) i j half ∙ turned_cell Columns g i j even)
 
+pub turned_back_twice : (axis : Axis) (c : Grid (List ℕ)) → IsEven c → 0 < c.rows → 0 < c.columns → turned axis (turned axis c) ≡ c
+turned_back_twice Rows c c_even k l = turned_twice Rows c c_even k l
+turned_back_twice Columns c c_even k l = turned_twice Columns c c_even l k
+
 pub one_piece_each : (pieces n width : ℕ) → 0 < width → width ≤ n → pieces ≡ div_ceil width n → pieces ≡ 1
 one_piece_each pieces n width some h e =
     let bounds : (width ≤ div_ceil width n * n) × (div_ceil width n * n < width + n) = div_ceil_times width n (omega (arith, some, h)) in
@@ -224,10 +228,6 @@ split_glued s g h even retained some_rows some_columns index is =
       where
         more_some : (a b : ℕ) → 0 < a → 0 < b → 0 < a * b
         more_some a b k l = omega (arith, row_fits 0 a b a l (omega arith), k)
-
-        turned_back_twice : (axis : Axis) (c : Grid (List ℕ)) → IsEven c → 0 < c.rows → 0 < c.columns → turned axis (turned axis c) ≡ c
-        turned_back_twice Rows c c_even k l = turned_twice Rows c c_even k l
-        turned_back_twice Columns c c_even k l = turned_twice Columns c c_even l k
     either false e =
         let short : (turned s.lines g).columns ≤ s.index = omega (arith, ltb-false s.index (count_along (across s.lines) g) e, wide) in
         let same : h ≡ g = is ∙ ap (λ (b : Bool). cond b (turned s.lines (cut_rows s (turned s.lines g))) g) (has_if s g false e some index) in

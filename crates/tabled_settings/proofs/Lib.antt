@@ -23,5 +23,6 @@ pub mod Rotated
 pub mod Rounds
 pub mod SameCells
 pub mod TakenOnce
+pub mod TextsKept
 pub mod TurnedTwice
 pub mod Turns

@@ -1,14 +1,16 @@
 -- Where the cells of pieces come from, where all pieces are kept, and pieces glued together.
 use Rattle.std.specs.Prelude.{◌≡◌, ℕ, ◌+◌, ◌*◌, if◌then◌else◌, List, [], None, Some, map, nat_lt, slice_index_or, take}
 use Rattle.std.specs.Int.{div_ceil}
-use Rattle.std.specs.List.{flat_map, range_with_len}
+use Rattle.std.specs.List.{filter, flat_map, range_with_len}
+use Rattle.tabled_grid.specs.Flat.{joined}
 use Rattle.tabled_grid.specs.Grid.{Grid, map_grid}
 use Rattle.tabled_grid.specs.declared.config.position.Position.{Position}
+use Rattle.tabled_grid.specs.declared.records.axis.Axis.{Axis}
 use Rattle.tabled_settings.specs.declared.split.Behavior.{Behavior}
 use Rattle.tabled_settings.specs.declared.split.Behavior.TheVariants.{Concat, Zip}
 use Rattle.tabled_settings.specs.declared.split.Display.TheVariants.{Retain}
 use Rattle.tabled_settings.specs.declared.split.Split.{Split}
-use Rattle.tabled_settings.specs.Pieces.{across, has_pieces, nth_piece, split, turned}
+use Rattle.tabled_settings.specs.Pieces.{across, has_pieces, is_text, nth_piece, split, turned}
 use Rattle.tabled_settings.specs.Places.{Places, ReadsThrough, count_of, line_of, place_in}
 
 -- the cell of a line that comes to a cell of the t-th piece
@@ -55,3 +57,7 @@ glue_rows s lines width h = record { rows = lines; columns = width; cells = map 
 -- a table of so many rows and columns, from the rows, or the columns, that are the pieces of its own
 abbrev pub glued : {A : Type 0} → Split → ℕ → ℕ → Grid A → Grid A
 glued s rows columns h = turned s.lines (glue_rows s (count_of s.lines rows columns) (count_of (across s.lines) rows columns) (turned s.lines h))
+
+-- the texts that aren't empty, row by row or column by column
+abbrev pub texts_in : Axis → Grid (List ℕ) → List (List ℕ)
+texts_in axis g = filter is_text (joined (turned axis g).cells)
