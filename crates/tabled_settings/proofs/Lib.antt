@@ -22,6 +22,7 @@ pub mod Rewriting
 pub mod Rotated
 pub mod Rounds
 pub mod SameCells
+pub mod SplitWorked
 pub mod TakenOnce
 pub mod TextsKept
 pub mod TurnedTwice

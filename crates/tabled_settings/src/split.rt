@@ -17,7 +17,7 @@ use tabled_options::TableOption;
 
 /// The order of the pieces.
 ///
-/// Ported from `tabled::settings::split::Behavior`.
+/// Ported from the private `Behavior` of `tabled::settings::split`.
 #[derive(Clone, Copy, Debug, PartialEq, Eq)]
 pub enum Behavior {
     /// The first pieces of all lines, then the second ones, and so on.
@@ -28,7 +28,7 @@ pub enum Behavior {
 
 /// Whether pieces without a text stay.
 ///
-/// Ported from `tabled::settings::split::Display`.
+/// Ported from the private `Display` of `tabled::settings::split`.
 #[derive(Clone, Copy, Debug, PartialEq, Eq)]
 pub enum Display {
     /// The first piece of each line stays, and of the others those with a text.
