@@ -22,27 +22,27 @@ range_more : (a n : ℕ) → range_with_len a (suc n) ≡ range_with_len a n ++ 
 range_more a zero = let same : a + 0 ≡ a = omega arith in rw same refl
 range_more a (suc n) = let same : (a + 1) + n ≡ a + suc n = omega arith in ap (λ ys. a ∷ ys) (range_more (a + 1) n ∙ ap (λ k. range_with_len (a + 1) n ++ k ∷ []) same)
 
-module _ (found : List ℕ) where
-  left_more : (n : ℕ) → left_over found (suc n) ≡ left_over found n ++ cond (not (is_among found n)) (n ∷ []) []
-  left_more n = let same : 0 + n ≡ n = omega arith in ap (filter (λ (i : ℕ). not (is_among found i))) (range_more 0 n ∙ ap (λ (k : ℕ). range_with_len 0 n ++ k ∷ []) same) ∙ filter-append (λ (i : ℕ). not (is_among found i)) (range_with_len 0 n) (n ∷ [])
+module _ (test : ℕ → Bool) where
+  left_more : (n : ℕ) → left_over test (suc n) ≡ left_over test n ++ cond (not (test n)) (n ∷ []) []
+  left_more n = let same : 0 + n ≡ n = omega arith in ap (filter (λ (i : ℕ). not (test i))) (range_more 0 n ∙ ap (λ (k : ℕ). range_with_len 0 n ++ k ∷ []) same) ∙ filter-append (λ (i : ℕ). not (test i)) (range_with_len 0 n) (n ∷ [])
 
-  left_gone : (n : ℕ) → is_among found n ≡ true → left_over found (suc n) ≡ left_over found n
-  left_gone n gone = left_more n ∙ ap (λ (b : Bool). left_over found n ++ cond (not b) (n ∷ []) []) gone ∙ append-nil (left_over found n)
+  left_gone : (n : ℕ) → test n ≡ true → left_over test (suc n) ≡ left_over test n
+  left_gone n gone = left_more n ∙ ap (λ (b : Bool). left_over test n ++ cond (not b) (n ∷ []) []) gone ∙ append-nil (left_over test n)
 
-  left_stays : (n : ℕ) → is_among found n ≡ false → left_over found (suc n) ≡ left_over found n ++ n ∷ []
-  left_stays n stays = left_more n ∙ ap (λ (b : Bool). left_over found n ++ cond (not b) (n ∷ []) []) stays
+  left_stays : (n : ℕ) → test n ≡ false → left_over test (suc n) ≡ left_over test n ++ n ∷ []
+  left_stays n stays = left_more n ∙ ap (λ (b : Bool). left_over test n ++ cond (not b) (n ∷ []) []) stays
 
-pub left_same : (xs ys : List ℕ) (n : ℕ) → IsPermutation xs ys → left_over ys n ≡ left_over xs n
+pub left_same : (xs ys : List ℕ) (n : ℕ) → IsPermutation xs ys → left_over (is_among ys) n ≡ left_over (is_among xs) n
 left_same xs ys n p = filter_agree (λ (i : ℕ). not (is_among ys i)) (λ (i : ℕ). not (is_among xs i)) (λ i. ap not (sym (list_any-IsPermutation (λ (k : ℕ). k == i) xs ys p))) (range_with_len 0 n)
 
-module _ {A : Type 0} (axis : Axis) (found : List ℕ) where
-  pub thins_none : (g : Grid A) → IsEven g → ThinsLines axis found 0 0 g g
+module _ {A : Type 0} (axis : Axis) (test : ℕ → Bool) where
+  pub thins_none : (g : Grid A) → IsEven g → ThinsLines axis test 0 0 g g
   thins_none g even = record { shape = same_shape g even; many = refl; few = omega arith; front = λ a h. absurd (omega (arith, h)); behind = λ a h. refl }
 
-  pub thins_gone : (i n k : ℕ) (g cur : Grid A) → n ≡ i + 1 → is_among found i ≡ true → ThinsLines axis found i k g cur → ThinsLines axis found n k g cur
+  pub thins_gone : (i n k : ℕ) (g cur : Grid A) → n ≡ i + 1 → test i ≡ true → ThinsLines axis test i k g cur → ThinsLines axis test n k g cur
   thins_gone i n k g cur next gone t =
       let same : n ≡ suc i = omega (arith, next) in
-      let left : left_over found n ≡ left_over found i = ap (left_over found) same ∙ left_gone found i gone in
+      let left : left_over test n ≡ left_over test i = ap (left_over test) same ∙ left_gone test i gone in
       record {
         shape = t.shape;
         many = t.many ∙ sym (ap length left);
@@ -51,44 +51,44 @@ module _ {A : Type 0} (axis : Axis) (found : List ℕ) where
         behind = λ a h. t.behind a (omega (arith, h, next));
       }
 
-  module _ (i n k m : ℕ) (g cur new : Grid A) (next : n ≡ i + 1) (more : m ≡ k + 1) (stays : is_among found i ≡ false) (t : ThinsLines axis found i k g cur) (is : new ≡ along axis (λ _ xs. swap xs k i) cur) (within : i < count_along axis cur) where
+  module _ (i n k m : ℕ) (g cur new : Grid A) (next : n ≡ i + 1) (more : m ≡ k + 1) (stays : test i ≡ false) (t : ThinsLines axis test i k g cur) (is : new ≡ along axis (λ _ xs. swap xs k i) cur) (within : i < count_along axis cur) where
     moved : (line axis new k ≡ line axis cur i) × (line axis new i ≡ line axis cur k) × ((a : ℕ) → a ≢ k → a ≢ i → line axis new a ≡ line axis cur a)
     moved = lines_swapped axis cur new k i t.shape.even (omega (arith, within, t.few)) within is
 
-    left : left_over found n ≡ left_over found i ++ i ∷ []
-    left = let same : n ≡ suc i = omega (arith, next) in ap (left_over found) same ∙ left_stays found i stays
+    left : left_over test n ≡ left_over test i ++ i ∷ []
+    left = let same : n ≡ suc i = omega (arith, next) in ap (left_over test) same ∙ left_stays test i stays
 
-    front_at : (a : ℕ) → a < m → (a ≡ k) ⊎ (a ≢ k) → line axis new a ≡ line axis g (get_or (left_over found n) a 0)
+    front_at : (a : ℕ) → a < m → (a ≡ k) ⊎ (a ≢ k) → line axis new a ≡ line axis g (get_or (left_over test n) a 0)
     front_at a h (inl at) =
         ap (line axis new) at ∙ moved.0 ∙ t.behind i (omega arith)
-        ∙ ap (line axis g) (sym (ap (λ (ys : List ℕ). get_or ys a 0) left ∙ get_or_at (left_over found i) i [] 0 a (omega (arith, at, t.many))))
+        ∙ ap (line axis g) (sym (ap (λ (ys : List ℕ). get_or ys a 0) left ∙ get_or_at (left_over test i) i [] 0 a (omega (arith, at, t.many))))
     front_at a h (inr off) =
         moved.2 a off (λ at. absurd (omega (arith, at, h, more, off, t.few)))
         ∙ t.front a (omega (arith, h, more, off))
-        ∙ ap (line axis g) (sym (ap (λ (ys : List ℕ). get_or ys a 0) left ∙ get_or_append_left (left_over found i) (i ∷ []) 0 a (omega (arith, h, more, off, t.many))))
+        ∙ ap (line axis g) (sym (ap (λ (ys : List ℕ). get_or ys a 0) left ∙ get_or_append_left (left_over test i) (i ∷ []) 0 a (omega (arith, h, more, off, t.many))))
 
-    pub thins_kept : ThinsLines axis found n m g new
+    pub thins_kept : ThinsLines axis test n m g new
     thins_kept = record {
       shape = shape_after g cur new t.shape (shape_swapped axis cur new k i t.shape.even is);
-      many = more ∙ ap (λ (c : ℕ). c + 1) t.many ∙ sym (ap length left ∙ length_push (left_over found i) i);
+      many = more ∙ ap (λ (c : ℕ). c + 1) t.many ∙ sym (ap length left ∙ length_push (left_over test i) i);
       few = omega (arith, t.few, more, next);
       front = λ a h. front_at a h (cases_eq a k);
       behind = λ a h. moved.2 a (λ at. absurd (omega (arith, at, h, next, t.few))) (λ at. absurd (omega (arith, at, h, next))) ∙ t.behind a (omega (arith, h, next));
     }
 
-  pub thins_all : (i k : ℕ) (g cur new : Grid A) → i ≡ count_along axis g → ThinsLines axis found i k g cur → new ≡ first_along axis k cur → DropsLines axis found g new
+  pub thins_all : (i k : ℕ) (g cur new : Grid A) → i ≡ count_along axis g → ThinsLines axis test i k g cur → new ≡ first_along axis k cur → DropsLines axis test g new
   thins_all i k g cur new all t cut =
       let fits : k ≤ count_along axis cur = omega (arith, t.few, all, same_count axis g cur t.shape) in
-      let many : k ≡ length (left_over found (count_along axis g)) = t.many ∙ ap (λ (n : ℕ). length (left_over found n)) all in
+      let many : k ≡ length (left_over test (count_along axis g)) = t.many ∙ ap (λ (n : ℕ). length (left_over test n)) all in
       record {
         shape = rw (← many) (has_lines axis k g cur new fits t.shape.rows t.shape.columns t.shape.even cut);
-        kept = λ a h. let below : a < k = omega (arith, h, many) in line_first axis cur new k a t.shape.even below cut ∙ t.front a below ∙ ap (λ (n : ℕ). line axis g (get_or (left_over found n) a 0)) all;
+        kept = λ a h. let below : a < k = omega (arith, h, many) in line_first axis cur new k a t.shape.even below cut ∙ t.front a below ∙ ap (λ (n : ℕ). line axis g (get_or (left_over test n) a 0)) all;
       }
 
-pub removed_done : {A : Type 0} (axis : Axis) (found sorted : List ℕ) (g new : Grid A) → IsPermutation found sorted → DropsLines axis sorted g new → ReadsThrough (removed axis found g.rows g.columns) g new
+pub removed_done : {A : Type 0} (axis : Axis) (found sorted : List ℕ) (g new : Grid A) → IsPermutation found sorted → DropsLines axis (is_among sorted) g new → ReadsThrough (removed axis found g.rows g.columns) g new
 removed_done Rows found sorted g new p d =
-    let same : left_over sorted g.rows ≡ left_over found g.rows = left_same found sorted g.rows p in
-    rw (← same) (lines_read Rows (λ (i : ℕ). get_or (left_over sorted g.rows) i 0) _ _ g new d.shape.even d.shape.rows d.shape.columns (λ a h. d.kept a (omega (arith, h, d.shape.rows))))
+    let same : left_over (is_among sorted) g.rows ≡ left_over (is_among found) g.rows = left_same found sorted g.rows p in
+    rw (← same) (lines_read Rows (λ (i : ℕ). get_or (left_over (is_among sorted) g.rows) i 0) _ _ g new d.shape.even d.shape.rows d.shape.columns (λ a h. d.kept a (omega (arith, h, d.shape.rows))))
 removed_done Columns found sorted g new p d =
-    let same : left_over sorted g.columns ≡ left_over found g.columns = left_same found sorted g.columns p in
-    rw (← same) (lines_read Columns (λ (j : ℕ). get_or (left_over sorted g.columns) j 0) _ _ g new d.shape.even d.shape.rows d.shape.columns (λ a h. d.kept a (omega (arith, h, d.shape.columns))))
+    let same : left_over (is_among sorted) g.columns ≡ left_over (is_among found) g.columns = left_same found sorted g.columns p in
+    rw (← same) (lines_read Columns (λ (j : ℕ). get_or (left_over (is_among sorted) g.columns) j 0) _ _ g new d.shape.even d.shape.rows d.shape.columns (λ a h. d.kept a (omega (arith, h, d.shape.columns))))

@@ -3,6 +3,9 @@ pub mod Contents
 pub mod Dups
 pub mod Joined
 pub mod Lines
+pub mod PieceMoves
+pub mod PiecePlaces
+pub mod Pieces
 pub mod Places
 pub mod Rearranged
 pub mod Rewrites

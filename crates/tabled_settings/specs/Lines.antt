@@ -1,5 +1,5 @@
 -- The rows or the columns of a grid, one after another.
-use Rattle.std.specs.Prelude.{◌≡◌, ◌<◌, ◌≤◌, ◌⊎◌, ℕ, ◌+◌, ◌-◌, List, [], Option, Some, length, map, min, slice_get, slice_index_or}
+use Rattle.std.specs.Prelude.{Bool, ◌≡◌, ◌<◌, ◌≤◌, ◌⊎◌, ℕ, ◌+◌, ◌-◌, List, [], Option, Some, length, map, min, slice_get, slice_index_or}
 use Rattle.tabled_grid.specs.Along.{count_along}
 use Rattle.tabled_grid.specs.Grid.{Grid, IsEven}
 use Rattle.tabled_grid.specs.declared.records.axis.Axis.{Axis}
@@ -58,15 +58,15 @@ pub record KeepsLines {A : Type 0} (axis : Axis) (s e : ℕ) (old new : Grid A) 
   pub shape : HasLines axis (min e (count_along axis old) - s) old new
   pub kept : (i : ℕ) → i < min e (count_along axis old) - s → line axis new i ≡ line axis old (s + i)
 
--- of the first i lines, those whose indexes are not among some have come to the front; the lines from i on are as they were
-pub record ThinsLines {A : Type 0} (axis : Axis) (found : List ℕ) (i k : ℕ) (old new : Grid A) : Type 0 where
+-- of the first i lines, those for which a test fails have come to the front; the lines from i on are as they were
+pub record ThinsLines {A : Type 0} (axis : Axis) (gone : ℕ → Bool) (i k : ℕ) (old new : Grid A) : Type 0 where
   pub shape : IsShapedAs old new
-  pub many : k ≡ length (left_over found i)
+  pub many : k ≡ length (left_over gone i)
   pub few : k ≤ i
-  pub front : (a : ℕ) → a < k → line axis new a ≡ line axis old (slice_index_or (left_over found i) a 0)
+  pub front : (a : ℕ) → a < k → line axis new a ≡ line axis old (slice_index_or (left_over gone i) a 0)
   pub behind : (a : ℕ) → i ≤ a → line axis new a ≡ line axis old a
 
--- the lines are gone whose indexes are among some
-pub record DropsLines {A : Type 0} (axis : Axis) (found : List ℕ) (old new : Grid A) : Type 0 where
-  pub shape : HasLines axis (length (left_over found (count_along axis old))) old new
-  pub kept : (a : ℕ) → a < length (left_over found (count_along axis old)) → line axis new a ≡ line axis old (slice_index_or (left_over found (count_along axis old)) a 0)
+-- the lines are gone for which a test holds
+pub record DropsLines {A : Type 0} (axis : Axis) (gone : ℕ → Bool) (old new : Grid A) : Type 0 where
+  pub shape : HasLines axis (length (left_over gone (count_along axis old))) old new
+  pub kept : (a : ℕ) → a < length (left_over gone (count_along axis old)) → line axis new a ≡ line axis old (slice_index_or (left_over gone (count_along axis old)) a 0)

@@ -35,6 +35,11 @@ abbrev pub in_line : Axis → Position → ℕ → Position
 in_line Rows p i = place i p.col
 in_line Columns p j = place p.row j
 
+-- the place of a cell of a line
+abbrev pub place_in : Axis → ℕ → ℕ → Position
+place_in Rows i j = place i j
+place_in Columns i j = place j i
+
 -- each row, or each column, comes from an old one
 abbrev pub lines_from : Axis → (ℕ → ℕ) → ℕ → ℕ → Places
 lines_from axis from rows columns = record { rows = rows; columns = columns; old_place = λ (p : Position). Some (in_line axis p (from (line_of axis p))) }

@@ -62,14 +62,14 @@ extracted in_rows in_columns rows columns = record {
 abbrev pub is_among : List ℕ → ℕ → Bool
 is_among found i = list_any (λ (k : ℕ). k == i) found
 
--- the indexes below n that are not among some, in order
-abbrev pub left_over : List ℕ → ℕ → List ℕ
-left_over found n = filter (λ (i : ℕ). not (is_among found i)) (range_with_len 0 n)
+-- the indexes below n for which a test fails, in order
+abbrev pub left_over : (ℕ → Bool) → ℕ → List ℕ
+left_over gone n = filter (λ (i : ℕ). not (gone i)) (range_with_len 0 n)
 
 -- the rows, or the columns, whose indexes are not among some
 abbrev pub removed : Axis → List ℕ → ℕ → ℕ → Places
-removed Rows found rows columns = lines_from Rows (λ (i : ℕ). slice_index_or (left_over found rows) i 0) (length (left_over found rows)) (columns_if (length (left_over found rows)) columns)
-removed Columns found rows columns = lines_from Columns (λ (j : ℕ). slice_index_or (left_over found columns) j 0) rows (length (left_over found columns))
+removed Rows found rows columns = lines_from Rows (λ (i : ℕ). slice_index_or (left_over (is_among found) rows) i 0) (length (left_over (is_among found) rows)) (columns_if (length (left_over (is_among found) rows)) columns)
+removed Columns found rows columns = lines_from Columns (λ (j : ℕ). slice_index_or (left_over (is_among found) columns) j 0) rows (length (left_over (is_among found) columns))
 
 -- a table with its rows and its columns in the opposite order
 abbrev pub turned_half : ℕ → ℕ → Places

@@ -2,16 +2,20 @@
 
 ghost use Rattle.std.specs.Prelude.{◌≡◌, ◌<◌};
 ghost use Rattle.std.specs.List.{AllByRecursion};
-ghost use Rattle.tabled_grid.specs.Grid.{IsEven};
+ghost use Rattle.tabled_grid.specs.Grid.{IsEven, map_grid};
 ghost use Rattle.tabled_settings.specs.declared.rotate.Rotate.TheVariants.{Bottom, Left, Right, Top};
+ghost use Rattle.tabled_settings.specs.declared.split.Display.TheVariants.{Retain};
 ghost use Rattle.tabled_settings.specs.Charsets.{IsClean, cleaned, with_tabs};
+ghost use Rattle.tabled_settings.specs.PiecePlaces.{glued, split_places, texts_in};
+ghost use Rattle.tabled_settings.specs.Pieces.{split};
 ghost use Rattle.tabled_settings.specs.Places.{IsTakenOnce, ReadsThrough};
 ghost use Rattle.tabled_settings.specs.Rearranged.{reversed, rotated, turned_half};
 
 use crate::reverse::Reverse;
 use crate::rotate::Rotate;
+use crate::split::Split;
 use tabled_grid::config::Position;
-use tabled_grid::records::GridStore;
+use tabled_grid::records::{CellText, GridStore};
 
 /// A table with a row and a column that is turned to the left and then to the right is as it was.
 pub fn left_then_right_is_as_it_was<R: GridStore>(_old: &R, _turned: &R, _new: &R)
@@ -56,6 +60,27 @@ pub fn reverse_takes_each_cell_once(
     _pos: Position,
 )
     ensures { _pos.row < _rows → _pos.col < _columns → IsTakenOnce (reversed _reverse.axis _reverse.start _reverse.limit _rows _columns) _pos }
+{}
+
+/// A split that keeps all pieces takes each old cell to exactly one new place.
+pub fn split_takes_each_cell_once(_split: Split, _rows: usize, _columns: usize, _pos: Position)
+    ensures { _pos.row < _rows → _pos.col < _columns → IsTakenOnce (split_places _split _rows _columns) _pos }
+{}
+
+/// The pieces of a table with a row and a column, all kept, are the table again where they are glued
+/// together and cut at its old shape.
+pub fn split_is_undone_by_gluing<R: GridStore>(_split: Split, _old: &R, _new: &R)
+where
+    R::Cell: CellText,
+    ensures { IsEven (R.grid _old.now) → 0 < (R.grid _old.now).rows → 0 < (R.grid _old.now).columns → 0 < _split.index → _split.display ≡ Retain → map_grid R.Cell.text_of (R.grid _new.now) ≡ split _split (map_grid R.Cell.text_of (R.grid _old.now)) → glued _split ((R.grid _old.now).rows) ((R.grid _old.now).columns) (map_grid R.Cell.text_of (R.grid _new.now)) ≡ map_grid R.Cell.text_of (R.grid _old.now) }
+{}
+
+/// A split loses no text: those that aren't empty stand in the new rows, or columns, as often as in all
+/// the pieces, and in their order.
+pub fn split_loses_no_text<R: GridStore>(_split: Split, _old: &R, _new: &R)
+where
+    R::Cell: CellText,
+    ensures { IsEven (R.grid _old.now) → map_grid R.Cell.text_of (R.grid _new.now) ≡ split _split (map_grid R.Cell.text_of (R.grid _old.now)) → texts_in _split.lines (map_grid R.Cell.text_of (R.grid _new.now)) ≡ texts_in _split.lines (split (record _split { display = Retain }) (map_grid R.Cell.text_of (R.grid _old.now))) }
 {}
 
 /// A clean text has no control character but the newline.

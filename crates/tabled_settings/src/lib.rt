@@ -9,6 +9,8 @@ pub mod format;
 pub mod formatting;
 pub mod laws;
 mod lines;
+mod pieces;
 pub mod reverse;
 mod rewrite;
 pub mod rotate;
+pub mod split;

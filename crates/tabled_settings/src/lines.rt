@@ -56,7 +56,7 @@ where
     requires well { R.is_well_formed records.old }
     requires sorted { IsSorted nat_cmp found.now }
     ensures well { R.is_well_formed records.new }
-    ensures dropped { DropsLines axis found.now (R.grid records.old) (R.grid records.new) }
+    ensures dropped { DropsLines axis (is_among found.now) (R.grid records.old) (R.grid records.new) }
 {
     let mut kept = 0;
     for i in 0..axis.count(records) {

@@ -14,4 +14,6 @@ mod refusing;
 #[cfg(test)]
 mod rotations;
 #[cfg(test)]
+mod splits;
+#[cfg(test)]
 mod tables;

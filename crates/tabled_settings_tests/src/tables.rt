@@ -51,7 +51,8 @@ where
             Some("/") => words.next(),
             word => word,
         };
-        String::from_str(alloc, word.unwrap_or(""))
+        let word = word.unwrap_or("");
+        String::from_str(alloc, if word == "_" { "" } else { word })
     };
     Format::positioned(next).change(alloc, &mut records, &mut (), &mut ())?;
     Ok(records)

@@ -12,6 +12,7 @@ use tabled_settings::format::Format;
 use tabled_settings::formatting::Charset;
 use tabled_settings::reverse::Reverse;
 use tabled_settings::rotate::Rotate;
+use tabled_settings::split::Split;
 use tabled_table::{Table, TextRef};
 
 pub fn writes_what_is_found(alloc: Global, table: &mut Table) -> Result<(), AllocError> {
@@ -46,6 +47,11 @@ pub fn turns_and_cuts(alloc: Global, table: &mut Table) -> Result<(), AllocError
     table.with(alloc, Extract::segment(..9, 1..))?;
     table.with(alloc, Remove::row(Rows::new(1..3)))?;
     table.with(alloc, Remove::column(Columns::last()))
+}
+
+pub fn splits(alloc: Global, table: &mut Table) -> Result<(), AllocError> {
+    table.with(alloc, Split::column(2).concat())?;
+    table.with(alloc, Split::row(3).retain())
 }
 
 /// Puts a second table below one.

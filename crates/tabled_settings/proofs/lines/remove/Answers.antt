@@ -1,5 +1,6 @@
 use Rattle.std.proofs.Common.{◌+◌, ◌∙◌, sym, refl, arith}
 use Rattle.tabled_settings.proofs.Dropped.{thins_all, thins_gone, thins_kept, thins_none}
+use Rattle.tabled_settings.specs.Rearranged.{is_among}
 use Rattle.tabled_settings.proofs.LineReads.{same_count}
 use Rattle.tabled_settings.proofs.lines.remove.Goals as goal
 use Rattle.tabled_settings.proofs.lines.remove.Goals.{then-not-contains, else-not-contains}
@@ -14,11 +15,11 @@ loop-i-preserved g c =
     elim c.if-not-contains.branch [
       | then-not-contains w ↦ rw (w.records-is, w.kept-is) (record {
         well = w.swap.ensures.well;
-        thins = thins_kept c.args.axis c.args.found.now c.loop-i.i (c.loop-i.i + 1) c.loop-i.kept (c.loop-i.kept + 1) _ _ _ refl refl (sym c.contains.ensures ∙ w.if-not-contains.true) i.thins w.swap.ensures.swapped (omega (arith, same, c.loop-i-test.true, c.count-i-end.ensures.count));
+        thins = thins_kept c.args.axis (is_among c.args.found.now) c.loop-i.i (c.loop-i.i + 1) c.loop-i.kept (c.loop-i.kept + 1) _ _ _ refl refl (sym c.contains.ensures ∙ w.if-not-contains.true) i.thins w.swap.ensures.swapped (omega (arith, same, c.loop-i-test.true, c.count-i-end.ensures.count));
       })
       | else-not-contains w ↦ rw (w.records-is, w.kept-is) (record {
         well = i.well;
-        thins = thins_gone c.args.axis c.args.found.now c.loop-i.i (c.loop-i.i + 1) c.loop-i.kept _ _ refl (sym c.contains.ensures ∙ w.if-not-contains.false) i.thins;
+        thins = thins_gone c.args.axis (is_among c.args.found.now) c.loop-i.i (c.loop-i.i + 1) c.loop-i.kept _ _ refl (sym c.contains.ensures ∙ w.if-not-contains.false) i.thins;
       })
     ]
 

@@ -1,0 +1,95 @@
+-- The texts of the pieces that stay are those of all pieces.
+use Rattle.std.proofs.Common.{◌≡◌, ℕ, ◌*◌, ◌<◌, Bool, true, false, cond, eqb, List, [], ◌∷◌, ◌++◌, refl, sym, ap, ◌∙◌, length, map, arith}
+use Rattle.std.specs.Prelude.{nat_lt, ◌&&◌, ◌||◌}
+use Rattle.std.specs.Int.{div_ceil}
+use Rattle.std.specs.List.{filter, list_any, range_with_len}
+use Rattle.std.proofs.lemmas.Bool.{ltb-true}
+use Rattle.std.proofs.lemmas.List.Elements.{filter-append}
+use Rattle.std.proofs.lemmas.Nat.{row_fits}
+use mathlib.Core.Bool.{true≢false}
+use Rattle.tabled_grid.specs.Along.{count_along}
+use Rattle.tabled_grid.specs.Flat.{joined}
+use Rattle.tabled_grid.specs.Grid.{Grid, IsEven}
+use Rattle.tabled_settings.specs.declared.split.Display.{Display}
+use Rattle.tabled_settings.specs.declared.split.Display.TheVariants.{Clean, Retain}
+use Rattle.tabled_settings.specs.declared.split.Split.{Split}
+use Rattle.tabled_settings.specs.PiecePlaces.{texts_in}
+use Rattle.tabled_settings.specs.Pieces.{across, cut_rows, has_pieces, is_text, nth_piece, piece_at, split, stays, turned}
+use Rattle.tabled_settings.specs.Places.{count_of}
+use Rattle.tabled_settings.proofs.Glued.{turned_back_twice}
+use Rattle.tabled_settings.proofs.PieceReads.{cut_count, cut_even, filter_some, first_number, turned_columns, turned_even, turned_rows}
+use Rattle.tabled_settings.proofs.PiecesCut.{enough_pieces, some_pieces}
+use Rattle.tabled_settings.proofs.PiecesDone.{counted}
+
+no_texts : (xs : List (List ℕ)) → list_any is_text xs ≡ false → filter is_text xs ≡ []
+no_texts [] e = refl
+no_texts (x ∷ xs) e = either (is_text x) refl (no_texts xs)
+  where
+    either : (b : Bool) → is_text x ≡ b → (list_any is_text xs ≡ false → filter is_text xs ≡ []) → filter is_text (x ∷ xs) ≡ []
+    either true is rest = absurd (true≢false (ap (λ (b : Bool). b || list_any is_text xs) (sym is) ∙ e))
+    either false is rest = rw is (rest (ap (λ (b : Bool). b || list_any is_text xs) (sym is) ∙ e))
+
+-- pieces without a text add none
+without_empty : (f : ℕ → List (List ℕ)) (p : ℕ → Bool) → ((t : ℕ) → p t ≡ false → list_any is_text (f t) ≡ false) → (ts : List ℕ) → filter is_text (joined (map f (filter p ts))) ≡ filter is_text (joined (map f ts))
+without_empty f p none [] = refl
+without_empty f p none (t ∷ ts) = either (p t) refl (without_empty f p none ts)
+  where
+    either : (b : Bool) → p t ≡ b → filter is_text (joined (map f (filter p ts))) ≡ filter is_text (joined (map f ts)) → filter is_text (joined (map f (filter p (t ∷ ts)))) ≡ filter is_text (joined (map f (t ∷ ts)))
+    either true e rest =
+        rw e (filter-append is_text (f t) (joined (map f (filter p ts))) ∙ ap (λ (ys : List (List ℕ)). filter is_text (f t) ++ ys) rest ∙ sym (filter-append is_text (f t) (joined (map f ts))))
+    either false e rest =
+        rw e (rest ∙ ap (λ (ys : List (List ℕ)). ys ++ filter is_text (joined (map f ts))) (sym (no_texts (f t) (none t e))) ∙ sym (filter-append is_text (f t) (joined (map f ts))))
+
+gone : (d : Display) (k : ℕ) (texts : List (List ℕ)) → stays d k texts ≡ false → list_any is_text texts ≡ false
+gone Retain k texts e = absurd (true≢false e)
+gone Clean k texts e = either (eqb k 0) e
+  where
+    either : (b : Bool) → cond b true (list_any is_text texts) ≡ false → list_any is_text texts ≡ false
+    either true is = absurd (true≢false is)
+    either false is = is
+
+first_stays : (d : Display) (k : ℕ) (texts : List (List ℕ)) → k ≡ 0 → stays d k texts ≡ true
+first_stays Retain k texts e = refl
+first_stays Clean k texts e = rw e refl
+
+module _ (s : Split) (g : Grid (List ℕ)) where
+  abbrev pieces : ℕ
+  pieces = div_ceil g.columns s.index
+
+  all_texts : filter is_text (joined (cut_rows s g).cells) ≡ filter is_text (joined (map (piece_at s pieces g.cells) (range_with_len 0 (length g.cells * pieces))))
+  all_texts =
+      without_empty (piece_at s pieces g.cells) (λ (t : ℕ). stays s.display (nth_piece s.behavior (length g.cells) pieces t).1 (piece_at s pieces g.cells t))
+      (λ t e. gone s.display (nth_piece s.behavior (length g.cells) pieces t).1 (piece_at s pieces g.cells t) e) (range_with_len 0 (length g.cells * pieces))
+
+  some_stay : 0 < length g.cells → 0 < pieces → 0 < (cut_rows s g).rows
+  some_stay h k =
+      let all : 0 < length g.cells * pieces = omega (arith, row_fits 0 pieces (length g.cells) pieces h (omega arith), k) in
+      let kept = filter_some (λ (t : ℕ). stays s.display (nth_piece s.behavior (length g.cells) pieces t).1 (piece_at s pieces g.cells t)) (length g.cells * pieces) all
+      (first_stays s.display (nth_piece s.behavior (length g.cells) pieces 0).1 (piece_at s pieces g.cells 0) (first_number s.behavior (length g.cells) pieces)) in
+      omega (arith, kept, cut_count s g)
+
+pub no_text_lost : (s : Split) (g : Grid (List ℕ)) → IsEven g → texts_in s.lines (split s g) ≡ texts_in s.lines (split (record s { display = Retain }) g)
+no_text_lost s g even = either (has_pieces s g.rows g.columns) refl
+  where
+    parts : (x y z : Bool) → (x && (y && z)) ≡ true → (x ≡ true) × (y ≡ true) × (z ≡ true)
+    parts true true true e = (refl, refl, refl)
+    parts true true false e = absurd (true≢false (sym e))
+    parts true false z e = absurd (true≢false (sym e))
+    parts false y z e = absurd (true≢false (sym e))
+
+    either : (b : Bool) → has_pieces s g.rows g.columns ≡ b → texts_in s.lines (cond b (turned s.lines (cut_rows s (turned s.lines g))) g) ≡ texts_in s.lines (cond b (turned s.lines (cut_rows (record s { display = Retain }) (turned s.lines g))) g)
+    either false e = refl
+    either true e =
+        let tests = parts (nat_lt 0 (count_of s.lines g.rows g.columns)) (nat_lt 0 s.index) (nat_lt s.index (count_of (across s.lines) g.rows g.columns)) e in
+        let some : 0 < count_along s.lines g = omega (arith, ltb-true 0 (count_of s.lines g.rows g.columns) tests.0, counted s.lines g) in
+        let index : 0 < s.index = ltb-true 0 s.index tests.1 in
+        let narrow : s.index < count_along (across s.lines) g = omega (arith, ltb-true s.index (count_of (across s.lines) g.rows g.columns) tests.2, counted (across s.lines) g) in
+        let lines_even : IsEven (turned s.lines g) = turned_even s.lines g even some in
+        let tall : 0 < length (turned s.lines g).cells = omega (arith, lines_even.tall, turned_rows s.lines g, some) in
+        let wide : (turned s.lines g).columns ≡ count_along (across s.lines) g = turned_columns s.lines g some in
+        let any : 0 < div_ceil (turned s.lines g).columns s.index = some_pieces (div_ceil (turned s.lines g).columns s.index) s.index (turned s.lines g).columns (omega (arith, narrow, wide)) (enough_pieces (div_ceil (turned s.lines g).columns s.index) s.index (turned s.lines g).columns index refl) in
+        let all : Split = record s { display = Retain } in
+        ap (λ (h : Grid (List ℕ)). filter is_text (joined h.cells)) (turned_back_twice s.lines (cut_rows s (turned s.lines g)) (cut_even s (turned s.lines g)) (some_stay s (turned s.lines g) tall any) index)
+        ∙ all_texts s (turned s.lines g)
+        ∙ sym (all_texts (record s { display = Retain }) (turned s.lines g))
+        ∙ sym (ap (λ (h : Grid (List ℕ)). filter is_text (joined h.cells)) (turned_back_twice s.lines (cut_rows (record s { display = Retain }) (turned s.lines g)) (cut_even (record s { display = Retain }) (turned s.lines g)) (some_stay (record s { display = Retain }) (turned s.lines g) tall any) index))

@@ -1,0 +1,198 @@
+//! Tables with their rows or columns cut into pieces.
+
+ghost use Rattle.std.specs.Prelude.{◌≡◌, ◌<◌, false};
+ghost use Rattle.tabled_grid.specs.declared.records.axis.Axis.TheVariants.{Columns, Rows};
+ghost use Rattle.tabled_options.specs.Does.{Same};
+ghost use Rattle.tabled_settings.specs.declared.split.Behavior.TheVariants.{Concat, Zip};
+ghost use Rattle.tabled_settings.specs.declared.split.Display.TheVariants.{Clean, Retain};
+ghost use Rattle.tabled_settings.specs.PiecePlaces.{Splits};
+ghost use Rattle.tabled_settings.specs.Pieces.{has_pieces, nth_piece};
+ghost use Rattle.std.proofs.Common.{rules};
+
+use crate::pieces;
+use std::alloc::{AllocError, Global};
+use tabled_grid::config::Entity;
+use tabled_grid::records::{Axis, CellText, ExactRecords, PeekableRecords, Records, Resizable};
+use tabled_options::TableOption;
+
+/// The order of the pieces.
+///
+/// Ported from the private `Behavior` of `tabled::settings::split`.
+#[derive(Clone, Copy, Debug, PartialEq, Eq)]
+pub enum Behavior {
+    /// The first pieces of all lines, then the second ones, and so on.
+    Concat,
+    /// The pieces of the first line, then those of the second one, and so on.
+    Zip,
+}
+
+/// Whether pieces without a text stay.
+///
+/// Ported from the private `Display` of `tabled::settings::split`.
+#[derive(Clone, Copy, Debug, PartialEq, Eq)]
+pub enum Display {
+    /// The first piece of each line stays, and of the others those with a text.
+    Clean,
+    /// All pieces stay.
+    Retain,
+}
+
+/// Cuts rows, or columns, into pieces of a length, which become the new rows, or columns.
+///
+/// The last piece of each is filled up with blank cells. Where there are no rows or no columns, where the
+/// index is 0 and where a line is no longer than the index, it changes nothing and takes no memory.
+/// Refused for memory, it leaves the table as it was.
+///
+/// ```text
+/// a b c d e   column(2): a b   concat: a b   row(1): a f b g c h d i e j
+/// f g h i j              c d           f g
+///                        e             c d
+///                        f g           h i
+///                        h i           e
+///                        j             j
+/// ```
+///
+/// Ported from `tabled::settings::split::Split`.
+#[derive(Clone, Copy, Debug, PartialEq, Eq)]
+pub struct Split {
+    /// The lines that are cut: rows, or columns.
+    pub lines: Axis,
+    pub behavior: Behavior,
+    pub display: Display,
+    /// The length of a piece.
+    pub index: usize,
+}
+
+impl Split {
+    /// Cuts each row into pieces of so many cells, with `zip` and `clean`.
+    ///
+    /// Ported from `tabled::settings::split::Split::column`.
+    pub fn column(index: usize) -> Self
+        ensures { result ≡ record { lines = Rows; behavior = Zip; display = Clean; index = index } }
+    {
+        Split {
+            lines: Axis::Rows,
+            behavior: Behavior::Zip,
+            display: Display::Clean,
+            index,
+        }
+    }
+
+    /// Cuts each column into pieces of so many cells, with `zip` and `clean`.
+    ///
+    /// Ported from `tabled::settings::split::Split::row`.
+    pub fn row(index: usize) -> Self
+        ensures { result ≡ record { lines = Columns; behavior = Zip; display = Clean; index = index } }
+    {
+        Split {
+            lines: Axis::Columns,
+            behavior: Behavior::Zip,
+            display: Display::Clean,
+            index,
+        }
+    }
+
+    /// The first pieces of all lines, then the second ones, and so on.
+    ///
+    /// Ported from `tabled::settings::split::Split::concat`.
+    pub fn concat(self) -> Self
+        ensures { result ≡ record self { behavior = Concat } }
+    {
+        Split {
+            behavior: Behavior::Concat,
+            ..self
+        }
+    }
+
+    /// The pieces of the first line, then those of the second one, and so on.
+    ///
+    /// Ported from `tabled::settings::split::Split::zip`.
+    pub fn zip(self) -> Self
+        ensures { result ≡ record self { behavior = Zip } }
+    {
+        Split {
+            behavior: Behavior::Zip,
+            ..self
+        }
+    }
+
+    /// Drops each piece without a text, but for the first one of each line.
+    ///
+    /// Ported from `tabled::settings::split::Split::clean`.
+    pub fn clean(self) -> Self
+        ensures { result ≡ record self { display = Clean } }
+    {
+        Split {
+            display: Display::Clean,
+            ..self
+        }
+    }
+
+    /// Keeps all pieces.
+    ///
+    /// Ported from `tabled::settings::split::Split::retain`.
+    pub fn retain(self) -> Self
+        ensures { result ≡ record self { display = Retain } }
+    {
+        Split {
+            display: Display::Retain,
+            ..self
+        }
+    }
+}
+
+impl Behavior {
+    /// The line and the number of the piece that comes so many-th, of so many lines of so many pieces.
+    pub(crate) fn nth_piece(self, lines: usize, pieces: usize, nth: usize) -> (usize, usize)
+        requires lines { 0 < lines }
+        requires pieces { 0 < pieces }
+        ensures { result ≡ nth_piece self lines pieces nth }
+    {
+        match self {
+            Behavior::Zip => (nth / pieces, nth % pieces),
+            Behavior::Concat => (nth % lines, nth / lines),
+        }
+    }
+}
+
+impl<R, C, D> TableOption<R, C, D> for Split
+where
+    R: Records + ExactRecords + PeekableRecords + Resizable,
+    R::Cell: CellText,
+{
+    ghost does = { λ s g c h d. Splits R.Cell.text_of s g h × (d ≡ c) };
+
+    ghost leaves = { λ _. Same };
+
+    ghost can_change = { λ _. Unit {0} };
+
+    ghost never_refused = { λ s g _. has_pieces s g.rows g.columns ≡ false };
+
+    fn change(
+        self,
+        alloc: Global,
+        records: &mut R,
+        _cfg: &mut C,
+        _dimension: &mut D,
+    ) -> Result<(), AllocError> {
+        let lines = self.lines.count(records);
+        let width = pieces::across(self.lines).count(records);
+        if lines == 0 || self.index == 0 || self.index >= width {
+            return Ok(());
+        }
+        pieces::cut(alloc, records, self)?;
+        match self.display {
+            Display::Clean => {
+                pieces::drop_empty(records, self, lines, width.div_ceil(self.index));
+                Ok(())
+            }
+            Display::Retain => Ok(()),
+        }
+    }
+
+    fn hint_change(&self) -> Option<Entity> {
+        Some(Entity::Global)
+    }
+
+    ghost acts_like = { Prim.search rules };
+}

@@ -1,0 +1,134 @@
+//! Tables with their rows or columns cut into pieces.
+
+use crate::tables::{makes_flat, makes_nested, makes_refusing};
+use std::alloc::Global;
+use std::test::Fail;
+use tabled_settings::split::Split;
+
+/// Whether a split makes one table of another, in both kinds of store.
+fn splits(alloc: Global, old: &str, split: Split, new: &str) -> bool {
+    makes_flat(alloc, old, split, new) && makes_nested(alloc, old, split, new)
+}
+
+const WIDE: &str = "a b c d e / f g h i j /";
+
+const GAPS: &str = "a _ _ d / e f _ _ /";
+
+#[test]
+fn rows_are_cut(rt: HostRuntime) -> Result<(), Fail> {
+    let two = Split::column(2);
+    let one = Split::column(1);
+    let cases = [
+        (WIDE, two, "a b / c d / e _ / f g / h i / j _ /"),
+        (WIDE, two.concat(), "a b / f g / c d / h i / e _ / j _ /"),
+        (WIDE, two.retain(), "a b / c d / e _ / f g / h i / j _ /"),
+        (
+            WIDE,
+            two.concat().retain(),
+            "a b / f g / c d / h i / e _ / j _ /",
+        ),
+        (
+            WIDE,
+            Split::column(4),
+            "a b c d / e _ _ _ / f g h i / j _ _ _ /",
+        ),
+        (
+            "a b c d e / f g h _ _ /",
+            Split::column(3),
+            "a b c / d e _ / f g h /",
+        ),
+        (
+            "a b c d e / f g h _ _ /",
+            Split::column(3).retain(),
+            "a b c / d e _ / f g h / _ _ _ /",
+        ),
+        ("_ _ x /", two, "_ _ / x _ /"),
+        ("_ _ x / _ _ _ /", two.concat(), "_ _ / _ _ / x _ /"),
+        (GAPS, one.concat().clean(), "a / e / f / d /"),
+        (GAPS, one.zip().clean(), "a / d / e / f /"),
+        (GAPS, one.retain(), "a / _ / _ / d / e / f / _ / _ /"),
+        (
+            GAPS,
+            one.concat().retain(),
+            "a / e / _ / f / _ / _ / d / _ /",
+        ),
+    ];
+    for (old, split, new) in cases {
+        assert!(rt; splits(rt.alloc(), old, split, new));
+    }
+    Ok(())
+}
+
+#[test]
+fn columns_are_cut(rt: HostRuntime) -> Result<(), Fail> {
+    let two = Split::row(2);
+    let cases = [
+        ("a / b / c /", two, "a c / b _ /"),
+        (WIDE, Split::row(1), "a f b g c h d i e j /"),
+        (WIDE, Split::row(1).concat(), "a b c d e f g h i j /"),
+        (
+            "a x / b y / c z / d _ / e _ /",
+            two,
+            "a c e x z / b d _ y _ /",
+        ),
+        (
+            "a x / b y / c z / d _ / e _ /",
+            two.concat(),
+            "a x c z e / b y d _ _ /",
+        ),
+        (
+            "a x / b y / c z / d _ / e _ /",
+            two.retain(),
+            "a c e x z _ / b d _ y _ _ /",
+        ),
+        (
+            "a x / b y / c z / d _ / e _ /",
+            two.concat().retain(),
+            "a x c z e _ / b y d _ _ _ /",
+        ),
+        ("_ / _ / x /", two, "_ x / _ _ /"),
+    ];
+    for (old, split, new) in cases {
+        assert!(rt; splits(rt.alloc(), old, split, new));
+    }
+    Ok(())
+}
+
+#[test]
+fn tables_without_longer_lines_stay(rt: HostRuntime) -> Result<(), Fail> {
+    let tables = ["", "/ /", "a /", "a b c /", "a / b / c /", WIDE];
+    for table in tables {
+        for index in [0, 5, 6, usize::MAX] {
+            let split = Split::column(index);
+            assert!(rt; splits(rt.alloc(), table, split, table));
+            assert!(rt; makes_refusing(rt.alloc(), 0, table, split.concat(), table));
+            let split = Split::row(index);
+            assert!(rt; splits(rt.alloc(), table, split.retain(), table));
+            assert!(rt; makes_refusing(rt.alloc(), 0, table, split, table));
+        }
+    }
+    Ok(())
+}
+
+#[test]
+fn splits_that_are_refused_are_undone(rt: HostRuntime) -> Result<(), Fail> {
+    // Columns, or rows, and the others are added: 1 + 4 of 2 x 5, and 1 + 2 of 3 x 2.
+    let cases = [
+        (Split::column(2), WIDE, "a b c d e / f g h i j /!", 5),
+        (Split::row(2), "a _ / b _ / c _ /", "a _ / b _ / c _ /!", 3),
+    ];
+    for (split, old, refused, growths) in cases {
+        for split in [
+            split,
+            split.retain(),
+            split.concat(),
+            split.concat().retain(),
+        ] {
+            for left in 0..growths {
+                assert!(rt; makes_refusing(rt.alloc(), left, old, split, refused));
+            }
+            assert!(rt; !makes_refusing(rt.alloc(), growths, old, split, refused));
+        }
+    }
+    Ok(())
+}
