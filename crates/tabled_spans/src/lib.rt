@@ -1,4 +1,5 @@
 //! Options that merge cells.
 #![tactic(auto)]
 
+pub mod laws;
 pub mod panel;
