@@ -1,3 +1,5 @@
 pub mod PanelGeometry
 pub mod PanelLines
 pub mod PanelMaps
+pub mod RunLists
+pub mod Runs

@@ -1,2 +1,4 @@
 pub mod PanelSteps
 pub mod Panels
+pub mod RunSteps
+pub mod Runs

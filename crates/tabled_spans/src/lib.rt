@@ -2,4 +2,5 @@
 #![tactic(auto)]
 
 pub mod laws;
+pub mod merge;
 pub mod panel;
