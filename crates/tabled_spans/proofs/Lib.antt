@@ -1,3 +1,4 @@
+pub mod MergeGeometry
 pub mod PanelGeometry
 pub mod PanelLines
 pub mod PanelMaps

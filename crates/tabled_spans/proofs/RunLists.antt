@@ -12,7 +12,7 @@ use Rattle.std.proofs.lemmas.Option.{none-some, same_Some}
 use Rattle.tabled_grid.specs.Anchors.{Anchor}
 use Rattle.tabled_grid.specs.Entity.{place}
 use Rattle.tabled_grid.specs.Grid.{Grid}
-use Rattle.tabled_grid.specs.Spans.{IsSizeAt, SpanMap, position_cmp, size_at, with_size, with_sizes}
+use Rattle.tabled_grid.specs.Spans.{SpanMap, position_cmp, size_at, with_size, with_sizes}
 use Rattle.tabled_grid.specs.declared.config.position.Position.{Position}
 use Rattle.tabled_grid.specs.declared.records.axis.Axis.{Axis}
 use Rattle.tabled_grid.specs.declared.records.axis.Axis.TheVariants.{Rows, Columns}
@@ -136,13 +136,6 @@ module _ (axis : Axis) (g : Grid (List ℕ)) (m : SpanMap) where
           either (inl l) = inl l
           either (inr l) = inr (omega arith, omega arith)
 
-  sizes_at_least : (a : Axis) (many : ℕ) → 2 ≤ many → (1 ≤ (size_of_run a many).0) × (1 ≤ (size_of_run a many).1)
-  sizes_at_least Rows many h = (omega arith, omega arith)
-  sizes_at_least Columns many h = (omega arith, omega arith)
-
-  pub sizes_of_runs : (es : List Anchor) → AllByRecursion (IsOfRun axis g m) es → AllByRecursion IsSizeAt es
-  sizes_of_runs es all = all_then (λ e h. let least = sizes_at_least axis h.0 h.1.some in record { height = subst (λ (s : ℕ × ℕ). 1 ≤ s.0) (sym h.2) least.0; width = subst (λ (s : ℕ × ℕ). 1 ≤ s.1) (sym h.2) least.1 }) es all
-
 -- sizes that are set at places, each once
 missed : (es : List Anchor) (m : SpanMap) (p : Position) → find position_cmp p es ≡ None → get (with_sizes m es) p ≡ get m p
 missed [] m p is = refl
@@ -195,11 +188,13 @@ module _ (axis : Axis) (g : Grid (List ℕ)) (m : SpanMap) (es : List Anchor) (l
       either (inr n) later = later (sym (ap (λ b. cond b (Some e.1) (find position_cmp p fs)) (untied p e.0 n)) ∙ is)
 
   pub runs_merged : MergesRuns axis g m (with_sizes m es)
-  runs_merged = record {
-    runs = λ p many run. anchored axis many (with_sizes m es) p run.some (found es m p (size_of_run axis many) listed.sorted (listed.all p many run (inl (begins_above axis g m p many run))));
-    others = λ p never. missed es m p (absent p never (find position_cmp p es) refl);
-  }
+  runs_merged = record { each = λ p. by p (find position_cmp p es) refl }
     where
-      absent : (p : Position) → ((many : ℕ) → IsRun axis g m p many → ⊥) → (o : Option (ℕ × ℕ)) → find position_cmp p es ≡ o → find position_cmp p es ≡ None
-      absent p never None is = is
-      absent p never (Some s) is = let it = entry_of es listed.each p s is in absurd (never it.0 it.1)
+      listed_of : (p : Position) (many : ℕ) → IsRun axis g m p many → find position_cmp p es ≡ Some (size_of_run axis many)
+      listed_of p many run = listed.all p many run (inl (begins_above axis g m p many run))
+
+      by : (p : Position) (o : Option (ℕ × ℕ)) → find position_cmp p es ≡ o → ((many : ℕ) × IsRun axis g m p many × (get (with_sizes m es) p ≡ Some (size_of_run axis many))) ⊎ (((many : ℕ) → IsRun axis g m p many → ⊥) × (get (with_sizes m es) p ≡ get m p))
+      by p None is = inr (λ many run. none-some (size_of_run axis many) (sym is ∙ listed_of p many run), missed es m p is)
+      by p (Some s) is =
+          let it = entry_of es listed.each p s is in
+          inl (it.0, it.1, anchored axis it.0 (with_sizes m es) p it.1.some (found es m p (size_of_run axis it.0) listed.sorted (listed_of p it.0 it.1)))

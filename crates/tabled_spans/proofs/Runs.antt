@@ -46,11 +46,6 @@ module _ (axis : Axis) (g : Grid (List ℕ)) (m : SpanMap) (p : Position) where
       either (inl l) = joins k l
       either (inr l) = subst (Joins axis g m) (is ∙ ap (λ n. further axis n p) (omega arith)) more
 
--- a run is no longer than the table
-pub many_fits : (axis : Axis) (g : Grid (List ℕ)) (m : SpanMap) (p last : Position) (many size : ℕ) → last ≡ further axis (many - 1) p → Joins axis g m last → g.rows < size → g.columns < size → many + 1 < size
-many_fits Rows g m p last many size is joins rows columns = omega (arith, ap (λ (x : Position). x.row) is, joins.next_inside.row, rows)
-many_fits Columns g m p last many size is joins rows columns = omega (arith, ap (λ (x : Position). x.col) is, joins.next_inside.col, columns)
-
 -- a run is as long as any other that begins at the same place
 pub same_run : (axis : Axis) (g : Grid (List ℕ)) (m : SpanMap) (p : Position) (a b : ℕ) → IsRun axis g m p a → IsRun axis g m p b → a ≡ b
 same_run axis g m p a b first second = either (cases_lt a b) (cases_lt b a)

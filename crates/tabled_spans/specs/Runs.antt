@@ -1,5 +1,5 @@
 -- Runs of equal neighbours in rows or in columns, and the map in which each is one rectangle.
-use Rattle.std.specs.Prelude.{◌≡◌, ◌+◌, ◌-◌, ◌<◌, ◌≤◌, ◌&&◌, ◌==◌, ℕ, Bool, List, Some, true}
+use Rattle.std.specs.Prelude.{◌≡◌, ◌+◌, ◌-◌, ◌<◌, ◌≤◌, ◌⊎◌, ◌&&◌, ◌==◌, ℕ, Bool, List, Some, true}
 use Rattle.std.specs.FinMap as map
 use Rattle.tabled_grid.specs.Entity.{place}
 use Rattle.tabled_grid.specs.Grid.{Grid, IsInside, cell_at}
@@ -40,5 +40,4 @@ pub record IsRun (axis : Axis) (g : Grid (List ℕ)) (m : SpanMap) (p : Position
 
 -- the map with a rectangle for each run, anchored at its first cell, and with all others as they were
 pub record MergesRuns (axis : Axis) (g : Grid (List ℕ)) (m n : SpanMap) : Type 0 where
-  pub runs : (p : Position) (many : ℕ) → IsRun axis g m p many → map.get n p ≡ Some (size_of_run axis many)
-  pub others : (p : Position) → ((many : ℕ) → IsRun axis g m p many → ⊥) → map.get n p ≡ map.get m p
+  pub each : (p : Position) → ((many : ℕ) × IsRun axis g m p many × (map.get n p ≡ Some (size_of_run axis many))) ⊎ (((many : ℕ) → IsRun axis g m p many → ⊥) × (map.get n p ≡ map.get m p))
