@@ -1,4 +1,5 @@
 pub mod MergeGeometry
+pub mod MergeTwice
 pub mod PanelGeometry
 pub mod PanelLines
 pub mod PanelMaps

@@ -30,12 +30,12 @@ size_is_more Rows many h = record { height = omega arith; width = omega arith; m
 size_is_more Columns many h = record { height = omega arith; width = omega arith; merges = inr h }
 
 module _ (axis : Axis) (g : Grid (List ℕ)) (m : SpanMap) where
-  record FreeCell (p : Position) : Type 0 where
-    inside : IsInside g p
-    free : is_free m p ≡ true
+  pub record FreeCell (p : Position) : Type 0 where
+    pub inside : IsInside g p
+    pub free : is_free m p ≡ true
 
   -- each cell of a run is visible and no anchor
-  run_cell : (a : Position) (many k : ℕ) → IsRun axis g m a many → k < many → FreeCell (further axis k a)
+  pub run_cell : (a : Position) (many k : ℕ) → IsRun axis g m a many → k < many → FreeCell (further axis k a)
   run_cell a many k run h = either (cases_lt (k + 1) many)
     where
       either : (k + 1 < many) ⊎ (many ≤ k + 1) → FreeCell (further axis k a)
