@@ -5,3 +5,4 @@ pub mod PanelLines
 pub mod PanelMaps
 pub mod RunLists
 pub mod Runs
+pub mod Widths

@@ -2,3 +2,4 @@ pub mod PanelSteps
 pub mod Panels
 pub mod RunSteps
 pub mod Runs
+pub mod Widths
