@@ -1,9 +1,14 @@
 pub mod FreeCells
+pub mod MergeGeometry
+pub mod MergeTwice
 pub mod PanelGeometry
 pub mod PanelLines
 pub mod PanelMaps
 pub mod Reach
 pub mod RisingPlaces
+pub mod RunLists
+pub mod Runs
 pub mod SpanChanges
 pub mod SpanGeometry
 pub mod SpanWrites
+pub mod Widths

@@ -1,4 +1,7 @@
 pub mod PanelSteps
 pub mod Panels
+pub mod RunSteps
+pub mod Runs
 pub mod SpanSteps
 pub mod Spanned
+pub mod Widths

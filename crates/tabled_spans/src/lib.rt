@@ -2,5 +2,6 @@
 #![tactic(auto)]
 
 pub mod laws;
+pub mod merge;
 pub mod panel;
 pub mod span;

@@ -8,6 +8,7 @@ mod header;
 mod horizontal_panel;
 mod put;
 mod vertical_panel;
+mod width;
 
 pub use footer::Footer;
 pub use header::Header;

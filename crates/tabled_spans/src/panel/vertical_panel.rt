@@ -1,13 +1,15 @@
 //! Columns of one text.
 
-ghost use Rattle.std.specs.Prelude.{◌≡◌, false};
+ghost use Rattle.std.specs.Prelude.{◌≡◌, false, IfOk};
 ghost use Rattle.std.specs.String.{string_bytes};
 ghost use Rattle.tabled_grid.specs.declared.records.axis.Axis.TheVariants.{Columns};
 ghost use Rattle.tabled_options.specs.Does.{Same};
 ghost use Rattle.tabled_spans.specs.Panels.{Panels, has_room};
+ghost use Rattle.tabled_spans.specs.Widths.{cut};
 ghost use Rattle.std.proofs.Common.{rules};
 
 use crate::panel::put::put;
+use crate::panel::width::cut_text;
 use std::alloc::{AllocError, Global};
 use std::marker::Model;
 use tabled_grid::config::{Entity, SpannedConfig};
@@ -55,6 +57,25 @@ impl VerticalPanel {
         ensures { result ≡ (col, string_bytes text) }
     {
         VerticalPanel { col, text }
+    }
+
+    /// The panel with each line of its text cut into pieces of at most `width` columns. A character that
+    /// doesn't fit becomes U+FFFD, and characters without columns stay with the one before them. A width of
+    /// 0 leaves no text.
+    ///
+    /// Ported from `tabled::settings::panel::VerticalPanel::width`.
+    pub fn width(self, alloc: Global, width: usize) -> Result<VerticalPanel, AllocError>
+        ensures { IfOk result (λ panel. panel ≡ (self.0, cut width self.1)) }
+    {
+        let text = if width == 0 {
+            String::new(alloc)
+        } else {
+            cut_text(alloc, self.text.as_str(), width)?
+        };
+        Ok(VerticalPanel {
+            col: self.col,
+            text,
+        })
     }
 }
 

@@ -1,0 +1,174 @@
+-- A second merge finds no runs, and a merge of a map without rectangles finds those of equal texts.
+use Rattle.std.proofs.Common.{◌≡◌, ℕ, zero, suc, ◌+◌, ◌-◌, ◌<◌, ◌≤◌, ◌≢◌, ◌⊎◌, inl, inr, true, false, List, Some, refl, sym, ap, ap₂, subst, ◌∙◌, arith}
+use Rattle.std.specs.FinMap as map
+use Rattle.std.specs.FinMap.{get, get-empty, same_map}
+use Rattle.std.specs.Option.{unwrap_or}
+use Rattle.std.proofs.lemmas.Bool.{and_from, and_parts, cases_Bool, cases_lt, eq-eqb, not_from_false, not_from_true}
+use Rattle.std.proofs.lemmas.Option.{none-some, same_Some}
+use borrow.Author.Tests.{eqb-true}
+use Rattle.tabled_grid.specs.Entity.{place}
+use Rattle.tabled_grid.specs.Grid.{Grid, IsInside, cell_at}
+use Rattle.tabled_grid.specs.Midway.{In}
+use Rattle.tabled_grid.specs.Rectangles.{is_hidden, is_visible}
+use Rattle.tabled_grid.specs.Spans.{SpanMap, position_cmp, size_at}
+use Rattle.tabled_grid.specs.declared.config.position.Position.{Position}
+use Rattle.tabled_grid.specs.declared.records.axis.Axis.{Axis}
+use Rattle.tabled_grid.specs.declared.records.axis.Axis.TheVariants.{Rows, Columns}
+use Rattle.tabled_grid.proofs.SpanMaps.{hidden-from, hidden_by, size_at-some}
+use Rattle.tabled_grid.proofs.Spans.{positions_exact, positions_total}
+use Rattle.tabled_spans.specs.Runs.{IsRun, Joins, MergesRuns, further, is_free, size_of_run}
+use Rattle.tabled_spans.proofs.MergeGeometry.{run_cell}
+use Rattle.tabled_spans.proofs.Runs.{further_none, same_run}
+
+one_size : (s : ℕ × ℕ) → s.0 ≡ 1 → s.1 ≡ 1 → s ≡ (1, 1)
+one_size s e f = ap₂ (λ (h w : ℕ). (h, w)) e f
+
+free_size : (m : SpanMap) (p : Position) → is_free m p ≡ true → size_at m p ≡ (1, 1)
+free_size m p free = let ones = and_parts _ _ (and_parts _ _ free).1 in one_size (size_at m p) (eqb-true _ _ ones.0) (eqb-true _ _ ones.1)
+
+free_by : (m : SpanMap) (p : Position) → is_visible m p ≡ true → size_at m p ≡ (1, 1) → is_free m p ≡ true
+free_by m p shown is = and_from _ _ shown (and_from _ _ (eq-eqb _ _ (ap (λ (s : ℕ × ℕ). s.0) is)) (eq-eqb _ _ (ap (λ (s : ℕ × ℕ). s.1) is)))
+
+not_one : (a : Axis) (many : ℕ) → 2 ≤ many → size_of_run a many ≡ (1, 1) → ⊥
+not_one Rows many h e = omega (arith, h, ap (λ (s : ℕ × ℕ). s.0) e)
+not_one Columns many h e = omega (arith, h, ap (λ (s : ℕ × ℕ). s.1) e)
+
+true_false : false ≡ true → ⊥
+true_false e = cc
+
+module _ (axis : Axis) (g : Grid (List ℕ)) (m : SpanMap) where
+  place_bound : (q : Position) (k : ℕ) → Joins axis g m (further axis k q) → q.row + q.col + k + 1 < g.rows + g.columns
+  place_bound q k j = by axis j.next_inside
+    where
+      by : (x : Axis) → IsInside g (further x 1 (further x k q)) → q.row + q.col + k + 1 < g.rows + g.columns
+      by Rows h = omega (arith, h.row, h.col)
+      by Columns h = omega (arith, h.row, h.col)
+
+  -- a cell that joins the next one is in a run: from the run's first cell on
+  onward : (fuel : ℕ) (p q : Position) (k d : ℕ) → g.rows + g.columns ≤ q.row + q.col + k + fuel → 1 ≤ k → d < k → further axis d q ≡ p → ((i : ℕ) → i < k → Joins axis g m (further axis i q)) → ((r : Position) → further axis 1 r ≡ q → Joins axis g m r → ⊥) → ((a : Position) (many i : ℕ) → IsRun axis g m a many → i < many → further axis i a ≡ p → ⊥) → ⊥
+  onward zero p q k d bound some within is joins begins hit = hit q (k + 1) d (record { some = omega arith; joins = λ i h. joins i (omega arith); ends = λ j. omega (arith, bound, place_bound q k (subst (λ n. Joins axis g m (further axis n q)) (omega arith) j)); begins = begins }) (omega arith) is
+  onward (suc fuel) p q k d bound some within is joins begins hit = hit q (k + 1) d (record { some = omega arith; joins = λ i h. joins i (omega arith); ends = λ j. onward fuel p q (k + 1) d (omega (arith, bound)) (omega arith) (omega arith) is (λ i h. more i h (subst (λ n. Joins axis g m (further axis n q)) (omega arith) j) (cases_lt i k)) begins hit; begins = begins }) (omega arith) is
+    where
+      more : (i : ℕ) → i < k + 1 → Joins axis g m (further axis k q) → (i < k) ⊎ (k ≤ i) → Joins axis g m (further axis i q)
+      more i h j (inl l) = joins i l
+      more i h j (inr l) = subst (λ n. Joins axis g m (further axis n q)) (omega arith) j
+
+  came_before : (x : Axis) (r q : Position) → further x 1 r ≡ q → q.row + q.col ≡ r.row + r.col + 1
+  came_before Rows r q e = omega (arith, ap (λ (y : Position). y.row) e, ap (λ (y : Position). y.col) e)
+  came_before Columns r q e = omega (arith, ap (λ (y : Position). y.row) e, ap (λ (y : Position). y.col) e)
+
+  further_from : (x : Axis) (r q : Position) (i n : ℕ) → further x 1 r ≡ q → i + 1 ≡ n → further x i q ≡ further x n r
+  further_from Rows r q i n e f = ap₂ place (omega (arith, f, ap (λ (y : Position). y.row) e)) (sym (ap (λ (y : Position). y.col) e))
+  further_from Columns r q i n e f = ap₂ place (sym (ap (λ (y : Position). y.row) e)) (omega (arith, f, ap (λ (y : Position). y.col) e))
+
+  -- and back to that cell
+  back : (fuel : ℕ) (p q : Position) (k d : ℕ) → q.row + q.col ≤ fuel → 1 ≤ k → d < k → further axis d q ≡ p → ((i : ℕ) → i < k → Joins axis g m (further axis i q)) → ((a : Position) (many i : ℕ) → IsRun axis g m a many → i < many → further axis i a ≡ p → ⊥) → ⊥
+  back zero p q k d bound some within is joins hit = onward (g.rows + g.columns) p q k d (omega arith) some within is joins (λ r e j. let f = came_before axis r q e in omega (arith, f, bound)) hit
+  back (suc fuel) p q k d bound some within is joins hit = onward (g.rows + g.columns) p q k d (omega arith) some within is joins (λ r e j. back fuel p r (k + 1) (d + 1) (let f = came_before axis r q e in omega (arith, f, bound)) (omega arith) (omega arith) (sym (further_from axis r q d (d + 1) e refl) ∙ is) (λ i h. more r e j i h (cases_lt 0 i)) hit) hit
+    where
+      more : (r : Position) → further axis 1 r ≡ q → Joins axis g m r → (i : ℕ) → i < k + 1 → (0 < i) ⊎ (i ≤ 0) → Joins axis g m (further axis i r)
+      more r e j i h (inl l) = subst (Joins axis g m) (further_from axis r q (i - 1) i e (omega arith)) (joins (i - 1) (omega arith))
+      more r e j i h (inr l) = subst (Joins axis g m) (sym (further_none axis r) ∙ ap (λ n. further axis n r) (omega arith)) j
+
+  pub in_a_run : (p : Position) → Joins axis g m p → ((a : Position) (many i : ℕ) → IsRun axis g m a many → i < many → further axis i a ≡ p → ⊥) → ⊥
+  in_a_run p j hit = back (p.row + p.col) p p 1 0 (omega arith) (omega arith) (omega arith) (further_none axis p) (λ i h. subst (Joins axis g m) (sym (further_none axis p) ∙ ap (λ n. further axis n p) (omega arith)) j) hit
+
+  module _ (n : SpanMap) (merged : MergesRuns axis g m n) where
+    anchor_size : (a : Position) (many : ℕ) → IsRun axis g m a many → (many' : ℕ) × IsRun axis g m a many' × (get n a ≡ Some (size_of_run axis many'))
+    anchor_size a many run = by (merged.each a)
+      where
+        by : ((k : ℕ) × IsRun axis g m a k × (get n a ≡ Some (size_of_run axis k))) ⊎ (((k : ℕ) → IsRun axis g m a k → ⊥) × (get n a ≡ get m a)) → (k : ℕ) × IsRun axis g m a k × (get n a ≡ Some (size_of_run axis k))
+        by (inl it) = it
+        by (inr it) = absurd (it.0 many run)
+
+    first_free : (a : Position) (many : ℕ) → IsRun axis g m a many → is_free m a ≡ true
+    first_free a many run = subst (λ x. is_free m x ≡ true) (further_none axis a) (run_cell axis g m a many 0 run (omega (arith, run.some))).free
+
+    -- what is hidden stays hidden
+    hidden_still : (p : Position) → is_hidden m p ≡ true → is_hidden n p ≡ true
+    hidden_still p h = let it = hidden_by m p h in by it.anchor it.size it.has it.holds it.other (merged.each it.anchor)
+      where
+        by : (a : Position) (s : ℕ × ℕ) → get m a ≡ Some s → In a s p → a ≢ p → ((k : ℕ) × IsRun axis g m a k × (get n a ≡ Some (size_of_run axis k))) ⊎ (((k : ℕ) → IsRun axis g m a k → ⊥) × (get n a ≡ get m a)) → is_hidden n p ≡ true
+        by a s has holds other (inl (k, run, is)) =
+            let one : s ≡ (1, 1) = sym (size_at-some m a s has) ∙ free_size m a (first_free a k run) in
+            let h1 = subst (λ (t : ℕ × ℕ). In a t p) one holds in
+            absurd (other (ap₂ place (omega (arith, h1.top, h1.bottom)) (omega (arith, h1.left, h1.right))))
+        by a s has holds other (inr (never, is)) = hidden-from n a p s (is ∙ has) holds other
+
+    was_visible : (p : Position) → is_visible n p ≡ true → is_visible m p ≡ true
+    was_visible p shown = by (cases_Bool (is_hidden m p))
+      where
+        by : (is_hidden m p ≡ true) ⊎ (is_hidden m p ≡ false) → is_visible m p ≡ true
+        by (inl t) = absurd (true_false (sym (not_from_true _ (hidden_still p t)) ∙ shown))
+        by (inr f) = not_from_false _ f
+
+    was_free : (p : Position) → is_free n p ≡ true → is_free m p ≡ true
+    was_free p free = free_by m p (was_visible p (and_parts _ _ free).0) (by (merged.each p))
+      where
+        by : ((k : ℕ) × IsRun axis g m p k × (get n p ≡ Some (size_of_run axis k))) ⊎ (((k : ℕ) → IsRun axis g m p k → ⊥) × (get n p ≡ get m p)) → size_at m p ≡ (1, 1)
+        by (inl (k, run, is)) = absurd (not_one axis k run.some (sym (size_at-some n p (size_of_run axis k) is) ∙ free_size n p free))
+        by (inr (never, is)) = ap (λ o. unwrap_or o (1, 1)) (sym is) ∙ free_size n p free
+
+    was_joined : (p : Position) → Joins axis g n p → Joins axis g m p
+    was_joined p j = record { inside = j.inside; next_inside = j.next_inside; free = was_free p j.free; next_free = was_free (further axis 1 p) j.next_free; same = j.same }
+
+    covers : (x : Axis) (a : Position) (many k : ℕ) → 2 ≤ many → k < many → In a (size_of_run x many) (further x k a)
+    covers Rows a many k some h = record { top = omega arith; bottom = omega arith; left = omega arith; right = omega arith }
+    covers Columns a many k some h = record { top = omega arith; bottom = omega arith; left = omega arith; right = omega arith }
+
+    apart_from : (x : Axis) (a : Position) (k : ℕ) → 0 < k → a ≢ further x k a
+    apart_from Rows a k h e = omega (arith, ap (λ (y : Position). y.row) e)
+    apart_from Columns a k h e = omega (arith, ap (λ (y : Position). y.col) e)
+
+    -- no cell of a run is free any more
+    none_free : (p : Position) → is_free n p ≡ true → (a : Position) (many k : ℕ) → IsRun axis g m a many → k < many → further axis k a ≡ p → ⊥
+    none_free p free a many k run h is = by (anchor_size a many run) (cases_lt 0 k)
+      where
+        by : (b : ℕ) × IsRun axis g m a b × (get n a ≡ Some (size_of_run axis b)) → (0 < k) ⊎ (k ≤ 0) → ⊥
+        by (b, other, has) (inl l) =
+            let long : k < b = omega (arith, h, same_run axis g m a many b run other) in
+            let hidden : is_hidden n p ≡ true = hidden-from n a p (size_of_run axis b) has (subst (In a (size_of_run axis b)) is (covers axis a b k other.some long)) (λ e. apart_from axis a k l (e ∙ sym is)) in
+            true_false (sym (not_from_true _ hidden) ∙ (and_parts _ _ free).0)
+        by (b, other, has) (inr l) =
+            let here : a ≡ p = sym (further_none axis a) ∙ ap (λ i. further axis i a) (omega arith) ∙ is in
+            not_one axis b other.some (sym (size_at-some n a (size_of_run axis b) has) ∙ ap (size_at n) here ∙ free_size n p free)
+
+    pub no_more : (p : Position) (many : ℕ) → IsRun axis g n p many → ⊥
+    no_more p many run =
+        let j : Joins axis g n p = subst (Joins axis g n) (further_none axis p) (run.joins 0 (omega (arith, run.some))) in
+        in_a_run p (was_joined p j) (none_free p j.free)
+
+    pub merged_once : (k : SpanMap) → MergesRuns axis g n k → k ≡ n
+    merged_once k again = same_map positions_total positions_exact k n (λ p. by p (again.each p))
+      where
+        by : (p : Position) → ((b : ℕ) × IsRun axis g n p b × (get k p ≡ Some (size_of_run axis b))) ⊎ (((b : ℕ) → IsRun axis g n p b → ⊥) × (get k p ≡ get n p)) → get k p ≡ get n p
+        by p (inl it) = absurd (no_more p it.0 it.1)
+        by p (inr it) = it.1
+
+abbrev nothing : SpanMap
+nothing = map.empty
+
+-- without rectangles each cell is free
+free_in_none : (p : Position) → is_free map.empty p ≡ true
+free_in_none p = free_by map.empty p (by (cases_Bool (is_hidden map.empty p))) (ap (λ o. unwrap_or o (1, 1)) (get-empty position_cmp p))
+  where
+    by : (is_hidden map.empty p ≡ true) ⊎ (is_hidden map.empty p ≡ false) → is_visible map.empty p ≡ true
+    by (inl t) = let it = hidden_by map.empty p t in absurd (none-some it.size (sym (get-empty position_cmp it.anchor) ∙ it.has))
+    by (inr f) = not_from_false _ f
+
+pub joins_in_none : (axis : Axis) (g : Grid (List ℕ)) (p : Position) → IsInside g p → IsInside g (further axis 1 p) → cell_at g p ≡ cell_at g (further axis 1 p) → Joins axis g map.empty p
+joins_in_none axis g p inside next same = record { inside = inside; next_inside = next; free = free_in_none p; next_free = free_in_none (further axis 1 p); same = same }
+
+pub run_is_merged : (axis : Axis) (g : Grid (List ℕ)) (n : SpanMap) (p : Position) (many : ℕ) → MergesRuns axis g map.empty n → IsRun axis g map.empty p many → get n p ≡ Some (size_of_run axis many)
+run_is_merged axis g n p many merged run = by (merged.each p)
+  where
+    by : ((k : ℕ) × IsRun axis g map.empty p k × (get n p ≡ Some (size_of_run axis k))) ⊎ (((k : ℕ) → IsRun axis g map.empty p k → ⊥) × (get n p ≡ get nothing p)) → get n p ≡ Some (size_of_run axis many)
+    by (inl (k, other, is)) = is ∙ ap (λ b. Some (size_of_run axis b)) (same_run axis g map.empty p k many other run)
+    by (inr it) = absurd (it.0 many run)
+
+pub merged_is_run : (axis : Axis) (g : Grid (List ℕ)) (n : SpanMap) (p : Position) (size : ℕ × ℕ) → MergesRuns axis g map.empty n → get n p ≡ Some size → (many : ℕ) × IsRun axis g map.empty p many × (size ≡ size_of_run axis many)
+merged_is_run axis g n p size merged has = by (merged.each p)
+  where
+    by : ((k : ℕ) × IsRun axis g map.empty p k × (get n p ≡ Some (size_of_run axis k))) ⊎ (((k : ℕ) → IsRun axis g map.empty p k → ⊥) × (get n p ≡ get nothing p)) → (many : ℕ) × IsRun axis g map.empty p many × (size ≡ size_of_run axis many)
+    by (inl (k, run, is)) = (k, run, same_Some size (size_of_run axis k) (sym has ∙ is))
+    by (inr it) = absurd (none-some size (sym (get-empty position_cmp p) ∙ sym it.1 ∙ has))

@@ -1,0 +1,56 @@
+-- Runs of equal neighbours: where they begin and end.
+use Rattle.std.proofs.Common.{◌≡◌, ℕ, ◌+◌, ◌-◌, ◌<◌, ◌≤◌, ◌⊎◌, inl, inr, List, refl, sym, ap, ap₂, subst, ◌∙◌, arith}
+use Rattle.std.proofs.lemmas.Bool.{cases_lt}
+use Rattle.tabled_grid.specs.Entity.{place}
+use Rattle.tabled_grid.specs.Grid.{Grid}
+use Rattle.tabled_grid.specs.Spans.{SpanMap}
+use Rattle.tabled_grid.specs.declared.config.position.Position.{Position}
+use Rattle.tabled_grid.specs.declared.records.axis.Axis.{Axis}
+use Rattle.tabled_grid.specs.declared.records.axis.Axis.TheVariants.{Rows, Columns}
+use Rattle.tabled_spans.specs.RunSteps.{RunAt}
+use Rattle.tabled_spans.specs.Runs.{IsRun, Joins, further}
+
+pub further_none : (axis : Axis) (p : Position) → further axis 0 p ≡ p
+further_none Rows p = ap₂ place (omega arith) refl
+further_none Columns p = ap₂ place refl (omega arith)
+
+pub further_more : (axis : Axis) (k n : ℕ) (p : Position) → k + 1 ≡ n → further axis 1 (further axis k p) ≡ further axis n p
+further_more Rows k n p e = ap₂ place (omega (arith, e)) refl
+further_more Columns k n p e = ap₂ place refl (omega (arith, e))
+
+pub same_last : (axis : Axis) (p q : Position) → further axis 1 p ≡ further axis 1 q → p ≡ q
+same_last Rows p q e = ap₂ place (omega (arith, ap (λ (x : Position). x.row) e)) (ap (λ (x : Position). x.col) e)
+same_last Columns p q e = ap₂ place (ap (λ (x : Position). x.row) e) (omega (arith, ap (λ (x : Position). x.col) e))
+
+module _ (axis : Axis) (g : Grid (List ℕ)) (m : SpanMap) (p : Position) where
+  -- where a cell before joins the place, no run begins there
+  pub continues : (last : Position) → further axis 1 last ≡ p → Joins axis g m last → RunAt axis g m p 0
+  continues last is joins = record { is = λ h. absurd (omega (arith, h)); none = λ h n run. run.begins last is joins }
+
+  -- none joins the place where the one before it doesn't
+  pub begins_by : (last : Position) → further axis 1 last ≡ p → (Joins axis g m last → ⊥) → (q : Position) → further axis 1 q ≡ p → Joins axis g m q → ⊥
+  begins_by last is never q e joins = never (subst (Joins axis g m) (same_last axis q last (e ∙ sym is)) joins)
+
+  -- what was found by going on as far as cells join
+  pub run_at : (many : ℕ) (last : Position) → 1 ≤ many → last ≡ further axis (many - 1) p → ((k : ℕ) → k + 1 < many → Joins axis g m (further axis k p)) → (Joins axis g m last → ⊥) → ((q : Position) → further axis 1 q ≡ p → Joins axis g m q → ⊥) → RunAt axis g m p many
+  run_at many last some is joins ends begins = record {
+    is = λ two. record { some = two; joins = joins; ends = λ j. ends (subst (Joins axis g m) (sym is) j); begins = begins };
+    none = λ one n run. ends (subst (Joins axis g m) (ap (λ k. further axis k p) (omega arith) ∙ sym is) (run.joins 0 (omega (arith, run.some))));
+  }
+
+  -- one cell more
+  pub joins_more : (many : ℕ) (last : Position) → last ≡ further axis (many - 1) p → ((k : ℕ) → k + 1 < many → Joins axis g m (further axis k p)) → Joins axis g m last → (k : ℕ) → k + 1 < many + 1 → Joins axis g m (further axis k p)
+  joins_more many last is joins more k h = either (cases_lt (k + 1) many)
+    where
+      either : (k + 1 < many) ⊎ (many ≤ k + 1) → Joins axis g m (further axis k p)
+      either (inl l) = joins k l
+      either (inr l) = subst (Joins axis g m) (is ∙ ap (λ n. further axis n p) (omega arith)) more
+
+-- a run is as long as any other that begins at the same place
+pub same_run : (axis : Axis) (g : Grid (List ℕ)) (m : SpanMap) (p : Position) (a b : ℕ) → IsRun axis g m p a → IsRun axis g m p b → a ≡ b
+same_run axis g m p a b first second = either (cases_lt a b) (cases_lt b a)
+  where
+    either : (a < b) ⊎ (b ≤ a) → (b < a) ⊎ (a ≤ b) → a ≡ b
+    either (inl l) c = absurd (first.ends (second.joins (a - 1) (omega (arith, first.some))))
+    either (inr l) (inl k) = absurd (second.ends (first.joins (b - 1) (omega (arith, second.some))))
+    either (inr l) (inr k) = omega arith

@@ -1,0 +1,43 @@
+-- Runs of equal neighbours in rows or in columns, and the map in which each is one rectangle.
+use Rattle.std.specs.Prelude.{◌≡◌, ◌+◌, ◌-◌, ◌<◌, ◌≤◌, ◌⊎◌, ◌&&◌, ◌==◌, ℕ, Bool, List, Some, true}
+use Rattle.std.specs.FinMap as map
+use Rattle.tabled_grid.specs.Entity.{place}
+use Rattle.tabled_grid.specs.Grid.{Grid, IsInside, cell_at}
+use Rattle.tabled_grid.specs.Rectangles.{is_visible}
+use Rattle.tabled_grid.specs.Spans.{SpanMap, size_at}
+use Rattle.tabled_grid.specs.declared.config.position.Position.{Position}
+use Rattle.tabled_grid.specs.declared.records.axis.Axis.{Axis}
+use Rattle.tabled_grid.specs.declared.records.axis.Axis.TheVariants.{Rows, Columns}
+
+-- the place so many rows (or columns) further
+abbrev pub further : Axis → ℕ → Position → Position
+further Rows k p = place (p.row + k) p.col
+further Columns k p = place p.row (p.col + k)
+
+-- the size of so many rows (or columns) of one cell
+abbrev pub size_of_run : Axis → ℕ → ℕ × ℕ
+size_of_run Rows many = (many, 1)
+size_of_run Columns many = (1, many)
+
+-- the cell is visible and no anchor
+abbrev pub is_free : SpanMap → Position → Bool
+is_free m p = is_visible m p && (((size_at m p).0 == 1) && ((size_at m p).1 == 1))
+
+-- a cell and the next one along an axis are visible and no anchors, and have equal texts
+pub record Joins (axis : Axis) (g : Grid (List ℕ)) (m : SpanMap) (p : Position) : Type 0 where
+  pub inside : IsInside g p
+  pub next_inside : IsInside g (further axis 1 p)
+  pub free : is_free m p ≡ true
+  pub next_free : is_free m (further axis 1 p) ≡ true
+  pub same : cell_at g p ≡ cell_at g (further axis 1 p)
+
+-- two cells or more from a place on, each of which joins the next one; the last joins none, and none joins the first
+pub record IsRun (axis : Axis) (g : Grid (List ℕ)) (m : SpanMap) (p : Position) (many : ℕ) : Type 0 where
+  pub some : 2 ≤ many
+  pub joins : (k : ℕ) → k + 1 < many → Joins axis g m (further axis k p)
+  pub ends : Joins axis g m (further axis (many - 1) p) → ⊥
+  pub begins : (q : Position) → further axis 1 q ≡ p → Joins axis g m q → ⊥
+
+-- the map with a rectangle for each run, anchored at its first cell, and with all others as they were
+pub record MergesRuns (axis : Axis) (g : Grid (List ℕ)) (m n : SpanMap) : Type 0 where
+  pub each : (p : Position) → ((many : ℕ) × IsRun axis g m p many × (map.get n p ≡ Some (size_of_run axis many))) ⊎ (((many : ℕ) → IsRun axis g m p many → ⊥) × (map.get n p ≡ map.get m p))

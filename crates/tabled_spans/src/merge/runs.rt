@@ -1,0 +1,148 @@
+//! Runs of equal neighbours along an axis.
+
+ghost use Rattle.std.specs.Prelude.{◌≡◌, ◌↔◌, ◌+◌, ◌^◌, ◌<◌, IfOk, IsNone, IsTrue};
+ghost use Rattle.std.specs.Option.{IfSome};
+ghost use Rattle.tabled_grid.specs.Covers.{cover_of};
+ghost use Rattle.tabled_grid.specs.Grid.{IsInside, map_grid};
+ghost use Rattle.tabled_grid.specs.declared.config.position.Position.{Position};
+ghost use Rattle.tabled_spans.specs.RunSteps.{RunAt, RunsBefore};
+ghost use Rattle.tabled_spans.specs.Runs.{Joins, further, is_free, size_of_run};
+
+use std::alloc::{AllocError, Global};
+use tabled_grid::config::{CoverMap, Position, SpannedConfig};
+use tabled_grid::records::{Axis, CellText, ExactRecords, PeekableRecords, Records};
+
+/// The first cell of each run and the size of the run, row by row.
+pub(super) fn runs<R>(
+    alloc: Global,
+    records: &R,
+    cfg: &SpannedConfig,
+    cover: &CoverMap,
+    axis: Axis,
+) -> Result<Vec<(Position, (usize, usize))>, AllocError>
+where
+    R: Records + ExactRecords + PeekableRecords,
+    R::Cell: CellText,
+    requires well { R.is_well_formed records.now }
+    requires cover { cover.now ≡ cover_of cfg.now ((R.grid records.now).rows) ((R.grid records.now).columns) }
+    ensures { IfOk result (λ sizes. RunsBefore axis (map_grid R.Cell.text_of (R.grid records.now)) cfg.now ((R.grid records.now).rows) 0 sizes.items) }
+{
+    let mut sizes = Vec::new(alloc);
+    for i in 0..records.count_rows() {
+        for j in 0..records.count_columns() {
+            let pos = Position { row: i, col: j };
+            let many = run_from(records, cfg, cover, axis, pos);
+            if many > 1 {
+                sizes.push((pos, size_of_run(axis, many)))?;
+            }
+        }
+    }
+    Ok(sizes)
+}
+
+/// How many cells the run has that begins at a cell; 0 or 1 where none begins.
+fn run_from<R>(
+    records: &R,
+    cfg: &SpannedConfig,
+    cover: &CoverMap,
+    axis: Axis,
+    pos: Position,
+) -> usize
+where
+    R: Records + ExactRecords + PeekableRecords,
+    R::Cell: CellText,
+    requires well { R.is_well_formed records.now }
+    requires cover { cover.now ≡ cover_of cfg.now ((R.grid records.now).rows) ((R.grid records.now).columns) }
+    requires inside { IsInside (R.grid records.now) pos }
+    ensures { RunAt axis (map_grid R.Cell.text_of (R.grid records.now)) cfg.now pos result }
+{
+    // Counts tell that the index after a cell's is one.
+    let _ = (records.count_rows(), records.count_columns());
+    if let Some(last) = before(axis, pos) {
+        if joins(records, cfg, cover, axis, last) {
+            return 0;
+        }
+    }
+    let mut many = 1;
+    let mut last = pos;
+    while joins(records, cfg, cover, axis, last) {
+        last = next(axis, last);
+        many += 1;
+    }
+    many
+}
+
+/// Says whether a cell and the next one along an axis are visible and no anchors, and have equal texts.
+fn joins<R>(records: &R, cfg: &SpannedConfig, cover: &CoverMap, axis: Axis, pos: Position) -> bool
+where
+    R: Records + ExactRecords + PeekableRecords,
+    R::Cell: CellText,
+    requires well { R.is_well_formed records.now }
+    requires cover { cover.now ≡ cover_of cfg.now ((R.grid records.now).rows) ((R.grid records.now).columns) }
+    requires inside { IsInside (R.grid records.now) pos }
+    ensures { IsTrue result ↔ Joins axis (map_grid R.Cell.text_of (R.grid records.now)) cfg.now pos }
+{
+    let rows = records.count_rows();
+    let columns = records.count_columns();
+    let other = next(axis, pos);
+    other.row < rows
+        && other.col < columns
+        && records.get_text(pos) == records.get_text(other)
+        && is_free(cfg, cover, pos)
+        && is_free(cfg, cover, other)
+}
+
+/// Says whether a cell is visible and no anchor.
+fn is_free(cfg: &SpannedConfig, cover: &CoverMap, pos: Position) -> bool
+    requires row { pos.row < cover.now.rows }
+    requires col { pos.col < cover.now.columns }
+    requires cover { cover.now ≡ cover_of cfg.now cover.now.rows cover.now.columns }
+    ensures { result ≡ is_free cfg.now pos }
+{
+    !cover.is_hidden(pos) && cfg.get_row_span(pos).is_none() && cfg.get_column_span(pos).is_none()
+}
+
+/// The next place along an axis.
+fn next(axis: Axis, pos: Position) -> Position
+    requires row { pos.row + 1 < 2 ^ 64 }
+    requires col { pos.col + 1 < 2 ^ 64 }
+    ensures { result ≡ further axis 1 pos }
+{
+    match axis {
+        Axis::Rows => Position {
+            row: pos.row + 1,
+            col: pos.col,
+        },
+        Axis::Columns => Position {
+            row: pos.row,
+            col: pos.col + 1,
+        },
+    }
+}
+
+/// The place before another along an axis, if it isn't the first.
+fn before(axis: Axis, pos: Position) -> Option<Position>
+    ensures some { IfSome result (λ last. further axis 1 last ≡ pos) }
+    ensures none { IsNone result → (last : Position) → further axis 1 last ≡ pos → ⊥ }
+{
+    match axis {
+        Axis::Rows => Some(Position {
+            row: pos.row.checked_sub(1)?,
+            col: pos.col,
+        }),
+        Axis::Columns => Some(Position {
+            row: pos.row,
+            col: pos.col.checked_sub(1)?,
+        }),
+    }
+}
+
+/// The size of a run of so many cells.
+fn size_of_run(axis: Axis, many: usize) -> (usize, usize)
+    ensures { result ≡ size_of_run axis many }
+{
+    match axis {
+        Axis::Rows => (many, 1),
+        Axis::Columns => (1, many),
+    }
+}
