@@ -11,11 +11,14 @@ use Rattle.tabled_select.specs.Locators.{columns_with}
 use Rattle.tabled_settings.specs.Charsets.{DoesFirstWrites, DoesWrites, charset_writes}
 use Rattle.tabled_settings.specs.Dups.{Duplicates, DuplicatesFirst}
 use Rattle.tabled_settings.specs.Joined.{JoinsAt, corner_of}
+use Rattle.tabled_settings.specs.PiecePlaces.{Splits}
+use Rattle.tabled_settings.specs.Pieces.{has_pieces}
 use Rattle.tabled_settings.specs.Places.{Places, ReadsThrough}
 use Rattle.tabled_settings.specs.Rearranged.{extracted, removed, reversed, rotated}
 use Rattle.tabled_settings.specs.declared.rotate.Rotate.TheVariants.{Bottom, Top}
 use Rattle.tabled_grid.specs.Bounds.{indexes}
 use Rattle.tabled_spans.specs.Panels.{Panels, has_room}
+use Rattle.tabled_spans.specs.Runs.{MergesRuns}
 use Rattle.tabled_spans.specs.Spanned.{Spans, SpansFirst}
 use Rattle.tabled_steps.specs.Selected.{half_open, selected}
 use Rattle.tabled_steps.specs.declared.select.Select.{Select}
@@ -30,6 +33,10 @@ Names text_of select g entities = entities ≡ selected (map_grid text_of g) sel
 abbrev pub Rearranges : {A : Type 0} → (ℕ → ℕ → Places) → Change A SpanMap
 Rearranges places g c h d = ReadsThrough (places g.rows g.columns) g h × (d ≡ c)
 
+-- runs of equal neighbours are merged, and cells stay
+abbrev pub Merges : {A : Type 0} → (A → List ℕ) → Axis → Change A SpanMap
+Merges text_of axis g c h d = (h ≡ g) × MergesRuns axis (map_grid text_of g) c d
+
 -- what a step does
 abbrev pub Does : {A : Type 0} → (A → List ℕ) → Step → Change A SpanMap
 Does text_of (step.Set select text) = EachListed (Names text_of select) (Writes text_of (string_bytes text))
@@ -41,8 +48,11 @@ Does text_of (step.HorizontalPanel panel) = Panels text_of Rows panel.0 panel.1
 Does text_of (step.VerticalPanel panel) = Panels text_of Columns panel.0 panel.1
 Does text_of (step.Header text) = Panels text_of Rows 0 text
 Does text_of (step.Footer text) = λ g. Panels text_of Rows g.rows text g
+Does text_of step.MergeVertical = Merges text_of Rows
+Does text_of step.MergeHorizontal = Merges text_of Columns
 Does text_of (step.Rotate rotate) = Rearranges (rotated rotate)
 Does text_of (step.Reverse reverse) = Rearranges (reversed reverse.axis reverse.start reverse.limit)
+Does text_of (step.Split split) = λ g c h d. Splits text_of split g h × (d ≡ c)
 Does text_of (step.Concat concat) = λ g c h d. JoinsAt text_of (corner_of concat.0 g.rows g.columns) concat.1 concat.2 g h × (d ≡ c)
 Does text_of (step.Extract a b c d) = Rearranges (extracted (half_open a b) (half_open c d))
 Does text_of (step.RemoveRows a b) = λ g. Rearranges (removed Rows (indexes (half_open a b) g.rows)) g
@@ -73,6 +83,7 @@ TakesNoMemory text_of (step.Footer _) g c = has_room Rows g.rows g c ≡ false
 TakesNoMemory text_of (step.Rotate rotate) g c = (rotate ≡ Top) ⊎ (rotate ≡ Bottom)
 TakesNoMemory text_of (step.Reverse _) g c = Unit {0}
 TakesNoMemory text_of (step.Extract _ _ _ _) g c = Unit {0}
+TakesNoMemory text_of (step.Split split) g c = has_pieces split g.rows g.columns ≡ false
 TakesNoMemory text_of (step.Both' _ first _ second) g c = TakesNoMemory text_of first g c × AfterNeverRefused (Does text_of first) (TakesNoMemory text_of second) g c
 TakesNoMemory text_of _ g c = ⊥
 

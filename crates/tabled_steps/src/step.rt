@@ -20,6 +20,8 @@ use tabled_settings::extract::Extract;
 use tabled_settings::formatting::Charset;
 use tabled_settings::reverse::Reverse;
 use tabled_settings::rotate::Rotate;
+use tabled_settings::split::Split;
+use tabled_spans::merge::Merge;
 use tabled_spans::panel::{Footer, Header, HorizontalPanel, VerticalPanel};
 use tabled_spans::span::Span;
 
@@ -45,8 +47,13 @@ pub enum Step {
     VerticalPanel(VerticalPanel),
     Header(Header),
     Footer(Footer),
+    /// Merges equal neighbours in columns.
+    MergeVertical,
+    /// Merges equal neighbours in rows.
+    MergeHorizontal,
     Rotate(Rotate),
     Reverse(Reverse),
+    Split(Split),
     Concat(Concat),
     /// Keeps a range of rows and a range of columns, each by its start and its end.
     Extract(usize, usize, usize, usize),
@@ -97,8 +104,11 @@ impl Step {
             Step::VerticalPanel(panel) => panel.change(alloc, records, cfg, dimension),
             Step::Header(header) => header.change(alloc, records, cfg, dimension),
             Step::Footer(footer) => footer.change(alloc, records, cfg, dimension),
+            Step::MergeVertical => Merge::vertical().change(alloc, records, cfg, dimension),
+            Step::MergeHorizontal => Merge::horizontal().change(alloc, records, cfg, dimension),
             Step::Rotate(rotate) => rotate.change(alloc, records, cfg, dimension),
             Step::Reverse(reverse) => reverse.change(alloc, records, cfg, dimension),
+            Step::Split(split) => split.change(alloc, records, cfg, dimension),
             Step::Concat(concat) => concat.change(alloc, records, cfg, dimension),
             Step::Extract(a, b, c, d) => {
                 Extract::segment(a..b, c..d).change(alloc, records, cfg, dimension)
