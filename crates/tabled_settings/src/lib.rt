@@ -14,3 +14,5 @@ pub mod reverse;
 mod rewrite;
 pub mod rotate;
 pub mod split;
+
+pub use tabled_spans::{merge, panel, span};

@@ -11,4 +11,5 @@ pub mod select;
 pub mod settings;
 #[cfg(test)]
 mod spans;
+pub mod steps;
 pub mod stores;

@@ -1,0 +1,88 @@
+//! Calls of steps: options that are data, run on any store.
+
+use std::alloc::{AllocError, Global};
+use tabled_grid::config::SpannedConfig;
+use tabled_grid::records::{
+    CellText, ExactRecords, PeekableRecords, Records, RecordsMut, Resizable,
+};
+use tabled_settings::rotate::Rotate;
+use tabled_settings::span::Span;
+use tabled_settings::split::Split;
+use tabled_steps::{Select, Step, run};
+use tabled_table::{Table, TextRef};
+
+/// Merges cells of a table, and puts panels in.
+pub fn merges(alloc: Global, table: &mut Table) -> Result<(), AllocError> {
+    use tabled_select::object::{Cell, Columns, Rows};
+    use tabled_settings::merge::Merge;
+    use tabled_settings::panel::Panel;
+
+    table.modify(alloc, Cell::new(0, 0), Span::column(2))?;
+    table.modify(alloc, Rows::last(), Span::column(-1))?;
+    table.modify(alloc, Columns::first(), (Span::row(0), TextRef("all")))?;
+    table.with(alloc, Panel::header(String::from_str(alloc, "Report")?))?;
+    table.with(alloc, Panel::footer(String::from_str(alloc, "end")?))?;
+    table.with(alloc, Panel::horizontal(1, String::from_str(alloc, "part")?))?;
+    let side = Panel::vertical(0, String::from_str(alloc, "side")?);
+    table.with(alloc, side.width(alloc, 2)?)?;
+    table.with(alloc, Merge::vertical())?;
+    table.with(alloc, Merge::horizontal())
+}
+
+/// Runs three steps on any store, and says how many of them were done.
+pub fn runs<R>(alloc: Global, records: &mut R, cfg: &mut SpannedConfig) -> Result<usize, AllocError>
+where
+    R: Records + ExactRecords + PeekableRecords + RecordsMut<String> + Resizable,
+    R::Cell: CellText,
+    requires { R.is_well_formed records.old }
+    ensures { R.is_well_formed records.new }
+{
+    let text = String::from_str(alloc, "x")?;
+    let first = Step::Set(Select::Skip(1, Box::new(alloc, Select::Rows(0, 9))?), text);
+    let both = Step::Both(
+        Box::new(alloc, Step::Rotate(Rotate::Left))?,
+        Box::new(alloc, Step::Split(Split::column(2)))?,
+    );
+    let steps = vec![in alloc; first, both, Step::MergeVertical]?;
+    let many = steps.len();
+    match run(alloc, records, cfg, steps) {
+        Ok(()) => Ok(many),
+        Err((done, _)) => Ok(done),
+    }
+}
+
+#[cfg(test)]
+mod tests {
+    use super::runs;
+    use std::alloc::{AllocError, Global};
+    use std::test::Fail;
+    use tabled_grid::config::{Position, SpannedConfig};
+    use tabled_grid::records::{PeekableRecords, Text, VecRecords};
+
+    fn rows(alloc: Global) -> Result<Vec<Vec<Text<String>>>, AllocError> {
+        let mut rows = Vec::new(alloc);
+        for words in [["a", "b", "c"], ["d", "e", "f"]] {
+            let mut row = Vec::new(alloc);
+            for word in words {
+                row.push(Text::new(String::from_str(alloc, word)?))?;
+            }
+            rows.push(row)?;
+        }
+        Ok(rows)
+    }
+
+    #[test]
+    fn steps_run_on_both_stores(rt: HostRuntime) -> Result<(), Fail> {
+        let alloc = rt.alloc();
+        let mut flat = VecRecords::new(alloc, rows(alloc)?)?;
+        let mut flat_cfg = SpannedConfig::new(alloc);
+        assert_eq!(&rt; runs(alloc, &mut flat, &mut flat_cfg)?, 3);
+        let mut nested = VecRecords::new(alloc, rows(alloc)?)?.into_rows(alloc)?;
+        let mut nested_cfg = SpannedConfig::new(alloc);
+        assert_eq!(&rt; runs(alloc, &mut nested, &mut nested_cfg)?, 3);
+        for row in 0..2 {
+            assert_eq!(&rt; flat_cfg.get_row_span(Position::new(row, 1)), nested_cfg.get_row_span(Position::new(row, 1)));
+        }
+        Ok(())
+    }
+}
