@@ -1,2 +1,13 @@
 //! Tests of the options that merge cells, by public calls alone.
 #![tactic(auto)]
+
+#[cfg(test)]
+mod made;
+#[cfg(test)]
+mod merges;
+#[cfg(test)]
+mod panels;
+#[cfg(test)]
+mod refusing_growth;
+#[cfg(test)]
+mod widths;
