@@ -2,8 +2,18 @@
 #![tactic(auto)]
 
 #[cfg(test)]
+mod made;
+#[cfg(test)]
+mod merges;
+#[cfg(test)]
+mod panels;
+#[cfg(test)]
 mod refusing;
+#[cfg(test)]
+mod refusing_growth;
 #[cfg(test)]
 mod spans;
 #[cfg(test)]
 mod tables;
+#[cfg(test)]
+mod widths;

@@ -4,6 +4,7 @@ use Rattle.std.specs.String.{string_bytes}
 use Rattle.tabled_grid.specs.Grid.{Grid, map_grid}
 use Rattle.tabled_grid.specs.Spans.{SpanMap}
 use Rattle.tabled_grid.specs.declared.config.entity.Entity.{Entity}
+use Rattle.tabled_grid.specs.declared.records.axis.Axis.{Axis}
 use Rattle.tabled_grid.specs.declared.records.axis.Axis.TheVariants.{Rows, Columns}
 use Rattle.tabled_options.specs.Does.{AfterNeverRefused, Change, EachListed, EachListedUntil, Same, SameOr, Then, ThenLeaves}
 use Rattle.tabled_options.specs.Writes.{Writes, WritesBefore}

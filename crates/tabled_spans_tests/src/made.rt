@@ -1,0 +1,244 @@
+//! Tables of words, and what panels and merges make of them.
+//!
+//! A table is spelled by its words with a slash after each row, as in `a b / c _ /`, where `_` stands for
+//! an empty text. Behind it stands each anchor wider than a column, as `0.1w3` for 3 columns from row 0 and
+//! column 1, and then each higher than a row, as `0.1h2`, and `meeting` where merged cells don't lie inside
+//! the table and apart.
+
+ghost use Rattle.std.specs.Prelude.{IfOk};
+
+use crate::refusing_growth::Refusing;
+use std::alloc::{AllocError, Global};
+use tabled_grid::config::{Entity, Position, SpannedConfig};
+use tabled_grid::records::{
+    CellText, ExactRecords, PeekableRecords, Records, RecordsMut, Resizable, Text, VecRecords,
+};
+use tabled_options::{CellOption, TableOption};
+use tabled_spans::merge::Merge;
+use tabled_spans::panel::Panel;
+
+/// An anchor with its row, column, height and width, a panel or a merge, or nothing.
+#[derive(Clone, Copy)]
+pub(crate) enum Step {
+    Nothing,
+    Anchor(usize, usize, usize, usize),
+    Header(&'static str),
+    Footer(&'static str),
+    Row(usize, &'static str),
+    Column(usize, &'static str),
+    MergeRows,
+    MergeColumns,
+}
+
+/// The shape of a table that is spelled.
+fn shape_of(table: &str) -> (usize, usize) {
+    let mut rows: usize = 0;
+    let mut words: usize = 0;
+    for word in table.split_whitespace() {
+        if word == "/" {
+            rows = rows.saturating_add(1);
+        } else {
+            words = words.saturating_add(1);
+        }
+    }
+    (rows, words.checked_div(rows).unwrap_or(0))
+}
+
+/// Grows an empty store to a table that is spelled.
+fn filled<R>(alloc: Global, mut records: R, table: &str) -> Result<R, AllocError>
+where
+    R: Records + ExactRecords + RecordsMut<String> + Resizable + Drop,
+    R::Cell: CellText,
+    requires { R.is_well_formed records }
+    ensures { IfOk result (λ records. R.is_well_formed records) }
+{
+    let (rows, columns) = shape_of(table);
+    records.push_rows(alloc, rows)?;
+    records.push_columns(alloc, columns)?;
+    let mut words = table.split_whitespace();
+    for pos in Entity::Global.iter(rows, columns) {
+        let word = match words.next() {
+            Some("/") => words.next(),
+            word => word,
+        };
+        let text = String::from_str(alloc, word.unwrap_or(""))?;
+        text.change(alloc, &mut records, &mut (), Entity::Cell(pos.row, pos.col))?;
+    }
+    Ok(records)
+}
+
+/// Writes a word behind others.
+fn push_word(words: &mut String, word: &str) -> Result<(), AllocError> {
+    if !words.is_empty() {
+        words.push(' ')?;
+    }
+    words.push_str(word)
+}
+
+/// Spells a table and all merged cells.
+fn spelled<R>(alloc: Global, records: &R, cfg: &SpannedConfig) -> Result<String, AllocError>
+where
+    R: Records + ExactRecords + PeekableRecords,
+    R::Cell: CellText,
+    requires { R.is_well_formed records.now }
+{
+    let rows = records.count_rows();
+    let columns = records.count_columns();
+    let mut words = String::new(alloc);
+    for row in 0..rows {
+        for col in 0..columns {
+            let text = records.get_text(Position { row, col });
+            push_word(&mut words, if text.is_empty() { "_" } else { text })?;
+        }
+        push_word(&mut words, "/")?;
+    }
+    push_spans(alloc, &mut words, cfg)?;
+    if !cfg.fits(rows, columns) {
+        push_word(&mut words, "meeting")?;
+    }
+    Ok(words)
+}
+
+/// Writes the merged cells behind the words of a table.
+fn push_spans(alloc: Global, words: &mut String, cfg: &SpannedConfig) -> Result<(), AllocError> {
+    let widths = cfg.get_column_spans(alloc)?;
+    for (pos, width) in widths.iter() {
+        let (row, col) = (pos.row, pos.col);
+        let span = format!(in alloc; "{row}.{col}w{width}")?;
+        push_word(words, span.as_str())?;
+    }
+    let heights = cfg.get_row_spans(alloc)?;
+    for (pos, height) in heights.iter() {
+        let (row, col) = (pos.row, pos.col);
+        let span = format!(in alloc; "{row}.{col}h{height}")?;
+        push_word(words, span.as_str())?;
+    }
+    Ok(())
+}
+
+/// Makes a step.
+fn change<R>(
+    alloc: Global,
+    records: &mut R,
+    cfg: &mut SpannedConfig,
+    step: Step,
+) -> Result<(), AllocError>
+where
+    R: Records + ExactRecords + PeekableRecords + RecordsMut<String> + Resizable,
+    R::Cell: CellText,
+    requires { R.is_well_formed records.old }
+    ensures { R.is_well_formed records.new }
+{
+    match step {
+        Step::Nothing => Ok(()),
+        Step::Anchor(row, col, height, width) => {
+            cfg.set_row_span(alloc, Position { row, col }, height)?;
+            cfg.set_column_span(alloc, Position { row, col }, width)
+        }
+        Step::Header(text) => {
+            let text = String::from_str(alloc, text)?;
+            Panel::header(text).change(alloc, records, cfg, &mut ())
+        }
+        Step::Footer(text) => {
+            let text = String::from_str(alloc, text)?;
+            Panel::footer(text).change(alloc, records, cfg, &mut ())
+        }
+        Step::Row(row, text) => {
+            let text = String::from_str(alloc, text)?;
+            Panel::horizontal(row, text).change(alloc, records, cfg, &mut ())
+        }
+        Step::Column(col, text) => {
+            let text = String::from_str(alloc, text)?;
+            Panel::vertical(col, text).change(alloc, records, cfg, &mut ())
+        }
+        Step::MergeRows => Merge::vertical().change(alloc, records, cfg, &mut ()),
+        Step::MergeColumns => Merge::horizontal().change(alloc, records, cfg, &mut ()),
+    }
+}
+
+/// Makes three steps.
+fn change_all<R>(
+    alloc: Global,
+    records: &mut R,
+    cfg: &mut SpannedConfig,
+    steps: [Step; 3],
+) -> Result<(), AllocError>
+where
+    R: Records + ExactRecords + PeekableRecords + RecordsMut<String> + Resizable,
+    R::Cell: CellText,
+    requires { R.is_well_formed records.old }
+    ensures { R.is_well_formed records.new }
+{
+    let [first, second, third] = steps;
+    change(alloc, records, cfg, first)?;
+    change(alloc, records, cfg, second)?;
+    change(alloc, records, cfg, third)
+}
+
+/// What steps make of a table, with `!` behind it where one was refused.
+fn made<R>(alloc: Global, mut records: R, steps: [Step; 3]) -> Result<String, AllocError>
+where
+    R: Records + ExactRecords + PeekableRecords + RecordsMut<String> + Resizable + Drop,
+    R::Cell: CellText,
+    requires { R.is_well_formed records }
+{
+    let mut cfg = SpannedConfig::new(alloc);
+    let done = change_all(alloc, &mut records, &mut cfg, steps);
+    let mut words = spelled(alloc, &records, &cfg)?;
+    if done.is_err() {
+        words.push('!')?;
+    }
+    Ok(words)
+}
+
+/// Whether these are the words.
+fn is_word(made: Result<String, AllocError>, want: &str) -> bool {
+    match made {
+        Ok(words) => words.as_str() == want,
+        Err(_) => false,
+    }
+}
+
+/// The store of one vector.
+fn flat(alloc: Global, table: &str) -> Result<VecRecords<Text<String>>, AllocError> {
+    filled(alloc, VecRecords::new(alloc, Vec::new(alloc))?, table)
+}
+
+fn made_flat(alloc: Global, old: &str, steps: [Step; 3]) -> Result<String, AllocError> {
+    made(alloc, flat(alloc, old)?, steps)
+}
+
+/// Whether steps make one table of another in one vector of cells.
+pub(crate) fn makes_flat(alloc: Global, old: &str, steps: [Step; 3], new: &str) -> bool {
+    is_word(made_flat(alloc, old, steps), new)
+}
+
+fn made_nested(alloc: Global, old: &str, steps: [Step; 3]) -> Result<String, AllocError> {
+    let empty: Vec<Vec<Text<String>>> = Vec::new(alloc);
+    made(alloc, filled(alloc, empty, old)?, steps)
+}
+
+/// The same in a vector for each row.
+pub(crate) fn makes_nested(alloc: Global, old: &str, steps: [Step; 3], new: &str) -> bool {
+    is_word(made_nested(alloc, old, steps), new)
+}
+
+fn made_refusing(
+    alloc: Global,
+    left: usize,
+    old: &str,
+    steps: [Step; 3],
+) -> Result<String, AllocError> {
+    made(alloc, Refusing::new(flat(alloc, old)?, left), steps)
+}
+
+/// The same in a store that refuses all but so many growths and writes. A refusal is told by `!`.
+pub(crate) fn makes_refusing(
+    alloc: Global,
+    left: usize,
+    old: &str,
+    steps: [Step; 3],
+    new: &str,
+) -> bool {
+    is_word(made_refusing(alloc, left, old, steps), new)
+}
