@@ -120,15 +120,24 @@ fn change_once(
         Change::Left => apply(alloc, Rotate::Left, store),
         Change::Right => apply(alloc, Rotate::Right, store),
         Change::Top => apply(alloc, Rotate::Top, store),
-        Change::Reverse => {
-            apply(alloc, Reverse::columns(0).limit(Offset::End(0)), store)
-        }
+        Change::Reverse => { apply(alloc, Reverse::columns(0).limit(Offset::End(0)), store) }
         Change::Extract => {
-            apply(alloc, Extract::segment(rows / 4..rows - rows / 4, columns / 4..columns - columns / 4), store)
+            apply(
+                alloc,
+                Extract::segment(
+                    rows / 4..rows - rows / 4,
+                    columns / 4..columns - columns / 4,
+                ),
+                store,
+            )
         }
         Change::RemoveRows => apply(alloc, Remove::row(Rows::new(rows / 4..rows / 2)), store),
         Change::RemoveColumns => {
-            apply(alloc, Remove::column(Columns::new(columns / 4..columns / 2)), store)
+            apply(
+                alloc,
+                Remove::column(Columns::new(columns / 4..columns / 2)),
+                store,
+            )
         }
         Change::Concat => {
             let second = Table::from_records(alloc, made(alloc, 1, 1)?);

@@ -17,7 +17,9 @@ use crate::merge::{MergeDuplicatesHorizontal, MergeDuplicatesVertical};
 use crate::panel::{Footer, Header, HorizontalPanel, VerticalPanel};
 use crate::span::{ColumnSpan, ColumnSpansFit, RowSpan, RowSpansFit};
 use tabled_grid::config::SpannedConfig;
-use tabled_grid::records::{Axis, CellText, ExactRecords, PeekableRecords, Records, RecordsMut, Resizable};
+use tabled_grid::records::{
+    Axis, CellText, ExactRecords, PeekableRecords, Records, RecordsMut, Resizable,
+};
 use tabled_options::{CellOption, MergedCellsFit, Property, TableOption};
 
 /// Spans of size 1 or more keep, on each entity, that merged cells lie inside the table and apart, also

@@ -22,7 +22,10 @@ pub fn merges(alloc: Global, table: &mut Table) -> Result<(), AllocError> {
     table.modify(alloc, Columns::first(), (Span::row(0), TextRef("all")))?;
     table.with(alloc, Panel::header(String::from_str(alloc, "Report")?))?;
     table.with(alloc, Panel::footer(String::from_str(alloc, "end")?))?;
-    table.with(alloc, Panel::horizontal(1, String::from_str(alloc, "part")?))?;
+    table.with(
+        alloc,
+        Panel::horizontal(1, String::from_str(alloc, "part")?),
+    )?;
     let side = Panel::vertical(0, String::from_str(alloc, "side")?);
     table.with(alloc, side.width(alloc, 2)?)?;
     table.with(alloc, Merge::vertical())?;
@@ -81,7 +84,10 @@ mod tests {
         let mut nested_cfg = SpannedConfig::new(alloc);
         assert_eq!(&rt; runs(alloc, &mut nested, &mut nested_cfg)?, 3);
         for row in 0..2 {
-            assert_eq!(&rt; flat_cfg.get_row_span(Position::new(row, 1)), nested_cfg.get_row_span(Position::new(row, 1)));
+            assert_eq!(&rt;
+                flat_cfg.get_row_span(Position::new(row, 1)),
+                nested_cfg.get_row_span(Position::new(row, 1))
+            );
         }
         Ok(())
     }
