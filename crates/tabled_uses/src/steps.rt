@@ -57,38 +57,25 @@ where
 #[cfg(test)]
 mod tests {
     use super::runs;
-    use std::alloc::{AllocError, Global};
     use std::test::Fail;
     use tabled_grid::config::{Position, SpannedConfig};
-    use tabled_grid::records::{PeekableRecords, Text, VecRecords};
-
-    fn rows(alloc: Global) -> Result<Vec<Vec<Text<String>>>, AllocError> {
-        let mut rows = Vec::new(alloc);
-        for words in [["a", "b", "c"], ["d", "e", "f"]] {
-            let mut row = Vec::new(alloc);
-            for word in words {
-                row.push(Text::new(String::from_str(alloc, word)?))?;
-            }
-            rows.push(row)?;
-        }
-        Ok(rows)
-    }
+    use tabled_grid::records::{Resizable, Text, VecRecords};
 
     #[test]
     fn steps_run_on_both_stores(rt: HostRuntime) -> Result<(), Fail> {
         let alloc = rt.alloc();
-        let mut flat = VecRecords::new(alloc, rows(alloc)?)?;
-        let mut flat_cfg = SpannedConfig::new(alloc);
-        assert_eq!(&rt; runs(alloc, &mut flat, &mut flat_cfg)?, 3);
-        let mut nested = VecRecords::new(alloc, rows(alloc)?)?.into_rows(alloc)?;
-        let mut nested_cfg = SpannedConfig::new(alloc);
-        assert_eq!(&rt; runs(alloc, &mut nested, &mut nested_cfg)?, 3);
-        for row in 0..2 {
-            assert_eq!(&rt;
-                flat_cfg.get_row_span(Position::new(row, 1)),
-                nested_cfg.get_row_span(Position::new(row, 1))
-            );
-        }
+        let mut flat: VecRecords<Text<String>> = VecRecords::new(alloc, Vec::new(alloc))?;
+        flat.push_rows(alloc, 2)?;
+        flat.push_columns(alloc, 3)?;
+        let mut cfg = SpannedConfig::new(alloc);
+        assert_eq!(&rt; runs(alloc, &mut flat, &mut cfg)?, 3);
+        assert_eq!(&rt; cfg.get_row_span(Position::new(0, 1)), Some(3));
+        let mut nested: Vec<Vec<Text<String>>> = Vec::new(alloc);
+        nested.push_rows(alloc, 2)?;
+        nested.push_columns(alloc, 3)?;
+        let mut cfg = SpannedConfig::new(alloc);
+        assert_eq!(&rt; runs(alloc, &mut nested, &mut cfg)?, 3);
+        assert_eq!(&rt; cfg.get_row_span(Position::new(0, 1)), Some(3));
         Ok(())
     }
 }
