@@ -1,2 +1,6 @@
+pub mod Fitting
+pub mod MergedRuns
+pub mod Reads
 pub mod Selected
+pub mod States
 pub mod Steps

@@ -1,8 +1,15 @@
 //! Lists of steps.
 
-ghost use Rattle.std.specs.Prelude.{◌<◌, IfErr, OnOk, length};
+ghost use Rattle.std.specs.Prelude.{◌≡◌, ◌<◌, ◌∷◌, ◌++◌, [], IfErr, List, OnOk, length};
+ghost use Rattle.std.specs.List.{AllByRecursion};
+ghost use Rattle.tabled_grid.specs.Rectangles.{Fits};
 ghost use Rattle.tabled_options.specs.Does.{Each, EachUntilAt};
+ghost use Rattle.tabled_settings.specs.declared.split.Split.{Split};
+ghost use Rattle.tabled_steps.specs.Fitting.{KeepsFitting};
+ghost use Rattle.tabled_steps.specs.States.{IsUndone, after_all, state_of};
 ghost use Rattle.tabled_steps.specs.Steps.{Does, Refused};
+ghost use Rattle.tabled_steps.specs.declared.step.Step.{Step};
+ghost use Rattle.tabled_steps.specs.declared.step.Step.TheVariants as step;
 
 use crate::step::Step;
 use std::alloc::{AllocError, Global};
@@ -14,11 +21,42 @@ use tabled_options::TableOption;
 
 /// Does steps to a store and its merged cells, one after another.
 ///
-/// Where memory is refused, it ends with the index of the step that was refused: the steps before it are
-/// done, and that step leaves what it leaves. No step is refused that takes no memory.
+/// - Ok: the texts and the merged cells are those after all steps (`after_all`), of which each is the
+///   formula of its step on texts and merged cells (`after`). Two stores of whatever kind that have equal
+///   texts and merged cells before have them after, too.
+/// - `Err((k, _))`: memory was refused at step `k`. The steps before it are done, and it leaves what it
+///   leaves. No step is refused that takes no memory.
+/// - Steps that write texts, put in panels, merge equal neighbours or span at least one cell keep merged
+///   cells inside the table and apart, done or refused.
+/// - Where the last step is a split that keeps all pieces, the table before it is its pieces, glued
+///   together.
 ///
 /// Our own.
 pub fn run<R>(
+    alloc: Global,
+    records: &mut R,
+    cfg: &mut SpannedConfig,
+    steps: Vec<Step>,
+) -> Result<(), (usize, AllocError)>
+where
+    R: Records + ExactRecords + PeekableRecords + RecordsMut<String> + Resizable,
+    R::Cell: CellText,
+    requires well { R.is_well_formed records.old }
+    ensures well { R.is_well_formed records.new }
+    ensures state { OnOk result (state_of R.Cell.text_of (R.grid records.new) cfg.new ≡ after_all steps.items (state_of R.Cell.text_of (R.grid records.old) cfg.old)) }
+    ensures ok { OnOk result (Each (Does R.Cell.text_of) steps.items (R.grid records.old) cfg.old (R.grid records.new) cfg.new) }
+    ensures index { IfErr result (λ refused. refused.0 < length steps.items) }
+    ensures err { IfErr result (λ refused. EachUntilAt (Does R.Cell.text_of) (Refused R.Cell.text_of) steps.items refused.0 (R.grid records.old) cfg.old (R.grid records.new) cfg.new) }
+    ensures fitting { AllByRecursion KeepsFitting steps.items → Fits cfg.old ((R.grid records.old).rows) ((R.grid records.old).columns) → Fits cfg.new ((R.grid records.new).rows) ((R.grid records.new).columns) }
+    ensures glued { OnOk result ((first : List Step) (last : Split) → steps.items ≡ first ++ step.Split last ∷ [] → IsUndone last (after_all first (state_of R.Cell.text_of (R.grid records.old) cfg.old)) (state_of R.Cell.text_of (R.grid records.new) cfg.new)) }
+{
+    // A count of rows promises that they are equally long.
+    let _ = records.count_rows();
+    run_each(alloc, records, cfg, steps)
+}
+
+/// Does steps, one after another.
+fn run_each<R>(
     alloc: Global,
     records: &mut R,
     cfg: &mut SpannedConfig,

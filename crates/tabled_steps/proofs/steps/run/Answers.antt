@@ -1,36 +1,23 @@
-use Rattle.std.proofs.Common.{◌≡◌, ◌+◌, ◌∙◌, suc, refl, sym, ap, arith, rules, length}
-use Rattle.std.proofs.lemmas.Bool.{false≢true}
-use Rattle.tabled_steps.proofs.StepsUntil.{first_refused, later_refused, none_left}
-use Rattle.tabled_steps.specs.Steps.{Refused}
+use Rattle.std.proofs.Common.{sym}
+use Rattle.std.proofs.lemmas.Result.{on_ok_weaker}
+use Rattle.tabled_grid.proofs.Grids.{IsEven-map_grid}
+use Rattle.tabled_steps.proofs.AfterSteps.{after_each}
+use Rattle.tabled_steps.proofs.EvenStates.{glued_last}
+use Rattle.tabled_steps.proofs.Fitting.{steps_kept}
+use Rattle.tabled_steps.specs.States.{state_of}
 use Rattle.tabled_steps.proofs.steps.run.Goals as goal
 
-pub returns-in-Err-clause-err : goal.returns-in-Err-clause-err
-returns-in-Err-clause-err g c =
-    let refused : Refused g.R.Cell.CellText.text_of c.in-Some.step (g.R.GridStore.grid c.loop-step.records) c.loop-step.cfg (g.R.GridStore.grid c.change.new.records) c.change.new.cfg = (c.in-Err.ensures.err, λ none. false≢true (c.in-Err.ensures.promised none)) in
-    let first = first_refused _ _ _ _ _ _ _ _ refused in
-    let same : c.loop-step.index + 0 ≡ c.loop-step.index = omega arith in
-    let until = c.loop-step.invariant.until 0 (g.R.GridStore.grid c.change.new.records) c.change.new.cfg (rw c.in-Some.ensures.steps.0 first) in
-    (rw same at until)
+pub returns-clause-state : goal.returns-clause-state
+returns-clause-state g c = on_ok_weaker c.run_each.result (after_each g.R.Cell.CellText.text_of c.args.steps.items _ _ _ _) c.run_each.ensures.ok
 
-pub loop-step-preserved : goal.loop-step-preserved
-loop-step-preserved g c =
-    let items = c.in-Some.ensures.steps.0 in
-    let lengths = ap length items in
-    record {
-      can = search rules;
-      ends = search rules;
-      well = c.change.ensures.well;
-      counted = omega (arith, lengths, c.in-Some.ensures.steps.1, c.loop-step.invariant.counted);
-      many = omega (arith, lengths, c.loop-step.invariant.many);
-      does = λ h d e. c.loop-step.invariant.does h d (rw items (_, _, c.in_default.ensures.ok, e));
-      until = λ k h d e.
-          let next = later_refused _ _ _ _ _ _ _ _ k h d c.in_default.ensures.ok e in
-          let same : c.loop-step.index + suc k ≡ (c.loop-step.index + 1) + k = omega arith in
-          let until = c.loop-step.invariant.until (suc k) h d (rw items next) in
-          (rw same at until);
-    }
+pub returns-clause-fitting : goal.returns-clause-fitting
+returns-clause-fitting g c = steps_kept g.R.Cell.CellText.text_of c.run_each.result c.args.steps.items _ _ _ _ c.run_each.ensures.ok c.run_each.ensures.err
 
-pub returns-clause-ok : goal.returns-clause-ok
-returns-clause-ok g c =
-    let none = none_left _ (sym c.loop-step.invariant.counted ∙ c.in-None.ensures.steps.0) in
-    c.loop-step.invariant.does _ _ (rw none (refl, refl))
+pub returns-clause-glued : goal.returns-clause-glued
+returns-clause-glued g c =
+    let text_of = g.R.Cell.CellText.text_of in
+    let grid = g.R.GridStore.grid in
+    let even = IsEven-map_grid text_of (grid c.args.records.now) c.count_rows.ensures.even in
+    on_ok_weaker c.run_each.result (λ does first last are. record {
+      glued = λ retained index rows columns. glued_last first last (state_of text_of (grid c.args.records.now) c.args.cfg.now) (state_of text_of (grid c.run_each.new.records) c.run_each.new.cfg) even retained index rows columns (rw are at (after_each text_of c.args.steps.items (grid c.args.records.now) c.args.cfg.now (grid c.run_each.new.records) c.run_each.new.cfg does));
+    }) c.run_each.ensures.ok

@@ -1,0 +1,152 @@
+-- What a step does to a store is what its formula makes of the store's texts and merged cells.
+use Rattle.std.proofs.Common.{◌≡◌, ℕ, ◌+◌, ◌-◌, ◌<◌, ◌≤◌, ◌⊎◌, inl, inr, Bool, true, false, cond, List, [], ◌∷◌, None, Some, Option, refl, sym, ap, ap₂, ◌∙◌, map, max, replicate, arith}
+use Rattle.std.specs.Prelude.{ℤ, nat_lt, ◌&&◌}
+use Rattle.std.specs.List.{fold}
+use Rattle.std.specs.Option.{IfSome, unwrap_or}
+use Rattle.std.specs.String.{string_bytes}
+use Rattle.std.proofs.lemmas.Bool.{cases_Bool, cases_lt, le-ltb, lt-ltb}
+use Rattle.tabled_grid.specs.Bounds.{indexes}
+use Rattle.tabled_grid.specs.Entity.{place}
+use Rattle.tabled_grid.specs.Grid.{Grid, IsInside, cell_at, map_grid}
+use Rattle.tabled_grid.specs.Spans.{SpanMap}
+use Rattle.tabled_grid.specs.declared.config.entity.Entity.{Entity}
+use Rattle.tabled_grid.specs.declared.config.position.Position.{Position}
+use Rattle.tabled_grid.specs.declared.records.axis.Axis.{Axis}
+use Rattle.tabled_grid.specs.declared.records.axis.Axis.TheVariants.{Rows, Columns}
+use Rattle.tabled_grid.proofs.Grids.{IsEven-map_grid}
+use Rattle.tabled_grid.proofs.Mapped.{map_grid-with_column, map_grid-with_row}
+use Rattle.tabled_options.specs.Does.{Change, Each, EachListed}
+use Rattle.tabled_options.specs.Writes.{Writes}
+use Rattle.tabled_select.specs.Locators.{columns_with}
+use Rattle.tabled_settings.specs.Charsets.{DoesWrites, charset_writes}
+use Rattle.tabled_settings.specs.Dups.{Duplicates, source_texts}
+use Rattle.tabled_settings.specs.Joined.{JoinsAt, corner_of, joined_text}
+use Rattle.tabled_settings.specs.Places.{Places}
+use Rattle.tabled_settings.specs.Rearranged.{extracted, removed, reversed, rotated}
+use Rattle.tabled_settings.specs.declared.rotate.Rotate.{Rotate}
+use Rattle.tabled_settings.specs.declared.rotate.Rotate.TheVariants.{Left, Right, Top, Bottom}
+use Rattle.tabled_spans.specs.Panels.{Panels, cells_along, has_room, with_line, with_panel}
+use Rattle.tabled_spans.specs.Spanned.{Spans}
+use Rattle.tabled_steps.specs.Reads.{joined, read}
+use Rattle.tabled_steps.specs.Selected.{half_open, selected}
+use Rattle.tabled_steps.specs.States.{State, after, after_all, duplicate, merge, on_each, put_panel, rearrange, recode, set, span, state_of, with_texts_round}
+use Rattle.tabled_steps.specs.Steps.{Does, Merges, Names, Rearranges}
+use Rattle.tabled_steps.specs.declared.select.Select.{Select}
+use Rattle.tabled_steps.specs.declared.step.Step.{Step}
+use Rattle.tabled_steps.specs.declared.step.Step.TheVariants as step
+use Rattle.tabled_steps.proofs.MergedRuns.{is_merged}
+use Rattle.tabled_steps.proofs.TextReads.{is_table_of, read_through, text_from, some_text, text_known}
+
+abbrev state : Grid (List ℕ) → SpanMap → State
+state texts spans = record { texts = texts; spans = spans }
+
+same_state : (g h : Grid (List ℕ)) (c d : SpanMap) → g ≡ h → c ≡ d → state g c ≡ state h d
+same_state g h c d = ap₂ state
+
+total-rotated : (rotate : Rotate) (rows columns : ℕ) (p : Position) → (q : Position) × ((rotated rotate rows columns).old_place p ≡ Some q)
+total-rotated Left rows columns p = (_, refl)
+total-rotated Right rows columns p = (_, refl)
+total-rotated Top rows columns p = (_, refl)
+total-rotated Bottom rows columns p = (_, refl)
+
+total-removed : (axis : Axis) (found : List ℕ) (rows columns : ℕ) (p : Position) → (q : Position) × ((removed axis found rows columns).old_place p ≡ Some q)
+total-removed Rows found rows columns p = (_, refl)
+total-removed Columns found rows columns p = (_, refl)
+
+module _ {A : Type 0} (text_of : A → List ℕ) where
+  -- a change for each entity, where one is what a formula says
+  each_is : (does : Entity → Change A SpanMap) (change : State → Entity → State)
+      → ((e : Entity) (g : Grid A) (c : SpanMap) (h : Grid A) (d : SpanMap) → does e g c h d → state_of text_of h d ≡ change (state_of text_of g c) e)
+      → (es : List Entity) (g : Grid A) (c : SpanMap) (h : Grid A) (d : SpanMap) → Each does es g c h d → state_of text_of h d ≡ fold change (state_of text_of g c) es
+  each_is does change one [] g c h d same = same_state _ _ _ _ (ap (map_grid text_of) same.0) same.1
+  each_is does change one (e ∷ es) g c h d (m, k, first, rest) = each_is does change one es m k h d rest ∙ ap (λ (s : State). fold change s es) (one e g c m k first)
+
+  listed_is : (select : Select) (does : Entity → Change A SpanMap) (change : State → Entity → State)
+      → ((e : Entity) (g : Grid A) (c : SpanMap) (h : Grid A) (d : SpanMap) → does e g c h d → state_of text_of h d ≡ change (state_of text_of g c) e)
+      → (g : Grid A) (c : SpanMap) (h : Grid A) (d : SpanMap) → EachListed (Names text_of select) does g c h d → state_of text_of h d ≡ on_each change select (state_of text_of g c)
+  listed_is select does change one g c h d (es, are, each) = each_is does change one es g c h d each ∙ ap (fold change (state_of text_of g c)) are
+
+  module _ (g : Grid A) (c : SpanMap) (h : Grid A) (d : SpanMap) where
+    duplicated : (destination source : Select) → Duplicates text_of (Names text_of destination) (Names text_of source) g c h d → state_of text_of h d ≡ duplicate destination source (state_of text_of g c)
+    duplicated destination source (sources, named, writes, same) = same_state _ _ _ _ (by (source_texts (map_grid text_of g) sources) refl ∙ ap (λ es. with_texts_round (source_texts (map_grid text_of g) es) (selected (map_grid text_of g) destination) (map_grid text_of g)) named) same
+      where
+        by : (texts : List (List ℕ)) → source_texts (map_grid text_of g) sources ≡ texts → map_grid text_of h ≡ with_texts_round (source_texts (map_grid text_of g) sources) (selected (map_grid text_of g) destination) (map_grid text_of g)
+        by [] is = rw is (rw is at writes)
+        by (text ∷ texts) is = rw is (let it = rw is at writes in rw (← it.1) it.2)
+
+    rearranged : (places : ℕ → ℕ → Places) → ((p : Position) → (q : Position) × ((places g.rows g.columns).old_place p ≡ Some q)) → Rearranges places g c h d → state_of text_of h d ≡ rearrange places (state_of text_of g c)
+    rearranged places total (reads, same) = same_state _ _ _ _ (read_through text_of g h (places g.rows g.columns) total reads) same
+
+    room : (axis : Axis) (line : ℕ) → has_room axis line (map_grid text_of g) c ≡ has_room axis line g c
+    room Rows line = refl
+    room Columns line = refl
+
+    along : (axis : Axis) → cells_along axis (map_grid text_of g) ≡ cells_along axis g
+    along Rows = refl
+    along Columns = refl
+
+    put_in : (axis : Axis) (line : ℕ) (cells : List A) → map_grid text_of (with_line axis line cells g) ≡ with_line axis line (map text_of cells) (map_grid text_of g)
+    put_in Rows line cells = map_grid-with_row text_of g line cells
+    put_in Columns line cells = map_grid-with_column text_of g line cells
+
+    panelled : (axis : Axis) (line : ℕ) (text : List ℕ) → Panels text_of axis line text g c h d → state_of text_of h d ≡ put_panel axis line text (state_of text_of g c)
+    panelled axis line text panel = by (cases_Bool (has_room axis line g c))
+      where
+        by : (has_room axis line g c ≡ true) ⊎ (has_room axis line g c ≡ false) → state_of text_of h d ≡ put_panel axis line text (state_of text_of g c)
+        by (inl fits) =
+            let puts = panel.puts fits in
+            let spans = panel.merges fits in
+            rw (room axis line, fits, along axis)
+            (same_state _ _ _ _ (ap (map_grid text_of) puts.is ∙ put_in axis line puts.cells ∙ ap (λ texts. with_line axis line texts (map_grid text_of g)) puts.texts) spans)
+        by (inr crossed) =
+            let same = panel.leaves crossed in
+            rw (room axis line, crossed) (same_state _ _ _ _ (ap (map_grid text_of) same.0) same.1)
+
+    merged : (axis : Axis) → Merges text_of axis g c h d → state_of text_of h d ≡ merge axis (state_of text_of g c)
+    merged axis (cells, runs) = same_state _ _ _ _ (ap (map_grid text_of) cells) (is_merged axis (map_grid text_of g) c d runs)
+
+    joined_at : (axis : Axis) (second : Grid (List ℕ)) (default : List ℕ) → JoinsAt text_of (corner_of axis g.rows g.columns) second default g h → map_grid text_of h ≡ joined axis second default (map_grid text_of g)
+    joined_at axis second default joins = is_table_of text_of h _ _ (λ (p : Position). text p.row p.col) joins.first.even joins.first.rows joins.first.columns (λ a b k l. at a b (omega (arith, joins.first.rows, k)) (omega (arith, joins.first.columns, l)) (cases_lt a g.rows) (cases_lt b g.columns))
+      where
+        corner : Position
+        corner = corner_of axis g.rows g.columns
+
+        text : ℕ → ℕ → List ℕ
+        text a b = cond (nat_lt a g.rows && nat_lt b g.columns) (unwrap_or (cell_at (map_grid text_of g) (place a b)) []) (joined_text corner second default a b)
+
+        at : (a b : ℕ) → a < h.rows → b < h.columns → (a < g.rows) ⊎ (g.rows ≤ a) → (b < g.columns) ⊎ (g.columns ≤ b) → cell_at (map_grid text_of h) (place a b) ≡ Some (text a b)
+        at a b k l (inl high) (inl left) =
+            let moved = rw (lt-ltb a g.rows high, lt-ltb b g.columns left) at (joins.first.moved (place a b) (record { row = k; col = l })) in
+            let same = text_from text_of g h (place a b) (place a b) moved in
+            let some = some_text (map_grid text_of h) a b (IsEven-map_grid text_of h joins.first.even) k l in
+            rw (lt-ltb a g.rows high, lt-ltb b g.columns left, ← same) (text_known _ some.0 some.1)
+        at a b k l (inr low) m = rw (le-ltb a g.rows low) (joins.others a b k l (inl low))
+        at a b k l (inl high) (inr right) = rw (lt-ltb a g.rows high, le-ltb b g.columns right) (joins.others a b k l (inr right))
+
+  -- what a step does is what its formula says
+  pub after_step : (s : Step) (g : Grid A) (c : SpanMap) (h : Grid A) (d : SpanMap) → Does text_of s g c h d → state_of text_of h d ≡ after s (state_of text_of g c)
+  after_step (step.Set select text) g c h d does = listed_is select _ (set (string_bytes text)) (λ e g c h d w. same_state _ _ _ _ w.0 w.1) g c h d does
+  after_step (step.Dup destination source) g c h d does = duplicated g c h d destination source does
+  after_step (step.Charset charset select) g c h d does = listed_is select _ (recode charset) (λ e g c h d w. same_state _ _ _ _ w.0 w.1) g c h d does
+  after_step (step.ColumnSpan size select) g c h d does = listed_is select _ (span Columns size) (λ e g c h d w. same_state _ _ _ _ w.texts w.spans) g c h d does
+  after_step (step.RowSpan size select) g c h d does = listed_is select _ (span Rows size) (λ e g c h d w. same_state _ _ _ _ w.texts w.spans) g c h d does
+  after_step (step.HorizontalPanel panel) g c h d does = panelled g c h d Rows panel.0 panel.1 does
+  after_step (step.VerticalPanel panel) g c h d does = panelled g c h d Columns panel.0 panel.1 does
+  after_step (step.Header text) g c h d does = panelled g c h d Rows 0 text does
+  after_step (step.Footer text) g c h d does = panelled g c h d Rows g.rows text does
+  after_step step.MergeVertical g c h d does = merged g c h d Rows does
+  after_step step.MergeHorizontal g c h d does = merged g c h d Columns does
+  after_step (step.Rotate rotate) g c h d does = rearranged g c h d (rotated rotate) (total-rotated rotate g.rows g.columns) does
+  after_step (step.Reverse reverse) g c h d does = rearranged g c h d (reversed reverse.axis reverse.start reverse.limit) (λ p. (_, refl)) does
+  after_step (step.Split how) g c h d does = same_state _ _ _ _ does.0.texts does.1
+  after_step (step.Concat concat) g c h d does = same_state _ _ _ _ (joined_at g c h d concat.0 concat.1 concat.2 does.0) does.1
+  after_step (step.Extract a b k l) g c h d does = rearranged g c h d (extracted (half_open a b) (half_open k l)) (λ p. (_, refl)) does
+  after_step (step.RemoveRows a b) g c h d does = rearranged g c h d (removed Rows (indexes (half_open a b) g.rows)) (total-removed Rows _ g.rows g.columns) does
+  after_step (step.RemoveColumns a b) g c h d does = rearranged g c h d (removed Columns (indexes (half_open a b) g.columns)) (total-removed Columns _ g.rows g.columns) does
+  after_step (step.RemoveNamed name) g c h d does = rearranged g c h d (removed Columns (columns_with (string_bytes name) (map_grid text_of g))) (total-removed Columns _ g.rows g.columns) does
+  after_step (step.Both' _ first _ second) g c h d (m, k, one, other) = after_step second m k h d other ∙ ap (after second) (after_step first g c m k one)
+
+  -- what steps do, one after another
+  pub after_each : (steps : List Step) (g : Grid A) (c : SpanMap) (h : Grid A) (d : SpanMap) → Each (Does text_of) steps g c h d → state_of text_of h d ≡ after_all steps (state_of text_of g c)
+  after_each [] g c h d same = same_state _ _ _ _ (ap (map_grid text_of) same.0) same.1
+  after_each (s ∷ steps) g c h d (m, k, first, rest) = after_each steps m k h d rest ∙ ap (after_all steps) (after_step s g c m k first)

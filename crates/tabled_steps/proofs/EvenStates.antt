@@ -1,0 +1,131 @@
+-- Steps leave as many texts in each row as there are columns.
+use Rattle.std.proofs.Common.{◌≡◌, ◌⊎◌, inl, inr, ℕ, ◌+◌, ◌-◌, ◌<◌, ◌≤◌, Bool, true, false, cond, max, List, [], ◌∷◌, ◌++◌, refl, sym, ap, ◌∙◌, subst, length, replicate, arith}
+use Rattle.std.specs.Prelude.{nat_lt, ◌&&◌}
+use Rattle.std.specs.List.{fold}
+use Rattle.std.specs.Option.{option_and_then, unwrap_or}
+use Rattle.std.specs.String.{string_bytes}
+use Rattle.std.proofs.lemmas.Bool.{and_parts, cases_Bool, leb-true, ltb-true}
+use Rattle.std.proofs.lemmas.List.{length-replicate}
+use Rattle.tabled_grid.specs.Bounds.{indexes}
+use Rattle.tabled_grid.specs.Entity.{inside}
+use Rattle.tabled_grid.specs.Grid.{Grid, IsEven, cell_at, with_cell}
+use Rattle.tabled_grid.specs.declared.config.entity.Entity.{Entity}
+use Rattle.tabled_grid.specs.declared.config.position.Position.{Position}
+use Rattle.tabled_grid.specs.declared.records.axis.Axis.{Axis}
+use Rattle.tabled_grid.specs.declared.records.axis.Axis.TheVariants.{Rows, Columns}
+use Rattle.tabled_grid.proofs.Grids.{IsEven-with_cell}
+use Rattle.tabled_grid.proofs.Resized.{IsEven-with_column, IsEven-with_row}
+use Rattle.tabled_options.specs.Writes.{Write, with_writes, written}
+use Rattle.tabled_select.specs.Locators.{columns_with, text_at}
+use Rattle.tabled_settings.specs.Charsets.{charset_writes}
+use Rattle.tabled_settings.specs.Joined.{corner_of, joined_text}
+use Rattle.tabled_settings.specs.Places.{Places}
+use Rattle.tabled_settings.specs.Rearranged.{extracted, removed, reversed, rotated}
+use Rattle.tabled_settings.specs.Dups.{round_writes, source_texts}
+use Rattle.tabled_settings.specs.Pieces.{cut_rows, has_pieces, split, turned}
+use Rattle.tabled_settings.specs.declared.split.Split.{Split}
+use Rattle.tabled_settings.specs.declared.split.Display.TheVariants.{Retain}
+use Rattle.tabled_settings.specs.PiecePlaces.{glued}
+use Rattle.tabled_settings.proofs.Glued.{split_glued}
+use Rattle.tabled_settings.proofs.PieceReads.{cut_even, turned_even}
+use Rattle.tabled_spans.specs.Panels.{cells_along, has_room, with_line}
+use Rattle.tabled_spans.specs.Spanned.{span_writes}
+use Rattle.tabled_steps.specs.Reads.{joined}
+use Rattle.tabled_steps.specs.Selected.{half_open, selected}
+use Rattle.tabled_steps.specs.States.{State, after, after_all, on_each, put_panel, rearrange, with_texts_round}
+use Rattle.tabled_steps.specs.declared.select.Select.{Select}
+use Rattle.tabled_steps.specs.declared.step.Step.{Step}
+use Rattle.tabled_steps.specs.declared.step.Step.TheVariants as step
+use Rattle.tabled_steps.proofs.TextReads.{IsEven-table_of}
+
+even_written : (text : List ℕ) (places : List Position) (g : Grid (List ℕ)) → IsEven g → IsEven (written text places g)
+even_written text [] g even = even
+even_written text (p ∷ places) g even = even_written text places (with_cell g p text) (IsEven-with_cell g p text even)
+
+even_writes : (writes : List Write) (g : Grid (List ℕ)) → IsEven g → IsEven (with_writes writes g)
+even_writes [] g even = even
+even_writes (w ∷ writes) g even = even_writes writes (with_cell g w.place w.text) (IsEven-with_cell g w.place w.text even)
+
+even_round : (texts : List (List ℕ)) (targets : List Entity) (g : Grid (List ℕ)) → IsEven g → IsEven (with_texts_round texts targets g)
+even_round [] targets g even = even
+even_round (text ∷ texts) targets g even = even_writes (round_writes (text ∷ texts) g.rows g.columns targets) g even
+
+-- a change of a state keeps its rows even
+abbrev Keeps : (State → State) → Type 0
+Keeps change = (s : State) → IsEven s.texts → IsEven (change s).texts
+
+even_each : (change : State → Entity → State) → ((e : Entity) → Keeps (λ s. change s e)) → (es : List Entity) → Keeps (λ s. fold change s es)
+even_each change keeps [] s even = even
+even_each change keeps (e ∷ es) s even = even_each change keeps es (change s e) (keeps e s even)
+
+even_on_each : (change : State → Entity → State) (select : Select) → ((e : Entity) → Keeps (λ s. change s e)) → Keeps (on_each change select)
+even_on_each change select keeps s = even_each change keeps (selected s.texts select) s
+
+even_panel : (axis : Axis) (line : ℕ) (text : List ℕ) → Keeps (put_panel axis line text)
+even_panel axis line text s even = by axis (cases_Bool (has_room axis line s.texts s.spans))
+  where
+    long : (n : ℕ) → 0 < n → length (text ∷ replicate (n - 1) []) ≡ n
+    long n some = let none : List ℕ = [] in omega (arith, length-replicate (n - 1) none, some)
+
+    by : (axis : Axis) → (has_room axis line s.texts s.spans ≡ true) ⊎ (has_room axis line s.texts s.spans ≡ false) → IsEven (put_panel axis line text s).texts
+    by axis (inr crossed) = rw crossed even
+    by Rows (inl fits) =
+        let parts = and_parts _ _ fits in
+        let some = ltb-true 0 s.texts.columns (and_parts _ _ parts.1).0 in
+        rw fits (IsEven-with_row s.texts even line (text ∷ replicate (s.texts.columns - 1) []) (leb-true line s.texts.rows parts.0) (long s.texts.columns some))
+    by Columns (inl fits) =
+        let parts = and_parts _ _ fits in
+        let some = ltb-true 0 s.texts.rows (and_parts _ _ parts.1).0 in
+        rw fits (IsEven-with_column s.texts line (text ∷ replicate (s.texts.rows - 1) []) (leb-true line s.texts.columns parts.0) (long s.texts.rows some) even)
+
+even_split : (how : Split) (g : Grid (List ℕ)) → IsEven g → IsEven (split how g)
+even_split how g even = by (cases_Bool (has_pieces how g.rows g.columns))
+  where
+    turned_cut : (axis : Axis) → 0 < how.index → IsEven (turned axis (cut_rows how (turned how.lines g)))
+    turned_cut Rows index = cut_even how (turned how.lines g)
+    turned_cut Columns index = turned_even Columns (cut_rows how (turned how.lines g)) (cut_even how (turned how.lines g)) index
+
+    by : (has_pieces how g.rows g.columns ≡ true) ⊎ (has_pieces how g.rows g.columns ≡ false) → IsEven (split how g)
+    by (inl some) = rw some (turned_cut how.lines (ltb-true 0 how.index (and_parts _ _ (and_parts _ _ some).1).0))
+    by (inr none) = rw none even
+
+even_rearranged : (places : ℕ → ℕ → Places) → Keeps (rearrange places)
+even_rearranged places s even = let from = places s.texts.rows s.texts.columns in IsEven-table_of from.rows from.columns (λ (p : Position). unwrap_or (option_and_then (cell_at s.texts) (from.old_place p)) [])
+
+even_joined : (axis : Axis) (second : Grid (List ℕ)) (default : List ℕ) (g : Grid (List ℕ)) → IsEven (joined axis second default g)
+even_joined axis second default g = let corner = corner_of axis g.rows g.columns in IsEven-table_of (max g.rows (corner.row + second.rows)) (max g.columns (corner.col + second.columns)) (λ (p : Position). cond (nat_lt p.row g.rows && nat_lt p.col g.columns) (text_at g p) (joined_text corner second default p.row p.col))
+
+even_after : (x : Step) → Keeps (after x)
+even_after (step.Set text_select text) = even_on_each _ text_select (λ e s. even_written (string_bytes text) (inside e s.texts.rows s.texts.columns) s.texts)
+even_after (step.Dup destination source) = λ s. even_round (source_texts s.texts (selected s.texts source)) (selected s.texts destination) s.texts
+even_after (step.Charset charset select) = even_on_each _ select (λ e s. even_writes (charset_writes charset e s.texts) s.texts)
+even_after (step.ColumnSpan size select) = even_on_each _ select (λ e s. even_writes (span_writes Columns size e s.texts) s.texts)
+even_after (step.RowSpan size select) = even_on_each _ select (λ e s. even_writes (span_writes Rows size e s.texts) s.texts)
+even_after (step.HorizontalPanel panel) = even_panel Rows panel.0 panel.1
+even_after (step.VerticalPanel panel) = even_panel Columns panel.0 panel.1
+even_after (step.Header text) = even_panel Rows 0 text
+even_after (step.Footer text) = λ s. even_panel Rows s.texts.rows text s
+even_after step.MergeVertical = λ s even. even
+even_after step.MergeHorizontal = λ s even. even
+even_after (step.Rotate rotate) = even_rearranged (rotated rotate)
+even_after (step.Reverse reverse) = even_rearranged (reversed reverse.axis reverse.start reverse.limit)
+even_after (step.Split how) = λ s. even_split how s.texts
+even_after (step.Concat concat) = λ s even. even_joined concat.0 concat.1 concat.2 s.texts
+even_after (step.Extract a b k l) = even_rearranged (extracted (half_open a b) (half_open k l))
+even_after (step.RemoveRows a b) = λ s. even_rearranged (removed Rows (indexes (half_open a b) s.texts.rows)) s
+even_after (step.RemoveColumns a b) = λ s. even_rearranged (removed Columns (indexes (half_open a b) s.texts.columns)) s
+even_after (step.RemoveNamed name) = λ s. even_rearranged (removed Columns (columns_with (string_bytes name) s.texts)) s
+even_after (step.Both' _ first _ second) = λ s even. even_after second (after first s) (even_after first s even)
+
+pub even_after_all : (xs : List Step) → Keeps (after_all xs)
+even_after_all [] s even = even
+even_after_all (x ∷ xs) s even = even_after_all xs (after x s) (even_after x s even)
+
+pub after_more : (xs : List Step) (x : Step) (s : State) → after_all (xs ++ x ∷ []) s ≡ after x (after_all xs s)
+after_more [] x s = refl
+after_more (y ∷ xs) x s = after_more xs x (after y s)
+
+-- the pieces that a split makes last are glued together
+pub glued_last : (xs : List Step) (how : Split) (s new : State) → IsEven s.texts → how.display ≡ Retain → 0 < how.index → 0 < (after_all xs s).texts.rows → 0 < (after_all xs s).texts.columns → new ≡ after_all (xs ++ step.Split how ∷ []) s → glued how ((after_all xs s).texts.rows) ((after_all xs s).texts.columns) new.texts ≡ (after_all xs s).texts
+glued_last xs how s new even retained index rows columns is =
+    split_glued how (after_all xs s).texts new.texts (even_after_all xs s even) retained rows columns index (ap (λ (t : State). t.texts) (is ∙ after_more xs (step.Split how) s))

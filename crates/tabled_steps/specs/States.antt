@@ -1,0 +1,107 @@
+-- The texts of a table and its merged cells, and what steps make of them.
+use Rattle.std.specs.Prelude.{◌≡◌, ◌<◌, ℕ, ◌-◌, ℤ, if◌then◌else◌, Bool, true, false, List, [], ◌∷◌, replicate, Option}
+use Rattle.std.specs.List.{fold}
+use Rattle.std.specs.String.{string_bytes}
+use Rattle.tabled_grid.specs.Bounds.{indexes}
+use Rattle.tabled_grid.specs.Entity.{inside}
+use Rattle.tabled_grid.specs.Grid.{Grid, map_grid}
+use Rattle.tabled_grid.specs.Spans.{SpanMap, with_sizes}
+use Rattle.tabled_grid.specs.declared.config.entity.Entity.{Entity}
+use Rattle.tabled_grid.specs.declared.records.axis.Axis.{Axis}
+use Rattle.tabled_grid.specs.declared.records.axis.Axis.TheVariants.{Rows, Columns}
+use Rattle.tabled_options.specs.Writes.{with_writes, written}
+use Rattle.tabled_select.specs.Locators.{columns_with}
+use Rattle.tabled_settings.specs.Charsets.{charset_writes}
+use Rattle.tabled_settings.specs.Dups.{round_writes, source_texts}
+use Rattle.tabled_settings.specs.PiecePlaces.{glued}
+use Rattle.tabled_settings.specs.Pieces.{split}
+use Rattle.tabled_settings.specs.Places.{Places}
+use Rattle.tabled_settings.specs.Rearranged.{extracted, removed, reversed, rotated}
+use Rattle.tabled_settings.specs.declared.split.Display.TheVariants.{Retain}
+use Rattle.tabled_settings.specs.declared.split.Split.{Split}
+use Rattle.tabled_spans.specs.Panels.{cells_along, has_room, with_line, with_panel}
+use Rattle.tabled_spans.specs.Spanned.{span_writes, spanned}
+use Rattle.tabled_steps.specs.MergedRuns.{runs}
+use Rattle.tabled_steps.specs.Reads.{joined, read}
+use Rattle.tabled_steps.specs.Selected.{half_open, selected}
+use Rattle.tabled_steps.specs.declared.select.Select.{Select}
+use Rattle.tabled_steps.specs.declared.step.Step.{Step}
+use Rattle.tabled_steps.specs.declared.step.Step.TheVariants as step
+
+-- the texts of a table, and its merged cells
+pub record State : Type 0 where
+  pub texts : Grid (List ℕ)
+  pub spans : SpanMap
+
+-- the state of a store with a grid, and of a map
+abbrev pub state_of : {A : Type 0} → (A → List ℕ) → Grid A → SpanMap → State
+state_of text_of g c = record { texts = map_grid text_of g; spans = c }
+
+-- a text in each cell that an entity names
+abbrev pub set : List ℕ → State → Entity → State
+set text s e = record s { texts = written text (inside e s.texts.rows s.texts.columns) s.texts }
+
+-- the texts that an entity names, recoded
+abbrev pub recode : Bool × Option ℕ → State → Entity → State
+recode charset s e = record s { texts = with_writes (charset_writes charset e s.texts) s.texts }
+
+-- a span of a size on an entity
+abbrev pub span : Axis → ℤ → State → Entity → State
+span axis size s e = record { texts = with_writes (span_writes axis size e s.texts) s.texts; spans = spanned axis size e s.texts.rows s.texts.columns s.spans }
+
+-- a change for each entity that a selector names in the old texts, in order
+abbrev pub on_each : (State → Entity → State) → Select → State → State
+on_each change select s = fold change s (selected s.texts select)
+
+-- texts written round what entities name, and no change without texts
+abbrev pub with_texts_round : List (List ℕ) → List Entity → Grid (List ℕ) → Grid (List ℕ)
+with_texts_round [] targets g = g
+with_texts_round (text ∷ texts) targets g = with_writes (round_writes (text ∷ texts) g.rows g.columns targets) g
+
+-- the texts of a source, written to a destination
+abbrev pub duplicate : Select → Select → State → State
+duplicate destination source s = record s { texts = with_texts_round (source_texts s.texts (selected s.texts source)) (selected s.texts destination) s.texts }
+
+-- a panel before a line, where it may stand
+abbrev pub put_panel : Axis → ℕ → List ℕ → State → State
+put_panel axis line text s = if has_room axis line s.texts s.spans then record { texts = with_line axis line (text ∷ replicate (cells_along axis s.texts - 1) []) s.texts; spans = with_panel axis line (cells_along axis s.texts) s.spans } else s
+
+-- a rectangle for each run of equal neighbours
+abbrev pub merge : Axis → State → State
+merge axis s = record s { spans = with_sizes s.spans (runs axis s.texts s.spans) }
+
+-- the texts, read through a map of places
+abbrev pub rearrange : (ℕ → ℕ → Places) → State → State
+rearrange places s = record s { texts = read (places s.texts.rows s.texts.columns) s.texts }
+
+-- the state after a step
+abbrev pub after : Step → State → State
+after (step.Set select text) = on_each (set (string_bytes text)) select
+after (step.Dup destination source) = duplicate destination source
+after (step.Charset charset select) = on_each (recode charset) select
+after (step.ColumnSpan size select) = on_each (span Columns size) select
+after (step.RowSpan size select) = on_each (span Rows size) select
+after (step.HorizontalPanel panel) = put_panel Rows panel.0 panel.1
+after (step.VerticalPanel panel) = put_panel Columns panel.0 panel.1
+after (step.Header text) = put_panel Rows 0 text
+after (step.Footer text) = λ s. put_panel Rows s.texts.rows text s
+after step.MergeVertical = merge Rows
+after step.MergeHorizontal = merge Columns
+after (step.Rotate rotate) = rearrange (rotated rotate)
+after (step.Reverse reverse) = rearrange (reversed reverse.axis reverse.start reverse.limit)
+after (step.Split how) = λ s. record s { texts = split how s.texts }
+after (step.Concat concat) = λ s. record s { texts = joined concat.0 concat.1 concat.2 s.texts }
+after (step.Extract a b c d) = rearrange (extracted (half_open a b) (half_open c d))
+after (step.RemoveRows a b) = λ s. rearrange (removed Rows (indexes (half_open a b) s.texts.rows)) s
+after (step.RemoveColumns a b) = λ s. rearrange (removed Columns (indexes (half_open a b) s.texts.columns)) s
+after (step.RemoveNamed name) = λ s. rearrange (removed Columns (columns_with (string_bytes name) s.texts)) s
+after (step.Both' _ first _ second) = λ s. after second (after first s)
+
+-- the state after steps, in order
+abbrev pub after_all : List Step → State → State
+after_all [] s = s
+after_all (x ∷ xs) s = after_all xs (after x s)
+
+-- a table with a row and a column is the pieces of its split glued together, where all were kept
+pub record IsUndone (how : Split) (old new : State) : Type 0 where
+  pub glued : how.display ≡ Retain → 0 < how.index → 0 < old.texts.rows → 0 < old.texts.columns → glued how (old.texts.rows) (old.texts.columns) new.texts ≡ old.texts
