@@ -28,7 +28,7 @@ use Rattle.tabled_settings.specs.declared.rotate.Rotate.TheVariants.{Left, Right
 use Rattle.tabled_spans.specs.Panels.{Panels, cells_along, has_room, with_line, with_panel}
 use Rattle.tabled_spans.specs.Spanned.{Spans}
 use Rattle.tabled_steps.specs.Reads.{joined, read}
-use Rattle.tabled_steps.specs.Selected.{half_open, selected}
+use Rattle.tabled_steps.specs.Selected.{half_open, named_by, selected}
 use Rattle.tabled_steps.specs.States.{State, after, after_all, duplicate, merge, on_each, put_panel, rearrange, recode, set, span, state_of, with_texts_round}
 use Rattle.tabled_steps.specs.Steps.{Does, Merges, Names, Rearranges}
 use Rattle.tabled_steps.specs.declared.select.Select.{Select}
@@ -63,11 +63,11 @@ module _ {A : Type 0} (text_of : A → List ℕ) where
 
   listed_is : (select : Select) (does : Entity → Change A SpanMap) (change : State → Entity → State)
       → ((e : Entity) (g : Grid A) (c : SpanMap) (h : Grid A) (d : SpanMap) → does e g c h d → state_of text_of h d ≡ change (state_of text_of g c) e)
-      → (g : Grid A) (c : SpanMap) (h : Grid A) (d : SpanMap) → EachListed (Names text_of select) does g c h d → state_of text_of h d ≡ on_each change select (state_of text_of g c)
+      → (g : Grid A) (c : SpanMap) (h : Grid A) (d : SpanMap) → EachListed (Names text_of select) does g c h d → state_of text_of h d ≡ on_each change (named_by select) (state_of text_of g c)
   listed_is select does change one g c h d (es, are, each) = each_is does change one es g c h d each ∙ ap (fold change (state_of text_of g c)) are
 
   module _ (g : Grid A) (c : SpanMap) (h : Grid A) (d : SpanMap) where
-    duplicated : (destination source : Select) → Duplicates text_of (Names text_of destination) (Names text_of source) g c h d → state_of text_of h d ≡ duplicate destination source (state_of text_of g c)
+    duplicated : (destination source : Select) → Duplicates text_of (Names text_of destination) (Names text_of source) g c h d → state_of text_of h d ≡ duplicate (named_by destination) (named_by source) (state_of text_of g c)
     duplicated destination source (sources, named, writes, same) = same_state _ _ _ _ (by (source_texts (map_grid text_of g) sources) refl ∙ ap (λ es. with_texts_round (source_texts (map_grid text_of g) es) (selected (map_grid text_of g) destination) (map_grid text_of g)) named) same
       where
         by : (texts : List (List ℕ)) → source_texts (map_grid text_of g) sources ≡ texts → map_grid text_of h ≡ with_texts_round (source_texts (map_grid text_of g) sources) (selected (map_grid text_of g) destination) (map_grid text_of g)

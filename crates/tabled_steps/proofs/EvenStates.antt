@@ -31,7 +31,7 @@ use Rattle.tabled_settings.proofs.PieceReads.{cut_even, turned_even}
 use Rattle.tabled_spans.specs.Panels.{cells_along, has_room, with_line}
 use Rattle.tabled_spans.specs.Spanned.{span_writes}
 use Rattle.tabled_steps.specs.Reads.{joined}
-use Rattle.tabled_steps.specs.Selected.{half_open, selected}
+use Rattle.tabled_steps.specs.Selected.{half_open, named_by, selected}
 use Rattle.tabled_steps.specs.States.{State, after, after_all, on_each, put_panel, rearrange, with_texts_round}
 use Rattle.tabled_steps.specs.declared.select.Select.{Select}
 use Rattle.tabled_steps.specs.declared.step.Step.{Step}
@@ -58,7 +58,7 @@ even_each : (change : State → Entity → State) → ((e : Entity) → Keeps (�
 even_each change keeps [] s even = even
 even_each change keeps (e ∷ es) s even = even_each change keeps es (change s e) (keeps e s even)
 
-even_on_each : (change : State → Entity → State) (select : Select) → ((e : Entity) → Keeps (λ s. change s e)) → Keeps (on_each change select)
+even_on_each : (change : State → Entity → State) (select : Select) → ((e : Entity) → Keeps (λ s. change s e)) → Keeps (on_each change (named_by select))
 even_on_each change select keeps s = even_each change keeps (selected s.texts select) s
 
 even_panel : (axis : Axis) (line : ℕ) (text : List ℕ) → Keeps (put_panel axis line text)

@@ -18,6 +18,30 @@ use Rattle.tabled_steps.specs.declared.select.Select.TheVariants as select
 abbrev pub half_open : ℕ → ℕ → Bound ℕ × Bound ℕ
 half_open a b = (Included a, Excluded b)
 
+-- the cells of both of two lists of entities, each once
+abbrev pub united : Grid (List ℕ) → List Entity → List Entity → List Entity
+united g x y = cells_of (union_of (flat x g.rows g.columns) (flat y g.rows g.columns))
+
+-- the cells of the first that aren't of the second
+abbrev pub without : Grid (List ℕ) → List Entity → List Entity → List Entity
+without g x y = cells_of (difference_of (flat x g.rows g.columns) (flat y g.rows g.columns))
+
+-- the cells of the first that are of the second, too
+abbrev pub shared : Grid (List ℕ) → List Entity → List Entity → List Entity
+shared g x y = cells_of (intersection_of (flat x g.rows g.columns) (flat y g.rows g.columns))
+
+-- the other cells
+abbrev pub others : Grid (List ℕ) → List Entity → List Entity
+others g x = cells_of (inversion_of (flat x g.rows g.columns) g.rows g.columns)
+
+-- the cells with a text
+abbrev pub with_content : List ℕ → Grid (List ℕ) → List Entity
+with_content text g = cells_of (places_with text g)
+
+-- the columns with a text in the first row
+abbrev pub with_name : List ℕ → Grid (List ℕ) → List Entity
+with_name text g = columns_of (columns_with text g)
+
 -- the entities that a selector names in a table of texts, in order
 abbrev pub selected : Grid (List ℕ) → Select → List Entity
 selected g select.All = everything
@@ -36,11 +60,19 @@ selected g (select.Rows a b) = rows_of (indexes (half_open a b) g.rows)
 selected g (select.Columns a b) = columns_of (indexes (half_open a b) g.columns)
 selected g (select.Segment a b c d) = cells_of (segment (half_open a b) (half_open c d) g.rows g.columns)
 selected g select.Frame = cells_of (frame g.rows g.columns)
-selected g (select.Content text) = cells_of (places_with (string_bytes text) g)
-selected g (select.Name text) = columns_of (columns_with (string_bytes text) g)
-selected g (select.And' _ x _ y) = cells_of (union_of (flat (selected g x) g.rows g.columns) (flat (selected g y) g.rows g.columns))
-selected g (select.Not' _ x _ y) = cells_of (difference_of (flat (selected g x) g.rows g.columns) (flat (selected g y) g.rows g.columns))
-selected g (select.Intersect' _ x _ y) = cells_of (intersection_of (flat (selected g x) g.rows g.columns) (flat (selected g y) g.rows g.columns))
-selected g (select.Inverse' _ x) = cells_of (inversion_of (flat (selected g x) g.rows g.columns) g.rows g.columns)
+selected g (select.Content text) = with_content (string_bytes text) g
+selected g (select.Name text) = with_name (string_bytes text) g
+selected g (select.And' _ x _ y) = united g (selected g x) (selected g y)
+selected g (select.Not' _ x _ y) = without g (selected g x) (selected g y)
+selected g (select.Intersect' _ x _ y) = shared g (selected g x) (selected g y)
+selected g (select.Inverse' _ x) = others g (selected g x)
 selected g (select.Skip' n _ x) = drop n (selected g x)
 selected g (select.StepBy' n _ x) = every n (selected g x)
+
+-- what names entities in a table of texts, in order
+abbrev pub Named : Type 0
+Named = Grid (List ℕ) → List Entity
+
+-- what a selector names
+abbrev pub named_by : Select → Named
+named_by select g = selected g select

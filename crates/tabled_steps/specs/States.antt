@@ -23,8 +23,7 @@ use Rattle.tabled_spans.specs.Panels.{cells_along, has_room, with_line, with_pan
 use Rattle.tabled_spans.specs.Spanned.{span_writes, spanned}
 use Rattle.tabled_steps.specs.MergedRuns.{runs}
 use Rattle.tabled_steps.specs.Reads.{joined, read}
-use Rattle.tabled_steps.specs.Selected.{half_open, selected}
-use Rattle.tabled_steps.specs.declared.select.Select.{Select}
+use Rattle.tabled_steps.specs.Selected.{Named, half_open, named_by}
 use Rattle.tabled_steps.specs.declared.step.Step.{Step}
 use Rattle.tabled_steps.specs.declared.step.Step.TheVariants as step
 
@@ -49,9 +48,9 @@ recode charset s e = record s { texts = with_writes (charset_writes charset e s.
 abbrev pub span : Axis → ℤ → State → Entity → State
 span axis size s e = record { texts = with_writes (span_writes axis size e s.texts) s.texts; spans = spanned axis size e s.texts.rows s.texts.columns s.spans }
 
--- a change for each entity that a selector names in the old texts, in order
-abbrev pub on_each : (State → Entity → State) → Select → State → State
-on_each change select s = fold change s (selected s.texts select)
+-- a change for each entity that is named in the old texts, in order
+abbrev pub on_each : (State → Entity → State) → Named → State → State
+on_each change named s = fold change s (named s.texts)
 
 -- texts written round what entities name, and no change without texts
 abbrev pub with_texts_round : List (List ℕ) → List Entity → Grid (List ℕ) → Grid (List ℕ)
@@ -59,8 +58,8 @@ with_texts_round [] targets g = g
 with_texts_round (text ∷ texts) targets g = with_writes (round_writes (text ∷ texts) g.rows g.columns targets) g
 
 -- the texts of a source, written to a destination
-abbrev pub duplicate : Select → Select → State → State
-duplicate destination source s = record s { texts = with_texts_round (source_texts s.texts (selected s.texts source)) (selected s.texts destination) s.texts }
+abbrev pub duplicate : Named → Named → State → State
+duplicate destination source s = record s { texts = with_texts_round (source_texts s.texts (source s.texts)) (destination s.texts) s.texts }
 
 -- a panel before a line, where it may stand
 abbrev pub put_panel : Axis → ℕ → List ℕ → State → State
@@ -74,13 +73,30 @@ merge axis s = record s { spans = with_sizes s.spans (runs axis s.texts s.spans)
 abbrev pub rearrange : (ℕ → ℕ → Places) → State → State
 rearrange places s = record s { texts = read (places s.texts.rows s.texts.columns) s.texts }
 
+-- rows or columns cut into pieces
+abbrev pub cut : Split → State → State
+cut how s = record s { texts = split how s.texts }
+
+-- a second table joined to the texts
+abbrev pub join : Axis → Grid (List ℕ) → List ℕ → State → State
+join axis second default s = record s { texts = joined axis second default s.texts }
+
+-- the rows, or the columns, of a range taken away
+abbrev pub remove_range : Axis → ℕ → ℕ → State → State
+remove_range Rows a b s = rearrange (removed Rows (indexes (half_open a b) s.texts.rows)) s
+remove_range Columns a b s = rearrange (removed Columns (indexes (half_open a b) s.texts.columns)) s
+
+-- the columns with a text in the first row taken away
+abbrev pub remove_named : List ℕ → State → State
+remove_named name s = rearrange (removed Columns (columns_with name s.texts)) s
+
 -- the state after a step
 abbrev pub after : Step → State → State
-after (step.Set select text) = on_each (set (string_bytes text)) select
-after (step.Dup destination source) = duplicate destination source
-after (step.Charset charset select) = on_each (recode charset) select
-after (step.ColumnSpan size select) = on_each (span Columns size) select
-after (step.RowSpan size select) = on_each (span Rows size) select
+after (step.Set select text) = on_each (set (string_bytes text)) (named_by select)
+after (step.Dup destination source) = duplicate (named_by destination) (named_by source)
+after (step.Charset charset select) = on_each (recode charset) (named_by select)
+after (step.ColumnSpan size select) = on_each (span Columns size) (named_by select)
+after (step.RowSpan size select) = on_each (span Rows size) (named_by select)
 after (step.HorizontalPanel panel) = put_panel Rows panel.0 panel.1
 after (step.VerticalPanel panel) = put_panel Columns panel.0 panel.1
 after (step.Header text) = put_panel Rows 0 text
@@ -89,12 +105,12 @@ after step.MergeVertical = merge Rows
 after step.MergeHorizontal = merge Columns
 after (step.Rotate rotate) = rearrange (rotated rotate)
 after (step.Reverse reverse) = rearrange (reversed reverse.axis reverse.start reverse.limit)
-after (step.Split how) = λ s. record s { texts = split how s.texts }
-after (step.Concat concat) = λ s. record s { texts = joined concat.0 concat.1 concat.2 s.texts }
+after (step.Split how) = cut how
+after (step.Concat concat) = join concat.0 concat.1 concat.2
 after (step.Extract a b c d) = rearrange (extracted (half_open a b) (half_open c d))
-after (step.RemoveRows a b) = λ s. rearrange (removed Rows (indexes (half_open a b) s.texts.rows)) s
-after (step.RemoveColumns a b) = λ s. rearrange (removed Columns (indexes (half_open a b) s.texts.columns)) s
-after (step.RemoveNamed name) = λ s. rearrange (removed Columns (columns_with (string_bytes name) s.texts)) s
+after (step.RemoveRows a b) = remove_range Rows a b
+after (step.RemoveColumns a b) = remove_range Columns a b
+after (step.RemoveNamed name) = remove_named (string_bytes name)
 after (step.Both' _ first _ second) = λ s. after second (after first s)
 
 -- the state after steps, in order
