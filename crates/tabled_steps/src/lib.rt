@@ -1,6 +1,7 @@
 //! Selectors and steps as data, and lists of steps that run on any store.
 #![tactic(auto)]
 
+pub mod laws;
 mod select;
 mod step;
 mod steps;

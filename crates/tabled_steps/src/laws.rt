@@ -1,0 +1,43 @@
+//! Laws of steps. Each is the contract of a function that does nothing.
+
+ghost use Rattle.std.specs.Prelude.{List, ◌≡◌};
+ghost use Rattle.tabled_grid.specs.Grid.{Grid};
+ghost use Rattle.tabled_grid.specs.Spans.{SpanMap};
+ghost use Rattle.tabled_options.specs.Does.{Each, OptionKeeps};
+ghost use Rattle.tabled_steps.specs.Fitting.{KeepsFitting};
+ghost use Rattle.tabled_steps.specs.States.{after, after_all, state_of};
+ghost use Rattle.tabled_steps.specs.Steps.{Does};
+ghost use Rattle.tabled_steps.specs.declared.step.Step.{Step};
+
+use crate::step::Step;
+use tabled_grid::config::SpannedConfig;
+use tabled_grid::records::{
+    CellText, ExactRecords, GridStore, PeekableRecords, Records, RecordsMut, Resizable,
+};
+use tabled_options::{MergedCellsFit, Property, TableOption};
+
+/// What a step does, and what steps do one after another, is what their formulas make of texts and merged
+/// cells.
+pub fn steps_do_what_their_formulas_say<R: GridStore>()
+where
+    R::Cell: CellText,
+    ensures one { (step : Step) (g : Grid R.Cell) (c : SpanMap) (h : Grid R.Cell) (d : SpanMap) → Does R.Cell.text_of step g c h d → state_of R.Cell.text_of h d ≡ after step (state_of R.Cell.text_of g c) }
+    ensures all { (steps : List Step) (g : Grid R.Cell) (c : SpanMap) (h : Grid R.Cell) (d : SpanMap) → Each (Does R.Cell.text_of) steps g c h d → state_of R.Cell.text_of h d ≡ after_all steps (state_of R.Cell.text_of g c) }
+{}
+
+/// Two stores, of whatever kind, with equal texts and merged cells have equal ones after the same steps.
+pub fn stores_end_alike<A: GridStore, B: GridStore>()
+where
+    A::Cell: CellText,
+    B::Cell: CellText,
+    ensures { (steps : List Step) (g : Grid A.Cell) (c : SpanMap) (h : Grid A.Cell) (d : SpanMap) (k : Grid B.Cell) (m : SpanMap) (l : Grid B.Cell) (n : SpanMap) → Each (Does A.Cell.text_of) steps g c h d → Each (Does B.Cell.text_of) steps k m l n → state_of A.Cell.text_of g c ≡ state_of B.Cell.text_of k m → state_of A.Cell.text_of h d ≡ state_of B.Cell.text_of l n }
+{}
+
+/// Steps that write texts, span at least one cell, put in panels or merge equal neighbours keep merged
+/// cells inside the table and apart, also where they are refused.
+pub fn steps_keep_merged_cells_fitting<R, D>(_step: &Step)
+where
+    R: Records + ExactRecords + PeekableRecords + RecordsMut<String> + Resizable,
+    R::Cell: CellText,
+    ensures { KeepsFitting _step.now → OptionKeeps ⟦<MergedCellsFit as Property<R::Cell, SpannedConfig>>⟧.holds (⟦<Step as TableOption<R, SpannedConfig, D>>⟧.does _step.now) (⟦<Step as TableOption<R, SpannedConfig, D>>⟧.leaves _step.now) }
+{}
