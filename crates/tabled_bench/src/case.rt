@@ -73,6 +73,7 @@ impl Case {
         let merged = match merged {
             "flatspans" => Merged::Flat,
             "tallspans" => Merged::Tall,
+            "staggeredspans" => Merged::Staggered,
             "coveredspans" => Merged::Covered,
             "tenthspans" => Merged::Tenths,
             _ => return None,

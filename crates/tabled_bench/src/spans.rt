@@ -3,6 +3,9 @@
 use std::alloc::{AllocError, Global};
 use tabled_grid::config::{CoverMap, Position, SpannedConfig};
 
+/// The height of staggered rectangles, and the number of rows that they begin in.
+const HEIGHT: usize = 100;
+
 /// How cells are merged.
 #[derive(Clone, Copy)]
 pub(crate) enum Merged {
@@ -10,6 +13,9 @@ pub(crate) enum Merged {
     Flat,
     /// `size` rectangles of 2 x 1 side by side in one row.
     Tall,
+    /// `size` rectangles of 100 x 1 side by side, each a row below the last one, and every hundredth in
+    /// the first row again.
+    Staggered,
     /// `size` rectangles of 1 x 2 below one that covers all.
     Covered,
     /// A rectangle of 1 x 2 at each tenth place of `size x size`.
@@ -38,7 +44,7 @@ pub(crate) fn run(
     let first = Position::new(0, 0);
     match call {
         Call::Nothing => {}
-        Call::Fits => return Ok(usize::from(spans.fits(2, usize::MAX))),
+        Call::Fits => return Ok(usize::from(spans.fits(usize::MAX, usize::MAX))),
         Call::DropHidden => spans.drop_hidden(),
         Call::Cover => {
             let cover = CoverMap::new(alloc, &spans, size, size)?;
@@ -59,6 +65,13 @@ fn make(alloc: Global, size: usize, merged: Merged) -> Result<SpannedConfig, All
         Merged::Tall => {
             for j in 0..size {
                 spans.set_row_span(alloc, Position::new(0, j), 2)?;
+            }
+        }
+        Merged::Staggered => {
+            for i in 0..HEIGHT {
+                for j in (i..size).step_by(HEIGHT) {
+                    spans.set_row_span(alloc, Position::new(i, j), HEIGHT)?;
+                }
             }
         }
         Merged::Covered => {

@@ -53,7 +53,7 @@ module _ {A : Type 0} (is_blank : A → Type 0) where
       )
 
   -- rows that blanks were added to are as many, and so much longer
-  each_tall : (k : ℕ) (rows cur : List (List A)) → AddsEach k rows cur → length cur ≡ length rows
+  pub each_tall : (k : ℕ) (rows cur : List (List A)) → AddsEach k rows cur → length cur ≡ length rows
   each_tall k [] [] a = refl
   each_tall k [] (r ∷ cur) a = absurd a
   each_tall k (row ∷ rows) [] a = absurd a

@@ -39,12 +39,12 @@ module _ {A : Type 0} (is_blank : A → Type 0) where
       cut ∙ ap (first_along Rows old.rows) a.is
       ∙ ap₂ (λ columns cells. grid old.rows columns cells) (either_way (eqb old.rows 0) old.columns (λ is. none (eqb-true old.rows 0 is))) (take_at old.cells a.added old.rows even.tall)
 
+  pub wide_blanks : (c : ℕ) (rows : List (List A)) → AllByRecursion (AreBlanks is_blank c) rows → AllByRecursion (λ (row : List A). length row ≡ c) rows
+  wide_blanks c [] h = tt
+  wide_blanks c (row ∷ rows) h = (h.0.many, wide_blanks c rows h.1)
+
   pub IsEven-adds_rows : (k : ℕ) (old new : Grid A) → AddsRows is_blank k old new → IsEven old → IsEven new
   IsEven-adds_rows k old new a even = rw a.is (record {
     tall = length-append old.cells a.added ∙ ap₂ (λ m n. m + n) even.tall a.many_are;
-    wide = all-append (λ (row : List A). length row ≡ old.columns) old.cells a.added even.wide (each_long old.columns a.added a.blanks);
+    wide = all-append (λ (row : List A). length row ≡ old.columns) old.cells a.added even.wide (wide_blanks old.columns a.added a.blanks);
   })
-    where
-      each_long : (c : ℕ) (rows : List (List A)) → AllByRecursion (AreBlanks is_blank c) rows → AllByRecursion (λ (row : List A). length row ≡ c) rows
-      each_long c [] h = tt
-      each_long c (row ∷ rows) h = (h.0.many, each_long c rows h.1)

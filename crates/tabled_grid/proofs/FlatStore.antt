@@ -1,9 +1,9 @@
 -- What one list of cells shows of its grid, cell by cell.
-use Rattle.std.proofs.Common.{◌≡◌, ℕ, ◌+◌, ◌*◌, ◌-◌, ◌<◌, ◌≤◌, ◌≢◌, List, [], ◌∷◌, ◌++◌, Some, ◌⊎◌, inl, inr, refl, sym, ap, ap₂, ◌∙◌, false, eqb, min, max, length, map, take, drop, set, arith}
+use Rattle.std.proofs.Common.{◌≡◌, ℕ, zero, suc, ◌+◌, ◌*◌, ◌-◌, ◌<◌, ◌≤◌, ◌≢◌, List, [], ◌∷◌, ◌++◌, Some, ◌⊎◌, inl, inr, refl, sym, ap, ap₂, ◌∙◌, false, eqb, min, max, length, map, take, drop, set, arith}
 use Rattle.std.specs.Prelude.{slice_get}
-use Rattle.std.specs.List.{remove, swap}
+use Rattle.std.specs.List.{AllByRecursion, remove, swap}
 use Rattle.std.proofs.lemmas.Bool.{ne_eqb, cases_lt}
-use Rattle.std.proofs.lemmas.List.{drop_at, take_at}
+use Rattle.std.proofs.lemmas.List.{drop_at, length-drop, length-take-le, take_at}
 use Rattle.std.proofs.lemmas.Nat.{mul-add-lt}
 use Rattle.std.proofs.lemmas.Option.{slice_get-get_or}
 use Rattle.tabled_grid.specs.declared.config.position.Position.{Position}
@@ -14,19 +14,27 @@ use Rattle.tabled_grid.proofs.FirstLines.{IsEven-first}
 use Rattle.tabled_grid.proofs.Grids.{IsEven-with_cell}
 use Rattle.tabled_grid.proofs.Resized.{IsEven-with_cells_swapped, IsEven-with_column, IsEven-with_columns_swapped, IsEven-with_row, IsEven-with_rows_swapped, IsEven-without_column, IsEven-without_row}
 use Rattle.tabled_grid.specs.Along.{first_along}
-use Rattle.tabled_grid.specs.declared.records.axis.Axis.TheVariants.{Columns}
+use Rattle.tabled_grid.specs.declared.records.axis.Axis.TheVariants.{Columns, Rows}
 use Rattle.tabled_grid.specs.Flat.{IsFull, chunks, flat_grid, joined}
-use Rattle.tabled_grid.specs.Bulk.{AddsColumns}
+use Rattle.tabled_grid.specs.Bulk.{AddsColumns, AddsRows}
 use Rattle.tabled_grid.proofs.AddedColumns.{IsEven-adds_columns}
+use Rattle.tabled_grid.proofs.AddedRows.{IsEven-adds_rows}
+use Rattle.tabled_grid.proofs.Lists.{all-drop, all-take}
 use Rattle.tabled_grid.specs.Moves.{AddsBlanks, InsertsBlanks, PutsBlanks, WidensRows, with_runs_swapped}
-use Rattle.tabled_grid.proofs.Flat.{full_of, is_even, joined-chunks, view_of}
+use Rattle.tabled_grid.proofs.Flat.{full_of, is_even, joined-chunks, length-chunks, view_of}
 use Rattle.tabled_grid.proofs.FlatCells.{cell-joined, written-joined, swapped-joined}
-use Rattle.tabled_grid.proofs.FlatRows.{joined-insert, joined-remove, joined-swap, row-joined, swap-turned}
+use Rattle.tabled_grid.proofs.FlatRows.{joined-append, joined-insert, joined-remove, joined-swap, row-joined, swap-turned, take-joined}
 
 -- without rows there is no first one
 pub no_width : {A : Type 0} (rows : List (List A)) → length rows ≡ 0 → width_of rows ≡ 0
 no_width [] h = refl
 no_width (row ∷ rows) h = absurd (omega (arith, h))
+
+-- rows cut out of blanks
+blank_chunks : {A : Type 0} (is_blank : A → Type 0) (r c : ℕ) (xs : List A) → length xs ≡ r * c → AllByRecursion is_blank xs → AllByRecursion (AreBlanks is_blank c) (chunks r c xs)
+blank_chunks is_blank zero c xs h b = tt
+blank_chunks is_blank (suc r) c xs h b =
+    (record { blank = all-take is_blank c xs b; many = length-take-le c xs (omega (arith, h)) }, blank_chunks is_blank r c (drop c xs) (omega (arith, h, length-drop c xs)) (all-drop is_blank c xs b))
 
 module _ {A : Type 0} (r c : ℕ) (xs : List A) (h : IsFull r c xs) where
   pub cells_are : xs ≡ joined (flat_grid r c xs).cells
@@ -98,6 +106,37 @@ module _ {A : Type 0} (r c : ℕ) (xs : List A) (h : IsFull r c xs) where
           let before : k < i = omega (arith, after, apart) in
           rows_in_order k i new before i_in (is ∙ ap₂ (λ m n. with_runs_swapped xs (m * c) (n * c) c) low high)
           ∙ rw (swap-turned (flat_grid r c xs).cells i k apart) refl
+
+  pub rows_cut : (n : ℕ) (new : List A) → n ≤ r → n ≢ 0 → new ≡ take (n * c) xs → flat_grid n c new ≡ first_along Rows n (flat_grid r c xs)
+  rows_cut n new within some is =
+      let several : eqb n 0 ≡ false = ne_eqb n 0 some in
+      view_of (first_along Rows n (flat_grid r c xs)) n c new (IsEven-first Rows n _ within (is_even r c xs h)) refl (rw several refl)
+      (is ∙ ap (take (n * c)) cells_are ∙ take-joined c n (flat_grid r c xs).cells (is_even r c xs h).wide)
+
+  -- so many rows of blanks behind the cells
+  module _ (is_blank : A → Type 0) (many rows count : ℕ) (new : List A) (tall : rows ≡ r + many) (e : count ≡ c * many) (put : AddsBlanks is_blank xs new count) where
+    full_blanks : length put.cells ≡ many * c
+    full_blanks = put.blanks.many ∙ omega (arith, e)
+
+    rows_adds : AddsRows is_blank many (flat_grid r c xs) (record { rows = rows; columns = c; cells = (flat_grid r c xs).cells ++ chunks many c put.cells })
+    rows_adds = record {
+      added = chunks many c put.cells;
+      blanks = blank_chunks is_blank many c put.cells full_blanks put.blanks.blank;
+      many_are = length-chunks many c put.cells;
+      is = rw tall refl;
+    }
+
+    rows_even : IsEven (record { rows = rows; columns = c; cells = (flat_grid r c xs).cells ++ chunks many c put.cells })
+    rows_even = IsEven-adds_rows is_blank many (flat_grid r c xs) _ rows_adds (is_even r c xs h)
+
+    rows_put_cells : new ≡ joined ((flat_grid r c xs).cells ++ chunks many c put.cells)
+    rows_put_cells = put.is ∙ ap₂ (λ us vs. us ++ vs) cells_are (sym (joined-chunks many c put.cells full_blanks)) ∙ sym (joined-append (flat_grid r c xs).cells (chunks many c put.cells))
+
+    pub rows_put : AddsRows is_blank many (flat_grid r c xs) (flat_grid rows c new)
+    rows_put = rw (view_of (record { rows = rows; columns = c; cells = (flat_grid r c xs).cells ++ chunks many c put.cells }) rows c new rows_even refl refl rows_put_cells) rows_adds
+
+    pub rows_put_full : IsFull rows c new
+    rows_put_full = full_of (record { rows = rows; columns = c; cells = (flat_grid r c xs).cells ++ chunks many c put.cells }) rows c new rows_even refl refl rows_put_cells (λ (z : rows ≡ 0). h.rowless (omega (arith, z, tall)))
 
   -- columns
   pub columns_swapped : (j k : ℕ) (new : List A) → new ≡ joined (map (λ (row : List A). swap row j k) (chunks r c xs)) → flat_grid r c new ≡ with_columns_swapped (flat_grid r c xs) j k

@@ -25,6 +25,7 @@ pub mod Mapped
 pub mod MarkedAnchors
 pub mod MergedAnchors
 pub mod Merging
+pub mod NearAnchors
 pub mod NestedRows
 pub mod OwnStore
 pub mod PassedAnchors

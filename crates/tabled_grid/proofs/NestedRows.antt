@@ -1,16 +1,24 @@
 -- Rows that vectors hold, as a grid of their own.
 use Rattle.std.specs.Global.{Vec}
-use Rattle.std.proofs.Common.{◌≡◌, ℕ, ◌<◌, ◌≤◌, List, [], ◌∷◌, Some, refl, sym, ap, ◌∙◌, subst, length, get_or, set, arith}
+use Rattle.std.proofs.Common.{◌≡◌, ◌≢◌, false, eqb, ℕ, suc, ◌+◌, ◌<◌, ◌≤◌, List, [], ◌∷◌, ◌++◌, Some, refl, sym, ap, ◌∙◌, subst, length, map, take, get_or, set, arith}
 use Rattle.std.specs.Prelude.{slice_get, vec_len}
 use Rattle.std.specs.List.{All, AllByRecursion, AllZip}
 use Rattle.std.specs.Vec.{with_item}
-use Rattle.std.proofs.lemmas.List.{map-set, length-map, get_or-map as get_or-map_within}
+use Rattle.std.proofs.lemmas.Bool.{ne_eqb}
+use Rattle.std.proofs.lemmas.List.{map-set, length-append, length-map, get_or-map as get_or-map_within}
 use Rattle.std.proofs.lemmas.List.Elements.{All-from_recursion}
 use Rattle.std.proofs.lemmas.Option.{slice_get_read}
 use Rattle.std.proofs.Math.ListN.{get_or-map}
 use Rattle.tabled_grid.specs.declared.config.position.Position.{Position}
 use Rattle.tabled_grid.specs.Grid.{Grid, IsEmptyWithoutRows, IsEven, IsInside, cell_at, grid_of, map_items, width_of, with_cell}
-use Rattle.tabled_grid.specs.Resized.{InsertsBlank, InsertsColumn}
+use Rattle.tabled_grid.specs.Along.{first_along}
+use Rattle.tabled_grid.specs.Bulk.{AddsColumns, AddsRows}
+use Rattle.tabled_grid.specs.Resized.{AreBlanks, InsertsBlank, InsertsColumn}
+use Rattle.tabled_grid.specs.declared.records.axis.Axis.TheVariants.{Columns, Rows}
+use Rattle.tabled_grid.proofs.Across.{Facing}
+use Rattle.tabled_grid.proofs.AddedColumns.{AddsEach, each_tall}
+use Rattle.tabled_grid.proofs.AddedRows.{IsEven-adds_rows, wide_blanks}
+use Rattle.tabled_grid.proofs.FirstLines.{IsEven-first, rowless-first}
 use Rattle.tabled_grid.proofs.Blanks.{blank_column}
 use Rattle.tabled_grid.proofs.Grids.{IsEven-with_cell}
 use Rattle.tabled_grid.proofs.Resized.{IsEven-with_column, rowless-with_column}
@@ -49,6 +57,56 @@ module _ {A : Type 0} where
         column = c.column;
         blanks = c.blanks;
         is = (have_grid _ new (IsEven-with_column (grid_of old) j c.column h c.blanks.many even) (rowless-with_column (grid_of old) j c.column (rowless old)) c.is).is;
+      }
+
+  -- the first rows, and the first columns
+  pub rows_cut : (n : ℕ) (old new : List (List A)) → n ≤ length old → IsEven (grid_of old) → new ≡ take n old → HaveGrid new (first_along Rows n (grid_of old))
+  rows_cut n old new h even e = have_grid _ new (IsEven-first Rows n (grid_of old) h even) (rowless-first Rows n (grid_of old) h (rowless old)) e
+
+  pub columns_cut : (n : ℕ) (old new : List (List A)) → n ≤ width_of old → IsEven (grid_of old) → new ≡ map (λ (row : List A). take n row) old → HaveGrid new (first_along Columns n (grid_of old))
+  columns_cut n old new h even e = have_grid _ new (IsEven-first Columns n (grid_of old) h even) (rowless-first Columns n (grid_of old) h (rowless old)) e
+
+  module _ (is_blank : A → Type 0) (many : ℕ) where
+    -- so many blanks behind each row
+    pub columns_added : (old new : List (List A)) → AddsEach is_blank many old new → AddsColumns is_blank many (grid_of old) (grid_of new)
+    columns_added [] [] a = record { rows = refl; columns = refl; each = tt }
+    columns_added [] (wide ∷ new) a = absurd a
+    columns_added (row ∷ old) [] a = absurd a
+    columns_added (row ∷ old) (wide ∷ new) a =
+        let some : eqb (suc (length old)) 0 ≡ false = ne_eqb _ _ (λ e. omega arith) in
+        record {
+          rows = each_tall is_blank many (row ∷ old) (wide ∷ new) a;
+          columns = rw some (ap length a.0.is ∙ length-append row a.0.cells ∙ ap (λ (n : ℕ). length row + n) a.0.blanks.many);
+          each = a;
+        }
+
+    -- so many rows of blanks below the last one
+    module _ (old added new : List (List A)) (even : IsEven (grid_of old)) (tall : length added ≡ many) (blanks : AllByRecursion (AreBlanks is_blank (width_of old)) added) (is : new ≡ old ++ added) where
+      adds : AddsRows is_blank many (grid_of old) (record { rows = length old + many; columns = width_of old; cells = old ++ added })
+      adds = record { added = added; blanks = blanks; many_are = tall; is = refl }
+
+      have_added : HaveGrid new (record { rows = length old + many; columns = width_of old; cells = old ++ added })
+      have_added = have_grid _ new (IsEven-adds_rows is_blank many (grid_of old) _ adds even) (λ e. rowless old (omega (arith, e))) is
+
+      pub rows_added : AddsRows is_blank many (grid_of old) (grid_of new)
+      rows_added = rw have_added.is adds
+
+      pub rows_added_even : IsEven (grid_of new)
+      rows_added_even = have_added.well
+
+  -- rows of blanks stand for a grid of this shape, so the cells of another can be moved across
+  pub facing_blanks : (is_blank : A → Type 0) (old turned : List (List A)) (columns : ℕ) → columns ≢ 0 → columns ≡ width_of old → IsEven (grid_of old) → length turned ≡ columns → AllByRecursion (AreBlanks is_blank (length old)) turned → Facing (grid_of old) (grid_of old) (grid_of turned)
+  facing_blanks is_blank old turned columns some e even tall blanks =
+      let wide = wide_blanks is_blank (length old) turned blanks in
+      let made : HaveGrid turned (record { rows = columns; columns = length old; cells = turned }) = have_grid _ turned (record { tall = tall; wide = wide }) (λ z. absurd (some z)) refl in
+      record {
+        even = even;
+        now_even = even;
+        turned_even = made.well;
+        rows = refl;
+        columns = refl;
+        turned_rows = tall ∙ e;
+        turned_columns = ap (λ (h : Grid A). h.columns) made.is;
       }
 
 -- the row at p

@@ -222,7 +222,7 @@ apart_past a es first k d low here up past =
     ap (list_all (λ (f : Anchor). not (meets a f))) rest ∙ none_meets a e (drop (k + 1) es) up_here (past-true a e.0 past)
 
 -- the anchors after one, as a slice of those that are gone through
-all_after : (es : List Anchor) (k : ℕ) → take (length es - (k + 1)) (drop (k + 1) es) ≡ drop (k + 1) es
+pub all_after : (es : List Anchor) (k : ℕ) → take (length es - (k + 1)) (drop (k + 1) es) ≡ drop (k + 1) es
 all_after es k = take_all (length es - (k + 1)) (drop (k + 1) es) (omega (arith, length-drop (k + 1) es))
 
 pub apart_sorted : (a : Anchor) (es : List Anchor) (first k : ℕ) (d : Anchor) → first ≤ k → k < length es → T (is_sorted position_cmp (a ∷ drop first es)) → T (is_sorted position_cmp (get_or es k d ∷ take (length es - (k + 1)) (drop (k + 1) es)))

@@ -1,5 +1,6 @@
 pub mod Along
 pub mod Anchors
+pub mod Apart
 pub mod Bounds
 pub mod Bulk
 pub mod Covers

@@ -2,9 +2,11 @@
 
 ghost use Rattle.std.specs.Prelude.{false, true, ◌≡◌, ◌+◌, ◌≤◌, ◌∷◌, ◌++◌, ℕ, IfOk, OnOk, T, drop, length, map, nat_lt, not, take};
 ghost use Rattle.std.specs.FinMap.{is_sorted};
-ghost use Rattle.std.specs.List.{filter, list_all, list_any};
+ghost use Rattle.std.specs.List.{AllWithin, filter, list_all, list_any};
+ghost use Rattle.std.specs.declared.cmp.Ordering.TheVariants.{Less};
 ghost use Rattle.std.specs.List.Sorted.{IsBinarySearchResult, IsSearchInRange};
 ghost use Rattle.tabled_grid.specs.Anchors.{dropped, is_hidden_in, is_past, lie_well, lies_inside, marked, meets, unless_held, anchor_of, with_sizes_in, without_first_at};
+ghost use Rattle.tabled_grid.specs.Apart.{AreApart};
 ghost use Rattle.tabled_grid.specs.Rectangles.{heights_in, in_rect, reaches_across, reaches_down, widths_in};
 ghost use Rattle.tabled_grid.specs.Entity.{same_place};
 ghost use Rattle.tabled_grid.specs.Spans.{AreAnchors, position_cmp};
@@ -201,10 +203,14 @@ fn begins_before(index: usize, first: usize, many: usize) -> bool
     index < first || index - first < many
 }
 
-/// Says whether no rectangle after an anchor's meets it.
+/// Says whether no rectangle after an anchor's meets it, where those lie apart from one another.
+///
+/// In each row that the rectangle reaches, few anchors are tested: the first one, the nearest on the
+/// left, and the one behind it. A rectangle further left meets the nearest, or ends before it.
 fn is_apart(anchors: &[Anchor], first: usize, from: Anchor) -> bool
     requires within { first ≤ length anchors.now }
-    requires sorted { T (is_sorted position_cmp (from ∷ drop first anchors.now)) }
+    requires anchors { AreAnchors (from ∷ drop first anchors.now) }
+    requires apart { AreApart (drop first anchors.now) }
     ensures { result ≡ list_all (λ (e : Position × (ℕ × ℕ)). not (meets from e)) (drop first anchors.now) }
 {
     let mut k = first;
@@ -221,17 +227,31 @@ fn is_apart(anchors: &[Anchor], first: usize, from: Anchor) -> bool
     true
 }
 
-/// How many of the anchors after a place stand in its row, where the place is right of a rectangle.
+/// How many of the anchors after a place need no test: those in its row, where it is right of a
+/// rectangle, and those left of the rectangle but the nearest, where it is left of it.
 fn beyond(anchors: &[Anchor], from: Anchor, pos: Position) -> usize
-    requires { T (is_sorted position_cmp ((pos, from.1) ∷ anchors.now)) }
+    requires anchors { AreAnchors ((pos, from.1) ∷ anchors.now) }
+    requires apart { AreApart anchors.now }
     ensures within { result ≤ length anchors.now }
     ensures apart { list_all (λ (e : Position × (ℕ × ℕ)). not (meets from e)) (take result anchors.now) ≡ true }
 {
     let (first, (_, width)) = from;
-    if pos.col < first.col || pos.col - first.col < width {
+    if pos.col < first.col {
+        return count_before(anchors, Position::new(pos.row, first.col)).saturating_sub(1);
+    }
+    if pos.col - first.col < width {
         return 0;
     }
-    match search(anchors, Position::new(pos.row.saturating_add(1), 0)) {
+    count_before(anchors, Position::new(pos.row.saturating_add(1), 0))
+}
+
+/// How many anchors stand before a place.
+fn count_before(anchors: &[Anchor], pos: Position) -> usize
+    requires { T (is_sorted position_cmp anchors.now) }
+    ensures within { result ≤ length anchors.now }
+    ensures before { AllWithin (λ (e : Position × (ℕ × ℕ)). position_cmp e.0 pos ≡ Less) anchors.now 0 result }
+{
+    match search(anchors, pos) {
         Ok(i) | Err(i) => i,
     }
 }
@@ -249,9 +269,9 @@ pub(super) fn fit(anchors: &[Anchor], rows: usize, columns: usize) -> bool
     requires { AreAnchors anchors.now }
     ensures { result ≡ lie_well rows columns anchors.now }
 {
-    for i in 0..anchors.len() {
-        let anchor = anchors[i];
-        if !is_inside(anchor, rows, columns) || !is_apart(anchors, i + 1, anchor) {
+    for first in (0..anchors.len()).rev() {
+        let anchor = anchors[first];
+        if !is_inside(anchor, rows, columns) || !is_apart(anchors, first + 1, anchor) {
             return false;
         }
     }

@@ -1,9 +1,11 @@
 //! Work on rows in vectors of their own, row by row.
 
-ghost use Rattle.std.specs.Prelude.{◌≡◌, ◌<◌, ◌≤◌, List, IfOk, OnErr, OnOk, length, map, vec_capacity, vec_len};
-ghost use Rattle.std.specs.List.{All, AllZip, remove, swap};
+ghost use Rattle.std.specs.Prelude.{◌≡◌, ◌+◌, ◌<◌, ◌≤◌, List, IfOk, OnErr, OnOk, length, map, take, vec_capacity, vec_len};
+ghost use Rattle.std.specs.List.{All, AllByRecursion, AllZip, remove, swap};
 ghost use Rattle.std.specs.Global.{Vec};
-ghost use Rattle.tabled_grid.specs.Grid.{grid_of, map_items, width_of};
+ghost use Rattle.tabled_grid.specs.Bulk.{Exchanges};
+ghost use Rattle.tabled_grid.specs.Grid.{IsEven, IsInside, grid_of, map_items, width_of};
+ghost use Rattle.tabled_grid.specs.Moves.{AddsBlanks};
 ghost use Rattle.tabled_grid.specs.Resized.{AreBlanks, InsertsBlank, with_cells_swapped};
 
 use crate::config::Position;
@@ -32,14 +34,65 @@ pub(crate) fn blanks<T: Blank>(alloc: Global, count: usize) -> Result<Vec<T>, Al
     Ok(cells)
 }
 
+/// So many rows of so many blanks.
+pub(crate) fn blank_rows<T: Blank>(
+    alloc: Global,
+    rows: usize,
+    columns: usize,
+) -> Result<Vec<Vec<T>>, AllocError>
+    ensures many { IfOk result (λ made. length made.items ≡ rows) }
+    ensures blanks { IfOk result (λ made. AllByRecursion (AreBlanks T.is_blank columns) (map_items made.items)) }
+{
+    let mut made = Vec::with_capacity(alloc, rows)?;
+    for _ in 0..rows {
+        made.push(blanks(alloc, columns)?)?;
+    }
+    Ok(made)
+}
+
+/// Puts so many blanks last, for which there is room.
+pub(crate) fn fill<T: Blank>(alloc: Global, cells: &mut Vec<T>, count: usize)
+    requires { vec_len cells.old + count ≤ vec_capacity cells.old }
+    ensures { AddsBlanks T.is_blank cells.old.items cells.new.items count }
+{
+    for _ in 0..count {
+        cells.push_reserved(T::blank(alloc));
+    }
+}
+
+/// Makes room for so many more cells in each row, which changes no cell.
+fn make_room<T>(rows: &mut [Vec<T>], many: usize) -> Result<(), AllocError>
+    ensures cells { map_items rows.new ≡ map_items rows.old }
+    ensures room { OnOk result (All (λ (row : Vec T). vec_len row + many ≤ vec_capacity row) rows.new) }
+{
+    for row in rows.iter_mut() {
+        row.reserve(many)?;
+    }
+    Ok(())
+}
+
+/// Puts so many blanks behind each row. Refused, it leaves the cells as they were.
+pub(crate) fn widen_each<T: Blank>(
+    alloc: Global,
+    rows: &mut [Vec<T>],
+    many: usize,
+) -> Result<(), AllocError>
+    ensures ok { OnOk result (AllZip (λ (row wide : List T). AddsBlanks T.is_blank row wide many) (map_items rows.old) (map_items rows.new)) }
+    ensures err { OnErr result (map_items rows.new ≡ map_items rows.old) }
+{
+    make_room(rows, many)?;
+    for row in rows.iter_mut() {
+        fill(alloc, row, many);
+    }
+    Ok(())
+}
+
 /// Makes room for one more cell in each row, which changes no cell.
 pub fn reserve_each<T>(rows: &mut [Vec<T>]) -> Result<(), AllocError>
     ensures cells { map_items rows.new ≡ map_items rows.old }
     ensures room { OnOk result (All (λ (row : Vec T). vec_len row < vec_capacity row) rows.new) }
 {
-    for row in rows.iter_mut() {
-        row.reserve(1)?;
-    }
+    make_room(rows, 1)?;
     Ok(())
 }
 
@@ -70,6 +123,15 @@ pub fn remove_each<T: Drop>(rows: &mut [Vec<T>], j: usize)
     }
 }
 
+/// Keeps the first `count` cells of each row alone.
+pub(crate) fn truncate_each<T: Drop>(rows: &mut [Vec<T>], count: usize)
+    ensures { map_items rows.new ≡ map (λ (row : List T). take count row) (map_items rows.old) }
+{
+    for row in rows.iter_mut() {
+        row.truncate(count);
+    }
+}
+
 /// Swaps the cells at `j` and `k` in each row.
 pub(crate) fn swap_each<T>(rows: &mut [Vec<T>], j: usize, k: usize)
     requires j_within { All (λ (row : Vec T). j < vec_len row) rows.old }
@@ -97,4 +159,22 @@ pub(crate) fn swap_cells<T: Drop>(rows: &mut [Vec<T>], p: Position, q: Position)
     let mut row = mem::replace(&mut rows[p.row], none);
     mem::swap(&mut row[p.col], &mut rows[q.row][q.col]);
     rows[p.row] = row;
+}
+
+/// Exchanges a cell for one of other rows.
+pub(crate) fn exchange<T>(
+    rows: &mut Vec<Vec<T>>,
+    pos: Position,
+    other: &mut Vec<Vec<T>>,
+    at: Position,
+)
+    requires even { IsEven (grid_of (map_items rows.old.items)) }
+    requires here { IsInside (grid_of (map_items rows.old.items)) pos }
+    requires other_even { IsEven (grid_of (map_items other.old.items)) }
+    requires there { IsInside (grid_of (map_items other.old.items)) at }
+    ensures { Exchanges pos at (grid_of (map_items rows.old.items)) (grid_of (map_items rows.new.items)) (grid_of (map_items other.old.items)) (grid_of (map_items other.new.items)) }
+{
+    let row = &mut rows[pos.row];
+    let column = &mut other[at.row];
+    mem::swap(&mut row[pos.col], &mut column[at.col]);
 }

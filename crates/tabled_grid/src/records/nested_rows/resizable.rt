@@ -1,6 +1,9 @@
 //! Rows in vectors of their own, that grow and shrink.
 
-use super::moves::{blanks, insert_blanks, remove_each, swap_cells, swap_each};
+use super::moves::{
+    blank_rows, blanks, exchange, insert_blanks, remove_each, swap_cells, swap_each, truncate_each,
+    widen_each,
+};
 use crate::config::Position;
 use crate::records::blank::Blank;
 use crate::records::exact_records::ExactRecords;
@@ -46,5 +49,41 @@ impl<T: Blank> Resizable for Vec<Vec<T>> {
 
     fn swap_column(&mut self, j: usize, k: usize) {
         swap_each(self, j, k);
+    }
+
+    fn truncate_rows(&mut self, count: usize) {
+        self.truncate(count);
+    }
+
+    fn truncate_columns(&mut self, count: usize) {
+        truncate_each(self, count);
+    }
+
+    fn push_rows(&mut self, alloc: Global, many: usize) -> Result<(), AllocError> {
+        let mut added = blank_rows(alloc, many, self.count_columns())?;
+        self.append(&mut added)?;
+        Ok(())
+    }
+
+    fn push_columns(&mut self, alloc: Global, many: usize) -> Result<(), AllocError> {
+        widen_each(alloc, self, many)?;
+        Ok(())
+    }
+
+    fn transpose(&mut self, alloc: Global) -> Result<(), AllocError> {
+        let (rows, columns) = (self.count_rows(), self.count_columns());
+        if columns == 0 {
+            self.clear();
+            return Ok(());
+        }
+        let mut turned = blank_rows(alloc, columns, rows)?;
+        for i in 0..rows {
+            for j in 0..columns {
+                let pos = Position { row: i, col: j };
+                exchange(self, pos, &mut turned, Position { row: j, col: i });
+            }
+        }
+        *self = turned;
+        Ok(())
     }
 }

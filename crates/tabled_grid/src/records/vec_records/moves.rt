@@ -9,6 +9,7 @@ ghost use Rattle.tabled_grid.specs.Flat.{chunks, joined};
 ghost use Rattle.tabled_grid.specs.Moves.{AddsBlanks, InsertsBlanks, PutsBlanks, Slid, SlidBack, WidensRows, with_runs_swapped};
 
 use crate::records::blank::Blank;
+use crate::records::nested_rows::moves::fill;
 use std::alloc::{AllocError, Global};
 use std::vec::IntoIter;
 
@@ -40,9 +41,7 @@ pub(super) fn push_blanks<T: Blank>(
     ensures err { OnErr result (cells.new.items ≡ cells.old.items) }
 {
     cells.reserve(count)?;
-    for _ in 0..count {
-        cells.push_reserved(T::blank(alloc));
-    }
+    fill(alloc, cells, count);
     Ok(())
 }
 

@@ -73,6 +73,26 @@ impl<T: Blank> Resizable for VecRecords<T> {
         swap_each(&mut self.cells, self.rows, self.columns, j, k);
     }
 
+    fn truncate_rows(&mut self, count: usize) {
+        self.cells.truncate(count * self.columns);
+        self.rows = count;
+        if count == 0 {
+            self.columns = 0;
+        }
+    }
+
+    fn push_rows(&mut self, alloc: Global, many: usize) -> Result<(), AllocError> {
+        let Some(rows) = self.rows.checked_add(many) else {
+            return Err(AllocError);
+        };
+        let Some(count) = self.columns.checked_mul(many) else {
+            return Err(AllocError);
+        };
+        push_blanks(alloc, &mut self.cells, count)?;
+        self.rows = rows;
+        Ok(())
+    }
+
     fn push_columns(&mut self, alloc: Global, many: usize) -> Result<(), AllocError> {
         if self.rows == 0 {
             return Ok(());

@@ -1,14 +1,5 @@
-use Rattle.std.proofs.Common.{◌<◌, ◌∙◌, arith, vec_len, vec_capacity}
-use Rattle.std.specs.Global.{Vec}
-use Rattle.std.proofs.lemmas.List.Elements.{AllWithin-more_set}
-use Rattle.tabled_grid.proofs.RowByRow.{same_cells}
+use Rattle.std.proofs.Common.{arith}
 use Rattle.tabled_grid.proofs.records.nested_rows.moves.reserve_each.Goals as goal
 
-pub returns-in_err-reserve-clause-cells : goal.returns-in_err-reserve-clause-cells
-returns-in_err-reserve-clause-cells g c = same_cells _ _ c.row-item.result _ c.in_err-reserve.ensures.items ∙ c.loop-row.invariant.cells
-
-pub loop-row-preserved : goal.loop-row-preserved
-loop-row-preserved g c = record {
-  cells = same_cells _ _ c.row-item.result _ c.in_ok-reserve.ensures.items ∙ c.loop-row.invariant.cells;
-  room = AllWithin-more_set _ _ _ (omega arith) (λ (row : Vec g.row.T.Denot). vec_len row < vec_capacity row) c.loop-row.invariant.room (omega (arith, c.in_ok-reserve.ensures.ok));
-}
+pub returns-clause-room : goal.returns-clause-room
+returns-clause-room g c = λ i d within. let room = c.in_ok-make_room.ensures.room i d within in omega (arith, room)

@@ -1,6 +1,6 @@
 use Rattle.std.proofs.Common.{◌+◌, ◌≤◌, vec_capacity, vec_len}
 use Rattle.tabled_grid.specs.Moves.{AddsBlanks}
-use Rattle.tabled_grid.proofs.records.vec_records.moves.push_blanks.Given as goal
+use Rattle.tabled_grid.proofs.records.nested_rows.moves.fill.Given as goal
 
 abbrev pub invariant-loop : goal.invariant-loop
 invariant-loop g l = record {

@@ -1,0 +1,11 @@
+use Rattle.std.proofs.Common.{◌≡◌, length}
+use Rattle.std.specs.List.{AllByRecursion}
+use Rattle.tabled_grid.specs.Grid.{map_items}
+use Rattle.tabled_grid.specs.Resized.{AreBlanks}
+use Rattle.tabled_grid.proofs.records.nested_rows.moves.blank_rows.Given as goal
+
+abbrev pub invariant-loop : goal.invariant-loop
+invariant-loop g l = record {
+  many : length l.made.items ≡ l.counter;
+  blanks : AllByRecursion (AreBlanks g.T.Blank.is_blank l.columns) (map_items l.made.items);
+}

@@ -1,0 +1,12 @@
+use Rattle.std.proofs.Common.{arith}
+use Rattle.std.proofs.lemmas.Slice.Zip.{AllZip-map}
+use Rattle.tabled_grid.proofs.RowByRow.{changed_next, changed_more, changed_all}
+use Rattle.tabled_grid.proofs.records.nested_rows.moves.truncate_each.Goals as goal
+
+pub loop-row-preserved : goal.loop-row-preserved
+loop-row-preserved g c =
+    changed_more _ _ _ _ c.row-item.result _ (omega arith) c.loop-row.invariant
+    (rw (← changed_next _ _ _ c.loop-row.row-index c.row-item.result c.loop-row.invariant) c.truncate.ensures.items)
+
+pub returns : goal.returns
+returns g c = AllZip-map _ _ _ (changed_all _ _ _ _ (omega arith) c.loop-row.invariant)
