@@ -10,7 +10,7 @@ ghost use Rattle.tabled_grid.specs.Spans.{IsSizeAt, SpanMap, position_cmp, size_
 ghost use Rattle.tabled_spans.specs.Spanned.{count_of, grown, grown_each, index, stretch};
 ghost use Rattle.tabled_spans.specs.SpanSteps.{IsReach, change_at, line_of, lines_of, resized};
 
-use crate::span::along::{at_index, count_of, index};
+use crate::span::along::{at_index, count_of, index, resized, size_at};
 use std::alloc::{AllocError, Global};
 use tabled_grid::config::{CoverMap, Entity, Position, SpannedConfig};
 use tabled_grid::records::Axis;
@@ -32,32 +32,6 @@ fn lines_of(axis: Axis, rows: usize, columns: usize) -> usize
     match axis {
         Axis::Rows => columns,
         Axis::Columns => rows,
-    }
-}
-
-/// The height and the width at a place, both 1 where there is no anchor.
-fn size_at(cfg: &SpannedConfig, pos: Position) -> (usize, usize)
-    ensures value { result ≡ size_at cfg.now pos }
-    ensures height { 1 ≤ result.0 }
-    ensures width { 1 ≤ result.1 }
-{
-    let height = cfg.get_row_span(pos).unwrap_or(1);
-    let width = cfg.get_column_span(pos).unwrap_or(1);
-    (height, width)
-}
-
-/// The size with so many rows or columns.
-fn resized(axis: Axis, size: (usize, usize), many: usize) -> (usize, usize)
-    requires height { 1 ≤ size.0 }
-    requires width { 1 ≤ size.1 }
-    requires some { 1 ≤ many }
-    ensures size { result ≡ resized axis size many }
-    ensures height { 1 ≤ result.0 }
-    ensures width { 1 ≤ result.1 }
-{
-    match axis {
-        Axis::Rows => (many, size.1),
-        Axis::Columns => (size.0, many),
     }
 }
 
