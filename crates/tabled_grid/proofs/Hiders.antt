@@ -13,7 +13,7 @@ use Rattle.std.proofs.lemmas.List.Sums.{count_by_more_no, count_by_more_yes, sum
 use Rattle.std.proofs.Math.Nat.{mul-le-mul_right}
 use borrow.Author.Tests.{lt-ltb}
 use Rattle.tabled_grid.specs.Anchors.{Anchor}
-use Rattle.tabled_grid.specs.Covers.{Stepped, Steps, hiders_in, hiders_of, hides, table}
+use Rattle.tabled_grid.specs.Covers.{IsNumbered, Stepped, Steps, beyond, hiders_in, hiders_of, hides, table}
 use Rattle.tabled_grid.specs.Entity.{place}
 use Rattle.tabled_grid.specs.Rectangles.{is_hidden}
 use Rattle.tabled_grid.specs.Spans.{SpanMap, position_cmp, size_at, with_size}
@@ -180,36 +180,39 @@ one-if b t = ap number t
 none-if : (b : Bool) → b ≡ false → number b ≡ 0
 none-if b t = ap number t
 
-module _ (m : SpanMap) (a : Position) (old new : ℕ × ℕ) (rows columns : ℕ) (has : size_at m a ≡ old) (fits : rows * columns < 2 ^ 64) where
-  few_of : (n : SpanMap) (i j : ℕ) → i < rows → j < columns → hiders_of n (place i j) < 2 ^ 64
-  few_of n i j h k = hiders-fit rows columns (place i j) (entries n) (entries_sorted n) h k fits
+module _ (m : SpanMap) (a : Position) (old new : ℕ × ℕ) (first : Position) (rows columns : ℕ) (has : size_at m a ≡ old) (fits : IsNumbered first rows columns) where
+  abbrev at : ℕ → ℕ → Position
+  at i j = beyond first (place i j)
 
-  taken : Stepped (λ p. hides p (a, old)) 18446744073709551615 rows columns (hiders_of m) (hiders_in (rest m a))
+  few_of : (n : SpanMap) (i j : ℕ) → i < rows → j < columns → hiders_of n (at i j) < 2 ^ 64
+  few_of n i j h k = hiders-fit (first.row + rows) (first.col + columns) (at i j) (entries n) (entries_sorted n) (omega arith) (omega arith) fits.cells
+
+  taken : Stepped (λ p. hides (beyond first p) (a, old)) 18446744073709551615 rows columns (λ p. hiders_of m (beyond first p)) (λ p. hiders_in (rest m a) (beyond first p))
   taken = record {
-    here = λ i j h k t. omega (arith, was i j, one-if (hides (place i j) (a, old)) t, few_of m i j h k);
-    others = λ i j h k t. omega (arith, was i j, none-if (hides (place i j) (a, old)) t);
+    here = λ i j h k t. omega (arith, was i j, one-if (hides (at i j) (a, old)) t, few_of m i j h k);
+    others = λ i j h k t. omega (arith, was i j, none-if (hides (at i j) (a, old)) t);
   }
     where
-      was : (i j : ℕ) → hiders_of m (place i j) ≡ hiders_in (rest m a) (place i j) + cond (hides (place i j) (a, old)) 1 0
-      was i j = hiders-apart m a (place i j) ∙ ap (λ size. hiders_in (rest m a) (place i j) + cond (hides (place i j) (a, size)) 1 0) has
+      was : (i j : ℕ) → hiders_of m (at i j) ≡ hiders_in (rest m a) (at i j) + cond (hides (at i j) (a, old)) 1 0
+      was i j = hiders-apart m a (at i j) ∙ ap (λ size. hiders_in (rest m a) (at i j) + cond (hides (at i j) (a, size)) 1 0) has
 
-  given : Stepped (λ p. hides p (a, new)) 1 rows columns (hiders_in (rest m a)) (hiders_of (with_size m a new))
+  given : Stepped (λ p. hides (beyond first p) (a, new)) 1 rows columns (λ p. hiders_in (rest m a) (beyond first p)) (λ p. hiders_of (with_size m a new) (beyond first p))
   given = record {
-    here = λ i j h k t. omega (arith, hiders-with m a (place i j) new, one-if (hides (place i j) (a, new)) t, few_of (with_size m a new) i j h k);
-    others = λ i j h k t. omega (arith, hiders-with m a (place i j) new, none-if (hides (place i j) (a, new)) t);
+    here = λ i j h k t. omega (arith, hiders-with m a (at i j) new, one-if (hides (at i j) (a, new)) t, few_of (with_size m a new) i j h k);
+    others = λ i j h k t. omega (arith, hiders-with m a (at i j) new, none-if (hides (at i j) (a, new)) t);
   }
 
   -- a rectangle is taken away, and another given
-  pub hiders-replaced : (xs ys zs : List ℕ) → Steps xs ys (λ p. hides p (a, old)) 18446744073709551615 rows columns → Steps ys zs (λ p. hides p (a, new)) 1 rows columns → xs ≡ table (hiders_of m) rows columns → zs ≡ table (hiders_of (with_size m a new)) rows columns
-  hiders-replaced xs ys zs back on is = on.is (hiders_in (rest m a)) (hiders_of (with_size m a new)) given (back.is (hiders_of m) (hiders_in (rest m a)) taken is)
+  pub hiders-replaced : (xs ys zs : List ℕ) → Steps xs ys (λ p. hides (beyond first p) (a, old)) 18446744073709551615 rows columns → Steps ys zs (λ p. hides (beyond first p) (a, new)) 1 rows columns → xs ≡ table (λ p. hiders_of m (beyond first p)) rows columns → zs ≡ table (λ p. hiders_of (with_size m a new) (beyond first p)) rows columns
+  hiders-replaced xs ys zs back on is = on.is (λ p. hiders_in (rest m a) (beyond first p)) (λ p. hiders_of (with_size m a new) (beyond first p)) given (back.is (λ p. hiders_of m (beyond first p)) (λ p. hiders_in (rest m a) (beyond first p)) taken is)
 
 -- one anchor of a sorted list more
-pub hiders-more : (es : List Anchor) (n : ℕ) (d : Anchor) (xs ys : List ℕ) (rows columns : ℕ) → T (is_sorted position_cmp es) → n < length es → rows * columns < 2 ^ 64 → Steps xs ys (λ p. hides p (get_or es n d)) 1 rows columns → xs ≡ table (hiders_in (take n es)) rows columns → ys ≡ table (hiders_in (take (n + 1) es)) rows columns
-hiders-more es n d xs ys rows columns up here fits steps is = steps.is (hiders_in (take n es)) (hiders_in (take (n + 1) es)) (record {
-  here = λ i j h k t. omega (arith, count_by_more_yes (hides (place i j)) es n d here t, sum_by-take-le (λ e. cond (hides (place i j) e) 1 0) es (n + 1), hiders-fit rows columns (place i j) es up h k fits);
-  others = λ i j h k t. count_by_more_no (hides (place i j)) es n d here t;
+pub hiders-more : (es : List Anchor) (n : ℕ) (d : Anchor) (xs ys : List ℕ) (first : Position) (rows columns : ℕ) → T (is_sorted position_cmp es) → n < length es → IsNumbered first rows columns → Steps xs ys (λ p. hides (beyond first p) (get_or es n d)) 1 rows columns → xs ≡ table (λ p. hiders_in (take n es) (beyond first p)) rows columns → ys ≡ table (λ p. hiders_in (take (n + 1) es) (beyond first p)) rows columns
+hiders-more es n d xs ys first rows columns up here fits steps is = steps.is (λ p. hiders_in (take n es) (beyond first p)) (λ p. hiders_in (take (n + 1) es) (beyond first p)) (record {
+  here = λ i j h k t. omega (arith, count_by_more_yes (hides (beyond first (place i j))) es n d here t, sum_by-take-le (λ e. cond (hides (beyond first (place i j)) e) 1 0) es (n + 1), hiders-fit (first.row + rows) (first.col + columns) (beyond first (place i j)) es up (omega arith) (omega arith) fits.cells);
+  others = λ i j h k t. count_by_more_no (hides (beyond first (place i j))) es n d here t;
 }) is
 
 -- no anchor hides a place yet
-pub hiders-none : (rows columns count : ℕ) (xs : List ℕ) → count ≡ rows * columns → xs ≡ replicate count 0 → xs ≡ table (hiders_in []) rows columns
-hiders-none rows columns count xs e is = is ∙ sym (table-zero rows columns count (sym e))
+pub hiders-none : (first : Position) (rows columns count : ℕ) (xs : List ℕ) → count ≡ rows * columns → xs ≡ replicate count 0 → xs ≡ table (λ p. hiders_in [] (beyond first p)) rows columns
+hiders-none first rows columns count xs e is = is ∙ sym (table-zero rows columns count (sym e))

@@ -1,11 +1,11 @@
 -- Which cells of a table a step over rows and columns reaches.
-use Rattle.std.proofs.Common.{◌≡◌, ℕ, ◌+◌, ◌<◌, ◌≤◌, ◌⊎◌, inl, inr, true, false, List, refl, sym, ap, ap₂, subst, ◌∙◌, ◌≢◌, get_or, set, min, arith}
-use Rattle.std.specs.Prelude.{◌*◌, ◌%◌, ◌^◌, ◌↔◌, ◌||◌, ◌&&◌, nat_lt}
+use Rattle.std.proofs.Common.{◌≡◌, ℕ, ◌+◌, ◌<◌, ◌≤◌, ◌⊎◌, inl, inr, true, false, List, refl, sym, ap, ap₂, subst, ◌∙◌, ◌≢◌, get_or, set, min, max, arith}
+use Rattle.std.specs.Prelude.{◌-◌, ◌*◌, ◌%◌, ◌^◌, ◌↔◌, ◌||◌, ◌&&◌, nat_lt}
 use Rattle.std.proofs.lemmas.Bool.{and_parts, and_from, cases_eq, cases_lt, or_cases, or_left, or_right, false_from_ne_true, not_from_true, not_from_false}
 use Rattle.std.specs.Cmp.{both_ways}
 use borrow.Author.Tests.{leb-true, ltb-true, le-leb, lt-ltb, eqb-true, eq-eqb}
 use Rattle.tabled_grid.specs.Anchors.{Anchor}
-use Rattle.tabled_grid.specs.Covers.{Steps, hides, in_run}
+use Rattle.tabled_grid.specs.Covers.{Steps, beyond, hides, in_run}
 use Rattle.tabled_grid.specs.Entity.{place, same_place}
 use Rattle.tabled_grid.specs.declared.config.position.Position.{Position}
 use Rattle.tabled_grid.proofs.Geometry.{In}
@@ -74,9 +74,9 @@ run_done old xs i j run step rows columns so past near = either (cases_lt run.1 
         let end : j ≡ run.1 = omega (arith, near h) in
         steps_same old xs (in_run i (run.0, j)) (in_run i run) step rows columns (λ r c u v. ap (λ n. in_run i (run.0, n) (place r c)) end) so.steps
 
--- an anchor's rectangle, cut at the shape, and the rows of it that are stepped
-pub record EachTo (old new : List ℕ) (anchor : Anchor) (i step rows columns : ℕ) : Type 0 where
-  pub steps : Steps old new (λ p. hides p anchor && nat_lt p.row i) step rows columns
+-- an anchor's rectangle, cut at a block, and the rows of it that are stepped
+pub record EachTo (old new : List ℕ) (first : Position) (anchor : Anchor) (i step rows columns : ℕ) : Type 0 where
+  pub steps : Steps old new (λ p. hides (beyond first p) anchor && nat_lt p.row i) step rows columns
 
 -- what it is for an anchor to hide a place
 pub record Hides (anchor : Anchor) (p : Position) : Type 0 where
@@ -94,56 +94,56 @@ hides-true anchor p t =
 hides-from : (anchor : Anchor) (p : Position) → Hides anchor p → hides p anchor ≡ true
 hides-from anchor p h = and_from _ _ (in_rect-from anchor.0 p anchor.1 h.holds) (not_from_false _ (same_place-apart anchor.0 p h.other))
 
-pub each_starts : (xs : List ℕ) (anchor : Anchor) (step rows columns : ℕ) → EachTo xs xs anchor anchor.0.row step rows columns
-each_starts xs anchor step rows columns = record {
+pub each_starts : (xs : List ℕ) (first : Position) (anchor : Anchor) (i step rows columns : ℕ) → i + first.row ≤ max anchor.0.row first.row → EachTo xs xs first anchor i step rows columns
+each_starts xs first anchor i step rows columns low = record {
   steps = steps_nowhere xs _ step rows columns (λ r c h k. false_from_ne_true _ (λ t.
       let parts = and_parts _ _ t in
-      let at = hides-true anchor (place r c) parts.0 in
+      let at = hides-true anchor (beyond first (place r c)) parts.0 in
       omega (arith, at.holds.top, ltb-true _ _ parts.1)));
 }
 
+-- where the first of an anchor's columns is another's place
+abbrev pub Begins : Position → Anchor → ℕ → ℕ → ℕ → Type 0
+Begins first anchor i left columns = (j : ℕ) → j < columns → (left ≤ j) ↔ ((anchor.0.col ≤ first.col + j) × (first.row + i ≡ anchor.0.row → first.col + j ≡ anchor.0.col → ⊥))
+
 -- one row more
-pub each_more : (old xs ys : List ℕ) (anchor : Anchor) (i left right step rows columns : ℕ) → EachTo old xs anchor i step rows columns → Steps xs ys (in_run i (left, right)) step rows columns → anchor.0.row ≤ i → i < anchor.0.row + anchor.1.0 → ((j : ℕ) → j < columns → (left ≤ j) ↔ ((anchor.0.col ≤ j) × (i ≡ anchor.0.row → j ≡ anchor.0.col → ⊥))) → ((j : ℕ) → j < columns → (j < right) ↔ (j < anchor.0.col + anchor.1.1)) → EachTo old ys anchor (i + 1) step rows columns
-each_more old xs ys anchor i left right step rows columns so run low high first end = record {
-  steps = steps_joined old xs ys (λ p. hides p anchor && nat_lt p.row i) (in_run i (left, right)) (λ p. hides p anchor && nat_lt p.row (i + 1)) step rows columns
+pub each_more : (old xs ys : List ℕ) (first : Position) (anchor : Anchor) (i left right step rows columns : ℕ) → EachTo old xs first anchor i step rows columns → Steps xs ys (in_run i (left, right)) step rows columns → anchor.0.row ≤ first.row + i → first.row + i < anchor.0.row + anchor.1.0 → Begins first anchor i left columns → ((j : ℕ) → j < columns → (j < right) ↔ (first.col + j < anchor.0.col + anchor.1.1)) → EachTo old ys first anchor (i + 1) step rows columns
+each_more old xs ys first anchor i left right step rows columns so run low high begins end = record {
+  steps = steps_joined old xs ys (λ p. hides (beyond first p) anchor && nat_lt p.row i) (in_run i (left, right)) (λ p. hides (beyond first p) anchor && nat_lt p.row (i + 1)) step rows columns
       (λ r c h k. both_ways _ _ (to r c k) (λ t. from r c k (or_cases _ _ t)))
-      (λ r c h k t s. let at = in_run-true i (left, right) (place r c) s in omega (arith, at.row, ltb-true r i (and_parts (hides (place r c) anchor) (nat_lt r i) t).1))
+      (λ r c h k t s. let at = in_run-true i (left, right) (place r c) s in omega (arith, at.row, ltb-true r i (and_parts (hides (beyond first (place r c)) anchor) (nat_lt r i) t).1))
       so.steps run;
 }
   where
-    to : (r c : ℕ) → c < columns → (hides (place r c) anchor && nat_lt r (i + 1)) ≡ true → ((hides (place r c) anchor && nat_lt r i) || in_run i (left, right) (place r c)) ≡ true
-    to r c k t = let parts = and_parts (hides (place r c) anchor) (nat_lt r (i + 1)) t in either (hides-true anchor (place r c) parts.0) (cases_lt r i) (ltb-true r (i + 1) parts.1)
+    to : (r c : ℕ) → c < columns → (hides (beyond first (place r c)) anchor && nat_lt r (i + 1)) ≡ true → ((hides (beyond first (place r c)) anchor && nat_lt r i) || in_run i (left, right) (place r c)) ≡ true
+    to r c k t = let parts = and_parts (hides (beyond first (place r c)) anchor) (nat_lt r (i + 1)) t in either (hides-true anchor (beyond first (place r c)) parts.0) (cases_lt r i) (ltb-true r (i + 1) parts.1)
       where
-        either : Hides anchor (place r c) → (r < i) ⊎ (i ≤ r) → r < i + 1 → ((hides (place r c) anchor && nat_lt r i) || in_run i (left, right) (place r c)) ≡ true
-        either at (inl l) below = or_left _ _ (and_from _ _ (hides-from anchor (place r c) at) (lt-ltb _ _ l))
+        either : Hides anchor (beyond first (place r c)) → (r < i) ⊎ (i ≤ r) → r < i + 1 → ((hides (beyond first (place r c)) anchor && nat_lt r i) || in_run i (left, right) (place r c)) ≡ true
+        either at (inl l) below = or_left _ _ (and_from _ _ (hides-from anchor (beyond first (place r c)) at) (lt-ltb _ _ l))
         either at (inr l) below =
             let row : r ≡ i = omega arith in
-            or_right _ _ (in_run-from i (left, right) (place r c) (record { row = row; left = (first c k).1 (at.holds.left, λ e f. at.other (ap₂ place (omega (arith, e, row)) (sym f))); right = (end c k).1 at.holds.right }))
+            or_right _ _ (in_run-from i (left, right) (place r c) (record { row = row; left = (begins c k).1 (at.holds.left, λ e f. at.other (ap₂ place (omega (arith, e, row)) (sym f))); right = (end c k).1 at.holds.right }))
 
-    from : (r c : ℕ) → c < columns → ((hides (place r c) anchor && nat_lt r i) ≡ true) ⊎ (in_run i (left, right) (place r c) ≡ true) → (hides (place r c) anchor && nat_lt r (i + 1)) ≡ true
-    from r c k (inl t) = let parts = and_parts (hides (place r c) anchor) (nat_lt r i) t in and_from _ _ parts.0 (lt-ltb _ _ (omega (arith, ltb-true r i parts.1)))
+    from : (r c : ℕ) → c < columns → ((hides (beyond first (place r c)) anchor && nat_lt r i) ≡ true) ⊎ (in_run i (left, right) (place r c) ≡ true) → (hides (beyond first (place r c)) anchor && nat_lt r (i + 1)) ≡ true
+    from r c k (inl t) = let parts = and_parts (hides (beyond first (place r c)) anchor) (nat_lt r i) t in and_from _ _ parts.0 (lt-ltb _ _ (omega (arith, ltb-true r i parts.1)))
     from r c k (inr s) =
         let at = in_run-true i (left, right) (place r c) s in
-        let begin = (first c k).0 at.left in
-        and_from _ _ (hides-from anchor (place r c) (record {
+        let begin = (begins c k).0 at.left in
+        and_from _ _ (hides-from anchor (beyond first (place r c)) (record {
           holds = record { top = omega (arith, at.row); bottom = omega (arith, at.row); left = begin.0; right = (end c k).0 at.right };
           other = λ e. begin.1 (omega (arith, at.row, ap (λ (q : Position). q.row) e)) (sym (ap (λ (q : Position). q.col) e));
         })) (lt-ltb _ _ (omega (arith, at.row)))
 
--- all rows of the shape that the rectangle has
-pub each_done : (old xs : List ℕ) (anchor : Anchor) (i step rows columns : ℕ) → EachTo old xs anchor i step rows columns → ((r : ℕ) → r < rows → r < anchor.0.row + anchor.1.0 → r < i) → Steps old xs (λ p. hides p anchor) step rows columns
-each_done old xs anchor i step rows columns so past = steps_same old xs _ _ step rows columns (λ r c h k. both_ways _ _ (λ t. (and_parts _ _ t).0) (λ t. and_from _ _ t (lt-ltb _ _ (past r h (hides-true anchor (place r c) t).holds.bottom)))) so.steps
+-- all rows of the block that the rectangle has
+pub each_done : (old xs : List ℕ) (first : Position) (anchor : Anchor) (i step rows columns : ℕ) → EachTo old xs first anchor i step rows columns → ((r : ℕ) → r < rows → first.row + r < anchor.0.row + anchor.1.0 → r < i) → Steps old xs (λ p. hides (beyond first p) anchor) step rows columns
+each_done old xs first anchor i step rows columns so past = steps_same old xs _ _ step rows columns (λ r c h k. both_ways _ _ (λ t. (and_parts _ _ t).0) (λ t. and_from _ _ t (lt-ltb _ _ (past r h (hides-true anchor (beyond first (place r c)) t).holds.bottom)))) so.steps
 
--- where the first of an anchor's columns is another's place
-abbrev pub Begins : Anchor → ℕ → ℕ → ℕ → Type 0
-Begins anchor i left columns = (j : ℕ) → j < columns → (left ≤ j) ↔ ((anchor.0.col ≤ j) × (i ≡ anchor.0.row → j ≡ anchor.0.col → ⊥))
-
-pub begins_after : (anchor : Anchor) (i left columns : ℕ) → columns < 2 ^ 64 → i ≡ anchor.0.row → left ≡ min (anchor.0.col + 1) 18446744073709551615 → Begins anchor i left columns
-begins_after anchor i left columns fits row is = λ j h. (λ l. (omega arith, λ e f. omega arith), λ b. by (cases_eq j anchor.0.col) b h)
+pub begins_after : (first : Position) (anchor : Anchor) (i left columns : ℕ) → first.col + columns < 2 ^ 64 → first.row + i ≡ anchor.0.row → left ≡ min (anchor.0.col + 1) 18446744073709551615 - first.col → Begins first anchor i left columns
+begins_after first anchor i left columns fits row is = λ j h. (λ l. (omega arith, λ e f. omega arith), λ b. by (cases_eq (first.col + j) anchor.0.col) b h)
   where
-    by : {j : ℕ} → (j ≡ anchor.0.col) ⊎ (j ≡ anchor.0.col → ⊥) → (anchor.0.col ≤ j) × (i ≡ anchor.0.row → j ≡ anchor.0.col → ⊥) → j < columns → left ≤ j
+    by : {j : ℕ} → (first.col + j ≡ anchor.0.col) ⊎ (first.col + j ≡ anchor.0.col → ⊥) → (anchor.0.col ≤ first.col + j) × (first.row + i ≡ anchor.0.row → first.col + j ≡ anchor.0.col → ⊥) → j < columns → left ≤ j
     by (inl e) b h = absurd (b.1 row e)
     by (inr n) b h = omega (arith, b.0, n)
 
-pub begins_at : (anchor : Anchor) (i left columns : ℕ) → (i ≡ anchor.0.row → ⊥) → left ≡ anchor.0.col → Begins anchor i left columns
-begins_at anchor i left columns apart is = λ j h. (λ l. (omega arith, λ e f. apart e), λ b. omega (arith, b.0))
+pub begins_at : (first : Position) (anchor : Anchor) (i left columns : ℕ) → (first.row + i ≡ anchor.0.row → ⊥) → left ≡ anchor.0.col - first.col → Begins first anchor i left columns
+begins_at first anchor i left columns apart is = λ j h. (λ l. (omega arith, λ e f. apart e), λ b. omega (arith, b.0))

@@ -1,5 +1,5 @@
 -- How many anchors hide each cell of a table.
-use Rattle.std.specs.Prelude.{◌≡◌, ◌+◌, ◌<◌, ◌%◌, ◌^◌, ◌==◌, ℕ, ◌&&◌, Bool, true, false, List, map, nat_le, nat_lt, not}
+use Rattle.std.specs.Prelude.{◌≡◌, ◌+◌, ◌*◌, ◌<◌, ◌%◌, ◌^◌, ◌==◌, ℕ, ◌&&◌, Bool, true, false, List, map, nat_le, nat_lt, not}
 use Rattle.std.specs.FinMap.{entries}
 use Rattle.std.specs.List.{count_by}
 use Rattle.tabled_grid.specs.Anchors.{Anchor}
@@ -24,15 +24,30 @@ hiders_of m p = hiders_in (entries m) p
 abbrev pub table : (Position → ℕ) → ℕ → ℕ → List ℕ
 table f rows columns = map f (block 0 rows 0 columns)
 
--- a shape, and how many anchors hide each of its places, row by row
+-- the place so many rows below another and so many columns right of it
+abbrev pub beyond : Position → Position → Position
+beyond first p = place (first.row + p.row) (first.col + p.col)
+
+-- a block of cells from its first one on, and how many anchors hide each of them, row by row
 pub record Cover : Type 0 where
+  pub first : Position
   pub rows : ℕ
   pub columns : ℕ
   pub hiders : List ℕ
 
--- what a map covers of a shape
+-- what a map covers of a block of cells, from its first one on
+abbrev pub cover_in : SpanMap → Position → ℕ → ℕ → Cover
+cover_in m first rows columns = record { first = first; rows = rows; columns = columns; hiders = table (λ p. hiders_of m (beyond first p)) rows columns }
+
+-- what a map covers of a table
 abbrev pub cover_of : SpanMap → ℕ → ℕ → Cover
-cover_of m rows columns = record { rows = rows; columns = columns; hiders = table (hiders_of m) rows columns }
+cover_of m = cover_in m (place 0 0)
+
+-- the cells of a table up to the last one of a block have a number each
+pub record IsNumbered (first : Position) (rows columns : ℕ) : Type 0 where
+  pub bottom : first.row + rows < 2 ^ 64
+  pub right : first.col + columns < 2 ^ 64
+  pub cells : (first.row + rows) * (first.col + columns) < 2 ^ 64
 
 -- the place is in a row, between two columns
 abbrev pub in_run : ℕ → ℕ × ℕ → Position → Bool

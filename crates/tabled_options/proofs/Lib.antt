@@ -1,5 +1,6 @@
 pub mod Keeps
 pub mod Results
+pub mod Shapes
 pub mod Turns
 pub mod Until
 pub mod Writes

@@ -1,4 +1,5 @@
 pub mod Copies
 pub mod Does
 pub mod Hints
+pub mod Shapes
 pub mod Writes

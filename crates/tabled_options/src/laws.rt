@@ -6,15 +6,17 @@ ghost use Rattle.tabled_grid.specs.Entity.{names};
 ghost use Rattle.tabled_grid.specs.declared.config.entity.Entity.{Entity};
 ghost use Rattle.tabled_options.specs.Does.{CopiesAlike, OptionKeeps};
 ghost use Rattle.tabled_options.specs.Hints.{combined};
+ghost use Rattle.tabled_options.specs.Shapes.{KeepsShape};
 
 use crate::cell_option::CellOption;
 use crate::modify::ModifyList;
 use crate::option_list::OptionSlice;
-use crate::property::Property;
+use crate::property::{MergedCellsFit, Property};
 use crate::settings_list::Settings;
 use crate::table_option::TableOption;
-use tabled_grid::config::{Entity, Position};
-use tabled_grid::records::{ExactRecords, GridStore, Records};
+use crate::writers::TextRef;
+use tabled_grid::config::{Entity, Position, SpannedConfig};
+use tabled_grid::records::{CellText, ExactRecords, GridStore, Records, RecordsMut};
 use tabled_select::object::Object;
 
 /// Two entities combine to the same one either way.
@@ -98,4 +100,30 @@ where
     O: Object<R> + Drop,
     M: CellOption<R, C> + Clone,
     ensures { ((e : Entity) → OptionKeeps P.holds (M.does _option.now e) (M.leaves _option.now e)) → OptionKeeps P.holds (⟦<ModifyList<O, M> as TableOption<R, C, D>>⟧.does (_object.now, _option.now)) (⟦<ModifyList<O, M> as TableOption<R, C, D>>⟧.leaves (_object.now, _option.now)) }
+{}
+
+/// An option on cells that leaves the numbers of rows and columns and the configuration, done or refused,
+/// keeps merged cells inside the table and apart.
+pub fn same_shape_keeps_merged_cells_fitting<R, M>(_option: &M)
+where
+    R: Records + ExactRecords,
+    M: CellOption<R, SpannedConfig>,
+    ensures { (e : Entity) → KeepsShape (M.does _option.now e) → KeepsShape (M.leaves _option.now e) → OptionKeeps ⟦<MergedCellsFit as Property<R::Cell, SpannedConfig>>⟧.holds (M.does _option.now e) (M.leaves _option.now e) }
+{}
+
+/// So does such an option on tables.
+pub fn same_table_shape_keeps_merged_cells_fitting<R, D, T>(_option: &T)
+where
+    R: GridStore,
+    T: TableOption<R, SpannedConfig, D>,
+    ensures { KeepsShape (T.does _option.now) → KeepsShape (T.leaves _option.now) → OptionKeeps ⟦<MergedCellsFit as Property<R::Cell, SpannedConfig>>⟧.holds (T.does _option.now) (T.leaves _option.now) }
+{}
+
+/// A text on an entity keeps merged cells inside the table and apart, also where it is refused.
+pub fn texts_keep_merged_cells_fitting<'a, R>(_string: &String, _text: TextRef<'a>)
+where
+    R: Records + ExactRecords + RecordsMut<String> + RecordsMut<&'a str>,
+    R::Cell: CellText,
+    ensures string { (e : Entity) → OptionKeeps ⟦<MergedCellsFit as Property<R::Cell, SpannedConfig>>⟧.holds (⟦<String as CellOption<R, SpannedConfig>>⟧.does _string.now e) (⟦<String as CellOption<R, SpannedConfig>>⟧.leaves _string.now e) }
+    ensures text { (e : Entity) → OptionKeeps ⟦<MergedCellsFit as Property<R::Cell, SpannedConfig>>⟧.holds (⟦<TextRef<'a> as CellOption<R, SpannedConfig>>⟧.does _text.entry e) (⟦<TextRef<'a> as CellOption<R, SpannedConfig>>⟧.leaves _text.entry e) }
 {}

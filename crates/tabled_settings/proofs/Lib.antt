@@ -27,3 +27,4 @@ pub mod TakenOnce
 pub mod TextsKept
 pub mod TurnedTwice
 pub mod Turns
+pub mod WritersKeep

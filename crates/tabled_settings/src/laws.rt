@@ -3,6 +3,8 @@
 ghost use Rattle.std.specs.Prelude.{◌≡◌, ◌<◌};
 ghost use Rattle.std.specs.List.{AllByRecursion};
 ghost use Rattle.tabled_grid.specs.Grid.{IsEven, map_grid};
+ghost use Rattle.tabled_grid.specs.declared.config.entity.Entity.{Entity};
+ghost use Rattle.tabled_options.specs.Does.{OptionKeeps};
 ghost use Rattle.tabled_settings.specs.declared.rotate.Rotate.TheVariants.{Bottom, Left, Right, Top};
 ghost use Rattle.tabled_settings.specs.declared.split.Display.TheVariants.{Retain};
 ghost use Rattle.tabled_settings.specs.Charsets.{IsClean, cleaned, with_tabs};
@@ -11,11 +13,19 @@ ghost use Rattle.tabled_settings.specs.Pieces.{split};
 ghost use Rattle.tabled_settings.specs.Places.{IsTakenOnce, ReadsThrough};
 ghost use Rattle.tabled_settings.specs.Rearranged.{reversed, rotated, turned_half};
 
+use crate::duplicate::Dup;
+use crate::format::{FormatContent, FormatContentPositioned};
+use crate::formatting::Charset;
 use crate::reverse::Reverse;
 use crate::rotate::Rotate;
 use crate::split::Split;
-use tabled_grid::config::Position;
-use tabled_grid::records::{CellText, GridStore};
+use std::alloc::{AllocError, Global};
+use tabled_grid::config::{Position, SpannedConfig};
+use tabled_grid::records::{
+    CellText, ExactRecords, GridStore, PeekableRecords, Records, RecordsMut,
+};
+use tabled_options::{CellOption, MergedCellsFit, Property, TableOption};
+use tabled_select::object::Object;
 
 /// A table with a row and a column that is turned to the left and then to the right is as it was.
 pub fn left_then_right_is_as_it_was<R: GridStore>(_old: &R, _turned: &R, _new: &R)
@@ -96,4 +106,42 @@ pub fn clean_twice_is_once(_text: &str, _tab_size: usize, _second: usize)
 /// Cleaning replaces the tabs, and then cleans.
 pub fn clean_is_clean_after_tabs(_text: &str, _tab_size: usize)
     ensures { cleaned _tab_size _text.now ≡ cleaned 0 (with_tabs _tab_size _text.now) }
+{}
+
+/// A charset keeps merged cells inside the table and apart, on each entity and on the table, also where it
+/// is refused.
+pub fn charsets_keep_merged_cells_fitting<R, D>(_charset: &Charset)
+where
+    R: Records + ExactRecords + PeekableRecords + RecordsMut<String>,
+    R::Cell: CellText,
+    ensures cells { (e : Entity) → OptionKeeps ⟦<MergedCellsFit as Property<R::Cell, SpannedConfig>>⟧.holds (⟦<Charset as CellOption<R, SpannedConfig>>⟧.does _charset.now e) (⟦<Charset as CellOption<R, SpannedConfig>>⟧.leaves _charset.now e) }
+    ensures table { OptionKeeps ⟦<MergedCellsFit as Property<R::Cell, SpannedConfig>>⟧.holds (⟦<Charset as TableOption<R, SpannedConfig, D>>⟧.does _charset.now) (⟦<Charset as TableOption<R, SpannedConfig, D>>⟧.leaves _charset.now) }
+{}
+
+/// Formats keep merged cells inside the table and apart, on each entity and on the table, also where they
+/// are refused.
+pub fn formats_keep_merged_cells_fitting<R, D, F, G>(
+    _content: &FormatContent<F>,
+    _positioned: &FormatContentPositioned<G>,
+)
+where
+    R: Records + ExactRecords + PeekableRecords + RecordsMut<String>,
+    R::Cell: CellText,
+    F: FnMut(Global, &str) -> Result<String, AllocError> + Clone + Drop,
+    G: FnMut(Global, &str, Position) -> Result<String, AllocError> + Drop,
+    ensures content { (e : Entity) → OptionKeeps ⟦<MergedCellsFit as Property<R::Cell, SpannedConfig>>⟧.holds (⟦<FormatContent<F> as CellOption<R, SpannedConfig>>⟧.does _content.now e) (⟦<FormatContent<F> as CellOption<R, SpannedConfig>>⟧.leaves _content.now e) }
+    ensures table_content { OptionKeeps ⟦<MergedCellsFit as Property<R::Cell, SpannedConfig>>⟧.holds (⟦<FormatContent<F> as TableOption<R, SpannedConfig, D>>⟧.does _content.now) (⟦<FormatContent<F> as TableOption<R, SpannedConfig, D>>⟧.leaves _content.now) }
+    ensures positioned { (e : Entity) → OptionKeeps ⟦<MergedCellsFit as Property<R::Cell, SpannedConfig>>⟧.holds (⟦<FormatContentPositioned<G> as CellOption<R, SpannedConfig>>⟧.does _positioned.now e) (⟦<FormatContentPositioned<G> as CellOption<R, SpannedConfig>>⟧.leaves _positioned.now e) }
+    ensures table_positioned { OptionKeeps ⟦<MergedCellsFit as Property<R::Cell, SpannedConfig>>⟧.holds (⟦<FormatContentPositioned<G> as TableOption<R, SpannedConfig, D>>⟧.does _positioned.now) (⟦<FormatContentPositioned<G> as TableOption<R, SpannedConfig, D>>⟧.leaves _positioned.now) }
+{}
+
+/// Texts that are written to other cells keep merged cells inside the table and apart, also where that is
+/// refused.
+pub fn duplicates_keep_merged_cells_fitting<R, D, Dst, Src>(_dup: &Dup<Dst, Src>)
+where
+    R: Records + ExactRecords + PeekableRecords + RecordsMut<String>,
+    R::Cell: CellText,
+    Dst: Object<R> + Drop,
+    Src: Object<R> + Drop,
+    ensures { OptionKeeps ⟦<MergedCellsFit as Property<R::Cell, SpannedConfig>>⟧.holds (⟦<Dup<Dst, Src> as TableOption<R, SpannedConfig, D>>⟧.does _dup.now) (⟦<Dup<Dst, Src> as TableOption<R, SpannedConfig, D>>⟧.leaves _dup.now) }
 {}

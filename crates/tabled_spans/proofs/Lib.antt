@@ -8,6 +8,7 @@ pub mod Reach
 pub mod RisingPlaces
 pub mod RunLists
 pub mod Runs
+pub mod SetSizes
 pub mod SpanChanges
 pub mod SpanGeometry
 pub mod SpanWrites

@@ -10,15 +10,18 @@ use Rattle.tabled_grid.proofs.Places.{inside-within}
 use Rattle.tabled_spans.specs.Spanned.{count_of}
 use Rattle.tabled_spans.specs.SpanSteps.{InReach, IsReach}
 
--- each place that an entity names is in its reach
+-- each place that an entity names is in its reach, and named
 module _ (axis : Axis) (size : ℕ) (e : Entity) (rows columns : ℕ) (reach : ℕ × ℕ) (is : IsReach axis size e rows columns reach) where
-  kept : (ps : List Position) → AllByRecursion (λ (p : Position). (p.row < rows) × (p.col < columns)) (filter (names e) ps) → AllByRecursion (InReach axis size (count_of axis rows columns) reach.0 reach.1) (filter (names e) ps)
+  abbrev pub Named : Position → Type 0
+  Named p = (names e p ≡ true) × InReach axis size (count_of axis rows columns) reach.0 reach.1 p
+
+  kept : (ps : List Position) → AllByRecursion (λ (p : Position). (p.row < rows) × (p.col < columns)) (filter (names e) ps) → AllByRecursion Named (filter (names e) ps)
   kept [] all = tt
   kept (p ∷ ps) all = either (cases_Bool (names e p)) (kept ps) all
     where
-      either : (names e p ≡ true) ⊎ (names e p ≡ false) → (AllByRecursion (λ (q : Position). (q.row < rows) × (q.col < columns)) (filter (names e) ps) → AllByRecursion (InReach axis size (count_of axis rows columns) reach.0 reach.1) (filter (names e) ps)) → AllByRecursion (λ (q : Position). (q.row < rows) × (q.col < columns)) (filter (names e) (p ∷ ps)) → AllByRecursion (InReach axis size (count_of axis rows columns) reach.0 reach.1) (filter (names e) (p ∷ ps))
-      either (inl t) rest here = let both = rw t at here in rw t (is.each p t both.0.0 both.0.1, rest both.1)
+      either : (names e p ≡ true) ⊎ (names e p ≡ false) → (AllByRecursion (λ (q : Position). (q.row < rows) × (q.col < columns)) (filter (names e) ps) → AllByRecursion Named (filter (names e) ps)) → AllByRecursion (λ (q : Position). (q.row < rows) × (q.col < columns)) (filter (names e) (p ∷ ps)) → AllByRecursion Named (filter (names e) (p ∷ ps))
+      either (inl t) rest here = let both = rw t at here in rw t ((t, is.each p t both.0.0 both.0.1), rest both.1)
       either (inr f) rest here = rw f (rest (rw f at here))
 
-  pub inside-reach : AllByRecursion (InReach axis size (count_of axis rows columns) reach.0 reach.1) (inside e rows columns)
+  pub inside-reach : AllByRecursion Named (inside e rows columns)
   inside-reach = kept (block 0 rows 0 columns) (inside-within e rows columns)

@@ -1,5 +1,5 @@
 -- Sizes that are set at rising places, and what spans make of them.
-use Rattle.std.proofs.Common.{◌≡◌, ℕ, ◌-◌, ◌<◌, ◌≤◌, ◌≢◌, ◌⊎◌, inl, inr, true, false, List, [], ◌∷◌, ◌++◌, Some, None, Option, refl, sym, ap, subst, ◌∙◌, append_assoc, arith}
+use Rattle.std.proofs.Common.{◌≡◌, ℕ, ◌+◌, ◌-◌, ◌<◌, ◌≤◌, ◌≢◌, ◌⊎◌, inl, inr, true, false, List, [], ◌∷◌, ◌++◌, Some, None, Option, refl, sym, ap, subst, ◌∙◌, append_assoc, arith}
 use Rattle.std.proofs.lemmas.List.{append-nil}
 use Rattle.std.specs.Prelude.{T, min, SomeIff}
 use Rattle.std.specs.FinMap.{is_sorted}
@@ -11,7 +11,7 @@ use Rattle.std.specs.declared.cmp.Ordering.TheVariants.{Less}
 use Rattle.std.proofs.lemmas.Bool.{cases_Bool}
 use Rattle.std.proofs.lemmas.Cmp.{tied_itself}
 use Rattle.tabled_grid.specs.Anchors.{Anchor}
-use Rattle.tabled_grid.specs.Covers.{cover_of}
+use Rattle.tabled_grid.specs.Covers.{cover_in}
 use Rattle.tabled_grid.specs.Rectangles.{is_visible}
 use Rattle.tabled_grid.specs.Spans.{IsSizeAt, SpanMap, position_cmp, size_at, with_size, with_sizes}
 use Rattle.tabled_grid.specs.declared.config.position.Position.{Position}
@@ -105,14 +105,19 @@ changes-more cfg xs new p rest axis size n many is some added =
     ap (λ (es : List Anchor). grown_each axis size n (with_sizes cfg es) rest) added
     ∙ ap (λ (k : SpanMap). grown_each axis size n k rest) (with_sizes-append cfg xs (change_at axis m p many) ∙ change-is axis m p many some ∙ ap (with_visible_span axis m p) is)
 
-pub line_within : (axis : Axis) (p : Position) (rows columns : ℕ) → p.row < rows → p.col < columns → line_of axis p < lines_of axis rows columns
-line_within Rows p rows columns row col = col
-line_within Columns p rows columns row col = row
+pub line_within : (axis : Axis) (first p : Position) (rows columns : ℕ) → first.row ≤ p.row → p.row < first.row + rows → first.col ≤ p.col → p.col < first.col + columns → (line_of axis first ≤ line_of axis p) × (line_of axis p - line_of axis first < lines_of axis rows columns)
+line_within Rows first p rows columns top bottom left right = (left, omega arith)
+line_within Columns first p rows columns top bottom left right = (top, omega arith)
+
+-- so many rows or columns from a block's first one on end where the reach does
+pub reach_end : (axis : Axis) (first : Position) (bottom right n : ℕ) → first.row ≤ bottom → first.col ≤ right → n ≤ count_of axis bottom right → n ≤ index axis first + count_of axis (bottom - first.row) (right - first.col)
+reach_end Rows first bottom right n top left end = omega arith
+reach_end Columns first bottom right n top left end = omega arith
 
 pub index_within : (axis : Axis) (p : Position) (rows columns : ℕ) → p.row < rows → p.col < columns → index axis p < count_of axis rows columns
 index_within Rows p rows columns row col = row
 index_within Columns p rows columns row col = col
 
 -- what the cover map follows
-pub cover-change : (cfg : SpanMap) (xs new : List Anchor) (axis : Axis) (p : Position) (many rows columns : ℕ) → new ≡ xs ++ change_at axis (with_sizes cfg xs) p many → cover_of (with_sizes (with_sizes cfg xs) (change_at axis (with_sizes cfg xs) p many)) rows columns ≡ cover_of (with_sizes cfg new) rows columns
-cover-change cfg xs new axis p many rows columns added = ap (λ (m : SpanMap). cover_of m rows columns) (sym (ap (with_sizes cfg) added ∙ with_sizes-append cfg xs (change_at axis (with_sizes cfg xs) p many)))
+pub cover-change : (cfg : SpanMap) (xs new : List Anchor) (axis : Axis) (p : Position) (many : ℕ) (first : Position) (rows columns : ℕ) → new ≡ xs ++ change_at axis (with_sizes cfg xs) p many → cover_in (with_sizes (with_sizes cfg xs) (change_at axis (with_sizes cfg xs) p many)) first rows columns ≡ cover_in (with_sizes cfg new) first rows columns
+cover-change cfg xs new axis p many first rows columns added = ap (λ (m : SpanMap). cover_in m first rows columns) (sym (ap (with_sizes cfg) added ∙ with_sizes-append cfg xs (change_at axis (with_sizes cfg xs) p many)))

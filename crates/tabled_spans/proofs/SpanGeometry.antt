@@ -1,10 +1,10 @@
 -- How merged cells lie after spans.
-use Rattle.std.proofs.Common.{◌≡◌, Option, ℕ, zero, suc, ◌+◌, ◌-◌, ◌<◌, ◌≤◌, ◌⊎◌, inl, inr, true, false, List, [], ◌∷◌, Some, None, refl, ap, ◌∙◌, take, arith}
+use Rattle.std.proofs.Common.{◌≡◌, Option, ℕ, zero, suc, ◌+◌, ◌-◌, ◌<◌, ◌≤◌, ◌⊎◌, inl, inr, true, false, List, Some, None, refl, ap, ◌∙◌, take, arith}
 use Rattle.std.specs.Prelude.{ℤ, pos, negsuc, min, ◌<ℤ◌}
 use Rattle.std.specs.List.{AllByRecursion, list_all}
 use Rattle.std.proofs.lemmas.Bool.{cases_Bool}
 use Rattle.tabled_grid.specs.Entity.{inside}
-use Rattle.tabled_grid.specs.Grid.{Grid, map_grid, with_cell}
+use Rattle.tabled_grid.specs.Grid.{Grid, map_grid}
 use Rattle.tabled_grid.specs.Midway.{Midway, Within}
 use Rattle.tabled_grid.specs.Rectangles.{Fits, drop_hidden, is_visible}
 use Rattle.tabled_grid.specs.Spans.{AreSpanSizes, SpanMap, size_at}
@@ -15,7 +15,7 @@ use Rattle.tabled_grid.specs.declared.records.axis.Axis.TheVariants.{Rows, Colum
 use Rattle.tabled_grid.proofs.Merging.{fits_dropped, flat_column_span, flat_dropped, fold-keeps, midway, midway_flat, midway_heightened, midway_narrow, midway_widened, narrow_dropped, narrow_row_span, sizes_heightened, sizes_widened, within_high, within_wide}
 use Rattle.tabled_grid.proofs.Places.{inside-within}
 use Rattle.tabled_options.specs.Does.{OptionKeeps}
-use Rattle.tabled_options.specs.Writes.{Write, with_writes}
+use Rattle.tabled_options.proofs.Shapes.{shape_written}
 use Rattle.tabled_spans.specs.Spanned.{IsFlat, Spans, SpansFirst, at_index, count_of, grown, grown_at, grown_each, index, pulled, pulled_at, span_writes, spanned, stretch, taken, with_span}
 use Rattle.tabled_spans.proofs.FreeCells.{all_pass}
 use Rattle.tabled_spans.proofs.SpanChanges.{index_within}
@@ -105,15 +105,6 @@ flat_spanned axis size e m rows columns fits flat = by_sign size
     by_sign (pos (suc s)) = flat_dropped_along axis _ rows columns (fold-keeps (λ k. AreFlat axis k rows columns) (grown_at axis (suc s) (count_of axis rows columns)) rows columns (flat_grown axis (suc s) rows columns (omega arith)) (inside e rows columns) m (inside-within e rows columns) start)
     by_sign (pos zero) = all None
     by_sign (negsuc s) = all (Some (s + 1))
-
--- writes keep the shape
-record SameShape (g h : Grid (List ℕ)) : Type 0 where
-  pub rows : h.rows ≡ g.rows
-  pub columns : h.columns ≡ g.columns
-
-shape_written : (writes : List Write) (g : Grid (List ℕ)) → SameShape g (with_writes writes g)
-shape_written [] g = record { rows = refl; columns = refl }
-shape_written (w ∷ writes) g = let rest = shape_written writes (with_cell g w.place w.text) in record { rows = rest.rows; columns = rest.columns }
 
 module _ {A : Type 0} (text_of : A → List ℕ) (axis : Axis) (size : ℤ) (e : Entity) (P : SpanMap → ℕ → ℕ → Type 0) where
   -- what a span keeps of the merged cells of a table, the option keeps, also where it is refused

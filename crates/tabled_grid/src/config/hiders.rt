@@ -1,7 +1,7 @@
-//! Work on the numbers of anchors that hide each cell of a table, row by row.
+//! Work on the numbers of anchors that hide each cell of a block, row by row.
 
-ghost use Rattle.std.specs.Prelude.{◌≡◌, ◌+◌, ◌*◌, ◌^◌, ◌<◌, ◌≤◌, length, min};
-ghost use Rattle.tabled_grid.specs.Covers.{Steps, hiders_of, hides, in_run, table};
+ghost use Rattle.std.specs.Prelude.{◌≡◌, ◌+◌, ◌*◌, ◌-◌, ◌^◌, ◌<◌, ◌≤◌, length, max, min};
+ghost use Rattle.tabled_grid.specs.Covers.{IsNumbered, Steps, beyond, hiders_of, hides, in_run, table};
 ghost use Rattle.tabled_grid.specs.Spans.{SpanMap, size_at, with_size};
 
 use crate::config::anchors::Anchor;
@@ -10,6 +10,7 @@ use crate::config::position::Position;
 /// Follows a map whose size at a place becomes another.
 pub(super) fn follow(
     hiders: &mut [usize],
+    first: Position,
     rows: usize,
     columns: usize,
     pos: Position,
@@ -17,36 +18,40 @@ pub(super) fn follow(
     new: (usize, usize),
 )
     requires size { length hiders.old ≡ rows * columns }
-    requires fits { rows * columns < 2 ^ 64 }
+    requires fits { IsNumbered first rows columns }
     ensures size { length hiders.new ≡ rows * columns }
-    ensures map { (m : SpanMap) → size_at m pos ≡ old → hiders.old ≡ table (hiders_of m) rows columns → hiders.new ≡ table (hiders_of (with_size m pos new)) rows columns }
+    ensures map { (m : SpanMap) → size_at m pos ≡ old → hiders.old ≡ table (λ p. hiders_of m (beyond first p)) rows columns → hiders.new ≡ table (λ p. hiders_of (with_size m pos new) (beyond first p)) rows columns }
 {
-    step_each(hiders, rows, columns, (pos, old), usize::MAX);
-    step_each(hiders, rows, columns, (pos, new), 1);
+    step_each(hiders, first, rows, columns, (pos, old), usize::MAX);
+    step_each(hiders, first, rows, columns, (pos, new), 1);
 }
 
-/// Steps the number of each cell that an anchor hides, round the end of `usize`.
+/// Steps the number of each cell of a block that an anchor hides, round the end of `usize`.
 pub(super) fn step_each(
     hiders: &mut [usize],
+    first: Position,
     rows: usize,
     columns: usize,
     anchor: Anchor,
     step: usize,
 )
     requires size { length hiders.old ≡ rows * columns }
+    requires fits { IsNumbered first rows columns }
     ensures size { length hiders.new ≡ rows * columns }
-    ensures steps { Steps hiders.old hiders.new (λ p. hides p anchor) step rows columns }
+    ensures steps { Steps hiders.old hiders.new (λ p. hides (beyond first p) anchor) step rows columns }
 {
-    let (first, (height, width)) = anchor;
-    let bottom = first.row.saturating_add(height).min(rows);
-    let right = first.col.saturating_add(width).min(columns);
-    for i in first.row..bottom {
-        let left = if i == first.row {
-            first.col.saturating_add(1)
+    let (at, (height, width)) = anchor;
+    let top = at.row.saturating_sub(first.row);
+    let bottom = at.row.saturating_add(height).saturating_sub(first.row);
+    let right = at.col.saturating_add(width).saturating_sub(first.col);
+    for i in top..bottom.min(rows) {
+        let left = if first.row + i == at.row {
+            at.col.saturating_add(1)
         } else {
-            first.col
+            at.col
         };
-        step_run(hiders, rows, columns, i, (left, right), step);
+        let run = (left.saturating_sub(first.col), right.min(columns));
+        step_run(hiders, rows, columns, i, run, step);
     }
 }
 

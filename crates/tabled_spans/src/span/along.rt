@@ -1,9 +1,10 @@
 //! Rows and columns of a place, and what a span takes of them.
 
-ghost use Rattle.std.specs.Prelude.{◌≡◌, ◌<◌, ◌≤ℤ◌, OnErr, OnOk, pos};
-ghost use Rattle.tabled_spans.specs.Spanned.{at_index, back_of, count_of, index, taken, with_span};
+ghost use Rattle.std.specs.Prelude.{◌≡◌, ◌<◌, ◌≤◌, ◌≤ℤ◌, pos};
+ghost use Rattle.tabled_grid.specs.Spans.{size_at};
+ghost use Rattle.tabled_spans.specs.SpanSteps.{resized};
+ghost use Rattle.tabled_spans.specs.Spanned.{at_index, back_of, count_of, index, taken};
 
-use std::alloc::{AllocError, Global};
 use tabled_grid::config::{Position, SpannedConfig};
 use tabled_grid::records::Axis;
 
@@ -37,23 +38,6 @@ pub(super) fn count_of(axis: Axis, rows: usize, columns: usize) -> usize
     }
 }
 
-/// Sets the height or the width of the rectangle at a place. Refused for memory, it changes nothing.
-pub(super) fn set_span(
-    alloc: Global,
-    spans: &mut SpannedConfig,
-    axis: Axis,
-    pos: Position,
-    many: usize,
-) -> Result<(), AllocError>
-    ensures ok { OnOk result (spans.new ≡ with_span axis spans.old pos many) }
-    ensures err { OnErr result (spans.new ≡ spans.old) }
-{
-    match axis {
-        Axis::Rows => spans.set_row_span(alloc, pos, many),
-        Axis::Columns => spans.set_column_span(alloc, pos, many),
-    }
-}
-
 /// How many cells back a span of size 0 or below takes, or all of the line.
 pub(super) fn back_of(size: isize) -> Option<usize>
     requires { size ≤ℤ pos 0 }
@@ -78,5 +62,31 @@ pub(super) fn taken(back: Option<usize>, count: usize, index: usize) -> (usize, 
             let back = back.min(index);
             (index - back, back + 1)
         }
+    }
+}
+
+/// The height and the width at a place, both 1 where there is no anchor.
+pub(super) fn size_at(cfg: &SpannedConfig, pos: Position) -> (usize, usize)
+    ensures value { result ≡ size_at cfg.now pos }
+    ensures height { 1 ≤ result.0 }
+    ensures width { 1 ≤ result.1 }
+{
+    let height = cfg.get_row_span(pos).unwrap_or(1);
+    let width = cfg.get_column_span(pos).unwrap_or(1);
+    (height, width)
+}
+
+/// The size with so many rows or columns.
+pub(super) fn resized(axis: Axis, size: (usize, usize), many: usize) -> (usize, usize)
+    requires height { 1 ≤ size.0 }
+    requires width { 1 ≤ size.1 }
+    requires some { 1 ≤ many }
+    ensures size { result ≡ resized axis size many }
+    ensures height { 1 ≤ result.0 }
+    ensures width { 1 ≤ result.1 }
+{
+    match axis {
+        Axis::Rows => (many, size.1),
+        Axis::Columns => (size.0, many),
     }
 }

@@ -1,16 +1,16 @@
 //! Spans over visible cells, from a place on.
 
-ghost use Rattle.std.specs.Prelude.{◌≡◌, ◌+◌, ◌<◌, ◌≤◌, ◌++◌, ◌^◌, ℕ, IfOk, OnErr, OnOk, T};
+ghost use Rattle.std.specs.Prelude.{◌≡◌, ◌+◌, ◌<◌, ◌≤◌, ◌++◌, ◌^◌, ℕ, true, IfOk, OnErr, OnOk, T};
 ghost use Rattle.std.specs.FinMap.{is_sorted};
 ghost use Rattle.std.specs.List.{AllByRecursion, list_all};
-ghost use Rattle.tabled_grid.specs.Covers.{cover_of};
-ghost use Rattle.tabled_grid.specs.Entity.{inside};
+ghost use Rattle.tabled_grid.specs.Covers.{cover_in};
+ghost use Rattle.tabled_grid.specs.Entity.{inside, names};
 ghost use Rattle.tabled_grid.specs.Rectangles.{is_visible};
 ghost use Rattle.tabled_grid.specs.Spans.{IsSizeAt, SpanMap, position_cmp, size_at, with_sizes};
 ghost use Rattle.tabled_spans.specs.Spanned.{count_of, grown, grown_each, index, stretch};
 ghost use Rattle.tabled_spans.specs.SpanSteps.{IsReach, change_at, line_of, lines_of, resized};
 
-use crate::span::along::{at_index, count_of, index};
+use crate::span::along::{at_index, count_of, index, resized, size_at};
 use std::alloc::{AllocError, Global};
 use tabled_grid::config::{CoverMap, Entity, Position, SpannedConfig};
 use tabled_grid::records::Axis;
@@ -35,42 +35,18 @@ fn lines_of(axis: Axis, rows: usize, columns: usize) -> usize
     }
 }
 
-/// The height and the width at a place, both 1 where there is no anchor.
-fn size_at(cfg: &SpannedConfig, pos: Position) -> (usize, usize)
-    ensures value { result ≡ size_at cfg.now pos }
-    ensures height { 1 ≤ result.0 }
-    ensures width { 1 ≤ result.1 }
-{
-    let height = cfg.get_row_span(pos).unwrap_or(1);
-    let width = cfg.get_column_span(pos).unwrap_or(1);
-    (height, width)
-}
-
-/// The size with so many rows or columns.
-fn resized(axis: Axis, size: (usize, usize), many: usize) -> (usize, usize)
-    requires height { 1 ≤ size.0 }
-    requires width { 1 ≤ size.1 }
-    requires some { 1 ≤ many }
-    ensures size { result ≡ resized axis size many }
-    ensures height { 1 ≤ result.0 }
-    ensures width { 1 ≤ result.1 }
-{
-    match axis {
-        Axis::Rows => (many, size.1),
-        Axis::Columns => (size.0, many),
-    }
-}
-
 /// Says whether so many cells are all visible, from a place on.
 ///
 /// A hidden one that it meets is kept as the line's hint, and is asked first for the next place. So it
 /// goes over no cell of a line twice.
 fn is_free(cover: &CoverMap, axis: Axis, pos: Position, many: usize, hint: &mut usize) -> bool
-    requires row { pos.row < cover.now.rows }
-    requires col { pos.col < cover.now.columns }
-    requires within { index axis pos + many ≤ count_of axis cover.now.rows cover.now.columns }
+    requires top { cover.now.first.row ≤ pos.row }
+    requires bottom { pos.row < cover.now.first.row + cover.now.rows }
+    requires left { cover.now.first.col ≤ pos.col }
+    requires right { pos.col < cover.now.first.col + cover.now.columns }
+    requires within { index axis pos + many ≤ index axis cover.now.first + count_of axis cover.now.rows cover.now.columns }
     requires end { index axis pos + many < 2 ^ 64 }
-    ensures { (m : SpanMap) (rows columns : ℕ) → cover.now ≡ cover_of m rows columns → result ≡ list_all (is_visible m) (stretch axis pos (index axis pos) many) }
+    ensures { (m : SpanMap) (first : Position) (rows columns : ℕ) → cover.now ≡ cover_in m first rows columns → result ≡ list_all (is_visible m) (stretch axis pos (index axis pos) many) }
 {
     let first = index(axis, pos);
     let end = first + many;
@@ -99,14 +75,16 @@ fn grow_at(
     many: usize,
     hint: &mut usize,
 ) -> Result<(), AllocError>
-    requires row { pos.row < cover.old.rows }
-    requires col { pos.col < cover.old.columns }
+    requires top { cover.old.first.row ≤ pos.row }
+    requires bottom { pos.row < cover.old.first.row + cover.old.rows }
+    requires left { cover.old.first.col ≤ pos.col }
+    requires right { pos.col < cover.old.first.col + cover.old.columns }
     requires some { 1 ≤ many }
-    requires within { index axis pos + many ≤ count_of axis cover.old.rows cover.old.columns }
+    requires within { index axis pos + many ≤ index axis cover.old.first + count_of axis cover.old.rows cover.old.columns }
     requires end { index axis pos + many < 2 ^ 64 }
-    ensures ok { (m : SpanMap) (rows columns : ℕ) → cover.old ≡ cover_of m rows columns → size_at m pos ≡ size_at cfg.now pos → OnOk result (changes.new.items ≡ changes.old.items ++ change_at axis m pos many) }
+    ensures ok { (m : SpanMap) (first : Position) (rows columns : ℕ) → cover.old ≡ cover_in m first rows columns → size_at m pos ≡ size_at cfg.now pos → OnOk result (changes.new.items ≡ changes.old.items ++ change_at axis m pos many) }
     ensures full { AllByRecursion IsSizeAt changes.old.items → OnOk result (AllByRecursion IsSizeAt changes.new.items) }
-    ensures cover { (m : SpanMap) (rows columns : ℕ) → cover.old ≡ cover_of m rows columns → size_at m pos ≡ size_at cfg.now pos → OnOk result (cover.new ≡ cover_of (with_sizes m (change_at axis m pos many)) rows columns) }
+    ensures cover { (m : SpanMap) (first : Position) (rows columns : ℕ) → cover.old ≡ cover_in m first rows columns → size_at m pos ≡ size_at cfg.now pos → OnOk result (cover.new ≡ cover_in (with_sizes m (change_at axis m pos many)) first rows columns) }
 {
     if !is_free(cover, axis, pos, many, hint) {
         return Ok(());
@@ -118,8 +96,23 @@ fn grow_at(
     Ok(())
 }
 
-/// So many rows and columns, from the first on, hold all cells that spans take from the places on that an
-/// entity names in a table.
+/// The first cell of those that an entity names, in so many rows and columns, or the end of these.
+fn first_named(entity: Entity, rows: usize, columns: usize) -> Position
+    ensures row { (p : Position) → names entity p ≡ true → result.row ≤ p.row }
+    ensures col { (p : Position) → names entity p ≡ true → result.col ≤ p.col }
+    ensures rows { result.row ≤ rows }
+    ensures columns { result.col ≤ columns }
+{
+    match entity {
+        Entity::Global => Position::new(0, 0),
+        Entity::Row(row) => Position::new(row.min(rows), 0),
+        Entity::Column(col) => Position::new(0, col.min(columns)),
+        Entity::Cell(row, col) => Position::new(row.min(rows), col.min(columns)),
+    }
+}
+
+/// So many rows and columns, from the table's first on, hold all cells that spans take from the places on
+/// that an entity names in a table.
 fn reach(axis: Axis, size: usize, entity: Entity, rows: usize, columns: usize) -> (usize, usize)
     ensures { IsReach axis size entity rows columns result }
 {
@@ -152,12 +145,14 @@ fn changes(
 {
     let count = count_of(axis, rows, columns);
     let (bottom, right) = reach(axis, size, entity, rows, columns);
-    let mut cover = CoverMap::new(alloc, cfg, bottom, right)?;
-    let mut hints = vec![in alloc; 0; lines_of(axis, bottom, right)]?;
+    let first = first_named(entity, bottom, right);
+    let (height, width) = (bottom - first.row, right - first.col);
+    let mut cover = CoverMap::of_block(alloc, cfg, first, height, width)?;
+    let mut hints = vec![in alloc; 0; lines_of(axis, height, width)]?;
     let mut changes = Vec::new(alloc);
     for pos in entity.iter(rows, columns) {
         let many = size.min(count - index(axis, pos));
-        let hint = &mut hints[line_of(axis, pos)];
+        let hint = &mut hints[line_of(axis, pos) - line_of(axis, first)];
         grow_at(alloc, &mut cover, &mut changes, cfg, axis, pos, many, hint)?;
     }
     Ok(changes)

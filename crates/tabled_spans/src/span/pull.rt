@@ -1,14 +1,79 @@
 //! Spans back from a place, or over all of a line, visible or not.
 
-ghost use Rattle.std.specs.Prelude.{◌≡◌, ◌+◌, ◌<◌, ◌≤◌, ◌^◌, ℕ, IfOk, OnErr, OnOk};
+ghost use Rattle.std.specs.Prelude.{◌≡◌, ◌+◌, ◌<◌, ◌≤◌, ◌^◌, ℕ, IfOk, OnErr, OnOk, T, length};
+ghost use Rattle.std.specs.FinMap.{is_sorted};
+ghost use Rattle.std.specs.List.{AllByRecursion};
+ghost use Rattle.std.specs.List.Sorted.{IsBinarySearchResult, IsSearchInRange};
+ghost use Rattle.tabled_grid.specs.Entity.{inside};
+ghost use Rattle.tabled_grid.specs.Spans.{IsSizeAt, position_cmp, with_sizes};
+ghost use Rattle.tabled_grid.specs.declared.config.position.Position.{Position};
 ghost use Rattle.tabled_grid.specs.Grid.{IsInside, map_grid};
 ghost use Rattle.tabled_options.specs.Writes.{with_writes};
-ghost use Rattle.tabled_spans.specs.Spanned.{FirstWritten, at_index, pull_writes_on, pulled, pulling};
+ghost use Rattle.tabled_spans.specs.Spanned.{FirstWritten, at_index, count_of, pull_writes_on, pulled, pulled_each, pulling, with_span};
 
-use crate::span::along::{at_index, count_of, index, set_span, taken};
+use crate::span::along::{at_index, count_of, index, resized, size_at, taken};
 use std::alloc::{AllocError, Global};
 use tabled_grid::config::{Entity, Position, SpannedConfig};
 use tabled_grid::records::{Axis, CellText, ExactRecords, PeekableRecords, Records, RecordsMut};
+
+/// The index of the change at a place, or else that where it would stand.
+fn search(changes: &[(Position, (usize, usize))], pos: Position) -> Result<usize, usize>
+    ensures within { IsSearchInRange result (length changes.now) }
+    ensures found { IsBinarySearchResult (λ (change : Position × (ℕ × ℕ)). position_cmp change.0 pos) changes.now result }
+{
+    changes.binary_search_by_key(&pos, |change| change.0)
+}
+
+/// Gives a place a height or a width among the changes of `cfg`, of which the later one counts.
+fn put_span(
+    changes: &mut Vec<(Position, (usize, usize))>,
+    cfg: &SpannedConfig,
+    axis: Axis,
+    pos: Position,
+    many: usize,
+) -> Result<(), AllocError>
+    requires sorted { T (is_sorted position_cmp changes.old.items) }
+    requires full { AllByRecursion IsSizeAt changes.old.items }
+    requires some { 1 ≤ many }
+    ensures sorted { OnOk result (T (is_sorted position_cmp changes.new.items)) }
+    ensures full { OnOk result (AllByRecursion IsSizeAt changes.new.items) }
+    ensures sizes { OnOk result (with_sizes cfg.now changes.new.items ≡ with_span axis (with_sizes cfg.now changes.old.items) pos many) }
+{
+    match search(changes, pos) {
+        Ok(k) => {
+            let size = resized(axis, changes[k].1, many);
+            changes[k] = (pos, size);
+        }
+        Err(k) => {
+            let size = resized(axis, size_at(cfg, pos), many);
+            changes.insert(k, (pos, size))?;
+        }
+    }
+    Ok(())
+}
+
+/// The new sizes that a span at each place leaves that an entity names in a table (`rows x columns`).
+fn changes(
+    alloc: Global,
+    cfg: &SpannedConfig,
+    axis: Axis,
+    back: Option<usize>,
+    entity: Entity,
+    rows: usize,
+    columns: usize,
+) -> Result<Vec<(Position, (usize, usize))>, AllocError>
+    ensures sorted { IfOk result (λ changes. T (is_sorted position_cmp changes.items)) }
+    ensures full { IfOk result (λ changes. AllByRecursion IsSizeAt changes.items) }
+    ensures sizes { IfOk result (λ changes. with_sizes cfg.now changes.items ≡ pulled_each axis back (count_of axis rows columns) cfg.now (inside entity rows columns)) }
+{
+    let count = count_of(axis, rows, columns);
+    let mut changes = Vec::new(alloc);
+    for pos in entity.iter(rows, columns) {
+        let (first, many) = taken(back, count, index(axis, pos));
+        put_span(&mut changes, cfg, axis, at_index(axis, pos, first), many)?;
+    }
+    Ok(changes)
+}
 
 /// The merged cells of a table (`rows x columns`) after a span at each place that an entity names,
 /// without those that are hidden then.
@@ -23,12 +88,9 @@ fn pulled(
 ) -> Result<SpannedConfig, AllocError>
     ensures { IfOk result (λ spans. spans ≡ pulled axis back entity rows columns cfg.now) }
 {
-    let count = count_of(axis, rows, columns);
+    let changes = changes(alloc, cfg, axis, back, entity, rows, columns)?;
     let mut spans = cfg.copy(alloc)?;
-    for pos in entity.iter(rows, columns) {
-        let (first, many) = taken(back, count, index(axis, pos));
-        set_span(alloc, &mut spans, axis, at_index(axis, pos, first), many)?;
-    }
+    spans.set_sizes(alloc, &changes)?;
     spans.drop_hidden();
     Ok(spans)
 }

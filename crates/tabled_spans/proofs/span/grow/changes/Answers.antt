@@ -6,7 +6,7 @@ use Rattle.tabled_grid.specs.Spans.{position_cmp, size_at, with_sizes}
 use Rattle.tabled_spans.specs.Spanned.{count_of, index}
 use Rattle.tabled_spans.proofs.Reach.{inside-reach}
 use Rattle.tabled_spans.proofs.RisingPlaces.{ones, sorted_inside}
-use Rattle.tabled_spans.proofs.SpanChanges.{changes-more, cover-change, line_within, size-before, sorted-change}
+use Rattle.tabled_spans.proofs.SpanChanges.{changes-more, cover-change, line_within, reach_end, size-before, sorted-change}
 use Rattle.tabled_spans.proofs.span.grow.changes.Goals as goal
 
 pub loop-pos-init : goal.loop-pos-init
@@ -21,23 +21,32 @@ loop-pos-init c =
       hints = search rules;
     }
 
+pub overflow_sub-line_of : goal.overflow_sub-line_of
+overflow_sub-line_of c =
+    let here = (rw c.in-Some.ensures.steps at c.loop-pos.invariant.within).0 in
+    let corner = c.first_named-first.ensures in
+    let line = line_within c.args.axis c.first_named-first.result c.in-Some.pos (c.reach-bottom.result.0 - c.first_named-first.result.row) (c.reach-bottom.result.1 - c.first_named-first.result.col) (corner.row c.in-Some.pos here.0) (omega (arith, here.1.row, corner.rows)) (corner.col c.in-Some.pos here.0) (omega (arith, here.1.col, corner.columns)) in
+    omega (arith, line.0, c.line_of.ensures, c.line_of-in-loop-pos.ensures)
+
 pub index_mut-hint-requires : goal.index_mut-hint-requires
 index_mut-hint-requires c =
     let here = (rw c.in-Some.ensures.steps at c.loop-pos.invariant.within).0 in
-    let line = line_within c.args.axis c.in-Some.pos c.reach-bottom.result.0 c.reach-bottom.result.1 here.row here.col in
-    omega (arith, line, c.line_of.ensures, c.loop-pos.invariant.hints, c.loop-pos.hints.ok.0)
+    let corner = c.first_named-first.ensures in
+    let line = line_within c.args.axis c.first_named-first.result c.in-Some.pos (c.reach-bottom.result.0 - c.first_named-first.result.row) (c.reach-bottom.result.1 - c.first_named-first.result.col) (corner.row c.in-Some.pos here.0) (omega (arith, here.1.row, corner.rows)) (corner.col c.in-Some.pos here.0) (omega (arith, here.1.col, corner.columns)) in
+    omega (arith, line.0, line.1, c.line_of.ensures, c.line_of-in-loop-pos.ensures, c.loop-pos.invariant.hints, c.loop-pos.hints.ok.0)
 
 pub grow_at-requires-clause-some : goal.grow_at-requires-clause-some
 grow_at-requires-clause-some c =
     let here = (rw c.in-Some.ensures.steps at c.loop-pos.invariant.within).0 in
-    omega (arith, here.line, c.min-many.ensures, c.index.ensures, c.count_of-count.ensures, c.requires)
+    omega (arith, here.1.line, c.min-many.ensures, c.index.ensures, c.count_of-count.ensures, c.requires)
 
 pub grow_at-requires-clause-within : goal.grow_at-requires-clause-within
 grow_at-requires-clause-within c =
     let here = (rw c.in-Some.ensures.steps at c.loop-pos.invariant.within).0 in
-    let tall : c.loop-pos.cover.rows ≡ c.reach-bottom.result.0 = ap (λ (k : Cover). k.rows) c.loop-pos.invariant.cover in
-    let wide : c.loop-pos.cover.columns ≡ c.reach-bottom.result.1 = ap (λ (k : Cover). k.columns) c.loop-pos.invariant.cover in
-    rw (tall, wide) (omega (arith, here.end, c.min-many.ensures, c.index.ensures, c.count_of-count.ensures))
+    let begin : c.loop-pos.cover.first ≡ c.first_named-first.result = ap (λ (k : Cover). k.first) c.loop-pos.invariant.cover in
+    let tall : c.loop-pos.cover.rows ≡ (c.reach-bottom.result.0 - c.first_named-first.result.row) = ap (λ (k : Cover). k.rows) c.loop-pos.invariant.cover in
+    let wide : c.loop-pos.cover.columns ≡ (c.reach-bottom.result.1 - c.first_named-first.result.col) = ap (λ (k : Cover). k.columns) c.loop-pos.invariant.cover in
+    rw (begin, tall, wide) (reach_end c.args.axis c.first_named-first.result c.reach-bottom.result.0 c.reach-bottom.result.1 _ c.first_named-first.ensures.rows c.first_named-first.ensures.columns (omega (arith, here.1.end, c.min-many.ensures, c.index.ensures, c.count_of-count.ensures)))
 
 pub loop-pos-preserved : goal.loop-pos-preserved
 loop-pos-preserved c =
@@ -51,13 +60,13 @@ loop-pos-preserved c =
     let here = (rw c.in-Some.ensures.steps at c.loop-pos.invariant.within) in
     let up : T (is_sorted position_cmp (xs ++ (p, (1, 1)) ∷ ones rest)) = rw c.in-Some.ensures.steps at c.loop-pos.invariant.sorted in
     let before : size_at m p ≡ size_at cfg p = size-before cfg xs p (1, 1) (ones rest) up in
-    let added = c.in_ok-grow_at.ensures.ok m c.reach-bottom.result.0 c.reach-bottom.result.1 c.loop-pos.invariant.cover before in
-    let covered = c.in_ok-grow_at.ensures.cover m c.reach-bottom.result.0 c.reach-bottom.result.1 c.loop-pos.invariant.cover before in
-    let some : 1 ≤ many = omega (arith, here.0.line, c.min-many.ensures, c.index.ensures, c.count_of-count.ensures, c.requires) in
+    let added = c.in_ok-grow_at.ensures.ok m c.first_named-first.result (c.reach-bottom.result.0 - c.first_named-first.result.row) (c.reach-bottom.result.1 - c.first_named-first.result.col) c.loop-pos.invariant.cover before in
+    let covered = c.in_ok-grow_at.ensures.cover m c.first_named-first.result (c.reach-bottom.result.0 - c.first_named-first.result.row) (c.reach-bottom.result.1 - c.first_named-first.result.col) c.loop-pos.invariant.cover before in
+    let some : 1 ≤ many = omega (arith, here.0.1.line, c.min-many.ensures, c.index.ensures, c.count_of-count.ensures, c.requires) in
     let is : many ≡ min c.args.size (count_of axis c.args.rows c.args.columns - index axis p) = c.min-many.ensures ∙ rw (c.index.ensures, c.count_of-count.ensures) refl in
     record {
       within = here.1;
-      cover = covered ∙ cover-change cfg xs _ axis p many c.reach-bottom.result.0 c.reach-bottom.result.1 added;
+      cover = covered ∙ cover-change cfg xs _ axis p many c.first_named-first.result (c.reach-bottom.result.0 - c.first_named-first.result.row) (c.reach-bottom.result.1 - c.first_named-first.result.col) added;
       sorted = rw added (sorted-change axis m p many xs (ones rest) up);
       full = c.in_ok-grow_at.ensures.full c.loop-pos.invariant.full;
       sizes = changes-more cfg xs _ p rest axis c.args.size (count_of axis c.args.rows c.args.columns) many is some added ∙ (rw c.in-Some.ensures.steps at c.loop-pos.invariant.sizes);

@@ -1,10 +1,11 @@
 use Rattle.std.proofs.Common.{◌≡◌, ◌-◌, ℕ}
 use Rattle.std.specs.List.{list_all}
-use Rattle.tabled_grid.specs.Covers.{cover_of}
+use Rattle.tabled_grid.specs.Covers.{cover_in}
 use Rattle.tabled_grid.specs.Rectangles.{is_visible}
 use Rattle.tabled_grid.specs.Spans.{SpanMap}
+use Rattle.tabled_grid.specs.declared.config.position.Position.{Position}
 use Rattle.tabled_spans.specs.Spanned.{index, stretch}
 use Rattle.tabled_spans.proofs.span.grow.is_free.Given as goal
 
 abbrev pub invariant-loop-k : goal.invariant-loop-k
-invariant-loop-k l = (m : SpanMap) (rows columns : ℕ) → l.cover ≡ cover_of m rows columns → list_all (is_visible m) (stretch l.axis l.pos (index l.axis l.pos) l.many) ≡ list_all (is_visible m) (stretch l.axis l.pos l.k (l.end - l.k))
+invariant-loop-k l = (m : SpanMap) (first : Position) (rows columns : ℕ) → l.cover ≡ cover_in m first rows columns → list_all (is_visible m) (stretch l.axis l.pos (index l.axis l.pos) l.many) ≡ list_all (is_visible m) (stretch l.axis l.pos l.k (l.end - l.k))

@@ -1,0 +1,22 @@
+use Rattle.std.proofs.Common.{rules, ◌≡◌, ◌∙◌, ap, subst, sym, arith, ℕ, List}
+use Rattle.std.specs.FinMap.{entries_sorted, is_sorted}
+use Rattle.std.specs.Prelude.{T}
+use Rattle.std.specs.Vec.{with_items}
+use Rattle.std.proofs.lemmas.Grind.{common_steps}
+use Rattle.std.proofs.lemmas.List.{take_all}
+use Rattle.tabled_grid.specs.Covers.{beyond, hiders_in, table}
+use Rattle.tabled_grid.specs.Spans.{position_cmp}
+use Rattle.tabled_grid.proofs.Hiders.{hiders-more, hiders-none}
+use Rattle.tabled_grid.proofs.config.cover_map.CoverMap.of_block.Goals as goal
+
+pub loop-k-init : goal.loop-k-init
+loop-k-init c = hiders-none c.args.first c.args.rows c.args.columns c.in-Some.count c.in_ok-hiders.hiders.items (search rules) (search rules)
+
+pub loop-k-preserved : goal.loop-k-preserved
+loop-k-preserved c =
+    let items : (with_items c.loop-k.hiders c.step_each.new.hiders).items ≡ c.step_each.new.hiders = grind (arith, common_steps) in
+    let up : T (is_sorted position_cmp c.anchors-anchors.result.now) = subst (λ es. T (is_sorted position_cmp es)) (sym c.anchors-anchors.ensures) (entries_sorted c.args.cfg.now) in
+    items ∙ hiders-more c.anchors-anchors.result.now c.loop-k.k _ c.deref_mut.result.now c.step_each.new.hiders c.args.first c.args.rows c.args.columns up c.loop-k-test.true c.in-Some.ensures.fits c.step_each.ensures.steps (c.deref_mut.ensures.value ∙ c.loop-k.invariant)
+
+pub returns : goal.returns
+returns c = record { cover = ap (λ (xs : List ℕ). record { first = c.args.first; rows = c.args.rows; columns = c.args.columns; hiders = xs }) (c.loop-k.invariant ∙ ap (λ es. table (λ p. hiders_in es (beyond c.args.first p)) c.args.rows c.args.columns) (take_all c.loop-k.k c.anchors-anchors.result.now c.loop-k-test.false ∙ c.anchors-anchors.ensures)) }

@@ -1,0 +1,47 @@
+-- What keeps the shape of a table, and so its merged cells inside and apart.
+use Rattle.std.proofs.Common.{◌≡◌, ℕ, List, [], ◌∷◌, refl, ap, ◌∙◌, take}
+use Rattle.tabled_grid.specs.Entity.{inside}
+use Rattle.tabled_grid.specs.Grid.{Grid, map_grid, with_cell}
+use Rattle.tabled_grid.specs.Rectangles.{Fits}
+use Rattle.tabled_grid.specs.Spans.{SpanMap}
+use Rattle.tabled_grid.specs.declared.config.entity.Entity.{Entity}
+use Rattle.tabled_grid.specs.declared.config.position.Position.{Position}
+use Rattle.tabled_options.specs.Does.{Change, OptionKeeps}
+use Rattle.tabled_options.specs.Shapes.{KeepsShape}
+use Rattle.tabled_options.specs.Writes.{Write, Writes, WritesBefore, with_writes, written}
+
+pub fits_kept : {A : Type 0} (does leaves : Change A SpanMap) → KeepsShape does → KeepsShape leaves → OptionKeeps (λ (g : Grid A) (c : SpanMap). Fits c g.rows g.columns) does leaves
+fits_kept does leaves done refused = record {
+  done = λ g c h d fits change. let same = done.each g c h d change in rw (same.0, same.1, same.2) fits;
+  refused = λ g c h d fits change. let same = refused.each g c h d change in rw (same.0, same.1, same.2) fits;
+}
+
+-- writes keep the shape
+pub record SameShape (g h : Grid (List ℕ)) : Type 0 where
+  pub rows : h.rows ≡ g.rows
+  pub columns : h.columns ≡ g.columns
+
+pub shape_written : (writes : List Write) (g : Grid (List ℕ)) → SameShape g (with_writes writes g)
+shape_written [] g = record { rows = refl; columns = refl }
+shape_written (w ∷ writes) g = let rest = shape_written writes (with_cell g w.place w.text) in record { rows = rest.rows; columns = rest.columns }
+
+shape_of_text : (text : List ℕ) (places : List Position) (g : Grid (List ℕ)) → SameShape g (written text places g)
+shape_of_text text [] g = record { rows = refl; columns = refl }
+shape_of_text text (p ∷ places) g = let rest = shape_of_text text places (with_cell g p text) in record { rows = rest.rows; columns = rest.columns }
+
+-- cells whose texts are written have the shape as it was
+pub shape_texts : {A C : Type 0} (text_of : A → List ℕ) (writes : List Write) (g h : Grid A) (c d : C) → map_grid text_of h ≡ with_writes writes (map_grid text_of g) → d ≡ c → (h.rows ≡ g.rows) × (h.columns ≡ g.columns) × (d ≡ c)
+shape_texts text_of writes g h c d is same =
+    let shape = shape_written writes (map_grid text_of g) in
+    (ap (λ (k : Grid (List ℕ)). k.rows) is ∙ shape.rows, ap (λ (k : Grid (List ℕ)). k.columns) is ∙ shape.columns, same)
+
+text_shape : {A C : Type 0} (text_of : A → List ℕ) (text : List ℕ) (places : List Position) (g h : Grid A) (c d : C) → map_grid text_of h ≡ written text places (map_grid text_of g) → d ≡ c → (h.rows ≡ g.rows) × (h.columns ≡ g.columns) × (d ≡ c)
+text_shape text_of text places g h c d is same =
+    let shape = shape_of_text text places (map_grid text_of g) in
+    (ap (λ (k : Grid (List ℕ)). k.rows) is ∙ shape.rows, ap (λ (k : Grid (List ℕ)). k.columns) is ∙ shape.columns, same)
+
+-- a text in the cells that an entity names
+pub text_keeps : {A : Type 0} (text_of : A → List ℕ) (text : List ℕ) (e : Entity) → OptionKeeps (λ (g : Grid A) (c : SpanMap). Fits c g.rows g.columns) (Writes text_of text e) (WritesBefore text_of text e)
+text_keeps text_of text e = fits_kept _ _
+    (record { each = λ g c h d w. text_shape text_of text (inside e g.rows g.columns) g h c d w.0 w.1 })
+    (record { each = λ g c h d w. text_shape text_of text (take w.0.count (inside e g.rows g.columns)) g h c d w.0.is w.1 })

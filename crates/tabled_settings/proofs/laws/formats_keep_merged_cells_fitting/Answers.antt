@@ -1,0 +1,11 @@
+use Rattle.tabled_grid.specs.declared.config.entity.Entity.TheVariants.{Global}
+use Rattle.tabled_settings.proofs.WritersKeep.{rewrites_keep}
+use Rattle.tabled_settings.proofs.laws.formats_keep_merged_cells_fitting.Goals as goal
+
+pub returns : goal.returns
+returns g c = record {
+  content = λ e. rewrites_keep g.R.Cell.CellText.text_of _ c.args._content.now e;
+  table_content = rewrites_keep g.R.Cell.CellText.text_of _ c.args._content.now Global;
+  positioned = λ e. rewrites_keep g.R.Cell.CellText.text_of _ c.args._positioned.now e;
+  table_positioned = rewrites_keep g.R.Cell.CellText.text_of _ c.args._positioned.now Global;
+}
