@@ -1,9 +1,11 @@
 pub mod Across
 pub mod AddedColumns
+pub mod AddedLines
 pub mod AddedRows
 pub mod Along
 pub mod BesideAnchors
 pub mod Blanks
+pub mod Cutting
 pub mod Diagonal
 pub mod FirstLines
 pub mod FittingAnchors
@@ -28,6 +30,9 @@ pub mod Merging
 pub mod NestedRows
 pub mod OwnStore
 pub mod PassedAnchors
+pub mod PiecePlaces
+pub mod PiecesCut
+pub mod PiecesPut
 pub mod Places
 pub mod Resized
 pub mod RowByRow

@@ -1,0 +1,108 @@
+-- Where the cells of pieces come from, by their places.
+use Rattle.std.proofs.Common.{◌≡◌, ℕ, ◌*◌, ◌<◌, Bool, true, false, cond, Option, None, Some, refl, sym, ap, ap₂, ◌∙◌, arith}
+use Rattle.std.specs.Prelude.{nat_lt}
+use Rattle.std.specs.Int.{div_ceil}
+use Rattle.std.specs.Option.{IfSome}
+use Rattle.std.proofs.lemmas.Bool.{le-ltb, lt-ltb, ltb-false, ltb-true}
+use Rattle.tabled_grid.specs.Along.{count_along}
+use Rattle.tabled_grid.specs.Grid.{Grid, IsInside, cell_at}
+use Rattle.tabled_grid.specs.Pieces.{across, cut_places, index_in_line, nth_piece}
+use Rattle.tabled_grid.specs.Places.{FillsThrough, count_of, place_in}
+use Rattle.tabled_grid.specs.Shifts.{line_of}
+use Rattle.tabled_grid.specs.declared.config.position.Position.{Position}
+use Rattle.tabled_grid.specs.declared.records.axis.Axis.{Axis}
+use Rattle.tabled_grid.specs.declared.records.axis.Axis.TheVariants.{Rows, Columns}
+use Rattle.tabled_grid.specs.declared.records.piece_order.PieceOrder.{PieceOrder}
+use Rattle.tabled_grid.proofs.PiecesCut.{ComesFrom, IsCut}
+use Rattle.tabled_grid.proofs.PiecesPut.{inside_of, source}
+
+-- a place by its line
+pub place_is : (axis : Axis) (p : Position) → place_in axis (line_of axis p) (line_of (across axis) p) ≡ p
+place_is Rows p = refl
+place_is Columns p = refl
+
+pub line_is : (axis : Axis) (i j : ℕ) → line_of axis (place_in axis i j) ≡ i
+line_is Rows i j = refl
+line_is Columns i j = refl
+
+pub across_is : (axis : Axis) (i j : ℕ) → line_of (across axis) (place_in axis i j) ≡ j
+across_is Rows i j = refl
+across_is Columns i j = refl
+
+pub line_inside : {A : Type 0} (axis : Axis) (g : Grid A) (p : Position) → IsInside g p → (line_of axis p < count_along axis g) × (line_of (across axis) p < count_along (across axis) g)
+line_inside Rows g p inside = (inside.row, inside.col)
+line_inside Columns g p inside = (inside.col, inside.row)
+
+shape_of : {A : Type 0} (axis : Axis) (g : Grid A) (m n : ℕ) → count_along axis g ≡ m → count_along (across axis) g ≡ n → (g.rows ≡ count_of axis m n) × (g.columns ≡ count_of axis n m)
+shape_of Rows g m n h k = (h, k)
+shape_of Columns g m n h k = (k, h)
+
+counts_of : {A : Type 0} (axis : Axis) (g : Grid A) (m n : ℕ) → g.rows ≡ count_of axis m n → g.columns ≡ count_of axis n m → (count_along axis g ≡ m) × (count_along (across axis) g ≡ n)
+counts_of Rows g m n h k = (h, k)
+counts_of Columns g m n h k = (k, h)
+
+if_some : (P : Position → Type 0) (b : Bool) (q : Position) → (b ≡ true → P q) → IfSome (cond b (Some q) None) P
+if_some P true q h = h refl
+if_some P false q h = tt
+
+some_if : (P : Position → Type 0) (b : Bool) (q : Position) → b ≡ true → IfSome (cond b (Some q) None) P → P q
+some_if P true q e h = h
+some_if P false q e h = cc
+
+none_if : (b : Bool) (q : Position) → cond b (Some q) None ≡ None → b ≡ false
+none_if true q e = cc
+none_if false q e = refl
+
+module _ {A : Type 0} (is_blank : A → Type 0) (axis : Axis) (order : PieceOrder) (index lines width : ℕ) (g h : Grid A) where
+  -- all pieces, in their places
+  pub cut_fills : IsCut is_blank axis order index lines width g h → FillsThrough is_blank (cut_places axis order index lines width) g h
+  cut_fills cut =
+      let shape = shape_of axis h (lines * div_ceil width index) index cut.count cut.wide in
+      record { reads = record { even = cut.even; rows = shape.0; columns = shape.1; moved = λ p inside. moved p inside }; blanks = λ p inside none. blank p inside none }
+    where
+      comes : (p : Position) → IsInside h p →
+          ComesFrom is_blank g h (source axis order index lines (div_ceil width index) (line_of axis p) (line_of (across axis) p)) (place_in axis (line_of axis p) (line_of (across axis) p)) (index_in_line order index lines (div_ceil width index) (line_of axis p) (line_of (across axis) p)) width
+      comes p inside =
+          let within = line_inside axis h p inside in
+          cut.cells (line_of axis p) (line_of (across axis) p) (omega (arith, within.0, cut.count)) (omega (arith, within.1, cut.wide))
+
+      moved : (p : Position) → IsInside h p → IfSome ((cut_places axis order index lines width).old_place p) (λ (q : Position). cell_at h p ≡ cell_at g q)
+      moved p inside =
+          let t : ℕ = line_of axis p in
+          let b : ℕ = line_of (across axis) p in
+          if_some (λ (q : Position). cell_at h p ≡ cell_at g q) (nat_lt (index_in_line order index lines (div_ceil width index) t b) width) (place_in axis (nth_piece order lines (div_ceil width index) t).0 (index_in_line order index lines (div_ceil width index) t b))
+          (λ e. ap (cell_at h) (sym (place_is axis p)) ∙ (comes p inside).cell (ltb-true (index_in_line order index lines (div_ceil width index) t b) width e))
+
+      blank : (p : Position) → IsInside h p → (cut_places axis order index lines width).old_place p ≡ None → (cell : A) × is_blank cell × (cell_at h p ≡ Some cell)
+      blank p inside none =
+          let t : ℕ = line_of axis p in
+          let b : ℕ = line_of (across axis) p in
+          let past : nat_lt (index_in_line order index lines (div_ceil width index) t b) width ≡ false =
+          none_if (nat_lt (index_in_line order index lines (div_ceil width index) t b) width) (place_in axis (nth_piece order lines (div_ceil width index) t).0 (index_in_line order index lines (div_ceil width index) t b)) none in
+          let c = (comes p inside).blank (ltb-false (index_in_line order index lines (div_ceil width index) t b) width past) in
+          (c.0, c.1, ap (cell_at h) (sym (place_is axis p)) ∙ c.2)
+
+  -- and back
+  pub fills_cut : FillsThrough is_blank (cut_places axis order index lines width) g h → IsCut is_blank axis order index lines width g h
+  fills_cut fills = record { even = fills.reads.even; count = counts.0; wide = counts.1; cells = λ t b m n. cells t b m n }
+    where
+      counts : (count_along axis h ≡ lines * div_ceil width index) × (count_along (across axis) h ≡ index)
+      counts = counts_of axis h (lines * div_ceil width index) index fills.reads.rows fills.reads.columns
+
+      test : ℕ → ℕ → Bool
+      test t b = nat_lt (index_in_line order index lines (div_ceil width index) t b) width
+
+      choice : ℕ → ℕ → Option Position
+      choice t b = cond (nat_lt (index_in_line order index lines (div_ceil width index) t b) width) (Some (source axis order index lines (div_ceil width index) t b)) None
+
+      old_is : (t b : ℕ) → (cut_places axis order index lines width).old_place (place_in axis t b) ≡ cond (nat_lt (index_in_line order index lines (div_ceil width index) t b) width) (Some (source axis order index lines (div_ceil width index) t b)) None
+      old_is t b = ap₂ (λ (u c : ℕ). cond (nat_lt (index_in_line order index lines (div_ceil width index) u c) width) (Some (source axis order index lines (div_ceil width index) u c)) None) (line_is axis t b) (across_is axis t b)
+
+      cells : (t b : ℕ) → t < lines * div_ceil width index → b < index → ComesFrom is_blank g h (source axis order index lines (div_ceil width index) t b) (place_in axis t b) (index_in_line order index lines (div_ceil width index) t b) width
+      cells t b m n =
+          let inside : IsInside h (place_in axis t b) = inside_of axis h t b (omega (arith, m, counts.0)) (omega (arith, n, counts.1)) in
+          let moved = (rw (old_is t b) at (fills.reads.moved (place_in axis t b) inside)) in
+          record {
+            cell = λ below. some_if (λ (q : Position). cell_at h (place_in axis t b) ≡ cell_at g q) (nat_lt (index_in_line order index lines (div_ceil width index) t b) width) (source axis order index lines (div_ceil width index) t b) (lt-ltb (index_in_line order index lines (div_ceil width index) t b) width below) moved;
+            blank = λ past. fills.blanks (place_in axis t b) inside (old_is t b ∙ ap (λ (c : Bool). cond c (Some (source axis order index lines (div_ceil width index) t b)) None) (le-ltb (index_in_line order index lines (div_ceil width index) t b) width past));
+          }
