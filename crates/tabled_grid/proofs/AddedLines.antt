@@ -29,7 +29,7 @@ back_read (x ∷ xs) ys zero h = absurd (omega (arith, h))
 back_read (x ∷ xs) ys (suc j) h = let same : j - length xs ≡ suc j - suc (length xs) = omega arith in back_read xs ys j (omega (arith, h)) ∙ ap (slice_get ys) same
 
 module _ {A : Type 0} (is_blank : A → Type 0) where
-  blank_at : (xs : List A) (j : ℕ) → AllByRecursion is_blank xs → j < length xs → (c : A) × is_blank c × (slice_get xs j ≡ Some c)
+  pub blank_at : (xs : List A) (j : ℕ) → AllByRecursion is_blank xs → j < length xs → (c : A) × is_blank c × (slice_get xs j ≡ Some c)
   blank_at [] j all h = absurd (omega (arith, h))
   blank_at (x ∷ xs) zero all h = (x, all.0, refl)
   blank_at (x ∷ xs) (suc j) all h = blank_at xs j all.1 (omega (arith, h))

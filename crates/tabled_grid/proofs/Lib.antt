@@ -13,6 +13,7 @@ pub mod Flat
 pub mod FlatCells
 pub mod FlatColumns
 pub mod FlatFronts
+pub mod FlatPieces
 pub mod FlatRows
 pub mod FlatSlides
 pub mod FlatSplits
@@ -48,4 +49,5 @@ pub mod Stepping
 pub mod SwappedCells
 pub mod Swaps
 pub mod Tables
+pub mod Through
 pub mod Transposed

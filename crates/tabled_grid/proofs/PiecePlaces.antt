@@ -1,8 +1,10 @@
 -- Where the cells of pieces come from, by their places.
-use Rattle.std.proofs.Common.{◌≡◌, ℕ, ◌*◌, ◌<◌, Bool, true, false, cond, Option, None, Some, refl, sym, ap, ap₂, ◌∙◌, arith}
+use Rattle.std.proofs.Common.{◌≡◌, ℕ, ◌*◌, ◌<◌, Bool, true, false, cond, Option, None, Some, refl, sym, ap, ap₂, ◌∙◌, arith, ◌≤◌}
 use Rattle.std.specs.Prelude.{nat_lt}
 use Rattle.std.specs.Int.{div_ceil}
-use Rattle.std.specs.Option.{IfSome}
+use Rattle.std.specs.Option.{IfSome, unwrap_or}
+use Rattle.std.proofs.lemmas.Grind.{div_ceil_times}
+use Rattle.std.proofs.lemmas.Nat.{row_fits}
 use Rattle.std.proofs.lemmas.Bool.{le-ltb, lt-ltb, ltb-false, ltb-true}
 use Rattle.tabled_grid.specs.Along.{count_along}
 use Rattle.tabled_grid.specs.Grid.{Grid, IsInside, cell_at}
@@ -13,8 +15,9 @@ use Rattle.tabled_grid.specs.declared.config.position.Position.{Position}
 use Rattle.tabled_grid.specs.declared.records.axis.Axis.{Axis}
 use Rattle.tabled_grid.specs.declared.records.axis.Axis.TheVariants.{Rows, Columns}
 use Rattle.tabled_grid.specs.declared.records.piece_order.PieceOrder.{PieceOrder}
-use Rattle.tabled_grid.proofs.PiecesCut.{ComesFrom, IsCut}
-use Rattle.tabled_grid.proofs.PiecesPut.{inside_of, source}
+use Rattle.tabled_grid.proofs.PiecesCut.{ComesFrom, IsCut, enough_pieces, more_lines, some_pieces}
+use Rattle.tabled_grid.proofs.PiecesPut.{inside_of, piece_line, piece_number, source, source_apart}
+use Rattle.tabled_grid.proofs.Through.{TakesOnce, Within}
 
 -- a place by its line
 pub place_is : (axis : Axis) (p : Position) → place_in axis (line_of axis p) (line_of (across axis) p) ≡ p
@@ -106,3 +109,54 @@ module _ {A : Type 0} (is_blank : A → Type 0) (axis : Axis) (order : PieceOrde
             cell = λ below. some_if (λ (q : Position). cell_at h (place_in axis t b) ≡ cell_at g q) (nat_lt (index_in_line order index lines (div_ceil width index) t b) width) (source axis order index lines (div_ceil width index) t b) (lt-ltb (index_in_line order index lines (div_ceil width index) t b) width below) moved;
             blank = λ past. fills.blanks (place_in axis t b) inside (old_is t b ∙ ap (λ (c : Bool). cond c (Some (source axis order index lines (div_ceil width index) t b)) None) (le-ltb (index_in_line order index lines (div_ceil width index) t b) width past));
           }
+
+-- the old place of a cell of a piece, where it has one
+module _ (axis : Axis) (order : PieceOrder) (index lines width : ℕ) (some : 0 < lines) (some_index : 0 < index) (narrow : index < width) where
+  abbrev pieces : ℕ
+  pieces = div_ceil width index
+
+  enough : width ≤ div_ceil width index * index
+  enough = enough_pieces (div_ceil width index) index width some_index refl
+
+  any : 0 < div_ceil width index
+  any = some_pieces (div_ceil width index) index width (omega (arith, narrow)) enough
+
+  some_is : (b : Bool) (p q : Position) → cond b (Some p) None ≡ Some q → (b ≡ true) × (p ≡ q)
+  some_is true p q e = (refl, ap (λ (o : Option Position). unwrap_or o p) e)
+  some_is false p q e = cc
+
+  lines_of : (p : Position) → Within (cut_places axis order index lines width) p → (line_of axis p < lines * div_ceil width index) × (line_of (across axis) p < index)
+  lines_of p w = each axis w.row w.col
+    where
+      each : (a : Axis) → p.row < count_of a (lines * div_ceil width index) index → p.col < count_of a index (lines * div_ceil width index) → (line_of a p < lines * div_ceil width index) × (line_of (across a) p < index)
+      each Rows row col = (row, col)
+      each Columns row col = (col, row)
+
+  found : (p q : Position) → (cut_places axis order index lines width).old_place p ≡ Some q → (index_in_line order index lines (div_ceil width index) (line_of axis p) (line_of (across axis) p) < width) × (source axis order index lines (div_ceil width index) (line_of axis p) (line_of (across axis) p) ≡ q)
+  found p q is =
+      let both = some_is (nat_lt (index_in_line order index lines (div_ceil width index) (line_of axis p) (line_of (across axis) p)) width) (source axis order index lines (div_ceil width index) (line_of axis p) (line_of (across axis) p)) q is in
+      (ltb-true (index_in_line order index lines (div_ceil width index) (line_of axis p) (line_of (across axis) p)) width both.0, both.1)
+
+  pub pieces_take_once : {A : Type 0} (g : Grid A) → lines ≡ count_along axis g → width ≡ count_along (across axis) g → TakesOnce (cut_places axis order index lines width) g
+  pieces_take_once {A} g lines_are width_is = record { inside = λ p q w is. inside p q w is; apart = λ p r q w v is also. apart p r q w v is also }
+    where
+      inside : (p q : Position) → Within (cut_places axis order index lines width) p → (cut_places axis order index lines width).old_place p ≡ Some q → IsInside g q
+      inside p q w is =
+          let f = found p q is in
+          rw (← f.1) (inside_of axis g (nth_piece order lines (div_ceil width index) (line_of axis p)).0 (index_in_line order index lines (div_ceil width index) (line_of axis p) (line_of (across axis) p))
+          (omega (arith, piece_line order lines (div_ceil width index) (line_of axis p) some any (lines_of p w).0, lines_are)) (omega (arith, f.0, width_is)))
+
+      apart : (p r q : Position) → Within (cut_places axis order index lines width) p → Within (cut_places axis order index lines width) r → (cut_places axis order index lines width).old_place p ≡ Some q → (cut_places axis order index lines width).old_place r ≡ Some q → p ≡ r
+      apart p r q w v is also =
+          let same = source_apart axis order index lines (div_ceil width index) some any (line_of axis p) (line_of (across axis) p) (line_of axis r) (line_of (across axis) r) (lines_of p w).1 (lines_of r v).1 ((found p q is).1 ∙ sym (found r q also).1) in
+          sym (place_is axis p) ∙ ap₂ (λ (i j : ℕ). place_in axis i j) same.0 same.1 ∙ place_is axis r
+
+  -- a piece begins inside its line
+  pub starts_inside : (t : ℕ) → t < lines * div_ceil width index → (nth_piece order lines (div_ceil width index) t).1 * index < width
+  starts_inside t h =
+      let number : ℕ = (nth_piece order lines (div_ceil width index) t).1 in
+      omega (arith, row_fits number index (div_ceil width index) index (piece_number order lines (div_ceil width index) t some any h) (omega arith), (div_ceil_times width index some_index).1)
+
+  -- there are pieces
+  pub some_lines : 0 < lines * div_ceil width index
+  some_lines = omega (arith, some, more_lines lines (div_ceil width index) any)

@@ -109,7 +109,7 @@ module _ {A : Type 0} (g new : Grid A) (p q : Position) (even : IsEven g) (at_p 
   swapped_else r off_p off_q = ap (λ (h : Grid A). cell_at h r) is ∙ set_else (cell_at g p) half q r off_q ∙ set_else (cell_at g q) g p r off_p
 
 module _ (axis : Axis) (order : PieceOrder) (index : ℕ) (lines pieces : ℕ) (some_lines : 0 < lines) (some_pieces : 0 < pieces) where
-  source_apart : (t b u j : ℕ) → b < index → j < index → source axis order index lines pieces t b ≡ source axis order index lines pieces u j → (t ≡ u) × (b ≡ j)
+  pub source_apart : (t b u j : ℕ) → b < index → j < index → source axis order index lines pieces t b ≡ source axis order index lines pieces u j → (t ≡ u) × (b ≡ j)
   source_apart t b u j h k e =
       let lines_are = same_place_in axis _ _ _ _ e in
       let numbers_are = same_from_place (nth_piece order lines pieces t).1 b (nth_piece order lines pieces u).1 j index h k lines_are.1 in

@@ -11,6 +11,7 @@ mod grid_store;
 pub mod nested_rows;
 mod peekable_records;
 mod piece_order;
+mod pieces;
 #[allow(clippy::module_inception)]
 mod records;
 mod records_mut;

@@ -1,9 +1,12 @@
 //! Rows in vectors of their own, that grow and shrink.
 
 use super::moves::{blanks, insert_blanks, remove_each, swap_cells, swap_each};
+use super::pieces::cut_lines;
 use crate::config::Position;
+use crate::records::axis::Axis;
 use crate::records::blank::Blank;
 use crate::records::exact_records::ExactRecords;
+use crate::records::piece_order::PieceOrder;
 use crate::records::records::Records;
 use crate::records::resizable::Resizable;
 use std::alloc::{AllocError, Global};
@@ -46,5 +49,15 @@ impl<T: Blank> Resizable for Vec<Vec<T>> {
 
     fn swap_column(&mut self, j: usize, k: usize) {
         swap_each(self, j, k);
+    }
+
+    fn cut(
+        &mut self,
+        alloc: Global,
+        lines: Axis,
+        order: PieceOrder,
+        index: usize,
+    ) -> Result<(), AllocError> {
+        cut_lines(alloc, self, lines, order, index)
     }
 }
