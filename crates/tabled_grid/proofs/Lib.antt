@@ -1,9 +1,11 @@
 pub mod Across
 pub mod AddedColumns
+pub mod AddedLines
 pub mod AddedRows
 pub mod Along
 pub mod BesideAnchors
 pub mod Blanks
+pub mod Cutting
 pub mod Diagonal
 pub mod FirstLines
 pub mod FittingAnchors
@@ -11,6 +13,7 @@ pub mod Flat
 pub mod FlatCells
 pub mod FlatColumns
 pub mod FlatFronts
+pub mod FlatPieces
 pub mod FlatRows
 pub mod FlatSlides
 pub mod FlatSplits
@@ -29,6 +32,9 @@ pub mod NearAnchors
 pub mod NestedRows
 pub mod OwnStore
 pub mod PassedAnchors
+pub mod PiecePlaces
+pub mod PiecesCut
+pub mod PiecesPut
 pub mod Places
 pub mod Resized
 pub mod RowByRow
@@ -44,4 +50,5 @@ pub mod Stepping
 pub mod SwappedCells
 pub mod Swaps
 pub mod Tables
+pub mod Through
 pub mod Transposed

@@ -1,3 +1,4 @@
+pub mod AddedLines
 pub mod Along
 pub mod Anchors
 pub mod Apart
@@ -9,6 +10,8 @@ pub mod Flat
 pub mod Grid
 pub mod Midway
 pub mod Moves
+pub mod Pieces
+pub mod Places
 pub mod Rectangles
 pub mod Resized
 pub mod Shifts

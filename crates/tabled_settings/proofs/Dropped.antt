@@ -12,10 +12,11 @@ use Rattle.tabled_grid.specs.Grid.{Grid, IsEven}
 use Rattle.tabled_grid.specs.declared.records.axis.Axis.{Axis}
 use Rattle.tabled_grid.specs.declared.records.axis.Axis.TheVariants.{Rows, Columns}
 use Rattle.tabled_settings.specs.Lines.{DropsLines, ThinsLines, line}
-use Rattle.tabled_settings.specs.Places.{ReadsThrough}
+use Rattle.tabled_grid.specs.Places.{ReadsThrough}
 use Rattle.tabled_settings.specs.Rearranged.{is_among, left_over, removed}
 use Rattle.tabled_settings.proofs.Kept.{has_lines}
-use Rattle.tabled_settings.proofs.LineReads.{line_first, lines_read, lines_swapped, same_count, same_shape, shape_after, shape_swapped}
+use Rattle.tabled_grid.proofs.PiecesPut.{same_count, same_shape, shape_after}
+use Rattle.tabled_settings.proofs.LineReads.{line_first, lines_read, lines_swapped, shape_swapped}
 
 -- one index more
 range_more : (a n : ℕ) → range_with_len a (suc n) ≡ range_with_len a n ++ (a + n) ∷ []

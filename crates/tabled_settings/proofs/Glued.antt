@@ -16,25 +16,26 @@ use Rattle.tabled_grid.specs.Grid.{Grid, IsEven, cell_at}
 use Rattle.tabled_grid.specs.declared.records.axis.Axis.{Axis}
 use Rattle.tabled_grid.specs.declared.records.axis.Axis.TheVariants.{Rows, Columns}
 use Rattle.tabled_grid.proofs.Transposed.{slice_get-take}
-use Rattle.tabled_settings.specs.declared.split.Behavior.{Behavior}
-use Rattle.tabled_settings.specs.declared.split.Behavior.TheVariants.{Concat, Zip}
+use Rattle.tabled_grid.specs.declared.records.piece_order.PieceOrder.{PieceOrder}
+use Rattle.tabled_grid.specs.declared.records.piece_order.PieceOrder.TheVariants.{Concat, Zip}
 use Rattle.tabled_settings.specs.declared.split.Display.{Display}
 use Rattle.tabled_settings.specs.declared.split.Display.TheVariants.{Retain}
 use Rattle.tabled_settings.specs.declared.split.Split.{Split}
 use Rattle.tabled_settings.specs.PiecePlaces.{glue_rows, glued, glued_line, piece_index}
-use Rattle.tabled_settings.specs.Pieces.{across, cut_rows, has_pieces, nth_piece, piece_at, split, staying, stays, turned}
+use Rattle.tabled_grid.specs.Pieces.{across, nth_piece}
+use Rattle.tabled_settings.specs.Pieces.{cut_rows, has_pieces, piece_at, split, staying, stays, turned}
 use Rattle.tabled_settings.proofs.PieceReads.{cut_count, cut_even, cut_text, filter_all, piece_text, same_by_lines, turned_across, turned_back, turned_cell, turned_columns, turned_count, turned_even, turned_rows}
-use Rattle.tabled_settings.proofs.PiecesCut.{enough_pieces, some_pieces}
+use Rattle.tabled_grid.proofs.PiecesCut.{enough_pieces, some_pieces}
 use Rattle.tabled_settings.proofs.PiecesDone.{counted}
-use Rattle.tabled_settings.proofs.PiecesGrown.{back_read, front_read}
+use Rattle.tabled_grid.proofs.AddedLines.{back_read, front_read}
 use Rattle.tabled_settings.proofs.SameCells.{same_cells}
 
 -- the piece of a line and a number
-pub piece_of : (o : Behavior) (lines pieces i k : ℕ) → i < lines → k < pieces → nth_piece o lines pieces (piece_index o lines pieces i k) ≡ (i, k)
+pub piece_of : (o : PieceOrder) (lines pieces i k : ℕ) → i < lines → k < pieces → nth_piece o lines pieces (piece_index o lines pieces i k) ≡ (i, k)
 piece_of Zip lines pieces i k h l = ap₂ (λ (a b : ℕ). (a, b)) (div-mul-add i pieces k l) (mod-mul-add i pieces k l)
 piece_of Concat lines pieces i k h l = ap₂ (λ (a b : ℕ). (a, b)) (mod-mul-add k lines i h) (div-mul-add k lines i h)
 
-pub piece_index_below : (o : Behavior) (lines pieces i k : ℕ) → i < lines → k < pieces → piece_index o lines pieces i k < lines * pieces
+pub piece_index_below : (o : PieceOrder) (lines pieces i k : ℕ) → i < lines → k < pieces → piece_index o lines pieces i k < lines * pieces
 piece_index_below Zip lines pieces i k h l = omega (arith, row_fits i pieces lines pieces h (omega arith), l)
 piece_index_below Concat lines pieces i k h l = omega (arith, row_fits k lines pieces lines l (omega arith), h)
 
@@ -133,7 +134,7 @@ one_piece_each pieces n width some h e =
     one (suc zero) l m = refl
     one (suc (suc p)) l m = absurd (omega (arith, l, m, h))
 
-index_of_one : (o : Behavior) (lines i : ℕ) → piece_index o lines 1 i 0 ≡ i
+index_of_one : (o : PieceOrder) (lines i : ℕ) → piece_index o lines 1 i 0 ≡ i
 index_of_one Zip lines i = omega arith
 index_of_one Concat lines i = omega arith
 

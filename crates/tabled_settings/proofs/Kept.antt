@@ -12,9 +12,11 @@ use Rattle.tabled_grid.specs.declared.records.axis.Axis.{Axis}
 use Rattle.tabled_grid.specs.declared.records.axis.Axis.TheVariants.{Rows, Columns}
 use Rattle.tabled_grid.proofs.FirstLines.{IsEven-first}
 use Rattle.tabled_settings.specs.Lines.{BringsLines, HasLines, KeepsLines, line}
-use Rattle.tabled_settings.specs.Places.{ReadsThrough, lines_from}
+use Rattle.tabled_grid.specs.Places.{ReadsThrough}
+use Rattle.tabled_settings.specs.Places.{lines_from}
 use Rattle.tabled_settings.specs.Rearranged.{columns_if, count_in, extracted}
-use Rattle.tabled_settings.proofs.LineReads.{line_first, lines_read, lines_swapped, same_count, same_shape, shape_after, shape_swapped}
+use Rattle.tabled_grid.proofs.PiecesPut.{same_count, same_shape, shape_after}
+use Rattle.tabled_settings.proofs.LineReads.{line_first, lines_read, lines_swapped, shape_swapped}
 
 module _ {A : Type 0} (axis : Axis) (s : ℕ) where
   pub brings_none : (g : Grid A) → IsEven g → BringsLines axis s 0 g g

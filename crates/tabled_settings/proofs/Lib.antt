@@ -10,11 +10,8 @@ pub mod Mapped
 pub mod PiecePlaces
 pub mod PieceReads
 pub mod PieceTexts
-pub mod PiecesCut
 pub mod PiecesDone
-pub mod PiecesGrown
 pub mod PiecesKept
-pub mod PiecesPut
 pub mod Replacing
 pub mod Results
 pub mod Reversed

@@ -13,8 +13,10 @@ use Rattle.tabled_grid.specs.declared.records.axis.Axis.TheVariants.{Rows, Colum
 use Rattle.tabled_grid.proofs.Lists.{map-swap}
 use Rattle.tabled_grid.proofs.Resized.{IsEven-with_rows_swapped, IsEven-with_columns_swapped}
 use Rattle.tabled_grid.proofs.Transposed.{slice_get-some, slice_get-take}
-use Rattle.tabled_settings.specs.Lines.{IsShapedAs, line}
-use Rattle.tabled_settings.specs.Places.{ReadsThrough, in_line, line_of, lines_from}
+use Rattle.tabled_grid.specs.Places.{IsShapedAs, ReadsThrough}
+use Rattle.tabled_settings.specs.Lines.{line}
+use Rattle.tabled_grid.specs.Shifts.{line_of}
+use Rattle.tabled_settings.specs.Places.{in_line, lines_from}
 
 -- maps that agree on what has a property
 pub maps_agree_on : {X Y Z : Type 0} (P : X → Type 0) (f : Y → Z) (g : X → Y) (h : X → Z) → ((x : X) → P x → f (g x) ≡ h x) → (xs : List X) → AllByRecursion P xs → map f (map g xs) ≡ map h xs
@@ -51,16 +53,6 @@ module _ {A : Type 0} where
   pub shape_swapped : (axis : Axis) (g new : Grid A) (i k : ℕ) → IsEven g → new ≡ along axis (λ _ xs. swap xs i k) g → IsShapedAs g new
   shape_swapped Rows g new i k even is = record { even = rw is (IsEven-with_rows_swapped g even i k); rows = ap (λ (h : Grid A). h.rows) is; columns = ap (λ (h : Grid A). h.columns) is }
   shape_swapped Columns g new i k even is = record { even = rw is (IsEven-with_columns_swapped g even i k); rows = ap (λ (h : Grid A). h.rows) is; columns = ap (λ (h : Grid A). h.columns) is }
-
-  pub same_count : (axis : Axis) (g new : Grid A) → IsShapedAs g new → count_along axis new ≡ count_along axis g
-  same_count Rows g new s = s.rows
-  same_count Columns g new s = s.columns
-
-  pub same_shape : (g : Grid A) → IsEven g → IsShapedAs g g
-  same_shape g even = record { even = even; rows = refl; columns = refl }
-
-  pub shape_after : (g h new : Grid A) → IsShapedAs g h → IsShapedAs h new → IsShapedAs g new
-  shape_after g h new s t = record { even = t.even; rows = t.rows ∙ s.rows; columns = t.columns ∙ s.columns }
 
   -- the first lines are as they were
   pub line_first : (axis : Axis) (g new : Grid A) (n i : ℕ) → IsEven g → i < n → new ≡ first_along axis n g → line axis new i ≡ line axis g i

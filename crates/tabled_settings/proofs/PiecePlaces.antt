@@ -11,55 +11,18 @@ use Rattle.tabled_grid.specs.declared.config.position.Position.{Position}
 use Rattle.tabled_grid.specs.declared.records.axis.Axis.{Axis}
 use Rattle.tabled_grid.specs.declared.records.axis.Axis.TheVariants.{Rows, Columns}
 use Rattle.tabled_settings.specs.declared.split.Split.{Split}
-use Rattle.tabled_settings.specs.PieceMoves.{IsCut}
-use Rattle.tabled_settings.specs.PiecePlaces.{Splits, cut_places, index_in_line, piece_index, same_places, split_places}
-use Rattle.tabled_settings.specs.Pieces.{across, cut_rows, has_pieces, nth_piece, turned}
-use Rattle.tabled_settings.specs.Places.{IsTakenOnce, ReadsThrough, count_of, line_of, place_in}
+use Rattle.tabled_grid.proofs.PiecePlaces.{across_is, line_is, place_is}
+use Rattle.tabled_grid.proofs.PiecesCut.{IsCut, enough_pieces}
+use Rattle.tabled_grid.specs.Pieces.{across, cut_places, index_in_line, nth_piece}
+use Rattle.tabled_settings.specs.PiecePlaces.{Splits, piece_index, same_places, split_places}
+use Rattle.tabled_settings.specs.Pieces.{cut_rows, has_pieces, turned}
+use Rattle.tabled_grid.specs.Places.{FillsThrough, ReadsThrough, count_of, place_in}
+use Rattle.tabled_grid.specs.Shifts.{line_of}
+use Rattle.tabled_settings.specs.Places.{IsTakenOnce}
 use Rattle.tabled_settings.proofs.Glued.{piece_index_below, piece_of}
-use Rattle.tabled_settings.proofs.PiecesCut.{enough_pieces}
 use Rattle.tabled_settings.proofs.PiecesDone.{counted}
-use Rattle.tabled_settings.proofs.PiecesPut.{one_piece, same_place_in}
+use Rattle.tabled_grid.proofs.PiecesPut.{one_piece, same_place_in}
 use mathlib.Core.Bool.{true≢false}
-
--- a place by its line
-pub place_is : (axis : Axis) (p : Position) → place_in axis (line_of axis p) (line_of (across axis) p) ≡ p
-place_is Rows p = refl
-place_is Columns p = refl
-
-line_is : (axis : Axis) (i j : ℕ) → line_of axis (place_in axis i j) ≡ i
-line_is Rows i j = refl
-line_is Columns i j = refl
-
-across_is : (axis : Axis) (i j : ℕ) → line_of (across axis) (place_in axis i j) ≡ j
-across_is Rows i j = refl
-across_is Columns i j = refl
-
-line_inside : {A : Type 0} (axis : Axis) (g : Grid A) (p : Position) → IsInside g p → (line_of axis p < count_along axis g) × (line_of (across axis) p < count_along (across axis) g)
-line_inside Rows g p inside = (inside.row, inside.col)
-line_inside Columns g p inside = (inside.col, inside.row)
-
-shape_of : {A : Type 0} (axis : Axis) (g : Grid A) (m n : ℕ) → count_along axis g ≡ m → count_along (across axis) g ≡ n → (g.rows ≡ count_of axis m n) × (g.columns ≡ count_of axis n m)
-shape_of Rows g m n h k = (h, k)
-shape_of Columns g m n h k = (k, h)
-
-if_some : (P : Position → Type 0) (b : Bool) (q : Position) → (b ≡ true → P q) → IfSome (cond b (Some q) None) P
-if_some P true q h = h refl
-if_some P false q h = tt
-
--- all pieces, in their places
-pub cut_reads : {A : Type 0} (is_blank : A → Type 0) (s : Split) (lines width : ℕ) (g h : Grid A) → IsCut is_blank s lines width g h → ReadsThrough (cut_places s lines width) g h
-cut_reads {A} is_blank s lines width g h cut =
-    let shape = shape_of s.lines h (lines * div_ceil width s.index) s.index cut.count cut.wide in
-    record { even = cut.even; rows = shape.0; columns = shape.1; moved = λ p inside. moved p inside }
-  where
-    moved : (p : Position) → IsInside h p → IfSome ((cut_places s lines width).old_place p) (λ (q : Position). cell_at h p ≡ cell_at g q)
-    moved p inside =
-        let within = line_inside s.lines h p inside in
-        let t : ℕ = line_of s.lines p in
-        let b : ℕ = line_of (across s.lines) p in
-        let comes = cut.cells (line_of s.lines p) (line_of (across s.lines) p) (omega (arith, within.0, cut.count)) (omega (arith, within.1, cut.wide)) in
-        if_some (λ (q : Position). cell_at h p ≡ cell_at g q) (nat_lt (index_in_line s lines (div_ceil width s.index) t b) width) (place_in s.lines (nth_piece s.behavior lines (div_ceil width s.index) t).0 (index_in_line s lines (div_ceil width s.index) t b))
-        (λ e. ap (cell_at h) (sym (place_is s.lines p)) ∙ comes.cell (ltb-true (index_in_line s lines (div_ceil width s.index) t b) width e))
 
 pub same_reads : {A : Type 0} (g : Grid A) → IsEven g → ReadsThrough (same_places g.rows g.columns) g g
 same_reads g even = record { even = even; rows = refl; columns = refl; moved = λ p inside. refl }
@@ -68,7 +31,7 @@ module _ {A : Type 0} (text_of : A → List ℕ) (s : Split) (g : Grid A) (even 
   pub unsplit : has_pieces s g.rows g.columns ≡ false → Splits text_of s g g
   unsplit e = record {
     texts = ap (λ (b : Bool). cond b (turned s.lines (cut_rows s (turned s.lines (map_grid text_of g)))) (map_grid text_of g)) (sym e);
-    cells = λ retained. subst (λ (b : Bool). ReadsThrough (cond b (cut_places s (count_of s.lines g.rows g.columns) (count_of (across s.lines) g.rows g.columns)) (same_places g.rows g.columns)) g g) (sym e) (same_reads g even);
+    cells = λ retained. subst (λ (b : Bool). ReadsThrough (cond b (cut_places s.lines s.behavior s.index (count_of s.lines g.rows g.columns) (count_of (across s.lines) g.rows g.columns)) (same_places g.rows g.columns)) g g) (sym e) (same_reads g even);
   }
 
   pub has_if : (b : Bool) → nat_lt s.index (count_along (across s.lines) g) ≡ b → 0 < count_along s.lines g → 0 < s.index → has_pieces s g.rows g.columns ≡ b
@@ -89,10 +52,10 @@ module _ {A : Type 0} (text_of : A → List ℕ) (s : Split) (g : Grid A) (even 
       no true true z (inr (inl e)) = absurd (true≢false e)
       no true true z (inr (inr e)) = e
 
-  pub retained_reads : (is_blank : A → Type 0) (lines width : ℕ) (h : Grid A) → lines ≡ count_along s.lines g → width ≡ count_along (across s.lines) g → 0 < lines → 0 < s.index → s.index < width → IsCut is_blank s lines width g h → ReadsThrough (split_places s g.rows g.columns) g h
+  pub retained_reads : (is_blank : A → Type 0) (lines width : ℕ) (h : Grid A) → lines ≡ count_along s.lines g → width ≡ count_along (across s.lines) g → 0 < lines → 0 < s.index → s.index < width → FillsThrough is_blank (cut_places s.lines s.behavior s.index lines width) g h → ReadsThrough (split_places s g.rows g.columns) g h
   retained_reads is_blank lines width h lines_are width_is some index narrow cut =
       let has : has_pieces s g.rows g.columns ≡ true = has_if true (lt-ltb s.index (count_along (across s.lines) g) (omega (arith, narrow, width_is))) (omega (arith, some, lines_are)) index in
-      rw (has, counted s.lines g, counted (across s.lines) g, ← lines_are, ← width_is) (cut_reads is_blank s lines width g h cut)
+      rw (has, counted s.lines g, counted (across s.lines) g, ← lines_are, ← width_is) cut.reads
 
 -- an old place is that of one new place
 some_is : (b : Bool) (p q : Position) → cond b (Some p) None ≡ Some q → p ≡ q
@@ -135,27 +98,27 @@ module _ (s : Split) (lines width : ℕ) (q : Position) (index : 0 < s.index) (h
   of_piece : nth_piece s.behavior lines pieces at_piece ≡ (i, j / s.index)
   of_piece = piece_of s.behavior lines pieces i (j / s.index) h number_in
 
-  index_is : index_in_line s lines pieces at_piece at_cell ≡ j
+  index_is : index_in_line s.behavior s.index lines pieces at_piece at_cell ≡ j
   index_is = ap (λ (r : ℕ × ℕ). r.1 * s.index + at_cell) of_piece ∙ div-add-mod' j s.index
 
-  takes : cond (nat_lt (index_in_line s lines pieces (line_of s.lines (place_in s.lines at_piece at_cell)) (line_of (across s.lines) (place_in s.lines at_piece at_cell))) width) (Some (place_in s.lines (nth_piece s.behavior lines pieces (line_of s.lines (place_in s.lines at_piece at_cell))).0 (index_in_line s lines pieces (line_of s.lines (place_in s.lines at_piece at_cell)) (line_of (across s.lines) (place_in s.lines at_piece at_cell))))) None ≡ Some q
+  takes : cond (nat_lt (index_in_line s.behavior s.index lines pieces (line_of s.lines (place_in s.lines at_piece at_cell)) (line_of (across s.lines) (place_in s.lines at_piece at_cell))) width) (Some (place_in s.lines (nth_piece s.behavior lines pieces (line_of s.lines (place_in s.lines at_piece at_cell))).0 (index_in_line s.behavior s.index lines pieces (line_of s.lines (place_in s.lines at_piece at_cell)) (line_of (across s.lines) (place_in s.lines at_piece at_cell))))) None ≡ Some q
   takes =
       rw (line_is s.lines at_piece at_cell, across_is s.lines at_piece at_cell)
-      (ap₂ (λ (b : Bool) (p : Position). cond b (Some p) None) (lt-ltb (index_in_line s lines pieces at_piece at_cell) width (omega (arith, index_is, l)))
+      (ap₂ (λ (b : Bool) (p : Position). cond b (Some p) None) (lt-ltb (index_in_line s.behavior s.index lines pieces at_piece at_cell) width (omega (arith, index_is, l)))
       (ap₂ (λ (a b : ℕ). place_in s.lines a b) (ap (λ (r : ℕ × ℕ). r.0) of_piece) index_is ∙ place_is s.lines q))
 
-  alone : (p : Position) → p.row < count_of s.lines (lines * pieces) s.index → p.col < count_of s.lines s.index (lines * pieces) → (cut_places s lines width).old_place p ≡ Some q → p ≡ place_in s.lines at_piece at_cell
+  alone : (p : Position) → p.row < count_of s.lines (lines * pieces) s.index → p.col < count_of s.lines s.index (lines * pieces) → (cut_places s.lines s.behavior s.index lines width).old_place p ≡ Some q → p ≡ place_in s.lines at_piece at_cell
   alone p row col e =
       let within = of_shape s.lines p (lines * pieces) s.index row col in
-      let same : place_in s.lines (nth_piece s.behavior lines pieces (line_of s.lines p)).0 (index_in_line s lines pieces (line_of s.lines p) (line_of (across s.lines) p)) ≡ place_in s.lines i j =
-      some_is (nat_lt (index_in_line s lines pieces (line_of s.lines p) (line_of (across s.lines) p)) width) (place_in s.lines (nth_piece s.behavior lines pieces (line_of s.lines p)).0 (index_in_line s lines pieces (line_of s.lines p) (line_of (across s.lines) p))) q e
+      let same : place_in s.lines (nth_piece s.behavior lines pieces (line_of s.lines p)).0 (index_in_line s.behavior s.index lines pieces (line_of s.lines p) (line_of (across s.lines) p)) ≡ place_in s.lines i j =
+      some_is (nat_lt (index_in_line s.behavior s.index lines pieces (line_of s.lines p) (line_of (across s.lines) p)) width) (place_in s.lines (nth_piece s.behavior lines pieces (line_of s.lines p)).0 (index_in_line s.behavior s.index lines pieces (line_of s.lines p) (line_of (across s.lines) p))) q e
       ∙ sym (place_is s.lines q) in
       let parts = same_place_in s.lines _ _ _ _ same in
       let numbers = same_from_place (nth_piece s.behavior lines pieces (line_of s.lines p)).1 (line_of (across s.lines) p) (j / s.index) at_cell s.index within.1 cell_in (parts.1 ∙ sym (div-add-mod' j s.index)) in
       let piece : line_of s.lines p ≡ at_piece = one_piece s.behavior lines pieces (line_of s.lines p) at_piece (parts.0 ∙ sym (ap (λ (r : ℕ × ℕ). r.0) of_piece)) (numbers.0 ∙ sym (ap (λ (r : ℕ × ℕ). r.1) of_piece)) in
       sym (place_is s.lines p) ∙ ap₂ (λ (a b : ℕ). place_in s.lines a b) piece numbers.1
 
-  pub cut_once : IsTakenOnce (cut_places s lines width) q
+  pub cut_once : IsTakenOnce (cut_places s.lines s.behavior s.index lines width) q
   cut_once = record {
     to = place_in s.lines at_piece at_cell;
     row = (within_shape s.lines at_piece at_cell (lines * div_ceil width s.index) s.index piece_in cell_in).0;
@@ -177,7 +140,7 @@ split_once s rows columns q h k = either (has_pieces s rows columns) refl
     second false true z e = refl
     second false false z e = e
 
-    either : (b : Bool) → has_pieces s rows columns ≡ b → IsTakenOnce (cond b (cut_places s (count_of s.lines rows columns) (count_of (across s.lines) rows columns)) (same_places rows columns)) q
+    either : (b : Bool) → has_pieces s rows columns ≡ b → IsTakenOnce (cond b (cut_places s.lines s.behavior s.index (count_of s.lines rows columns) (count_of (across s.lines) rows columns)) (same_places rows columns)) q
     either true e =
         let some : 0 < s.index = ltb-true 0 s.index (second (nat_lt 0 (count_of s.lines rows columns)) (nat_lt 0 s.index) (nat_lt s.index (count_of (across s.lines) rows columns)) e) in
         cut_once s (count_of s.lines rows columns) (count_of (across s.lines) rows columns) q some (lines_of s.lines).0 (lines_of s.lines).1

@@ -18,11 +18,12 @@ use Rattle.tabled_grid.specs.declared.config.position.Position.{Position}
 use Rattle.tabled_grid.specs.declared.records.axis.Axis.{Axis}
 use Rattle.tabled_grid.specs.declared.records.axis.Axis.TheVariants.{Rows, Columns}
 use Rattle.tabled_grid.proofs.Transposed.{at-transposed, length-transposed, wide-transposed}
-use Rattle.tabled_settings.specs.declared.split.Behavior.{Behavior}
-use Rattle.tabled_settings.specs.declared.split.Behavior.TheVariants.{Concat, Zip}
+use Rattle.tabled_grid.specs.declared.records.piece_order.PieceOrder.{PieceOrder}
+use Rattle.tabled_grid.specs.declared.records.piece_order.PieceOrder.TheVariants.{Concat, Zip}
 use Rattle.tabled_settings.specs.declared.split.Split.{Split}
-use Rattle.tabled_settings.specs.Places.{place_in}
-use Rattle.tabled_settings.specs.Pieces.{across, cut_rows, nth_piece, piece, piece_at, staying, turned}
+use Rattle.tabled_grid.specs.Places.{place_in}
+use Rattle.tabled_grid.specs.Pieces.{across, nth_piece}
+use Rattle.tabled_settings.specs.Pieces.{cut_rows, piece, piece_at, staying, turned}
 use Rattle.tabled_settings.proofs.SameCells.{same_cells}
 
 -- the rows of a grid, or its columns as rows
@@ -89,7 +90,7 @@ pub filter_some : (p : ℕ → Bool) (n : ℕ) → 0 < n → p 0 ≡ true → 0 
 filter_some p zero h e = absurd (omega (arith, h))
 filter_some p (suc n) h e = rw e (omega arith)
 
-pub first_number : (o : Behavior) (lines pieces : ℕ) → (nth_piece o lines pieces 0).1 ≡ 0
+pub first_number : (o : PieceOrder) (lines pieces : ℕ) → (nth_piece o lines pieces 0).1 ≡ 0
 first_number Zip lines pieces = zero-mod pieces
 first_number Concat lines pieces = zero-div lines
 

@@ -14,9 +14,10 @@ use Rattle.tabled_grid.specs.declared.records.axis.Axis.TheVariants.{Rows, Colum
 use Rattle.tabled_grid.proofs.Grids.{cell_at-map_grid}
 use Rattle.tabled_grid.proofs.Transposed.{slice_get-some}
 use Rattle.tabled_settings.specs.Lines.{line}
-use Rattle.tabled_settings.specs.PieceMoves.{has_text}
-use Rattle.tabled_settings.specs.Places.{place_in}
-use Rattle.tabled_settings.specs.Pieces.{across, is_text}
+use Rattle.tabled_settings.specs.PieceTexts.{has_text}
+use Rattle.tabled_grid.specs.Places.{place_in}
+use Rattle.tabled_grid.specs.Pieces.{across}
+use Rattle.tabled_settings.specs.Pieces.{is_text}
 
 drop_all : {X : Type 0} (xs : List X) (n : ℕ) → length xs ≤ n → drop n xs ≡ []
 drop_all [] zero h = refl
@@ -39,10 +40,6 @@ module _ {A : Type 0} where
   pub length-line : (axis : Axis) (g : Grid A) (i : ℕ) → IsEven g → i < count_along axis g → length (line axis g i) ≡ count_along (across axis) g
   length-line Rows g i even h = length-map (get_or g.cells i []) Some ∙ All-from_recursion _ g.cells even.wide i [] (omega (arith, even.tall, h))
   length-line Columns g i even h = length-map g.cells (λ (row : List A). slice_get row i) ∙ even.tall
-
-  pub inside_of : (axis : Axis) (g : Grid A) (i j : ℕ) → i < count_along axis g → j < count_along (across axis) g → IsInside g (place_in axis i j)
-  inside_of Rows g i j h k = record { row = h; col = k }
-  inside_of Columns g i j h k = record { row = k; col = h }
 
   module _ (text_of : A → List ℕ) (axis : Axis) (g : Grid A) (i : ℕ) (even : IsEven g) (within : i < count_along axis g) where
     told : (cell : Option A) (text : List ℕ) → option_map text_of cell ≡ Some text → has_text text_of cell ≡ is_text text

@@ -17,14 +17,15 @@ use Rattle.tabled_settings.specs.declared.split.Display.{Display}
 use Rattle.tabled_settings.specs.declared.split.Display.TheVariants.{Clean, Retain}
 use Rattle.tabled_settings.specs.declared.split.Split.{Split}
 use Rattle.tabled_settings.specs.Lines.{DropsLines, HasLines, line}
-use Rattle.tabled_settings.specs.PieceMoves.{ComesFrom, IsCut, has_text, is_empty_piece, source}
-use Rattle.tabled_settings.specs.Pieces.{across, has_pieces, is_text, nth_piece, piece_at, split, staying, stays, turned}
-use Rattle.tabled_settings.specs.Places.{count_of, place_in}
+use Rattle.tabled_grid.proofs.PiecesCut.{ComesFrom, IsCut, enough_pieces, some_pieces}
+use Rattle.tabled_grid.proofs.PiecesPut.{inside_of, piece_line, source}
+use Rattle.tabled_settings.specs.PieceTexts.{has_text, is_empty_piece}
+use Rattle.tabled_grid.specs.Pieces.{across, nth_piece}
+use Rattle.tabled_settings.specs.Pieces.{has_pieces, is_text, piece_at, split, staying, stays, turned}
+use Rattle.tabled_grid.specs.Places.{count_of, place_in}
 use Rattle.tabled_settings.specs.Rearranged.{left_over}
 use Rattle.tabled_settings.proofs.PieceReads.{filter_all, filter_alike, filter_below, filter_some, first_number, length-piece, piece_text, pieces_are, some_inside, turned_cell, turned_even, turned_rows}
-use Rattle.tabled_settings.proofs.PieceTexts.{at_line, inside_of, length-line}
-use Rattle.tabled_settings.proofs.PiecesCut.{enough_pieces, some_pieces}
-use Rattle.tabled_settings.proofs.PiecesPut.{piece_line}
+use Rattle.tabled_settings.proofs.PieceTexts.{at_line, length-line}
 use Rattle.tabled_settings.proofs.SameCells.{none_outside}
 
 pub map_count : {A B : Type 0} (f : A → B) (axis : Axis) (g : Grid A) → count_along axis (map_grid f g) ≡ count_along axis g
@@ -56,7 +57,7 @@ any_alike {A} text_of (cell ∷ cells) (text ∷ texts) long each =
         same is = cc
 
 module _ {A : Type 0} (text_of : A → List ℕ) (is_blank : A → Type 0) (blank_empty : (c : A) → is_blank c → text_of c ≡ []) (s : Split) (lines width pieces : ℕ) (g mid : Grid A) (even : IsEven g) (lines_are : lines ≡ count_along s.lines g)
-    (width_is : width ≡ count_along (across s.lines) g) (pieces_is : pieces ≡ div_ceil width s.index) (some : 0 < lines) (index : 0 < s.index) (narrow : s.index < width) (cut : IsCut is_blank s lines width g mid) where
+    (width_is : width ≡ count_along (across s.lines) g) (pieces_is : pieces ≡ div_ceil width s.index) (some : 0 < lines) (index : 0 < s.index) (narrow : s.index < width) (cut : IsCut is_blank s.lines s.behavior s.index lines width g mid) where
   abbrev texts : Grid (List ℕ)
   texts = map_grid text_of g
 
@@ -78,7 +79,7 @@ module _ {A : Type 0} (text_of : A → List ℕ) (is_blank : A → Type 0) (blan
   any : 0 < pieces
   any = some_pieces pieces s.index width (omega (arith, narrow)) (enough_pieces pieces s.index width index pieces_is)
 
-  piece_read : (t b : ℕ) → b < s.index → get_or (piece_at s pieces rows t) b [] ≡ unwrap_or (cell_at texts (source s lines pieces t b)) []
+  piece_read : (t b : ℕ) → b < s.index → get_or (piece_at s pieces rows t) b [] ≡ unwrap_or (cell_at texts (source s.lines s.behavior s.index lines pieces t b)) []
   piece_read t b k =
       let none : List ℕ = [] in
       let number : ℕ = (nth_piece s.behavior (length rows) pieces t).1 in
@@ -86,7 +87,7 @@ module _ {A : Type 0} (text_of : A → List ℕ) (is_blank : A → Type 0) (blan
       piece_text s.index number b (get_or rows from []) k
       ∙ sym (unwrap_or-slice_get (get_or rows from []) (number * s.index + b) none)
       ∙ ap (λ (o : Option (List ℕ)). unwrap_or o none) (turned_cell s.lines texts from (number * s.index + b) texts_even)
-      ∙ ap (λ (m : ℕ). unwrap_or (cell_at texts (source s m pieces t b)) none) long
+      ∙ ap (λ (m : ℕ). unwrap_or (cell_at texts (source s.lines s.behavior s.index m pieces t b)) none) long
 
   pub mid_text : (t b : ℕ) → t < lines * pieces → b < s.index → cell_at (map_grid text_of mid) (place_in s.lines t b) ≡ Some (get_or (piece_at s pieces rows t) b [])
   mid_text t b h k = either (cases_lt j width) ∙ ap Some (sym (piece_read t b k))
@@ -94,17 +95,17 @@ module _ {A : Type 0} (text_of : A → List ℕ) (is_blank : A → Type 0) (blan
       j : ℕ
       j = (nth_piece s.behavior lines pieces t).1 * s.index + b
 
-      comes : ComesFrom is_blank g mid (source s lines pieces t b) (place_in s.lines t b) ((nth_piece s.behavior lines pieces t).1 * s.index + b) width
+      comes : ComesFrom is_blank g mid (source s.lines s.behavior s.index lines pieces t b) (place_in s.lines t b) ((nth_piece s.behavior lines pieces t).1 * s.index + b) width
       comes = rw pieces_is (cut.cells t b (rw (← pieces_is) h) k)
 
-      either : (((nth_piece s.behavior lines pieces t).1 * s.index + b) < width) ⊎ (width ≤ ((nth_piece s.behavior lines pieces t).1 * s.index + b)) → cell_at (map_grid text_of mid) (place_in s.lines t b) ≡ Some (unwrap_or (cell_at texts (source s lines pieces t b)) [])
+      either : (((nth_piece s.behavior lines pieces t).1 * s.index + b) < width) ⊎ (width ≤ ((nth_piece s.behavior lines pieces t).1 * s.index + b)) → cell_at (map_grid text_of mid) (place_in s.lines t b) ≡ Some (unwrap_or (cell_at texts (source s.lines s.behavior s.index lines pieces t b)) [])
       either (inl below) =
           let none : List ℕ = [] in
-          let at : IsInside texts (source s lines pieces t b) = inside_of s.lines texts (nth_piece s.behavior lines pieces t).0 ((nth_piece s.behavior lines pieces t).1 * s.index + b) (omega (arith, texts_lines, piece_line s.behavior lines pieces t some any h)) (omega (arith, texts_width, below)) in
+          let at : IsInside texts (source s.lines s.behavior s.index lines pieces t b) = inside_of s.lines texts (nth_piece s.behavior lines pieces t).0 ((nth_piece s.behavior lines pieces t).1 * s.index + b) (omega (arith, texts_lines, piece_line s.behavior lines pieces t some any h)) (omega (arith, texts_width, below)) in
           cell_at-map_grid text_of mid (place_in s.lines t b)
           ∙ ap (option_map text_of) (comes.cell below)
-          ∙ sym (cell_at-map_grid text_of g (source s lines pieces t b))
-          ∙ some_inside texts (source s lines pieces t b) none texts_even at
+          ∙ sym (cell_at-map_grid text_of g (source s.lines s.behavior s.index lines pieces t b))
+          ∙ some_inside texts (source s.lines s.behavior s.index lines pieces t b) none texts_even at
       either (inr past) =
           let none : List ℕ = [] in
           let c = comes.blank past in

@@ -5,8 +5,8 @@ use Rattle.std.proofs.lemmas.Bool.{ne_eqb}
 use Rattle.tabled_grid.specs.Grid.{Grid}
 use Rattle.tabled_settings.specs.declared.split.Split.{Split}
 use Rattle.tabled_settings.specs.Lines.{line}
-use Rattle.tabled_settings.specs.PieceMoves.{has_text, is_empty_piece}
-use Rattle.tabled_settings.specs.Pieces.{nth_piece}
+use Rattle.tabled_settings.specs.PieceTexts.{has_text, is_empty_piece}
+use Rattle.tabled_grid.specs.Pieces.{nth_piece}
 
 either_false : (b : Bool) → cond b false false ≡ false
 either_false true = refl

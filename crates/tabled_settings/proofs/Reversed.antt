@@ -9,9 +9,11 @@ use Rattle.tabled_grid.specs.declared.config.offset.Offset.{Offset}
 use Rattle.tabled_grid.specs.declared.records.axis.Axis.{Axis}
 use Rattle.tabled_grid.specs.declared.records.axis.Axis.TheVariants.{Rows, Columns}
 use Rattle.tabled_settings.specs.Lines.{ReversesEnds, ReversesLines, line}
-use Rattle.tabled_settings.specs.Places.{ReadsThrough, count_of, lines_from}
+use Rattle.tabled_grid.specs.Places.{ReadsThrough, count_of}
+use Rattle.tabled_settings.specs.Places.{lines_from}
 use Rattle.tabled_settings.specs.Rearranged.{limit_end, reversed, reversed_index}
-use Rattle.tabled_settings.proofs.LineReads.{lines_read, lines_swapped, same_count, same_shape, shape_after, shape_swapped}
+use Rattle.tabled_grid.proofs.PiecesPut.{same_count, same_shape, shape_after}
+use Rattle.tabled_settings.proofs.LineReads.{lines_read, lines_swapped, shape_swapped}
 
 module _ {A : Type 0} (axis : Axis) (s e : ℕ) where
   pub ends_none : (g : Grid A) → IsEven g → ReversesEnds axis s e 0 g g

@@ -11,7 +11,7 @@ use Rattle.tabled_grid.proofs.Transposed.{at-transposed}
 use Rattle.tabled_settings.specs.Lines.{ReversesLines}
 use Rattle.tabled_settings.specs.declared.rotate.Rotate.{Rotate}
 use Rattle.tabled_settings.specs.declared.rotate.Rotate.TheVariants.{Top, Bottom}
-use Rattle.tabled_settings.specs.Places.{ReadsThrough}
+use Rattle.tabled_grid.specs.Places.{ReadsThrough}
 use Rattle.tabled_settings.specs.Rearranged.{columns_if, rotated, turn_of, upside_down}
 use Rattle.tabled_settings.proofs.Reversed.{whole_read}
 

@@ -7,7 +7,7 @@ use Rattle.tabled_grid.specs.declared.config.offset.Offset.{Offset}
 use Rattle.tabled_grid.specs.declared.records.axis.Axis.{Axis}
 use Rattle.tabled_grid.specs.declared.records.axis.Axis.TheVariants.{Rows, Columns}
 use Rattle.tabled_settings.specs.declared.rotate.Rotate.TheVariants.{Left, Right}
-use Rattle.tabled_settings.specs.Places.{ReadsThrough}
+use Rattle.tabled_grid.specs.Places.{ReadsThrough}
 use Rattle.tabled_settings.specs.Rearranged.{limit_end, reversed, reversed_index, rotated, turned_half, upside_down}
 use Rattle.tabled_settings.proofs.Reversed.{index_inside, index_outside, not_fitting}
 use Rattle.tabled_settings.proofs.Rotated.{as_wide}

@@ -6,7 +6,7 @@ use Rattle.tabled_grid.specs.Grid.{Grid, IsEven, cell_at, map_grid}
 use Rattle.tabled_grid.specs.declared.config.position.Position.{Position}
 use Rattle.tabled_grid.specs.declared.records.axis.Axis.{Axis}
 use Rattle.tabled_grid.specs.declared.records.axis.Axis.TheVariants.{Rows, Columns}
-use Rattle.tabled_settings.specs.Places.{Places, ReadsThrough}
+use Rattle.tabled_grid.specs.Places.{Places, ReadsThrough}
 
 -- a larger shape, in which the old places stay where they are
 abbrev pub widened : ℕ → ℕ → ℕ → ℕ → Places

@@ -3,8 +3,8 @@ pub mod Contents
 pub mod Dups
 pub mod Joined
 pub mod Lines
-pub mod PieceMoves
 pub mod PiecePlaces
+pub mod PieceTexts
 pub mod Pieces
 pub mod Places
 pub mod Rearranged

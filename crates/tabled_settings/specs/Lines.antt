@@ -1,6 +1,7 @@
 -- The rows or the columns of a grid, one after another.
 use Rattle.std.specs.Prelude.{Bool, ◌≡◌, ◌<◌, ◌≤◌, ◌⊎◌, ℕ, ◌+◌, ◌-◌, List, [], Option, Some, length, map, min, slice_get, slice_index_or}
 use Rattle.tabled_grid.specs.Along.{count_along}
+use Rattle.tabled_grid.specs.Places.{IsShapedAs}
 use Rattle.tabled_grid.specs.Grid.{Grid, IsEven}
 use Rattle.tabled_grid.specs.declared.records.axis.Axis.{Axis}
 use Rattle.tabled_grid.specs.declared.records.axis.Axis.TheVariants.{Rows, Columns}
@@ -10,12 +11,6 @@ use Rattle.tabled_settings.specs.Rearranged.{columns_if, left_over}
 abbrev pub line : {A : Type 0} → Axis → Grid A → ℕ → List (Option A)
 line {A} Rows g i = map Some (slice_index_or g.cells i [])
 line {A} Columns g j = map (λ (row : List A). slice_get row j) g.cells
-
--- a grid of the shape of another
-pub record IsShapedAs {A : Type 0} (old new : Grid A) : Type 0 where
-  pub even : IsEven new
-  pub rows : new.rows ≡ old.rows
-  pub columns : new.columns ≡ old.columns
 
 -- so many lines from s on and as many before e have changed places, the outermost first
 pub record ReversesEnds {A : Type 0} (axis : Axis) (s e k : ℕ) (old new : Grid A) : Type 0 where

@@ -1,32 +1,18 @@
 -- Where the cells of pieces come from, where all pieces are kept, and pieces glued together.
-use Rattle.std.specs.Prelude.{◌≡◌, ℕ, ◌+◌, ◌*◌, if◌then◌else◌, List, [], None, Some, map, nat_lt, slice_index_or, take}
+use Rattle.std.specs.Prelude.{◌≡◌, ℕ, ◌+◌, ◌*◌, if◌then◌else◌, List, [], Some, map, slice_index_or, take}
 use Rattle.std.specs.Int.{div_ceil}
 use Rattle.std.specs.List.{filter, flat_map, range_with_len}
 use Rattle.tabled_grid.specs.Flat.{joined}
 use Rattle.tabled_grid.specs.Grid.{Grid, map_grid}
+use Rattle.tabled_grid.specs.Pieces.{across, cut_places}
+use Rattle.tabled_grid.specs.Places.{Places, ReadsThrough, count_of}
 use Rattle.tabled_grid.specs.declared.config.position.Position.{Position}
 use Rattle.tabled_grid.specs.declared.records.axis.Axis.{Axis}
-use Rattle.tabled_settings.specs.declared.split.Behavior.{Behavior}
-use Rattle.tabled_settings.specs.declared.split.Behavior.TheVariants.{Concat, Zip}
+use Rattle.tabled_grid.specs.declared.records.piece_order.PieceOrder.{PieceOrder}
+use Rattle.tabled_grid.specs.declared.records.piece_order.PieceOrder.TheVariants.{Concat, Zip}
 use Rattle.tabled_settings.specs.declared.split.Display.TheVariants.{Retain}
 use Rattle.tabled_settings.specs.declared.split.Split.{Split}
-use Rattle.tabled_settings.specs.Pieces.{across, has_pieces, is_text, nth_piece, split, turned}
-use Rattle.tabled_settings.specs.Places.{Places, ReadsThrough, count_of, line_of, place_in}
-
--- the cell of a line that comes to a cell of the t-th piece
-abbrev pub index_in_line : Split → ℕ → ℕ → ℕ → ℕ → ℕ
-index_in_line s lines pieces t b = (nth_piece s.behavior lines pieces t).1 * s.index + b
-
--- all pieces of so many lines of so many cells; those behind the end of a line come from nowhere
-abbrev pub cut_places : Split → ℕ → ℕ → Places
-cut_places s lines width = record {
-  rows = count_of s.lines (lines * div_ceil width s.index) s.index;
-  columns = count_of s.lines s.index (lines * div_ceil width s.index);
-  old_place = λ (p : Position).
-      if nat_lt (index_in_line s lines (div_ceil width s.index) (line_of s.lines p) (line_of (across s.lines) p)) width
-      then Some (place_in s.lines (nth_piece s.behavior lines (div_ceil width s.index) (line_of s.lines p)).0 (index_in_line s lines (div_ceil width s.index) (line_of s.lines p) (line_of (across s.lines) p)))
-      else None;
-}
+use Rattle.tabled_settings.specs.Pieces.{has_pieces, is_text, split, turned}
 
 -- each place keeps its cell
 abbrev pub same_places : ℕ → ℕ → Places
@@ -34,7 +20,7 @@ same_places rows columns = record { rows = rows; columns = columns; old_place = 
 
 -- where the cells come from, where all pieces are kept
 abbrev pub split_places : Split → ℕ → ℕ → Places
-split_places s rows columns = if has_pieces s rows columns then cut_places s (count_of s.lines rows columns) (count_of (across s.lines) rows columns) else same_places rows columns
+split_places s rows columns = if has_pieces s rows columns then cut_places s.lines s.behavior s.index (count_of s.lines rows columns) (count_of (across s.lines) rows columns) else same_places rows columns
 
 -- the texts are those of the pieces, and where all pieces are kept the cells are the old ones
 pub record Splits {A : Type 0} (text_of : A → List ℕ) (s : Split) (old new : Grid A) : Type 0 where
@@ -42,13 +28,13 @@ pub record Splits {A : Type 0} (text_of : A → List ℕ) (s : Split) (old new :
   pub cells : s.display ≡ Retain → ReadsThrough (split_places s old.rows old.columns) old new
 
 -- where piece k of line i is among all pieces
-abbrev pub piece_index : Behavior → ℕ → ℕ → ℕ → ℕ → ℕ
+abbrev pub piece_index : PieceOrder → ℕ → ℕ → ℕ → ℕ → ℕ
 piece_index Zip lines pieces i k = i * pieces + k
 piece_index Concat lines pieces i k = k * lines + i
 
 -- the pieces of line i, one behind the other, cut at a width
-abbrev pub glued_line : {A : Type 0} → Behavior → ℕ → ℕ → ℕ → List (List A) → ℕ → List A
-glued_line behavior lines pieces width rows i = take width (flat_map (λ (k : ℕ). slice_index_or rows (piece_index behavior lines pieces i k) []) (range_with_len 0 pieces))
+abbrev pub glued_line : {A : Type 0} → PieceOrder → ℕ → ℕ → ℕ → List (List A) → ℕ → List A
+glued_line order lines pieces width rows i = take width (flat_map (λ (k : ℕ). slice_index_or rows (piece_index order lines pieces i k) []) (range_with_len 0 pieces))
 
 -- so many rows of so many cells, from the rows that are their pieces
 abbrev pub glue_rows : {A : Type 0} → Split → ℕ → ℕ → Grid A → Grid A

@@ -1,31 +1,20 @@
 -- Rows or columns cut into pieces, and pieces glued together.
-use Rattle.std.specs.Prelude.{ℕ, ◌+◌, ◌*◌, ◌/◌, ◌%◌, ◌==◌, ◌&&◌, if◌then◌else◌, Bool, true, false, List, [], ◌∷◌, length, map, nat_lt, slice_index_or}
+use Rattle.std.specs.Prelude.{ℕ, ◌+◌, ◌*◌, ◌==◌, ◌&&◌, if◌then◌else◌, Bool, true, false, List, [], ◌∷◌, length, map, nat_lt, slice_index_or}
 use Rattle.std.specs.Int.{div_ceil}
 use Rattle.std.specs.List.{filter, list_any, range_with_len}
 use Rattle.tabled_grid.specs.Bulk.{transposed}
 use Rattle.tabled_grid.specs.Grid.{Grid}
+use Rattle.tabled_grid.specs.Pieces.{across, nth_piece}
+use Rattle.tabled_grid.specs.Places.{count_of}
 use Rattle.tabled_grid.specs.declared.records.axis.Axis.{Axis}
 use Rattle.tabled_grid.specs.declared.records.axis.Axis.TheVariants.{Rows, Columns}
-use Rattle.tabled_settings.specs.declared.split.Behavior.{Behavior}
-use Rattle.tabled_settings.specs.declared.split.Behavior.TheVariants.{Concat, Zip}
 use Rattle.tabled_settings.specs.declared.split.Display.{Display}
 use Rattle.tabled_settings.specs.declared.split.Display.TheVariants.{Clean, Retain}
 use Rattle.tabled_settings.specs.declared.split.Split.{Split}
-use Rattle.tabled_settings.specs.Places.{count_of}
-
--- columns for rows, rows for columns
-abbrev pub across : Axis → Axis
-across Rows = Columns
-across Columns = Rows
 
 -- piece k of a line: its n texts from k * n on, with empty ones behind its end
 abbrev pub piece : ℕ → ℕ → List (List ℕ) → List (List ℕ)
 piece n k texts = map (λ (b : ℕ). slice_index_or texts (k * n + b) []) (range_with_len 0 n)
-
--- the line and the number of the piece that comes t-th: the pieces of a line, then those of the next one, or the first pieces of all lines, then the second ones
-abbrev pub nth_piece : Behavior → ℕ → ℕ → ℕ → ℕ × ℕ
-nth_piece Zip lines pieces t = (t / pieces, t % pieces)
-nth_piece Concat lines pieces t = (t % lines, t / lines)
 
 -- a text that isn't empty
 abbrev pub is_text : List ℕ → Bool

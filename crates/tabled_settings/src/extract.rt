@@ -2,7 +2,7 @@
 
 ghost use Rattle.std.specs.Prelude.{◌≡◌};
 ghost use Rattle.std.specs.declared.ops.Bound.TheVariants.{Unbounded};
-ghost use Rattle.tabled_settings.specs.Places.{ReadsThrough};
+ghost use Rattle.tabled_grid.specs.Places.{ReadsThrough};
 ghost use Rattle.tabled_settings.specs.Rearranged.{extracted};
 ghost use Rattle.std.proofs.Common.{rules};
 

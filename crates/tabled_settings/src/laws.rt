@@ -10,7 +10,8 @@ ghost use Rattle.tabled_settings.specs.declared.split.Display.TheVariants.{Retai
 ghost use Rattle.tabled_settings.specs.Charsets.{IsClean, cleaned, with_tabs};
 ghost use Rattle.tabled_settings.specs.PiecePlaces.{glued, split_places, texts_in};
 ghost use Rattle.tabled_settings.specs.Pieces.{split};
-ghost use Rattle.tabled_settings.specs.Places.{IsTakenOnce, ReadsThrough};
+ghost use Rattle.tabled_grid.specs.Places.{ReadsThrough};
+ghost use Rattle.tabled_settings.specs.Places.{IsTakenOnce};
 ghost use Rattle.tabled_settings.specs.Rearranged.{reversed, rotated, turned_half};
 
 use crate::duplicate::Dup;

@@ -3,7 +3,7 @@
 ghost use Rattle.std.specs.Prelude.{◌≡◌, ◌<◌, ◌≤◌, ◌⊎◌, IfSome, IsNone};
 ghost use Rattle.tabled_grid.specs.declared.config.offset.Offset.TheVariants.{End};
 ghost use Rattle.tabled_grid.specs.declared.records.axis.Axis.TheVariants.{Columns, Rows};
-ghost use Rattle.tabled_settings.specs.Places.{ReadsThrough};
+ghost use Rattle.tabled_grid.specs.Places.{ReadsThrough};
 ghost use Rattle.tabled_settings.specs.Rearranged.{limit_end, reversed};
 ghost use Rattle.std.proofs.Common.{rules};
 

@@ -3,7 +3,7 @@
 ghost use Rattle.std.specs.Prelude.{◌≡◌, ◌⊎◌, OnErr, OnOk};
 ghost use Rattle.tabled_options.specs.Does.{Same};
 ghost use Rattle.tabled_settings.specs.declared.rotate.Rotate.TheVariants.{Bottom, Top};
-ghost use Rattle.tabled_settings.specs.Places.{ReadsThrough};
+ghost use Rattle.tabled_grid.specs.Places.{ReadsThrough};
 ghost use Rattle.tabled_settings.specs.Rearranged.{rotated, turn_of};
 ghost use Rattle.std.proofs.Common.{rules};
 

@@ -3,28 +3,18 @@
 ghost use Rattle.std.specs.Prelude.{◌≡◌, ◌<◌, false};
 ghost use Rattle.tabled_grid.specs.declared.records.axis.Axis.TheVariants.{Columns, Rows};
 ghost use Rattle.tabled_options.specs.Does.{Same};
-ghost use Rattle.tabled_settings.specs.declared.split.Behavior.TheVariants.{Concat, Zip};
+ghost use Rattle.tabled_grid.specs.declared.records.piece_order.PieceOrder.TheVariants.{Concat, Zip};
 ghost use Rattle.tabled_settings.specs.declared.split.Display.TheVariants.{Clean, Retain};
 ghost use Rattle.tabled_settings.specs.PiecePlaces.{Splits};
-ghost use Rattle.tabled_settings.specs.Pieces.{has_pieces, nth_piece};
+ghost use Rattle.tabled_settings.specs.Pieces.{has_pieces};
 ghost use Rattle.std.proofs.Common.{rules};
 
 use crate::pieces;
 use std::alloc::{AllocError, Global};
 use tabled_grid::config::Entity;
+pub use tabled_grid::records::PieceOrder as Behavior;
 use tabled_grid::records::{Axis, CellText, ExactRecords, PeekableRecords, Records, Resizable};
 use tabled_options::TableOption;
-
-/// The order of the pieces.
-///
-/// Ported from the private `Behavior` of `tabled::settings::split`.
-#[derive(Clone, Copy, Debug, PartialEq, Eq)]
-pub enum Behavior {
-    /// The first pieces of all lines, then the second ones, and so on.
-    Concat,
-    /// The pieces of the first line, then those of the second one, and so on.
-    Zip,
-}
 
 /// Whether pieces without a text stay.
 ///
@@ -141,20 +131,6 @@ impl Split {
     }
 }
 
-impl Behavior {
-    /// The line and the number of the piece that comes so many-th, of so many lines of so many pieces.
-    pub(crate) fn nth_piece(self, lines: usize, pieces: usize, nth: usize) -> (usize, usize)
-        requires lines { 0 < lines }
-        requires pieces { 0 < pieces }
-        ensures { result ≡ nth_piece self lines pieces nth }
-    {
-        match self {
-            Behavior::Zip => (nth / pieces, nth % pieces),
-            Behavior::Concat => (nth % lines, nth / lines),
-        }
-    }
-}
-
 impl<R, C, D> TableOption<R, C, D> for Split
 where
     R: Records + ExactRecords + PeekableRecords + Resizable,
@@ -176,11 +152,11 @@ where
         _dimension: &mut D,
     ) -> Result<(), AllocError> {
         let lines = self.lines.count(records);
-        let width = pieces::across(self.lines).count(records);
+        let width = self.lines.across().count(records);
         if lines == 0 || self.index == 0 || self.index >= width {
             return Ok(());
         }
-        pieces::cut(alloc, records, self)?;
+        records.cut(alloc, self.lines, self.behavior, self.index)?;
         match self.display {
             Display::Clean => {
                 pieces::drop_empty(records, self, lines, width.div_ceil(self.index));

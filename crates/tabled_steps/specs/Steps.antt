@@ -14,7 +14,7 @@ use Rattle.tabled_settings.specs.Dups.{Duplicates, DuplicatesFirst}
 use Rattle.tabled_settings.specs.Joined.{JoinsAt, corner_of}
 use Rattle.tabled_settings.specs.PiecePlaces.{Splits}
 use Rattle.tabled_settings.specs.Pieces.{has_pieces}
-use Rattle.tabled_settings.specs.Places.{Places, ReadsThrough}
+use Rattle.tabled_grid.specs.Places.{Places, ReadsThrough}
 use Rattle.tabled_settings.specs.Rearranged.{extracted, removed, reversed, rotated}
 use Rattle.tabled_settings.specs.declared.rotate.Rotate.TheVariants.{Bottom, Top}
 use Rattle.tabled_grid.specs.Bounds.{indexes}

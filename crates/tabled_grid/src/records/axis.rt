@@ -4,7 +4,10 @@ ghost use Rattle.std.specs.Prelude.{◌≡◌, ◌<◌, ◌≤◌};
 ghost use Rattle.std.specs.List.{swap};
 ghost use Rattle.tabled_grid.specs.Along.{along, count_along, first_along};
 ghost use Rattle.tabled_grid.specs.Grid.{IsEmptyWithoutRows, IsEven};
+ghost use Rattle.tabled_grid.specs.Pieces.{across};
+ghost use Rattle.tabled_grid.specs.Places.{place_in};
 
+use crate::config::Position;
 use crate::records::blank::Blank;
 use crate::records::exact_records::ExactRecords;
 use crate::records::records::Records;
@@ -20,6 +23,32 @@ pub enum Axis {
 }
 
 impl Axis {
+    /// Columns for rows, and rows for columns.
+    pub fn across(self) -> Self
+        ensures { result ≡ across self }
+    {
+        match self {
+            Axis::Rows => Axis::Columns,
+            Axis::Columns => Axis::Rows,
+        }
+    }
+
+    /// The place of a cell of a line.
+    pub fn place(self, line: usize, cell: usize) -> Position
+        ensures { result ≡ place_in self line cell }
+    {
+        match self {
+            Axis::Rows => Position {
+                row: line,
+                col: cell,
+            },
+            Axis::Columns => Position {
+                row: cell,
+                col: line,
+            },
+        }
+    }
+
     /// How many such lines there are.
     pub fn count<R: Records + ExactRecords>(self, records: &R) -> usize
         requires { R.is_well_formed records.now }

@@ -10,6 +10,8 @@ mod exact_records;
 mod grid_store;
 pub mod nested_rows;
 mod peekable_records;
+mod piece_order;
+mod pieces;
 #[allow(clippy::module_inception)]
 mod records;
 mod records_mut;
@@ -22,6 +24,7 @@ pub use cell_text::CellText;
 pub use exact_records::ExactRecords;
 pub use grid_store::GridStore;
 pub use peekable_records::PeekableRecords;
+pub use piece_order::PieceOrder;
 pub use records::Records;
 pub use records_mut::RecordsMut;
 pub use resizable::{Resizable, empty_without_rows};

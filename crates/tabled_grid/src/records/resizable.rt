@@ -1,16 +1,21 @@
 //! Stores that can grow and shrink.
 
 ghost use Rattle.std.specs.Prelude.{◌≡◌, ◌<◌, ◌≤◌, OnOk, OnErr};
-ghost use Rattle.tabled_grid.specs.Along.{first_along};
+ghost use Rattle.tabled_grid.specs.Along.{count_along, first_along};
 ghost use Rattle.tabled_grid.specs.Bulk.{AddsColumns, AddsRows, transposed};
 ghost use Rattle.tabled_grid.specs.Grid.{IsEmptyWithoutRows, IsInside};
+ghost use Rattle.tabled_grid.specs.AddedLines.{AddsLines};
+ghost use Rattle.tabled_grid.specs.Pieces.{across, cut_places};
+ghost use Rattle.tabled_grid.specs.Places.{FillsThrough};
 ghost use Rattle.tabled_grid.specs.Resized.{InsertsColumn, InsertsRow, with_cells_swapped, with_columns_swapped, with_rows_swapped, without_column, without_row};
 ghost use Rattle.tabled_grid.specs.declared.records.axis.Axis.TheVariants.{Columns, Rows};
 
 use crate::config::Position;
+use crate::records::axis::Axis;
 use crate::records::blank::Blank;
 use crate::records::exact_records::ExactRecords;
 use crate::records::grid_store::GridStore;
+use crate::records::piece_order::PieceOrder;
 use crate::records::records::Records;
 use std::alloc::{AllocError, Global};
 
@@ -246,6 +251,97 @@ where
         if columns > 0 {
             self.truncate_columns(rows);
         }
+        Ok(())
+    }
+
+    /// Keeps the first `count` rows, or columns, alone.
+    ///
+    /// Of this project.
+    fn truncate_lines(&mut self, axis: Axis, count: usize)
+    where
+        Self: Records + ExactRecords,
+        requires well { Self.is_well_formed self.old }
+        requires within { count ≤ count_along axis (Self.grid self.old) }
+        ensures well { Self.is_well_formed self.new }
+        ensures rowless { IsEmptyWithoutRows (Self.grid self.old) }
+        ensures first { Self.grid self.new ≡ first_along axis count (Self.grid self.old) }
+    {
+        match axis {
+            Axis::Rows => self.truncate_rows(count),
+            Axis::Columns => self.truncate_columns(count),
+        }
+    }
+
+    /// Adds `many` rows, or columns, of blanks behind the last one. Refused, it leaves the store as it was.
+    ///
+    /// Of this project.
+    fn push_lines(&mut self, alloc: Global, axis: Axis, many: usize) -> Result<(), AllocError>
+    where
+        Self: Records + ExactRecords,
+        requires well { Self.is_well_formed self.old }
+        ensures well { Self.is_well_formed self.new }
+        ensures rowless { IsEmptyWithoutRows (Self.grid self.old) }
+        ensures ok { OnOk result (AddsLines Self.Cell.is_blank axis many (Self.grid self.old) (Self.grid self.new)) }
+        ensures err { OnErr result (Self.grid self.new ≡ Self.grid self.old) }
+    {
+        match axis {
+            Axis::Rows => self.push_rows(alloc, many),
+            Axis::Columns => self.push_columns(alloc, many),
+        }
+    }
+
+    /// Cuts rows, or columns, that are longer than `index` into pieces of so many cells, which become the
+    /// new rows, or columns. Blanks fill up the last piece of each. Refused, it leaves the store as it was.
+    ///
+    /// For `n` rows in `k` pieces each this is r x c to n*k x index, for columns r x c to index x n*k.
+    ///
+    /// Of this project, as a call of its own. A store that says nothing better grows to all new lines,
+    /// swaps the cells to their places and cuts off what is left, as `tabled::settings::split` does.
+    fn cut(
+        &mut self,
+        alloc: Global,
+        lines: Axis,
+        order: PieceOrder,
+        index: usize,
+    ) -> Result<(), AllocError>
+    where
+        Self: Records + ExactRecords,
+        requires well { Self.is_well_formed self.old }
+        requires some { 0 < count_along lines (Self.grid self.old) }
+        requires index { 0 < index }
+        requires narrow { index < count_along (across lines) (Self.grid self.old) }
+        ensures well { Self.is_well_formed self.new }
+        ensures ok { OnOk result (FillsThrough Self.Cell.is_blank (cut_places lines order index (count_along lines (Self.grid self.old)) (count_along (across lines) (Self.grid self.old))) (Self.grid self.old) (Self.grid self.new)) }
+        ensures err { OnErr result (Self.grid self.new ≡ Self.grid self.old) }
+    {
+        let across = lines.across();
+        let count = lines.count(self);
+        let width = across.count(self);
+        let pieces = width.div_ceil(index);
+        let Some(all) = count.checked_mul(pieces) else {
+            return Err(AllocError);
+        };
+        let Some(wide) = pieces.checked_mul(index) else {
+            return Err(AllocError);
+        };
+        self.push_lines(alloc, across, wide - width)?;
+        if let Err(error) = self.push_lines(alloc, lines, all - count) {
+            self.truncate_lines(across, width);
+            return Err(error);
+        }
+        // A piece comes from no later line than it goes to, so from the last one on no cell is in the way.
+        let mut target = all;
+        while target > 0 {
+            target -= 1;
+            let (line, number) = order.nth_piece(count, pieces, target);
+            for cell in 0..index {
+                self.swap(
+                    lines.place(line, number * index + cell),
+                    lines.place(target, cell),
+                );
+            }
+        }
+        self.truncate_lines(across, index);
         Ok(())
     }
 }

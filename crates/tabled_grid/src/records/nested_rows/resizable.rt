@@ -4,9 +4,12 @@ use super::moves::{
     blank_rows, blanks, exchange, insert_blanks, remove_each, swap_cells, swap_each, truncate_each,
     widen_each,
 };
+use super::pieces::cut_lines;
 use crate::config::Position;
+use crate::records::axis::Axis;
 use crate::records::blank::Blank;
 use crate::records::exact_records::ExactRecords;
+use crate::records::piece_order::PieceOrder;
 use crate::records::records::Records;
 use crate::records::resizable::Resizable;
 use std::alloc::{AllocError, Global};
@@ -85,5 +88,15 @@ impl<T: Blank> Resizable for Vec<Vec<T>> {
         }
         *self = turned;
         Ok(())
+    }
+
+    fn cut(
+        &mut self,
+        alloc: Global,
+        lines: Axis,
+        order: PieceOrder,
+        index: usize,
+    ) -> Result<(), AllocError> {
+        cut_lines(alloc, self, lines, order, index)
     }
 }

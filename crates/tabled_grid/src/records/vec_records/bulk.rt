@@ -1,8 +1,10 @@
 //! Rows and columns of a store exchanged, each cell moved once.
 
 ghost use Rattle.std.specs.Prelude.{◌≡◌, ◌<◌, IfOk, OnErr, OnOk};
+ghost use Rattle.std.specs.List.{AllByRecursion};
 ghost use Rattle.tabled_grid.specs.Bulk.{Exchanges, transposed};
 ghost use Rattle.tabled_grid.specs.Grid.{IsEmptyWithoutRows, IsEven, IsInside};
+ghost use Rattle.tabled_grid.specs.Resized.{AreBlanks};
 
 use super::VecRecords;
 use crate::config::Position;
@@ -38,11 +40,12 @@ impl<T: Blank> VecRecords<T> {
     }
 
     /// A store of blanks (r x c), which has a row.
-    fn of_blanks(alloc: Global, rows: usize, columns: usize) -> Result<Self, AllocError>
+    pub(super) fn of_blanks(alloc: Global, rows: usize, columns: usize) -> Result<Self, AllocError>
         requires { 0 < rows }
         ensures even { IfOk result (λ store. IsEven store) }
         ensures rows { IfOk result (λ store. store.rows ≡ rows) }
         ensures columns { IfOk result (λ store. store.columns ≡ columns) }
+        ensures blanks { IfOk result (λ store. AllByRecursion (AreBlanks T.is_blank columns) store.cells) }
     {
         let Some(count) = rows.checked_mul(columns) else {
             return Err(AllocError);
@@ -55,7 +58,7 @@ impl<T: Blank> VecRecords<T> {
     }
 
     /// Exchanges a cell for one of another store.
-    fn exchange(&mut self, pos: Position, other: &mut Self, at: Position)
+    pub(super) fn exchange(&mut self, pos: Position, other: &mut Self, at: Position)
         requires here { IsInside self.old pos }
         requires there { IsInside other.old at }
         ensures { Exchanges pos at self.old self.new other.old other.new }

@@ -2,6 +2,7 @@
 
 mod bulk;
 mod moves;
+mod pieces;
 mod resizable;
 mod text;
 

@@ -6,8 +6,10 @@ use super::moves::{
     widen,
 };
 use crate::config::Position;
+use crate::records::axis::Axis;
 use crate::records::blank::Blank;
 use crate::records::exact_records::ExactRecords;
+use crate::records::piece_order::PieceOrder;
 use crate::records::records::Records;
 use crate::records::resizable::Resizable;
 use std::alloc::{AllocError, Global};
@@ -117,5 +119,21 @@ impl<T: Blank> Resizable for VecRecords<T> {
 
     fn transpose(&mut self, alloc: Global) -> Result<(), AllocError> {
         self.turn(alloc)
+    }
+
+    fn cut(
+        &mut self,
+        alloc: Global,
+        lines: Axis,
+        order: PieceOrder,
+        index: usize,
+    ) -> Result<(), AllocError> {
+        match (lines, order) {
+            (Axis::Rows, PieceOrder::Zip) if self.columns % index == 0 => {
+                self.divide_rows(index);
+                Ok(())
+            }
+            _ => self.cut_lines(alloc, lines, order, index),
+        }
     }
 }

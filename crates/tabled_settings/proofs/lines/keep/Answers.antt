@@ -1,6 +1,6 @@
 use Rattle.std.proofs.Common.{◌≡◌, ◌≤◌, ◌<◌, ◌⊎◌, ◌+◌, inl, inr, refl, arith}
 use Rattle.tabled_settings.proofs.Kept.{brings_more, kept_all}
-use Rattle.tabled_settings.proofs.LineReads.{same_count}
+use Rattle.tabled_grid.proofs.PiecesPut.{same_count}
 use Rattle.tabled_settings.proofs.lines.keep.Goals as goal
 use Rattle.tabled_settings.proofs.lines.keep.Goals.{then-range-gt0, else-range-gt0}
 

@@ -1,7 +1,7 @@
 use Rattle.std.proofs.Common.{◌+◌, ◌∙◌, sym, refl, arith}
 use Rattle.tabled_settings.proofs.Dropped.{thins_all, thins_gone, thins_kept, thins_none}
 use Rattle.tabled_settings.specs.Rearranged.{is_among}
-use Rattle.tabled_settings.proofs.LineReads.{same_count}
+use Rattle.tabled_grid.proofs.PiecesPut.{same_count}
 use Rattle.tabled_settings.proofs.lines.remove.Goals as goal
 use Rattle.tabled_settings.proofs.lines.remove.Goals.{then-not-contains, else-not-contains}
 

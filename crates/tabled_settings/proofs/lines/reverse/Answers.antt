@@ -1,5 +1,5 @@
 use Rattle.std.proofs.Common.{◌+◌, ◌-◌, refl, arith}
-use Rattle.tabled_settings.proofs.LineReads.{same_count}
+use Rattle.tabled_grid.proofs.PiecesPut.{same_count}
 use Rattle.tabled_settings.proofs.Reversed.{ends_all, ends_more, ends_none}
 use Rattle.tabled_settings.proofs.lines.reverse.Goals as goal
 

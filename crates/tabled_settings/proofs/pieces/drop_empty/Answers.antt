@@ -1,8 +1,8 @@
 use Rattle.std.proofs.Common.{◌+◌, ◌∙◌, sym, ap, refl, arith}
 use Rattle.std.specs.List.{list_any}
-use Rattle.tabled_settings.specs.PieceMoves.{has_text, is_empty_piece}
+use Rattle.tabled_settings.specs.PieceTexts.{has_text, is_empty_piece}
 use Rattle.tabled_settings.proofs.Dropped.{thins_all, thins_gone, thins_kept, thins_none}
-use Rattle.tabled_settings.proofs.LineReads.{same_count}
+use Rattle.tabled_grid.proofs.PiecesPut.{same_count}
 use Rattle.tabled_settings.proofs.PiecesKept.{first_stays, others_go, texts_stay}
 use Rattle.tabled_settings.proofs.pieces.drop_empty.Goals as goal
 use Rattle.tabled_settings.proofs.pieces.drop_empty.Goals.{then-number-eq0, then-number-eq0-via-then-number-eq0, then-number-eq0-via-else-number-eq0+then-has_text, else-number-eq0+else-has_text}

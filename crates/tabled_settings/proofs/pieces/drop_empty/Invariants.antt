@@ -1,5 +1,5 @@
 use Rattle.tabled_settings.specs.Lines.{ThinsLines}
-use Rattle.tabled_settings.specs.PieceMoves.{is_empty_piece}
+use Rattle.tabled_settings.specs.PieceTexts.{is_empty_piece}
 use Rattle.tabled_settings.proofs.pieces.drop_empty.Given as goal
 
 abbrev pub invariant-loop-i : goal.invariant-loop-i

@@ -1,7 +1,7 @@
 use Rattle.std.proofs.Common.{◌≡◌, drop}
 use Rattle.std.specs.List.{list_any}
 use Rattle.tabled_settings.specs.Lines.{line}
-use Rattle.tabled_settings.specs.PieceMoves.{has_text}
+use Rattle.tabled_settings.specs.PieceTexts.{has_text}
 use Rattle.tabled_settings.proofs.pieces.has_text.Given as goal
 
 abbrev pub invariant-loop-cell : goal.invariant-loop-cell

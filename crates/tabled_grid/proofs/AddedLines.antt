@@ -5,6 +5,7 @@ use Rattle.std.specs.List.{AllByRecursion, AllZip}
 use Rattle.std.proofs.lemmas.Bool.{ne_eqb}
 use Rattle.std.proofs.lemmas.List.{get_or_append_left, get_or-append_right}
 use Rattle.std.proofs.lemmas.List.Elements.{All-from_recursion}
+use Rattle.tabled_grid.specs.AddedLines.{AddsLines}
 use Rattle.tabled_grid.specs.Along.{count_along, first_along}
 use Rattle.tabled_grid.specs.Entity.{place}
 use Rattle.tabled_grid.specs.Grid.{Grid, IsEmptyWithoutRows, IsEven, cell_at}
@@ -13,9 +14,8 @@ use Rattle.tabled_grid.specs.declared.records.axis.Axis.{Axis}
 use Rattle.tabled_grid.specs.declared.records.axis.Axis.TheVariants.{Rows, Columns}
 use Rattle.tabled_grid.proofs.AddedColumns.{IsEven-adds_columns, columns_taken_back}
 use Rattle.tabled_grid.proofs.AddedRows.{IsEven-adds_rows, rows_taken_back}
-use Rattle.tabled_settings.specs.PieceMoves.{AddsLines}
-use Rattle.tabled_settings.specs.Places.{place_in}
-use Rattle.tabled_settings.specs.Pieces.{across}
+use Rattle.tabled_grid.specs.Places.{place_in}
+use Rattle.tabled_grid.specs.Pieces.{across}
 
 -- a list read behind another one
 pub front_read : {A : Type 0} (xs ys : List A) (j : ℕ) → j < length xs → slice_get (xs ++ ys) j ≡ slice_get xs j
@@ -29,7 +29,7 @@ back_read (x ∷ xs) ys zero h = absurd (omega (arith, h))
 back_read (x ∷ xs) ys (suc j) h = let same : j - length xs ≡ suc j - suc (length xs) = omega arith in back_read xs ys j (omega (arith, h)) ∙ ap (slice_get ys) same
 
 module _ {A : Type 0} (is_blank : A → Type 0) where
-  blank_at : (xs : List A) (j : ℕ) → AllByRecursion is_blank xs → j < length xs → (c : A) × is_blank c × (slice_get xs j ≡ Some c)
+  pub blank_at : (xs : List A) (j : ℕ) → AllByRecursion is_blank xs → j < length xs → (c : A) × is_blank c × (slice_get xs j ≡ Some c)
   blank_at [] j all h = absurd (omega (arith, h))
   blank_at (x ∷ xs) zero all h = (x, all.0, refl)
   blank_at (x ∷ xs) (suc j) all h = blank_at xs j all.1 (omega (arith, h))

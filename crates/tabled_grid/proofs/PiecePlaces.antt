@@ -1,0 +1,162 @@
+-- Where the cells of pieces come from, by their places.
+use Rattle.std.proofs.Common.{◌≡◌, ℕ, ◌*◌, ◌<◌, Bool, true, false, cond, Option, None, Some, refl, sym, ap, ap₂, ◌∙◌, arith, ◌≤◌}
+use Rattle.std.specs.Prelude.{nat_lt}
+use Rattle.std.specs.Int.{div_ceil}
+use Rattle.std.specs.Option.{IfSome, unwrap_or}
+use Rattle.std.proofs.lemmas.Grind.{div_ceil_times}
+use Rattle.std.proofs.lemmas.Nat.{row_fits}
+use Rattle.std.proofs.lemmas.Bool.{le-ltb, lt-ltb, ltb-false, ltb-true}
+use Rattle.tabled_grid.specs.Along.{count_along}
+use Rattle.tabled_grid.specs.Grid.{Grid, IsInside, cell_at}
+use Rattle.tabled_grid.specs.Pieces.{across, cut_places, index_in_line, nth_piece}
+use Rattle.tabled_grid.specs.Places.{FillsThrough, count_of, place_in}
+use Rattle.tabled_grid.specs.Shifts.{line_of}
+use Rattle.tabled_grid.specs.declared.config.position.Position.{Position}
+use Rattle.tabled_grid.specs.declared.records.axis.Axis.{Axis}
+use Rattle.tabled_grid.specs.declared.records.axis.Axis.TheVariants.{Rows, Columns}
+use Rattle.tabled_grid.specs.declared.records.piece_order.PieceOrder.{PieceOrder}
+use Rattle.tabled_grid.proofs.PiecesCut.{ComesFrom, IsCut, enough_pieces, more_lines, some_pieces}
+use Rattle.tabled_grid.proofs.PiecesPut.{inside_of, piece_line, piece_number, source, source_apart}
+use Rattle.tabled_grid.proofs.Through.{TakesOnce, Within}
+
+-- a place by its line
+pub place_is : (axis : Axis) (p : Position) → place_in axis (line_of axis p) (line_of (across axis) p) ≡ p
+place_is Rows p = refl
+place_is Columns p = refl
+
+pub line_is : (axis : Axis) (i j : ℕ) → line_of axis (place_in axis i j) ≡ i
+line_is Rows i j = refl
+line_is Columns i j = refl
+
+pub across_is : (axis : Axis) (i j : ℕ) → line_of (across axis) (place_in axis i j) ≡ j
+across_is Rows i j = refl
+across_is Columns i j = refl
+
+pub line_inside : {A : Type 0} (axis : Axis) (g : Grid A) (p : Position) → IsInside g p → (line_of axis p < count_along axis g) × (line_of (across axis) p < count_along (across axis) g)
+line_inside Rows g p inside = (inside.row, inside.col)
+line_inside Columns g p inside = (inside.col, inside.row)
+
+shape_of : {A : Type 0} (axis : Axis) (g : Grid A) (m n : ℕ) → count_along axis g ≡ m → count_along (across axis) g ≡ n → (g.rows ≡ count_of axis m n) × (g.columns ≡ count_of axis n m)
+shape_of Rows g m n h k = (h, k)
+shape_of Columns g m n h k = (k, h)
+
+counts_of : {A : Type 0} (axis : Axis) (g : Grid A) (m n : ℕ) → g.rows ≡ count_of axis m n → g.columns ≡ count_of axis n m → (count_along axis g ≡ m) × (count_along (across axis) g ≡ n)
+counts_of Rows g m n h k = (h, k)
+counts_of Columns g m n h k = (k, h)
+
+if_some : (P : Position → Type 0) (b : Bool) (q : Position) → (b ≡ true → P q) → IfSome (cond b (Some q) None) P
+if_some P true q h = h refl
+if_some P false q h = tt
+
+some_if : (P : Position → Type 0) (b : Bool) (q : Position) → b ≡ true → IfSome (cond b (Some q) None) P → P q
+some_if P true q e h = h
+some_if P false q e h = cc
+
+none_if : (b : Bool) (q : Position) → cond b (Some q) None ≡ None → b ≡ false
+none_if true q e = cc
+none_if false q e = refl
+
+module _ {A : Type 0} (is_blank : A → Type 0) (axis : Axis) (order : PieceOrder) (index lines width : ℕ) (g h : Grid A) where
+  -- all pieces, in their places
+  pub cut_fills : IsCut is_blank axis order index lines width g h → FillsThrough is_blank (cut_places axis order index lines width) g h
+  cut_fills cut =
+      let shape = shape_of axis h (lines * div_ceil width index) index cut.count cut.wide in
+      record { reads = record { even = cut.even; rows = shape.0; columns = shape.1; moved = λ p inside. moved p inside }; blanks = λ p inside none. blank p inside none }
+    where
+      comes : (p : Position) → IsInside h p →
+          ComesFrom is_blank g h (source axis order index lines (div_ceil width index) (line_of axis p) (line_of (across axis) p)) (place_in axis (line_of axis p) (line_of (across axis) p)) (index_in_line order index lines (div_ceil width index) (line_of axis p) (line_of (across axis) p)) width
+      comes p inside =
+          let within = line_inside axis h p inside in
+          cut.cells (line_of axis p) (line_of (across axis) p) (omega (arith, within.0, cut.count)) (omega (arith, within.1, cut.wide))
+
+      moved : (p : Position) → IsInside h p → IfSome ((cut_places axis order index lines width).old_place p) (λ (q : Position). cell_at h p ≡ cell_at g q)
+      moved p inside =
+          let t : ℕ = line_of axis p in
+          let b : ℕ = line_of (across axis) p in
+          if_some (λ (q : Position). cell_at h p ≡ cell_at g q) (nat_lt (index_in_line order index lines (div_ceil width index) t b) width) (place_in axis (nth_piece order lines (div_ceil width index) t).0 (index_in_line order index lines (div_ceil width index) t b))
+          (λ e. ap (cell_at h) (sym (place_is axis p)) ∙ (comes p inside).cell (ltb-true (index_in_line order index lines (div_ceil width index) t b) width e))
+
+      blank : (p : Position) → IsInside h p → (cut_places axis order index lines width).old_place p ≡ None → (cell : A) × is_blank cell × (cell_at h p ≡ Some cell)
+      blank p inside none =
+          let t : ℕ = line_of axis p in
+          let b : ℕ = line_of (across axis) p in
+          let past : nat_lt (index_in_line order index lines (div_ceil width index) t b) width ≡ false =
+          none_if (nat_lt (index_in_line order index lines (div_ceil width index) t b) width) (place_in axis (nth_piece order lines (div_ceil width index) t).0 (index_in_line order index lines (div_ceil width index) t b)) none in
+          let c = (comes p inside).blank (ltb-false (index_in_line order index lines (div_ceil width index) t b) width past) in
+          (c.0, c.1, ap (cell_at h) (sym (place_is axis p)) ∙ c.2)
+
+  -- and back
+  pub fills_cut : FillsThrough is_blank (cut_places axis order index lines width) g h → IsCut is_blank axis order index lines width g h
+  fills_cut fills = record { even = fills.reads.even; count = counts.0; wide = counts.1; cells = λ t b m n. cells t b m n }
+    where
+      counts : (count_along axis h ≡ lines * div_ceil width index) × (count_along (across axis) h ≡ index)
+      counts = counts_of axis h (lines * div_ceil width index) index fills.reads.rows fills.reads.columns
+
+      test : ℕ → ℕ → Bool
+      test t b = nat_lt (index_in_line order index lines (div_ceil width index) t b) width
+
+      choice : ℕ → ℕ → Option Position
+      choice t b = cond (nat_lt (index_in_line order index lines (div_ceil width index) t b) width) (Some (source axis order index lines (div_ceil width index) t b)) None
+
+      old_is : (t b : ℕ) → (cut_places axis order index lines width).old_place (place_in axis t b) ≡ cond (nat_lt (index_in_line order index lines (div_ceil width index) t b) width) (Some (source axis order index lines (div_ceil width index) t b)) None
+      old_is t b = ap₂ (λ (u c : ℕ). cond (nat_lt (index_in_line order index lines (div_ceil width index) u c) width) (Some (source axis order index lines (div_ceil width index) u c)) None) (line_is axis t b) (across_is axis t b)
+
+      cells : (t b : ℕ) → t < lines * div_ceil width index → b < index → ComesFrom is_blank g h (source axis order index lines (div_ceil width index) t b) (place_in axis t b) (index_in_line order index lines (div_ceil width index) t b) width
+      cells t b m n =
+          let inside : IsInside h (place_in axis t b) = inside_of axis h t b (omega (arith, m, counts.0)) (omega (arith, n, counts.1)) in
+          let moved = (rw (old_is t b) at (fills.reads.moved (place_in axis t b) inside)) in
+          record {
+            cell = λ below. some_if (λ (q : Position). cell_at h (place_in axis t b) ≡ cell_at g q) (nat_lt (index_in_line order index lines (div_ceil width index) t b) width) (source axis order index lines (div_ceil width index) t b) (lt-ltb (index_in_line order index lines (div_ceil width index) t b) width below) moved;
+            blank = λ past. fills.blanks (place_in axis t b) inside (old_is t b ∙ ap (λ (c : Bool). cond c (Some (source axis order index lines (div_ceil width index) t b)) None) (le-ltb (index_in_line order index lines (div_ceil width index) t b) width past));
+          }
+
+-- the old place of a cell of a piece, where it has one
+module _ (axis : Axis) (order : PieceOrder) (index lines width : ℕ) (some : 0 < lines) (some_index : 0 < index) (narrow : index < width) where
+  abbrev pieces : ℕ
+  pieces = div_ceil width index
+
+  enough : width ≤ div_ceil width index * index
+  enough = enough_pieces (div_ceil width index) index width some_index refl
+
+  any : 0 < div_ceil width index
+  any = some_pieces (div_ceil width index) index width (omega (arith, narrow)) enough
+
+  some_is : (b : Bool) (p q : Position) → cond b (Some p) None ≡ Some q → (b ≡ true) × (p ≡ q)
+  some_is true p q e = (refl, ap (λ (o : Option Position). unwrap_or o p) e)
+  some_is false p q e = cc
+
+  lines_of : (p : Position) → Within (cut_places axis order index lines width) p → (line_of axis p < lines * div_ceil width index) × (line_of (across axis) p < index)
+  lines_of p w = each axis w.row w.col
+    where
+      each : (a : Axis) → p.row < count_of a (lines * div_ceil width index) index → p.col < count_of a index (lines * div_ceil width index) → (line_of a p < lines * div_ceil width index) × (line_of (across a) p < index)
+      each Rows row col = (row, col)
+      each Columns row col = (col, row)
+
+  found : (p q : Position) → (cut_places axis order index lines width).old_place p ≡ Some q → (index_in_line order index lines (div_ceil width index) (line_of axis p) (line_of (across axis) p) < width) × (source axis order index lines (div_ceil width index) (line_of axis p) (line_of (across axis) p) ≡ q)
+  found p q is =
+      let both = some_is (nat_lt (index_in_line order index lines (div_ceil width index) (line_of axis p) (line_of (across axis) p)) width) (source axis order index lines (div_ceil width index) (line_of axis p) (line_of (across axis) p)) q is in
+      (ltb-true (index_in_line order index lines (div_ceil width index) (line_of axis p) (line_of (across axis) p)) width both.0, both.1)
+
+  pub pieces_take_once : {A : Type 0} (g : Grid A) → lines ≡ count_along axis g → width ≡ count_along (across axis) g → TakesOnce (cut_places axis order index lines width) g
+  pieces_take_once {A} g lines_are width_is = record { inside = λ p q w is. inside p q w is; apart = λ p r q w v is also. apart p r q w v is also }
+    where
+      inside : (p q : Position) → Within (cut_places axis order index lines width) p → (cut_places axis order index lines width).old_place p ≡ Some q → IsInside g q
+      inside p q w is =
+          let f = found p q is in
+          rw (← f.1) (inside_of axis g (nth_piece order lines (div_ceil width index) (line_of axis p)).0 (index_in_line order index lines (div_ceil width index) (line_of axis p) (line_of (across axis) p))
+          (omega (arith, piece_line order lines (div_ceil width index) (line_of axis p) some any (lines_of p w).0, lines_are)) (omega (arith, f.0, width_is)))
+
+      apart : (p r q : Position) → Within (cut_places axis order index lines width) p → Within (cut_places axis order index lines width) r → (cut_places axis order index lines width).old_place p ≡ Some q → (cut_places axis order index lines width).old_place r ≡ Some q → p ≡ r
+      apart p r q w v is also =
+          let same = source_apart axis order index lines (div_ceil width index) some any (line_of axis p) (line_of (across axis) p) (line_of axis r) (line_of (across axis) r) (lines_of p w).1 (lines_of r v).1 ((found p q is).1 ∙ sym (found r q also).1) in
+          sym (place_is axis p) ∙ ap₂ (λ (i j : ℕ). place_in axis i j) same.0 same.1 ∙ place_is axis r
+
+  -- a piece begins inside its line
+  pub starts_inside : (t : ℕ) → t < lines * div_ceil width index → (nth_piece order lines (div_ceil width index) t).1 * index < width
+  starts_inside t h =
+      let number : ℕ = (nth_piece order lines (div_ceil width index) t).1 in
+      omega (arith, row_fits number index (div_ceil width index) index (piece_number order lines (div_ceil width index) t some any h) (omega arith), (div_ceil_times width index some_index).1)
+
+  -- there are pieces
+  pub some_lines : 0 < lines * div_ceil width index
+  some_lines = omega (arith, some, more_lines lines (div_ceil width index) any)

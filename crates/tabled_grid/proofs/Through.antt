@@ -1,0 +1,236 @@
+-- Cells moved from one grid to another one of blanks, through a map of places.
+use Rattle.std.proofs.Common.{◌≡◌, ℕ, zero, suc, ◌+◌, ◌*◌, ◌<◌, ◌≤◌, ◌≢◌, ◌⊎◌, inl, inr, List, [], ◌∷◌, Option, None, Some, refl, sym, ap, ap₂, ◌∙◌, subst, drop, length, get_or, arith}
+use Rattle.std.specs.List.{AllByRecursion}
+use Rattle.std.specs.Option.{IfSome}
+use Rattle.std.proofs.lemmas.Bool.{cases_eq, cases_lt}
+use Rattle.std.proofs.lemmas.List.{length-drop, length-take-le}
+use Rattle.std.proofs.lemmas.List.Elements.{All-from_recursion}
+use Rattle.tabled_grid.specs.Bulk.{Exchanges}
+use Rattle.tabled_grid.specs.Entity.{place}
+use Rattle.tabled_grid.specs.Flat.{chunks}
+use Rattle.tabled_grid.specs.Grid.{Grid, IsEven, IsInside, cell_at, grid_of, width_of}
+use Rattle.tabled_grid.specs.Places.{FillsThrough, Places}
+use Rattle.tabled_grid.specs.Resized.{AreBlanks}
+use Rattle.tabled_grid.specs.declared.config.position.Position.{Position}
+use Rattle.tabled_grid.proofs.AddedLines.{blank_at}
+use Rattle.tabled_grid.proofs.Lists.{all-drop, all-take}
+use Rattle.tabled_grid.proofs.Grids.{IsEven-with_cell, cell_at-with_cell_other, cell_at-with_cell_same}
+
+abbrev Before : ℕ → ℕ → Position → Type 0
+Before i j p = (p.row < i) ⊎ ((p.row ≡ i) × (p.col < j))
+
+abbrev NotBefore : ℕ → ℕ → Position → Type 0
+NotBefore i j p = (i < p.row) ⊎ ((p.row ≡ i) × (j ≤ p.col))
+
+-- a place of a shape
+pub record Within (places : Places) (p : Position) : Type 0 where
+  pub row : p.row < places.rows
+  pub col : p.col < places.columns
+
+-- each old place lies in the old grid, and is that of one new place
+pub record TakesOnce {A : Type 0} (places : Places) (old : Grid A) : Type 0 where
+  pub inside : (p q : Position) → Within places p → places.old_place p ≡ Some q → IsInside old q
+  pub apart : (p r q : Position) → Within places p → Within places r → places.old_place p ≡ Some q → places.old_place r ≡ Some q → p ≡ r
+
+-- the cells of the new places before one, row by row, have come there; the others have not moved yet, and where no cell has come there is a blank
+pub record MovesThrough {A : Type 0} (is_blank : A → Type 0) (places : Places) (i j : ℕ) (old now new : Grid A) : Type 0 where
+  pub now_even : IsEven now
+  pub now_rows : now.rows ≡ old.rows
+  pub now_columns : now.columns ≡ old.columns
+  pub even : IsEven new
+  pub rows : new.rows ≡ places.rows
+  pub columns : new.columns ≡ places.columns
+  pub done : (p q : Position) → Within places p → Before i j p → places.old_place p ≡ Some q → cell_at new p ≡ cell_at old q
+  pub left : (p q : Position) → Within places p → NotBefore i j p → places.old_place p ≡ Some q → cell_at now q ≡ cell_at old q
+  pub blank : (p : Position) → Within places p → NotBefore i j p ⊎ (places.old_place p ≡ None) → (c : A) × is_blank c × (cell_at new p ≡ Some c)
+
+none_some : (o : Option Position) (q : Position) → o ≡ None → o ≡ Some q → ⊥
+none_some o q e f = differ (sym e ∙ f)
+  where
+    differ : None ≡ Some q → ⊥
+    differ is = cc
+
+one_some : (o : Option Position) (q r : Position) → o ≡ Some q → o ≡ Some r → q ≡ r
+one_some o q r e f = same (sym e ∙ f)
+  where
+    same : Some q ≡ Some r → q ≡ r
+    same is = cc
+
+if_some : (o : Option Position) (P : Position → Type 0) → ((q : Position) → o ≡ Some q → P q) → IfSome o P
+if_some None P h = tt
+if_some (Some q) P h = h q refl
+
+same_or : (p : Position) (i j : ℕ) → (p ≡ place i j) ⊎ (p ≢ place i j)
+same_or p i j = either (cases_eq p.row i) (cases_eq p.col j)
+  where
+    either : (p.row ≡ i) ⊎ (p.row ≢ i) → (p.col ≡ j) ⊎ (p.col ≢ j) → (p ≡ place i j) ⊎ (p ≢ place i j)
+    either (inl row) (inl col) = inl (ap₂ place row col)
+    either (inr off) col = inr (λ same. off (ap (λ (p : Position). p.row) same))
+    either (inl row) (inr off) = inr (λ same. off (ap (λ (p : Position). p.col) same))
+
+earlier : (p : Position) (i j next : ℕ) → next ≡ j + 1 → Before i next p → p ≢ place i j → Before i j p
+earlier p i j next e (inl less) off = inl less
+earlier p i j next e (inr (at, below)) off = either (cases_eq p.col j)
+  where
+    either : (p.col ≡ j) ⊎ (p.col ≢ j) → Before i j p
+    either (inl same) = absurd (off (ap₂ place at same))
+    either (inr apart) = inr (at, omega (arith, below, apart, e))
+
+later : (p : Position) (i j next : ℕ) → next ≡ j + 1 → NotBefore i next p → NotBefore i j p
+later p i j next e (inl more) = inl more
+later p i j next e (inr (at, from)) = inr (at, omega (arith, from, e))
+
+off_place : (p : Position) (i j next : ℕ) → next ≡ j + 1 → NotBefore i next p → p ≢ place i j
+off_place p i j next e (inl more) same = let row = ap (λ (p : Position). p.row) same in absurd (omega (arith, row, more))
+off_place p i j next e (inr (at, from)) same = let col = ap (λ (p : Position). p.col) same in absurd (omega (arith, col, from, e))
+
+-- rows of blanks cut out of a list
+pub blank_chunks : {A : Type 0} (is_blank : A → Type 0) (r c : ℕ) (xs : List A) → length xs ≡ r * c → AllByRecursion is_blank xs → AllByRecursion (AreBlanks is_blank c) (chunks r c xs)
+blank_chunks is_blank zero c xs long all = tt
+blank_chunks is_blank (suc r) c xs long all = (
+  record { blank = all-take is_blank c xs all; many = length-take-le c xs (omega (arith, long)) },
+  blank_chunks is_blank r c (drop c xs) (omega (arith, long, length-drop c xs)) (all-drop is_blank c xs all),
+)
+
+-- a cell of rows of blanks
+pub blank_cell : {A : Type 0} (is_blank : A → Type 0) (columns : ℕ) (g : Grid A) (p : Position) → IsEven g → AllByRecursion (AreBlanks is_blank columns) g.cells → p.row < g.rows → p.col < columns → (c : A) × is_blank c × (cell_at g p ≡ Some c)
+blank_cell is_blank columns g p even blanks row col =
+    let cells = All-from_recursion _ g.cells blanks p.row [] (omega (arith, even.tall, row)) in
+    blank_at is_blank (get_or g.cells p.row []) p.col cells.blank (omega (arith, cells.many, col))
+
+module _ {A : Type 0} (is_blank : A → Type 0) (places : Places) (old : Grid A) where
+  pub through_none : (columns : ℕ) (new : Grid A) → IsEven old → IsEven new → new.rows ≡ places.rows → new.columns ≡ columns → columns ≡ places.columns → AllByRecursion (AreBlanks is_blank columns) new.cells → MovesThrough is_blank places 0 0 old old new
+  through_none columns new old_even even rows columns_are same blanks = record {
+    now_even = old_even;
+    now_rows = refl;
+    now_columns = refl;
+    even = even;
+    rows = rows;
+    columns = columns_are ∙ same;
+    done = λ p q w before is. none p q before;
+    left = λ p q w after is. refl;
+    blank = λ p w after. blank_cell is_blank columns new p even blanks (omega (arith, rows, w.row)) (omega (arith, same, w.col));
+  }
+    where
+      none : (p q : Position) → Before 0 0 p → cell_at new p ≡ cell_at old q
+      none p q (inl less) = absurd (omega (arith, less))
+      none p q (inr (at, less)) = absurd (omega (arith, less))
+
+  module _ (i j next : ℕ) (e : next ≡ j + 1) (now new : Grid A) (m : MovesThrough is_blank places i j old now new) where
+    -- no cell comes to a place
+    pub through_gap : places.old_place (place i j) ≡ None → MovesThrough is_blank places i next old now new
+    through_gap gap = record {
+      now_even = m.now_even;
+      now_rows = m.now_rows;
+      now_columns = m.now_columns;
+      even = m.even;
+      rows = m.rows;
+      columns = m.columns;
+      done = λ p q w before is. m.done p q w (earlier p i j next e before (λ same. none_some (places.old_place p) q (ap places.old_place same ∙ gap) is)) is;
+      left = λ p q w after is. m.left p q w (later p i j next e after) is;
+      blank = λ p w which. m.blank p w (wider p which);
+    }
+      where
+        wider : (p : Position) → NotBefore i next p ⊎ (places.old_place p ≡ None) → NotBefore i j p ⊎ (places.old_place p ≡ None)
+        wider p (inl after) = inl (later p i j next e after)
+        wider p (inr none) = inr none
+
+    -- a cell comes to its place
+    module _ (from : Position) (t : TakesOnce places old) (here : Within places (place i j)) (takes : places.old_place (place i j) ≡ Some from) where
+      pub from_inside : IsInside now from
+      from_inside = let at = t.inside (place i j) from here takes in record { row = omega (arith, at.row, m.now_rows); col = omega (arith, at.col, m.now_columns) }
+
+      pub to_inside : IsInside new (place i j)
+      to_inside = record { row = omega (arith, here.row, m.rows); col = omega (arith, here.col, m.columns) }
+
+      pub through_cell : (new_now new_new : Grid A) → Exchanges from (place i j) now new_now new new_new → MovesThrough is_blank places i next old new_now new_new
+      through_cell new_now new_new x = record {
+        now_even = rw x.is_here (IsEven-with_cell now from x.there m.now_even);
+        now_rows = ap (λ (g : Grid A). g.rows) x.is_here ∙ m.now_rows;
+        now_columns = ap (λ (g : Grid A). g.columns) x.is_here ∙ m.now_columns;
+        even = rw x.is_there (IsEven-with_cell new (place i j) x.here m.even);
+        rows = ap (λ (g : Grid A). g.rows) x.is_there ∙ m.rows;
+        columns = ap (λ (g : Grid A). g.columns) x.is_there ∙ m.columns;
+        done = λ p q w before is. done p q w before is (same_or p i j);
+        left = λ p q w after is. left p q w after is;
+        blank = λ p w which. blank p w which;
+      }
+        where
+          kept : (p : Position) → p ≢ place i j → cell_at new_new p ≡ cell_at new p
+          kept p off = ap (λ (g : Grid A). cell_at g p) x.is_there ∙ cell_at-with_cell_other new (place i j) p x.here off
+
+          done : (p q : Position) → Within places p → Before i next p → places.old_place p ≡ Some q → (p ≡ place i j) ⊎ (p ≢ place i j) → cell_at new_new p ≡ cell_at old q
+          done p q w before is (inl same) =
+              let old_is : from ≡ q = one_some (places.old_place (place i j)) from q takes (ap places.old_place (sym same) ∙ is) in
+              ap (cell_at new_new) same
+              ∙ ap (λ (g : Grid A). cell_at g (place i j)) x.is_there
+              ∙ cell_at-with_cell_same new (place i j) x.here m.even to_inside
+              ∙ sym x.was_here
+              ∙ m.left (place i j) from here (inr (refl, omega arith)) takes
+              ∙ ap (cell_at old) old_is
+          done p q w before is (inr off) = kept p off ∙ m.done p q w (earlier p i j next e before off) is
+
+          left : (p q : Position) → Within places p → NotBefore i next p → places.old_place p ≡ Some q → cell_at new_now q ≡ cell_at old q
+          left p q w after is =
+              let off : q ≢ from = λ same. off_place p i j next e after (t.apart p (place i j) q w here is (takes ∙ ap Some (sym same))) in
+              ap (λ (g : Grid A). cell_at g q) x.is_here
+              ∙ cell_at-with_cell_other now from q x.there off
+              ∙ m.left p q w (later p i j next e after) is
+
+          blank : (p : Position) → Within places p → NotBefore i next p ⊎ (places.old_place p ≡ None) → (c : A) × is_blank c × (cell_at new_new p ≡ Some c)
+          blank p w (inl after) = let c = m.blank p w (inl (later p i j next e after)) in (c.0, c.1, kept p (off_place p i j next e after) ∙ c.2)
+          blank p w (inr none) = let c = m.blank p w (inr none) in (c.0, c.1, kept p (λ same. none_some (places.old_place p) from none (ap places.old_place same ∙ takes)) ∙ c.2)
+
+  -- one row more
+  pub through_row : (i j next : ℕ) (now new : Grid A) → next ≡ i + 1 → places.columns ≤ j → MovesThrough is_blank places i j old now new → MovesThrough is_blank places next 0 old now new
+  through_row i j next now new e all m = record {
+    now_even = m.now_even;
+    now_rows = m.now_rows;
+    now_columns = m.now_columns;
+    even = m.even;
+    rows = m.rows;
+    columns = m.columns;
+    done = λ p q w before is. m.done p q w (sooner p w before (cases_lt p.row i)) is;
+    left = λ p q w after is. m.left p q w (past p after) is;
+    blank = λ p w which. m.blank p w (wider p which);
+  }
+    where
+      sooner : (p : Position) → Within places p → Before next 0 p → (p.row < i) ⊎ (i ≤ p.row) → Before i j p
+      sooner p w before (inl less) = inl less
+      sooner p w (inl below) (inr from) = inr (omega (arith, below, from, e), omega (arith, w.col, all))
+      sooner p w (inr (at, less)) (inr from) = absurd (omega (arith, less))
+
+      past : (p : Position) → NotBefore next 0 p → NotBefore i j p
+      past p (inl more) = inl (omega (arith, more, e))
+      past p (inr (at, from)) = inl (omega (arith, at, e))
+
+      wider : (p : Position) → NotBefore next 0 p ⊎ (places.old_place p ≡ None) → NotBefore i j p ⊎ (places.old_place p ≡ None)
+      wider p (inl after) = inl (past p after)
+      wider p (inr none) = inr none
+
+  -- all rows
+  pub through_all : (i : ℕ) (now new : Grid A) → places.rows ≤ i → MovesThrough is_blank places i 0 old now new → FillsThrough is_blank places old new
+  through_all i now new all m = record {
+    reads = record {
+      even = m.even;
+      rows = m.rows;
+      columns = m.columns;
+      moved = λ p inside. if_some (places.old_place p) (λ (q : Position). cell_at new p ≡ cell_at old q) (λ q is. m.done p q (within p inside) (inl (omega (arith, inside.row, m.rows, all))) is);
+    };
+    blanks = λ p inside none. m.blank p (within p inside) (inr none);
+  }
+    where
+      within : (p : Position) → IsInside new p → Within places p
+      within p inside = record { row = omega (arith, inside.row, m.rows); col = omega (arith, inside.col, m.columns) }
+
+-- rows of blanks are a grid
+pub blank_rows : {A : Type 0} (is_blank : A → Type 0) (columns : ℕ) (cells : List (List A)) → 0 < length cells → AllByRecursion (AreBlanks is_blank columns) cells → IsEven (grid_of cells) × (width_of cells ≡ columns)
+blank_rows {A} is_blank columns cells some blanks = (record { tall = refl; wide = subst (λ (n : ℕ). AllByRecursion (λ (row : List A). length row ≡ n) cells) (sym (width cells some blanks)) (long cells blanks) }, width cells some blanks)
+  where
+    width : (rows : List (List A)) → 0 < length rows → AllByRecursion (AreBlanks is_blank columns) rows → width_of rows ≡ columns
+    width [] h all = absurd (omega (arith, h))
+    width (row ∷ rows) h all = all.0.many
+
+    long : (rows : List (List A)) → AllByRecursion (AreBlanks is_blank columns) rows → AllByRecursion (λ (row : List A). length row ≡ columns) rows
+    long [] all = tt
+    long (row ∷ rows) all = (all.0.many, long rows all.1)

@@ -1,0 +1,29 @@
+//! The order of the pieces of lines.
+
+ghost use Rattle.std.specs.Prelude.{◌≡◌, ◌<◌};
+ghost use Rattle.tabled_grid.specs.Pieces.{nth_piece};
+
+/// The order of the pieces of lines that are cut.
+///
+/// Ported from the private `Behavior` of `tabled::settings::split`.
+#[derive(Clone, Copy, Debug, PartialEq, Eq)]
+pub enum PieceOrder {
+    /// The first pieces of all lines, then the second ones, and so on.
+    Concat,
+    /// The pieces of the first line, then those of the second one, and so on.
+    Zip,
+}
+
+impl PieceOrder {
+    /// The line and the number of the piece that comes so many-th, of so many lines of so many pieces.
+    pub fn nth_piece(self, lines: usize, pieces: usize, nth: usize) -> (usize, usize)
+        requires lines { 0 < lines }
+        requires pieces { 0 < pieces }
+        ensures { result ≡ nth_piece self lines pieces nth }
+    {
+        match self {
+            PieceOrder::Zip => (nth / pieces, nth % pieces),
+            PieceOrder::Concat => (nth % lines, nth / lines),
+        }
+    }
+}
