@@ -1,7 +1,6 @@
-use Rattle.std.proofs.Common.{◌≡◌, ℕ, ◌<◌, ◌+◌, ◌*◌, ◌∙◌, sym, ap, refl, arith}
-use Rattle.std.proofs.lemmas.Grind.{common_steps}
+use Rattle.std.proofs.Common.{◌≡◌, ℕ, ◌<◌, ◌+◌, ◌*◌, ◌∙◌, sym, ap, refl, length, arith}
+use Rattle.std.proofs.lemmas.List.{length-map}
 use Rattle.std.specs.Int.{div_ceil}
-use Rattle.std.specs.Vec.{with_items}
 use Rattle.tabled_grid.specs.Along.{count_along}
 use Rattle.tabled_grid.specs.Entity.{place}
 use Rattle.tabled_grid.specs.Grid.{grid_of, map_items}
@@ -31,12 +30,13 @@ loop-row-init g c =
       | in-Rows w ↦ omega (arith, ap (λ (p : ℕ × ℕ). p.0) w.tall-is, all, pieces)
       | in-Columns w ↦ omega (arith, ap (λ (p : ℕ × ℕ). p.0) w.tall-is, c.requires.index)
     ] in
-    let blanks = blank_rows g.T.Blank.is_blank c.match-axis.tall.1 (map_items c.in_ok-cut.cut.items) (omega (arith, any, c.in_ok-cut.ensures.count)) c.in_ok-cut.ensures.blanks in
+    let count : length (map_items c.in_ok-cut.cut.items) ≡ c.match-axis.tall.0 = length-map c.in_ok-cut.cut.items _ ∙ c.in_ok-cut.ensures.many in
+    let blanks = blank_rows g.T.Blank.is_blank c.match-axis.tall.1 (map_items c.in_ok-cut.cut.items) (omega (arith, any, count)) c.in_ok-cut.ensures.blanks in
     record {
       tall = tall;
       wide = wide;
       moves = through_none g.T.Blank.is_blank (cut_places c.args.axis c.args.order c.args.index c.count-lines.result c.count-width.result) (grid_of (map_items c.args.rows.now.items)) c.match-axis.tall.1 (grid_of (map_items c.in_ok-cut.cut.items))
-          c.count-lines.ensures.even blanks.0 (c.in_ok-cut.ensures.count ∙ tall) blanks.1 wide c.in_ok-cut.ensures.blanks;
+          c.count-lines.ensures.even blanks.0 (count ∙ tall) blanks.1 wide c.in_ok-cut.ensures.blanks;
     }
 
 pub exchange-requires-clause-here : goal.exchange-requires-clause-here
@@ -47,7 +47,6 @@ exchange-requires-clause-here g c =
     let i = c.loop-col.invariant in
     let here : Within (cut_places c.args.axis c.args.order c.args.index c.count-lines.result c.count-width.result) (place c.loop-row.row c.loop-col.col) = record { row = omega (arith, i.tall, c.loop-row-test.true); col = omega (arith, i.wide, c.loop-col-test.true) } in
     let once = pieces_take_once c.args.axis c.args.order c.args.index c.count-lines.result c.count-width.result some c.requires.index narrow (grid_of (map_items c.args.rows.now.items)) c.count-lines.ensures.count width in
-    rw c.deref_mut.ensures.value
     (from_inside g.T.Blank.is_blank (cut_places c.args.axis c.args.order c.args.index c.count-lines.result c.count-width.result) (grid_of (map_items c.args.rows.now.items)) c.loop-row.row c.loop-col.col (c.loop-col.col + 1) refl (grid_of (map_items c.loop-col.rows.items)) (grid_of (map_items c.loop-col.cut.items)) i.moves c.in-Some-old_place.from once here (sym c.old_place.ensures ∙ c.in-Some-old_place.is))
 
 pub loop-col-preserved : goal.loop-col-preserved
@@ -63,11 +62,8 @@ loop-col-preserved g c =
       wide = i.wide;
       moves = elim c.match-old_place.branch [
         | in-Some-old_place w ↦
-            let now : (with_items c.loop-col.rows w.exchange.new.rows).items ≡ w.exchange.new.rows = grind (arith, common_steps) in
-            let cut : (with_items c.loop-col.cut w.exchange.new.others).items ≡ w.exchange.new.others = grind (arith, common_steps) in
-            rw (w.rows-is, w.cut-is, now, cut)
-            (through_cell g.T.Blank.is_blank (cut_places c.args.axis c.args.order c.args.index c.count-lines.result c.count-width.result) (grid_of (map_items c.args.rows.now.items)) c.loop-row.row c.loop-col.col (c.loop-col.col + 1) refl (grid_of (map_items c.loop-col.rows.items)) (grid_of (map_items c.loop-col.cut.items)) i.moves w.in-Some-old_place.from once here (sym c.old_place.ensures ∙ w.in-Some-old_place.is) _ _
-            (rw (w.deref_mut.ensures.value, w.deref_mut-in-Some-old_place.ensures.value) at w.exchange.ensures))
+            rw (w.rows-is, w.cut-is)
+            (through_cell g.T.Blank.is_blank (cut_places c.args.axis c.args.order c.args.index c.count-lines.result c.count-width.result) (grid_of (map_items c.args.rows.now.items)) c.loop-row.row c.loop-col.col (c.loop-col.col + 1) refl (grid_of (map_items c.loop-col.rows.items)) (grid_of (map_items c.loop-col.cut.items)) i.moves w.in-Some-old_place.from once here (sym c.old_place.ensures ∙ w.in-Some-old_place.is) _ _ w.exchange.ensures)
         | in_default-old_place w ↦
             rw (w.rows-is, w.cut-is)
             (through_gap g.T.Blank.is_blank (cut_places c.args.axis c.args.order c.args.index c.count-lines.result c.count-width.result) (grid_of (map_items c.args.rows.now.items)) c.loop-row.row c.loop-col.col (c.loop-col.col + 1) refl (grid_of (map_items c.loop-col.rows.items)) (grid_of (map_items c.loop-col.cut.items)) i.moves (sym c.old_place.ensures ∙ w.in_default-old_place.is))
