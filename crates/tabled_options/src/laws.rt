@@ -119,11 +119,18 @@ where
     ensures { KeepsShape (T.does _option.now) → KeepsShape (T.leaves _option.now) → OptionKeeps ⟦<MergedCellsFit as Property<R::Cell, SpannedConfig>>⟧.holds (T.does _option.now) (T.leaves _option.now) }
 {}
 
-/// A text on an entity keeps merged cells inside the table and apart, also where it is refused.
-pub fn texts_keep_merged_cells_fitting<'a, R>(_string: &String, _text: TextRef<'a>)
+/// A string on an entity keeps merged cells inside the table and apart, also where it is refused.
+pub fn strings_keep_merged_cells_fitting<R>(_text: &String)
 where
-    R: Records + ExactRecords + RecordsMut<String> + RecordsMut<&'a str>,
+    R: Records + ExactRecords + RecordsMut<String>,
     R::Cell: CellText,
-    ensures string { (e : Entity) → OptionKeeps ⟦<MergedCellsFit as Property<R::Cell, SpannedConfig>>⟧.holds (⟦<String as CellOption<R, SpannedConfig>>⟧.does _string.now e) (⟦<String as CellOption<R, SpannedConfig>>⟧.leaves _string.now e) }
-    ensures text { (e : Entity) → OptionKeeps ⟦<MergedCellsFit as Property<R::Cell, SpannedConfig>>⟧.holds (⟦<TextRef<'a> as CellOption<R, SpannedConfig>>⟧.does _text.entry e) (⟦<TextRef<'a> as CellOption<R, SpannedConfig>>⟧.leaves _text.entry e) }
+    ensures { (e : Entity) → OptionKeeps ⟦<MergedCellsFit as Property<R::Cell, SpannedConfig>>⟧.holds (⟦<String as CellOption<R, SpannedConfig>>⟧.does _text.now e) (⟦<String as CellOption<R, SpannedConfig>>⟧.leaves _text.now e) }
+{}
+
+/// A text that is lent does so, too.
+pub fn lent_texts_keep_merged_cells_fitting<'a, R>(_text: TextRef<'a>)
+where
+    R: Records + ExactRecords + RecordsMut<&'a str>,
+    R::Cell: CellText,
+    ensures { (e : Entity) → OptionKeeps ⟦<MergedCellsFit as Property<R::Cell, SpannedConfig>>⟧.holds (⟦<TextRef<'a> as CellOption<R, SpannedConfig>>⟧.does _text.entry e) (⟦<TextRef<'a> as CellOption<R, SpannedConfig>>⟧.leaves _text.entry e) }
 {}

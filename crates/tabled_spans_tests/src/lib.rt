@@ -10,10 +10,6 @@ mod panels;
 #[cfg(test)]
 mod refusing;
 #[cfg(test)]
-mod refusing_growth;
-#[cfg(test)]
 mod spans;
-#[cfg(test)]
-mod tables;
 #[cfg(test)]
 mod widths;

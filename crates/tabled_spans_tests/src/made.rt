@@ -1,4 +1,4 @@
-//! Tables of words, and what panels and merges make of them.
+//! Tables of words, and what spans, panels and merges make of them.
 //!
 //! A table is spelled by its words with a slash after each row, as in `a b / c _ /`, where `_` stands for
 //! an empty text. Behind it stands each anchor wider than a column, as `0.1w3` for 3 columns from row 0 and
@@ -7,7 +7,7 @@
 
 ghost use Rattle.std.specs.Prelude.{IfOk};
 
-use crate::refusing_growth::Refusing;
+use crate::refusing::Refusing;
 use std::alloc::{AllocError, Global};
 use tabled_grid::config::{Entity, Position, SpannedConfig};
 use tabled_grid::records::{
@@ -16,12 +16,15 @@ use tabled_grid::records::{
 use tabled_options::{CellOption, TableOption};
 use tabled_spans::merge::Merge;
 use tabled_spans::panel::Panel;
+use tabled_spans::span::Span;
 
-/// An anchor with its row, column, height and width, a panel or a merge, or nothing.
+/// An anchor with its row, column, height and width, a span on an entity, a panel or a merge, or nothing.
 #[derive(Clone, Copy)]
 pub(crate) enum Step {
     Nothing,
     Anchor(usize, usize, usize, usize),
+    SpanColumns(isize, Entity),
+    SpanRows(isize, Entity),
     Header(&'static str),
     Footer(&'static str),
     Row(usize, &'static str),
@@ -135,6 +138,8 @@ where
             cfg.set_row_span(alloc, Position { row, col }, height)?;
             cfg.set_column_span(alloc, Position { row, col }, width)
         }
+        Step::SpanColumns(size, entity) => Span::column(size).change(alloc, records, cfg, entity),
+        Step::SpanRows(size, entity) => Span::row(size).change(alloc, records, cfg, entity),
         Step::Header(text) => {
             let text = String::from_str(alloc, text)?;
             Panel::header(text).change(alloc, records, cfg, &mut ())

@@ -5,7 +5,7 @@ use crate::made::{makes_flat, makes_nested, makes_refusing};
 use std::test::Fail;
 
 /// What panels make of tables.
-fn panels() -> [(&'static str, [Step; 3], &'static str); 17] {
+fn panels() -> [(&'static str, [Step; 3], &'static str); 19] {
     [
         // One after another: the second and the third cross none.
         (
@@ -42,9 +42,11 @@ fn panels() -> [(&'static str, [Step; 3], &'static str); 17] {
         // One cell is no merged cell.
         ("a /", [Footer("N"), Nothing, Nothing], "a / N /"),
         ("a /", [Column(0, "N"), Nothing, Nothing], "N a /"),
-        // Past the end, and on tables without rows.
+        // Past the end, and on tables without rows or columns.
         ("a b /", [Row(2, "P"), Column(3, "P"), Nothing], "a b /"),
         ("", [Header("N"), Footer("N"), Column(0, "N")], ""),
+        ("/ /", [Header("N"), Footer("N"), Row(1, "N")], "/ /"),
+        ("/ /", [Column(0, "N"), Nothing, Nothing], "N / _ / 0.0h2"),
         // Two panels in one line.
         (
             "a b /",

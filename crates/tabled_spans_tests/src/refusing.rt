@@ -1,14 +1,14 @@
-//! A store that refuses a write.
+//! A store that refuses a growth or a write.
 
 ghost use Rattle.std.specs.Prelude.{◌≡◌};
 
 use std::alloc::{AllocError, Global};
 use tabled_grid::config::Position;
 use tabled_grid::records::{
-    CellText, ExactRecords, GridStore, PeekableRecords, Records, RecordsMut,
+    Blank, CellText, ExactRecords, GridStore, PeekableRecords, Records, RecordsMut, Resizable,
 };
 
-/// A store that takes so many writes as are left, and refuses the others.
+/// A store that takes so many writes and growths as are left, and refuses the others.
 #[derive(Drop)]
 pub(crate) struct Refusing<S> {
     store: S,
@@ -20,6 +20,17 @@ impl<S> Refusing<S> {
         ensures { result.store ≡ store }
     {
         Refusing { store, left }
+    }
+
+    /// Counts one change, or refuses it.
+    fn count_change(&mut self) -> Result<(), AllocError>
+        ensures { self.new.store ≡ self.old.store }
+    {
+        if self.left == 0 {
+            return Err(AllocError);
+        }
+        self.left -= 1;
+        Ok(())
     }
 }
 
@@ -61,10 +72,52 @@ where
     S::Cell: CellText,
 {
     fn set(&mut self, alloc: Global, pos: Position, text: T) -> Result<(), AllocError> {
-        if self.left == 0 {
-            return Err(AllocError);
-        }
-        self.left -= 1;
+        self.count_change()?;
         self.store.set(alloc, pos, text)
+    }
+}
+
+impl<S: Resizable> Resizable for Refusing<S>
+where
+    S::Cell: Blank,
+{
+    fn push_row(&mut self, alloc: Global) -> Result<(), AllocError> {
+        self.count_change()?;
+        self.store.push_row(alloc)
+    }
+
+    fn push_column(&mut self, alloc: Global) -> Result<(), AllocError> {
+        self.count_change()?;
+        self.store.push_column(alloc)
+    }
+
+    fn insert_row(&mut self, alloc: Global, i: usize) -> Result<(), AllocError> {
+        self.count_change()?;
+        self.store.insert_row(alloc, i)
+    }
+
+    fn insert_column(&mut self, alloc: Global, j: usize) -> Result<(), AllocError> {
+        self.count_change()?;
+        self.store.insert_column(alloc, j)
+    }
+
+    fn remove_row(&mut self, i: usize) {
+        self.store.remove_row(i);
+    }
+
+    fn remove_column(&mut self, j: usize) {
+        self.store.remove_column(j);
+    }
+
+    fn swap(&mut self, p: Position, q: Position) {
+        self.store.swap(p, q);
+    }
+
+    fn swap_row(&mut self, i: usize, k: usize) {
+        self.store.swap_row(i, k);
+    }
+
+    fn swap_column(&mut self, j: usize, k: usize) {
+        self.store.swap_column(j, k);
     }
 }

@@ -1,9 +1,0 @@
-use Rattle.std.specs.String.{string_bytes}
-use Rattle.tabled_options.proofs.Shapes.{text_keeps}
-use Rattle.tabled_options.proofs.laws.texts_keep_merged_cells_fitting.Goals as goal
-
-pub returns : goal.returns
-returns g c = record {
-  string = λ e. text_keeps g.R.Cell.CellText.text_of (string_bytes c.args._string.now) e;
-  text = λ e. text_keeps g.R.Cell.CellText.text_of c.args._text.0.now e;
-}
