@@ -93,6 +93,7 @@ impl Case {
         let shape = match shape {
             "square" => Shape::Square,
             "tall" => Shape::Tall,
+            "row" => Shape::Row,
             _ => return None,
         };
         Some(Case::Table(shape, tables::Change::of_name(change)?))

@@ -14,6 +14,7 @@ use tabled_settings::format::Format;
 use tabled_settings::formatting::Charset;
 use tabled_settings::reverse::Reverse;
 use tabled_settings::rotate::Rotate;
+use tabled_settings::split::Split;
 use tabled_table::Table;
 
 type Store = VecRecords<Text<String>>;
@@ -25,6 +26,8 @@ pub(crate) enum Shape {
     Square,
     /// A hundred rows to a column.
     Tall,
+    /// One row.
+    Row,
 }
 
 /// What is done to a table.
@@ -44,6 +47,9 @@ pub(crate) enum Change {
     Lines,
     Clean,
     Dup,
+    Split(Split),
+    /// A split that leaves one cell over in each row.
+    SplitLast(Split),
 }
 
 impl Change {
@@ -62,8 +68,29 @@ impl Change {
             "lines" => Some(Change::Lines),
             "clean" => Some(Change::Clean),
             "dup" => Some(Change::Dup),
-            _ => None,
+            _ => Change::of_split(name),
         }
+    }
+
+    /// A split by the order of its pieces, what it drops and their length, as `zip-clean-10`.
+    fn of_split(name: &str) -> Option<Change> {
+        let (order, rest) = name.split_once('-')?;
+        let (display, index) = rest.split_once('-')?;
+        let split = match order {
+            "zip" => Split::column(0).zip(),
+            "concat" => Split::column(0).concat(),
+            _ => return None,
+        };
+        let split = match display {
+            "clean" => split.clean(),
+            "retain" => split.retain(),
+            _ => return None,
+        };
+        if index == "last" {
+            return Some(Change::SplitLast(split));
+        }
+        let index = index.parse::<usize>().ok()?;
+        Some(Change::Split(Split { index, ..split }))
     }
 }
 
@@ -74,12 +101,13 @@ pub(crate) fn run(
     shape: Shape,
     change: Change,
 ) -> Result<usize, AllocError> {
-    let columns = match shape {
-        Shape::Square => size,
-        Shape::Tall => size / 100,
+    let (rows, columns) = match shape {
+        Shape::Square => (size, size),
+        Shape::Tall => (size, size / 100),
+        Shape::Row => (1, size),
     };
-    let mut store = made(alloc, size, columns)?;
-    change_once(alloc, &mut store, size, columns, change)?;
+    let mut store = made(alloc, rows, columns)?;
+    change_once(alloc, &mut store, rows, columns, change)?;
     let rows = store.count_rows();
     mem::forget(store);
     Ok(rows)
@@ -147,5 +175,10 @@ fn change_once(
         Change::Lines => apply(alloc, Format::content(a_letter).multiline(), store),
         Change::Clean => apply(alloc, Charset::new().clean(), store),
         Change::Dup => apply(alloc, Dup::new(Rows::new(1..), Rows::first()), store),
+        Change::Split(split) => apply(alloc, split, store),
+        Change::SplitLast(split) => {
+            let index = columns.saturating_sub(1);
+            apply(alloc, Split { index, ..split }, store)
+        }
     }
 }
