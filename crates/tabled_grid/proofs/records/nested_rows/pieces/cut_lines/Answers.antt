@@ -7,7 +7,7 @@ use Rattle.tabled_grid.specs.Grid.{grid_of, map_items}
 use Rattle.tabled_grid.specs.Pieces.{across, cut_places}
 use Rattle.tabled_grid.specs.Places.{count_of}
 use Rattle.tabled_grid.proofs.PiecePlaces.{pieces_take_once, some_lines}
-use Rattle.tabled_grid.proofs.Through.{Within, blank_rows, from_inside, through_cell, through_gap, through_none}
+use Rattle.tabled_grid.proofs.Through.{Within, blank_rows, from_inside, through_cell, through_gap, through_none, through_row}
 use Rattle.tabled_grid.proofs.records.nested_rows.pieces.cut_lines.Goals as goal
 use Rattle.tabled_grid.proofs.records.nested_rows.pieces.cut_lines.Goals.{in-Rows, in-Columns, in-Some-old_place, in_default-old_place}
 
@@ -68,4 +68,13 @@ loop-col-preserved g c =
             rw (w.rows-is, w.cut-is)
             (through_gap g.T.Blank.is_blank (cut_places c.args.axis c.args.order c.args.index c.count-lines.result c.count-width.result) (grid_of (map_items c.args.rows.now.items)) c.loop-row.row c.loop-col.col (c.loop-col.col + 1) refl (grid_of (map_items c.loop-col.rows.items)) (grid_of (map_items c.loop-col.cut.items)) i.moves (sym c.old_place.ensures ∙ w.in_default-old_place.is))
       ];
+    }
+
+pub loop-row-preserved : goal.loop-row-preserved
+loop-row-preserved g c =
+    let i = c.loop-col.invariant in
+    record {
+      tall = i.tall;
+      wide = i.wide;
+      moves = through_row g.T.Blank.is_blank (cut_places c.args.axis c.args.order c.args.index c.count-lines.result c.count-width.result) (grid_of (map_items c.args.rows.now.items)) c.loop-row.row c.loop-col.col (c.loop-row.row + 1) (grid_of (map_items c.loop-col.rows.items)) (grid_of (map_items c.loop-col.cut.items)) refl (omega (arith, i.wide, c.loop-col-test.false)) i.moves;
     }
