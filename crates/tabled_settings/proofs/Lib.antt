@@ -20,7 +20,9 @@ pub mod Rotated
 pub mod Rounds
 pub mod SameCells
 pub mod SplitWorked
+pub mod Sums
 pub mod TakenOnce
+pub mod TextCounts
 pub mod TextsKept
 pub mod TurnedTwice
 pub mod Turns

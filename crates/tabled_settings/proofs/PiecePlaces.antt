@@ -2,17 +2,17 @@
 use Rattle.std.proofs.Common.{◌≡◌, ℕ, ◌+◌, ◌*◌, ◌/◌, ◌%◌, ◌<◌, ◌≤◌, ◌⊎◌, inl, inr, Bool, true, false, cond, Option, None, Some, refl, sym, ap, ap₂, ◌∙◌, subst, List, arith}
 use Rattle.std.specs.Prelude.{nat_lt, ◌&&◌}
 use Rattle.std.specs.Int.{div_ceil}
-use Rattle.std.specs.Option.{IfSome, unwrap_or}
+use Rattle.std.specs.Option.{unwrap_or}
 use Rattle.std.proofs.lemmas.Bool.{le-ltb, lt-ltb, ltb-true}
 use Rattle.std.proofs.lemmas.Nat.{div-add-mod', div_below, mod_below, same_from_place}
 use Rattle.tabled_grid.specs.Along.{count_along}
-use Rattle.tabled_grid.specs.Grid.{Grid, IsEven, IsInside, cell_at, map_grid}
+use Rattle.tabled_grid.specs.Grid.{Grid, IsEven, map_grid}
 use Rattle.tabled_grid.specs.declared.config.position.Position.{Position}
 use Rattle.tabled_grid.specs.declared.records.axis.Axis.{Axis}
 use Rattle.tabled_grid.specs.declared.records.axis.Axis.TheVariants.{Rows, Columns}
 use Rattle.tabled_settings.specs.declared.split.Split.{Split}
 use Rattle.tabled_grid.proofs.PiecePlaces.{across_is, line_is, place_is}
-use Rattle.tabled_grid.proofs.PiecesCut.{IsCut, enough_pieces}
+use Rattle.tabled_grid.proofs.PiecesCut.{enough_pieces}
 use Rattle.tabled_grid.specs.Pieces.{across, cut_places, index_in_line, nth_piece}
 use Rattle.tabled_settings.specs.PiecePlaces.{Splits, piece_index, same_places, split_places}
 use Rattle.tabled_settings.specs.Pieces.{cut_rows, has_pieces, turned}

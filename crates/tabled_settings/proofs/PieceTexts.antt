@@ -8,7 +8,7 @@ use Rattle.std.proofs.lemmas.List.{length-map}
 use Rattle.std.proofs.lemmas.List.Elements.{All-from_recursion}
 use Rattle.std.proofs.Math.ListN.{get_or-map}
 use Rattle.tabled_grid.specs.Along.{count_along}
-use Rattle.tabled_grid.specs.Grid.{Grid, IsEven, IsInside, cell_at, map_grid}
+use Rattle.tabled_grid.specs.Grid.{Grid, IsEven, cell_at, map_grid}
 use Rattle.tabled_grid.specs.declared.records.axis.Axis.{Axis}
 use Rattle.tabled_grid.specs.declared.records.axis.Axis.TheVariants.{Rows, Columns}
 use Rattle.tabled_grid.proofs.Grids.{cell_at-map_grid}

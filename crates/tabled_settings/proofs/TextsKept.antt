@@ -57,7 +57,11 @@ module _ (s : Split) (g : Grid (List ℕ)) where
   abbrev pieces : ℕ
   pieces = div_ceil g.columns s.index
 
-  all_texts : filter is_text (joined (cut_rows s g).cells) ≡ filter is_text (joined (map (piece_at s pieces g.cells) (range_with_len 0 (length g.cells * pieces))))
+  -- all pieces, in their order
+  abbrev pub all_pieces : List (List (List ℕ))
+  all_pieces = map (piece_at s pieces g.cells) (range_with_len 0 (length g.cells * pieces))
+
+  all_texts : filter is_text (joined (cut_rows s g).cells) ≡ filter is_text (joined all_pieces)
   all_texts =
       without_empty (piece_at s pieces g.cells) (λ (t : ℕ). stays s.display (nth_piece s.behavior (length g.cells) pieces t).1 (piece_at s pieces g.cells t))
       (λ t e. gone s.display (nth_piece s.behavior (length g.cells) pieces t).1 (piece_at s pieces g.cells t) e) (range_with_len 0 (length g.cells * pieces))
@@ -69,8 +73,14 @@ module _ (s : Split) (g : Grid (List ℕ)) where
       (first_stays s.display (nth_piece s.behavior (length g.cells) pieces 0).1 (piece_at s pieces g.cells 0) (first_number s.behavior (length g.cells) pieces)) in
       omega (arith, kept, cut_count s g)
 
-pub no_text_lost : (s : Split) (g : Grid (List ℕ)) → IsEven g → texts_in s.lines (split s g) ≡ texts_in s.lines (split (record s { display = Retain }) g)
-no_text_lost s g even = either (has_pieces s g.rows g.columns) refl
+-- where there are pieces, there are lines, and they are longer than a piece, which has cells
+pub pieces_need : (s : Split) (g : Grid (List ℕ)) → has_pieces s g.rows g.columns ≡ true → (0 < count_along s.lines g) × (0 < s.index) × (s.index < count_along (across s.lines) g)
+pieces_need s g e =
+    let tests = parts (nat_lt 0 (count_of s.lines g.rows g.columns)) (nat_lt 0 s.index) (nat_lt s.index (count_of (across s.lines) g.rows g.columns)) e in (
+      omega (arith, ltb-true 0 (count_of s.lines g.rows g.columns) tests.0, counted s.lines g),
+      ltb-true 0 s.index tests.1,
+      omega (arith, ltb-true s.index (count_of (across s.lines) g.rows g.columns) tests.2, counted (across s.lines) g),
+    )
   where
     parts : (x y z : Bool) → (x && (y && z)) ≡ true → (x ≡ true) × (y ≡ true) × (z ≡ true)
     parts true true true e = (refl, refl, refl)
@@ -78,19 +88,25 @@ no_text_lost s g even = either (has_pieces s g.rows g.columns) refl
     parts true false z e = absurd (true≢false (sym e))
     parts false y z e = absurd (true≢false (sym e))
 
-    either : (b : Bool) → has_pieces s g.rows g.columns ≡ b → texts_in s.lines (cond b (turned s.lines (cut_rows s (turned s.lines g))) g) ≡ texts_in s.lines (cond b (turned s.lines (cut_rows (record s { display = Retain }) (turned s.lines g))) g)
-    either false e = refl
-    either true e =
-        let tests = parts (nat_lt 0 (count_of s.lines g.rows g.columns)) (nat_lt 0 s.index) (nat_lt s.index (count_of (across s.lines) g.rows g.columns)) e in
-        let some : 0 < count_along s.lines g = omega (arith, ltb-true 0 (count_of s.lines g.rows g.columns) tests.0, counted s.lines g) in
-        let index : 0 < s.index = ltb-true 0 s.index tests.1 in
-        let narrow : s.index < count_along (across s.lines) g = omega (arith, ltb-true s.index (count_of (across s.lines) g.rows g.columns) tests.2, counted (across s.lines) g) in
-        let lines_even : IsEven (turned s.lines g) = turned_even s.lines g even some in
-        let tall : 0 < length (turned s.lines g).cells = omega (arith, lines_even.tall, turned_rows s.lines g, some) in
-        let wide : (turned s.lines g).columns ≡ count_along (across s.lines) g = turned_columns s.lines g some in
-        let any : 0 < div_ceil (turned s.lines g).columns s.index = some_pieces (div_ceil (turned s.lines g).columns s.index) s.index (turned s.lines g).columns (omega (arith, narrow, wide)) (enough_pieces (div_ceil (turned s.lines g).columns s.index) s.index (turned s.lines g).columns index refl) in
-        let all : Split = record s { display = Retain } in
-        ap (λ (h : Grid (List ℕ)). filter is_text (joined h.cells)) (turned_back_twice s.lines (cut_rows s (turned s.lines g)) (cut_even s (turned s.lines g)) (some_stay s (turned s.lines g) tall any) index)
-        ∙ all_texts s (turned s.lines g)
-        ∙ sym (all_texts (record s { display = Retain }) (turned s.lines g))
-        ∙ sym (ap (λ (h : Grid (List ℕ)). filter is_text (joined h.cells)) (turned_back_twice s.lines (cut_rows (record s { display = Retain }) (turned s.lines g)) (cut_even (record s { display = Retain }) (turned s.lines g)) (some_stay (record s { display = Retain }) (turned s.lines g) tall any) index))
+-- the texts of the result, along the lines, are those of all pieces
+pub texts_of_pieces : (s : Split) (g : Grid (List ℕ)) → IsEven g → has_pieces s g.rows g.columns ≡ true → texts_in s.lines (split s g) ≡ filter is_text (joined (all_pieces s (turned s.lines g)))
+texts_of_pieces s g even e =
+    let need : (0 < count_along s.lines g) × (0 < s.index) × (s.index < count_along (across s.lines) g) = pieces_need s g e in
+    let lines_even : IsEven (turned s.lines g) = turned_even s.lines g even need.0 in
+    let tall : 0 < length (turned s.lines g).cells = omega (arith, lines_even.tall, turned_rows s.lines g, need.0) in
+    let wide : (turned s.lines g).columns ≡ count_along (across s.lines) g = turned_columns s.lines g need.0 in
+    let any : 0 < div_ceil (turned s.lines g).columns s.index = some_pieces (div_ceil (turned s.lines g).columns s.index) s.index (turned s.lines g).columns (omega (arith, need.2, wide)) (enough_pieces (div_ceil (turned s.lines g).columns s.index) s.index (turned s.lines g).columns need.1 refl) in
+    ap (λ (b : Bool). texts_in s.lines (cond b (turned s.lines (cut_rows s (turned s.lines g))) g)) e
+    ∙ ap (λ (h : Grid (List ℕ)). filter is_text (joined h.cells)) (turned_back_twice s.lines (cut_rows s (turned s.lines g)) (cut_even s (turned s.lines g)) (some_stay s (turned s.lines g) tall any) need.1)
+    ∙ all_texts s (turned s.lines g)
+
+-- where there are no pieces, the texts are as they were
+pub texts_uncut : (s : Split) (g : Grid (List ℕ)) → has_pieces s g.rows g.columns ≡ false → texts_in s.lines (split s g) ≡ texts_in s.lines g
+texts_uncut s g e = ap (λ (b : Bool). texts_in s.lines (cond b (turned s.lines (cut_rows s (turned s.lines g))) g)) e
+
+pub no_text_lost : (s : Split) (g : Grid (List ℕ)) → IsEven g → texts_in s.lines (split s g) ≡ texts_in s.lines (split (record s { display = Retain }) g)
+no_text_lost s g even = either (has_pieces s g.rows g.columns) refl
+  where
+    either : (b : Bool) → has_pieces s g.rows g.columns ≡ b → texts_in s.lines (split s g) ≡ texts_in s.lines (split (record s { display = Retain }) g)
+    either false e = texts_uncut s g e ∙ sym (texts_uncut (record s { display = Retain }) g e)
+    either true e = texts_of_pieces s g even e ∙ sym (texts_of_pieces (record s { display = Retain }) g even e)

@@ -1,6 +1,6 @@
 //! Laws of what options do. Each is the contract of a function that does nothing.
 
-ghost use Rattle.std.specs.Prelude.{◌≡◌, ◌<◌};
+ghost use Rattle.std.specs.Prelude.{◌≡◌, ◌<◌, ℕ, Bool, List, count_by};
 ghost use Rattle.std.specs.List.{AllByRecursion};
 ghost use Rattle.tabled_grid.specs.Grid.{IsEven, map_grid};
 ghost use Rattle.tabled_grid.specs.declared.config.entity.Entity.{Entity};
@@ -92,6 +92,14 @@ pub fn split_loses_no_text<R: GridStore>(_split: Split, _old: &R, _new: &R)
 where
     R::Cell: CellText,
     ensures { IsEven (R.grid _old.now) → map_grid R.Cell.text_of (R.grid _new.now) ≡ split _split (map_grid R.Cell.text_of (R.grid _old.now)) → texts_in _split.lines (map_grid R.Cell.text_of (R.grid _new.now)) ≡ texts_in _split.lines (split (record _split { display = Retain }) (map_grid R.Cell.text_of (R.grid _old.now))) }
+{}
+
+/// A split keeps each text as often as it stood in the table: of the texts that aren't empty, as many pass
+/// a test after it as before it, whatever the test, the order of the pieces and which of them stay.
+pub fn split_keeps_each_text_as_often<R: GridStore>(_split: Split, _old: &R, _new: &R)
+where
+    R::Cell: CellText,
+    ensures { IsEven (R.grid _old.now) → map_grid R.Cell.text_of (R.grid _new.now) ≡ split _split (map_grid R.Cell.text_of (R.grid _old.now)) → (p : List ℕ → Bool) → count_by p (texts_in _split.lines (map_grid R.Cell.text_of (R.grid _new.now))) ≡ count_by p (texts_in _split.lines (map_grid R.Cell.text_of (R.grid _old.now))) }
 {}
 
 /// A clean text has no control character but the newline.
