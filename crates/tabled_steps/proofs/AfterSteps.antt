@@ -21,7 +21,7 @@ use Rattle.tabled_select.specs.Locators.{columns_with}
 use Rattle.tabled_settings.specs.Charsets.{DoesWrites, charset_writes}
 use Rattle.tabled_settings.specs.Dups.{Duplicates, source_texts}
 use Rattle.tabled_settings.specs.Joined.{JoinsAt, corner_of, joined_text}
-use Rattle.tabled_settings.specs.Places.{Places}
+use Rattle.tabled_grid.specs.Places.{Places}
 use Rattle.tabled_settings.specs.Rearranged.{extracted, removed, reversed, rotated}
 use Rattle.tabled_settings.specs.declared.rotate.Rotate.{Rotate}
 use Rattle.tabled_settings.specs.declared.rotate.Rotate.TheVariants.{Left, Right, Top, Bottom}

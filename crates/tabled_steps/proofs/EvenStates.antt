@@ -19,7 +19,7 @@ use Rattle.tabled_options.specs.Writes.{Write, with_writes, written}
 use Rattle.tabled_select.specs.Locators.{columns_with, text_at}
 use Rattle.tabled_settings.specs.Charsets.{charset_writes}
 use Rattle.tabled_settings.specs.Joined.{corner_of, joined_text}
-use Rattle.tabled_settings.specs.Places.{Places}
+use Rattle.tabled_grid.specs.Places.{Places}
 use Rattle.tabled_settings.specs.Rearranged.{extracted, removed, reversed, rotated}
 use Rattle.tabled_settings.specs.Dups.{round_writes, source_texts}
 use Rattle.tabled_settings.specs.Pieces.{cut_rows, has_pieces, split, turned}

@@ -11,7 +11,7 @@ use Rattle.tabled_grid.specs.Entity.{place}
 use Rattle.tabled_grid.specs.Grid.{Grid, IsEven, IsInside, cell_at, map_grid}
 use Rattle.tabled_grid.specs.declared.config.position.Position.{Position}
 use Rattle.tabled_grid.proofs.Grids.{IsEven-map_grid, cell_at-map_grid}
-use Rattle.tabled_settings.specs.Places.{Places, ReadsThrough}
+use Rattle.tabled_grid.specs.Places.{Places, ReadsThrough}
 use Rattle.tabled_settings.proofs.SameCells.{same_cells}
 use Rattle.tabled_steps.specs.Reads.{read, table_of}
 

@@ -8,7 +8,7 @@ use Rattle.tabled_grid.specs.declared.config.position.Position.{Position}
 use Rattle.tabled_grid.specs.declared.records.axis.Axis.{Axis}
 use Rattle.tabled_select.specs.Locators.{text_at}
 use Rattle.tabled_settings.specs.Joined.{corner_of, joined_text}
-use Rattle.tabled_settings.specs.Places.{Places}
+use Rattle.tabled_grid.specs.Places.{Places}
 
 -- so many rows and columns of texts, each by its place
 abbrev pub table_of : ℕ → ℕ → (Position → List ℕ) → Grid (List ℕ)

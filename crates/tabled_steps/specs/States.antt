@@ -15,7 +15,7 @@ use Rattle.tabled_settings.specs.Charsets.{charset_writes}
 use Rattle.tabled_settings.specs.Dups.{round_writes, source_texts}
 use Rattle.tabled_settings.specs.PiecePlaces.{glued}
 use Rattle.tabled_settings.specs.Pieces.{split}
-use Rattle.tabled_settings.specs.Places.{Places}
+use Rattle.tabled_grid.specs.Places.{Places}
 use Rattle.tabled_settings.specs.Rearranged.{extracted, removed, reversed, rotated}
 use Rattle.tabled_settings.specs.declared.split.Display.TheVariants.{Retain}
 use Rattle.tabled_settings.specs.declared.split.Split.{Split}
