@@ -1,0 +1,52 @@
+-- Escapes undone byte by byte.
+use Rattle.std.proofs.Common.{◌≡◌, ℕ, Bool, true, false, cond, eqb, ◌||◌, List, [], ◌∷◌, ◌++◌, Option, Some, None, refl, sym, ap, ◌∙◌}
+use Rattle.std.proofs.lemmas.Bool.{false≢true}
+use Rattle.std.proofs.lemmas.List.{append_assoc}
+use Rattle.std.specs.List.{list_any}
+use Rattle.std.specs.Option.{option_map, option_and_then}
+use Rattle.tabled_language.specs.Word.{before, escape, unescaped}
+
+-- bytes before a text, where there is one
+abbrev pub all_before : List ℕ → Option (List ℕ) → Option (List ℕ)
+all_before bs text = option_map (λ (cs : List ℕ). bs ++ cs) text
+
+-- what is left of a word, with the backslash that was read last
+abbrev pub pending : Bool → List ℕ → List ℕ
+pending behind bs = cond behind (92 ∷ bs) bs
+
+pub all_before-none : (text : Option (List ℕ)) → all_before [] text ≡ text
+all_before-none None = refl
+all_before-none (Some t) = refl
+
+pub all_before-before : (bs : List ℕ) (b : ℕ) (text : Option (List ℕ)) → all_before bs (before b text) ≡ all_before (bs ++ b ∷ []) text
+all_before-before bs b None = refl
+all_before-before bs b (Some t) = ap Some (sym (append_assoc bs (b ∷ []) t))
+
+-- a byte that is no backslash stands for itself
+pub unescaped-plain : (b : ℕ) (bs : List ℕ) → eqb b 92 ≡ false → unescaped (b ∷ bs) ≡ before b (unescaped bs)
+unescaped-plain b [] e = rw e refl
+unescaped-plain b (c ∷ bs) e = rw e refl
+
+-- a word without backslashes is its text
+pub unescaped-clean : (bs : List ℕ) → list_any (λ b. eqb b 92) bs ≡ false → unescaped bs ≡ Some bs
+unescaped-clean [] e = refl
+unescaped-clean (b ∷ bs) e =
+    let head : eqb b 92 ≡ false = or-false-left (eqb b 92) _ e in
+    let tail : list_any (λ c. eqb c 92) bs ≡ false = or-false-right (eqb b 92) _ e in
+    unescaped-plain b bs head ∙ ap (before b) (unescaped-clean bs tail)
+  where
+    or-false-left : (x y : Bool) → (x || y) ≡ false → x ≡ false
+    or-false-left false y h = refl
+    or-false-left true y h = h
+
+    or-false-right : (x y : Bool) → (x || y) ≡ false → y ≡ false
+    or-false-right false y h = h
+    or-false-right true y h = absurd (false≢true (sym h))
+
+-- one byte further, behind a backslash
+pub escape_more : (bytes bs : List ℕ) (b e : ℕ) → escape b ≡ Some e → all_before bytes (unescaped (92 ∷ b ∷ bs)) ≡ all_before (bytes ++ e ∷ []) (unescaped bs)
+escape_more bytes bs b e is = ap (λ o. all_before bytes (option_and_then (λ x. before x (unescaped bs)) o)) is ∙ all_before-before bytes e (unescaped bs)
+
+-- one byte further, elsewhere
+pub plain_more : (bytes bs : List ℕ) (b : ℕ) → eqb b 92 ≡ false → all_before bytes (unescaped (b ∷ bs)) ≡ all_before (bytes ++ b ∷ []) (unescaped bs)
+plain_more bytes bs b plain = ap (all_before bytes) (unescaped-plain b bs plain) ∙ all_before-before bytes b (unescaped bs)

@@ -1,0 +1,6 @@
+pub mod DeeperSelectors
+pub mod Escapes
+pub mod Numbers
+pub mod ScriptLines
+pub mod TableRows
+pub mod Texts

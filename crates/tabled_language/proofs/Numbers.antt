@@ -1,0 +1,51 @@
+-- What `parse` reads of a text without a sign, in the words of `number_of`.
+use Rattle.std.proofs.Common.{◌≡◌, ◌≢◌, ℕ, ◌<◌, ◌≤◌, ◌^◌, Bool, true, false, cond, ◌&&◌, not, eqb, leb, List, Some, None, Result, Ok, Err, [], ◌∷◌, length, get_or, arith, ne_eqb, refl, ap, ◌∙◌}
+use Rattle.std.proofs.lemmas.Bool.Decides.{nat_tests}
+use Rattle.std.proofs.lemmas.Str.Parse.{IsNumeralModel, numerals_by_value, tells_all_ascii_digits, parse_plain}
+use Rattle.std.specs.Str.{all_ascii_digits}
+use Rattle.std.specs.Str.Parse.{ParsesUnsigned, digits_value}
+use Rattle.std.specs.Result.{result_ok}
+use Rattle.tabled_language.specs.Word.{integer_of, number_of}
+
+-- digits and their value are std's
+own : IsNumeralModel (λ ds. all_ascii_digits ds ≡ true) (digits_value 10)
+own = numerals_by_value _ tells_all_ascii_digits
+
+none_unless : (p q r : Bool) (n : ℕ) → (p ≡ true → q ≡ true → r ≡ true → ⊥) → None ≡ cond (p && (q && r)) (Some n) None
+none_unless true true true n h = absurd (h refl refl refl)
+none_unless true true false n h = refl
+none_unless true false r n h = refl
+none_unless false q r n h = refl
+
+some_if : (p q r : Bool) (n : ℕ) → p ≡ true → q ≡ true → r ≡ true → Some n ≡ cond (p && (q && r)) (Some n) None
+some_if true true true n a b c = refl
+some_if true true false n a b c = cc
+some_if true false r n a b c = cc
+some_if false q r n a b c = cc
+
+-- a text that `parse` refuses is no number
+pub number_of-refused : {E : Type 0} (text : List ℕ) (r : Result ℕ E) → ParsesUnsigned 64 10 text r → get_or text 0 0 ≢ 43 → None ≡ result_ok r → None ≡ number_of text
+number_of-refused {E} text (Ok n) h plain e = cc
+number_of-refused {E} text (Err e) h plain is =
+    none_unless (not (eqb (length text) 0)) (all_ascii_digits text) (leb (digits_value 10 text) 10000) (digits_value 10 text) (λ some digits small.
+    let least : 0 < length text = grind (arith, nat_tests) in
+    let most : digits_value 10 text ≤ 10000 = grind (arith, nat_tests) in
+    let fits : digits_value 10 text < 2 ^ 64 = omega arith in
+    parse_plain own {E = E} 64 text (Err e) h plain (digits, least, fits))
+
+-- what it reads is the number, if that isn't too large
+pub number_of-read : {E : Type 0} (text : List ℕ) (r : Result ℕ E) (n : ℕ) → ParsesUnsigned 64 10 text r → get_or text 0 0 ≢ 43 → Some n ≡ result_ok r → n ≤ 10000 → Some n ≡ number_of text
+number_of-read {E} text (Err e) n h plain is small = cc
+number_of-read {E} text (Ok m) n h plain is small =
+    let read = parse_plain own {E = E} 64 text (Ok m) h plain in
+    let same : n ≡ m = cc in
+    let value : m ≡ digits_value 10 text = read.1 in
+    let least : 0 < length text = read.0.1 in
+    ap Some (same ∙ value) ∙ some_if (not (eqb (length text) 0)) (all_ascii_digits text) (leb (digits_value 10 text) 10000) (digits_value 10 text) (grind (arith, nat_tests)) read.0.0 (grind (arith, nat_tests))
+
+-- a text without a minus that is no number is no integer
+pub integer_of-plain : (text : List ℕ) → ((rest : List ℕ) → text ≡ 45 ∷ rest → ⊥) → number_of text ≡ None → integer_of text ≡ None
+integer_of-plain [] plain none = refl
+integer_of-plain (c ∷ cs) plain none =
+    let other : eqb c 45 ≡ false = ne_eqb c 45 (λ same. plain cs (ap (λ d. d ∷ cs) same)) in
+    rw (other, none) refl

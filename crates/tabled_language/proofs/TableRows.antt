@@ -1,0 +1,129 @@
+-- Rows of a table, taken from a list of texts.
+use Rattle.std.proofs.Common.{◌≡◌, ℕ, zero, suc, ◌+◌, ◌*◌, ◌<◌, ◌≤◌, List, [], ◌∷◌, ◌++◌, Bool, true, false, cond, eqb, Result, Ok, Err, refl, sym, ap, ap₂, ◌∙◌, length, get_or, map, take, drop, arith}
+use Rattle.std.specs.List.{AllByRecursion, range_with_len}
+use Rattle.std.proofs.lemmas.Bool.{eqb-false, le-leb}
+use Rattle.std.proofs.Math.Nat.{mul-le-mul_right}
+use Rattle.std.proofs.lemmas.List.{drop-drop, drop_more, length-drop, length-map, length-take, map-append, take_more}
+use Rattle.std.proofs.lemmas.List.FromFn.{length-map-range_with_len, map-range_with_len_more}
+use Rattle.tabled_grid.specs.Grid.{Grid, IsEven, grid_of, map_grid, width_of}
+use Rattle.tabled_language.specs.declared.fault.Fault.{Fault}
+use Rattle.tabled_language.specs.declared.fault.Fault.TheVariants.{NumberRange}
+use Rattle.tabled_language.specs.Parsing.{Reads}
+use Rattle.tabled_language.specs.Verb.{reads_table, rows_of}
+use Rattle.tabled_language.specs.Words.{Reading, fails, gives, reads_count, reads_number, reads_word}
+
+abbrev row_at : ℕ → List (List ℕ) → ℕ → List (List ℕ)
+row_at columns texts i = take columns (drop (i * columns) texts)
+
+-- there is room for one row more
+pub row_left : (columns rows i : ℕ) (texts : List (List ℕ)) → i < rows → rows * columns ≤ length texts → columns ≤ length (drop (i * columns) texts)
+row_left columns rows i texts below fits =
+    let row : (i + 1) * columns ≤ rows * columns = mul-le-mul_right columns (omega (arith, below)) in
+    omega (arith, row, fits, length-drop (i * columns) texts)
+
+-- one row more
+pub rows_more : {A : Type 0} (view : A → List (List ℕ)) (columns i : ℕ) (texts : List (List ℕ)) (rows : List A) (row : A) → map view rows ≡ map (row_at columns texts) (range_with_len 0 i) → view row ≡ take columns (drop (i * columns) texts) → map view (rows ++ row ∷ []) ≡ map (row_at columns texts) (range_with_len 0 (i + 1))
+rows_more view columns i texts rows row before is = map-append view rows (row ∷ []) ∙ ap₂ (λ (xs : List (List (List ℕ))) (y : List (List ℕ)). xs ++ y ∷ []) before is ∙ sym (map-range_with_len_more (row_at columns texts) 0 i i (omega arith))
+
+-- the texts behind one row more
+pub left_more : (columns i : ℕ) (texts : List (List ℕ)) → drop columns (drop (i * columns) texts) ≡ drop ((i + 1) * columns) texts
+left_more columns i texts = drop-drop columns (i * columns) texts ∙ ap (λ n. drop n texts) (omega arith)
+
+-- a word that is left is read
+pub word_left : {X : Type 0} (view : X → List ℕ) (texts now : List (List ℕ)) (i : ℕ) (r : Result X Fault) (new : List (List ℕ)) → now ≡ drop i texts → i < length texts → Reads view reads_word now r new → (x : X) × (r ≡ Ok x) × (view x ≡ get_or texts i []) × (new ≡ drop (i + 1) texts)
+word_left view texts now i (Ok x) new is below told =
+    let next = sym told ∙ ap reads_word (is ∙ drop_more texts i [] below) in
+    (x, refl, ap first next, ap rest next)
+  where
+    first : Result (List ℕ × List (List ℕ)) Fault → List ℕ
+    first (Ok read) = read.0
+    first (Err fault) = []
+
+    rest : Result (List ℕ × List (List ℕ)) Fault → List (List ℕ)
+    rest (Ok read) = read.1
+    rest (Err fault) = []
+word_left view texts now i (Err fault) new is below told = absurd (never (sym told ∙ ap reads_word (is ∙ drop_more texts i [] below)))
+  where
+    never : {x : List ℕ × List (List ℕ)} → Err fault ≡ Ok x → ⊥
+    never e = cc
+
+-- the word that was read
+pub word_read : {X : Type 0} (view : X → List ℕ) (texts now : List (List ℕ)) (i : ℕ) (x : X) (new : List (List ℕ)) → now ≡ drop i texts → i < length texts → Reads view reads_word now (Ok x) new → view x ≡ get_or texts i []
+word_read view texts now i x new is below told = ap first (sym told ∙ ap reads_word (is ∙ drop_more texts i [] below))
+  where
+    first : Result (List ℕ × List (List ℕ)) Fault → List ℕ
+    first (Ok read) = read.0
+    first (Err fault) = []
+
+-- there is a word to read
+pub word_is_left : {X : Type 0} (view : X → List ℕ) (texts now : List (List ℕ)) (i : ℕ) (fault : Fault) (new : List (List ℕ)) → now ≡ drop i texts → i < length texts → Reads view reads_word now (Err fault) new → ⊥
+word_is_left view texts now i fault new is below told = never (sym told ∙ ap reads_word (is ∙ drop_more texts i [] below))
+  where
+    never : {x : List ℕ × List (List ℕ)} → Err fault ≡ Ok x → ⊥
+    never e = cc
+
+-- one text more of a row
+pub row_more : {A : Type 0} (view : A → List ℕ) (texts : List (List ℕ)) (i : ℕ) (row : List A) (x : A) → i < length texts → map view row ≡ take i texts → view x ≡ get_or texts i [] → map view (row ++ x ∷ []) ≡ take (i + 1) texts
+row_more view texts i row x below before is = map-append view row (x ∷ []) ∙ ap₂ (λ (xs : List (List ℕ)) (y : List ℕ). xs ++ y ∷ []) before is ∙ sym (take_more texts i [] below)
+
+row_wide : (columns i : ℕ) (texts : List (List ℕ)) → i * columns + columns ≤ length texts → length (row_at columns texts i) ≡ columns
+row_wide columns i texts fits = omega (arith, length-take columns (drop (i * columns) texts), length-drop (i * columns) texts)
+
+rows_wide : {A : Type 0} (f : A → List ℕ) (columns : ℕ) (texts : List (List ℕ)) (cells : List (List A)) (i n : ℕ) → map (map f) cells ≡ map (row_at columns texts) (range_with_len i n) → (i + n) * columns ≤ length texts → AllByRecursion (λ (row : List A). length row ≡ columns) cells
+rows_wide f columns texts [] i n is fits = tt
+rows_wide f columns texts (row ∷ cells) i zero is fits = absurd (omega (arith, ap length is))
+rows_wide f columns texts (row ∷ cells) i (suc n) is fits =
+    let none : List (List ℕ) = [] in
+    let here : (i + 1) * columns ≤ (i + suc n) * columns = mul-le-mul_right columns (omega arith) in
+    let first : map f row ≡ row_at columns texts i = ap (λ rows. get_or rows 0 none) is in
+    let rest : map (map f) cells ≡ map (row_at columns texts) (range_with_len (i + 1) n) = ap (λ rows. drop 1 rows) is in
+    let bound : (i + 1 + n) * columns ≤ length texts = omega (arith, fits) in
+    (omega (arith, length-map row f, ap length first, row_wide columns i texts (omega (arith, here, fits))), rows_wide f columns texts cells (i + 1) n rest bound)
+
+-- a grid of rows that have these texts
+pub record HasRows {A : Type 0} (f : A → List ℕ) (rows columns : ℕ) (texts : List (List ℕ)) (cells : List (List A)) : Type 0 where
+  pub even : IsEven (grid_of cells)
+  pub texts_are : map_grid f (grid_of cells) ≡ rows_of rows columns texts
+
+pub has_rows : {A : Type 0} (f : A → List ℕ) (rows columns : ℕ) (texts : List (List ℕ)) (cells : List (List A)) → 0 < rows → rows * columns ≤ length texts → map (map f) cells ≡ (rows_of rows columns texts).cells → HasRows f rows columns texts cells
+has_rows {A} f rows columns texts cells some fits is =
+    let wide = rows_wide f columns texts cells 0 rows is (omega (arith, fits)) in
+    let tall : length cells ≡ rows = omega (arith, ap length is, length-map cells (map f), length-map-range_with_len (row_at columns texts) 0 rows) in
+    let broad : width_of cells ≡ columns = width cells wide (omega (arith, tall, some)) in
+    record { even = record { tall = refl; wide = rw broad wide }; texts_are = same tall broad is }
+  where
+    width : (cells : List (List A)) → AllByRecursion (λ (row : List A). length row ≡ columns) cells → 0 < length cells → width_of cells ≡ columns
+    width [] wide some = absurd (omega (arith, some))
+    width (row ∷ cells) wide some = wide.0
+
+    grid : ℕ → ℕ → List (List (List ℕ)) → Grid (List ℕ)
+    grid r c xs = record { rows = r; columns = c; cells = xs }
+
+    same : {r c : ℕ} {xs ys : List (List (List ℕ))} → r ≡ rows → c ≡ columns → xs ≡ ys → grid r c xs ≡ grid rows columns ys
+    same e k h = rw (e, k, h) refl
+
+abbrev Counted : Type 0
+Counted = Result (ℕ × List (List ℕ)) Fault
+
+abbrev number : Counted → ℕ
+number (Ok counted) = counted.0
+number (Err fault) = 0
+
+never : (fault : Fault) (x : ℕ × List (List ℕ)) → ◌≡◌ {A = Counted} (Err fault) (Ok x) → ⊥
+never fault x e = cc
+
+counted : (b : Bool) (m n : ℕ) (rest left : List (List ℕ)) → eqb m 0 ≡ b → cond {A = Reading ℕ} b (fails NumberRange) (gives m) rest ≡ Ok (n, left) → 0 < n
+counted true m n rest left none e = absurd (never NumberRange (n, left) e)
+counted false m n rest left some e = let same : m ≡ n = ap number e in omega (arith, same, eqb-false m 0 some)
+
+-- a count is at least 1
+pub count_some : (texts left : List (List ℕ)) (n : ℕ) → reads_count texts ≡ Ok (n, left) → 0 < n
+count_some texts left n is = by (reads_number texts) refl
+  where
+    by : (r : Counted) → reads_number texts ≡ r → 0 < n
+    by (Err fault) e = absurd (never fault (n, left) (rw e at is))
+    by (Ok (m, rest)) e = counted (eqb m 0) m n rest left refl (rw e at is)
+
+-- a table that was read
+pub table_read : (texts first second left : List (List ℕ)) (rows columns : ℕ) (g : Grid (List ℕ)) → reads_count texts ≡ Ok (rows, first) → reads_count first ≡ Ok (columns, second) → rows * columns ≤ length second → g ≡ rows_of rows columns second → left ≡ drop (rows * columns) second → reads_table texts ≡ Ok (g, left)
+table_read texts first second left rows columns g a b fits is rest = rw (a, b, le-leb (rows * columns) (length second) fits, is, rest) refl

@@ -1,0 +1,23 @@
+use Rattle.std.proofs.Common.{ℕ, eqb, arith}
+use Rattle.std.proofs.lemmas.List.{length-map}
+use Rattle.std.proofs.lemmas.List.Splits.{length-slice_split}
+use Rattle.std.proofs.lemmas.List.Sums.{count_by-le-length}
+use Rattle.tabled_language.specs.Line.{line_of, lines_of}
+use Rattle.tabled_language.proofs.ScriptLines.{has_read-counts, has_read-more, has_read-fault}
+use Rattle.tabled_language.proofs.script.parse.Goals as goal
+
+pub overflow_add-number : goal.overflow_add-number
+overflow_add-number c =
+    let p = λ (b : ℕ). eqb b 10 in
+    let counted = has_read-counts (rw c.in-Some.ensures.steps at c.loop-line.invariant) in
+    omega (arith, counted, length-map (lines_of c.args.input.now) line_of, length-map c.next.new.self line_of, length-slice_split p c.args.input.now, count_by-le-length p c.args.input.now)
+
+pub returns-in-Err : goal.returns-in-Err
+returns-in-Err c =
+    let read = rw c.in-Err.is at c.in_ok-fault.ensures in
+    has_read-fault (line_of c.in-Some.line.now) c.in-Err.fault (rw c.in-Some.ensures.steps at c.loop-line.invariant) read
+
+pub loop-line-preserved : goal.loop-line-preserved
+loop-line-preserved c =
+    let read = rw c.in_default.is at c.in_ok-fault.ensures in
+    rw read.1 (has_read-more (line_of c.in-Some.line.now) (rw c.in-Some.ensures.steps at c.loop-line.invariant) read.0)

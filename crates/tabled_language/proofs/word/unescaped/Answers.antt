@@ -1,0 +1,36 @@
+use Rattle.std.proofs.Common.{rules, arith, ◌≡◌, ◌+◌, ◌∷◌, ◌∙◌, sym, eqb, false, drop, get_or}
+use Rattle.std.proofs.lemmas.List.{drop_more}
+use Rattle.std.proofs.lemmas.Bool.Decides.{nat_tests}
+use Rattle.std.specs.List.{list_any}
+use Rattle.tabled_language.specs.Word.{unescaped}
+use Rattle.tabled_language.proofs.Escapes.{all_before-none, unescaped-clean, escape_more, plain_more}
+use Rattle.tabled_language.proofs.word.unescaped.Goals as goal
+use Rattle.tabled_language.proofs.word.unescaped.Goals.{then-behind_backslash+in-Some+in_ok-push, else-behind_backslash+then-byte-eq92, else-behind_backslash+else-byte-eq92+in_ok-push-2}
+
+pub returns-then-not-contains : goal.returns-then-not-contains
+returns-then-not-contains c =
+    let clean : list_any (λ b. eqb b 92) c.args.word.now ≡ false = search rules in
+    rw (c.in_ok-from_slice.ensures.items) (sym (unescaped-clean c.args.word.now clean))
+
+pub loop-byte-init : goal.loop-byte-init
+loop-byte-init c = rw (c.in_ok-bytes.ensures.items) (all_before-none (unescaped c.args.word.now))
+
+pub loop-byte-preserved : goal.loop-byte-preserved
+loop-byte-preserved c =
+    let i = c.loop-byte.byte-index in
+    let word = c.args.word.now in
+    let next : drop i word ≡ get_or word i 0 ∷ drop (i + 1) word = drop_more word i 0 (omega arith) in
+    elim c.if-behind_backslash.branch [
+      | then-behind_backslash+in-Some+in_ok-push w ↦
+          let was = rw (w.if-behind_backslash.true, next) at c.loop-byte.invariant in
+          rw (w.bytes-is, w.behind_backslash-is, w.in_ok-push.ensures.items)
+          (sym (escape_more c.loop-byte.bytes.items (drop (i + 1) word) (get_or word i 0) w.in-Some.escaped (sym w.in-Some.ensures)) ∙ was)
+      | else-behind_backslash+then-byte-eq92 w ↦
+          let was = rw (w.if-behind_backslash.false, next, w.if-byte-eq92.true) at c.loop-byte.invariant in
+          rw (w.bytes-is, w.behind_backslash-is) was
+      | else-behind_backslash+else-byte-eq92+in_ok-push-2 w ↦
+          let was = rw (w.if-behind_backslash.false, next) at c.loop-byte.invariant in
+          let plain : eqb (get_or word i 0) 92 ≡ false = grind (arith, nat_tests, w.if-byte-eq92.false) in
+          rw (w.bytes-is, w.behind_backslash-is, w.if-behind_backslash.false, w.in_ok-push-2.ensures.items)
+          (sym (plain_more c.loop-byte.bytes.items (drop (i + 1) word) (get_or word i 0) plain) ∙ was)
+    ]

@@ -1,0 +1,7 @@
+use Rattle.std.proofs.Common.{◌≡◌, drop}
+use Rattle.tabled_language.specs.Word.{unescaped}
+use Rattle.tabled_language.proofs.Escapes.{all_before, pending}
+use Rattle.tabled_language.proofs.word.unescaped.Given as goal
+
+abbrev pub invariant-loop-byte : goal.invariant-loop-byte
+invariant-loop-byte l = all_before l.bytes.items (unescaped (pending l.behind_backslash (drop l.byte-index l.word))) ≡ unescaped l.word

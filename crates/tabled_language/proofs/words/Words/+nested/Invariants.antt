@@ -1,0 +1,8 @@
+use Rattle.std.proofs.Common.{◌+◌, ◌*◌}
+use Rattle.tabled_language.proofs.words.Words.+nested.Given as goal
+
+abbrev pub decreases-selector : goal.decreases-selector
+decreases-selector l = 2 * l.depth
+
+abbrev pub decreases-selector_behind : goal.decreases-selector_behind
+decreases-selector_behind l = 2 * l.depth + 1

@@ -1,0 +1,7 @@
+pub mod Faults
+pub mod Line
+pub mod Parsing
+pub mod Selectors
+pub mod Verb
+pub mod Word
+pub mod Words

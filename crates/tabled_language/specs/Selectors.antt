@@ -1,0 +1,59 @@
+-- The words that name cells, in prefix form.
+use Rattle.std.specs.Prelude.{ℕ, zero, suc, [], ◌∷◌, codes, drop}
+use Rattle.tabled_select.specs.Steps.{every}
+use Rattle.tabled_steps.specs.Selected.{Named, named_by, others, shared, united, with_content, with_name, without}
+use Rattle.tabled_steps.specs.declared.select.Select.{Select}
+use Rattle.tabled_steps.specs.declared.select.Select.TheVariants as select
+use Rattle.tabled_language.specs.declared.fault.Fault.TheVariants.{SelectorDepth}
+use Rattle.tabled_language.specs.Words.{Choices, Reading, behind, fails, gives, reads_number, reads_word, then_reads}
+
+-- a selector with one number
+abbrev pub with_number : (ℕ → Select) → Reading Named
+with_number make = then_reads reads_number (λ n. gives (named_by (make n)))
+
+-- a selector with two numbers
+abbrev pub with_two_numbers : (ℕ → ℕ → Select) → Reading Named
+with_two_numbers make = then_reads reads_number (λ a. then_reads reads_number (λ b. gives (named_by (make a b))))
+
+-- a selector with four numbers
+abbrev pub with_four_numbers : (ℕ → ℕ → ℕ → ℕ → Select) → Reading Named
+with_four_numbers make = then_reads reads_number (λ a. then_reads reads_number (λ b. then_reads reads_number (λ c. then_reads reads_number (λ d. gives (named_by (make a b c d))))))
+
+-- the words of selectors that hold no other
+abbrev pub plain_selectors : Choices Named
+plain_selectors =
+    (codes "all", gives (named_by select.All))
+    ∷ (codes "cell", with_two_numbers select.Cell)
+    ∷ (codes "row", with_number select.Row)
+    ∷ (codes "column", with_number select.Column)
+    ∷ (codes "first-row", gives (named_by select.FirstRow))
+    ∷ (codes "last-row", gives (named_by select.LastRow))
+    ∷ (codes "first-column", gives (named_by select.FirstColumn))
+    ∷ (codes "last-column", gives (named_by select.LastColumn))
+    ∷ (codes "last-row-minus", with_number select.LastRowMinus)
+    ∷ (codes "last-row-plus", with_number select.LastRowPlus)
+    ∷ (codes "last-column-minus", with_number select.LastColumnMinus)
+    ∷ (codes "last-column-plus", with_number select.LastColumnPlus)
+    ∷ (codes "rows", with_two_numbers select.Rows)
+    ∷ (codes "columns", with_two_numbers select.Columns)
+    ∷ (codes "segment", with_four_numbers select.Segment)
+    ∷ (codes "frame", gives (named_by select.Frame))
+    ∷ (codes "content", then_reads reads_word (λ text. gives (with_content text)))
+    ∷ (codes "name", then_reads reads_word (λ text. gives (with_name text)))
+    ∷ []
+
+-- the words of selectors, where a selector that they hold is read by a reading
+abbrev pub selectors : Reading Named → Choices Named
+selectors inner =
+    (codes "and", then_reads inner (λ x. then_reads inner (λ y. gives (λ g. united g (x g) (y g)))))
+    ∷ (codes "not", then_reads inner (λ x. then_reads inner (λ y. gives (λ g. without g (x g) (y g)))))
+    ∷ (codes "intersect", then_reads inner (λ x. then_reads inner (λ y. gives (λ g. shared g (x g) (y g)))))
+    ∷ (codes "inverse", then_reads inner (λ x. gives (λ g. others g (x g))))
+    ∷ (codes "skip", then_reads reads_number (λ n. then_reads inner (λ x. gives (λ g. drop n (x g)))))
+    ∷ (codes "step", then_reads reads_number (λ n. then_reads inner (λ x. gives (λ g. every n (x g)))))
+    ∷ plain_selectors
+
+-- the words of a selector that holds others to a depth
+abbrev pub reads_selector : ℕ → Reading Named
+reads_selector zero = then_reads reads_word (λ word. fails SelectorDepth)
+reads_selector (suc depth) = then_reads reads_word (behind (selectors (reads_selector depth)))

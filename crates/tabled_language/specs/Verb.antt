@@ -1,0 +1,156 @@
+-- The verbs of the language: the words that a line may begin with, and what each says.
+use Rattle.std.specs.Prelude.{ℕ, ◌*◌, true, false, List, [], ◌∷◌, codes, if◌then◌else◌, None, Some, Result, Ok, Err, take, drop, map, length, nat_le}
+use Rattle.std.specs.List.{range_with_len}
+use Rattle.std.specs.Str.{bytes_eq}
+use Rattle.tabled_grid.specs.Grid.{Grid}
+use Rattle.tabled_grid.specs.declared.config.offset.Offset.{Offset}
+use Rattle.tabled_grid.specs.declared.config.offset.Offset.TheVariants.{End, Start}
+use Rattle.tabled_grid.specs.declared.records.axis.Axis.{Axis}
+use Rattle.tabled_grid.specs.declared.records.axis.Axis.TheVariants.{Columns, Rows}
+use Rattle.tabled_settings.specs.Rearranged.{extracted, reversed, rotated}
+use Rattle.tabled_settings.specs.declared.rotate.Rotate.{Rotate}
+use Rattle.tabled_settings.specs.declared.rotate.Rotate.TheVariants.{Bottom, Left, Right, Top}
+use Rattle.tabled_grid.specs.declared.records.piece_order.PieceOrder.{PieceOrder}
+use Rattle.tabled_grid.specs.declared.records.piece_order.PieceOrder.TheVariants as order
+use Rattle.tabled_settings.specs.declared.split.Display.{Display}
+use Rattle.tabled_settings.specs.declared.split.Display.TheVariants as display
+use Rattle.tabled_spans.specs.Widths as widths
+use Rattle.tabled_steps.specs.Selected.{Named, half_open}
+use Rattle.tabled_steps.specs.States.{State, cut, duplicate, join, merge, on_each, put_panel, rearrange, recode, remove_named, remove_range, set, span}
+use Rattle.tabled_language.specs.declared.fault.Fault.{Fault}
+use Rattle.tabled_language.specs.declared.fault.Fault.TheVariants.{WordCount}
+use Rattle.tabled_language.specs.Selectors.{reads_selector}
+use Rattle.tabled_language.specs.Words.{Choices, Reading, behind, gives, then_reads, reads_count, reads_integer, reads_number, reads_one_of, reads_word, whole}
+
+-- what a line says: nothing, a record, what it makes of a table's state, or a fault
+pub data Line : Type 0 where
+  EmptyLine : Line
+  RecordLine : List (List ℕ) → Line
+  StepLine : (State → State) → Line
+  FaultyLine : Fault → Line
+
+-- a step that was read, or the fault in its words
+abbrev pub step_line : Result (State → State) Fault → Line
+step_line (Ok step) = StepLine step
+step_line (Err fault) = FaultyLine fault
+
+-- how many selectors stand in each other at most
+abbrev pub largest_depth : ℕ
+largest_depth = 64
+
+-- a selector that may hold others
+abbrev pub reads_cells : Reading Named
+reads_cells = reads_selector largest_depth
+
+-- `rows` or `columns`
+abbrev pub reads_lines : Reading Axis
+reads_lines = reads_one_of ((codes "rows", gives Rows) ∷ (codes "columns", gives Columns) ∷ [])
+
+-- `start` or `end`, and a number from there
+abbrev pub offsets : Choices Offset
+offsets = (codes "start", then_reads reads_number (λ n. gives (Start n))) ∷ (codes "end", then_reads reads_number (λ n. gives (End n))) ∷ []
+
+-- an offset
+abbrev pub reads_offset : Reading Offset
+reads_offset = reads_one_of offsets
+
+-- `column`, which cuts rows, or `row`, which cuts columns
+abbrev pub reads_cut_lines : Reading Axis
+reads_cut_lines = reads_one_of ((codes "column", gives Rows) ∷ (codes "row", gives Columns) ∷ [])
+
+-- `zip` or `concat`
+abbrev pub reads_behavior : Reading PieceOrder
+reads_behavior = reads_one_of ((codes "zip", gives order.Zip) ∷ (codes "concat", gives order.Concat) ∷ [])
+
+-- `clean` or `retain`
+abbrev pub reads_display : Reading Display
+reads_display = reads_one_of ((codes "clean", gives display.Clean) ∷ (codes "retain", gives display.Retain) ∷ [])
+
+-- a quarter turn, or upside down
+abbrev pub reads_rotate : Reading Rotate
+reads_rotate = reads_one_of ((codes "left", gives Left) ∷ (codes "right", gives Right) ∷ (codes "top", gives Top) ∷ (codes "bottom", gives Bottom) ∷ [])
+
+-- `vertical`, which joins below, or `horizontal`, which joins on the right
+abbrev pub reads_side : Reading Axis
+reads_side = reads_one_of ((codes "vertical", gives Rows) ∷ (codes "horizontal", gives Columns) ∷ [])
+
+-- so many rows of so many texts
+abbrev pub rows_of : ℕ → ℕ → List (List ℕ) → Grid (List ℕ)
+rows_of rows columns texts = record { rows = rows; columns = columns; cells = map (λ (i : ℕ). take columns (drop (i * columns) texts)) (range_with_len 0 rows) }
+
+-- these rows, where there are words enough
+abbrev pub reads_rows : ℕ → ℕ → Reading (Grid (List ℕ))
+reads_rows rows columns texts = if nat_le (rows * columns) (length texts) then Ok (rows_of rows columns texts, drop (rows * columns) texts) else Err WordCount
+
+-- a table of at least one row and one column: how many, and then its texts, row by row
+abbrev pub reads_table : Reading (Grid (List ℕ))
+reads_table = then_reads reads_count (λ rows. then_reads reads_count (λ columns. reads_rows rows columns))
+
+-- what `remove` takes away: rows or columns of a range, or columns with a name
+abbrev pub removals : Choices (State → State)
+removals =
+    (codes "rows", then_reads reads_number (λ a. then_reads reads_number (λ b. gives (remove_range Rows a b))))
+    ∷ (codes "columns", then_reads reads_number (λ a. then_reads reads_number (λ b. gives (remove_range Columns a b))))
+    ∷ (codes "named", then_reads reads_word (λ name. gives (remove_named name)))
+    ∷ []
+
+-- the verbs of steps that take no selector, no width and no table, and what is read behind each
+abbrev pub plain_steps : Choices (State → State)
+plain_steps =
+    (codes "hpanel", then_reads reads_number (λ n. then_reads reads_word (λ text. gives (put_panel Rows n text))))
+    ∷ (codes "vpanel", then_reads reads_number (λ n. then_reads reads_word (λ text. gives (put_panel Columns n text))))
+    ∷ (codes "header", then_reads reads_word (λ text. gives (put_panel Rows 0 text)))
+    ∷ (codes "footer", then_reads reads_word (λ text. gives (λ s. put_panel Rows s.texts.rows text s)))
+    ∷ (codes "vmerge", gives (merge Rows))
+    ∷ (codes "hmerge", gives (merge Columns))
+    ∷ (codes "rotate", then_reads reads_rotate (λ how. gives (rearrange (rotated how))))
+    ∷ (codes "reverse", then_reads reads_lines (λ axis. then_reads reads_number (λ start. then_reads reads_offset (λ limit. gives (rearrange (reversed axis start limit))))))
+    ∷ (codes "split", then_reads reads_cut_lines (λ lines. then_reads reads_number (λ index. then_reads reads_behavior (λ pieces. then_reads reads_display (λ shown. gives (cut (record { lines = lines; behavior = pieces; display = shown; index = index })))))))
+    ∷ (codes "extract", then_reads reads_number (λ a. then_reads reads_number (λ b. then_reads reads_number (λ c. then_reads reads_number (λ d. gives (rearrange (extracted (half_open a b) (half_open c d))))))))
+    ∷ (codes "remove", reads_one_of removals)
+    ∷ []
+
+-- a selector and a text to write
+abbrev pub reads_set : Reading (State → State)
+reads_set = then_reads reads_cells (λ named. then_reads reads_word (λ text. gives (on_each (set text) named)))
+
+-- a destination and a source
+abbrev pub reads_dup : Reading (State → State)
+reads_dup = then_reads reads_cells (λ destination. then_reads reads_cells (λ source. gives (duplicate destination source)))
+
+-- a selector of texts to clean
+abbrev pub reads_clean : Reading (State → State)
+reads_clean = then_reads reads_cells (λ named. gives (on_each (recode (true, None)) named))
+
+-- how many spaces a tab becomes, and a selector
+abbrev pub reads_tabs : Reading (State → State)
+reads_tabs = then_reads reads_number (λ n. then_reads reads_cells (λ named. gives (on_each (recode (false, Some n)) named)))
+
+-- a size and a selector
+abbrev pub reads_span : Axis → Reading (State → State)
+reads_span axis = then_reads reads_integer (λ size. then_reads reads_cells (λ named. gives (on_each (span axis size) named)))
+
+-- a column, a width and a text
+abbrev pub reads_cut_panel : Reading (State → State)
+reads_cut_panel = then_reads reads_number (λ n. then_reads reads_number (λ width. then_reads reads_word (λ text. gives (put_panel Columns n (widths.cut width text)))))
+
+-- a side, a default text and a table
+abbrev pub reads_concat : Reading (State → State)
+reads_concat = then_reads reads_side (λ axis. then_reads reads_word (λ default. then_reads reads_table (λ second. gives (join axis second default))))
+
+-- the verbs of steps, and what is read behind each
+abbrev pub steps : Choices (State → State)
+steps =
+    (codes "set", reads_set)
+    ∷ (codes "dup", reads_dup)
+    ∷ (codes "clean", reads_clean)
+    ∷ (codes "tabs", reads_tabs)
+    ∷ (codes "cspan", reads_span Columns)
+    ∷ (codes "rspan", reads_span Rows)
+    ∷ (codes "vpanelw", reads_cut_panel)
+    ∷ (codes "concat", reads_concat)
+    ∷ plain_steps
+
+-- what a verb says with the texts behind it
+abbrev pub says : List ℕ → List (List ℕ) → Line
+says verb texts = if bytes_eq verb (codes "row") then RecordLine texts else step_line (whole (behind steps verb) texts)

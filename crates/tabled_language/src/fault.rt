@@ -1,0 +1,30 @@
+//! What is wrong with a line of a script.
+
+/// What is wrong with a line of a script.
+#[derive(Clone, Copy, Debug, PartialEq, Eq)]
+pub enum Fault {
+    /// A word stands where another one is asked for.
+    UnknownWord = 1,
+    /// A word is missing, or one is left over.
+    WordCount = 2,
+    /// A word is no number, or one out of range.
+    NumberRange = 3,
+    /// A backslash begins no escape, or the bytes are no UTF-8.
+    Escape = 4,
+    /// A selector stands in 64 others.
+    SelectorDepth = 5,
+    /// A record stands behind a step.
+    RowAfterStep = 6,
+}
+
+impl Fault {
+    ghost use Rattle.std.specs.Prelude.{◌≡◌};
+    ghost use Rattle.tabled_language.specs.Faults.{fault_number};
+
+    /// The number that stands for it in what is written.
+    pub fn number(self) -> u8
+        ensures { result ≡ fault_number self }
+    {
+        self as u8
+    }
+}

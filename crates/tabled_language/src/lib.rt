@@ -1,0 +1,14 @@
+//! The language of scripts: records and steps read from lines of words.
+#![tactic(auto)]
+
+mod fault;
+mod parts;
+mod script;
+mod selectors;
+mod steps;
+mod verbs;
+mod word;
+mod words;
+
+pub use fault::Fault;
+pub use script::{Script, parse};

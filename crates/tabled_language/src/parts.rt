@@ -1,0 +1,65 @@
+//! Bytes separated at the places of one byte.
+
+ghost use Rattle.std.specs.Prelude.{◌≡◌, ◌==◌, ◌∷◌};
+ghost use Rattle.std.specs.Iterator.{YieldsFirstRef, item_count};
+ghost use Rattle.std.specs.List.{slice_split};
+ghost use Rattle.tabled_language.specs.Parsing.{parts_left};
+
+use std::marker::Model;
+
+/// Goes over the parts of bytes between the places of one byte. A contract sees it as the list of
+/// the parts that are left.
+#[derive(Drop)]
+pub(crate) struct Parts<'a> {
+    rest: Option<&'a [u8]>,
+    at: u8,
+}
+
+impl<'a> Model for Parts<'a> {
+    ghost use Rattle.std.specs.Prelude.{ℕ, List};
+    ghost use Rattle.tabled_language.specs.Parsing.{parts_left};
+
+    ghost Value = { List (List ℕ) };
+
+    ghost view = { λ a. parts_left a.at a.rest };
+}
+
+impl<'a> Parts<'a> {
+    ghost use Rattle.std.specs.Prelude.{◌≡◌, ◌==◌};
+    ghost use Rattle.std.specs.List.{slice_split};
+
+    pub(crate) fn new(bytes: &'a [u8], at: u8) -> Self
+        ensures { result ≡ slice_split (λ b. b == at) bytes.now }
+    {
+        Parts {
+            rest: Some(bytes),
+            at,
+        }
+    }
+}
+
+impl<'a> Iterator for Parts<'a> {
+    type Item = &'a [u8];
+
+    ghost next_gives = { YieldsFirstRef (λ s. s) };
+
+    ghost remaining = { item_count (λ s. s) };
+
+    fn next(&mut self) -> Option<&'a [u8]> {
+        let (part, rest) = first_part(self.rest?, self.at);
+        self.rest = rest;
+        Some(part)
+    }
+}
+
+/// The part before the first place of a byte, and what is behind that place.
+fn first_part(bytes: &[u8], at: u8) -> (&[u8], Option<&[u8]>)
+    ensures { slice_split (λ b. b == at) bytes.now ≡ result.0.now ∷ parts_left at result.1 }
+{
+    for (i, byte) in bytes.iter().enumerate() {
+        if *byte == at {
+            return (&bytes[..i], Some(&bytes[i + 1..]));
+        }
+    }
+    (bytes, None)
+}

@@ -1,0 +1,193 @@
+//! Steps read from the words of a line.
+
+use crate::fault::Fault;
+use crate::words::Words;
+use tabled_grid::config::Offset;
+use tabled_grid::records::Axis;
+use tabled_settings::reverse::Reverse;
+use tabled_settings::rotate::Rotate;
+use tabled_settings::split::{Behavior, Display, Split};
+use tabled_spans::panel::{Footer, Header, HorizontalPanel, VerticalPanel};
+use tabled_steps::Step;
+
+// A method for each kind of word behind a verb.
+impl Words {
+    ghost use Rattle.std.specs.Prelude.{◌≡◌};
+    ghost use Rattle.tabled_language.specs.Parsing.{Reads};
+    ghost use Rattle.tabled_language.specs.Verb.{plain_steps, removals, reads_behavior, reads_cut_lines, reads_display, offsets, reads_lines, reads_offset, reads_rotate, reads_side};
+    ghost use Rattle.tabled_language.specs.Words.{behind, reads_one_of};
+    ghost use Rattle.tabled_steps.specs.States.{after};
+
+    fn lines(&mut self) -> Result<Axis, Fault>
+        ensures { Reads (λ axis. axis) reads_lines self.old result self.new }
+    {
+        match self.word()?.as_str() {
+            "rows" => Ok(Axis::Rows),
+            "columns" => Ok(Axis::Columns),
+            _ => Err(Fault::UnknownWord),
+        }
+    }
+
+    fn offset(&mut self) -> Result<Offset, Fault>
+        ensures { Reads (λ offset. offset) reads_offset self.old result self.new }
+    {
+        let word = self.word()?;
+        self.offset_behind(word.as_str())
+    }
+
+    fn offset_behind(&mut self, word: &str) -> Result<Offset, Fault>
+        ensures { Reads (λ offset. offset) (behind offsets word.now) self.old result self.new }
+    {
+        match word {
+            "start" => {
+                let n = self.number()?;
+                Ok(Offset::Start(n))
+            }
+            "end" => {
+                let n = self.number()?;
+                Ok(Offset::End(n))
+            }
+            _ => Err(Fault::UnknownWord),
+        }
+    }
+
+    fn cut_lines(&mut self) -> Result<Axis, Fault>
+        ensures { Reads (λ axis. axis) reads_cut_lines self.old result self.new }
+    {
+        match self.word()?.as_str() {
+            "column" => Ok(Axis::Rows),
+            "row" => Ok(Axis::Columns),
+            _ => Err(Fault::UnknownWord),
+        }
+    }
+
+    fn behavior(&mut self) -> Result<Behavior, Fault>
+        ensures { Reads (λ behavior. behavior) reads_behavior self.old result self.new }
+    {
+        match self.word()?.as_str() {
+            "zip" => Ok(Behavior::Zip),
+            "concat" => Ok(Behavior::Concat),
+            _ => Err(Fault::UnknownWord),
+        }
+    }
+
+    fn display(&mut self) -> Result<Display, Fault>
+        ensures { Reads (λ display. display) reads_display self.old result self.new }
+    {
+        match self.word()?.as_str() {
+            "clean" => Ok(Display::Clean),
+            "retain" => Ok(Display::Retain),
+            _ => Err(Fault::UnknownWord),
+        }
+    }
+
+    fn rotate(&mut self) -> Result<Rotate, Fault>
+        ensures { Reads (λ rotate. rotate) reads_rotate self.old result self.new }
+    {
+        match self.word()?.as_str() {
+            "left" => Ok(Rotate::Left),
+            "right" => Ok(Rotate::Right),
+            "top" => Ok(Rotate::Top),
+            "bottom" => Ok(Rotate::Bottom),
+            _ => Err(Fault::UnknownWord),
+        }
+    }
+
+    pub(crate) fn side(&mut self) -> Result<Axis, Fault>
+        ensures { Reads (λ axis. axis) reads_side self.old result self.new }
+    {
+        match self.word()?.as_str() {
+            "vertical" => Ok(Axis::Rows),
+            "horizontal" => Ok(Axis::Columns),
+            _ => Err(Fault::UnknownWord),
+        }
+    }
+
+    fn removal(&mut self) -> Result<Step, Fault>
+        ensures { Reads after (reads_one_of removals) self.old result self.new }
+    {
+        let word = self.word()?;
+        self.removal_behind(word.as_str())
+    }
+
+    fn removal_behind(&mut self, word: &str) -> Result<Step, Fault>
+        ensures { Reads after (behind removals word.now) self.old result self.new }
+    {
+        match word {
+            "rows" => {
+                let start = self.number()?;
+                let end = self.number()?;
+                Ok(Step::RemoveRows(start, end))
+            }
+            "columns" => {
+                let start = self.number()?;
+                let end = self.number()?;
+                Ok(Step::RemoveColumns(start, end))
+            }
+            "named" => {
+                let name = self.word()?;
+                Ok(Step::RemoveNamed(name))
+            }
+            _ => Err(Fault::UnknownWord),
+        }
+    }
+
+    /// What is behind the verb of a step that takes no memory.
+    pub(crate) fn plain_step(&mut self, verb: &str) -> Result<Step, Fault>
+        ensures { Reads after (behind plain_steps verb.now) self.old result self.new }
+    {
+        match verb {
+            "hpanel" => {
+                let row = self.number()?;
+                let text = self.word()?;
+                Ok(Step::HorizontalPanel(HorizontalPanel::new(row, text)))
+            }
+            "vpanel" => {
+                let column = self.number()?;
+                let text = self.word()?;
+                Ok(Step::VerticalPanel(VerticalPanel::new(column, text)))
+            }
+            "header" => {
+                let text = self.word()?;
+                Ok(Step::Header(Header::new(text)))
+            }
+            "footer" => {
+                let text = self.word()?;
+                Ok(Step::Footer(Footer::new(text)))
+            }
+            "vmerge" => Ok(Step::MergeVertical),
+            "hmerge" => Ok(Step::MergeHorizontal),
+            "rotate" => {
+                let rotate = self.rotate()?;
+                Ok(Step::Rotate(rotate))
+            }
+            "reverse" => {
+                let axis = self.lines()?;
+                let start = self.number()?;
+                let limit = self.offset()?;
+                Ok(Step::Reverse(Reverse { axis, start, limit }))
+            }
+            "split" => {
+                let lines = self.cut_lines()?;
+                let index = self.number()?;
+                let behavior = self.behavior()?;
+                let display = self.display()?;
+                Ok(Step::Split(Split {
+                    lines,
+                    behavior,
+                    display,
+                    index,
+                }))
+            }
+            "extract" => {
+                let first_row = self.number()?;
+                let end_row = self.number()?;
+                let first_column = self.number()?;
+                let end_column = self.number()?;
+                Ok(Step::Extract(first_row, end_row, first_column, end_column))
+            }
+            "remove" => self.removal(),
+            _ => Err(Fault::UnknownWord),
+        }
+    }
+}

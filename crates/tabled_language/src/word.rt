@@ -1,0 +1,93 @@
+//! The words of a line, and the texts that they stand for.
+
+ghost use Rattle.std.specs.Prelude.{◌≡◌, map, IfOk};
+ghost use Rattle.std.specs.Option.{option_map};
+ghost use Rattle.std.specs.String.{string_bytes};
+ghost use Rattle.tabled_language.specs.Word.{escape, integer_of, number_of, text_of_word, unescaped};
+
+use std::alloc::{AllocError, Global};
+
+/// The largest number that a script may name.
+const LARGEST_NUMBER: usize = 10_000;
+
+/// What a letter behind a backslash stands for.
+fn escape(letter: u8) -> Option<u8>
+    ensures { result ≡ escape letter }
+{
+    match letter {
+        b't' => Some(b'\t'),
+        b'n' => Some(b'\n'),
+        b'\\' => Some(b'\\'),
+        _ => None,
+    }
+}
+
+/// A word with its escapes undone, or nothing where a backslash begins none.
+fn unescaped(alloc: Global, word: &[u8]) -> Result<Option<Vec<u8>>, AllocError>
+    ensures { IfOk result (λ bytes. option_map (λ v. v.items) bytes ≡ unescaped word.now) }
+{
+    if !word.contains(&b'\\') {
+        return Ok(Some(Vec::from_slice(alloc, word)?));
+    }
+    let mut bytes = Vec::with_capacity(alloc, word.len())?;
+    let mut behind_backslash = false;
+    for byte in word {
+        if behind_backslash {
+            let Some(escaped) = escape(*byte) else {
+                return Ok(None);
+            };
+            bytes.push(escaped)?;
+            behind_backslash = false;
+        } else if *byte == b'\\' {
+            behind_backslash = true;
+        } else {
+            bytes.push(*byte)?;
+        }
+    }
+    if behind_backslash {
+        return Ok(None);
+    }
+    Ok(Some(bytes))
+}
+
+/// The text of a word, or nothing where it has a bad escape or isn't UTF-8.
+pub(crate) fn text_of_word(alloc: Global, word: &[u8]) -> Result<Option<String>, AllocError>
+    ensures { IfOk result (λ text. option_map string_bytes text ≡ text_of_word word.now) }
+{
+    let Some(bytes) = unescaped(alloc, word)? else {
+        return Ok(None);
+    };
+    Ok(String::from_utf8(bytes).ok())
+}
+
+/// The number that digits write, leading zeros too, if it isn't too large.
+pub(crate) fn number_of(text: &str) -> Option<usize>
+    ensures { result ≡ number_of text.now }
+{
+    // `parse` reads a sign, too.
+    if text.starts_with('+') {
+        return None;
+    }
+    let number = text.parse::<usize>().ok()?;
+    if number <= LARGEST_NUMBER {
+        Some(number)
+    } else {
+        None
+    }
+}
+
+/// The number that digits write, with a minus before them or none.
+pub(crate) fn integer_of(text: &str) -> Option<isize>
+    ensures { result ≡ integer_of text.now }
+{
+    match text.strip_prefix('-') {
+        Some(digits) => {
+            let number = number_of(digits)?;
+            Some(-(number as isize))
+        }
+        None => {
+            let number = number_of(text)?;
+            Some(number as isize)
+        }
+    }
+}
