@@ -1,12 +1,12 @@
 -- Lines of words, piece by piece.
-use Rattle.std.proofs.Common.{◌≡◌, ℕ, ◌+◌, ◌≤◌, List, [], ◌∷◌, ◌++◌, Some, refl, ap, sym, ◌∙◌, map, take, length, codes}
-use Rattle.std.specs.Prelude.{slice_get}
+use Rattle.std.proofs.Common.{◌≡◌, ℕ, ◌+◌, ◌<◌, ◌≤◌, List, [], ◌∷◌, ◌++◌, refl, ap, sym, map, take, get_or, length, codes}
+use Rattle.std.specs.Global.{Vec}
 use Rattle.std.specs.Fmt.{decimal}
 use Rattle.std.specs.List.{flat_map, join_with_byte}
-use Rattle.std.proofs.lemmas.List.{append-nil, take_more, take_all}
+use Rattle.std.proofs.lemmas.List.{append-nil, append_assoc, take_more, take_all}
+use Rattle.std.proofs.lemmas.List.Concat.{flat_map-append}
 use Rattle.std.proofs.lemmas.List.Folds.{flat_map-map}
-use Rattle.std.proofs.lemmas.Option.{slice_get_within, get_or_from_slice_get}
-use Rattle.tabled_grid.specs.Grid.{Grid, map_grid}
+use Rattle.tabled_grid.specs.Grid.{grid_of, map_grid, map_items, width_of}
 use Rattle.tabled_script.specs.Output.{escaped, line, table_lines}
 
 -- behind the first list, each list with the byte before it
@@ -18,10 +18,10 @@ join_with_byte-cons c xs (ys ∷ yss) = ap (λ bs. xs ++ c ∷ bs) (join_with_by
 pub line-pieces : {A : Type 0} (text_of : A → List ℕ) (first : List ℕ) (xs : List A) → line (first ∷ map text_of xs) ≡ (escaped first ++ flat_map (λ x. 9 ∷ escaped (text_of x)) xs) ++ 10 ∷ []
 line-pieces text_of first xs = rw (join_with_byte-cons 9 (escaped first) (map escaped (map text_of xs)), flat_map-map (λ ys. 9 ∷ ys) escaped (map text_of xs), flat_map-map (λ ys. 9 ∷ escaped ys) text_of xs) refl
 
--- one more element, where a look-up gave it
-pub take_some : {A : Type 0} (xs : List A) (i : ℕ) (x : A) → slice_get xs i ≡ Some x → take (i + 1) xs ≡ take i xs ++ x ∷ []
-take_some xs i x e = take_more xs i x (slice_get_within xs i x e) ∙ ap (λ y. take i xs ++ y ∷ []) (get_or_from_slice_get xs i x x e)
-
 -- a table's shape, and the lines of all its rows
-pub table_lines-pieces : {A : Type 0} (text_of : A → List ℕ) (g : Grid A) (n : ℕ) → length g.cells ≤ n → table_lines (map_grid text_of g) ≡ line (codes "shape" ∷ decimal g.rows ∷ decimal g.columns ∷ []) ++ flat_map (λ row. line (codes "row" ∷ map text_of row)) (take n g.cells)
-table_lines-pieces text_of g n all = rw (take_all n g.cells all, flat_map-map (λ row. line (codes "row" ∷ row)) (map text_of) g.cells) refl
+pub table_lines-pieces : {A : Type 0} (text_of : A → List ℕ) (rows : List (Vec A)) (n : ℕ) → length rows ≤ n → table_lines (map_grid text_of (grid_of (map_items rows))) ≡ line (codes "shape" ∷ decimal (length (map_items rows)) ∷ decimal (width_of (map_items rows)) ∷ []) ++ flat_map (λ (row : Vec A). line (codes "row" ∷ map text_of row.items)) (take n rows)
+table_lines-pieces {A} text_of rows n all = rw (take_all n rows all, flat_map-map (λ row. line (codes "row" ∷ row)) (map text_of) (map_items rows), flat_map-map (λ row. line (codes "row" ∷ map text_of row)) (λ (row : Vec A). row.items) rows) refl
+
+-- one more thing's line behind those of the things before it
+pub pushed_more : {A : Type 0} (line_of : A → List ℕ) (before out : List ℕ) (xs : List A) (i : ℕ) (x : A) → i < length xs → x ≡ get_or xs i x → out ≡ before ++ flat_map line_of (take i xs) → out ++ line_of x ≡ before ++ flat_map line_of (take (i + 1) xs)
+pushed_more line_of before out xs i x here is read = rw (take_more xs i x here, ← is, flat_map-append line_of (take i xs) (x ∷ []), read, append-nil (line_of x)) (append_assoc before (flat_map line_of (take i xs)) (line_of x))

@@ -2,21 +2,22 @@
 
 ghost use Rattle.std.specs.Prelude.{◌≡◌, ◌∷◌, ◌++◌, map, IfOk, IsTrue, OnOk};
 ghost use Rattle.std.specs.String.{string_bytes};
-ghost use Rattle.tabled_grid.specs.Grid.{map_grid};
+ghost use Rattle.tabled_grid.specs.Grid.{IsEven, grid_of, map_grid, map_items};
 ghost use Rattle.tabled_script.specs.Output.{escaped, escaped_byte, line, print as printed, span_line, table_lines};
 ghost use Rattle.tabled_steps.specs.States.{state_of};
 
 use std::alloc::{AllocError, Global};
 use tabled_grid::config::{Position, SpannedConfig};
-use tabled_grid::records::{CellText, ExactRecords, Records, Text, VecRecords};
+use tabled_grid::records::{CellText, ExactRecords, Records, Text};
 
 /// Writes a table: its shape, its rows, and then its merged cells.
 pub(crate) fn print(
     alloc: Global,
-    records: &VecRecords<Text<String>>,
+    records: &Vec<Vec<Text<String>>>,
     cfg: &SpannedConfig,
 ) -> Result<Vec<u8>, AllocError>
-    ensures { IfOk result (λ out. out.items ≡ printed (state_of string_bytes records.now cfg.now)) }
+    requires { IsEven (grid_of (map_items records.now.items)) }
+    ensures { IfOk result (λ out. out.items ≡ printed (state_of string_bytes (grid_of (map_items records.now.items)) cfg.now)) }
 {
     let mut out = Vec::new(alloc);
     push_table(alloc, &mut out, records)?;
@@ -30,18 +31,18 @@ pub(crate) fn print(
 fn push_table(
     alloc: Global,
     out: &mut Vec<u8>,
-    records: &VecRecords<Text<String>>,
+    records: &Vec<Vec<Text<String>>>,
 ) -> Result<(), AllocError>
-    ensures { OnOk result (out.new.items ≡ out.old.items ++ table_lines (map_grid string_bytes records.now)) }
+    requires { IsEven (grid_of (map_items records.now.items)) }
+    ensures { OnOk result (out.new.items ≡ out.old.items ++ table_lines (map_grid string_bytes (grid_of (map_items records.now.items)))) }
 {
-    let rows = records.count_rows();
     let shape = [
-        rows.to_string(alloc)?,
+        records.count_rows().to_string(alloc)?,
         records.count_columns().to_string(alloc)?,
     ];
     push_line(out, "shape", &shape)?;
-    for i in 0..rows {
-        push_line(out, "row", records.row(i))?;
+    for row in records {
+        push_line(out, "row", row)?;
     }
     Ok(())
 }

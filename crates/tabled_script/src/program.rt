@@ -11,9 +11,9 @@ ghost use Rattle.tabled_language.specs.declared.fault.Fault.{Fault};
 use crate::output::print;
 use std::alloc::{AllocError, Global};
 use std::io::{self, ErrorKind, Read, Write};
-use tabled_grid::records::{Text, VecRecords};
+use tabled_grid::config::SpannedConfig;
 use tabled_language::{Fault, Script, parse};
-use tabled_steps::laws::steps_do_what_their_formulas_say;
+use tabled_steps::run;
 use tabled_table::builder::Builder;
 
 /// The output was written.
@@ -79,11 +79,13 @@ fn answer(alloc: Global, input: Vec<u8>) -> Result<Answer, AllocError>
 fn output(alloc: Global, script: Script) -> Result<Vec<u8>, AllocError>
     ensures { IfOk result (λ output. output.items ≡ output_of (script_in script.records.items script.steps.items)) }
 {
-    steps_do_what_their_formulas_say::<VecRecords<Text<String>>>();
     let Script { records, steps } = script;
-    let mut table = Builder::from_cells(alloc, records)?.build(alloc)?;
-    table.with(alloc, steps)?;
-    print(alloc, table.get_records(), table.get_config())
+    let mut records = Builder::from_cells(alloc, records)?.into_cells();
+    let mut cfg = SpannedConfig::new(alloc);
+    match run(alloc, &mut records, &mut cfg, steps) {
+        Ok(()) => print(alloc, &records, &cfg),
+        Err((_, error)) => Err(error),
+    }
 }
 
 /// The line that names a faulty line and its fault.

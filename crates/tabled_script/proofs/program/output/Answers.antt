@@ -3,20 +3,27 @@ use Rattle.std.specs.Global.{Global, Vec}
 use Rattle.std.specs.String.{string_bytes}
 use Rattle.std.proofs.lemmas.Result.{IfOk-weaker}
 use Rattle.std.proofs.lemmas.Simd.{map-map}
-use Rattle.tabled_grid.specs.Grid.{map_items}
+use Rattle.tabled_grid.specs.Grid.{grid_of, map_grid, map_items}
 use Rattle.tabled_steps.specs.States.{after_all, state_of}
 use Rattle.tabled_table.specs.Builder.{from_uneven, table_of}
+use Rattle.tabled_table.proofs.Tables.{IsEven-rows, map_grid-rows}
 use Rattle.tabled_script.specs.Answer.{padded}
 use Rattle.tabled_script.specs.Output.{print}
 use Rattle.tabled_script.proofs.Changes.{after_all-changed}
 use Rattle.tabled_script.proofs.program.output.Goals as goal
 
-pub returns : goal.returns
-returns c =
+pub run-requires : goal.run-requires
+run-requires c = record { well = IsEven-rows _ c.into_cells-records.result.items c.into_cells-records.ensures.even }
+
+pub returns-in-Ok : goal.returns-in-Ok
+returns-in-Ok c =
     let records = c.args.script.records.items in
     let steps = c.args.script.steps.items in
+    let cells = c.into_cells-records in
+    let builder = c.in_ok-from_cells.field-0 in
     let texts = map-map (map string_bytes) (λ (row : Vec (String Global)). row.items) records in
-    let cells = c.in_ok-table.ensures.cells ∙ ap table_of (c.in_ok-from_cells.ensures ∙ ap from_uneven (sym texts)) in
-    let start : state_of string_bytes c.in_ok-table.table.cells c.in_ok-table.table.spans ≡ padded (map (map string_bytes) (map_items records)) = rw (cells, c.in_ok-table.ensures.spans) refl in
-    let end = c.steps_do_what_their_formulas_say.ensures.all steps _ _ _ _ c.in_ok-with.ensures.ok ∙ ap (after_all steps) start ∙ after_all-changed steps (padded (map (map string_bytes) (map_items records))) in
-    IfOk-weaker c.print.result _ _ (λ output e. e ∙ ap print (rw (c.get_records.ensures, c.get_config.ensures) end)) c.print.ensures
+    let made : map_grid string_bytes (grid_of (map_items cells.result.items)) ≡ table_of builder = map_grid-rows builder.columns builder.empty cells.result.items (rw cells.ensures.rows cells.ensures.wide) ∙ rw cells.ensures.rows refl in
+    let table = made ∙ ap table_of (c.in_ok-from_cells.ensures ∙ ap from_uneven (sym texts)) in
+    let start : state_of string_bytes (grid_of (map_items cells.result.items)) c.new-cfg.result ≡ padded (map (map string_bytes) (map_items records)) = rw (table, c.new-cfg.ensures.empty) refl in
+    let end = c.in-Ok.ensures.state ∙ ap (after_all steps) start ∙ after_all-changed steps (padded (map (map string_bytes) (map_items records))) in
+    IfOk-weaker c.print.result _ _ (λ output e. e ∙ ap print end) c.print.ensures
