@@ -1,6 +1,7 @@
 //! What an outsider writes over the libraries: each public call, once, and what it answers.
 #![tactic(auto)]
 
+pub mod geometry;
 pub mod language;
 pub mod options;
 pub mod own_store;
