@@ -90,13 +90,7 @@ impl Case {
 
     fn of_table(name: &str) -> Option<Case> {
         let (shape, change) = name.split_once('_')?;
-        let shape = match shape {
-            "square" => Shape::Square,
-            "tall" => Shape::Tall,
-            "row" => Shape::Row,
-            _ => return None,
-        };
-        Some(Case::Table(shape, tables::Change::of_name(change)?))
+        Some(Case::Table(Shape::of_name(shape)?, tables::Change::of_name(change)?))
     }
 
     /// Does the calls once, and counts something of what comes out.

@@ -5,6 +5,7 @@
 
 mod builders;
 mod case;
+mod merging;
 mod selectors;
 mod spans;
 mod stores;

@@ -1,8 +1,10 @@
 //! Options on whole tables of one-letter texts.
 
+use crate::merging;
+use crate::merging::Merging;
 use std::alloc::{AllocError, Global};
 use std::mem;
-use tabled_grid::config::{Offset, SpannedConfig};
+use tabled_grid::config::{Offset, Position, SpannedConfig};
 use tabled_grid::records::{ExactRecords, Records, Resizable, Text, VecRecords};
 use tabled_options::TableOption;
 use tabled_select::object::{Columns, Rows};
@@ -17,7 +19,7 @@ use tabled_settings::rotate::Rotate;
 use tabled_settings::split::Split;
 use tabled_table::Table;
 
-type Store = VecRecords<Text<String>>;
+pub(crate) type Store = VecRecords<Text<String>>;
 
 /// The shape of a table of a size.
 #[derive(Clone, Copy)]
@@ -28,6 +30,37 @@ pub(crate) enum Shape {
     Tall,
     /// One row.
     Row,
+    /// One column.
+    Column,
+    /// As many columns as rows. Two rows of one letter follow two of another one.
+    Paired,
+    /// A hundred rows and columns, whatever the size.
+    Hundred,
+}
+
+impl Shape {
+    pub(crate) fn of_name(name: &str) -> Option<Shape> {
+        match name {
+            "square" => Some(Shape::Square),
+            "tall" => Some(Shape::Tall),
+            "row" => Some(Shape::Row),
+            "column" => Some(Shape::Column),
+            "paired" => Some(Shape::Paired),
+            "hundred" => Some(Shape::Hundred),
+            _ => None,
+        }
+    }
+
+    /// The numbers of rows and columns.
+    fn counts(self, size: usize) -> (usize, usize) {
+        match self {
+            Shape::Square | Shape::Paired => (size, size),
+            Shape::Tall => (size, size / 100),
+            Shape::Row => (1, size),
+            Shape::Column => (size, 1),
+            Shape::Hundred => (100, 100),
+        }
+    }
 }
 
 /// What is done to a table.
@@ -50,6 +83,8 @@ pub(crate) enum Change {
     Split(Split),
     /// A split that leaves one cell over in each row.
     SplitLast(Split),
+    /// Cells are merged.
+    Merging(Merging),
 }
 
 impl Change {
@@ -68,7 +103,10 @@ impl Change {
             "lines" => Some(Change::Lines),
             "clean" => Some(Change::Clean),
             "dup" => Some(Change::Dup),
-            _ => Change::of_split(name),
+            _ => {
+                let merging = Merging::of_name(name);
+                merging.map(Change::Merging).or(Change::of_split(name))
+            }
         }
     }
 
@@ -101,13 +139,12 @@ pub(crate) fn run(
     shape: Shape,
     change: Change,
 ) -> Result<usize, AllocError> {
-    let (rows, columns) = match shape {
-        Shape::Square => (size, size),
-        Shape::Tall => (size, size / 100),
-        Shape::Row => (1, size),
-    };
+    let (rows, columns) = shape.counts(size);
     let mut store = made(alloc, rows, columns)?;
-    change_once(alloc, &mut store, rows, columns, change)?;
+    if let Shape::Paired = shape {
+        apply(alloc, Format::positioned(a_letter_in_pairs), &mut store)?;
+    }
+    change_once(alloc, &mut store, rows, columns, size, change)?;
     let rows = store.count_rows();
     mem::forget(store);
     Ok(rows)
@@ -126,6 +163,10 @@ fn a_letter(alloc: Global, _: &str) -> Result<String, AllocError> {
     String::from_str(alloc, "x")
 }
 
+fn a_letter_in_pairs(alloc: Global, _: &str, pos: Position) -> Result<String, AllocError> {
+    String::from_str(alloc, if pos.row % 4 < 2 { "x" } else { "y" })
+}
+
 /// Applies an option to a table.
 fn apply<O>(alloc: Global, option: O, store: &mut Store) -> Result<(), AllocError>
 where
@@ -141,6 +182,7 @@ fn change_once(
     store: &mut Store,
     rows: usize,
     columns: usize,
+    size: usize,
     change: Change,
 ) -> Result<(), AllocError> {
     match change {
@@ -180,5 +222,6 @@ fn change_once(
             let index = columns.saturating_sub(1);
             apply(alloc, Split { index, ..split }, store)
         }
+        Change::Merging(merging) => merging::run(alloc, store, size, merging),
     }
 }

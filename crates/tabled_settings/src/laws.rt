@@ -127,21 +127,25 @@ where
     ensures table { OptionKeeps ⟦<MergedCellsFit as Property<R::Cell, SpannedConfig>>⟧.holds (⟦<Charset as TableOption<R, SpannedConfig, D>>⟧.does _charset.now) (⟦<Charset as TableOption<R, SpannedConfig, D>>⟧.leaves _charset.now) }
 {}
 
-/// Formats keep merged cells inside the table and apart, on each entity and on the table, also where they
-/// are refused.
-pub fn formats_keep_merged_cells_fitting<R, D, F, G>(
-    _content: &FormatContent<F>,
-    _positioned: &FormatContentPositioned<G>,
-)
+/// A format keeps merged cells inside the table and apart, on each entity and on the table, also where it
+/// is refused.
+pub fn formats_keep_merged_cells_fitting<R, D, F>(_format: &FormatContent<F>)
 where
     R: Records + ExactRecords + PeekableRecords + RecordsMut<String>,
     R::Cell: CellText,
     F: FnMut(Global, &str) -> Result<String, AllocError> + Clone + Drop,
-    G: FnMut(Global, &str, Position) -> Result<String, AllocError> + Drop,
-    ensures content { (e : Entity) → OptionKeeps ⟦<MergedCellsFit as Property<R::Cell, SpannedConfig>>⟧.holds (⟦<FormatContent<F> as CellOption<R, SpannedConfig>>⟧.does _content.now e) (⟦<FormatContent<F> as CellOption<R, SpannedConfig>>⟧.leaves _content.now e) }
-    ensures table_content { OptionKeeps ⟦<MergedCellsFit as Property<R::Cell, SpannedConfig>>⟧.holds (⟦<FormatContent<F> as TableOption<R, SpannedConfig, D>>⟧.does _content.now) (⟦<FormatContent<F> as TableOption<R, SpannedConfig, D>>⟧.leaves _content.now) }
-    ensures positioned { (e : Entity) → OptionKeeps ⟦<MergedCellsFit as Property<R::Cell, SpannedConfig>>⟧.holds (⟦<FormatContentPositioned<G> as CellOption<R, SpannedConfig>>⟧.does _positioned.now e) (⟦<FormatContentPositioned<G> as CellOption<R, SpannedConfig>>⟧.leaves _positioned.now e) }
-    ensures table_positioned { OptionKeeps ⟦<MergedCellsFit as Property<R::Cell, SpannedConfig>>⟧.holds (⟦<FormatContentPositioned<G> as TableOption<R, SpannedConfig, D>>⟧.does _positioned.now) (⟦<FormatContentPositioned<G> as TableOption<R, SpannedConfig, D>>⟧.leaves _positioned.now) }
+    ensures cells { (e : Entity) → OptionKeeps ⟦<MergedCellsFit as Property<R::Cell, SpannedConfig>>⟧.holds (⟦<FormatContent<F> as CellOption<R, SpannedConfig>>⟧.does _format.now e) (⟦<FormatContent<F> as CellOption<R, SpannedConfig>>⟧.leaves _format.now e) }
+    ensures table { OptionKeeps ⟦<MergedCellsFit as Property<R::Cell, SpannedConfig>>⟧.holds (⟦<FormatContent<F> as TableOption<R, SpannedConfig, D>>⟧.does _format.now) (⟦<FormatContent<F> as TableOption<R, SpannedConfig, D>>⟧.leaves _format.now) }
+{}
+
+/// So does a format that is asked for places, too.
+pub fn positioned_formats_keep_merged_cells_fitting<R, D, F>(_format: &FormatContentPositioned<F>)
+where
+    R: Records + ExactRecords + PeekableRecords + RecordsMut<String>,
+    R::Cell: CellText,
+    F: FnMut(Global, &str, Position) -> Result<String, AllocError> + Drop,
+    ensures cells { (e : Entity) → OptionKeeps ⟦<MergedCellsFit as Property<R::Cell, SpannedConfig>>⟧.holds (⟦<FormatContentPositioned<F> as CellOption<R, SpannedConfig>>⟧.does _format.now e) (⟦<FormatContentPositioned<F> as CellOption<R, SpannedConfig>>⟧.leaves _format.now e) }
+    ensures table { OptionKeeps ⟦<MergedCellsFit as Property<R::Cell, SpannedConfig>>⟧.holds (⟦<FormatContentPositioned<F> as TableOption<R, SpannedConfig, D>>⟧.does _format.now) (⟦<FormatContentPositioned<F> as TableOption<R, SpannedConfig, D>>⟧.leaves _format.now) }
 {}
 
 /// Texts that are written to other cells keep merged cells inside the table and apart, also where that is

@@ -48,20 +48,36 @@ where
     ensures rows { (e : Entity) → OptionKeeps ⟦<RowSpansFit as Property<R::Cell, SpannedConfig>>⟧.holds (⟦<RowSpan as CellOption<R, SpannedConfig>>⟧.does _rows e) (⟦<RowSpan as CellOption<R, SpannedConfig>>⟧.leaves _rows e) }
 {}
 
-/// Panels keep merged cells inside the table and apart, also where they are refused.
-pub fn panels_keep_merged_cells_fitting<R, D>(
-    _horizontal: &HorizontalPanel,
-    _vertical: &VerticalPanel,
-    _header: &Header,
-    _footer: &Footer,
-)
+/// A horizontal panel keeps merged cells inside the table and apart, also where it is refused.
+pub fn horizontal_panels_keep_merged_cells_fitting<R, D>(_panel: &HorizontalPanel)
 where
     R: Records + ExactRecords + Resizable + RecordsMut<String>,
     R::Cell: CellText,
-    ensures horizontal { OptionKeeps ⟦<MergedCellsFit as Property<R::Cell, SpannedConfig>>⟧.holds (⟦<HorizontalPanel as TableOption<R, SpannedConfig, D>>⟧.does _horizontal.now) (⟦<HorizontalPanel as TableOption<R, SpannedConfig, D>>⟧.leaves _horizontal.now) }
-    ensures vertical { OptionKeeps ⟦<MergedCellsFit as Property<R::Cell, SpannedConfig>>⟧.holds (⟦<VerticalPanel as TableOption<R, SpannedConfig, D>>⟧.does _vertical.now) (⟦<VerticalPanel as TableOption<R, SpannedConfig, D>>⟧.leaves _vertical.now) }
-    ensures header { OptionKeeps ⟦<MergedCellsFit as Property<R::Cell, SpannedConfig>>⟧.holds (⟦<Header as TableOption<R, SpannedConfig, D>>⟧.does _header.now) (⟦<Header as TableOption<R, SpannedConfig, D>>⟧.leaves _header.now) }
-    ensures footer { OptionKeeps ⟦<MergedCellsFit as Property<R::Cell, SpannedConfig>>⟧.holds (⟦<Footer as TableOption<R, SpannedConfig, D>>⟧.does _footer.now) (⟦<Footer as TableOption<R, SpannedConfig, D>>⟧.leaves _footer.now) }
+    ensures { OptionKeeps ⟦<MergedCellsFit as Property<R::Cell, SpannedConfig>>⟧.holds (⟦<HorizontalPanel as TableOption<R, SpannedConfig, D>>⟧.does _panel.now) (⟦<HorizontalPanel as TableOption<R, SpannedConfig, D>>⟧.leaves _panel.now) }
+{}
+
+/// So does a vertical panel.
+pub fn vertical_panels_keep_merged_cells_fitting<R, D>(_panel: &VerticalPanel)
+where
+    R: Records + ExactRecords + Resizable + RecordsMut<String>,
+    R::Cell: CellText,
+    ensures { OptionKeeps ⟦<MergedCellsFit as Property<R::Cell, SpannedConfig>>⟧.holds (⟦<VerticalPanel as TableOption<R, SpannedConfig, D>>⟧.does _panel.now) (⟦<VerticalPanel as TableOption<R, SpannedConfig, D>>⟧.leaves _panel.now) }
+{}
+
+/// So does a header.
+pub fn headers_keep_merged_cells_fitting<R, D>(_header: &Header)
+where
+    R: Records + ExactRecords + Resizable + RecordsMut<String>,
+    R::Cell: CellText,
+    ensures { OptionKeeps ⟦<MergedCellsFit as Property<R::Cell, SpannedConfig>>⟧.holds (⟦<Header as TableOption<R, SpannedConfig, D>>⟧.does _header.now) (⟦<Header as TableOption<R, SpannedConfig, D>>⟧.leaves _header.now) }
+{}
+
+/// So does a footer.
+pub fn footers_keep_merged_cells_fitting<R, D>(_footer: &Footer)
+where
+    R: Records + ExactRecords + Resizable + RecordsMut<String>,
+    R::Cell: CellText,
+    ensures { OptionKeeps ⟦<MergedCellsFit as Property<R::Cell, SpannedConfig>>⟧.holds (⟦<Footer as TableOption<R, SpannedConfig, D>>⟧.does _footer.now) (⟦<Footer as TableOption<R, SpannedConfig, D>>⟧.leaves _footer.now) }
 {}
 
 /// Merges keep merged cells inside the table and apart, also where they are refused.

@@ -3,6 +3,7 @@
 
 #[cfg(test)]
 mod alike;
+pub mod geometry;
 pub mod language;
 pub mod options;
 pub mod own_store;

@@ -4,8 +4,6 @@ use Rattle.tabled_settings.proofs.laws.formats_keep_merged_cells_fitting.Goals a
 
 pub returns : goal.returns
 returns g c = record {
-  content = λ e. rewrites_keep g.R.Cell.CellText.text_of _ c.args._content.now e;
-  table_content = rewrites_keep g.R.Cell.CellText.text_of _ c.args._content.now Global;
-  positioned = λ e. rewrites_keep g.R.Cell.CellText.text_of _ c.args._positioned.now e;
-  table_positioned = rewrites_keep g.R.Cell.CellText.text_of _ c.args._positioned.now Global;
+  cells = λ e. rewrites_keep g.R.Cell.CellText.text_of _ c.args._format.now e;
+  table = rewrites_keep g.R.Cell.CellText.text_of _ c.args._format.now Global;
 }

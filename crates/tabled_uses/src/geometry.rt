@@ -1,0 +1,397 @@
+//! Merged cells that lie inside a table and apart: callers that rely on it, done or refused. A law says of
+//! an option that it keeps this, so a caller calls the law, and then changes a table by the option.
+
+ghost use Rattle.tabled_grid.specs.Rectangles.{Fits};
+ghost use Rattle.tabled_grid.specs.declared.config.entity.Entity.{Entity};
+ghost use Rattle.tabled_options.specs.Does.{CopiesAlike, OptionKeeps};
+
+use std::alloc::{AllocError, Global};
+use tabled_grid::config::SpannedConfig;
+use tabled_grid::records::{
+    CellText, ExactRecords, GridStore, PeekableRecords, Records, RecordsMut, Resizable,
+};
+use tabled_options::laws::{
+    modified_keep, settings_keep, strings_keep_merged_cells_fitting, vectors_keep,
+};
+use tabled_options::{
+    CellOption, MergedCellsFit, Modify, ModifyList, Property, Settings, TableOption,
+};
+use tabled_select::object::{Object, Rows, Segment};
+use tabled_settings::merge::Merge;
+use tabled_settings::panel::{Header, Panel};
+use tabled_settings::span::{RowSpan, Span};
+use tabled_spans::laws::{
+    footers_keep_merged_cells_fitting, headers_keep_merged_cells_fitting,
+    merges_keep_merged_cells_fitting, spans_of_size_1_or_more_fit,
+    vertical_panels_keep_merged_cells_fitting,
+};
+use tabled_steps::{Select, Step, run};
+
+/// Runs steps that all keep merged cells fitting, and says how many of them were done.
+pub fn runs_fitting_steps<R>(
+    alloc: Global,
+    records: &mut R,
+    cfg: &mut SpannedConfig,
+) -> Result<usize, AllocError>
+where
+    R: Records + ExactRecords + PeekableRecords + RecordsMut<String> + Resizable,
+    R::Cell: CellText,
+    requires well { R.is_well_formed records.old }
+    requires fits { Fits cfg.old ((R.grid records.old).rows) ((R.grid records.old).columns) }
+    ensures well { R.is_well_formed records.new }
+    ensures fits { Fits cfg.new ((R.grid records.new).rows) ((R.grid records.new).columns) }
+{
+    let text = String::from_str(alloc, "x")?;
+    let title = String::from_str(alloc, "Report")?;
+    let steps = vec![in alloc;
+        Step::Set(Select::FirstRow, text),
+        Step::ColumnSpan(2, Select::All),
+        Step::Header(Panel::header(title)),
+        Step::MergeVertical,
+    ]?;
+    let many = steps.len();
+    match run(alloc, records, cfg, steps) {
+        Ok(()) => Ok(many),
+        Err((done, _)) => Ok(done),
+    }
+}
+
+/// Changes a table by an option that keeps merged cells fitting.
+pub fn changes<R, D, T>(
+    alloc: Global,
+    records: &mut R,
+    cfg: &mut SpannedConfig,
+    dimension: &mut D,
+    option: T,
+) -> Result<(), AllocError>
+where
+    R: GridStore,
+    T: TableOption<R, SpannedConfig, D>,
+    requires well { R.is_well_formed records.old }
+    requires can { T.can_change option }
+    requires keeps { OptionKeeps ⟦<MergedCellsFit as Property<R::Cell, SpannedConfig>>⟧.holds (T.does option) (T.leaves option) }
+    requires fits { Fits cfg.old ((R.grid records.old).rows) ((R.grid records.old).columns) }
+    ensures well { R.is_well_formed records.new }
+    ensures fits { Fits cfg.new ((R.grid records.new).rows) ((R.grid records.new).columns) }
+{
+    option.change(alloc, records, cfg, dimension)?;
+    Ok(())
+}
+
+/// An option on cells that keeps merged cells fitting on each entity does so on what an object lists.
+fn listed_keep<R, D, O, M>(_object: &O, _option: &M)
+where
+    R: Records + ExactRecords,
+    O: Object<R> + Drop,
+    M: CellOption<R, SpannedConfig> + Clone,
+    requires { (e : Entity) → OptionKeeps ⟦<MergedCellsFit as Property<R::Cell, SpannedConfig>>⟧.holds (M.does _option.now e) (M.leaves _option.now e) }
+    ensures { OptionKeeps ⟦<MergedCellsFit as Property<R::Cell, SpannedConfig>>⟧.holds (⟦<ModifyList<O, M> as TableOption<R, SpannedConfig, D>>⟧.does (_object.now, _option.now)) (⟦<ModifyList<O, M> as TableOption<R, SpannedConfig, D>>⟧.leaves (_object.now, _option.now)) }
+{
+    modified_keep::<MergedCellsFit, R, SpannedConfig, D, O, M>(_object, _option);
+}
+
+/// Changes each entity that an object lists by an option on cells that keeps merged cells fitting.
+pub fn changes_each<R, D, O, M>(
+    alloc: Global,
+    records: &mut R,
+    cfg: &mut SpannedConfig,
+    dimension: &mut D,
+    object: O,
+    option: M,
+) -> Result<(), AllocError>
+where
+    R: Records + ExactRecords,
+    O: Object<R> + Drop,
+    M: CellOption<R, SpannedConfig> + Clone + Drop,
+    requires well { R.is_well_formed records.old }
+    requires list { O.can_list object }
+    requires can { M.can_change option }
+    requires copies { CopiesAlike M.is_clone M.is_like option }
+    requires keeps { (e : Entity) → OptionKeeps ⟦<MergedCellsFit as Property<R::Cell, SpannedConfig>>⟧.holds (M.does option e) (M.leaves option e) }
+    requires fits { Fits cfg.old ((R.grid records.old).rows) ((R.grid records.old).columns) }
+    ensures well { R.is_well_formed records.new }
+    ensures fits { Fits cfg.new ((R.grid records.new).rows) ((R.grid records.new).columns) }
+{
+    listed_keep::<R, D, O, M>(&object, &option);
+    changes(alloc, records, cfg, dimension, Modify::list(object, option))
+}
+
+pub fn writes<R>(
+    alloc: Global,
+    records: &mut R,
+    cfg: &mut SpannedConfig,
+    text: String,
+) -> Result<(), AllocError>
+where
+    R: Records + ExactRecords + RecordsMut<String>,
+    R::Cell: CellText,
+    requires well { R.is_well_formed records.old }
+    requires fits { Fits cfg.old ((R.grid records.old).rows) ((R.grid records.old).columns) }
+    ensures well { R.is_well_formed records.new }
+    ensures fits { Fits cfg.new ((R.grid records.new).rows) ((R.grid records.new).columns) }
+{
+    strings_keep_merged_cells_fitting::<R>(&text);
+    changes_each(alloc, records, cfg, &mut (), Segment::all(), text)
+}
+
+pub fn spans_columns<R>(
+    alloc: Global,
+    records: &mut R,
+    cfg: &mut SpannedConfig,
+) -> Result<(), AllocError>
+where
+    R: Records + ExactRecords + PeekableRecords + RecordsMut<String>,
+    R::Cell: CellText,
+    requires well { R.is_well_formed records.old }
+    requires fits { Fits cfg.old ((R.grid records.old).rows) ((R.grid records.old).columns) }
+    ensures well { R.is_well_formed records.new }
+    ensures fits { Fits cfg.new ((R.grid records.new).rows) ((R.grid records.new).columns) }
+{
+    let span = Span::column(2);
+    spans_of_size_1_or_more_fit::<R>(span, Span::row(1));
+    changes_each(alloc, records, cfg, &mut (), Rows::first(), span)
+}
+
+pub fn puts_in_a_header<R>(
+    alloc: Global,
+    records: &mut R,
+    cfg: &mut SpannedConfig,
+    title: String,
+) -> Result<(), AllocError>
+where
+    R: Records + ExactRecords + Resizable + RecordsMut<String>,
+    R::Cell: CellText,
+    requires well { R.is_well_formed records.old }
+    requires fits { Fits cfg.old ((R.grid records.old).rows) ((R.grid records.old).columns) }
+    ensures well { R.is_well_formed records.new }
+    ensures fits { Fits cfg.new ((R.grid records.new).rows) ((R.grid records.new).columns) }
+{
+    let header = Panel::header(title);
+    headers_keep_merged_cells_fitting::<R, ()>(&header);
+    header.change(alloc, records, cfg, &mut ())?;
+    Ok(())
+}
+
+pub fn puts_in_a_column<R>(
+    alloc: Global,
+    records: &mut R,
+    cfg: &mut SpannedConfig,
+    text: String,
+) -> Result<(), AllocError>
+where
+    R: Records + ExactRecords + Resizable + RecordsMut<String>,
+    R::Cell: CellText,
+    requires well { R.is_well_formed records.old }
+    requires fits { Fits cfg.old ((R.grid records.old).rows) ((R.grid records.old).columns) }
+    ensures well { R.is_well_formed records.new }
+    ensures fits { Fits cfg.new ((R.grid records.new).rows) ((R.grid records.new).columns) }
+{
+    let panel = Panel::vertical(1, text);
+    vertical_panels_keep_merged_cells_fitting::<R, ()>(&panel);
+    panel.change(alloc, records, cfg, &mut ())?;
+    Ok(())
+}
+
+pub fn merges_neighbours<R>(
+    alloc: Global,
+    records: &mut R,
+    cfg: &mut SpannedConfig,
+) -> Result<(), AllocError>
+where
+    R: Records + ExactRecords + PeekableRecords,
+    R::Cell: CellText,
+    requires well { R.is_well_formed records.old }
+    requires fits { Fits cfg.old ((R.grid records.old).rows) ((R.grid records.old).columns) }
+    ensures well { R.is_well_formed records.new }
+    ensures fits { Fits cfg.new ((R.grid records.new).rows) ((R.grid records.new).columns) }
+{
+    let merge = Merge::vertical();
+    merges_keep_merged_cells_fitting::<R, ()>(&merge, &Merge::horizontal());
+    changes(alloc, records, cfg, &mut (), merge)
+}
+
+/// One option and then another, both of which keep merged cells fitting.
+pub fn changes_by_settings<R, D, A, B>(
+    alloc: Global,
+    records: &mut R,
+    cfg: &mut SpannedConfig,
+    dimension: &mut D,
+    first: A,
+    second: B,
+) -> Result<(), AllocError>
+where
+    R: GridStore,
+    A: TableOption<R, SpannedConfig, D>,
+    B: TableOption<R, SpannedConfig, D> + Drop,
+    requires well { R.is_well_formed records.old }
+    requires first_can { A.can_change first }
+    requires second_can { B.can_change second }
+    requires first_keeps { OptionKeeps ⟦<MergedCellsFit as Property<R::Cell, SpannedConfig>>⟧.holds (A.does first) (A.leaves first) }
+    requires second_keeps { OptionKeeps ⟦<MergedCellsFit as Property<R::Cell, SpannedConfig>>⟧.holds (B.does second) (B.leaves second) }
+    requires fits { Fits cfg.old ((R.grid records.old).rows) ((R.grid records.old).columns) }
+    ensures well { R.is_well_formed records.new }
+    ensures fits { Fits cfg.new ((R.grid records.new).rows) ((R.grid records.new).columns) }
+{
+    settings_keep::<MergedCellsFit, R, SpannedConfig, D, A, B>(&first, &second);
+    changes(alloc, records, cfg, dimension, Settings::new(first, second))
+}
+
+/// Texts in the first row, and then spans from its places on.
+pub fn writes_and_spans<R>(
+    alloc: Global,
+    records: &mut R,
+    cfg: &mut SpannedConfig,
+    text: String,
+) -> Result<(), AllocError>
+where
+    R: Records + ExactRecords + PeekableRecords + RecordsMut<String>,
+    R::Cell: CellText,
+    requires well { R.is_well_formed records.old }
+    requires fits { Fits cfg.old ((R.grid records.old).rows) ((R.grid records.old).columns) }
+    ensures well { R.is_well_formed records.new }
+    ensures fits { Fits cfg.new ((R.grid records.new).rows) ((R.grid records.new).columns) }
+{
+    let rows = Rows::first();
+    let span = Span::row(3);
+    strings_keep_merged_cells_fitting::<R>(&text);
+    listed_keep::<R, (), _, String>(&rows, &text);
+    spans_of_size_1_or_more_fit::<R>(Span::column(1), span);
+    listed_keep::<R, (), _, RowSpan>(&rows, &span);
+    let spans = Modify::list(rows, span);
+    changes_by_settings(
+        alloc,
+        records,
+        cfg,
+        &mut (),
+        Modify::list(rows, text),
+        spans,
+    )
+}
+
+/// A header and a footer, as a pair.
+pub fn frames<R>(
+    alloc: Global,
+    records: &mut R,
+    cfg: &mut SpannedConfig,
+    title: String,
+    end: String,
+) -> Result<(), AllocError>
+where
+    R: Records + ExactRecords + Resizable + RecordsMut<String>,
+    R::Cell: CellText,
+    requires well { R.is_well_formed records.old }
+    requires fits { Fits cfg.old ((R.grid records.old).rows) ((R.grid records.old).columns) }
+    ensures well { R.is_well_formed records.new }
+    ensures fits { Fits cfg.new ((R.grid records.new).rows) ((R.grid records.new).columns) }
+{
+    let header = Panel::header(title);
+    let footer = Panel::footer(end);
+    headers_keep_merged_cells_fitting::<R, ()>(&header);
+    footers_keep_merged_cells_fitting::<R, ()>(&footer);
+    settings_keep::<MergedCellsFit, R, SpannedConfig, (), _, _>(&header, &footer);
+    changes(alloc, records, cfg, &mut (), (header, footer))
+}
+
+/// Two headers, as a list.
+pub fn puts_in_headers<R>(
+    alloc: Global,
+    records: &mut R,
+    cfg: &mut SpannedConfig,
+    title: String,
+    above: String,
+) -> Result<(), AllocError>
+where
+    R: Records + ExactRecords + Resizable + RecordsMut<String>,
+    R::Cell: CellText,
+    requires well { R.is_well_formed records.old }
+    requires fits { Fits cfg.old ((R.grid records.old).rows) ((R.grid records.old).columns) }
+    ensures well { R.is_well_formed records.new }
+    ensures fits { Fits cfg.new ((R.grid records.new).rows) ((R.grid records.new).columns) }
+{
+    let first = Panel::header(title);
+    let second = Panel::header(above);
+    headers_keep_merged_cells_fitting::<R, ()>(&first);
+    headers_keep_merged_cells_fitting::<R, ()>(&second);
+    let list = vec![in alloc; first, second]?;
+    vectors_keep::<MergedCellsFit, R, SpannedConfig, (), Header>(&list);
+    changes(alloc, records, cfg, &mut (), list)
+}
+
+#[cfg(test)]
+mod tests {
+    use super::{
+        frames, merges_neighbours, puts_in_a_column, puts_in_a_header, puts_in_headers,
+        runs_fitting_steps, spans_columns, writes, writes_and_spans,
+    };
+    use std::alloc::{AllocError, Global};
+    use std::test::Fail;
+    use tabled_grid::config::{Position, SpannedConfig};
+    use tabled_grid::records::{ExactRecords, Records, Resizable, Text, VecRecords};
+
+    #[derive(Clone, Copy)]
+    enum Call {
+        Steps,
+        Writes,
+        Spans,
+        Header,
+        Column,
+        Merge,
+        Settings,
+        Pair,
+        List,
+    }
+
+    /// The rows and columns that a call makes of 2 x 3 empty texts, and the height and the width of the
+    /// first cell, if merged cells fit before and after.
+    fn made(alloc: Global, call: Call) -> Result<Option<(usize, usize, usize, usize)>, AllocError> {
+        let mut records: VecRecords<Text<String>> = VecRecords::new(alloc, Vec::new(alloc))?;
+        records.push_rows(alloc, 2)?;
+        records.push_columns(alloc, 3)?;
+        let mut cfg = SpannedConfig::new(alloc);
+        if !cfg.fits(records.count_rows(), records.count_columns()) {
+            return Ok(None);
+        }
+        let text = String::from_str(alloc, "x")?;
+        let second = String::from_str(alloc, "y")?;
+        match call {
+            Call::Steps => {
+                runs_fitting_steps(alloc, &mut records, &mut cfg)?;
+            }
+            Call::Writes => writes(alloc, &mut records, &mut cfg, text)?,
+            Call::Spans => spans_columns(alloc, &mut records, &mut cfg)?,
+            Call::Header => puts_in_a_header(alloc, &mut records, &mut cfg, text)?,
+            Call::Column => puts_in_a_column(alloc, &mut records, &mut cfg, text)?,
+            Call::Merge => merges_neighbours(alloc, &mut records, &mut cfg)?,
+            Call::Settings => writes_and_spans(alloc, &mut records, &mut cfg, text)?,
+            Call::Pair => frames(alloc, &mut records, &mut cfg, text, second)?,
+            Call::List => puts_in_headers(alloc, &mut records, &mut cfg, text, second)?,
+        }
+        let (rows, columns) = (records.count_rows(), records.count_columns());
+        if !cfg.fits(rows, columns) {
+            return Ok(None);
+        }
+        let first = Position::new(0, 0);
+        let height = cfg.get_row_span(first).unwrap_or(1);
+        let width = cfg.get_column_span(first).unwrap_or(1);
+        Ok(Some((rows, columns, height, width)))
+    }
+
+    #[test]
+    fn merged_cells_fit_after_each_call(rt: HostRuntime) -> Result<(), Fail> {
+        let alloc = rt.alloc();
+        for (call, wanted) in [
+            (Call::Steps, (3, 3, 1, 3)),
+            (Call::Writes, (2, 3, 1, 1)),
+            (Call::Spans, (2, 3, 1, 2)),
+            (Call::Header, (3, 3, 1, 3)),
+            (Call::Column, (2, 4, 1, 1)),
+            (Call::Merge, (2, 3, 2, 1)),
+            (Call::Settings, (2, 3, 2, 1)),
+            (Call::Pair, (4, 3, 1, 3)),
+            (Call::List, (4, 3, 1, 3)),
+        ] {
+            assert_eq!(&rt; made(alloc, call)?, Some(wanted));
+        }
+        Ok(())
+    }
+}
