@@ -4,8 +4,9 @@ import re
 
 OPENS = {"{": "}", "(": ")", "[": "]"}
 LITERAL = re.compile(r'b?"(?:\\.|[^"\\])*"|b?\'(?:\\.[^\']*|[^\\\'])\'')
-HEAD = re.compile(r"(?:pub(?:\([a-z]+\))? )?(?:final )?(?:unsafe )?(ghost use|ghost|use|fn|struct|enum|impl|trait|mod|type|const|macro_rules!)\b")
+HEAD = re.compile(r"(?:pub(?:\([a-z]+\))? )?(?:final )?(?:const )?(?:unsafe )?(ghost use|ghost|use|fn|struct|enum|impl|trait|mod|type|const|macro_rules!)\b")
 CLAUSE = re.compile(r"(requires|ensures)\b(\*?)\s*(\w*)\s*(?=\{)")
+BETWEEN = re.compile(r"(?:\s|,|//.*)*")
 
 
 def skip(text, at):
@@ -82,7 +83,7 @@ def read_function(text, at):
         end = closing(text, clause.end())
         name = f" {clause[3]}" if clause[3] else ""
         clauses.append(f"{clause[1]}{clause[2]}{name}: {one_line(text[clause.end() + 1 : end - 1])}")
-        at = re.compile(r"\s*,?\s*").match(text, end).end()
+        at = BETWEEN.match(text, end).end()
     if at < len(text) and text[at] == "{":
         end = closing(text, at)
         return head, clauses, text[at:end], end
@@ -209,13 +210,19 @@ def of_type(item):
     return lines
 
 
+def is_hidden(trait, text, public):
+    """A trait of this crate's own that no other crate can name."""
+    name = re.match(r"\w*", trait)[0]
+    return bool(name) and name not in public and bool(re.search(rf"^use crate::[^;]*\b{name}\b", text, re.M))
+
+
 def of_impl(item, public):
     """The lines of an impl: of a type's own calls, or of what it means as a trait."""
     target = re.sub(r"^impl(?:<.*?>(?= ))? ", "", item.head).partition(" where ")[0]
     trait, _, of = target.rpartition(" for ")
     owner = re.match(r"\W*(?:mut )?(\w*)", of)[1]
     is_own = owner[:1].isupper() and re.search(rf"\b(struct|enum) {owner}\b", item.file)
-    if is_own and owner not in public:
+    if is_own and owner not in public or is_hidden(trait, item.file, public):
         return []
     if not trait:
         own = [it for it in items(item.body) if it.kind == "fn" and it.is_public]

@@ -1,8 +1,9 @@
 //! What options hint at.
 
-use crate::testing::{Letter, Log, Store};
+use crate::testing::{Letter, Log};
 use tabled_grid::config::Entity;
 use tabled_options::{CellOption, Settings, TableOption, combine_entity};
+use tabled_testing::Flat;
 
 #[test]
 fn combines_entities(rt: HostRuntime) {
@@ -27,12 +28,12 @@ fn combines_entities(rt: HostRuntime) {
 }
 
 /// What an option on tables hints at.
-fn hint_of<O: TableOption<Store, Log, ()>>(option: &O) -> Option<Entity> {
+fn hint_of<O: TableOption<Flat, Log, ()>>(option: &O) -> Option<Entity> {
     option.hint_change()
 }
 
 /// What an option on cells hints at.
-fn cell_hint_of<O: CellOption<Store, Log>>(option: &O) -> Option<Entity> {
+fn cell_hint_of<O: CellOption<Flat, Log>>(option: &O) -> Option<Entity> {
     option.hint_change()
 }
 

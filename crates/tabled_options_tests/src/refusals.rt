@@ -1,18 +1,17 @@
 //! What refused options leave, for a refusal at each place in turn.
 
-use crate::testing::{
-    CountedCopies, Letter, Log, PushRow, Refusing, Store, apply, apply_to, listed, spells, two_rows,
-};
+use crate::testing::{CountedCopies, Letter, Log, PushRow, apply, apply_to, listed, two_rows};
 use std::alloc::{AllocError, Global};
 use std::cell::Cell;
 use std::test::Fail;
 use tabled_grid::config::Entity;
 use tabled_options::{CellOption, Modify, OptionSlice, Settings, TableOption, TextRef};
+use tabled_testing::{Flat, Refusing, spells};
 
 /// Whether an option on tables writes these letters into a log with a limit, and `!` where it is refused.
 fn logs<O>(alloc: Global, option: O, limit: usize, want: &str) -> bool
 where
-    O: TableOption<Store, Log, ()> + Drop,
+    O: TableOption<Flat, Log, ()> + Drop,
     requires { O.can_change option }
 {
     let Ok(mut store) = two_rows(alloc) else {
@@ -26,7 +25,7 @@ where
 /// Whether an option on cells does the same.
 fn logs_at<O>(alloc: Global, option: O, limit: usize, want: &str) -> bool
 where
-    O: CellOption<Store, Log> + Drop,
+    O: CellOption<Flat, Log> + Drop,
     requires { O.can_change option }
 {
     let Ok(mut store) = two_rows(alloc) else {
@@ -40,9 +39,9 @@ where
 /// Whether an option writes `abc..` on tables and on cells, and none behind the letter that is refused.
 fn writes_in_order<O>(alloc: Global, option: O, count: usize) -> bool
 where
-    O: TableOption<Store, Log, ()> + CellOption<Store, Log> + Copy,
-    requires on_tables { ⟦<O as TableOption<Store, Log, ()>>⟧.can_change option }
-    requires on_cells { ⟦<O as CellOption<Store, Log>>⟧.can_change option }
+    O: TableOption<Flat, Log, ()> + CellOption<Flat, Log> + Copy,
+    requires on_tables { ⟦<O as TableOption<Flat, Log, ()>>⟧.can_change option }
+    requires on_cells { ⟦<O as CellOption<Flat, Log>>⟧.can_change option }
 {
     let told = [
         "!",
@@ -119,13 +118,16 @@ fn lists_stop_at_a_refused_copy(rt: HostRuntime) {
 /// where it says so.
 fn leaves<O>(alloc: Global, option: O, changes: usize, refused: bool, want: &str) -> bool
 where
-    O: TableOption<Refusing<Store>, (), ()> + Drop,
+    O: TableOption<Refusing<Flat>, (), ()> + Drop,
     requires { O.can_change option }
 {
-    let Ok(rows) = two_rows(alloc) else {
+    let Ok(store) = two_rows(alloc) else {
         return false;
     };
-    let mut store = Refusing::new(rows, changes);
+    let mut store = Refusing {
+        store,
+        left: changes,
+    };
     let done = apply(alloc, option, &mut store, &mut (), &mut ());
     done.is_err() == refused && spells(alloc, &store, want)
 }
@@ -133,13 +135,16 @@ where
 /// The same for an option on cells, applied to all cells.
 fn leaves_at_all<O>(alloc: Global, option: O, changes: usize, refused: bool, want: &str) -> bool
 where
-    O: CellOption<Refusing<Store>, ()> + Drop,
+    O: CellOption<Refusing<Flat>, ()> + Drop,
     requires { O.can_change option }
 {
-    let Ok(rows) = two_rows(alloc) else {
+    let Ok(store) = two_rows(alloc) else {
         return false;
     };
-    let mut store = Refusing::new(rows, changes);
+    let mut store = Refusing {
+        store,
+        left: changes,
+    };
     let done = apply_to(alloc, option, &mut store, &mut (), Entity::Global);
     done.is_err() == refused && spells(alloc, &store, want)
 }
@@ -148,11 +153,11 @@ where
 fn writers_keep_what_they_wrote(rt: HostRuntime) -> Result<(), Fail> {
     let alloc = rt.alloc();
     for (changes, refused, want) in [
-        (0, true, "a b /c d /"),
-        (1, true, "x b /c d /"),
-        (2, true, "x x /c d /"),
-        (3, true, "x x /x d /"),
-        (4, false, "x x /x x /"),
+        (0, true, "a b / c d /"),
+        (1, true, "x b / c d /"),
+        (2, true, "x x / c d /"),
+        (3, true, "x x / x d /"),
+        (4, false, "x x / x x /"),
     ] {
         let text = String::from_str(alloc, "x")?;
         assert!(rt; leaves_at_all(alloc, text, changes, refused, want));
@@ -166,11 +171,11 @@ fn lists_keep_what_was_written(rt: HostRuntime) {
     let alloc = rt.alloc();
     let entities = [Entity::Row(1), Entity::Cell(0, 5), Entity::Row(0)];
     for (changes, refused, want) in [
-        (0, true, "a b /c d /"),
-        (1, true, "a b /x d /"),
-        (2, true, "a b /x x /"),
-        (3, true, "x b /x x /"),
-        (4, false, "x x /x x /"),
+        (0, true, "a b / c d /"),
+        (1, true, "a b / x d /"),
+        (2, true, "a b / x x /"),
+        (3, true, "x b / x x /"),
+        (4, false, "x x / x x /"),
     ] {
         let listed = Modify::list(listed(alloc, &entities), TextRef("x"));
         assert!(rt; leaves(alloc, listed, changes, refused, want));
@@ -180,10 +185,10 @@ fn lists_keep_what_was_written(rt: HostRuntime) {
 #[test]
 fn options_keep_the_rows_pushed(rt: HostRuntime) {
     for (changes, refused, want) in [
-        (0, true, "a b /c d /"),
-        (1, true, "a b /c d /  /"),
-        (2, true, "a b /c d /  /  /"),
-        (3, false, "a b /c d /  /  /  /"),
+        (0, true, "a b / c d /"),
+        (1, true, "a b / c d / _ _ /"),
+        (2, true, "a b / c d / _ _ / _ _ /"),
+        (3, false, "a b / c d / _ _ / _ _ / _ _ /"),
     ] {
         let settings = Settings::new(PushRow, Settings::new(PushRow, PushRow));
         assert!(rt; leaves(rt.alloc(), settings, changes, refused, want));

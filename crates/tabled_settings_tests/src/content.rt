@@ -1,6 +1,6 @@
 //! What writers make of the texts of a table.
 
-use crate::tables::{flat, is_word, made, makes_flat};
+use crate::tables::{made, makes_flat};
 use std::alloc::{AllocError, Global};
 use std::test::Fail;
 use tabled_grid::config::Position;
@@ -11,6 +11,7 @@ use tabled_select::object::{Columns, Rows};
 use tabled_settings::duplicate::Dup;
 use tabled_settings::format::Format;
 use tabled_settings::formatting::Charset;
+use tabled_testing::{flat, is_word};
 
 #[test]
 fn answers_keep_their_state(rt: HostRuntime) {

@@ -1,11 +1,12 @@
 //! Tables that are joined.
 
-use crate::tables::{flat, makes_flat, makes_nested, makes_refusing};
+use crate::tables::{makes_flat, makes_nested, makes_refusing};
 use std::alloc::{AllocError, Global};
 use std::test::Fail;
 use tabled_grid::records::Axis;
 use tabled_settings::concat::Concat;
 use tabled_table::Table;
+use tabled_testing::flat;
 
 /// The join of a second table, with `-` where the first table lacks a cell.
 fn joined(alloc: Global, axis: Axis, second: &str) -> Result<Concat, AllocError> {

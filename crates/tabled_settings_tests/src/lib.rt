@@ -10,8 +10,6 @@ mod joins;
 #[cfg(test)]
 mod refused_writers;
 #[cfg(test)]
-mod refusing;
-#[cfg(test)]
 mod rotations;
 #[cfg(test)]
 mod splits;

@@ -8,8 +8,6 @@ mod merges;
 #[cfg(test)]
 mod panels;
 #[cfg(test)]
-mod refusing;
-#[cfg(test)]
 mod spans;
 #[cfg(test)]
 mod widths;

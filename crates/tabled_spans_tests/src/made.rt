@@ -1,22 +1,19 @@
-//! Tables of words, and what spans, panels and merges make of them.
+//! What spans, panels and merges make of tables that are spelled.
 //!
-//! A table is spelled by its words with a slash after each row, as in `a b / c _ /`, where `_` stands for
-//! an empty text. Behind it stands each anchor wider than a column, as `0.1w3` for 3 columns from row 0 and
+//! Behind the words of a table stands each anchor wider than a column, as `0.1w3` for 3 columns from row 0 and
 //! column 1, and then each higher than a row, as `0.1h2`, and `meeting` where merged cells don't lie inside
 //! the table and apart.
 
-ghost use Rattle.std.specs.Prelude.{IfOk};
-
-use crate::refusing::Refusing;
 use std::alloc::{AllocError, Global};
 use tabled_grid::config::{Entity, Position, SpannedConfig};
 use tabled_grid::records::{
-    CellText, ExactRecords, PeekableRecords, Records, RecordsMut, Resizable, Text, VecRecords,
+    CellText, ExactRecords, PeekableRecords, Records, RecordsMut, Resizable,
 };
 use tabled_options::{CellOption, TableOption};
 use tabled_spans::merge::Merge;
 use tabled_spans::panel::Panel;
 use tabled_spans::span::Span;
+use tabled_testing::{Refusing, flat, is_word, nested, push_word, spelled};
 
 /// An anchor with its row, column, height and width, a span on an entity, a panel or a merge, or nothing.
 #[derive(Clone, Copy)]
@@ -33,70 +30,16 @@ pub(crate) enum Step {
     MergeColumns,
 }
 
-/// The shape of a table that is spelled.
-fn shape_of(table: &str) -> (usize, usize) {
-    let mut rows: usize = 0;
-    let mut words: usize = 0;
-    for word in table.split_whitespace() {
-        if word == "/" {
-            rows = rows.saturating_add(1);
-        } else {
-            words = words.saturating_add(1);
-        }
-    }
-    (rows, words.checked_div(rows).unwrap_or(0))
-}
-
-/// Grows an empty store to a table that is spelled.
-fn filled<R>(alloc: Global, mut records: R, table: &str) -> Result<R, AllocError>
-where
-    R: Records + ExactRecords + RecordsMut<String> + Resizable + Drop,
-    R::Cell: CellText,
-    requires { R.is_well_formed records }
-    ensures { IfOk result (λ records. R.is_well_formed records) }
-{
-    let (rows, columns) = shape_of(table);
-    records.push_rows(alloc, rows)?;
-    records.push_columns(alloc, columns)?;
-    let mut words = table.split_whitespace();
-    for pos in Entity::Global.iter(rows, columns) {
-        let word = match words.next() {
-            Some("/") => words.next(),
-            word => word,
-        };
-        let text = String::from_str(alloc, word.unwrap_or(""))?;
-        text.change(alloc, &mut records, &mut (), Entity::Cell(pos.row, pos.col))?;
-    }
-    Ok(records)
-}
-
-/// Writes a word behind others.
-fn push_word(words: &mut String, word: &str) -> Result<(), AllocError> {
-    if !words.is_empty() {
-        words.push(' ')?;
-    }
-    words.push_str(word)
-}
-
 /// Spells a table and all merged cells.
-fn spelled<R>(alloc: Global, records: &R, cfg: &SpannedConfig) -> Result<String, AllocError>
+fn spelled_whole<R>(alloc: Global, records: &R, cfg: &SpannedConfig) -> Result<String, AllocError>
 where
     R: Records + ExactRecords + PeekableRecords,
     R::Cell: CellText,
     requires { R.is_well_formed records.now }
 {
-    let rows = records.count_rows();
-    let columns = records.count_columns();
-    let mut words = String::new(alloc);
-    for row in 0..rows {
-        for col in 0..columns {
-            let text = records.get_text(Position { row, col });
-            push_word(&mut words, if text.is_empty() { "_" } else { text })?;
-        }
-        push_word(&mut words, "/")?;
-    }
+    let mut words = spelled(alloc, records)?;
     push_spans(alloc, &mut words, cfg)?;
-    if !cfg.fits(rows, columns) {
+    if !cfg.fits(records.count_rows(), records.count_columns()) {
         push_word(&mut words, "meeting")?;
     }
     Ok(words)
@@ -189,24 +132,11 @@ where
 {
     let mut cfg = SpannedConfig::new(alloc);
     let done = change_all(alloc, &mut records, &mut cfg, steps);
-    let mut words = spelled(alloc, &records, &cfg)?;
+    let mut words = spelled_whole(alloc, &records, &cfg)?;
     if done.is_err() {
         words.push('!')?;
     }
     Ok(words)
-}
-
-/// Whether these are the words.
-fn is_word(made: Result<String, AllocError>, want: &str) -> bool {
-    match made {
-        Ok(words) => words.as_str() == want,
-        Err(_) => false,
-    }
-}
-
-/// The store of one vector.
-fn flat(alloc: Global, table: &str) -> Result<VecRecords<Text<String>>, AllocError> {
-    filled(alloc, VecRecords::new(alloc, Vec::new(alloc))?, table)
 }
 
 fn made_flat(alloc: Global, old: &str, steps: [Step; 3]) -> Result<String, AllocError> {
@@ -219,8 +149,7 @@ pub(crate) fn makes_flat(alloc: Global, old: &str, steps: [Step; 3], new: &str) 
 }
 
 fn made_nested(alloc: Global, old: &str, steps: [Step; 3]) -> Result<String, AllocError> {
-    let empty: Vec<Vec<Text<String>>> = Vec::new(alloc);
-    made(alloc, filled(alloc, empty, old)?, steps)
+    made(alloc, nested(alloc, old)?, steps)
 }
 
 /// The same in a vector for each row.
@@ -234,7 +163,8 @@ fn made_refusing(
     old: &str,
     steps: [Step; 3],
 ) -> Result<String, AllocError> {
-    made(alloc, Refusing::new(flat(alloc, old)?, left), steps)
+    let store = flat(alloc, old)?;
+    made(alloc, Refusing { store, left }, steps)
 }
 
 /// The same in a store that refuses all but so many growths and writes. A refusal is told by `!`.

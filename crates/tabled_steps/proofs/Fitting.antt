@@ -1,24 +1,20 @@
 -- Steps that keep merged cells inside the table and apart.
-use Rattle.std.proofs.Common.{◌≡◌, ℕ, ◌⊎◌, inl, inr, List, [], ◌∷◌, Result, Ok, Err, refl, ap, ◌∙◌, take}
-use Rattle.std.specs.Prelude.{◌<ℤ◌, pos}
+use Rattle.std.proofs.Common.{◌≡◌, ℕ, List, [], ◌∷◌, Result, Ok, Err}
 use Rattle.std.specs.List.{AllByRecursion}
 use Rattle.std.specs.Result.{IfErr, OnOk}
 use Rattle.std.specs.String.{string_bytes}
-use Rattle.tabled_grid.specs.Entity.{inside}
-use Rattle.tabled_grid.specs.Grid.{Grid, map_grid, with_cell}
+use Rattle.tabled_grid.specs.Grid.{Grid, map_grid}
 use Rattle.tabled_grid.specs.Rectangles.{Fits}
 use Rattle.tabled_grid.specs.Spans.{SpanMap}
 use Rattle.tabled_grid.specs.declared.config.entity.Entity.{Entity}
-use Rattle.tabled_grid.specs.declared.config.position.Position.{Position}
 use Rattle.tabled_grid.specs.declared.records.axis.Axis.{Axis}
 use Rattle.tabled_grid.specs.declared.records.axis.Axis.TheVariants.{Rows, Columns}
-use Rattle.tabled_options.specs.Does.{Change, Each, EachListed, EachUntil, EachUntilAt, Keeps, OptionKeeps, Same}
-use Rattle.tabled_options.specs.Writes.{Write, with_writes, written}
-use Rattle.tabled_options.proofs.Keeps.{keeps_all, keeps_copied, keeps_in_order, keeps_listed, keeps_same, keeps_same_or}
+use Rattle.tabled_options.specs.Does.{Change, Each, EachListed, EachUntil, EachUntilAt, OptionKeeps, Same}
+use Rattle.tabled_options.proofs.Keeps.{keeps_all, keeps_copied, keeps_in_order, keeps_listed}
+use Rattle.tabled_options.proofs.Shapes.{text_keeps}
 use Rattle.tabled_settings.specs.Charsets.{charset_writes}
-use Rattle.tabled_settings.specs.Dups.{Duplicates, DuplicatesFirst, round_writes, source_texts}
+use Rattle.tabled_settings.proofs.WritersKeep.{duplicates_keep, writes_keep}
 use Rattle.tabled_spans.specs.Panels.{Panels}
-use Rattle.tabled_spans.specs.Spanned.{Spans, SpansFirst}
 use Rattle.tabled_spans.proofs.MergeGeometry.{fits_merged}
 use Rattle.tabled_spans.proofs.PanelGeometry.{panels_fit, same_fits}
 use Rattle.tabled_spans.proofs.SpanGeometry.{fits_spanned, option_keeps}
@@ -32,52 +28,9 @@ module _ {A : Type 0} (text_of : A → List ℕ) where
   abbrev fitting : Grid A → SpanMap → Type 0
   fitting g c = Fits c g.rows g.columns
 
-  -- a grid of the same shape, and the same merged cells
-  same_shape : (g h : Grid A) (c d : SpanMap) → h.rows ≡ g.rows → h.columns ≡ g.columns → d ≡ c → fitting g c → fitting h d
-  same_shape g h c d rows columns same fits = rw (rows, columns, same) fits
-
-  rows-written : (text : List ℕ) (places : List Position) (g : Grid (List ℕ)) → (written text places g).rows ≡ g.rows
-  rows-written text [] g = refl
-  rows-written text (p ∷ places) g = rows-written text places (with_cell g p text)
-
-  columns-written : (text : List ℕ) (places : List Position) (g : Grid (List ℕ)) → (written text places g).columns ≡ g.columns
-  columns-written text [] g = refl
-  columns-written text (p ∷ places) g = columns-written text places (with_cell g p text)
-
-  rows-with_writes : (writes : List Write) (g : Grid (List ℕ)) → (with_writes writes g).rows ≡ g.rows
-  rows-with_writes [] g = refl
-  rows-with_writes (w ∷ writes) g = rows-with_writes writes (with_cell g w.place w.text)
-
-  columns-with_writes : (writes : List Write) (g : Grid (List ℕ)) → (with_writes writes g).columns ≡ g.columns
-  columns-with_writes [] g = refl
-  columns-with_writes (w ∷ writes) g = columns-with_writes writes (with_cell g w.place w.text)
-
-  -- texts that are written, and all else as it was
-  after_text : (text : List ℕ) (places : List Position) (g h : Grid A) (c d : SpanMap) → map_grid text_of h ≡ written text places (map_grid text_of g) → d ≡ c → fitting g c → fitting h d
-  after_text text places g h c d is = same_shape g h c d (ap (λ (k : Grid (List ℕ)). k.rows) is ∙ rows-written text places (map_grid text_of g)) (ap (λ (k : Grid (List ℕ)). k.columns) is ∙ columns-written text places (map_grid text_of g))
-
-  after_writes : (writes : List Write) (g h : Grid A) (c d : SpanMap) → map_grid text_of h ≡ with_writes writes (map_grid text_of g) → d ≡ c → fitting g c → fitting h d
-  after_writes writes g h c d is = same_shape g h c d (ap (λ (k : Grid (List ℕ)). k.rows) is ∙ rows-with_writes writes (map_grid text_of g)) (ap (λ (k : Grid (List ℕ)). k.columns) is ∙ columns-with_writes writes (map_grid text_of g))
-
   -- an option on each entity that a selector names
   on_entities : (select : Select) (does leaves : Entity → Change A SpanMap) → ((e : Entity) → OptionKeeps fitting (does e) (leaves e)) → OptionKeeps fitting (EachListed (Names text_of select) does) (LeavesFirst text_of select does leaves)
   on_entities select does leaves keeps = keeps_copied fitting _ _ (keeps_listed fitting does _ (Names text_of select) (λ e. keeps_copied fitting (does e) (leaves e) (keeps e)))
-
-  duplicated : (destination source : Select) (g : Grid A) (c : SpanMap) (h : Grid A) (d : SpanMap) → Duplicates text_of (Names text_of destination) (Names text_of source) g c h d → fitting g c → fitting h d
-  duplicated destination source g c h d (sources, named, writes, same) fits = by (source_texts (map_grid text_of g) sources) refl
-    where
-      by : (texts : List (List ℕ)) → source_texts (map_grid text_of g) sources ≡ texts → fitting h d
-      by [] is = let it = rw is at writes in after_writes [] g h c d it same fits
-      by (text ∷ texts) is = let it = rw is at writes in after_writes (round_writes (text ∷ texts) g.rows g.columns it.0) g h c d it.2 same fits
-
-  duplicates : (destination source : Select) → OptionKeeps fitting (Duplicates text_of (Names text_of destination) (Names text_of source)) (DuplicatesFirst text_of (Names text_of destination) (Names text_of source))
-  duplicates destination source = record {
-    done = λ g c h d fits does. duplicated destination source g c h d does fits;
-    refused = λ g c h d fits left. elim left.0 [
-      | inl same ↦ after_writes [] g h c d same left.1 fits
-      | inr some ↦ after_writes (take some.4.count (round_writes (source_texts (map_grid text_of g) some.0) g.rows g.columns some.2)) g h c d some.4.is left.1 fits
-    ];
-  }
 
   panels : (axis : Axis) (line : Grid A → ℕ) (text : List ℕ) → OptionKeeps fitting (λ g. Panels text_of axis (line g) text g) Same
   panels axis line text = record { done = λ g m h n fits does. panels_fit text_of axis (line g) text g m h n fits does; refused = same_fits }
@@ -86,9 +39,9 @@ module _ {A : Type 0} (text_of : A → List ℕ) where
   merges axis = record { done = λ g m h n fits does. rw does.0 (fits_merged axis (map_grid text_of g) m n does.1 fits); refused = same_fits }
 
   pub step_keeps : (s : Step) → KeepsFitting s → OptionKeeps fitting (Does text_of s) (Leaves text_of s)
-  step_keeps (step.Set select text) _ = on_entities select _ _ (λ e. record { done = λ g c h d fits w. after_text (string_bytes text) (inside e g.rows g.columns) g h c d w.0 w.1 fits; refused = λ g c h d fits w. after_text (string_bytes text) (take w.0.count (inside e g.rows g.columns)) g h c d w.0.is w.1 fits })
-  step_keeps (step.Dup destination source) _ = duplicates destination source
-  step_keeps (step.Charset charset select) _ = on_entities select _ _ (λ e. record { done = λ g c h d fits w. after_writes (charset_writes charset e (map_grid text_of g)) g h c d w.0 w.1 fits; refused = λ g c h d fits w. after_writes (take w.0 (charset_writes charset e (map_grid text_of g))) g h c d w.2 w.3 fits })
+  step_keeps (step.Set select text) _ = on_entities select _ _ (text_keeps text_of (string_bytes text))
+  step_keeps (step.Dup destination source) _ = duplicates_keep text_of (Names text_of destination) (Names text_of source)
+  step_keeps (step.Charset charset select) _ = on_entities select _ _ (λ e. writes_keep text_of (charset_writes charset e))
   step_keeps (step.ColumnSpan size select) positive = on_entities select _ _ (λ e. option_keeps text_of Columns size e Fits (fits_spanned Columns size e positive))
   step_keeps (step.RowSpan size select) positive = on_entities select _ _ (λ e. option_keeps text_of Rows size e Fits (fits_spanned Rows size e positive))
   step_keeps (step.HorizontalPanel panel) _ = panels Rows (λ g. panel.0) panel.1

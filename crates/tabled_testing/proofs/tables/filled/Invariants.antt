@@ -1,4 +1,4 @@
-use Rattle.tabled_spans_tests.proofs.made.filled.Given as goal
+use Rattle.tabled_testing.proofs.tables.filled.Given as goal
 
 abbrev pub invariant-loop-pos : goal.invariant-loop-pos
 invariant-loop-pos g l =

@@ -1,4 +1,4 @@
-//! A store that refuses a growth or a write.
+//! A store that refuses a change.
 
 ghost use Rattle.std.specs.Prelude.{◌≡◌};
 
@@ -8,20 +8,16 @@ use tabled_grid::records::{
     Blank, CellText, ExactRecords, GridStore, PeekableRecords, Records, RecordsMut, Resizable,
 };
 
-/// A store that takes so many writes and growths as are left, and refuses the others.
+/// A store that takes so many writes and growths as are left, and refuses the others, which change nothing.
+///
+/// Growths and cuts of many lines go by the default bodies of `Resizable`, so each line is a growth of its own.
 #[derive(Drop)]
-pub(crate) struct Refusing<S> {
-    store: S,
-    left: usize,
+pub struct Refusing<S> {
+    pub store: S,
+    pub left: usize,
 }
 
 impl<S> Refusing<S> {
-    pub(crate) fn new(store: S, left: usize) -> Self
-        ensures { result.store ≡ store }
-    {
-        Refusing { store, left }
-    }
-
     /// Counts one change, or refuses it.
     fn count_change(&mut self) -> Result<(), AllocError>
         ensures { self.new.store ≡ self.old.store }

@@ -1,0 +1,117 @@
+//! Tables as words.
+//!
+//! A table is spelled by its words with a slash after each row, as in `a b / c _ /`, where `_` stands for
+//! an empty text.
+
+ghost use Rattle.std.specs.Prelude.{IfOk};
+
+use std::alloc::{AllocError, Global};
+use tabled_grid::config::{Entity, Position};
+use tabled_grid::records::{
+    CellText, ExactRecords, GridStore, PeekableRecords, Records, RecordsMut, Resizable, Text,
+    VecRecords,
+};
+use tabled_options::CellOption;
+
+/// A store of one vector of cells.
+pub type Flat = VecRecords<Text<String>>;
+
+/// A store of a vector for each row.
+pub type Nested = Vec<Vec<Text<String>>>;
+
+/// The shape of a table that is spelled.
+fn shape_of(table: &str) -> (usize, usize) {
+    let mut rows: usize = 0;
+    let mut words: usize = 0;
+    for word in table.split_whitespace() {
+        if word == "/" {
+            rows = rows.saturating_add(1);
+        } else {
+            words = words.saturating_add(1);
+        }
+    }
+    (rows, words.checked_div(rows).unwrap_or(0))
+}
+
+/// Grows an empty store to a table that is spelled.
+fn filled<R>(alloc: Global, mut records: R, table: &str) -> Result<R, AllocError>
+where
+    R: Records + ExactRecords + RecordsMut<String> + Resizable + Drop,
+    R::Cell: CellText,
+    requires { R.is_well_formed records }
+    ensures { IfOk result (λ records. R.is_well_formed records) }
+{
+    let (rows, columns) = shape_of(table);
+    records.push_rows(alloc, rows)?;
+    records.push_columns(alloc, columns)?;
+    let mut words = table.split_whitespace();
+    for pos in Entity::Global.iter(rows, columns) {
+        let word = match words.next() {
+            Some("/") => words.next(),
+            word => word,
+        };
+        let word = word.unwrap_or("");
+        let text = String::from_str(alloc, if word == "_" { "" } else { word })?;
+        text.change(alloc, &mut records, &mut (), Entity::Cell(pos.row, pos.col))?;
+    }
+    Ok(records)
+}
+
+/// A table that is spelled, in one vector of cells.
+pub fn flat(alloc: Global, table: &str) -> Result<Flat, AllocError> {
+    filled(alloc, VecRecords::new(alloc, Vec::new(alloc))?, table)
+}
+
+/// A table that is spelled, in a vector for each row.
+pub fn nested(alloc: Global, table: &str) -> Result<Nested, AllocError>
+    ensures { IfOk result (λ records. ⟦<Nested as GridStore>⟧.is_well_formed records) }
+{
+    let empty: Nested = Vec::new(alloc);
+    filled(alloc, empty, table)
+}
+
+/// Writes a word behind others. Refused, it leaves the words as they were, or with a blank behind them.
+pub fn push_word(words: &mut String, word: &str) -> Result<(), AllocError> {
+    if !words.is_empty() {
+        words.push(' ')?;
+    }
+    words.push_str(word)
+}
+
+/// Spells a table.
+pub fn spelled<R>(alloc: Global, records: &R) -> Result<String, AllocError>
+where
+    R: Records + ExactRecords + PeekableRecords,
+    R::Cell: CellText,
+    requires { R.is_well_formed records.now }
+{
+    let rows = records.count_rows();
+    let columns = records.count_columns();
+    let mut words = String::new(alloc);
+    for row in 0..rows {
+        for col in 0..columns {
+            let text = records.get_text(Position { row, col });
+            push_word(&mut words, if text.is_empty() { "_" } else { text })?;
+        }
+        push_word(&mut words, "/")?;
+    }
+    Ok(words)
+}
+
+/// Whether these are the words.
+pub fn is_word(made: Result<String, AllocError>, want: &str) -> bool {
+    match made {
+        Ok(words) => words.as_str() == want,
+        Err(_) => false,
+    }
+}
+
+/// Whether a table is spelled so.
+pub fn spells<R>(alloc: Global, records: &R, want: &str) -> bool
+where
+    R: Records + ExactRecords + PeekableRecords,
+    R::Cell: CellText,
+    requires { R.is_well_formed records.now }
+{
+    is_word(spelled(alloc, records), want)
+}
