@@ -25,7 +25,10 @@ fn ends_well_where_an_example_is_cut(rt: HostRuntime) -> Result<(), Fail> {
             let (status, written) = answer(rt.alloc(), &bytes[..end]);
             let begin: &[u8] = if status == 0 { b"shape\t" } else { b"line " };
             assert!(rt; status == 0 || status == 2, "{name} cut at {end}");
-            assert!(rt; written.as_slice().starts_with(begin), "{name} cut at {end}");
+            assert!(rt;
+                written.as_slice().starts_with(begin),
+                "{name} cut at {end}"
+            );
         }
     }
     Ok(())
