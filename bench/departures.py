@@ -72,76 +72,67 @@ def reversed_extract(before, words, ours, theirs):
         return b"extract\t%d\t%d\t%d\t%d" % (a, max(a, b), c, max(c, d))
 
 
-def same_but_texts(ours, theirs):
-    one, other = State(ours[1]), State(theirs[1])
-    return (one.rows, one.columns, one.spans) == (other.rows, other.columns, other.spans)
-
-
-def negative_span(before, words, ours, theirs):
+def negative_span(before, words, one, other):
     """A span of size below 0 clears one column too many, counted from the first, and not what it takes: texts stay."""
-    if words[0] not in (b"cspan", b"rspan") or int(words[1]) >= 0:
-        return False
     count = before.columns if words[0] == b"cspan" else before.rows
-    return count - 1 > -int(words[1]) and same_but_texts(ours, theirs)
+    return words[0] in (b"cspan", b"rspan") and int(words[1]) < 0 and count - 1 > -int(words[1])
 
 
-def hidden_one_by_one(before, words, ours, theirs):
+def text_by_columns(before, words, one, other):
+    """`VerticalPanel::width` cuts by a helper of another layer: newlines and characters without columns differ."""
+    differing = [(i, j) for i, row in enumerate(one.texts) for j, text in enumerate(row) if other.texts[i][j] != text]
+    narrow = ("Mn", "Me", "Cc", "Cf")
+    return (words[0] == b"vpanelw" and differing == [(0, int(words[1]))]
+            and (b"\\" in words[3] or any(unicodedata.category(it) in narrow for it in words[3].decode())))
+
+
+def hidden_one_by_one(before, words, one, other):
     """Hidden anchors go one by one, widths first: one that only a hidden one hides stays, or the next cells meet it."""
-    if words[0] not in (b"cspan", b"rspan"):
+    left = [it for it, size in other.spans.items() if one.spans.get(it) != size]
+    return words[0] in (b"cspan", b"rspan") and len(left) > 0
+
+
+def merge_with_spans(before, words, one, other):
+    """Where anchors or hidden cells end a run of a merge isn't said: in lines that have one, runs differ."""
+    if words not in ([b"vmerge"], [b"hmerge"]):
         return False
-    one, other = State(ours[1]), State(theirs[1])
-    left = [it for it in other.spans if it not in one.spans or one.spans[it] != other.spans[it]]
-    return one.texts == other.texts and len(before.spans) >= 1 and len(left) >= 1
+    if words == [b"hmerge"]:
+        before, one, other = before.transposed(), one.transposed(), other.transposed()
+    columns = {j for (i, j), _ in one.spans.items() ^ other.spans.items()}
+    ends = lambda i, j: (i, j) in before.spans or before.hides(i, j)
+    return all(any(ends(i, j) for i in range(before.rows)) for j in columns)
 
 
-def rectangle_crosses(before, row, asked):
-    """Whether a merged cell that begins above a row holds a cell of it, and none in the columns that are asked."""
-    crossing = [j for (i, j), (height, _) in before.spans.items() if i < row < i + height]
-    return bool(crossing) and all(j >= asked for j in crossing)
-
-
-def panel_across(before, words, ours, theirs):
+def panel_across(before, words, one):
     """A panel asks columns 0 .. count, or rows 0 ..= count, alone: a merged cell that begins behind them doesn't stop it."""
     crosswise = words[0] in (b"vpanel", b"vpanelw")
     state = before.transposed() if crosswise else before
     places = {b"header": 0, b"footer": state.rows}
-    if words[0] not in (b"hpanel", b"vpanel", b"vpanelw", b"header", b"footer"):
+    if words[0] not in (b"hpanel", b"vpanel", b"vpanelw", b"header", b"footer") or vars(one) != vars(before):
         return False
     place = places[words[0]] if words[0] in places else int(words[1])
-    return State(ours[1]).__dict__ == before.__dict__ and rectangle_crosses(state, place, state.columns + crosswise)
-
-
-def merge_with_spans(before, words, ours, theirs):
-    """Where anchors or hidden cells end a run of a merge isn't said: in lines that have one, runs differ."""
-    if words not in ([b"vmerge"], [b"hmerge"]) or not before.spans:
-        return False
-    one, other = State(ours[1]), State(theirs[1])
-    if words == [b"hmerge"]:
-        before, one, other = before.transposed(), one.transposed(), other.transposed()
-    columns = {j for it in (one, other) for (i, j), size in it.spans.items()
-               if (one.spans.get((i, j)), other.spans.get((i, j))) != (size, size)}
-    ends = lambda i, j: (i, j) in before.spans or before.hides(i, j)
-    return one.texts == other.texts and all(any(ends(i, j) for i in range(before.rows)) for j in columns)
-
-
-def width_of(character):
-    if unicodedata.category(character) in ("Mn", "Me", "Cc", "Cf"):
-        return 0
-    return 1
-
-
-def text_by_columns(before, words, ours, theirs):
-    """`VerticalPanel::width` cuts by a helper of another layer: newlines and characters without columns differ."""
-    if words[0] != b"vpanelw":
-        return False
-    one, other = State(ours[1]), State(theirs[1])
-    differing = [(i, j) for i, row in enumerate(one.texts) for j, text in enumerate(row) if other.texts[i][j] != text]
-    odd = b"\\" in words[3] or any(width_of(it) != 1 for it in words[3].decode())
-    return odd and same_but_texts(ours, theirs) and differing == [(0, int(words[1]))]
+    crossing = [j for (i, j), (height, _) in state.spans.items() if i < place < i + height]
+    return len(crossing) > 0 and all(j >= state.columns + crosswise for j in crossing)
 
 
 REWRITTEN = [frame, panel_without_cells, concat_onto_nothing, removal_past_the_end, reversed_extract]
-NAMED = [negative_span, hidden_one_by_one, panel_across, merge_with_spans, text_by_columns]
+NAMED = {"texts": [negative_span, text_by_columns], "spans": [hidden_one_by_one, merge_with_spans]}
+
+
+def named(before, words, one, other):
+    """The names of the departures by which two tables differ; None where there is none for what differs."""
+    if panel_across(before, words, one):
+        return [panel_across.__name__]
+    if (one.rows, one.columns) != (other.rows, other.columns):
+        return None
+    found = []
+    for part, departures in NAMED.items():
+        if getattr(one, part) != getattr(other, part):
+            names = [it.__name__ for it in departures if it(before, words, one, other)]
+            if not names:
+                return None
+            found += names[:1]
+    return found
 
 
 def is_step(line):
@@ -163,8 +154,8 @@ def step_departures(before, line, ours, run):
                 line = other
                 break
         else:
-            known = [it.__name__ for it in NAMED if theirs[0] == 0 and it(before, words, ours, theirs)]
-            return (names + known[:1] if known else None), line, False
+            more = named(before, words, State(ours[1]), State(theirs[1])) if theirs[0] == 0 else None
+            return (None if more is None else names + more), line, False
     return None, line, False
 
 

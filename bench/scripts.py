@@ -32,6 +32,7 @@ FLAWS = ["text", "number", "size", "selector", "word", "name", "missing", "extra
 NUMBERED = {b"all": 0, b"cell": 2, b"row": 1, b"column": 1, b"first-row": 0, b"last-row": 0, b"first-column": 0,
             b"last-column": 0, b"last-row-minus": 1, b"last-row-plus": 1, b"last-column-minus": 1,
             b"last-column-plus": 1, b"rows": 2, b"columns": 2, b"segment": 4, b"frame": 0}
+LENGTHS = [0, 1, 2, 3, 3, 3, 4, 4, 4, 5, 5, 6]  # of tables, often enough not empty
 DEPTH = 64  # to which selectors stand in others
 
 
@@ -179,8 +180,8 @@ class Scripts:
     def script(self, number):
         self.random = random.Random(f"{self.seed} {number}")
         self.flaw = self.one_of([None] * 3 * len(FLAWS) + FLAWS)  # what is often wrong in this script
-        self.columns = self.below(6)
-        kinds = [self.row] * self.below(6) + [self.one_of(self.steps) for _ in range(self.below(8))]
+        self.columns = self.one_of(LENGTHS)
+        kinds = [self.row] * self.one_of(LENGTHS) + [self.one_of(self.steps) for _ in range(self.below(8))]
         if self.faulty("order"):
             self.random.shuffle(kinds)  # so that rows stand behind steps
         lines = [self.line(kind) for kind in kinds]
