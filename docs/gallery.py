@@ -161,8 +161,8 @@ def page(top):
     """docs/SCRIPT.md: its prose, with a picture in place of each line that names one."""
     cases, prose = cases_of(top), (top / "docs/pages/SCRIPT.md").read_text()
     named = re.findall(r"^shown: (\S+)$", prose, re.M)
-    for name in {*named} ^ {it.stem for it in top.glob("examples/gallery/*.script")}:
-        sys.exit(f"docs/pages/SCRIPT.md: {name} is in one of the page and the gallery, not in both")
+    for name in {it.stem for it in top.glob("examples/gallery/*.script")} - {*named}:
+        sys.exit(f"docs/pages/SCRIPT.md: no picture shows {name}")
     quoted = {"script": lambda it: indented(cases[it][0]), "printed": lambda it: indented(cases[it][1])}
     quoted["shown"] = lambda it: picture(*cases[it])
     words = "|".join(quoted)

@@ -92,6 +92,11 @@ pub(super) const CASES: &[(&str, &str, &str)] = &[
         "shape\t4\t2\nrow\tApple\t3\nrow\tPear\t5\nrow\tVegetables\t\nrow\tCarrot\t4\nspan\t2\t0\t1\t2\n",
     ),
     (
+        "months",
+        "row\tRegion\tMonth\tUnits\nrow\tNorth\tJanuary\t120\nrow\tNorth\tFebruary\t98\nrow\tSouth\tJanuary\t87\nrow\tSouth\tFebruary\t101\n\nset\tintersect\tname\tUnits\tcontent\t120\t120 (best)\nvmerge\nheader\tSales of two months\nfooter\t406 units\n",
+        "shape\t7\t3\nrow\tSales of two months\t\t\nrow\tRegion\tMonth\tUnits\nrow\tNorth\tJanuary\t120 (best)\nrow\tNorth\tFebruary\t98\nrow\tSouth\tJanuary\t87\nrow\tSouth\tFebruary\t101\nrow\t406 units\t\t\nspan\t0\t0\t1\t3\nspan\t2\t0\t2\t1\nspan\t4\t0\t2\t1\nspan\t6\t0\t1\t3\n",
+    ),
+    (
         "remove-columns",
         "row\tName\tMaths\tMusic\tArt\nrow\tAda\t1\t2\t1\nrow\tBen\t3\t1\t2\nremove\tcolumns\t1\t2\n",
         "shape\t3\t3\nrow\tName\tMusic\tArt\nrow\tAda\t2\t1\nrow\tBen\t1\t2\n",
