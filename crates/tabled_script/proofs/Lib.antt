@@ -1,6 +1,2 @@
-pub mod Escapes
-pub mod Numbers
+pub mod Changes
 pub mod OutputLines
-pub mod ScriptLines
-pub mod Steps
-pub mod Texts

@@ -7,7 +7,7 @@ use Rattle.std.proofs.lemmas.List.{append-nil, take_more, take_all}
 use Rattle.std.proofs.lemmas.List.Folds.{flat_map-map}
 use Rattle.std.proofs.lemmas.Option.{slice_get_within, get_or_from_slice_get}
 use Rattle.tabled_grid.specs.Grid.{Grid, map_grid}
-use Rattle.tabled_script.specs.Output.{escaped, line, print}
+use Rattle.tabled_script.specs.Output.{escaped, line, table_lines}
 
 -- behind the first list, each list with the byte before it
 pub join_with_byte-cons : (c : ℕ) (xs : List ℕ) (xss : List (List ℕ)) → join_with_byte c (xs ∷ xss) ≡ xs ++ flat_map (λ ys. c ∷ ys) xss
@@ -23,5 +23,5 @@ pub take_some : {A : Type 0} (xs : List A) (i : ℕ) (x : A) → slice_get xs i 
 take_some xs i x e = take_more xs i x (slice_get_within xs i x e) ∙ ap (λ y. take i xs ++ y ∷ []) (get_or_from_slice_get xs i x x e)
 
 -- a table's shape, and the lines of all its rows
-pub print-pieces : {A : Type 0} (text_of : A → List ℕ) (g : Grid A) (n : ℕ) → length g.cells ≤ n → print (map_grid text_of g) ≡ line (codes "shape" ∷ decimal g.rows ∷ decimal g.columns ∷ []) ++ flat_map (λ row. line (codes "row" ∷ map text_of row)) (take n g.cells)
-print-pieces text_of g n all = rw (take_all n g.cells all, flat_map-map (λ row. line (codes "row" ∷ row)) (map text_of) g.cells) refl
+pub table_lines-pieces : {A : Type 0} (text_of : A → List ℕ) (g : Grid A) (n : ℕ) → length g.cells ≤ n → table_lines (map_grid text_of g) ≡ line (codes "shape" ∷ decimal g.rows ∷ decimal g.columns ∷ []) ++ flat_map (λ row. line (codes "row" ∷ map text_of row)) (take n g.cells)
+table_lines-pieces text_of g n all = rw (take_all n g.cells all, flat_map-map (λ row. line (codes "row" ∷ row)) (map text_of) g.cells) refl

@@ -3,26 +3,65 @@
 ghost use Rattle.std.specs.Prelude.{◌≡◌, ◌∷◌, ◌++◌, map, IfOk, IsTrue, OnOk};
 ghost use Rattle.std.specs.String.{string_bytes};
 ghost use Rattle.tabled_grid.specs.Grid.{map_grid};
-ghost use Rattle.tabled_script.specs.Output.{escaped, escaped_byte, line, print as printed};
+ghost use Rattle.tabled_script.specs.Output.{escaped, escaped_byte, line, print as printed, span_line, table_lines};
+ghost use Rattle.tabled_steps.specs.States.{state_of};
 
 use std::alloc::{AllocError, Global};
+use tabled_grid::config::{Position, SpannedConfig};
 use tabled_grid::records::{CellText, ExactRecords, Records, Text, VecRecords};
 
-/// Writes a table: its shape, and then its rows.
-pub(crate) fn print(alloc: Global, store: &VecRecords<Text<String>>) -> Result<Vec<u8>, AllocError>
-    ensures { IfOk result (λ out. out.items ≡ printed (map_grid string_bytes store.now)) }
+/// Writes a table: its shape, its rows, and then its merged cells.
+pub(crate) fn print(
+    alloc: Global,
+    records: &VecRecords<Text<String>>,
+    cfg: &SpannedConfig,
+) -> Result<Vec<u8>, AllocError>
+    ensures { IfOk result (λ out. out.items ≡ printed (state_of string_bytes records.now cfg.now)) }
 {
-    let rows = store.count_rows();
-    let shape = [
-        rows.to_string(alloc)?,
-        store.count_columns().to_string(alloc)?,
-    ];
     let mut out = Vec::new(alloc);
-    push_line(&mut out, "shape", &shape)?;
-    for i in 0..rows {
-        push_line(&mut out, "row", store.row(i))?;
+    push_table(alloc, &mut out, records)?;
+    for (pos, size) in cfg.anchors() {
+        push_span(alloc, &mut out, *pos, *size)?;
     }
     Ok(out)
+}
+
+/// Appends a table's shape, and then its rows.
+fn push_table(
+    alloc: Global,
+    out: &mut Vec<u8>,
+    records: &VecRecords<Text<String>>,
+) -> Result<(), AllocError>
+    ensures { OnOk result (out.new.items ≡ out.old.items ++ table_lines (map_grid string_bytes records.now)) }
+{
+    let rows = records.count_rows();
+    let shape = [
+        rows.to_string(alloc)?,
+        records.count_columns().to_string(alloc)?,
+    ];
+    push_line(out, "shape", &shape)?;
+    for i in 0..rows {
+        push_line(out, "row", records.row(i))?;
+    }
+    Ok(())
+}
+
+/// Appends the line of an anchor and its rectangle's height and width.
+fn push_span(
+    alloc: Global,
+    out: &mut Vec<u8>,
+    pos: Position,
+    size: (usize, usize),
+) -> Result<(), AllocError>
+    ensures { OnOk result (out.new.items ≡ out.old.items ++ span_line (pos, size)) }
+{
+    let numbers = [
+        pos.row.to_string(alloc)?,
+        pos.col.to_string(alloc)?,
+        size.0.to_string(alloc)?,
+        size.1.to_string(alloc)?,
+    ];
+    push_line(out, "span", &numbers)
 }
 
 /// Appends the line of a name and texts.

@@ -4,13 +4,17 @@ ghost use Rattle.std.specs.Prelude.{◌≡◌, ◌⊎◌, ℕ, Ok, Err, IfOk, If
 ghost use Rattle.std.specs.Io.KnownBytes.{Appends};
 ghost use Rattle.std.specs.String.{string_bytes};
 ghost use Rattle.tabled_script.specs.Answer.{fault_line, memory_line, output_of};
-ghost use Rattle.tabled_script.specs.Line.{Script, parse};
-ghost use Rattle.tabled_script.specs.declared.fault.Fault.{Fault};
+ghost use Rattle.tabled_language.specs.Line.{Script as Meaning, parse};
+ghost use Rattle.tabled_language.specs.Parsing.{script_in};
+ghost use Rattle.tabled_language.specs.declared.fault.Fault.{Fault};
 
-use crate::fault::Fault;
-use crate::script::parse;
+use crate::output::print;
 use std::alloc::{AllocError, Global};
 use std::io::{self, ErrorKind, Read, Write};
+use tabled_grid::records::{Text, VecRecords};
+use tabled_language::{Fault, Script, parse};
+use tabled_steps::laws::steps_do_what_their_formulas_say;
+use tabled_table::builder::Builder;
 
 /// The output was written.
 const DONE: u8 = 0;
@@ -42,7 +46,7 @@ type Answer = Result<Vec<u8>, String>;
 pub fn run_script<R: Read, W: Write>(alloc: Global, reader: &mut R, writer: &mut W) -> u8
     ensures known { (result ≡ 0) ⊎ ((result ≡ 2) ⊎ ((result ≡ 3) ⊎ (result ≡ 4))) }
     ensures done { result ≡ 0 → IfSome (R.remaining reader.old) (λ input.
-        (script : Script) × (parse input ≡ Ok script) × Appends (W.contents writer.old) (W.contents writer.new) (output_of script)) }
+        (script : Meaning) × (parse input ≡ Ok script) × Appends (W.contents writer.old) (W.contents writer.new) (output_of script)) }
     ensures faulty { result ≡ 2 → IfSome (R.remaining reader.old) (λ input.
         (fault : ℕ × Fault) × (parse input ≡ Err fault) × Appends (W.contents writer.old) (W.contents writer.new) (fault_line fault)) }
     ensures memory { result ≡ 3 → Appends (W.contents writer.old) (W.contents writer.new) memory_line }
@@ -60,15 +64,26 @@ pub fn run_script<R: Read, W: Write>(alloc: Global, reader: &mut R, writer: &mut
 /// What answers a script.
 fn answer(alloc: Global, input: Vec<u8>) -> Result<Answer, AllocError>
     ensures { IfOk result (λ answer. MatchResult answer
-        (λ output. (script : Script) × (parse input.items ≡ Ok script) × (output.items ≡ output_of script))
+        (λ output. (script : Meaning) × (parse input.items ≡ Ok script) × (output.items ≡ output_of script))
         (λ line. (fault : ℕ × Fault) × (parse input.items ≡ Err fault) × (string_bytes line ≡ fault_line fault))) }
 {
     let script = parse(alloc, &input)?;
     drop(input);
     match script {
-        Ok(script) => Ok(Ok(script.output(alloc)?)),
+        Ok(script) => Ok(Ok(output(alloc, script)?)),
         Err(fault) => Ok(Err(fault_line(alloc, fault)?)),
     }
+}
+
+/// The table of a script's records after its steps, as it is written.
+fn output(alloc: Global, script: Script) -> Result<Vec<u8>, AllocError>
+    ensures { IfOk result (λ output. output.items ≡ output_of (script_in script.records.items script.steps.items)) }
+{
+    steps_do_what_their_formulas_say::<VecRecords<Text<String>>>();
+    let Script { records, steps } = script;
+    let mut table = Builder::from_cells(alloc, records)?.build(alloc)?;
+    table.with(alloc, steps)?;
+    print(alloc, table.get_records(), table.get_config())
 }
 
 /// The line that names a faulty line and its fault.

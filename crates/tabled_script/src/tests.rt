@@ -56,6 +56,14 @@ fn writes_tables(rt: HostRuntime) -> Result<(), Fail> {
             "shape\t2\t1\nrow\ta\r\nrow\tä\u{1f633}\n",
         ),
         ("row\ta\nset\tall\t\\\\t\n", "shape\t1\t1\nrow\t\\\\t\n"),
+        (
+            "row\ta\tb\nrow\tc\nset\tcell\t0\t1\tx\ncspan\t2\trow\t1\n",
+            "shape\t2\t2\nrow\ta\tx\nrow\tc\t\nspan\t1\t0\t1\t2\n",
+        ),
+        (
+            "row\t0\t1\t2\nrow\t1\t2\t3\nrow\t4\t5\t6\nvpanel\t1\tS\nheader\tN\nhpanel\t2\tx\n",
+            "shape\t4\t4\nrow\tN\t\t\t\nrow\t0\tS\t1\t2\nrow\t1\t\t2\t3\nrow\t4\t\t5\t6\nspan\t0\t0\t1\t4\nspan\t1\t1\t3\t1\n",
+        ),
     ] {
         let (status, written) = answer(rt.alloc(), script.as_bytes());
         assert_eq!(rt; status, 0, "at {script:?}");
@@ -127,7 +135,8 @@ fn names_the_first_fault(rt: HostRuntime) -> Result<(), Fail> {
         ("\t", "line 1: fault 1\n"),
         ("span\t0\t0\t1\t2", "line 1: fault 1\n"),
         ("shape\t0\t0", "line 1: fault 1\n"),
-        ("hmerge\n", "line 1: fault 1\n"),
+        ("hmerge\nrow\ta\n", "line 2: fault 6\n"),
+        ("row\ta\nconcat\tvertical\t-\t0\t2\n", "line 2: fault 3\n"),
         ("row\ta\nset\tsome\tx\n", "line 2: fault 1\n"),
         ("set", "line 1: fault 2\n"),
         ("set\tall", "line 1: fault 2\n"),
@@ -172,6 +181,21 @@ fn ends_well_where_a_script_is_cut(rt: HostRuntime) -> Result<(), Fail> {
         assert!(rt; status == 0 || status == 2, "cut at {end}");
         assert_eq!(rt; shown.starts_with(b"shape\t"), status == 0, "cut at {end}");
         assert_eq!(rt; shown.starts_with(b"line "), status == 2, "cut at {end}");
+    }
+    Ok(())
+}
+
+#[test]
+fn reads_64_selectors_in_each_other(rt: HostRuntime) -> Result<(), Fail> {
+    let alloc = rt.alloc();
+    for (many, status, output) in [
+        (63, 0, "shape\t1\t1\nrow\ta\n"),
+        (64, 2, "line 2: fault 5\n"),
+    ] {
+        let script = repeated(alloc, "row\ta\nset", "\tinverse", many, "\tall\tx\n")?;
+        let (ended, written) = answer(alloc, &script);
+        assert_eq!(rt; ended, status);
+        assert_eq!(rt; written.as_slice(), output.as_bytes());
     }
     Ok(())
 }

@@ -1,6 +1,8 @@
 //! What an outsider writes over the libraries: each public call, once, and what it answers.
 #![tactic(auto)]
 
+#[cfg(test)]
+mod alike;
 pub mod language;
 pub mod options;
 pub mod own_store;

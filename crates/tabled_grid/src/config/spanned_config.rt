@@ -157,6 +157,17 @@ impl SpannedConfig {
         }
     }
 
+    /// The anchors of all rectangles and the height and width of each, row by row.
+    ///
+    /// Of this project.
+    pub fn anchors(&self) -> &[(Position, (usize, usize))]
+        ensures anchors { result.now ≡ map.entries self.now }
+        ensures sizes { AreSpanSizes self.now }
+    {
+        self.keeps_sizes();
+        &self.anchors
+    }
+
     /// The anchors of rectangles wider than one column, and their widths, row by row.
     ///
     /// Ported from `tabled::grid::config::SpannedConfig::get_column_spans`.
@@ -313,13 +324,6 @@ impl SpannedConfig {
             }
             Err(_) => {}
         }
-    }
-
-    /// The anchors and their sizes, row by row.
-    pub(super) fn anchors(&self) -> &[Anchor]
-        ensures { result.now ≡ map.entries self.now }
-    {
-        &self.anchors
     }
 
     /// Shows that each anchor merges cells, and does nothing.

@@ -1,8 +1,7 @@
-use Rattle.std.proofs.Common.{◌≡◌, ◌∷◌, ◌++◌, take, map, codes}
+use Rattle.std.proofs.Common.{◌≡◌, ◌++◌, take}
 use Rattle.std.specs.List.{flat_map}
-use Rattle.std.specs.String.{string_bytes}
-use Rattle.tabled_script.specs.Output.{line}
+use Rattle.tabled_script.specs.Output.{span_line}
 use Rattle.tabled_script.proofs.output.print.Given as goal
 
-abbrev pub invariant-loop-i : goal.invariant-loop-i
-invariant-loop-i l = l.out.items ≡ l.initial.out.items ++ flat_map (λ row. line (codes "row" ∷ map string_bytes row)) (take l.i l.store.cells)
+abbrev pub invariant-loop-pos : goal.invariant-loop-pos
+invariant-loop-pos l = l.out.items ≡ l.initial.out.items ++ flat_map span_line (take l.pos-index l.pos-items)

@@ -15,8 +15,8 @@ loop-k-init c = hiders-none c.args.first c.args.rows c.args.columns c.in-Some.co
 pub loop-k-preserved : goal.loop-k-preserved
 loop-k-preserved c =
     let items : (with_items c.loop-k.hiders c.step_each.new.hiders).items ≡ c.step_each.new.hiders = grind (arith, common_steps) in
-    let up : T (is_sorted position_cmp c.anchors-anchors.result.now) = subst (λ es. T (is_sorted position_cmp es)) (sym c.anchors-anchors.ensures) (entries_sorted c.args.cfg.now) in
+    let up : T (is_sorted position_cmp c.anchors-anchors.result.now) = subst (λ es. T (is_sorted position_cmp es)) (sym c.anchors-anchors.ensures.anchors) (entries_sorted c.args.cfg.now) in
     items ∙ hiders-more c.anchors-anchors.result.now c.loop-k.k _ c.deref_mut.result.now c.step_each.new.hiders c.args.first c.args.rows c.args.columns up c.loop-k-test.true c.in-Some.ensures.fits c.step_each.ensures.steps (c.deref_mut.ensures.value ∙ c.loop-k.invariant)
 
 pub returns : goal.returns
-returns c = record { cover = ap (λ (xs : List ℕ). record { first = c.args.first; rows = c.args.rows; columns = c.args.columns; hiders = xs }) (c.loop-k.invariant ∙ ap (λ es. table (λ p. hiders_in es (beyond c.args.first p)) c.args.rows c.args.columns) (take_all c.loop-k.k c.anchors-anchors.result.now c.loop-k-test.false ∙ c.anchors-anchors.ensures)) }
+returns c = record { cover = ap (λ (xs : List ℕ). record { first = c.args.first; rows = c.args.rows; columns = c.args.columns; hiders = xs }) (c.loop-k.invariant ∙ ap (λ es. table (λ p. hiders_in es (beyond c.args.first p)) c.args.rows c.args.columns) (take_all c.loop-k.k c.anchors-anchors.result.now c.loop-k-test.false ∙ c.anchors-anchors.ensures.anchors)) }

@@ -3,5 +3,5 @@ use Rattle.std.specs.FinMap.{entries-from_sorted}
 use Rattle.tabled_grid.specs.Spans.{position_cmp}
 use Rattle.tabled_grid.proofs.config.spanned_config.SpannedConfig.anchors.Goals as goal
 
-pub returns : goal.returns
-returns c = rw (← c.self.view_is) (c.deref.ensures.value ∙ sym (entries-from_sorted position_cmp c.self.inside.anchors.items c.self.invariant.sorted))
+pub returns-clause-anchors : goal.returns-clause-anchors
+returns-clause-anchors c = rw (← c.self.view_is) (c.deref.ensures.value ∙ sym (entries-from_sorted position_cmp c.self.inside.anchors.items c.self.invariant.sorted))

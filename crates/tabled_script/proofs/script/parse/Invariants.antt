@@ -1,7 +1,0 @@
-use Rattle.std.proofs.Common.{map}
-use Rattle.tabled_script.specs.Line.{line_of, lines_of}
-use Rattle.tabled_script.proofs.ScriptLines.{HasRead}
-use Rattle.tabled_script.proofs.script.parse.Given as goal
-
-abbrev pub invariant-loop-line : goal.invariant-loop-line
-invariant-loop-line l = HasRead (map line_of (lines_of l.input)) (map line_of l.line-iterator) l.number l.script

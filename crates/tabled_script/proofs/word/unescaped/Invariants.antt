@@ -1,7 +1,0 @@
-use Rattle.std.proofs.Common.{◌≡◌, drop}
-use Rattle.tabled_script.specs.Word.{unescaped}
-use Rattle.tabled_script.proofs.Escapes.{all_before, pending}
-use Rattle.tabled_script.proofs.word.unescaped.Given as goal
-
-abbrev pub invariant-loop-byte : goal.invariant-loop-byte
-invariant-loop-byte l = all_before l.bytes.items (unescaped (pending l.behind_backslash (drop l.byte-index l.word))) ≡ unescaped l.word
