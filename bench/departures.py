@@ -1,8 +1,8 @@
 """Where the original crate is known to answer otherwise (docs/DIFFERENCES.md), step by step.
 
 Each departure has a name and a predicate on the table before the step, the step's words and both answers. Where another
-line says in the original's program what is meant here, the predicate gives that line: the original has to answer as ours
-does with it, and the comparison goes on behind it. Else what differs is said as narrowly as it can be.
+line says in the original's program what is meant here, the predicate gives that line. The original has to answer it as
+ours does, and the comparison goes on behind it. Else what differs is said as narrowly as it can be.
 """
 
 import unicodedata
@@ -104,7 +104,7 @@ def merge_with_spans(before, words, one, other):
 
 
 def panel_across(before, words, one):
-    """A panel asks columns 0 .. count, or rows 0 ..= count, alone: a merged cell that begins behind them doesn't stop it."""
+    """A panel asks columns 0 .. count, or rows 0 ..= count, alone: what begins behind them doesn't stop it."""
     crosswise = words[0] in (b"vpanel", b"vpanelw")
     state = before.transposed() if crosswise else before
     places = {b"header": 0, b"footer": state.rows}
@@ -140,7 +140,7 @@ def is_step(line):
 
 
 def step_departures(before, line, ours, run):
-    """The names of a step's departures, the line that stands for it, and whether it explains all; None for the names if not."""
+    """The names of a step's departures, or None; the line that stands for it; whether that says all."""
     names = []
     for _ in range(len(REWRITTEN) + 1):
         theirs = run(line)

@@ -4,26 +4,30 @@ import random
 
 # Texts of words, as they stand in a script. The short ones come often, so that texts are equal and found.
 SHORT = [b"a", b"a", b"b", b"b", b"c", b""]
-PLAIN = [b"", b"a", b"x y", b" ", b"row", b"set", b"all", b"cell", b"0", b"\r", b"a\r", b"\0", b"\x1f", b"\x7f", b"\xc2\x85",
-         "é".encode(), "漢字".encode(), "\U0001f600".encode(), "e\u0301".encode(), "\u200b".encode(), "\ufeff".encode()]
+PLAIN = [b"", b"a", b"x y", b" ", b"row", b"set", b"all", b"cell", b"0", b"\r", b"a\r", b"\0", b"\x1f", b"\x7f",
+         b"\xc2\x85", "é".encode(), "漢字".encode(), "\U0001f600".encode(), "e\u0301".encode(),
+         "\u200b".encode(), "\ufeff".encode()]
 ESCAPED = [b"\\t", b"\\n", b"\\\\", b"a\\tb", b"\\\\n", b"\\\\\\t", b"\\n\\n", b"a\\nb", "é\\té".encode()]
 BAD_ESCAPES = [b"\\", b"\\x", b"a\\", b"\\\\\\", b"\\T", b"\\\r", b"\\ ", "\\é".encode()]
 # Cut off, unfinished behind an escape, too long, a surrogate, beyond the last character.
 BAD_TEXTS = [b"\xff", b"\x80", b"a\xc3", b"\xc3\\t\xa9", b"\xc0\xaf", b"\xed\xa0\x80",
              b"\xf4\x90\x80\x80", b"\xe6\xbc", b"\xf0\x9f\x98", b"\xe9"]
-UNKNOWN_WORDS = [b"spin", b"", b"Row", b"row ", b" row", b"row\r", b"SET", b"set\r", b"shape", b"span", b"al", b"0", b"a",
-                 b"\\t", "é".encode(), b"first", b"first-row-plus", b"last", b"segments", b"step-by", b"panel", b"zip "]
-# Behind these no word is missing that isn't missing behind another word, too.
-KNOWN_WORDS = [b"row", b"set", b"cell", b"all", b"column", b"rows", b"columns", b"start", b"end", b"left", b"zip", b"concat",
-               b"clean", b"retain", b"vertical", b"horizontal", b"named", b"name", b"frame", b"and", b"step", b"tabs"]
+UNKNOWN_WORDS = [b"spin", b"", b"Row", b"row ", b" row", b"row\r", b"SET", b"set\r", b"shape", b"span", b"al", b"0",
+                 b"a", b"\\t", "é".encode(), b"first", b"first-row-plus", b"last", b"segments", b"step-by", b"panel",
+                 b"zip "]
+KNOWN_WORDS = [b"row", b"set", b"cell", b"all", b"column", b"rows", b"columns", b"start", b"end", b"left", b"zip",
+               b"concat", b"clean", b"retain", b"vertical", b"horizontal", b"named", b"name", b"frame", b"and", b"step",
+               b"tabs"]
 GOOD_NUMBERS = [b"00", b"01", b"0003", b"0000000000000000000000000000001", b"10000", b"9999", b"0000010000"]
 BAD_NUMBERS = [b"", b"+0", b"-0", b"+1", b"-1", b"+", b"-", b"--1", b"10001", b"010001", b"99999", b"4294967296",
                b"18446744073709551615", b"18446744073709551616", b"18446744073709551617", b"9" * 40, b"1x", b"x", b"1 ",
                b" 1", b"1\r", b"1.0", b"0x1", b"1e1", "١".encode(), b"\\t1", b"all"]
 GOOD_SIZES = [b"-0", b"00", b"-01", b"-10000", b"10000", b"-9999", b"0002", b"-0000000000000000000000000000000002"]
+SIZES = [-2, -1, 0, 1, 1, 2, 2, 2, 3, 3, 4]
 BAD_SIZES = [b"", b"-", b"--1", b"+1", b"-10001", b"10001", b"- 1", b"-x", b"1-", b"-1\r", b"-" + b"9" * 40]
 # What mutations put in: bytes that mean something.
-BYTES = [b"\t", b"\n", b"\\", b"\r", b"\0", b" ", b"+", b"-", b"0", b"1", b"9", b"t", b"n", b"x", b"\xff", b"\xc3", b"\xa9"]
+BYTES = [b"\t", b"\n", b"\\", b"\r", b"\0", b" ", b"+", b"-", b"0", b"1", b"9", b"t", b"n", b"x", b"\xff", b"\xc3",
+         b"\xa9"]
 
 # What can be wrong in a script.
 FLAWS = ["text", "number", "size", "selector", "word", "name", "missing", "extra", "order", "depth"]
@@ -69,7 +73,7 @@ class Scripts:
     def size(self):
         if self.faulty("size"):
             return self.one_of(BAD_SIZES)
-        return self.one_of(GOOD_SIZES) if self.below(12) == 0 else b"%d" % self.one_of([-2, -1, 0, 1, 1, 2, 2, 2, 3, 3, 4])
+        return self.one_of(GOOD_SIZES) if self.below(12) == 0 else b"%d" % self.one_of(SIZES)
 
     def word(self, *words):
         return self.one_of(UNKNOWN_WORDS + KNOWN_WORDS) if self.faulty("word") else self.one_of(words)
