@@ -4,6 +4,7 @@ import re
 import sys
 import unicodedata
 
+FIELD, CASE = "\x1f", "\x1e"  # what separates the parts of a case, and cases
 LONG = 80  # characters of a line that a picture shows whole
 GAP = "    gives    "
 
@@ -15,24 +16,19 @@ def cases_of(top):
     return {it.stem: (it.read_bytes().decode(), it.with_suffix(".table").read_bytes().decode()) for it in scripts}
 
 
-def literal(text):
-    """A text as it is written in code."""
+def escaped(text):
+    """A text as it is written in a literal."""
     plain = {"\t": "\\t", "\n": "\\n", "\r": "\\r", "\\": "\\\\", '"': '\\"'}
-    return '"' + "".join(plain.get(it) or (f"\\u{{{ord(it):x}}}" if ord(it) < 32 else it) for it in text) + '"'
-
-
-def case(name, script, output):
-    """A case in the layout of `rt fmt`."""
-    parts = [literal(it) for it in (name, script, output)]
-    line = ", ".join(parts)
-    return f"    ({line})," if len(line) <= 60 else "\n".join(["    (", *(f"        {it}," for it in parts), "    ),"])
+    return "".join(plain.get(it) or (f"\\u{{{ord(it):x}}}" if ord(it) < 32 else it) for it in text)
 
 
 def test_cases(top):
-    """The module of the cases that the tests of the gallery run."""
-    out = ["//! Scripts by name, each with what it prints. `docs/make` makes this file from examples/.", ""]
-    out += ["pub(super) const CASES: &[(&str, &str, &str)] = &["]
-    return "\n".join([*out, *(case(it, *both) for it, both in cases_of(top).items()), "];"]) + "\n"
+    """The module of the examples that the tests run: one text, since a list of many is slow to prove."""
+    out = ["//! The scripts of examples/ with what they print. `docs/make` makes this file.", ""]
+    out += ["/// A name, a script and its output, each behind U+001F, and the next name behind U+001E."]
+    out += ['pub(super) const EXAMPLES: &str = "\\']
+    cases = [FIELD.join([name, *both]) for name, both in cases_of(top).items()]
+    return "\n".join([*out, *(escaped(it + CASE) + "\\" for it in cases[:-1]), escaped(cases[-1]) + '";']) + "\n"
 
 
 def rows_of(lines):
