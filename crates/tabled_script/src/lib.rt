@@ -1,6 +1,8 @@
 //! The script program: tables made and changed by the lines of a script.
 #![tactic(auto)]
 
+#[cfg(test)]
+mod gallery;
 mod output;
 mod program;
 #[cfg(test)]

@@ -7,7 +7,7 @@ use std::io::{self, ErrorKind, Read, Write};
 use std::test::Fail;
 
 /// The status for a script, and what was written.
-fn answer(alloc: Global, script: &[u8]) -> (u8, Vec<u8>) {
+pub(crate) fn answer(alloc: Global, script: &[u8]) -> (u8, Vec<u8>) {
     let mut reader = script;
     let mut written = Vec::new(alloc);
     let status = run_script(alloc, &mut reader, &mut written);
@@ -316,55 +316,5 @@ fn writes_what_answers_a_script(rt: HostRuntime) -> Result<(), Fail> {
         assert_eq!(rt; write_answer(&mut written, answer), status);
         assert_eq!(rt; written.as_slice(), bytes.as_bytes());
     }
-    Ok(())
-}
-
-/// The report of examples/sales.script, and its table of examples/sales.table.
-const SALES: (&str, &str) = (
-    "\
-row\tRegion\tMonth\tUnits\tRevenue\n\
-row\tNorth\tJanuary\t120\t2400\n\
-row\tNorth\tFebruary\t98\t1960\n\
-row\tNorth\tMarch\t143\t2860\n\
-row\tSouth\tJanuary\t87\t1740\n\
-row\tSouth\tFebruary\t101\n\
-row\tSouth\tMarch\t95\t1900\n\
-row\tEast\tJanuary\t64\t1280\n\
-row\tEast\tFebruary\t71\t1420\n\
-row\tEast\tMarch\t80\t1600\n\
-row\tWest\tJanuary\t132\t2640\n\
-row\tWest\tFebruary\t127\t2540\n\
-row\tWest\tMarch\t119\t2380\n\
-row\tTotal\n\
-\n\
-set\tcell\t5\t3\t2020\n\
-set\tcell\t13\t2\t1237\n\
-set\tcell\t13\t3\t24740\n\
-set\tcell\t13\t1\tJanuary to March\n\
-",
-    "\
-shape\t14\t4\n\
-row\tRegion\tMonth\tUnits\tRevenue\n\
-row\tNorth\tJanuary\t120\t2400\n\
-row\tNorth\tFebruary\t98\t1960\n\
-row\tNorth\tMarch\t143\t2860\n\
-row\tSouth\tJanuary\t87\t1740\n\
-row\tSouth\tFebruary\t101\t2020\n\
-row\tSouth\tMarch\t95\t1900\n\
-row\tEast\tJanuary\t64\t1280\n\
-row\tEast\tFebruary\t71\t1420\n\
-row\tEast\tMarch\t80\t1600\n\
-row\tWest\tJanuary\t132\t2640\n\
-row\tWest\tFebruary\t127\t2540\n\
-row\tWest\tMarch\t119\t2380\n\
-row\tTotal\tJanuary to March\t1237\t24740\n\
-",
-);
-
-#[test]
-fn writes_the_report_of_the_examples(rt: HostRuntime) -> Result<(), Fail> {
-    let (status, written) = answer(rt.alloc(), SALES.0.as_bytes());
-    assert_eq!(rt; status, 0);
-    assert_eq!(rt; written.as_slice(), SALES.1.as_bytes());
     Ok(())
 }

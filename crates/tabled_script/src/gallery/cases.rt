@@ -1,0 +1,66 @@
+//! The scripts of examples/ with what they print. `docs/make` makes this file.
+
+/// A name, a script and its output, each behind U+001F, and the next name behind U+001E.
+pub(super) const EXAMPLES: &str = "\
+clean\u{1f}row\tName\tTown\nrow\tAda\\t\tLon\u{7}don\r\nclean\tall\n\u{1f}shape\t2\t2\nrow\tName\tTown\nrow\tAda\tLondon\n\u{1e}\
+concat-horizontal\u{1f}row\tApple\nrow\tPear\nconcat\thorizontal\t-\t3\t1\t3\t5\t8\n\u{1f}shape\t3\t2\nrow\tApple\t3\nrow\tPear\t5\nrow\t-\t8\n\u{1e}\
+concat-vertical\u{1f}row\tApple\t3\nrow\tPear\t5\nconcat\tvertical\t-\t1\t3\tPlum\t8\tblue\n\u{1f}shape\t3\t3\nrow\tApple\t3\t-\nrow\tPear\t5\t-\nrow\tPlum\t8\tblue\n\u{1e}\
+cspan\u{1f}row\t2025\t\nrow\tSpring\tAutumn\nrow\t120\t98\ncspan\t2\tcell\t0\t0\n\u{1f}shape\t3\t2\nrow\t2025\t\nrow\tSpring\tAutumn\nrow\t120\t98\nspan\t0\t0\t1\t2\n\u{1e}\
+cspan-below\u{1f}row\tName\t\t\nrow\tAda\tKing\tLondon\ncspan\t-2\tcell\t1\t2\n\u{1f}shape\t2\t3\nrow\tName\t\t\nrow\tLondon\t\t\nspan\t1\t0\t1\t3\n\u{1e}\
+cspan-zero\u{1f}row\tAda\t1\t2\nrow\tBen\t\till\ncspan\t0\tcell\t1\t2\n\u{1f}shape\t2\t3\nrow\tAda\t1\t2\nrow\till\t\t\nspan\t1\t0\t1\t3\n\u{1e}\
+dup\u{1f}row\tDay\tDish\nrow\tMonday\tSoup\nrow\tFriday\t\ndup\tcell\t2\t1\tcell\t1\t1\n\u{1f}shape\t3\t2\nrow\tDay\tDish\nrow\tMonday\tSoup\nrow\tFriday\tSoup\n\u{1e}\
+extract\u{1f}row\tName\tMaths\tMusic\tArt\nrow\tAda\t1\t2\t1\nrow\tBen\t3\t1\t2\nrow\tEva\t2\t3\t1\nextract\t1\t3\t0\t2\n\u{1f}shape\t2\t2\nrow\tAda\t1\nrow\tBen\t3\n\u{1e}\
+fault-1\u{1f}row\tApple\t3\nhide\trow\t0\n\u{1f}line 2: fault 1\n\u{1e}\
+fault-2\u{1f}row\tApple\t3\nset\tcell\t0\t1\n\u{1f}line 2: fault 2\n\u{1e}\
+fault-3\u{1f}row\tApple\t3\nset\trow\tfirst\tsold\n\u{1f}line 2: fault 3\n\u{1e}\
+fault-4\u{1f}row\tFile\nrow\tC:\\users\n\u{1f}line 2: fault 4\n\u{1e}\
+fault-5\u{1f}row\tApple\t3\nset\tinverse\tinverse\tinverse\tinverse\tinverse\tinverse\tinverse\tinverse\tinverse\tinverse\tinverse\tinverse\tinverse\tinverse\tinverse\tinverse\tinverse\tinverse\tinverse\tinverse\tinverse\tinverse\tinverse\tinverse\tinverse\tinverse\tinverse\tinverse\tinverse\tinverse\tinverse\tinverse\tinverse\tinverse\tinverse\tinverse\tinverse\tinverse\tinverse\tinverse\tinverse\tinverse\tinverse\tinverse\tinverse\tinverse\tinverse\tinverse\tinverse\tinverse\tinverse\tinverse\tinverse\tinverse\tinverse\tinverse\tinverse\tinverse\tinverse\tinverse\tinverse\tinverse\tinverse\tinverse\tall\tsold\n\u{1f}line 2: fault 5\n\u{1e}\
+fault-6\u{1f}row\tApple\t3\nset\tall\t-\nrow\tPear\t5\n\u{1f}line 3: fault 6\n\u{1e}\
+footer\u{1f}row\tApple\t3\nrow\tPear\t5\nfooter\t8 kilos\n\u{1f}shape\t3\t2\nrow\tApple\t3\nrow\tPear\t5\nrow\t8 kilos\t\nspan\t2\t0\t1\t2\n\u{1e}\
+header\u{1f}row\tApple\t3\nrow\tPear\t5\nheader\tFruit\n\u{1f}shape\t3\t2\nrow\tFruit\t\nrow\tApple\t3\nrow\tPear\t5\nspan\t0\t0\t1\t2\n\u{1e}\
+hmerge\u{1f}row\tName\tMaths\tMusic\tArt\nrow\tAda\till\till\t1\nrow\tBen\t2\t2\t2\nhmerge\n\u{1f}shape\t3\t4\nrow\tName\tMaths\tMusic\tArt\nrow\tAda\till\till\t1\nrow\tBen\t2\t2\t2\nspan\t1\t1\t1\t2\nspan\t2\t1\t1\t3\n\u{1e}\
+hpanel\u{1f}row\tApple\t3\nrow\tPear\t5\nrow\tCarrot\t4\nhpanel\t2\tVegetables\n\u{1f}shape\t4\t2\nrow\tApple\t3\nrow\tPear\t5\nrow\tVegetables\t\nrow\tCarrot\t4\nspan\t2\t0\t1\t2\n\u{1e}\
+months\u{1f}row\tRegion\tMonth\tUnits\nrow\tNorth\tJanuary\t120\nrow\tNorth\tFebruary\t98\nrow\tSouth\tJanuary\t87\nrow\tSouth\tFebruary\t101\n\nset\tintersect\tname\tUnits\tcontent\t120\t120 (best)\nvmerge\nheader\tSales of two months\nfooter\t406 units\n\u{1f}shape\t7\t3\nrow\tSales of two months\t\t\nrow\tRegion\tMonth\tUnits\nrow\tNorth\tJanuary\t120 (best)\nrow\tNorth\tFebruary\t98\nrow\tSouth\tJanuary\t87\nrow\tSouth\tFebruary\t101\nrow\t406 units\t\t\nspan\t0\t0\t1\t3\nspan\t2\t0\t2\t1\nspan\t4\t0\t2\t1\nspan\t6\t0\t1\t3\n\u{1e}\
+remove-columns\u{1f}row\tName\tMaths\tMusic\tArt\nrow\tAda\t1\t2\t1\nrow\tBen\t3\t1\t2\nremove\tcolumns\t1\t2\n\u{1f}shape\t3\t3\nrow\tName\tMusic\tArt\nrow\tAda\t2\t1\nrow\tBen\t1\t2\n\u{1e}\
+remove-named\u{1f}row\tName\tMaths\tMusic\tArt\nrow\tAda\t1\t2\t1\nrow\tBen\t3\t1\t2\nremove\tnamed\tMusic\n\u{1f}shape\t3\t3\nrow\tName\tMaths\tArt\nrow\tAda\t1\t1\nrow\tBen\t3\t2\n\u{1e}\
+remove-rows\u{1f}row\tFruit\tKilos\nrow\tApple\t3\nrow\tPear\t5\nrow\tPlum\t8\nremove\trows\t1\t3\n\u{1f}shape\t2\t2\nrow\tFruit\tKilos\nrow\tPlum\t8\n\u{1e}\
+reverse-columns\u{1f}row\tName\tMaths\tMusic\tArt\nrow\tAda\t1\t2\t1\nrow\tBen\t3\t1\t2\nreverse\tcolumns\t1\tstart\t2\n\u{1f}shape\t3\t4\nrow\tName\tMusic\tMaths\tArt\nrow\tAda\t2\t1\t1\nrow\tBen\t1\t3\t2\n\u{1e}\
+reverse-rows\u{1f}row\tFruit\tKilos\nrow\tApple\t3\nrow\tPear\t5\nrow\tPlum\t8\nreverse\trows\t1\tend\t0\n\u{1f}shape\t4\t2\nrow\tFruit\tKilos\nrow\tPlum\t8\nrow\tPear\t5\nrow\tApple\t3\n\u{1e}\
+rotate-bottom\u{1f}row\tFruit\tKilos\tPrice\nrow\tApple\t3\t2.10\nrow\tPear\t5\t3.40\nrotate\tbottom\n\u{1f}shape\t3\t3\nrow\tPear\t5\t3.40\nrow\tApple\t3\t2.10\nrow\tFruit\tKilos\tPrice\n\u{1e}\
+rotate-left\u{1f}row\tFruit\tKilos\tPrice\nrow\tApple\t3\t2.10\nrow\tPear\t5\t3.40\nrotate\tleft\n\u{1f}shape\t3\t3\nrow\tPrice\t2.10\t3.40\nrow\tKilos\t3\t5\nrow\tFruit\tApple\tPear\n\u{1e}\
+rotate-right\u{1f}row\tFruit\tKilos\tPrice\nrow\tApple\t3\t2.10\nrow\tPear\t5\t3.40\nrotate\tright\n\u{1f}shape\t3\t3\nrow\tPear\tApple\tFruit\nrow\t5\t3\tKilos\nrow\t3.40\t2.10\tPrice\n\u{1e}\
+rotate-top\u{1f}row\tFruit\tKilos\tPrice\nrow\tApple\t3\t2.10\nrow\tPear\t5\t3.40\nrotate\ttop\n\u{1f}shape\t3\t3\nrow\tPear\t5\t3.40\nrow\tApple\t3\t2.10\nrow\tFruit\tKilos\tPrice\n\u{1e}\
+row\u{1f}row\tFruit\tKilos\nrow\tApple\t3\nrow\tPear\n\u{1f}shape\t3\t2\nrow\tFruit\tKilos\nrow\tApple\t3\nrow\tPear\t\n\u{1e}\
+rspan\u{1f}row\tNorth\tJanuary\t120\nrow\t\tFebruary\t98\nrow\tSouth\tJanuary\t87\nrspan\t2\tcell\t0\t0\n\u{1f}shape\t3\t3\nrow\tNorth\tJanuary\t120\nrow\t\tFebruary\t98\nrow\tSouth\tJanuary\t87\nspan\t0\t0\t2\t1\n\u{1e}\
+sales\u{1f}row\tRegion\tMonth\tUnits\tRevenue\nrow\tNorth\tJanuary\t120\t2400\nrow\tNorth\tFebruary\t98\t1960\nrow\tNorth\tMarch\t143\t2860\nrow\tSouth\tJanuary\t87\t1740\nrow\tSouth\tFebruary\t101\nrow\tSouth\tMarch\t95\t1900\nrow\tEast\tJanuary\t64\t1280\nrow\tEast\tFebruary\t71\t1420\nrow\tEast\tMarch\t80\t1600\nrow\tWest\tJanuary\t132\t2640\nrow\tWest\tFebruary\t127\t2540\nrow\tWest\tMarch\t119\t2380\nrow\tTotal\n\nset\tcell\t5\t3\t2020\nset\tcell\t13\t2\t1237\nset\tcell\t13\t3\t24740\nset\tcell\t13\t1\tJanuary to March\n\u{1f}shape\t14\t4\nrow\tRegion\tMonth\tUnits\tRevenue\nrow\tNorth\tJanuary\t120\t2400\nrow\tNorth\tFebruary\t98\t1960\nrow\tNorth\tMarch\t143\t2860\nrow\tSouth\tJanuary\t87\t1740\nrow\tSouth\tFebruary\t101\t2020\nrow\tSouth\tMarch\t95\t1900\nrow\tEast\tJanuary\t64\t1280\nrow\tEast\tFebruary\t71\t1420\nrow\tEast\tMarch\t80\t1600\nrow\tWest\tJanuary\t132\t2640\nrow\tWest\tFebruary\t127\t2540\nrow\tWest\tMarch\t119\t2380\nrow\tTotal\tJanuary to March\t1237\t24740\n\u{1e}\
+select-all\u{1f}row\tFruit\tKilos\nrow\tApple\t3\nset\tall\t-\n\u{1f}shape\t2\t2\nrow\t-\t-\nrow\t-\t-\n\u{1e}\
+select-and\u{1f}row\tName\tMaths\tMusic\tArt\nrow\tAda\t1\t2\t1\nrow\tBen\t3\t1\t2\nrow\tEva\t2\t3\t1\nset\tand\tfirst-row\tfirst-column\t#\n\u{1f}shape\t4\t4\nrow\t#\t#\t#\t#\nrow\t#\t1\t2\t1\nrow\t#\t3\t1\t2\nrow\t#\t2\t3\t1\n\u{1e}\
+select-cell\u{1f}row\tFruit\tKilos\tPrice\nrow\tApple\t3\t2.10\nrow\tPear\t5\t3.40\nset\tcell\t1\t2\t2.30\n\u{1f}shape\t3\t3\nrow\tFruit\tKilos\tPrice\nrow\tApple\t3\t2.30\nrow\tPear\t5\t3.40\n\u{1e}\
+select-column\u{1f}row\tFruit\tKilos\tPrice\nrow\tApple\t3\t2.10\nrow\tPear\t5\t3.40\nset\tcolumn\t1\t?\n\u{1f}shape\t3\t3\nrow\tFruit\t?\tPrice\nrow\tApple\t?\t2.10\nrow\tPear\t?\t3.40\n\u{1e}\
+select-columns\u{1f}row\tName\tMaths\tMusic\tArt\nrow\tAda\t1\t2\t1\nrow\tBen\t3\t1\t2\nrow\tEva\t2\t3\t1\nset\tcolumns\t1\t3\t-\n\u{1f}shape\t4\t4\nrow\tName\t-\t-\tArt\nrow\tAda\t-\t-\t1\nrow\tBen\t-\t-\t2\nrow\tEva\t-\t-\t1\n\u{1e}\
+select-content\u{1f}row\tName\tMaths\tMusic\tArt\nrow\tAda\t1\t2\t1\nrow\tBen\t3\t1\t2\nrow\tEva\t2\t3\t1\nset\tcontent\t1\tbest\n\u{1f}shape\t4\t4\nrow\tName\tMaths\tMusic\tArt\nrow\tAda\tbest\t2\tbest\nrow\tBen\t3\tbest\t2\nrow\tEva\t2\t3\tbest\n\u{1e}\
+select-first-column\u{1f}row\tFruit\tKilos\tPrice\nrow\tApple\t3\t2.10\nrow\tPear\t5\t3.40\nset\tfirst-column\t-\n\u{1f}shape\t3\t3\nrow\t-\tKilos\tPrice\nrow\t-\t3\t2.10\nrow\t-\t5\t3.40\n\u{1e}\
+select-first-row\u{1f}row\tFruit\tKilos\tPrice\nrow\tApple\t3\t2.10\nrow\tPear\t5\t3.40\nset\tfirst-row\t-\n\u{1f}shape\t3\t3\nrow\t-\t-\t-\nrow\tApple\t3\t2.10\nrow\tPear\t5\t3.40\n\u{1e}\
+select-frame\u{1f}row\tName\tMaths\tMusic\tArt\nrow\tAda\t1\t2\t1\nrow\tBen\t3\t1\t2\nrow\tEva\t2\t3\t1\nset\tframe\t#\n\u{1f}shape\t4\t4\nrow\t#\t#\t#\t#\nrow\t#\t1\t2\t#\nrow\t#\t3\t1\t#\nrow\t#\t#\t#\t#\n\u{1e}\
+select-intersect\u{1f}row\tName\tMaths\tMusic\tArt\nrow\tAda\t1\t2\t1\nrow\tBen\t3\t1\t2\nrow\tEva\t2\t3\t1\nset\tintersect\trow\t2\tcolumns\t1\t3\t-\n\u{1f}shape\t4\t4\nrow\tName\tMaths\tMusic\tArt\nrow\tAda\t1\t2\t1\nrow\tBen\t-\t-\t2\nrow\tEva\t2\t3\t1\n\u{1e}\
+select-inverse\u{1f}row\tName\tMaths\tMusic\tArt\nrow\tAda\t1\t2\t1\nrow\tBen\t3\t1\t2\nrow\tEva\t2\t3\t1\nset\tinverse\tand\tfirst-row\tfirst-column\t-\n\u{1f}shape\t4\t4\nrow\tName\tMaths\tMusic\tArt\nrow\tAda\t-\t-\t-\nrow\tBen\t-\t-\t-\nrow\tEva\t-\t-\t-\n\u{1e}\
+select-last-column\u{1f}row\tFruit\tKilos\tPrice\nrow\tApple\t3\t2.10\nrow\tPear\t5\t3.40\nset\tlast-column\t?\n\u{1f}shape\t3\t3\nrow\tFruit\tKilos\t?\nrow\tApple\t3\t?\nrow\tPear\t5\t?\n\u{1e}\
+select-last-column-minus\u{1f}row\tFruit\tKilos\tPrice\nrow\tApple\t3\t2.10\nrow\tPear\t5\t3.40\nset\tlast-column-minus\t1\t?\n\u{1f}shape\t3\t3\nrow\tFruit\t?\tPrice\nrow\tApple\t?\t2.10\nrow\tPear\t?\t3.40\n\u{1e}\
+select-last-column-plus\u{1f}row\tFruit\tKilos\tPrice\nrow\tApple\t3\t2.10\nrow\tPear\t5\t3.40\nset\tlast-column-plus\t0\t?\nset\tlast-column-plus\t1\tgone\n\u{1f}shape\t3\t3\nrow\tFruit\tKilos\t?\nrow\tApple\t3\t?\nrow\tPear\t5\t?\n\u{1e}\
+select-last-row\u{1f}row\tFruit\tKilos\tPrice\nrow\tApple\t3\t2.10\nrow\tPear\t5\t3.40\nset\tlast-row\tsold\n\u{1f}shape\t3\t3\nrow\tFruit\tKilos\tPrice\nrow\tApple\t3\t2.10\nrow\tsold\tsold\tsold\n\u{1e}\
+select-last-row-minus\u{1f}row\tFruit\tKilos\tPrice\nrow\tApple\t3\t2.10\nrow\tPear\t5\t3.40\nset\tlast-row-minus\t1\tsold\n\u{1f}shape\t3\t3\nrow\tFruit\tKilos\tPrice\nrow\tsold\tsold\tsold\nrow\tPear\t5\t3.40\n\u{1e}\
+select-last-row-plus\u{1f}row\tFruit\tKilos\tPrice\nrow\tApple\t3\t2.10\nrow\tPear\t5\t3.40\nset\tlast-row-plus\t0\tsold\nset\tlast-row-plus\t1\tgone\n\u{1f}shape\t3\t3\nrow\tFruit\tKilos\tPrice\nrow\tApple\t3\t2.10\nrow\tsold\tsold\tsold\n\u{1e}\
+select-name\u{1f}row\tName\tMaths\tMusic\tArt\nrow\tAda\t1\t2\t1\nrow\tBen\t3\t1\t2\nrow\tEva\t2\t3\t1\nset\tname\tMusic\t-\n\u{1f}shape\t4\t4\nrow\tName\tMaths\t-\tArt\nrow\tAda\t1\t-\t1\nrow\tBen\t3\t-\t2\nrow\tEva\t2\t-\t1\n\u{1e}\
+select-not\u{1f}row\tName\tMaths\tMusic\tArt\nrow\tAda\t1\t2\t1\nrow\tBen\t3\t1\t2\nrow\tEva\t2\t3\t1\nset\tnot\tcolumn\t1\tfirst-row\t-\n\u{1f}shape\t4\t4\nrow\tName\tMaths\tMusic\tArt\nrow\tAda\t-\t2\t1\nrow\tBen\t-\t1\t2\nrow\tEva\t-\t3\t1\n\u{1e}\
+select-row\u{1f}row\tFruit\tKilos\tPrice\nrow\tApple\t3\t2.10\nrow\tPear\t5\t3.40\nset\trow\t1\tsold\n\u{1f}shape\t3\t3\nrow\tFruit\tKilos\tPrice\nrow\tsold\tsold\tsold\nrow\tPear\t5\t3.40\n\u{1e}\
+select-rows\u{1f}row\tFruit\tKilos\nrow\tApple\t3\nrow\tPear\t5\nrow\tPlum\t8\nset\trows\t1\t3\tsold\n\u{1f}shape\t4\t2\nrow\tFruit\tKilos\nrow\tsold\tsold\nrow\tsold\tsold\nrow\tPlum\t8\n\u{1e}\
+select-segment\u{1f}row\tName\tMaths\tMusic\tArt\nrow\tAda\t1\t2\t1\nrow\tBen\t3\t1\t2\nrow\tEva\t2\t3\t1\nset\tsegment\t1\t3\t1\t4\t-\n\u{1f}shape\t4\t4\nrow\tName\tMaths\tMusic\tArt\nrow\tAda\t-\t-\t-\nrow\tBen\t-\t-\t-\nrow\tEva\t2\t3\t1\n\u{1e}\
+select-skip\u{1f}row\tName\tMaths\tMusic\tArt\nrow\tAda\t1\t2\t1\nrow\tBen\t3\t1\t2\nrow\tEva\t2\t3\t1\nset\tskip\t2\tcontent\t1\tbest\n\u{1f}shape\t4\t4\nrow\tName\tMaths\tMusic\tArt\nrow\tAda\t1\t2\t1\nrow\tBen\t3\tbest\t2\nrow\tEva\t2\t3\tbest\n\u{1e}\
+select-step\u{1f}row\tName\tMaths\tMusic\tArt\nrow\tAda\t1\t2\t1\nrow\tBen\t3\t1\t2\nrow\tEva\t2\t3\t1\nset\tstep\t2\trows\t0\t4\t-\n\u{1f}shape\t4\t4\nrow\t-\t-\t-\t-\nrow\tAda\t1\t2\t1\nrow\t-\t-\t-\t-\nrow\tEva\t2\t3\t1\n\u{1e}\
+set\u{1f}row\tFruit\tKilos\nrow\tApple\t3\nrow\tPear\nset\tcell\t2\t1\t5\n\u{1f}shape\t3\t2\nrow\tFruit\tKilos\nrow\tApple\t3\nrow\tPear\t5\n\u{1e}\
+split-column\u{1f}row\tApple\t3\tPear\t5\nrow\tPlum\t8\nsplit\tcolumn\t2\tconcat\tclean\n\u{1f}shape\t3\t2\nrow\tApple\t3\nrow\tPlum\t8\nrow\tPear\t5\n\u{1e}\
+split-row\u{1f}row\tApple\t3\nrow\tPear\t5\nrow\tPlum\t8\nsplit\trow\t2\tzip\tretain\n\u{1f}shape\t2\t4\nrow\tApple\tPlum\t3\t8\nrow\tPear\t\t5\t\n\u{1e}\
+tabs\u{1f}row\tName\tTown\nrow\tAda\\tKing\tLondon\ntabs\t2\tall\n\u{1f}shape\t2\t2\nrow\tName\tTown\nrow\tAda  King\tLondon\n\u{1e}\
+vmerge\u{1f}row\tNorth\tJanuary\nrow\tNorth\tFebruary\nrow\tSouth\tFebruary\nvmerge\n\u{1f}shape\t3\t2\nrow\tNorth\tJanuary\nrow\tNorth\tFebruary\nrow\tSouth\tFebruary\nspan\t0\t0\t2\t1\nspan\t1\t1\t2\t1\n\u{1e}\
+vpanel\u{1f}row\tAda\tLondon\nrow\tBen\tOxford\nvpanel\t0\tEngland\n\u{1f}shape\t2\t3\nrow\tEngland\tAda\tLondon\nrow\t\tBen\tOxford\nspan\t0\t0\t2\t1\n\u{1e}\
+vpanelw\u{1f}row\tAda\tLondon\nrow\tBen\tOxford\nvpanelw\t0\t4\tEngland\n\u{1f}shape\t2\t3\nrow\tEngl\\nand\tAda\tLondon\nrow\t\tBen\tOxford\nspan\t0\t0\t2\t1\n";
