@@ -28,6 +28,13 @@ use tabled_grid::records::{
 use tabled_options::{CellOption, MergedCellsFit, Property, TableOption};
 use tabled_select::object::Object;
 
+pub use tabled_spans::laws::{
+    exactly_the_runs_are_merged, footers_keep_merged_cells_fitting,
+    headers_keep_merged_cells_fitting, horizontal_panels_keep_merged_cells_fitting,
+    merged_twice_is_merged_once, merges_keep_merged_cells_fitting, spans_along_lines_fit,
+    spans_fit_midway, spans_of_size_1_or_more_fit, vertical_panels_keep_merged_cells_fitting,
+};
+
 /// A table with a row and a column that is turned to the left and then to the right is as it was.
 pub fn left_then_right_is_as_it_was<R: GridStore>(_old: &R, _turned: &R, _new: &R)
 where
