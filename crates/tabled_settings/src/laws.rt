@@ -27,7 +27,6 @@ use tabled_grid::records::{
 };
 use tabled_options::{CellOption, MergedCellsFit, Property, TableOption};
 use tabled_select::object::Object;
-
 pub use tabled_spans::laws::{
     exactly_the_runs_are_merged, footers_keep_merged_cells_fitting,
     headers_keep_merged_cells_fitting, horizontal_panels_keep_merged_cells_fitting,

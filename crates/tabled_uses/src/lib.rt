@@ -3,6 +3,8 @@
 
 #[cfg(test)]
 mod alike;
+#[cfg(test)]
+mod faults;
 pub mod geometry;
 pub mod language;
 pub mod options;

@@ -1,0 +1,115 @@
+//! Each fault of each word of the language.
+
+use std::alloc::{AllocError, Global};
+use std::test::Fail;
+use tabled_language::parse;
+
+/// Says whether a script's first faulty line is one of a number, with a fault of a number. No line is 0.
+fn is_faulty(alloc: Global, script: &str, line: usize, fault: u8) -> Result<bool, AllocError> {
+    match parse(alloc, script.as_bytes())? {
+        Ok(_) => Ok(line == 0),
+        Err((at, what)) => Ok(at == line && what.number() == fault),
+    }
+}
+
+#[test]
+fn each_line_may_be_too_long_or_too_short_or_have_a_bad_escape(
+    rt: HostRuntime,
+) -> Result<(), Fail> {
+    let alloc = rt.alloc();
+    // A line of each verb of a step.
+    for step in [
+        "set\tall\tx",
+        "dup\tall\trow\t0",
+        "clean\tall",
+        "tabs\t4\tall",
+        "cspan\t2\tall",
+        "rspan\t-2\tall",
+        "hpanel\t0\tx",
+        "vpanel\t0\tx",
+        "vpanelw\t0\t2\tx",
+        "header\tx",
+        "footer\tx",
+        "vmerge",
+        "hmerge",
+        "rotate\tleft",
+        "reverse\trows\t0\tstart\t1",
+        "split\tcolumn\t2\tzip\tclean",
+        "extract\t0\t1\t0\t1",
+        "remove\trows\t0\t1",
+        "remove\tcolumns\t0\t1",
+        "remove\tnamed\tx",
+        "concat\tvertical\t-\t1\t1\tx",
+        "set\tcell\t0\t1\tx",
+        "set\tsegment\t0\t1\t0\t1\tx",
+        "set\tcontent\ta\tx",
+        "set\tand\tall\tframe\tx",
+        "set\tinverse\tlast-row\tx",
+        "set\tskip\t1\tcolumns\t0\t1\tx",
+    ] {
+        assert!(&rt; is_faulty(alloc, step, 0, 0)?, "{step:?}");
+        let longer = format!(in alloc; "row\ta\n{step}\tx")?;
+        assert!(&rt; is_faulty(alloc, longer.as_str(), 2, 2)?, "{step:?}");
+        let escaped = format!(in alloc; "\n{step}\\q")?;
+        assert!(&rt; is_faulty(alloc, escaped.as_str(), 2, 4)?, "{step:?}");
+        let followed = format!(in alloc; "{step}\n\nrow\ta\n")?;
+        assert!(&rt; is_faulty(alloc, followed.as_str(), 3, 6)?, "{step:?}");
+        if let Some((shorter, _)) = step.rsplit_once('\t') {
+            assert!(&rt; is_faulty(alloc, shorter, 1, 2)?, "{step:?}");
+        }
+    }
+    Ok(())
+}
+
+#[test]
+fn each_word_may_be_unknown_or_no_number(rt: HostRuntime) -> Result<(), Fail> {
+    let alloc = rt.alloc();
+    for (line, number) in [
+        ("sett\tall\tx", 1),
+        ("dup\tall\tsome", 1),
+        ("dup\trow\tx\tall", 3),
+        ("clean\trow\t10001", 3),
+        ("tabs\tx\tall", 3),
+        ("tabs\t4\tsome", 1),
+        ("cspan\t+2\tall", 3),
+        ("cspan\t10001\tall", 3),
+        ("rspan\t-10001\tall", 3),
+        ("rspan\t--2\tall", 3),
+        ("hpanel\tx\tx", 3),
+        ("vpanel\t-1\tx", 3),
+        ("vpanelw\t0\tx\tx", 3),
+        ("rotate\tup", 1),
+        ("reverse\tcells\t0\tstart\t1", 1),
+        ("reverse\trows\tx\tstart\t1", 3),
+        ("reverse\trows\t0\tmiddle\t1", 1),
+        ("reverse\trows\t0\tend\tx", 3),
+        ("split\tcell\t2\tzip\tclean", 1),
+        ("split\tcolumn\tx\tzip\tclean", 3),
+        ("split\tcolumn\t2\tzap\tclean", 1),
+        ("split\trow\t2\tconcat\tkeep", 1),
+        ("extract\t0\t1\t0\tx", 3),
+        ("remove\tcells\t0\t1", 1),
+        ("remove\trows\t0\tx", 3),
+        ("remove\tcolumns\tx\t1", 3),
+        ("concat\tup\t-\t1\t1\tx", 1),
+        ("concat\tvertical\t-\t0\t1\tx", 3),
+        ("concat\thorizontal\t-\t1\t0\tx", 3),
+        ("set\tcolumn\tx\tx", 3),
+        ("set\tlast-row-minus\tx\tx", 3),
+        ("set\tlast-row-plus\tx\tx", 3),
+        ("set\tlast-column-minus\tx\tx", 3),
+        ("set\tlast-column-plus\tx\tx", 3),
+        ("set\trows\t0\tx\tx", 3),
+        ("set\tcolumns\tx\t1\tx", 3),
+        ("set\tsegment\t0\t1\t0\tx\tx", 3),
+        ("set\tand\tall\tsome\tx", 1),
+        ("set\tnot\tsome\tall\tx", 1),
+        ("set\tintersect\tall\tsome\tx", 1),
+        ("set\tinverse\tsome\tx", 1),
+        ("set\tskip\tx\tall\tx", 3),
+        ("set\tstep\t1\tsome\tx", 1),
+    ] {
+        assert!(&rt; is_faulty(alloc, line, 1, number)?, "{line:?}");
+    }
+    Ok(())
+}
