@@ -12,7 +12,8 @@ use tabled_steps::run;
 /// A store's texts, row by row, `_` for an empty one, and then each merged rectangle's place and size.
 fn shown<R>(alloc: Global, records: &R, cfg: &SpannedConfig) -> Result<String, Fail>
 where
-    R: Records + ExactRecords + PeekableRecords + Resizable,
+    R: Records + ExactRecords + PeekableRecords,
+    R::Cell: CellText,
     requires { R.is_well_formed records.now }
 {
     let mut out = String::new(alloc);
