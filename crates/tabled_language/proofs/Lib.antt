@@ -1,6 +1,7 @@
 pub mod DeeperSelectors
 pub mod Escapes
 pub mod Numbers
+pub mod PlainLines
 pub mod ScriptLines
 pub mod TableRows
 pub mod Texts

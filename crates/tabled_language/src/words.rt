@@ -1,6 +1,7 @@
 //! The texts of a line, read from the left.
 
-ghost use Rattle.std.specs.Prelude.{◌≡◌, map, IfOk};
+ghost use Rattle.std.specs.Prelude.{◌≡◌, ◌==◌, false, [], map, IfOk, IfSome};
+ghost use Rattle.std.specs.List.{list_any};
 ghost use Rattle.std.specs.Option.{option_map};
 ghost use Rattle.std.specs.String.{string_bytes};
 ghost use Rattle.tabled_language.specs.Line.{texts_of, words_of};
@@ -10,15 +11,51 @@ use crate::parts::Parts;
 use crate::word::{integer_of, number_of, text_of_word};
 use std::alloc::{AllocError, Global};
 use std::marker::Model;
-use std::vec;
+use std::{str, vec};
 use tabled_grid::records::Text;
 
 /// The texts of a line's words, or nothing where a word has a bad escape or isn't UTF-8.
 pub(crate) fn texts_of(alloc: Global, line: &[u8]) -> Result<Option<Vec<Text<String>>>, AllocError>
     ensures { IfOk result (λ texts. option_map (λ v. map string_bytes v.items) texts ≡ texts_of (words_of line.now)) }
 {
-    let tabs = line.iter().filter(|byte| **byte == b'\t').count();
-    let mut texts = Vec::with_capacity(alloc, tabs + 1)?;
+    match plain(line) {
+        Some(line) => Ok(Some(plain_texts(alloc, line)?)),
+        None => escaped_texts(alloc, line),
+    }
+}
+
+/// A line whose words are their own texts, as they have no escape.
+fn plain(line: &[u8]) -> Option<&str>
+    ensures { IfSome result (λ text. (text.now ≡ line.now) × (list_any (λ b. b == 92) line.now ≡ false)) }
+{
+    let text = str::from_utf8(line).ok()?;
+    if text.contains('\\') {
+        return None;
+    }
+    Some(text)
+}
+
+/// The texts of a line without escapes.
+fn plain_texts(alloc: Global, line: &str) -> Result<Vec<Text<String>>, AllocError>
+    ensures { IfOk result (λ texts. map string_bytes texts.items ≡ words_of line.now) }
+{
+    let mut texts = room_for(alloc, line.as_bytes())?;
+    let mut start = 0;
+    for (i, byte) in line.as_bytes().iter().enumerate() {
+        if *byte == b'\t' {
+            texts.push(Text::new(String::from_str(alloc, &line[start..i])?))?;
+            start = i + 1;
+        }
+    }
+    texts.push(Text::new(String::from_str(alloc, &line[start..])?))?;
+    Ok(texts)
+}
+
+/// The texts of a line, each word by itself.
+fn escaped_texts(alloc: Global, line: &[u8]) -> Result<Option<Vec<Text<String>>>, AllocError>
+    ensures { IfOk result (λ texts. option_map (λ v. map string_bytes v.items) texts ≡ texts_of (words_of line.now)) }
+{
+    let mut texts = room_for(alloc, line)?;
     for word in Parts::new(line, b'\t') {
         match text_of_word(alloc, word)? {
             Some(text) => texts.push(Text::new(text))?,
@@ -26,6 +63,19 @@ pub(crate) fn texts_of(alloc: Global, line: &[u8]) -> Result<Option<Vec<Text<Str
         }
     }
     Ok(Some(texts))
+}
+
+/// No texts yet, with room for those of a line.
+fn room_for(alloc: Global, line: &[u8]) -> Result<Vec<Text<String>>, AllocError>
+    ensures { IfOk result (λ texts. texts.items ≡ []) }
+{
+    let mut tabs = 0;
+    for byte in line {
+        if *byte == b'\t' {
+            tabs += 1;
+        }
+    }
+    Vec::with_capacity(alloc, tabs + 1)
 }
 
 /// Texts that are read from the front. A contract sees them as the list of those left.

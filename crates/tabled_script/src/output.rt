@@ -1,6 +1,6 @@
 //! How a table is written.
 
-ghost use Rattle.std.specs.Prelude.{◌≡◌, ◌∷◌, ◌++◌, map, IfOk, IsTrue, OnOk};
+ghost use Rattle.std.specs.Prelude.{◌≡◌, ◌∷◌, ◌++◌, map, IsTrue, OnOk};
 ghost use Rattle.std.specs.String.{string_bytes};
 ghost use Rattle.tabled_grid.specs.Grid.{IsEven, grid_of, map_grid, map_items};
 ghost use Rattle.tabled_script.specs.Output.{escaped, escaped_byte, line, print as printed, span_line, table_lines};
@@ -10,21 +10,21 @@ use std::alloc::{AllocError, Global};
 use tabled_grid::config::{Position, SpannedConfig};
 use tabled_grid::records::{CellText, ExactRecords, Records, Text};
 
-/// Writes a table: its shape, its rows, and then its merged cells.
+/// Appends a table: its shape, its rows, and then its merged cells.
 pub(crate) fn print(
     alloc: Global,
+    out: &mut Vec<u8>,
     records: &Vec<Vec<Text<String>>>,
     cfg: &SpannedConfig,
-) -> Result<Vec<u8>, AllocError>
+) -> Result<(), AllocError>
     requires { IsEven (grid_of (map_items records.now.items)) }
-    ensures { IfOk result (λ out. out.items ≡ printed (state_of string_bytes (grid_of (map_items records.now.items)) cfg.now)) }
+    ensures { OnOk result (out.new.items ≡ out.old.items ++ printed (state_of string_bytes (grid_of (map_items records.now.items)) cfg.now)) }
 {
-    let mut out = Vec::new(alloc);
-    push_table(alloc, &mut out, records)?;
+    push_table(alloc, out, records)?;
     for (pos, size) in cfg.anchors() {
-        push_span(alloc, &mut out, *pos, *size)?;
+        push_span(alloc, out, *pos, *size)?;
     }
-    Ok(out)
+    Ok(())
 }
 
 /// Appends a table's shape, and then its rows.
@@ -72,7 +72,10 @@ fn push_line<T: CellText>(out: &mut Vec<u8>, name: &str, texts: &[T]) -> Result<
     push_escaped(out, name)?;
     for text in texts {
         out.push(b'\t')?;
-        push_escaped(out, text.text())?;
+        let text = text.text();
+        if !text.is_empty() {
+            push_escaped(out, text)?;
+        }
     }
     out.push(b'\n')?;
     Ok(())
@@ -98,7 +101,8 @@ fn is_plain(text: &[u8]) -> bool
     ensures { IsTrue result → escaped text.now ≡ text.now }
 {
     for byte in text {
-        if matches!(*byte, b'\t' | b'\n' | b'\\') {
+        // Most letters lie behind these bytes.
+        if *byte <= b'\\' && matches!(*byte, b'\t' | b'\n' | b'\\') {
             return false;
         }
     }

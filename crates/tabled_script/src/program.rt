@@ -67,23 +67,25 @@ fn answer(alloc: Global, input: Vec<u8>) -> Result<Answer, AllocError>
         (λ output. (script : Meaning) × (parse input.items ≡ Ok script) × (output.items ≡ output_of script))
         (λ line. (fault : ℕ × Fault) × (parse input.items ≡ Err fault) × (string_bytes line ≡ fault_line fault))) }
 {
-    let script = parse(alloc, &input)?;
-    drop(input);
-    match script {
-        Ok(script) => Ok(Ok(output(alloc, script)?)),
+    match parse(alloc, &input)? {
+        Ok(script) => Ok(Ok(output(alloc, script, input)?)),
         Err(fault) => Ok(Err(fault_line(alloc, fault)?)),
     }
 }
 
-/// The table of a script's records after its steps, as it is written.
-fn output(alloc: Global, script: Script) -> Result<Vec<u8>, AllocError>
+/// The table of a script's records after its steps, as it is written, in the place of some bytes.
+fn output(alloc: Global, script: Script, mut out: Vec<u8>) -> Result<Vec<u8>, AllocError>
     ensures { IfOk result (λ output. output.items ≡ output_of (script_in script.records.items script.steps.items)) }
 {
     let Script { records, steps } = script;
     let mut records = Builder::from_cells(alloc, records)?.into_cells();
     let mut cfg = SpannedConfig::new(alloc);
     match run(alloc, &mut records, &mut cfg, steps) {
-        Ok(()) => print(alloc, &records, &cfg),
+        Ok(()) => {
+            out.clear();
+            print(alloc, &mut out, &records, &cfg)?;
+            Ok(out)
+        }
         Err((_, error)) => Err(error),
     }
 }

@@ -15,8 +15,8 @@ use Rattle.tabled_script.proofs.program.output.Goals as goal
 pub run-requires : goal.run-requires
 run-requires c = record { well = IsEven-rows _ c.into_cells-records.result.items c.into_cells-records.ensures.even }
 
-pub returns-in-Ok : goal.returns-in-Ok
-returns-in-Ok c =
+pub returns-in_ok-print-in-Ok : goal.returns-in_ok-print-in-Ok
+returns-in_ok-print-in-Ok c =
     let records = c.args.script.records.items in
     let steps = c.args.script.steps.items in
     let cells = c.into_cells-records in
@@ -26,4 +26,4 @@ returns-in-Ok c =
     let table = made ∙ ap table_of (c.in_ok-from_cells.ensures ∙ ap from_uneven (sym texts)) in
     let start : state_of string_bytes (grid_of (map_items cells.result.items)) c.new-cfg.result ≡ padded (map (map string_bytes) (map_items records)) = rw (table, c.new-cfg.ensures.empty) refl in
     let end = c.in-Ok.ensures.state ∙ ap (after_all steps) start ∙ after_all-changed steps (padded (map (map string_bytes) (map_items records))) in
-    IfOk-weaker c.print.result _ _ (λ output e. e ∙ ap print end) c.print.ensures
+    (rw (c.clear.ensures.items) at c.in_ok-print-in-Ok.ensures) ∙ ap print end
