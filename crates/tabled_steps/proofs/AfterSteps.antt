@@ -1,13 +1,13 @@
 -- What a step does to a store is what its formula makes of the store's texts and merged cells.
-use Rattle.std.proofs.Common.{◌≡◌, ℕ, ◌+◌, ◌-◌, ◌<◌, ◌≤◌, ◌⊎◌, inl, inr, Bool, true, false, cond, List, [], ◌∷◌, None, Some, Option, refl, sym, ap, ap₂, ◌∙◌, map, max, replicate, arith}
-use Rattle.std.specs.Prelude.{ℤ, nat_lt, ◌&&◌}
+use Rattle.std.proofs.Common.{◌≡◌, ℕ, ◌<◌, ◌≤◌, ◌⊎◌, inl, inr, true, false, cond, List, [], ◌∷◌, Some, refl, ap, ap₂, ◌∙◌, map, arith}
+use Rattle.std.specs.Prelude.{nat_lt, ◌&&◌}
 use Rattle.std.specs.List.{fold}
-use Rattle.std.specs.Option.{IfSome, unwrap_or}
+use Rattle.std.specs.Option.{unwrap_or}
 use Rattle.std.specs.String.{string_bytes}
 use Rattle.std.proofs.lemmas.Bool.{cases_Bool, cases_lt, le-ltb, lt-ltb}
 use Rattle.tabled_grid.specs.Bounds.{indexes}
 use Rattle.tabled_grid.specs.Entity.{place}
-use Rattle.tabled_grid.specs.Grid.{Grid, IsInside, cell_at, map_grid}
+use Rattle.tabled_grid.specs.Grid.{Grid, cell_at, map_grid}
 use Rattle.tabled_grid.specs.Spans.{SpanMap}
 use Rattle.tabled_grid.specs.declared.config.entity.Entity.{Entity}
 use Rattle.tabled_grid.specs.declared.config.position.Position.{Position}
@@ -16,18 +16,15 @@ use Rattle.tabled_grid.specs.declared.records.axis.Axis.TheVariants.{Rows, Colum
 use Rattle.tabled_grid.proofs.Grids.{IsEven-map_grid}
 use Rattle.tabled_grid.proofs.Mapped.{map_grid-with_column, map_grid-with_row}
 use Rattle.tabled_options.specs.Does.{Change, Each, EachListed}
-use Rattle.tabled_options.specs.Writes.{Writes}
 use Rattle.tabled_select.specs.Locators.{columns_with}
-use Rattle.tabled_settings.specs.Charsets.{DoesWrites, charset_writes}
 use Rattle.tabled_settings.specs.Dups.{Duplicates, source_texts}
 use Rattle.tabled_settings.specs.Joined.{JoinsAt, corner_of, joined_text}
 use Rattle.tabled_grid.specs.Places.{Places}
 use Rattle.tabled_settings.specs.Rearranged.{extracted, removed, reversed, rotated}
 use Rattle.tabled_settings.specs.declared.rotate.Rotate.{Rotate}
 use Rattle.tabled_settings.specs.declared.rotate.Rotate.TheVariants.{Left, Right, Top, Bottom}
-use Rattle.tabled_spans.specs.Panels.{Panels, cells_along, has_room, with_line, with_panel}
-use Rattle.tabled_spans.specs.Spanned.{Spans}
-use Rattle.tabled_steps.specs.Reads.{joined, read}
+use Rattle.tabled_spans.specs.Panels.{Panels, cells_along, has_room, with_line}
+use Rattle.tabled_steps.specs.Reads.{joined}
 use Rattle.tabled_steps.specs.Selected.{half_open, named_by, selected}
 use Rattle.tabled_steps.specs.States.{State, after, after_all, duplicate, merge, on_each, put_panel, rearrange, recode, set, span, state_of, with_texts_round}
 use Rattle.tabled_steps.specs.Steps.{Does, Merges, Names, Rearranges}

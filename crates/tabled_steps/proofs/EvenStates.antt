@@ -1,5 +1,5 @@
 -- Steps leave as many texts in each row as there are columns.
-use Rattle.std.proofs.Common.{◌≡◌, ◌⊎◌, inl, inr, ℕ, ◌+◌, ◌-◌, ◌<◌, ◌≤◌, Bool, true, false, cond, max, List, [], ◌∷◌, ◌++◌, refl, sym, ap, ◌∙◌, subst, length, replicate, arith}
+use Rattle.std.proofs.Common.{◌≡◌, ◌⊎◌, inl, inr, ℕ, ◌+◌, ◌-◌, ◌<◌, true, false, cond, max, List, [], ◌∷◌, ◌++◌, refl, ap, ◌∙◌, length, replicate, arith}
 use Rattle.std.specs.Prelude.{nat_lt, ◌&&◌}
 use Rattle.std.specs.List.{fold}
 use Rattle.std.specs.Option.{option_and_then, unwrap_or}
@@ -28,7 +28,7 @@ use Rattle.tabled_settings.specs.declared.split.Display.TheVariants.{Retain}
 use Rattle.tabled_settings.specs.PiecePlaces.{glued}
 use Rattle.tabled_settings.proofs.Glued.{split_glued}
 use Rattle.tabled_settings.proofs.PieceReads.{cut_even, turned_even}
-use Rattle.tabled_spans.specs.Panels.{cells_along, has_room, with_line}
+use Rattle.tabled_spans.specs.Panels.{has_room}
 use Rattle.tabled_spans.specs.Spanned.{span_writes}
 use Rattle.tabled_steps.specs.Reads.{joined}
 use Rattle.tabled_steps.specs.Selected.{half_open, named_by, selected}

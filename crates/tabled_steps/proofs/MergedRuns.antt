@@ -1,5 +1,5 @@
 -- The runs that are listed are those that are merged.
-use Rattle.std.proofs.Common.{◌≡◌, ℕ, zero, suc, ◌+◌, ◌-◌, ◌<◌, ◌≤◌, ◌⊎◌, inl, inr, Bool, true, false, cond, List, [], ◌∷◌, ◌++◌, None, Some, Option, refl, sym, ap, ap₂, subst, ◌∙◌, map, arith}
+use Rattle.std.proofs.Common.{◌≡◌, ℕ, zero, suc, ◌+◌, ◌-◌, ◌<◌, ◌≤◌, ◌⊎◌, inl, inr, Bool, true, false, cond, List, [], ◌++◌, None, Some, Option, refl, sym, ap, ap₂, subst, ◌∙◌, map, arith}
 use Rattle.std.specs.FinMap.{get, same_map}
 use Rattle.std.specs.List.{flat_map, range_with_len}
 use Rattle.std.specs.Option.{option_eq}
@@ -10,15 +10,15 @@ use Rattle.std.proofs.lemmas.List.{append-nil, append_assoc}
 use Rattle.std.proofs.lemmas.Option.{none-some, same_Some}
 use Rattle.std.proofs.lemmas.Slice.Eq.{bytes_eq-Decides}
 use Rattle.tabled_grid.specs.Anchors.{Anchor}
-use Rattle.tabled_grid.specs.Entity.{block, place}
-use Rattle.tabled_grid.specs.Grid.{Grid, IsInside, cell_at}
+use Rattle.tabled_grid.specs.Entity.{place}
+use Rattle.tabled_grid.specs.Grid.{Grid, IsInside}
 use Rattle.tabled_grid.specs.Spans.{SpanMap, with_sizes}
 use Rattle.tabled_grid.specs.declared.config.position.Position.{Position}
 use Rattle.tabled_grid.specs.declared.records.axis.Axis.{Axis}
 use Rattle.tabled_grid.specs.declared.records.axis.Axis.TheVariants.{Rows, Columns}
 use Rattle.tabled_grid.proofs.Places.{block-is, places}
 use Rattle.tabled_grid.proofs.Spans.{positions_exact, positions_total}
-use Rattle.tabled_spans.specs.Runs.{IsRun, Joins, MergesRuns, further, is_free, size_of_run}
+use Rattle.tabled_spans.specs.Runs.{IsRun, Joins, MergesRuns, further, size_of_run}
 use Rattle.tabled_spans.proofs.RunLists.{row_done, run_added, run_passed, runs_merged}
 use Rattle.tabled_spans.proofs.Runs.{continues, further_none, run_at as run_at_end, same_run}
 use Rattle.tabled_spans.specs.RunSteps.{Before, RunAt, RunsBefore}

@@ -1,5 +1,5 @@
 -- The texts of a table and its merged cells, and what steps make of them.
-use Rattle.std.specs.Prelude.{◌≡◌, ◌<◌, ℕ, ◌-◌, ℤ, if◌then◌else◌, Bool, true, false, List, [], ◌∷◌, replicate, Option}
+use Rattle.std.specs.Prelude.{◌≡◌, ◌<◌, ℕ, ◌-◌, ℤ, if◌then◌else◌, Bool, List, [], ◌∷◌, replicate, Option}
 use Rattle.std.specs.List.{fold}
 use Rattle.std.specs.String.{string_bytes}
 use Rattle.tabled_grid.specs.Bounds.{indexes}

@@ -1,7 +1,6 @@
 use Rattle.std.proofs.Common.{◌≡◌, ◌∙◌, String, ap, map, refl, sym}
 use Rattle.std.specs.Global.{Global, Vec}
 use Rattle.std.specs.String.{string_bytes}
-use Rattle.std.proofs.lemmas.Result.{IfOk-weaker}
 use Rattle.std.proofs.lemmas.Simd.{map-map}
 use Rattle.tabled_grid.specs.Grid.{grid_of, map_grid, map_items}
 use Rattle.tabled_steps.specs.States.{after_all, state_of}

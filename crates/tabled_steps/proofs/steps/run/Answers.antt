@@ -1,4 +1,3 @@
-use Rattle.std.proofs.Common.{sym}
 use Rattle.std.proofs.lemmas.Result.{on_ok_weaker}
 use Rattle.tabled_grid.proofs.Grids.{IsEven-map_grid}
 use Rattle.tabled_steps.proofs.AfterSteps.{after_each}
