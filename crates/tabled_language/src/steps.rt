@@ -1,4 +1,4 @@
-//! Steps that take memory, read from the words of a line.
+//! Steps whose reading takes memory: those with a selector, a cut text or a table.
 
 use crate::fault::Fault;
 use crate::words::Words;

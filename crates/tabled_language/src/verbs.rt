@@ -132,7 +132,7 @@ impl Words {
         }
     }
 
-    /// What is behind the verb of a step that takes no memory.
+    /// What is behind the verb of a step that is read without memory.
     pub(crate) fn plain_step(&mut self, verb: &str) -> Result<Step, Fault>
         ensures { Reads after (behind plain_steps verb.now) self.old result self.new }
     {

@@ -64,7 +64,7 @@ pub(crate) fn text_of_word(alloc: Global, word: &[u8]) -> Result<Option<String>,
 pub(crate) fn number_of(text: &str) -> Option<usize>
     ensures { result ≡ number_of text.now }
 {
-    // `parse` reads a sign, too.
+    // `parse` takes a plus, too.
     if text.starts_with('+') {
         return None;
     }

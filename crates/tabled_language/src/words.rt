@@ -24,7 +24,7 @@ pub(crate) fn texts_of(alloc: Global, line: &[u8]) -> Result<Option<Vec<Text<Str
     }
 }
 
-/// A line whose words are their own texts, as they have no escape.
+/// The line, if it is UTF-8 without a backslash: then its words are their own texts.
 fn plain(line: &[u8]) -> Option<&str>
     ensures { IfSome result (λ text. (text.now ≡ line.now) × (list_any (λ b. b == 92) line.now ≡ false)) }
 {
@@ -51,7 +51,7 @@ fn plain_texts(alloc: Global, line: &str) -> Result<Vec<Text<String>>, AllocErro
     Ok(texts)
 }
 
-/// The texts of a line, each word by itself.
+/// The texts of a line's words, each read by itself, or nothing where one has a bad escape or isn't UTF-8.
 fn escaped_texts(alloc: Global, line: &[u8]) -> Result<Option<Vec<Text<String>>>, AllocError>
     ensures { IfOk result (λ texts. option_map (λ v. map string_bytes v.items) texts ≡ texts_of (words_of line.now)) }
 {

@@ -73,7 +73,7 @@ fn answer(alloc: Global, input: Vec<u8>) -> Result<Answer, AllocError>
     }
 }
 
-/// The table of a script's records after its steps, as it is written, in the place of some bytes.
+/// The table of a script's records after its steps, as it is written: in `out`, whose old bytes go.
 fn output(alloc: Global, script: Script, mut out: Vec<u8>) -> Result<Vec<u8>, AllocError>
     ensures { IfOk result (λ output. output.items ≡ output_of (script_in script.records.items script.steps.items)) }
 {

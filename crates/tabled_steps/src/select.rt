@@ -29,9 +29,9 @@ pub enum Select {
     LastRow,
     FirstColumn,
     LastColumn,
-    /// The row so far before the last one.
+    /// The row so many rows before the last one.
     LastRowMinus(usize),
-    /// The row so far past the last one.
+    /// The row so many rows past the last one.
     LastRowPlus(usize),
     LastColumnMinus(usize),
     LastColumnPlus(usize),

@@ -37,7 +37,7 @@ pub enum Step {
     Set(Select, String),
     /// Writes to the first cells the texts of the second ones.
     Dup(Select, Select),
-    /// Cleans the texts of cells.
+    /// Replaces tabs in the texts of cells, or takes control characters out, as the charset says.
     Charset(Charset, Select),
     /// Merges cells along rows, by a span's size.
     ColumnSpan(isize, Select),

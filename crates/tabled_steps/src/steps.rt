@@ -26,10 +26,10 @@ use tabled_options::TableOption;
 ///   texts and merged cells before have them after, too.
 /// - `Err((k, _))`: memory was refused at step `k`. The steps before it are done, and it leaves what it
 ///   leaves. No step is refused that takes no memory.
-/// - Steps that write texts, put in panels, merge equal neighbours or span at least one cell keep merged
-///   cells inside the table and apart, done or refused.
-/// - Where the last step is a split that keeps all pieces, the table before it is its pieces, glued
-///   together.
+/// - Where each step writes texts, puts in a panel, merges equal neighbours or spans at least one cell,
+///   merged cells that lay inside the table and apart do so after it, done or refused.
+/// - Where the last step is a split that keeps all pieces, and these have a cell, the table before it, if
+///   it has a row and a column, is its pieces, glued together.
 ///
 /// Our own.
 pub fn run<R>(

@@ -1,4 +1,4 @@
-//! What an outsider writes over the libraries: each public call, once, and what it answers.
+//! What an outsider writes over the libraries, and what it answers.
 #![tactic(auto)]
 
 #[cfg(test)]

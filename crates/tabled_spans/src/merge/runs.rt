@@ -56,7 +56,7 @@ where
     requires inside { IsInside (R.grid records.now) pos }
     ensures { RunAt axis (map_grid R.Cell.text_of (R.grid records.now)) cfg.now pos result }
 {
-    // Counts tell that the index after a cell's is one.
+    // Counts tell that the index after a cell's is still a `usize`.
     let _ = (records.count_rows(), records.count_columns());
     if let Some(last) = before(axis, pos) {
         if joins(records, cfg, cover, axis, last) {

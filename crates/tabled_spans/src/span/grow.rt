@@ -128,7 +128,7 @@ fn reach(axis: Axis, size: usize, entity: Entity, rows: usize, columns: usize) -
     }
 }
 
-/// The new sizes that spans from each place on leave that an entity names in a table (`rows x columns`).
+/// The new sizes that spans leave, one from each place on that an entity names in a table (`rows x columns`).
 fn changes(
     alloc: Global,
     cfg: &SpannedConfig,

@@ -52,7 +52,7 @@ fn put_span(
     Ok(())
 }
 
-/// The new sizes that a span at each place leaves that an entity names in a table (`rows x columns`).
+/// The new sizes that spans leave, one at each place that an entity names in a table (`rows x columns`).
 fn changes(
     alloc: Global,
     cfg: &SpannedConfig,

@@ -30,7 +30,7 @@ impl Model for RowSpan {
 impl RowSpan {
     ghost use Rattle.std.specs.Prelude.{◌≡◌, ◌-◌, ◌^◌, negsuc, pos};
 
-    /// A span of a size: 1 or more rows from the place on, fewer than 0 back from it, or 0 for all.
+    /// A span of a size: 1 or more rows from the place on, below 0 back from it, or 0 for all.
     ///
     /// Ported from `tabled::settings::span::RowSpan::new`.
     pub const fn new(size: isize) -> Self
