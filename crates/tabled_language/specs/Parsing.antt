@@ -1,4 +1,4 @@
--- How the code goes through a script, step by step. Nothing of it belongs to the language.
+-- What the code's values say of a script (`script_in`), and how it goes through one, step by step. Nothing of it belongs to the language.
 use Rattle.std.specs.Prelude.{◌≡◌, ℕ, Bool, ◌==◌, not, List, [], ◌∷◌, ◌++◌, length, Option, None, Some, Result, Ok, Err, MatchResult, String, filter_map, map}
 use Rattle.std.specs.Borrow.{Bor}
 use Rattle.std.specs.Global.{Global, Vec}

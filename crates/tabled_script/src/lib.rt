@@ -9,3 +9,4 @@ mod program;
 mod tests;
 
 pub use program::run_script;
+pub use tabled_steps::{Select, Step, run};

@@ -65,7 +65,7 @@ fn stores_of_both_kinds_end_alike(rt: HostRuntime) -> Result<(), Fail> {
         ("2\t3\ta\tb\tc\td\te\tf", "rotate\tleft", "c f/b e/a d"),
         (
             "2\t3\ta\tb\tc\td\te\tf",
-            "extract\t2\t2\t0\t3\nrotate\tleft",
+            "extract\t0\t2\t3\t3\nrotate\tleft",
             "",
         ),
         (

@@ -61,6 +61,44 @@ fn each_line_may_be_too_long_or_too_short_or_have_a_bad_escape(
     Ok(())
 }
 
+/// A line whose selectors stand in each other so many times.
+fn nested(
+    alloc: Global,
+    step: &str,
+    selector: &str,
+    many: usize,
+    behind: &str,
+) -> Result<String, AllocError> {
+    let mut line = String::from_str(alloc, step)?;
+    for _ in 0..many {
+        line.push_str(selector)?;
+    }
+    line.push_str("all")?;
+    line.push_str(behind)?;
+    Ok(line)
+}
+
+#[test]
+fn each_selector_may_be_too_deep(rt: HostRuntime) -> Result<(), Fail> {
+    let alloc = rt.alloc();
+    for (step, selector, behind) in [
+        ("set\t", "and\trow\t0\t", "\tx"),
+        ("set\t", "not\trow\t0\t", "\tx"),
+        ("dup\tall\t", "intersect\trow\t0\t", ""),
+        ("dup\t", "inverse\t", "\trow\t0"),
+        ("clean\t", "skip\t0\t", ""),
+        ("tabs\t1\t", "step\t1\t", ""),
+        ("cspan\t2\t", "and\tall\t", ""),
+        ("rspan\t2\t", "not\tall\t", ""),
+    ] {
+        let deepest = nested(alloc, step, selector, 63, behind)?;
+        assert!(&rt; is_faulty(alloc, deepest.as_str(), 0, 0)?, "{selector:?}");
+        let deeper = nested(alloc, step, selector, 64, behind)?;
+        assert!(&rt; is_faulty(alloc, deeper.as_str(), 1, 5)?, "{selector:?}");
+    }
+    Ok(())
+}
+
 #[test]
 fn each_word_may_be_unknown_or_no_number(rt: HostRuntime) -> Result<(), Fail> {
     let alloc = rt.alloc();
@@ -68,16 +106,21 @@ fn each_word_may_be_unknown_or_no_number(rt: HostRuntime) -> Result<(), Fail> {
         ("sett\tall\tx", 1),
         ("dup\tall\tsome", 1),
         ("dup\trow\tx\tall", 3),
+        ("dup\tsome\tall", 1),
         ("clean\trow\t10001", 3),
+        ("clean\tsome", 1),
         ("tabs\tx\tall", 3),
         ("tabs\t4\tsome", 1),
         ("cspan\t+2\tall", 3),
         ("cspan\t10001\tall", 3),
+        ("cspan\t2\tsome", 1),
+        ("rspan\t2\tsome", 1),
         ("rspan\t-10001\tall", 3),
         ("rspan\t--2\tall", 3),
         ("hpanel\tx\tx", 3),
         ("vpanel\t-1\tx", 3),
         ("vpanelw\t0\tx\tx", 3),
+        ("vpanelw\tx\t1\tx", 3),
         ("rotate\tup", 1),
         ("reverse\tcells\t0\tstart\t1", 1),
         ("reverse\trows\tx\tstart\t1", 3),
@@ -88,6 +131,9 @@ fn each_word_may_be_unknown_or_no_number(rt: HostRuntime) -> Result<(), Fail> {
         ("split\tcolumn\t2\tzap\tclean", 1),
         ("split\trow\t2\tconcat\tkeep", 1),
         ("extract\t0\t1\t0\tx", 3),
+        ("extract\tx\t1\t0\t1", 3),
+        ("remove\trows\tx\t1", 3),
+        ("remove\tcolumns\t0\tx", 3),
         ("remove\tcells\t0\t1", 1),
         ("remove\trows\t0\tx", 3),
         ("remove\tcolumns\tx\t1", 3),
@@ -102,12 +148,29 @@ fn each_word_may_be_unknown_or_no_number(rt: HostRuntime) -> Result<(), Fail> {
         ("set\trows\t0\tx\tx", 3),
         ("set\tcolumns\tx\t1\tx", 3),
         ("set\tsegment\t0\t1\t0\tx\tx", 3),
+        ("set\trows\tx\t1\tx", 3),
+        ("set\tcolumns\t0\tx\tx", 3),
+        ("set\tsegment\tx\t1\t0\t1\tx", 3),
+        ("set\tcell\t0\tx\tx", 3),
         ("set\tand\tall\tsome\tx", 1),
+        ("set\tand\tsome\tall\tx", 1),
+        ("set\tnot\tall\tsome\tx", 1),
+        ("set\tintersect\tsome\tall\tx", 1),
+        ("set\tskip\t1\tsome\tx", 1),
+        ("set\tstep\tx\tall\tx", 3),
         ("set\tnot\tsome\tall\tx", 1),
         ("set\tintersect\tall\tsome\tx", 1),
         ("set\tinverse\tsome\tx", 1),
         ("set\tskip\tx\tall\tx", 3),
         ("set\tstep\t1\tsome\tx", 1),
+        ("set\tname", 2),
+        ("set\tcolumn", 2),
+        ("set\trows\t0", 2),
+        ("set\tlast-row-plus", 2),
+        ("set\tlast-column-minus", 2),
+        ("set\tnot\tall", 2),
+        ("set\tintersect\tall", 2),
+        ("set\tstep\t2", 2),
     ] {
         assert!(&rt; is_faulty(alloc, line, 1, number)?, "{line:?}");
     }

@@ -39,10 +39,10 @@ fn spell(spelled: &mut String, text: &str) -> Result<(), AllocError> {
     Ok(())
 }
 
-/// Of the three rows those up to `rows`, of these the cells up to `columns`, and of these the rows
+/// Of the three rows the cells up to `columns`, of these the rows up to `rows`, and of these the ones
 /// after the first `skip`.
 fn limited(alloc: Global, rows: usize, columns: usize, skip: usize) -> Result<String, AllocError> {
-    let source = LimitColumns::new(LimitRows::new(three_rows(alloc)?, rows), columns);
+    let source = LimitRows::new(LimitColumns::new(three_rows(alloc)?, columns), rows);
     let mut spelled = String::new(alloc);
     for row in SkipRows::new(source, skip).iter_rows() {
         for cell in row {

@@ -66,19 +66,20 @@ fn drops_all_that_are_hidden_at_once(rt: HostRuntime) -> Result<(), Fail> {
     let tall: [Anchor; 3] = [(0, 1, 3, 1), (1, 0, 1, 2), (2, 1, 1, 4)];
     let apart: [Anchor; 2] = [(0, 0, 2, 2), (2, 0, 1, 2)];
     let none: [Anchor; 0] = [];
-    for (anchors, fits_before, left, fits_after) in [
-        (chain.as_slice(), false, "0 0 1 2;", true),
-        (tall.as_slice(), false, "1 0 1 2;0 1 3 1;", false),
-        (apart.as_slice(), true, "0 0 2 2;2 0 1 2;", true),
-        (none.as_slice(), true, "", true),
+    for (anchors, rows, columns, fits_before, left, fits_after) in [
+        (chain.as_slice(), 1, 4, false, "0 0 1 2;", true),
+        (chain.as_slice(), 1, 1, false, "0 0 1 2;", false),
+        (tall.as_slice(), 3, 4, false, "1 0 1 2;0 1 3 1;", false),
+        (apart.as_slice(), 3, 4, true, "0 0 2 2;2 0 1 2;", true),
+        (none.as_slice(), 3, 4, true, "", true),
     ] {
         let mut spans = merged(alloc, anchors)?;
-        assert_eq!(rt; spans.fits(3, 4), fits_before, "{anchors:?}");
+        assert_eq!(rt; spans.fits(rows, columns), fits_before, "{anchors:?}");
         let before = listed(alloc, &spans)?;
         let copy = spans.copy(alloc)?;
         spans.drop_hidden();
         assert_eq!(rt; listed(alloc, &spans)?.as_str(), left, "{anchors:?}");
-        assert_eq!(rt; spans.fits(3, 4), fits_after, "{anchors:?}");
+        assert_eq!(rt; spans.fits(rows, columns), fits_after, "{anchors:?}");
         assert_eq!(rt; listed(alloc, &copy)?.as_str(), before.as_str());
     }
     Ok(())
