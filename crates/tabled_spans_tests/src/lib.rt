@@ -8,6 +8,8 @@ mod merges;
 #[cfg(test)]
 mod panels;
 #[cfg(test)]
+mod refusals;
+#[cfg(test)]
 mod spans;
 #[cfg(test)]
 mod widths;

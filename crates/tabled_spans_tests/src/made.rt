@@ -143,6 +143,35 @@ fn made_flat(alloc: Global, old: &str, steps: [Step; 3]) -> Result<String, Alloc
     made(alloc, flat(alloc, old)?, steps)
 }
 
+/// Makes a step behind another, and says whether it is done or left the merged cells, and where it
+/// writes no text the cells, as they were.
+fn leaves_the_old(
+    alloc: Global,
+    old: &str,
+    before: Step,
+    step: Step,
+    writes: bool,
+) -> Result<bool, AllocError> {
+    let mut records = flat(alloc, old)?;
+    let mut cfg = SpannedConfig::new(alloc);
+    change(alloc, &mut records, &mut cfg, before)?;
+    let words = spelled(alloc, &records)?;
+    let mut spans = String::new(alloc);
+    push_spans(alloc, &mut spans, &cfg)?;
+    if change(alloc, &mut records, &mut cfg, step).is_ok() {
+        return Ok(true);
+    }
+    let mut spans_after = String::new(alloc);
+    push_spans(alloc, &mut spans_after, &cfg)?;
+    Ok((writes || spelled(alloc, &records)? == words) && spans_after == spans)
+}
+
+/// Whether a step that is refused leaves what it may.
+pub(crate) fn keeps(alloc: Global, old: &str, before: Step, step: Step, writes: bool) -> bool {
+    // Where the table itself is refused, there is nothing to compare.
+    leaves_the_old(alloc, old, before, step, writes) != Ok(false)
+}
+
 /// Whether steps make one table of another in one vector of cells.
 pub(crate) fn makes_flat(alloc: Global, old: &str, steps: [Step; 3], new: &str) -> bool {
     is_word(made_flat(alloc, old, steps), new)

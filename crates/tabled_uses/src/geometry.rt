@@ -3,10 +3,12 @@
 
 ghost use Rattle.tabled_grid.specs.Rectangles.{Fits};
 ghost use Rattle.tabled_grid.specs.declared.config.entity.Entity.{Entity};
+ghost use Rattle.tabled_grid.specs.declared.records.axis.Axis.TheVariants.{Columns};
 ghost use Rattle.tabled_options.specs.Does.{CopiesAlike, OptionKeeps};
+ghost use Rattle.tabled_spans.specs.Spanned.{IsFlat};
 
 use std::alloc::{AllocError, Global};
-use tabled_grid::config::SpannedConfig;
+use tabled_grid::config::{Entity, SpannedConfig};
 use tabled_grid::records::{
     CellText, ExactRecords, GridStore, PeekableRecords, Records, RecordsMut, Resizable,
 };
@@ -19,10 +21,10 @@ use tabled_options::{
 use tabled_select::object::{Object, Rows, Segment};
 use tabled_settings::merge::Merge;
 use tabled_settings::panel::{Header, Panel};
-use tabled_settings::span::{RowSpan, Span};
+use tabled_settings::span::{ColumnSpansFit, RowSpan, Span};
 use tabled_spans::laws::{
     footers_keep_merged_cells_fitting, headers_keep_merged_cells_fitting,
-    merges_keep_merged_cells_fitting, spans_of_size_1_or_more_fit,
+    merges_keep_merged_cells_fitting, spans_along_lines_fit, spans_of_size_1_or_more_fit,
     vertical_panels_keep_merged_cells_fitting,
 };
 use tabled_steps::{Select, Step, run};
@@ -150,6 +152,50 @@ where
     let span = Span::column(2);
     spans_of_size_1_or_more_fit::<R>(span, Span::row(1));
     changes_each(alloc, records, cfg, &mut (), Rows::first(), span)
+}
+
+/// Changes an entity by an option that keeps merged cells one row high, inside the table and apart.
+fn changes_flat<R, M>(
+    alloc: Global,
+    records: &mut R,
+    cfg: &mut SpannedConfig,
+    option: M,
+    entity: Entity,
+) -> Result<(), AllocError>
+where
+    R: GridStore,
+    M: CellOption<R, SpannedConfig>,
+    requires well { R.is_well_formed records.old }
+    requires can { M.can_change option }
+    requires keeps { OptionKeeps ⟦<ColumnSpansFit as Property<R::Cell, SpannedConfig>>⟧.holds (M.does option entity) (M.leaves option entity) }
+    requires fits { Fits cfg.old ((R.grid records.old).rows) ((R.grid records.old).columns) }
+    requires flat { IsFlat Columns cfg.old }
+    ensures well { R.is_well_formed records.new }
+    ensures fits { Fits cfg.new ((R.grid records.new).rows) ((R.grid records.new).columns) }
+    ensures flat { IsFlat Columns cfg.new }
+{
+    option.change(alloc, records, cfg, entity)
+}
+
+/// Spans back from each cell of the first row, where all merged cells are one row high.
+pub fn spans_back<R>(
+    alloc: Global,
+    records: &mut R,
+    cfg: &mut SpannedConfig,
+) -> Result<(), AllocError>
+where
+    R: Records + ExactRecords + PeekableRecords + RecordsMut<String>,
+    R::Cell: CellText,
+    requires well { R.is_well_formed records.old }
+    requires fits { Fits cfg.old ((R.grid records.old).rows) ((R.grid records.old).columns) }
+    requires flat { IsFlat Columns cfg.old }
+    ensures well { R.is_well_formed records.new }
+    ensures fits { Fits cfg.new ((R.grid records.new).rows) ((R.grid records.new).columns) }
+    ensures flat { IsFlat Columns cfg.new }
+{
+    let span = Span::column(-1);
+    spans_along_lines_fit::<R>(span, Span::row(1));
+    changes_flat(alloc, records, cfg, span, Entity::Row(0))
 }
 
 pub fn puts_in_a_header<R>(

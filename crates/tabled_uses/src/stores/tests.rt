@@ -10,7 +10,9 @@ use std::alloc::{AllocError, Global};
 use std::marker::Model;
 use std::test::Fail;
 use tabled_grid::config::Position;
-use tabled_grid::records::{Blank, CellText, RecordsMut, Text, VecRecords};
+use tabled_grid::records::{
+    Blank, CellText, ExactRecords, Records, RecordsMut, Resizable, Text, VecRecords,
+};
 
 /// Rows that are equally long, each in a vector of its own.
 #[derive(Drop)]
@@ -30,7 +32,7 @@ impl Model for Nested {
     ghost invariant = { λ a. IsEven (grid_of (map_items a.rows.items)) };
 }
 
-/// The same rows in each kind of store, of which the flat one is lent where it is changed.
+/// The same rows in each kind of store.
 #[derive(Drop)]
 struct Both {
     flat: VecRecords<Text<String>>,
@@ -47,8 +49,13 @@ impl Both {
         })
     }
 
-    fn change(&mut self, alloc: Global, kind: Change) -> Result<(), AllocError> {
-        make_lent_change(alloc, &mut self.flat, kind)?;
+    /// Changes each of them, the flat one through its `&mut` where it is lent.
+    fn change(&mut self, alloc: Global, kind: Change, lent: bool) -> Result<(), AllocError> {
+        if lent {
+            make_lent_change(alloc, &mut self.flat, kind)?;
+        } else {
+            make_change(alloc, &mut self.flat, kind)?;
+        }
         make_change(alloc, &mut self.nested.rows, kind)
     }
 
@@ -97,13 +104,27 @@ fn changes_rows_columns_and_cells(rt: HostRuntime) -> Result<(), Fail> {
     for (changes, want) in cases {
         let mut both = Both::two_rows(alloc)?;
         let [first, second, third] = changes;
-        both.change(alloc, first)?;
-        both.change(alloc, second)?;
-        both.change(alloc, third)?;
+        both.change(alloc, first, false)?;
+        both.change(alloc, second, true)?;
+        both.change(alloc, third, false)?;
         let (flat, nested) = both.spelled(alloc)?;
         assert_eq!(rt; flat.as_str(), want, "{changes:?}");
         assert_eq!(rt; nested.as_str(), want, "{changes:?}");
     }
+    Ok(())
+}
+
+#[test]
+fn a_column_comes_into_rows_without_columns(rt: HostRuntime) -> Result<(), Fail> {
+    use Change::*;
+    let alloc = rt.alloc();
+    let mut both = Both::two_rows(alloc)?;
+    for kind in [RemoveColumn(1), RemoveColumn(0), PushRow, PushColumn] {
+        both.change(alloc, kind, true)?;
+    }
+    let (flat, nested) = both.spelled(alloc)?;
+    assert_eq!(rt; flat.as_str(), "3 x 1\n[]\n[]\n[]");
+    assert_eq!(rt; nested.as_str(), "3 x 1\n[]\n[]\n[]");
     Ok(())
 }
 
@@ -122,7 +143,7 @@ fn agrees_after_random_changes(rt: HostRuntime) -> Result<(), Fail> {
     let alloc = rt.alloc();
     let mut both = Both::two_rows(alloc)?;
     let mut seed = 1;
-    for _ in 0..600 {
+    for n in 0..600 {
         let kind = next_below(&mut seed, 12);
         let (i, j) = (next_below(&mut seed, 8), next_below(&mut seed, 8));
         let (k, l) = (next_below(&mut seed, 8), next_below(&mut seed, 8));
@@ -138,10 +159,24 @@ fn agrees_after_random_changes(rt: HostRuntime) -> Result<(), Fail> {
             8 => Change::Swap((i, j), (k, l)),
             _ => Change::Set(i, j),
         };
-        both.change(alloc, kind)?;
+        both.change(alloc, kind, n % 2 == 0)?;
         let (flat, nested) = both.spelled(alloc)?;
         assert_eq!(rt; flat.as_str(), nested.as_str(), "{kind:?}");
     }
+    Ok(())
+}
+
+#[test]
+fn refuses_rows_past_the_largest_number(rt: HostRuntime) -> Result<(), Fail> {
+    let alloc = rt.alloc();
+    let mut records: VecRecords<Text<String>> = VecRecords::new(alloc, Vec::new(alloc))?;
+    records.push_rows(alloc, usize::MAX)?;
+    assert!(rt; records.push_row(alloc).is_err());
+    assert!(rt; records.push_column(alloc).is_err());
+    assert_eq!(rt;
+        (records.count_rows(), records.count_columns()),
+        (usize::MAX, 0)
+    );
     Ok(())
 }
 
