@@ -4,6 +4,7 @@ pub mod MergeTwice
 pub mod PanelGeometry
 pub mod PanelLines
 pub mod PanelMaps
+pub mod Parts
 pub mod Reach
 pub mod RisingPlaces
 pub mod RunLists

@@ -1,11 +1,50 @@
--- Texts cut into pieces of so many columns.
-use Rattle.std.specs.Prelude.{◌+◌, ◌==◌, ◌++◌, if◌then◌else◌, ℕ, Bool, true, false, List, [], ◌∷◌, chars, encode_utf8_all, nat_le}
+-- Texts cut into parts of so many columns.
+use Rattle.std.specs.Prelude.{◌≡◌, ◌+◌, ◌<◌, ◌≤◌, ◌==◌, ◌++◌, if◌then◌else◌, ℕ, Bool, true, false, List, [], ◌∷◌, chars, encode_utf8_all, map, nat_le, not}
+use Rattle.std.specs.List.{concat, join_with_byte, list_all, slice_split, sum_by}
 use Rattle.std.specs.Option.{unwrap_or}
 use Rattle.unicode_width.specs.Width.{char_width}
 
 -- the columns that a character takes, 1 where it is a control character
 abbrev pub columns_of : ℕ → ℕ
 columns_of c = unwrap_or (char_width false c) 1
+
+-- the columns that characters take
+abbrev pub columns_in : List ℕ → ℕ
+columns_in cs = sum_by columns_of cs
+
+-- the first character has a column
+abbrev pub Begins : List ℕ → Type 0
+Begins cs = (c : ℕ) × (rest : List ℕ) × (cs ≡ c ∷ rest) × (1 ≤ columns_of c)
+
+-- consecutive parts of a line: before each next part there are so many columns or more, and it begins with a character that has a column; in no part such a character stands behind so many columns
+pub record AreParts (width : ℕ) (line : List ℕ) (parts : List (List ℕ)) : Type 0 where
+  pub whole : concat parts ≡ line
+  pub full : (before after : List (List ℕ)) (one next : List ℕ) → parts ≡ before ++ (one ∷ next ∷ after) → width ≤ columns_in one
+  pub begins : (before after : List (List ℕ)) (one next : List ℕ) → parts ≡ before ++ (one ∷ next ∷ after) → Begins next
+  pub short : (before after : List (List ℕ)) (front rest : List ℕ) (c : ℕ) → parts ≡ before ++ ((front ++ (c ∷ rest)) ∷ after) → 1 ≤ columns_of c → columns_in front < width
+
+-- characters, with the replacement character for the last one that has a column
+abbrev pub last_replaced : List ℕ → List ℕ
+last_replaced [] = []
+last_replaced (c ∷ cs) = if columns_in cs == 0 then 0xFFFD ∷ cs else (c ∷ last_replaced cs)
+
+-- a part as it is shown: where it has more than so many columns, its last character doesn't fit
+abbrev pub shown : ℕ → List ℕ → List ℕ
+shown width part = if nat_le (columns_in part) width then part else last_replaced part
+
+-- a line cut: its parts as they are shown, joined with newlines
+abbrev pub IsCutLine : ℕ → List ℕ → List ℕ → Type 0
+IsCutLine width line new = (parts : List (List ℕ)) × AreParts width line parts × (new ≡ join_with_byte 10 (map (shown width) parts))
+
+-- a text's characters cut: those between its newlines as lines, and joined with newlines again
+pub record IsCut (width : ℕ) (text new : List ℕ) : Type 0 where
+  pub cut_line : List ℕ → List ℕ
+  pub each : (line : List ℕ) → list_all (λ c. not (c == 10)) line ≡ true → IsCutLine width line (cut_line line)
+  pub whole : new ≡ join_with_byte 10 (map cut_line (slice_split (λ c. c == 10) text))
+
+-- a text cut
+abbrev pub IsCutText : ℕ → List ℕ → List ℕ → Type 0
+IsCutText width text new = (cs : List ℕ) × IsCut width (chars text) cs × (new ≡ encode_utf8_all cs)
 
 -- what becomes of a character, and how many columns its piece then has: as many as it may where it has ended
 pub record Placed : Type 0 where

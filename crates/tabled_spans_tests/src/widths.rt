@@ -31,7 +31,7 @@ fn becomes(alloc: Global, text: &str, width: usize, want: &str) -> bool {
 }
 
 /// Texts, widths and what they become.
-fn cuts() -> [(&'static str, usize, &'static str); 18] {
+fn cuts() -> [(&'static str, usize, &'static str); 19] {
     [
         ("123456789", 3, "123\n456\n789"),
         ("123456789", 2, "12\n34\n56\n78\n9"),
@@ -50,6 +50,7 @@ fn cuts() -> [(&'static str, usize, &'static str); 18] {
         ("a\u{1F633}", 1, "a\n\u{FFFD}"),
         ("a\u{1F633}", 2, "a\u{FFFD}"),
         ("a\u{1F633}b", 2, "a\u{FFFD}\nb"),
+        ("a\u{1F633}\u{301}b", 2, "a\u{FFFD}\u{301}\nb"),
         ("\u{1F633}\u{1F633}", 3, "\u{1F633}\u{FFFD}"),
         ("\u{1F633}b", 2, "\u{1F633}\nb"),
         // A character without columns stays with the one before it.

@@ -191,3 +191,7 @@ module _ (axis : Axis) (g : Grid (List ℕ)) (m : SpanMap) where
   -- the map in which the runs are merged is that with their sizes
   pub is_merged : (n : SpanMap) → MergesRuns axis g m n → n ≡ with_sizes m (runs axis g m)
   is_merged n merges = merged_alike n (with_sizes m (runs axis g m)) merges (runs_merged axis g m (runs axis g m) runs_listed)
+
+  -- in the map with the sizes of the runs that are listed, exactly the runs are merged
+  pub listed_merged : MergesRuns axis g m (with_sizes m (runs axis g m))
+  listed_merged = runs_merged axis g m (runs axis g m) runs_listed

@@ -1,10 +1,13 @@
 //! Laws of steps. Each is the contract of a function that does nothing.
 
-ghost use Rattle.std.specs.Prelude.{List, ◌≡◌};
+ghost use Rattle.std.specs.Prelude.{List, ℕ, ◌≡◌};
 ghost use Rattle.tabled_grid.specs.Grid.{Grid};
-ghost use Rattle.tabled_grid.specs.Spans.{SpanMap};
+ghost use Rattle.tabled_grid.specs.Spans.{SpanMap, with_sizes};
+ghost use Rattle.tabled_grid.specs.declared.records.axis.Axis.{Axis};
 ghost use Rattle.tabled_options.specs.Does.{Each, OptionKeeps};
+ghost use Rattle.tabled_spans.specs.Runs.{MergesRuns};
 ghost use Rattle.tabled_steps.specs.Fitting.{KeepsFitting};
+ghost use Rattle.tabled_steps.specs.MergedRuns.{runs};
 ghost use Rattle.tabled_steps.specs.States.{after, after_all, state_of};
 ghost use Rattle.tabled_steps.specs.Steps.{Does};
 ghost use Rattle.tabled_steps.specs.declared.step.Step.{Step};
@@ -23,6 +26,12 @@ where
     R::Cell: CellText,
     ensures one { (step : Step) (g : Grid R.Cell) (c : SpanMap) (h : Grid R.Cell) (d : SpanMap) → Does R.Cell.text_of step g c h d → state_of R.Cell.text_of h d ≡ after step (state_of R.Cell.text_of g c) }
     ensures all { (steps : List Step) (g : Grid R.Cell) (c : SpanMap) (h : Grid R.Cell) (d : SpanMap) → Each (Does R.Cell.text_of) steps g c h d → state_of R.Cell.text_of h d ≡ after_all steps (state_of R.Cell.text_of g c) }
+{}
+
+/// The runs that the formula of a merge lists are the longest ones of two or more cells next to each other
+/// that are visible and no anchors, and have equal texts: in the map with their sizes exactly they are merged.
+pub fn listed_runs_are_the_longest_ones()
+    ensures { (axis : Axis) (g : Grid (List ℕ)) (m : SpanMap) → MergesRuns axis g m (with_sizes m (runs axis g m)) }
 {}
 
 /// Two stores, of whatever kind, with equal texts and merged cells have equal ones after the same steps.

@@ -369,6 +369,7 @@ mod tests {
         frames, merges_neighbours, puts_in_a_column, puts_in_a_header, puts_in_headers,
         runs_fitting_steps, spans_columns, writes, writes_and_spans,
     };
+    use crate::writers::{puts_in_a_row, writes_all};
     use std::alloc::{AllocError, Global};
     use std::test::Fail;
     use tabled_grid::config::{Position, SpannedConfig};
@@ -380,7 +381,9 @@ mod tests {
         Writes,
         Spans,
         Header,
+        Row,
         Column,
+        Writers,
         Merge,
         Settings,
         Pair,
@@ -406,6 +409,8 @@ mod tests {
             Call::Writes => writes(alloc, &mut records, &mut cfg, text)?,
             Call::Spans => spans_columns(alloc, &mut records, &mut cfg)?,
             Call::Header => puts_in_a_header(alloc, &mut records, &mut cfg, text)?,
+            Call::Row => puts_in_a_row(alloc, &mut records, &mut cfg, text)?,
+            Call::Writers => writes_all(alloc, &mut records, &mut cfg)?,
             Call::Column => puts_in_a_column(alloc, &mut records, &mut cfg, text)?,
             Call::Merge => merges_neighbours(alloc, &mut records, &mut cfg)?,
             Call::Settings => writes_and_spans(alloc, &mut records, &mut cfg, text)?,
@@ -430,7 +435,9 @@ mod tests {
             (Call::Writes, (2, 3, 1, 1)),
             (Call::Spans, (2, 3, 1, 2)),
             (Call::Header, (3, 3, 1, 3)),
+            (Call::Row, (3, 3, 1, 1)),
             (Call::Column, (2, 4, 1, 1)),
+            (Call::Writers, (2, 3, 1, 1)),
             (Call::Merge, (2, 3, 2, 1)),
             (Call::Settings, (2, 3, 2, 1)),
             (Call::Pair, (4, 3, 1, 3)),

@@ -19,3 +19,4 @@ pub mod settings;
 mod spans;
 pub mod steps;
 pub mod stores;
+pub mod writers;

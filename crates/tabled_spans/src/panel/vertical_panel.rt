@@ -1,11 +1,11 @@
 //! Columns of one text.
 
-ghost use Rattle.std.specs.Prelude.{◌≡◌, false, IfOk};
+ghost use Rattle.std.specs.Prelude.{◌≡◌, ◌≤◌, false, IfOk};
 ghost use Rattle.std.specs.String.{string_bytes};
 ghost use Rattle.tabled_grid.specs.declared.records.axis.Axis.TheVariants.{Columns};
 ghost use Rattle.tabled_options.specs.Does.{Same};
 ghost use Rattle.tabled_spans.specs.Panels.{Panels, has_room};
-ghost use Rattle.tabled_spans.specs.Widths.{cut};
+ghost use Rattle.tabled_spans.specs.Widths.{IsCutText, cut};
 ghost use Rattle.std.proofs.Common.{rules};
 
 use crate::panel::put::put;
@@ -65,7 +65,8 @@ impl VerticalPanel {
     ///
     /// Ported from `tabled::settings::panel::VerticalPanel::width`.
     pub fn width(self, alloc: Global, width: usize) -> Result<VerticalPanel, AllocError>
-        ensures { IfOk result (λ panel. panel ≡ (self.0, cut width self.1)) }
+        ensures cut { IfOk result (λ panel. panel ≡ (self.0, cut width self.1)) }
+        ensures parted { 1 ≤ width → IfOk result (λ panel. IsCutText width self.1 panel.1) }
     {
         let text = if width == 0 {
             String::new(alloc)

@@ -2,14 +2,15 @@
 
 ghost use Rattle.std.specs.Prelude.{◌≡◌, ◌≤◌, ℕ, IfOk, chars, encode_utf8_all};
 ghost use Rattle.std.specs.String.{string_bytes};
-ghost use Rattle.tabled_spans.specs.Widths.{columns_of, pieces, placed};
+ghost use Rattle.tabled_spans.specs.Widths.{IsCutText, columns_of, pieces, placed};
 
 use std::alloc::{AllocError, Global};
 use unicode_width::UnicodeWidthChar;
 
 /// The text, each line cut into pieces of at most so many columns.
 pub(super) fn cut_text(alloc: Global, text: &str, width: usize) -> Result<String, AllocError>
-    ensures { IfOk result (λ new. string_bytes new ≡ encode_utf8_all (pieces width 0 (chars text.now))) }
+    ensures cut { IfOk result (λ new. string_bytes new ≡ encode_utf8_all (pieces width 0 (chars text.now))) }
+    ensures parted { 1 ≤ width → IfOk result (λ new. IsCutText width text.now (string_bytes new)) }
 {
     let mut out = String::with_capacity(alloc, text.len())?;
     let mut used = 0;

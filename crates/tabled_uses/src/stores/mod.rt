@@ -72,6 +72,9 @@ where
 pub enum Change {
     PushRow,
     PushColumn,
+    PushRows(usize),
+    PushColumns(usize),
+    Transpose,
     InsertRow(usize),
     InsertColumn(usize),
     RemoveRow(usize),
@@ -90,11 +93,17 @@ where
     requires { R.is_well_formed records.old }
     ensures { R.is_well_formed records.new }
 {
+    match change {
+        Change::PushRows(many) => return records.push_rows(alloc, many),
+        Change::PushColumns(many) => return records.push_columns(alloc, many),
+        Change::Transpose => return records.transpose(alloc),
+        _ => {}
+    }
     let shape = (records.count_rows(), records.count_columns());
     change_shaped(alloc, records, shape, change)
 }
 
-/// Changes a store that is lent, through its `&mut`, which is a store itself.
+/// Changes a store that is lent, through its `&mut`, which is a store itself, by one row, column or cell.
 pub fn make_lent_change(
     alloc: Global,
     mut records: &mut VecRecords<Text<String>>,

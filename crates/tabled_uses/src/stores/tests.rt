@@ -92,6 +92,10 @@ fn changes_rows_columns_and_cells(rt: HostRuntime) -> Result<(), Fail> {
             [PushRow, InsertRow(1), PushColumn],
             "4 x 3\n[a][b][]\n[][][]\n[c][d][]\n[][][]",
         ),
+        (
+            [PushColumns(2), Set(0, 0), Transpose],
+            "4 x 2\n[00][c]\n[b][d]\n[][]\n[][]",
+        ),
         ([RemoveColumn(0), RemoveRow(0), PushColumn], "1 x 2\n[d][]"),
         ([RemoveRow(1), RemoveRow(0), PushColumn], "0 x 0"),
         ([RemoveRow(0), RemoveRow(0), PushRow], "1 x 0\n"),
@@ -180,11 +184,36 @@ fn refuses_rows_past_the_largest_number(rt: HostRuntime) -> Result<(), Fail> {
     Ok(())
 }
 
+#[test]
+fn refuses_cells_past_the_largest_number(rt: HostRuntime) -> Result<(), Fail> {
+    let alloc = rt.alloc();
+    let mut both = Both::two_rows(alloc)?;
+    let (before, _) = both.spelled(alloc)?;
+    for change in [
+        Change::PushRows(usize::MAX),
+        Change::PushRows(usize::MAX - 2),
+        Change::PushColumns(usize::MAX),
+        Change::PushColumns(usize::MAX - 2),
+    ] {
+        assert!(rt; make_change(alloc, &mut both.flat, change).is_err());
+        assert!(rt; make_change(alloc, &mut both.nested.rows, change).is_err());
+        let (flat, nested) = both.spelled(alloc)?;
+        assert_eq!(rt; flat.as_str(), before.as_str(), "{change:?}");
+        assert_eq!(rt; nested.as_str(), before.as_str(), "{change:?}");
+    }
+    Ok(())
+}
+
 /// Changes both stores, and says whether one that refuses is as it was.
 fn keeps(alloc: Global, change: Change) -> Result<bool, AllocError> {
     let mut both = Both::two_rows(alloc)?;
     let (before, _) = both.spelled(alloc)?;
-    let flat = make_lent_change(alloc, &mut both.flat, change);
+    let flat = match change {
+        Change::PushRows(_) | Change::PushColumns(_) | Change::Transpose => {
+            make_change(alloc, &mut both.flat, change)
+        }
+        _ => make_lent_change(alloc, &mut both.flat, change),
+    };
     let nested = make_change(alloc, &mut both.nested.rows, change);
     let (flat_after, nested_after) = both.spelled(alloc)?;
     Ok((flat.is_ok() || flat_after == before) && (nested.is_ok() || nested_after == before))
@@ -197,6 +226,9 @@ fn keeps_the_stores_at_a_refusal(rt: HostRuntime) {
     for change in [
         Change::PushRow,
         Change::PushColumn,
+        Change::PushRows(2),
+        Change::PushColumns(2),
+        Change::Transpose,
         Change::InsertRow(1),
         Change::InsertColumn(1),
         Change::Set(0, 1),

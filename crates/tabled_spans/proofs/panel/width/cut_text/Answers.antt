@@ -6,6 +6,7 @@ use Rattle.std.specs.Prelude.{chars, encode_utf8_all}
 use Rattle.std.specs.Str.Iter.{chars_rest}
 use Rattle.std.specs.String.{string_bytes}
 use Rattle.tabled_spans.specs.Widths.{pieces, placed}
+use Rattle.tabled_spans.proofs.Parts.{text_is_cut}
 use Rattle.tabled_spans.proofs.Widths.{Pushed, piece_more}
 use Rattle.tabled_spans.proofs.panel.width.cut_text.Goals as goal
 use Rattle.tabled_spans.proofs.panel.width.cut_text.Goals.{then-begins+in_ok-push, else-begins}
@@ -39,4 +40,5 @@ loop-c-preserved c =
 pub returns : goal.returns
 returns c =
     let none = nil_from_length _ c.in-None.ensures.steps.0.0 in
-    sym (append-nil (string_bytes c.loop-c.out)) ∙ sym (ap (λ cs. string_bytes c.loop-c.out ++ encode_utf8_all (pieces c.args.width c.loop-c.used cs)) (ap chars none ∙ chars-nil)) ∙ c.loop-c.invariant.same
+    let is = sym (append-nil (string_bytes c.loop-c.out)) ∙ sym (ap (λ cs. string_bytes c.loop-c.out ++ encode_utf8_all (pieces c.args.width c.loop-c.used cs)) (ap chars none ∙ chars-nil)) ∙ c.loop-c.invariant.same in
+    record { cut = is; parted = λ wide. (pieces c.args.width 0 (chars c.args.text.now), text_is_cut c.args.width wide (chars c.args.text.now), is) }

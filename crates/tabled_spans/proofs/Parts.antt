@@ -1,0 +1,284 @@
+-- A text that is cut character by character is parted.
+use Rattle.std.proofs.Common.{◌≡◌, ◌≢◌, ◌∙◌, ℕ, zero, suc, ◌+◌, ◌<◌, ◌≤◌, ◌⊎◌, inl, inr, Bool, true, false, cond, List, [], ◌∷◌, ◌++◌, refl, sym, ap, subst, append_assoc, map, arith}
+use Rattle.std.specs.Prelude.{nat_le, eqb, not, ◌&&◌}
+use Rattle.std.specs.List.{concat, join_with_byte, list_all, slice_split, sum_by}
+use Rattle.std.proofs.lemmas.Bool.{and_parts, eq-eqb, eqb-false, le-leb, lt-leb, ne_eqb}
+use Rattle.std.proofs.lemmas.Bool.Decides.{eqb_tells, leb_tells}
+use Rattle.std.proofs.lemmas.List.{append-nil}
+use Rattle.std.proofs.lemmas.List.Sums.{sum_by-cons, sum_by-append, sum_by_push}
+use Rattle.std.proofs.lemmas.List.Splits.{join_with_byte-slice_split}
+use Rattle.tabled_spans.specs.Widths.{AreParts, Begins, IsCut, IsCutLine, Placed, columns_in, columns_of, last_replaced, pieces, placed, shown}
+
+tail_same : {X : Type 0} (x y : X) (xs ys : List X) → x ∷ xs ≡ y ∷ ys → xs ≡ ys
+tail_same x y xs ys e = cc
+
+head_same : {X : Type 0} (x y : X) (xs ys : List X) → x ∷ xs ≡ y ∷ ys → x ≡ y
+head_same x y xs ys e = cc
+
+none_some : {X : Type 0} (x : X) (xs : List X) → [] ≡ x ∷ xs → ⊥
+none_some x xs e = cc
+
+nowhere : (front rest : List ℕ) (c : ℕ) → [] ≡ front ++ (c ∷ rest) → ⊥
+nowhere [] rest c e = none_some c rest e
+nowhere (x ∷ front) rest c e = none_some x _ e
+
+-- no character with a column stands behind so many columns
+abbrev IsShort : ℕ → List ℕ → Type 0
+IsShort width part = (front rest : List ℕ) (c : ℕ) → part ≡ front ++ (c ∷ rest) → 1 ≤ columns_of c → columns_in front < width
+
+-- a character that is put behind others is the last one, or some other is meant
+last_or_before : (cs front rest : List ℕ) (c d : ℕ) → cs ++ (c ∷ []) ≡ front ++ (d ∷ rest) → ((cs ≡ front) × (c ≡ d)) ⊎ ((less : List ℕ) × (cs ≡ front ++ (d ∷ less)))
+last_or_before [] [] rest c d e = inl (refl, head_same c d [] rest e)
+last_or_before [] (x ∷ front) rest c d e = absurd (nowhere front rest d (tail_same c x [] _ e))
+last_or_before (y ∷ cs) [] rest c d e = inr (cs, ap (λ x. x ∷ cs) (head_same y d _ rest e))
+last_or_before (y ∷ cs) (x ∷ front) rest c d e = by (last_or_before cs front rest c d (tail_same y x _ _ e))
+  where
+    same : y ≡ x
+    same = head_same y x _ _ e
+
+    by : ((cs ≡ front) × (c ≡ d)) ⊎ ((less : List ℕ) × (cs ≡ front ++ (d ∷ less))) → ((y ∷ cs ≡ x ∷ front) × (c ≡ d)) ⊎ ((less : List ℕ) × (y ∷ cs ≡ x ∷ (front ++ (d ∷ less))))
+    by (inl (is, last)) = inl (ap (λ z. z ∷ cs) same ∙ ap (λ zs. x ∷ zs) is, last)
+    by (inr (less, is)) = inr (less, ap (λ z. z ∷ cs) same ∙ ap (λ zs. x ∷ zs) is)
+
+short_more : (width : ℕ) (part : List ℕ) (c : ℕ) → IsShort width part → (1 ≤ columns_of c → columns_in part < width) → IsShort width (part ++ (c ∷ []))
+short_more width part c short here front rest d is some = by (last_or_before part front rest c d is)
+  where
+    by : ((part ≡ front) × (c ≡ d)) ⊎ ((less : List ℕ) × (part ≡ front ++ (d ∷ less))) → columns_in front < width
+    by (inl (same, last)) = subst (λ cs. columns_in cs < width) same (here (subst (λ e. 1 ≤ columns_of e) (sym last) some))
+    by (inr (less, before)) = short front less d before some
+
+-- a character without columns goes behind what is replaced
+replaced_on : (cs : List ℕ) (c : ℕ) → columns_of c ≡ 0 → 1 ≤ columns_in cs → last_replaced (cs ++ (c ∷ [])) ≡ last_replaced cs ++ (c ∷ [])
+replaced_on [] c none some = absurd (omega (arith, some))
+replaced_on (d ∷ cs) c none some = by (eqb (columns_in cs) 0) refl (λ h. replaced_on cs c none h)
+  where
+    more : columns_in (cs ++ (c ∷ [])) ≡ columns_in cs
+    more = omega (arith, sum_by_push columns_of cs c, none)
+
+    by : (b : Bool) → eqb (columns_in cs) 0 ≡ b → (1 ≤ columns_in cs → last_replaced (cs ++ (c ∷ [])) ≡ last_replaced cs ++ (c ∷ [])) → last_replaced ((d ∷ cs) ++ (c ∷ [])) ≡ last_replaced (d ∷ cs) ++ (c ∷ [])
+    by true is later = rw (more, is) refl
+    by false is later =
+        let apart = eqb-false _ _ is in
+        rw (more, is) (ap (λ xs. d ∷ xs) (later (omega (arith, apart))))
+
+-- a character with columns behind others is the one that is replaced
+replaced_last : (cs : List ℕ) (c : ℕ) → 1 ≤ columns_of c → last_replaced (cs ++ (c ∷ [])) ≡ cs ++ (0xFFFD ∷ [])
+replaced_last [] c some = refl
+replaced_last (d ∷ cs) c some =
+    let more : eqb (columns_in (cs ++ (c ∷ []))) 0 ≡ false = ne_eqb (columns_in (cs ++ (c ∷ []))) 0 (λ e. omega (arith, e, sum_by_push columns_of cs c, some)) in
+    rw more (ap (λ xs. d ∷ xs) (replaced_last cs c some))
+
+shown_whole : (width : ℕ) (part : List ℕ) → columns_in part ≤ width → shown width part ≡ part
+shown_whole width part fits = rw (le-leb _ _ fits) refl
+
+shown_cut : (width : ℕ) (part : List ℕ) → width < columns_in part → shown width part ≡ last_replaced part
+shown_cut width part over = rw (lt-leb _ _ over) refl
+
+-- how many columns count: as many as there are, or the width where there are more
+record Counted (width : ℕ) (part : List ℕ) (used : ℕ) : Type 0 where
+  most : used ≤ columns_in part
+  all : used < width → used ≡ columns_in part
+
+-- a character goes to the part before it
+record Put (width : ℕ) (part : List ℕ) (c : ℕ) (p : Placed) : Type 0 where
+  begins : p.begins ≡ false
+  short : IsShort width (part ++ (c ∷ []))
+  counted : Counted width (part ++ (c ∷ [])) p.used
+  is_shown : shown width (part ++ (c ∷ [])) ≡ shown width part ++ (p.character ∷ [])
+
+-- a character begins the next part
+record Next (width : ℕ) (part : List ℕ) (c : ℕ) (p : Placed) : Type 0 where
+  begins : p.begins ≡ true
+  full : width ≤ columns_in part
+  some : 1 ≤ columns_of c
+  short : IsShort width (c ∷ [])
+  counted : Counted width (c ∷ []) p.used
+  is_shown : shown width (c ∷ []) ≡ p.character ∷ []
+
+module _ (width : ℕ) (wide : 1 ≤ width) (part : List ℕ) (used c : ℕ) (short : IsShort width part) (counted : Counted width part used) (within : eqb c 10 ≡ false) where
+  sum : columns_in (part ++ (c ∷ [])) ≡ columns_in part + columns_of c
+  sum = sum_by_push columns_of part c
+
+  one : columns_in (c ∷ []) ≡ columns_of c
+  one = sum_by-cons columns_of c [] ∙ omega arith
+
+  without : columns_of c ≡ 0 → Put width part c (placed width used c)
+  without none =
+      let is : placed width used c ≡ record { begins = false; character = c; used = used } = rw (within, eq-eqb _ _ none) refl in
+      subst (Put width part c) (sym is) (record {
+        begins = refl;
+        short = short_more width part c short (λ some. absurd (omega (arith, none, some)));
+        counted = record { most = omega (arith, sum, none, counted.most); all = λ less. omega (arith, sum, none, counted.all less) };
+        is_shown = by (leb_tells (columns_in part) width);
+      })
+    where
+      by : ((nat_le (columns_in part) width ≡ true) × (columns_in part ≤ width)) ⊎ ((nat_le (columns_in part) width ≡ false) × (width < columns_in part)) → shown width (part ++ (c ∷ [])) ≡ shown width part ++ (c ∷ [])
+      by (inl (t, fits)) = shown_whole width (part ++ (c ∷ [])) (omega (arith, sum, none, fits)) ∙ ap (λ xs. xs ++ (c ∷ [])) (sym (shown_whole width part fits))
+      by (inr (f, over)) = shown_cut width (part ++ (c ∷ [])) (omega (arith, sum, none, over)) ∙ replaced_on part c none (omega (arith, over)) ∙ ap (λ xs. xs ++ (c ∷ [])) (sym (shown_cut width part over))
+
+  behind : 1 ≤ columns_of c → used < width → Put width part c (placed width used c)
+  behind some less = by (leb_tells (used + columns_of c) width)
+    where
+      fits : columns_in part < width
+      fits = omega (arith, counted.all less, less)
+
+      by : ((nat_le (used + columns_of c) width ≡ true) × (used + columns_of c ≤ width)) ⊎ ((nat_le (used + columns_of c) width ≡ false) × (width < used + columns_of c)) → Put width part c (placed width used c)
+      by (inl (t, room)) =
+          let is : placed width used c ≡ record { begins = false; character = c; used = used + columns_of c } = rw (within, ne_eqb (columns_of c) 0 (λ e. omega (arith, e, some)), lt-leb _ _ less, t) refl in
+          subst (Put width part c) (sym is) (record {
+            begins = refl;
+            short = short_more width part c short (λ _. fits);
+            counted = record { most = omega (arith, sum, counted.most); all = λ _. omega (arith, sum, counted.all less) };
+            is_shown = shown_whole width (part ++ (c ∷ [])) (omega (arith, sum, counted.all less, room)) ∙ ap (λ xs. xs ++ (c ∷ [])) (sym (shown_whole width part (omega (arith, fits))));
+          })
+      by (inr (f, over)) =
+          let is : placed width used c ≡ record { begins = false; character = 0xFFFD; used = width } = rw (within, ne_eqb (columns_of c) 0 (λ e. omega (arith, e, some)), lt-leb _ _ less, f) refl in
+          subst (Put width part c) (sym is) (record {
+            begins = refl;
+            short = short_more width part c short (λ _. fits);
+            counted = record { most = omega (arith, sum, counted.most, over); all = λ h. absurd (omega (arith, h)) };
+            is_shown = shown_cut width (part ++ (c ∷ [])) (omega (arith, sum, counted.all less, over)) ∙ replaced_last part c some ∙ ap (λ xs. xs ++ (0xFFFD ∷ [])) (sym (shown_whole width part (omega (arith, fits))));
+          })
+
+  alone : IsShort width (c ∷ [])
+  alone = short_more width [] c (λ front rest d is. absurd (nowhere front rest d is)) (λ _. omega (arith, wide))
+
+  next : 1 ≤ columns_of c → width ≤ used → Next width part c (placed width used c)
+  next some full = by (leb_tells (0 + columns_of c) width)
+    where
+      by : ((nat_le (0 + columns_of c) width ≡ true) × (0 + columns_of c ≤ width)) ⊎ ((nat_le (0 + columns_of c) width ≡ false) × (width < 0 + columns_of c)) → Next width part c (placed width used c)
+      by (inl (t, room)) =
+          let is : placed width used c ≡ record { begins = true; character = c; used = 0 + columns_of c } = rw (within, ne_eqb (columns_of c) 0 (λ e. omega (arith, e, some)), le-leb _ _ full, t) refl in
+          subst (Next width part c) (sym is) (record {
+            begins = refl;
+            full = omega (arith, full, counted.most);
+            some = some;
+            short = alone;
+            counted = record { most = omega (arith, one); all = λ _. omega (arith, one) };
+            is_shown = shown_whole width (c ∷ []) (omega (arith, one, room));
+          })
+      by (inr (f, over)) =
+          let is : placed width used c ≡ record { begins = true; character = 0xFFFD; used = width } = rw (within, ne_eqb (columns_of c) 0 (λ e. omega (arith, e, some)), le-leb _ _ full, f) refl in
+          subst (Next width part c) (sym is) (record {
+            begins = refl;
+            full = omega (arith, full, counted.most);
+            some = some;
+            short = alone;
+            counted = record { most = omega (arith, one, over); all = λ h. absurd (omega (arith, h)) };
+            is_shown = shown_cut width (c ∷ []) (omega (arith, one, over)) ∙ replaced_last [] c some;
+          })
+
+-- the rest of a line, whose first characters are already in a part
+record Parted (width : ℕ) (part cs new : List ℕ) : Type 0 where
+  more : List ℕ
+  others : List (List ℕ)
+  are : AreParts width (part ++ cs) ((part ++ more) ∷ others)
+  is_shown : join_with_byte 10 (map (shown width) ((part ++ more) ∷ others)) ≡ shown width part ++ new
+
+parted_none : (width : ℕ) (part : List ℕ) → IsShort width part → Parted width part [] []
+parted_none width part short = record {
+  more = [];
+  others = [];
+  are = record {
+    whole = append-nil (part ++ []);
+    full = λ before after a b is. absurd (lone before after a b is);
+    begins = λ before after a b is. absurd (lone before after a b is);
+    short = λ before after front rest c is some. only before after front rest c is some;
+  };
+  is_shown = ap (shown width) (append-nil part) ∙ sym (append-nil (shown width part));
+}
+  where
+    lone : (before after : List (List ℕ)) (a b : List ℕ) → (part ++ []) ∷ [] ≡ before ++ (a ∷ b ∷ after) → ⊥
+    lone [] after a b is = none_some b after (tail_same _ a [] (b ∷ after) is)
+    lone (x ∷ []) after a b is = none_some a (b ∷ after) (tail_same _ x [] (a ∷ b ∷ after) is)
+    lone (x ∷ y ∷ before) after a b is = none_some y _ (tail_same _ x [] _ is)
+
+    only : (before after : List (List ℕ)) (front rest : List ℕ) (c : ℕ) → (part ++ []) ∷ [] ≡ before ++ ((front ++ (c ∷ rest)) ∷ after) → 1 ≤ columns_of c → columns_in front < width
+    only [] after front rest c is some = short front rest c (sym (append-nil part) ∙ head_same _ (front ++ (c ∷ rest)) [] after is) some
+    only (x ∷ []) after front rest c is some = absurd (none_some (front ++ (c ∷ rest)) after (tail_same _ x [] _ is))
+    only (x ∷ y ∷ before) after front rest c is some = absurd (none_some y _ (tail_same _ x [] _ is))
+
+-- a part is ended, and the next one begins with a character
+parted_next : (width : ℕ) (part : List ℕ) (c : ℕ) (cs new : List ℕ) → IsShort width part → width ≤ columns_in part → 1 ≤ columns_of c → Parted width (c ∷ []) cs new → Parted width part (c ∷ cs) (10 ∷ (shown width (c ∷ []) ++ new))
+parted_next width part c cs new short full some later = record {
+  more = [];
+  others = (c ∷ later.more) ∷ later.others;
+  are = record {
+    whole = ap (λ xs. xs ++ concat ((c ∷ later.more) ∷ later.others)) (append-nil part) ∙ ap (λ xs. part ++ xs) later.are.whole;
+    full = full_at;
+    begins = begins_at;
+    short = short_at;
+  };
+  is_shown = ap (λ p. shown width p ++ (10 ∷ join_with_byte 10 (map (shown width) ((c ∷ later.more) ∷ later.others)))) (append-nil part) ∙ ap (λ xs. shown width part ++ (10 ∷ xs)) later.is_shown;
+}
+  where
+    all : List (List ℕ)
+    all = (part ++ []) ∷ (c ∷ later.more) ∷ later.others
+
+    full_at : (before after : List (List ℕ)) (a b : List ℕ) → all ≡ before ++ (a ∷ b ∷ after) → width ≤ columns_in a
+    full_at [] after a b is = subst (λ p. width ≤ columns_in p) (sym (append-nil part) ∙ head_same _ a _ (b ∷ after) is) full
+    full_at (x ∷ before) after a b is = later.are.full before after a b (tail_same _ x _ _ is)
+
+    begins_at : (before after : List (List ℕ)) (a b : List ℕ) → all ≡ before ++ (a ∷ b ∷ after) → Begins b
+    begins_at [] after a b is = (c, later.more, sym (head_same (c ∷ later.more) b later.others after (tail_same _ a _ (b ∷ after) is)), some)
+    begins_at (x ∷ before) after a b is = later.are.begins before after a b (tail_same _ x _ _ is)
+
+    short_at : (before after : List (List ℕ)) (front rest : List ℕ) (d : ℕ) → all ≡ before ++ ((front ++ (d ∷ rest)) ∷ after) → 1 ≤ columns_of d → columns_in front < width
+    short_at [] after front rest d is has = short front rest d (sym (append-nil part) ∙ head_same _ (front ++ (d ∷ rest)) _ after is) has
+    short_at (x ∷ before) after front rest d is has = later.are.short before after front rest d (tail_same _ x _ _ is) has
+
+-- a character goes to its part
+parted_put : (width : ℕ) (part : List ℕ) (c e : ℕ) (cs new : List ℕ) → shown width (part ++ (c ∷ [])) ≡ shown width part ++ (e ∷ []) → Parted width (part ++ (c ∷ [])) cs new → Parted width part (c ∷ cs) (e ∷ new)
+parted_put width part c e cs new is later = record {
+  more = c ∷ later.more;
+  others = later.others;
+  are = subst (λ xs. AreParts width xs ((part ++ (c ∷ later.more)) ∷ later.others)) (append_assoc part (c ∷ []) cs) (subst (λ p. AreParts width ((part ++ (c ∷ [])) ++ cs) (p ∷ later.others)) (append_assoc part (c ∷ []) later.more) later.are);
+  is_shown = ap (λ p. join_with_byte 10 (map (shown width) (p ∷ later.others))) (sym (append_assoc part (c ∷ []) later.more)) ∙ later.is_shown ∙ ap (λ xs. xs ++ new) is ∙ append_assoc (shown width part) (e ∷ []) new;
+}
+
+parted : (width : ℕ) → 1 ≤ width → (cs part : List ℕ) (used : ℕ) → IsShort width part → Counted width part used → list_all (λ c. not (eqb c 10)) cs ≡ true → Parted width part cs (pieces width used cs)
+parted width wide [] part used short counted within = parted_none width part short
+parted width wide (c ∷ cs) part used short counted within = by (eqb_tells (columns_of c) 0) (leb_tells width used) (λ p u. parted width wide cs p u)
+  where
+    apart : eqb c 10 ≡ false
+    apart = not_true (eqb c 10) (and_parts _ _ within).0
+      where
+        not_true : (b : Bool) → not b ≡ true → b ≡ false
+        not_true true e = sym e
+        not_true false e = refl
+
+    put : Put width part c (placed width used c) → ((p : List ℕ) (u : ℕ) → IsShort width p → Counted width p u → list_all (λ c. not (eqb c 10)) cs ≡ true → Parted width p cs (pieces width u cs)) → Parted width part (c ∷ cs) (pieces width used (c ∷ cs))
+    put h later = rw h.begins (parted_put width part c (placed width used c).character cs (pieces width (placed width used c).used cs) h.is_shown (later (part ++ (c ∷ [])) (placed width used c).used h.short h.counted (and_parts _ _ within).1))
+
+    start : Next width part c (placed width used c) → ((p : List ℕ) (u : ℕ) → IsShort width p → Counted width p u → list_all (λ c. not (eqb c 10)) cs ≡ true → Parted width p cs (pieces width u cs)) → Parted width part (c ∷ cs) (pieces width used (c ∷ cs))
+    start h later = rw h.begins (subst (λ xs. Parted width part (c ∷ cs) (10 ∷ (xs ++ pieces width (placed width used c).used cs))) h.is_shown (parted_next width part c cs (pieces width (placed width used c).used cs) short h.full h.some (later (c ∷ []) (placed width used c).used h.short h.counted (and_parts _ _ within).1)))
+
+    by : ((eqb (columns_of c) 0 ≡ true) × (columns_of c ≡ 0)) ⊎ ((eqb (columns_of c) 0 ≡ false) × (columns_of c ≢ 0)) → ((nat_le width used ≡ true) × (width ≤ used)) ⊎ ((nat_le width used ≡ false) × (used < width)) → ((p : List ℕ) (u : ℕ) → IsShort width p → Counted width p u → list_all (λ c. not (eqb c 10)) cs ≡ true → Parted width p cs (pieces width u cs)) → Parted width part (c ∷ cs) (pieces width used (c ∷ cs))
+    by (inl (_, none)) _ later = put (without width wide part used c short counted apart none) later
+    by (inr (_, some)) (inl (_, full)) later = start (next width wide part used c short counted apart (omega (arith, some)) full) later
+    by (inr (_, some)) (inr (_, less)) later = put (behind width wide part used c short counted apart (omega (arith, some)) less) later
+
+-- a newline ends a piece
+cut_at : (width used : ℕ) (line rest : List ℕ) → pieces width used (line ++ (10 ∷ rest)) ≡ pieces width used line ++ (10 ∷ pieces width 0 rest)
+cut_at width used [] rest = refl
+cut_at width used (c ∷ line) rest =
+    ap (λ xs. cond (placed width used c).begins (10 ∷ []) [] ++ ((placed width used c).character ∷ xs)) (cut_at width (placed width used c).used line rest)
+    ∙ sym (append_assoc (cond (placed width used c).begins (10 ∷ []) []) ((placed width used c).character ∷ pieces width (placed width used c).used line) (10 ∷ pieces width 0 rest))
+
+cut_each : (width : ℕ) (lines : List (List ℕ)) → pieces width 0 (join_with_byte 10 lines) ≡ join_with_byte 10 (map (pieces width 0) lines)
+cut_each width [] = refl
+cut_each width (line ∷ []) = refl
+cut_each width (line ∷ next ∷ lines) = cut_at width 0 line (join_with_byte 10 (next ∷ lines)) ∙ ap (λ xs. pieces width 0 line ++ (10 ∷ xs)) (cut_each width (next ∷ lines))
+
+line_is_cut : (width : ℕ) → 1 ≤ width → (line : List ℕ) → list_all (λ c. not (eqb c 10)) line ≡ true → IsCutLine width line (pieces width 0 line)
+line_is_cut width wide line within =
+    let h = parted width wide line [] 0 (λ front rest c is. absurd (nowhere front rest c is)) (record { most = omega arith; all = λ _. refl }) within in
+    (h.more ∷ h.others, h.are, ap (λ xs. xs ++ pieces width 0 line) (sym (shown_whole width [] (omega arith))) ∙ sym h.is_shown)
+
+-- the pieces of a text are the parts of its lines
+pub text_is_cut : (width : ℕ) → 1 ≤ width → (text : List ℕ) → IsCut width text (pieces width 0 text)
+text_is_cut width wide text = record {
+  cut_line = pieces width 0;
+  each = line_is_cut width wide;
+  whole = ap (pieces width 0) (sym (join_with_byte-slice_split 10 text)) ∙ cut_each width (slice_split (λ c. eqb c 10) text);
+}
