@@ -198,3 +198,44 @@ fn follows_sizes_that_change(rt: HostRuntime) -> Result<(), Fail> {
     }
     Ok(())
 }
+
+#[derive(Clone, Copy, Debug)]
+enum Call {
+    RowSpan,
+    ColumnSpan,
+    Sizes,
+    Copy,
+    Cover,
+}
+
+/// Makes a call on merged cells, and says whether they are as they were if it is refused.
+fn keeps(alloc: Global, call: Call) -> Result<bool, AllocError> {
+    let anchors: [Anchor; 2] = [(0, 0, 1, 2), (2, 1, 2, 1)];
+    let mut spans = merged(alloc, anchors.as_slice())?;
+    let before = listed(alloc, &spans)?;
+    let pos = Position::new(1, 3);
+    let done = match call {
+        Call::RowSpan => spans.set_row_span(alloc, pos, 2).is_ok(),
+        Call::ColumnSpan => spans.set_column_span(alloc, pos, 2).is_ok(),
+        Call::Sizes => spans.set_sizes(alloc, &[(pos, (2, 2))]).is_ok(),
+        Call::Copy => spans.copy(alloc).is_ok(),
+        Call::Cover => CoverMap::new(alloc, &spans, 3, 3).is_ok(),
+    };
+    Ok(done || listed(alloc, &spans)?.as_str() == before.as_str())
+}
+
+// With ample memory nothing is refused. `rt try --test --fail-alloc N` refuses the allocation N, so that a run
+// for each N meets each refusal.
+#[test]
+fn keeps_merged_cells_at_a_refusal(rt: HostRuntime) {
+    for call in [
+        Call::RowSpan,
+        Call::ColumnSpan,
+        Call::Sizes,
+        Call::Copy,
+        Call::Cover,
+    ] {
+        // Where the merged cells themselves are refused, there is nothing to compare.
+        assert!(rt; keeps(rt.alloc(), call) != Ok(false), "{call:?}");
+    }
+}

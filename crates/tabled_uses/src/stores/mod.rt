@@ -9,8 +9,8 @@ mod tests;
 use std::alloc::{AllocError, Global};
 use tabled_grid::config::Position;
 use tabled_grid::records::{
-    Blank, CellText, ExactRecords, PeekableRecords, Records, RecordsMut, Resizable, Text,
-    VecRecords, empty_without_rows,
+    Axis, Blank, CellText, ExactRecords, PeekableRecords, PieceOrder, Records, RecordsMut,
+    Resizable, Text, VecRecords, empty_without_rows,
 };
 
 /// A cell of a text.
@@ -75,6 +75,7 @@ pub enum Change {
     PushRows(usize),
     PushColumns(usize),
     Transpose,
+    CutRows(PieceOrder),
     InsertRow(usize),
     InsertColumn(usize),
     RemoveRow(usize),
@@ -93,14 +94,16 @@ where
     requires { R.is_well_formed records.old }
     ensures { R.is_well_formed records.new }
 {
-    match change {
-        Change::PushRows(many) => return records.push_rows(alloc, many),
-        Change::PushColumns(many) => return records.push_columns(alloc, many),
-        Change::Transpose => return records.transpose(alloc),
-        _ => {}
-    }
     let shape = (records.count_rows(), records.count_columns());
-    change_shaped(alloc, records, shape, change)
+    match change {
+        Change::PushRows(many) => records.push_rows(alloc, many),
+        Change::PushColumns(many) => records.push_columns(alloc, many),
+        Change::Transpose => records.transpose(alloc),
+        Change::CutRows(order) if shape.0 > 0 && shape.1 > 1 => {
+            records.cut(alloc, Axis::Rows, order, 1)
+        }
+        _ => change_shaped(alloc, records, shape, change),
+    }
 }
 
 /// Changes a store that is lent, through its `&mut`, which is a store itself, by one row, column or cell.

@@ -11,7 +11,7 @@ use std::marker::Model;
 use std::test::Fail;
 use tabled_grid::config::Position;
 use tabled_grid::records::{
-    Blank, CellText, ExactRecords, Records, RecordsMut, Resizable, Text, VecRecords,
+    Blank, CellText, ExactRecords, PieceOrder, Records, RecordsMut, Resizable, Text, VecRecords,
 };
 
 /// Rows that are equally long, each in a vector of its own.
@@ -95,6 +95,14 @@ fn changes_rows_columns_and_cells(rt: HostRuntime) -> Result<(), Fail> {
         (
             [PushColumns(2), Set(0, 0), Transpose],
             "4 x 2\n[00][c]\n[b][d]\n[][]\n[][]",
+        ),
+        (
+            [
+                CutRows(PieceOrder::Concat),
+                PushColumn,
+                CutRows(PieceOrder::Zip),
+            ],
+            "8 x 1\n[a]\n[]\n[c]\n[]\n[b]\n[]\n[d]\n[]",
         ),
         ([RemoveColumn(0), RemoveRow(0), PushColumn], "1 x 2\n[d][]"),
         ([RemoveRow(1), RemoveRow(0), PushColumn], "0 x 0"),
@@ -209,10 +217,10 @@ fn keeps(alloc: Global, change: Change) -> Result<bool, AllocError> {
     let mut both = Both::two_rows(alloc)?;
     let (before, _) = both.spelled(alloc)?;
     let flat = match change {
-        Change::PushRows(_) | Change::PushColumns(_) | Change::Transpose => {
-            make_change(alloc, &mut both.flat, change)
+        Change::PushRow | Change::PushColumn | Change::InsertRow(_) | Change::InsertColumn(_) => {
+            make_lent_change(alloc, &mut both.flat, change)
         }
-        _ => make_lent_change(alloc, &mut both.flat, change),
+        _ => make_change(alloc, &mut both.flat, change),
     };
     let nested = make_change(alloc, &mut both.nested.rows, change);
     let (flat_after, nested_after) = both.spelled(alloc)?;
@@ -229,6 +237,8 @@ fn keeps_the_stores_at_a_refusal(rt: HostRuntime) {
         Change::PushRows(2),
         Change::PushColumns(2),
         Change::Transpose,
+        Change::CutRows(PieceOrder::Concat),
+        Change::CutRows(PieceOrder::Zip),
         Change::InsertRow(1),
         Change::InsertColumn(1),
         Change::Set(0, 1),
