@@ -11,7 +11,7 @@ pub read_behind : {A X : Type 0} (view : X → A) (next : List ℕ → Reading A
 read_behind view next word texts left r new is told = rw is told
 
 -- a selector to a depth that isn't 0
-pub read_deeper : {X : Type 0} (view : X → Named) (depth n : ℕ) (word shown : List ℕ) (texts left : List (List ℕ)) (r : Result X Fault) (new : List (List ℕ)) → depth ≡ suc n → reads_word texts ≡ Ok (word, left) → shown ≡ word → Reads view (behind (selectors (reads_selector n)) shown) left r new → Reads view (reads_selector depth) texts r new
-read_deeper {X} view depth n word shown texts left r new e is same told =
-    let read : Reads view (reads_selector (suc n)) texts r new = read_behind view (behind (selectors (reads_selector n))) word texts left r new is (subst (λ w. Reads view (behind (selectors (reads_selector n)) w) left r new) same told) in
+pub read_deeper : {X : Type 0} (view : X → Named) (depth n : ℕ) (word : List ℕ) (texts left : List (List ℕ)) (r : Result X Fault) (new : List (List ℕ)) → depth ≡ suc n → reads_word texts ≡ Ok (word, left) → Reads view (behind (selectors (reads_selector n)) word) left r new → Reads view (reads_selector depth) texts r new
+read_deeper {X} view depth n word texts left r new e is told =
+    let read : Reads view (reads_selector (suc n)) texts r new = read_behind view (behind (selectors (reads_selector n))) word texts left r new is told in
     subst (λ d. Reads view (reads_selector d) texts r new) (sym e) read

@@ -3,5 +3,6 @@ pub mod Escapes
 pub mod Numbers
 pub mod PlainLines
 pub mod ScriptLines
+pub mod Separated
 pub mod TableRows
-pub mod Texts
+pub mod Utf8

@@ -1,13 +1,17 @@
 -- A script read line by line.
-use Rattle.std.proofs.Common.{◌≡◌, ℕ, ◌+◌, List, [], ◌∷◌, ◌++◌, length, Some, None, Ok, Err, refl, sym, ap, ◌∙◌, arith}
+use Rattle.std.specs.Prelude.{codes, map}
+use Rattle.std.specs.Str.{bytes_eq}
+use Rattle.std.proofs.lemmas.Slice.Eq.{bytes_eq-Decides}
+use Rattle.std.proofs.Common.{◌≡◌, ◌≢◌, ℕ, Bool, true, false, ◌+◌, List, [], ◌∷◌, ◌++◌, length, Some, None, Ok, Err, refl, sym, ap, ◌∙◌, arith}
 use Rattle.std.proofs.lemmas.Bool.Decides.{nat_tests}
 use Rattle.std.proofs.lemmas.List.{append-nil, append_assoc, length-append}
 use Rattle.std.proofs.lemmas.List.Elements.{filter_map-append}
-use Rattle.std.specs.List.{list_any}
+use Rattle.std.specs.List.{list_any, remove, slice_index_or}
 use Rattle.tabled_language.specs.declared.fault.Fault.{Fault}
-use Rattle.tabled_language.specs.Line.{Script, script_of, fault_of, first_fault, is_step, record_in, step_in, script_or_fault}
+use Rattle.tabled_language.specs.Line.{Script, line_of, meaning_of, script_of, fault_of, first_fault, is_step, record_in, step_in, script_or_fault, texts_of, words_of}
 use Rattle.tabled_language.specs.Parsing.{has_step, with_line}
-use Rattle.tabled_language.specs.Verb.{Line, EmptyLine, RecordLine, StepLine, FaultyLine}
+use Rattle.tabled_language.specs.Verb.{Line, EmptyLine, RecordLine, StepLine, FaultyLine, step_line, steps}
+use Rattle.tabled_language.specs.Words.{behind, whole}
 
 -- of all lines a number was read into a script, and the rest is left
 pub record HasRead (all rest : List Line) (number : ℕ) (script : Script) : Type 0 where
@@ -65,3 +69,21 @@ pub has_read-all : {all : List Line} {number : ℕ} {script : Script} → HasRea
 has_read-all {all} {number} {script} h =
     let whole : h.earlier ≡ all = sym (append-nil h.earlier) ∙ h.split in
     rw (← h.faults, h.is, whole) refl
+
+-- a line with bytes says what its texts say
+pub line_of-texts : (line : List ℕ) (texts : List (List ℕ)) → length line ≢ 0 → texts_of (words_of line) ≡ Some texts → line_of line ≡ meaning_of (Some texts)
+line_of-texts [] texts some is = absurd (some refl)
+line_of-texts (b ∷ bs) texts some is = ap meaning_of is
+
+-- texts whose verb isn't `row` say a step
+pub meaning_of-step : (texts : List (List ℕ)) (verb : List ℕ) (others : List (List ℕ)) → texts ≡ verb ∷ others → verb ≢ codes "row" → meaning_of (Some texts) ≡ step_line (whole (behind steps verb) others)
+meaning_of-step texts verb others is other = rw (is, differ (bytes_eq verb (codes "row")) (λ same. other ((bytes_eq-Decides verb (codes "row")).0 same))) refl
+  where
+    differ : (b : Bool) → (b ≡ true → ⊥) → b ≡ false
+    differ true never = absurd (never refl)
+    differ false never = refl
+
+-- the first of values is taken away
+pub first_removed : {A : Type 0} (view : A → List ℕ) (xs : List A) (x : A) → length xs ≢ 0 → x ≡ slice_index_or xs 0 x → map view xs ≡ view x ∷ map view (remove xs 0)
+first_removed view [] x some is = absurd (some refl)
+first_removed view (y ∷ ys) x some is = ap (λ z. view z ∷ map view ys) (sym is)

@@ -19,7 +19,7 @@ with_two_numbers make = then_reads reads_number (λ a. then_reads reads_number (
 abbrev pub with_four_numbers : (ℕ → ℕ → ℕ → ℕ → Select) → Reading Named
 with_four_numbers make = then_reads reads_number (λ a. then_reads reads_number (λ b. then_reads reads_number (λ c. then_reads reads_number (λ d. gives (named_by (make a b c d))))))
 
--- the words of selectors that hold no other
+-- the words of selectors that hold no other and no text
 abbrev pub plain_selectors : Choices Named
 plain_selectors =
     (codes "all", gives (named_by select.All))
@@ -38,8 +38,6 @@ plain_selectors =
     ∷ (codes "columns", with_two_numbers select.Columns)
     ∷ (codes "segment", with_four_numbers select.Segment)
     ∷ (codes "frame", gives (named_by select.Frame))
-    ∷ (codes "content", then_reads reads_word (λ text. gives (with_content text)))
-    ∷ (codes "name", then_reads reads_word (λ text. gives (with_name text)))
     ∷ []
 
 -- the words of selectors, where a selector that they hold is read by a reading
@@ -51,6 +49,8 @@ selectors inner =
     ∷ (codes "inverse", then_reads inner (λ x. gives (λ g. others g (x g))))
     ∷ (codes "skip", then_reads reads_number (λ n. then_reads inner (λ x. gives (λ g. drop n (x g)))))
     ∷ (codes "step", then_reads reads_number (λ n. then_reads inner (λ x. gives (λ g. every n (x g)))))
+    ∷ (codes "content", then_reads reads_word (λ text. gives (with_content text)))
+    ∷ (codes "name", then_reads reads_word (λ text. gives (with_name text)))
     ∷ plain_selectors
 
 -- the words of a selector that holds others to a depth

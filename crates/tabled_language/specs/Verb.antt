@@ -86,28 +86,26 @@ reads_rows rows columns texts = if nat_le (rows * columns) (length texts) then O
 abbrev pub reads_table : Reading (Grid (List ℕ))
 reads_table = then_reads reads_count (λ rows. then_reads reads_count (λ columns. reads_rows rows columns))
 
--- what `remove` takes away: rows or columns of a range, or columns with a name
-abbrev pub removals : Choices (State → State)
-removals =
+-- what `remove` takes away of a range: rows or columns
+abbrev pub plain_removals : Choices (State → State)
+plain_removals =
     (codes "rows", then_reads reads_number (λ a. then_reads reads_number (λ b. gives (remove_range Rows a b))))
     ∷ (codes "columns", then_reads reads_number (λ a. then_reads reads_number (λ b. gives (remove_range Columns a b))))
-    ∷ (codes "named", then_reads reads_word (λ name. gives (remove_named name)))
     ∷ []
 
--- the verbs of steps that take no selector, no width and no table, and what is read behind each
+-- what `remove` takes away: columns with a name, or rows or columns of a range
+abbrev pub removals : Choices (State → State)
+removals = (codes "named", then_reads reads_word (λ name. gives (remove_named name))) ∷ plain_removals
+
+-- the verbs of steps that take no selector, no text and no table, and what is read behind each
 abbrev pub plain_steps : Choices (State → State)
 plain_steps =
-    (codes "hpanel", then_reads reads_number (λ n. then_reads reads_word (λ text. gives (put_panel Rows n text))))
-    ∷ (codes "vpanel", then_reads reads_number (λ n. then_reads reads_word (λ text. gives (put_panel Columns n text))))
-    ∷ (codes "header", then_reads reads_word (λ text. gives (put_panel Rows 0 text)))
-    ∷ (codes "footer", then_reads reads_word (λ text. gives (λ s. put_panel Rows s.texts.rows text s)))
-    ∷ (codes "vmerge", gives (merge Rows))
+    (codes "vmerge", gives (merge Rows))
     ∷ (codes "hmerge", gives (merge Columns))
     ∷ (codes "rotate", then_reads reads_rotate (λ how. gives (rearrange (rotated how))))
     ∷ (codes "reverse", then_reads reads_lines (λ axis. then_reads reads_number (λ start. then_reads reads_offset (λ limit. gives (rearrange (reversed axis start limit))))))
     ∷ (codes "split", then_reads reads_cut_lines (λ lines. then_reads reads_number (λ index. then_reads reads_behavior (λ pieces. then_reads reads_display (λ shown. gives (cut (record { lines = lines; behavior = pieces; display = shown; index = index })))))))
     ∷ (codes "extract", then_reads reads_number (λ a. then_reads reads_number (λ b. then_reads reads_number (λ c. then_reads reads_number (λ d. gives (rearrange (extracted (half_open a b) (half_open c d))))))))
-    ∷ (codes "remove", reads_one_of removals)
     ∷ []
 
 -- a selector and a text to write
@@ -130,6 +128,18 @@ reads_tabs = then_reads reads_number (λ n. then_reads reads_cells (λ named. gi
 abbrev pub reads_span : Axis → Reading (State → State)
 reads_span axis = then_reads reads_integer (λ size. then_reads reads_cells (λ named. gives (on_each (span axis size) named)))
 
+-- a row or a column, and a text
+abbrev pub reads_panel : Axis → Reading (State → State)
+reads_panel axis = then_reads reads_number (λ n. then_reads reads_word (λ text. gives (put_panel axis n text)))
+
+-- the text of a row above all others
+abbrev pub reads_header : Reading (State → State)
+reads_header = then_reads reads_word (λ text. gives (put_panel Rows 0 text))
+
+-- the text of a row below all others
+abbrev pub reads_footer : Reading (State → State)
+reads_footer = then_reads reads_word (λ text. gives (λ s. put_panel Rows s.texts.rows text s))
+
 -- a column, a width and a text
 abbrev pub reads_cut_panel : Reading (State → State)
 reads_cut_panel = then_reads reads_number (λ n. then_reads reads_number (λ width. then_reads reads_word (λ text. gives (put_panel Columns n (widths.cut width text)))))
@@ -147,7 +157,12 @@ steps =
     ∷ (codes "tabs", reads_tabs)
     ∷ (codes "cspan", reads_span Columns)
     ∷ (codes "rspan", reads_span Rows)
+    ∷ (codes "hpanel", reads_panel Rows)
+    ∷ (codes "vpanel", reads_panel Columns)
     ∷ (codes "vpanelw", reads_cut_panel)
+    ∷ (codes "header", reads_header)
+    ∷ (codes "footer", reads_footer)
+    ∷ (codes "remove", reads_one_of removals)
     ∷ (codes "concat", reads_concat)
     ∷ plain_steps
 

@@ -6,6 +6,7 @@ mod parts;
 mod script;
 mod selectors;
 mod steps;
+mod texts;
 mod verbs;
 mod word;
 mod words;

@@ -1,8 +1,8 @@
 //! Bytes separated at the places of one byte.
 
-ghost use Rattle.std.specs.Prelude.{◌≡◌, ◌==◌, ◌∷◌};
+ghost use Rattle.std.specs.Prelude.{◌≡◌, ◌<◌, ◌==◌, ◌∷◌, length, MatchOption};
 ghost use Rattle.std.specs.Iterator.{YieldsFirstRef, item_count};
-ghost use Rattle.std.specs.List.{slice_split};
+ghost use Rattle.std.specs.List.{position_or_len, slice_split};
 ghost use Rattle.tabled_language.specs.Parsing.{parts_left};
 
 use std::marker::Model;
@@ -56,10 +56,33 @@ impl<'a> Iterator for Parts<'a> {
 fn first_part(bytes: &[u8], at: u8) -> (&[u8], Option<&[u8]>)
     ensures { slice_split (λ b. b == at) bytes.now ≡ result.0.now ∷ parts_left at result.1 }
 {
+    match first_place(bytes, at) {
+        Some(place) => (&bytes[..place], Some(&bytes[place + 1..])),
+        None => (bytes, None),
+    }
+}
+
+/// The first place of a byte.
+pub(crate) fn first_place(bytes: &[u8], at: u8) -> Option<usize>
+    ensures { MatchOption result (position_or_len (λ b. b == at) bytes.now ≡ length bytes.now) (λ place. (position_or_len (λ b. b == at) bytes.now ≡ place) × (place < length bytes.now)) }
+{
     for (i, byte) in bytes.iter().enumerate() {
         if *byte == at {
-            return (&bytes[..i], Some(&bytes[i + 1..]));
+            return Some(i);
         }
     }
-    (bytes, None)
+    None
+}
+
+/// How many parts there are.
+pub(crate) fn count_parts(bytes: &[u8], at: u8) -> usize
+    ensures { result ≡ length (slice_split (λ b. b == at) bytes.now) }
+{
+    let mut parts = 1;
+    for byte in bytes {
+        if *byte == at {
+            parts += 1;
+        }
+    }
+    parts
 }

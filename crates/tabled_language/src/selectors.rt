@@ -3,7 +3,7 @@
 ghost use Rattle.std.specs.Prelude.{◌≡◌, IfOk};
 
 use crate::fault::Fault;
-use crate::words::Words;
+use crate::words::{Read, Words};
 use std::alloc::{AllocError, Global};
 use tabled_steps::Select;
 
@@ -14,7 +14,7 @@ fn boxed(alloc: Global, select: Select) -> Result<Box<Select>, AllocError>
     Ok(Box::new(alloc, select)?)
 }
 
-impl Words {
+impl<'a> Words<'a> {
     ghost use Rattle.std.specs.Prelude.{◌≡◌, IfOk};
     ghost use Rattle.tabled_language.specs.Parsing.{Reads};
     ghost use Rattle.tabled_language.specs.Selectors.{plain_selectors, reads_selector, selectors};
@@ -23,28 +23,19 @@ impl Words {
 
     /// A selector that holds others to a depth.
     #[cycle(nested)]
-    pub(crate) fn selector(
-        &mut self,
-        alloc: Global,
-        depth: usize,
-    ) -> Result<Result<Select, Fault>, AllocError>
+    pub(crate) fn selector(&mut self, alloc: Global, depth: usize) -> Read<Select>
         ensures { IfOk result (λ read. Reads named_by (reads_selector depth) self.old read self.new) }
     {
         match self.word() {
             Ok(_) if depth == 0 => Ok(Err(Fault::SelectorDepth)),
-            Ok(word) => self.selector_behind(alloc, depth - 1, word.as_str()),
+            Ok(word) => self.selector_behind(alloc, depth - 1, word),
             Err(fault) => Ok(Err(fault)),
         }
     }
 
     /// What is behind the word of a selector, where others are held to a depth.
     #[cycle(nested)]
-    fn selector_behind(
-        &mut self,
-        alloc: Global,
-        depth: usize,
-        word: &str,
-    ) -> Result<Result<Select, Fault>, AllocError>
+    fn selector_behind(&mut self, alloc: Global, depth: usize, word: &str) -> Read<Select>
         ensures { IfOk result (λ read. Reads named_by (behind (selectors (reads_selector depth)) word.now) self.old read self.new) }
     {
         match word {
@@ -81,11 +72,19 @@ impl Words {
                     _ => Select::StepBy(n, x),
                 }))
             }
+            "content" => match self.text(alloc)? {
+                Ok(text) => Ok(Ok(Select::Content(text))),
+                Err(fault) => Ok(Err(fault)),
+            },
+            "name" => match self.text(alloc)? {
+                Ok(text) => Ok(Ok(Select::Name(text))),
+                Err(fault) => Ok(Err(fault)),
+            },
             _ => Ok(self.plain_selector(word)),
         }
     }
 
-    /// What is behind the word of a selector that holds no other.
+    /// What is behind the word of a selector that holds no other and no text.
     fn plain_selector(&mut self, word: &str) -> Result<Select, Fault>
         ensures { Reads named_by (behind plain_selectors word.now) self.old result self.new }
     {
@@ -142,14 +141,6 @@ impl Words {
                 Ok(Select::Segment(first_row, end_row, first_column, end_column))
             }
             "frame" => Ok(Select::Frame),
-            "content" => {
-                let text = self.word()?;
-                Ok(Select::Content(text))
-            }
-            "name" => {
-                let text = self.word()?;
-                Ok(Select::Name(text))
-            }
             _ => Err(Fault::UnknownWord),
         }
     }

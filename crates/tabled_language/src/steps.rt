@@ -1,29 +1,26 @@
-//! Steps whose reading takes memory: those with a selector, a cut text or a table.
+//! Steps whose reading takes memory: those with a selector, a text or a table.
 
 use crate::fault::Fault;
-use crate::words::Words;
+use crate::words::{Read, Words};
 use std::alloc::{AllocError, Global};
 use tabled_grid::records::{Axis, Text, VecRecords};
 use tabled_settings::concat::Concat;
 use tabled_settings::formatting::Charset;
-use tabled_spans::panel::VerticalPanel;
+use tabled_spans::panel::{Footer, Header, HorizontalPanel, VerticalPanel};
 use tabled_steps::{Select, Step};
 use tabled_table::Table;
 
 /// How many selectors stand in each other at most.
 const LARGEST_DEPTH: usize = 64;
 
-/// What was read, or what is wrong with it.
-type Read<T> = Result<Result<T, Fault>, AllocError>;
-
-impl Words {
+impl<'a> Words<'a> {
     ghost use Rattle.std.specs.Prelude.{◌≡◌, ◌≤◌, ◌*◌, IfOk, drop, length, map};
     ghost use Rattle.std.specs.String.{string_bytes};
     ghost use Rattle.tabled_grid.specs.Grid.{map_grid, map_items};
     ghost use Rattle.tabled_grid.specs.declared.records.axis.Axis.TheVariants.{Columns, Rows};
     ghost use Rattle.tabled_language.specs.Parsing.{Reads};
-    ghost use Rattle.tabled_language.specs.Verb.{reads_cells, reads_clean, reads_concat, reads_cut_panel, reads_dup, reads_set, reads_span, reads_table, reads_tabs, rows_of, steps};
-    ghost use Rattle.tabled_language.specs.Words.{behind};
+    ghost use Rattle.tabled_language.specs.Verb.{reads_cells, reads_clean, reads_concat, reads_cut_panel, reads_dup, reads_footer, reads_header, reads_panel, reads_set, reads_span, reads_table, reads_tabs, removals, rows_of, steps};
+    ghost use Rattle.tabled_language.specs.Words.{behind, reads_one_of};
     ghost use Rattle.tabled_steps.specs.Selected.{named_by};
     ghost use Rattle.tabled_steps.specs.States.{after};
 
@@ -38,7 +35,12 @@ impl Words {
             "tabs" => self.tabs(alloc),
             "cspan" => self.span(alloc, Axis::Columns),
             "rspan" => self.span(alloc, Axis::Rows),
+            "hpanel" => self.panel(alloc, Axis::Rows),
+            "vpanel" => self.panel(alloc, Axis::Columns),
             "vpanelw" => self.cut_panel(alloc),
+            "header" => self.header(alloc),
+            "footer" => self.footer(alloc),
+            "remove" => self.removal(alloc),
             "concat" => self.concat(alloc),
             _ => Ok(self.plain_step(verb)),
         }
@@ -57,7 +59,7 @@ impl Words {
             Ok(select) => select,
             Err(fault) => return Ok(Err(fault)),
         };
-        match self.word() {
+        match self.text(alloc)? {
             Ok(text) => Ok(Ok(Step::Set(select, text))),
             Err(fault) => Ok(Err(fault)),
         }
@@ -114,6 +116,22 @@ impl Words {
         }
     }
 
+    fn panel(&mut self, alloc: Global, axis: Axis) -> Read<Step>
+        ensures { IfOk result (λ read. Reads after (reads_panel axis) self.old read self.new) }
+    {
+        let place = match self.number() {
+            Ok(place) => place,
+            Err(fault) => return Ok(Err(fault)),
+        };
+        match self.text(alloc)? {
+            Ok(text) => Ok(Ok(match axis {
+                Axis::Rows => Step::HorizontalPanel(HorizontalPanel::new(place, text)),
+                Axis::Columns => Step::VerticalPanel(VerticalPanel::new(place, text)),
+            })),
+            Err(fault) => Ok(Err(fault)),
+        }
+    }
+
     fn cut_panel(&mut self, alloc: Global) -> Read<Step>
         ensures { IfOk result (λ read. Reads after reads_cut_panel self.old read self.new) }
     {
@@ -125,12 +143,51 @@ impl Words {
             Ok(width) => width,
             Err(fault) => return Ok(Err(fault)),
         };
-        match self.word() {
+        match self.text(alloc)? {
             Ok(text) => {
                 let panel = VerticalPanel::new(column, text).width(alloc, width)?;
                 Ok(Ok(Step::VerticalPanel(panel)))
             }
             Err(fault) => Ok(Err(fault)),
+        }
+    }
+
+    fn header(&mut self, alloc: Global) -> Read<Step>
+        ensures { IfOk result (λ read. Reads after reads_header self.old read self.new) }
+    {
+        match self.text(alloc)? {
+            Ok(text) => Ok(Ok(Step::Header(Header::new(text)))),
+            Err(fault) => Ok(Err(fault)),
+        }
+    }
+
+    fn footer(&mut self, alloc: Global) -> Read<Step>
+        ensures { IfOk result (λ read. Reads after reads_footer self.old read self.new) }
+    {
+        match self.text(alloc)? {
+            Ok(text) => Ok(Ok(Step::Footer(Footer::new(text)))),
+            Err(fault) => Ok(Err(fault)),
+        }
+    }
+
+    fn removal(&mut self, alloc: Global) -> Read<Step>
+        ensures { IfOk result (λ read. Reads after (reads_one_of removals) self.old read self.new) }
+    {
+        match self.word() {
+            Ok(word) => self.removal_behind(alloc, word),
+            Err(fault) => Ok(Err(fault)),
+        }
+    }
+
+    fn removal_behind(&mut self, alloc: Global, word: &str) -> Read<Step>
+        ensures { IfOk result (λ read. Reads after (behind removals word.now) self.old read self.new) }
+    {
+        match word {
+            "named" => match self.text(alloc)? {
+                Ok(name) => Ok(Ok(Step::RemoveNamed(name))),
+                Err(fault) => Ok(Err(fault)),
+            },
+            _ => Ok(self.plain_removal(word)),
         }
     }
 
@@ -141,7 +198,7 @@ impl Words {
             Ok(side) => side,
             Err(fault) => return Ok(Err(fault)),
         };
-        let default = match self.word() {
+        let default = match self.text(alloc)? {
             Ok(text) => text,
             Err(fault) => return Ok(Err(fault)),
         };

@@ -1,4 +1,4 @@
-//! Steps read from the words of a line.
+//! Steps that are read without memory, and the words that they are read from.
 
 use crate::fault::Fault;
 use crate::words::Words;
@@ -7,21 +7,20 @@ use tabled_grid::records::Axis;
 use tabled_settings::reverse::Reverse;
 use tabled_settings::rotate::Rotate;
 use tabled_settings::split::{Behavior, Display, Split};
-use tabled_spans::panel::{Footer, Header, HorizontalPanel, VerticalPanel};
 use tabled_steps::Step;
 
-// A method for each kind of word behind a verb.
-impl Words {
+// A method for each kind of word behind a verb that is no number.
+impl<'a> Words<'a> {
     ghost use Rattle.std.specs.Prelude.{◌≡◌};
     ghost use Rattle.tabled_language.specs.Parsing.{Reads};
-    ghost use Rattle.tabled_language.specs.Verb.{plain_steps, removals, reads_behavior, reads_cut_lines, reads_display, offsets, reads_lines, reads_offset, reads_rotate, reads_side};
-    ghost use Rattle.tabled_language.specs.Words.{behind, reads_one_of};
+    ghost use Rattle.tabled_language.specs.Verb.{plain_removals, plain_steps, reads_behavior, reads_cut_lines, reads_display, offsets, reads_lines, reads_offset, reads_rotate, reads_side};
+    ghost use Rattle.tabled_language.specs.Words.{behind};
     ghost use Rattle.tabled_steps.specs.States.{after};
 
     fn lines(&mut self) -> Result<Axis, Fault>
         ensures { Reads (λ axis. axis) reads_lines self.old result self.new }
     {
-        match self.word()?.as_str() {
+        match self.word()? {
             "rows" => Ok(Axis::Rows),
             "columns" => Ok(Axis::Columns),
             _ => Err(Fault::UnknownWord),
@@ -32,7 +31,7 @@ impl Words {
         ensures { Reads (λ offset. offset) reads_offset self.old result self.new }
     {
         let word = self.word()?;
-        self.offset_behind(word.as_str())
+        self.offset_behind(word)
     }
 
     fn offset_behind(&mut self, word: &str) -> Result<Offset, Fault>
@@ -54,7 +53,7 @@ impl Words {
     fn cut_lines(&mut self) -> Result<Axis, Fault>
         ensures { Reads (λ axis. axis) reads_cut_lines self.old result self.new }
     {
-        match self.word()?.as_str() {
+        match self.word()? {
             "column" => Ok(Axis::Rows),
             "row" => Ok(Axis::Columns),
             _ => Err(Fault::UnknownWord),
@@ -64,7 +63,7 @@ impl Words {
     fn behavior(&mut self) -> Result<Behavior, Fault>
         ensures { Reads (λ behavior. behavior) reads_behavior self.old result self.new }
     {
-        match self.word()?.as_str() {
+        match self.word()? {
             "zip" => Ok(Behavior::Zip),
             "concat" => Ok(Behavior::Concat),
             _ => Err(Fault::UnknownWord),
@@ -74,7 +73,7 @@ impl Words {
     fn display(&mut self) -> Result<Display, Fault>
         ensures { Reads (λ display. display) reads_display self.old result self.new }
     {
-        match self.word()?.as_str() {
+        match self.word()? {
             "clean" => Ok(Display::Clean),
             "retain" => Ok(Display::Retain),
             _ => Err(Fault::UnknownWord),
@@ -84,7 +83,7 @@ impl Words {
     fn rotate(&mut self) -> Result<Rotate, Fault>
         ensures { Reads (λ rotate. rotate) reads_rotate self.old result self.new }
     {
-        match self.word()?.as_str() {
+        match self.word()? {
             "left" => Ok(Rotate::Left),
             "right" => Ok(Rotate::Right),
             "top" => Ok(Rotate::Top),
@@ -96,22 +95,15 @@ impl Words {
     pub(crate) fn side(&mut self) -> Result<Axis, Fault>
         ensures { Reads (λ axis. axis) reads_side self.old result self.new }
     {
-        match self.word()?.as_str() {
+        match self.word()? {
             "vertical" => Ok(Axis::Rows),
             "horizontal" => Ok(Axis::Columns),
             _ => Err(Fault::UnknownWord),
         }
     }
 
-    fn removal(&mut self) -> Result<Step, Fault>
-        ensures { Reads after (reads_one_of removals) self.old result self.new }
-    {
-        let word = self.word()?;
-        self.removal_behind(word.as_str())
-    }
-
-    fn removal_behind(&mut self, word: &str) -> Result<Step, Fault>
-        ensures { Reads after (behind removals word.now) self.old result self.new }
+    pub(crate) fn plain_removal(&mut self, word: &str) -> Result<Step, Fault>
+        ensures { Reads after (behind plain_removals word.now) self.old result self.new }
     {
         match word {
             "rows" => {
@@ -124,10 +116,6 @@ impl Words {
                 let end = self.number()?;
                 Ok(Step::RemoveColumns(start, end))
             }
-            "named" => {
-                let name = self.word()?;
-                Ok(Step::RemoveNamed(name))
-            }
             _ => Err(Fault::UnknownWord),
         }
     }
@@ -137,24 +125,6 @@ impl Words {
         ensures { Reads after (behind plain_steps verb.now) self.old result self.new }
     {
         match verb {
-            "hpanel" => {
-                let row = self.number()?;
-                let text = self.word()?;
-                Ok(Step::HorizontalPanel(HorizontalPanel::new(row, text)))
-            }
-            "vpanel" => {
-                let column = self.number()?;
-                let text = self.word()?;
-                Ok(Step::VerticalPanel(VerticalPanel::new(column, text)))
-            }
-            "header" => {
-                let text = self.word()?;
-                Ok(Step::Header(Header::new(text)))
-            }
-            "footer" => {
-                let text = self.word()?;
-                Ok(Step::Footer(Footer::new(text)))
-            }
             "vmerge" => Ok(Step::MergeVertical),
             "hmerge" => Ok(Step::MergeHorizontal),
             "rotate" => {
@@ -186,7 +156,6 @@ impl Words {
                 let end_column = self.number()?;
                 Ok(Step::Extract(first_row, end_row, first_column, end_column))
             }
-            "remove" => self.removal(),
             _ => Err(Fault::UnknownWord),
         }
     }

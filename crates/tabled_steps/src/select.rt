@@ -16,7 +16,7 @@ use tabled_select::object::{
 
 /// A selector that is data: it names what the selector of the same name in `tabled_select` names.
 ///
-/// Our own.
+/// Of this project.
 #[derive(Debug, Drop)]
 pub enum Select {
     /// All cells, as one entity.

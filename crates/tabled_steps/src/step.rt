@@ -30,7 +30,7 @@ use tabled_spans::span::Span;
 /// One with a selector does it on each entity that the selector names in the table as it is before the
 /// step, one after another.
 ///
-/// Our own.
+/// Of this project.
 #[derive(Drop)]
 pub enum Step {
     /// Writes a text to cells.

@@ -31,7 +31,7 @@ use tabled_options::TableOption;
 /// - Where the last step is a split that keeps all pieces, and these have a cell, the table before it, if
 ///   it has a row and a column, is its pieces, glued together.
 ///
-/// Our own.
+/// Of this project.
 pub fn run<R>(
     alloc: Global,
     records: &mut R,

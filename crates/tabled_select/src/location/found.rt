@@ -10,7 +10,7 @@ use tabled_grid::records::GridStore;
 ///
 /// Refused where memory runs out, it gives no part of them. The store is only read.
 ///
-/// Our own.
+/// Of this project.
 pub fn coordinates<R: GridStore, L: Location<R>>(
     alloc: Global,
     location: &mut L,

@@ -10,7 +10,7 @@ use tabled_grid::records::GridStore;
 
 /// Names its entities, in their order and as often as they stand in it, whatever the table.
 ///
-/// Our own.
+/// Of this project.
 #[derive(Debug, Drop)]
 pub struct EntityList(pub Vec<Entity>);
 

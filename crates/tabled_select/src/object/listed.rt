@@ -11,7 +11,7 @@ use tabled_grid::records::GridStore;
 ///
 /// Refused where memory runs out, it gives no part of them. Object and store are only read.
 ///
-/// Our own.
+/// Of this project.
 pub fn entities<R: GridStore, O: Object<R>>(
     alloc: Global,
     object: &O,

@@ -13,7 +13,7 @@ use tabled_grid::config::Entity;
 /// Gives those cells of one object that another names too, or else the others. A contract sees it as
 /// the list of what is left.
 ///
-/// Our own, for `DiffIter`, `IntersectIter` and `InversionIter`. `L` is the iterator of the one object.
+/// Of this project, for `DiffIter`, `IntersectIter` and `InversionIter`. `L` is the iterator of the one object.
 #[derive(Drop)]
 pub struct SieveIter<L> {
     places: Places,

@@ -2,7 +2,7 @@ use Rattle.std.proofs.Common.{◌≡◌, ◌++◌, List, ℕ, map}
 use Rattle.std.specs.Option.{option_map}
 use Rattle.std.specs.String.{string_bytes}
 use Rattle.tabled_language.specs.Line.{texts_of, words_of}
-use Rattle.tabled_language.proofs.words.escaped_texts.Given as goal
+use Rattle.tabled_language.proofs.texts.escaped_texts.Given as goal
 
 abbrev pub invariant-loop-word : goal.invariant-loop-word
 invariant-loop-word l = record {

@@ -1,0 +1,138 @@
+//! The texts of a line.
+
+ghost use Rattle.std.specs.Prelude.{◌≡◌, ◌∷◌, map, IfOk, IfSome, Some};
+ghost use Rattle.std.specs.Iterator.{YieldsFirstRef, item_count};
+ghost use Rattle.std.specs.Option.{option_map};
+ghost use Rattle.std.specs.String.{string_bytes};
+ghost use Rattle.tabled_language.specs.Line.{texts_of, words_of};
+ghost use Rattle.tabled_language.specs.Parsing.{parts_left};
+
+use crate::parts::{Parts, count_parts, first_place};
+use crate::word::text_of_word;
+use std::alloc::{AllocError, Global};
+use std::marker::Model;
+use std::str;
+use tabled_grid::records::Text;
+
+/// The line, if it is UTF-8 without a backslash: then its words are their own texts.
+pub(crate) fn plain(line: &[u8]) -> Option<&str>
+    ensures { IfSome result (λ text. (text.now ≡ line.now) × (texts_of (words_of line.now) ≡ Some (words_of line.now))) }
+{
+    let text = str::from_utf8(line).ok()?;
+    if text.contains('\\') {
+        return None;
+    }
+    Some(text)
+}
+
+/// The texts of a line's words, each read by itself, or nothing where one has a bad escape or isn't UTF-8.
+pub(crate) fn escaped_texts(
+    alloc: Global,
+    line: &[u8],
+) -> Result<Option<Vec<Text<String>>>, AllocError>
+    ensures { IfOk result (λ texts. option_map (λ v. map string_bytes v.items) texts ≡ texts_of (words_of line.now)) }
+{
+    let mut texts = Vec::with_capacity(alloc, count_parts(line, b'\t'))?;
+    for word in Parts::new(line, b'\t') {
+        match text_of_word(alloc, word)? {
+            Some(text) => texts.push(Text::new(text))?,
+            None => return Ok(None),
+        }
+    }
+    Ok(Some(texts))
+}
+
+/// Texts, each lent.
+pub(crate) fn lent(alloc: Global, texts: &[Text<String>]) -> Result<Vec<&str>, AllocError>
+    ensures { IfOk result (λ words. map (λ word. word.now) words.items ≡ map string_bytes texts.now) }
+{
+    let mut words = Vec::with_capacity(alloc, texts.len())?;
+    for text in texts {
+        words.push(text.as_str())?;
+    }
+    Ok(words)
+}
+
+/// Goes over the words of a line as they stand. A contract sees it as the list of the words that are
+/// left.
+#[derive(Drop)]
+pub(crate) struct Fields<'a> {
+    rest: Option<&'a str>,
+}
+
+impl<'a> Model for Fields<'a> {
+    ghost use Rattle.std.specs.Prelude.{ℕ, List};
+    ghost use Rattle.tabled_language.specs.Parsing.{parts_left};
+
+    ghost Value = { List (List ℕ) };
+
+    ghost view = { λ a. parts_left 9 a.rest };
+}
+
+impl<'a> Fields<'a> {
+    ghost use Rattle.std.specs.Prelude.{◌≡◌, length, map, IfOk};
+    ghost use Rattle.std.specs.String.{string_bytes};
+    ghost use Rattle.tabled_language.specs.Line.{words_of};
+
+    pub(crate) fn new(line: &'a str) -> Self
+        ensures { result ≡ words_of line.now }
+    {
+        Fields { rest: Some(line) }
+    }
+
+    /// How many are left.
+    fn left(&self) -> usize
+        ensures { result ≡ length self.now }
+    {
+        match self.rest {
+            Some(rest) => count_parts(rest.as_bytes(), b'\t'),
+            None => 0,
+        }
+    }
+
+    /// The words that are left, each lent.
+    pub(crate) fn words(self, alloc: Global) -> Result<Vec<&'a str>, AllocError>
+        ensures { IfOk result (λ words. map (λ word. word.now) words.items ≡ self.entry) }
+    {
+        let mut words = Vec::with_capacity(alloc, self.left())?;
+        for word in self {
+            words.push(word)?;
+        }
+        Ok(words)
+    }
+
+    /// The words that are left, each as a text of its own.
+    pub(crate) fn texts(self, alloc: Global) -> Result<Vec<Text<String>>, AllocError>
+        ensures { IfOk result (λ texts. map string_bytes texts.items ≡ self.entry) }
+    {
+        let mut texts = Vec::with_capacity(alloc, self.left())?;
+        for word in self {
+            texts.push(Text::new(String::from_str(alloc, word)?))?;
+        }
+        Ok(texts)
+    }
+}
+
+impl<'a> Iterator for Fields<'a> {
+    type Item = &'a str;
+
+    ghost next_gives = { YieldsFirstRef (λ s. s) };
+
+    ghost remaining = { item_count (λ s. s) };
+
+    fn next(&mut self) -> Option<&'a str> {
+        let (word, rest) = first_word(self.rest?);
+        self.rest = rest;
+        Some(word)
+    }
+}
+
+/// The first word of a line, and what is behind its tab.
+fn first_word(line: &str) -> (&str, Option<&str>)
+    ensures { words_of line.now ≡ result.0.now ∷ parts_left 9 result.1 }
+{
+    match first_place(line.as_bytes(), b'\t') {
+        Some(tab) => (&line[..tab], Some(&line[tab + 1..])),
+        None => (line, None),
+    }
+}
