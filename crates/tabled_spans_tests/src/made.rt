@@ -143,8 +143,32 @@ fn made_flat(alloc: Global, old: &str, steps: [Step; 3]) -> Result<String, Alloc
     made(alloc, flat(alloc, old)?, steps)
 }
 
-/// Makes a step behind another, and says whether it is done or left the merged cells, and where it
-/// writes no text the cells, as they were.
+/// Whether words are those of the table after the first writes of a step alone, all of them or none.
+fn are_of_first_writes(
+    alloc: Global,
+    words: &str,
+    old: &str,
+    before: Step,
+    step: Step,
+) -> Result<bool, AllocError> {
+    for left in 0..20 {
+        let store = flat(alloc, old)?;
+        let mut records = Refusing { store, left };
+        let mut cfg = SpannedConfig::new(alloc);
+        change(alloc, &mut records, &mut cfg, before)?;
+        let done = change(alloc, &mut records, &mut cfg, step).is_ok();
+        if spelled(alloc, &records)?.as_str() == words {
+            return Ok(true);
+        }
+        if done {
+            return Ok(false);
+        }
+    }
+    Ok(false)
+}
+
+/// Makes a step behind another, and says whether it is done or left the merged cells as they were, and
+/// of the cells what its first writes leave, if it writes texts, or else all.
 fn leaves_the_old(
     alloc: Global,
     old: &str,
@@ -163,7 +187,13 @@ fn leaves_the_old(
     }
     let mut spans_after = String::new(alloc);
     push_spans(alloc, &mut spans_after, &cfg)?;
-    Ok((writes || spelled(alloc, &records)? == words) && spans_after == spans)
+    let words_after = spelled(alloc, &records)?;
+    let kept = if writes {
+        are_of_first_writes(alloc, words_after.as_str(), old, before, step)?
+    } else {
+        words_after == words
+    };
+    Ok(kept && spans_after == spans)
 }
 
 /// Whether a step that is refused leaves what it may.

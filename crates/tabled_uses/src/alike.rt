@@ -131,6 +131,16 @@ fn stores_of_both_kinds_end_alike(rt: HostRuntime) -> Result<(), Fail> {
             "rspan\t2\tcell\t0\t1\ncspan\t2\tcell\t1\t0",
             "a b c/d e f 0,1:2x1",
         ),
+        (
+            "2\t4\ta\tb\tc\td\te\tf\tg\th",
+            "rspan\t2\tcell\t0\t0\ncspan\t2\tcell\t1\t1\ncspan\t2\tall",
+            "a b c d/e f g h 0,0:2x2 0,2:1x2",
+        ),
+        (
+            "3\t3\t\t\t\t\t\t\t\t\t",
+            "cspan\t2\tall",
+            "_ _ _/_ _ _/_ _ _ 0,0:1x2 1,0:1x2 2,0:1x2",
+        ),
         ("1\t3\ta\tb\tc", "cspan\t-1\trow\t0", "b c _ 0,0:1x2"),
         ("1\t3\ta\tb\tc", "cspan\t0\trow\t0", "_ _ _ 0,0:1x3"),
         (

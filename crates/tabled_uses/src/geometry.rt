@@ -367,7 +367,7 @@ where
 mod tests {
     use super::{
         frames, merges_neighbours, puts_in_a_column, puts_in_a_header, puts_in_headers,
-        runs_fitting_steps, spans_columns, writes, writes_and_spans,
+        runs_fitting_steps, spans_back, spans_columns, writes, writes_and_spans,
     };
     use crate::writers::{puts_in_a_row, writes_all};
     use std::alloc::{AllocError, Global};
@@ -380,6 +380,7 @@ mod tests {
         Steps,
         Writes,
         Spans,
+        Back,
         Header,
         Row,
         Column,
@@ -408,6 +409,7 @@ mod tests {
             }
             Call::Writes => writes(alloc, &mut records, &mut cfg, text)?,
             Call::Spans => spans_columns(alloc, &mut records, &mut cfg)?,
+            Call::Back => spans_back(alloc, &mut records, &mut cfg)?,
             Call::Header => puts_in_a_header(alloc, &mut records, &mut cfg, text)?,
             Call::Row => puts_in_a_row(alloc, &mut records, &mut cfg, text)?,
             Call::Writers => writes_all(alloc, &mut records, &mut cfg)?,
@@ -434,6 +436,7 @@ mod tests {
             (Call::Steps, (3, 3, 1, 3)),
             (Call::Writes, (2, 3, 1, 1)),
             (Call::Spans, (2, 3, 1, 2)),
+            (Call::Back, (2, 3, 1, 2)),
             (Call::Header, (3, 3, 1, 3)),
             (Call::Row, (3, 3, 1, 1)),
             (Call::Column, (2, 4, 1, 1)),

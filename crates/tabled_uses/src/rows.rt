@@ -183,6 +183,7 @@ fn has_empty_rows(rt: HostRuntime) -> Result<(), Fail> {
         assert_eq!(rt; given.as_str(), want);
     }
     assert_eq!(rt; EmptyRecords::default(), EmptyRecords::new(0, 0));
+    assert_eq!(rt; EmptyRecords::from((0, 3)), EmptyRecords::new(0, 3));
     assert!(rt; EmptyRecords::new(1, 2) < EmptyRecords::new(2, 0));
     Ok(())
 }
