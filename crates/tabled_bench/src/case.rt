@@ -55,6 +55,7 @@ impl Case {
         let (store, change) = name.split_once('_')?;
         let change = match change {
             "store" => Change::Nothing,
+            "line" => Change::OneRow,
             "row" => Change::MiddleRow,
             "column" => Change::MiddleColumn,
             "rows" => Change::Rows,

@@ -12,8 +12,9 @@ const TIMES: usize = 20;
 /// What is changed.
 #[derive(Clone, Copy)]
 pub(crate) enum Change {
-    /// Nothing: the store is only made.
+    /// Nothing: the store is only made, or one row of it.
     Nothing,
+    OneRow,
     /// A row or column is inserted in the middle and removed again.
     MiddleRow,
     MiddleColumn,
@@ -22,10 +23,20 @@ pub(crate) enum Change {
     Columns,
 }
 
+impl Change {
+    /// How many rows are made for it.
+    fn count_rows(self, size: usize) -> usize {
+        match self {
+            Change::OneRow => 1,
+            _ => size,
+        }
+    }
+}
+
 /// A store of `size x size` blanks in one vector, changed many times.
 pub(crate) fn flat(alloc: Global, size: usize, change: Change) -> Result<usize, AllocError> {
     let mut store: VecRecords<Text<String>> = VecRecords::new(alloc, Vec::new(alloc))?;
-    fill(alloc, &mut store, size)?;
+    fill(alloc, &mut store, change.count_rows(size), size)?;
     change_often(alloc, &mut store, change)?;
     let rows = store.count_rows();
     mem::forget(store);
@@ -35,15 +46,15 @@ pub(crate) fn flat(alloc: Global, size: usize, change: Change) -> Result<usize, 
 /// The same in a vector for each row.
 pub(crate) fn nested(alloc: Global, size: usize, change: Change) -> Result<usize, AllocError> {
     let mut store: Vec<Vec<Text<String>>> = Vec::new(alloc);
-    fill(alloc, &mut store, size)?;
+    fill(alloc, &mut store, change.count_rows(size), size)?;
     change_often(alloc, &mut store, change)?;
     let rows = store.count_rows();
     mem::forget(store);
     Ok(rows)
 }
 
-/// Grows a store by `size` rows and columns.
-fn fill<R>(alloc: Global, records: &mut R, size: usize) -> Result<(), AllocError>
+/// Grows a store by a row, and by columns, and then row by row.
+fn fill<R>(alloc: Global, records: &mut R, rows: usize, columns: usize) -> Result<(), AllocError>
 where
     R: Resizable,
     R::Cell: Blank,
@@ -51,10 +62,10 @@ where
     ensures { R.is_well_formed records.new }
 {
     records.push_row(alloc)?;
-    for _ in 0..size {
+    for _ in 0..columns {
         records.push_column(alloc)?;
     }
-    for _ in 1..size {
+    for _ in 1..rows {
         records.push_row(alloc)?;
     }
     Ok(())
@@ -85,7 +96,7 @@ where
         return Ok(());
     }
     match change {
-        Change::Nothing => {}
+        Change::Nothing | Change::OneRow => {}
         Change::MiddleRow => {
             records.insert_row(alloc, rows / 2)?;
             records.remove_row(rows / 2);

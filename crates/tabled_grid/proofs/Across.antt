@@ -18,7 +18,7 @@ NotBefore i j a b = (i < a) ⊎ ((a ≡ i) × (j ≤ b))
 abbrev grid : {A : Type 0} → ℕ → ℕ → List (List A) → Grid A
 grid rows columns cells = record { rows = rows; columns = columns; cells = cells }
 
-same_grid : {A : Type 0} (r s c d : ℕ) (xs ys : List (List A)) → r ≡ s → c ≡ d → xs ≡ ys → grid r c xs ≡ grid s d ys
+pub same_grid : {A : Type 0} (r s c d : ℕ) (xs ys : List (List A)) → r ≡ s → c ≡ d → xs ≡ ys → grid r c xs ≡ grid s d ys
 same_grid r s c d xs ys e f g = rw (e, f, g) refl
 
 module _ {A : Type 0} where

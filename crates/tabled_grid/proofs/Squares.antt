@@ -1,29 +1,65 @@
--- Grids padded to a square, and transposed there.
-use Rattle.std.proofs.Common.{◌≡◌, ℕ, ◌+◌, ◌<◌, ◌≤◌, Bool, true, false, cond, eqb, Option, None, Some, refl, ap, ◌∙◌, arith}
-use Rattle.std.proofs.lemmas.Bool.{eqb-true}
+-- Squares transposed in place, and grids padded to one.
+use Rattle.std.proofs.Common.{◌≡◌, ℕ, ◌+◌, ◌<◌, ◌≤◌, Bool, true, false, cond, eqb, List, Option, None, Some, refl, sym, ap, ◌∙◌, subst, length, arith}
+use Rattle.std.specs.List.{AllByRecursion}
+use Rattle.std.proofs.lemmas.Bool.{eqb-true, ne_eqb}
 use Rattle.tabled_grid.specs.declared.config.position.Position.{Position}
 use Rattle.tabled_grid.specs.Along.{first_along}
-use Rattle.tabled_grid.specs.Bulk.{AddsColumns, AddsRows, HalfTransposedIn, cell_in, transposed}
+use Rattle.tabled_grid.specs.Bulk.{AddsColumns, AddsRows, HalfTransposed, HalfTransposedIn, cell_in, transposed, transposed_rows}
 use Rattle.tabled_grid.specs.Grid.{Grid, IsEmptyWithoutRows, IsEven, IsInside}
 use Rattle.tabled_grid.specs.Resized.{with_cells_swapped}
 use Rattle.tabled_grid.specs.declared.records.axis.Axis.TheVariants.{Rows, Columns}
+use Rattle.tabled_grid.proofs.Across.{same_grid}
 use Rattle.tabled_grid.proofs.AddedColumns.{IsEven-adds_columns}
 use Rattle.tabled_grid.proofs.AddedRows.{IsEven-adds_rows}
 use Rattle.tabled_grid.proofs.Diagonal.{all_transposed, half_begun, half_more, half_none, half_row}
+use Rattle.tabled_grid.proofs.Resized.{IsEven-with_cells_swapped}
 use Rattle.tabled_grid.proofs.SwappedCells.{Swaps, views_swapped}
-use Rattle.tabled_grid.proofs.Transposed.{transposed_none, transposed_some}
+use Rattle.tabled_grid.proofs.Transposed.{at-transposed, cell_in-is, length-transposed, same_rows, transposed_none, transposed_some, wide-transposed}
 
 wide_enough : (b : Bool) (c more size : ℕ) → (b ≡ true → size ≡ c) → c + more ≡ size → cond b c (c + more) ≡ size
 wide_enough true c more size none e = let same = none refl in omega (arith, same)
 wide_enough false c more size none e = e
 
-module _ {A : Type 0} (is_blank : A → Type 0) where
-  -- a padded grid is a square
-  pub record Square (size : ℕ) (g : Grid A) : Type 0 where
-    pub even : IsEven g
-    pub rows : g.rows ≡ size
-    pub columns : g.columns ≡ size
+-- an even grid with as many rows as columns
+pub record Square {A : Type 0} (size : ℕ) (g : Grid A) : Type 0 where
+  pub even : IsEven g
+  pub rows : g.rows ≡ size
+  pub columns : g.columns ≡ size
 
+module _ {A : Type 0} (old cur new : Grid A) (size i j : ℕ) where
+  -- one pair more
+  pub turned_more : HalfTransposed (cell_in old) (cell_in cur) size i j → (p q : Position) (next : ℕ) → next ≡ j + 1 → i < j → p.row ≡ i → p.col ≡ j → q.row ≡ j → q.col ≡ i → j < size → Square size cur → new ≡ with_cells_swapped cur p q → HalfTransposed (cell_in old) (cell_in new) size i next
+  turned_more t p q next e h pr pc qr qc below s is =
+      let none : Option A = None in
+      let at_p : IsInside cur p = record { row = omega (arith, pr, h, below, s.rows); col = omega (arith, pc, below, s.columns) } in
+      let at_q : IsInside cur q = record { row = omega (arith, qr, below, s.rows); col = omega (arith, qc, h, below, s.columns) } in
+      let swapped : Swaps (cell_in cur) (cell_in new) p.row p.col q.row q.col = views_swapped Some none cur new p q s.even at_p at_q (λ same. absurd (omega (arith, same, pr, qr, h))) is in
+      half_more _ (cell_in cur) (cell_in new) size i j next e h t (rw (pr, pc, qr, qc) at swapped)
+
+-- a square stays one
+pub square_swapped : {A : Type 0} (cur new : Grid A) (size : ℕ) (p q : Position) → Square size cur → new ≡ with_cells_swapped cur p q → Square size new
+square_swapped {A} cur new size p q s is = record {
+  even = rw is (IsEven-with_cells_swapped cur p q s.even);
+  rows = ap (λ (h : Grid A). h.rows) is ∙ s.rows;
+  columns = ap (λ (h : Grid A). h.columns) is ∙ s.columns;
+}
+
+-- a square all of whose pairs have changed places
+pub turned_square : {A : Type 0} (old new : Grid A) (size i : ℕ) → 0 < size → size ≤ i → Square size old → Square size new → HalfTransposed (cell_in old) (cell_in new) size i i → new ≡ transposed old
+turned_square {A} old new size i some all s t h =
+    let more : eqb old.columns 0 ≡ false = ne_eqb old.columns 0 (λ e. omega (arith, e, s.columns, some)) in
+    let tall : new.rows ≡ old.columns = t.rows ∙ sym s.columns in
+    let broad : new.columns ≡ old.rows = t.columns ∙ sym s.rows in
+    let wide : new.columns ≡ cond (eqb old.columns 0) 0 old.rows = broad ∙ sym (ap (λ b. cond b 0 old.rows) more) in
+    let cells : new.cells ≡ transposed_rows old.columns old.cells =
+    same_rows old.columns old.rows new.cells (transposed_rows old.columns old.cells)
+    (t.even.tall ∙ tall) (length-transposed old.columns old.cells s.even.wide)
+    (rw broad at t.even.wide)
+    (subst (λ (n : ℕ). AllByRecursion (λ (row : List A). length row ≡ n) (transposed_rows old.columns old.cells)) s.even.tall (wide-transposed old.columns old.cells))
+    (λ a b k l. sym (cell_in-is new a b) ∙ all_transposed (cell_in old) (cell_in new) size i all h a b (omega (arith, k, s.columns)) (omega (arith, l, s.rows)) ∙ cell_in-is old b a ∙ sym (at-transposed old.columns old.cells a b s.even.wide)) in
+    same_grid new.rows old.columns new.columns (cond (eqb old.columns 0) 0 old.rows) new.cells (transposed_rows old.columns old.cells) tall wide cells
+
+module _ {A : Type 0} (is_blank : A → Type 0) where
   pub square_made : (size many more : ℕ) (old grown square : Grid A) → IsEven old → IsEmptyWithoutRows grown → old.rows + many ≡ size → old.columns + more ≡ size →
       AddsRows is_blank many old grown → AddsColumns is_blank more grown square → Square size square
   square_made size many more old grown square even none tall wide rows columns =
@@ -49,22 +85,16 @@ module _ {A : Type 0} (is_blank : A → Type 0) where
 
   module _ (old cur : Grid A) (size i j : ℕ) (t : HalfTransposedIn is_blank size i j old cur) where
     pub square_more : (new : Grid A) (p q : Position) (next : ℕ) → next ≡ j + 1 → i < j → p.row ≡ i → p.col ≡ j → q.row ≡ j → q.col ≡ i → j < size → Square size cur → new ≡ with_cells_swapped cur p q → HalfTransposedIn is_blank size i next old new
-    square_more new p q next e h pr pc qr qc below s is =
-        let none : Option A = None in
-        let at_p : IsInside cur p = record { row = omega (arith, pr, h, below, s.rows); col = omega (arith, pc, below, s.columns) } in
-        let at_q : IsInside cur q = record { row = omega (arith, qr, below, s.rows); col = omega (arith, qc, h, below, s.columns) } in
-        let swapped : Swaps (cell_in cur) (cell_in new) p.row p.col q.row q.col = views_swapped Some none cur new p q s.even at_p at_q (λ same. absurd (omega (arith, same, pr, qr, h))) is in
-        let pair : Swaps (cell_in cur) (cell_in new) i j j i = (rw (pr, pc, qr, qc) at swapped) in
-        record {
-          many = t.many;
-          grown = t.grown;
-          more = t.more;
-          square = t.square;
-          tall = t.tall;
-          rows_added = t.rows_added;
-          columns_added = t.columns_added;
-          turned = half_more _ (cell_in cur) (cell_in new) size i j next e h t.turned pair;
-        }
+    square_more new p q next e h pr pc qr qc below s is = record {
+      many = t.many;
+      grown = t.grown;
+      more = t.more;
+      square = t.square;
+      tall = t.tall;
+      rows_added = t.rows_added;
+      columns_added = t.columns_added;
+      turned = turned_more t.square cur new size i j t.turned p q next e h pr pc qr qc below s is;
+    }
 
     pub square_row : (next : ℕ) → next ≡ i + 1 → size ≤ j → HalfTransposedIn is_blank size next next old cur
     square_row next e h = record {

@@ -3,7 +3,7 @@
 ghost use Rattle.std.specs.Prelude.{◌≡◌, ◌+◌, ◌<◌, ◌≤◌, List, IfOk, OnErr, OnOk, length, map, take, vec_capacity, vec_len};
 ghost use Rattle.std.specs.List.{All, AllByRecursion, AllZip, remove, swap};
 ghost use Rattle.std.specs.Global.{Vec};
-ghost use Rattle.tabled_grid.specs.Bulk.{Exchanges};
+ghost use Rattle.tabled_grid.specs.Bulk.{Exchanges, transposed};
 ghost use Rattle.tabled_grid.specs.Grid.{IsEven, IsInside, grid_of, map_items, width_of};
 ghost use Rattle.tabled_grid.specs.Moves.{AddsBlanks};
 ghost use Rattle.tabled_grid.specs.Resized.{AreBlanks, InsertsBlank, with_cells_swapped};
@@ -159,6 +159,26 @@ pub(crate) fn swap_cells<T: Drop>(rows: &mut [Vec<T>], p: Position, q: Position)
     let mut row = mem::replace(&mut rows[p.row], none);
     mem::swap(&mut row[p.col], &mut rows[q.row][q.col]);
     rows[p.row] = row;
+}
+
+/// Swaps the cells of a square across its diagonal.
+pub(crate) fn transpose_square<T: Drop>(rows: &mut [Vec<T>])
+    requires even { IsEven (grid_of (map_items rows.old)) }
+    requires some { 0 < length rows.old }
+    requires square { width_of (map_items rows.old) ≡ length rows.old }
+    ensures even { IsEven (grid_of (map_items rows.new)) }
+    ensures turned { grid_of (map_items rows.new) ≡ transposed (grid_of (map_items rows.old)) }
+{
+    let size = rows.len();
+    for i in 0..size {
+        for j in i + 1..size {
+            swap_cells(
+                rows,
+                Position { row: i, col: j },
+                Position { row: j, col: i },
+            );
+        }
+    }
 }
 
 /// Exchanges a cell for one of other rows.

@@ -1,8 +1,8 @@
 //! Rows in vectors of their own, that grow and shrink.
 
 use super::moves::{
-    blank_rows, blanks, exchange, insert_blanks, remove_each, swap_cells, swap_each, truncate_each,
-    widen_each,
+    blank_rows, blanks, exchange, insert_blanks, remove_each, swap_cells, swap_each,
+    transpose_square, truncate_each, widen_each,
 };
 use super::pieces::cut_lines;
 use crate::config::Position;
@@ -77,6 +77,10 @@ impl<T: Blank> Resizable for Vec<Vec<T>> {
         let (rows, columns) = (self.count_rows(), self.count_columns());
         if columns == 0 {
             self.clear();
+            return Ok(());
+        }
+        if rows == columns {
+            transpose_square(self);
             return Ok(());
         }
         let mut turned = blank_rows(alloc, columns, rows)?;

@@ -1,6 +1,5 @@
-use Rattle.std.proofs.Common.{◌≡◌, ◌+◌, ◌-◌, ◌∙◌, refl, ap, arith}
-use Rattle.tabled_grid.proofs.Resized.{IsEven-with_cells_swapped}
-use Rattle.tabled_grid.proofs.Squares.{square_begins, square_begun, square_cut, square_cut_to_none, square_made, square_more, square_row}
+use Rattle.std.proofs.Common.{◌≡◌, ◌+◌, ◌-◌, ◌∙◌, refl, arith}
+use Rattle.tabled_grid.proofs.Squares.{square_begins, square_begun, square_cut, square_cut_to_none, square_made, square_more, square_row, square_swapped}
 use Rattle.tabled_grid.proofs.records.resizable.Resizable.transpose.Goals as goal
 
 pub loop-i-init : goal.loop-i-init
@@ -28,11 +27,7 @@ loop-j-preserved g c =
     let i = c.loop-j.invariant in
     record {
       well = c.swap.ensures.well;
-      square = record {
-        even = rw c.swap.ensures.swapped (IsEven-with_cells_swapped _ _ _ i.square.even);
-        rows = ap (λ h. h.rows) c.swap.ensures.swapped ∙ i.square.rows;
-        columns = ap (λ h. h.columns) c.swap.ensures.swapped ∙ i.square.columns;
-      };
+      square = square_swapped _ _ _ _ _ i.square c.swap.ensures.swapped;
       turned = square_more _ _ _ _ c.loop-i.i c.loop-j.j i.turned _ (record { row = c.loop-i.i; col = c.loop-j.j }) (record { row = c.loop-j.j; col = c.loop-i.i }) (c.loop-j.j + 1) refl (omega (arith, c.loop-j.auto.j)) refl refl refl refl (omega (arith, c.loop-j-test.true)) i.square c.swap.ensures.swapped;
     }
 

@@ -7,7 +7,7 @@ invariant-loop-i g l =
     let grid = g.Self.GridStore.grid in
     record {
       well : g.Self.GridStore.is_well_formed l.self;
-      square : Square g.Self.Cell.Blank.is_blank l.size (grid l.self);
+      square : Square l.size (grid l.self);
       turned : HalfTransposedIn g.Self.Cell.Blank.is_blank l.size l.i l.i (grid l.fn.self) (grid l.self);
     }
 
@@ -16,6 +16,6 @@ invariant-loop-j g l =
     let grid = g.Self.GridStore.grid in
     record {
       well : g.Self.GridStore.is_well_formed l.self;
-      square : Square g.Self.Cell.Blank.is_blank l.size (grid l.self);
+      square : Square l.size (grid l.self);
       turned : HalfTransposedIn g.Self.Cell.Blank.is_blank l.size l.i l.j (grid l.fn.self) (grid l.self);
     }
