@@ -3,8 +3,8 @@
 ghost use Rattle.std.specs.Prelude.{◌<◌};
 
 use super::{
-    Change, cell, change_lent, fruits, make_change, make_lent_change, push_and_remove_row, read,
-    shape, spelled, two_rows,
+    Change, cell, change_lent, change_shaped, fruits, make_change, make_lent_change,
+    push_and_remove_row, read, shape, spelled, two_rows,
 };
 use std::alloc::{AllocError, Global};
 use std::marker::Model;
@@ -37,6 +37,35 @@ impl Model for Nested {
 struct Both {
     flat: VecRecords<Text<String>>,
     nested: Nested,
+}
+
+/// Rows in vectors of their own that are lent, and changed through their `&mut` alone.
+#[derive(Drop)]
+struct Lent<'a> {
+    rows: &'a mut Vec<Vec<Text<String>>>,
+}
+
+impl<'a> Model for Lent<'a> {
+    ghost use Rattle.std.specs.Prelude.{String};
+    ghost use Rattle.std.specs.Global.{Global};
+    ghost use Rattle.tabled_grid.specs.Grid.{Grid, IsEven, grid_of, map_items};
+
+    ghost Value = { Grid (String Global) };
+
+    ghost view = { λ a. grid_of (map_items a.rows.now.items) };
+
+    ghost invariant = { λ a. IsEven (grid_of (map_items a.rows.now.items)) };
+}
+
+impl<'a> Lent<'a> {
+    fn change(&mut self, alloc: Global, kind: Change) -> Result<(), AllocError> {
+        let shape = (self.rows.count_rows(), self.rows.count_columns());
+        change_shaped(alloc, &mut self.rows, shape, kind)
+    }
+
+    fn spelled(&self, alloc: Global) -> Result<String, AllocError> {
+        spelled(alloc, &*self.rows)
+    }
 }
 
 impl Both {
@@ -154,6 +183,8 @@ fn next_below(seed: &mut u64, bound: u64) -> usize
 fn agrees_after_random_changes(rt: HostRuntime) -> Result<(), Fail> {
     let alloc = rt.alloc();
     let mut both = Both::two_rows(alloc)?;
+    let mut rows = two_rows(alloc)?;
+    let mut lent = Lent { rows: &mut rows };
     let mut seed = 1;
     for n in 0..600 {
         let kind = next_below(&mut seed, 12);
@@ -172,8 +203,10 @@ fn agrees_after_random_changes(rt: HostRuntime) -> Result<(), Fail> {
             _ => Change::Set(i, j),
         };
         both.change(alloc, kind, n % 2 == 0)?;
+        lent.change(alloc, kind)?;
         let (flat, nested) = both.spelled(alloc)?;
         assert_eq!(rt; flat.as_str(), nested.as_str(), "{kind:?}");
+        assert_eq!(rt; lent.spelled(alloc)?.as_str(), nested.as_str(), "{kind:?}");
     }
     Ok(())
 }
