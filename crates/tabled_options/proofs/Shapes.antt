@@ -1,14 +1,11 @@
 -- What keeps the shape of a table, and so its merged cells inside and apart.
 use Rattle.std.proofs.Common.{◌≡◌, ℕ, List, [], ◌∷◌, refl, ap, ◌∙◌, take}
-use Rattle.tabled_grid.specs.Entity.{inside}
 use Rattle.tabled_grid.specs.Grid.{Grid, map_grid, with_cell}
 use Rattle.tabled_grid.specs.Rectangles.{Fits}
 use Rattle.tabled_grid.specs.Spans.{SpanMap}
-use Rattle.tabled_grid.specs.declared.config.entity.Entity.{Entity}
-use Rattle.tabled_grid.specs.declared.config.position.Position.{Position}
 use Rattle.tabled_options.specs.Does.{Change, OptionKeeps}
 use Rattle.tabled_options.specs.Shapes.{KeepsShape}
-use Rattle.tabled_options.specs.Writes.{Write, Writes, WritesBefore, with_writes, written}
+use Rattle.tabled_options.specs.Writes.{DoesFirstWrites, DoesWrites, Write, with_writes}
 
 pub fits_kept : {A : Type 0} (does leaves : Change A SpanMap) → KeepsShape does → KeepsShape leaves → OptionKeeps (λ (g : Grid A) (c : SpanMap). Fits c g.rows g.columns) does leaves
 fits_kept does leaves done refused = record {
@@ -25,23 +22,14 @@ pub shape_written : (writes : List Write) (g : Grid (List ℕ)) → SameShape g 
 shape_written [] g = record { rows = refl; columns = refl }
 shape_written (w ∷ writes) g = let rest = shape_written writes (with_cell g w.place w.text) in record { rows = rest.rows; columns = rest.columns }
 
-shape_of_text : (text : List ℕ) (places : List Position) (g : Grid (List ℕ)) → SameShape g (written text places g)
-shape_of_text text [] g = record { rows = refl; columns = refl }
-shape_of_text text (p ∷ places) g = let rest = shape_of_text text places (with_cell g p text) in record { rows = rest.rows; columns = rest.columns }
-
 -- cells whose texts are written have the shape as it was
 pub shape_texts : {A C : Type 0} (text_of : A → List ℕ) (writes : List Write) (g h : Grid A) (c d : C) → map_grid text_of h ≡ with_writes writes (map_grid text_of g) → d ≡ c → (h.rows ≡ g.rows) × (h.columns ≡ g.columns) × (d ≡ c)
 shape_texts text_of writes g h c d is same =
     let shape = shape_written writes (map_grid text_of g) in
     (ap (λ (k : Grid (List ℕ)). k.rows) is ∙ shape.rows, ap (λ (k : Grid (List ℕ)). k.columns) is ∙ shape.columns, same)
 
-text_shape : {A C : Type 0} (text_of : A → List ℕ) (text : List ℕ) (places : List Position) (g h : Grid A) (c d : C) → map_grid text_of h ≡ written text places (map_grid text_of g) → d ≡ c → (h.rows ≡ g.rows) × (h.columns ≡ g.columns) × (d ≡ c)
-text_shape text_of text places g h c d is same =
-    let shape = shape_of_text text places (map_grid text_of g) in
-    (ap (λ (k : Grid (List ℕ)). k.rows) is ∙ shape.rows, ap (λ (k : Grid (List ℕ)). k.columns) is ∙ shape.columns, same)
-
--- a text in the cells that an entity names
-pub text_keeps : {A : Type 0} (text_of : A → List ℕ) (text : List ℕ) (e : Entity) → OptionKeeps (λ (g : Grid A) (c : SpanMap). Fits c g.rows g.columns) (Writes text_of text e) (WritesBefore text_of text e)
-text_keeps text_of text e = fits_kept _ _
-    (record { each = λ g c h d w. text_shape text_of text (inside e g.rows g.columns) g h c d w.0 w.1 })
-    (record { each = λ g c h d w. text_shape text_of text (take w.0.count (inside e g.rows g.columns)) g h c d w.0.is w.1 })
+-- writes of texts
+pub writes_keep : {A : Type 0} (text_of : A → List ℕ) (writes : Grid (List ℕ) → List Write) → OptionKeeps (λ (g : Grid A) (c : SpanMap). Fits c g.rows g.columns) (DoesWrites text_of writes) (DoesFirstWrites text_of writes)
+writes_keep text_of writes = fits_kept _ _
+    (record { each = λ g c h d w. shape_texts text_of (writes (map_grid text_of g)) g h c d w.0 w.1 })
+    (record { each = λ g c h d w. shape_texts text_of (take w.0.count (writes (map_grid text_of g))) g h c d w.0.is w.1 })

@@ -1,13 +1,35 @@
--- A text written to several cells, one after another.
-use Rattle.std.proofs.Common.{ℕ, suc, List, ◌∷◌, refl, arith}
+-- Texts written to cells, one more or a part more at a time.
+use Rattle.std.proofs.Common.{◌≡◌, ◌+◌, ℕ, suc, List, ◌∷◌, ◌++◌, length, take, refl, arith}
+use Rattle.std.proofs.Math.Seq.{take-append-add}
+use Rattle.std.proofs.lemmas.Grind.{fold-append}
+use Rattle.std.proofs.lemmas.List.{length-append, take-append-le}
 use Rattle.tabled_grid.specs.Grid.{Grid, with_cell}
-use Rattle.tabled_grid.specs.declared.config.position.Position.{Position}
-use Rattle.tabled_options.specs.Writes.{WrittenUntil}
+use Rattle.tabled_options.specs.Writes.{FirstWrites, Write, with_writes}
 
--- nothing was written before the first place
-pub WrittenUntil-first : (text : List ℕ) (p : Position) (places : List Position) (g : Grid (List ℕ)) → WrittenUntil text (p ∷ places) g g
-WrittenUntil-first text p places g = record { count = 0; within = omega arith; is = refl }
+-- no write is the first of them
+pub some-none : (w : Write) (writes : List Write) (g : Grid (List ℕ)) → FirstWrites (w ∷ writes) g g
+some-none w writes g = record { count = 0; within = omega arith; is = refl }
 
--- the first place was written
-pub WrittenUntil-next : (text : List ℕ) (p : Position) (places : List Position) (g h : Grid (List ℕ)) → WrittenUntil text places (with_cell g p text) h → WrittenUntil text (p ∷ places) g h
-WrittenUntil-next text p places g h w = record { count = suc w.count; within = omega (arith, w.within); is = w.is }
+-- one write, and the first of the others
+pub some-next : (w : Write) (writes : List Write) (g h : Grid (List ℕ)) → FirstWrites writes (with_cell g w.place w.text) h → FirstWrites (w ∷ writes) g h
+some-next w writes g h s = record { count = suc s.count; within = omega (arith, s.within); is = s.is }
+
+-- writes, and then others
+pub writes-append : (a b : List Write) (g : Grid (List ℕ)) → with_writes (a ++ b) g ≡ with_writes b (with_writes a g)
+writes-append a b g = fold-append (λ (x : Grid (List ℕ)) (w : Write). with_cell x w.place w.text) g a b
+
+-- some of the first writes
+pub some-first : (a b : List Write) (g h : Grid (List ℕ)) → FirstWrites a g h → FirstWrites (a ++ b) g h
+some-first a b g h s = record {
+  count = s.count;
+  within = rw (length-append a b) (omega (arith, s.within));
+  is = rw (take-append-le s.count a b (omega (arith, s.within))) s.is;
+}
+
+-- all first writes, and some of the others
+pub some-later : (a b : List Write) (g h : Grid (List ℕ)) → FirstWrites b (with_writes a g) h → FirstWrites (a ++ b) g h
+some-later a b g h s = record {
+  count = length a + s.count;
+  within = rw (length-append a b) (omega (arith, s.within));
+  is = rw (take-append-add a b s.count, writes-append a (take s.count b) g) s.is;
+}

@@ -1,5 +1,5 @@
 -- Texts written to cells.
-use Rattle.std.specs.Prelude.{◌≡◌, ◌<◌, ℕ, List, [], ◌∷◌, length, take}
+use Rattle.std.specs.Prelude.{◌≡◌, ◌<◌, ℕ, List, length, map, take}
 use Rattle.std.specs.List.{fold}
 use Rattle.tabled_grid.specs.Entity.{inside}
 use Rattle.tabled_grid.specs.Grid.{Grid, map_grid, with_cell}
@@ -16,29 +16,24 @@ pub record Write : Type 0 where
 abbrev pub with_writes : List Write → Grid (List ℕ) → Grid (List ℕ)
 with_writes writes g = fold (λ h (w : Write). with_cell h w.place w.text) g writes
 
--- a text written to one place after another
-abbrev pub written : List ℕ → List Position → Grid (List ℕ) → Grid (List ℕ)
-written text [] g = g
-written text (p ∷ places) g = written text places (with_cell g p text)
-
--- a text written to the places before one of these, in order
-pub record WrittenUntil (text : List ℕ) (places : List Position) (g h : Grid (List ℕ)) : Type 0 where
+-- the second grid is the first with the writes before one of these
+pub record FirstWrites (writes : List Write) (g h : Grid (List ℕ)) : Type 0 where
   pub count : ℕ
-  pub within : count < length places
-  pub is : h ≡ written text (take count places) g
+  pub within : count < length writes
+  pub is : h ≡ with_writes (take count writes) g
 
--- a text in each cell inside that an entity names, row by row
-abbrev pub WritesEach : List ℕ → Entity → Grid (List ℕ) → Grid (List ℕ) → Type 0
-WritesEach text e g h = h ≡ written text (inside e g.rows g.columns) g
+-- writes that the old texts name, and the configuration as it was
+abbrev pub DoesWrites : {A C : Type 0} → (A → List ℕ) → (Grid (List ℕ) → List Write) → Change A C
+DoesWrites text_of writes g c h d = (map_grid text_of h ≡ with_writes (writes (map_grid text_of g)) (map_grid text_of g)) × (d ≡ c)
 
--- the same for the cells before one of them
-abbrev pub WritesFirst : List ℕ → Entity → Grid (List ℕ) → Grid (List ℕ) → Type 0
-WritesFirst text e g h = WrittenUntil text (inside e g.rows g.columns) g h
+-- the same for the writes before one of these
+abbrev pub DoesFirstWrites : {A C : Type 0} → (A → List ℕ) → (Grid (List ℕ) → List Write) → Change A C
+DoesFirstWrites text_of writes g c h d = FirstWrites (writes (map_grid text_of g)) (map_grid text_of g) (map_grid text_of h) × (d ≡ c)
 
--- the text in the cells inside that an entity names, and the configuration as it was
-abbrev pub Writes : {A C : Type 0} → (A → List ℕ) → List ℕ → Entity → Change A C
-Writes text_of text e g c h d = WritesEach text e (map_grid text_of g) (map_grid text_of h) × (d ≡ c)
+-- a text at each of these places
+abbrev pub at_each : List ℕ → List Position → List Write
+at_each text places = map (λ p. record { place = p; text = text }) places
 
--- the same for the cells before one of them
-abbrev pub WritesBefore : {A C : Type 0} → (A → List ℕ) → List ℕ → Entity → Change A C
-WritesBefore text_of text e g c h d = WritesFirst text e (map_grid text_of g) (map_grid text_of h) × (d ≡ c)
+-- a text at each place inside that an entity names, row by row
+abbrev pub text_writes : List ℕ → Entity → Grid (List ℕ) → List Write
+text_writes text e g = at_each text (inside e g.rows g.columns)

@@ -4,7 +4,7 @@ ghost use Rattle.std.specs.Prelude.{◌≡◌, [], OnOk, OnErr, IsOk};
 ghost use Rattle.std.specs.String.{string_bytes};
 ghost use Rattle.tabled_grid.specs.Entity.{inside};
 ghost use Rattle.tabled_grid.specs.Grid.{map_grid};
-ghost use Rattle.tabled_options.specs.Writes.{Writes, WritesBefore, WritesEach, WritesFirst};
+ghost use Rattle.tabled_options.specs.Writes.{DoesFirstWrites, DoesWrites, FirstWrites, text_writes, with_writes};
 ghost use Rattle.std.proofs.Common.{rules};
 
 use crate::cell_option::CellOption;
@@ -19,9 +19,9 @@ where
     R: Records + ExactRecords + RecordsMut<String>,
     R::Cell: CellText,
 {
-    ghost does = { λ s. Writes R.Cell.text_of (string_bytes s) };
+    ghost does = { λ s e. DoesWrites R.Cell.text_of (text_writes (string_bytes s) e) };
 
-    ghost leaves = { λ s. WritesBefore R.Cell.text_of (string_bytes s) };
+    ghost leaves = { λ s e. DoesFirstWrites R.Cell.text_of (text_writes (string_bytes s) e) };
 
     ghost can_change = { λ _. Unit {0} };
 
@@ -58,9 +58,9 @@ where
     R: Records + ExactRecords + RecordsMut<&'a str>,
     R::Cell: CellText,
 {
-    ghost does = { λ s. Writes R.Cell.text_of s.0.now };
+    ghost does = { λ s e. DoesWrites R.Cell.text_of (text_writes s.0.now e) };
 
-    ghost leaves = { λ s. WritesBefore R.Cell.text_of s.0.now };
+    ghost leaves = { λ s e. DoesFirstWrites R.Cell.text_of (text_writes s.0.now e) };
 
     ghost can_change = { λ _. Unit {0} };
 
@@ -92,8 +92,8 @@ where
     requires well { R.is_well_formed records.old }
     requires alike { (copy : T) → T.is_clone text copy → T.text_of copy ≡ T.text_of text }
     ensures well { R.is_well_formed records.new }
-    ensures ok { OnOk result (WritesEach (T.text_of text) entity (map_grid R.Cell.text_of (R.grid records.old)) (map_grid R.Cell.text_of (R.grid records.new))) }
-    ensures err { OnErr result (WritesFirst (T.text_of text) entity (map_grid R.Cell.text_of (R.grid records.old)) (map_grid R.Cell.text_of (R.grid records.new))) }
+    ensures ok { OnOk result (map_grid R.Cell.text_of (R.grid records.new) ≡ with_writes (text_writes (T.text_of text) entity (map_grid R.Cell.text_of (R.grid records.old))) (map_grid R.Cell.text_of (R.grid records.old))) }
+    ensures err { OnErr result (FirstWrites (text_writes (T.text_of text) entity (map_grid R.Cell.text_of (R.grid records.old))) (map_grid R.Cell.text_of (R.grid records.old)) (map_grid R.Cell.text_of (R.grid records.new))) }
     ensures promised { inside entity ((R.grid records.old).rows) ((R.grid records.old).columns) ≡ [] → IsOk result }
 {
     let rows = records.count_rows();

@@ -1,5 +1,5 @@
 -- Answers that are made of the old text alone.
-use Rattle.std.proofs.Common.{◌≡◌, ◌<◌, ◌∙◌, ◌⊎◌, inl, inr, ℕ, Bool, true, false, Option, List, [], ◌∷◌, length, map, take, refl, ap, ap₂, sym}
+use Rattle.std.proofs.Common.{◌≡◌, ◌∙◌, ◌⊎◌, inl, inr, ℕ, Bool, true, false, Option, List, [], ◌∷◌, map, take, refl, ap, ap₂, sym}
 use Rattle.std.proofs.lemmas.Bool.{false≢true}
 use Rattle.std.proofs.lemmas.List.{length-map}
 use Rattle.std.specs.List.{take-map}
@@ -9,7 +9,7 @@ use Rattle.tabled_grid.specs.declared.config.entity.Entity.{Entity}
 use Rattle.tabled_grid.specs.declared.config.position.Position.{Position}
 use Rattle.tabled_select.specs.Locators.{text_at}
 use Rattle.tabled_settings.specs.Charsets.{charset_writes, is_set, mapped_writes, recoded}
-use Rattle.tabled_options.specs.Writes.{Write, with_writes}
+use Rattle.tabled_options.specs.Writes.{FirstWrites, Write, with_writes}
 use Rattle.tabled_settings.specs.Rewrites.{AnswersInTurn, Asking, RewritesAt, RewritesUntil}
 
 module _ {S : Type 0} (asks : Asking S) (s : S) (f : List ℕ → List ℕ) (says : (p : Position) (old new : List ℕ) (t : S) → asks s p old new t → (t ≡ s) × (new ≡ f old)) (g : Grid (List ℕ)) where
@@ -22,10 +22,10 @@ module _ {S : Type 0} (asks : Asking S) (s : S) (f : List ℕ → List ℕ) (say
   pub mapped-all : (places : List Position) (h : Grid (List ℕ)) → RewritesAt asks s places g h → h ≡ with_writes (mapped_writes f g places) g
   mapped-all places h r = r.is ∙ ap (λ writes. with_writes writes g) (writes-are r.writes r.last r.answers ∙ ap (mapped_writes f g) r.at)
 
-  pub mapped-until : (places : List Position) (h : Grid (List ℕ)) → RewritesUntil asks s places g h → (k : ℕ) × (k < length (mapped_writes f g places)) × (h ≡ with_writes (take k (mapped_writes f g places)) g)
+  pub mapped-until : (places : List Position) (h : Grid (List ℕ)) → RewritesUntil asks s places g h → FirstWrites (mapped_writes f g places) g h
   mapped-until places h r =
       let one : Position → Write = λ p. record { place = p; text = f (text_at g p) } in
-      (r.count, rw (length-map places one) r.within, mapped-all (take r.count places) h r.before ∙ ap (λ writes. with_writes writes g) (sym (take-map one r.count places)))
+      record { count = r.count; within = rw (length-map places one) r.within; is = mapped-all (take r.count places) h r.before ∙ ap (λ writes. with_writes writes g) (sym (take-map one r.count places)) }
 
 -- what is asked of a charset
 abbrev pub RecodedAsks : Asking (Bool × Option ℕ)
@@ -34,7 +34,7 @@ RecodedAsks s p old new t = (t ≡ s) × (new ≡ recoded s old)
 pub charset-all : (s : Bool × Option ℕ) (e : Entity) (g h : Grid (List ℕ)) → is_set s ≡ true → RewritesAt RecodedAsks s (inside e g.rows g.columns) g h → h ≡ with_writes (charset_writes s e g) g
 charset-all s e g h set r = rw set (mapped-all RecodedAsks s (recoded s) (λ p old new t a. a) g (inside e g.rows g.columns) h r)
 
-pub charset-until : (s : Bool × Option ℕ) (e : Entity) (g h : Grid (List ℕ)) → is_set s ≡ true → RewritesUntil RecodedAsks s (inside e g.rows g.columns) g h → (k : ℕ) × (k < length (charset_writes s e g)) × (h ≡ with_writes (take k (charset_writes s e g)) g)
+pub charset-until : (s : Bool × Option ℕ) (e : Entity) (g h : Grid (List ℕ)) → is_set s ≡ true → RewritesUntil RecodedAsks s (inside e g.rows g.columns) g h → FirstWrites (charset_writes s e g) g h
 charset-until s e g h set r = rw set (mapped-until RecodedAsks s (recoded s) (λ p old new t a. a) g (inside e g.rows g.columns) h r)
 
 pub not_unset : {Q : Type 0} (s : Bool × Option ℕ) → is_set s ≡ true → (is_set s ≡ false) ⊎ Q → Q

@@ -5,20 +5,14 @@ use Rattle.tabled_grid.specs.Rectangles.{Fits}
 use Rattle.tabled_grid.specs.Spans.{SpanMap}
 use Rattle.tabled_grid.specs.declared.config.entity.Entity.{Entity}
 use Rattle.tabled_options.specs.Does.{OptionKeeps}
-use Rattle.tabled_options.specs.Writes.{Write}
+use Rattle.tabled_options.specs.Writes.{FirstWrites}
 use Rattle.tabled_options.proofs.Shapes.{fits_kept, shape_texts}
-use Rattle.tabled_settings.specs.Charsets.{DoesFirstWrites, DoesWrites}
-use Rattle.tabled_settings.specs.Dups.{Duplicates, DuplicatesFirst, WritesSome, round_writes, source_texts}
+use Rattle.tabled_settings.specs.Dups.{Duplicates, DuplicatesFirst, round_writes, source_texts}
 use Rattle.tabled_settings.specs.Rewrites.{Asking, Rewrites, RewritesBefore}
 
 module _ {A : Type 0} (text_of : A → List ℕ) where
   abbrev FitsIn : Grid A → SpanMap → Type 0
   FitsIn g c = Fits c g.rows g.columns
-
-  pub writes_keep : (writes : Grid (List ℕ) → List Write) → OptionKeeps FitsIn (DoesWrites text_of writes) (DoesFirstWrites text_of writes)
-  writes_keep writes = fits_kept _ _
-      (record { each = λ g c h d w. shape_texts text_of (writes (map_grid text_of g)) g h c d w.0 w.1 })
-      (record { each = λ g c h d w. shape_texts text_of (take w.0 (writes (map_grid text_of g))) g h c d w.2 w.3 })
 
   pub rewrites_keep : {S : Type 0} (asks : Asking S) (first : S) (e : Entity) → OptionKeeps FitsIn (Rewrites text_of asks first e) (RewritesBefore text_of asks first e)
   rewrites_keep asks first e = fits_kept _ _
@@ -34,6 +28,6 @@ module _ {A : Type 0} (text_of : A → List ℕ) where
       made g c h d w [] is = shape_texts text_of [] g h c d (rw is at w.2) w.3
       made g c h d w (text ∷ texts) is = let writes = rw is at w.2 in shape_texts text_of (round_writes (text ∷ texts) g.rows g.columns writes.0) g h c d writes.2 w.3
 
-      left : (g : Grid A) (c : SpanMap) (h : Grid A) (d : SpanMap) → (map_grid text_of h ≡ map_grid text_of g) ⊎ ((sources : List Entity) × source g sources × (targets : List Entity) × destination g targets × WritesSome (round_writes (source_texts (map_grid text_of g) sources) g.rows g.columns targets) (map_grid text_of g) (map_grid text_of h)) → d ≡ c → (h.rows ≡ g.rows) × (h.columns ≡ g.columns) × (d ≡ c)
+      left : (g : Grid A) (c : SpanMap) (h : Grid A) (d : SpanMap) → (map_grid text_of h ≡ map_grid text_of g) ⊎ ((sources : List Entity) × source g sources × (targets : List Entity) × destination g targets × FirstWrites (round_writes (source_texts (map_grid text_of g) sources) g.rows g.columns targets) (map_grid text_of g) (map_grid text_of h)) → d ≡ c → (h.rows ≡ g.rows) × (h.columns ≡ g.columns) × (d ≡ c)
       left g c h d (inl is) same = shape_texts text_of [] g h c d is same
       left g c h d (inr (sources, from, targets, to, some)) same = shape_texts text_of (take some.count (round_writes (source_texts (map_grid text_of g) sources) g.rows g.columns targets)) g h c d some.is same

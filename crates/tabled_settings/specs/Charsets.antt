@@ -1,13 +1,12 @@
 -- Texts with tabs replaced and control characters taken out.
-use Rattle.std.specs.Prelude.{◌≡◌, ◌<◌, ◌≤◌, ◌⊎◌, ℕ, Bool, false, true, ◌==◌, ◌||◌, if◌then◌else◌, List, [], ◌∷◌, Option, None, Some, is_some, length, map, nat_lt, not, replicate, take}
+use Rattle.std.specs.Prelude.{◌≡◌, ◌≤◌, ◌⊎◌, ℕ, Bool, false, true, ◌==◌, ◌||◌, if◌then◌else◌, List, [], ◌∷◌, Option, None, Some, is_some, map, nat_lt, not, replicate}
 use Rattle.std.specs.List.{flat_map}
 use Rattle.tabled_grid.specs.Entity.{inside}
-use Rattle.tabled_grid.specs.Grid.{Grid, map_grid}
+use Rattle.tabled_grid.specs.Grid.{Grid}
 use Rattle.tabled_grid.specs.declared.config.entity.Entity.{Entity}
 use Rattle.tabled_grid.specs.declared.config.position.Position.{Position}
-use Rattle.tabled_options.specs.Does.{Change}
 use Rattle.tabled_select.specs.Locators.{text_at}
-use Rattle.tabled_options.specs.Writes.{Write, with_writes}
+use Rattle.tabled_options.specs.Writes.{Write}
 
 -- a byte stays: all do where nothing is cleaned, and else a newline and what is no control character
 abbrev pub stays : Bool → ℕ → Bool
@@ -42,14 +41,6 @@ is_set s = s.0 || is_some s.1
 -- the writes of a charset on an entity, and none where nothing is set
 abbrev pub charset_writes : Bool × Option ℕ → Entity → Grid (List ℕ) → List Write
 charset_writes s e g = if is_set s then mapped_writes (recoded s) g (inside e g.rows g.columns) else []
-
--- writes of the old texts, and the configuration as it was
-abbrev pub DoesWrites : {A C : Type 0} → (A → List ℕ) → (Grid (List ℕ) → List Write) → Change A C
-DoesWrites text_of writes g c h d = (map_grid text_of h ≡ with_writes (writes (map_grid text_of g)) (map_grid text_of g)) × (d ≡ c)
-
--- the same for the writes before one of these
-abbrev pub DoesFirstWrites : {A C : Type 0} → (A → List ℕ) → (Grid (List ℕ) → List Write) → Change A C
-DoesFirstWrites text_of writes g c h d = (k : ℕ) × (k < length (writes (map_grid text_of g))) × (map_grid text_of h ≡ with_writes (take k (writes (map_grid text_of g))) (map_grid text_of g)) × (d ≡ c)
 
 -- a byte of no control character, or a newline; bytes below 32 are characters of their own
 abbrev pub IsClean : ℕ → Type 0

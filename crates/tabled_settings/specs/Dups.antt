@@ -1,5 +1,5 @@
 -- Texts of some cells written to others.
-use Rattle.std.specs.Prelude.{◌≡◌, ◌<◌, ◌⊎◌, ◌%◌, ◌+◌, ℕ, List, [], ◌∷◌, get_or, length, map, take}
+use Rattle.std.specs.Prelude.{◌≡◌, ◌⊎◌, ◌%◌, ◌+◌, ℕ, List, [], ◌∷◌, get_or, length, map}
 use Rattle.std.specs.List.{flat_map}
 use Rattle.tabled_grid.specs.Entity.{inside}
 use Rattle.tabled_grid.specs.Grid.{Grid, map_grid}
@@ -8,7 +8,7 @@ use Rattle.tabled_grid.specs.declared.config.position.Position.{Position}
 use Rattle.tabled_options.specs.Does.{Change}
 use Rattle.tabled_select.specs.Algebra.{flat}
 use Rattle.tabled_select.specs.Locators.{text_at}
-use Rattle.tabled_options.specs.Writes.{Write, with_writes}
+use Rattle.tabled_options.specs.Writes.{FirstWrites, Write, with_writes}
 
 -- texts for places, the i-th one for the first of them, and after the last one the first again
 abbrev pub round_from : ℕ → List (List ℕ) → List Position → List Write
@@ -18,12 +18,6 @@ round_from i texts (p ∷ places) = record { place = p; text = get_or texts (i %
 -- texts for what entities name, for each entity from the first text on
 abbrev pub round_writes : List (List ℕ) → ℕ → ℕ → List Entity → List Write
 round_writes texts rows columns entities = flat_map (λ e. round_from 0 texts (inside e rows columns)) entities
-
--- some of these writes, and not all
-pub record WritesSome (writes : List Write) (g h : Grid (List ℕ)) : Type 0 where
-  pub count : ℕ
-  pub within : count < length writes
-  pub is : h ≡ with_writes (take count writes) g
 
 -- the texts in a grid of what entities name
 abbrev pub source_texts : Grid (List ℕ) → List Entity → List (List ℕ)
@@ -39,4 +33,4 @@ Duplicates text_of destination source g c h d = (sources : List Entity) × sourc
 
 -- no change, or the first of these writes
 abbrev pub DuplicatesFirst : {A C : Type 0} → (A → List ℕ) → (Grid A → List Entity → Type 0) → (Grid A → List Entity → Type 0) → Change A C
-DuplicatesFirst text_of destination source g c h d = (map_grid text_of h ≡ map_grid text_of g ⊎ ((sources : List Entity) × source g sources × (targets : List Entity) × destination g targets × WritesSome (round_writes (source_texts (map_grid text_of g) sources) g.rows g.columns targets) (map_grid text_of g) (map_grid text_of h))) × (d ≡ c)
+DuplicatesFirst text_of destination source g c h d = (map_grid text_of h ≡ map_grid text_of g ⊎ ((sources : List Entity) × source g sources × (targets : List Entity) × destination g targets × FirstWrites (round_writes (source_texts (map_grid text_of g) sources) g.rows g.columns targets) (map_grid text_of g) (map_grid text_of h))) × (d ≡ c)

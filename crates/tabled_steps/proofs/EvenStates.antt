@@ -7,7 +7,6 @@ use Rattle.std.specs.String.{string_bytes}
 use Rattle.std.proofs.lemmas.Bool.{and_parts, cases_Bool, leb-true, ltb-true}
 use Rattle.std.proofs.lemmas.List.{length-replicate}
 use Rattle.tabled_grid.specs.Bounds.{indexes}
-use Rattle.tabled_grid.specs.Entity.{inside}
 use Rattle.tabled_grid.specs.Grid.{Grid, IsEven, cell_at, with_cell}
 use Rattle.tabled_grid.specs.declared.config.entity.Entity.{Entity}
 use Rattle.tabled_grid.specs.declared.config.position.Position.{Position}
@@ -15,7 +14,7 @@ use Rattle.tabled_grid.specs.declared.records.axis.Axis.{Axis}
 use Rattle.tabled_grid.specs.declared.records.axis.Axis.TheVariants.{Rows, Columns}
 use Rattle.tabled_grid.proofs.Grids.{IsEven-with_cell}
 use Rattle.tabled_grid.proofs.Resized.{IsEven-with_column, IsEven-with_row}
-use Rattle.tabled_options.specs.Writes.{Write, with_writes, written}
+use Rattle.tabled_options.specs.Writes.{Write, text_writes, with_writes}
 use Rattle.tabled_select.specs.Locators.{columns_with, text_at}
 use Rattle.tabled_settings.specs.Charsets.{charset_writes}
 use Rattle.tabled_settings.specs.Joined.{corner_of, joined_text}
@@ -37,10 +36,6 @@ use Rattle.tabled_steps.specs.declared.select.Select.{Select}
 use Rattle.tabled_steps.specs.declared.step.Step.{Step}
 use Rattle.tabled_steps.specs.declared.step.Step.TheVariants as step
 use Rattle.tabled_steps.proofs.TextReads.{IsEven-table_of}
-
-even_written : (text : List ℕ) (places : List Position) (g : Grid (List ℕ)) → IsEven g → IsEven (written text places g)
-even_written text [] g even = even
-even_written text (p ∷ places) g even = even_written text places (with_cell g p text) (IsEven-with_cell g p text even)
 
 even_writes : (writes : List Write) (g : Grid (List ℕ)) → IsEven g → IsEven (with_writes writes g)
 even_writes [] g even = even
@@ -96,7 +91,7 @@ even_joined : (axis : Axis) (second : Grid (List ℕ)) (default : List ℕ) (g :
 even_joined axis second default g = let corner = corner_of axis g.rows g.columns in IsEven-table_of (max g.rows (corner.row + second.rows)) (max g.columns (corner.col + second.columns)) (λ (p : Position). cond (nat_lt p.row g.rows && nat_lt p.col g.columns) (text_at g p) (joined_text corner second default p.row p.col))
 
 even_after : (x : Step) → Keeps (after x)
-even_after (step.Set text_select text) = even_on_each _ text_select (λ e s. even_written (string_bytes text) (inside e s.texts.rows s.texts.columns) s.texts)
+even_after (step.Set text_select text) = even_on_each _ text_select (λ e s. even_writes (text_writes (string_bytes text) e s.texts) s.texts)
 even_after (step.Dup destination source) = λ s. even_round (source_texts s.texts (selected s.texts source)) (selected s.texts destination) s.texts
 even_after (step.Charset charset select) = even_on_each _ select (λ e s. even_writes (charset_writes charset e s.texts) s.texts)
 even_after (step.ColumnSpan size select) = even_on_each _ select (λ e s. even_writes (span_writes Columns size e s.texts) s.texts)

@@ -11,9 +11,10 @@ use Rattle.tabled_grid.specs.declared.records.axis.Axis.{Axis}
 use Rattle.tabled_grid.specs.declared.records.axis.Axis.TheVariants.{Rows, Columns}
 use Rattle.tabled_options.specs.Does.{Change, Each, EachListed, EachUntil, EachUntilAt, OptionKeeps, Same}
 use Rattle.tabled_options.proofs.Keeps.{keeps_all, keeps_copied, keeps_in_order, keeps_listed}
-use Rattle.tabled_options.proofs.Shapes.{text_keeps}
+use Rattle.tabled_options.proofs.Shapes.{writes_keep}
+use Rattle.tabled_options.specs.Writes.{text_writes}
 use Rattle.tabled_settings.specs.Charsets.{charset_writes}
-use Rattle.tabled_settings.proofs.WritersKeep.{duplicates_keep, writes_keep}
+use Rattle.tabled_settings.proofs.WritersKeep.{duplicates_keep}
 use Rattle.tabled_spans.specs.Panels.{Panels}
 use Rattle.tabled_spans.proofs.MergeGeometry.{fits_merged}
 use Rattle.tabled_spans.proofs.PanelGeometry.{panels_fit, same_fits}
@@ -39,7 +40,7 @@ module _ {A : Type 0} (text_of : A → List ℕ) where
   merges axis = record { done = λ g m h n fits does. rw does.0 (fits_merged axis (map_grid text_of g) m n does.1 fits); refused = same_fits }
 
   pub step_keeps : (s : Step) → KeepsFitting s → OptionKeeps fitting (Does text_of s) (Leaves text_of s)
-  step_keeps (step.Set select text) _ = on_entities select _ _ (text_keeps text_of (string_bytes text))
+  step_keeps (step.Set select text) _ = on_entities select _ _ (λ e. writes_keep text_of (text_writes (string_bytes text) e))
   step_keeps (step.Dup destination source) _ = duplicates_keep text_of (Names text_of destination) (Names text_of source)
   step_keeps (step.Charset charset select) _ = on_entities select _ _ (λ e. writes_keep text_of (charset_writes charset e))
   step_keeps (step.ColumnSpan size select) positive = on_entities select _ _ (λ e. option_keeps text_of Columns size e Fits (fits_spanned Columns size e positive))

@@ -3,13 +3,12 @@ use Rattle.std.specs.Prelude.{◌≡◌, ◌<◌, ℕ, ◌-◌, ℤ, if◌then�
 use Rattle.std.specs.List.{fold}
 use Rattle.std.specs.String.{string_bytes}
 use Rattle.tabled_grid.specs.Bounds.{indexes}
-use Rattle.tabled_grid.specs.Entity.{inside}
 use Rattle.tabled_grid.specs.Grid.{Grid, map_grid}
 use Rattle.tabled_grid.specs.Spans.{SpanMap, with_sizes}
 use Rattle.tabled_grid.specs.declared.config.entity.Entity.{Entity}
 use Rattle.tabled_grid.specs.declared.records.axis.Axis.{Axis}
 use Rattle.tabled_grid.specs.declared.records.axis.Axis.TheVariants.{Rows, Columns}
-use Rattle.tabled_options.specs.Writes.{with_writes, written}
+use Rattle.tabled_options.specs.Writes.{text_writes, with_writes}
 use Rattle.tabled_select.specs.Locators.{columns_with}
 use Rattle.tabled_settings.specs.Charsets.{charset_writes}
 use Rattle.tabled_settings.specs.Dups.{round_writes, source_texts}
@@ -38,7 +37,7 @@ state_of text_of g c = record { texts = map_grid text_of g; spans = c }
 
 -- a text in each cell that an entity names
 abbrev pub set : List ℕ → State → Entity → State
-set text s e = record s { texts = written text (inside e s.texts.rows s.texts.columns) s.texts }
+set text s e = record s { texts = with_writes (text_writes text e s.texts) s.texts }
 
 -- the texts that an entity names, recoded
 abbrev pub recode : Bool × Option ℕ → State → Entity → State

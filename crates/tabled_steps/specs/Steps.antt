@@ -7,9 +7,9 @@ use Rattle.tabled_grid.specs.declared.config.entity.Entity.{Entity}
 use Rattle.tabled_grid.specs.declared.records.axis.Axis.{Axis}
 use Rattle.tabled_grid.specs.declared.records.axis.Axis.TheVariants.{Rows, Columns}
 use Rattle.tabled_options.specs.Does.{AfterNeverRefused, Change, EachListed, EachListedUntil, Same, SameOr, Then, ThenLeaves}
-use Rattle.tabled_options.specs.Writes.{Writes, WritesBefore}
+use Rattle.tabled_options.specs.Writes.{DoesFirstWrites, DoesWrites, text_writes}
 use Rattle.tabled_select.specs.Locators.{columns_with}
-use Rattle.tabled_settings.specs.Charsets.{DoesFirstWrites, DoesWrites, charset_writes}
+use Rattle.tabled_settings.specs.Charsets.{charset_writes}
 use Rattle.tabled_settings.specs.Dups.{Duplicates, DuplicatesFirst}
 use Rattle.tabled_settings.specs.Joined.{JoinsAt, corner_of}
 use Rattle.tabled_settings.specs.PiecePlaces.{Splits}
@@ -40,7 +40,7 @@ Merges text_of axis g c h d = (h ≡ g) × MergesRuns axis (map_grid text_of g) 
 
 -- what a step does
 abbrev pub Does : {A : Type 0} → (A → List ℕ) → Step → Change A SpanMap
-Does text_of (step.Set select text) = EachListed (Names text_of select) (Writes text_of (string_bytes text))
+Does text_of (step.Set select text) = EachListed (Names text_of select) (λ e. DoesWrites text_of (text_writes (string_bytes text) e))
 Does text_of (step.Dup destination source) = Duplicates text_of (Names text_of destination) (Names text_of source)
 Does text_of (step.Charset charset select) = EachListed (Names text_of select) (λ e. DoesWrites text_of (charset_writes charset e))
 Does text_of (step.ColumnSpan size select) = EachListed (Names text_of select) (Spans text_of Columns size)
@@ -67,7 +67,7 @@ LeavesFirst text_of select does leaves = SameOr (EachListedUntil (Names text_of 
 
 -- what a refused step leaves
 abbrev pub Leaves : {A : Type 0} → (A → List ℕ) → Step → Change A SpanMap
-Leaves text_of (step.Set select text) = LeavesFirst text_of select (Writes text_of (string_bytes text)) (WritesBefore text_of (string_bytes text))
+Leaves text_of (step.Set select text) = LeavesFirst text_of select (λ e. DoesWrites text_of (text_writes (string_bytes text) e)) (λ e. DoesFirstWrites text_of (text_writes (string_bytes text) e))
 Leaves text_of (step.Dup destination source) = DuplicatesFirst text_of (Names text_of destination) (Names text_of source)
 Leaves text_of (step.Charset charset select) = LeavesFirst text_of select (λ e. DoesWrites text_of (charset_writes charset e)) (λ e. DoesFirstWrites text_of (charset_writes charset e))
 Leaves text_of (step.ColumnSpan size select) = LeavesFirst text_of select (Spans text_of Columns size) (SpansFirst text_of Columns size)

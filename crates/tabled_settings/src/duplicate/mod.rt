@@ -5,8 +5,8 @@ ghost use Rattle.std.specs.String.{string_bytes};
 ghost use Rattle.tabled_grid.specs.Entity.{inside};
 ghost use Rattle.tabled_grid.specs.Grid.{map_grid};
 ghost use Rattle.tabled_select.specs.Locators.{text_at};
-ghost use Rattle.tabled_settings.specs.Dups.{Duplicates, DuplicatesFirst, WritesSome, round_from, round_writes, source_texts};
-ghost use Rattle.tabled_options.specs.Writes.{with_writes};
+ghost use Rattle.tabled_settings.specs.Dups.{Duplicates, DuplicatesFirst, round_from, round_writes, source_texts};
+ghost use Rattle.tabled_options.specs.Writes.{FirstWrites, with_writes};
 ghost use Rattle.std.proofs.Common.{rules};
 
 use std::alloc::{AllocError, Global};
@@ -140,7 +140,7 @@ where
     ensures rows { (R.grid records.new).rows ≡ (R.grid records.old).rows }
     ensures columns { (R.grid records.new).columns ≡ (R.grid records.old).columns }
     ensures ok { OnOk result (map_grid R.Cell.text_of (R.grid records.new) ≡ with_writes (round_from 0 (map string_bytes texts.now) (inside entity (R.grid records.old).rows (R.grid records.old).columns)) (map_grid R.Cell.text_of (R.grid records.old))) }
-    ensures err { OnErr result (WritesSome (round_from 0 (map string_bytes texts.now) (inside entity (R.grid records.old).rows (R.grid records.old).columns)) (map_grid R.Cell.text_of (R.grid records.old)) (map_grid R.Cell.text_of (R.grid records.new))) }
+    ensures err { OnErr result (FirstWrites (round_from 0 (map string_bytes texts.now) (inside entity (R.grid records.old).rows (R.grid records.old).columns)) (map_grid R.Cell.text_of (R.grid records.old)) (map_grid R.Cell.text_of (R.grid records.new))) }
 {
     let mut next = 0;
     for pos in entity.iter(records.count_rows(), records.count_columns()) {
@@ -167,7 +167,7 @@ where
     requires some { 0 < length texts.now }
     ensures well { R.is_well_formed records.new }
     ensures ok { OnOk result (map_grid R.Cell.text_of (R.grid records.new) ≡ with_writes (round_writes (map string_bytes texts.now) (R.grid records.old).rows (R.grid records.old).columns entities.items) (map_grid R.Cell.text_of (R.grid records.old))) }
-    ensures err { OnErr result (WritesSome (round_writes (map string_bytes texts.now) (R.grid records.old).rows (R.grid records.old).columns entities.items) (map_grid R.Cell.text_of (R.grid records.old)) (map_grid R.Cell.text_of (R.grid records.new))) }
+    ensures err { OnErr result (FirstWrites (round_writes (map string_bytes texts.now) (R.grid records.old).rows (R.grid records.old).columns entities.items) (map_grid R.Cell.text_of (R.grid records.old)) (map_grid R.Cell.text_of (R.grid records.new))) }
 {
     let mut rest = entities.into_iter();
     while let Some(entity) = rest.next() {

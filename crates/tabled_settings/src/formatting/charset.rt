@@ -1,13 +1,13 @@
 //! Tabs replaced and control characters taken out.
 
-ghost use Rattle.std.specs.Prelude.{◌≡◌, ◌<◌, ◌++◌, ◌⊎◌, ℕ, false, length, replicate, take, [], IfOk, IsOk, OnErr, OnOk};
+ghost use Rattle.std.specs.Prelude.{◌≡◌, ◌++◌, ◌⊎◌, false, replicate, [], IfOk, IsOk, OnErr, OnOk};
 ghost use Rattle.std.specs.List.{flat_map};
 ghost use Rattle.std.specs.String.{string_bytes};
 ghost use Rattle.tabled_grid.specs.Entity.{inside};
 ghost use Rattle.tabled_grid.specs.Grid.{map_grid};
 ghost use Rattle.tabled_grid.specs.declared.config.entity.Entity.TheVariants.{Global};
-ghost use Rattle.tabled_settings.specs.Charsets.{DoesFirstWrites, DoesWrites, charset_writes, is_set, recoded, replaced, stays};
-ghost use Rattle.tabled_options.specs.Writes.{with_writes};
+ghost use Rattle.tabled_settings.specs.Charsets.{charset_writes, is_set, recoded, replaced, stays};
+ghost use Rattle.tabled_options.specs.Writes.{DoesFirstWrites, DoesWrites, FirstWrites, with_writes};
 ghost use Rattle.std.proofs.Common.{rules};
 
 use crate::rewrite::{Answers, rewrite};
@@ -174,7 +174,7 @@ where
     requires well { R.is_well_formed records.old }
     ensures well { R.is_well_formed records.new }
     ensures ok { OnOk result (map_grid R.Cell.text_of (R.grid records.new) ≡ with_writes (charset_writes charset entity (map_grid R.Cell.text_of (R.grid records.old))) (map_grid R.Cell.text_of (R.grid records.old))) }
-    ensures err { OnErr result ((k : ℕ) × (k < length (charset_writes charset entity (map_grid R.Cell.text_of (R.grid records.old)))) × (map_grid R.Cell.text_of (R.grid records.new) ≡ with_writes (take k (charset_writes charset entity (map_grid R.Cell.text_of (R.grid records.old)))) (map_grid R.Cell.text_of (R.grid records.old)))) }
+    ensures err { OnErr result (FirstWrites (charset_writes charset entity (map_grid R.Cell.text_of (R.grid records.old))) (map_grid R.Cell.text_of (R.grid records.old)) (map_grid R.Cell.text_of (R.grid records.new))) }
     ensures promised { (is_set charset ≡ false) ⊎ (inside entity (R.grid records.old).rows (R.grid records.old).columns ≡ []) → IsOk result }
 {
     if !charset.is_set() {

@@ -1,7 +1,7 @@
 use Rattle.std.proofs.Common.{rules, ◌∙◌, refl}
 use Rattle.tabled_grid.proofs.Places.{inside-within}
 use Rattle.tabled_options.proofs.Results.{on_err}
-use Rattle.tabled_options.proofs.Writes.{WrittenUntil-first, WrittenUntil-next}
+use Rattle.tabled_options.proofs.Writes.{some-next, some-none}
 use Rattle.tabled_options.proofs.writers.write.Goals as goal
 
 pub loop-pos-init : goal.loop-pos-init
@@ -31,14 +31,14 @@ loop-pos-preserved g c =
       columns = search rules;
       inside = (rw c.in-Some.ensures.steps at c.loop-pos.invariant.inside).1;
       ok = rw texts (rw c.in-Some.ensures.steps at c.loop-pos.invariant.ok);
-      err = λ h s. c.loop-pos.invariant.err h (rw c.in-Some.ensures.steps (WrittenUntil-next _ _ _ _ h (rw texts at s)));
+      err = λ h s. c.loop-pos.invariant.err h (rw c.in-Some.ensures.steps (some-next _ _ _ h (rw texts at s)));
       promised = λ e. search rules;
     }
 
 pub returns-in_err-clone-clause-err : goal.returns-in_err-clone-clause-err
 returns-in_err-clone-clause-err g c =
-    on_err c.from_residual.result (c.loop-pos.invariant.err _ (rw c.in-Some.ensures.steps (WrittenUntil-first _ _ _ _)))
+    on_err c.from_residual.result (c.loop-pos.invariant.err _ (rw c.in-Some.ensures.steps (some-none _ _ _)))
 
 pub returns-in_err-set-clause-err : goal.returns-in_err-set-clause-err
 returns-in_err-set-clause-err g c =
-    on_err c.from_residual-in_err-set.result (c.loop-pos.invariant.err _ (rw (c.in-Some.ensures.steps, c.in_err-set.ensures.err) (WrittenUntil-first _ _ _ _)))
+    on_err c.from_residual-in_err-set.result (c.loop-pos.invariant.err _ (rw (c.in-Some.ensures.steps, c.in_err-set.ensures.err) (some-none _ _ _)))

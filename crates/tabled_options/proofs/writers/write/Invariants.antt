@@ -3,7 +3,7 @@ use Rattle.std.specs.List.{AllByRecursion}
 use Rattle.tabled_grid.specs.Entity.{inside}
 use Rattle.tabled_grid.specs.Grid.{Grid, map_grid}
 use Rattle.tabled_grid.specs.declared.config.position.Position.{Position}
-use Rattle.tabled_options.specs.Writes.{written, WrittenUntil}
+use Rattle.tabled_options.specs.Writes.{FirstWrites, at_each, with_writes}
 use Rattle.tabled_options.proofs.writers.write.Given as goal
 
 abbrev pub invariant-loop-pos : goal.invariant-loop-pos
@@ -19,7 +19,7 @@ invariant-loop-pos g l =
       rows : (g.R.GridStore.grid l.records).rows ≡ first.rows;
       columns : (g.R.GridStore.grid l.records).columns ≡ first.columns;
       inside : AllByRecursion (λ (p : Position). (p.row < first.rows) × (p.col < first.columns)) l.pos-iterator;
-      ok : written text l.pos-iterator (texts l.records) ≡ written text all (texts l.fn.records);
-      err : (h : Grid (List ℕ)) → WrittenUntil text l.pos-iterator (texts l.records) h → WrittenUntil text all (texts l.fn.records) h;
+      ok : with_writes (at_each text l.pos-iterator) (texts l.records) ≡ with_writes (at_each text all) (texts l.fn.records);
+      err : (h : Grid (List ℕ)) → FirstWrites (at_each text l.pos-iterator) (texts l.records) h → FirstWrites (at_each text all) (texts l.fn.records) h;
       promised : all ≡ [] → l.pos-iterator ≡ [];
     }

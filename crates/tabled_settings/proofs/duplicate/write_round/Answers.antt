@@ -4,7 +4,8 @@ use Rattle.tabled_grid.specs.Entity.{inside}
 use Rattle.tabled_grid.specs.Grid.{map_grid, with_cell}
 use Rattle.tabled_grid.proofs.Places.{inside-within}
 use Rattle.tabled_settings.proofs.Results.{on_err}
-use Rattle.tabled_settings.proofs.Rounds.{last_mod, next_mod, some-next, some-none, zero_mod}
+use Rattle.tabled_options.proofs.Writes.{some-next, some-none}
+use Rattle.tabled_settings.proofs.Rounds.{last_mod, next_mod, zero_mod}
 use Rattle.tabled_settings.proofs.duplicate.write_round.Goals as goal
 
 pub loop-pos-init : goal.loop-pos-init

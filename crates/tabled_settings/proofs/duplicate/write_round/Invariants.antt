@@ -3,8 +3,8 @@ use Rattle.std.specs.List.{AllByRecursion}
 use Rattle.tabled_grid.specs.Entity.{inside}
 use Rattle.tabled_grid.specs.Grid.{Grid, map_grid}
 use Rattle.tabled_grid.specs.declared.config.position.Position.{Position}
-use Rattle.tabled_settings.specs.Dups.{WritesSome, round_from}
-use Rattle.tabled_options.specs.Writes.{with_writes}
+use Rattle.tabled_settings.specs.Dups.{round_from}
+use Rattle.tabled_options.specs.Writes.{FirstWrites, with_writes}
 use Rattle.tabled_settings.proofs.duplicate.write_round.Given as goal
 
 abbrev pub invariant-loop-pos : goal.invariant-loop-pos
@@ -22,5 +22,5 @@ invariant-loop-pos g l =
       within : AllByRecursion (λ (p : Position). (p.row < first.rows) × (p.col < first.columns)) l.pos-iterator;
       next : l.next < length l.fn.texts;
       left : (k : ℕ) × (l.next ≡ k % length texts) × (with_writes (round_from k texts l.pos-iterator) (grid l.records) ≡ with_writes all (grid l.fn.records))
-          × ((h : Grid (List ℕ)) → WritesSome (round_from k texts l.pos-iterator) (grid l.records) h → WritesSome all (grid l.fn.records) h);
+          × ((h : Grid (List ℕ)) → FirstWrites (round_from k texts l.pos-iterator) (grid l.records) h → FirstWrites all (grid l.fn.records) h);
     }

@@ -2,10 +2,10 @@ use Rattle.std.proofs.Common.{◌∙◌, map, string_bytes, sym, ap, ap₂, subs
 use Rattle.std.specs.Vec.Iter.{into_iter_items}
 use Rattle.tabled_grid.specs.Entity.{inside}
 use Rattle.tabled_grid.specs.Grid.{map_grid}
-use Rattle.tabled_settings.specs.Dups.{WritesSome, round_from, round_writes}
-use Rattle.tabled_options.specs.Writes.{with_writes}
+use Rattle.tabled_settings.specs.Dups.{round_from, round_writes}
+use Rattle.tabled_options.specs.Writes.{FirstWrites, with_writes}
 use Rattle.tabled_settings.proofs.Results.{on_err}
-use Rattle.tabled_settings.proofs.Rounds.{some-first, some-later, writes-append}
+use Rattle.tabled_options.proofs.Writes.{some-first, some-later, writes-append}
 use Rattle.tabled_settings.proofs.duplicate.write_rounds.Goals as goal
 
 pub loop-entity-preserved : goal.loop-entity-preserved
@@ -33,5 +33,5 @@ returns-in_err-write_round-clause-err g c =
     let one = round_from 0 texts (inside c.in-Some.entity first.rows first.columns) in
     let left = round_writes texts first.rows first.columns (into_iter_items c.next.new.self) in
     let grid = λ (r : _). map_grid g.R.Cell.CellText.text_of (g.R.GridStore.grid r) in
-    let some = subst (λ places. WritesSome (round_from 0 texts places) (grid c.loop-entity.records) (grid c.write_round.new.records)) (ap₂ (inside c.in-Some.entity) i.rows i.columns) c.in_err-write_round.ensures.err in
+    let some = subst (λ places. FirstWrites (round_from 0 texts places) (grid c.loop-entity.records) (grid c.write_round.new.records)) (ap₂ (inside c.in-Some.entity) i.rows i.columns) c.in_err-write_round.ensures.err in
     on_err c.from_residual.result (i.err _ (rw c.in-Some.ensures.items (some-first one left _ _ some)))

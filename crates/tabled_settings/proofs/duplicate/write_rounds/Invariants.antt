@@ -1,8 +1,8 @@
 use Rattle.std.proofs.Common.{◌≡◌, ℕ, List, length, map, string_bytes}
 use Rattle.std.specs.Vec.Iter.{into_iter_items}
 use Rattle.tabled_grid.specs.Grid.{Grid, map_grid}
-use Rattle.tabled_settings.specs.Dups.{WritesSome, round_writes}
-use Rattle.tabled_options.specs.Writes.{with_writes}
+use Rattle.tabled_settings.specs.Dups.{round_writes}
+use Rattle.tabled_options.specs.Writes.{FirstWrites, with_writes}
 use Rattle.tabled_settings.proofs.duplicate.write_rounds.Given as goal
 
 abbrev pub invariant-loop-entity : goal.invariant-loop-entity
@@ -17,7 +17,7 @@ invariant-loop-entity g l =
       rows : (g.R.GridStore.grid l.records).rows ≡ first.rows;
       columns : (g.R.GridStore.grid l.records).columns ≡ first.columns;
       ok : with_writes left (grid l.records) ≡ with_writes all (grid l.fn.records);
-      err : (h : Grid (List ℕ)) → WritesSome left (grid l.records) h → WritesSome all (grid l.fn.records) h;
+      err : (h : Grid (List ℕ)) → FirstWrites left (grid l.records) h → FirstWrites all (grid l.fn.records) h;
     }
 
 abbrev pub decreases-loop-entity : goal.decreases-loop-entity
