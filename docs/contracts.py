@@ -60,6 +60,8 @@ class Item:
     def __init__(self, text, words, kind, start, end, head, clauses, body):
         self.words, self.kind, self.head, self.clauses, self.body = words, kind, one_line(head), clauses, body
         self.whole, self.file = text[start:end], text
+        # What only other crates of the repository need.
+        self.is_hidden = "#[doc(hidden)]" in self.whole.partition(head)[0]
         self.is_public = bool(re.match(r"pub (?!\()", self.head))
 
     def name(self):
@@ -188,7 +190,7 @@ def contracts_of(text, public):
     """The lines of a file's public items with what they promise."""
     lines = []
     for item in items(text):
-        is_public = item.is_public and item.name() in public
+        is_public = item.is_public and item.name() in public and not item.is_hidden
         if item.kind == "fn" and is_public:
             lines += told(item)
         elif item.kind == "trait" and is_public:
@@ -225,7 +227,7 @@ def of_impl(item, public):
     if is_own and owner not in public or is_hidden(trait, item.file, public):
         return []
     if not trait:
-        own = [it for it in items(item.body) if it.kind == "fn" and it.is_public]
+        own = [it for it in items(item.body) if it.kind == "fn" and it.is_public and not it.is_hidden]
         return [line for it in own for line in told(it, owner)]
     said = members(item)
     if trait == "Model":

@@ -14,8 +14,7 @@ use Rattle.tabled_grid.specs.declared.records.axis.Axis.{Axis}
 use Rattle.tabled_grid.specs.declared.records.axis.Axis.TheVariants.{Rows, Columns}
 use Rattle.tabled_grid.proofs.AddedColumns.{IsEven-adds_columns, columns_taken_back}
 use Rattle.tabled_grid.proofs.AddedRows.{IsEven-adds_rows, rows_taken_back}
-use Rattle.tabled_grid.specs.Places.{place_in}
-use Rattle.tabled_grid.specs.Pieces.{across}
+use Rattle.tabled_grid.specs.Axis.{across, place_in}
 
 -- a list read behind another one
 pub front_read : {A : Type 0} (xs ys : List A) (j : ℕ) → j < length xs → slice_get (xs ++ ys) j ≡ slice_get xs j

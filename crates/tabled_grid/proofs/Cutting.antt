@@ -5,8 +5,9 @@ use Rattle.std.proofs.lemmas.Nat.{row_fits}
 use Rattle.tabled_grid.specs.AddedLines.{AddsLines}
 use Rattle.tabled_grid.specs.Along.{count_along, first_along}
 use Rattle.tabled_grid.specs.Grid.{Grid, IsEven, IsInside}
-use Rattle.tabled_grid.specs.Pieces.{across, cut_places, nth_piece}
-use Rattle.tabled_grid.specs.Places.{FillsThrough, place_in}
+use Rattle.tabled_grid.specs.Axis.{across, place_in}
+use Rattle.tabled_grid.specs.Pieces.{cut_places, nth_piece}
+use Rattle.tabled_grid.specs.Places.{FillsThrough}
 use Rattle.tabled_grid.specs.Resized.{with_cells_swapped}
 use Rattle.tabled_grid.specs.declared.records.axis.Axis.{Axis}
 use Rattle.tabled_grid.specs.declared.records.piece_order.PieceOrder.{PieceOrder}

@@ -8,9 +8,9 @@ use Rattle.std.proofs.lemmas.Nat.{row_fits}
 use Rattle.std.proofs.lemmas.Bool.{le-ltb, lt-ltb, ltb-false, ltb-true}
 use Rattle.tabled_grid.specs.Along.{count_along}
 use Rattle.tabled_grid.specs.Grid.{Grid, IsInside, cell_at}
-use Rattle.tabled_grid.specs.Pieces.{across, cut_places, index_in_line, nth_piece}
-use Rattle.tabled_grid.specs.Places.{FillsThrough, count_of, place_in}
-use Rattle.tabled_grid.specs.Shifts.{line_of}
+use Rattle.tabled_grid.specs.Axis.{across, count_of, line_of, place_in}
+use Rattle.tabled_grid.specs.Pieces.{cut_places, index_in_line, nth_piece}
+use Rattle.tabled_grid.specs.Places.{FillsThrough}
 use Rattle.tabled_grid.specs.declared.config.position.Position.{Position}
 use Rattle.tabled_grid.specs.declared.records.axis.Axis.{Axis}
 use Rattle.tabled_grid.specs.declared.records.axis.Axis.TheVariants.{Rows, Columns}
@@ -31,6 +31,10 @@ line_is Columns i j = refl
 pub across_is : (axis : Axis) (i j : ℕ) → line_of (across axis) (place_in axis i j) ≡ j
 across_is Rows i j = refl
 across_is Columns i j = refl
+
+pub some_of : (axis : Axis) (m n : ℕ) → 0 < m → 0 < n → 0 < count_of axis m n
+some_of Rows m n h k = h
+some_of Columns m n h k = k
 
 pub line_inside : {A : Type 0} (axis : Axis) (g : Grid A) (p : Position) → IsInside g p → (line_of axis p < count_along axis g) × (line_of (across axis) p < count_along (across axis) g)
 line_inside Rows g p inside = (inside.row, inside.col)

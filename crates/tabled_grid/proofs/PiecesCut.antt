@@ -15,8 +15,8 @@ use Rattle.tabled_grid.specs.declared.records.axis.Axis.{Axis}
 use Rattle.tabled_grid.specs.declared.records.axis.Axis.TheVariants.{Rows, Columns}
 use Rattle.tabled_grid.specs.declared.records.piece_order.PieceOrder.{PieceOrder}
 use Rattle.tabled_grid.proofs.FirstLines.{IsEven-first}
-use Rattle.tabled_grid.specs.Places.{place_in}
-use Rattle.tabled_grid.specs.Pieces.{across, nth_piece}
+use Rattle.tabled_grid.specs.Axis.{across, place_in}
+use Rattle.tabled_grid.specs.Pieces.{nth_piece}
 use Rattle.tabled_grid.proofs.AddedLines.{added_across, added_blank, added_count, added_even, added_kept}
 use Rattle.tabled_grid.proofs.PiecesPut.{PutsPieces, piece_line, piece_number, same_across, same_count, source}
 use Rattle.tabled_grid.proofs.Transposed.{slice_get-take}

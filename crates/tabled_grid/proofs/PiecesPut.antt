@@ -16,8 +16,9 @@ use Rattle.tabled_grid.proofs.Grids.{cell_at-with_cell_other, cell_at-with_cell_
 use Rattle.tabled_grid.proofs.Resized.{IsEven-with_cell_if, IsEven-with_cells_swapped}
 use Rattle.tabled_grid.specs.declared.records.piece_order.PieceOrder.{PieceOrder}
 use Rattle.tabled_grid.specs.declared.records.piece_order.PieceOrder.TheVariants.{Concat, Zip}
-use Rattle.tabled_grid.specs.Places.{IsShapedAs, place_in}
-use Rattle.tabled_grid.specs.Pieces.{across, nth_piece}
+use Rattle.tabled_grid.specs.Axis.{across, place_in}
+use Rattle.tabled_grid.specs.Places.{IsShapedAs}
+use Rattle.tabled_grid.specs.Pieces.{IsPiece, nth_piece, piece_index}
 
 -- the place where a cell of the t-th piece comes from
 abbrev pub source : Axis → PieceOrder → ℕ → ℕ → ℕ → ℕ → ℕ → Position
@@ -66,6 +67,14 @@ piece_line Concat lines pieces t h k l = mod_below t lines h
 pub piece_number : (o : PieceOrder) (lines pieces t : ℕ) → 0 < lines → 0 < pieces → t < lines * pieces → (nth_piece o lines pieces t).1 < pieces
 piece_number Zip lines pieces t h k l = mod_below t pieces k
 piece_number Concat lines pieces t h k l = div_below t lines pieces h (omega (arith, l))
+
+-- the piece that comes t-th has t pieces before it
+pub is_piece : (o : PieceOrder) (lines pieces t : ℕ) → 0 < lines → 0 < pieces → t < lines * pieces → IsPiece o lines pieces t (nth_piece o lines pieces t).0 (nth_piece o lines pieces t).1
+is_piece o lines pieces t some any h = record { line = piece_line o lines pieces t some any h; number = piece_number o lines pieces t some any h; before = before o }
+  where
+    before : (o : PieceOrder) → piece_index o lines pieces (nth_piece o lines pieces t).0 (nth_piece o lines pieces t).1 ≡ t
+    before Zip = div-add-mod' t pieces
+    before Concat = div-add-mod' t lines
 
 piece_before : (o : PieceOrder) (lines pieces t : ℕ) → (nth_piece o lines pieces t).0 ≤ t
 piece_before Zip lines pieces t = div-le_self t pieces

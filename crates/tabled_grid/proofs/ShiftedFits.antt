@@ -9,7 +9,8 @@ use Rattle.tabled_grid.specs.Anchors.{Anchor}
 use Rattle.tabled_grid.specs.Entity.{place}
 use Rattle.tabled_grid.specs.Midway.{In}
 use Rattle.tabled_grid.specs.Rectangles.{Fits, in_rect}
-use Rattle.tabled_grid.specs.Shifts.{crosses_line, is_crossed, line_of, lines_in, next_line, shifted, shifted_in, shifted_place}
+use Rattle.tabled_grid.specs.Axis.{line_of, lines_in, next_line}
+use Rattle.tabled_grid.specs.Shifts.{crosses_line, is_crossed, shifted, shifted_in, shifted_place}
 use Rattle.tabled_grid.specs.Spans.{AreSpanSizes, SpanMap, position_cmp}
 use Rattle.tabled_grid.specs.declared.config.position.Position.{Position}
 use Rattle.tabled_grid.specs.declared.records.axis.Axis.{Axis}

@@ -13,7 +13,8 @@ use Rattle.std.proofs.lemmas.Cmp.{ranked}
 use Rattle.std.proofs.lemmas.Option.{none-some, same_Some}
 use borrow.Author.Tests.{ltb-true, ltb-false}
 use Rattle.tabled_grid.specs.Anchors.{Anchor}
-use Rattle.tabled_grid.specs.Shifts.{line_of, next_line, shifted_in, shifted_place}
+use Rattle.tabled_grid.specs.Axis.{line_of, next_line}
+use Rattle.tabled_grid.specs.Shifts.{shifted_in, shifted_place}
 use Rattle.tabled_grid.specs.Spans.{AreAnchors, IsSpanSize, position_cmp}
 use Rattle.tabled_grid.specs.declared.config.position.Position.{Position}
 use Rattle.tabled_grid.specs.declared.records.axis.Axis.{Axis}

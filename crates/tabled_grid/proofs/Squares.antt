@@ -14,7 +14,7 @@ use Rattle.tabled_grid.proofs.AddedRows.{IsEven-adds_rows}
 use Rattle.tabled_grid.proofs.Diagonal.{all_transposed, half_begun, half_more, half_none, half_row}
 use Rattle.tabled_grid.proofs.Resized.{IsEven-with_cells_swapped}
 use Rattle.tabled_grid.proofs.SwappedCells.{Swaps, views_swapped}
-use Rattle.tabled_grid.proofs.Transposed.{at-transposed, cell_in-is, length-transposed, same_rows, transposed_none, transposed_some, wide-transposed}
+use Rattle.tabled_grid.proofs.Transposed.{at-transposed, cell_in-is, length-transposed, same_rows, transposed_some, wide-transposed}
 
 wide_enough : (b : Bool) (c more size : ℕ) → (b ≡ true → size ≡ c) → c + more ≡ size → cond b c (c + more) ≡ size
 wide_enough true c more size none e = let same = none refl in omega (arith, same)
@@ -124,6 +124,3 @@ module _ {A : Type 0} (is_blank : A → Type 0) where
     module _ (even : IsEven old) (s : Square size cur) (wide : old.columns ≤ size) (all : size ≤ i) where
       pub square_cut : (front new : Grid A) (r c : ℕ) → r ≡ old.rows → c ≡ old.columns → 0 < c → front ≡ first_along Rows c cur → new ≡ first_along Columns r front → new ≡ transposed old
       square_cut = transposed_some is_blank old t.grown t.square cur size t.many t.more even t.rows_added t.columns_added t.tall wide (all_transposed _ (cell_in cur) size i all t.turned) s.even s.rows s.columns
-
-      pub square_cut_to_none : (new : Grid A) (c : ℕ) → c ≡ old.columns → c ≤ 0 → new ≡ first_along Rows c cur → new ≡ transposed old
-      square_cut_to_none = transposed_none is_blank old t.grown t.square cur size t.many t.more even t.rows_added t.columns_added t.tall wide (all_transposed _ (cell_in cur) size i all t.turned) s.even s.rows s.columns

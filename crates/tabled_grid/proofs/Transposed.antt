@@ -151,8 +151,8 @@ module _ {A : Type 0} where
         cut ∙ ap (first_along Columns r) is ∙ ap₂ (λ (i j : ℕ). first_along Columns i (first_along Rows j square)) er ec
         ∙ ap₂ (λ (columns : ℕ) (cells : List (List A)). let h : Grid A = record { rows = g.columns; columns = columns; cells = cells } in h) (sym (ap (λ (b : Bool). cond b 0 g.rows) more)) cells_turned
 
-    pub transposed_none : (new : Grid A) (c : ℕ) → c ≡ g.columns → c ≤ 0 → new ≡ first_along Rows c square → new ≡ transposed g
-    transposed_none new c ec none is =
-        let empty : g.columns ≡ 0 = omega (arith, ec, none) in
-        let cells : transposed_rows g.columns g.cells ≡ [] = nil_from_length (transposed_rows g.columns g.cells) (omega (arith, length-transposed g.columns g.cells even.wide, empty)) in
-        is ∙ ap (λ (n : ℕ). first_along Rows n square) (ec ∙ empty) ∙ (rw (cells, empty) refl)
+-- without columns there are no rows once they are columns
+pub transposed_none : {A : Type 0} (g new : Grid A) → IsEven g → g.columns ≡ 0 → new ≡ first_along Rows 0 g → new ≡ transposed g
+transposed_none g new even empty is =
+    let cells : transposed_rows g.columns g.cells ≡ [] = nil_from_length (transposed_rows g.columns g.cells) (omega (arith, length-transposed g.columns g.cells even.wide, empty)) in
+    is ∙ (rw (cells, empty) refl)

@@ -2,6 +2,7 @@ pub mod AddedLines
 pub mod Along
 pub mod Anchors
 pub mod Apart
+pub mod Axis
 pub mod Bounds
 pub mod Bulk
 pub mod Covers

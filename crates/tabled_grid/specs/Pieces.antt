@@ -1,18 +1,23 @@
 -- Rows or columns cut into pieces.
-use Rattle.std.specs.Prelude.{ℕ, ◌+◌, ◌*◌, ◌/◌, ◌%◌, if◌then◌else◌, None, Some, nat_lt}
+use Rattle.std.specs.Prelude.{◌≡◌, ◌<◌, ℕ, ◌+◌, ◌*◌, ◌/◌, ◌%◌, if◌then◌else◌, None, Some, nat_lt}
 use Rattle.std.specs.Int.{div_ceil}
-use Rattle.tabled_grid.specs.Places.{Places, count_of, place_in}
-use Rattle.tabled_grid.specs.Shifts.{line_of}
+use Rattle.tabled_grid.specs.Axis.{across, count_of, line_of, place_in}
+use Rattle.tabled_grid.specs.Places.{Places}
 use Rattle.tabled_grid.specs.declared.config.position.Position.{Position}
 use Rattle.tabled_grid.specs.declared.records.axis.Axis.{Axis}
-use Rattle.tabled_grid.specs.declared.records.axis.Axis.TheVariants.{Rows, Columns}
 use Rattle.tabled_grid.specs.declared.records.piece_order.PieceOrder.{PieceOrder}
 use Rattle.tabled_grid.specs.declared.records.piece_order.PieceOrder.TheVariants.{Concat, Zip}
 
--- columns for rows, rows for columns
-abbrev pub across : Axis → Axis
-across Rows = Columns
-across Columns = Rows
+-- how many pieces come before piece k of line i
+abbrev pub piece_index : PieceOrder → ℕ → ℕ → ℕ → ℕ → ℕ
+piece_index Zip lines pieces i k = i * pieces + k
+piece_index Concat lines pieces i k = k * lines + i
+
+-- of so many lines of so many pieces each, piece k of line i comes t-th
+pub record IsPiece (order : PieceOrder) (lines pieces t i k : ℕ) : Type 0 where
+  pub line : i < lines
+  pub number : k < pieces
+  pub before : piece_index order lines pieces i k ≡ t
 
 -- the line and the number of the piece that comes t-th: the pieces of a line, then those of the next one, or the first pieces of all lines, then the second ones
 abbrev pub nth_piece : PieceOrder → ℕ → ℕ → ℕ → ℕ × ℕ

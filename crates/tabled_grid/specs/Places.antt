@@ -1,11 +1,8 @@
 -- Where the cells of a grid come from.
 use Rattle.std.specs.Prelude.{◌≡◌, ℕ, Option, None, Some}
 use Rattle.std.specs.Option.{IfSome}
-use Rattle.tabled_grid.specs.Entity.{place}
 use Rattle.tabled_grid.specs.Grid.{Grid, IsEven, IsInside, cell_at}
 use Rattle.tabled_grid.specs.declared.config.position.Position.{Position}
-use Rattle.tabled_grid.specs.declared.records.axis.Axis.{Axis}
-use Rattle.tabled_grid.specs.declared.records.axis.Axis.TheVariants.{Rows, Columns}
 
 -- a new shape, and for each new place its old place or none
 pub record Places : Type 0 where
@@ -24,16 +21,6 @@ pub record ReadsThrough {A : Type 0} (places : Places) (old new : Grid A) : Type
 pub record FillsThrough {A : Type 0} (is_blank : A → Type 0) (places : Places) (old new : Grid A) : Type 0 where
   pub reads : ReadsThrough places old new
   pub blanks : (p : Position) → IsInside new p → places.old_place p ≡ None → (cell : A) × is_blank cell × (cell_at new p ≡ Some cell)
-
--- the number of rows, or that of columns
-abbrev pub count_of : Axis → ℕ → ℕ → ℕ
-count_of Rows rows columns = rows
-count_of Columns rows columns = columns
-
--- the place of a cell of a line
-abbrev pub place_in : Axis → ℕ → ℕ → Position
-place_in Rows i j = place i j
-place_in Columns i j = place j i
 
 -- a grid of the shape of another
 pub record IsShapedAs {A : Type 0} (old new : Grid A) : Type 0 where

@@ -4,26 +4,10 @@ use Rattle.std.specs.FinMap as map
 use Rattle.std.specs.List.{list_any}
 use Rattle.std.specs.Option.{option_map}
 use Rattle.tabled_grid.specs.Anchors.{Anchor}
-use Rattle.tabled_grid.specs.Entity.{place}
+use Rattle.tabled_grid.specs.Axis.{line_of, lines_in, next_line}
 use Rattle.tabled_grid.specs.Spans.{SpanMap}
 use Rattle.tabled_grid.specs.declared.config.position.Position.{Position}
 use Rattle.tabled_grid.specs.declared.records.axis.Axis.{Axis}
-use Rattle.tabled_grid.specs.declared.records.axis.Axis.TheVariants.{Rows, Columns}
-
--- the index of a place's line
-abbrev pub line_of : Axis → Position → ℕ
-line_of Rows p = p.row
-line_of Columns p = p.col
-
--- how many lines a size takes
-abbrev pub lines_in : Axis → ℕ × ℕ → ℕ
-lines_in Rows size = size.0
-lines_in Columns size = size.1
-
--- the place beside this one in the next line
-abbrev pub next_line : Axis → Position → Position
-next_line Rows p = place (p.row + 1) p.col
-next_line Columns p = place p.row (p.col + 1)
 
 -- where a place is once a line is put in before line `from`: none where no index is left for it
 abbrev pub shifted_place : Axis → ℕ → Position → Option Position

@@ -21,8 +21,9 @@ use Rattle.tabled_grid.specs.declared.records.piece_order.PieceOrder.TheVariants
 use Rattle.tabled_settings.specs.declared.split.Display.{Display}
 use Rattle.tabled_settings.specs.declared.split.Display.TheVariants.{Retain}
 use Rattle.tabled_settings.specs.declared.split.Split.{Split}
-use Rattle.tabled_settings.specs.PiecePlaces.{glue_rows, glued, glued_line, piece_index}
-use Rattle.tabled_grid.specs.Pieces.{across, nth_piece}
+use Rattle.tabled_settings.specs.PiecePlaces.{glue_rows, glued, glued_line}
+use Rattle.tabled_grid.specs.Axis.{across}
+use Rattle.tabled_grid.specs.Pieces.{nth_piece, piece_index}
 use Rattle.tabled_settings.specs.Pieces.{cut_rows, has_pieces, piece_at, split, staying, stays, turned}
 use Rattle.tabled_settings.proofs.PieceReads.{cut_count, cut_even, cut_text, filter_all, piece_text, same_by_lines, turned_across, turned_back, turned_cell, turned_columns, turned_count, turned_even, turned_rows}
 use Rattle.tabled_grid.proofs.PiecesCut.{enough_pieces, some_pieces}

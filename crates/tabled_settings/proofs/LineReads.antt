@@ -15,8 +15,8 @@ use Rattle.tabled_grid.proofs.Resized.{IsEven-with_rows_swapped, IsEven-with_col
 use Rattle.tabled_grid.proofs.Transposed.{slice_get-some, slice_get-take}
 use Rattle.tabled_grid.specs.Places.{IsShapedAs, ReadsThrough}
 use Rattle.tabled_settings.specs.Lines.{line}
-use Rattle.tabled_grid.specs.Shifts.{line_of}
-use Rattle.tabled_settings.specs.Places.{in_line, lines_from}
+use Rattle.tabled_grid.specs.Axis.{in_line, line_of}
+use Rattle.tabled_settings.specs.Places.{lines_from}
 
 -- maps that agree on what has a property
 pub maps_agree_on : {X Y Z : Type 0} (P : X → Type 0) (f : Y → Z) (g : X → Y) (h : X → Z) → ((x : X) → P x → f (g x) ≡ h x) → (xs : List X) → AllByRecursion P xs → map f (map g xs) ≡ map h xs

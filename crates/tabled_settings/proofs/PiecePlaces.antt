@@ -13,11 +13,11 @@ use Rattle.tabled_grid.specs.declared.records.axis.Axis.TheVariants.{Rows, Colum
 use Rattle.tabled_settings.specs.declared.split.Split.{Split}
 use Rattle.tabled_grid.proofs.PiecePlaces.{across_is, line_is, place_is}
 use Rattle.tabled_grid.proofs.PiecesCut.{enough_pieces}
-use Rattle.tabled_grid.specs.Pieces.{across, cut_places, index_in_line, nth_piece}
-use Rattle.tabled_settings.specs.PiecePlaces.{Splits, piece_index, same_places, split_places}
+use Rattle.tabled_grid.specs.Axis.{across, count_of, line_of, place_in}
+use Rattle.tabled_grid.specs.Pieces.{cut_places, index_in_line, nth_piece, piece_index}
+use Rattle.tabled_settings.specs.PiecePlaces.{Splits, same_places, split_places}
 use Rattle.tabled_settings.specs.Pieces.{cut_rows, has_pieces, turned}
-use Rattle.tabled_grid.specs.Places.{FillsThrough, ReadsThrough, count_of, place_in}
-use Rattle.tabled_grid.specs.Shifts.{line_of}
+use Rattle.tabled_grid.specs.Places.{FillsThrough, ReadsThrough}
 use Rattle.tabled_settings.specs.Places.{IsTakenOnce}
 use Rattle.tabled_settings.proofs.Glued.{piece_index_below, piece_of}
 use Rattle.tabled_settings.proofs.PiecesDone.{counted}

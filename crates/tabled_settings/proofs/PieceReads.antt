@@ -21,8 +21,8 @@ use Rattle.tabled_grid.proofs.Transposed.{at-transposed, length-transposed, wide
 use Rattle.tabled_grid.specs.declared.records.piece_order.PieceOrder.{PieceOrder}
 use Rattle.tabled_grid.specs.declared.records.piece_order.PieceOrder.TheVariants.{Concat, Zip}
 use Rattle.tabled_settings.specs.declared.split.Split.{Split}
-use Rattle.tabled_grid.specs.Places.{place_in}
-use Rattle.tabled_grid.specs.Pieces.{across, nth_piece}
+use Rattle.tabled_grid.specs.Axis.{across, place_in}
+use Rattle.tabled_grid.specs.Pieces.{nth_piece}
 use Rattle.tabled_settings.specs.Pieces.{cut_rows, piece, piece_at, staying, turned}
 use Rattle.tabled_settings.proofs.SameCells.{same_cells}
 

@@ -15,8 +15,7 @@ use Rattle.tabled_grid.proofs.Grids.{cell_at-map_grid}
 use Rattle.tabled_grid.proofs.Transposed.{slice_get-some}
 use Rattle.tabled_settings.specs.Lines.{line}
 use Rattle.tabled_settings.specs.PieceTexts.{has_text}
-use Rattle.tabled_grid.specs.Places.{place_in}
-use Rattle.tabled_grid.specs.Pieces.{across}
+use Rattle.tabled_grid.specs.Axis.{across, place_in}
 use Rattle.tabled_settings.specs.Pieces.{is_text}
 
 drop_all : {X : Type 0} (xs : List X) (n : ℕ) → length xs ≤ n → drop n xs ≡ []

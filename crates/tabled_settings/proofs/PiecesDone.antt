@@ -20,9 +20,9 @@ use Rattle.tabled_settings.specs.Lines.{DropsLines, HasLines, line}
 use Rattle.tabled_grid.proofs.PiecesCut.{ComesFrom, IsCut, enough_pieces, some_pieces}
 use Rattle.tabled_grid.proofs.PiecesPut.{inside_of, piece_line, source}
 use Rattle.tabled_settings.specs.PieceTexts.{has_text, is_empty_piece}
-use Rattle.tabled_grid.specs.Pieces.{across, nth_piece}
+use Rattle.tabled_grid.specs.Axis.{across, count_of, place_in}
+use Rattle.tabled_grid.specs.Pieces.{nth_piece}
 use Rattle.tabled_settings.specs.Pieces.{has_pieces, is_text, piece_at, split, staying, stays, turned}
-use Rattle.tabled_grid.specs.Places.{count_of, place_in}
 use Rattle.tabled_settings.specs.Rearranged.{left_over}
 use Rattle.tabled_settings.proofs.PieceReads.{filter_all, filter_alike, filter_below, filter_some, first_number, length-piece, piece_text, pieces_are, some_inside, turned_cell, turned_even, turned_rows}
 use Rattle.tabled_settings.proofs.PieceTexts.{at_line, length-line}

@@ -9,7 +9,8 @@ use Rattle.tabled_grid.specs.declared.config.offset.Offset.{Offset}
 use Rattle.tabled_grid.specs.declared.records.axis.Axis.{Axis}
 use Rattle.tabled_grid.specs.declared.records.axis.Axis.TheVariants.{Rows, Columns}
 use Rattle.tabled_settings.specs.Lines.{ReversesEnds, ReversesLines, line}
-use Rattle.tabled_grid.specs.Places.{ReadsThrough, count_of}
+use Rattle.tabled_grid.specs.Axis.{count_of}
+use Rattle.tabled_grid.specs.Places.{ReadsThrough}
 use Rattle.tabled_settings.specs.Places.{lines_from}
 use Rattle.tabled_settings.specs.Rearranged.{limit_end, reversed, reversed_index}
 use Rattle.tabled_grid.proofs.PiecesPut.{same_count, same_shape, shape_after}

@@ -8,10 +8,10 @@ use Rattle.tabled_grid.specs.Flat.{joined}
 use Rattle.tabled_grid.specs.Grid.{Grid, IsEven}
 use Rattle.tabled_grid.specs.declared.records.piece_order.PieceOrder.{PieceOrder}
 use Rattle.tabled_grid.specs.declared.records.piece_order.PieceOrder.TheVariants.{Concat, Zip}
-use Rattle.tabled_grid.specs.Pieces.{nth_piece}
+use Rattle.tabled_grid.specs.Pieces.{nth_piece, piece_index}
 use Rattle.tabled_grid.proofs.PiecesCut.{enough_pieces}
 use Rattle.tabled_settings.specs.declared.split.Split.{Split}
-use Rattle.tabled_settings.specs.PiecePlaces.{piece_index, texts_in}
+use Rattle.tabled_settings.specs.PiecePlaces.{texts_in}
 use Rattle.tabled_settings.specs.Pieces.{has_pieces, is_text, piece, piece_at, split, turned}
 use Rattle.tabled_settings.proofs.Glued.{piece_of}
 use Rattle.tabled_settings.proofs.Sums.{count_by-filter, sum_by-joined, sum_by-places, sum_by-range, sum_to, sum_to-alike, sum_to-blocks, sum_to-swap}

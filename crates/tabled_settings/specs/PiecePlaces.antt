@@ -4,12 +4,12 @@ use Rattle.std.specs.Int.{div_ceil}
 use Rattle.std.specs.List.{filter, flat_map, range_with_len}
 use Rattle.tabled_grid.specs.Flat.{joined}
 use Rattle.tabled_grid.specs.Grid.{Grid, map_grid}
-use Rattle.tabled_grid.specs.Pieces.{across, cut_places}
-use Rattle.tabled_grid.specs.Places.{Places, ReadsThrough, count_of}
+use Rattle.tabled_grid.specs.Axis.{across, count_of}
+use Rattle.tabled_grid.specs.Pieces.{cut_places, piece_index}
+use Rattle.tabled_grid.specs.Places.{Places, ReadsThrough}
 use Rattle.tabled_grid.specs.declared.config.position.Position.{Position}
 use Rattle.tabled_grid.specs.declared.records.axis.Axis.{Axis}
 use Rattle.tabled_grid.specs.declared.records.piece_order.PieceOrder.{PieceOrder}
-use Rattle.tabled_grid.specs.declared.records.piece_order.PieceOrder.TheVariants.{Concat, Zip}
 use Rattle.tabled_settings.specs.declared.split.Display.TheVariants.{Retain}
 use Rattle.tabled_settings.specs.declared.split.Split.{Split}
 use Rattle.tabled_settings.specs.Pieces.{has_pieces, is_text, split, turned}
@@ -26,11 +26,6 @@ split_places s rows columns = if has_pieces s rows columns then cut_places s.lin
 pub record Splits {A : Type 0} (text_of : A → List ℕ) (s : Split) (old new : Grid A) : Type 0 where
   pub texts : map_grid text_of new ≡ split s (map_grid text_of old)
   pub cells : s.display ≡ Retain → ReadsThrough (split_places s old.rows old.columns) old new
-
--- where piece k of line i is among all pieces
-abbrev pub piece_index : PieceOrder → ℕ → ℕ → ℕ → ℕ → ℕ
-piece_index Zip lines pieces i k = i * pieces + k
-piece_index Concat lines pieces i k = k * lines + i
 
 -- the pieces of line i, one behind the other, cut at a width
 abbrev pub glued_line : {A : Type 0} → PieceOrder → ℕ → ℕ → ℕ → List (List A) → ℕ → List A

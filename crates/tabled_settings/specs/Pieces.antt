@@ -4,8 +4,8 @@ use Rattle.std.specs.Int.{div_ceil}
 use Rattle.std.specs.List.{filter, list_any, range_with_len}
 use Rattle.tabled_grid.specs.Bulk.{transposed}
 use Rattle.tabled_grid.specs.Grid.{Grid}
-use Rattle.tabled_grid.specs.Pieces.{across, nth_piece}
-use Rattle.tabled_grid.specs.Places.{count_of}
+use Rattle.tabled_grid.specs.Axis.{across, count_of}
+use Rattle.tabled_grid.specs.Pieces.{nth_piece}
 use Rattle.tabled_grid.specs.declared.records.axis.Axis.{Axis}
 use Rattle.tabled_grid.specs.declared.records.axis.Axis.TheVariants.{Rows, Columns}
 use Rattle.tabled_settings.specs.declared.split.Display.{Display}

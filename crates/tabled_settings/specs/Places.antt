@@ -1,16 +1,9 @@
 -- Where the cells of a table come from.
 use Rattle.std.specs.Prelude.{◌≡◌, ◌<◌, ℕ, Some}
-use Rattle.tabled_grid.specs.Entity.{place}
 use Rattle.tabled_grid.specs.Places.{Places}
-use Rattle.tabled_grid.specs.Shifts.{line_of}
+use Rattle.tabled_grid.specs.Axis.{in_line, line_of}
 use Rattle.tabled_grid.specs.declared.config.position.Position.{Position}
 use Rattle.tabled_grid.specs.declared.records.axis.Axis.{Axis}
-use Rattle.tabled_grid.specs.declared.records.axis.Axis.TheVariants.{Rows, Columns}
-
--- the same place in another row, or in another column
-abbrev pub in_line : Axis → Position → ℕ → Position
-in_line Rows p i = place i p.col
-in_line Columns p j = place p.row j
 
 -- each row, or each column, comes from an old one
 abbrev pub lines_from : Axis → (ℕ → ℕ) → ℕ → ℕ → Places

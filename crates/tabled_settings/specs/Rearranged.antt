@@ -11,7 +11,8 @@ use Rattle.tabled_grid.specs.declared.records.axis.Axis.{Axis}
 use Rattle.tabled_grid.specs.declared.records.axis.Axis.TheVariants.{Rows, Columns}
 use Rattle.tabled_settings.specs.declared.rotate.Rotate.{Rotate}
 use Rattle.tabled_settings.specs.declared.rotate.Rotate.TheVariants.{Left, Right, Top, Bottom}
-use Rattle.tabled_grid.specs.Places.{Places, count_of}
+use Rattle.tabled_grid.specs.Axis.{count_of}
+use Rattle.tabled_grid.specs.Places.{Places}
 use Rattle.tabled_settings.specs.Places.{lines_from}
 
 -- so many columns, of which there are none without rows

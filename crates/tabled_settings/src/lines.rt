@@ -44,7 +44,7 @@ where
     for k in 0..moved {
         axis.swap(records, k, range.start + k);
     }
-    axis.truncate(records, kept);
+    records.truncate_lines(axis, kept);
 }
 
 /// Removes the lines whose indexes are in a list that rises. Those that stay come to the front, in order,
@@ -65,7 +65,7 @@ where
             kept += 1;
         }
     }
-    axis.truncate(records, kept);
+    records.truncate_lines(axis, kept);
 }
 
 /// Says whether a list that rises has an index.

@@ -29,7 +29,7 @@ where
             kept += 1;
         }
     }
-    split.lines.truncate(records, kept);
+    records.truncate_lines(split.lines, kept);
 }
 
 /// Whether a line has a text.

@@ -1,7 +1,8 @@
 -- The map with a panel.
 use Rattle.std.proofs.Common.{◌≡◌, ℕ, ◌≤◌, None, refl, ap, ◌∙◌, arith}
 use Rattle.std.specs.FinMap.{get}
-use Rattle.tabled_grid.specs.Shifts.{line_of, shifted}
+use Rattle.tabled_grid.specs.Axis.{line_of}
+use Rattle.tabled_grid.specs.Shifts.{shifted}
 use Rattle.tabled_grid.specs.Spans.{SpanMap, size_at, with_column_span, with_row_span, with_size}
 use Rattle.tabled_grid.specs.declared.config.position.Position.{Position}
 use Rattle.tabled_grid.specs.declared.records.axis.Axis.{Axis}

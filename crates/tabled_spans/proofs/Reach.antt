@@ -7,7 +7,7 @@ use Rattle.tabled_grid.specs.declared.config.entity.Entity.{Entity}
 use Rattle.tabled_grid.specs.declared.config.position.Position.{Position}
 use Rattle.tabled_grid.specs.declared.records.axis.Axis.{Axis}
 use Rattle.tabled_grid.proofs.Places.{inside-within}
-use Rattle.tabled_spans.specs.Spanned.{count_of}
+use Rattle.tabled_grid.specs.Axis.{count_of}
 use Rattle.tabled_spans.specs.SpanSteps.{InReach, IsReach}
 
 -- each place that an entity names is in its reach, and named

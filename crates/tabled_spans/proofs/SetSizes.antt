@@ -15,7 +15,7 @@ use Rattle.tabled_grid.specs.declared.records.axis.Axis.{Axis}
 use Rattle.tabled_grid.proofs.SpanMaps.{equal, found_above, halves, tied}
 use Rattle.tabled_grid.proofs.Spans.{positions_exact, positions_total}
 use Rattle.tabled_spans.specs.Spanned.{with_span}
-use Rattle.tabled_spans.specs.SpanSteps.{resized}
+use Rattle.tabled_grid.specs.Axis.{resized}
 use Rattle.tabled_spans.proofs.SpanChanges.{span-is}
 
 -- what a map has at a place, after a size is set there, or none

@@ -20,8 +20,9 @@ use Rattle.tabled_grid.specs.declared.records.axis.Axis.TheVariants.{Rows, Colum
 use Rattle.tabled_grid.proofs.Merging.{column_span-is, row_span-is}
 use Rattle.tabled_grid.proofs.SpanMaps.{halves, less, size_at-with_size-other}
 use Rattle.tabled_grid.proofs.Spans.{positions_total}
-use Rattle.tabled_spans.specs.Spanned.{count_of, grown_each, index, stretch, with_span, with_visible_span}
-use Rattle.tabled_spans.specs.SpanSteps.{change_at, line_of, lines_of, resized}
+use Rattle.tabled_grid.specs.Axis.{across, count_of, line_of, resized}
+use Rattle.tabled_spans.specs.Spanned.{grown_each, stretch, with_span, with_visible_span}
+use Rattle.tabled_spans.specs.SpanSteps.{change_at}
 use Rattle.tabled_spans.proofs.RisingPlaces.{both}
 
 pub with_sizes-append : (m : SpanMap) (xs ys : List Anchor) → with_sizes m (xs ++ ys) ≡ with_sizes (with_sizes m xs) ys
@@ -66,17 +67,17 @@ span-is Columns m p many some = column_span-is m p many some
 
 -- the change at a place makes the span there
 pub change-is : (axis : Axis) (m : SpanMap) (p : Position) (many : ℕ) → 1 ≤ many → with_sizes m (change_at axis m p many) ≡ with_visible_span axis m p many
-change-is axis m p many some = either (cases_Bool (list_all (is_visible m) (stretch axis p (index axis p) many)))
+change-is axis m p many some = either (cases_Bool (list_all (is_visible m) (stretch axis p (line_of axis p) many)))
   where
-    either : (list_all (is_visible m) (stretch axis p (index axis p) many) ≡ true) ⊎ (list_all (is_visible m) (stretch axis p (index axis p) many) ≡ false) → with_sizes m (change_at axis m p many) ≡ with_visible_span axis m p many
+    either : (list_all (is_visible m) (stretch axis p (line_of axis p) many) ≡ true) ⊎ (list_all (is_visible m) (stretch axis p (line_of axis p) many) ≡ false) → with_sizes m (change_at axis m p many) ≡ with_visible_span axis m p many
     either (inl t) = rw t (sym (span-is axis m p many some))
     either (inr f) = rw f refl
 
 -- after the change at a place, the next places still rise
 pub sorted-change : (axis : Axis) (m : SpanMap) (p : Position) (many : ℕ) (xs rest : List Anchor) → T (is_sorted position_cmp (xs ++ (p, (1, 1)) ∷ rest)) → T (is_sorted position_cmp ((xs ++ change_at axis m p many) ++ rest))
-sorted-change axis m p many xs rest up = subst (λ (es : List Anchor). T (is_sorted position_cmp es)) (sym (append_assoc xs (change_at axis m p many) rest)) (either (cases_Bool (list_all (is_visible m) (stretch axis p (index axis p) many))))
+sorted-change axis m p many xs rest up = subst (λ (es : List Anchor). T (is_sorted position_cmp es)) (sym (append_assoc xs (change_at axis m p many) rest)) (either (cases_Bool (list_all (is_visible m) (stretch axis p (line_of axis p) many))))
   where
-    either : (list_all (is_visible m) (stretch axis p (index axis p) many) ≡ true) ⊎ (list_all (is_visible m) (stretch axis p (index axis p) many) ≡ false) → T (is_sorted position_cmp (xs ++ (change_at axis m p many ++ rest)))
+    either : (list_all (is_visible m) (stretch axis p (line_of axis p) many) ≡ true) ⊎ (list_all (is_visible m) (stretch axis p (line_of axis p) many) ≡ false) → T (is_sorted position_cmp (xs ++ (change_at axis m p many ++ rest)))
     either (inl t) = rw t (sorted_set xs p (1, 1) (resized axis (size_at m p) many) rest up)
     either (inr f) = rw f (sorted_skip xs p (1, 1) rest up)
 
@@ -89,32 +90,32 @@ pub or_one : (o : Option ℕ) (n : ℕ) → SomeIff o (1 < n) n → 1 ≤ n → 
 or_one (Some k) n is some = is.1
 or_one None n is some = omega arith
 
-pub change-none : (axis : Axis) (m : SpanMap) (p : Position) (many : ℕ) (xs : List Anchor) → list_all (is_visible m) (stretch axis p (index axis p) many) ≡ false → xs ≡ xs ++ change_at axis m p many
+pub change-none : (axis : Axis) (m : SpanMap) (p : Position) (many : ℕ) (xs : List Anchor) → list_all (is_visible m) (stretch axis p (line_of axis p) many) ≡ false → xs ≡ xs ++ change_at axis m p many
 change-none axis m p many xs f = rw f (sym (append-nil xs))
 
-pub cover-none : (axis : Axis) (m : SpanMap) (p : Position) (many : ℕ) → list_all (is_visible m) (stretch axis p (index axis p) many) ≡ false → m ≡ with_sizes m (change_at axis m p many)
+pub cover-none : (axis : Axis) (m : SpanMap) (p : Position) (many : ℕ) → list_all (is_visible m) (stretch axis p (line_of axis p) many) ≡ false → m ≡ with_sizes m (change_at axis m p many)
 cover-none axis m p many f = rw f refl
 
-pub change-one : (axis : Axis) (m : SpanMap) (p : Position) (many : ℕ) → list_all (is_visible m) (stretch axis p (index axis p) many) ≡ true → change_at axis m p many ≡ (p, resized axis (size_at m p) many) ∷ []
+pub change-one : (axis : Axis) (m : SpanMap) (p : Position) (many : ℕ) → list_all (is_visible m) (stretch axis p (line_of axis p) many) ≡ true → change_at axis m p many ≡ (p, resized axis (size_at m p) many) ∷ []
 change-one axis m p many t = rw t refl
 
 -- the change at a place, and spans at those that follow
-pub changes-more : (cfg : SpanMap) (xs new : List Anchor) (p : Position) (rest : List Position) (axis : Axis) (size n many : ℕ) → many ≡ min size (n - index axis p) → 1 ≤ many → new ≡ xs ++ change_at axis (with_sizes cfg xs) p many → grown_each axis size n (with_sizes cfg new) rest ≡ grown_each axis size n (with_sizes cfg xs) (p ∷ rest)
+pub changes-more : (cfg : SpanMap) (xs new : List Anchor) (p : Position) (rest : List Position) (axis : Axis) (size n many : ℕ) → many ≡ min size (n - line_of axis p) → 1 ≤ many → new ≡ xs ++ change_at axis (with_sizes cfg xs) p many → grown_each axis size n (with_sizes cfg new) rest ≡ grown_each axis size n (with_sizes cfg xs) (p ∷ rest)
 changes-more cfg xs new p rest axis size n many is some added =
     let m = with_sizes cfg xs in
     ap (λ (es : List Anchor). grown_each axis size n (with_sizes cfg es) rest) added
     ∙ ap (λ (k : SpanMap). grown_each axis size n k rest) (with_sizes-append cfg xs (change_at axis m p many) ∙ change-is axis m p many some ∙ ap (with_visible_span axis m p) is)
 
-pub line_within : (axis : Axis) (first p : Position) (rows columns : ℕ) → first.row ≤ p.row → p.row < first.row + rows → first.col ≤ p.col → p.col < first.col + columns → (line_of axis first ≤ line_of axis p) × (line_of axis p - line_of axis first < lines_of axis rows columns)
+pub line_within : (axis : Axis) (first p : Position) (rows columns : ℕ) → first.row ≤ p.row → p.row < first.row + rows → first.col ≤ p.col → p.col < first.col + columns → (line_of (across axis) first ≤ line_of (across axis) p) × (line_of (across axis) p - line_of (across axis) first < count_of (across axis) rows columns)
 line_within Rows first p rows columns top bottom left right = (left, omega arith)
 line_within Columns first p rows columns top bottom left right = (top, omega arith)
 
 -- so many rows or columns from a block's first one on end where the reach does
-pub reach_end : (axis : Axis) (first : Position) (bottom right n : ℕ) → first.row ≤ bottom → first.col ≤ right → n ≤ count_of axis bottom right → n ≤ index axis first + count_of axis (bottom - first.row) (right - first.col)
+pub reach_end : (axis : Axis) (first : Position) (bottom right n : ℕ) → first.row ≤ bottom → first.col ≤ right → n ≤ count_of axis bottom right → n ≤ line_of axis first + count_of axis (bottom - first.row) (right - first.col)
 reach_end Rows first bottom right n top left end = omega arith
 reach_end Columns first bottom right n top left end = omega arith
 
-pub index_within : (axis : Axis) (p : Position) (rows columns : ℕ) → p.row < rows → p.col < columns → index axis p < count_of axis rows columns
+pub index_within : (axis : Axis) (p : Position) (rows columns : ℕ) → p.row < rows → p.col < columns → line_of axis p < count_of axis rows columns
 index_within Rows p rows columns row col = row
 index_within Columns p rows columns row col = col
 

@@ -16,27 +16,28 @@ use Rattle.tabled_grid.proofs.Merging.{fits_dropped, flat_column_span, flat_drop
 use Rattle.tabled_grid.proofs.Places.{inside-within}
 use Rattle.tabled_options.specs.Does.{OptionKeeps}
 use Rattle.tabled_options.proofs.Shapes.{shape_written}
-use Rattle.tabled_spans.specs.Spanned.{IsFlat, Spans, SpansFirst, at_index, count_of, grown, grown_at, grown_each, index, pulled, pulled_at, span_writes, spanned, stretch, taken, with_span}
+use Rattle.tabled_grid.specs.Axis.{count_of, in_line, line_of}
+use Rattle.tabled_spans.specs.Spanned.{IsFlat, Spans, SpansFirst, grown, grown_at, grown_each, pulled, pulled_at, span_writes, spanned, stretch, taken, with_span}
 use Rattle.tabled_spans.proofs.FreeCells.{all_pass}
 use Rattle.tabled_spans.proofs.SpanChanges.{index_within}
 
 -- a span over visible cells of a table keeps what holds in the middle
-midway_visible : (axis : Axis) (m : SpanMap) (p : Position) (many rows columns : ℕ) → 1 ≤ many → p.row < rows → p.col < columns → index axis p + many ≤ count_of axis rows columns → list_all (is_visible m) (stretch axis p (index axis p) many) ≡ true → Midway m rows columns → Midway (with_span axis m p many) rows columns
+midway_visible : (axis : Axis) (m : SpanMap) (p : Position) (many rows columns : ℕ) → 1 ≤ many → p.row < rows → p.col < columns → line_of axis p + many ≤ count_of axis rows columns → list_all (is_visible m) (stretch axis p (line_of axis p) many) ≡ true → Midway m rows columns → Midway (with_span axis m p many) rows columns
 midway_visible Columns m p many rows columns some row col fits all mid = midway_widened m p many some rows columns row fits (all_pass (is_visible m) Columns p p.col many all) mid
 midway_visible Rows m p many rows columns some row col fits all mid = midway_heightened m p many some rows columns col fits (all_pass (is_visible m) Rows p p.row many all) mid
 
 -- what a span over visible cells keeps where it is made, it keeps
-grown-keeps : (P : SpanMap → Type 0) (axis : Axis) (size n : ℕ) (m : SpanMap) (p : Position) → (list_all (is_visible m) (stretch axis p (index axis p) (min size (n - index axis p))) ≡ true → P (with_span axis m p (min size (n - index axis p)))) → P m → P (grown_at axis size n m p)
-grown-keeps P axis size n m p made kept = either (cases_Bool (list_all (is_visible m) (stretch axis p (index axis p) (min size (n - index axis p)))))
+grown-keeps : (P : SpanMap → Type 0) (axis : Axis) (size n : ℕ) (m : SpanMap) (p : Position) → (list_all (is_visible m) (stretch axis p (line_of axis p) (min size (n - line_of axis p))) ≡ true → P (with_span axis m p (min size (n - line_of axis p)))) → P m → P (grown_at axis size n m p)
+grown-keeps P axis size n m p made kept = either (cases_Bool (list_all (is_visible m) (stretch axis p (line_of axis p) (min size (n - line_of axis p)))))
   where
-    either : (list_all (is_visible m) (stretch axis p (index axis p) (min size (n - index axis p))) ≡ true) ⊎ (list_all (is_visible m) (stretch axis p (index axis p) (min size (n - index axis p))) ≡ false) → P (grown_at axis size n m p)
+    either : (list_all (is_visible m) (stretch axis p (line_of axis p) (min size (n - line_of axis p))) ≡ true) ⊎ (list_all (is_visible m) (stretch axis p (line_of axis p) (min size (n - line_of axis p))) ≡ false) → P (grown_at axis size n m p)
     either (inl t) = rw t (made t)
     either (inr f) = rw f kept
 
 midway_grown : (axis : Axis) (size rows columns : ℕ) → 1 ≤ size → (m : SpanMap) (p : Position) → p.row < rows → p.col < columns → Midway m rows columns → Midway (grown_at axis size (count_of axis rows columns) m p) rows columns
 midway_grown axis size rows columns least m p row col mid =
     let room = index_within axis p rows columns row col in
-    grown-keeps (λ k. Midway k rows columns) axis size (count_of axis rows columns) m p (λ t. midway_visible axis m p (min size (count_of axis rows columns - index axis p)) rows columns (omega arith) row col (omega arith) t mid) mid
+    grown-keeps (λ k. Midway k rows columns) axis size (count_of axis rows columns) m p (λ t. midway_visible axis m p (min size (count_of axis rows columns - line_of axis p)) rows columns (omega arith) row col (omega arith) t mid) mid
 
 -- spans at places of a table, one after another, keep what holds in the middle
 pub midway_each : (axis : Axis) (size : ℕ) (places : List Position) (m : SpanMap) (rows columns : ℕ) → 1 ≤ size → AllByRecursion (λ (p : Position). (p.row < rows) × (p.col < columns)) places → Midway m rows columns → Midway (grown_each axis size (count_of axis rows columns) m places) rows columns
@@ -52,21 +53,21 @@ record AreFlat (axis : Axis) (m : SpanMap) (rows columns : ℕ) : Type 0 where
   pub flat : IsFlat axis m
   pub within : Within (size_at m) rows columns
 
-flat_span : (axis : Axis) (m : SpanMap) (p : Position) (many rows columns : ℕ) → 1 ≤ many → p.row < rows → p.col < columns → index axis p + many ≤ count_of axis rows columns → AreFlat axis m rows columns → AreFlat axis (with_span axis m p many) rows columns
+flat_span : (axis : Axis) (m : SpanMap) (p : Position) (many rows columns : ℕ) → 1 ≤ many → p.row < rows → p.col < columns → line_of axis p + many ≤ count_of axis rows columns → AreFlat axis m rows columns → AreFlat axis (with_span axis m p many) rows columns
 flat_span Columns m p many rows columns some row col fits flat = record { sizes = sizes_widened m p many some flat.sizes; flat = flat_column_span m p many some flat.flat; within = within_wide m p many some rows columns row fits flat.within }
 flat_span Rows m p many rows columns some row col fits flat = record { sizes = sizes_heightened m p many some flat.sizes; flat = narrow_row_span m p many some flat.flat; within = within_high m p many some rows columns col fits flat.within }
 
 flat_grown : (axis : Axis) (size rows columns : ℕ) → 1 ≤ size → (m : SpanMap) (p : Position) → p.row < rows → p.col < columns → AreFlat axis m rows columns → AreFlat axis (grown_at axis size (count_of axis rows columns) m p) rows columns
 flat_grown axis size rows columns least m p row col flat =
     let room = index_within axis p rows columns row col in
-    grown-keeps (λ k. AreFlat axis k rows columns) axis size (count_of axis rows columns) m p (λ t. flat_span axis m p (min size (count_of axis rows columns - index axis p)) rows columns (omega arith) row col (omega arith) flat) flat
+    grown-keeps (λ k. AreFlat axis k rows columns) axis size (count_of axis rows columns) m p (λ t. flat_span axis m p (min size (count_of axis rows columns - line_of axis p)) rows columns (omega arith) row col (omega arith) flat) flat
 
 -- the place in another row or column of the table is in the table
-moved : (axis : Axis) (p : Position) (k many rows columns : ℕ) → p.row < rows → p.col < columns → k < count_of axis rows columns → ((at_index axis p k).row < rows) × ((at_index axis p k).col < columns)
+moved : (axis : Axis) (p : Position) (k many rows columns : ℕ) → p.row < rows → p.col < columns → k < count_of axis rows columns → ((in_line axis p k).row < rows) × ((in_line axis p k).col < columns)
 moved Rows p k many rows columns row col h = (h, col)
 moved Columns p k many rows columns row col h = (row, h)
 
-index_moved : (axis : Axis) (p : Position) (k : ℕ) → index axis (at_index axis p k) ≡ k
+index_moved : (axis : Axis) (p : Position) (k : ℕ) → line_of axis (in_line axis p k) ≡ k
 index_moved Rows p k = refl
 index_moved Columns p k = refl
 
@@ -82,10 +83,10 @@ takes (Some back) n j h = record { some = omega arith; within = omega arith }
 flat_pulled : (axis : Axis) (back : Option ℕ) (rows columns : ℕ) (m : SpanMap) (p : Position) → p.row < rows → p.col < columns → AreFlat axis m rows columns → AreFlat axis (pulled_at axis back (count_of axis rows columns) m p) rows columns
 flat_pulled axis back rows columns m p row col flat =
     let n = count_of axis rows columns in
-    let cells = taken back n (index axis p) in
-    let t = takes back n (index axis p) (index_within axis p rows columns row col) in
+    let cells = taken back n (line_of axis p) in
+    let t = takes back n (line_of axis p) (index_within axis p rows columns row col) in
     let there = moved axis p cells.0 cells.1 rows columns row col (omega (arith, t.some, t.within)) in
-    flat_span axis m (at_index axis p cells.0) cells.1 rows columns t.some there.0 there.1 (rw (index_moved axis p cells.0) t.within) flat
+    flat_span axis m (in_line axis p cells.0) cells.1 rows columns t.some there.0 there.1 (rw (index_moved axis p cells.0) t.within) flat
 
 flat_dropped_along : (axis : Axis) (m : SpanMap) (rows columns : ℕ) → AreFlat axis m rows columns → Fits (drop_hidden m) rows columns × IsFlat axis (drop_hidden m)
 flat_dropped_along Columns m rows columns flat = (fits_dropped m rows columns (midway_flat m rows columns flat.sizes flat.flat flat.within), flat_dropped m flat.flat)

@@ -5,7 +5,8 @@ use Rattle.tabled_grid.specs.Grid.{Grid, cell_at, with_cell}
 use Rattle.tabled_grid.specs.declared.config.position.Position.{Position}
 use Rattle.tabled_grid.specs.declared.records.axis.Axis.{Axis}
 use Rattle.tabled_options.specs.Writes.{Write, with_writes}
-use Rattle.tabled_spans.specs.Spanned.{FirstWritten, at_index, count_of, emptying, index, pull_writes, pulling, taken}
+use Rattle.tabled_grid.specs.Axis.{count_of, in_line, line_of}
+use Rattle.tabled_spans.specs.Spanned.{FirstWritten, emptying, pull_writes, pulling, taken}
 
 -- with some of all writes done, the rest leads where all lead, and where its first lead
 pub record Continues (all : List Write) (old : Grid (List ℕ)) (rest : List Write) (new : Grid (List ℕ)) : Type 0 where
@@ -48,36 +49,36 @@ FirstWritten-later [] ys g h f = f
 FirstWritten-later (x ∷ xs) ys g h f = FirstWritten-next x (xs ++ ys) g h (FirstWritten-later xs ys (with_cell g x.place x.text) h f)
 
 -- one more place is emptied
-pub emptying-more : (axis : Axis) (p : Position) (k end : ℕ) → k < end → emptying axis p k (end - k) ≡ record { place = at_index axis p k; text = [] } ∷ emptying axis p (k + 1) (end - (k + 1))
+pub emptying-more : (axis : Axis) (p : Position) (k end : ℕ) → k < end → emptying axis p k (end - k) ≡ record { place = in_line axis p k; text = [] } ∷ emptying axis p (k + 1) (end - (k + 1))
 emptying-more axis p k end h = let one : end - k ≡ suc (end - (k + 1)) = omega arith in ap (emptying axis p k) one
 
 pub emptying-done : (axis : Axis) (p : Position) (k end : ℕ) → end ≤ k → emptying axis p k (end - k) ≡ []
 emptying-done axis p k end h = let none : end - k ≡ 0 = omega arith in ap (emptying axis p k) none
 
 -- the text that is pulled, and then what is left to be emptied
-pub pulling-rest : (axis : Axis) (p : Position) (first many : ℕ) (g : Grid (List ℕ)) (text : List ℕ) → cell_at g p ≡ Some text → pulling axis p (first, many) g ≡ record { place = at_index axis p first; text = text } ∷ emptying axis p (first + 1) ((first + many) - (first + 1))
+pub pulling-rest : (axis : Axis) (p : Position) (first many : ℕ) (g : Grid (List ℕ)) (text : List ℕ) → cell_at g p ≡ Some text → pulling axis p (first, many) g ≡ record { place = in_line axis p first; text = text } ∷ emptying axis p (first + 1) ((first + many) - (first + 1))
 pulling-rest axis p first many g text is =
     let left : many - 1 ≡ (first + many) - (first + 1) = omega arith in
-    ap (λ (t : List ℕ). record { place = at_index axis p first; text = t } ∷ emptying axis p (first + 1) (many - 1)) (ap (λ (o : Option (List ℕ)). unwrap_or o []) is)
-    ∙ ap (λ n. record { place = at_index axis p first; text = text } ∷ emptying axis p (first + 1) n) left
+    ap (λ (t : List ℕ). record { place = in_line axis p first; text = t } ∷ emptying axis p (first + 1) (many - 1)) (ap (λ (o : Option (List ℕ)). unwrap_or o []) is)
+    ∙ ap (λ n. record { place = in_line axis p first; text = text } ∷ emptying axis p (first + 1) n) left
 
 -- after the text was pulled
-pub pull-start : (axis : Axis) (p : Position) (first many : ℕ) (g m : Grid (List ℕ)) (found text : List ℕ) (q : Position) → cell_at g p ≡ Some found → text ≡ found → q ≡ at_index axis p first → m ≡ with_cell g q text → Continues (pulling axis p (first, many) g) g (emptying axis p (first + 1) ((first + many) - (first + 1))) m
-pull-start axis p first many g m found text q is copied here made = continues-next (pulling axis p (first, many) g) g (at_index axis p first) text (emptying axis p (first + 1) ((first + many) - (first + 1))) g m (made ∙ ap (λ x. with_cell g x text) here) (subst (λ ws. Continues (pulling axis p (first, many) g) g ws g) (pulling-rest axis p first many g text (is ∙ ap Some (sym copied))) (continues-start (pulling axis p (first, many) g) g))
+pub pull-start : (axis : Axis) (p : Position) (first many : ℕ) (g m : Grid (List ℕ)) (found text : List ℕ) (q : Position) → cell_at g p ≡ Some found → text ≡ found → q ≡ in_line axis p first → m ≡ with_cell g q text → Continues (pulling axis p (first, many) g) g (emptying axis p (first + 1) ((first + many) - (first + 1))) m
+pull-start axis p first many g m found text q is copied here made = continues-next (pulling axis p (first, many) g) g (in_line axis p first) text (emptying axis p (first + 1) ((first + many) - (first + 1))) g m (made ∙ ap (λ x. with_cell g x text) here) (subst (λ ws. Continues (pulling axis p (first, many) g) g ws g) (pulling-rest axis p first many g text (is ∙ ap Some (sym copied))) (continues-start (pulling axis p (first, many) g) g))
 
 -- after one more cell was emptied
-pub pull-more : (all : List Write) (old : Grid (List ℕ)) (axis : Axis) (p : Position) (k end : ℕ) (g m : Grid (List ℕ)) (text : List ℕ) (q : Position) → k < end → text ≡ [] → q ≡ at_index axis p k → m ≡ with_cell g q text → Continues all old (emptying axis p k (end - k)) g → Continues all old (emptying axis p (k + 1) (end - (k + 1))) m
-pull-more all old axis p k end g m text q low none here made so_far = continues-next all old (at_index axis p k) [] (emptying axis p (k + 1) (end - (k + 1))) g m (made ∙ ap₂ (with_cell g) here none) (subst (λ ws. Continues all old ws g) (emptying-more axis p k end low) so_far)
+pub pull-more : (all : List Write) (old : Grid (List ℕ)) (axis : Axis) (p : Position) (k end : ℕ) (g m : Grid (List ℕ)) (text : List ℕ) (q : Position) → k < end → text ≡ [] → q ≡ in_line axis p k → m ≡ with_cell g q text → Continues all old (emptying axis p k (end - k)) g → Continues all old (emptying axis p (k + 1) (end - (k + 1))) m
+pull-more all old axis p k end g m text q low none here made so_far = continues-next all old (in_line axis p k) [] (emptying axis p (k + 1) (end - (k + 1))) g m (made ∙ ap₂ (with_cell g) here none) (subst (λ ws. Continues all old ws g) (emptying-more axis p k end low) so_far)
 
 -- after the last
 pub pull-end : (all : List Write) (old : Grid (List ℕ)) (axis : Axis) (p : Position) (k end : ℕ) (g : Grid (List ℕ)) → end ≤ k → Continues all old (emptying axis p k (end - k)) g → g ≡ with_writes all old
 pull-end all old axis p k end g done so_far = (subst (λ ws. Continues all old ws g) (emptying-done axis p k end done) so_far).ok
 
 -- the cells that a span takes, by the values that a body has
-pub cells_is : (axis : Axis) (p : Position) (back : Option ℕ) (count at rows columns all_rows all_columns : ℕ) (cells : ℕ × ℕ) → cells ≡ taken back count at → count ≡ count_of axis rows columns → rows ≡ all_rows → columns ≡ all_columns → at ≡ index axis p → cells ≡ taken back (count_of axis all_rows all_columns) (index axis p)
+pub cells_is : (axis : Axis) (p : Position) (back : Option ℕ) (count at rows columns all_rows all_columns : ℕ) (cells : ℕ × ℕ) → cells ≡ taken back count at → count ≡ count_of axis rows columns → rows ≡ all_rows → columns ≡ all_columns → at ≡ line_of axis p → cells ≡ taken back (count_of axis all_rows all_columns) (line_of axis p)
 cells_is axis p back count at rows columns all_rows all_columns cells is all r c here = is ∙ ap₂ (taken back) (all ∙ ap₂ (count_of axis) r c) here
 
-module _ (all : List Write) (old : Grid (List ℕ)) (axis : Axis) (back : Option ℕ) (n : ℕ) (p : Position) (places : List Position) (cells : ℕ × ℕ) (is : cells ≡ taken back n (index axis p)) (g : Grid (List ℕ)) (so_far : Continues all old (pull_writes axis back n (p ∷ places) g) g) where
+module _ (all : List Write) (old : Grid (List ℕ)) (axis : Axis) (back : Option ℕ) (n : ℕ) (p : Position) (places : List Position) (cells : ℕ × ℕ) (is : cells ≡ taken back n (line_of axis p)) (g : Grid (List ℕ)) (so_far : Continues all old (pull_writes axis back n (p ∷ places) g) g) where
   here : pull_writes axis back n (p ∷ places) g ≡ pulling axis p cells g ++ pull_writes axis back n places (with_writes (pulling axis p cells g) g)
   here = ap (λ (c : ℕ × ℕ). pulling axis p c g ++ pull_writes axis back n places (with_writes (pulling axis p c g) g)) (sym is)
 

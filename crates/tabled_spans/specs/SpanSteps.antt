@@ -8,34 +8,19 @@ use Rattle.tabled_grid.specs.Spans.{SpanMap, size_at}
 use Rattle.tabled_grid.specs.declared.config.entity.Entity.{Entity}
 use Rattle.tabled_grid.specs.declared.config.position.Position.{Position}
 use Rattle.tabled_grid.specs.declared.records.axis.Axis.{Axis}
-use Rattle.tabled_grid.specs.declared.records.axis.Axis.TheVariants.{Rows, Columns}
-use Rattle.tabled_spans.specs.Spanned.{count_of, index, stretch}
-
--- the column that a span of rows goes down at a place, or the row that one of columns goes along
-abbrev pub line_of : Axis → Position → ℕ
-line_of Rows p = p.col
-line_of Columns p = p.row
-
--- how many of these there are
-abbrev pub lines_of : Axis → ℕ → ℕ → ℕ
-lines_of Rows rows columns = columns
-lines_of Columns rows columns = rows
-
--- the size with so many rows or columns
-abbrev pub resized : Axis → ℕ × ℕ → ℕ → ℕ × ℕ
-resized Rows size many = (many, size.1)
-resized Columns size many = (size.0, many)
+use Rattle.tabled_grid.specs.Axis.{count_of, line_of, resized}
+use Rattle.tabled_spans.specs.Spanned.{stretch}
 
 -- the new size at a place, if so many cells from there on are all visible
 abbrev pub change_at : Axis → SpanMap → Position → ℕ → List Anchor
-change_at axis m p many = if list_all (is_visible m) (stretch axis p (index axis p) many) then (p, resized axis (size_at m p) many) ∷ [] else []
+change_at axis m p many = if list_all (is_visible m) (stretch axis p (line_of axis p) many) then (p, resized axis (size_at m p) many) ∷ [] else []
 
 -- the cells that a span takes from a place on lie in the first so many rows and columns
 pub record InReach (axis : Axis) (size n bottom right : ℕ) (p : Position) : Type 0 where
   pub row : p.row < bottom
   pub col : p.col < right
-  pub line : index axis p < n
-  pub end : index axis p + min size (n - index axis p) ≤ count_of axis bottom right
+  pub line : line_of axis p < n
+  pub end : line_of axis p + min size (n - line_of axis p) ≤ count_of axis bottom right
 
 -- those that it takes from the places of a table on that an entity names
 pub record IsReach (axis : Axis) (size : ℕ) (e : Entity) (rows columns : ℕ) (reach : ℕ × ℕ) : Type 0 where

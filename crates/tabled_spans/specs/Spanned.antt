@@ -3,7 +3,8 @@
 use Rattle.std.specs.Prelude.{◌≡◌, ◌<ℤ◌, ◌+◌, ◌-◌, ◌≤◌, ℕ, length, take, suc, ℤ, pos, negsuc, min, Option, None, Some, List, [], ◌∷◌, map, ◌++◌, if◌then◌else◌}
 use Rattle.std.specs.List.{fold, list_all, range_with_len}
 use Rattle.std.specs.Option.{unwrap_or}
-use Rattle.tabled_grid.specs.Entity.{inside, place}
+use Rattle.tabled_grid.specs.Axis.{count_of, in_line, line_of}
+use Rattle.tabled_grid.specs.Entity.{inside}
 use Rattle.tabled_grid.specs.Grid.{Grid, cell_at, map_grid}
 use Rattle.tabled_grid.specs.Midway.{Flat, Narrow}
 use Rattle.tabled_grid.specs.Rectangles.{drop_hidden, is_visible}
@@ -14,24 +15,9 @@ use Rattle.tabled_grid.specs.declared.records.axis.Axis.{Axis}
 use Rattle.tabled_grid.specs.declared.records.axis.Axis.TheVariants.{Rows, Columns}
 use Rattle.tabled_options.specs.Writes.{Write, with_writes}
 
--- a place's row or column
-abbrev pub index : Axis → Position → ℕ
-index Rows p = p.row
-index Columns p = p.col
-
--- the place in another row or column
-abbrev pub at_index : Axis → Position → ℕ → Position
-at_index Rows p k = place k p.col
-at_index Columns p k = place p.row k
-
--- how many rows or columns there are
-abbrev pub count_of : Axis → ℕ → ℕ → ℕ
-count_of Rows rows columns = rows
-count_of Columns rows columns = columns
-
 -- the place in so many rows or columns, from one on
 abbrev pub stretch : Axis → Position → ℕ → ℕ → List Position
-stretch axis p first many = map (at_index axis p) (range_with_len first many)
+stretch axis p first many = map (in_line axis p) (range_with_len first many)
 
 -- the map with a height or a width at a place, of which 0 changes nothing
 abbrev pub with_span : Axis → SpanMap → Position → ℕ → SpanMap
@@ -40,11 +26,11 @@ with_span Columns = with_column_span
 
 -- the map with a span over so many cells from a place on, if they are all visible
 abbrev pub with_visible_span : Axis → SpanMap → Position → ℕ → SpanMap
-with_visible_span axis m p many = if list_all (is_visible m) (stretch axis p (index axis p) many) then with_span axis m p many else m
+with_visible_span axis m p many = if list_all (is_visible m) (stretch axis p (line_of axis p) many) then with_span axis m p many else m
 
 -- the map after a span of so many cells from a place on, cut at the last of n rows or columns
 abbrev pub grown_at : Axis → ℕ → ℕ → SpanMap → Position → SpanMap
-grown_at axis size n m p = with_visible_span axis m p (min size (n - index axis p))
+grown_at axis size n m p = with_visible_span axis m p (min size (n - line_of axis p))
 
 -- the map after such a span at each place, in order
 abbrev pub grown_each : Axis → ℕ → ℕ → SpanMap → List Position → SpanMap
@@ -66,7 +52,7 @@ taken (Some back) n j = (j - back, min back j + 1)
 
 -- the map after a span over all cells that it takes, visible or not
 abbrev pub pulled_at : Axis → Option ℕ → ℕ → SpanMap → Position → SpanMap
-pulled_at axis back n m p = let cells = taken back n (index axis p) in with_span axis m (at_index axis p cells.0) cells.1
+pulled_at axis back n m p = let cells = taken back n (line_of axis p) in with_span axis m (in_line axis p cells.0) cells.1
 
 -- the map after such a span at each place, in order
 abbrev pub pulled_each : Axis → Option ℕ → ℕ → SpanMap → List Position → SpanMap
@@ -93,12 +79,12 @@ emptying axis p first many = map (λ (q : Position). record { place = q; text = 
 
 -- the text of a place for the first of the cells that a span takes, and no text for the others
 abbrev pub pulling : Axis → Position → ℕ × ℕ → Grid (List ℕ) → List Write
-pulling axis p cells g = record { place = at_index axis p cells.0; text = unwrap_or (cell_at g p) [] } ∷ emptying axis p (cells.0 + 1) (cells.1 - 1)
+pulling axis p cells g = record { place = in_line axis p cells.0; text = unwrap_or (cell_at g p) [] } ∷ emptying axis p (cells.0 + 1) (cells.1 - 1)
 
 -- what such a span writes at one place after another, each with the texts as they then stand
 abbrev pub pull_writes : Axis → Option ℕ → ℕ → List Position → Grid (List ℕ) → List Write
 pull_writes axis back n [] g = []
-pull_writes axis back n (p ∷ places) g = let writes = pulling axis p (taken back n (index axis p)) g in writes ++ pull_writes axis back n places (with_writes writes g)
+pull_writes axis back n (p ∷ places) g = let writes = pulling axis p (taken back n (line_of axis p)) g in writes ++ pull_writes axis back n places (with_writes writes g)
 
 -- what it writes on an entity
 abbrev pub pull_writes_on : Axis → Option ℕ → Entity → Grid (List ℕ) → List Write

@@ -11,7 +11,8 @@ ghost use Rattle.tabled_grid.specs.declared.config.position.Position.{Position};
 ghost use Rattle.tabled_grid.specs.declared.records.axis.Axis.{Axis};
 ghost use Rattle.tabled_options.specs.Does.{OptionKeeps};
 ghost use Rattle.tabled_spans.specs.Runs.{IsRun, Joins, MergesRuns, further, size_of_run};
-ghost use Rattle.tabled_spans.specs.Spanned.{count_of, grown_each};
+ghost use Rattle.tabled_grid.specs.Axis.{count_of};
+ghost use Rattle.tabled_spans.specs.Spanned.{grown_each};
 
 use crate::merge::{MergeDuplicatesHorizontal, MergeDuplicatesVertical};
 use crate::panel::{Footer, Header, HorizontalPanel, VerticalPanel};

@@ -3,7 +3,7 @@
 ghost use Rattle.std.specs.Prelude.{◌≡◌, ℕ, map};
 ghost use Rattle.std.specs.Option.{unwrap_or};
 ghost use Rattle.std.specs.List.{list_any};
-ghost use Rattle.tabled_grid.specs.Shifts.{crosses_line, line_of, shifted_in, shifted_place};
+ghost use Rattle.tabled_grid.specs.Shifts.{crosses_line, shifted_in, shifted_place};
 ghost use Rattle.tabled_grid.specs.declared.config.position.Position.{Position};
 
 use crate::config::anchors::Anchor;
@@ -33,13 +33,9 @@ pub(super) fn cross(anchors: &[Anchor], axis: Axis, line: usize) -> bool
     ensures { result ≡ list_any (crosses_line axis line) anchors.now }
 {
     anchors.iter().any(|anchor| {
-        let (pos, (height, width)) = *anchor;
-        let first = line_of(axis, pos);
-        let many = match axis {
-            Axis::Rows => height,
-            Axis::Columns => width,
-        };
-        first < line && line - first < many
+        let (pos, size) = *anchor;
+        let first = axis.line_of(pos);
+        first < line && line - first < axis.lines_in(size)
     })
 }
 
@@ -47,23 +43,10 @@ pub(super) fn cross(anchors: &[Anchor], axis: Axis, line: usize) -> bool
 fn place_once_shifted(axis: Axis, from: usize, pos: Position) -> Option<Position>
     ensures { result ≡ shifted_place axis from pos }
 {
-    let line = line_of(axis, pos);
+    let line = axis.line_of(pos);
     if line < from {
         return Some(pos);
     }
     let next = line.checked_add(1)?;
-    Some(match axis {
-        Axis::Rows => Position::new(next, pos.col),
-        Axis::Columns => Position::new(pos.row, next),
-    })
-}
-
-/// The index of a place's line.
-fn line_of(axis: Axis, pos: Position) -> usize
-    ensures { result ≡ line_of axis pos }
-{
-    match axis {
-        Axis::Rows => pos.row,
-        Axis::Columns => pos.col,
-    }
+    Some(axis.in_line(pos, next))
 }

@@ -236,6 +236,7 @@ impl SpannedConfig {
     /// One at `usize::MAX` goes away. It takes no memory.
     ///
     /// Of this project: `tabled::settings::Panel` moves them one after another.
+    #[doc(hidden)]
     pub fn shift(&mut self, axis: Axis, from: usize)
         ensures shifted { self.new ≡ shifted axis from self.old }
         ensures sizes { AreSpanSizes self.new }
@@ -248,6 +249,7 @@ impl SpannedConfig {
     /// not.
     ///
     /// Of this project: `tabled::settings::Panel` asks each cell of the table's row (or column).
+    #[doc(hidden)]
     pub fn crosses(&self, axis: Axis, line: usize) -> bool
         ensures crosses { result ≡ is_crossed axis line self.now }
         ensures sizes { AreSpanSizes self.now }

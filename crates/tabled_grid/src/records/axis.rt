@@ -1,11 +1,10 @@
 //! Rows or columns of a store.
 
-ghost use Rattle.std.specs.Prelude.{◌≡◌, ◌<◌, ◌≤◌};
+ghost use Rattle.std.specs.Prelude.{◌≡◌, ◌<◌};
 ghost use Rattle.std.specs.List.{swap};
-ghost use Rattle.tabled_grid.specs.Along.{along, count_along, first_along};
-ghost use Rattle.tabled_grid.specs.Grid.{IsEmptyWithoutRows, IsEven};
-ghost use Rattle.tabled_grid.specs.Pieces.{across};
-ghost use Rattle.tabled_grid.specs.Places.{place_in};
+ghost use Rattle.tabled_grid.specs.Along.{along, count_along};
+ghost use Rattle.tabled_grid.specs.Grid.{IsEven};
+ghost use Rattle.tabled_grid.specs.Axis.{across, count_of, in_line, line_of, lines_in, place_in, resized};
 
 use crate::config::Position;
 use crate::records::blank::Blank;
@@ -34,6 +33,7 @@ impl Axis {
     }
 
     /// The place of a cell of a line.
+    #[doc(hidden)]
     pub fn place(self, line: usize, cell: usize) -> Position
         ensures { result ≡ place_in self line cell }
     {
@@ -49,7 +49,63 @@ impl Axis {
         }
     }
 
+    /// The index of a place's line.
+    #[doc(hidden)]
+    pub fn line_of(self, pos: Position) -> usize
+        ensures { result ≡ line_of self pos }
+    {
+        match self {
+            Axis::Rows => pos.row,
+            Axis::Columns => pos.col,
+        }
+    }
+
+    /// The same place in another line.
+    #[doc(hidden)]
+    pub fn in_line(self, pos: Position, line: usize) -> Position
+        ensures { result ≡ in_line self pos line }
+    {
+        match self {
+            Axis::Rows => Position::new(line, pos.col),
+            Axis::Columns => Position::new(pos.row, line),
+        }
+    }
+
+    /// The number of rows, or that of columns.
+    #[doc(hidden)]
+    pub fn count_of(self, rows: usize, columns: usize) -> usize
+        ensures { result ≡ count_of self rows columns }
+    {
+        match self {
+            Axis::Rows => rows,
+            Axis::Columns => columns,
+        }
+    }
+
+    /// How many lines a size takes.
+    #[doc(hidden)]
+    pub fn lines_in(self, size: (usize, usize)) -> usize
+        ensures { result ≡ lines_in self size }
+    {
+        match self {
+            Axis::Rows => size.0,
+            Axis::Columns => size.1,
+        }
+    }
+
+    /// The size with so many lines.
+    #[doc(hidden)]
+    pub fn resized(self, size: (usize, usize), many: usize) -> (usize, usize)
+        ensures { result ≡ resized self size many }
+    {
+        match self {
+            Axis::Rows => (many, size.1),
+            Axis::Columns => (size.0, many),
+        }
+    }
+
     /// How many such lines there are.
+    #[doc(hidden)]
     pub fn count<R: Records + ExactRecords>(self, records: &R) -> usize
         requires { R.is_well_formed records.now }
         ensures count { result ≡ count_along self (R.grid records.now) }
@@ -62,6 +118,7 @@ impl Axis {
     }
 
     /// Swaps two lines. Equal ones change nothing.
+    #[doc(hidden)]
     pub fn swap<R>(self, records: &mut R, i: usize, k: usize)
     where
         R: Resizable,
@@ -75,23 +132,6 @@ impl Axis {
         match self {
             Axis::Rows => records.swap_row(i, k),
             Axis::Columns => records.swap_column(i, k),
-        }
-    }
-
-    /// Keeps the first `count` lines alone.
-    pub fn truncate<R>(self, records: &mut R, count: usize)
-    where
-        R: Records + ExactRecords + Resizable,
-        R::Cell: Blank,
-        requires well { R.is_well_formed records.old }
-        requires within { count ≤ count_along self (R.grid records.old) }
-        ensures well { R.is_well_formed records.new }
-        ensures rowless { IsEmptyWithoutRows (R.grid records.old) }
-        ensures first { R.grid records.new ≡ first_along self count (R.grid records.old) }
-    {
-        match self {
-            Axis::Rows => records.truncate_rows(count),
-            Axis::Columns => records.truncate_columns(count),
         }
     }
 }

@@ -1,7 +1,7 @@
 //! The order of the pieces of lines.
 
-ghost use Rattle.std.specs.Prelude.{◌≡◌, ◌<◌};
-ghost use Rattle.tabled_grid.specs.Pieces.{nth_piece};
+ghost use Rattle.std.specs.Prelude.{◌≡◌, ◌<◌, ◌*◌};
+ghost use Rattle.tabled_grid.specs.Pieces.{IsPiece, nth_piece};
 
 /// The order of the pieces of lines that are cut.
 ///
@@ -16,10 +16,12 @@ pub enum PieceOrder {
 
 impl PieceOrder {
     /// The line and the number of the piece that comes so many-th, of so many lines of so many pieces.
+    #[doc(hidden)]
     pub fn nth_piece(self, lines: usize, pieces: usize, nth: usize) -> (usize, usize)
         requires lines { 0 < lines }
         requires pieces { 0 < pieces }
-        ensures { result ≡ nth_piece self lines pieces nth }
+        ensures nth { result ≡ nth_piece self lines pieces nth }
+        ensures piece { nth < lines * pieces → IsPiece self lines pieces nth result.0 result.1 }
     {
         match self {
             PieceOrder::Zip => (nth / pieces, nth % pieces),

@@ -3,7 +3,7 @@
 ghost use Rattle.std.specs.Prelude.{◌≡◌, ◌<◌, ◌*◌};
 ghost use Rattle.std.specs.Int.{div_ceil};
 ghost use Rattle.tabled_grid.specs.Pieces.{cut_places};
-ghost use Rattle.tabled_grid.specs.Shifts.{line_of};
+ghost use Rattle.tabled_grid.specs.Axis.{line_of};
 
 use crate::config::Position;
 use crate::records::axis::Axis;
@@ -24,10 +24,8 @@ pub(super) fn old_place(
     requires within { line_of axis to < lines * div_ceil width index }
     ensures { result ≡ (cut_places axis order index lines width).old_place to }
 {
-    let (target, cell) = match axis {
-        Axis::Rows => (to.row, to.col),
-        Axis::Columns => (to.col, to.row),
-    };
+    let target = axis.line_of(to);
+    let cell = axis.across().line_of(to);
     let (line, number) = order.nth_piece(lines, width.div_ceil(index), target);
     let start = number * index;
     if cell < width - start {

@@ -1,11 +1,12 @@
 //! Stores that can grow and shrink.
 
-ghost use Rattle.std.specs.Prelude.{◌≡◌, ◌<◌, ◌≤◌, OnOk, OnErr};
+ghost use Rattle.std.specs.Prelude.{◌≡◌, ◌<◌, ◌≤◌, IsOk, OnErr, OnOk};
 ghost use Rattle.tabled_grid.specs.Along.{count_along, first_along};
 ghost use Rattle.tabled_grid.specs.Bulk.{AddsColumns, AddsRows, transposed};
 ghost use Rattle.tabled_grid.specs.Grid.{IsEmptyWithoutRows, IsInside};
 ghost use Rattle.tabled_grid.specs.AddedLines.{AddsLines};
-ghost use Rattle.tabled_grid.specs.Pieces.{across, cut_places};
+ghost use Rattle.tabled_grid.specs.Axis.{across};
+ghost use Rattle.tabled_grid.specs.Pieces.{cut_places};
 ghost use Rattle.tabled_grid.specs.Places.{FillsThrough};
 ghost use Rattle.tabled_grid.specs.Resized.{InsertsColumn, InsertsRow, with_cells_swapped, with_columns_swapped, with_rows_swapped, without_column, without_row};
 ghost use Rattle.tabled_grid.specs.declared.records.axis.Axis.TheVariants.{Columns, Rows};
@@ -221,7 +222,8 @@ where
         Ok(())
     }
 
-    /// Makes rows of columns (r x c to c x r, or to 0 x 0). Refused, it leaves the store as it was.
+    /// Makes rows of columns (r x c to c x r, or r x 0 to 0 x 0). Refused, it leaves the store as it was.
+    /// Without columns it asks for no growth, and isn't refused.
     ///
     /// Of this project, as a call of its own. A store that says nothing better pads to a square, swaps
     /// cells across the diagonal and cuts off what is left, as `tabled::settings::Rotate` does.
@@ -233,9 +235,14 @@ where
         ensures rowless { IsEmptyWithoutRows (Self.grid self.old) }
         ensures ok { OnOk result (Self.grid self.new ≡ transposed (Self.grid self.old)) }
         ensures err { OnErr result (Self.grid self.new ≡ Self.grid self.old) }
+        ensures no_columns { (Self.grid self.old).columns ≡ 0 → IsOk result }
     {
         let rows = self.count_rows();
         let columns = self.count_columns();
+        if columns == 0 {
+            self.truncate_rows(0);
+            return Ok(());
+        }
         let size = rows.max(columns);
         self.push_rows(alloc, size - rows)?;
         if let Err(error) = self.push_columns(alloc, size - columns) {
@@ -248,9 +255,7 @@ where
             }
         }
         self.truncate_rows(columns);
-        if columns > 0 {
-            self.truncate_columns(rows);
-        }
+        self.truncate_columns(rows);
         Ok(())
     }
 
@@ -292,11 +297,13 @@ where
 
     /// Cuts rows, or columns, that are longer than `index` into pieces of so many cells, which become the
     /// new rows, or columns. Blanks fill up the last piece of each. Refused, it leaves the store as it was.
+    /// More than `usize::MAX` pieces, which no store could count, are refused without a growth.
     ///
     /// For `n` rows in `k` pieces each this is r x c to n*k x index, for columns r x c to index x n*k.
     ///
     /// Of this project, as a call of its own. A store that says nothing better grows to all new lines,
-    /// swaps the cells to their places and cuts off what is left, as `tabled::settings::split` does.
+    /// swaps the cells to their places and cuts off what is left, as `tabled::settings::split` does. So it
+    /// also refuses lines that can't grow to whole pieces of a width up to `usize::MAX`.
     fn cut(
         &mut self,
         alloc: Global,
@@ -347,6 +354,7 @@ where
 }
 
 /// Shows that a store without rows has no columns, and changes nothing.
+#[doc(hidden)]
 pub fn empty_without_rows<R>(records: &mut R)
 where
     R: Records + ExactRecords + Resizable,

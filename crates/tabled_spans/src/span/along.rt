@@ -1,42 +1,12 @@
-//! Rows and columns of a place, and what a span takes of them.
+//! What a span takes of rows or columns, and sizes.
 
 ghost use Rattle.std.specs.Prelude.{◌≡◌, ◌<◌, ◌≤◌, ◌≤ℤ◌, pos};
 ghost use Rattle.tabled_grid.specs.Spans.{size_at};
-ghost use Rattle.tabled_spans.specs.SpanSteps.{resized};
-ghost use Rattle.tabled_spans.specs.Spanned.{at_index, back_of, count_of, index, taken};
+ghost use Rattle.tabled_grid.specs.Axis.{resized};
+ghost use Rattle.tabled_spans.specs.Spanned.{back_of, taken};
 
 use tabled_grid::config::{Position, SpannedConfig};
 use tabled_grid::records::Axis;
-
-/// A place's row or column.
-pub(super) fn index(axis: Axis, pos: Position) -> usize
-    ensures { result ≡ index axis pos }
-{
-    match axis {
-        Axis::Rows => pos.row,
-        Axis::Columns => pos.col,
-    }
-}
-
-/// The place in another row or column.
-pub(super) fn at_index(axis: Axis, pos: Position, k: usize) -> Position
-    ensures { result ≡ at_index axis pos k }
-{
-    match axis {
-        Axis::Rows => Position::new(k, pos.col),
-        Axis::Columns => Position::new(pos.row, k),
-    }
-}
-
-/// How many rows or columns there are.
-pub(super) fn count_of(axis: Axis, rows: usize, columns: usize) -> usize
-    ensures { result ≡ count_of axis rows columns }
-{
-    match axis {
-        Axis::Rows => rows,
-        Axis::Columns => columns,
-    }
-}
 
 /// How many cells back a span of size 0 or below takes, or all of the line.
 pub(super) fn back_of(size: isize) -> Option<usize>
@@ -76,7 +46,7 @@ pub(super) fn size_at(cfg: &SpannedConfig, pos: Position) -> (usize, usize)
     (height, width)
 }
 
-/// The size with so many rows or columns.
+/// The size with so many lines.
 pub(super) fn resized(axis: Axis, size: (usize, usize), many: usize) -> (usize, usize)
     requires height { 1 ≤ size.0 }
     requires width { 1 ≤ size.1 }
@@ -85,8 +55,5 @@ pub(super) fn resized(axis: Axis, size: (usize, usize), many: usize) -> (usize, 
     ensures height { 1 ≤ result.0 }
     ensures width { 1 ≤ result.1 }
 {
-    match axis {
-        Axis::Rows => (many, size.1),
-        Axis::Columns => (size.0, many),
-    }
+    axis.resized(size, many)
 }

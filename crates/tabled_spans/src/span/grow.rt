@@ -7,33 +7,14 @@ ghost use Rattle.tabled_grid.specs.Covers.{cover_in};
 ghost use Rattle.tabled_grid.specs.Entity.{inside, names};
 ghost use Rattle.tabled_grid.specs.Rectangles.{is_visible};
 ghost use Rattle.tabled_grid.specs.Spans.{IsSizeAt, SpanMap, position_cmp, size_at, with_sizes};
-ghost use Rattle.tabled_spans.specs.Spanned.{count_of, grown, grown_each, index, stretch};
-ghost use Rattle.tabled_spans.specs.SpanSteps.{IsReach, change_at, line_of, lines_of, resized};
+ghost use Rattle.tabled_grid.specs.Axis.{across, count_of, line_of, resized};
+ghost use Rattle.tabled_spans.specs.Spanned.{grown, grown_each, stretch};
+ghost use Rattle.tabled_spans.specs.SpanSteps.{IsReach, change_at};
 
-use crate::span::along::{at_index, count_of, index, resized, size_at};
+use crate::span::along::{resized, size_at};
 use std::alloc::{AllocError, Global};
 use tabled_grid::config::{CoverMap, Entity, Position, SpannedConfig};
 use tabled_grid::records::Axis;
-
-/// The column that a span of rows goes down at a place, or the row that one of columns goes along.
-fn line_of(axis: Axis, pos: Position) -> usize
-    ensures { result ≡ line_of axis pos }
-{
-    match axis {
-        Axis::Rows => pos.col,
-        Axis::Columns => pos.row,
-    }
-}
-
-/// How many of these there are.
-fn lines_of(axis: Axis, rows: usize, columns: usize) -> usize
-    ensures { result ≡ lines_of axis rows columns }
-{
-    match axis {
-        Axis::Rows => columns,
-        Axis::Columns => rows,
-    }
-}
 
 /// Says whether so many cells are all visible, from a place on.
 ///
@@ -44,18 +25,18 @@ fn is_free(cover: &CoverMap, axis: Axis, pos: Position, many: usize, hint: &mut 
     requires bottom { pos.row < cover.now.first.row + cover.now.rows }
     requires left { cover.now.first.col ≤ pos.col }
     requires right { pos.col < cover.now.first.col + cover.now.columns }
-    requires within { index axis pos + many ≤ index axis cover.now.first + count_of axis cover.now.rows cover.now.columns }
-    requires end { index axis pos + many < 2 ^ 64 }
-    ensures { (m : SpanMap) (first : Position) (rows columns : ℕ) → cover.now ≡ cover_in m first rows columns → result ≡ list_all (is_visible m) (stretch axis pos (index axis pos) many) }
+    requires within { line_of axis pos + many ≤ line_of axis cover.now.first + count_of axis cover.now.rows cover.now.columns }
+    requires end { line_of axis pos + many < 2 ^ 64 }
+    ensures { (m : SpanMap) (first : Position) (rows columns : ℕ) → cover.now ≡ cover_in m first rows columns → result ≡ list_all (is_visible m) (stretch axis pos (line_of axis pos) many) }
 {
-    let first = index(axis, pos);
+    let first = axis.line_of(pos);
     let end = first + many;
     let known = *hint;
-    if first <= known && known < end && cover.is_hidden(at_index(axis, pos, known)) {
+    if first <= known && known < end && cover.is_hidden(axis.in_line(pos, known)) {
         return false;
     }
     for k in first..end {
-        if cover.is_hidden(at_index(axis, pos, k)) {
+        if cover.is_hidden(axis.in_line(pos, k)) {
             *hint = k;
             return false;
         }
@@ -80,8 +61,8 @@ fn grow_at(
     requires left { cover.old.first.col ≤ pos.col }
     requires right { pos.col < cover.old.first.col + cover.old.columns }
     requires some { 1 ≤ many }
-    requires within { index axis pos + many ≤ index axis cover.old.first + count_of axis cover.old.rows cover.old.columns }
-    requires end { index axis pos + many < 2 ^ 64 }
+    requires within { line_of axis pos + many ≤ line_of axis cover.old.first + count_of axis cover.old.rows cover.old.columns }
+    requires end { line_of axis pos + many < 2 ^ 64 }
     ensures ok { (m : SpanMap) (first : Position) (rows columns : ℕ) → cover.old ≡ cover_in m first rows columns → size_at m pos ≡ size_at cfg.now pos → OnOk result (changes.new.items ≡ changes.old.items ++ change_at axis m pos many) }
     ensures full { AllByRecursion IsSizeAt changes.old.items → OnOk result (AllByRecursion IsSizeAt changes.new.items) }
     ensures cover { (m : SpanMap) (first : Position) (rows columns : ℕ) → cover.old ≡ cover_in m first rows columns → size_at m pos ≡ size_at cfg.now pos → OnOk result (cover.new ≡ cover_in (with_sizes m (change_at axis m pos many)) first rows columns) }
@@ -143,16 +124,21 @@ fn changes(
     ensures full { IfOk result (λ changes. AllByRecursion IsSizeAt changes.items) }
     ensures sizes { IfOk result (λ changes. with_sizes cfg.now changes.items ≡ grown_each axis size (count_of axis rows columns) cfg.now (inside entity rows columns)) }
 {
-    let count = count_of(axis, rows, columns);
+    let count = axis.count_of(rows, columns);
     let (bottom, right) = reach(axis, size, entity, rows, columns);
     let first = first_named(entity, bottom, right);
     let (height, width) = (bottom - first.row, right - first.col);
     let mut cover = CoverMap::of_block(alloc, cfg, first, height, width)?;
-    let mut hints = vec![in alloc; 0; lines_of(axis, height, width)]?;
+    // A hint for each line that spans go along: a column for spans of rows, a row for those of columns.
+    let across = axis.across();
+    let mut hints = vec![in alloc; 0; across.count_of(height, width)]?;
+    let first_line = across.line_of(first);
     let mut changes = Vec::new(alloc);
     for pos in entity.iter(rows, columns) {
-        let many = size.min(count - index(axis, pos));
-        let hint = &mut hints[line_of(axis, pos) - line_of(axis, first)];
+        let index = axis.line_of(pos);
+        let many = size.min(count - index);
+        let line = across.line_of(pos);
+        let hint = &mut hints[line - first_line];
         grow_at(alloc, &mut cover, &mut changes, cfg, axis, pos, many, hint)?;
     }
     Ok(changes)

@@ -9,9 +9,10 @@ ghost use Rattle.tabled_grid.specs.Spans.{IsSizeAt, position_cmp, with_sizes};
 ghost use Rattle.tabled_grid.specs.declared.config.position.Position.{Position};
 ghost use Rattle.tabled_grid.specs.Grid.{IsInside, map_grid};
 ghost use Rattle.tabled_options.specs.Writes.{with_writes};
-ghost use Rattle.tabled_spans.specs.Spanned.{FirstWritten, at_index, count_of, pull_writes_on, pulled, pulled_each, pulling, with_span};
+ghost use Rattle.tabled_grid.specs.Axis.{count_of, in_line};
+ghost use Rattle.tabled_spans.specs.Spanned.{FirstWritten, pull_writes_on, pulled, pulled_each, pulling, with_span};
 
-use crate::span::along::{at_index, count_of, index, resized, size_at, taken};
+use crate::span::along::{resized, size_at, taken};
 use std::alloc::{AllocError, Global};
 use tabled_grid::config::{Entity, Position, SpannedConfig};
 use tabled_grid::records::{Axis, CellText, ExactRecords, PeekableRecords, Records, RecordsMut};
@@ -66,11 +67,11 @@ fn changes(
     ensures full { IfOk result (λ changes. AllByRecursion IsSizeAt changes.items) }
     ensures sizes { IfOk result (λ changes. with_sizes cfg.now changes.items ≡ pulled_each axis back (count_of axis rows columns) cfg.now (inside entity rows columns)) }
 {
-    let count = count_of(axis, rows, columns);
+    let count = axis.count_of(rows, columns);
     let mut changes = Vec::new(alloc);
     for pos in entity.iter(rows, columns) {
-        let (first, many) = taken(back, count, index(axis, pos));
-        put_span(&mut changes, cfg, axis, at_index(axis, pos, first), many)?;
+        let (first, many) = taken(back, count, axis.line_of(pos));
+        put_span(&mut changes, cfg, axis, axis.in_line(pos, first), many)?;
     }
     Ok(changes)
 }
@@ -112,7 +113,7 @@ where
     requires well { R.is_well_formed records.old }
     requires here { IsInside (R.grid records.old) pos }
     requires some { 1 ≤ many }
-    requires within { (k : ℕ) → first ≤ k → k < first + many → IsInside (R.grid records.old) (at_index axis pos k) }
+    requires within { (k : ℕ) → first ≤ k → k < first + many → IsInside (R.grid records.old) (in_line axis pos k) }
     requires end { first + many < 2 ^ 64 }
     ensures well { R.is_well_formed records.new }
     ensures rows { (R.grid records.new).rows ≡ (R.grid records.old).rows }
@@ -121,9 +122,9 @@ where
     ensures err { OnErr result (FirstWritten (pulling axis pos (first, many) (map_grid R.Cell.text_of (R.grid records.old))) (map_grid R.Cell.text_of (R.grid records.old)) (map_grid R.Cell.text_of (R.grid records.new))) }
 {
     let text = String::from_str(alloc, records.get_text(pos))?;
-    records.set(alloc, at_index(axis, pos, first), text)?;
+    records.set(alloc, axis.in_line(pos, first), text)?;
     for k in first + 1..first + many {
-        records.set(alloc, at_index(axis, pos, k), String::new(alloc))?;
+        records.set(alloc, axis.in_line(pos, k), String::new(alloc))?;
     }
     Ok(())
 }
@@ -147,9 +148,9 @@ where
 {
     let rows = records.count_rows();
     let columns = records.count_columns();
-    let count = count_of(axis, rows, columns);
+    let count = axis.count_of(rows, columns);
     for pos in entity.iter(rows, columns) {
-        let (first, many) = taken(back, count, index(axis, pos));
+        let (first, many) = taken(back, count, axis.line_of(pos));
         pull(alloc, records, axis, pos, first, many)?;
     }
     Ok(())

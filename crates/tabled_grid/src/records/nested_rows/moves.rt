@@ -88,6 +88,7 @@ pub(crate) fn widen_each<T: Blank>(
 }
 
 /// Makes room for one more cell in each row, which changes no cell.
+#[doc(hidden)]
 pub fn reserve_each<T>(rows: &mut [Vec<T>]) -> Result<(), AllocError>
     ensures cells { map_items rows.new ≡ map_items rows.old }
     ensures room { OnOk result (All (λ (row : Vec T). vec_len row < vec_capacity row) rows.new) }
@@ -114,6 +115,7 @@ pub(crate) fn insert_blanks<T: Blank>(
 }
 
 /// Removes the cell at `j` from each row.
+#[doc(hidden)]
 pub fn remove_each<T: Drop>(rows: &mut [Vec<T>], j: usize)
     requires { All (λ (row : Vec T). j < vec_len row) rows.old }
     ensures { map_items rows.new ≡ map (λ (row : List T). remove row j) (map_items rows.old) }

@@ -3,7 +3,8 @@
 ghost use Rattle.std.specs.Prelude.{◌≡◌, ◌<◌, OnErr, OnOk};
 ghost use Rattle.tabled_grid.specs.Along.{count_along};
 ghost use Rattle.tabled_grid.specs.Grid.{IsEven, grid_of, map_items};
-ghost use Rattle.tabled_grid.specs.Pieces.{across, cut_places};
+ghost use Rattle.tabled_grid.specs.Axis.{across};
+ghost use Rattle.tabled_grid.specs.Pieces.{cut_places};
 ghost use Rattle.tabled_grid.specs.Places.{FillsThrough};
 
 use super::moves::{blank_rows, exchange};
@@ -35,10 +36,8 @@ pub(super) fn cut_lines<T: Blank>(
     let Some(all) = lines.checked_mul(width.div_ceil(index)) else {
         return Err(AllocError);
     };
-    let (tall, wide) = match axis {
-        Axis::Rows => (all, index),
-        Axis::Columns => (index, all),
-    };
+    let tall = axis.count_of(all, index);
+    let wide = axis.count_of(index, all);
     let mut cut = blank_rows(alloc, tall, wide)?;
     for row in 0..tall {
         for col in 0..wide {

@@ -1,6 +1,6 @@
 //! Rows and columns of a store exchanged, each cell moved once.
 
-ghost use Rattle.std.specs.Prelude.{◌≡◌, ◌<◌, IfOk, OnErr, OnOk};
+ghost use Rattle.std.specs.Prelude.{◌≡◌, ◌<◌, IfOk, IsOk, OnErr, OnOk};
 ghost use Rattle.std.specs.List.{AllByRecursion};
 ghost use Rattle.tabled_grid.specs.Bulk.{Exchanges, transposed};
 ghost use Rattle.tabled_grid.specs.Grid.{IsEmptyWithoutRows, IsEven, IsInside};
@@ -19,6 +19,7 @@ impl<T: Blank> VecRecords<T> {
         ensures rowless { IsEmptyWithoutRows self.old }
         ensures ok { OnOk result (self.new ≡ transposed self.old) }
         ensures err { OnErr result (self.new ≡ self.old) }
+        ensures no_columns { self.old.columns ≡ 0 → IsOk result }
     {
         if self.columns == 0 {
             self.rows = 0;

@@ -2,7 +2,8 @@
 
 ghost use Rattle.std.specs.Prelude.{◌≡◌, ◌<◌, ◌%◌, OnErr, OnOk};
 ghost use Rattle.tabled_grid.specs.Along.{count_along};
-ghost use Rattle.tabled_grid.specs.Pieces.{across, cut_places};
+ghost use Rattle.tabled_grid.specs.Axis.{across};
+ghost use Rattle.tabled_grid.specs.Pieces.{cut_places};
 ghost use Rattle.tabled_grid.specs.Places.{FillsThrough};
 ghost use Rattle.tabled_grid.specs.declared.records.axis.Axis.TheVariants.{Rows};
 ghost use Rattle.tabled_grid.specs.declared.records.piece_order.PieceOrder.TheVariants.{Zip};
@@ -47,10 +48,8 @@ impl<T: Blank> VecRecords<T> {
         let Some(all) = lines.checked_mul(width.div_ceil(index)) else {
             return Err(AllocError);
         };
-        let (rows, columns) = match axis {
-            Axis::Rows => (all, index),
-            Axis::Columns => (index, all),
-        };
+        let rows = axis.count_of(all, index);
+        let columns = axis.count_of(index, all);
         let mut cut = VecRecords::of_blanks(alloc, rows, columns)?;
         for row in 0..rows {
             for col in 0..columns {

@@ -99,6 +99,10 @@ impl<T: Blank> Resizable for VecRecords<T> {
         if self.rows == 0 {
             return Ok(());
         }
+        // Rows without cells, of which there may be very many, aren't gone through.
+        if many == 0 {
+            return Ok(());
+        }
         let Some(columns) = self.columns.checked_add(many) else {
             return Err(AllocError);
         };
@@ -112,6 +116,10 @@ impl<T: Blank> Resizable for VecRecords<T> {
     }
 
     fn truncate_columns(&mut self, count: usize) {
+        // Rows without cells, of which there may be very many, aren't gone through.
+        if count == self.columns {
+            return;
+        }
         keep_fronts(&mut self.cells, self.rows, self.columns, count);
         self.columns = count;
         self.cells.truncate(self.rows * count);

@@ -18,4 +18,4 @@ loop-k-preserved g c =
 pub returns-clause-kept : goal.returns-clause-kept
 returns-clause-kept g c =
     let all : (c.args.range.start ≡ 0) ⊎ (c.loop-k.k ≡ c.saturating_sub-kept.result) = elim c.if-range-gt0.branch [ then-range-gt0 w ↦ inr (omega (arith, w.moved-is, c.loop-k-test.false, c.loop-k.auto.k-end)) | else-range-gt0 w ↦ inl (omega (arith, w.if-range-gt0.false)) ] in
-    kept_all _ _ _ c.loop-k.k c.saturating_sub-kept.result _ _ _ c.loop-k.invariant.brings all (omega (arith, c.saturating_sub-kept.ensures, c.min-end.ensures, c.count.ensures.count)) c.truncate.ensures.first
+    kept_all _ _ _ c.loop-k.k c.saturating_sub-kept.result _ _ _ c.loop-k.invariant.brings all (omega (arith, c.saturating_sub-kept.ensures, c.min-end.ensures, c.count.ensures.count)) c.truncate_lines.ensures.first

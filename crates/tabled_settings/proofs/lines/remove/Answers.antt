@@ -24,4 +24,4 @@ loop-i-preserved g c =
     ]
 
 pub returns-clause-dropped : goal.returns-clause-dropped
-returns-clause-dropped g c = thins_all _ _ c.loop-i.i c.loop-i.kept _ _ _ (omega (arith, c.loop-i-test.false, c.loop-i.auto.i-end, c.count-i-end.ensures.count)) c.loop-i.invariant.thins c.truncate.ensures.first
+returns-clause-dropped g c = thins_all _ _ c.loop-i.i c.loop-i.kept _ _ _ (omega (arith, c.loop-i-test.false, c.loop-i.auto.i-end, c.count-i-end.ensures.count)) c.loop-i.invariant.thins c.truncate_lines.ensures.first

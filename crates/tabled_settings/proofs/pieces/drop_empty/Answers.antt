@@ -28,7 +28,7 @@ loop-i-preserved g c =
         well = w.swap.ensures.well;
         thins = thins_kept s.lines (is_empty_piece text_of s c.args.lines c.args.pieces old) c.loop-i.i (c.loop-i.i + 1) c.loop-i.kept (c.loop-i.kept + 1) _ _ _ refl refl
             (elim w.then-number-eq0.branch [
-              | then-number-eq0-via-then-number-eq0 v ↦ first_stays text_of s c.args.lines c.args.pieces old c.loop-i.i (rw c.nth_piece-number.ensures at v.if-number-eq0.true)
+              | then-number-eq0-via-then-number-eq0 v ↦ first_stays text_of s c.args.lines c.args.pieces old c.loop-i.i (rw c.nth_piece-number.ensures.nth at v.if-number-eq0.true)
               | then-number-eq0-via-else-number-eq0+then-has_text v ↦ texts_stay text_of s c.args.lines c.args.pieces old c.loop-i.i (sym there ∙ sym v.has_text.ensures ∙ v.if-has_text.true)
             ])
             i.thins w.swap.ensures.swapped (omega (arith, same, c.loop-i-test.true, c.count-i-end.ensures.count));
@@ -36,10 +36,10 @@ loop-i-preserved g c =
       | else-number-eq0+else-has_text w ↦ rw (w.records-is, w.kept-is) (record {
         well = i.well;
         thins = thins_gone s.lines (is_empty_piece text_of s c.args.lines c.args.pieces old) c.loop-i.i (c.loop-i.i + 1) c.loop-i.kept _ _ refl
-            (others_go text_of s c.args.lines c.args.pieces old c.loop-i.i (rw c.nth_piece-number.ensures at w.if-number-eq0.false) (sym there ∙ sym w.has_text.ensures ∙ w.if-has_text.false))
+            (others_go text_of s c.args.lines c.args.pieces old c.loop-i.i (rw c.nth_piece-number.ensures.nth at w.if-number-eq0.false) (sym there ∙ sym w.has_text.ensures ∙ w.if-has_text.false))
             i.thins;
       })
     ]
 
 pub returns-clause-dropped : goal.returns-clause-dropped
-returns-clause-dropped g c = thins_all _ _ c.loop-i.i c.loop-i.kept _ _ _ (omega (arith, c.loop-i-test.false, c.loop-i.auto.i-end, c.count-i-end.ensures.count)) c.loop-i.invariant.thins c.truncate.ensures.first
+returns-clause-dropped g c = thins_all _ _ c.loop-i.i c.loop-i.kept _ _ _ (omega (arith, c.loop-i-test.false, c.loop-i.auto.i-end, c.count-i-end.ensures.count)) c.loop-i.invariant.thins c.truncate_lines.ensures.first

@@ -1,6 +1,6 @@
 use Rattle.std.proofs.Common.{◌≡◌, ◌∙◌, sym, arith}
 use Rattle.tabled_grid.specs.Along.{count_along}
-use Rattle.tabled_grid.specs.Pieces.{across}
+use Rattle.tabled_grid.specs.Axis.{across}
 use Rattle.tabled_settings.proofs.PieceTexts.{text_found, text_missed}
 use Rattle.tabled_settings.proofs.pieces.has_text.Goals as goal
 

@@ -3,7 +3,7 @@ use Rattle.std.specs.Prelude.{T, min}
 use Rattle.std.specs.FinMap.{is_sorted}
 use Rattle.tabled_grid.specs.Covers.{Cover}
 use Rattle.tabled_grid.specs.Spans.{position_cmp, size_at, with_sizes}
-use Rattle.tabled_spans.specs.Spanned.{count_of, index}
+use Rattle.tabled_grid.specs.Axis.{count_of, line_of}
 use Rattle.tabled_spans.proofs.Reach.{inside-reach}
 use Rattle.tabled_spans.proofs.RisingPlaces.{ones, sorted_inside}
 use Rattle.tabled_spans.proofs.SpanChanges.{changes-more, cover-change, line_within, reach_end, size-before, sorted-change}
@@ -21,24 +21,24 @@ loop-pos-init c =
       hints = search rules;
     }
 
-pub overflow_sub-line_of : goal.overflow_sub-line_of
-overflow_sub-line_of c =
+pub overflow_sub-line : goal.overflow_sub-line
+overflow_sub-line c =
     let here = (rw c.in-Some.ensures.steps at c.loop-pos.invariant.within).0 in
     let corner = c.first_named-first.ensures in
     let line = line_within c.args.axis c.first_named-first.result c.in-Some.pos (c.reach-bottom.result.0 - c.first_named-first.result.row) (c.reach-bottom.result.1 - c.first_named-first.result.col) (corner.row c.in-Some.pos here.0) (omega (arith, here.1.row, corner.rows)) (corner.col c.in-Some.pos here.0) (omega (arith, here.1.col, corner.columns)) in
-    omega (arith, line.0, c.line_of.ensures, c.line_of-in-loop-pos.ensures)
+    omega (arith, line.0, (rw c.across-across.ensures at c.line_of-line.ensures), (rw c.across-across.ensures at c.line_of-first_line.ensures))
 
 pub index_mut-hint-requires : goal.index_mut-hint-requires
 index_mut-hint-requires c =
     let here = (rw c.in-Some.ensures.steps at c.loop-pos.invariant.within).0 in
     let corner = c.first_named-first.ensures in
     let line = line_within c.args.axis c.first_named-first.result c.in-Some.pos (c.reach-bottom.result.0 - c.first_named-first.result.row) (c.reach-bottom.result.1 - c.first_named-first.result.col) (corner.row c.in-Some.pos here.0) (omega (arith, here.1.row, corner.rows)) (corner.col c.in-Some.pos here.0) (omega (arith, here.1.col, corner.columns)) in
-    omega (arith, line.0, line.1, c.line_of.ensures, c.line_of-in-loop-pos.ensures, c.loop-pos.invariant.hints, c.loop-pos.hints.ok.0)
+    omega (arith, line.0, line.1, (rw c.across-across.ensures at c.line_of-line.ensures), (rw c.across-across.ensures at c.line_of-first_line.ensures), c.loop-pos.invariant.hints, c.loop-pos.hints.ok.0)
 
 pub grow_at-requires-clause-some : goal.grow_at-requires-clause-some
 grow_at-requires-clause-some c =
     let here = (rw c.in-Some.ensures.steps at c.loop-pos.invariant.within).0 in
-    omega (arith, here.1.line, c.min-many.ensures, c.index.ensures, c.count_of-count.ensures, c.requires)
+    omega (arith, here.1.line, c.min-many.ensures, c.line_of-index.ensures, c.count_of-count.ensures, c.requires)
 
 pub grow_at-requires-clause-within : goal.grow_at-requires-clause-within
 grow_at-requires-clause-within c =
@@ -46,7 +46,7 @@ grow_at-requires-clause-within c =
     let begin : c.loop-pos.cover.first ≡ c.first_named-first.result = ap (λ (k : Cover). k.first) c.loop-pos.invariant.cover in
     let tall : c.loop-pos.cover.rows ≡ (c.reach-bottom.result.0 - c.first_named-first.result.row) = ap (λ (k : Cover). k.rows) c.loop-pos.invariant.cover in
     let wide : c.loop-pos.cover.columns ≡ (c.reach-bottom.result.1 - c.first_named-first.result.col) = ap (λ (k : Cover). k.columns) c.loop-pos.invariant.cover in
-    rw (begin, tall, wide) (reach_end c.args.axis c.first_named-first.result c.reach-bottom.result.0 c.reach-bottom.result.1 _ c.first_named-first.ensures.rows c.first_named-first.ensures.columns (omega (arith, here.1.end, c.min-many.ensures, c.index.ensures, c.count_of-count.ensures)))
+    rw (begin, tall, wide) (reach_end c.args.axis c.first_named-first.result c.reach-bottom.result.0 c.reach-bottom.result.1 _ c.first_named-first.ensures.rows c.first_named-first.ensures.columns (omega (arith, here.1.end, c.min-many.ensures, c.line_of-index.ensures, c.count_of-count.ensures)))
 
 pub loop-pos-preserved : goal.loop-pos-preserved
 loop-pos-preserved c =
@@ -62,8 +62,8 @@ loop-pos-preserved c =
     let before : size_at m p ≡ size_at cfg p = size-before cfg xs p (1, 1) (ones rest) up in
     let added = c.in_ok-grow_at.ensures.ok m c.first_named-first.result (c.reach-bottom.result.0 - c.first_named-first.result.row) (c.reach-bottom.result.1 - c.first_named-first.result.col) c.loop-pos.invariant.cover before in
     let covered = c.in_ok-grow_at.ensures.cover m c.first_named-first.result (c.reach-bottom.result.0 - c.first_named-first.result.row) (c.reach-bottom.result.1 - c.first_named-first.result.col) c.loop-pos.invariant.cover before in
-    let some : 1 ≤ many = omega (arith, here.0.1.line, c.min-many.ensures, c.index.ensures, c.count_of-count.ensures, c.requires) in
-    let is : many ≡ min c.args.size (count_of axis c.args.rows c.args.columns - index axis p) = c.min-many.ensures ∙ rw (c.index.ensures, c.count_of-count.ensures) refl in
+    let some : 1 ≤ many = omega (arith, here.0.1.line, c.min-many.ensures, c.line_of-index.ensures, c.count_of-count.ensures, c.requires) in
+    let is : many ≡ min c.args.size (count_of axis c.args.rows c.args.columns - line_of axis p) = c.min-many.ensures ∙ rw (c.line_of-index.ensures, c.count_of-count.ensures) refl in
     record {
       within = here.1;
       cover = covered ∙ cover-change cfg xs _ axis p many c.first_named-first.result (c.reach-bottom.result.0 - c.first_named-first.result.row) (c.reach-bottom.result.1 - c.first_named-first.result.col) added;

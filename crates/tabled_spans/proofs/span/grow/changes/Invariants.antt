@@ -6,8 +6,9 @@ use Rattle.tabled_grid.specs.Covers.{cover_in}
 use Rattle.tabled_grid.specs.Entity.{inside, names}
 use Rattle.tabled_grid.specs.Spans.{IsSizeAt, position_cmp, with_sizes}
 use Rattle.tabled_grid.specs.declared.config.position.Position.{Position}
-use Rattle.tabled_spans.specs.Spanned.{count_of, grown_each}
-use Rattle.tabled_spans.specs.SpanSteps.{InReach, lines_of}
+use Rattle.tabled_grid.specs.Axis.{across, count_of}
+use Rattle.tabled_spans.specs.Spanned.{grown_each}
+use Rattle.tabled_spans.specs.SpanSteps.{InReach}
 use Rattle.tabled_spans.proofs.RisingPlaces.{ones}
 use Rattle.tabled_spans.proofs.span.grow.changes.Given as goal
 
@@ -21,5 +22,5 @@ invariant-loop-pos l =
       sorted : T (is_sorted position_cmp (l.changes.items ++ ones l.pos-iterator));
       full : AllByRecursion IsSizeAt l.changes.items;
       sizes : grown_each l.axis l.size n m l.pos-iterator ≡ grown_each l.axis l.size n l.cfg (inside l.fn.entity l.rows l.columns);
-      hints : length l.hints.items ≡ lines_of l.axis l.height l.width;
+      hints : length l.hints.items ≡ count_of (across l.axis) l.height l.width;
     }

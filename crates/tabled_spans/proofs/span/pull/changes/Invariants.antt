@@ -5,7 +5,8 @@ use Rattle.std.specs.List.{AllByRecursion}
 use Rattle.tabled_grid.specs.Entity.{inside}
 use Rattle.tabled_grid.specs.Spans.{IsSizeAt, position_cmp, with_sizes}
 use Rattle.tabled_grid.specs.declared.config.position.Position.{Position}
-use Rattle.tabled_spans.specs.Spanned.{count_of, pulled_each}
+use Rattle.tabled_grid.specs.Axis.{count_of}
+use Rattle.tabled_spans.specs.Spanned.{pulled_each}
 use Rattle.tabled_spans.proofs.span.pull.changes.Given as goal
 
 abbrev pub invariant-loop-pos : goal.invariant-loop-pos

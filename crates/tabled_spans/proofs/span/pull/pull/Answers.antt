@@ -12,7 +12,7 @@ loop-k-init g c =
       well = c.in_ok-set.ensures.well;
       rows = c.in_ok-set.ensures.rows;
       columns = c.in_ok-set.ensures.columns;
-      texts = pull-start c.args.axis c.args.pos c.args.first c.args.many (texts c.args.records.now) (texts c.set.new.self) c.get_text.result.now (string_bytes c.in_ok-text.text) c.at_index.result c.get_text.ensures c.in_ok-text.ensures.ok c.at_index.ensures c.in_ok-set.ensures.texts;
+      texts = pull-start c.args.axis c.args.pos c.args.first c.args.many (texts c.args.records.now) (texts c.set.new.self) c.get_text.result.now (string_bytes c.in_ok-text.text) c.in_line.result c.get_text.ensures c.in_ok-text.ensures.ok c.in_line.ensures c.in_ok-set.ensures.texts;
     }
 
 pub loop-k-preserved : goal.loop-k-preserved
@@ -22,5 +22,5 @@ loop-k-preserved g c =
       well = c.in_ok-set-2.ensures.well;
       rows = search rules;
       columns = search rules;
-      texts = pull-more (pulling c.args.axis c.args.pos (c.args.first, c.args.many) (texts c.args.records.now)) (texts c.args.records.now) c.args.axis c.args.pos c.loop-k.k (c.args.first + c.args.many) (texts c.loop-k.records) (texts c.set-in-loop-k.new.self) (string_bytes c.new.result) c.at_index-in-loop-k.result (omega arith) c.new.ensures.bytes c.at_index-in-loop-k.ensures c.in_ok-set-2.ensures.texts c.loop-k.invariant.texts;
+      texts = pull-more (pulling c.args.axis c.args.pos (c.args.first, c.args.many) (texts c.args.records.now)) (texts c.args.records.now) c.args.axis c.args.pos c.loop-k.k (c.args.first + c.args.many) (texts c.loop-k.records) (texts c.set-in-loop-k.new.self) (string_bytes c.new.result) c.in_line-in-loop-k.result (omega arith) c.new.ensures.bytes c.in_line-in-loop-k.ensures c.in_ok-set-2.ensures.texts c.loop-k.invariant.texts;
     }

@@ -2,7 +2,8 @@ use Rattle.std.proofs.Common.{◌≡◌, ◌∙◌, refl}
 use Rattle.tabled_grid.specs.Grid.{map_grid}
 use Rattle.tabled_grid.proofs.Places.{inside-within}
 use Rattle.tabled_options.proofs.Results.{on_err}
-use Rattle.tabled_spans.specs.Spanned.{count_of, index, pull_writes_on, taken}
+use Rattle.tabled_grid.specs.Axis.{count_of, line_of}
+use Rattle.tabled_spans.specs.Spanned.{pull_writes_on, taken}
 use Rattle.tabled_spans.proofs.SpanWrites.{cells_is, continues-start, pulled-first, pulled-here}
 use Rattle.tabled_spans.proofs.span.pull.pull_texts.Goals as goal
 
@@ -27,7 +28,7 @@ returns-in_err-pull-clause-err g c =
     let old = map_grid g.R.Cell.CellText.text_of start in
     let n = count_of c.args.axis start.rows start.columns in
     let before = map_grid g.R.Cell.CellText.text_of (g.R.GridStore.grid c.loop-pos.records) in
-    let cells : c.taken-first.result ≡ taken c.args.back n (index c.args.axis c.in-Some.pos) = cells_is c.args.axis c.in-Some.pos c.args.back c.count_of-count.result c.index.result c.count_rows-rows.result c.count_columns-columns.result start.rows start.columns c.taken-first.result c.taken-first.ensures c.count_of-count.ensures c.count_rows-rows.ensures.rows c.count_columns-columns.ensures.columns c.index.ensures in
+    let cells : c.taken-first.result ≡ taken c.args.back n (line_of c.args.axis c.in-Some.pos) = cells_is c.args.axis c.in-Some.pos c.args.back c.count_of-count.result c.line_of.result c.count_rows-rows.result c.count_columns-columns.result start.rows start.columns c.taken-first.result c.taken-first.ensures c.count_of-count.ensures c.count_rows-rows.ensures.rows c.count_columns-columns.ensures.columns c.line_of.ensures in
     on_err c.from_residual.result (pulled-first (pull_writes_on c.args.axis c.args.back c.args.entity old) old c.args.axis c.args.back n c.in-Some.pos c.next.new.self c.taken-first.result cells before (rw c.in-Some.ensures.steps at c.loop-pos.invariant.texts) (map_grid g.R.Cell.CellText.text_of (g.R.GridStore.grid c.pull.new.records)) c.in_err-pull.ensures.err)
 
 pub loop-pos-preserved : goal.loop-pos-preserved
@@ -36,7 +37,7 @@ loop-pos-preserved g c =
     let old = map_grid g.R.Cell.CellText.text_of start in
     let n = count_of c.args.axis start.rows start.columns in
     let before = map_grid g.R.Cell.CellText.text_of (g.R.GridStore.grid c.loop-pos.records) in
-    let cells : c.taken-first.result ≡ taken c.args.back n (index c.args.axis c.in-Some.pos) = cells_is c.args.axis c.in-Some.pos c.args.back c.count_of-count.result c.index.result c.count_rows-rows.result c.count_columns-columns.result start.rows start.columns c.taken-first.result c.taken-first.ensures c.count_of-count.ensures c.count_rows-rows.ensures.rows c.count_columns-columns.ensures.columns c.index.ensures in
+    let cells : c.taken-first.result ≡ taken c.args.back n (line_of c.args.axis c.in-Some.pos) = cells_is c.args.axis c.in-Some.pos c.args.back c.count_of-count.result c.line_of.result c.count_rows-rows.result c.count_columns-columns.result start.rows start.columns c.taken-first.result c.taken-first.ensures c.count_of-count.ensures c.count_rows-rows.ensures.rows c.count_columns-columns.ensures.columns c.line_of.ensures in
     record {
       can = tt;
       ends = tt;

@@ -4,12 +4,12 @@ use Rattle.std.specs.Int.{div_ceil}
 use Rattle.tabled_grid.specs.Along.{count_along}
 use Rattle.tabled_grid.specs.Entity.{place}
 use Rattle.tabled_grid.specs.Grid.{grid_of, map_items}
-use Rattle.tabled_grid.specs.Pieces.{across, cut_places}
-use Rattle.tabled_grid.specs.Places.{count_of}
-use Rattle.tabled_grid.proofs.PiecePlaces.{pieces_take_once, some_lines}
+use Rattle.tabled_grid.specs.Axis.{across, count_of}
+use Rattle.tabled_grid.specs.Pieces.{cut_places}
+use Rattle.tabled_grid.proofs.PiecePlaces.{pieces_take_once, some_lines, some_of}
 use Rattle.tabled_grid.proofs.Through.{Within, blank_rows, from_inside, through_cell, through_gap, through_none, through_row}
 use Rattle.tabled_grid.proofs.records.nested_rows.pieces.cut_lines.Goals as goal
-use Rattle.tabled_grid.proofs.records.nested_rows.pieces.cut_lines.Goals.{in-Rows, in-Columns, in-Some-old_place, in_default-old_place}
+use Rattle.tabled_grid.proofs.records.nested_rows.pieces.cut_lines.Goals.{in-Some-old_place, in_default-old_place}
 
 pub loop-row-init : goal.loop-row-init
 loop-row-init g c =
@@ -18,24 +18,15 @@ loop-row-init g c =
     let narrow : c.args.index < c.count-width.result = omega (arith, width, c.requires.narrow) in
     let all : c.in-Some.all ≡ c.count-lines.result * div_ceil c.count-width.result c.args.index = rw (← c.div_ceil.ensures) c.in-Some.ensures.1 in
     let pieces : 0 < c.count-lines.result * div_ceil c.count-width.result c.args.index = some_lines c.args.axis c.args.order c.args.index c.count-lines.result c.count-width.result some c.requires.index narrow in
-    let tall : c.match-axis.tall.0 ≡ count_of c.args.axis (c.count-lines.result * div_ceil c.count-width.result c.args.index) c.args.index = elim c.match-axis.branch [
-      | in-Rows w ↦ rw w.in-Rows.is (ap (λ (p : ℕ × ℕ). p.0) w.tall-is ∙ all)
-      | in-Columns w ↦ rw w.in-Columns.is (ap (λ (p : ℕ × ℕ). p.0) w.tall-is)
-    ] in
-    let wide : c.match-axis.tall.1 ≡ count_of c.args.axis c.args.index (c.count-lines.result * div_ceil c.count-width.result c.args.index) = elim c.match-axis.branch [
-      | in-Rows w ↦ rw w.in-Rows.is (ap (λ (p : ℕ × ℕ). p.1) w.tall-is)
-      | in-Columns w ↦ rw w.in-Columns.is (ap (λ (p : ℕ × ℕ). p.1) w.tall-is ∙ all)
-    ] in
-    let any : 0 < c.match-axis.tall.0 = elim c.match-axis.branch [
-      | in-Rows w ↦ omega (arith, ap (λ (p : ℕ × ℕ). p.0) w.tall-is, all, pieces)
-      | in-Columns w ↦ omega (arith, ap (λ (p : ℕ × ℕ). p.0) w.tall-is, c.requires.index)
-    ] in
-    let count : length (map_items c.in_ok-cut.cut.items) ≡ c.match-axis.tall.0 = length-map c.in_ok-cut.cut.items _ ∙ c.in_ok-cut.ensures.many in
-    let blanks = blank_rows g.T.Blank.is_blank c.match-axis.tall.1 (map_items c.in_ok-cut.cut.items) (omega (arith, any, count)) c.in_ok-cut.ensures.blanks in
+    let tall = c.count_of-tall.ensures ∙ ap (λ n. count_of c.args.axis n c.args.index) all in
+    let wide = c.count_of-wide.ensures ∙ ap (count_of c.args.axis c.args.index) all in
+    let any : 0 < c.count_of-tall.result = rw tall (some_of c.args.axis _ _ pieces c.requires.index) in
+    let count : length (map_items c.in_ok-cut.cut.items) ≡ c.count_of-tall.result = length-map c.in_ok-cut.cut.items _ ∙ c.in_ok-cut.ensures.many in
+    let blanks = blank_rows g.T.Blank.is_blank c.count_of-wide.result (map_items c.in_ok-cut.cut.items) (omega (arith, any, count)) c.in_ok-cut.ensures.blanks in
     record {
       tall = tall;
       wide = wide;
-      moves = through_none g.T.Blank.is_blank (cut_places c.args.axis c.args.order c.args.index c.count-lines.result c.count-width.result) (grid_of (map_items c.args.rows.now.items)) c.match-axis.tall.1 (grid_of (map_items c.in_ok-cut.cut.items))
+      moves = through_none g.T.Blank.is_blank (cut_places c.args.axis c.args.order c.args.index c.count-lines.result c.count-width.result) (grid_of (map_items c.args.rows.now.items)) c.count_of-wide.result (grid_of (map_items c.in_ok-cut.cut.items))
           c.count-lines.ensures.even blanks.0 (count ∙ tall) blanks.1 wide c.in_ok-cut.ensures.blanks;
     }
 

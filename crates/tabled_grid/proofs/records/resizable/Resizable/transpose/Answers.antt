@@ -1,5 +1,6 @@
 use Rattle.std.proofs.Common.{◌≡◌, ◌+◌, ◌-◌, ◌∙◌, refl, arith}
-use Rattle.tabled_grid.proofs.Squares.{square_begins, square_begun, square_cut, square_cut_to_none, square_made, square_more, square_row, square_swapped}
+use Rattle.tabled_grid.proofs.Squares.{square_begins, square_begun, square_cut, square_made, square_more, square_row, square_swapped}
+use Rattle.tabled_grid.proofs.Transposed.{transposed_none}
 use Rattle.tabled_grid.proofs.records.resizable.Resizable.transpose.Goals as goal
 
 pub loop-i-init : goal.loop-i-init
@@ -36,14 +37,11 @@ loop-i-preserved g c =
     let i = c.loop-j.invariant in
     record { well = i.well; square = i.square; turned = square_row _ _ _ _ _ _ i.turned (c.loop-i.i + 1) refl (omega (arith, c.loop-j-test.false)) }
 
-pub returns-then-columns-gt0-clause-ok : goal.returns-then-columns-gt0-clause-ok
-returns-then-columns-gt0-clause-ok g c =
+pub returns-then-columns-eq0-clause-ok : goal.returns-then-columns-eq0-clause-ok
+returns-then-columns-eq0-clause-ok g c = transposed_none _ _ c.count_rows-rows.ensures.even (omega (arith, c.count_columns-columns.ensures.columns, c.if-columns-eq0.true)) c.truncate_rows.ensures.first
+
+pub returns-clause-ok : goal.returns-clause-ok
+returns-clause-ok g c =
     let i = c.loop-i.invariant in
     square_cut _ _ _ _ _ i.turned c.count_rows-rows.ensures.even i.square (omega (arith, c.count_columns-columns.ensures.columns, c.max-size.ensures)) (omega (arith, c.loop-i-test.false))
-    _ _ _ _ c.count_rows-rows.ensures.rows c.count_columns-columns.ensures.columns (omega (arith, c.if-columns-gt0.true)) c.truncate_rows-2.ensures.first c.truncate_columns.ensures.first
-
-pub returns-else-columns-gt0-clause-ok : goal.returns-else-columns-gt0-clause-ok
-returns-else-columns-gt0-clause-ok g c =
-    let i = c.loop-i.invariant in
-    square_cut_to_none _ _ _ _ _ i.turned c.count_rows-rows.ensures.even i.square (omega (arith, c.count_columns-columns.ensures.columns, c.max-size.ensures)) (omega (arith, c.loop-i-test.false))
-    _ _ c.count_columns-columns.ensures.columns (omega (arith, c.if-columns-gt0.false)) c.truncate_rows-2.ensures.first
+    _ _ _ _ c.count_rows-rows.ensures.rows c.count_columns-columns.ensures.columns (omega (arith, c.if-columns-eq0.false)) c.truncate_rows-2.ensures.first c.truncate_columns.ensures.first

@@ -2,28 +2,22 @@ use Rattle.std.proofs.Common.{◌≡◌, ℕ, ◌+◌, ◌*◌, ◌∙◌, sym, 
 use Rattle.std.specs.Int.{div_ceil}
 use Rattle.tabled_grid.specs.Along.{count_along}
 use Rattle.tabled_grid.specs.Entity.{place}
-use Rattle.tabled_grid.specs.Pieces.{across, cut_places}
-use Rattle.tabled_grid.specs.Places.{count_of}
+use Rattle.tabled_grid.specs.Axis.{across, count_of}
+use Rattle.tabled_grid.specs.Pieces.{cut_places}
 use Rattle.tabled_grid.proofs.PiecePlaces.{pieces_take_once}
 use Rattle.tabled_grid.proofs.Through.{Within, from_inside, through_cell, through_all, through_gap, through_none, through_row}
 use Rattle.tabled_grid.proofs.records.vec_records.VecRecords.cut_lines.Goals as goal
-use Rattle.tabled_grid.proofs.records.vec_records.VecRecords.cut_lines.Goals.{in-Rows, in-Columns, in-Some-old_place, in_default-old_place}
+use Rattle.tabled_grid.proofs.records.vec_records.VecRecords.cut_lines.Goals.{in-Some-old_place, in_default-old_place}
 
 pub loop-row-init : goal.loop-row-init
 loop-row-init g c =
     let all : c.in-Some.all ≡ c.count-lines.result * div_ceil c.count-width.result c.args.index = rw (← c.div_ceil.ensures) c.in-Some.ensures.1 in
-    let rows : c.match-axis.rows.0 ≡ count_of c.args.axis (c.count-lines.result * div_ceil c.count-width.result c.args.index) c.args.index = elim c.match-axis.branch [
-      | in-Rows w ↦ rw w.in-Rows.is (ap (λ (p : ℕ × ℕ). p.0) w.rows-is ∙ all)
-      | in-Columns w ↦ rw w.in-Columns.is (ap (λ (p : ℕ × ℕ). p.0) w.rows-is)
-    ] in
-    let columns : c.match-axis.rows.1 ≡ count_of c.args.axis c.args.index (c.count-lines.result * div_ceil c.count-width.result c.args.index) = elim c.match-axis.branch [
-      | in-Rows w ↦ rw w.in-Rows.is (ap (λ (p : ℕ × ℕ). p.1) w.rows-is)
-      | in-Columns w ↦ rw w.in-Columns.is (ap (λ (p : ℕ × ℕ). p.1) w.rows-is ∙ all)
-    ] in
+    let rows = c.count_of-rows.ensures ∙ ap (λ n. count_of c.args.axis n c.args.index) all in
+    let columns = c.count_of-columns.ensures ∙ ap (count_of c.args.axis c.args.index) all in
     record {
       rows = rows;
       columns = columns;
-      moves = through_none g.T.Blank.is_blank (cut_places c.args.axis c.args.order c.args.index c.count-lines.result c.count-width.result) c.args.self.now c.match-axis.rows.1 c.in_ok-cut.cut
+      moves = through_none g.T.Blank.is_blank (cut_places c.args.axis c.args.order c.args.index c.count-lines.result c.count-width.result) c.args.self.now c.count_of-columns.result c.in_ok-cut.cut
           c.count-lines.ensures.even c.in_ok-cut.ensures.even (c.in_ok-cut.ensures.rows ∙ rows) c.in_ok-cut.ensures.columns columns c.in_ok-cut.ensures.blanks;
     }
 

@@ -1,8 +1,15 @@
 use Rattle.std.proofs.Common.{rules, ◌≡◌, ◌+◌, arith}
 use Rattle.std.proofs.lemmas.Grind.{common_steps}
 use Rattle.std.specs.Vec.{with_items}
+use Rattle.tabled_grid.proofs.AddedColumns.{columns_added_none}
 use Rattle.tabled_grid.proofs.FlatStore.{columns_put, full_put}
 use Rattle.tabled_grid.proofs.records.vec_records.resizable.VecRecordsResizable.push_columns.Goals as goal
+
+pub returns-then-many-eq0-clause-rowless : goal.returns-then-many-eq0-clause-rowless
+returns-then-many-eq0-clause-rowless g c = rw (← c.self.view_is) c.self.invariant.rowless
+
+pub returns-then-many-eq0-clause-ok : goal.returns-then-many-eq0-clause-ok
+returns-then-many-eq0-clause-ok g c = rw c.if-many-eq0.true (columns_added_none g.T.Blank.is_blank _)
 
 pub invariant_of-self-2 : goal.invariant_of-self-2
 invariant_of-self-2 g c =

@@ -1,0 +1,45 @@
+-- Rows and columns, said once for both: a line is a row or a column.
+use Rattle.std.specs.Prelude.{ℕ, ◌+◌}
+use Rattle.tabled_grid.specs.Entity.{place}
+use Rattle.tabled_grid.specs.declared.config.position.Position.{Position}
+use Rattle.tabled_grid.specs.declared.records.axis.Axis.{Axis}
+use Rattle.tabled_grid.specs.declared.records.axis.Axis.TheVariants.{Rows, Columns}
+
+-- columns for rows, rows for columns
+abbrev pub across : Axis → Axis
+across Rows = Columns
+across Columns = Rows
+
+-- the number of rows, or that of columns
+abbrev pub count_of : Axis → ℕ → ℕ → ℕ
+count_of Rows rows columns = rows
+count_of Columns rows columns = columns
+
+-- the place of a cell of a line
+abbrev pub place_in : Axis → ℕ → ℕ → Position
+place_in Rows i j = place i j
+place_in Columns i j = place j i
+
+-- the index of a place's line
+abbrev pub line_of : Axis → Position → ℕ
+line_of Rows p = p.row
+line_of Columns p = p.col
+
+-- the same place in another line
+abbrev pub in_line : Axis → Position → ℕ → Position
+in_line Rows p i = place i p.col
+in_line Columns p j = place p.row j
+
+-- the place beside this one in the next line
+abbrev pub next_line : Axis → Position → Position
+next_line axis p = in_line axis p (line_of axis p + 1)
+
+-- how many lines a size takes
+abbrev pub lines_in : Axis → ℕ × ℕ → ℕ
+lines_in Rows size = size.0
+lines_in Columns size = size.1
+
+-- the size with so many lines
+abbrev pub resized : Axis → ℕ × ℕ → ℕ → ℕ × ℕ
+resized Rows size many = (many, size.1)
+resized Columns size many = (size.0, many)

@@ -1,0 +1,15 @@
+use Rattle.std.proofs.Common.{ℕ, ◌≤◌}
+use Rattle.tabled_grid.specs.Axis.{resized}
+use Rattle.tabled_grid.specs.declared.records.axis.Axis.{Axis}
+use Rattle.tabled_grid.specs.declared.records.axis.Axis.TheVariants.{Rows, Columns}
+use Rattle.tabled_spans.proofs.span.along.resized.Goals as goal
+
+full : (axis : Axis) (size : ℕ × ℕ) (many : ℕ) → 1 ≤ size.0 → 1 ≤ size.1 → 1 ≤ many → (1 ≤ (resized axis size many).0) × (1 ≤ (resized axis size many).1)
+full Rows size many height width some = (some, width)
+full Columns size many height width some = (height, some)
+
+pub returns-clause-height : goal.returns-clause-height
+returns-clause-height c = rw c.resized.ensures (full c.args.axis c.args.size c.args.many c.requires.height c.requires.width c.requires.some).0
+
+pub returns-clause-width : goal.returns-clause-width
+returns-clause-width c = rw c.resized.ensures (full c.args.axis c.args.size c.args.many c.requires.height c.requires.width c.requires.some).1
