@@ -1,5 +1,5 @@
 -- Where the cells of pieces come from, where all pieces are kept, and pieces glued together.
-use Rattle.std.specs.Prelude.{◌≡◌, ℕ, ◌+◌, ◌*◌, if◌then◌else◌, List, [], Some, map, slice_index_or, take}
+use Rattle.std.specs.Prelude.{◌≡◌, ℕ, if◌then◌else◌, List, [], Some, map, slice_index_or, take}
 use Rattle.std.specs.Int.{div_ceil}
 use Rattle.std.specs.List.{filter, flat_map, range_with_len}
 use Rattle.tabled_grid.specs.Flat.{joined}

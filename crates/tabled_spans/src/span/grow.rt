@@ -132,13 +132,12 @@ fn changes(
     // A hint for each line that spans go along: a column for spans of rows, a row for those of columns.
     let across = axis.across();
     let mut hints = vec![in alloc; 0; across.count_of(height, width)]?;
-    let first_line = across.line_of(first);
     let mut changes = Vec::new(alloc);
     for pos in entity.iter(rows, columns) {
         let index = axis.line_of(pos);
         let many = size.min(count - index);
         let line = across.line_of(pos);
-        let hint = &mut hints[line - first_line];
+        let hint = &mut hints[line - across.line_of(first)];
         grow_at(alloc, &mut cover, &mut changes, cfg, axis, pos, many, hint)?;
     }
     Ok(changes)

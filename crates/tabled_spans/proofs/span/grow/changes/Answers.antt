@@ -26,14 +26,14 @@ overflow_sub-line c =
     let here = (rw c.in-Some.ensures.steps at c.loop-pos.invariant.within).0 in
     let corner = c.first_named-first.ensures in
     let line = line_within c.args.axis c.first_named-first.result c.in-Some.pos (c.reach-bottom.result.0 - c.first_named-first.result.row) (c.reach-bottom.result.1 - c.first_named-first.result.col) (corner.row c.in-Some.pos here.0) (omega (arith, here.1.row, corner.rows)) (corner.col c.in-Some.pos here.0) (omega (arith, here.1.col, corner.columns)) in
-    omega (arith, line.0, (rw c.across-across.ensures at c.line_of-line.ensures), (rw c.across-across.ensures at c.line_of-first_line.ensures))
+    omega (arith, line.0, (rw c.across-across.ensures at c.line_of-line.ensures), (rw c.across-across.ensures at c.line_of.ensures))
 
 pub index_mut-hint-requires : goal.index_mut-hint-requires
 index_mut-hint-requires c =
     let here = (rw c.in-Some.ensures.steps at c.loop-pos.invariant.within).0 in
     let corner = c.first_named-first.ensures in
     let line = line_within c.args.axis c.first_named-first.result c.in-Some.pos (c.reach-bottom.result.0 - c.first_named-first.result.row) (c.reach-bottom.result.1 - c.first_named-first.result.col) (corner.row c.in-Some.pos here.0) (omega (arith, here.1.row, corner.rows)) (corner.col c.in-Some.pos here.0) (omega (arith, here.1.col, corner.columns)) in
-    omega (arith, line.0, line.1, (rw c.across-across.ensures at c.line_of-line.ensures), (rw c.across-across.ensures at c.line_of-first_line.ensures), c.loop-pos.invariant.hints, c.loop-pos.hints.ok.0)
+    omega (arith, line.0, line.1, (rw c.across-across.ensures at c.line_of-line.ensures), (rw c.across-across.ensures at c.line_of.ensures), c.loop-pos.invariant.hints, c.loop-pos.hints.ok.0)
 
 pub grow_at-requires-clause-some : goal.grow_at-requires-clause-some
 grow_at-requires-clause-some c =

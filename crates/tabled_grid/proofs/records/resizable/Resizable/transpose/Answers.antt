@@ -1,4 +1,4 @@
-use Rattle.std.proofs.Common.{◌≡◌, ◌+◌, ◌-◌, ◌∙◌, refl, arith}
+use Rattle.std.proofs.Common.{◌≡◌, ◌+◌, ◌-◌, refl, arith}
 use Rattle.tabled_grid.proofs.Squares.{square_begins, square_begun, square_cut, square_made, square_more, square_row, square_swapped}
 use Rattle.tabled_grid.proofs.Transposed.{transposed_none}
 use Rattle.tabled_grid.proofs.records.resizable.Resizable.transpose.Goals as goal
