@@ -1,3 +1,5 @@
+pub mod Copied
+pub mod Covering
 pub mod Keeps
 pub mod Results
 pub mod Shapes

@@ -1,6 +1,9 @@
 -- Options that act like others.
-use Rattle.std.proofs.Common.{inl, inr}
-use Rattle.tabled_options.specs.Does.{ActsLike, Change, Then, ThenLeaves}
+use Rattle.std.proofs.Common.{ℕ, zero, suc, List, [], ◌∷◌, Option, inl, inr, refl, sym, ap, subst}
+use Rattle.std.specs.List.{AllByRecursion, AllZip}
+use Rattle.std.specs.Option.{unwrap_or}
+use Rattle.tabled_grid.specs.Grid.{Grid}
+use Rattle.tabled_options.specs.Does.{ActsLike, Change, Each, EachUntil, EachUntilAt, TableActsLike, Then, ThenLeaves}
 
 -- two options act like two others, where each acts like the other in its place
 pub act_like_in_order : {A C X can can' more more' : Type 0} {does does' leaves leaves' next next' last last' : X → Change A C} → ActsLike can can' does does' leaves leaves' → ActsLike more more' next next' last last' → ActsLike (can × more) (can' × more') (λ x. Then (does x) (next x)) (λ x. Then (does' x) (next' x)) (λ x. ThenLeaves (does x) (leaves x) (last x)) (λ x. ThenLeaves (does' x) (leaves' x) (last' x))
@@ -12,3 +15,53 @@ act_like_in_order first second = record {
     | inr l ↦ inr (l.0, l.1, first.does_alike x g c l.0 l.1 l.2, second.leaves_alike x l.0 l.1 h d l.3)
   ];
 }
+
+-- so do the options of two lists
+module _ {A C X : Type 0} {can : X → Type 0} {does leaves : X → Change A C} {like : X → X → Type 0} (same : (x y : X) → like x y → TableActsLike (can x) (can y) (does x) (does y) (leaves x) (leaves y)) where
+  until_alike : (xs ys : List X) → AllZip like xs ys → (g : Grid A) (c : C) (h : Grid A) (d : C) (k : ℕ) → EachUntilAt does leaves ys k g c h d → EachUntil does leaves xs g c h d
+  until_alike [] [] alike g c h d k at = (k, at)
+  until_alike [] (y ∷ ys) alike g c h d k at = absurd alike
+  until_alike (x ∷ xs) [] alike g c h d k at = absurd alike
+  until_alike (x ∷ xs) (y ∷ ys) alike g c h d zero at = (
+    zero,
+    record {
+      item = x;
+      is = refl;
+      grid = at.grid;
+      configuration = at.configuration;
+      before = at.before;
+      left = (same x y alike.0).leaves_alike tt at.grid at.configuration h d (subst (λ item. leaves item at.grid at.configuration h d) (sym (ap (λ (o : Option X). unwrap_or o y) at.is)) at.left);
+    },
+  )
+  until_alike (x ∷ xs) (y ∷ ys) alike g c h d (suc k) at =
+      let first = at.before in
+      let rest = until_alike xs ys alike.1 first.0 first.1 h d k (record { item = at.item; is = at.is; grid = at.grid; configuration = at.configuration; before = first.3; left = at.left }) in (
+        suc rest.0,
+        record {
+          item = rest.1.item;
+          is = rest.1.is;
+          grid = rest.1.grid;
+          configuration = rest.1.configuration;
+          before = (first.0, first.1, (same x y alike.0).does_alike tt g c first.0 first.1 first.2, rest.1.before);
+          left = rest.1.left;
+        },
+      )
+
+  pub act_like_each : (xs ys : List X) → AllZip like xs ys → TableActsLike (AllByRecursion can xs) (AllByRecursion can ys) (Each does xs) (Each does ys) (EachUntil does leaves xs) (EachUntil does leaves ys)
+  act_like_each xs ys alike = record {
+    can_be_used = each_can xs ys alike;
+    does_alike = λ u. each_does xs ys alike;
+    leaves_alike = λ u g c h d left. until_alike xs ys alike g c h d left.0 left.1;
+  }
+    where
+      each_can : (xs ys : List X) → AllZip like xs ys → AllByRecursion can xs → AllByRecursion can ys
+      each_can [] [] alike can = tt
+      each_can [] (y ∷ ys) alike can = absurd alike
+      each_can (x ∷ xs) [] alike can = absurd alike
+      each_can (x ∷ xs) (y ∷ ys) alike can = ((same x y alike.0).can_be_used can.0, each_can xs ys alike.1 can.1)
+
+      each_does : (xs ys : List X) → AllZip like xs ys → (g : Grid A) (c : C) (h : Grid A) (d : C) → Each does ys g c h d → Each does xs g c h d
+      each_does [] [] alike g c h d e = e
+      each_does [] (y ∷ ys) alike g c h d e = absurd alike
+      each_does (x ∷ xs) [] alike g c h d e = absurd alike
+      each_does (x ∷ xs) (y ∷ ys) alike g c h d e = (e.0, e.1, (same x y alike.0).does_alike tt g c e.0 e.1 e.2, each_does xs ys alike.1 e.0 e.1 h d e.3)

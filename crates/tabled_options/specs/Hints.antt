@@ -1,7 +1,21 @@
 -- What hints of changes combine to.
-use Rattle.std.specs.Prelude.{Bool, true, false, ◌==◌, ◌&&◌, if◌then◌else◌, Option, Some, None}
+use Rattle.std.specs.Prelude.{◌≡◌, Bool, true, false, ◌==◌, ◌&&◌, if◌then◌else◌, Option, Some, None}
+use Rattle.tabled_grid.specs.Entity.{names}
 use Rattle.tabled_grid.specs.declared.config.entity.Entity.{Entity}
 use Rattle.tabled_grid.specs.declared.config.entity.Entity.TheVariants.{Global, Column, Row, Cell}
+use Rattle.tabled_grid.specs.declared.config.position.Position.{Position}
+
+-- each place that the second entity names, the first names too
+abbrev pub Covers : Entity → Entity → Type 0
+Covers a b = (p : Position) → names b p ≡ true → names a p ≡ true
+
+-- an entity covers both of two: it is the one that covers the other, or all cells where neither does
+pub record IsCombined (a b e : Entity) : Type 0 where
+  pub covers_first : Covers e a
+  pub covers_second : Covers e b
+  pub is_first : Covers a b → e ≡ a
+  pub is_second : Covers b a → e ≡ b
+  pub is_all : (Covers a b → ⊥) → (Covers b a → ⊥) → e ≡ Global
 
 -- all cells that the second entity names, the first names too
 abbrev pub covers : Entity → Entity → Bool

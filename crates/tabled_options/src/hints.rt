@@ -1,7 +1,7 @@
 //! Hints of what changes.
 
 ghost use Rattle.std.specs.Prelude.{◌≡◌};
-ghost use Rattle.tabled_options.specs.Hints.{combined, combined_hint, covers};
+ghost use Rattle.tabled_options.specs.Hints.{IsCombined, combined, combined_hint, covers};
 
 use tabled_grid::config::Entity;
 
@@ -9,7 +9,8 @@ use tabled_grid::config::Entity;
 ///
 /// Ported from `tabled::settings::settings_list::combine_entity`.
 pub fn combine_entity(a: Entity, b: Entity) -> Entity
-    ensures { result ≡ combined a b }
+    ensures exact { result ≡ combined a b }
+    ensures means { IsCombined a b result }
 {
     if covers(a, b) {
         a

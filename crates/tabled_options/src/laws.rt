@@ -50,6 +50,14 @@ where
     ensures pairs { CopiesAlike A.is_clone A.is_like _first.now → CopiesAlike B.is_clone B.is_like _second.now → CopiesAlike ⟦<(A, B) as Clone>⟧.is_clone ⟦<(A, B) as CellOption<R, C>>⟧.is_like (_first.now, _second.now) }
 {}
 
+/// Copies of a vector of options are like it, item by item, where those of its items are.
+pub fn vectors_copied<R, C, D, T>(_options: &Vec<T>)
+where
+    R: GridStore,
+    T: TableOption<R, C, D> + Clone + Drop,
+    ensures { AllByRecursion (CopiesAlike T.is_clone T.is_like) _options.now.items → CopiesAlike ⟦<Vec<T> as Clone>⟧.is_clone ⟦<Vec<T> as TableOption<R, C, D>>⟧.is_like _options.now }
+{}
+
 /// Settings on tables, and pairs, keep what both of their parts keep, also where they are refused.
 ///
 /// A longer tuple is the settings of the parts before its last one, and of that one.

@@ -1,7 +1,8 @@
 //! Lists of options.
 
 ghost use Rattle.std.specs.Prelude.{◌≡◌, ◌⊎◌, []};
-ghost use Rattle.std.specs.List.{AllByRecursion};
+ghost use Rattle.std.specs.List.{AllByRecursion, AllZip};
+ghost use Rattle.tabled_options.specs.Copies.{act_like_each};
 ghost use Rattle.tabled_options.specs.Does.{CopiesAlike, Each, EachUntil, NeverRefused, SameOr};
 ghost use Rattle.std.proofs.Common.{rules};
 
@@ -24,6 +25,8 @@ where
 
     ghost never_refused = { λ s. NeverRefused T.does T.never_refused s.items };
 
+    ghost is_like = { λ p q. AllZip T.is_like p.items q.items };
+
     fn change(
         self,
         alloc: Global,
@@ -42,7 +45,7 @@ where
         Some(Entity::Global)
     }
 
-    ghost acts_like = { Prim.search rules };
+    ghost acts_like = { λ p q e. act_like_each T.acts_like p.items q.items e };
 }
 
 /// Options in a slice, of which copies are applied in order. A refused copy or option ends the call
