@@ -1,6 +1,7 @@
 pub mod Filtered
 pub mod Inverted
 pub mod Located
+pub mod LocatedMarks
 pub mod MarkedPlaces
 pub mod NamedPlaces
 pub mod Shown

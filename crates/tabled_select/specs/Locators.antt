@@ -14,16 +14,16 @@ abbrev pub text_at : Grid (List ℕ) → Position → List ℕ
 text_at g p = unwrap_or (cell_at g p) []
 
 -- the text at a place is this one
-abbrev pub has_text : List ℕ → Grid (List ℕ) → Position → Bool
-has_text text g p = pointwise nat_eq (text_at g p) text
+abbrev pub text_is : List ℕ → Grid (List ℕ) → Position → Bool
+text_is text g p = pointwise nat_eq (text_at g p) text
 
 -- the places with a text, row by row
 abbrev pub places_with : List ℕ → Grid (List ℕ) → List Position
-places_with text g = filter (has_text text g) (inside Global g.rows g.columns)
+places_with text g = filter (text_is text g) (inside Global g.rows g.columns)
 
 -- the columns with a text in the first row
 abbrev pub columns_with : List ℕ → Grid (List ℕ) → List ℕ
-columns_with text g = map (λ (p : Position). p.col) (filter (has_text text g) (inside (Row 0) g.rows g.columns))
+columns_with text g = map (λ (p : Position). p.col) (filter (text_is text g) (inside (Row 0) g.rows g.columns))
 
 -- the places with a text to which the answer was yes, each asked for once, row by row
 abbrev pub PicksPlaces : (List ℕ → Bool → Type 0) → Grid (List ℕ) → List Position → Type 0

@@ -24,6 +24,16 @@ impl<B: ToBounds, R: Records> Location<R> for Columns<B> {
     fn locate(&mut self, _alloc: Global, records: &R) -> Result<Range<usize>, AllocError> {
         Ok(self.get_range().to_range(records.count_columns()))
     }
+
+    fn locate_below(
+        &mut self,
+        _alloc: Global,
+        records: &R,
+        limit: &usize,
+    ) -> Result<Range<usize>, AllocError> {
+        let range = self.get_range().to_range(records.count_columns());
+        Ok(range.start..range.end.min(*limit))
+    }
 }
 
 /// The index, also in a table that doesn't reach so far.

@@ -3,8 +3,9 @@
 //! A contract sees a location as the list of the coordinates that it finds in a table.
 
 ghost use Rattle.std.specs.Prelude.{◌≡◌, List, IfOk};
+ghost use Rattle.std.specs.Ordering.{partial_lt};
 ghost use Rattle.tabled_grid.specs.Grid.{Grid};
-ghost use Rattle.tabled_select.specs.Located.{GoesOver};
+ghost use Rattle.tabled_select.specs.Located.{AllOrThose, GoesOver};
 
 mod by_column_name;
 mod by_condition;
@@ -13,6 +14,7 @@ mod by_value;
 mod columns;
 mod found;
 mod locator;
+mod marking;
 mod rows;
 mod search;
 
@@ -22,6 +24,7 @@ pub use by_content::ByContent;
 pub use by_value::ByValue;
 pub use found::coordinates;
 pub use locator::Locator;
+pub use marking::marks;
 use std::alloc::{AllocError, Global};
 use tabled_grid::records::GridStore;
 
@@ -32,7 +35,7 @@ use tabled_grid::records::GridStore;
 /// Ported from `tabled::settings::location::Location`.
 pub trait Location<R: GridStore> {
     /// What is found: an index, or the place of a cell.
-    type Coordinate;
+    type Coordinate: PartialOrd;
 
     /// What goes over the coordinates.
     type IntoIter: IntoIterator<Item = Self::Coordinate> + Drop;
@@ -57,4 +60,24 @@ pub trait Location<R: GridStore> {
         ensures can { can_locate self.new }
         ensures left { is_left self.old self.new }
         ensures lists { IfOk result (λ found. (coordinates : List Self.Coordinate) × locates self.old (R.grid records.now) coordinates × GoesOver Self.IntoIter.into_iter_gives Self.IntoIter.IntoIter.can_next Self.IntoIter.IntoIter.next_gives Self.IntoIter.IntoIter.remaining found coordinates) };
+    /// Finds the coordinates, in order, and may leave out all that aren't below a limit. `Rows` and `Columns` do,
+    /// so that to go over them takes no longer than to count to the limit.
+    ///
+    /// Refused where memory runs out. The store is only read.
+    ///
+    /// Of this project.
+    fn locate_below(
+        &mut self,
+        alloc: Global,
+        records: &R,
+        limit: &Self::Coordinate,
+    ) -> Result<Self::IntoIter, AllocError>
+        requires well { R.is_well_formed records.now }
+        requires can { can_locate self.old }
+        ensures can { can_locate self.new }
+        ensures left { is_left self.old self.new }
+        ensures lists { IfOk result (λ found. (coordinates kept : List Self.Coordinate) × locates self.old (R.grid records.now) coordinates × AllOrThose (λ c. partial_lt Self.Coordinate.partial_cmp c limit.now) coordinates kept × GoesOver Self.IntoIter.into_iter_gives Self.IntoIter.IntoIter.can_next Self.IntoIter.IntoIter.next_gives Self.IntoIter.IntoIter.remaining found kept) }
+    {
+        self.locate(alloc, records)
+    }
 }

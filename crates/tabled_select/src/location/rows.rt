@@ -24,6 +24,16 @@ impl<B: ToBounds, R: ExactRecords> Location<R> for Rows<B> {
     fn locate(&mut self, _alloc: Global, records: &R) -> Result<Range<usize>, AllocError> {
         Ok(self.get_range().to_range(records.count_rows()))
     }
+
+    fn locate_below(
+        &mut self,
+        _alloc: Global,
+        records: &R,
+        limit: &usize,
+    ) -> Result<Range<usize>, AllocError> {
+        let range = self.get_range().to_range(records.count_rows());
+        Ok(range.start..range.end.min(*limit))
+    }
 }
 
 /// The index, also in a table that doesn't reach so far.

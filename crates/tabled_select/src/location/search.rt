@@ -7,7 +7,7 @@ ghost use Rattle.tabled_grid.specs.Entity.{inside};
 ghost use Rattle.tabled_grid.specs.Grid.{map_grid};
 ghost use Rattle.tabled_grid.specs.declared.config.position.Position.{Position};
 ghost use Rattle.tabled_grid.specs.declared.config.entity.Entity.TheVariants.{Cell, Column};
-ghost use Rattle.tabled_select.specs.Locators.{has_text, text_at};
+ghost use Rattle.tabled_select.specs.Locators.{text_is, text_at};
 ghost use Rattle.tabled_select.specs.Steps.{Filters};
 
 use std::alloc::{AllocError, Global};
@@ -89,7 +89,7 @@ where
     R: Records + ExactRecords + PeekableRecords,
     R::Cell: CellText,
     requires well { R.is_well_formed records.now }
-    ensures { IfOk result (λ all. all.items ≡ map K.kept (filter (has_text wanted.now (map_grid R.Cell.text_of (R.grid records.now))) (inside entity (R.grid records.now).rows (R.grid records.now).columns))) }
+    ensures { IfOk result (λ all. all.items ≡ map K.kept (filter (text_is wanted.now (map_grid R.Cell.text_of (R.grid records.now))) (inside entity (R.grid records.now).rows (R.grid records.now).columns))) }
 {
     search::<K, R, _>(alloc, records, entity, &|text: &str| text == wanted)
 }

@@ -1,6 +1,6 @@
 use Rattle.std.proofs.Common.{rules, ◌∙◌, ap, map}
 use Rattle.std.proofs.lemmas.Result.{IfOk-weaker}
-use Rattle.tabled_select.specs.Locators.{has_text}
+use Rattle.tabled_select.specs.Locators.{text_is}
 use Rattle.tabled_grid.specs.Grid.{map_grid}
 use Rattle.tabled_select.proofs.Filtered.{Filters-is}
 use Rattle.tabled_select.proofs.location.search.search_text.Goals as goal
@@ -9,5 +9,5 @@ pub returns : goal.returns
 returns g c =
     let texts = map_grid g.R.Cell.CellText.text_of (g.R.GridStore.grid c.args.records.now) in
     IfOk-weaker c.search.result _ _
-    (λ all e. e.2 ∙ ap (map g.K.Keep.kept) (Filters-is _ (has_text c.args.wanted.now texts) (λ p b says. let said = says.says.met in search rules) _ e.0 e.1))
+    (λ all e. e.2 ∙ ap (map g.K.Keep.kept) (Filters-is _ (text_is c.args.wanted.now texts) (λ p b says. let said = says.says.met in search rules) _ e.0 e.1))
     c.search.ensures

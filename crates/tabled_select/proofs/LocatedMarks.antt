@@ -1,0 +1,84 @@
+-- Ranges that are cut at a limit, and marks of what is located.
+use Rattle.std.proofs.Common.{◌≡◌, ◌∙◌, ℕ, zero, suc, ◌+◌, ◌-◌, ◌<◌, ◌≤◌, Bool, true, false, List, [], ◌∷◌, ◌++◌, inl, inr, length, get_or, set, refl, sym, ap, arith}
+use Rattle.std.specs.Prelude.{◌==◌, ◌||◌, Some, min, replicate}
+use Rattle.std.specs.List.{filter, list_any, range_with_len}
+use Rattle.std.specs.Cmp.{nat_cmp_is}
+use Rattle.std.specs.Ordering.{is_lt, nat_cmp, partial_lt}
+use Rattle.std.specs.declared.cmp.Ordering.TheVariants.{Equal, Greater, Less}
+use Rattle.std.proofs.Math.Bool.{or-false, or-true}
+use Rattle.std.proofs.lemmas.Bool.{cases_eq, cases_lt, eq-eqb, ne_eqb}
+use Rattle.std.proofs.lemmas.List.{get_or-replicate, get_or-set_same, get_or-set_other, length-replicate, length-set}
+use Rattle.std.proofs.lemmas.List.Folds.{list_any-append}
+use Rattle.tabled_select.specs.Located.{AllOrThose, TellsLocated, is_located}
+
+-- an index is below a limit
+abbrev pub below : ℕ → ℕ → Bool
+below limit i = partial_lt (λ x y. Some (nat_cmp x y)) i limit
+
+below-true : (i limit : ℕ) → i < limit → below limit i ≡ true
+below-true i limit h = ap is_lt (sym (nat_cmp_is i limit Less h))
+
+below-false : (i limit : ℕ) → limit ≤ i → below limit i ≡ false
+below-false i limit h = elim (cases_eq i limit) [
+  | inl e ↦ ap is_lt (sym (nat_cmp_is i limit Equal e))
+  | inr d ↦ let past : limit < i = omega (arith, h, d) in ap is_lt (sym (nat_cmp_is i limit Greater past))
+]
+
+cut-from : (n a limit : ℕ) → range_with_len a (min (a + n) limit - a) ≡ filter (below limit) (range_with_len a n)
+cut-from zero a limit = let none : min (a + 0) limit - a ≡ 0 = omega arith in rw none refl
+cut-from (suc n) a limit = elim (cases_lt a limit) [
+  | inl h ↦ let one : min (a + suc n) limit - a ≡ suc (min (a + 1 + n) limit - (a + 1)) = omega (arith, h) in rw (one, below-true a limit h) (ap (λ rest. a ∷ rest) (cut-from n (a + 1) limit))
+  | inr h ↦
+      let none : min (a + suc n) limit - a ≡ 0 = omega (arith, h) in
+      let none_after : min (a + 1 + n) limit - (a + 1) ≡ 0 = omega (arith, h) in
+      rw (none, below-false a limit h) (rw none_after at (cut-from n (a + 1) limit))
+]
+
+-- a range whose end is cut at a limit has the indexes below it
+pub range-cut : (a e limit : ℕ) → range_with_len a (min e limit - a) ≡ filter (below limit) (range_with_len a (e - a))
+range-cut a e limit = let same : min (a + (e - a)) limit - a ≡ min e limit - a = omega arith in rw same at (cut-from (e - a) a limit)
+
+-- nothing is marked where nothing is located
+pub none-told : (count : ℕ) → TellsLocated [] count (replicate count false)
+none-told count = record {
+  many = length-replicate count false;
+  tells = λ i h. get_or-replicate count i false false h;
+}
+
+located-more : (found : List ℕ) (x i : ℕ) → is_located (found ++ x ∷ []) i ≡ (is_located found i || ((x == i) || false))
+located-more found x i = list_any-append (λ (k : ℕ). k == i) found (x ∷ [])
+
+not-located : (found : List ℕ) (x i : ℕ) → (x ≡ i → ⊥) → is_located (found ++ x ∷ []) i ≡ is_located found i
+not-located found x i d = located-more found x i ∙ (rw (ne_eqb x i d) (or-false (is_located found i)))
+
+-- one more index that has a mark
+pub one-told : (found : List ℕ) (count x : ℕ) (marks : List Bool) → TellsLocated found count marks → x < length marks → TellsLocated (found ++ x ∷ []) count (set marks x true)
+one-told found count x marks told h = record {
+  many = length-set marks x true ∙ told.many;
+  tells = λ i k. elim (cases_eq x i) [
+    | inl e ↦ rw (← e) (get_or-set_same marks x true false h ∙ sym (located-more found x x ∙ rw (eq-eqb x x refl) (or-true (is_located found x))))
+    | inr d ↦ get_or-set_other marks x i true false (λ e. d (sym e)) ∙ told.tells i k ∙ sym (not-located found x i d)
+  ];
+}
+
+-- one more index that has none
+pub one-passed : (found : List ℕ) (count x : ℕ) (marks : List Bool) → TellsLocated found count marks → length marks ≤ x → TellsLocated (found ++ x ∷ []) count marks
+one-passed found count x marks told h = record {
+  many = told.many;
+  tells = λ i k. told.tells i k ∙ sym (not-located found x i (λ e. absurd (omega (arith, told.many, h, k, e))));
+}
+
+located-below : (found : List ℕ) (count i : ℕ) → i < count → is_located (filter (below count) found) i ≡ is_located found i
+located-below [] count i h = refl
+located-below (x ∷ found) count i h = elim (cases_lt x count) [
+  | inl k ↦ rw (below-true x count k) (ap (λ b. (x == i) || b) (located-below found count i h))
+  | inr k ↦ let other : (x == i) ≡ false = ne_eqb x i (λ e. absurd (omega (arith, h, k, e))) in rw (below-false x count k, other) (located-below found count i h)
+]
+
+-- what isn't below the count may be left out
+pub all-told : (found kept : List ℕ) (count : ℕ) (marks : List Bool) → AllOrThose (below count) found kept → TellsLocated kept count marks → TellsLocated found count marks
+all-told found kept count marks (inl e) told = rw e at told
+all-told found kept count marks (inr e) told = record {
+  many = told.many;
+  tells = λ i h. told.tells i h ∙ rw e (located-below found count i h);
+}

@@ -1,0 +1,14 @@
+use Rattle.std.proofs.Common.{inr, refl}
+use Rattle.tabled_select.proofs.Located.{range-gives}
+use Rattle.tabled_select.proofs.LocatedMarks.{range-cut}
+use Rattle.tabled_select.proofs.location.rows.RowsLocation.locate_below.Goals as goal
+
+pub returns-clause-lists : goal.returns-clause-lists
+returns-clause-lists g c =
+    let range = c.to_range-range.ensures in (
+      _,
+      _,
+      refl,
+      inr (range-cut _ _ c.args.limit.now),
+      λ iter e. rw e (range-gives _ _ _ _ (rw (range.start, c.get_range.ensures) refl) (rw (c.min.ensures, range.end, c.get_range.ensures, c.count_rows.ensures.rows) refl)),
+    )
