@@ -1,7 +1,7 @@
 -- Panels: a line, which is a row or a column, with one text is put in before a line of a table.
 use Rattle.std.specs.Prelude.{◌≡◌, ◌-◌, ◌&&◌, ℕ, Bool, true, false, List, [], ◌∷◌, map, nat_le, nat_lt, not, replicate}
 use Rattle.tabled_grid.specs.Along.{count_along}
-use Rattle.tabled_grid.specs.Entity.{place}
+use Rattle.tabled_grid.specs.Axis.{across, place_in, resized}
 use Rattle.tabled_grid.specs.Grid.{Grid}
 use Rattle.tabled_grid.specs.Resized.{with_column, with_row}
 use Rattle.tabled_grid.specs.Shifts.{is_crossed, shifted}
@@ -13,18 +13,15 @@ use Rattle.tabled_options.specs.Does.{Same}
 
 -- how many cells a line has
 abbrev pub cells_along : {A : Type 0} → Axis → Grid A → ℕ
-cells_along Rows g = g.columns
-cells_along Columns g = g.rows
+cells_along axis g = count_along (across axis) g
 
 -- the first place of a line
 abbrev pub start_of_line : Axis → ℕ → Position
-start_of_line Rows i = place i 0
-start_of_line Columns j = place 0 j
+start_of_line axis i = place_in axis i 0
 
 -- the size of a piece of a line of so many cells
 abbrev pub size_of_piece : Axis → ℕ → ℕ × ℕ
-size_of_piece Rows many = (1, many)
-size_of_piece Columns many = (many, 1)
+size_of_piece axis many = resized (across axis) (1, 1) many
 
 -- the grid with a line put in before another
 abbrev pub with_line : {A : Type 0} → Axis → ℕ → List A → Grid A → Grid A

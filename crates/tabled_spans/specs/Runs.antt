@@ -1,23 +1,20 @@
 -- Runs of equal neighbours in rows or in columns, and the map in which each is one rectangle.
 use Rattle.std.specs.Prelude.{◌≡◌, ◌+◌, ◌-◌, ◌<◌, ◌≤◌, ◌⊎◌, ◌&&◌, ◌==◌, ℕ, Bool, List, Some, true}
 use Rattle.std.specs.FinMap as map
-use Rattle.tabled_grid.specs.Entity.{place}
+use Rattle.tabled_grid.specs.Axis.{in_line, line_of, resized}
 use Rattle.tabled_grid.specs.Grid.{Grid, IsInside, cell_at}
 use Rattle.tabled_grid.specs.Rectangles.{is_visible}
 use Rattle.tabled_grid.specs.Spans.{SpanMap, size_at}
 use Rattle.tabled_grid.specs.declared.config.position.Position.{Position}
 use Rattle.tabled_grid.specs.declared.records.axis.Axis.{Axis}
-use Rattle.tabled_grid.specs.declared.records.axis.Axis.TheVariants.{Rows, Columns}
 
 -- the place so many rows (or columns) further
 abbrev pub further : Axis → ℕ → Position → Position
-further Rows k p = place (p.row + k) p.col
-further Columns k p = place p.row (p.col + k)
+further axis k p = in_line axis p (line_of axis p + k)
 
 -- the size of so many rows (or columns) of one cell
 abbrev pub size_of_run : Axis → ℕ → ℕ × ℕ
-size_of_run Rows many = (many, 1)
-size_of_run Columns many = (1, many)
+size_of_run axis many = resized axis (1, 1) many
 
 -- the cell is visible and no anchor
 abbrev pub is_free : SpanMap → Position → Bool

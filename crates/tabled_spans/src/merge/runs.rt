@@ -6,7 +6,7 @@ ghost use Rattle.tabled_grid.specs.Covers.{cover_of};
 ghost use Rattle.tabled_grid.specs.Grid.{IsInside, map_grid};
 ghost use Rattle.tabled_grid.specs.declared.config.position.Position.{Position};
 ghost use Rattle.tabled_spans.specs.RunSteps.{RunAt, RunsBefore};
-ghost use Rattle.tabled_spans.specs.Runs.{Joins, further, is_free, size_of_run};
+ghost use Rattle.tabled_spans.specs.Runs.{Joins, further, is_free};
 
 use std::alloc::{AllocError, Global};
 use tabled_grid::config::{CoverMap, Position, SpannedConfig};
@@ -33,7 +33,7 @@ where
             let pos = Position { row: i, col: j };
             let many = run_from(records, cfg, cover, axis, pos);
             if many > 1 {
-                sizes.push((pos, size_of_run(axis, many)))?;
+                sizes.push((pos, axis.resized((1, 1), many)))?;
             }
         }
     }
@@ -134,15 +134,5 @@ fn before(axis: Axis, pos: Position) -> Option<Position>
             row: pos.row,
             col: pos.col.checked_sub(1)?,
         }),
-    }
-}
-
-/// The size of a run of so many cells.
-fn size_of_run(axis: Axis, many: usize) -> (usize, usize)
-    ensures { result ≡ size_of_run axis many }
-{
-    match axis {
-        Axis::Rows => (many, 1),
-        Axis::Columns => (1, many),
     }
 }

@@ -6,10 +6,10 @@ ghost use Rattle.tabled_grid.specs.Along.{count_along, without_line};
 ghost use Rattle.tabled_grid.specs.Grid.{IsEmptyWithoutRows};
 ghost use Rattle.tabled_options.specs.Does.{Same};
 ghost use Rattle.tabled_spans.specs.PanelSteps.{InsertsLine};
-ghost use Rattle.tabled_spans.specs.Panels.{Panels, PutsIn, cells_along, has_room, start_of_line, with_panel};
+ghost use Rattle.tabled_spans.specs.Panels.{Panels, PutsIn, cells_along, has_room, with_panel};
 
 use std::alloc::{AllocError, Global};
-use tabled_grid::config::{Position, SpannedConfig};
+use tabled_grid::config::SpannedConfig;
 use tabled_grid::records::{Axis, Blank, CellText, ExactRecords, Records, RecordsMut, Resizable};
 
 /// Puts a panel in before a line, where it may stand. Refused, it leaves the store and the map as they were.
@@ -53,7 +53,7 @@ fn merge(
 {
     let mut merged = cfg.copy(alloc)?;
     merged.shift(axis, line);
-    let pos = start_of_line(axis, line);
+    let pos = axis.place(line, 0);
     match axis {
         Axis::Rows => merged.set_column_span(alloc, pos, many)?,
         Axis::Columns => merged.set_row_span(alloc, pos, many)?,
@@ -82,7 +82,7 @@ where
     // A count tells that the rows are equally long.
     let _ = records.count_rows();
     insert_line(alloc, records, axis, line)?;
-    if let Err(error) = records.set(alloc, start_of_line(axis, line), text) {
+    if let Err(error) = records.set(alloc, axis.place(line, 0), text) {
         remove_line(records, axis, line);
         return Err(error);
     }
@@ -128,18 +128,5 @@ fn cells_along<R: Records + ExactRecords>(records: &R, axis: Axis) -> usize
     requires { R.is_well_formed records.now }
     ensures { result ≡ cells_along axis (R.grid records.now) }
 {
-    match axis {
-        Axis::Rows => records.count_columns(),
-        Axis::Columns => records.count_rows(),
-    }
-}
-
-/// The first place of a line.
-fn start_of_line(axis: Axis, line: usize) -> Position
-    ensures { result ≡ start_of_line axis line }
-{
-    match axis {
-        Axis::Rows => Position::new(line, 0),
-        Axis::Columns => Position::new(0, line),
-    }
+    axis.across().count(records)
 }

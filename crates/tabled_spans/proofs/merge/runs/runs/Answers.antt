@@ -16,7 +16,7 @@ loop-j-preserved g c =
     elim c.if-many-gt1.branch [
       | then-many-gt1+in_ok-push w ↦
           subst (RunsBefore c.args.axis texts c.args.cfg.now i (j + 1))
-          (sym (ap (λ (v : _). v.items) w.sizes-is ∙ w.in_ok-push.ensures.items ∙ ap (λ s. es ++ ((place i j, s) ∷ [])) w.size_of_run.ensures))
+          (sym (ap (λ (v : _). v.items) w.sizes-is ∙ w.in_ok-push.ensures.items ∙ ap (λ s. es ++ ((place i j, s) ∷ [])) w.resized.ensures))
           (run_added c.args.axis texts c.args.cfg.now i j es c.loop-j.invariant many (omega (arith, w.if-many-gt1.true)) c.run_from-many.ensures)
       | else-many-gt1 w ↦
           subst (RunsBefore c.args.axis texts c.args.cfg.now i (j + 1))
