@@ -15,7 +15,6 @@ use Rattle.std.specs.declared.vec.IntoIter.{IntoIter}
 use Rattle.std.specs.declared.vec.Vec.{Vec}
 use Rattle.std.specs.Vec.{vec_len}
 use Rattle.std.specs.Vec.Iter.{into_iter_items, into_iter_len, into_iter_steps}
-use Rattle.std.specs.Option.{option_map}
 use Rattle.tabled_rows.specs.Listed.{GivesEach, GoesOver}
 use Rattle.tabled_rows.specs.Rows.{Shows}
 use Rattle.tabled_rows.specs.Steps.{GivesLimited}
@@ -111,25 +110,25 @@ gives-inside inside next_gives stands_for (y ∷ all) w g = (
 )
 
 -- an iterator that limits each row gives the limited rows
-module _ {S U T V W A B : Type 0} (next_gives : S → Option U → S → Type 0) (becomes : U → T → Type 0) (can : T → Type 0) (cell_gives : T → Option A → T → Type 0) (remaining : T → Count) (shows : A → B → Type 0) (cells_of : V → Take T) (rows_of : W → S) (limit_of : W → ℕ) where
+module _ {S U T W A B : Type 0} (next_gives : S → Option U → S → Type 0) (becomes : U → T → Type 0) (can : T → Type 0) (cell_gives : T → Option A → T → Type 0) (remaining : T → Count) (shows : A → B → Type 0) (rows_of : W → S) (limit_of : W → ℕ) where
   -- what a row gives, and what it gives limited
   abbrev gives-row : U → List B → Type 0
   gives-row row cells = GoesOver becomes can cell_gives remaining shows row cells
 
-  abbrev gives-limited_row : V → List B → Type 0
-  gives-limited_row row cells = GoesOver (λ s r. r ≡ s) (λ s. can (take_source (cells_of s))) (λ s r t. take_steps cell_gives (cells_of s) r (cells_of t)) (λ s. count_min (at_most (take_count (cells_of s))) (remaining (take_source (cells_of s)))) shows row cells
+  abbrev gives-limited_row : Take T → List B → Type 0
+  gives-limited_row row cells = GoesOver (λ s r. r ≡ s) (λ s. can (take_source s)) (λ s r t. take_steps cell_gives s r t) (λ s. count_min (at_most (take_count s)) (remaining (take_source s))) shows row cells
 
-  limited_row : (n : ℕ) (row : U) (limited : V) (xs : List B) → gives-row row xs → becomes row (take_source (cells_of limited)) → take_count (cells_of limited) ≡ n → gives-limited_row limited (take n xs)
+  limited_row : (n : ℕ) (row : U) (limited : Take T) (xs : List B) → gives-row row xs → becomes row (take_source limited) → take_count limited ≡ n → gives-limited_row limited (take n xs)
   limited_row n row limited xs over source long it same =
       let all = over _ source in
       rw same (record {
         can = all.can;
         ends = tt;
-        gives = rw (← long) (gives-inside cells_of (take_steps cell_gives) shows _ limited (gives-take cell_gives shows xs (cells_of limited) all.gives));
+        gives = rw (← long) (gives-take cell_gives shows xs limited all.gives);
       })
 
-  pub gives-limited : (n : ℕ) (all : List (List B)) (w : W) → GivesEach next_gives gives-row (rows_of w) all → limit_of w ≡ n → GivesEach (λ s r t. GivesLimited next_gives becomes (limit_of s) (rows_of s) (option_map cells_of r) (rows_of t) × (limit_of t ≡ limit_of s)) gives-limited_row w (map (take n) all)
-  gives-limited n all w g is = gives-by_state (λ s r t. GivesLimited next_gives becomes (limit_of s) (rows_of s) (option_map cells_of r) (rows_of t) × (limit_of t ≡ limit_of s)) gives-limited_row (λ u zs. (rest : List (List B)) × GivesEach next_gives gives-row (rows_of u) rest × (limit_of u ≡ n) × (zs ≡ map (take n) rest))
+  pub gives-limited : (n : ℕ) (all : List (List B)) (w : W) → GivesEach next_gives gives-row (rows_of w) all → limit_of w ≡ n → GivesEach (λ s r t. GivesLimited next_gives becomes (limit_of s) (rows_of s) r (rows_of t) × (limit_of t ≡ limit_of s)) gives-limited_row w (map (take n) all)
+  gives-limited n all w g is = gives-by_state (λ s r t. GivesLimited next_gives becomes (limit_of s) (rows_of s) r (rows_of t) × (limit_of t ≡ limit_of s)) gives-limited_row (λ u zs. (rest : List (List B)) × GivesEach next_gives gives-row (rows_of u) rest × (limit_of u ≡ n) × (zs ≡ map (take n) rest))
       (λ u t zs j p. j.3 ∙ ap (map (take n)) (gives-ended next_gives gives-row j.0 _ _ j.1 p.0))
       (λ u t x zs j p.
       let next = gives-went next_gives gives-row j.0 _ _ p.0.0 j.1 p.0.1 in

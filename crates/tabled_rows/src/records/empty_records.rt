@@ -88,6 +88,8 @@ impl IntoRecords for EmptyRecords {
 
     ghost gives = { λ s rows. rows ≡ filled s [] };
 
+    ghost may_be_asked = { λ _. Unit {0} };
+
     fn iter_rows(self) -> RepeatN<RepeatN<&'static str>> {
         repeat_n(repeat_n("", self.columns), self.rows)
     }

@@ -1,10 +1,18 @@
-//! What gives rows of cells.
+//! What gives rows of cells, and what limits, skips and reads ahead what is given.
 
-ghost use Rattle.std.specs.Prelude.{◌≡◌, List};
+ghost use Rattle.std.specs.Prelude.{◌≡◌, Bool, List};
+ghost use Rattle.tabled_rows.specs.Gave.{EachMayBeAsked, Gave, MayBeAsked};
 ghost use Rattle.tabled_rows.specs.Listed.{GoesOver};
 ghost use Rattle.tabled_rows.specs.Rows.{Shows};
 
-/// Gives rows of cells. A contract sees it as the list of its rows.
+pub use crate::records::buf_records::{BufIterator, BufRecords, BufRecordsIter};
+pub use crate::records::either_string::EitherString;
+pub use crate::records::limit_columns::{LimitColumns, LimitColumnsColumnsIter, LimitColumnsIter};
+pub use crate::records::limit_rows::{LimitRows, LimitRowsIter};
+pub use crate::records::skip_rows::{SkipRows, SkipRowsIter};
+
+/// Gives rows of cells. A contract sees it as the list of its rows, or, where rows are made as they are asked
+/// for, says which rows came when it was asked.
 ///
 /// Ported from `tabled::grid::records::IntoRecords`.
 pub trait IntoRecords {
@@ -26,11 +34,20 @@ pub trait IntoRecords {
     /// The rows that are given.
     ghost gives: { Self → List (List Shown) → Type 0 };
 
+    /// It may be asked for its rows, and each row for its cells. Nothing is said by itself.
+    ghost may_be_asked: { Self → Type 0 } = { λ _. ⊥ };
+
+    /// Asked for rows, it may give these, and then nothing, where it is said to have ended. Any are, where
+    /// nothing else is said.
+    ghost may_give: { Self → List Self.IterColumns → Bool → Type 0 } = { λ _ _ _. Unit {0} };
+
     /// Goes over the rows, and over the cells of each.
     ///
     /// Ported from `tabled::grid::records::IntoRecords::iter_rows`.
     fn iter_rows(self) -> Self::IterRows
-        ensures { (rows : List (List Shown)) → gives self rows → GoesOver Self.IterRows.into_iter_gives Self.IterRows.IntoIter.can_next Self.IterRows.IntoIter.next_gives Self.IterRows.IntoIter.remaining (GoesOver Self.IterColumns.into_iter_gives Self.IterColumns.IntoIter.can_next Self.IterColumns.IntoIter.next_gives Self.IterColumns.IntoIter.remaining (Shows shown)) result rows };
+        ensures given { (rows : List (List Shown)) → gives self rows → GoesOver Self.IterRows.into_iter_gives Self.IterRows.IntoIter.can_next Self.IterRows.IntoIter.next_gives Self.IterRows.IntoIter.remaining (GoesOver Self.IterColumns.into_iter_gives Self.IterColumns.IntoIter.can_next Self.IterColumns.IntoIter.next_gives Self.IterColumns.IntoIter.remaining (Shows shown)) result rows }
+        ensures asked { may_be_asked self → EachMayBeAsked Self.IterRows.into_iter_gives Self.IterRows.IntoIter.can_next Self.IterRows.IntoIter.remaining Self.IterRows.IntoIter.next_gives (MayBeAsked Self.IterColumns.into_iter_gives Self.IterColumns.IntoIter.can_next Self.IterColumns.IntoIter.remaining) result }
+        ensures came { (rows : List Self.IterColumns) (ended : Bool) → Gave Self.IterRows.into_iter_gives Self.IterRows.IntoIter.next_gives result rows ended → may_give self rows ended };
 }
 
 impl<T: Drop> IntoRecords for Vec<Vec<T>> {
@@ -47,6 +64,8 @@ impl<T: Drop> IntoRecords for Vec<Vec<T>> {
     ghost shown = { λ cell. cell };
 
     ghost gives = { λ s rows. rows ≡ map_items s.items };
+
+    ghost may_be_asked = { λ _. Unit {0} };
 
     fn iter_rows(self) -> Vec<Vec<T>> {
         self

@@ -1,6 +1,7 @@
 //! Rows that something goes over, as a source of rows.
 
 ghost use Rattle.std.specs.Prelude.{◌≡◌};
+ghost use Rattle.tabled_rows.specs.Gave.{EachMayBeAsked, Gave, MayBeAsked};
 ghost use Rattle.tabled_rows.specs.Listed.{GoesOver};
 
 use crate::records::into_records::IntoRecords;
@@ -47,6 +48,10 @@ where
     ghost shown = { λ cell. cell };
 
     ghost gives = { GoesOver I.into_iter_gives I.IntoIter.can_next I.IntoIter.next_gives I.IntoIter.remaining (GoesOver I.Item.into_iter_gives I.Item.IntoIter.can_next I.Item.IntoIter.next_gives I.Item.IntoIter.remaining (λ cell x. cell ≡ x)) };
+
+    ghost may_be_asked = { EachMayBeAsked I.into_iter_gives I.IntoIter.can_next I.IntoIter.remaining I.IntoIter.next_gives (MayBeAsked I.Item.into_iter_gives I.Item.IntoIter.can_next I.Item.IntoIter.remaining) };
+
+    ghost may_give = { Gave I.into_iter_gives I.IntoIter.next_gives };
 
     fn iter_rows(self) -> I {
         self.rows

@@ -1,6 +1,8 @@
 //! The first cells of each row of a source.
 
 ghost use Rattle.std.specs.Prelude.{◌≡◌, List};
+ghost use Rattle.std.specs.List.{AllZip};
+ghost use Rattle.tabled_rows.specs.Gave.{LimitsRow};
 ghost use Rattle.tabled_rows.specs.Rows.{first_columns};
 
 use crate::records::into_records::IntoRecords;
@@ -53,6 +55,10 @@ impl<I: IntoRecords> IntoRecords for LimitColumns<I> {
 
     ghost gives = { λ s rows. (all : List (List I.Shown)) × I.gives s.0 all × (rows ≡ first_columns s.1 all) };
 
+    ghost may_be_asked = { λ s. I.may_be_asked s.0 };
+
+    ghost may_give = { λ s rows ended. (all : List I.IterColumns) × I.may_give s.0 all ended × AllZip (LimitsRow I.IterColumns.into_iter_gives s.1) all rows };
+
     fn iter_rows(self) -> LimitColumnsIter<<I::IterRows as IntoIterator>::IntoIter> {
         LimitColumnsIter {
             rows: self.records.iter_rows().into_iter(),
@@ -78,12 +84,11 @@ where
     type Item = LimitColumnsColumnsIter<<I::Item as IntoIterator>::IntoIter>;
 
     ghost use Rattle.std.specs.Prelude.{◌≡◌};
-    ghost use Rattle.std.specs.Option.{option_map};
     ghost use Rattle.tabled_rows.specs.Steps.{GivesLimited};
 
     ghost can_next = { λ s. I.can_next s.rows };
 
-    ghost next_gives = { λ s r t. GivesLimited I.next_gives I.Item.into_iter_gives s.limit s.rows (option_map (λ row. row.cells) r) t.rows × (t.limit ≡ s.limit) };
+    ghost next_gives = { λ s r t. GivesLimited I.next_gives I.Item.into_iter_gives s.limit s.rows r t.rows × (t.limit ≡ s.limit) };
 
     ghost remaining = { λ s. I.remaining s.rows };
 
@@ -95,12 +100,22 @@ where
     }
 }
 
-/// Gives the first cells of a row.
+/// Gives the first cells of a row. A contract sees it as what takes these from the cells of the row.
 ///
 /// Ported from `tabled::grid::records::into_records::LimitColumnsColumnsIter`.
 #[derive(Drop)]
 pub struct LimitColumnsColumnsIter<I> {
     cells: Take<I>,
+}
+
+impl<I> Model for LimitColumnsColumnsIter<I> {
+    ghost use Rattle.std.specs.declared.iter.Take.{Take};
+
+    ghost Value = { Take I };
+
+    ghost view = { λ a. a.cells };
+
+    ghost inverse = { λ v. record { cells = v } };
 }
 
 impl<I: Iterator> Iterator for LimitColumnsColumnsIter<I> {
@@ -109,11 +124,11 @@ impl<I: Iterator> Iterator for LimitColumnsColumnsIter<I> {
     ghost use Rattle.std.specs.Iterator.{at_most, count_min};
     ghost use Rattle.std.specs.Iterator.Adapters.{take_count, take_source, take_steps};
 
-    ghost can_next = { λ s. I.can_next (take_source s.cells) };
+    ghost can_next = { λ s. I.can_next (take_source s) };
 
-    ghost next_gives = { λ s r t. take_steps I.next_gives s.cells r t.cells };
+    ghost next_gives = { λ s r t. take_steps I.next_gives s r t };
 
-    ghost remaining = { λ s. count_min (at_most (take_count s.cells)) (I.remaining (take_source s.cells)) };
+    ghost remaining = { λ s. count_min (at_most (take_count s)) (I.remaining (take_source s)) };
 
     fn next(&mut self) -> Option<I::Item> {
         self.cells.next()

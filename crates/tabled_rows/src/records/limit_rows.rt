@@ -1,6 +1,6 @@
 //! The first rows of a source.
 
-ghost use Rattle.std.specs.Prelude.{◌≡◌, List};
+ghost use Rattle.std.specs.Prelude.{◌≡◌, ◌≤◌, ◌&&◌, List, length, ltb};
 ghost use Rattle.tabled_rows.specs.Rows.{first_rows};
 
 use crate::records::into_records::IntoRecords;
@@ -52,6 +52,10 @@ impl<I: IntoRecords> IntoRecords for LimitRows<I> {
     ghost shown = { I.shown };
 
     ghost gives = { λ s rows. (all : List (List I.Shown)) × I.gives s.0 all × (rows ≡ first_rows s.1 all) };
+
+    ghost may_be_asked = { λ s. I.may_be_asked s.0 };
+
+    ghost may_give = { λ s rows ended. (length rows ≤ s.1) × I.may_give s.0 rows (ended && ltb (length rows) s.1) };
 
     fn iter_rows(self) -> LimitRowsIter<<I::IterRows as IntoIterator>::IntoIter> {
         LimitRowsIter {

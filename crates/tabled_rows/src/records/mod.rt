@@ -3,7 +3,7 @@
 mod buf_records;
 mod either_string;
 mod empty_records;
-mod into_records;
+pub mod into_records;
 mod iter_rows;
 mod limit_columns;
 mod limit_rows;

@@ -1,6 +1,6 @@
 //! The rows of a source after its first ones.
 
-ghost use Rattle.std.specs.Prelude.{◌≡◌, List};
+ghost use Rattle.std.specs.Prelude.{◌≡◌, List, drop};
 ghost use Rattle.tabled_rows.specs.Rows.{rows_after};
 
 use crate::records::into_records::IntoRecords;
@@ -55,6 +55,10 @@ where
     ghost shown = { I.shown };
 
     ghost gives = { λ s rows. (all : List (List I.Shown)) × I.gives s.0 all × (rows ≡ rows_after s.1 all) };
+
+    ghost may_be_asked = { λ s. I.may_be_asked s.0 };
+
+    ghost may_give = { λ s rows ended. (all : List I.IterColumns) × I.may_give s.0 all ended × (rows ≡ drop s.1 all) };
 
     fn iter_rows(self) -> SkipRowsIter<<I::IterRows as IntoIterator>::IntoIter> {
         SkipRowsIter {

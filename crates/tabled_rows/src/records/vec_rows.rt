@@ -19,6 +19,8 @@ impl<'a, T> IntoRecords for &'a VecRecords<T> {
 
     ghost gives = { λ s rows. rows ≡ s.now.cells };
 
+    ghost may_be_asked = { λ _. Unit {0} };
+
     fn iter_rows(self) -> VecRows<'a, T> {
         VecRows {
             records: self,

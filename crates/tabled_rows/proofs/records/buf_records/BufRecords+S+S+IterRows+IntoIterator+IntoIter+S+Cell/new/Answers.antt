@@ -10,13 +10,13 @@ use Rattle.tabled_rows.proofs.records.buf_records.BufRecords+S+S+IterRows+IntoIt
 
 pub loop-alloc-init : goal.loop-alloc-init
 loop-alloc-init g c =
-    let some = c.iter_rows.ensures c.requires.0 c.requires.1 c.into_iter.result c.into_iter.ensures.into_iter_gives in (
+    let some = c.iter_rows.ensures.given c.requires.0 c.requires.1 c.into_iter.result c.into_iter.ensures.into_iter_gives in (
       c.fuse-rows.ensures.done,
       rw c.fuse-rows.ensures.source some.can,
       rw c.fuse-rows.ensures.source some.ends,
       omega (arith, c.new-buffer.ensures.len),
       λ rows given.
-          let listed = c.iter_rows.ensures rows given c.into_iter.result c.into_iter.ensures.into_iter_gives in
+          let listed = c.iter_rows.ensures.given rows given c.into_iter.result c.into_iter.ensures.into_iter_gives in
           record {
             others = rows;
             gives = gives-fuse g.S.IterRows.IntoIter.Iterator.next_gives _ rows c.fuse-rows.result c.fuse-rows.ensures.done (rw c.fuse-rows.ensures.source listed.gives);

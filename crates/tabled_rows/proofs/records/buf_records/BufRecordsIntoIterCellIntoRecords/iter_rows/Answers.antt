@@ -4,8 +4,8 @@ use Rattle.tabled_rows.specs.declared.records.buf_records.BufRecordsIter.{BufRec
 use Rattle.tabled_rows.proofs.Buffered.{gives-buffered}
 use Rattle.tabled_rows.proofs.records.buf_records.BufRecordsIntoIterCellIntoRecords.iter_rows.Goals as goal
 
-pub returns : goal.returns
-returns g c = λ rows given iter same.
+pub returns-clause-given : goal.returns-clause-given
+returns-clause-given g c = λ rows given iter same.
     let listed = rw (← c.self.view_is) at given.1 in
     let row = g.S.IterColumns.IntoIterator.into_iter_gives in
     let cell = g.S.IterColumns.IntoIter.Iterator in

@@ -1,11 +1,14 @@
-use Rattle.std.proofs.Common.{[], ℕ, List, Bor, ap, ◌∙◌}
+use Rattle.std.proofs.Common.{[], ℕ, List, Bor, ap, refl, ◌∙◌}
 use Rattle.std.specs.Iterator.Adapters.{repeat_n_count, repeat_n_item}
 use Rattle.tabled_rows.proofs.Listed.{gives-filled}
 use Rattle.tabled_rows.proofs.records.empty_records.EmptyRecordsIntoRecords.iter_rows.Goals as goal
 
-pub returns : goal.returns
-returns c = λ rows is iter same. rw same (record {
+pub returns-clause-given : goal.returns-clause-given
+returns-clause-given c = λ rows is iter same. rw same (record {
   can = (tt, tt);
   ends = tt;
   gives = rw (is, ← c.self.view_is) (gives-filled (λ (cell : Bor (List ℕ)). cell.now) c.repeat_n-2.result c.self.inside.rows c.self.inside.columns [] c.repeat_n-2.ensures.count (ap repeat_n_count c.repeat_n-2.ensures.item ∙ c.repeat_n.ensures.count) (ap (λ row. (repeat_n_item {T = Bor (List ℕ)} row).now) c.repeat_n-2.ensures.item ∙ ap (λ (cell : Bor (List ℕ)). cell.now) c.repeat_n.ensures.item));
 })
+
+pub returns-clause-asked : goal.returns-clause-asked
+returns-clause-asked c = λ may iter is. ((tt, tt), tt, λ xs t ran k d h it became. (tt, tt))

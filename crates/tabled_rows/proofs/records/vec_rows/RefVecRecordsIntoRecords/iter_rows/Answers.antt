@@ -4,8 +4,8 @@ use Rattle.tabled_rows.specs.declared.records.vec_rows.VecRows.{VecRows}
 use Rattle.tabled_rows.proofs.Listed.{gives-shown, gives-slice}
 use Rattle.tabled_rows.proofs.records.vec_rows.RefVecRecordsIntoRecords.iter_rows.Goals as goal
 
-pub returns : goal.returns
-returns g c = λ rows is iter same. rw same (record {
+pub returns-clause-given : goal.returns-clause-given
+returns-clause-given g c = λ rows is iter same. rw same (record {
   can = tt;
   ends = tt;
   gives = rw is (gives-shown (YieldsFirstRef (λ (s : VecRows _). drop s.row s.records.now.cells)) _ (λ s. drop s.row s.records.now.cells) (λ row. row.now) (λ row it from. record {
@@ -14,3 +14,6 @@ returns g c = λ rows is iter same. rw same (record {
     gives = rw (← from.0) (gives-slice _ (λ x. refl) it);
   }) (λ s t p. ap length p.0) (λ s t x p. p) (record { records = c.args.self; row = 0 }));
 })
+
+pub returns-clause-asked : goal.returns-clause-asked
+returns-clause-asked g c = λ may iter is. (tt, tt, λ xs t ran k d h it became. (tt, tt))
