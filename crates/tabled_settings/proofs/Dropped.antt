@@ -1,21 +1,21 @@
 -- Lines taken away, by swaps to the front.
 use Rattle.std.proofs.Common.{◌≡◌, ℕ, zero, suc, ◌+◌, ◌<◌, ◌≤◌, ◌≢◌, ◌⊎◌, inl, inr, Bool, true, false, cond, List, [], ◌∷◌, ◌++◌, refl, sym, ap, ◌∙◌, length, get_or, arith}
-use Rattle.std.specs.Prelude.{◌==◌, not}
+use Rattle.std.specs.Prelude.{not}
 use Rattle.std.specs.List.{filter, range_with_len, swap}
-use Rattle.std.specs.List.Sorted.{IsPermutation}
 use Rattle.std.proofs.lemmas.Bool.{cases_eq}
 use Rattle.std.proofs.lemmas.List.{append-nil, get_or_at, get_or_append_left, length_push}
-use Rattle.std.proofs.lemmas.List.Elements.{filter-append, filter_agree}
-use Rattle.std.proofs.lemmas.List.Sorted.{list_any-IsPermutation}
+use Rattle.std.proofs.lemmas.List.Elements.{filter-append}
 use Rattle.tabled_grid.specs.Along.{along, count_along, first_along}
 use Rattle.tabled_grid.specs.Grid.{Grid, IsEven}
 use Rattle.tabled_grid.specs.declared.records.axis.Axis.{Axis}
 use Rattle.tabled_grid.specs.declared.records.axis.Axis.TheVariants.{Rows, Columns}
 use Rattle.tabled_settings.specs.Lines.{DropsLines, ThinsLines, line}
 use Rattle.tabled_grid.specs.Places.{ReadsThrough}
-use Rattle.tabled_settings.specs.Rearranged.{is_among, left_over, removed}
+use Rattle.tabled_select.specs.Located.{is_located}
+use Rattle.tabled_settings.specs.Rearranged.{left_over, removed}
 use Rattle.tabled_settings.proofs.Kept.{has_lines}
 use Rattle.tabled_grid.proofs.PiecesPut.{same_count, same_shape, shape_after}
+use Rattle.tabled_settings.proofs.PieceReads.{filter_alike}
 use Rattle.tabled_settings.proofs.LineReads.{line_first, lines_read, lines_swapped, shape_swapped}
 
 -- one index more
@@ -33,8 +33,8 @@ module _ (test : ℕ → Bool) where
   left_stays : (n : ℕ) → test n ≡ false → left_over test (suc n) ≡ left_over test n ++ n ∷ []
   left_stays n stays = left_more n ∙ ap (λ (b : Bool). left_over test n ++ cond (not b) (n ∷ []) []) stays
 
-pub left_same : (xs ys : List ℕ) (n : ℕ) → IsPermutation xs ys → left_over (is_among ys) n ≡ left_over (is_among xs) n
-left_same xs ys n p = filter_agree (λ (i : ℕ). not (is_among ys i)) (λ (i : ℕ). not (is_among xs i)) (λ i. ap not (sym (list_any-IsPermutation (λ (k : ℕ). k == i) xs ys p))) (range_with_len 0 n)
+left_same : (test other : ℕ → Bool) (n : ℕ) → ((i : ℕ) → i < n → test i ≡ other i) → left_over test n ≡ left_over other n
+left_same test other n alike = filter_alike (λ (i : ℕ). not (test i)) (λ (i : ℕ). not (other i)) 0 n (λ i h. ap not (alike i (omega (arith, h))))
 
 module _ {A : Type 0} (axis : Axis) (test : ℕ → Bool) where
   pub thins_none : (g : Grid A) → IsEven g → ThinsLines axis test 0 0 g g
@@ -86,10 +86,10 @@ module _ {A : Type 0} (axis : Axis) (test : ℕ → Bool) where
         kept = λ a h. let below : a < k = omega (arith, h, many) in line_first axis cur new k a t.shape.even below cut ∙ t.front a below ∙ ap (λ (n : ℕ). line axis g (get_or (left_over test n) a 0)) all;
       }
 
-pub removed_done : {A : Type 0} (axis : Axis) (found sorted : List ℕ) (g new : Grid A) → IsPermutation found sorted → DropsLines axis (is_among sorted) g new → ReadsThrough (removed axis found g.rows g.columns) g new
-removed_done Rows found sorted g new p d =
-    let same : left_over (is_among sorted) g.rows ≡ left_over (is_among found) g.rows = left_same found sorted g.rows p in
-    rw (← same) (lines_read Rows (λ (i : ℕ). get_or (left_over (is_among sorted) g.rows) i 0) _ _ g new d.shape.even d.shape.rows d.shape.columns (λ a h. d.kept a (omega (arith, h, d.shape.rows))))
-removed_done Columns found sorted g new p d =
-    let same : left_over (is_among sorted) g.columns ≡ left_over (is_among found) g.columns = left_same found sorted g.columns p in
-    rw (← same) (lines_read Columns (λ (j : ℕ). get_or (left_over (is_among sorted) g.columns) j 0) _ _ g new d.shape.even d.shape.rows d.shape.columns (λ a h. d.kept a (omega (arith, h, d.shape.columns))))
+pub removed_done : {A : Type 0} (axis : Axis) (found : List ℕ) (test : ℕ → Bool) (g new : Grid A) → ((i : ℕ) → i < count_along axis g → test i ≡ is_located found i) → DropsLines axis test g new → ReadsThrough (removed axis found g.rows g.columns) g new
+removed_done Rows found test g new told d =
+    let same : left_over test g.rows ≡ left_over (is_located found) g.rows = left_same test (is_located found) g.rows told in
+    rw (← same) (lines_read Rows (λ (i : ℕ). get_or (left_over test g.rows) i 0) _ _ g new d.shape.even d.shape.rows d.shape.columns (λ a h. d.kept a (omega (arith, h, d.shape.rows))))
+removed_done Columns found test g new told d =
+    let same : left_over test g.columns ≡ left_over (is_located found) g.columns = left_same test (is_located found) g.columns told in
+    rw (← same) (lines_read Columns (λ (j : ℕ). get_or (left_over test g.columns) j 0) _ _ g new d.shape.even d.shape.rows d.shape.columns (λ a h. d.kept a (omega (arith, h, d.shape.columns))))

@@ -1,7 +1,7 @@
-pub mod Among
 pub mod Apart
 pub mod Cleaned
 pub mod Dropped
+pub mod Duplicated
 pub mod Glued
 pub mod Joins
 pub mod Kept

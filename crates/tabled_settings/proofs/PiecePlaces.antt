@@ -1,37 +1,86 @@
 -- Where the cells of pieces come from.
-use Rattle.std.proofs.Common.{◌≡◌, ℕ, ◌+◌, ◌*◌, ◌/◌, ◌%◌, ◌<◌, ◌≤◌, ◌⊎◌, inl, inr, Bool, true, false, cond, Option, None, Some, refl, sym, ap, ap₂, ◌∙◌, subst, List, arith}
+use Rattle.std.proofs.Common.{◌≡◌, ℕ, ◌+◌, ◌*◌, ◌/◌, ◌%◌, ◌<◌, ◌≤◌, ◌⊎◌, inl, inr, Bool, true, false, cond, Option, None, Some, refl, sym, ap, ap₂, ◌∙◌, subst, List, length, get_or, arith}
 use Rattle.std.specs.Prelude.{nat_lt, ◌&&◌}
 use Rattle.std.specs.Int.{div_ceil}
-use Rattle.std.specs.Option.{unwrap_or}
+use Rattle.std.specs.Option.{IfSome, unwrap_or}
 use Rattle.std.proofs.lemmas.Bool.{le-ltb, lt-ltb, ltb-true}
 use Rattle.std.proofs.lemmas.Nat.{div-add-mod', div_below, mod_below, same_from_place}
 use Rattle.tabled_grid.specs.Along.{count_along}
-use Rattle.tabled_grid.specs.Grid.{Grid, IsEven, map_grid}
+use Rattle.tabled_grid.specs.Grid.{Grid, IsEven, IsInside, cell_at, map_grid}
 use Rattle.tabled_grid.specs.declared.config.position.Position.{Position}
 use Rattle.tabled_grid.specs.declared.records.axis.Axis.{Axis}
 use Rattle.tabled_grid.specs.declared.records.axis.Axis.TheVariants.{Rows, Columns}
+use Rattle.tabled_settings.specs.declared.split.Display.{Display}
+use Rattle.tabled_settings.specs.declared.split.Display.TheVariants.{Clean, Retain}
 use Rattle.tabled_settings.specs.declared.split.Split.{Split}
+use Rattle.tabled_settings.specs.Lines.{line}
 use Rattle.tabled_grid.proofs.PiecePlaces.{across_is, line_is, place_is}
 use Rattle.tabled_grid.proofs.PiecesCut.{enough_pieces}
-use Rattle.tabled_grid.specs.Axis.{across, count_of, line_of, place_in}
+use Rattle.tabled_grid.specs.Axis.{across, count_of, in_line, line_of, place_in}
 use Rattle.tabled_grid.specs.Pieces.{cut_places, index_in_line, nth_piece, piece_index}
-use Rattle.tabled_settings.specs.PiecePlaces.{Splits, same_places, split_places}
-use Rattle.tabled_settings.specs.Pieces.{cut_rows, has_pieces, turned}
-use Rattle.tabled_grid.specs.Places.{FillsThrough, ReadsThrough}
-use Rattle.tabled_settings.specs.Places.{IsTakenOnce}
+use Rattle.tabled_settings.specs.PiecePlaces.{Splits, kept_pieces, same_places, shown, split_places, thinned}
+use Rattle.tabled_settings.specs.Pieces.{cut_rows, has_pieces, split, turned}
+use Rattle.tabled_grid.specs.Places.{FillsThrough, Places, ReadsThrough}
+use Rattle.tabled_settings.specs.Places.{IsTakenOnce, lines_from}
 use Rattle.tabled_settings.proofs.Glued.{piece_index_below, piece_of}
+use Rattle.tabled_settings.proofs.LineReads.{lines_read}
 use Rattle.tabled_settings.proofs.PiecesDone.{counted}
 use Rattle.tabled_grid.proofs.PiecesPut.{one_piece, same_place_in}
 use mathlib.Core.Bool.{true≢false}
 
-pub same_reads : {A : Type 0} (g : Grid A) → IsEven g → ReadsThrough (same_places g.rows g.columns) g g
-same_reads g even = record { even = even; rows = refl; columns = refl; moved = λ p inside. refl }
+pub same_fills : {A : Type 0} (is_blank : A → Type 0) (g : Grid A) → IsEven g → FillsThrough is_blank (same_places g.rows g.columns) g g
+same_fills is_blank g even = record { reads = record { even = even; rows = refl; columns = refl; moved = λ p inside. refl }; blanks = λ p inside none. cc }
+
+-- with pieces or without
+with_pieces : (b : Bool) (ps qs : Places) → b ≡ true → cond b ps qs ≡ ps
+with_pieces b ps qs e = rw e refl
+
+without_pieces : (b : Bool) (ps qs : Places) → b ≡ false → cond b ps qs ≡ qs
+without_pieces b ps qs e = rw e refl
+
+all_shown : (d : Display) (axis : Axis) (kept : List ℕ) (places : Places) → d ≡ Retain → shown d axis kept places ≡ places
+all_shown d axis kept places e = rw e refl
+
+some_shown : (d : Display) (axis : Axis) (kept : List ℕ) (places : Places) → d ≡ Clean → shown d axis kept places ≡ thinned axis kept places
+some_shown d axis kept places e = rw e refl
+
+-- some lines of a grid that is read through places
+module _ {A : Type 0} (is_blank : A → Type 0) (axis : Axis) (kept : List ℕ) (places : Places) (g mid new : Grid A) (fills : FillsThrough is_blank places g mid) (even : IsEven new) (count : count_along axis new ≡ length kept) (wide : count_along (across axis) new ≡ count_along (across axis) mid)
+    (each : (a : ℕ) → a < length kept → (line axis new a ≡ line axis mid (get_or kept a 0)) × (get_or kept a 0 < count_along axis mid)) where
+  abbrev from : ℕ → ℕ
+  from i = get_or kept i 0
+
+  reads : ReadsThrough (lines_from axis from new.rows new.columns) mid new
+  reads = lines_read axis from new.rows new.columns mid new even refl refl (λ a h. (each a (omega (arith, h, count))).0)
+
+  shape_of : (axis : Axis) → count_along axis new ≡ length kept → count_along (across axis) new ≡ count_along (across axis) mid → (new.rows ≡ (thinned axis kept places).rows) × (new.columns ≡ (thinned axis kept places).columns)
+  shape_of Rows n m = (n, m ∙ fills.reads.columns)
+  shape_of Columns n m = (m ∙ fills.reads.rows, n)
+
+  inside_of : (axis : Axis) (p : Position) → IsInside new p → count_along axis new ≡ length kept → count_along (across axis) new ≡ count_along (across axis) mid → ((a : ℕ) → a < length kept → get_or kept a 0 < count_along axis mid) → IsInside mid (in_line axis p (from (line_of axis p)))
+  inside_of Rows p inside n m below = record { row = below p.row (omega (arith, inside.row, n)); col = omega (arith, inside.col, m) }
+  inside_of Columns p inside n m below = record { row = omega (arith, inside.row, m); col = below p.col (omega (arith, inside.col, n)) }
+
+  inside_mid : (p : Position) → IsInside new p → IsInside mid (in_line axis p (from (line_of axis p)))
+  inside_mid p inside = inside_of axis p inside count wide (λ a h. (each a h).1)
+
+  pub thinned_fills : FillsThrough is_blank (thinned axis kept places) g new
+  thinned_fills = record {
+    reads = record {
+      even = even;
+      rows = (shape_of axis count wide).0;
+      columns = (shape_of axis count wide).1;
+      moved = λ p inside. subst (λ (cell : Option A). IfSome (places.old_place (in_line axis p (from (line_of axis p)))) (λ (q : Position). cell ≡ cell_at g q)) (sym (reads.moved p inside)) (fills.reads.moved (in_line axis p (from (line_of axis p))) (inside_mid p inside));
+    };
+    blanks = λ p inside none. let b = fills.blanks (in_line axis p (from (line_of axis p))) (inside_mid p inside) none in (b.0, b.1, reads.moved p inside ∙ b.2);
+  }
 
 module _ {A : Type 0} (text_of : A → List ℕ) (s : Split) (g : Grid A) (even : IsEven g) where
-  pub unsplit : has_pieces s g.rows g.columns ≡ false → Splits text_of s g g
-  unsplit e = record {
+  pub unsplit : (is_blank : A → Type 0) → has_pieces s g.rows g.columns ≡ false → Splits is_blank text_of s g g
+  unsplit is_blank e = record {
     texts = ap (λ (b : Bool). cond b (turned s.lines (cut_rows s (turned s.lines (map_grid text_of g)))) (map_grid text_of g)) (sym e);
-    cells = λ retained. subst (λ (b : Bool). ReadsThrough (cond b (cut_places s.lines s.behavior s.index (count_of s.lines g.rows g.columns) (count_of (across s.lines) g.rows g.columns)) (same_places g.rows g.columns)) g g) (sym e) (same_reads g even);
+    cells = subst (λ (places : Places). FillsThrough is_blank places g g) (sym (without_pieces (has_pieces s g.rows g.columns) _ (same_places g.rows g.columns) e)) (same_fills is_blank g even);
+    unsplit = λ none. refl;
   }
 
   pub has_if : (b : Bool) → nat_lt s.index (count_along (across s.lines) g) ≡ b → 0 < count_along s.lines g → 0 < s.index → has_pieces s g.rows g.columns ≡ b
@@ -52,10 +101,29 @@ module _ {A : Type 0} (text_of : A → List ℕ) (s : Split) (g : Grid A) (even 
       no true true z (inr (inl e)) = absurd (true≢false e)
       no true true z (inr (inr e)) = e
 
-  pub retained_reads : (is_blank : A → Type 0) (lines width : ℕ) (h : Grid A) → lines ≡ count_along s.lines g → width ≡ count_along (across s.lines) g → 0 < lines → 0 < s.index → s.index < width → FillsThrough is_blank (cut_places s.lines s.behavior s.index lines width) g h → ReadsThrough (split_places s g.rows g.columns) g h
-  retained_reads is_blank lines width h lines_are width_is some index narrow cut =
-      let has : has_pieces s g.rows g.columns ≡ true = has_if true (lt-ltb s.index (count_along (across s.lines) g) (omega (arith, narrow, width_is))) (omega (arith, some, lines_are)) index in
-      rw (has, counted s.lines g, counted (across s.lines) g, ← lines_are, ← width_is) cut.reads
+  module _ (is_blank : A → Type 0) (lines width : ℕ) (mid : Grid A) (lines_are : lines ≡ count_along s.lines g) (width_is : width ≡ count_along (across s.lines) g) (some : 0 < lines) (index : 0 < s.index) (narrow : s.index < width) (fills : FillsThrough is_blank (cut_places s.lines s.behavior s.index lines width) g mid) where
+    has : has_pieces s g.rows g.columns ≡ true
+    has = has_if true (lt-ltb s.index (count_along (across s.lines) g) (omega (arith, narrow, width_is))) (omega (arith, some, lines_are)) index
+
+    all_places : cut_places s.lines s.behavior s.index lines width ≡ cut_places s.lines s.behavior s.index (count_of s.lines g.rows g.columns) (count_of (across s.lines) g.rows g.columns)
+    all_places = ap₂ (λ (m n : ℕ). cut_places s.lines s.behavior s.index m n) (lines_are ∙ sym (counted s.lines g)) (width_is ∙ sym (counted (across s.lines) g))
+
+    pub retained_splits : s.display ≡ Retain → map_grid text_of mid ≡ split s (map_grid text_of g) → Splits is_blank text_of s g mid
+    retained_splits e texts = record {
+      texts = texts;
+      cells = subst (λ (places : Places). FillsThrough is_blank places g mid) (all_places ∙ sym (with_pieces (has_pieces s g.rows g.columns) _ (same_places g.rows g.columns) has ∙ all_shown s.display s.lines _ _ e)) fills;
+      unsplit = λ none. absurd (true≢false (sym has ∙ none));
+    }
+
+    pub clean_splits : (new : Grid A) (kept : List ℕ) → s.display ≡ Clean → kept ≡ kept_pieces s (turned s.lines (map_grid text_of g)) → IsEven new → count_along s.lines new ≡ length kept → count_along (across s.lines) new ≡ count_along (across s.lines) mid →
+        ((a : ℕ) → a < length kept → (line s.lines new a ≡ line s.lines mid (get_or kept a 0)) × (get_or kept a 0 < count_along s.lines mid)) → map_grid text_of new ≡ split s (map_grid text_of g) → Splits is_blank text_of s g new
+    clean_splits new kept e are new_even count wide each texts = record {
+      texts = texts;
+      cells = subst (λ (places : Places). FillsThrough is_blank places g new)
+          (ap₂ (λ (ts : List ℕ) (places : Places). thinned s.lines ts places) are all_places ∙ sym (with_pieces (has_pieces s g.rows g.columns) _ (same_places g.rows g.columns) has ∙ some_shown s.display s.lines _ _ e))
+          (thinned_fills is_blank s.lines kept (cut_places s.lines s.behavior s.index lines width) g mid new fills new_even count wide each);
+      unsplit = λ none. absurd (true≢false (sym has ∙ none));
+    }
 
 -- an old place is that of one new place
 some_is : (b : Bool) (p q : Position) → cond b (Some p) None ≡ Some q → p ≡ q
@@ -127,10 +195,13 @@ module _ (s : Split) (lines width : ℕ) (q : Position) (index : 0 < s.index) (h
     alone = alone;
   }
 
-pub split_once : (s : Split) (rows columns : ℕ) (q : Position) → q.row < rows → q.col < columns → IsTakenOnce (split_places s rows columns) q
-split_once s rows columns q h k = either (has_pieces s rows columns) refl
+pub split_once : (s : Split) (g : Grid (List ℕ)) (q : Position) → s.display ≡ Retain → q.row < g.rows → q.col < g.columns → IsTakenOnce (split_places s g) q
+split_once s g q retained h k = either (has_pieces s g.rows g.columns) refl
   where
-    lines_of : (axis : Axis) → (line_of axis q < count_of axis rows columns) × (line_of (across axis) q < count_of (across axis) rows columns)
+    all : Places
+    all = cut_places s.lines s.behavior s.index (count_of s.lines g.rows g.columns) (count_of (across s.lines) g.rows g.columns)
+
+    lines_of : (axis : Axis) → (line_of axis q < count_of axis g.rows g.columns) × (line_of (across axis) q < count_of (across axis) g.rows g.columns)
     lines_of Rows = (h, k)
     lines_of Columns = (k, h)
 
@@ -140,8 +211,9 @@ split_once s rows columns q h k = either (has_pieces s rows columns) refl
     second false true z e = refl
     second false false z e = e
 
-    either : (b : Bool) → has_pieces s rows columns ≡ b → IsTakenOnce (cond b (cut_places s.lines s.behavior s.index (count_of s.lines rows columns) (count_of (across s.lines) rows columns)) (same_places rows columns)) q
+    either : (b : Bool) → has_pieces s g.rows g.columns ≡ b → IsTakenOnce (cond b (shown s.display s.lines (kept_pieces s (turned s.lines g)) all) (same_places g.rows g.columns)) q
     either true e =
-        let some : 0 < s.index = ltb-true 0 s.index (second (nat_lt 0 (count_of s.lines rows columns)) (nat_lt 0 s.index) (nat_lt s.index (count_of (across s.lines) rows columns)) e) in
-        cut_once s (count_of s.lines rows columns) (count_of (across s.lines) rows columns) q some (lines_of s.lines).0 (lines_of s.lines).1
+        let some : 0 < s.index = ltb-true 0 s.index (second (nat_lt 0 (count_of s.lines g.rows g.columns)) (nat_lt 0 s.index) (nat_lt s.index (count_of (across s.lines) g.rows g.columns)) e) in
+        subst (λ (places : Places). IsTakenOnce places q) (sym (all_shown s.display s.lines (kept_pieces s (turned s.lines g)) all retained))
+        (cut_once s (count_of s.lines g.rows g.columns) (count_of (across s.lines) g.rows g.columns) q some (lines_of s.lines).0 (lines_of s.lines).1)
     either false e = record { to = q; row = h; col = k; takes = refl; alone = λ p at_row at_col is. ap (λ (o : Option Position). unwrap_or o p) is }

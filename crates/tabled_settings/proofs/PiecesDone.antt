@@ -19,12 +19,13 @@ use Rattle.tabled_settings.specs.declared.split.Split.{Split}
 use Rattle.tabled_settings.specs.Lines.{DropsLines, HasLines, line}
 use Rattle.tabled_grid.proofs.PiecesCut.{ComesFrom, IsCut, enough_pieces, some_pieces}
 use Rattle.tabled_grid.proofs.PiecesPut.{inside_of, piece_line, source}
+use Rattle.tabled_settings.specs.PiecePlaces.{kept_pieces}
 use Rattle.tabled_settings.specs.PieceTexts.{has_text, is_empty_piece}
 use Rattle.tabled_grid.specs.Axis.{across, count_of, place_in}
 use Rattle.tabled_grid.specs.Pieces.{nth_piece}
 use Rattle.tabled_settings.specs.Pieces.{has_pieces, is_text, piece_at, split, staying, stays, turned}
 use Rattle.tabled_settings.specs.Rearranged.{left_over}
-use Rattle.tabled_settings.proofs.PieceReads.{filter_all, filter_alike, filter_below, filter_some, first_number, length-piece, piece_text, pieces_are, some_inside, turned_cell, turned_even, turned_rows}
+use Rattle.tabled_settings.proofs.PieceReads.{filter_all, filter_alike, filter_below, filter_some, first_number, length-piece, piece_text, pieces_are, some_inside, turned_cell, turned_columns, turned_even, turned_rows}
 use Rattle.tabled_settings.proofs.PieceTexts.{at_line, length-line}
 use Rattle.tabled_settings.proofs.SameCells.{none_outside}
 
@@ -182,17 +183,32 @@ module _ {A : Type 0} (text_of : A → List ℕ) (is_blank : A → Type 0) (blan
   clean_shape Rows n new h l = (l.rows, l.columns ∙ ap (λ (b : Bool). cond b 0 mid.columns) (ne_eqb n 0 (λ e. omega (arith, e, h))))
   clean_shape Columns n new h l = (l.columns, l.rows)
 
-  pub clean_done : (new : Grid A) → s.display ≡ Clean → DropsLines s.lines (is_empty_piece text_of s lines pieces mid) mid new → map_grid text_of new ≡ split s texts
-  clean_done new e d =
-      let count : count_along s.lines mid ≡ lines * pieces = (rw (← pieces_is) at cut.count) in
-      let ts : List ℕ = left_over (is_empty_piece text_of s lines pieces mid) (lines * pieces) in
-      let all : 0 < lines * pieces = omega (arith, row_fits 0 lines pieces lines any (omega arith), some) in
-      let first : not (is_empty_piece text_of s lines pieces mid 0) ≡ true = rw (first_number s.behavior lines pieces) refl in
-      let kept : 0 < length ts = filter_some (λ (t : ℕ). not (is_empty_piece text_of s lines pieces mid t)) (lines * pieces) all first in
-      let shape = clean_shape s.lines (length ts) new kept (rw count at d.shape) in
-      made new ts (sym (some_stay e)) d.shape.even shape.0 (shape.1 ∙ cut.wide)
-      (λ a b h k.
-      let read : line s.lines new a ≡ line s.lines mid (get_or ts a 0) = (rw count at d.kept) a h in (
-        at_line s.lines new a b ∙ ap (λ (cells : List (Option A)). get_or cells b None) read ∙ sym (at_line s.lines mid (get_or ts a 0) b),
-        filter_below (λ (t : ℕ). not (is_empty_piece text_of s lines pieces mid t)) (lines * pieces) a h,
-      ))
+  module _ (new : Grid A) (clean : s.display ≡ Clean) (d : DropsLines s.lines (is_empty_piece text_of s lines pieces mid) mid new) where
+    abbrev pub left : List ℕ
+    left = left_over (is_empty_piece text_of s lines pieces mid) (lines * pieces)
+
+    count : count_along s.lines mid ≡ lines * pieces
+    count = (rw (← pieces_is) at cut.count)
+
+    shape : (count_along s.lines new ≡ length left) × (count_along (across s.lines) new ≡ count_along (across s.lines) mid)
+    shape =
+        let all : 0 < lines * pieces = omega (arith, row_fits 0 lines pieces lines any (omega arith), some) in
+        let first : not (is_empty_piece text_of s lines pieces mid 0) ≡ true = rw (first_number s.behavior lines pieces) refl in
+        clean_shape s.lines (length left) new (filter_some (λ (t : ℕ). not (is_empty_piece text_of s lines pieces mid t)) (lines * pieces) all first) (rw count at d.shape)
+
+    read : (a : ℕ) → a < length left → (line s.lines new a ≡ line s.lines mid (get_or left a 0)) × (get_or left a 0 < lines * pieces)
+    read a h = ((rw count at d.kept) a h, filter_below (λ (t : ℕ). not (is_empty_piece text_of s lines pieces mid t)) (lines * pieces) a h)
+
+    pub clean_done : map_grid text_of new ≡ split s texts
+    clean_done =
+        made new left (sym (some_stay clean)) d.shape.even shape.0 (shape.1 ∙ cut.wide)
+        (λ a b h k. (at_line s.lines new a b ∙ ap (λ (cells : List (Option A)). get_or cells b None) (read a h).0 ∙ sym (at_line s.lines mid (get_or left a 0) b), (read a h).1))
+
+    pub clean_kept : left ≡ kept_pieces s (turned s.lines texts)
+    clean_kept = sym (some_stay clean) ∙ ap (λ (n : ℕ). staying s n rows) (pieces_is ∙ ap (λ (n : ℕ). div_ceil n s.index) (sym (turned_columns s.lines texts (omega (arith, some, texts_lines)) ∙ texts_width)))
+
+    pub clean_lines : (a : ℕ) → a < length left → (line s.lines new a ≡ line s.lines mid (get_or left a 0)) × (get_or left a 0 < count_along s.lines mid)
+    clean_lines a h = ((read a h).0, omega (arith, (read a h).1, count))
+
+    pub clean_counts : (count_along s.lines new ≡ length left) × (count_along (across s.lines) new ≡ count_along (across s.lines) mid)
+    clean_counts = shape

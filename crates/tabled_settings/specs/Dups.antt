@@ -5,10 +5,10 @@ use Rattle.tabled_grid.specs.Entity.{inside}
 use Rattle.tabled_grid.specs.Grid.{Grid, map_grid}
 use Rattle.tabled_grid.specs.declared.config.entity.Entity.{Entity}
 use Rattle.tabled_grid.specs.declared.config.position.Position.{Position}
-use Rattle.tabled_options.specs.Does.{Change}
+use Rattle.tabled_options.specs.Does.{Change, SameOr}
 use Rattle.tabled_select.specs.Algebra.{flat}
 use Rattle.tabled_select.specs.Locators.{text_at}
-use Rattle.tabled_options.specs.Writes.{FirstWrites, Write, with_writes}
+use Rattle.tabled_options.specs.Writes.{DoesFirstWrites, DoesWrites, Write}
 
 -- texts for places, the i-th one for the first of them, and after the last one the first again
 abbrev pub round_from : ℕ → List (List ℕ) → List Position → List Write
@@ -19,18 +19,23 @@ round_from i texts (p ∷ places) = record { place = p; text = get_or texts (i %
 abbrev pub round_writes : List (List ℕ) → ℕ → ℕ → List Entity → List Write
 round_writes texts rows columns entities = flat_map (λ e. round_from 0 texts (inside e rows columns)) entities
 
+-- the same where there are texts, and else no writes
+abbrev pub rounds : List (List ℕ) → ℕ → ℕ → List Entity → List Write
+rounds [] rows columns entities = []
+rounds (text ∷ texts) rows columns entities = round_writes (text ∷ texts) rows columns entities
+
 -- the texts in a grid of what entities name
 abbrev pub source_texts : Grid (List ℕ) → List Entity → List (List ℕ)
 source_texts g sources = map (text_at g) (flat sources g.rows g.columns)
 
--- the texts of a source, written to what a destination lists in the old grid, or no change without texts
+-- the writes of the texts of sources to what targets name
+abbrev pub dup_writes : List Entity → List Entity → Grid (List ℕ) → List Write
+dup_writes sources targets g = rounds (source_texts g sources) g.rows g.columns targets
+
+-- the texts of a source, written to what a destination lists in the old grid; without texts it isn't asked
 abbrev pub Duplicates : {A C : Type 0} → (A → List ℕ) → (Grid A → List Entity → Type 0) → (Grid A → List Entity → Type 0) → Change A C
-Duplicates text_of destination source g c h d = (sources : List Entity) × source g sources × write (source_texts (map_grid text_of g) sources) × (d ≡ c)
-  where
-    write : List (List ℕ) → Type 0
-    write [] = map_grid text_of h ≡ map_grid text_of g
-    write (text ∷ texts) = (targets : List Entity) × destination g targets × (map_grid text_of h ≡ with_writes (round_writes (text ∷ texts) g.rows g.columns targets) (map_grid text_of g))
+Duplicates text_of destination source g c h d = (sources : List Entity) × (targets : List Entity) × source g sources × ((source_texts (map_grid text_of g) sources ≡ []) ⊎ destination g targets) × DoesWrites text_of (dup_writes sources targets) g c h d
 
 -- no change, or the first of these writes
 abbrev pub DuplicatesFirst : {A C : Type 0} → (A → List ℕ) → (Grid A → List Entity → Type 0) → (Grid A → List Entity → Type 0) → Change A C
-DuplicatesFirst text_of destination source g c h d = (map_grid text_of h ≡ map_grid text_of g ⊎ ((sources : List Entity) × source g sources × (targets : List Entity) × destination g targets × FirstWrites (round_writes (source_texts (map_grid text_of g) sources) g.rows g.columns targets) (map_grid text_of g) (map_grid text_of h))) × (d ≡ c)
+DuplicatesFirst text_of destination source = SameOr (λ g c h d. (sources : List Entity) × (targets : List Entity) × source g sources × destination g targets × DoesFirstWrites text_of (dup_writes sources targets) g c h d)

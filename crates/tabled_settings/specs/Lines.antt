@@ -1,5 +1,5 @@
 -- The rows or the columns of a grid, one after another.
-use Rattle.std.specs.Prelude.{Bool, ◌≡◌, ◌<◌, ◌≤◌, ◌⊎◌, ℕ, ◌+◌, ◌-◌, List, [], Option, Some, length, map, min, slice_get, slice_index_or}
+use Rattle.std.specs.Prelude.{Bool, false, ◌≡◌, ◌<◌, ◌≤◌, ◌⊎◌, ℕ, ◌+◌, ◌-◌, List, [], Option, Some, length, map, min, slice_get, slice_index_or}
 use Rattle.tabled_grid.specs.Along.{count_along}
 use Rattle.tabled_grid.specs.Places.{IsShapedAs}
 use Rattle.tabled_grid.specs.Grid.{Grid, IsEven}
@@ -60,6 +60,10 @@ pub record ThinsLines {A : Type 0} (axis : Axis) (gone : ℕ → Bool) (i k : �
   pub few : k ≤ i
   pub front : (a : ℕ) → a < k → line axis new a ≡ line axis old (slice_index_or (left_over gone i) a 0)
   pub behind : (a : ℕ) → i ≤ a → line axis new a ≡ line axis old a
+
+-- a line has a mark
+abbrev pub is_marked : List Bool → ℕ → Bool
+is_marked marks i = slice_index_or marks i false
 
 -- the lines are gone for which a test holds
 pub record DropsLines {A : Type 0} (axis : Axis) (gone : ℕ → Bool) (old new : Grid A) : Type 0 where

@@ -1,31 +1,50 @@
--- Where the cells of pieces come from, where all pieces are kept, and pieces glued together.
-use Rattle.std.specs.Prelude.{◌≡◌, ℕ, if◌then◌else◌, List, [], Some, map, slice_index_or, take}
+-- Where the cells of pieces come from, and pieces glued together.
+use Rattle.std.specs.Prelude.{◌≡◌, ℕ, if◌then◌else◌, false, List, [], Some, length, map, slice_index_or, take}
 use Rattle.std.specs.Int.{div_ceil}
 use Rattle.std.specs.List.{filter, flat_map, range_with_len}
 use Rattle.tabled_grid.specs.Flat.{joined}
 use Rattle.tabled_grid.specs.Grid.{Grid, map_grid}
-use Rattle.tabled_grid.specs.Axis.{across, count_of}
+use Rattle.tabled_grid.specs.Axis.{across, count_of, in_line, line_of}
 use Rattle.tabled_grid.specs.Pieces.{cut_places, piece_index}
-use Rattle.tabled_grid.specs.Places.{Places, ReadsThrough}
+use Rattle.tabled_grid.specs.Places.{FillsThrough, Places}
 use Rattle.tabled_grid.specs.declared.config.position.Position.{Position}
 use Rattle.tabled_grid.specs.declared.records.axis.Axis.{Axis}
 use Rattle.tabled_grid.specs.declared.records.piece_order.PieceOrder.{PieceOrder}
-use Rattle.tabled_settings.specs.declared.split.Display.TheVariants.{Retain}
+use Rattle.tabled_settings.specs.declared.split.Display.{Display}
+use Rattle.tabled_settings.specs.declared.split.Display.TheVariants.{Clean, Retain}
 use Rattle.tabled_settings.specs.declared.split.Split.{Split}
-use Rattle.tabled_settings.specs.Pieces.{has_pieces, is_text, split, turned}
+use Rattle.tabled_settings.specs.Pieces.{has_pieces, is_text, split, staying, turned}
 
 -- each place keeps its cell
 abbrev pub same_places : ℕ → ℕ → Places
 same_places rows columns = record { rows = rows; columns = columns; old_place = λ (p : Position). Some p }
 
--- where the cells come from, where all pieces are kept
-abbrev pub split_places : Split → ℕ → ℕ → Places
-split_places s rows columns = if has_pieces s rows columns then cut_places s.lines s.behavior s.index (count_of s.lines rows columns) (count_of (across s.lines) rows columns) else same_places rows columns
+-- some lines alone, in order: the t-th one is the t-th of these
+abbrev pub thinned : Axis → List ℕ → Places → Places
+thinned axis kept places = record {
+  rows = count_of axis (length kept) places.rows;
+  columns = count_of axis places.columns (length kept);
+  old_place = λ (p : Position). places.old_place (in_line axis p (slice_index_or kept (line_of axis p) 0));
+}
 
--- the texts are those of the pieces, and where all pieces are kept the cells are the old ones
-pub record Splits {A : Type 0} (text_of : A → List ℕ) (s : Split) (old new : Grid A) : Type 0 where
+-- the lines that are shown: all of them, or those that are kept
+abbrev pub shown : Display → Axis → List ℕ → Places → Places
+shown Retain axis kept places = places
+shown Clean axis kept places = thinned axis kept places
+
+-- the numbers of the pieces of rows that stay, in order
+abbrev pub kept_pieces : Split → Grid (List ℕ) → List ℕ
+kept_pieces s g = staying s (div_ceil g.columns s.index) g.cells
+
+-- where the cells of the pieces that stay come from, in a grid of these texts
+abbrev pub split_places : Split → Grid (List ℕ) → Places
+split_places s g = if has_pieces s g.rows g.columns then shown s.display s.lines (kept_pieces s (turned s.lines g)) (cut_places s.lines s.behavior s.index (count_of s.lines g.rows g.columns) (count_of (across s.lines) g.rows g.columns)) else same_places g.rows g.columns
+
+-- the texts are those of the pieces that stay, each cell is the old one of its place or a blank, and where there are no pieces the grid is as it was
+pub record Splits {A : Type 0} (is_blank : A → Type 0) (text_of : A → List ℕ) (s : Split) (old new : Grid A) : Type 0 where
   pub texts : map_grid text_of new ≡ split s (map_grid text_of old)
-  pub cells : s.display ≡ Retain → ReadsThrough (split_places s old.rows old.columns) old new
+  pub cells : FillsThrough is_blank (split_places s (map_grid text_of old)) old new
+  pub unsplit : has_pieces s old.rows old.columns ≡ false → new ≡ old
 
 -- the pieces of line i, one behind the other, cut at a width
 abbrev pub glued_line : {A : Type 0} → PieceOrder → ℕ → ℕ → ℕ → List (List A) → ℕ → List A

@@ -1,6 +1,6 @@
 -- The rearrangements: where their cells come from, in a table of so many rows and columns.
 use Rattle.std.specs.Prelude.{ℕ, ◌+◌, ◌-◌, ◌==◌, ◌&&◌, if◌then◌else◌, Bool, List, Some, length, min, nat_le, nat_lt, not, slice_index_or}
-use Rattle.std.specs.List.{filter, list_any, range_with_len}
+use Rattle.std.specs.List.{filter, range_with_len}
 use Rattle.std.specs.declared.ops.Bound.{Bound}
 use Rattle.tabled_grid.specs.Bounds.{end_index, first_index}
 use Rattle.tabled_grid.specs.Entity.{place}
@@ -13,6 +13,7 @@ use Rattle.tabled_settings.specs.declared.rotate.Rotate.{Rotate}
 use Rattle.tabled_settings.specs.declared.rotate.Rotate.TheVariants.{Left, Right, Top, Bottom}
 use Rattle.tabled_grid.specs.Axis.{count_of}
 use Rattle.tabled_grid.specs.Places.{Places}
+use Rattle.tabled_select.specs.Located.{is_located}
 use Rattle.tabled_settings.specs.Places.{lines_from}
 
 -- so many columns, of which there are none without rows
@@ -60,18 +61,14 @@ extracted in_rows in_columns rows columns = record {
   old_place = λ (p : Position). Some (place (first_index in_rows.0 + p.row) (first_index in_columns.0 + p.col));
 }
 
--- an index is among some
-abbrev pub is_among : List ℕ → ℕ → Bool
-is_among found i = list_any (λ (k : ℕ). k == i) found
-
 -- the indexes below n for which a test fails, in order
 abbrev pub left_over : (ℕ → Bool) → ℕ → List ℕ
 left_over gone n = filter (λ (i : ℕ). not (gone i)) (range_with_len 0 n)
 
 -- the rows, or the columns, whose indexes are not among some
 abbrev pub removed : Axis → List ℕ → ℕ → ℕ → Places
-removed Rows found rows columns = lines_from Rows (λ (i : ℕ). slice_index_or (left_over (is_among found) rows) i 0) (length (left_over (is_among found) rows)) (columns_if (length (left_over (is_among found) rows)) columns)
-removed Columns found rows columns = lines_from Columns (λ (j : ℕ). slice_index_or (left_over (is_among found) columns) j 0) rows (length (left_over (is_among found) columns))
+removed Rows found rows columns = lines_from Rows (λ (i : ℕ). slice_index_or (left_over (is_located found) rows) i 0) (length (left_over (is_located found) rows)) (columns_if (length (left_over (is_located found) rows)) columns)
+removed Columns found rows columns = lines_from Columns (λ (j : ℕ). slice_index_or (left_over (is_located found) columns) j 0) rows (length (left_over (is_located found) columns))
 
 -- a table with its rows and its columns in the opposite order
 abbrev pub turned_half : ℕ → ℕ → Places

@@ -1,6 +1,7 @@
 //! Rows or columns that are located, taken away.
 
 ghost use Rattle.std.specs.Prelude.{◌≡◌, ℕ, List, OnErr, OnOk};
+ghost use Rattle.tabled_grid.specs.declared.records.axis.Axis.{Axis};
 ghost use Rattle.tabled_grid.specs.declared.records.axis.Axis.TheVariants.{Columns, Rows};
 ghost use Rattle.tabled_options.specs.Does.{Same};
 ghost use Rattle.tabled_grid.specs.Places.{ReadsThrough};
@@ -13,7 +14,7 @@ use std::marker::{Model, PhantomData};
 use tabled_grid::config::Entity;
 use tabled_grid::records::{Axis, Blank, ExactRecords, Records, Resizable};
 use tabled_options::TableOption;
-use tabled_select::location::{Location, coordinates};
+use tabled_select::location::{Location, marks};
 
 /// Takes away the rows, or the columns, that a location finds. A contract sees it as the location.
 ///
@@ -82,14 +83,41 @@ impl<L> Remove<L, TargetColumn> {
     }
 }
 
-impl<L, R, C, D> TableOption<R, C, D> for Remove<L, TargetRow>
+/// The lines that `Remove` takes away.
+pub trait Target {
+    /// Rows or columns.
+    ghost lines: { Axis };
+
+    /// The axis of the lines.
+    fn axis() -> Axis
+        ensures { result ≡ lines };
+}
+
+impl Target for TargetRow {
+    ghost lines = { Rows };
+
+    fn axis() -> Axis {
+        Axis::Rows
+    }
+}
+
+impl Target for TargetColumn {
+    ghost lines = { Columns };
+
+    fn axis() -> Axis {
+        Axis::Columns
+    }
+}
+
+impl<L, T, R, C, D> TableOption<R, C, D> for Remove<L, T>
 where
+    T: Target,
     L: Location<R, Coordinate = usize> + Drop,
     <L::IntoIter as IntoIterator>::IntoIter: Drop,
     R: Records + ExactRecords + Resizable,
     R::Cell: Blank,
 {
-    ghost does = { λ s g c h d. ((found : List ℕ) × L.locates s g found × ReadsThrough (removed Rows found g.rows g.columns) g h) × (d ≡ c) };
+    ghost does = { λ s g c h d. ((found : List ℕ) × L.locates s g found × ReadsThrough (removed T.lines found g.rows g.columns) g h) × (d ≡ c) };
 
     ghost leaves = { λ _. Same };
 
@@ -104,7 +132,7 @@ where
         _cfg: &mut C,
         _dimension: &mut D,
     ) -> Result<(), AllocError> {
-        remove_located(alloc, records, &mut self.locator, Axis::Rows)
+        remove_located(alloc, records, &mut self.locator, T::axis())
     }
 
     fn hint_change(&self) -> Option<Entity> {
@@ -114,39 +142,8 @@ where
     ghost acts_like = { Prim.search rules };
 }
 
-impl<L, R, C, D> TableOption<R, C, D> for Remove<L, TargetColumn>
-where
-    L: Location<R, Coordinate = usize> + Drop,
-    <L::IntoIter as IntoIterator>::IntoIter: Drop,
-    R: Records + ExactRecords + Resizable,
-    R::Cell: Blank,
-{
-    ghost does = { λ s g c h d. ((found : List ℕ) × L.locates s g found × ReadsThrough (removed Columns found g.rows g.columns) g h) × (d ≡ c) };
-
-    ghost leaves = { λ _. Same };
-
-    ghost can_change = { λ s. L.can_locate s };
-
-    ghost never_refused = { λ _ _ _. ⊥ };
-
-    fn change(
-        mut self,
-        alloc: Global,
-        records: &mut R,
-        _cfg: &mut C,
-        _dimension: &mut D,
-    ) -> Result<(), AllocError> {
-        remove_located(alloc, records, &mut self.locator, Axis::Columns)
-    }
-
-    fn hint_change(&self) -> Option<Entity> {
-        Some(Entity::Global)
-    }
-
-    ghost acts_like = { Prim.search rules };
-}
-
-/// Removes the rows or the columns that a location finds. Only to list these takes memory.
+/// Removes the rows or the columns that a location finds. Only to mark these takes memory, a byte for each
+/// line of the table.
 fn remove_located<R, L>(
     alloc: Global,
     records: &mut R,
@@ -164,8 +161,7 @@ where
     ensures ok { OnOk result ((found : List ℕ) × L.locates locator.old (R.grid records.old) found × ReadsThrough (removed axis found ((R.grid records.old).rows) ((R.grid records.old).columns)) (R.grid records.old) (R.grid records.new)) }
     ensures err { OnErr result (R.grid records.new ≡ R.grid records.old) }
 {
-    let mut found = coordinates(alloc, locator, records)?;
-    found.sort_unstable();
-    lines::remove(axis, records, &found);
+    let gone = marks(alloc, locator, records, axis.count(records))?;
+    lines::remove(axis, records, &gone);
     Ok(())
 }

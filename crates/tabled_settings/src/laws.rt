@@ -2,7 +2,7 @@
 
 ghost use Rattle.std.specs.Prelude.{◌≡◌, ◌<◌, ℕ, Bool, List, count_by};
 ghost use Rattle.std.specs.List.{AllByRecursion};
-ghost use Rattle.tabled_grid.specs.Grid.{IsEven, map_grid};
+ghost use Rattle.tabled_grid.specs.Grid.{Grid, IsEven, map_grid};
 ghost use Rattle.tabled_grid.specs.declared.config.entity.Entity.{Entity};
 ghost use Rattle.tabled_options.specs.Does.{OptionKeeps};
 ghost use Rattle.tabled_settings.specs.declared.rotate.Rotate.TheVariants.{Bottom, Left, Right, Top};
@@ -35,16 +35,14 @@ pub use tabled_spans::laws::{
 };
 
 /// A table with a row and a column that is turned to the left and then to the right is as it was.
-pub fn left_then_right_is_as_it_was<R: GridStore>(_old: &R, _turned: &R, _new: &R)
-where
-    ensures { IsEven (R.grid _old.now) → 0 < (R.grid _old.now).rows → 0 < (R.grid _old.now).columns → ReadsThrough (rotated Left ((R.grid _old.now).rows) ((R.grid _old.now).columns)) (R.grid _old.now) (R.grid _turned.now) → ReadsThrough (rotated Right ((R.grid _turned.now).rows) ((R.grid _turned.now).columns)) (R.grid _turned.now) (R.grid _new.now) → R.grid _new.now ≡ R.grid _old.now }
+pub fn left_then_right_is_as_it_was<A>()
+    ensures { (old : Grid A) (turned : Grid A) (new : Grid A) → IsEven old → 0 < old.rows → 0 < old.columns → ReadsThrough (rotated Left old.rows old.columns) old turned → ReadsThrough (rotated Right turned.rows turned.columns) turned new → new ≡ old }
 {}
 
 /// A table with a row and a column that is turned to the left twice has its rows and its columns in the
 /// opposite order.
-pub fn left_twice_is_a_half_turn<R: GridStore>(_old: &R, _turned: &R, _new: &R)
-where
-    ensures { 0 < (R.grid _old.now).rows → 0 < (R.grid _old.now).columns → ReadsThrough (rotated Left ((R.grid _old.now).rows) ((R.grid _old.now).columns)) (R.grid _old.now) (R.grid _turned.now) → ReadsThrough (rotated Left ((R.grid _turned.now).rows) ((R.grid _turned.now).columns)) (R.grid _turned.now) (R.grid _new.now) → ReadsThrough (turned_half ((R.grid _old.now).rows) ((R.grid _old.now).columns)) (R.grid _old.now) (R.grid _new.now) }
+pub fn left_twice_is_a_half_turn<A>()
+    ensures { (old : Grid A) (turned : Grid A) (new : Grid A) → 0 < old.rows → 0 < old.columns → ReadsThrough (rotated Left old.rows old.columns) old turned → ReadsThrough (rotated Left turned.rows turned.columns) turned new → ReadsThrough (turned_half old.rows old.columns) old new }
 {}
 
 /// To the top and to the bottom are one turn.
@@ -53,15 +51,13 @@ pub fn top_is_bottom(_rows: usize, _columns: usize)
 {}
 
 /// A table that is turned upside down twice is as it was.
-pub fn top_twice_is_as_it_was<R: GridStore>(_old: &R, _turned: &R, _new: &R)
-where
-    ensures { IsEven (R.grid _old.now) → ReadsThrough (rotated Top ((R.grid _old.now).rows) ((R.grid _old.now).columns)) (R.grid _old.now) (R.grid _turned.now) → ReadsThrough (rotated Top ((R.grid _turned.now).rows) ((R.grid _turned.now).columns)) (R.grid _turned.now) (R.grid _new.now) → R.grid _new.now ≡ R.grid _old.now }
+pub fn top_twice_is_as_it_was<A>()
+    ensures { (old : Grid A) (turned : Grid A) (new : Grid A) → IsEven old → ReadsThrough (rotated Top old.rows old.columns) old turned → ReadsThrough (rotated Top turned.rows turned.columns) turned new → new ≡ old }
 {}
 
 /// A table whose rows or columns are reversed twice, from the same start up to the same limit, is as it was.
-pub fn reversed_twice_is_as_it_was<R: GridStore>(_reverse: Reverse, _old: &R, _turned: &R, _new: &R)
-where
-    ensures { IsEven (R.grid _old.now) → ReadsThrough (reversed _reverse.axis _reverse.start _reverse.limit ((R.grid _old.now).rows) ((R.grid _old.now).columns)) (R.grid _old.now) (R.grid _turned.now) → ReadsThrough (reversed _reverse.axis _reverse.start _reverse.limit ((R.grid _turned.now).rows) ((R.grid _turned.now).columns)) (R.grid _turned.now) (R.grid _new.now) → R.grid _new.now ≡ R.grid _old.now }
+pub fn reversed_twice_is_as_it_was<A>(_reverse: Reverse)
+    ensures { (old : Grid A) (turned : Grid A) (new : Grid A) → IsEven old → ReadsThrough (reversed _reverse.axis _reverse.start _reverse.limit old.rows old.columns) old turned → ReadsThrough (reversed _reverse.axis _reverse.start _reverse.limit turned.rows turned.columns) turned new → new ≡ old }
 {}
 
 /// A turn takes each old cell to exactly one new place.
@@ -80,32 +76,26 @@ pub fn reverse_takes_each_cell_once(
 {}
 
 /// A split that keeps all pieces takes each old cell to exactly one new place.
-pub fn split_takes_each_cell_once(_split: Split, _rows: usize, _columns: usize, _pos: Position)
-    ensures { _pos.row < _rows → _pos.col < _columns → IsTakenOnce (split_places _split _rows _columns) _pos }
+pub fn split_takes_each_cell_once(_split: Split, _pos: Position)
+    ensures { (g : Grid (List ℕ)) → _split.display ≡ Retain → _pos.row < g.rows → _pos.col < g.columns → IsTakenOnce (split_places _split g) _pos }
 {}
 
 /// The pieces of a table with a row and a column, all kept, are the table again where they are glued
 /// together and cut at its old shape.
-pub fn split_is_undone_by_gluing<R: GridStore>(_split: Split, _old: &R, _new: &R)
-where
-    R::Cell: CellText,
-    ensures { IsEven (R.grid _old.now) → 0 < (R.grid _old.now).rows → 0 < (R.grid _old.now).columns → 0 < _split.index → _split.display ≡ Retain → map_grid R.Cell.text_of (R.grid _new.now) ≡ split _split (map_grid R.Cell.text_of (R.grid _old.now)) → glued _split ((R.grid _old.now).rows) ((R.grid _old.now).columns) (map_grid R.Cell.text_of (R.grid _new.now)) ≡ map_grid R.Cell.text_of (R.grid _old.now) }
+pub fn split_is_undone_by_gluing(_split: Split)
+    ensures { (old : Grid (List ℕ)) → IsEven old → 0 < old.rows → 0 < old.columns → 0 < _split.index → _split.display ≡ Retain → glued _split old.rows old.columns (split _split old) ≡ old }
 {}
 
 /// A split loses no text: those that aren't empty stand in the new rows, or columns, as often as in all
 /// the pieces, and in their order.
-pub fn split_loses_no_text<R: GridStore>(_split: Split, _old: &R, _new: &R)
-where
-    R::Cell: CellText,
-    ensures { IsEven (R.grid _old.now) → map_grid R.Cell.text_of (R.grid _new.now) ≡ split _split (map_grid R.Cell.text_of (R.grid _old.now)) → texts_in _split.lines (map_grid R.Cell.text_of (R.grid _new.now)) ≡ texts_in _split.lines (split (record _split { display = Retain }) (map_grid R.Cell.text_of (R.grid _old.now))) }
+pub fn split_loses_no_text(_split: Split)
+    ensures { (old : Grid (List ℕ)) → IsEven old → texts_in _split.lines (split _split old) ≡ texts_in _split.lines (split (record _split { display = Retain }) old) }
 {}
 
 /// A split keeps each text as often as it stood in the table: of the texts that aren't empty, as many pass
 /// a test after it as before it, whatever the test, the order of the pieces and which of them stay.
-pub fn split_keeps_each_text_as_often<R: GridStore>(_split: Split, _old: &R, _new: &R)
-where
-    R::Cell: CellText,
-    ensures { IsEven (R.grid _old.now) → map_grid R.Cell.text_of (R.grid _new.now) ≡ split _split (map_grid R.Cell.text_of (R.grid _old.now)) → (p : List ℕ → Bool) → count_by p (texts_in _split.lines (map_grid R.Cell.text_of (R.grid _new.now))) ≡ count_by p (texts_in _split.lines (map_grid R.Cell.text_of (R.grid _old.now))) }
+pub fn split_keeps_each_text_as_often(_split: Split)
+    ensures { (old : Grid (List ℕ)) (p : List ℕ → Bool) → IsEven old → count_by p (texts_in _split.lines (split _split old)) ≡ count_by p (texts_in _split.lines old) }
 {}
 
 /// A clean text has no control character but the newline.

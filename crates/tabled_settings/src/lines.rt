@@ -1,12 +1,9 @@
 //! Work on the rows or on the columns of a store.
 
-ghost use Rattle.std.specs.Prelude.{◌≡◌, ◌≤◌};
-ghost use Rattle.std.specs.List.Sorted.{IsSorted};
-ghost use Rattle.std.specs.Ordering.{nat_cmp};
+ghost use Rattle.std.specs.Prelude.{◌≡◌, ◌<◌, ◌≤◌, length};
 ghost use Rattle.tabled_grid.specs.Along.{count_along};
 ghost use Rattle.tabled_grid.specs.Grid.{IsEven};
-ghost use Rattle.tabled_settings.specs.Lines.{DropsLines, KeepsLines, ReversesLines};
-ghost use Rattle.tabled_settings.specs.Rearranged.{is_among};
+ghost use Rattle.tabled_settings.specs.Lines.{DropsLines, KeepsLines, ReversesLines, is_marked};
 
 use std::ops::Range;
 use tabled_grid::records::{Axis, Blank, ExactRecords, Records, Resizable};
@@ -47,20 +44,20 @@ where
     records.truncate_lines(axis, kept);
 }
 
-/// Removes the lines whose indexes are in a list that rises. Those that stay come to the front, in order,
-/// each by one swap, and the rest is cut off.
-pub(crate) fn remove<R>(axis: Axis, records: &mut R, found: &[usize])
+/// Removes the lines that are marked. Those that stay come to the front, in order, each by one swap, and the
+/// rest is cut off.
+pub(crate) fn remove<R>(axis: Axis, records: &mut R, gone: &[bool])
 where
     R: Records + ExactRecords + Resizable,
     R::Cell: Blank,
     requires well { R.is_well_formed records.old }
-    requires sorted { IsSorted nat_cmp found.now }
+    requires many { length gone.now ≡ count_along axis (R.grid records.old) }
     ensures well { R.is_well_formed records.new }
-    ensures dropped { DropsLines axis (is_among found.now) (R.grid records.old) (R.grid records.new) }
+    ensures dropped { DropsLines axis (is_marked gone.now) (R.grid records.old) (R.grid records.new) }
 {
     let mut kept = 0;
     for i in 0..axis.count(records) {
-        if !contains(found, i) {
+        if !is_marked(gone, i) {
             axis.swap(records, kept, i);
             kept += 1;
         }
@@ -68,10 +65,10 @@ where
     records.truncate_lines(axis, kept);
 }
 
-/// Says whether a list that rises has an index.
-fn contains(sorted: &[usize], index: usize) -> bool
-    requires { IsSorted nat_cmp sorted.now }
-    ensures { result ≡ is_among sorted.now index }
+/// Whether a line has a mark.
+fn is_marked(marks: &[bool], index: usize) -> bool
+    requires { index < length marks.now }
+    ensures { result ≡ is_marked marks.now index }
 {
-    sorted.binary_search(&index).is_ok()
+    marks[index]
 }

@@ -43,7 +43,7 @@ pub enum Display {
 /// ```
 ///
 /// Ported from `tabled::settings::split::Split`.
-#[derive(Clone, Copy, Debug, PartialEq, Eq)]
+#[derive(Clone, Copy, Debug)]
 pub struct Split {
     /// The lines that are cut: rows, or columns.
     pub lines: Axis,
@@ -136,7 +136,7 @@ where
     R: Records + ExactRecords + PeekableRecords + Resizable,
     R::Cell: CellText,
 {
-    ghost does = { λ s g c h d. Splits R.Cell.text_of s g h × (d ≡ c) };
+    ghost does = { λ s g c h d. Splits R.Cell.is_blank R.Cell.text_of s g h × (d ≡ c) };
 
     ghost leaves = { λ _. Same };
 

@@ -17,7 +17,8 @@ use Rattle.tabled_grid.proofs.Grids.{IsEven-map_grid}
 use Rattle.tabled_grid.proofs.Mapped.{map_grid-with_column, map_grid-with_row}
 use Rattle.tabled_options.specs.Does.{Change, Each, EachListed}
 use Rattle.tabled_select.specs.Locators.{columns_with}
-use Rattle.tabled_settings.specs.Dups.{Duplicates, source_texts}
+use Rattle.tabled_options.specs.Writes.{Write, with_writes}
+use Rattle.tabled_settings.specs.Dups.{Duplicates, dup_writes, rounds, source_texts}
 use Rattle.tabled_settings.specs.Joined.{JoinsAt, corner_of, joined_text}
 use Rattle.tabled_grid.specs.Places.{Places}
 use Rattle.tabled_settings.specs.Rearranged.{extracted, removed, reversed, rotated}
@@ -26,7 +27,7 @@ use Rattle.tabled_settings.specs.declared.rotate.Rotate.TheVariants.{Left, Right
 use Rattle.tabled_spans.specs.Panels.{Panels, cells_along, has_room, with_line}
 use Rattle.tabled_steps.specs.Reads.{joined}
 use Rattle.tabled_steps.specs.Selected.{half_open, named_by, selected}
-use Rattle.tabled_steps.specs.States.{State, after, after_all, duplicate, merge, on_each, put_panel, rearrange, recode, set, span, state_of, with_texts_round}
+use Rattle.tabled_steps.specs.States.{State, after, after_all, duplicate, merge, on_each, put_panel, rearrange, recode, set, span, state_of}
 use Rattle.tabled_steps.specs.Steps.{Does, Merges, Names, Rearranges}
 use Rattle.tabled_steps.specs.declared.select.Select.{Select}
 use Rattle.tabled_steps.specs.declared.step.Step.{Step}
@@ -65,11 +66,13 @@ module _ {A : Type 0} (text_of : A → List ℕ) where
 
   module _ (g : Grid A) (c : SpanMap) (h : Grid A) (d : SpanMap) where
     duplicated : (destination source : Select) → Duplicates text_of (Names text_of destination) (Names text_of source) g c h d → state_of text_of h d ≡ duplicate (named_by destination) (named_by source) (state_of text_of g c)
-    duplicated destination source (sources, named, writes, same) = same_state _ _ _ _ (by (source_texts (map_grid text_of g) sources) refl ∙ ap (λ es. with_texts_round (source_texts (map_grid text_of g) es) (selected (map_grid text_of g) destination) (map_grid text_of g)) named) same
+    duplicated destination source (sources, targets, named, aimed, does) =
+        let texts : Grid (List ℕ) = map_grid text_of g in
+        same_state _ _ _ _ (does.0 ∙ ap (λ (ws : List Write). with_writes ws texts) (aim (source_texts texts sources) aimed ∙ ap (λ (es : List Entity). dup_writes es (selected texts destination) texts) named)) does.1
       where
-        by : (texts : List (List ℕ)) → source_texts (map_grid text_of g) sources ≡ texts → map_grid text_of h ≡ with_texts_round (source_texts (map_grid text_of g) sources) (selected (map_grid text_of g) destination) (map_grid text_of g)
-        by [] is = rw is (rw is at writes)
-        by (text ∷ texts) is = rw is (let it = rw is at writes in rw (← it.1) it.2)
+        aim : (texts : List (List ℕ)) → (texts ≡ []) ⊎ (targets ≡ selected (map_grid text_of g) destination) → rounds texts g.rows g.columns targets ≡ rounds texts g.rows g.columns (selected (map_grid text_of g) destination)
+        aim texts (inl none) = rw none refl
+        aim texts (inr listed) = ap (rounds texts g.rows g.columns) listed
 
     rearranged : (places : ℕ → ℕ → Places) → ((p : Position) → (q : Position) × ((places g.rows g.columns).old_place p ≡ Some q)) → Rearranges places g c h d → state_of text_of h d ≡ rearrange places (state_of text_of g c)
     rearranged places total (reads, same) = same_state _ _ _ _ (read_through text_of g h (places g.rows g.columns) total reads) same
@@ -121,29 +124,29 @@ module _ {A : Type 0} (text_of : A → List ℕ) where
         at a b k l (inl high) (inr right) = rw (lt-ltb a g.rows high, le-ltb b g.columns right) (joins.others a b k l (inr right))
 
   -- what a step does is what its formula says
-  pub after_step : (s : Step) (g : Grid A) (c : SpanMap) (h : Grid A) (d : SpanMap) → Does text_of s g c h d → state_of text_of h d ≡ after s (state_of text_of g c)
-  after_step (step.Set select text) g c h d does = listed_is select _ (set (string_bytes text)) (λ e g c h d w. same_state _ _ _ _ w.0 w.1) g c h d does
-  after_step (step.Dup destination source) g c h d does = duplicated g c h d destination source does
-  after_step (step.Charset charset select) g c h d does = listed_is select _ (recode charset) (λ e g c h d w. same_state _ _ _ _ w.0 w.1) g c h d does
-  after_step (step.ColumnSpan size select) g c h d does = listed_is select _ (span Columns size) (λ e g c h d w. same_state _ _ _ _ w.texts w.spans) g c h d does
-  after_step (step.RowSpan size select) g c h d does = listed_is select _ (span Rows size) (λ e g c h d w. same_state _ _ _ _ w.texts w.spans) g c h d does
-  after_step (step.HorizontalPanel panel) g c h d does = panelled g c h d Rows panel.0 panel.1 does
-  after_step (step.VerticalPanel panel) g c h d does = panelled g c h d Columns panel.0 panel.1 does
-  after_step (step.Header text) g c h d does = panelled g c h d Rows 0 text does
-  after_step (step.Footer text) g c h d does = panelled g c h d Rows g.rows text does
-  after_step step.MergeVertical g c h d does = merged g c h d Rows does
-  after_step step.MergeHorizontal g c h d does = merged g c h d Columns does
-  after_step (step.Rotate rotate) g c h d does = rearranged g c h d (rotated rotate) (total-rotated rotate g.rows g.columns) does
-  after_step (step.Reverse reverse) g c h d does = rearranged g c h d (reversed reverse.axis reverse.start reverse.limit) (λ p. (_, refl)) does
-  after_step (step.Split how) g c h d does = same_state _ _ _ _ does.0.texts does.1
-  after_step (step.Concat concat) g c h d does = same_state _ _ _ _ (joined_at g c h d concat.0 concat.1 concat.2 does.0) does.1
-  after_step (step.Extract a b k l) g c h d does = rearranged g c h d (extracted (half_open a b) (half_open k l)) (λ p. (_, refl)) does
-  after_step (step.RemoveRows a b) g c h d does = rearranged g c h d (removed Rows (indexes (half_open a b) g.rows)) (total-removed Rows _ g.rows g.columns) does
-  after_step (step.RemoveColumns a b) g c h d does = rearranged g c h d (removed Columns (indexes (half_open a b) g.columns)) (total-removed Columns _ g.rows g.columns) does
-  after_step (step.RemoveNamed name) g c h d does = rearranged g c h d (removed Columns (columns_with (string_bytes name) (map_grid text_of g))) (total-removed Columns _ g.rows g.columns) does
-  after_step (step.Both' _ first _ second) g c h d (m, k, one, other) = after_step second m k h d other ∙ ap (after second) (after_step first g c m k one)
+  pub after_step : (is_blank : A → Type 0) (s : Step) (g : Grid A) (c : SpanMap) (h : Grid A) (d : SpanMap) → Does is_blank text_of s g c h d → state_of text_of h d ≡ after s (state_of text_of g c)
+  after_step is_blank (step.Set select text) g c h d does = listed_is select _ (set (string_bytes text)) (λ e g c h d w. same_state _ _ _ _ w.0 w.1) g c h d does
+  after_step is_blank (step.Dup destination source) g c h d does = duplicated g c h d destination source does
+  after_step is_blank (step.Charset charset select) g c h d does = listed_is select _ (recode charset) (λ e g c h d w. same_state _ _ _ _ w.0 w.1) g c h d does
+  after_step is_blank (step.ColumnSpan size select) g c h d does = listed_is select _ (span Columns size) (λ e g c h d w. same_state _ _ _ _ w.texts w.spans) g c h d does
+  after_step is_blank (step.RowSpan size select) g c h d does = listed_is select _ (span Rows size) (λ e g c h d w. same_state _ _ _ _ w.texts w.spans) g c h d does
+  after_step is_blank (step.HorizontalPanel panel) g c h d does = panelled g c h d Rows panel.0 panel.1 does
+  after_step is_blank (step.VerticalPanel panel) g c h d does = panelled g c h d Columns panel.0 panel.1 does
+  after_step is_blank (step.Header text) g c h d does = panelled g c h d Rows 0 text does
+  after_step is_blank (step.Footer text) g c h d does = panelled g c h d Rows g.rows text does
+  after_step is_blank step.MergeVertical g c h d does = merged g c h d Rows does
+  after_step is_blank step.MergeHorizontal g c h d does = merged g c h d Columns does
+  after_step is_blank (step.Rotate rotate) g c h d does = rearranged g c h d (rotated rotate) (total-rotated rotate g.rows g.columns) does
+  after_step is_blank (step.Reverse reverse) g c h d does = rearranged g c h d (reversed reverse.axis reverse.start reverse.limit) (λ p. (_, refl)) does
+  after_step is_blank (step.Split how) g c h d does = same_state _ _ _ _ does.0.texts does.1
+  after_step is_blank (step.Concat concat) g c h d does = same_state _ _ _ _ (joined_at g c h d concat.0 concat.1 concat.2 does.0) does.1
+  after_step is_blank (step.Extract a b k l) g c h d does = rearranged g c h d (extracted (half_open a b) (half_open k l)) (λ p. (_, refl)) does
+  after_step is_blank (step.RemoveRows a b) g c h d does = rearranged g c h d (removed Rows (indexes (half_open a b) g.rows)) (total-removed Rows _ g.rows g.columns) does
+  after_step is_blank (step.RemoveColumns a b) g c h d does = rearranged g c h d (removed Columns (indexes (half_open a b) g.columns)) (total-removed Columns _ g.rows g.columns) does
+  after_step is_blank (step.RemoveNamed name) g c h d does = rearranged g c h d (removed Columns (columns_with (string_bytes name) (map_grid text_of g))) (total-removed Columns _ g.rows g.columns) does
+  after_step is_blank (step.Both' _ first _ second) g c h d (m, k, one, other) = after_step is_blank second m k h d other ∙ ap (after second) (after_step is_blank first g c m k one)
 
   -- what steps do, one after another
-  pub after_each : (steps : List Step) (g : Grid A) (c : SpanMap) (h : Grid A) (d : SpanMap) → Each (Does text_of) steps g c h d → state_of text_of h d ≡ after_all steps (state_of text_of g c)
-  after_each [] g c h d same = same_state _ _ _ _ (ap (map_grid text_of) same.0) same.1
-  after_each (s ∷ steps) g c h d (m, k, first, rest) = after_each steps m k h d rest ∙ ap (after_all steps) (after_step s g c m k first)
+  pub after_each : (is_blank : A → Type 0) (steps : List Step) (g : Grid A) (c : SpanMap) (h : Grid A) (d : SpanMap) → Each (Does is_blank text_of) steps g c h d → state_of text_of h d ≡ after_all steps (state_of text_of g c)
+  after_each is_blank [] g c h d same = same_state _ _ _ _ (ap (map_grid text_of) same.0) same.1
+  after_each is_blank (s ∷ steps) g c h d (m, k, first, rest) = after_each is_blank steps m k h d rest ∙ ap (after_all steps) (after_step is_blank s g c m k first)

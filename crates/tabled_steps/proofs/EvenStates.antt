@@ -20,7 +20,7 @@ use Rattle.tabled_settings.specs.Charsets.{charset_writes}
 use Rattle.tabled_settings.specs.Joined.{corner_of, joined_text}
 use Rattle.tabled_grid.specs.Places.{Places}
 use Rattle.tabled_settings.specs.Rearranged.{extracted, removed, reversed, rotated}
-use Rattle.tabled_settings.specs.Dups.{round_writes, source_texts}
+use Rattle.tabled_settings.specs.Dups.{dup_writes}
 use Rattle.tabled_settings.specs.Pieces.{cut_rows, has_pieces, split, turned}
 use Rattle.tabled_settings.specs.declared.split.Split.{Split}
 use Rattle.tabled_settings.specs.declared.split.Display.TheVariants.{Retain}
@@ -31,7 +31,7 @@ use Rattle.tabled_spans.specs.Panels.{has_room}
 use Rattle.tabled_spans.specs.Spanned.{span_writes}
 use Rattle.tabled_steps.specs.Reads.{joined}
 use Rattle.tabled_steps.specs.Selected.{half_open, named_by, selected}
-use Rattle.tabled_steps.specs.States.{State, after, after_all, on_each, put_panel, rearrange, with_texts_round}
+use Rattle.tabled_steps.specs.States.{State, after, after_all, on_each, put_panel, rearrange}
 use Rattle.tabled_steps.specs.declared.select.Select.{Select}
 use Rattle.tabled_steps.specs.declared.step.Step.{Step}
 use Rattle.tabled_steps.specs.declared.step.Step.TheVariants as step
@@ -40,10 +40,6 @@ use Rattle.tabled_steps.proofs.TextReads.{IsEven-table_of}
 even_writes : (writes : List Write) (g : Grid (List ℕ)) → IsEven g → IsEven (with_writes writes g)
 even_writes [] g even = even
 even_writes (w ∷ writes) g even = even_writes writes (with_cell g w.place w.text) (IsEven-with_cell g w.place w.text even)
-
-even_round : (texts : List (List ℕ)) (targets : List Entity) (g : Grid (List ℕ)) → IsEven g → IsEven (with_texts_round texts targets g)
-even_round [] targets g even = even
-even_round (text ∷ texts) targets g even = even_writes (round_writes (text ∷ texts) g.rows g.columns targets) g even
 
 -- a change of a state keeps its rows even
 abbrev Keeps : (State → State) → Type 0
@@ -92,7 +88,7 @@ even_joined axis second default g = let corner = corner_of axis g.rows g.columns
 
 even_after : (x : Step) → Keeps (after x)
 even_after (step.Set text_select text) = even_on_each _ text_select (λ e s. even_writes (text_writes (string_bytes text) e s.texts) s.texts)
-even_after (step.Dup destination source) = λ s. even_round (source_texts s.texts (selected s.texts source)) (selected s.texts destination) s.texts
+even_after (step.Dup destination source) = λ s. even_writes (dup_writes (selected s.texts source) (selected s.texts destination) s.texts) s.texts
 even_after (step.Charset charset select) = even_on_each _ select (λ e s. even_writes (charset_writes charset e s.texts) s.texts)
 even_after (step.ColumnSpan size select) = even_on_each _ select (λ e s. even_writes (span_writes Columns size e s.texts) s.texts)
 even_after (step.RowSpan size select) = even_on_each _ select (λ e s. even_writes (span_writes Rows size e s.texts) s.texts)

@@ -25,7 +25,7 @@ use Rattle.tabled_steps.specs.declared.select.Select.{Select}
 use Rattle.tabled_steps.specs.declared.step.Step.{Step}
 use Rattle.tabled_steps.specs.declared.step.Step.TheVariants as step
 
-module _ {A : Type 0} (text_of : A → List ℕ) where
+module _ {A : Type 0} (is_blank : A → Type 0) (text_of : A → List ℕ) where
   abbrev fitting : Grid A → SpanMap → Type 0
   fitting g c = Fits c g.rows g.columns
 
@@ -39,7 +39,7 @@ module _ {A : Type 0} (text_of : A → List ℕ) where
   merges : (axis : Axis) → OptionKeeps fitting (Merges text_of axis) Same
   merges axis = record { done = λ g m h n fits does. rw does.0 (fits_merged axis (map_grid text_of g) m n does.1 fits); refused = same_fits }
 
-  pub step_keeps : (s : Step) → KeepsFitting s → OptionKeeps fitting (Does text_of s) (Leaves text_of s)
+  pub step_keeps : (s : Step) → KeepsFitting s → OptionKeeps fitting (Does is_blank text_of s) (Leaves is_blank text_of s)
   step_keeps (step.Set select text) _ = on_entities select _ _ (λ e. writes_keep text_of (text_writes (string_bytes text) e))
   step_keeps (step.Dup destination source) _ = duplicates_keep text_of (Names text_of destination) (Names text_of source)
   step_keeps (step.Charset charset select) _ = on_entities select _ _ (λ e. writes_keep text_of (charset_writes charset e))
@@ -61,14 +61,14 @@ module _ {A : Type 0} (text_of : A → List ℕ) where
   step_keeps (step.RemoveNamed _) none = absurd none
   step_keeps (step.Both' _ first _ second) both = keeps_in_order fitting _ _ _ _ (step_keeps first both.0) (step_keeps second both.1)
 
-  refused_keeps : (steps : List Step) → AllByRecursion KeepsFitting steps → AllByRecursion (λ s. OptionKeeps fitting (Does text_of s) (Refused text_of s)) steps
+  refused_keeps : (steps : List Step) → AllByRecursion KeepsFitting steps → AllByRecursion (λ s. OptionKeeps fitting (Does is_blank text_of s) (Refused is_blank text_of s)) steps
   refused_keeps [] all = tt
   refused_keeps (s ∷ steps) all = (let keeps = step_keeps s all.0 in record { done = keeps.done; refused = λ g c h d fits left. keeps.refused g c h d fits left.0 }, refused_keeps steps all.1)
 
-  pub steps_keep : (steps : List Step) → AllByRecursion KeepsFitting steps → OptionKeeps fitting (Each (Does text_of) steps) (EachUntil (Does text_of) (Refused text_of) steps)
-  steps_keep steps all = keeps_all fitting (Does text_of) (Refused text_of) steps (refused_keeps steps all)
+  pub steps_keep : (steps : List Step) → AllByRecursion KeepsFitting steps → OptionKeeps fitting (Each (Does is_blank text_of) steps) (EachUntil (Does is_blank text_of) (Refused is_blank text_of) steps)
+  steps_keep steps all = keeps_all fitting (Does is_blank text_of) (Refused is_blank text_of) steps (refused_keeps steps all)
 
   -- whether all steps were done or one was refused
-  pub steps_kept : {T E : Type 0} (r : Result T (ℕ × E)) (steps : List Step) (g : Grid A) (c : SpanMap) (h : Grid A) (d : SpanMap) → OnOk r (Each (Does text_of) steps g c h d) → IfErr r (λ refused. EachUntilAt (Does text_of) (Refused text_of) steps refused.0 g c h d) → AllByRecursion KeepsFitting steps → fitting g c → fitting h d
+  pub steps_kept : {T E : Type 0} (r : Result T (ℕ × E)) (steps : List Step) (g : Grid A) (c : SpanMap) (h : Grid A) (d : SpanMap) → OnOk r (Each (Does is_blank text_of) steps g c h d) → IfErr r (λ refused. EachUntilAt (Does is_blank text_of) (Refused is_blank text_of) steps refused.0 g c h d) → AllByRecursion KeepsFitting steps → fitting g c → fitting h d
   steps_kept (Ok x) steps g c h d done left all fits = (steps_keep steps all).done g c h d fits done
   steps_kept (Err e) steps g c h d done left all fits = (steps_keep steps all).refused g c h d fits (e.0, left)

@@ -11,7 +11,7 @@ use Rattle.tabled_grid.specs.declared.records.axis.Axis.TheVariants.{Rows, Colum
 use Rattle.tabled_options.specs.Writes.{text_writes, with_writes}
 use Rattle.tabled_select.specs.Locators.{columns_with}
 use Rattle.tabled_settings.specs.Charsets.{charset_writes}
-use Rattle.tabled_settings.specs.Dups.{round_writes, source_texts}
+use Rattle.tabled_settings.specs.Dups.{dup_writes}
 use Rattle.tabled_settings.specs.PiecePlaces.{glued}
 use Rattle.tabled_settings.specs.Pieces.{split}
 use Rattle.tabled_grid.specs.Places.{Places}
@@ -51,14 +51,9 @@ span axis size s e = record { texts = with_writes (span_writes axis size e s.tex
 abbrev pub on_each : (State → Entity → State) → Named → State → State
 on_each change named s = fold change s (named s.texts)
 
--- texts written round what entities name, and no change without texts
-abbrev pub with_texts_round : List (List ℕ) → List Entity → Grid (List ℕ) → Grid (List ℕ)
-with_texts_round [] targets g = g
-with_texts_round (text ∷ texts) targets g = with_writes (round_writes (text ∷ texts) g.rows g.columns targets) g
-
 -- the texts of a source, written to a destination
 abbrev pub duplicate : Named → Named → State → State
-duplicate destination source s = record s { texts = with_texts_round (source_texts s.texts (source s.texts)) (destination s.texts) s.texts }
+duplicate destination source s = record s { texts = with_writes (dup_writes (source s.texts) (destination s.texts) s.texts) s.texts }
 
 -- a panel before a line, where it may stand
 abbrev pub put_panel : Axis → ℕ → List ℕ → State → State

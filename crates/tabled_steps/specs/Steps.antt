@@ -39,55 +39,55 @@ abbrev pub Merges : {A : Type 0} → (A → List ℕ) → Axis → Change A Span
 Merges text_of axis g c h d = (h ≡ g) × MergesRuns axis (map_grid text_of g) c d
 
 -- what a step does
-abbrev pub Does : {A : Type 0} → (A → List ℕ) → Step → Change A SpanMap
-Does text_of (step.Set select text) = EachListed (Names text_of select) (λ e. DoesWrites text_of (text_writes (string_bytes text) e))
-Does text_of (step.Dup destination source) = Duplicates text_of (Names text_of destination) (Names text_of source)
-Does text_of (step.Charset charset select) = EachListed (Names text_of select) (λ e. DoesWrites text_of (charset_writes charset e))
-Does text_of (step.ColumnSpan size select) = EachListed (Names text_of select) (Spans text_of Columns size)
-Does text_of (step.RowSpan size select) = EachListed (Names text_of select) (Spans text_of Rows size)
-Does text_of (step.HorizontalPanel panel) = Panels text_of Rows panel.0 panel.1
-Does text_of (step.VerticalPanel panel) = Panels text_of Columns panel.0 panel.1
-Does text_of (step.Header text) = Panels text_of Rows 0 text
-Does text_of (step.Footer text) = λ g. Panels text_of Rows g.rows text g
-Does text_of step.MergeVertical = Merges text_of Rows
-Does text_of step.MergeHorizontal = Merges text_of Columns
-Does text_of (step.Rotate rotate) = Rearranges (rotated rotate)
-Does text_of (step.Reverse reverse) = Rearranges (reversed reverse.axis reverse.start reverse.limit)
-Does text_of (step.Split split) = λ g c h d. Splits text_of split g h × (d ≡ c)
-Does text_of (step.Concat concat) = λ g c h d. JoinsAt text_of (corner_of concat.0 g.rows g.columns) concat.1 concat.2 g h × (d ≡ c)
-Does text_of (step.Extract a b c d) = Rearranges (extracted (half_open a b) (half_open c d))
-Does text_of (step.RemoveRows a b) = λ g. Rearranges (removed Rows (indexes (half_open a b) g.rows)) g
-Does text_of (step.RemoveColumns a b) = λ g. Rearranges (removed Columns (indexes (half_open a b) g.columns)) g
-Does text_of (step.RemoveNamed name) = λ g. Rearranges (removed Columns (columns_with (string_bytes name) (map_grid text_of g))) g
-Does text_of (step.Both' _ first _ second) = Then (Does text_of first) (Does text_of second)
+abbrev pub Does : {A : Type 0} → (A → Type 0) → (A → List ℕ) → Step → Change A SpanMap
+Does is_blank text_of (step.Set select text) = EachListed (Names text_of select) (λ e. DoesWrites text_of (text_writes (string_bytes text) e))
+Does is_blank text_of (step.Dup destination source) = Duplicates text_of (Names text_of destination) (Names text_of source)
+Does is_blank text_of (step.Charset charset select) = EachListed (Names text_of select) (λ e. DoesWrites text_of (charset_writes charset e))
+Does is_blank text_of (step.ColumnSpan size select) = EachListed (Names text_of select) (Spans text_of Columns size)
+Does is_blank text_of (step.RowSpan size select) = EachListed (Names text_of select) (Spans text_of Rows size)
+Does is_blank text_of (step.HorizontalPanel panel) = Panels text_of Rows panel.0 panel.1
+Does is_blank text_of (step.VerticalPanel panel) = Panels text_of Columns panel.0 panel.1
+Does is_blank text_of (step.Header text) = Panels text_of Rows 0 text
+Does is_blank text_of (step.Footer text) = λ g. Panels text_of Rows g.rows text g
+Does is_blank text_of step.MergeVertical = Merges text_of Rows
+Does is_blank text_of step.MergeHorizontal = Merges text_of Columns
+Does is_blank text_of (step.Rotate rotate) = Rearranges (rotated rotate)
+Does is_blank text_of (step.Reverse reverse) = Rearranges (reversed reverse.axis reverse.start reverse.limit)
+Does is_blank text_of (step.Split split) = λ g c h d. Splits is_blank text_of split g h × (d ≡ c)
+Does is_blank text_of (step.Concat concat) = λ g c h d. JoinsAt text_of (corner_of concat.0 g.rows g.columns) concat.1 concat.2 g h × (d ≡ c)
+Does is_blank text_of (step.Extract a b c d) = Rearranges (extracted (half_open a b) (half_open c d))
+Does is_blank text_of (step.RemoveRows a b) = λ g. Rearranges (removed Rows (indexes (half_open a b) g.rows)) g
+Does is_blank text_of (step.RemoveColumns a b) = λ g. Rearranges (removed Columns (indexes (half_open a b) g.columns)) g
+Does is_blank text_of (step.RemoveNamed name) = λ g. Rearranges (removed Columns (columns_with (string_bytes name) (map_grid text_of g))) g
+Does is_blank text_of (step.Both' _ first _ second) = Then (Does is_blank text_of first) (Does is_blank text_of second)
 
 -- nothing, or the changes for the entities that a selector names before one, and what the refused change for that one leaves
 abbrev pub LeavesFirst : {A : Type 0} → (A → List ℕ) → Select → (Entity → Change A SpanMap) → (Entity → Change A SpanMap) → Change A SpanMap
 LeavesFirst text_of select does leaves = SameOr (EachListedUntil (Names text_of select) does (λ e. SameOr (leaves e)))
 
 -- what a refused step leaves
-abbrev pub Leaves : {A : Type 0} → (A → List ℕ) → Step → Change A SpanMap
-Leaves text_of (step.Set select text) = LeavesFirst text_of select (λ e. DoesWrites text_of (text_writes (string_bytes text) e)) (λ e. DoesFirstWrites text_of (text_writes (string_bytes text) e))
-Leaves text_of (step.Dup destination source) = DuplicatesFirst text_of (Names text_of destination) (Names text_of source)
-Leaves text_of (step.Charset charset select) = LeavesFirst text_of select (λ e. DoesWrites text_of (charset_writes charset e)) (λ e. DoesFirstWrites text_of (charset_writes charset e))
-Leaves text_of (step.ColumnSpan size select) = LeavesFirst text_of select (Spans text_of Columns size) (SpansFirst text_of Columns size)
-Leaves text_of (step.RowSpan size select) = LeavesFirst text_of select (Spans text_of Rows size) (SpansFirst text_of Rows size)
-Leaves text_of (step.Both' _ first _ second) = ThenLeaves (Does text_of first) (Leaves text_of first) (Leaves text_of second)
-Leaves text_of _ = Same
+abbrev pub Leaves : {A : Type 0} → (A → Type 0) → (A → List ℕ) → Step → Change A SpanMap
+Leaves is_blank text_of (step.Set select text) = LeavesFirst text_of select (λ e. DoesWrites text_of (text_writes (string_bytes text) e)) (λ e. DoesFirstWrites text_of (text_writes (string_bytes text) e))
+Leaves is_blank text_of (step.Dup destination source) = DuplicatesFirst text_of (Names text_of destination) (Names text_of source)
+Leaves is_blank text_of (step.Charset charset select) = LeavesFirst text_of select (λ e. DoesWrites text_of (charset_writes charset e)) (λ e. DoesFirstWrites text_of (charset_writes charset e))
+Leaves is_blank text_of (step.ColumnSpan size select) = LeavesFirst text_of select (Spans text_of Columns size) (SpansFirst text_of Columns size)
+Leaves is_blank text_of (step.RowSpan size select) = LeavesFirst text_of select (Spans text_of Rows size) (SpansFirst text_of Rows size)
+Leaves is_blank text_of (step.Both' _ first _ second) = ThenLeaves (Does is_blank text_of first) (Leaves is_blank text_of first) (Leaves is_blank text_of second)
+Leaves is_blank text_of _ = Same
 
 -- a step that takes no memory on a table, and so is not refused
-abbrev pub TakesNoMemory : {A : Type 0} → (A → List ℕ) → Step → Grid A → SpanMap → Type 0
-TakesNoMemory text_of (step.HorizontalPanel panel) g c = has_room Rows panel.0 g c ≡ false
-TakesNoMemory text_of (step.VerticalPanel panel) g c = has_room Columns panel.0 g c ≡ false
-TakesNoMemory text_of (step.Header _) g c = has_room Rows 0 g c ≡ false
-TakesNoMemory text_of (step.Footer _) g c = has_room Rows g.rows g c ≡ false
-TakesNoMemory text_of (step.Rotate rotate) g c = (rotate ≡ Top) ⊎ (rotate ≡ Bottom)
-TakesNoMemory text_of (step.Reverse _) g c = Unit {0}
-TakesNoMemory text_of (step.Extract _ _ _ _) g c = Unit {0}
-TakesNoMemory text_of (step.Split split) g c = has_pieces split g.rows g.columns ≡ false
-TakesNoMemory text_of (step.Both' _ first _ second) g c = TakesNoMemory text_of first g c × AfterNeverRefused (Does text_of first) (TakesNoMemory text_of second) g c
-TakesNoMemory text_of _ g c = ⊥
+abbrev pub TakesNoMemory : {A : Type 0} → (A → Type 0) → (A → List ℕ) → Step → Grid A → SpanMap → Type 0
+TakesNoMemory is_blank text_of (step.HorizontalPanel panel) g c = has_room Rows panel.0 g c ≡ false
+TakesNoMemory is_blank text_of (step.VerticalPanel panel) g c = has_room Columns panel.0 g c ≡ false
+TakesNoMemory is_blank text_of (step.Header _) g c = has_room Rows 0 g c ≡ false
+TakesNoMemory is_blank text_of (step.Footer _) g c = has_room Rows g.rows g c ≡ false
+TakesNoMemory is_blank text_of (step.Rotate rotate) g c = (rotate ≡ Top) ⊎ (rotate ≡ Bottom)
+TakesNoMemory is_blank text_of (step.Reverse _) g c = Unit {0}
+TakesNoMemory is_blank text_of (step.Extract _ _ _ _) g c = Unit {0}
+TakesNoMemory is_blank text_of (step.Split split) g c = has_pieces split g.rows g.columns ≡ false
+TakesNoMemory is_blank text_of (step.Both' _ first _ second) g c = TakesNoMemory is_blank text_of first g c × AfterNeverRefused (Does is_blank text_of first) (TakesNoMemory is_blank text_of second) g c
+TakesNoMemory is_blank text_of _ g c = ⊥
 
 -- a step that takes memory is refused, and leaves what it leaves
-abbrev pub Refused : {A : Type 0} → (A → List ℕ) → Step → Change A SpanMap
-Refused text_of step g c h d = Leaves text_of step g c h d × (TakesNoMemory text_of step g c → ⊥)
+abbrev pub Refused : {A : Type 0} → (A → Type 0) → (A → List ℕ) → Step → Change A SpanMap
+Refused is_blank text_of step g c h d = Leaves is_blank text_of step g c h d × (TakesNoMemory is_blank text_of step g c → ⊥)

@@ -24,8 +24,8 @@ use tabled_options::{MergedCellsFit, Property, TableOption};
 pub fn steps_do_what_their_formulas_say<R: GridStore>()
 where
     R::Cell: CellText,
-    ensures one { (step : Step) (g : Grid R.Cell) (c : SpanMap) (h : Grid R.Cell) (d : SpanMap) → Does R.Cell.text_of step g c h d → state_of R.Cell.text_of h d ≡ after step (state_of R.Cell.text_of g c) }
-    ensures all { (steps : List Step) (g : Grid R.Cell) (c : SpanMap) (h : Grid R.Cell) (d : SpanMap) → Each (Does R.Cell.text_of) steps g c h d → state_of R.Cell.text_of h d ≡ after_all steps (state_of R.Cell.text_of g c) }
+    ensures one { (step : Step) (g : Grid R.Cell) (c : SpanMap) (h : Grid R.Cell) (d : SpanMap) → Does R.Cell.is_blank R.Cell.text_of step g c h d → state_of R.Cell.text_of h d ≡ after step (state_of R.Cell.text_of g c) }
+    ensures all { (steps : List Step) (g : Grid R.Cell) (c : SpanMap) (h : Grid R.Cell) (d : SpanMap) → Each (Does R.Cell.is_blank R.Cell.text_of) steps g c h d → state_of R.Cell.text_of h d ≡ after_all steps (state_of R.Cell.text_of g c) }
 {}
 
 /// The runs that the formula of a merge lists are the longest ones of two or more cells next to each other
@@ -39,7 +39,7 @@ pub fn stores_end_alike<A: GridStore, B: GridStore>()
 where
     A::Cell: CellText,
     B::Cell: CellText,
-    ensures { (steps : List Step) (g : Grid A.Cell) (c : SpanMap) (h : Grid A.Cell) (d : SpanMap) (k : Grid B.Cell) (m : SpanMap) (l : Grid B.Cell) (n : SpanMap) → Each (Does A.Cell.text_of) steps g c h d → Each (Does B.Cell.text_of) steps k m l n → state_of A.Cell.text_of g c ≡ state_of B.Cell.text_of k m → state_of A.Cell.text_of h d ≡ state_of B.Cell.text_of l n }
+    ensures { (steps : List Step) (g : Grid A.Cell) (c : SpanMap) (h : Grid A.Cell) (d : SpanMap) (k : Grid B.Cell) (m : SpanMap) (l : Grid B.Cell) (n : SpanMap) → Each (Does A.Cell.is_blank A.Cell.text_of) steps g c h d → Each (Does B.Cell.is_blank B.Cell.text_of) steps k m l n → state_of A.Cell.text_of g c ≡ state_of B.Cell.text_of k m → state_of A.Cell.text_of h d ≡ state_of B.Cell.text_of l n }
 {}
 
 /// Steps that write texts, span at least one cell, put in panels or merge equal neighbours keep merged

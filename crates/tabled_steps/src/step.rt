@@ -80,9 +80,9 @@ impl Step {
         R::Cell: CellText,
         requires well { R.is_well_formed records.old }
         ensures well { R.is_well_formed records.new }
-        ensures ok { OnOk result (Does R.Cell.text_of self (R.grid records.old) cfg.old (R.grid records.new) cfg.new) }
-        ensures err { OnErr result (Leaves R.Cell.text_of self (R.grid records.old) cfg.old (R.grid records.new) cfg.new) }
-        ensures promised { TakesNoMemory R.Cell.text_of self (R.grid records.old) cfg.old → IsOk result }
+        ensures ok { OnOk result (Does R.Cell.is_blank R.Cell.text_of self (R.grid records.old) cfg.old (R.grid records.new) cfg.new) }
+        ensures err { OnErr result (Leaves R.Cell.is_blank R.Cell.text_of self (R.grid records.old) cfg.old (R.grid records.new) cfg.new) }
+        ensures promised { TakesNoMemory R.Cell.is_blank R.Cell.text_of self (R.grid records.old) cfg.old → IsOk result }
     {
         match self {
             Step::Set(select, text) => {
@@ -136,13 +136,13 @@ where
     R: Records + ExactRecords + PeekableRecords + RecordsMut<String> + Resizable,
     R::Cell: CellText,
 {
-    ghost does = { λ s. Does R.Cell.text_of s };
+    ghost does = { λ s. Does R.Cell.is_blank R.Cell.text_of s };
 
-    ghost leaves = { λ s. Leaves R.Cell.text_of s };
+    ghost leaves = { λ s. Leaves R.Cell.is_blank R.Cell.text_of s };
 
     ghost can_change = { λ _. Unit {0} };
 
-    ghost never_refused = { λ s. TakesNoMemory R.Cell.text_of s };
+    ghost never_refused = { λ s. TakesNoMemory R.Cell.is_blank R.Cell.text_of s };
 
     fn change(
         self,

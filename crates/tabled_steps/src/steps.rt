@@ -44,9 +44,9 @@ where
     requires well { R.is_well_formed records.old }
     ensures well { R.is_well_formed records.new }
     ensures state { OnOk result (state_of R.Cell.text_of (R.grid records.new) cfg.new ≡ after_all steps.items (state_of R.Cell.text_of (R.grid records.old) cfg.old)) }
-    ensures ok { OnOk result (Each (Does R.Cell.text_of) steps.items (R.grid records.old) cfg.old (R.grid records.new) cfg.new) }
+    ensures ok { OnOk result (Each (Does R.Cell.is_blank R.Cell.text_of) steps.items (R.grid records.old) cfg.old (R.grid records.new) cfg.new) }
     ensures index { IfErr result (λ refused. refused.0 < length steps.items) }
-    ensures err { IfErr result (λ refused. EachUntilAt (Does R.Cell.text_of) (Refused R.Cell.text_of) steps.items refused.0 (R.grid records.old) cfg.old (R.grid records.new) cfg.new) }
+    ensures err { IfErr result (λ refused. EachUntilAt (Does R.Cell.is_blank R.Cell.text_of) (Refused R.Cell.is_blank R.Cell.text_of) steps.items refused.0 (R.grid records.old) cfg.old (R.grid records.new) cfg.new) }
     ensures fitting { AllByRecursion KeepsFitting steps.items → Fits cfg.old ((R.grid records.old).rows) ((R.grid records.old).columns) → Fits cfg.new ((R.grid records.new).rows) ((R.grid records.new).columns) }
     ensures glued { OnOk result ((first : List Step) (last : Split) → steps.items ≡ first ++ step.Split last ∷ [] → IsUndone last (after_all first (state_of R.Cell.text_of (R.grid records.old) cfg.old)) (state_of R.Cell.text_of (R.grid records.new) cfg.new)) }
 {
@@ -67,9 +67,9 @@ where
     R::Cell: CellText,
     requires well { R.is_well_formed records.old }
     ensures well { R.is_well_formed records.new }
-    ensures ok { OnOk result (Each (Does R.Cell.text_of) steps.items (R.grid records.old) cfg.old (R.grid records.new) cfg.new) }
+    ensures ok { OnOk result (Each (Does R.Cell.is_blank R.Cell.text_of) steps.items (R.grid records.old) cfg.old (R.grid records.new) cfg.new) }
     ensures index { IfErr result (λ refused. refused.0 < length steps.items) }
-    ensures err { IfErr result (λ refused. EachUntilAt (Does R.Cell.text_of) (Refused R.Cell.text_of) steps.items refused.0 (R.grid records.old) cfg.old (R.grid records.new) cfg.new) }
+    ensures err { IfErr result (λ refused. EachUntilAt (Does R.Cell.is_blank R.Cell.text_of) (Refused R.Cell.is_blank R.Cell.text_of) steps.items refused.0 (R.grid records.old) cfg.old (R.grid records.new) cfg.new) }
 {
     let mut index = 0;
     for step in steps {

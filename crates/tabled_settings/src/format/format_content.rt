@@ -77,7 +77,8 @@ where
 
     fn answer(&mut self, alloc: Global, _pos: Position, text: &str) -> Result<String, AllocError> {
         if self.multiline {
-            by_line(alloc, self.f.clone()?, text)
+            let mut copy = self.f.clone()?;
+            by_line(alloc, &mut copy, text)
         } else {
             (self.f)(alloc, text)
         }
@@ -85,11 +86,11 @@ where
 }
 
 /// The answers of a closure to the lines of a text, joined.
-fn by_line<F>(alloc: Global, mut f: F, text: &str) -> Result<String, AllocError>
+fn by_line<F>(alloc: Global, f: &mut F, text: &str) -> Result<String, AllocError>
 where
-    F: FnMut(Global, &str) -> Result<String, AllocError> + Drop,
-    requires can { F.IsAlwaysCallable f }
-    ensures { IfOk result (λ new. AskedByLine (Asked F.step) f text.now (string_bytes new)) }
+    F: FnMut(Global, &str) -> Result<String, AllocError>,
+    requires can { F.IsAlwaysCallable f.old }
+    ensures { IfOk result (λ new. AskedByLine (Asked F.step) f.old text.now (string_bytes new)) }
 {
     let mut lines = text.lines();
     let Some(first) = lines.next() else {

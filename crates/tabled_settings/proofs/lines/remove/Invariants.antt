@@ -1,5 +1,4 @@
-use Rattle.tabled_settings.specs.Lines.{ThinsLines}
-use Rattle.tabled_settings.specs.Rearranged.{is_among}
+use Rattle.tabled_settings.specs.Lines.{ThinsLines, is_marked}
 use Rattle.tabled_settings.proofs.lines.remove.Given as goal
 
 abbrev pub invariant-loop-i : goal.invariant-loop-i
@@ -7,5 +6,5 @@ invariant-loop-i g l =
     let grid = g.R.GridStore.grid in
     record {
       well : g.R.GridStore.is_well_formed l.records;
-      thins : ThinsLines l.axis (is_among l.found) l.i l.kept (grid l.fn.records) (grid l.records);
+      thins : ThinsLines l.axis (is_marked l.gone) l.i l.kept (grid l.fn.records) (grid l.records);
     }

@@ -7,10 +7,10 @@ use Rattle.tabled_steps.specs.States.{state_of}
 use Rattle.tabled_steps.proofs.steps.run.Goals as goal
 
 pub returns-clause-state : goal.returns-clause-state
-returns-clause-state g c = on_ok_weaker c.run_each.result (after_each g.R.Cell.CellText.text_of c.args.steps.items _ _ _ _) c.run_each.ensures.ok
+returns-clause-state g c = on_ok_weaker c.run_each.result (after_each g.R.Cell.CellText.text_of g.R.Cell.Blank.is_blank c.args.steps.items _ _ _ _) c.run_each.ensures.ok
 
 pub returns-clause-fitting : goal.returns-clause-fitting
-returns-clause-fitting g c = steps_kept g.R.Cell.CellText.text_of c.run_each.result c.args.steps.items _ _ _ _ c.run_each.ensures.ok c.run_each.ensures.err
+returns-clause-fitting g c = steps_kept g.R.Cell.Blank.is_blank g.R.Cell.CellText.text_of c.run_each.result c.args.steps.items _ _ _ _ c.run_each.ensures.ok c.run_each.ensures.err
 
 pub returns-clause-glued : goal.returns-clause-glued
 returns-clause-glued g c =
@@ -18,5 +18,5 @@ returns-clause-glued g c =
     let grid = g.R.GridStore.grid in
     let even = IsEven-map_grid text_of (grid c.args.records.now) c.count_rows.ensures.even in
     on_ok_weaker c.run_each.result (λ does first last are. record {
-      glued = λ retained index rows columns. glued_last first last (state_of text_of (grid c.args.records.now) c.args.cfg.now) (state_of text_of (grid c.run_each.new.records) c.run_each.new.cfg) even retained index rows columns (rw are at (after_each text_of c.args.steps.items (grid c.args.records.now) c.args.cfg.now (grid c.run_each.new.records) c.run_each.new.cfg does));
+      glued = λ retained index rows columns. glued_last first last (state_of text_of (grid c.args.records.now) c.args.cfg.now) (state_of text_of (grid c.run_each.new.records) c.run_each.new.cfg) even retained index rows columns (rw are at (after_each text_of g.R.Cell.Blank.is_blank c.args.steps.items (grid c.args.records.now) c.args.cfg.now (grid c.run_each.new.records) c.run_each.new.cfg does));
     }) c.run_each.ensures.ok

@@ -6,7 +6,7 @@ use Rattle.tabled_steps.proofs.steps.run_each.Goals as goal
 
 pub returns-in-Err-clause-err : goal.returns-in-Err-clause-err
 returns-in-Err-clause-err g c =
-    let refused : Refused g.R.Cell.CellText.text_of c.in-Some.step (g.R.GridStore.grid c.loop-step.records) c.loop-step.cfg (g.R.GridStore.grid c.change.new.records) c.change.new.cfg = (c.in-Err.ensures.err, λ none. false≢true (c.in-Err.ensures.promised none)) in
+    let refused : Refused g.R.Cell.Blank.is_blank g.R.Cell.CellText.text_of c.in-Some.step (g.R.GridStore.grid c.loop-step.records) c.loop-step.cfg (g.R.GridStore.grid c.change.new.records) c.change.new.cfg = (c.in-Err.ensures.err, λ none. false≢true (c.in-Err.ensures.promised none)) in
     let first = first_refused _ _ _ _ _ _ _ _ refused in
     let same : c.loop-step.index + 0 ≡ c.loop-step.index = omega arith in
     let until = c.loop-step.invariant.until 0 (g.R.GridStore.grid c.change.new.records) c.change.new.cfg (rw c.in-Some.ensures.steps.0 first) in

@@ -7,6 +7,7 @@ use Rattle.tabled_steps.proofs.steps.run_each.Given as goal
 abbrev pub invariant-loop-step : goal.invariant-loop-step
 invariant-loop-step g l =
     let grid = g.R.GridStore.grid in
+    let is_blank = g.R.Cell.Blank.is_blank in
     let text_of = g.R.Cell.CellText.text_of in
     record {
       can : (goal.iterator-loop-step g).can_next l.step-iterator;
@@ -14,6 +15,6 @@ invariant-loop-step g l =
       well : g.R.GridStore.is_well_formed l.records;
       counted : into_iter_len l.step-iterator ≡ length (into_iter_items l.step-iterator);
       many : l.index + length (into_iter_items l.step-iterator) ≡ length l.fn.steps.items;
-      does : (h : _) (d : _) → Each (Does text_of) (into_iter_items l.step-iterator) (grid l.records) l.cfg h d → Each (Does text_of) l.fn.steps.items (grid l.fn.records) l.fn.cfg h d;
-      until : (k : ℕ) (h : _) (d : _) → EachUntilAt (Does text_of) (Refused text_of) (into_iter_items l.step-iterator) k (grid l.records) l.cfg h d → EachUntilAt (Does text_of) (Refused text_of) l.fn.steps.items (l.index + k) (grid l.fn.records) l.fn.cfg h d;
+      does : (h : _) (d : _) → Each (Does is_blank text_of) (into_iter_items l.step-iterator) (grid l.records) l.cfg h d → Each (Does is_blank text_of) l.fn.steps.items (grid l.fn.records) l.fn.cfg h d;
+      until : (k : ℕ) (h : _) (d : _) → EachUntilAt (Does is_blank text_of) (Refused is_blank text_of) (into_iter_items l.step-iterator) k (grid l.records) l.cfg h d → EachUntilAt (Does is_blank text_of) (Refused is_blank text_of) l.fn.steps.items (l.index + k) (grid l.fn.records) l.fn.cfg h d;
     }

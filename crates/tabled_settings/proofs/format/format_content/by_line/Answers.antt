@@ -10,7 +10,7 @@ use Rattle.tabled_settings.proofs.format.format_content.by_line.Goals as goal
 pub returns-in_default : goal.returns-in_default
 returns-in_default g c =
     let chain = (YieldsList-from_lines {s = c.lines-lines.result} c.args.text.now c.lines-lines.ensures.rest).runs in
-    ([], c.args.f, rw (last_at lines_steps (λ x. x.now) _ _ (lines c.args.text.now) chain c.in_default.ensures.steps) (refl, refl), c.new.ensures.bytes)
+    ([], c.args.f.now, rw (last_at lines_steps (λ x. x.now) _ _ (lines c.args.text.now) chain c.in_default.ensures.steps) (refl, refl), c.new.ensures.bytes)
 
 pub loop-line-init : goal.loop-line-init
 loop-line-init g c =

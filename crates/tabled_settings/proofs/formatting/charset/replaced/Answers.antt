@@ -11,15 +11,15 @@ loop-c-init c = record {
   same = rw (c.in_ok-out.ensures.bytes, c.into_iter-c-iterator.ensures.into_iter_gives, c.chars-c-items.ensures.rest) refl;
 }
 
-pub loop-c-preserved-in-Continue-branch-2 : goal.loop-c-preserved-in-Continue-branch-2
-loop-c-preserved-in-Continue-branch-2 c = record {
+pub loop-c-preserved-in-Continue-branch-3 : goal.loop-c-preserved-in-Continue-branch-3
+loop-c-preserved-in-Continue-branch-3 c = record {
   can = tt;
   ends = tt;
   same = rw c.in_ok-push_spaces.ensures (replaced-more _ _ c.in-Some.c _ _ _ _ _ c.in-Some.ensures.steps.0 (rw c.if-c-eq9.true refl) c.loop-c.invariant.same);
 }
 
-pub loop-c-preserved-in-Continue-branch-3 : goal.loop-c-preserved-in-Continue-branch-3
-loop-c-preserved-in-Continue-branch-3 c = record {
+pub loop-c-preserved-in-Continue-branch-4 : goal.loop-c-preserved-in-Continue-branch-4
+loop-c-preserved-in-Continue-branch-4 c = record {
   can = tt;
   ends = tt;
   same = rw c.in_ok-push.ensures.bytes (replaced-more _ _ c.in-Some.c _ _ _ _ _ c.in-Some.ensures.steps.0 (rw (ne_eqb c.in-Some.c 9 c.if-c-eq9.false, ← c.if-stays.ensures) refl) c.loop-c.invariant.same);
