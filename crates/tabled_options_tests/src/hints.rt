@@ -1,6 +1,7 @@
 //! What options hint at.
 
 use crate::testing::{Letter, Log};
+use std::test::Fail;
 use tabled_grid::config::Entity;
 use tabled_options::{CellOption, Settings, TableOption, combine_entity};
 use tabled_testing::Flat;
@@ -51,4 +52,16 @@ fn hints_at_changes(rt: HostRuntime) {
         assert!(rt; hint_of(&(a, b, c)) == left && cell_hint_of(&(a, b, c)) == left);
         assert!(rt; hint_of(&Settings::new(a, Settings::new(b, c))) == right);
     }
+}
+
+#[test]
+fn pairs_and_vectors_hint(rt: HostRuntime) -> Result<(), Fail> {
+    let row = Some(Entity::Row(1));
+    let [none, other] = [None, row].map(|hint| Letter::hinting('a', hint));
+    for (first, second, want) in [(none, other, row), (other, none, row), (none, none, None)] {
+        assert!(rt; hint_of(&(first, second)) == want && cell_hint_of(&(first, second)) == want);
+        let list = vec![in rt.alloc(); first, second]?;
+        assert!(rt; hint_of(&list) == Some(Entity::Global));
+    }
+    Ok(())
 }

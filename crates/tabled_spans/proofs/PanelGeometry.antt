@@ -4,6 +4,7 @@ use Rattle.std.specs.Prelude.{nat_eq, not}
 use Rattle.std.specs.FinMap.{get, get-remove, same_map}
 use Rattle.std.proofs.lemmas.Bool.{and_parts, cases_Bool, cases_lt, cond-true, false_from_ne_true}
 use borrow.Author.Tests.{eqb-true, leb-true, ltb-true}
+use Rattle.tabled_grid.specs.Axis.{across, place_in}
 use Rattle.tabled_grid.specs.Along.{count_along}
 use Rattle.tabled_grid.specs.Grid.{Grid}
 use Rattle.tabled_grid.specs.Midway.{In}
@@ -18,7 +19,7 @@ use Rattle.tabled_grid.proofs.Merging.{fits_with}
 use Rattle.tabled_grid.proofs.ShiftedFits.{fits_below, fits_beside, line_is_free}
 use Rattle.tabled_grid.proofs.SpanMaps.{tied, with_size-other}
 use Rattle.tabled_grid.proofs.Spans.{positions_exact, positions_total}
-use Rattle.tabled_spans.specs.Panels.{Panels, cells_along, has_room, start_of_line, with_line, with_panel}
+use Rattle.tabled_spans.specs.Panels.{Panels, has_room, with_line, with_panel}
 use Rattle.tabled_spans.proofs.PanelMaps.{no_anchor}
 
 -- the size of one cell where there is no anchor changes nothing
@@ -48,14 +49,14 @@ not_false true e = sym e
 not_false false e = refl
 
 module _ {A : Type 0} where
-  fits_panel : (axis : Axis) (line : ℕ) (cells : List A) (g : Grid A) (m : SpanMap) → line ≤ count_along axis g → 0 < cells_along axis g → is_crossed axis line m ≡ false → Fits m g.rows g.columns → Fits (with_panel axis line (cells_along axis g) m) ((with_line axis line cells g).rows) ((with_line axis line cells g).columns)
+  fits_panel : (axis : Axis) (line : ℕ) (cells : List A) (g : Grid A) (m : SpanMap) → line ≤ count_along axis g → 0 < count_along (across axis) g → is_crossed axis line m ≡ false → Fits m g.rows g.columns → Fits (with_panel axis line (count_along (across axis) g) m) ((with_line axis line cells g).rows) ((with_line axis line cells g).columns)
   fits_panel Rows line cells g m within some free fits =
-      fits_over (shifted Rows line m) (start_of_line Rows line) (1, g.columns) (g.rows + 1) g.columns (no_anchor Rows line m) (omega arith) (omega arith) (omega arith) (omega arith)
+      fits_over (shifted Rows line m) (place_in Rows line 0) (1, g.columns) (g.rows + 1) g.columns (no_anchor Rows line m) (omega arith) (omega arith) (omega arith) (omega arith)
       (λ a q s has holds over. absurd (line_is_free Rows line m a q s free has holds (omega (arith, over.top, over.bottom)))) (fits_below m line g.rows g.columns free fits)
   fits_panel Columns line cells g m within some free fits =
       let rows : nat_eq g.rows 0 ≡ false = false_from_ne_true _ (λ e. omega (arith, eqb-true _ _ e)) in
       subst (λ b. Fits (with_panel Columns line g.rows m) g.rows (cond b g.columns (g.columns + 1))) (sym rows)
-      (fits_over (shifted Columns line m) (start_of_line Columns line) (g.rows, 1) g.rows (g.columns + 1) (no_anchor Columns line m) (omega arith) (omega arith) (omega arith) (omega arith)
+      (fits_over (shifted Columns line m) (place_in Columns line 0) (g.rows, 1) g.rows (g.columns + 1) (no_anchor Columns line m) (omega arith) (omega arith) (omega arith) (omega arith)
       (λ a q s has holds over. absurd (line_is_free Columns line m a q s free has holds (omega (arith, over.left, over.right)))) (fits_beside m line g.rows g.columns free fits))
 
   pub panels_fit : (text_of : A → List ℕ) (axis : Axis) (line : ℕ) (text : List ℕ) (g : Grid A) (m : SpanMap) (h : Grid A) (n : SpanMap) → Fits m g.rows g.columns → Panels text_of axis line text g m h n → Fits n h.rows h.columns

@@ -4,6 +4,7 @@ use Rattle.std.specs.Prelude.{nat_eq, replicate}
 use Rattle.std.specs.List.{AllByRecursion, insert, remove, zip}
 use Rattle.std.proofs.lemmas.Bool.{false_from_ne_true}
 use borrow.Author.Tests.{eqb-true}
+use Rattle.tabled_grid.specs.Axis.{across, place_in}
 use Rattle.tabled_grid.specs.Along.{count_along, without_line}
 use Rattle.tabled_grid.specs.Entity.{place}
 use Rattle.tabled_grid.specs.Grid.{Grid, IsEmptyWithoutRows, IsEven, WritesText, with_cell}
@@ -11,7 +12,7 @@ use Rattle.tabled_grid.specs.Resized.{AreBlanks, with_column, with_row, without_
 use Rattle.tabled_grid.specs.declared.records.axis.Axis.{Axis}
 use Rattle.tabled_grid.specs.declared.records.axis.Axis.TheVariants.{Rows, Columns}
 use Rattle.tabled_spans.specs.PanelSteps.{InsertsLine}
-use Rattle.tabled_spans.specs.Panels.{PutsIn, cells_along, start_of_line}
+use Rattle.tabled_spans.specs.Panels.{PutsIn}
 
 module _ {X : Type 0} where
   pub got_inserted : (xs : List X) (i : ℕ) (x d : X) → i ≤ length xs → get_or (insert xs i x) i d ≡ x
@@ -45,7 +46,7 @@ module _ {A : Type 0} where
   some_rows g h = false_from_ne_true _ (λ e. omega (arith, eqb-true _ _ e))
 
   -- a line that is put in and removed leaves what was there
-  pub undone : (is_blank : A → Type 0) (axis : Axis) (line : ℕ) (old mid : Grid A) → IsEven old → IsEmptyWithoutRows old → line ≤ count_along axis old → 1 ≤ cells_along axis old → InsertsLine is_blank axis old mid line → without_line axis line mid ≡ old
+  pub undone : (is_blank : A → Type 0) (axis : Axis) (line : ℕ) (old mid : Grid A) → IsEven old → IsEmptyWithoutRows old → line ≤ count_along axis old → 1 ≤ count_along (across axis) old → InsertsLine is_blank axis old mid line → without_line axis line mid ≡ old
   undone is_blank Rows line old mid even none within cells inserts = ap (λ h. without_row h line) inserts.is ∙ back
     where
       back : without_row (with_row old line inserts.row) line ≡ old
@@ -93,6 +94,6 @@ module _ {A : Type 0} (is_blank : A → Type 0) (text_of : A → List ℕ) (empt
         put [] wide h = absurd (omega arith)
         put (r ∷ rows) wide h = ap (λ (s : List A). s ∷ map (λ (p : List A × A). insert p.0 line p.1) (zip rows column)) (set_inserted r line x writes.cell (omega (arith, wide.0)))
 
-  pub put_in : (axis : Axis) (line : ℕ) (text : List ℕ) (old mid new : Grid A) → IsEven old → line ≤ count_along axis old → 1 ≤ cells_along axis old → InsertsLine is_blank axis old mid line → WritesText text_of mid new (start_of_line axis line) text → PutsIn text_of axis line text old new
+  pub put_in : (axis : Axis) (line : ℕ) (text : List ℕ) (old mid new : Grid A) → IsEven old → line ≤ count_along axis old → 1 ≤ count_along (across axis) old → InsertsLine is_blank axis old mid line → WritesText text_of mid new (place_in axis line 0) text → PutsIn text_of axis line text old new
   put_in Rows line text old mid new even within some inserts writes = by_row line text old mid new even within some inserts.row inserts.blanks inserts.is writes
   put_in Columns line text old mid new even within some inserts writes = by_column line text old mid new even within some inserts.column inserts.blanks inserts.is writes

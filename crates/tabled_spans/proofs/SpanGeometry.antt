@@ -1,5 +1,5 @@
 -- How merged cells lie after spans.
-use Rattle.std.proofs.Common.{◌≡◌, Option, ℕ, zero, suc, ◌+◌, ◌-◌, ◌<◌, ◌≤◌, ◌⊎◌, inl, inr, true, false, List, Some, None, refl, ap, ◌∙◌, take, arith}
+use Rattle.std.proofs.Common.{◌≡◌, Option, ℕ, zero, suc, ◌+◌, ◌-◌, ◌<◌, ◌≤◌, ◌⊎◌, inl, inr, true, false, List, Some, None, refl, take, arith}
 use Rattle.std.specs.Prelude.{ℤ, pos, negsuc, min, ◌<ℤ◌}
 use Rattle.std.specs.List.{AllByRecursion, list_all}
 use Rattle.std.proofs.lemmas.Bool.{cases_Bool}
@@ -15,7 +15,9 @@ use Rattle.tabled_grid.specs.declared.records.axis.Axis.TheVariants.{Rows, Colum
 use Rattle.tabled_grid.proofs.Merging.{fits_dropped, flat_column_span, flat_dropped, fold-keeps, midway, midway_flat, midway_heightened, midway_narrow, midway_widened, narrow_dropped, narrow_row_span, sizes_heightened, sizes_widened, within_high, within_wide}
 use Rattle.tabled_grid.proofs.Places.{inside-within}
 use Rattle.tabled_options.specs.Does.{OptionKeeps}
-use Rattle.tabled_options.proofs.Shapes.{shape_written}
+use Rattle.tabled_options.specs.Writes.{DoesFirstWrites}
+use Rattle.tabled_options.proofs.Keeps.{keeps_same_or}
+use Rattle.tabled_options.proofs.Shapes.{shape_texts}
 use Rattle.tabled_grid.specs.Axis.{count_of, in_line, line_of}
 use Rattle.tabled_spans.specs.Spanned.{IsFlat, Spans, SpansFirst, grown, grown_at, grown_each, pulled, pulled_at, span_writes, spanned, stretch, taken, with_span}
 use Rattle.tabled_spans.proofs.FreeCells.{all_pass}
@@ -112,15 +114,11 @@ module _ {A : Type 0} (text_of : A → List ℕ) (axis : Axis) (size : ℤ) (e :
   pub option_keeps : ((m : SpanMap) (rows columns : ℕ) → P m rows columns → P (spanned axis size e rows columns m) rows columns) → OptionKeeps (λ (g : Grid A) (c : SpanMap). P c g.rows g.columns) (Spans text_of axis size e) (SpansFirst text_of axis size e)
   option_keeps keeps = record {
     done = λ g c h d holds s.
-        let shape = shape_written (span_writes axis size e (map_grid text_of g)) (map_grid text_of g) in
-        let rows : h.rows ≡ g.rows = ap (λ (k : Grid (List ℕ)). k.rows) s.texts ∙ shape.rows in
-        let columns : h.columns ≡ g.columns = ap (λ (k : Grid (List ℕ)). k.columns) s.texts ∙ shape.columns in
-        rw (rows, columns, s.spans) (keeps c g.rows g.columns holds);
-    refused = λ g c h d holds s.
-        let shape = shape_written (take s.texts.count (span_writes axis size e (map_grid text_of g))) (map_grid text_of g) in
-        let rows : h.rows ≡ g.rows = ap (λ (k : Grid (List ℕ)). k.rows) s.texts.is ∙ shape.rows in
-        let columns : h.columns ≡ g.columns = ap (λ (k : Grid (List ℕ)). k.columns) s.texts.is ∙ shape.columns in
-        rw (rows, columns, s.spans) holds;
+        let shape = shape_texts text_of (span_writes axis size e (map_grid text_of g)) g h c c s.texts refl in
+        rw (shape.0, shape.1, s.spans) (keeps c g.rows g.columns holds);
+    refused = keeps_same_or (λ (g : Grid A) (c : SpanMap). P c g.rows g.columns) (DoesFirstWrites text_of (span_writes axis size e)) (λ g c h d holds w.
+        let shape = shape_texts text_of (take w.0.count (span_writes axis size e (map_grid text_of g))) g h c d w.0.is w.1 in
+        rw (shape.0, shape.1, shape.2) holds);
   }
 
 pub fits_spanned : (axis : Axis) (size : ℤ) (e : Entity) → pos 0 <ℤ size → (m : SpanMap) (rows columns : ℕ) → Fits m rows columns → Fits (spanned axis size e rows columns m) rows columns

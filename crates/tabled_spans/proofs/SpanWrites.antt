@@ -1,52 +1,32 @@
 -- Writes of spans, one after another.
-use Rattle.std.proofs.Common.{◌≡◌, ℕ, zero, suc, ◌+◌, ◌-◌, ◌<◌, ◌≤◌, List, [], ◌∷◌, ◌++◌, Some, Option, refl, sym, ap, ap₂, subst, ◌∙◌, arith, length, take, length-append}
+use Rattle.std.proofs.Common.{◌≡◌, ℕ, suc, ◌+◌, ◌-◌, ◌<◌, ◌≤◌, List, [], ◌∷◌, ◌++◌, Some, Option, refl, sym, ap, ap₂, subst, ◌∙◌, arith}
 use Rattle.std.specs.Option.{unwrap_or}
 use Rattle.tabled_grid.specs.Grid.{Grid, cell_at, with_cell}
 use Rattle.tabled_grid.specs.declared.config.position.Position.{Position}
 use Rattle.tabled_grid.specs.declared.records.axis.Axis.{Axis}
-use Rattle.tabled_options.specs.Writes.{Write, with_writes}
+use Rattle.tabled_options.specs.Writes.{FirstWrites, Write, with_writes}
+use Rattle.tabled_options.proofs.Writes.{some-first, some-later, some-next, some-none, writes-append}
 use Rattle.tabled_grid.specs.Axis.{count_of, in_line, line_of}
-use Rattle.tabled_spans.specs.Spanned.{FirstWritten, emptying, pull_writes, pulling, taken}
+use Rattle.tabled_spans.specs.Spanned.{emptying, pull_writes, pulling, taken}
 
 -- with some of all writes done, the rest leads where all lead, and where its first lead
 pub record Continues (all : List Write) (old : Grid (List ℕ)) (rest : List Write) (new : Grid (List ℕ)) : Type 0 where
   pub ok : with_writes rest new ≡ with_writes all old
-  pub err : (h : Grid (List ℕ)) → FirstWritten rest new h → FirstWritten all old h
+  pub err : (h : Grid (List ℕ)) → FirstWrites rest new h → FirstWrites all old h
 
 pub continues-start : (all : List Write) (old : Grid (List ℕ)) → Continues all old all old
 continues-start all old = record { ok = refl; err = λ h f. f }
-
-FirstWritten-next : (w : Write) (writes : List Write) (g h : Grid (List ℕ)) → FirstWritten writes (with_cell g w.place w.text) h → FirstWritten (w ∷ writes) g h
-FirstWritten-next w writes g h f = record { count = suc f.count; within = omega (arith, f.within); is = f.is }
 
 -- one more write
 pub continues-next : (all : List Write) (old : Grid (List ℕ)) (p : Position) (text : List ℕ) (rest : List Write) (g m : Grid (List ℕ)) → m ≡ with_cell g p text → Continues all old (record { place = p; text = text } ∷ rest) g → Continues all old rest m
 continues-next all old p text rest g m is so_far = record {
   ok = ap (with_writes rest) is ∙ so_far.ok;
-  err = λ h f. so_far.err h (FirstWritten-next (record { place = p; text = text }) rest g h (subst (λ (k : Grid (List ℕ)). FirstWritten rest k h) is f));
+  err = λ h f. so_far.err h (some-next (record { place = p; text = text }) rest g h (subst (λ (k : Grid (List ℕ)). FirstWrites rest k h) is f));
 }
 
 -- a refused write
-pub continues-refused : (all : List Write) (old : Grid (List ℕ)) (rest : List Write) (g : Grid (List ℕ)) → Continues all old rest g → FirstWritten all old g
-continues-refused all old rest g so_far = so_far.err g (record { count = 0; within = omega arith; is = refl })
-
-with_writes-append : (xs ys : List Write) (g : Grid (List ℕ)) → with_writes (xs ++ ys) g ≡ with_writes ys (with_writes xs g)
-with_writes-append [] ys g = refl
-with_writes-append (x ∷ xs) ys g = with_writes-append xs ys (with_cell g x.place x.text)
-
--- the first of some writes are the first of these and more
-FirstWritten-front : (xs ys : List Write) (g h : Grid (List ℕ)) → FirstWritten xs g h → FirstWritten (xs ++ ys) g h
-FirstWritten-front xs ys g h f = record { count = f.count; within = omega (arith, f.within, length-append xs ys); is = f.is ∙ ap (λ zs. with_writes zs g) (sym (front xs f.count f.within)) }
-  where
-    front : (zs : List Write) (n : ℕ) → n ≤ length zs → take n (zs ++ ys) ≡ take n zs
-    front zs zero h = refl
-    front [] (suc n) h = absurd (omega arith)
-    front (z ∷ zs) (suc n) h = ap (λ ws. z ∷ ws) (front zs n (omega arith))
-
--- the first of later writes, with all earlier ones
-FirstWritten-later : (xs ys : List Write) (g h : Grid (List ℕ)) → FirstWritten ys (with_writes xs g) h → FirstWritten (xs ++ ys) g h
-FirstWritten-later [] ys g h f = f
-FirstWritten-later (x ∷ xs) ys g h f = FirstWritten-next x (xs ++ ys) g h (FirstWritten-later xs ys (with_cell g x.place x.text) h f)
+pub continues-refused : (all : List Write) (old : Grid (List ℕ)) (w : Write) (rest : List Write) (g : Grid (List ℕ)) → Continues all old (w ∷ rest) g → FirstWrites all old g
+continues-refused all old w rest g so_far = so_far.err g (some-none w rest g)
 
 -- one more place is emptied
 pub emptying-more : (axis : Axis) (p : Position) (k end : ℕ) → k < end → emptying axis p k (end - k) ≡ record { place = in_line axis p k; text = [] } ∷ emptying axis p (k + 1) (end - (k + 1))
@@ -70,6 +50,10 @@ pull-start axis p first many g m found text q is copied here made = continues-ne
 pub pull-more : (all : List Write) (old : Grid (List ℕ)) (axis : Axis) (p : Position) (k end : ℕ) (g m : Grid (List ℕ)) (text : List ℕ) (q : Position) → k < end → text ≡ [] → q ≡ in_line axis p k → m ≡ with_cell g q text → Continues all old (emptying axis p k (end - k)) g → Continues all old (emptying axis p (k + 1) (end - (k + 1))) m
 pull-more all old axis p k end g m text q low none here made so_far = continues-next all old (in_line axis p k) [] (emptying axis p (k + 1) (end - (k + 1))) g m (made ∙ ap₂ (with_cell g) here none) (subst (λ ws. Continues all old ws g) (emptying-more axis p k end low) so_far)
 
+-- one is refused
+pub pull-refused : (all : List Write) (old : Grid (List ℕ)) (axis : Axis) (p : Position) (k end : ℕ) (g : Grid (List ℕ)) → k < end → Continues all old (emptying axis p k (end - k)) g → FirstWrites all old g
+pull-refused all old axis p k end g low so_far = continues-refused all old _ _ g (subst (λ ws. Continues all old ws g) (emptying-more axis p k end low) so_far)
+
 -- after the last
 pub pull-end : (all : List Write) (old : Grid (List ℕ)) (axis : Axis) (p : Position) (k end : ℕ) (g : Grid (List ℕ)) → end ≤ k → Continues all old (emptying axis p k (end - k)) g → g ≡ with_writes all old
 pull-end all old axis p k end g done so_far = (subst (λ ws. Continues all old ws g) (emptying-done axis p k end done) so_far).ok
@@ -85,10 +69,10 @@ module _ (all : List Write) (old : Grid (List ℕ)) (axis : Axis) (back : Option
   -- the texts of a place were pulled
   pub pulled-here : (m : Grid (List ℕ)) → m ≡ with_writes (pulling axis p cells g) g → Continues all old (pull_writes axis back n places m) m
   pulled-here m after = subst (λ (k : Grid (List ℕ)). Continues all old (pull_writes axis back n places k) k) (sym after) (record {
-    ok = sym (with_writes-append (pulling axis p cells g) (pull_writes axis back n places (with_writes (pulling axis p cells g) g)) g) ∙ ap (λ ws. with_writes ws g) (sym here) ∙ so_far.ok;
-    err = λ h f. so_far.err h (subst (λ (ws : List Write). FirstWritten ws g h) (sym here) (FirstWritten-later (pulling axis p cells g) (pull_writes axis back n places (with_writes (pulling axis p cells g) g)) g h f));
+    ok = sym (writes-append (pulling axis p cells g) (pull_writes axis back n places (with_writes (pulling axis p cells g) g)) g) ∙ ap (λ ws. with_writes ws g) (sym here) ∙ so_far.ok;
+    err = λ h f. so_far.err h (subst (λ (ws : List Write). FirstWrites ws g h) (sym here) (some-later (pulling axis p cells g) (pull_writes axis back n places (with_writes (pulling axis p cells g) g)) g h f));
   })
 
   -- they were pulled in part
-  pub pulled-first : (h : Grid (List ℕ)) → FirstWritten (pulling axis p cells g) g h → FirstWritten all old h
-  pulled-first h f = so_far.err h (subst (λ (ws : List Write). FirstWritten ws g h) (sym here) (FirstWritten-front (pulling axis p cells g) (pull_writes axis back n places (with_writes (pulling axis p cells g) g)) g h f))
+  pub pulled-first : (h : Grid (List ℕ)) → FirstWrites (pulling axis p cells g) g h → FirstWrites all old h
+  pulled-first h f = so_far.err h (subst (λ (ws : List Write). FirstWrites ws g h) (sym here) (some-first (pulling axis p cells g) (pull_writes axis back n places (with_writes (pulling axis p cells g) g)) g h f))

@@ -6,7 +6,6 @@ use Rattle.tabled_grid.specs.Grid.{Grid}
 use Rattle.tabled_grid.specs.Resized.{with_column, with_row}
 use Rattle.tabled_grid.specs.Shifts.{is_crossed, shifted}
 use Rattle.tabled_grid.specs.Spans.{SpanMap, with_size}
-use Rattle.tabled_grid.specs.declared.config.position.Position.{Position}
 use Rattle.tabled_grid.specs.declared.records.axis.Axis.{Axis}
 use Rattle.tabled_grid.specs.declared.records.axis.Axis.TheVariants.{Rows, Columns}
 use Rattle.tabled_options.specs.Does.{Same}
@@ -14,14 +13,6 @@ use Rattle.tabled_options.specs.Does.{Same}
 -- how many cells a line has
 abbrev pub cells_along : {A : Type 0} → Axis → Grid A → ℕ
 cells_along axis g = count_along (across axis) g
-
--- the first place of a line
-abbrev pub start_of_line : Axis → ℕ → Position
-start_of_line axis i = place_in axis i 0
-
--- the size of a piece of a line of so many cells
-abbrev pub size_of_piece : Axis → ℕ → ℕ × ℕ
-size_of_piece axis many = resized (across axis) (1, 1) many
 
 -- the grid with a line put in before another
 abbrev pub with_line : {A : Type 0} → Axis → ℕ → List A → Grid A → Grid A
@@ -36,7 +27,7 @@ pub record PutsIn {A : Type 0} (text_of : A → List ℕ) (axis : Axis) (line : 
 
 -- the map: anchors from the line on go one further, and the line is one rectangle
 abbrev pub with_panel : Axis → ℕ → ℕ → SpanMap → SpanMap
-with_panel axis line many m = with_size (shifted axis line m) (start_of_line axis line) (size_of_piece axis many)
+with_panel axis line many m = with_size (shifted axis line m) (place_in axis line 0) (resized (across axis) (1, 1) many)
 
 -- a panel may stand before a line: it isn't past the last one, lines have cells, and no rectangle begins before it and holds a cell of it
 abbrev pub has_room : {A : Type 0} → Axis → ℕ → Grid A → SpanMap → Bool

@@ -1,6 +1,6 @@
 -- Spans: how cells next to each other are merged, and what becomes of their texts.
 -- A span of rows goes along the rows, over the cells of a column; a span of columns along the columns.
-use Rattle.std.specs.Prelude.{◌≡◌, ◌<ℤ◌, ◌+◌, ◌-◌, ◌≤◌, ℕ, length, take, suc, ℤ, pos, negsuc, min, Option, None, Some, List, [], ◌∷◌, map, ◌++◌, if◌then◌else◌}
+use Rattle.std.specs.Prelude.{◌≡◌, ◌<ℤ◌, ◌+◌, ◌-◌, ℕ, suc, ℤ, pos, negsuc, min, Option, None, Some, List, [], ◌∷◌, map, ◌++◌, if◌then◌else◌}
 use Rattle.std.specs.List.{fold, list_all, range_with_len}
 use Rattle.std.specs.Option.{unwrap_or}
 use Rattle.tabled_grid.specs.Axis.{count_of, in_line, line_of}
@@ -13,7 +13,8 @@ use Rattle.tabled_grid.specs.declared.config.entity.Entity.{Entity}
 use Rattle.tabled_grid.specs.declared.config.position.Position.{Position}
 use Rattle.tabled_grid.specs.declared.records.axis.Axis.{Axis}
 use Rattle.tabled_grid.specs.declared.records.axis.Axis.TheVariants.{Rows, Columns}
-use Rattle.tabled_options.specs.Writes.{Write, with_writes}
+use Rattle.tabled_options.specs.Does.{Change, SameOr}
+use Rattle.tabled_options.specs.Writes.{DoesFirstWrites, Write, at_each, with_writes}
 
 -- the place in so many rows or columns, from one on
 abbrev pub stretch : Axis → Position → ℕ → ℕ → List Position
@@ -67,15 +68,9 @@ abbrev pub spanned : Axis → ℤ → Entity → ℕ → ℕ → SpanMap → Spa
 spanned axis (pos (suc size)) = grown axis (suc size)
 spanned axis size = pulled axis (back_of size)
 
--- the grid after the first so many of these writes
-pub record FirstWritten (writes : List Write) (g h : Grid (List ℕ)) : Type 0 where
-  pub count : ℕ
-  pub within : count ≤ length writes
-  pub is : h ≡ with_writes (take count writes) g
-
 -- no text for the place in each of so many rows or columns, from one on
 abbrev pub emptying : Axis → Position → ℕ → ℕ → List Write
-emptying axis p first many = map (λ (q : Position). record { place = q; text = [] }) (stretch axis p first many)
+emptying axis p first many = at_each [] (stretch axis p first many)
 
 -- the text of a place for the first of the cells that a span takes, and no text for the others
 abbrev pub pulling : Axis → Position → ℕ × ℕ → Grid (List ℕ) → List Write
@@ -101,11 +96,9 @@ pub record Spans {A : Type 0} (text_of : A → List ℕ) (axis : Axis) (size : �
   pub cells : pos 0 <ℤ size → h ≡ g
   pub spans : k ≡ spanned axis size e g.rows g.columns c
 
--- what it leaves where it is refused: its first writes, and the merged cells as they were
-pub record SpansFirst {A : Type 0} (text_of : A → List ℕ) (axis : Axis) (size : ℤ) (e : Entity) (g : Grid A) (c : SpanMap) (h : Grid A) (k : SpanMap) : Type 0 where
-  pub texts : FirstWritten (span_writes axis size e (map_grid text_of g)) (map_grid text_of g) (map_grid text_of h)
-  pub cells : pos 0 <ℤ size → h ≡ g
-  pub spans : k ≡ c
+-- what it leaves where it is refused: all as it was, or the writes before one of its own, with the merged cells as they were
+abbrev pub SpansFirst : {A : Type 0} → (A → List ℕ) → Axis → ℤ → Entity → Change A SpanMap
+SpansFirst text_of axis size e = SameOr (DoesFirstWrites text_of (span_writes axis size e))
 
 -- no rectangle has more than one line: one column for spans of rows, one row for spans of columns
 abbrev pub IsFlat : Axis → SpanMap → Type 0

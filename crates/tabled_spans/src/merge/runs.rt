@@ -108,16 +108,7 @@ fn next(axis: Axis, pos: Position) -> Position
     requires col { pos.col + 1 < 2 ^ 64 }
     ensures { result ≡ further axis 1 pos }
 {
-    match axis {
-        Axis::Rows => Position {
-            row: pos.row + 1,
-            col: pos.col,
-        },
-        Axis::Columns => Position {
-            row: pos.row,
-            col: pos.col + 1,
-        },
-    }
+    axis.in_line(pos, axis.line_of(pos) + 1)
 }
 
 /// The place before another along an axis, if it isn't the first.
@@ -125,14 +116,6 @@ fn before(axis: Axis, pos: Position) -> Option<Position>
     ensures some { IfSome result (λ last. further axis 1 last ≡ pos) }
     ensures none { IsNone result → (last : Position) → further axis 1 last ≡ pos → ⊥ }
 {
-    match axis {
-        Axis::Rows => Some(Position {
-            row: pos.row.checked_sub(1)?,
-            col: pos.col,
-        }),
-        Axis::Columns => Some(Position {
-            row: pos.row,
-            col: pos.col.checked_sub(1)?,
-        }),
-    }
+    let line = axis.line_of(pos).checked_sub(1)?;
+    Some(axis.in_line(pos, line))
 }

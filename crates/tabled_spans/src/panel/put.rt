@@ -2,11 +2,12 @@
 
 ghost use Rattle.std.specs.Prelude.{◌≡◌, ◌<◌, ◌≤◌, false, IfOk, IsOk, OnErr, OnOk};
 ghost use Rattle.std.specs.String.{string_bytes};
+ghost use Rattle.tabled_grid.specs.Axis.{across};
 ghost use Rattle.tabled_grid.specs.Along.{count_along, without_line};
 ghost use Rattle.tabled_grid.specs.Grid.{IsEmptyWithoutRows};
 ghost use Rattle.tabled_options.specs.Does.{Same};
 ghost use Rattle.tabled_spans.specs.PanelSteps.{InsertsLine};
-ghost use Rattle.tabled_spans.specs.Panels.{Panels, PutsIn, cells_along, has_room, with_panel};
+ghost use Rattle.tabled_spans.specs.Panels.{Panels, PutsIn, has_room, with_panel};
 
 use std::alloc::{AllocError, Global};
 use tabled_grid::config::SpannedConfig;
@@ -30,7 +31,7 @@ where
     ensures err { OnErr result (Same (R.grid records.old) cfg.old (R.grid records.new) cfg.new) }
     ensures promised { has_room axis line (R.grid records.old) cfg.old ≡ false → IsOk result }
 {
-    let many = cells_along(records, axis);
+    let many = axis.across().count(records);
     if line > axis.count(records) || many == 0 || cfg.crosses(axis, line) {
         return Ok(());
     }
@@ -74,7 +75,7 @@ where
     R::Cell: CellText,
     requires well { R.is_well_formed records.old }
     requires within { line ≤ count_along axis (R.grid records.old) }
-    requires cells { 1 ≤ cells_along axis (R.grid records.old) }
+    requires cells { 1 ≤ count_along (across axis) (R.grid records.old) }
     ensures well { R.is_well_formed records.new }
     ensures ok { OnOk result (PutsIn R.Cell.text_of axis line (string_bytes text) (R.grid records.old) (R.grid records.new)) }
     ensures err { OnErr result (R.grid records.new ≡ R.grid records.old) }
@@ -121,12 +122,4 @@ where
         Axis::Rows => records.remove_row(line),
         Axis::Columns => records.remove_column(line),
     }
-}
-
-/// How many cells a line has.
-fn cells_along<R: Records + ExactRecords>(records: &R, axis: Axis) -> usize
-    requires { R.is_well_formed records.now }
-    ensures { result ≡ cells_along axis (R.grid records.now) }
-{
-    axis.across().count(records)
 }

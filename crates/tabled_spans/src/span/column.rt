@@ -70,8 +70,8 @@ impl ColumnSpan {
 /// Merges cells at each place of the table that the entity names, one after another, and drops what is
 /// hidden then, all at once.
 ///
-/// Refused for memory, a size of 1 or more changes nothing, and one of 0 or below leaves its first writes
-/// and the merged cells as they were.
+/// Refused for memory, a size of 1 or more changes nothing, and one of 0 or below leaves nothing changed, or
+/// the writes before one of its own, with the merged cells as they were.
 impl<R> CellOption<R, SpannedConfig> for ColumnSpan
 where
     R: Records + ExactRecords + PeekableRecords + RecordsMut<String>,

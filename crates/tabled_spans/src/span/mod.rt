@@ -65,7 +65,8 @@ impl Span {
 /// Merges cells at each place that an entity names in a table, one after another, and drops what is hidden
 /// then.
 ///
-/// Refused for memory, it leaves its first writes, and the merged cells as they were.
+/// Refused for memory, it leaves all as it was or the writes before one of its own, and the merged cells as
+/// they were.
 fn span_cells<R>(
     alloc: Global,
     records: &mut R,

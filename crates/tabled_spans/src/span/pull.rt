@@ -8,9 +8,10 @@ ghost use Rattle.tabled_grid.specs.Entity.{inside};
 ghost use Rattle.tabled_grid.specs.Spans.{IsSizeAt, position_cmp, with_sizes};
 ghost use Rattle.tabled_grid.specs.declared.config.position.Position.{Position};
 ghost use Rattle.tabled_grid.specs.Grid.{IsInside, map_grid};
-ghost use Rattle.tabled_options.specs.Writes.{with_writes};
+ghost use Rattle.tabled_options.specs.Does.{SameOr};
+ghost use Rattle.tabled_options.specs.Writes.{DoesFirstWrites, FirstWrites, with_writes};
 ghost use Rattle.tabled_grid.specs.Axis.{count_of, in_line};
-ghost use Rattle.tabled_spans.specs.Spanned.{FirstWritten, pull_writes_on, pulled, pulled_each, pulling, with_span};
+ghost use Rattle.tabled_spans.specs.Spanned.{pull_writes_on, pulled, pulled_each, pulling, with_span};
 
 use crate::span::along::{resized, size_at, taken};
 use std::alloc::{AllocError, Global};
@@ -119,7 +120,7 @@ where
     ensures rows { (R.grid records.new).rows ≡ (R.grid records.old).rows }
     ensures columns { (R.grid records.new).columns ≡ (R.grid records.old).columns }
     ensures ok { OnOk result (map_grid R.Cell.text_of (R.grid records.new) ≡ with_writes (pulling axis pos (first, many) (map_grid R.Cell.text_of (R.grid records.old))) (map_grid R.Cell.text_of (R.grid records.old))) }
-    ensures err { OnErr result (FirstWritten (pulling axis pos (first, many) (map_grid R.Cell.text_of (R.grid records.old))) (map_grid R.Cell.text_of (R.grid records.old)) (map_grid R.Cell.text_of (R.grid records.new))) }
+    ensures err { OnErr result (FirstWrites (pulling axis pos (first, many) (map_grid R.Cell.text_of (R.grid records.old))) (map_grid R.Cell.text_of (R.grid records.old)) (map_grid R.Cell.text_of (R.grid records.new))) }
 {
     let text = String::from_str(alloc, records.get_text(pos))?;
     records.set(alloc, axis.in_line(pos, first), text)?;
@@ -144,7 +145,7 @@ where
     requires { R.is_well_formed records.old }
     ensures well { R.is_well_formed records.new }
     ensures ok { OnOk result (map_grid R.Cell.text_of (R.grid records.new) ≡ with_writes (pull_writes_on axis back entity (map_grid R.Cell.text_of (R.grid records.old))) (map_grid R.Cell.text_of (R.grid records.old))) }
-    ensures err { OnErr result (FirstWritten (pull_writes_on axis back entity (map_grid R.Cell.text_of (R.grid records.old))) (map_grid R.Cell.text_of (R.grid records.old)) (map_grid R.Cell.text_of (R.grid records.new))) }
+    ensures err { OnErr result (FirstWrites (pull_writes_on axis back entity (map_grid R.Cell.text_of (R.grid records.old))) (map_grid R.Cell.text_of (R.grid records.old)) (map_grid R.Cell.text_of (R.grid records.new))) }
 {
     let rows = records.count_rows();
     let columns = records.count_columns();
@@ -159,7 +160,8 @@ where
 /// Pulls the text of each place that an entity names to the first of the cells that a span takes there,
 /// merges these, and drops what is hidden then.
 ///
-/// Refused for memory, it leaves its first writes, and the merged cells as they were.
+/// Refused for memory, it leaves all as it was or the writes before one of its own, and the merged cells as
+/// they were.
 pub(super) fn pull_each<R>(
     alloc: Global,
     records: &mut R,
@@ -174,9 +176,8 @@ where
     requires { R.is_well_formed records.old }
     ensures well { R.is_well_formed records.new }
     ensures texts { OnOk result (map_grid R.Cell.text_of (R.grid records.new) ≡ with_writes (pull_writes_on axis back entity (map_grid R.Cell.text_of (R.grid records.old))) (map_grid R.Cell.text_of (R.grid records.old))) }
-    ensures first { OnErr result (FirstWritten (pull_writes_on axis back entity (map_grid R.Cell.text_of (R.grid records.old))) (map_grid R.Cell.text_of (R.grid records.old)) (map_grid R.Cell.text_of (R.grid records.new))) }
     ensures spans { OnOk result (cfg.new ≡ pulled axis back entity ((R.grid records.old).rows) ((R.grid records.old).columns) cfg.old) }
-    ensures err { OnErr result (cfg.new ≡ cfg.old) }
+    ensures err { OnErr result (SameOr (DoesFirstWrites R.Cell.text_of (pull_writes_on axis back entity)) (R.grid records.old) cfg.old (R.grid records.new) cfg.new) }
 {
     let rows = records.count_rows();
     let columns = records.count_columns();

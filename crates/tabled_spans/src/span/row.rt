@@ -33,7 +33,7 @@ impl RowSpan {
     /// A span of a size: 1 or more rows from the place on, below 0 back from it, or 0 for all.
     ///
     /// Ported from `tabled::settings::span::RowSpan::new`.
-    pub const fn new(size: isize) -> Self
+    pub fn new(size: isize) -> Self
         ensures { result ≡ size }
     {
         RowSpan { size }
@@ -42,7 +42,7 @@ impl RowSpan {
     /// The greatest size.
     ///
     /// Ported from `tabled::settings::span::RowSpan::max`.
-    pub const fn max() -> Self
+    pub fn max() -> Self
         ensures { result ≡ pos (2 ^ 63 - 1) }
     {
         RowSpan::new(isize::MAX)
@@ -70,8 +70,8 @@ impl RowSpan {
 /// Merges cells at each place of the table that the entity names, one after another, and drops what is
 /// hidden then, all at once.
 ///
-/// Refused for memory, a size of 1 or more changes nothing, and one of 0 or below leaves its first writes
-/// and the merged cells as they were.
+/// Refused for memory, a size of 1 or more changes nothing, and one of 0 or below leaves nothing changed, or
+/// the writes before one of its own, with the merged cells as they were.
 impl<R> CellOption<R, SpannedConfig> for RowSpan
 where
     R: Records + ExactRecords + PeekableRecords + RecordsMut<String>,

@@ -1,8 +1,9 @@
 use Rattle.std.proofs.Common.{rules, ◌+◌, arith}
 use Rattle.std.specs.String.{string_bytes}
 use Rattle.tabled_grid.specs.Grid.{map_grid}
+use Rattle.tabled_options.proofs.Results.{on_err}
 use Rattle.tabled_spans.specs.Spanned.{pulling}
-use Rattle.tabled_spans.proofs.SpanWrites.{pull-more, pull-start}
+use Rattle.tabled_spans.proofs.SpanWrites.{pull-more, pull-refused, pull-start}
 use Rattle.tabled_spans.proofs.span.pull.pull.Goals as goal
 
 pub loop-k-init : goal.loop-k-init
@@ -24,3 +25,11 @@ loop-k-preserved g c =
       columns = search rules;
       texts = pull-more (pulling c.args.axis c.args.pos (c.args.first, c.args.many) (texts c.args.records.now)) (texts c.args.records.now) c.args.axis c.args.pos c.loop-k.k (c.args.first + c.args.many) (texts c.loop-k.records) (texts c.set-in-loop-k.new.self) (string_bytes c.new.result) c.in_line-in-loop-k.result (omega arith) c.new.ensures.bytes c.in_line-in-loop-k.ensures c.in_ok-set-2.ensures.texts c.loop-k.invariant.texts;
     }
+
+pub returns-in_err-set-2-clause-err : goal.returns-in_err-set-2-clause-err
+returns-in_err-set-2-clause-err g c =
+    let texts = λ (r : _). map_grid g.R.Cell.CellText.text_of (g.R.GridStore.grid r) in
+    let old = texts c.args.records.now in
+    on_err c.from_residual-in_err-set-2.result
+    (rw c.in_err-set-2.ensures.err
+    (pull-refused (pulling c.args.axis c.args.pos (c.args.first, c.args.many) old) old c.args.axis c.args.pos c.loop-k.k (c.args.first + c.args.many) (texts c.loop-k.records) (omega arith) c.loop-k.invariant.texts))
