@@ -49,6 +49,20 @@ fn located_texts_are_written(rt: HostRuntime) -> Result<(), Fail> {
 }
 
 #[test]
+fn nothing_is_located_without_columns(rt: HostRuntime) -> Result<(), Fail> {
+    let alloc = rt.alloc();
+    for table in ["", "/ / /"] {
+        let column = Locator::column(String::from_str(alloc, "1")?);
+        assert!(rt; makes_flat(alloc, table, Modify::list(column, TextRef("x")), table));
+        let content = Locator::content(String::from_str(alloc, "1")?);
+        assert!(rt; makes_flat(alloc, table, Modify::list(content, TextRef("x")), table));
+        let by = Locator::by(|text| text == "1");
+        assert!(rt; makes_flat(alloc, table, Modify::list(by, TextRef("x")), table));
+    }
+    Ok(())
+}
+
+#[test]
 fn texts_are_cleaned(rt: HostRuntime) -> Result<(), Fail> {
     let text = "Some\ttext\t\twith \\tabs\r\nSome";
     let clean = Charset::charset_clean(rt.alloc(), text)?;

@@ -2,57 +2,40 @@
 
 ghost use Rattle.std.specs.Prelude.{◌≡◌};
 
+use crate::changes;
+use crate::changes::Change;
 use crate::tables::{makes_flat, makes_nested, makes_refusing};
 use std::alloc::{AllocError, Global};
-use std::ops::Range;
 use std::test::Fail;
 use tabled_grid::records::GridStore;
 use tabled_select::location::Location;
-use tabled_select::object::{Columns, Rows};
 use tabled_settings::disable::Remove;
 use tabled_settings::extract::Extract;
 
-type Segment = Extract<Range<usize>, Range<usize>>;
-
-/// What segments make of tables.
-fn segments() -> [(&'static str, Segment, &'static str); 11] {
-    [
-        (
-            "a b / c d /",
-            Extract::segment(0..9, 1..usize::MAX),
-            "b / d /",
-        ),
-        ("a b / c d /", Extract::segment(1..2, 0..1), "c /"),
-        (
-            "a b c / d e f / g h i /",
-            Extract::segment(1..3, 1..2),
-            "e / h /",
-        ),
-        ("a b / c d /", Extract::segment(2..1, 0..2), ""),
-        ("a b / c d /", Extract::segment(0..2, 2..1), "/ /"),
-        ("a b / c d /", Extract::segment(1..1, 0..2), ""),
-        ("a b / c d /", Extract::segment(5..9, 0..2), ""),
-        ("a b / c d /", Extract::segment(0..1, 5..9), "/"),
-        (
-            "a b / c d /",
-            Extract::segment(0..2, usize::MAX..usize::MAX),
-            "/ /",
-        ),
-        ("/ /", Extract::segment(1..2, 0..1), "/"),
-        ("", Extract::segment(0..1, 0..1), ""),
-    ]
-}
-
 #[test]
 fn segments_are_kept(rt: HostRuntime) -> Result<(), Fail> {
-    for (old, segment, new) in segments() {
-        assert!(rt; makes_flat(rt.alloc(), old, segment, new));
-    }
-    for (old, segment, new) in segments() {
-        assert!(rt; makes_nested(rt.alloc(), old, segment, new));
-    }
-    for (old, segment, new) in segments() {
-        assert!(rt; makes_refusing(rt.alloc(), 0, old, segment, new));
+    let square = "a b / c d /";
+    let most = usize::MAX;
+    let cases = [
+        (square, Change::Segment(0, 9, 1, most), "b / d /"),
+        (square, Change::Segment(1, 2, 0, 1), "c /"),
+        (
+            "a b c / d e f / g h i /",
+            Change::Segment(1, 3, 1, 2),
+            "e / h /",
+        ),
+        (square, Change::Segment(2, 1, 0, 2), ""),
+        (square, Change::Segment(0, 2, 2, 1), "/ /"),
+        (square, Change::Segment(1, 1, 0, 2), ""),
+        (square, Change::Segment(5, 9, 0, 2), ""),
+        (square, Change::Segment(0, 1, 5, 9), "/"),
+        (square, Change::Segment(0, 2, most, most), "/ /"),
+        ("/ /", Change::Segment(1, 2, 0, 1), "/"),
+        ("", Change::Segment(0, 1, 0, 1), ""),
+    ];
+    for (old, segment, new) in cases {
+        assert!(rt; changes::makes(rt.alloc(), old, segment, new));
+        assert!(rt; changes::makes_refusing(rt.alloc(), 0, old, segment, new));
     }
     Ok(())
 }
@@ -66,40 +49,25 @@ fn ranges_without_an_end_are_kept(rt: HostRuntime) -> Result<(), Fail> {
     Ok(())
 }
 
-/// What it makes of tables to remove a range of rows.
-fn removed_rows() -> [(&'static str, Range<usize>, &'static str); 6] {
-    [
-        ("p / q / r / s /", 1..3, "p / s /"),
-        ("p / q / r / s /", 3..1, "p / q / r / s /"),
-        ("p / q / r / s /", 2..9, "p / q /"),
-        ("p / q / r / s /", 4..9, "p / q / r / s /"),
-        ("p q / r s /", 0..9, ""),
-        ("/ /", 0..1, "/"),
-    ]
-}
-
 #[test]
-fn rows_are_removed(rt: HostRuntime) -> Result<(), Fail> {
-    for (old, rows, new) in removed_rows() {
-        assert!(rt; makes_flat(rt.alloc(), old, Remove::row(Rows::new(rows)), new));
-    }
-    for (old, rows, new) in removed_rows() {
-        assert!(rt; makes_nested(rt.alloc(), old, Remove::row(Rows::new(rows)), new));
-    }
-    Ok(())
-}
-
-#[test]
-fn the_last_column_is_removed(rt: HostRuntime) -> Result<(), Fail> {
+fn rows_and_columns_are_removed(rt: HostRuntime) -> Result<(), Fail> {
+    let lines = "p / q / r / s /";
     let cases = [
-        ("", ""),
-        ("/ /", "/ /"),
-        ("a /", "/"),
-        ("a b / c d /", "a / c /"),
+        (lines, Change::RemoveRows(1, 3), "p / s /"),
+        (lines, Change::RemoveRows(3, 1), lines),
+        (lines, Change::RemoveRows(2, 9), "p / q /"),
+        (lines, Change::RemoveRows(4, 9), lines),
+        ("p q / r s /", Change::RemoveRows(0, 9), ""),
+        ("p q / r s /", Change::RemoveRows(0, usize::MAX), ""),
+        ("p q / r s /", Change::RemoveRows(1, usize::MAX), "p q /"),
+        ("/ /", Change::RemoveRows(0, 1), "/"),
+        ("", Change::RemoveLastColumn, ""),
+        ("/ /", Change::RemoveLastColumn, "/ /"),
+        ("a /", Change::RemoveLastColumn, "/"),
+        ("a b / c d /", Change::RemoveLastColumn, "a / c /"),
     ];
-    for (old, new) in cases {
-        assert!(rt; makes_flat(rt.alloc(), old, Remove::column(Columns::last()), new));
-        assert!(rt; makes_nested(rt.alloc(), old, Remove::column(Columns::last()), new));
+    for (old, change, new) in cases {
+        assert!(rt; changes::makes(rt.alloc(), old, change, new));
     }
     Ok(())
 }
@@ -131,7 +99,9 @@ fn told_rows_and_columns_are_removed(rt: HostRuntime) -> Result<(), Fail> {
         (Told(&[]), "p / q / r / s /", "p q r s /"),
     ];
     for (told, rows, columns) in cases {
-        assert!(rt; makes_refusing(rt.alloc(), 0, "p / q / r / s /", Remove::row(told), rows));
+        assert!(rt; makes_flat(rt.alloc(), "p / q / r / s /", Remove::row(told), rows));
+        assert!(rt; makes_flat(rt.alloc(), "p q r s /", Remove::column(told), columns));
+        assert!(rt; makes_nested(rt.alloc(), "p / q / r / s /", Remove::row(told), rows));
         assert!(rt; makes_refusing(rt.alloc(), 0, "p q r s /", Remove::column(told), columns));
     }
     Ok(())

@@ -3,6 +3,7 @@
 use crate::tables::{makes_flat, makes_refusing};
 use std::alloc::{AllocError, Global};
 use tabled_grid::config::Position;
+use tabled_options::{Modify, TextRef};
 use tabled_select::object::Rows;
 use tabled_settings::duplicate::Dup;
 use tabled_settings::format::Format;
@@ -37,6 +38,9 @@ fn writes_are_refused_in_turn(rt: HostRuntime) {
         assert!(rt; makes_refusing(alloc, left, "a b /", clean, want));
         assert!(rt; makes_refusing(alloc, left, "a b /", Charset::new(), "a b /"));
     }
+    // The second write of a text is refused.
+    let first_row = Modify::list(Rows::first(), TextRef("x"));
+    assert!(rt; makes_refusing(alloc, 1, "a b c /", first_row, "x b c /!"));
     for (left, want) in [(0, "a b / c d /!"), (1, "a b / a d /!"), (2, "a b / a b /")] {
         let dup = Dup::new(Rows::last(), Rows::first());
         assert!(rt; makes_refusing(alloc, left, "a b / c d /", dup, want));

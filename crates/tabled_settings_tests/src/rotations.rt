@@ -1,39 +1,31 @@
 //! Tables that are turned, and rows or columns that are reversed.
 
-use crate::tables::{makes_flat, makes_nested, makes_refusing};
+use crate::changes::{Change, makes, makes_refusing};
 use std::alloc::{AllocError, Global};
 use std::test::Fail;
 use tabled_grid::config::Offset::{End, Start};
 use tabled_grid::records::VecRecords;
 use tabled_options::TableOption;
 use tabled_settings::reverse::Reverse;
-use tabled_settings::rotate::Rotate;
-
-/// What each turn makes of tables.
-fn turns() -> [(&'static str, Rotate, &'static str); 12] {
-    [
-        ("a b c / d e f /", Rotate::Left, "c f / b e / a d /"),
-        ("a b c / d e f /", Rotate::Right, "d a / e b / f c /"),
-        ("a b c / d e f /", Rotate::Top, "d e f / a b c /"),
-        ("a b c / d e f /", Rotate::Bottom, "d e f / a b c /"),
-        ("a / b / c /", Rotate::Left, "a b c /"),
-        ("a / b / c /", Rotate::Right, "c b a /"),
-        ("a b c /", Rotate::Left, "c / b / a /"),
-        ("a / b / c /", Rotate::Bottom, "c / b / a /"),
-        ("/ /", Rotate::Left, ""),
-        ("/ /", Rotate::Right, ""),
-        ("/ /", Rotate::Top, "/ /"),
-        ("", Rotate::Left, ""),
-    ]
-}
 
 #[test]
 fn tables_are_turned(rt: HostRuntime) -> Result<(), Fail> {
-    for (old, turn, new) in turns() {
-        assert!(rt; makes_flat(rt.alloc(), old, turn, new));
-    }
-    for (old, turn, new) in turns() {
-        assert!(rt; makes_nested(rt.alloc(), old, turn, new));
+    let cases = [
+        ("a b c / d e f /", Change::Left, "c f / b e / a d /"),
+        ("a b c / d e f /", Change::Right, "d a / e b / f c /"),
+        ("a b c / d e f /", Change::Top, "d e f / a b c /"),
+        ("a b c / d e f /", Change::Bottom, "d e f / a b c /"),
+        ("a / b / c /", Change::Left, "a b c /"),
+        ("a / b / c /", Change::Right, "c b a /"),
+        ("a b c /", Change::Left, "c / b / a /"),
+        ("a / b / c /", Change::Bottom, "c / b / a /"),
+        ("/ /", Change::Left, ""),
+        ("/ /", Change::Right, ""),
+        ("/ /", Change::Top, "/ /"),
+        ("", Change::Left, ""),
+    ];
+    for (old, turn, new) in cases {
+        assert!(rt; makes(rt.alloc(), old, turn, new));
     }
     Ok(())
 }
@@ -41,14 +33,14 @@ fn tables_are_turned(rt: HostRuntime) -> Result<(), Fail> {
 #[test]
 fn turns_that_are_refused_are_undone(rt: HostRuntime) -> Result<(), Fail> {
     let cases = [
-        (0, "a b c /", Rotate::Left, "a b c /!"),
-        (1, "a b c /", Rotate::Left, "a b c /!"),
-        (2, "a b c /", Rotate::Left, "c / b / a /"),
-        (0, "a / b / c /", Rotate::Right, "a / b / c /!"),
-        (1, "a / b / c /", Rotate::Right, "a / b / c /!"),
-        (2, "a / b / c /", Rotate::Right, "c b a /"),
-        (0, "a b / c d /", Rotate::Left, "b d / a c /"),
-        (0, "a b / c d /", Rotate::Top, "c d / a b /"),
+        (0, "a b c /", Change::Left, "a b c /!"),
+        (1, "a b c /", Change::Left, "a b c /!"),
+        (2, "a b c /", Change::Left, "c / b / a /"),
+        (0, "a / b / c /", Change::Right, "a / b / c /!"),
+        (1, "a / b / c /", Change::Right, "a / b / c /!"),
+        (2, "a / b / c /", Change::Right, "c b a /"),
+        (0, "a b / c d /", Change::Left, "b d / a c /"),
+        (0, "a b / c d /", Change::Top, "c d / a b /"),
     ];
     for (left, old, turn, new) in cases {
         assert!(rt; makes_refusing(rt.alloc(), left, old, turn, new));
@@ -95,9 +87,9 @@ fn rows_and_columns_are_reversed(rt: HostRuntime) -> Result<(), Fail> {
         ("", Reverse::rows(0), ""),
     ];
     for (old, reverse, new) in cases {
-        assert!(rt; makes_flat(rt.alloc(), old, reverse, new));
-        assert!(rt; makes_nested(rt.alloc(), old, reverse, new));
-        assert!(rt; makes_refusing(rt.alloc(), 0, old, reverse, new));
+        let change = Change::Reverse(reverse);
+        assert!(rt; makes(rt.alloc(), old, change, new));
+        assert!(rt; makes_refusing(rt.alloc(), 0, old, change, new));
     }
     Ok(())
 }

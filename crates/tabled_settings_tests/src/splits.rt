@@ -1,14 +1,8 @@
 //! Tables with their rows or columns cut into pieces.
 
-use crate::tables::{makes_flat, makes_nested, makes_refusing};
-use std::alloc::Global;
+use crate::changes::{Change, makes, makes_refusing};
 use std::test::Fail;
 use tabled_settings::split::Split;
-
-/// Whether a split makes one table of another, in both kinds of store.
-fn splits(alloc: Global, old: &str, split: Split, new: &str) -> bool {
-    makes_flat(alloc, old, split, new) && makes_nested(alloc, old, split, new)
-}
 
 const WIDE: &str = "a b c d e / f g h i j /";
 
@@ -54,7 +48,7 @@ fn rows_are_cut(rt: HostRuntime) -> Result<(), Fail> {
         ),
     ];
     for (old, split, new) in cases {
-        assert!(rt; splits(rt.alloc(), old, split, new));
+        assert!(rt; makes(rt.alloc(), old, Change::Split(split), new));
     }
     Ok(())
 }
@@ -89,7 +83,7 @@ fn columns_are_cut(rt: HostRuntime) -> Result<(), Fail> {
         ("_ / _ / x /", two, "_ x / _ _ /"),
     ];
     for (old, split, new) in cases {
-        assert!(rt; splits(rt.alloc(), old, split, new));
+        assert!(rt; makes(rt.alloc(), old, Change::Split(split), new));
     }
     Ok(())
 }
@@ -100,11 +94,11 @@ fn tables_without_longer_lines_stay(rt: HostRuntime) -> Result<(), Fail> {
     for table in tables {
         for index in [0, 5, 6, usize::MAX] {
             let split = Split::column(index);
-            assert!(rt; splits(rt.alloc(), table, split, table));
-            assert!(rt; makes_refusing(rt.alloc(), 0, table, split.concat(), table));
+            assert!(rt; makes(rt.alloc(), table, Change::Split(split), table));
+            assert!(rt; makes_refusing(rt.alloc(), 0, table, Change::Split(split.concat()), table));
             let split = Split::row(index);
-            assert!(rt; splits(rt.alloc(), table, split.retain(), table));
-            assert!(rt; makes_refusing(rt.alloc(), 0, table, split, table));
+            assert!(rt; makes(rt.alloc(), table, Change::Split(split.retain()), table));
+            assert!(rt; makes_refusing(rt.alloc(), 0, table, Change::Split(split), table));
         }
     }
     Ok(())
@@ -124,10 +118,11 @@ fn splits_that_are_refused_are_undone(rt: HostRuntime) -> Result<(), Fail> {
             split.concat(),
             split.concat().retain(),
         ] {
+            let change = Change::Split(split);
             for left in 0..growths {
-                assert!(rt; makes_refusing(rt.alloc(), left, old, split, refused));
+                assert!(rt; makes_refusing(rt.alloc(), left, old, change, refused));
             }
-            assert!(rt; !makes_refusing(rt.alloc(), growths, old, split, refused));
+            assert!(rt; !makes_refusing(rt.alloc(), growths, old, change, refused));
         }
     }
     Ok(())

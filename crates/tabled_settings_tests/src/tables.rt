@@ -15,7 +15,21 @@ where
     requires can { O.can_change option }
 {
     let done = option.change(alloc, &mut records, &mut (), &mut ());
-    let mut words = spelled(alloc, &records)?;
+    made_by(alloc, &records, done)
+}
+
+/// A table that was changed, with `!` behind it where that was refused.
+pub(crate) fn made_by<R>(
+    alloc: Global,
+    records: &R,
+    done: Result<(), AllocError>,
+) -> Result<String, AllocError>
+where
+    R: Records + ExactRecords + PeekableRecords,
+    R::Cell: CellText,
+    requires { R.is_well_formed records.now }
+{
+    let mut words = spelled(alloc, records)?;
     if done.is_err() {
         words.push('!')?;
     }

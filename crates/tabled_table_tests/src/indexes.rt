@@ -44,36 +44,76 @@ fn indexed(alloc: Global, records: &[&str], turns: [Turn; 2]) -> Result<Builder,
 fn indexes_records(rt: HostRuntime) {
     use Turn::*;
     let alloc = rt.alloc();
-    let records = ["i a b", "0 v w", "2 x y"];
-    for (turns, columns, want) in [
-        ([Keep, Keep], 4, "_ i a b /0 0 v w /1 2 x y /"),
-        ([Hide, Keep], 3, "i a b /0 v w /2 x y /"),
-        ([Column(3), Keep], 4, "_ i a b /0 0 v w /1 2 x y /"),
-        ([Column(1), Name], 3, "_ i b /n _ _ /v 0 w /x 2 y /"),
-        ([Column(1), Unname], 3, "_ i b /v 0 w /x 2 y /"),
-        ([Column(1), Column(0)], 2, "_ b /i _ /0 w /2 y /"),
-        ([Column(1), Transpose], 3, "a v x /i 0 2 /b w y /"),
-        ([Transpose, Transpose], 4, "_ i a b /0 0 v w /1 2 x y /"),
-        ([Column(1), Hide], 2, "i b /a _ /0 w /2 y /"),
+    let three = ["i a b", "0 v w", "2 x y"];
+    let values = [
+        "i column-1 column-2 column-3",
+        "0 value-1 value-2 value-3",
+        "1 value-4 value-5 value-6",
+        "2 value-7 value-8 value-9",
+    ];
+    for (records, turns, columns, want) in [
+        (
+            three.as_slice(),
+            [Keep, Keep],
+            4,
+            "_ i a b /0 0 v w /1 2 x y /",
+        ),
+        (three.as_slice(), [Hide, Keep], 3, "i a b /0 v w /2 x y /"),
+        (
+            three.as_slice(),
+            [Column(3), Keep],
+            4,
+            "_ i a b /0 0 v w /1 2 x y /",
+        ),
+        (
+            three.as_slice(),
+            [Column(1), Name],
+            3,
+            "_ i b /n _ _ /v 0 w /x 2 y /",
+        ),
+        (
+            three.as_slice(),
+            [Column(1), Unname],
+            3,
+            "_ i b /v 0 w /x 2 y /",
+        ),
+        (
+            three.as_slice(),
+            [Column(1), Column(0)],
+            2,
+            "_ b /i _ /0 w /2 y /",
+        ),
+        (
+            three.as_slice(),
+            [Column(1), Transpose],
+            3,
+            "a v x /i 0 2 /b w y /",
+        ),
+        (
+            three.as_slice(),
+            [Transpose, Transpose],
+            4,
+            "_ i a b /0 0 v w /1 2 x y /",
+        ),
+        (
+            three.as_slice(),
+            [Column(1), Hide],
+            2,
+            "i b /a _ /0 w /2 y /",
+        ),
+        (
+            values.as_slice(),
+            [Column(1), Transpose],
+            4,
+            "column-1 value-1 value-4 value-7 /i 0 1 2 /column-2 value-2 value-5 value-8 /column-3 value-3 value-6 value-9 /",
+        ),
+        (["h", "v"].as_slice(), [Column(0), Hide], 0, "//"),
+        (["a b"].as_slice(), [Transpose, Hide], 0, "///"),
+        ([""].as_slice(), [Keep, Keep], 0, ""),
+        ([""].as_slice(), [Name, Hide], 0, "/"),
+        ([""].as_slice(), [Name, Keep], 1, "_ /n /"),
     ] {
-        assert!(rt; holds(alloc, indexed(alloc, &records, turns), columns, want));
-    }
-}
-
-#[test]
-fn indexes_little(rt: HostRuntime) {
-    use Turn::*;
-    let alloc = rt.alloc();
-    for (records, turns, want) in [
-        (["h", "v"].as_slice(), [Column(0), Hide], "//"),
-        (["a b"].as_slice(), [Transpose, Hide], "///"),
-        ([""].as_slice(), [Keep, Keep], ""),
-        ([""].as_slice(), [Name, Hide], "/"),
-        ([""].as_slice(), [Name, Keep], "_ /n /"),
-    ] {
-        let made = indexed(alloc, records, turns);
-        let columns = if want == "_ /n /" { 1 } else { 0 };
-        assert!(rt; holds(alloc, made, columns, want));
+        assert!(rt; holds(alloc, indexed(alloc, records, turns), columns, want));
     }
 }
 
