@@ -2,12 +2,14 @@
 
 ghost use Rattle.std.proofs.Common.{rules};
 ghost use Rattle.tabled_options.specs.Does.{CopiesAlike, Same};
+ghost use Rattle.std.specs.List.{AllByRecursion};
 ghost use Rattle.std.specs.Prelude.{None};
 
 use std::alloc::{AllocError, Global};
 use tabled_grid::config::{Entity, SpannedConfig};
 use tabled_grid::records::{GridStore, Text, VecRecords};
-use tabled_options::CellOption;
+use tabled_options::laws::vectors_copied;
+use tabled_options::{CellOption, OptionSlice, TableOption};
 use tabled_select::object::{Cell, Rows, Segment};
 use tabled_table::{Modify, Settings, Table, TextRef};
 
@@ -87,4 +89,20 @@ where
     requires second_copies { CopiesAlike B.is_clone B.is_like second }
 {
     table.modify(alloc, Segment::all(), (first, second))
+}
+
+/// Applies a copy of a vector of options: it stands for the vector, as copies of its items stand for these.
+pub fn applies_copies<T>(
+    alloc: Global,
+    table: &mut Table,
+    options: Vec<T>,
+) -> Result<(), AllocError>
+where
+    T: TableOption<Store, SpannedConfig, ()> + Clone + Drop,
+    requires can { AllByRecursion T.can_change options.items }
+    requires copies { AllByRecursion (CopiesAlike T.is_clone T.is_like) options.items }
+{
+    vectors_copied::<Store, SpannedConfig, (), T>(&options);
+    let lists = [options];
+    table.with(alloc, OptionSlice(&lists))
 }
