@@ -1,3 +1,4 @@
+pub mod Asking
 pub mod DeeperSelectors
 pub mod Escapes
 pub mod Numbers

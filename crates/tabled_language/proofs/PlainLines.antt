@@ -2,10 +2,10 @@
 use Rattle.std.proofs.Common.{◌≡◌, ℕ, zero, suc, ◌+◌, ◌<◌, ◌≤◌, ◌⊎◌, inl, inr, Bool, true, false, cond, eqb, leb, List, [], ◌∷◌, length, get_or, drop, Some, refl, sym, subst, arith}
 use Rattle.std.proofs.lemmas.Bool.Decides.{leb_tells}
 use Rattle.std.proofs.lemmas.List.{length-drop}
-use Rattle.std.proofs.lemmas.Str.{IsCharBoundary-after_ascii, IsCharBoundary-before_ascii, IsUtf8-drop, IsUtf8-take, is_utf8-from_IsUtf8}
+use Rattle.std.proofs.lemmas.Str.{IsCharBoundary-after_ascii, IsCharBoundary-before_ascii, IsUtf8-drop, IsUtf8-from_is_utf8, IsUtf8-take, is_utf8-from_IsUtf8}
 use Rattle.std.specs.List.{AllByRecursion, list_any, onto_first, position_or_len}
-use Rattle.std.specs.Str.{IsUtf8}
-use Rattle.tabled_language.specs.Line.{texts_of, words_of}
+use Rattle.std.specs.Str.{IsUtf8, is_utf8}
+use Rattle.tabled_language.specs.Line.{is_plain, texts_of, words_of}
 use Rattle.tabled_language.specs.Word.{text_of_word}
 use Rattle.tabled_language.proofs.Separated.{byte_at_place, one_part, part_and_others}
 use Rattle.tabled_language.proofs.Escapes.{or-false-left, or-false-right, unescaped-clean}
@@ -51,3 +51,15 @@ texts_of-clean (word ∷ words) texts clean =
 -- the words of a text without a backslash are their own texts
 pub texts_of-plain : (line : List ℕ) → IsUtf8 line → has_backslash line ≡ false → texts_of (words_of line) ≡ Some (words_of line)
 texts_of-plain line text clean = texts_of-clean (words_of line) (words_of-utf8 (length line + 1) line (omega arith) text) (words_of-clean line clean)
+
+-- such a text is a plain line
+pub plain_line : (line : List ℕ) → IsUtf8 line → has_backslash line ≡ false → is_plain line ≡ true
+plain_line line text clean = rw (is_utf8-from_IsUtf8 line text, clean) refl
+
+-- bytes that are no text aren't
+pub not_plain : (line : List ℕ) → (IsUtf8 line → ⊥) → is_plain line ≡ false
+not_plain line none = by (is_utf8 line) refl
+  where
+    by : (b : Bool) → is_utf8 line ≡ b → is_plain line ≡ false
+    by true valid = absurd (none (IsUtf8-from_is_utf8 line valid))
+    by false invalid = rw invalid refl

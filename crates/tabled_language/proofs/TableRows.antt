@@ -8,9 +8,12 @@ use Rattle.std.proofs.lemmas.List.FromFn.{length-map-range_with_len, map-range_w
 use Rattle.tabled_grid.specs.Grid.{Grid, IsEven, grid_of, map_grid, width_of}
 use Rattle.tabled_language.specs.declared.fault.Fault.{Fault}
 use Rattle.tabled_language.specs.declared.fault.Fault.TheVariants.{NumberRange}
-use Rattle.tabled_language.specs.Parsing.{Reads}
-use Rattle.tabled_language.specs.Verb.{reads_table, rows_of}
-use Rattle.tabled_language.specs.Words.{Reading, fails, gives, reads_count, reads_number, reads_word}
+use Rattle.tabled_language.specs.declared.fault.ReadError.{ReadError}
+use Rattle.tabled_language.specs.declared.fault.ReadError.TheVariants.{Faulty, OutOfMemory}
+use Rattle.tabled_language.specs.Parsing.{EndsEarly}
+use Rattle.tabled_language.specs.Verb.{reads_rows, reads_table, rows_of}
+use Rattle.tabled_language.specs.Words.{Read, Reading, fails, first_word, gives, reads_count, reads_number, reads_text}
+use Rattle.tabled_language.proofs.Asking.{or_later}
 
 abbrev row_at : ℕ → List (List ℕ) → ℕ → List (List ℕ)
 row_at columns texts i = take columns (drop (i * columns) texts)
@@ -29,35 +32,24 @@ rows_more view columns i texts rows row before is = map-append view rows (row �
 pub left_more : (columns i : ℕ) (texts : List (List ℕ)) → drop columns (drop (i * columns) texts) ≡ drop ((i + 1) * columns) texts
 left_more columns i texts = drop-drop columns (i * columns) texts ∙ ap (λ n. drop n texts) (omega arith)
 
--- a word that is left is read
-pub word_left : {X : Type 0} (view : X → List ℕ) (texts now : List (List ℕ)) (i : ℕ) (r : Result X Fault) (new : List (List ℕ)) → now ≡ drop i texts → i < length texts → Reads view reads_word now r new → (x : X) × (r ≡ Ok x) × (view x ≡ get_or texts i []) × (new ≡ drop (i + 1) texts)
-word_left view texts now i (Ok x) new is below told =
-    let next = sym told ∙ ap reads_word (is ∙ drop_more texts i [] below) in
-    (x, refl, ap first next, ap rest next)
-  where
-    first : Result (List ℕ × List (List ℕ)) Fault → List ℕ
-    first (Ok read) = read.0
-    first (Err fault) = []
+abbrev first : Read (List ℕ) → List ℕ
+first (Ok read) = read.0
+first (Err fault) = []
 
-    rest : Result (List ℕ × List (List ℕ)) Fault → List (List ℕ)
-    rest (Ok read) = read.1
-    rest (Err fault) = []
-word_left view texts now i (Err fault) new is below told = absurd (never (sym told ∙ ap reads_word (is ∙ drop_more texts i [] below)))
-  where
-    never : {x : List ℕ × List (List ℕ)} → Err fault ≡ Ok x → ⊥
-    never e = cc
+abbrev rest : Read (List ℕ) → List (List ℕ)
+rest (Ok read) = read.1
+rest (Err fault) = []
 
--- the word that was read
-pub word_read : {X : Type 0} (view : X → List ℕ) (texts now : List (List ℕ)) (i : ℕ) (x : X) (new : List (List ℕ)) → now ≡ drop i texts → i < length texts → Reads view reads_word now (Ok x) new → view x ≡ get_or texts i []
-word_read view texts now i x new is below told = ap first (sym told ∙ ap reads_word (is ∙ drop_more texts i [] below))
-  where
-    first : Result (List ℕ × List (List ℕ)) Fault → List ℕ
-    first (Ok read) = read.0
-    first (Err fault) = []
+-- the word that was read, and those behind it
+pub word_read : (texts now : List (List ℕ)) (i : ℕ) (x : List ℕ) (new : List (List ℕ)) → now ≡ drop i texts → i < length texts → first_word now ≡ Ok (x, new) → (x ≡ get_or texts i []) × (new ≡ drop (i + 1) texts)
+word_read texts now i x new is below told =
+    let next : ◌≡◌ {A = Read (List ℕ)} (Ok (x, new)) (Ok (get_or texts i [], drop (i + 1) texts)) = sym told ∙ ap first_word (is ∙ drop_more texts i [] below) in
+    (ap first next, ap rest next)
 
--- there is a word to read
-pub word_is_left : {X : Type 0} (view : X → List ℕ) (texts now : List (List ℕ)) (i : ℕ) (fault : Fault) (new : List (List ℕ)) → now ≡ drop i texts → i < length texts → Reads view reads_word now (Err fault) new → ⊥
-word_is_left view texts now i fault new is below told = never (sym told ∙ ap reads_word (is ∙ drop_more texts i [] below))
+-- where a word is left, only memory can be wanted
+pub only_memory : (texts now : List (List ℕ)) (i : ℕ) (error : ReadError) → now ≡ drop i texts → i < length texts → EndsEarly reads_text now error → error ≡ OutOfMemory
+only_memory texts now i OutOfMemory is below told = refl
+only_memory texts now i (Faulty fault) is below told = absurd (never (sym told ∙ ap first_word (is ∙ drop_more texts i [] below)))
   where
     never : {x : List ℕ × List (List ℕ)} → Err fault ≡ Ok x → ⊥
     never e = cc
@@ -102,28 +94,31 @@ has_rows {A} f rows columns texts cells some fits is =
     same : {r c : ℕ} {xs ys : List (List (List ℕ))} → r ≡ rows → c ≡ columns → xs ≡ ys → grid r c xs ≡ grid rows columns ys
     same e k h = rw (e, k, h) refl
 
-abbrev Counted : Type 0
-Counted = Result (ℕ × List (List ℕ)) Fault
-
-abbrev number : Counted → ℕ
+abbrev number : Read ℕ → ℕ
 number (Ok counted) = counted.0
 number (Err fault) = 0
 
-never : (fault : Fault) (x : ℕ × List (List ℕ)) → ◌≡◌ {A = Counted} (Err fault) (Ok x) → ⊥
+never : (fault : Fault) (x : ℕ × List (List ℕ)) → ◌≡◌ {A = Read ℕ} (Err fault) (Ok x) → ⊥
 never fault x e = cc
 
-counted : (b : Bool) (m n : ℕ) (rest left : List (List ℕ)) → eqb m 0 ≡ b → cond {A = Reading ℕ} b (fails NumberRange) (gives m) rest ≡ Ok (n, left) → 0 < n
+counted : (b : Bool) (m n : ℕ) (rest left : List (List ℕ)) → eqb m 0 ≡ b → (cond {A = Reading ℕ} b (fails NumberRange) (gives m)).reads rest ≡ Ok (n, left) → 0 < n
 counted true m n rest left none e = absurd (never NumberRange (n, left) e)
 counted false m n rest left some e = let same : m ≡ n = ap number e in omega (arith, same, eqb-false m 0 some)
 
 -- a count is at least 1
-pub count_some : (texts left : List (List ℕ)) (n : ℕ) → reads_count texts ≡ Ok (n, left) → 0 < n
-count_some texts left n is = by (reads_number texts) refl
+pub count_some : (texts left : List (List ℕ)) (n : ℕ) → reads_count.reads texts ≡ Ok (n, left) → 0 < n
+count_some texts left n is = by (reads_number.reads texts) refl
   where
-    by : (r : Counted) → reads_number texts ≡ r → 0 < n
+    by : (r : Read ℕ) → reads_number.reads texts ≡ r → 0 < n
     by (Err fault) e = absurd (never fault (n, left) (rw e at is))
     by (Ok (m, rest)) e = counted (eqb m 0) m n rest left refl (rw e at is)
 
 -- a table that was read
-pub table_read : (texts first second left : List (List ℕ)) (rows columns : ℕ) (g : Grid (List ℕ)) → reads_count texts ≡ Ok (rows, first) → reads_count first ≡ Ok (columns, second) → rows * columns ≤ length second → g ≡ rows_of rows columns second → left ≡ drop (rows * columns) second → reads_table texts ≡ Ok (g, left)
+pub table_read : (texts first second left : List (List ℕ)) (rows columns : ℕ) (g : Grid (List ℕ)) → reads_count.reads texts ≡ Ok (rows, first) → reads_count.reads first ≡ Ok (columns, second) → rows * columns ≤ length second → g ≡ rows_of rows columns second → left ≡ drop (rows * columns) second → reads_table.reads texts ≡ Ok (g, left)
 table_read texts first second left rows columns g a b fits is rest = rw (a, b, le-leb (rows * columns) (length second) fits, is, rest) refl
+
+-- memory is asked for where there are words enough
+pub table_asks : (texts first second : List (List ℕ)) (rows columns : ℕ) → reads_count.reads texts ≡ Ok (rows, first) → reads_count.reads first ≡ Ok (columns, second) → rows * columns ≤ length second → reads_table.asks texts ≡ true
+table_asks texts first second rows columns a b fits =
+    let behind : (reads_rows rows columns).asks second ≡ true = rw (le-leb (rows * columns) (length second) fits) refl in
+    or_later (reads_count.asks texts) _ (rw a (or_later (reads_count.asks first) _ (rw b behind)))

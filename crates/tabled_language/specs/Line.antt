@@ -1,12 +1,14 @@
 -- A script: its lines, what each says, and the first that is faulty.
-use Rattle.std.specs.Prelude.{ℕ, ◌+◌, Bool, true, false, ◌==◌, List, [], ◌∷◌, ◌++◌, length, map, if◌then◌else◌, Option, None, Some, Result, Ok, Err, filter_map}
+use Rattle.std.specs.Prelude.{ℕ, ◌+◌, Bool, true, false, ◌==◌, ◌&&◌, ◌||◌, not, is_ok, codes, List, [], ◌∷◌, ◌++◌, length, map, if◌then◌else◌, Option, None, Some, Result, Ok, Err, filter_map}
 use Rattle.std.specs.List.{list_any, slice_split}
 use Rattle.std.specs.Option.{option_map}
+use Rattle.std.specs.Str.{bytes_eq, is_utf8}
 use Rattle.tabled_language.specs.declared.fault.Fault.{Fault}
 use Rattle.tabled_language.specs.declared.fault.Fault.TheVariants.{Escape, RowAfterStep}
 use Rattle.tabled_steps.specs.States.{State}
-use Rattle.tabled_language.specs.Verb.{Line, EmptyLine, RecordLine, StepLine, FaultyLine, says}
+use Rattle.tabled_language.specs.Verb.{Line, EmptyLine, RecordLine, StepLine, FaultyLine, says, steps}
 use Rattle.tabled_language.specs.Word.{text_of_word}
+use Rattle.tabled_language.specs.Words.{Reading, behind, whole}
 
 -- the lines of a script, which end at newlines
 abbrev pub lines_of : List ℕ → List (List ℕ)
@@ -59,6 +61,32 @@ first_fault earlier (line ∷ lines) = go (fault_of (list_any is_step earlier) l
     go None later = later
     go (Some fault) later = Some (length earlier + 1, fault)
 
+-- bytes that are UTF-8 without a backslash, so that each word is its own text
+abbrev pub is_plain : List ℕ → Bool
+is_plain line = is_utf8 line && not (list_any (λ b. b == 92) line)
+
+-- reading a step asks for memory: what it is read from does, or it is whole, and is kept
+abbrev pub step_asks : Reading (State → State) → List (List ℕ) → Bool
+step_asks reading texts = reading.asks texts || is_ok (whole reading texts)
+
+-- reading words does, the first of them a verb, where a step stands before them or none
+abbrev pub words_ask : Bool → List (List ℕ) → Bool
+words_ask stepped [] = false
+words_ask stepped (verb ∷ texts) = if bytes_eq verb (codes "row") then not stepped else step_asks (behind steps verb) texts
+
+-- reading a line does; one that isn't plain asks for its texts
+abbrev pub line_asks : Bool → List ℕ → Bool
+line_asks stepped line = if is_plain line then words_ask stepped (words_of line) else true
+
+-- reading lines does: one of them up to the first that is faulty, where a step stands before them or none
+abbrev pub lines_ask : Bool → List (List ℕ) → Bool
+lines_ask stepped [] = false
+lines_ask stepped (line ∷ lines) = line_asks stepped line || go (fault_of stepped (line_of line)) (lines_ask (stepped || is_step (line_of line)) lines)
+  where
+    go : Option Fault → Bool → Bool
+    go None later = later
+    go (Some fault) later = false
+
 -- the record that a line says, if it says one
 abbrev pub record_in : Line → Option (List (List ℕ))
 record_in EmptyLine = None
@@ -93,3 +121,7 @@ script_or_fault lines = go (first_fault [] lines)
 -- the script that bytes write, or the number of its first faulty line and the fault
 abbrev pub parse : List ℕ → Result Script (ℕ × Fault)
 parse input = script_or_fault (map line_of (lines_of input))
+
+-- reading a script asks for memory before its first fault is found, or its end
+abbrev pub asks_memory : List ℕ → Bool
+asks_memory input = lines_ask false (lines_of input)

@@ -5,7 +5,7 @@ use Rattle.tabled_steps.specs.Selected.{Named, named_by, others, shared, united,
 use Rattle.tabled_steps.specs.declared.select.Select.{Select}
 use Rattle.tabled_steps.specs.declared.select.Select.TheVariants as select
 use Rattle.tabled_language.specs.declared.fault.Fault.TheVariants.{SelectorDepth}
-use Rattle.tabled_language.specs.Words.{Choices, Reading, behind, fails, gives, reads_number, reads_word, then_reads}
+use Rattle.tabled_language.specs.Words.{Choices, Reading, behind, fails, gives, kept, reads_number, reads_text, reads_word, then_reads}
 
 -- a selector with one number
 abbrev pub with_number : (ℕ → Select) → Reading Named
@@ -30,6 +30,7 @@ plain_selectors =
     ∷ (codes "last-row", gives (named_by select.LastRow))
     ∷ (codes "first-column", gives (named_by select.FirstColumn))
     ∷ (codes "last-column", gives (named_by select.LastColumn))
+    ∷ (codes "frame", gives (named_by select.Frame))
     ∷ (codes "last-row-minus", with_number select.LastRowMinus)
     ∷ (codes "last-row-plus", with_number select.LastRowPlus)
     ∷ (codes "last-column-minus", with_number select.LastColumnMinus)
@@ -37,23 +38,30 @@ plain_selectors =
     ∷ (codes "rows", with_two_numbers select.Rows)
     ∷ (codes "columns", with_two_numbers select.Columns)
     ∷ (codes "segment", with_four_numbers select.Segment)
-    ∷ (codes "frame", gives (named_by select.Frame))
     ∷ []
 
 -- the words of selectors, where a selector that they hold is read by a reading
 abbrev pub selectors : Reading Named → Choices Named
 selectors inner =
-    (codes "and", then_reads inner (λ x. then_reads inner (λ y. gives (λ g. united g (x g) (y g)))))
+    (codes "content", then_reads reads_text (λ text. gives (with_content text)))
+    ∷ (codes "name", then_reads reads_text (λ text. gives (with_name text)))
+    ∷ (codes "and", then_reads inner (λ x. then_reads inner (λ y. gives (λ g. united g (x g) (y g)))))
     ∷ (codes "not", then_reads inner (λ x. then_reads inner (λ y. gives (λ g. without g (x g) (y g)))))
     ∷ (codes "intersect", then_reads inner (λ x. then_reads inner (λ y. gives (λ g. shared g (x g) (y g)))))
     ∷ (codes "inverse", then_reads inner (λ x. gives (λ g. others g (x g))))
     ∷ (codes "skip", then_reads reads_number (λ n. then_reads inner (λ x. gives (λ g. drop n (x g)))))
     ∷ (codes "step", then_reads reads_number (λ n. then_reads inner (λ x. gives (λ g. every n (x g)))))
-    ∷ (codes "content", then_reads reads_word (λ text. gives (with_content text)))
-    ∷ (codes "name", then_reads reads_word (λ text. gives (with_name text)))
     ∷ plain_selectors
 
--- the words of a selector that holds others to a depth
+-- the words of a selector that holds others to a depth, each in a place of its own
 abbrev pub reads_selector : ℕ → Reading Named
 reads_selector zero = then_reads reads_word (λ word. fails SelectorDepth)
-reads_selector (suc depth) = then_reads reads_word (behind (selectors (reads_selector depth)))
+reads_selector (suc depth) = then_reads reads_word (behind (selectors (kept (reads_selector depth))))
+
+-- how many selectors stand in each other at most
+abbrev pub largest_depth : ℕ
+largest_depth = 64
+
+-- a selector that may hold others
+abbrev pub reads_cells : Reading Named
+reads_cells = reads_selector largest_depth

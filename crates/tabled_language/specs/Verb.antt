@@ -19,8 +19,8 @@ use Rattle.tabled_steps.specs.Selected.{Named, half_open}
 use Rattle.tabled_steps.specs.States.{State, cut, duplicate, join, merge, on_each, put_panel, rearrange, recode, remove_named, remove_range, set, span}
 use Rattle.tabled_language.specs.declared.fault.Fault.{Fault}
 use Rattle.tabled_language.specs.declared.fault.Fault.TheVariants.{WordCount}
-use Rattle.tabled_language.specs.Selectors.{reads_selector}
-use Rattle.tabled_language.specs.Words.{Choices, Reading, behind, gives, then_reads, reads_count, reads_integer, reads_number, reads_one_of, reads_word, whole}
+use Rattle.tabled_language.specs.Selectors.{reads_cells}
+use Rattle.tabled_language.specs.Words.{Choices, Reading, behind, gives, kept, then_reads, reads_count, reads_integer, reads_number, reads_one_of, reads_text, whole}
 
 -- what a line says: nothing, a record, what it makes of a table's state, or a fault
 pub data Line : Type 0 where
@@ -33,14 +33,6 @@ pub data Line : Type 0 where
 abbrev pub step_line : Result (State → State) Fault → Line
 step_line (Ok step) = StepLine step
 step_line (Err fault) = FaultyLine fault
-
--- how many selectors stand in each other at most
-abbrev pub largest_depth : ℕ
-largest_depth = 64
-
--- a selector that may hold others
-abbrev pub reads_cells : Reading Named
-reads_cells = reads_selector largest_depth
 
 -- `rows` or `columns`
 abbrev pub reads_lines : Reading Axis
@@ -80,37 +72,18 @@ rows_of rows columns texts = record { rows = rows; columns = columns; cells = ma
 
 -- these rows, where there are words enough
 abbrev pub reads_rows : ℕ → ℕ → Reading (Grid (List ℕ))
-reads_rows rows columns texts = if nat_le (rows * columns) (length texts) then Ok (rows_of rows columns texts, drop (rows * columns) texts) else Err WordCount
+reads_rows rows columns = kept (record {
+  reads = λ texts. if nat_le (rows * columns) (length texts) then Ok (rows_of rows columns texts, drop (rows * columns) texts) else Err WordCount;
+  asks = λ texts. false;
+})
 
 -- a table of at least one row and one column: how many, and then its texts, row by row
 abbrev pub reads_table : Reading (Grid (List ℕ))
 reads_table = then_reads reads_count (λ rows. then_reads reads_count (λ columns. reads_rows rows columns))
 
--- what `remove` takes away of a range: rows or columns
-abbrev pub plain_removals : Choices (State → State)
-plain_removals =
-    (codes "rows", then_reads reads_number (λ a. then_reads reads_number (λ b. gives (remove_range Rows a b))))
-    ∷ (codes "columns", then_reads reads_number (λ a. then_reads reads_number (λ b. gives (remove_range Columns a b))))
-    ∷ []
-
--- what `remove` takes away: columns with a name, or rows or columns of a range
-abbrev pub removals : Choices (State → State)
-removals = (codes "named", then_reads reads_word (λ name. gives (remove_named name))) ∷ plain_removals
-
--- the verbs of steps that take no selector, no text and no table, and what is read behind each
-abbrev pub plain_steps : Choices (State → State)
-plain_steps =
-    (codes "vmerge", gives (merge Rows))
-    ∷ (codes "hmerge", gives (merge Columns))
-    ∷ (codes "rotate", then_reads reads_rotate (λ how. gives (rearrange (rotated how))))
-    ∷ (codes "reverse", then_reads reads_lines (λ axis. then_reads reads_number (λ start. then_reads reads_offset (λ limit. gives (rearrange (reversed axis start limit))))))
-    ∷ (codes "split", then_reads reads_cut_lines (λ lines. then_reads reads_number (λ index. then_reads reads_behavior (λ pieces. then_reads reads_display (λ shown. gives (cut (record { lines = lines; behavior = pieces; display = shown; index = index })))))))
-    ∷ (codes "extract", then_reads reads_number (λ a. then_reads reads_number (λ b. then_reads reads_number (λ c. then_reads reads_number (λ d. gives (rearrange (extracted (half_open a b) (half_open c d))))))))
-    ∷ []
-
 -- a selector and a text to write
 abbrev pub reads_set : Reading (State → State)
-reads_set = then_reads reads_cells (λ named. then_reads reads_word (λ text. gives (on_each (set text) named)))
+reads_set = then_reads reads_cells (λ named. then_reads reads_text (λ text. gives (on_each (set text) named)))
 
 -- a destination and a source
 abbrev pub reads_dup : Reading (State → State)
@@ -128,25 +101,49 @@ reads_tabs = then_reads reads_number (λ n. then_reads reads_cells (λ named. gi
 abbrev pub reads_span : Axis → Reading (State → State)
 reads_span axis = then_reads reads_integer (λ size. then_reads reads_cells (λ named. gives (on_each (span axis size) named)))
 
--- a row or a column, and a text
-abbrev pub reads_panel : Axis → Reading (State → State)
-reads_panel axis = then_reads reads_number (λ n. then_reads reads_word (λ text. gives (put_panel axis n text)))
-
 -- the text of a row above all others
 abbrev pub reads_header : Reading (State → State)
-reads_header = then_reads reads_word (λ text. gives (put_panel Rows 0 text))
+reads_header = then_reads reads_text (λ text. gives (put_panel Rows 0 text))
 
 -- the text of a row below all others
 abbrev pub reads_footer : Reading (State → State)
-reads_footer = then_reads reads_word (λ text. gives (λ s. put_panel Rows s.texts.rows text s))
+reads_footer = then_reads reads_text (λ text. gives (λ s. put_panel Rows s.texts.rows text s))
+
+-- a row or a column, and a text
+abbrev pub reads_panel : Axis → Reading (State → State)
+reads_panel axis = then_reads reads_number (λ n. then_reads reads_text (λ text. gives (put_panel axis n text)))
 
 -- a column, a width and a text
 abbrev pub reads_cut_panel : Reading (State → State)
-reads_cut_panel = then_reads reads_number (λ n. then_reads reads_number (λ width. then_reads reads_word (λ text. gives (put_panel Columns n (widths.cut width text)))))
+reads_cut_panel = then_reads reads_number (λ n. then_reads reads_number (λ width. then_reads reads_text (λ text. gives (put_panel Columns n (widths.cut width text)))))
+
+-- a way to turn
+abbrev pub reads_turn : Reading (State → State)
+reads_turn = then_reads reads_rotate (λ how. gives (rearrange (rotated how)))
+
+-- rows or columns, the first of them and the limit
+abbrev pub reads_reverse : Reading (State → State)
+reads_reverse = then_reads reads_lines (λ axis. then_reads reads_number (λ start. then_reads reads_offset (λ limit. gives (rearrange (reversed axis start limit)))))
+
+-- a range of rows and one of columns
+abbrev pub reads_extract : Reading (State → State)
+reads_extract = then_reads reads_number (λ a. then_reads reads_number (λ b. then_reads reads_number (λ c. then_reads reads_number (λ d. gives (rearrange (extracted (half_open a b) (half_open c d)))))))
+
+-- what `remove` takes away: rows or columns of a range, or columns with a name
+abbrev pub removals : Choices (State → State)
+removals =
+    (codes "rows", then_reads reads_number (λ a. then_reads reads_number (λ b. gives (remove_range Rows a b))))
+    ∷ (codes "columns", then_reads reads_number (λ a. then_reads reads_number (λ b. gives (remove_range Columns a b))))
+    ∷ (codes "named", then_reads reads_text (λ name. gives (remove_named name)))
+    ∷ []
 
 -- a side, a default text and a table
 abbrev pub reads_concat : Reading (State → State)
-reads_concat = then_reads reads_side (λ axis. then_reads reads_word (λ default. then_reads reads_table (λ second. gives (join axis second default))))
+reads_concat = then_reads reads_side (λ axis. then_reads reads_text (λ default. then_reads reads_table (λ second. gives (join axis second default))))
+
+-- what is cut, into how many, the order of the pieces and which of them stay
+abbrev pub reads_split : Reading (State → State)
+reads_split = then_reads reads_cut_lines (λ lines. then_reads reads_number (λ index. then_reads reads_behavior (λ pieces. then_reads reads_display (λ shown. gives (cut (record { lines = lines; behavior = pieces; display = shown; index = index }))))))
 
 -- the verbs of steps, and what is read behind each
 abbrev pub steps : Choices (State → State)
@@ -157,14 +154,20 @@ steps =
     ∷ (codes "tabs", reads_tabs)
     ∷ (codes "cspan", reads_span Columns)
     ∷ (codes "rspan", reads_span Rows)
+    ∷ (codes "vmerge", gives (merge Rows))
+    ∷ (codes "hmerge", gives (merge Columns))
+    ∷ (codes "header", reads_header)
+    ∷ (codes "footer", reads_footer)
     ∷ (codes "hpanel", reads_panel Rows)
     ∷ (codes "vpanel", reads_panel Columns)
     ∷ (codes "vpanelw", reads_cut_panel)
-    ∷ (codes "header", reads_header)
-    ∷ (codes "footer", reads_footer)
+    ∷ (codes "rotate", reads_turn)
+    ∷ (codes "reverse", reads_reverse)
+    ∷ (codes "extract", reads_extract)
     ∷ (codes "remove", reads_one_of removals)
     ∷ (codes "concat", reads_concat)
-    ∷ plain_steps
+    ∷ (codes "split", reads_split)
+    ∷ []
 
 -- what a verb says with the texts behind it
 abbrev pub says : List ℕ → List (List ℕ) → Line

@@ -1,34 +1,55 @@
--- How the words of a line are read, from the left.
-use Rattle.std.specs.Prelude.{ℕ, ℤ, List, [], ◌∷◌, ◌==◌, if◌then◌else◌, Option, None, Some, Result, Ok, Err}
+-- How the words of a line are read, from the left, and where that asks for memory.
+use Rattle.std.specs.Prelude.{ℕ, ℤ, Bool, true, false, ◌||◌, List, [], ◌∷◌, ◌==◌, if◌then◌else◌, Option, None, Some, Result, Ok, Err, is_ok}
 use Rattle.std.specs.Str.{bytes_eq}
 use Rattle.tabled_language.specs.declared.fault.Fault.{Fault}
 use Rattle.tabled_language.specs.declared.fault.Fault.TheVariants.{UnknownWord, WordCount, NumberRange}
 use Rattle.tabled_language.specs.Word.{integer_of, number_of}
 
--- what reading from the front of texts gives, with the texts left, or the fault that it meets
-abbrev pub Reading : Type 0 → Type 0
-Reading A = List (List ℕ) → Result (A × List (List ℕ)) Fault
+-- what was read from the front of texts, with the texts left, or the fault that was met
+abbrev pub Read : Type 0 → Type 0
+Read A = Result (A × List (List ℕ)) Fault
+
+-- a way to read from the front of texts: what it gives, and whether it asks for memory before it ends
+pub record Reading (A : Type 0) : Type 0 where
+  pub reads : List (List ℕ) → Read A
+  pub asks : List (List ℕ) → Bool
 
 -- a value, and no word read
 abbrev pub gives : {A : Type 0} → A → Reading A
-gives x texts = Ok (x, texts)
+gives x = record { reads = λ texts. Ok (x, texts); asks = λ texts. false }
 
 -- a fault
 abbrev pub fails : {A : Type 0} → Fault → Reading A
-fails fault texts = Err fault
+fails fault = record { reads = λ texts. Err fault; asks = λ texts. false }
 
 -- one reading, and then another by what it gave
 abbrev pub then_reads : {A B : Type 0} → Reading A → (A → Reading B) → Reading B
-then_reads {A} {B} first next texts = go (first texts)
+then_reads {A} {B} first next = record { reads = λ texts. go (first.reads texts); asks = λ texts. first.asks texts || later (first.reads texts) }
   where
-    go : Result (A × List (List ℕ)) Fault → Result (B × List (List ℕ)) Fault
-    go (Ok read) = next read.0 read.1
+    go : Read A → Read B
+    go (Ok read) = (next read.0).reads read.1
     go (Err fault) = Err fault
 
+    later : Read A → Bool
+    later (Ok read) = (next read.0).asks read.1
+    later (Err fault) = false
+
+-- a reading whose value is put in memory: this is asked for once it is read
+abbrev pub kept : {A : Type 0} → Reading A → Reading A
+kept reading = record { reads = reading.reads; asks = λ texts. reading.asks texts || is_ok (reading.reads texts) }
+
 -- a word
+abbrev pub first_word : List (List ℕ) → Read (List ℕ)
+first_word [] = Err WordCount
+first_word (text ∷ texts) = Ok (text, texts)
+
+-- a word that is looked at as it stands
 abbrev pub reads_word : Reading (List ℕ)
-reads_word [] = Err WordCount
-reads_word (text ∷ texts) = Ok (text, texts)
+reads_word = record { reads = first_word; asks = λ texts. false }
+
+-- a word that is kept as a text
+abbrev pub reads_text : Reading (List ℕ)
+reads_text = kept reads_word
 
 -- a value, if there is one, and else a number that isn't in range
 abbrev pub in_range : {A : Type 0} → Option A → Reading A
@@ -67,8 +88,8 @@ ended x (text ∷ texts) = Err WordCount
 
 -- what a reading gives of all of these texts
 abbrev pub whole : {A : Type 0} → Reading A → List (List ℕ) → Result A Fault
-whole {A} reading texts = go (reading texts)
+whole {A} reading texts = go (reading.reads texts)
   where
-    go : Result (A × List (List ℕ)) Fault → Result A Fault
+    go : Read A → Result A Fault
     go (Ok read) = ended read.0 read.1
     go (Err fault) = Err fault

@@ -1,4 +1,6 @@
-//! What is wrong with a line of a script.
+//! What is wrong with a line of a script, and why reading one ends early.
+
+use std::alloc::{AllocError, AllocFailed};
 
 /// What is wrong with a line of a script.
 #[derive(Clone, Copy, Debug, PartialEq, Eq)]
@@ -26,5 +28,45 @@ impl Fault {
         ensures { result ≡ fault_number self }
     {
         self as u8
+    }
+}
+
+/// Why a line, or a part of it, was not read.
+#[derive(Clone, Copy, Debug, PartialEq, Eq)]
+pub(crate) enum ReadError {
+    Faulty(Fault),
+    OutOfMemory,
+}
+
+impl From<Fault> for ReadError {
+    ghost use Rattle.std.specs.Prelude.{◌≡◌};
+    ghost use Rattle.tabled_language.specs.declared.fault.ReadError.TheVariants.{Faulty};
+
+    ghost from_gives = { λ fault e. e ≡ Faulty fault };
+
+    fn from(fault: Fault) -> ReadError {
+        ReadError::Faulty(fault)
+    }
+}
+
+impl From<AllocError> for ReadError {
+    ghost use Rattle.std.specs.Prelude.{◌≡◌};
+    ghost use Rattle.tabled_language.specs.declared.fault.ReadError.TheVariants.{OutOfMemory};
+
+    ghost from_gives = { λ _ e. e ≡ OutOfMemory };
+
+    fn from(_refused: AllocError) -> ReadError {
+        ReadError::OutOfMemory
+    }
+}
+
+impl<T: Drop> From<AllocFailed<T>> for ReadError {
+    ghost use Rattle.std.specs.Prelude.{◌≡◌};
+    ghost use Rattle.tabled_language.specs.declared.fault.ReadError.TheVariants.{OutOfMemory};
+
+    ghost from_gives = { λ _ e. e ≡ OutOfMemory };
+
+    fn from(_refused: AllocFailed<T>) -> ReadError {
+        ReadError::OutOfMemory
     }
 }

@@ -2,10 +2,10 @@
 #![tactic(auto)]
 
 mod fault;
+mod keywords;
 mod parts;
 mod script;
 mod selectors;
-mod steps;
 mod texts;
 mod verbs;
 mod word;

@@ -3,7 +3,7 @@
 ghost use Rattle.std.specs.Prelude.{◌≡◌, ◌<◌, ◌==◌, ◌∷◌, length, MatchOption};
 ghost use Rattle.std.specs.Iterator.{YieldsFirstRef, item_count};
 ghost use Rattle.std.specs.List.{position_or_len, slice_split};
-ghost use Rattle.tabled_language.specs.Parsing.{parts_left};
+ghost use Rattle.tabled_language.specs.Parts.{parts_left};
 
 use std::marker::Model;
 
@@ -17,7 +17,7 @@ pub(crate) struct Parts<'a> {
 
 impl<'a> Model for Parts<'a> {
     ghost use Rattle.std.specs.Prelude.{ℕ, List};
-    ghost use Rattle.tabled_language.specs.Parsing.{parts_left};
+    ghost use Rattle.tabled_language.specs.Parts.{parts_left};
 
     ghost Value = { List (List ℕ) };
 

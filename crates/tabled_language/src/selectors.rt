@@ -1,91 +1,96 @@
 //! Selectors read from the words of a line.
 
-ghost use Rattle.std.specs.Prelude.{◌≡◌, IfOk};
-
-use crate::fault::Fault;
+use crate::fault::{Fault, ReadError};
 use crate::words::{Read, Words};
-use std::alloc::{AllocError, Global};
+use std::alloc::Global;
 use tabled_steps::Select;
 
-/// A selector in a place of its own.
-fn boxed(alloc: Global, select: Select) -> Result<Box<Select>, AllocError>
-    ensures { IfOk result (λ place. place.value ≡ select) }
-{
-    Ok(Box::new(alloc, select)?)
-}
+/// How many selectors stand in each other at most.
+const LARGEST_DEPTH: usize = 64;
 
 impl<'a> Words<'a> {
-    ghost use Rattle.std.specs.Prelude.{◌≡◌, IfOk};
     ghost use Rattle.tabled_language.specs.Parsing.{Reads};
-    ghost use Rattle.tabled_language.specs.Selectors.{plain_selectors, reads_selector, selectors};
-    ghost use Rattle.tabled_language.specs.Words.{behind};
+    ghost use Rattle.tabled_language.specs.Selectors.{plain_selectors, reads_cells, reads_selector, selectors};
+    ghost use Rattle.tabled_language.specs.Words.{behind, kept};
     ghost use Rattle.tabled_steps.specs.Selected.{named_by};
+
+    /// A selector that may hold others.
+    pub(crate) fn cells(&mut self, alloc: Global) -> Read<Select>
+        ensures { Reads named_by reads_cells self.old result self.new }
+    {
+        self.selector(alloc, LARGEST_DEPTH)
+    }
 
     /// A selector that holds others to a depth.
     #[cycle(nested)]
-    pub(crate) fn selector(&mut self, alloc: Global, depth: usize) -> Read<Select>
-        ensures { IfOk result (λ read. Reads named_by (reads_selector depth) self.old read self.new) }
+    fn selector(&mut self, alloc: Global, depth: usize) -> Read<Select>
+        ensures { Reads named_by (reads_selector depth) self.old result self.new }
     {
-        match self.word() {
-            Ok(_) if depth == 0 => Ok(Err(Fault::SelectorDepth)),
-            Ok(word) => self.selector_behind(alloc, depth - 1, word),
-            Err(fault) => Ok(Err(fault)),
+        let word = self.word()?;
+        if depth == 0 {
+            return Err(ReadError::Faulty(Fault::SelectorDepth));
         }
+        self.selector_behind(alloc, depth - 1, word)
+    }
+
+    /// A selector that another one holds, in a place of its own.
+    #[cycle(nested)]
+    fn inner(&mut self, alloc: Global, depth: usize) -> Read<Box<Select>>
+        ensures { Reads (λ place. named_by place.value) (kept (reads_selector depth)) self.old result self.new }
+    {
+        let select = self.selector(alloc, depth)?;
+        Ok(Box::new(alloc, select)?)
     }
 
     /// What is behind the word of a selector, where others are held to a depth.
     #[cycle(nested)]
     fn selector_behind(&mut self, alloc: Global, depth: usize, word: &str) -> Read<Select>
-        ensures { IfOk result (λ read. Reads named_by (behind (selectors (reads_selector depth)) word.now) self.old read self.new) }
+        ensures { Reads named_by (behind (selectors (kept (reads_selector depth))) word.now) self.old result self.new }
     {
         match word {
-            "and" | "not" | "intersect" => {
-                let x = match self.selector(alloc, depth)? {
-                    Ok(x) => boxed(alloc, x)?,
-                    Err(fault) => return Ok(Err(fault)),
-                };
-                let y = match self.selector(alloc, depth)? {
-                    Ok(y) => boxed(alloc, y)?,
-                    Err(fault) => return Ok(Err(fault)),
-                };
-                Ok(Ok(match word {
-                    "and" => Select::And(x, y),
-                    "not" => Select::Not(x, y),
-                    _ => Select::Intersect(x, y),
-                }))
+            "content" => {
+                let text = self.text(alloc)?;
+                Ok(Select::Content(text))
             }
-            "inverse" => match self.selector(alloc, depth)? {
-                Ok(x) => Ok(Ok(Select::Inverse(boxed(alloc, x)?))),
-                Err(fault) => Ok(Err(fault)),
-            },
-            "skip" | "step" => {
-                let n = match self.number() {
-                    Ok(n) => n,
-                    Err(fault) => return Ok(Err(fault)),
-                };
-                let x = match self.selector(alloc, depth)? {
-                    Ok(x) => boxed(alloc, x)?,
-                    Err(fault) => return Ok(Err(fault)),
-                };
-                Ok(Ok(match word {
-                    "skip" => Select::Skip(n, x),
-                    _ => Select::StepBy(n, x),
-                }))
+            "name" => {
+                let text = self.text(alloc)?;
+                Ok(Select::Name(text))
             }
-            "content" => match self.text(alloc)? {
-                Ok(text) => Ok(Ok(Select::Content(text))),
-                Err(fault) => Ok(Err(fault)),
-            },
-            "name" => match self.text(alloc)? {
-                Ok(text) => Ok(Ok(Select::Name(text))),
-                Err(fault) => Ok(Err(fault)),
-            },
-            _ => Ok(self.plain_selector(word)),
+            "and" => {
+                let x = self.inner(alloc, depth)?;
+                let y = self.inner(alloc, depth)?;
+                Ok(Select::And(x, y))
+            }
+            "not" => {
+                let x = self.inner(alloc, depth)?;
+                let y = self.inner(alloc, depth)?;
+                Ok(Select::Not(x, y))
+            }
+            "intersect" => {
+                let x = self.inner(alloc, depth)?;
+                let y = self.inner(alloc, depth)?;
+                Ok(Select::Intersect(x, y))
+            }
+            "inverse" => {
+                let x = self.inner(alloc, depth)?;
+                Ok(Select::Inverse(x))
+            }
+            "skip" => {
+                let n = self.number()?;
+                let x = self.inner(alloc, depth)?;
+                Ok(Select::Skip(n, x))
+            }
+            "step" => {
+                let n = self.number()?;
+                let x = self.inner(alloc, depth)?;
+                Ok(Select::StepBy(n, x))
+            }
+            _ => self.plain_selector(word),
         }
     }
 
     /// What is behind the word of a selector that holds no other and no text.
-    fn plain_selector(&mut self, word: &str) -> Result<Select, Fault>
+    fn plain_selector(&mut self, word: &str) -> Read<Select>
         ensures { Reads named_by (behind plain_selectors word.now) self.old result self.new }
     {
         match word {
@@ -107,6 +112,7 @@ impl<'a> Words<'a> {
             "last-row" => Ok(Select::LastRow),
             "first-column" => Ok(Select::FirstColumn),
             "last-column" => Ok(Select::LastColumn),
+            "frame" => Ok(Select::Frame),
             "last-row-minus" => {
                 let n = self.number()?;
                 Ok(Select::LastRowMinus(n))
@@ -140,8 +146,7 @@ impl<'a> Words<'a> {
                 let end_column = self.number()?;
                 Ok(Select::Segment(first_row, end_row, first_column, end_column))
             }
-            "frame" => Ok(Select::Frame),
-            _ => Err(Fault::UnknownWord),
+            _ => Err(ReadError::Faulty(Fault::UnknownWord)),
         }
     }
 }

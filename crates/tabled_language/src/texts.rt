@@ -1,11 +1,11 @@
 //! The texts of a line.
 
-ghost use Rattle.std.specs.Prelude.{◌≡◌, ◌∷◌, map, IfOk, IfSome, Some};
+ghost use Rattle.std.specs.Prelude.{◌≡◌, ◌∷◌, map, false, true, IfOk, MatchOption, Some};
 ghost use Rattle.std.specs.Iterator.{YieldsFirstRef, item_count};
 ghost use Rattle.std.specs.Option.{option_map};
 ghost use Rattle.std.specs.String.{string_bytes};
-ghost use Rattle.tabled_language.specs.Line.{texts_of, words_of};
-ghost use Rattle.tabled_language.specs.Parsing.{parts_left};
+ghost use Rattle.tabled_language.specs.Line.{is_plain, texts_of, words_of};
+ghost use Rattle.tabled_language.specs.Parts.{parts_left};
 
 use crate::parts::{Parts, count_parts, first_place};
 use crate::word::text_of_word;
@@ -16,13 +16,15 @@ use tabled_grid::records::Text;
 
 /// The line, if it is UTF-8 without a backslash: then its words are their own texts.
 pub(crate) fn plain(line: &[u8]) -> Option<&str>
-    ensures { IfSome result (λ text. (text.now ≡ line.now) × (texts_of (words_of line.now) ≡ Some (words_of line.now))) }
+    ensures { MatchOption result (is_plain line.now ≡ false) (λ text. (text.now ≡ line.now) × (is_plain line.now ≡ true) × (texts_of (words_of line.now) ≡ Some (words_of line.now))) }
 {
-    let text = str::from_utf8(line).ok()?;
-    if text.contains('\\') {
+    if line.contains(&b'\\') {
         return None;
     }
-    Some(text)
+    match str::from_utf8(line) {
+        Ok(text) => Some(text),
+        Err(_) => None,
+    }
 }
 
 /// The texts of a line's words, each read by itself, or nothing where one has a bad escape or isn't UTF-8.
@@ -42,17 +44,6 @@ pub(crate) fn escaped_texts(
     Ok(Some(texts))
 }
 
-/// Texts, each lent.
-pub(crate) fn lent(alloc: Global, texts: &[Text<String>]) -> Result<Vec<&str>, AllocError>
-    ensures { IfOk result (λ words. map (λ word. word.now) words.items ≡ map string_bytes texts.now) }
-{
-    let mut words = Vec::with_capacity(alloc, texts.len())?;
-    for text in texts {
-        words.push(text.as_str())?;
-    }
-    Ok(words)
-}
-
 /// Goes over the words of a line as they stand. A contract sees it as the list of the words that are
 /// left.
 #[derive(Drop)]
@@ -62,7 +53,7 @@ pub(crate) struct Fields<'a> {
 
 impl<'a> Model for Fields<'a> {
     ghost use Rattle.std.specs.Prelude.{ℕ, List};
-    ghost use Rattle.tabled_language.specs.Parsing.{parts_left};
+    ghost use Rattle.tabled_language.specs.Parts.{parts_left};
 
     ghost Value = { List (List ℕ) };
 
@@ -81,24 +72,13 @@ impl<'a> Fields<'a> {
     }
 
     /// How many are left.
-    fn left(&self) -> usize
+    pub(crate) fn left(&self) -> usize
         ensures { result ≡ length self.now }
     {
         match self.rest {
             Some(rest) => count_parts(rest.as_bytes(), b'\t'),
             None => 0,
         }
-    }
-
-    /// The words that are left, each lent.
-    pub(crate) fn words(self, alloc: Global) -> Result<Vec<&'a str>, AllocError>
-        ensures { IfOk result (λ words. map (λ word. word.now) words.items ≡ self.entry) }
-    {
-        let mut words = Vec::with_capacity(alloc, self.left())?;
-        for word in self {
-            words.push(word)?;
-        }
-        Ok(words)
     }
 
     /// The words that are left, each as a text of its own.

@@ -1,109 +1,168 @@
-//! Steps that are read without memory, and the words that they are read from.
+//! Steps read from the verb of a line and the words behind it.
 
-use crate::fault::Fault;
-use crate::words::Words;
-use tabled_grid::config::Offset;
-use tabled_grid::records::Axis;
+use crate::fault::{Fault, ReadError};
+use crate::words::{Read, Words};
+use std::alloc::Global;
+use tabled_grid::records::{Axis, Text, VecRecords};
+use tabled_settings::concat::Concat;
+use tabled_settings::formatting::Charset;
 use tabled_settings::reverse::Reverse;
-use tabled_settings::rotate::Rotate;
-use tabled_settings::split::{Behavior, Display, Split};
+use tabled_settings::split::Split;
+use tabled_spans::panel::{Footer, Header, HorizontalPanel, VerticalPanel};
 use tabled_steps::Step;
+use tabled_table::Table;
 
-// A method for each kind of word behind a verb that is no number.
 impl<'a> Words<'a> {
-    ghost use Rattle.std.specs.Prelude.{◌≡◌};
+    ghost use Rattle.std.specs.Prelude.{◌≡◌, ◌≤◌, ◌*◌, MatchResult, drop, length, map};
+    ghost use Rattle.std.specs.String.{string_bytes};
+    ghost use Rattle.tabled_grid.specs.Grid.{map_grid, map_items};
+    ghost use Rattle.tabled_grid.specs.declared.records.axis.Axis.TheVariants.{Columns, Rows};
     ghost use Rattle.tabled_language.specs.Parsing.{Reads};
-    ghost use Rattle.tabled_language.specs.Verb.{plain_removals, plain_steps, reads_behavior, reads_cut_lines, reads_display, offsets, reads_lines, reads_offset, reads_rotate, reads_side};
-    ghost use Rattle.tabled_language.specs.Words.{behind};
+    ghost use Rattle.tabled_language.specs.Verb.{reads_clean, reads_concat, reads_cut_panel, reads_dup, reads_extract, reads_footer, reads_header, reads_panel, reads_reverse, reads_set, reads_span, reads_split, reads_table, reads_tabs, reads_turn, removals, rows_of, steps};
+    ghost use Rattle.tabled_language.specs.Words.{behind, reads_one_of};
+    ghost use Rattle.tabled_language.specs.declared.fault.ReadError.TheVariants.{OutOfMemory};
     ghost use Rattle.tabled_steps.specs.States.{after};
 
-    fn lines(&mut self) -> Result<Axis, Fault>
-        ensures { Reads (λ axis. axis) reads_lines self.old result self.new }
+    /// What is behind the verb of a step.
+    pub(crate) fn step(&mut self, alloc: Global, verb: &str) -> Read<Step>
+        ensures { Reads after (behind steps verb.now) self.old result self.new }
     {
-        match self.word()? {
-            "rows" => Ok(Axis::Rows),
-            "columns" => Ok(Axis::Columns),
-            _ => Err(Fault::UnknownWord),
+        match verb {
+            "set" => self.set(alloc),
+            "dup" => self.dup(alloc),
+            "clean" => self.clean(alloc),
+            "tabs" => self.tabs(alloc),
+            "cspan" => self.span(alloc, Axis::Columns),
+            "rspan" => self.span(alloc, Axis::Rows),
+            "vmerge" => Ok(Step::MergeVertical),
+            "hmerge" => Ok(Step::MergeHorizontal),
+            "header" => self.header(alloc),
+            "footer" => self.footer(alloc),
+            "hpanel" => self.panel(alloc, Axis::Rows),
+            "vpanel" => self.panel(alloc, Axis::Columns),
+            "vpanelw" => self.cut_panel(alloc),
+            "rotate" => self.turn(),
+            "reverse" => self.reverse(),
+            "extract" => self.extract(),
+            "remove" => self.removal(alloc),
+            "concat" => self.concat(alloc),
+            "split" => self.split(),
+            _ => Err(ReadError::Faulty(Fault::UnknownWord)),
         }
     }
 
-    fn offset(&mut self) -> Result<Offset, Fault>
-        ensures { Reads (λ offset. offset) reads_offset self.old result self.new }
+    fn set(&mut self, alloc: Global) -> Read<Step>
+        ensures { Reads after reads_set self.old result self.new }
+    {
+        let select = self.cells(alloc)?;
+        let text = self.text(alloc)?;
+        Ok(Step::Set(select, text))
+    }
+
+    fn dup(&mut self, alloc: Global) -> Read<Step>
+        ensures { Reads after reads_dup self.old result self.new }
+    {
+        let destination = self.cells(alloc)?;
+        let source = self.cells(alloc)?;
+        Ok(Step::Dup(destination, source))
+    }
+
+    fn clean(&mut self, alloc: Global) -> Read<Step>
+        ensures { Reads after reads_clean self.old result self.new }
+    {
+        let select = self.cells(alloc)?;
+        Ok(Step::Charset(Charset::new().clean(), select))
+    }
+
+    fn tabs(&mut self, alloc: Global) -> Read<Step>
+        ensures { Reads after reads_tabs self.old result self.new }
+    {
+        let size = self.number()?;
+        let select = self.cells(alloc)?;
+        Ok(Step::Charset(Charset::new().tab_size(size), select))
+    }
+
+    fn span(&mut self, alloc: Global, axis: Axis) -> Read<Step>
+        ensures { Reads after (reads_span axis) self.old result self.new }
+    {
+        let size = self.integer()?;
+        let select = self.cells(alloc)?;
+        Ok(match axis {
+            Axis::Rows => Step::RowSpan(size, select),
+            Axis::Columns => Step::ColumnSpan(size, select),
+        })
+    }
+
+    fn header(&mut self, alloc: Global) -> Read<Step>
+        ensures { Reads after reads_header self.old result self.new }
+    {
+        let text = self.text(alloc)?;
+        Ok(Step::Header(Header::new(text)))
+    }
+
+    fn footer(&mut self, alloc: Global) -> Read<Step>
+        ensures { Reads after reads_footer self.old result self.new }
+    {
+        let text = self.text(alloc)?;
+        Ok(Step::Footer(Footer::new(text)))
+    }
+
+    fn panel(&mut self, alloc: Global, axis: Axis) -> Read<Step>
+        ensures { Reads after (reads_panel axis) self.old result self.new }
+    {
+        let place = self.number()?;
+        let text = self.text(alloc)?;
+        Ok(match axis {
+            Axis::Rows => Step::HorizontalPanel(HorizontalPanel::new(place, text)),
+            Axis::Columns => Step::VerticalPanel(VerticalPanel::new(place, text)),
+        })
+    }
+
+    fn cut_panel(&mut self, alloc: Global) -> Read<Step>
+        ensures { Reads after reads_cut_panel self.old result self.new }
+    {
+        let column = self.number()?;
+        let width = self.number()?;
+        let text = self.text(alloc)?;
+        let panel = VerticalPanel::new(column, text).width(alloc, width)?;
+        Ok(Step::VerticalPanel(panel))
+    }
+
+    fn turn(&mut self) -> Read<Step>
+        ensures { Reads after reads_turn self.old result self.new }
+    {
+        let rotate = self.rotate()?;
+        Ok(Step::Rotate(rotate))
+    }
+
+    fn reverse(&mut self) -> Read<Step>
+        ensures { Reads after reads_reverse self.old result self.new }
+    {
+        let axis = self.lines()?;
+        let start = self.number()?;
+        let limit = self.offset()?;
+        Ok(Step::Reverse(Reverse { axis, start, limit }))
+    }
+
+    fn extract(&mut self) -> Read<Step>
+        ensures { Reads after reads_extract self.old result self.new }
+    {
+        let first_row = self.number()?;
+        let end_row = self.number()?;
+        let first_column = self.number()?;
+        let end_column = self.number()?;
+        Ok(Step::Extract(first_row, end_row, first_column, end_column))
+    }
+
+    fn removal(&mut self, alloc: Global) -> Read<Step>
+        ensures { Reads after (reads_one_of removals) self.old result self.new }
     {
         let word = self.word()?;
-        self.offset_behind(word)
+        self.removal_behind(alloc, word)
     }
 
-    fn offset_behind(&mut self, word: &str) -> Result<Offset, Fault>
-        ensures { Reads (λ offset. offset) (behind offsets word.now) self.old result self.new }
-    {
-        match word {
-            "start" => {
-                let n = self.number()?;
-                Ok(Offset::Start(n))
-            }
-            "end" => {
-                let n = self.number()?;
-                Ok(Offset::End(n))
-            }
-            _ => Err(Fault::UnknownWord),
-        }
-    }
-
-    fn cut_lines(&mut self) -> Result<Axis, Fault>
-        ensures { Reads (λ axis. axis) reads_cut_lines self.old result self.new }
-    {
-        match self.word()? {
-            "column" => Ok(Axis::Rows),
-            "row" => Ok(Axis::Columns),
-            _ => Err(Fault::UnknownWord),
-        }
-    }
-
-    fn behavior(&mut self) -> Result<Behavior, Fault>
-        ensures { Reads (λ behavior. behavior) reads_behavior self.old result self.new }
-    {
-        match self.word()? {
-            "zip" => Ok(Behavior::Zip),
-            "concat" => Ok(Behavior::Concat),
-            _ => Err(Fault::UnknownWord),
-        }
-    }
-
-    fn display(&mut self) -> Result<Display, Fault>
-        ensures { Reads (λ display. display) reads_display self.old result self.new }
-    {
-        match self.word()? {
-            "clean" => Ok(Display::Clean),
-            "retain" => Ok(Display::Retain),
-            _ => Err(Fault::UnknownWord),
-        }
-    }
-
-    fn rotate(&mut self) -> Result<Rotate, Fault>
-        ensures { Reads (λ rotate. rotate) reads_rotate self.old result self.new }
-    {
-        match self.word()? {
-            "left" => Ok(Rotate::Left),
-            "right" => Ok(Rotate::Right),
-            "top" => Ok(Rotate::Top),
-            "bottom" => Ok(Rotate::Bottom),
-            _ => Err(Fault::UnknownWord),
-        }
-    }
-
-    pub(crate) fn side(&mut self) -> Result<Axis, Fault>
-        ensures { Reads (λ axis. axis) reads_side self.old result self.new }
-    {
-        match self.word()? {
-            "vertical" => Ok(Axis::Rows),
-            "horizontal" => Ok(Axis::Columns),
-            _ => Err(Fault::UnknownWord),
-        }
-    }
-
-    pub(crate) fn plain_removal(&mut self, word: &str) -> Result<Step, Fault>
-        ensures { Reads after (behind plain_removals word.now) self.old result self.new }
+    fn removal_behind(&mut self, alloc: Global, word: &str) -> Read<Step>
+        ensures { Reads after (behind removals word.now) self.old result self.new }
     {
         match word {
             "rows" => {
@@ -116,47 +175,68 @@ impl<'a> Words<'a> {
                 let end = self.number()?;
                 Ok(Step::RemoveColumns(start, end))
             }
-            _ => Err(Fault::UnknownWord),
+            "named" => {
+                let name = self.text(alloc)?;
+                Ok(Step::RemoveNamed(name))
+            }
+            _ => Err(ReadError::Faulty(Fault::UnknownWord)),
         }
     }
 
-    /// What is behind the verb of a step that is read without memory.
-    pub(crate) fn plain_step(&mut self, verb: &str) -> Result<Step, Fault>
-        ensures { Reads after (behind plain_steps verb.now) self.old result self.new }
+    fn concat(&mut self, alloc: Global) -> Read<Step>
+        ensures { Reads after reads_concat self.old result self.new }
     {
-        match verb {
-            "vmerge" => Ok(Step::MergeVertical),
-            "hmerge" => Ok(Step::MergeHorizontal),
-            "rotate" => {
-                let rotate = self.rotate()?;
-                Ok(Step::Rotate(rotate))
+        let side = self.side()?;
+        let default = self.text(alloc)?;
+        let second = self.table(alloc)?;
+        let concat = match side {
+            Axis::Rows => Concat::vertical(alloc, second),
+            Axis::Columns => Concat::horizontal(alloc, second),
+        };
+        Ok(Step::Concat(concat.default_cell(default)))
+    }
+
+    /// A table: how many rows and columns it has, and its texts, row by row.
+    fn table(&mut self, alloc: Global) -> Read<Table>
+        ensures { Reads (λ table. map_grid string_bytes table.cells) reads_table self.old result self.new }
+    {
+        let rows = self.count()?;
+        let columns = self.count()?;
+        match rows.checked_mul(columns) {
+            Some(many) if many <= self.left() => {
+                let cells = self.rows(alloc, rows, columns)?;
+                let records = VecRecords::new(alloc, cells)?;
+                Ok(Table::from_records(alloc, records))
             }
-            "reverse" => {
-                let axis = self.lines()?;
-                let start = self.number()?;
-                let limit = self.offset()?;
-                Ok(Step::Reverse(Reverse { axis, start, limit }))
-            }
-            "split" => {
-                let lines = self.cut_lines()?;
-                let index = self.number()?;
-                let behavior = self.behavior()?;
-                let display = self.display()?;
-                Ok(Step::Split(Split {
-                    lines,
-                    behavior,
-                    display,
-                    index,
-                }))
-            }
-            "extract" => {
-                let first_row = self.number()?;
-                let end_row = self.number()?;
-                let first_column = self.number()?;
-                let end_column = self.number()?;
-                Ok(Step::Extract(first_row, end_row, first_column, end_column))
-            }
-            _ => Err(Fault::UnknownWord),
+            _ => Err(ReadError::Faulty(Fault::WordCount)),
         }
+    }
+
+    /// So many rows of so many texts.
+    fn rows(&mut self, alloc: Global, rows: usize, columns: usize) -> Read<Vec<Vec<Text<String>>>>
+        requires { rows * columns ≤ length self.old }
+        ensures { MatchResult result (λ cells. (map (map string_bytes) (map_items cells.items) ≡ (rows_of rows columns self.old).cells) × (self.new ≡ drop (rows * columns) self.old)) (λ error. error ≡ OutOfMemory) }
+    {
+        let mut cells = Vec::with_capacity(alloc, rows)?;
+        for _ in 0..rows {
+            let row = self.row(alloc, columns)?;
+            cells.push(row)?;
+        }
+        Ok(cells)
+    }
+
+    fn split(&mut self) -> Read<Step>
+        ensures { Reads after reads_split self.old result self.new }
+    {
+        let lines = self.cut_lines()?;
+        let index = self.number()?;
+        let behavior = self.behavior()?;
+        let display = self.display()?;
+        Ok(Step::Split(Split {
+            lines,
+            behavior,
+            display,
+            index,
+        }))
     }
 }

@@ -1,88 +1,115 @@
-//! The words of a line, read from the left.
+//! The words of a line, read from the left as they come.
 
-use crate::fault::Fault;
+use crate::fault::{Fault, ReadError};
+use crate::texts::Fields;
 use crate::word::{integer_of, number_of};
-use std::alloc::{AllocError, Global};
+use std::alloc::Global;
 use std::marker::Model;
-use std::vec;
 use tabled_grid::records::Text;
 
-/// What was read, or what is wrong with it.
-pub(crate) type Read<T> = Result<Result<T, Fault>, AllocError>;
+/// What was read, or why it wasn't.
+pub(crate) type Read<T> = Result<T, ReadError>;
+
+/// Where words come from: a line without escapes, or the texts of any other.
+#[derive(Drop)]
+enum Source<'a> {
+    Line(Fields<'a>),
+    Texts(&'a [Text<String>]),
+}
 
 /// Words that are read from the front. A contract sees them as the list of those left.
 #[derive(Drop)]
 pub(crate) struct Words<'a> {
-    words: vec::IntoIter<&'a str>,
+    source: Source<'a>,
 }
 
 impl<'a> Model for Words<'a> {
-    ghost use Rattle.std.specs.Prelude.{ℕ, List, map};
-    ghost use Rattle.std.specs.Vec.Iter.{into_iter_items};
+    ghost use Rattle.std.specs.Prelude.{ℕ, List};
+    ghost use Rattle.tabled_language.specs.Parsing.{words_in};
 
     ghost Value = { List (List ℕ) };
 
-    ghost view = { λ a. map (λ word. word.now) (into_iter_items a.words) };
+    ghost view = { λ a. words_in a.source };
 }
 
 impl<'a> Words<'a> {
-    ghost use Rattle.std.specs.Prelude.{◌≡◌, ◌≤◌, IfOk, drop, length, map, take};
+    ghost use Rattle.std.specs.Prelude.{◌≡◌, ◌≤◌, IfOk, MatchResult, drop, length, map, take};
     ghost use Rattle.std.specs.String.{string_bytes};
     ghost use Rattle.tabled_language.specs.Parsing.{Reads};
-    ghost use Rattle.tabled_language.specs.Words.{ended, reads_count, reads_integer, reads_number, reads_word};
+    ghost use Rattle.tabled_language.specs.Words.{reads_count, reads_integer, reads_number, reads_text, reads_word};
+    ghost use Rattle.tabled_language.specs.declared.fault.ReadError.TheVariants.{OutOfMemory};
 
-    pub(crate) fn new(words: Vec<&'a str>) -> Self
-        ensures { result ≡ map (λ word. word.now) words.entry.items }
+    /// The words of a line without escapes.
+    pub(crate) fn of_line(fields: Fields<'a>) -> Self
+        ensures { result ≡ fields.entry }
     {
         Words {
-            words: words.into_iter(),
+            source: Source::Line(fields),
         }
     }
 
-    pub(crate) fn word(&mut self) -> Result<&'a str, Fault>
+    /// Texts as words.
+    pub(crate) fn of_texts(texts: &'a [Text<String>]) -> Self
+        ensures { result ≡ map string_bytes texts.now }
+    {
+        Words {
+            source: Source::Texts(texts),
+        }
+    }
+
+    pub(crate) fn word(&mut self) -> Read<&'a str>
         ensures { Reads (λ word. word.now) reads_word self.old result self.new }
     {
-        match self.words.next() {
-            Some(word) => Ok(word),
-            None => Err(Fault::WordCount),
+        match &mut self.source {
+            Source::Line(fields) => match fields.next() {
+                Some(word) => Ok(word),
+                None => Err(ReadError::Faulty(Fault::WordCount)),
+            },
+            Source::Texts(texts) => match texts.split_first() {
+                Some((first, others)) => {
+                    *texts = others;
+                    Ok(first.as_str())
+                }
+                None => Err(ReadError::Faulty(Fault::WordCount)),
+            },
         }
     }
 
     /// A word, as a text of its own.
     pub(crate) fn text(&mut self, alloc: Global) -> Read<String>
-        ensures { IfOk result (λ read. Reads string_bytes reads_word self.old read self.new) }
+        ensures { Reads string_bytes reads_text self.old result self.new }
     {
-        match self.word() {
-            Ok(word) => Ok(Ok(String::from_str(alloc, word)?)),
-            Err(fault) => Ok(Err(fault)),
-        }
+        let word = self.word()?;
+        Ok(String::from_str(alloc, word)?)
     }
 
-    pub(crate) fn number(&mut self) -> Result<usize, Fault>
+    pub(crate) fn number(&mut self) -> Read<usize>
         ensures { Reads (λ number. number) reads_number self.old result self.new }
     {
-        match number_of(self.word()?) {
+        let word = self.word()?;
+        match number_of(word) {
             Some(number) => Ok(number),
-            None => Err(Fault::NumberRange),
+            None => Err(ReadError::Faulty(Fault::NumberRange)),
         }
     }
 
-    pub(crate) fn integer(&mut self) -> Result<isize, Fault>
+    pub(crate) fn integer(&mut self) -> Read<isize>
         ensures { Reads (λ number. number) reads_integer self.old result self.new }
     {
-        match integer_of(self.word()?) {
+        let word = self.word()?;
+        match integer_of(word) {
             Some(number) => Ok(number),
-            None => Err(Fault::NumberRange),
+            None => Err(ReadError::Faulty(Fault::NumberRange)),
         }
     }
 
     /// A number of at least 1.
-    pub(crate) fn count(&mut self) -> Result<usize, Fault>
+    pub(crate) fn count(&mut self) -> Read<usize>
         ensures { Reads (λ number. number) reads_count self.old result self.new }
     {
         let number = self.number()?;
         if number == 0 {
-            return Err(Fault::NumberRange);
+            return Err(ReadError::Faulty(Fault::NumberRange));
         }
         Ok(number)
     }
@@ -91,24 +118,21 @@ impl<'a> Words<'a> {
     pub(crate) fn left(&self) -> usize
         ensures { result ≡ length self.now }
     {
-        self.words.len()
+        match &self.source {
+            Source::Line(fields) => fields.left(),
+            Source::Texts(texts) => texts.len(),
+        }
     }
 
     /// So many texts.
-    pub(crate) fn row(
-        &mut self,
-        alloc: Global,
-        many: usize,
-    ) -> Result<Vec<Text<String>>, AllocError>
+    pub(crate) fn row(&mut self, alloc: Global, many: usize) -> Read<Vec<Text<String>>>
         requires { many ≤ length self.old }
-        ensures texts { IfOk result (λ row. map string_bytes row.items ≡ take many self.old) }
-        ensures left { IfOk result (λ _. self.new ≡ drop many self.old) }
+        ensures { MatchResult result (λ row. (map string_bytes row.items ≡ take many self.old) × (self.new ≡ drop many self.old)) (λ error. error ≡ OutOfMemory) }
     {
         let mut row = Vec::with_capacity(alloc, many)?;
         for _ in 0..many {
-            if let Ok(text) = self.text(alloc)? {
-                row.push(Text::new(text))?;
-            }
+            let text = self.text(alloc)?;
+            row.push(Text::new(text))?;
         }
         Ok(row)
     }

@@ -14,8 +14,27 @@ pub(crate) fn answer(alloc: Global, script: &[u8]) -> (u8, Vec<u8>) {
     (status, written)
 }
 
+/// Says whether a script is answered by this output, with the status of a table or of a fault.
+pub(crate) fn gives(alloc: Global, script: &[u8], output: &[u8]) -> bool {
+    let (status, written) = answer(alloc, script);
+    let want = if output.starts_with(b"line ") { 2 } else { 0 };
+    status == want && written.as_slice() == output
+}
+
+/// Says whether a script that is cut anywhere is answered by a table or by a fault.
+pub(crate) fn ends_well(alloc: Global, script: &[u8]) -> bool {
+    for end in 0..script.len() {
+        let (status, written) = answer(alloc, &script[..end]);
+        let begin: &[u8] = if status == 0 { b"shape\t" } else { b"line " };
+        if status != 0 && status != 2 || !written.as_slice().starts_with(begin) {
+            return false;
+        }
+    }
+    true
+}
+
 #[test]
-fn writes_tables(rt: HostRuntime) -> Result<(), Fail> {
+fn answers_scripts(rt: HostRuntime) -> Result<(), Fail> {
     for (script, output) in [
         ("", "shape\t0\t0\n"),
         ("\n\n", "shape\t0\t0\n"),
@@ -64,72 +83,6 @@ fn writes_tables(rt: HostRuntime) -> Result<(), Fail> {
             "row\t0\t1\t2\nrow\t1\t2\t3\nrow\t4\t5\t6\nvpanel\t1\tS\nheader\tN\nhpanel\t2\tx\n",
             "shape\t4\t4\nrow\tN\t\t\t\nrow\t0\tS\t1\t2\nrow\t1\t\t2\t3\nrow\t4\t\t5\t6\nspan\t0\t0\t1\t4\nspan\t1\t1\t3\t1\n",
         ),
-    ] {
-        let (status, written) = answer(rt.alloc(), script.as_bytes());
-        assert_eq!(rt; status, 0, "at {script:?}");
-        assert_eq!(rt; written.as_slice(), output.as_bytes(), "at {script:?}");
-    }
-    Ok(())
-}
-
-/// A text once, another so many times, and a third once.
-fn repeated(
-    alloc: Global,
-    start: &str,
-    text: &str,
-    times: usize,
-    end: &str,
-) -> Result<Vec<u8>, AllocError> {
-    let mut bytes = Vec::from_slice(alloc, start.as_bytes())?;
-    for _ in 0..times {
-        bytes.extend_from_slice(text.as_bytes())?;
-    }
-    bytes.extend_from_slice(end.as_bytes())?;
-    Ok(bytes)
-}
-
-#[test]
-fn reads_long_lines(rt: HostRuntime) -> Result<(), Fail> {
-    // Rows that are as long as each other are written as they were read, behind their shape.
-    for (start, text, times, shape) in [
-        ("row", "\t", 255, "shape\t1\t255\n"),
-        ("row", "\t", 256, "shape\t1\t256\n"),
-        ("row", "\t", 1_000, "shape\t1\t1000\n"),
-        ("row", "\ta", 70_000, "shape\t1\t70000\n"),
-        ("row\t", "x", 70_000, "shape\t1\t1\n"),
-        ("row\tx\t", "ä", 300, "shape\t1\t2\n"),
-        ("row\tx\t", "\\\\", 300, "shape\t1\t2\n"),
-        ("row\ta", "\nrow\tb", 70_000, "shape\t70001\t1\n"),
-    ] {
-        let script = repeated(rt.alloc(), start, text, times, "\n")?;
-        let mut output = Vec::from_slice(rt.alloc(), shape.as_bytes())?;
-        output.extend_from_slice(&script)?;
-        let (status, written) = answer(rt.alloc(), &script);
-        assert_eq!(rt; status, 0, "{times} times {text:?}");
-        assert!(rt; written == output, "{times} times {text:?}");
-    }
-    for (start, text, times, end, line) in [
-        ("", "\n", 70_000, "spin", "line 70001: fault 1\n"),
-        ("row", "\t", 70_000, "\\", "line 1: fault 4\n"),
-        ("set\tall", "\t", 255, "", "line 1: fault 2\n"),
-        ("set\trow\t", "9", 255, "\tx", "line 1: fault 3\n"),
-        ("s", "e", 70_000, "t", "line 1: fault 1\n"),
-    ] {
-        let script = repeated(rt.alloc(), start, text, times, end)?;
-        let (status, written) = answer(rt.alloc(), &script);
-        assert_eq!(rt; status, 2, "{times} times {text:?}");
-        assert_eq!(rt;
-            written.as_slice(),
-            line.as_bytes(),
-            "{times} times {text:?}"
-        );
-    }
-    Ok(())
-}
-
-#[test]
-fn names_the_first_fault(rt: HostRuntime) -> Result<(), Fail> {
-    for (script, line) in [
         ("spin", "line 1: fault 1\n"),
         ("row\r", "line 1: fault 1\n"),
         ("\t", "line 1: fault 1\n"),
@@ -161,42 +114,73 @@ fn names_the_first_fault(rt: HostRuntime) -> Result<(), Fail> {
         ("set\tall\tx\nrow\t\\q\n", "line 2: fault 4\n"),
         ("set\tall\tx\nrow\nspin\n", "line 2: fault 6\n"),
     ] {
-        let (status, written) = answer(rt.alloc(), script.as_bytes());
-        assert_eq!(rt; status, 2, "at {script:?}");
-        assert_eq!(rt; written.as_slice(), line.as_bytes(), "at {script:?}");
+        let well = gives(rt.alloc(), script.as_bytes(), output.as_bytes());
+        assert!(rt; well, "at {script:?}");
     }
-    let (status, written) = answer(rt.alloc(), b"row\ta\nrow\t\xff\n");
-    assert_eq!(rt; status, 2);
-    assert_eq!(rt; written.as_slice(), b"line 2: fault 4\n".as_slice());
+    assert!(rt; gives(rt.alloc(), b"row\ta\nrow\t\xff\n", b"line 2: fault 4\n"));
+    Ok(())
+}
+
+/// A text once, another so many times, and a third once.
+fn repeated(
+    alloc: Global,
+    start: &str,
+    text: &str,
+    times: usize,
+    end: &str,
+) -> Result<Vec<u8>, AllocError> {
+    let mut bytes = Vec::from_slice(alloc, start.as_bytes())?;
+    for _ in 0..times {
+        bytes.extend_from_slice(text.as_bytes())?;
+    }
+    bytes.extend_from_slice(end.as_bytes())?;
+    Ok(bytes)
+}
+
+#[test]
+fn answers_long_scripts(rt: HostRuntime) -> Result<(), Fail> {
+    for (start, text, times, end, output) in [
+        // Rows that are as long as each other are written as they were read, behind their shape.
+        ("row", "\t", 255, "\n", "shape\t1\t255\n"),
+        ("row", "\t", 256, "\n", "shape\t1\t256\n"),
+        ("row", "\t", 1_000, "\n", "shape\t1\t1000\n"),
+        ("row", "\ta", 70_000, "\n", "shape\t1\t70000\n"),
+        ("row\t", "x", 70_000, "\n", "shape\t1\t1\n"),
+        ("row\tx\t", "ä", 300, "\n", "shape\t1\t2\n"),
+        ("row\tx\t", "\\\\", 300, "\n", "shape\t1\t2\n"),
+        ("row\ta", "\nrow\tb", 70_000, "\n", "shape\t70001\t1\n"),
+        ("", "\n", 70_000, "spin", "line 70001: fault 1\n"),
+        ("row", "\t", 70_000, "\\", "line 1: fault 4\n"),
+        ("set\tall", "\t", 255, "", "line 1: fault 2\n"),
+        ("set\trow\t", "9", 255, "\tx", "line 1: fault 3\n"),
+        ("s", "e", 70_000, "t", "line 1: fault 1\n"),
+        (
+            "row\ta\nset",
+            "\tinverse",
+            64,
+            "\tall\tx\n",
+            "line 2: fault 5\n",
+        ),
+    ] {
+        let script = repeated(rt.alloc(), start, text, times, end)?;
+        let mut written = Vec::from_slice(rt.alloc(), output.as_bytes())?;
+        if output.starts_with("shape") {
+            written.extend_from_slice(&script)?;
+        }
+        assert!(rt;
+            gives(rt.alloc(), &script, &written),
+            "{times} times {text:?}"
+        );
+    }
+    let deepest = repeated(rt.alloc(), "row\ta\nset", "\tinverse", 63, "\tall\tx\n")?;
+    assert!(rt; gives(rt.alloc(), &deepest, b"shape\t1\t1\nrow\ta\n"));
     Ok(())
 }
 
 #[test]
 fn ends_well_where_a_script_is_cut(rt: HostRuntime) -> Result<(), Fail> {
     let script = "row\ta\\t\tä\n\nrow\tb\r\nset\tcell\t0\t1\tx\\\\\nset\trow\t007\ty\n";
-    let bytes = script.as_bytes();
-    for end in 0..bytes.len() {
-        let (status, written) = answer(rt.alloc(), &bytes[..end]);
-        let shown = written.as_slice();
-        assert!(rt; status == 0 || status == 2, "cut at {end}");
-        assert_eq!(rt; shown.starts_with(b"shape\t"), status == 0, "cut at {end}");
-        assert_eq!(rt; shown.starts_with(b"line "), status == 2, "cut at {end}");
-    }
-    Ok(())
-}
-
-#[test]
-fn reads_64_selectors_in_each_other(rt: HostRuntime) -> Result<(), Fail> {
-    let alloc = rt.alloc();
-    for (many, status, output) in [
-        (63, 0, "shape\t1\t1\nrow\ta\n"),
-        (64, 2, "line 2: fault 5\n"),
-    ] {
-        let script = repeated(alloc, "row\ta\nset", "\tinverse", many, "\tall\tx\n")?;
-        let (ended, written) = answer(alloc, &script);
-        assert_eq!(rt; ended, status);
-        assert_eq!(rt; written.as_slice(), output.as_bytes());
-    }
+    assert!(rt; ends_well(rt.alloc(), script.as_bytes()));
     Ok(())
 }
 
@@ -242,16 +226,17 @@ fn says_that_a_read_failed(rt: HostRuntime) -> Result<(), Fail> {
             };
             let mut written = Vec::new(rt.alloc());
             let answered = run_script(rt.alloc(), &mut reader, &mut written);
-            if calls_before > script.len() {
-                assert_eq!(rt; answered, 0, "after {calls_before} reads");
+            let (want, shown) = if calls_before > script.len() {
+                (0, "shape\t1\t1\nrow\tx\n")
             } else {
-                assert_eq!(rt; answered, status, "after {calls_before} reads");
-                assert_eq!(rt;
-                    written.as_slice(),
-                    line.as_bytes(),
-                    "after {calls_before} reads"
-                );
-            }
+                (status, line)
+            };
+            assert_eq!(rt; answered, want, "after {calls_before} reads");
+            assert_eq!(rt;
+                written.as_slice(),
+                shown.as_bytes(),
+                "after {calls_before} reads"
+            );
         }
     }
     Ok(())

@@ -3,4 +3,4 @@ use Rattle.tabled_language.specs.Line.{parse}
 use Rattle.tabled_script.proofs.program.answer.Goals as goal
 
 pub returns-in_ok-output-in-Ok : goal.returns-in_ok-output-in-Ok
-returns-in_ok-output-in-Ok c = (_, sym (ap parse c.deref.ensures.value) ∙ (rw c.in-Ok.is at c.in_ok-script.ensures), c.in_ok-output-in-Ok.ensures)
+returns-in_ok-output-in-Ok c = (_, sym (ap parse c.deref.ensures.value) ∙ (rw c.in-Ok.is at c.in_ok-script.ensures.script), c.in_ok-output-in-Ok.ensures)

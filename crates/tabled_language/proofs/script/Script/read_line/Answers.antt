@@ -1,7 +1,8 @@
-use Rattle.std.proofs.Common.{◌≡◌, ◌≢◌, length, Some, IfOk, subst, sym, ap, ◌∙◌, rules}
+use Rattle.std.proofs.Common.{◌≡◌, ◌≢◌, length, map, Some, sym, ap, ◌∙◌, rules}
 use Rattle.tabled_language.specs.Line.{line_of, meaning_of, words_of}
-use Rattle.tabled_language.specs.Parsing.{ReadsLine, script_in}
-use Rattle.tabled_language.proofs.ScriptLines.{line_of-texts}
+use Rattle.std.specs.String.{string_bytes}
+use Rattle.tabled_language.specs.Parsing.{script_in}
+use Rattle.tabled_language.proofs.ScriptLines.{line_asks-plain, line_asks-texts, line_of-texts, same_line}
 use Rattle.tabled_language.proofs.script.Script.read_line.Goals as goal
 
 pub returns-in-Some : goal.returns-in-Some
@@ -9,7 +10,16 @@ returns-in-Some c =
     let line = c.args.line.now in
     let same = c.in-Some.ensures.0 in
     let some : length line ≢ 0 = search rules in
-    let said : line_of line ≡ meaning_of (Some (words_of c.in-Some.line.now)) = line_of-texts line (words_of line) some c.in-Some.ensures.1 ∙ ap (λ bytes. meaning_of (Some (words_of bytes))) (sym same) in
+    let said : line_of line ≡ meaning_of (Some (words_of c.in-Some.line.now)) = line_of-texts line (words_of line) some c.in-Some.ensures.2 ∙ ap (λ bytes. meaning_of (Some (words_of bytes))) (sym same) in
     let old = script_in c.args.self.now.records.items c.args.self.now.steps.items in
     let new = script_in c.read_plain.new.self.records.items c.read_plain.new.self.steps.items in
-    subst (λ line. IfOk c.read_plain.result (λ read. ReadsLine old line read new)) (sym said) c.read_plain.ensures
+    same_line old new c.read_plain.result _ _ _ _ said (line_asks-plain _ line c.in-Some.line.now same c.in-Some.ensures.1) c.read_plain.ensures
+
+pub returns-in-Some-2 : goal.returns-in-Some-2
+returns-in-Some-2 c =
+    let line = c.args.line.now in
+    let some : length line ≢ 0 = search rules in
+    let said = line_of-texts line (map string_bytes c.in-Some-2.texts.items) some (sym (rw c.in-Some-2.is at c.in_ok-texts.ensures)) in
+    let old = script_in c.args.self.now.records.items c.args.self.now.steps.items in
+    let new = script_in c.read_texts.new.self.records.items c.read_texts.new.self.steps.items in
+    same_line old new c.read_texts.result _ _ _ _ said (line_asks-texts _ line c.in_default.ensures) c.read_texts.ensures

@@ -11,9 +11,9 @@ row-requires c = rw c.loop.invariant.left (row_left c.args.columns c.args.rows c
 
 pub loop-preserved : goal.loop-preserved
 loop-preserved c =
-    let row = c.in_ok-row.field-0 in
+    let row = c.in_ok-row.row in
     record {
       texts = rw (c.in_ok-push.ensures.items, map-append (λ (v : Vec (String Global) Global). v.items) c.loop.cells.items (row ∷ []))
-          (rows_more (map string_bytes) c.args.columns c.loop.counter c.args.self.now (map_items c.loop.cells.items) row.items c.loop.invariant.texts (c.in_ok-row.ensures.texts ∙ ap (take c.args.columns) c.loop.invariant.left));
-      left = c.in_ok-row.ensures.left ∙ ap (drop c.args.columns) c.loop.invariant.left ∙ left_more c.args.columns c.loop.counter c.args.self.now;
+          (rows_more (map string_bytes) c.args.columns c.loop.counter c.args.self.now (map_items c.loop.cells.items) row.items c.loop.invariant.texts (c.in_ok-row.ensures.0 ∙ ap (take c.args.columns) c.loop.invariant.left));
+      left = c.in_ok-row.ensures.1 ∙ ap (drop c.args.columns) c.loop.invariant.left ∙ left_more c.args.columns c.loop.counter c.args.self.now;
     }
