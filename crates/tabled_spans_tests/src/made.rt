@@ -139,8 +139,30 @@ where
     Ok(words)
 }
 
-fn made_flat(alloc: Global, old: &str, steps: [Step; 3]) -> Result<String, AllocError> {
-    made(alloc, flat(alloc, old)?, steps)
+/// A kind of store: one vector of cells, a vector for each row, or one that refuses all but so many growths
+/// and writes.
+#[derive(Clone, Copy)]
+pub(crate) enum Store {
+    Flat,
+    Nested,
+    Refusing(usize),
+}
+
+/// The same of a table that is spelled, in a store of a kind.
+fn made_in(alloc: Global, store: Store, old: &str, steps: [Step; 3]) -> Result<String, AllocError> {
+    match store {
+        Store::Flat => made(alloc, flat(alloc, old)?, steps),
+        Store::Nested => made(alloc, nested(alloc, old)?, steps),
+        Store::Refusing(left) => {
+            let store = flat(alloc, old)?;
+            made(alloc, Refusing { store, left }, steps)
+        }
+    }
+}
+
+/// Whether steps make one table of another in a store of a kind. A refusal is told by `!`.
+pub(crate) fn makes(alloc: Global, store: Store, old: &str, steps: [Step; 3], new: &str) -> bool {
+    is_word(made_in(alloc, store, old, steps), new)
 }
 
 /// Whether words are those of the table after the first writes of a step alone, all of them or none.
@@ -200,39 +222,4 @@ fn leaves_the_old(
 pub(crate) fn keeps(alloc: Global, old: &str, before: Step, step: Step, writes: bool) -> bool {
     // Where the table itself is refused, there is nothing to compare.
     leaves_the_old(alloc, old, before, step, writes) != Ok(false)
-}
-
-/// Whether steps make one table of another in one vector of cells.
-pub(crate) fn makes_flat(alloc: Global, old: &str, steps: [Step; 3], new: &str) -> bool {
-    is_word(made_flat(alloc, old, steps), new)
-}
-
-fn made_nested(alloc: Global, old: &str, steps: [Step; 3]) -> Result<String, AllocError> {
-    made(alloc, nested(alloc, old)?, steps)
-}
-
-/// The same in a vector for each row.
-pub(crate) fn makes_nested(alloc: Global, old: &str, steps: [Step; 3], new: &str) -> bool {
-    is_word(made_nested(alloc, old, steps), new)
-}
-
-fn made_refusing(
-    alloc: Global,
-    left: usize,
-    old: &str,
-    steps: [Step; 3],
-) -> Result<String, AllocError> {
-    let store = flat(alloc, old)?;
-    made(alloc, Refusing { store, left }, steps)
-}
-
-/// The same in a store that refuses all but so many growths and writes. A refusal is told by `!`.
-pub(crate) fn makes_refusing(
-    alloc: Global,
-    left: usize,
-    old: &str,
-    steps: [Step; 3],
-    new: &str,
-) -> bool {
-    is_word(made_refusing(alloc, left, old, steps), new)
 }

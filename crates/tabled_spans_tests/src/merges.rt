@@ -1,7 +1,7 @@
 //! Merges of equal neighbours.
 
 use crate::made::Step::{self, Anchor, MergeColumns, MergeRows, Nothing};
-use crate::made::{makes_flat, makes_nested, makes_refusing};
+use crate::made::{Store, makes};
 use std::test::Fail;
 
 /// What merges make of tables.
@@ -61,15 +61,11 @@ fn merges() -> [(&'static str, [Step; 3], &'static str); 11] {
 
 #[test]
 fn equal_neighbours_are_merged(rt: HostRuntime) -> Result<(), Fail> {
-    for (old, steps, new) in merges() {
-        assert!(rt; makes_flat(rt.alloc(), old, steps, new));
-    }
-    for (old, steps, new) in merges() {
-        assert!(rt; makes_nested(rt.alloc(), old, steps, new));
-    }
     // A merge takes no growth and no write.
-    for (old, steps, new) in merges() {
-        assert!(rt; makes_refusing(rt.alloc(), 0, old, steps, new));
+    for store in [Store::Flat, Store::Nested, Store::Refusing(0)] {
+        for (old, steps, new) in merges() {
+            assert!(rt; makes(rt.alloc(), store, old, steps, new));
+        }
     }
     Ok(())
 }

@@ -1,7 +1,7 @@
 //! Panels.
 
 use crate::made::Step::{self, Anchor, Column, Footer, Header, Nothing, Row};
-use crate::made::{makes_flat, makes_nested, makes_refusing};
+use crate::made::{Store, makes};
 use std::test::Fail;
 
 /// What panels make of tables.
@@ -92,11 +92,10 @@ fn panels() -> [(&'static str, [Step; 3], &'static str); 19] {
 
 #[test]
 fn panels_are_put_in(rt: HostRuntime) -> Result<(), Fail> {
-    for (old, steps, new) in panels() {
-        assert!(rt; makes_flat(rt.alloc(), old, steps, new));
-    }
-    for (old, steps, new) in panels() {
-        assert!(rt; makes_nested(rt.alloc(), old, steps, new));
+    for store in [Store::Flat, Store::Nested] {
+        for (old, steps, new) in panels() {
+            assert!(rt; makes(rt.alloc(), store, old, steps, new));
+        }
     }
     Ok(())
 }
@@ -138,7 +137,7 @@ fn refused() -> [(&'static str, [Step; 3], usize, &'static str); 7] {
 #[test]
 fn refused_panels_leave_the_table(rt: HostRuntime) -> Result<(), Fail> {
     for (old, steps, left, new) in refused() {
-        assert!(rt; makes_refusing(rt.alloc(), left, old, steps, new));
+        assert!(rt; makes(rt.alloc(), Store::Refusing(left), old, steps, new));
     }
     Ok(())
 }

@@ -1,7 +1,7 @@
 //! Spans of columns and of rows.
 
 use crate::made::Step::{self, Nothing, SpanColumns, SpanRows};
-use crate::made::{makes_flat, makes_nested, makes_refusing};
+use crate::made::{Store, makes};
 use std::test::Fail;
 use tabled_grid::config::Entity::{Cell, Column, Global, Row};
 
@@ -138,14 +138,10 @@ fn over_visible_cells() -> [(&'static str, [Step; 3], &'static str); 16] {
 
 #[test]
 fn spans_go_over_visible_cells(rt: HostRuntime) -> Result<(), Fail> {
-    for (old, steps, new) in over_visible_cells() {
-        assert!(rt; makes_flat(rt.alloc(), old, steps, new));
-    }
-    for (old, steps, new) in over_visible_cells() {
-        assert!(rt; makes_nested(rt.alloc(), old, steps, new));
-    }
-    for (old, steps, new) in over_visible_cells() {
-        assert!(rt; makes_refusing(rt.alloc(), 0, old, steps, new));
+    for store in [Store::Flat, Store::Nested, Store::Refusing(0)] {
+        for (old, steps, new) in over_visible_cells() {
+            assert!(rt; makes(rt.alloc(), store, old, steps, new));
+        }
     }
     Ok(())
 }
@@ -251,11 +247,10 @@ fn over_all_cells() -> [(&'static str, [Step; 3], &'static str); 14] {
 
 #[test]
 fn spans_go_over_all_cells(rt: HostRuntime) -> Result<(), Fail> {
-    for (old, steps, new) in over_all_cells() {
-        assert!(rt; makes_flat(rt.alloc(), old, steps, new));
-    }
-    for (old, steps, new) in over_all_cells() {
-        assert!(rt; makes_nested(rt.alloc(), old, steps, new));
+    for store in [Store::Flat, Store::Nested] {
+        for (old, steps, new) in over_all_cells() {
+            assert!(rt; makes(rt.alloc(), store, old, steps, new));
+        }
     }
     Ok(())
 }
@@ -349,7 +344,7 @@ fn refused() -> [(&'static str, [Step; 3], usize, &'static str); 11] {
 #[test]
 fn refused_spans_leave_their_first_writes(rt: HostRuntime) -> Result<(), Fail> {
     for (old, steps, left, new) in refused() {
-        assert!(rt; makes_refusing(rt.alloc(), left, old, steps, new));
+        assert!(rt; makes(rt.alloc(), Store::Refusing(left), old, steps, new));
     }
     Ok(())
 }
