@@ -4,6 +4,7 @@ use crate::fault::Fault;
 use crate::words::Words;
 use tabled_grid::config::Offset;
 use tabled_grid::records::Axis;
+use tabled_settings::merge::Merge;
 use tabled_settings::reverse::Reverse;
 use tabled_settings::rotate::Rotate;
 use tabled_settings::split::{Behavior, Display, Split};
@@ -125,8 +126,8 @@ impl<'a> Words<'a> {
         ensures { Reads after (behind plain_steps verb.now) self.old result self.new }
     {
         match verb {
-            "vmerge" => Ok(Step::MergeVertical),
-            "hmerge" => Ok(Step::MergeHorizontal),
+            "vmerge" => Ok(Step::MergeVertical(Merge::vertical())),
+            "hmerge" => Ok(Step::MergeHorizontal(Merge::horizontal())),
             "rotate" => {
                 let rotate = self.rotate()?;
                 Ok(Step::Rotate(rotate))
