@@ -6,6 +6,7 @@ use std::alloc::Global;
 use tabled_grid::records::{Axis, Text, VecRecords};
 use tabled_settings::concat::Concat;
 use tabled_settings::formatting::Charset;
+use tabled_settings::merge::Merge;
 use tabled_settings::reverse::Reverse;
 use tabled_settings::split::Split;
 use tabled_spans::panel::{Footer, Header, HorizontalPanel, VerticalPanel};
@@ -34,8 +35,8 @@ impl<'a> Words<'a> {
             "tabs" => self.tabs(alloc),
             "cspan" => self.span(alloc, Axis::Columns),
             "rspan" => self.span(alloc, Axis::Rows),
-            "vmerge" => Ok(Step::MergeVertical),
-            "hmerge" => Ok(Step::MergeHorizontal),
+            "vmerge" => Ok(Step::MergeVertical(Merge::vertical())),
+            "hmerge" => Ok(Step::MergeHorizontal(Merge::horizontal())),
             "header" => self.header(alloc),
             "footer" => self.footer(alloc),
             "hpanel" => self.panel(alloc, Axis::Rows),

@@ -134,8 +134,8 @@ module _ {A : Type 0} (text_of : A → List ℕ) where
   after_step is_blank (step.VerticalPanel panel) g c h d does = panelled g c h d Columns panel.0 panel.1 does
   after_step is_blank (step.Header text) g c h d does = panelled g c h d Rows 0 text does
   after_step is_blank (step.Footer text) g c h d does = panelled g c h d Rows g.rows text does
-  after_step is_blank step.MergeVertical g c h d does = merged g c h d Rows does
-  after_step is_blank step.MergeHorizontal g c h d does = merged g c h d Columns does
+  after_step is_blank (step.MergeVertical _) g c h d does = merged g c h d Rows does
+  after_step is_blank (step.MergeHorizontal _) g c h d does = merged g c h d Columns does
   after_step is_blank (step.Rotate rotate) g c h d does = rearranged g c h d (rotated rotate) (total-rotated rotate g.rows g.columns) does
   after_step is_blank (step.Reverse reverse) g c h d does = rearranged g c h d (reversed reverse.axis reverse.start reverse.limit) (λ p. (_, refl)) does
   after_step is_blank (step.Split how) g c h d does = same_state _ _ _ _ does.0.texts does.1

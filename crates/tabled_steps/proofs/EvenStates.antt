@@ -1,5 +1,5 @@
 -- Steps leave as many texts in each row as there are columns.
-use Rattle.std.proofs.Common.{◌≡◌, ◌⊎◌, inl, inr, ℕ, ◌+◌, ◌-◌, ◌<◌, true, false, cond, max, List, [], ◌∷◌, ◌++◌, refl, ap, ◌∙◌, length, replicate, arith}
+use Rattle.std.proofs.Common.{◌≡◌, ◌⊎◌, inl, inr, ℕ, ◌+◌, ◌-◌, ◌<◌, true, false, cond, max, List, [], ◌∷◌, ◌++◌, refl, ap, ◌∙◌, length, replicate, sym, arith}
 use Rattle.std.specs.Prelude.{nat_lt, ◌&&◌}
 use Rattle.std.specs.List.{fold}
 use Rattle.std.specs.Option.{option_and_then, unwrap_or}
@@ -23,15 +23,13 @@ use Rattle.tabled_settings.specs.Rearranged.{extracted, removed, reversed, rotat
 use Rattle.tabled_settings.specs.Dups.{dup_writes}
 use Rattle.tabled_settings.specs.Pieces.{cut_rows, has_pieces, split, turned}
 use Rattle.tabled_settings.specs.declared.split.Split.{Split}
-use Rattle.tabled_settings.specs.declared.split.Display.TheVariants.{Retain}
-use Rattle.tabled_settings.specs.PiecePlaces.{glued}
 use Rattle.tabled_settings.proofs.Glued.{split_glued}
 use Rattle.tabled_settings.proofs.PieceReads.{cut_even, turned_even}
 use Rattle.tabled_spans.specs.Panels.{has_room}
 use Rattle.tabled_spans.specs.Spanned.{span_writes}
 use Rattle.tabled_steps.specs.Reads.{joined}
 use Rattle.tabled_steps.specs.Selected.{half_open, named_by, selected}
-use Rattle.tabled_steps.specs.States.{State, after, after_all, on_each, put_panel, rearrange}
+use Rattle.tabled_steps.specs.States.{IsUndoneMidway, State, after, after_all, flattened, on_each, parts, put_panel, rearrange}
 use Rattle.tabled_steps.specs.declared.select.Select.{Select}
 use Rattle.tabled_steps.specs.declared.step.Step.{Step}
 use Rattle.tabled_steps.specs.declared.step.Step.TheVariants as step
@@ -86,7 +84,7 @@ even_rearranged places s even = let from = places s.texts.rows s.texts.columns i
 even_joined : (axis : Axis) (second : Grid (List ℕ)) (default : List ℕ) (g : Grid (List ℕ)) → IsEven (joined axis second default g)
 even_joined axis second default g = let corner = corner_of axis g.rows g.columns in IsEven-table_of (max g.rows (corner.row + second.rows)) (max g.columns (corner.col + second.columns)) (λ (p : Position). cond (nat_lt p.row g.rows && nat_lt p.col g.columns) (text_at g p) (joined_text corner second default p.row p.col))
 
-even_after : (x : Step) → Keeps (after x)
+pub even_after : (x : Step) → Keeps (after x)
 even_after (step.Set text_select text) = even_on_each _ text_select (λ e s. even_writes (text_writes (string_bytes text) e s.texts) s.texts)
 even_after (step.Dup destination source) = λ s. even_writes (dup_writes (selected s.texts source) (selected s.texts destination) s.texts) s.texts
 even_after (step.Charset charset select) = even_on_each _ select (λ e s. even_writes (charset_writes charset e s.texts) s.texts)
@@ -96,8 +94,8 @@ even_after (step.HorizontalPanel panel) = even_panel Rows panel.0 panel.1
 even_after (step.VerticalPanel panel) = even_panel Columns panel.0 panel.1
 even_after (step.Header text) = even_panel Rows 0 text
 even_after (step.Footer text) = λ s. even_panel Rows s.texts.rows text s
-even_after step.MergeVertical = λ s even. even
-even_after step.MergeHorizontal = λ s even. even
+even_after (step.MergeVertical _) = λ s even. even
+even_after (step.MergeHorizontal _) = λ s even. even
 even_after (step.Rotate rotate) = even_rearranged (rotated rotate)
 even_after (step.Reverse reverse) = even_rearranged (reversed reverse.axis reverse.start reverse.limit)
 even_after (step.Split how) = λ s. even_split how s.texts
@@ -112,11 +110,43 @@ pub even_after_all : (xs : List Step) → Keeps (after_all xs)
 even_after_all [] s even = even
 even_after_all (x ∷ xs) s even = even_after_all xs (after x s) (even_after x s even)
 
-pub after_more : (xs : List Step) (x : Step) (s : State) → after_all (xs ++ x ∷ []) s ≡ after x (after_all xs s)
-after_more [] x s = refl
-after_more (y ∷ xs) x s = after_more xs x (after y s)
+after_both : (xs ys : List Step) (s : State) → after_all (xs ++ ys) s ≡ after_all ys (after_all xs s)
+after_both [] ys s = refl
+after_both (x ∷ xs) ys s = after_both xs ys (after x s)
 
--- the pieces that a split makes last are glued together
-pub glued_last : (xs : List Step) (how : Split) (s new : State) → IsEven s.texts → how.display ≡ Retain → 0 < how.index → 0 < (after_all xs s).texts.rows → 0 < (after_all xs s).texts.columns → new ≡ after_all (xs ++ step.Split how ∷ []) s → glued how ((after_all xs s).texts.rows) ((after_all xs s).texts.columns) new.texts ≡ (after_all xs s).texts
-glued_last xs how s new even retained index rows columns is =
-    split_glued how (after_all xs s).texts new.texts (even_after_all xs s even) retained rows columns index (ap (λ (t : State). t.texts) (is ∙ after_more xs (step.Split how) s))
+after_parts : (x : Step) (s : State) → after_all (parts x) s ≡ after x s
+after_parts (step.Set _ _) s = refl
+after_parts (step.Dup _ _) s = refl
+after_parts (step.Charset _ _) s = refl
+after_parts (step.ColumnSpan _ _) s = refl
+after_parts (step.RowSpan _ _) s = refl
+after_parts (step.HorizontalPanel _) s = refl
+after_parts (step.VerticalPanel _) s = refl
+after_parts (step.Header _) s = refl
+after_parts (step.Footer _) s = refl
+after_parts (step.MergeVertical _) s = refl
+after_parts (step.MergeHorizontal _) s = refl
+after_parts (step.Rotate _) s = refl
+after_parts (step.Reverse _) s = refl
+after_parts (step.Split _) s = refl
+after_parts (step.Concat _) s = refl
+after_parts (step.Extract _ _ _ _) s = refl
+after_parts (step.RemoveRows _ _) s = refl
+after_parts (step.RemoveColumns _ _) s = refl
+after_parts (step.RemoveNamed _) s = refl
+after_parts (step.Both' _ first _ second) s = after_both (parts first) (parts second) s ∙ after_parts second (after_all (parts first) s) ∙ ap (after second) (after_parts first s)
+
+-- steps taken apart lead to what they lead to
+after_flattened : (xs : List Step) (s : State) → after_all (flattened xs) s ≡ after_all xs s
+after_flattened [] s = refl
+after_flattened (x ∷ xs) s = after_both (parts x) (flattened xs) s ∙ after_flattened xs (after_all (parts x) s) ∙ ap (after_all xs) (after_parts x s)
+
+-- the pieces that a split makes are glued together, whatever steps come before it and after it
+pub undone_midway : (xs first rest : List Step) (how : Split) (old new : State) → IsEven old.texts → flattened xs ≡ first ++ step.Split how ∷ rest → new ≡ after_all xs old → IsUndoneMidway how (after_all first old) rest new
+undone_midway xs first rest how old new even are is = record {
+  split = after (step.Split how) (after_all first old);
+  undone = record {
+    glued = λ retained index rows columns. split_glued how (after_all first old).texts (after (step.Split how) (after_all first old)).texts (even_after_all first old even) retained rows columns index refl;
+  };
+  leads = is ∙ sym (after_flattened xs old) ∙ ap (λ ys. after_all ys old) are ∙ after_both first (step.Split how ∷ rest) old;
+}

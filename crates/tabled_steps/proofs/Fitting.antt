@@ -49,8 +49,8 @@ module _ {A : Type 0} (is_blank : A → Type 0) (text_of : A → List ℕ) where
   step_keeps (step.VerticalPanel panel) _ = panels Columns (λ g. panel.0) panel.1
   step_keeps (step.Header text) _ = panels Rows (λ g. 0) text
   step_keeps (step.Footer text) _ = panels Rows (λ g. g.rows) text
-  step_keeps step.MergeVertical _ = merges Rows
-  step_keeps step.MergeHorizontal _ = merges Columns
+  step_keeps (step.MergeVertical _) _ = merges Rows
+  step_keeps (step.MergeHorizontal _) _ = merges Columns
   step_keeps (step.Rotate _) none = absurd none
   step_keeps (step.Reverse _) none = absurd none
   step_keeps (step.Split _) none = absurd none

@@ -1,6 +1,11 @@
 pub mod AfterSteps
 pub mod EvenStates
 pub mod Fitting
+pub mod LocalChanges
 pub mod MergedRuns
+pub mod Outside
+pub mod RunSteps
+pub mod StandInPlaces
+pub mod StandIns
 pub mod StepsUntil
 pub mod TextReads

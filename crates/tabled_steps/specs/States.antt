@@ -1,5 +1,5 @@
 -- The texts of a table and its merged cells, and what steps make of them.
-use Rattle.std.specs.Prelude.{◌≡◌, ◌<◌, ℕ, ◌-◌, ℤ, if◌then◌else◌, Bool, List, [], ◌∷◌, replicate, Option}
+use Rattle.std.specs.Prelude.{◌≡◌, ◌<◌, ℕ, ◌-◌, ℤ, if◌then◌else◌, Bool, List, [], ◌∷◌, ◌++◌, replicate, Option}
 use Rattle.std.specs.List.{fold}
 use Rattle.std.specs.String.{string_bytes}
 use Rattle.tabled_grid.specs.Bounds.{indexes}
@@ -95,8 +95,8 @@ after (step.HorizontalPanel panel) = put_panel Rows panel.0 panel.1
 after (step.VerticalPanel panel) = put_panel Columns panel.0 panel.1
 after (step.Header text) = put_panel Rows 0 text
 after (step.Footer text) = λ s. put_panel Rows s.texts.rows text s
-after step.MergeVertical = merge Rows
-after step.MergeHorizontal = merge Columns
+after (step.MergeVertical _) = merge Rows
+after (step.MergeHorizontal _) = merge Columns
 after (step.Rotate rotate) = rearrange (rotated rotate)
 after (step.Reverse reverse) = rearrange (reversed reverse.axis reverse.start reverse.limit)
 after (step.Split how) = cut how
@@ -115,3 +115,19 @@ after_all (x ∷ xs) s = after_all xs (after x s)
 -- a table with a row and a column is the pieces of its split glued together, where all were kept
 pub record IsUndone (how : Split) (old new : State) : Type 0 where
   pub glued : how.display ≡ Retain → 0 < how.index → 0 < old.texts.rows → 0 < old.texts.columns → glued how (old.texts.rows) (old.texts.columns) new.texts ≡ old.texts
+
+-- the steps of which a step is made, in order
+abbrev pub parts : Step → List Step
+parts (step.Both' _ first _ second) = parts first ++ parts second
+parts x = x ∷ []
+
+-- steps, with each that is two taken apart
+abbrev pub flattened : List Step → List Step
+flattened [] = []
+flattened (x ∷ xs) = parts x ++ flattened xs
+
+-- a split is undone by gluing where it is made, and the steps after it lead on from there
+pub record IsUndoneMidway (how : Split) (old : State) (rest : List Step) (new : State) : Type 0 where
+  pub split : State
+  pub undone : IsUndone how old split
+  pub leads : new ≡ after_all rest split

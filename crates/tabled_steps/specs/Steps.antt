@@ -49,8 +49,8 @@ Does is_blank text_of (step.HorizontalPanel panel) = Panels text_of Rows panel.0
 Does is_blank text_of (step.VerticalPanel panel) = Panels text_of Columns panel.0 panel.1
 Does is_blank text_of (step.Header text) = Panels text_of Rows 0 text
 Does is_blank text_of (step.Footer text) = λ g. Panels text_of Rows g.rows text g
-Does is_blank text_of step.MergeVertical = Merges text_of Rows
-Does is_blank text_of step.MergeHorizontal = Merges text_of Columns
+Does is_blank text_of (step.MergeVertical _) = Merges text_of Rows
+Does is_blank text_of (step.MergeHorizontal _) = Merges text_of Columns
 Does is_blank text_of (step.Rotate rotate) = Rearranges (rotated rotate)
 Does is_blank text_of (step.Reverse reverse) = Rearranges (reversed reverse.axis reverse.start reverse.limit)
 Does is_blank text_of (step.Split split) = λ g c h d. Splits is_blank text_of split g h × (d ≡ c)
@@ -73,6 +73,8 @@ Leaves is_blank text_of (step.Charset charset select) = LeavesFirst text_of sele
 Leaves is_blank text_of (step.ColumnSpan size select) = LeavesFirst text_of select (Spans text_of Columns size) (SpansFirst text_of Columns size)
 Leaves is_blank text_of (step.RowSpan size select) = LeavesFirst text_of select (Spans text_of Rows size) (SpansFirst text_of Rows size)
 Leaves is_blank text_of (step.Both' _ first _ second) = ThenLeaves (Does is_blank text_of first) (Leaves is_blank text_of first) (Leaves is_blank text_of second)
+Leaves is_blank text_of (step.Reverse _) = λ g c h d. ⊥
+Leaves is_blank text_of (step.Extract _ _ _ _) = λ g c h d. ⊥
 Leaves is_blank text_of _ = Same
 
 -- a step that takes no memory on a table, and so is not refused
@@ -91,3 +93,12 @@ TakesNoMemory is_blank text_of _ g c = ⊥
 -- a step that takes memory is refused, and leaves what it leaves
 abbrev pub Refused : {A : Type 0} → (A → Type 0) → (A → List ℕ) → Step → Change A SpanMap
 Refused is_blank text_of step g c h d = Leaves is_blank text_of step g c h d × (TakesNoMemory is_blank text_of step g c → ⊥)
+
+-- a step does, and leaves where it is refused, just what an option does and leaves
+pub record ActsAs {A : Type 0} (is_blank : A → Type 0) (text_of : A → List ℕ) (step : Step) (does leaves : Change A SpanMap) : Type 0 where
+  pub done : (g : Grid A) (c : SpanMap) (h : Grid A) (d : SpanMap) → (Does is_blank text_of step g c h d → does g c h d) × (does g c h d → Does is_blank text_of step g c h d)
+  pub refused : (g : Grid A) (c : SpanMap) (h : Grid A) (d : SpanMap) → (Leaves is_blank text_of step g c h d → leaves g c h d) × (leaves g c h d → Leaves is_blank text_of step g c h d)
+
+-- the same of an option on each entity that is listed
+abbrev pub ActsOnEach : {A : Type 0} → (A → Type 0) → (A → List ℕ) → Step → (Grid A → List Entity → Type 0) → (Entity → Change A SpanMap) → (Entity → Change A SpanMap) → Type 0
+ActsOnEach is_blank text_of step lists does leaves = ActsAs is_blank text_of step (EachListed lists does) (SameOr (EachListedUntil lists does (λ e. SameOr (leaves e))))

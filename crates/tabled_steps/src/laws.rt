@@ -1,14 +1,14 @@
 //! Laws of steps. Each is the contract of a function that does nothing.
 
 ghost use Rattle.std.specs.Prelude.{List, ℕ, ◌≡◌};
-ghost use Rattle.tabled_grid.specs.Grid.{Grid};
+ghost use Rattle.tabled_grid.specs.Grid.{Grid, IsEven};
 ghost use Rattle.tabled_grid.specs.Spans.{SpanMap, with_sizes};
 ghost use Rattle.tabled_grid.specs.declared.records.axis.Axis.{Axis};
 ghost use Rattle.tabled_options.specs.Does.{Each, OptionKeeps};
 ghost use Rattle.tabled_spans.specs.Runs.{MergesRuns};
 ghost use Rattle.tabled_steps.specs.Fitting.{KeepsFitting};
 ghost use Rattle.tabled_steps.specs.MergedRuns.{runs};
-ghost use Rattle.tabled_steps.specs.States.{after, after_all, state_of};
+ghost use Rattle.tabled_steps.specs.States.{State, after, after_all, state_of};
 ghost use Rattle.tabled_steps.specs.Steps.{Does};
 ghost use Rattle.tabled_steps.specs.declared.step.Step.{Step};
 
@@ -26,6 +26,12 @@ where
     R::Cell: CellText,
     ensures one { (step : Step) (g : Grid R.Cell) (c : SpanMap) (h : Grid R.Cell) (d : SpanMap) → Does R.Cell.is_blank R.Cell.text_of step g c h d → state_of R.Cell.text_of h d ≡ after step (state_of R.Cell.text_of g c) }
     ensures all { (steps : List Step) (g : Grid R.Cell) (c : SpanMap) (h : Grid R.Cell) (d : SpanMap) → Each (Does R.Cell.is_blank R.Cell.text_of) steps g c h d → state_of R.Cell.text_of h d ≡ after_all steps (state_of R.Cell.text_of g c) }
+{}
+
+/// The formulas of steps keep a table even: as many texts in each row as there are columns.
+pub fn formulas_keep_tables_even()
+    ensures one { (step : Step) (s : State) → IsEven s.texts → IsEven (after step s).texts }
+    ensures all { (steps : List Step) (s : State) → IsEven s.texts → IsEven (after_all steps s).texts }
 {}
 
 /// The runs that the formula of a merge lists are the longest ones of two or more cells next to each other

@@ -2,6 +2,7 @@
 #![tactic(auto)]
 
 pub mod laws;
+mod reached;
 mod select;
 mod step;
 mod steps;

@@ -2,8 +2,10 @@
 
 ghost use Rattle.std.specs.Prelude.{◌≡◌, IfOk};
 ghost use Rattle.tabled_grid.specs.Grid.{map_grid};
+ghost use Rattle.tabled_steps.specs.Reached.{IsReached, StandsIn, runs_of};
 ghost use Rattle.tabled_steps.specs.Selected.{selected};
 
+use crate::reached::{Reached, reached_columns, reached_rows, reached_segment};
 use std::alloc::{AllocError, Global};
 use std::vec;
 use tabled_grid::config::Entity;
@@ -61,6 +63,45 @@ pub enum Select {
 }
 
 impl Select {
+    /// The entities that are named in a store, in order, those without a cell in it counted.
+    ///
+    /// Its work grows with the cells of the store, and not with what is named outside.
+    pub(crate) fn reached<R>(&self, alloc: Global, records: &R) -> Result<Reached, AllocError>
+    where
+        R: Records + ExactRecords + PeekableRecords,
+        R::Cell: CellText,
+        requires { R.is_well_formed records.now }
+        ensures { IfOk result (λ reached. IsReached (R.grid records.now).rows (R.grid records.now).columns (selected (map_grid R.Cell.text_of (R.grid records.now)) self.now) (runs_of reached)) }
+    {
+        match self {
+            Select::Rows(a, b) => reached_rows(alloc, records, *a, *b),
+            Select::Columns(a, b) => reached_columns(alloc, records, *a, *b),
+            Select::Segment(a, b, c, d) => reached_segment(alloc, records, (*a, *b), (*c, *d)),
+            Select::And(x, y) => {
+                let lhs = EntityList(x.reached(alloc, records)?.into_entities(alloc)?);
+                let rhs = EntityList(y.reached(alloc, records)?.into_entities(alloc)?);
+                Ok(Reached::Each(entities(alloc, &lhs.and(rhs), records)?))
+            }
+            Select::Not(x, y) => {
+                let lhs = EntityList(x.reached(alloc, records)?.into_entities(alloc)?);
+                let rhs = EntityList(y.reached(alloc, records)?.into_entities(alloc)?);
+                Ok(Reached::Each(entities(alloc, &lhs.not(rhs), records)?))
+            }
+            Select::Intersect(x, y) => {
+                let lhs = EntityList(x.reached(alloc, records)?.into_entities(alloc)?);
+                let rhs = EntityList(y.reached(alloc, records)?.into_entities(alloc)?);
+                Ok(Reached::Each(entities(alloc, &lhs.intersect(rhs), records)?))
+            }
+            Select::Inverse(x) => {
+                let named = EntityList(x.reached(alloc, records)?.into_entities(alloc)?);
+                Ok(Reached::Each(entities(alloc, &named.inverse(), records)?))
+            }
+            Select::Skip(n, x) => x.reached(alloc, records)?.skip(alloc, records, *n),
+            Select::StepBy(n, x) => x.reached(alloc, records)?.step_by(alloc, records, *n),
+            _ => Ok(Reached::Each(self.list(alloc, records)?)),
+        }
+    }
+
     /// The entities that are named in a store, in order.
     ///
     /// A combination lists its parts first, so its work grows with the cells and entities of both.
@@ -134,5 +175,26 @@ where
 
     fn cells(&self, alloc: Global, records: &R) -> Result<vec::IntoIter<Entity>, AllocError> {
         Ok(self.list(alloc, records)?.into_iter())
+    }
+}
+
+/// Names for each run of entities that a selector names the one that stands for it.
+#[derive(Debug, Drop)]
+pub(crate) struct StandIns(pub(crate) Select);
+
+impl<R> Object<R> for StandIns
+where
+    R: Records + ExactRecords + PeekableRecords,
+    R::Cell: CellText,
+{
+    type Iter = vec::IntoIter<Entity>;
+
+    ghost lists = { λ s. StandsIn R.Cell.text_of s.0 };
+
+    ghost can_list = { λ _. Unit {0} };
+
+    fn cells(&self, alloc: Global, records: &R) -> Result<vec::IntoIter<Entity>, AllocError> {
+        let reached = self.0.reached(alloc, records)?;
+        Ok(reached.into_entities(alloc)?.into_iter())
     }
 }

@@ -4,7 +4,7 @@ ghost use Rattle.std.specs.Prelude.{◌≡◌, IsOk, OnErr, OnOk};
 ghost use Rattle.tabled_steps.specs.Steps.{Does, Leaves, TakesNoMemory};
 ghost use Rattle.std.proofs.Common.{rules};
 
-use crate::select::Select;
+use crate::select::{Select, StandIns};
 use std::alloc::{AllocError, Global};
 use tabled_grid::config::{Entity, SpannedConfig};
 use tabled_grid::records::{
@@ -21,7 +21,7 @@ use tabled_settings::formatting::Charset;
 use tabled_settings::reverse::Reverse;
 use tabled_settings::rotate::Rotate;
 use tabled_settings::split::Split;
-use tabled_spans::merge::Merge;
+use tabled_spans::merge::{MergeDuplicatesHorizontal, MergeDuplicatesVertical};
 use tabled_spans::panel::{Footer, Header, HorizontalPanel, VerticalPanel};
 use tabled_spans::span::Span;
 
@@ -48,9 +48,9 @@ pub enum Step {
     Header(Header),
     Footer(Footer),
     /// Merges equal neighbours in columns.
-    MergeVertical,
+    MergeVertical(MergeDuplicatesVertical),
     /// Merges equal neighbours in rows.
-    MergeHorizontal,
+    MergeHorizontal(MergeDuplicatesHorizontal),
     Rotate(Rotate),
     Reverse(Reverse),
     Split(Split),
@@ -86,26 +86,32 @@ impl Step {
     {
         match self {
             Step::Set(select, text) => {
-                Modify::list(select, text).change(alloc, records, cfg, dimension)
+                Modify::list(StandIns(select), text).change(alloc, records, cfg, dimension)
             }
             Step::Dup(destination, source) => {
-                Dup::new(destination, source).change(alloc, records, cfg, dimension)
+                Dup::new(StandIns(destination), StandIns(source)).change(
+                    alloc, records, cfg, dimension,
+                )
             }
             Step::Charset(charset, select) => {
-                Modify::list(select, charset).change(alloc, records, cfg, dimension)
+                Modify::list(StandIns(select), charset).change(alloc, records, cfg, dimension)
             }
             Step::ColumnSpan(size, select) => {
-                Modify::list(select, Span::column(size)).change(alloc, records, cfg, dimension)
+                Modify::list(StandIns(select), Span::column(size)).change(
+                    alloc, records, cfg, dimension,
+                )
             }
             Step::RowSpan(size, select) => {
-                Modify::list(select, Span::row(size)).change(alloc, records, cfg, dimension)
+                Modify::list(StandIns(select), Span::row(size)).change(
+                    alloc, records, cfg, dimension,
+                )
             }
             Step::HorizontalPanel(panel) => panel.change(alloc, records, cfg, dimension),
             Step::VerticalPanel(panel) => panel.change(alloc, records, cfg, dimension),
             Step::Header(header) => header.change(alloc, records, cfg, dimension),
             Step::Footer(footer) => footer.change(alloc, records, cfg, dimension),
-            Step::MergeVertical => Merge::vertical().change(alloc, records, cfg, dimension),
-            Step::MergeHorizontal => Merge::horizontal().change(alloc, records, cfg, dimension),
+            Step::MergeVertical(merge) => merge.change(alloc, records, cfg, dimension),
+            Step::MergeHorizontal(merge) => merge.change(alloc, records, cfg, dimension),
             Step::Rotate(rotate) => rotate.change(alloc, records, cfg, dimension),
             Step::Reverse(reverse) => reverse.change(alloc, records, cfg, dimension),
             Step::Split(split) => split.change(alloc, records, cfg, dimension),

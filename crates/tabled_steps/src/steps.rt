@@ -1,12 +1,12 @@
 //! Lists of steps.
 
-ghost use Rattle.std.specs.Prelude.{◌≡◌, ◌<◌, ◌∷◌, ◌++◌, [], IfErr, List, OnOk, length};
+ghost use Rattle.std.specs.Prelude.{◌≡◌, ◌<◌, ◌∷◌, ◌++◌, IfErr, List, OnOk, length};
 ghost use Rattle.std.specs.List.{AllByRecursion};
 ghost use Rattle.tabled_grid.specs.Rectangles.{Fits};
 ghost use Rattle.tabled_options.specs.Does.{Each, EachUntilAt};
 ghost use Rattle.tabled_settings.specs.declared.split.Split.{Split};
 ghost use Rattle.tabled_steps.specs.Fitting.{KeepsFitting};
-ghost use Rattle.tabled_steps.specs.States.{IsUndone, after_all, state_of};
+ghost use Rattle.tabled_steps.specs.States.{IsUndoneMidway, after_all, flattened, state_of};
 ghost use Rattle.tabled_steps.specs.Steps.{Does, Refused};
 ghost use Rattle.tabled_steps.specs.declared.step.Step.{Step};
 ghost use Rattle.tabled_steps.specs.declared.step.Step.TheVariants as step;
@@ -28,8 +28,8 @@ use tabled_options::TableOption;
 ///   leaves. No step is refused that takes no memory.
 /// - Where each step writes texts, puts in a panel, merges equal neighbours or spans at least one cell,
 ///   merged cells that lay inside the table and apart do so after it, done or refused.
-/// - Where the last step is a split that keeps all pieces, and these have a cell, the table before it, if
-///   it has a row and a column, is its pieces, glued together.
+/// - Where a step, or a part of one, is a split that keeps all pieces, and these have a cell, the table before
+///   it, if it has a row and a column, is its pieces, glued together.
 ///
 /// Of this project.
 pub fn run<R>(
@@ -48,7 +48,7 @@ where
     ensures index { IfErr result (λ refused. refused.0 < length steps.items) }
     ensures err { IfErr result (λ refused. EachUntilAt (Does R.Cell.is_blank R.Cell.text_of) (Refused R.Cell.is_blank R.Cell.text_of) steps.items refused.0 (R.grid records.old) cfg.old (R.grid records.new) cfg.new) }
     ensures fitting { AllByRecursion KeepsFitting steps.items → Fits cfg.old ((R.grid records.old).rows) ((R.grid records.old).columns) → Fits cfg.new ((R.grid records.new).rows) ((R.grid records.new).columns) }
-    ensures glued { OnOk result ((first : List Step) (last : Split) → steps.items ≡ first ++ step.Split last ∷ [] → IsUndone last (after_all first (state_of R.Cell.text_of (R.grid records.old) cfg.old)) (state_of R.Cell.text_of (R.grid records.new) cfg.new)) }
+    ensures glued { OnOk result ((first rest : List Step) (split : Split) → flattened steps.items ≡ first ++ step.Split split ∷ rest → IsUndoneMidway split (after_all first (state_of R.Cell.text_of (R.grid records.old) cfg.old)) rest (state_of R.Cell.text_of (R.grid records.new) cfg.new)) }
 {
     // A count of rows promises that they are equally long.
     let _ = records.count_rows();

@@ -49,7 +49,7 @@ where
         Step::Set(Select::FirstRow, text),
         Step::ColumnSpan(2, Select::All),
         Step::Header(Panel::header(title)),
-        Step::MergeVertical,
+        Step::MergeVertical(Merge::vertical()),
     ]?;
     let many = steps.len();
     match run(alloc, records, cfg, steps) {

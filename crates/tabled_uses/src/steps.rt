@@ -5,6 +5,7 @@ use tabled_grid::config::SpannedConfig;
 use tabled_grid::records::{
     CellText, ExactRecords, PeekableRecords, Records, RecordsMut, Resizable,
 };
+use tabled_settings::merge::Merge;
 use tabled_settings::rotate::Rotate;
 use tabled_settings::span::Span;
 use tabled_settings::split::Split;
@@ -14,7 +15,6 @@ use tabled_table::{Table, TextRef};
 /// Merges cells of a table, and puts panels in.
 pub fn merges(alloc: Global, table: &mut Table) -> Result<(), AllocError> {
     use tabled_select::object::{Cell, Columns, Rows};
-    use tabled_settings::merge::Merge;
     use tabled_settings::panel::Panel;
 
     table.modify(alloc, Cell::new(0, 0), Span::column(2))?;
@@ -46,7 +46,7 @@ where
         Box::new(alloc, Step::Rotate(Rotate::Left))?,
         Box::new(alloc, Step::Split(Split::column(2)))?,
     );
-    let steps = vec![in alloc; first, both, Step::MergeVertical]?;
+    let steps = vec![in alloc; first, both, Step::MergeVertical(Merge::vertical())]?;
     let many = steps.len();
     match run(alloc, records, cfg, steps) {
         Ok(()) => Ok(many),

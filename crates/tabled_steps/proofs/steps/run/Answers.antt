@@ -1,7 +1,7 @@
 use Rattle.std.proofs.lemmas.Result.{on_ok_weaker}
 use Rattle.tabled_grid.proofs.Grids.{IsEven-map_grid}
 use Rattle.tabled_steps.proofs.AfterSteps.{after_each}
-use Rattle.tabled_steps.proofs.EvenStates.{glued_last}
+use Rattle.tabled_steps.proofs.EvenStates.{undone_midway}
 use Rattle.tabled_steps.proofs.Fitting.{steps_kept}
 use Rattle.tabled_steps.specs.States.{state_of}
 use Rattle.tabled_steps.proofs.steps.run.Goals as goal
@@ -17,6 +17,4 @@ returns-clause-glued g c =
     let text_of = g.R.Cell.CellText.text_of in
     let grid = g.R.GridStore.grid in
     let even = IsEven-map_grid text_of (grid c.args.records.now) c.count_rows.ensures.even in
-    on_ok_weaker c.run_each.result (λ does first last are. record {
-      glued = λ retained index rows columns. glued_last first last (state_of text_of (grid c.args.records.now) c.args.cfg.now) (state_of text_of (grid c.run_each.new.records) c.run_each.new.cfg) even retained index rows columns (rw are at (after_each text_of g.R.Cell.Blank.is_blank c.args.steps.items (grid c.args.records.now) c.args.cfg.now (grid c.run_each.new.records) c.run_each.new.cfg does));
-    }) c.run_each.ensures.ok
+    on_ok_weaker c.run_each.result (λ does first rest split are. undone_midway c.args.steps.items first rest split (state_of text_of (grid c.args.records.now) c.args.cfg.now) (state_of text_of (grid c.run_each.new.records) c.run_each.new.cfg) even are (after_each text_of g.R.Cell.Blank.is_blank c.args.steps.items (grid c.args.records.now) c.args.cfg.now (grid c.run_each.new.records) c.run_each.new.cfg does)) c.run_each.ensures.ok

@@ -1,0 +1,122 @@
+-- What options do and leave on an entity depends on the places that it names.
+use Rattle.std.proofs.Common.{◌≡◌, ℕ, zero, suc, ℤ, pos, negsuc, ◌<ℤ◌, ◌⊎◌, inl, inr, Bool, true, false, cond, None, Option, List, [], refl, sym, ap, subst, ◌∙◌, take}
+use Rattle.std.specs.FinMap.{get, same_map}
+use Rattle.std.proofs.lemmas.Bool.{cases_Bool}
+use Rattle.tabled_grid.specs.Axis.{count_of}
+use Rattle.tabled_grid.specs.Entity.{inside}
+use Rattle.tabled_grid.specs.Grid.{Grid, map_grid}
+use Rattle.tabled_grid.specs.Rectangles.{drop_hidden, is_hidden, is_visible}
+use Rattle.tabled_grid.specs.Spans.{SpanMap, position_cmp}
+use Rattle.tabled_grid.specs.declared.config.entity.Entity.{Entity}
+use Rattle.tabled_grid.specs.declared.config.position.Position.{Position}
+use Rattle.tabled_grid.specs.declared.records.axis.Axis.{Axis}
+use Rattle.tabled_grid.proofs.SpanMaps.{get-drop_hidden, hidden-from, hidden_by, kept}
+use Rattle.tabled_grid.proofs.Spans.{positions_exact, positions_total}
+use Rattle.tabled_options.specs.Does.{Change}
+use Rattle.tabled_options.specs.Writes.{DoesFirstWrites, DoesWrites, FirstWrites, Write, at_each, text_writes, with_writes}
+use Rattle.tabled_options.proofs.Shapes.{shape_texts}
+use Rattle.tabled_settings.specs.Charsets.{charset_writes, is_set, mapped_writes, recoded}
+use Rattle.tabled_spans.specs.Spanned.{Spans, SpansFirst, back_of, grown_each, pull_writes, pulled_each, span_writes, spanned}
+use Rattle.tabled_steps.proofs.StandIns.{IsLocal}
+
+-- writes on an entity that depend on the places alone that it names, and are none where it names none
+pub record AreLocal (writes : Entity → Grid (List ℕ) → List Write) : Type 0 where
+  pub alike : (e f : Entity) (g : Grid (List ℕ)) → inside e g.rows g.columns ≡ inside f g.rows g.columns → writes e g ≡ writes f g
+  pub none : (e : Entity) (g : Grid (List ℕ)) → inside e g.rows g.columns ≡ [] → writes e g ≡ []
+
+pub local_text : (text : List ℕ) → AreLocal (text_writes text)
+local_text text = record { alike = λ e f g same. ap (at_each text) same; none = λ e g none. ap (at_each text) none }
+
+pub local_charset : (charset : Bool × Option ℕ) → AreLocal (charset_writes charset)
+local_charset charset = record {
+  alike = λ e f g same. ap (λ ps. cond (is_set charset) (mapped_writes (recoded charset) g ps) []) same;
+  none = λ e g none. ap (λ ps. cond (is_set charset) (mapped_writes (recoded charset) g ps) []) none ∙ either g (is_set charset);
+}
+  where
+    either : (g : Grid (List ℕ)) (b : Bool) → cond b (mapped_writes (recoded charset) g []) [] ≡ []
+    either g true = refl
+    either g false = refl
+
+module _ {A : Type 0} (text_of : A → List ℕ) where
+  -- writes of texts
+  pub local_writes : (writes : Entity → Grid (List ℕ) → List Write) → AreLocal writes → IsLocal (λ e. DoesWrites {A = A} {C = SpanMap} text_of (writes e)) (λ e. DoesFirstWrites text_of (writes e))
+  local_writes writes local = record {
+    rows = λ e g c h d w. (shape_texts text_of (writes e (map_grid text_of g)) g h c d w.0 w.1).0;
+    columns = λ e g c h d w. (shape_texts text_of (writes e (map_grid text_of g)) g h c d w.0 w.1).1;
+    alike = λ e f g c h d same w. (w.0 ∙ ap (λ ws. with_writes ws (map_grid text_of g)) (sym (local.alike e f (map_grid text_of g) same)), w.1);
+    again = λ e g c h d none w. (
+      (let shape = shape_texts text_of (writes e (map_grid text_of g)) g h c d w.0 w.1 in
+          let there : inside e h.rows h.columns ≡ [] = rw (shape.0, shape.1) none in
+          ap (λ ws. with_writes ws (map_grid text_of h)) (sym (local.none e (map_grid text_of h) there))),
+      refl,
+    );
+    left_alike = λ e f g c h d same w. (subst (λ ws. FirstWrites ws (map_grid text_of g) (map_grid text_of h)) (sym (local.alike e f (map_grid text_of g) same)) w.0, w.1);
+  }
+
+local_span_writes : (axis : Axis) (size : ℤ) → AreLocal (span_writes axis size)
+local_span_writes axis (pos (suc size)) = record { alike = λ e f g same. refl; none = λ e g none. refl }
+local_span_writes axis (pos zero) = record { alike = λ e f g same. ap (λ ps. pull_writes axis None (count_of axis g.rows g.columns) ps g) same; none = λ e g none. ap (λ ps. pull_writes axis None (count_of axis g.rows g.columns) ps g) none }
+local_span_writes axis (negsuc n) = record { alike = λ e f g same. ap (λ ps. pull_writes axis (back_of (negsuc n)) (count_of axis g.rows g.columns) ps g) same; none = λ e g none. ap (λ ps. pull_writes axis (back_of (negsuc n)) (count_of axis g.rows g.columns) ps g) none }
+
+-- what is hidden once hidden anchors were dropped was hidden before
+hidden_before : (m : SpanMap) (p : Position) → is_hidden (drop_hidden m) p ≡ true → is_hidden m p ≡ true
+hidden_before m p hidden =
+    let by = hidden_by (drop_hidden m) p hidden in
+    hidden-from m by.anchor p by.size (kept m by.anchor by.size by.has).had by.holds by.other
+
+-- hidden anchors that were dropped are dropped no more
+dropped_once : (m : SpanMap) → drop_hidden (drop_hidden m) ≡ drop_hidden m
+dropped_once m = same_map positions_total positions_exact (drop_hidden (drop_hidden m)) (drop_hidden m) (λ q. get-drop_hidden (drop_hidden m) q ∙ by q (cases_Bool (is_hidden (drop_hidden m) q)))
+  where
+    by : (q : Position) → (is_hidden (drop_hidden m) q ≡ true) ⊎ (is_hidden (drop_hidden m) q ≡ false) → cond (is_visible (drop_hidden m) q) (get (drop_hidden m) q) None ≡ get (drop_hidden m) q
+    by q (inr shown) = rw shown refl
+    by q (inl hidden) =
+        let before = hidden_before m q hidden in
+        let gone : get (drop_hidden m) q ≡ None = get-drop_hidden m q ∙ (rw before refl) in
+        rw hidden (sym gone)
+
+spanned_alike : (axis : Axis) (size : ℤ) (e f : Entity) (rows columns : ℕ) (m : SpanMap) → inside e rows columns ≡ inside f rows columns → spanned axis size e rows columns m ≡ spanned axis size f rows columns m
+spanned_alike axis (pos (suc size)) e f rows columns m same = ap (λ ps. drop_hidden (grown_each axis (suc size) (count_of axis rows columns) m ps)) same
+spanned_alike axis (pos zero) e f rows columns m same = ap (λ ps. drop_hidden (pulled_each axis None (count_of axis rows columns) m ps)) same
+spanned_alike axis (negsuc n) e f rows columns m same = ap (λ ps. drop_hidden (pulled_each axis (back_of (negsuc n)) (count_of axis rows columns) m ps)) same
+
+spanned_none : (axis : Axis) (size : ℤ) (e : Entity) (rows columns : ℕ) (m : SpanMap) → inside e rows columns ≡ [] → spanned axis size e rows columns m ≡ drop_hidden m
+spanned_none axis (pos (suc size)) e rows columns m none = ap (λ ps. drop_hidden (grown_each axis (suc size) (count_of axis rows columns) m ps)) none
+spanned_none axis (pos zero) e rows columns m none = ap (λ ps. drop_hidden (pulled_each axis None (count_of axis rows columns) m ps)) none
+spanned_none axis (negsuc n) e rows columns m none = ap (λ ps. drop_hidden (pulled_each axis (back_of (negsuc n)) (count_of axis rows columns) m ps)) none
+
+-- spans
+module _ {A : Type 0} (text_of : A → List ℕ) (axis : Axis) (size : ℤ) where
+  writes_local : AreLocal (span_writes axis size)
+  writes_local = local_span_writes axis size
+
+  shaped : (e : Entity) (g : Grid A) (c : SpanMap) (h : Grid A) (d : SpanMap) → Spans text_of axis size e g c h d → (h.rows ≡ g.rows) × (h.columns ≡ g.columns) × (c ≡ c)
+  shaped e g c h d w = shape_texts text_of (span_writes axis size e (map_grid text_of g)) g h c c w.texts refl
+
+  left_alike : (e f : Entity) (g : Grid A) (c : SpanMap) (h : Grid A) (d : SpanMap) → inside e g.rows g.columns ≡ inside f g.rows g.columns → SpansFirst text_of axis size f g c h d → SpansFirst text_of axis size e g c h d
+  left_alike e f g c h d same (inl none) = inl none
+  left_alike e f g c h d same (inr first) = inr (subst (λ ws. FirstWrites ws (map_grid text_of g) (map_grid text_of h)) (sym (writes_local.alike e f (map_grid text_of g) same)) first.0, first.1)
+
+  again : (e : Entity) (g : Grid A) (c : SpanMap) (h : Grid A) (d : SpanMap) → inside e g.rows g.columns ≡ [] → Spans text_of axis size e g c h d → Spans text_of axis size e h d h d
+  again e g c h d none w =
+      let shape = shaped e g c h d w in
+      let there : inside e h.rows h.columns ≡ [] = rw (shape.0, shape.1) none in
+      let dropped : d ≡ drop_hidden c = w.spans ∙ spanned_none axis size e g.rows g.columns c none in
+      record {
+        texts = ap (λ ws. with_writes ws (map_grid text_of h)) (sym (writes_local.none e (map_grid text_of h) there));
+        cells = λ grows. refl;
+        spans = dropped ∙ sym (dropped_once c) ∙ ap drop_hidden (sym dropped) ∙ sym (spanned_none axis size e h.rows h.columns d there);
+      }
+
+  pub local_spans : IsLocal (Spans text_of axis size) (SpansFirst text_of axis size)
+  local_spans = record {
+    rows = λ e g c h d w. (shaped e g c h d w).0;
+    columns = λ e g c h d w. (shaped e g c h d w).1;
+    alike = λ e f g c h d same w. record {
+      texts = w.texts ∙ ap (λ ws. with_writes ws (map_grid text_of g)) (sym (writes_local.alike e f (map_grid text_of g) same));
+      cells = w.cells;
+      spans = w.spans ∙ sym (spanned_alike axis size e f g.rows g.columns c same);
+    };
+    again = again;
+    left_alike = left_alike;
+  }
