@@ -1,8 +1,8 @@
 -- What adapters give, told by what the iterators inside them gave.
-use Rattle.std.proofs.Common.{rules, ◌≡◌, ℕ, zero, suc, ◌+◌, ◌<◌, ◌≤◌, Bool, true, false, List, [], ◌∷◌, ◌++◌, Option, None, Some, refl, sym, ap, subst, ◌∙◌, length, drop, arith}
+use Rattle.std.proofs.Common.{rules, ◌≡◌, ℕ, ◌+◌, ◌<◌, ◌≤◌, Bool, true, false, List, [], ◌∷◌, ◌++◌, Option, None, Some, refl, sym, ap, subst, ◌∙◌, length, drop, arith}
 use Rattle.std.specs.Prelude.{◌&&◌, ltb}
 use Rattle.std.proofs.lemmas.Bool.{and_parts, ltb-true}
-use Rattle.std.proofs.lemmas.List.{drop_all, nil_from_length}
+use Rattle.std.proofs.lemmas.List.{drop_all}
 use Rattle.std.proofs.lemmas.List.Elements.{All-drop, All-from_recursion, recursion_from_All}
 use Rattle.std.proofs.Math.Seq.{drop-append_seam}
 use Rattle.std.specs.Iterator.{DrainsIf, HoldsAlong, Yields}
@@ -21,7 +21,7 @@ module _ {S A : Type 0} (next_gives : S → Option A → S → Type 0) where
   pub so_far : (xs : List A) (s t : S) → Yields next_gives s xs t → DrainsIf next_gives (false ≡ true) s xs
   so_far xs s t ran = (t, ran, λ e. not_ended e t)
 
-  ran-append : (xs ys : List A) (s t u : S) → Yields next_gives s xs t → Yields next_gives t ys u → Yields next_gives s (xs ++ ys) u
+  pub ran-append : (xs ys : List A) (s t u : S) → Yields next_gives s xs t → Yields next_gives t ys u → Yields next_gives s (xs ++ ys) u
   ran-append [] ys s t u a b = subst (λ k. Yields next_gives k ys u) (sym a) b
   ran-append (x ∷ xs) ys s t u a b = (a.0, a.1, ran-append xs ys a.0 t u a.2 b)
 

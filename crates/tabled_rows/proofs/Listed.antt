@@ -5,7 +5,7 @@ use Rattle.std.specs.Prelude.{replicate}
 use Rattle.std.specs.Slice.Iter.{iter_rest, iter_steps}
 use Rattle.std.specs.declared.iter.RepeatN.{RepeatN}
 use Rattle.std.proofs.lemmas.Option.{get_or_from_slice_get, slice_get_within}
-use Rattle.std.proofs.Common.{rules, Iter, ◌≡◌, ℕ, zero, suc, ◌+◌, ◌-◌, ◌<◌, ◌≤◌, List, [], ◌∷◌, ◌++◌, Option, None, Some, refl, sym, ap, ap₂, subst, ◌∙◌, map, length, take, drop, arith}
+use Rattle.std.proofs.Common.{Iter, ◌≡◌, ℕ, zero, suc, ◌+◌, ◌<◌, List, [], ◌∷◌, Option, None, Some, refl, sym, ap, ap₂, subst, ◌∙◌, map, length, take, drop, arith}
 use Rattle.std.proofs.lemmas.List.{drop_all, drop_more, length-drop, nil_from_length}
 use Rattle.std.specs.Iterator.{Count, Yields, at_most, count_min}
 use Rattle.std.specs.Iterator.Adapters.{repeat_n_count, repeat_n_item, repeat_n_steps, skip_count, skip_source, skip_steps, take_count, take_source, take_steps}

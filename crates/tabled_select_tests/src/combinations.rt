@@ -41,27 +41,45 @@ fn combines_places(rt: HostRuntime) {
 
 #[test]
 fn combines_rows_and_columns(rt: HostRuntime) {
-    let row = Rows::one(1);
-    for (shape, want) in [
-        ((3, 3), ["1:0 1:1 1:2 0:1 2:1", "1:0 1:2", "1:1"]),
-        ((2, 1), ["1:0", "1:0", ""]),
+    let alloc = rt.alloc();
+    let (row, column) = (Rows::one(1), Columns::one(1));
+    for (shape, want, turned) in [
+        (
+            (3, 3),
+            ["1:0 1:1 1:2 0:1 2:1", "1:0 1:2", "1:1"],
+            ["0:1 1:1 2:1 1:0 1:2", "0:1 2:1", "1:1"],
+        ),
+        ((2, 1), ["1:0", "1:0", ""], ["1:0", "", ""]),
     ] {
-        assert!(rt; combine(rt.alloc(), row, Columns::one(1), shape, want));
+        assert!(rt; combine(alloc, row, column, shape, want));
+        assert!(rt; combine(alloc, column, row, shape, turned));
     }
-    let whole = ["0:0 0:1 1:0 1:1", "0:0 0:1", "1:0 1:1"];
-    assert!(rt; combine(rt.alloc(), Segment::all(), row, (2, 2), whole));
+    let whole = ["0:0 0:1 0:2 1:0 1:1 1:2", "0:0 0:1 0:2", "1:0 1:1 1:2"];
+    assert!(rt; combine(alloc, Segment::all(), row, (2, 3), whole));
+    let first = ["0:0 0:1 0:2", "0:1 0:2", "0:0"];
+    assert!(rt; combine(alloc, Rows::first(), Cell::new(0, 0), (2, 3), first));
 }
 
 #[test]
 fn inverts(rt: HostRuntime) {
+    let alloc = rt.alloc();
     for (row, shape, want) in [
         (0, (2, 3), "1:0 1:1 1:2"),
         (2, (2, 1), "0:0 1:0"),
         (0, (0, 0), ""),
     ] {
-        assert!(rt; names(rt.alloc(), Rows::one(row).inverse(), shape, want));
+        assert!(rt; names(alloc, Rows::one(row).inverse(), shape, want));
     }
-    assert!(rt; names(rt.alloc(), Segment::all().inverse(), (2, 3), ""));
+    assert!(rt; names(alloc, Rows::first().inverse(), (2, 3), "1:0 1:1 1:2"));
+    assert!(rt;
+        names(
+            alloc,
+            Cell::new(0, 0).inverse(),
+            (2, 3),
+            "0:1 0:2 1:0 1:1 1:2"
+        )
+    );
+    assert!(rt; names(alloc, Segment::all().inverse(), (2, 3), ""));
 }
 
 const REPEATS: [Entity; 4] = [Row(0), Row(0), At(5, 5), Entity::Global];

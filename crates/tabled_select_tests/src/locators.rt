@@ -5,7 +5,8 @@ use std::alloc::{AllocError, Global};
 use std::cell::Cell;
 use tabled_grid::config::{Entity, Position};
 use tabled_grid::records::{ExactRecords, Records, RecordsMut, Resizable, Text, VecRecords};
-use tabled_select::location::{Location, Locator, coordinates};
+use tabled_rows::records::EmptyRecords;
+use tabled_select::location::{Location, Locator, coordinates, marks};
 use tabled_select::object::{Columns, Object, Rows, Segment, entities};
 
 type Store = VecRecords<Text<String>>;
@@ -203,6 +204,37 @@ fn locates_rows_and_columns(rt: HostRuntime) {
         assert!(rt; locates(alloc, Rows::one(7), shape, &[7]));
         assert!(rt; locates(alloc, Columns::one(7), shape, &[7]));
     }
+}
+
+/// Whether these are the marks of what a location finds below a count.
+fn marked<L>(alloc: Global, mut location: L, count: usize, want: &[bool]) -> bool
+where
+    L: Location<EmptyRecords, Coordinate = usize> + Drop,
+    <L::IntoIter as IntoIterator>::IntoIter: Drop,
+    requires { L.can_locate location }
+{
+    match marks(alloc, &mut location, &EmptyRecords::new(3, 3), count) {
+        Ok(marks) => marks.as_slice() == want,
+        Err(_) => false,
+    }
+}
+
+#[test]
+fn marks_rows_and_columns_of_any_range(rt: HostRuntime) {
+    let alloc = rt.alloc();
+    let cases: [(usize, usize, usize, &[bool]); 5] = [
+        (1, 3, 3, &[false, true, true]),
+        (0, usize::MAX, 2, &[true, true]),
+        (2, usize::MAX, 4, &[false, false, true, true]),
+        (7, usize::MAX, 2, &[false, false]),
+        (0, usize::MAX, 0, &[]),
+    ];
+    for (start, end, count, want) in cases {
+        assert!(rt; marked(alloc, Rows::new(start..end), count, want));
+        assert!(rt; marked(alloc, Columns::new(start..end), count, want));
+    }
+    assert!(rt; marked(alloc, Rows::last(), 3, &[false, false, true]));
+    assert!(rt; marked(alloc, Columns::one(usize::MAX), 2, &[false, false]));
 }
 
 /// Whether a location finds these places in a table of a shape.

@@ -26,6 +26,7 @@ fn names_ranges(rt: HostRuntime) {
         (Included(2), Unbounded, (2, 3), "", "c2"),
         (Included(2), Excluded(3), (2, 3), "r2", "c2"),
         (Included(0), Excluded(1), (2, 3), "r0", "c0"),
+        (Included(1), Excluded(2), (2, 3), "r1", "c1"),
         (
             Included(1),
             Included(4),
@@ -46,16 +47,20 @@ fn names_ranges(rt: HostRuntime) {
 #[test]
 fn names_rows_from_either_end(rt: HostRuntime) {
     let alloc = rt.alloc();
-    for (n, rows, after_first, before_last, after_last) in [
-        (0, 5, "r0", "r4", "r4"),
-        (1, 5, "r1", "r3", "r5"),
-        (4, 5, "r4", "r0", "r8"),
-        (5, 5, "r5", "", "r9"),
-        (0, 100, "r0", "r99", "r99"),
-        (usize::MAX, 5, "r18446744073709551615", "", ""),
-        (1, 0, "r1", "", ""),
+    for (n, shape, after_first, before_last, after_last) in [
+        (0, (5, 2), "r0", "r4", "r4"),
+        (1, (5, 2), "r1", "r3", "r5"),
+        (2, (5, 2), "r2", "r2", "r6"),
+        (3, (5, 2), "r3", "r1", "r7"),
+        (4, (5, 2), "r4", "r0", "r8"),
+        (5, (5, 2), "r5", "", "r9"),
+        (100, (5, 2), "r100", "", "r104"),
+        (usize::MAX, (5, 2), "r18446744073709551615", "", ""),
+        (0, (100, 2), "r0", "r99", "r99"),
+        (1, (0, 0), "r1", "", ""),
+        (1, (0, 2), "r1", "", ""),
+        (1, (5, 0), "r1", "", ""),
     ] {
-        let shape = (rows, 2);
         assert!(rt; names(alloc, Rows::first() + n, shape, after_first));
         assert!(rt; names(alloc, Rows::last() - n, shape, before_last));
         assert!(rt; names(alloc, Rows::last() + n, shape, after_last));
@@ -65,16 +70,21 @@ fn names_rows_from_either_end(rt: HostRuntime) {
 #[test]
 fn names_columns_from_either_end(rt: HostRuntime) {
     let alloc = rt.alloc();
-    for (n, columns, after_first, before_last, after_last) in [
-        (0, 5, "c0", "c4", "c4"),
-        (1, 5, "c1", "c3", "c5"),
-        (4, 5, "c4", "c0", "c8"),
-        (5, 5, "c5", "", "c9"),
-        (0, 29, "c0", "c28", "c28"),
-        (usize::MAX, 5, "c18446744073709551615", "", ""),
-        (1, 0, "c1", "", ""),
+    for (n, shape, after_first, before_last, after_last) in [
+        (0, (5, 2), "c0", "c1", "c1"),
+        (1, (5, 2), "c1", "c0", "c2"),
+        (2, (5, 2), "c2", "", "c3"),
+        (100, (5, 2), "c100", "", "c101"),
+        (0, (2, 5), "c0", "c4", "c4"),
+        (1, (2, 5), "c1", "c3", "c5"),
+        (4, (2, 5), "c4", "c0", "c8"),
+        (5, (2, 5), "c5", "", "c9"),
+        (usize::MAX, (2, 5), "c18446744073709551615", "", ""),
+        (0, (5, 29), "c0", "c28", "c28"),
+        (1, (0, 0), "c1", "", ""),
+        (1, (2, 0), "c1", "", ""),
+        (1, (0, 5), "c1", "", ""),
     ] {
-        let shape = (2, columns);
         assert!(rt; names(alloc, Columns::first() + n, shape, after_first));
         assert!(rt; names(alloc, Columns::last() - n, shape, before_last));
         assert!(rt; names(alloc, Columns::last() + n, shape, after_last));
@@ -88,6 +98,7 @@ fn names_one_row_or_column(rt: HostRuntime) {
         ((5, 2), "r0", "r4", "c0", "c1"),
         ((0, 0), "", "", "", ""),
         ((5, 0), "", "", "", ""),
+        ((0, 5), "", "", "", ""),
     ] {
         assert!(rt; names(alloc, Rows::first(), shape, first_row));
         assert!(rt; names(alloc, Rows::last(), shape, last_row));
@@ -116,16 +127,21 @@ fn names_the_frame(rt: HostRuntime) {
 
 #[test]
 fn names_blocks(rt: HostRuntime) {
-    let (all, some) = ((Unbounded, Unbounded), (Included(1), Unbounded));
-    let (none, one) = ((Included(5), Unbounded), (Included(1), Excluded(2)));
+    let (all, from_1) = ((Unbounded, Unbounded), (Included(1), Unbounded));
+    let (from_2, from_3) = ((Included(2), Unbounded), (Included(3), Unbounded));
+    let (from_5, one) = ((Included(5), Unbounded), (Included(1), Excluded(2)));
     for (rows, columns, want) in [
         (all, all, "0:0 0:1 0:2 1:0 1:1 1:2"),
-        (some, all, "1:0 1:1 1:2"),
-        (all, some, "0:1 0:2 1:1 1:2"),
-        (some, some, "1:1 1:2"),
+        (from_1, all, "1:0 1:1 1:2"),
+        (from_2, all, ""),
+        (all, from_1, "0:1 0:2 1:1 1:2"),
+        (all, from_2, "0:2 1:2"),
+        (all, from_3, ""),
+        (from_1, from_1, "1:1 1:2"),
         (one, one, "1:1"),
-        (none, all, ""),
-        (all, none, ""),
+        (from_5, all, ""),
+        (all, from_5, ""),
+        (from_5, from_5, ""),
         (one, (Included(2), Excluded(4)), "1:2 1:3"),
     ] {
         let block = Segment::new(rows, columns);

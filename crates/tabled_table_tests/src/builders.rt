@@ -8,22 +8,33 @@ use tabled_grid::records::Text;
 use tabled_table::Table;
 use tabled_table::builder::Builder;
 
-/// Records padded with `-`, and then one padded with nothing.
+/// Records padded with `-`.
 fn padded(alloc: Global) -> Result<Builder, AllocError> {
     let mut padded = builder(alloc, &[])?;
     padded.set_empty(String::from_str(alloc, "-")?);
     for words in ["a b", "c", "d e f"] {
         padded.push_record(alloc, texts(alloc, words)?)?;
     }
+    Ok(padded)
+}
+
+/// The same, and then a record padded with nothing.
+fn padded_twice(alloc: Global) -> Result<Builder, AllocError> {
+    let mut padded = padded(alloc)?;
     padded.set_empty(String::new(alloc));
     padded.insert_record(alloc, 0, Vec::new(alloc))?;
     Ok(padded)
 }
 
-/// The records that a call makes of others, given words, where `-` is the empty text.
-fn after(alloc: Global, records: &[&str], call: Call, words: &str) -> Result<Builder, AllocError> {
+/// The records that a call makes of others, given words, where this is the empty text.
+fn after(
+    alloc: Global,
+    (records, empty): (&[&str], &str),
+    call: Call,
+    words: &str,
+) -> Result<Builder, AllocError> {
     let mut builder = builder(alloc, records)?;
-    builder.set_empty(String::from_str(alloc, "-")?);
+    builder.set_empty(String::from_str(alloc, empty)?);
     call.make(alloc, &mut builder, texts(alloc, words)?)?;
     Ok(builder)
 }
@@ -31,6 +42,7 @@ fn after(alloc: Global, records: &[&str], call: Call, words: &str) -> Result<Bui
 #[test]
 fn inserts_texts(rt: HostRuntime) {
     let alloc = rt.alloc();
+    let two = ["a b", "c _"];
     for (call, words, columns, want) in [
         (Call::PushRecord, "x", 2, "a b /c _ /x - /"),
         (Call::ExtendRecord, "x y z", 3, "a b - /c _ - /x y z /"),
@@ -43,14 +55,7 @@ fn inserts_texts(rt: HostRuntime) {
         (Call::InsertColumn(1), "x y z", 3, "a x b /c y _ /"),
         (Call::InsertColumn(2), "", 3, "a b - /c _ - /"),
     ] {
-        assert!(rt;
-            holds(
-                alloc,
-                after(alloc, &["a b", "c _"], call, words),
-                columns,
-                want
-            )
-        );
+        assert!(rt; holds(alloc, after(alloc, (&two, "-"), call, words), columns, want));
     }
     for (call, words, columns, want) in [
         (Call::PushRecord, "x y", 2, "x y /"),
@@ -58,9 +63,23 @@ fn inserts_texts(rt: HostRuntime) {
         (Call::PushColumn, "", 1, ""),
         (Call::InsertColumn(0), "x y", 1, ""),
     ] {
-        assert!(rt; holds(alloc, after(alloc, &[], call, words), columns, want));
+        assert!(rt; holds(alloc, after(alloc, (&[], "-"), call, words), columns, want));
     }
-    assert!(rt; holds(alloc, padded(alloc), 3, "_ _ _ /a b - /c - - /d e f /"));
+    for (call, words, want) in [
+        (Call::PushColumn, "x y z", "a x /b y /_ z /"),
+        (Call::InsertColumn(0), "p", "p a /_ b /"),
+        (Call::InsertColumn(0), "p q r", "p a /q b /"),
+    ] {
+        assert!(rt; holds(alloc, after(alloc, (&["a", "b"], ""), call, words), 2, want));
+    }
+    assert!(rt;
+        holds(
+            alloc,
+            padded_twice(alloc),
+            3,
+            "_ _ _ /a b - /c - - /d e f /"
+        )
+    );
 }
 
 #[test]
@@ -166,14 +185,38 @@ fn shows(table: &Table, pos: Position, text: &str) -> bool {
         && spans.get_row_span(pos).is_none()
 }
 
+/// Whether a builder makes a table of these rows, without spans.
+fn builds(alloc: Global, builder: Builder, rows: &[[&str; 3]]) -> Result<bool, AllocError> {
+    let table = builder.build(alloc)?;
+    let mut same = table.shape() == (rows.len(), 3);
+    for (row, texts) in rows.iter().enumerate() {
+        for (col, text) in texts.iter().enumerate() {
+            same = same && shows(&table, Position::new(row, col), *text);
+        }
+    }
+    Ok(same)
+}
+
+/// A builder of these records.
+fn of_records(alloc: Global, records: &[[&str; 3]]) -> Result<Builder, AllocError> {
+    let mut builder = Builder::new(alloc);
+    for record in records {
+        let mut texts = Vec::new(alloc);
+        for text in record {
+            texts.push(String::from_str(alloc, *text)?)?;
+        }
+        builder.push_record(alloc, texts)?;
+    }
+    Ok(builder)
+}
+
 #[test]
 fn builds_tables(rt: HostRuntime) -> Result<(), Fail> {
     let alloc = rt.alloc();
-    let table = builder(alloc, &["C Ritchie 1972", "Go Pike 2009"])?.build(alloc)?;
-    assert!(rt; table.shape() == (2, 3));
-    for (row, col, text) in [(0, 0, "C"), (0, 1, "Ritchie"), (1, 0, "Go"), (1, 2, "2009")] {
-        assert!(rt; shows(&table, Position::new(row, col), text));
-    }
+    let languages = [["C", "Dennis Ritchie", "1972"], ["Go", "Rob Pike", "2009"]];
+    assert!(rt; builds(alloc, of_records(alloc, &languages)?, &languages)?);
+    let filled = [["a", "b", "-"], ["c", "-", "-"], ["d", "e", "f"]];
+    assert!(rt; builds(alloc, padded(alloc)?, &filled)?);
     let declared = Builder::with_capacity(alloc, 2, 3)?;
     assert_eq!(rt; declared.build(alloc)?.shape(), (0, 0));
     Ok(())

@@ -19,7 +19,7 @@ impl Turn {
     fn make(self, alloc: Global, index: IndexBuilder) -> Result<IndexBuilder, AllocError> {
         match self {
             Turn::Hide => Ok(index.hide()),
-            Turn::Name => Ok(index.name(Some(String::from_str(alloc, "n")?))),
+            Turn::Name => Ok(index.name(Some(String::from_str(alloc, "index")?))),
             Turn::Unname => Ok(index.name(None)),
             Turn::Column(column) => index.column(alloc, column),
             Turn::Transpose => index.transpose(alloc),
@@ -69,7 +69,7 @@ fn indexes_records(rt: HostRuntime) {
             three.as_slice(),
             [Column(1), Name],
             3,
-            "_ i b /n _ _ /v 0 w /x 2 y /",
+            "_ i b /index _ _ /v 0 w /x 2 y /",
         ),
         (
             three.as_slice(),
@@ -107,11 +107,17 @@ fn indexes_records(rt: HostRuntime) {
             4,
             "column-1 value-1 value-4 value-7 /i 0 1 2 /column-2 value-2 value-5 value-8 /column-3 value-3 value-6 value-9 /",
         ),
+        (
+            ["i column1 column2", "0 value1 value2"].as_slice(),
+            [Column(1), Name],
+            3,
+            "_ i column2 /index _ _ /value1 0 value2 /",
+        ),
         (["h", "v"].as_slice(), [Column(0), Hide], 0, "//"),
         (["a b"].as_slice(), [Transpose, Hide], 0, "///"),
         ([""].as_slice(), [Keep, Keep], 0, ""),
         ([""].as_slice(), [Name, Hide], 0, "/"),
-        ([""].as_slice(), [Name, Keep], 1, "_ /n /"),
+        ([""].as_slice(), [Name, Keep], 1, "_ /index /"),
     ] {
         assert!(rt; holds(alloc, indexed(alloc, records, turns), columns, want));
     }

@@ -1,4 +1,4 @@
-//! Rows of cells: lent, limited, skipped and read ahead.
+//! Rows of cells: lent, limited, skipped, read ahead, and made as they are asked for.
 
 use crate::stores::cell;
 use std::alloc::{AllocError, Global};
@@ -86,6 +86,21 @@ fn lent(alloc: Global, store: &VecRecords<Text<String>>) -> Result<String, Alloc
     for row in store.iter_rows() {
         for cell in row {
             spell(&mut spelled, cell.text())?;
+        }
+        spelled.push('|')?;
+    }
+    Ok(spelled)
+}
+
+/// The words of a text's lines, of which the first `skip` are passed over and no more than `limit` are given.
+///
+/// A line is found, and its words are lent, only when they are asked for.
+fn lines(alloc: Global, text: &str, skip: usize, limit: usize) -> Result<String, AllocError> {
+    let words = IterRows::new(text.lines().map(|line: &str| line.split_whitespace()));
+    let mut spelled = String::new(alloc);
+    for row in LimitRows::new(SkipRows::new(words, skip), limit).iter_rows() {
+        for word in row {
+            spell(&mut spelled, word)?;
         }
         spelled.push('|')?;
     }
@@ -193,5 +208,20 @@ fn has_a_text_of_either_kind(rt: HostRuntime) -> Result<(), Fail> {
     let owned: EitherString<&str> = EitherString::Owned(String::from_str(rt.alloc(), "own")?);
     assert_eq!(rt; owned.as_str(), "own");
     assert_eq!(rt; EitherString::Some("lent").as_str(), "lent");
+    Ok(())
+}
+
+#[test]
+fn goes_through_rows_made_as_they_are_asked_for(rt: HostRuntime) -> Result<(), Fail> {
+    for (skip, limit, want) in [
+        (0, 9, "[a][b][c]|[d]||[e][f]|"),
+        (1, 2, "[d]||"),
+        (3, 2, "[e][f]|"),
+        (4, 2, ""),
+        (0, 0, ""),
+    ] {
+        let given = lines(rt.alloc(), "a b c\nd\n\ne f", skip, limit)?;
+        assert_eq!(rt; given.as_str(), want, "{skip} {limit}");
+    }
     Ok(())
 }

@@ -1,7 +1,11 @@
 //! A source whose first rows are read ahead.
 
-ghost use Rattle.std.specs.Prelude.{◌≡◌, ◌++◌, List, IfOk};
+ghost use Rattle.std.specs.Prelude.{◌≡◌, ◌⊎◌, ◌++◌, Bool, false, true, List, IfOk};
+ghost use Rattle.std.specs.Iterator.{DrainsIf, HoldsAlong, IsFinite, count_unless};
+ghost use Rattle.std.specs.Iterator.Adapters.{fuse_done, fuse_source, fuse_steps};
+ghost use Rattle.std.specs.List.{All, AllZip};
 ghost use Rattle.tabled_grid.specs.Grid.{map_items};
+ghost use Rattle.tabled_rows.specs.Gave.{FollowsBuffer, Gave, MayBeAsked};
 ghost use Rattle.tabled_rows.specs.Listed.{GoesOver, ListsEachOnce};
 ghost use Rattle.tabled_rows.specs.Rows.{Shows, all_shown, first_rows};
 
@@ -47,15 +51,18 @@ impl<S: IntoRecords> BufRecords<S, <S::IterRows as IntoIterator>::IntoIter, S::C
 where
     S::Cell: Drop,
 {
-    /// Reads the first `n` rows of a source into a buffer, or all where there are fewer.
+    /// Reads the first `n` rows of a source into a buffer, or all where there are fewer. Whatever comes after
+    /// them, the source gave the rows that were read, and then that.
     ///
     /// Refused for memory, it drops the source and what was read.
     ///
     /// Ported from `tabled::grid::records::into_records::BufRecords::new`.
     pub fn new(alloc: Global, records: S, n: usize) -> Result<Self, AllocError>
-        requires { (rows : List (List S.Shown)) × S.gives records rows }
+        requires { S.may_be_asked records ⊎ ((rows : List (List S.Shown)) × S.gives records rows) }
         ensures buffered { (rows : List (List S.Shown)) → S.gives records rows → IfOk result (λ ahead. all_shown S.shown ahead.0 ≡ first_rows n rows) }
         ensures same { (rows : List (List S.Shown)) → S.gives records rows → IfOk result (λ ahead. ⟦<BufRecords<S, <S::IterRows as IntoIterator>::IntoIter, S::Cell> as IntoRecords>⟧.gives ahead rows) }
+        ensures asked { IfOk result (λ ahead. ⟦<BufRecords<S, <S::IterRows as IntoIterator>::IntoIter, S::Cell> as IntoRecords>⟧.may_be_asked ahead) }
+        ensures came { IfOk result (λ ahead. (read : List S.IterColumns) × AllZip (λ row cells. Gave S.IterColumns.into_iter_gives S.IterColumns.IntoIter.next_gives row cells true) read ahead.0 × ((others : List S.IterColumns) (ended : Bool) → DrainsIf (fuse_steps S.IterRows.IntoIter.next_gives) (ended ≡ true) ahead.1 others → S.may_give records (read ++ others) ended)) }
     {
         let mut rows = records.iter_rows().into_iter().fuse();
         let mut buffer = Vec::new(alloc);
@@ -89,6 +96,10 @@ where
     ghost shown = { S.shown };
 
     ghost gives = { λ s rows. (others : List (List S.Shown)) × ListsEachOnce S.IterRows.IntoIter.can_next S.IterRows.IntoIter.next_gives S.IterRows.IntoIter.remaining (GoesOver S.IterColumns.into_iter_gives S.IterColumns.IntoIter.can_next S.IterColumns.IntoIter.next_gives S.IterColumns.IntoIter.remaining (Shows S.shown)) s.1 others × (rows ≡ all_shown S.shown s.0 ++ others) };
+
+    ghost may_be_asked = { λ s. (fuse_done s.1 ≡ false → S.IterRows.IntoIter.can_next (fuse_source s.1)) × IsFinite (count_unless (fuse_done s.1) (S.IterRows.IntoIter.remaining (fuse_source s.1))) × HoldsAlong (fuse_steps S.IterRows.IntoIter.next_gives) s.1 (All (MayBeAsked S.IterColumns.into_iter_gives S.IterColumns.IntoIter.can_next S.IterColumns.IntoIter.remaining)) };
+
+    ghost may_give = { λ s rows ended. (others : List S.IterColumns) × DrainsIf (fuse_steps S.IterRows.IntoIter.next_gives) (ended ≡ true) s.1 others × FollowsBuffer S.IterColumns.into_iter_gives s.0 others rows ended };
 
     fn iter_rows(self) -> BufRecordsIter<Fuse<<S::IterRows as IntoIterator>::IntoIter>, S::Cell> {
         let BufRecords { buffer, rows, .. } = self;

@@ -1,38 +1,60 @@
 use mathlib.Core.Bool.{true≢false}
-use Rattle.std.proofs.Common.{List, [], ◌++◌, arith, refl, sym, ap, ◌∙◌}
+use Rattle.std.proofs.Common.{[], ◌++◌, inl, inr, arith, refl, sym, ap, ◌∙◌}
+use Rattle.std.proofs.lemmas.List.{map_push}
+use Rattle.std.specs.Global.{Vec}
 use Rattle.std.specs.Iterator.Adapters.{fuse_steps}
 use Rattle.tabled_grid.specs.Grid.{map_items}
-use Rattle.tabled_rows.specs.Rows.{all_shown}
-use Rattle.tabled_rows.proofs.Buffered.{can-read, first-read, gives-fuse, gives-fused, gives-unread, read-row}
+use Rattle.tabled_rows.specs.Gave.{EachMayBeAsked, MayBeAsked}
+use Rattle.tabled_rows.specs.Rows.{Shows, all_shown}
+use Rattle.tabled_rows.proofs.Buffered.{first-read, gives-fuse, gives-fused, gives-unread, read-row}
+use Rattle.tabled_rows.proofs.GaveBuffered.{listed-asked, next-asked, none-asked, none-came, others-asked, others-came, read-more}
 use Rattle.tabled_rows.proofs.Listed.{gives-ended}
 use Rattle.tabled_rows.proofs.records.buf_records.BufRecords+S+S+IterRows+IntoIterator+IntoIter+S+Cell.new.Goals.{else-loop-alloc-test, then-loop-alloc-test+in_default}
 use Rattle.tabled_rows.proofs.records.buf_records.BufRecords+S+S+IterRows+IntoIterator+IntoIter+S+Cell.new.Goals as goal
 
 pub loop-alloc-init : goal.loop-alloc-init
 loop-alloc-init g c =
-    let some = c.iter_rows.ensures.given c.requires.0 c.requires.1 c.into_iter.result c.into_iter.ensures.into_iter_gives in (
+    let row = g.S.IterColumns.IntoIterator.into_iter_gives in
+    let cell = g.S.IterColumns.IntoIter.Iterator in
+    let rows = g.S.IterRows.IntoIter.Iterator in
+    let becomes = g.S.IterRows.IntoIterator.into_iter_gives in
+    let each : EachMayBeAsked becomes rows.can_next rows.remaining rows.next_gives (MayBeAsked row cell.can_next cell.remaining) c.iter_rows.result = elim c.requires [
+      | inl may ↦ c.iter_rows.ensures.asked may
+      | inr some ↦ listed-asked becomes rows.can_next rows.next_gives rows.remaining row cell.can_next cell.next_gives cell.remaining (Shows g.S.IntoRecords.shown) c.iter_rows.result some.0 (c.iter_rows.ensures.given some.0 some.1)
+    ] in
+    let asked = each c.into_iter.result c.into_iter.ensures.into_iter_gives in (
       c.fuse-rows.ensures.done,
-      rw c.fuse-rows.ensures.source some.can,
-      rw c.fuse-rows.ensures.source some.ends,
+      rw c.fuse-rows.ensures.source asked.0,
+      rw c.fuse-rows.ensures.source asked.1,
       omega (arith, c.new-buffer.ensures.len),
-      λ rows given.
+      (λ rows given.
           let listed = c.iter_rows.ensures.given rows given c.into_iter.result c.into_iter.ensures.into_iter_gives in
           record {
             others = rows;
             gives = gives-fuse g.S.IterRows.IntoIter.Iterator.next_gives _ rows c.fuse-rows.result c.fuse-rows.ensures.done (rw c.fuse-rows.ensures.source listed.gives);
             are = rw c.new-buffer.ensures.items refl;
-          },
+          }),
+      record {
+        source = c.iter_rows.result;
+        start = c.into_iter.result;
+        is = c.into_iter.ensures.into_iter_gives;
+        came = c.iter_rows.ensures.came;
+        along = asked.2;
+        read = [];
+        ran = sym c.fuse-rows.ensures.source;
+        gave = rw c.new-buffer.ensures.items tt;
+      },
     )
 
 pub collect-requires-clause-can : goal.collect-requires-clause-can
 collect-requires-clause-can g c =
-    let cell = g.S.IterColumns.IntoIter.Iterator in
-    (can-read (fuse_steps g.S.IterRows.IntoIter.Iterator.next_gives) g.S.IterColumns.IntoIterator.into_iter_gives cell.can_next cell.next_gives cell.remaining g.S.IntoRecords.shown _ _ _ _ _ _ (c.loop-alloc.invariant.4 c.requires.0 c.requires.1) c.in-Some.ensures.steps c.into_iter-in-loop-alloc.ensures.into_iter_gives).0
+    let inv = c.loop-alloc.invariant in
+    (next-asked g.S.IterRows.IntoIterator.into_iter_gives g.S.IterRows.IntoIter.Iterator.next_gives _ _ _ _ _ _ _ _ inv.5 (rw inv.0 at c.in-Some.ensures.steps.0) _ c.into_iter-in-loop-alloc.ensures.into_iter_gives).0
 
 pub collect-requires-clause-finite : goal.collect-requires-clause-finite
 collect-requires-clause-finite g c =
-    let cell = g.S.IterColumns.IntoIter.Iterator in
-    (can-read (fuse_steps g.S.IterRows.IntoIter.Iterator.next_gives) g.S.IterColumns.IntoIterator.into_iter_gives cell.can_next cell.next_gives cell.remaining g.S.IntoRecords.shown _ _ _ _ _ _ (c.loop-alloc.invariant.4 c.requires.0 c.requires.1) c.in-Some.ensures.steps c.into_iter-in-loop-alloc.ensures.into_iter_gives).1
+    let inv = c.loop-alloc.invariant in
+    (next-asked g.S.IterRows.IntoIterator.into_iter_gives g.S.IterRows.IntoIter.Iterator.next_gives _ _ _ _ _ _ _ _ inv.5 (rw inv.0 at c.in-Some.ensures.steps.0) _ c.into_iter-in-loop-alloc.ensures.into_iter_gives).1
 
 pub loop-alloc-preserved : goal.loop-alloc-preserved
 loop-alloc-preserved g c =
@@ -44,7 +66,8 @@ loop-alloc-preserved g c =
       c.in-Some.ensures.goes.keeps on,
       rw on at (c.in-Some.ensures.goes.on (rw inv.0 inv.2)).1,
       omega (arith, c.in_ok-push.ensures.len, c.loop-alloc-test.true, c.len.ensures),
-      λ rows given. rw c.in_ok-push.ensures.items (read-row (fuse_steps g.S.IterRows.IntoIter.Iterator.next_gives) g.S.IterColumns.IntoIterator.into_iter_gives cell.can_next cell.next_gives cell.remaining g.S.IntoRecords.shown _ _ _ _ _ _ _ _ _ ran.0 (inv.4 rows given) c.in-Some.ensures.steps c.into_iter-in-loop-alloc.ensures.into_iter_gives ran.1.1 (ran.1.2 tt).1 ran.2.0),
+      (λ rows given. rw c.in_ok-push.ensures.items (read-row (fuse_steps g.S.IterRows.IntoIter.Iterator.next_gives) g.S.IterColumns.IntoIterator.into_iter_gives cell.can_next cell.next_gives cell.remaining g.S.IntoRecords.shown _ _ _ _ _ _ _ _ _ ran.0 (inv.4 rows given) c.in-Some.ensures.steps c.into_iter-in-loop-alloc.ensures.into_iter_gives ran.1.1 (ran.1.2 tt).1 ran.2.0)),
+      rw (c.in_ok-push.ensures.items, map_push (λ (row : Vec g.row.S-Cell.Denot). row.items) c.loop-alloc.buffer.items c.in_ok-collect.field-0) (read-more _ _ _ _ _ _ _ _ _ c.in-Some.row c.in_ok-collect.field-0.items inv.5 (rw inv.0 at c.in-Some.ensures.steps.0) (c.into_iter-in-loop-alloc.result, c.into_iter-in-loop-alloc.ensures.into_iter_gives, rw ran.2.0 (ran.1.0, ran.1.1, λ e. ran.1.2 tt))),
     )
 
 pub returns-clause-buffered : goal.returns-clause-buffered
@@ -86,3 +109,24 @@ returns-clause-same g c =
         ahead.are ∙ ap (λ others. all_shown g.S.IntoRecords.shown (map_items c.loop-alloc.buffer.items) ++ others) (gives-ended (fuse_steps next) _ ahead.others _ _ ahead.gives w.in_default.ensures.steps),
       )
     ]
+
+pub returns-clause-asked : goal.returns-clause-asked
+returns-clause-asked g c =
+    let inv = c.loop-alloc.invariant in
+    elim c.loop-alloc-test.branch [
+      | else-loop-alloc-test w ↦ rw w.rows-is ((λ on. inv.1), rw inv.0 inv.2, others-asked _ _ _ _ _ _ _ _ inv.5 inv.0)
+      | then-loop-alloc-test+in_default w ↦
+          let over = w.in_default.ensures.steps.1 in
+          rw w.rows-is ((λ on. absurd (true≢false (sym over ∙ on))), rw over tt, none-asked g.S.IterRows.IntoIterator.into_iter_gives g.S.IterRows.IntoIter.Iterator.next_gives (MayBeAsked g.S.IterColumns.IntoIterator.into_iter_gives g.S.IterColumns.IntoIter.Iterator.can_next g.S.IterColumns.IntoIter.Iterator.remaining) g.S.IterColumns.IntoIterator.into_iter_gives g.S.IterColumns.IntoIter.Iterator.next_gives (g.S.IntoRecords.may_give c.args.records) _ over)
+    ]
+
+pub returns-clause-came : goal.returns-clause-came
+returns-clause-came g c =
+    let inv = c.loop-alloc.invariant in (
+      inv.5.read,
+      inv.5.gave,
+      elim c.loop-alloc-test.branch [
+        | else-loop-alloc-test w ↦ rw w.rows-is (others-came _ _ _ _ _ _ _ _ inv.5 inv.0)
+        | then-loop-alloc-test+in_default w ↦ rw w.rows-is (none-came _ _ _ _ _ _ c.loop-alloc.rows _ _ inv.5 inv.0 w.in_default.ensures.steps)
+      ],
+    )

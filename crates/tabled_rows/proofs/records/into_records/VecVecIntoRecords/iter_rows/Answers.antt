@@ -1,4 +1,4 @@
-use Rattle.std.proofs.Common.{refl, sym, subst, map, map-id}
+use Rattle.std.proofs.Common.{refl, subst, map-id}
 use Rattle.std.specs.Vec.Iter.{into_iter_steps}
 use Rattle.tabled_rows.specs.Listed.{GivesEach}
 use Rattle.tabled_rows.proofs.Listed.{gives-vec}

@@ -1,4 +1,3 @@
-use Rattle.std.proofs.Common.{refl}
 use Rattle.std.specs.Iterator.Adapters.{take_steps}
 use Rattle.tabled_rows.specs.Gave.{MayBeAsked}
 use Rattle.tabled_rows.proofs.Gave.{taken-along, taken-gave}

@@ -1,4 +1,4 @@
-use Rattle.std.proofs.Common.{◌≡◌, ◌∙◌, true, ap, drop, refl, subst}
+use Rattle.std.proofs.Common.{◌≡◌, ◌∙◌, true, ap, drop, subst}
 use Rattle.std.specs.Iterator.{DrainsIf}
 use Rattle.std.specs.Iterator.Adapters.{skip_count, skip_source, skip_steps}
 use Rattle.tabled_rows.specs.Gave.{MayBeAsked}
