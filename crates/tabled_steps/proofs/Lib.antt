@@ -1,3 +1,4 @@
+pub mod Acts
 pub mod AfterSteps
 pub mod EvenStates
 pub mod Fitting

@@ -1,18 +1,17 @@
 -- What options do and leave on an entity depends on the places that it names.
-use Rattle.std.proofs.Common.{◌≡◌, ℕ, zero, suc, ℤ, pos, negsuc, ◌<ℤ◌, ◌⊎◌, inl, inr, Bool, true, false, cond, None, Option, List, [], refl, sym, ap, subst, ◌∙◌, take}
+use Rattle.std.proofs.Common.{◌≡◌, ℕ, zero, suc, ℤ, pos, negsuc, ◌⊎◌, inl, inr, Bool, true, false, cond, None, Option, List, [], refl, sym, ap, subst, ◌∙◌}
 use Rattle.std.specs.FinMap.{get, same_map}
 use Rattle.std.proofs.lemmas.Bool.{cases_Bool}
 use Rattle.tabled_grid.specs.Axis.{count_of}
 use Rattle.tabled_grid.specs.Entity.{inside}
 use Rattle.tabled_grid.specs.Grid.{Grid, map_grid}
 use Rattle.tabled_grid.specs.Rectangles.{drop_hidden, is_hidden, is_visible}
-use Rattle.tabled_grid.specs.Spans.{SpanMap, position_cmp}
+use Rattle.tabled_grid.specs.Spans.{SpanMap}
 use Rattle.tabled_grid.specs.declared.config.entity.Entity.{Entity}
 use Rattle.tabled_grid.specs.declared.config.position.Position.{Position}
 use Rattle.tabled_grid.specs.declared.records.axis.Axis.{Axis}
 use Rattle.tabled_grid.proofs.SpanMaps.{get-drop_hidden, hidden-from, hidden_by, kept}
 use Rattle.tabled_grid.proofs.Spans.{positions_exact, positions_total}
-use Rattle.tabled_options.specs.Does.{Change}
 use Rattle.tabled_options.specs.Writes.{DoesFirstWrites, DoesWrites, FirstWrites, Write, at_each, text_writes, with_writes}
 use Rattle.tabled_options.proofs.Shapes.{shape_texts}
 use Rattle.tabled_settings.specs.Charsets.{charset_writes, is_set, mapped_writes, recoded}

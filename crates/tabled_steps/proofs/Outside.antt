@@ -1,7 +1,7 @@
 -- Runs that stand for the rows, the columns or the cells of a range.
 use Rattle.std.proofs.Common.{◌≡◌, ℕ, zero, suc, ◌+◌, ◌-◌, ◌*◌, ◌^◌, ◌<◌, ◌≤◌, ◌⊎◌, inl, inr, List, [], ◌∷◌, ◌++◌, refl, sym, ap, ap₂, subst, ◌∙◌, map, max, min, length, length-append, arith, replicate}
 use Rattle.std.proofs.Math.Nat.{suc-mul}
-use Rattle.std.proofs.lemmas.Bool.{cases_lt, eq-eqb, ne_eqb}
+use Rattle.std.proofs.lemmas.Bool.{cases_lt, ne_eqb}
 use Rattle.std.proofs.lemmas.Grind.{flat_map-append}
 use Rattle.std.proofs.lemmas.List.{append-nil, append_assoc, map-append}
 use Rattle.std.specs.List.{AllByRecursion, flat_map, range_with_len}
@@ -12,7 +12,7 @@ use Rattle.tabled_grid.specs.declared.config.position.Position.{Position}
 use Rattle.tabled_grid.proofs.Lists.{all-append}
 use Rattle.tabled_grid.proofs.Places.{inside-no_cell, inside-no_column, inside-no_row}
 use Rattle.tabled_select.specs.Algebra.{cells_of}
-use Rattle.tabled_steps.specs.Reached.{IsReached, IsRun, entities_of, named_places, once, row_runs, runs_outside, segment_cells, segment_runs, unrolled}
+use Rattle.tabled_steps.specs.Reached.{IsReached, IsRun, entities_of, named_places, once, row_runs, runs_outside, segment_cells, segment_runs}
 use Rattle.tabled_steps.specs.declared.reached.Run.{Run}
 
 pub range_split : (a m n : ℕ) → range_with_len a (m + n) ≡ range_with_len a m ++ range_with_len (a + m) n

@@ -1,5 +1,5 @@
 -- The places that entities name in a table, and those of what stands for them.
-use Rattle.std.proofs.Common.{◌≡◌, ℕ, zero, suc, ◌⊎◌, inl, inr, ◌≤◌, List, [], ◌∷◌, ◌++◌, refl, sym, ap, ap₂, subst, ◌∙◌, map, replicate}
+use Rattle.std.proofs.Common.{◌≡◌, ℕ, zero, suc, ◌⊎◌, inl, inr, List, [], ◌∷◌, ◌++◌, refl, sym, ap, ap₂, subst, ◌∙◌, map, replicate}
 use Rattle.std.proofs.lemmas.Grind.{flat_map-append}
 use Rattle.std.proofs.lemmas.List.{append-nil}
 use Rattle.std.specs.List.{AllByRecursion, flat_map}
@@ -8,7 +8,7 @@ use Rattle.tabled_grid.specs.Grid.{Grid, map_grid}
 use Rattle.tabled_grid.specs.Spans.{SpanMap}
 use Rattle.tabled_grid.specs.declared.config.entity.Entity.{Entity}
 use Rattle.tabled_grid.specs.declared.config.position.Position.{Position}
-use Rattle.tabled_options.specs.Writes.{FirstWrites, Write, with_writes}
+use Rattle.tabled_options.specs.Writes.{FirstWrites, with_writes}
 use Rattle.tabled_select.specs.Algebra.{cells_of, flat}
 use Rattle.tabled_select.specs.Locators.{text_at}
 use Rattle.tabled_settings.specs.Dups.{Duplicates, DuplicatesFirst, dup_writes, round_from, round_writes, rounds, source_texts}

@@ -1,13 +1,13 @@
 -- Changes for entities that stand for others are those for the others.
-use Rattle.std.proofs.Common.{◌≡◌, ℕ, zero, suc, ◌≤◌, ◌⊎◌, inl, inr, List, [], ◌∷◌, ◌++◌, Some, refl, sym, ap, subst, ◌∙◌, map, replicate, take, arith}
-use Rattle.std.specs.List.{AllByRecursion, flat_map}
+use Rattle.std.proofs.Common.{◌≡◌, ℕ, zero, suc, ◌≤◌, ◌⊎◌, inl, inr, List, [], ◌∷◌, ◌++◌, Some, refl, ap, subst, ◌∙◌, replicate, arith}
+use Rattle.std.specs.List.{AllByRecursion}
 use Rattle.tabled_grid.specs.Entity.{inside}
 use Rattle.tabled_grid.specs.Grid.{Grid, map_grid}
 use Rattle.tabled_grid.specs.Spans.{SpanMap}
 use Rattle.tabled_grid.specs.declared.config.entity.Entity.{Entity}
 use Rattle.tabled_grid.specs.declared.config.position.Position.{Position}
-use Rattle.tabled_options.specs.Does.{Change, Each, EachListed, EachListedUntil, EachUntil, EachUntilAt, Same, SameOr}
-use Rattle.tabled_steps.specs.Reached.{IsReached, IsRun, StandsIn, entities_of, named_places, unrolled}
+use Rattle.tabled_options.specs.Does.{Change, Each, EachListed, EachListedUntil, EachUntil, Same, SameOr}
+use Rattle.tabled_steps.specs.Reached.{IsRun, StandsIn, entities_of, named_places, unrolled}
 use Rattle.tabled_steps.specs.Selected.{selected}
 use Rattle.tabled_steps.specs.Steps.{LeavesFirst, Names}
 use Rattle.tabled_steps.specs.declared.reached.Run.{Run}

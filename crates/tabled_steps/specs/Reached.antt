@@ -1,5 +1,5 @@
 -- The entities that a selector names in a table, by the places inside that each names.
-use Rattle.std.specs.Prelude.{◌≡◌, ◌≤◌, ◌+◌, ◌-◌, ◌*◌, ◌^◌, ◌==◌, ◌⊎◌, if◌then◌else◌, ℕ, List, [], ◌∷◌, ◌++◌, drop, map, max, min, replicate}
+use Rattle.std.specs.Prelude.{◌≡◌, ◌≤◌, ◌-◌, ◌*◌, ◌^◌, ◌==◌, ◌⊎◌, if◌then◌else◌, ℕ, List, [], ◌∷◌, ◌++◌, drop, map, max, replicate}
 use Rattle.std.specs.List.{AllByRecursion, flat_map, range_with_len}
 use Rattle.tabled_grid.specs.Entity.{block, inside, row_places}
 use Rattle.tabled_grid.specs.declared.config.entity.Entity.{Entity}

@@ -1,6 +1,6 @@
 //! Laws of steps. Each is the contract of a function that does nothing.
 
-ghost use Rattle.std.specs.Prelude.{List, ℕ, ◌≡◌};
+ghost use Rattle.std.specs.Prelude.{Bool, List, Option, ℕ, ℤ, ◌≡◌};
 ghost use Rattle.tabled_grid.specs.Grid.{Grid, IsEven};
 ghost use Rattle.tabled_grid.specs.Spans.{SpanMap, with_sizes};
 ghost use Rattle.tabled_grid.specs.declared.records.axis.Axis.{Axis};
@@ -9,15 +9,32 @@ ghost use Rattle.tabled_spans.specs.Runs.{MergesRuns};
 ghost use Rattle.tabled_steps.specs.Fitting.{KeepsFitting};
 ghost use Rattle.tabled_steps.specs.MergedRuns.{runs};
 ghost use Rattle.tabled_steps.specs.States.{State, after, after_all, state_of};
-ghost use Rattle.tabled_steps.specs.Steps.{Does};
+ghost use Rattle.tabled_settings.specs.declared.reverse.Reverse.{Reverse};
+ghost use Rattle.tabled_settings.specs.declared.rotate.Rotate.{Rotate};
+ghost use Rattle.tabled_settings.specs.declared.split.Split.{Split};
+ghost use Rattle.tabled_spans.specs.declared.merge.MergeDuplicatesHorizontal.{MergeDuplicatesHorizontal};
+ghost use Rattle.tabled_spans.specs.declared.merge.MergeDuplicatesVertical.{MergeDuplicatesVertical};
+ghost use Rattle.tabled_steps.specs.Steps.{ActsAs, ActsOnEach, Does};
+ghost use Rattle.tabled_steps.specs.declared.select.Select.{Select};
 ghost use Rattle.tabled_steps.specs.declared.step.Step.{Step};
+ghost use Rattle.tabled_steps.specs.declared.step.Step.TheVariants as step;
 
+use crate::select::Select;
 use crate::step::Step;
 use tabled_grid::config::SpannedConfig;
 use tabled_grid::records::{
     CellText, ExactRecords, GridStore, PeekableRecords, Records, RecordsMut, Resizable,
 };
-use tabled_options::{MergedCellsFit, Property, TableOption};
+use tabled_options::{CellOption, MergedCellsFit, Property, TableOption};
+use tabled_select::object::Object;
+use tabled_settings::concat::Concat;
+use tabled_settings::formatting::Charset;
+use tabled_settings::reverse::Reverse;
+use tabled_settings::rotate::Rotate;
+use tabled_settings::split::Split;
+use tabled_spans::merge::{MergeDuplicatesHorizontal, MergeDuplicatesVertical};
+use tabled_spans::panel::{Footer, Header, HorizontalPanel, VerticalPanel};
+use tabled_spans::span::{ColumnSpan, RowSpan};
 
 /// What a step does, and what steps do one after another, is what their formulas make of texts and merged
 /// cells.
@@ -55,4 +72,33 @@ where
     R: Records + ExactRecords + PeekableRecords + RecordsMut<String> + Resizable,
     R::Cell: CellText,
     ensures { KeepsFitting _step.now → OptionKeeps ⟦<MergedCellsFit as Property<R::Cell, SpannedConfig>>⟧.holds (⟦<Step as TableOption<R, SpannedConfig, D>>⟧.does _step.now) (⟦<Step as TableOption<R, SpannedConfig, D>>⟧.leaves _step.now) }
+{}
+
+/// A step with a selector does, and refused leaves, what its option does and leaves on each entity that the
+/// selector names.
+pub fn steps_do_what_cell_options_do<R>()
+where
+    R: Records + ExactRecords + PeekableRecords + RecordsMut<String> + Resizable,
+    R::Cell: CellText,
+    ensures set { (text : _) (select : Select) → ActsOnEach R.Cell.is_blank R.Cell.text_of (step.Set select text) (⟦<Select as Object<R>>⟧.lists select) (⟦<String as CellOption<R, SpannedConfig>>⟧.does text) (⟦<String as CellOption<R, SpannedConfig>>⟧.leaves text) }
+    ensures charset { (charset : Bool × Option ℕ) (select : Select) → ActsOnEach R.Cell.is_blank R.Cell.text_of (step.Charset charset select) (⟦<Select as Object<R>>⟧.lists select) (⟦<Charset as CellOption<R, SpannedConfig>>⟧.does charset) (⟦<Charset as CellOption<R, SpannedConfig>>⟧.leaves charset) }
+    ensures column_span { (size : ℤ) (select : Select) → ActsOnEach R.Cell.is_blank R.Cell.text_of (step.ColumnSpan size select) (⟦<Select as Object<R>>⟧.lists select) (⟦<ColumnSpan as CellOption<R, SpannedConfig>>⟧.does size) (⟦<ColumnSpan as CellOption<R, SpannedConfig>>⟧.leaves size) }
+    ensures row_span { (size : ℤ) (select : Select) → ActsOnEach R.Cell.is_blank R.Cell.text_of (step.RowSpan size select) (⟦<Select as Object<R>>⟧.lists select) (⟦<RowSpan as CellOption<R, SpannedConfig>>⟧.does size) (⟦<RowSpan as CellOption<R, SpannedConfig>>⟧.leaves size) }
+{}
+
+/// A step around an option on tables does, and refused leaves, what the option does and leaves.
+pub fn steps_do_what_options_do<R, D>()
+where
+    R: Records + ExactRecords + PeekableRecords + RecordsMut<String> + Resizable,
+    R::Cell: CellText,
+    ensures horizontal_panel { (panel : ℕ × List ℕ) → ActsAs R.Cell.is_blank R.Cell.text_of (step.HorizontalPanel panel) (⟦<HorizontalPanel as TableOption<R, SpannedConfig, D>>⟧.does panel) (⟦<HorizontalPanel as TableOption<R, SpannedConfig, D>>⟧.leaves panel) }
+    ensures vertical_panel { (panel : ℕ × List ℕ) → ActsAs R.Cell.is_blank R.Cell.text_of (step.VerticalPanel panel) (⟦<VerticalPanel as TableOption<R, SpannedConfig, D>>⟧.does panel) (⟦<VerticalPanel as TableOption<R, SpannedConfig, D>>⟧.leaves panel) }
+    ensures header { (text : List ℕ) → ActsAs R.Cell.is_blank R.Cell.text_of (step.Header text) (⟦<Header as TableOption<R, SpannedConfig, D>>⟧.does text) (⟦<Header as TableOption<R, SpannedConfig, D>>⟧.leaves text) }
+    ensures footer { (text : List ℕ) → ActsAs R.Cell.is_blank R.Cell.text_of (step.Footer text) (⟦<Footer as TableOption<R, SpannedConfig, D>>⟧.does text) (⟦<Footer as TableOption<R, SpannedConfig, D>>⟧.leaves text) }
+    ensures merge_vertical { (merge : MergeDuplicatesVertical) → ActsAs R.Cell.is_blank R.Cell.text_of (step.MergeVertical merge) (⟦<MergeDuplicatesVertical as TableOption<R, SpannedConfig, D>>⟧.does merge) (⟦<MergeDuplicatesVertical as TableOption<R, SpannedConfig, D>>⟧.leaves merge) }
+    ensures merge_horizontal { (merge : MergeDuplicatesHorizontal) → ActsAs R.Cell.is_blank R.Cell.text_of (step.MergeHorizontal merge) (⟦<MergeDuplicatesHorizontal as TableOption<R, SpannedConfig, D>>⟧.does merge) (⟦<MergeDuplicatesHorizontal as TableOption<R, SpannedConfig, D>>⟧.leaves merge) }
+    ensures rotate { (rotate : Rotate) → ActsAs R.Cell.is_blank R.Cell.text_of (step.Rotate rotate) (⟦<Rotate as TableOption<R, SpannedConfig, D>>⟧.does rotate) (⟦<Rotate as TableOption<R, SpannedConfig, D>>⟧.leaves rotate) }
+    ensures reverse { (reverse : Reverse) → ActsAs R.Cell.is_blank R.Cell.text_of (step.Reverse reverse) (⟦<Reverse as TableOption<R, SpannedConfig, D>>⟧.does reverse) (⟦<Reverse as TableOption<R, SpannedConfig, D>>⟧.leaves reverse) }
+    ensures split { (split : Split) → ActsAs R.Cell.is_blank R.Cell.text_of (step.Split split) (⟦<Split as TableOption<R, SpannedConfig, D>>⟧.does split) (⟦<Split as TableOption<R, SpannedConfig, D>>⟧.leaves split) }
+    ensures concat { (concat : Axis × Grid (List ℕ) × List ℕ) → ActsAs R.Cell.is_blank R.Cell.text_of (step.Concat concat) (⟦<Concat as TableOption<R, SpannedConfig, D>>⟧.does concat) (⟦<Concat as TableOption<R, SpannedConfig, D>>⟧.leaves concat) }
 {}

@@ -1,4 +1,4 @@
-use Rattle.std.proofs.Common.{◌≡◌, ◌-◌, ◌≤◌, ◌^◌, inl, inr, ℕ, map, min, ap, sym, subst, ◌∙◌, arith}
+use Rattle.std.proofs.Common.{◌-◌, ◌≤◌, ◌^◌, inl, inr, ℕ, map, min, ap, sym, subst, ◌∙◌, arith}
 use Rattle.std.specs.declared.ops.Range.{Range}
 use Rattle.tabled_grid.specs.Entity.{block}
 use Rattle.tabled_select.specs.Algebra.{cells_of}

@@ -1,5 +1,4 @@
-use Rattle.std.proofs.Common.{◌≡◌, suc, ◌+◌, ◌-◌, ◌/◌, ◌%◌, ◌<◌, ◌≤◌, ◌∙◌, ap, sym, refl, subst, arith, rules, length, drop}
-use Rattle.tabled_steps.specs.Reached.{StepsRuns}
+use Rattle.std.proofs.Common.{◌-◌, ◌≤◌, ◌∙◌, ap, sym, refl, arith, rules, length, drop}
 use Rattle.tabled_steps.specs.declared.reached.Run.{Run}
 use Rattle.tabled_steps.proofs.RunSteps.{drop-into, drop-past, passed-into, passed-past, skipped}
 use Rattle.tabled_steps.proofs.StepsUntil.{none_left}

@@ -1,4 +1,4 @@
-use Rattle.std.proofs.Common.{◌≡◌, suc, ◌+◌, ◌-◌, ◌/◌, ◌%◌, ◌<◌, ◌≤◌, ◌∙◌, ap, sym, refl, subst, arith, rules, length, drop}
+use Rattle.std.proofs.Common.{◌≡◌, suc, ◌+◌, ◌-◌, ◌/◌, ◌%◌, ◌<◌, ◌≤◌, ◌∙◌, ap, sym, refl, subst, arith, rules, length}
 use Rattle.std.proofs.Math.Nat.{div-le_self}
 use Rattle.tabled_steps.specs.Reached.{StepsRuns}
 use Rattle.tabled_steps.specs.declared.reached.Run.{Run}

@@ -1,9 +1,8 @@
-use Rattle.std.proofs.Common.{List, ◌∙◌, ap, ap₂, sym, subst}
+use Rattle.std.proofs.Common.{List, ◌∙◌, ap, ap₂}
 use Rattle.tabled_grid.specs.declared.config.entity.Entity.{Entity}
 use Rattle.tabled_select.specs.Algebra.{cells_of, difference_of, flat, intersection_of, inversion_of, union_of}
 use Rattle.tabled_steps.proofs.Outside.{each_once}
 use Rattle.tabled_steps.proofs.StandInPlaces.{cells_alike}
-use Rattle.tabled_steps.specs.Reached.{IsReached, once}
 use Rattle.tabled_steps.proofs.select.Select.+reached.Goals as goal
 
 pub returns-in_ok-entities-in-And : goal.returns-in_ok-entities-in-And

@@ -1,0 +1,13 @@
+use Rattle.tabled_steps.specs.declared.step.Step.TheVariants as step
+use Rattle.tabled_steps.proofs.Acts.{acts}
+use Rattle.tabled_steps.proofs.laws.steps_do_what_cell_options_do.Goals as goal
+
+pub returns : goal.returns
+returns g c =
+    let text_of = g.R.Cell.CellText.text_of in
+    record {
+      set = λ text select. acts g.R.Cell.Blank.is_blank text_of (step.Set select text);
+      charset = λ charset select. acts g.R.Cell.Blank.is_blank text_of (step.Charset charset select);
+      column_span = λ size select. acts g.R.Cell.Blank.is_blank text_of (step.ColumnSpan size select);
+      row_span = λ size select. acts g.R.Cell.Blank.is_blank text_of (step.RowSpan size select);
+    }
