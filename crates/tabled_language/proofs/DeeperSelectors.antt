@@ -2,7 +2,7 @@
 use Rattle.std.proofs.Common.{◌≡◌, ℕ, suc, List, Result, Ok, Err, subst, sym}
 use Rattle.tabled_language.specs.declared.fault.ReadError.{ReadError}
 use Rattle.tabled_language.specs.declared.fault.ReadError.TheVariants.{Faulty, OutOfMemory}
-use Rattle.tabled_language.specs.Parsing.{EndsEarly, Reads}
+use Rattle.tabled_language.specs.Parsing.{Reads}
 use Rattle.tabled_language.specs.Selectors.{reads_selector, selectors}
 use Rattle.tabled_language.specs.Words.{Reading, behind, first_word, kept, reads_word, then_reads}
 use Rattle.tabled_steps.specs.Selected.{Named}

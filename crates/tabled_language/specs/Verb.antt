@@ -15,7 +15,7 @@ use Rattle.tabled_grid.specs.declared.records.piece_order.PieceOrder.TheVariants
 use Rattle.tabled_settings.specs.declared.split.Display.{Display}
 use Rattle.tabled_settings.specs.declared.split.Display.TheVariants as display
 use Rattle.tabled_spans.specs.Widths as widths
-use Rattle.tabled_steps.specs.Selected.{Named, half_open}
+use Rattle.tabled_steps.specs.Selected.{half_open}
 use Rattle.tabled_steps.specs.States.{State, cut, duplicate, join, merge, on_each, put_panel, rearrange, recode, remove_named, remove_range, set, span}
 use Rattle.tabled_language.specs.declared.fault.Fault.{Fault}
 use Rattle.tabled_language.specs.declared.fault.Fault.TheVariants.{WordCount}

@@ -1,5 +1,5 @@
 -- How the words of a line are read, from the left, and where that asks for memory.
-use Rattle.std.specs.Prelude.{ℕ, ℤ, Bool, true, false, ◌||◌, List, [], ◌∷◌, ◌==◌, if◌then◌else◌, Option, None, Some, Result, Ok, Err, is_ok}
+use Rattle.std.specs.Prelude.{ℕ, ℤ, Bool, false, ◌||◌, List, [], ◌∷◌, ◌==◌, if◌then◌else◌, Option, None, Some, Result, Ok, Err, is_ok}
 use Rattle.std.specs.Str.{bytes_eq}
 use Rattle.tabled_language.specs.declared.fault.Fault.{Fault}
 use Rattle.tabled_language.specs.declared.fault.Fault.TheVariants.{UnknownWord, WordCount, NumberRange}
