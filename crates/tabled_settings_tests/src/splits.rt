@@ -1,12 +1,56 @@
 //! Tables with their rows or columns cut into pieces.
 
 use crate::changes::{Change, makes, makes_refusing};
+use crate::tables::made_flat;
+use std::alloc::{AllocError, Global};
 use std::test::Fail;
 use tabled_settings::split::Split;
+use tabled_testing::is_word;
 
 const WIDE: &str = "a b c d e / f g h i j /";
 
 const GAPS: &str = "a _ _ d / e f _ _ /";
+
+/// Spelled rows of which each but the last of so many goes on in the next one, cut at a width.
+fn glued(alloc: Global, pieces: &str, last: usize, width: usize) -> Result<String, AllocError> {
+    let mut spelled = String::new(alloc);
+    let mut piece = 0;
+    let mut cells = 0;
+    for word in pieces.split_whitespace() {
+        if word != "/" {
+            if cells < width {
+                spelled.push_str(word)?;
+                spelled.push(' ')?;
+                cells += 1;
+            }
+        } else if piece < last {
+            piece += 1;
+        } else {
+            spelled.push_str("/ ")?;
+            piece = 0;
+            cells = 0;
+        }
+    }
+    Ok(spelled)
+}
+
+/// A table split, and its pieces glued.
+fn split_and_glued(alloc: Global, old: &str, split: Split) -> Result<String, AllocError> {
+    let pieces = made_flat(alloc, old, split)?;
+    glued(alloc, &pieces, 2, 5)
+}
+
+#[test]
+fn kept_pieces_are_glued(rt: HostRuntime) -> Result<(), Fail> {
+    let split = Split::column(2).zip().retain();
+    assert!(rt;
+        is_word(
+            split_and_glued(rt.alloc(), WIDE, split),
+            "a b c d e / f g h i j / "
+        )
+    );
+    Ok(())
+}
 
 #[test]
 fn rows_are_cut(rt: HostRuntime) -> Result<(), Fail> {

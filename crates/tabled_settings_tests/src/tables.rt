@@ -36,7 +36,8 @@ where
     Ok(words)
 }
 
-fn made_flat<O>(alloc: Global, old: &str, option: O) -> Result<String, AllocError>
+/// What it makes of one in one vector of cells.
+pub(crate) fn made_flat<O>(alloc: Global, old: &str, option: O) -> Result<String, AllocError>
 where
     O: TableOption<Flat, (), ()> + Drop,
     requires { O.can_change option }
