@@ -1,11 +1,13 @@
 """Where the original crate is known to answer otherwise (docs/DIFFERENCES.md), step by step.
 
 Each departure has a name and a predicate on the table before the step, the step's words and both answers. Where another
-line says in the original's program what is meant here, the predicate gives that line. The original has to answer it as
-ours does, and the comparison goes on behind it. Else what differs is said as narrowly as it can be.
+line, or several, say in the original's program what is meant here, the predicate gives them. The original has to answer
+them as ours does, and the comparison goes on behind them. Else what differs is said as narrowly as it can be.
 """
 
 import unicodedata
+
+from carried import spans_after
 
 PANIC = 101  # the status of the original's program where the crate panics
 
@@ -72,6 +74,19 @@ def reversed_extract(before, words, ours, theirs):
         return b"extract\t%d\t%d\t%d\t%d" % (a, max(a, b), c, max(c, d))
 
 
+def merged_cells_left(before, words, ours, theirs):
+    """Rearrangements leave merged cells where they are: they are taken away before, and set behind."""
+    spans = spans_after(before, words)
+    if spans is None or spans == before.spans:
+        return None
+    apart = [b"cspan 1 all", b"rspan 1 all"] * 2
+    sizes = [(b"cspan", width, *place) for place, (_, width) in spans.items()]
+    sizes += [(b"rspan", height, *place) for place, (height, _) in spans.items()]
+    merged = [b"%b %d cell %d %d" % it for it in sizes if it[1] > 1]
+    tabbed = lambda lines: [it.replace(b" ", b"\t") for it in lines]
+    return b"\n".join([*tabbed(apart), b"\t".join(words), *tabbed(merged)])
+
+
 def negative_span(before, words, one, other):
     """A span of size below 0 clears one column too many, counted from the first, and not what it takes: texts stay."""
     count = before.columns if words[0] == b"cspan" else before.rows
@@ -115,7 +130,8 @@ def panel_across(before, words, one):
     return len(crossing) > 0 and all(j >= state.columns + crosswise for j in crossing)
 
 
-REWRITTEN = [frame, panel_without_cells, concat_onto_nothing, removal_past_the_end, reversed_extract]
+REWRITTEN = [frame, panel_without_cells, concat_onto_nothing, removal_past_the_end, reversed_extract,
+             merged_cells_left]
 NAMED = {"texts": [negative_span, text_by_columns], "spans": [hidden_one_by_one, merge_with_spans]}
 
 
@@ -141,7 +157,7 @@ def is_step(line):
 
 def step_departures(before, line, ours, run):
     """The names of a step's departures, or None; the line that stands for it; whether that says all."""
-    names = []
+    names, step = [], line.split(b"\t")
     for _ in range(len(REWRITTEN) + 1):
         theirs = run(line)
         if theirs == ours:
@@ -154,7 +170,7 @@ def step_departures(before, line, ours, run):
                 line = other
                 break
         else:
-            more = named(before, words, State(ours[1]), State(theirs[1])) if theirs[0] == 0 else None
+            more = named(before, step, State(ours[1]), State(theirs[1])) if theirs[0] == 0 else None
             return (None if more is None else names + more), line, False
     return None, line, False
 

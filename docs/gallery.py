@@ -42,6 +42,18 @@ def spans_of(lines):
     return [tuple(map(int, line.split("\t")[1:])) for line in lines if line.startswith("span\t")]
 
 
+def merged_by(steps):
+    """The merged cells of steps that each give one cell a height or a width; none where a step does something else."""
+    sizes = {}
+    for step in steps:
+        verb, *words = step.split("\t")
+        if verb not in ("cspan", "rspan") or words[1] != "cell":
+            return []
+        place = (int(words[2]), int(words[3]))
+        sizes.setdefault(place, [1, 1])[verb == "cspan"] = int(words[0])
+    return [(*place, *size) for place, size in sizes.items()]
+
+
 def shown(text):
     """A text with its control characters made visible."""
     return "".join(chr(0x2400 + ord(it)) if ord(it) < 32 else it for it in text)
@@ -141,16 +153,20 @@ def indented(text):
 
 
 def picture(script, output):
-    """The steps of a script between its table and what becomes of it; of a faulty one all lines, and the fault."""
+    """The steps of a script, its table and what becomes of it; of a faulty one all lines, and the fault.
+
+    Where all steps but the last only merge cells, these are merged in the first table, too.
+    """
     lines, answer = script.split("\n"), output.split("\n")
     if output.startswith("line "):
         return [*map(shortened, lines[:-1]), "", "gives", "", f"    {answer[0]}"]
     steps = [it for it in lines if it and it.split("\t")[0] != "row"]
-    spans = spans_of(answer)
-    after = drawn(rows_of(answer), spans, spans)
+    spans, merged = spans_of(answer), merged_by(steps[:-1])
+    ruled = spans or merged
+    after = drawn(rows_of(answer), spans, ruled)
     if not steps:
         return [*map(shortened, lines[:-1]), "", "gives", "", "```text", *after, "```"]
-    return [*map(shortened, steps), "", "```text", *beside(drawn(rows_of(lines), [], spans), after), "```"]
+    return [*map(shortened, steps), "", "```text", *beside(drawn(rows_of(lines), merged, ruled), after), "```"]
 
 
 def page(top):

@@ -77,12 +77,16 @@ impl Case {
             "staggeredspans" => Merged::Staggered,
             "coveredspans" => Merged::Covered,
             "tenthspans" => Merged::Tenths,
+            "flatsharing" => Merged::FlatSharing,
+            "tallsharing" => Merged::TallSharing,
+            "staggeredsharing" => Merged::StaggeredSharing,
             _ => return None,
         };
         let call = match call {
             "made" => Call::Nothing,
             "fits" => Call::Fits,
             "drop" => Call::DropHidden,
+            "keep" => Call::KeepFitting,
             "cover" => Call::Cover,
             _ => return None,
         };

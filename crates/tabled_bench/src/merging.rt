@@ -48,32 +48,32 @@ impl Merging {
 pub(crate) fn run(
     alloc: Global,
     store: &mut Store,
+    cfg: &mut SpannedConfig,
     size: usize,
     merging: Merging,
 ) -> Result<(), AllocError> {
-    let mut cfg = SpannedConfig::new(alloc);
     match merging {
         Merging::ColumnSpans => {
             let option = Modify::list(Segment::all(), Span::column(2));
-            option.change(alloc, store, &mut cfg, &mut ())
+            option.change(alloc, store, cfg, &mut ())
         }
         Merging::RowSpansBack => {
             let option = Modify::list(Segment::all(), Span::row(-1));
-            option.change(alloc, store, &mut cfg, &mut ())
+            option.change(alloc, store, cfg, &mut ())
         }
         Merging::FrameSpans => {
             let option = Modify::list(Frame, Span::column(2));
-            option.change(alloc, store, &mut cfg, &mut ())
+            option.change(alloc, store, cfg, &mut ())
         }
         Merging::WidestSpans => {
             let last = Position::new(0, store.count_columns().saturating_sub(1));
             cfg.set_row_span(alloc, last, store.count_rows())?;
             let option = Modify::list(Segment::all(), ColumnSpan::max());
-            option.change(alloc, store, &mut cfg, &mut ())
+            option.change(alloc, store, cfg, &mut ())
         }
-        Merging::Headers => put_headers(alloc, store, &mut cfg, size),
-        Merging::Panels => put_panels(alloc, store, &mut cfg, size),
-        Merging::Runs => Merge::vertical().change(alloc, store, &mut cfg, &mut ()),
+        Merging::Headers => put_headers(alloc, store, cfg, size),
+        Merging::Panels => put_panels(alloc, store, cfg, size),
+        Merging::Runs => Merge::vertical().change(alloc, store, cfg, &mut ()),
     }
 }
 

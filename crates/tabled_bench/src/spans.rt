@@ -1,5 +1,7 @@
 //! Calls of merged cells.
 
+ghost use Rattle.std.specs.Prelude.{◌≤◌};
+
 use std::alloc::{AllocError, Global};
 use tabled_grid::config::{CoverMap, Position, SpannedConfig};
 
@@ -20,6 +22,12 @@ pub(crate) enum Merged {
     Covered,
     /// A rectangle of 1 x 2 at each tenth place of `size x size`.
     Tenths,
+    /// `Flat`, of which every hundredth is 1 x 3, and shares a cell with the next one.
+    FlatSharing,
+    /// `Tall`, of which every hundredth is 2 x 2, and shares cells with the next one.
+    TallSharing,
+    /// `Staggered`, of which every thousandth is 100 x 2, and shares cells with the next one.
+    StaggeredSharing,
 }
 
 /// What is done with them.
@@ -29,6 +37,8 @@ pub(crate) enum Call {
     Nothing,
     Fits,
     DropHidden,
+    /// What doesn't fit is taken away.
+    KeepFitting,
     /// A cover map is made.
     Cover,
 }
@@ -46,6 +56,7 @@ pub(crate) fn run(
         Call::Nothing => {}
         Call::Fits => return Ok(usize::from(spans.fits(usize::MAX, usize::MAX))),
         Call::DropHidden => spans.drop_hidden(),
+        Call::KeepFitting => spans.keep_fitting(alloc, usize::MAX, usize::MAX)?,
         Call::Cover => {
             let cover = CoverMap::new(alloc, &spans, size, size)?;
             return Ok(if size > 0 && cover.is_hidden(first) {
@@ -58,22 +69,16 @@ pub(crate) fn run(
     Ok(spans.get_column_span(first).unwrap_or(1))
 }
 
-fn make(alloc: Global, size: usize, merged: Merged) -> Result<SpannedConfig, AllocError> {
+pub(crate) fn make(
+    alloc: Global,
+    size: usize,
+    merged: Merged,
+) -> Result<SpannedConfig, AllocError> {
     let mut spans = SpannedConfig::new(alloc);
     match merged {
         Merged::Flat => in_row(alloc, &mut spans, 0, size)?,
-        Merged::Tall => {
-            for j in 0..size {
-                spans.set_row_span(alloc, Position::new(0, j), 2)?;
-            }
-        }
-        Merged::Staggered => {
-            for i in 0..HEIGHT {
-                for j in (i..size).step_by(HEIGHT) {
-                    spans.set_row_span(alloc, Position::new(i, j), HEIGHT)?;
-                }
-            }
-        }
+        Merged::Tall => tall(alloc, &mut spans, size)?,
+        Merged::Staggered => staggered(alloc, &mut spans, size)?,
         Merged::Covered => {
             let first = Position::new(0, 0);
             spans.set_row_span(alloc, first, 2)?;
@@ -86,6 +91,18 @@ fn make(alloc: Global, size: usize, merged: Merged) -> Result<SpannedConfig, All
                     spans.set_column_span(alloc, Position::new(i, j), 2)?;
                 }
             }
+        }
+        Merged::FlatSharing => {
+            in_row(alloc, &mut spans, 0, size)?;
+            widen(alloc, &mut spans, size.saturating_mul(2), 200, 3)?;
+        }
+        Merged::TallSharing => {
+            tall(alloc, &mut spans, size)?;
+            widen(alloc, &mut spans, size, 100, 2)?;
+        }
+        Merged::StaggeredSharing => {
+            staggered(alloc, &mut spans, size)?;
+            widen(alloc, &mut spans, size, 1_000, 2)?;
         }
     }
     Ok(spans)
@@ -100,6 +117,40 @@ fn in_row(
 ) -> Result<(), AllocError> {
     for k in 0..many {
         spans.set_column_span(alloc, Position::new(row, k.saturating_mul(2)), 2)?;
+    }
+    Ok(())
+}
+
+/// Merges two cells of a column, at so many columns side by side.
+fn tall(alloc: Global, spans: &mut SpannedConfig, many: usize) -> Result<(), AllocError> {
+    for j in 0..many {
+        spans.set_row_span(alloc, Position::new(0, j), 2)?;
+    }
+    Ok(())
+}
+
+/// Merges a hundred cells of a column, at so many columns, each a row below the last one.
+fn staggered(alloc: Global, spans: &mut SpannedConfig, many: usize) -> Result<(), AllocError> {
+    for i in 0..HEIGHT {
+        for j in (i..many).step_by(HEIGHT) {
+            spans.set_row_span(alloc, Position::new(i, j), HEIGHT)?;
+        }
+    }
+    Ok(())
+}
+
+/// Sets a width in the first row, at each column of a range that is a multiple of a step.
+fn widen(
+    alloc: Global,
+    spans: &mut SpannedConfig,
+    columns: usize,
+    step: usize,
+    width: usize,
+) -> Result<(), AllocError>
+    requires { 1 ≤ step }
+{
+    for j in (0..columns).step_by(step) {
+        spans.set_column_span(alloc, Position::new(0, j), width)?;
     }
     Ok(())
 }

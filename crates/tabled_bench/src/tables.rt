@@ -1,7 +1,8 @@
 //! Options on whole tables of one-letter texts.
 
-use crate::merging;
 use crate::merging::Merging;
+use crate::spans::Merged;
+use crate::{merging, spans};
 use std::alloc::{AllocError, Global};
 use std::mem;
 use tabled_grid::config::{Offset, Position, SpannedConfig};
@@ -36,6 +37,8 @@ pub(crate) enum Shape {
     Paired,
     /// A hundred rows and columns, whatever the size.
     Hundred,
+    /// As many columns as rows, with a rectangle of 1 x 2 at each tenth place.
+    Tenths,
 }
 
 impl Shape {
@@ -47,6 +50,7 @@ impl Shape {
             "column" => Some(Shape::Column),
             "paired" => Some(Shape::Paired),
             "hundred" => Some(Shape::Hundred),
+            "tenths" => Some(Shape::Tenths),
             _ => None,
         }
     }
@@ -54,11 +58,18 @@ impl Shape {
     /// The numbers of rows and columns.
     fn counts(self, size: usize) -> (usize, usize) {
         match self {
-            Shape::Square | Shape::Paired => (size, size),
+            Shape::Square | Shape::Paired | Shape::Tenths => (size, size),
             Shape::Tall => (size, size / 100),
             Shape::Row => (1, size),
             Shape::Column => (size, 1),
             Shape::Hundred => (100, 100),
+        }
+    }
+
+    fn merged_cells(self, alloc: Global, size: usize) -> Result<SpannedConfig, AllocError> {
+        match self {
+            Shape::Tenths => spans::make(alloc, size, Merged::Tenths),
+            _ => Ok(SpannedConfig::new(alloc)),
         }
     }
 }
@@ -141,10 +152,12 @@ pub(crate) fn run(
 ) -> Result<usize, AllocError> {
     let (rows, columns) = shape.counts(size);
     let mut store = made(alloc, rows, columns)?;
+    let mut cfg = shape.merged_cells(alloc, size)?;
     if let Shape::Paired = shape {
-        apply(alloc, Format::positioned(a_letter_in_pairs), &mut store)?;
+        let letters = Format::positioned(a_letter_in_pairs);
+        letters.change(alloc, &mut store, &mut cfg, &mut ())?;
     }
-    change_once(alloc, &mut store, rows, columns, size, change)?;
+    change_once(alloc, &mut store, &mut cfg, size, change)?;
     let rows = store.count_rows();
     mem::forget(store);
     Ok(rows)
@@ -155,7 +168,8 @@ fn made(alloc: Global, rows: usize, columns: usize) -> Result<Store, AllocError>
     let mut store = VecRecords::new(alloc, Vec::new(alloc))?;
     store.push_rows(alloc, rows)?;
     store.push_columns(alloc, columns)?;
-    apply(alloc, Format::content(a_letter), &mut store)?;
+    let letters = Format::content(a_letter);
+    letters.change(alloc, &mut store, &mut SpannedConfig::new(alloc), &mut ())?;
     Ok(store)
 }
 
@@ -168,29 +182,34 @@ fn a_letter_in_pairs(alloc: Global, _: &str, pos: Position) -> Result<String, Al
 }
 
 /// Applies an option to a table.
-fn apply<O>(alloc: Global, option: O, store: &mut Store) -> Result<(), AllocError>
+fn apply<O>(
+    alloc: Global,
+    option: O,
+    store: &mut Store,
+    cfg: &mut SpannedConfig,
+) -> Result<(), AllocError>
 where
     O: TableOption<Store, SpannedConfig, ()>,
     requires can { O.can_change option }
 {
-    let mut cfg = SpannedConfig::new(alloc);
-    option.change(alloc, store, &mut cfg, &mut ())
+    option.change(alloc, store, cfg, &mut ())
 }
 
 fn change_once(
     alloc: Global,
     store: &mut Store,
-    rows: usize,
-    columns: usize,
+    cfg: &mut SpannedConfig,
     size: usize,
     change: Change,
 ) -> Result<(), AllocError> {
+    let rows = store.count_rows();
+    let columns = store.count_columns();
     match change {
         Change::Nothing => Ok(()),
-        Change::Left => apply(alloc, Rotate::Left, store),
-        Change::Right => apply(alloc, Rotate::Right, store),
-        Change::Top => apply(alloc, Rotate::Top, store),
-        Change::Reverse => { apply(alloc, Reverse::columns(0).limit(Offset::End(0)), store) }
+        Change::Left => apply(alloc, Rotate::Left, store, cfg),
+        Change::Right => apply(alloc, Rotate::Right, store, cfg),
+        Change::Top => apply(alloc, Rotate::Top, store, cfg),
+        Change::Reverse => { apply(alloc, Reverse::columns(0).limit(Offset::End(0)), store, cfg) }
         Change::Extract => {
             apply(
                 alloc,
@@ -199,29 +218,36 @@ fn change_once(
                     columns / 4..columns - columns / 4,
                 ),
                 store,
+                cfg,
             )
         }
-        Change::RemoveRows => apply(alloc, Remove::row(Rows::new(rows / 4..rows / 2)), store),
+        Change::RemoveRows => apply(
+            alloc,
+            Remove::row(Rows::new(rows / 4..rows / 2)),
+            store,
+            cfg,
+        ),
         Change::RemoveColumns => {
             apply(
                 alloc,
                 Remove::column(Columns::new(columns / 4..columns / 2)),
                 store,
+                cfg,
             )
         }
         Change::Concat => {
             let second = Table::from_records(alloc, made(alloc, 1, 1)?);
-            apply(alloc, Concat::vertical(alloc, second), store)
+            apply(alloc, Concat::vertical(alloc, second), store, cfg)
         }
-        Change::Content => apply(alloc, Format::content(a_letter), store),
-        Change::Lines => apply(alloc, Format::content(a_letter).multiline(), store),
-        Change::Clean => apply(alloc, Charset::new().clean(), store),
-        Change::Dup => apply(alloc, Dup::new(Rows::new(1..), Rows::first()), store),
-        Change::Split(split) => apply(alloc, split, store),
+        Change::Content => apply(alloc, Format::content(a_letter), store, cfg),
+        Change::Lines => apply(alloc, Format::content(a_letter).multiline(), store, cfg),
+        Change::Clean => apply(alloc, Charset::new().clean(), store, cfg),
+        Change::Dup => apply(alloc, Dup::new(Rows::new(1..), Rows::first()), store, cfg),
+        Change::Split(split) => apply(alloc, split, store, cfg),
         Change::SplitLast(split) => {
             let index = columns.saturating_sub(1);
-            apply(alloc, Split { index, ..split }, store)
+            apply(alloc, Split { index, ..split }, store, cfg)
         }
-        Change::Merging(merging) => merging::run(alloc, store, size, merging),
+        Change::Merging(merging) => merging::run(alloc, store, cfg, size, merging),
     }
 }

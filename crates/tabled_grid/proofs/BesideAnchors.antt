@@ -18,7 +18,7 @@ use Rattle.tabled_grid.proofs.Spans.{positions_exact, positions_total}
 use Rattle.tabled_grid.proofs.SpanMaps.{halves, in_rect-from, in_rect-true, less}
 
 -- of anchors in order one before another comes before it
-before : (es : List Anchor) (j i : ℕ) (d : Anchor) → T (is_sorted position_cmp es) → j < i → i < length es → position_cmp (get_or es j d).0 (get_or es i d).0 ≡ Less
+pub before : (es : List Anchor) (j i : ℕ) (d : Anchor) → T (is_sorted position_cmp es) → j < i → i < length es → position_cmp (get_or es j d).0 (get_or es i d).0 ≡ Less
 before [] j i d up h within = absurd (omega arith)
 before (e ∷ es) zero zero d up h within = absurd (omega arith)
 before (e ∷ es) zero (suc i) d up h within = below_at position_cmp e.0 es i d (halves _ _ up).0 (omega arith)

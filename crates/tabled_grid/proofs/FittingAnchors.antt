@@ -20,18 +20,8 @@ use Rattle.tabled_grid.specs.Anchors.{Anchor, lie_well, lies_inside, meets}
 use Rattle.tabled_grid.specs.Rectangles.{Fits, in_rect}
 use Rattle.tabled_grid.proofs.Geometry.{In}
 use Rattle.tabled_grid.proofs.SpanMaps.{equal, found_above, halves, in_rect-from, in_rect-true, less}
-use Rattle.tabled_grid.proofs.PassedAnchors.{Earlier, Meets, earlier, meets-from, meets-true}
-
--- what is found passes each test that all pass
-list_all-found : (test : Anchor → Bool) (es : List Anchor) (k : Position) (v : ℕ × ℕ) → list_all test es ≡ true → find position_cmp k es ≡ Some v → test (k, v) ≡ true
-list_all-found test [] k v all is = absurd (none-some v is)
-list_all-found test (e ∷ es) k v all is = either (cases_Bool (is_eq (position_cmp k e.0))) (and_parts _ _ all) (list_all-found test es k v)
-  where
-    either : (is_eq (position_cmp k e.0) ≡ true) ⊎ (is_eq (position_cmp k e.0) ≡ false) → (test e ≡ true) × (list_all test es ≡ true) → (list_all test es ≡ true → find position_cmp k es ≡ Some v → test (k, v) ≡ true) → test (k, v) ≡ true
-    either (inl t) parts go =
-        let value = same_Some _ _ (sym (ap (λ c. cond c (Some e.1) (find position_cmp k es)) t) ∙ is) in
-        ap₂ (λ x y. test (x, y)) (positions_exact k e.0 (equal _ t)) (sym value) ∙ parts.0
-    either (inr f) parts go = go parts.1 (subst (λ b. cond b (Some e.1) (find position_cmp k es) ≡ Some v) f is)
+use Rattle.tabled_grid.proofs.Members.{all-member, find-member}
+use Rattle.tabled_grid.proofs.PassedAnchors.{Meets, earlier, later_apart, meets-from, meets-true}
 
 -- an entry that is found stands first, or behind the first
 data Found (e : Anchor) (es : List Anchor) (k : Position) (v : ℕ × ℕ) : Type 0 where
@@ -65,7 +55,7 @@ well_apart rows columns (e ∷ es) a b s t up well ha hb before = by (found e es
 
     by : Found e es a s → Found e es b t → (find position_cmp a es ≡ Some s → find position_cmp b es ≡ Some t → meets (a, s) (b, t) ≡ false) → meets (a, s) (b, t) ≡ false
     by (first ka va) (first kb vb) go = absurd (never_both _ (subst (λ p. position_cmp p b ≡ Less) (ka ∙ sym kb) before) (above b b (subst (λ p. position_cmp p b ≡ Less) (ka ∙ sym kb) before)))
-    by (first ka va) (later fb) go = apart (false_from_not _ (list_all-found (λ (f : Anchor). not (meets e f)) es b t (and_parts _ _ (and_parts _ _ well).1).0 fb)) ka va
+    by (first ka va) (later fb) go = apart (false_from_not _ (all-member (λ (f : Anchor). not (meets e f)) (b, t) es (and_parts _ _ (and_parts _ _ well).1).0 (find-member position_cmp positions_total positions_exact es b t fb))) ka va
     by (later fa) (first kb vb) go = absurd (never_both _ before (above b a (subst (λ p. position_cmp p a ≡ Less) (sym kb) (found_above position_cmp positions_total positions_exact a e.0 es s (halves _ _ up).0 fa))))
     by (later fa) (later fb) go = go fa fb
 
@@ -77,7 +67,8 @@ well_inside rows columns (e ∷ es) a s well ha = by (found e es a s ha) (well_i
     by (first ka va) go = ap₂ (λ k v. lies_inside rows columns (k, v)) ka va ∙ (and_parts _ _ well).0
     by (later fa) go = go fa
 
-sharing : (a b : Position) (s t : ℕ × ℕ) (p : Position) → in_rect a s p ≡ true → in_rect b t p ≡ true → meets (a, s) (b, t) ≡ true
+-- two rectangles with a common cell meet
+pub sharing : (a b : Position) (s t : ℕ × ℕ) (p : Position) → in_rect a s p ≡ true → in_rect b t p ≡ true → meets (a, s) (b, t) ≡ true
 sharing a b s t p ia ib =
     let h = in_rect-true a p s ia in
     let k = in_rect-true b p t ib in
@@ -115,16 +106,12 @@ find_first : (e : Anchor) (es : List Anchor) → find position_cmp e.0 (e ∷ es
 find_first e es = ap (λ o. cond (is_eq o) (Some e.1) (find position_cmp e.0 es)) (tied_itself positions_total e.0)
 
 -- two rectangles that meet share a cell
-shared : (a b : Position) (s t : ℕ × ℕ) → 1 ≤ s.0 → 1 ≤ s.1 → 1 ≤ t.0 → 1 ≤ t.1 → Meets (a, s) (b, t) → (p : Position) × (in_rect a s p ≡ true) × (in_rect b t p ≡ true)
+pub shared : (a b : Position) (s t : ℕ × ℕ) → 1 ≤ s.0 → 1 ≤ s.1 → 1 ≤ t.0 → 1 ≤ t.1 → Meets (a, s) (b, t) → (p : Position) × (in_rect a s p ≡ true) × (in_rect b t p ≡ true)
 shared a b s t p q r u m =
     let cell : Position = place (max a.row b.row) (max a.col b.col) in
     let h : In a s cell = record { top = omega arith; bottom = omega (arith, m.below); left = omega arith; right = omega (arith, m.right) } in
     let k : In b t cell = record { top = omega arith; bottom = omega (arith, m.above); left = omega arith; right = omega (arith, m.left) } in
     (cell, in_rect-from a cell s h, in_rect-from b cell t k)
-
-later_apart : (p q : Position) → Earlier p q → p ≡ q → ⊥
-later_apart p q (inl l) same = omega (arith, ap (λ (x : Position). x.row) same)
-later_apart p q (inr l) same = omega (arith, ap (λ (x : Position). x.col) same)
 
 well_first : (rows columns : ℕ) (e : Anchor) (all : List Anchor) (es : List Anchor) → FitsOn all rows columns → find position_cmp e.0 all ≡ Some e.1 → IsSpanSize e.1 → AllByRecursion (λ (f : Anchor). IsSpanSize f.1) es → AllByRecursion (λ (f : Anchor). find position_cmp f.0 all ≡ Some f.1) es → T (below_all position_cmp e.0 es) → list_all (λ (f : Anchor). not (meets e f)) es ≡ true
 well_first rows columns e all [] fits here size sizes finds below = refl

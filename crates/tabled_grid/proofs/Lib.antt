@@ -8,6 +8,7 @@ pub mod Blanks
 pub mod Cutting
 pub mod Diagonal
 pub mod FirstLines
+pub mod Fitting
 pub mod FittingAnchors
 pub mod Flat
 pub mod FlatCells
@@ -26,8 +27,10 @@ pub mod Hiders
 pub mod Lists
 pub mod Mapped
 pub mod MarkedAnchors
+pub mod Members
 pub mod MergedAnchors
 pub mod Merging
+pub mod MetAnchors
 pub mod NearAnchors
 pub mod NestedRows
 pub mod OwnStore

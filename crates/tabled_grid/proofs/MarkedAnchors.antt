@@ -14,8 +14,8 @@ use Rattle.tabled_grid.specs.Anchors.{Anchor, dropped, is_hidden_in, marked, unl
 use Rattle.tabled_grid.specs.Rectangles.{in_rect}
 use Rattle.tabled_grid.specs.Entity.{same_place}
 use Rattle.tabled_grid.proofs.Geometry.{In}
-use Rattle.tabled_grid.proofs.SpanMaps.{halves, in_rect-true, less, same_place-apart, same_place-self}
-use Rattle.tabled_grid.proofs.PassedAnchors.{Earlier, earlier}
+use Rattle.tabled_grid.proofs.SpanMaps.{halves, in_rect-true, less, same_place-self}
+use Rattle.tabled_grid.proofs.PassedAnchors.{Earlier, earlier, places_apart}
 
 both : (a b : Bool) → T a → T b → T (a && b)
 both true b p q = q
@@ -84,12 +84,8 @@ sized_held by (e ∷ es) = either (in_rect by.0 by.1 e.0) refl (has_size e) refl
 -- an anchor's rectangle and other tests, of anchors that come after it
 hidden_later : (h : Position → Bool) (e : Anchor) (fs : List Anchor) → T (below_all position_cmp e.0 fs) → filter (λ (f : Anchor). not ((in_rect e.0 e.1 f.0 && not (same_place e.0 f.0)) || h f.0)) fs ≡ filter (λ (f : Anchor). not (in_rect e.0 e.1 f.0)) (filter (λ (f : Anchor). not (h f.0)) fs)
 hidden_later h e [] below = refl
-hidden_later h e (f ∷ fs) below = either (in_rect e.0 e.1 f.0) refl (h f.0) refl (same_place-apart e.0 f.0 (apart (earlier e.0 f.0 (less _ (halves _ _ below).0)))) (hidden_later h e fs (halves _ _ below).1)
+hidden_later h e (f ∷ fs) below = either (in_rect e.0 e.1 f.0) refl (h f.0) refl (places_apart e.0 f.0 (less _ (halves _ _ below).0)).0 (hidden_later h e fs (halves _ _ below).1)
   where
-    apart : Earlier e.0 f.0 → e.0 ≡ f.0 → ⊥
-    apart (inl l) same = omega (arith, ap (λ (p : Position). p.row) same)
-    apart (inr l) same = omega (arith, ap (λ (p : Position). p.col) same)
-
     rest : List Anchor → List Anchor
     rest gs = filter (λ (g : Anchor). not ((in_rect e.0 e.1 g.0 && not (same_place e.0 g.0)) || h g.0)) gs
 

@@ -1,6 +1,6 @@
 -- Rows that vectors hold, as a grid of their own.
 use Rattle.std.specs.Global.{Vec}
-use Rattle.std.proofs.Common.{◌≡◌, ◌≢◌, false, eqb, ℕ, suc, ◌+◌, ◌<◌, ◌≤◌, List, [], ◌∷◌, ◌++◌, Some, refl, sym, ap, ◌∙◌, subst, length, map, take, get_or, set, arith}
+use Rattle.std.proofs.Common.{◌≡◌, false, eqb, ℕ, suc, ◌+◌, ◌<◌, ◌≤◌, List, [], ◌∷◌, ◌++◌, Some, refl, sym, ap, ◌∙◌, subst, length, map, take, get_or, set, arith}
 use Rattle.std.specs.Prelude.{slice_get, vec_len}
 use Rattle.std.specs.List.{All, AllByRecursion, AllZip}
 use Rattle.std.specs.Vec.{with_item}
@@ -15,9 +15,8 @@ use Rattle.tabled_grid.specs.Along.{first_along}
 use Rattle.tabled_grid.specs.Bulk.{AddsColumns, AddsRows}
 use Rattle.tabled_grid.specs.Resized.{AreBlanks, InsertsBlank, InsertsColumn}
 use Rattle.tabled_grid.specs.declared.records.axis.Axis.TheVariants.{Columns, Rows}
-use Rattle.tabled_grid.proofs.Across.{Facing}
 use Rattle.tabled_grid.proofs.AddedColumns.{AddsEach, each_tall}
-use Rattle.tabled_grid.proofs.AddedRows.{IsEven-adds_rows, wide_blanks}
+use Rattle.tabled_grid.proofs.AddedRows.{IsEven-adds_rows}
 use Rattle.tabled_grid.proofs.FirstLines.{IsEven-first, rowless-first}
 use Rattle.tabled_grid.proofs.Blanks.{blank_column}
 use Rattle.tabled_grid.proofs.Grids.{IsEven-with_cell}
@@ -93,21 +92,6 @@ module _ {A : Type 0} where
 
       pub rows_added_even : IsEven (grid_of new)
       rows_added_even = have_added.well
-
-  -- rows of blanks stand for a grid of this shape, so the cells of another can be moved across
-  pub facing_blanks : (is_blank : A → Type 0) (old turned : List (List A)) (columns : ℕ) → columns ≢ 0 → columns ≡ width_of old → IsEven (grid_of old) → length turned ≡ columns → AllByRecursion (AreBlanks is_blank (length old)) turned → Facing (grid_of old) (grid_of old) (grid_of turned)
-  facing_blanks is_blank old turned columns some e even tall blanks =
-      let wide = wide_blanks is_blank (length old) turned blanks in
-      let made : HaveGrid turned (record { rows = columns; columns = length old; cells = turned }) = have_grid _ turned (record { tall = tall; wide = wide }) (λ z. absurd (some z)) refl in
-      record {
-        even = even;
-        now_even = even;
-        turned_even = made.well;
-        rows = refl;
-        columns = refl;
-        turned_rows = tall ∙ e;
-        turned_columns = ap (λ (h : Grid A). h.columns) made.is;
-      }
 
 -- the row at p
 module _ {A : Type 0} (rows : List (Vec A)) (p : Position) (row : Vec A) (even : IsEven (grid_of (map_items rows))) (inside : IsInside (grid_of (map_items rows)) p) (is : row ≡ get_or rows p.row row) where

@@ -15,9 +15,10 @@ use borrow.Author.Tests.{eqb-true, leb-true, lt-ltb, ltb-true}
 use Rattle.tabled_grid.specs.Spans.{position_cmp}
 use Rattle.tabled_grid.specs.declared.config.position.Position.{Position}
 use Rattle.tabled_grid.specs.Anchors.{Anchor, is_past, meets, unless_held}
+use Rattle.tabled_grid.specs.Entity.{same_place}
 use Rattle.tabled_grid.specs.Rectangles.{in_rect}
 use Rattle.tabled_grid.proofs.Geometry.{In}
-use Rattle.tabled_grid.proofs.SpanMaps.{in_rect-true, halves, less}
+use Rattle.tabled_grid.proofs.SpanMaps.{in_rect-true, halves, less, same_place-apart}
 
 -- the first comes before the second, row by row
 abbrev pub Earlier : Position → Position → Type 0
@@ -33,6 +34,13 @@ earlier p q h = by_row (nat_cmp p.row q.row) (ranked p.row q.row (nat_cmp p.row 
     by_row Less m e = inl m
     by_row Equal m e = inr (m, col (ranked p.col q.col (nat_cmp p.col q.col) refl) e)
     by_row Greater m e = cc
+
+pub later_apart : (p q : Position) → Earlier p q → p ≡ q → ⊥
+later_apart p q (inl l) same = omega (arith, ap (λ (x : Position). x.row) same)
+later_apart p q (inr l) same = omega (arith, ap (λ (x : Position). x.col) same)
+
+pub places_apart : (p q : Position) → position_cmp p q ≡ Less → (same_place p q ≡ false) × (same_place q p ≡ false)
+places_apart p q h = (same_place-apart p q (later_apart p q (earlier p q h)), same_place-apart q p (λ same. later_apart p q (earlier p q h) (sym same)))
 
 -- what the test says
 pub record IsPast (a : Anchor) (p : Position) : Type 0 where

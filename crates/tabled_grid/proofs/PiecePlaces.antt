@@ -10,14 +10,13 @@ use Rattle.tabled_grid.specs.Along.{count_along}
 use Rattle.tabled_grid.specs.Grid.{Grid, IsInside, cell_at}
 use Rattle.tabled_grid.specs.Axis.{across, count_of, line_of, place_in}
 use Rattle.tabled_grid.specs.Pieces.{cut_places, index_in_line, nth_piece}
-use Rattle.tabled_grid.specs.Places.{FillsThrough}
+use Rattle.tabled_grid.specs.Places.{FillsThrough, TakesOnce, Within}
 use Rattle.tabled_grid.specs.declared.config.position.Position.{Position}
 use Rattle.tabled_grid.specs.declared.records.axis.Axis.{Axis}
 use Rattle.tabled_grid.specs.declared.records.axis.Axis.TheVariants.{Rows, Columns}
 use Rattle.tabled_grid.specs.declared.records.piece_order.PieceOrder.{PieceOrder}
 use Rattle.tabled_grid.proofs.PiecesCut.{ComesFrom, IsCut, enough_pieces, more_lines, some_pieces}
 use Rattle.tabled_grid.proofs.PiecesPut.{inside_of, piece_line, piece_number, source, source_apart}
-use Rattle.tabled_grid.proofs.Through.{TakesOnce, Within}
 
 -- a place by its line
 pub place_is : (axis : Axis) (p : Position) → place_in axis (line_of axis p) (line_of (across axis) p) ≡ p
@@ -129,7 +128,7 @@ module _ (axis : Axis) (order : PieceOrder) (index lines width : ℕ) (some : 0 
   some_is true p q e = (refl, ap (λ (o : Option Position). unwrap_or o p) e)
   some_is false p q e = cc
 
-  lines_of : (p : Position) → Within (cut_places axis order index lines width) p → (line_of axis p < lines * div_ceil width index) × (line_of (across axis) p < index)
+  pub lines_of : (p : Position) → Within (cut_places axis order index lines width) p → (line_of axis p < lines * div_ceil width index) × (line_of (across axis) p < index)
   lines_of p w = each axis w.row w.col
     where
       each : (a : Axis) → p.row < count_of a (lines * div_ceil width index) index → p.col < count_of a index (lines * div_ceil width index) → (line_of a p < lines * div_ceil width index) × (line_of (across a) p < index)

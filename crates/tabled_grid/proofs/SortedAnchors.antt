@@ -1,16 +1,19 @@
 -- Sorted lists of anchors, and the maps that they make.
-use Rattle.std.proofs.Common.{◌≡◌, ℕ, Bool, List, refl, sym, ap, ◌∙◌, cond, None}
-use Rattle.std.specs.Prelude.{T, ◌&&◌, not}
-use Rattle.std.specs.FinMap.{entries-from_sorted, find, from_sorted, get, get-from_sorted, is_sorted, same_map}
+use Rattle.std.proofs.Common.{◌≡◌, ℕ, inl, inr, Bool, true, false, List, [], ◌∷◌, refl, sym, ap, ◌∙◌, cond, length, None}
+use Rattle.std.specs.Prelude.{T, ◌&&◌, ◌==◌, not}
+use Rattle.std.specs.FinMap.{empty, entries, entries-from_sorted, entries_sorted, find, get-entries, len-empty, len-entries, from_sorted, get, get-from_sorted, is_sorted, same_map}
 use Rattle.std.specs.FinMap.Entries.{find-where_key, is_sorted-where_key}
-use Rattle.std.specs.List.{list_any}
+use Rattle.std.specs.List.{AllByRecursion, list_any}
 use Rattle.std.specs.Option.{unwrap_or}
 use Rattle.std.proofs.lemmas.List.Elements.{All-filter, All-from_recursion, recursion_from_All}
+use Rattle.std.proofs.lemmas.List.{nil_from_length}
+use borrow.Author.Tests.{eqb-true, eq-eqb}
 use Rattle.tabled_grid.specs.Anchors.{Anchor, dropped, is_hidden_in}
 use Rattle.tabled_grid.specs.Rectangles.{drop_hidden, in_rect, is_hidden}
 use Rattle.tabled_grid.specs.Entity.{same_place}
-use Rattle.tabled_grid.specs.Spans.{AreAnchors, IsSpanSize, SpanMap, position_cmp, size_at}
+use Rattle.tabled_grid.specs.Spans.{AreAnchors, AreSpanSizes, IsSpanSize, SpanMap, position_cmp, size_at}
 use Rattle.tabled_grid.specs.declared.config.position.Position.{Position}
+use Rattle.tabled_grid.proofs.Members.{Member, sorted-find}
 use Rattle.tabled_grid.proofs.SpanMaps.{get-drop_hidden}
 use Rattle.tabled_grid.proofs.Spans.{positions_exact, positions_total}
 
@@ -51,3 +54,24 @@ anchors_dropped es valid = record {
   sorted = (dropped_is es (from_sorted es) (record { up = valid.sorted; is = refl })).up;
   sizes = recursion_from_All _ _ (All-filter (λ (e : Anchor). visible_in es e.0) (λ (e : Anchor). IsSpanSize e.1) es (All-from_recursion _ _ valid.sizes));
 }
+
+-- the entries of a map are its anchors
+pub anchors-of : (m : SpanMap) → AreSpanSizes m → AreAnchors (entries m)
+anchors-of m sizes = record { sorted = entries_sorted m; sizes = sizes_of (entries m) (λ f h. sizes.each f.0 f.1 (get-entries m f.0 ∙ sorted-find position_cmp positions_total positions_exact (entries m) f.0 f.1 (entries_sorted m) h)) }
+  where
+    sizes_of : (es : List Anchor) → ((f : Anchor) → Member f es → IsSpanSize f.1) → AllByRecursion (λ (f : Anchor). IsSpanSize f.1) es
+    sizes_of [] each = tt
+    sizes_of (f ∷ es) each = (each f (inl refl), sizes_of es (λ g m. each g (inr m)))
+
+pub from-entries : (m : SpanMap) → from_sorted (entries m) ≡ m
+from-entries m = same_map positions_total positions_exact (from_sorted (entries m)) m (λ q. get-from_sorted position_cmp (entries m) q (entries_sorted m) ∙ sym (get-entries m q))
+
+-- a map without anchors
+pub no-entries : (m : SpanMap) → m ≡ empty → entries m ≡ []
+no-entries m none = ap entries none ∙ nil_from_length (entries empty) (sym (len-entries empty) ∙ len-empty position_cmp (ℕ × ℕ))
+
+pub none-listed : (m : SpanMap) (es : List Anchor) → es ≡ entries m → true ≡ (length es == 0) → entries m ≡ []
+none-listed m es is h = sym is ∙ nil_from_length es (eqb-true (length es) 0 (sym h))
+
+pub some-listed : (m : SpanMap) (es : List Anchor) → es ≡ entries m → false ≡ (length es == 0) → m ≡ empty → ⊥
+some-listed m es is h none = let zero : length es ≡ 0 = ap length (is ∙ no-entries m none) in let never : true ≡ false = sym (eq-eqb (length es) 0 zero) ∙ sym h in cc

@@ -9,7 +9,7 @@ use Rattle.tabled_grid.specs.Bulk.{Exchanges}
 use Rattle.tabled_grid.specs.Entity.{place}
 use Rattle.tabled_grid.specs.Flat.{chunks}
 use Rattle.tabled_grid.specs.Grid.{Grid, IsEven, IsInside, cell_at, grid_of, width_of}
-use Rattle.tabled_grid.specs.Places.{FillsThrough, Places}
+use Rattle.tabled_grid.specs.Places.{FillsThrough, Places, TakesOnce, Within}
 use Rattle.tabled_grid.specs.Resized.{AreBlanks}
 use Rattle.tabled_grid.specs.declared.config.position.Position.{Position}
 use Rattle.tabled_grid.proofs.AddedLines.{blank_at}
@@ -21,16 +21,6 @@ Before i j p = (p.row < i) ⊎ ((p.row ≡ i) × (p.col < j))
 
 abbrev NotBefore : ℕ → ℕ → Position → Type 0
 NotBefore i j p = (i < p.row) ⊎ ((p.row ≡ i) × (j ≤ p.col))
-
--- a place of a shape
-pub record Within (places : Places) (p : Position) : Type 0 where
-  pub row : p.row < places.rows
-  pub col : p.col < places.columns
-
--- each old place lies in the old grid, and is that of one new place
-pub record TakesOnce {A : Type 0} (places : Places) (old : Grid A) : Type 0 where
-  pub inside : (p q : Position) → Within places p → places.old_place p ≡ Some q → IsInside old q
-  pub apart : (p r q : Position) → Within places p → Within places r → places.old_place p ≡ Some q → places.old_place r ≡ Some q → p ≡ r
 
 -- the cells of the new places before one, row by row, have come there; the others have not moved yet, and where no cell has come there is a blank
 pub record MovesThrough {A : Type 0} (is_blank : A → Type 0) (places : Places) (i j : ℕ) (old now new : Grid A) : Type 0 where

@@ -4,6 +4,7 @@ use Rattle.std.specs.List.{AllByRecursion, AllZip, zip}
 use Rattle.tabled_grid.specs.Entity.{place}
 use Rattle.tabled_grid.specs.Grid.{Grid, cell_at, map_grid, with_cell}
 use Rattle.tabled_grid.specs.Moves.{AddsBlanks}
+use Rattle.tabled_grid.specs.Places.{Places}
 use Rattle.tabled_grid.specs.Resized.{AreBlanks}
 use Rattle.tabled_grid.specs.declared.config.position.Position.{Position}
 
@@ -28,6 +29,10 @@ transposed_rows {A} columns (row ∷ rows) = map (λ (p : A × List A). p.0 ∷ 
 -- the grid whose rows are columns; without columns it has no rows, and so no columns either
 abbrev pub transposed : {A : Type 0} → Grid A → Grid A
 transposed g = record { rows = g.columns; columns = if g.columns == 0 then 0 else g.rows; cells = transposed_rows g.columns g.cells }
+
+-- so many rows and columns change places
+abbrev pub turned_places : ℕ → ℕ → Places
+turned_places rows columns = record { rows = columns; columns = rows; old_place = λ (p : Position). Some (place p.col p.row) }
 
 -- the cell in a row and a column, none outside
 abbrev pub cell_in : {A : Type 0} → Grid A → ℕ → ℕ → Option A
@@ -57,8 +62,3 @@ pub record Exchanges {A : Type 0} (p q : Position) (old new other_old other_new 
   pub was_there : cell_at other_old q ≡ Some there
   pub is_here : new ≡ with_cell old p there
   pub is_there : other_new ≡ with_cell other_old q here
-
--- the cells of a grid before a place, row by row, have come to the place across in another one; the others are where they were
-pub record MovesAcross {A : Type 0} (i j : ℕ) (old now turned : Grid A) : Type 0 where
-  pub done : (a b : ℕ) → a < old.rows → b < old.columns → (a < i) ⊎ ((a ≡ i) × (b < j)) → cell_at turned (place b a) ≡ cell_at old (place a b)
-  pub left : (a b : ℕ) → a < old.rows → b < old.columns → (i < a) ⊎ ((a ≡ i) × (j ≤ b)) → cell_at now (place a b) ≡ cell_at old (place a b)

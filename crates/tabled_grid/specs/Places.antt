@@ -1,5 +1,5 @@
 -- Where the cells of a grid come from.
-use Rattle.std.specs.Prelude.{◌≡◌, ℕ, Option, None, Some}
+use Rattle.std.specs.Prelude.{◌≡◌, ◌<◌, ℕ, Option, None, Some}
 use Rattle.std.specs.Option.{IfSome}
 use Rattle.tabled_grid.specs.Grid.{Grid, IsEven, IsInside, cell_at}
 use Rattle.tabled_grid.specs.declared.config.position.Position.{Position}
@@ -9,6 +9,16 @@ pub record Places : Type 0 where
   pub rows : ℕ
   pub columns : ℕ
   pub old_place : Position → Option Position
+
+-- a place of the new shape
+pub record Within (places : Places) (p : Position) : Type 0 where
+  pub row : p.row < places.rows
+  pub col : p.col < places.columns
+
+-- each old place lies in the old grid, and is that of one new place
+pub record TakesOnce {A : Type 0} (places : Places) (old : Grid A) : Type 0 where
+  pub inside : (p q : Position) → Within places p → places.old_place p ≡ Some q → IsInside old q
+  pub apart : (p r q : Position) → Within places p → Within places r → places.old_place p ≡ Some q → places.old_place r ≡ Some q → p ≡ r
 
 -- the new grid has the new shape, and in each place that has an old one the cell of that old place
 pub record ReadsThrough {A : Type 0} (places : Places) (old new : Grid A) : Type 0 where

@@ -7,7 +7,7 @@ use Rattle.tabled_grid.specs.declared.config.offset.Offset.{Offset}
 use Rattle.tabled_grid.specs.declared.config.offset.Offset.TheVariants.{End, Start}
 use Rattle.tabled_grid.specs.declared.records.axis.Axis.{Axis}
 use Rattle.tabled_grid.specs.declared.records.axis.Axis.TheVariants.{Columns, Rows}
-use Rattle.tabled_settings.specs.Rearranged.{extracted, reversed, rotated}
+use Rattle.tabled_settings.specs.Rearranged.{extracted, rotated}
 use Rattle.tabled_settings.specs.declared.rotate.Rotate.{Rotate}
 use Rattle.tabled_settings.specs.declared.rotate.Rotate.TheVariants.{Bottom, Left, Right, Top}
 use Rattle.tabled_grid.specs.declared.records.piece_order.PieceOrder.{PieceOrder}
@@ -16,7 +16,7 @@ use Rattle.tabled_settings.specs.declared.split.Display.{Display}
 use Rattle.tabled_settings.specs.declared.split.Display.TheVariants as display
 use Rattle.tabled_spans.specs.Widths as widths
 use Rattle.tabled_steps.specs.Selected.{half_open}
-use Rattle.tabled_steps.specs.States.{State, cut, duplicate, join, merge, on_each, put_panel, rearrange, recode, remove_named, remove_range, set, span}
+use Rattle.tabled_steps.specs.States.{State, cut, duplicate, join, merge, on_each, put_panel, rearrange, recode, remove_named, remove_range, reverse, set, span}
 use Rattle.tabled_language.specs.declared.fault.Fault.{Fault}
 use Rattle.tabled_language.specs.declared.fault.Fault.TheVariants.{WordCount}
 use Rattle.tabled_language.specs.Selectors.{reads_cells}
@@ -123,7 +123,7 @@ reads_turn = then_reads reads_rotate (λ how. gives (rearrange (rotated how)))
 
 -- rows or columns, the first of them and the limit
 abbrev pub reads_reverse : Reading (State → State)
-reads_reverse = then_reads reads_lines (λ axis. then_reads reads_number (λ start. then_reads reads_offset (λ limit. gives (rearrange (reversed axis start limit)))))
+reads_reverse = then_reads reads_lines (λ axis. then_reads reads_number (λ start. then_reads reads_offset (λ limit. gives (reverse (record { axis = axis; start = start; limit = limit })))))
 
 -- a range of rows and one of columns
 abbrev pub reads_extract : Reading (State → State)

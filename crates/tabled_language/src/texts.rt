@@ -82,12 +82,14 @@ impl<'a> Fields<'a> {
     }
 
     /// The words that are left, each as a text of its own.
+    // A call of its own keeps the values of this loop, which reads all cells, in registers.
+    #[inline(never)]
     pub(crate) fn texts(self, alloc: Global) -> Result<Vec<Text<String>>, AllocError>
         ensures { IfOk result (λ texts. map string_bytes texts.items ≡ self.entry) }
     {
         let mut texts = Vec::with_capacity(alloc, self.left())?;
         for word in self {
-            texts.push(Text::new(String::from_str(alloc, word)?))?;
+            texts.push(Text::new(owned(alloc, word)?))?;
         }
         Ok(texts)
     }
@@ -115,4 +117,14 @@ fn first_word(line: &str) -> (&str, Option<&str>)
         Some(tab) => (&line[..tab], Some(&line[tab + 1..])),
         None => (line, None),
     }
+}
+
+/// A text of its own. An empty one needs no copying.
+fn owned(alloc: Global, word: &str) -> Result<String, AllocError>
+    ensures { IfOk result (λ text. string_bytes text ≡ word.now) }
+{
+    if word.is_empty() {
+        return Ok(String::new(alloc));
+    }
+    String::from_str(alloc, word)
 }

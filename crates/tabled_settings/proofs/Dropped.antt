@@ -1,10 +1,9 @@
 -- Lines taken away, by swaps to the front.
-use Rattle.std.proofs.Common.{◌≡◌, ℕ, zero, suc, ◌+◌, ◌<◌, ◌≤◌, ◌≢◌, ◌⊎◌, inl, inr, Bool, true, false, cond, List, [], ◌∷◌, ◌++◌, refl, sym, ap, ◌∙◌, length, get_or, arith}
+use Rattle.std.proofs.Common.{◌≡◌, ℕ, suc, ◌+◌, ◌<◌, ◌≤◌, ◌≢◌, ◌⊎◌, inl, inr, Bool, true, false, cond, List, [], ◌∷◌, ◌++◌, refl, sym, ap, ◌∙◌, length, get_or, arith}
 use Rattle.std.specs.Prelude.{not}
-use Rattle.std.specs.List.{filter, range_with_len, swap}
+use Rattle.std.specs.List.{swap}
 use Rattle.std.proofs.lemmas.Bool.{cases_eq}
 use Rattle.std.proofs.lemmas.List.{append-nil, get_or_at, get_or_append_left, length_push}
-use Rattle.std.proofs.lemmas.List.Elements.{filter-append}
 use Rattle.tabled_grid.specs.Along.{along, count_along, first_along}
 use Rattle.tabled_grid.specs.Grid.{Grid, IsEven}
 use Rattle.tabled_grid.specs.declared.records.axis.Axis.{Axis}
@@ -15,25 +14,20 @@ use Rattle.tabled_select.specs.Located.{is_located}
 use Rattle.tabled_settings.specs.Rearranged.{left_over, removed}
 use Rattle.tabled_settings.proofs.Kept.{has_lines}
 use Rattle.tabled_grid.proofs.PiecesPut.{same_count, same_shape, shape_after}
-use Rattle.tabled_settings.proofs.PieceReads.{filter_alike}
+use Rattle.tabled_settings.proofs.PieceReads.{filter_alike, filter_more}
 use Rattle.tabled_settings.proofs.LineReads.{line_first, lines_read, lines_swapped, shape_swapped}
-
--- one index more
-range_more : (a n : ℕ) → range_with_len a (suc n) ≡ range_with_len a n ++ (a + n) ∷ []
-range_more a zero = let same : a + 0 ≡ a = omega arith in rw same refl
-range_more a (suc n) = let same : (a + 1) + n ≡ a + suc n = omega arith in ap (λ ys. a ∷ ys) (range_more (a + 1) n ∙ ap (λ k. range_with_len (a + 1) n ++ k ∷ []) same)
 
 module _ (test : ℕ → Bool) where
   left_more : (n : ℕ) → left_over test (suc n) ≡ left_over test n ++ cond (not (test n)) (n ∷ []) []
-  left_more n = let same : 0 + n ≡ n = omega arith in ap (filter (λ (i : ℕ). not (test i))) (range_more 0 n ∙ ap (λ (k : ℕ). range_with_len 0 n ++ k ∷ []) same) ∙ filter-append (λ (i : ℕ). not (test i)) (range_with_len 0 n) (n ∷ [])
+  left_more n = filter_more (λ (i : ℕ). not (test i)) n (suc n) (omega arith)
 
-  left_gone : (n : ℕ) → test n ≡ true → left_over test (suc n) ≡ left_over test n
+  pub left_gone : (n : ℕ) → test n ≡ true → left_over test (suc n) ≡ left_over test n
   left_gone n gone = left_more n ∙ ap (λ (b : Bool). left_over test n ++ cond (not b) (n ∷ []) []) gone ∙ append-nil (left_over test n)
 
-  left_stays : (n : ℕ) → test n ≡ false → left_over test (suc n) ≡ left_over test n ++ n ∷ []
+  pub left_stays : (n : ℕ) → test n ≡ false → left_over test (suc n) ≡ left_over test n ++ n ∷ []
   left_stays n stays = left_more n ∙ ap (λ (b : Bool). left_over test n ++ cond (not b) (n ∷ []) []) stays
 
-left_same : (test other : ℕ → Bool) (n : ℕ) → ((i : ℕ) → i < n → test i ≡ other i) → left_over test n ≡ left_over other n
+pub left_same : (test other : ℕ → Bool) (n : ℕ) → ((i : ℕ) → i < n → test i ≡ other i) → left_over test n ≡ left_over other n
 left_same test other n alike = filter_alike (λ (i : ℕ). not (test i)) (λ (i : ℕ). not (other i)) 0 n (λ i h. ap not (alike i (omega (arith, h))))
 
 module _ {A : Type 0} (axis : Axis) (test : ℕ → Bool) where

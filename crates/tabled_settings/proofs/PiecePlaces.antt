@@ -1,9 +1,9 @@
 -- Where the cells of pieces come from.
-use Rattle.std.proofs.Common.{◌≡◌, ℕ, ◌+◌, ◌*◌, ◌/◌, ◌%◌, ◌<◌, ◌≤◌, ◌⊎◌, inl, inr, Bool, true, false, cond, Option, None, Some, refl, sym, ap, ap₂, ◌∙◌, subst, List, length, get_or, arith}
+use Rattle.std.proofs.Common.{◌≡◌, ℕ, ◌+◌, ◌*◌, ◌/◌, ◌%◌, ◌<◌, Bool, true, false, cond, Option, None, Some, refl, sym, ap, ap₂, ◌∙◌, subst, List, [], length, get_or, arith}
 use Rattle.std.specs.Prelude.{nat_lt, ◌&&◌}
 use Rattle.std.specs.Int.{div_ceil}
 use Rattle.std.specs.Option.{IfSome, unwrap_or}
-use Rattle.std.proofs.lemmas.Bool.{le-ltb, lt-ltb, ltb-true}
+use Rattle.std.proofs.lemmas.Bool.{lt-ltb, ltb-true}
 use Rattle.std.proofs.lemmas.Nat.{div-add-mod', div_below, mod_below, same_from_place}
 use Rattle.tabled_grid.specs.Along.{count_along}
 use Rattle.tabled_grid.specs.Grid.{Grid, IsEven, IsInside, cell_at, map_grid}
@@ -13,30 +13,27 @@ use Rattle.tabled_grid.specs.declared.records.axis.Axis.TheVariants.{Rows, Colum
 use Rattle.tabled_settings.specs.declared.split.Display.{Display}
 use Rattle.tabled_settings.specs.declared.split.Display.TheVariants.{Clean, Retain}
 use Rattle.tabled_settings.specs.declared.split.Split.{Split}
-use Rattle.tabled_settings.specs.Lines.{line}
-use Rattle.tabled_grid.proofs.PiecePlaces.{across_is, line_is, place_is}
-use Rattle.tabled_grid.proofs.PiecesCut.{enough_pieces}
+use Rattle.tabled_settings.specs.Lines.{KeepsSome, line}
+use Rattle.tabled_grid.proofs.PiecePlaces.{across_is, fills_cut, line_is, place_is}
+use Rattle.tabled_grid.proofs.PiecesCut.{IsCut, enough_pieces}
 use Rattle.tabled_grid.specs.Axis.{across, count_of, in_line, line_of, place_in}
 use Rattle.tabled_grid.specs.Pieces.{cut_places, index_in_line, nth_piece, piece_index}
 use Rattle.tabled_settings.specs.PiecePlaces.{Splits, kept_pieces, same_places, shown, split_places, thinned}
-use Rattle.tabled_settings.specs.Pieces.{cut_rows, has_pieces, split, turned}
+use Rattle.tabled_settings.specs.Pieces.{has_pieces, turned}
 use Rattle.tabled_grid.specs.Places.{FillsThrough, Places, ReadsThrough}
+use Rattle.tabled_grid.specs.Spans.{SpanMap}
+use Rattle.tabled_images.specs.Images.{carried}
 use Rattle.tabled_settings.specs.Places.{IsTakenOnce, lines_from}
+use Rattle.tabled_settings.specs.Rearranged.{carried_if}
 use Rattle.tabled_settings.proofs.Glued.{piece_index_below, piece_of}
 use Rattle.tabled_settings.proofs.LineReads.{lines_read}
-use Rattle.tabled_settings.proofs.PiecesDone.{counted}
+use Rattle.tabled_settings.proofs.PiecesDone.{CanBeCut, clean_counts, clean_done, clean_lines, counted, has, retained_done}
 use Rattle.tabled_grid.proofs.PiecesPut.{one_piece, same_place_in}
 use mathlib.Core.Bool.{true≢false}
 
-pub same_fills : {A : Type 0} (is_blank : A → Type 0) (g : Grid A) → IsEven g → FillsThrough is_blank (same_places g.rows g.columns) g g
-same_fills is_blank g even = record { reads = record { even = even; rows = refl; columns = refl; moved = λ p inside. refl }; blanks = λ p inside none. cc }
-
--- with pieces or without
+-- with pieces
 with_pieces : (b : Bool) (ps qs : Places) → b ≡ true → cond b ps qs ≡ ps
 with_pieces b ps qs e = rw e refl
-
-without_pieces : (b : Bool) (ps qs : Places) → b ≡ false → cond b ps qs ≡ qs
-without_pieces b ps qs e = rw e refl
 
 all_shown : (d : Display) (axis : Axis) (kept : List ℕ) (places : Places) → d ≡ Retain → shown d axis kept places ≡ places
 all_shown d axis kept places e = rw e refl
@@ -75,55 +72,52 @@ module _ {A : Type 0} (is_blank : A → Type 0) (axis : Axis) (kept : List ℕ) 
     blanks = λ p inside none. let b = fills.blanks (in_line axis p (from (line_of axis p))) (inside_mid p inside) none in (b.0, b.1, reads.moved p inside ∙ b.2);
   }
 
-module _ {A : Type 0} (text_of : A → List ℕ) (s : Split) (g : Grid A) (even : IsEven g) where
-  pub unsplit : (is_blank : A → Type 0) → has_pieces s g.rows g.columns ≡ false → Splits is_blank text_of s g g
-  unsplit is_blank e = record {
-    texts = ap (λ (b : Bool). cond b (turned s.lines (cut_rows s (turned s.lines (map_grid text_of g)))) (map_grid text_of g)) (sym e);
-    cells = subst (λ (places : Places). FillsThrough is_blank places g g) (sym (without_pieces (has_pieces s g.rows g.columns) _ (same_places g.rows g.columns) e)) (same_fills is_blank g even);
-    unsplit = λ none. refl;
-  }
+module _ {A : Type 0} (text_of : A → List ℕ) (s : Split) (lines width : ℕ) (g : Grid A) (can : CanBeCut s lines width g) where
+  is_cut : has_pieces s g.rows g.columns ≡ true
+  is_cut = has text_of s lines width g can
 
-  pub has_if : (b : Bool) → nat_lt s.index (count_along (across s.lines) g) ≡ b → 0 < count_along s.lines g → 0 < s.index → has_pieces s g.rows g.columns ≡ b
-  has_if b e some index = rw (counted s.lines g, counted (across s.lines) g, lt-ltb 0 (count_along s.lines g) some, lt-ltb 0 s.index index) e
+  all_places : cut_places s.lines s.behavior s.index lines width ≡ cut_places s.lines s.behavior s.index (count_of s.lines g.rows g.columns) (count_of (across s.lines) g.rows g.columns)
+  all_places = ap₂ (λ (m n : ℕ). cut_places s.lines s.behavior s.index m n) (can.count ∙ sym (counted s.lines g)) (can.wide ∙ sym (counted (across s.lines) g))
 
-  pub none_if : (lines width : ℕ) → lines ≡ count_along s.lines g → width ≡ count_along (across s.lines) g → (lines ≡ 0) ⊎ ((s.index ≡ 0) ⊎ (width ≤ s.index)) → has_pieces s g.rows g.columns ≡ false
-  none_if lines width lines_are width_is none = rw (counted s.lines g, counted (across s.lines) g, ← lines_are, ← width_is) (no (nat_lt 0 lines) (nat_lt 0 s.index) (nat_lt s.index width) (tests none))
-    where
-      tests : (lines ≡ 0) ⊎ ((s.index ≡ 0) ⊎ (width ≤ s.index)) → (nat_lt 0 lines ≡ false) ⊎ ((nat_lt 0 s.index ≡ false) ⊎ (nat_lt s.index width ≡ false))
-      tests (inl e) = inl (le-ltb 0 lines (omega (arith, e)))
-      tests (inr (inl e)) = inr (inl (le-ltb 0 s.index (omega (arith, e))))
-      tests (inr (inr h)) = inr (inr (le-ltb s.index width h))
+  pub retained_places : s.display ≡ Retain → cut_places s.lines s.behavior s.index lines width ≡ split_places s (map_grid text_of g)
+  retained_places e = all_places ∙ sym (with_pieces (has_pieces s g.rows g.columns) _ (same_places g.rows g.columns) is_cut ∙ all_shown s.display s.lines _ _ e)
 
-      no : (x y z : Bool) → (x ≡ false) ⊎ ((y ≡ false) ⊎ (z ≡ false)) → (x && (y && z)) ≡ false
-      no false y z e = refl
-      no true false z e = refl
-      no true true z (inl e) = absurd (true≢false e)
-      no true true z (inr (inl e)) = absurd (true≢false e)
-      no true true z (inr (inr e)) = e
+  pub clean_places : (kept : List ℕ) → s.display ≡ Clean → kept ≡ kept_pieces s (turned s.lines (map_grid text_of g)) → thinned s.lines kept (cut_places s.lines s.behavior s.index lines width) ≡ split_places s (map_grid text_of g)
+  clean_places kept e are =
+      ap₂ (λ (ts : List ℕ) (places : Places). thinned s.lines ts places) are all_places
+      ∙ sym (with_pieces (has_pieces s g.rows g.columns) _ (same_places g.rows g.columns) is_cut ∙ some_shown s.display s.lines _ _ e)
 
-  module _ (is_blank : A → Type 0) (lines width : ℕ) (mid : Grid A) (lines_are : lines ≡ count_along s.lines g) (width_is : width ≡ count_along (across s.lines) g) (some : 0 < lines) (index : 0 < s.index) (narrow : s.index < width) (fills : FillsThrough is_blank (cut_places s.lines s.behavior s.index lines width) g mid) where
-    has : has_pieces s g.rows g.columns ≡ true
-    has = has_if true (lt-ltb s.index (count_along (across s.lines) g) (omega (arith, narrow, width_is))) (omega (arith, some, lines_are)) index
+  -- merged cells go along
+  pub spans_carried : (places : Places) (rows columns : ℕ) (c d : SpanMap) → places ≡ split_places s (map_grid text_of g) → rows ≡ g.rows → columns ≡ g.columns → d ≡ carried places rows columns c →
+      d ≡ carried_if (has_pieces s g.rows g.columns) (split_places s (map_grid text_of g)) g.rows g.columns c
+  spans_carried places rows columns c d same tall wide is =
+      is
+      ∙ ap (λ (places : Places). carried places rows columns c) same
+      ∙ ap₂ (λ (m n : ℕ). carried (split_places s (map_grid text_of g)) m n c) tall wide
+      ∙ ap (λ (b : Bool). carried_if b (split_places s (map_grid text_of g)) g.rows g.columns c) (sym is_cut)
 
-    all_places : cut_places s.lines s.behavior s.index lines width ≡ cut_places s.lines s.behavior s.index (count_of s.lines g.rows g.columns) (count_of (across s.lines) g.rows g.columns)
-    all_places = ap₂ (λ (m n : ℕ). cut_places s.lines s.behavior s.index m n) (lines_are ∙ sym (counted s.lines g)) (width_is ∙ sym (counted (across s.lines) g))
+  module _ (is_blank : A → Type 0) (blank_empty : (c : A) → is_blank c → text_of c ≡ []) (mid : Grid A) (fills : FillsThrough is_blank (cut_places s.lines s.behavior s.index lines width) g mid) where
+    cut : IsCut is_blank s.lines s.behavior s.index lines width g mid
+    cut = fills_cut is_blank s.lines s.behavior s.index lines width g mid fills
 
-    pub retained_splits : s.display ≡ Retain → map_grid text_of mid ≡ split s (map_grid text_of g) → Splits is_blank text_of s g mid
-    retained_splits e texts = record {
-      texts = texts;
-      cells = subst (λ (places : Places). FillsThrough is_blank places g mid) (all_places ∙ sym (with_pieces (has_pieces s g.rows g.columns) _ (same_places g.rows g.columns) has ∙ all_shown s.display s.lines _ _ e)) fills;
-      unsplit = λ none. absurd (true≢false (sym has ∙ none));
+    pub retained_splits : s.display ≡ Retain → Splits is_blank text_of s g mid
+    retained_splits e = record {
+      texts = retained_done text_of s lines width g can is_blank blank_empty mid cut e;
+      cells = subst (λ (places : Places). FillsThrough is_blank places g mid) (retained_places e) fills;
+      unsplit = λ none. absurd (true≢false (sym is_cut ∙ none));
     }
 
-    pub clean_splits : (new : Grid A) (kept : List ℕ) → s.display ≡ Clean → kept ≡ kept_pieces s (turned s.lines (map_grid text_of g)) → IsEven new → count_along s.lines new ≡ length kept → count_along (across s.lines) new ≡ count_along (across s.lines) mid →
-        ((a : ℕ) → a < length kept → (line s.lines new a ≡ line s.lines mid (get_or kept a 0)) × (get_or kept a 0 < count_along s.lines mid)) → map_grid text_of new ≡ split s (map_grid text_of g) → Splits is_blank text_of s g new
-    clean_splits new kept e are new_even count wide each texts = record {
-      texts = texts;
-      cells = subst (λ (places : Places). FillsThrough is_blank places g new)
-          (ap₂ (λ (ts : List ℕ) (places : Places). thinned s.lines ts places) are all_places ∙ sym (with_pieces (has_pieces s g.rows g.columns) _ (same_places g.rows g.columns) has ∙ some_shown s.display s.lines _ _ e))
-          (thinned_fills is_blank s.lines kept (cut_places s.lines s.behavior s.index lines width) g mid new fills new_even count wide each);
-      unsplit = λ none. absurd (true≢false (sym has ∙ none));
-    }
+    module _ (new : Grid A) (kept : List ℕ) (e : s.display ≡ Clean) (are : kept ≡ kept_pieces s (turned s.lines (map_grid text_of g))) (k : KeepsSome s.lines kept mid new) where
+      counts : (count_along s.lines new ≡ length kept) × (count_along (across s.lines) new ≡ count_along (across s.lines) mid)
+      counts = clean_counts text_of s lines width g can is_blank blank_empty mid cut new kept are e k
+
+      pub clean_splits : Splits is_blank text_of s g new
+      clean_splits = record {
+        texts = clean_done text_of s lines width g can is_blank blank_empty mid cut new kept are e k;
+        cells = subst (λ (places : Places). FillsThrough is_blank places g new) (clean_places kept e are)
+            (thinned_fills is_blank s.lines kept (cut_places s.lines s.behavior s.index lines width) g mid new fills k.shape.even counts.0 counts.1 (clean_lines text_of s lines width g can is_blank blank_empty mid cut new kept are e k));
+        unsplit = λ none. absurd (true≢false (sym is_cut ∙ none));
+      }
 
 -- an old place is that of one new place
 some_is : (b : Bool) (p q : Position) → cond b (Some p) None ≡ Some q → p ≡ q
@@ -194,6 +188,11 @@ module _ (s : Split) (lines width : ℕ) (q : Position) (index : 0 < s.index) (h
     takes = takes;
     alone = alone;
   }
+
+  -- which is in the piece of its number
+  pub cut_to : cut_once.to ≡ place_in s.lines (piece_index s.behavior lines (div_ceil width s.index) (line_of s.lines q) (line_of (across s.lines) q / s.index)) (line_of (across s.lines) q % s.index)
+  unfolding cut_once
+  cut_to = refl
 
 pub split_once : (s : Split) (g : Grid (List ℕ)) (q : Position) → s.display ≡ Retain → q.row < g.rows → q.col < g.columns → IsTakenOnce (split_places s g) q
 split_once s g q retained h k = either (has_pieces s g.rows g.columns) refl

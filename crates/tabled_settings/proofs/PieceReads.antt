@@ -1,13 +1,13 @@
 -- The pieces of a grid, read by place.
-use Rattle.std.proofs.Common.{◌≡◌, ℕ, zero, suc, ◌+◌, ◌*◌, ◌<◌, Bool, true, cond, eqb, List, [], ◌∷◌, Some, refl, sym, ap, ap₂, ◌∙◌, subst, length, map, get_or, arith}
+use Rattle.std.proofs.Common.{◌≡◌, ℕ, zero, suc, ◌+◌, ◌*◌, ◌<◌, Bool, true, false, cond, eqb, List, [], ◌∷◌, ◌++◌, Some, refl, sym, ap, ap₂, ◌∙◌, subst, length, map, get_or, arith}
 use Rattle.std.specs.Prelude.{slice_get}
 use Rattle.std.specs.Int.{div_ceil}
 use Rattle.std.specs.List.{AllByRecursion, filter, range_with_len}
 use Rattle.std.specs.Option.{unwrap_or}
 use Rattle.std.proofs.Math.Nat.{zero-div, zero-mod}
 use Rattle.std.proofs.lemmas.Bool.{ne_eqb}
-use Rattle.std.proofs.lemmas.List.{get_or-map as get_or-map_within, length-map}
-use Rattle.std.proofs.lemmas.List.Elements.{All-filter, All-from_recursion}
+use Rattle.std.proofs.lemmas.List.{append-nil, get_or-map as get_or-map_within, length-map}
+use Rattle.std.proofs.lemmas.List.Elements.{All-filter, All-from_recursion, filter-append}
 use Rattle.std.proofs.lemmas.List.FromFn.{get_or-map-range_with_len, get_or-range_with_len, length-map-range_with_len, length-range_with_len}
 use Rattle.std.proofs.lemmas.Option.{slice_get-get_or, unwrap_or-slice_get}
 use Rattle.tabled_grid.specs.Along.{count_along}
@@ -89,6 +89,25 @@ filter_below p n k h = All-filter p (λ (x : ℕ). x < n) (range_with_len 0 n) (
 pub filter_some : (p : ℕ → Bool) (n : ℕ) → 0 < n → p 0 ≡ true → 0 < length (filter p (range_with_len 0 n))
 filter_some p zero h e = absurd (omega (arith, h))
 filter_some p (suc n) h e = rw e (omega arith)
+
+-- one number more is looked at
+range_more : (a n : ℕ) → range_with_len a (suc n) ≡ range_with_len a n ++ (a + n) ∷ []
+range_more a zero = let same : a + 0 ≡ a = omega arith in rw same refl
+range_more a (suc n) = let same : (a + 1) + n ≡ a + suc n = omega arith in ap (λ ys. a ∷ ys) (range_more (a + 1) n ∙ ap (λ k. range_with_len (a + 1) n ++ k ∷ []) same)
+
+pub filter_more : (p : ℕ → Bool) (n m : ℕ) → m ≡ n + 1 → filter p (range_with_len 0 m) ≡ filter p (range_with_len 0 n) ++ cond (p n) (n ∷ []) []
+filter_more p n m next =
+    let one : m ≡ suc n = omega (arith, next) in
+    let same : 0 + n ≡ n = omega arith in
+    ap (λ (k : ℕ). filter p (range_with_len 0 k)) one
+    ∙ ap (filter p) (range_more 0 n ∙ ap (λ (k : ℕ). range_with_len 0 n ++ k ∷ []) same)
+    ∙ filter-append p (range_with_len 0 n) (n ∷ [])
+
+pub filter_push : (p : ℕ → Bool) (n m : ℕ) (xs ys : List ℕ) → m ≡ n + 1 → p n ≡ true → xs ≡ filter p (range_with_len 0 n) → ys ≡ xs ++ n ∷ [] → ys ≡ filter p (range_with_len 0 m)
+filter_push p n m xs ys next e are is = is ∙ ap (λ (zs : List ℕ). zs ++ n ∷ []) are ∙ sym (filter_more p n m next ∙ ap (λ (b : Bool). filter p (range_with_len 0 n) ++ cond b (n ∷ []) []) e)
+
+pub filter_skip : (p : ℕ → Bool) (n m : ℕ) (xs : List ℕ) → m ≡ n + 1 → p n ≡ false → xs ≡ filter p (range_with_len 0 n) → xs ≡ filter p (range_with_len 0 m)
+filter_skip p n m xs next e are = are ∙ sym (filter_more p n m next ∙ ap (λ (b : Bool). filter p (range_with_len 0 n) ++ cond b (n ∷ []) []) e ∙ append-nil (filter p (range_with_len 0 n)))
 
 pub first_number : (o : PieceOrder) (lines pieces : ℕ) → (nth_piece o lines pieces 0).1 ≡ 0
 first_number Zip lines pieces = zero-mod pieces

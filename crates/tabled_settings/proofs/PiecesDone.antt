@@ -1,11 +1,15 @@
 -- The texts of lines that are pieces.
-use Rattle.std.proofs.Common.{◌≡◌, ℕ, suc, ◌+◌, ◌*◌, ◌<◌, ◌≤◌, ◌⊎◌, inl, inr, Bool, true, false, cond, eqb, List, [], ◌∷◌, Option, None, Some, refl, sym, ap, ap₂, ◌∙◌, subst, length, get_or, arith}
-use Rattle.std.specs.Prelude.{not, ◌||◌}
+use Rattle.std.proofs.Common.{◌≡◌, ◌≢◌, ℕ, ◌+◌, ◌-◌, ◌*◌, ◌<◌, ◌≤◌, ◌⊎◌, inl, inr, Bool, true, false, cond, eqb, List, [], Option, None, Some, refl, sym, ap, ap₂, ◌∙◌, subst, length, get_or, arith}
+use Rattle.std.specs.Prelude.{min}
 use Rattle.std.specs.Int.{div_ceil}
 use Rattle.std.specs.List.{filter, list_any, range_with_len}
+use Rattle.std.specs.List.Sorted.{IsStrictlyIncreasing}
 use Rattle.std.specs.Option.{option_map, unwrap_or}
 use Rattle.std.proofs.lemmas.Bool.{cases_lt, lt-ltb, ne_eqb}
 use Rattle.std.proofs.lemmas.Nat.{row_fits}
+use Rattle.std.proofs.lemmas.List.{get_or_default}
+use Rattle.std.proofs.lemmas.List.Folds.{list_any_at, list_any_none}
+use Rattle.std.proofs.lemmas.List.Kept.{IsStrictlyIncreasing-filter}
 use Rattle.std.proofs.lemmas.List.FromFn.{get_or-range_with_len, length-range_with_len}
 use Rattle.std.proofs.lemmas.Option.{unwrap_or-slice_get}
 use Rattle.tabled_grid.specs.Along.{count_along}
@@ -16,17 +20,17 @@ use Rattle.tabled_grid.proofs.Grids.{IsEven-map_grid, cell_at-map_grid, cell_at-
 use Rattle.tabled_settings.specs.declared.split.Display.{Display}
 use Rattle.tabled_settings.specs.declared.split.Display.TheVariants.{Clean, Retain}
 use Rattle.tabled_settings.specs.declared.split.Split.{Split}
-use Rattle.tabled_settings.specs.Lines.{DropsLines, HasLines, line}
+use Rattle.tabled_settings.specs.Lines.{HasLines, KeepsSome, line}
 use Rattle.tabled_grid.proofs.PiecesCut.{ComesFrom, IsCut, enough_pieces, some_pieces}
 use Rattle.tabled_grid.proofs.PiecesPut.{inside_of, piece_line, source}
 use Rattle.tabled_settings.specs.PiecePlaces.{kept_pieces}
-use Rattle.tabled_settings.specs.PieceTexts.{has_text, is_empty_piece}
+use Rattle.tabled_settings.specs.PieceTexts.{has_text}
 use Rattle.tabled_grid.specs.Axis.{across, count_of, place_in}
 use Rattle.tabled_grid.specs.Pieces.{nth_piece}
-use Rattle.tabled_settings.specs.Pieces.{has_pieces, is_text, piece_at, split, staying, stays, turned}
-use Rattle.tabled_settings.specs.Rearranged.{left_over}
-use Rattle.tabled_settings.proofs.PieceReads.{filter_all, filter_alike, filter_below, filter_some, first_number, length-piece, piece_text, pieces_are, some_inside, turned_cell, turned_columns, turned_even, turned_rows}
-use Rattle.tabled_settings.proofs.PieceTexts.{at_line, length-line}
+use Rattle.tabled_settings.specs.Pieces.{has_pieces, is_text, piece_at, split, staying, stays, stays_at, turned}
+use Rattle.tabled_settings.proofs.PieceReads.{filter_all, filter_below, filter_some, first_number, length-piece, piece_text, pieces_are, some_inside, turned_cell, turned_columns, turned_even, turned_rows}
+use Rattle.tabled_settings.proofs.PieceTexts.{at_line}
+use Rattle.tabled_settings.proofs.RisingLists.{range_rises}
 use Rattle.tabled_settings.proofs.SameCells.{none_outside}
 
 pub map_count : {A B : Type 0} (f : A → B) (axis : Axis) (g : Grid A) → count_along axis (map_grid f g) ≡ count_along axis g
@@ -37,28 +41,26 @@ pub counted : {A : Type 0} (axis : Axis) (g : Grid A) → count_of axis g.rows g
 counted Rows g = refl
 counted Columns g = refl
 
+pub lines_counted : {A : Type 0} (axis : Axis) (g : Grid A) (n rows columns : ℕ) → n ≡ count_of axis rows columns → rows ≡ g.rows → columns ≡ g.columns → n ≡ count_along axis g
+lines_counted axis g n rows columns n_is rows_are columns_are = n_is ∙ ap₂ (count_of axis) rows_are columns_are ∙ counted axis g
+
 pub past_line : {A : Type 0} (axis : Axis) (g : Grid A) (i j : ℕ) → IsEven g → count_along (across axis) g ≤ j → cell_at g (place_in axis i j) ≡ None
 past_line Rows g i j even h = none_outside g i j even (inr h)
 past_line Columns g i j even h = none_outside g j i even (inl h)
 
--- cells and texts that are the same have a text alike
-any_alike : {A : Type 0} (text_of : A → List ℕ) (cells : List (Option A)) (texts : List (List ℕ)) → length cells ≡ length texts → ((b : ℕ) → b < length texts → option_map text_of (get_or cells b None) ≡ Some (get_or texts b [])) →
-    list_any (has_text text_of) cells ≡ list_any is_text texts
-any_alike text_of [] [] long each = refl
-any_alike text_of [] (text ∷ texts) long each = absurd (omega (arith, long))
-any_alike text_of (cell ∷ cells) [] long each = absurd (omega (arith, long))
-any_alike {A} text_of (cell ∷ cells) (text ∷ texts) long each =
-    ap₂ (λ (a b : Bool). a || b) (here cell (each 0 (omega arith))) (any_alike text_of cells texts (omega (arith, long)) (λ b h. each (suc b) (omega (arith, h))))
-  where
-    here : (cell : Option A) → option_map text_of cell ≡ Some text → has_text text_of cell ≡ is_text text
-    here None e = cc
-    here (Some c) e = ap is_text (same e)
-      where
-        same : Some (text_of c) ≡ Some text → text_of c ≡ text
-        same is = cc
+-- so many lines of a width, which are longer than a piece
+pub record CanBeCut {A : Type 0} (s : Split) (lines width : ℕ) (g : Grid A) : Type 0 where
+  pub even : IsEven g
+  pub count : lines ≡ count_along s.lines g
+  pub wide : width ≡ count_along (across s.lines) g
+  pub some : 0 < lines
+  pub index : 0 < s.index
+  pub narrow : s.index < width
 
-module _ {A : Type 0} (text_of : A → List ℕ) (is_blank : A → Type 0) (blank_empty : (c : A) → is_blank c → text_of c ≡ []) (s : Split) (lines width pieces : ℕ) (g mid : Grid A) (even : IsEven g) (lines_are : lines ≡ count_along s.lines g)
-    (width_is : width ≡ count_along (across s.lines) g) (pieces_is : pieces ≡ div_ceil width s.index) (some : 0 < lines) (index : 0 < s.index) (narrow : s.index < width) (cut : IsCut is_blank s.lines s.behavior s.index lines width g mid) where
+module _ {A : Type 0} (text_of : A → List ℕ) (s : Split) (lines width : ℕ) (g : Grid A) (can : CanBeCut s lines width g) where
+  abbrev pieces : ℕ
+  pieces = div_ceil width s.index
+
   abbrev texts : Grid (List ℕ)
   texts = map_grid text_of g
 
@@ -66,19 +68,19 @@ module _ {A : Type 0} (text_of : A → List ℕ) (is_blank : A → Type 0) (blan
   rows = (turned s.lines texts).cells
 
   texts_even : IsEven texts
-  texts_even = IsEven-map_grid text_of g even
+  texts_even = IsEven-map_grid text_of g can.even
 
   texts_lines : count_along s.lines texts ≡ lines
-  texts_lines = map_count text_of s.lines g ∙ sym lines_are
+  texts_lines = map_count text_of s.lines g ∙ sym can.count
 
   texts_width : count_along (across s.lines) texts ≡ width
-  texts_width = map_count text_of (across s.lines) g ∙ sym width_is
+  texts_width = map_count text_of (across s.lines) g ∙ sym can.wide
 
   long : length rows ≡ lines
-  long = (turned_even s.lines texts texts_even (omega (arith, some, texts_lines))).tall ∙ turned_rows s.lines texts ∙ texts_lines
+  long = (turned_even s.lines texts texts_even (omega (arith, can.some, texts_lines))).tall ∙ turned_rows s.lines texts ∙ texts_lines
 
   any : 0 < pieces
-  any = some_pieces pieces s.index width (omega (arith, narrow)) (enough_pieces pieces s.index width index pieces_is)
+  any = some_pieces pieces s.index width (omega (arith, can.narrow)) (enough_pieces pieces s.index width can.index refl)
 
   piece_read : (t b : ℕ) → b < s.index → get_or (piece_at s pieces rows t) b [] ≡ unwrap_or (cell_at texts (source s.lines s.behavior s.index lines pieces t b)) []
   piece_read t b k =
@@ -90,125 +92,168 @@ module _ {A : Type 0} (text_of : A → List ℕ) (is_blank : A → Type 0) (blan
       ∙ ap (λ (o : Option (List ℕ)). unwrap_or o none) (turned_cell s.lines texts from (number * s.index + b) texts_even)
       ∙ ap (λ (m : ℕ). unwrap_or (cell_at texts (source s.lines s.behavior s.index m pieces t b)) none) long
 
-  pub mid_text : (t b : ℕ) → t < lines * pieces → b < s.index → cell_at (map_grid text_of mid) (place_in s.lines t b) ≡ Some (get_or (piece_at s pieces rows t) b [])
-  mid_text t b h k = either (cases_lt j width) ∙ ap Some (sym (piece_read t b k))
-    where
-      j : ℕ
-      j = (nth_piece s.behavior lines pieces t).1 * s.index + b
+  -- the pieces that stay, by number
+  pub staying_is : kept_pieces s (turned s.lines texts) ≡ filter (stays_at s pieces rows) (range_with_len 0 (lines * pieces))
+  staying_is =
+      ap (λ (n : ℕ). staying s n rows) (ap (λ (n : ℕ). div_ceil n s.index) (turned_columns s.lines texts (omega (arith, can.some, texts_lines)) ∙ texts_width))
+      ∙ ap (λ (n : ℕ). filter (stays_at s pieces rows) (range_with_len 0 (n * pieces))) long
 
-      comes : ComesFrom is_blank g mid (source s.lines s.behavior s.index lines pieces t b) (place_in s.lines t b) ((nth_piece s.behavior lines pieces t).1 * s.index + b) width
-      comes = rw pieces_is (cut.cells t b (rw (← pieces_is) h) k)
+  pub kept_rising : IsStrictlyIncreasing (kept_pieces s (turned s.lines texts))
+  kept_rising = subst IsStrictlyIncreasing (sym staying_is) (IsStrictlyIncreasing-filter (stays_at s pieces rows) (range_with_len 0 (lines * pieces)) (range_rises (lines * pieces)))
 
-      either : (((nth_piece s.behavior lines pieces t).1 * s.index + b) < width) ⊎ (width ≤ ((nth_piece s.behavior lines pieces t).1 * s.index + b)) → cell_at (map_grid text_of mid) (place_in s.lines t b) ≡ Some (unwrap_or (cell_at texts (source s.lines s.behavior s.index lines pieces t b)) [])
-      either (inl below) =
-          let none : List ℕ = [] in
-          let at : IsInside texts (source s.lines s.behavior s.index lines pieces t b) = inside_of s.lines texts (nth_piece s.behavior lines pieces t).0 ((nth_piece s.behavior lines pieces t).1 * s.index + b) (omega (arith, texts_lines, piece_line s.behavior lines pieces t some any h)) (omega (arith, texts_width, below)) in
-          cell_at-map_grid text_of mid (place_in s.lines t b)
-          ∙ ap (option_map text_of) (comes.cell below)
-          ∙ sym (cell_at-map_grid text_of g (source s.lines s.behavior s.index lines pieces t b))
-          ∙ some_inside texts (source s.lines s.behavior s.index lines pieces t b) none texts_even at
-      either (inr past) =
-          let none : List ℕ = [] in
-          let c = comes.blank past in
-          cell_at-map_grid_some text_of mid (place_in s.lines t b) c.0 c.2
-          ∙ ap Some (blank_empty c.0 c.1 ∙ ap (λ (o : Option (List ℕ)). unwrap_or o none) (sym (past_line s.lines texts (nth_piece s.behavior lines pieces t).0 ((nth_piece s.behavior lines pieces t).1 * s.index + b) texts_even (omega (arith, texts_width, past)))))
+  pub kept_below : (a : ℕ) → a < length (kept_pieces s (turned s.lines texts)) → get_or (kept_pieces s (turned s.lines texts)) a 0 < lines * pieces
+  kept_below = subst (λ (ts : List ℕ). (a : ℕ) → a < length ts → get_or ts a 0 < lines * pieces) (sym staying_is) (filter_below (stays_at s pieces rows) (lines * pieces))
 
-  has : has_pieces s texts.rows texts.columns ≡ true
-  has = rw (counted s.lines texts, counted (across s.lines) texts, texts_lines, texts_width, lt-ltb 0 lines some, lt-ltb 0 s.index index, lt-ltb s.index width narrow) refl
+  -- where the first pieces of all lines stay, and of the others those with a text
+  module _ (clean : s.display ≡ Clean) (t : ℕ) where
+    abbrev number : ℕ
+    number = (nth_piece s.behavior lines pieces t).1
 
-  made : (new : Grid A) (ts : List ℕ) → ts ≡ staying s pieces rows → IsEven new → count_along s.lines new ≡ length ts → count_along (across s.lines) new ≡ s.index →
-      ((a b : ℕ) → a < length ts → b < s.index → (cell_at new (place_in s.lines a b) ≡ cell_at mid (place_in s.lines (get_or ts a 0) b)) × (get_or ts a 0 < lines * pieces)) → map_grid text_of new ≡ split s texts
-  made new ts are new_even count wide each =
-      pieces_are s texts (map_grid text_of new) pieces texts_even (IsEven-map_grid text_of new new_even) (omega (arith, some, texts_lines)) index (pieces_is ∙ ap (λ (n : ℕ). div_ceil n s.index) (sym texts_width))
-      (map_count text_of s.lines new ∙ count ∙ ap length are) (map_count text_of (across s.lines) new ∙ wide)
-      (subst (λ (ts : List ℕ). (a b : ℕ) → a < length ts → b < s.index → cell_at (map_grid text_of new) (place_in s.lines a b) ≡ Some (get_or (piece_at s pieces rows (get_or ts a 0)) b [])) are
-      (λ a b h k.
-      let from = each a b h k in
-      cell_at-map_grid text_of new (place_in s.lines a b)
-      ∙ ap (option_map text_of) from.0
-      ∙ sym (cell_at-map_grid text_of mid (place_in s.lines (get_or ts a 0) b))
-      ∙ mid_text (get_or ts a 0) b from.1 k))
-      ∙ sym (chosen (has_pieces s texts.rows texts.columns) has)
-    where
-      chosen : (b : Bool) → b ≡ true → cond b (turned s.lines (Rattle.tabled_settings.specs.Pieces.cut_rows s (turned s.lines texts))) texts ≡ turned s.lines (Rattle.tabled_settings.specs.Pieces.cut_rows s (turned s.lines texts))
-      chosen b e = rw e refl
+    abbrev start : ℕ
+    start = (nth_piece s.behavior lines pieces t).1 * s.index
+
+    abbrev text_at : ℕ → Bool
+    text_at j = has_text texts (place_in s.lines (nth_piece s.behavior lines pieces t).0 j)
+
+    cleaned : (d : Display) (k : ℕ) (texts : List (List ℕ)) → d ≡ Clean → stays d k texts ≡ cond (eqb k 0) true (list_any is_text texts)
+    cleaned d k texts is = rw is refl
+
+    told : stays_at s pieces rows t ≡ cond (eqb number 0) true (list_any is_text (piece_at s pieces rows t))
+    told =
+        cleaned s.display (nth_piece s.behavior (length rows) pieces t).1 (piece_at s pieces rows t) clean
+        ∙ ap (λ (m : ℕ). cond (eqb (nth_piece s.behavior m pieces t).1 0) true (list_any is_text (piece_at s pieces rows t))) long
+
+    wide : length (piece_at s pieces rows t) ≡ s.index
+    wide = length-piece s.index (nth_piece s.behavior (length rows) pieces t).1 (get_or rows (nth_piece s.behavior (length rows) pieces t).0 [])
+
+    pub first_stays : number ≡ 0 → stays_at s pieces rows t ≡ true
+    first_stays e = told ∙ ap (λ (k : ℕ). cond (eqb k 0) true (list_any is_text (piece_at s pieces rows t))) e
+
+    text_stays : (j : ℕ) → start ≤ j → j < start + s.index → text_at j ≡ true → stays_at s pieces rows t ≡ true
+    text_stays j from to has = told ∙ ap (λ (b : Bool). cond (eqb number 0) true b) found ∙ either_true (eqb number 0)
+      where
+        either_true : (b : Bool) → cond b true true ≡ true
+        either_true true = refl
+        either_true false = refl
+
+        at : start + (j - start) ≡ j
+        at = omega (arith, from)
+
+        found : list_any is_text (piece_at s pieces rows t) ≡ true
+        found =
+            let none : List ℕ = [] in
+            let b : ℕ = j - start in
+            let b_in : b < s.index = omega (arith, from, to) in
+            list_any_at is_text (piece_at s pieces rows t) b none (omega (arith, wide, b_in))
+            (ap is_text (piece_read t b b_in) ∙ ap (λ (j : ℕ). text_at j) at ∙ has)
+
+    others_go : number ≢ 0 → ((j : ℕ) → start ≤ j → j < start + s.index → j < width → text_at j ≡ false) → stays_at s pieces rows t ≡ false
+    others_go later none = told ∙ ap₂ (λ (b c : Bool). cond b true c) (ne_eqb number 0 later) (list_any_none is_text (piece_at s pieces rows t) (λ b d h. each b d (omega (arith, h, wide))))
+      where
+        past : (b : ℕ) → width ≤ start + b → text_at (start + b) ≡ false
+        past b h =
+            let no_text : List ℕ = [] in
+            ap (λ (o : Option (List ℕ)). is_text (unwrap_or o no_text)) (past_line s.lines texts (nth_piece s.behavior lines pieces t).0 (start + b) texts_even (omega (arith, texts_width, h)))
+
+        either : (b : ℕ) → b < s.index → ((start + b) < width) ⊎ (width ≤ (start + b)) →
+            text_at (start + b) ≡ false
+        either b h (inl below) = none (start + b) (omega arith) (omega (arith, h)) below
+        either b h (inr h2) = past b h2
+
+        each : (b : ℕ) (d : List ℕ) → b < s.index → is_text (get_or (piece_at s pieces rows t) b d) ≡ false
+        each b d h =
+            ap is_text (get_or_default (piece_at s pieces rows t) b d [] (omega (arith, h, wide)) ∙ piece_read t b h)
+            ∙ either b h (cases_lt (start + b) width)
+
+    pub others_stay : (found : Bool) (n : ℕ) → number ≢ 0 → n ≡ min s.index (width - start) → (found ≡ true → (j : ℕ) × (start ≤ j) × (j < start + n) × (text_at j ≡ true)) → (found ≡ false → (j : ℕ) → start ≤ j → j < start + n → text_at j ≡ false) → found ≡ stays_at s pieces rows t
+    others_stay true n later e has none = let h = has refl in sym (text_stays h.0 h.1 (omega (arith, h.2, e)) h.3)
+    others_stay false n later e has none = sym (others_go later (λ j from to below. none refl j from (omega (arith, e, to, below))))
+
+  pub has : has_pieces s texts.rows texts.columns ≡ true
+  has = rw (counted s.lines texts, counted (across s.lines) texts, texts_lines, texts_width, lt-ltb 0 lines can.some, lt-ltb 0 s.index can.index, lt-ltb s.index width can.narrow) refl
+
+  staying_all : staying s pieces rows ≡ filter (stays_at s pieces rows) (range_with_len 0 (lines * pieces))
+  staying_all = ap (λ (n : ℕ). filter (stays_at s pieces rows) (range_with_len 0 (n * pieces))) long
 
   all_stay : s.display ≡ Retain → staying s pieces rows ≡ range_with_len 0 (lines * pieces)
   all_stay e =
-      filter_all (λ (t : ℕ). stays s.display (nth_piece s.behavior (length rows) pieces t).1 (piece_at s pieces rows t)) (λ t. retained s.display (nth_piece s.behavior (length rows) pieces t).1 (piece_at s pieces rows t) e) (range_with_len 0 (length rows * pieces))
+      filter_all (stays_at s pieces rows) (λ t. retained s.display (nth_piece s.behavior (length rows) pieces t).1 (piece_at s pieces rows t) e) (range_with_len 0 (length rows * pieces))
       ∙ ap (λ (n : ℕ). range_with_len 0 (n * pieces)) long
     where
       retained : (d : Display) (k : ℕ) (texts : List (List ℕ)) → d ≡ Retain → stays d k texts ≡ true
       retained d k texts is = rw is refl
 
-  pub retained_done : s.display ≡ Retain → map_grid text_of mid ≡ split s texts
-  retained_done e =
-      made mid (range_with_len 0 (lines * pieces)) (sym (all_stay e)) cut.even ((rw (← pieces_is) at cut.count) ∙ sym (length-range_with_len 0 (lines * pieces))) cut.wide
-      (λ a b h k.
-      let below : a < lines * pieces = omega (arith, h, length-range_with_len 0 (lines * pieces)) in
-      let read = get_or-range_with_len 0 (lines * pieces) a 0 below in
-      let at : get_or (range_with_len 0 (lines * pieces)) a 0 ≡ a = omega (arith, read) in
-      (ap (λ (m : ℕ). cell_at mid (place_in s.lines m b)) (sym at), omega (arith, at, below)))
+  module _ (is_blank : A → Type 0) (blank_empty : (c : A) → is_blank c → text_of c ≡ []) (mid : Grid A) (cut : IsCut is_blank s.lines s.behavior s.index lines width g mid) where
+    mid_text : (t b : ℕ) → t < lines * pieces → b < s.index → cell_at (map_grid text_of mid) (place_in s.lines t b) ≡ Some (get_or (piece_at s pieces rows t) b [])
+    mid_text t b h k = either (cases_lt j width) ∙ ap Some (sym (piece_read t b k))
+      where
+        j : ℕ
+        j = (nth_piece s.behavior lines pieces t).1 * s.index + b
 
-  -- a piece stays where it isn't an empty one
-  stays_alike : s.display ≡ Clean → (t : ℕ) → t < lines * pieces → not (is_empty_piece text_of s lines pieces mid t) ≡ stays s.display (nth_piece s.behavior (length rows) pieces t).1 (piece_at s pieces rows t)
-  stays_alike e t h =
-      both (eqb (nth_piece s.behavior lines pieces t).1 0) (list_any (has_text text_of) (line s.lines mid t))
-      ∙ ap₂ (λ (m : ℕ) (b : Bool). cond (eqb (nth_piece s.behavior m pieces t).1 0) true b) (sym long) same
-      ∙ sym (cleaned s.display (nth_piece s.behavior (length rows) pieces t).1 (piece_at s pieces rows t) e)
-    where
-      both : (first found : Bool) → not (cond first false (not found)) ≡ cond first true found
-      both true found = refl
-      both false true = refl
-      both false false = refl
+        comes : ComesFrom is_blank g mid (source s.lines s.behavior s.index lines pieces t b) (place_in s.lines t b) ((nth_piece s.behavior lines pieces t).1 * s.index + b) width
+        comes = cut.cells t b h k
 
-      cleaned : (d : Display) (k : ℕ) (texts : List (List ℕ)) → d ≡ Clean → stays d k texts ≡ cond (eqb k 0) true (list_any is_text texts)
-      cleaned d k texts is = rw is refl
+        either : (((nth_piece s.behavior lines pieces t).1 * s.index + b) < width) ⊎ (width ≤ ((nth_piece s.behavior lines pieces t).1 * s.index + b)) → cell_at (map_grid text_of mid) (place_in s.lines t b) ≡ Some (unwrap_or (cell_at texts (source s.lines s.behavior s.index lines pieces t b)) [])
+        either (inl below) =
+            let none : List ℕ = [] in
+            let at : IsInside texts (source s.lines s.behavior s.index lines pieces t b) = inside_of s.lines texts (nth_piece s.behavior lines pieces t).0 ((nth_piece s.behavior lines pieces t).1 * s.index + b) (omega (arith, texts_lines, piece_line s.behavior lines pieces t can.some any h)) (omega (arith, texts_width, below)) in
+            cell_at-map_grid text_of mid (place_in s.lines t b)
+            ∙ ap (option_map text_of) (comes.cell below)
+            ∙ sym (cell_at-map_grid text_of g (source s.lines s.behavior s.index lines pieces t b))
+            ∙ some_inside texts (source s.lines s.behavior s.index lines pieces t b) none texts_even at
+        either (inr past) =
+            let none : List ℕ = [] in
+            let c = comes.blank past in
+            cell_at-map_grid_some text_of mid (place_in s.lines t b) c.0 c.2
+            ∙ ap Some (blank_empty c.0 c.1 ∙ ap (λ (o : Option (List ℕ)). unwrap_or o none) (sym (past_line s.lines texts (nth_piece s.behavior lines pieces t).0 ((nth_piece s.behavior lines pieces t).1 * s.index + b) texts_even (omega (arith, texts_width, past)))))
 
-      wide : length (piece_at s pieces rows t) ≡ s.index
-      wide = length-piece s.index (nth_piece s.behavior (length rows) pieces t).1 (get_or rows (nth_piece s.behavior (length rows) pieces t).0 [])
+    made : (new : Grid A) (ts : List ℕ) → ts ≡ staying s pieces rows → IsEven new → count_along s.lines new ≡ length ts → count_along (across s.lines) new ≡ s.index →
+        ((a b : ℕ) → a < length ts → b < s.index → (cell_at new (place_in s.lines a b) ≡ cell_at mid (place_in s.lines (get_or ts a 0) b)) × (get_or ts a 0 < lines * pieces)) → map_grid text_of new ≡ split s texts
+    made new ts are new_even count wide each =
+        pieces_are s texts (map_grid text_of new) pieces texts_even (IsEven-map_grid text_of new new_even) (omega (arith, can.some, texts_lines)) can.index (ap (λ (n : ℕ). div_ceil n s.index) (sym texts_width))
+        (map_count text_of s.lines new ∙ count ∙ ap length are) (map_count text_of (across s.lines) new ∙ wide)
+        (subst (λ (ts : List ℕ). (a b : ℕ) → a < length ts → b < s.index → cell_at (map_grid text_of new) (place_in s.lines a b) ≡ Some (get_or (piece_at s pieces rows (get_or ts a 0)) b [])) are
+        (λ a b h k.
+        let from = each a b h k in
+        cell_at-map_grid text_of new (place_in s.lines a b)
+        ∙ ap (option_map text_of) from.0
+        ∙ sym (cell_at-map_grid text_of mid (place_in s.lines (get_or ts a 0) b))
+        ∙ mid_text (get_or ts a 0) b from.1 k))
+        ∙ sym (chosen (has_pieces s texts.rows texts.columns) has)
+      where
+        chosen : (b : Bool) → b ≡ true → cond b (turned s.lines (Rattle.tabled_settings.specs.Pieces.cut_rows s (turned s.lines texts))) texts ≡ turned s.lines (Rattle.tabled_settings.specs.Pieces.cut_rows s (turned s.lines texts))
+        chosen b e = rw e refl
 
-      same : list_any (has_text text_of) (line s.lines mid t) ≡ list_any is_text (piece_at s pieces rows t)
-      same =
-          any_alike text_of (line s.lines mid t) (piece_at s pieces rows t)
-          (length-line s.lines mid t cut.even (omega (arith, h, (rw (← pieces_is) at cut.count))) ∙ cut.wide ∙ sym wide)
-          (λ b k. ap (option_map text_of) (sym (at_line s.lines mid t b)) ∙ sym (cell_at-map_grid text_of mid (place_in s.lines t b)) ∙ mid_text t b h (omega (arith, k, wide)))
+    pub retained_done : s.display ≡ Retain → map_grid text_of mid ≡ split s texts
+    retained_done e =
+        made mid (range_with_len 0 (lines * pieces)) (sym (all_stay e)) cut.even (cut.count ∙ sym (length-range_with_len 0 (lines * pieces))) cut.wide
+        (λ a b h k.
+        let below : a < lines * pieces = omega (arith, h, length-range_with_len 0 (lines * pieces)) in
+        let read = get_or-range_with_len 0 (lines * pieces) a 0 below in
+        let at : get_or (range_with_len 0 (lines * pieces)) a 0 ≡ a = omega (arith, read) in
+        (ap (λ (m : ℕ). cell_at mid (place_in s.lines m b)) (sym at), omega (arith, at, below)))
 
-  some_stay : s.display ≡ Clean → staying s pieces rows ≡ left_over (is_empty_piece text_of s lines pieces mid) (lines * pieces)
-  some_stay e =
-      ap (λ (n : ℕ). filter (λ (t : ℕ). stays s.display (nth_piece s.behavior (length rows) pieces t).1 (piece_at s pieces rows t)) (range_with_len 0 (n * pieces))) long
-      ∙ sym (filter_alike (λ (t : ℕ). not (is_empty_piece text_of s lines pieces mid t)) (λ (t : ℕ). stays s.display (nth_piece s.behavior (length rows) pieces t).1 (piece_at s pieces rows t)) 0 (lines * pieces) (λ t h. stays_alike e t (omega (arith, h))))
+    module _ (new : Grid A) (kept : List ℕ) (are : kept ≡ kept_pieces s (turned s.lines texts)) (clean : s.display ≡ Clean) (k : KeepsSome s.lines kept mid new) where
+      all_kept : kept ≡ filter (stays_at s pieces rows) (range_with_len 0 (lines * pieces))
+      all_kept = are ∙ staying_is
 
-  clean_shape : (axis : Axis) (n : ℕ) (new : Grid A) → 0 < n → HasLines axis n mid new → (count_along axis new ≡ n) × (count_along (across axis) new ≡ count_along (across axis) mid)
-  clean_shape Rows n new h l = (l.rows, l.columns ∙ ap (λ (b : Bool). cond b 0 mid.columns) (ne_eqb n 0 (λ e. omega (arith, e, h))))
-  clean_shape Columns n new h l = (l.columns, l.rows)
+      pub clean_counts : (count_along s.lines new ≡ length kept) × (count_along (across s.lines) new ≡ count_along (across s.lines) mid)
+      clean_counts =
+          let all : 0 < lines * pieces = omega (arith, row_fits 0 lines pieces lines any (omega arith), can.some) in
+          let few = filter_some (stays_at s pieces rows) (lines * pieces) all (first_stays clean 0 (first_number s.behavior lines pieces)) in
+          clean_shape s.lines (length kept) (omega (arith, few, ap length all_kept)) k.shape
+        where
+          clean_shape : (axis : Axis) (n : ℕ) → 0 < n → HasLines axis n mid new → (count_along axis new ≡ n) × (count_along (across axis) new ≡ count_along (across axis) mid)
+          clean_shape Rows n h l = (l.rows, l.columns ∙ ap (λ (b : Bool). cond b 0 mid.columns) (ne_eqb n 0 (λ e. omega (arith, e, h))))
+          clean_shape Columns n h l = (l.columns, l.rows)
 
-  module _ (new : Grid A) (clean : s.display ≡ Clean) (d : DropsLines s.lines (is_empty_piece text_of s lines pieces mid) mid new) where
-    abbrev pub left : List ℕ
-    left = left_over (is_empty_piece text_of s lines pieces mid) (lines * pieces)
+      below : (a : ℕ) → a < length kept → get_or kept a 0 < lines * pieces
+      below = subst (λ (ts : List ℕ). (a : ℕ) → a < length ts → get_or ts a 0 < lines * pieces) (sym are) kept_below
 
-    count : count_along s.lines mid ≡ lines * pieces
-    count = (rw (← pieces_is) at cut.count)
+      pub clean_lines : (a : ℕ) → a < length kept → (line s.lines new a ≡ line s.lines mid (get_or kept a 0)) × (get_or kept a 0 < count_along s.lines mid)
+      clean_lines a h = (k.each a h, omega (arith, below a h, cut.count))
 
-    shape : (count_along s.lines new ≡ length left) × (count_along (across s.lines) new ≡ count_along (across s.lines) mid)
-    shape =
-        let all : 0 < lines * pieces = omega (arith, row_fits 0 lines pieces lines any (omega arith), some) in
-        let first : not (is_empty_piece text_of s lines pieces mid 0) ≡ true = rw (first_number s.behavior lines pieces) refl in
-        clean_shape s.lines (length left) new (filter_some (λ (t : ℕ). not (is_empty_piece text_of s lines pieces mid t)) (lines * pieces) all first) (rw count at d.shape)
-
-    read : (a : ℕ) → a < length left → (line s.lines new a ≡ line s.lines mid (get_or left a 0)) × (get_or left a 0 < lines * pieces)
-    read a h = ((rw count at d.kept) a h, filter_below (λ (t : ℕ). not (is_empty_piece text_of s lines pieces mid t)) (lines * pieces) a h)
-
-    pub clean_done : map_grid text_of new ≡ split s texts
-    clean_done =
-        made new left (sym (some_stay clean)) d.shape.even shape.0 (shape.1 ∙ cut.wide)
-        (λ a b h k. (at_line s.lines new a b ∙ ap (λ (cells : List (Option A)). get_or cells b None) (read a h).0 ∙ sym (at_line s.lines mid (get_or left a 0) b), (read a h).1))
-
-    pub clean_kept : left ≡ kept_pieces s (turned s.lines texts)
-    clean_kept = sym (some_stay clean) ∙ ap (λ (n : ℕ). staying s n rows) (pieces_is ∙ ap (λ (n : ℕ). div_ceil n s.index) (sym (turned_columns s.lines texts (omega (arith, some, texts_lines)) ∙ texts_width)))
-
-    pub clean_lines : (a : ℕ) → a < length left → (line s.lines new a ≡ line s.lines mid (get_or left a 0)) × (get_or left a 0 < count_along s.lines mid)
-    clean_lines a h = ((read a h).0, omega (arith, (read a h).1, count))
-
-    pub clean_counts : (count_along s.lines new ≡ length left) × (count_along (across s.lines) new ≡ count_along (across s.lines) mid)
-    clean_counts = shape
+      pub clean_done : map_grid text_of new ≡ split s texts
+      clean_done =
+          made new kept (all_kept ∙ sym staying_all) k.shape.even clean_counts.0 (clean_counts.1 ∙ cut.wide)
+          (λ a b h l. (at_line s.lines new a b ∙ ap (λ (cells : List (Option A)). get_or cells b None) (k.each a h) ∙ sym (at_line s.lines mid (get_or kept a 0) b), below a h))

@@ -30,7 +30,7 @@ encode_high c h = rw (le-ltb c 128 h) (by (ltb c 2048) (ltb c 65536))
     by false false = (omega arith, (omega arith, (omega arith, (omega arith, tt))))
 
 -- what comes in the place of a character
-pub replaced-char : (cleans : Bool) (n c : ℕ) → flat_map (replaced cleans n) (encode_utf8 c) ≡ cond (c == 9) (replicate n 32) (cond (stays cleans c) (encode_utf8 c) [])
+replaced-char : (cleans : Bool) (n c : ℕ) → flat_map (replaced cleans n) (encode_utf8 c) ≡ cond (c == 9) (replicate n 32) (cond (stays cleans c) (encode_utf8 c) [])
 replaced-char cleans n c = by (ltb c 128) refl
   where
     by : (b : Bool) → ltb c 128 ≡ b → flat_map (replaced cleans n) (encode_utf8 c) ≡ cond (c == 9) (replicate n 32) (cond (stays cleans c) (encode_utf8 c) [])

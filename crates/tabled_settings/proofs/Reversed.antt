@@ -68,7 +68,7 @@ module _ {A : Type 0} (axis : Axis) (s e : ℕ) where
           let same : i ≡ s + e - 1 - i = omega (arith, low, high, all) in
           r.between i low high ∙ ap (line axis g) same
 
-count_is : {A : Type 0} (axis : Axis) (g : Grid A) → count_of axis g.rows g.columns ≡ count_along axis g
+pub count_is : {A : Type 0} (axis : Axis) (g : Grid A) → count_of axis g.rows g.columns ≡ count_along axis g
 count_is Rows g = refl
 count_is Columns g = refl
 

@@ -17,13 +17,17 @@ abbrev pub corner_of : Axis → ℕ → ℕ → Position
 corner_of Rows rows columns = place rows 0
 corner_of Columns rows columns = place 0 columns
 
+-- a first table of so many rows and columns with room for a second one that begins at a corner
+abbrev pub joined_places : {A : Type 0} → Position → Grid A → ℕ → ℕ → Places
+joined_places corner second rows columns = widened rows columns (max rows (corner.row + second.rows)) (max columns (corner.col + second.columns))
+
 -- the text at a place outside of the first table: from the corner on that of the second one, empty where it lacks the cell, and else the default
 abbrev pub joined_text : Position → Grid (List ℕ) → List ℕ → ℕ → ℕ → List ℕ
 joined_text corner second default a b = if nat_le corner.row a && nat_le corner.col b then unwrap_or (cell_at second (place (a - corner.row) (b - corner.col))) [] else default
 
 -- the cells of the first table stay, and all others have the texts of the second, of the default or none
 pub record JoinsAt {A : Type 0} (text_of : A → List ℕ) (corner : Position) (second : Grid (List ℕ)) (default : List ℕ) (old new : Grid A) : Type 0 where
-  pub first : ReadsThrough (widened old.rows old.columns (max old.rows (corner.row + second.rows)) (max old.columns (corner.col + second.columns))) old new
+  pub first : ReadsThrough (joined_places corner second old.rows old.columns) old new
   pub others : (a b : ℕ) → a < new.rows → b < new.columns → (old.rows ≤ a) ⊎ (old.columns ≤ b) → cell_at (map_grid text_of new) (place a b) ≡ Some (joined_text corner second default a b)
 
 -- a grid of a larger shape, with the old cells where they were

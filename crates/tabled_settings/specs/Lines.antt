@@ -53,6 +53,17 @@ pub record KeepsLines {A : Type 0} (axis : Axis) (s e : ℕ) (old new : Grid A) 
   pub shape : HasLines axis (min e (count_along axis old) - s) old new
   pub kept : (i : ℕ) → i < min e (count_along axis old) - s → line axis new i ≡ line axis old (s + i)
 
+-- the first k lines are those of the first k of some indexes; the lines past all of these are as they were
+pub record BringsSome {A : Type 0} (axis : Axis) (kept : List ℕ) (k : ℕ) (old new : Grid A) : Type 0 where
+  pub shape : IsShapedAs old new
+  pub front : (a : ℕ) → a < k → line axis new a ≡ line axis old (slice_index_or kept a 0)
+  pub behind : (a : ℕ) → k ≤ a → ((b : ℕ) → b < k → slice_index_or kept b 0 < a) → line axis new a ≡ line axis old a
+
+-- the lines are those of some indexes
+pub record KeepsSome {A : Type 0} (axis : Axis) (kept : List ℕ) (old new : Grid A) : Type 0 where
+  pub shape : HasLines axis (length kept) old new
+  pub each : (a : ℕ) → a < length kept → line axis new a ≡ line axis old (slice_index_or kept a 0)
+
 -- of the first i lines, those for which a test fails have come to the front; the lines from i on are as they were
 pub record ThinsLines {A : Type 0} (axis : Axis) (gone : ℕ → Bool) (i k : ℕ) (old new : Grid A) : Type 0 where
   pub shape : IsShapedAs old new

@@ -30,9 +30,13 @@ stays Clean k texts = if k == 0 then true else list_any is_text texts
 abbrev pub piece_at : Split → ℕ → List (List (List ℕ)) → ℕ → List (List ℕ)
 piece_at s pieces rows t = piece s.index (nth_piece s.behavior (length rows) pieces t).1 (slice_index_or rows (nth_piece s.behavior (length rows) pieces t).0 [])
 
+-- the piece that comes t-th stays
+abbrev pub stays_at : Split → ℕ → List (List (List ℕ)) → ℕ → Bool
+stays_at s pieces rows t = stays s.display (nth_piece s.behavior (length rows) pieces t).1 (piece_at s pieces rows t)
+
 -- which pieces stay, in order
 abbrev pub staying : Split → ℕ → List (List (List ℕ)) → List ℕ
-staying s pieces rows = filter (λ (t : ℕ). stays s.display (nth_piece s.behavior (length rows) pieces t).1 (piece_at s pieces rows t)) (range_with_len 0 (length rows * pieces))
+staying s pieces rows = filter (stays_at s pieces rows) (range_with_len 0 (length rows * pieces))
 
 -- a grid whose rows are the pieces of the rows of another one
 abbrev pub cut_rows : Split → Grid (List ℕ) → Grid (List ℕ)

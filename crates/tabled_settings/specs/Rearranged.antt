@@ -1,5 +1,5 @@
 -- The rearrangements: where their cells come from, in a table of so many rows and columns.
-use Rattle.std.specs.Prelude.{ℕ, ◌+◌, ◌-◌, ◌==◌, ◌&&◌, if◌then◌else◌, Bool, List, Some, length, min, nat_le, nat_lt, not, slice_index_or}
+use Rattle.std.specs.Prelude.{◌≡◌, ℕ, ◌+◌, ◌-◌, ◌==◌, ◌&&◌, if◌then◌else◌, Bool, List, Some, length, min, nat_le, nat_lt, not, slice_index_or}
 use Rattle.std.specs.List.{filter, range_with_len}
 use Rattle.std.specs.declared.ops.Bound.{Bound}
 use Rattle.tabled_grid.specs.Bounds.{end_index, first_index}
@@ -12,9 +12,20 @@ use Rattle.tabled_grid.specs.declared.records.axis.Axis.TheVariants.{Rows, Colum
 use Rattle.tabled_settings.specs.declared.rotate.Rotate.{Rotate}
 use Rattle.tabled_settings.specs.declared.rotate.Rotate.TheVariants.{Left, Right, Top, Bottom}
 use Rattle.tabled_grid.specs.Axis.{count_of}
-use Rattle.tabled_grid.specs.Places.{Places}
+use Rattle.tabled_grid.specs.Places.{Places, ReadsThrough}
+use Rattle.tabled_grid.specs.Spans.{SpanMap}
+use Rattle.tabled_images.specs.Images.{carried}
+use Rattle.tabled_options.specs.Does.{Change}
 use Rattle.tabled_select.specs.Located.{is_located}
 use Rattle.tabled_settings.specs.Places.{lines_from}
+
+-- the cells are read through a map of places, and the merged cells are carried along
+abbrev pub Rearranges : {A : Type 0} → Places → Change A SpanMap
+Rearranges places g c h d = ReadsThrough places g h × (d ≡ carried places g.rows g.columns c)
+
+-- merged cells, carried along where cells move, and else as they are
+abbrev pub carried_if : Bool → Places → ℕ → ℕ → SpanMap → SpanMap
+carried_if moves places rows columns m = if moves then carried places rows columns m else m
 
 -- so many columns, of which there are none without rows
 abbrev pub columns_if : ℕ → ℕ → ℕ
@@ -41,6 +52,10 @@ abbrev pub limit_end : Offset → ℕ → ℕ → ℕ
 limit_end (Start limit) start n = start + limit
 limit_end (End limit) start n = n - limit
 
+-- lines are reversed: there are some from the start up to the limit, and the limit isn't past the table
+abbrev pub reverses : Axis → ℕ → Offset → ℕ → ℕ → Bool
+reverses axis start limit rows columns = nat_lt start (limit_end limit start (count_of axis rows columns)) && nat_le (limit_end limit start (count_of axis rows columns)) (count_of axis rows columns)
+
 -- the old index of an index of n, where those from s up to e are reversed: none are where e is past n
 abbrev pub reversed_index : ℕ → ℕ → ℕ → ℕ → ℕ
 reversed_index s e n i = if nat_le e n && (nat_le s i && nat_lt i e) then s + e - 1 - i else i
@@ -53,22 +68,25 @@ reversed axis start limit rows columns = lines_from axis (reversed_index start (
 abbrev pub count_in : (Bound ℕ × Bound ℕ) → ℕ → ℕ
 count_in range n = min (end_index range.1 n) n - first_index range.0
 
+-- so many rows and columns from a place on
+abbrev pub window : Position → ℕ → ℕ → Places
+window first rows columns = record { rows = rows; columns = columns; old_place = λ (p : Position). Some (place (first.row + p.row) (first.col + p.col)) }
+
 -- the rows of a range, and of these the columns of another one
 abbrev pub extracted : (Bound ℕ × Bound ℕ) → (Bound ℕ × Bound ℕ) → ℕ → ℕ → Places
-extracted in_rows in_columns rows columns = record {
-  rows = count_in in_rows rows;
-  columns = columns_if (count_in in_rows rows) (count_in in_columns columns);
-  old_place = λ (p : Position). Some (place (first_index in_rows.0 + p.row) (first_index in_columns.0 + p.col));
-}
+extracted in_rows in_columns rows columns = window (place (first_index in_rows.0) (first_index in_columns.0)) (count_in in_rows rows) (columns_if (count_in in_rows rows) (count_in in_columns columns))
 
 -- the indexes below n for which a test fails, in order
 abbrev pub left_over : (ℕ → Bool) → ℕ → List ℕ
 left_over gone n = filter (λ (i : ℕ). not (gone i)) (range_with_len 0 n)
 
+-- the rows, or the columns, of a list of indexes alone
+abbrev pub kept_lines : Axis → List ℕ → ℕ → ℕ → Places
+kept_lines axis kept rows columns = lines_from axis (λ (i : ℕ). slice_index_or kept i 0) (count_of axis (length kept) rows) (count_of axis (columns_if (length kept) columns) (length kept))
+
 -- the rows, or the columns, whose indexes are not among some
 abbrev pub removed : Axis → List ℕ → ℕ → ℕ → Places
-removed Rows found rows columns = lines_from Rows (λ (i : ℕ). slice_index_or (left_over (is_located found) rows) i 0) (length (left_over (is_located found) rows)) (columns_if (length (left_over (is_located found) rows)) columns)
-removed Columns found rows columns = lines_from Columns (λ (j : ℕ). slice_index_or (left_over (is_located found) columns) j 0) rows (length (left_over (is_located found) columns))
+removed axis found rows columns = kept_lines axis (left_over (is_located found) (count_of axis rows columns)) rows columns
 
 -- a table with its rows and its columns in the opposite order
 abbrev pub turned_half : ℕ → ℕ → Places

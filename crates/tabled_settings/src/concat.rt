@@ -1,19 +1,21 @@
 //! Two tables joined to one.
 
-ghost use Rattle.std.specs.Prelude.{◌≡◌, ◌≤◌, [], OnErr, OnOk};
+ghost use Rattle.std.specs.Prelude.{◌≡◌, ◌+◌, ◌≤◌, [], IfOk, OnErr, OnOk, max};
 ghost use Rattle.std.specs.String.{string_bytes};
-ghost use Rattle.tabled_grid.specs.Grid.{IsEmptyWithoutRows, map_grid};
+ghost use Rattle.tabled_grid.specs.Grid.{IsEmptyWithoutRows, IsEven, map_grid};
 ghost use Rattle.tabled_grid.specs.declared.records.axis.Axis.TheVariants.{Columns, Rows};
+ghost use Rattle.tabled_images.specs.Images.{carried};
 ghost use Rattle.tabled_options.specs.Does.{Same};
-ghost use Rattle.tabled_settings.specs.Joined.{FillsTo, GrowsTo, JoinsAt, corner_of, joined_text};
+ghost use Rattle.tabled_settings.specs.Joined.{FillsTo, GrowsTo, JoinsAt, corner_of, joined_places, joined_text, widened};
 ghost use Rattle.std.proofs.Common.{rules};
 
 use std::alloc::{AllocError, Global};
 use std::marker::Model;
-use tabled_grid::config::{Entity, Position};
+use tabled_grid::config::{Entity, Position, SpannedConfig};
 use tabled_grid::records::{
     Axis, CellText, ExactRecords, PeekableRecords, Records, RecordsMut, Resizable, Text, VecRecords,
 };
+use tabled_images::{Moves, carried};
 use tabled_table::{Table, TableOption};
 
 /// Joins a second table to a table, below it or right of it. A contract sees it as where the second table
@@ -29,8 +31,10 @@ use tabled_table::{Table, TableOption};
 ///
 /// Refused for memory, it leaves the table as it was.
 ///
-/// Ported from `tabled::settings::Concat`. Merged cells of the second table are left out, as in the
-/// original.
+/// Merged cells of the first table stay as they are if they fit it, as an `a` two columns wide above `x y z`.
+/// Those of the second table are left out, as in the original.
+///
+/// Ported from `tabled::settings::Concat`.
 #[derive(Drop)]
 pub struct Concat {
     axis: Axis,
@@ -91,12 +95,12 @@ impl Concat {
     }
 }
 
-impl<R, C, D> TableOption<R, C, D> for Concat
+impl<R, D> TableOption<R, SpannedConfig, D> for Concat
 where
     R: Records + ExactRecords + Resizable + RecordsMut<String>,
     R::Cell: CellText,
 {
-    ghost does = { λ s g c h d. JoinsAt R.Cell.text_of (corner_of s.0 g.rows g.columns) s.1 s.2 g h × (d ≡ c) };
+    ghost does = { λ s g c h d. JoinsAt R.Cell.text_of (corner_of s.0 g.rows g.columns) s.1 s.2 g h × (d ≡ carried (joined_places (corner_of s.0 g.rows g.columns) s.1 g.rows g.columns) g.rows g.columns c) };
 
     ghost leaves = { λ _. Same };
 
@@ -108,26 +112,25 @@ where
         self,
         alloc: Global,
         records: &mut R,
-        _cfg: &mut C,
+        cfg: &mut SpannedConfig,
         _dimension: &mut D,
     ) -> Result<(), AllocError> {
-        let corner = match self.axis {
-            Axis::Rows => Position {
-                row: records.count_rows(),
-                col: 0,
-            },
-            Axis::Columns => Position {
-                row: 0,
-                col: records.count_columns(),
-            },
-        };
+        let rows = records.count_rows();
+        let columns = records.count_columns();
+        let corner = corner_of(self.axis, rows, columns);
+        let second = self.second.get_records();
+        let growth = Growth::of(rows, columns, corner, second)?;
+        let spans = carried(alloc, &growth, cfg, rows, columns)?;
         join(
             alloc,
             records,
+            &growth,
             corner,
-            self.second.get_records(),
+            second,
             self.default.as_str(),
-        )
+        )?;
+        *cfg = spans;
+        Ok(())
     }
 
     fn hint_change(&self) -> Option<Entity> {
@@ -137,10 +140,78 @@ where
     ghost acts_like = { Prim.search rules };
 }
 
+/// Where a second table begins: below a first one of so many rows and columns, or right of it.
+fn corner_of(axis: Axis, rows: usize, columns: usize) -> Position
+    ensures place { result ≡ corner_of axis rows columns }
+    ensures row { result.row ≤ rows }
+    ensures col { result.col ≤ columns }
+{
+    match axis {
+        Axis::Rows => Position::new(rows, 0),
+        Axis::Columns => Position::new(0, columns),
+    }
+}
+
+/// A shape of so many rows and columns, and one that is no smaller.
+#[derive(Drop)]
+struct Growth {
+    rows: usize,
+    columns: usize,
+    new_rows: usize,
+    new_columns: usize,
+    ghost taller: { rows ≤ new_rows },
+    ghost wider: { columns ≤ new_columns },
+}
+
+impl Growth {
+    /// The shape of a first table, and one with room for a second table that begins at a corner. Refused where
+    /// that has more rows or columns than there are indexes.
+    fn of(
+        rows: usize,
+        columns: usize,
+        corner: Position,
+        second: &VecRecords<Text<String>>,
+    ) -> Result<Self, AllocError>
+        ensures rowless { IsEmptyWithoutRows second.now }
+        ensures rows { IfOk result (λ g. g.rows ≡ rows) }
+        ensures columns { IfOk result (λ g. g.columns ≡ columns) }
+        ensures tall { IfOk result (λ g. g.new_rows ≡ max rows (corner.row + second.now.rows)) }
+        ensures wide { IfOk result (λ g. g.new_columns ≡ max columns (corner.col + second.now.columns)) }
+    {
+        let bottom = corner
+            .row
+            .checked_add(second.count_rows())
+            .ok_or(AllocError)?;
+        let right = corner
+            .col
+            .checked_add(second.count_columns())
+            .ok_or(AllocError)?;
+        Ok(Growth {
+            rows,
+            columns,
+            new_rows: rows.max(bottom),
+            new_columns: columns.max(right),
+        })
+    }
+}
+
+impl Moves for Growth {
+    ghost places = { λ g. widened g.rows g.columns g.new_rows g.new_columns };
+
+    fn new_place(&self, pos: Position) -> Option<Position> {
+        (pos.row < self.rows && pos.col < self.columns).then_some(pos)
+    }
+
+    fn old_place(&self, pos: Position) -> Option<Position> {
+        (pos.row < self.rows && pos.col < self.columns).then_some(pos)
+    }
+}
+
 /// Joins a second table that begins at a corner. Refused, it leaves the store as it was.
 fn join<R>(
     alloc: Global,
     records: &mut R,
+    growth: &Growth,
     corner: Position,
     second: &VecRecords<Text<String>>,
     default: &str,
@@ -149,24 +220,30 @@ where
     R: Records + ExactRecords + Resizable + RecordsMut<String>,
     R::Cell: CellText,
     requires well { R.is_well_formed records.old }
+    requires even { IsEven (R.grid records.old) }
+    requires rows { growth.now.rows ≡ (R.grid records.old).rows }
+    requires columns { growth.now.columns ≡ (R.grid records.old).columns }
+    requires tall { growth.now.new_rows ≡ max growth.now.rows (corner.row + second.now.rows) }
+    requires wide { growth.now.new_columns ≡ max growth.now.columns (corner.col + second.now.columns) }
     requires row { corner.row ≤ (R.grid records.old).rows }
     requires col { corner.col ≤ (R.grid records.old).columns }
+    requires rowless { IsEmptyWithoutRows second.now }
     ensures well { R.is_well_formed records.new }
     ensures ok { OnOk result (JoinsAt R.Cell.text_of corner (map_grid string_bytes second.now) default.now (R.grid records.old) (R.grid records.new)) }
     ensures err { OnErr result (R.grid records.new ≡ R.grid records.old) }
 {
-    let rows = records.count_rows();
-    let columns = records.count_columns();
-    let Some(bottom) = corner.row.checked_add(second.count_rows()) else {
-        return Err(AllocError);
-    };
-    let Some(right) = corner.col.checked_add(second.count_columns()) else {
-        return Err(AllocError);
-    };
-    grow(alloc, records, rows.max(bottom), columns.max(right))?;
-    if let Err(error) = fill(alloc, records, rows, columns, corner, second, default) {
-        records.truncate_columns(columns);
-        records.truncate_rows(rows);
+    grow(alloc, records, growth.new_rows, growth.new_columns)?;
+    if let Err(error) = fill(
+        alloc,
+        records,
+        growth.rows,
+        growth.columns,
+        corner,
+        second,
+        default,
+    ) {
+        records.truncate_columns(growth.columns);
+        records.truncate_rows(growth.rows);
         return Err(error);
     }
     Ok(())

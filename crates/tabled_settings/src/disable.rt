@@ -1,18 +1,22 @@
 //! Rows or columns that are located, taken away.
 
-ghost use Rattle.std.specs.Prelude.{◌≡◌, ℕ, List, OnErr, OnOk};
+ghost use Rattle.std.specs.Prelude.{◌≡◌, ℕ, IfOk, List, OnErr, OnOk, length};
 ghost use Rattle.tabled_grid.specs.declared.records.axis.Axis.{Axis};
 ghost use Rattle.tabled_grid.specs.declared.records.axis.Axis.TheVariants.{Columns, Rows};
 ghost use Rattle.tabled_options.specs.Does.{Same};
 ghost use Rattle.tabled_grid.specs.Places.{ReadsThrough};
-ghost use Rattle.tabled_settings.specs.Rearranged.{removed};
+ghost use Rattle.tabled_images.specs.Images.{carried};
+ghost use Rattle.tabled_settings.specs.Lines.{is_marked};
+ghost use Rattle.tabled_settings.specs.Rearranged.{kept_lines, left_over, removed};
 ghost use Rattle.std.proofs.Common.{rules};
 
+use crate::kept_lines::Kept;
 use crate::lines;
 use std::alloc::{AllocError, Global};
 use std::marker::{Model, PhantomData};
-use tabled_grid::config::Entity;
+use tabled_grid::config::{Entity, SpannedConfig};
 use tabled_grid::records::{Axis, Blank, ExactRecords, Records, Resizable};
+use tabled_images::carried;
 use tabled_options::TableOption;
 use tabled_select::location::{Location, marks};
 
@@ -29,6 +33,9 @@ use tabled_select::location::{Location, marks};
 /// ```
 ///
 /// Without rows no columns are left; without columns the rows stay.
+///
+/// Merged cells go along if they fit the table and lose no row or column: here `g` and `h` stay one cell if
+/// they were one, and `e` and `g` are apart again.
 ///
 /// Ported from `tabled::settings::Remove`, which goes wrong where indexes are found unordered or repeated.
 #[derive(Drop)]
@@ -109,7 +116,7 @@ impl Target for TargetColumn {
     }
 }
 
-impl<L, T, R, C, D> TableOption<R, C, D> for Remove<L, T>
+impl<L, T, R, D> TableOption<R, SpannedConfig, D> for Remove<L, T>
 where
     T: Target,
     L: Location<R, Coordinate = usize> + Drop,
@@ -117,7 +124,7 @@ where
     R: Records + ExactRecords + Resizable,
     R::Cell: Blank,
 {
-    ghost does = { λ s g c h d. ((found : List ℕ) × L.locates s g found × ReadsThrough (removed T.lines found g.rows g.columns) g h) × (d ≡ c) };
+    ghost does = { λ s g c h d. (found : List ℕ) × L.locates s g found × ReadsThrough (removed T.lines found g.rows g.columns) g h × (d ≡ carried (removed T.lines found g.rows g.columns) g.rows g.columns c) };
 
     ghost leaves = { λ _. Same };
 
@@ -129,10 +136,10 @@ where
         mut self,
         alloc: Global,
         records: &mut R,
-        _cfg: &mut C,
+        cfg: &mut SpannedConfig,
         _dimension: &mut D,
     ) -> Result<(), AllocError> {
-        remove_located(alloc, records, &mut self.locator, T::axis())
+        remove_located(alloc, records, cfg, &mut self.locator, T::axis())
     }
 
     fn hint_change(&self) -> Option<Entity> {
@@ -142,11 +149,12 @@ where
     ghost acts_like = { Prim.search rules };
 }
 
-/// Removes the rows or the columns that a location finds. Only to mark these takes memory, a byte for each
-/// line of the table.
+/// Removes the rows or the columns that a location finds. To mark these takes a byte for each line of the
+/// table; merged cells take more.
 fn remove_located<R, L>(
     alloc: Global,
     records: &mut R,
+    cfg: &mut SpannedConfig,
     locator: &mut L,
     axis: Axis,
 ) -> Result<(), AllocError>
@@ -158,10 +166,34 @@ where
     requires well { R.is_well_formed records.old }
     requires can { L.can_locate locator.old }
     ensures well { R.is_well_formed records.new }
-    ensures ok { OnOk result ((found : List ℕ) × L.locates locator.old (R.grid records.old) found × ReadsThrough (removed axis found ((R.grid records.old).rows) ((R.grid records.old).columns)) (R.grid records.old) (R.grid records.new)) }
+    ensures ok { OnOk result ((found : List ℕ) × L.locates locator.old (R.grid records.old) found × ReadsThrough (removed axis found ((R.grid records.old).rows) ((R.grid records.old).columns)) (R.grid records.old) (R.grid records.new) × (cfg.new ≡ carried (removed axis found ((R.grid records.old).rows) ((R.grid records.old).columns)) ((R.grid records.old).rows) ((R.grid records.old).columns) cfg.old)) }
     ensures err { OnErr result (R.grid records.new ≡ R.grid records.old) }
+    ensures same { OnErr result (cfg.new ≡ cfg.old) }
 {
     let gone = marks(alloc, locator, records, axis.count(records))?;
+    let rows = records.count_rows();
+    let columns = records.count_columns();
+    let spans = carried_without(alloc, axis, &gone, cfg, rows, columns)?;
     lines::remove(axis, records, &gone);
+    *cfg = spans;
     Ok(())
+}
+
+/// What becomes of the merged cells of a table (`rows x columns`) when the lines that are marked go. Without
+/// merged cells it takes no memory.
+fn carried_without(
+    alloc: Global,
+    axis: Axis,
+    gone: &[bool],
+    cfg: &SpannedConfig,
+    rows: usize,
+    columns: usize,
+) -> Result<SpannedConfig, AllocError>
+    ensures { IfOk result (λ new. new ≡ carried (kept_lines axis (left_over (is_marked gone.now) (length gone.now)) rows columns) rows columns cfg.now) }
+{
+    if cfg.anchors().is_empty() {
+        return Ok(SpannedConfig::new(alloc));
+    }
+    let kept = Kept::unmarked(alloc, axis, gone, rows, columns)?;
+    carried(alloc, &kept, cfg, rows, columns)
 }

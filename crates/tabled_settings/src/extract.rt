@@ -1,21 +1,26 @@
 //! A part of a table.
 
-ghost use Rattle.std.specs.Prelude.{◌≡◌};
+ghost use Rattle.std.specs.Prelude.{◌≡◌, ◌+◌, ◌-◌, ◌<◌, ◌^◌, min};
+ghost use Rattle.std.specs.FinMap as map;
 ghost use Rattle.std.specs.declared.ops.Bound.TheVariants.{Unbounded};
+ghost use Rattle.tabled_grid.specs.Entity.{place};
 ghost use Rattle.tabled_grid.specs.Places.{ReadsThrough};
-ghost use Rattle.tabled_settings.specs.Rearranged.{extracted};
+ghost use Rattle.tabled_images.specs.Images.{carried};
+ghost use Rattle.tabled_options.specs.Does.{Same};
+ghost use Rattle.tabled_settings.specs.Rearranged.{columns_if, extracted, window};
 ghost use Rattle.std.proofs.Common.{rules};
 
 use crate::lines;
 use std::alloc::{AllocError, Global};
 use std::marker::Model;
-use std::ops::RangeFull;
-use tabled_grid::config::{Entity, ToBounds};
+use std::ops::{Range, RangeFull};
+use tabled_grid::config::{Entity, Position, SpannedConfig, ToBounds};
 use tabled_grid::records::{Axis, Blank, ExactRecords, Records, Resizable};
+use tabled_images::{Moves, carried};
 use tabled_options::TableOption;
 
-/// Keeps the rows of a range, and the columns of another. It takes no memory. A contract sees it as the
-/// two ranges.
+/// Keeps the rows of a range, and the columns of another. Only merged cells take memory; refused, it leaves
+/// the table as it was. A contract sees it as the two ranges.
 ///
 /// `Extract::segment(0..9, 1..)` makes
 ///
@@ -26,6 +31,9 @@ use tabled_options::TableOption;
 ///
 /// A range that is reversed, or that begins past the table, keeps nothing. Without rows no columns are
 /// left; without columns the rows stay.
+///
+/// Merged cells go along if they fit the table and lie in the part whole: here `b` and `d` stay one cell if
+/// they were one, and `c` and `d` are apart again.
 ///
 /// Ported from `tabled::settings::Extract`.
 #[derive(Drop)]
@@ -75,32 +83,37 @@ impl<B: ToBounds> Extract<RangeFull, B> {
     }
 }
 
-impl<A, B, R, C, D> TableOption<R, C, D> for Extract<A, B>
+impl<A, B, R, D> TableOption<R, SpannedConfig, D> for Extract<A, B>
 where
     A: ToBounds + Drop,
     B: ToBounds + Drop,
     R: Records + ExactRecords + Resizable,
     R::Cell: Blank,
 {
-    ghost does = { λ s g c h d. ReadsThrough (extracted (A.bounds_of s.0) (B.bounds_of s.1) g.rows g.columns) g h × (d ≡ c) };
+    ghost does = { λ s g c h d. ReadsThrough (extracted (A.bounds_of s.0) (B.bounds_of s.1) g.rows g.columns) g h × (d ≡ carried (extracted (A.bounds_of s.0) (B.bounds_of s.1) g.rows g.columns) g.rows g.columns c) };
 
-    ghost leaves = { λ _ _ _ _ _. ⊥ };
+    ghost leaves = { λ _. Same };
 
     ghost can_change = { λ _. Unit {0} };
 
-    ghost never_refused = { λ _ _ _. Unit {0} };
+    ghost never_refused = { λ _ _ c. c ≡ map.empty };
 
     fn change(
         self,
-        _alloc: Global,
+        alloc: Global,
         records: &mut R,
-        _cfg: &mut C,
+        cfg: &mut SpannedConfig,
         _dimension: &mut D,
     ) -> Result<(), AllocError> {
-        let columns = self.columns.to_range(records.count_columns());
-        let rows = self.rows.to_range(records.count_rows());
-        lines::keep(Axis::Rows, records, rows);
-        lines::keep(Axis::Columns, records, columns);
+        let rows = records.count_rows();
+        let columns = records.count_columns();
+        let in_rows = self.rows.to_range(rows);
+        let in_columns = self.columns.to_range(columns);
+        let part = Window::of(&in_rows, &in_columns, rows, columns);
+        let spans = carried(alloc, &part, cfg, rows, columns)?;
+        lines::keep(Axis::Rows, records, in_rows);
+        lines::keep(Axis::Columns, records, in_columns);
+        *cfg = spans;
         Ok(())
     }
 
@@ -109,4 +122,43 @@ where
     }
 
     ghost acts_like = { Prim.search rules };
+}
+
+/// So many rows and columns of a table, from a place on.
+#[derive(Drop)]
+struct Window {
+    first: Position,
+    rows: usize,
+    columns: usize,
+    ghost bottom: { first.row + rows < 2 ^ 64 },
+    ghost right: { first.col + columns < 2 ^ 64 },
+}
+
+impl Window {
+    /// Those of two ranges, of a table of so many rows and columns.
+    fn of(in_rows: &Range<usize>, in_columns: &Range<usize>, rows: usize, columns: usize) -> Self
+        ensures { window result.first result.rows result.columns ≡ window (place in_rows.now.start in_columns.now.start) (min in_rows.now.end rows - in_rows.now.start) (columns_if (min in_rows.now.end rows - in_rows.now.start) (min in_columns.now.end columns - in_columns.now.start)) }
+    {
+        let height = lines::count_in(in_rows, rows);
+        let width = lines::count_in(in_columns, columns);
+        Window {
+            first: Position::new(in_rows.start, in_columns.start),
+            rows: height,
+            columns: if height == 0 { 0 } else { width },
+        }
+    }
+}
+
+impl Moves for Window {
+    ghost places = { λ w. window w.first w.rows w.columns };
+
+    fn new_place(&self, pos: Position) -> Option<Position> {
+        let row = pos.row.checked_sub(self.first.row)?;
+        let col = pos.col.checked_sub(self.first.col)?;
+        (row < self.rows && col < self.columns).then_some(Position::new(row, col))
+    }
+
+    fn old_place(&self, pos: Position) -> Option<Position> {
+        Some(Position::new(self.first.row + pos.row, self.first.col + pos.col))
+    }
 }

@@ -4,6 +4,8 @@ ghost use Rattle.std.specs.Prelude.{◌≡◌, ◌<◌, ℕ, Bool, List, count_b
 ghost use Rattle.std.specs.List.{AllByRecursion};
 ghost use Rattle.tabled_grid.specs.Grid.{Grid, IsEven, map_grid};
 ghost use Rattle.tabled_grid.specs.declared.config.entity.Entity.{Entity};
+ghost use Rattle.tabled_grid.specs.declared.config.offset.Offset.TheVariants.{End};
+ghost use Rattle.tabled_grid.specs.declared.records.axis.Axis.{Axis};
 ghost use Rattle.tabled_options.specs.Does.{OptionKeeps};
 ghost use Rattle.tabled_settings.specs.declared.rotate.Rotate.TheVariants.{Bottom, Left, Right, Top};
 ghost use Rattle.tabled_settings.specs.declared.split.Display.TheVariants.{Retain};
@@ -11,21 +13,28 @@ ghost use Rattle.tabled_settings.specs.Charsets.{IsClean, cleaned, with_tabs};
 ghost use Rattle.tabled_settings.specs.PiecePlaces.{glued, split_places, texts_in};
 ghost use Rattle.tabled_settings.specs.Pieces.{split};
 ghost use Rattle.tabled_grid.specs.Places.{ReadsThrough};
+ghost use Rattle.tabled_grid.specs.Rectangles.{Fits};
+ghost use Rattle.tabled_grid.specs.Spans.{SpanMap};
+ghost use Rattle.tabled_images.specs.Images.{carried};
 ghost use Rattle.tabled_settings.specs.Places.{IsTakenOnce};
 ghost use Rattle.tabled_settings.specs.Rearranged.{reversed, rotated, turned_half};
 
+use crate::concat::Concat;
+use crate::disable::{Remove, Target};
 use crate::duplicate::Dup;
+use crate::extract::Extract;
 use crate::format::{FormatContent, FormatContentPositioned};
 use crate::formatting::Charset;
 use crate::reverse::Reverse;
 use crate::rotate::Rotate;
 use crate::split::Split;
 use std::alloc::{AllocError, Global};
-use tabled_grid::config::{Position, SpannedConfig};
+use tabled_grid::config::{Position, SpannedConfig, ToBounds};
 use tabled_grid::records::{
-    CellText, ExactRecords, GridStore, PeekableRecords, Records, RecordsMut,
+    CellText, ExactRecords, PeekableRecords, Records, RecordsMut, Resizable,
 };
 use tabled_options::{CellOption, MergedCellsFit, Property, TableOption};
+use tabled_select::location::Location;
 use tabled_select::object::Object;
 pub use tabled_spans::laws::{
     exactly_the_runs_are_merged, footers_keep_merged_cells_fitting,
@@ -37,6 +46,18 @@ pub use tabled_spans::laws::{
 /// A table with a row and a column that is turned to the left and then to the right is as it was.
 pub fn left_then_right_is_as_it_was<A>()
     ensures { (old : Grid A) (turned : Grid A) (new : Grid A) → IsEven old → 0 < old.rows → 0 < old.columns → ReadsThrough (rotated Left old.rows old.columns) old turned → ReadsThrough (rotated Right turned.rows turned.columns) turned new → new ≡ old }
+{}
+
+/// Merged cells that fit a table with a row and a column, turned to the left and then to the right, are as
+/// they were.
+pub fn merged_cells_turned_left_then_right_are_as_they_were()
+    ensures { (m : SpanMap) (rows columns : ℕ) → 0 < rows → 0 < columns → Fits m rows columns → carried (rotated Right columns rows) columns rows (carried (rotated Left rows columns) rows columns m) ≡ m }
+{}
+
+/// Merged cells that fit, turned upside down twice or in lines that are all reversed twice, are as they were.
+pub fn merged_cells_reversed_twice_are_as_they_were()
+    ensures top { (m : SpanMap) (rows columns : ℕ) → Fits m rows columns → carried (rotated Top rows columns) rows columns (carried (rotated Top rows columns) rows columns m) ≡ m }
+    ensures lines { (axis : Axis) (m : SpanMap) (rows columns : ℕ) → Fits m rows columns → carried (reversed axis 0 (End 0) rows columns) rows columns (carried (reversed axis 0 (End 0) rows columns) rows columns m) ≡ m }
 {}
 
 /// A table with a row and a column that is turned to the left twice has its rows and its columns in the
@@ -153,4 +174,57 @@ where
     Dst: Object<R> + Drop,
     Src: Object<R> + Drop,
     ensures { OptionKeeps ⟦<MergedCellsFit as Property<R::Cell, SpannedConfig>>⟧.holds (⟦<Dup<Dst, Src> as TableOption<R, SpannedConfig, D>>⟧.does _dup.now) (⟦<Dup<Dst, Src> as TableOption<R, SpannedConfig, D>>⟧.leaves _dup.now) }
+{}
+
+/// A turn keeps merged cells inside the table and apart, also where it is refused.
+pub fn turns_keep_merged_cells_fitting<R, D>(_rotate: &Rotate)
+where
+    R: Records + ExactRecords + PeekableRecords + RecordsMut<String> + Resizable,
+    R::Cell: CellText,
+    ensures { OptionKeeps ⟦<MergedCellsFit as Property<R::Cell, SpannedConfig>>⟧.holds (⟦<Rotate as TableOption<R, SpannedConfig, D>>⟧.does _rotate.now) (⟦<Rotate as TableOption<R, SpannedConfig, D>>⟧.leaves _rotate.now) }
+{}
+
+/// So does a reversal.
+pub fn reversals_keep_merged_cells_fitting<R, D>(_reverse: Reverse)
+where
+    R: Records + ExactRecords + PeekableRecords + RecordsMut<String> + Resizable,
+    R::Cell: CellText,
+    ensures { OptionKeeps ⟦<MergedCellsFit as Property<R::Cell, SpannedConfig>>⟧.holds (⟦<Reverse as TableOption<R, SpannedConfig, D>>⟧.does _reverse) (⟦<Reverse as TableOption<R, SpannedConfig, D>>⟧.leaves _reverse) }
+{}
+
+/// So does a split.
+pub fn splits_keep_merged_cells_fitting<R, D>(_split: Split)
+where
+    R: Records + ExactRecords + PeekableRecords + RecordsMut<String> + Resizable,
+    R::Cell: CellText,
+    ensures { OptionKeeps ⟦<MergedCellsFit as Property<R::Cell, SpannedConfig>>⟧.holds (⟦<Split as TableOption<R, SpannedConfig, D>>⟧.does _split) (⟦<Split as TableOption<R, SpannedConfig, D>>⟧.leaves _split) }
+{}
+
+/// So does a part of a table.
+pub fn extracts_keep_merged_cells_fitting<R, D, A, B>(_extract: &Extract<A, B>)
+where
+    R: Records + ExactRecords + PeekableRecords + RecordsMut<String> + Resizable,
+    R::Cell: CellText,
+    A: ToBounds + Drop,
+    B: ToBounds + Drop,
+    ensures { OptionKeeps ⟦<MergedCellsFit as Property<R::Cell, SpannedConfig>>⟧.holds (⟦<Extract<A, B> as TableOption<R, SpannedConfig, D>>⟧.does _extract.now) (⟦<Extract<A, B> as TableOption<R, SpannedConfig, D>>⟧.leaves _extract.now) }
+{}
+
+/// So do rows or columns that are taken away.
+pub fn removals_keep_merged_cells_fitting<R, D, L, T>(_remove: &Remove<L, T>)
+where
+    R: Records + ExactRecords + PeekableRecords + RecordsMut<String> + Resizable,
+    R::Cell: CellText,
+    L: Location<R, Coordinate = usize> + Drop,
+    <L::IntoIter as IntoIterator>::IntoIter: Drop,
+    T: Target,
+    ensures { OptionKeeps ⟦<MergedCellsFit as Property<R::Cell, SpannedConfig>>⟧.holds (⟦<Remove<L, T> as TableOption<R, SpannedConfig, D>>⟧.does _remove.now) (⟦<Remove<L, T> as TableOption<R, SpannedConfig, D>>⟧.leaves _remove.now) }
+{}
+
+/// So does a second table that is joined.
+pub fn joins_keep_merged_cells_fitting<R, D>(_concat: &Concat)
+where
+    R: Records + ExactRecords + PeekableRecords + RecordsMut<String> + Resizable,
+    R::Cell: CellText,
+    ensures { OptionKeeps ⟦<MergedCellsFit as Property<R::Cell, SpannedConfig>>⟧.holds (⟦<Concat as TableOption<R, SpannedConfig, D>>⟧.does _concat.now) (⟦<Concat as TableOption<R, SpannedConfig, D>>⟧.leaves _concat.now) }
 {}

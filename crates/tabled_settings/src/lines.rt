@@ -1,9 +1,10 @@
 //! Work on the rows or on the columns of a store.
 
-ghost use Rattle.std.specs.Prelude.{◌≡◌, ◌<◌, ◌≤◌, length};
+ghost use Rattle.std.specs.Prelude.{◌≡◌, ◌<◌, ◌≤◌, ◌-◌, ℕ, length, min, slice_index};
+ghost use Rattle.std.specs.List.Sorted.{IsStrictlyIncreasing};
 ghost use Rattle.tabled_grid.specs.Along.{count_along};
 ghost use Rattle.tabled_grid.specs.Grid.{IsEven};
-ghost use Rattle.tabled_settings.specs.Lines.{DropsLines, KeepsLines, ReversesLines, is_marked};
+ghost use Rattle.tabled_settings.specs.Lines.{DropsLines, KeepsLines, KeepsSome, ReversesLines, is_marked};
 
 use std::ops::Range;
 use tabled_grid::records::{Axis, Blank, ExactRecords, Records, Resizable};
@@ -34,14 +35,39 @@ where
     ensures well { R.is_well_formed records.new }
     ensures kept { KeepsLines axis range.start range.end (R.grid records.old) (R.grid records.new) }
 {
-    let end = axis.count(records).min(range.end);
-    let kept = end.saturating_sub(range.start);
+    let kept = count_in(&range, axis.count(records));
     // Lines at the front stay where they are.
     let moved = if range.start > 0 { kept } else { 0 };
     for k in 0..moved {
         axis.swap(records, k, range.start + k);
     }
     records.truncate_lines(axis, kept);
+}
+
+/// Keeps the lines of some indexes alone, which rise. They come to the front, each by one swap, and the rest is
+/// cut off.
+pub(crate) fn keep_some<R>(axis: Axis, records: &mut R, kept: &[usize])
+where
+    R: Records + ExactRecords + Resizable,
+    R::Cell: Blank,
+    requires well { R.is_well_formed records.old }
+    requires even { IsEven (R.grid records.old) }
+    requires rising { IsStrictlyIncreasing kept.now }
+    requires within { (k : ℕ) → k < length kept.now → slice_index kept.now k < count_along axis (R.grid records.old) }
+    ensures well { R.is_well_formed records.new }
+    ensures kept { KeepsSome axis kept.now (R.grid records.old) (R.grid records.new) }
+{
+    for (k, &line) in kept.iter().enumerate() {
+        axis.swap(records, k, line);
+    }
+    records.truncate_lines(axis, kept.len());
+}
+
+/// How many of so many lines are in a range.
+pub(crate) fn count_in(range: &Range<usize>, count: usize) -> usize
+    ensures { result ≡ min range.now.end count - range.now.start }
+{
+    range.end.min(count).saturating_sub(range.start)
 }
 
 /// Removes the lines that are marked. Those that stay come to the front, in order, each by one swap, and the

@@ -1,48 +1,80 @@
-//! Pieces without a text.
+//! Which pieces of lines stay.
 
-ghost use Rattle.std.specs.Prelude.{◌≡◌, ◌<◌};
-ghost use Rattle.std.specs.List.{list_any};
+ghost use Rattle.std.specs.Prelude.{◌≡◌, ◌*◌, ◌<◌, ◌≤◌, ℕ, IfOk, IsFalse, IsTrue, false, true};
+ghost use Rattle.std.specs.Int.{div_ceil};
 ghost use Rattle.tabled_grid.specs.Along.{count_along};
-ghost use Rattle.tabled_settings.specs.Lines.{DropsLines, line};
-ghost use Rattle.tabled_settings.specs.PieceTexts.{has_text, is_empty_piece};
+ghost use Rattle.tabled_grid.specs.Axis.{across, place_in};
+ghost use Rattle.tabled_grid.specs.Grid.{IsEven, map_grid};
+ghost use Rattle.tabled_settings.specs.declared.split.Display.TheVariants.{Clean};
+ghost use Rattle.tabled_settings.specs.PiecePlaces.{kept_pieces};
+ghost use Rattle.tabled_settings.specs.Pieces.{stays_at, turned};
+ghost use Rattle.tabled_settings.specs.PieceTexts.{has_text};
 
-use crate::split::Split;
-use tabled_grid::records::{Axis, CellText, ExactRecords, PeekableRecords, Records, Resizable};
+use crate::cuts::Cut;
+use std::alloc::{AllocError, Global};
+use std::ops::Range;
+use tabled_grid::records::{Axis, CellText, ExactRecords, PeekableRecords, Records};
 
-/// Removes the pieces that have no text, but for the first one of each line. Those that stay come to the
-/// front, in order, each by one swap, and the rest is cut off.
-pub(crate) fn drop_empty<R>(records: &mut R, split: Split, lines: usize, pieces: usize)
-where
-    R: Records + ExactRecords + PeekableRecords + Resizable,
-    R::Cell: CellText,
-    requires well { R.is_well_formed records.old }
-    requires lines { 0 < lines }
-    requires pieces { 0 < pieces }
-    ensures well { R.is_well_formed records.new }
-    ensures dropped { DropsLines split.lines (is_empty_piece R.Cell.text_of split lines pieces (R.grid records.old)) (R.grid records.old) (R.grid records.new) }
-{
-    let mut kept = 0;
-    for i in 0..split.lines.count(records) {
-        let (_, number) = split.behavior.nth_piece(lines, pieces, i);
-        if number == 0 || has_text(records, split.lines, i) {
-            split.lines.swap(records, kept, i);
-            kept += 1;
-        }
-    }
-    records.truncate_lines(split.lines, kept);
-}
-
-/// Whether a line has a text.
-fn has_text<R>(records: &R, axis: Axis, index: usize) -> bool
+/// Which pieces of lines stay that are to be cut, in order: the first one of each line, and of the others
+/// those with a text.
+pub(crate) fn kept_pieces<R>(
+    alloc: Global,
+    records: &R,
+    cut: &Cut,
+) -> Result<Vec<usize>, AllocError>
 where
     R: Records + ExactRecords + PeekableRecords,
     R::Cell: CellText,
     requires well { R.is_well_formed records.now }
-    requires within { index < count_along axis (R.grid records.now) }
-    ensures { result ≡ list_any (has_text R.Cell.text_of) (line axis (R.grid records.now) index) }
+    requires even { IsEven (R.grid records.now) }
+    requires lines { cut.now.lines ≡ count_along cut.now.split.lines (R.grid records.now) }
+    requires width { cut.now.width ≡ count_along (across cut.now.split.lines) (R.grid records.now) }
+    requires clean { cut.now.split.display ≡ Clean }
+    ensures { IfOk result (λ kept. kept.items ≡ kept_pieces cut.now.split (turned cut.now.split.lines (map_grid R.Cell.text_of (R.grid records.now)))) }
 {
-    for cell in 0..axis.across().count(records) {
-        if !records.get_text(axis.place(index, cell)).is_empty() {
+    let mut kept = Vec::new(alloc);
+    for nth in 0..cut.lines * cut.width.div_ceil(cut.split.index) {
+        if stays(records, cut, nth) {
+            kept.push(nth)?;
+        }
+    }
+    Ok(kept)
+}
+
+/// Whether a piece stays.
+fn stays<R>(records: &R, cut: &Cut, nth: usize) -> bool
+where
+    R: Records + ExactRecords + PeekableRecords,
+    R::Cell: CellText,
+    requires well { R.is_well_formed records.now }
+    requires even { IsEven (R.grid records.now) }
+    requires lines { cut.now.lines ≡ count_along cut.now.split.lines (R.grid records.now) }
+    requires width { cut.now.width ≡ count_along (across cut.now.split.lines) (R.grid records.now) }
+    requires clean { cut.now.split.display ≡ Clean }
+    requires within { nth < cut.now.lines * div_ceil cut.now.width cut.now.split.index }
+    ensures { result ≡ stays_at cut.now.split (div_ceil cut.now.width cut.now.split.index) (turned cut.now.split.lines (map_grid R.Cell.text_of (R.grid records.now))).cells nth }
+{
+    let index = cut.split.index;
+    let pieces = cut.width.div_ceil(index);
+    let (line, number) = cut.split.behavior.nth_piece(cut.lines, pieces, nth);
+    let start = number * index;
+    let end = start + index.min(cut.width - start);
+    number == 0 || has_text(records, cut.split.lines, line, start..end)
+}
+
+/// Whether some cells of a line have a text.
+fn has_text<R>(records: &R, axis: Axis, line: usize, cells: Range<usize>) -> bool
+where
+    R: Records + ExactRecords + PeekableRecords,
+    R::Cell: CellText,
+    requires well { R.is_well_formed records.now }
+    requires line { line < count_along axis (R.grid records.now) }
+    requires cells { cells.end ≤ count_along (across axis) (R.grid records.now) }
+    ensures found { IsTrue result → (j : ℕ) × (cells.start ≤ j) × (j < cells.end) × (has_text (map_grid R.Cell.text_of (R.grid records.now)) (place_in axis line j) ≡ true) }
+    ensures missed { IsFalse result → (j : ℕ) → cells.start ≤ j → j < cells.end → has_text (map_grid R.Cell.text_of (R.grid records.now)) (place_in axis line j) ≡ false }
+{
+    for cell in cells.start..cells.end {
+        if !records.get_text(axis.place(line, cell)).is_empty() {
             return true;
         }
     }

@@ -1,19 +1,25 @@
 //! Rows or columns in the opposite order.
 
 ghost use Rattle.std.specs.Prelude.{◌≡◌, ◌<◌, ◌≤◌, ◌⊎◌, IfSome, IsNone};
+ghost use Rattle.std.specs.FinMap as map;
 ghost use Rattle.tabled_grid.specs.declared.config.offset.Offset.TheVariants.{End};
 ghost use Rattle.tabled_grid.specs.declared.records.axis.Axis.TheVariants.{Columns, Rows};
+ghost use Rattle.tabled_grid.specs.Axis.{count_of, in_line, line_of};
 ghost use Rattle.tabled_grid.specs.Places.{ReadsThrough};
-ghost use Rattle.tabled_settings.specs.Rearranged.{limit_end, reversed};
+ghost use Rattle.tabled_options.specs.Does.{Same};
+ghost use Rattle.tabled_settings.specs.Places.{lines_from};
+ghost use Rattle.tabled_settings.specs.Rearranged.{carried_if, limit_end, reversed, reversed_index, reverses};
 ghost use Rattle.std.proofs.Common.{rules};
 
 use crate::lines;
 use std::alloc::{AllocError, Global};
-use tabled_grid::config::{Entity, Offset};
+use tabled_grid::config::{Entity, Offset, Position, SpannedConfig};
 use tabled_grid::records::{Axis, Blank, ExactRecords, Records, Resizable};
+use tabled_images::{Moves, carried};
 use tabled_options::TableOption;
 
-/// Puts rows or columns, from a start up to a limit, into the opposite order. It takes no memory.
+/// Puts rows or columns, from a start up to a limit, into the opposite order, and merged cells with them. It
+/// takes no memory where nothing is merged. Refused, it leaves the table as it was.
 ///
 /// Where the start isn't before the limit, or the limit is past the table, it changes nothing.
 /// `Reverse::columns(1)` makes
@@ -84,30 +90,42 @@ impl Reverse {
     }
 }
 
-impl<R, C, D> TableOption<R, C, D> for Reverse
+impl<R, D> TableOption<R, SpannedConfig, D> for Reverse
 where
     R: Records + ExactRecords + Resizable,
     R::Cell: Blank,
 {
-    ghost does = { λ s g c h d. ReadsThrough (reversed s.axis s.start s.limit g.rows g.columns) g h × (d ≡ c) };
+    ghost does = { λ s g c h d. ReadsThrough (reversed s.axis s.start s.limit g.rows g.columns) g h × (d ≡ carried_if (reverses s.axis s.start s.limit g.rows g.columns) (reversed s.axis s.start s.limit g.rows g.columns) g.rows g.columns c) };
 
-    ghost leaves = { λ _ _ _ _ _. ⊥ };
+    ghost leaves = { λ _. Same };
 
     ghost can_change = { λ _. Unit {0} };
 
-    ghost never_refused = { λ _ _ _. Unit {0} };
+    ghost never_refused = { λ _ _ c. c ≡ map.empty };
 
     fn change(
         self,
-        _alloc: Global,
+        alloc: Global,
         records: &mut R,
-        _cfg: &mut C,
+        cfg: &mut SpannedConfig,
         _dimension: &mut D,
     ) -> Result<(), AllocError> {
+        let rows = records.count_rows();
+        let columns = records.count_columns();
         let count = self.axis.count(records);
-        if let Some(end) = self.end(count) {
-            lines::reverse(self.axis, records, self.start, end);
-        }
+        let Some(end) = self.end(count) else {
+            return Ok(());
+        };
+        let mirror = Mirror {
+            axis: self.axis,
+            start: self.start,
+            end,
+            rows,
+            columns,
+        };
+        let spans = carried(alloc, &mirror, cfg, rows, columns)?;
+        lines::reverse(self.axis, records, self.start, end);
+        *cfg = spans;
         Ok(())
     }
 
@@ -116,4 +134,54 @@ where
     }
 
     ghost acts_like = { Prim.search rules };
+}
+
+/// Lines of a table of so many rows and columns in the opposite order, from a start up to an end.
+#[derive(Drop)]
+struct Mirror {
+    axis: Axis,
+    start: usize,
+    end: usize,
+    rows: usize,
+    columns: usize,
+}
+
+impl Mirror {
+    /// The other place of a pair.
+    fn across(&self, pos: Position) -> Position
+        requires row { pos.row < self.now.rows }
+        requires col { pos.col < self.now.columns }
+        ensures { result ≡ in_line self.now.axis pos (reversed_index self.now.start self.now.end (count_of self.now.axis self.now.rows self.now.columns) (line_of self.now.axis pos)) }
+    {
+        let count = self.axis.count_of(self.rows, self.columns);
+        self.axis
+            .in_line(pos, self.index(count, self.axis.line_of(pos)))
+    }
+
+    /// The other index of a pair, among `count` lines.
+    fn index(&self, count: usize, i: usize) -> usize
+        ensures { result ≡ reversed_index self.now.start self.now.end count i }
+    {
+        if self.end <= count && self.start <= i && i < self.end {
+            self.start + (self.end - 1 - i)
+        } else {
+            i
+        }
+    }
+}
+
+impl Moves for Mirror {
+    ghost places = { λ m. lines_from m.axis (reversed_index m.start m.end (count_of m.axis m.rows m.columns)) m.rows m.columns };
+
+    fn new_place(&self, pos: Position) -> Option<Position> {
+        if pos.row < self.rows && pos.col < self.columns {
+            Some(self.across(pos))
+        } else {
+            None
+        }
+    }
+
+    fn old_place(&self, pos: Position) -> Option<Position> {
+        Some(self.across(pos))
+    }
 }

@@ -1,19 +1,22 @@
 //! Tables turned by a quarter, or upside down.
 
-ghost use Rattle.std.specs.Prelude.{◌≡◌, ◌⊎◌, OnErr, OnOk};
+ghost use Rattle.std.specs.Prelude.{◌≡◌, ◌⊎◌, IsOk, OnErr, OnOk};
+ghost use Rattle.std.specs.FinMap as map;
 ghost use Rattle.tabled_options.specs.Does.{Same};
 ghost use Rattle.tabled_settings.specs.declared.rotate.Rotate.TheVariants.{Bottom, Top};
 ghost use Rattle.tabled_grid.specs.Places.{ReadsThrough};
-ghost use Rattle.tabled_settings.specs.Rearranged.{rotated, turn_of};
+ghost use Rattle.tabled_settings.specs.Rearranged.{Rearranges, rotated, turn_of};
 ghost use Rattle.std.proofs.Common.{rules};
 
 use crate::lines;
 use std::alloc::{AllocError, Global};
-use tabled_grid::config::Entity;
+use tabled_grid::config::{Entity, Position, SpannedConfig};
 use tabled_grid::records::{Axis, Blank, ExactRecords, Records, Resizable};
+use tabled_images::{Moves, carried};
 use tabled_options::TableOption;
 
-/// Turns a table. Refused for memory, it leaves the table as it was; `Top` and `Bottom` take none.
+/// Turns a table, and its merged cells with it. Refused for memory, it leaves the table as it was; `Top` and
+/// `Bottom` take none where nothing is merged.
 ///
 /// ```text
 /// a b c    Left: c f    Right: d a    Top: d e f
@@ -36,35 +39,37 @@ pub enum Rotate {
     Bottom,
 }
 
-impl<R, C, D> TableOption<R, C, D> for Rotate
+impl<R, D> TableOption<R, SpannedConfig, D> for Rotate
 where
     R: Records + ExactRecords + Resizable,
     R::Cell: Blank,
 {
-    ghost does = { λ s g c h d. ReadsThrough (rotated s g.rows g.columns) g h × (d ≡ c) };
+    ghost does = { λ s g. Rearranges (rotated s g.rows g.columns) g };
 
     ghost leaves = { λ _. Same };
 
     ghost can_change = { λ _. Unit {0} };
 
-    ghost never_refused = { λ s _ _. (s ≡ Top) ⊎ (s ≡ Bottom) };
+    ghost never_refused = { λ s _ c. ((s ≡ Top) ⊎ (s ≡ Bottom)) × (c ≡ map.empty) };
 
     fn change(
         self,
         alloc: Global,
         records: &mut R,
-        _cfg: &mut C,
+        cfg: &mut SpannedConfig,
         _dimension: &mut D,
     ) -> Result<(), AllocError> {
-        match self {
-            Rotate::Left => quarter(alloc, records, Axis::Rows),
-            Rotate::Right => quarter(alloc, records, Axis::Columns),
-            Rotate::Top | Rotate::Bottom => {
-                let rows = records.count_rows();
-                lines::reverse(Axis::Rows, records, 0, rows);
-                Ok(())
-            }
-        }
+        let rows = records.count_rows();
+        let columns = records.count_columns();
+        let turn = Turn {
+            rotate: self,
+            rows,
+            columns,
+        };
+        let spans = carried(alloc, &turn, cfg, rows, columns)?;
+        turn_cells(alloc, &turn.rotate, records)?;
+        *cfg = spans;
+        Ok(())
     }
 
     fn hint_change(&self) -> Option<Entity> {
@@ -72,6 +77,59 @@ where
     }
 
     ghost acts_like = { Prim.search rules };
+}
+
+/// A turn of a table of so many rows and columns.
+#[derive(Drop)]
+struct Turn {
+    rotate: Rotate,
+    rows: usize,
+    columns: usize,
+}
+
+impl Moves for Turn {
+    ghost places = { λ t. rotated t.rotate t.rows t.columns };
+
+    fn new_place(&self, pos: Position) -> Option<Position> {
+        if pos.row >= self.rows || pos.col >= self.columns {
+            return None;
+        }
+        Some(match self.rotate {
+            Rotate::Left => Position::new(self.columns - 1 - pos.col, pos.row),
+            Rotate::Right => Position::new(pos.col, self.rows - 1 - pos.row),
+            Rotate::Top | Rotate::Bottom => Position::new(self.rows - 1 - pos.row, pos.col),
+        })
+    }
+
+    fn old_place(&self, pos: Position) -> Option<Position> {
+        Some(match self.rotate {
+            Rotate::Left => Position::new(pos.col, self.columns - 1 - pos.row),
+            Rotate::Right => Position::new(self.rows - 1 - pos.col, pos.row),
+            Rotate::Top | Rotate::Bottom => Position::new(self.rows - 1 - pos.row, pos.col),
+        })
+    }
+}
+
+/// Turns the cells of a table.
+fn turn_cells<R>(alloc: Global, rotate: &Rotate, records: &mut R) -> Result<(), AllocError>
+where
+    R: Records + ExactRecords + Resizable,
+    R::Cell: Blank,
+    requires { R.is_well_formed records.old }
+    ensures well { R.is_well_formed records.new }
+    ensures ok { OnOk result (ReadsThrough (rotated rotate.now ((R.grid records.old).rows) ((R.grid records.old).columns)) (R.grid records.old) (R.grid records.new)) }
+    ensures err { OnErr result (R.grid records.new ≡ R.grid records.old) }
+    ensures promised { (rotate.now ≡ Top) ⊎ (rotate.now ≡ Bottom) → IsOk result }
+{
+    match rotate {
+        Rotate::Left => quarter(alloc, records, Axis::Rows),
+        Rotate::Right => quarter(alloc, records, Axis::Columns),
+        Rotate::Top | Rotate::Bottom => {
+            let rows = records.count_rows();
+            lines::reverse(Axis::Rows, records, 0, rows);
+            Ok(())
+        }
+    }
 }
 
 /// Exchanges rows and columns, and then reverses the rows, for a turn to the left, or the columns.

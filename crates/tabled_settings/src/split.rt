@@ -1,19 +1,23 @@
 //! Tables with their rows or columns cut into pieces.
 
-ghost use Rattle.std.specs.Prelude.{◌≡◌, ◌<◌, false};
+ghost use Rattle.std.specs.Prelude.{◌≡◌, false};
+ghost use Rattle.tabled_grid.specs.Grid.{map_grid};
 ghost use Rattle.tabled_grid.specs.declared.records.axis.Axis.TheVariants.{Columns, Rows};
 ghost use Rattle.tabled_options.specs.Does.{Same};
 ghost use Rattle.tabled_grid.specs.declared.records.piece_order.PieceOrder.TheVariants.{Concat, Zip};
 ghost use Rattle.tabled_settings.specs.declared.split.Display.TheVariants.{Clean, Retain};
-ghost use Rattle.tabled_settings.specs.PiecePlaces.{Splits};
+ghost use Rattle.tabled_settings.specs.PiecePlaces.{Splits, split_places};
 ghost use Rattle.tabled_settings.specs.Pieces.{has_pieces};
+ghost use Rattle.tabled_settings.specs.Rearranged.{carried_if};
 ghost use Rattle.std.proofs.Common.{rules};
 
-use crate::pieces;
+use crate::cuts::{CleanCut, Cut};
+use crate::{lines, pieces};
 use std::alloc::{AllocError, Global};
-use tabled_grid::config::Entity;
+use tabled_grid::config::{Entity, SpannedConfig};
 pub use tabled_grid::records::PieceOrder as Behavior;
 use tabled_grid::records::{Axis, CellText, ExactRecords, PeekableRecords, Records, Resizable};
+use tabled_images::carried;
 use tabled_options::TableOption;
 
 /// Whether pieces without a text stay.
@@ -29,9 +33,10 @@ pub enum Display {
 
 /// Cuts rows, or columns, into pieces of a length, which become the new rows, or columns.
 ///
-/// The last piece of each is filled up with blank cells. Where there are no rows or no columns, where the
-/// index is 0 and where a line is no longer than the index, it changes nothing and takes no memory.
-/// Refused for memory, it leaves the table as it was.
+/// The last piece of each is filled up with blank cells. Merged cells stay merged where all of them are kept
+/// and form a rectangle again. Where there are no rows or no columns, where the index is 0 and where a line
+/// is no longer than the index, it changes nothing and takes no memory. Refused for memory, it leaves the
+/// table and its merged cells as they were; so it does where there would be more than `usize::MAX` pieces.
 ///
 /// ```text
 /// a b c d e   column(2): a b   concat: a b   row(1): a f b g c h d i e j
@@ -131,12 +136,12 @@ impl Split {
     }
 }
 
-impl<R, C, D> TableOption<R, C, D> for Split
+impl<R, D> TableOption<R, SpannedConfig, D> for Split
 where
     R: Records + ExactRecords + PeekableRecords + Resizable,
     R::Cell: CellText,
 {
-    ghost does = { λ s g c h d. Splits R.Cell.is_blank R.Cell.text_of s g h × (d ≡ c) };
+    ghost does = { λ s g c h d. Splits R.Cell.is_blank R.Cell.text_of s g h × (d ≡ carried_if (has_pieces s g.rows g.columns) (split_places s (map_grid R.Cell.text_of g)) g.rows g.columns c) };
 
     ghost leaves = { λ _. Same };
 
@@ -148,22 +153,40 @@ where
         self,
         alloc: Global,
         records: &mut R,
-        _cfg: &mut C,
+        cfg: &mut SpannedConfig,
         _dimension: &mut D,
     ) -> Result<(), AllocError> {
-        let lines = self.lines.count(records);
-        let width = self.lines.across().count(records);
+        let rows = records.count_rows();
+        let columns = records.count_columns();
+        let lines = self.lines.count_of(rows, columns);
+        let width = self.lines.across().count_of(rows, columns);
         if lines == 0 || self.index == 0 || self.index >= width {
             return Ok(());
         }
-        records.cut(alloc, self.lines, self.behavior, self.index)?;
+        if lines.checked_mul(width.div_ceil(self.index)).is_none() {
+            return Err(AllocError);
+        }
+        let cut = Cut {
+            split: self,
+            lines,
+            width,
+        };
         match self.display {
             Display::Clean => {
-                pieces::drop_empty(records, self, lines, width.div_ceil(self.index));
-                Ok(())
+                let kept = pieces::kept_pieces(alloc, records, &cut)?;
+                let clean = CleanCut { cut, kept };
+                let spans = carried(alloc, &clean, cfg, rows, columns)?;
+                records.cut(alloc, self.lines, self.behavior, self.index)?;
+                lines::keep_some(self.lines, records, &clean.kept);
+                *cfg = spans;
             }
-            Display::Retain => Ok(()),
+            Display::Retain => {
+                let spans = carried(alloc, &cut, cfg, rows, columns)?;
+                records.cut(alloc, self.lines, self.behavior, self.index)?;
+                *cfg = spans;
+            }
         }
+        Ok(())
     }
 
     fn hint_change(&self) -> Option<Entity> {

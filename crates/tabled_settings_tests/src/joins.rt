@@ -9,7 +9,7 @@ use tabled_table::Table;
 use tabled_testing::flat;
 
 /// The join of a second table, with `-` where the first table lacks a cell.
-fn joined(alloc: Global, axis: Axis, second: &str) -> Result<Concat, AllocError> {
+pub(crate) fn joined(alloc: Global, axis: Axis, second: &str) -> Result<Concat, AllocError> {
     let second = Table::from_records(alloc, flat(alloc, second)?);
     let concat = match axis {
         Axis::Rows => Concat::vertical(alloc, second),

@@ -4,6 +4,7 @@ use crate::changes::{Change, makes, makes_refusing};
 use std::alloc::{AllocError, Global};
 use std::test::Fail;
 use tabled_grid::config::Offset::{End, Start};
+use tabled_grid::config::SpannedConfig;
 use tabled_grid::records::VecRecords;
 use tabled_options::TableOption;
 use tabled_settings::reverse::Reverse;
@@ -102,7 +103,7 @@ fn reversed(alloc: Global, reverse: Reverse) -> Result<Vec<Vec<usize>>, AllocErr
         vec![in alloc; 6, 7, 8]?,
     ]?;
     let mut numbers = VecRecords::new(alloc, rows)?;
-    reverse.change(alloc, &mut numbers, &mut (), &mut ())?;
+    reverse.change(alloc, &mut numbers, &mut SpannedConfig::new(alloc), &mut ())?;
     numbers.into_rows(alloc)
 }
 

@@ -1,6 +1,7 @@
 //! What options make of tables that are spelled.
 
 use std::alloc::{AllocError, Global};
+use tabled_grid::config::SpannedConfig;
 use tabled_grid::records::{CellText, ExactRecords, PeekableRecords, Records};
 use tabled_options::TableOption;
 use tabled_testing::{Flat, Nested, Refusing, flat, is_word, nested, spelled};
@@ -10,11 +11,11 @@ pub(crate) fn made<R, O>(alloc: Global, mut records: R, option: O) -> Result<Str
 where
     R: Records + ExactRecords + PeekableRecords + Drop,
     R::Cell: CellText,
-    O: TableOption<R, (), ()>,
+    O: TableOption<R, SpannedConfig, ()>,
     requires well { R.is_well_formed records }
     requires can { O.can_change option }
 {
-    let done = option.change(alloc, &mut records, &mut (), &mut ());
+    let done = option.change(alloc, &mut records, &mut SpannedConfig::new(alloc), &mut ());
     made_by(alloc, &records, done)
 }
 
@@ -39,7 +40,7 @@ where
 /// What it makes of one in one vector of cells.
 pub(crate) fn made_flat<O>(alloc: Global, old: &str, option: O) -> Result<String, AllocError>
 where
-    O: TableOption<Flat, (), ()> + Drop,
+    O: TableOption<Flat, SpannedConfig, ()> + Drop,
     requires { O.can_change option }
 {
     made(alloc, flat(alloc, old)?, option)
@@ -48,7 +49,7 @@ where
 /// Whether an option makes one table of another in one vector of cells.
 pub(crate) fn makes_flat<O>(alloc: Global, old: &str, option: O, new: &str) -> bool
 where
-    O: TableOption<Flat, (), ()> + Drop,
+    O: TableOption<Flat, SpannedConfig, ()> + Drop,
     requires { O.can_change option }
 {
     is_word(made_flat(alloc, old, option), new)
@@ -56,7 +57,7 @@ where
 
 fn made_nested<O>(alloc: Global, old: &str, option: O) -> Result<String, AllocError>
 where
-    O: TableOption<Nested, (), ()> + Drop,
+    O: TableOption<Nested, SpannedConfig, ()> + Drop,
     requires { O.can_change option }
 {
     made(alloc, nested(alloc, old)?, option)
@@ -65,7 +66,7 @@ where
 /// The same in a vector for each row.
 pub(crate) fn makes_nested<O>(alloc: Global, old: &str, option: O, new: &str) -> bool
 where
-    O: TableOption<Nested, (), ()> + Drop,
+    O: TableOption<Nested, SpannedConfig, ()> + Drop,
     requires { O.can_change option }
 {
     is_word(made_nested(alloc, old, option), new)
@@ -73,7 +74,7 @@ where
 
 fn made_refusing<O>(alloc: Global, left: usize, old: &str, option: O) -> Result<String, AllocError>
 where
-    O: TableOption<Refusing<Flat>, (), ()> + Drop,
+    O: TableOption<Refusing<Flat>, SpannedConfig, ()> + Drop,
     requires { O.can_change option }
 {
     let store = flat(alloc, old)?;
@@ -83,7 +84,7 @@ where
 /// The same in a store that refuses all but so many growths and writes. A refusal is told by `!`.
 pub(crate) fn makes_refusing<O>(alloc: Global, left: usize, old: &str, option: O, new: &str) -> bool
 where
-    O: TableOption<Refusing<Flat>, (), ()> + Drop,
+    O: TableOption<Refusing<Flat>, SpannedConfig, ()> + Drop,
     requires { O.can_change option }
 {
     is_word(made_refusing(alloc, left, old, option), new)

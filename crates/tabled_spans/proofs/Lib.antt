@@ -1,3 +1,4 @@
+pub mod Anchored
 pub mod FreeCells
 pub mod MergeGeometry
 pub mod MergeTwice

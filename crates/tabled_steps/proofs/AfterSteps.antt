@@ -21,14 +21,14 @@ use Rattle.tabled_options.specs.Writes.{Write, with_writes}
 use Rattle.tabled_settings.specs.Dups.{Duplicates, dup_writes, rounds, source_texts}
 use Rattle.tabled_settings.specs.Joined.{JoinsAt, corner_of, joined_text}
 use Rattle.tabled_grid.specs.Places.{Places}
-use Rattle.tabled_settings.specs.Rearranged.{extracted, removed, reversed, rotated}
+use Rattle.tabled_settings.specs.Rearranged.{Rearranges, extracted, removed, reversed, rotated}
 use Rattle.tabled_settings.specs.declared.rotate.Rotate.{Rotate}
 use Rattle.tabled_settings.specs.declared.rotate.Rotate.TheVariants.{Left, Right, Top, Bottom}
 use Rattle.tabled_spans.specs.Panels.{Panels, cells_along, has_room, with_line}
 use Rattle.tabled_steps.specs.Reads.{joined}
 use Rattle.tabled_steps.specs.Selected.{half_open, named_by, selected}
 use Rattle.tabled_steps.specs.States.{State, after, after_all, duplicate, merge, on_each, put_panel, rearrange, recode, set, span, state_of}
-use Rattle.tabled_steps.specs.Steps.{Does, Merges, Names, Rearranges}
+use Rattle.tabled_steps.specs.Steps.{Does, Merges, Names}
 use Rattle.tabled_steps.specs.declared.select.Select.{Select}
 use Rattle.tabled_steps.specs.declared.step.Step.{Step}
 use Rattle.tabled_steps.specs.declared.step.Step.TheVariants as step
@@ -48,8 +48,7 @@ total-rotated Top rows columns p = (_, refl)
 total-rotated Bottom rows columns p = (_, refl)
 
 total-removed : (axis : Axis) (found : List ℕ) (rows columns : ℕ) (p : Position) → (q : Position) × ((removed axis found rows columns).old_place p ≡ Some q)
-total-removed Rows found rows columns p = (_, refl)
-total-removed Columns found rows columns p = (_, refl)
+total-removed axis found rows columns p = (_, refl)
 
 module _ {A : Type 0} (text_of : A → List ℕ) where
   -- a change for each entity, where one is what a formula says
@@ -74,7 +73,7 @@ module _ {A : Type 0} (text_of : A → List ℕ) where
         aim texts (inl none) = rw none refl
         aim texts (inr listed) = ap (rounds texts g.rows g.columns) listed
 
-    rearranged : (places : ℕ → ℕ → Places) → ((p : Position) → (q : Position) × ((places g.rows g.columns).old_place p ≡ Some q)) → Rearranges places g c h d → state_of text_of h d ≡ rearrange places (state_of text_of g c)
+    rearranged : (places : ℕ → ℕ → Places) → ((p : Position) → (q : Position) × ((places g.rows g.columns).old_place p ≡ Some q)) → Rearranges (places g.rows g.columns) g c h d → state_of text_of h d ≡ rearrange places (state_of text_of g c)
     rearranged places total (reads, same) = same_state _ _ _ _ (read_through text_of g h (places g.rows g.columns) total reads) same
 
     room : (axis : Axis) (line : ℕ) → has_room axis line (map_grid text_of g) c ≡ has_room axis line g c
@@ -137,7 +136,7 @@ module _ {A : Type 0} (text_of : A → List ℕ) where
   after_step is_blank (step.MergeVertical _) g c h d does = merged g c h d Rows does
   after_step is_blank (step.MergeHorizontal _) g c h d does = merged g c h d Columns does
   after_step is_blank (step.Rotate rotate) g c h d does = rearranged g c h d (rotated rotate) (total-rotated rotate g.rows g.columns) does
-  after_step is_blank (step.Reverse reverse) g c h d does = rearranged g c h d (reversed reverse.axis reverse.start reverse.limit) (λ p. (_, refl)) does
+  after_step is_blank (step.Reverse how) g c h d does = same_state _ _ _ _ (read_through text_of g h (reversed how.axis how.start how.limit g.rows g.columns) (λ p. (_, refl)) does.0) does.1
   after_step is_blank (step.Split how) g c h d does = same_state _ _ _ _ does.0.texts does.1
   after_step is_blank (step.Concat concat) g c h d does = same_state _ _ _ _ (joined_at g c h d concat.0 concat.1 concat.2 does.0) does.1
   after_step is_blank (step.Extract a b k l) g c h d does = rearranged g c h d (extracted (half_open a b) (half_open k l)) (λ p. (_, refl)) does

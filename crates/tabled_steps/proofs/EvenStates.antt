@@ -27,7 +27,7 @@ use Rattle.tabled_settings.proofs.Glued.{split_glued}
 use Rattle.tabled_settings.proofs.PieceReads.{cut_even, turned_even}
 use Rattle.tabled_spans.specs.Panels.{has_room}
 use Rattle.tabled_spans.specs.Spanned.{span_writes}
-use Rattle.tabled_steps.specs.Reads.{joined}
+use Rattle.tabled_steps.specs.Reads.{joined, read}
 use Rattle.tabled_steps.specs.Selected.{half_open, named_by, selected}
 use Rattle.tabled_steps.specs.States.{IsUndoneMidway, State, after, after_all, flattened, on_each, parts, put_panel, rearrange}
 use Rattle.tabled_steps.specs.declared.select.Select.{Select}
@@ -78,8 +78,11 @@ even_split how g even = by (cases_Bool (has_pieces how g.rows g.columns))
     by (inl some) = rw some (turned_cut how.lines (ltb-true 0 how.index (and_parts _ _ (and_parts _ _ some).1).0))
     by (inr none) = rw none even
 
+even_read : (from : Places) (s : State) → IsEven (read from s.texts)
+even_read from s = IsEven-table_of from.rows from.columns (λ (p : Position). unwrap_or (option_and_then (cell_at s.texts) (from.old_place p)) [])
+
 even_rearranged : (places : ℕ → ℕ → Places) → Keeps (rearrange places)
-even_rearranged places s even = let from = places s.texts.rows s.texts.columns in IsEven-table_of from.rows from.columns (λ (p : Position). unwrap_or (option_and_then (cell_at s.texts) (from.old_place p)) [])
+even_rearranged places s even = even_read (places s.texts.rows s.texts.columns) s
 
 even_joined : (axis : Axis) (second : Grid (List ℕ)) (default : List ℕ) (g : Grid (List ℕ)) → IsEven (joined axis second default g)
 even_joined axis second default g = let corner = corner_of axis g.rows g.columns in IsEven-table_of (max g.rows (corner.row + second.rows)) (max g.columns (corner.col + second.columns)) (λ (p : Position). cond (nat_lt p.row g.rows && nat_lt p.col g.columns) (text_at g p) (joined_text corner second default p.row p.col))
@@ -97,7 +100,7 @@ even_after (step.Footer text) = λ s. even_panel Rows s.texts.rows text s
 even_after (step.MergeVertical _) = λ s even. even
 even_after (step.MergeHorizontal _) = λ s even. even
 even_after (step.Rotate rotate) = even_rearranged (rotated rotate)
-even_after (step.Reverse reverse) = even_rearranged (reversed reverse.axis reverse.start reverse.limit)
+even_after (step.Reverse how) = λ s even. even_read (reversed how.axis how.start how.limit s.texts.rows s.texts.columns) s
 even_after (step.Split how) = λ s. even_split how s.texts
 even_after (step.Concat concat) = λ s even. even_joined concat.0 concat.1 concat.2 s.texts
 even_after (step.Extract a b k l) = even_rearranged (extracted (half_open a b) (half_open k l))

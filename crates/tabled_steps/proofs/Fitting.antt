@@ -14,6 +14,11 @@ use Rattle.tabled_options.proofs.Keeps.{keeps_all, keeps_copied, keeps_in_order,
 use Rattle.tabled_options.proofs.Shapes.{writes_keep}
 use Rattle.tabled_options.specs.Writes.{text_writes}
 use Rattle.tabled_settings.specs.Charsets.{charset_writes}
+use Rattle.tabled_grid.specs.Bounds.{indexes}
+use Rattle.tabled_select.specs.Locators.{columns_with}
+use Rattle.tabled_settings.proofs.RearrangedFits.{join_keeps, rearranged_keeps, reversal_keeps, split_keeps}
+use Rattle.tabled_settings.specs.Rearranged.{extracted, removed, rotated}
+use Rattle.tabled_steps.specs.Selected.{half_open}
 use Rattle.tabled_settings.proofs.WritersKeep.{duplicates_keep}
 use Rattle.tabled_spans.specs.Panels.{Panels}
 use Rattle.tabled_spans.proofs.MergeGeometry.{fits_merged}
@@ -51,14 +56,14 @@ module _ {A : Type 0} (is_blank : A → Type 0) (text_of : A → List ℕ) where
   step_keeps (step.Footer text) _ = panels Rows (λ g. g.rows) text
   step_keeps (step.MergeVertical _) _ = merges Rows
   step_keeps (step.MergeHorizontal _) _ = merges Columns
-  step_keeps (step.Rotate _) none = absurd none
-  step_keeps (step.Reverse _) none = absurd none
-  step_keeps (step.Split _) none = absurd none
-  step_keeps (step.Concat _) none = absurd none
-  step_keeps (step.Extract _ _ _ _) none = absurd none
-  step_keeps (step.RemoveRows _ _) none = absurd none
-  step_keeps (step.RemoveColumns _ _) none = absurd none
-  step_keeps (step.RemoveNamed _) none = absurd none
+  step_keeps (step.Rotate rotate) _ = rearranged_keeps (λ g. rotated rotate g.rows g.columns)
+  step_keeps (step.Reverse how) _ = reversal_keeps how.axis how.start how.limit
+  step_keeps (step.Split how) _ = split_keeps is_blank text_of how
+  step_keeps (step.Concat concat) _ = join_keeps text_of concat.0 concat.1 concat.2
+  step_keeps (step.Extract a b k l) _ = rearranged_keeps (λ g. extracted (half_open a b) (half_open k l) g.rows g.columns)
+  step_keeps (step.RemoveRows a b) _ = rearranged_keeps (λ g. removed Rows (indexes (half_open a b) g.rows) g.rows g.columns)
+  step_keeps (step.RemoveColumns a b) _ = rearranged_keeps (λ g. removed Columns (indexes (half_open a b) g.columns) g.rows g.columns)
+  step_keeps (step.RemoveNamed name) _ = rearranged_keeps (λ g. removed Columns (columns_with (string_bytes name) (map_grid text_of g)) g.rows g.columns)
   step_keeps (step.Both' _ first _ second) both = keeps_in_order fitting _ _ _ _ (step_keeps first both.0) (step_keeps second both.1)
 
   refused_keeps : (steps : List Step) → AllByRecursion KeepsFitting steps → AllByRecursion (λ s. OptionKeeps fitting (Does is_blank text_of s) (Refused is_blank text_of s)) steps

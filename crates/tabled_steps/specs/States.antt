@@ -12,10 +12,13 @@ use Rattle.tabled_options.specs.Writes.{text_writes, with_writes}
 use Rattle.tabled_select.specs.Locators.{columns_with}
 use Rattle.tabled_settings.specs.Charsets.{charset_writes}
 use Rattle.tabled_settings.specs.Dups.{dup_writes}
-use Rattle.tabled_settings.specs.PiecePlaces.{glued}
-use Rattle.tabled_settings.specs.Pieces.{split}
+use Rattle.tabled_images.specs.Images.{carried}
+use Rattle.tabled_settings.specs.Joined.{corner_of, joined_places}
+use Rattle.tabled_settings.specs.PiecePlaces.{glued, split_places}
+use Rattle.tabled_settings.specs.Pieces.{has_pieces, split}
 use Rattle.tabled_grid.specs.Places.{Places}
-use Rattle.tabled_settings.specs.Rearranged.{extracted, removed, reversed, rotated}
+use Rattle.tabled_settings.specs.Rearranged.{carried_if, extracted, removed, reversed, reverses, rotated}
+use Rattle.tabled_settings.specs.declared.reverse.Reverse.{Reverse}
 use Rattle.tabled_settings.specs.declared.split.Display.TheVariants.{Retain}
 use Rattle.tabled_settings.specs.declared.split.Split.{Split}
 use Rattle.tabled_spans.specs.Panels.{cells_along, has_room, with_line, with_panel}
@@ -63,17 +66,22 @@ put_panel axis line text s = if has_room axis line s.texts s.spans then record {
 abbrev pub merge : Axis → State → State
 merge axis s = record s { spans = with_sizes s.spans (runs axis s.texts s.spans) }
 
--- the texts, read through a map of places
+-- the texts, read through a map of places, and the merged cells, carried along
 abbrev pub rearrange : (ℕ → ℕ → Places) → State → State
-rearrange places s = record s { texts = read (places s.texts.rows s.texts.columns) s.texts }
+rearrange places s = record { texts = read (places s.texts.rows s.texts.columns) s.texts; spans = carried (places s.texts.rows s.texts.columns) s.texts.rows s.texts.columns s.spans }
+
+-- lines in the opposite order, where the limit isn't past the table
+abbrev pub reverse : Reverse → State → State
+reverse r s = let places = reversed r.axis r.start r.limit s.texts.rows s.texts.columns in
+    record { texts = read places s.texts; spans = carried_if (reverses r.axis r.start r.limit s.texts.rows s.texts.columns) places s.texts.rows s.texts.columns s.spans }
 
 -- rows or columns cut into pieces
 abbrev pub cut : Split → State → State
-cut how s = record s { texts = split how s.texts }
+cut how s = record { texts = split how s.texts; spans = carried_if (has_pieces how s.texts.rows s.texts.columns) (split_places how s.texts) s.texts.rows s.texts.columns s.spans }
 
 -- a second table joined to the texts
 abbrev pub join : Axis → Grid (List ℕ) → List ℕ → State → State
-join axis second default s = record s { texts = joined axis second default s.texts }
+join axis second default s = record { texts = joined axis second default s.texts; spans = carried (joined_places (corner_of axis s.texts.rows s.texts.columns) second s.texts.rows s.texts.columns) s.texts.rows s.texts.columns s.spans }
 
 -- the rows, or the columns, of a range taken away
 abbrev pub remove_range : Axis → ℕ → ℕ → State → State
@@ -98,7 +106,7 @@ after (step.Footer text) = λ s. put_panel Rows s.texts.rows text s
 after (step.MergeVertical _) = merge Rows
 after (step.MergeHorizontal _) = merge Columns
 after (step.Rotate rotate) = rearrange (rotated rotate)
-after (step.Reverse reverse) = rearrange (reversed reverse.axis reverse.start reverse.limit)
+after (step.Reverse how) = reverse how
 after (step.Split how) = cut how
 after (step.Concat concat) = join concat.0 concat.1 concat.2
 after (step.Extract a b c d) = rearrange (extracted (half_open a b) (half_open c d))

@@ -1,5 +1,6 @@
 -- What steps do to the cells and the merged cells of a table, and what they leave where memory is refused.
 use Rattle.std.specs.Prelude.{◌≡◌, ◌⊎◌, ℕ, false, List}
+use Rattle.std.specs.FinMap as finite
 use Rattle.std.specs.String.{string_bytes}
 use Rattle.tabled_grid.specs.Grid.{Grid, map_grid}
 use Rattle.tabled_grid.specs.Spans.{SpanMap}
@@ -11,12 +12,15 @@ use Rattle.tabled_options.specs.Writes.{DoesFirstWrites, DoesWrites, text_writes
 use Rattle.tabled_select.specs.Locators.{columns_with}
 use Rattle.tabled_settings.specs.Charsets.{charset_writes}
 use Rattle.tabled_settings.specs.Dups.{Duplicates, DuplicatesFirst}
-use Rattle.tabled_settings.specs.Joined.{JoinsAt, corner_of}
-use Rattle.tabled_settings.specs.PiecePlaces.{Splits}
+use Rattle.tabled_images.specs.Images.{carried}
+use Rattle.tabled_settings.specs.Joined.{JoinsAt, corner_of, joined_places}
+use Rattle.tabled_settings.specs.PiecePlaces.{Splits, split_places}
 use Rattle.tabled_settings.specs.Pieces.{has_pieces}
-use Rattle.tabled_grid.specs.Places.{Places, ReadsThrough}
-use Rattle.tabled_settings.specs.Rearranged.{extracted, removed, reversed, rotated}
+use Rattle.tabled_grid.specs.Places.{ReadsThrough}
+use Rattle.tabled_settings.specs.Rearranged.{Rearranges, carried_if, extracted, removed, reversed, reverses, rotated}
+use Rattle.tabled_settings.specs.declared.reverse.Reverse.{Reverse}
 use Rattle.tabled_settings.specs.declared.rotate.Rotate.TheVariants.{Bottom, Top}
+use Rattle.tabled_settings.specs.declared.split.Split.{Split}
 use Rattle.tabled_grid.specs.Bounds.{indexes}
 use Rattle.tabled_spans.specs.Panels.{Panels, has_room}
 use Rattle.tabled_spans.specs.Runs.{MergesRuns}
@@ -30,9 +34,17 @@ use Rattle.tabled_steps.specs.declared.step.Step.TheVariants as step
 abbrev pub Names : {A : Type 0} → (A → List ℕ) → Select → Grid A → List Entity → Type 0
 Names text_of select g entities = entities ≡ selected (map_grid text_of g) select
 
--- the cells are read through a map of places, and merged cells stay where they are
-abbrev pub Rearranges : {A : Type 0} → (ℕ → ℕ → Places) → Change A SpanMap
-Rearranges places g c h d = ReadsThrough (places g.rows g.columns) g h × (d ≡ c)
+-- lines in the opposite order, and the merged cells carried along where there are some
+abbrev pub Reverses : {A : Type 0} → Reverse → Change A SpanMap
+Reverses r g c h d = ReadsThrough (reversed r.axis r.start r.limit g.rows g.columns) g h × (d ≡ carried_if (reverses r.axis r.start r.limit g.rows g.columns) (reversed r.axis r.start r.limit g.rows g.columns) g.rows g.columns c)
+
+-- lines cut into pieces, and the merged cells carried along where there are some
+abbrev pub Cuts : {A : Type 0} → (A → Type 0) → (A → List ℕ) → Split → Change A SpanMap
+Cuts is_blank text_of s g c h d = Splits is_blank text_of s g h × (d ≡ carried_if (has_pieces s g.rows g.columns) (split_places s (map_grid text_of g)) g.rows g.columns c)
+
+-- a second table is joined, and the merged cells are carried along
+abbrev pub Joins : {A : Type 0} → (A → List ℕ) → Axis → Grid (List ℕ) → List ℕ → Change A SpanMap
+Joins text_of axis second default g c h d = JoinsAt text_of (corner_of axis g.rows g.columns) second default g h × (d ≡ carried (joined_places (corner_of axis g.rows g.columns) second g.rows g.columns) g.rows g.columns c)
 
 -- runs of equal neighbours are merged, and cells stay
 abbrev pub Merges : {A : Type 0} → (A → List ℕ) → Axis → Change A SpanMap
@@ -51,14 +63,14 @@ Does is_blank text_of (step.Header text) = Panels text_of Rows 0 text
 Does is_blank text_of (step.Footer text) = λ g. Panels text_of Rows g.rows text g
 Does is_blank text_of (step.MergeVertical _) = Merges text_of Rows
 Does is_blank text_of (step.MergeHorizontal _) = Merges text_of Columns
-Does is_blank text_of (step.Rotate rotate) = Rearranges (rotated rotate)
-Does is_blank text_of (step.Reverse reverse) = Rearranges (reversed reverse.axis reverse.start reverse.limit)
-Does is_blank text_of (step.Split split) = λ g c h d. Splits is_blank text_of split g h × (d ≡ c)
-Does is_blank text_of (step.Concat concat) = λ g c h d. JoinsAt text_of (corner_of concat.0 g.rows g.columns) concat.1 concat.2 g h × (d ≡ c)
-Does is_blank text_of (step.Extract a b c d) = Rearranges (extracted (half_open a b) (half_open c d))
-Does is_blank text_of (step.RemoveRows a b) = λ g. Rearranges (removed Rows (indexes (half_open a b) g.rows)) g
-Does is_blank text_of (step.RemoveColumns a b) = λ g. Rearranges (removed Columns (indexes (half_open a b) g.columns)) g
-Does is_blank text_of (step.RemoveNamed name) = λ g. Rearranges (removed Columns (columns_with (string_bytes name) (map_grid text_of g))) g
+Does is_blank text_of (step.Rotate rotate) = λ g. Rearranges (rotated rotate g.rows g.columns) g
+Does is_blank text_of (step.Reverse reverse) = Reverses reverse
+Does is_blank text_of (step.Split split) = Cuts is_blank text_of split
+Does is_blank text_of (step.Concat concat) = Joins text_of concat.0 concat.1 concat.2
+Does is_blank text_of (step.Extract a b c d) = λ g. Rearranges (extracted (half_open a b) (half_open c d) g.rows g.columns) g
+Does is_blank text_of (step.RemoveRows a b) = λ g. Rearranges (removed Rows (indexes (half_open a b) g.rows) g.rows g.columns) g
+Does is_blank text_of (step.RemoveColumns a b) = λ g. Rearranges (removed Columns (indexes (half_open a b) g.columns) g.rows g.columns) g
+Does is_blank text_of (step.RemoveNamed name) = λ g. Rearranges (removed Columns (columns_with (string_bytes name) (map_grid text_of g)) g.rows g.columns) g
 Does is_blank text_of (step.Both' _ first _ second) = Then (Does is_blank text_of first) (Does is_blank text_of second)
 
 -- nothing, or the changes for the entities that a selector names before one, and what the refused change for that one leaves
@@ -73,8 +85,6 @@ Leaves is_blank text_of (step.Charset charset select) = LeavesFirst text_of sele
 Leaves is_blank text_of (step.ColumnSpan size select) = LeavesFirst text_of select (Spans text_of Columns size) (SpansFirst text_of Columns size)
 Leaves is_blank text_of (step.RowSpan size select) = LeavesFirst text_of select (Spans text_of Rows size) (SpansFirst text_of Rows size)
 Leaves is_blank text_of (step.Both' _ first _ second) = ThenLeaves (Does is_blank text_of first) (Leaves is_blank text_of first) (Leaves is_blank text_of second)
-Leaves is_blank text_of (step.Reverse _) = λ g c h d. ⊥
-Leaves is_blank text_of (step.Extract _ _ _ _) = λ g c h d. ⊥
 Leaves is_blank text_of _ = Same
 
 -- a step that takes no memory on a table, and so is not refused
@@ -83,9 +93,9 @@ TakesNoMemory is_blank text_of (step.HorizontalPanel panel) g c = has_room Rows 
 TakesNoMemory is_blank text_of (step.VerticalPanel panel) g c = has_room Columns panel.0 g c ≡ false
 TakesNoMemory is_blank text_of (step.Header _) g c = has_room Rows 0 g c ≡ false
 TakesNoMemory is_blank text_of (step.Footer _) g c = has_room Rows g.rows g c ≡ false
-TakesNoMemory is_blank text_of (step.Rotate rotate) g c = (rotate ≡ Top) ⊎ (rotate ≡ Bottom)
-TakesNoMemory is_blank text_of (step.Reverse _) g c = Unit {0}
-TakesNoMemory is_blank text_of (step.Extract _ _ _ _) g c = Unit {0}
+TakesNoMemory is_blank text_of (step.Rotate rotate) g c = ((rotate ≡ Top) ⊎ (rotate ≡ Bottom)) × (c ≡ finite.empty)
+TakesNoMemory is_blank text_of (step.Reverse _) g c = c ≡ finite.empty
+TakesNoMemory is_blank text_of (step.Extract _ _ _ _) g c = c ≡ finite.empty
 TakesNoMemory is_blank text_of (step.Split split) g c = has_pieces split g.rows g.columns ≡ false
 TakesNoMemory is_blank text_of (step.Both' _ first _ second) g c = TakesNoMemory is_blank text_of first g c × AfterNeverRefused (Does is_blank text_of first) (TakesNoMemory is_blank text_of second) g c
 TakesNoMemory is_blank text_of _ g c = ⊥

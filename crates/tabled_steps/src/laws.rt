@@ -65,8 +65,8 @@ where
     ensures { (steps : List Step) (g : Grid A.Cell) (c : SpanMap) (h : Grid A.Cell) (d : SpanMap) (k : Grid B.Cell) (m : SpanMap) (l : Grid B.Cell) (n : SpanMap) → Each (Does A.Cell.is_blank A.Cell.text_of) steps g c h d → Each (Does B.Cell.is_blank B.Cell.text_of) steps k m l n → state_of A.Cell.text_of g c ≡ state_of B.Cell.text_of k m → state_of A.Cell.text_of h d ≡ state_of B.Cell.text_of l n }
 {}
 
-/// Steps that write texts, span at least one cell, put in panels or merge equal neighbours keep merged
-/// cells inside the table and apart, also where they are refused.
+/// Steps but spans of size 0 or below keep merged cells inside the table and apart, also where they are
+/// refused.
 pub fn steps_keep_merged_cells_fitting<R, D>(_step: &Step)
 where
     R: Records + ExactRecords + PeekableRecords + RecordsMut<String> + Resizable,

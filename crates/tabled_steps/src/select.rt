@@ -102,6 +102,35 @@ impl Select {
         }
     }
 
+    /// The entities that stand for those that are named in a store.
+    fn standing<R>(&self, alloc: Global, records: &R) -> Result<Vec<Entity>, AllocError>
+    where
+        R: Records + ExactRecords + PeekableRecords,
+        R::Cell: CellText,
+        requires { R.is_well_formed records.now }
+        ensures { IfOk result (λ standing. StandsIn R.Cell.text_of self.now (R.grid records.now) standing.items) }
+    {
+        match self {
+            Select::Rows(_, _)
+            | Select::Columns(_, _)
+            | Select::Segment(_, _, _, _)
+            | Select::And(_, _)
+            | Select::Not(_, _)
+            | Select::Intersect(_, _)
+            | Select::Inverse(_)
+            | Select::Skip(_, _)
+            | Select::StepBy(_, _) => {
+                let standing = self.reached(alloc, records)?.into_entities(alloc)?;
+                Ok(standing)
+            }
+            // Each entity stands for itself.
+            _ => {
+                let named = self.list(alloc, records)?;
+                Ok(named)
+            }
+        }
+    }
+
     /// The entities that are named in a store, in order.
     ///
     /// A combination lists its parts first, so its work grows with the cells and entities of both.
@@ -194,7 +223,6 @@ where
     ghost can_list = { λ _. Unit {0} };
 
     fn cells(&self, alloc: Global, records: &R) -> Result<vec::IntoIter<Entity>, AllocError> {
-        let reached = self.0.reached(alloc, records)?;
-        Ok(reached.into_entities(alloc)?.into_iter())
+        Ok(self.0.standing(alloc, records)?.into_iter())
     }
 }

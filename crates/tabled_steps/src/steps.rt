@@ -26,8 +26,8 @@ use tabled_options::TableOption;
 ///   texts and merged cells before have them after, too.
 /// - `Err((k, _))`: memory was refused at step `k`. The steps before it are done, and it leaves what it
 ///   leaves. No step is refused that takes no memory.
-/// - Where each step writes texts, puts in a panel, merges equal neighbours or spans at least one cell,
-///   merged cells that lay inside the table and apart do so after it, done or refused.
+/// - Where no step is a span of size 0 or below, merged cells that lay inside the table and apart do so after
+///   it, done or refused: cells that move carry theirs along.
 /// - Where a step, or a part of one, is a split that keeps all pieces, and these have a cell, the table before
 ///   it, if it has a row and a column, is its pieces, glued together.
 ///

@@ -5,4 +5,6 @@ mod refusing;
 mod tables;
 
 pub use refusing::Refusing;
-pub use tables::{Flat, Nested, flat, is_word, nested, push_word, spelled, spells};
+pub use tables::{
+    Flat, Nested, flat, is_word, merged, nested, push_word, spelled, spelled_merged, spells,
+};

@@ -6,7 +6,7 @@
 ghost use Rattle.std.specs.Prelude.{IfOk};
 
 use std::alloc::{AllocError, Global};
-use tabled_grid::config::{Entity, Position};
+use tabled_grid::config::{Entity, Position, SpannedConfig};
 use tabled_grid::records::{
     CellText, ExactRecords, GridStore, PeekableRecords, Records, RecordsMut, Resizable, Text,
     VecRecords,
@@ -114,4 +114,38 @@ where
     requires { R.is_well_formed records.now }
 {
     is_word(spelled(alloc, records), want)
+}
+
+/// Merged cells, each by its row, its column, its height and its width.
+pub fn merged(
+    alloc: Global,
+    rectangles: [(usize, usize, usize, usize); 2],
+) -> Result<SpannedConfig, AllocError> {
+    let mut cfg = SpannedConfig::new(alloc);
+    for (row, col, height, width) in rectangles {
+        cfg.set_row_span(alloc, Position { row, col }, height)?;
+        cfg.set_column_span(alloc, Position { row, col }, width)?;
+    }
+    Ok(cfg)
+}
+
+/// Spells a table, and after it each merged rectangle, as `1.0:2x3` for 2 rows and 3 columns from row 1 and
+/// column 0 on.
+pub fn spelled_merged<R>(
+    alloc: Global,
+    records: &R,
+    cfg: &SpannedConfig,
+) -> Result<String, AllocError>
+where
+    R: Records + ExactRecords + PeekableRecords,
+    R::Cell: CellText,
+    requires { R.is_well_formed records.now }
+{
+    let mut words = spelled(alloc, records)?;
+    for (pos, (height, width)) in cfg.anchors().iter() {
+        let (row, col) = (pos.row, pos.col);
+        let rectangle = format!(in alloc; "{row}.{col}:{height}x{width}")?;
+        push_word(&mut words, rectangle.as_str())?;
+    }
+    Ok(words)
 }

@@ -21,6 +21,7 @@ use tabled_options::{
 use tabled_select::object::{Object, Rows, Segment};
 use tabled_settings::merge::Merge;
 use tabled_settings::panel::{Header, Panel};
+use tabled_settings::rotate::Rotate;
 use tabled_settings::span::{ColumnSpansFit, RowSpan, Span};
 use tabled_spans::laws::{
     footers_keep_merged_cells_fitting, headers_keep_merged_cells_fitting,
@@ -50,6 +51,7 @@ where
         Step::ColumnSpan(2, Select::All),
         Step::Header(Panel::header(title)),
         Step::MergeVertical(Merge::vertical()),
+        Step::Rotate(Rotate::Left),
     ]?;
     let many = steps.len();
     match run(alloc, records, cfg, steps) {

@@ -3,6 +3,7 @@
 
 #[cfg(test)]
 mod alike;
+pub mod carried;
 #[cfg(test)]
 mod faults;
 pub mod geometry;

@@ -86,6 +86,74 @@ fn drops_all_that_are_hidden_at_once(rt: HostRuntime) -> Result<(), Fail> {
 }
 
 #[test]
+fn keeps_what_lies_inside_and_apart(rt: HostRuntime) -> Result<(), Fail> {
+    let alloc = rt.alloc();
+    let touching: [Anchor; 4] = [(0, 0, 2, 2), (0, 2, 1, 2), (1, 2, 1, 2), (2, 0, 1, 4)];
+    let outside: [Anchor; 3] = [(0, 0, 1, 2), (0, 3, 1, 2), (1, 0, 2, 1)];
+    let sharing: [Anchor; 3] = [(0, 0, 2, 2), (0, 2, 1, 2), (1, 1, 2, 2)];
+    let pair: [Anchor; 2] = [(0, 0, 1, 2), (0, 1, 1, 2)];
+    // The second one, which goes anyhow, takes the first one along.
+    let both: [Anchor; 2] = [(0, 0, 1, 2), (0, 1, 1, 9)];
+    let chain: [Anchor; 4] = [(0, 0, 1, 2), (0, 1, 1, 2), (0, 2, 1, 2), (0, 4, 1, 2)];
+    let hidden: [Anchor; 3] = [(0, 0, 3, 3), (1, 1, 1, 2), (3, 0, 1, 3)];
+    // Of those beside the tall one, some reach it, and some end before it or begin after it.
+    let beside: [Anchor; 5] = [
+        (0, 2, 4, 1),
+        (0, 3, 1, 2),
+        (1, 0, 1, 2),
+        (2, 0, 1, 4),
+        (3, 3, 2, 1),
+    ];
+    let far: [Anchor; 3] = [
+        (usize::MAX - 2, 0, 2, 2),
+        (usize::MAX, 0, 1, 2),
+        (usize::MAX, usize::MAX, 2, 2),
+    ];
+    let wide: [Anchor; 2] = [(0, 0, 1, usize::MAX), (0, usize::MAX, 1, usize::MAX)];
+    let none: [Anchor; 0] = [];
+    for (anchors, rows, columns, left) in [
+        (
+            touching.as_slice(),
+            3,
+            4,
+            "0 0 2 2;0 2 1 2;1 2 1 2;2 0 1 4;",
+        ),
+        (touching.as_slice(), 2, 4, "0 0 2 2;0 2 1 2;1 2 1 2;"),
+        (outside.as_slice(), 3, 4, "0 0 1 2;1 0 2 1;"),
+        (outside.as_slice(), 2, 4, "0 0 1 2;"),
+        (sharing.as_slice(), 3, 4, "0 2 1 2;"),
+        (pair.as_slice(), 1, 3, ""),
+        (both.as_slice(), 1, 3, ""),
+        (chain.as_slice(), 1, 6, "0 4 1 2;"),
+        (hidden.as_slice(), 4, 3, "3 0 1 3;"),
+        (beside.as_slice(), 5, 5, "0 3 1 2;1 0 1 2;3 3 2 1;"),
+        (
+            far.as_slice(),
+            usize::MAX,
+            usize::MAX,
+            "18446744073709551613 0 2 2;",
+        ),
+        (
+            wide.as_slice(),
+            1,
+            usize::MAX,
+            "0 0 1 18446744073709551615;",
+        ),
+        (wide.as_slice(), 1, 1, ""),
+        (none.as_slice(), 0, 0, ""),
+    ] {
+        let mut spans = merged(alloc, anchors)?;
+        let fits_before = spans.fits(rows, columns);
+        let before = listed(alloc, &spans)?;
+        spans.keep_fitting(alloc, rows, columns)?;
+        assert_eq!(rt; listed(alloc, &spans)?.as_str(), left, "{anchors:?}");
+        assert_eq!(rt; before.as_str() == left, fits_before, "{anchors:?}");
+        assert_eq!(rt; spans.fits(rows, columns), true, "{anchors:?}");
+    }
+    Ok(())
+}
+
+#[test]
 fn fits_to_the_last_row_and_column(rt: HostRuntime) -> Result<(), Fail> {
     let alloc = rt.alloc();
     let far: [Anchor; 1] = [(usize::MAX, usize::MAX, 2, 2)];

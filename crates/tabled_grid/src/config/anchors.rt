@@ -106,7 +106,7 @@ fn is_same(a: Position, b: Position) -> bool
 }
 
 /// Says whether a place comes after all cells of an anchor's rectangle, row by row.
-fn is_past(anchor: Anchor, pos: Position) -> bool
+pub(super) fn is_past(anchor: Anchor, pos: Position) -> bool
     ensures { result ≡ is_past anchor pos }
 {
     let (first, (height, width)) = anchor;
@@ -185,7 +185,7 @@ fn drop_empty(anchors: &mut Vec<Anchor>)
 }
 
 /// Says whether the rectangles of two anchors share a cell.
-fn meet(a: Anchor, b: Anchor) -> bool
+pub(super) fn meet(a: Anchor, b: Anchor) -> bool
     ensures { result ≡ meets a b }
 {
     let (p, (height, width)) = a;
@@ -235,11 +235,21 @@ fn beyond(anchors: &[Anchor], from: Anchor, pos: Position) -> usize
     ensures within { result ≤ length anchors.now }
     ensures apart { list_all (λ (e : Position × (ℕ × ℕ)). not (meets from e)) (take result anchors.now) ≡ true }
 {
-    let (first, (_, width)) = from;
-    if pos.col < first.col {
-        return count_before(anchors, Position::new(pos.row, first.col)).saturating_sub(1);
+    let left = from.0.col;
+    if pos.col < left {
+        return count_before(anchors, Position::new(pos.row, left)).saturating_sub(1);
     }
-    if pos.col - first.col < width {
+    rest_of_row(anchors, from, pos)
+}
+
+/// How many of the anchors after a place stand in its row, where it is right of a rectangle.
+pub(super) fn rest_of_row(anchors: &[Anchor], from: Anchor, pos: Position) -> usize
+    requires { T (is_sorted position_cmp ((pos, from.1) ∷ anchors.now)) }
+    ensures within { result ≤ length anchors.now }
+    ensures apart { list_all (λ (e : Position × (ℕ × ℕ)). not (meets from e)) (take result anchors.now) ≡ true }
+{
+    let (first, (_, width)) = from;
+    if begins_before(pos.col, first.col, width) {
         return 0;
     }
     count_before(anchors, Position::new(pos.row.saturating_add(1), 0))
@@ -257,7 +267,7 @@ fn count_before(anchors: &[Anchor], pos: Position) -> usize
 }
 
 /// Says whether the rectangle of an anchor lies inside a table.
-fn is_inside(anchor: Anchor, rows: usize, columns: usize) -> bool
+pub(super) fn is_inside(anchor: Anchor, rows: usize, columns: usize) -> bool
     ensures { result ≡ lies_inside rows columns anchor }
 {
     let (first, (height, width)) = anchor;

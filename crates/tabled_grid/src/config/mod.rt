@@ -4,6 +4,7 @@ mod anchors;
 mod bounds;
 mod cover_map;
 mod entity;
+mod fitting;
 mod hiders;
 mod offset;
 mod position;

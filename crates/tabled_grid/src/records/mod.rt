@@ -7,6 +7,7 @@ mod blank;
 mod borrowed;
 mod cell_text;
 mod exact_records;
+mod gather;
 mod grid_store;
 pub mod nested_rows;
 mod peekable_records;
@@ -16,6 +17,7 @@ mod pieces;
 mod records;
 mod records_mut;
 mod resizable;
+mod turn;
 pub mod vec_records;
 
 pub use axis::Axis;

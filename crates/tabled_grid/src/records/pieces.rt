@@ -1,36 +1,84 @@
-//! Where the cells of pieces come from.
+//! Lines of a store cut into pieces, each cell moved once.
 
-ghost use Rattle.std.specs.Prelude.{◌≡◌, ◌<◌, ◌*◌};
-ghost use Rattle.std.specs.Int.{div_ceil};
+ghost use Rattle.std.specs.Prelude.{◌≡◌, ◌<◌, OnErr, OnOk};
+ghost use Rattle.tabled_grid.specs.Along.{count_along};
+ghost use Rattle.tabled_grid.specs.Axis.{across};
 ghost use Rattle.tabled_grid.specs.Pieces.{cut_places};
-ghost use Rattle.tabled_grid.specs.Axis.{line_of};
+ghost use Rattle.tabled_grid.specs.Places.{FillsThrough};
 
 use crate::config::Position;
 use crate::records::axis::Axis;
+use crate::records::blank::Blank;
+use crate::records::exact_records::ExactRecords;
+use crate::records::gather::{Exchange, Rearrange, gather};
 use crate::records::piece_order::PieceOrder;
+use crate::records::records::Records;
+use std::alloc::{AllocError, Global};
 
-/// The old place of a cell of the pieces of so many lines of a width, or none behind the end of a line.
-pub(super) fn old_place(
+/// So many lines of a width that are cut.
+#[derive(Drop)]
+struct Cut {
     axis: Axis,
     order: PieceOrder,
     index: usize,
     lines: usize,
     width: usize,
-    to: Position,
-) -> Option<Position>
-    requires lines { 0 < lines }
-    requires index { 0 < index }
-    requires narrow { index < width }
-    requires within { line_of axis to < lines * div_ceil width index }
-    ensures { result ≡ (cut_places axis order index lines width).old_place to }
-{
-    let target = axis.line_of(to);
-    let cell = axis.across().line_of(to);
-    let (line, number) = order.nth_piece(lines, width.div_ceil(index), target);
-    let start = number * index;
-    if cell < width - start {
-        Some(axis.place(line, start + cell))
-    } else {
-        None
+    ghost some: { 0 < lines },
+    ghost some_cells: { 0 < index },
+    ghost narrow: { index < width },
+}
+
+impl Rearrange for Cut {
+    ghost use Rattle.tabled_grid.specs.Pieces.{cut_places};
+
+    ghost places = { λ c. cut_places c.axis c.order c.index c.lines c.width };
+
+    fn old_place(&self, to: Position) -> Option<Position> {
+        let target = self.axis.line_of(to);
+        let cell = self.axis.across().line_of(to);
+        let pieces = self.width.div_ceil(self.index);
+        let (line, number) = self.order.nth_piece(self.lines, pieces, target);
+        let start = number * self.index;
+        if cell < self.width - start {
+            Some(self.axis.place(line, start + cell))
+        } else {
+            None
+        }
     }
+}
+
+/// Cuts lines into pieces. Refused, it leaves the store as it was.
+pub(super) fn cut_lines<R>(
+    alloc: Global,
+    records: &mut R,
+    axis: Axis,
+    order: PieceOrder,
+    index: usize,
+) -> Result<(), AllocError>
+where
+    R: Exchange + Records + ExactRecords,
+    R::Cell: Blank,
+    requires well { R.is_well_formed records.old }
+    requires some { 0 < count_along axis (R.grid records.old) }
+    requires index { 0 < index }
+    requires narrow { index < count_along (across axis) (R.grid records.old) }
+    ensures well { R.is_well_formed records.new }
+    ensures ok { OnOk result (FillsThrough R.Cell.is_blank (cut_places axis order index (count_along axis (R.grid records.old)) (count_along (across axis) (R.grid records.old))) (R.grid records.old) (R.grid records.new)) }
+    ensures err { OnErr result (records.new ≡ records.old) }
+{
+    let lines = axis.count(records);
+    let width = axis.across().count(records);
+    let Some(all) = lines.checked_mul(width.div_ceil(index)) else {
+        return Err(AllocError);
+    };
+    let cut = Cut {
+        axis,
+        order,
+        index,
+        lines,
+        width,
+    };
+    let rows = axis.count_of(all, index);
+    let columns = axis.count_of(index, all);
+    gather(alloc, records, &cut, rows, columns)
 }

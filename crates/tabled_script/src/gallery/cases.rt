@@ -4,12 +4,14 @@
 pub(super) const EXAMPLES: &str = "\
 clean\u{1f}row\tName\tTown\nrow\tAda\\t\tLon\u{7}don\r\nclean\tall\n\u{1f}shape\t2\t2\nrow\tName\tTown\nrow\tAda\tLondon\n\u{1e}\
 concat-horizontal\u{1f}row\tApple\nrow\tPear\nconcat\thorizontal\t-\t3\t1\t3\t5\t8\n\u{1f}shape\t3\t2\nrow\tApple\t3\nrow\tPear\t5\nrow\t-\t8\n\u{1e}\
+concat-merged\u{1f}row\tFruit\tPrice\tPrice\nrow\tFruit\tNorth\tSouth\nrow\tApple\t2\t3\nrow\tPear\t4\t5\nrspan\t2\tcell\t0\t0\ncspan\t2\tcell\t0\t1\nconcat\tvertical\t-\t1\t3\tPlum\t6\t7\n\u{1f}shape\t5\t3\nrow\tFruit\tPrice\tPrice\nrow\tFruit\tNorth\tSouth\nrow\tApple\t2\t3\nrow\tPear\t4\t5\nrow\tPlum\t6\t7\nspan\t0\t0\t2\t1\nspan\t0\t1\t1\t2\n\u{1e}\
 concat-vertical\u{1f}row\tApple\t3\nrow\tPear\t5\nconcat\tvertical\t-\t1\t3\tPlum\t8\tblue\n\u{1f}shape\t3\t3\nrow\tApple\t3\t-\nrow\tPear\t5\t-\nrow\tPlum\t8\tblue\n\u{1e}\
 cspan\u{1f}row\t2025\t\nrow\tSpring\tAutumn\nrow\t120\t98\ncspan\t2\tcell\t0\t0\n\u{1f}shape\t3\t2\nrow\t2025\t\nrow\tSpring\tAutumn\nrow\t120\t98\nspan\t0\t0\t1\t2\n\u{1e}\
 cspan-below\u{1f}row\tName\t\t\nrow\tAda\tKing\tLondon\ncspan\t-2\tcell\t1\t2\n\u{1f}shape\t2\t3\nrow\tName\t\t\nrow\tLondon\t\t\nspan\t1\t0\t1\t3\n\u{1e}\
 cspan-zero\u{1f}row\tAda\t1\t2\nrow\tBen\t\till\ncspan\t0\tcell\t1\t2\n\u{1f}shape\t2\t3\nrow\tAda\t1\t2\nrow\till\t\t\nspan\t1\t0\t1\t3\n\u{1e}\
 dup\u{1f}row\tDay\tDish\nrow\tMonday\tSoup\nrow\tFriday\t\ndup\tcell\t2\t1\tcell\t1\t1\n\u{1f}shape\t3\t2\nrow\tDay\tDish\nrow\tMonday\tSoup\nrow\tFriday\tSoup\n\u{1e}\
 extract\u{1f}row\tName\tMaths\tMusic\tArt\nrow\tAda\t1\t2\t1\nrow\tBen\t3\t1\t2\nrow\tEva\t2\t3\t1\nextract\t1\t3\t0\t2\n\u{1f}shape\t2\t2\nrow\tAda\t1\nrow\tBen\t3\n\u{1e}\
+extract-merged\u{1f}row\tFruit\tPrice\tPrice\nrow\tFruit\tNorth\tSouth\nrow\tApple\t2\t3\nrow\tPear\t4\t5\nrspan\t2\tcell\t0\t0\ncspan\t2\tcell\t0\t1\nextract\t0\t4\t0\t2\n\u{1f}shape\t4\t2\nrow\tFruit\tPrice\nrow\tFruit\tNorth\nrow\tApple\t2\nrow\tPear\t4\nspan\t0\t0\t2\t1\n\u{1e}\
 fault-1\u{1f}row\tApple\t3\nhide\trow\t0\n\u{1f}line 2: fault 1\n\u{1e}\
 fault-2\u{1f}row\tApple\t3\nset\tcell\t0\t1\n\u{1f}line 2: fault 2\n\u{1e}\
 fault-3\u{1f}row\tApple\t3\nset\trow\tfirst\tsold\n\u{1f}line 2: fault 3\n\u{1e}\
@@ -22,12 +24,15 @@ hmerge\u{1f}row\tName\tMaths\tMusic\tArt\nrow\tAda\till\till\t1\nrow\tBen\t2\t2\
 hpanel\u{1f}row\tApple\t3\nrow\tPear\t5\nrow\tCarrot\t4\nhpanel\t2\tVegetables\n\u{1f}shape\t4\t2\nrow\tApple\t3\nrow\tPear\t5\nrow\tVegetables\t\nrow\tCarrot\t4\nspan\t2\t0\t1\t2\n\u{1e}\
 months\u{1f}row\tRegion\tMonth\tUnits\nrow\tNorth\tJanuary\t120\nrow\tNorth\tFebruary\t98\nrow\tSouth\tJanuary\t87\nrow\tSouth\tFebruary\t101\n\nset\tintersect\tname\tUnits\tcontent\t120\t120 (best)\nvmerge\nheader\tSales of two months\nfooter\t406 units\n\u{1f}shape\t7\t3\nrow\tSales of two months\t\t\nrow\tRegion\tMonth\tUnits\nrow\tNorth\tJanuary\t120 (best)\nrow\tNorth\tFebruary\t98\nrow\tSouth\tJanuary\t87\nrow\tSouth\tFebruary\t101\nrow\t406 units\t\t\nspan\t0\t0\t1\t3\nspan\t2\t0\t2\t1\nspan\t4\t0\t2\t1\nspan\t6\t0\t1\t3\n\u{1e}\
 remove-columns\u{1f}row\tName\tMaths\tMusic\tArt\nrow\tAda\t1\t2\t1\nrow\tBen\t3\t1\t2\nremove\tcolumns\t1\t2\n\u{1f}shape\t3\t3\nrow\tName\tMusic\tArt\nrow\tAda\t2\t1\nrow\tBen\t1\t2\n\u{1e}\
+remove-merged\u{1f}row\tFruit\tPrice\tPrice\nrow\tFruit\tNorth\tSouth\nrow\tApple\t2\t3\nrow\tPear\t4\t5\nrspan\t2\tcell\t0\t0\ncspan\t2\tcell\t0\t1\nremove\trows\t1\t2\n\u{1f}shape\t3\t3\nrow\tFruit\tPrice\tPrice\nrow\tApple\t2\t3\nrow\tPear\t4\t5\nspan\t0\t1\t1\t2\n\u{1e}\
 remove-named\u{1f}row\tName\tMaths\tMusic\tArt\nrow\tAda\t1\t2\t1\nrow\tBen\t3\t1\t2\nremove\tnamed\tMusic\n\u{1f}shape\t3\t3\nrow\tName\tMaths\tArt\nrow\tAda\t1\t1\nrow\tBen\t3\t2\n\u{1e}\
 remove-rows\u{1f}row\tFruit\tKilos\nrow\tApple\t3\nrow\tPear\t5\nrow\tPlum\t8\nremove\trows\t1\t3\n\u{1f}shape\t2\t2\nrow\tFruit\tKilos\nrow\tPlum\t8\n\u{1e}\
 reverse-columns\u{1f}row\tName\tMaths\tMusic\tArt\nrow\tAda\t1\t2\t1\nrow\tBen\t3\t1\t2\nreverse\tcolumns\t1\tstart\t2\n\u{1f}shape\t3\t4\nrow\tName\tMusic\tMaths\tArt\nrow\tAda\t2\t1\t1\nrow\tBen\t1\t3\t2\n\u{1e}\
+reverse-merged\u{1f}row\tFruit\tPrice\tPrice\nrow\tFruit\tNorth\tSouth\nrow\tApple\t2\t3\nrow\tPear\t4\t5\nrspan\t2\tcell\t0\t0\ncspan\t2\tcell\t0\t1\nreverse\tcolumns\t0\tend\t0\n\u{1f}shape\t4\t3\nrow\tPrice\tPrice\tFruit\nrow\tSouth\tNorth\tFruit\nrow\t3\t2\tApple\nrow\t5\t4\tPear\nspan\t0\t0\t1\t2\nspan\t0\t2\t2\t1\n\u{1e}\
 reverse-rows\u{1f}row\tFruit\tKilos\nrow\tApple\t3\nrow\tPear\t5\nrow\tPlum\t8\nreverse\trows\t1\tend\t0\n\u{1f}shape\t4\t2\nrow\tFruit\tKilos\nrow\tPlum\t8\nrow\tPear\t5\nrow\tApple\t3\n\u{1e}\
 rotate-bottom\u{1f}row\tFruit\tKilos\tPrice\nrow\tApple\t3\t2.10\nrow\tPear\t5\t3.40\nrotate\tbottom\n\u{1f}shape\t3\t3\nrow\tPear\t5\t3.40\nrow\tApple\t3\t2.10\nrow\tFruit\tKilos\tPrice\n\u{1e}\
 rotate-left\u{1f}row\tFruit\tKilos\tPrice\nrow\tApple\t3\t2.10\nrow\tPear\t5\t3.40\nrotate\tleft\n\u{1f}shape\t3\t3\nrow\tPrice\t2.10\t3.40\nrow\tKilos\t3\t5\nrow\tFruit\tApple\tPear\n\u{1e}\
+rotate-merged\u{1f}row\tFruit\tPrice\tPrice\nrow\tFruit\tNorth\tSouth\nrow\tApple\t2\t3\nrow\tPear\t4\t5\nrspan\t2\tcell\t0\t0\ncspan\t2\tcell\t0\t1\nrotate\tleft\n\u{1f}shape\t3\t4\nrow\tPrice\tSouth\t3\t5\nrow\tPrice\tNorth\t2\t4\nrow\tFruit\tFruit\tApple\tPear\nspan\t0\t0\t2\t1\nspan\t2\t0\t1\t2\n\u{1e}\
 rotate-right\u{1f}row\tFruit\tKilos\tPrice\nrow\tApple\t3\t2.10\nrow\tPear\t5\t3.40\nrotate\tright\n\u{1f}shape\t3\t3\nrow\tPear\tApple\tFruit\nrow\t5\t3\tKilos\nrow\t3.40\t2.10\tPrice\n\u{1e}\
 rotate-top\u{1f}row\tFruit\tKilos\tPrice\nrow\tApple\t3\t2.10\nrow\tPear\t5\t3.40\nrotate\ttop\n\u{1f}shape\t3\t3\nrow\tPear\t5\t3.40\nrow\tApple\t3\t2.10\nrow\tFruit\tKilos\tPrice\n\u{1e}\
 row\u{1f}row\tFruit\tKilos\nrow\tApple\t3\nrow\tPear\n\u{1f}shape\t3\t2\nrow\tFruit\tKilos\nrow\tApple\t3\nrow\tPear\t\n\u{1e}\
@@ -59,6 +64,7 @@ select-skip\u{1f}row\tName\tMaths\tMusic\tArt\nrow\tAda\t1\t2\t1\nrow\tBen\t3\t1
 select-step\u{1f}row\tName\tMaths\tMusic\tArt\nrow\tAda\t1\t2\t1\nrow\tBen\t3\t1\t2\nrow\tEva\t2\t3\t1\nset\tstep\t2\trows\t0\t4\t-\n\u{1f}shape\t4\t4\nrow\t-\t-\t-\t-\nrow\tAda\t1\t2\t1\nrow\t-\t-\t-\t-\nrow\tEva\t2\t3\t1\n\u{1e}\
 set\u{1f}row\tFruit\tKilos\nrow\tApple\t3\nrow\tPear\nset\tcell\t2\t1\t5\n\u{1f}shape\t3\t2\nrow\tFruit\tKilos\nrow\tApple\t3\nrow\tPear\t5\n\u{1e}\
 split-column\u{1f}row\tApple\t3\tPear\t5\nrow\tPlum\t8\nsplit\tcolumn\t2\tconcat\tclean\n\u{1f}shape\t3\t2\nrow\tApple\t3\nrow\tPlum\t8\nrow\tPear\t5\n\u{1e}\
+split-merged\u{1f}row\tJan\tJan\tFeb\tFeb\nrow\t2\t3\t4\t5\nrow\tTotal\tTotal\tTotal\tTotal\ncspan\t2\tcell\t0\t0\ncspan\t2\tcell\t0\t2\ncspan\t4\tcell\t2\t0\nsplit\tcolumn\t2\tconcat\tclean\n\u{1f}shape\t6\t2\nrow\tJan\tJan\nrow\t2\t3\nrow\tTotal\tTotal\nrow\tFeb\tFeb\nrow\t4\t5\nrow\tTotal\tTotal\nspan\t0\t0\t1\t2\nspan\t3\t0\t1\t2\n\u{1e}\
 split-row\u{1f}row\tApple\t3\nrow\tPear\t5\nrow\tPlum\t8\nsplit\trow\t2\tzip\tretain\n\u{1f}shape\t2\t4\nrow\tApple\tPlum\t3\t8\nrow\tPear\t\t5\t\n\u{1e}\
 tabs\u{1f}row\tName\tTown\nrow\tAda\\tKing\tLondon\ntabs\t2\tall\n\u{1f}shape\t2\t2\nrow\tName\tTown\nrow\tAda  King\tLondon\n\u{1e}\
 vmerge\u{1f}row\tNorth\tJanuary\nrow\tNorth\tFebruary\nrow\tSouth\tFebruary\nvmerge\n\u{1f}shape\t3\t2\nrow\tNorth\tJanuary\nrow\tNorth\tFebruary\nrow\tSouth\tFebruary\nspan\t0\t0\t2\t1\nspan\t1\t1\t2\t1\n\u{1e}\

@@ -1,7 +1,7 @@
 //! Tabs replaced and control characters taken out.
 
-ghost use Rattle.std.specs.Prelude.{◌≡◌, ◌++◌, ◌⊎◌, false, encode_utf8, length, replicate, [], IfOk, IfSome, IsOk, OnErr, OnOk};
-ghost use Rattle.std.specs.List.{flat_map};
+ghost use Rattle.std.specs.Prelude.{◌≡◌, ◌+◌, ◌*◌, ◌==◌, ◌++◌, ◌⊎◌, false, length, replicate, [], IfOk, IfSome, IsOk, OnErr, OnOk};
+ghost use Rattle.std.specs.List.{count_by, flat_map};
 ghost use Rattle.std.specs.String.{string_bytes};
 ghost use Rattle.tabled_grid.specs.Entity.{inside};
 ghost use Rattle.tabled_grid.specs.Grid.{map_grid};
@@ -202,8 +202,8 @@ impl Answers for Charset {
 fn replaced(alloc: Global, text: &str, cleans: bool, tab_size: usize) -> Result<String, AllocError>
     ensures { IfOk result (λ new. string_bytes new ≡ flat_map (replaced cleans tab_size) text.now) }
 {
-    let len = replaced_len(text, cleans, tab_size).ok_or(AllocError)?;
-    let mut out = String::with_capacity(alloc, len)?;
+    let room = room_for(text, tab_size).ok_or(AllocError)?;
+    let mut out = String::with_capacity(alloc, room)?;
     for c in text.chars() {
         if c == '\t' {
             push_spaces(&mut out, tab_size)?;
@@ -214,28 +214,20 @@ fn replaced(alloc: Global, text: &str, cleans: bool, tab_size: usize) -> Result<
     Ok(out)
 }
 
-/// How long that text is; none where no number says it.
-fn replaced_len(text: &str, cleans: bool, tab_size: usize) -> Option<usize>
-    ensures { IfSome result (λ len. len ≡ length (flat_map (replaced cleans tab_size) text.now)) }
+/// Room enough for that text, as if nothing were taken out but its tabs; none where no number says it.
+fn room_for(text: &str, tab_size: usize) -> Option<usize>
+    ensures { IfSome result (λ room. room ≡ count_by (λ b. b == 9) text.now * tab_size + length text.now) }
 {
-    let mut len = 0_usize;
-    for c in text.chars() {
-        len = len.checked_add(replacement_len(c, cleans, tab_size))?;
-    }
-    Some(len)
+    count_tabs(text.as_bytes())
+        .checked_mul(tab_size)?
+        .checked_add(text.len())
 }
 
-/// How long is what comes in the place of a character.
-fn replacement_len(c: char, cleans: bool, tab_size: usize) -> usize
-    ensures { result ≡ length (flat_map (replaced cleans tab_size) (encode_utf8 c)) }
+/// How many bytes are tabs.
+fn count_tabs(bytes: &[u8]) -> usize
+    ensures { result ≡ count_by (λ b. b == 9) bytes.now }
 {
-    if c == '\t' {
-        tab_size
-    } else if stays(cleans, c) {
-        c.len_utf8()
-    } else {
-        0
-    }
+    bytes.iter().filter(|byte| **byte == b'\t').count()
 }
 
 /// Whether a character that is no tab stays.

@@ -1,9 +1,10 @@
 //! Runs of equal neighbours along an axis.
 
-ghost use Rattle.std.specs.Prelude.{◌≡◌, ◌↔◌, ◌+◌, ◌^◌, ◌<◌, IfOk, IsNone, IsTrue};
+ghost use Rattle.std.specs.Prelude.{◌≡◌, ◌↔◌, ◌+◌, ◌^◌, ◌<◌, ◌==◌, ◌&&◌, IfOk, IsNone, IsTrue, not};
 ghost use Rattle.std.specs.Option.{IfSome};
 ghost use Rattle.tabled_grid.specs.Covers.{cover_of};
 ghost use Rattle.tabled_grid.specs.Grid.{IsInside, map_grid};
+ghost use Rattle.tabled_grid.specs.Spans.{size_at};
 ghost use Rattle.tabled_grid.specs.declared.config.position.Position.{Position};
 ghost use Rattle.tabled_spans.specs.RunSteps.{RunAt, RunsBefore};
 ghost use Rattle.tabled_spans.specs.Runs.{Joins, further, is_free};
@@ -99,7 +100,16 @@ fn is_free(cfg: &SpannedConfig, cover: &CoverMap, pos: Position) -> bool
     requires cover { cover.now ≡ cover_of cfg.now cover.now.rows cover.now.columns }
     ensures { result ≡ is_free cfg.now pos }
 {
-    !cover.is_hidden(pos) && cfg.get_row_span(pos).is_none() && cfg.get_column_span(pos).is_none()
+    !cover.is_hidden(pos) && !is_anchor(cfg, pos)
+}
+
+/// Says whether a rectangle is anchored at a place. One search tells, for its height and its width.
+fn is_anchor(cfg: &SpannedConfig, pos: Position) -> bool
+    ensures { result ≡ not (((size_at cfg.now pos).0 == 1) && ((size_at cfg.now pos).1 == 1)) }
+{
+    cfg.anchors()
+        .binary_search_by_key(&pos, |anchor| anchor.0)
+        .is_ok()
 }
 
 /// The next place along an axis.

@@ -3,7 +3,6 @@
 //! A store of this kind is well formed where its rows are equally long.
 
 pub(super) mod moves;
-mod pieces;
 mod resizable;
 
 ghost use Rattle.std.specs.Prelude.{◌≡◌};

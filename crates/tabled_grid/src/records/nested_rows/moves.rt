@@ -3,8 +3,8 @@
 ghost use Rattle.std.specs.Prelude.{◌≡◌, ◌+◌, ◌<◌, ◌≤◌, List, IfOk, OnErr, OnOk, length, map, take, vec_capacity, vec_len};
 ghost use Rattle.std.specs.List.{All, AllByRecursion, AllZip, remove, swap};
 ghost use Rattle.std.specs.Global.{Vec};
-ghost use Rattle.tabled_grid.specs.Bulk.{Exchanges, transposed};
-ghost use Rattle.tabled_grid.specs.Grid.{IsEven, IsInside, grid_of, map_items, width_of};
+ghost use Rattle.tabled_grid.specs.Bulk.{transposed};
+ghost use Rattle.tabled_grid.specs.Grid.{IsEven, grid_of, map_items, width_of};
 ghost use Rattle.tabled_grid.specs.Moves.{AddsBlanks};
 ghost use Rattle.tabled_grid.specs.Resized.{AreBlanks, InsertsBlank, with_cells_swapped};
 
@@ -181,22 +181,4 @@ pub(crate) fn transpose_square<T: Drop>(rows: &mut [Vec<T>])
             );
         }
     }
-}
-
-/// Exchanges a cell for one of other rows.
-pub(crate) fn exchange<T>(
-    rows: &mut Vec<Vec<T>>,
-    pos: Position,
-    other: &mut Vec<Vec<T>>,
-    at: Position,
-)
-    requires even { IsEven (grid_of (map_items rows.old.items)) }
-    requires here { IsInside (grid_of (map_items rows.old.items)) pos }
-    requires other_even { IsEven (grid_of (map_items other.old.items)) }
-    requires there { IsInside (grid_of (map_items other.old.items)) at }
-    ensures { Exchanges pos at (grid_of (map_items rows.old.items)) (grid_of (map_items rows.new.items)) (grid_of (map_items other.old.items)) (grid_of (map_items other.new.items)) }
-{
-    let row = &mut rows[pos.row];
-    let column = &mut other[at.row];
-    mem::swap(&mut row[pos.col], &mut column[at.col]);
 }

@@ -1,18 +1,33 @@
 //! Rows in vectors of their own, that grow and shrink.
 
 use super::moves::{
-    blank_rows, blanks, exchange, insert_blanks, remove_each, swap_cells, swap_each,
-    transpose_square, truncate_each, widen_each,
+    blank_rows, blanks, insert_blanks, remove_each, swap_cells, swap_each, transpose_square,
+    truncate_each, widen_each,
 };
-use super::pieces::cut_lines;
 use crate::config::Position;
 use crate::records::axis::Axis;
 use crate::records::blank::Blank;
 use crate::records::exact_records::ExactRecords;
+use crate::records::gather::Exchange;
 use crate::records::piece_order::PieceOrder;
+use crate::records::pieces::cut_lines;
 use crate::records::records::Records;
 use crate::records::resizable::Resizable;
+use crate::records::turn::turn;
 use std::alloc::{AllocError, Global};
+use std::mem;
+
+impl<T: Blank> Exchange for Vec<Vec<T>> {
+    fn of_blanks(alloc: Global, rows: usize, columns: usize) -> Result<Self, AllocError> {
+        blank_rows(alloc, rows, columns)
+    }
+
+    fn exchange(&mut self, pos: Position, other: &mut Self, at: Position) {
+        let row = &mut self[pos.row];
+        let column = &mut other[at.row];
+        mem::swap(&mut row[pos.col], &mut column[at.col]);
+    }
+}
 
 impl<T: Blank> Resizable for Vec<Vec<T>> {
     fn push_row(&mut self, alloc: Global) -> Result<(), AllocError> {
@@ -83,15 +98,7 @@ impl<T: Blank> Resizable for Vec<Vec<T>> {
             transpose_square(self);
             return Ok(());
         }
-        let mut turned = blank_rows(alloc, columns, rows)?;
-        for i in 0..rows {
-            for j in 0..columns {
-                let pos = Position { row: i, col: j };
-                exchange(self, pos, &mut turned, Position { row: j, col: i });
-            }
-        }
-        *self = turned;
-        Ok(())
+        turn(alloc, self)
     }
 
     fn cut(

@@ -1,6 +1,6 @@
 //! A store of one vector of cells, row after row.
 
-mod bulk;
+mod gather;
 mod moves;
 mod pieces;
 mod resizable;

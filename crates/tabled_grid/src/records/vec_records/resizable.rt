@@ -10,8 +10,10 @@ use crate::records::axis::Axis;
 use crate::records::blank::Blank;
 use crate::records::exact_records::ExactRecords;
 use crate::records::piece_order::PieceOrder;
+use crate::records::pieces::cut_lines;
 use crate::records::records::Records;
 use crate::records::resizable::Resizable;
+use crate::records::turn::turn;
 use std::alloc::{AllocError, Global};
 
 impl<T: Blank> Resizable for VecRecords<T> {
@@ -126,7 +128,11 @@ impl<T: Blank> Resizable for VecRecords<T> {
     }
 
     fn transpose(&mut self, alloc: Global) -> Result<(), AllocError> {
-        self.turn(alloc)
+        if self.columns == 0 {
+            self.rows = 0;
+            return Ok(());
+        }
+        turn(alloc, self)
     }
 
     fn cut(
@@ -141,7 +147,7 @@ impl<T: Blank> Resizable for VecRecords<T> {
                 self.divide_rows(index);
                 Ok(())
             }
-            _ => self.cut_lines(alloc, lines, order, index),
+            _ => cut_lines(alloc, self, lines, order, index),
         }
     }
 }

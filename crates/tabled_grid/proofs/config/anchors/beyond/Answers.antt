@@ -1,24 +1,15 @@
-use Rattle.std.proofs.Common.{◌≡◌, ◌+◌, ◌≤◌, ap₂, subst, arith, get_or}
+use Rattle.std.proofs.Common.{◌≡◌, ap₂, subst, arith, get_or}
 use Rattle.std.specs.declared.cmp.Ordering.TheVariants.{Less}
 use Rattle.tabled_grid.specs.Entity.{place}
 use Rattle.tabled_grid.specs.Spans.{position_cmp}
 use Rattle.tabled_grid.specs.declared.config.position.Position.{Position}
-use Rattle.tabled_grid.proofs.BesideAnchors.{apart_beyond}
 use Rattle.tabled_grid.proofs.NearAnchors.{near_passed}
 use Rattle.tabled_grid.proofs.SpanMaps.{halves}
 use Rattle.tabled_grid.proofs.config.anchors.beyond.Goals as goal
 
-pub returns-then-pos-first-clause-apart : goal.returns-then-pos-first-clause-apart
-returns-then-pos-first-clause-apart c =
+pub returns-then-pos-left-clause-apart : goal.returns-then-pos-left-clause-apart
+returns-then-pos-left-clause-apart c =
     let up = halves _ _ c.requires.anchors.sorted in
     let target : c.new.result ≡ place c.args.pos.row c.args.from.0.col = ap₂ place c.new.ensures.row c.new.ensures.col in
     near_passed c.args.from c.args.pos c.args.anchors.now c.count_before.result c.saturating_sub.result (omega (arith, c.saturating_sub.ensures)) up.1 c.requires.anchors.sizes.1 c.requires.apart up.0
     (λ j d h. subst (λ (p : Position). position_cmp (get_or c.args.anchors.now j d).0 p ≡ Less) target (c.count_before.ensures.before j d (omega arith) h)) c.count_before.ensures.within
-
-pub returns-clause-apart : goal.returns-clause-apart
-returns-clause-apart c =
-    let next : c.saturating_add.result ≤ c.args.pos.row + 1 = omega (arith, c.saturating_add.ensures) in
-    let right : c.args.from.0.col + c.args.from.1.1 ≤ c.args.pos.col = omega (arith, c.if-pos-first.false, c.if-pos-first-2.false) in
-    let target : c.new-2.result ≡ place c.saturating_add.result 0 = ap₂ place c.new-2.ensures.row c.new-2.ensures.col in
-    apart_beyond c.args.from c.args.pos c.saturating_add.result next right c.args.anchors.now c.count_before-2.result (halves _ _ c.requires.anchors.sorted).0
-    (λ j d h. subst (λ (p : Position). position_cmp (get_or c.args.anchors.now j d).0 p ≡ Less) target (c.count_before-2.ensures.before j d (omega arith) h)) c.count_before-2.ensures.within

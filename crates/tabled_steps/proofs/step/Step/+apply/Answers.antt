@@ -81,9 +81,17 @@ returns-in-Header-clause-ok g n c = rw c.in-Header.is c.change-in-Header.ensures
 pub returns-in-Footer-clause-ok : goal.returns-in-Footer-clause-ok
 returns-in-Footer-clause-ok g n c = rw c.in-Footer.is c.change-in-Footer.ensures.ok
 
+pub returns-in-RemoveRows-clause-ok : goal.returns-in-RemoveRows-clause-ok
+returns-in-RemoveRows-clause-ok g n c =
+    rw c.in-RemoveRows.is (on_ok_weaker c.change-in-RemoveRows.result (λ d. (rw (← d.1) d.2, rw (← d.1) d.3)) (rw (c.row-in-RemoveRows.ensures, c.new-in-RemoveRows.ensures) at c.change-in-RemoveRows.ensures.ok))
+
+pub returns-in-RemoveColumns-clause-ok : goal.returns-in-RemoveColumns-clause-ok
+returns-in-RemoveColumns-clause-ok g n c =
+    rw c.in-RemoveColumns.is (on_ok_weaker c.change-in-RemoveColumns.result (λ d. (rw (← d.1) d.2, rw (← d.1) d.3)) (rw (c.column-in-RemoveColumns.ensures, c.new-in-RemoveColumns.ensures) at c.change-in-RemoveColumns.ensures.ok))
+
 pub returns-in-RemoveNamed-clause-ok : goal.returns-in-RemoveNamed-clause-ok
 returns-in-RemoveNamed-clause-ok g n c =
-    rw c.in-RemoveNamed.is (on_ok_weaker c.change-in-RemoveNamed.result (λ d. (rw (← d.0.1) d.0.2, d.1)) (rw (c.column-in-RemoveNamed.ensures, c.new-in-RemoveNamed.ensures) at c.change-in-RemoveNamed.ensures.ok))
+    rw c.in-RemoveNamed.is (on_ok_weaker c.change-in-RemoveNamed.result (λ d. (rw (← d.1) d.2, rw (← d.1) d.3)) (rw (c.column-in-RemoveNamed.ensures, c.new-in-RemoveNamed.ensures) at c.change-in-RemoveNamed.ensures.ok))
 
 pub returns-in_ok-apply-in-Both-clause-ok : goal.returns-in_ok-apply-in-Both-clause-ok
 returns-in_ok-apply-in-Both-clause-ok g n c =

@@ -1,0 +1,211 @@
+-- What stands in a list.
+use Rattle.std.proofs.Common.{◌≡◌, ℕ, zero, suc, ◌+◌, ◌-◌, ◌<◌, ◌≤◌, ◌⊎◌, inl, inr, Bool, true, false, cond, List, [], ◌∷◌, ◌++◌, map, Some, refl, sym, ap, ap₂, subst, ◌∙◌, arith}
+use Rattle.std.specs.Prelude.{T, ◌&&◌}
+use Rattle.std.specs.FinMap.{IsAntisymmetric, find, is_sorted}
+use Rattle.std.specs.FinMap.Entries.{below_all}
+use Rattle.std.specs.List.{filter, flat_map, list_all, list_any, range_with_len}
+use Rattle.std.specs.Cmp.{IsTotalOrder}
+use Rattle.std.specs.Ordering.{is_eq, is_lt, ordering_reverse}
+use Rattle.std.specs.declared.cmp.Ordering.{Ordering}
+use Rattle.std.specs.declared.cmp.Ordering.TheVariants.{Less, Greater}
+use Rattle.std.proofs.lemmas.Bool.{and_from, and_parts, cases_Bool, cases_eq, or_cases, or_left, or_right}
+use Rattle.std.proofs.lemmas.Cmp.{tied_itself}
+use Rattle.std.proofs.lemmas.Option.{none-some, same_Some}
+use Rattle.tabled_grid.specs.Entity.{block, place, row_places}
+use Rattle.tabled_grid.specs.declared.config.position.Position.{Position}
+use Rattle.tabled_grid.proofs.SpanMaps.{equal, halves, less}
+
+abbrev pub Member : {A : Type 0} → A → List A → Type 0
+Member x [] = ⊥
+Member x (y ∷ ys) = (x ≡ y) ⊎ Member x ys
+
+module _ {A : Type 0} (test : A → Bool) where
+  pub all-member : (x : A) (ys : List A) → list_all test ys ≡ true → Member x ys → test x ≡ true
+  all-member x [] all none = absurd none
+  all-member x (y ∷ ys) all here = by here (and_parts (test y) (list_all test ys) all) (all-member x ys)
+    where
+      by : (x ≡ y) ⊎ Member x ys → (test y ≡ true) × (list_all test ys ≡ true) → (list_all test ys ≡ true → Member x ys → test x ≡ true) → test x ≡ true
+      by (inl e) parts go = ap test e ∙ parts.0
+      by (inr m) parts go = go parts.1 m
+
+  pub all-from : (ys : List A) → ((x : A) → Member x ys → test x ≡ true) → list_all test ys ≡ true
+  all-from [] each = refl
+  all-from (y ∷ ys) each = and_from (test y) (list_all test ys) (each y (inl refl)) (all-from ys (λ x m. each x (inr m)))
+
+  pub any-member : (ys : List A) → list_any test ys ≡ true → (x : A) × Member x ys × (test x ≡ true)
+  any-member [] any = cc
+  any-member (y ∷ ys) any = by (or_cases (test y) (list_any test ys) any) (any-member ys)
+    where
+      by : (test y ≡ true) ⊎ (list_any test ys ≡ true) → (list_any test ys ≡ true → (x : A) × Member x ys × (test x ≡ true)) → (x : A) × Member x (y ∷ ys) × (test x ≡ true)
+      by (inl t) go = (y, inl refl, t)
+      by (inr later) go = let m = go later in (m.0, inr m.1, m.2)
+
+  pub any-from : (x : A) (ys : List A) → Member x ys → test x ≡ true → list_any test ys ≡ true
+  any-from x [] none t = absurd none
+  any-from x (y ∷ ys) here t = by here (any-from x ys)
+    where
+      by : (x ≡ y) ⊎ Member x ys → (Member x ys → test x ≡ true → list_any test ys ≡ true) → list_any test (y ∷ ys) ≡ true
+      by (inl e) go = or_left (test y) (list_any test ys) (ap test (sym e) ∙ t)
+      by (inr m) go = or_right (test y) (list_any test ys) (go m t)
+
+  pub filter-member : (x : A) (ys : List A) → Member x (filter test ys) → Member x ys × (test x ≡ true)
+  filter-member x [] none = absurd none
+  filter-member x (y ∷ ys) here = by (cases_Bool (test y)) (filter-member x ys)
+    where
+      of_first : (x ≡ y) ⊎ Member x (filter test ys) → test y ≡ true → (Member x (filter test ys) → Member x ys × (test x ≡ true)) → Member x (y ∷ ys) × (test x ≡ true)
+      of_first (inl e) t go = (inl e, ap test e ∙ t)
+      of_first (inr m) t go = let rest = go m in (inr rest.0, rest.1)
+
+      by : (test y ≡ true) ⊎ (test y ≡ false) → (Member x (filter test ys) → Member x ys × (test x ≡ true)) → Member x (y ∷ ys) × (test x ≡ true)
+      by (inl t) go = of_first (subst (λ b. Member x (cond b (y ∷ filter test ys) (filter test ys))) t here) t go
+      by (inr f) go = let rest = go (subst (λ b. Member x (cond b (y ∷ filter test ys) (filter test ys))) f here) in (inr rest.0, rest.1)
+
+  pub filter-from : (x : A) (ys : List A) → Member x ys → test x ≡ true → Member x (filter test ys)
+  filter-from x [] none t = absurd none
+  filter-from x (y ∷ ys) here t = by here (cases_Bool (test y)) (filter-from x ys)
+    where
+      by : (x ≡ y) ⊎ Member x ys → (test y ≡ true) ⊎ (test y ≡ false) → (Member x ys → test x ≡ true → Member x (filter test ys)) → Member x (filter test (y ∷ ys))
+      by (inl e) (inl b) go = let P : Bool → Type 0 = λ b. Member x (cond b (y ∷ filter test ys) (filter test ys)) in subst P (sym b) (inl e)
+      by (inl e) (inr b) go = let never : true ≡ false = sym t ∙ ap test e ∙ b in cc
+      by (inr m) (inl b) go = let P : Bool → Type 0 = λ b. Member x (cond b (y ∷ filter test ys) (filter test ys)) in subst P (sym b) (inr (go m t))
+      by (inr m) (inr b) go = let P : Bool → Type 0 = λ b. Member x (cond b (y ∷ filter test ys) (filter test ys)) in subst P (sym b) (go m t)
+
+module _ {A : Type 0} (x : A) where
+  pub member-left : (xs ys : List A) → Member x xs → Member x (xs ++ ys)
+  member-left [] ys none = absurd none
+  member-left (y ∷ xs) ys (inl e) = inl e
+  member-left (y ∷ xs) ys (inr m) = inr (member-left xs ys m)
+
+  pub member-right : (xs ys : List A) → Member x ys → Member x (xs ++ ys)
+  member-right [] ys m = m
+  member-right (y ∷ xs) ys m = inr (member-right xs ys m)
+
+  pub member-either : (xs ys : List A) → Member x (xs ++ ys) → Member x xs ⊎ Member x ys
+  member-either [] ys m = inr m
+  member-either (y ∷ xs) ys (inl e) = inl (inl e)
+  member-either (y ∷ xs) ys (inr m) = by (member-either xs ys m)
+    where
+      by : Member x xs ⊎ Member x ys → Member x (y ∷ xs) ⊎ Member x ys
+      by (inl h) = inl (inr h)
+      by (inr h) = inr h
+
+module _ {A B : Type 0} where
+  pub map-from : (f : A → B) (x : A) (xs : List A) → Member x xs → Member (f x) (map f xs)
+  map-from f x [] none = absurd none
+  map-from f x (y ∷ xs) (inl e) = inl (ap f e)
+  map-from f x (y ∷ xs) (inr m) = inr (map-from f x xs m)
+
+  pub map-member : (f : A → B) (z : B) (xs : List A) → Member z (map f xs) → (x : A) × Member x xs × (z ≡ f x)
+  map-member f z [] none = absurd none
+  map-member f z (y ∷ xs) (inl e) = (y, inl refl, e)
+  map-member f z (y ∷ xs) (inr m) = let rest = map-member f z xs m in (rest.0, inr rest.1, rest.2)
+
+  pub flat_map-from : (f : A → List B) (x : A) (z : B) (xs : List A) → Member x xs → Member z (f x) → Member z (flat_map f xs)
+  flat_map-from f x z [] none m = absurd none
+  flat_map-from f x z (y ∷ xs) (inl e) m = member-left z (f y) (flat_map f xs) (subst (λ v. Member z (f v)) e m)
+  flat_map-from f x z (y ∷ xs) (inr h) m = member-right z (f y) (flat_map f xs) (flat_map-from f x z xs h m)
+
+  pub flat_map-member : (f : A → List B) (z : B) (xs : List A) → Member z (flat_map f xs) → (x : A) × Member x xs × Member z (f x)
+  flat_map-member f z [] none = absurd none
+  flat_map-member f z (y ∷ xs) m = by (member-either z (f y) (flat_map f xs) m) (flat_map-member f z xs)
+    where
+      by : Member z (f y) ⊎ Member z (flat_map f xs) → (Member z (flat_map f xs) → (x : A) × Member x xs × Member z (f x)) → (x : A) × Member x (y ∷ xs) × Member z (f x)
+      by (inl h) go = (y, inl refl, h)
+      by (inr h) go = let rest = go h in (rest.0, inr rest.1, rest.2)
+
+pub range-member : (i a n : ℕ) → Member i (range_with_len a n) → (a ≤ i) × (i < a + n)
+range-member i a zero none = absurd none
+range-member i a (suc n) (inl e) = (omega (arith, e), omega (arith, e))
+range-member i a (suc n) (inr m) = let rest = range-member i (a + 1) n m in (omega (arith, rest.0), omega (arith, rest.1))
+
+pub range-from : (i a n : ℕ) → a ≤ i → i < a + n → Member i (range_with_len a n)
+range-from i a zero low high = absurd (omega arith)
+range-from i a (suc n) low high = by (cases_eq i a) (λ l h. range-from i (a + 1) n l h)
+  where
+    by : (i ≡ a) ⊎ (i ≡ a → ⊥) → (a + 1 ≤ i → i < (a + 1) + n → Member i (range_with_len (a + 1) n)) → Member i (range_with_len a (suc n))
+    by (inl e) go = inl e
+    by (inr apart) go = inr (go (omega (arith, apart)) (omega arith))
+
+-- a place is in a block of rows a to b and columns c to d, without b and d
+pub record InBlock (a b c d : ℕ) (p : Position) : Type 0 where
+  pub top : a ≤ p.row
+  pub bottom : p.row < b
+  pub left : c ≤ p.col
+  pub right : p.col < d
+
+pub block-member : (a b c d : ℕ) (p : Position) → Member p (block a b c d) → InBlock a b c d p
+block-member a b c d p m =
+    let in_row = flat_map-member (row_places c d) p (range_with_len a (b - a)) m in
+    let i = range-member in_row.0 a (b - a) in_row.1 in
+    let in_col = map-member (place in_row.0) p (range_with_len c (d - c)) in_row.2 in
+    let j = range-member in_col.0 c (d - c) in_col.1 in
+    let row : p.row ≡ in_row.0 = ap (λ (x : Position). x.row) in_col.2 in
+    let col : p.col ≡ in_col.0 = ap (λ (x : Position). x.col) in_col.2 in
+    record { top = omega (arith, row, i.0); bottom = omega (arith, row, i.1, i.0); left = omega (arith, col, j.0); right = omega (arith, col, j.1, j.0) }
+
+pub block-from : (a b c d : ℕ) (p : Position) → InBlock a b c d p → Member p (block a b c d)
+block-from a b c d p h =
+    let low : p.row < a + (b - a) = omega (arith, h.top, h.bottom) in
+    let far : p.col < c + (d - c) = omega (arith, h.left, h.right) in
+    flat_map-from (row_places c d) p.row p (range_with_len a (b - a)) (range-from p.row a (b - a) h.top low)
+    (map-from (place p.row) p.col (range_with_len c (d - c)) (range-from p.col c (d - c) h.left far))
+
+module _ {K X : Type 0} (R : K → K → Ordering) (o : IsTotalOrder R) (exact : IsAntisymmetric R) where
+  pub find-member : (es : List (K × X)) (k : K) (v : X) → find R k es ≡ Some v → Member (k, v) es
+  find-member [] k v is = absurd (none-some v is)
+  find-member (e ∷ es) k v is = by (cases_Bool (is_eq (R k e.0))) (find-member es k v)
+    where
+      by : (is_eq (R k e.0) ≡ true) ⊎ (is_eq (R k e.0) ≡ false) → (find R k es ≡ Some v → Member (k, v) es) → Member (k, v) (e ∷ es)
+      by (inl t) go = inl (ap₂ (λ x y. (x, y)) (exact k e.0 (equal _ t)) (sym (same_Some _ _ (sym (ap (λ c. cond c (Some e.1) (find R k es)) t) ∙ is))))
+      by (inr f) go = inr (go (subst (λ b. cond b (Some e.1) (find R k es) ≡ Some v) f is))
+
+  -- a key that stands in a list is found, with one of its values
+  pub member-find : (es : List (K × X)) (k : K) (v : X) → Member (k, v) es → (w : X) × (find R k es ≡ Some w)
+  member-find [] k v none = absurd none
+  member-find (e ∷ es) k v here = by here (cases_Bool (is_eq (R k e.0))) (member-find es k v)
+    where
+      by : ((k, v) ≡ e) ⊎ Member (k, v) es → (is_eq (R k e.0) ≡ true) ⊎ (is_eq (R k e.0) ≡ false) → (Member (k, v) es → (w : X) × (find R k es ≡ Some w)) → (w : X) × (find R k (e ∷ es) ≡ Some w)
+      by m (inl t) go = (e.1, ap (λ c. cond c (Some e.1) (find R k es)) t)
+      by (inl e') (inr f) go =
+          let tied : is_eq (R k e.0) ≡ true = ap (λ (y : K × X). is_eq (R k y.0)) (sym e') ∙ ap is_eq (tied_itself o k) in
+          let never : true ≡ false = sym tied ∙ f in cc
+      by (inr m) (inr f) go = let rest = go m in (rest.0, ap (λ c. cond c (Some e.1) (find R k es)) f ∙ rest.1)
+
+  pub below-member : (k : K) (es : List (K × X)) (q : K) (v : X) → T (below_all R k es) → Member (q, v) es → R k q ≡ Less
+  below-member k [] q v below none = absurd none
+  below-member k (e ∷ es) q v below (inl same) = ap (λ (y : K × X). R k y.0) same ∙ less _ (halves _ _ below).0
+  below-member k (e ∷ es) q v below (inr m) = below-member k es q v (halves _ _ below).1 m
+
+  -- in a sorted list each key has one value
+  pub sorted-find : (es : List (K × X)) (k : K) (v : X) → T (is_sorted R es) → Member (k, v) es → find R k es ≡ Some v
+  sorted-find [] k v up none = absurd none
+  sorted-find (e ∷ es) k v up (inl same) =
+      let tied : is_eq (R k e.0) ≡ true = ap (λ (y : K × X). is_eq (R k y.0)) (sym same) ∙ ap is_eq (tied_itself o k) in
+      ap (λ c. cond c (Some e.1) (find R k es)) tied ∙ ap (λ (y : K × X). Some y.1) (sym same)
+  sorted-find (e ∷ es) k v up (inr m) =
+      let above : R k e.0 ≡ Greater = o.antisymm k e.0 ∙ ap ordering_reverse (below-member e.0 es k v (halves _ _ up).0 m) in
+      ap (λ r. cond (is_eq r) (Some e.1) (find R k es)) above ∙ sorted-find es k v (halves _ _ up).1 m
+
+  below-filter : (test : K × X → Bool) (k : K) (es : List (K × X)) → T (below_all R k es) → T (below_all R k (filter test es))
+  below-filter test k [] below = tt
+  below-filter test k (e ∷ es) below = by (test e) (halves _ _ below) (below-filter test k es)
+    where
+      joined : (b : Bool) (c : Bool) → T b → T c → T (b && c)
+      joined true c b h = h
+      joined false c b h = absurd b
+
+      by : (b : Bool) → T (is_lt (R k e.0)) × T (below_all R k es) → (T (below_all R k es) → T (below_all R k (filter test es))) → T (below_all R k (cond b (e ∷ filter test es) (filter test es)))
+      by true parts go = joined _ _ parts.0 (go parts.1)
+      by false parts go = go parts.1
+
+  pub sorted-filter : (test : K × X → Bool) (es : List (K × X)) → T (is_sorted R es) → T (is_sorted R (filter test es))
+  sorted-filter test [] up = tt
+  sorted-filter test (e ∷ es) up = by (test e) (halves _ _ up) (sorted-filter test es)
+    where
+      joined : (b : Bool) (c : Bool) → T b → T c → T (b && c)
+      joined true c b h = h
+      joined false c b h = absurd b
+
+      by : (b : Bool) → T (below_all R e.0 es) × T (is_sorted R es) → (T (is_sorted R es) → T (is_sorted R (filter test es))) → T (is_sorted R (cond b (e ∷ filter test es) (filter test es)))
+      by true parts go = joined _ _ (below-filter test e.0 es parts.0) (go parts.1)
+      by false parts go = go parts.1

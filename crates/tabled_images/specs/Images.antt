@@ -1,0 +1,85 @@
+-- Merged cells, carried along when cells move.
+use Rattle.std.specs.Prelude.{◌≡◌, ◌<◌, ◌≤◌, ℕ, ◌+◌, ◌-◌, ◌&&◌, ◌||◌, if◌then◌else◌, Bool, true, false, List, Option, None, Some, map, nat_lt, not}
+use Rattle.std.specs.FinMap as finite
+use Rattle.std.specs.List.{filter, flat_map, list_all, list_any}
+use Rattle.tabled_grid.specs.Anchors.{Anchor}
+use Rattle.tabled_grid.specs.Entity.{block, place, same_place}
+use Rattle.tabled_grid.specs.Fitting.{keep_fitting}
+use Rattle.tabled_grid.specs.Midway.{In}
+use Rattle.tabled_grid.specs.Places.{Places}
+use Rattle.tabled_grid.specs.Rectangles.{in_rect}
+use Rattle.tabled_grid.specs.Spans.{SpanMap}
+use Rattle.tabled_grid.specs.declared.config.position.Position.{Position}
+
+-- a rectangle of a map lies inside a table, and shares no cell with another one
+pub record IsFree (m : SpanMap) (rows columns : ℕ) (a : Position) (s : ℕ × ℕ) : Type 0 where
+  pub here : finite.get m a ≡ Some s
+  pub bottom : a.row + s.0 ≤ rows
+  pub right : a.col + s.1 ≤ columns
+  pub alone : (b : Position) (t : ℕ × ℕ) (p : Position) → finite.get m b ≡ Some t → In a s p → In b t p → a ≡ b
+
+-- the cells of a rectangle, row by row
+abbrev pub cells_of : Anchor → List Position
+cells_of e = block e.0.row (e.0.row + e.1.0) e.0.col (e.0.col + e.1.1)
+
+-- an old place that passes a test
+abbrev pub passes : (Position → Bool) → Option Position → Bool
+passes test None = false
+passes test (Some q) = test q
+
+-- two tests answer alike
+abbrev pub alike : Bool → Bool → Bool
+alike a b = if a then b else not b
+
+-- the new places of all cells of one rectangle are the cells of another one
+abbrev pub carries : Places → Anchor → Anchor → Bool
+carries places e f =
+    list_all (λ (p : Position). alike (passes (in_rect e.0 e.1) (places.old_place p)) (in_rect f.0 f.1 p)) (block 0 places.rows 0 places.columns)
+    && list_all (λ (q : Position). list_any (λ (p : Position). passes (same_place q) (places.old_place p)) (cells_of f)) (cells_of e)
+
+-- the rectangles inside a table
+abbrev pub rectangles : ℕ → ℕ → List Anchor
+rectangles rows columns = flat_map (λ (p : Position). map (λ (last : Position). (p, (last.row + 1, last.col + 1))) (block 0 (rows - p.row) 0 (columns - p.col))) (block 0 rows 0 columns)
+
+-- the rectangles of a new table that carry one of the old ones
+abbrev pub images : Places → List Anchor → List Anchor
+images places es = filter (λ (f : Anchor). list_any (λ (e : Anchor). carries places e f) es) (rectangles places.rows places.columns)
+
+-- the map of these
+abbrev pub image : Places → SpanMap → SpanMap
+image places m = finite.from_entries (images places (finite.entries m))
+
+-- what becomes of merged cells when the cells of a table of so many rows and columns move
+abbrev pub carried : Places → ℕ → ℕ → SpanMap → SpanMap
+carried places rows columns m = image places (keep_fitting rows columns m)
+
+-- the cell at a new place comes from an old place
+pub record Takes (places : Places) (p q : Position) : Type 0 where
+  pub row : p.row < places.rows
+  pub col : p.col < places.columns
+  pub from : places.old_place p ≡ Some q
+
+-- all cells of a rectangle have new places, and these are the cells of another one
+pub record Carries (places : Places) (e f : Anchor) : Type 0 where
+  pub all : (q : Position) → In e.0 e.1 q → (p : Position) × Takes places p q
+  pub only : (p q : Position) → Takes places p q → In e.0 e.1 q → In f.0 f.1 p
+  pub from : (p : Position) → In f.0 f.1 p → (q : Position) × In e.0 e.1 q × Takes places p q
+
+-- a rectangle is not empty
+pub record IsFull (f : Anchor) : Type 0 where
+  pub height : 1 ≤ f.1.0
+  pub width : 1 ≤ f.1.1
+
+-- the new map has just the rectangles that carry one of the old map
+pub record IsImage (places : Places) (old new : SpanMap) : Type 0 where
+  pub comes : (b : Position) (t : ℕ × ℕ) → finite.get new b ≡ Some t → (a : Position) × (s : ℕ × ℕ) × (finite.get old a ≡ Some s) × Carries places (a, s) (b, t) × IsFull (b, t)
+  pub goes : (a b : Position) (s t : ℕ × ℕ) → finite.get old a ≡ Some s → Carries places (a, s) (b, t) → IsFull (b, t) → finite.get new b ≡ Some t
+
+-- what goes from a place comes back to it
+pub record LeadsBack (there back : Places) : Type 0 where
+  pub to : (p q : Position) → Takes there p q → Takes back q p
+  pub from : (p q : Position) → Takes back q p → Takes there p q
+
+-- each rectangle of a map is carried to one
+pub record CarriesAll (places : Places) (m : SpanMap) : Type 0 where
+  pub each : (a : Position) (s : ℕ × ℕ) → finite.get m a ≡ Some s → (f : Anchor) × Carries places (a, s) f × IsFull f

@@ -1,0 +1,36 @@
+//! Laws of merged cells that are carried along. Each is the contract of a function that does nothing.
+
+ghost use Rattle.std.specs.Prelude.{◌≡◌, ◌↔◌, ℕ, Some};
+ghost use Rattle.std.specs.FinMap as map;
+ghost use Rattle.tabled_grid.specs.Fitting.{keep_fitting};
+ghost use Rattle.tabled_grid.specs.Places.{Places};
+ghost use Rattle.tabled_grid.specs.Rectangles.{Fits};
+ghost use Rattle.tabled_grid.specs.Spans.{AreSpanSizes, SpanMap};
+ghost use Rattle.tabled_grid.specs.declared.config.position.Position.{Position};
+ghost use Rattle.tabled_images.specs.Images.{CarriesAll, IsFree, IsImage, LeadsBack, carried};
+
+/// Those rectangles fit a table that lie inside it and share no cell with another one.
+pub fn fitting_rectangles_are_the_free_ones()
+    ensures { (m : SpanMap) (rows columns : ℕ) (a : Position) (s : ℕ × ℕ) → AreSpanSizes m → (map.get (keep_fitting rows columns m) a ≡ Some s) ↔ IsFree m rows columns a s }
+{}
+
+/// The rectangles that are carried along are just those whose cells are the new places of the cells of one
+/// that fits, all of which have a new place.
+pub fn carried_rectangles_are_the_images()
+    ensures { (places : Places) (rows columns : ℕ) (m : SpanMap) → AreSpanSizes m → IsImage places (keep_fitting rows columns m) (carried places rows columns m) }
+{}
+
+/// There is one such map alone.
+pub fn there_is_one_image()
+    ensures { (places : Places) (old : SpanMap) (new : SpanMap) (other : SpanMap) → IsImage places old new → IsImage places old other → new ≡ other }
+{}
+
+/// What is carried along lies inside the new table and apart, whatever the map was before.
+pub fn carried_rectangles_fit()
+    ensures { (places : Places) (rows columns : ℕ) (m : SpanMap) → AreSpanSizes m → Fits (carried places rows columns m) places.rows places.columns }
+{}
+
+/// Merged cells that fit and are all carried along are as they were, once they are carried back.
+pub fn carried_there_and_back_is_as_it_was()
+    ensures { (there : Places) (back : Places) (rows columns : ℕ) (m : SpanMap) → LeadsBack there back → CarriesAll there m → Fits m rows columns → carried back there.rows there.columns (carried there rows columns m) ≡ m }
+{}

@@ -1,0 +1,9 @@
+//! Merged cells, carried along when cells move.
+#![tactic(auto)]
+
+mod carry;
+mod images;
+pub mod laws;
+
+pub use carry::carried;
+pub use images::Moves;

@@ -1,0 +1,66 @@
+-- Rearrangements keep merged cells inside the table and apart.
+use Rattle.std.proofs.Common.{◌≡◌, ℕ, Bool, true, false, List, ap, refl}
+use Rattle.tabled_grid.specs.Grid.{Grid, map_grid}
+use Rattle.tabled_grid.specs.Places.{Places, ReadsThrough}
+use Rattle.tabled_grid.specs.Rectangles.{Fits}
+use Rattle.tabled_grid.specs.Spans.{SpanMap}
+use Rattle.tabled_grid.specs.declared.config.offset.Offset.{Offset}
+use Rattle.tabled_grid.specs.declared.records.axis.Axis.{Axis}
+use Rattle.tabled_images.proofs.CarriedFits.{carried-fits}
+use Rattle.tabled_images.specs.Images.{carried}
+use Rattle.tabled_options.specs.Does.{Change, OptionKeeps, Same}
+use Rattle.tabled_settings.specs.Joined.{JoinsAt, corner_of, joined_places}
+use Rattle.tabled_settings.specs.PiecePlaces.{Splits, split_places}
+use Rattle.tabled_settings.specs.Pieces.{has_pieces}
+use Rattle.tabled_settings.specs.Rearranged.{Rearranges, carried_if, removed, reversed, reverses}
+use Rattle.tabled_settings.specs.declared.split.Split.{Split}
+use Rattle.tabled_spans.proofs.PanelGeometry.{same_fits}
+
+-- what is carried along fits the new shape
+pub carried_fit : (places : Places) (rows columns tall wide : ℕ) (c d : SpanMap) → Fits c rows columns → tall ≡ places.rows → wide ≡ places.columns → d ≡ carried places rows columns c → Fits d tall wide
+carried_fit places rows columns tall wide c d fits rows_are columns_are is = rw (rows_are, columns_are, is) (carried-fits places rows columns c fits.sizes)
+
+-- also where it moves nothing
+pub carried_if_fit : (moves : Bool) (places : Places) (rows columns tall wide : ℕ) (c d : SpanMap) → Fits c rows columns → tall ≡ places.rows → wide ≡ places.columns → (moves ≡ false → (tall ≡ rows) × (wide ≡ columns)) → d ≡ carried_if moves places rows columns c → Fits d tall wide
+carried_if_fit true places rows columns tall wide c d fits rows_are columns_are stays is = carried_fit places rows columns tall wide c d fits rows_are columns_are is
+carried_if_fit false places rows columns tall wide c d fits rows_are columns_are stays is = let same = stays refl in rw (same.0, same.1, is) fits
+
+module _ {A : Type 0} where
+  abbrev pub FitsIn : Grid A → SpanMap → Type 0
+  FitsIn g c = Fits c g.rows g.columns
+
+  -- cells that are read through a map of places
+  pub rearranged_keeps : (places : Grid A → Places) → OptionKeeps FitsIn (λ g. Rearranges (places g) g) Same
+  rearranged_keeps places = record {
+    done = λ g c h d fits does. carried_fit (places g) g.rows g.columns h.rows h.columns c d fits does.0.rows does.0.columns does.1;
+    refused = same_fits;
+  }
+
+  -- lines in the opposite order
+  pub reversal_keeps : (axis : Axis) (start : ℕ) (limit : Offset) → OptionKeeps FitsIn (λ g c h d. ReadsThrough (reversed axis start limit g.rows g.columns) g h × (d ≡ carried_if (reverses axis start limit g.rows g.columns) (reversed axis start limit g.rows g.columns) g.rows g.columns c)) Same
+  reversal_keeps axis start limit = record {
+    done = λ g c h d fits does. carried_if_fit (reverses axis start limit g.rows g.columns) (reversed axis start limit g.rows g.columns) g.rows g.columns h.rows h.columns c d fits does.0.rows does.0.columns (λ _. (does.0.rows, does.0.columns)) does.1;
+    refused = same_fits;
+  }
+
+  module _ (is_blank : A → Type 0) (text_of : A → List ℕ) where
+    -- lines that are cut
+    pub split_keeps : (s : Split) → OptionKeeps FitsIn (λ g c h d. Splits is_blank text_of s g h × (d ≡ carried_if (has_pieces s g.rows g.columns) (split_places s (map_grid text_of g)) g.rows g.columns c)) Same
+    split_keeps s = record {
+      done = λ g c h d fits does. carried_if_fit (has_pieces s g.rows g.columns) (split_places s (map_grid text_of g)) g.rows g.columns h.rows h.columns c d fits does.0.cells.reads.rows does.0.cells.reads.columns (λ none. let same = does.0.unsplit none in (ap (λ (x : Grid A). x.rows) same, ap (λ (x : Grid A). x.columns) same)) does.1;
+      refused = same_fits;
+    }
+
+  -- lines that a location finds, taken away
+  pub removal_keeps : (axis : Axis) (locates : Grid A → List ℕ → Type 0) → OptionKeeps FitsIn (λ g c h d. (found : List ℕ) × locates g found × ReadsThrough (removed axis found g.rows g.columns) g h × (d ≡ carried (removed axis found g.rows g.columns) g.rows g.columns c)) Same
+  removal_keeps axis locates = record {
+    done = λ g c h d fits does. carried_fit (removed axis does.0 g.rows g.columns) g.rows g.columns h.rows h.columns c d fits does.2.rows does.2.columns does.3;
+    refused = same_fits;
+  }
+
+  -- two tables that are joined
+  pub join_keeps : (text_of : A → List ℕ) (axis : Axis) (second : Grid (List ℕ)) (default : List ℕ) → OptionKeeps FitsIn (λ g c h d. JoinsAt text_of (corner_of axis g.rows g.columns) second default g h × (d ≡ carried (joined_places (corner_of axis g.rows g.columns) second g.rows g.columns) g.rows g.columns c)) Same
+  join_keeps text_of axis second default = record {
+    done = λ g c h d fits does. carried_fit (joined_places (corner_of axis g.rows g.columns) second g.rows g.columns) g.rows g.columns h.rows h.columns c d fits does.0.first.rows does.0.first.columns does.1;
+    refused = same_fits;
+  }

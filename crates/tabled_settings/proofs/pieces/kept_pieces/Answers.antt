@@ -1,0 +1,21 @@
+use Rattle.std.proofs.Common.{◌≡◌, ℕ, ◌+◌, ◌*◌, ◌∙◌, ap, arith, refl, sym}
+use Rattle.std.specs.Int.{div_ceil}
+use Rattle.tabled_settings.proofs.PieceReads.{filter_push, filter_skip}
+use Rattle.tabled_settings.proofs.PiecesDone.{CanBeCut, staying_is}
+use Rattle.tabled_settings.proofs.pieces.kept_pieces.Goals as goal
+use Rattle.tabled_settings.proofs.pieces.kept_pieces.Goals.{then-stays+in_ok-push, else-stays}
+
+pub loop-nth-preserved : goal.loop-nth-preserved
+loop-nth-preserved g c =
+    elim c.if-stays.branch [
+      | then-stays+in_ok-push w ↦ rw w.kept-is (filter_push _ c.loop-nth.nth (c.loop-nth.nth + 1) _ _ refl (sym c.stays.ensures ∙ w.if-stays.true) c.loop-nth.invariant w.in_ok-push.ensures.items)
+      | else-stays w ↦ rw w.kept-is (filter_skip _ c.loop-nth.nth (c.loop-nth.nth + 1) _ refl (sym c.stays.ensures ∙ w.if-stays.false) c.loop-nth.invariant)
+    ]
+
+pub returns : goal.returns
+returns g c =
+    let cut = c.args.cut.now in
+    let all : c.loop-nth.nth ≡ cut.lines * div_ceil cut.width cut.split.index = omega (arith, c.loop-nth-test.false, c.loop-nth.auto.nth-end, ap (λ (n : ℕ). cut.lines * n) c.div_ceil.ensures) in
+    let grid = g.R.GridStore.grid c.args.records.now in
+    let can : CanBeCut cut.split cut.lines cut.width grid = record { even = c.requires.even; count = c.requires.lines; wide = c.requires.width; some = cut.some; index = cut.index; narrow = cut.narrow } in
+    rw all at c.loop-nth.invariant ∙ sym (staying_is g.R.Cell.CellText.text_of cut.split cut.lines cut.width grid can)

@@ -1,0 +1,69 @@
+use Rattle.std.proofs.Common.{ℕ, ◌*◌, ◌<◌, List, length, get_or, subst, sym, arith}
+use Rattle.std.specs.Int.{div_ceil}
+use Rattle.std.specs.List.Sorted.{IsStrictlyIncreasing}
+use Rattle.tabled_grid.specs.Axis.{across}
+use Rattle.tabled_settings.proofs.PiecePlaces.{clean_places, clean_splits, retained_places, retained_splits, spans_carried}
+use Rattle.tabled_settings.proofs.PiecesDone.{CanBeCut, kept_below, kept_rising, lines_counted}
+use Rattle.tabled_settings.proofs.split.SplitTableOptionSpannedConfig.change.Goals as goal
+
+pub invariant_of-clean : goal.invariant_of-clean
+invariant_of-clean g c =
+    let s = c.args.self in
+    let grid = g.R.GridStore.grid c.args.records.now in
+    let n = c.count_of-lines.result in
+    let m = c.count_of-width.result in
+    let can : CanBeCut s n m grid = record {
+      even = c.count_rows-rows.ensures.even;
+      count = lines_counted s.lines grid n _ _ c.count_of-lines.ensures c.count_rows-rows.ensures.rows c.count_columns-columns.ensures.columns;
+      wide = lines_counted (across s.lines) grid m _ _ (rw c.across.ensures at c.count_of-width.ensures) c.count_rows-rows.ensures.rows c.count_columns-columns.ensures.columns;
+      some = omega (arith, c.if-lines-eq0.false);
+      index = omega (arith, c.if-self-eq0.false);
+      narrow = omega (arith, c.if-self-width.false);
+    } in
+    let text_of = g.R.Cell.CellText.text_of in
+    let kept = sym c.in_ok-kept-in-Clean.ensures in
+    record {
+      rising = subst IsStrictlyIncreasing kept (kept_rising text_of s n m grid can);
+      within = subst (λ (ts : List ℕ). (a : ℕ) → a < length ts → get_or ts a 0 < n * div_ceil m s.index) kept (kept_below text_of s n m grid can);
+    }
+
+pub returns-in_ok-cut-in-Clean-clause-ok : goal.returns-in_ok-cut-in-Clean-clause-ok
+returns-in_ok-cut-in-Clean-clause-ok g c =
+    let s = c.args.self in
+    let grid = g.R.GridStore.grid c.args.records.now in
+    let n = c.count_of-lines.result in
+    let m = c.count_of-width.result in
+    let can : CanBeCut s n m grid = record {
+      even = c.count_rows-rows.ensures.even;
+      count = lines_counted s.lines grid n _ _ c.count_of-lines.ensures c.count_rows-rows.ensures.rows c.count_columns-columns.ensures.columns;
+      wide = lines_counted (across s.lines) grid m _ _ (rw c.across.ensures at c.count_of-width.ensures) c.count_rows-rows.ensures.rows c.count_columns-columns.ensures.columns;
+      some = omega (arith, c.if-lines-eq0.false);
+      index = omega (arith, c.if-self-eq0.false);
+      narrow = omega (arith, c.if-self-width.false);
+    } in
+    let text_of = g.R.Cell.CellText.text_of in
+    let fills = (rw (← can.count, ← can.wide) at c.in_ok-cut-in-Clean.ensures.ok) in
+    let kept = c.in_ok-kept-in-Clean.ensures in (
+      clean_splits text_of s n m grid can g.R.Cell.Blank.is_blank g.met.R.Cell.CellText.blank_is_empty _ fills _ _ c.in-Clean.is kept (rw c.deref.ensures.value at c.keep_some.ensures.kept),
+      spans_carried text_of s n m grid can _ _ _ _ _ (clean_places text_of s n m grid can _ c.in-Clean.is kept) c.count_rows-rows.ensures.rows c.count_columns-columns.ensures.columns c.in_ok-spans-in-Clean.ensures.carried,
+    )
+
+pub returns-in_ok-cut-in-Retain-clause-ok : goal.returns-in_ok-cut-in-Retain-clause-ok
+returns-in_ok-cut-in-Retain-clause-ok g c =
+    let s = c.args.self in
+    let grid = g.R.GridStore.grid c.args.records.now in
+    let n = c.count_of-lines.result in
+    let m = c.count_of-width.result in
+    let can : CanBeCut s n m grid = record {
+      even = c.count_rows-rows.ensures.even;
+      count = lines_counted s.lines grid n _ _ c.count_of-lines.ensures c.count_rows-rows.ensures.rows c.count_columns-columns.ensures.columns;
+      wide = lines_counted (across s.lines) grid m _ _ (rw c.across.ensures at c.count_of-width.ensures) c.count_rows-rows.ensures.rows c.count_columns-columns.ensures.columns;
+      some = omega (arith, c.if-lines-eq0.false);
+      index = omega (arith, c.if-self-eq0.false);
+      narrow = omega (arith, c.if-self-width.false);
+    } in
+    let text_of = g.R.Cell.CellText.text_of in
+    let fills = (rw (← can.count, ← can.wide) at c.in_ok-cut-in-Retain.ensures.ok) in (
+      retained_splits text_of s n m grid can g.R.Cell.Blank.is_blank g.met.R.Cell.CellText.blank_is_empty _ fills c.in-Retain.is,
+      spans_carried text_of s n m grid can _ _ _ _ _ (retained_places text_of s n m grid can c.in-Retain.is) c.count_rows-rows.ensures.rows c.count_columns-columns.ensures.columns c.in_ok-spans-in-Retain.ensures.carried,
+    )

@@ -1,0 +1,94 @@
+//! Merged cells that are carried along: callers that rely on it, done or refused.
+
+ghost use Rattle.tabled_grid.specs.Rectangles.{Fits};
+
+use crate::geometry::changes;
+use std::alloc::{AllocError, Global};
+use tabled_grid::config::SpannedConfig;
+use tabled_grid::records::{
+    CellText, ExactRecords, PeekableRecords, Records, RecordsMut, Resizable,
+};
+use tabled_images::laws::{
+    carried_rectangles_are_the_images, carried_rectangles_fit, carried_there_and_back_is_as_it_was,
+    fitting_rectangles_are_the_free_ones, there_is_one_image,
+};
+use tabled_select::object::{Column, Rows};
+use tabled_settings::concat::Concat;
+use tabled_settings::disable::{Remove, TargetColumn, TargetRow};
+use tabled_settings::extract::Extract;
+use tabled_settings::laws::{
+    extracts_keep_merged_cells_fitting, joins_keep_merged_cells_fitting,
+    merged_cells_reversed_twice_are_as_they_were,
+    merged_cells_turned_left_then_right_are_as_they_were, removals_keep_merged_cells_fitting,
+    reversals_keep_merged_cells_fitting, splits_keep_merged_cells_fitting,
+    turns_keep_merged_cells_fitting,
+};
+use tabled_settings::reverse::Reverse;
+use tabled_settings::rotate::Rotate;
+use tabled_settings::split::Split;
+use tabled_table::Table;
+
+/// Turns a table, reverses its rows and cuts them.
+pub fn moves_cells<R>(
+    alloc: Global,
+    records: &mut R,
+    cfg: &mut SpannedConfig,
+) -> Result<(), AllocError>
+where
+    R: Records + ExactRecords + PeekableRecords + RecordsMut<String> + Resizable,
+    R::Cell: CellText,
+    requires well { R.is_well_formed records.old }
+    requires fits { Fits cfg.old ((R.grid records.old).rows) ((R.grid records.old).columns) }
+    ensures well { R.is_well_formed records.new }
+    ensures fits { Fits cfg.new ((R.grid records.new).rows) ((R.grid records.new).columns) }
+{
+    let turn = Rotate::Left;
+    turns_keep_merged_cells_fitting::<R, ()>(&turn);
+    changes(alloc, records, cfg, &mut (), turn)?;
+    let reverse = Reverse::rows(1);
+    reversals_keep_merged_cells_fitting::<R, ()>(reverse);
+    changes(alloc, records, cfg, &mut (), reverse)?;
+    let split = Split::column(2);
+    splits_keep_merged_cells_fitting::<R, ()>(split);
+    changes(alloc, records, cfg, &mut (), split)
+}
+
+/// Keeps some rows, takes a row and a column away, and joins a second table.
+pub fn takes_parts<R>(
+    alloc: Global,
+    records: &mut R,
+    cfg: &mut SpannedConfig,
+    second: Table,
+) -> Result<(), AllocError>
+where
+    R: Records + ExactRecords + PeekableRecords + RecordsMut<String> + Resizable,
+    R::Cell: CellText,
+    requires well { R.is_well_formed records.old }
+    requires fits { Fits cfg.old ((R.grid records.old).rows) ((R.grid records.old).columns) }
+    ensures well { R.is_well_formed records.new }
+    ensures fits { Fits cfg.new ((R.grid records.new).rows) ((R.grid records.new).columns) }
+{
+    let rows = Extract::rows(1..9);
+    extracts_keep_merged_cells_fitting::<R, (), _, _>(&rows);
+    changes(alloc, records, cfg, &mut (), rows)?;
+    let row = Remove::row(Rows::new(0..1));
+    removals_keep_merged_cells_fitting::<R, (), _, TargetRow>(&row);
+    changes(alloc, records, cfg, &mut (), row)?;
+    let column = Remove::column(Column::from(1));
+    removals_keep_merged_cells_fitting::<R, (), _, TargetColumn>(&column);
+    changes(alloc, records, cfg, &mut (), column)?;
+    let join = Concat::vertical(alloc, second);
+    joins_keep_merged_cells_fitting::<R, ()>(&join);
+    changes(alloc, records, cfg, &mut (), join)
+}
+
+/// Calls the laws of what is carried along.
+pub fn knows_what_is_carried() {
+    fitting_rectangles_are_the_free_ones();
+    carried_rectangles_are_the_images();
+    there_is_one_image();
+    carried_rectangles_fit();
+    carried_there_and_back_is_as_it_was();
+    merged_cells_turned_left_then_right_are_as_they_were();
+    merged_cells_reversed_twice_are_as_they_were();
+}
