@@ -435,7 +435,7 @@ mod tests {
     fn merged_cells_fit_after_each_call(rt: HostRuntime) -> Result<(), Fail> {
         let alloc = rt.alloc();
         for (call, wanted) in [
-            (Call::Steps, (3, 3, 1, 3)),
+            (Call::Steps, (3, 3, 3, 1)),
             (Call::Writes, (2, 3, 1, 1)),
             (Call::Spans, (2, 3, 1, 2)),
             (Call::Back, (2, 3, 1, 2)),
