@@ -29,9 +29,27 @@ pub fn carried<M: Moves>(
     if cfg.anchors().is_empty() {
         return Ok(SpannedConfig::new(alloc));
     }
+    if cfg.fits(rows, columns) {
+        return carried_fitting(alloc, moves, cfg, rows, columns);
+    }
     let mut kept = cfg.copy(alloc)?;
     kept.keep_fitting(alloc, rows, columns)?;
-    let images = carry(alloc, moves, kept.anchors(), rows, columns)?;
+    carried_fitting(alloc, moves, &kept, rows, columns)
+}
+
+/// What becomes of merged cells that fit a table.
+fn carried_fitting<M: Moves>(
+    alloc: Global,
+    moves: &M,
+    cfg: &SpannedConfig,
+    rows: usize,
+    columns: usize,
+) -> Result<SpannedConfig, AllocError>
+    requires { Fits cfg.now rows columns }
+    ensures image { IfOk result (λ new. new ≡ image (M.places moves.now) cfg.now) }
+    ensures sizes { IfOk result (λ new. AreSpanSizes new) }
+{
+    let images = carry(alloc, moves, cfg.anchors(), rows, columns)?;
     Ok(SpannedConfig::from_anchors(images))
 }
 
@@ -49,7 +67,7 @@ fn carry<M: Moves>(
     ensures image { IfOk result (λ images. from_sorted images.items ≡ image (M.places moves.now) (from_sorted anchors.now)) }
 {
     let _size = (rows, columns);
-    let mut images = Vec::new(alloc);
+    let mut images = Vec::with_capacity(alloc, anchors.len())?;
     for anchor in anchors {
         if let Some(image) = image_of(moves, *anchor) {
             images.push(image)?;

@@ -1,6 +1,6 @@
 //! Where the cells go of a table of which some lines are kept.
 
-ghost use Rattle.std.specs.Prelude.{◌≡◌, ◌<◌, ℕ, IfOk, IfSome, Some, length, slice_index};
+ghost use Rattle.std.specs.Prelude.{◌≡◌, ◌<◌, ◌↔◌, ℕ, IfOk, IfSome, IsTrue, Some, length, slice_index};
 ghost use Rattle.std.specs.List.Sorted.{IsStrictlyIncreasing};
 ghost use Rattle.tabled_settings.specs.Lines.{is_marked};
 ghost use Rattle.tabled_settings.specs.Rearranged.{kept_lines, left_over};
@@ -61,7 +61,24 @@ pub(crate) fn index_of(rising: &[usize], index: usize) -> Option<usize>
     ensures at { IfSome result (λ k. (k < length rising.now) × (slice_index rising.now k ≡ index)) }
     ensures finds { (k : ℕ) → k < length rising.now → slice_index rising.now k ≡ index → result ≡ Some k }
 {
+    // Nothing is missing before most indexes, or all that is missing is before them.
+    if holds_at(rising, index, index) {
+        return Some(index);
+    }
+    let last = rising.last().copied()?;
+    let missing = last.saturating_sub(rising.len() - 1);
+    let shifted = index.saturating_sub(missing);
+    if holds_at(rising, shifted, index) {
+        return Some(shifted);
+    }
     rising.binary_search(&index).ok()
+}
+
+/// Says whether a list has an index at a place.
+fn holds_at(indexes: &[usize], place: usize, index: usize) -> bool
+    ensures { IsTrue result ↔ ((place < length indexes.now) × (slice_index indexes.now place ≡ index)) }
+{
+    place < indexes.len() && indexes[place] == index
 }
 
 impl Moves for Kept {

@@ -1,0 +1,20 @@
+use Rattle.std.proofs.Common.{◌≡◌, ap, subst, sym, ◌∙◌}
+use Rattle.std.specs.FinMap.{from_sorted}
+use Rattle.tabled_grid.specs.Rectangles.{Fits}
+use Rattle.tabled_grid.specs.Spans.{SpanMap, position_cmp}
+use Rattle.tabled_grid.proofs.Fitting.{anchors-of, from-entries}
+use Rattle.tabled_images.specs.Images.{image}
+use Rattle.tabled_images.proofs.carry.carried_fitting.Goals as goal
+
+pub carry-requires-clause-anchors : goal.carry-requires-clause-anchors
+carry-requires-clause-anchors g c = rw c.anchors.ensures.anchors (anchors-of _ c.anchors.ensures.sizes)
+
+pub carry-requires-clause-fits : goal.carry-requires-clause-fits
+carry-requires-clause-fits g c =
+    let is : from_sorted {R = position_cmp} c.anchors.result.now ≡ c.args.cfg.now = ap (λ es. from_sorted {R = position_cmp} es) c.anchors.ensures.anchors ∙ from-entries c.args.cfg.now in
+    subst (λ (m : SpanMap). Fits m c.args.rows c.args.columns) (sym is) c.requires
+
+pub returns-clause-image : goal.returns-clause-image
+returns-clause-image g c =
+    let is : from_sorted {R = position_cmp} c.anchors.result.now ≡ c.args.cfg.now = ap (λ es. from_sorted {R = position_cmp} es) c.anchors.ensures.anchors ∙ from-entries c.args.cfg.now in
+    c.from_anchors.ensures.anchors ∙ c.in_ok-images.ensures.image ∙ ap (image (g.M.Moves.places c.args.moves.now)) is
