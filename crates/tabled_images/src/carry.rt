@@ -8,6 +8,7 @@ ghost use Rattle.tabled_grid.specs.Spans.{AreAnchors, AreSpanSizes};
 ghost use Rattle.tabled_images.specs.Images.{carried, image};
 
 use crate::images::{Moves, Rectangle, image_of};
+use crate::sort::sort;
 use std::alloc::{AllocError, Global};
 use tabled_grid::config::SpannedConfig;
 
@@ -73,6 +74,6 @@ fn carry<M: Moves>(
             images.push(image)?;
         }
     }
-    images.sort_unstable_by_key(|image| image.0);
+    sort(&mut images);
     Ok(images)
 }

@@ -4,6 +4,7 @@
 mod carry;
 mod images;
 pub mod laws;
+mod sort;
 
 pub use carry::carried;
 pub use images::Moves;

@@ -24,7 +24,7 @@ rises xs up i j h k =
     let same : i + (j - i - 1) + 1 ≡ j = omega arith in
     subst (λ (k : ℕ). get_or xs i 0 < get_or xs k 0) same (rises_by xs up i (j - i - 1) (omega arith))
 
-one_index : (xs : List ℕ) → IsStrictlyIncreasing xs → (i j : ℕ) → i < length xs → j < length xs → get_or xs i 0 ≡ get_or xs j 0 → i ≡ j
+pub one_index : (xs : List ℕ) → IsStrictlyIncreasing xs → (i j : ℕ) → i < length xs → j < length xs → get_or xs i 0 ≡ get_or xs j 0 → i ≡ j
 one_index xs up i j h k same = by (cases_lt i j) (cases_lt j i)
   where
     by : (i < j) ⊎ (j ≤ i) → (j < i) ⊎ (i ≤ j) → i ≡ j
