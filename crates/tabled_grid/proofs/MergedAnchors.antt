@@ -13,7 +13,7 @@ use Rattle.std.proofs.Math.ListN.{drop_of_length-le}
 use Rattle.std.proofs.Math.Seq.{drop-cons}
 use borrow.Author.Tests.{eq-eqb}
 use Rattle.tabled_grid.proofs.Spans.{Makes, positions_exact, positions_total, with_anchor, without_anchor}
-use Rattle.tabled_grid.proofs.SpanMaps.{halves, less}
+use Rattle.tabled_grid.proofs.SpanMaps.{both, halves, less}
 use Rattle.tabled_grid.specs.Anchors.{Anchor, anchor_of, with_size_in, with_sizes_in, without_first_at}
 use Rattle.tabled_grid.specs.Spans.{AreAnchors, IsSizeAt, IsSpanSize, position_cmp, with_size, with_sizes}
 use Rattle.tabled_grid.specs.declared.config.position.Position.{Position}
@@ -30,10 +30,6 @@ kept c es = cond (is_one c) es (c ∷ es)
 
 abbrev pub Below : Position → List Anchor → Type 0
 Below p es = T (below_all position_cmp p es)
-
-both : (a b : Bool) → T a → T b → T (a && b)
-both true b p q = q
-both false b p q = p
 
 from_less : (p q : Position) → position_cmp p q ≡ Less → T (is_lt (position_cmp p q))
 from_less p q h = subst (λ r. T (is_lt r)) (sym h) tt

@@ -26,6 +26,10 @@ pub halves : (a b : Bool) → T (a && b) → T a × T b
 halves true b h = (tt, h)
 halves false b h = absurd h
 
+pub both : (a b : Bool) → T a → T b → T (a && b)
+both true b p q = q
+both false b p q = p
+
 pub less : (o : Ordering) → T (is_lt o) → o ≡ Less
 less Less h = refl
 less Equal h = absurd h
