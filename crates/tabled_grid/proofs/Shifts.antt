@@ -7,7 +7,7 @@ use Rattle.std.specs.FinMap.{is_sorted}
 use Rattle.std.specs.FinMap.Entries.{below_all}
 use Rattle.std.specs.List.{AllByRecursion, filter}
 use Rattle.std.specs.Option.{is_some, unwrap_or}
-use Rattle.std.specs.Ordering.{MatchOrdering, is_lt, nat_cmp, ordering_then}
+use Rattle.std.specs.Ordering.{MatchOrdering, nat_cmp, ordering_then}
 use Rattle.std.proofs.lemmas.Bool.{cases_Bool}
 use Rattle.std.proofs.lemmas.Cmp.{ranked}
 use Rattle.std.proofs.lemmas.Option.{none-some, same_Some}
@@ -20,6 +20,7 @@ use Rattle.tabled_grid.specs.declared.config.position.Position.{Position}
 use Rattle.tabled_grid.specs.declared.records.axis.Axis.{Axis}
 use Rattle.tabled_grid.specs.declared.records.axis.Axis.TheVariants.{Rows, Columns}
 use Rattle.tabled_grid.proofs.PassedAnchors.{Earlier, earlier}
+use Rattle.tabled_grid.proofs.SortedEntries.{is_less}
 use Rattle.tabled_grid.proofs.SpanMaps.{both, halves, less}
 
 -- a list whose first k items were changed
@@ -104,9 +105,6 @@ from_earlier p q e = by_row (nat_cmp p.row q.row) refl (ranked p.row q.row (nat_
     by_row Equal is m (inr e) = by_col m e.1 (nat_cmp p.col q.col) (ranked p.col q.col (nat_cmp p.col q.col) refl)
     by_row Greater is m (inl e) = absurd (omega arith)
     by_row Greater is m (inr e) = absurd (omega arith)
-
-is_less : (o : Ordering) → o ≡ Less → T (is_lt o)
-is_less o e = rw e tt
 
 module _ (axis : Axis) (from : ℕ) where
   below_shifted : (x y : Position) (es : List Anchor) → shifted_place axis from x ≡ Some y → T (below_all position_cmp x es) → T (below_all position_cmp y (shifted_in axis from es))
