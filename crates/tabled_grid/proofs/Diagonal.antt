@@ -1,8 +1,12 @@
 -- Cells of a square swapped across the diagonal, row by row.
 use Rattle.std.proofs.Common.{◌≡◌, ℕ, ◌+◌, ◌<◌, ◌≤◌, ◌≢◌, ◌⊎◌, inl, inr, refl, ◌∙◌, arith}
 use Rattle.std.proofs.lemmas.Bool.{cases_eq, cases_lt}
-use Rattle.tabled_grid.specs.Bulk.{HalfTransposed}
 use Rattle.tabled_grid.proofs.SwappedCells.{Swaps}
+
+-- of a square, the cells before a place of its upper half, row by row, have changed places with those across the diagonal
+pub record HalfTransposed {B : Type 0} (old new : ℕ → ℕ → B) (size i j : ℕ) : Type 0 where
+  pub done : (a b : ℕ) → a ≤ b → b < size → (a < i) ⊎ ((a ≡ i) × (b < j)) → (new a b ≡ old b a) × (new b a ≡ old a b)
+  pub left : (a b : ℕ) → a ≤ b → (i < a) ⊎ ((a ≡ i) × (j ≤ b)) → (new a b ≡ old a b) × (new b a ≡ old b a)
 
 -- a place comes before one of the upper half, or not
 abbrev Before : ℕ → ℕ → ℕ → ℕ → Type 0

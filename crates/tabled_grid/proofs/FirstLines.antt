@@ -3,7 +3,7 @@ use Rattle.std.proofs.Common.{◌≡◌, ℕ, zero, suc, ◌-◌, ◌≤◌, Boo
 use Rattle.std.specs.List.{remove}
 use Rattle.std.proofs.lemmas.Bool.{eqb-true, ne_eqb}
 use Rattle.std.proofs.lemmas.List.{append-nil, map-id, take_all, drop_all, take-take, length-map, length-take, length-take-le, nil_from_length}
-use Rattle.tabled_grid.specs.Along.{count_along, first_along, with_lines, without_line}
+use Rattle.tabled_grid.specs.Along.{count_along, first_along, without_line}
 use Rattle.tabled_grid.specs.Grid.{Grid, IsEmptyWithoutRows, IsEven}
 use Rattle.tabled_grid.specs.declared.records.axis.Axis.{Axis}
 use Rattle.tabled_grid.specs.declared.records.axis.Axis.TheVariants.{Rows, Columns}
@@ -30,15 +30,6 @@ either_way true columns none = sym (none refl)
 either_way false columns none = refl
 
 module _ {A : Type 0} where
-  pub count-with_lines : (axis : Axis) (n : ℕ) (f : (X : Type 0) → List X → List X) (g : Grid A) → count_along axis (with_lines axis n f g) ≡ n
-  count-with_lines Rows n f g = refl
-  count-with_lines Columns n f g = refl
-
-  pub with_lines_agrees : (axis : Axis) (n : ℕ) (f k : (X : Type 0) → List X → List X) (g : Grid A) → IsEven g →
-      ((X : Type 0) (xs : List X) → length xs ≡ count_along axis g → f X xs ≡ k X xs) → with_lines axis n f g ≡ with_lines axis n k g
-  with_lines_agrees Rows n f k g even e = rw (e (List A) g.cells even.tall) refl
-  with_lines_agrees Columns n f k g even e = rw (each_agrees g.columns (f A) (k A) (e A) g.cells even.wide) refl
-
   -- all lines
   pub first_all : (axis : Axis) (n : ℕ) (g : Grid A) → n ≡ count_along axis g → IsEven g → IsEmptyWithoutRows g → g ≡ first_along axis n g
   first_all Rows n g e even none = rw (e, either_way (eqb g.rows 0) g.columns (λ is. none (eqb-true g.rows 0 is)), take_all g.rows g.cells (omega (arith, even.tall))) refl

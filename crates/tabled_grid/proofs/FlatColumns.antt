@@ -1,10 +1,11 @@
--- Columns of joined rows inserted, swapped and removed, one row after another.
+-- Columns of joined rows swapped and removed, one row after another.
 use Rattle.std.proofs.Common.{◌≡◌, ℕ, zero, suc, ◌+◌, ◌*◌, ◌-◌, ◌<◌, ◌≤◌, List, [], ◌∷◌, ◌++◌, refl, sym, ap, ap₂, ◌∙◌, length, take, drop, map, get_or, set, arith}
-use Rattle.std.specs.List.{remove, swap}
-use Rattle.std.proofs.lemmas.List.{append_assoc, append-nil, length-append, length-drop, length-map, length-take-le, length-set, length_push, get_or-set_same, set-set, drop_more, drop_all, take_all, map_more, take-append-drop, take_at}
-use Rattle.std.proofs.lemmas.List.Edits.{swap_is, map_over_more, length-remove, length-swap}
+use Rattle.std.specs.List.{swap}
+use Rattle.std.proofs.lemmas.List.{append_assoc, append-nil, length-append, length-drop, length-map, length-take-le, length-set, get_or-set_same, set-set, drop-drop, drop_more, drop_all, take_all, map_more, take-append-drop, take_at}
+use Rattle.std.proofs.lemmas.List.Edits.{swap_is, map_over_more, length-swap}
 use Rattle.std.proofs.lemmas.List.Elements.{All-from_recursion}
 use Rattle.std.proofs.lemmas.Option.{get_or_from_slice_get}
+use Rattle.std.proofs.Math.Nat.{add-mul}
 use Rattle.std.proofs.lemmas.Nat.{mul-add-lt}
 use Rattle.tabled_grid.proofs.Lists.{all-append, all-take, all-drop, all-set, all-map}
 use Rattle.tabled_grid.proofs.Swaps.{at}
@@ -72,58 +73,65 @@ module _ {A : Type 0} where
   pub swapped_all : (rows : List (List A)) (i : ℕ) (f : List A → List A) → length rows ≤ i → joined (changed f rows i) ≡ joined (map f rows)
   swapped_all rows i f h = rw (take_all i rows h, drop_all i rows h) (ap joined (append-nil (map f rows)))
 
-  -- the column at j was removed of the first i rows, and its cells lie behind them
-  pub record ClosedUp (j : ℕ) (rows : List (List A)) (i : ℕ) (cells : List A) : Type 0 where
-    pub gap : List A
-    pub many : length gap ≡ i
-    pub is : cells ≡ joined (map (λ (row : List A). remove row j) (take i rows)) ++ (gap ++ joined (drop i rows))
-
-  pub closed_none : (r c j : ℕ) (xs : List A) → length xs ≡ r * c → ClosedUp j (chunks r c xs) 0 xs
-  closed_none r c j xs h = record { gap = []; many = refl; is = sym (joined-chunks r c xs h) }
-
   -- rows, of which the next is apart
-  pub next_row : (rows : List (List A)) (i : ℕ) → i < length rows → joined (drop i rows) ≡ get_or rows i [] ++ joined (drop (i + 1) rows)
+  next_row : (rows : List (List A)) (i : ℕ) → i < length rows → joined (drop i rows) ≡ get_or rows i [] ++ joined (drop (i + 1) rows)
   next_row rows i h = ap joined (drop_more rows i [] h)
 
-  length-removed : (c : ℕ) (rows : List (List A)) (i j : ℕ) → AreWide c rows → j < c → i ≤ length rows → length (joined (map (λ (row : List A). remove row j) (take i rows))) ≡ i * (c - 1)
-  length-removed c rows i j w h l =
-      length-joined (c - 1) _ (all-map _ _ (λ (row : List A). remove row j) (λ row e. omega (arith, length-remove row j (omega (arith, e, h)), e, h)) (take i rows) (all-take _ i rows w))
-      ∙ ap (λ n. n * (c - 1)) (length-map (take i rows) (λ (row : List A). remove row j) ∙ length-take-le i rows l)
+  module _ (c j n : ℕ) where
+    -- a row without the n cells from j on
+    abbrev shorter : List A → List A
+    shorter row = take j row ++ drop (j + n) row
 
-  pub closed_more : (c j i : ℕ) (rows : List (List A)) (xs ys zs : List A) (to_first gap_first to_second gap_second n : ℕ) → AreWide c rows → j < c → i < length rows → ClosedUp j rows i xs →
-      Slid xs ys to_first gap_first j → Slid ys zs to_second gap_second n → to_first ≡ i * (c - 1) → gap_first ≡ i → to_second ≡ i * (c - 1) + j → gap_second ≡ i + 1 → n ≡ c - 1 - j → ClosedUp j rows (i + 1) zs
-  closed_more c j i rows xs ys zs to_first gap_first to_second gap_second n w j_in h closed one two e1 e2 e3 e4 e5 =
-      let f : List A → List A = λ row. remove row j in
-      let done : List A = joined (map f (take i rows)) in
-      let row : List A = get_or rows i [] in
-      let rest : List A = joined (drop (i + 1) rows) in
-      let long : length row ≡ c = row_long c rows i w h in
-      let a = at row j (omega (arith, long, j_in)) in
-      let x : A = a.member in
-      let next : j + 1 ≡ suc j = omega arith in
-      let cut : drop j row ≡ x ∷ drop (suc j) row = drop_more row j x (omega (arith, long, j_in)) ∙ ap₂ (λ y m. y ∷ drop m row) (a.read x) next in
-      let done_long : length done ≡ i * (c - 1) = length-removed c rows i j w j_in (omega (arith, h)) in
-      let front : List A = take j row in
-      let tail : List A = drop (suc j) row in
-      let front_long : length front ≡ j = length-take-le j row (omega (arith, long, j_in)) in
-      let tail_long : length tail ≡ n = length-drop (suc j) row ∙ omega (arith, long, e5) in
-      let parts : row ≡ front ++ x ∷ tail = sym (take-append-drop j row) ∙ ap (λ ys. front ++ ys) cut in
-      let start : xs ≡ done ++ (closed.gap ++ (front ++ x ∷ (tail ++ rest))) =
-      closed.is ∙ ap (λ ys. done ++ (closed.gap ++ ys)) (next_row rows i h ∙ ap (λ ys. ys ++ rest) parts ∙ append_assoc front (x ∷ tail) rest) in
-      let first = one.is done closed.gap front (x ∷ (tail ++ rest)) start (done_long ∙ sym e1) (closed.many ∙ sym e2) front_long in
-      let gap : List A = first.moved ++ x ∷ [] in
-      let gap_long : length gap ≡ gap_second = length_push first.moved x ∙ omega (arith, length_permutation closed.gap first.moved first.same, closed.many, e4) in
-      let apart : ys ≡ (done ++ front) ++ (gap ++ (tail ++ rest)) =
-      first.is ∙ sym (append_assoc done front (first.moved ++ x ∷ (tail ++ rest))) ∙ ap (λ us. (done ++ front) ++ us) (sym (append_assoc first.moved (x ∷ []) (tail ++ rest))) in
-      let second = two.is (done ++ front) gap tail rest apart (length-append done front ∙ omega (arith, done_long, front_long, e3)) gap_long tail_long in
-      let grown : joined (map f (take (i + 1) rows)) ≡ done ++ f row = ap joined (map_more f rows i [] h) ∙ joined-push (map f (take i rows)) (f row) in
-      record {
-        gap = second.moved;
-        many = length_permutation gap second.moved second.same ∙ omega (arith, gap_long, e4);
-        is = second.is ∙ sym (append_assoc (done ++ front) tail (second.moved ++ rest)) ∙ ap (λ us. us ++ (second.moved ++ rest)) (append_assoc done front tail ∙ sym grown);
-      }
+    -- the n cells from j on were taken out of each of the first i rows, and lie behind these
+    pub record ClosedUp (rows : List (List A)) (i : ℕ) (cells : List A) : Type 0 where
+      pub gap : List A
+      pub many : length gap ≡ i * n
+      pub is : cells ≡ joined (map shorter (take i rows)) ++ (gap ++ joined (drop i rows))
 
-  pub closed_all : (c j i : ℕ) (rows : List (List A)) (cells : List A) (n : ℕ) → AreWide c rows → j < c → length rows ≡ i → ClosedUp j rows i cells → n ≡ i * (c - 1) → take n cells ≡ joined (map (λ (row : List A). remove row j) rows)
-  closed_all c j i rows cells n w j_in h closed e =
-      let all : take i rows ≡ rows = take_all i rows (omega (arith, h)) in
-      ap (take n) closed.is ∙ take_at _ (closed.gap ++ joined (drop i rows)) n (length-removed c rows i j w j_in (omega (arith, h)) ∙ sym e) ∙ ap (λ zs. joined (map (λ (row : List A). remove row j) zs)) all
+    pub closed_none : (r : ℕ) (xs : List A) → length xs ≡ r * c → ClosedUp (chunks r c xs) 0 xs
+    closed_none r xs h = record { gap = []; many = omega arith; is = sym (joined-chunks r c xs h) }
+
+    length-shorter : (rows : List (List A)) (i : ℕ) → AreWide c rows → j + n ≤ c → i ≤ length rows → length (joined (map shorter (take i rows))) ≡ i * (c - n)
+    length-shorter rows i w h l =
+        length-joined (c - n) _ (all-map _ _ shorter (λ row e. omega (arith, length-append (take j row) (drop (j + n) row), length-take-le j row (omega (arith, e, h)), length-drop (j + n) row, e, h)) (take i rows) (all-take _ i rows w))
+        ∙ ap (λ m. m * (c - n)) (length-map (take i rows) shorter ∙ length-take-le i rows l)
+
+    pub closed_more : (i : ℕ) (rows : List (List A)) (xs ys zs : List A) (to_first gap_first to_second gap_second m : ℕ) → AreWide c rows → j + n ≤ c → i < length rows → ClosedUp rows i xs →
+        Slid xs ys to_first gap_first j → Slid ys zs to_second gap_second m → to_first ≡ i * (c - n) → gap_first ≡ i * n → to_second ≡ i * (c - n) + j → gap_second ≡ i * n + n → m ≡ c - n - j → ClosedUp rows (i + 1) zs
+    closed_more i rows xs ys zs to_first gap_first to_second gap_second m w within h closed one two e1 e2 e3 e4 e5 =
+        let done : List A = joined (map shorter (take i rows)) in
+        let row : List A = get_or rows i [] in
+        let rest : List A = joined (drop (i + 1) rows) in
+        let long : length row ≡ c = row_long c rows i w h in
+        let done_long : length done ≡ i * (c - n) = length-shorter rows i w within (omega (arith, h)) in
+        let front : List A = take j row in
+        let out : List A = take n (drop j row) in
+        let tail : List A = drop (j + n) row in
+        let front_long : length front ≡ j = length-take-le j row (omega (arith, long, within)) in
+        let out_long : length out ≡ n = length-take-le n (drop j row) (omega (arith, length-drop j row, long, within)) in
+        let tail_long : length tail ≡ m = length-drop (j + n) row ∙ omega (arith, long, e5) in
+        let parts : row ≡ front ++ (out ++ tail) = sym (take-append-drop j row) ∙ ap (λ ys. front ++ ys) (sym (take-append-drop n (drop j row)) ∙ ap (λ ys. out ++ ys) (drop-drop n j row)) in
+        let start : xs ≡ done ++ (closed.gap ++ (front ++ (out ++ (tail ++ rest)))) =
+        closed.is ∙ ap (λ ys. done ++ (closed.gap ++ ys)) (next_row rows i h ∙ ap (λ ys. ys ++ rest) parts ∙ append_assoc front (out ++ tail) rest ∙ ap (λ ys. front ++ ys) (append_assoc out tail rest)) in
+        let first = one.is done closed.gap front (out ++ (tail ++ rest)) start (done_long ∙ sym e1) (closed.many ∙ sym e2) front_long in
+        let gap : List A = first.moved ++ out in
+        let gap_long : length gap ≡ gap_second = length-append first.moved out ∙ omega (arith, length_permutation closed.gap first.moved first.same, closed.many, out_long, e4) in
+        let apart : ys ≡ (done ++ front) ++ (gap ++ (tail ++ rest)) =
+        first.is ∙ sym (append_assoc done front (first.moved ++ (out ++ (tail ++ rest)))) ∙ ap (λ us. (done ++ front) ++ us) (sym (append_assoc first.moved out (tail ++ rest))) in
+        let second = two.is (done ++ front) gap tail rest apart (length-append done front ∙ omega (arith, done_long, front_long, e3)) gap_long tail_long in
+        let grown : joined (map shorter (take (i + 1) rows)) ≡ done ++ shorter row = ap joined (map_more shorter rows i [] h) ∙ joined-push (map shorter (take i rows)) (shorter row) in
+        record {
+          gap = second.moved;
+          many = length_permutation gap second.moved second.same ∙ gap_long ∙ e4 ∙ sym (add-mul i 1 n ∙ omega arith);
+          is = second.is ∙ sym (append_assoc (done ++ front) tail (second.moved ++ rest)) ∙ ap (λ us. us ++ (second.moved ++ rest)) (append_assoc done front tail ∙ sym grown);
+        }
+
+    pub closed_all : (i : ℕ) (rows : List (List A)) (cells : List A) (m : ℕ) → AreWide c rows → j + n ≤ c → length rows ≡ i → ClosedUp rows i cells → m ≡ i * (c - n) → take m cells ≡ joined (map shorter rows)
+    closed_all i rows cells m w within h closed e =
+        ap (take m) closed.is ∙ take_at _ (closed.gap ++ joined (drop i rows)) m (length-shorter rows i w within (omega (arith, h)) ∙ sym e)
+        ∙ ap (λ zs. joined (map shorter zs)) (take_all i rows (omega (arith, h)))
+
+    -- where these are the last ones, the first ones stay
+    pub shorter-last : (rows : List (List A)) → AreWide c rows → c ≡ j + n → map shorter rows ≡ map (λ (row : List A). take j row) rows
+    shorter-last [] w e = refl
+    shorter-last (row ∷ rows) w e = ap₂ (λ x xs. x ∷ xs) (ap (λ ys. take j row ++ ys) (drop_all (j + n) row (omega (arith, w.0, e))) ∙ append-nil (take j row)) (shorter-last rows w.1 e)

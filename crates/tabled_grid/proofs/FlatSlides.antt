@@ -1,5 +1,5 @@
 -- Runs of items that trade places with a gap.
-use Rattle.std.proofs.Common.{◌≡◌, ℕ, ◌+◌, ◌-◌, List, ◌++◌, sym, ap, ap₂, ◌∙◌, subst, length, take, drop, arith, IsPermutation, [], ◌∷◌, ◌<◌, refl}
+use Rattle.std.proofs.Common.{◌≡◌, ℕ, ◌+◌, ◌-◌, List, ◌++◌, sym, ap, ap₂, ◌∙◌, subst, length, take, drop, arith, IsPermutation, ◌<◌}
 use Rattle.std.specs.List.{AllByRecursion}
 use Rattle.std.proofs.lemmas.List.{append_assoc, length-append, length-drop, length-take-le, take-append-drop, take_at, drop_at}
 use Rattle.std.proofs.lemmas.List.Elements.{All-from_recursion, recursion_from_All}
@@ -99,14 +99,3 @@ module _ {A : Type 0} where
           is = is ∙ rw (before_is old p run g rest from k e lp l, behind_is old p run g rest from k e lp l, middle) (ap (λ xs. p ++ xs) (append_assoc g run rest));
         };
   }
-
-  -- a list that has a last item
-  pub record Unsnoc (xs : List A) : Type 0 where
-    pub front : List A
-    pub last : A
-    pub is : xs ≡ front ++ last ∷ []
-
-  pub unsnoc : (xs : List A) → 0 < length xs → Unsnoc xs
-  unsnoc [] h = absurd (omega (arith, h))
-  unsnoc (x ∷ []) h = record { front = []; last = x; is = refl }
-  unsnoc (x ∷ (y ∷ xs)) h = let u = unsnoc (y ∷ xs) (omega arith) in record { front = x ∷ u.front; last = u.last; is = ap (λ ys. x ∷ ys) u.is }

@@ -1,14 +1,14 @@
 -- What one list of cells shows of its grid, cell by cell.
-use Rattle.std.proofs.Common.{◌≡◌, ℕ, zero, suc, ◌+◌, ◌*◌, ◌-◌, ◌<◌, ◌≤◌, ◌≢◌, List, [], ◌∷◌, ◌++◌, Some, ◌⊎◌, inl, inr, refl, sym, ap, ap₂, ◌∙◌, false, eqb, min, max, length, map, take, drop, set, arith}
+use Rattle.std.proofs.Common.{◌≡◌, ℕ, suc, ◌+◌, ◌*◌, ◌-◌, ◌<◌, ◌≤◌, ◌≢◌, List, [], ◌∷◌, ◌++◌, Some, ◌⊎◌, inl, inr, refl, sym, ap, ap₂, ◌∙◌, false, eqb, min, max, length, map, take, drop, set, arith}
 use Rattle.std.specs.Prelude.{slice_get}
-use Rattle.std.specs.List.{AllByRecursion, remove, swap}
+use Rattle.std.specs.List.{swap}
 use Rattle.std.proofs.lemmas.Bool.{ne_eqb, cases_lt}
-use Rattle.std.proofs.lemmas.List.{drop_at, length-drop, length-take-le, take_at}
+use Rattle.std.proofs.lemmas.List.{append-nil, drop_all, drop_at, take_all, take_at}
 use Rattle.std.proofs.lemmas.Nat.{mul-add-lt}
 use Rattle.std.proofs.lemmas.Option.{slice_get-get_or}
 use Rattle.tabled_grid.specs.declared.config.position.Position.{Position}
 use Rattle.tabled_grid.specs.Grid.{IsEven, IsInside, cell_at, width_of, with_cell}
-use Rattle.tabled_grid.specs.Resized.{AreBlanks, InsertsColumn, InsertsRow, with_cells_swapped, with_column, with_columns_swapped, with_row, with_rows_swapped, without_column, without_row}
+use Rattle.tabled_grid.specs.Resized.{AreBlanks, InsertsBlank, InsertsColumn, InsertsRow, with_cells_swapped, with_column, with_columns_swapped, with_row, with_rows_swapped, without_column, without_row}
 use Rattle.tabled_grid.proofs.Blanks.{blank_column}
 use Rattle.tabled_grid.proofs.FirstLines.{IsEven-first}
 use Rattle.tabled_grid.proofs.Grids.{IsEven-with_cell}
@@ -19,10 +19,12 @@ use Rattle.tabled_grid.specs.Flat.{IsFull, chunks, flat_grid, joined}
 use Rattle.tabled_grid.specs.Bulk.{AddsColumns, AddsRows}
 use Rattle.tabled_grid.proofs.AddedColumns.{IsEven-adds_columns}
 use Rattle.tabled_grid.proofs.AddedRows.{IsEven-adds_rows}
-use Rattle.tabled_grid.proofs.Lists.{all-drop, all-take}
-use Rattle.tabled_grid.specs.Moves.{AddsBlanks, InsertsBlanks, PutsBlanks, WidensRows, with_runs_swapped}
+use Rattle.tabled_grid.proofs.Lists.{all-zip-map}
+use Rattle.tabled_grid.specs.Moves.{AddsBlanks, InsertsBlanks, PutsBlanks, with_runs_swapped}
 use Rattle.tabled_grid.proofs.Flat.{full_of, is_even, joined-chunks, length-chunks, view_of}
 use Rattle.tabled_grid.proofs.FlatCells.{cell-joined, written-joined, swapped-joined}
+use Rattle.tabled_grid.proofs.FlatColumns.{shorter-last}
+use Rattle.tabled_grid.proofs.Through.{blank_chunks}
 use Rattle.tabled_grid.proofs.FlatRows.{joined-append, joined-insert, joined-remove, joined-swap, row-joined, swap-turned, take-joined}
 
 -- without rows there is no first one
@@ -30,11 +32,22 @@ pub no_width : {A : Type 0} (rows : List (List A)) → length rows ≡ 0 → wid
 no_width [] h = refl
 no_width (row ∷ rows) h = absurd (omega (arith, h))
 
--- rows cut out of blanks
-blank_chunks : {A : Type 0} (is_blank : A → Type 0) (r c : ℕ) (xs : List A) → length xs ≡ r * c → AllByRecursion is_blank xs → AllByRecursion (AreBlanks is_blank c) (chunks r c xs)
-blank_chunks is_blank zero c xs h b = tt
-blank_chunks is_blank (suc r) c xs h b =
-    (record { blank = all-take is_blank c xs b; many = length-take-le c xs (omega (arith, h)) }, blank_chunks is_blank r c (drop c xs) (omega (arith, h, length-drop c xs)) (all-drop is_blank c xs b))
+module _ {A : Type 0} (is_blank : A → Type 0) where
+  -- one blank, and blanks behind the last cell
+  one_blank : (j : ℕ) (old new : List A) → InsertsBlanks is_blank old new j 1 → InsertsBlank is_blank j old new
+  one_blank j old new put = only put.cells put.blanks put.is
+    where
+      only : (cells : List A) → AreBlanks is_blank 1 cells → new ≡ take j old ++ (cells ++ drop j old) → InsertsBlank is_blank j old new
+      only [] b e = absurd (omega (arith, b.many))
+      only (x ∷ []) b e = record { cell = x; blank = b.blank.0; is = e }
+      only (x ∷ (y ∷ xs)) b e = absurd (omega (arith, b.many))
+
+  last_blanks : (c many : ℕ) (old new : List A) → length old ≡ c → InsertsBlanks is_blank old new c many → AddsBlanks is_blank old new many
+  last_blanks c many old new long put = record {
+    cells = put.cells;
+    blanks = put.blanks;
+    is = put.is ∙ ap₂ (λ us vs. us ++ (put.cells ++ vs)) (take_all c old (omega (arith, long))) (drop_all c old (omega (arith, long))) ∙ ap (λ us. old ++ us) (append-nil put.cells);
+  }
 
 module _ {A : Type 0} (r c : ℕ) (xs : List A) (h : IsFull r c xs) where
   pub cells_are : xs ≡ joined (flat_grid r c xs).cells
@@ -142,50 +155,52 @@ module _ {A : Type 0} (r c : ℕ) (xs : List A) (h : IsFull r c xs) where
   pub columns_swapped : (j k : ℕ) (new : List A) → new ≡ joined (map (λ (row : List A). swap row j k) (chunks r c xs)) → flat_grid r c new ≡ with_columns_swapped (flat_grid r c xs) j k
   columns_swapped j k new is = view_of (with_columns_swapped (flat_grid r c xs) j k) r c new (IsEven-with_columns_swapped _ (is_even r c xs h) j k) refl refl is
 
-  pub column_removed : (j : ℕ) (new : List A) → j < c → new ≡ joined (map (λ (row : List A). remove row j) (chunks r c xs)) → flat_grid r (c - 1) new ≡ without_column (flat_grid r c xs) j
-  column_removed j new within is = view_of (without_column (flat_grid r c xs) j) r (c - 1) new (IsEven-without_column _ (is_even r c xs h) j within) refl refl is
+  pub column_removed : (j : ℕ) (new : List A) → j < c → new ≡ joined (map (λ (row : List A). take j row ++ drop (j + 1) row) (chunks r c xs)) → flat_grid r (c - 1) new ≡ without_column (flat_grid r c xs) j
+  column_removed j new within is =
+      let next : j + 1 ≡ suc j = omega arith in
+      view_of (without_column (flat_grid r c xs) j) r (c - 1) new (IsEven-without_column _ (is_even r c xs h) j within) refl refl
+      (is ∙ ap (λ (n : ℕ). joined (map (λ (row : List A). take j row ++ drop n row) (chunks r c xs))) next)
 
-  pub columns_cut : (n : ℕ) (new : List A) → n ≤ c → new ≡ joined (map (λ (row : List A). take n row) (chunks r c xs)) → flat_grid r n new ≡ first_along Columns n (flat_grid r c xs)
-  columns_cut n new within is = view_of (first_along Columns n (flat_grid r c xs)) r n new (IsEven-first Columns n _ within (is_even r c xs h)) refl refl is
+  pub columns_cut : (n : ℕ) (new : List A) → n ≤ c → new ≡ joined (map (λ (row : List A). take n row ++ drop (n + (c - n)) row) (chunks r c xs)) → flat_grid r n new ≡ first_along Columns n (flat_grid r c xs)
+  columns_cut n new within is =
+      view_of (first_along Columns n (flat_grid r c xs)) r n new (IsEven-first Columns n _ within (is_even r c xs h)) refl refl
+      (is ∙ ap joined (shorter-last c n (c - n) (chunks r c xs) (is_even r c xs h).wide (omega (arith, within))))
 
-  module _ (is_blank : A → Type 0) (room : List A) (put : AddsBlanks is_blank xs room r) where
-    -- the blanks lie behind the cells
-    pub blanks_behind : AreBlanks is_blank r (drop (r * c) room)
-    blanks_behind = rw (put.is, drop_at xs put.cells (r * c) h.full) put.blanks
+  module _ (is_blank : A → Type 0) (k : ℕ) (room : List A) (put : AddsBlanks is_blank xs room k) where
+    -- so many blanks lie behind the cells
+    pub blanks_put : AreBlanks is_blank k (drop (r * c) room)
+    blanks_put = rw (put.is, drop_at xs put.cells (r * c) h.full) put.blanks
 
-    pub column_inserted : (j : ℕ) (new : List A) → j ≤ c → r ≢ 0 → PutsBlanks is_blank (chunks r c (take (r * c) room)) new j → InsertsColumn is_blank (flat_grid r c xs) (flat_grid r (c + 1) new) j
+    before : take (r * c) room ≡ xs
+    before = ap (take (r * c)) put.is ∙ take_at xs put.cells (r * c) h.full
+
+    pub column_inserted : (j : ℕ) (new : List A) → j ≤ c → r ≢ 0 → PutsBlanks is_blank (chunks r c (take (r * c) room)) new j 1 → InsertsColumn is_blank (flat_grid r c xs) (flat_grid r (c + 1) new) j
     column_inserted j new within some spread =
-        let before : take (r * c) room ≡ xs = ap (take (r * c)) put.is ∙ take_at xs put.cells (r * c) h.full in
-        let b = blank_column is_blank j (chunks r c xs) spread.wide (rw before at spread.each) in
+        let even : IsEven (flat_grid r c xs) = is_even r c xs h in
+        let b = blank_column is_blank j (chunks r c xs) spread.wide (all-zip-map _ _ _ (λ row w _ i. one_blank is_blank j row w i) (chunks r c xs) spread.wide even.wide (rw before at spread.each)) in
         let long : length b.column ≡ r = b.blanks.many ∙ row_count in
         let several : eqb r 0 ≡ false = ne_eqb r 0 some in
         record {
           column = b.column;
           blanks = record { blank = b.blanks.blank; many = long };
-          is = view_of (with_column (flat_grid r c xs) j b.column) r (c + 1) new (IsEven-with_column _ j b.column within long (is_even r c xs h)) refl (rw several refl) (spread.is ∙ ap joined b.is);
+          is = view_of (with_column (flat_grid r c xs) j b.column) r (c + 1) new (IsEven-with_column _ j b.column within long even) refl (rw several refl) (spread.is ∙ ap joined b.is);
         }
+
+    module _ (many n : ℕ) (new : List A) (some : r ≢ 0) (e : n ≡ c + many) (puts : PutsBlanks is_blank (chunks r c (take (r * c) room)) new c many) where
+      adds : AddsColumns is_blank many (flat_grid r c xs) (record { rows = r; columns = n; cells = puts.wide })
+      adds =
+          let several : eqb r 0 ≡ false = ne_eqb r 0 some in
+          record { rows = refl; columns = rw several e; each = all-zip-map _ _ _ (λ row w long i. last_blanks is_blank c many row w long i) (chunks r c xs) puts.wide (is_even r c xs h).wide (rw before at puts.each) }
+
+      even : IsEven (record { rows = r; columns = n; cells = puts.wide })
+      even = IsEven-adds_columns is_blank many (flat_grid r c xs) _ adds (is_even r c xs h)
+
+      pub columns_put : AddsColumns is_blank many (flat_grid r c xs) (flat_grid r n new)
+      columns_put = rw (view_of (record { rows = r; columns = n; cells = puts.wide }) r n new even refl refl puts.is) adds
+
+      pub full_put : IsFull r n new
+      full_put = full_of (record { rows = r; columns = n; cells = puts.wide }) r n new even refl refl puts.is (λ (z : r ≡ 0). absurd (some z))
 
   -- without rows there are no columns to put
   pub columns_put_none : (is_blank : A → Type 0) (many : ℕ) → r ≡ 0 → AddsColumns is_blank many (flat_grid r c xs) (flat_grid r c xs)
   columns_put_none is_blank many e = rw e (record { rows = refl; columns = refl; each = tt })
-
-  module _ (is_blank : A → Type 0) (many k : ℕ) (room : List A) (put : AddsBlanks is_blank xs room k) where
-    -- so many blanks lie behind the cells
-    pub blanks_put : AreBlanks is_blank k (drop (r * c) room)
-    blanks_put = rw (put.is, drop_at xs put.cells (r * c) h.full) put.blanks
-
-    module _ (n : ℕ) (new : List A) (some : r ≢ 0) (e : n ≡ c + many) (widens : WidensRows is_blank (chunks r c (take (r * c) room)) new many) where
-      adds : AddsColumns is_blank many (flat_grid r c xs) (record { rows = r; columns = n; cells = widens.wide })
-      adds =
-          let before : take (r * c) room ≡ xs = ap (take (r * c)) put.is ∙ take_at xs put.cells (r * c) h.full in
-          let several : eqb r 0 ≡ false = ne_eqb r 0 some in
-          record { rows = refl; columns = rw several e; each = rw before at widens.each }
-
-      even : IsEven (record { rows = r; columns = n; cells = widens.wide })
-      even = IsEven-adds_columns is_blank many (flat_grid r c xs) _ adds (is_even r c xs h)
-
-      pub columns_put : AddsColumns is_blank many (flat_grid r c xs) (flat_grid r n new)
-      columns_put = rw (view_of (record { rows = r; columns = n; cells = widens.wide }) r n new even refl refl widens.is) adds
-
-      pub full_put : IsFull r n new
-      full_put = full_of (record { rows = r; columns = n; cells = widens.wide }) r n new even refl refl widens.is (λ (z : r ≡ 0). absurd (some z))

@@ -141,17 +141,6 @@ within_widened s t p w rows columns is positive inside fits within = record { ta
     wide a (inl e) h = subst (λ (x : Position). x.col + (t x).1 ≤ columns) (sym e) (rw is.here fits)
     wide a (inr n) h = rw (is.others a n) (within.wide a (rw (is.others a n) at h))
 
-pub full_widened : (s t : Sizes) (p : Position) (w : ℕ) → Widened s t p w → 1 ≤ w → Full s → Full t
-full_widened s t p w is positive full = record { height = λ a. height a (cases_place a p); width = λ a. width a (cases_place a p) }
-  where
-    height : (a : Position) → (a ≡ p) ⊎ (a ≢ p) → 1 ≤ (t a).0
-    height a (inl e) = subst (λ (x : Position). 1 ≤ (t x).0) (sym e) (rw is.here (full.height p))
-    height a (inr n) = rw (is.others a n) (full.height a)
-
-    width : (a : Position) → (a ≡ p) ⊎ (a ≢ p) → 1 ≤ (t a).1
-    width a (inl e) = subst (λ (x : Position). 1 ≤ (t x).1) (sym e) (rw is.here positive)
-    width a (inr n) = rw (is.others a n) (full.width a)
-
 pub flat_widened : (s t : Sizes) (p : Position) (w : ℕ) → Widened s t p w → Flat s → Flat t
 flat_widened s t p w is flat = record { height = λ a. height a (cases_place a p) }
   where

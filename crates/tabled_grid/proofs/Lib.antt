@@ -13,14 +13,12 @@ pub mod FittingAnchors
 pub mod Flat
 pub mod FlatCells
 pub mod FlatColumns
-pub mod FlatFronts
 pub mod FlatPieces
 pub mod FlatRows
 pub mod FlatSlides
 pub mod FlatSplits
 pub mod FlatSpreads
 pub mod FlatStore
-pub mod FlatWidened
 pub mod Geometry
 pub mod Grids
 pub mod Hiders

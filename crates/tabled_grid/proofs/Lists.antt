@@ -2,7 +2,7 @@
 use Rattle.std.proofs.Common.{◌≡◌, ℕ, zero, suc, List, [], ◌∷◌, ◌++◌, refl, sym, ap, ap₂, ◌∙◌, map, take, drop, get_or, set}
 use Rattle.std.proofs.lemmas.List.{map-append, map-set, take-map, drop-map}
 use Rattle.std.proofs.Math.ListN.{get_or-map}
-use Rattle.std.specs.List.{AllByRecursion, insert, remove, swap, zip}
+use Rattle.std.specs.List.{AllByRecursion, AllZip, insert, remove, swap, zip}
 
 module _ {A : Type 0} (P : A → Type 0) where
   pub all-append : (xs ys : List A) → AllByRecursion P xs → AllByRecursion P ys → AllByRecursion P (xs ++ ys)
@@ -47,6 +47,13 @@ module _ {A : Type 0} (P : A → Type 0) where
   pub all-map : {B : Type 0} (Q : B → Type 0) (f : A → B) → ((x : A) → P x → Q (f x)) → (xs : List A) → AllByRecursion P xs → AllByRecursion Q (map f xs)
   all-map Q f h [] a = tt
   all-map Q f h (x ∷ xs) a = (h x a.0, all-map Q f h xs a.1)
+
+-- what follows from the relation of two members and a property of the first
+pub all-zip-map : {A B : Type 0} (P : A → Type 0) (R S : A → B → Type 0) → ((x : A) (y : B) → P x → R x y → S x y) → (xs : List A) (ys : List B) → AllByRecursion P xs → AllZip R xs ys → AllZip S xs ys
+all-zip-map P R S f [] [] a h = tt
+all-zip-map P R S f [] (y ∷ ys) a h = absurd h
+all-zip-map P R S f (x ∷ xs) [] a h = absurd h
+all-zip-map P R S f (x ∷ xs) (y ∷ ys) a h = (f x y a.0 h.0, all-zip-map P R S f xs ys a.1 h.1)
 
 module _ {A B : Type 0} (f : A → B) where
   pub map-swap : (xs : List A) (i j : ℕ) → map f (swap xs i j) ≡ swap (map f xs) i j

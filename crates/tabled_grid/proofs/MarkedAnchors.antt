@@ -14,12 +14,8 @@ use Rattle.tabled_grid.specs.Anchors.{Anchor, dropped, is_hidden_in, marked, unl
 use Rattle.tabled_grid.specs.Rectangles.{in_rect}
 use Rattle.tabled_grid.specs.Entity.{same_place}
 use Rattle.tabled_grid.proofs.Geometry.{In}
-use Rattle.tabled_grid.proofs.SpanMaps.{halves, in_rect-true, less, same_place-self}
+use Rattle.tabled_grid.proofs.SpanMaps.{both, halves, in_rect-true, less, same_place-self}
 use Rattle.tabled_grid.proofs.PassedAnchors.{Earlier, earlier, places_apart}
-
-both : (a b : Bool) → T a → T b → T (a && b)
-both true b p q = q
-both false b p q = p
 
 -- a mark keeps the place
 place_kept : (by e : Anchor) → (unless_held by e).0 ≡ e.0

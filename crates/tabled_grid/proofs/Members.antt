@@ -1,6 +1,6 @@
 -- What stands in a list.
 use Rattle.std.proofs.Common.{◌≡◌, ℕ, zero, suc, ◌+◌, ◌-◌, ◌<◌, ◌≤◌, ◌⊎◌, inl, inr, Bool, true, false, cond, List, [], ◌∷◌, ◌++◌, map, Some, refl, sym, ap, ap₂, subst, ◌∙◌, arith}
-use Rattle.std.specs.Prelude.{T, ◌&&◌}
+use Rattle.std.specs.Prelude.{T}
 use Rattle.std.specs.FinMap.{IsAntisymmetric, find, is_sorted}
 use Rattle.std.specs.FinMap.Entries.{below_all}
 use Rattle.std.specs.List.{filter, flat_map, list_all, list_any, range_with_len}
@@ -13,7 +13,7 @@ use Rattle.std.proofs.lemmas.Cmp.{tied_itself}
 use Rattle.std.proofs.lemmas.Option.{none-some, same_Some}
 use Rattle.tabled_grid.specs.Entity.{block, place, row_places}
 use Rattle.tabled_grid.specs.declared.config.position.Position.{Position}
-use Rattle.tabled_grid.proofs.SpanMaps.{equal, halves, less}
+use Rattle.tabled_grid.proofs.SpanMaps.{both, equal, halves, less}
 
 abbrev pub Member : {A : Type 0} → A → List A → Type 0
 Member x [] = ⊥
@@ -190,22 +190,14 @@ module _ {K X : Type 0} (R : K → K → Ordering) (o : IsTotalOrder R) (exact :
   below-filter test k [] below = tt
   below-filter test k (e ∷ es) below = by (test e) (halves _ _ below) (below-filter test k es)
     where
-      joined : (b : Bool) (c : Bool) → T b → T c → T (b && c)
-      joined true c b h = h
-      joined false c b h = absurd b
-
       by : (b : Bool) → T (is_lt (R k e.0)) × T (below_all R k es) → (T (below_all R k es) → T (below_all R k (filter test es))) → T (below_all R k (cond b (e ∷ filter test es) (filter test es)))
-      by true parts go = joined _ _ parts.0 (go parts.1)
+      by true parts go = both _ _ parts.0 (go parts.1)
       by false parts go = go parts.1
 
   pub sorted-filter : (test : K × X → Bool) (es : List (K × X)) → T (is_sorted R es) → T (is_sorted R (filter test es))
   sorted-filter test [] up = tt
   sorted-filter test (e ∷ es) up = by (test e) (halves _ _ up) (sorted-filter test es)
     where
-      joined : (b : Bool) (c : Bool) → T b → T c → T (b && c)
-      joined true c b h = h
-      joined false c b h = absurd b
-
       by : (b : Bool) → T (below_all R e.0 es) × T (is_sorted R es) → (T (is_sorted R es) → T (is_sorted R (filter test es))) → T (is_sorted R (cond b (e ∷ filter test es) (filter test es)))
-      by true parts go = joined _ _ (below-filter test e.0 es parts.0) (go parts.1)
+      by true parts go = both _ _ (below-filter test e.0 es parts.0) (go parts.1)
       by false parts go = go parts.1

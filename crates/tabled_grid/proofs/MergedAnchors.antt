@@ -13,7 +13,8 @@ use Rattle.std.proofs.Math.ListN.{drop_of_length-le}
 use Rattle.std.proofs.Math.Seq.{drop-cons}
 use borrow.Author.Tests.{eq-eqb}
 use Rattle.tabled_grid.proofs.Spans.{Makes, positions_exact, positions_total, with_anchor, without_anchor}
-use Rattle.tabled_grid.proofs.SpanMaps.{halves, less}
+use Rattle.tabled_grid.proofs.SortedEntries.{above, is_less}
+use Rattle.tabled_grid.proofs.SpanMaps.{both, halves, less}
 use Rattle.tabled_grid.specs.Anchors.{Anchor, anchor_of, with_size_in, with_sizes_in, without_first_at}
 use Rattle.tabled_grid.specs.Spans.{AreAnchors, IsSizeAt, IsSpanSize, position_cmp, with_size, with_sizes}
 use Rattle.tabled_grid.specs.declared.config.position.Position.{Position}
@@ -31,20 +32,10 @@ kept c es = cond (is_one c) es (c ∷ es)
 abbrev pub Below : Position → List Anchor → Type 0
 Below p es = T (below_all position_cmp p es)
 
-both : (a b : Bool) → T a → T b → T (a && b)
-both true b p q = q
-both false b p q = p
-
-from_less : (p q : Position) → position_cmp p q ≡ Less → T (is_lt (position_cmp p q))
-from_less p q h = subst (λ r. T (is_lt r)) (sym h) tt
-
-above : (p q : Position) → position_cmp p q ≡ Less → position_cmp q p ≡ Greater
-above p q h = positions_total.antisymm q p ∙ ap ordering_reverse h
-
 -- what is below a place is below all that the place is below
 pub below_more : (p q : Position) (es : List Anchor) → position_cmp p q ≡ Less → Below q es → Below p es
 below_more p q [] h b = tt
-below_more p q (e ∷ es) h b = let parts = halves _ _ b in both _ _ (from_less p e.0 (positions_total.trans p q e.0 h (less _ parts.0))) (below_more p q es h parts.1)
+below_more p q (e ∷ es) h b = let parts = halves _ _ b in both _ _ (is_less _ (positions_total.trans p q e.0 h (less _ parts.0))) (below_more p q es h parts.1)
 
 -- a size at a place after the first anchor leaves that anchor first
 after_first : (e c : Anchor) (es : List Anchor) → position_cmp e.0 c.0 ≡ Less → with_size_in (e ∷ es) c ≡ e ∷ with_size_in es c
@@ -52,8 +43,8 @@ unfolding is_one differs
 after_first e c es h = either (cases_Bool (is_one c))
   where
     either : (is_one c ≡ true) ⊎ (is_one c ≡ false) → with_size_in (e ∷ es) c ≡ e ∷ with_size_in es c
-    either (inl t) = rw (t, above e.0 c.0 h) refl
-    either (inr f) = rw (f, above e.0 c.0 h) refl
+    either (inl t) = rw (t, above positions_total e.0 c.0 h) refl
+    either (inr f) = rw (f, above positions_total e.0 c.0 h) refl
 
 -- sizes after the first anchor leave it first
 pub first_stays : (e : Anchor) (es sizes : List Anchor) → Below e.0 sizes → with_sizes_in (e ∷ es) sizes ≡ e ∷ with_sizes_in es sizes
@@ -133,7 +124,7 @@ at_front c (e ∷ es) up from = either (position_cmp e.0 c.0) refl from
     either Equal is below = here c e es is (halves _ _ up).0
     either Greater is below =
         let first : position_cmp c.0 e.0 ≡ Less = positions_total.antisymm c.0 e.0 ∙ ap ordering_reverse is in
-        before c (e ∷ es) (both _ _ (from_less c.0 e.0 first) (below_more c.0 e.0 es first (halves _ _ up).0))
+        before c (e ∷ es) (both _ _ (is_less _ first) (below_more c.0 e.0 es first (halves _ _ up).0))
 
 rest_sorted : (c : Anchor) (es : List Anchor) → T (is_sorted position_cmp es) → T (is_sorted position_cmp (without_first_at c.0 es))
 rest_sorted c [] up = tt
@@ -161,7 +152,7 @@ module _ (merged all_anchors all_sizes : List Anchor) where
   -- an anchor before the next size
   pub anchor_passed : (e c : Anchor) (es cs : List Anchor) → position_cmp e.0 c.0 ≡ Less → IsMerged merged (e ∷ es) (c ∷ cs) all_anchors all_sizes → IsMerged (merged ++ (e ∷ [])) es (c ∷ cs) all_anchors all_sizes
   anchor_passed e c es cs first m =
-      let later : Below e.0 (c ∷ cs) = both _ _ (from_less e.0 c.0 first) (below_more e.0 c.0 cs first (halves _ _ m.sizes_sorted).0) in
+      let later : Below e.0 (c ∷ cs) = both _ _ (is_less _ first) (below_more e.0 c.0 cs first (halves _ _ m.sizes_sorted).0) in
       record {
         sorted = (halves _ _ m.sorted).1;
         sizes_sorted = m.sizes_sorted;

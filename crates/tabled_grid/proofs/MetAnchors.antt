@@ -5,7 +5,7 @@ use Rattle.std.specs.FinMap.{is_sorted}
 use Rattle.std.specs.FinMap.Entries.{below_all}
 use Rattle.std.specs.List.{filter, list_all, list_any}
 use Rattle.std.specs.declared.cmp.Ordering.TheVariants.{Less}
-use Rattle.std.proofs.lemmas.Bool.{and_parts}
+use Rattle.std.proofs.lemmas.Bool.{and_parts, and_right, not-true, or_right}
 use Rattle.std.proofs.lemmas.List.{append-nil, drop-drop, drop-set-lt, drop_all, drop_at, drop_more, get_or_default, length-drop, length-replicate, length-take, take-append-drop, take_all, take_at, take_more, take_more_set}
 use Rattle.std.proofs.lemmas.List.Elements.{filter_more}
 use Rattle.std.proofs.lemmas.List.Folds.{list_all-append, list_any_more}
@@ -21,11 +21,9 @@ use Rattle.tabled_grid.proofs.PassedAnchors.{all_after, apart_over, places_apart
 use Rattle.tabled_grid.proofs.SpanMaps.{halves, less, same_place-self}
 
 module _ (by : Anchor) where
-  -- a mark stays where the rectangle does not meet
-  mark_kept : (m met : Bool) → not met ≡ true → (m || met) ≡ m
-  mark_kept true met h = refl
-  mark_kept false true h = sym h
-  mark_kept false false h = refl
+  or_false : (a b : Bool) → b ≡ false → (a || b) ≡ a
+  or_false true b h = refl
+  or_false false b h = h
 
   pub marks-over : (n : ℕ) (es : List Anchor) (marks : List Bool) → length marks ≡ length es → list_all (λ (e : Anchor). not (meets by e)) (take n es) ≡ true → take n marks ++ with_met by (drop n es) (drop n marks) ≡ with_met by es marks
   marks-over zero es marks long h = refl
@@ -34,7 +32,7 @@ module _ (by : Anchor) where
   marks-over (suc n) (e ∷ es) [] long h = absurd (omega (arith, long))
   marks-over (suc n) (e ∷ es) (m ∷ marks) long h =
       let parts = and_parts (not (meets by e)) (list_all (λ (f : Anchor). not (meets by f)) (take n es)) h in
-      ap₂ (λ x xs. x ∷ xs) (sym (mark_kept m (meets by e) parts.0)) (marks-over n es marks (omega (arith, long)) parts.1)
+      ap₂ (λ x xs. x ∷ xs) (sym (or_false m (meets by e) (not-true _ parts.0))) (marks-over n es marks (omega (arith, long)) parts.1)
 
   -- the marks from the first to an index are made, and those from there on are as they were
   pub record Walked (es : List Anchor) (old : List Bool) (k : ℕ) (marks : List Bool) (alone : Bool) : Type 0 where
@@ -46,18 +44,6 @@ module _ (by : Anchor) where
     at_mark : k < length es → Walked es old k marks alone → with_met by (drop k es) (drop k marks) ≡ (get_or marks k false || meets by (get_or es k d)) ∷ with_met by (drop (k + 1) es) (drop (k + 1) marks)
     at_mark here walked = let within : k < length marks = omega (arith, walked.long) in ap₂ (with_met by) (drop_more es k d here) (drop_more marks k false within)
 
-    both_false : (a b : Bool) → b ≡ false → (a && b) ≡ false
-    both_false true b h = h
-    both_false false b h = refl
-
-    or_true : (a b : Bool) → b ≡ true → (a || b) ≡ true
-    or_true true b h = refl
-    or_true false b h = h
-
-    or_false : (a b : Bool) → b ≡ false → (a || b) ≡ a
-    or_false true b h = refl
-    or_false false b h = h
-
     pub walked-met : k < length es → meets by (get_or es k d) ≡ true → length (set marks k true) ≡ length marks → Walked es old k marks alone → Walked es old (k + 1) (set marks k true) false
     walked-met here met same walked =
         let within : k < length marks = omega (arith, walked.long) in
@@ -65,10 +51,10 @@ module _ (by : Anchor) where
           long = same ∙ walked.long;
           marked = ap₂ (λ xs ys. xs ++ with_met by (drop (k + 1) es) ys) (take_more_set marks k true within) (drop-set-lt (k + 1) marks k true (omega arith))
               ∙ append_assoc (take k marks) (true ∷ []) (with_met by (drop (k + 1) es) (drop (k + 1) marks))
-              ∙ ap (λ m. take k marks ++ m ∷ with_met by (drop (k + 1) es) (drop (k + 1) marks)) (sym (or_true (get_or marks k false) _ met))
+              ∙ ap (λ m. take k marks ++ m ∷ with_met by (drop (k + 1) es) (drop (k + 1) marks)) (sym (or_right (get_or marks k false) _ met))
               ∙ ap (λ xs. take k marks ++ xs) (sym (at_mark here walked))
               ∙ walked.marked;
-          all = sym (both_false alone (list_all (λ (e : Anchor). not (meets by e)) (drop k es)) (ap (list_all (λ (e : Anchor). not (meets by e))) (drop_more es k d here) ∙ ap (λ b. not b && list_all (λ (e : Anchor). not (meets by e)) (drop (k + 1) es)) met)) ∙ walked.all;
+          all = sym (and_right alone (list_all (λ (e : Anchor). not (meets by e)) (drop k es)) (ap (list_all (λ (e : Anchor). not (meets by e))) (drop_more es k d here) ∙ ap (λ b. not b && list_all (λ (e : Anchor). not (meets by e)) (drop (k + 1) es)) met)) ∙ walked.all;
         }
 
     pub walked-out : (n : ℕ) → k < length es → meets by (get_or es k d) ≡ false → list_all (λ (e : Anchor). not (meets by e)) (take n (take (length es - (k + 1)) (drop (k + 1) es))) ≡ true → Walked es old k marks alone → Walked es old (k + (1 + n)) marks alone
@@ -104,7 +90,7 @@ module _ (by : Anchor) where
       none (f ∷ fs) [] long h = refl
       none (f ∷ fs) (m ∷ ms) long h =
           let parts = and_parts (not (meets by f)) (list_all (λ (g : Anchor). not (meets by g)) fs) h in
-          ap₂ (λ x xs. x ∷ xs) (mark_kept m (meets by f) parts.0) (none fs ms (omega (arith, long)) parts.1)
+          ap₂ (λ x xs. x ∷ xs) (or_false m (meets by f) (not-true _ parts.0)) (none fs ms (omega (arith, long)) parts.1)
 
   pub marks-map : (t u : Anchor → Bool) → ((e : Anchor) → (t e || meets by e) ≡ u e) → (es : List Anchor) → with_met by es (map t es) ≡ map u es
   marks-map t u more [] = refl

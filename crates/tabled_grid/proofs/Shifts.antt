@@ -1,13 +1,13 @@
 -- Anchors when a line is put in: one after another in a list, and in the map that it makes.
 use Rattle.std.proofs.Common.{◌≡◌, ℕ, zero, suc, ◌+◌, ◌^◌, ◌<◌, ◌≤◌, inl, inr, ◌⊎◌, Bool, true, false, List, [], ◌∷◌, None, Some, Option, refl, sym, ap, ap₂, arith, length, get_or, set, map}
-use Rattle.std.specs.Prelude.{◌&&◌, T, nat_lt}
+use Rattle.std.specs.Prelude.{T, nat_lt}
 use Rattle.std.specs.declared.cmp.Ordering.{Ordering}
 use Rattle.std.specs.declared.cmp.Ordering.TheVariants.{Less, Equal, Greater}
 use Rattle.std.specs.FinMap.{is_sorted}
 use Rattle.std.specs.FinMap.Entries.{below_all}
 use Rattle.std.specs.List.{AllByRecursion, filter}
 use Rattle.std.specs.Option.{is_some, unwrap_or}
-use Rattle.std.specs.Ordering.{MatchOrdering, is_lt, nat_cmp, ordering_then}
+use Rattle.std.specs.Ordering.{MatchOrdering, nat_cmp, ordering_then}
 use Rattle.std.proofs.lemmas.Bool.{cases_Bool}
 use Rattle.std.proofs.lemmas.Cmp.{ranked}
 use Rattle.std.proofs.lemmas.Option.{none-some, same_Some}
@@ -20,7 +20,8 @@ use Rattle.tabled_grid.specs.declared.config.position.Position.{Position}
 use Rattle.tabled_grid.specs.declared.records.axis.Axis.{Axis}
 use Rattle.tabled_grid.specs.declared.records.axis.Axis.TheVariants.{Rows, Columns}
 use Rattle.tabled_grid.proofs.PassedAnchors.{Earlier, earlier}
-use Rattle.tabled_grid.proofs.SpanMaps.{halves, less}
+use Rattle.tabled_grid.proofs.SortedEntries.{is_less}
+use Rattle.tabled_grid.proofs.SpanMaps.{both, halves, less}
 
 -- a list whose first k items were changed
 abbrev pub first_changed : {X : Type 0} → (X → X) → ℕ → List X → List X
@@ -104,13 +105,6 @@ from_earlier p q e = by_row (nat_cmp p.row q.row) refl (ranked p.row q.row (nat_
     by_row Equal is m (inr e) = by_col m e.1 (nat_cmp p.col q.col) (ranked p.col q.col (nat_cmp p.col q.col) refl)
     by_row Greater is m (inl e) = absurd (omega arith)
     by_row Greater is m (inr e) = absurd (omega arith)
-
-both : (a b : Bool) → T a → T b → T (a && b)
-both true b p q = q
-both false b p q = p
-
-is_less : (o : Ordering) → o ≡ Less → T (is_lt o)
-is_less o e = rw e tt
 
 module _ (axis : Axis) (from : ℕ) where
   below_shifted : (x y : Position) (es : List Anchor) → shifted_place axis from x ≡ Some y → T (below_all position_cmp x es) → T (below_all position_cmp y (shifted_in axis from es))

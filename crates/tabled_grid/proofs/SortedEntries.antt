@@ -13,17 +13,24 @@ use Rattle.std.specs.FinMap.Entries.{below_all, by_order, put, where_key, find-w
 use Rattle.std.proofs.lemmas.Bool.{cases_lt}
 use Rattle.std.proofs.lemmas.List.Sorted.{searchable_from_sorted}
 
--- the two halves of a test
-halves : (a b : Bool) → T (a && b) → T a × T b
+-- the two halves of a test, and a test of them
+pub halves : (a b : Bool) → T (a && b) → T a × T b
 halves true b h = (tt, h)
 halves false b h = absurd h
 
-less : (o : Ordering) → T (is_lt o) → o ≡ Less
+pub both : (a b : Bool) → T a → T b → T (a && b)
+both true b p q = q
+both false b p q = p
+
+pub less : (o : Ordering) → T (is_lt o) → o ≡ Less
 less Less h = refl
 less Equal h = absurd h
 less Greater h = absurd h
 
-above : {K : Type 0} {R : K → K → Ordering} (o : IsTotalOrder R) (x y : K) → R x y ≡ Less → R y x ≡ Greater
+pub is_less : (o : Ordering) → o ≡ Less → T (is_lt o)
+is_less o e = rw e tt
+
+pub above : {K : Type 0} {R : K → K → Ordering} (o : IsTotalOrder R) (x y : K) → R x y ≡ Less → R y x ≡ Greater
 above o x y h = o.antisymm y x ∙ ap ordering_reverse h
 
 turned : {A : Type 0} (b : Bool) (x y : A) → cond (not b) x y ≡ cond b y x

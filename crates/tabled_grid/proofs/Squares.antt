@@ -4,14 +4,14 @@ use Rattle.std.specs.List.{AllByRecursion}
 use Rattle.std.proofs.lemmas.Bool.{eqb-true, ne_eqb}
 use Rattle.tabled_grid.specs.declared.config.position.Position.{Position}
 use Rattle.tabled_grid.specs.Along.{first_along}
-use Rattle.tabled_grid.specs.Bulk.{AddsColumns, AddsRows, HalfTransposed, HalfTransposedIn, cell_in, transposed, transposed_rows}
+use Rattle.tabled_grid.specs.Bulk.{AddsColumns, AddsRows, cell_in, transposed, transposed_rows}
 use Rattle.tabled_grid.specs.Grid.{Grid, IsEmptyWithoutRows, IsEven, IsInside}
 use Rattle.tabled_grid.specs.Resized.{with_cells_swapped}
 use Rattle.tabled_grid.specs.declared.records.axis.Axis.TheVariants.{Rows, Columns}
 use Rattle.tabled_grid.proofs.Across.{same_grid}
 use Rattle.tabled_grid.proofs.AddedColumns.{IsEven-adds_columns}
 use Rattle.tabled_grid.proofs.AddedRows.{IsEven-adds_rows}
-use Rattle.tabled_grid.proofs.Diagonal.{all_transposed, half_begun, half_more, half_none, half_row}
+use Rattle.tabled_grid.proofs.Diagonal.{HalfTransposed, all_transposed, half_more, half_none}
 use Rattle.tabled_grid.proofs.Resized.{IsEven-with_cells_swapped}
 use Rattle.tabled_grid.proofs.SwappedCells.{Swaps, views_swapped}
 use Rattle.tabled_grid.proofs.Transposed.{at-transposed, cell_in-is, length-transposed, same_rows, transposed_some, wide-transposed}
@@ -71,56 +71,25 @@ module _ {A : Type 0} (is_blank : A → Type 0) where
         columns = columns.columns ∙ wide_enough (eqb grown.rows 0) grown.columns more size (λ is. let no_rows = eqb-true grown.rows 0 is in omega (arith, none no_rows, no_rows, high)) (omega (arith, broad, wide));
       }
 
-  pub square_begins : (size many more : ℕ) (old grown square : Grid A) → old.rows + many ≡ size → AddsRows is_blank many old grown → AddsColumns is_blank more grown square → HalfTransposedIn is_blank size 0 0 old square
-  square_begins size many more old grown square tall rows columns = record {
-    many = many;
-    grown = grown;
-    more = more;
-    square = square;
-    tall = tall;
-    rows_added = rows;
-    columns_added = columns;
-    turned = half_none _ size;
-  }
+  -- a grid was padded with blanks to a square, and the cells before a place of its upper half have changed places
+  pub record HalfTransposedIn (size i j : ℕ) (old new : Grid A) : Type 0 where
+    pub many : ℕ
+    pub grown : Grid A
+    pub more : ℕ
+    pub square : Grid A
+    pub tall : old.rows + many ≡ size
+    pub rows_added : AddsRows is_blank many old grown
+    pub columns_added : AddsColumns is_blank more grown square
+    pub turned : HalfTransposed (cell_in square) (cell_in new) size i j
 
-  module _ (old cur : Grid A) (size i j : ℕ) (t : HalfTransposedIn is_blank size i j old cur) where
-    pub square_more : (new : Grid A) (p q : Position) (next : ℕ) → next ≡ j + 1 → i < j → p.row ≡ i → p.col ≡ j → q.row ≡ j → q.col ≡ i → j < size → Square size cur → new ≡ with_cells_swapped cur p q → HalfTransposedIn is_blank size i next old new
-    square_more new p q next e h pr pc qr qc below s is = record {
-      many = t.many;
-      grown = t.grown;
-      more = t.more;
-      square = t.square;
-      tall = t.tall;
-      rows_added = t.rows_added;
-      columns_added = t.columns_added;
-      turned = turned_more t.square cur new size i j t.turned p q next e h pr pc qr qc below s is;
-    }
+  pub square_begins : (size many more : ℕ) (old grown square : Grid A) → old.rows + many ≡ size → AddsRows is_blank many old grown → AddsColumns is_blank more grown square → HalfTransposedIn size 0 0 old square
+  square_begins size many more old grown square tall rows columns = record { many = many; grown = grown; more = more; square = square; tall = tall; rows_added = rows; columns_added = columns; turned = half_none _ size }
 
-    pub square_row : (next : ℕ) → next ≡ i + 1 → size ≤ j → HalfTransposedIn is_blank size next next old cur
-    square_row next e h = record {
-      many = t.many;
-      grown = t.grown;
-      more = t.more;
-      square = t.square;
-      tall = t.tall;
-      rows_added = t.rows_added;
-      columns_added = t.columns_added;
-      turned = half_row _ (cell_in cur) size i j next e h t.turned;
-    }
+  -- what comes of a square comes of one that was padded
+  pub square_more : (old cur new : Grid A) (size i j k l : ℕ) → HalfTransposedIn size i j old cur → ((square : Grid A) → HalfTransposed (cell_in square) (cell_in cur) size i j → HalfTransposed (cell_in square) (cell_in new) size k l) → HalfTransposedIn size k l old new
+  square_more old cur new size i j k l t next = record { many = t.many; grown = t.grown; more = t.more; square = t.square; tall = t.tall; rows_added = t.rows_added; columns_added = t.columns_added; turned = next t.square t.turned }
 
-  module _ (old cur : Grid A) (size i : ℕ) (t : HalfTransposedIn is_blank size i i old cur) where
-    pub square_begun : (next : ℕ) → next ≡ i + 1 → HalfTransposedIn is_blank size i next old cur
-    square_begun next e = record {
-      many = t.many;
-      grown = t.grown;
-      more = t.more;
-      square = t.square;
-      tall = t.tall;
-      rows_added = t.rows_added;
-      columns_added = t.columns_added;
-      turned = half_begun _ (cell_in cur) size i next e t.turned;
-    }
-
+  module _ (old cur : Grid A) (size i : ℕ) (t : HalfTransposedIn size i i old cur) where
     module _ (even : IsEven old) (s : Square size cur) (wide : old.columns ≤ size) (all : size ≤ i) where
       pub square_cut : (front new : Grid A) (r c : ℕ) → r ≡ old.rows → c ≡ old.columns → 0 < c → front ≡ first_along Rows c cur → new ≡ first_along Columns r front → new ≡ transposed old
       square_cut = transposed_some is_blank old t.grown t.square cur size t.many t.more even t.rows_added t.columns_added t.tall wide (all_transposed _ (cell_in cur) size i all t.turned) s.even s.rows s.columns

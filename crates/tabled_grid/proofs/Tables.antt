@@ -97,9 +97,6 @@ get-rows f a (suc n) m (suc i) j k d h l e =
 table-is : (f : Position → ℕ) (rows columns : ℕ) → table f rows columns ≡ rows_of f 0 rows columns
 table-is f rows columns = ap (map f) (block-is 0 rows 0 columns rows columns (omega arith) (omega arith)) ∙ rows-are f 0 rows columns
 
-pub length-table : (f : Position → ℕ) (rows columns : ℕ) → length (table f rows columns) ≡ rows * columns
-length-table f rows columns = ap length (table-is f rows columns) ∙ length-rows f 0 rows columns
-
 pub table-agree : (f g : Position → ℕ) (rows columns : ℕ) → ((i j : ℕ) → i < rows → j < columns → f (place i j) ≡ g (place i j)) → table f rows columns ≡ table g rows columns
 table-agree f g rows columns h = table-is f rows columns ∙ rows-agree f g 0 rows columns (λ i j l k u. h i j (omega arith) u) ∙ sym (table-is g rows columns)
 

@@ -13,6 +13,8 @@ use Rattle.tabled_grid.specs.Places.{FillsThrough, Places, TakesOnce, Within}
 use Rattle.tabled_grid.specs.Resized.{AreBlanks}
 use Rattle.tabled_grid.specs.declared.config.position.Position.{Position}
 use Rattle.tabled_grid.proofs.AddedLines.{blank_at}
+use Rattle.std.proofs.lemmas.Option.{none-some, same_Some}
+use Rattle.tabled_grid.proofs.AddedRows.{wide_blanks}
 use Rattle.tabled_grid.proofs.Lists.{all-drop, all-take}
 use Rattle.tabled_grid.proofs.Grids.{IsEven-with_cell, cell_at-with_cell_other, cell_at-with_cell_same}
 
@@ -33,18 +35,6 @@ pub record MovesThrough {A : Type 0} (is_blank : A → Type 0) (places : Places)
   pub done : (p q : Position) → Within places p → Before i j p → places.old_place p ≡ Some q → cell_at new p ≡ cell_at old q
   pub left : (p q : Position) → Within places p → NotBefore i j p → places.old_place p ≡ Some q → cell_at now q ≡ cell_at old q
   pub blank : (p : Position) → Within places p → NotBefore i j p ⊎ (places.old_place p ≡ None) → (c : A) × is_blank c × (cell_at new p ≡ Some c)
-
-none_some : (o : Option Position) (q : Position) → o ≡ None → o ≡ Some q → ⊥
-none_some o q e f = differ (sym e ∙ f)
-  where
-    differ : None ≡ Some q → ⊥
-    differ is = cc
-
-one_some : (o : Option Position) (q r : Position) → o ≡ Some q → o ≡ Some r → q ≡ r
-one_some o q r e f = same (sym e ∙ f)
-  where
-    same : Some q ≡ Some r → q ≡ r
-    same is = cc
 
 if_some : (o : Option Position) (P : Position → Type 0) → ((q : Position) → o ≡ Some q → P q) → IfSome o P
 if_some None P h = tt
@@ -116,7 +106,7 @@ module _ {A : Type 0} (is_blank : A → Type 0) (places : Places) (old : Grid A)
       even = m.even;
       rows = m.rows;
       columns = m.columns;
-      done = λ p q w before is. m.done p q w (earlier p i j next e before (λ same. none_some (places.old_place p) q (ap places.old_place same ∙ gap) is)) is;
+      done = λ p q w before is. m.done p q w (earlier p i j next e before (λ same. none-some q (sym (ap places.old_place same ∙ gap) ∙ is))) is;
       left = λ p q w after is. m.left p q w (later p i j next e after) is;
       blank = λ p w which. m.blank p w (wider p which);
     }
@@ -151,7 +141,7 @@ module _ {A : Type 0} (is_blank : A → Type 0) (places : Places) (old : Grid A)
 
           done : (p q : Position) → Within places p → Before i next p → places.old_place p ≡ Some q → (p ≡ place i j) ⊎ (p ≢ place i j) → cell_at new_new p ≡ cell_at old q
           done p q w before is (inl same) =
-              let old_is : from ≡ q = one_some (places.old_place (place i j)) from q takes (ap places.old_place (sym same) ∙ is) in
+              let old_is : from ≡ q = same_Some from q (sym takes ∙ ap places.old_place (sym same) ∙ is) in
               ap (cell_at new_new) same
               ∙ ap (λ (g : Grid A). cell_at g (place i j)) x.is_there
               ∙ cell_at-with_cell_same new (place i j) x.here m.even to_inside
@@ -169,7 +159,7 @@ module _ {A : Type 0} (is_blank : A → Type 0) (places : Places) (old : Grid A)
 
           blank : (p : Position) → Within places p → NotBefore i next p ⊎ (places.old_place p ≡ None) → (c : A) × is_blank c × (cell_at new_new p ≡ Some c)
           blank p w (inl after) = let c = m.blank p w (inl (later p i j next e after)) in (c.0, c.1, kept p (off_place p i j next e after) ∙ c.2)
-          blank p w (inr none) = let c = m.blank p w (inr none) in (c.0, c.1, kept p (λ same. none_some (places.old_place p) from none (ap places.old_place same ∙ takes)) ∙ c.2)
+          blank p w (inr none) = let c = m.blank p w (inr none) in (c.0, c.1, kept p (λ same. none-some from (sym none ∙ ap places.old_place same ∙ takes)) ∙ c.2)
 
   -- one row more
   pub through_row : (i j next : ℕ) (now new : Grid A) → next ≡ i + 1 → places.columns ≤ j → MovesThrough is_blank places i j old now new → MovesThrough is_blank places next 0 old now new
@@ -215,12 +205,8 @@ module _ {A : Type 0} (is_blank : A → Type 0) (places : Places) (old : Grid A)
 
 -- rows of blanks are a grid
 pub blank_rows : {A : Type 0} (is_blank : A → Type 0) (columns : ℕ) (cells : List (List A)) → 0 < length cells → AllByRecursion (AreBlanks is_blank columns) cells → IsEven (grid_of cells) × (width_of cells ≡ columns)
-blank_rows {A} is_blank columns cells some blanks = (record { tall = refl; wide = subst (λ (n : ℕ). AllByRecursion (λ (row : List A). length row ≡ n) cells) (sym (width cells some blanks)) (long cells blanks) }, width cells some blanks)
+blank_rows {A} is_blank columns cells some blanks = (record { tall = refl; wide = subst (λ (n : ℕ). AllByRecursion (λ (row : List A). length row ≡ n) cells) (sym (width cells some blanks)) (wide_blanks is_blank columns cells blanks) }, width cells some blanks)
   where
     width : (rows : List (List A)) → 0 < length rows → AllByRecursion (AreBlanks is_blank columns) rows → width_of rows ≡ columns
     width [] h all = absurd (omega (arith, h))
     width (row ∷ rows) h all = all.0.many
-
-    long : (rows : List (List A)) → AllByRecursion (AreBlanks is_blank columns) rows → AllByRecursion (λ (row : List A). length row ≡ columns) rows
-    long [] all = tt
-    long (row ∷ rows) all = (all.0.many, long rows all.1)

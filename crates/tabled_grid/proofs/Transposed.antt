@@ -68,10 +68,6 @@ module _ {A : Type 0} where
       ap₂ (λ z zs. z ∷ zs) (same_list r x y v.0 w.0 (λ b l. e 0 b (omega arith) l))
       (same_rows n r xs ys (omega arith) (omega arith) v.1 w.1 (λ a b l m. e (suc a) b (omega arith) m))
 
-  -- cells in front of rows
-  fronted : List A → List (List A) → List (List A)
-  fronted row rows = map (λ (p : A × List A). p.0 ∷ p.1) (zip row rows)
-
   at_front : (row : List A) (rows : List (List A)) (a : ℕ) → length row ≡ length rows → slice_get (get_or (map (λ (p : A × List A). p.0 ∷ p.1) (zip row rows)) a []) 0 ≡ slice_get row a
   at_front [] [] a e = refl
   at_front [] (r ∷ rows) a e = absurd (omega arith)

@@ -1,5 +1,5 @@
 -- Grids with many rows or columns more, and grids whose rows are columns.
-use Rattle.std.specs.Prelude.{◌≡◌, ◌≤◌, ◌<◌, ◌⊎◌, ◌==◌, ℕ, ◌+◌, if◌then◌else◌, List, [], ◌∷◌, ◌++◌, Option, None, Some, length, map, replicate, slice_index_or}
+use Rattle.std.specs.Prelude.{◌≡◌, ◌==◌, ℕ, ◌+◌, if◌then◌else◌, List, [], ◌∷◌, ◌++◌, Option, None, Some, length, map, replicate, slice_index_or}
 use Rattle.std.specs.List.{AllByRecursion, AllZip, zip}
 use Rattle.tabled_grid.specs.Entity.{place}
 use Rattle.tabled_grid.specs.Grid.{Grid, cell_at, map_grid, with_cell}
@@ -37,22 +37,6 @@ turned_places rows columns = record { rows = columns; columns = rows; old_place 
 -- the cell in a row and a column, none outside
 abbrev pub cell_in : {A : Type 0} → Grid A → ℕ → ℕ → Option A
 cell_in g a b = slice_index_or (slice_index_or (map_grid Some g).cells a []) b None
-
--- of a square, the cells before a place of its upper half, row by row, have changed places with those across the diagonal
-pub record HalfTransposed {B : Type 0} (old new : ℕ → ℕ → B) (size i j : ℕ) : Type 0 where
-  pub done : (a b : ℕ) → a ≤ b → b < size → (a < i) ⊎ ((a ≡ i) × (b < j)) → (new a b ≡ old b a) × (new b a ≡ old a b)
-  pub left : (a b : ℕ) → a ≤ b → (i < a) ⊎ ((a ≡ i) × (j ≤ b)) → (new a b ≡ old a b) × (new b a ≡ old b a)
-
--- the same of a grid that was padded to a square with blanks
-pub record HalfTransposedIn {A : Type 0} (is_blank : A → Type 0) (size i j : ℕ) (old new : Grid A) : Type 0 where
-  pub many : ℕ
-  pub grown : Grid A
-  pub more : ℕ
-  pub square : Grid A
-  pub tall : old.rows + many ≡ size
-  pub rows_added : AddsRows is_blank many old grown
-  pub columns_added : AddsColumns is_blank more grown square
-  pub turned : HalfTransposed (cell_in square) (cell_in new) size i j
 
 -- a cell of one grid and a cell of another have changed places
 pub record Exchanges {A : Type 0} (p q : Position) (old new other_old other_new : Grid A) : Type 0 where

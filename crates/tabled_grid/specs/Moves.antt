@@ -1,7 +1,7 @@
 -- What moves of cells in one list leave.
 use Rattle.std.specs.Prelude.{◌≡◌, ℕ, IsPermutation, List, ◌++◌, length, take, drop}
 use Rattle.std.specs.List.{AllZip}
-use Rattle.tabled_grid.specs.Resized.{AreBlanks, InsertsBlank}
+use Rattle.tabled_grid.specs.Resized.{AreBlanks}
 use Rattle.tabled_grid.specs.Flat.{joined}
 
 -- so many blanks are inserted before a place
@@ -30,10 +30,10 @@ pub record Slid {A : Type 0} (old new : List A) (to gap count : ℕ) : Type 0 wh
 pub record SlidBack {A : Type 0} (old new : List A) (from count gap : ℕ) : Type 0 where
   pub is : (p run g rest : List A) → old ≡ p ++ (run ++ (g ++ rest)) → length p ≡ from → length run ≡ count → length g ≡ gap → GapThenRun new p g run rest
 
--- a blank is inserted into each row before place j
-pub record PutsBlanks {A : Type 0} (is_blank : A → Type 0) (rows : List (List A)) (cells : List A) (j : ℕ) : Type 0 where
+-- so many blanks are inserted into each row before place j
+pub record PutsBlanks {A : Type 0} (is_blank : A → Type 0) (rows : List (List A)) (cells : List A) (j many : ℕ) : Type 0 where
   pub wide : List (List A)
-  pub each : AllZip (InsertsBlank is_blank j) rows wide
+  pub each : AllZip (λ (row w : List A). InsertsBlanks is_blank row w j many) rows wide
   pub is : cells ≡ joined wide
 
 -- two runs of so many items swapped, where the first ends before the second
@@ -46,9 +46,3 @@ pub record AddsBlanks {A : Type 0} (is_blank : A → Type 0) (old new : List A) 
   pub cells : List A
   pub blanks : AreBlanks is_blank count cells
   pub is : new ≡ old ++ cells
-
--- so many blanks are put behind each row
-pub record WidensRows {A : Type 0} (is_blank : A → Type 0) (rows : List (List A)) (cells : List A) (many : ℕ) : Type 0 where
-  pub wide : List (List A)
-  pub each : AllZip (λ (row w : List A). AddsBlanks is_blank row w many) rows wide
-  pub is : cells ≡ joined wide

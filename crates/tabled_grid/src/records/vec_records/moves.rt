@@ -6,7 +6,7 @@ ghost use Rattle.std.specs.Vec.Iter.{into_iter_items};
 ghost use Rattle.tabled_grid.specs.Grid.{map_items};
 ghost use Rattle.tabled_grid.specs.Resized.{AreBlanks};
 ghost use Rattle.tabled_grid.specs.Flat.{chunks, joined};
-ghost use Rattle.tabled_grid.specs.Moves.{AddsBlanks, InsertsBlanks, PutsBlanks, Slid, SlidBack, WidensRows, with_runs_swapped};
+ghost use Rattle.tabled_grid.specs.Moves.{AddsBlanks, InsertsBlanks, PutsBlanks, Slid, SlidBack, with_runs_swapped};
 
 use crate::records::blank::Blank;
 use crate::records::nested_rows::moves::fill;
@@ -97,53 +97,32 @@ fn slide_back<T>(cells: &mut [T], from: usize, count: usize, gap: usize)
     }
 }
 
-/// Brings the last cells, one for each row, into the rows before them, before place `j` of each.
-pub(super) fn spread<T: Blank>(cells: &mut [T], rows: usize, columns: usize, j: usize)
-    requires size { length cells.old ≡ rows * columns + rows }
-    requires within { j ≤ columns }
-    requires blanks { AreBlanks T.is_blank rows (drop (rows * columns) cells.old) }
-    ensures { PutsBlanks T.is_blank (chunks rows columns (take (rows * columns) cells.old)) cells.new j }
-{
-    for n in 0..rows {
-        let i = rows - 1 - n;
-        slide_back(cells, i * columns + j, columns - j, i + 1);
-        slide_back(cells, i * columns, j, i);
-    }
-}
-
-/// Brings each row but the first behind the blanks of those before it, so that `many` of the last cells
-/// lie behind each.
-pub(super) fn widen<T: Blank>(cells: &mut [T], rows: usize, columns: usize, many: usize)
+/// Brings so many of the last cells into each of the rows before them, before place `j`.
+pub(super) fn spread<T: Blank>(cells: &mut [T], rows: usize, columns: usize, j: usize, many: usize)
     requires size { length cells.old ≡ rows * columns + rows * many }
+    requires within { j ≤ columns }
     requires blanks { AreBlanks T.is_blank (rows * many) (drop (rows * columns) cells.old) }
-    ensures { WidensRows T.is_blank (chunks rows columns (take (rows * columns) cells.old)) cells.new many }
+    ensures { PutsBlanks T.is_blank (chunks rows columns (take (rows * columns) cells.old)) cells.new j many }
 {
     for n in 0..rows {
         let i = rows - 1 - n;
-        slide_back(cells, i * columns, columns, i * many);
+        let left = i * many;
+        slide_back(cells, i * columns + j, columns - j, left + many);
+        slide_back(cells, i * columns, j, left);
     }
 }
 
-/// Brings the cells that are not in column `j` forward, and leaves the others behind them.
-pub(super) fn close_up<T>(cells: &mut [T], rows: usize, columns: usize, j: usize)
+/// Brings all cells but the `count` of each row from column `j` on forward, and leaves those behind them.
+pub(super) fn close_up<T>(cells: &mut [T], rows: usize, columns: usize, j: usize, count: usize)
     requires size { length cells.old ≡ rows * columns }
-    requires within { j < columns }
-    ensures { take (rows * (columns - 1)) cells.new ≡ joined (map (λ (row : List T). remove row j) (chunks rows columns cells.old)) }
+    requires within { j + count ≤ columns }
+    ensures { take (rows * (columns - count)) cells.new ≡ joined (map (λ (row : List T). take j row ++ drop (j + count) row) (chunks rows columns cells.old)) }
 {
+    let left = columns - count;
     for i in 0..rows {
-        slide(cells, i * (columns - 1), i, j);
-        slide(cells, i * (columns - 1) + j, i + 1, columns - 1 - j);
-    }
-}
-
-/// Brings the first `count` cells of each row forward, and leaves the others behind them.
-pub(super) fn keep_fronts<T>(cells: &mut [T], rows: usize, columns: usize, count: usize)
-    requires size { length cells.old ≡ rows * columns }
-    requires within { count ≤ columns }
-    ensures { take (rows * count) cells.new ≡ joined (map (λ (row : List T). take count row) (chunks rows columns cells.old)) }
-{
-    for i in 0..rows {
-        slide(cells, i * count, i * (columns - count), count);
+        let gap = i * count;
+        slide(cells, i * left, gap, j);
+        slide(cells, i * left + j, gap + count, left - j);
     }
 }
 

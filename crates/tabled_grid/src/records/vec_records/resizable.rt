@@ -2,8 +2,7 @@
 
 use super::VecRecords;
 use super::moves::{
-    close_up, insert_blanks, keep_fronts, push_blanks, remove_run, spread, swap_each, swap_runs,
-    widen,
+    close_up, insert_blanks, push_blanks, remove_run, spread, swap_each, swap_runs,
 };
 use crate::config::Position;
 use crate::records::axis::Axis;
@@ -39,7 +38,7 @@ impl<T: Blank> Resizable for VecRecords<T> {
             return Ok(());
         }
         push_blanks(alloc, &mut self.cells, self.rows)?;
-        spread(&mut self.cells, self.rows, self.columns, j);
+        spread(&mut self.cells, self.rows, self.columns, j, 1);
         self.columns += 1;
         Ok(())
     }
@@ -53,7 +52,7 @@ impl<T: Blank> Resizable for VecRecords<T> {
     }
 
     fn remove_column(&mut self, j: usize) {
-        close_up(&mut self.cells, self.rows, self.columns, j);
+        close_up(&mut self.cells, self.rows, self.columns, j, 1);
         self.columns -= 1;
         self.cells.truncate(self.rows * self.columns);
     }
@@ -112,7 +111,7 @@ impl<T: Blank> Resizable for VecRecords<T> {
             return Err(AllocError);
         };
         push_blanks(alloc, &mut self.cells, count)?;
-        widen(&mut self.cells, self.rows, self.columns, many);
+        spread(&mut self.cells, self.rows, self.columns, self.columns, many);
         self.columns = columns;
         Ok(())
     }
@@ -122,7 +121,13 @@ impl<T: Blank> Resizable for VecRecords<T> {
         if count == self.columns {
             return;
         }
-        keep_fronts(&mut self.cells, self.rows, self.columns, count);
+        close_up(
+            &mut self.cells,
+            self.rows,
+            self.columns,
+            count,
+            self.columns - count,
+        );
         self.columns = count;
         self.cells.truncate(self.rows * count);
     }

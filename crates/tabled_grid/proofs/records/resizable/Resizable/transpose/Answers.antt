@@ -1,5 +1,6 @@
 use Rattle.std.proofs.Common.{◌≡◌, ◌+◌, ◌-◌, refl, arith}
-use Rattle.tabled_grid.proofs.Squares.{square_begins, square_begun, square_cut, square_made, square_more, square_row, square_swapped}
+use Rattle.tabled_grid.proofs.Squares.{square_begins, square_cut, square_made, square_more, square_swapped, turned_more}
+use Rattle.tabled_grid.proofs.Diagonal.{half_begun, half_row}
 use Rattle.tabled_grid.proofs.Transposed.{transposed_none}
 use Rattle.tabled_grid.proofs.records.resizable.Resizable.transpose.Goals as goal
 
@@ -15,7 +16,7 @@ loop-i-init g c =
     }
 
 pub loop-j-init : goal.loop-j-init
-loop-j-init g c = let i = c.loop-i.invariant in record { well = i.well; square = i.square; turned = square_begun _ _ _ _ _ i.turned (c.loop-i.i + 1) refl }
+loop-j-init g c = let i = c.loop-i.invariant in record { well = i.well; square = i.square; turned = square_more _ _ _ _ _ _ _ _ _ i.turned (λ _ t. half_begun _ _ _ c.loop-i.i (c.loop-i.i + 1) refl t) }
 
 pub swap-requires-clause-p_inside : goal.swap-requires-clause-p_inside
 swap-requires-clause-p_inside g c = let i = c.loop-j.invariant in record { row = omega (arith, i.square.rows, c.loop-i-test.true); col = omega (arith, i.square.columns, c.loop-j-test.true) }
@@ -29,13 +30,13 @@ loop-j-preserved g c =
     record {
       well = c.swap.ensures.well;
       square = square_swapped _ _ _ _ _ i.square c.swap.ensures.swapped;
-      turned = square_more _ _ _ _ c.loop-i.i c.loop-j.j i.turned _ (record { row = c.loop-i.i; col = c.loop-j.j }) (record { row = c.loop-j.j; col = c.loop-i.i }) (c.loop-j.j + 1) refl (omega (arith, c.loop-j.auto.j)) refl refl refl refl (omega (arith, c.loop-j-test.true)) i.square c.swap.ensures.swapped;
+      turned = square_more _ _ _ _ _ _ _ _ _ i.turned (λ s t. turned_more s _ _ _ c.loop-i.i c.loop-j.j t (record { row = c.loop-i.i; col = c.loop-j.j }) (record { row = c.loop-j.j; col = c.loop-i.i }) (c.loop-j.j + 1) refl (omega (arith, c.loop-j.auto.j)) refl refl refl refl (omega (arith, c.loop-j-test.true)) i.square c.swap.ensures.swapped);
     }
 
 pub loop-i-preserved : goal.loop-i-preserved
 loop-i-preserved g c =
     let i = c.loop-j.invariant in
-    record { well = i.well; square = i.square; turned = square_row _ _ _ _ _ _ i.turned (c.loop-i.i + 1) refl (omega (arith, c.loop-j-test.false)) }
+    record { well = i.well; square = i.square; turned = square_more _ _ _ _ _ _ _ _ _ i.turned (λ _ t. half_row _ _ _ c.loop-i.i c.loop-j.j (c.loop-i.i + 1) refl (omega (arith, c.loop-j-test.false)) t) }
 
 pub returns-then-columns-eq0-clause-ok : goal.returns-then-columns-eq0-clause-ok
 returns-then-columns-eq0-clause-ok g c = transposed_none _ _ c.count_rows-rows.ensures.even (omega (arith, c.count_columns-columns.ensures.columns, c.if-columns-eq0.true)) c.truncate_rows.ensures.first

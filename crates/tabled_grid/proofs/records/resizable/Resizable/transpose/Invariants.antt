@@ -1,5 +1,4 @@
-use Rattle.tabled_grid.specs.Bulk.{HalfTransposedIn}
-use Rattle.tabled_grid.proofs.Squares.{Square}
+use Rattle.tabled_grid.proofs.Squares.{HalfTransposedIn, Square}
 use Rattle.tabled_grid.proofs.records.resizable.Resizable.transpose.Given as goal
 
 abbrev pub invariant-loop-i : goal.invariant-loop-i

@@ -1,4 +1,4 @@
-use Rattle.std.proofs.Common.{◌≡◌, ◌*◌, ◌∙◌, ap, take, arith}
+use Rattle.std.proofs.Common.{◌≡◌, ◌≤◌, ◌*◌, ◌-◌, ℕ, ◌∙◌, ap, take, arith}
 use Rattle.std.proofs.lemmas.Grind.{common_steps}
 use Rattle.std.specs.Vec.{with_items}
 use Rattle.tabled_grid.proofs.FirstLines.{first_all}
@@ -12,7 +12,9 @@ returns-then-count-self-clause-first g c = rw (← c.self.view_is) (first_all Co
 
 pub returns-clause-first : goal.returns-clause-first
 returns-clause-first g c =
-    let items : (with_items c.self.inside.cells c.keep_fronts.new.cells).items ≡ c.keep_fronts.new.cells = grind (arith, common_steps) in
+    let items : (with_items c.self.inside.cells c.close_up.new.cells).items ≡ c.close_up.new.cells = grind (arith, common_steps) in
+    let within : c.args.count ≤ c.self.inside.columns = rw (← c.self.view_is) at c.requires.within in
+    let left : c.args.count ≡ c.self.inside.columns - (c.self.inside.columns - c.args.count) = omega (arith, within) in
     rw (← c.self.view_is)
-    (columns_cut _ _ _ c.self.invariant c.args.count _ (rw (← c.self.view_is) at c.requires.within)
-    (c.truncate.ensures.items ∙ ap (take (c.self.inside.rows * c.args.count)) items ∙ rw c.deref_mut.ensures.value at c.keep_fronts.ensures))
+    (columns_cut _ _ _ c.self.invariant c.args.count _ within
+    (c.truncate.ensures.items ∙ ap (take (c.self.inside.rows * c.args.count)) items ∙ ap (λ (n : ℕ). take (c.self.inside.rows * n) c.close_up.new.cells) left ∙ rw c.deref_mut.ensures.value at c.close_up.ensures))
