@@ -90,8 +90,6 @@ impl<R: ToBounds, I: Records> Object<I> for Columns<R> {
 
     ghost lists = { λ range g entities. entities ≡ columns_of (indexes (R.bounds_of range) g.columns) };
 
-    ghost can_list = { λ _. Unit {0} };
-
     fn cells(&self, _alloc: Global, records: &I) -> Result<ColumnsIter, AllocError> {
         let columns = self.range.to_range(records.count_columns());
         Ok(ColumnsIter::new(columns.start, columns.end))
@@ -146,8 +144,6 @@ impl<I: GridStore> Object<I> for Column {
 
     ghost lists = { λ index _ entities. entities ≡ columns_of (index ∷ []) };
 
-    ghost can_list = { λ _. Unit {0} };
-
     fn cells(&self, _alloc: Global, _records: &I) -> Result<EntityOnce, AllocError> {
         Ok(EntityOnce::new(Some(Entity::Column(self.index))))
     }
@@ -171,8 +167,6 @@ impl<I: Records + ExactRecords> Object<I> for FirstColumn {
     type Iter = EntityOnce;
 
     ghost lists = { λ _ g entities. entities ≡ if_cells g.rows g.columns (columns_of (0 ∷ [])) };
-
-    ghost can_list = { λ _. Unit {0} };
 
     fn cells(&self, _alloc: Global, records: &I) -> Result<EntityOnce, AllocError> {
         if records.count_rows() == 0 || records.count_columns() == 0 {
@@ -211,8 +205,6 @@ impl<I: Records + ExactRecords> Object<I> for LastColumn {
     type Iter = EntityOnce;
 
     ghost lists = { λ _ g entities. entities ≡ if_cells g.rows g.columns (columns_of ((g.columns - 1) ∷ [])) };
-
-    ghost can_list = { λ _. Unit {0} };
 
     fn cells(&self, _alloc: Global, records: &I) -> Result<EntityOnce, AllocError> {
         let columns = records.count_columns();
@@ -281,8 +273,6 @@ impl<I: Records> Object<I> for LastColumnOffset {
     type Iter = EntityOnce;
 
     ghost lists = { λ column g entities. entities ≡ columns_of (index_from_last column g.columns) };
-
-    ghost can_list = { λ _. Unit {0} };
 
     fn cells(&self, _alloc: Global, records: &I) -> Result<EntityOnce, AllocError> {
         let index = self.from_last.index(records.count_columns());

@@ -30,8 +30,6 @@ impl<I: Records + ExactRecords> Object<I> for Frame {
 
     ghost lists = { λ _ g entities. entities ≡ cells_of (frame g.rows g.columns) };
 
-    ghost can_list = { λ _. Unit {0} };
-
     fn cells(&self, _alloc: Global, records: &I) -> Result<FrameIter, AllocError> {
         Ok(FrameIter::new(records.count_rows(), records.count_columns()))
     }

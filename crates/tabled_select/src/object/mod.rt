@@ -59,8 +59,9 @@ pub trait Object<R: GridStore> {
     /// The entities that are named in a store with a grid.
     ghost lists: { Self → Grid R.Cell → List Entity → Type 0 };
 
-    /// The condition of use: a closure may be called on every argument of its kind.
-    ghost can_list: { Self → Type 0 };
+    /// The condition of use: a closure may be called on every argument of its kind. There is none, where nothing
+    /// else is said.
+    ghost can_list: { Self → Type 0 } = { λ _. Unit {0} };
 
     /// Goes over the named entities, in order.
     ///

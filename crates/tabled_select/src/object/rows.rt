@@ -90,8 +90,6 @@ impl<R: ToBounds, I: ExactRecords> Object<I> for Rows<R> {
 
     ghost lists = { λ range g entities. entities ≡ rows_of (indexes (R.bounds_of range) g.rows) };
 
-    ghost can_list = { λ _. Unit {0} };
-
     fn cells(&self, _alloc: Global, records: &I) -> Result<RowsIter, AllocError> {
         let rows = self.range.to_range(records.count_rows());
         Ok(RowsIter::new(rows.start, rows.end))
@@ -146,8 +144,6 @@ impl<I: GridStore> Object<I> for Row {
 
     ghost lists = { λ index _ entities. entities ≡ rows_of (index ∷ []) };
 
-    ghost can_list = { λ _. Unit {0} };
-
     fn cells(&self, _alloc: Global, _records: &I) -> Result<EntityOnce, AllocError> {
         Ok(EntityOnce::new(Some(Entity::Row(self.index))))
     }
@@ -171,8 +167,6 @@ impl<I: Records + ExactRecords> Object<I> for FirstRow {
     type Iter = EntityOnce;
 
     ghost lists = { λ _ g entities. entities ≡ if_cells g.rows g.columns (rows_of (0 ∷ [])) };
-
-    ghost can_list = { λ _. Unit {0} };
 
     fn cells(&self, _alloc: Global, records: &I) -> Result<EntityOnce, AllocError> {
         if records.count_rows() == 0 || records.count_columns() == 0 {
@@ -211,8 +205,6 @@ impl<I: Records + ExactRecords> Object<I> for LastRow {
     type Iter = EntityOnce;
 
     ghost lists = { λ _ g entities. entities ≡ if_cells g.rows g.columns (rows_of ((g.rows - 1) ∷ [])) };
-
-    ghost can_list = { λ _. Unit {0} };
 
     fn cells(&self, _alloc: Global, records: &I) -> Result<EntityOnce, AllocError> {
         let rows = records.count_rows();
@@ -281,8 +273,6 @@ impl<I: Records + ExactRecords> Object<I> for LastRowOffset {
     type Iter = EntityOnce;
 
     ghost lists = { λ row g entities. entities ≡ if_cells g.rows g.columns (rows_of (index_from_last row g.rows)) };
-
-    ghost can_list = { λ _. Unit {0} };
 
     fn cells(&self, _alloc: Global, records: &I) -> Result<EntityOnce, AllocError> {
         let rows = records.count_rows();
