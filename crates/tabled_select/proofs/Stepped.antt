@@ -23,13 +23,13 @@ some_item : {B : Type 0} (y : B) (ys : List B) → y ∷ ys ≡ [] → ⊥
 some_item y ys e = omega (arith, ap length e)
 
 -- the members at the places k, k + 1 + n, k + 2 (1 + n) and so on
-abbrev every_from : {A : Type 0} → ℕ → ℕ → List A → List A
+abbrev pub every_from : {A : Type 0} → ℕ → ℕ → List A → List A
 every_from n k [] = []
 every_from n zero (x ∷ xs) = x ∷ every_from n n xs
 every_from n (suc k) (x ∷ xs) = every_from n k xs
 
 -- of places from i on, those that 1 + n divides: the first such place is i + k
-every-from : {A : Type 0} (n k i q : ℕ) (xs : List A) → k ≤ n → i + k ≡ q * suc n → map (λ p. p.1) (filter (λ p. p.0 % suc n == 0) (enumerate_from i xs)) ≡ every_from n k xs
+pub every-from : {A : Type 0} (n k i q : ℕ) (xs : List A) → k ≤ n → i + k ≡ q * suc n → map (λ p. p.1) (filter (λ p. p.0 % suc n == 0) (enumerate_from i xs)) ≡ every_from n k xs
 every-from n k i q [] h e = refl
 every-from n zero i q (x ∷ xs) h e =
     let divides : i % suc n ≡ 0 = ap (λ m. m % suc n) (omega (arith, e)) ∙ mul-mod_left q (suc n) in

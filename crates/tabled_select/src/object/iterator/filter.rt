@@ -19,9 +19,9 @@ use tabled_grid::records::GridStore;
 /// Ported from `tabled::settings::object::FilterObject`.
 #[derive(Clone, Copy, Drop)]
 pub struct FilterObject<O, F, R> {
-    object: O,
-    predicate: F,
-    records: PhantomData<R>,
+    pub(super) object: O,
+    pub(super) predicate: F,
+    pub(super) records: PhantomData<R>,
 }
 
 impl<O, F, R> Model for FilterObject<O, F, R> {
@@ -30,20 +30,6 @@ impl<O, F, R> Model for FilterObject<O, F, R> {
     ghost view = { λ a. (a.object, a.predicate) };
 
     ghost inverse = { λ v. record { object = v.0; predicate = v.1; records = record {} } };
-}
-
-impl<O, F, R> FilterObject<O, F, R> {
-    ghost use Rattle.std.specs.Prelude.{◌≡◌};
-
-    pub(super) fn new(object: O, predicate: F) -> Self
-        ensures { result ≡ (object, predicate) }
-    {
-        FilterObject {
-            object,
-            predicate,
-            records: PhantomData,
-        }
-    }
 }
 
 impl<O, F, R> Object<R> for FilterObject<O, F, R>
