@@ -53,13 +53,6 @@ module _ {B : Type 0} (gap : ℕ) where
   every_from-past (suc k) [] y ys h = absurd (omega arith)
   every_from-past (suc k) (x ∷ xs) y ys h = every_from-past k xs y ys (omega arith)
 
--- without a gap all past the first so many are left
-pub every_from-no_gap : {B : Type 0} (k : ℕ) (xs : List B) → every_from 0 k xs ≡ drop k xs
-every_from-no_gap zero [] = refl
-every_from-no_gap (suc k) [] = refl
-every_from-no_gap zero (x ∷ xs) = ap (λ ys. x ∷ ys) (every_from-no_gap zero xs)
-every_from-no_gap (suc k) (x ∷ xs) = every_from-no_gap k xs
-
 module _ {S A B : Type 0} (steps : S → Option A → S → Type 0) (v : A → B) where
   ended : (more : List B) (t u : S) → AlwaysYields steps v t more → steps t None u → more ≡ []
   ended [] t u gives p = refl
@@ -96,10 +89,6 @@ module _ {S A B : Type 0} (steps : S → Option A → S → Type 0) (v : A → B
           let same = sym next.1 ∙ e in
           (ap (head y) same, gives-hops ys next.0 t next.2 (ap tail same)),
     )
-
-  -- one that skips gives what its source gives past the first so many
-  pub gives-skipped : (all : List B) (s : S) (n : ℕ) → AlwaysYields steps v s all → AlwaysYields (HopsOver steps 0) v (s, n) (drop n all)
-  gives-skipped all s n gives = gives-hops 0 (drop n all) all (s, n) gives (every_from-no_gap n all)
 
   -- one whose source is there
   pub gives-if_any : (ys : List B) (h : Hops S) (s : S) → h.source ≡ Some s → AlwaysYields (HopsOver steps h.gap) v (s, h.ahead) ys → AlwaysYields (HopsIfAny steps) v h ys

@@ -20,7 +20,7 @@ impl<B: ToBounds, R: Records> Location<R> for Columns<B> {
     ghost locates = { λ range g found. found ≡ indexes (B.bounds_of range) g.columns };
 
     fn locate(&mut self, _alloc: Global, records: &R) -> Result<Range<usize>, AllocError> {
-        Ok(self.get_range().to_range(records.count_columns()))
+        Ok(self.range.to_range(records.count_columns()))
     }
 
     fn locate_below(
@@ -29,7 +29,7 @@ impl<B: ToBounds, R: Records> Location<R> for Columns<B> {
         records: &R,
         limit: &usize,
     ) -> Result<Range<usize>, AllocError> {
-        let range = self.get_range().to_range(records.count_columns());
+        let range = self.range.to_range(records.count_columns());
         Ok(range.start..range.end.min(*limit))
     }
 }

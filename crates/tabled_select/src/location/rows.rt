@@ -20,7 +20,7 @@ impl<B: ToBounds, R: ExactRecords> Location<R> for Rows<B> {
     ghost locates = { λ range g found. found ≡ indexes (B.bounds_of range) g.rows };
 
     fn locate(&mut self, _alloc: Global, records: &R) -> Result<Range<usize>, AllocError> {
-        Ok(self.get_range().to_range(records.count_rows()))
+        Ok(self.range.to_range(records.count_rows()))
     }
 
     fn locate_below(
@@ -29,7 +29,7 @@ impl<B: ToBounds, R: ExactRecords> Location<R> for Rows<B> {
         records: &R,
         limit: &usize,
     ) -> Result<Range<usize>, AllocError> {
-        let range = self.get_range().to_range(records.count_rows());
+        let range = self.range.to_range(records.count_rows());
         Ok(range.start..range.end.min(*limit))
     }
 }

@@ -29,7 +29,7 @@ use tabled_grid::records::{ExactRecords, GridStore, Records};
 /// Ported from `tabled::settings::object::Columns`.
 #[derive(Clone, Copy, Drop)]
 pub struct Columns<R> {
-    range: R,
+    pub(crate) range: R,
 }
 
 impl<R> Model for Columns<R> {
@@ -50,13 +50,6 @@ impl<R: ToBounds> Columns<R> {
         ensures { result ≡ range }
     {
         Columns { range }
-    }
-
-    /// The range.
-    pub(crate) fn get_range(&self) -> &R
-        ensures { result.now ≡ self.now }
-    {
-        &self.range
     }
 }
 
@@ -92,7 +85,10 @@ impl<R: ToBounds, I: Records> Object<I> for Columns<R> {
 
     fn cells(&self, _alloc: Global, records: &I) -> Result<ColumnsIter, AllocError> {
         let columns = self.range.to_range(records.count_columns());
-        Ok(ColumnsIter::new(columns.start, columns.end))
+        Ok(ColumnsIter {
+            start: columns.start,
+            end: columns.end,
+        })
     }
 }
 
@@ -297,14 +293,6 @@ impl Model for ColumnsIter {
     ghost view = { λ a. (a.start, a.end) };
 
     ghost inverse = { λ v. record { start = v.0; end = v.1 } };
-}
-
-impl ColumnsIter {
-    fn new(start: usize, end: usize) -> Self
-        ensures { result ≡ (start, end) }
-    {
-        ColumnsIter { start, end }
-    }
 }
 
 impl Iterator for ColumnsIter {

@@ -29,7 +29,7 @@ use tabled_grid::records::{ExactRecords, GridStore, Records};
 /// Ported from `tabled::settings::object::Rows`.
 #[derive(Clone, Copy, Drop)]
 pub struct Rows<R> {
-    range: R,
+    pub(crate) range: R,
 }
 
 impl<R> Model for Rows<R> {
@@ -50,13 +50,6 @@ impl<R: ToBounds> Rows<R> {
         ensures { result ≡ range }
     {
         Rows { range }
-    }
-
-    /// The range.
-    pub(crate) fn get_range(&self) -> &R
-        ensures { result.now ≡ self.now }
-    {
-        &self.range
     }
 }
 
@@ -92,7 +85,10 @@ impl<R: ToBounds, I: ExactRecords> Object<I> for Rows<R> {
 
     fn cells(&self, _alloc: Global, records: &I) -> Result<RowsIter, AllocError> {
         let rows = self.range.to_range(records.count_rows());
-        Ok(RowsIter::new(rows.start, rows.end))
+        Ok(RowsIter {
+            start: rows.start,
+            end: rows.end,
+        })
     }
 }
 
@@ -300,14 +296,6 @@ impl Model for RowsIter {
     ghost view = { λ a. (a.start, a.end) };
 
     ghost inverse = { λ v. record { start = v.0; end = v.1 } };
-}
-
-impl RowsIter {
-    fn new(start: usize, end: usize) -> Self
-        ensures { result ≡ (start, end) }
-    {
-        RowsIter { start, end }
-    }
 }
 
 impl Iterator for RowsIter {

@@ -53,7 +53,10 @@ where
         all.append(&mut rhs)?;
         let named = count_named(&all, rows, columns);
         let seen = PlaceSet::room_for(alloc, &all, rows, columns, named)?;
-        Ok(UnionIter::new(all, seen, rows, columns))
+        Ok(UnionIter {
+            places: Places::new(all, rows, columns),
+            seen,
+        })
     }
 }
 
@@ -79,23 +82,6 @@ impl Model for UnionIter {
     ghost view = { λ a. cells_of (filter (passes false (marks_of a.seen)) (firsts a.places)) };
 
     ghost invariant = { λ a. AllByRecursion (HasRoom (marks_of a.seen)) a.places };
-}
-
-impl UnionIter {
-    ghost use Rattle.std.specs.Prelude.{◌≡◌, false};
-    ghost use Rattle.tabled_select.specs.Algebra.{cells_of, firsts, flat};
-    ghost use Rattle.tabled_select.specs.Marks.{MarksAll};
-    ghost use Rattle.tabled_select.specs.Sets.{marks_of};
-
-    fn new(entities: Vec<Entity>, seen: PlaceSet, rows: usize, columns: usize) -> Self
-        requires { MarksAll (marks_of seen) (flat entities.items rows columns) false }
-        ensures { result ≡ cells_of (firsts (flat entities.items rows columns)) }
-    {
-        UnionIter {
-            places: Places::new(entities, rows, columns),
-            seen,
-        }
-    }
 }
 
 impl Iterator for UnionIter {
