@@ -1,5 +1,5 @@
 -- What iterators made of iterators give.
-use Rattle.std.proofs.Common.{rules, ◌≡◌, ℕ, zero, suc, ◌+◌, ◌-◌, ◌*◌, ◌%◌, ◌/◌, ◌<◌, ◌≤◌, inl, inr, List, [], ◌∷◌, ◌++◌, Option, None, Some, refl, sym, ap, ◌∙◌, map, drop, length, arith}
+use Rattle.std.proofs.Common.{rules, ◌≡◌, ℕ, zero, suc, ◌+◌, ◌-◌, ◌*◌, ◌%◌, ◌/◌, ◌<◌, ◌≤◌, inl, inr, List, [], ◌∷◌, ◌++◌, Option, None, Some, refl, sym, ap, ◌∙◌, map, length, arith}
 use Rattle.std.proofs.iter.Yields.{gives_left}
 use Rattle.std.proofs.Math.Nat.{div-eq_of_lt, div-mul-le_self, mul-mod_left}
 use Rattle.std.proofs.lemmas.Bool.{cases_lt, ne_eqb}
