@@ -9,7 +9,7 @@ use Rattle.tabled_grid.specs.declared.config.entity.Entity.TheVariants.{Cell, Gl
 use Rattle.tabled_grid.proofs.Places.{inside-Cell, inside-Global, inside-within}
 use Rattle.tabled_select.specs.Algebra.{cells_of, difference_of, flat, intersection_of, inversion_of, is_among}
 use Rattle.tabled_grid.specs.Entity.{same_place}
-use Rattle.tabled_select.proofs.MarkedPlaces.{is-same, same_place-turned}
+use Rattle.tabled_select.proofs.MarkedPlaces.{and_false, is-same, same_place-turned}
 use Rattle.tabled_select.proofs.NamedPlaces.{IsWithin, flat-within}
 use Rattle.tabled_select.proofs.Sifted.{all-filter, filter-agree_within, list_any-filter}
 
@@ -35,10 +35,6 @@ is_among-all p rows columns w =
     any-agree : (qs : List Position) → is_among qs p ≡ list_any (names (Cell p.row p.col)) qs
     any-agree [] = refl
     any-agree (q ∷ qs) = ap₂ (λ b c. b || c) (same_place-turned p q) (any-agree qs)
-
-and_false : (b : Bool) → (b && false) ≡ false
-and_false true = refl
-and_false false = refl
 
 module _ (test : Position → Bool) (p : Position) where
   more : (q : Position) (one b : Bool) (left all : List Position) → same_place p q ≡ one → test q ≡ b → is_among left p ≡ (is_among all p && test p) → is_among (cond b (q ∷ left) left) p ≡ ((one || is_among all p) && test p)

@@ -1,8 +1,9 @@
 -- What one more mark changes.
-use Rattle.std.proofs.Common.{rules, ◌≡◌, ℕ, ◌+◌, ◌*◌, ◌<◌, Bool, true, false, List, [], ◌∷◌, refl, sym, ap, ap₂, ◌∙◌, inl, inr, length, mul_comm, get_or, set, arith}
+use Rattle.std.proofs.Common.{◌≡◌, ℕ, ◌+◌, ◌*◌, ◌<◌, Bool, true, false, List, [], ◌∷◌, refl, sym, ap, ap₂, ◌∙◌, inl, inr, length, mul_comm, get_or, set, arith}
 use Rattle.std.specs.Prelude.{◌==◌, ◌&&◌, ◌||◌, if◌then◌else◌, not, replicate, Option, Some, None}
 use Rattle.std.specs.List.{AllByRecursion, filter}
 use Rattle.std.specs.Option.{IsSome, unwrap_or}
+use Rattle.std.proofs.Math.Bool.{or-false, or-true}
 use Rattle.std.proofs.lemmas.Bool.{and_parts, eqb-true, lt-ltb, le-ltb, eq-eqb, ne_eqb, cases_eq, cases_lt}
 use Rattle.std.proofs.lemmas.List.{get_or-replicate, get_or-set_same, get_or-set_other, length-replicate, length-set}
 use Rattle.std.proofs.lemmas.List.Elements.{filter_agree}
@@ -33,14 +34,6 @@ eqb-turned m n = elim (cases_eq m n) [
 pub same_place-turned : (p q : Position) → same_place p q ≡ same_place q p
 same_place-turned p q = ap₂ (λ b c. b && c) (eqb-turned p.row q.row) (eqb-turned p.col q.col)
 
-or_true : (b : Bool) → (b || true) ≡ true
-or_true true = refl
-or_true false = refl
-
-or_false : (b : Bool) → (b || false) ≡ b
-or_false true = refl
-or_false false = refl
-
 or_move : (a b c : Bool) → (b || (a || c)) ≡ ((a || b) || c)
 or_move true true c = refl
 or_move true false c = refl
@@ -50,14 +43,14 @@ and_true : (b : Bool) → (b && true) ≡ b
 and_true true = refl
 and_true false = refl
 
-and_false : (b : Bool) → (b && false) ≡ false
+pub and_false : (b : Bool) → (b && false) ≡ false
 and_false true = refl
 and_false false = refl
 
 -- what each place has that is among some, each of these has
 all-among : (P : Position → Type 0) (ps : List Position) → ((p : Position) → is_among ps p ≡ true → P p) → AllByRecursion P ps
 all-among P [] h = tt
-all-among P (q ∷ ps) h = (h q (rw (same-true q q refl refl) refl), all-among P ps (λ p e. h p (rw e (or_true (same_place p q)))))
+all-among P (q ∷ ps) h = (h q (rw (same-true q q refl refl) refl), all-among P ps (λ p e. h p (rw e (or-true (same_place p q)))))
 
 -- a place is marked if it was, or if it is the one that is marked now
 marked-now : (b : Bool) (mark : Option Bool) → unwrap_or (if b then Some true else mark) false ≡ b || unwrap_or mark false
@@ -84,18 +77,6 @@ pub is-same : (p q : Position) → same_place p q ≡ true → p ≡ q
 is-same p q e =
     let parts = and_parts (p.row == q.row) (p.col == q.col) e in
     ap₂ place (eqb-true p.row q.row parts.0) (eqb-true p.col q.col parts.1)
-
-marked-so : (m : Option Bool) → unwrap_or m false ≡ true → m ≡ Some true
-marked-so None e = absurd (search rules)
-marked-so (Some b) e = ap Some e
-
--- a mark that is there is set by doing nothing
-pub marked-already : (s : Marks) (p : Position) → has s p ≡ true → SetsMark s s p true
-marked-already s p e q = go (same_place p q) refl
-  where
-    go : (b : Bool) → same_place p q ≡ b → s q ≡ (if b then Some true else s q)
-    go true same = ap s (sym (is-same p q same)) ∙ marked-so (s p) e
-    go false same = refl
 
 -- ---- marks of all places of a table
 
@@ -130,13 +111,6 @@ sets-mark columns marks p i at e = rw e (λ q. elim (cases_lt q.col columns) [
       rw (same-false p q (λ same. omega (arith, same.1, at.0)), mark-outside columns (set marks (mark_index columns p) true) q (λ j. let l = j.0 in omega arith), mark-outside columns marks q (λ j. let l = j.0 in omega arith)) refl
 ])
 
--- no room without a place
-pub no-room : (columns : ℕ) (marks : List Bool) (p : Position) → HasRoom (mark_at columns marks) p → ((p.col < columns) × (mark_index columns p < length marks) → ⊥) → ⊥
-no-room columns marks p room h = no_mark (rw (mark-outside columns marks p h) at room)
-  where
-    no_mark : IsSome {T = Bool} None → ⊥
-    no_mark e = search rules
-
 unmarked : (columns n : ℕ) (p : Position) → has (mark_at columns (replicate n false)) p ≡ false
 unmarked columns n p = elim (cases_lt p.col columns) [
   | inl h ↦ elim (cases_lt (mark_index columns p) n) [
@@ -164,7 +138,7 @@ marks-none rows columns n e entities = record {
 
 -- all places are still to be marked
 pub marked-first : (s : Marks) (left all : List Position) → left ≡ all → ((p : Position) → has s p ≡ (is_among all p && false)) → (p : Position) → (is_among left p || has s p) ≡ is_among all p
-marked-first s left all e h p = rw (e, h p, and_false (is_among all p)) (or_false (is_among all p))
+marked-first s left all e h p = rw (e, h p, and_false (is_among all p)) (or-false (is_among all p))
 
 -- one more of them is marked
 pub marked-next : (old new : Marks) (q : Position) (left rest all : List Position) → left ≡ q ∷ rest → SetsMark old new q true → ((p : Position) → (is_among left p || has old p) ≡ is_among all p) → (p : Position) → (is_among rest p || has new p) ≡ is_among all p

@@ -1,5 +1,5 @@
 -- What iterators made of iterators give.
-use Rattle.std.proofs.Common.{rules, ◌≡◌, ℕ, zero, suc, ◌+◌, ◌-◌, ◌*◌, ◌%◌, ◌/◌, ◌<◌, ◌≤◌, inl, inr, List, [], ◌∷◌, ◌++◌, Option, None, Some, refl, sym, ap, ◌∙◌, map, drop, length, arith}
+use Rattle.std.proofs.Common.{rules, ◌≡◌, ℕ, zero, suc, ◌+◌, ◌-◌, ◌*◌, ◌%◌, ◌/◌, ◌<◌, ◌≤◌, inl, inr, List, [], ◌∷◌, ◌++◌, Option, None, Some, refl, sym, ap, ◌∙◌, map, length, arith}
 use Rattle.std.proofs.iter.Yields.{gives_left}
 use Rattle.std.proofs.Math.Nat.{div-eq_of_lt, div-mul-le_self, mul-mod_left}
 use Rattle.std.proofs.lemmas.Bool.{cases_lt, ne_eqb}
@@ -23,13 +23,13 @@ some_item : {B : Type 0} (y : B) (ys : List B) → y ∷ ys ≡ [] → ⊥
 some_item y ys e = omega (arith, ap length e)
 
 -- the members at the places k, k + 1 + n, k + 2 (1 + n) and so on
-abbrev every_from : {A : Type 0} → ℕ → ℕ → List A → List A
+abbrev pub every_from : {A : Type 0} → ℕ → ℕ → List A → List A
 every_from n k [] = []
 every_from n zero (x ∷ xs) = x ∷ every_from n n xs
 every_from n (suc k) (x ∷ xs) = every_from n k xs
 
 -- of places from i on, those that 1 + n divides: the first such place is i + k
-every-from : {A : Type 0} (n k i q : ℕ) (xs : List A) → k ≤ n → i + k ≡ q * suc n → map (λ p. p.1) (filter (λ p. p.0 % suc n == 0) (enumerate_from i xs)) ≡ every_from n k xs
+pub every-from : {A : Type 0} (n k i q : ℕ) (xs : List A) → k ≤ n → i + k ≡ q * suc n → map (λ p. p.1) (filter (λ p. p.0 % suc n == 0) (enumerate_from i xs)) ≡ every_from n k xs
 every-from n k i q [] h e = refl
 every-from n zero i q (x ∷ xs) h e =
     let divides : i % suc n ≡ 0 = ap (λ m. m % suc n) (omega (arith, e)) ∙ mul-mod_left q (suc n) in
@@ -52,13 +52,6 @@ module _ {B : Type 0} (gap : ℕ) where
   every_from-past zero (x ∷ xs) y ys h = absurd (omega arith)
   every_from-past (suc k) [] y ys h = absurd (omega arith)
   every_from-past (suc k) (x ∷ xs) y ys h = every_from-past k xs y ys (omega arith)
-
--- without a gap all past the first so many are left
-pub every_from-no_gap : {B : Type 0} (k : ℕ) (xs : List B) → every_from 0 k xs ≡ drop k xs
-every_from-no_gap zero [] = refl
-every_from-no_gap (suc k) [] = refl
-every_from-no_gap zero (x ∷ xs) = ap (λ ys. x ∷ ys) (every_from-no_gap zero xs)
-every_from-no_gap (suc k) (x ∷ xs) = every_from-no_gap k xs
 
 module _ {S A B : Type 0} (steps : S → Option A → S → Type 0) (v : A → B) where
   ended : (more : List B) (t u : S) → AlwaysYields steps v t more → steps t None u → more ≡ []
@@ -96,10 +89,6 @@ module _ {S A B : Type 0} (steps : S → Option A → S → Type 0) (v : A → B
           let same = sym next.1 ∙ e in
           (ap (head y) same, gives-hops ys next.0 t next.2 (ap tail same)),
     )
-
-  -- one that skips gives what its source gives past the first so many
-  pub gives-skipped : (all : List B) (s : S) (n : ℕ) → AlwaysYields steps v s all → AlwaysYields (HopsOver steps 0) v (s, n) (drop n all)
-  gives-skipped all s n gives = gives-hops 0 (drop n all) all (s, n) gives (every_from-no_gap n all)
 
   -- one whose source is there
   pub gives-if_any : (ys : List B) (h : Hops S) (s : S) → h.source ≡ Some s → AlwaysYields (HopsOver steps h.gap) v (s, h.ahead) ys → AlwaysYields (HopsIfAny steps) v h ys

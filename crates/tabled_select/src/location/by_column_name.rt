@@ -57,8 +57,6 @@ where
 
     ghost locates = { λ text g found. found ≡ columns_with text (map_grid R.Cell.text_of g) };
 
-    ghost can_locate = { λ _. Unit {0} };
-
     fn locate(&mut self, alloc: Global, records: &R) -> Result<Vec<usize>, AllocError> {
         search_text::<ColumnIndexes, R>(alloc, records, Entity::Row(0), self.text.as_str())
     }
@@ -72,8 +70,6 @@ where
     type Iter = vec::IntoIter<Entity>;
 
     ghost lists = { λ text g entities. entities ≡ columns_of (columns_with text (map_grid R.Cell.text_of g)) };
-
-    ghost can_list = { λ _. Unit {0} };
 
     fn cells(&self, alloc: Global, records: &R) -> Result<vec::IntoIter<Entity>, AllocError> {
         Ok(search_text::<WholeColumns, R>(

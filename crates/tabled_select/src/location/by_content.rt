@@ -57,8 +57,6 @@ where
 
     ghost locates = { λ text g found. found ≡ places_with text (map_grid R.Cell.text_of g) };
 
-    ghost can_locate = { λ _. Unit {0} };
-
     fn locate(&mut self, alloc: Global, records: &R) -> Result<Vec<Position>, AllocError> {
         search_text::<Places, R>(alloc, records, Entity::Global, self.text.as_str())
     }
@@ -72,8 +70,6 @@ where
     type Iter = vec::IntoIter<Entity>;
 
     ghost lists = { λ text g entities. entities ≡ cells_of (places_with text (map_grid R.Cell.text_of g)) };
-
-    ghost can_list = { λ _. Unit {0} };
 
     fn cells(&self, alloc: Global, records: &R) -> Result<vec::IntoIter<Entity>, AllocError> {
         Ok(search_text::<Cells, R>(alloc, records, Entity::Global, self.text.as_str())?.into_iter())

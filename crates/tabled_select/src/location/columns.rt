@@ -19,10 +19,8 @@ impl<B: ToBounds, R: Records> Location<R> for Columns<B> {
 
     ghost locates = { λ range g found. found ≡ indexes (B.bounds_of range) g.columns };
 
-    ghost can_locate = { λ _. Unit {0} };
-
     fn locate(&mut self, _alloc: Global, records: &R) -> Result<Range<usize>, AllocError> {
-        Ok(self.get_range().to_range(records.count_columns()))
+        Ok(self.range.to_range(records.count_columns()))
     }
 
     fn locate_below(
@@ -31,7 +29,7 @@ impl<B: ToBounds, R: Records> Location<R> for Columns<B> {
         records: &R,
         limit: &usize,
     ) -> Result<Range<usize>, AllocError> {
-        let range = self.get_range().to_range(records.count_columns());
+        let range = self.range.to_range(records.count_columns());
         Ok(range.start..range.end.min(*limit))
     }
 }
@@ -43,8 +41,6 @@ impl<R: GridStore> Location<R> for Column {
     type IntoIter = Once<usize>;
 
     ghost locates = { λ index _ found. found ≡ index ∷ [] };
-
-    ghost can_locate = { λ _. Unit {0} };
 
     fn locate(&mut self, _alloc: Global, _records: &R) -> Result<Once<usize>, AllocError> {
         Ok(iter::once(usize::from(*self)))
@@ -59,8 +55,6 @@ impl<R: GridStore> Location<R> for FirstColumn {
 
     ghost locates = { λ _ _ found. found ≡ 0 ∷ [] };
 
-    ghost can_locate = { λ _. Unit {0} };
-
     fn locate(&mut self, _alloc: Global, _records: &R) -> Result<Once<usize>, AllocError> {
         Ok(iter::once(0))
     }
@@ -73,8 +67,6 @@ impl<R: Records> Location<R> for LastColumn {
     type IntoIter = Once<usize>;
 
     ghost locates = { λ _ g found. found ≡ (g.columns - 1) ∷ [] };
-
-    ghost can_locate = { λ _. Unit {0} };
 
     fn locate(&mut self, _alloc: Global, records: &R) -> Result<Once<usize>, AllocError> {
         Ok(iter::once(records.count_columns().saturating_sub(1)))

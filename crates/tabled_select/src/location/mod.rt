@@ -43,8 +43,9 @@ pub trait Location<R: GridStore> {
     /// The coordinates that are found in a store with a grid.
     ghost locates: { Self → Grid R.Cell → List Self.Coordinate → Type 0 };
 
-    /// The condition of use: a closure may be called on every argument of its kind.
-    ghost can_locate: { Self → Type 0 };
+    /// The condition of use: a closure may be called on every argument of its kind. There is none, where nothing
+    /// else is said.
+    ghost can_locate: { Self → Type 0 } = { λ _. Unit {0} };
 
     /// What a location may be after it was asked: as it was, where nothing else is said.
     ghost is_left: { Self → Self → Type 0 } = { λ old new. new ≡ old };

@@ -19,10 +19,8 @@ impl<B: ToBounds, R: ExactRecords> Location<R> for Rows<B> {
 
     ghost locates = { λ range g found. found ≡ indexes (B.bounds_of range) g.rows };
 
-    ghost can_locate = { λ _. Unit {0} };
-
     fn locate(&mut self, _alloc: Global, records: &R) -> Result<Range<usize>, AllocError> {
-        Ok(self.get_range().to_range(records.count_rows()))
+        Ok(self.range.to_range(records.count_rows()))
     }
 
     fn locate_below(
@@ -31,7 +29,7 @@ impl<B: ToBounds, R: ExactRecords> Location<R> for Rows<B> {
         records: &R,
         limit: &usize,
     ) -> Result<Range<usize>, AllocError> {
-        let range = self.get_range().to_range(records.count_rows());
+        let range = self.range.to_range(records.count_rows());
         Ok(range.start..range.end.min(*limit))
     }
 }
@@ -43,8 +41,6 @@ impl<R: GridStore> Location<R> for Row {
     type IntoIter = Once<usize>;
 
     ghost locates = { λ index _ found. found ≡ index ∷ [] };
-
-    ghost can_locate = { λ _. Unit {0} };
 
     fn locate(&mut self, _alloc: Global, _records: &R) -> Result<Once<usize>, AllocError> {
         Ok(iter::once(usize::from(*self)))
@@ -59,8 +55,6 @@ impl<R: GridStore> Location<R> for FirstRow {
 
     ghost locates = { λ _ _ found. found ≡ 0 ∷ [] };
 
-    ghost can_locate = { λ _. Unit {0} };
-
     fn locate(&mut self, _alloc: Global, _records: &R) -> Result<Once<usize>, AllocError> {
         Ok(iter::once(0))
     }
@@ -73,8 +67,6 @@ impl<R: ExactRecords> Location<R> for LastRow {
     type IntoIter = Once<usize>;
 
     ghost locates = { λ _ g found. found ≡ (g.rows - 1) ∷ [] };
-
-    ghost can_locate = { λ _. Unit {0} };
 
     fn locate(&mut self, _alloc: Global, records: &R) -> Result<Once<usize>, AllocError> {
         Ok(iter::once(records.count_rows().saturating_sub(1)))

@@ -79,8 +79,6 @@ impl<R: GridStore> Object<R> for Cell {
 
     ghost lists = { λ cell _ entities. entities ≡ cells_of (cell ∷ []) };
 
-    ghost can_list = { λ _. Unit {0} };
-
     fn cells(&self, _alloc: Global, _records: &R) -> Result<EntityOnce, AllocError> {
         Ok(EntityOnce::new(Some(Entity::Cell(self.row, self.col))))
     }
@@ -92,8 +90,6 @@ impl<R: GridStore> Object<R> for Position {
 
     ghost lists = { λ pos _ entities. entities ≡ cells_of (pos ∷ []) };
 
-    ghost can_list = { λ _. Unit {0} };
-
     fn cells(&self, _alloc: Global, _records: &R) -> Result<EntityOnce, AllocError> {
         Ok(EntityOnce::new(Some(Entity::from(*self))))
     }
@@ -104,8 +100,6 @@ impl<R: GridStore> Object<R> for (usize, usize) {
     type Iter = EntityOnce;
 
     ghost lists = { λ pair _ entities. entities ≡ cells_of (record { row = pair.0; col = pair.1 } ∷ []) };
-
-    ghost can_list = { λ _. Unit {0} };
 
     fn cells(&self, _alloc: Global, _records: &R) -> Result<EntityOnce, AllocError> {
         Ok(EntityOnce::new(Some(Entity::from(*self))))

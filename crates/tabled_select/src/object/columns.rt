@@ -29,7 +29,7 @@ use tabled_grid::records::{ExactRecords, GridStore, Records};
 /// Ported from `tabled::settings::object::Columns`.
 #[derive(Clone, Copy, Drop)]
 pub struct Columns<R> {
-    range: R,
+    pub(crate) range: R,
 }
 
 impl<R> Model for Columns<R> {
@@ -50,13 +50,6 @@ impl<R: ToBounds> Columns<R> {
         ensures { result ≡ range }
     {
         Columns { range }
-    }
-
-    /// The range.
-    pub(crate) fn get_range(&self) -> &R
-        ensures { result.now ≡ self.now }
-    {
-        &self.range
     }
 }
 
@@ -90,11 +83,12 @@ impl<R: ToBounds, I: Records> Object<I> for Columns<R> {
 
     ghost lists = { λ range g entities. entities ≡ columns_of (indexes (R.bounds_of range) g.columns) };
 
-    ghost can_list = { λ _. Unit {0} };
-
     fn cells(&self, _alloc: Global, records: &I) -> Result<ColumnsIter, AllocError> {
         let columns = self.range.to_range(records.count_columns());
-        Ok(ColumnsIter::new(columns.start, columns.end))
+        Ok(ColumnsIter {
+            start: columns.start,
+            end: columns.end,
+        })
     }
 }
 
@@ -146,8 +140,6 @@ impl<I: GridStore> Object<I> for Column {
 
     ghost lists = { λ index _ entities. entities ≡ columns_of (index ∷ []) };
 
-    ghost can_list = { λ _. Unit {0} };
-
     fn cells(&self, _alloc: Global, _records: &I) -> Result<EntityOnce, AllocError> {
         Ok(EntityOnce::new(Some(Entity::Column(self.index))))
     }
@@ -171,8 +163,6 @@ impl<I: Records + ExactRecords> Object<I> for FirstColumn {
     type Iter = EntityOnce;
 
     ghost lists = { λ _ g entities. entities ≡ if_cells g.rows g.columns (columns_of (0 ∷ [])) };
-
-    ghost can_list = { λ _. Unit {0} };
 
     fn cells(&self, _alloc: Global, records: &I) -> Result<EntityOnce, AllocError> {
         if records.count_rows() == 0 || records.count_columns() == 0 {
@@ -211,8 +201,6 @@ impl<I: Records + ExactRecords> Object<I> for LastColumn {
     type Iter = EntityOnce;
 
     ghost lists = { λ _ g entities. entities ≡ if_cells g.rows g.columns (columns_of ((g.columns - 1) ∷ [])) };
-
-    ghost can_list = { λ _. Unit {0} };
 
     fn cells(&self, _alloc: Global, records: &I) -> Result<EntityOnce, AllocError> {
         let columns = records.count_columns();
@@ -282,8 +270,6 @@ impl<I: Records> Object<I> for LastColumnOffset {
 
     ghost lists = { λ column g entities. entities ≡ columns_of (index_from_last column g.columns) };
 
-    ghost can_list = { λ _. Unit {0} };
-
     fn cells(&self, _alloc: Global, records: &I) -> Result<EntityOnce, AllocError> {
         let index = self.from_last.index(records.count_columns());
         Ok(EntityOnce::new(index.map(Entity::Column)))
@@ -307,14 +293,6 @@ impl Model for ColumnsIter {
     ghost view = { λ a. (a.start, a.end) };
 
     ghost inverse = { λ v. record { start = v.0; end = v.1 } };
-}
-
-impl ColumnsIter {
-    fn new(start: usize, end: usize) -> Self
-        ensures { result ≡ (start, end) }
-    {
-        ColumnsIter { start, end }
-    }
 }
 
 impl Iterator for ColumnsIter {

@@ -18,10 +18,11 @@ use tabled_grid::records::{ExactRecords, Records};
 ///
 /// Ported from `tabled::settings::object::DiffCombination`.
 #[derive(Copy, Drop)]
+#[derive_where(Clone; L, R)]
 pub struct DiffCombination<L, R, I> {
-    lhs: L,
-    rhs: R,
-    records: PhantomData<I>,
+    pub(super) lhs: L,
+    pub(super) rhs: R,
+    pub(super) records: PhantomData<I>,
 }
 
 impl<L, R, I> Model for DiffCombination<L, R, I> {
@@ -30,34 +31,6 @@ impl<L, R, I> Model for DiffCombination<L, R, I> {
     ghost view = { λ a. (a.lhs, a.rhs) };
 
     ghost inverse = { λ v. record { lhs = v.0; rhs = v.1; records = record {} } };
-}
-
-impl<L, R, I> DiffCombination<L, R, I> {
-    ghost use Rattle.std.specs.Prelude.{◌≡◌};
-
-    pub(super) fn new(lhs: L, rhs: R) -> Self
-        ensures { result ≡ (lhs, rhs) }
-    {
-        DiffCombination {
-            lhs,
-            rhs,
-            records: PhantomData,
-        }
-    }
-}
-
-impl<L, R, I> Clone for DiffCombination<L, R, I>
-where
-    L: Clone,
-    R: Clone,
-{
-    ghost is_clone = { λ a b. L.is_clone a.0 b.0 × R.is_clone a.1 b.1 };
-
-    ghost is_infallible = { λ a. L.is_infallible a.0 × R.is_infallible a.1 };
-
-    fn clone(&self) -> Result<Self, AllocError> {
-        Ok(DiffCombination::new(self.lhs.clone()?, self.rhs.clone()?))
-    }
 }
 
 impl<L, R, I> Object<I> for DiffCombination<L, R, I>

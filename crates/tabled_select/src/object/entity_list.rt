@@ -19,8 +19,6 @@ impl<R: GridStore> Object<R> for EntityList {
 
     ghost lists = { λ s _ entities. entities ≡ s.0.items };
 
-    ghost can_list = { λ _. Unit {0} };
-
     fn cells(&self, alloc: Global, _records: &R) -> Result<vec::IntoIter<Entity>, AllocError> {
         Ok(Vec::from_slice(alloc, &self.0)?.into_iter())
     }

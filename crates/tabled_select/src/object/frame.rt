@@ -30,10 +30,13 @@ impl<I: Records + ExactRecords> Object<I> for Frame {
 
     ghost lists = { λ _ g entities. entities ≡ cells_of (frame g.rows g.columns) };
 
-    ghost can_list = { λ _. Unit {0} };
-
     fn cells(&self, _alloc: Global, records: &I) -> Result<FrameIter, AllocError> {
-        Ok(FrameIter::new(records.count_rows(), records.count_columns()))
+        Ok(FrameIter {
+            rows: records.count_rows(),
+            columns: records.count_columns(),
+            row: 0,
+            col: 0,
+        })
     }
 }
 
@@ -60,21 +63,6 @@ impl Model for FrameIter {
     ghost invariant = { λ a. StandsOnEdge a.rows a.columns a.row a.col };
 
     ghost inverse = { λ s. record { rows = s.rows; columns = s.columns; row = s.row; col = s.col } };
-}
-
-impl FrameIter {
-    ghost use Rattle.std.specs.Prelude.{◌≡◌};
-
-    fn new(rows: usize, columns: usize) -> Self
-        ensures { frame_left result ≡ frame rows columns }
-    {
-        FrameIter {
-            rows,
-            columns,
-            row: 0,
-            col: 0,
-        }
-    }
 }
 
 impl Iterator for FrameIter {

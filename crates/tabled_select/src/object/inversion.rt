@@ -19,9 +19,10 @@ use tabled_grid::records::{ExactRecords, Records};
 ///
 /// Ported from `tabled::settings::object::InversionCombination`.
 #[derive(Copy, Drop)]
+#[derive_where(Clone; O)]
 pub struct InversionCombination<O, I> {
-    object: O,
-    records: PhantomData<I>,
+    pub(super) object: O,
+    pub(super) records: PhantomData<I>,
 }
 
 impl<O, I> Model for InversionCombination<O, I> {
@@ -30,32 +31,6 @@ impl<O, I> Model for InversionCombination<O, I> {
     ghost view = { λ a. a.object };
 
     ghost inverse = { λ object. record { object = object; records = record {} } };
-}
-
-impl<O, I> InversionCombination<O, I> {
-    ghost use Rattle.std.specs.Prelude.{◌≡◌};
-
-    pub(super) fn new(object: O) -> Self
-        ensures { result ≡ object }
-    {
-        InversionCombination {
-            object,
-            records: PhantomData,
-        }
-    }
-}
-
-impl<O, I> Clone for InversionCombination<O, I>
-where
-    O: Clone,
-{
-    ghost is_clone = { O.is_clone };
-
-    ghost is_infallible = { O.is_infallible };
-
-    fn clone(&self) -> Result<Self, AllocError> {
-        Ok(InversionCombination::new(self.object.clone()?))
-    }
 }
 
 impl<O, I> Object<I> for InversionCombination<O, I>

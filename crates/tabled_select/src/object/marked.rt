@@ -47,7 +47,7 @@ impl Marked {
     {
         let mut set = Marked::new(alloc, rows, columns, size)?;
         for pos in Places::new(entities, rows, columns) {
-            set.mark(pos);
+            set.insert(pos);
         }
         Ok(set)
     }
@@ -71,16 +71,6 @@ impl Marked {
         let is_new = !self.marks[index];
         self.marks[index] = true;
         is_new
-    }
-
-    /// Marks a place.
-    #[inline]
-    fn mark(&mut self, pos: Position)
-        requires { HasRoom (all_marks self.old) pos }
-        ensures { SetsMark (all_marks self.old) (all_marks self.new) pos true }
-    {
-        let index = self.index_of(pos);
-        self.marks[index] = true;
     }
 
     /// Where the mark of a place of the table stands.

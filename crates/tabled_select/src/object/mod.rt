@@ -43,6 +43,7 @@ pub use rows::{FirstRow, LastRow, LastRowOffset, Row, Rows, RowsIter};
 pub use segment::{SectorIter, Segment, SegmentAll};
 pub use sieve::SieveIter;
 use std::alloc::{AllocError, Global};
+use std::marker::PhantomData;
 use tabled_grid::config::Entity;
 use tabled_grid::records::GridStore;
 pub use union::{UnionCombination, UnionIter};
@@ -59,8 +60,9 @@ pub trait Object<R: GridStore> {
     /// The entities that are named in a store with a grid.
     ghost lists: { Self → Grid R.Cell → List Entity → Type 0 };
 
-    /// The condition of use: a closure may be called on every argument of its kind.
-    ghost can_list: { Self → Type 0 };
+    /// The condition of use: a closure may be called on every argument of its kind. There is none, where nothing
+    /// else is said.
+    ghost can_list: { Self → Type 0 } = { λ _. Unit {0} };
 
     /// Goes over the named entities, in order.
     ///
@@ -82,7 +84,11 @@ pub trait Object<R: GridStore> {
         Self: Sized,
         ensures { result ≡ (self, rhs) }
     {
-        UnionCombination::new(self, rhs)
+        UnionCombination {
+            lhs: self,
+            rhs,
+            records: PhantomData,
+        }
     }
 
     /// Its own cells that the other doesn't name, in its own order and with its repeats.
@@ -95,7 +101,11 @@ pub trait Object<R: GridStore> {
         Self: Sized,
         ensures { result ≡ (self, rhs) }
     {
-        DiffCombination::new(self, rhs)
+        DiffCombination {
+            lhs: self,
+            rhs,
+            records: PhantomData,
+        }
     }
 
     /// Its own cells that the other names too, in its own order and with its repeats.
@@ -108,7 +118,11 @@ pub trait Object<R: GridStore> {
         Self: Sized,
         ensures { result ≡ (self, rhs) }
     {
-        IntersectionCombination::new(self, rhs)
+        IntersectionCombination {
+            lhs: self,
+            rhs,
+            records: PhantomData,
+        }
     }
 
     /// The cells of the table that aren't named, row by row. All are listed as `Cell`.
@@ -119,6 +133,9 @@ pub trait Object<R: GridStore> {
         Self: Sized,
         ensures { result ≡ self }
     {
-        InversionCombination::new(self)
+        InversionCombination {
+            object: self,
+            records: PhantomData,
+        }
     }
 }

@@ -29,7 +29,7 @@ use tabled_grid::records::{ExactRecords, GridStore, Records};
 /// Ported from `tabled::settings::object::Rows`.
 #[derive(Clone, Copy, Drop)]
 pub struct Rows<R> {
-    range: R,
+    pub(crate) range: R,
 }
 
 impl<R> Model for Rows<R> {
@@ -50,13 +50,6 @@ impl<R: ToBounds> Rows<R> {
         ensures { result ≡ range }
     {
         Rows { range }
-    }
-
-    /// The range.
-    pub(crate) fn get_range(&self) -> &R
-        ensures { result.now ≡ self.now }
-    {
-        &self.range
     }
 }
 
@@ -90,11 +83,12 @@ impl<R: ToBounds, I: ExactRecords> Object<I> for Rows<R> {
 
     ghost lists = { λ range g entities. entities ≡ rows_of (indexes (R.bounds_of range) g.rows) };
 
-    ghost can_list = { λ _. Unit {0} };
-
     fn cells(&self, _alloc: Global, records: &I) -> Result<RowsIter, AllocError> {
         let rows = self.range.to_range(records.count_rows());
-        Ok(RowsIter::new(rows.start, rows.end))
+        Ok(RowsIter {
+            start: rows.start,
+            end: rows.end,
+        })
     }
 }
 
@@ -146,8 +140,6 @@ impl<I: GridStore> Object<I> for Row {
 
     ghost lists = { λ index _ entities. entities ≡ rows_of (index ∷ []) };
 
-    ghost can_list = { λ _. Unit {0} };
-
     fn cells(&self, _alloc: Global, _records: &I) -> Result<EntityOnce, AllocError> {
         Ok(EntityOnce::new(Some(Entity::Row(self.index))))
     }
@@ -171,8 +163,6 @@ impl<I: Records + ExactRecords> Object<I> for FirstRow {
     type Iter = EntityOnce;
 
     ghost lists = { λ _ g entities. entities ≡ if_cells g.rows g.columns (rows_of (0 ∷ [])) };
-
-    ghost can_list = { λ _. Unit {0} };
 
     fn cells(&self, _alloc: Global, records: &I) -> Result<EntityOnce, AllocError> {
         if records.count_rows() == 0 || records.count_columns() == 0 {
@@ -211,8 +201,6 @@ impl<I: Records + ExactRecords> Object<I> for LastRow {
     type Iter = EntityOnce;
 
     ghost lists = { λ _ g entities. entities ≡ if_cells g.rows g.columns (rows_of ((g.rows - 1) ∷ [])) };
-
-    ghost can_list = { λ _. Unit {0} };
 
     fn cells(&self, _alloc: Global, records: &I) -> Result<EntityOnce, AllocError> {
         let rows = records.count_rows();
@@ -282,8 +270,6 @@ impl<I: Records + ExactRecords> Object<I> for LastRowOffset {
 
     ghost lists = { λ row g entities. entities ≡ if_cells g.rows g.columns (rows_of (index_from_last row g.rows)) };
 
-    ghost can_list = { λ _. Unit {0} };
-
     fn cells(&self, _alloc: Global, records: &I) -> Result<EntityOnce, AllocError> {
         let rows = records.count_rows();
         if rows == 0 || records.count_columns() == 0 {
@@ -310,14 +296,6 @@ impl Model for RowsIter {
     ghost view = { λ a. (a.start, a.end) };
 
     ghost inverse = { λ v. record { start = v.0; end = v.1 } };
-}
-
-impl RowsIter {
-    fn new(start: usize, end: usize) -> Self
-        ensures { result ≡ (start, end) }
-    {
-        RowsIter { start, end }
-    }
 }
 
 impl Iterator for RowsIter {

@@ -73,8 +73,6 @@ where
 
     ghost lists = { λ s g entities. entities ≡ cells_of (segment (R.bounds_of s.0) (C.bounds_of s.1) g.rows g.columns) };
 
-    ghost can_list = { λ _. Unit {0} };
-
     fn cells(&self, _alloc: Global, records: &I) -> Result<SectorIter, AllocError> {
         let rows = self.rows.to_range(records.count_rows());
         let columns = self.columns.to_range(records.count_columns());
@@ -100,8 +98,6 @@ impl<I: GridStore> Object<I> for SegmentAll {
     type Iter = EntityOnce;
 
     ghost lists = { λ _ _ entities. entities ≡ everything };
-
-    ghost can_list = { λ _. Unit {0} };
 
     fn cells(&self, _alloc: Global, _records: &I) -> Result<EntityOnce, AllocError> {
         Ok(EntityOnce::new(Some(Entity::Global)))

@@ -18,10 +18,11 @@ use tabled_grid::records::{ExactRecords, Records};
 ///
 /// Ported from `tabled::settings::object::UnionCombination`.
 #[derive(Copy, Drop)]
+#[derive_where(Clone; L, R)]
 pub struct UnionCombination<L, R, I> {
-    lhs: L,
-    rhs: R,
-    records: PhantomData<I>,
+    pub(super) lhs: L,
+    pub(super) rhs: R,
+    pub(super) records: PhantomData<I>,
 }
 
 impl<L, R, I> Model for UnionCombination<L, R, I> {
@@ -30,34 +31,6 @@ impl<L, R, I> Model for UnionCombination<L, R, I> {
     ghost view = { λ a. (a.lhs, a.rhs) };
 
     ghost inverse = { λ v. record { lhs = v.0; rhs = v.1; records = record {} } };
-}
-
-impl<L, R, I> UnionCombination<L, R, I> {
-    ghost use Rattle.std.specs.Prelude.{◌≡◌};
-
-    pub(super) fn new(lhs: L, rhs: R) -> Self
-        ensures { result ≡ (lhs, rhs) }
-    {
-        UnionCombination {
-            lhs,
-            rhs,
-            records: PhantomData,
-        }
-    }
-}
-
-impl<L, R, I> Clone for UnionCombination<L, R, I>
-where
-    L: Clone,
-    R: Clone,
-{
-    ghost is_clone = { λ a b. L.is_clone a.0 b.0 × R.is_clone a.1 b.1 };
-
-    ghost is_infallible = { λ a. L.is_infallible a.0 × R.is_infallible a.1 };
-
-    fn clone(&self) -> Result<Self, AllocError> {
-        Ok(UnionCombination::new(self.lhs.clone()?, self.rhs.clone()?))
-    }
 }
 
 impl<L, R, I> Object<I> for UnionCombination<L, R, I>
@@ -80,7 +53,10 @@ where
         all.append(&mut rhs)?;
         let named = count_named(&all, rows, columns);
         let seen = PlaceSet::room_for(alloc, &all, rows, columns, named)?;
-        Ok(UnionIter::new(all, seen, rows, columns))
+        Ok(UnionIter {
+            places: Places::new(all, rows, columns),
+            seen,
+        })
     }
 }
 
@@ -106,23 +82,6 @@ impl Model for UnionIter {
     ghost view = { λ a. cells_of (filter (passes false (marks_of a.seen)) (firsts a.places)) };
 
     ghost invariant = { λ a. AllByRecursion (HasRoom (marks_of a.seen)) a.places };
-}
-
-impl UnionIter {
-    ghost use Rattle.std.specs.Prelude.{◌≡◌, false};
-    ghost use Rattle.tabled_select.specs.Algebra.{cells_of, firsts, flat};
-    ghost use Rattle.tabled_select.specs.Marks.{MarksAll};
-    ghost use Rattle.tabled_select.specs.Sets.{marks_of};
-
-    fn new(entities: Vec<Entity>, seen: PlaceSet, rows: usize, columns: usize) -> Self
-        requires { MarksAll (marks_of seen) (flat entities.items rows columns) false }
-        ensures { result ≡ cells_of (firsts (flat entities.items rows columns)) }
-    {
-        UnionIter {
-            places: Places::new(entities, rows, columns),
-            seen,
-        }
-    }
 }
 
 impl Iterator for UnionIter {

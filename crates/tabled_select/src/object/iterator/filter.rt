@@ -19,9 +19,9 @@ use tabled_grid::records::GridStore;
 /// Ported from `tabled::settings::object::FilterObject`.
 #[derive(Clone, Copy, Drop)]
 pub struct FilterObject<O, F, R> {
-    object: O,
-    predicate: F,
-    records: PhantomData<R>,
+    pub(super) object: O,
+    pub(super) predicate: F,
+    pub(super) records: PhantomData<R>,
 }
 
 impl<O, F, R> Model for FilterObject<O, F, R> {
@@ -30,20 +30,6 @@ impl<O, F, R> Model for FilterObject<O, F, R> {
     ghost view = { λ a. (a.object, a.predicate) };
 
     ghost inverse = { λ v. record { object = v.0; predicate = v.1; records = record {} } };
-}
-
-impl<O, F, R> FilterObject<O, F, R> {
-    ghost use Rattle.std.specs.Prelude.{◌≡◌};
-
-    pub(super) fn new(object: O, predicate: F) -> Self
-        ensures { result ≡ (object, predicate) }
-    {
-        FilterObject {
-            object,
-            predicate,
-            records: PhantomData,
-        }
-    }
 }
 
 impl<O, F, R> Object<R> for FilterObject<O, F, R>
@@ -61,9 +47,7 @@ where
     fn cells(&self, alloc: Global, records: &R) -> Result<FilterObjectIter, AllocError> {
         let mut all = entities(alloc, &self.object, records)?;
         keep(&mut all, &self.predicate);
-        Ok(FilterObjectIter {
-            entities: all.into_iter(),
-        })
+        Ok(all.into_iter())
     }
 }
 
@@ -75,34 +59,7 @@ fn keep<F: Fn(Entity) -> bool>(entities: &mut Vec<Entity>, predicate: &F)
     entities.retain(|entity| predicate(*entity));
 }
 
-/// Gives the entities to which a closure said yes. A contract sees it as the list of what is left.
+/// Gives the entities to which a closure said yes.
 ///
 /// Ported from `tabled::settings::object::FilterObjectIter`.
-#[derive(Drop)]
-pub struct FilterObjectIter {
-    entities: vec::IntoIter<Entity>,
-}
-
-impl Model for FilterObjectIter {
-    ghost use Rattle.std.specs.Prelude.{List};
-    ghost use Rattle.std.specs.Vec.Iter.{into_iter_items};
-    ghost use Rattle.tabled_grid.specs.declared.config.entity.Entity.{Entity};
-
-    ghost Value = { List Entity };
-
-    ghost view = { λ a. into_iter_items a.entities };
-}
-
-impl Iterator for FilterObjectIter {
-    type Item = Entity;
-
-    ghost use Rattle.std.specs.Iterator.{YieldsFirst, item_count};
-
-    ghost next_gives = { YieldsFirst (λ s. s) };
-
-    ghost remaining = { item_count (λ s. s) };
-
-    fn next(&mut self) -> Option<Entity> {
-        self.entities.next()
-    }
-}
+pub type FilterObjectIter = vec::IntoIter<Entity>;

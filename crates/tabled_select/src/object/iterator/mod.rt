@@ -9,6 +9,7 @@ mod step_by;
 use crate::object::Object;
 pub use filter::{FilterObject, FilterObjectIter};
 pub use skip::{SkipObject, SkipObjectIter};
+use std::marker::PhantomData;
 pub use step_by::{StepByObject, StepByObjectIter};
 use tabled_grid::config::Entity;
 use tabled_grid::records::GridStore;
@@ -25,7 +26,11 @@ pub trait ObjectIterator<R: GridStore>: Object<R> {
         Self: Sized,
         ensures { result ≡ (self, n) }
     {
-        SkipObject::new(self, n)
+        SkipObject {
+            object: self,
+            n,
+            records: PhantomData,
+        }
     }
 
     /// Keeps the entities 0, n, 2n and so on, and none where n is 0.
@@ -36,7 +41,11 @@ pub trait ObjectIterator<R: GridStore>: Object<R> {
         Self: Sized,
         ensures { result ≡ (self, n) }
     {
-        StepByObject::new(self, n)
+        StepByObject {
+            object: self,
+            n,
+            records: PhantomData,
+        }
     }
 
     /// Keeps the entities for which the closure says yes.
@@ -48,7 +57,11 @@ pub trait ObjectIterator<R: GridStore>: Object<R> {
         F: Fn(Entity) -> bool,
         ensures { result ≡ (self, predicate) }
     {
-        FilterObject::new(self, predicate)
+        FilterObject {
+            object: self,
+            predicate,
+            records: PhantomData,
+        }
     }
 }
 

@@ -5,8 +5,8 @@ ghost use Rattle.tabled_grid.specs.declared.config.entity.Entity.{Entity};
 
 use crate::object::Object;
 use std::alloc::{AllocError, Global};
+use std::iter;
 use std::marker::{Model, PhantomData};
-use std::mem;
 use tabled_grid::records::GridStore;
 
 /// An object without its first entities. A contract sees it as the object and their number.
@@ -14,9 +14,9 @@ use tabled_grid::records::GridStore;
 /// Ported from `tabled::settings::object::SkipObject`.
 #[derive(Clone, Copy, Drop)]
 pub struct SkipObject<O, R> {
-    object: O,
-    n: usize,
-    records: PhantomData<R>,
+    pub(super) object: O,
+    pub(super) n: usize,
+    pub(super) records: PhantomData<R>,
 }
 
 impl<O, R> Model for SkipObject<O, R> {
@@ -29,20 +29,6 @@ impl<O, R> Model for SkipObject<O, R> {
     ghost inverse = { λ v. record { object = v.0; n = v.1; records = record {} } };
 }
 
-impl<O, R> SkipObject<O, R> {
-    ghost use Rattle.std.specs.Prelude.{◌≡◌};
-
-    pub(super) fn new(object: O, n: usize) -> Self
-        ensures { result ≡ (object, n) }
-    {
-        SkipObject {
-            object,
-            n,
-            records: PhantomData,
-        }
-    }
-}
-
 impl<O: Object<R>, R: GridStore> Object<R> for SkipObject<O, R> {
     type Iter = SkipObjectIter<O::Iter>;
 
@@ -51,52 +37,11 @@ impl<O: Object<R>, R: GridStore> Object<R> for SkipObject<O, R> {
     ghost can_list = { λ s. O.can_list s.0 };
 
     fn cells(&self, alloc: Global, records: &R) -> Result<SkipObjectIter<O::Iter>, AllocError> {
-        let all = self.object.cells(alloc, records)?;
-        Ok(SkipObjectIter {
-            entities: all,
-            ahead: self.n,
-        })
+        Ok(self.object.cells(alloc, records)?.skip(self.n))
     }
 }
 
-/// Gives what an iterator gives after its first entities. A contract sees it as the iterator and
-/// how many are still to be passed over.
+/// Gives what an iterator gives after its first entities.
 ///
 /// Ported from `tabled::settings::object::SkipObjectIter`.
-#[derive(Drop)]
-pub struct SkipObjectIter<I> {
-    entities: I,
-    ahead: usize,
-}
-
-impl<I> Model for SkipObjectIter<I> {
-    ghost use Rattle.std.specs.Prelude.{ℕ};
-
-    ghost Value = { I × ℕ };
-
-    ghost view = { λ a. (a.entities, a.ahead) };
-
-    ghost inverse = { λ v. record { entities = v.0; ahead = v.1 } };
-}
-
-impl<I: Iterator> Iterator for SkipObjectIter<I>
-where
-    I::Item: Drop,
-{
-    type Item = I::Item;
-
-    ghost use Rattle.std.specs.Prelude.{◌-◌};
-    ghost use Rattle.std.specs.Iterator.{count_map};
-    ghost use Rattle.tabled_select.specs.Walks.{HopsOver};
-
-    ghost can_next = { λ s. I.can_next s.0 };
-
-    ghost next_gives = { HopsOver I.next_gives 0 };
-
-    ghost remaining = { λ s. count_map (λ n. n - s.1) (I.remaining s.0) };
-
-    fn next(&mut self) -> Option<I::Item> {
-        let ahead = mem::replace(&mut self.ahead, 0);
-        self.entities.nth(ahead)
-    }
-}
+pub type SkipObjectIter<I> = iter::Skip<I>;

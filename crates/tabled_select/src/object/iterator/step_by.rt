@@ -16,9 +16,9 @@ use tabled_grid::records::GridStore;
 /// Ported from `tabled::settings::object::StepByObject`.
 #[derive(Clone, Copy, Drop)]
 pub struct StepByObject<O, R> {
-    object: O,
-    n: usize,
-    records: PhantomData<R>,
+    pub(super) object: O,
+    pub(super) n: usize,
+    pub(super) records: PhantomData<R>,
 }
 
 impl<O, R> Model for StepByObject<O, R> {
@@ -29,20 +29,6 @@ impl<O, R> Model for StepByObject<O, R> {
     ghost view = { λ a. (a.object, a.n) };
 
     ghost inverse = { λ v. record { object = v.0; n = v.1; records = record {} } };
-}
-
-impl<O, R> StepByObject<O, R> {
-    ghost use Rattle.std.specs.Prelude.{◌≡◌};
-
-    pub(super) fn new(object: O, n: usize) -> Self
-        ensures { result ≡ (object, n) }
-    {
-        StepByObject {
-            object,
-            n,
-            records: PhantomData,
-        }
-    }
 }
 
 impl<O: Object<R>, R: GridStore> Object<R> for StepByObject<O, R> {

@@ -1,5 +1,5 @@
-use Rattle.std.proofs.Common.{◌≡◌, ◌∙◌, List, map, map-id, refl, subst, sym}
-use Rattle.std.proofs.lemmas.Iterator.{YieldsList, items_from_drains}
+use Rattle.std.proofs.Common.{◌≡◌, ◌∙◌, map-id, subst, sym}
+use Rattle.std.proofs.lemmas.Iterator.{items_from_drains}
 use Rattle.tabled_select.specs.Located.{TellsLocated}
 use Rattle.tabled_select.proofs.LocatedMarks.{all-told, none-told}
 use Rattle.tabled_select.proofs.location.marking.marks.Goals as goal

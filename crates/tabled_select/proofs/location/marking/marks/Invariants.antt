@@ -1,4 +1,3 @@
-use Rattle.std.proofs.Common.{◌≡◌}
 use Rattle.tabled_select.specs.Located.{TellsLocated}
 use Rattle.tabled_select.proofs.location.marking.marks.Given as goal
 

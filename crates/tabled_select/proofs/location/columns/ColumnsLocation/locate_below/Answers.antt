@@ -10,5 +10,5 @@ returns-clause-lists g c =
       _,
       refl,
       inr (range-cut _ _ c.args.limit.now),
-      λ iter e. rw e (range-gives _ _ _ _ (rw (range.start, c.get_range.ensures) refl) (rw (c.min.ensures, range.end, c.get_range.ensures, c.count_columns.ensures.columns) refl)),
+      λ iter e. rw e (range-gives _ _ _ _ (rw (range.start, c.self.view_is) refl) (rw (c.min.ensures, range.end, c.self.view_is, c.count_columns.ensures.columns) refl)),
     )

@@ -16,8 +16,8 @@ loop-pos-init c =
       marked = marked-first (all_marks c.in_ok-set.set) _ _ all none.just;
     }
 
-pub mark-requires : goal.mark-requires
-mark-requires c = (rw c.in-Some.ensures.steps at c.loop-pos.invariant.left).0
+pub insert-requires : goal.insert-requires
+insert-requires c = (rw c.in-Some.ensures.steps at c.loop-pos.invariant.left).0
 
 pub loop-pos-preserved : goal.loop-pos-preserved
 loop-pos-preserved c =
@@ -26,10 +26,10 @@ loop-pos-preserved c =
     record {
       can = tt;
       ends = tt;
-      left = room-kept _ _ _ _ c.mark.ensures _ left.1;
-      room = room-kept _ _ _ _ c.mark.ensures _ before.room;
-      others = λ others. room-kept _ _ _ _ c.mark.ensures _ (before.others others);
-      marked = marked-next _ _ _ _ _ _ c.in-Some.ensures.steps c.mark.ensures before.marked;
+      left = room-kept _ _ _ _ c.insert.ensures.set _ left.1;
+      room = room-kept _ _ _ _ c.insert.ensures.set _ before.room;
+      others = λ others. room-kept _ _ _ _ c.insert.ensures.set _ (before.others others);
+      marked = marked-next _ _ _ _ _ _ c.in-Some.ensures.steps c.insert.ensures.set before.marked;
     }
 
 pub returns-clause-marked : goal.returns-clause-marked

@@ -1,15 +1,19 @@
-use Rattle.tabled_select.proofs.Shown.{ListsAll-rest}
+use Rattle.std.proofs.Common.{◌∙◌, ap, refl}
+use Rattle.tabled_select.specs.Algebra.{cells_of, firsts}
+use Rattle.tabled_select.specs.Sets.{marks_of}
 use Rattle.tabled_select.proofs.NamedPlaces.{flat-append}
+use Rattle.tabled_select.proofs.Shown.{shown_are_listed}
+use Rattle.tabled_select.proofs.Uniting.{fresh-all}
 use Rattle.tabled_select.proofs.object.union.UnionCombinationObject.cells.Goals as goal
 
 pub returns : goal.returns
 returns g c =
     let grid = g.I.GridStore.grid c.args.records.now in
-    let lists = rw (c.count_rows-rows.ensures.rows, c.count_columns-columns.ensures.columns, c.in_ok-append.ensures.items, flat-append c.in_ok-all.all.items c.in_ok-rhs.rhs.items grid.rows grid.columns) at c.new.ensures in
+    let all = ap firsts (rw (c.count_rows-rows.ensures.rows, c.count_columns-columns.ensures.columns, c.in_ok-append.ensures.items, flat-append c.in_ok-all.all.items c.in_ok-rhs.rhs.items grid.rows grid.columns) at c.new.ensures) in
     record {
       lists = (
-        c.new.result,
-        (c.in_ok-all.all.items, c.in_ok-rhs.rhs.items, rw (← c.self.view_is) c.in_ok-all.ensures, rw (← c.self.view_is) c.in_ok-rhs.ensures, lists),
-        ListsAll-rest _ _ tt,
+        _,
+        (c.in_ok-all.all.items, c.in_ok-rhs.rhs.items, rw (← c.self.view_is) c.in_ok-all.ensures, rw (← c.self.view_is) c.in_ok-rhs.ensures, refl),
+        shown_are_listed _ _ _ _ tt (ap cells_of (fresh-all (marks_of c.in_ok-seen.seen) _ _ c.in_ok-seen.ensures ∙ all)),
       );
     }
