@@ -1,37 +1,19 @@
 -- Runs of entities, of which some are passed over.
 use Rattle.std.proofs.Common.{◌≡◌, ℕ, zero, suc, ◌+◌, ◌-◌, ◌*◌, ◌/◌, ◌%◌, ◌<◌, ◌≤◌, ◌⊎◌, inl, inr, List, [], ◌∷◌, ◌++◌, refl, sym, subst, ap, ap₂, ◌∙◌, map, drop, arith, replicate, append-nil}
-use Rattle.std.proofs.Math.Nat.{div-mul-le_self, mod-eq-sub-div-mul, mod-lt, mul-mod_left, suc-mul}
-use Rattle.std.proofs.lemmas.Bool.{cases_lt, ne_eqb}
+use Rattle.std.proofs.Math.Nat.{div-mul-le_self, mod-eq-sub-div-mul, mod-lt, suc-mul}
+use Rattle.std.proofs.lemmas.Bool.{cases_lt}
 use Rattle.std.proofs.lemmas.Grind.{flat_map-append}
 use Rattle.std.proofs.lemmas.List.{append_assoc, drop-map}
-use Rattle.std.proofs.lemmas.Nat.{mod-mul-add}
-use Rattle.std.specs.List.{AllByRecursion, enumerate_from, filter}
-use Rattle.std.specs.Prelude.{◌==◌}
+use Rattle.std.specs.List.{AllByRecursion}
 use Rattle.tabled_grid.specs.Entity.{inside}
 use Rattle.tabled_grid.specs.declared.config.entity.Entity.{Entity}
 use Rattle.tabled_grid.specs.declared.config.position.Position.{Position}
 use Rattle.tabled_grid.proofs.Lists.{all-append}
+use Rattle.tabled_select.proofs.Stepped.{every-from, every_from}
 use Rattle.tabled_select.specs.Steps.{every}
 use Rattle.tabled_steps.specs.Reached.{IsReached, IsRun, PassesRuns, StepsRuns, named_places, once, unrolled}
 use Rattle.tabled_steps.specs.declared.reached.Run.{Run}
 use Rattle.tabled_steps.proofs.Outside.{each_once}
-
--- the members at the places k, k + 1 + n, k + 2 (1 + n) and so on
-abbrev pub every_from : {A : Type 0} → ℕ → ℕ → List A → List A
-every_from n k [] = []
-every_from n zero (x ∷ xs) = x ∷ every_from n n xs
-every_from n (suc k) (x ∷ xs) = every_from n k xs
-
--- of places from i on, those that 1 + n divides: the first such place is i + k
-every-from : {A : Type 0} (n k i q : ℕ) (xs : List A) → k ≤ n → i + k ≡ q * suc n → map (λ p. p.1) (filter (λ p. p.0 % suc n == 0) (enumerate_from i xs)) ≡ every_from n k xs
-every-from n k i q [] h e = refl
-every-from n zero i q (x ∷ xs) h e =
-    let divides : i % suc n ≡ 0 = ap (λ m. m % suc n) (omega (arith, e)) ∙ mul-mod_left q (suc n) in
-    rw divides (ap (λ ys. x ∷ ys) (every-from n n (i + 1) (q + 1) xs (omega arith) (omega (arith, e))))
-every-from n (suc k) i zero (x ∷ xs) h e = absurd (omega (arith, e))
-every-from n (suc k) i (suc q) (x ∷ xs) h e =
-    let rest : i % suc n ≡ n - k = ap (λ m. m % suc n) (omega (arith, e)) ∙ mod-mul-add q (suc n) (n - k) (omega arith) in
-    rw (rest, ne_eqb (n - k) 0 (λ z. omega arith)) (every-from n k (i + 1) (suc q) xs (omega arith) (omega (arith, e)))
 
 every_from-map : {A B : Type 0} (f : A → B) (n k : ℕ) (xs : List A) → every_from n k (map f xs) ≡ map f (every_from n k xs)
 every_from-map f n k [] = refl

@@ -2,7 +2,8 @@ use Rattle.std.proofs.Common.{◌≡◌, suc, ◌+◌, ◌-◌, ◌/◌, ◌%◌
 use Rattle.std.proofs.Math.Nat.{div-le_self}
 use Rattle.tabled_steps.specs.Reached.{StepsRuns}
 use Rattle.tabled_steps.specs.declared.reached.Run.{Run}
-use Rattle.tabled_steps.proofs.RunSteps.{every_from, every_from-past, passed-into, passed-past, step-into, stepped}
+use Rattle.tabled_select.proofs.Stepped.{every_from}
+use Rattle.tabled_steps.proofs.RunSteps.{every_from-past, passed-into, passed-past, step-into, stepped}
 use Rattle.tabled_steps.proofs.StepsUntil.{none_left}
 use Rattle.tabled_steps.proofs.reached.step_runs.Goals as goal
 

@@ -1,6 +1,7 @@
 use Rattle.std.proofs.Common.{◌≡◌, ◌-◌, length}
 use Rattle.std.specs.Vec.Iter.{into_iter_items, into_iter_len}
-use Rattle.tabled_steps.proofs.RunSteps.{PassedRuns, every_from}
+use Rattle.tabled_select.proofs.Stepped.{every_from}
+use Rattle.tabled_steps.proofs.RunSteps.{PassedRuns}
 use Rattle.tabled_steps.proofs.reached.step_runs.Given as goal
 
 abbrev pub invariant-loop-run : goal.invariant-loop-run
