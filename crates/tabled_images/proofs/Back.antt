@@ -1,5 +1,5 @@
 -- A map of places and one that leads back.
-use Rattle.std.proofs.Common.{◌≡◌, ℕ, Some, sym, ap, subst, ◌∙◌}
+use Rattle.std.proofs.Common.{◌≡◌, ℕ, Some, ap, subst, ◌∙◌}
 use Rattle.std.specs.FinMap.{get}
 use Rattle.tabled_grid.specs.Anchors.{Anchor}
 use Rattle.tabled_grid.specs.Midway.{In}
@@ -7,7 +7,7 @@ use Rattle.tabled_grid.specs.Places.{Places}
 use Rattle.tabled_grid.specs.Rectangles.{Fits}
 use Rattle.tabled_grid.specs.Spans.{AreSpanSizes, SpanMap}
 use Rattle.tabled_grid.specs.declared.config.position.Position.{Position}
-use Rattle.tabled_images.specs.Images.{Carries, CarriesAll, IsFull, IsImage, LeadsBack, Takes, carried, image}
+use Rattle.tabled_images.specs.Images.{Carries, CarriesAll, IsFull, IsImage, LeadsBack, carried, image}
 use Rattle.tabled_grid.proofs.Fitting.{keep_fitting-all}
 use Rattle.tabled_images.proofs.RectanglesCarried.{carries_one, image_fits, image_is, image_one, takes_one}
 

@@ -1,26 +1,15 @@
 -- What is carried along fits the new table.
-use Rattle.std.proofs.Common.{◌≡◌, ℕ, ◌+◌, ◌≤◌, ◌⊎◌, inl, inr, Bool, true, false, cond, List, [], ◌∷◌, Option, None, Some, refl, sym, ap, ap₂, subst, ◌∙◌, arith, length}
-use Rattle.std.specs.Prelude.{T, ◌==◌, ◌&&◌, ◌||◌, not}
-use Rattle.std.specs.FinMap.{empty, from_entries, len-empty, len-entries, entries, entries-from_sorted, entries_sorted, find, from_sorted, get, get-entries, get-from_sorted, is_sorted, same_map}
-use Rattle.std.specs.List.{AllByRecursion, filter, list_all}
-use Rattle.std.proofs.lemmas.Bool.{and_from, and_parts, cases_Bool, or_cases, or_left, or_right, not_from_false, false_from_ne_true}
-use borrow.Author.Tests.{eqb-true, eq-eqb, leb-true, le-leb}
-use Rattle.tabled_grid.specs.Anchors.{Anchor, lies_inside, meets}
-use Rattle.tabled_grid.specs.Entity.{place, same_place}
-use Rattle.tabled_grid.specs.Midway.{In}
+use Rattle.std.proofs.Common.{◌≡◌, ℕ, false, List, [], ◌∷◌, refl, ap, ◌∙◌}
+use Rattle.std.specs.FinMap.{empty, from_entries, entries, entries-from_sorted, from_sorted}
+use Rattle.std.specs.List.{filter}
+use Rattle.tabled_grid.specs.Anchors.{Anchor}
 use Rattle.tabled_grid.specs.Places.{Places}
-use Rattle.tabled_grid.specs.Rectangles.{Fits, in_rect}
-use Rattle.tabled_grid.specs.Spans.{AreAnchors, AreSpanSizes, IsSpanSize, SpanMap, position_cmp}
-use Rattle.tabled_grid.specs.declared.config.position.Position.{Position}
-use Rattle.tabled_grid.proofs.FittingAnchors.{shared}
-use Rattle.tabled_grid.proofs.PassedAnchors.{meets-from, meets-true}
-use Rattle.tabled_grid.proofs.SpanMaps.{in_rect-true, same_place-self, same_place-true}
-use Rattle.tabled_grid.proofs.Spans.{positions_exact, positions_total, span_sizes}
-use Rattle.tabled_images.specs.Images.{IsImage, carried, image, images, rectangles}
+use Rattle.tabled_grid.specs.Rectangles.{Fits}
+use Rattle.tabled_grid.specs.Spans.{AreSpanSizes, SpanMap, position_cmp}
+use Rattle.tabled_images.specs.Images.{carried, images, rectangles}
 use Rattle.tabled_images.proofs.RectanglesCarried.{image_fits, image_is}
 use Rattle.tabled_grid.proofs.Fitting.{keep_fitting-fits}
 use Rattle.tabled_grid.specs.Fitting.{fitting, keep_fitting}
-use Rattle.tabled_grid.proofs.Members.{Member, all-from, all-member, filter-from, filter-member, find-member, sorted-filter, sorted-find}
 
 no_images : (fs : List Anchor) → filter (λ (f : Anchor). false) fs ≡ []
 no_images [] = refl

@@ -1,7 +1,7 @@
 -- A list of the images of rectangles, as it grows and once it is sorted.
-use Rattle.std.proofs.Common.{◌≡◌, ℕ, zero, suc, ◌+◌, ◌-◌, ◌<◌, ◌≤◌, ◌⊎◌, inl, inr, Bool, true, false, cond, List, [], ◌∷◌, ◌++◌, Option, None, Some, refl, sym, ap, ap₂, subst, ◌∙◌, add-one, arith, length, get_or, take}
+use Rattle.std.proofs.Common.{◌≡◌, ℕ, zero, suc, ◌+◌, ◌<◌, ◌≤◌, ◌⊎◌, inl, inr, Bool, true, false, cond, List, [], ◌∷◌, ◌++◌, Some, refl, sym, ap, ap₂, subst, ◌∙◌, add-one, arith, length, get_or, take}
 use Rattle.std.specs.Prelude.{T, ◌&&◌, ◌==◌}
-use Rattle.std.specs.FinMap.{entries, entries-from_sorted, find, from_sorted, get, get-from_sorted, is_sorted}
+use Rattle.std.specs.FinMap.{from_sorted, get, get-from_sorted, is_sorted}
 use Rattle.std.specs.FinMap.Entries.{below_all}
 use Rattle.std.specs.List.{AllByRecursion, list_any, sum_by}
 use Rattle.std.specs.List.Sorted.{IsPermutation, IsSortedByKey}
@@ -12,20 +12,19 @@ use Rattle.std.proofs.lemmas.Bool.{and_from, and_parts, cases_Bool}
 use Rattle.std.proofs.lemmas.List.{take_more}
 use Rattle.std.proofs.lemmas.List.Sorted.{list_any-IsPermutation, sum_by-IsPermutation}
 use Rattle.std.proofs.lemmas.List.Sums.{sum_by-append, sum_by-cons}
-use Rattle.std.proofs.lemmas.Option.{same_Some}
 use borrow.Author.Tests.{eqb-true, eq-eqb}
 use Rattle.tabled_grid.specs.Anchors.{Anchor}
-use Rattle.tabled_grid.specs.Entity.{place, same_place}
+use Rattle.tabled_grid.specs.Entity.{same_place}
 use Rattle.tabled_grid.specs.Midway.{In}
 use Rattle.tabled_grid.specs.Places.{Places}
-use Rattle.tabled_grid.specs.Rectangles.{Fits, in_rect}
-use Rattle.tabled_grid.specs.Spans.{AreAnchors, IsSpanSize, SpanMap, position_cmp}
+use Rattle.tabled_grid.specs.Rectangles.{Fits}
+use Rattle.tabled_grid.specs.Spans.{AreAnchors, IsSpanSize, position_cmp}
 use Rattle.tabled_grid.specs.declared.config.position.Position.{Position}
 use Rattle.tabled_grid.proofs.PassedAnchors.{Earlier, earlier}
 use Rattle.tabled_grid.proofs.Shifts.{from_earlier}
 use Rattle.tabled_grid.proofs.SpanMaps.{halves, in_rect-from, same_place-self, same_place-true}
 use Rattle.tabled_grid.proofs.Spans.{positions_exact, positions_total}
-use Rattle.tabled_images.specs.Images.{Carries, IsFull, IsImage, Takes, image}
+use Rattle.tabled_images.specs.Images.{Carries, IsFull, IsImage, image}
 use Rattle.tabled_images.proofs.RectanglesCarried.{carries_more, first_in, image_is, image_one, takes_one, carries_one}
 use Rattle.tabled_grid.proofs.Members.{Member, any-from, any-member, below-member, find-member, member-either, member-left, member-right, sorted-find}
 

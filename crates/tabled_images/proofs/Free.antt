@@ -1,7 +1,7 @@
 -- What fits is what lies inside and shares no cell with another rectangle.
-use Rattle.std.proofs.Common.{◌≡◌, ℕ, ◌+◌, ◌≤◌, ◌⊎◌, inl, inr, Bool, true, false, Some, refl, sym, ap, subst, ◌∙◌}
+use Rattle.std.proofs.Common.{◌≡◌, ℕ, ◌⊎◌, inl, inr, Bool, true, false, Some, sym, ap, subst, ◌∙◌}
 use Rattle.std.specs.Prelude.{◌||◌, not}
-use Rattle.std.specs.FinMap.{entries, entries_sorted, from_sorted, get, get-entries, get-from_sorted}
+use Rattle.std.specs.FinMap.{entries, entries_sorted, get, get-entries, get-from_sorted}
 use Rattle.std.specs.List.{list_all}
 use Rattle.std.proofs.lemmas.Bool.{and_from, and_parts, cases_Bool, not_from_false, or_cases, or_left, or_right}
 use borrow.Author.Tests.{leb-true, le-leb}

@@ -1,24 +1,20 @@
 -- Rectangles carried along fit the new table, and the map of them is the image.
-use Rattle.std.proofs.Common.{◌≡◌, ℕ, ◌+◌, ◌-◌, ◌<◌, ◌≤◌, ◌⊎◌, inl, inr, Bool, true, false, List, [], ◌∷◌, Option, None, Some, map, refl, sym, ap, ap₂, subst, ◌∙◌, arith}
-use Rattle.std.specs.Prelude.{◌&&◌, ◌||◌, T, not}
-use Rattle.std.specs.FinMap as finite
-use Rattle.std.specs.FinMap.{find, from_entries, entries, entries_sorted, get, get-entries, get-from_entries, get-from_sorted, from_sorted, is_sorted, same_map}
-use Rattle.std.specs.List.{filter, list_all, list_any}
-use Rattle.std.proofs.lemmas.Bool.{and_from, and_parts, cases_Bool, cases_lt, or_cases, or_left, or_right, not_from_false, false_from_ne_true}
-use Rattle.std.proofs.lemmas.Option.{none-some, same_Some}
-use borrow.Author.Tests.{leb-true, le-leb}
-use Rattle.tabled_grid.specs.Anchors.{Anchor, lies_inside, meets}
+use Rattle.std.proofs.Common.{◌≡◌, ℕ, ◌+◌, ◌-◌, ◌<◌, ◌≤◌, ◌⊎◌, inl, inr, Bool, true, false, Option, None, Some, map, refl, sym, ap, ap₂, subst, ◌∙◌, arith}
+use Rattle.std.specs.FinMap.{entries, entries_sorted, get, get-entries, get-from_entries, same_map}
+use Rattle.std.specs.List.{list_all, list_any}
+use Rattle.std.proofs.lemmas.Bool.{and_from, and_parts, cases_lt}
+use Rattle.std.proofs.lemmas.Option.{same_Some}
+use Rattle.tabled_grid.specs.Anchors.{Anchor}
 use Rattle.tabled_grid.specs.Entity.{block, place, same_place}
 use Rattle.tabled_grid.specs.Midway.{In}
 use Rattle.tabled_grid.specs.Places.{Places}
 use Rattle.tabled_grid.specs.Rectangles.{Fits, in_rect}
-use Rattle.tabled_grid.specs.Spans.{AreSpanSizes, IsSpanSize, SpanMap, position_cmp}
+use Rattle.tabled_grid.specs.Spans.{IsSpanSize, SpanMap, position_cmp}
 use Rattle.tabled_grid.specs.declared.config.position.Position.{Position}
-use Rattle.tabled_grid.proofs.PassedAnchors.{meets-from}
 use Rattle.tabled_grid.proofs.SpanMaps.{in_rect-from, in_rect-true, same_place-self, same_place-true}
 use Rattle.tabled_grid.proofs.Spans.{positions_exact, positions_total}
 use Rattle.tabled_images.specs.Images.{Carries, IsFull, IsImage, Takes, alike, carries, cells_of, image, images, passes, rectangles}
-use Rattle.tabled_grid.proofs.Members.{Member, all-from, all-member, any-from, any-member, block-from, block-member, filter-from, filter-member, find-member, flat_map-from, flat_map-member, map-from, map-member, member-find, sorted-filter, sorted-find}
+use Rattle.tabled_grid.proofs.Members.{Member, all-from, all-member, any-from, any-member, block-from, block-member, filter-from, filter-member, find-member, flat_map-from, flat_map-member, map-from, map-member, member-find, sorted-find}
 
 -- the first and the last cell of a rectangle
 abbrev last_of : Anchor → Position

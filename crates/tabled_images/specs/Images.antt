@@ -1,9 +1,9 @@
 -- Merged cells, carried along when cells move.
-use Rattle.std.specs.Prelude.{◌≡◌, ◌<◌, ◌≤◌, ℕ, ◌+◌, ◌-◌, ◌&&◌, ◌||◌, if◌then◌else◌, Bool, true, false, List, Option, None, Some, map, nat_lt, not}
+use Rattle.std.specs.Prelude.{◌≡◌, ◌<◌, ◌≤◌, ℕ, ◌+◌, ◌-◌, ◌&&◌, if◌then◌else◌, Bool, false, List, Option, None, Some, map, not}
 use Rattle.std.specs.FinMap as finite
 use Rattle.std.specs.List.{filter, flat_map, list_all, list_any}
 use Rattle.tabled_grid.specs.Anchors.{Anchor}
-use Rattle.tabled_grid.specs.Entity.{block, place, same_place}
+use Rattle.tabled_grid.specs.Entity.{block, same_place}
 use Rattle.tabled_grid.specs.Fitting.{keep_fitting}
 use Rattle.tabled_grid.specs.Midway.{In}
 use Rattle.tabled_grid.specs.Places.{Places}

@@ -1,5 +1,6 @@
 //! Rectangles, put in order row by row.
 
+ghost use Rattle.std.specs.Prelude.{◌≡◌, length};
 ghost use Rattle.std.specs.List.Sorted.{IsPermutation, IsSortedByKey};
 ghost use Rattle.tabled_grid.specs.Anchors.{Anchor};
 ghost use Rattle.tabled_grid.specs.Spans.{position_cmp};
@@ -9,6 +10,7 @@ use crate::images::Rectangle;
 /// Puts rectangles in order.
 pub(crate) fn sort(rectangles: &mut [Rectangle])
     ensures permutation { IsPermutation rectangles.old rectangles.new }
+    ensures len { length rectangles.new ≡ length rectangles.old }
     ensures sorted { IsSortedByKey (λ (f : Anchor). f.0) position_cmp rectangles.new }
 {
     if falls(rectangles) {
@@ -29,7 +31,8 @@ fn falls(rectangles: &[Rectangle]) -> bool {
 ///
 /// What comes row by row from the last one is then in order, which costs less than a sort of it.
 fn turn_rows_over(rectangles: &mut [Rectangle])
-    ensures { IsPermutation rectangles.old rectangles.new }
+    ensures permutation { IsPermutation rectangles.old rectangles.new }
+    ensures len { length rectangles.new ≡ length rectangles.old }
 {
     rectangles.reverse();
     let mut start = 0;

@@ -1,4 +1,4 @@
-use Rattle.std.proofs.Common.{subst, sym, rules}
+use Rattle.std.proofs.Common.{subst, rules}
 use Rattle.std.specs.List.Sorted.{IsPermutation}
 use Rattle.std.proofs.lemmas.List.Sorted.{IsPermutation-trans, answers_always}
 use Rattle.tabled_grid.specs.Anchors.{Anchor}
@@ -8,7 +8,7 @@ use Rattle.tabled_images.proofs.sort.sort.Goals.{then-falls, else-falls}
 pub returns-clause-permutation : goal.returns-clause-permutation
 returns-clause-permutation c =
     elim c.if-falls.branch [
-      | then-falls w ↦ IsPermutation-trans _ _ _ w.turn_rows_over.ensures (subst (λ xs. IsPermutation xs c.sort_unstable_by_key.new.self) w.rectangles-is c.sort_unstable_by_key.ensures.permutation)
+      | then-falls w ↦ IsPermutation-trans _ _ _ w.turn_rows_over.ensures.permutation (subst (λ xs. IsPermutation xs c.sort_unstable_by_key.new.self) w.rectangles-is c.sort_unstable_by_key.ensures.permutation)
       | else-falls w ↦ subst (λ xs. IsPermutation xs c.sort_unstable_by_key.new.self) w.rectangles-is c.sort_unstable_by_key.ensures.permutation
     ]
 

@@ -13,5 +13,5 @@ loop-end-preserved c =
       | else-rectangles-end w ↦ (subst (λ xs. IsPermutation c.args.rectangles.now xs) (sym w.rectangles-is) held.0, same_length ∙ held.1, omega (arith, w.start-is, held.2), omega (arith, w.start-is, held.3, same_length))
     ]
 
-pub returns : goal.returns
-returns c = IsPermutation-trans _ _ _ c.loop-end.invariant.0 (IsPermutation-put_mid _ _ _ _ c.reverse-2.ensures.permutation)
+pub returns-clause-permutation : goal.returns-clause-permutation
+returns-clause-permutation c = IsPermutation-trans _ _ _ c.loop-end.invariant.0 (IsPermutation-put_mid _ _ _ _ c.reverse-2.ensures.permutation)
