@@ -53,29 +53,3 @@ where
         Err((done, _)) => Ok(done),
     }
 }
-
-#[cfg(test)]
-mod tests {
-    use super::runs;
-    use std::test::Fail;
-    use tabled_grid::config::{Position, SpannedConfig};
-    use tabled_grid::records::{Resizable, Text, VecRecords};
-
-    #[test]
-    fn steps_run_on_both_stores(rt: HostRuntime) -> Result<(), Fail> {
-        let alloc = rt.alloc();
-        let mut flat: VecRecords<Text<String>> = VecRecords::new(alloc, Vec::new(alloc))?;
-        flat.push_rows(alloc, 2)?;
-        flat.push_columns(alloc, 3)?;
-        let mut cfg = SpannedConfig::new(alloc);
-        assert_eq!(&rt; runs(alloc, &mut flat, &mut cfg)?, 3);
-        assert_eq!(&rt; cfg.get_row_span(Position::new(0, 1)), Some(3));
-        let mut nested: Vec<Vec<Text<String>>> = Vec::new(alloc);
-        nested.push_rows(alloc, 2)?;
-        nested.push_columns(alloc, 3)?;
-        let mut cfg = SpannedConfig::new(alloc);
-        assert_eq!(&rt; runs(alloc, &mut nested, &mut cfg)?, 3);
-        assert_eq!(&rt; cfg.get_row_span(Position::new(0, 1)), Some(3));
-        Ok(())
-    }
-}

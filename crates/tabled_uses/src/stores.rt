@@ -3,9 +3,6 @@
 ghost use Rattle.std.specs.Prelude.{◌≡◌, ◌+◌, ◌<◌, IfOk, OnErr, OnOk};
 ghost use Rattle.tabled_grid.specs.Grid.{IsEmptyWithoutRows, IsEven, IsInside, grid_of, map_items};
 
-#[cfg(test)]
-mod tests;
-
 use std::alloc::{AllocError, Global};
 use tabled_grid::config::Position;
 use tabled_grid::records::{
@@ -68,7 +65,7 @@ where
 }
 
 /// A change of a store, at places that are cut down to its shape.
-#[derive(Clone, Copy, Debug)]
+#[derive(Clone, Copy)]
 pub enum Change {
     PushRow,
     PushColumn,
@@ -106,12 +103,18 @@ where
     }
 }
 
-/// Changes a store that is lent, through its `&mut`, which is a store itself, by one row, column or cell.
-pub fn make_lent_change(
+/// Changes any store by one row, column or cell through its `&mut`, which is a store itself.
+pub fn make_lent_change<R>(
     alloc: Global,
-    mut records: &mut VecRecords<Text<String>>,
+    mut records: &mut R,
     change: Change,
-) -> Result<(), AllocError> {
+) -> Result<(), AllocError>
+where
+    R: Resizable + Records + ExactRecords + RecordsMut<String>,
+    R::Cell: CellText,
+    requires { R.is_well_formed records.old }
+    ensures { R.is_well_formed records.new }
+{
     let shape = (records.count_rows(), records.count_columns());
     change_shaped(alloc, &mut records, shape, change)
 }
@@ -134,15 +137,35 @@ where
 {
     let (rows, columns) = shape;
     match change {
-        Change::PushRow => return records.push_row(alloc),
-        Change::PushColumn => return records.push_column(alloc),
-        Change::InsertRow(i) => return records.insert_row(alloc, i.min(rows)),
-        Change::InsertColumn(j) => return records.insert_column(alloc, j.min(columns)),
-        _ => {}
+        Change::PushRow => records.push_row(alloc),
+        Change::PushColumn => records.push_column(alloc),
+        Change::InsertRow(i) => records.insert_row(alloc, i.min(rows)),
+        Change::InsertColumn(j) => records.insert_column(alloc, j.min(columns)),
+        _ if rows == 0 || columns == 0 => Ok(()),
+        Change::Set(i, j) => {
+            let text = format!(in alloc; "{i}{j}")?;
+            records.set(alloc, Position::new(i % rows, j % columns), text)
+        }
+        _ => {
+            move_cells(records, shape, change);
+            Ok(())
+        }
     }
-    if rows == 0 || columns == 0 {
-        return Ok(());
-    }
+}
+
+/// Makes a change that takes no memory to a store with a cell.
+fn move_cells<R>(records: &mut R, shape: (usize, usize), change: Change)
+where
+    R: Resizable,
+    R::Cell: Blank,
+    requires well { R.is_well_formed records.old }
+    requires row { 0 < shape.0 }
+    requires column { 0 < shape.1 }
+    requires rows { shape.0 ≡ (R.grid records.old).rows }
+    requires columns { shape.1 ≡ (R.grid records.old).columns }
+    ensures { R.is_well_formed records.new }
+{
+    let (rows, columns) = shape;
     match change {
         Change::RemoveRow(i) => records.remove_row(i % rows),
         Change::RemoveColumn(j) => records.remove_column(j % columns),
@@ -152,13 +175,8 @@ where
             Position::new(i % rows, j % columns),
             Position::new(k % rows, l % columns),
         ),
-        Change::Set(i, j) => {
-            let text = format!(in alloc; "{i}{j}")?;
-            return records.set(alloc, Position::new(i % rows, j % columns), text);
-        }
         _ => {}
     }
-    Ok(())
 }
 
 /// Changes a store that is lent, through its `&mut`.
