@@ -9,6 +9,7 @@ pub mod own_store;
 pub mod rows;
 pub mod select;
 pub mod settings;
+mod spelling;
 pub mod steps;
 pub mod stores;
 pub mod writers;

@@ -1,5 +1,6 @@
 //! Rows of cells: lent, limited, skipped, read ahead, and made as they are asked for.
 
+use crate::spelling::Spelling;
 use crate::stores::cell;
 use std::alloc::{AllocError, Global};
 use tabled_grid::records::{CellText, ExactRecords, Records, Text, VecRecords};
@@ -30,14 +31,6 @@ pub fn three_rows(alloc: Global) -> Result<Vec<Vec<Text<String>>>, AllocError> {
     Ok(vec![in alloc; first, second, third]?)
 }
 
-/// Adds a cell in brackets.
-fn spell(spelled: &mut String, text: &str) -> Result<(), AllocError> {
-    spelled.push('[')?;
-    spelled.push_str(text)?;
-    spelled.push(']')?;
-    Ok(())
-}
-
 /// Of the three rows the cells up to `columns`, of these the rows up to `rows`, and of these the ones
 /// after the first `skip`.
 pub fn limited(
@@ -47,53 +40,53 @@ pub fn limited(
     skip: usize,
 ) -> Result<String, AllocError> {
     let source = LimitRows::new(LimitColumns::new(three_rows(alloc)?, columns), rows);
-    let mut spelled = String::new(alloc);
+    let mut spelling = Spelling::new(alloc);
     for row in SkipRows::new(source, skip).iter_rows() {
         for cell in row {
-            spell(&mut spelled, cell.text())?;
+            spelling.push_cell(cell.text());
         }
-        spelled.push('|')?;
+        spelling.push("|");
     }
-    Ok(spelled)
+    spelling.end()
 }
 
 /// Of the three rows those after the first `skip`, and of these the ones up to `rows`.
 pub fn skipped(alloc: Global, skip: usize, rows: usize) -> Result<String, AllocError> {
     let source = IterRows::new(three_rows(alloc)?);
-    let mut spelled = String::new(alloc);
+    let mut spelling = Spelling::new(alloc);
     for row in LimitRows::new(SkipRows::new(source, skip), rows).iter_rows() {
         for cell in row {
-            spell(&mut spelled, cell.text())?;
+            spelling.push_cell(cell.text());
         }
-        spelled.push('|')?;
+        spelling.push("|");
     }
-    Ok(spelled)
+    spelling.end()
 }
 
 /// How many of the three rows are read ahead, and all that are given.
 pub fn read_ahead(alloc: Global, rows: usize) -> Result<(usize, String), AllocError> {
     let ahead = BufRecords::new(alloc, three_rows(alloc)?, rows)?;
     let count = ahead.as_slice().len();
-    let mut spelled = String::new(alloc);
+    let mut spelling = Spelling::new(alloc);
     for row in ahead.iter_rows() {
         for cell in row {
-            spell(&mut spelled, cell.text())?;
+            spelling.push_cell(cell.text());
         }
-        spelled.push('|')?;
+        spelling.push("|");
     }
-    Ok((count, spelled))
+    Ok((count, spelling.end()?))
 }
 
 /// The rows of a lent store.
 pub fn lent(alloc: Global, store: &VecRecords<Text<String>>) -> Result<String, AllocError> {
-    let mut spelled = String::new(alloc);
+    let mut spelling = Spelling::new(alloc);
     for row in store.iter_rows() {
         for cell in row {
-            spell(&mut spelled, cell.text())?;
+            spelling.push_cell(cell.text());
         }
-        spelled.push('|')?;
+        spelling.push("|");
     }
-    Ok(spelled)
+    spelling.end()
 }
 
 /// The words of a text's lines, of which the first `skip` are passed over and no more than `limit` are given.
@@ -101,26 +94,28 @@ pub fn lent(alloc: Global, store: &VecRecords<Text<String>>) -> Result<String, A
 /// A line is found, and its words are lent, only when they are asked for.
 pub fn lines(alloc: Global, text: &str, skip: usize, limit: usize) -> Result<String, AllocError> {
     let words = IterRows::new(text.lines().map(|line: &str| line.split_whitespace()));
-    let mut spelled = String::new(alloc);
+    let mut spelling = Spelling::new(alloc);
     for row in LimitRows::new(SkipRows::new(words, skip), limit).iter_rows() {
         for word in row {
-            spell(&mut spelled, word)?;
+            spelling.push_cell(word);
         }
-        spelled.push('|')?;
+        spelling.push("|");
     }
-    Ok(spelled)
+    spelling.end()
 }
 
 /// The shape of empty records, and their rows.
 pub fn empty(alloc: Global, records: EmptyRecords) -> Result<String, AllocError> {
     let rows = records.count_rows();
     let columns = records.count_columns();
-    let mut spelled = format!(in alloc; "{rows} x {columns}: ")?;
+    let shape = format!(in alloc; "{rows} x {columns}: ")?;
+    let mut spelling = Spelling::new(alloc);
+    spelling.push(shape.as_str());
     for row in records.iter_rows() {
         for cell in row {
-            spell(&mut spelled, cell)?;
+            spelling.push_cell(cell);
         }
-        spelled.push('|')?;
+        spelling.push("|");
     }
-    Ok(spelled)
+    spelling.end()
 }

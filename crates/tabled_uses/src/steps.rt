@@ -12,22 +12,29 @@ use tabled_settings::split::Split;
 use tabled_steps::{Select, Step, run};
 use tabled_table::{Table, TextRef};
 
-/// Merges cells of a table, and puts panels in.
-pub fn merges(alloc: Global, table: &mut Table) -> Result<(), AllocError> {
+/// Spans cells of a table.
+pub fn spans(alloc: Global, table: &mut Table) -> Result<(), AllocError> {
     use tabled_select::object::{Cell, Columns, Rows};
-    use tabled_settings::panel::Panel;
 
     table.modify(alloc, Cell::new(0, 0), Span::column(2))?;
     table.modify(alloc, Rows::last(), Span::column(-1))?;
-    table.modify(alloc, Columns::first(), (Span::row(0), TextRef("all")))?;
+    table.modify(alloc, Columns::first(), (Span::row(0), TextRef("all")))
+}
+
+/// Puts panels in, above, below, in the midst and at the side.
+pub fn puts_panels_in(alloc: Global, table: &mut Table) -> Result<(), AllocError> {
+    use tabled_settings::panel::Panel;
+
     table.with(alloc, Panel::header(String::from_str(alloc, "Report")?))?;
     table.with(alloc, Panel::footer(String::from_str(alloc, "end")?))?;
-    table.with(
-        alloc,
-        Panel::horizontal(1, String::from_str(alloc, "part")?),
-    )?;
+    let part = Panel::horizontal(1, String::from_str(alloc, "part")?);
+    table.with(alloc, part)?;
     let side = Panel::vertical(0, String::from_str(alloc, "side")?);
-    table.with(alloc, side.width(alloc, 2)?)?;
+    table.with(alloc, side.width(alloc, 2)?)
+}
+
+/// Merges cells of equal texts.
+pub fn merges(alloc: Global, table: &mut Table) -> Result<(), AllocError> {
     table.with(alloc, Merge::vertical())?;
     table.with(alloc, Merge::horizontal())
 }

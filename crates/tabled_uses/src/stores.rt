@@ -3,6 +3,7 @@
 ghost use Rattle.std.specs.Prelude.{◌≡◌, ◌+◌, ◌<◌, IfOk, OnErr, OnOk};
 ghost use Rattle.tabled_grid.specs.Grid.{IsEmptyWithoutRows, IsEven, IsInside, grid_of, map_items};
 
+use crate::spelling::Spelling;
 use std::alloc::{AllocError, Global};
 use tabled_grid::config::Position;
 use tabled_grid::records::{
@@ -51,17 +52,16 @@ where
 {
     let rows = records.count_rows();
     let columns = records.count_columns();
-    let mut spelled = format!(in alloc; "{rows} x {columns}")?;
+    let shape = format!(in alloc; "{rows} x {columns}")?;
+    let mut spelling = Spelling::new(alloc);
+    spelling.push(shape.as_str());
     for row in 0..rows {
-        spelled.push('\n')?;
+        spelling.push("\n");
         for col in 0..columns {
-            let text = records.get_text(Position::new(row, col));
-            spelled.push('[')?;
-            spelled.push_str(text)?;
-            spelled.push(']')?;
+            spelling.push_cell(records.get_text(Position::new(row, col)));
         }
     }
-    Ok(spelled)
+    spelling.end()
 }
 
 /// A change of a store, at places that are cut down to its shape.
