@@ -1,6 +1,6 @@
 //! Stores: made, read, written, grown and shrunk, whatever keeps their cells.
 
-ghost use Rattle.std.specs.Prelude.{◌≡◌, ◌+◌, ◌<◌, IfOk, OnErr, OnOk};
+ghost use Rattle.std.specs.Prelude.{◌≡◌, ◌+◌, ◌<◌, IfOk, OnErr, OnOk, length};
 ghost use Rattle.tabled_grid.specs.Grid.{IsEmptyWithoutRows, IsEven, IsInside, grid_of, map_items};
 
 use crate::spelling::Spelling;
@@ -16,20 +16,27 @@ pub fn cell(alloc: Global, text: &str) -> Result<Text<String>, AllocError> {
     Ok(Text::new(String::from_str(alloc, text)?))
 }
 
+/// A row of two cells.
+fn pair(alloc: Global, first: &str, second: &str) -> Result<Vec<Text<String>>, AllocError>
+    ensures { IfOk result (λ row. length row.items ≡ 2) }
+{
+    Ok(vec![in alloc; cell(alloc, first)?, cell(alloc, second)?]?)
+}
+
 /// The rows `a b / c d`, each in a vector of its own.
 pub fn two_rows(alloc: Global) -> Result<Vec<Vec<Text<String>>>, AllocError>
     ensures { IfOk result (λ rows. IsEven (grid_of (map_items rows.items))) }
 {
-    let first = vec![in alloc; cell(alloc, "a")?, cell(alloc, "b")?]?;
-    let second = vec![in alloc; cell(alloc, "c")?, cell(alloc, "d")?]?;
+    let first = pair(alloc, "a", "b")?;
+    let second = pair(alloc, "c", "d")?;
     Ok(vec![in alloc; first, second]?)
 }
 
 /// The table of the script in the README.
 pub fn fruits(alloc: Global) -> Result<VecRecords<Text<String>>, AllocError> {
-    let head = vec![in alloc; cell(alloc, "Fruit")?, cell(alloc, "Count")?]?;
-    let apple = vec![in alloc; cell(alloc, "Apple")?, cell(alloc, "3")?]?;
-    let pear = vec![in alloc; cell(alloc, "Pear")?, cell(alloc, "")?]?;
+    let head = pair(alloc, "Fruit", "Count")?;
+    let apple = pair(alloc, "Apple", "3")?;
+    let pear = pair(alloc, "Pear", "")?;
     let mut table = VecRecords::new(alloc, vec![in alloc; head, apple, pear]?)?;
     table.set(alloc, Position::new(2, 1), "5")?;
     Ok(table)
@@ -103,20 +110,20 @@ where
     }
 }
 
-/// Changes any store by one row, column or cell through its `&mut`, which is a store itself.
+/// Changes any store that is lent by one row, column or cell, through its `&mut`, which is a store itself.
 pub fn make_lent_change<R>(
     alloc: Global,
-    mut records: &mut R,
+    lent: &mut &mut R,
     change: Change,
 ) -> Result<(), AllocError>
 where
     R: Resizable + Records + ExactRecords + RecordsMut<String>,
     R::Cell: CellText,
-    requires { R.is_well_formed records.old }
-    ensures { R.is_well_formed records.new }
+    requires { R.is_well_formed lent.old.now }
+    ensures { R.is_well_formed lent.new.now }
 {
-    let shape = (records.count_rows(), records.count_columns());
-    change_shaped(alloc, &mut records, shape, change)
+    let shape = (lent.count_rows(), lent.count_columns());
+    change_shaped(alloc, lent, shape, change)
 }
 
 /// Changes any store whose shape is known, as a generic caller does.

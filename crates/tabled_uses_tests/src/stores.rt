@@ -16,35 +16,8 @@ use tabled_uses::stores::{
     spelled, two_rows,
 };
 
-/// Changes a store, through its `&mut` where it is lent and the change is of one row, column or cell.
-fn change_by<R>(
-    alloc: Global,
-    records: &mut R,
-    change: Change,
-    lent: bool,
-) -> Result<(), AllocError>
-where
-    R: Resizable + Records + ExactRecords + RecordsMut<String>,
-    R::Cell: CellText,
-    requires { R.is_well_formed records.old }
-    ensures { R.is_well_formed records.new }
-{
-    match change {
-        PushRows(_) | PushColumns(_) | Transpose | CutRows(_) => {
-            make_change(alloc, records, change)
-        }
-        _ if lent => make_lent_change(alloc, records, change),
-        _ => make_change(alloc, records, change),
-    }
-}
-
 /// What a store is after each change, spelled.
-fn states<R>(
-    alloc: Global,
-    mut records: R,
-    changes: &[Change],
-    lent: bool,
-) -> Result<Vec<String>, AllocError>
+fn states<R>(alloc: Global, mut records: R, changes: &[Change]) -> Result<Vec<String>, AllocError>
 where
     R: Resizable + Records + ExactRecords + PeekableRecords + RecordsMut<String> + Drop,
     R::Cell: CellText,
@@ -52,8 +25,33 @@ where
 {
     let mut states = Vec::new(alloc);
     for change in changes {
-        change_by(alloc, &mut records, *change, lent)?;
+        make_change(alloc, &mut records, *change)?;
         states.push(spelled(alloc, &records)?)?;
+    }
+    Ok(states)
+}
+
+/// The same of a store that is changed through its `&mut` where the change is of one row, column or cell.
+fn lent_states<R>(
+    alloc: Global,
+    mut records: R,
+    changes: &[Change],
+) -> Result<Vec<String>, AllocError>
+where
+    R: Resizable + Records + ExactRecords + PeekableRecords + RecordsMut<String> + Drop,
+    R::Cell: CellText,
+    requires { R.is_well_formed records }
+{
+    let mut lent = &mut records;
+    let mut states = Vec::new(alloc);
+    for change in changes {
+        match change {
+            PushRows(_) | PushColumns(_) | Transpose | CutRows(_) => {
+                make_change(alloc, lent, *change)?;
+            }
+            _ => make_lent_change(alloc, &mut lent, *change)?,
+        }
+        states.push(spelled(alloc, &*lent)?)?;
     }
     Ok(states)
 }
@@ -61,12 +59,21 @@ where
 /// What changes make of `a b / c d` in one vector of cells.
 fn flat(alloc: Global, changes: &[Change], lent: bool) -> Result<Vec<String>, AllocError> {
     let records = VecRecords::new(alloc, two_rows(alloc)?)?;
-    states(alloc, records, changes, lent)
+    if lent {
+        lent_states(alloc, records, changes)
+    } else {
+        states(alloc, records, changes)
+    }
 }
 
 /// What they make of it in a vector for each row.
 fn nested(alloc: Global, changes: &[Change], lent: bool) -> Result<Vec<String>, AllocError> {
-    states(alloc, two_rows(alloc)?, changes, lent)
+    let records = two_rows(alloc)?;
+    if lent {
+        lent_states(alloc, records, changes)
+    } else {
+        states(alloc, records, changes)
+    }
 }
 
 /// The states after changes, if they are the same in each kind of store, lent or not.
@@ -198,36 +205,47 @@ struct Outcome {
     same: bool,
 }
 
-impl Outcome {
-    fn of<R>(
-        alloc: Global,
-        mut records: R,
-        change: Change,
-        lent: bool,
-    ) -> Result<Outcome, AllocError>
-    where
-        R: Resizable + Records + ExactRecords + PeekableRecords + RecordsMut<String> + Drop,
-        R::Cell: CellText,
-        requires { R.is_well_formed records }
-    {
-        let before = spelled(alloc, &records)?;
-        let made = change_by(alloc, &mut records, change, lent).is_ok();
-        let same = spelled(alloc, &records)? == before;
-        Ok(Outcome { made, same })
-    }
+fn outcome<R>(alloc: Global, mut records: R, change: Change) -> Result<Outcome, AllocError>
+where
+    R: Resizable + Records + ExactRecords + PeekableRecords + RecordsMut<String> + Drop,
+    R::Cell: CellText,
+    requires { R.is_well_formed records }
+{
+    let before = spelled(alloc, &records)?;
+    let made = make_change(alloc, &mut records, change).is_ok();
+    let same = spelled(alloc, &records)? == before;
+    Ok(Outcome { made, same })
+}
+
+/// The same of a change of one row, column or cell through the store's `&mut`.
+fn lent_outcome<R>(alloc: Global, mut records: R, change: Change) -> Result<Outcome, AllocError>
+where
+    R: Resizable + Records + ExactRecords + PeekableRecords + RecordsMut<String> + Drop,
+    R::Cell: CellText,
+    requires { R.is_well_formed records }
+{
+    let before = spelled(alloc, &records)?;
+    let mut lent = &mut records;
+    let made = make_lent_change(alloc, &mut lent, change).is_ok();
+    let same = spelled(alloc, &*lent)? == before;
+    Ok(Outcome { made, same })
 }
 
 /// The outcomes of a change of each kind of store, of which the flat one may be lent.
 fn outcomes(alloc: Global, change: Change, lent: bool) -> Result<(Outcome, Outcome), AllocError> {
     let flat = VecRecords::new(alloc, two_rows(alloc)?)?;
-    let flat = Outcome::of(alloc, flat, change, lent)?;
-    let nested = Outcome::of(alloc, two_rows(alloc)?, change, false)?;
+    let flat = if lent {
+        lent_outcome(alloc, flat, change)?
+    } else {
+        outcome(alloc, flat, change)?
+    };
+    let nested = outcome(alloc, two_rows(alloc)?, change)?;
     Ok((flat, nested))
 }
 
 /// Says whether each kind of store is as it was if it refuses a change.
-fn keep(alloc: Global, change: Change) -> bool {
-    match outcomes(alloc, change, true) {
+fn keep(alloc: Global, change: Change, lent: bool) -> bool {
+    match outcomes(alloc, change, lent) {
         Ok((flat, nested)) => (flat.made || flat.same) && (nested.made || nested.same),
         // Where a store itself is refused, there is nothing to compare.
         Err(_) => true,
@@ -238,19 +256,19 @@ fn keep(alloc: Global, change: Change) -> bool {
 // for each N meets each refusal.
 #[test]
 fn keeps_the_stores_at_a_refusal(rt: HostRuntime) {
-    for change in [
-        PushRow,
-        PushColumn,
-        PushRows(2),
-        PushColumns(2),
-        Transpose,
-        CutRows(PieceOrder::Concat),
-        CutRows(PieceOrder::Zip),
-        InsertRow(1),
-        InsertColumn(1),
-        Set(0, 1),
+    for (change, lent) in [
+        (PushRow, true),
+        (PushColumn, true),
+        (PushRows(2), false),
+        (PushColumns(2), false),
+        (Transpose, false),
+        (CutRows(PieceOrder::Concat), false),
+        (CutRows(PieceOrder::Zip), false),
+        (InsertRow(1), true),
+        (InsertColumn(1), true),
+        (Set(0, 1), false),
     ] {
-        assert!(rt; keep(rt.alloc(), change));
+        assert!(rt; keep(rt.alloc(), change, lent));
     }
 }
 
