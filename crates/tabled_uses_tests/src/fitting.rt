@@ -82,9 +82,9 @@ where
 }
 
 /// The rows and columns of a table, and the height and the width of its first cell, if merged cells fit.
-type Seen = Option<(usize, usize, usize, usize)>;
+type Fitted = Option<(usize, usize, usize, usize)>;
 
-fn seen(shape: (usize, usize), cfg: &SpannedConfig) -> Seen {
+fn seen(shape: (usize, usize), cfg: &SpannedConfig) -> Fitted {
     let (rows, columns) = shape;
     if !cfg.fits(rows, columns) {
         return None;
@@ -96,7 +96,7 @@ fn seen(shape: (usize, usize), cfg: &SpannedConfig) -> Seen {
 }
 
 /// What a call makes of a table, if merged cells fit before.
-fn made<R>(alloc: Global, mut records: R, call: Call) -> Result<Seen, AllocError>
+fn made<R>(alloc: Global, mut records: R, call: Call) -> Result<Fitted, AllocError>
 where
     R: Records + ExactRecords + PeekableRecords + RecordsMut<String> + Resizable + Drop,
     R::Cell: CellText,
@@ -113,7 +113,7 @@ where
 const BLANKS: &str = "_ _ _ / _ _ _ /";
 
 /// What spans back make of blanks.
-fn spanned_back(alloc: Global) -> Result<Seen, AllocError> {
+fn spanned_back(alloc: Global) -> Result<Fitted, AllocError> {
     let mut records = flat(alloc, BLANKS)?;
     let mut cfg = SpannedConfig::new(alloc);
     if !cfg.fits(records.count_rows(), records.count_columns()) {

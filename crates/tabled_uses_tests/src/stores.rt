@@ -205,7 +205,7 @@ struct Outcome {
     same: bool,
 }
 
-fn outcome<R>(alloc: Global, mut records: R, change: Change) -> Result<Outcome, AllocError>
+fn attempt<R>(alloc: Global, mut records: R, change: Change) -> Result<Outcome, AllocError>
 where
     R: Resizable + Records + ExactRecords + PeekableRecords + RecordsMut<String> + Drop,
     R::Cell: CellText,
@@ -218,7 +218,7 @@ where
 }
 
 /// The same of a change of one row, column or cell through the store's `&mut`.
-fn lent_outcome<R>(alloc: Global, mut records: R, change: Change) -> Result<Outcome, AllocError>
+fn lent_attempt<R>(alloc: Global, mut records: R, change: Change) -> Result<Outcome, AllocError>
 where
     R: Resizable + Records + ExactRecords + PeekableRecords + RecordsMut<String> + Drop,
     R::Cell: CellText,
@@ -235,11 +235,11 @@ where
 fn outcomes(alloc: Global, change: Change, lent: bool) -> Result<(Outcome, Outcome), AllocError> {
     let flat = VecRecords::new(alloc, two_rows(alloc)?)?;
     let flat = if lent {
-        lent_outcome(alloc, flat, change)?
+        lent_attempt(alloc, flat, change)?
     } else {
-        outcome(alloc, flat, change)?
+        attempt(alloc, flat, change)?
     };
-    let nested = outcome(alloc, two_rows(alloc)?, change)?;
+    let nested = attempt(alloc, two_rows(alloc)?, change)?;
     Ok((flat, nested))
 }
 
