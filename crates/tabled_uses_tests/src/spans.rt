@@ -316,7 +316,8 @@ fn follow(
     let pos = Position::new(row, col);
     let old_height = spans.get_row_span(pos).unwrap_or(1);
     let old_width = spans.get_column_span(pos).unwrap_or(1);
-    spans.set_sizes(alloc, &[(pos, (height, width))])?;
+    spans.set_row_span(alloc, pos, height)?;
+    spans.set_column_span(alloc, pos, width)?;
     cover.replace(pos, (old_height, old_width), (height, width));
     Ok(())
 }
