@@ -12,22 +12,29 @@ use tabled_settings::split::Split;
 use tabled_steps::{Select, Step, run};
 use tabled_table::{Table, TextRef};
 
-/// Merges cells of a table, and puts panels in.
-pub fn merges(alloc: Global, table: &mut Table) -> Result<(), AllocError> {
+/// Spans cells of a table.
+pub fn spans(alloc: Global, table: &mut Table) -> Result<(), AllocError> {
     use tabled_select::object::{Cell, Columns, Rows};
-    use tabled_settings::panel::Panel;
 
     table.modify(alloc, Cell::new(0, 0), Span::column(2))?;
     table.modify(alloc, Rows::last(), Span::column(-1))?;
-    table.modify(alloc, Columns::first(), (Span::row(0), TextRef("all")))?;
+    table.modify(alloc, Columns::first(), (Span::row(0), TextRef("all")))
+}
+
+/// Puts panels in, above, below, in the midst and at the side.
+pub fn puts_panels_in(alloc: Global, table: &mut Table) -> Result<(), AllocError> {
+    use tabled_settings::panel::Panel;
+
     table.with(alloc, Panel::header(String::from_str(alloc, "Report")?))?;
     table.with(alloc, Panel::footer(String::from_str(alloc, "end")?))?;
-    table.with(
-        alloc,
-        Panel::horizontal(1, String::from_str(alloc, "part")?),
-    )?;
+    let part = Panel::horizontal(1, String::from_str(alloc, "part")?);
+    table.with(alloc, part)?;
     let side = Panel::vertical(0, String::from_str(alloc, "side")?);
-    table.with(alloc, side.width(alloc, 2)?)?;
+    table.with(alloc, side.width(alloc, 2)?)
+}
+
+/// Merges cells of equal texts.
+pub fn merges(alloc: Global, table: &mut Table) -> Result<(), AllocError> {
     table.with(alloc, Merge::vertical())?;
     table.with(alloc, Merge::horizontal())
 }
@@ -51,31 +58,5 @@ where
     match run(alloc, records, cfg, steps) {
         Ok(()) => Ok(many),
         Err((done, _)) => Ok(done),
-    }
-}
-
-#[cfg(test)]
-mod tests {
-    use super::runs;
-    use std::test::Fail;
-    use tabled_grid::config::{Position, SpannedConfig};
-    use tabled_grid::records::{Resizable, Text, VecRecords};
-
-    #[test]
-    fn steps_run_on_both_stores(rt: HostRuntime) -> Result<(), Fail> {
-        let alloc = rt.alloc();
-        let mut flat: VecRecords<Text<String>> = VecRecords::new(alloc, Vec::new(alloc))?;
-        flat.push_rows(alloc, 2)?;
-        flat.push_columns(alloc, 3)?;
-        let mut cfg = SpannedConfig::new(alloc);
-        assert_eq!(&rt; runs(alloc, &mut flat, &mut cfg)?, 3);
-        assert_eq!(&rt; cfg.get_row_span(Position::new(0, 1)), Some(3));
-        let mut nested: Vec<Vec<Text<String>>> = Vec::new(alloc);
-        nested.push_rows(alloc, 2)?;
-        nested.push_columns(alloc, 3)?;
-        let mut cfg = SpannedConfig::new(alloc);
-        assert_eq!(&rt; runs(alloc, &mut nested, &mut cfg)?, 3);
-        assert_eq!(&rt; cfg.get_row_span(Position::new(0, 1)), Some(3));
-        Ok(())
     }
 }

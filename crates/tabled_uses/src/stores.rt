@@ -1,11 +1,9 @@
 //! Stores: made, read, written, grown and shrunk, whatever keeps their cells.
 
-ghost use Rattle.std.specs.Prelude.{◌≡◌, ◌+◌, ◌<◌, IfOk, OnErr, OnOk};
+ghost use Rattle.std.specs.Prelude.{◌≡◌, ◌+◌, ◌<◌, IfOk, OnErr, OnOk, length};
 ghost use Rattle.tabled_grid.specs.Grid.{IsEmptyWithoutRows, IsEven, IsInside, grid_of, map_items};
 
-#[cfg(test)]
-mod tests;
-
+use crate::spelling::Spelling;
 use std::alloc::{AllocError, Global};
 use tabled_grid::config::Position;
 use tabled_grid::records::{
@@ -18,20 +16,27 @@ pub fn cell(alloc: Global, text: &str) -> Result<Text<String>, AllocError> {
     Ok(Text::new(String::from_str(alloc, text)?))
 }
 
+/// A row of two cells.
+fn pair(alloc: Global, first: &str, second: &str) -> Result<Vec<Text<String>>, AllocError>
+    ensures { IfOk result (λ row. length row.items ≡ 2) }
+{
+    Ok(vec![in alloc; cell(alloc, first)?, cell(alloc, second)?]?)
+}
+
 /// The rows `a b / c d`, each in a vector of its own.
 pub fn two_rows(alloc: Global) -> Result<Vec<Vec<Text<String>>>, AllocError>
     ensures { IfOk result (λ rows. IsEven (grid_of (map_items rows.items))) }
 {
-    let first = vec![in alloc; cell(alloc, "a")?, cell(alloc, "b")?]?;
-    let second = vec![in alloc; cell(alloc, "c")?, cell(alloc, "d")?]?;
+    let first = pair(alloc, "a", "b")?;
+    let second = pair(alloc, "c", "d")?;
     Ok(vec![in alloc; first, second]?)
 }
 
 /// The table of the script in the README.
 pub fn fruits(alloc: Global) -> Result<VecRecords<Text<String>>, AllocError> {
-    let head = vec![in alloc; cell(alloc, "Fruit")?, cell(alloc, "Count")?]?;
-    let apple = vec![in alloc; cell(alloc, "Apple")?, cell(alloc, "3")?]?;
-    let pear = vec![in alloc; cell(alloc, "Pear")?, cell(alloc, "")?]?;
+    let head = pair(alloc, "Fruit", "Count")?;
+    let apple = pair(alloc, "Apple", "3")?;
+    let pear = pair(alloc, "Pear", "")?;
     let mut table = VecRecords::new(alloc, vec![in alloc; head, apple, pear]?)?;
     table.set(alloc, Position::new(2, 1), "5")?;
     Ok(table)
@@ -54,21 +59,20 @@ where
 {
     let rows = records.count_rows();
     let columns = records.count_columns();
-    let mut spelled = format!(in alloc; "{rows} x {columns}")?;
+    let shape = format!(in alloc; "{rows} x {columns}")?;
+    let mut spelling = Spelling::new(alloc);
+    spelling.push(shape.as_str());
     for row in 0..rows {
-        spelled.push('\n')?;
+        spelling.push("\n");
         for col in 0..columns {
-            let text = records.get_text(Position::new(row, col));
-            spelled.push('[')?;
-            spelled.push_str(text)?;
-            spelled.push(']')?;
+            spelling.push_cell(records.get_text(Position::new(row, col)));
         }
     }
-    Ok(spelled)
+    spelling.end()
 }
 
 /// A change of a store, at places that are cut down to its shape.
-#[derive(Clone, Copy, Debug)]
+#[derive(Clone, Copy)]
 pub enum Change {
     PushRow,
     PushColumn,
@@ -106,14 +110,20 @@ where
     }
 }
 
-/// Changes a store that is lent, through its `&mut`, which is a store itself, by one row, column or cell.
-pub fn make_lent_change(
+/// Changes any store that is lent by one row, column or cell, through its `&mut`, which is a store itself.
+pub fn make_lent_change<R>(
     alloc: Global,
-    mut records: &mut VecRecords<Text<String>>,
+    lent: &mut &mut R,
     change: Change,
-) -> Result<(), AllocError> {
-    let shape = (records.count_rows(), records.count_columns());
-    change_shaped(alloc, &mut records, shape, change)
+) -> Result<(), AllocError>
+where
+    R: Resizable + Records + ExactRecords + RecordsMut<String>,
+    R::Cell: CellText,
+    requires { R.is_well_formed lent.old.now }
+    ensures { R.is_well_formed lent.new.now }
+{
+    let shape = (lent.count_rows(), lent.count_columns());
+    change_shaped(alloc, lent, shape, change)
 }
 
 /// Changes any store whose shape is known, as a generic caller does.
@@ -134,15 +144,35 @@ where
 {
     let (rows, columns) = shape;
     match change {
-        Change::PushRow => return records.push_row(alloc),
-        Change::PushColumn => return records.push_column(alloc),
-        Change::InsertRow(i) => return records.insert_row(alloc, i.min(rows)),
-        Change::InsertColumn(j) => return records.insert_column(alloc, j.min(columns)),
-        _ => {}
+        Change::PushRow => records.push_row(alloc),
+        Change::PushColumn => records.push_column(alloc),
+        Change::InsertRow(i) => records.insert_row(alloc, i.min(rows)),
+        Change::InsertColumn(j) => records.insert_column(alloc, j.min(columns)),
+        _ if rows == 0 || columns == 0 => Ok(()),
+        Change::Set(i, j) => {
+            let text = format!(in alloc; "{i}{j}")?;
+            records.set(alloc, Position::new(i % rows, j % columns), text)
+        }
+        _ => {
+            move_cells(records, shape, change);
+            Ok(())
+        }
     }
-    if rows == 0 || columns == 0 {
-        return Ok(());
-    }
+}
+
+/// Makes a change that takes no memory to a store with a cell.
+fn move_cells<R>(records: &mut R, shape: (usize, usize), change: Change)
+where
+    R: Resizable,
+    R::Cell: Blank,
+    requires well { R.is_well_formed records.old }
+    requires row { 0 < shape.0 }
+    requires column { 0 < shape.1 }
+    requires rows { shape.0 ≡ (R.grid records.old).rows }
+    requires columns { shape.1 ≡ (R.grid records.old).columns }
+    ensures { R.is_well_formed records.new }
+{
+    let (rows, columns) = shape;
     match change {
         Change::RemoveRow(i) => records.remove_row(i % rows),
         Change::RemoveColumn(j) => records.remove_column(j % columns),
@@ -152,13 +182,8 @@ where
             Position::new(i % rows, j % columns),
             Position::new(k % rows, l % columns),
         ),
-        Change::Set(i, j) => {
-            let text = format!(in alloc; "{i}{j}")?;
-            return records.set(alloc, Position::new(i % rows, j % columns), text);
-        }
         _ => {}
     }
-    Ok(())
 }
 
 /// Changes a store that is lent, through its `&mut`.

@@ -1,6 +1,0 @@
-use Rattle.std.proofs.Common.{◌≡◌}
-use Rattle.tabled_grid.specs.Entity.{place}
-use Rattle.tabled_uses.proofs.spans.follows_sizes_that_change.Given as goal
-
-abbrev pub invariant-loop-row : goal.invariant-loop-row
-invariant-loop-row g l = (l.cover.first ≡ place 0 0) × (l.cover.rows ≡ 3) × (l.cover.columns ≡ 3)

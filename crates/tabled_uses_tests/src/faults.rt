@@ -1,0 +1,263 @@
+//! What the language reads, and each fault of each of its words.
+
+use std::alloc::{AllocError, Global};
+use std::test::Fail;
+use tabled_language::parse;
+
+/// Says whether a script's first faulty line is one of a number, with a fault of a number. No line is 0.
+fn is_faulty(alloc: Global, script: &str, line: usize, fault: u8) -> Result<bool, AllocError> {
+    match parse(alloc, script.as_bytes())? {
+        Ok(_) => Ok(line == 0),
+        Err((at, what)) => Ok(at == line && what.number() == fault),
+    }
+}
+
+#[test]
+fn each_verb_is_read_and_each_fault_is_named(rt: HostRuntime) -> Result<(), Fail> {
+    for (script, line, fault) in [
+        ("row\ta\tb\nset\tand\trow\t0\tcell\t1\t1\tx\n", 0, 0),
+        (
+            "dup\tskip\t1\tall\tcontent\ta\n\nclean\tframe\ntabs\t4\tname\tb",
+            0,
+            0,
+        ),
+        ("cspan\t-2\tlast-row\nrspan\t3\tsegment\t0\t1\t2\t3\n", 0, 0),
+        (
+            "hpanel\t0\ta\nvpanel\t1\tb\nvpanelw\t1\t2\tc\nheader\td\nfooter\te\n",
+            0,
+            0,
+        ),
+        (
+            "vmerge\nhmerge\nrotate\tleft\nreverse\trows\t1\tend\t2\n",
+            0,
+            0,
+        ),
+        ("split\tcolumn\t2\tzip\tretain\nextract\t0\t1\t2\t3\n", 0, 0),
+        ("remove\trows\t0\t1\nremove\tnamed\ta\n", 0, 0),
+        ("concat\tvertical\t-\t1\t2\ta\tb\n", 0, 0),
+        ("row\ta\nconcat\tvertical\t-\t0\t2\n", 2, 3),
+        ("concat\tvertical\t-\t2\t2\ta\tb\n", 1, 2),
+        ("rotate\tup\n", 1, 1),
+        ("set\tnot\tall\tsome\tx\n", 1, 1),
+        ("cspan\t--1\tall\n", 1, 3),
+        ("header\ta\\q\n", 1, 4),
+        ("vmerge\nrow\ta\n", 2, 6),
+    ] {
+        assert!(rt; is_faulty(rt.alloc(), script, line, fault)?, "{script:?}");
+    }
+    Ok(())
+}
+
+/// A line of each verb of a step.
+const STEPS: [&str; 27] = [
+    "set\tall\tx",
+    "dup\tall\trow\t0",
+    "clean\tall",
+    "tabs\t4\tall",
+    "cspan\t2\tall",
+    "rspan\t-2\tall",
+    "hpanel\t0\tx",
+    "vpanel\t0\tx",
+    "vpanelw\t0\t2\tx",
+    "header\tx",
+    "footer\tx",
+    "vmerge",
+    "hmerge",
+    "rotate\tleft",
+    "reverse\trows\t0\tstart\t1",
+    "split\tcolumn\t2\tzip\tclean",
+    "extract\t0\t1\t0\t1",
+    "remove\trows\t0\t1",
+    "remove\tcolumns\t0\t1",
+    "remove\tnamed\tx",
+    "concat\tvertical\t-\t1\t1\tx",
+    "set\tcell\t0\t1\tx",
+    "set\tsegment\t0\t1\t0\t1\tx",
+    "set\tcontent\ta\tx",
+    "set\tand\tall\tframe\tx",
+    "set\tinverse\tlast-row\tx",
+    "set\tskip\t1\tcolumns\t0\t1\tx",
+];
+
+/// The same of a step with something before it and behind it.
+fn is_faulty_within(
+    alloc: Global,
+    before: &str,
+    step: &str,
+    behind: &str,
+    line: usize,
+    fault: u8,
+) -> Result<bool, AllocError> {
+    let script = format!(in alloc; "{before}{step}{behind}")?;
+    is_faulty(alloc, script.as_str(), line, fault)
+}
+
+#[test]
+fn each_line_may_be_too_long_or_have_a_bad_escape(rt: HostRuntime) -> Result<(), Fail> {
+    for (before, behind, line, fault) in [
+        ("", "", 0, 0),
+        ("row\ta\n", "\tx", 2, 2),
+        ("\n", "\\q", 2, 4),
+        ("", "\n\nrow\ta\n", 3, 6),
+    ] {
+        for step in STEPS {
+            let faulty = is_faulty_within(rt.alloc(), before, step, behind, line, fault)?;
+            assert!(rt; faulty, "{step:?}");
+        }
+    }
+    Ok(())
+}
+
+/// Whether a step without its last word, if it has several, is too short.
+fn may_be_too_short(alloc: Global, step: &str) -> Result<bool, AllocError> {
+    match step.rsplit_once('\t') {
+        Some((shorter, _)) => is_faulty(alloc, shorter, 1, 2),
+        None => Ok(true),
+    }
+}
+
+#[test]
+fn each_line_may_be_too_short(rt: HostRuntime) -> Result<(), Fail> {
+    for step in STEPS {
+        assert!(rt; may_be_too_short(rt.alloc(), step)?, "{step:?}");
+    }
+    Ok(())
+}
+
+/// A line whose selectors stand in each other so many times.
+fn nested(
+    alloc: Global,
+    step: &str,
+    selector: &str,
+    many: usize,
+    behind: &str,
+) -> Result<String, AllocError> {
+    let mut line = String::from_str(alloc, step)?;
+    for _ in 0..many {
+        line.push_str(selector)?;
+    }
+    line.push_str("all")?;
+    line.push_str(behind)?;
+    Ok(line)
+}
+
+/// Whether a selector may stand in itself 63 times, and not 64 times.
+fn may_be_too_deep(
+    alloc: Global,
+    step: &str,
+    selector: &str,
+    behind: &str,
+) -> Result<bool, AllocError> {
+    let deepest = nested(alloc, step, selector, 63, behind)?;
+    let deeper = nested(alloc, step, selector, 64, behind)?;
+    Ok(is_faulty(alloc, deepest.as_str(), 0, 0)? && is_faulty(alloc, deeper.as_str(), 1, 5)?)
+}
+
+#[test]
+fn each_selector_may_be_too_deep(rt: HostRuntime) -> Result<(), Fail> {
+    for (step, selector, behind) in [
+        ("set\t", "and\trow\t0\t", "\tx"),
+        ("set\t", "not\trow\t0\t", "\tx"),
+        ("dup\tall\t", "intersect\trow\t0\t", ""),
+        ("dup\t", "inverse\t", "\trow\t0"),
+        ("clean\t", "skip\t0\t", ""),
+        ("tabs\t1\t", "step\t1\t", ""),
+        ("cspan\t2\t", "and\tall\t", ""),
+        ("rspan\t2\t", "not\tall\t", ""),
+    ] {
+        assert!(rt;
+            may_be_too_deep(rt.alloc(), step, selector, behind)?,
+            "{selector:?}"
+        );
+    }
+    Ok(())
+}
+
+/// Lines with a word that is unknown (1), missing (2) or no number (3).
+const LINES: [(&str, u8); 77] = [
+    ("sett\tall\tx", 1),
+    ("dup\tall\tsome", 1),
+    ("dup\trow\tx\tall", 3),
+    ("dup\tsome\tall", 1),
+    ("clean\trow\t10001", 3),
+    ("clean\tsome", 1),
+    ("tabs\tx\tall", 3),
+    ("tabs\t4\tsome", 1),
+    ("cspan\t+2\tall", 3),
+    ("cspan\t10001\tall", 3),
+    ("cspan\t2\tsome", 1),
+    ("rspan\t-10001\tall", 3),
+    ("rspan\t--2\tall", 3),
+    ("rspan\t2\tsome", 1),
+    ("hpanel\tx\tx", 3),
+    ("vpanel\t-1\tx", 3),
+    ("vpanelw\t0\tx\tx", 3),
+    ("vpanelw\tx\t1\tx", 3),
+    ("rotate\tup", 1),
+    ("reverse\tcells\t0\tstart\t1", 1),
+    ("reverse\trows\tx\tstart\t1", 3),
+    ("reverse\trows\t0\tmiddle\t1", 1),
+    ("reverse\trows\t0\tend\tx", 3),
+    ("split\tcell\t2\tzip\tclean", 1),
+    ("split\tcolumn\tx\tzip\tclean", 3),
+    ("split\tcolumn\t2\tzap\tclean", 1),
+    ("split\trow\t2\tconcat\tkeep", 1),
+    ("extract\t0\t1\t0\tx", 3),
+    ("extract\tx\t1\t0\t1", 3),
+    ("remove\trows\tx\t1", 3),
+    ("remove\tcolumns\t0\tx", 3),
+    ("remove\tcells\t0\t1", 1),
+    ("remove\trows\t0\tx", 3),
+    ("remove\tcolumns\tx\t1", 3),
+    ("concat\tup\t-\t1\t1\tx", 1),
+    ("concat\tvertical\t-\t0\t1\tx", 3),
+    ("concat\thorizontal\t-\t1\t0\tx", 3),
+    ("set\tcell\t0\tx\tx", 3),
+    ("set\trow", 2),
+    ("set\tcolumn\tx\tx", 3),
+    ("set\tcolumn", 2),
+    ("set\tlast-row-minus\tx\tx", 3),
+    ("set\tlast-row-minus", 2),
+    ("set\tlast-row-plus\tx\tx", 3),
+    ("set\tlast-row-plus", 2),
+    ("set\tlast-column-minus\tx\tx", 3),
+    ("set\tlast-column-minus", 2),
+    ("set\tlast-column-plus\tx\tx", 3),
+    ("set\tlast-column-plus", 2),
+    ("set\trows\t0\tx\tx", 3),
+    ("set\trows\tx\t1\tx", 3),
+    ("set\trows\t0", 2),
+    ("set\tcolumns\tx\t1\tx", 3),
+    ("set\tcolumns\t0\tx\tx", 3),
+    ("set\tcolumns\t0", 2),
+    ("set\tsegment\t0\t1\t0\tx\tx", 3),
+    ("set\tsegment\tx\t1\t0\t1\tx", 3),
+    ("set\tsegment\t0\t1\t0", 2),
+    ("set\tcontent", 2),
+    ("set\tname", 2),
+    ("set\tand\tall\tsome\tx", 1),
+    ("set\tand\tsome\tall\tx", 1),
+    ("set\tand\tall", 2),
+    ("set\tnot\tall\tsome\tx", 1),
+    ("set\tnot\tsome\tall\tx", 1),
+    ("set\tnot\tall", 2),
+    ("set\tintersect\tsome\tall\tx", 1),
+    ("set\tintersect\tall\tsome\tx", 1),
+    ("set\tintersect\tall", 2),
+    ("set\tinverse\tsome\tx", 1),
+    ("set\tinverse", 2),
+    ("set\tskip\t1\tsome\tx", 1),
+    ("set\tskip\tx\tall\tx", 3),
+    ("set\tskip\t1", 2),
+    ("set\tstep\tx\tall\tx", 3),
+    ("set\tstep\t1\tsome\tx", 1),
+    ("set\tstep\t2", 2),
+];
+
+#[test]
+fn each_word_may_be_unknown_or_no_number(rt: HostRuntime) -> Result<(), Fail> {
+    for (line, fault) in LINES {
+        assert!(rt; is_faulty(rt.alloc(), line, 1, fault)?, "{line:?}");
+    }
+    Ok(())
+}

@@ -1,0 +1,19 @@
+//! Tests of the libraries, and of what `tabled_uses` makes of them.
+#![tactic(auto)]
+
+#[cfg(test)]
+mod alike;
+#[cfg(test)]
+mod faults;
+#[cfg(test)]
+mod fitting;
+#[cfg(test)]
+mod places;
+#[cfg(test)]
+mod rows;
+#[cfg(test)]
+mod spans;
+#[cfg(test)]
+mod steps;
+#[cfg(test)]
+mod stores;
