@@ -103,6 +103,14 @@ fn each_selector_may_be_too_deep(rt: HostRuntime) -> Result<(), Fail> {
 fn each_word_may_be_unknown_or_no_number(rt: HostRuntime) -> Result<(), Fail> {
     let alloc = rt.alloc();
     for (line, number) in [
+        ("shape\tx\t0", 3),
+        ("shape\t0\tx", 3),
+        ("shape\t0", 2),
+        ("span\tx\t0\t1\t2", 3),
+        ("span\t0\tx\t1\t2", 3),
+        ("span\t0\t0\t0\t2", 3),
+        ("span\t0\t0\t1\t1", 3),
+        ("span\t0\t0\t2", 2),
         ("sett\tall\tx", 1),
         ("dup\tall\tsome", 1),
         ("dup\trow\tx\tall", 3),
