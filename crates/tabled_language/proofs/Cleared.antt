@@ -39,19 +39,13 @@ module _ (old m : BTreeMap ℕ Anchor) (e : Anchor) (keyed : AreKeyed old) (besi
   pub clear-last : (near : Anchor) (b : Bool) → IsLastBefore m (e.0.col + e.1.1) near → e.0.row < near.0.row + near.1.0 → b ≡ nat_le (near.0.col + near.1.1) e.0.col → MatchBool b (IsClear old e) (IsMet old e)
   clear-last near b last reach told = by b (leb_tells (near.0.col + near.1.1) e.0.col) told
     where
-      place : ℕ
-      place = last.0
-
-      here : get nat_cmp old place ≡ Some near
-      unfolding place
+      here : get nat_cmp old last.0 ≡ Some near
       here = left.kept last.0 near last.2
 
-      at : near.0.col ≡ place
-      unfolding place
+      at : near.0.col ≡ last.0
       at = keyed last.0 near (left.kept last.0 near last.2)
 
       clear : near.0.col + near.1.1 ≤ e.0.col → IsClear old e
-      unfolding place
       clear ends r f is = go (left.gone r f is)
         where
           near_is : get nat_cmp m r ≡ Some f → r ≡ last.0 → f ≡ near
@@ -79,8 +73,7 @@ module _ (old m : BTreeMap ℕ Anchor) (e : Anchor) (keyed : AreKeyed old) (besi
           go (inr still) = order still (cases_lt r last.0) (cases_lt last.0 r) (cases_lt r (e.0.col + e.1.1))
 
       met : e.0.col < near.0.col + near.1.1 → IsMet old e
-      unfolding place
-      met over = (last.0, (near, (here, (reach, (omega (arith, at, last.1), over)))))
+      met over = (last.0, near, here, reach, omega (arith, at, last.1), over)
 
       by : (c : Bool) → ((nat_le (near.0.col + near.1.1) e.0.col ≡ true) × (near.0.col + near.1.1 ≤ e.0.col)) ⊎ ((nat_le (near.0.col + near.1.1) e.0.col ≡ false) × (e.0.col < near.0.col + near.1.1)) → c ≡ nat_le (near.0.col + near.1.1) e.0.col → MatchBool c (IsClear old e) (IsMet old e)
       by true (inl (t, ends)) is = clear ends
@@ -123,3 +116,17 @@ smaller (Some f) near n k len is = omega (arith, len)
 -- it was there
 pub last_here : (old m : BTreeMap ℕ Anchor) (row end : ℕ) (near : Anchor) → AreKeyed old → IsLeft row old m → IsLastBefore m end near → get nat_cmp m near.0.col ≡ Some near
 last_here old m row end near keyed left last = ap (get nat_cmp m) (keyed last.0 near (left.kept last.0 near last.2)) ∙ last.2
+
+-- what the tests of a row say
+pub reaches : (b : Bool) (end row : ℕ) → b ≡ nat_le end row → b ≡ false → row < end
+reaches b end row told is = by (leb_tells end row)
+  where
+    never : true ≡ false → ⊥
+    never x = cc
+
+    by : ((nat_le end row ≡ true) × (end ≤ row)) ⊎ ((nat_le end row ≡ false) × (row < end)) → row < end
+    by (inl (t, above)) = absurd (never (sym t ∙ sym told ∙ is))
+    by (inr (t, below)) = below
+
+pub ends_above : (b : Bool) (end row : ℕ) → b ≡ nat_le end row → b ≡ true → end ≤ row
+ends_above b end row told is = leb-true end row (sym told ∙ is)

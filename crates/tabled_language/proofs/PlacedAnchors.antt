@@ -178,7 +178,7 @@ same_found es fs moved up q = by (find position_cmp q es) (find position_cmp q f
     by (Some v) y a b = sym (found_by (λ (p : Position) (s : ℕ × ℕ). find position_cmp p fs ≡ Some s) es q v in_order a) ∙ b
 
 -- one more anchor has a place where those before it and it itself have
-have_places-push : (rows columns : ℕ) (done es : List Anchor) (e : Anchor) → have_places rows columns done (es ++ e ∷ []) ≡ (have_places rows columns done es && has_place rows columns (done ++ es) e)
+pub have_places-push : (rows columns : ℕ) (done es : List Anchor) (e : Anchor) → have_places rows columns done (es ++ e ∷ []) ≡ (have_places rows columns done es && has_place rows columns (done ++ es) e)
 have_places-push rows columns done [] e = rw (append-nil done) (and_true (has_place rows columns done e))
   where
     and_true : (b : Bool) → (b && true) ≡ b

@@ -1,5 +1,5 @@
 -- A walk over rectangles row by row.
-use Rattle.std.proofs.Common.{◌≡◌, ℕ, ◌+◌, ◌<◌, ◌≤◌, ◌⊎◌, inl, inr, ◌&&◌, Bool, true, false, cond, length, get_or, take, drop, List, [], ◌∷◌, ◌++◌, refl, sym, ap, subst, ◌∙◌, arith}
+use Rattle.std.proofs.Common.{◌≡◌, ℕ, zero, suc, ◌+◌, ◌<◌, ◌≤◌, ◌⊎◌, inl, inr, ◌&&◌, Bool, true, false, cond, length, get_or, take, drop, List, [], ◌∷◌, ◌++◌, refl, sym, ap, subst, ◌∙◌, arith}
 use Rattle.std.specs.Prelude.{Option, None, Some, MatchBool, nat_le, not}
 use Rattle.std.specs.BTreeMap.{BTreeMap, get}
 use Rattle.std.specs.List.{AllByRecursion, list_any}
@@ -190,11 +190,11 @@ cut_short rows columns done [] ys h = absurd (never h)
   where
     never : true ≡ false → ⊥
     never x = cc
-cut_short rows columns done (x ∷ xs) ys h = by (has_place rows columns done x) h
+cut_short rows columns done (x ∷ xs) ys h = by (has_place rows columns done x) h (cut_short rows columns (done ++ x ∷ []) xs ys)
   where
-    by : (b : Bool) → (b && have_places rows columns (done ++ x ∷ []) xs) ≡ false → (b && have_places rows columns (done ++ x ∷ []) (xs ++ ys)) ≡ false
-    by false g = refl
-    by true g = cut_short rows columns (done ++ x ∷ []) xs ys g
+    by : (b : Bool) → (b && have_places rows columns (done ++ x ∷ []) xs) ≡ false → (have_places rows columns (done ++ x ∷ []) xs ≡ false → have_places rows columns (done ++ x ∷ []) (xs ++ ys) ≡ false) → (b && have_places rows columns (done ++ x ∷ []) (xs ++ ys)) ≡ false
+    by false g later = refl
+    by true g later = later g
 
 -- an anchor that has no place behind those gone through
 pub has_walked-stop : (rows columns : ℕ) (es : List Anchor) (k : ℕ) (e : Anchor) → k < length es → e ≡ get_or es k e → has_place rows columns (take k es) e ≡ false → fit_in rows columns es ≡ false
@@ -221,3 +221,9 @@ has_walked-more rows columns es k m kept new e h up within is wide inside clear 
   where
     by : (d : Anchor) → k + 1 < length es → (get_or es k d).0.row ≤ (get_or es (k + 1) d).0.row → e.0.row ≤ (get_or es (k + 1) d).0.row
     by d next le = subst (λ (a : Anchor). a.0.row ≤ (get_or es (k + 1) d).0.row) (get_or_default es k d e within ∙ sym is) le
+
+-- the size of an anchor of a list
+pub size_at : (es : List Anchor) (k : ℕ) (d : Anchor) → k < length es → AllByRecursion (λ (e : Anchor). IsSpanSize e.1) es → IsSpanSize (get_or es k d).1
+size_at [] k d within sizes = absurd (omega (arith, within))
+size_at (e ∷ es) zero d within sizes = sizes.0
+size_at (e ∷ es) (suc k) d within sizes = size_at es k d (omega (arith, within)) sizes.1

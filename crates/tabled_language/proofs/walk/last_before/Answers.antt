@@ -6,4 +6,4 @@ returns-in-Some c =
     let lies = c.range.ensures.in_range tt in
     let column = c.in-Some.field-0-0.now in
     let entry = lies.3 (column, c.in-Some.anchor.now) c.next_back.new.self c.in-Some.ensures.steps in
-    (column, (below_when_before column c.args.column entry.0.1, (entry.1, none_between c.args.reaching.now c.args.column c.range.result c.next_back.new.self (column, c.in-Some.anchor.now) lies c.in-Some.ensures.steps)))
+    (column, below_when_before column c.args.column entry.0.1, entry.1, none_between c.args.reaching.now c.args.column c.range.result c.next_back.new.self (column, c.in-Some.anchor.now) lies c.in-Some.ensures.steps)
