@@ -160,8 +160,8 @@ def picture(script, output):
     lines, answer = script.split("\n"), output.split("\n")
     if output.startswith("line "):
         return [*map(shortened, lines[:-1]), "", "gives", "", f"    {answer[0]}"]
-    steps = [it for it in lines if it and it.split("\t")[0] != "row"]
-    spans, merged = spans_of(answer), merged_by(steps[:-1])
+    steps = [it for it in lines if it and it.split("\t")[0] not in ("shape", "row", "span")]
+    spans, merged = spans_of(answer), spans_of(lines) + merged_by(steps[:-1])
     ruled = spans or merged
     after = drawn(rows_of(answer), spans, ruled)
     if not steps:

@@ -5,7 +5,7 @@ use Rattle.std.proofs.lemmas.Str.Parse.{IsNumeralModel, numerals_by_value, tells
 use Rattle.std.specs.Str.{all_ascii_digits}
 use Rattle.std.specs.Str.Parse.{ParsesUnsigned, digits_value}
 use Rattle.std.specs.Result.{result_ok}
-use Rattle.tabled_language.specs.Word.{integer_of, number_of}
+use Rattle.tabled_language.specs.Word.{integer_of, number_of, number_to}
 
 -- digits and their value are std's
 own : IsNumeralModel (λ ds. all_ascii_digits ds ≡ true) (digits_value 10)
@@ -24,24 +24,35 @@ some_if true false r n a b c = cc
 some_if false q r n a b c = cc
 
 -- a text that `parse` refuses is no number
-pub number_of-refused : {E : Type 0} (text : List ℕ) (r : Result ℕ E) → ParsesUnsigned 64 10 text r → get_or text 0 0 ≢ 43 → None ≡ result_ok r → None ≡ number_of text
-number_of-refused {E} text (Ok n) h plain e = cc
-number_of-refused {E} text (Err e) h plain is =
-    none_unless (not (eqb (length text) 0)) (all_ascii_digits text) (leb (digits_value 10 text) 10000) (digits_value 10 text) (λ some digits small.
+pub number_to-refused : {E : Type 0} (largest : ℕ) (text : List ℕ) (r : Result ℕ E) → largest < 2 ^ 64 → ParsesUnsigned 64 10 text r → get_or text 0 0 ≢ 43 → None ≡ result_ok r → None ≡ number_to largest text
+number_to-refused {E} largest text (Ok n) high h plain e = cc
+number_to-refused {E} largest text (Err e) high h plain is =
+    none_unless (not (eqb (length text) 0)) (all_ascii_digits text) (leb (digits_value 10 text) largest) (digits_value 10 text) (λ some digits small.
     let least : 0 < length text = grind (arith, nat_tests) in
-    let most : digits_value 10 text ≤ 10000 = grind (arith, nat_tests) in
+    let most : digits_value 10 text ≤ largest = grind (arith, nat_tests) in
     let fits : digits_value 10 text < 2 ^ 64 = omega arith in
     parse_plain own {E = E} 64 text (Err e) h plain (digits, least, fits))
 
 -- what it reads is the number, if that isn't too large
-pub number_of-read : {E : Type 0} (text : List ℕ) (r : Result ℕ E) (n : ℕ) → ParsesUnsigned 64 10 text r → get_or text 0 0 ≢ 43 → Some n ≡ result_ok r → n ≤ 10000 → Some n ≡ number_of text
-number_of-read {E} text (Err e) n h plain is small = cc
-number_of-read {E} text (Ok m) n h plain is small =
+pub number_to-read : {E : Type 0} (largest : ℕ) (text : List ℕ) (r : Result ℕ E) (n : ℕ) → ParsesUnsigned 64 10 text r → get_or text 0 0 ≢ 43 → Some n ≡ result_ok r → n ≤ largest → Some n ≡ number_to largest text
+number_to-read {E} largest text (Err e) n h plain is small = cc
+number_to-read {E} largest text (Ok m) n h plain is small =
     let read = parse_plain own {E = E} 64 text (Ok m) h plain in
     let same : n ≡ m = cc in
     let value : m ≡ digits_value 10 text = read.1 in
     let least : 0 < length text = read.0.1 in
-    ap Some (same ∙ value) ∙ some_if (not (eqb (length text) 0)) (all_ascii_digits text) (leb (digits_value 10 text) 10000) (digits_value 10 text) (grind (arith, nat_tests)) read.0.0 (grind (arith, nat_tests))
+    ap Some (same ∙ value) ∙ some_if (not (eqb (length text) 0)) (all_ascii_digits text) (leb (digits_value 10 text) largest) (digits_value 10 text) (grind (arith, nat_tests)) read.0.0 (grind (arith, nat_tests))
+
+-- what it reads is no number, if it is too large
+pub number_to-large : {E : Type 0} (largest : ℕ) (text : List ℕ) (r : Result ℕ E) (n : ℕ) → ParsesUnsigned 64 10 text r → get_or text 0 0 ≢ 43 → Some n ≡ result_ok r → largest < n → None ≡ number_to largest text
+number_to-large {E} largest text (Err e) n h plain is high = cc
+number_to-large {E} largest text (Ok m) n h plain is high =
+    let read = parse_plain own {E = E} 64 text (Ok m) h plain in
+    let same : n ≡ m = cc in
+    let value : m ≡ digits_value 10 text = read.1 in
+    none_unless (not (eqb (length text) 0)) (all_ascii_digits text) (leb (digits_value 10 text) largest) (digits_value 10 text) (λ some digits small.
+    let most : digits_value 10 text ≤ largest = grind (arith, nat_tests) in
+    omega (arith, high, same, value, most))
 
 -- a text without a minus that is no number is no integer
 pub integer_of-plain : (text : List ℕ) → ((rest : List ℕ) → text ≡ 45 ∷ rest → ⊥) → number_of text ≡ None → integer_of text ≡ None

@@ -1,96 +1,140 @@
--- A script read line by line.
-use Rattle.std.specs.Prelude.{codes, map}
+-- A script read line by line into a draft.
+use Rattle.std.specs.Prelude.{codes, map, is_ok}
 use Rattle.std.specs.Str.{bytes_eq}
 use Rattle.std.proofs.lemmas.Slice.Eq.{bytes_eq-Decides}
-use Rattle.std.proofs.Common.{◌≡◌, ◌≢◌, ℕ, Bool, true, false, ◌+◌, List, [], ◌∷◌, ◌++◌, ◌||◌, not, eqb, length, Some, None, Result, Ok, Err, refl, ne_eqb, sym, ap, ◌∙◌, arith}
-use Rattle.std.proofs.lemmas.Bool.Decides.{nat_tests}
+use Rattle.std.proofs.Common.{◌≡◌, ◌≢◌, ℕ, Bool, true, false, cond, ◌+◌, ◌<◌, List, [], ◌∷◌, ◌++◌, ◌||◌, ◌&&◌, length, Option, Some, None, Result, Ok, Err, refl, sym, ap, subst, ◌∙◌, arith}
+use Rattle.std.proofs.lemmas.Bool.{and_from, and_parts, not-true}
 use Rattle.std.proofs.lemmas.List.{append-nil, append_assoc, length-append}
-use Rattle.std.proofs.lemmas.List.Elements.{filter_map-append}
-use Rattle.std.specs.List.{list_any, remove, slice_index_or}
+use Rattle.std.proofs.lemmas.Option.{none-some}
+use Rattle.std.proofs.lemmas.Str.{IsUtf8-from_is_utf8}
+use Rattle.std.specs.List.{AllByRecursion, list_any, remove, slice_index_or}
+use Rattle.tabled_grid.proofs.Lists.{all-append}
+use Rattle.tabled_grid.specs.Anchors.{Anchor}
 use Rattle.tabled_language.specs.declared.fault.Fault.{Fault}
+use Rattle.tabled_language.specs.declared.fault.Fault.TheVariants.{OutOfPlace}
 use Rattle.tabled_language.specs.declared.fault.ReadError.{ReadError}
 use Rattle.tabled_language.specs.declared.fault.ReadError.TheVariants.{Faulty, OutOfMemory}
-use Rattle.tabled_language.specs.Line.{Script, line_of, meaning_of, lines_ask, lines_of, line_asks, script_of, step_asks, words_ask, fault_of, first_fault, is_plain, is_step, record_in, step_in, script_or_fault, texts_of, words_of}
-use Rattle.tabled_language.specs.Parsing.{LineEnds, ReadsLine, ScriptEnds, has_step, with_line}
-use Rattle.tabled_language.specs.Verb.{Line, EmptyLine, RecordLine, StepLine, FaultyLine, step_line, steps}
-use Rattle.tabled_language.specs.Words.{behind, whole}
+use Rattle.tabled_language.specs.Drafts.{Draft, draft_of, fault_behind, takes, with_line}
+use Rattle.tabled_language.specs.Line.{anchor_in, fault_of, first_fault, is_in_place, is_plain, line_asks, line_of, lines_ask, lines_of, meaning_of, script_or_fault, texts_of, words_ask, words_fault, words_of}
+use Rattle.tabled_language.specs.Parsing.{LineEnds, ReadsLine, ReadsScript, ScriptEnds}
+use Rattle.tabled_language.specs.Sizes.{reads_anchor, reads_shape}
+use Rattle.tabled_language.specs.Verb.{Line, RecordLine, ShapeLine, SpanLine, step_line, steps}
+use Rattle.tabled_language.specs.Words.{behind, keeping_asks, whole}
 use Rattle.tabled_steps.specs.States.{State}
-use Rattle.tabled_language.proofs.Asking.{or_false, or_later}
+use Rattle.tabled_language.proofs.Asking.{or_later}
+use Rattle.tabled_language.proofs.DraftLines.{IsSound, fault_told, place_told, sound_line}
+use Rattle.tabled_language.proofs.DraftSteps.{draft_of-push}
+use Rattle.tabled_language.proofs.PlainLines.{texts_of-plain}
 
--- of all lines a number was read into a script, and the rest is left
-pub record HasRead (all rest : List Line) (number : ℕ) (script : Script) : Type 0 where
+-- of all lines a number was read into a draft, and the rest is left
+pub record HasRead (all rest : List (List ℕ)) (number : ℕ) (draft : Draft) : Type 0 where
   pub earlier : List Line
-  pub split : earlier ++ rest ≡ all
+  pub split : earlier ++ map line_of rest ≡ map line_of all
   pub counted : length earlier ≡ number
-  pub is : script ≡ script_of earlier
-  pub faults : first_fault earlier rest ≡ first_fault [] all
-
--- a script has a step where one of its lines is a step
-has_step-any : (lines : List Line) → has_step (script_of lines) ≡ list_any is_step lines
-has_step-any [] = refl
-has_step-any (EmptyLine ∷ lines) = has_step-any lines
-has_step-any (RecordLine texts ∷ lines) = has_step-any lines
-has_step-any (StepLine step ∷ lines) = grind (arith, nat_tests)
-has_step-any (FaultyLine fault ∷ lines) = has_step-any lines
-
--- what a script has of lines is what a fault asks of them
-fault_of-script : (script : Script) (lines : List Line) (line : Line) → script ≡ script_of lines → fault_of (list_any is_step lines) line ≡ fault_of (has_step script) line
-fault_of-script script lines line is = sym (ap (λ s. fault_of (has_step s) line) is ∙ ap (λ b. fault_of b line) (has_step-any lines))
-
--- one line more is what it says
-script_of-push : (lines : List Line) (line : Line) → script_of (lines ++ line ∷ []) ≡ with_line (script_of lines) line
-script_of-push lines line = rw (filter_map-append record_in lines (line ∷ []), filter_map-append step_in lines (line ∷ [])) refl
+  pub is : draft ≡ draft_of earlier
+  pub sound : AllByRecursion IsSound earlier
+  pub faults : first_fault fault_of earlier (map line_of rest) ≡ first_fault fault_of [] (map line_of all)
+  pub memory : lines_ask earlier rest ≡ true → lines_ask [] all ≡ true
+  pub spans : 0 < length draft.anchors → lines_ask [] all ≡ true
 
 -- no line is read yet
-pub has_read-none : (all : List Line) → HasRead all all 0 (script_of [])
-has_read-none all = record { earlier = []; split = refl; counted = refl; is = refl; faults = refl }
+pub has_read-none : (all : List (List ℕ)) → HasRead all all 0 (draft_of [])
+has_read-none all = record { earlier = []; split = refl; counted = refl; is = refl; sound = tt; faults = refl; memory = λ asks. asks; spans = λ some. absurd (omega (arith, some)) }
 
 -- each line is read or left
-pub has_read-counts : {all rest : List Line} {number : ℕ} {script : Script} → HasRead all rest number script → number + length rest ≡ length all
-has_read-counts {all} {rest} {number} {script} h = ap (λ n. n + length rest) (sym h.counted) ∙ sym (length-append h.earlier rest) ∙ ap length h.split
+pub has_read-counts : {all rest : List (List ℕ)} {number : ℕ} {draft : Draft} → HasRead all rest number draft → number + length (map line_of rest) ≡ length (map line_of all)
+has_read-counts {all} {rest} {number} {draft} h = ap (λ n. n + length (map line_of rest)) (sym h.counted) ∙ sym (length-append h.earlier (map line_of rest)) ∙ ap length h.split
 
--- one line more, without a fault
-pub has_read-more : {all rest : List Line} {number : ℕ} {script : Script} (line : Line) → HasRead all (line ∷ rest) number script → fault_of (has_step script) line ≡ None → HasRead all rest (number + 1) (with_line script line)
-has_read-more {all} {rest} {number} {script} line h fine =
-    let none : fault_of (list_any is_step h.earlier) line ≡ None = fault_of-script script h.earlier line h.is ∙ fine in
-    record {
-      earlier = h.earlier ++ line ∷ [];
-      split = append_assoc h.earlier (line ∷ []) rest ∙ h.split;
-      counted = length-append h.earlier (line ∷ []) ∙ ap (λ n. n + 1) h.counted;
-      is = ap (λ s. with_line s line) h.is ∙ sym (script_of-push h.earlier line);
-      faults = (rw none at h.faults);
-    }
-
--- the first line with a fault
-pub has_read-fault : {all rest : List Line} {number : ℕ} {script : Script} (line : Line) (fault : Fault) → HasRead all (line ∷ rest) number script → fault_of (has_step script) line ≡ Some fault → script_or_fault all ≡ Err (number + 1, fault)
-has_read-fault {all} {rest} {number} {script} line fault h bad =
-    let here : fault_of (list_any is_step h.earlier) line ≡ Some fault = fault_of-script script h.earlier line h.is ∙ bad in
-    let first : first_fault [] all ≡ Some (length h.earlier + 1, fault) = sym (rw here at h.faults) in
-    rw (first, h.counted) refl
-
--- the end of a script without faults
-pub has_read-all : {all : List Line} {number : ℕ} {script : Script} → HasRead all [] number script → script_or_fault all ≡ Ok script
-has_read-all {all} {number} {script} h =
-    let whole : h.earlier ≡ all = sym (append-nil h.earlier) ∙ h.split in
-    rw (← h.faults, h.is, whole) refl
-
--- a script has a step behind one more line where it had one or the line is one
-has_step-more : (script : Script) (line : Line) → has_step (with_line script line) ≡ (has_step script || is_step line)
-has_step-more script EmptyLine = rw (append-nil script.steps) (sym (or_false (has_step script)))
-has_step-more script (RecordLine texts) = rw (append-nil script.steps) (sym (or_false (has_step script)))
-has_step-more script (StepLine step) = some script.steps ∙ sym (or_later (has_step script) true refl)
+-- a line without a fault stands in its place
+in_its_place : (earlier : List Line) (line : Line) → fault_of earlier line ≡ None → is_in_place earlier line ≡ true
+in_its_place earlier line fine = by (is_in_place earlier line) fine
   where
-    some : (xs : List (State → State)) → not (eqb (length (xs ++ step ∷ [])) 0) ≡ true
-    some xs = (let long : length (xs ++ step ∷ []) ≡ length xs + 1 = length-append xs (step ∷ []) in rw (ne_eqb (length (xs ++ step ∷ [])) 0 (λ none. omega (arith, none, long))) refl)
-has_step-more script (FaultyLine fault) = rw (append-nil script.steps) (sym (or_false (has_step script)))
+    by : (b : Bool) → cond b (words_fault line) (Some OutOfPlace) ≡ None → b ≡ true
+    by true e = refl
+    by false e = absurd (none-some OutOfPlace (sym e))
+
+-- words that say an anchor ask for memory in their place
+words_ask-span : (in_place : Line → Bool) (words : List (List ℕ)) (anchor : Anchor) → anchor_in (meaning_of (Some words)) ≡ Some anchor → in_place (meaning_of (Some words)) ≡ true → words_ask in_place words ≡ true
+words_ask-span in_place [] anchor is here = absurd (none-some anchor is)
+words_ask-span in_place (verb ∷ texts) anchor is here = by (bytes_eq verb (codes "row")) (bytes_eq verb (codes "shape")) (bytes_eq verb (codes "span")) is here
+  where
+    kept : (read : Result Anchor Fault) → anchor_in (SpanLine read) ≡ Some anchor → is_ok read ≡ true
+    kept (Ok e) is = refl
+    kept (Err fault) is = absurd (none-some anchor is)
+
+    no_step : (read : Result (State → State) Fault) → anchor_in (step_line read) ≡ None
+    no_step (Ok step) = refl
+    no_step (Err fault) = refl
+
+    by : (row shape span : Bool) → anchor_in (cond row (RecordLine texts) (cond shape (ShapeLine (whole reads_shape texts)) (cond span (SpanLine (whole reads_anchor texts)) (step_line (whole (behind steps verb) texts))))) ≡ Some anchor → in_place (cond row (RecordLine texts) (cond shape (ShapeLine (whole reads_shape texts)) (cond span (SpanLine (whole reads_anchor texts)) (step_line (whole (behind steps verb) texts))))) ≡ true → cond row (in_place (RecordLine texts)) (cond shape false (cond span (in_place (SpanLine (whole reads_anchor texts)) && keeping_asks reads_anchor texts) (keeping_asks (behind steps verb) texts))) ≡ true
+    by true shape span is here = here
+    by false true span is here = absurd (none-some anchor is)
+    by false false true is here = and_from _ _ here (or_later (reads_anchor.asks texts) _ (kept (whole reads_anchor texts) is))
+    by false false false is here = absurd (none-some anchor (sym (no_step (whole (behind steps verb) texts)) ∙ is))
+
+-- so does a line
+line_asks-span : (in_place : Line → Bool) (line : List ℕ) (anchor : Anchor) → anchor_in (line_of line) ≡ Some anchor → in_place (line_of line) ≡ true → line_asks in_place line ≡ true
+line_asks-span in_place [] anchor is here = absurd (none-some anchor is)
+line_asks-span in_place (b ∷ bs) anchor is here = by (is_plain (b ∷ bs)) refl
+  where
+    by : (plain : Bool) → is_plain (b ∷ bs) ≡ plain → cond plain (words_ask in_place (words_of (b ∷ bs))) true ≡ true
+    by false e = refl
+    by true e =
+        let parts = and_parts _ _ e in
+        let said : line_of (b ∷ bs) ≡ meaning_of (Some (words_of (b ∷ bs))) = ap meaning_of (texts_of-plain (b ∷ bs) (IsUtf8-from_is_utf8 (b ∷ bs) parts.0) (not-true _ parts.1)) in
+        words_ask-span in_place (words_of (b ∷ bs)) anchor (ap anchor_in (sym said) ∙ is) (ap in_place (sym said) ∙ here)
 
 -- what a line asks for is asked for by all that are left, the first of which it is
-pub lines_ask-here : (stepped : Bool) (line : List ℕ) (lines : List (List ℕ)) → line_asks stepped line ≡ true → lines_ask stepped (line ∷ lines) ≡ true
-lines_ask-here stepped line lines asks = rw asks refl
+lines_ask-here : (earlier : List Line) (line : List ℕ) (lines : List (List ℕ)) → line_asks (is_in_place earlier) line ≡ true → lines_ask earlier (line ∷ lines) ≡ true
+lines_ask-here earlier line lines asks = rw asks refl
 
 -- what the lines behind a line ask for is asked for by it and them, where it has no fault
-pub lines_ask-later : (script : Script) (line : List ℕ) (lines : List (List ℕ)) → fault_of (has_step script) (line_of line) ≡ None → lines_ask (has_step (with_line script (line_of line))) lines ≡ true → lines_ask (has_step script) (line ∷ lines) ≡ true
-lines_ask-later script line lines fine asks = or_later (line_asks (has_step script) line) _ (rw fine (rw (has_step-more script (line_of line)) at asks))
+lines_ask-later : (earlier : List Line) (line : List ℕ) (lines : List (List ℕ)) → fault_of earlier (line_of line) ≡ None → lines_ask (earlier ++ line_of line ∷ []) lines ≡ true → lines_ask earlier (line ∷ lines) ≡ true
+lines_ask-later earlier line lines fine asks = or_later (line_asks (is_in_place earlier) line) _ (rw fine asks)
+
+-- a line asks alike by two tests that answer alike
+line_asks-alike : (p q : Line → Bool) (line : List ℕ) → ((l : Line) → p l ≡ q l) → line_asks p line ≡ line_asks q line
+line_asks-alike p q line same = ap (λ b. cond (is_plain line) b true) (words (words_of line))
+  where
+    words : (texts : List (List ℕ)) → words_ask p texts ≡ words_ask q texts
+    words [] = refl
+    words (verb ∷ texts) = rw (same (RecordLine texts), same (SpanLine (whole reads_anchor texts))) refl
+
+-- one line more, without a fault
+pub has_read-more : {all rest : List (List ℕ)} {number : ℕ} {draft : Draft} (line : List ℕ) → HasRead all (line ∷ rest) number draft → fault_behind draft (line_of line) ≡ None → HasRead all rest (number + 1) (with_line draft (number + 1) (line_of line))
+has_read-more {all} {rest} {number} {draft} line h fine =
+    let none : fault_of h.earlier (line_of line) ≡ None = fault_told h.earlier (line_of line) h.sound ∙ ap (λ d. fault_behind d (line_of line)) (sym h.is) ∙ fine in
+    record {
+      earlier = h.earlier ++ line_of line ∷ [];
+      split = append_assoc h.earlier (line_of line ∷ []) (map line_of rest) ∙ h.split;
+      counted = length-append h.earlier (line_of line ∷ []) ∙ ap (λ n. n + 1) h.counted;
+      is = ap (λ d. with_line d (number + 1) (line_of line)) h.is ∙ ap (λ n. with_line (draft_of h.earlier) (n + 1) (line_of line)) (sym h.counted) ∙ sym (draft_of-push h.earlier (line_of line));
+      sound = all-append IsSound h.earlier (line_of line ∷ []) h.sound (sound_line h.earlier (line_of line) none, tt);
+      faults = (rw none at h.faults);
+      memory = λ asks. h.memory (lines_ask-later h.earlier line rest none asks);
+      spans = some none (anchor_in (line_of line)) refl;
+    }
+  where
+    some : fault_of h.earlier (line_of line) ≡ None → (o : Option Anchor) → anchor_in (line_of line) ≡ o → 0 < length (with_line draft (number + 1) (line_of line)).anchors → lines_ask [] all ≡ true
+    some none None e more = h.spans (rw (e, append-nil draft.anchors) at more)
+    some none (Some anchor) e more = h.memory (lines_ask-here h.earlier line rest (line_asks-span (is_in_place h.earlier) line anchor e (in_its_place h.earlier (line_of line) none)))
+
+-- the first line with a fault
+has_read-fault : {all rest : List (List ℕ)} {number : ℕ} {draft : Draft} (line : List ℕ) (fault : Fault) → HasRead all (line ∷ rest) number draft → fault_behind draft (line_of line) ≡ Some fault → script_or_fault (map line_of all) ≡ Err (number + 1, fault)
+has_read-fault {all} {rest} {number} {draft} line fault h bad =
+    let here : fault_of h.earlier (line_of line) ≡ Some fault = fault_told h.earlier (line_of line) h.sound ∙ ap (λ d. fault_behind d (line_of line)) (sym h.is) ∙ bad in
+    let first : first_fault fault_of [] (map line_of all) ≡ Some (length h.earlier + 1, fault) = sym (rw here at h.faults) in
+    rw (first, h.counted) refl
+
+-- a script ends with the line that isn't read
+pub script_ends : (input line : List ℕ) (rest : List (List ℕ)) (number : ℕ) (draft : Draft) (error : ReadError) → HasRead (lines_of input) (line ∷ rest) number draft → LineEnds (fault_behind draft (line_of line)) (line_asks (takes draft) line) error → ScriptEnds input (number + 1, error)
+script_ends input line rest number draft (Faulty fault) h told = has_read-fault line fault h told
+script_ends input line rest number draft OutOfMemory h told =
+    h.memory (lines_ask-here h.earlier line rest (line_asks-alike (is_in_place h.earlier) (takes draft) line (λ l. place_told h.earlier l h.sound ∙ ap (λ d. takes d l) (sym h.is)) ∙ told))
+
+-- the end of a script whose lines have no fault by themselves
+pub has_read-end : {input : List ℕ} {number : ℕ} {draft : Draft} → HasRead (lines_of input) [] number draft → ReadsScript input draft
+has_read-end {input} {number} {draft} h = record { faultless = sym h.faults; is = h.is ∙ ap draft_of (sym (append-nil h.earlier) ∙ h.split); asks = h.spans }
 
 -- a line with bytes says what its texts say
 pub line_of-texts : (line : List ℕ) (texts : List (List ℕ)) → length line ≢ 0 → texts_of (words_of line) ≡ Some texts → line_of line ≡ meaning_of (Some texts)
@@ -98,43 +142,38 @@ line_of-texts [] texts some is = absurd (some refl)
 line_of-texts (b ∷ bs) texts some is = ap meaning_of is
 
 -- a plain line asks for memory as its words do
-pub line_asks-plain : (stepped : Bool) (line text : List ℕ) → text ≡ line → is_plain line ≡ true → line_asks stepped line ≡ words_ask stepped (words_of text)
-line_asks-plain stepped line text same plain = rw (same, plain) refl
+pub line_asks-plain : (in_place : Line → Bool) (line text : List ℕ) → text ≡ line → is_plain line ≡ true → line_asks in_place line ≡ words_ask in_place (words_of text)
+line_asks-plain in_place line text same plain = rw (same, plain) refl
 
 -- any other does
-pub line_asks-texts : (stepped : Bool) (line : List ℕ) → is_plain line ≡ false → line_asks stepped line ≡ true
-line_asks-texts stepped line plain = rw plain refl
+pub line_asks-texts : (in_place : Line → Bool) (line : List ℕ) → is_plain line ≡ false → line_asks in_place line ≡ true
+line_asks-texts in_place line plain = rw plain refl
 
--- texts whose verb isn't `row` say a step
-pub meaning_of-step : (texts : List (List ℕ)) (verb : List ℕ) (others : List (List ℕ)) → texts ≡ verb ∷ others → verb ≢ codes "row" → meaning_of (Some texts) ≡ step_line (whole (behind steps verb) others)
-meaning_of-step texts verb others is other = rw (is, differ (bytes_eq verb (codes "row")) (λ same. other ((bytes_eq-Decides verb (codes "row")).0 same))) refl
+-- another word isn't this one
+differ : (verb name : List ℕ) → verb ≢ name → bytes_eq verb name ≡ false
+differ verb name other = false_unless (bytes_eq verb name) (λ same. other ((bytes_eq-Decides verb name).0 same))
   where
-    differ : (b : Bool) → (b ≡ true → ⊥) → b ≡ false
-    differ true never = absurd (never refl)
-    differ false never = refl
+    false_unless : (b : Bool) → (b ≡ true → ⊥) → b ≡ false
+    false_unless true never = absurd (never refl)
+    false_unless false never = refl
+
+-- texts whose verb is none of `row`, `shape` and `span` say a step
+pub meaning_of-step : (texts : List (List ℕ)) (verb : List ℕ) (others : List (List ℕ)) → texts ≡ verb ∷ others → verb ≢ codes "row" → verb ≢ codes "shape" → verb ≢ codes "span" → meaning_of (Some texts) ≡ step_line (whole (behind steps verb) others)
+meaning_of-step texts verb others is row shape span = rw (is, differ verb (codes "row") row, differ verb (codes "shape") shape, differ verb (codes "span") span) refl
 
 -- they ask for memory as the step does
-pub words_ask-step : (stepped : Bool) (texts : List (List ℕ)) (verb : List ℕ) (others : List (List ℕ)) → texts ≡ verb ∷ others → verb ≢ codes "row" → words_ask stepped texts ≡ step_asks (behind steps verb) others
-words_ask-step stepped texts verb others is other = rw (is, differ (bytes_eq verb (codes "row")) (λ same. other ((bytes_eq-Decides verb (codes "row")).0 same))) refl
-  where
-    differ : (b : Bool) → (b ≡ true → ⊥) → b ≡ false
-    differ true never = absurd (never refl)
-    differ false never = refl
+pub words_ask-step : (in_place : Line → Bool) (texts : List (List ℕ)) (verb : List ℕ) (others : List (List ℕ)) → texts ≡ verb ∷ others → verb ≢ codes "row" → verb ≢ codes "shape" → verb ≢ codes "span" → words_ask in_place texts ≡ keeping_asks (behind steps verb) others
+words_ask-step in_place texts verb others is row shape span = rw (is, differ verb (codes "row") row, differ verb (codes "shape") shape, differ verb (codes "span") span) refl
 
 -- what is read of a line, the line said in other words
-pub same_line : {X : Type 0} (old new : Script) (r : Result X ReadError) (line other : Line) (asks others : Bool) → line ≡ other → asks ≡ others → ReadsLine old other others r new → ReadsLine old line asks r new
-same_line old new r line other asks others e k told = rw (e, k) told
+pub same_line : {X : Type 0} (old new : Draft) (n : ℕ) (r : Result X ReadError) (line other : Line) (asks others : Bool) → line ≡ other → asks ≡ others → ReadsLine old n other others r new → ReadsLine old n line asks r new
+same_line old new n r line other asks others e k told = rw (e, k) told
 
 -- a line that asks for memory in any case
-pub asks_anyway : {X : Type 0} (old new : Script) (line : Line) (asks : Bool) (r : Result X ReadError) → ReadsLine old line asks r new → ReadsLine old line true r new
-asks_anyway old new line asks (Ok x) told = told
-asks_anyway old new line asks (Err (Faulty fault)) told = told
-asks_anyway old new line asks (Err OutOfMemory) told = refl
-
--- a script ends with the line that isn't read
-pub script_ends : (input line : List ℕ) (rest : List (List ℕ)) (number : ℕ) (script : Script) (error : ReadError) → HasRead (map line_of (lines_of input)) (line_of line ∷ map line_of rest) number script → (lines_ask (has_step script) (line ∷ rest) ≡ true → lines_ask false (lines_of input) ≡ true) → LineEnds (fault_of (has_step script) (line_of line)) (line_asks (has_step script) line) error → ScriptEnds input (number + 1, error)
-script_ends input line rest number script (Faulty fault) h memory told = has_read-fault (line_of line) fault h told
-script_ends input line rest number script OutOfMemory h memory told = memory (lines_ask-here (has_step script) line rest told)
+pub asks_anyway : {X : Type 0} (old new : Draft) (n : ℕ) (line : Line) (asks : Bool) (r : Result X ReadError) → ReadsLine old n line asks r new → ReadsLine old n line true r new
+asks_anyway old new n line asks (Ok x) told = told
+asks_anyway old new n line asks (Err (Faulty fault)) told = told
+asks_anyway old new n line asks (Err OutOfMemory) told = refl
 
 -- the first of values is taken away
 pub first_removed : {A : Type 0} (view : A → List ℕ) (xs : List A) (x : A) → length xs ≢ 0 → x ≡ slice_index_or xs 0 x → map view xs ≡ view x ∷ map view (remove xs 0)

@@ -1,8 +1,15 @@
+pub mod Drafts
 pub mod Faults
 pub mod Line
+pub mod Output
 pub mod Parsing
 pub mod Parts
+pub mod Placed
+pub mod Plain
+pub mod RoundTrip
 pub mod Selectors
+pub mod Sizes
 pub mod Verb
+pub mod Walk
 pub mod Word
 pub mod Words

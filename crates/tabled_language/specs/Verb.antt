@@ -2,6 +2,7 @@
 use Rattle.std.specs.Prelude.{ℕ, ◌*◌, true, false, List, [], ◌∷◌, codes, if◌then◌else◌, None, Some, Result, Ok, Err, take, drop, map, length, nat_le}
 use Rattle.std.specs.List.{range_with_len}
 use Rattle.std.specs.Str.{bytes_eq}
+use Rattle.tabled_grid.specs.Anchors.{Anchor}
 use Rattle.tabled_grid.specs.Grid.{Grid}
 use Rattle.tabled_grid.specs.declared.config.offset.Offset.{Offset}
 use Rattle.tabled_grid.specs.declared.config.offset.Offset.TheVariants.{End, Start}
@@ -20,12 +21,16 @@ use Rattle.tabled_steps.specs.States.{State, cut, duplicate, join, merge, on_eac
 use Rattle.tabled_language.specs.declared.fault.Fault.{Fault}
 use Rattle.tabled_language.specs.declared.fault.Fault.TheVariants.{WordCount}
 use Rattle.tabled_language.specs.Selectors.{reads_cells}
+use Rattle.tabled_language.specs.Sizes.{reads_anchor, reads_shape}
 use Rattle.tabled_language.specs.Words.{Choices, Reading, behind, gives, kept, then_reads, reads_count, reads_integer, reads_number, reads_one_of, reads_text, whole}
 
--- what a line says: nothing, a record, what it makes of a table's state, or a fault
+-- what a line says: nothing, a table's shape, a record, an anchor, what it makes of a table's state, or a fault.
+-- A shape and an anchor stand with the fault of their words: the line may be out of place before these are read
 pub data Line : Type 0 where
   EmptyLine : Line
+  ShapeLine : Result (ℕ × ℕ) Fault → Line
   RecordLine : List (List ℕ) → Line
+  SpanLine : Result Anchor Fault → Line
   StepLine : (State → State) → Line
   FaultyLine : Fault → Line
 
@@ -171,4 +176,8 @@ steps =
 
 -- what a verb says with the texts behind it
 abbrev pub says : List ℕ → List (List ℕ) → Line
-says verb texts = if bytes_eq verb (codes "row") then RecordLine texts else step_line (whole (behind steps verb) texts)
+says verb texts =
+    if bytes_eq verb (codes "row") then RecordLine texts
+    else (if bytes_eq verb (codes "shape") then ShapeLine (whole reads_shape texts)
+    else (if bytes_eq verb (codes "span") then SpanLine (whole reads_anchor texts)
+    else step_line (whole (behind steps verb) texts)))

@@ -3,7 +3,7 @@ use Rattle.std.specs.Prelude.{ℕ, ℤ, Bool, false, ◌||◌, List, [], ◌∷�
 use Rattle.std.specs.Str.{bytes_eq}
 use Rattle.tabled_language.specs.declared.fault.Fault.{Fault}
 use Rattle.tabled_language.specs.declared.fault.Fault.TheVariants.{UnknownWord, WordCount, NumberRange}
-use Rattle.tabled_language.specs.Word.{integer_of, number_of}
+use Rattle.tabled_language.specs.Word.{integer_of, number_of, size_of}
 
 -- what was read from the front of texts, with the texts left, or the fault that was met
 abbrev pub Read : Type 0 → Type 0
@@ -68,6 +68,14 @@ reads_integer = then_reads reads_word (λ text. in_range (integer_of text))
 abbrev pub reads_count : Reading ℕ
 reads_count = then_reads reads_number (λ n. if n == 0 then fails NumberRange else gives n)
 
+-- a number that a shape or a span may name
+abbrev pub reads_size : Reading ℕ
+reads_size = then_reads reads_word (λ text. in_range (size_of text))
+
+-- such a number of at least 1
+abbrev pub reads_extent : Reading ℕ
+reads_extent = then_reads reads_size (λ n. if n == 0 then fails NumberRange else gives n)
+
 -- words, and what is read behind each of them
 abbrev pub Choices : Type 0 → Type 0
 Choices A = List (List ℕ × Reading A)
@@ -93,3 +101,7 @@ whole {A} reading texts = go (reading.reads texts)
     go : Read A → Result A Fault
     go (Ok read) = ended read.0 read.1
     go (Err fault) = Err fault
+
+-- what is read of all of these texts is kept: memory is asked for where the reading asks for some, or it is whole
+abbrev pub keeping_asks : {A : Type 0} → Reading A → List (List ℕ) → Bool
+keeping_asks reading texts = reading.asks texts || is_ok (whole reading texts)

@@ -15,8 +15,12 @@ pub enum Fault {
     Escape = 4,
     /// A selector stands in 64 others.
     SelectorDepth = 5,
-    /// A record stands behind a step.
-    RowAfterStep = 6,
+    /// A line stands where none of its kind may.
+    OutOfPlace = 6,
+    /// A rectangle leaves the table, or shares a cell with one of an earlier line.
+    SpanMisfits = 7,
+    /// The shape isn't that of the records.
+    ShapeDiffers = 8,
 }
 
 impl Fault {

@@ -1,13 +1,18 @@
-//! The language of scripts: records and steps read from lines of words.
+//! The language of scripts: a table and steps read from lines of words.
 #![tactic(auto)]
 
+mod draft;
 mod fault;
 mod keywords;
+pub mod laws;
 mod parts;
 mod script;
 mod selectors;
+mod sizes;
+mod spans;
 mod texts;
 mod verbs;
+mod walk;
 mod word;
 mod words;
 

@@ -3,11 +3,11 @@
 ghost use Rattle.std.specs.Prelude.{◌≡◌, map, IfOk};
 ghost use Rattle.std.specs.Option.{option_map};
 ghost use Rattle.std.specs.String.{string_bytes};
-ghost use Rattle.tabled_language.specs.Word.{escape, integer_of, number_of, text_of_word, unescaped};
+ghost use Rattle.tabled_language.specs.Word.{escape, integer_of, number_of, number_to, size_of, text_of_word, unescaped};
 
 use std::alloc::{AllocError, Global};
 
-/// The largest number that a script may name.
+/// The largest number that a step may name.
 const LARGEST_NUMBER: usize = 10_000;
 
 /// What a letter behind a backslash stands for.
@@ -60,20 +60,34 @@ pub(crate) fn text_of_word(alloc: Global, word: &[u8]) -> Result<Option<String>,
     Ok(String::from_utf8(bytes).ok())
 }
 
-/// The number that digits write, leading zeros too, if it isn't too large.
-pub(crate) fn number_of(text: &str) -> Option<usize>
-    ensures { result ≡ number_of text.now }
+/// The number that digits write, leading zeros too, if it isn't above another.
+fn number_to(largest: usize, text: &str) -> Option<usize>
+    ensures { result ≡ number_to largest text.now }
 {
     // `parse` takes a plus, too.
     if text.starts_with('+') {
         return None;
     }
     let number = text.parse::<usize>().ok()?;
-    if number <= LARGEST_NUMBER {
+    if number <= largest {
         Some(number)
     } else {
         None
     }
+}
+
+/// A number that a step may name.
+pub(crate) fn number_of(text: &str) -> Option<usize>
+    ensures { result ≡ number_of text.now }
+{
+    number_to(LARGEST_NUMBER, text)
+}
+
+/// A number that a shape or a span may name.
+pub(crate) fn size_of(text: &str) -> Option<usize>
+    ensures { result ≡ size_of text.now }
+{
+    number_to(usize::MAX, text)
 }
 
 /// The number that digits write, with a minus before them or none.

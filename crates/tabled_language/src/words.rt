@@ -2,7 +2,7 @@
 
 use crate::fault::{Fault, ReadError};
 use crate::texts::Fields;
-use crate::word::{integer_of, number_of};
+use crate::word::{integer_of, number_of, size_of};
 use std::alloc::Global;
 use std::marker::Model;
 use tabled_grid::records::Text;
@@ -36,7 +36,7 @@ impl<'a> Words<'a> {
     ghost use Rattle.std.specs.Prelude.{◌≡◌, ◌≤◌, IfOk, MatchResult, drop, length, map, take};
     ghost use Rattle.std.specs.String.{string_bytes};
     ghost use Rattle.tabled_language.specs.Parsing.{Reads};
-    ghost use Rattle.tabled_language.specs.Words.{reads_count, reads_integer, reads_number, reads_text, reads_word};
+    ghost use Rattle.tabled_language.specs.Words.{reads_count, reads_extent, reads_integer, reads_number, reads_size, reads_text, reads_word};
     ghost use Rattle.tabled_language.specs.declared.fault.ReadError.TheVariants.{OutOfMemory};
 
     /// The words of a line without escapes.
@@ -108,6 +108,29 @@ impl<'a> Words<'a> {
         ensures { Reads (λ number. number) reads_count self.old result self.new }
     {
         let number = self.number()?;
+        if number == 0 {
+            return Err(ReadError::Faulty(Fault::NumberRange));
+        }
+        Ok(number)
+    }
+
+    /// A number that a shape or a span may name.
+    pub(crate) fn size(&mut self) -> Read<usize>
+        ensures { Reads (λ number. number) reads_size self.old result self.new }
+    {
+        let word = self.word()?;
+        match size_of(word) {
+            Some(number) => Ok(number),
+            None => Err(ReadError::Faulty(Fault::NumberRange)),
+        }
+    }
+
+    /// Such a number of at least 1.
+    pub(crate) fn extent(&mut self) -> Read<usize>
+        ensures read { Reads (λ number. number) reads_extent self.old result self.new }
+        ensures some { IfOk result (λ number. 1 ≤ number) }
+    {
+        let number = self.size()?;
         if number == 0 {
             return Err(ReadError::Faulty(Fault::NumberRange));
         }

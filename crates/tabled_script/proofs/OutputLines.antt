@@ -7,7 +7,7 @@ use Rattle.std.proofs.lemmas.List.{append-nil, append_assoc, take_more, take_all
 use Rattle.std.proofs.lemmas.List.Concat.{flat_map-append}
 use Rattle.std.proofs.lemmas.List.Folds.{flat_map-map}
 use Rattle.tabled_grid.specs.Grid.{grid_of, map_grid, map_items, width_of}
-use Rattle.tabled_script.specs.Output.{escaped, line, table_lines}
+use Rattle.tabled_language.specs.Output.{escaped, line, table_lines}
 
 -- behind the first list, each list with the byte before it
 pub join_with_byte-cons : (c : ℕ) (xs : List ℕ) (xss : List (List ℕ)) → join_with_byte c (xs ∷ xss) ≡ xs ++ flat_map (λ ys. c ∷ ys) xss

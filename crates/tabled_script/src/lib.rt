@@ -3,6 +3,7 @@
 
 #[cfg(test)]
 mod gallery;
+pub mod laws;
 mod output;
 mod program;
 #[cfg(test)]

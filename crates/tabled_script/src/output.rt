@@ -3,7 +3,7 @@
 ghost use Rattle.std.specs.Prelude.{◌≡◌, ◌∷◌, ◌++◌, map, IsTrue, OnOk};
 ghost use Rattle.std.specs.String.{string_bytes};
 ghost use Rattle.tabled_grid.specs.Grid.{IsEven, grid_of, map_grid, map_items};
-ghost use Rattle.tabled_script.specs.Output.{escaped, escaped_byte, line, print as printed, span_line, table_lines};
+ghost use Rattle.tabled_language.specs.Output.{escaped, escaped_byte, line, print as printed, span_line, table_lines};
 ghost use Rattle.tabled_steps.specs.States.{state_of};
 
 use std::alloc::{AllocError, Global};

@@ -11,7 +11,6 @@ ghost use Rattle.tabled_language.specs.declared.fault.Fault.{Fault};
 use crate::output::print;
 use std::alloc::{AllocError, Global};
 use std::io::{self, ErrorKind, Read, Write};
-use tabled_grid::config::SpannedConfig;
 use tabled_language::{Fault, Script, parse};
 use tabled_steps::run;
 use tabled_table::builder::Builder;
@@ -36,7 +35,7 @@ type Answer = Result<Vec<u8>, String>;
 
 /// Runs the script that a reader has, and answers a status.
 ///
-/// - 0: the output was written: the table of its records after its steps.
+/// - 0: the output was written: the table of its records and merged cells after its steps.
 /// - 2: `line N: fault K` was written, for the first faulty line.
 /// - 3: `out of memory` was written: memory ran out.
 /// - 4: reading or writing failed, and nothing is said of what was written.
@@ -73,17 +72,21 @@ fn answer(alloc: Global, input: Vec<u8>) -> Result<Answer, AllocError>
     }
 }
 
-/// The table of a script's records after its steps, as it is written: in `out`, whose old bytes go.
+/// The table of a script's records and merged cells after its steps, as it is written: in `out`, whose old
+/// bytes go.
 fn output(alloc: Global, script: Script, mut out: Vec<u8>) -> Result<Vec<u8>, AllocError>
-    ensures { IfOk result (λ output. output.items ≡ output_of (script_in script.records.items script.steps.items)) }
+    ensures { IfOk result (λ output. output.items ≡ output_of (script_in script.records.items script.spans script.steps.items)) }
 {
-    let Script { records, steps } = script;
+    let Script {
+        records,
+        mut spans,
+        steps,
+    } = script;
     let mut records = Builder::from_cells(alloc, records)?.into_cells();
-    let mut cfg = SpannedConfig::new(alloc);
-    match run(alloc, &mut records, &mut cfg, steps) {
+    match run(alloc, &mut records, &mut spans, steps) {
         Ok(()) => {
             out.clear();
-            print(alloc, &mut out, &records, &cfg)?;
+            print(alloc, &mut out, &records, &spans)?;
             Ok(out)
         }
         Err((_, error)) => Err(error),

@@ -86,8 +86,6 @@ fn answers_scripts(rt: HostRuntime) -> Result<(), Fail> {
         ("spin", "line 1: fault 1\n"),
         ("row\r", "line 1: fault 1\n"),
         ("\t", "line 1: fault 1\n"),
-        ("span\t0\t0\t1\t2", "line 1: fault 1\n"),
-        ("shape\t0\t0", "line 1: fault 1\n"),
         ("hmerge\nrow\ta\n", "line 2: fault 6\n"),
         ("row\ta\nconcat\tvertical\t-\t0\t2\n", "line 2: fault 3\n"),
         ("row\ta\nset\tsome\tx\n", "line 2: fault 1\n"),
@@ -118,6 +116,89 @@ fn answers_scripts(rt: HostRuntime) -> Result<(), Fail> {
         assert!(rt; well, "at {script:?}");
     }
     assert!(rt; gives(rt.alloc(), b"row\ta\nrow\t\xff\n", b"line 2: fault 4\n"));
+    Ok(())
+}
+
+#[test]
+fn answers_tables(rt: HostRuntime) -> Result<(), Fail> {
+    for (script, output) in [
+        // Outputs, which give themselves.
+        (
+            "shape\t2\t2\nrow\ta\tx\nrow\tc\t\nspan\t1\t0\t1\t2\n",
+            "shape\t2\t2\nrow\ta\tx\nrow\tc\t\nspan\t1\t0\t1\t2\n",
+        ),
+        ("shape\t2\t0\nrow\nrow\n", "shape\t2\t0\nrow\nrow\n"),
+        ("shape\t0\t0\n", "shape\t0\t0\n"),
+        (
+            "row\ta\tb\nspan\t0\t0\t1\t2\nrotate\tleft\n",
+            "shape\t2\t1\nrow\tb\nrow\ta\nspan\t0\t0\t2\t1\n",
+        ),
+        // In any order of their lines, and with leading zeros.
+        (
+            "\nshape\t1\t4\n\nrow\ta\tb\tc\td\nspan\t0\t2\t1\t2\n\nspan\t00\t0\t1\t02",
+            "shape\t1\t4\nrow\ta\tb\tc\td\nspan\t0\t0\t1\t2\nspan\t0\t2\t1\t2\n",
+        ),
+        // A rectangle in the cells that padding adds.
+        (
+            "row\ta\nrow\tb\tc\td\nspan\t0\t1\t1\t2\n",
+            "shape\t2\t3\nrow\ta\t\t\nrow\tb\tc\td\nspan\t0\t1\t1\t2\n",
+        ),
+        // A word with an escape, which is read in another way, changes nothing.
+        ("row\t\\\\\tb\nspan\t0\t0\t1\t2\n", "shape\t1\t2\nrow\t\\\\\tb\nspan\t0\t0\t1\t2\n"),
+        ("row\ta\tb\nspan\t0\t1\t1\t2\n", "line 2: fault 7\n"),
+        ("row\ta\tb\nspan\t0\t0\t1\t1\n", "line 2: fault 3\n"),
+        ("span\t0\t0\t1\t2\n", "line 1: fault 7\n"),
+        ("shape\t1\t3\nrow\ta\tb\n", "line 1: fault 8\n"),
+        ("shape\t2\t1\nspin\n", "line 2: fault 1\n"),
+        ("row\ta\nvmerge\nspan\t0\t0\t1\t2\n", "line 3: fault 6\n"),
+        ("row\ta\nshape\t1\t1\n", "line 2: fault 6\n"),
+        // A line is out of place before the words behind its first are read, but not before its escapes are.
+        ("vmerge\nspan\tx\n", "line 2: fault 6\n"),
+        ("row\ta\nshape\tx\n", "line 2: fault 6\n"),
+        ("vmerge\nspan\t\\q\n", "line 2: fault 4\n"),
+        ("shape\t0\t0\nshape\n", "line 2: fault 6\n"),
+        ("row\ta\tb\nspan\t0\t0\t1\t2\nrow\tc\n", "line 3: fault 6\n"),
+        ("vmerge\nshape\t0\t0\n", "line 2: fault 6\n"),
+        // The words of a shape and of a span, from the left.
+        ("shape", "line 1: fault 2\n"),
+        ("shape\t1", "line 1: fault 2\n"),
+        ("shape\t0\t0\t", "line 1: fault 2\n"),
+        ("shape\tx", "line 1: fault 3\n"),
+        ("shape\t18446744073709551616\t0", "line 1: fault 3\n"),
+        ("shape\t18446744073709551615\t18446744073709551615", "line 1: fault 8\n"),
+        ("span\t0\t0\t1", "line 1: fault 2\n"),
+        ("span\t0\t0\t1\t2\t3", "line 1: fault 2\n"),
+        ("span\t0\t0\t0", "line 1: fault 3\n"),
+        ("span\t0\t0\t2\t0", "line 1: fault 3\n"),
+        ("span\t0\t0\t1\t1\t9", "line 1: fault 3\n"),
+        ("span\t-0\t0\t1\t2", "line 1: fault 3\n"),
+        // The ends of `usize` are far outside.
+        (
+            "row\ta\tb\nspan\t18446744073709551615\t18446744073709551615\t18446744073709551615\t18446744073709551615\n",
+            "line 2: fault 7\n",
+        ),
+        ("row\ta\tb\nspan\t0\t0\t18446744073709551615\t2\n", "line 2: fault 7\n"),
+        // The later of two lines that share a cell is at fault, and the first such line, behind all other faults.
+        (
+            "row\ta\tb\tc\nspan\t0\t1\t1\t2\nspan\t0\t0\t1\t2\n",
+            "line 3: fault 7\n",
+        ),
+        (
+            "row\ta\tb\tc\td\nspan\t0\t0\t1\t2\n\nspan\t0\t2\t1\t2\nspan\t0\t1\t1\t2\nspan\t9\t9\t1\t2\n",
+            "line 5: fault 7\n",
+        ),
+        (
+            "shape\t2\t2\nrow\ta\tb\nspan\t5\t5\t1\t2\n",
+            "line 1: fault 8\n",
+        ),
+        (
+            "shape\t2\t2\nrow\ta\tb\nspan\t5\t5\t1\t2\nspin\n",
+            "line 4: fault 1\n",
+        ),
+    ] {
+        let well = gives(rt.alloc(), script.as_bytes(), output.as_bytes());
+        assert!(rt; well, "at {script:?}");
+    }
     Ok(())
 }
 

@@ -35,6 +35,10 @@ fn each_verb_is_read_and_each_fault_is_named(rt: HostRuntime) -> Result<(), Fail
         ("split\tcolumn\t2\tzip\tretain\nextract\t0\t1\t2\t3\n", 0, 0),
         ("remove\trows\t0\t1\nremove\tnamed\ta\n", 0, 0),
         ("concat\tvertical\t-\t1\t2\ta\tb\n", 0, 0),
+        ("shape\t1\t2\nrow\ta\tb\nspan\t0\t0\t1\t2\n", 0, 0),
+        ("row\ta\tb\nspan\t0\t1\t1\t2\n", 2, 7),
+        ("shape\t1\t1\n", 1, 8),
+        ("vmerge\nspan\tx\n", 2, 6),
         ("row\ta\nconcat\tvertical\t-\t0\t2\n", 2, 3),
         ("concat\tvertical\t-\t2\t2\ta\tb\n", 1, 2),
         ("rotate\tup\n", 1, 1),
@@ -174,7 +178,15 @@ fn each_selector_may_be_too_deep(rt: HostRuntime) -> Result<(), Fail> {
 }
 
 /// Lines with a word that is unknown (1), missing (2) or no number (3).
-const LINES: [(&str, u8); 77] = [
+const LINES: [(&str, u8); 85] = [
+    ("shape\tx\t0", 3),
+    ("shape\t0\tx", 3),
+    ("shape\t0", 2),
+    ("span\tx\t0\t1\t2", 3),
+    ("span\t0\tx\t1\t2", 3),
+    ("span\t0\t0\t0\t2", 3),
+    ("span\t0\t0\t1\t1", 3),
+    ("span\t0\t0\t2", 2),
     ("sett\tall\tx", 1),
     ("dup\tall\tsome", 1),
     ("dup\trow\tx\tall", 3),

@@ -1,10 +1,10 @@
-use Rattle.std.proofs.Common.{ℕ, ◌≡◌, true, eqb, subst, arith}
+use Rattle.std.proofs.Common.{ℕ, ◌≡◌, List, [], eqb, arith, rules}
 use Rattle.std.proofs.lemmas.List.{length-map}
 use Rattle.std.proofs.lemmas.List.Splits.{length-slice_split}
 use Rattle.std.proofs.lemmas.List.Sums.{count_by-le-length}
-use Rattle.tabled_language.specs.Line.{line_of, lines_ask, lines_of}
-use Rattle.tabled_language.specs.Parsing.{has_step, script_in}
-use Rattle.tabled_language.proofs.ScriptLines.{has_read-counts, has_read-more, lines_ask-later, script_ends}
+use Rattle.tabled_language.specs.Line.{line_of, lines_of}
+use Rattle.tabled_language.specs.Parsing.{draft_in}
+use Rattle.tabled_language.proofs.ScriptLines.{has_read-counts, has_read-end, has_read-more, script_ends}
 use Rattle.tabled_language.proofs.script.read_lines.Goals as goal
 
 pub overflow_add-number : goal.overflow_add-number
@@ -13,17 +13,19 @@ overflow_add-number c =
     let counted = has_read-counts (rw c.in-Some.ensures.steps at c.loop-line.invariant.read) in
     omega (arith, counted, length-map (lines_of c.args.input.now) line_of, length-map c.next.new.self line_of, length-slice_split p c.args.input.now, count_by-le-length p c.args.input.now)
 
-pub returns-in-Err : goal.returns-in-Err
-returns-in-Err c =
-    let old = script_in c.loop-line.script.records.items c.loop-line.script.steps.items in
-    script_ends c.args.input.now c.in-Some.line.now c.next.new.self c.loop-line.number old c.in-Err.error (rw c.in-Some.ensures.steps at c.loop-line.invariant.read) (rw c.in-Some.ensures.steps at c.loop-line.invariant.memory) (rw c.in-Err.is at c.read_line.ensures)
+pub returns-in-Err-clause-read : goal.returns-in-Err-clause-read
+returns-in-Err-clause-read c =
+    script_ends c.args.input.now c.in-Some.line.now c.next.new.self c.loop-line.number (draft_in c.loop-line.draft) c.in-Err.error (rw c.in-Some.ensures.steps at c.loop-line.invariant.read) (rw c.in-Err.is at c.read_line.ensures.read)
 
 pub loop-line-preserved : goal.loop-line-preserved
 loop-line-preserved c =
-    let read = rw c.in_default.is at c.read_line.ensures in
-    let memory = rw c.in-Some.ensures.steps at c.loop-line.invariant.memory in
-    let old = script_in c.loop-line.script.records.items c.loop-line.script.steps.items in
+    let read = rw c.in_default.is at c.read_line.ensures.read in
     record {
-      read = rw read.1 (has_read-more (line_of c.in-Some.line.now) (rw c.in-Some.ensures.steps at c.loop-line.invariant.read) read.0);
-      memory = λ asks. memory (lines_ask-later old c.in-Some.line.now c.next.new.self read.0 (subst (λ s. lines_ask (has_step s) c.next.new.self ≡ true) read.1 asks));
+      read = rw read.1 (has_read-more c.in-Some.line.now (rw c.in-Some.ensures.steps at c.loop-line.invariant.read) read.0);
+      numbered = (rw c.in_default.is at c.read_line.ensures.sizes) c.loop-line.invariant.numbered;
     }
+
+pub returns-clause-read : goal.returns-clause-read
+returns-clause-read c =
+    let none : ◌≡◌ {A = List (List ℕ)} c.loop-line.line-iterator [] = search rules in
+    has_read-end (rw none at c.loop-line.invariant.read)

@@ -1,6 +1,6 @@
 use Rattle.std.proofs.Common.{◌≡◌, ◌++◌, take}
 use Rattle.std.specs.List.{flat_map}
-use Rattle.tabled_script.specs.Output.{span_line}
+use Rattle.tabled_language.specs.Output.{span_line}
 use Rattle.tabled_script.proofs.output.print.Given as goal
 
 abbrev pub invariant-loop-pos : goal.invariant-loop-pos

@@ -1,5 +1,5 @@
 use Rattle.std.proofs.Common.{◌≡◌, ◌++◌, take}
-use Rattle.tabled_script.specs.Output.{escaped}
+use Rattle.tabled_language.specs.Output.{escaped}
 use Rattle.tabled_script.proofs.output.push_escaped.Given as goal
 
 abbrev pub invariant-loop-byte : goal.invariant-loop-byte

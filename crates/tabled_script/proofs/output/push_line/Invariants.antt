@@ -1,6 +1,6 @@
 use Rattle.std.proofs.Common.{◌≡◌, ◌∷◌, ◌++◌, take}
 use Rattle.std.specs.List.{flat_map}
-use Rattle.tabled_script.specs.Output.{escaped}
+use Rattle.tabled_language.specs.Output.{escaped}
 use Rattle.tabled_script.proofs.output.push_line.Given as goal
 
 abbrev pub invariant-loop-text : goal.invariant-loop-text

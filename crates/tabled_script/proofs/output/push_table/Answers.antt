@@ -5,7 +5,7 @@ use Rattle.std.specs.List.{flat_map}
 use Rattle.std.specs.String.{string_bytes}
 use Rattle.std.proofs.lemmas.List.{append_assoc}
 use Rattle.tabled_grid.specs.Grid.{map_items, width_of}
-use Rattle.tabled_script.specs.Output.{line}
+use Rattle.tabled_language.specs.Output.{line}
 use Rattle.tabled_script.proofs.OutputLines.{pushed_more, table_lines-pieces}
 use Rattle.tabled_script.proofs.output.push_table.Goals as goal
 

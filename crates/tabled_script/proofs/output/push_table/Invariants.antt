@@ -2,7 +2,7 @@ use Rattle.std.proofs.Common.{◌≡◌, ◌∷◌, ◌++◌, String, take, map,
 use Rattle.std.specs.Global.{Global, Vec}
 use Rattle.std.specs.List.{flat_map}
 use Rattle.std.specs.String.{string_bytes}
-use Rattle.tabled_script.specs.Output.{line}
+use Rattle.tabled_language.specs.Output.{line}
 use Rattle.tabled_script.proofs.output.push_table.Given as goal
 
 abbrev pub invariant-loop-row : goal.invariant-loop-row

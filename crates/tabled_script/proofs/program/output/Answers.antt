@@ -6,8 +6,9 @@ use Rattle.tabled_grid.specs.Grid.{grid_of, map_grid, map_items}
 use Rattle.tabled_steps.specs.States.{after_all, state_of}
 use Rattle.tabled_table.specs.Builder.{from_uneven, table_of}
 use Rattle.tabled_table.proofs.Tables.{IsEven-rows, map_grid-rows}
-use Rattle.tabled_script.specs.Answer.{padded}
-use Rattle.tabled_script.specs.Output.{print}
+use Rattle.tabled_language.specs.Line.{start}
+use Rattle.tabled_language.specs.Parsing.{script_in}
+use Rattle.tabled_language.specs.Output.{print}
 use Rattle.tabled_script.proofs.Changes.{after_all-changed}
 use Rattle.tabled_script.proofs.program.output.Goals as goal
 
@@ -23,6 +24,7 @@ returns-in_ok-print-in-Ok c =
     let texts = map-map (map string_bytes) (λ (row : Vec (String Global)). row.items) records in
     let made : map_grid string_bytes (grid_of (map_items cells.result.items)) ≡ table_of builder = map_grid-rows builder.columns builder.empty cells.result.items (rw cells.ensures.rows cells.ensures.wide) ∙ rw cells.ensures.rows refl in
     let table = made ∙ ap table_of (c.in_ok-from_cells.ensures ∙ ap from_uneven (sym texts)) in
-    let start : state_of string_bytes (grid_of (map_items cells.result.items)) c.new-cfg.result ≡ padded (map (map string_bytes) (map_items records)) = rw (table, c.new-cfg.ensures.empty) refl in
-    let end = c.in-Ok.ensures.state ∙ ap (after_all steps) start ∙ after_all-changed steps (padded (map (map string_bytes) (map_items records))) in
+    let script = script_in records c.args.script.spans steps in
+    let begin : state_of string_bytes (grid_of (map_items cells.result.items)) c.args.script.spans ≡ start script = rw table refl in
+    let end = c.in-Ok.ensures.state ∙ ap (after_all steps) begin ∙ after_all-changed steps (start script) in
     (rw (c.clear.ensures.items) at c.in_ok-print-in-Ok.ensures) ∙ ap print end

@@ -1,0 +1,119 @@
+-- Lines that are written are read as what they say.
+use Rattle.std.proofs.Common.{◌≡◌, ◌≢◌, ℕ, ◌<◌, ◌≤◌, ◌⊎◌, inl, inr, ◌^◌, ◌&&◌, Bool, true, false, cond, eqb, ne_eqb, List, [], ◌∷◌, ◌++◌, length, map, codes, Some, Ok, refl, sym, ap, subst, ◌∙◌, arith}
+use Rattle.std.specs.Fmt.{decimal}
+use Rattle.std.specs.List.{AllByRecursion, flat_map}
+use Rattle.std.specs.Str.{IsUtf8, chars, is_utf8}
+use Rattle.std.proofs.lemmas.Bool.{and_left, and_right}
+use Rattle.std.proofs.lemmas.List.{append-nil, append_assoc}
+use Rattle.std.proofs.lemmas.Str.{IsUtf8-from_is_utf8}
+use Rattle.tabled_grid.specs.Anchors.{Anchor}
+use Rattle.tabled_grid.specs.Spans.{IsSpanSize}
+use Rattle.tabled_language.specs.Line.{line_of, meaning_of, texts_of, words_of}
+use Rattle.tabled_grid.specs.Entity.{place}
+use Rattle.tabled_language.specs.declared.fault.Fault.TheVariants.{NumberRange}
+use Rattle.tabled_language.specs.Sizes.{reads_anchor, reads_shape, reads_width}
+use Rattle.tabled_language.specs.Output.{joined}
+use Rattle.tabled_language.specs.Verb.{Line, EmptyLine, ShapeLine, RecordLine, SpanLine, says}
+use Rattle.tabled_language.specs.Words.{Reading, fails, gives, reads_extent, reads_size, then_reads, whole}
+use Rattle.tabled_language.proofs.BackToNumbers.{decimal-utf8, size_of-decimal}
+use Rattle.tabled_language.proofs.BackToTexts.{texts_of-joined}
+
+-- a line with bytes says what its texts say
+line_of-texts : (line : List ℕ) (texts : List (List ℕ)) → 0 < length line → texts_of (words_of line) ≡ Some texts → line_of line ≡ meaning_of (Some texts)
+line_of-texts [] texts some is = absurd (omega (arith, some))
+line_of-texts (b ∷ bs) texts some is = ap meaning_of is
+
+row_utf8 : IsUtf8 (codes "row")
+unfolding is_utf8 chars lib.Utf8.encode
+row_utf8 = IsUtf8-from_is_utf8 (codes "row") refl
+
+shape_utf8 : IsUtf8 (codes "shape")
+unfolding is_utf8 chars lib.Utf8.encode
+shape_utf8 = IsUtf8-from_is_utf8 (codes "shape") refl
+
+span_utf8 : IsUtf8 (codes "span")
+unfolding is_utf8 chars lib.Utf8.encode
+span_utf8 = IsUtf8-from_is_utf8 (codes "span") refl
+
+row_some : (texts : List (List ℕ)) → 0 < length (joined (codes "row" ∷ texts))
+row_some [] = omega arith
+row_some (text ∷ texts) = omega arith
+
+-- the line of a record
+pub row_back : (texts : List (List ℕ)) → AllByRecursion IsUtf8 texts → line_of (joined (codes "row" ∷ texts)) ≡ RecordLine texts
+row_back texts utf8 = line_of-texts (joined (codes "row" ∷ texts)) (codes "row" ∷ texts) (row_some texts) (texts_of-joined (codes "row") texts row_utf8 utf8)
+
+-- the words of a shape
+abbrev pub shape_words : ℕ → ℕ → List (List ℕ)
+shape_words rows columns = decimal rows ∷ decimal columns ∷ []
+
+pub shape_back : (rows columns : ℕ) → rows < 2 ^ 64 → columns < 2 ^ 64 → line_of (joined (codes "shape" ∷ shape_words rows columns)) ≡ ShapeLine (Ok (rows, columns))
+shape_back rows columns r c =
+    let read : whole reads_shape (shape_words rows columns) ≡ Ok (rows, columns) = rw (size_of-decimal rows r, size_of-decimal columns c) refl in
+    line_of-texts (joined (codes "shape" ∷ shape_words rows columns)) (codes "shape" ∷ shape_words rows columns) (omega arith)
+        (texts_of-joined (codes "shape") (shape_words rows columns) shape_utf8 (decimal-utf8 rows r, (decimal-utf8 columns c, tt)))
+    ∙ ap ShapeLine read
+
+-- the words of an anchor
+abbrev pub span_words : Anchor → List (List ℕ)
+span_words e = decimal e.0.row ∷ decimal e.0.col ∷ decimal e.1.0 ∷ decimal e.1.1 ∷ []
+
+-- each number of an anchor is one that may be
+pub record IsSmall (e : Anchor) : Type 0 where
+  pub row : e.0.row < 2 ^ 64
+  pub col : e.0.col < 2 ^ 64
+  pub height : e.1.0 < 2 ^ 64
+  pub width : e.1.1 < 2 ^ 64
+
+pub not_one : (h w : ℕ) → (1 < h) ⊎ (1 < w) → (eqb h 1 && eqb w 1) ≡ false
+not_one h w (inl more) = and_left (eqb h 1) (eqb w 1) (ne_eqb h 1 (λ one. omega (arith, more, one)))
+not_one h w (inr more) = and_right (eqb h 1) (eqb w 1) (ne_eqb w 1 (λ one. omega (arith, more, one)))
+
+-- one reading and then another, where the first is known
+reads-next : {A B : Type 0} (first : Reading A) (next : A → Reading B) (texts left : List (List ℕ)) (x : A) → first.reads texts ≡ Ok (x, left) → (then_reads first next).reads texts ≡ (next x).reads left
+reads-next first next texts left x is = rw is refl
+
+whole-read : {A : Type 0} (reading : Reading A) (texts : List (List ℕ)) (x : A) → reading.reads texts ≡ Ok (x, []) → whole reading texts ≡ Ok x
+whole-read reading texts x is = rw is refl
+
+size_read : (n : ℕ) (texts : List (List ℕ)) → n < 2 ^ 64 → reads_size.reads (decimal n ∷ texts) ≡ Ok (n, texts)
+size_read n texts small = rw (size_of-decimal n small) refl
+
+extent_read : (n : ℕ) (texts : List (List ℕ)) → n < 2 ^ 64 → 1 ≤ n → reads_extent.reads (decimal n ∷ texts) ≡ Ok (n, texts)
+extent_read n texts small some =
+    let more : eqb n 0 ≡ false = ne_eqb n 0 (λ none. omega (arith, some, none)) in
+    reads-next reads_size (λ (m : ℕ). cond (eqb m 0) (fails NumberRange) (gives m)) (decimal n ∷ texts) texts n (size_read n texts small) ∙ rw more refl
+
+width_read : (height n : ℕ) (texts : List (List ℕ)) → n < 2 ^ 64 → 1 ≤ n → (1 < height) ⊎ (1 < n) → (reads_width height).reads (decimal n ∷ texts) ≡ Ok (n, texts)
+width_read height n texts small some merges =
+    reads-next reads_extent (λ (m : ℕ). cond (eqb height 1 && eqb m 1) (fails NumberRange) (gives m)) (decimal n ∷ texts) texts n (extent_read n texts small some) ∙ rw (not_one height n merges) refl
+
+-- what is read behind the row, the column and the height of an anchor
+abbrev behind_height : ℕ → ℕ → ℕ → Reading Anchor
+behind_height row column height = then_reads (reads_width height) (λ width. gives (place row column, (height, width)))
+
+abbrev behind_column : ℕ → ℕ → Reading Anchor
+behind_column row column = then_reads reads_extent (λ height. behind_height row column height)
+
+abbrev behind_row : ℕ → Reading Anchor
+behind_row row = then_reads reads_size (λ column. behind_column row column)
+
+anchor_back : (e : Anchor) → IsSmall e → IsSpanSize e.1 → whole reads_anchor (span_words e) ≡ Ok e
+anchor_back e small size =
+    let sizes = decimal e.1.0 ∷ decimal e.1.1 ∷ [] in
+    whole-read reads_anchor (span_words e) e
+        (reads-next reads_size behind_row (span_words e) (decimal e.0.col ∷ sizes) e.0.row (size_read e.0.row (decimal e.0.col ∷ sizes) small.row)
+        ∙ reads-next reads_size (λ column. behind_column e.0.row column) (decimal e.0.col ∷ sizes) sizes e.0.col (size_read e.0.col sizes small.col)
+        ∙ reads-next reads_extent (λ height. behind_height e.0.row e.0.col height) sizes (decimal e.1.1 ∷ []) e.1.0 (extent_read e.1.0 (decimal e.1.1 ∷ []) small.height size.height)
+        ∙ reads-next (reads_width e.1.0) (λ width. gives (place e.0.row e.0.col, (e.1.0, width))) (decimal e.1.1 ∷ []) [] e.1.1 (width_read e.1.0 e.1.1 [] small.width size.width size.merges))
+
+pub span_back : (e : Anchor) → IsSmall e → IsSpanSize e.1 → line_of (joined (codes "span" ∷ span_words e)) ≡ SpanLine (Ok e)
+span_back e small size =
+    line_of-texts (joined (codes "span" ∷ span_words e)) (codes "span" ∷ span_words e) (omega arith)
+        (texts_of-joined (codes "span") (span_words e) span_utf8 (decimal-utf8 e.0.row small.row, (decimal-utf8 e.0.col small.col, (decimal-utf8 e.1.0 small.height, (decimal-utf8 e.1.1 small.width, tt)))))
+    ∙ ap SpanLine (anchor_back e small size)
+
+-- lines of things, each of which says what it says
+pub all_back : {A : Type 0} (texts_in : A → List (List ℕ)) (make : A → Line) (P : A → Type 0) → ((x : A) → P x → line_of (joined (texts_in x)) ≡ make x) → (xs : List A) (lines : List (List ℕ)) → AllByRecursion P xs → map line_of (map (λ x. joined (texts_in x)) xs ++ lines) ≡ map make xs ++ map line_of lines
+all_back texts_in make P back [] lines all = refl
+all_back texts_in make P back (x ∷ xs) lines all = rw (back x all.0, all_back texts_in make P back xs lines all.1) refl

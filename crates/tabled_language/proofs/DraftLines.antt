@@ -1,0 +1,207 @@
+-- A draft tells of its lines what a fault asks.
+use Rattle.std.proofs.Common.{◌≡◌, ℕ, ◌+◌, ◌&&◌, Bool, true, false, cond, eqb, length, List, [], ◌∷◌, ◌++◌, Option, None, Some, Result, Ok, Err, refl, sym, ap, ap₂, subst, ◌∙◌}
+use Rattle.std.specs.Prelude.{filter_map}
+use Rattle.std.specs.List.{AllByRecursion, list_all}
+use Rattle.std.specs.Option.{is_none, option_or}
+use Rattle.std.proofs.lemmas.List.{length-append}
+use Rattle.std.proofs.lemmas.List.Folds.{list_all-append}
+use Rattle.tabled_grid.specs.Anchors.{Anchor}
+use Rattle.tabled_grid.specs.Grid.{Grid}
+use Rattle.tabled_language.specs.declared.fault.Fault.{Fault}
+use Rattle.tabled_language.specs.declared.fault.Fault.TheVariants.{OutOfPlace, ShapeDiffers}
+use Rattle.tabled_language.specs.Drafts.{Draft, draft_of, fault_behind, is_nil, shape_among, shape_misfit, takes}
+use Rattle.tabled_language.specs.Line.{anchor_in, fault_of, first_fault, is_in_place, may_follow, record_in, shape_fault, shape_in, step_in, words_fault}
+use Rattle.tabled_language.specs.Verb.{Line, EmptyLine, ShapeLine, RecordLine, SpanLine, StepLine, FaultyLine}
+
+-- a line has no fault in its words
+abbrev pub IsSound : Line → Type 0
+IsSound (ShapeLine (Err fault)) = ⊥
+IsSound (SpanLine (Err fault)) = ⊥
+IsSound (FaultyLine fault) = ⊥
+IsSound line = Unit {0}
+
+and_false : (a : Bool) → (a && false) ≡ false
+and_false true = refl
+and_false false = refl
+
+and_both : (a b : Bool) → (a && (b && false)) ≡ false
+and_both a true = and_false a
+and_both a false = and_false a
+
+and_three : (a b c : Bool) → (a && (b && (c && false))) ≡ false
+and_three a b true = and_both a b
+and_three a b false = and_both a b
+
+-- whether a line says a shape doesn't depend on the number that it gets
+none_anywhere : (m n : ℕ) (lines : List Line) → is_none (shape_among m lines) ≡ is_none (shape_among n lines)
+none_anywhere m n [] = refl
+none_anywhere m n (line ∷ lines) = by (shape_in line) refl (none_anywhere (m + 1) (n + 1) lines)
+  where
+    by : (o : Option (ℕ × ℕ)) → shape_in line ≡ o → is_none (shape_among (m + 1) lines) ≡ is_none (shape_among (n + 1) lines) → is_none (shape_among m (line ∷ lines)) ≡ is_none (shape_among n (line ∷ lines))
+    by None e later = rw e later
+    by (Some shape) e later = rw e refl
+
+shape_place : (read : Result (ℕ × ℕ) Fault) (n : ℕ) (lines : List Line) → AllByRecursion IsSound lines → is_in_place lines (ShapeLine read) ≡ (is_none (shape_among n lines) && (is_nil (filter_map record_in lines) && (is_nil (filter_map anchor_in lines) && is_nil (filter_map step_in lines))))
+shape_place read n [] sound = refl
+shape_place read n (EmptyLine ∷ lines) sound = shape_place read (n + 1) lines sound.1
+shape_place read n (ShapeLine (Ok shape) ∷ lines) sound = refl
+shape_place read n (ShapeLine (Err fault) ∷ lines) sound = absurd sound.0
+shape_place read n (RecordLine texts ∷ lines) sound = sym (and_false (is_none (shape_among (n + 1) lines)))
+shape_place read n (SpanLine (Ok e) ∷ lines) sound = sym (and_both (is_none (shape_among (n + 1) lines)) (is_nil (filter_map record_in lines)))
+shape_place read n (SpanLine (Err fault) ∷ lines) sound = absurd sound.0
+shape_place read n (StepLine step ∷ lines) sound = sym (and_three (is_none (shape_among (n + 1) lines)) (is_nil (filter_map record_in lines)) (is_nil (filter_map anchor_in lines)))
+shape_place read n (FaultyLine fault ∷ lines) sound = absurd sound.0
+
+record_place : (texts : List (List ℕ)) (lines : List Line) → AllByRecursion IsSound lines → is_in_place lines (RecordLine texts) ≡ (is_nil (filter_map anchor_in lines) && is_nil (filter_map step_in lines))
+record_place texts [] sound = refl
+record_place texts (EmptyLine ∷ lines) sound = record_place texts lines sound.1
+record_place texts (ShapeLine (Ok shape) ∷ lines) sound = record_place texts lines sound.1
+record_place texts (ShapeLine (Err fault) ∷ lines) sound = absurd sound.0
+record_place texts (RecordLine others ∷ lines) sound = record_place texts lines sound.1
+record_place texts (SpanLine (Ok e) ∷ lines) sound = refl
+record_place texts (SpanLine (Err fault) ∷ lines) sound = absurd sound.0
+record_place texts (StepLine step ∷ lines) sound = sym (and_false (is_nil (filter_map anchor_in lines)))
+record_place texts (FaultyLine fault ∷ lines) sound = absurd sound.0
+
+span_place : (read : Result Anchor Fault) (lines : List Line) → AllByRecursion IsSound lines → is_in_place lines (SpanLine read) ≡ is_nil (filter_map step_in lines)
+span_place read [] sound = refl
+span_place read (EmptyLine ∷ lines) sound = span_place read lines sound.1
+span_place read (ShapeLine (Ok shape) ∷ lines) sound = span_place read lines sound.1
+span_place read (ShapeLine (Err fault) ∷ lines) sound = absurd sound.0
+span_place read (RecordLine others ∷ lines) sound = span_place read lines sound.1
+span_place read (SpanLine (Ok e) ∷ lines) sound = span_place read lines sound.1
+span_place read (SpanLine (Err fault) ∷ lines) sound = absurd sound.0
+span_place read (StepLine step ∷ lines) sound = refl
+span_place read (FaultyLine fault ∷ lines) sound = absurd sound.0
+
+anywhere : (line : Line) (lines : List Line) → ((before : Line) → may_follow line before ≡ true) → is_in_place lines line ≡ true
+anywhere line [] h = refl
+anywhere line (before ∷ lines) h = rw (h before) (anywhere line lines h)
+
+-- a line stands in its place just where the draft of the lines before takes it
+pub place_told : (lines : List Line) (line : Line) → AllByRecursion IsSound lines → is_in_place lines line ≡ takes (draft_of lines) line
+place_told lines EmptyLine sound = anywhere EmptyLine lines any
+  where
+    any : (before : Line) → may_follow EmptyLine before ≡ true
+    any EmptyLine = refl
+    any (ShapeLine read) = refl
+    any (RecordLine texts) = refl
+    any (SpanLine read) = refl
+    any (StepLine step) = refl
+    any (FaultyLine fault) = refl
+place_told lines (ShapeLine read) sound = shape_place read 0 lines sound
+place_told lines (RecordLine texts) sound = record_place texts lines sound
+place_told lines (SpanLine read) sound = span_place read lines sound
+place_told lines (StepLine step) sound = anywhere (StepLine step) lines any
+  where
+    any : (before : Line) → may_follow (StepLine step) before ≡ true
+    any EmptyLine = refl
+    any (ShapeLine read) = refl
+    any (RecordLine texts) = refl
+    any (SpanLine read) = refl
+    any (StepLine other) = refl
+    any (FaultyLine fault) = refl
+place_told lines (FaultyLine fault) sound = anywhere (FaultyLine fault) lines any
+  where
+    any : (before : Line) → may_follow (FaultyLine fault) before ≡ true
+    any EmptyLine = refl
+    any (ShapeLine read) = refl
+    any (RecordLine texts) = refl
+    any (SpanLine read) = refl
+    any (StepLine other) = refl
+    any (FaultyLine other) = refl
+
+-- so the draft tells a line's fault
+pub fault_told : (lines : List Line) (line : Line) → AllByRecursion IsSound lines → fault_of lines line ≡ fault_behind (draft_of lines) line
+fault_told lines line sound = ap (λ b. cond b (words_fault line) (Some OutOfPlace)) (place_told lines line sound)
+
+-- a line without a fault is sound
+pub sound_line : (lines : List Line) (line : Line) → fault_of lines line ≡ None → IsSound line
+sound_line lines line fine = by line (is_in_place lines line) fine
+  where
+    never : {P : Type 0} {f : Fault} → Some f ≡ None → P
+    never e = cc
+
+    by : (line : Line) (b : Bool) → cond b (words_fault line) (Some OutOfPlace) ≡ None → IsSound line
+    by EmptyLine b e = tt
+    by (ShapeLine (Ok shape)) b e = tt
+    by (ShapeLine (Err fault)) true e = never e
+    by (ShapeLine (Err fault)) false e = never e
+    by (RecordLine texts) b e = tt
+    by (SpanLine (Ok anchor)) b e = tt
+    by (SpanLine (Err fault)) true e = never e
+    by (SpanLine (Err fault)) false e = never e
+    by (StepLine step) b e = tt
+    by (FaultyLine fault) true e = never e
+    by (FaultyLine fault) false e = never e
+
+-- what no fault of several lines says of the first one and of the others
+parts_none : (fault_at : List Line → Line → Option Fault) (earlier : List Line) (line : Line) (lines : List Line) → first_fault fault_at earlier (line ∷ lines) ≡ None → (fault_at earlier line ≡ None) × (first_fault fault_at (earlier ++ line ∷ []) lines ≡ None)
+parts_none fault_at earlier line lines none = by (fault_at earlier line) refl
+  where
+    never : {P : Type 0} {x : ℕ × Fault} → Some x ≡ None → P
+    never e = cc
+
+    by : (o : Option Fault) → fault_at earlier line ≡ o → (fault_at earlier line ≡ None) × (first_fault fault_at (earlier ++ line ∷ []) lines ≡ None)
+    by None e = (e, rw e at none)
+    by (Some fault) e = never (rw e at none)
+
+-- no shape may stand behind these lines
+Blocked : List Line → Type 0
+Blocked earlier = (read : Result (ℕ × ℕ) Fault) → is_in_place earlier (ShapeLine read) ≡ false
+
+blocked-push : (earlier : List Line) (line : Line) → Blocked earlier → Blocked (earlier ++ line ∷ [])
+unfolding Blocked
+blocked-push earlier line blocked read = list_all-append (may_follow (ShapeLine read)) earlier (line ∷ []) ∙ rw (blocked read) refl
+
+blocked_by : (earlier : List Line) (shape : ℕ × ℕ) → Blocked (earlier ++ ShapeLine (Ok shape) ∷ [])
+unfolding Blocked
+blocked_by earlier shape read = list_all-append (may_follow (ShapeLine read)) earlier (ShapeLine (Ok shape) ∷ []) ∙ and_false (is_in_place earlier (ShapeLine read))
+
+none_behind : (g : Grid (List ℕ)) (lines earlier : List Line) → Blocked earlier → first_fault fault_of earlier lines ≡ None → first_fault (shape_fault g) earlier lines ≡ None
+unfolding Blocked
+none_behind g [] earlier blocked fine = refl
+none_behind g (line ∷ lines) earlier blocked fine =
+    let parts = parts_none fault_of earlier line lines fine in
+    by line parts.0 (none_behind g lines (earlier ++ line ∷ []) (blocked-push earlier line blocked) parts.1)
+  where
+    never : {P : Type 0} {f : Fault} → Some f ≡ None → P
+    never e = cc
+
+    by : (l : Line) → fault_of earlier l ≡ None → first_fault (shape_fault g) (earlier ++ l ∷ []) lines ≡ None → first_fault (shape_fault g) earlier (l ∷ lines) ≡ None
+    by EmptyLine e later = later
+    by (ShapeLine read) e later = never (sym (ap (λ b. cond b (words_fault (ShapeLine read)) (Some OutOfPlace)) (blocked read)) ∙ e)
+    by (RecordLine texts) e later = later
+    by (SpanLine read) e later = later
+    by (StepLine step) e later = later
+    by (FaultyLine fault) e later = later
+
+shape_behind : (g : Grid (List ℕ)) (lines earlier : List Line) → first_fault fault_of earlier lines ≡ None → first_fault (shape_fault g) earlier lines ≡ shape_misfit g (shape_among (length earlier) lines)
+shape_behind g [] earlier fine = refl
+shape_behind g (line ∷ lines) earlier fine =
+    let parts = parts_none fault_of earlier line lines fine in
+    by line parts.0 parts.1 (shape_behind g lines (earlier ++ line ∷ []) parts.1 ∙ ap (λ n. shape_misfit g (shape_among n lines)) (length-append earlier (line ∷ [])))
+  where
+    never : {P : Type 0} {f : Fault} → Some f ≡ None → P
+    never e = cc
+
+    refused : (fault : Fault) (b : Bool) → cond b (Some fault) (Some OutOfPlace) ≡ None → ⊥
+    refused fault true e = never e
+    refused fault false e = never e
+
+    by : (l : Line) → fault_of earlier l ≡ None → first_fault fault_of (earlier ++ l ∷ []) lines ≡ None → first_fault (shape_fault g) (earlier ++ l ∷ []) lines ≡ shape_misfit g (shape_among (length earlier + 1) lines) → first_fault (shape_fault g) earlier (l ∷ lines) ≡ shape_misfit g (shape_among (length earlier) (l ∷ lines))
+    by EmptyLine e others later = later
+    by (ShapeLine (Ok shape)) e others later = test ((eqb shape.0 g.rows) && (eqb shape.1 g.columns)) refl
+      where
+        test : (b : Bool) → ((eqb shape.0 g.rows) && (eqb shape.1 g.columns)) ≡ b → first_fault (shape_fault g) earlier (ShapeLine (Ok shape) ∷ lines) ≡ shape_misfit g (shape_among (length earlier) (ShapeLine (Ok shape) ∷ lines))
+        test true t = rw t (none_behind g lines (earlier ++ ShapeLine (Ok shape) ∷ []) (blocked_by earlier shape) others)
+        test false t = rw t refl
+    by (ShapeLine (Err fault)) e others later = absurd (refused fault (is_in_place earlier (ShapeLine (Err fault))) e)
+    by (RecordLine texts) e others later = later
+    by (SpanLine read) e others later = later
+    by (StepLine step) e others later = later
+    by (FaultyLine fault) e others later = later
+
+-- so the draft tells whether the shape is that of a table
+pub shape_told : (g : Grid (List ℕ)) (lines : List Line) → first_fault fault_of [] lines ≡ None → first_fault (shape_fault g) [] lines ≡ shape_misfit g (draft_of lines).shape
+shape_told g lines fine = shape_behind g lines [] fine

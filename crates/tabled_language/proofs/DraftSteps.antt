@@ -1,0 +1,73 @@
+-- A draft line by line, and what it says at the end.
+use Rattle.std.proofs.Common.{◌≡◌, ℕ, zero, suc, ◌+◌, length, get_or, List, [], ◌∷◌, ◌++◌, map, Option, true, None, Some, Result, Ok, Err, refl, sym, ap, ap₂, ◌∙◌, arith}
+use Rattle.std.specs.Prelude.{filter_map}
+use Rattle.std.specs.FinMap.{from_entries}
+use Rattle.std.specs.Option.{option_map, option_or}
+use Rattle.std.proofs.lemmas.List.Elements.{filter_map-append}
+use Rattle.tabled_grid.specs.Anchors.{Anchor}
+use Rattle.tabled_grid.specs.Grid.{Grid}
+use Rattle.tabled_steps.specs.States.{State}
+use Rattle.tabled_language.specs.declared.fault.Fault.{Fault}
+use Rattle.tabled_language.specs.declared.fault.Fault.TheVariants.{SpanMisfits}
+use Rattle.tabled_language.specs.Drafts.{Draft, anchor_lines, draft_of, shape_among, shape_misfit, with_line}
+use Rattle.tabled_language.specs.Line.{Script, anchor_in, fault_among, fault_of, first_fault, record_in, script_of, script_or_fault, shape_fault, shape_in, span_fault, step_in, table_from}
+use Rattle.tabled_language.specs.Placed.{IsFirstMisfit, fit_in}
+use Rattle.tabled_language.specs.Verb.{Line}
+use Rattle.tabled_language.proofs.DraftLines.{shape_told}
+use Rattle.tabled_language.proofs.Misfits.{first_misfit_line, no_misfit}
+
+or_assoc : {A : Type 0} (x y z : Option A) → option_or x (option_or y z) ≡ option_or (option_or x y) z
+or_assoc None y z = refl
+or_assoc (Some x) y z = refl
+
+or_none : {A : Type 0} (x : Option A) → option_or x None ≡ x
+or_none None = refl
+or_none (Some x) = refl
+
+shape-push : (n m : ℕ) (lines : List Line) (line : Line) → m ≡ n + length lines → shape_among n (lines ++ line ∷ []) ≡ option_or (shape_among n lines) (option_map (λ shape. (m + 1, shape)) (shape_in line))
+shape-push n m [] line is =
+    let same : m ≡ n = omega (arith, is) in
+    rw same (or_none (option_map (λ shape. (n + 1, shape)) (shape_in line)))
+shape-push n m (first ∷ lines) line is =
+    ap (option_or (option_map (λ shape. (n + 1, shape)) (shape_in first))) (shape-push (n + 1) m lines line (omega (arith, is)))
+    ∙ or_assoc (option_map (λ shape. (n + 1, shape)) (shape_in first)) (shape_among (n + 1) lines) (option_map (λ shape. (m + 1, shape)) (shape_in line))
+
+lines-push : (n m : ℕ) (lines : List Line) (line : Line) → m ≡ n + length lines → anchor_lines n (lines ++ line ∷ []) ≡ anchor_lines n lines ++ map (λ (e : Anchor). m + 1) (filter_map anchor_in (line ∷ []))
+lines-push n m [] line is = by (anchor_in line) refl
+  where
+    same : m ≡ n
+    same = omega (arith, is)
+
+    by : (o : Option Anchor) → anchor_in line ≡ o → anchor_lines n (line ∷ []) ≡ map (λ (e : Anchor). m + 1) (filter_map anchor_in (line ∷ []))
+    by None e = rw e refl
+    by (Some a) e = rw (e, same) refl
+lines-push n m (first ∷ lines) line is = by (anchor_in first) refl (lines-push (n + 1) m lines line (omega (arith, is)))
+  where
+    by : (o : Option Anchor) → anchor_in first ≡ o → anchor_lines (n + 1) (lines ++ line ∷ []) ≡ anchor_lines (n + 1) lines ++ map (λ (e : Anchor). m + 1) (filter_map anchor_in (line ∷ [])) → anchor_lines n (first ∷ lines ++ line ∷ []) ≡ anchor_lines n (first ∷ lines) ++ map (λ (e : Anchor). m + 1) (filter_map anchor_in (line ∷ []))
+    by None e later = rw e later
+    by (Some a) e later = rw e (ap (λ (ns : List ℕ). (n + 1) ∷ ns) later)
+
+-- the draft of one line more
+pub draft_of-push : (lines : List Line) (line : Line) → draft_of (lines ++ line ∷ []) ≡ with_line (draft_of lines) (length lines + 1) line
+draft_of-push lines line = same (shape-push 0 (length lines) lines line (omega arith)) (filter_map-append record_in lines (line ∷ [])) (filter_map-append anchor_in lines (line ∷ [])) (lines-push 0 (length lines) lines line (omega arith)) (filter_map-append step_in lines (line ∷ []))
+  where
+    made : Option (ℕ × (ℕ × ℕ)) → List (List (List ℕ)) → List Anchor → List ℕ → List (State → State) → Draft
+    made s r a l f = record { shape = s; records = r; anchors = a; lines = l; steps = f }
+
+    same : {s t : Option (ℕ × (ℕ × ℕ))} {r q : List (List (List ℕ))} {a b : List Anchor} {l k : List ℕ} {f g : List (State → State)} → s ≡ t → r ≡ q → a ≡ b → l ≡ k → f ≡ g → made s r a l f ≡ made t q b k g
+    same u v w x y = rw (u, v, w, x, y) refl
+
+-- without a fault in a line by itself, the checks of the whole are those of the draft
+
+module _ (lines : List Line) (fine : first_fault fault_of [] lines ≡ None) where
+  table : Grid (List ℕ)
+  table = table_from (draft_of lines).records
+
+  pub shape_differs : (fault : ℕ × Fault) → shape_misfit (table_from (draft_of lines).records) (draft_of lines).shape ≡ Some fault → script_or_fault lines ≡ Err fault
+  shape_differs fault is = rw (fine, shape_told (table_from (draft_of lines).records) lines fine ∙ is) refl
+
+  pub span_misfits : (i : ℕ) → shape_misfit (table_from (draft_of lines).records) (draft_of lines).shape ≡ None → IsFirstMisfit (table_from (draft_of lines).records).rows (table_from (draft_of lines).records).columns (draft_of lines).anchors i → script_or_fault lines ≡ Err (get_or (draft_of lines).lines i 0, SpanMisfits)
+  span_misfits i is misfit = rw (fine, shape_told (table_from (draft_of lines).records) lines fine ∙ is, first_misfit_line (table_from (draft_of lines).records) lines i misfit) refl
+
+  pub all_fits : shape_misfit (table_from (draft_of lines).records) (draft_of lines).shape ≡ None → fit_in (table_from (draft_of lines).records).rows (table_from (draft_of lines).records).columns (draft_of lines).anchors ≡ true → script_or_fault lines ≡ Ok (record { records = (draft_of lines).records; spans = from_entries (draft_of lines).anchors; steps = (draft_of lines).steps })
+  all_fits is fit = rw (fine, shape_told (table_from (draft_of lines).records) lines fine ∙ is, no_misfit (table_from (draft_of lines).records) lines fit) refl

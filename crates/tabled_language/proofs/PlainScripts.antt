@@ -1,0 +1,184 @@
+-- Scripts without the words of tables mean what their records and steps say.
+use Rattle.std.proofs.Common.{◌≡◌, ℕ, Bool, true, false, cond, ◌&&◌, ◌||◌, not, List, [], ◌∷◌, ◌++◌, codes, map, Option, None, Some, Result, Ok, Err, refl, sym, ap, ap₂, subst, ◌∙◌}
+use Rattle.std.specs.Prelude.{filter_map}
+use Rattle.std.specs.FinMap.{empty, from_entries}
+use Rattle.std.specs.List.{AllByRecursion, list_all, list_any}
+use Rattle.std.specs.Option.{option_or}
+use Rattle.std.specs.Str.{bytes_eq}
+use Rattle.std.proofs.lemmas.Bool.{or_parts}
+use Rattle.tabled_grid.proofs.Lists.{all-append}
+use Rattle.tabled_grid.specs.Anchors.{Anchor}
+use Rattle.tabled_grid.specs.Grid.{Grid}
+use Rattle.tabled_grid.specs.Spans.{SpanMap}
+use Rattle.tabled_steps.specs.States.{State}
+use Rattle.tabled_language.specs.declared.fault.Fault.{Fault}
+use Rattle.tabled_language.specs.declared.fault.Fault.TheVariants.{OutOfPlace}
+use Rattle.tabled_language.specs.Line.{Script, anchor_in, fault_among, fault_of, first_fault, is_in_place, line_of, may_follow, meaning_of, parse, record_in, script_of, script_or_fault, shape_fault, span_fault, step_in, table_from, words_fault}
+use Rattle.tabled_language.specs.Plain.{begin_a_table, has_either_word, is_step, plain_fault, plain_fault_of, plain_line_of, plain_meaning_of, plain_parse, plain_script, says_plainly}
+use Rattle.tabled_language.specs.Line.{lines_of, texts_of, words_of}
+use Rattle.tabled_language.specs.Verb.{Line, EmptyLine, RecordLine, ShapeLine, SpanLine, StepLine, FaultyLine, says, step_line, steps}
+use Rattle.tabled_language.specs.Words.{behind, whole}
+
+-- a line says no shape and no span
+abbrev IsPlain : Line → Type 0
+IsPlain (ShapeLine read) = ⊥
+IsPlain (SpanLine read) = ⊥
+IsPlain line = Unit {0}
+
+says-plain : (verb : List ℕ) (texts : List (List ℕ)) → (bytes_eq verb (codes "shape") || bytes_eq verb (codes "span")) ≡ false → says verb texts ≡ says_plainly verb texts
+says-plain verb texts neither =
+    let parts = or_parts (bytes_eq verb (codes "shape")) (bytes_eq verb (codes "span")) neither in
+    rw (parts.0, parts.1) refl
+
+meaning-plain : (texts : Option (List (List ℕ))) → begin_a_table texts ≡ false → meaning_of texts ≡ plain_meaning_of texts
+meaning-plain None neither = refl
+meaning-plain (Some []) neither = refl
+meaning-plain (Some (verb ∷ texts)) neither = says-plain verb texts neither
+
+line-plain : (line : List ℕ) → begin_a_table (texts_of (words_of line)) ≡ false → line_of line ≡ plain_line_of line
+line-plain [] neither = refl
+line-plain (b ∷ bs) neither = meaning-plain (texts_of (words_of (b ∷ bs))) neither
+
+lines-plain : (lines : List (List ℕ)) → list_any (λ line. begin_a_table (texts_of (words_of line))) lines ≡ false → map line_of lines ≡ map plain_line_of lines
+lines-plain [] none = refl
+lines-plain (line ∷ lines) none =
+    let parts = or_parts (begin_a_table (texts_of (words_of line))) _ none in
+    ap₂ (λ (l : Line) (ls : List Line). l ∷ ls) (line-plain line parts.0) (lines-plain lines parts.1)
+
+is_plain : (line : List ℕ) → IsPlain (plain_line_of line)
+is_plain [] = tt
+is_plain (b ∷ bs) = by (texts_of (words_of (b ∷ bs)))
+  where
+    step : (read : Result (State → State) Fault) → IsPlain (step_line read)
+    step (Ok made) = tt
+    step (Err fault) = tt
+
+    verb : (row : Bool) (texts : List (List ℕ)) (line : Line) → IsPlain line → IsPlain (cond row (RecordLine texts) line)
+    verb true texts line plain = tt
+    verb false texts line plain = plain
+
+    by : (texts : Option (List (List ℕ))) → IsPlain (plain_meaning_of texts)
+    by None = tt
+    by (Some []) = tt
+    by (Some (first ∷ texts)) = verb (bytes_eq first (codes "row")) texts (step_line (whole (behind steps first) texts)) (step (whole (behind steps first) texts))
+
+all_plain : (lines : List (List ℕ)) → AllByRecursion IsPlain (map plain_line_of lines)
+all_plain [] = tt
+all_plain (line ∷ lines) = (is_plain line, all_plain lines)
+
+-- what may stand anywhere
+anywhere : (line : Line) (earlier : List Line) → ((before : Line) → may_follow line before ≡ true) → is_in_place earlier line ≡ true
+anywhere line [] h = refl
+anywhere line (before ∷ earlier) h = rw (h before) (anywhere line earlier h)
+
+record_place : (texts : List (List ℕ)) (earlier : List Line) → AllByRecursion IsPlain earlier → is_in_place earlier (RecordLine texts) ≡ not (list_any is_step earlier)
+record_place texts [] plain = refl
+record_place texts (EmptyLine ∷ earlier) plain = record_place texts earlier plain.1
+record_place texts (ShapeLine read ∷ earlier) plain = absurd plain.0
+record_place texts (RecordLine others ∷ earlier) plain = record_place texts earlier plain.1
+record_place texts (SpanLine read ∷ earlier) plain = absurd plain.0
+record_place texts (StepLine step ∷ earlier) plain = refl
+record_place texts (FaultyLine fault ∷ earlier) plain = record_place texts earlier plain.1
+
+fault-plain : (earlier : List Line) (line : Line) → AllByRecursion IsPlain earlier → IsPlain line → fault_of earlier line ≡ plain_fault earlier line
+fault-plain earlier EmptyLine plain here = rw (anywhere EmptyLine earlier any) refl
+  where
+    any : (before : Line) → may_follow EmptyLine before ≡ true
+    any EmptyLine = refl
+    any (ShapeLine read) = refl
+    any (RecordLine texts) = refl
+    any (SpanLine read) = refl
+    any (StepLine step) = refl
+    any (FaultyLine fault) = refl
+fault-plain earlier (ShapeLine read) plain here = absurd here
+fault-plain earlier (RecordLine texts) plain here = ap (λ b. cond b None (Some OutOfPlace)) (record_place texts earlier plain) ∙ turned (list_any is_step earlier)
+  where
+    turned : (b : Bool) → cond (not b) None (Some OutOfPlace) ≡ cond b (Some OutOfPlace) None
+    turned true = refl
+    turned false = refl
+fault-plain earlier (SpanLine read) plain here = absurd here
+fault-plain earlier (StepLine step) plain here = rw (anywhere (StepLine step) earlier any) refl
+  where
+    any : (before : Line) → may_follow (StepLine step) before ≡ true
+    any EmptyLine = refl
+    any (ShapeLine read) = refl
+    any (RecordLine texts) = refl
+    any (SpanLine read) = refl
+    any (StepLine other) = refl
+    any (FaultyLine fault) = refl
+fault-plain earlier (FaultyLine fault) plain here = rw (anywhere (FaultyLine fault) earlier any) refl
+  where
+    any : (before : Line) → may_follow (FaultyLine fault) before ≡ true
+    any EmptyLine = refl
+    any (ShapeLine read) = refl
+    any (RecordLine texts) = refl
+    any (SpanLine read) = refl
+    any (StepLine other) = refl
+    any (FaultyLine other) = refl
+
+-- two ways to find faults that agree find the same first one
+faults-plain : (earlier lines : List Line) → AllByRecursion IsPlain earlier → AllByRecursion IsPlain lines → first_fault fault_of earlier lines ≡ first_fault plain_fault earlier lines
+faults-plain earlier [] plain here = refl
+faults-plain earlier (line ∷ lines) plain here = rw (fault-plain earlier line plain here.0, faults-plain (earlier ++ line ∷ []) lines (all-append IsPlain earlier (line ∷ []) plain (here.0, tt)) here.1) refl
+
+quiet : (fault_at : List Line → Line → Option Fault) → ((earlier : List Line) (line : Line) → IsPlain line → fault_at earlier line ≡ None) → (earlier lines : List Line) → AllByRecursion IsPlain lines → first_fault fault_at earlier lines ≡ None
+quiet fault_at none earlier [] plain = refl
+quiet fault_at none earlier (line ∷ lines) plain = rw (none earlier line plain.0, quiet fault_at none (earlier ++ line ∷ []) lines plain.1) refl
+
+no_shape : (g : Grid (List ℕ)) (earlier : List Line) (line : Line) → IsPlain line → shape_fault g earlier line ≡ None
+no_shape g earlier EmptyLine plain = refl
+no_shape g earlier (ShapeLine read) plain = absurd plain
+no_shape g earlier (RecordLine texts) plain = refl
+no_shape g earlier (SpanLine read) plain = refl
+no_shape g earlier (StepLine step) plain = refl
+no_shape g earlier (FaultyLine fault) plain = refl
+
+no_span : (g : Grid (List ℕ)) (earlier : List Line) (line : Line) → IsPlain line → span_fault g earlier line ≡ None
+no_span g earlier EmptyLine plain = refl
+no_span g earlier (ShapeLine read) plain = refl
+no_span g earlier (RecordLine texts) plain = refl
+no_span g earlier (SpanLine read) plain = absurd plain
+no_span g earlier (StepLine step) plain = refl
+no_span g earlier (FaultyLine fault) plain = refl
+
+no_anchors : (lines : List Line) → AllByRecursion IsPlain lines → filter_map anchor_in lines ≡ []
+no_anchors [] plain = refl
+no_anchors (EmptyLine ∷ lines) plain = no_anchors lines plain.1
+no_anchors (ShapeLine read ∷ lines) plain = absurd plain.0
+no_anchors (RecordLine texts ∷ lines) plain = no_anchors lines plain.1
+no_anchors (SpanLine read ∷ lines) plain = absurd plain.0
+no_anchors (StepLine step ∷ lines) plain = no_anchors lines plain.1
+no_anchors (FaultyLine fault ∷ lines) plain = no_anchors lines plain.1
+
+abbrev scripted : List Line → Option (ℕ × Fault) → SpanMap → Result Script (ℕ × Fault)
+scripted lines None spans = Ok (record { records = filter_map record_in lines; spans = spans; steps = filter_map step_in lines })
+scripted lines (Some fault) spans = Err fault
+
+none_behind : (o : Option (ℕ × Fault)) → option_or o (option_or None None) ≡ o
+none_behind None = refl
+none_behind (Some fault) = refl
+
+among-plain : (lines : List Line) → AllByRecursion IsPlain lines → fault_among lines ≡ first_fault plain_fault [] lines
+among-plain lines plain =
+    let g = table_from (filter_map record_in lines) in
+    ap₂ (λ (a b : Option (ℕ × Fault)). option_or (first_fault fault_of [] lines) (option_or a b)) (quiet (shape_fault g) (no_shape g) [] lines plain) (quiet (span_fault g) (no_span g) [] lines plain)
+    ∙ none_behind (first_fault fault_of [] lines) ∙ faults-plain [] lines tt plain
+
+either_way : (lines : List Line) (o : Option (ℕ × Fault)) → fault_among lines ≡ o → script_or_fault lines ≡ scripted lines o (from_entries (filter_map anchor_in lines))
+either_way lines None is = rw is refl
+either_way lines (Some fault) is = rw is refl
+
+plain_way : (lines : List Line) (o : Option (ℕ × Fault)) → first_fault plain_fault [] lines ≡ o → plain_script lines ≡ scripted lines o empty
+plain_way lines None is = rw is refl
+plain_way lines (Some fault) is = rw is refl
+
+script-plain : (lines : List Line) → AllByRecursion IsPlain lines → script_or_fault lines ≡ plain_script lines
+script-plain lines plain =
+    let first = first_fault plain_fault [] lines in
+    either_way lines first (among-plain lines plain)
+    ∙ ap (λ (es : List Anchor). scripted lines first (from_entries es)) (no_anchors lines plain)
+    ∙ sym (plain_way lines first refl)
+
+-- a script in which no line begins with `shape` or `span` means what it meant
+pub parse-plain : (input : List ℕ) → has_either_word input ≡ false → parse input ≡ plain_parse input
+parse-plain input none = ap script_or_fault (lines-plain (lines_of input) none) ∙ script-plain (map plain_line_of (lines_of input)) (all_plain (lines_of input))

@@ -1,0 +1,123 @@
+-- Lines without faults: a shape, records, and spans.
+use Rattle.std.proofs.Common.{◌≡◌, ℕ, ◌&&◌, Bool, true, false, cond, not, eqb, eq-eqb, List, [], ◌∷◌, ◌++◌, map, Option, None, Some, Result, Ok, Err, refl, sym, ap, ap₂, subst, ◌∙◌}
+use Rattle.std.specs.Prelude.{filter_map}
+use Rattle.std.specs.List.{list_all, list_any}
+use Rattle.std.proofs.lemmas.Bool.{and_from, and_parts, not_from_false}
+use Rattle.std.proofs.lemmas.List.{append-nil}
+use Rattle.std.proofs.lemmas.List.Elements.{filter_map-append}
+use Rattle.std.proofs.lemmas.List.Folds.{list_all-append}
+use Rattle.tabled_grid.specs.Anchors.{Anchor, lie_well, lies_inside, meets}
+use Rattle.tabled_grid.specs.Grid.{Grid}
+use Rattle.tabled_language.specs.declared.fault.Fault.{Fault}
+use Rattle.tabled_language.specs.Line.{anchor_in, fault_of, first_fault, is_in_place, may_follow, record_in, shape_fault, span_fault, step_in}
+use Rattle.tabled_language.specs.Placed.{has_place}
+use Rattle.tabled_language.specs.Verb.{Line, EmptyLine, ShapeLine, RecordLine, SpanLine, StepLine, FaultyLine}
+use Rattle.tabled_language.proofs.BackToAnchors.{MeetNone, meet_none-push}
+
+-- what each of things says is picked
+pub picked : {A B : Type 0} (h : Line → Option B) (make : A → Line) (f : A → B) → ((x : A) → h (make x) ≡ Some (f x)) → (xs : List A) (rest : List Line) → filter_map h (map make xs ++ rest) ≡ map f xs ++ filter_map h rest
+picked h make f is [] rest = refl
+picked h make f is (x ∷ xs) rest = rw (is x) (ap (λ ys. f x ∷ ys) (picked h make f is xs rest))
+
+-- what says nothing of a kind is passed
+pub passed : {A B : Type 0} (h : Line → Option B) (make : A → Line) → ((x : A) → h (make x) ≡ None) → (xs : List A) (rest : List Line) → filter_map h (map make xs ++ rest) ≡ filter_map h rest
+passed h make is [] rest = refl
+passed h make is (x ∷ xs) rest = rw (is x) (passed h make is xs rest)
+
+-- one line without a fault, and none in the others
+quiet-cons : (fault_at : List Line → Line → Option Fault) (earlier : List Line) (line : Line) (lines : List Line) → fault_at earlier line ≡ None → first_fault fault_at (earlier ++ line ∷ []) lines ≡ None → first_fault fault_at earlier (line ∷ lines) ≡ None
+quiet-cons fault_at earlier line lines here later = rw here later
+
+-- lines of one kind without a fault, where what stands before them stays as it is to be
+pub block : {A : Type 0} (fault_at : List Line → Line → Option Fault) (make : A → Line) (Kept : List Line → Type 0) → ((earlier : List Line) (x : A) → Kept earlier → fault_at earlier (make x) ≡ None) → ((earlier : List Line) (x : A) → Kept earlier → Kept (earlier ++ make x ∷ [])) → (xs : List A) (rest earlier : List Line) → Kept earlier → ((later : List Line) → Kept later → first_fault fault_at later rest ≡ None) → first_fault fault_at earlier (map make xs ++ rest) ≡ None
+block fault_at make Kept fine keeps [] rest earlier kept after = after earlier kept
+block fault_at make Kept fine keeps (x ∷ xs) rest earlier kept after = quiet-cons fault_at earlier (make x) (map make xs ++ rest) (fine earlier x kept) (block fault_at make Kept fine keeps xs rest (earlier ++ make x ∷ []) (keeps earlier x kept) after)
+
+all-push : (line before : Line) (earlier : List Line) → is_in_place earlier line ≡ true → may_follow line before ≡ true → is_in_place (earlier ++ before ∷ []) line ≡ true
+all-push line before earlier h k = list_all-append (may_follow line) earlier (before ∷ []) ∙ rw (h, k) refl
+
+empty_follows : (earlier : List Line) → is_in_place earlier EmptyLine ≡ true
+empty_follows [] = refl
+empty_follows (line ∷ earlier) = rw (any line) (empty_follows earlier)
+  where
+    any : (line : Line) → may_follow EmptyLine line ≡ true
+    any EmptyLine = refl
+    any (ShapeLine read) = refl
+    any (RecordLine texts) = refl
+    any (SpanLine read) = refl
+    any (StepLine step) = refl
+    any (FaultyLine fault) = refl
+
+abbrev pub records : List (List (List ℕ)) → List Line
+records rows = map RecordLine rows
+
+abbrev pub span : Anchor → Line
+span e = SpanLine (Ok e)
+
+-- a shape, records and spans
+abbrev pub table : ℕ → ℕ → List (List (List ℕ)) → List Anchor → List Line
+table r c rows es = ShapeLine (Ok (r, c)) ∷ (map RecordLine rows ++ (map span es ++ EmptyLine ∷ []))
+
+-- records and spans may stand behind these lines
+record TakesRecords (earlier : List Line) : Type 0 where
+  rows : (texts : List (List ℕ)) → is_in_place earlier (RecordLine texts) ≡ true
+  spans : (e : Anchor) → is_in_place earlier (span e) ≡ true
+
+TakesSpans : List Line → Type 0
+TakesSpans earlier = (e : Anchor) → is_in_place earlier (span e) ≡ true
+
+-- each line is in its place
+pub in_place : (r c : ℕ) (rows : List (List (List ℕ))) (es : List Anchor) → first_fault fault_of [] (table r c rows es) ≡ None
+unfolding TakesSpans
+in_place r c rows es = block fault_of RecordLine TakesRecords
+    (λ earlier texts kept. rw (kept.rows texts) refl)
+    (λ earlier texts kept. record { rows = λ others. all-push (RecordLine others) (RecordLine texts) earlier (kept.rows others) refl; spans = λ e. all-push (span e) (RecordLine texts) earlier (kept.spans e) refl })
+    rows (map span es ++ EmptyLine ∷ []) (ShapeLine (Ok (r, c)) ∷ []) (record { rows = λ texts. refl; spans = λ e. refl })
+    (λ later kept. block fault_of span TakesSpans
+        (λ earlier e takes. rw (takes e) refl)
+        (λ earlier e takes f. all-push (span f) (span e) earlier (takes f) refl)
+        es (EmptyLine ∷ []) later kept.spans
+        (λ last takes. rw (empty_follows last) refl))
+
+-- the shape is that of the table
+pub shape_fine : (g : Grid (List ℕ)) (rows : List (List (List ℕ))) (es : List Anchor) → first_fault (shape_fault g) [] (table g.rows g.columns rows es) ≡ None
+shape_fine g rows es = quiet-cons (shape_fault g) [] (ShapeLine (Ok (g.rows, g.columns))) (map RecordLine rows ++ (map span es ++ EmptyLine ∷ [])) (rw (eq-eqb g.rows g.rows refl, eq-eqb g.columns g.columns refl) refl)
+    (block (shape_fault g) RecordLine (λ earlier. Unit {0}) (λ earlier x kept. refl) (λ earlier x kept. tt) rows (map span es ++ EmptyLine ∷ []) (ShapeLine (Ok (g.rows, g.columns)) ∷ []) tt
+    (λ later kept. block (shape_fault g) span (λ earlier. Unit {0}) (λ earlier x kept. refl) (λ earlier x kept. tt) es (EmptyLine ∷ []) later tt (λ last kept. refl)))
+
+place_found : (rows columns : ℕ) (done : List Anchor) (e : Anchor) → lies_inside rows columns e ≡ true → list_any (meets e) done ≡ false → has_place rows columns done e ≡ true
+place_found rows columns done e inside apart = and_from _ _ inside (not_from_false _ apart)
+
+spans_apart : (g : Grid (List ℕ)) (es done : List Anchor) (rest earlier : List Line) → filter_map anchor_in earlier ≡ done → lie_well g.rows g.columns es ≡ true → MeetNone done es → ((later : List Line) → first_fault (span_fault g) later rest ≡ None) → first_fault (span_fault g) earlier (map span es ++ rest) ≡ None
+spans_apart g [] done rest earlier is well apart after = after earlier
+spans_apart g (e ∷ es) done rest earlier is well apart after =
+    let parts = and_parts _ _ well in
+    let others = and_parts _ _ parts.1 in
+    let place : has_place g.rows g.columns (filter_map anchor_in earlier) e ≡ true = ap (λ anchors. has_place g.rows g.columns anchors e) is ∙ place_found g.rows g.columns done e parts.0 apart.0 in
+    let more : filter_map anchor_in (earlier ++ span e ∷ []) ≡ done ++ e ∷ [] = filter_map-append anchor_in earlier (span e ∷ []) ∙ ap (λ anchors. anchors ++ e ∷ []) is in
+    quiet-cons (span_fault g) earlier (span e) (map span es ++ rest) (rw place refl)
+    (spans_apart g es (done ++ e ∷ []) rest (earlier ++ span e ∷ []) more others.1 (meet_none-push e done es others.0 apart.1) after)
+
+-- each rectangle lies inside the table, and shares no cell with an earlier one
+pub spans_fine : (g : Grid (List ℕ)) (r c : ℕ) (rows : List (List (List ℕ))) (es : List Anchor) → lie_well g.rows g.columns es ≡ true → MeetNone [] es → first_fault (span_fault g) [] (table r c rows es) ≡ None
+spans_fine g r c rows es well apart = block (span_fault g) RecordLine (λ earlier. filter_map anchor_in earlier ≡ []) (λ earlier x kept. refl)
+    (λ earlier x kept. filter_map-append anchor_in earlier (RecordLine x ∷ []) ∙ append-nil (filter_map anchor_in earlier) ∙ kept)
+    rows (map span es ++ EmptyLine ∷ []) (ShapeLine (Ok (r, c)) ∷ []) refl
+    (λ later none. spans_apart g es [] (EmptyLine ∷ []) later none well apart (λ last. refl))
+
+pub records_are : (r c : ℕ) (rows : List (List (List ℕ))) (es : List Anchor) → filter_map record_in (table r c rows es) ≡ rows
+records_are r c rows es = picked record_in RecordLine (λ texts. texts) (λ texts. refl) rows (map span es ++ EmptyLine ∷ []) ∙ ap₂ (λ (xs ys : List (List (List ℕ))). xs ++ ys) (map-itself rows) (passed record_in span (λ e. refl) es (EmptyLine ∷ [])) ∙ append-nil rows
+  where
+    map-itself : {A : Type 0} (xs : List A) → map (λ (x : A). x) xs ≡ xs
+    map-itself [] = refl
+    map-itself (x ∷ xs) = ap (λ ys. x ∷ ys) (map-itself xs)
+
+pub anchors_are : (r c : ℕ) (rows : List (List (List ℕ))) (es : List Anchor) → filter_map anchor_in (table r c rows es) ≡ es
+anchors_are r c rows es = passed anchor_in RecordLine (λ texts. refl) rows (map span es ++ EmptyLine ∷ []) ∙ picked anchor_in span (λ e. e) (λ e. refl) es (EmptyLine ∷ []) ∙ append-nil (map (λ (e : Anchor). e) es) ∙ map-itself es
+  where
+    map-itself : {A : Type 0} (xs : List A) → map (λ (x : A). x) xs ≡ xs
+    map-itself [] = refl
+    map-itself (x ∷ xs) = ap (λ ys. x ∷ ys) (map-itself xs)
+
+pub steps_are : (r c : ℕ) (rows : List (List (List ℕ))) (es : List Anchor) → filter_map step_in (table r c rows es) ≡ []
+steps_are r c rows es = passed step_in RecordLine (λ texts. refl) rows (map span es ++ EmptyLine ∷ []) ∙ passed step_in span (λ e. refl) es (EmptyLine ∷ [])

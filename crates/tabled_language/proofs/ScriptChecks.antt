@@ -1,0 +1,76 @@
+-- The checks of a whole draft.
+use Rattle.std.proofs.Common.{◌≡◌, ℕ, ◌+◌, ◌<◌, List, [], ◌∷◌, ◌++◌, length, map, max, get_or, take, Option, Some, None, Ok, Err, true, refl, sym, ap, ap₂, subst, ◌∙◌, arith}
+use Rattle.std.specs.FinMap.{from_entries}
+use Rattle.std.specs.Option.{option_map}
+use Rattle.std.proofs.lemmas.List.{length-map, map-append, take_more}
+use Rattle.tabled_grid.specs.Anchors.{Anchor}
+use Rattle.std.specs.Global.{Vec}
+use Rattle.tabled_grid.specs.Grid.{Grid, map_items}
+use Rattle.tabled_grid.specs.Spans.{SpanMap}
+use Rattle.tabled_steps.specs.States.{State}
+use Rattle.tabled_table.specs.Builder.{longest}
+use Rattle.tabled_language.specs.declared.fault.Fault.{Fault}
+use Rattle.tabled_language.specs.declared.fault.Fault.TheVariants.{ShapeDiffers, SpanMisfits}
+use Rattle.tabled_language.specs.Drafts.{Draft, draft_of, shape_misfit}
+use Rattle.tabled_language.specs.Line.{Script, fault_of, first_fault, script_or_fault, table_from}
+use Rattle.tabled_language.specs.Placed.{IsFirstMisfit, fit_in}
+use Rattle.tabled_language.specs.Verb.{Line}
+use Rattle.tabled_language.proofs.DraftSteps.{all_fits, shape_differs, span_misfits}
+
+pub longest-push : {A : Type 0} (rows : List (List A)) (row : List A) → longest (rows ++ row ∷ []) ≡ max (longest rows) (length row)
+longest-push [] row = omega arith
+longest-push (r ∷ rows) row = ap (max (length r)) (longest-push rows row) ∙ omega arith
+
+longest-map : {A B : Type 0} (f : A → B) (rows : List (List A)) → longest (map (map f) rows) ≡ longest rows
+longest-map f [] = refl
+longest-map f (row ∷ rows) = ap₂ (λ (a b : ℕ). max a b) (length-map row f) (longest-map f rows)
+
+table_rows : (rows : List (List (List ℕ))) → (table_from rows).rows ≡ length rows
+table_rows [] = refl
+table_rows (row ∷ rows) = length-map (row ∷ rows) _
+
+table_columns : (rows : List (List (List ℕ))) → (table_from rows).columns ≡ longest rows
+table_columns [] = refl
+table_columns (row ∷ rows) = refl
+
+-- the shape of a table of rows in memory
+pub record HasShape (records : List (List (List ℕ))) (rows columns : ℕ) : Type 0 where
+  pub tall : rows ≡ (table_from records).rows
+  pub wide : columns ≡ (table_from records).columns
+
+pub has_shape : {A : Type 0} (f : A → List ℕ) (rows : List (List A)) (r c : ℕ) → r ≡ length rows → c ≡ longest rows → HasShape (map (map f) rows) r c
+has_shape f rows r c tall wide = record { tall = tall ∙ sym (length-map rows (map f)) ∙ sym (table_rows (map (map f) rows)); wide = wide ∙ sym (longest-map f rows) ∙ sym (table_columns (map (map f) rows)) }
+
+-- what a shape beside a table is depends on the table's shape alone
+misfit-alike : (g : Grid (List ℕ)) (rows columns : ℕ) (s : Option (ℕ × (ℕ × ℕ))) → rows ≡ g.rows → columns ≡ g.columns → shape_misfit (record { rows = rows; columns = columns; cells = [] }) s ≡ shape_misfit g s
+misfit-alike g rows columns None tall wide = refl
+misfit-alike g rows columns (Some shape) tall wide = rw (tall, wide) refl
+
+module _ (lines : List Line) (fine : first_fault fault_of [] lines ≡ None) (d : Draft) (is : d ≡ draft_of lines) (rows columns : ℕ) (shape : HasShape d.records rows columns) (said : Option ℕ) (told : option_map (λ n. (n, ShapeDiffers)) said ≡ shape_misfit (record { rows = rows; columns = columns; cells = [] }) d.shape) where
+  whole : option_map (λ n. (n, ShapeDiffers)) said ≡ shape_misfit (table_from (draft_of lines).records) (draft_of lines).shape
+  whole = told ∙ misfit-alike (table_from d.records) rows columns d.shape shape.tall shape.wide ∙ ap (λ (e : Draft). shape_misfit (table_from e.records) e.shape) is
+
+  pub checked_shape : (n : ℕ) → said ≡ Some n → script_or_fault lines ≡ Err (n, ShapeDiffers)
+  unfolding whole
+  checked_shape n e = shape_differs lines fine (n, ShapeDiffers) (sym whole ∙ ap (option_map (λ n. (n, ShapeDiffers))) e)
+
+  pub checked_span : (i n : ℕ) → said ≡ None → IsFirstMisfit rows columns d.anchors i → n ≡ get_or d.lines i 0 → script_or_fault lines ≡ Err (n, SpanMisfits)
+  checked_span i n e misfit number =
+      span_misfits lines fine i (sym whole ∙ ap (option_map (λ n. (n, ShapeDiffers))) e)
+        (subst (λ (f : Draft). IsFirstMisfit (table_from f.records).rows (table_from f.records).columns f.anchors i) is (subst (λ r. IsFirstMisfit r (table_from d.records).columns d.anchors i) shape.tall (subst (λ c. IsFirstMisfit rows c d.anchors i) shape.wide misfit)))
+      ∙ ap (λ m. Err (m, SpanMisfits)) (sym (number ∙ ap (λ (f : Draft). get_or f.lines i 0) is))
+
+  pub checked_all : (m : SpanMap) → said ≡ None → fit_in rows columns d.anchors ≡ true → m ≡ from_entries d.anchors → script_or_fault lines ≡ Ok (record { records = d.records; spans = m; steps = d.steps })
+  checked_all m e fit made =
+      all_fits lines fine (sym whole ∙ ap (option_map (λ n. (n, ShapeDiffers))) e)
+        (subst (λ (f : Draft). fit_in (table_from f.records).rows (table_from f.records).columns f.anchors ≡ true) is (subst (λ r. fit_in r (table_from d.records).columns d.anchors ≡ true) shape.tall (subst (λ c. fit_in rows c d.anchors ≡ true) shape.wide fit)))
+      ∙ sym (ap (λ (k : SpanMap). Ok (scripted d k)) made ∙ ap (λ (f : Draft). Ok (scripted f (from_entries f.anchors))) is)
+    where
+      scripted : Draft → SpanMap → Script
+      scripted f k = record { records = f.records; spans = k; steps = f.steps }
+
+-- one record more
+pub longest-more : {A : Type 0} (rows : List (Vec A)) (i old new : ℕ) (row : Vec A) → i < length rows → row ≡ get_or rows i row → old ≡ longest (map_items (take i rows)) → new ≡ max old (length row.items) → new ≡ longest (map_items (take (i + 1) rows))
+longest-more {A} rows i old new row here read before is =
+    is ∙ ap (λ n. max n (length row.items)) before ∙ sym (longest-push (map_items (take i rows)) row.items)
+    ∙ ap longest (sym (map-append (λ (v : Vec A). v.items) (take i rows) (row ∷ [])) ∙ ap (λ (vs : List (Vec A)). map_items (take i rows ++ vs)) (ap (λ (v : Vec A). v ∷ []) read) ∙ ap map_items (sym (take_more rows i row here)))

@@ -1,0 +1,22 @@
+use Rattle.std.proofs.Common.{ℕ, List, ap₂, ◌≡◌, ◌≢◌, ◌∷◌, length, map, refl, sym, ap, ◌∙◌, rules}
+use Rattle.std.specs.Global.{Global}
+use Rattle.std.specs.String.{string_bytes}
+use Rattle.tabled_language.specs.Parsing.{draft_in}
+use Rattle.tabled_language.specs.Verb.{step_line, steps}
+use Rattle.tabled_language.specs.Words.{behind, keeping_asks, whole}
+use Rattle.tabled_language.proofs.ScriptLines.{asks_anyway, first_removed, meaning_of-step, same_line}
+use Rattle.tabled_language.proofs.draft.Draft.read_texts.Goals as goal
+
+pub returns-in_default-clause-read : goal.returns-in_default-clause-read
+returns-in_default-clause-read c =
+    let verb = c.as_str.result.now in
+    let texts = map string_bytes c.args.texts.items in
+    let others = map string_bytes c.remove-verb.new.self.items in
+    let some : length c.args.texts.items ≢ 0 = search rules in
+    let removed = first_removed (string_bytes {Z = Global}) c.args.texts.items c.remove-verb.result some c.remove-verb.ensures.value in
+    let first : texts ≡ verb ∷ others = removed ∙ ap₂ (λ (v : List ℕ) (ts : List (List ℕ)). v ∷ ts) (sym c.as_str.ensures) (ap (map string_bytes) (sym c.remove-verb.ensures.items)) in
+    let left : c.of_texts-in_default.result ≡ others = search rules in
+    let said = meaning_of-step texts verb c.of_texts-in_default.result (first ∙ ap (λ words. verb ∷ words) (sym left)) c.in_default.not-row c.in_default.not-shape c.in_default.not-span in
+    let old = draft_in c.args.self.now in
+    let new = draft_in c.read_step.new.self in
+    same_line old new c.args.number c.read_step.result _ _ _ _ said refl (asks_anyway old new c.args.number (step_line (whole (behind steps verb) c.of_texts-in_default.result)) (keeping_asks (behind steps verb) c.of_texts-in_default.result) c.read_step.result c.read_step.ensures.read)

@@ -1,0 +1,38 @@
+-- How a table is written.
+use Rattle.std.specs.Prelude.{ℕ, List, [], ◌∷◌, ◌++◌, ◌==◌, map, codes, if◌then◌else◌}
+use Rattle.std.specs.FinMap.{entries}
+use Rattle.std.specs.List.{flat_map, join_with_byte}
+use Rattle.std.specs.Fmt.{decimal}
+use Rattle.tabled_grid.specs.Grid.{Grid}
+use Rattle.tabled_grid.specs.declared.config.position.Position.{Position}
+use Rattle.tabled_steps.specs.States.{State}
+
+-- a byte of a text as it stands in a word
+abbrev pub escaped_byte : ℕ → List ℕ
+escaped_byte b = if b == 9 then codes "\\t" else (if b == 10 then codes "\\n" else (if b == 92 then codes "\\\\" else b ∷ []))
+
+-- the word that stands for a text
+abbrev pub escaped : List ℕ → List ℕ
+escaped text = flat_map escaped_byte text
+
+-- the words of texts, separated by tabs
+abbrev pub joined : List (List ℕ) → List ℕ
+joined texts = join_with_byte 9 (map escaped texts)
+
+-- the line of texts: their words, and a newline
+abbrev pub line : List (List ℕ) → List ℕ
+line texts = joined texts ++ 10 ∷ []
+
+-- the line of an anchor: its row and column, and its rectangle's height and width
+abbrev pub span_line : Position × (ℕ × ℕ) → List ℕ
+span_line e = line (codes "span" ∷ decimal e.0.row ∷ decimal e.0.col ∷ decimal e.1.0 ∷ decimal e.1.1 ∷ [])
+
+-- the lines of a table's shape, and then of its rows
+abbrev pub table_lines : Grid (List ℕ) → List ℕ
+table_lines g =
+    line (codes "shape" ∷ decimal g.rows ∷ decimal g.columns ∷ [])
+    ++ flat_map (λ row. line (codes "row" ∷ row)) g.cells
+
+-- a table's lines, and then those of its anchors, row by row
+abbrev pub print : State → List ℕ
+print s = table_lines s.texts ++ flat_map span_line (entries s.spans)

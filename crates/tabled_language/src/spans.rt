@@ -1,0 +1,84 @@
+//! Anchors in the order of their lines, and the merged cells that they make.
+
+ghost use Rattle.std.specs.Prelude.{false, true, ◌≡◌, ◌+◌, ◌<◌, ◌≤◌, ℕ, IfOk, MatchOption, MatchResult, OnErr, length};
+ghost use Rattle.std.specs.FinMap.{from_entries};
+ghost use Rattle.std.specs.List.{AllByRecursion};
+ghost use Rattle.tabled_grid.specs.Spans.{IsSpanSize};
+ghost use Rattle.tabled_grid.specs.declared.config.position.Position.{Position};
+ghost use Rattle.tabled_language.specs.Placed.{IsFirstMisfit, fit_in};
+
+use crate::walk::have_places;
+use std::alloc::{AllocError, Global};
+use tabled_grid::config::{Position, SpannedConfig};
+
+/// A place, and the height and the width of the rectangle that is anchored there.
+pub(crate) type Anchor = (Position, (usize, usize));
+
+/// The merged cells of anchors, or the index of the first whose rectangle leaves the table or shares a
+/// cell with that of one before it. It takes no memory where there are no anchors.
+///
+/// One sort and one walk decide whether all fit. Where not, the first is searched by halves: what fits
+/// still fits with fewer anchors.
+pub(crate) fn merged_or_misfit(
+    alloc: Global,
+    anchors: &[Anchor],
+    rows: usize,
+    columns: usize,
+) -> Result<Result<SpannedConfig, usize>, AllocError>
+    requires { AllByRecursion (λ (e : Position × (ℕ × ℕ)). IsSpanSize e.1) anchors.now }
+    ensures answer { IfOk result (λ answer. MatchResult answer
+        (λ spans. (fit_in rows columns anchors.now ≡ true) × (spans ≡ from_entries anchors.now))
+        (λ misfit. IsFirstMisfit rows columns anchors.now misfit)) }
+    ensures memory { OnErr result (0 < length anchors.now) }
+{
+    if anchors.is_empty() {
+        return Ok(Ok(SpannedConfig::new(alloc)));
+    }
+    match merged(alloc, anchors, rows, columns)? {
+        Some(spans) => Ok(Ok(spans)),
+        None => Ok(Err(first_misfit(alloc, anchors, rows, columns)?)),
+    }
+}
+
+/// The merged cells of anchors, if all have places.
+fn merged(
+    alloc: Global,
+    anchors: &[Anchor],
+    rows: usize,
+    columns: usize,
+) -> Result<Option<SpannedConfig>, AllocError>
+    requires { AllByRecursion (λ (e : Position × (ℕ × ℕ)). IsSpanSize e.1) anchors.now }
+    ensures { IfOk result (λ spans. MatchOption spans (fit_in rows columns anchors.now ≡ false) (λ spans. (fit_in rows columns anchors.now ≡ true) × (spans ≡ from_entries anchors.now))) }
+{
+    let mut sorted = Vec::from_slice(alloc, anchors)?;
+    sorted.sort_unstable_by_key(|anchor| anchor.0);
+    if have_places(alloc, &sorted, rows, columns)? {
+        Ok(Some(SpannedConfig::from_anchors(sorted)))
+    } else {
+        Ok(None)
+    }
+}
+
+/// The index of the first anchor that has no place behind those before it.
+fn first_misfit(
+    alloc: Global,
+    anchors: &[Anchor],
+    rows: usize,
+    columns: usize,
+) -> Result<usize, AllocError>
+    requires sizes { AllByRecursion (λ (e : Position × (ℕ × ℕ)). IsSpanSize e.1) anchors.now }
+    requires misfits { fit_in rows columns anchors.now ≡ false }
+    ensures { IfOk result (λ misfit. IsFirstMisfit rows columns anchors.now misfit) }
+{
+    // So many of the first anchors fit, and so many do not.
+    let mut fitting = 0;
+    let mut failing = anchors.len();
+    while failing - fitting > 1 {
+        let middle = fitting + (failing - fitting) / 2;
+        match merged(alloc, &anchors[..middle], rows, columns)? {
+            Some(_) => fitting = middle,
+            None => failing = middle,
+        }
+    }
+    Ok(fitting)
+}

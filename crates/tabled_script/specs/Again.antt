@@ -1,0 +1,10 @@
+-- The output of a script, given to the program once more.
+use Rattle.std.specs.Prelude.{◌≡◌, Ok}
+use Rattle.tabled_language.specs.Line.{Script, parse}
+use Rattle.tabled_script.specs.Answer.{output_of}
+
+-- the output of a script is a script that has the same output
+pub record GivesAgain (script : Script) : Type 0 where
+  pub again : Script
+  pub read : parse (output_of script) ≡ Ok again
+  pub same : output_of again ≡ output_of script
