@@ -1,7 +1,7 @@
 """What `shape` and `span` lines mean, for a program that doesn't know these two words.
 
-The rules of the two words stand here: which line breaks one, and which steps merge the cells of a `span` line. All other
-lines are left to the program.
+The rules of the two words stand here: which line breaks one, and which steps merge the cells of a `span` line. All
+other lines are left to the program.
 """
 
 import re
@@ -38,7 +38,7 @@ def number_fault(words):
 
 
 def first_fault(lines):
-    """The number and the fault of the first line before the steps that is faulty by itself, or out of place; or None."""
+    """The number and the fault of the first line, other than a step, that is faulty or out of place; or None."""
     reached = -1
     for number, line in enumerate(lines, 1):
         words = line.split(b"\t")

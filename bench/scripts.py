@@ -116,21 +116,23 @@ class Scripts:
 
     def shape(self, rows, columns):
         """The shape of the records, or one nearby."""
+        shape = [rows, columns]
         if self.below(12) == 0:
-            rows, columns = (self.one_of([it, it + 1, max(it, 1) - 1, self.one_of(FAR_NUMBERS)]) for it in (rows, columns))
-        return [b"shape", self.digits(rows), self.digits(columns)]
+            shape = [self.one_of([it, it + 1, max(it, 1) - 1, self.one_of(FAR_NUMBERS)]) for it in shape]
+        return [b"shape", *map(self.digits, shape)]
 
     def spans(self, rows, columns):
         """Merged cells, which most often lie inside the table and apart."""
         free = {*product(range(rows), range(columns))}
         for _ in range(self.one_of([1, 1, 2, 3, 5])):
-            near = [self.below(max(rows, 1)), self.below(max(columns, 1)), 1 + self.below(3), 1 + self.below(3)]
-            cells = {*product(range(near[0], near[0] + near[2]), range(near[1], near[1] + near[3]))}
-            if self.below(12) == 0:
-                yield [self.one_of([it, it, it, 0, self.one_of(FAR_NUMBERS)]) for it in near]
-            elif len(cells) > 1 and cells <= free:
+            i, j = self.below(max(rows, 1)), self.below(max(columns, 1))
+            height, width = 1 + self.below(min(3, rows - i)), 1 + self.below(min(3, columns - j))
+            cells = {*product(range(i, i + height), range(j, j + width))}
+            if self.below(16) == 0:
+                yield [self.one_of([it, it, it + 1, 0, self.one_of(FAR_NUMBERS)]) for it in (i, j, height, width)]
+            elif len(cells) > 1 and (cells <= free or self.below(8) == 0):
                 free -= cells
-                yield near
+                yield [i, j, height, width]
 
     def span(self, numbers):
         return [b"span", *map(self.digits, numbers)]
