@@ -8,6 +8,7 @@ them as ours does, and the comparison goes on behind them. Else what differs is 
 import unicodedata
 
 from carried import spans_after
+from printed import ORDER
 
 PANIC = 101  # the status of the original's program where the crate panics
 
@@ -152,7 +153,7 @@ def named(before, words, one, other):
 
 
 def is_step(line):
-    return line and line.split(b"\t")[0] != b"row"
+    return line and line.split(b"\t")[0] not in ORDER
 
 
 def step_departures(before, line, ours, run):

@@ -14,8 +14,8 @@ def adopt_orphans():
         stop("this system doesn't tell the peak memory")
 
 
-def seconds_of(command, script):
-    """The wall time of one run. The system throws the output away: no reader takes part."""
+def seconds_of(command, script, wanted=0):
+    """The wall time of one run that ends with a status. The system throws the output away: no reader takes part."""
     files = [
         (os.POSIX_SPAWN_OPEN, 0, script, os.O_RDONLY, 0),
         (os.POSIX_SPAWN_OPEN, 1, os.devnull, os.O_WRONLY, 0),
@@ -27,24 +27,24 @@ def seconds_of(command, script):
         stop(error)
     _, status = os.waitpid(child, 0)
     seconds = time.perf_counter() - start
-    demand_success(command, status)
+    demand_status(command, status, wanted)
     return seconds
 
 
-def megabytes_of(command, script):
-    """The peak memory of one run."""
+def megabytes_of(command, script, wanted=0):
+    """The peak memory of one run that ends with a status."""
     # A peak begins with the memory of the process that starts the program. This script
     # holds more than some cases need, so a shell starts it, ends, and leaves it to us.
     line = 'script=$1; shift; "$@" < "$script" > /dev/null &'
     shell = os.posix_spawnp("sh", ["sh", "-c", line, "sh", script] + command, os.environ)
     os.waitpid(shell, 0)
     _, status, usage = os.wait4(-1, 0)
-    demand_success(command, status)
+    demand_status(command, status, wanted)
     return usage.ru_maxrss * 1024 / 1e6
 
 
-def demand_success(command, status):
-    if status != 0:
+def demand_status(command, status, wanted):
+    if os.waitstatus_to_exitcode(status) != wanted:
         stop(f"{command[0]}: status {os.waitstatus_to_exitcode(status)}")
 
 

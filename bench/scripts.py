@@ -1,6 +1,7 @@
 """Random scripts of the whole language, whole and faulty."""
 
 import random
+from itertools import product
 
 # Texts of words, as they stand in a script. The short ones come often, so that texts are equal and found.
 SHORT = [b"a", b"a", b"b", b"b", b"c", b""]
@@ -12,12 +13,11 @@ BAD_ESCAPES = [b"\\", b"\\x", b"a\\", b"\\\\\\", b"\\T", b"\\\r", b"\\ ", "\\é"
 # Cut off, unfinished behind an escape, too long, a surrogate, beyond the last character.
 BAD_TEXTS = [b"\xff", b"\x80", b"a\xc3", b"\xc3\\t\xa9", b"\xc0\xaf", b"\xed\xa0\x80",
              b"\xf4\x90\x80\x80", b"\xe6\xbc", b"\xf0\x9f\x98", b"\xe9"]
-UNKNOWN_WORDS = [b"spin", b"", b"Row", b"row ", b" row", b"row\r", b"SET", b"set\r", b"shape", b"span", b"al", b"0",
-                 b"a", b"\\t", "é".encode(), b"first", b"first-row-plus", b"last", b"segments", b"step-by", b"panel",
-                 b"zip "]
+UNKNOWN_WORDS = [b"spin", b"", b"Row", b"row ", b" row", b"row\r", b"SET", b"set\r", b"al", b"0", b"a", b"\\t",
+                 "é".encode(), b"first", b"first-row-plus", b"last", b"segments", b"step-by", b"panel", b"zip "]
 KNOWN_WORDS = [b"row", b"set", b"cell", b"all", b"column", b"rows", b"columns", b"start", b"end", b"left", b"zip",
                b"concat", b"clean", b"retain", b"vertical", b"horizontal", b"named", b"name", b"frame", b"and", b"step",
-               b"tabs"]
+               b"tabs", b"shape", b"span"]
 GOOD_NUMBERS = [b"00", b"01", b"0003", b"0000000000000000000000000000001", b"10000", b"9999", b"0000010000"]
 BAD_NUMBERS = [b"", b"+0", b"-0", b"+1", b"-1", b"+", b"-", b"--1", b"10001", b"010001", b"99999", b"4294967296",
                b"18446744073709551615", b"18446744073709551616", b"18446744073709551617", b"9" * 40, b"1x", b"x", b"1 ",
@@ -25,6 +25,7 @@ BAD_NUMBERS = [b"", b"+0", b"-0", b"+1", b"-1", b"+", b"-", b"--1", b"10001", b"
 GOOD_SIZES = [b"-0", b"00", b"-01", b"-10000", b"10000", b"-9999", b"0002", b"-0000000000000000000000000000000002"]
 SIZES = [-2, -1, 0, 1, 1, 2, 2, 2, 3, 3, 4]
 BAD_SIZES = [b"", b"-", b"--1", b"+1", b"-10001", b"10001", b"- 1", b"-x", b"1-", b"-1\r", b"-" + b"9" * 40]
+FAR_NUMBERS = [10_000, 10_001, 2**64 - 2, 2**64 - 1]  # behind `shape` and `span`
 # What mutations put in: bytes that mean something.
 BYTES = [b"\t", b"\n", b"\\", b"\r", b"\0", b" ", b"+", b"-", b"0", b"1", b"9", b"t", b"n", b"x", b"\xff", b"\xc3",
          b"\xa9"]
@@ -107,6 +108,35 @@ class Scripts:
             return [word, self.number(), self.number(), b"%d" % self.below(6), b"%d" % self.below(6)]
         return [word] + [self.number() for _ in range(NUMBERED[word])]
 
+    def digits(self, number):
+        """A number behind `shape` or `span`."""
+        if self.faulty("number"):
+            return self.one_of(BAD_NUMBERS)
+        return b"0" * self.one_of([0] * 9 + [1, 30]) + b"%d" % number
+
+    def shape(self, rows, columns):
+        """The shape of the records, or one nearby."""
+        shape = [rows, columns]
+        if self.below(12) == 0:
+            shape = [self.one_of([it, it + 1, max(it, 1) - 1, self.one_of(FAR_NUMBERS)]) for it in shape]
+        return [b"shape", *map(self.digits, shape)]
+
+    def spans(self, rows, columns):
+        """Merged cells, which most often lie inside the table and apart."""
+        free = {*product(range(rows), range(columns))}
+        for _ in range(self.one_of([1, 1, 2, 3, 5])):
+            i, j = self.below(max(rows, 1)), self.below(max(columns, 1))
+            height, width = 1 + self.below(min(3, rows - i)), 1 + self.below(min(3, columns - j))
+            cells = {*product(range(i, i + height), range(j, j + width))}
+            if self.below(16) == 0:
+                yield [self.one_of([it, it, it + 1, 0, self.one_of(FAR_NUMBERS)]) for it in (i, j, height, width)]
+            elif len(cells) > 1 and (cells <= free or self.below(8) == 0):
+                free -= cells
+                yield [i, j, height, width]
+
+    def span(self, numbers):
+        return [b"span", *map(self.digits, numbers)]
+
     def row(self):
         return [b"row"] + [self.text() for _ in range(self.one_of([self.columns, self.columns, self.below(6)]))]
 
@@ -185,10 +215,14 @@ class Scripts:
         self.random = random.Random(f"{self.seed} {number}")
         self.flaw = self.one_of([None] * 3 * len(FLAWS) + FLAWS)  # what is often wrong in this script
         self.columns = self.one_of(LENGTHS)
-        kinds = [self.row] * self.one_of(LENGTHS) + [self.one_of(self.steps) for _ in range(self.below(8))]
-        if self.faulty("order"):
-            self.random.shuffle(kinds)  # so that rows stand behind steps
-        lines = [self.line(kind) for kind in kinds]
+        records = [self.line(self.row) for _ in range(self.one_of(LENGTHS))]
+        shape = len(records), max((it.count(b"\t") for it in records), default=0)
+        steps = [self.line(self.one_of(self.steps)) for _ in range(self.below(8))]
+        shapes = [self.line(lambda: self.shape(*shape))] * (self.below(4) == 0)
+        merged = [self.line(lambda: self.span(it)) for it in self.spans(*shape)] if self.below(3) == 0 else []
+        lines = shapes + records + merged + steps
+        if self.faulty("order") or shapes + merged and self.below(12) == 0:
+            self.random.shuffle(lines)  # so that records stand behind steps
         for _ in range(self.one_of([0, 0, 1, 2])):
             lines.insert(self.below(len(lines) + 1), b"")
         script = b"\n".join(lines) + self.one_of([b"", b"\n"])

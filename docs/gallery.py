@@ -5,6 +5,7 @@ import sys
 import unicodedata
 
 FIELD, CASE = "\x1f", "\x1e"  # what separates the parts of a case, and cases
+IN_FRONT = ("shape", "row", "span")  # words of the lines in front of the steps
 LONG = 80  # characters of a line that a picture shows whole
 GAP = "    gives    "
 
@@ -155,12 +156,12 @@ def indented(text):
 def picture(script, output):
     """The steps of a script, its table and what becomes of it; of a faulty one all lines, and the fault.
 
-    Where all steps but the last only merge cells, these are merged in the first table, too.
+    The first table has the merged cells of `span` lines and, where all steps but the last only merge cells, of these.
     """
     lines, answer = script.split("\n"), output.split("\n")
     if output.startswith("line "):
         return [*map(shortened, lines[:-1]), "", "gives", "", f"    {answer[0]}"]
-    steps = [it for it in lines if it and it.split("\t")[0] not in ("shape", "row", "span")]
+    steps = [it for it in lines if it and it.split("\t")[0] not in IN_FRONT]
     spans, merged = spans_of(answer), spans_of(lines) + merged_by(steps[:-1])
     ruled = spans or merged
     after = drawn(rows_of(answer), spans, ruled)
@@ -172,9 +173,9 @@ def picture(script, output):
 def page(top):
     """docs/SCRIPT.md: its prose, with a picture in place of each line that names one."""
     cases, prose = cases_of(top), (top / "docs/pages/SCRIPT.md").read_text()
-    named = re.findall(r"^shown: (\S+)$", prose, re.M)
+    named = re.findall(r"^(?:shown|script): (\S+)$", prose, re.M)
     for name in {it.stem for it in top.glob("examples/gallery/*.script")} - {*named}:
-        sys.exit(f"docs/pages/SCRIPT.md: no picture shows {name}")
+        sys.exit(f"docs/pages/SCRIPT.md: nothing shows {name}")
     quoted = {"script": lambda it: indented(cases[it][0]), "printed": lambda it: indented(cases[it][1])}
     quoted["shown"] = lambda it: picture(*cases[it])
     words = "|".join(quoted)

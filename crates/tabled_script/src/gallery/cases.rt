@@ -18,13 +18,14 @@ fault-3\u{1f}row\tApple\t3\nset\trow\tfirst\tsold\n\u{1f}line 2: fault 3\n\u{1e}
 fault-4\u{1f}row\tFile\nrow\tC:\\users\n\u{1f}line 2: fault 4\n\u{1e}\
 fault-5\u{1f}row\tApple\t3\nset\tinverse\tinverse\tinverse\tinverse\tinverse\tinverse\tinverse\tinverse\tinverse\tinverse\tinverse\tinverse\tinverse\tinverse\tinverse\tinverse\tinverse\tinverse\tinverse\tinverse\tinverse\tinverse\tinverse\tinverse\tinverse\tinverse\tinverse\tinverse\tinverse\tinverse\tinverse\tinverse\tinverse\tinverse\tinverse\tinverse\tinverse\tinverse\tinverse\tinverse\tinverse\tinverse\tinverse\tinverse\tinverse\tinverse\tinverse\tinverse\tinverse\tinverse\tinverse\tinverse\tinverse\tinverse\tinverse\tinverse\tinverse\tinverse\tinverse\tinverse\tinverse\tinverse\tinverse\tinverse\tall\tsold\n\u{1f}line 2: fault 5\n\u{1e}\
 fault-6\u{1f}row\tApple\t3\nset\tall\t-\nrow\tPear\t5\n\u{1f}line 3: fault 6\n\u{1e}\
-fault-7\u{1f}row\tFruit\tCount\nrow\tApple\t3\nspan\t0\t0\t1\t2\nspan\t0\t1\t2\t1\n\u{1f}line 4: fault 7\n\u{1e}\
-fault-8\u{1f}shape\t1\t2\nrow\tApple\t3\nrow\tPear\t5\n\u{1f}line 1: fault 8\n\u{1e}\
+fault-7\u{1f}row\t2025\t\nrow\tSpring\tAutumn\nspan\t1\t1\t1\t2\n\u{1f}line 3: fault 7\n\u{1e}\
+fault-8\u{1f}shape\t2\t2\nrow\tSpring\tAutumn\nrow\t120\t98\nrow\t131\t102\n\u{1f}line 1: fault 8\n\u{1e}\
 footer\u{1f}row\tApple\t3\nrow\tPear\t5\nfooter\t8 kilos\n\u{1f}shape\t3\t2\nrow\tApple\t3\nrow\tPear\t5\nrow\t8 kilos\t\nspan\t2\t0\t1\t2\n\u{1e}\
 header\u{1f}row\tApple\t3\nrow\tPear\t5\nheader\tFruit\n\u{1f}shape\t3\t2\nrow\tFruit\t\nrow\tApple\t3\nrow\tPear\t5\nspan\t0\t0\t1\t2\n\u{1e}\
 hmerge\u{1f}row\tName\tMaths\tMusic\tArt\nrow\tAda\till\till\t1\nrow\tBen\t2\t2\t2\nhmerge\n\u{1f}shape\t3\t4\nrow\tName\tMaths\tMusic\tArt\nrow\tAda\till\till\t1\nrow\tBen\t2\t2\t2\nspan\t1\t1\t1\t2\nspan\t2\t1\t1\t3\n\u{1e}\
 hpanel\u{1f}row\tApple\t3\nrow\tPear\t5\nrow\tCarrot\t4\nhpanel\t2\tVegetables\n\u{1f}shape\t4\t2\nrow\tApple\t3\nrow\tPear\t5\nrow\tVegetables\t\nrow\tCarrot\t4\nspan\t2\t0\t1\t2\n\u{1e}\
 months\u{1f}row\tRegion\tMonth\tUnits\nrow\tNorth\tJanuary\t120\nrow\tNorth\tFebruary\t98\nrow\tSouth\tJanuary\t87\nrow\tSouth\tFebruary\t101\n\nset\tintersect\tname\tUnits\tcontent\t120\t120 (best)\nvmerge\nheader\tSales of two months\nfooter\t406 units\n\u{1f}shape\t7\t3\nrow\tSales of two months\t\t\nrow\tRegion\tMonth\tUnits\nrow\tNorth\tJanuary\t120 (best)\nrow\tNorth\tFebruary\t98\nrow\tSouth\tJanuary\t87\nrow\tSouth\tFebruary\t101\nrow\t406 units\t\t\nspan\t0\t0\t1\t3\nspan\t2\t0\t2\t1\nspan\t4\t0\t2\t1\nspan\t6\t0\t1\t3\n\u{1e}\
+pipe\u{1f}shape\t3\t2\nrow\t2025\t\nrow\tSpring\tAutumn\nrow\t120\t98\nspan\t0\t0\t1\t2\nheader\tVisitors\n\u{1f}shape\t4\t2\nrow\tVisitors\t\nrow\t2025\t\nrow\tSpring\tAutumn\nrow\t120\t98\nspan\t0\t0\t1\t2\nspan\t1\t0\t1\t2\n\u{1e}\
 remove-columns\u{1f}row\tName\tMaths\tMusic\tArt\nrow\tAda\t1\t2\t1\nrow\tBen\t3\t1\t2\nremove\tcolumns\t1\t2\n\u{1f}shape\t3\t3\nrow\tName\tMusic\tArt\nrow\tAda\t2\t1\nrow\tBen\t1\t2\n\u{1e}\
 remove-merged\u{1f}row\tFruit\tPrice\tPrice\nrow\tFruit\tNorth\tSouth\nrow\tApple\t2\t3\nrow\tPear\t4\t5\nrspan\t2\tcell\t0\t0\ncspan\t2\tcell\t0\t1\nremove\trows\t1\t2\n\u{1f}shape\t3\t3\nrow\tFruit\tPrice\tPrice\nrow\tApple\t2\t3\nrow\tPear\t4\t5\nspan\t0\t1\t1\t2\n\u{1e}\
 remove-named\u{1f}row\tName\tMaths\tMusic\tArt\nrow\tAda\t1\t2\t1\nrow\tBen\t3\t1\t2\nremove\tnamed\tMusic\n\u{1f}shape\t3\t3\nrow\tName\tMaths\tArt\nrow\tAda\t1\t1\nrow\tBen\t3\t2\n\u{1e}\
@@ -65,8 +66,8 @@ select-segment\u{1f}row\tName\tMaths\tMusic\tArt\nrow\tAda\t1\t2\t1\nrow\tBen\t3
 select-skip\u{1f}row\tName\tMaths\tMusic\tArt\nrow\tAda\t1\t2\t1\nrow\tBen\t3\t1\t2\nrow\tEva\t2\t3\t1\nset\tskip\t2\tcontent\t1\tbest\n\u{1f}shape\t4\t4\nrow\tName\tMaths\tMusic\tArt\nrow\tAda\t1\t2\t1\nrow\tBen\t3\tbest\t2\nrow\tEva\t2\t3\tbest\n\u{1e}\
 select-step\u{1f}row\tName\tMaths\tMusic\tArt\nrow\tAda\t1\t2\t1\nrow\tBen\t3\t1\t2\nrow\tEva\t2\t3\t1\nset\tstep\t2\trows\t0\t4\t-\n\u{1f}shape\t4\t4\nrow\t-\t-\t-\t-\nrow\tAda\t1\t2\t1\nrow\t-\t-\t-\t-\nrow\tEva\t2\t3\t1\n\u{1e}\
 set\u{1f}row\tFruit\tKilos\nrow\tApple\t3\nrow\tPear\nset\tcell\t2\t1\t5\n\u{1f}shape\t3\t2\nrow\tFruit\tKilos\nrow\tApple\t3\nrow\tPear\t5\n\u{1e}\
-shape\u{1f}shape\t2\t2\nrow\tFruit\tCount\nrow\tPear\n\u{1f}shape\t2\t2\nrow\tFruit\tCount\nrow\tPear\t\n\u{1e}\
-span\u{1f}row\t2025\t\nrow\tSpring\tAutumn\nrow\t120\t98\nspan\t0\t0\t1\t2\n\u{1f}shape\t3\t2\nrow\t2025\t\nrow\tSpring\tAutumn\nrow\t120\t98\nspan\t0\t0\t1\t2\n\u{1e}\
+shape\u{1f}shape\t3\t2\nrow\tFruit\tKilos\nrow\tApple\t3\nrow\tPear\n\u{1f}shape\t3\t2\nrow\tFruit\tKilos\nrow\tApple\t3\nrow\tPear\t\n\u{1e}\
+span\u{1f}row\tFruit\tPrice\tPrice\nrow\tFruit\tNorth\tSouth\nrow\tApple\t2\t3\nspan\t0\t1\t1\t2\nspan\t0\t0\t2\t1\n\u{1f}shape\t3\t3\nrow\tFruit\tPrice\tPrice\nrow\tFruit\tNorth\tSouth\nrow\tApple\t2\t3\nspan\t0\t0\t2\t1\nspan\t0\t1\t1\t2\n\u{1e}\
 split-column\u{1f}row\tApple\t3\tPear\t5\nrow\tPlum\t8\nsplit\tcolumn\t2\tconcat\tclean\n\u{1f}shape\t3\t2\nrow\tApple\t3\nrow\tPlum\t8\nrow\tPear\t5\n\u{1e}\
 split-merged\u{1f}row\tJan\tJan\tFeb\tFeb\nrow\t2\t3\t4\t5\nrow\tTotal\tTotal\tTotal\tTotal\ncspan\t2\tcell\t0\t0\ncspan\t2\tcell\t0\t2\ncspan\t4\tcell\t2\t0\nsplit\tcolumn\t2\tconcat\tclean\n\u{1f}shape\t6\t2\nrow\tJan\tJan\nrow\t2\t3\nrow\tTotal\tTotal\nrow\tFeb\tFeb\nrow\t4\t5\nrow\tTotal\tTotal\nspan\t0\t0\t1\t2\nspan\t3\t0\t1\t2\n\u{1e}\
 split-row\u{1f}row\tApple\t3\nrow\tPear\t5\nrow\tPlum\t8\nsplit\trow\t2\tzip\tretain\n\u{1f}shape\t2\t4\nrow\tApple\tPlum\t3\t8\nrow\tPear\t\t5\t\n\u{1e}\
