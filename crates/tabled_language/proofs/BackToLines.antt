@@ -51,7 +51,7 @@ pub shape_back : (rows columns : ℕ) → rows < 2 ^ 64 → columns < 2 ^ 64 →
 shape_back rows columns r c =
     let read : whole reads_shape (shape_words rows columns) ≡ Ok (rows, columns) = rw (size_of-decimal rows r, size_of-decimal columns c) refl in
     line_of-texts (joined (codes "shape" ∷ shape_words rows columns)) (codes "shape" ∷ shape_words rows columns) (omega arith)
-        (texts_of-joined (codes "shape") (shape_words rows columns) shape_utf8 (decimal-utf8 rows r, (decimal-utf8 columns c, tt)))
+    (texts_of-joined (codes "shape") (shape_words rows columns) shape_utf8 (decimal-utf8 rows r, (decimal-utf8 columns c, tt)))
     ∙ ap ShapeLine read
 
 -- the words of an anchor
@@ -102,15 +102,15 @@ anchor_back : (e : Anchor) → IsSmall e → IsSpanSize e.1 → whole reads_anch
 anchor_back e small size =
     let sizes = decimal e.1.0 ∷ decimal e.1.1 ∷ [] in
     whole-read reads_anchor (span_words e) e
-        (reads-next reads_size behind_row (span_words e) (decimal e.0.col ∷ sizes) e.0.row (size_read e.0.row (decimal e.0.col ∷ sizes) small.row)
-        ∙ reads-next reads_size (λ column. behind_column e.0.row column) (decimal e.0.col ∷ sizes) sizes e.0.col (size_read e.0.col sizes small.col)
-        ∙ reads-next reads_extent (λ height. behind_height e.0.row e.0.col height) sizes (decimal e.1.1 ∷ []) e.1.0 (extent_read e.1.0 (decimal e.1.1 ∷ []) small.height size.height)
-        ∙ reads-next (reads_width e.1.0) (λ width. gives (place e.0.row e.0.col, (e.1.0, width))) (decimal e.1.1 ∷ []) [] e.1.1 (width_read e.1.0 e.1.1 [] small.width size.width size.merges))
+    (reads-next reads_size behind_row (span_words e) (decimal e.0.col ∷ sizes) e.0.row (size_read e.0.row (decimal e.0.col ∷ sizes) small.row)
+    ∙ reads-next reads_size (λ column. behind_column e.0.row column) (decimal e.0.col ∷ sizes) sizes e.0.col (size_read e.0.col sizes small.col)
+    ∙ reads-next reads_extent (λ height. behind_height e.0.row e.0.col height) sizes (decimal e.1.1 ∷ []) e.1.0 (extent_read e.1.0 (decimal e.1.1 ∷ []) small.height size.height)
+    ∙ reads-next (reads_width e.1.0) (λ width. gives (place e.0.row e.0.col, (e.1.0, width))) (decimal e.1.1 ∷ []) [] e.1.1 (width_read e.1.0 e.1.1 [] small.width size.width size.merges))
 
 pub span_back : (e : Anchor) → IsSmall e → IsSpanSize e.1 → line_of (joined (codes "span" ∷ span_words e)) ≡ SpanLine (Ok e)
 span_back e small size =
     line_of-texts (joined (codes "span" ∷ span_words e)) (codes "span" ∷ span_words e) (omega arith)
-        (texts_of-joined (codes "span") (span_words e) span_utf8 (decimal-utf8 e.0.row small.row, (decimal-utf8 e.0.col small.col, (decimal-utf8 e.1.0 small.height, (decimal-utf8 e.1.1 small.width, tt)))))
+    (texts_of-joined (codes "span") (span_words e) span_utf8 (decimal-utf8 e.0.row small.row, (decimal-utf8 e.0.col small.col, (decimal-utf8 e.1.0 small.height, (decimal-utf8 e.1.1 small.width, tt)))))
     ∙ ap SpanLine (anchor_back e small size)
 
 -- lines of things, each of which says what it says

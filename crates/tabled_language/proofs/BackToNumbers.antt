@@ -24,7 +24,7 @@ number_to-decimal largest n most fits =
     let value : digits_value 10 (decimal n) ≡ n = digits_value-decimal own n fits in
     let some : 0 < length (decimal n) = decimal_nonempty n fits in
     some_if (not (eqb (length (decimal n)) 0)) (all_ascii_digits (decimal n)) (leb (digits_value 10 (decimal n)) largest) (digits_value 10 (decimal n)) n
-        (grind (arith, nat_tests)) (digits_decimal own n fits) (grind (arith, nat_tests)) value
+    (grind (arith, nat_tests)) (digits_decimal own n fits) (grind (arith, nat_tests)) value
 
 -- also those of `usize::MAX`
 pub size_of-decimal : (n : ℕ) → n < 2 ^ 64 → size_of (decimal n) ≡ Some n

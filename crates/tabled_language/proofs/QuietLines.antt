@@ -74,10 +74,10 @@ in_place r c rows es = block fault_of RecordLine TakesRecords
     (λ earlier texts kept. record { rows = λ others. all-push (RecordLine others) (RecordLine texts) earlier (kept.rows others) refl; spans = λ e. all-push (span e) (RecordLine texts) earlier (kept.spans e) refl })
     rows (map span es ++ EmptyLine ∷ []) (ShapeLine (Ok (r, c)) ∷ []) (record { rows = λ texts. refl; spans = λ e. refl })
     (λ later kept. block fault_of span TakesSpans
-        (λ earlier e takes. rw (takes e) refl)
-        (λ earlier e takes f. all-push (span f) (span e) earlier (takes f) refl)
-        es (EmptyLine ∷ []) later kept.spans
-        (λ last takes. rw (empty_follows last) refl))
+    (λ earlier e takes. rw (takes e) refl)
+    (λ earlier e takes f. all-push (span f) (span e) earlier (takes f) refl)
+    es (EmptyLine ∷ []) later kept.spans
+    (λ last takes. rw (empty_follows last) refl))
 
 -- the shape is that of the table
 pub shape_fine : (g : Grid (List ℕ)) (rows : List (List (List ℕ))) (es : List Anchor) → first_fault (shape_fault g) [] (table g.rows g.columns rows es) ≡ None

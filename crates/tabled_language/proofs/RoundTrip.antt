@@ -33,9 +33,9 @@ lines-print s =
     ap lines_of (append_assoc (shape_bytes s.texts) (row_bytes s.texts.cells) spans)
     ∙ lines_of-line (codes "shape" ∷ shape_words s.texts.rows s.texts.columns) (row_bytes s.texts.cells ++ spans)
     ∙ ap (λ lines. joined (codes "shape" ∷ shape_words s.texts.rows s.texts.columns) ∷ lines)
-        (lines_of-lines (λ (row : List (List ℕ)). codes "row" ∷ row) s.texts.cells spans
-        ∙ ap (λ lines. map (λ (row : List (List ℕ)). joined (codes "row" ∷ row)) s.texts.cells ++ lines)
-            (ap lines_of (sym (append-nil spans)) ∙ lines_of-lines (λ (e : Anchor). codes "span" ∷ span_words e) (entries s.spans) []))
+    (lines_of-lines (λ (row : List (List ℕ)). codes "row" ∷ row) s.texts.cells spans
+    ∙ ap (λ lines. map (λ (row : List (List ℕ)). joined (codes "row" ∷ row)) s.texts.cells ++ lines)
+    (ap lines_of (sym (append-nil spans)) ∙ lines_of-lines (λ (e : Anchor). codes "span" ∷ span_words e) (entries s.spans) []))
 
 small : (rows columns : ℕ) (e : Anchor) → rows < 2 ^ 64 → columns < 2 ^ 64 → IsSpanIn rows columns e → IsSmall e
 small rows columns e r c h = record { row = omega (arith, r, h.bottom); col = omega (arith, c, h.right); height = omega (arith, r, h.bottom); width = omega (arith, c, h.right) }
@@ -49,7 +49,7 @@ says-print s h =
     let rows = all_back (λ (row : List (List ℕ)). codes "row" ∷ row) RecordLine (AllByRecursion IsUtf8) row_back s.texts.cells (map (λ e. joined (codes "span" ∷ span_words e)) (entries s.spans) ++ [] ∷ []) h.texts in
     ap (map line_of) (lines-print s)
     ∙ ap₂ (λ (first : Line) (others : List Line). first ∷ others) (shape_back s.texts.rows s.texts.columns r c)
-        (rows ∙ ap (λ lines. map RecordLine s.texts.cells ++ lines) spans)
+    (rows ∙ ap (λ lines. map RecordLine s.texts.cells ++ lines) spans)
 
 no_fault : (g : Grid (List ℕ)) (es : List Anchor) → table_from g.cells ≡ g → lie_well g.rows g.columns es ≡ true → fault_among (table g.rows g.columns g.cells es) ≡ None
 no_fault g es even well =

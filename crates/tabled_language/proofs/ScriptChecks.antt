@@ -57,13 +57,13 @@ module _ (lines : List Line) (fine : first_fault fault_of [] lines ≡ None) (d 
   pub checked_span : (i n : ℕ) → said ≡ None → IsFirstMisfit rows columns d.anchors i → n ≡ get_or d.lines i 0 → script_or_fault lines ≡ Err (n, SpanMisfits)
   checked_span i n e misfit number =
       span_misfits lines fine i (sym whole ∙ ap (option_map (λ n. (n, ShapeDiffers))) e)
-        (subst (λ (f : Draft). IsFirstMisfit (table_from f.records).rows (table_from f.records).columns f.anchors i) is (subst (λ r. IsFirstMisfit r (table_from d.records).columns d.anchors i) shape.tall (subst (λ c. IsFirstMisfit rows c d.anchors i) shape.wide misfit)))
+      (subst (λ (f : Draft). IsFirstMisfit (table_from f.records).rows (table_from f.records).columns f.anchors i) is (subst (λ r. IsFirstMisfit r (table_from d.records).columns d.anchors i) shape.tall (subst (λ c. IsFirstMisfit rows c d.anchors i) shape.wide misfit)))
       ∙ ap (λ m. Err (m, SpanMisfits)) (sym (number ∙ ap (λ (f : Draft). get_or f.lines i 0) is))
 
   pub checked_all : (m : SpanMap) → said ≡ None → fit_in rows columns d.anchors ≡ true → m ≡ from_entries d.anchors → script_or_fault lines ≡ Ok (record { records = d.records; spans = m; steps = d.steps })
   checked_all m e fit made =
       all_fits lines fine (sym whole ∙ ap (option_map (λ n. (n, ShapeDiffers))) e)
-        (subst (λ (f : Draft). fit_in (table_from f.records).rows (table_from f.records).columns f.anchors ≡ true) is (subst (λ r. fit_in r (table_from d.records).columns d.anchors ≡ true) shape.tall (subst (λ c. fit_in rows c d.anchors ≡ true) shape.wide fit)))
+      (subst (λ (f : Draft). fit_in (table_from f.records).rows (table_from f.records).columns f.anchors ≡ true) is (subst (λ r. fit_in r (table_from d.records).columns d.anchors ≡ true) shape.tall (subst (λ c. fit_in rows c d.anchors ≡ true) shape.wide fit)))
       ∙ sym (ap (λ (k : SpanMap). Ok (scripted d k)) made ∙ ap (λ (f : Draft). Ok (scripted f (from_entries f.anchors))) is)
     where
       scripted : Draft → SpanMap → Script

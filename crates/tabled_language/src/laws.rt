@@ -9,11 +9,9 @@ ghost use Rattle.tabled_steps.specs.States.{State};
 /// What is written of a table is read as that table, its merged cells, and no steps.
 pub fn what_is_written_is_read_back()
     ensures { (s : State) → IsTable s → ReadsBack s }
-{
-}
+{}
 
 /// A script in which no line begins with `shape` or `span` is its records and its steps.
 pub fn scripts_of_records_and_steps_keep_their_meaning()
     ensures { (input : List ℕ) → has_either_word input ≡ false → parse input ≡ plain_parse input }
-{
-}
+{}

@@ -9,5 +9,4 @@ ghost use Rattle.tabled_script.specs.Answer.{ended};
 /// the same bytes.
 pub fn outputs_are_given_again()
     ensures { (script : Script) → IsTable (ended script) → GivesAgain script }
-{
-}
+{}

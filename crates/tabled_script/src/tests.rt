@@ -144,7 +144,10 @@ fn answers_tables(rt: HostRuntime) -> Result<(), Fail> {
             "shape\t2\t3\nrow\ta\t\t\nrow\tb\tc\td\nspan\t0\t1\t1\t2\n",
         ),
         // A word with an escape, which is read in another way, changes nothing.
-        ("row\t\\\\\tb\nspan\t0\t0\t1\t2\n", "shape\t1\t2\nrow\t\\\\\tb\nspan\t0\t0\t1\t2\n"),
+        (
+            "row\t\\\\\tb\nspan\t0\t0\t1\t2\n",
+            "shape\t1\t2\nrow\t\\\\\tb\nspan\t0\t0\t1\t2\n",
+        ),
         ("row\ta\tb\nspan\t0\t1\t1\t2\n", "line 2: fault 7\n"),
         ("row\ta\tb\nspan\t0\t0\t1\t1\n", "line 2: fault 3\n"),
         ("span\t0\t0\t1\t2\n", "line 1: fault 7\n"),
@@ -165,7 +168,10 @@ fn answers_tables(rt: HostRuntime) -> Result<(), Fail> {
         ("shape\t0\t0\t", "line 1: fault 2\n"),
         ("shape\tx", "line 1: fault 3\n"),
         ("shape\t18446744073709551616\t0", "line 1: fault 3\n"),
-        ("shape\t18446744073709551615\t18446744073709551615", "line 1: fault 8\n"),
+        (
+            "shape\t18446744073709551615\t18446744073709551615",
+            "line 1: fault 8\n",
+        ),
         ("span\t0\t0\t1", "line 1: fault 2\n"),
         ("span\t0\t0\t1\t2\t3", "line 1: fault 2\n"),
         ("span\t0\t0\t0", "line 1: fault 3\n"),
@@ -177,7 +183,10 @@ fn answers_tables(rt: HostRuntime) -> Result<(), Fail> {
             "row\ta\tb\nspan\t18446744073709551615\t18446744073709551615\t18446744073709551615\t18446744073709551615\n",
             "line 2: fault 7\n",
         ),
-        ("row\ta\tb\nspan\t0\t0\t18446744073709551615\t2\n", "line 2: fault 7\n"),
+        (
+            "row\ta\tb\nspan\t0\t0\t18446744073709551615\t2\n",
+            "line 2: fault 7\n",
+        ),
         // The later of two lines that share a cell is at fault, and the first such line, behind all other faults.
         (
             "row\ta\tb\tc\nspan\t0\t1\t1\t2\nspan\t0\t0\t1\t2\n",

@@ -20,10 +20,25 @@ have_places-requires-clause-sizes c =
     rw c.deref.ensures.value (sorted_sizes es fs order)
 
 pub from_anchors-requires : goal.from_anchors-requires
-from_anchors-requires c = ?
+from_anchors-requires c =
+    let es = c.args.anchors.now in
+    let fs = c.sort_unstable_by_key.new.self.items in
+    let order : InOrder es fs = in_order es c.in_ok-sorted.sorted.items fs c.in_ok-sorted.ensures.items c.sort_unstable_by_key.ensures.permutation c.requires (c.sort_unstable_by_key.ensures.sorted (λ (e : Anchor). e.0) (answers_always _ _ _ (λ f a r g h. search rules))) in
+    let fit : fit_in c.args.rows c.args.columns fs ≡ true = ap (fit_in c.args.rows c.args.columns) (sym c.deref.ensures.value) ∙ sym c.in_ok-have_places.ensures ∙ c.if-branch.true in
+    are_anchors c.args.rows c.args.columns es fs order fit
 
 pub returns-then-branch : goal.returns-then-branch
-returns-then-branch c = ?
+returns-then-branch c =
+    let es = c.args.anchors.now in
+    let fs = c.sort_unstable_by_key.new.self.items in
+    let order : InOrder es fs = in_order es c.in_ok-sorted.sorted.items fs c.in_ok-sorted.ensures.items c.sort_unstable_by_key.ensures.permutation c.requires (c.sort_unstable_by_key.ensures.sorted (λ (e : Anchor). e.0) (answers_always _ _ _ (λ f a r g h. search rules))) in
+    let fit : fit_in c.args.rows c.args.columns fs ≡ true = ap (fit_in c.args.rows c.args.columns) (sym c.deref.ensures.value) ∙ sym c.in_ok-have_places.ensures ∙ c.if-branch.true in
+    told_fit c.args.rows c.args.columns es fs c.from_anchors.result order fit c.from_anchors.ensures.anchors
 
 pub returns-else-branch : goal.returns-else-branch
-returns-else-branch c = ?
+returns-else-branch c =
+    let es = c.args.anchors.now in
+    let fs = c.sort_unstable_by_key.new.self.items in
+    let order : InOrder es fs = in_order es c.in_ok-sorted.sorted.items fs c.in_ok-sorted.ensures.items c.sort_unstable_by_key.ensures.permutation c.requires (c.sort_unstable_by_key.ensures.sorted (λ (e : Anchor). e.0) (answers_always _ _ _ (λ f a r g h. search rules))) in
+    let unfit : fit_in c.args.rows c.args.columns fs ≡ false = ap (fit_in c.args.rows c.args.columns) (sym c.deref.ensures.value) ∙ sym c.in_ok-have_places.ensures ∙ c.if-branch.false in
+    told_unfit c.args.rows c.args.columns es fs order unfit

@@ -44,4 +44,4 @@ loop-anchor-preserved c =
     let e = get_or es k beyond in
     let is : e ≡ get_or es k e = get_or_default es k beyond e c.loop-anchor-test.true in
     has_walked-more c.args.rows c.args.columns es k c.loop-anchor.reaching c.is_clear.new.reaching c.insert.new.self e c.loop-anchor.invariant c.requires.rising c.loop-anchor-test.true is
-        (size_at es k beyond c.loop-anchor-test.true c.requires.sizes).width (sym c.is_inside.ensures ∙ c.if-not-is_inside.false) c.if-not-is_clear.ensures.clear c.is_clear.ensures.kept c.is_clear.ensures.gone c.in_ok-insert.ensures.updates.0
+    (size_at es k beyond c.loop-anchor-test.true c.requires.sizes).width (sym c.is_inside.ensures ∙ c.if-not-is_inside.false) c.if-not-is_clear.ensures.clear c.is_clear.ensures.kept c.is_clear.ensures.gone c.in_ok-insert.ensures.updates.0
