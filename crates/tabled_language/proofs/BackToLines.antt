@@ -1,10 +1,9 @@
 -- Lines that are written are read as what they say.
-use Rattle.std.proofs.Common.{◌≡◌, ◌≢◌, ℕ, ◌<◌, ◌≤◌, ◌⊎◌, inl, inr, ◌^◌, ◌&&◌, Bool, true, false, cond, eqb, ne_eqb, List, [], ◌∷◌, ◌++◌, length, map, codes, Some, Ok, refl, sym, ap, subst, ◌∙◌, arith}
+use Rattle.std.proofs.Common.{◌≡◌, ℕ, ◌<◌, ◌≤◌, ◌⊎◌, inl, inr, ◌^◌, ◌&&◌, false, cond, eqb, ne_eqb, List, [], ◌∷◌, ◌++◌, length, map, codes, Some, Ok, refl, ap, ◌∙◌, arith}
 use Rattle.std.specs.Fmt.{decimal}
-use Rattle.std.specs.List.{AllByRecursion, flat_map}
+use Rattle.std.specs.List.{AllByRecursion}
 use Rattle.std.specs.Str.{IsUtf8, chars, is_utf8}
 use Rattle.std.proofs.lemmas.Bool.{and_left, and_right}
-use Rattle.std.proofs.lemmas.List.{append-nil, append_assoc}
 use Rattle.std.proofs.lemmas.Str.{IsUtf8-from_is_utf8}
 use Rattle.tabled_grid.specs.Anchors.{Anchor}
 use Rattle.tabled_grid.specs.Spans.{IsSpanSize}
@@ -13,7 +12,7 @@ use Rattle.tabled_grid.specs.Entity.{place}
 use Rattle.tabled_language.specs.declared.fault.Fault.TheVariants.{NumberRange}
 use Rattle.tabled_language.specs.Sizes.{reads_anchor, reads_shape, reads_width}
 use Rattle.tabled_language.specs.Output.{joined}
-use Rattle.tabled_language.specs.Verb.{Line, EmptyLine, ShapeLine, RecordLine, SpanLine, says}
+use Rattle.tabled_language.specs.Verb.{Line, ShapeLine, RecordLine, SpanLine}
 use Rattle.tabled_language.specs.Words.{Reading, fails, gives, reads_extent, reads_size, then_reads, whole}
 use Rattle.tabled_language.proofs.BackToNumbers.{decimal-utf8, size_of-decimal}
 use Rattle.tabled_language.proofs.BackToTexts.{texts_of-joined}

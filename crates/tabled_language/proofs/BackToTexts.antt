@@ -1,13 +1,12 @@
 -- What is written of texts is read as these texts.
-use Rattle.std.proofs.Common.{◌≡◌, ℕ, Bool, true, false, cond, eqb, eq-eqb, ne_eqb, codes, List, [], ◌∷◌, ◌++◌, length, map, Some, refl, sym, ap, subst, ◌∙◌, arith}
+use Rattle.std.proofs.Common.{◌≡◌, ℕ, Bool, true, false, cond, eqb, eq-eqb, codes, List, [], ◌∷◌, ◌++◌, map, Some, refl, sym, ap, ◌∙◌}
 use Rattle.std.specs.List.{AllByRecursion, flat_map, join_with_byte, slice_split}
 use Rattle.std.specs.Str.{IsUtf8}
-use Rattle.std.proofs.lemmas.Bool.{cases_Bool, eqb-true}
-use Rattle.std.proofs.lemmas.List.{append-nil, append_assoc}
-use Rattle.std.proofs.lemmas.List.Elements.{All-from_recursion, recursion_from_All}
+use Rattle.std.proofs.lemmas.Bool.{eqb-true}
+use Rattle.std.proofs.lemmas.List.{append_assoc}
+use Rattle.std.proofs.lemmas.List.Elements.{All-from_recursion}
 use Rattle.std.proofs.lemmas.List.Splits.{slice_split_at, slice_split_none}
 use Rattle.std.proofs.lemmas.Str.{is_utf8-from_IsUtf8}
-use Rattle.std.specs.List.{All}
 use Rattle.tabled_language.specs.Line.{lines_of, texts_of, words_of}
 use Rattle.tabled_language.specs.Output.{escaped, escaped_byte, joined, line}
 use Rattle.tabled_language.specs.Word.{before, text_of_word, unescaped}

@@ -1,5 +1,5 @@
 -- A draft line by line, and what it says at the end.
-use Rattle.std.proofs.Common.{◌≡◌, ℕ, zero, suc, ◌+◌, length, get_or, List, [], ◌∷◌, ◌++◌, map, Option, true, None, Some, Result, Ok, Err, refl, sym, ap, ap₂, ◌∙◌, arith}
+use Rattle.std.proofs.Common.{◌≡◌, ℕ, ◌+◌, length, get_or, List, [], ◌∷◌, ◌++◌, map, Option, true, None, Some, Ok, Err, refl, ap, ◌∙◌, arith}
 use Rattle.std.specs.Prelude.{filter_map}
 use Rattle.std.specs.FinMap.{from_entries}
 use Rattle.std.specs.Option.{option_map, option_or}
@@ -10,7 +10,7 @@ use Rattle.tabled_steps.specs.States.{State}
 use Rattle.tabled_language.specs.declared.fault.Fault.{Fault}
 use Rattle.tabled_language.specs.declared.fault.Fault.TheVariants.{SpanMisfits}
 use Rattle.tabled_language.specs.Drafts.{Draft, anchor_lines, draft_of, shape_among, shape_misfit, with_line}
-use Rattle.tabled_language.specs.Line.{Script, anchor_in, fault_among, fault_of, first_fault, record_in, script_of, script_or_fault, shape_fault, shape_in, span_fault, step_in, table_from}
+use Rattle.tabled_language.specs.Line.{anchor_in, fault_of, first_fault, record_in, script_or_fault, shape_in, step_in, table_from}
 use Rattle.tabled_language.specs.Placed.{IsFirstMisfit, fit_in}
 use Rattle.tabled_language.specs.Verb.{Line}
 use Rattle.tabled_language.proofs.DraftLines.{shape_told}

@@ -1,27 +1,27 @@
 -- Anchors have places in any order, or in none.
-use Rattle.std.proofs.Common.{◌≡◌, ℕ, zero, suc, ◌+◌, ◌-◌, ◌≤◌, ◌<◌, ◌⊎◌, inl, inr, ◌&&◌, ◌||◌, Bool, true, false, cond, not, eqb, length, get_or, take, List, [], ◌∷◌, ◌++◌, Some, refl, sym, ap, ap₂, subst, ◌∙◌, arith}
+use Rattle.std.proofs.Common.{◌≡◌, ℕ, suc, ◌+◌, ◌≤◌, ◌<◌, ◌⊎◌, inl, inr, ◌&&◌, Bool, true, false, cond, not, length, get_or, take, List, [], ◌∷◌, ◌++◌, Some, refl, sym, ap, subst, ◌∙◌, arith}
 use Rattle.std.specs.Prelude.{T, Option, None, is_some}
 use Rattle.std.proofs.Math.Numerals.{add-one}
-use Rattle.std.specs.FinMap.{FinMap, empty, find, from_entries, from_sorted, get, get-from_entries, get-from_sorted, is_sorted, same_map}
+use Rattle.std.specs.FinMap.{find, from_entries, from_sorted, get-from_entries, get-from_sorted, is_sorted, same_map}
 use Rattle.std.specs.FinMap.Entries.{below_all}
-use Rattle.std.specs.List.{All, AllByRecursion, IsDistinct, list_all, list_any}
+use Rattle.std.specs.List.{AllByRecursion, IsDistinct, list_all, list_any}
 use Rattle.std.specs.List.Sorted.{IsPermutation, IsSortedByKey}
-use Rattle.std.specs.Ordering.{eq_by_cmp, is_eq, is_lt, ordering_reverse}
+use Rattle.std.specs.Ordering.{is_eq, is_lt, ordering_reverse}
 use Rattle.std.specs.declared.cmp.Ordering.{Ordering}
 use Rattle.std.specs.declared.cmp.Ordering.TheVariants.{Less, Equal, Greater}
-use Rattle.std.proofs.lemmas.Bool.{cases_lt, lt-ltb, and_from, and_left, and_right, and_parts, not-true, not_from_false, or_parts, or_from, false_from_ne_true}
-use Rattle.std.proofs.lemmas.List.{append-nil, append_assoc, get_or_default, take_more}
+use Rattle.std.proofs.lemmas.Bool.{cases_Bool, cases_lt, lt-ltb, and_from, and_parts, not-true, not_from_false, or_parts, or_from, false_from_ne_true}
+use Rattle.std.proofs.lemmas.List.{append-nil, append_assoc, take_more}
 use Rattle.std.proofs.lemmas.List.Elements.{All-from_recursion, recursion_from_All}
 use Rattle.std.proofs.lemmas.List.Sorted.{All-permutation, IsPermutation-sym}
-use Rattle.std.proofs.lemmas.Map.Keys.{IsDistinct-IsPermutation, IsDistinct-cons, IsDistinct-head, IsDistinct-tail}
+use Rattle.std.proofs.lemmas.Map.Keys.{IsDistinct-IsPermutation}
 use Rattle.tabled_grid.specs.Anchors.{Anchor, lies_inside, meets}
-use Rattle.tabled_grid.specs.Spans.{AreAnchors, IsSpanSize, SpanMap, position_cmp}
+use Rattle.tabled_grid.specs.Spans.{AreAnchors, IsSpanSize, position_cmp}
 use Rattle.tabled_grid.specs.declared.config.position.Position.{Position}
 use Rattle.tabled_grid.proofs.MergedAnchors.{below_more}
 use Rattle.std.proofs.lemmas.Option.{none-some, same_Some}
 use Rattle.std.proofs.lemmas.Cmp.{tied_itself}
-use Rattle.tabled_grid.proofs.PassedAnchors.{Meets, meets-from}
-use Rattle.tabled_grid.proofs.SpanMaps.{equal, found_above, halves, less}
+use Rattle.tabled_grid.proofs.PassedAnchors.{meets-from}
+use Rattle.tabled_grid.proofs.SpanMaps.{equal, halves, less}
 use Rattle.tabled_grid.proofs.Spans.{positions_exact, positions_total}
 use Rattle.tabled_language.specs.Placed.{IsFirstMisfit, fit_in, has_place, have_places}
 use Rattle.tabled_language.specs.Walk.{RowsRise}
@@ -222,7 +222,7 @@ sizes-moved : (es fs : List Anchor) → IsPermutation es fs → AllByRecursion (
 sizes-moved es fs moved sizes = recursion_from_All _ fs (All-permutation (λ (e : Anchor). IsSpanSize e.1) es fs moved (All-from_recursion _ es sizes))
 
 -- what rises is a list of anchors
-pub anchors_of : (es fs : List Anchor) → InOrder es fs → rising fs ≡ true → AreAnchors fs
+anchors_of : (es fs : List Anchor) → InOrder es fs → rising fs ≡ true → AreAnchors fs
 anchors_of es fs h high = record { sorted = sorted-rising fs high; sizes = sizes-moved es fs h.moved h.sizes }
 
 map_is : (es fs : List Anchor) → InOrder es fs → rising fs ≡ true → from_sorted {R = position_cmp} fs ≡ from_entries {R = position_cmp} es
@@ -254,15 +254,17 @@ fit_back rows columns es fs moved h = placed-to rows columns [] es (placed-moved
 rises : (rows columns : ℕ) (es fs : List Anchor) → InOrder es fs → fit_in rows columns fs ≡ true → rising fs ≡ true
 rises rows columns es fs h fit = rising-sorted fs (sorted_sizes es fs h) (placed-from rows columns [] fs fit).0.apart h.up
 
--- so they are those of a map
-pub are_anchors : (rows columns : ℕ) (es fs : List Anchor) → InOrder es fs → fit_in rows columns fs ≡ true → AreAnchors fs
-are_anchors rows columns es fs h fit = anchors_of es fs h (rises rows columns es fs h fit)
+-- so they are those of the map of all
+pub map_of_sorted : (rows columns : ℕ) (es fs : List Anchor) → InOrder es fs → fit_in rows columns fs ≡ true → AreAnchors fs × (from_sorted {R = position_cmp} fs ≡ from_entries {R = position_cmp} es)
+map_of_sorted rows columns es fs h fit = let up = rises rows columns es fs h fit in (anchors_of es fs h up, map_is es fs h up)
 
-pub told_fit : (rows columns : ℕ) (es fs : List Anchor) (m : SpanMap) → InOrder es fs → fit_in rows columns fs ≡ true → m ≡ from_sorted fs → (fit_in rows columns es ≡ true) × (m ≡ from_entries es)
-told_fit rows columns es fs m h fit is = (fit_back rows columns es fs h.moved fit, is ∙ map_is es fs h (rises rows columns es fs h fit))
-
-pub told_unfit : (rows columns : ℕ) (es fs : List Anchor) → InOrder es fs → fit_in rows columns fs ≡ false → fit_in rows columns es ≡ false
-told_unfit rows columns es fs h unfit = false_from_ne_true _ (λ fit. never (sym (fit_back rows columns fs es (IsPermutation-sym es fs h.moved) fit) ∙ unfit))
+-- anchors have places just where they have them in order
+pub told : (rows columns : ℕ) (es fs : List Anchor) → IsPermutation es fs → fit_in rows columns fs ≡ fit_in rows columns es
+told rows columns es fs moved = by (cases_Bool (fit_in rows columns fs))
   where
     never : true ≡ false → ⊥
     never e = cc
+
+    by : (fit_in rows columns fs ≡ true) ⊎ (fit_in rows columns fs ≡ false) → fit_in rows columns fs ≡ fit_in rows columns es
+    by (inl fit) = fit ∙ sym (fit_back rows columns es fs moved fit)
+    by (inr unfit) = unfit ∙ sym (false_from_ne_true _ (λ fit. never (sym (fit_back rows columns fs es (IsPermutation-sym es fs moved) fit) ∙ unfit)))

@@ -1,8 +1,8 @@
 -- Scripts without the words of tables mean what their records and steps say.
-use Rattle.std.proofs.Common.{◌≡◌, ℕ, Bool, true, false, cond, ◌&&◌, ◌||◌, not, List, [], ◌∷◌, ◌++◌, codes, map, Option, None, Some, Result, Ok, Err, refl, sym, ap, ap₂, subst, ◌∙◌}
+use Rattle.std.proofs.Common.{◌≡◌, ℕ, Bool, true, false, cond, ◌||◌, not, List, [], ◌∷◌, ◌++◌, codes, map, Option, None, Some, Result, Ok, Err, refl, sym, ap, ap₂, ◌∙◌}
 use Rattle.std.specs.Prelude.{filter_map}
 use Rattle.std.specs.FinMap.{empty, from_entries}
-use Rattle.std.specs.List.{AllByRecursion, list_all, list_any}
+use Rattle.std.specs.List.{AllByRecursion, list_any}
 use Rattle.std.specs.Option.{option_or}
 use Rattle.std.specs.Str.{bytes_eq}
 use Rattle.std.proofs.lemmas.Bool.{or_parts}
@@ -13,8 +13,8 @@ use Rattle.tabled_grid.specs.Spans.{SpanMap}
 use Rattle.tabled_steps.specs.States.{State}
 use Rattle.tabled_language.specs.declared.fault.Fault.{Fault}
 use Rattle.tabled_language.specs.declared.fault.Fault.TheVariants.{OutOfPlace}
-use Rattle.tabled_language.specs.Line.{Script, anchor_in, fault_among, fault_of, first_fault, is_in_place, line_of, may_follow, meaning_of, parse, record_in, script_of, script_or_fault, shape_fault, span_fault, step_in, table_from, words_fault}
-use Rattle.tabled_language.specs.Plain.{begin_a_table, has_either_word, is_step, plain_fault, plain_fault_of, plain_line_of, plain_meaning_of, plain_parse, plain_script, says_plainly}
+use Rattle.tabled_language.specs.Line.{Script, anchor_in, fault_among, fault_of, first_fault, is_in_place, line_of, may_follow, meaning_of, parse, record_in, script_or_fault, shape_fault, span_fault, step_in, table_from}
+use Rattle.tabled_language.specs.Plain.{begin_a_table, has_either_word, is_step, plain_fault, plain_line_of, plain_meaning_of, plain_parse, plain_script, says_plainly}
 use Rattle.tabled_language.specs.Line.{lines_of, texts_of, words_of}
 use Rattle.tabled_language.specs.Verb.{Line, EmptyLine, RecordLine, ShapeLine, SpanLine, StepLine, FaultyLine, says, step_line, steps}
 use Rattle.tabled_language.specs.Words.{behind, whole}

@@ -1,19 +1,18 @@
 -- What is written of a table is read as that table.
-use Rattle.std.proofs.Common.{◌≡◌, ℕ, ◌+◌, ◌<◌, ◌≤◌, ◌^◌, List, [], ◌∷◌, ◌++◌, map, codes, true, None, Some, Ok, refl, sym, ap, ap₂, subst, ◌∙◌, arith}
+use Rattle.std.proofs.Common.{◌≡◌, ℕ, ◌<◌, ◌^◌, List, [], ◌∷◌, ◌++◌, map, codes, true, None, Ok, refl, sym, ap, ap₂, ◌∙◌, arith}
 use Rattle.std.specs.FinMap.{entries, from_entries}
 use Rattle.std.specs.Prelude.{filter_map}
 use Rattle.std.specs.List.{AllByRecursion, flat_map}
 use Rattle.std.specs.Str.{IsUtf8}
 use Rattle.std.proofs.lemmas.List.{append-nil, append_assoc}
-use Rattle.std.proofs.lemmas.List.Elements.{All-filter}
 use Rattle.tabled_grid.specs.Anchors.{Anchor, lie_well}
 use Rattle.tabled_grid.specs.Grid.{Grid}
 use Rattle.tabled_grid.specs.Spans.{SpanMap}
 use Rattle.tabled_steps.specs.States.{State}
-use Rattle.tabled_language.specs.Line.{Script, anchor_in, fault_among, fault_of, first_fault, line_of, lines_of, parse, record_in, script_of, script_or_fault, shape_fault, span_fault, step_in, table_from}
+use Rattle.tabled_language.specs.Line.{Script, fault_among, first_fault, line_of, lines_of, parse, record_in, script_of, script_or_fault, shape_fault, span_fault, table_from}
 use Rattle.tabled_language.specs.Output.{joined, line, print, span_line}
 use Rattle.tabled_language.specs.RoundTrip.{IsTable, ReadsBack}
-use Rattle.tabled_language.specs.Verb.{Line, EmptyLine, ShapeLine, RecordLine, SpanLine}
+use Rattle.tabled_language.specs.Verb.{Line, RecordLine}
 use Rattle.tabled_language.proofs.BackToAnchors.{IsSpanIn, entries_well, from_entries-entries, meet_none, spans_in}
 use Rattle.tabled_language.proofs.BackToLines.{IsSmall, all_back, row_back, shape_back, shape_words, span_back, span_words}
 use Rattle.tabled_language.proofs.BackToRecords.{table_from-even}

@@ -3,13 +3,10 @@ use Rattle.std.proofs.Common.{◌≡◌, ℕ, ◌+◌, ◌<◌, List, [], ◌∷
 use Rattle.std.specs.FinMap.{from_entries}
 use Rattle.std.specs.Option.{option_map}
 use Rattle.std.proofs.lemmas.List.{length-map, map-append, take_more}
-use Rattle.tabled_grid.specs.Anchors.{Anchor}
 use Rattle.std.specs.Global.{Vec}
 use Rattle.tabled_grid.specs.Grid.{Grid, map_items}
 use Rattle.tabled_grid.specs.Spans.{SpanMap}
-use Rattle.tabled_steps.specs.States.{State}
 use Rattle.tabled_table.specs.Builder.{longest}
-use Rattle.tabled_language.specs.declared.fault.Fault.{Fault}
 use Rattle.tabled_language.specs.declared.fault.Fault.TheVariants.{ShapeDiffers, SpanMisfits}
 use Rattle.tabled_language.specs.Drafts.{Draft, draft_of, shape_misfit}
 use Rattle.tabled_language.specs.Line.{Script, fault_of, first_fault, script_or_fault, table_from}

@@ -7,7 +7,7 @@ use Rattle.tabled_language.specs.declared.fault.Fault.{Fault}
 use Rattle.tabled_language.specs.declared.fault.Fault.TheVariants.{Escape, OutOfPlace}
 use Rattle.tabled_language.specs.Line.{Script, first_fault, record_in, step_in}
 use Rattle.tabled_language.specs.Line.{lines_of, texts_of, words_of}
-use Rattle.tabled_language.specs.Verb.{Line, EmptyLine, RecordLine, ShapeLine, SpanLine, StepLine, FaultyLine, step_line, steps}
+use Rattle.tabled_language.specs.Verb.{Line, EmptyLine, RecordLine, StepLine, FaultyLine, step_line, steps}
 use Rattle.tabled_language.specs.Words.{behind, whole}
 
 -- texts begin with `shape` or `span`

@@ -1,5 +1,5 @@
 -- What is written of a table is read as that table.
-use Rattle.std.specs.Prelude.{◌≡◌, ◌≤◌, List, [], Ok}
+use Rattle.std.specs.Prelude.{◌≡◌, ◌≤◌, [], Ok}
 use Rattle.std.specs.List.{AllByRecursion}
 use Rattle.std.specs.Str.{IsUtf8}
 use Rattle.tabled_grid.specs.Grid.{IsEmptyWithoutRows, IsEven}

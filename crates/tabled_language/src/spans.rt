@@ -1,9 +1,9 @@
 //! Anchors in the order of their lines, and the merged cells that they make.
 
-ghost use Rattle.std.specs.Prelude.{false, true, ◌≡◌, ◌+◌, ◌<◌, ◌≤◌, ℕ, IfOk, MatchOption, MatchResult, OnErr, length};
-ghost use Rattle.std.specs.FinMap.{from_entries};
+ghost use Rattle.std.specs.Prelude.{false, true, ◌≡◌, ◌+◌, ◌<◌, ◌≤◌, ℕ, IfOk, MatchResult, OnErr, length};
+ghost use Rattle.std.specs.FinMap.{from_entries, from_sorted};
 ghost use Rattle.std.specs.List.{AllByRecursion};
-ghost use Rattle.tabled_grid.specs.Spans.{IsSpanSize};
+ghost use Rattle.tabled_grid.specs.Spans.{AreAnchors, IsSpanSize, position_cmp};
 ghost use Rattle.tabled_grid.specs.declared.config.position.Position.{Position};
 ghost use Rattle.tabled_language.specs.Placed.{IsFirstMisfit, fit_in};
 
@@ -34,34 +34,37 @@ pub(crate) fn merged_or_misfit(
     if anchors.is_empty() {
         return Ok(Ok(SpannedConfig::new(alloc)));
     }
-    match merged(alloc, anchors, rows, columns)? {
-        Some(spans) => Ok(Ok(spans)),
-        None => Ok(Err(first_misfit(alloc, anchors, rows, columns)?)),
+    let mut sorted = Vec::with_capacity(alloc, anchors.len())?;
+    if fit(alloc, &mut sorted, anchors, rows, columns)? {
+        return Ok(Ok(SpannedConfig::from_anchors(sorted)));
     }
+    let misfit = first_misfit(alloc, sorted, anchors, rows, columns)?;
+    Ok(Err(misfit))
 }
 
-/// The merged cells of anchors, if all have places.
-fn merged(
+/// Puts anchors in order into a vector, whose old ones go, and says whether all have places. Then the
+/// vector has their map.
+fn fit(
     alloc: Global,
+    sorted: &mut Vec<Anchor>,
     anchors: &[Anchor],
     rows: usize,
     columns: usize,
-) -> Result<Option<SpannedConfig>, AllocError>
+) -> Result<bool, AllocError>
     requires { AllByRecursion (λ (e : Position × (ℕ × ℕ)). IsSpanSize e.1) anchors.now }
-    ensures { IfOk result (λ spans. MatchOption spans (fit_in rows columns anchors.now ≡ false) (λ spans. (fit_in rows columns anchors.now ≡ true) × (spans ≡ from_entries anchors.now))) }
+    ensures fit { IfOk result (λ fit. fit ≡ fit_in rows columns anchors.now) }
+    ensures made { IfOk result (λ fit. fit ≡ true → AreAnchors sorted.new.items × (from_sorted {R = position_cmp} sorted.new.items ≡ from_entries anchors.now)) }
 {
-    let mut sorted = Vec::from_slice(alloc, anchors)?;
+    sorted.clear();
+    sorted.extend_from_slice(anchors)?;
     sorted.sort_unstable_by_key(|anchor| anchor.0);
-    if have_places(alloc, &sorted, rows, columns)? {
-        Ok(Some(SpannedConfig::from_anchors(sorted)))
-    } else {
-        Ok(None)
-    }
+    have_places(alloc, sorted, rows, columns)
 }
 
 /// The index of the first anchor that has no place behind those before it.
 fn first_misfit(
     alloc: Global,
+    mut sorted: Vec<Anchor>,
     anchors: &[Anchor],
     rows: usize,
     columns: usize,
@@ -75,9 +78,10 @@ fn first_misfit(
     let mut failing = anchors.len();
     while failing - fitting > 1 {
         let middle = fitting + (failing - fitting) / 2;
-        match merged(alloc, &anchors[..middle], rows, columns)? {
-            Some(_) => fitting = middle,
-            None => failing = middle,
+        if fit(alloc, &mut sorted, &anchors[..middle], rows, columns)? {
+            fitting = middle;
+        } else {
+            failing = middle;
         }
     }
     Ok(fitting)
