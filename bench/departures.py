@@ -119,18 +119,6 @@ def merge_with_spans(before, words, one, other):
     return all(any(ends(i, j) for i in range(before.rows)) for j in columns)
 
 
-def panel_across(before, words, one):
-    """A panel asks columns 0 .. count, or rows 0 ..= count, alone: what begins behind them doesn't stop it."""
-    crosswise = words[0] in (b"vpanel", b"vpanelw")
-    state = before.transposed() if crosswise else before
-    places = {b"header": 0, b"footer": state.rows}
-    if words[0] not in (b"hpanel", b"vpanel", b"vpanelw", b"header", b"footer") or vars(one) != vars(before):
-        return False
-    place = places[words[0]] if words[0] in places else int(words[1])
-    crossing = [j for (i, j), (height, _) in state.spans.items() if i < place < i + height]
-    return len(crossing) > 0 and all(j >= state.columns + crosswise for j in crossing)
-
-
 REWRITTEN = [frame, panel_without_cells, concat_onto_nothing, removal_past_the_end, reversed_extract,
              merged_cells_left]
 NAMED = {"texts": [negative_span, text_by_columns], "spans": [hidden_one_by_one, merge_with_spans]}
@@ -138,8 +126,6 @@ NAMED = {"texts": [negative_span, text_by_columns], "spans": [hidden_one_by_one,
 
 def named(before, words, one, other):
     """The names of the departures by which two tables differ; None where there is none for what differs."""
-    if panel_across(before, words, one):
-        return [panel_across.__name__]
     if (one.rows, one.columns) != (other.rows, other.columns):
         return None
     found = []
