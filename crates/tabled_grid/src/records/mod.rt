@@ -16,6 +16,7 @@ mod pieces;
 #[allow(clippy::module_inception)]
 mod records;
 mod records_mut;
+mod refusing;
 mod resizable;
 mod turn;
 pub mod vec_records;
@@ -29,5 +30,6 @@ pub use peekable_records::PeekableRecords;
 pub use piece_order::PieceOrder;
 pub use records::Records;
 pub use records_mut::RecordsMut;
+pub use refusing::Refusing;
 pub use resizable::{Resizable, empty_without_rows};
 pub use vec_records::{Text, VecRecords};
