@@ -17,8 +17,8 @@ pub(crate) type Anchor = (Position, (usize, usize));
 /// The merged cells of anchors, or the index of the first whose rectangle leaves the table or shares a
 /// cell with that of one before it. It takes no memory where there are no anchors.
 ///
-/// One sort and one walk decide whether all fit. Where not, the first is searched by halves: what fits
-/// still fits with fewer anchors.
+/// One sort and one walk decide whether all fit. Where not, the first misfit is searched from the end, by
+/// steps that double, and then by halves: what fits still fits with fewer anchors.
 pub(crate) fn merged_or_misfit(
     alloc: Global,
     anchors: &[Anchor],
@@ -76,12 +76,14 @@ fn first_misfit(
     // So many of the first anchors fit, and so many do not.
     let mut fitting = 0;
     let mut failing = anchors.len();
+    let mut step: usize = 1;
     while failing - fitting > 1 {
-        let middle = fitting + (failing - fitting) / 2;
+        let middle = failing - step.min((failing - fitting) / 2);
         if fit(alloc, &mut sorted, &anchors[..middle], rows, columns)? {
             fitting = middle;
         } else {
             failing = middle;
+            step = step.saturating_mul(2);
         }
     }
     Ok(fitting)

@@ -3,7 +3,7 @@ use Rattle.tabled_language.specs.Placed.{fit_in}
 use Rattle.tabled_language.proofs.spans.first_misfit.Given as goal
 
 abbrev pub invariant-loop-failing : goal.invariant-loop-failing
-invariant-loop-failing l = (l.fitting < l.failing) × (l.failing ≤ length l.anchors) × (fit_in l.rows l.columns (take l.fitting l.anchors) ≡ true) × (fit_in l.rows l.columns (take l.failing l.anchors) ≡ false)
+invariant-loop-failing l = (0 < l.step) × (l.fitting < l.failing) × (l.failing ≤ length l.anchors) × (fit_in l.rows l.columns (take l.fitting l.anchors) ≡ true) × (fit_in l.rows l.columns (take l.failing l.anchors) ≡ false)
 
 abbrev pub decreases-loop-failing : goal.decreases-loop-failing
 decreases-loop-failing l = l.failing - l.fitting
