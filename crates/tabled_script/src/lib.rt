@@ -7,7 +7,10 @@ pub mod laws;
 mod output;
 mod program;
 #[cfg(test)]
+mod streams;
+#[cfg(test)]
 mod tests;
+mod watched;
 
 pub use program::run_script;
 pub use tabled_steps::{Select, Step, run};

@@ -9,6 +9,7 @@ ghost use Rattle.tabled_language.specs.Parsing.{script_in};
 ghost use Rattle.tabled_language.specs.declared.fault.Fault.{Fault};
 
 use crate::output::print;
+use crate::watched::Watched;
 use std::alloc::{AllocError, Global};
 use std::io::{self, ErrorKind, Read, Write};
 use tabled_language::{Fault, Script, parse};
@@ -51,11 +52,15 @@ pub fn run_script<R: Read, W: Write>(alloc: Global, reader: &mut R, writer: &mut
     ensures memory { result ≡ 3 → Appends (W.contents writer.old) (W.contents writer.new) memory_line }
 {
     let mut input = Vec::new(alloc);
-    if let Err(error) = reader.read_to_end(&mut input) {
-        if error.kind() == ErrorKind::OutOfMemory {
-            return write_answer(writer, Err(AllocError));
+    let mut watched = Watched {
+        reader,
+        has_failed: false,
+    };
+    if let Err(error) = watched.read_to_end(&mut input) {
+        if watched.has_failed || error.kind() != ErrorKind::OutOfMemory {
+            return FAILED;
         }
-        return FAILED;
+        return write_answer(writer, Err(AllocError));
     }
     write_answer(writer, answer(alloc, input))
 }

@@ -3,7 +3,6 @@
 use crate::program::write_answer;
 use crate::run_script;
 use std::alloc::{AllocError, Global};
-use std::io::{self, ErrorKind, Read, Write};
 use std::test::Fail;
 
 /// The status for a script, and what was written.
@@ -271,111 +270,6 @@ fn answers_long_scripts(rt: HostRuntime) -> Result<(), Fail> {
 fn ends_well_where_a_script_is_cut(rt: HostRuntime) -> Result<(), Fail> {
     let script = "row\ta\\t\tä\n\nrow\tb\r\nset\tcell\t0\t1\tx\\\\\nset\trow\t007\ty\n";
     assert!(rt; ends_well(rt.alloc(), script.as_bytes()));
-    Ok(())
-}
-
-/// A reader that gives one byte a call, and fails at a call.
-#[derive(Drop)]
-struct FailingReader<'a> {
-    bytes: &'a [u8],
-    calls_before: usize,
-    kind: ErrorKind,
-}
-
-impl Read for FailingReader<'_> {
-    fn read(&mut self, buf: &mut [u8]) -> io::Result<usize> {
-        if self.calls_before == 0 {
-            return Err(io::Error::from(self.kind));
-        }
-        self.calls_before -= 1;
-        let Some((first, rest)) = self.bytes.split_first() else {
-            return Ok(0);
-        };
-        if buf.is_empty() {
-            return Ok(0);
-        }
-        buf[0] = *first;
-        self.bytes = rest;
-        Ok(1)
-    }
-}
-
-#[test]
-fn says_that_a_read_failed(rt: HostRuntime) -> Result<(), Fail> {
-    let script = b"row\ta\nset\tall\tx\n";
-    for (kind, status, line) in [
-        (ErrorKind::BrokenPipe, 4, ""),
-        (ErrorKind::OutOfMemory, 3, "out of memory\n"),
-    ] {
-        // The call after the last byte tells the end.
-        for calls_before in 0..script.len() + 3 {
-            let mut reader = FailingReader {
-                bytes: script,
-                calls_before,
-                kind,
-            };
-            let mut written = Vec::new(rt.alloc());
-            let answered = run_script(rt.alloc(), &mut reader, &mut written);
-            let (want, shown) = if calls_before > script.len() {
-                (0, "shape\t1\t1\nrow\tx\n")
-            } else {
-                (status, line)
-            };
-            assert_eq!(rt; answered, want, "after {calls_before} reads");
-            assert_eq!(rt;
-                written.as_slice(),
-                shown.as_bytes(),
-                "after {calls_before} reads"
-            );
-        }
-    }
-    Ok(())
-}
-
-/// A writer that takes one byte a call, and fails at a call. To flush it is a call, too.
-#[derive(Drop)]
-struct FailingWriter {
-    calls_before: usize,
-}
-
-impl FailingWriter {
-    fn call(&mut self) -> io::Result<()> {
-        if self.calls_before == 0 {
-            return Err(io::Error::from(ErrorKind::BrokenPipe));
-        }
-        self.calls_before -= 1;
-        Ok(())
-    }
-}
-
-impl Write for FailingWriter {
-    fn write(&mut self, buf: &[u8]) -> io::Result<usize> {
-        self.call()?;
-        Ok(buf.len().min(1))
-    }
-
-    fn flush(&mut self) -> io::Result<()> {
-        self.call()
-    }
-}
-
-#[test]
-fn fails_where_a_write_or_a_flush_fails(rt: HostRuntime) -> Result<(), Fail> {
-    for (script, calls, status) in [("row\ta\n", 17, 0), ("spin\n", 17, 2)] {
-        for calls_before in 0..calls + 2 {
-            let mut reader = script.as_bytes();
-            let mut writer = FailingWriter { calls_before };
-            let answered = run_script(rt.alloc(), &mut reader, &mut writer);
-            let want = if calls_before < calls { 4 } else { status };
-            assert_eq!(rt; answered, want, "{script:?} after {calls_before} calls");
-        }
-    }
-    for calls_before in 0..17 {
-        let mut writer = FailingWriter { calls_before };
-        let answered = write_answer(&mut writer, Err(AllocError));
-        let want = if calls_before < 15 { 4 } else { 3 };
-        assert_eq!(rt; answered, want, "after {calls_before} calls");
-    }
     Ok(())
 }
 
