@@ -28,9 +28,12 @@ use std::alloc::{AllocError, Global};
 /// Of this project.
 #[derive(Clone, Debug, Drop)]
 pub struct Refusing<S> {
-    store: S,
-    growth: usize,
-    set: usize,
+    /// The store around which it stands.
+    pub store: S,
+    /// Which growth from now on is refused, counted from 1, or 0 where none is.
+    pub growth: usize,
+    /// Which write from now on is refused, counted from 1, or 0 where none is.
+    pub set: usize,
 }
 
 /// Counts one call, and refuses it where it is the one that was named.
@@ -56,27 +59,6 @@ impl<S> Refusing<S> {
         ensures set { result.set ≡ set }
     {
         Refusing { store, growth, set }
-    }
-
-    /// The store around which it stands.
-    pub fn store(&self) -> &S
-        ensures { result.now ≡ self.now.store }
-    {
-        &self.store
-    }
-
-    /// Which growth from now on is refused, counted from 1, or 0 where none is.
-    pub fn growth_to_refuse(&self) -> usize
-        ensures { result ≡ self.now.growth }
-    {
-        self.growth
-    }
-
-    /// Which write from now on is refused, counted from 1, or 0 where none is.
-    pub fn set_to_refuse(&self) -> usize
-        ensures { result ≡ self.now.set }
-    {
-        self.set
     }
 }
 
