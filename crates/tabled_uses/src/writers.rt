@@ -33,8 +33,8 @@ fn placed(alloc: Global, text: &str, pos: Position) -> Result<String, AllocError
     format!(in alloc; "{text} {}:{}", pos.row, pos.col)
 }
 
-/// Writes every text anew by closures.
-fn asks_closures<R>(
+/// Writes every text anew by closures, then the texts of the first row in the last column, and cleans every text.
+pub fn writes_all<R>(
     alloc: Global,
     records: &mut R,
     cfg: &mut SpannedConfig,
@@ -52,47 +52,13 @@ where
     changes(alloc, records, cfg, &mut (), format)?;
     let format = Format::positioned(placed);
     positioned_formats_keep_merged_cells_fitting::<R, (), _>(&format);
-    changes(alloc, records, cfg, &mut (), format)
-}
-
-/// Writes the texts of the first row in the last column, and then cleans every text.
-fn copies_and_cleans<R>(
-    alloc: Global,
-    records: &mut R,
-    cfg: &mut SpannedConfig,
-) -> Result<(), AllocError>
-where
-    R: Records + ExactRecords + PeekableRecords + RecordsMut<String>,
-    R::Cell: CellText,
-    requires well { R.is_well_formed records.old }
-    requires fits { Fits cfg.old ((R.grid records.old).rows) ((R.grid records.old).columns) }
-    ensures well { R.is_well_formed records.new }
-    ensures fits { Fits cfg.new ((R.grid records.new).rows) ((R.grid records.new).columns) }
-{
+    changes(alloc, records, cfg, &mut (), format)?;
     let dup = Dup::new(Columns::last(), Rows::first());
     duplicates_keep_merged_cells_fitting::<R, (), _, _>(&dup);
     changes(alloc, records, cfg, &mut (), dup)?;
     let charset = Charset::new().clean();
     charsets_keep_merged_cells_fitting::<R, ()>(&charset);
     changes(alloc, records, cfg, &mut (), charset)
-}
-
-/// Writes every text anew by each writer.
-pub fn writes_all<R>(
-    alloc: Global,
-    records: &mut R,
-    cfg: &mut SpannedConfig,
-) -> Result<(), AllocError>
-where
-    R: Records + ExactRecords + PeekableRecords + RecordsMut<String>,
-    R::Cell: CellText,
-    requires well { R.is_well_formed records.old }
-    requires fits { Fits cfg.old ((R.grid records.old).rows) ((R.grid records.old).columns) }
-    ensures well { R.is_well_formed records.new }
-    ensures fits { Fits cfg.new ((R.grid records.new).rows) ((R.grid records.new).columns) }
-{
-    asks_closures(alloc, records, cfg)?;
-    copies_and_cleans(alloc, records, cfg)
 }
 
 /// Puts a row in below the first one.
