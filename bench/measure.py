@@ -15,7 +15,7 @@ def adopt_orphans():
 
 
 def seconds_of(command, script, wanted=0):
-    """The wall time of one run that ends with a status. The system throws the output away: no reader takes part."""
+    """The wall time of one run that ends with a status, or with any for None. The system throws the output away: no reader takes part."""
     files = [
         (os.POSIX_SPAWN_OPEN, 0, script, os.O_RDONLY, 0),
         (os.POSIX_SPAWN_OPEN, 1, os.devnull, os.O_WRONLY, 0),
@@ -32,7 +32,7 @@ def seconds_of(command, script, wanted=0):
 
 
 def megabytes_of(command, script, wanted=0):
-    """The peak memory of one run that ends with a status."""
+    """The peak memory of one run that ends with a status, or with any for None."""
     # A peak begins with the memory of the process that starts the program. This script
     # holds more than some cases need, so a shell starts it, ends, and leaves it to us.
     line = 'script=$1; shift; "$@" < "$script" > /dev/null &'
@@ -44,7 +44,7 @@ def megabytes_of(command, script, wanted=0):
 
 
 def demand_status(command, status, wanted):
-    if os.waitstatus_to_exitcode(status) != wanted:
+    if wanted is not None and os.waitstatus_to_exitcode(status) != wanted:
         stop(f"{command[0]}: status {os.waitstatus_to_exitcode(status)}")
 
 
