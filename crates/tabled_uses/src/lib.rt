@@ -6,6 +6,7 @@ pub mod geometry;
 pub mod language;
 pub mod options;
 pub mod own_store;
+pub mod refusing;
 pub mod rows;
 pub mod select;
 pub mod settings;
