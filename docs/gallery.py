@@ -26,7 +26,7 @@ def escaped(text):
 def test_cases(top):
     """The module of the examples that the tests run: one text, since a list of many is slow to prove."""
     out = ["//! The scripts of examples/ with what they print. `docs/make` makes this file.", ""]
-    out += ["/// A name, a script and its output, each behind U+001F, and the next name behind U+001E."]
+    out += ["/// A name, a script and its output, each after U+001F, and the next name after U+001E."]
     out += ['pub(super) const EXAMPLES: &str = "\\']
     cases = [FIELD.join([name, *both]) for name, both in cases_of(top).items()]
     return "\n".join([*out, *(escaped(it + CASE) + "\\" for it in cases[:-1]), escaped(cases[-1]) + '";']) + "\n"

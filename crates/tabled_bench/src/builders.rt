@@ -32,7 +32,7 @@ fn gapped_record(alloc: Global, count: usize) -> Result<Vec<String>, AllocError>
     Ok(texts)
 }
 
-/// So many records of one length.
+/// n records of one length.
 pub(crate) fn records(alloc: Global, count: usize) -> Result<Vec<Vec<String>>, AllocError> {
     let mut records = Vec::with_capacity(alloc, count)?;
     for _ in 0..count {
@@ -41,7 +41,7 @@ pub(crate) fn records(alloc: Global, count: usize) -> Result<Vec<Vec<String>>, A
     Ok(records)
 }
 
-/// So many records, each a text longer than the one before.
+/// n records, each a text longer than the one before.
 pub(crate) fn widening(alloc: Global, count: usize) -> Result<Vec<Vec<String>>, AllocError> {
     let mut records = Vec::with_capacity(alloc, count)?;
     for i in 0..count {

@@ -21,9 +21,9 @@ pub(crate) enum Merging {
     FrameSpans,
     /// A span of all columns on each cell, where the last column is one cell.
     WidestSpans,
-    /// A header, so many times.
+    /// A header, n times.
     Headers,
-    /// A row of one text in the middle, so many times.
+    /// A row of one text in the middle, n times.
     Panels,
     /// Equal neighbours in columns.
     Runs,

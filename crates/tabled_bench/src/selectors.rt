@@ -7,7 +7,7 @@ use tabled_select::object::{Cell, Frame, Object, Rows, Segment};
 /// A frame is listed so often, as it has few cells.
 const FRAMES: usize = 1_000;
 
-/// So many combinations of two cells are listed.
+/// n combinations of two cells are listed.
 const PAIRS: usize = 100_000;
 
 /// A store of `size x size` blanks.

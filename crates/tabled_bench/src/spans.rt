@@ -108,7 +108,7 @@ pub(crate) fn make(
     Ok(spans)
 }
 
-/// Merges two cells, so many times in one row.
+/// Merges two cells, n times in one row.
 fn in_row(
     alloc: Global,
     spans: &mut SpannedConfig,
@@ -121,7 +121,7 @@ fn in_row(
     Ok(())
 }
 
-/// Merges two cells of a column, at so many columns side by side.
+/// Merges two cells of a column, at n columns side by side.
 fn tall(alloc: Global, spans: &mut SpannedConfig, many: usize) -> Result<(), AllocError> {
     for j in 0..many {
         spans.set_row_span(alloc, Position::new(0, j), 2)?;
@@ -129,7 +129,7 @@ fn tall(alloc: Global, spans: &mut SpannedConfig, many: usize) -> Result<(), All
     Ok(())
 }
 
-/// Merges a hundred cells of a column, at so many columns, each a row below the last one.
+/// Merges a hundred cells of a column, at n columns, each a row below the last one.
 fn staggered(alloc: Global, spans: &mut SpannedConfig, many: usize) -> Result<(), AllocError> {
     for i in 0..HEIGHT {
         for j in (i..many).step_by(HEIGHT) {

@@ -1,4 +1,4 @@
--- Columns of blanks added behind the last column, and taken away again.
+-- Columns of blanks added after the last column, and taken away again.
 use Rattle.std.proofs.Common.{◌≡◌, ℕ, suc, ◌+◌, List, [], ◌∷◌, ◌++◌, Bool, true, false, cond, eqb, refl, sym, ap, ap₂, ◌∙◌, map, take, length, arith}
 use Rattle.std.specs.List.{AllByRecursion, AllZip, insert, zip}
 use Rattle.std.proofs.lemmas.Bool.{eqb-true}

@@ -1,4 +1,4 @@
--- Lines of blanks behind the last line.
+-- Lines of blanks after the last line.
 use Rattle.std.proofs.Common.{◌≡◌, ℕ, zero, suc, ◌+◌, ◌-◌, ◌<◌, ◌≤◌, Bool, List, [], ◌∷◌, ◌++◌, Some, refl, ap, ◌∙◌, cond, length, get_or, arith}
 use Rattle.std.specs.Prelude.{slice_get}
 use Rattle.std.specs.List.{AllByRecursion, AllZip}
@@ -16,7 +16,7 @@ use Rattle.tabled_grid.proofs.AddedColumns.{IsEven-adds_columns, columns_taken_b
 use Rattle.tabled_grid.proofs.AddedRows.{IsEven-adds_rows, rows_taken_back}
 use Rattle.tabled_grid.specs.Axis.{across, place_in}
 
--- a list read behind another one
+-- a list read after another one
 pub front_read : {A : Type 0} (xs ys : List A) (j : ℕ) → j < length xs → slice_get (xs ++ ys) j ≡ slice_get xs j
 front_read [] ys j h = absurd (omega (arith, h))
 front_read (x ∷ xs) ys zero h = refl

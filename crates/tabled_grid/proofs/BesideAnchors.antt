@@ -77,7 +77,7 @@ module _ (by : Anchor) (pos : Position) (row : ℕ) (reaches : Reaches by pos ro
       let free : in_rect by.0 by.1 e.0 ≡ false = false_from_ne_true _ (λ t. out_of e.0 after stop (cases_lt pos.col by.0.col) (in_rect-true by.0 e.0 by.1 t)) in
       ap₂ (λ x xs. x ∷ xs) (ap (λ (b : Bool). cond b (e.0, (0, 0)) e) free) (passed_over es i (halves _ _ below).1 (λ j d h. until (suc j) d (omega arith)) (omega arith))
 
--- what stands in a row behind a place that is right of a rectangle doesn't meet it
+-- what stands in a row after a place that is right of a rectangle doesn't meet it
 module _ (from : Anchor) (pos : Position) (row : ℕ) (next : row ≤ pos.row + 1) (right : from.0.col + from.1.1 ≤ pos.col) where
   pub apart_beyond : (es : List Anchor) (i : ℕ) → T (below_all position_cmp pos es) → ((j : ℕ) (d : Anchor) → j < i → position_cmp (get_or es j d).0 (record { row = row; col = 0 }) ≡ Less) → i ≤ length es → list_all (λ (e : Anchor). not (meets from e)) (take i es) ≡ true
   apart_beyond [] zero below until within = refl

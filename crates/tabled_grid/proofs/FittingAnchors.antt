@@ -23,7 +23,7 @@ use Rattle.tabled_grid.proofs.SpanMaps.{equal, found_above, halves, in_rect-from
 use Rattle.tabled_grid.proofs.Members.{all-member, find-member}
 use Rattle.tabled_grid.proofs.PassedAnchors.{Meets, earlier, later_apart, meets-from, meets-true}
 
--- an entry that is found stands first, or behind the first
+-- an entry that is found stands first, or after the first
 data Found (e : Anchor) (es : List Anchor) (k : Position) (v : ℕ × ℕ) : Type 0 where
   first : k ≡ e.0 → v ≡ e.1 → Found e es k v
   later : find position_cmp k es ≡ Some v → Found e es k v
@@ -96,7 +96,7 @@ record FitsOn (es : List Anchor) (rows columns : ℕ) : Type 0 where
   inside : (a : Position) (s : ℕ × ℕ) → find position_cmp a es ≡ Some s → (a.row + s.0 ≤ rows) × (a.col + s.1 ≤ columns)
   apart : (a b : Position) (s t : ℕ × ℕ) (p : Position) → find position_cmp a es ≡ Some s → find position_cmp b es ≡ Some t → in_rect a s p ≡ true → in_rect b t p ≡ true → a ≡ b
 
--- what is found behind the first is found
+-- what is found after the first is found
 find_later : (e : Anchor) (es : List Anchor) (a : Position) (s : ℕ × ℕ) → T (is_sorted position_cmp (e ∷ es)) → find position_cmp a es ≡ Some s → find position_cmp a (e ∷ es) ≡ Some s
 find_later e es a s up h =
     let below = found_above position_cmp positions_total positions_exact a e.0 es s (halves _ _ up).0 h in

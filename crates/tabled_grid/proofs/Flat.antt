@@ -5,7 +5,7 @@ use Rattle.std.proofs.lemmas.List.{length-append, length-drop, length-take-le, t
 use Rattle.tabled_grid.specs.Grid.{Grid, IsEven}
 use Rattle.tabled_grid.specs.Flat.{IsFull, chunks, flat_grid, joined}
 
--- rows of so many cells each
+-- rows of n cells each
 abbrev pub AreWide : {A : Type 0} → ℕ → List (List A) → Type 0
 AreWide {A} c rows = AllByRecursion (λ (row : List A). length row ≡ c) rows
 

@@ -82,7 +82,7 @@ module _ {A : Type 0} where
     abbrev shorter : List A → List A
     shorter row = take j row ++ drop (j + n) row
 
-    -- the n cells from j on were taken out of each of the first i rows, and lie behind these
+    -- the n cells from j on were taken out of each of the first i rows, and lie after these
     pub record ClosedUp (rows : List (List A)) (i : ℕ) (cells : List A) : Type 0 where
       pub gap : List A
       pub many : length gap ≡ i * n

@@ -25,7 +25,7 @@ module _ {A : Type 0} where
   drop_past_front : (p q : List A) (m n : ℕ) → length p + m ≡ n → drop n (p ++ q) ≡ drop m q
   drop_past_front p q m n e = rw (← e, ← drop-drop m (length p) (p ++ q)) (ap (drop m) (drop_at p q (length p) refl))
 
-  -- the first rows, and those behind them
+  -- the first rows, and those after them
   pub take-joined : (c : ℕ) (i : ℕ) (rows : List (List A)) → AreWide c rows → take (i * c) (joined rows) ≡ joined (take i rows)
   take-joined c zero rows w = let none : 0 * c ≡ 0 = omega arith in rw none refl
   take-joined c (suc i) [] w = take_all (suc i * c) [] (omega arith)
@@ -45,7 +45,7 @@ module _ {A : Type 0} where
   pub joined-remove : (c : ℕ) (rows : List (List A)) (i n : ℕ) → AreWide c rows → n ≡ i * c + c → joined (remove rows i) ≡ take (i * c) (joined rows) ++ drop n (joined rows)
   joined-remove c rows i n w e = joined-append (take i rows) (drop (suc i) rows) ∙ ap₂ (λ p q. p ++ q) (sym (take-joined c i rows w)) (sym (drop-joined_next c i n rows w e))
 
-  -- the row at i, and the rows behind it
+  -- the row at i, and the rows after it
   row_at : (c : ℕ) (rows : List (List A)) (i : ℕ) → AreWide c rows → i < length rows → take c (joined (drop i rows)) ≡ get_or rows i []
   row_at c [] i w h = absurd (omega (arith, h))
   row_at c (row ∷ rows) zero w h = take_at row (joined rows) c w.0

@@ -60,7 +60,7 @@ module _ {A : Type 0} where
         };
   }
 
-  -- the part of a list that two runs take, and what is behind it
+  -- the part of a list that two runs take, and what is after it
   module _ (old p one two rest : List A) (from k : ℕ) (e : old ≡ p ++ (one ++ (two ++ rest))) (lp : length p ≡ from) (l : length one + length two ≡ k) where
     part_is : take k (drop from old) ≡ one ++ two
     part_is = ap (λ xs. take k (drop from xs)) e ∙ ap (take k) (drop_at p (one ++ (two ++ rest)) from lp ∙ sym (append_assoc one two rest)) ∙ take_at (one ++ two) rest k (length-append one two ∙ l)

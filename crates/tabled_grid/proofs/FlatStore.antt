@@ -33,7 +33,7 @@ no_width [] h = refl
 no_width (row ∷ rows) h = absurd (omega (arith, h))
 
 module _ {A : Type 0} (is_blank : A → Type 0) where
-  -- one blank, and blanks behind the last cell
+  -- one blank, and blanks after the last cell
   one_blank : (j : ℕ) (old new : List A) → InsertsBlanks is_blank old new j 1 → InsertsBlank is_blank j old new
   one_blank j old new put = only put.cells put.blanks put.is
     where
@@ -126,7 +126,7 @@ module _ {A : Type 0} (r c : ℕ) (xs : List A) (h : IsFull r c xs) where
       view_of (first_along Rows n (flat_grid r c xs)) n c new (IsEven-first Rows n _ within (is_even r c xs h)) refl (rw several refl)
       (is ∙ ap (take (n * c)) cells_are ∙ take-joined c n (flat_grid r c xs).cells (is_even r c xs h).wide)
 
-  -- so many rows of blanks behind the cells
+  -- n rows of blanks after the cells
   module _ (is_blank : A → Type 0) (many rows count : ℕ) (new : List A) (tall : rows ≡ r + many) (e : count ≡ c * many) (put : AddsBlanks is_blank xs new count) where
     full_blanks : length put.cells ≡ many * c
     full_blanks = put.blanks.many ∙ omega (arith, e)
@@ -167,7 +167,7 @@ module _ {A : Type 0} (r c : ℕ) (xs : List A) (h : IsFull r c xs) where
       (is ∙ ap joined (shorter-last c n (c - n) (chunks r c xs) (is_even r c xs h).wide (omega (arith, within))))
 
   module _ (is_blank : A → Type 0) (k : ℕ) (room : List A) (put : AddsBlanks is_blank xs room k) where
-    -- so many blanks lie behind the cells
+    -- n blanks lie after the cells
     pub blanks_put : AreBlanks is_blank k (drop (r * c) room)
     blanks_put = rw (put.is, drop_at xs put.cells (r * c) h.full) put.blanks
 

@@ -139,7 +139,7 @@ pub starts_past : (anchors : List Anchor) (next : ℕ) (p : Position) → length
 unfolding starts_from
 starts_past anchors next p past = rw (drop_of_length-le anchors past) tt
 
--- the sizes left, set on the anchors left, stand behind what is merged
+-- the sizes left, set on the anchors left, stand after what is merged
 pub record IsMerged (merged anchors sizes all_anchors all_sizes : List Anchor) : Type 0 where
   pub sorted : T (is_sorted position_cmp anchors)
   pub sizes_sorted : T (is_sorted position_cmp sizes)

@@ -66,7 +66,7 @@ module _ {A : Type 0} where
   columns_cut n old new h even e = have_grid _ new (IsEven-first Columns n (grid_of old) h even) (rowless-first Columns n (grid_of old) h (rowless old)) e
 
   module _ (is_blank : A → Type 0) (many : ℕ) where
-    -- so many blanks behind each row
+    -- n blanks after each row
     pub columns_added : (old new : List (List A)) → AddsEach is_blank many old new → AddsColumns is_blank many (grid_of old) (grid_of new)
     columns_added [] [] a = record { rows = refl; columns = refl; each = tt }
     columns_added [] (wide ∷ new) a = absurd a
@@ -79,7 +79,7 @@ module _ {A : Type 0} where
           each = a;
         }
 
-    -- so many rows of blanks below the last one
+    -- n rows of blanks below the last one
     module _ (old added new : List (List A)) (even : IsEven (grid_of old)) (tall : length added ≡ many) (blanks : AllByRecursion (AreBlanks is_blank (width_of old)) added) (is : new ≡ old ++ added) where
       adds : AddsRows is_blank many (grid_of old) (record { rows = length old + many; columns = width_of old; cells = old ++ added })
       adds = record { added = added; blanks = blanks; many_are = tall; is = refl }

@@ -145,7 +145,7 @@ module _ {A : Type 0} (f : A → A) (old : List A) (first : ℕ) where
         left = left;
       }
 
-  -- so many more are passed over that the change would leave as they are
+  -- n more are passed over that the change would leave as they are
   pub changed_over : (new : List A) (k n : ℕ) → first ≤ k → ChangedTo new k → map f (take n (drop k old)) ≡ take n (drop k old) → ChangedTo new (k + n)
   changed_over new k n low changed same =
       let more : (k + n) - first ≡ (k - first) + n = omega arith in
@@ -238,7 +238,7 @@ apart_sorted a es first k d low here up =
     let at : first + (k - first) ≡ k = omega arith in
     subst (λ fs. T (is_sorted position_cmp fs)) (drop-drop (k - first) first es ∙ ap (λ n. drop n es) at ∙ drop_more es k d here ∙ ap (λ fs. get_or es k d ∷ fs) (sym (all_after es k))) (sorted_drop (k - first) (drop first es) (halves _ _ up).1)
 
--- the first so many pass, so all do just where the others do
+-- the first n pass, so all do just where the others do
 passed : (test : Anchor → Bool) (n : ℕ) (es : List Anchor) → list_all test (take n es) ≡ true → list_all test (drop n es) ≡ list_all test es
 passed test zero es h = refl
 passed test (suc n) [] h = refl

@@ -40,7 +40,7 @@ get-row f i c zero k d h = absurd (omega arith)
 get-row f i c (suc m) zero d h = ap (λ n. f (place i n)) (omega arith)
 get-row f i c (suc m) (suc k) d h = get-row f i (c + 1) m k d (omega arith) ∙ ap (λ n. f (place i n)) (omega arith)
 
--- the numbers of so many rows, from one on
+-- the numbers of n rows, from one on
 rows_of : (Position → ℕ) → ℕ → ℕ → ℕ → List ℕ
 rows_of f a zero m = []
 rows_of f a (suc n) m = row_of f a 0 m ++ rows_of f (a + 1) n m

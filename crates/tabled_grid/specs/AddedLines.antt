@@ -1,11 +1,11 @@
--- Rows or columns of blanks put behind the last one.
+-- Rows or columns of blanks put after the last one.
 use Rattle.std.specs.Prelude.{ℕ}
 use Rattle.tabled_grid.specs.Bulk.{AddsColumns, AddsRows}
 use Rattle.tabled_grid.specs.Grid.{Grid}
 use Rattle.tabled_grid.specs.declared.records.axis.Axis.{Axis}
 use Rattle.tabled_grid.specs.declared.records.axis.Axis.TheVariants.{Rows, Columns}
 
--- so many lines of blanks are put behind the last one
+-- n lines of blanks are put after the last one
 abbrev pub AddsLines : {A : Type 0} → (A → Type 0) → Axis → ℕ → Grid A → Grid A → Type 0
 AddsLines is_blank Rows many old new = AddsRows is_blank many old new
 AddsLines is_blank Columns many old new = AddsColumns is_blank many old new

@@ -15,7 +15,7 @@ abbrev pub along : {A : Type 0} → Axis → ((X : Type 0) → List X → List X
 along {A} Rows f g = record g { cells = f (List A) g.cells }
 along {A} Columns f g = record g { cells = map (f A) g.cells }
 
--- the grid with so many lines, which are those that it had changed: without rows there are no columns
+-- the grid with n lines, which are those that it had changed: without rows there are no columns
 abbrev pub with_lines : {A : Type 0} → Axis → ℕ → ((X : Type 0) → List X → List X) → Grid A → Grid A
 with_lines {A} Rows n f g = record { rows = n; columns = if n == 0 then 0 else g.columns; cells = f (List A) g.cells }
 with_lines {A} Columns n f g = record g { columns = n; cells = map (f A) g.cells }

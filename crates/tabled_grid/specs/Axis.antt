@@ -39,7 +39,7 @@ abbrev pub lines_in : Axis → ℕ × ℕ → ℕ
 lines_in Rows size = size.0
 lines_in Columns size = size.1
 
--- the size with so many lines
+-- the size with n lines
 abbrev pub resized : Axis → ℕ × ℕ → ℕ → ℕ × ℕ
 resized Rows size many = (many, size.1)
 resized Columns size many = (size.0, many)

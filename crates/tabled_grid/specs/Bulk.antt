@@ -8,20 +8,20 @@ use Rattle.tabled_grid.specs.Places.{Places}
 use Rattle.tabled_grid.specs.Resized.{AreBlanks}
 use Rattle.tabled_grid.specs.declared.config.position.Position.{Position}
 
--- so many rows of blanks are put below the last row
+-- n rows of blanks are put below the last row
 pub record AddsRows {A : Type 0} (is_blank : A → Type 0) (many : ℕ) (old new : Grid A) : Type 0 where
   pub added : List (List A)
   pub blanks : AllByRecursion (AreBlanks is_blank old.columns) added
   pub many_are : length added ≡ many
   pub is : new ≡ record old { rows = old.rows + many; cells = old.cells ++ added }
 
--- so many columns of blanks are put behind the last one, which changes nothing without rows
+-- n columns of blanks are put after the last one, which changes nothing without rows
 pub record AddsColumns {A : Type 0} (is_blank : A → Type 0) (many : ℕ) (old new : Grid A) : Type 0 where
   pub rows : new.rows ≡ old.rows
   pub columns : new.columns ≡ (if old.rows == 0 then old.columns else old.columns + many)
   pub each : AllZip (λ (row wide : List A). AddsBlanks is_blank row wide many) old.cells new.cells
 
--- rows as columns: the cells of a row are put in front of so many rows, one each
+-- rows as columns: the cells of a row are put in front of n rows, one each
 abbrev pub transposed_rows : {A : Type 0} → ℕ → List (List A) → List (List A)
 transposed_rows columns [] = replicate columns []
 transposed_rows {A} columns (row ∷ rows) = map (λ (p : A × List A). p.0 ∷ p.1) (zip row (transposed_rows columns rows))
@@ -30,7 +30,7 @@ transposed_rows {A} columns (row ∷ rows) = map (λ (p : A × List A). p.0 ∷ 
 abbrev pub transposed : {A : Type 0} → Grid A → Grid A
 transposed g = record { rows = g.columns; columns = if g.columns == 0 then 0 else g.rows; cells = transposed_rows g.columns g.cells }
 
--- so many rows and columns change places
+-- r rows and c columns change places
 abbrev pub turned_places : ℕ → ℕ → Places
 turned_places rows columns = record { rows = columns; columns = rows; old_place = λ (p : Position). Some (place p.col p.row) }
 

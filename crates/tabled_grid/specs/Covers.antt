@@ -24,7 +24,7 @@ hiders_of m p = hiders_in (entries m) p
 abbrev pub table : (Position → ℕ) → ℕ → ℕ → List ℕ
 table f rows columns = map f (block 0 rows 0 columns)
 
--- the place so many rows below another and so many columns right of it
+-- the place n rows below another and n columns right of it
 abbrev pub beyond : Position → Position → Position
 beyond first p = place (first.row + p.row) (first.col + p.col)
 

@@ -4,7 +4,7 @@ use Rattle.std.specs.List.{AllZip}
 use Rattle.tabled_grid.specs.Resized.{AreBlanks}
 use Rattle.tabled_grid.specs.Flat.{joined}
 
--- so many blanks are inserted before a place
+-- n blanks are inserted before a place
 pub record InsertsBlanks {A : Type 0} (is_blank : A → Type 0) (old new : List A) (at count : ℕ) : Type 0 where
   pub cells : List A
   pub blanks : AreBlanks is_blank count cells
@@ -22,26 +22,26 @@ pub record RunThenGap {A : Type 0} (new before gap run after : List A) : Type 0 
   pub same : IsPermutation gap moved
   pub is : new ≡ before ++ (run ++ (moved ++ after))
 
--- the `count` items behind a gap are brought forward to place `to`, where the gap begins
+-- the `count` items after a gap are brought forward to place `to`, where the gap begins
 pub record Slid {A : Type 0} (old new : List A) (to gap count : ℕ) : Type 0 where
   pub is : (p g run rest : List A) → old ≡ p ++ (g ++ (run ++ rest)) → length p ≡ to → length g ≡ gap → length run ≡ count → RunThenGap new p g run rest
 
--- the `count` items at place `from` are brought behind the gap that follows them
+-- the `count` items at place `from` are brought after the gap that follows them
 pub record SlidBack {A : Type 0} (old new : List A) (from count gap : ℕ) : Type 0 where
   pub is : (p run g rest : List A) → old ≡ p ++ (run ++ (g ++ rest)) → length p ≡ from → length run ≡ count → length g ≡ gap → GapThenRun new p g run rest
 
--- so many blanks are inserted into each row before place j
+-- n blanks are inserted into each row before place j
 pub record PutsBlanks {A : Type 0} (is_blank : A → Type 0) (rows : List (List A)) (cells : List A) (j many : ℕ) : Type 0 where
   pub wide : List (List A)
   pub each : AllZip (λ (row w : List A). InsertsBlanks is_blank row w j many) rows wide
   pub is : cells ≡ joined wide
 
--- two runs of so many items swapped, where the first ends before the second
+-- two runs of n items swapped, where the first ends before the second
 abbrev pub with_runs_swapped : {A : Type 0} → List A → ℕ → ℕ → ℕ → List A
 with_runs_swapped xs first second count =
     (take first (take second xs) ++ (take count (drop second xs) ++ drop count (drop first (take second xs)))) ++ (take count (drop first (take second xs)) ++ drop count (drop second xs))
 
--- so many blanks are put last
+-- n blanks are put last
 pub record AddsBlanks {A : Type 0} (is_blank : A → Type 0) (old new : List A) (count : ℕ) : Type 0 where
   pub cells : List A
   pub blanks : AreBlanks is_blank count cells

@@ -13,7 +13,7 @@ abbrev pub piece_index : PieceOrder → ℕ → ℕ → ℕ → ℕ → ℕ
 piece_index Zip lines pieces i k = i * pieces + k
 piece_index Concat lines pieces i k = k * lines + i
 
--- of so many lines of so many pieces each, piece k of line i comes t-th
+-- of r lines of c pieces each, piece k of line i comes t-th
 pub record IsPiece (order : PieceOrder) (lines pieces t i k : ℕ) : Type 0 where
   pub line : i < lines
   pub number : k < pieces
@@ -28,7 +28,7 @@ nth_piece Concat lines pieces t = (t % lines, t / lines)
 abbrev pub index_in_line : PieceOrder → ℕ → ℕ → ℕ → ℕ → ℕ → ℕ
 index_in_line order index lines pieces t b = (nth_piece order lines pieces t).1 * index + b
 
--- all pieces of so many lines of so many cells; those behind the end of a line come from nowhere
+-- all pieces of r lines of c cells; those after the end of a line come from nowhere
 abbrev pub cut_places : Axis → PieceOrder → ℕ → ℕ → ℕ → Places
 cut_places axis order index lines width = record {
   rows = count_of axis (lines * div_ceil width index) index;

@@ -4,7 +4,7 @@ use Rattle.std.specs.List.{AllByRecursion, insert, remove, swap, zip}
 use Rattle.tabled_grid.specs.declared.config.position.Position.{Position}
 use Rattle.tabled_grid.specs.Grid.{Grid, cell_at, with_cell}
 
--- so many blanks
+-- n blanks
 pub record AreBlanks {A : Type 0} (is_blank : A → Type 0) (count : ℕ) (cells : List A) : Type 0 where
   pub blank : AllByRecursion is_blank cells
   pub many : length cells ≡ count

@@ -49,7 +49,7 @@ images places es = filter (λ (f : Anchor). list_any (λ (e : Anchor). carries p
 abbrev pub image : Places → SpanMap → SpanMap
 image places m = finite.from_entries (images places (finite.entries m))
 
--- what becomes of merged cells when the cells of a table of so many rows and columns move
+-- what becomes of merged cells when the cells of a table of r rows and c columns move
 abbrev pub carried : Places → ℕ → ℕ → SpanMap → SpanMap
 carried places rows columns m = image places (keep_fitting rows columns m)
 

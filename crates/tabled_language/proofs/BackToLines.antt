@@ -87,7 +87,7 @@ width_read : (height n : ℕ) (texts : List (List ℕ)) → n < 2 ^ 64 → 1 ≤
 width_read height n texts small some merges =
     reads-next reads_extent (λ (m : ℕ). cond (eqb height 1 && eqb m 1) (fails NumberRange) (gives m)) (decimal n ∷ texts) texts n (extent_read n texts small some) ∙ rw (not_one height n merges) refl
 
--- what is read behind the row, the column and the height of an anchor
+-- what is read after the row, the column and the height of an anchor
 abbrev behind_height : ℕ → ℕ → ℕ → Reading Anchor
 behind_height row column height = then_reads (reads_width height) (λ width. gives (place row column, (height, width)))
 

@@ -7,7 +7,7 @@ use Rattle.tabled_language.specs.Selectors.{reads_selector, selectors}
 use Rattle.tabled_language.specs.Words.{Reading, behind, first_word, kept, reads_word, then_reads}
 use Rattle.tabled_steps.specs.Selected.{Named}
 
--- what is read behind a word is what is read from it on
+-- what is read after a word is what is read from it on
 pub read_behind : {A X : Type 0} (view : X → A) (next : List ℕ → Reading A) (word : List ℕ) (texts left : List (List ℕ)) (r : Result X ReadError) (new : List (List ℕ)) → first_word texts ≡ Ok (word, left) → Reads view (next word) left r new → Reads view (then_reads reads_word next) texts r new
 read_behind view next word texts left (Ok x) new is told = rw is told
 read_behind view next word texts left (Err (Faulty fault)) new is told = rw is told

@@ -146,7 +146,7 @@ parts_none fault_at earlier line lines none = by (fault_at earlier line) refl
     by None e = (e, rw e at none)
     by (Some fault) e = never (rw e at none)
 
--- no shape may stand behind these lines
+-- no shape may stand after these lines
 Blocked : List Line → Type 0
 Blocked earlier = (read : Result (ℕ × ℕ) Fault) → is_in_place earlier (ShapeLine read) ≡ false
 

@@ -44,7 +44,7 @@ unescaped-clean (b ∷ bs) e =
     let tail : list_any (λ c. eqb c 92) bs ≡ false = or-false-right (eqb b 92) _ e in
     unescaped-plain b bs head ∙ ap (before b) (unescaped-clean bs tail)
 
--- one byte further, behind a backslash
+-- one byte further, after a backslash
 pub escape_more : (bytes bs : List ℕ) (b e : ℕ) → escape b ≡ Some e → all_before bytes (unescaped (92 ∷ b ∷ bs)) ≡ all_before (bytes ++ e ∷ []) (unescaped bs)
 escape_more bytes bs b e is = ap (λ o. all_before bytes (option_and_then (λ x. before x (unescaped bs)) o)) is ∙ all_before-before bytes e (unescaped bs)
 

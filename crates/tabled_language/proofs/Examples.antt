@@ -94,7 +94,7 @@ at_width : parse (codes "row\ta\tb\nspan\t0\t0\t1\t1\t9\n") ≡ Err (2, fault.Nu
 unfolding is_utf8 chars lib.Utf8.encode
 at_width = refl
 
--- a span may stand before any step, and a shape behind empty lines
+-- a span may stand before any step, and a shape after empty lines
 shape_behind_nothing : parse (codes "\n\nshape\t1\t1\n\nrow\ta\n") ≡ Ok (record { records = (codes "a" ∷ []) ∷ []; spans = from_entries []; steps = [] })
 unfolding is_utf8 chars lib.Utf8.encode
 shape_behind_nothing = refl

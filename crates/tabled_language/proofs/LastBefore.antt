@@ -21,7 +21,7 @@ below_when_before q n is = subst (λ (o : Ordering). MatchOrdering o (q < n) (q 
 pub none_before : (m : BTreeMap ℕ Anchor) (n : ℕ) (r : List (ℕ × Anchor)) → IsRangeOf nat_cmp Unbounded (Excluded n) m r → r ≡ [] → (q : ℕ) → q < n → get nat_cmp m q ≡ None
 none_before m n r h none q below = h.5 none q (tt, before q n below)
 
--- or none behind it
+-- or none after it
 pub none_between : (m : BTreeMap ℕ Anchor) (n : ℕ) (r t : List (ℕ × Anchor)) (e : ℕ × Anchor) → IsRangeOf nat_cmp Unbounded (Excluded n) m r → r ≡ t ++ e ∷ [] → (q : ℕ) → e.0 < q → q < n → get nat_cmp m q ≡ None
 none_between m n r t e h ends q above below = by (get nat_cmp m q) refl
   where

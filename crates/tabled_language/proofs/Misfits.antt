@@ -39,7 +39,7 @@ anchors-step line lines None is = rw is refl
 anchors-step line lines (Some e) is = rw is refl
 
 module _ (g : Grid (List ℕ)) where
-  -- behind these anchors, the first i have places and the next has none
+  -- after these anchors, the first i have places and the next has none
   abbrev Misfit : List Anchor → List Anchor → ℕ → Type 0
   Misfit done es i = (have_places g.rows g.columns done (take i es) ≡ true) × ((d : Anchor) → has_place g.rows g.columns (done ++ take i es) (get_or es i d) ≡ false) × (i < length es)
 

@@ -58,7 +58,7 @@ span e = SpanLine (Ok e)
 abbrev pub table : ℕ → ℕ → List (List (List ℕ)) → List Anchor → List Line
 table r c rows es = ShapeLine (Ok (r, c)) ∷ (map RecordLine rows ++ (map span es ++ EmptyLine ∷ []))
 
--- records and spans may stand behind these lines
+-- records and spans may stand after these lines
 record TakesRecords (earlier : List Line) : Type 0 where
   rows : (texts : List (List ℕ)) → is_in_place earlier (RecordLine texts) ≡ true
   spans : (e : Anchor) → is_in_place earlier (span e) ≡ true

@@ -88,7 +88,7 @@ line_asks-span in_place (b ∷ bs) anchor is here = by (is_plain (b ∷ bs)) ref
 lines_ask-here : (earlier : List Line) (line : List ℕ) (lines : List (List ℕ)) → line_asks (is_in_place earlier) line ≡ true → lines_ask earlier (line ∷ lines) ≡ true
 lines_ask-here earlier line lines asks = rw asks refl
 
--- what the lines behind a line ask for is asked for by it and them, where it has no fault
+-- what the lines after a line ask for is asked for by it and them, where it has no fault
 lines_ask-later : (earlier : List Line) (line : List ℕ) (lines : List (List ℕ)) → fault_of earlier (line_of line) ≡ None → lines_ask (earlier ++ line_of line ∷ []) lines ≡ true → lines_ask earlier (line ∷ lines) ≡ true
 lines_ask-later earlier line lines fine asks = or_later (line_asks (is_in_place earlier) line) _ (rw fine asks)
 

@@ -28,7 +28,7 @@ row_left columns rows i texts below fits =
 pub rows_more : {A : Type 0} (view : A → List (List ℕ)) (columns i : ℕ) (texts : List (List ℕ)) (rows : List A) (row : A) → map view rows ≡ map (row_at columns texts) (range_with_len 0 i) → view row ≡ take columns (drop (i * columns) texts) → map view (rows ++ row ∷ []) ≡ map (row_at columns texts) (range_with_len 0 (i + 1))
 rows_more view columns i texts rows row before is = map-append view rows (row ∷ []) ∙ ap₂ (λ (xs : List (List (List ℕ))) (y : List (List ℕ)). xs ++ y ∷ []) before is ∙ sym (map-range_with_len_more (row_at columns texts) 0 i i (omega arith))
 
--- the texts behind one row more
+-- the texts after one row more
 pub left_more : (columns i : ℕ) (texts : List (List ℕ)) → drop columns (drop (i * columns) texts) ≡ drop ((i + 1) * columns) texts
 left_more columns i texts = drop-drop columns (i * columns) texts ∙ ap (λ n. drop n texts) (omega arith)
 
@@ -40,7 +40,7 @@ abbrev rest : Read (List ℕ) → List (List ℕ)
 rest (Ok read) = read.1
 rest (Err fault) = []
 
--- the word that was read, and those behind it
+-- the word that was read, and those after it
 pub word_read : (texts now : List (List ℕ)) (i : ℕ) (x : List ℕ) (new : List (List ℕ)) → now ≡ drop i texts → i < length texts → first_word now ≡ Ok (x, new) → (x ≡ get_or texts i []) × (new ≡ drop (i + 1) texts)
 word_read texts now i x new is below told =
     let next : ◌≡◌ {A = Read (List ℕ)} (Ok (x, new)) (Ok (get_or texts i [], drop (i + 1) texts)) = sym told ∙ ap first_word (is ∙ drop_more texts i [] below) in

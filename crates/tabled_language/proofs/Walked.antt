@@ -184,7 +184,7 @@ pub record HasWalked (rows columns : ℕ) (es : List Anchor) (k : ℕ) (m : BTre
 pub has_walked-none : (rows columns : ℕ) (es : List Anchor) (m : BTreeMap ℕ Anchor) → m.entries ≡ [] → HasWalked rows columns es 0 m
 has_walked-none rows columns es m none = record { row = 0; walked = walked-none m 0 none; below = λ d within. omega arith; fits = refl }
 
--- none has a place behind one that has none
+-- none has a place after one that has none
 cut_short : (rows columns : ℕ) (done xs ys : List Anchor) → have_places rows columns done xs ≡ false → have_places rows columns done (xs ++ ys) ≡ false
 cut_short rows columns done [] ys h = absurd (never h)
   where
@@ -196,7 +196,7 @@ cut_short rows columns done (x ∷ xs) ys h = by (has_place rows columns done x)
     by false g later = refl
     by true g later = later g
 
--- an anchor that has no place behind those gone through
+-- an anchor that has no place after those gone through
 pub has_walked-stop : (rows columns : ℕ) (es : List Anchor) (k : ℕ) (e : Anchor) → k < length es → e ≡ get_or es k e → has_place rows columns (take k es) e ≡ false → fit_in rows columns es ≡ false
 has_walked-stop rows columns es k e within is none =
     let more : take (k + 1) es ≡ take k es ++ e ∷ [] = take_more es k e within ∙ ap (λ (a : Anchor). take k es ++ a ∷ []) (sym is) in

@@ -22,23 +22,23 @@ abbrev pub is_nil : {A : Type 0} → List A → Bool
 is_nil [] = true
 is_nil (x ∷ xs) = false
 
--- a line stands in its place behind what was read
+-- a line stands in its place after what was read
 abbrev pub takes : Draft → Line → Bool
 takes d (ShapeLine read) = is_none d.shape && (is_nil d.records && (is_nil d.anchors && is_nil d.steps))
 takes d (RecordLine texts) = is_nil d.anchors && is_nil d.steps
 takes d (SpanLine read) = is_nil d.steps
 takes d line = true
 
--- what is wrong with a line behind what was read
+-- what is wrong with a line after what was read
 abbrev pub fault_behind : Draft → Line → Option Fault
 fault_behind d line = if takes d line then words_fault line else Some OutOfPlace
 
--- the number and the shape of the first line that says one, behind so many lines
+-- the number and the shape of the first line that says one, after n lines
 abbrev pub shape_among : ℕ → List Line → Option (ℕ × (ℕ × ℕ))
 shape_among n [] = None
 shape_among n (line ∷ lines) = option_or (option_map (λ shape. (n + 1, shape)) (shape_in line)) (shape_among (n + 1) lines)
 
--- the number of the line of each anchor, among lines behind so many
+-- the number of the line of each anchor, among lines after n
 abbrev pub anchor_lines : ℕ → List Line → List ℕ
 anchor_lines n [] = []
 anchor_lines n (line ∷ lines) = go (anchor_in line) (anchor_lines (n + 1) lines)

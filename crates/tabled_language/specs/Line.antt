@@ -46,7 +46,7 @@ abbrev pub line_of : List ℕ → Line
 line_of [] = EmptyLine
 line_of (b ∷ bs) = meaning_of (texts_of (words_of (b ∷ bs)))
 
--- a line may stand behind an earlier one: the shape comes first, then records, then spans, then steps
+-- a line may stand after an earlier one: the shape comes first, then records, then spans, then steps
 abbrev pub may_follow : Line → Line → Bool
 may_follow line EmptyLine = true
 may_follow (ShapeLine read) earlier = false
@@ -55,7 +55,7 @@ may_follow (RecordLine texts) (StepLine step) = false
 may_follow (SpanLine read) (StepLine step) = false
 may_follow line earlier = true
 
--- a line stands in its place behind earlier lines
+-- a line stands in its place after earlier lines
 abbrev pub is_in_place : List Line → Line → Bool
 is_in_place earlier line = list_all (may_follow line) earlier
 
@@ -73,11 +73,11 @@ words_fault (SpanLine read) = fault_in read
 words_fault (StepLine step) = None
 words_fault (FaultyLine fault) = Some fault
 
--- what is wrong with a line by itself, behind earlier lines. Its first word is out of place before a later word is wrong
+-- what is wrong with a line by itself, after earlier lines. Its first word is out of place before a later word is wrong
 abbrev pub fault_of : List Line → Line → Option Fault
 fault_of earlier line = if is_in_place earlier line then words_fault line else Some OutOfPlace
 
--- the number of the first line at fault by a test and its fault, among lines behind earlier ones
+-- the number of the first line at fault by a test and its fault, among lines after earlier ones
 abbrev pub first_fault : (List Line → Line → Option Fault) → List Line → List Line → Option (ℕ × Fault)
 first_fault fault_at earlier [] = None
 first_fault fault_at earlier (line ∷ lines) = go (fault_at earlier line) (first_fault fault_at (earlier ++ line ∷ []) lines)
@@ -115,7 +115,7 @@ unless_it passes fault (Some x) = if passes x then None else Some fault
 abbrev pub shape_fault : Grid (List ℕ) → List Line → Line → Option Fault
 shape_fault g earlier line = unless_it (λ shape. (shape.0 == g.rows) && (shape.1 == g.columns)) ShapeDiffers (shape_in line)
 
--- what is wrong with an anchor in a table, behind earlier lines
+-- what is wrong with an anchor in a table, after earlier lines
 abbrev pub span_fault : Grid (List ℕ) → List Line → Line → Option Fault
 span_fault g earlier line = unless_it (has_place g.rows g.columns (filter_map anchor_in earlier)) SpanMisfits (anchor_in line)
 
@@ -172,7 +172,7 @@ words_ask in_place (verb ∷ texts) =
 abbrev pub line_asks : (Line → Bool) → List ℕ → Bool
 line_asks in_place line = if is_plain line then words_ask in_place (words_of line) else true
 
--- reading lines behind earlier ones does: one of them up to the first that is faulty by itself. The checks of the whole ask for none but where a span did
+-- reading lines after earlier ones does: one of them up to the first that is faulty by itself. The checks of the whole ask for none but where a span did
 abbrev pub lines_ask : List Line → List (List ℕ) → Bool
 lines_ask earlier [] = false
 lines_ask earlier (line ∷ lines) = line_asks (is_in_place earlier) line || go (fault_of earlier (line_of line)) (lines_ask (earlier ++ line_of line ∷ []) lines)

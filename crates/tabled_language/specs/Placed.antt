@@ -7,7 +7,7 @@ use Rattle.tabled_grid.specs.Anchors.{Anchor, lies_inside, meets}
 abbrev pub has_place : ℕ → ℕ → List Anchor → Anchor → Bool
 has_place rows columns anchors e = lies_inside rows columns e && not (list_any (meets e) anchors)
 
--- each anchor has a place behind those before it
+-- each anchor has a place after those before it
 abbrev pub have_places : ℕ → ℕ → List Anchor → List Anchor → Bool
 have_places rows columns done [] = true
 have_places rows columns done (e ∷ es) = has_place rows columns done e && have_places rows columns (done ++ e ∷ []) es
@@ -16,7 +16,7 @@ have_places rows columns done (e ∷ es) = has_place rows columns done e && have
 abbrev pub fit_in : ℕ → ℕ → List Anchor → Bool
 fit_in rows columns es = have_places rows columns [] es
 
--- the anchors before an index have places, and the one there has none behind them
+-- the anchors before an index have places, and the one there has none after them
 pub record IsFirstMisfit (rows columns : ℕ) (es : List Anchor) (i : ℕ) : Type 0 where
   pub within : i < length es
   pub before : fit_in rows columns (take i es) ≡ true

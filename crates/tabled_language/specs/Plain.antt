@@ -20,7 +20,7 @@ begin_a_table (Some (verb ∷ texts)) = bytes_eq verb (codes "shape") || bytes_e
 abbrev pub has_either_word : List ℕ → Bool
 has_either_word input = list_any (λ line. begin_a_table (texts_of (words_of line))) (lines_of input)
 
--- what a verb says with the texts behind it: a record or a step
+-- what a verb says with the texts after it: a record or a step
 abbrev pub says_plainly : List ℕ → List (List ℕ) → Line
 says_plainly verb texts = if bytes_eq verb (codes "row") then RecordLine texts else step_line (whole (behind steps verb) texts)
 
@@ -46,7 +46,7 @@ plain_fault_of stepped (RecordLine texts) = if stepped then Some OutOfPlace else
 plain_fault_of stepped (FaultyLine fault) = Some fault
 plain_fault_of stepped line = None
 
--- what is wrong with a line behind earlier lines
+-- what is wrong with a line after earlier lines
 abbrev pub plain_fault : List Line → Line → Option Fault
 plain_fault earlier line = plain_fault_of (list_any is_step earlier) line
 

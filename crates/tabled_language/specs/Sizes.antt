@@ -1,4 +1,4 @@
--- The words behind `shape` and `span`.
+-- The words after `shape` and `span`.
 use Rattle.std.specs.Prelude.{ℕ, ◌==◌, ◌&&◌, if◌then◌else◌}
 use Rattle.tabled_grid.specs.Anchors.{Anchor}
 use Rattle.tabled_grid.specs.Entity.{place}
@@ -9,7 +9,7 @@ use Rattle.tabled_language.specs.Words.{Reading, fails, gives, reads_extent, rea
 abbrev pub reads_shape : Reading (ℕ × ℕ)
 reads_shape = then_reads reads_size (λ rows. then_reads reads_size (λ columns. gives (rows, columns)))
 
--- a width behind a height; one cell is no rectangle
+-- a width after a height; one cell is no rectangle
 abbrev pub reads_width : ℕ → Reading ℕ
 reads_width height = then_reads reads_extent (λ width. if (height == 1) && (width == 1) then fails NumberRange else gives width)
 

@@ -71,7 +71,7 @@ reads_rotate = reads_one_of ((codes "left", gives Left) ∷ (codes "right", give
 abbrev pub reads_side : Reading Axis
 reads_side = reads_one_of ((codes "vertical", gives Rows) ∷ (codes "horizontal", gives Columns) ∷ [])
 
--- so many rows of so many texts
+-- r rows of c texts
 abbrev pub rows_of : ℕ → ℕ → List (List ℕ) → Grid (List ℕ)
 rows_of rows columns texts = record { rows = rows; columns = columns; cells = map (λ (i : ℕ). take columns (drop (i * columns) texts)) (range_with_len 0 rows) }
 
@@ -150,7 +150,7 @@ reads_concat = then_reads reads_side (λ axis. then_reads reads_text (λ default
 abbrev pub reads_split : Reading (State → State)
 reads_split = then_reads reads_cut_lines (λ lines. then_reads reads_number (λ index. then_reads reads_behavior (λ pieces. then_reads reads_display (λ shown. gives (cut (record { lines = lines; behavior = pieces; display = shown; index = index }))))))
 
--- the verbs of steps, and what is read behind each
+-- the verbs of steps, and what is read after each
 abbrev pub steps : Choices (State → State)
 steps =
     (codes "set", reads_set)
@@ -174,7 +174,7 @@ steps =
     ∷ (codes "split", reads_split)
     ∷ []
 
--- what a verb says with the texts behind it
+-- what a verb says with the texts after it
 abbrev pub says : List ℕ → List (List ℕ) → Line
 says verb texts =
     if bytes_eq verb (codes "row") then RecordLine texts

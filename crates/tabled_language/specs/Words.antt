@@ -76,16 +76,16 @@ reads_size = then_reads reads_word (λ text. in_range (size_of text))
 abbrev pub reads_extent : Reading ℕ
 reads_extent = then_reads reads_size (λ n. if n == 0 then fails NumberRange else gives n)
 
--- words, and what is read behind each of them
+-- words, and what is read after each of them
 abbrev pub Choices : Type 0 → Type 0
 Choices A = List (List ℕ × Reading A)
 
--- what is read behind one of these words
+-- what is read after one of these words
 abbrev pub behind : {A : Type 0} → Choices A → List ℕ → Reading A
 behind [] word = fails UnknownWord
 behind ((name, reading) ∷ others) word = if bytes_eq word name then reading else behind others word
 
--- one of these words, and what is read behind it
+-- one of these words, and what is read after it
 abbrev pub reads_one_of : {A : Type 0} → Choices A → Reading A
 reads_one_of choices = then_reads reads_word (behind choices)
 

@@ -134,7 +134,7 @@ impl Draft {
         Ok(())
     }
 
-    /// Says that a record stands behind a span or a step, where it does.
+    /// Says that a record stands after a span or a step, where it does.
     fn before_spans(&self) -> Read<()>
         ensures { MatchResult result (λ _. takes (draft_in self.now) (RecordLine []) ≡ true) (λ error. (error ≡ Faulty OutOfPlace) × (takes (draft_in self.now) (RecordLine []) ≡ false)) }
     {
@@ -161,7 +161,7 @@ impl Draft {
         Ok(())
     }
 
-    /// Adds the step that a verb and the words behind it say, or says why it isn't read.
+    /// Adds the step that a verb and the words after it say, or says why it isn't read.
     fn read_step(&mut self, alloc: Global, _number: usize, verb: &str, mut words: Words) -> Read<()>
         ensures read { ReadsLine (draft_in self.old) _number (step_line (whole (behind steps verb.now) words.entry)) (keeping_asks (behind steps verb.now) words.entry) result (draft_in self.new) }
         ensures sizes { IfOk result (λ _. IsNumbered self.old → IsNumbered self.new) }

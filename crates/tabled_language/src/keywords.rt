@@ -1,4 +1,4 @@
-//! The words behind a verb that are one of a few.
+//! The words after a verb that are one of a few.
 
 use crate::fault::{Fault, ReadError};
 use crate::words::{Read, Words};

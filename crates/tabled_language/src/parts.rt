@@ -52,7 +52,7 @@ impl<'a> Iterator for Parts<'a> {
     }
 }
 
-/// The part before the first place of a byte, and what is behind that place.
+/// The part before the first place of a byte, and what is after that place.
 fn first_part(bytes: &[u8], at: u8) -> (&[u8], Option<&[u8]>)
     ensures { slice_split (λ b. b == at) bytes.now ≡ result.0.now ∷ parts_left at result.1 }
 {

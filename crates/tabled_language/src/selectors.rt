@@ -42,7 +42,7 @@ impl<'a> Words<'a> {
         Ok(Box::new(alloc, select)?)
     }
 
-    /// What is behind the word of a selector, where others are held to a depth.
+    /// What is after the word of a selector, where others are held to a depth.
     #[cycle(nested)]
     fn selector_behind(&mut self, alloc: Global, depth: usize, word: &str) -> Read<Select>
         ensures { Reads named_by (behind (selectors (kept (reads_selector depth))) word.now) self.old result self.new }
@@ -89,7 +89,7 @@ impl<'a> Words<'a> {
         }
     }
 
-    /// What is behind the word of a selector that holds no other and no text.
+    /// What is after the word of a selector that holds no other and no text.
     fn plain_selector(&mut self, word: &str) -> Read<Select>
         ensures { Reads named_by (behind plain_selectors word.now) self.old result self.new }
     {

@@ -1,4 +1,4 @@
-//! The words behind `shape` and `span`.
+//! The words after `shape` and `span`.
 
 use crate::fault::{Fault, ReadError};
 use crate::spans::Anchor;
@@ -32,7 +32,7 @@ impl<'a> Words<'a> {
         Ok((Position::new(row, column), (height, width)))
     }
 
-    /// A width behind a height; one cell is no rectangle.
+    /// A width after a height; one cell is no rectangle.
     fn width(&mut self, height: usize) -> Read<usize>
         ensures read { Reads (λ width. width) (reads_width height) self.old result self.new }
         ensures size { IfOk result (λ width. (1 ≤ width) × (height ≡ 1 → 1 < width)) }

@@ -61,7 +61,7 @@ fn fit(
     have_places(alloc, sorted, rows, columns)
 }
 
-/// The index of the first anchor that has no place behind those before it.
+/// The index of the first anchor that has no place after those before it.
 fn first_misfit(
     alloc: Global,
     mut sorted: Vec<Anchor>,
@@ -73,7 +73,7 @@ fn first_misfit(
     requires misfits { fit_in rows columns anchors.now ≡ false }
     ensures { IfOk result (λ misfit. IsFirstMisfit rows columns anchors.now misfit) }
 {
-    // So many of the first anchors fit, and so many do not.
+    // The first `fitting` anchors fit, and the first `failing` do not.
     let mut fitting = 0;
     let mut failing = anchors.len();
     let mut step: usize = 1;

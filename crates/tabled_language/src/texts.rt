@@ -109,7 +109,7 @@ impl<'a> Iterator for Fields<'a> {
     }
 }
 
-/// The first word of a line, and what is behind its tab.
+/// The first word of a line, and what is after its tab.
 fn first_word(line: &str) -> (&str, Option<&str>)
     ensures { words_of line.now ≡ result.0.now ∷ parts_left 9 result.1 }
 {

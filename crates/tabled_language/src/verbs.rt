@@ -1,4 +1,4 @@
-//! Steps read from the verb of a line and the words behind it.
+//! Steps read from the verb of a line and the words after it.
 
 use crate::fault::{Fault, ReadError};
 use crate::words::{Read, Words};
@@ -24,7 +24,7 @@ impl<'a> Words<'a> {
     ghost use Rattle.tabled_language.specs.declared.fault.ReadError.TheVariants.{OutOfMemory};
     ghost use Rattle.tabled_steps.specs.States.{after};
 
-    /// What is behind the verb of a step.
+    /// What is after the verb of a step.
     pub(crate) fn step(&mut self, alloc: Global, verb: &str) -> Read<Step>
         ensures { Reads after (behind steps verb.now) self.old result self.new }
     {
@@ -213,7 +213,7 @@ impl<'a> Words<'a> {
         }
     }
 
-    /// So many rows of so many texts.
+    /// r rows of c texts.
     fn rows(&mut self, alloc: Global, rows: usize, columns: usize) -> Read<Vec<Vec<Text<String>>>>
         requires { rows * columns ≤ length self.old }
         ensures { MatchResult result (λ cells. (map (map string_bytes) (map_items cells.items) ≡ (rows_of rows columns self.old).cells) × (self.new ≡ drop (rows * columns) self.old)) (λ error. error ≡ OutOfMemory) }

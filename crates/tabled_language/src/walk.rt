@@ -80,7 +80,7 @@ fn is_inside(anchor: Anchor, rows: usize, columns: usize) -> bool
     ends_by(first.row, height, rows) && ends_by(first.col, width, columns)
 }
 
-/// Says whether so many indexes from one on end at an index or before it.
+/// Says whether n indexes from one on end at an index or before it.
 fn ends_by(first: usize, many: usize, index: usize) -> bool
     ensures { result ≡ nat_le (first + many) index }
 {

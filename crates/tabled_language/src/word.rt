@@ -10,7 +10,7 @@ use std::alloc::{AllocError, Global};
 /// The largest number that a step may name.
 const LARGEST_NUMBER: usize = 10_000;
 
-/// What a letter behind a backslash stands for.
+/// What a letter after a backslash stands for.
 fn escape(letter: u8) -> Option<u8>
     ensures { result ≡ escape letter }
 {

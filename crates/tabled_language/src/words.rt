@@ -147,7 +147,7 @@ impl<'a> Words<'a> {
         }
     }
 
-    /// So many texts.
+    /// n texts.
     pub(crate) fn row(&mut self, alloc: Global, many: usize) -> Read<Vec<Text<String>>>
         requires { many ≤ length self.old }
         ensures { MatchResult result (λ row. (map string_bytes row.items ≡ take many self.old) × (self.new ≡ drop many self.old)) (λ error. error ≡ OutOfMemory) }

@@ -36,7 +36,7 @@ where
     log.is_told(done, want)
 }
 
-/// Whether an option writes `abc..` on tables and on cells, and none behind the letter that is refused.
+/// Whether an option writes `abc..` on tables and on cells, and none after the letter that is refused.
 fn writes_in_order<O>(alloc: Global, option: O, count: usize) -> bool
 where
     O: TableOption<Flat, Log, ()> + CellOption<Flat, Log> + Copy,
@@ -114,7 +114,7 @@ fn lists_stop_at_a_refused_copy(rt: HostRuntime) {
     }
 }
 
-/// Whether an option on tables leaves these texts in a store that takes so many changes, and is refused
+/// Whether an option on tables leaves these texts in a store that takes n changes, and is refused
 /// where it says so.
 fn leaves<O>(alloc: Global, option: O, changes: usize, refused: bool, want: &str) -> bool
 where

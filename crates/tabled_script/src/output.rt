@@ -101,7 +101,7 @@ fn is_plain(text: &[u8]) -> bool
     ensures { IsTrue result → escaped text.now ≡ text.now }
 {
     for byte in text {
-        // Small letters, and all that is no ASCII, lie behind the backslash: one comparison passes them.
+        // Small letters, and all that is no ASCII, lie after the backslash: one comparison passes them.
         if *byte <= b'\\' && matches!(*byte, b'\t' | b'\n' | b'\\') {
             return false;
         }

@@ -110,7 +110,7 @@ fn what_is_written_is_flushed_or_failed(rt: HostRuntime) -> Result<(), Fail> {
         ("", 3, "out of memory\n"),
     ] {
         for at_most in [1, 5, 64] {
-            // So many writes, and to flush.
+            // n writes, and to flush.
             let calls = output.len().div_ceil(at_most) + 1;
             for kind in [ErrorKind::BrokenPipe, ErrorKind::Interrupted] {
                 for before in 0..calls + 2 {

@@ -154,7 +154,7 @@ fn answers_tables(rt: HostRuntime) -> Result<(), Fail> {
         ("shape\t2\t1\nspin\n", "line 2: fault 1\n"),
         ("row\ta\nvmerge\nspan\t0\t0\t1\t2\n", "line 3: fault 6\n"),
         ("row\ta\nshape\t1\t1\n", "line 2: fault 6\n"),
-        // A line is out of place before the words behind its first are read, but not before its escapes are.
+        // A line is out of place before the words after its first are read, but not before its escapes are.
         ("vmerge\nspan\tx\n", "line 2: fault 6\n"),
         ("row\ta\nshape\tx\n", "line 2: fault 6\n"),
         ("vmerge\nspan\t\\q\n", "line 2: fault 4\n"),
@@ -186,7 +186,7 @@ fn answers_tables(rt: HostRuntime) -> Result<(), Fail> {
             "row\ta\tb\nspan\t0\t0\t18446744073709551615\t2\n",
             "line 2: fault 7\n",
         ),
-        // The later of two lines that share a cell is at fault, and the first such line, behind all other faults.
+        // The later of two lines that share a cell is at fault, and the first such line, after all other faults.
         (
             "row\ta\tb\tc\nspan\t0\t1\t1\t2\nspan\t0\t0\t1\t2\n",
             "line 3: fault 7\n",
@@ -210,7 +210,7 @@ fn answers_tables(rt: HostRuntime) -> Result<(), Fail> {
     Ok(())
 }
 
-/// A text once, another so many times, and a third once.
+/// A text once, another n times, and a third once.
 fn repeated(
     alloc: Global,
     start: &str,
@@ -229,7 +229,7 @@ fn repeated(
 #[test]
 fn answers_long_scripts(rt: HostRuntime) -> Result<(), Fail> {
     for (start, text, times, end, output) in [
-        // Rows that are as long as each other are written as they were read, behind their shape.
+        // Rows that are as long as each other are written as they were read, after their shape.
         ("row", "\t", 255, "\n", "shape\t1\t255\n"),
         ("row", "\t", 256, "\n", "shape\t1\t256\n"),
         ("row", "\t", 1_000, "\n", "shape\t1\t1000\n"),

@@ -33,7 +33,7 @@ before_last n = record { offset = n; is_past = false }
 abbrev pub past_last : ℕ → FromLast
 past_last n = record { offset = n; is_past = true }
 
--- the index so far before or past the last of so many, or none where there is no such index
+-- the index so far before or past the last of n, or none where there is no such index
 abbrev pub index_from_last : FromLast → ℕ → List ℕ
 index_from_last from_last count = if count == 0 then [] else (if from_last.is_past then past (count - 1 + from_last.offset) else before (count - 1))
   where

@@ -40,7 +40,7 @@ pub piece_index_below : (o : PieceOrder) (lines pieces i k : ℕ) → i < lines 
 piece_index_below Zip lines pieces i k h l = omega (arith, row_fits i pieces lines pieces h (omega arith), l)
 piece_index_below Concat lines pieces i k h l = omega (arith, row_fits k lines pieces lines l (omega arith), h)
 
--- blocks of as many items, one behind the other
+-- blocks of as many items, one after the other
 module _ {A : Type 0} (f : ℕ → List A) (n : ℕ) where
   pub length-blocks : (a m : ℕ) → ((k : ℕ) → k < a + m → length (f k) ≡ n) → length (flat_map f (range_with_len a m)) ≡ m * n
   length-blocks a zero wide = omega arith

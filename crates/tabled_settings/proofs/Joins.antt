@@ -81,7 +81,7 @@ module _ {A : Type 0} (text_of : A → List ℕ) (want : ℕ → ℕ → List �
         earlier a b k outside (inl below) = at_or a b k below (cases_lt a i)
         earlier a b k outside (inr (at, less)) = absurd (omega (arith, less))
 
-    -- the row begins behind the first table, where it is one of its rows
+    -- the row begins after the first table, where it is one of its rows
     pub fills_begun : (start : ℕ) → j ≡ 0 → (i < rows → start ≡ columns) → (rows ≤ i → start ≡ 0) → FillsTo text_of want rows columns i start old now
     fills_begun start none in_first below_first = fills_at i start earlier
       where

@@ -48,7 +48,7 @@ pub past_line : {A : Type 0} (axis : Axis) (g : Grid A) (i j : ℕ) → IsEven g
 past_line Rows g i j even h = none_outside g i j even (inr h)
 past_line Columns g i j even h = none_outside g j i even (inl h)
 
--- so many lines of a width, which are longer than a piece
+-- n lines of a width, which are longer than a piece
 pub record CanBeCut {A : Type 0} (s : Split) (lines width : ℕ) (g : Grid A) : Type 0 where
   pub even : IsEven g
   pub count : lines ≡ count_along s.lines g

@@ -61,7 +61,7 @@ module _ {A : Type 0} (weight : A → ℕ) where
       ∙ sum_by-map-range_with_len_more weight f 0 n n (omega arith)
       ∙ ap (λ (a : ℕ). a + weight (f n)) (sum_by-range n f)
 
-  -- by place, and as far behind the end as one likes, where the default weighs nothing
+  -- by place, and as far after the end as one likes, where the default weighs nothing
   pub sum_by-places : (xs : List A) (d : A) (n : ℕ) → weight d ≡ 0 → length xs ≤ n → sum_by weight xs ≡ sum_to n (λ (k : ℕ). weight (get_or xs k d))
   sum_by-places xs d n light enough =
       let f : ℕ → ℕ = λ (k : ℕ). weight (get_or xs k d) in

@@ -12,12 +12,12 @@ use Rattle.tabled_grid.specs.Places.{Places, ReadsThrough}
 abbrev pub widened : ℕ → ℕ → ℕ → ℕ → Places
 widened rows columns new_rows new_columns = record { rows = new_rows; columns = new_columns; old_place = λ (p : Position). if nat_lt p.row rows && nat_lt p.col columns then Some p else None }
 
--- where the second table begins in a first one of so many rows and columns: below it, or right of it
+-- where the second table begins in a first one of r rows and c columns: below it, or right of it
 abbrev pub corner_of : Axis → ℕ → ℕ → Position
 corner_of Rows rows columns = place rows 0
 corner_of Columns rows columns = place 0 columns
 
--- a first table of so many rows and columns with room for a second one that begins at a corner
+-- a first table of r rows and c columns with room for a second one that begins at a corner
 abbrev pub joined_places : {A : Type 0} → Position → Grid A → ℕ → ℕ → Places
 joined_places corner second rows columns = widened rows columns (max rows (corner.row + second.rows)) (max columns (corner.col + second.columns))
 
@@ -37,7 +37,7 @@ pub record GrowsTo {A : Type 0} (rows columns : ℕ) (old new : Grid A) : Type 0
   pub columns_are : new.columns ≡ columns
   pub kept : (a b : ℕ) → a < old.rows → b < old.columns → cell_at new (place a b) ≡ cell_at old (place a b)
 
--- the cells outside of so many rows and columns, before a place, row by row, have certain texts; the others are as they were
+-- the cells outside of r rows and c columns, before a place, row by row, have certain texts; the others are as they were
 pub record FillsTo {A : Type 0} (text_of : A → List ℕ) (want : ℕ → ℕ → List ℕ) (rows columns i j : ℕ) (old new : Grid A) : Type 0 where
   pub even : IsEven new
   pub rows_are : new.rows ≡ old.rows

@@ -12,7 +12,7 @@ abbrev pub line : {A : Type 0} → Axis → Grid A → ℕ → List (Option A)
 line {A} Rows g i = map Some (slice_index_or g.cells i [])
 line {A} Columns g j = map (λ (row : List A). slice_get row j) g.cells
 
--- so many lines from s on and as many before e have changed places, the outermost first
+-- n lines from s on and as many before e have changed places, the outermost first
 pub record ReversesEnds {A : Type 0} (axis : Axis) (s e k : ℕ) (old new : Grid A) : Type 0 where
   pub shape : IsShapedAs old new
   pub front : (i : ℕ) → s ≤ i → i < s + k → line axis new i ≡ line axis old (s + e - 1 - i)
@@ -26,7 +26,7 @@ pub record ReversesLines {A : Type 0} (axis : Axis) (s e : ℕ) (old new : Grid 
   pub inside : (i : ℕ) → s ≤ i → i < e → line axis new i ≡ line axis old (s + e - 1 - i)
   pub outside : (i : ℕ) → (i < s) ⊎ (e ≤ i) → line axis new i ≡ line axis old i
 
--- so many lines from s on have come to the front; those behind them are as they were
+-- n lines from s on have come to the front; those after them are as they were
 pub record BringsLines {A : Type 0} (axis : Axis) (s k : ℕ) (old new : Grid A) : Type 0 where
   pub shape : IsShapedAs old new
   pub front : (i : ℕ) → i < k → line axis new i ≡ line axis old (s + i)

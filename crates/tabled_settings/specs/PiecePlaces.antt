@@ -46,15 +46,15 @@ pub record Splits {A : Type 0} (is_blank : A → Type 0) (text_of : A → List �
   pub cells : FillsThrough is_blank (split_places s (map_grid text_of old)) old new
   pub unsplit : has_pieces s old.rows old.columns ≡ false → new ≡ old
 
--- the pieces of line i, one behind the other, cut at a width
+-- the pieces of line i, one after the other, cut at a width
 abbrev pub glued_line : {A : Type 0} → PieceOrder → ℕ → ℕ → ℕ → List (List A) → ℕ → List A
 glued_line order lines pieces width rows i = take width (flat_map (λ (k : ℕ). slice_index_or rows (piece_index order lines pieces i k) []) (range_with_len 0 pieces))
 
--- so many rows of so many cells, from the rows that are their pieces
+-- r rows of c cells, from the rows that are their pieces
 abbrev pub glue_rows : {A : Type 0} → Split → ℕ → ℕ → Grid A → Grid A
 glue_rows s lines width h = record { rows = lines; columns = width; cells = map (glued_line s.behavior lines (div_ceil width s.index) width h.cells) (range_with_len 0 lines) }
 
--- a table of so many rows and columns, from the rows, or the columns, that are the pieces of its own
+-- a table of r rows and c columns, from the rows, or the columns, that are the pieces of its own
 abbrev pub glued : {A : Type 0} → Split → ℕ → ℕ → Grid A → Grid A
 glued s rows columns h = turned s.lines (glue_rows s (count_of s.lines rows columns) (count_of (across s.lines) rows columns) (turned s.lines h))
 

@@ -12,7 +12,7 @@ use Rattle.tabled_settings.specs.declared.split.Display.{Display}
 use Rattle.tabled_settings.specs.declared.split.Display.TheVariants.{Clean, Retain}
 use Rattle.tabled_settings.specs.declared.split.Split.{Split}
 
--- piece k of a line: its n texts from k * n on, with empty ones behind its end
+-- piece k of a line: its n texts from k * n on, with empty ones after its end
 abbrev pub piece : ℕ → ℕ → List (List ℕ) → List (List ℕ)
 piece n k texts = map (λ (b : ℕ). slice_index_or texts (k * n + b) []) (range_with_len 0 n)
 
@@ -50,7 +50,7 @@ abbrev pub turned : {A : Type 0} → Axis → Grid A → Grid A
 turned Rows g = g
 turned Columns g = transposed g
 
--- a table of so many rows and columns has lines that are longer than a piece
+-- a table of r rows and c columns has lines that are longer than a piece
 abbrev pub has_pieces : Split → ℕ → ℕ → Bool
 has_pieces s rows columns = nat_lt 0 (count_of s.lines rows columns) && (nat_lt 0 s.index && nat_lt s.index (count_of (across s.lines) rows columns))
 

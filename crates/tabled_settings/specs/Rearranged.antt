@@ -1,4 +1,4 @@
--- The rearrangements: where their cells come from, in a table of so many rows and columns.
+-- The rearrangements: where their cells come from, in a table of r rows and c columns.
 use Rattle.std.specs.Prelude.{◌≡◌, ℕ, ◌+◌, ◌-◌, ◌==◌, ◌&&◌, if◌then◌else◌, Bool, List, Some, length, min, nat_le, nat_lt, not, slice_index_or}
 use Rattle.std.specs.List.{filter, range_with_len}
 use Rattle.std.specs.declared.ops.Bound.{Bound}
@@ -27,7 +27,7 @@ Rearranges places g c h d = ReadsThrough places g h × (d ≡ carried places g.r
 abbrev pub carried_if : Bool → Places → ℕ → ℕ → SpanMap → SpanMap
 carried_if moves places rows columns m = if moves then carried places rows columns m else m
 
--- so many columns, of which there are none without rows
+-- n columns, of which there are none without rows
 abbrev pub columns_if : ℕ → ℕ → ℕ
 columns_if rows columns = if rows == 0 then 0 else columns
 
@@ -68,7 +68,7 @@ reversed axis start limit rows columns = lines_from axis (reversed_index start (
 abbrev pub count_in : (Bound ℕ × Bound ℕ) → ℕ → ℕ
 count_in range n = min (end_index range.1 n) n - first_index range.0
 
--- so many rows and columns from a place on
+-- r rows and c columns from a place on
 abbrev pub window : Position → ℕ → ℕ → Places
 window first rows columns = record { rows = rows; columns = columns; old_place = λ (p : Position). Some (place (first.row + p.row) (first.col + p.col)) }
 

@@ -140,7 +140,7 @@ where
     ghost acts_like = { Prim.search rules };
 }
 
-/// Where a second table begins: below a first one of so many rows and columns, or right of it.
+/// Where a second table begins: below a first one of r rows and c columns, or right of it.
 fn corner_of(axis: Axis, rows: usize, columns: usize) -> Position
     ensures place { result ≡ corner_of axis rows columns }
     ensures row { result.row ≤ rows }
@@ -152,7 +152,7 @@ fn corner_of(axis: Axis, rows: usize, columns: usize) -> Position
     }
 }
 
-/// A shape of so many rows and columns, and one that is no smaller.
+/// A shape of r rows and c columns, and one that is no smaller.
 #[derive(Drop)]
 struct Growth {
     rows: usize,

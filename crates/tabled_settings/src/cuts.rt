@@ -12,7 +12,7 @@ use tabled_grid::config::Position;
 use tabled_grid::records::PieceOrder;
 use tabled_images::Moves;
 
-/// So many lines of a width that are cut, where all pieces are kept.
+/// n lines of a width that are cut, where all pieces are kept.
 #[derive(Drop)]
 pub(crate) struct Cut {
     pub(crate) split: Split,

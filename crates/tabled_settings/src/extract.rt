@@ -124,7 +124,7 @@ where
     ghost acts_like = { Prim.search rules };
 }
 
-/// So many rows and columns of a table, from a place on.
+/// r rows and c columns of a table, from a place on.
 #[derive(Drop)]
 struct Window {
     first: Position,
@@ -135,7 +135,7 @@ struct Window {
 }
 
 impl Window {
-    /// Those of two ranges, of a table of so many rows and columns.
+    /// Those of two ranges, of a table of r rows and c columns.
     fn of(in_rows: &Range<usize>, in_columns: &Range<usize>, rows: usize, columns: usize) -> Self
         ensures { window result.first result.rows result.columns ≡ window (place in_rows.now.start in_columns.now.start) (min in_rows.now.end rows - in_rows.now.start) (columns_if (min in_rows.now.end rows - in_rows.now.start) (min in_columns.now.end columns - in_columns.now.start)) }
     {

@@ -10,7 +10,7 @@ use tabled_grid::config::Position;
 use tabled_grid::records::Axis;
 use tabled_images::Moves;
 
-/// Some of the rows, or of the columns, of a table of so many rows and columns.
+/// Some of the rows, or of the columns, of a table of r rows and c columns.
 #[derive(Drop)]
 pub(crate) struct Kept {
     axis: Axis,

@@ -63,7 +63,7 @@ where
     records.truncate_lines(axis, kept.len());
 }
 
-/// How many of so many lines are in a range.
+/// How many of n lines are in a range.
 pub(crate) fn count_in(range: &Range<usize>, count: usize) -> usize
     ensures { result ≡ min range.now.end count - range.now.start }
 {

@@ -64,7 +64,7 @@ impl Reverse {
         }
     }
 
-    /// So many of them, or all but so many of the last.
+    /// n of them, or all but n of the last.
     ///
     /// Ported from `tabled::settings::Reverse::limit`.
     pub fn limit(self, limit: Offset) -> Self
@@ -73,7 +73,7 @@ impl Reverse {
         Reverse { limit, ..self }
     }
 
-    /// The index past the last line that is reversed, of so many lines, if there are lines to reverse.
+    /// The index past the last line that is reversed, of n lines, if there are lines to reverse.
     fn end(self, count: usize) -> Option<usize>
         ensures some { IfSome result (λ end. (end ≡ limit_end self.limit self.start count) × (self.start < end) × (end ≤ count)) }
         ensures none { IsNone result → (limit_end self.limit self.start count ≤ self.start) ⊎ (count < limit_end self.limit self.start count) }
@@ -136,7 +136,7 @@ where
     ghost acts_like = { Prim.search rules };
 }
 
-/// Lines of a table of so many rows and columns in the opposite order, from a start up to an end.
+/// Lines of a table of r rows and c columns in the opposite order, from a start up to an end.
 #[derive(Drop)]
 struct Mirror {
     axis: Axis,

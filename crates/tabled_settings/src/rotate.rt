@@ -79,7 +79,7 @@ where
     ghost acts_like = { Prim.search rules };
 }
 
-/// A turn of a table of so many rows and columns.
+/// A turn of a table of r rows and c columns.
 #[derive(Drop)]
 struct Turn {
     rotate: Rotate,

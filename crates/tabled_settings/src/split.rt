@@ -59,7 +59,7 @@ pub struct Split {
 }
 
 impl Split {
-    /// Cuts each row into pieces of so many cells, with `zip` and `clean`.
+    /// Cuts each row into pieces of n cells, with `zip` and `clean`.
     ///
     /// Ported from `tabled::settings::split::Split::column`.
     pub fn column(index: usize) -> Self
@@ -73,7 +73,7 @@ impl Split {
         }
     }
 
-    /// Cuts each column into pieces of so many cells, with `zip` and `clean`.
+    /// Cuts each column into pieces of n cells, with `zip` and `clean`.
     ///
     /// Ported from `tabled::settings::split::Split::row`.
     pub fn row(index: usize) -> Self

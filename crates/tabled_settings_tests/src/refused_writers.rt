@@ -9,7 +9,7 @@ use tabled_settings::duplicate::Dup;
 use tabled_settings::format::Format;
 use tabled_settings::formatting::Charset;
 
-/// What is left where so many writes or answers are to be had.
+/// What is left where n writes or answers are to be had.
 const LEFT: [&str; 4] = ["a b c /!", "a! b c /!", "a! b! c /!", "a! b! c! /"];
 
 /// Adds an exclamation mark.

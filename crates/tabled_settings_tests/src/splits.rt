@@ -11,7 +11,7 @@ const WIDE: &str = "a b c d e / f g h i j /";
 
 const GAPS: &str = "a _ _ d / e f _ _ /";
 
-/// Spelled rows of which each but the last of so many goes on in the next one, cut at a width.
+/// Spelled rows of which each but the last of n goes on in the next one, cut at a width.
 fn glued(alloc: Global, pieces: &str, last: usize, width: usize) -> Result<String, AllocError> {
     let mut spelled = String::new(alloc);
     let mut piece = 0;

@@ -6,7 +6,7 @@ use tabled_grid::records::{CellText, ExactRecords, PeekableRecords, Records};
 use tabled_options::TableOption;
 use tabled_testing::{Flat, Nested, Refusing, flat, is_word, nested, spelled};
 
-/// What an option makes of a table, with `!` behind it where it was refused.
+/// What an option makes of a table, with `!` after it where it was refused.
 pub(crate) fn made<R, O>(alloc: Global, mut records: R, option: O) -> Result<String, AllocError>
 where
     R: Records + ExactRecords + PeekableRecords + Drop,
@@ -19,7 +19,7 @@ where
     made_by(alloc, &records, done)
 }
 
-/// A table that was changed, with `!` behind it where that was refused.
+/// A table that was changed, with `!` after it where that was refused.
 pub(crate) fn made_by<R>(
     alloc: Global,
     records: &R,
@@ -81,7 +81,7 @@ where
     made(alloc, Refusing { store, left }, option)
 }
 
-/// The same in a store that refuses all but so many growths and writes. A refusal is told by `!`.
+/// The same in a store that refuses all but n growths and writes. A refusal is told by `!`.
 pub(crate) fn makes_refusing<O>(alloc: Global, left: usize, old: &str, option: O, new: &str) -> bool
 where
     O: TableOption<Refusing<Flat>, SpannedConfig, ()> + Drop,

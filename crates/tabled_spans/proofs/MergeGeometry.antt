@@ -16,7 +16,7 @@ use Rattle.tabled_grid.proofs.SpanMaps.{in_rect-from, in_rect-true, size_at-some
 use Rattle.tabled_spans.specs.Runs.{IsRun, MergesRuns, further, is_free, size_of_run}
 use Rattle.tabled_spans.proofs.Runs.{further_more, further_none}
 
--- a place of a run's rectangle is so many cells from its first
+-- a place of a run's rectangle is n cells from its first
 cell_of : (axis : Axis) (a p : Position) (many : ℕ) → In a (size_of_run axis many) p → (k : ℕ) × (k < many) × (p ≡ further axis k a)
 cell_of Rows a p many h = (p.row - a.row, omega (arith, h.top, h.bottom), ap₂ place (omega (arith, h.top)) (omega (arith, h.left, h.right)))
 cell_of Columns a p many h = (p.col - a.col, omega (arith, h.left, h.right), ap₂ place (omega (arith, h.top, h.bottom)) (omega (arith, h.left)))

@@ -22,11 +22,11 @@ nowhere : (front rest : List ℕ) (c : ℕ) → [] ≡ front ++ (c ∷ rest) →
 nowhere [] rest c e = none_some c rest e
 nowhere (x ∷ front) rest c e = none_some x _ e
 
--- no character with a column stands behind so many columns
+-- no character with a column stands after n columns
 abbrev IsShort : ℕ → List ℕ → Type 0
 IsShort width part = (front rest : List ℕ) (c : ℕ) → part ≡ front ++ (c ∷ rest) → 1 ≤ columns_of c → columns_in front < width
 
--- a character that is put behind others is the last one, or some other is meant
+-- a character that is put after others is the last one, or some other is meant
 last_or_before : (cs front rest : List ℕ) (c d : ℕ) → cs ++ (c ∷ []) ≡ front ++ (d ∷ rest) → ((cs ≡ front) × (c ≡ d)) ⊎ ((less : List ℕ) × (cs ≡ front ++ (d ∷ less)))
 last_or_before [] [] rest c d e = inl (refl, head_same c d [] rest e)
 last_or_before [] (x ∷ front) rest c d e = absurd (nowhere front rest d (tail_same c x [] _ e))
@@ -47,7 +47,7 @@ short_more width part c short here front rest d is some = by (last_or_before par
     by (inl (same, last)) = subst (λ cs. columns_in cs < width) same (here (subst (λ e. 1 ≤ columns_of e) (sym last) some))
     by (inr (less, before)) = short front less d before some
 
--- a character without columns goes behind what is replaced
+-- a character without columns goes after what is replaced
 replaced_on : (cs : List ℕ) (c : ℕ) → columns_of c ≡ 0 → 1 ≤ columns_in cs → last_replaced (cs ++ (c ∷ [])) ≡ last_replaced cs ++ (c ∷ [])
 replaced_on [] c none some = absurd (omega (arith, some))
 replaced_on (d ∷ cs) c none some = by (eqb (columns_in cs) 0) refl (λ h. replaced_on cs c none h)
@@ -61,7 +61,7 @@ replaced_on (d ∷ cs) c none some = by (eqb (columns_in cs) 0) refl (λ h. repl
         let apart = eqb-false _ _ is in
         rw (more, is) (ap (λ xs. d ∷ xs) (later (omega (arith, apart))))
 
--- a character with columns behind others is the one that is replaced
+-- a character with columns after others is the one that is replaced
 replaced_last : (cs : List ℕ) (c : ℕ) → 1 ≤ columns_of c → last_replaced (cs ++ (c ∷ [])) ≡ cs ++ (0xFFFD ∷ [])
 replaced_last [] c some = refl
 replaced_last (d ∷ cs) c some =

@@ -28,7 +28,7 @@ both : (a b : Bool) → T a → T b → T (a && b)
 both true b p q = q
 both false b p q = p
 
--- one entry more, behind all others
+-- one entry more, after all others
 module _ (q : Position) (size : ℕ × ℕ) where
   below_behind : (x : Position) (es : List Anchor) → T (below_all position_cmp x es) → T (is_lt (position_cmp x q)) → T (below_all position_cmp x (es ++ ((q, size) ∷ [])))
   below_behind x [] h l = both _ _ l tt

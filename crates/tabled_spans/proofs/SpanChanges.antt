@@ -110,7 +110,7 @@ pub line_within : (axis : Axis) (first p : Position) (rows columns : ℕ) → fi
 line_within Rows first p rows columns top bottom left right = (left, omega arith)
 line_within Columns first p rows columns top bottom left right = (top, omega arith)
 
--- so many rows or columns from a block's first one on end where the reach does
+-- n rows or columns from a block's first one on end where the reach does
 pub reach_end : (axis : Axis) (first : Position) (bottom right n : ℕ) → first.row ≤ bottom → first.col ≤ right → n ≤ count_of axis bottom right → n ≤ line_of axis first + count_of axis (bottom - first.row) (right - first.col)
 reach_end Rows first bottom right n top left end = omega arith
 reach_end Columns first bottom right n top left end = omega arith

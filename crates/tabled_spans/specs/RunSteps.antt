@@ -9,7 +9,7 @@ use Rattle.tabled_grid.specs.declared.config.position.Position.{Position}
 use Rattle.tabled_grid.specs.declared.records.axis.Axis.{Axis}
 use Rattle.tabled_spans.specs.Runs.{IsRun, size_of_run}
 
--- a run of so many cells begins at the place, or none where that is below 2
+-- a run of n cells begins at the place, or none where that is below 2
 pub record RunAt (axis : Axis) (g : Grid (List ℕ)) (m : SpanMap) (p : Position) (many : ℕ) : Type 0 where
   pub is : 2 ≤ many → IsRun axis g m p many
   pub none : many ≤ 1 → (n : ℕ) → IsRun axis g m p n → ⊥

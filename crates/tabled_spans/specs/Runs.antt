@@ -8,11 +8,11 @@ use Rattle.tabled_grid.specs.Spans.{SpanMap, size_at}
 use Rattle.tabled_grid.specs.declared.config.position.Position.{Position}
 use Rattle.tabled_grid.specs.declared.records.axis.Axis.{Axis}
 
--- the place so many rows (or columns) further
+-- the place n rows (or columns) further
 abbrev pub further : Axis → ℕ → Position → Position
 further axis k p = in_line axis p (line_of axis p + k)
 
--- the size of so many rows (or columns) of one cell
+-- the size of n rows (or columns) of one cell
 abbrev pub size_of_run : Axis → ℕ → ℕ × ℕ
 size_of_run axis many = resized axis (1, 1) many
 

@@ -11,11 +11,11 @@ use Rattle.tabled_grid.specs.declared.records.axis.Axis.{Axis}
 use Rattle.tabled_grid.specs.Axis.{count_of, line_of, resized}
 use Rattle.tabled_spans.specs.Spanned.{stretch}
 
--- the new size at a place, if so many cells from there on are all visible
+-- the new size at a place, if n cells from there on are all visible
 abbrev pub change_at : Axis → SpanMap → Position → ℕ → List Anchor
 change_at axis m p many = if list_all (is_visible m) (stretch axis p (line_of axis p) many) then (p, resized axis (size_at m p) many) ∷ [] else []
 
--- the cells that a span takes from a place on lie in the first so many rows and columns
+-- the cells that a span takes from a place on lie in the first r rows and c columns
 pub record InReach (axis : Axis) (size n bottom right : ℕ) (p : Position) : Type 0 where
   pub row : p.row < bottom
   pub col : p.col < right

@@ -16,7 +16,7 @@ use Rattle.tabled_grid.specs.declared.records.axis.Axis.TheVariants.{Rows, Colum
 use Rattle.tabled_options.specs.Does.{Change, SameOr}
 use Rattle.tabled_options.specs.Writes.{DoesFirstWrites, Write, at_each, with_writes}
 
--- the place in so many rows or columns, from one on
+-- the place in n rows or columns, from one on
 abbrev pub stretch : Axis → Position → ℕ → ℕ → List Position
 stretch axis p first many = map (in_line axis p) (range_with_len first many)
 
@@ -25,11 +25,11 @@ abbrev pub with_span : Axis → SpanMap → Position → ℕ → SpanMap
 with_span Rows = with_row_span
 with_span Columns = with_column_span
 
--- the map with a span over so many cells from a place on, if they are all visible
+-- the map with a span over n cells from a place on, if they are all visible
 abbrev pub with_visible_span : Axis → SpanMap → Position → ℕ → SpanMap
 with_visible_span axis m p many = if list_all (is_visible m) (stretch axis p (line_of axis p) many) then with_span axis m p many else m
 
--- the map after a span of so many cells from a place on, cut at the last of n rows or columns
+-- the map after a span of n cells from a place on, cut at the last of n rows or columns
 abbrev pub grown_at : Axis → ℕ → ℕ → SpanMap → Position → SpanMap
 grown_at axis size n m p = with_visible_span axis m p (min size (n - line_of axis p))
 
@@ -68,7 +68,7 @@ abbrev pub spanned : Axis → ℤ → Entity → ℕ → ℕ → SpanMap → Spa
 spanned axis (pos (suc size)) = grown axis (suc size)
 spanned axis size = pulled axis (back_of size)
 
--- no text for the place in each of so many rows or columns, from one on
+-- no text for the place in each of n rows or columns, from one on
 abbrev pub emptying : Axis → Position → ℕ → ℕ → List Write
 emptying axis p first many = at_each [] (stretch axis p first many)
 

@@ -1,4 +1,4 @@
--- Texts cut into parts of so many columns.
+-- Texts cut into parts of n columns.
 use Rattle.std.specs.Prelude.{◌≡◌, ◌+◌, ◌<◌, ◌≤◌, ◌==◌, ◌++◌, if◌then◌else◌, ℕ, Bool, true, false, List, [], ◌∷◌, chars, encode_utf8_all, map, nat_le, not}
 use Rattle.std.specs.List.{concat, join_with_byte, list_all, slice_split, sum_by}
 use Rattle.std.specs.Option.{unwrap_or}
@@ -16,7 +16,7 @@ columns_in cs = sum_by columns_of cs
 abbrev pub Begins : List ℕ → Type 0
 Begins cs = (c : ℕ) × (rest : List ℕ) × (cs ≡ c ∷ rest) × (1 ≤ columns_of c)
 
--- consecutive parts of a line: before each next part there are so many columns or more, and it begins with a character that has a column; in no part such a character stands behind so many columns
+-- consecutive parts of a line: before each next part there are n columns or more, and it begins with a character that has a column; in no part such a character stands after n columns
 pub record AreParts (width : ℕ) (line : List ℕ) (parts : List (List ℕ)) : Type 0 where
   pub whole : concat parts ≡ line
   pub full : (before after : List (List ℕ)) (one next : List ℕ) → parts ≡ before ++ (one ∷ next ∷ after) → width ≤ columns_in one
@@ -28,7 +28,7 @@ abbrev pub last_replaced : List ℕ → List ℕ
 last_replaced [] = []
 last_replaced (c ∷ cs) = if columns_in cs == 0 then 0xFFFD ∷ cs else (c ∷ last_replaced cs)
 
--- a part as it is shown: where it has more than so many columns, its last character doesn't fit
+-- a part as it is shown: where it has more than n columns, its last character doesn't fit
 abbrev pub shown : ℕ → List ℕ → List ℕ
 shown width part = if nat_le (columns_in part) width then part else last_replaced part
 
@@ -52,15 +52,15 @@ pub record Placed : Type 0 where
   pub character : ℕ
   pub used : ℕ
 
--- a character of at least one column in a piece of so many: the replacement character, which ends the piece, where it doesn't fit
+-- a character of at least one column in a piece of n: the replacement character, which ends the piece, where it doesn't fit
 abbrev pub placed_from : ℕ → Bool → ℕ → ℕ → Placed
 placed_from width begins used c = if nat_le (used + columns_of c) width then record { begins = begins; character = c; used = used + columns_of c } else record { begins = begins; character = 0xFFFD; used = width }
 
--- a character where its piece has so many columns: a newline ends it, one without columns goes to it, and any other begins the next piece where it is full
+-- a character where its piece has n columns: a newline ends it, one without columns goes to it, and any other begins the next piece where it is full
 abbrev pub placed : ℕ → ℕ → ℕ → Placed
 placed width used c = if c == 10 then record { begins = false; character = c; used = 0 } else (if columns_of c == 0 then record { begins = false; character = c; used = used } else (if nat_le width used then placed_from width true 0 c else placed_from width false used c))
 
--- the characters of pieces of at most so many columns, joined with newlines, where the first has some columns already
+-- the characters of pieces of at most n columns, joined with newlines, where the first has some columns already
 abbrev pub pieces : ℕ → ℕ → List ℕ → List ℕ
 pieces width used [] = []
 pieces width used (c ∷ cs) = (if (placed width used c).begins then 10 ∷ [] else []) ++ ((placed width used c).character ∷ pieces width (placed width used c).used cs)

@@ -1,6 +1,6 @@
 //! What spans, panels and merges make of tables that are spelled.
 //!
-//! Behind the words of a table stands each anchor wider than a column, as `0.1w3` for 3 columns from row 0 and
+//! After the words of a table stands each anchor wider than a column, as `0.1w3` for 3 columns from row 0 and
 //! column 1, and then each higher than a row, as `0.1h2`, and `meeting` where merged cells don't lie inside
 //! the table and apart.
 
@@ -45,7 +45,7 @@ where
     Ok(words)
 }
 
-/// Writes the merged cells behind the words of a table.
+/// Writes the merged cells after the words of a table.
 fn push_spans(alloc: Global, words: &mut String, cfg: &SpannedConfig) -> Result<(), AllocError> {
     let widths = cfg.get_column_spans(alloc)?;
     for (pos, width) in widths.iter() {
@@ -123,7 +123,7 @@ where
     change(alloc, records, cfg, third)
 }
 
-/// What steps make of a table, with `!` behind it where one was refused.
+/// What steps make of a table, with `!` after it where one was refused.
 fn made<R>(alloc: Global, mut records: R, steps: [Step; 3]) -> Result<String, AllocError>
 where
     R: Records + ExactRecords + PeekableRecords + RecordsMut<String> + Resizable + Drop,
@@ -139,7 +139,7 @@ where
     Ok(words)
 }
 
-/// A kind of store: one vector of cells, a vector for each row, or one that refuses all but so many growths
+/// A kind of store: one vector of cells, a vector for each row, or one that refuses all but n growths
 /// and writes.
 #[derive(Clone, Copy)]
 pub(crate) enum Store {
@@ -189,7 +189,7 @@ fn are_of_first_writes(
     Ok(false)
 }
 
-/// Makes a step behind another, and says whether it is done or left the merged cells as they were, and
+/// Makes a step after another, and says whether it is done or left the merged cells as they were, and
 /// of the cells what its first writes leave, if it writes texts, or else all.
 fn leaves_the_old(
     alloc: Global,

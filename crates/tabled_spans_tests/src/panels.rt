@@ -100,7 +100,7 @@ fn panels_are_put_in(rt: HostRuntime) -> Result<(), Fail> {
     Ok(())
 }
 
-/// What is left of tables where all but so many growths and writes are refused.
+/// What is left of tables where all but n growths and writes are refused.
 fn refused() -> [(&'static str, [Step; 3], usize, &'static str); 7] {
     [
         ("a b /", [Header("N"), Nothing, Nothing], 0, "a b /!"),

@@ -255,7 +255,7 @@ fn spans_go_over_all_cells(rt: HostRuntime) -> Result<(), Fail> {
     Ok(())
 }
 
-/// What is left of tables where all but so many writes are refused.
+/// What is left of tables where all but n writes are refused.
 fn refused() -> [(&'static str, [Step; 3], usize, &'static str); 11] {
     [
         (

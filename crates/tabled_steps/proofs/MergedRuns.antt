@@ -93,7 +93,7 @@ module _ (axis : Axis) (g : Grid (List ℕ)) (m : SpanMap) where
       by true is (suc i) h later = let less = rw is at h in subst (Joins axis g m) (further_next axis i p) (later i (omega (arith, less)))
       by false is i h later = let less = rw is at h in absurd (omega (arith, less))
 
-  -- the last one joins none, or all of so many were counted
+  -- the last one joins none, or all of n were counted
   run_ends : (most : ℕ) (p : Position) → Joins axis g m (further axis (run_from most axis g m p - 1) p) → run_from most axis g m p ≡ most + 1
   run_ends zero p j = refl
   run_ends (suc most) p j = by (joins axis g m p) refl j (some_run most (further axis 1 p)) (run_ends most (further axis 1 p))

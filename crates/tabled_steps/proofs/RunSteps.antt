@@ -21,7 +21,7 @@ every_from-map f n zero (x ∷ xs) = ap (λ ys. f x ∷ ys) (every_from-map f n 
 every_from-map f n (suc k) (x ∷ xs) = every_from-map f n k xs
 
 module _ {X : Type 0} (x : X) (rest : List X) where
-  -- so many of equal members are dropped
+  -- n of equal members are dropped
   pub drop-run : (n k : ℕ) → drop n (replicate k x ++ rest) ≡ replicate (k - n) x ++ drop (n - k) rest
   drop-run zero k =
       let all : k ≡ k - 0 = omega arith in
@@ -107,7 +107,7 @@ every-map f (suc n) xs =
 abbrev pub Passing : Type 0
 Passing = ℕ → List (List Position) → List (List Position)
 
--- what was left of some runs, with so many to be passed over in the rest
+-- what was left of some runs, with n to be passed over in the rest
 pub record Passed (pass : Passing) (all : List (List Position)) (rows columns : ℕ) (ahead : ℕ) (rest left : List Run) : Type 0 where
   pub same : unrolled rows columns left ++ pass ahead (unrolled rows columns rest) ≡ all
   pub rest_each : AllByRecursion (IsRun rows columns) rest
@@ -124,7 +124,7 @@ module _ (pass : Passing) (all : List (List Position)) (rows columns : ℕ) wher
     left_each = so_far.left_each;
   }
 
-  -- so many of a run are left
+  -- n of a run are left
   pub passed-into : (ahead next : ℕ) (run part : Run) (rest left now : List Run)
       → now ≡ left ++ part ∷ [] → part.entity ≡ run.entity → 1 ≤ part.count → part.count ≤ run.count
       → ((x : List Position) (ps : List (List Position)) → pass ahead (replicate run.count x ++ ps) ≡ replicate part.count x ++ pass next ps)

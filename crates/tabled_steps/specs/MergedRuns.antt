@@ -25,7 +25,7 @@ abbrev pub is_joined : Axis → Grid (List ℕ) → SpanMap → Position → Boo
 is_joined Rows g m p = nat_lt 0 p.row && joins Rows g m (place (p.row - 1) p.col)
 is_joined Columns g m p = nat_lt 0 p.col && joins Columns g m (place p.row (p.col - 1))
 
--- how many cells from a place on are equal neighbours, of so many at most
+-- how many cells from a place on are equal neighbours, of n at most
 abbrev pub run_from : ℕ → Axis → Grid (List ℕ) → SpanMap → Position → ℕ
 run_from zero axis g m p = 1
 run_from (suc most) axis g m p = if joins axis g m p then suc (run_from most axis g m (further axis 1 p)) else 1

@@ -60,7 +60,7 @@ PassesRuns n runs left = (rows columns : ℕ) (entities : List Entity) → IsRea
 abbrev pub StepsRuns : ℕ → List Run → List Run → Type 0
 StepsRuns n runs left = (rows columns : ℕ) (entities : List Entity) → IsReached rows columns entities runs → IsReached rows columns (every n entities) left
 
--- a run of so many entities past the last row and column of any table, if there are some
+-- a run of n entities past the last row and column of any table, if there are some
 abbrev pub runs_outside : ℕ → List Run
 runs_outside count = if count == 0 then [] else record { entity = Cell (2 ^ 64 - 1) (2 ^ 64 - 1); count = count } ∷ []
 

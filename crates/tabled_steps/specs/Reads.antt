@@ -10,7 +10,7 @@ use Rattle.tabled_select.specs.Locators.{text_at}
 use Rattle.tabled_settings.specs.Joined.{corner_of, joined_text}
 use Rattle.tabled_grid.specs.Places.{Places}
 
--- so many rows and columns of texts, each by its place
+-- r rows and c columns of texts, each by its place
 abbrev pub table_of : ℕ → ℕ → (Position → List ℕ) → Grid (List ℕ)
 table_of rows columns text = record { rows = rows; columns = columns; cells = map (λ (i : ℕ). map (λ (j : ℕ). text (place i j)) (range_with_len 0 columns)) (range_with_len 0 rows) }
 

@@ -11,7 +11,7 @@ use tabled_grid::config::Entity;
 use tabled_grid::records::{ExactRecords, Records};
 use tabled_select::object::{Columns, EntityList, ObjectIterator, Rows, Segment, entities};
 
-/// An entity that stands for so many in a row: for itself, or for some that have no cell in the table.
+/// An entity that stands for n in a row: for itself, or for some that have no cell in the table.
 #[derive(Debug, Clone, Copy)]
 pub(crate) struct Run {
     pub(crate) entity: Entity,
@@ -38,7 +38,7 @@ impl Reached {
         }
     }
 
-    /// What is named without the first so many.
+    /// What is named without the first n.
     pub(crate) fn skip<R>(self, alloc: Global, records: &R, n: usize) -> Result<Reached, AllocError>
     where
         R: Records + ExactRecords,
@@ -89,7 +89,7 @@ fn standing(alloc: Global, runs: Vec<Run>) -> Result<Vec<Entity>, AllocError>
     Ok(all)
 }
 
-/// Runs without the first so many of the entities for which they stand.
+/// Runs without the first n of the entities for which they stand.
 fn skip_runs(alloc: Global, runs: Vec<Run>, n: u128) -> Result<Vec<Run>, AllocError>
     ensures { IfOk result (λ left. PassesRuns n runs.items left.items) }
 {
@@ -133,7 +133,7 @@ fn step_runs(alloc: Global, runs: Vec<Run>, n: u128) -> Result<Vec<Run>, AllocEr
     Ok(left)
 }
 
-/// Adds a run of so many entities outside of any table, or none.
+/// Adds a run of n entities outside of any table, or none.
 fn push_outside(runs: &mut Vec<Run>, count: u128) -> Result<(), AllocError>
     ensures { OnOk result (runs.new.items ≡ runs.old.items ++ runs_outside count) }
 {
@@ -147,7 +147,7 @@ fn push_outside(runs: &mut Vec<Run>, count: u128) -> Result<(), AllocError>
     Ok(())
 }
 
-/// Entities one by one, and then so many that are outside.
+/// Entities one by one, and then n that are outside.
 fn with_outside(alloc: Global, entities: Vec<Entity>, count: usize) -> Result<Reached, AllocError>
     ensures { IfOk result (λ reached. runs_of reached ≡ map once entities.items ++ runs_outside count) }
 {

@@ -31,9 +31,9 @@ pub enum Select {
     LastRow,
     FirstColumn,
     LastColumn,
-    /// The row so many rows before the last one.
+    /// The row n rows before the last one.
     LastRowMinus(usize),
-    /// The row so many rows past the last one.
+    /// The row n rows past the last one.
     LastRowPlus(usize),
     LastColumnMinus(usize),
     LastColumnPlus(usize),
@@ -56,7 +56,7 @@ pub enum Select {
     Intersect(Box<Select>, Box<Select>),
     /// The cells that aren't named.
     Inverse(Box<Select>),
-    /// What is named without the first so many entities.
+    /// What is named without the first n entities.
     Skip(usize, Box<Select>),
     /// Of what is named the entities 0, n, 2n and so on.
     StepBy(usize, Box<Select>),

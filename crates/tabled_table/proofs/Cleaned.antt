@@ -84,7 +84,7 @@ pub brought_next : {A : Type 0} (mark : Bool) (marks : List Bool) (i front j : �
     brought_forward (drop i marks) front j xs ≡ brought_forward (mark ∷ drop (i + 1) marks) front j xs
 brought_next mark marks i front j xs inside is = ap (λ ms. brought_forward ms front j xs) (drop_more marks i false inside ∙ ap (λ m. m ∷ drop (i + 1) marks) is)
 
--- so many columns with a text, those below j in order, were brought to the front of each row
+-- n columns with a text, those below j in order, were brought to the front of each row
 pub record GatheredRows (columns kept j : ℕ) (old new : List (List (List ℕ))) : Type 0 where
   pub count : kept ≡ length (filter (has_text_in old) (range_with_len 0 j))
   pub below : kept ≤ j
@@ -146,7 +146,7 @@ module _ (columns : ℕ) where
   later : (mark : Bool) (marks : List Bool) (j : ℕ) (old : List (List (List ℕ))) → EachIndex (mark ∷ marks) (λ k. get_or (mark ∷ marks) k false ≡ has_text_in old (j + k)) → EachIndex marks (λ k. get_or marks k false ≡ has_text_in old (j + 1 + k))
   later mark marks j old is k inside = let same : j + suc k ≡ j + 1 + k = omega arith in rw same at (is (suc k) (omega arith))
 
-  -- so many columns more, of which those with a text are marked
+  -- n columns more, of which those with a text are marked
   pub gathered_rows_more : (marks : List Bool) (kept j : ℕ) (old new : List (List (List ℕ))) → j + length marks ≤ columns → EachIndex marks (λ k. get_or marks k false ≡ has_text_in old (j + k)) → GatheredRows columns kept j old new →
       GatheredRows columns (kept + length (filter (λ mark. mark) marks)) (j + length marks) old (map (brought_forward marks kept j) new)
   gathered_rows_more [] kept j old new within is h = rw (add-zero kept, add-zero j, map-id new) h

@@ -62,6 +62,6 @@ even-padded {A} from n filler rows short even = all-map (λ (row : List A). leng
 pub padded_to-nil : {A : Type 0} (n : ℕ) (filler : A) → padded_to n filler [] ≡ replicate n filler
 padded_to-nil n filler = let all : n - 0 ≡ n = omega arith in ap (λ k. replicate k filler) all
 
--- rows of one length, with more of it behind them
+-- rows of one length, with more of it after them
 pub even-more : {A : Type 0} (n count : ℕ) (filler : A) (rows : List (List A)) → AreRecords n rows → AreRecords n (padded_to count (replicate n filler) rows)
 even-more {A} n count filler rows even = all-append (λ (row : List A). length row ≡ n) rows (replicate (count - length rows) (replicate n filler)) even (all-replicate (λ (row : List A). length row ≡ n) (count - length rows) (replicate n filler) (length-replicate n filler))

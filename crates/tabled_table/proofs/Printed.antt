@@ -20,7 +20,7 @@ pub drained : {X : Type 0} (items it all : List X) → it ≡ all → Drains (Ta
 drained {X} items it all is d =
     sym (rest_so_far (λ (x : X). x) items it d.1.0 d.1.1 ∙ ap₂ (λ xs ys. xs ++ ys) (map-id items) (rest_all (λ (x : X). x) d.1.0 d.0 None refl d.1.2) ∙ append-nil items) ∙ is
 
--- rows of which each has so many texts
+-- rows of which each has n texts
 pub even-each : {E : Type 0} (n : ℕ) (R : E → List (List ℕ) → Type 0) → ((e : E) (row : List (List ℕ)) → R e row → length row ≡ n) → (entries : List E) (rows : List (List (List ℕ))) → AllZip R entries rows → AreRecords n rows
 even-each n R h [] [] z = tt
 even-each n R h [] (row ∷ rows) z = absurd z

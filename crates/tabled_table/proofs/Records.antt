@@ -32,7 +32,7 @@ even-with_record {A} from n filler rows i row short even long = all-insert (λ (
 pub padded-long : {A : Type 0} (columns : ℕ) (filler : A) (given row : List A) → row ≡ padded_to columns filler given → columns ≤ length row
 padded-long columns filler given row is = omega (arith, ap length is, length-longest columns filler given)
 
--- a column of padded items behind the others
+-- a column of padded items after the others
 pub with_last_column-padded : (b : Builder) (n : ℕ) (given items : List (List ℕ)) → items ≡ padded_to (length b.rows) b.empty given → n ≡ length items →
     (let c : Builder = record b { columns = b.columns + 1; rows = with_items b.columns (padded_to n (replicate b.columns b.empty) b.rows) items } in c) ≡ with_last_column b given
 with_last_column-padded b n given items is many =

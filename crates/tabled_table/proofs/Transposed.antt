@@ -21,7 +21,7 @@ pub record Transposes (columns : ℕ) (all rest turned : List (List (List ℕ)))
 length-column_of : (rows : List (List (List ℕ))) (j : ℕ) → length (column_of rows j) ≡ length rows
 length-column_of rows j = length-map rows (λ row. get_or row j [])
 
--- each column with the next row's text behind
+-- each column with the next row's text after
 push_from : (a : ℕ) (done : List (List (List ℕ))) (row left : List (List ℕ)) → drop a row ≡ left →
     with_items_behind (map (column_of done) (range_with_len a (length left))) left ≡ map (column_of (done ++ row ∷ [])) (range_with_len a (length left))
 push_from a done row [] here = refl

@@ -26,7 +26,7 @@ all-padded_twice : {A : Type 0} (n m : ℕ) (filler : A) (rows : List (List A)) 
 all-padded_twice n m filler [] h = refl
 all-padded_twice n m filler (row ∷ rows) h = ap₂ (λ x xs. x ∷ xs) (padded_to-padded_to n m filler row h) (all-padded_twice n m filler rows h)
 
--- one more record behind the others
+-- one more record after the others
 pub from_uneven-push : (rows : List (List (List ℕ))) (row : List (List ℕ)) → from_uneven (rows ++ row ∷ []) ≡ with_record (from_uneven rows) (length (from_uneven rows).rows) row
 from_uneven-push rows row =
     let n = longest rows in

@@ -15,7 +15,7 @@ pub record Builder : Type 0 where
 abbrev pub row_texts : List (Vec (String Global)) → List (List (List ℕ))
 row_texts rows = map (λ (row : Vec (String Global)). map string_bytes row.items) rows
 
--- a list with one thing behind it again and again, up to a length
+-- a list with one thing after it again and again, up to a length
 abbrev pub padded_to : {A : Type 0} → ℕ → A → List A → List A
 padded_to n filler xs = xs ++ replicate (n - length xs) filler
 
@@ -38,7 +38,7 @@ with_record b i texts =
 abbrev pub with_items : {A : Type 0} → ℕ → List (List A) → List A → List (List A)
 with_items {A} j rows items = map (λ (p : List A × A). insert p.0 j p.1) (zip rows items)
 
--- each row with its item behind
+-- each row with its item after
 abbrev pub with_items_behind : {A : Type 0} → List (List A) → List A → List (List A)
 with_items_behind {A} rows items = map (λ (p : List A × A). p.0 ++ p.1 ∷ []) (zip rows items)
 
@@ -50,7 +50,7 @@ with_items_at j empty rows items = with_items j rows (padded_to (length rows) em
 abbrev pub with_column : Builder → ℕ → List (List ℕ) → Builder
 with_column b j items = record b { columns = b.columns + 1; rows = with_items_at j b.empty b.rows (take (length b.rows) items) }
 
--- a column behind the others, where each surplus item makes a row
+-- a column after the others, where each surplus item makes a row
 abbrev pub with_last_column : Builder → List (List ℕ) → Builder
 with_last_column b items =
     let rows = padded_to (length items) (replicate b.columns b.empty) b.rows in
@@ -104,6 +104,6 @@ table_of b = record { rows = length b.rows; columns = columns_of b.rows; cells =
     columns_of [] = 0
     columns_of (row ∷ rows) = b.columns
 
--- each record has so many texts
+-- each record has n texts
 abbrev pub AreRecords : {A : Type 0} → ℕ → List (List A) → Type 0
 AreRecords {A} n rows = AllByRecursion (λ (row : List A). length row ≡ n) rows

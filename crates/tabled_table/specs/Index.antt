@@ -32,7 +32,7 @@ indexed_rows (header ∷ body) = Some (record { header = header; index = numbers
 abbrev pub column_of : List (List (List ℕ)) → ℕ → List (List ℕ)
 column_of rows j = map (λ row. slice_index_or row j []) rows
 
--- rows of so many columns with their columns as rows
+-- rows of n columns with their columns as rows
 abbrev pub transposed : ℕ → List (List (List ℕ)) → List (List (List ℕ))
 transposed columns rows = map (column_of rows) (range_with_len 0 columns)
 

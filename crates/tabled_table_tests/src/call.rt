@@ -64,7 +64,7 @@ pub(crate) fn spelled(alloc: Global, builder: Builder) -> Result<String, AllocEr
     Ok(spelled)
 }
 
-/// Whether a builder was made, declares so many columns, and holds these records.
+/// Whether a builder was made, declares n columns, and holds these records.
 pub(crate) fn holds(
     alloc: Global,
     made: Result<Builder, AllocError>,

@@ -8,7 +8,7 @@ use tabled_grid::records::{
     Blank, CellText, ExactRecords, GridStore, PeekableRecords, Records, RecordsMut, Resizable,
 };
 
-/// A store that takes so many writes and growths as are left, and refuses the others, which change nothing.
+/// A store that takes as many writes and growths as are left, and refuses the others, which change nothing.
 ///
 /// Growths and cuts of many lines go by the default bodies of `Resizable`, so each line is a growth of its own.
 #[derive(Drop)]

@@ -70,7 +70,7 @@ pub fn nested(alloc: Global, table: &str) -> Result<Nested, AllocError>
     filled(alloc, empty, table)
 }
 
-/// Writes a word behind others. Refused, it leaves the words as they were, or with a blank behind them.
+/// Writes a word after others. Refused, it leaves the words as they were, or with a blank after them.
 pub fn push_word(words: &mut String, word: &str) -> Result<(), AllocError> {
     if !words.is_empty() {
         words.push(' ')?;

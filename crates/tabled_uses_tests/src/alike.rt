@@ -9,7 +9,7 @@ use tabled_grid::records::{
 use tabled_testing::{flat, is_word, nested, spelled_merged};
 use tabled_uses::language::does;
 
-/// What a script's steps make of an empty store: its words, and behind them each merged rectangle.
+/// What a script's steps make of an empty store: its words, and after them each merged rectangle.
 fn end_of<R>(alloc: Global, mut records: R, script: &str) -> Result<String, AllocError>
 where
     R: Records + ExactRecords + PeekableRecords + RecordsMut<String> + Resizable + Drop,

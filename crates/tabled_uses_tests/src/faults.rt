@@ -83,7 +83,7 @@ const STEPS: [&str; 27] = [
     "set\tskip\t1\tcolumns\t0\t1\tx",
 ];
 
-/// The same of a step with something before it and behind it.
+/// The same of a step with something before it and after it.
 fn is_faulty_within(
     alloc: Global,
     before: &str,
@@ -128,7 +128,7 @@ fn each_line_may_be_too_short(rt: HostRuntime) -> Result<(), Fail> {
     Ok(())
 }
 
-/// A line whose selectors stand in each other so many times.
+/// A line whose selectors stand in each other n times.
 fn nested(
     alloc: Global,
     step: &str,

@@ -51,7 +51,7 @@ fn skips(rt: HostRuntime) {
     }
 }
 
-/// Whether so many rows are read ahead, and all are given.
+/// Whether n rows are read ahead, and all are given.
 fn reads(alloc: Global, rows: usize, want: usize) -> Result<bool, AllocError> {
     let (count, given) = read_ahead(alloc, rows)?;
     Ok(count == want && given.as_str() == ROWS)
@@ -65,7 +65,7 @@ fn reads_ahead(rt: HostRuntime) -> Result<(), Fail> {
     Ok(())
 }
 
-/// The rows of a lent store of so many rows and columns of blanks.
+/// The rows of a lent store of r rows and c columns of blanks.
 fn lent_blanks(alloc: Global, rows: usize, columns: usize) -> Result<String, AllocError> {
     let mut store: VecRecords<Text<String>> = VecRecords::new(alloc, Vec::new(alloc))?;
     store.push_rows(alloc, rows)?;

@@ -1,6 +1,6 @@
 //! Merged cells: sizes set and read, what is hidden, and whether rectangles fit.
 //!
-//! Merged cells are spelled by their anchors, each as `row col height width` with a semicolon behind.
+//! Merged cells are spelled by their anchors, each as `row col height width` with a semicolon after.
 
 ghost use Rattle.std.specs.Prelude.{◌≡◌};
 ghost use Rattle.tabled_grid.specs.Entity.{place};

@@ -196,7 +196,7 @@ pub(super) fn meet(a: Anchor, b: Anchor) -> bool
         && begins_before(q.col, p.col, width)
 }
 
-/// Says whether an index is below the end of so many indexes from another on.
+/// Says whether an index is below the end of n indexes from another on.
 fn begins_before(index: usize, first: usize, many: usize) -> bool
     ensures { result ≡ nat_lt index (first + many) }
 {
@@ -206,7 +206,7 @@ fn begins_before(index: usize, first: usize, many: usize) -> bool
 /// Says whether no rectangle after an anchor's meets it, where those lie apart from one another.
 ///
 /// In each row that the rectangle reaches, few anchors are tested: the first one, the nearest on the
-/// left, and the one behind it. A rectangle further left meets the nearest, or ends before it.
+/// left, and the one after it. A rectangle further left meets the nearest, or ends before it.
 fn is_apart(anchors: &[Anchor], first: usize, from: Anchor) -> bool
     requires within { first ≤ length anchors.now }
     requires anchors { AreAnchors (from ∷ drop first anchors.now) }

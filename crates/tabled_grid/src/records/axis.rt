@@ -93,7 +93,7 @@ impl Axis {
         }
     }
 
-    /// The size with so many lines.
+    /// The size with n lines.
     #[doc(hidden)]
     pub fn resized(self, size: (usize, usize), many: usize) -> (usize, usize)
         ensures { result ≡ resized self size many }

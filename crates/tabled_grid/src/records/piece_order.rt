@@ -15,7 +15,7 @@ pub enum PieceOrder {
 }
 
 impl PieceOrder {
-    /// The line and the number of the piece that comes so many-th, of so many lines of so many pieces.
+    /// The line and the number of the piece that comes n-th, of r lines of c pieces.
     #[doc(hidden)]
     pub fn nth_piece(self, lines: usize, pieces: usize, nth: usize) -> (usize, usize)
         requires lines { 0 < lines }

@@ -15,7 +15,7 @@ use crate::records::piece_order::PieceOrder;
 use crate::records::records::Records;
 use std::alloc::{AllocError, Global};
 
-/// So many lines of a width that are cut.
+/// n lines of a width that are cut.
 #[derive(Drop)]
 struct Cut {
     axis: Axis,

@@ -17,7 +17,7 @@ use std::alloc::{AllocError, Global};
 
 /// A store around a store, which answers one growth and one write as if memory was refused.
 ///
-/// It shows in a test what an option, or a caller's own code, leaves behind where memory ends in the
+/// It shows in a test what an option, or a caller's own code, leaves where memory ends in the
 /// midst of it, without a machine that is out of memory: each growth and each write in turn.
 ///
 /// A growth is a call of `push_row`, `push_column`, `insert_row` or `insert_column`. The calls for many
@@ -146,7 +146,7 @@ where
         self.store.push_row(alloc)
     }
 
-    /// Inserts a column of blanks behind the last one. Counted as a growth, and refused where it is the one that was named.
+    /// Inserts a column of blanks after the last one. Counted as a growth, and refused where it is the one that was named.
     fn push_column(&mut self, alloc: Global) -> Result<(), AllocError>
         requires well { S.is_well_formed self.old.store }
         ensures well { S.is_well_formed self.new.store }

@@ -44,7 +44,7 @@ where
         ensures ok { OnOk result (InsertsRow Self.Cell.is_blank (Self.grid self.old) (Self.grid self.new) ((Self.grid self.old).rows)) }
         ensures err { OnErr result (Self.grid self.new ≡ Self.grid self.old) };
 
-    /// Inserts a column of blanks behind the last one (r x c to r x c+1). Without rows this changes nothing.
+    /// Inserts a column of blanks after the last one (r x c to r x c+1). Without rows this changes nothing.
     ///
     /// Ported from `tabled::grid::records::Resizable::push_column`.
     fn push_column(&mut self, alloc: Global) -> Result<(), AllocError>
@@ -197,7 +197,7 @@ where
         Ok(())
     }
 
-    /// Adds `many` columns of blanks behind the last one (r x c to r x c+many). Without rows this changes
+    /// Adds `many` columns of blanks after the last one (r x c to r x c+many). Without rows this changes
     /// nothing. Refused, it leaves the store as it was.
     ///
     /// Of this project: `tabled` adds column by column.
@@ -277,7 +277,7 @@ where
         }
     }
 
-    /// Adds `many` rows, or columns, of blanks behind the last one. Refused, it leaves the store as it was.
+    /// Adds `many` rows, or columns, of blanks after the last one. Refused, it leaves the store as it was.
     ///
     /// Of this project.
     fn push_lines(&mut self, alloc: Global, axis: Axis, many: usize) -> Result<(), AllocError>
@@ -295,7 +295,7 @@ where
         }
     }
 
-    /// Cuts rows, or columns, that are longer than `index` into pieces of so many cells, which become the
+    /// Cuts rows, or columns, that are longer than `index` into pieces of n cells, which become the
     /// new rows, or columns. Blanks fill up the last piece of each. Refused, it leaves the store as it was.
     /// More than `usize::MAX` pieces, which no store could count, are refused without a growth.
     ///

@@ -11,7 +11,7 @@ use crate::records::gather::{Exchange, Rearrange, gather};
 use crate::records::records::Records;
 use std::alloc::{AllocError, Global};
 
-/// So many rows and columns that change places.
+/// r rows and c columns that change places.
 #[derive(Drop)]
 struct Diagonal {
     rows: usize,

@@ -36,7 +36,7 @@ impl Log {
         }
     }
 
-    /// Whether these are the letters, with `!` behind them where a call was refused.
+    /// Whether these are the letters, with `!` after them where a call was refused.
     pub(crate) fn is_told(&self, done: Result<(), AllocError>, want: &str) -> bool {
         let letters = match done {
             Ok(()) => Some(want),
@@ -130,7 +130,7 @@ impl<R: GridStore> CellOption<R, Log> for Letter {
     ghost acts_like = { Prim.search rules };
 }
 
-/// An option of which so many copies can be made as are left.
+/// An option of which as many copies can be made as are left.
 #[derive(Drop)]
 pub(crate) struct CountedCopies<'a, O> {
     option: O,

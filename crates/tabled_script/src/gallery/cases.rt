@@ -1,6 +1,6 @@
 //! The scripts of examples/ with what they print. `docs/make` makes this file.
 
-/// A name, a script and its output, each behind U+001F, and the next name behind U+001E.
+/// A name, a script and its output, each after U+001F, and the next name after U+001E.
 pub(super) const EXAMPLES: &str = "\
 clean\u{1f}row\tName\tTown\nrow\tAda\\t\tLon\u{7}don\r\nclean\tall\n\u{1f}shape\t2\t2\nrow\tName\tTown\nrow\tAda\tLondon\n\u{1e}\
 concat-horizontal\u{1f}row\tApple\nrow\tPear\nconcat\thorizontal\t-\t3\t1\t3\t5\t8\n\u{1f}shape\t3\t2\nrow\tApple\t3\nrow\tPear\t5\nrow\t-\t8\n\u{1e}\

@@ -44,7 +44,7 @@ impl FromLast {
         }
     }
 
-    /// The index of so many rows or columns, if there is a last one and the index is one.
+    /// The index of n rows or columns, if there is a last one and the index is one.
     pub(super) fn index(&self, count: usize) -> Option<usize>
         ensures { option_to_list result ≡ index_from_last self.now count }
     {

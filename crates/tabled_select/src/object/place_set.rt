@@ -30,7 +30,7 @@ enum Form {
 
 impl PlaceSet {
     /// The places of a table of `rows x columns` that entities name. `named` is how many cells are
-    /// gone through in all, or about so many.
+    /// gone through in all, or about n.
     ///
     /// Refused where memory runs out.
     pub(super) fn of(

@@ -69,7 +69,7 @@ impl Charset {
         }
     }
 
-    /// The same, and a tab becomes so many spaces.
+    /// The same, and a tab becomes n spaces.
     ///
     /// Ported from `tabled::settings::formatting::Charset::tab_size`.
     pub fn tab_size(self, size: usize) -> Self
@@ -197,7 +197,7 @@ impl Answers for Charset {
     }
 }
 
-/// The text with so many spaces for each tab and, if it is to be cleaned, without control characters but
+/// The text with n spaces for each tab and, if it is to be cleaned, without control characters but
 /// the newline.
 fn replaced(alloc: Global, text: &str, cleans: bool, tab_size: usize) -> Result<String, AllocError>
     ensures { IfOk result (λ new. string_bytes new ≡ flat_map (replaced cleans tab_size) text.now) }
@@ -237,7 +237,7 @@ fn stays(cleans: bool, c: char) -> bool
     !cleans || c == '\n' || c >= ' '
 }
 
-/// Appends so many spaces.
+/// Appends n spaces.
 fn push_spaces(out: &mut String, count: usize) -> Result<(), AllocError>
     ensures { OnOk result (string_bytes out.new ≡ string_bytes out.old ++ replicate count 32) }
 {

@@ -14,7 +14,7 @@ use tabled_grid::config::{Entity, SpannedConfig};
 use tabled_grid::records::{Axis, CellText, ExactRecords, Records, RecordsMut, Resizable};
 use tabled_options::TableOption;
 
-/// Puts a row with one text in behind the last row, as `HorizontalPanel` does (r x c to r+1 x c).
+/// Puts a row with one text in after the last row, as `HorizontalPanel` does (r x c to r+1 x c).
 ///
 /// It changes nothing where the table has no columns, and where merged cells reach below the last row.
 /// That takes no memory. Refused for memory, it leaves the table as it was.

@@ -14,7 +14,7 @@ use tabled_grid::config::{Entity, SpannedConfig};
 use tabled_grid::records::{Axis, CellText, ExactRecords, Records, RecordsMut, Resizable};
 use tabled_options::TableOption;
 
-/// Puts a row in before row `row`, or behind the last one: a text in its first cell, which is as wide as the
+/// Puts a row in before row `row`, or after the last one: a text in its first cell, which is as wide as the
 /// table (r x c to r+1 x c). Merged cells from that row on go one row down.
 ///
 /// With `HorizontalPanel::new(1, "P")`,

@@ -61,7 +61,7 @@ impl Panel {
         Header::new(text)
     }
 
-    /// A row of one text, put in behind the last row.
+    /// A row of one text, put in after the last row.
     ///
     /// Ported from `tabled::settings::Panel::footer`.
     pub fn footer(text: String) -> Footer

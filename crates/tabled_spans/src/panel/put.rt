@@ -41,7 +41,7 @@ where
     Ok(())
 }
 
-/// The map with a panel of so many cells.
+/// The map with a panel of n cells.
 fn merge(
     alloc: Global,
     cfg: &SpannedConfig,

@@ -16,7 +16,7 @@ use tabled_grid::config::{Entity, SpannedConfig};
 use tabled_grid::records::{Axis, CellText, ExactRecords, Records, RecordsMut, Resizable};
 use tabled_options::TableOption;
 
-/// Puts a column in before column `col`, or behind the last one: a text in its first cell, which is as high
+/// Puts a column in before column `col`, or after the last one: a text in its first cell, which is as high
 /// as the table (r x c to r x c+1). Merged cells from that column on go one column to the right.
 ///
 /// With `VerticalPanel::new(1, "P")`,

@@ -1,4 +1,4 @@
-//! Texts cut into pieces of so many columns.
+//! Texts cut into pieces of n columns.
 
 ghost use Rattle.std.specs.Prelude.{◌≡◌, ◌≤◌, ℕ, IfOk, chars, encode_utf8_all};
 ghost use Rattle.std.specs.String.{string_bytes};
@@ -7,7 +7,7 @@ ghost use Rattle.tabled_spans.specs.Widths.{IsCutText, columns_of, pieces, place
 use std::alloc::{AllocError, Global};
 use unicode_width::UnicodeWidthChar;
 
-/// The text, each line cut into pieces of at most so many columns.
+/// The text, each line cut into pieces of at most n columns.
 pub(super) fn cut_text(alloc: Global, text: &str, width: usize) -> Result<String, AllocError>
     ensures cut { IfOk result (λ new. string_bytes new ≡ encode_utf8_all (pieces width 0 (chars text.now))) }
     ensures parted { 1 ≤ width → IfOk result (λ new. IsCutText width text.now (string_bytes new)) }

@@ -21,7 +21,7 @@ pub(super) fn back_of(size: isize) -> Option<usize>
 }
 
 /// The first of `count` rows or columns that a span takes, back from one of them, and how many it takes:
-/// so many cells more, or all of the line.
+/// n cells more, or all of the line.
 pub(super) fn taken(back: Option<usize>, count: usize, index: usize) -> (usize, usize)
     requires { index < count }
     ensures { result ≡ taken back count index }
@@ -46,7 +46,7 @@ pub(super) fn size_at(cfg: &SpannedConfig, pos: Position) -> (usize, usize)
     (height, width)
 }
 
-/// The size with so many lines.
+/// The size with n lines.
 pub(super) fn resized(axis: Axis, size: (usize, usize), many: usize) -> (usize, usize)
     requires height { 1 ≤ size.0 }
     requires width { 1 ≤ size.1 }

@@ -16,7 +16,7 @@ use std::alloc::{AllocError, Global};
 use tabled_grid::config::{CoverMap, Entity, Position, SpannedConfig};
 use tabled_grid::records::Axis;
 
-/// Says whether so many cells are all visible, from a place on.
+/// Says whether n cells are all visible, from a place on.
 ///
 /// A hidden one that it meets is kept as the line's hint, and is asked first for the next place. So it
 /// goes over no cell of a line twice.
@@ -44,7 +44,7 @@ fn is_free(cover: &CoverMap, axis: Axis, pos: Position, many: usize, hint: &mut 
     true
 }
 
-/// Adds the new size at a place to the changes and to the cover map, if so many cells from there on are
+/// Adds the new size at a place to the changes and to the cover map, if n cells from there on are
 /// all visible.
 fn grow_at(
     alloc: Global,
@@ -77,7 +77,7 @@ fn grow_at(
     Ok(())
 }
 
-/// The first cell of those that an entity names, in so many rows and columns, or the end of these.
+/// The first cell of those that an entity names, in r rows and c columns, or the end of these.
 fn first_named(entity: Entity, rows: usize, columns: usize) -> Position
     ensures row { (p : Position) → names entity p ≡ true → result.row ≤ p.row }
     ensures col { (p : Position) → names entity p ≡ true → result.col ≤ p.col }
@@ -92,7 +92,7 @@ fn first_named(entity: Entity, rows: usize, columns: usize) -> Position
     }
 }
 
-/// So many rows and columns, from the table's first on, hold all cells that spans take from the places on
+/// r rows and c columns, from the table's first on, hold all cells that spans take from the places on
 /// that an entity names in a table.
 fn reach(axis: Axis, size: usize, entity: Entity, rows: usize, columns: usize) -> (usize, usize)
     ensures { IsReach axis size entity rows columns result }

@@ -22,8 +22,8 @@ use tabled_grid::records::{Axis, CellText, ExactRecords, PeekableRecords, Record
 
 /// Makes spans of columns and of rows.
 ///
-/// A span of size 1 or more takes so many cells from a place on, cut at the table's end, where all of them
-/// are visible; size 1 takes a span away. One below 0 takes so many cells back from the place, and 0 all
+/// A span of size 1 or more takes n cells from a place on, cut at the table's end, where all of them
+/// are visible; size 1 takes a span away. One below 0 takes n cells back from the place, and 0 all
 /// of its row or column; the text goes to the first of them, and the others are emptied.
 ///
 /// With `Span::row(2)` on the cell `a`, `Span::column(2)` on `b` and `Span::column(-1)` on `h`,

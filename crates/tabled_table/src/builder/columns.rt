@@ -143,7 +143,7 @@ fn push_items(rows: &mut [Vec<Text<String>>], items: Vec<Text<String>>) -> Resul
     Ok(())
 }
 
-/// So many rows without cells, with room for some.
+/// n rows without cells, with room for some.
 fn empty_rows(
     alloc: Global,
     count: usize,

@@ -63,7 +63,7 @@ pub(super) fn try_pad_each(
     Ok(())
 }
 
-/// Cuts each row off behind its first cells.
+/// Cuts each row off after its first cells.
 pub(super) fn truncate_each(rows: &mut [Vec<Text<String>>], columns: usize)
     ensures { row_texts rows.new ≡ map (take columns) (row_texts rows.old) }
 {

@@ -50,7 +50,7 @@ impl Builder {
         }
     }
 
-    /// A builder with declared columns and no records (0 x c), which has room for so many records.
+    /// A builder with declared columns and no records (0 x c), which has room for n records.
     ///
     /// Refused where memory runs out.
     ///
@@ -229,8 +229,8 @@ impl Builder {
         self.empty_text = text;
     }
 
-    /// Adds a record behind the others (r x c to r+1 x max(c, n) for n texts). A shorter one is padded
-    /// with the empty text; for a longer one all others are. A record `c d e` behind `a b`
+    /// Adds a record after the others (r x c to r+1 x max(c, n) for n texts). A shorter one is padded
+    /// with the empty text; for a longer one all others are. A record `c d e` after `a b`
     /// makes, with `.` for the empty text,
     ///
     /// ```text
@@ -252,7 +252,7 @@ impl Builder {
         self.insert_record(alloc, end, texts)
     }
 
-    /// Adds a record behind the others, as `push_record` does.
+    /// Adds a record after the others, as `push_record` does.
     ///
     /// Refused for memory, it leaves the builder as it was.
     ///
@@ -292,9 +292,9 @@ impl Builder {
         Ok(())
     }
 
-    /// Adds a column behind the others (r x c to max(r, n) x c+1 for n texts). A row without a text
+    /// Adds a column after the others (r x c to max(r, n) x c+1 for n texts). A row without a text
     /// takes the empty text, and each surplus text makes a new last row of empty texts with the text
-    /// last. A column `x y` behind `a b` makes
+    /// last. A column `x y` after `a b` makes
     ///
     /// ```text
     /// a b x

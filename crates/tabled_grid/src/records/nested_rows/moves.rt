@@ -23,7 +23,7 @@ pub(crate) fn width<T>(rows: &[Vec<T>]) -> usize
     }
 }
 
-/// So many blanks.
+/// n blanks.
 pub(crate) fn blanks<T: Blank>(alloc: Global, count: usize) -> Result<Vec<T>, AllocError>
     ensures { IfOk result (λ cells. AreBlanks T.is_blank count cells.items) }
 {
@@ -34,7 +34,7 @@ pub(crate) fn blanks<T: Blank>(alloc: Global, count: usize) -> Result<Vec<T>, Al
     Ok(cells)
 }
 
-/// So many rows of so many blanks.
+/// r rows of c blanks.
 pub(crate) fn blank_rows<T: Blank>(
     alloc: Global,
     rows: usize,
@@ -50,7 +50,7 @@ pub(crate) fn blank_rows<T: Blank>(
     Ok(made)
 }
 
-/// Puts so many blanks last, for which there is room.
+/// Puts n blanks last, for which there is room.
 pub(crate) fn fill<T: Blank>(alloc: Global, cells: &mut Vec<T>, count: usize)
     requires { vec_len cells.old + count ≤ vec_capacity cells.old }
     ensures { AddsBlanks T.is_blank cells.old.items cells.new.items count }
@@ -60,7 +60,7 @@ pub(crate) fn fill<T: Blank>(alloc: Global, cells: &mut Vec<T>, count: usize)
     }
 }
 
-/// Makes room for so many more cells in each row, which changes no cell.
+/// Makes room for n more cells in each row, which changes no cell.
 fn make_room<T>(rows: &mut [Vec<T>], many: usize) -> Result<(), AllocError>
     ensures cells { map_items rows.new ≡ map_items rows.old }
     ensures room { OnOk result (All (λ (row : Vec T). vec_len row + many ≤ vec_capacity row) rows.new) }
@@ -71,7 +71,7 @@ fn make_room<T>(rows: &mut [Vec<T>], many: usize) -> Result<(), AllocError>
     Ok(())
 }
 
-/// Puts so many blanks behind each row. Refused, it leaves the cells as they were.
+/// Puts n blanks after each row. Refused, it leaves the cells as they were.
 pub(crate) fn widen_each<T: Blank>(
     alloc: Global,
     rows: &mut [Vec<T>],

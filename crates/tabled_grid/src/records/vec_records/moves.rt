@@ -31,7 +31,7 @@ pub(super) fn join<T: Drop>(
     Ok(cells)
 }
 
-/// Inserts so many blanks behind the last cell, in one growth. Refused, it leaves the cells as they were.
+/// Inserts n blanks after the last cell, in one growth. Refused, it leaves the cells as they were.
 pub(super) fn push_blanks<T: Blank>(
     alloc: Global,
     cells: &mut Vec<T>,
@@ -45,7 +45,7 @@ pub(super) fn push_blanks<T: Blank>(
     Ok(())
 }
 
-/// Inserts so many blanks before place `at`, in one growth. Refused, it leaves the cells as they were.
+/// Inserts n blanks before place `at`, in one growth. Refused, it leaves the cells as they were.
 pub(super) fn insert_blanks<T: Blank>(
     alloc: Global,
     cells: &mut Vec<T>,
@@ -61,7 +61,7 @@ pub(super) fn insert_blanks<T: Blank>(
     Ok(())
 }
 
-/// Removes so many cells from place `at` on.
+/// Removes n cells from place `at` on.
 pub(super) fn remove_run<T: Drop>(cells: &mut Vec<T>, at: usize, count: usize)
     requires { at + count ≤ vec_len cells.old }
     ensures { cells.new.items ≡ take at cells.old.items ++ drop (at + count) cells.old.items }
@@ -85,7 +85,7 @@ fn slide<T>(cells: &mut [T], to: usize, gap: usize, count: usize)
     }
 }
 
-/// Brings the `count` cells at place `from` behind the `gap` cells that follow them, at the same cost.
+/// Brings the `count` cells at place `from` after the `gap` cells that follow them, at the same cost.
 fn slide_back<T>(cells: &mut [T], from: usize, count: usize, gap: usize)
     requires { from + count + gap ≤ length cells.old }
     ensures { SlidBack cells.old cells.new from count gap }
@@ -97,7 +97,7 @@ fn slide_back<T>(cells: &mut [T], from: usize, count: usize, gap: usize)
     }
 }
 
-/// Brings so many of the last cells into each of the rows before them, before place `j`.
+/// Brings n of the last cells into each of the rows before them, before place `j`.
 pub(super) fn spread<T: Blank>(cells: &mut [T], rows: usize, columns: usize, j: usize, many: usize)
     requires size { length cells.old ≡ rows * columns + rows * many }
     requires within { j ≤ columns }
@@ -112,7 +112,7 @@ pub(super) fn spread<T: Blank>(cells: &mut [T], rows: usize, columns: usize, j: 
     }
 }
 
-/// Brings all cells but the `count` of each row from column `j` on forward, and leaves those behind them.
+/// Brings all cells but the `count` of each row from column `j` on forward, and leaves those after them.
 pub(super) fn close_up<T>(cells: &mut [T], rows: usize, columns: usize, j: usize, count: usize)
     requires size { length cells.old ≡ rows * columns }
     requires within { j + count ≤ columns }
@@ -168,7 +168,7 @@ pub(super) fn split<T: Drop>(
     Ok(nested)
 }
 
-/// The next so many cells, as a row.
+/// The next n cells, as a row.
 fn take_row<T: Drop>(
     alloc: Global,
     left: &mut IntoIter<T>,

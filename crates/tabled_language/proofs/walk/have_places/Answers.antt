@@ -7,7 +7,7 @@ use Rattle.tabled_language.proofs.Walked.{IsWalked, has_walked-more, has_walked-
 use Rattle.tabled_language.proofs.walk.have_places.Goals as goal
 use Rattle.tabled_language.proofs.walk.have_places.Goals.{then-not-is_inside-via-then-not-is_inside, then-not-is_inside-via-else-not-is_inside+then-not-is_clear}
 
--- what stands for an anchor behind the last
+-- what stands for an anchor after the last
 abbrev beyond : Anchor
 beyond = (record { row = 0; col = 0 }, (0, 0))
 
