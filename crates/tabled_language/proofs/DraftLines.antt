@@ -11,6 +11,7 @@ use Rattle.tabled_language.specs.declared.fault.Fault.{Fault}
 use Rattle.tabled_language.specs.declared.fault.Fault.TheVariants.{OutOfPlace}
 use Rattle.tabled_language.specs.Drafts.{draft_of, fault_behind, is_nil, shape_among, shape_misfit, takes}
 use Rattle.tabled_language.specs.Line.{anchor_in, fault_of, first_fault, is_in_place, may_follow, record_in, shape_fault, shape_in, step_in, words_fault}
+use Rattle.tabled_language.proofs.LooseLines.{loose_place}
 use Rattle.tabled_language.specs.Verb.{Line, EmptyLine, ShapeLine, RecordLine, SpanLine, StepLine, FaultyLine}
 
 -- a line has no fault in its words
@@ -74,54 +75,26 @@ span_place read (SpanLine (Err fault) ∷ lines) sound = absurd sound.0
 span_place read (StepLine step ∷ lines) sound = refl
 span_place read (FaultyLine fault ∷ lines) sound = absurd sound.0
 
-anywhere : (line : Line) (lines : List Line) → ((before : Line) → may_follow line before ≡ true) → is_in_place lines line ≡ true
-anywhere line [] h = refl
-anywhere line (before ∷ lines) h = rw (h before) (anywhere line lines h)
-
 -- a line stands in its place just where the draft of the lines before takes it
 pub place_told : (lines : List Line) (line : Line) → AllByRecursion IsSound lines → is_in_place lines line ≡ takes (draft_of lines) line
-place_told lines EmptyLine sound = anywhere EmptyLine lines any
-  where
-    any : (before : Line) → may_follow EmptyLine before ≡ true
-    any EmptyLine = refl
-    any (ShapeLine read) = refl
-    any (RecordLine texts) = refl
-    any (SpanLine read) = refl
-    any (StepLine step) = refl
-    any (FaultyLine fault) = refl
 place_told lines (ShapeLine read) sound = shape_place read 0 lines sound
 place_told lines (RecordLine texts) sound = record_place texts lines sound
 place_told lines (SpanLine read) sound = span_place read lines sound
-place_told lines (StepLine step) sound = anywhere (StepLine step) lines any
-  where
-    any : (before : Line) → may_follow (StepLine step) before ≡ true
-    any EmptyLine = refl
-    any (ShapeLine read) = refl
-    any (RecordLine texts) = refl
-    any (SpanLine read) = refl
-    any (StepLine other) = refl
-    any (FaultyLine fault) = refl
-place_told lines (FaultyLine fault) sound = anywhere (FaultyLine fault) lines any
-  where
-    any : (before : Line) → may_follow (FaultyLine fault) before ≡ true
-    any EmptyLine = refl
-    any (ShapeLine read) = refl
-    any (RecordLine texts) = refl
-    any (SpanLine read) = refl
-    any (StepLine other) = refl
-    any (FaultyLine other) = refl
+place_told lines EmptyLine sound = loose_place EmptyLine lines tt
+place_told lines (StepLine step) sound = loose_place (StepLine step) lines tt
+place_told lines (FaultyLine fault) sound = loose_place (FaultyLine fault) lines tt
 
 -- so the draft tells a line's fault
 pub fault_told : (lines : List Line) (line : Line) → AllByRecursion IsSound lines → fault_of lines line ≡ fault_behind (draft_of lines) line
 fault_told lines line sound = ap (λ b. cond b (words_fault line) (Some OutOfPlace)) (place_told lines line sound)
 
+never : {A P : Type 0} {x : A} → Some x ≡ None → P
+never e = cc
+
 -- a line without a fault is sound
 pub sound_line : (lines : List Line) (line : Line) → fault_of lines line ≡ None → IsSound line
 sound_line lines line fine = by line (is_in_place lines line) fine
   where
-    never : {P : Type 0} {f : Fault} → Some f ≡ None → P
-    never e = cc
-
     by : (line : Line) (b : Bool) → cond b (words_fault line) (Some OutOfPlace) ≡ None → IsSound line
     by EmptyLine b e = tt
     by (ShapeLine (Ok shape)) b e = tt
@@ -139,9 +112,6 @@ sound_line lines line fine = by line (is_in_place lines line) fine
 parts_none : (fault_at : List Line → Line → Option Fault) (earlier : List Line) (line : Line) (lines : List Line) → first_fault fault_at earlier (line ∷ lines) ≡ None → (fault_at earlier line ≡ None) × (first_fault fault_at (earlier ++ line ∷ []) lines ≡ None)
 parts_none fault_at earlier line lines none = by (fault_at earlier line) refl
   where
-    never : {P : Type 0} {x : ℕ × Fault} → Some x ≡ None → P
-    never e = cc
-
     by : (o : Option Fault) → fault_at earlier line ≡ o → (fault_at earlier line ≡ None) × (first_fault fault_at (earlier ++ line ∷ []) lines ≡ None)
     by None e = (e, rw e at none)
     by (Some fault) e = never (rw e at none)
@@ -165,9 +135,6 @@ none_behind g (line ∷ lines) earlier blocked fine =
     let parts = parts_none fault_of earlier line lines fine in
     by line parts.0 (none_behind g lines (earlier ++ line ∷ []) (blocked-push earlier line blocked) parts.1)
   where
-    never : {P : Type 0} {f : Fault} → Some f ≡ None → P
-    never e = cc
-
     by : (l : Line) → fault_of earlier l ≡ None → first_fault (shape_fault g) (earlier ++ l ∷ []) lines ≡ None → first_fault (shape_fault g) earlier (l ∷ lines) ≡ None
     by EmptyLine e later = later
     by (ShapeLine read) e later = never (sym (ap (λ b. cond b (words_fault (ShapeLine read)) (Some OutOfPlace)) (blocked read)) ∙ e)
@@ -182,9 +149,6 @@ shape_behind g (line ∷ lines) earlier fine =
     let parts = parts_none fault_of earlier line lines fine in
     by line parts.0 parts.1 (shape_behind g lines (earlier ++ line ∷ []) parts.1 ∙ ap (λ n. shape_misfit g (shape_among n lines)) (length-append earlier (line ∷ [])))
   where
-    never : {P : Type 0} {f : Fault} → Some f ≡ None → P
-    never e = cc
-
     refused : (fault : Fault) (b : Bool) → cond b (Some fault) (Some OutOfPlace) ≡ None → ⊥
     refused fault true e = never e
     refused fault false e = never e

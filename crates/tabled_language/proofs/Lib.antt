@@ -11,6 +11,7 @@ pub mod DraftSteps
 pub mod Escapes
 pub mod Examples
 pub mod LastBefore
+pub mod LooseLines
 pub mod Misfits
 pub mod Numbers
 pub mod PlacedAnchors

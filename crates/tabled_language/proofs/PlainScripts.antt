@@ -13,10 +13,11 @@ use Rattle.tabled_grid.specs.Spans.{SpanMap}
 use Rattle.tabled_steps.specs.States.{State}
 use Rattle.tabled_language.specs.declared.fault.Fault.{Fault}
 use Rattle.tabled_language.specs.declared.fault.Fault.TheVariants.{OutOfPlace}
-use Rattle.tabled_language.specs.Line.{Script, anchor_in, fault_among, fault_of, first_fault, is_in_place, line_of, may_follow, meaning_of, parse, record_in, script_or_fault, shape_fault, span_fault, step_in, table_from}
+use Rattle.tabled_language.specs.Line.{Script, anchor_in, fault_among, fault_of, first_fault, is_in_place, line_of, meaning_of, parse, record_in, script_or_fault, shape_fault, span_fault, step_in, table_from}
 use Rattle.tabled_language.specs.Plain.{begin_a_table, has_either_word, is_step, plain_fault, plain_line_of, plain_meaning_of, plain_parse, plain_script, says_plainly}
 use Rattle.tabled_language.specs.Line.{lines_of, texts_of, words_of}
 use Rattle.tabled_language.specs.Verb.{Line, EmptyLine, RecordLine, ShapeLine, SpanLine, StepLine, FaultyLine, says, step_line, steps}
+use Rattle.tabled_language.proofs.LooseLines.{loose_place}
 use Rattle.tabled_language.specs.Words.{behind, whole}
 
 -- a line says no shape and no span
@@ -66,11 +67,6 @@ all_plain : (lines : List (List ℕ)) → AllByRecursion IsPlain (map plain_line
 all_plain [] = tt
 all_plain (line ∷ lines) = (is_plain line, all_plain lines)
 
--- what may stand anywhere
-anywhere : (line : Line) (earlier : List Line) → ((before : Line) → may_follow line before ≡ true) → is_in_place earlier line ≡ true
-anywhere line [] h = refl
-anywhere line (before ∷ earlier) h = rw (h before) (anywhere line earlier h)
-
 record_place : (texts : List (List ℕ)) (earlier : List Line) → AllByRecursion IsPlain earlier → is_in_place earlier (RecordLine texts) ≡ not (list_any is_step earlier)
 record_place texts [] plain = refl
 record_place texts (EmptyLine ∷ earlier) plain = record_place texts earlier plain.1
@@ -81,15 +77,6 @@ record_place texts (StepLine step ∷ earlier) plain = refl
 record_place texts (FaultyLine fault ∷ earlier) plain = record_place texts earlier plain.1
 
 fault-plain : (earlier : List Line) (line : Line) → AllByRecursion IsPlain earlier → IsPlain line → fault_of earlier line ≡ plain_fault earlier line
-fault-plain earlier EmptyLine plain here = rw (anywhere EmptyLine earlier any) refl
-  where
-    any : (before : Line) → may_follow EmptyLine before ≡ true
-    any EmptyLine = refl
-    any (ShapeLine read) = refl
-    any (RecordLine texts) = refl
-    any (SpanLine read) = refl
-    any (StepLine step) = refl
-    any (FaultyLine fault) = refl
 fault-plain earlier (ShapeLine read) plain here = absurd here
 fault-plain earlier (RecordLine texts) plain here = ap (λ b. cond b None (Some OutOfPlace)) (record_place texts earlier plain) ∙ turned (list_any is_step earlier)
   where
@@ -97,24 +84,9 @@ fault-plain earlier (RecordLine texts) plain here = ap (λ b. cond b None (Some 
     turned true = refl
     turned false = refl
 fault-plain earlier (SpanLine read) plain here = absurd here
-fault-plain earlier (StepLine step) plain here = rw (anywhere (StepLine step) earlier any) refl
-  where
-    any : (before : Line) → may_follow (StepLine step) before ≡ true
-    any EmptyLine = refl
-    any (ShapeLine read) = refl
-    any (RecordLine texts) = refl
-    any (SpanLine read) = refl
-    any (StepLine other) = refl
-    any (FaultyLine fault) = refl
-fault-plain earlier (FaultyLine fault) plain here = rw (anywhere (FaultyLine fault) earlier any) refl
-  where
-    any : (before : Line) → may_follow (FaultyLine fault) before ≡ true
-    any EmptyLine = refl
-    any (ShapeLine read) = refl
-    any (RecordLine texts) = refl
-    any (SpanLine read) = refl
-    any (StepLine other) = refl
-    any (FaultyLine other) = refl
+fault-plain earlier EmptyLine plain here = rw (loose_place EmptyLine earlier tt) refl
+fault-plain earlier (StepLine step) plain here = rw (loose_place (StepLine step) earlier tt) refl
+fault-plain earlier (FaultyLine fault) plain here = rw (loose_place (FaultyLine fault) earlier tt) refl
 
 -- two ways to find faults that agree find the same first one
 faults-plain : (earlier lines : List Line) → AllByRecursion IsPlain earlier → AllByRecursion IsPlain lines → first_fault fault_of earlier lines ≡ first_fault plain_fault earlier lines

@@ -1,5 +1,5 @@
 -- Lines without faults: a shape, records, and spans.
-use Rattle.std.proofs.Common.{◌≡◌, ℕ, true, false, eq-eqb, List, [], ◌∷◌, ◌++◌, map, Option, None, Some, Ok, refl, ap, ap₂, ◌∙◌}
+use Rattle.std.proofs.Common.{◌≡◌, ℕ, true, false, eq-eqb, map-id, List, [], ◌∷◌, ◌++◌, map, Option, None, Some, Ok, refl, ap, ap₂, ◌∙◌}
 use Rattle.std.specs.Prelude.{filter_map}
 use Rattle.std.specs.List.{list_any}
 use Rattle.std.proofs.lemmas.Bool.{and_from, and_parts, not_from_false}
@@ -11,7 +11,8 @@ use Rattle.tabled_grid.specs.Grid.{Grid}
 use Rattle.tabled_language.specs.declared.fault.Fault.{Fault}
 use Rattle.tabled_language.specs.Line.{anchor_in, fault_of, first_fault, is_in_place, may_follow, record_in, shape_fault, span_fault, step_in}
 use Rattle.tabled_language.specs.Placed.{has_place}
-use Rattle.tabled_language.specs.Verb.{Line, EmptyLine, ShapeLine, RecordLine, SpanLine, StepLine, FaultyLine}
+use Rattle.tabled_language.specs.Verb.{Line, EmptyLine, ShapeLine, RecordLine, SpanLine}
+use Rattle.tabled_language.proofs.LooseLines.{loose_place}
 use Rattle.tabled_language.proofs.BackToAnchors.{MeetNone, meet_none-push}
 
 -- what each of things says is picked
@@ -35,18 +36,6 @@ block fault_at make Kept fine keeps (x ∷ xs) rest earlier kept after = quiet-c
 
 all-push : (line before : Line) (earlier : List Line) → is_in_place earlier line ≡ true → may_follow line before ≡ true → is_in_place (earlier ++ before ∷ []) line ≡ true
 all-push line before earlier h k = list_all-append (may_follow line) earlier (before ∷ []) ∙ rw (h, k) refl
-
-empty_follows : (earlier : List Line) → is_in_place earlier EmptyLine ≡ true
-empty_follows [] = refl
-empty_follows (line ∷ earlier) = rw (any line) (empty_follows earlier)
-  where
-    any : (line : Line) → may_follow EmptyLine line ≡ true
-    any EmptyLine = refl
-    any (ShapeLine read) = refl
-    any (RecordLine texts) = refl
-    any (SpanLine read) = refl
-    any (StepLine step) = refl
-    any (FaultyLine fault) = refl
 
 abbrev pub records : List (List (List ℕ)) → List Line
 records rows = map RecordLine rows
@@ -77,7 +66,7 @@ in_place r c rows es = block fault_of RecordLine TakesRecords
     (λ earlier e takes. rw (takes e) refl)
     (λ earlier e takes f. all-push (span f) (span e) earlier (takes f) refl)
     es (EmptyLine ∷ []) later kept.spans
-    (λ last takes. rw (empty_follows last) refl))
+    (λ last takes. rw (loose_place EmptyLine last tt) refl))
 
 -- the shape is that of the table
 pub shape_fine : (g : Grid (List ℕ)) (rows : List (List (List ℕ))) (es : List Anchor) → first_fault (shape_fault g) [] (table g.rows g.columns rows es) ≡ None
@@ -106,18 +95,10 @@ spans_fine g r c rows es well apart = block (span_fault g) RecordLine (λ earlie
     (λ later none. spans_apart g es [] (EmptyLine ∷ []) later none well apart (λ last. refl))
 
 pub records_are : (r c : ℕ) (rows : List (List (List ℕ))) (es : List Anchor) → filter_map record_in (table r c rows es) ≡ rows
-records_are r c rows es = picked record_in RecordLine (λ texts. texts) (λ texts. refl) rows (map span es ++ EmptyLine ∷ []) ∙ ap₂ (λ (xs ys : List (List (List ℕ))). xs ++ ys) (map-itself rows) (passed record_in span (λ e. refl) es (EmptyLine ∷ [])) ∙ append-nil rows
-  where
-    map-itself : {A : Type 0} (xs : List A) → map (λ (x : A). x) xs ≡ xs
-    map-itself [] = refl
-    map-itself (x ∷ xs) = ap (λ ys. x ∷ ys) (map-itself xs)
+records_are r c rows es = picked record_in RecordLine (λ texts. texts) (λ texts. refl) rows (map span es ++ EmptyLine ∷ []) ∙ ap₂ (λ (xs ys : List (List (List ℕ))). xs ++ ys) (map-id rows) (passed record_in span (λ e. refl) es (EmptyLine ∷ [])) ∙ append-nil rows
 
 pub anchors_are : (r c : ℕ) (rows : List (List (List ℕ))) (es : List Anchor) → filter_map anchor_in (table r c rows es) ≡ es
-anchors_are r c rows es = passed anchor_in RecordLine (λ texts. refl) rows (map span es ++ EmptyLine ∷ []) ∙ picked anchor_in span (λ e. e) (λ e. refl) es (EmptyLine ∷ []) ∙ append-nil (map (λ (e : Anchor). e) es) ∙ map-itself es
-  where
-    map-itself : {A : Type 0} (xs : List A) → map (λ (x : A). x) xs ≡ xs
-    map-itself [] = refl
-    map-itself (x ∷ xs) = ap (λ ys. x ∷ ys) (map-itself xs)
+anchors_are r c rows es = passed anchor_in RecordLine (λ texts. refl) rows (map span es ++ EmptyLine ∷ []) ∙ picked anchor_in span (λ e. e) (λ e. refl) es (EmptyLine ∷ []) ∙ append-nil (map (λ (e : Anchor). e) es) ∙ map-id es
 
 pub steps_are : (r c : ℕ) (rows : List (List (List ℕ))) (es : List Anchor) → filter_map step_in (table r c rows es) ≡ []
 steps_are r c rows es = passed step_in RecordLine (λ texts. refl) rows (map span es ++ EmptyLine ∷ []) ∙ passed step_in span (λ e. refl) es (EmptyLine ∷ [])

@@ -1,5 +1,5 @@
 -- Merged cells when all lines are put into the opposite order, twice.
-use Rattle.std.proofs.Common.{◌≡◌, ℕ, ◌+◌, ◌-◌, ◌<◌, ◌≤◌, Some, refl, sym, ap, ap₂, subst, ◌∙◌, arith}
+use Rattle.std.proofs.Common.{◌≡◌, ℕ, ◌+◌, ◌-◌, ◌<◌, ◌≤◌, Some, refl, sym, ap, ap₂, subst, arith}
 use Rattle.std.proofs.lemmas.Option.{same_Some}
 use Rattle.tabled_grid.specs.Anchors.{Anchor}
 use Rattle.tabled_grid.specs.Axis.{count_of}
@@ -12,7 +12,7 @@ use Rattle.tabled_grid.specs.declared.config.offset.Offset.TheVariants.{End}
 use Rattle.tabled_grid.specs.declared.config.position.Position.{Position}
 use Rattle.tabled_grid.specs.declared.records.axis.Axis.{Axis}
 use Rattle.tabled_grid.specs.declared.records.axis.Axis.TheVariants.{Rows, Columns}
-use Rattle.tabled_images.specs.Images.{Carries, CarriesAll, IsFull, LeadsBack, Takes, carried}
+use Rattle.tabled_images.specs.Images.{Carries, IsFull, Takes, carried}
 use Rattle.tabled_images.proofs.Back.{carried_back}
 use Rattle.tabled_settings.specs.Places.{lines_from}
 use Rattle.tabled_settings.specs.Rearranged.{reversed, reversed_index, rotated}

@@ -8,7 +8,7 @@ use Rattle.tabled_grid.specs.declared.config.offset.Offset.{Offset}
 use Rattle.tabled_grid.specs.declared.records.axis.Axis.{Axis}
 use Rattle.tabled_images.proofs.CarriedFits.{carried-fits}
 use Rattle.tabled_images.specs.Images.{carried}
-use Rattle.tabled_options.specs.Does.{Change, OptionKeeps, Same}
+use Rattle.tabled_options.specs.Does.{OptionKeeps, Same}
 use Rattle.tabled_settings.specs.Joined.{JoinsAt, corner_of, joined_places}
 use Rattle.tabled_settings.specs.PiecePlaces.{Splits, split_places}
 use Rattle.tabled_settings.specs.Pieces.{has_pieces}

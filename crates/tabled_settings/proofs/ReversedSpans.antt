@@ -1,5 +1,5 @@
 -- Merged cells when lines are reversed.
-use Rattle.std.proofs.Common.{◌≡◌, ℕ, ◌+◌, ◌<◌, ◌≤◌, Bool, true, false, sym, ap, subst, ◌∙◌}
+use Rattle.std.proofs.Common.{◌≡◌, ℕ, ◌<◌, ◌≤◌, Bool, true, sym, ap, subst, ◌∙◌}
 use Rattle.std.proofs.lemmas.Bool.{and_from}
 use borrow.Author.Tests.{le-leb, lt-ltb}
 use Rattle.tabled_grid.specs.Axis.{count_of}

@@ -5,6 +5,23 @@ use Rattle.tabled_grid.specs.Axis.{across}
 use Rattle.tabled_settings.proofs.PiecePlaces.{clean_places, clean_splits, retained_places, retained_splits, spans_carried}
 use Rattle.tabled_settings.proofs.PiecesDone.{CanBeCut, kept_below, kept_rising, lines_counted}
 use Rattle.tabled_settings.proofs.split.SplitTableOptionSpannedConfig.change.Goals as goal
+use Rattle.tabled_settings.proofs.split.SplitTableOptionSpannedConfig.change.Goals.{After-is_none}
+
+-- what was found before the pieces are looked at
+can_be_cut : (g : _) (c : After-is_none g) → CanBeCut c.args.self c.count_of-lines.result c.count_of-width.result (g.R.GridStore.grid c.args.records.now)
+can_be_cut g c =
+    let s = c.args.self in
+    let grid = g.R.GridStore.grid c.args.records.now in
+    let rows = c.count_rows-rows.ensures.rows in
+    let columns = c.count_columns-columns.ensures.columns in
+    record {
+      even = c.count_rows-rows.ensures.even;
+      count = lines_counted s.lines grid _ _ _ c.count_of-lines.ensures rows columns;
+      wide = lines_counted (across s.lines) grid _ _ _ (rw c.across.ensures at c.count_of-width.ensures) rows columns;
+      some = omega (arith, c.if-lines-eq0.false);
+      index = omega (arith, c.if-self-eq0.false);
+      narrow = omega (arith, c.if-self-width.false);
+    }
 
 pub invariant_of-clean : goal.invariant_of-clean
 invariant_of-clean g c =
@@ -12,14 +29,7 @@ invariant_of-clean g c =
     let grid = g.R.GridStore.grid c.args.records.now in
     let n = c.count_of-lines.result in
     let m = c.count_of-width.result in
-    let can : CanBeCut s n m grid = record {
-      even = c.count_rows-rows.ensures.even;
-      count = lines_counted s.lines grid n _ _ c.count_of-lines.ensures c.count_rows-rows.ensures.rows c.count_columns-columns.ensures.columns;
-      wide = lines_counted (across s.lines) grid m _ _ (rw c.across.ensures at c.count_of-width.ensures) c.count_rows-rows.ensures.rows c.count_columns-columns.ensures.columns;
-      some = omega (arith, c.if-lines-eq0.false);
-      index = omega (arith, c.if-self-eq0.false);
-      narrow = omega (arith, c.if-self-width.false);
-    } in
+    let can = can_be_cut g (goal.at.invariant_of-clean g c).After-is_none in
     let text_of = g.R.Cell.CellText.text_of in
     let kept = sym c.in_ok-kept-in-Clean.ensures in
     record {
@@ -33,14 +43,7 @@ returns-in_ok-cut-in-Clean-clause-ok g c =
     let grid = g.R.GridStore.grid c.args.records.now in
     let n = c.count_of-lines.result in
     let m = c.count_of-width.result in
-    let can : CanBeCut s n m grid = record {
-      even = c.count_rows-rows.ensures.even;
-      count = lines_counted s.lines grid n _ _ c.count_of-lines.ensures c.count_rows-rows.ensures.rows c.count_columns-columns.ensures.columns;
-      wide = lines_counted (across s.lines) grid m _ _ (rw c.across.ensures at c.count_of-width.ensures) c.count_rows-rows.ensures.rows c.count_columns-columns.ensures.columns;
-      some = omega (arith, c.if-lines-eq0.false);
-      index = omega (arith, c.if-self-eq0.false);
-      narrow = omega (arith, c.if-self-width.false);
-    } in
+    let can = can_be_cut g (goal.at.returns-in_ok-cut-in-Clean-clause-ok g c).After-is_none in
     let text_of = g.R.Cell.CellText.text_of in
     let fills = (rw (← can.count, ← can.wide) at c.in_ok-cut-in-Clean.ensures.ok) in
     let kept = c.in_ok-kept-in-Clean.ensures in (
@@ -54,14 +57,7 @@ returns-in_ok-cut-in-Retain-clause-ok g c =
     let grid = g.R.GridStore.grid c.args.records.now in
     let n = c.count_of-lines.result in
     let m = c.count_of-width.result in
-    let can : CanBeCut s n m grid = record {
-      even = c.count_rows-rows.ensures.even;
-      count = lines_counted s.lines grid n _ _ c.count_of-lines.ensures c.count_rows-rows.ensures.rows c.count_columns-columns.ensures.columns;
-      wide = lines_counted (across s.lines) grid m _ _ (rw c.across.ensures at c.count_of-width.ensures) c.count_rows-rows.ensures.rows c.count_columns-columns.ensures.columns;
-      some = omega (arith, c.if-lines-eq0.false);
-      index = omega (arith, c.if-self-eq0.false);
-      narrow = omega (arith, c.if-self-width.false);
-    } in
+    let can = can_be_cut g (goal.at.returns-in_ok-cut-in-Retain-clause-ok g c).After-is_none in
     let text_of = g.R.Cell.CellText.text_of in
     let fills = (rw (← can.count, ← can.wide) at c.in_ok-cut-in-Retain.ensures.ok) in (
       retained_splits text_of s n m grid can g.R.Cell.Blank.is_blank g.met.R.Cell.CellText.blank_is_empty _ fills c.in-Retain.is,
