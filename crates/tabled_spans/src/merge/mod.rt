@@ -29,6 +29,9 @@ use tabled_options::TableOption;
 /// +---+---+      +---+---+
 /// ```
 ///
+/// It goes over all columns, or all rows: no call merges those of one alone. To merge cells of one's choice,
+/// give the first of them a size, as by `table.modify(alloc, (0, 1), Span::row(2))`.
+///
 /// Ported from `tabled::settings::Merge`.
 #[derive(Debug)]
 pub struct Merge;
