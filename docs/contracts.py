@@ -1,6 +1,8 @@
 """Reads the public items of Rattle sources: their words, signatures and clauses."""
 
 import re
+from pathlib import Path
+from typing import NamedTuple
 
 OPENS = {"{": "}", "(": ")", "[": "]"}
 LITERAL = re.compile(r'b?"(?:\\.|[^"\\])*"|b?\'(?:\\.[^\']*|[^\\\'])\'')
@@ -10,7 +12,7 @@ BETWEEN = re.compile(r"(?:\s|,|//.*)*")
 
 
 def skip(text, at):
-    """The place behind what begins here and is no code: a comment, or a literal."""
+    """The place after what begins here and is no code: a comment, or a literal."""
     if text.startswith("//", at):
         end = text.find("\n", at)
         return len(text) if end < 0 else end
@@ -19,7 +21,7 @@ def skip(text, at):
 
 
 def closing(text, at):
-    """The place behind the bracket that closes the one here."""
+    """The place after the bracket that closes the one here."""
     want = [OPENS[text[at]]]
     at += 1
     while want:
@@ -65,7 +67,7 @@ class Item:
         self.is_public = bool(re.match(r"pub (?!\()", self.head))
 
     def name(self):
-        found = re.search(r"\b(?:fn|struct|enum|trait|mod|type|const|ghost) (\w+)", self.head)
+        found = re.search(r"\b(?:fn|struct|enum|trait|mod|type|const(?! fn)|ghost) (\w+)", self.head)
         return found[1] if found else ""
 
 
@@ -100,7 +102,7 @@ def items(text):
         line = text[at:line_end].strip()
         at += len(text[at:line_end]) - len(text[at:line_end].lstrip())
         if line.startswith("///"):
-            words.append(line.removeprefix("///").strip())
+            words.append(line.removeprefix("///").removeprefix(" ").rstrip())
             start = at if start is None else start
             at = line_end + 1
             continue
@@ -130,86 +132,122 @@ def items(text):
         at, words, start = end, [], None
 
 
-def module_sentence(text):
+def module_words(text):
     """The words of a file's `//!` lines."""
-    return " ".join(it.strip() for it in re.findall(r"^//!(.*)", text, re.M)).strip()
+    return [it.removeprefix(" ").rstrip() for it in re.findall(r"^//!(.*)", text, re.M)]
 
 
-def public_files(folder):
-    """The files below a folder of sources that aren't of tests alone, their texts, and whether each may be named."""
-    pending, seen = [(folder / "lib.rt", True)], []
-    while pending:
-        file, is_named = pending.pop(0)
+class Source(NamedTuple):
+    """A file: its path, its text, whether its names can be written, and the public module that it belongs to."""
+
+    path: Path
+    text: str
+    is_named: bool
+    module: tuple
+
+
+def sources_of(folder):
+    """The files below a folder of sources that aren't of tests alone, each after the one that declares it."""
+    found = []
+
+    def visit(file, name, is_named, module):
         text = file.read_text()
-        seen.append((file.relative_to(folder), text, is_named))
+        found.append(Source(file.relative_to(folder), text, is_named, module))
         below = file.parent if file.stem in ("lib", "mod") else file.parent / file.stem
-        for attributes, is_pub, name in re.findall(r"((?:^#\[.*\]\n)*)^(pub )?(?:pub\([a-z]+\) )?mod (\w+);", text, re.M):
-            if "cfg(test)" not in attributes:
-                files = (below / f"{name}.rt", below / name / "mod.rt")
-                pending += [(it, is_named and bool(is_pub)) for it in files if it.is_file()]
-    return sorted(seen, key=lambda it: str(it[0]))
+        for attributes, is_pub, inner in re.findall(r"((?:^#\[.*\]\n)*)^(pub )?(?:pub\([a-z]+\) )?mod (\w+);", text, re.M):
+            for it in (below / f"{inner}.rt", below / inner / "mod.rt"):
+                if "cfg(test)" not in attributes and it.is_file():
+                    named = is_named and bool(is_pub)
+                    visit(it, (*name, inner), named, (*name, inner) if named else module)
+
+    visit(folder / "lib.rt", (), True, ())
+    return found
 
 
-def public_names(files):
+def reexported(text):
+    """The path and the names of each `pub use` of a file."""
+    for path, listed in re.findall(r"^pub use ([\w:]*?)(?:::)?(\{[^}]*\}|\w+);", text, re.M):
+        yield path, re.findall(r"\w+", listed)
+
+
+def public_names(sources):
     """The names that another crate can write."""
-    names = set()
-    for _, text, is_named in files:
-        for listed in re.findall(r"^pub use [\w:]*?(?:::)?(\{[^}]*\}|\w+);", text, re.M):
-            names |= set(re.findall(r"\w+", listed))
-        if is_named:
-            names |= {it.name() for it in items(text) if it.is_public}
+    names = {it for source in sources for _, listed in reexported(source.text) for it in listed}
+    for source in sources:
+        if source.is_named:
+            names |= {it.name() for it in items(source.text) if it.is_public}
     return names
 
 
 def first_sentence(words):
-    said = " ".join(words).partition("  ")[0]
+    paragraph = words[: words.index("")] if "" in words else words
+    said = " ".join(it.strip() for it in paragraph)
     return (re.match(r".*?[.](?= |$)", said) or re.match(r".*", said))[0]
 
 
-def told(item, owner=""):
-    """An item's lines: its first sentence, its signature, and its clauses."""
-    lines = [f"// {first_sentence(item.words)}"] if item.words else []
-    head = re.sub(r"([(,] ?)mut (\w)", r"\1\2", item.head.removeprefix("pub ")).rstrip(",")
-    if owner:
-        head = re.sub(r"\bfn ", f"fn {owner}::", head, count=1)
-    return [*lines, head, *(f"  {it}" for it in item.clauses)]
+class Part(NamedTuple):
+    """What a page tells of one name: its kind, its words, and its lines without them.
+
+    The lines of a trait, of a type and of what a type means as a trait have the words of what stands in it.
+    """
+
+    name: str
+    kind: str
+    words: list
+    lines: list
+
+
+def signature(item):
+    return re.sub(r"([(,] ?)mut (\w)", r"\1\2", item.head.removeprefix("pub ")).rstrip(",")
+
+
+def clauses(item):
+    return [f"  {it}" for it in item.clauses]
+
+
+def commented(words):
+    return [f"// {it}".rstrip() for it in words]
+
+
+# What each option and each selector says alike: the index of docs/api says it once.
+ALIKE = re.compile(r"ghost (acts_like = |can_(change|list|locate) = \{ λ (_|s)\. Unit \{0\} \})")
 
 
 def members(item):
-    """The lines of a trait's members, or of an impl's of a trait."""
-    lines = []
+    """A trait's members, or an impl's of a trait, each as a part."""
     for it in items(item.body):
-        if it.kind in ("ghost", "type"):
-            lines += [f"  {line}" for line in told(it)]
-        elif it.kind == "fn" and (item.kind == "trait" or it.clauses):
-            lines += [f"  {line}" for line in told(it)]
-    return lines
+        is_told = it.kind in ("ghost", "type") or it.kind == "fn" and (item.kind == "trait" or it.clauses)
+        if is_told and not (item.kind == "impl" and ALIKE.match(it.head)):
+            yield Part(it.name(), it.kind, it.words, [signature(it), *clauses(it)])
 
 
-def contracts_of(text, public):
-    """The lines of a file's public items with what they promise."""
-    lines = []
+def indented(part):
+    return [f"  {it}" for it in [*commented(part.words), *part.lines]]
+
+
+def parts_of(text, public):
+    """The parts of a file's public items."""
     for item in items(text):
         is_public = item.is_public and item.name() in public and not item.is_hidden
-        if item.kind == "fn" and is_public:
-            lines += told(item)
+        if item.kind in ("fn", "const", "type") and is_public:
+            yield Part(item.name(), "fn", item.words, [signature(item), *clauses(item)])
         elif item.kind == "trait" and is_public:
-            lines += [*told(item), *members(item)]
+            inner = [line for it in members(item) for line in indented(it)]
+            yield Part(item.name(), "trait", item.words, [signature(item), *inner])
         elif item.kind in ("struct", "enum") and is_public:
-            lines += of_type(item)
+            yield Part(item.name(), item.kind, item.words, lines_of_type(item))
         elif item.kind == "impl":
-            lines += of_impl(item, public)
-    return lines
+            yield from parts_of_impl(item, public)
 
 
-def of_type(item):
+def lines_of_type(item):
     """The lines of a type, with what stands in it where all may see that."""
-    inside = one_line(re.sub(r"//.*|#\[.*\]", "", item.body)).rstrip(",")
-    lines = told(item)
-    lines[-1] = re.sub(r"\((?!pub ).*\)$", "", lines[-1])
-    if inside and (item.kind == "enum" or re.search(r"\bpub (?!\()", inside)):
-        lines[-1] += f" {{ {inside} }}"
-    return lines
+    derived = re.findall(r"#\[derive\([^)]*\)\]", item.whole.partition(item.head[:8])[0])
+    body = [it.strip() for it in item.body.strip().splitlines()]
+    if item.kind == "enum" or any(re.match(r"pub (?!\()", it) for it in body):
+        shown = [f"  {it.replace('///', '//', 1)}" for it in body if it and not it.startswith("#")]
+        return [*derived, re.sub(r"\s*\{.*", "", item.head.removeprefix("pub ")), *shown]
+    return [*derived, re.sub(r"\((?!pub ).*\)$", "", item.head.removeprefix("pub "))]
 
 
 def is_hidden(trait, text, public):
@@ -218,21 +256,24 @@ def is_hidden(trait, text, public):
     return bool(name) and name not in public and bool(re.search(rf"^use crate::[^;]*\b{name}\b", text, re.M))
 
 
-def of_impl(item, public):
-    """The lines of an impl: of a type's own calls, or of what it means as a trait."""
+def parts_of_impl(item, public):
+    """The parts of an impl: a type's own calls, or what it means as a trait."""
     target = re.sub(r"^impl(?:<.*?>(?= ))? ", "", item.head).partition(" where ")[0]
     trait, _, of = target.rpartition(" for ")
     owner = re.match(r"\W*(?:mut )?(\w*)", of)[1]
     is_own = owner[:1].isupper() and re.search(rf"\b(struct|enum) {owner}\b", item.file)
     if is_own and owner not in public or is_hidden(trait, item.file, public):
-        return []
+        return
     if not trait:
-        own = [it for it in items(item.body) if it.kind == "fn" and it.is_public and not it.is_hidden]
-        return [line for it in own for line in told(it, owner)]
-    said = members(item)
-    if trait == "Model":
-        said = [it for it in said if it.startswith("  ghost Value")]
-    return [item.head.rstrip(","), *said] if said else []
+        for it in items(item.body):
+            if it.kind == "fn" and it.is_public and not it.is_hidden:
+                lines = [signature(it).replace("fn ", f"fn {owner}::", 1), *clauses(it)]
+                yield Part(f"{owner}::{it.name()}", "call", it.words, lines)
+        return
+    inner = [it for it in members(item) if trait != "Model" or it.name == "Value"]
+    if inner:
+        lines = [line for it in inner for line in indented(it)]
+        yield Part(f"{of} as {trait}", "impl", item.words, [item.head.rstrip(","), *lines])
 
 
 def function_text(text, name):
@@ -240,5 +281,46 @@ def function_text(text, name):
     found = [it for it in items(text) if it.name() == name]
     found += [it for outer in items(text) if outer.kind == "impl" for it in items(outer.body) if it.name() == name]
     if not found:
-        raise SystemExit(f"docs/make: no function {name} where docs/calling names it")
+        raise SystemExit(f"docs/make: no {name} where a page names it")
     return found[0].whole
+
+
+def used_by(text, quoted, methods):
+    """The `use` lines of a file that a part of it needs; `methods` has those of each trait."""
+    words, kept = set(re.findall(r"\w+|◌\S*|\S*◌", quoted)), []
+    tokens = set(re.findall(r"[^\s(){}\[\],;.]+", quoted))
+
+    def is_needed(name):
+        own = name.split(" as ")[-1].strip()
+        if "◌" in own:
+            return all(it in tokens or it in words for it in own.split("◌") if it)
+        return own in words or own in tokens or bool(words & methods.get(own, set()))
+
+    for item in items(text):
+        if item.kind not in ("use", "ghost use"):
+            continue
+        path, brace, listed = item.head.partition("::{" if item.kind == "use" else ".{")
+        names = [it.strip() for it in listed.rstrip("}").split(",")] if brace else [re.split(r"::|\.", path)[-1]]
+        needed = [it for it in names if is_needed(it)]
+        if needed and brace:
+            kept.append(laid_out(path, brace, needed))
+        elif needed:
+            kept.append(f"{item.head};")
+    return kept
+
+
+def laid_out(path, brace, names):
+    """An import as `rt fmt` lays it out."""
+    ghost = brace.startswith(".")
+    if len(names) == 1 and not ghost:
+        return f"{path}::{names[0]};"
+    line = f"{path}{brace}{', '.join(names)}}};"
+    if len(line) <= 100 or ghost:
+        return line
+    rows, row = [], "   "
+    for it in names:
+        if len(row) + len(it) + 2 > 100:
+            rows.append(row)
+            row = "   "
+        row += f" {it},"
+    return "\n".join([path + brace, *rows, row, "};"])

@@ -1,7 +1,6 @@
 """The scripts of examples/ with what they print: as a table of cases for tests, and as pictures for docs/SCRIPT.md."""
 
 import re
-import sys
 import unicodedata
 
 FIELD, CASE = "\x1f", "\x1e"  # what separates the parts of a case, and cases
@@ -150,7 +149,7 @@ def shortened(line):
 
 
 def indented(text):
-    return [f"    {line}" for line in text.removesuffix("\n").split("\n")]
+    return "\n".join(f"    {line}" for line in text.removesuffix("\n").split("\n"))
 
 
 def picture(script, output):
@@ -170,13 +169,17 @@ def picture(script, output):
     return [*map(shortened, steps), "", "```text", *beside(drawn(rows_of(lines), merged, ruled), after), "```"]
 
 
-def page(top):
-    """docs/SCRIPT.md: its prose, with a picture in place of each line that names one."""
-    cases, prose = cases_of(top), (top / "docs/pages/SCRIPT.md").read_text()
-    named = re.findall(r"^(?:shown|script): (\S+)$", prose, re.M)
-    for name in {it.stem for it in top.glob("examples/gallery/*.script")} - {*named}:
-        sys.exit(f"docs/pages/SCRIPT.md: nothing shows {name}")
-    quoted = {"script": lambda it: indented(cases[it][0]), "printed": lambda it: indented(cases[it][1])}
-    quoted["shown"] = lambda it: picture(*cases[it])
-    words = "|".join(quoted)
-    return re.sub(rf"^({words}): (\S+)$", lambda it: "\n".join(quoted[it[1]](it[2])), prose, flags=re.M)
+def makers(top):
+    """What stands for a line of a page that names a script, by the line's first word."""
+    cases = cases_of(top)
+    return {
+        "script": lambda it: indented(cases[it][0]),
+        "printed": lambda it: indented(cases[it][1]),
+        "shown": lambda it: "\n".join(picture(*cases[it])),
+    }
+
+
+def unshown(top, prose):
+    """The scripts of the gallery that a page doesn't show."""
+    named = set(re.findall(r"^(?:shown|script): (\S+)$", prose, re.M))
+    return [it.stem for it in top.glob("examples/gallery/*.script") if it.stem not in named]

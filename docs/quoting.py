@@ -1,0 +1,128 @@
+"""What pages quote of the repository: lines such as `code: PATH NAME ..` become what they name.
+
+    script: NAME, printed: NAME   a script of examples/gallery, and what it prints
+    shown: NAME                   both as a picture
+    whole: PATH                   a file
+    code: PATH NAME ..            functions of a file, with the `use` lines that they need
+    own: CRATE                    the lines of crates.txt and the commands that make a program one's own crate
+"""
+
+import re
+
+import gallery
+from contracts import function_text, items, module_words, parts_of, public_names, sources_of, used_by
+
+NOT_QUOTED = ("Prim.search",)
+
+
+def crates_of(top):
+    """The names of crates.txt, in its order, with what each uses."""
+    lines = [line.partition("#")[0].strip() for line in (top / "crates.txt").read_text().splitlines()]
+    return {name.split()[0]: below.split() for name, _, below in (it.partition(":") for it in lines if it)}
+
+
+def libraries(top):
+    return [name for name in crates_of(top) if (top / "crates" / name / "src/lib.rt").is_file()]
+
+
+def methods_of(top):
+    """The methods of each trait of the repository: whoever calls one needs the trait's name."""
+    methods = {}
+    for crate in libraries(top):
+        for source in sources_of(top / "crates" / crate / "src"):
+            for item in items(source.text):
+                if item.kind == "trait":
+                    methods[item.name()] = {it.name() for it in items(item.body) if it.kind == "fn"}
+    return methods
+
+
+def rust(text):
+    return f"```rust\n{text.strip()}\n```"
+
+
+def code(top, path, *names):
+    """Functions of a file, with the `use` lines that they need."""
+    text = (top / path).read_text()
+    quoted = "\n\n".join(function_text(text, name) for name in names)
+    used = used_by(text, quoted, methods_of(top))
+    ghost = [it for it in used if it.startswith("ghost")]
+    blocks = ["\n".join(ghost), "\n".join(it for it in used if it not in ghost), quoted]
+    return rust("\n\n".join(it for it in blocks if it))
+
+
+def below(top, crate):
+    """The crates of the repository that a crate uses, lowest first, with all that these use."""
+    crates = crates_of(top)
+    needed = {crate}
+    for name in reversed(crates):
+        if name in needed:
+            needed |= set(crates[name])
+    return [name for name in crates if name in needed - {crate}]
+
+
+def own(top, crate, name):
+    """What makes the program of a crate one's own, under a name: lines of crates.txt, and commands."""
+    crates, libraries = crates_of(top), below(top, crate)
+    lines = [f"{it}: {' '.join(crates[it])}".rstrip() for it in libraries]
+    lines.append(f"{name}: {' '.join(crates[crate])}")
+    return "\n".join(f"    {it}" for it in lines)
+
+
+def quoted(top, prose):
+    """Prose with what its lines name."""
+    makers = {
+        "whole": lambda path: rust((top / path).read_text()),
+        "code": lambda *words: code(top, *words),
+        "own": lambda *words: own(top, *words),
+        **gallery.makers(top),
+    }
+    line = re.compile(rf"^({'|'.join(makers)}): (\S.*)$", re.M)
+    return line.sub(lambda it: makers[it[1]](*it[2].split()), prose)
+
+
+def shortened(line):
+    """A line of a contract, with `S` for what `self` is, or points to, at the call, and `S'` at the return."""
+    if not line.startswith("  "):
+        return line
+    line = re.sub(r"\bself\.new\b", "S'", line)
+    return re.sub(r"\bself(\.(old|now))?\b", "S", line)
+
+
+def selected(parts, name):
+    """The lines of a name: what it is, its members for `TRAIT::MEMBER`, or what a type means for `TYPE as TRAIT`."""
+    for part in parts:
+        if part.name == name:
+            return part.lines
+        if part.kind == "trait" and name.startswith(part.name + "::"):
+            return member(part, name)
+    raise SystemExit(f"docs/make: no {name} where docs/calling names it")
+
+
+def member(part, name):
+    """A member of a trait, without its words."""
+    wanted, found, inside = name.partition("::")[2], [], False
+    for line in part.lines[1:]:
+        if re.match(r"  \S", line):
+            inside = bool(re.match(rf"  (fn|ghost|type) {wanted}\b", line))
+        if inside:
+            found.append(line[2:])
+    if not found:
+        raise SystemExit(f"docs/make: no {name} where docs/calling names it")
+    return [found[0].replace(f" {wanted}", f" {name}", 1), *found[1:]]
+
+
+def calling(top, crate):
+    """A crate's CALLING.md: what docs/calling says of it, a caller, and the contracts of some calls."""
+    said = (top / "docs/calling" / f"{crate}.md").read_text()
+    prose, _, rest = said.partition("\ncaller: ")
+    caller, _, names = rest.partition("\ncalls:\n")
+    sources = sources_of(top / "crates" / crate / "src")
+    public = public_names(sources)
+    parts = [part for source in sources for part in parts_of(source.text, public)]
+    out = [f"# Calling `{crate}`", "", *module_words(sources[0].text), "", quoted(top, prose.strip()), ""]
+    out += ["## A caller", "", f"From `{caller.split()[0]}`, where it is proved:", "", code(top, *caller.split()), ""]
+    out += ["## Contracts", "", "These are quoted from `src/`: `S` is what `self` is, or points to, at the call, and `S'`"]
+    out += [f"at the return. [docs/api](../../docs/api/README.md#{crate}) has all calls, and `specs/` defines the words.", ""]
+    lines = [it for name in names.split("\n") if name.strip() for it in selected(parts, name.strip())]
+    lines = [it for it in lines if not it.lstrip().startswith("//") and not any(word in it for word in NOT_QUOTED)]
+    return "\n".join([*out, "```text", *map(shortened, lines), "```"]) + "\n"
