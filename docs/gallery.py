@@ -181,5 +181,5 @@ def makers(top):
 
 def unshown(top, prose):
     """The scripts of the gallery that a page doesn't show."""
-    named = set(re.findall(r"^(?:shown|script): (\S+)$", prose, re.M))
+    named = set(re.findall(r"^(?:shown|script):(\S+)$", prose, re.M))
     return [it.stem for it in top.glob("examples/gallery/*.script") if it.stem not in named]

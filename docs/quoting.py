@@ -1,10 +1,12 @@
-"""What pages quote of the repository: lines such as `code: PATH NAME ..` become what they name.
+"""What pages quote of the repository: lines such as `code:PATH NAME ..` become what they name.
 
-    script: NAME, printed: NAME   a script of examples/gallery, and what it prints
-    shown: NAME                   both as a picture
-    whole: PATH                   a file
-    code: PATH NAME ..            functions of a file, with the `use` lines that they need
-    own: CRATE                    the lines of crates.txt and the commands that make a program one's own crate
+    script:NAME, printed:NAME   a script of examples/gallery, and what it prints
+    shown:NAME                  both as a picture
+    whole:PATH                  a file
+    code:PATH NAME ..           functions of a file, with the `use` lines that they need
+    own:CRATE NAME              the lines of crates.txt of a program that is made one's own, under a name
+    crates:all                  a table of the crates, and what each uses
+    files:all                   the files of the crates without tests, and what each is about
 """
 
 import re
@@ -68,15 +70,56 @@ def own(top, crate, name):
     return "\n".join(f"    {it}" for it in lines)
 
 
+def root_of(top, crate):
+    folder = top / "crates" / crate / "src"
+    return next(it for it in (folder / "lib.rt", folder / "main.rt") if it.is_file())
+
+
+def first_paragraph(text):
+    words = module_words(text)
+    return " ".join(words[: words.index("")] if "" in words else words)
+
+
+def nearest(crates, crate):
+    """What a crate uses, without what this uses in its turn."""
+    far = {it for below in crates[crate] for it in crates.get(below, [])}
+    return [it for it in crates[crate] if it not in far]
+
+
+def crate_table(top, _):
+    crates = crates_of(top)
+    lines = ["| Crate | Does | Uses, with all that these use |", "|---|---|---|"]
+    for crate in crates:
+        uses = ", ".join(f"`{it}`" for it in nearest(crates, crate)) or "-"
+        lines.append(f"| `{crate}` | {first_paragraph(root_of(top, crate).read_text())} | {uses} |")
+    return "\n".join(lines)
+
+
+def file_list(top, _):
+    lines = []
+    for crate in crates_of(top):
+        if crate.endswith("_tests"):
+            continue
+        root = root_of(top, crate)
+        lines += [f"**{crate}**", ""]
+        for file in sorted(root.parent.rglob("*.rt")):
+            if file != root:
+                lines.append(f"- `{file.relative_to(root.parent)}`: {first_paragraph(file.read_text())}")
+        lines.append("")
+    return "\n".join(it for i, it in enumerate(lines) if it or (i and lines[i - 1])).strip()
+
+
 def quoted(top, prose):
     """Prose with what its lines name."""
     makers = {
         "whole": lambda path: rust((top / path).read_text()),
         "code": lambda *words: code(top, *words),
         "own": lambda *words: own(top, *words),
+        "crates": lambda word: crate_table(top, word),
+        "files": lambda word: file_list(top, word),
         **gallery.makers(top),
     }
-    line = re.compile(rf"^({'|'.join(makers)}): (\S.*)$", re.M)
+    line = re.compile(rf"^({'|'.join(makers)}):(\S.*)$", re.M)
     return line.sub(lambda it: makers[it[1]](*it[2].split()), prose)
 
 
@@ -112,10 +155,9 @@ def member(part, name):
 
 
 def calling(top, crate):
-    """A crate's CALLING.md: what docs/calling says of it, a caller, and the contracts of some calls."""
-    said = (top / "docs/calling" / f"{crate}.md").read_text()
-    prose, _, rest = said.partition("\ncaller: ")
-    caller, _, names = rest.partition("\ncalls:\n")
+    """A crate's CALLING.md: the prose of docs/calling, and the caller and the contracts that its `.calls` names."""
+    prose = (top / "docs/calling" / f"{crate}.md").read_text()
+    caller, *names = (top / "docs/calling" / f"{crate}.calls").read_text().splitlines()
     sources = sources_of(top / "crates" / crate / "src")
     public = public_names(sources)
     parts = [part for source in sources for part in parts_of(source.text, public)]
@@ -123,6 +165,6 @@ def calling(top, crate):
     out += ["## A caller", "", f"From `{caller.split()[0]}`, where it is proved:", "", code(top, *caller.split()), ""]
     out += ["## Contracts", "", "These are quoted from `src/`: `S` is what `self` is, or points to, at the call, and `S'`"]
     out += [f"at the return. [docs/api](../../docs/api/README.md#{crate}) has all calls, and `specs/` defines the words.", ""]
-    lines = [it for name in names.split("\n") if name.strip() for it in selected(parts, name.strip())]
+    lines = [it for name in names for it in selected(parts, name)]
     lines = [it for it in lines if not it.lstrip().startswith("//") and not any(word in it for word in NOT_QUOTED)]
     return "\n".join([*out, "```text", *map(shortened, lines), "```"]) + "\n"
