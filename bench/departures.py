@@ -2,7 +2,7 @@
 
 Each departure has a name and a predicate on the table before the step, the step's words and both answers. Where another
 line, or several, say in the original's program what is meant here, the predicate gives them. The original has to answer
-them as ours does, and the comparison goes on behind them. Else what differs is said as narrowly as it can be.
+them as ours does, and the comparison goes on after them. Else what differs is said as narrowly as it can be.
 """
 
 import unicodedata
@@ -76,7 +76,7 @@ def reversed_extract(before, words, ours, theirs):
 
 
 def merged_cells_left(before, words, ours, theirs):
-    """Rearrangements leave merged cells where they are: they are taken away before, and set behind."""
+    """Rearrangements leave merged cells where they are: they are taken away before, and set after it."""
     spans = spans_after(before, words)
     if spans is None or spans == before.spans:
         return None

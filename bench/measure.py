@@ -1,4 +1,4 @@
-"""What the time and the memory of a program's run are."""
+"""What the time and the memory of a program's run are, and how a table of them is printed."""
 
 import ctypes
 import os
@@ -6,6 +6,10 @@ import sys
 import time
 
 PR_SET_CHILD_SUBREAPER = 36  # of linux/prctl.h
+
+LEAST_ROUNDS = 7
+LEAST_SECONDS = 3  # that runs are repeated for
+SMALL_RUNS = 4  # of a small size in each round: it is short, and noise weighs more
 
 
 def adopt_orphans():
@@ -29,6 +33,20 @@ def seconds_of(command, script, wanted=0):
     seconds = time.perf_counter() - start
     demand_status(command, status, wanted)
     return seconds
+
+
+def best_seconds(runs, wanted=0, least_rounds=LEAST_ROUNDS, seconds=LEAST_SECONDS):
+    """The least time of each of some runs: a command, its script, and how often it is run in a round."""
+    best = [float("inf")] * len(runs)
+    rounds = 0
+    end = time.perf_counter() + seconds
+    while rounds < least_rounds or time.perf_counter() < end:
+        # The runs take turns, so that noise of the machine hits all of them.
+        for i, (command, script, times) in enumerate(runs):
+            for _ in range(times):
+                best[i] = min(best[i], seconds_of(command, script, wanted))
+        rounds += 1
+    return best
 
 
 def megabytes_of(command, script, wanted=0):
@@ -55,3 +73,14 @@ def stop(message):
 def judged(figure, limit):
     note = f" > {limit}" if figure > limit else ""
     return f"{figure:.2f}{note}"
+
+
+def print_row(cells):
+    """A name, and figures."""
+    print(f"{cells[0]:<50}" + "".join(f"{cell:>13}" for cell in cells[1:]), flush=True)
+
+
+def row_lines(texts, columns):
+    """Lines of a script that make a table: a row of each text."""
+    for text in texts:
+        yield ("row" + ("\t" + text) * columns + "\n").encode()

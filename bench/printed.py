@@ -6,7 +6,7 @@ other lines are left to the program.
 
 import re
 
-LARGEST = 2**64 - 1  # number behind the two words
+LARGEST = 2**64 - 1  # number after the two words
 ORDER = {b"shape": 0, b"row": 1, b"span": 2}  # of the lines in front of the steps
 STEP = 3  # where all other lines stand
 

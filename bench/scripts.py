@@ -10,7 +10,7 @@ PLAIN = [b"", b"a", b"x y", b" ", b"row", b"set", b"all", b"cell", b"0", b"\r", 
          "\u200b".encode(), "\ufeff".encode()]
 ESCAPED = [b"\\t", b"\\n", b"\\\\", b"a\\tb", b"\\\\n", b"\\\\\\t", b"\\n\\n", b"a\\nb", "é\\té".encode()]
 BAD_ESCAPES = [b"\\", b"\\x", b"a\\", b"\\\\\\", b"\\T", b"\\\r", b"\\ ", "\\é".encode()]
-# Cut off, unfinished behind an escape, too long, a surrogate, beyond the last character.
+# Cut off, unfinished after an escape, too long, a surrogate, beyond the last character.
 BAD_TEXTS = [b"\xff", b"\x80", b"a\xc3", b"\xc3\\t\xa9", b"\xc0\xaf", b"\xed\xa0\x80",
              b"\xf4\x90\x80\x80", b"\xe6\xbc", b"\xf0\x9f\x98", b"\xe9"]
 UNKNOWN_WORDS = [b"spin", b"", b"Row", b"row ", b" row", b"row\r", b"SET", b"set\r", b"al", b"0", b"a", b"\\t",
@@ -25,7 +25,7 @@ BAD_NUMBERS = [b"", b"+0", b"-0", b"+1", b"-1", b"+", b"-", b"--1", b"10001", b"
 GOOD_SIZES = [b"-0", b"00", b"-01", b"-10000", b"10000", b"-9999", b"0002", b"-0000000000000000000000000000000002"]
 SIZES = [-2, -1, 0, 1, 1, 2, 2, 2, 3, 3, 4]
 BAD_SIZES = [b"", b"-", b"--1", b"+1", b"-10001", b"10001", b"- 1", b"-x", b"1-", b"-1\r", b"-" + b"9" * 40]
-FAR_NUMBERS = [10_000, 10_001, 2**64 - 2, 2**64 - 1]  # behind `shape` and `span`
+FAR_NUMBERS = [10_000, 10_001, 2**64 - 2, 2**64 - 1]  # after `shape` and `span`
 # What mutations put in: bytes that mean something.
 BYTES = [b"\t", b"\n", b"\\", b"\r", b"\0", b" ", b"+", b"-", b"0", b"1", b"9", b"t", b"n", b"x", b"\xff", b"\xc3",
          b"\xa9"]
@@ -33,7 +33,7 @@ BYTES = [b"\t", b"\n", b"\\", b"\r", b"\0", b" ", b"+", b"-", b"0", b"1", b"9", 
 # What can be wrong in a script.
 FLAWS = ["text", "number", "size", "selector", "word", "name", "missing", "extra", "order", "depth"]
 
-# Selectors that hold no other, with how many numbers stand behind each.
+# Selectors that hold no other, with how many numbers stand after each.
 NUMBERED = {b"all": 0, b"cell": 2, b"row": 1, b"column": 1, b"first-row": 0, b"last-row": 0, b"first-column": 0,
             b"last-column": 0, b"last-row-minus": 1, b"last-row-plus": 1, b"last-column-minus": 1,
             b"last-column-plus": 1, b"rows": 2, b"columns": 2, b"segment": 4, b"frame": 0}
@@ -109,7 +109,7 @@ class Scripts:
         return [word] + [self.number() for _ in range(NUMBERED[word])]
 
     def digits(self, number):
-        """A number behind `shape` or `span`."""
+        """A number after `shape` or `span`."""
         if self.faulty("number"):
             return self.one_of(BAD_NUMBERS)
         return b"0" * self.one_of([0] * 9 + [1, 30]) + b"%d" % number
@@ -222,7 +222,7 @@ class Scripts:
         merged = [self.line(lambda: self.span(it)) for it in self.spans(*shape)] if self.below(3) == 0 else []
         lines = shapes + records + merged + steps
         if self.faulty("order") or shapes + merged and self.below(12) == 0:
-            self.random.shuffle(lines)  # so that records stand behind steps
+            self.random.shuffle(lines)  # so that records stand after steps
         for _ in range(self.one_of([0, 0, 1, 2])):
             lines.insert(self.below(len(lines) + 1), b"")
         script = b"\n".join(lines) + self.one_of([b"", b"\n"])
