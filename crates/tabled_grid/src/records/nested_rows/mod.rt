@@ -11,11 +11,11 @@ ghost use Rattle.tabled_grid.specs.Grid.{IsEmptyWithoutRows, IsEven, IsInside, g
 use crate::config::Position;
 use crate::records::cell_text::CellText;
 use crate::records::exact_records::ExactRecords;
+use crate::records::from_text::FromText;
 use crate::records::grid_store::GridStore;
 use crate::records::peekable_records::PeekableRecords;
 use crate::records::records::Records;
 use crate::records::records_mut::RecordsMut;
-use crate::records::vec_records::Text;
 use moves::width;
 pub use moves::{remove_each, reserve_each};
 use std::alloc::{AllocError, Global};
@@ -65,16 +65,16 @@ impl<T: CellText> PeekableRecords for Vec<Vec<T>> {
     }
 }
 
-impl RecordsMut<String> for Vec<Vec<Text<String>>> {
+impl<T: FromText> RecordsMut<String> for Vec<Vec<T>> {
     fn set(&mut self, _alloc: Global, pos: Position, text: String) -> Result<(), AllocError> {
-        write(self, pos, Text::new(text));
+        write(self, pos, T::from_text(text));
         Ok(())
     }
 }
 
-impl<'a> RecordsMut<&'a str> for Vec<Vec<Text<String>>> {
+impl<'a, T: FromText> RecordsMut<&'a str> for Vec<Vec<T>> {
     fn set(&mut self, alloc: Global, pos: Position, text: &'a str) -> Result<(), AllocError> {
-        write(self, pos, Text::new(String::from_str(alloc, text)?));
+        write(self, pos, T::from_text(String::from_str(alloc, text)?));
         Ok(())
     }
 }

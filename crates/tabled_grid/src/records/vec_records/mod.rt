@@ -12,6 +12,7 @@ ghost use Rattle.tabled_grid.specs.Grid.{Grid, IsEmptyWithoutRows, IsEven, IsIns
 use crate::config::Position;
 use crate::records::cell_text::CellText;
 use crate::records::exact_records::ExactRecords;
+use crate::records::from_text::FromText;
 use crate::records::grid_store::GridStore;
 use crate::records::nested_rows::moves::width;
 use crate::records::peekable_records::PeekableRecords;
@@ -152,16 +153,16 @@ impl<T: CellText> PeekableRecords for VecRecords<T> {
     }
 }
 
-impl RecordsMut<String> for VecRecords<Text<String>> {
+impl<T: FromText> RecordsMut<String> for VecRecords<T> {
     fn set(&mut self, _alloc: Global, pos: Position, text: String) -> Result<(), AllocError> {
-        self.write(pos, Text::new(text));
+        self.write(pos, T::from_text(text));
         Ok(())
     }
 }
 
-impl<'a> RecordsMut<&'a str> for VecRecords<Text<String>> {
+impl<'a, T: FromText> RecordsMut<&'a str> for VecRecords<T> {
     fn set(&mut self, alloc: Global, pos: Position, text: &'a str) -> Result<(), AllocError> {
-        self.write(pos, Text::new(String::from_str(alloc, text)?));
+        self.write(pos, T::from_text(String::from_str(alloc, text)?));
         Ok(())
     }
 }

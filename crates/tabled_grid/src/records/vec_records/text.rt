@@ -4,6 +4,7 @@ ghost use Rattle.std.specs.Prelude.{◌≡◌};
 
 use crate::records::blank::Blank;
 use crate::records::cell_text::CellText;
+use crate::records::from_text::FromText;
 use std::alloc::Global;
 use std::marker::Model;
 
@@ -70,5 +71,11 @@ impl<S: CellText> CellText for Text<S> {
 
     fn text(&self) -> &str {
         self.text.text()
+    }
+}
+
+impl FromText for Text<String> {
+    fn from_text(text: String) -> Self {
+        Text { text }
     }
 }
