@@ -14,7 +14,10 @@ import re
 import gallery
 from contracts import function_text, items, module_words, parts_of, public_names, sources_of, used_by
 
-NOT_QUOTED = ("Prim.search",)
+# What stands before the list of a CALLING.md: the first where the original crate has a like.
+DIFFERS = "What differs from the original crate at a call:"
+OF_THIS_PROJECT = "The original crate has no like."
+REFUSED = "*Refused* means that memory was asked for and not given."
 
 
 def crates_of(top):
@@ -154,6 +157,14 @@ def member(part, name):
     return [found[0].replace(f" {wanted}", f" {name}", 1), *found[1:]]
 
 
+def introduced(prose, is_own):
+    """The prose of docs/calling, with a line before its list."""
+    before, dash, listed = prose.strip().partition("\n\n- ")
+    said = OF_THIS_PROJECT if is_own else DIFFERS
+    refused = [REFUSED] if re.search(r"\brefus", prose, re.I) else []
+    return " ".join([before, *refused, said]) + dash + listed
+
+
 def calling(top, crate):
     """A crate's CALLING.md: the prose of docs/calling, and the caller and the contracts that its `.calls` names."""
     prose = (top / "docs/calling" / f"{crate}.md").read_text()
@@ -161,10 +172,11 @@ def calling(top, crate):
     sources = sources_of(top / "crates" / crate / "src")
     public = public_names(sources)
     parts = [part for source in sources for part in parts_of(source.text, public)]
-    out = [f"# Calling `{crate}`", "", *module_words(sources[0].text), "", quoted(top, prose.strip()), ""]
+    is_own = "Ported from" not in "".join(source.text for source in sources)
+    out = [f"# Calling `{crate}`", "", *module_words(sources[0].text), "", quoted(top, introduced(prose, is_own)), ""]
     out += ["## A caller", "", f"From `{caller.split()[0]}`, where it is proved:", "", code(top, *caller.split()), ""]
     out += ["## Contracts", "", "These are quoted from `src/`: `S` is what `self` is, or points to, at the call, and `S'`"]
     out += [f"at the return. [docs/api](../../docs/api/README.md#{crate}) has all calls, and `specs/` defines the words.", ""]
     lines = [it for name in names for it in selected(parts, name)]
-    lines = [it for it in lines if not it.lstrip().startswith("//") and not any(word in it for word in NOT_QUOTED)]
+    lines = [it for it in lines if not it.lstrip().startswith("//")]
     return "\n".join([*out, "```text", *map(shortened, lines), "```"]) + "\n"
