@@ -1,0 +1,47 @@
+//! Prints a diary as a calendar.
+//!
+//! Each line of the input has a day and an entry, with a tab between them; the first line names the two. The
+//! output has a line with the names of a week's days, and then for each week a line of days and one of entries.
+#![tactic(auto)]
+
+use std::alloc::{AllocError, Global};
+use std::io;
+use tabled_rows::records::IntoRecords;
+use tabled_settings::concat::Concat;
+use tabled_settings::split::Split;
+use tabled_table::Table;
+use tabled_table::builder::Builder;
+
+fn main(rt: HostRuntime) -> io::Result<()> {
+    let alloc = rt.alloc();
+    let mut diary = Builder::new(alloc);
+    for line in rt.lines(alloc) {
+        diary.push_record(alloc, cells(alloc, line?.as_str())?)?;
+    }
+    let calendar = calendar(alloc, diary)?;
+    for row in calendar.get_records().iter_rows() {
+        let texts: Vec<&str> = row.iter().map(|cell| cell.as_str()).collect(alloc)?;
+        rt.println(texts.join(alloc, "\t")?)?;
+    }
+    Ok(())
+}
+
+/// The cells of a line.
+fn cells(alloc: Global, line: &str) -> Result<Vec<String>, AllocError> {
+    line.split('\t')
+        .map(|text| String::from_str(alloc, text))
+        .try_collect(alloc)
+}
+
+/// The weeks of a diary below one another, and above them the names of the days.
+fn calendar(alloc: Global, diary: Builder) -> Result<Table, AllocError> {
+    let by_day = diary.index(alloc)?.column(alloc, 0)?.transpose(alloc)?;
+    let mut weeks = by_day.hide().name(None).build(alloc)?;
+    weeks.with(alloc, Split::column(7).concat().retain())?;
+
+    let mut calendar = Builder::new(alloc);
+    calendar.push_record(alloc, cells(alloc, "Mon\tTue\tWed\tThu\tFri\tSat\tSun")?)?;
+    let mut calendar = calendar.build(alloc)?;
+    calendar.with(alloc, Concat::vertical(alloc, weeks))?;
+    Ok(calendar)
+}
