@@ -66,10 +66,16 @@ def below(top, crate):
 
 
 def own(top, crate, name):
-    """What makes the program of a crate one's own, under a name: lines of crates.txt, and commands."""
-    crates, libraries = crates_of(top), below(top, crate)
-    lines = [f"{it}: {' '.join(crates[it])}".rstrip() for it in libraries]
-    lines.append(f"{name}: {' '.join(crates[crate])}")
+    """The lines that make the program of a crate one's own, under a name."""
+    crates, libraries = crates_of(top), [it for it in below(top, crate) if it in crates_of(top)]
+    prefix = "tabled_"
+    listed = ",".join(it.removeprefix(prefix) for it in libraries)
+    lines = [f'git -C "$FEHAKIMU" archive HEAD crates/{prefix}{{{listed}}} | tar -x']
+    lines += [f"mkdir -p crates/{name}/src", f'cp "$FEHAKIMU"/crates/{crate}/src/main.rt crates/{name}/src']
+    lines += ["cat > crates.txt << END"]
+    lines += [f"{it}: {' '.join(crates[it])}".rstrip() for it in libraries]
+    lines += [f"{name}: {' '.join(crates[crate])}", "END"]
+    lines += [f"cd crates/{name}", f'rt try < "$FEHAKIMU"/crates/{crate}/stdin']
     return "\n".join(f"    {it}" for it in lines)
 
 
