@@ -51,9 +51,21 @@ def fenced(lines):
 def told(part):
     """The lines of a page on one name."""
     if part.kind == "impl":
-        return [*part.words, "", *fenced(part.lines)]
+        return [*part.words, *fenced(part.lines)]
     level = "###" if part.kind == "call" else "##"
     return [f"{level} `{part.name}`", "", *part.words, "", *fenced(part.lines)]
+
+
+def bare_together(parts):
+    """Parts, where those after one another that only say what a type is are one."""
+    found = []
+    for part in parts:
+        is_bare = part.kind == "impl" and len(part.lines) == 1 and not part.words
+        if is_bare and found and found[-1].name == "":
+            found[-1].lines.extend(part.lines)
+        else:
+            found.append(part._replace(name="", lines=[*part.lines]) if is_bare else part)
+    return found
 
 
 def page(module):
@@ -68,7 +80,7 @@ def page(module):
     for source, parts in module.sources:
         if source is not first and parts:
             out += ["---", "", f"`src/{source.path}`: " + " ".join(module_words(source.text)), ""]
-        for part in parts:
+        for part in bare_together(parts):
             out += [*told(part), ""]
     text = "\n".join(out)
     said = REFUSED + "\n" if re.search(r"\brefused\b", text.replace("never_refused", ""), re.I) else ""

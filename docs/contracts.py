@@ -271,7 +271,7 @@ def parts_of_impl(item, public):
                 yield Part(f"{owner}::{it.name()}", "call", it.words, lines)
         return
     inner = [it for it in members(item) if trait != "Model" or it.name == "Value"]
-    if inner:
+    if inner or trait != "Model":
         lines = [line for it in inner for line in indented(it)]
         yield Part(f"{of} as {trait}", "impl", item.words, [item.head.rstrip(","), *lines])
 
