@@ -3,10 +3,10 @@
 import re
 
 from contracts import first_sentence, module_words, parts_of, public_names, reexported, sources_of
+from phrases import REFUSED
 
 # Those of two stand for all.
 ALIKE = re.compile(r"tuples/(three|four|five|six|seven|eight|nine|ten)\.rt$")
-REFUSED = "*Refused* means that memory was asked for and not given."
 QUOTED = "`docs/make` makes this page from `src/`. [Definitions](%s) has the words of the clauses."
 
 

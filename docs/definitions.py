@@ -4,6 +4,7 @@ import re
 import sys
 
 from contracts import parts_of, public_names, sources_of
+from phrases import REFUSED
 
 DEFINED = re.compile(r"(?:(?:abbrev|unfoldable|opaque) )?pub (?:(?:data|record|abbrev) )?([^\s:({]+)")
 USED = re.compile(r"^\s*(?:ghost )?use Rattle\.(\w+)\.specs\.([\w.]+?)(?:\.\{([^}]*)\}| as (\w+))?;?$", re.M)
@@ -131,7 +132,7 @@ def page(top, crates):
     out = ["# Definitions", ""]
     out += ["The public clauses rest on these definitions, directly or through others of them. A definition says what is"]
     out += ["meant, and the code gets there in its own way. Definitions that no public clause rests on are left out."]
-    out += ["`docs/make` makes this page from the words above the definitions, in `crates/*/specs/`."]
+    out += ["`docs/make` makes this page from the words above the definitions, in `crates/*/specs/`. " + REFUSED]
     last = None
     for (crate, name), (about, found, _) in specs.items():
         kept = [it for it in found if ((crate, name), it.name) in used]

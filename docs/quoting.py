@@ -13,11 +13,7 @@ import re
 
 import gallery
 from contracts import function_text, items, module_words, parts_of, public_names, sources_of, used_by
-
-# What stands before the list of a CALLING.md: the first where the original crate has a like.
-DIFFERS = "What differs from the original crate at a call:"
-OF_THIS_PROJECT = "The original crate has no like."
-REFUSED = "*Refused* means that memory was asked for and not given."
+from phrases import DIFFERS, OF_THIS_PROJECT, REFUSED
 
 
 def crates_of(top):
@@ -101,7 +97,7 @@ def crate_table(top, _):
     for crate in crates:
         uses = ", ".join(f"`{it}`" for it in nearest(crates, crate)) or "-"
         lines.append(f"| `{crate}` | {first_paragraph(root_of(top, crate).read_text())} | {uses} |")
-    return "\n".join(lines)
+    return "\n".join([*lines, "", REFUSED])
 
 
 def file_list(top, _):

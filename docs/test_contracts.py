@@ -111,11 +111,3 @@ TESTS = [
     ends_at_its_bracket, finds_each_item, tells_public_names_alone, keeps_words_and_pictures, puts_a_clause_in_a_line,
     shows_what_all_see, leaves_out_what_is_alike, tells_a_trait_with_its_words, finds_the_imports_that_are_needed,
 ]
-
-
-def run():
-    """Runs all, and gives how many passed and failed."""
-    failed = [it.__name__ for it in TESTS if not it()]
-    for name in failed:
-        print(f"docs/test_contracts.py: {name} FAILED")
-    return len(TESTS) - len(failed), len(failed)
