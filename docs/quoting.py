@@ -130,7 +130,7 @@ def quoted(top, prose):
 
 def shortened(line):
     """A line of a contract, with `S` for what `self` is, or points to, at the call, and `S'` at the return."""
-    if not line.startswith("  "):
+    if not re.match(r"\s+(requires|ensures|ghost)\b", line):
         return line
     line = re.sub(r"\bself\.new\b", "S'", line)
     return re.sub(r"\bself(\.(old|now))?\b", "S", line)
