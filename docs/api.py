@@ -68,15 +68,20 @@ def bare_together(parts):
     return found
 
 
-def page(module):
-    """The page of a module."""
+def page(module, modules):
+    """The page of a module, one of those of its crate."""
     first, _ = module.sources[0]
     out = [f"# `{module.path()}`", "", *module_words(first.text), ""]
     out += [QUOTED % (module.to_docs() + "DEFINITIONS.md"), "REFUSED", ""]
-    names = [(path, it) for path, it in reexported(first.text) if path.startswith("tabled_")]
-    for path, listed in names:
-        target = module.to_docs() + "api/README.md"
-        out += [f"Re-exports of `{path}` ([index]({target})): " + ", ".join(f"`{it}`" for it in listed) + ".", ""]
+    inner = [it for it in modules if it.name and it.name[:-1] == module.name]
+    if inner:
+        folder = module.file().rpartition("/")[2].removesuffix(".md")
+        links = (f"[`{it.name[-1]}`]({folder}/{it.name[-1]}.md)" for it in inner)
+        out += ["Modules: " + ", ".join(links) + ".", ""]
+    for path, listed in reexported(first.text):
+        if path.startswith("tabled_"):
+            target = f"{module.to_docs()}api/{path.replace('::', '/')}.md"
+            out += [f"Re-exports of [`{path}`]({target}): " + ", ".join(f"`{it}`" for it in listed) + ".", ""]
     for source, parts in module.sources:
         if source is not first and parts:
             out += ["---", "", f"`src/{source.path}`: " + " ".join(module_words(source.text)), ""]
@@ -119,5 +124,5 @@ What is alike in all is said here, and left out of the pages:
 def pages(top, crates):
     """All pages, by their paths below docs/api."""
     every = [[*modules_of(top, crate)] for crate in crates]
-    made = {module.file(): page(module) for modules in every for module in modules}
+    made = {module.file(): page(module, modules) for modules in every for module in modules}
     return {"README.md": index(every), **made}
