@@ -18,7 +18,7 @@ pub longest-push : {A : Type 0} (rows : List (List A)) (row : List A) → longes
 longest-push [] row = omega arith
 longest-push (r ∷ rows) row = ap (max (length r)) (longest-push rows row) ∙ omega arith
 
-longest-map : {A B : Type 0} (f : A → B) (rows : List (List A)) → longest (map (map f) rows) ≡ longest rows
+pub longest-map : {A B : Type 0} (f : A → B) (rows : List (List A)) → longest (map (map f) rows) ≡ longest rows
 longest-map f [] = refl
 longest-map f (row ∷ rows) = ap₂ (λ (a b : ℕ). max a b) (length-map row f) (longest-map f rows)
 

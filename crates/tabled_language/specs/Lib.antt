@@ -1,5 +1,6 @@
 pub mod Drafts
 pub mod Faults
+pub mod Lent
 pub mod Line
 pub mod Output
 pub mod Parsing

@@ -1,8 +1,8 @@
 -- What the code's values say of a script (`script_in`), and how it goes through one, step by step. Nothing of it belongs to the language.
-use Rattle.std.specs.Prelude.{◌≡◌, ◌<◌, ℕ, Bool, true, List, [], length, Option, None, Some, Result, Ok, Err, MatchResult, String, map}
-use Rattle.std.specs.Global.{Global, Vec}
+use Rattle.std.specs.Prelude.{◌≡◌, ◌<◌, ℕ, Bool, true, List, [], length, Option, None, Some, Result, Ok, Err, MatchResult, map}
+use Rattle.std.specs.Global.{Vec}
 use Rattle.std.specs.List.{AllByRecursion}
-use Rattle.std.specs.String.{string_bytes}
+use Rattle.std.specs.Slice.Iter.{iter_rest}
 use Rattle.tabled_grid.specs.Anchors.{Anchor}
 use Rattle.tabled_grid.specs.Grid.{map_items}
 use Rattle.tabled_grid.specs.Spans.{IsSpanSize, SpanMap}
@@ -12,9 +12,11 @@ use Rattle.tabled_language.specs.declared.draft.Draft.{Draft as Drafted}
 use Rattle.tabled_language.specs.declared.fault.Fault.{Fault}
 use Rattle.tabled_language.specs.declared.fault.ReadError.{ReadError}
 use Rattle.tabled_language.specs.declared.fault.ReadError.TheVariants.{Faulty, OutOfMemory}
+use Rattle.tabled_language.specs.declared.lent.LentText.{LentText}
 use Rattle.tabled_language.specs.declared.words.Source.{Source}
 use Rattle.tabled_language.specs.declared.words.Source.TheVariants.{Line as InLine, Texts}
 use Rattle.tabled_language.specs.Drafts.{Draft, draft_of, fault_behind, with_line}
+use Rattle.tabled_language.specs.Lent.{bytes_of}
 use Rattle.tabled_language.specs.Line.{Script, asks_memory, fault_of, first_fault, line_of, lines_of, parse}
 use Rattle.tabled_language.specs.Verb.{Line}
 use Rattle.tabled_language.specs.Words.{Reading}
@@ -22,7 +24,7 @@ use Rattle.tabled_language.specs.Words.{Reading}
 -- the words that are left of a source
 abbrev pub words_in : Source → List (List ℕ)
 words_in (InLine words) = words
-words_in (Texts texts) = map string_bytes texts.now
+words_in (Texts texts) = map bytes_of (iter_rest texts)
 
 -- why a reading ends early: the fault that it meets, or memory that it asks for
 abbrev pub EndsEarly : {A : Type 0} → Reading A → List (List ℕ) → ReadError → Type 0
@@ -35,11 +37,11 @@ Reads view reading old result new = MatchResult result (λ x. reading.reads old 
 
 -- the draft of what is in memory
 abbrev pub draft_in : Drafted → Draft
-draft_in d = record { shape = d.shape; records = map (map string_bytes) (map_items d.records.items); anchors = d.anchors.items; lines = d.lines.items; steps = map after d.steps.items }
+draft_in d = record { shape = d.shape; records = map (map bytes_of) (map_items d.records.items); anchors = d.anchors.items; lines = d.lines.items; steps = map after d.steps.items }
 
 -- the script of what is in memory
-abbrev pub script_in : List (Vec (String Global)) → SpanMap → List Step → Script
-script_in records spans steps = record { records = map (map string_bytes) (map_items records); spans = spans; steps = map after steps }
+abbrev pub script_in : List (Vec LentText) → SpanMap → List Step → Script
+script_in records spans steps = record { records = map (map bytes_of) (map_items records); spans = spans; steps = map after steps }
 
 -- why a line isn't read: its fault, or memory where it asks for some
 abbrev pub LineEnds : Option Fault → Bool → ReadError → Type 0

@@ -2,26 +2,26 @@
 
 ghost use Rattle.std.specs.Prelude.{◌≡◌, [], MatchResult};
 ghost use Rattle.std.specs.Option.{option_map};
-ghost use Rattle.tabled_grid.specs.Grid.{map_items};
-ghost use Rattle.tabled_table.specs.Builder.{longest as longest_of};
 ghost use Rattle.tabled_language.specs.Drafts.{shape_misfit};
 ghost use Rattle.tabled_language.specs.declared.fault.Fault.TheVariants.{ShapeDiffers};
 
 use crate::fault::{Fault, ReadError};
+use crate::lent::LentText;
+use crate::padding::longest;
 use crate::script::Script;
 use crate::spans::{Anchor, merged_or_misfit};
 use crate::texts::{Fields, escaped_texts, plain};
 use crate::words::{Read, Words};
 use std::alloc::{AllocError, Global};
-use tabled_grid::records::Text;
+use tabled_grid::records::CellText;
 use tabled_steps::Step;
 
 /// What was read of a script so far.
 #[derive(Drop)]
-pub(crate) struct Draft {
+pub(crate) struct Draft<'a> {
     /// The number of the shape's line, and the rows and columns that it says.
     shape: Option<(usize, (usize, usize))>,
-    records: Vec<Vec<Text<String>>>,
+    records: Vec<Vec<LentText<'a>>>,
     /// The anchors, in the order of their lines.
     anchors: Vec<Anchor>,
     /// The number of each anchor's line.
@@ -29,10 +29,10 @@ pub(crate) struct Draft {
     steps: Vec<Step>,
 }
 
-impl Draft {
+impl<'a> Draft<'a> {
     ghost use Rattle.std.specs.Prelude.{◌≡◌, ◌<◌, ◌&&◌, false, [], List, map, IfOk, MatchResult, None, OnErr, Some, Ok, Err, length, true};
-    ghost use Rattle.std.specs.String.{string_bytes};
     ghost use Rattle.tabled_language.specs.Drafts.{draft_of, takes};
+    ghost use Rattle.tabled_language.specs.Lent.{bytes_of};
     ghost use Rattle.tabled_language.specs.Line.{fault_of, first_fault, line_asks, line_of, meaning_of, script_or_fault, words_ask, words_of};
     ghost use Rattle.tabled_language.specs.Parsing.{IsNumbered, ReadsLine, draft_in, script_in};
     ghost use Rattle.tabled_language.specs.Sizes.{reads_anchor, reads_shape};
@@ -58,7 +58,7 @@ impl Draft {
     }
 
     /// Adds what the line of a number says, or says why it isn't read.
-    pub(crate) fn read_line(&mut self, alloc: Global, number: usize, line: &[u8]) -> Read<()>
+    pub(crate) fn read_line(&mut self, alloc: Global, number: usize, line: &'a [u8]) -> Read<()>
         ensures read { ReadsLine (draft_in self.old) number (line_of line.now) (line_asks (takes (draft_in self.old)) line.now) result (draft_in self.new) }
         ensures sizes { IfOk result (λ _. IsNumbered self.old → IsNumbered self.new) }
     {
@@ -75,7 +75,7 @@ impl Draft {
     }
 
     /// Adds what a line without escapes says, or says why it isn't read.
-    fn read_plain(&mut self, alloc: Global, number: usize, line: &str) -> Read<()>
+    fn read_plain(&mut self, alloc: Global, number: usize, line: &'a str) -> Read<()>
         ensures read { ReadsLine (draft_in self.old) number (meaning_of (Some (words_of line.now))) (words_ask (takes (draft_in self.old)) (words_of line.now)) result (draft_in self.new) }
         ensures sizes { IfOk result (λ _. IsNumbered self.old → IsNumbered self.new) }
     {
@@ -94,15 +94,15 @@ impl Draft {
     }
 
     /// Adds what a line's texts say, or says why they aren't read.
-    fn read_texts(&mut self, alloc: Global, number: usize, mut texts: Vec<Text<String>>) -> Read<()>
-        ensures read { ReadsLine (draft_in self.old) number (meaning_of (Some (map string_bytes texts.items))) true result (draft_in self.new) }
+    fn read_texts(&mut self, alloc: Global, number: usize, mut texts: Vec<LentText<'a>>) -> Read<()>
+        ensures read { ReadsLine (draft_in self.old) number (meaning_of (Some (map bytes_of texts.entry.items))) true result (draft_in self.new) }
         ensures sizes { IfOk result (λ _. IsNumbered self.old → IsNumbered self.new) }
     {
         if texts.is_empty() {
             return Ok(());
         }
         let verb = texts.remove(0);
-        match verb.as_str() {
+        match verb.text() {
             "row" => {
                 self.before_spans()?;
                 self.records.push(texts)?;
@@ -175,11 +175,14 @@ impl Draft {
     }
 
     /// The script, or the number of the line whose shape or rectangle doesn't fit the records.
-    pub(crate) fn checked(self, alloc: Global) -> Result<Result<Script, (usize, Fault)>, AllocError>
+    pub(crate) fn checked(
+        self,
+        alloc: Global,
+    ) -> Result<Result<Script<'a>, (usize, Fault)>, AllocError>
         requires { IsNumbered self }
-        ensures script { IfOk result (λ answer. (lines : List Line) → first_fault fault_of [] lines ≡ None → draft_in self ≡ draft_of lines →
+        ensures script { IfOk result (λ answer. (lines : List Line) → first_fault fault_of [] lines ≡ None → draft_in self.entry ≡ draft_of lines →
             MatchResult answer (λ s. script_or_fault lines ≡ Ok (script_in s.records.items s.spans s.steps.items)) (λ fault. script_or_fault lines ≡ Err fault)) }
-        ensures memory { OnErr result (0 < length self.anchors.items) }
+        ensures memory { OnErr result (0 < length self.entry.anchors.items) }
     {
         let Draft {
             shape,
@@ -218,15 +221,4 @@ fn misshaped(shape: Option<(usize, (usize, usize))>, rows: usize, columns: usize
         }
         None => None,
     }
-}
-
-/// The length of the longest record.
-fn longest(records: &Vec<Vec<Text<String>>>) -> usize
-    ensures { result ≡ longest_of (map_items records.now.items) }
-{
-    let mut longest = 0;
-    for record in records {
-        longest = longest.max(record.len());
-    }
-    longest
 }

@@ -5,6 +5,8 @@ mod draft;
 mod fault;
 mod keywords;
 pub mod laws;
+mod lent;
+mod padding;
 mod parts;
 mod script;
 mod selectors;
@@ -17,4 +19,6 @@ mod word;
 mod words;
 
 pub use fault::Fault;
+pub use lent::LentText;
+pub use padding::padded;
 pub use script::{Script, parse};

@@ -6,22 +6,23 @@ ghost use Rattle.tabled_language.specs.Parsing.{IsNumbered, ReadsScript, ScriptE
 
 use crate::draft::Draft;
 use crate::fault::{Fault, ReadError};
+use crate::lent::LentText;
 use crate::parts::Parts;
 use std::alloc::{AllocError, Global};
 use tabled_grid::config::SpannedConfig;
-use tabled_grid::records::Text;
 use tabled_steps::Step;
 
-/// The records of a script, its merged cells, and its steps.
+/// The records of a script, whose texts it lends where they stand there as they are, its merged cells, and
+/// its steps.
 #[derive(Drop)]
-pub struct Script {
-    pub records: Vec<Vec<Text<String>>>,
+pub struct Script<'a> {
+    pub records: Vec<Vec<LentText<'a>>>,
     pub spans: SpannedConfig,
     pub steps: Vec<Step>,
 }
 
 /// What the lines of bytes say, or the number of the line that isn't read and why.
-fn read_lines(alloc: Global, input: &[u8]) -> Result<Draft, (usize, ReadError)>
+fn read_lines<'a>(alloc: Global, input: &'a [u8]) -> Result<Draft<'a>, (usize, ReadError)>
     ensures read { MatchResult result (λ d. ReadsScript input.now (draft_in d)) (ScriptEnds input.now) }
     ensures sizes { IfOk result (λ d. IsNumbered d) }
 {
@@ -42,7 +43,10 @@ fn read_lines(alloc: Global, input: &[u8]) -> Result<Draft, (usize, ReadError)>
 /// Want of memory is answered only where memory is asked for before the first fault is found.
 ///
 /// Of this project.
-pub fn parse(alloc: Global, input: &[u8]) -> Result<Result<Script, (usize, Fault)>, AllocError>
+pub fn parse<'a>(
+    alloc: Global,
+    input: &'a [u8],
+) -> Result<Result<Script<'a>, (usize, Fault)>, AllocError>
     ensures script { IfOk result (λ script. MatchResult script (λ s. parse input.now ≡ Ok (script_in s.records.items s.spans s.steps.items)) (λ fault. parse input.now ≡ Err fault)) }
     ensures memory { OnErr result (asks_memory input.now ≡ true) }
 {

@@ -3,16 +3,16 @@
 ghost use Rattle.std.specs.Prelude.{◌≡◌, ◌∷◌, map, false, true, IfOk, MatchOption, Some};
 ghost use Rattle.std.specs.Iterator.{YieldsFirstRef, item_count};
 ghost use Rattle.std.specs.Option.{option_map};
-ghost use Rattle.std.specs.String.{string_bytes};
+ghost use Rattle.tabled_language.specs.Lent.{bytes_of};
 ghost use Rattle.tabled_language.specs.Line.{is_plain, texts_of, words_of};
 ghost use Rattle.tabled_language.specs.Parts.{parts_left};
 
+use crate::lent::LentText;
 use crate::parts::{Parts, count_parts, first_place};
-use crate::word::text_of_word;
+use crate::word::lent_text;
 use std::alloc::{AllocError, Global};
 use std::marker::Model;
 use std::str;
-use tabled_grid::records::Text;
 
 /// The line, if it is UTF-8 without a backslash: then its words are their own texts.
 pub(crate) fn plain(line: &[u8]) -> Option<&str>
@@ -28,16 +28,16 @@ pub(crate) fn plain(line: &[u8]) -> Option<&str>
 }
 
 /// The texts of a line's words, each read by itself, or nothing where one has a bad escape or isn't UTF-8.
-pub(crate) fn escaped_texts(
+pub(crate) fn escaped_texts<'a>(
     alloc: Global,
-    line: &[u8],
-) -> Result<Option<Vec<Text<String>>>, AllocError>
-    ensures { IfOk result (λ texts. option_map (λ v. map string_bytes v.items) texts ≡ texts_of (words_of line.now)) }
+    line: &'a [u8],
+) -> Result<Option<Vec<LentText<'a>>>, AllocError>
+    ensures { IfOk result (λ texts. option_map (λ v. map bytes_of v.items) texts ≡ texts_of (words_of line.now)) }
 {
     let mut texts = Vec::with_capacity(alloc, count_parts(line, b'\t'))?;
     for word in Parts::new(line, b'\t') {
-        match text_of_word(alloc, word)? {
-            Some(text) => texts.push(Text::new(text))?,
+        match lent_text(alloc, word)? {
+            Some(text) => texts.push(text)?,
             None => return Ok(None),
         }
     }
@@ -62,7 +62,7 @@ impl<'a> Model for Fields<'a> {
 
 impl<'a> Fields<'a> {
     ghost use Rattle.std.specs.Prelude.{◌≡◌, length, map, IfOk};
-    ghost use Rattle.std.specs.String.{string_bytes};
+    ghost use Rattle.tabled_language.specs.Lent.{bytes_of};
     ghost use Rattle.tabled_language.specs.Line.{words_of};
 
     pub(crate) fn new(line: &'a str) -> Self
@@ -81,15 +81,15 @@ impl<'a> Fields<'a> {
         }
     }
 
-    /// The words that are left, each as a text of its own.
+    /// The words that are left, lent as texts.
     // A call of its own keeps the values of this loop, which reads all cells, in registers.
     #[inline(never)]
-    pub(crate) fn texts(self, alloc: Global) -> Result<Vec<Text<String>>, AllocError>
-        ensures { IfOk result (λ texts. map string_bytes texts.items ≡ self.entry) }
+    pub(crate) fn texts(self, alloc: Global) -> Result<Vec<LentText<'a>>, AllocError>
+        ensures { IfOk result (λ texts. map bytes_of texts.items ≡ self.entry) }
     {
         let mut texts = Vec::with_capacity(alloc, self.left())?;
         for word in self {
-            texts.push(Text::new(owned(alloc, word)?))?;
+            texts.push(LentText::Lent(word))?;
         }
         Ok(texts)
     }
@@ -117,14 +117,4 @@ fn first_word(line: &str) -> (&str, Option<&str>)
         Some(tab) => (&line[..tab], Some(&line[tab + 1..])),
         None => (line, None),
     }
-}
-
-/// A text of its own. An empty one needs no copying.
-fn owned(alloc: Global, word: &str) -> Result<String, AllocError>
-    ensures { IfOk result (λ text. string_bytes text ≡ word.now) }
-{
-    if word.is_empty() {
-        return Ok(String::new(alloc));
-    }
-    String::from_str(alloc, word)
 }

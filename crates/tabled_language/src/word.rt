@@ -3,9 +3,12 @@
 ghost use Rattle.std.specs.Prelude.{◌≡◌, map, IfOk};
 ghost use Rattle.std.specs.Option.{option_map};
 ghost use Rattle.std.specs.String.{string_bytes};
+ghost use Rattle.tabled_language.specs.Lent.{bytes_of};
 ghost use Rattle.tabled_language.specs.Word.{escape, integer_of, number_of, number_to, size_of, text_of_word, unescaped};
 
+use crate::lent::LentText;
 use std::alloc::{AllocError, Global};
+use std::str;
 
 /// The largest number that a step may name.
 const LARGEST_NUMBER: usize = 10_000;
@@ -26,9 +29,6 @@ fn escape(letter: u8) -> Option<u8>
 fn unescaped(alloc: Global, word: &[u8]) -> Result<Option<Vec<u8>>, AllocError>
     ensures { IfOk result (λ bytes. option_map (λ v. v.items) bytes ≡ unescaped word.now) }
 {
-    if !word.contains(&b'\\') {
-        return Ok(Some(Vec::from_slice(alloc, word)?));
-    }
     let mut bytes = Vec::with_capacity(alloc, word.len())?;
     let mut behind_backslash = false;
     for byte in word {
@@ -51,13 +51,32 @@ fn unescaped(alloc: Global, word: &[u8]) -> Result<Option<Vec<u8>>, AllocError>
 }
 
 /// The text of a word, or nothing where it has a bad escape or isn't UTF-8.
-pub(crate) fn text_of_word(alloc: Global, word: &[u8]) -> Result<Option<String>, AllocError>
+fn text_of_word(alloc: Global, word: &[u8]) -> Result<Option<String>, AllocError>
     ensures { IfOk result (λ text. option_map string_bytes text ≡ text_of_word word.now) }
 {
     let Some(bytes) = unescaped(alloc, word)? else {
         return Ok(None);
     };
     Ok(String::from_utf8(bytes).ok())
+}
+
+/// The same, lent where the word has no escape.
+pub(crate) fn lent_text<'a>(
+    alloc: Global,
+    word: &'a [u8],
+) -> Result<Option<LentText<'a>>, AllocError>
+    ensures { IfOk result (λ text. option_map bytes_of text ≡ text_of_word word.now) }
+{
+    if word.contains(&b'\\') {
+        let Some(text) = text_of_word(alloc, word)? else {
+            return Ok(None);
+        };
+        return Ok(Some(LentText::Own(text)));
+    }
+    match str::from_utf8(word) {
+        Ok(text) => Ok(Some(LentText::Lent(text))),
+        Err(_) => Ok(None),
+    }
 }
 
 /// The number that digits write, leading zeros too, if it isn't above another.

@@ -1,11 +1,13 @@
 //! The words of a line, read from the left as they come.
 
 use crate::fault::{Fault, ReadError};
+use crate::lent::LentText;
 use crate::texts::Fields;
 use crate::word::{integer_of, number_of, size_of};
 use std::alloc::Global;
 use std::marker::Model;
-use tabled_grid::records::Text;
+use std::slice;
+use tabled_grid::records::{CellText, Text};
 
 /// What was read, or why it wasn't.
 pub(crate) type Read<T> = Result<T, ReadError>;
@@ -14,7 +16,7 @@ pub(crate) type Read<T> = Result<T, ReadError>;
 #[derive(Drop)]
 enum Source<'a> {
     Line(Fields<'a>),
-    Texts(&'a [Text<String>]),
+    Texts(slice::Iter<'a, LentText<'a>>),
 }
 
 /// Words that are read from the front. A contract sees them as the list of those left.
@@ -35,6 +37,7 @@ impl<'a> Model for Words<'a> {
 impl<'a> Words<'a> {
     ghost use Rattle.std.specs.Prelude.{◌≡◌, ◌≤◌, IfOk, MatchResult, drop, length, map, take};
     ghost use Rattle.std.specs.String.{string_bytes};
+    ghost use Rattle.tabled_language.specs.Lent.{bytes_of};
     ghost use Rattle.tabled_language.specs.Parsing.{Reads};
     ghost use Rattle.tabled_language.specs.Words.{reads_count, reads_extent, reads_integer, reads_number, reads_size, reads_text, reads_word};
     ghost use Rattle.tabled_language.specs.declared.fault.ReadError.TheVariants.{OutOfMemory};
@@ -49,11 +52,11 @@ impl<'a> Words<'a> {
     }
 
     /// Texts as words.
-    pub(crate) fn of_texts(texts: &'a [Text<String>]) -> Self
-        ensures { result ≡ map string_bytes texts.now }
+    pub(crate) fn of_texts(texts: &'a [LentText<'a>]) -> Self
+        ensures { result ≡ map bytes_of texts.now }
     {
         Words {
-            source: Source::Texts(texts),
+            source: Source::Texts(texts.iter()),
         }
     }
 
@@ -65,11 +68,8 @@ impl<'a> Words<'a> {
                 Some(word) => Ok(word),
                 None => Err(ReadError::Faulty(Fault::WordCount)),
             },
-            Source::Texts(texts) => match texts.split_first() {
-                Some((first, others)) => {
-                    *texts = others;
-                    Ok(first.as_str())
-                }
+            Source::Texts(texts) => match texts.next() {
+                Some(text) => Ok(text.text()),
                 None => Err(ReadError::Faulty(Fault::WordCount)),
             },
         }

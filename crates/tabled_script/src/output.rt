@@ -1,24 +1,25 @@
 //! How a table is written.
 
 ghost use Rattle.std.specs.Prelude.{◌≡◌, ◌∷◌, ◌++◌, map, IsTrue, OnOk};
-ghost use Rattle.std.specs.String.{string_bytes};
 ghost use Rattle.tabled_grid.specs.Grid.{IsEven, grid_of, map_grid, map_items};
+ghost use Rattle.tabled_language.specs.Lent.{bytes_of};
 ghost use Rattle.tabled_language.specs.Output.{escaped, escaped_byte, line, print as printed, span_line, table_lines};
 ghost use Rattle.tabled_steps.specs.States.{state_of};
 
 use std::alloc::{AllocError, Global};
 use tabled_grid::config::{Position, SpannedConfig};
-use tabled_grid::records::{CellText, ExactRecords, Records, Text};
+use tabled_grid::records::{CellText, ExactRecords, Records};
+use tabled_language::LentText;
 
 /// Appends a table: its shape, its rows, and then its merged cells.
 pub(crate) fn print(
     alloc: Global,
     out: &mut Vec<u8>,
-    records: &Vec<Vec<Text<String>>>,
+    records: &Vec<Vec<LentText>>,
     cfg: &SpannedConfig,
 ) -> Result<(), AllocError>
     requires { IsEven (grid_of (map_items records.now.items)) }
-    ensures { OnOk result (out.new.items ≡ out.old.items ++ printed (state_of string_bytes (grid_of (map_items records.now.items)) cfg.now)) }
+    ensures { OnOk result (out.new.items ≡ out.old.items ++ printed (state_of bytes_of (grid_of (map_items records.now.items)) cfg.now)) }
 {
     push_table(alloc, out, records)?;
     for (pos, size) in cfg.anchors() {
@@ -31,10 +32,10 @@ pub(crate) fn print(
 fn push_table(
     alloc: Global,
     out: &mut Vec<u8>,
-    records: &Vec<Vec<Text<String>>>,
+    records: &Vec<Vec<LentText>>,
 ) -> Result<(), AllocError>
     requires { IsEven (grid_of (map_items records.now.items)) }
-    ensures { OnOk result (out.new.items ≡ out.old.items ++ table_lines (map_grid string_bytes (grid_of (map_items records.now.items)))) }
+    ensures { OnOk result (out.new.items ≡ out.old.items ++ table_lines (map_grid bytes_of (grid_of (map_items records.now.items)))) }
 {
     let shape = [
         records.count_rows().to_string(alloc)?,

@@ -12,9 +12,8 @@ use crate::output::print;
 use crate::watched::Watched;
 use std::alloc::{AllocError, Global};
 use std::io::{self, ErrorKind, Read, Write};
-use tabled_language::{Fault, Script, parse};
+use tabled_language::{Fault, Script, padded, parse};
 use tabled_steps::run;
-use tabled_table::builder::Builder;
 
 /// The output was written.
 const DONE: u8 = 0;
@@ -62,35 +61,36 @@ pub fn run_script<R: Read, W: Write>(alloc: Global, reader: &mut R, writer: &mut
         }
         return write_answer(writer, Err(AllocError));
     }
-    write_answer(writer, answer(alloc, input))
+    write_answer(writer, answer(alloc, &input))
 }
 
 /// What answers a script.
-fn answer(alloc: Global, input: Vec<u8>) -> Result<Answer, AllocError>
+fn answer(alloc: Global, input: &[u8]) -> Result<Answer, AllocError>
     ensures { IfOk result (λ answer. MatchResult answer
-        (λ output. (script : Meaning) × (parse input.items ≡ Ok script) × (output.items ≡ output_of script))
-        (λ line. (fault : ℕ × Fault) × (parse input.items ≡ Err fault) × (string_bytes line ≡ fault_line fault))) }
+        (λ output. (script : Meaning) × (parse input.now ≡ Ok script) × (output.items ≡ output_of script))
+        (λ line. (fault : ℕ × Fault) × (parse input.now ≡ Err fault) × (string_bytes line ≡ fault_line fault))) }
 {
-    match parse(alloc, &input)? {
-        Ok(script) => Ok(Ok(output(alloc, script, input)?)),
+    match parse(alloc, input)? {
+        // As long as the input, which most outputs are about: it then seldom moves as it grows.
+        Ok(script) => Ok(Ok(output(alloc, script, input.len())?)),
         Err(fault) => Ok(Err(fault_line(alloc, fault)?)),
     }
 }
 
-/// The table of a script's records and merged cells after its steps, as it is written: in `out`, whose old
-/// bytes go.
-fn output(alloc: Global, script: Script, mut out: Vec<u8>) -> Result<Vec<u8>, AllocError>
-    ensures { IfOk result (λ output. output.items ≡ output_of (script_in script.records.items script.spans script.steps.items)) }
+/// The table of a script's records and merged cells after its steps, as it is written, with room for some
+/// bytes from the start.
+fn output(alloc: Global, script: Script, room: usize) -> Result<Vec<u8>, AllocError>
+    ensures { IfOk result (λ output. output.items ≡ output_of (script_in script.entry.records.items script.entry.spans script.entry.steps.items)) }
 {
     let Script {
         records,
         mut spans,
         steps,
     } = script;
-    let mut records = Builder::from_cells(alloc, records)?.into_cells();
+    let mut records = padded(records)?;
     match run(alloc, &mut records, &mut spans, steps) {
         Ok(()) => {
-            out.clear();
+            let mut out = Vec::with_capacity(alloc, room)?;
             print(alloc, &mut out, &records, &spans)?;
             Ok(out)
         }

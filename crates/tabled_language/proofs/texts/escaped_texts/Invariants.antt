@@ -1,10 +1,10 @@
 use Rattle.std.proofs.Common.{◌≡◌, ◌++◌, List, ℕ, map}
 use Rattle.std.specs.Option.{option_map}
-use Rattle.std.specs.String.{string_bytes}
+use Rattle.tabled_language.specs.Lent.{bytes_of}
 use Rattle.tabled_language.specs.Line.{texts_of, words_of}
 use Rattle.tabled_language.proofs.texts.escaped_texts.Given as goal
 
 abbrev pub invariant-loop-word : goal.invariant-loop-word
 invariant-loop-word l = record {
-  texts : option_map (λ (ts : List (List ℕ)). map string_bytes l.texts.items ++ ts) (texts_of l.word-iterator) ≡ texts_of (words_of l.line);
+  texts : option_map (λ (ts : List (List ℕ)). map bytes_of l.texts.items ++ ts) (texts_of l.word-iterator) ≡ texts_of (words_of l.line);
 }

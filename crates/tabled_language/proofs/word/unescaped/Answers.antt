@@ -1,16 +1,10 @@
-use Rattle.std.proofs.Common.{rules, arith, ◌≡◌, ◌+◌, ◌∷◌, ◌∙◌, sym, eqb, false, drop, get_or}
+use Rattle.std.proofs.Common.{arith, ◌≡◌, ◌+◌, ◌∷◌, ◌∙◌, sym, eqb, false, drop, get_or}
 use Rattle.std.proofs.lemmas.List.{drop_more}
 use Rattle.std.proofs.lemmas.Bool.Decides.{nat_tests}
-use Rattle.std.specs.List.{list_any}
 use Rattle.tabled_language.specs.Word.{unescaped}
-use Rattle.tabled_language.proofs.Escapes.{all_before-none, unescaped-clean, escape_more, plain_more}
+use Rattle.tabled_language.proofs.Escapes.{all_before-none, escape_more, plain_more}
 use Rattle.tabled_language.proofs.word.unescaped.Goals as goal
 use Rattle.tabled_language.proofs.word.unescaped.Goals.{then-behind_backslash+in-Some+in_ok-push, else-behind_backslash+then-byte-eq92, else-behind_backslash+else-byte-eq92+in_ok-push-2}
-
-pub returns-then-not-contains : goal.returns-then-not-contains
-returns-then-not-contains c =
-    let clean : list_any (λ b. eqb b 92) c.args.word.now ≡ false = search rules in
-    rw (c.in_ok-from_slice.ensures.items) (sym (unescaped-clean c.args.word.now clean))
 
 pub loop-byte-init : goal.loop-byte-init
 loop-byte-init c = rw (c.in_ok-bytes.ensures.items) (all_before-none (unescaped c.args.word.now))

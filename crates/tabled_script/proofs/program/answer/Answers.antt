@@ -1,9 +1,7 @@
-use Rattle.std.proofs.Common.{◌∙◌, ap, sym}
-use Rattle.tabled_language.specs.Line.{parse}
 use Rattle.tabled_script.proofs.program.answer.Goals as goal
 
 pub returns-in_ok-output-in-Ok : goal.returns-in_ok-output-in-Ok
-returns-in_ok-output-in-Ok c = (_, sym (ap parse c.deref.ensures.value) ∙ (rw c.in-Ok.is at c.in_ok-script.ensures.script), c.in_ok-output-in-Ok.ensures)
+returns-in_ok-output-in-Ok c = (_, (rw c.in-Ok.is at c.in_ok-script.ensures.script), c.in_ok-output-in-Ok.ensures)
 
 pub returns-in_ok-fault_line-in-Err : goal.returns-in_ok-fault_line-in-Err
-returns-in_ok-fault_line-in-Err c = (c.in-Err.fault, sym (ap parse c.deref.ensures.value) ∙ (rw c.in-Err.is at c.in_ok-script.ensures.script), c.in_ok-fault_line-in-Err.ensures)
+returns-in_ok-fault_line-in-Err c = (c.in-Err.fault, (rw c.in-Err.is at c.in_ok-script.ensures.script), c.in_ok-fault_line-in-Err.ensures)

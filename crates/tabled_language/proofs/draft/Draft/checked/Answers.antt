@@ -1,6 +1,6 @@
 use Rattle.std.proofs.Common.{arith, rules}
 use Rattle.std.proofs.lemmas.List.{get_or_read, length-map}
-use Rattle.std.specs.String.{string_bytes}
+use Rattle.tabled_language.specs.Lent.{bytes_of}
 use Rattle.tabled_grid.specs.Grid.{map_items}
 use Rattle.tabled_language.specs.Drafts.{Draft}
 use Rattle.tabled_language.specs.Placed.{IsFirstMisfit}
@@ -11,20 +11,20 @@ use Rattle.tabled_language.proofs.draft.Draft.checked.Goals as goal
 pub returns-in-Some-clause-script : goal.returns-in-Some-clause-script
 returns-in-Some-clause-script c = λ lines fine is.
     let d : Draft = draft_in c.args.self in
-    let shape : HasShape d.records c.len-rows.result c.longest-columns.result = has_shape string_bytes (map_items c.args.self.records.items) c.len-rows.result c.longest-columns.result (search (rules, length-map)) c.longest-columns.ensures in
+    let shape : HasShape d.records c.len-rows.result c.longest-columns.result = has_shape bytes_of (map_items c.args.self.records.items) c.len-rows.result c.longest-columns.result (search (rules, length-map)) c.longest-columns.ensures in
     checked_shape lines fine d is c.len-rows.result c.longest-columns.result shape c.misshaped.result c.misshaped.ensures c.in-Some.number c.in-Some.is
 
 pub returns-in-Ok-clause-script : goal.returns-in-Ok-clause-script
 returns-in-Ok-clause-script c = λ lines fine is.
     let d : Draft = draft_in c.args.self in
-    let shape : HasShape d.records c.len-rows.result c.longest-columns.result = has_shape string_bytes (map_items c.args.self.records.items) c.len-rows.result c.longest-columns.result (search (rules, length-map)) c.longest-columns.ensures in
+    let shape : HasShape d.records c.len-rows.result c.longest-columns.result = has_shape bytes_of (map_items c.args.self.records.items) c.len-rows.result c.longest-columns.result (search (rules, length-map)) c.longest-columns.ensures in
     let made = rw c.in-Ok.is at c.in_ok-spans.ensures.answer in
     checked_all lines fine d is c.len-rows.result c.longest-columns.result shape c.misshaped.result c.misshaped.ensures c.in-Ok.spans c.in_default.is (search (rules, made.0)) (search (rules, made.1))
 
-pub returns-in-Err-clause-script : goal.returns-in-Err-clause-script
-returns-in-Err-clause-script c = λ lines fine is.
+pub returns-clause-script : goal.returns-clause-script
+returns-clause-script c = λ lines fine is.
     let d : Draft = draft_in c.args.self in
-    let shape : HasShape d.records c.len-rows.result c.longest-columns.result = has_shape string_bytes (map_items c.args.self.records.items) c.len-rows.result c.longest-columns.result (search (rules, length-map)) c.longest-columns.ensures in
+    let shape : HasShape d.records c.len-rows.result c.longest-columns.result = has_shape bytes_of (map_items c.args.self.records.items) c.len-rows.result c.longest-columns.result (search (rules, length-map)) c.longest-columns.ensures in
     let misfit = rw c.in-Err.is at c.in_ok-spans.ensures.answer in
     let first : IsFirstMisfit c.len-rows.result c.longest-columns.result c.args.self.anchors.items c.in-Err.misfit = search (rules, misfit) in
     let number = get_or_read c.args.self.lines.items c.in-Err.misfit c.index.result.now (omega (arith, first.within, c.requires.1)) c.index.ensures 0 in

@@ -1,7 +1,7 @@
 use Rattle.std.proofs.Common.{◌≡◌, ◌≢◌, length, map, Some, sym, ap, ◌∙◌, rules}
 use Rattle.tabled_language.specs.Drafts.{takes}
 use Rattle.tabled_language.specs.Line.{line_of, meaning_of, words_of}
-use Rattle.std.specs.String.{string_bytes}
+use Rattle.tabled_language.specs.Lent.{bytes_of}
 use Rattle.tabled_language.specs.Parsing.{draft_in}
 use Rattle.tabled_language.proofs.ScriptLines.{line_asks-plain, line_asks-texts, line_of-texts, same_line}
 use Rattle.tabled_language.proofs.draft.Draft.read_line.Goals as goal
@@ -18,5 +18,5 @@ pub returns-in-Some-2-clause-read : goal.returns-in-Some-2-clause-read
 returns-in-Some-2-clause-read c =
     let line = c.args.line.now in
     let some : length line ≢ 0 = search rules in
-    let said = line_of-texts line (map string_bytes c.in-Some-2.texts.items) some (sym (rw c.in-Some-2.is at c.in_ok-texts.ensures)) in
+    let said = line_of-texts line (map bytes_of c.in-Some-2.texts.items) some (sym (rw c.in-Some-2.is at c.in_ok-texts.ensures)) in
     same_line (draft_in c.args.self.now) (draft_in c.read_texts.new.self) c.args.number c.read_texts.result _ _ _ _ said (line_asks-texts (takes (draft_in c.args.self.now)) line c.in_default.ensures) c.read_texts.ensures.read

@@ -1,6 +1,5 @@
 use Rattle.std.proofs.Common.{ℕ, List, ap₂, ◌≡◌, ◌≢◌, ◌∷◌, length, map, refl, sym, ap, ◌∙◌, rules}
-use Rattle.std.specs.Global.{Global}
-use Rattle.std.specs.String.{string_bytes}
+use Rattle.tabled_language.specs.Lent.{bytes_of}
 use Rattle.tabled_language.specs.Parsing.{draft_in}
 use Rattle.tabled_language.specs.Verb.{step_line, steps}
 use Rattle.tabled_language.specs.Words.{behind, keeping_asks, whole}
@@ -9,12 +8,12 @@ use Rattle.tabled_language.proofs.draft.Draft.read_texts.Goals as goal
 
 pub returns-in_default-clause-read : goal.returns-in_default-clause-read
 returns-in_default-clause-read c =
-    let verb = c.as_str.result.now in
-    let texts = map string_bytes c.args.texts.items in
-    let others = map string_bytes c.remove-verb.new.self.items in
+    let verb = c.text.result.now in
+    let texts = map bytes_of c.args.texts.items in
+    let others = map bytes_of c.remove-verb.new.self.items in
     let some : length c.args.texts.items ≢ 0 = search rules in
-    let removed = first_removed (string_bytes {Z = Global}) c.args.texts.items c.remove-verb.result some c.remove-verb.ensures.value in
-    let first : texts ≡ verb ∷ others = removed ∙ ap₂ (λ (v : List ℕ) (ts : List (List ℕ)). v ∷ ts) (sym c.as_str.ensures) (ap (map string_bytes) (sym c.remove-verb.ensures.items)) in
+    let removed = first_removed bytes_of c.args.texts.items c.remove-verb.result some c.remove-verb.ensures.value in
+    let first : texts ≡ verb ∷ others = removed ∙ ap₂ (λ (v : List ℕ) (ts : List (List ℕ)). v ∷ ts) (sym c.text.ensures) (ap (map bytes_of) (sym c.remove-verb.ensures.items)) in
     let left : c.of_texts-in_default.result ≡ others = search rules in
     let said = meaning_of-step texts verb c.of_texts-in_default.result (first ∙ ap (λ words. verb ∷ words) (sym left)) c.in_default.not-row c.in_default.not-shape c.in_default.not-span in
     let old = draft_in c.args.self.now in

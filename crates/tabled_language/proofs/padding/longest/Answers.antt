@@ -1,6 +1,6 @@
 use Rattle.std.proofs.Common.{◌≡◌, length, max, rules}
 use Rattle.tabled_language.proofs.ScriptChecks.{longest-more}
-use Rattle.tabled_language.proofs.draft.longest.Goals as goal
+use Rattle.tabled_language.proofs.padding.longest.Goals as goal
 
 pub loop-record-preserved : goal.loop-record-preserved
 loop-record-preserved c =

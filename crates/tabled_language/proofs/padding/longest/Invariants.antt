@@ -1,7 +1,7 @@
 use Rattle.std.proofs.Common.{◌≡◌, take}
 use Rattle.tabled_grid.specs.Grid.{map_items}
 use Rattle.tabled_table.specs.Builder.{longest}
-use Rattle.tabled_language.proofs.draft.longest.Given as goal
+use Rattle.tabled_language.proofs.padding.longest.Given as goal
 
 abbrev pub invariant-loop-record : goal.invariant-loop-record
 invariant-loop-record l = l.longest ≡ longest (map_items (take l.record-index l.records.items))

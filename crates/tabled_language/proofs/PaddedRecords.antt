@@ -1,0 +1,57 @@
+-- Rows padded to one length, as the cells of a table.
+use Rattle.std.proofs.Common.{◌≡◌, ℕ, List, [], ◌∷◌, ◌++◌, ap, length, map, refl, sym, ◌∙◌, take, drop, arith}
+use Rattle.std.specs.Global.{Vec}
+use Rattle.std.specs.List.{AllByRecursion}
+use Rattle.std.proofs.lemmas.List.{append-nil, drop_all, length-map, take_all}
+use Rattle.std.proofs.lemmas.Simd.{map-map}
+use Rattle.tabled_grid.specs.Grid.{Grid, IsEven, grid_of, map_grid, map_items}
+use Rattle.tabled_table.specs.Builder.{AreRecords, longest, padded_to}
+use Rattle.tabled_table.proofs.Uneven.{even-longest}
+use Rattle.tabled_language.specs.Line.{table_from}
+use Rattle.tabled_language.proofs.ScriptChecks.{longest-map}
+
+-- a list that was written over whole
+pub all_written : {A : Type 0} (old new : List A) (len : ℕ) → len ≡ length old → length new ≡ length old → take len (new ++ drop (length new) old) ≡ new
+all_written old new len is same = rw (drop_all (length new) old (omega (arith, same)), append-nil new) (take_all len new (omega (arith, is, same)))
+
+grid : ℕ → ℕ → List (List (List ℕ)) → Grid (List ℕ)
+grid r c xs = record { rows = r; columns = c; cells = xs }
+
+same_grid : {r s c k : ℕ} {xs ys : List (List (List ℕ))} → r ≡ s → c ≡ k → xs ≡ ys → grid r c xs ≡ grid s k ys
+same_grid e k h = rw (e, k, h) refl
+
+module _ {A : Type 0} (f : A → List ℕ) where
+  wide : (n m : ℕ) (cells : List (List A)) → n ≡ m → AreRecords n (map (map f) cells) → AllByRecursion (λ (row : List A). length row ≡ m) cells
+  wide n m [] same records = tt
+  wide n m (row ∷ cells) same records = (sym (length-map row f) ∙ records.0 ∙ same, wide n m cells same records.1)
+
+  even : (n : ℕ) (cells : List (List A)) → AreRecords n (map (map f) cells) → IsEven (grid_of cells)
+  even n [] records = record { tall = refl; wide = tt }
+  even n (row ∷ cells) records = record { tall = refl; wide = wide n (length row) (row ∷ cells) (sym records.0 ∙ length-map row f) records }
+
+  -- cells whose texts are records, each padded to the longest
+  pub record HasCells (cells : List (List A)) (records : List (List (List ℕ))) : Type 0 where
+    pub padded : map (map f) cells ≡ map (padded_to (longest records) []) records
+
+  are_records : (cells : List (List A)) (records : List (List (List ℕ))) → HasCells cells records → AreRecords (longest records) (map (map f) cells)
+  are_records cells records has = rw has.padded (even-longest (longest records) [] records (omega arith))
+
+  pub even_cells : (cells : List (List A)) (records : List (List (List ℕ))) → HasCells cells records → IsEven (grid_of cells)
+  even_cells cells records has = even (longest records) cells (are_records cells records has)
+
+  pub table_cells : (cells : List (List A)) (records : List (List (List ℕ))) → HasCells cells records → map_grid f (grid_of cells) ≡ table_from records
+  unfolding grid
+  table_cells [] [] has = refl
+  table_cells [] (record₁ ∷ records) has = absurd (omega (arith, ap length has.padded))
+  table_cells (row ∷ cells) [] has = absurd (omega (arith, ap length has.padded))
+  table_cells (row ∷ cells) (record₁ ∷ records) has =
+      let all = record₁ ∷ records in
+      let wide = are_records (row ∷ cells) all has in
+      same_grid (sym (length-map (row ∷ cells) (map f)) ∙ ap length has.padded) (sym (length-map row f) ∙ wide.0) has.padded
+
+  -- vectors of cells, padded one by one
+  pub has_cells : (old new : List (Vec A)) (columns : ℕ) → columns ≡ longest (map_items old) → map (λ (v : Vec A). map f v.items) new ≡ map (padded_to columns []) (map (λ (v : Vec A). map f v.items) old) → HasCells (map_items new) (map (map f) (map_items old))
+  has_cells old new columns is padded =
+      let texts = map-map (map f) (λ (v : Vec A). v.items) old in
+      let broad : longest (map (map f) (map_items old)) ≡ columns = longest-map f (map_items old) ∙ sym is in
+      record { padded = map-map (map f) (λ (v : Vec A). v.items) new ∙ padded ∙ rw (broad, texts) refl }

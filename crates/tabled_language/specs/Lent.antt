@@ -1,0 +1,15 @@
+-- Texts that are lent by the bytes of a script, or their own.
+use Rattle.std.specs.Prelude.{ℕ, List, map}
+use Rattle.std.specs.Global.{Vec}
+use Rattle.std.specs.String.{string_bytes}
+use Rattle.tabled_language.specs.declared.lent.LentText.{LentText}
+use Rattle.tabled_language.specs.declared.lent.LentText.TheVariants.{Lent, Own}
+
+-- the text, as its bytes
+abbrev pub bytes_of : LentText → List ℕ
+bytes_of (Lent text) = text.now
+bytes_of (Own text) = string_bytes text
+
+-- the texts of a row
+abbrev pub texts_of : Vec LentText → List (List ℕ)
+texts_of row = map bytes_of row.items
