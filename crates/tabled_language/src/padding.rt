@@ -45,12 +45,12 @@ fn pad_each(records: &mut [Vec<LentText>], columns: usize) -> Result<(), AllocEr
 }
 
 /// The same in one.
-fn pad(record: &mut Vec<LentText>, columns: usize) -> Result<(), AllocError>
-    ensures { OnOk result (texts_of record.new ≡ padded_to columns [] (texts_of record.old)) }
+fn pad(row: &mut Vec<LentText>, columns: usize) -> Result<(), AllocError>
+    ensures { OnOk result (texts_of row.new ≡ padded_to columns [] (texts_of row.old)) }
 {
-    record.reserve_exact(columns.saturating_sub(record.len()))?;
-    while record.len() < columns {
-        record.push(LentText::Lent(""))?;
+    row.reserve_exact(columns.saturating_sub(row.len()))?;
+    while row.len() < columns {
+        row.push(LentText::Lent(""))?;
     }
     Ok(())
 }
