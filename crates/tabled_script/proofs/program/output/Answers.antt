@@ -8,11 +8,11 @@ use Rattle.tabled_language.specs.Output.{print}
 use Rattle.tabled_script.proofs.Changes.{after_all-changed}
 use Rattle.tabled_script.proofs.program.output.Goals as goal
 
-pub returns-in_ok-print-in-Ok : goal.returns-in_ok-print-in-Ok
-returns-in_ok-print-in-Ok c =
+pub returns-in-Ok : goal.returns-in-Ok
+returns-in-Ok c =
     let steps = c.args.script.steps.items in
-    let cells = c.in_ok-padded.records in
+    let cells = c.in_ok-records.records in
     let script = script_in c.args.script.records.items c.args.script.spans steps in
-    let begin : state_of bytes_of (grid_of (map_items cells.items)) c.args.script.spans ≡ start script = rw c.in_ok-padded.ensures.cells refl in
+    let begin : state_of bytes_of (grid_of (map_items cells.items)) c.args.script.spans ≡ start script = rw c.in_ok-records.ensures.cells refl in
     let end = c.in-Ok.ensures.state ∙ ap (after_all steps) begin ∙ after_all-changed steps (start script) in
-    (rw (c.in_ok-with_capacity.ensures.items) at c.in_ok-print-in-Ok.ensures) ∙ ap print end
+    (rw (c.in_ok-out-in-Ok.ensures.items) at c.in_ok-print-in-Ok.ensures) ∙ ap print end

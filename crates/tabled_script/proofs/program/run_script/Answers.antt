@@ -1,4 +1,4 @@
-use Rattle.std.proofs.Common.{◌≡◌, ℕ, ◌++◌, ◌⊎◌, inl, inr, Result, Ok, Err, IfOk, MatchResult, List, ap, subst, arith, ◌∙◌}
+use Rattle.std.proofs.Common.{◌≡◌, ℕ, ◌++◌, ◌⊎◌, inl, inr, Result, Ok, Err, IfOk, MatchResult, List, ap, subst, sym, arith, ◌∙◌}
 use Rattle.std.proofs.lemmas.Option.{IfSome_then}
 use Rattle.std.specs.Io.KnownBytes.{Appends}
 use Rattle.tabled_language.specs.Line.{Script, parse}
@@ -29,7 +29,7 @@ returns-clause-done g c = λ zero.
     let Answers = λ (bytes : List ℕ). (x : Script) × (parse bytes ≡ Ok x) × Appends (g.W.Write.contents c.args.writer.now) (g.W.Write.contents c.write_answer-2.new.writer) (output_of x) in
     let written : Answers c.read_to_end.new.buf.items =
     done c.write_answer-2.result c.answer.result _ _ _ _ _ c.write_answer-2.ensures c.answer.ensures zero
-    (λ output known appended. (known.0, known.1, subst (λ bytes. Appends (g.W.Write.contents c.args.writer.now) (g.W.Write.contents c.write_answer-2.new.writer) bytes) known.2 appended)) in
+    (λ output known appended. (known.0, ap parse (sym c.deref.ensures.value) ∙ known.1, subst (λ bytes. Appends (g.W.Write.contents c.args.writer.now) (g.W.Write.contents c.write_answer-2.new.writer) bytes) known.2 appended)) in
     IfSome_then (g.R.Read.remaining c.args.reader.now) c.in_default.ensures.bytes
     (λ input is. subst Answers (is ∙ ap (λ (bytes : List ℕ). bytes ++ input) c.new-input.ensures.items) written)
 
@@ -38,6 +38,6 @@ returns-clause-faulty g c = λ two.
     let Answers = λ (bytes : List ℕ). (x : ℕ × Fault) × (parse bytes ≡ Err x) × Appends (g.W.Write.contents c.args.writer.now) (g.W.Write.contents c.write_answer-2.new.writer) (fault_line x) in
     let written : Answers c.read_to_end.new.buf.items =
     faulty c.write_answer-2.result c.answer.result _ _ _ _ _ c.write_answer-2.ensures c.answer.ensures two
-    (λ line named appended. (named.0, named.1, subst (λ bytes. Appends (g.W.Write.contents c.args.writer.now) (g.W.Write.contents c.write_answer-2.new.writer) bytes) named.2 appended)) in
+    (λ line named appended. (named.0, ap parse (sym c.deref.ensures.value) ∙ named.1, subst (λ bytes. Appends (g.W.Write.contents c.args.writer.now) (g.W.Write.contents c.write_answer-2.new.writer) bytes) named.2 appended)) in
     IfSome_then (g.R.Read.remaining c.args.reader.now) c.in_default.ensures.bytes
     (λ input is. subst Answers (is ∙ ap (λ (bytes : List ℕ). bytes ++ input) c.new-input.ensures.items) written)
