@@ -1,6 +1,6 @@
 //! Merged cells that are carried along.
 
-use crate::changes::{Change, Merged, carries, carries_refusing};
+use crate::changes::{Change, Merged, carries, undoes};
 use std::test::Fail;
 use tabled_grid::config::Offset::Start;
 use tabled_grid::records::Axis;
@@ -238,52 +238,22 @@ fn splits_carry_merged_cells(rt: HostRuntime) -> Result<(), Fail> {
 
 #[test]
 fn refused_changes_leave_merged_cells(rt: HostRuntime) -> Result<(), Fail> {
+    let split = Change::Split(Split::column(2));
     let cases = [
-        (0, "a b c /", Change::Left, "a b c / 0.0:1x2!"),
-        (1, "a b c /", Change::Left, "a b c / 0.0:1x2!"),
-        (2, "a b c /", Change::Left, "c / b / a / 1.0:2x1"),
-        (0, "a b c /", Change::Top, "a b c / 0.0:1x2"),
+        (Change::Left, (2, 0), "c / b / a / 1.0:2x1"),
+        (Change::Right, (2, 0), "a / b / c / 0.0:2x1"),
+        (Change::Top, (0, 0), "a b c / 0.0:1x2"),
+        (split, (2, 0), "a b / c _ / 0.0:1x2"),
         (
-            0,
-            "a b c /",
-            Change::Split(Split::column(2)),
-            "a b c / 0.0:1x2!",
-        ),
-        (
-            1,
-            "a b c /",
-            Change::Split(Split::column(2)),
-            "a b c / 0.0:1x2!",
-        ),
-        (
-            2,
-            "a b c /",
-            Change::Split(Split::column(2)),
-            "a b / c _ / 0.0:1x2",
-        ),
-        (
-            0,
-            "a b c /",
             Change::Join(Axis::Rows, "x /"),
-            "a b c / 0.0:1x2!",
-        ),
-        (
-            2,
-            "a b c /",
-            Change::Join(Axis::Rows, "x /"),
-            "a b c / 0.0:1x2!",
-        ),
-        (
-            4,
-            "a b c /",
-            Change::Join(Axis::Rows, "x /"),
+            (1, 3),
             "a b c / x _ _ / 0.0:1x2",
         ),
-        (0, "a b c /", Change::Segment(0, 1, 0, 2), "a b / 0.0:1x2"),
-        (0, "a b c /", Change::RemoveColumn(2), "a b / 0.0:1x2"),
+        (Change::Segment(0, 1, 0, 2), (0, 0), "a b / 0.0:1x2"),
+        (Change::RemoveColumn(2), (0, 0), "a b / 0.0:1x2"),
     ];
-    for (left, old, change, new) in cases {
-        assert!(rt; carries_refusing(rt.alloc(), left, old, one(0, 0, 1, 2), change, new));
+    for (change, calls, new) in cases {
+        assert!(rt; undoes(rt.alloc(), "a b c /", one(0, 0, 1, 2), change, calls, new));
     }
     Ok(())
 }

@@ -4,7 +4,7 @@ use crate::joins::joined;
 use std::alloc::{AllocError, Global};
 use tabled_grid::config::SpannedConfig;
 use tabled_grid::records::{
-    Axis, CellText, ExactRecords, PeekableRecords, Records, RecordsMut, Resizable,
+    Axis, CellText, ExactRecords, PeekableRecords, Records, RecordsMut, Refusing, Resizable,
 };
 use tabled_options::TableOption;
 use tabled_select::object::{Column, Columns, Rows};
@@ -13,7 +13,7 @@ use tabled_settings::extract::Extract;
 use tabled_settings::reverse::Reverse;
 use tabled_settings::rotate::Rotate;
 use tabled_settings::split::Split;
-use tabled_testing::{Refusing, flat, is_word, merged, nested, spelled_merged};
+use tabled_testing::{flat, is_word, merged, nested, spelled_merged};
 
 /// What is done to a table.
 #[derive(Clone, Copy)]
@@ -119,16 +119,45 @@ fn made_nested(
     made(alloc, nested(alloc, old)?, rectangles, change)
 }
 
-/// The same in a store that refuses all but some growths and writes.
+/// The same in a store that refuses one growth and one write, each counted from 1, or none at 0.
 fn made_refusing(
     alloc: Global,
-    left: usize,
+    (growth, set): (usize, usize),
     old: &str,
     rectangles: Merged,
     change: Change,
 ) -> Result<String, AllocError> {
     let store = flat(alloc, old)?;
-    made(alloc, Refusing { store, left }, rectangles, change)
+    made(alloc, Refusing::new(store, growth, set), rectangles, change)
+}
+
+/// What is left of a change that is refused and undone.
+fn undone(alloc: Global, old: &str, rectangles: Merged) -> Result<String, AllocError> {
+    let mut words = spelled_merged(alloc, &flat(alloc, old)?, &merged(alloc, rectangles)?)?;
+    words.push('!')?;
+    Ok(words)
+}
+
+/// Whether a change is undone where one of its growths or of its writes is refused, each in turn.
+fn is_undone_in_turn(
+    alloc: Global,
+    old: &str,
+    rectangles: Merged,
+    change: Change,
+    (growths, sets): (usize, usize),
+) -> Result<bool, AllocError> {
+    let undone = undone(alloc, old, rectangles)?;
+    for growth in 1..=growths {
+        if made_refusing(alloc, (growth, 0), old, rectangles, change)? != undone {
+            return Ok(false);
+        }
+    }
+    for set in 1..=sets {
+        if made_refusing(alloc, (0, set), old, rectangles, change)? != undone {
+            return Ok(false);
+        }
+    }
+    Ok(true)
 }
 
 /// Whether a change makes one table of another, in both kinds of store.
@@ -148,25 +177,22 @@ pub(crate) fn carries(
         && is_word(made_nested(alloc, old, rectangles, change), new)
 }
 
-/// Whether a change makes one table of another where all but some growths are refused.
-pub(crate) fn makes_refusing(
+/// Whether a change is undone where one of its growths or of its writes is refused, each in turn, and makes
+/// the new table where one more would be.
+pub(crate) fn undoes(
     alloc: Global,
-    left: usize,
-    old: &str,
-    change: Change,
-    new: &str,
-) -> bool {
-    carries_refusing(alloc, left, old, PLAIN, change, new)
-}
-
-/// The same of a table with merged cells.
-pub(crate) fn carries_refusing(
-    alloc: Global,
-    left: usize,
     old: &str,
     rectangles: Merged,
     change: Change,
+    (growths, sets): (usize, usize),
     new: &str,
 ) -> bool {
-    is_word(made_refusing(alloc, left, old, rectangles, change), new)
+    let none = (growths.saturating_add(1), sets.saturating_add(1));
+    is_undone_in_turn(alloc, old, rectangles, change, (growths, sets)) == Ok(true)
+        && is_word(made_refusing(alloc, none, old, rectangles, change), new)
+}
+
+/// Whether a change makes one table of another without a growth or a write that could be refused.
+pub(crate) fn makes_in_place(alloc: Global, old: &str, change: Change, new: &str) -> bool {
+    undoes(alloc, old, PLAIN, change, (0, 0), new)
 }

@@ -1,6 +1,6 @@
 //! What writers make of the texts of a table.
 
-use crate::tables::{made, makes_flat};
+use crate::tables::{exclaimed, made, makes_flat};
 use std::alloc::{AllocError, Global};
 use std::test::Fail;
 use tabled_grid::config::Position;
@@ -70,11 +70,6 @@ fn texts_are_cleaned(rt: HostRuntime) -> Result<(), Fail> {
     Ok(())
 }
 
-/// Adds an exclamation mark.
-fn exclaimed(alloc: Global, text: &str) -> Result<String, AllocError> {
-    format!(in alloc; "{text}!")
-}
-
 /// What a store of one cell with a text has after `exclaimed` of each line.
 fn exclaimed_lines(alloc: Global, text: &str) -> Result<String, AllocError> {
     let cell = vec![in alloc; Text::new(String::from_str(alloc, text)?)]?;
@@ -107,4 +102,45 @@ fn lines_are_counted_anew_in_each_cell(rt: HostRuntime) {
     };
     let counted = Settings::new(lines, Format::content(count).multiline());
     assert!(rt; makes_flat(alloc, "a b /", counted, "1\n2 1\n2 /"));
+}
+
+/// The positioned form of `exclaimed`.
+fn exclaimed_at(alloc: Global, text: &str, _: Position) -> Result<String, AllocError> {
+    exclaimed(alloc, text)
+}
+
+#[test]
+fn each_writer_writes_some_cells_alone(rt: HostRuntime) {
+    let (alloc, old, new) = (rt.alloc(), "a b / c d /", "a! b! / c d /");
+    let content = Modify::list(Rows::first(), Format::content(exclaimed));
+    assert!(rt; makes_flat(alloc, old, content, new));
+    let lines = Modify::list(Rows::first(), Format::content(exclaimed).multiline());
+    assert!(rt; makes_flat(alloc, old, lines, new));
+    let positioned = Modify::list(Rows::first(), Format::positioned(exclaimed_at));
+    assert!(rt; makes_flat(alloc, old, positioned, new));
+}
+
+#[test]
+fn each_charset_writes_all_cells_or_some(rt: HostRuntime) {
+    let (alloc, old) = (rt.alloc(), "a / b /");
+    for (charset, all, some) in [
+        (Charset::new(), "p\tq\r / p\tq\r /", "p\tq\r / p\tq\r /"),
+        (Charset::new().clean(), "pq / pq /", "pq / p\tq\r /"),
+        (
+            Charset::new().tab_size(1),
+            "p q\r / p q\r /",
+            "p q\r / p\tq\r /",
+        ),
+        (
+            Charset::new().tab_size(1).clean(),
+            "p q / p q /",
+            "p q / p\tq\r /",
+        ),
+    ] {
+        let texts = Modify::list(Rows::new(..), TextRef("p\tq\r"));
+        assert!(rt; makes_flat(alloc, old, Settings::new(texts, charset), all));
+        let texts = Modify::list(Rows::new(..), TextRef("p\tq\r"));
+        let first = Modify::list(Rows::first(), charset);
+        assert!(rt; makes_flat(alloc, old, Settings::new(texts, first), some));
+    }
 }

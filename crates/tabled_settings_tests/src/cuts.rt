@@ -35,7 +35,7 @@ fn segments_are_kept(rt: HostRuntime) -> Result<(), Fail> {
     ];
     for (old, segment, new) in cases {
         assert!(rt; changes::makes(rt.alloc(), old, segment, new));
-        assert!(rt; changes::makes_refusing(rt.alloc(), 0, old, segment, new));
+        assert!(rt; changes::makes_in_place(rt.alloc(), old, segment, new));
     }
     Ok(())
 }
@@ -68,6 +68,7 @@ fn rows_and_columns_are_removed(rt: HostRuntime) -> Result<(), Fail> {
     ];
     for (old, change, new) in cases {
         assert!(rt; changes::makes(rt.alloc(), old, change, new));
+        assert!(rt; changes::makes_in_place(rt.alloc(), old, change, new));
     }
     Ok(())
 }
@@ -102,7 +103,15 @@ fn told_rows_and_columns_are_removed(rt: HostRuntime) -> Result<(), Fail> {
         assert!(rt; makes_flat(rt.alloc(), "p / q / r / s /", Remove::row(told), rows));
         assert!(rt; makes_flat(rt.alloc(), "p q r s /", Remove::column(told), columns));
         assert!(rt; makes_nested(rt.alloc(), "p / q / r / s /", Remove::row(told), rows));
-        assert!(rt; makes_refusing(rt.alloc(), 0, "p q r s /", Remove::column(told), columns));
+        assert!(rt;
+            makes_refusing(
+                rt.alloc(),
+                (1, 1),
+                "p q r s /",
+                Remove::column(told),
+                columns
+            )
+        );
     }
     Ok(())
 }

@@ -1,6 +1,7 @@
 //! Tables that are joined.
 
-use crate::tables::{makes_flat, makes_nested, makes_refusing};
+use crate::changes::{Change, PLAIN, undoes};
+use crate::tables::{makes_flat, makes_nested};
 use std::alloc::{AllocError, Global};
 use std::test::Fail;
 use tabled_grid::records::Axis;
@@ -53,23 +54,14 @@ fn the_default_cell_is_empty(rt: HostRuntime) -> Result<(), Fail> {
 
 #[test]
 fn joins_that_are_refused_are_undone(rt: HostRuntime) -> Result<(), Fail> {
-    let alloc = rt.alloc();
+    // Three rows and columns are added and five texts written.
     let cases = [
-        ("a /", Axis::Rows, "x y z /", "a /!", "a - - / x y z /"),
-        (
-            "a /",
-            Axis::Columns,
-            "x y / z w /",
-            "a /!",
-            "a x y / - z w /",
-        ),
+        ("a /", Axis::Rows, "x y z /", "a - - / x y z /"),
+        ("a /", Axis::Columns, "x y / z w /", "a x y / - z w /"),
     ];
-    for (old, axis, second, refused, new) in cases {
-        // Three rows and columns are added and five texts written.
-        for left in 0..8 {
-            assert!(rt; makes_refusing(alloc, left, old, joined(alloc, axis, second)?, refused));
-        }
-        assert!(rt; makes_refusing(alloc, 8, old, joined(alloc, axis, second)?, new));
+    for (old, axis, second, new) in cases {
+        let join = Change::Join(axis, second);
+        assert!(rt; undoes(rt.alloc(), old, PLAIN, join, (3, 5), new));
     }
     Ok(())
 }

@@ -12,6 +12,8 @@ mod cuts;
 #[cfg(test)]
 mod joins;
 #[cfg(test)]
+mod odd;
+#[cfg(test)]
 mod refused_writers;
 #[cfg(test)]
 mod rotations;

@@ -1,21 +1,18 @@
 //! What writers leave, for a refusal at each write and at each answer in turn.
 
-use crate::tables::{makes_flat, makes_refusing};
+use crate::tables::{exclaimed, makes_flat, makes_refusing};
 use std::alloc::{AllocError, Global};
+use std::cell::Cell;
 use tabled_grid::config::Position;
-use tabled_options::{Modify, TextRef};
-use tabled_select::object::Rows;
+use tabled_options::{Modify, Settings, TextRef};
+use tabled_select::location::Locator;
+use tabled_select::object::{ObjectIterator, Rows};
 use tabled_settings::duplicate::Dup;
 use tabled_settings::format::Format;
 use tabled_settings::formatting::Charset;
 
-/// What is left where n writes or answers are to be had.
+/// What is left where the first, the second, the third or the fourth write or answer is refused.
 const LEFT: [&str; 4] = ["a b c /!", "a! b c /!", "a! b! c /!", "a! b! c! /"];
-
-/// Adds an exclamation mark.
-fn exclaimed(alloc: Global, text: &str) -> Result<String, AllocError> {
-    format!(in alloc; "{text}!")
-}
 
 /// The same, wherever the text stands.
 fn exclaimed_at(alloc: Global, text: &str, _: Position) -> Result<String, AllocError> {
@@ -25,26 +22,45 @@ fn exclaimed_at(alloc: Global, text: &str, _: Position) -> Result<String, AllocE
 #[test]
 fn writes_are_refused_in_turn(rt: HostRuntime) {
     let alloc = rt.alloc();
-    for (left, want) in LEFT.iter().enumerate() {
+    for (before, want) in LEFT.iter().enumerate() {
+        let calls = (1, before.saturating_add(1));
         let content = Format::content(exclaimed);
-        assert!(rt; makes_refusing(alloc, left, "a b c /", content, *want));
+        assert!(rt; makes_refusing(alloc, calls, "a b c /", content, *want));
         let lines = Format::content(exclaimed).multiline();
-        assert!(rt; makes_refusing(alloc, left, "a b c /", lines, *want));
+        assert!(rt; makes_refusing(alloc, calls, "a b c /", lines, *want));
         let positioned = Format::positioned(exclaimed_at);
-        assert!(rt; makes_refusing(alloc, left, "a b c /", positioned, *want));
+        assert!(rt; makes_refusing(alloc, calls, "a b c /", positioned, *want));
     }
-    for (left, want) in [(0, "a b /!"), (1, "a b /!"), (2, "a b /")] {
+    for (set, want) in [(1, "a b /!"), (2, "a b /!"), (3, "a b /")] {
         let clean = Charset::new().clean();
-        assert!(rt; makes_refusing(alloc, left, "a b /", clean, want));
-        assert!(rt; makes_refusing(alloc, left, "a b /", Charset::new(), "a b /"));
+        assert!(rt; makes_refusing(alloc, (1, set), "a b /", clean, want));
+        assert!(rt; makes_refusing(alloc, (1, set), "a b /", Charset::new(), "a b /"));
     }
-    // The second write of a text is refused.
-    let first_row = Modify::list(Rows::first(), TextRef("x"));
-    assert!(rt; makes_refusing(alloc, 1, "a b c /", first_row, "x b c /!"));
-    for (left, want) in [(0, "a b / c d /!"), (1, "a b / a d /!"), (2, "a b / a b /")] {
+    for (set, want) in [(1, "a b / c d /!"), (2, "a b / a d /!"), (3, "a b / a b /")] {
         let dup = Dup::new(Rows::last(), Rows::first());
-        assert!(rt; makes_refusing(alloc, left, "a b / c d /", dup, want));
+        assert!(rt; makes_refusing(alloc, (1, set), "a b / c d /", dup, want));
     }
+}
+
+#[test]
+fn writes_where_closures_say_are_refused_in_turn(rt: HostRuntime) {
+    let alloc = rt.alloc();
+    for (before, want) in LEFT.iter().enumerate() {
+        let calls = (1, before.saturating_add(1));
+        let rows = Rows::first().filter(|_| true);
+        let filtered = Modify::list(rows, Format::positioned(exclaimed_at));
+        assert!(rt; makes_refusing(alloc, calls, "a b c /", filtered, *want));
+        let located = Modify::list(Locator::by(|_| true), Format::content(exclaimed));
+        assert!(rt; makes_refusing(alloc, calls, "a b c /", located, *want));
+    }
+    let never = Modify::list(Locator::by(|_| false), Format::content(exclaimed));
+    assert!(rt; makes_refusing(alloc, (1, 1), "a b c /", never, "a b c /"));
+}
+
+#[test]
+fn a_text_whose_second_write_is_refused_leaves_the_first(rt: HostRuntime) {
+    let first_row = Modify::list(Rows::first(), TextRef("x"));
+    assert!(rt; makes_refusing(rt.alloc(), (0, 2), "a b c /", first_row, "x b c /!"));
 }
 
 #[test]
@@ -63,5 +79,32 @@ fn answers_are_refused_in_turn(rt: HostRuntime) {
             exclaimed(alloc, text)
         });
         assert!(rt; makes_flat(alloc, "a b c /", positioned, *want));
+    }
+}
+
+#[test]
+fn answers_of_lines_are_refused_in_turn(rt: HostRuntime) {
+    let alloc = rt.alloc();
+    for (answers, want) in [
+        (0, "p\nq p\nq /!"),
+        (1, "p\nq p\nq /!"),
+        (2, "p!\nq! p\nq /!"),
+        (3, "p!\nq! p\nq /!"),
+        (4, "p!\nq! p!\nq! /"),
+    ] {
+        let left: Cell<usize> = Cell::new(answers);
+        let lines = Format::content(|alloc: Global, text: &str| {
+            left.set(left.get().checked_sub(1).ok_or(AllocError)?);
+            exclaimed(alloc, text)
+        });
+        let texts = Modify::list(Rows::first(), TextRef("p\nq"));
+        assert!(rt;
+            makes_flat(
+                alloc,
+                "a b /",
+                Settings::new(texts, lines.multiline()),
+                want
+            )
+        );
     }
 }

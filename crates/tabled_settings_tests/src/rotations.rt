@@ -1,6 +1,6 @@
 //! Tables that are turned, and rows or columns that are reversed.
 
-use crate::changes::{Change, makes, makes_refusing};
+use crate::changes::{Change, PLAIN, makes, makes_in_place, undoes};
 use std::alloc::{AllocError, Global};
 use std::test::Fail;
 use tabled_grid::config::Offset::{End, Start};
@@ -34,17 +34,16 @@ fn tables_are_turned(rt: HostRuntime) -> Result<(), Fail> {
 #[test]
 fn turns_that_are_refused_are_undone(rt: HostRuntime) -> Result<(), Fail> {
     let cases = [
-        (0, "a b c /", Change::Left, "a b c /!"),
-        (1, "a b c /", Change::Left, "a b c /!"),
-        (2, "a b c /", Change::Left, "c / b / a /"),
-        (0, "a / b / c /", Change::Right, "a / b / c /!"),
-        (1, "a / b / c /", Change::Right, "a / b / c /!"),
-        (2, "a / b / c /", Change::Right, "c b a /"),
-        (0, "a b / c d /", Change::Left, "b d / a c /"),
-        (0, "a b / c d /", Change::Top, "c d / a b /"),
+        ("a b c /", Change::Left, 2, "c / b / a /"),
+        ("a b c /", Change::Right, 2, "a / b / c /"),
+        ("a / b / c /", Change::Left, 2, "a b c /"),
+        ("a / b / c /", Change::Right, 2, "c b a /"),
+        ("a b / c d /", Change::Left, 0, "b d / a c /"),
+        ("a b / c d /", Change::Top, 0, "c d / a b /"),
+        ("a / b / c /", Change::Bottom, 0, "c / b / a /"),
     ];
-    for (left, old, turn, new) in cases {
-        assert!(rt; makes_refusing(rt.alloc(), left, old, turn, new));
+    for (old, turn, growths, new) in cases {
+        assert!(rt; undoes(rt.alloc(), old, PLAIN, turn, (growths, 0), new));
     }
     Ok(())
 }
@@ -90,7 +89,7 @@ fn rows_and_columns_are_reversed(rt: HostRuntime) -> Result<(), Fail> {
     for (old, reverse, new) in cases {
         let change = Change::Reverse(reverse);
         assert!(rt; makes(rt.alloc(), old, change, new));
-        assert!(rt; makes_refusing(rt.alloc(), 0, old, change, new));
+        assert!(rt; makes_in_place(rt.alloc(), old, change, new));
     }
     Ok(())
 }

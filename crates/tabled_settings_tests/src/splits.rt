@@ -1,7 +1,7 @@
 //! Tables with their rows or columns cut into pieces.
 
-use crate::changes::{Change, makes, makes_refusing};
-use crate::tables::made_flat;
+use crate::changes::{Change, PLAIN, makes, makes_in_place, undoes};
+use crate::tables::{made_flat, makes_refusing};
 use std::alloc::{AllocError, Global};
 use std::test::Fail;
 use tabled_settings::split::Split;
@@ -139,10 +139,10 @@ fn tables_without_longer_lines_stay(rt: HostRuntime) -> Result<(), Fail> {
         for index in [0, 5, 6, usize::MAX] {
             let split = Split::column(index);
             assert!(rt; makes(rt.alloc(), table, Change::Split(split), table));
-            assert!(rt; makes_refusing(rt.alloc(), 0, table, Change::Split(split.concat()), table));
+            assert!(rt; makes_in_place(rt.alloc(), table, Change::Split(split.concat()), table));
             let split = Split::row(index);
             assert!(rt; makes(rt.alloc(), table, Change::Split(split.retain()), table));
-            assert!(rt; makes_refusing(rt.alloc(), 0, table, Change::Split(split), table));
+            assert!(rt; makes_in_place(rt.alloc(), table, Change::Split(split), table));
         }
     }
     Ok(())
@@ -151,23 +151,34 @@ fn tables_without_longer_lines_stay(rt: HostRuntime) -> Result<(), Fail> {
 #[test]
 fn splits_that_are_refused_are_undone(rt: HostRuntime) -> Result<(), Fail> {
     // Columns, or rows, and the others are added: 1 + 4 of 2 x 5, and 1 + 2 of 3 x 2.
+    let wide = Split::column(2);
+    let tall = Split::row(2);
+    let zip = "a b / c d / e _ / f g / h i / j _ /";
+    let concat = "a b / f g / c d / h i / e _ / j _ /";
     let cases = [
-        (Split::column(2), WIDE, "a b c d e / f g h i j /!", 5),
-        (Split::row(2), "a _ / b _ / c _ /", "a _ / b _ / c _ /!", 3),
+        (WIDE, wide, 5, zip),
+        (WIDE, wide.retain(), 5, zip),
+        (WIDE, wide.concat(), 5, concat),
+        (WIDE, wide.concat().retain(), 5, concat),
+        ("a _ / b _ / c _ /", tall, 3, "a c _ / b _ _ /"),
+        ("a _ / b _ / c _ /", tall.concat(), 3, "a _ c / b _ _ /"),
+        ("a _ / b _ / c _ /", tall.retain(), 3, "a c _ _ / b _ _ _ /"),
+        (
+            "a _ / b _ / c _ /",
+            tall.concat().retain(),
+            3,
+            "a _ c _ / b _ _ _ /",
+        ),
     ];
-    for (split, old, refused, growths) in cases {
-        for split in [
-            split,
-            split.retain(),
-            split.concat(),
-            split.concat().retain(),
-        ] {
-            let change = Change::Split(split);
-            for left in 0..growths {
-                assert!(rt; makes_refusing(rt.alloc(), left, old, change, refused));
-            }
-            assert!(rt; !makes_refusing(rt.alloc(), growths, old, change, refused));
-        }
+    for (old, split, growths, new) in cases {
+        let change = Change::Split(split);
+        assert!(rt; undoes(rt.alloc(), old, PLAIN, change, (growths, 0), new));
     }
     Ok(())
+}
+
+#[test]
+fn a_split_whose_third_growth_is_refused_leaves_the_table(rt: HostRuntime) {
+    let split = Split::column(2).zip();
+    assert!(rt; makes_refusing(rt.alloc(), (3, 0), WIDE, split, "a b c d e / f g h i j /!"));
 }

@@ -2,9 +2,9 @@
 
 use std::alloc::{AllocError, Global};
 use tabled_grid::config::SpannedConfig;
-use tabled_grid::records::{CellText, ExactRecords, PeekableRecords, Records};
+use tabled_grid::records::{CellText, ExactRecords, PeekableRecords, Records, Refusing};
 use tabled_options::TableOption;
-use tabled_testing::{Flat, Nested, Refusing, flat, is_word, nested, spelled};
+use tabled_testing::{Flat, Nested, flat, is_word, nested, spelled};
 
 /// What an option makes of a table, with `!` after it where it was refused.
 pub(crate) fn made<R, O>(alloc: Global, mut records: R, option: O) -> Result<String, AllocError>
@@ -72,20 +72,37 @@ where
     is_word(made_nested(alloc, old, option), new)
 }
 
-fn made_refusing<O>(alloc: Global, left: usize, old: &str, option: O) -> Result<String, AllocError>
+fn made_refusing<O>(
+    alloc: Global,
+    calls: (usize, usize),
+    old: &str,
+    option: O,
+) -> Result<String, AllocError>
 where
     O: TableOption<Refusing<Flat>, SpannedConfig, ()> + Drop,
     requires { O.can_change option }
 {
     let store = flat(alloc, old)?;
-    made(alloc, Refusing { store, left }, option)
+    made(alloc, Refusing::new(store, calls.0, calls.1), option)
 }
 
-/// The same in a store that refuses all but n growths and writes. A refusal is told by `!`.
-pub(crate) fn makes_refusing<O>(alloc: Global, left: usize, old: &str, option: O, new: &str) -> bool
+/// The same in a store that refuses one growth and one write, each counted from 1, or none at 0. A refusal is
+/// told by `!`.
+pub(crate) fn makes_refusing<O>(
+    alloc: Global,
+    calls: (usize, usize),
+    old: &str,
+    option: O,
+    new: &str,
+) -> bool
 where
     O: TableOption<Refusing<Flat>, SpannedConfig, ()> + Drop,
     requires { O.can_change option }
 {
-    is_word(made_refusing(alloc, left, old, option), new)
+    is_word(made_refusing(alloc, calls, old, option), new)
+}
+
+/// Adds an exclamation mark.
+pub(crate) fn exclaimed(alloc: Global, text: &str) -> Result<String, AllocError> {
+    format!(in alloc; "{text}!")
 }

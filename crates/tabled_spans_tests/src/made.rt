@@ -7,13 +7,13 @@
 use std::alloc::{AllocError, Global};
 use tabled_grid::config::{Entity, Position, SpannedConfig};
 use tabled_grid::records::{
-    CellText, ExactRecords, PeekableRecords, Records, RecordsMut, Resizable,
+    CellText, ExactRecords, PeekableRecords, Records, RecordsMut, Refusing, Resizable,
 };
 use tabled_options::{CellOption, TableOption};
 use tabled_spans::merge::Merge;
 use tabled_spans::panel::Panel;
 use tabled_spans::span::Span;
-use tabled_testing::{Refusing, flat, is_word, nested, push_word, spelled};
+use tabled_testing::{flat, is_word, nested, push_word, spelled};
 
 /// An anchor with its row, column, height and width, a span on an entity, a panel or a merge, or nothing.
 #[derive(Clone, Copy)]
@@ -139,13 +139,13 @@ where
     Ok(words)
 }
 
-/// A kind of store: one vector of cells, a vector for each row, or one that refuses all but n growths
-/// and writes.
+/// A kind of store: one vector of cells, a vector for each row, or one that refuses one growth and one write,
+/// each counted from 1, or none at 0.
 #[derive(Clone, Copy)]
 pub(crate) enum Store {
     Flat,
     Nested,
-    Refusing(usize),
+    Refusing(usize, usize),
 }
 
 /// The same of a table that is spelled, in a store of a kind.
@@ -153,9 +153,9 @@ fn made_in(alloc: Global, store: Store, old: &str, steps: [Step; 3]) -> Result<S
     match store {
         Store::Flat => made(alloc, flat(alloc, old)?, steps),
         Store::Nested => made(alloc, nested(alloc, old)?, steps),
-        Store::Refusing(left) => {
+        Store::Refusing(growth, set) => {
             let store = flat(alloc, old)?;
-            made(alloc, Refusing { store, left }, steps)
+            made(alloc, Refusing::new(store, growth, set), steps)
         }
     }
 }
@@ -173,9 +173,8 @@ fn are_of_first_writes(
     before: Step,
     step: Step,
 ) -> Result<bool, AllocError> {
-    for left in 0..20 {
-        let store = flat(alloc, old)?;
-        let mut records = Refusing { store, left };
+    for set in 1..20 {
+        let mut records = Refusing::new(flat(alloc, old)?, 0, set);
         let mut cfg = SpannedConfig::new(alloc);
         change(alloc, &mut records, &mut cfg, before)?;
         let done = change(alloc, &mut records, &mut cfg, step).is_ok();

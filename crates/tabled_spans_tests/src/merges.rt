@@ -62,7 +62,7 @@ fn merges() -> [(&'static str, [Step; 3], &'static str); 11] {
 #[test]
 fn equal_neighbours_are_merged(rt: HostRuntime) -> Result<(), Fail> {
     // A merge takes no growth and no write.
-    for store in [Store::Flat, Store::Nested, Store::Refusing(0)] {
+    for store in [Store::Flat, Store::Nested, Store::Refusing(1, 1)] {
         for (old, steps, new) in merges() {
             assert!(rt; makes(rt.alloc(), store, old, steps, new));
         }

@@ -100,44 +100,73 @@ fn panels_are_put_in(rt: HostRuntime) -> Result<(), Fail> {
     Ok(())
 }
 
-/// What is left of tables where all but n growths and writes are refused.
-fn refused() -> [(&'static str, [Step; 3], usize, &'static str); 7] {
+/// What panels make of tables, each of one growth and one write.
+fn refusable() -> [(&'static str, [Step; 3], &'static str, &'static str); 6] {
     [
-        ("a b /", [Header("N"), Nothing, Nothing], 0, "a b /!"),
-        ("a b /", [Header("N"), Nothing, Nothing], 1, "a b /!"),
         (
             "a b /",
             [Header("N"), Nothing, Nothing],
-            2,
+            "a b /!",
             "N _ / a b / 0.0w2",
+        ),
+        (
+            "a b /",
+            [Footer("N"), Nothing, Nothing],
+            "a b /!",
+            "a b / N _ / 1.0w2",
         ),
         (
             "a b / c d /",
             [Anchor(0, 0, 1, 2), Row(1, "P"), Nothing],
-            1,
             "a b / c d / 0.0w2!",
+            "a b / P _ / c d / 0.0w2 1.0w2",
+        ),
+        (
+            "a b / c d /",
+            [Anchor(0, 0, 1, 2), Row(0, "P"), Nothing],
+            "a b / c d / 0.0w2!",
+            "P _ / a b / c d / 0.0w2 1.0w2",
         ),
         (
             "a b / c d /",
             [Anchor(0, 1, 2, 1), Column(1, "P"), Nothing],
-            1,
             "a b / c d / 0.1h2!",
+            "a P b / c _ d / 0.1h2 0.2h2",
         ),
         (
             "a b / c d /",
             [Column(2, "P"), Nothing, Nothing],
-            0,
             "a b / c d /!",
+            "a b P / c d _ / 0.2h2",
         ),
-        // Where nothing changes, nothing is refused.
-        ("a b /", [Row(2, "P"), Column(3, "P"), Nothing], 0, "a b /"),
     ]
 }
 
 #[test]
 fn refused_panels_leave_the_table(rt: HostRuntime) -> Result<(), Fail> {
-    for (old, steps, left, new) in refused() {
-        assert!(rt; makes(rt.alloc(), Store::Refusing(left), old, steps, new));
+    for (old, steps, refused, new) in refusable() {
+        for (growth, set, want) in [(1, 0, refused), (0, 1, refused), (2, 2, new)] {
+            let store = Store::Refusing(growth, set);
+            assert!(rt; makes(rt.alloc(), store, old, steps, want));
+        }
     }
     Ok(())
+}
+
+#[test]
+fn panels_that_change_nothing_are_not_refused(rt: HostRuntime) -> Result<(), Fail> {
+    for (old, steps) in [
+        ("a b /", [Row(2, "P"), Column(3, "P"), Nothing]),
+        ("/ /", [Header("N"), Footer("N"), Row(1, "N")]),
+        ("a / c /", [Row(3, "P"), Column(2, "P"), Nothing]),
+    ] {
+        assert!(rt; makes(rt.alloc(), Store::Refusing(1, 1), old, steps, old));
+    }
+    Ok(())
+}
+
+#[test]
+fn a_header_whose_text_is_refused_leaves_the_table(rt: HostRuntime) {
+    let steps = [Header("N"), Nothing, Nothing];
+    assert!(rt; makes(rt.alloc(), Store::Refusing(0, 1), "a b /", steps, "a b /!"));
 }

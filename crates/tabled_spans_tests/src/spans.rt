@@ -138,7 +138,7 @@ fn over_visible_cells() -> [(&'static str, [Step; 3], &'static str); 16] {
 
 #[test]
 fn spans_go_over_visible_cells(rt: HostRuntime) -> Result<(), Fail> {
-    for store in [Store::Flat, Store::Nested, Store::Refusing(0)] {
+    for store in [Store::Flat, Store::Nested, Store::Refusing(1, 1)] {
         for (old, steps, new) in over_visible_cells() {
             assert!(rt; makes(rt.alloc(), store, old, steps, new));
         }
@@ -255,57 +255,32 @@ fn spans_go_over_all_cells(rt: HostRuntime) -> Result<(), Fail> {
     Ok(())
 }
 
-/// What is left of tables where all but n writes are refused.
-fn refused() -> [(&'static str, [Step; 3], usize, &'static str); 11] {
+/// What is left of tables where the first, the second and each other write is refused, and at last none.
+fn refused() -> [(&'static str, [Step; 3], &'static [&'static str]); 5] {
     [
         (
             "a b c /",
             [SpanColumns(-1, Cell(0, 2)), Nothing, Nothing],
-            0,
-            "a b c /!",
+            &["a b c /!", "a c c /!", "a c _ / 0.1w2"],
         ),
         (
             "a b c /",
-            [SpanColumns(-1, Cell(0, 2)), Nothing, Nothing],
-            1,
-            "a c c /!",
-        ),
-        (
-            "a b c /",
-            [SpanColumns(-1, Cell(0, 2)), Nothing, Nothing],
-            2,
-            "a c _ / 0.1w2",
+            [SpanColumns(isize::MIN, Cell(0, 2)), Nothing, Nothing],
+            &["a b c /!", "c b c /!", "c _ c /!", "c _ _ / 0.0w3"],
         ),
         // Row by row, also for heights.
         (
             "a b / c d /",
             [SpanRows(-1, Global), Nothing, Nothing],
-            1,
-            "a b / c d /!",
-        ),
-        (
-            "a b / c d /",
-            [SpanRows(-1, Global), Nothing, Nothing],
-            3,
-            "c b / c d /!",
-        ),
-        (
-            "a b / c d /",
-            [SpanRows(-1, Global), Nothing, Nothing],
-            4,
-            "c b / _ d /!",
-        ),
-        (
-            "a b / c d /",
-            [SpanRows(-1, Global), Nothing, Nothing],
-            5,
-            "c d / _ d /!",
-        ),
-        (
-            "a b / c d /",
-            [SpanRows(-1, Global), Nothing, Nothing],
-            6,
-            "c d / _ _ / 0.0h2 0.1h2",
+            &[
+                "a b / c d /!",
+                "a b / c d /!",
+                "a b / c d /!",
+                "c b / c d /!",
+                "c b / _ d /!",
+                "c d / _ d /!",
+                "c d / _ _ / 0.0h2 0.1h2",
+            ],
         ),
         // The merged cells stay as they were, also hidden anchors.
         (
@@ -315,36 +290,43 @@ fn refused() -> [(&'static str, [Step; 3], usize, &'static str); 11] {
                 SpanColumns(0, Cell(0, 0)),
                 Nothing,
             ],
-            1,
-            "a b c / 0.1w2!",
+            &[
+                "a b c / 0.1w2!",
+                "a b c / 0.1w2!",
+                "a _ c / 0.1w2!",
+                "a _ _ / 0.0w3",
+            ],
         ),
+        // Those of size 1 and more write nothing.
         (
             "a b c /",
-            [
-                SpanColumns(2, Cell(0, 1)),
-                SpanColumns(0, Cell(0, 0)),
-                Nothing,
-            ],
-            2,
-            "a _ c / 0.1w2!",
-        ),
-        (
-            "a b c /",
-            [
-                SpanColumns(2, Cell(0, 1)),
-                SpanColumns(0, Cell(0, 0)),
-                Nothing,
-            ],
-            3,
-            "a _ _ / 0.0w3",
+            [SpanColumns(2, Cell(0, 1)), SpanRows(9, Global), Nothing],
+            &["a b c / 0.1w2"],
         ),
     ]
 }
 
 #[test]
 fn refused_spans_leave_their_first_writes(rt: HostRuntime) -> Result<(), Fail> {
-    for (old, steps, left, new) in refused() {
-        assert!(rt; makes(rt.alloc(), Store::Refusing(left), old, steps, new));
+    for (old, steps, left) in refused() {
+        for (before, want) in left.iter().enumerate() {
+            let store = Store::Refusing(1, before.saturating_add(1));
+            assert!(rt; makes(rt.alloc(), store, old, steps, *want));
+        }
     }
     Ok(())
+}
+
+#[test]
+fn a_span_whose_second_write_is_refused_leaves_the_first_and_merges_nothing(rt: HostRuntime) {
+    let steps = [SpanColumns(-1, Cell(0, 2)), Nothing, Nothing];
+    assert!(rt;
+        makes(
+            rt.alloc(),
+            Store::Refusing(0, 2),
+            "a b c /",
+            steps,
+            "a c c /!"
+        )
+    );
 }
