@@ -7,6 +7,9 @@ use crate::call::{Call, builder, spelled, texts};
 use crate::maps::{of_hashed_map, of_hashed_set, of_sorted_map, of_sorted_set};
 use std::alloc::{AllocError, Global};
 use std::test::Fail;
+use tabled_options::EmptySettings;
+use tabled_select::object::Rows;
+use tabled_table::TextRef;
 use tabled_table::builder::Builder;
 
 /// Makes a call, and says whether the builder is as it was if that is refused.
@@ -43,8 +46,9 @@ fn consume_rows(alloc: Global) -> Result<(), AllocError> {
     let rows = vec![in alloc; texts(alloc, "a b")?]?;
     let strings = Builder::from_strings(alloc, rows)?.into_strings(alloc)?;
     let cells = Builder::from_rows(alloc, strings)?.into_cells();
-    Builder::from_cells(alloc, cells)?.build(alloc)?;
-    Ok(())
+    let mut table = Builder::from_cells(alloc, cells)?.build(alloc)?;
+    table.with(alloc, EmptySettings)?;
+    table.modify(alloc, Rows::first(), TextRef("x"))
 }
 
 /// Makes the calls on an index that drop what they were given at a refusal.
