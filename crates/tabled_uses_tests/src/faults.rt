@@ -6,7 +6,12 @@ use tabled_language::parse;
 
 /// Says whether a script's first faulty line is one of a number, with a fault of a number. No line is 0.
 fn is_faulty(alloc: Global, script: &str, line: usize, fault: u8) -> Result<bool, AllocError> {
-    match parse(alloc, script.as_bytes())? {
+    are_faulty(alloc, script.as_bytes(), line, fault)
+}
+
+/// The same of the bytes of a script.
+fn are_faulty(alloc: Global, script: &[u8], line: usize, fault: u8) -> Result<bool, AllocError> {
+    match parse(alloc, script)? {
         Ok(_) => Ok(line == 0),
         Err((at, what)) => Ok(at == line && what.number() == fault),
     }
@@ -178,7 +183,7 @@ fn each_selector_may_be_too_deep(rt: HostRuntime) -> Result<(), Fail> {
 }
 
 /// Lines with a word that is unknown (1), missing (2) or no number (3).
-const LINES: [(&str, u8); 85] = [
+const LINES: [(&str, u8); 87] = [
     ("shape\tx\t0", 3),
     ("shape\t0\tx", 3),
     ("shape\t0", 2),
@@ -197,6 +202,7 @@ const LINES: [(&str, u8); 85] = [
     ("tabs\t4\tsome", 1),
     ("cspan\t+2\tall", 3),
     ("cspan\t10001\tall", 3),
+    ("cspan\t-10001\tall", 3),
     ("cspan\t2\tsome", 1),
     ("rspan\t-10001\tall", 3),
     ("rspan\t--2\tall", 3),
@@ -224,6 +230,7 @@ const LINES: [(&str, u8); 85] = [
     ("concat\tup\t-\t1\t1\tx", 1),
     ("concat\tvertical\t-\t0\t1\tx", 3),
     ("concat\thorizontal\t-\t1\t0\tx", 3),
+    ("concat\tvertical\t-\t10000\t10000", 2),
     ("set\tcell\t0\tx\tx", 3),
     ("set\trow", 2),
     ("set\tcolumn\tx\tx", 3),
@@ -271,5 +278,14 @@ fn each_word_may_be_unknown_or_no_number(rt: HostRuntime) -> Result<(), Fail> {
     for (line, fault) in LINES {
         assert!(rt; is_faulty(rt.alloc(), line, 1, fault)?, "{line:?}");
     }
+    Ok(())
+}
+
+#[test]
+fn a_bad_byte_or_escape_or_number_is_a_fault_of_its_line(rt: HostRuntime) -> Result<(), Fail> {
+    let alloc = rt.alloc();
+    assert!(rt; are_faulty(alloc, b"row\ta\n\xff", 2, 4)?);
+    assert!(rt; are_faulty(alloc, b"\nrow\ta\\", 2, 4)?);
+    assert!(rt; are_faulty(alloc, b"cspan\t-10001\tall", 1, 3)?);
     Ok(())
 }

@@ -4,11 +4,17 @@
 #[cfg(test)]
 mod alike;
 #[cfg(test)]
+mod covers;
+#[cfg(test)]
 mod faults;
 #[cfg(test)]
 mod fitting;
 #[cfg(test)]
+mod large;
+#[cfg(test)]
 mod places;
+#[cfg(test)]
+mod refused_steps;
 #[cfg(test)]
 mod rows;
 #[cfg(test)]
@@ -17,3 +23,5 @@ mod spans;
 mod steps;
 #[cfg(test)]
 mod stores;
+#[cfg(test)]
+mod worded;

@@ -1,9 +1,6 @@
-//! Merged cells: sizes set and read, what is hidden, and whether rectangles fit.
+//! Merged cells: sizes set and read, and whether rectangles fit.
 //!
 //! Merged cells are spelled by their anchors, each as `row col height width` with a semicolon after.
-
-ghost use Rattle.std.specs.Prelude.{◌≡◌};
-ghost use Rattle.tabled_grid.specs.Entity.{place};
 
 use Size::{Height, Width};
 use std::alloc::{AllocError, Global};
@@ -11,9 +8,10 @@ use std::test::Fail;
 use tabled_grid::config::{CoverMap, Position, SpannedConfig};
 
 /// An anchor: its row and column, and the height and the width of its rectangle.
-type Anchor = (usize, usize, usize, usize);
+pub(crate) type Anchor = (usize, usize, usize, usize);
 
-fn merged(alloc: Global, anchors: &[Anchor]) -> Result<SpannedConfig, AllocError> {
+/// The merged cells of anchors.
+pub(crate) fn merged(alloc: Global, anchors: &[Anchor]) -> Result<SpannedConfig, AllocError> {
     let mut spans = SpannedConfig::new(alloc);
     for (row, col, height, width) in anchors {
         let pos = Position::new(*row, *col);
@@ -239,122 +237,6 @@ fn keeps_what_lies_apart(rt: HostRuntime) -> Result<(), Fail> {
             keeps_fitting(rt.alloc(), anchors, rows, columns, left)?,
             "{left:?}"
         );
-    }
-    Ok(())
-}
-
-/// Whether a cell is visible, and whether a rectangle covers it from the left, and from above.
-fn told(spans: &SpannedConfig, row: usize, col: usize) -> (bool, bool, bool) {
-    let pos = Position::new(row, col);
-    let across = spans.is_cell_covered_by_column_span(pos);
-    let down = spans.is_cell_covered_by_row_span(pos);
-    (spans.is_cell_visible(pos), across, down)
-}
-
-#[test]
-fn tells_which_cells_are_covered(rt: HostRuntime) -> Result<(), Fail> {
-    let anchors: [Anchor; 1] = [(1, 1, 2, 3)];
-    let spans = merged(rt.alloc(), anchors.as_slice())?;
-    for (row, col, covered) in [
-        (1, 1, (true, false, false)),
-        (1, 3, (false, true, false)),
-        (2, 1, (false, false, true)),
-        (2, 2, (false, false, false)),
-        (1, 4, (true, false, false)),
-        (3, 1, (true, false, false)),
-        (0, 1, (true, false, false)),
-    ] {
-        assert!(rt; told(&spans, row, col) == covered, "{row} {col}");
-    }
-    Ok(())
-}
-
-/// Which cells of the rows and columns 0 and 1 are hidden, row by row.
-fn hidden(alloc: Global, anchors: &[Anchor]) -> Result<[bool; 4], AllocError> {
-    let cover = CoverMap::new(alloc, &merged(alloc, anchors)?, 2, 2)?;
-    Ok([
-        cover.is_hidden(Position::new(0, 0)),
-        cover.is_hidden(Position::new(0, 1)),
-        cover.is_hidden(Position::new(1, 0)),
-        cover.is_hidden(Position::new(1, 1)),
-    ])
-}
-
-#[test]
-fn keeps_which_cells_are_hidden(rt: HostRuntime) -> Result<(), Fail> {
-    let past: [Anchor; 3] = [(0, 0, 3, 1), (0, 1, 1, 9), (5, 5, 2, 2)];
-    let whole: [Anchor; 1] = [(0, 0, 2, 2)];
-    let far: [Anchor; 1] = [(usize::MAX, usize::MAX, 2, 2)];
-    for (anchors, cells) in [
-        (past.as_slice(), [false, false, true, false]),
-        (whole.as_slice(), [false, true, true, true]),
-        (far.as_slice(), [false; 4]),
-    ] {
-        assert!(rt; hidden(rt.alloc(), anchors)? == cells);
-    }
-    Ok(())
-}
-
-#[test]
-fn refuses_a_block_past_the_largest_number(rt: HostRuntime) {
-    let none = SpannedConfig::new(rt.alloc());
-    assert!(rt; CoverMap::new(rt.alloc(), &none, usize::MAX, 2).is_err());
-}
-
-/// Sets the sizes of an anchor, which a map of hidden cells follows.
-fn follow(
-    alloc: Global,
-    spans: &mut SpannedConfig,
-    cover: &mut CoverMap,
-    anchor: Anchor,
-) -> Result<(), AllocError>
-    ensures first { cover.new.first ≡ cover.old.first }
-    ensures rows { cover.new.rows ≡ cover.old.rows }
-    ensures columns { cover.new.columns ≡ cover.old.columns }
-{
-    let (row, col, height, width) = anchor;
-    let pos = Position::new(row, col);
-    let old_height = spans.get_row_span(pos).unwrap_or(1);
-    let old_width = spans.get_column_span(pos).unwrap_or(1);
-    spans.set_row_span(alloc, pos, height)?;
-    spans.set_column_span(alloc, pos, width)?;
-    cover.replace(pos, (old_height, old_width), (height, width));
-    Ok(())
-}
-
-/// Whether a map of 3 x 3 cells hides those that aren't visible.
-fn hides(cover: &CoverMap, spans: &SpannedConfig) -> bool
-    requires first { cover.now.first ≡ place 0 0 }
-    requires rows { cover.now.rows ≡ 3 }
-    requires columns { cover.now.columns ≡ 3 }
-{
-    for row in 0..3 {
-        for col in 0..3 {
-            let cell = Position::new(row, col);
-            if cover.is_hidden(cell) == spans.is_cell_visible(cell) {
-                return false;
-            }
-        }
-    }
-    true
-}
-
-#[test]
-fn follows_sizes_that_change(rt: HostRuntime) -> Result<(), Fail> {
-    let mut spans = SpannedConfig::new(rt.alloc());
-    let mut cover = CoverMap::new(rt.alloc(), &spans, 3, 3)?;
-    let changes: [Anchor; 7] = [
-        (0, 0, 1, 2),
-        (0, 1, 3, 1),
-        (0, 0, 2, 2),
-        (1, 0, 1, 9),
-        (0, 1, 1, 1),
-        (7, 0, 2, 2),
-        (0, 0, 1, 1),
-    ];
-    for anchor in changes {
-        follow(rt.alloc(), &mut spans, &mut cover, anchor)?;
-        assert!(rt; hides(&cover, &spans), "{anchor:?}");
     }
     Ok(())
 }
