@@ -66,7 +66,7 @@ def own(top, crate, name):
     crates, libraries = crates_of(top), [it for it in below(top, crate) if it in crates_of(top)]
     prefix = "tabled_"
     listed = ",".join(it.removeprefix(prefix) for it in libraries)
-    lines = [f'git -C "$FEHAKIMU" archive HEAD crates/{prefix}{{{listed}}} | tar -x']
+    lines = [f'tar -C "$FEHAKIMU" --exclude=out -c crates/{prefix}{{{listed}}} | tar -x']
     lines += [f"mkdir -p crates/{name}/src", f'cp "$FEHAKIMU"/crates/{crate}/src/main.rt crates/{name}/src']
     lines += ["cat > crates.txt << END"]
     lines += [f"{it}: {' '.join(crates[it])}".rstrip() for it in libraries]
