@@ -3,12 +3,13 @@ use Rattle.std.specs.Prelude.{ℕ, List, map}
 use Rattle.std.specs.Global.{Vec}
 use Rattle.std.specs.String.{string_bytes}
 use Rattle.tabled_language.specs.declared.lent.LentText.{LentText}
-use Rattle.tabled_language.specs.declared.lent.LentText.TheVariants.{Lent, Own}
+use Rattle.tabled_language.specs.declared.lent.LentText.TheVariants.{Lent, Short, Own}
 
 -- the text, as its bytes
 abbrev pub bytes_of : LentText → List ℕ
 bytes_of (Lent text) = text.now
-bytes_of (Own text) = string_bytes text
+bytes_of (Short text) = text
+bytes_of (Own text) = string_bytes text.value
 
 -- the texts of a row
 abbrev pub texts_of : Vec LentText → List (List ℕ)

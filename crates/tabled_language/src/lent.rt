@@ -3,16 +3,19 @@
 ghost use Rattle.std.specs.Prelude.{◌≡◌, []};
 ghost use Rattle.tabled_language.specs.Lent.{bytes_of};
 
-use std::alloc::Global;
+use crate::short::ShortText;
+use std::alloc::{AllocError, Global};
 use tabled_grid::records::{Blank, CellText, FromText};
 
-/// A text that stands in the bytes of a script, or that has memory of its own. Both are cells.
+/// A text that stands in the bytes of a script, one that stands in the cell, or one that has memory of
+/// its own. All are cells.
 ///
 /// Of this project.
 #[derive(Drop)]
 pub enum LentText<'a> {
     Lent(&'a str),
-    Own(String),
+    Short(ShortText),
+    Own(Box<String>),
 }
 
 impl<'a> Blank for LentText<'a> {
@@ -31,13 +34,27 @@ impl<'a> CellText for LentText<'a> {
     fn text(&self) -> &str {
         match self {
             LentText::Lent(text) => text,
+            LentText::Short(text) => text.as_str(),
             LentText::Own(text) => text.as_str(),
         }
     }
 }
 
 impl<'a> FromText for LentText<'a> {
-    fn from_text(text: String) -> Self {
-        LentText::Own(text)
+    fn from_string(alloc: Global, text: String) -> Result<Self, AllocError> {
+        match ShortText::new(text.as_str()) {
+            Some(short) => Ok(LentText::Short(short)),
+            None => Ok(LentText::Own(Box::new(alloc, text)?)),
+        }
+    }
+
+    fn from_text(alloc: Global, text: &str) -> Result<Self, AllocError> {
+        match ShortText::new(text) {
+            Some(short) => Ok(LentText::Short(short)),
+            None => Ok(LentText::Own(Box::new(
+                alloc,
+                String::from_str(alloc, text)?,
+            )?)),
+        }
     }
 }

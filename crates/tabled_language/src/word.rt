@@ -9,6 +9,7 @@ ghost use Rattle.tabled_language.specs.Word.{escape, integer_of, number_of, numb
 use crate::lent::LentText;
 use std::alloc::{AllocError, Global};
 use std::str;
+use tabled_grid::records::FromText;
 
 /// The largest number that a step may name.
 const LARGEST_NUMBER: usize = 10_000;
@@ -71,7 +72,7 @@ pub(crate) fn lent_text<'a>(
         let Some(text) = text_of_word(alloc, word)? else {
             return Ok(None);
         };
-        return Ok(Some(LentText::Own(text)));
+        return Ok(Some(LentText::from_string(alloc, text)?));
     }
     match str::from_utf8(word) {
         Ok(text) => Ok(Some(LentText::Lent(text))),

@@ -1,4 +1,4 @@
-//! The table of the code in the README.
+//! A table of languages, made and changed.
 
 use std::alloc::{AllocError, Global};
 use std::collections::BTreeMap;

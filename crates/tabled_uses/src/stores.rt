@@ -32,7 +32,7 @@ pub fn two_rows(alloc: Global) -> Result<Vec<Vec<Text<String>>>, AllocError>
     Ok(vec![in alloc; first, second]?)
 }
 
-/// The table of the script in the README.
+/// A table of fruits, one count of which is written after it is made.
 pub fn fruits(alloc: Global) -> Result<VecRecords<Text<String>>, AllocError> {
     let head = pair(alloc, "Fruit", "Count")?;
     let apple = pair(alloc, "Apple", "3")?;

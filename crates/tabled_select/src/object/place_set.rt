@@ -13,7 +13,7 @@ use std::alloc::{AllocError, Global};
 use tabled_grid::config::{Entity, Position};
 
 /// All cells of a table are given a mark, where it has no more cells than this for each that is named.
-const CELLS_PER_NAMED: usize = 8;
+const CELLS_PER_NAMED: usize = 128;
 
 /// Some of the places of a table.
 #[derive(Drop)]

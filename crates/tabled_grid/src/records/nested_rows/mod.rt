@@ -66,15 +66,15 @@ impl<T: CellText> PeekableRecords for Vec<Vec<T>> {
 }
 
 impl<T: FromText> RecordsMut<String> for Vec<Vec<T>> {
-    fn set(&mut self, _alloc: Global, pos: Position, text: String) -> Result<(), AllocError> {
-        write(self, pos, T::from_text(text));
+    fn set(&mut self, alloc: Global, pos: Position, text: String) -> Result<(), AllocError> {
+        write(self, pos, T::from_string(alloc, text)?);
         Ok(())
     }
 }
 
 impl<'a, T: FromText> RecordsMut<&'a str> for Vec<Vec<T>> {
     fn set(&mut self, alloc: Global, pos: Position, text: &'a str) -> Result<(), AllocError> {
-        write(self, pos, T::from_text(String::from_str(alloc, text)?));
+        write(self, pos, T::from_text(alloc, text)?);
         Ok(())
     }
 }

@@ -154,15 +154,15 @@ impl<T: CellText> PeekableRecords for VecRecords<T> {
 }
 
 impl<T: FromText> RecordsMut<String> for VecRecords<T> {
-    fn set(&mut self, _alloc: Global, pos: Position, text: String) -> Result<(), AllocError> {
-        self.write(pos, T::from_text(text));
+    fn set(&mut self, alloc: Global, pos: Position, text: String) -> Result<(), AllocError> {
+        self.write(pos, T::from_string(alloc, text)?);
         Ok(())
     }
 }
 
 impl<'a, T: FromText> RecordsMut<&'a str> for VecRecords<T> {
     fn set(&mut self, alloc: Global, pos: Position, text: &'a str) -> Result<(), AllocError> {
-        self.write(pos, T::from_text(String::from_str(alloc, text)?));
+        self.write(pos, T::from_text(alloc, text)?);
         Ok(())
     }
 }

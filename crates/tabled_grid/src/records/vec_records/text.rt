@@ -5,7 +5,7 @@ ghost use Rattle.std.specs.Prelude.{◌≡◌};
 use crate::records::blank::Blank;
 use crate::records::cell_text::CellText;
 use crate::records::from_text::FromText;
-use std::alloc::Global;
+use std::alloc::{AllocError, Global};
 use std::marker::Model;
 
 /// A cell that holds its text alone. A contract sees it as that text.
@@ -75,7 +75,7 @@ impl<S: CellText> CellText for Text<S> {
 }
 
 impl FromText for Text<String> {
-    fn from_text(text: String) -> Self {
-        Text { text }
+    fn from_string(_alloc: Global, text: String) -> Result<Self, AllocError> {
+        Ok(Text { text })
     }
 }

@@ -1,0 +1,55 @@
+//! Texts that stand in a few bytes.
+
+ghost use Rattle.std.specs.Prelude.{◌≡◌, IfSome};
+
+use std::marker::Model;
+use std::str;
+
+/// A text of at most fifteen bytes, which stand in it. A contract sees it as its bytes.
+///
+/// With its length it is as large as a text that is lent.
+///
+/// Of this project.
+#[derive(Drop)]
+pub struct ShortText {
+    bytes: [u8; 15],
+    len: u8,
+}
+
+impl Model for ShortText {
+    ghost use Rattle.std.specs.Prelude.{◌≡◌, ℕ, List, ◌≤◌, length, take, IsUtf8};
+
+    ghost Value = { List ℕ };
+
+    ghost view = { λ a. take a.len a.bytes };
+
+    ghost invariant = { λ a. (a.len ≤ 15) × (length a.bytes ≡ 15) × ∥ IsUtf8 (take a.len a.bytes) ∥₁ };
+}
+
+impl ShortText {
+    /// The text, if it has at most fifteen bytes.
+    pub(crate) fn new(text: &str) -> Option<Self>
+        ensures { IfSome result (λ short. short ≡ text.now) }
+    {
+        let len = text.len();
+        if len > 15 {
+            return None;
+        }
+        let mut bytes = [0; 15];
+        bytes[..len].copy_from_slice(text.as_bytes());
+        Some(ShortText {
+            bytes,
+            len: len as u8,
+        })
+    }
+
+    /// The text.
+    pub(crate) fn as_str(&self) -> &str
+        ensures { result.now ≡ self.now }
+    {
+        match str::from_utf8(&self.bytes[..self.len as usize]) {
+            Ok(text) => text,
+            Err(_) => "",
+        }
+    }
+}
