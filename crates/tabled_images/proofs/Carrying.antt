@@ -249,9 +249,6 @@ module _ (places : Places) (es xs : List Anchor) (i rows columns : ℕ) (d : Anc
   pub next-none : Images places (take i es) xs → ((f : Anchor) → Carries places (get_or es i d) f → IsFull f → ⊥) → Images places (take (i + 1) es) xs
   next-none im none = subst (λ (done : List Anchor). Images places done xs) (sym (take_more es i d here)) (images-none places (take i es) xs (get_or es i d) im none)
 
-pub images-start : (places : Places) (es : List Anchor) → Images places (take 0 es) []
-images-start places es = record { comes = λ f none. absurd none; goes = λ e f none c full. absurd none; once = λ q. omega arith }
-
 -- sorted by their places, each once, they rise
 pub rising-sorted : (places : Places) (es ys : List Anchor) → IsSortedByKey (λ (f : Anchor). f.0) position_cmp ys → Images places es ys → T (is_sorted position_cmp ys)
 rising-sorted places es ys up im = rising ys (λ k d h. let P : ℕ → Type 0 = λ n. is_lt (position_cmp (get_or ys n d).0 (get_or ys k d).0) ≡ false in subst P (add-one k) (up k d (omega arith) h)) im.once

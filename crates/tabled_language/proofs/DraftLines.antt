@@ -10,7 +10,7 @@ use Rattle.tabled_grid.specs.Grid.{Grid}
 use Rattle.tabled_language.specs.declared.fault.Fault.{Fault}
 use Rattle.tabled_language.specs.declared.fault.Fault.TheVariants.{OutOfPlace}
 use Rattle.tabled_language.specs.Drafts.{draft_of, fault_behind, is_nil, shape_among, shape_misfit, takes}
-use Rattle.tabled_language.specs.Line.{anchor_in, fault_of, first_fault, is_in_place, may_follow, record_in, shape_fault, shape_in, step_in, words_fault}
+use Rattle.tabled_language.specs.Line.{anchor_in, fault_of, first_fault, is_in_place, may_follow, record_in, shape_fault, step_in, words_fault}
 use Rattle.tabled_language.proofs.LooseLines.{loose_place}
 use Rattle.tabled_language.specs.Verb.{Line, EmptyLine, ShapeLine, RecordLine, SpanLine, StepLine, FaultyLine}
 
@@ -32,15 +32,6 @@ and_both a false = and_false a
 and_three : (a b c : Bool) → (a && (b && (c && false))) ≡ false
 and_three a b true = and_both a b
 and_three a b false = and_both a b
-
--- whether a line says a shape doesn't depend on the number that it gets
-none_anywhere : (m n : ℕ) (lines : List Line) → is_none (shape_among m lines) ≡ is_none (shape_among n lines)
-none_anywhere m n [] = refl
-none_anywhere m n (line ∷ lines) = by (shape_in line) refl (none_anywhere (m + 1) (n + 1) lines)
-  where
-    by : (o : Option (ℕ × ℕ)) → shape_in line ≡ o → is_none (shape_among (m + 1) lines) ≡ is_none (shape_among (n + 1) lines) → is_none (shape_among m (line ∷ lines)) ≡ is_none (shape_among n (line ∷ lines))
-    by None e later = rw e later
-    by (Some shape) e later = rw e refl
 
 shape_place : (read : Result (ℕ × ℕ) Fault) (n : ℕ) (lines : List Line) → AllByRecursion IsSound lines → is_in_place lines (ShapeLine read) ≡ (is_none (shape_among n lines) && (is_nil (filter_map record_in lines) && (is_nil (filter_map anchor_in lines) && is_nil (filter_map step_in lines))))
 shape_place read n [] sound = refl

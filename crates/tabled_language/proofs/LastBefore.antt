@@ -17,10 +17,6 @@ before q n below = rw (lt-ltb q n below) refl
 pub below_when_before : (q n : ℕ) → nat_cmp q n ≡ Less → q < n
 below_when_before q n is = subst (λ (o : Ordering). MatchOrdering o (q < n) (q ≡ n) (n < q)) is (ranked q n (nat_cmp q n) refl)
 
--- there is none
-pub none_before : (m : BTreeMap ℕ Anchor) (n : ℕ) (r : List (ℕ × Anchor)) → IsRangeOf nat_cmp Unbounded (Excluded n) m r → r ≡ [] → (q : ℕ) → q < n → get nat_cmp m q ≡ None
-none_before m n r h none q below = h.5 none q (tt, before q n below)
-
 -- or none after it
 pub none_between : (m : BTreeMap ℕ Anchor) (n : ℕ) (r t : List (ℕ × Anchor)) (e : ℕ × Anchor) → IsRangeOf nat_cmp Unbounded (Excluded n) m r → r ≡ t ++ e ∷ [] → (q : ℕ) → e.0 < q → q < n → get nat_cmp m q ≡ None
 none_between m n r t e h ends q above below = by (get nat_cmp m q) refl

@@ -57,10 +57,6 @@ all-not : (f : Anchor) (es : List Anchor) → AllByRecursion (λ (e : Anchor). m
 all-not f [] h = refl
 all-not f (e ∷ es) h = and_from _ _ (not_from_false _ h.0) (all-not f es h.1)
 
-not-all : (f : Anchor) (es : List Anchor) → list_all (λ (e : Anchor). not (meets f e)) es ≡ true → AllByRecursion (λ (e : Anchor). meets f e ≡ false) es
-not-all f [] h = tt
-not-all f (e ∷ es) h = let parts = and_parts _ _ h in (not-true _ parts.0, not-all f es parts.1)
-
 placed-from : (rows columns : ℕ) (done es : List Anchor) → have_places rows columns done es ≡ true → Placed rows columns es × MeetNone done es
 unfolding IsDistinct
 placed-from rows columns done [] h = (record { inside = tt; apart = tt }, tt)
@@ -93,10 +89,6 @@ same_meet e f s t same =
 
 T-from : (b : Bool) → b ≡ true → T b
 T-from b h = subst T (sym h) tt
-
-T-to : (b : Bool) → T b → b ≡ true
-T-to true h = refl
-T-to false h = absurd h
 
 both : (a b : Bool) → T a → T b → T (a && b)
 both true b p q = q
@@ -200,14 +192,6 @@ misfit_found rows columns es i j next within before fails = record { within = om
         let more : take j es ≡ take i es ++ get_or es i d ∷ [] = ap (λ n. take n es) next ∙ take_more es i d (omega (arith, next, within)) in
         let whole : fit_in rows columns (take j es) ≡ (fit_in rows columns (take i es) && has_place rows columns (take i es) (get_or es i d)) = ap (fit_in rows columns) more ∙ have_places-push rows columns [] (take i es) (get_or es i d) in
         ap (λ b. b && has_place rows columns (take i es) (get_or es i d)) (sym before) ∙ sym whole ∙ fails
-
--- where some anchor has no place there is one
-pub some_misfit : (rows columns : ℕ) (es : List Anchor) → fit_in rows columns es ≡ false → 0 < length es
-some_misfit rows columns [] h = absurd (never h)
-  where
-    never : true ≡ false → ⊥
-    never e = cc
-some_misfit rows columns (e ∷ es) h = omega arith
 
 -- what sorting gives
 pub record InOrder (es fs : List Anchor) : Type 0 where

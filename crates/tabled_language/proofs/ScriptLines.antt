@@ -2,7 +2,7 @@
 use Rattle.std.specs.Prelude.{codes, map, is_ok}
 use Rattle.std.specs.Str.{bytes_eq}
 use Rattle.std.proofs.lemmas.Slice.Eq.{bytes_eq-Decides}
-use Rattle.std.proofs.Common.{◌≡◌, ◌≢◌, ℕ, Bool, true, false, cond, ◌+◌, ◌<◌, List, [], ◌∷◌, ◌++◌, ◌&&◌, length, Option, Some, None, Result, Ok, Err, refl, sym, ap, ◌∙◌, arith}
+use Rattle.std.proofs.Common.{◌≡◌, ◌≢◌, ℕ, Bool, true, false, cond, ◌+◌, ◌<◌, List, [], ◌∷◌, ◌++◌, ◌&&◌, length, Option, Some, None, Result, Ok, Err, refl, sym, ap, ◌∙◌}
 use Rattle.std.proofs.lemmas.Bool.{and_from, and_parts, not-true}
 use Rattle.std.proofs.lemmas.List.{append-nil, append_assoc, length-append}
 use Rattle.std.proofs.lemmas.Option.{none-some}
@@ -36,10 +36,6 @@ pub record HasRead (all rest : List (List ℕ)) (number : ℕ) (draft : Draft) :
   pub faults : first_fault fault_of earlier (map line_of rest) ≡ first_fault fault_of [] (map line_of all)
   pub memory : lines_ask earlier rest ≡ true → lines_ask [] all ≡ true
   pub spans : 0 < length draft.anchors → lines_ask [] all ≡ true
-
--- no line is read yet
-pub has_read-none : (all : List (List ℕ)) → HasRead all all 0 (draft_of [])
-has_read-none all = record { earlier = []; split = refl; counted = refl; is = refl; sound = tt; faults = refl; memory = λ asks. asks; spans = λ some. absurd (omega (arith, some)) }
 
 -- each line is read or left
 pub has_read-counts : {all rest : List (List ℕ)} {number : ℕ} {draft : Draft} → HasRead all rest number draft → number + length (map line_of rest) ≡ length (map line_of all)

@@ -28,16 +28,6 @@ pub record IsWalked (done : List Anchor) (m : BTreeMap ℕ Anchor) (row : ℕ) :
 nothing : {P : Type 0} (m : BTreeMap ℕ Anchor) (q : ℕ) (f : Anchor) → m.entries ≡ [] → get nat_cmp m q ≡ Some f → P
 nothing m q f none is = absurd (none-some f (sym (rw none refl) ∙ is))
 
--- nothing is gone through yet
-pub walked-none : (m : BTreeMap ℕ Anchor) (row : ℕ) → m.entries ≡ [] → IsWalked [] m row
-walked-none m row none = record {
-  kept = tt;
-  keyed = λ q f is. nothing m q f none is;
-  begun = λ q f is. nothing m q f none is;
-  beside = λ q r f g is. nothing m q f none is;
-  among = λ q f is. nothing m q f none is;
-}
-
 -- what may reach a later row
 pub walked-later : (done : List Anchor) (m : BTreeMap ℕ Anchor) (row later : ℕ) → row ≤ later → IsWalked done m row → IsWalked done m later
 walked-later done m row later le h = record {
@@ -180,9 +170,6 @@ pub record HasWalked (rows columns : ℕ) (es : List Anchor) (k : ℕ) (m : BTre
   pub walked : IsWalked (take k es) m row
   pub below : (d : Anchor) → k < length es → row ≤ (get_or es k d).0.row
   pub fits : fit_in rows columns (take k es) ≡ true
-
-pub has_walked-none : (rows columns : ℕ) (es : List Anchor) (m : BTreeMap ℕ Anchor) → m.entries ≡ [] → HasWalked rows columns es 0 m
-has_walked-none rows columns es m none = record { row = 0; walked = walked-none m 0 none; below = λ d within. omega arith; fits = refl }
 
 -- none has a place after one that has none
 cut_short : (rows columns : ℕ) (done xs ys : List Anchor) → have_places rows columns done xs ≡ false → have_places rows columns done (xs ++ ys) ≡ false

@@ -1,14 +1,12 @@
 -- Ranges that are cut at a limit, and marks of what is located.
-use Rattle.std.proofs.Common.{◌≡◌, ◌∙◌, ℕ, zero, suc, ◌+◌, ◌-◌, ◌<◌, ◌≤◌, Bool, true, false, List, [], ◌∷◌, ◌++◌, inl, inr, length, set, refl, sym, ap, arith}
+use Rattle.std.proofs.Common.{◌≡◌, ◌∙◌, ℕ, zero, suc, ◌+◌, ◌-◌, ◌<◌, ◌≤◌, Bool, true, false, List, [], ◌∷◌, inl, inr, refl, sym, ap, arith}
 use Rattle.std.specs.Prelude.{◌==◌, ◌||◌, Some, min, replicate}
 use Rattle.std.specs.List.{filter, range_with_len}
 use Rattle.std.specs.Cmp.{nat_cmp_is}
 use Rattle.std.specs.Ordering.{is_lt, nat_cmp, partial_lt}
 use Rattle.std.specs.declared.cmp.Ordering.TheVariants.{Equal, Greater, Less}
-use Rattle.std.proofs.Math.Bool.{or-false, or-true}
-use Rattle.std.proofs.lemmas.Bool.{cases_eq, cases_lt, eq-eqb, ne_eqb}
-use Rattle.std.proofs.lemmas.List.{get_or-replicate, get_or-set_same, get_or-set_other, length-replicate, length-set}
-use Rattle.std.proofs.lemmas.List.Folds.{list_any-append}
+use Rattle.std.proofs.lemmas.Bool.{cases_eq, cases_lt, ne_eqb}
+use Rattle.std.proofs.lemmas.List.{get_or-replicate, length-replicate}
 use Rattle.tabled_select.specs.Located.{AllOrThose, TellsLocated, is_located}
 
 -- an index is below a limit
@@ -43,29 +41,6 @@ pub none-told : (count : ℕ) → TellsLocated [] count (replicate count false)
 none-told count = record {
   many = length-replicate count false;
   tells = λ i h. get_or-replicate count i false false h;
-}
-
-located-more : (found : List ℕ) (x i : ℕ) → is_located (found ++ x ∷ []) i ≡ (is_located found i || ((x == i) || false))
-located-more found x i = list_any-append (λ (k : ℕ). k == i) found (x ∷ [])
-
-not-located : (found : List ℕ) (x i : ℕ) → (x ≡ i → ⊥) → is_located (found ++ x ∷ []) i ≡ is_located found i
-not-located found x i d = located-more found x i ∙ (rw (ne_eqb x i d) (or-false (is_located found i)))
-
--- one more index that has a mark
-pub one-told : (found : List ℕ) (count x : ℕ) (marks : List Bool) → TellsLocated found count marks → x < length marks → TellsLocated (found ++ x ∷ []) count (set marks x true)
-one-told found count x marks told h = record {
-  many = length-set marks x true ∙ told.many;
-  tells = λ i k. elim (cases_eq x i) [
-    | inl e ↦ rw (← e) (get_or-set_same marks x true false h ∙ sym (located-more found x x ∙ rw (eq-eqb x x refl) (or-true (is_located found x))))
-    | inr d ↦ get_or-set_other marks x i true false (λ e. d (sym e)) ∙ told.tells i k ∙ sym (not-located found x i d)
-  ];
-}
-
--- one more index that has none
-pub one-passed : (found : List ℕ) (count x : ℕ) (marks : List Bool) → TellsLocated found count marks → length marks ≤ x → TellsLocated (found ++ x ∷ []) count marks
-one-passed found count x marks told h = record {
-  many = told.many;
-  tells = λ i k. told.tells i k ∙ sym (not-located found x i (λ e. absurd (omega (arith, told.many, h, k, e))));
 }
 
 located-below : (found : List ℕ) (count i : ℕ) → i < count → is_located (filter (below count) found) i ≡ is_located found i

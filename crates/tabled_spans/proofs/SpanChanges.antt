@@ -1,11 +1,9 @@
 -- Sizes that are set at rising places, and what spans make of them.
-use Rattle.std.proofs.Common.{◌≡◌, ℕ, ◌+◌, ◌-◌, ◌<◌, ◌≤◌, ◌≢◌, ◌⊎◌, inl, inr, true, false, List, [], ◌∷◌, ◌++◌, Some, None, Option, refl, sym, ap, subst, ◌∙◌, append_assoc, arith}
-use Rattle.std.proofs.lemmas.List.{append-nil}
-use Rattle.std.specs.Prelude.{T, min, SomeIff}
+use Rattle.std.proofs.Common.{◌≡◌, ℕ, ◌+◌, ◌-◌, ◌<◌, ◌≤◌, ◌≢◌, ◌⊎◌, inl, inr, true, false, List, [], ◌∷◌, ◌++◌, refl, sym, ap, subst, ◌∙◌, append_assoc, arith}
+use Rattle.std.specs.Prelude.{T, min}
 use Rattle.std.specs.FinMap.{is_sorted}
 use Rattle.std.specs.FinMap.Entries.{below_all}
-use Rattle.std.specs.List.{AllByRecursion, list_all}
-use Rattle.std.specs.Option.{unwrap_or}
+use Rattle.std.specs.List.{list_all}
 use Rattle.std.specs.Ordering.{is_eq}
 use Rattle.std.specs.declared.cmp.Ordering.TheVariants.{Less}
 use Rattle.std.proofs.lemmas.Bool.{cases_Bool}
@@ -13,7 +11,7 @@ use Rattle.std.proofs.lemmas.Cmp.{tied_itself}
 use Rattle.tabled_grid.specs.Anchors.{Anchor}
 use Rattle.tabled_grid.specs.Covers.{cover_in}
 use Rattle.tabled_grid.specs.Rectangles.{is_visible}
-use Rattle.tabled_grid.specs.Spans.{IsSizeAt, SpanMap, position_cmp, size_at, with_size, with_sizes}
+use Rattle.tabled_grid.specs.Spans.{SpanMap, position_cmp, size_at, with_size, with_sizes}
 use Rattle.tabled_grid.specs.declared.config.position.Position.{Position}
 use Rattle.tabled_grid.specs.declared.records.axis.Axis.{Axis}
 use Rattle.tabled_grid.specs.declared.records.axis.Axis.TheVariants.{Rows, Columns}
@@ -80,24 +78,6 @@ sorted-change axis m p many xs rest up = subst (λ (es : List Anchor). T (is_sor
     either : (list_all (is_visible m) (stretch axis p (line_of axis p) many) ≡ true) ⊎ (list_all (is_visible m) (stretch axis p (line_of axis p) many) ≡ false) → T (is_sorted position_cmp (xs ++ (change_at axis m p many ++ rest)))
     either (inl t) = rw t (sorted_set xs p (1, 1) (resized axis (size_at m p) many) rest up)
     either (inr f) = rw f (sorted_skip xs p (1, 1) rest up)
-
-pub all-more : (xs ys : List Anchor) → AllByRecursion IsSizeAt xs → AllByRecursion IsSizeAt ys → AllByRecursion IsSizeAt (xs ++ ys)
-all-more [] ys h k = k
-all-more (x ∷ xs) ys h k = (h.0, all-more xs ys h.1 k)
-
--- a number above 1, or else 1
-pub or_one : (o : Option ℕ) (n : ℕ) → SomeIff o (1 < n) n → 1 ≤ n → unwrap_or o 1 ≡ n
-or_one (Some k) n is some = is.1
-or_one None n is some = omega arith
-
-pub change-none : (axis : Axis) (m : SpanMap) (p : Position) (many : ℕ) (xs : List Anchor) → list_all (is_visible m) (stretch axis p (line_of axis p) many) ≡ false → xs ≡ xs ++ change_at axis m p many
-change-none axis m p many xs f = rw f (sym (append-nil xs))
-
-pub cover-none : (axis : Axis) (m : SpanMap) (p : Position) (many : ℕ) → list_all (is_visible m) (stretch axis p (line_of axis p) many) ≡ false → m ≡ with_sizes m (change_at axis m p many)
-cover-none axis m p many f = rw f refl
-
-pub change-one : (axis : Axis) (m : SpanMap) (p : Position) (many : ℕ) → list_all (is_visible m) (stretch axis p (line_of axis p) many) ≡ true → change_at axis m p many ≡ (p, resized axis (size_at m p) many) ∷ []
-change-one axis m p many t = rw t refl
 
 -- the change at a place, and spans at those that follow
 pub changes-more : (cfg : SpanMap) (xs new : List Anchor) (p : Position) (rest : List Position) (axis : Axis) (size n many : ℕ) → many ≡ min size (n - line_of axis p) → 1 ≤ many → new ≡ xs ++ change_at axis (with_sizes cfg xs) p many → grown_each axis size n (with_sizes cfg new) rest ≡ grown_each axis size n (with_sizes cfg xs) (p ∷ rest)

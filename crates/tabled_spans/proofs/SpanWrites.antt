@@ -1,5 +1,5 @@
 -- Writes of spans, one after another.
-use Rattle.std.proofs.Common.{◌≡◌, ℕ, suc, ◌+◌, ◌-◌, ◌<◌, ◌≤◌, List, [], ◌∷◌, ◌++◌, Some, Option, refl, sym, ap, ap₂, subst, ◌∙◌, arith}
+use Rattle.std.proofs.Common.{◌≡◌, ℕ, suc, ◌+◌, ◌-◌, ◌<◌, List, [], ◌∷◌, ◌++◌, Some, Option, refl, sym, ap, ap₂, subst, ◌∙◌, arith}
 use Rattle.std.specs.Option.{unwrap_or}
 use Rattle.tabled_grid.specs.Grid.{Grid, cell_at, with_cell}
 use Rattle.tabled_grid.specs.declared.config.position.Position.{Position}
@@ -32,9 +32,6 @@ continues-refused all old w rest g so_far = so_far.err g (some-none w rest g)
 pub emptying-more : (axis : Axis) (p : Position) (k end : ℕ) → k < end → emptying axis p k (end - k) ≡ record { place = in_line axis p k; text = [] } ∷ emptying axis p (k + 1) (end - (k + 1))
 emptying-more axis p k end h = let one : end - k ≡ suc (end - (k + 1)) = omega arith in ap (emptying axis p k) one
 
-pub emptying-done : (axis : Axis) (p : Position) (k end : ℕ) → end ≤ k → emptying axis p k (end - k) ≡ []
-emptying-done axis p k end h = let none : end - k ≡ 0 = omega arith in ap (emptying axis p k) none
-
 -- the text that is pulled, and then what is left to be emptied
 pub pulling-rest : (axis : Axis) (p : Position) (first many : ℕ) (g : Grid (List ℕ)) (text : List ℕ) → cell_at g p ≡ Some text → pulling axis p (first, many) g ≡ record { place = in_line axis p first; text = text } ∷ emptying axis p (first + 1) ((first + many) - (first + 1))
 pulling-rest axis p first many g text is =
@@ -53,10 +50,6 @@ pull-more all old axis p k end g m text q low none here made so_far = continues-
 -- one is refused
 pub pull-refused : (all : List Write) (old : Grid (List ℕ)) (axis : Axis) (p : Position) (k end : ℕ) (g : Grid (List ℕ)) → k < end → Continues all old (emptying axis p k (end - k)) g → FirstWrites all old g
 pull-refused all old axis p k end g low so_far = continues-refused all old _ _ g (subst (λ ws. Continues all old ws g) (emptying-more axis p k end low) so_far)
-
--- after the last
-pub pull-end : (all : List Write) (old : Grid (List ℕ)) (axis : Axis) (p : Position) (k end : ℕ) (g : Grid (List ℕ)) → end ≤ k → Continues all old (emptying axis p k (end - k)) g → g ≡ with_writes all old
-pull-end all old axis p k end g done so_far = (subst (λ ws. Continues all old ws g) (emptying-done axis p k end done) so_far).ok
 
 -- the cells that a span takes, by the values that a body has
 pub cells_is : (axis : Axis) (p : Position) (back : Option ℕ) (count at rows columns all_rows all_columns : ℕ) (cells : ℕ × ℕ) → cells ≡ taken back count at → count ≡ count_of axis rows columns → rows ≡ all_rows → columns ≡ all_columns → at ≡ line_of axis p → cells ≡ taken back (count_of axis all_rows all_columns) (line_of axis p)

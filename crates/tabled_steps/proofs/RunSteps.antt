@@ -155,10 +155,6 @@ module _ (pass : Passing) (all : List (List Position)) (rows columns : ℕ) wher
 abbrev pub PassedRuns : Passing → ℕ → List Run → ℕ → List Run → List Run → Type 0
 PassedRuns pass first all ahead rest left = (rows columns : ℕ) → AllByRecursion (IsRun rows columns) all → Passed pass (pass first (unrolled rows columns all)) rows columns ahead rest left
 
--- before the first run
-pub passed-start : (pass : Passing) (first : ℕ) (all : List Run) → PassedRuns pass first all first all []
-passed-start pass first all rows columns each = record { same = refl; rest_each = each; left_each = tt }
-
 -- runs of one entity each name what these entities name
 module _ (rows columns : ℕ) (entities listed : List Entity) (reached : IsReached rows columns entities (map once listed)) where
   same_places : named_places rows columns entities ≡ named_places rows columns listed

@@ -1,10 +1,10 @@
 -- The texts of rows that vectors hold, and the lengths of these.
-use Rattle.std.proofs.Common.{◌≡◌, ℕ, List, [], ◌∷◌, String, refl, ap, sym, subst, ◌∙◌, map, set, get_or, length, vec_len}
+use Rattle.std.proofs.Common.{◌≡◌, ℕ, List, [], ◌∷◌, String, refl, ap, sym, subst, ◌∙◌, map, get_or, length, vec_len}
 use Rattle.std.specs.Global.{Global, Vec}
 use Rattle.std.specs.List.{All, AllByRecursion, remove}
 use Rattle.std.specs.String.{string_bytes}
 use Rattle.std.specs.Vec.{with_items}
-use Rattle.std.proofs.lemmas.List.{length-map, map-set, set-get_or, with_items_is}
+use Rattle.std.proofs.lemmas.List.{length-map, with_items_is}
 use Rattle.std.proofs.Math.ListN.{get_or-map}
 use Rattle.std.proofs.lemmas.List.Elements.{All-from_recursion}
 use Rattle.tabled_grid.specs.Grid.{map_items}
@@ -39,12 +39,6 @@ All-lens P n rows p even = All-from_recursion (λ (row : Vec (String Global)). P
     each : (xs : List (Vec (String Global))) → AreRecords n (row_texts xs) → AllByRecursion (λ (row : Vec (String Global)). P (vec_len row)) xs
     each [] e = tt
     each (x ∷ xs) e = (subst P (sym (vec_len-texts x ∙ e.0)) p, each xs e.1)
-
--- a row with the same cells changes no text
-pub same_texts : (rows : List (Vec (String Global))) (i : ℕ) (d row : Vec (String Global)) → row.items ≡ (get_or rows i d).items → row_texts (set rows i row) ≡ row_texts rows
-same_texts rows i d row e =
-    let texts = λ (v : Vec (String Global)). map string_bytes v.items in
-    map-set texts rows i row ∙ ap (set (row_texts rows) i) (ap (map string_bytes) e ∙ sym (get_or-map texts rows i d)) ∙ set-get_or (row_texts rows) i (map string_bytes d.items)
 
 -- where the texts are the same, so are the lengths
 pub same_lens : (old new : List (Vec (String Global))) (i : ℕ) (d : Vec (String Global)) → row_texts new ≡ row_texts old → vec_len (get_or new i d) ≡ vec_len (get_or old i d)
