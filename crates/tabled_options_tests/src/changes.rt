@@ -46,7 +46,9 @@ fn changes_what_objects_list(rt: HostRuntime) {
         (&[Entity::Global], "y y / y y /"),
     ];
     for (entities, want) in cases {
-        let listed = Modify::list(listed(alloc, entities), (TextRef("x"), TextRef("y")));
-        assert!(rt; makes(alloc, listed, want));
+        let pair = Modify::list(listed(alloc, entities), (TextRef("x"), TextRef("y")));
+        assert!(rt; makes(alloc, pair, want));
+        let settings = Settings::new(TextRef("x"), TextRef("y"));
+        assert!(rt; makes(alloc, Modify::list(listed(alloc, entities), settings), want));
     }
 }

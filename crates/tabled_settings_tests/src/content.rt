@@ -49,6 +49,22 @@ fn located_texts_are_written(rt: HostRuntime) -> Result<(), Fail> {
 }
 
 #[test]
+fn copies_write_where_the_first_ones_do(rt: HostRuntime) -> Result<(), Fail> {
+    let alloc = rt.alloc();
+    let content = Modify::new(Locator::content(String::from_str(alloc, "a")?));
+    let copy = content.clone()?.with(TextRef("x"));
+    assert!(rt; makes_flat(alloc, "a b / c a /", copy, "x b / c x /"));
+    let first = content.with(TextRef("x"));
+    assert!(rt; makes_flat(alloc, "a b / c a /", first, "x b / c x /"));
+    let column = Modify::new(Locator::column(String::from_str(alloc, "a")?));
+    let copy = column.clone()?.with(TextRef("x"));
+    assert!(rt; makes_flat(alloc, "a b / c a /", copy, "x b / x a /"));
+    let first = column.with(TextRef("x"));
+    assert!(rt; makes_flat(alloc, "a b / c a /", first, "x b / x a /"));
+    Ok(())
+}
+
+#[test]
 fn nothing_is_located_without_columns(rt: HostRuntime) -> Result<(), Fail> {
     let alloc = rt.alloc();
     for table in ["", "/ / /"] {

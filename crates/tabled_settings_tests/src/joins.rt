@@ -49,6 +49,9 @@ fn the_default_cell_is_empty(rt: HostRuntime) -> Result<(), Fail> {
     let alloc = rt.alloc();
     let second = Table::from_records(alloc, flat(alloc, "x y /")?);
     assert!(rt; makes_flat(alloc, "a /", Concat::vertical(alloc, second), "a _ / x y /"));
+    let second = Table::from_records(alloc, flat(alloc, "x / y /")?);
+    let beside = Concat::horizontal(alloc, second);
+    assert!(rt; makes_flat(alloc, "a /", beside, "a x / _ y /"));
     Ok(())
 }
 

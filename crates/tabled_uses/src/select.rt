@@ -6,6 +6,7 @@ use tabled_grid::records::{Text, VecRecords};
 use tabled_select::object::{
     Cell, Column, Columns, Frame, Object, ObjectIterator, Row, Rows, Segment, entities,
 };
+use tabled_steps::Select;
 use tabled_table::{Table, TextRef};
 
 /// A store of texts, as a table has it.
@@ -85,6 +86,11 @@ pub fn lists_steps(alloc: Global, store: &Store) -> Result<usize, AllocError> {
         &steps.filter(|_| true).and(Cell::new(0, 0)).skip(1),
         store,
     )
+}
+
+/// How many entities a selector names that is data.
+pub fn lists_selected(alloc: Global, select: &Select, store: &Store) -> Result<usize, AllocError> {
+    count(alloc, select, store)
 }
 
 /// Goes over the entities of an object one after another.

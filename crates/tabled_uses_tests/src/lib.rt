@@ -18,9 +18,13 @@ mod refused_steps;
 #[cfg(test)]
 mod rows;
 #[cfg(test)]
+mod selectors;
+#[cfg(test)]
 mod spans;
 #[cfg(test)]
 mod steps;
+#[cfg(test)]
+mod store_calls;
 #[cfg(test)]
 mod stores;
 #[cfg(test)]
