@@ -18,8 +18,8 @@ def adopt_orphans():
         stop("this system doesn't tell the peak memory")
 
 
-def seconds_of(command, script, wanted=0):
-    """The wall time of one run that ends with a status, or with any for None. The system throws the output away: no reader takes part."""
+def times_of(command, script, wanted=0):
+    """The wall time and the processor's time of one run that ends with a status, or with any for None. The system throws the output away: no reader takes part."""
     files = [
         (os.POSIX_SPAWN_OPEN, 0, script, os.O_RDONLY, 0),
         (os.POSIX_SPAWN_OPEN, 1, os.devnull, os.O_WRONLY, 0),
@@ -29,13 +29,21 @@ def seconds_of(command, script, wanted=0):
         child = os.posix_spawnp(command[0], command, os.environ, file_actions=files)
     except OSError as error:
         stop(error)
-    _, status = os.waitpid(child, 0)
+    _, status, usage = os.wait4(child, 0)
     seconds = time.perf_counter() - start
     demand_status(command, status, wanted)
-    return seconds
+    return seconds, usage.ru_utime + usage.ru_stime
 
 
-def best_seconds(runs, wanted=0, least_rounds=LEAST_ROUNDS, seconds=LEAST_SECONDS):
+def seconds_of(command, script, wanted=0):
+    return times_of(command, script, wanted)[0]
+
+
+def processor_seconds_of(command, script, wanted=0):
+    return times_of(command, script, wanted)[1]
+
+
+def best_seconds(runs, wanted=0, least_rounds=LEAST_ROUNDS, seconds=LEAST_SECONDS, seconds_of=seconds_of):
     """The least time of each of some runs: a command, its script, and how often it is run in a round."""
     best = [float("inf")] * len(runs)
     rounds = 0
