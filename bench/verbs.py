@@ -4,7 +4,7 @@ from measure import row_lines
 
 LARGEST_NUMBER = 10_000  # that a script may name
 SHAPES = [(60_000, 10), (775, 775), (10, 60_000)]
-TEXTS = "abcd"  # of the rows, round and round
+TEXTS = ["ab", "ab", "a\\tb"]  # of the rows, round and round: equal neighbours, and tabs
 
 
 def steps_on(rows, columns):
@@ -29,7 +29,7 @@ def steps_on(rows, columns):
         f"extract 1 {row} 1 {column}",
         f"remove rows 1 {row}",
         f"remove columns 1 {column}",
-        "remove named a",
+        "remove named ab",
         "concat vertical - 1 1 x",
         "concat horizontal - 1 1 x",
         *(
