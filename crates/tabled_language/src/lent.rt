@@ -51,10 +51,7 @@ impl<'a> FromText for LentText<'a> {
     fn from_text(alloc: Global, text: &str) -> Result<Self, AllocError> {
         match ShortText::new(text) {
             Some(short) => Ok(LentText::Short(short)),
-            None => Ok(LentText::Own(Box::new(
-                alloc,
-                String::from_str(alloc, text)?,
-            )?)),
+            None => Ok(LentText::Own(Box::new(alloc, String::from_str(alloc, text)?)?)),
         }
     }
 }
