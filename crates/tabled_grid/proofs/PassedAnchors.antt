@@ -8,7 +8,7 @@ use Rattle.std.specs.declared.cmp.Ordering.{Ordering}
 use Rattle.std.specs.declared.cmp.Ordering.TheVariants.{Less, Equal, Greater}
 use Rattle.std.proofs.lemmas.Bool.{and_from, and_parts, false_from_ne_true, or_cases}
 use Rattle.std.proofs.lemmas.Cmp.{ranked}
-use Rattle.std.proofs.lemmas.List.{append-nil, drop-drop, drop_all, drop-set-lt, get_or_default, take_more, take_more_set, drop_more, get_or-drop, map-append, map_more, take-append-drop, take_all, length-drop}
+use Rattle.std.proofs.lemmas.List.{append-nil, drop-drop, drop-set-lt, get_or_default, take_more, take_more_set, drop_more, get_or-drop, map-append, map_more, take-append-drop, take_all, length-drop}
 use Rattle.std.proofs.Math.Seq.{take-add}
 use Rattle.std.proofs.lemmas.Grind.{drop_more_same}
 use borrow.Author.Tests.{eqb-true, leb-true, lt-ltb, ltb-true}
@@ -212,12 +212,6 @@ module _ (by : Anchor) (old new : List Anchor) (first k : ℕ) (d : Anchor) (low
       let at : first + (k - first) ≡ k = omega arith in
       let up_here = subst (λ es. T (is_sorted position_cmp es)) (drop-drop (k - first) first old ∙ ap (λ n. drop n old) at ∙ rest) sorted in
       changed_all (unless_held by) old first new k low changed (ap (map (unless_held by)) rest ∙ none_held by e (drop (k + 1) old) up_here (past-true by e.0 past) ∙ sym rest)
-
--- all was changed
-pub hidden_end : (by : Anchor) (old new : List Anchor) (first k : ℕ) → first ≤ k → length new ≤ k → length new ≡ length old → ChangedTo (unless_held by) old first new k → new ≡ take first old ++ map (unless_held by) (drop first old)
-hidden_end by old new first k low end same changed =
-    let none : drop k old ≡ [] = drop_all k old (omega arith) in
-    changed_all (unless_held by) old first new k low changed (ap (map (unless_held by)) none ∙ sym none)
 
 -- none of the rest meets once one is past
 pub apart_past : (a : Anchor) (es : List Anchor) (first k : ℕ) (d : Anchor) → first ≤ k → k < length es → T (is_sorted position_cmp (a ∷ drop first es)) → is_past a (get_or es k d).0 ≡ true → list_all (λ (e : Anchor). not (meets a e)) (drop k es) ≡ true

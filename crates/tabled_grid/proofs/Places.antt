@@ -4,14 +4,13 @@ use Rattle.std.specs.Prelude.{◌==◌, ◌&&◌}
 use Rattle.std.specs.List.{flat_map, filter, range_with_len, All, AllByRecursion}
 use Rattle.std.proofs.lemmas.Bool.{ne_eqb, eq-eqb}
 use Rattle.std.proofs.lemmas.List.{drop_at, drop_more, get_or_append_left, length-append}
-use Rattle.std.proofs.lemmas.List.Elements.{filter-append, filter_agree, filter_passes, All-nil, All-append, All-map, All-filter, recursion_from_All}
+use Rattle.std.proofs.lemmas.List.Elements.{filter-append, filter_agree, All-nil, All-append, All-map, All-filter, recursion_from_All}
 use Rattle.std.proofs.lemmas.List.FromFn.{length-range_with_len, get_or-range_with_len, length-map-range_with_len, get_or-map-range_with_len}
 use Rattle.std.proofs.Math.Nat.{sub_self}
 use Rattle.tabled_grid.specs.declared.config.position.Position.{Position}
 use Rattle.tabled_grid.specs.declared.config.entity.Entity.{Entity}
 use Rattle.tabled_grid.specs.declared.config.entity.Entity.TheVariants.{Global, Column, Row, Cell}
 use Rattle.tabled_grid.specs.Entity.{place, row_places, block, names, inside}
-use Rattle.tabled_grid.specs.Grid.{Grid, IsInside}
 
 -- a filter that keeps all
 filter_true : {X : Type 0} (xs : List X) → filter (λ (x : X). true) xs ≡ xs
@@ -172,10 +171,3 @@ inside-all P e r c h = recursion_from_All _ _ (All-filter (names e) P (block 0 r
 
 pub inside-within : (e : Entity) (r c : ℕ) → AllByRecursion (λ (p : Position). (p.row < r) × (p.col < c)) (inside e r c)
 inside-within e r c = inside-all _ e r c (λ i j h k. (h, k))
-
-pub inside-IsInside : {A : Type 0} (g : Grid A) (e : Entity) → AllByRecursion (IsInside g) (inside e g.rows g.columns)
-inside-IsInside g e = inside-all (IsInside g) e g.rows g.columns (λ i j h k. record { row = h; col = k })
-
--- an entity names the places that it is said to name
-pub inside-named : (e : Entity) (r c : ℕ) → AllByRecursion (λ p. names e p ≡ true) (inside e r c)
-inside-named e r c = recursion_from_All _ _ (filter_passes (names e) (block 0 r 0 c))

@@ -1,7 +1,7 @@
 -- Sorted lists of anchors, and the maps that they make.
 use Rattle.std.proofs.Common.{◌≡◌, ℕ, inl, inr, Bool, true, false, List, [], ◌∷◌, refl, sym, ap, ◌∙◌, cond, length, None}
 use Rattle.std.specs.Prelude.{T, ◌&&◌, ◌==◌, not}
-use Rattle.std.specs.FinMap.{empty, entries, entries-from_sorted, entries_sorted, find, get-entries, len-empty, len-entries, from_sorted, get, get-from_sorted, is_sorted, same_map}
+use Rattle.std.specs.FinMap.{empty, entries, entries-from_sorted, entries_sorted, get-entries, len-empty, len-entries, from_sorted, get, get-from_sorted, is_sorted, same_map}
 use Rattle.std.specs.FinMap.Entries.{find-where_key, is_sorted-where_key}
 use Rattle.std.specs.List.{AllByRecursion, list_any}
 use Rattle.std.specs.Option.{unwrap_or}
@@ -11,7 +11,7 @@ use borrow.Author.Tests.{eqb-true, eq-eqb}
 use Rattle.tabled_grid.specs.Anchors.{Anchor, dropped, is_hidden_in}
 use Rattle.tabled_grid.specs.Rectangles.{drop_hidden, in_rect, is_hidden}
 use Rattle.tabled_grid.specs.Entity.{same_place}
-use Rattle.tabled_grid.specs.Spans.{AreAnchors, AreSpanSizes, IsSpanSize, SpanMap, position_cmp, size_at}
+use Rattle.tabled_grid.specs.Spans.{AreAnchors, AreSpanSizes, IsSpanSize, SpanMap, position_cmp}
 use Rattle.tabled_grid.specs.declared.config.position.Position.{Position}
 use Rattle.tabled_grid.proofs.Members.{Member, sorted-find}
 use Rattle.tabled_grid.proofs.SpanMaps.{get-drop_hidden}
@@ -22,14 +22,8 @@ pub record Lists (es : List Anchor) (m : SpanMap) : Type 0 where
   pub up : T (is_sorted position_cmp es)
   pub is : m ≡ from_sorted es
 
-abbrev pub size_in : List Anchor → Position → ℕ × ℕ
-size_in es p = unwrap_or (find position_cmp p es) (1, 1)
-
 abbrev pub visible_in : List Anchor → Position → Bool
 visible_in es p = not (is_hidden_in es p)
-
-pub size_is : (es : List Anchor) (m : SpanMap) (p : Position) → Lists es m → size_at m p ≡ size_in es p
-size_is es m p l = rw l.is (ap (λ (s : _). unwrap_or s (1, 1)) (get-from_sorted position_cmp es p l.up))
 
 pub hidden_is : (es : List Anchor) (m : SpanMap) (p : Position) → Lists es m → is_hidden m p ≡ is_hidden_in es p
 hidden_is es m p l = rw l.is (ap (list_any (λ (e : Anchor). in_rect e.0 e.1 p && not (same_place e.0 p))) (entries-from_sorted position_cmp es l.up))

@@ -3,7 +3,7 @@ use Rattle.std.proofs.Common.{◌≡◌, ℕ, zero, suc, ◌+◌, ◌*◌, ◌-�
 use Rattle.std.specs.Prelude.{◌%◌, ◌^◌, ◌||◌}
 use Rattle.std.specs.List.{range_with_len}
 use Rattle.std.proofs.lemmas.Bool.{cases_Bool, or_right}
-use Rattle.std.proofs.lemmas.List.{get_or_append_left, replicate-append-replicate, length-append, map-append, set-append_left, set-append_right}
+use Rattle.std.proofs.lemmas.List.{get_or_append_left, replicate-append-replicate, map-append, set-append_left, set-append_right}
 use Rattle.tabled_grid.specs.Covers.{Stepped, Steps, table}
 use Rattle.tabled_grid.specs.Entity.{place, same_place}
 use Rattle.tabled_grid.specs.declared.config.position.Position.{Position}
@@ -49,11 +49,6 @@ rows-are : (f : Position → ℕ) (a n m : ℕ) → map f (places (range_with_le
 unfolding row_of rows_of
 rows-are f a zero m = refl
 rows-are f a (suc n) m = map-append f (map (place a) (range_with_len 0 m)) (places (range_with_len (a + 1) n) (range_with_len 0 m)) ∙ ap (λ ys. row_of f a 0 m ++ ys) (rows-are f (a + 1) n m)
-
-length-rows : (f : Position → ℕ) (a n m : ℕ) → length (rows_of f a n m) ≡ n * m
-unfolding rows_of
-length-rows f a zero m = omega arith
-length-rows f a (suc n) m = omega (arith, length-append (row_of f a 0 m) (rows_of f (a + 1) n m), length-row f a 0 m, length-rows f (a + 1) n m)
 
 rows-agree : (f g : Position → ℕ) (a n m : ℕ) → ((i j : ℕ) → a ≤ i → i < a + n → j < m → f (place i j) ≡ g (place i j)) → rows_of f a n m ≡ rows_of g a n m
 unfolding rows_of

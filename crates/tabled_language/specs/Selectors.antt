@@ -19,14 +19,10 @@ with_two_numbers make = then_reads reads_number (λ a. then_reads reads_number (
 abbrev pub with_four_numbers : (ℕ → ℕ → ℕ → ℕ → Select) → Reading Named
 with_four_numbers make = then_reads reads_number (λ a. then_reads reads_number (λ b. then_reads reads_number (λ c. then_reads reads_number (λ d. gives (named_by (make a b c d))))))
 
--- the words of selectors that hold no other and no text
+-- the words of further selectors that hold no other and no text
 abbrev pub plain_selectors : Choices Named
 plain_selectors =
-    (codes "all", gives (named_by select.All))
-    ∷ (codes "cell", with_two_numbers select.Cell)
-    ∷ (codes "row", with_number select.Row)
-    ∷ (codes "column", with_number select.Column)
-    ∷ (codes "first-row", gives (named_by select.FirstRow))
+    (codes "first-row", gives (named_by select.FirstRow))
     ∷ (codes "last-row", gives (named_by select.LastRow))
     ∷ (codes "first-column", gives (named_by select.FirstColumn))
     ∷ (codes "last-column", gives (named_by select.LastColumn))
@@ -43,7 +39,11 @@ plain_selectors =
 -- the words of selectors, where a selector that they hold is read by a reading
 abbrev pub selectors : Reading Named → Choices Named
 selectors inner =
-    (codes "content", then_reads reads_text (λ text. gives (with_content text)))
+    (codes "all", gives (named_by select.All))
+    ∷ (codes "cell", with_two_numbers select.Cell)
+    ∷ (codes "row", with_number select.Row)
+    ∷ (codes "column", with_number select.Column)
+    ∷ (codes "content", then_reads reads_text (λ text. gives (with_content text)))
     ∷ (codes "name", then_reads reads_text (λ text. gives (with_name text)))
     ∷ (codes "and", then_reads inner (λ x. then_reads inner (λ y. gives (λ g. united g (x g) (y g)))))
     ∷ (codes "not", then_reads inner (λ x. then_reads inner (λ y. gives (λ g. without g (x g) (y g)))))

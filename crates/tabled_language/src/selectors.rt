@@ -47,7 +47,22 @@ impl<'a> Words<'a> {
     fn selector_behind(&mut self, alloc: Global, depth: usize, word: &str) -> Read<Select>
         ensures { Reads named_by (behind (selectors (kept (reads_selector depth))) word.now) self.old result self.new }
     {
+        // What most scripts say comes first.
         match word {
+            "all" => Ok(Select::All),
+            "cell" => {
+                let row = self.number()?;
+                let column = self.number()?;
+                Ok(Select::Cell(row, column))
+            }
+            "row" => {
+                let row = self.number()?;
+                Ok(Select::Row(row))
+            }
+            "column" => {
+                let column = self.number()?;
+                Ok(Select::Column(column))
+            }
             "content" => {
                 let text = self.text(alloc)?;
                 Ok(Select::Content(text))
@@ -89,25 +104,11 @@ impl<'a> Words<'a> {
         }
     }
 
-    /// What is after the word of a selector that holds no other and no text.
+    /// What is after the word of a further selector that holds no other and no text.
     fn plain_selector(&mut self, word: &str) -> Read<Select>
         ensures { Reads named_by (behind plain_selectors word.now) self.old result self.new }
     {
         match word {
-            "all" => Ok(Select::All),
-            "cell" => {
-                let row = self.number()?;
-                let column = self.number()?;
-                Ok(Select::Cell(row, column))
-            }
-            "row" => {
-                let row = self.number()?;
-                Ok(Select::Row(row))
-            }
-            "column" => {
-                let column = self.number()?;
-                Ok(Select::Column(column))
-            }
             "first-row" => Ok(Select::FirstRow),
             "last-row" => Ok(Select::LastRow),
             "first-column" => Ok(Select::FirstColumn),

@@ -1,13 +1,20 @@
 -- Lines of words, piece by piece.
-use Rattle.std.proofs.Common.{◌≡◌, ℕ, ◌+◌, ◌<◌, ◌≤◌, List, [], ◌∷◌, ◌++◌, refl, ap, sym, map, take, get_or, length, codes}
+use Rattle.std.proofs.Common.{◌≡◌, ℕ, ◌+◌, ◌<◌, ◌≤◌, ◌^◌, true, List, [], ◌∷◌, ◌++◌, refl, ap, arith, sym, map, take, get_or, length, codes}
+use Rattle.std.proofs.lemmas.Bool.{and_parts, leb-true, ne_eqb}
+use Rattle.std.proofs.lemmas.Fmt.{digits_decimal}
+use Rattle.std.proofs.lemmas.Str.Parse.{IsNumeralModel, numerals_by_value, tells_all_ascii_digits}
 use Rattle.std.specs.Global.{Vec}
 use Rattle.std.specs.Fmt.{decimal}
 use Rattle.std.specs.List.{flat_map, join_with_byte}
+use Rattle.std.specs.Char.{is_ascii_digit}
+use Rattle.std.specs.Prelude.{nat_le}
+use Rattle.std.specs.Str.{all_ascii_digits}
+use Rattle.std.specs.Str.Parse.{digits_value}
 use Rattle.std.proofs.lemmas.List.{append-nil, append_assoc, take_more, take_all}
 use Rattle.std.proofs.lemmas.List.Concat.{flat_map-append}
 use Rattle.std.proofs.lemmas.List.Folds.{flat_map-map}
 use Rattle.tabled_grid.specs.Grid.{grid_of, map_grid, map_items, width_of}
-use Rattle.tabled_language.specs.Output.{escaped, line, table_lines}
+use Rattle.tabled_language.specs.Output.{escaped, escaped_byte, line, table_lines}
 
 -- after the first list, each list with the byte before it
 pub join_with_byte-cons : (c : ℕ) (xs : List ℕ) (xss : List (List ℕ)) → join_with_byte c (xs ∷ xss) ≡ xs ++ flat_map (λ ys. c ∷ ys) xss
@@ -25,3 +32,24 @@ table_lines-pieces {A} text_of rows n all = rw (take_all n rows all, flat_map-ma
 -- one more thing's line after those of the things before it
 pub pushed_more : {A : Type 0} (line_of : A → List ℕ) (before out : List ℕ) (xs : List A) (i : ℕ) (x : A) → i < length xs → x ≡ get_or xs i x → out ≡ before ++ flat_map line_of (take i xs) → out ++ line_of x ≡ before ++ flat_map line_of (take (i + 1) xs)
 pushed_more line_of before out xs i x here is read = rw (take_more xs i x here, ← is, flat_map-append line_of (take i xs) (x ∷ []), read, append-nil (line_of x)) (append_assoc before (flat_map line_of (take i xs)) (line_of x))
+
+-- a digit stands as it is in a word
+digit_stays : (b : ℕ) → is_ascii_digit b ≡ true → escaped_byte b ≡ b ∷ []
+digit_stays b digit =
+    let parts = and_parts (nat_le 48 b) (nat_le b 57) digit in
+    let low : 48 ≤ b = leb-true 48 b parts.0 in
+    let high : b ≤ 57 = leb-true b 57 parts.1 in
+    rw (ne_eqb b 9 (λ e. omega (arith, low, e)), ne_eqb b 10 (λ e. omega (arith, low, e)), ne_eqb b 92 (λ e. omega (arith, high, e))) refl
+
+digits_stay : (bs : List ℕ) → all_ascii_digits bs ≡ true → escaped bs ≡ bs
+digits_stay [] all = refl
+digits_stay (b ∷ bs) all =
+    let parts = and_parts (is_ascii_digit b) (all_ascii_digits bs) all in
+    rw (digit_stays b parts.0, digits_stay bs parts.1) refl
+
+all_digits : IsNumeralModel (λ ds. all_ascii_digits ds ≡ true) (digits_value 10)
+all_digits = numerals_by_value _ tells_all_ascii_digits
+
+-- a number stands as it is in a word
+pub escaped-decimal : (n : ℕ) → n < 2 ^ 64 → escaped (decimal n) ≡ decimal n
+escaped-decimal n fits = digits_stay (decimal n) (digits_decimal all_digits n fits)

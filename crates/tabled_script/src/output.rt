@@ -1,19 +1,20 @@
 //! How a table is written.
 
+ghost use Rattle.std.specs.Fmt.{decimal};
 ghost use Rattle.std.specs.Prelude.{◌≡◌, ◌∷◌, ◌++◌, map, IsTrue, OnOk};
 ghost use Rattle.tabled_grid.specs.Grid.{IsEven, grid_of, map_grid, map_items};
 ghost use Rattle.tabled_language.specs.Lent.{bytes_of};
 ghost use Rattle.tabled_language.specs.Output.{escaped, escaped_byte, line, print as printed, span_line, table_lines};
 ghost use Rattle.tabled_steps.specs.States.{state_of};
 
-use std::alloc::{AllocError, Global};
+use std::alloc::AllocError;
+use std::io::Write;
 use tabled_grid::config::{Position, SpannedConfig};
 use tabled_grid::records::{CellText, ExactRecords, Records};
 use tabled_language::LentText;
 
 /// Appends a table: its shape, its rows, and then its merged cells.
 pub(crate) fn print(
-    alloc: Global,
     out: &mut Vec<u8>,
     records: &Vec<Vec<LentText>>,
     cfg: &SpannedConfig,
@@ -21,27 +22,20 @@ pub(crate) fn print(
     requires { IsEven (grid_of (map_items records.now.items)) }
     ensures { OnOk result (out.new.items ≡ out.old.items ++ printed (state_of bytes_of (grid_of (map_items records.now.items)) cfg.now)) }
 {
-    push_table(alloc, out, records)?;
+    push_table(out, records)?;
     for (pos, size) in cfg.anchors() {
-        push_span(alloc, out, *pos, *size)?;
+        push_span(out, *pos, *size)?;
     }
     Ok(())
 }
 
 /// Appends a table's shape, and then its rows.
-fn push_table(
-    alloc: Global,
-    out: &mut Vec<u8>,
-    records: &Vec<Vec<LentText>>,
-) -> Result<(), AllocError>
+fn push_table(out: &mut Vec<u8>, records: &Vec<Vec<LentText>>) -> Result<(), AllocError>
     requires { IsEven (grid_of (map_items records.now.items)) }
     ensures { OnOk result (out.new.items ≡ out.old.items ++ table_lines (map_grid bytes_of (grid_of (map_items records.now.items)))) }
 {
-    let shape = [
-        records.count_rows().to_string(alloc)?,
-        records.count_columns().to_string(alloc)?,
-    ];
-    push_line(out, "shape", &shape)?;
+    let shape = [records.count_rows(), records.count_columns()];
+    push_numbers(out, "shape", &shape)?;
     for row in records {
         push_line(out, "row", row)?;
     }
@@ -49,21 +43,34 @@ fn push_table(
 }
 
 /// Appends the line of an anchor and its rectangle's height and width.
-fn push_span(
-    alloc: Global,
-    out: &mut Vec<u8>,
-    pos: Position,
-    size: (usize, usize),
-) -> Result<(), AllocError>
+fn push_span(out: &mut Vec<u8>, pos: Position, size: (usize, usize)) -> Result<(), AllocError>
     ensures { OnOk result (out.new.items ≡ out.old.items ++ span_line (pos, size)) }
 {
-    let numbers = [
-        pos.row.to_string(alloc)?,
-        pos.col.to_string(alloc)?,
-        size.0.to_string(alloc)?,
-        size.1.to_string(alloc)?,
-    ];
-    push_line(out, "span", &numbers)
+    let (height, width) = size;
+    push_numbers(out, "span", &[pos.row, pos.col, height, width])
+}
+
+/// Appends the line of a name and numbers.
+fn push_numbers(out: &mut Vec<u8>, name: &str, numbers: &[usize]) -> Result<(), AllocError>
+    ensures { OnOk result (out.new.items ≡ out.old.items ++ line (name.now ∷ map decimal numbers.now)) }
+{
+    push_escaped(out, name)?;
+    for number in numbers {
+        push_number(out, *number)?;
+    }
+    out.push(b'\n')?;
+    Ok(())
+}
+
+/// Appends a tab and a number.
+fn push_number(out: &mut Vec<u8>, number: usize) -> Result<(), AllocError>
+    ensures { OnOk result (out.new.items ≡ out.old.items ++ 9 ∷ escaped (decimal number)) }
+{
+    // A vector refuses bytes only where memory runs out.
+    match write!(out, "\t{number}") {
+        Ok(()) => Ok(()),
+        Err(_) => Err(AllocError),
+    }
 }
 
 /// Appends the line of a name and texts.

@@ -91,7 +91,7 @@ fn output(alloc: Global, script: Script, room: usize) -> Result<Vec<u8>, AllocEr
     match run(alloc, &mut records, &mut spans, steps) {
         Ok(()) => {
             let mut out = Vec::with_capacity(alloc, room)?;
-            print(alloc, &mut out, &records, &spans)?;
+            print(&mut out, &records, &spans)?;
             Ok(out)
         }
         Err((_, error)) => Err(error),

@@ -1,12 +1,12 @@
 -- Characters replaced, byte by byte.
-use Rattle.std.proofs.Common.{◌≡◌, ◌∙◌, ◌≤◌, ℕ, ◌+◌, ◌/◌, ◌%◌, Bool, true, false, cond, List, [], ◌∷◌, ◌++◌, append-nil, refl, arith, encode_utf8, ltb, replicate}
-use Rattle.std.proofs.lemmas.Bool.{le-ltb, ltb-false, ltb-true, ne_eqb}
+use Rattle.std.proofs.Common.{◌≡◌, ◌∙◌, ◌≤◌, ℕ, ◌+◌, ◌/◌, ◌%◌, Bool, true, false, cond, List, [], ◌∷◌, ◌++◌, Option, None, Some, append-nil, refl, sym, arith, encode_utf8, ltb, replicate}
+use Rattle.std.proofs.lemmas.Bool.{and_parts, false≢true, le-ltb, ltb-false, ltb-true, ne_eqb}
 use Rattle.std.proofs.lemmas.Grind.{flat_map-append}
 use Rattle.std.proofs.lemmas.List.{append_assoc}
 use Rattle.std.proofs.lemmas.Str.{encode_ascii}
-use Rattle.std.specs.List.{AllByRecursion, flat_map}
-use Rattle.std.specs.Prelude.{◌==◌}
-use Rattle.tabled_settings.specs.Charsets.{replaced, stays}
+use Rattle.std.specs.List.{AllByRecursion, flat_map, list_all}
+use Rattle.std.specs.Prelude.{◌==◌, ◌&&◌, not}
+use Rattle.tabled_settings.specs.Charsets.{recoded, replaced, stays}
 
 -- a byte of a character that isn't ASCII stays
 stays_high : (cleans : Bool) (b : ℕ) → 128 ≤ b → stays cleans b ≡ true
@@ -44,3 +44,25 @@ pub replaced-more : (cleans : Bool) (n c : ℕ) (out put rest whole all : List �
 replaced-more cleans n c out put rest whole all e is same =
     append_assoc out put (flat_map (replaced cleans n) rest)
     ∙ rw is (rw (e, flat_map-append (replaced cleans n) (encode_utf8 c) rest, replaced-char cleans n c) at same)
+
+-- a byte that is no tab and stays
+plain_byte : (cleans : Bool) (n b : ℕ) → (not (b == 9) && stays cleans b) ≡ true → replaced cleans n b ≡ b ∷ []
+plain_byte cleans n b h = by (b == 9) (stays cleans b) refl refl h
+  where
+    by : (tab stay : Bool) → b == 9 ≡ tab → stays cleans b ≡ stay → (not tab && stay) ≡ true → replaced cleans n b ≡ b ∷ []
+    by false true e f h = rw (e, f) refl
+    by false false e f h = absurd (false≢true h)
+    by true stay e f h = absurd (false≢true h)
+
+-- a text without tabs, of which all stays, is as it was
+plain-same : (cleans : Bool) (n : ℕ) (text : List ℕ) → list_all (λ b. not (b == 9) && stays cleans b) text ≡ true → flat_map (replaced cleans n) text ≡ text
+plain-same cleans n [] h = refl
+plain-same cleans n (b ∷ text) h =
+    let parts = and_parts (not (b == 9) && stays cleans b) (list_all (λ c. not (c == 9) && stays cleans c) text) h in
+    rw (plain_byte cleans n b parts.0, plain-same cleans n text parts.1) refl
+
+-- and so it is in a charset that cleans alike
+pub recoded-same : (s : Bool × Option ℕ) (text : List ℕ) → list_all (λ b. not (b == 9) && stays s.0 b) text ≡ true → text ≡ recoded s text
+recoded-same (cleans, Some n) text h = sym (plain-same cleans n text h)
+recoded-same (true, None) text h = sym (plain-same true 0 text h)
+recoded-same (false, None) text h = refl

@@ -1,9 +1,11 @@
 -- Writes in turn, one more at a time.
-use Rattle.std.proofs.Common.{◌≡◌, ◌≢◌, ◌∙◌, ℕ, List, [], ◌∷◌, ◌++◌, length, map, take, refl, ap, sym, append-nil, arith}
+use Rattle.std.proofs.Common.{◌≡◌, ◌≢◌, ◌∙◌, ℕ, zero, suc, List, [], ◌∷◌, ◌++◌, get_or, length, map, set, take, refl, ap, subst, sym, append-nil, arith}
 use Rattle.std.proofs.Math.Seq.{take-append_seam}
-use Rattle.std.proofs.lemmas.List.{length-append, map-append}
+use Rattle.std.proofs.lemmas.List.{length-append, map-append, set-get_or}
 use Rattle.std.proofs.lemmas.Grind.{fold-append}
 use Rattle.std.specs.List.{AllByRecursion, FoldsTo}
+use Rattle.std.specs.Option.{unwrap_or}
+use Rattle.std.specs.Prelude.{slice_get}
 use Rattle.tabled_grid.proofs.Grids.{cell_at-with_cell_other}
 use Rattle.tabled_grid.specs.Grid.{Grid, with_cell}
 use Rattle.tabled_grid.specs.declared.config.position.Position.{Position}
@@ -36,6 +38,21 @@ rewritten-more asks first places g h s t p text done asked =
       answers = folds-more _ first done.writes s one t done.answers asked;
       is = ap (λ (x : Grid (List ℕ)). with_cell x p text) done.is ∙ sym (fold-append (λ (x : Grid (List ℕ)) (w : Write). with_cell x w.place w.text) g done.writes (one ∷ []));
     }
+
+-- what is set where it stands already
+set_own : {A : Type 0} (d : A) (xs : List A) (i : ℕ) → set xs i (unwrap_or (slice_get xs i) d) ≡ xs
+set_own d [] i = refl
+set_own d (x ∷ xs) zero = refl
+set_own d (x ∷ xs) (suc i) = ap (λ ys. x ∷ ys) (set_own d xs i)
+
+-- a grid with a text where it stands already
+own_text : (g : Grid (List ℕ)) (p : Position) → with_cell g p (text_at g p) ≡ g
+own_text g p = rw (set_own [] (get_or g.cells p.row []) p.col, set-get_or g.cells p.row []) refl
+
+-- one more answer, which is the old text
+pub rewritten-kept : {S : Type 0} (asks : Asking S) (first : S) (places : List Position) (g h : Grid (List ℕ)) (s : S) (p : Position) → Rewritten asks first places g h s → asks s p (text_at g p) (text_at h p) s → Rewritten asks first (places ++ p ∷ []) g h s
+rewritten-kept asks first places g h s p done asked =
+    subst (λ (x : Grid (List ℕ)). Rewritten asks first (places ++ p ∷ []) g x s) (own_text h p) (rewritten-more asks first places g h s s p (text_at h p) done asked)
 
 -- all is written
 pub rewritten-all : {S : Type 0} (asks : Asking S) (first : S) (done all : List Position) (g h : Grid (List ℕ)) (last : S) → done ++ [] ≡ all → Rewritten asks first done g h last → RewritesAt asks first all g h

@@ -31,10 +31,11 @@ fn writes_are_refused_in_turn(rt: HostRuntime) {
         let positioned = Format::positioned(exclaimed_at);
         assert!(rt; makes_refusing(alloc, calls, "a b c /", positioned, *want));
     }
-    for (set, want) in [(1, "a b /!"), (2, "a b /!"), (3, "a b /")] {
+    // The text between the two stays as it is, and isn't written.
+    for (set, want) in [(1, "a\u{7} b c\u{7} /!"), (2, "a b c\u{7} /!"), (3, "a b c /")] {
         let clean = Charset::new().clean();
-        assert!(rt; makes_refusing(alloc, (1, set), "a b /", clean, want));
-        assert!(rt; makes_refusing(alloc, (1, set), "a b /", Charset::new(), "a b /"));
+        assert!(rt; makes_refusing(alloc, (1, set), "a\u{7} b c\u{7} /", clean, want));
+        assert!(rt; makes_refusing(alloc, (1, set), "a\u{7} b /", Charset::new(), "a\u{7} b /"));
     }
     for (set, want) in [(1, "a b / c d /!"), (2, "a b / a d /!"), (3, "a b / a b /")] {
         let dup = Dup::new(Rows::last(), Rows::first());

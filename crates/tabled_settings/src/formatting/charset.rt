@@ -1,7 +1,7 @@
 //! Tabs replaced and control characters taken out.
 
-ghost use Rattle.std.specs.Prelude.{◌≡◌, ◌+◌, ◌*◌, ◌==◌, ◌++◌, ◌⊎◌, false, length, replicate, [], IfOk, IfSome, IsOk, OnErr, OnOk};
-ghost use Rattle.std.specs.List.{count_by, flat_map};
+ghost use Rattle.std.specs.Prelude.{◌≡◌, ◌+◌, ◌*◌, ◌==◌, ◌++◌, ◌⊎◌, ◌&&◌, false, length, not, replicate, [], IfOk, IfSome, IsOk, OnErr, OnOk};
+ghost use Rattle.std.specs.List.{count_by, flat_map, list_all};
 ghost use Rattle.std.specs.String.{string_bytes};
 ghost use Rattle.tabled_grid.specs.Entity.{inside};
 ghost use Rattle.tabled_grid.specs.Grid.{map_grid};
@@ -188,6 +188,10 @@ impl Answers for Charset {
 
     ghost can_answer = { λ _. Unit {0} };
 
+    fn keeps(&self, _pos: Position, text: &str) -> bool {
+        is_plain(text.as_bytes(), self.clean)
+    }
+
     fn answer(&mut self, alloc: Global, _pos: Position, text: &str) -> Result<String, AllocError> {
         match self.tab_size {
             Some(size) => replaced(alloc, text, self.clean, size),
@@ -195,6 +199,13 @@ impl Answers for Charset {
             None => String::from_str(alloc, text),
         }
     }
+}
+
+/// Says whether a text has no tab and, if it is to be cleaned, no other control character but the newline.
+fn is_plain(text: &[u8], cleans: bool) -> bool
+    ensures { result ≡ list_all (λ b. not (b == 9) && stays cleans b) text.now }
+{
+    text.iter().all(|byte| *byte != b'\t' && (!cleans || *byte == b'\n' || *byte >= b' '))
 }
 
 /// The text with n spaces for each tab and, if it is to be cleaned, without control characters but

@@ -5,7 +5,7 @@ use Rattle.tabled_grid.specs.Grid.{map_grid}
 use Rattle.tabled_grid.proofs.Places.{inside-within}
 use Rattle.tabled_settings.proofs.Apart.{inside-apart}
 use Rattle.tabled_settings.proofs.Results.{on_err}
-use Rattle.tabled_settings.proofs.Rewriting.{rewritten-all, rewritten-more, rewritten-none, rewritten-until, same-texts, untouched}
+use Rattle.tabled_settings.proofs.Rewriting.{rewritten-all, rewritten-kept, rewritten-more, rewritten-none, rewritten-until, same-texts, untouched}
 use Rattle.tabled_settings.proofs.rewrite.rewrite.Goals as goal
 
 pub loop-pos-init : goal.loop-pos-init
@@ -26,11 +26,11 @@ loop-pos-init g c =
       so_far = rewritten-none _ _ _;
     }
 
-pub get_text-requires-clause-well : goal.get_text-requires-clause-well
-get_text-requires-clause-well g c = c.loop-pos.invariant.well
+pub get_text-old-requires-clause-well : goal.get_text-old-requires-clause-well
+get_text-old-requires-clause-well g c = c.loop-pos.invariant.well
 
-pub get_text-requires-clause-inside : goal.get_text-requires-clause-inside
-get_text-requires-clause-inside g c =
+pub get_text-old-requires-clause-inside : goal.get_text-old-requires-clause-inside
+get_text-old-requires-clause-inside g c =
     let here = (rw c.in-Some.ensures.steps at c.loop-pos.invariant.within).0 in
     record { row = rw c.loop-pos.invariant.rows here.0; col = rw c.loop-pos.invariant.columns here.1 }
 
@@ -53,8 +53,8 @@ set-requires-clause-inside g c =
     let here = (rw c.in-Some.ensures.steps at c.loop-pos.invariant.within).0 in
     record { row = rw c.loop-pos.invariant.rows here.0; col = rw c.loop-pos.invariant.columns here.1 }
 
-pub loop-pos-preserved : goal.loop-pos-preserved
-loop-pos-preserved g c =
+pub loop-pos-preserved-in-Continue-branch-2 : goal.loop-pos-preserved-in-Continue-branch-2
+loop-pos-preserved-in-Continue-branch-2 g c =
     let texts = λ (r : _). map_grid g.R.Cell.CellText.text_of (g.R.GridStore.grid r) in
     let i = c.loop-pos.invariant in
     let apart = rw c.in-Some.ensures.steps at i.apart in
@@ -70,7 +70,25 @@ loop-pos-preserved g c =
       apart = apart.1;
       all = append_assoc c.loop-pos.yielded (c.in-Some.pos ∷ []) c.next.new.self ∙ (rw c.in-Some.ensures.steps at i.all);
       same = untouched (texts c.args.records.now) (texts c.loop-pos.records) _ _ _ _ c.in_ok-set.ensures.texts apart.0 same.1;
-      so_far = rw c.in_ok-set.ensures.texts (rewritten-more _ _ _ _ _ _ _ _ _ i.so_far (rw (← same.0, c.get_text.ensures) c.in_ok-text.ensures.asks));
+      so_far = rw c.in_ok-set.ensures.texts (rewritten-more _ _ _ _ _ _ _ _ _ i.so_far (rw (← same.0, c.get_text-old.ensures) c.in_ok-text.ensures.asks));
+    }
+
+pub loop-pos-preserved : goal.loop-pos-preserved
+loop-pos-preserved g c =
+    let i = c.loop-pos.invariant in
+    let same = rw c.in-Some.ensures.steps at i.same in
+    record {
+      can = tt;
+      ends = tt;
+      well = i.well;
+      can_answer = i.can_answer;
+      rows = i.rows;
+      columns = i.columns;
+      within = (rw c.in-Some.ensures.steps at i.within).1;
+      apart = (rw c.in-Some.ensures.steps at i.apart).1;
+      all = append_assoc c.loop-pos.yielded (c.in-Some.pos ∷ []) c.next.new.self ∙ (rw c.in-Some.ensures.steps at i.all);
+      same = same.1;
+      so_far = rewritten-kept _ _ _ _ _ _ _ i.so_far (rw (← same.0, c.get_text-old.ensures) (c.keeps.ensures c.if-not-keeps.false));
     }
 
 pub returns-in_err-set-clause-err : goal.returns-in_err-set-clause-err
