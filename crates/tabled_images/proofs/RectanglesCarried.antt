@@ -118,11 +118,11 @@ module _ (places : Places) where
       by b None h None k = h ∙ sym k
 
   -- the test of an old place
-  pub passed : (test : Position → Bool) (o : Option Position) → passes test o ≡ true → (q : Position) × (o ≡ Some q) × (test q ≡ true)
+  passed : (test : Position → Bool) (o : Option Position) → passes test o ≡ true → (q : Position) × (o ≡ Some q) × (test q ≡ true)
   passed test None h = cc
   passed test (Some q) h = (q, refl, h)
 
-  pub passed-from : (test : Position → Bool) (o : Option Position) (q : Position) → o ≡ Some q → test q ≡ true → passes test o ≡ true
+  passed-from : (test : Position → Bool) (o : Option Position) (q : Position) → o ≡ Some q → test q ≡ true → passes test o ≡ true
   passed-from test o q is h = ap (passes test) is ∙ h
 
   alike-true : (a b : Bool) → alike a b ≡ true → a ≡ b
@@ -135,10 +135,10 @@ module _ (places : Places) where
   alike-from false true to back = back refl
   alike-from false false to back = refl
 
-  cell_in : (f : Anchor) (p : Position) → Member p (cells_of f) → In f.0 f.1 p
+  pub cell_in : (f : Anchor) (p : Position) → Member p (cells_of f) → In f.0 f.1 p
   cell_in f p m = let h = block-member _ _ _ _ p m in record { top = h.top; bottom = h.bottom; left = h.left; right = h.right }
 
-  cell_from : (f : Anchor) (p : Position) → In f.0 f.1 p → Member p (cells_of f)
+  pub cell_from : (f : Anchor) (p : Position) → In f.0 f.1 p → Member p (cells_of f)
   cell_from f p h = block-from _ _ _ _ p (record { top = h.top; bottom = h.bottom; left = h.left; right = h.right })
 
   -- the test says what the record says

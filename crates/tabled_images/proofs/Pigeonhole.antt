@@ -1,0 +1,96 @@
+-- Lists whose members are paired with those of another list, each with one of its own.
+use Rattle.std.proofs.Common.{◌≡◌, ℕ, zero, suc, ◌+◌, ◌*◌, ◌-◌, ◌≤◌, ◌⊎◌, inl, inr, List, [], ◌∷◌, ◌++◌, map, refl, sym, ap, ap₂, subst, ◌∙◌, arith, length}
+use Rattle.std.specs.List.{flat_map, range_with_len}
+use Rattle.std.proofs.lemmas.List.{length-append}
+use Rattle.std.proofs.lemmas.List.FromFn.{length-range_with_len, length-map-range_with_len}
+use Rattle.std.proofs.Math.Nat.{suc-mul, zero-mul}
+use Rattle.tabled_grid.specs.Entity.{block, place, row_places}
+use Rattle.tabled_grid.specs.declared.config.position.Position.{Position}
+use Rattle.tabled_grid.proofs.Members.{Member, flat_map-member, map-member, member-either, range-member}
+
+-- each member stands once
+abbrev pub Once : {A : Type 0} → List A → Type 0
+Once [] = Unit {0}
+Once (x ∷ xs) = (Member x xs → ⊥) × Once xs
+
+-- a list without a member of it
+without : {A : Type 0} (x : A) (ys : List A) → Member x ys → (zs : List A) × (length ys ≡ length zs + 1) × ((y : A) → Member y ys → (y ≡ x) ⊎ Member y zs)
+without x [] none = absurd none
+without x (y ∷ ys) (inl e) = (ys, omega arith, by)
+  where
+    by : (z : _) → Member z (y ∷ ys) → (z ≡ x) ⊎ Member z ys
+    by z (inl same) = inl (same ∙ sym e)
+    by z (inr m) = inr m
+without x (y ∷ ys) (inr m) = let rest = without x ys m in (y ∷ rest.0, omega (arith, rest.1), by rest.0 rest.2)
+  where
+    by : (zs : List _) → ((z : _) → Member z ys → (z ≡ x) ⊎ Member z zs) → (z : _) → Member z (y ∷ ys) → (z ≡ x) ⊎ Member z (y ∷ zs)
+    by zs each z (inl same) = inr (inl same)
+    by zs each z (inr h) = at (each z h)
+      where
+        at : (z ≡ x) ⊎ Member z zs → (z ≡ x) ⊎ Member z (y ∷ zs)
+        at (inl same) = inl same
+        at (inr k) = inr (inr k)
+
+module _ {A B : Type 0} (R : A → B → Type 0) (one : (x y : A) (z : B) → R x z → R y z → x ≡ y) where
+  -- the other list is no shorter, and where it is no longer each of its members is in a pair
+  pub paired : (xs : List A) (ys : List B) → Once xs → ((x : A) → Member x xs → (y : B) × Member y ys × R x y) → (length xs ≤ length ys) × (length ys ≤ length xs → (y : B) → Member y ys → (x : A) × Member x xs × R x y)
+  paired [] [] once goes = (omega arith, λ few y m. absurd m)
+  paired [] (y ∷ ys) once goes = (omega arith, λ few. absurd (omega (arith, few)))
+  paired (x ∷ xs) ys once goes =
+      let to = goes x (inl refl) in
+      let rest = without to.0 ys to.1 in
+      let go = paired xs rest.0 once.1 (λ y m. other rest.0 rest.2 y m (goes y (inr m))) in
+      (omega (arith, rest.1, go.0), λ few y m. by rest.0 (go.1 (omega (arith, rest.1, few))) y (rest.2 y m))
+    where
+      to : (y : B) × Member y ys × R x y
+      to = goes x (inl refl)
+
+      other : (zs : List B) → ((z : B) → Member z ys → (z ≡ to.0) ⊎ Member z zs) → (y : A) → Member y xs → (z : B) × Member z ys × R y z → (z : B) × Member z zs × R y z
+      other zs left y m (z, h, r) = at (left z h)
+        where
+          at : (z ≡ to.0) ⊎ Member z zs → (z : B) × Member z zs × R y z
+          at (inl same) = absurd (once.0 (subst (λ a. Member a xs) (one y x to.0 (subst (λ b. R y b) same r) to.2) m))
+          at (inr k) = (z, k, r)
+
+      by : (zs : List B) → ((z : B) → Member z zs → (y : A) × Member y xs × R y z) → (y : B) → (y ≡ to.0) ⊎ Member y zs → (a : A) × Member a (x ∷ xs) × R a y
+      by zs from y (inl same) = (x, inl refl, subst (λ b. R x b) (sym same) to.2)
+      by zs from y (inr m) = let p = from y m in (p.0, inr p.1, p.2)
+
+once-append : {A : Type 0} (xs ys : List A) → Once xs → Once ys → ((x : A) → Member x xs → Member x ys → ⊥) → Once (xs ++ ys)
+once-append [] ys a b apart = b
+once-append (x ∷ xs) ys a b apart = (λ m. by (member-either x xs ys m), once-append xs ys a.1 b (λ y m. apart y (inr m)))
+  where
+    by : Member x xs ⊎ Member x ys → ⊥
+    by (inl m) = a.0 m
+    by (inr m) = apart x (inl refl) m
+
+once-range : (a n : ℕ) → Once (range_with_len a n)
+once-range a zero = tt
+once-range a (suc n) = (λ m. let h = range-member a (a + 1) n m in omega (arith, h.0), once-range (a + 1) n)
+
+once-row : (i a n : ℕ) → Once (map (place i) (range_with_len a n))
+once-row i a zero = tt
+once-row i a (suc n) = (λ m. let f = map-member (place i) (place i a) (range_with_len (a + 1) n) m in let h = range-member f.0 (a + 1) n f.1 in omega (arith, h.0, ap (λ (p : Position). p.col) f.2), once-row i (a + 1) n)
+
+rows_of : (c d a n : ℕ) → Once (flat_map (row_places c d) (range_with_len a n))
+rows_of c d a zero = tt
+rows_of c d a (suc n) = once-append (row_places c d a) (flat_map (row_places c d) (range_with_len (a + 1) n)) (once-row a c (d - c)) (rows_of c d (a + 1) n) apart
+  where
+    apart : (p : Position) → Member p (row_places c d a) → Member p (flat_map (row_places c d) (range_with_len (a + 1) n)) → ⊥
+    apart p m k =
+        let f = map-member (place a) p (range_with_len c (d - c)) m in
+        let g = flat_map-member (row_places c d) p (range_with_len (a + 1) n) k in
+        let i = range-member g.0 (a + 1) n g.1 in
+        let h = map-member (place g.0) p (range_with_len c (d - c)) g.2 in
+        omega (arith, i.0, ap (λ (q : Position). q.row) f.2, ap (λ (q : Position). q.row) h.2)
+
+length-rows_of : (c d a n : ℕ) → length (flat_map (row_places c d) (range_with_len a n)) ≡ n * (d - c)
+length-rows_of c d a zero = sym (zero-mul (d - c))
+length-rows_of c d a (suc n) = length-append (row_places c d a) (flat_map (row_places c d) (range_with_len (a + 1) n)) ∙ ap₂ (λ k m. k + m) (length-map-range_with_len (place a) c (d - c)) (length-rows_of c d (a + 1) n) ∙ omega (arith, suc-mul n (d - c))
+
+-- each place of a block stands once
+pub once-block : (a b c d : ℕ) → Once (block a b c d)
+once-block a b c d = rows_of c d a (b - a)
+
+pub length-block : (a b c d : ℕ) → length (block a b c d) ≡ (b - a) * (d - c)
+length-block a b c d = length-rows_of c d a (b - a)
