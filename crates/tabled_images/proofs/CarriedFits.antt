@@ -1,13 +1,15 @@
 -- What is carried along fits the new table.
-use Rattle.std.proofs.Common.{◌≡◌, ℕ, false, List, [], ◌∷◌, refl, ap, ◌∙◌}
-use Rattle.std.specs.FinMap.{empty, from_entries, entries, entries-from_sorted, from_sorted}
+use Rattle.std.proofs.Common.{◌≡◌, ℕ, ◌+◌, ◌<◌, false, List, [], ◌∷◌, Some, refl, sym, ap, subst, ◌∙◌, arith}
+use Rattle.std.specs.FinMap.{empty, from_entries, get, entries, entries-from_sorted, from_sorted}
 use Rattle.std.specs.List.{filter}
 use Rattle.tabled_grid.specs.Anchors.{Anchor}
+use Rattle.tabled_grid.specs.Midway.{In}
 use Rattle.tabled_grid.specs.Places.{Places}
 use Rattle.tabled_grid.specs.Rectangles.{Fits}
 use Rattle.tabled_grid.specs.Spans.{AreSpanSizes, SpanMap, position_cmp}
-use Rattle.tabled_images.specs.Images.{carried, images, rectangles}
-use Rattle.tabled_images.proofs.RectanglesCarried.{image_fits, image_is}
+use Rattle.tabled_grid.specs.declared.config.position.Position.{Position}
+use Rattle.tabled_images.specs.Images.{Carries, IsFull, KeepsPlaces, Takes, carried, images, rectangles}
+use Rattle.tabled_images.proofs.RectanglesCarried.{carries_one, image_fits, image_is, image_one}
 use Rattle.tabled_grid.proofs.Fitting.{keep_fitting-fits}
 use Rattle.tabled_grid.specs.Fitting.{fitting, keep_fitting}
 
@@ -25,3 +27,29 @@ pub carried-fits : (places : Places) (rows columns : ℕ) (m : SpanMap) → AreS
 carried-fits places rows columns m sizes =
     let kept = keep_fitting-fits rows columns m sizes in
     image_fits places (keep_fitting rows columns m) (carried places rows columns m) rows columns (image_is places (keep_fitting rows columns m) rows columns kept) kept
+
+-- where cells keep their places, so does what fits
+pub carried-stays : (places : Places) (rows columns : ℕ) (m : SpanMap) → AreSpanSizes m → KeepsPlaces places rows columns → carried places rows columns m ≡ keep_fitting rows columns m
+carried-stays places rows columns m sizes keeps =
+    image_one places kept (carried places rows columns m) kept (image_is places kept rows columns fits) (record { comes = comes; goes = goes })
+  where
+    kept : SpanMap
+    kept = keep_fitting rows columns m
+
+    fits : Fits kept rows columns
+    fits = keep_fitting-fits rows columns m sizes
+
+    full : (a : Position) (s : ℕ × ℕ) → get kept a ≡ Some s → IsFull (a, s)
+    full a s h = let size = fits.sizes.each a s h in record { height = size.height; width = size.width }
+
+    stays : (a : Position) (s : ℕ × ℕ) → get kept a ≡ Some s → Carries places (a, s) (a, s)
+    stays a s h =
+        let inside = fits.inside a s h in
+        let takes : (p : Position) → In a s p → Takes places p p = λ p i. keeps.stays p (omega (arith, i.bottom, inside.0)) (omega (arith, i.right, inside.1)) in
+        record { all = λ p i. (p, takes p i); only = λ p q t i. subst (λ (x : Position). In a s x) (sym (keeps.alone p q t)) i; from = λ p i. (p, i, takes p i) }
+
+    comes : (b : Position) (t : ℕ × ℕ) → get kept b ≡ Some t → (a : Position) × (s : ℕ × ℕ) × (get kept a ≡ Some s) × Carries places (a, s) (b, t) × IsFull (b, t)
+    comes b t h = (b, t, h, stays b t h, full b t h)
+
+    goes : (a b : Position) (s t : ℕ × ℕ) → get kept a ≡ Some s → Carries places (a, s) (b, t) → IsFull (b, t) → get kept b ≡ Some t
+    goes a b s t h c whole = subst (λ (e : Anchor). get kept e.0 ≡ Some e.1) (carries_one places (a, s) (a, s) (b, t) (full a s h) whole (stays a s h) c) h

@@ -83,3 +83,8 @@ pub record LeadsBack (there back : Places) : Type 0 where
 -- each rectangle of a map is carried to one
 pub record CarriesAll (places : Places) (m : SpanMap) : Type 0 where
   pub each : (a : Position) (s : ℕ × ℕ) → finite.get m a ≡ Some s → (f : Anchor) × Carries places (a, s) f × IsFull f
+
+-- the cells of a table of r rows and c columns keep their places, and no other cell comes to one
+pub record KeepsPlaces (places : Places) (rows columns : ℕ) : Type 0 where
+  pub stays : (p : Position) → p.row < rows → p.col < columns → Takes places p p
+  pub alone : (p q : Position) → Takes places p q → p ≡ q

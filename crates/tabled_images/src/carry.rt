@@ -1,8 +1,10 @@
 //! Maps of merged cells, carried along when the cells of a table move.
 
-ghost use Rattle.std.specs.Prelude.{◌≡◌, IfOk, IsOk};
+ghost use Rattle.std.specs.Prelude.{◌≡◌, IfOk, IsNone, IsOk};
+ghost use Rattle.std.specs.Option.{IfSome};
 ghost use Rattle.std.specs.FinMap as map;
 ghost use Rattle.std.specs.FinMap.{from_sorted};
+ghost use Rattle.tabled_grid.specs.Fitting.{keep_fitting};
 ghost use Rattle.tabled_grid.specs.Rectangles.{Fits};
 ghost use Rattle.tabled_grid.specs.Spans.{AreAnchors, AreSpanSizes};
 ghost use Rattle.tabled_images.specs.Images.{carried, image};
@@ -30,12 +32,33 @@ pub fn carried<M: Moves>(
     if cfg.anchors().is_empty() {
         return Ok(SpannedConfig::new(alloc));
     }
+    match kept_in_place(alloc, cfg, rows, columns)? {
+        Some(kept) => carried_fitting(alloc, moves, &kept, rows, columns),
+        None => carried_fitting(alloc, moves, cfg, rows, columns),
+    }
+}
+
+/// What becomes of the merged cells of a table (`rows x columns`) whose cells keep their places: those that do
+/// not fit go. None where all fit, and the map stays as it is.
+///
+/// It takes memory only where one doesn't fit.
+pub fn kept_in_place(
+    alloc: Global,
+    cfg: &SpannedConfig,
+    rows: usize,
+    columns: usize,
+) -> Result<Option<SpannedConfig>, AllocError>
+    ensures kept { IfOk result (λ new. IfSome new (λ kept. kept ≡ keep_fitting rows columns cfg.now)) }
+    ensures same { IfOk result (λ new. IsNone new → keep_fitting rows columns cfg.now ≡ cfg.now) }
+    ensures sizes { AreSpanSizes cfg.now }
+    ensures promised { Fits cfg.now rows columns → IsOk result }
+{
     if cfg.fits(rows, columns) {
-        return carried_fitting(alloc, moves, cfg, rows, columns);
+        return Ok(None);
     }
     let mut kept = cfg.copy(alloc)?;
     kept.keep_fitting(alloc, rows, columns)?;
-    carried_fitting(alloc, moves, &kept, rows, columns)
+    Ok(Some(kept))
 }
 
 /// What becomes of merged cells that fit a table.

@@ -7,7 +7,7 @@ ghost use Rattle.tabled_grid.specs.Places.{Places};
 ghost use Rattle.tabled_grid.specs.Rectangles.{Fits};
 ghost use Rattle.tabled_grid.specs.Spans.{AreSpanSizes, SpanMap};
 ghost use Rattle.tabled_grid.specs.declared.config.position.Position.{Position};
-ghost use Rattle.tabled_images.specs.Images.{CarriesAll, IsFree, IsImage, LeadsBack, carried};
+ghost use Rattle.tabled_images.specs.Images.{CarriesAll, IsFree, IsImage, KeepsPlaces, LeadsBack, carried};
 
 /// Those rectangles fit a table that lie inside it and share no cell with another one.
 pub fn fitting_rectangles_are_the_free_ones()
@@ -33,4 +33,9 @@ pub fn carried_rectangles_fit()
 /// Merged cells that fit and are all carried along are as they were, once they are carried back.
 pub fn carried_there_and_back_is_as_it_was()
     ensures { (there : Places) (back : Places) (rows columns : ℕ) (m : SpanMap) → LeadsBack there back → CarriesAll there m → Fits m rows columns → carried back there.rows there.columns (carried there rows columns m) ≡ m }
+{}
+
+/// Where the cells of a table keep their places, those merged cells stay that fit it.
+pub fn merged_cells_stay_with_their_cells()
+    ensures { (places : Places) (rows columns : ℕ) (m : SpanMap) → AreSpanSizes m → KeepsPlaces places rows columns → carried places rows columns m ≡ keep_fitting rows columns m }
 {}

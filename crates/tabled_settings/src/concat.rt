@@ -15,7 +15,7 @@ use tabled_grid::config::{Entity, Position, SpannedConfig};
 use tabled_grid::records::{
     Axis, CellText, ExactRecords, PeekableRecords, Records, RecordsMut, Resizable, Text, VecRecords,
 };
-use tabled_images::{Moves, carried};
+use tabled_images::kept_in_place;
 use tabled_table::{Table, TableOption};
 
 /// Joins a second table to a table, below it or right of it. A contract sees it as where the second table
@@ -120,7 +120,7 @@ where
         let corner = corner_of(self.axis, rows, columns);
         let second = self.second.get_records();
         let growth = Growth::of(rows, columns, corner, second)?;
-        let spans = carried(alloc, &growth, cfg, rows, columns)?;
+        let spans = kept_in_place(alloc, cfg, rows, columns)?;
         join(
             alloc,
             records,
@@ -129,7 +129,9 @@ where
             second,
             self.default.as_str(),
         )?;
-        *cfg = spans;
+        if let Some(spans) = spans {
+            *cfg = spans;
+        }
         Ok(())
     }
 
@@ -192,18 +194,6 @@ impl Growth {
             new_rows: rows.max(bottom),
             new_columns: columns.max(right),
         })
-    }
-}
-
-impl Moves for Growth {
-    ghost places = { λ g. widened g.rows g.columns g.new_rows g.new_columns };
-
-    fn new_place(&self, pos: Position) -> Option<Position> {
-        (pos.row < self.rows && pos.col < self.columns).then_some(pos)
-    }
-
-    fn old_place(&self, pos: Position) -> Option<Position> {
-        (pos.row < self.rows && pos.col < self.columns).then_some(pos)
     }
 }
 

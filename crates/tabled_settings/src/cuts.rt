@@ -53,20 +53,6 @@ impl Moves for Cut {
         let nth = piece_index(self.split.behavior, self.lines, pieces, line, number);
         Some(axis.place(nth, cell % self.split.index))
     }
-
-    fn old_place(&self, pos: Position) -> Option<Position> {
-        let axis = self.split.lines;
-        let nth = axis.line_of(pos);
-        let cell = axis.across().line_of(pos);
-        let pieces = self.width.div_ceil(self.split.index);
-        let (line, number) = self.split.behavior.nth_piece(self.lines, pieces, nth);
-        let start = number * self.split.index;
-        if cell < self.width - start {
-            Some(axis.place(line, start + cell))
-        } else {
-            None
-        }
-    }
 }
 
 /// Lines that are cut, of which some pieces are kept.
@@ -87,11 +73,5 @@ impl Moves for CleanCut {
         let place = self.cut.new_place(pos)?;
         let line = index_of(&self.kept, axis.line_of(place))?;
         Some(axis.in_line(place, line))
-    }
-
-    fn old_place(&self, pos: Position) -> Option<Position> {
-        let axis = self.cut.split.lines;
-        let nth = self.kept[axis.line_of(pos)];
-        self.cut.old_place(axis.in_line(pos, nth))
     }
 }

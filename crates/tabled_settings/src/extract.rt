@@ -157,8 +157,4 @@ impl Moves for Window {
         let col = pos.col.checked_sub(self.first.col)?;
         (row < self.rows && col < self.columns).then_some(Position::new(row, col))
     }
-
-    fn old_place(&self, pos: Position) -> Option<Position> {
-        Some(Position::new(self.first.row + pos.row, self.first.col + pos.col))
-    }
 }

@@ -92,9 +92,4 @@ impl Moves for Kept {
         let line = index_of(&self.kept, self.axis.line_of(pos))?;
         Some(self.axis.in_line(pos, line))
     }
-
-    fn old_place(&self, pos: Position) -> Option<Position> {
-        let line = self.kept[self.axis.line_of(pos)];
-        Some(self.axis.in_line(pos, line))
-    }
 }

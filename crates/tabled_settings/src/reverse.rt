@@ -180,8 +180,4 @@ impl Moves for Mirror {
             None
         }
     }
-
-    fn old_place(&self, pos: Position) -> Option<Position> {
-        Some(self.across(pos))
-    }
 }

@@ -100,14 +100,6 @@ impl Moves for Turn {
             Rotate::Top | Rotate::Bottom => Position::new(self.rows - 1 - pos.row, pos.col),
         })
     }
-
-    fn old_place(&self, pos: Position) -> Option<Position> {
-        Some(match self.rotate {
-            Rotate::Left => Position::new(pos.col, self.columns - 1 - pos.row),
-            Rotate::Right => Position::new(self.rows - 1 - pos.col, pos.row),
-            Rotate::Top | Rotate::Bottom => Position::new(self.rows - 1 - pos.row, pos.col),
-        })
-    }
 }
 
 /// Turns the cells of a table.
