@@ -1,8 +1,9 @@
 -- Two tables joined: growth, texts, and the way back.
 use Rattle.std.proofs.Common.{◌≡◌, ℕ, ◌+◌, ◌-◌, ◌<◌, ◌≤◌, ◌≢◌, ◌⊎◌, inl, inr, Bool, true, false, cond, eqb, List, [], None, Some, refl, sym, ap, ap₂, ◌∙◌, take, get_or, max, arith}
-use Rattle.std.specs.Prelude.{slice_get, nat_lt, ◌&&◌}
+use Rattle.std.specs.Prelude.{slice_get, nat_lt, if◌then◌else◌, ◌&&◌}
 use Rattle.std.specs.Option.{IfSome, option_map}
-use Rattle.std.proofs.lemmas.Bool.{cases_eq, cases_lt, eqb-true, le-leb, ltb-true}
+use Rattle.std.proofs.lemmas.Bool.{cases_eq, cases_lt, eqb-true, le-leb, lt-ltb, ltb-true}
+use Rattle.std.proofs.lemmas.Option.{none-some, same_Some}
 use Rattle.std.proofs.lemmas.List.{get_or-map as get_or-map_within, get_or_append_left}
 use Rattle.tabled_grid.specs.Along.{first_along}
 use Rattle.tabled_grid.specs.Bulk.{AddsColumns, AddsRows}
@@ -15,7 +16,8 @@ use Rattle.tabled_grid.proofs.AddedRows.{IsEven-adds_rows}
 use Rattle.tabled_grid.proofs.FirstLines.{IsEven-first, either_way}
 use Rattle.tabled_grid.proofs.Grids.{IsEven-with_cell, cell_at-map_grid, cell_at-map_grid_some, cell_at-with_cell_other, cell_at-with_cell_same}
 use Rattle.tabled_grid.proofs.Transposed.{slice_get-take}
-use Rattle.tabled_settings.specs.Joined.{FillsTo, GrowsTo, JoinsAt, joined_text}
+use Rattle.tabled_images.specs.Images.{KeepsPlaces}
+use Rattle.tabled_settings.specs.Joined.{FillsTo, GrowsTo, JoinsAt, joined_places, joined_text}
 use Rattle.tabled_settings.proofs.LineReads.{line_first, lines_read}
 use Rattle.tabled_settings.proofs.SameCells.{none_outside, same_cells}
 
@@ -23,6 +25,17 @@ use Rattle.tabled_settings.proofs.SameCells.{none_outside, same_cells}
 pub empty_text : (corner : Position) (second : Grid (List ℕ)) (default : List ℕ) (a b : ℕ) → IsEven second → corner.row ≤ a → corner.col ≤ b → (second.rows ≤ a - corner.row) ⊎ (second.columns ≤ b - corner.col) → [] ≡ joined_text corner second default a b
 empty_text corner second default a b even row col outside =
     rw (le-leb corner.row a row, le-leb corner.col b col, none_outside second (a - corner.row) (b - corner.col) even outside) refl
+
+-- the cells of the first table keep their places
+place_of : (b : Bool) (p q : Position) → (if b then Some p else None) ≡ Some q → p ≡ q
+place_of true p q same = same_Some p q same
+place_of false p q same = absurd (none-some q same)
+
+pub joined_keeps : {A : Type 0} (corner : Position) (second : Grid A) (rows columns : ℕ) → KeepsPlaces (joined_places corner second rows columns) rows columns
+joined_keeps corner second rows columns = record {
+  stays = λ p h k. record { row = omega arith; col = omega arith; from = rw (lt-ltb p.row rows h, lt-ltb p.col columns k) refl };
+  alone = λ p q t. place_of (nat_lt p.row rows && nat_lt p.col columns) p q t.from;
+}
 
 wide_enough : (b : Bool) (c more size : ℕ) → (b ≡ true → size ≡ c) → c + more ≡ size → cond b c (c + more) ≡ size
 wide_enough true c more size none e = sym (none refl)

@@ -1,4 +1,23 @@
+use Rattle.std.proofs.Common.{◌≡◌, IsNone, Option, ap₂, refl, rules, sym, subst, ◌∙◌}
+use Rattle.std.specs.Option.{IfSome}
+use Rattle.tabled_grid.specs.Fitting.{keep_fitting}
+use Rattle.tabled_grid.specs.Spans.{SpanMap}
+use Rattle.tabled_images.specs.Images.{carried}
+use Rattle.tabled_images.proofs.CarriedFits.{carried-stays}
+use Rattle.tabled_settings.specs.Joined.{corner_of, joined_places}
+use Rattle.tabled_settings.proofs.Joins.{joined_keeps}
 use Rattle.tabled_settings.proofs.concat.ConcatTableOptionSpannedConfig.change.Goals as goal
+use Rattle.tabled_settings.proofs.concat.ConcatTableOptionSpannedConfig.change.Goals.{in-Some, in_default}
 
 pub returns-clause-ok : goal.returns-clause-ok
-returns-clause-ok g c = ?
+returns-clause-ok g c =
+    let grid = g.R.GridStore.grid c.args.records.now in
+    let corner = corner_of c.args.self.0 grid.rows grid.columns in
+    let stays : carried (joined_places corner c.args.self.1 grid.rows grid.columns) grid.rows grid.columns c.args.cfg.now ≡ keep_fitting grid.rows grid.columns c.args.cfg.now = carried-stays (joined_places corner c.args.self.1 grid.rows grid.columns) grid.rows grid.columns c.args.cfg.now c.in_ok-spans.ensures.sizes (joined_keeps corner c.args.self.1 grid.rows grid.columns) in
+    let kept = ap₂ (λ rows columns. keep_fitting rows columns c.args.cfg.now) c.count_rows-rows.ensures.rows c.count_columns-columns.ensures.columns in (
+      search rules,
+      elim c.match-spans-2.branch [
+        | in-Some w ↦ w.cfg-is ∙ subst (λ (o : Option SpanMap). IfSome o (λ spans. spans ≡ keep_fitting c.count_rows-rows.result c.count_columns-columns.result c.args.cfg.now)) w.in-Some.is c.in_ok-spans.ensures.kept ∙ kept ∙ sym stays
+        | in_default w ↦ w.cfg-is ∙ sym (c.in_ok-spans.ensures.same (subst (λ (o : Option SpanMap). IsNone o) (sym w.in_default.is) refl)) ∙ kept ∙ sym stays
+      ],
+    )
