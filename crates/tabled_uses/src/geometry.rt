@@ -4,7 +4,7 @@
 ghost use Rattle.tabled_grid.specs.Rectangles.{Fits};
 ghost use Rattle.tabled_grid.specs.declared.config.entity.Entity.{Entity};
 ghost use Rattle.tabled_grid.specs.declared.records.axis.Axis.TheVariants.{Columns};
-ghost use Rattle.tabled_options.specs.Does.{CopiesAlike, OptionKeeps};
+ghost use Rattle.tabled_options.specs.Does.{OptionKeeps};
 ghost use Rattle.tabled_spans.specs.Spanned.{IsFlat};
 
 use std::alloc::{AllocError, Global};
@@ -18,15 +18,15 @@ use tabled_options::laws::{
 use tabled_options::{
     CellOption, MergedCellsFit, Modify, ModifyList, Property, Settings, TableOption,
 };
-use tabled_select::object::{Object, Rows, Segment};
+use tabled_select::object::{Object, Rows};
 use tabled_settings::merge::Merge;
 use tabled_settings::panel::{Header, Panel};
 use tabled_settings::rotate::Rotate;
 use tabled_settings::span::{ColumnSpansFit, RowSpan, Span};
 use tabled_spans::laws::{
     footers_keep_merged_cells_fitting, headers_keep_merged_cells_fitting,
-    merges_keep_merged_cells_fitting, spans_along_lines_fit, spans_of_size_1_or_more_fit,
-    vertical_panels_keep_merged_cells_fitting,
+    horizontal_panels_keep_merged_cells_fitting, merges_keep_merged_cells_fitting,
+    spans_along_lines_fit, spans_of_size_1_or_more_fit, vertical_panels_keep_merged_cells_fitting,
 };
 use tabled_steps::{Select, Step, run};
 
@@ -94,68 +94,6 @@ where
     modified_keep::<MergedCellsFit, R, SpannedConfig, D, O, M>(_object, _option);
 }
 
-/// Changes each entity that an object lists by an option on cells that keeps merged cells fitting.
-pub fn changes_each<R, D, O, M>(
-    alloc: Global,
-    records: &mut R,
-    cfg: &mut SpannedConfig,
-    dimension: &mut D,
-    object: O,
-    option: M,
-) -> Result<(), AllocError>
-where
-    R: Records + ExactRecords,
-    O: Object<R> + Drop,
-    M: CellOption<R, SpannedConfig> + Clone + Drop,
-    requires well { R.is_well_formed records.old }
-    requires list { O.can_list object }
-    requires can { M.can_change option }
-    requires copies { CopiesAlike M.is_clone M.is_like option }
-    requires keeps { (e : Entity) → OptionKeeps ⟦<MergedCellsFit as Property<R::Cell, SpannedConfig>>⟧.holds (M.does option e) (M.leaves option e) }
-    requires fits { Fits cfg.old ((R.grid records.old).rows) ((R.grid records.old).columns) }
-    ensures well { R.is_well_formed records.new }
-    ensures fits { Fits cfg.new ((R.grid records.new).rows) ((R.grid records.new).columns) }
-{
-    listed_keep::<R, D, O, M>(&object, &option);
-    changes(alloc, records, cfg, dimension, Modify::list(object, option))
-}
-
-pub fn writes<R>(
-    alloc: Global,
-    records: &mut R,
-    cfg: &mut SpannedConfig,
-    text: String,
-) -> Result<(), AllocError>
-where
-    R: Records + ExactRecords + RecordsMut<String>,
-    R::Cell: CellText,
-    requires well { R.is_well_formed records.old }
-    requires fits { Fits cfg.old ((R.grid records.old).rows) ((R.grid records.old).columns) }
-    ensures well { R.is_well_formed records.new }
-    ensures fits { Fits cfg.new ((R.grid records.new).rows) ((R.grid records.new).columns) }
-{
-    strings_keep_merged_cells_fitting::<R>(&text);
-    changes_each(alloc, records, cfg, &mut (), Segment::all(), text)
-}
-
-pub fn spans_columns<R>(
-    alloc: Global,
-    records: &mut R,
-    cfg: &mut SpannedConfig,
-) -> Result<(), AllocError>
-where
-    R: Records + ExactRecords + PeekableRecords + RecordsMut<String>,
-    R::Cell: CellText,
-    requires well { R.is_well_formed records.old }
-    requires fits { Fits cfg.old ((R.grid records.old).rows) ((R.grid records.old).columns) }
-    ensures well { R.is_well_formed records.new }
-    ensures fits { Fits cfg.new ((R.grid records.new).rows) ((R.grid records.new).columns) }
-{
-    let span = Span::column(2);
-    spans_of_size_1_or_more_fit::<R>(span, Span::row(1));
-    changes_each(alloc, records, cfg, &mut (), Rows::first(), span)
-}
-
 /// Changes an entity by an option that keeps merged cells one row high, inside the table and apart.
 fn changes_flat<R, M>(
     alloc: Global,
@@ -200,90 +138,6 @@ where
     changes_flat(alloc, records, cfg, span, Entity::Row(0))
 }
 
-pub fn puts_in_a_header<R>(
-    alloc: Global,
-    records: &mut R,
-    cfg: &mut SpannedConfig,
-    title: String,
-) -> Result<(), AllocError>
-where
-    R: Records + ExactRecords + Resizable + RecordsMut<String>,
-    R::Cell: CellText,
-    requires well { R.is_well_formed records.old }
-    requires fits { Fits cfg.old ((R.grid records.old).rows) ((R.grid records.old).columns) }
-    ensures well { R.is_well_formed records.new }
-    ensures fits { Fits cfg.new ((R.grid records.new).rows) ((R.grid records.new).columns) }
-{
-    let header = Panel::header(title);
-    headers_keep_merged_cells_fitting::<R, ()>(&header);
-    header.change(alloc, records, cfg, &mut ())?;
-    Ok(())
-}
-
-pub fn puts_in_a_column<R>(
-    alloc: Global,
-    records: &mut R,
-    cfg: &mut SpannedConfig,
-    text: String,
-) -> Result<(), AllocError>
-where
-    R: Records + ExactRecords + Resizable + RecordsMut<String>,
-    R::Cell: CellText,
-    requires well { R.is_well_formed records.old }
-    requires fits { Fits cfg.old ((R.grid records.old).rows) ((R.grid records.old).columns) }
-    ensures well { R.is_well_formed records.new }
-    ensures fits { Fits cfg.new ((R.grid records.new).rows) ((R.grid records.new).columns) }
-{
-    let panel = Panel::vertical(1, text);
-    vertical_panels_keep_merged_cells_fitting::<R, ()>(&panel);
-    panel.change(alloc, records, cfg, &mut ())?;
-    Ok(())
-}
-
-pub fn merges_neighbours<R>(
-    alloc: Global,
-    records: &mut R,
-    cfg: &mut SpannedConfig,
-) -> Result<(), AllocError>
-where
-    R: Records + ExactRecords + PeekableRecords,
-    R::Cell: CellText,
-    requires well { R.is_well_formed records.old }
-    requires fits { Fits cfg.old ((R.grid records.old).rows) ((R.grid records.old).columns) }
-    ensures well { R.is_well_formed records.new }
-    ensures fits { Fits cfg.new ((R.grid records.new).rows) ((R.grid records.new).columns) }
-{
-    let merge = Merge::vertical();
-    merges_keep_merged_cells_fitting::<R, ()>(&merge, &Merge::horizontal());
-    changes(alloc, records, cfg, &mut (), merge)
-}
-
-/// One option and then another, both of which keep merged cells fitting.
-pub fn changes_by_settings<R, D, A, B>(
-    alloc: Global,
-    records: &mut R,
-    cfg: &mut SpannedConfig,
-    dimension: &mut D,
-    first: A,
-    second: B,
-) -> Result<(), AllocError>
-where
-    R: GridStore,
-    A: TableOption<R, SpannedConfig, D>,
-    B: TableOption<R, SpannedConfig, D> + Drop,
-    requires well { R.is_well_formed records.old }
-    requires first_can { A.can_change first }
-    requires second_can { B.can_change second }
-    requires first_keeps { OptionKeeps ⟦<MergedCellsFit as Property<R::Cell, SpannedConfig>>⟧.holds (A.does first) (A.leaves first) }
-    requires second_keeps { OptionKeeps ⟦<MergedCellsFit as Property<R::Cell, SpannedConfig>>⟧.holds (B.does second) (B.leaves second) }
-    requires fits { Fits cfg.old ((R.grid records.old).rows) ((R.grid records.old).columns) }
-    ensures well { R.is_well_formed records.new }
-    ensures fits { Fits cfg.new ((R.grid records.new).rows) ((R.grid records.new).columns) }
-{
-    settings_keep::<MergedCellsFit, R, SpannedConfig, D, A, B>(&first, &second);
-    changes(alloc, records, cfg, dimension, Settings::new(first, second))
-}
-
 /// Texts in the first row, and then spans from its places on.
 pub fn writes_and_spans<R>(
     alloc: Global,
@@ -305,62 +159,64 @@ where
     listed_keep::<R, (), _, String>(&rows, &text);
     spans_of_size_1_or_more_fit::<R>(Span::column(1), span);
     listed_keep::<R, (), _, RowSpan>(&rows, &span);
+    let texts = Modify::list(rows, text);
     let spans = Modify::list(rows, span);
-    changes_by_settings(
-        alloc,
-        records,
-        cfg,
-        &mut (),
-        Modify::list(rows, text),
-        spans,
-    )
+    settings_keep::<MergedCellsFit, R, SpannedConfig, (), _, _>(&texts, &spans);
+    changes(alloc, records, cfg, &mut (), Settings::new(texts, spans))
 }
 
-/// A header and a footer, as a pair.
+/// Puts in a header and a footer as a pair, and two headers as a list.
 pub fn frames<R>(
     alloc: Global,
     records: &mut R,
     cfg: &mut SpannedConfig,
-    title: String,
-    end: String,
+    text: &str,
 ) -> Result<(), AllocError>
 where
-    R: Records + ExactRecords + Resizable + RecordsMut<String>,
+    R: Records + ExactRecords + RecordsMut<String> + Resizable,
     R::Cell: CellText,
     requires well { R.is_well_formed records.old }
     requires fits { Fits cfg.old ((R.grid records.old).rows) ((R.grid records.old).columns) }
     ensures well { R.is_well_formed records.new }
     ensures fits { Fits cfg.new ((R.grid records.new).rows) ((R.grid records.new).columns) }
 {
-    let header = Panel::header(title);
-    let footer = Panel::footer(end);
+    let header = Panel::header(String::from_str(alloc, text)?);
+    let footer = Panel::footer(String::from_str(alloc, text)?);
     headers_keep_merged_cells_fitting::<R, ()>(&header);
     footers_keep_merged_cells_fitting::<R, ()>(&footer);
     settings_keep::<MergedCellsFit, R, SpannedConfig, (), _, _>(&header, &footer);
-    changes(alloc, records, cfg, &mut (), (header, footer))
-}
-
-/// Two headers, as a list.
-pub fn puts_in_headers<R>(
-    alloc: Global,
-    records: &mut R,
-    cfg: &mut SpannedConfig,
-    title: String,
-    above: String,
-) -> Result<(), AllocError>
-where
-    R: Records + ExactRecords + Resizable + RecordsMut<String>,
-    R::Cell: CellText,
-    requires well { R.is_well_formed records.old }
-    requires fits { Fits cfg.old ((R.grid records.old).rows) ((R.grid records.old).columns) }
-    ensures well { R.is_well_formed records.new }
-    ensures fits { Fits cfg.new ((R.grid records.new).rows) ((R.grid records.new).columns) }
-{
-    let first = Panel::header(title);
-    let second = Panel::header(above);
+    changes(alloc, records, cfg, &mut (), (header, footer))?;
+    let first = Panel::header(String::from_str(alloc, text)?);
+    let second = Panel::header(String::from_str(alloc, text)?);
     headers_keep_merged_cells_fitting::<R, ()>(&first);
     headers_keep_merged_cells_fitting::<R, ()>(&second);
     let list = vec![in alloc; first, second]?;
     vectors_keep::<MergedCellsFit, R, SpannedConfig, (), Header>(&list);
     changes(alloc, records, cfg, &mut (), list)
+}
+
+/// Puts in a row below the second one and a column right of the third one, and merges equal texts.
+pub fn widens_and_merges<R>(
+    alloc: Global,
+    records: &mut R,
+    cfg: &mut SpannedConfig,
+    text: &str,
+) -> Result<(), AllocError>
+where
+    R: Records + ExactRecords + PeekableRecords + RecordsMut<String> + Resizable,
+    R::Cell: CellText,
+    requires well { R.is_well_formed records.old }
+    requires fits { Fits cfg.old ((R.grid records.old).rows) ((R.grid records.old).columns) }
+    ensures well { R.is_well_formed records.new }
+    ensures fits { Fits cfg.new ((R.grid records.new).rows) ((R.grid records.new).columns) }
+{
+    let row = Panel::horizontal(2, String::from_str(alloc, text)?);
+    horizontal_panels_keep_merged_cells_fitting::<R, ()>(&row);
+    changes(alloc, records, cfg, &mut (), row)?;
+    let column = Panel::vertical(3, String::from_str(alloc, text)?);
+    vertical_panels_keep_merged_cells_fitting::<R, ()>(&column);
+    changes(alloc, records, cfg, &mut (), column)?;
+    let merge = Merge::vertical();
+    merges_keep_merged_cells_fitting::<R, ()>(&merge, &Merge::horizontal());
+    changes(alloc, records, cfg, &mut (), merge)
 }

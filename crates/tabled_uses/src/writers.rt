@@ -1,4 +1,4 @@
-//! Writers and panels on tables whose merged cells lie inside and apart, which they keep, done or refused.
+//! Writers on tables whose merged cells lie inside and apart, which they keep, done or refused.
 
 ghost use Rattle.std.specs.Prelude.{ℕ, [], ◌<◌, ◌≤◌, ◌∷◌};
 ghost use Rattle.tabled_grid.specs.Midway.{Midway};
@@ -11,9 +11,7 @@ ghost use Rattle.tabled_spans.specs.Spanned.{grown_each};
 use crate::geometry::changes;
 use std::alloc::{AllocError, Global};
 use tabled_grid::config::{Position, SpannedConfig};
-use tabled_grid::records::{
-    Axis, CellText, ExactRecords, PeekableRecords, Records, RecordsMut, Resizable,
-};
+use tabled_grid::records::{Axis, CellText, ExactRecords, PeekableRecords, Records, RecordsMut};
 use tabled_select::object::{Columns, Rows};
 use tabled_settings::duplicate::Dup;
 use tabled_settings::format::Format;
@@ -22,8 +20,7 @@ use tabled_settings::laws::{
     charsets_keep_merged_cells_fitting, duplicates_keep_merged_cells_fitting,
     formats_keep_merged_cells_fitting, positioned_formats_keep_merged_cells_fitting,
 };
-use tabled_settings::panel::Panel;
-use tabled_spans::laws::{horizontal_panels_keep_merged_cells_fitting, spans_fit_midway};
+use tabled_spans::laws::spans_fit_midway;
 
 fn marked(alloc: Global, text: &str) -> Result<String, AllocError> {
     format!(in alloc; "{text}!")
@@ -59,26 +56,6 @@ where
     let charset = Charset::new().clean();
     charsets_keep_merged_cells_fitting::<R, ()>(&charset);
     changes(alloc, records, cfg, &mut (), charset)
-}
-
-/// Puts a row in below the first one.
-pub fn puts_in_a_row<R>(
-    alloc: Global,
-    records: &mut R,
-    cfg: &mut SpannedConfig,
-    title: String,
-) -> Result<(), AllocError>
-where
-    R: Records + ExactRecords + Resizable + RecordsMut<String>,
-    R::Cell: CellText,
-    requires well { R.is_well_formed records.old }
-    requires fits { Fits cfg.old ((R.grid records.old).rows) ((R.grid records.old).columns) }
-    ensures well { R.is_well_formed records.new }
-    ensures fits { Fits cfg.new ((R.grid records.new).rows) ((R.grid records.new).columns) }
-{
-    let panel = Panel::horizontal(1, title);
-    horizontal_panels_keep_merged_cells_fitting::<R, ()>(&panel);
-    changes(alloc, records, cfg, &mut (), panel)
 }
 
 /// In the middle of an entity, after one more span of columns, merged cells lie inside the table, and of two

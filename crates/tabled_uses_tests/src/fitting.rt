@@ -10,24 +10,17 @@ use tabled_grid::records::{
 };
 use tabled_testing::flat;
 use tabled_uses::geometry::{
-    frames, merges_neighbours, puts_in_a_column, puts_in_a_header, puts_in_headers,
-    runs_fitting_steps, spans_back, spans_columns, writes, writes_and_spans,
+    frames, runs_fitting_steps, spans_back, widens_and_merges, writes_and_spans,
 };
-use tabled_uses::writers::{puts_in_a_row, writes_all};
+use tabled_uses::writers::writes_all;
 
 #[derive(Clone, Copy)]
 enum Call {
     Steps,
-    Spans,
+    Texts,
+    Frames,
+    Lines,
     Writers,
-    Merge,
-    Writes,
-    Header,
-    Row,
-    Column,
-    Settings,
-    Pair,
-    List,
 }
 
 fn make<R>(
@@ -48,36 +41,10 @@ where
             runs_fitting_steps(alloc, records, cfg)?;
             Ok(())
         }
-        Call::Spans => spans_columns(alloc, records, cfg),
+        Call::Texts => writes_and_spans(alloc, records, cfg, String::from_str(alloc, "x")?),
+        Call::Frames => frames(alloc, records, cfg, "x"),
+        Call::Lines => widens_and_merges(alloc, records, cfg, "x"),
         Call::Writers => writes_all(alloc, records, cfg),
-        Call::Merge => merges_neighbours(alloc, records, cfg),
-        _ => make_with_text(alloc, records, cfg, call),
-    }
-}
-
-fn make_with_text<R>(
-    alloc: Global,
-    records: &mut R,
-    cfg: &mut SpannedConfig,
-    call: Call,
-) -> Result<(), AllocError>
-where
-    R: Records + ExactRecords + PeekableRecords + RecordsMut<String> + Resizable,
-    R::Cell: CellText,
-    requires well { R.is_well_formed records.old }
-    requires fits { Fits cfg.old ((R.grid records.old).rows) ((R.grid records.old).columns) }
-    ensures { R.is_well_formed records.new }
-{
-    let text = String::from_str(alloc, "x")?;
-    match call {
-        Call::Writes => writes(alloc, records, cfg, text),
-        Call::Header => puts_in_a_header(alloc, records, cfg, text),
-        Call::Row => puts_in_a_row(alloc, records, cfg, text),
-        Call::Column => puts_in_a_column(alloc, records, cfg, text),
-        Call::Settings => writes_and_spans(alloc, records, cfg, text),
-        Call::Pair => frames(alloc, records, cfg, text, String::from_str(alloc, "y")?),
-        Call::List => puts_in_headers(alloc, records, cfg, text, String::from_str(alloc, "y")?),
-        _ => Ok(()),
     }
 }
 
@@ -127,16 +94,10 @@ fn spanned_back(alloc: Global) -> Result<Fitted, AllocError> {
 fn merged_cells_fit_after_each_call(rt: HostRuntime) -> Result<(), Fail> {
     for (call, wanted) in [
         (Call::Steps, (3, 3, 3, 1)),
-        (Call::Writes, (2, 3, 1, 1)),
-        (Call::Spans, (2, 3, 1, 2)),
-        (Call::Header, (3, 3, 1, 3)),
-        (Call::Row, (3, 3, 1, 1)),
-        (Call::Column, (2, 4, 1, 1)),
+        (Call::Texts, (2, 3, 2, 1)),
+        (Call::Frames, (6, 3, 1, 3)),
+        (Call::Lines, (3, 4, 2, 1)),
         (Call::Writers, (2, 3, 1, 1)),
-        (Call::Merge, (2, 3, 2, 1)),
-        (Call::Settings, (2, 3, 2, 1)),
-        (Call::Pair, (4, 3, 1, 3)),
-        (Call::List, (4, 3, 1, 3)),
     ] {
         let made = made(rt.alloc(), flat(rt.alloc(), BLANKS)?, call)?;
         assert!(rt; made == Some(wanted), "{wanted:?}");
