@@ -32,7 +32,11 @@ fn writes_are_refused_in_turn(rt: HostRuntime) {
         assert!(rt; makes_refusing(alloc, calls, "a b c /", positioned, *want));
     }
     // The text between the two stays as it is, and isn't written.
-    for (set, want) in [(1, "a\u{7} b c\u{7} /!"), (2, "a b c\u{7} /!"), (3, "a b c /")] {
+    for (set, want) in [
+        (1, "a\u{7} b c\u{7} /!"),
+        (2, "a b c\u{7} /!"),
+        (3, "a b c /"),
+    ] {
         let clean = Charset::new().clean();
         assert!(rt; makes_refusing(alloc, (1, set), "a\u{7} b c\u{7} /", clean, want));
         assert!(rt; makes_refusing(alloc, (1, set), "a\u{7} b /", Charset::new(), "a\u{7} b /"));
