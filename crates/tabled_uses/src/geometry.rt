@@ -138,6 +138,32 @@ where
     changes_flat(alloc, records, cfg, span, Entity::Row(0))
 }
 
+/// One option and then another, both of which keep merged cells fitting.
+pub fn changes_by_settings<R, D, A, B>(
+    alloc: Global,
+    records: &mut R,
+    cfg: &mut SpannedConfig,
+    dimension: &mut D,
+    first: A,
+    second: B,
+) -> Result<(), AllocError>
+where
+    R: GridStore,
+    A: TableOption<R, SpannedConfig, D>,
+    B: TableOption<R, SpannedConfig, D> + Drop,
+    requires well { R.is_well_formed records.old }
+    requires first_can { A.can_change first }
+    requires second_can { B.can_change second }
+    requires first_keeps { OptionKeeps ⟦<MergedCellsFit as Property<R::Cell, SpannedConfig>>⟧.holds (A.does first) (A.leaves first) }
+    requires second_keeps { OptionKeeps ⟦<MergedCellsFit as Property<R::Cell, SpannedConfig>>⟧.holds (B.does second) (B.leaves second) }
+    requires fits { Fits cfg.old ((R.grid records.old).rows) ((R.grid records.old).columns) }
+    ensures well { R.is_well_formed records.new }
+    ensures fits { Fits cfg.new ((R.grid records.new).rows) ((R.grid records.new).columns) }
+{
+    settings_keep::<MergedCellsFit, R, SpannedConfig, D, A, B>(&first, &second);
+    changes(alloc, records, cfg, dimension, Settings::new(first, second))
+}
+
 /// Texts in the first row, and then spans from its places on.
 pub fn writes_and_spans<R>(
     alloc: Global,
@@ -161,8 +187,7 @@ where
     listed_keep::<R, (), _, RowSpan>(&rows, &span);
     let texts = Modify::list(rows, text);
     let spans = Modify::list(rows, span);
-    settings_keep::<MergedCellsFit, R, SpannedConfig, (), _, _>(&texts, &spans);
-    changes(alloc, records, cfg, &mut (), Settings::new(texts, spans))
+    changes_by_settings(alloc, records, cfg, &mut (), texts, spans)
 }
 
 /// Puts in a header and a footer as a pair, and two headers as a list.
