@@ -83,7 +83,7 @@ where
     ghost acts_like = { Prim.search rules };
 }
 
-/// Writes a copy of a text to each cell inside that an entity names.
+/// Writes a text to each cell inside that an entity names, a copy to each but the last.
 fn write<R, T>(alloc: Global, records: &mut R, entity: Entity, text: T) -> Result<(), AllocError>
 where
     R: Records + ExactRecords + RecordsMut<T>,
@@ -96,10 +96,13 @@ where
     ensures err { OnErr result (FirstWrites (text_writes (T.text_of text) entity (map_grid R.Cell.text_of (R.grid records.old))) (map_grid R.Cell.text_of (R.grid records.old)) (map_grid R.Cell.text_of (R.grid records.new))) }
     ensures promised { inside entity ((R.grid records.old).rows) ((R.grid records.old).columns) ≡ [] → IsOk result }
 {
-    let rows = records.count_rows();
-    let columns = records.count_columns();
-    for pos in entity.iter(rows, columns) {
+    let mut places = entity.iter(records.count_rows(), records.count_columns());
+    let Some(mut pos) = places.next() else {
+        return Ok(());
+    };
+    while let Some(next) = places.next() {
         records.set(alloc, pos, text.clone()?)?;
+        pos = next;
     }
-    Ok(())
+    records.set(alloc, pos, text)
 }

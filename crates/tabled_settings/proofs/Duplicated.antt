@@ -1,18 +1,71 @@
 -- The writes of texts that are duplicated.
-use Rattle.std.proofs.Common.{◌≡◌, ◌<◌, inr, ℕ, List, [], ◌∷◌, length, refl, subst, arith}
+use Rattle.std.proofs.Common.{◌≡◌, ◌<◌, ◌≤◌, ◌+◌, ◌*◌, ◌%◌, ◌∙◌, ◌++◌, ◌⊎◌, inl, inr, ℕ, zero, suc, List, [], ◌∷◌, get_or, length, take, refl, subst, sym, ap, ap₂, arith}
+use Rattle.std.specs.List.{AllByRecursion}
+use Rattle.std.proofs.lemmas.Bool.{cases_lt}
+use Rattle.std.proofs.lemmas.List.{get_or-take, length-take-le, nil_from_length, take_all}
+use Rattle.std.proofs.lemmas.Nat.{mod-mul-add}
+use Rattle.tabled_grid.specs.Entity.{inside}
 use Rattle.tabled_grid.specs.Grid.{Grid, map_grid}
 use Rattle.tabled_grid.specs.declared.config.entity.Entity.{Entity}
-use Rattle.tabled_options.specs.Writes.{FirstWrites, Write}
-use Rattle.tabled_settings.specs.Dups.{DuplicatesFirst, round_writes, rounds, source_texts}
+use Rattle.tabled_grid.specs.declared.config.position.Position.{Position}
+use Rattle.tabled_options.specs.Writes.{FirstWrites, Write, with_writes}
+use Rattle.tabled_settings.specs.Dups.{Duplicates, DuplicatesFirst, round_from, round_writes, rounds, source_texts}
+
+-- a number below another is what is left of it
+own_rest : (i n : ℕ) → i < n → i % n ≡ i
+own_rest i n below =
+    let whole : i ≡ 0 * n + i = omega arith in
+    ap (λ x. x % n) whole ∙ mod-mul-add 0 n i below
+
+-- places that take only some of the first n texts
+few_places : (i n : ℕ) (texts : List (List ℕ)) (places : List Position) → i + length places ≤ n → n ≤ length texts → round_from i (take n texts) places ≡ round_from i texts places
+few_places i n texts [] few many = refl
+few_places i n texts (p ∷ places) few many =
+    let below : i < n = omega (arith, few) in
+    let here : i % length (take n texts) ≡ i = own_rest i (length (take n texts)) (rw (length-take-le n texts many) below) in
+    let there : i % length texts ≡ i = own_rest i (length texts) (omega (arith, below, many)) in
+    let text = ap (λ k. get_or (take n texts) k []) here ∙ get_or-take n texts i [] below ∙ ap (λ k. get_or texts k []) (sym there) in
+    ap₂ (λ (t : List ℕ) (writes : List Write). record { place = p; text = t } ∷ writes) text (few_places (i + 1) n texts places (omega (arith, few)) many)
+
+few_first : (n : ℕ) (texts : List (List ℕ)) (places : List Position) → length places ≤ n → (length texts < n) ⊎ (n ≤ length texts) → round_from 0 (take n texts) places ≡ round_from 0 texts places
+few_first n texts places few (inl short) = ap (λ ts. round_from 0 ts places) (take_all n texts (omega (arith, short)))
+few_first n texts places few (inr many) = few_places 0 n texts places (omega (arith, few)) many
+
+-- entities that name no more than n cells each
+abbrev pub Few : ℕ → ℕ → ℕ → List Entity → Type 0
+Few n rows columns targets = AllByRecursion (λ e. length (inside e rows columns) ≤ n) targets
+
+few_writes : (n : ℕ) (texts : List (List ℕ)) (rows columns : ℕ) (targets : List Entity) → Few n rows columns targets → round_writes (take n texts) rows columns targets ≡ round_writes texts rows columns targets
+few_writes n texts rows columns [] few = refl
+few_writes n texts rows columns (e ∷ targets) few =
+    ap₂ (λ (first others : List Write). first ++ others) (few_first n texts (inside e rows columns) few.0 (cases_lt (length texts) n)) (few_writes n texts rows columns targets few.1)
+
+no_writes : (texts : List (List ℕ)) (rows columns : ℕ) (targets : List Entity) → Few 0 rows columns targets → round_writes texts rows columns targets ≡ []
+no_writes texts rows columns [] few = refl
+no_writes texts rows columns (e ∷ targets) few = rw (nil_from_length (inside e rows columns) (omega (arith, few.0))) (no_writes texts rows columns targets few.1)
+
+-- the first n texts are written as all are
+pub few_rounds : (n : ℕ) (texts : List (List ℕ)) (rows columns : ℕ) (targets : List Entity) → Few n rows columns targets → rounds (take n texts) rows columns targets ≡ rounds texts rows columns targets
+few_rounds zero [] rows columns targets few = refl
+few_rounds (suc n) [] rows columns targets few = refl
+few_rounds zero (text ∷ texts) rows columns targets few = sym (no_writes (text ∷ texts) rows columns targets few)
+few_rounds (suc n) (text ∷ texts) rows columns targets few = few_writes (suc n) (text ∷ texts) rows columns targets few
 
 some_rounds : (texts : List (List ℕ)) (rows columns : ℕ) (targets : List Entity) → 0 < length texts → round_writes texts rows columns targets ≡ rounds texts rows columns targets
 some_rounds [] rows columns targets some = absurd (omega (arith, some))
 some_rounds (text ∷ texts) rows columns targets some = refl
 
-first_rounds : (texts sources : List (List ℕ)) (rows columns : ℕ) (targets : List Entity) (g h : Grid (List ℕ)) → texts ≡ sources → 0 < length texts → FirstWrites (round_writes texts rows columns targets) g h → FirstWrites (rounds sources rows columns targets) g h
-first_rounds texts sources rows columns targets g h e some first = rw (← e) (subst (λ (writes : List Write). FirstWrites writes g h) (some_rounds texts rows columns targets some) first)
+-- texts that are written as the first of a source's
+module _ {A C : Type 0} (text_of : A → List ℕ) (destination source : Grid A → List Entity → Type 0) (sources targets : List Entity) (texts : List (List ℕ)) (n : ℕ) (g h : Grid A) (c : C)
+    (from : source g sources) (to : destination g targets) (are : texts ≡ take n (source_texts (map_grid text_of g) sources)) (few : Few n g.rows g.columns targets) where
+  written : rounds texts g.rows g.columns targets ≡ rounds (source_texts (map_grid text_of g) sources) g.rows g.columns targets
+  written = ap (λ ts. rounds ts g.rows g.columns targets) are ∙ few_rounds n (source_texts (map_grid text_of g) sources) g.rows g.columns targets few
 
--- what is left by some texts of which the first are written
-pub left_first : {A C : Type 0} (text_of : A → List ℕ) (destination source : Grid A → List Entity → Type 0) (sources targets : List Entity) (texts : List (List ℕ)) (g h : Grid A) (c : C) → source g sources → destination g targets → texts ≡ source_texts (map_grid text_of g) sources → 0 < length texts →
-    FirstWrites (round_writes texts g.rows g.columns targets) (map_grid text_of g) (map_grid text_of h) → DuplicatesFirst text_of destination source g c h c
-left_first text_of destination source sources targets texts g h c from to are some first = inr (sources, targets, from, to, (first_rounds texts (source_texts (map_grid text_of g) sources) g.rows g.columns targets (map_grid text_of g) (map_grid text_of h) are some first, refl))
+  pub none_left : texts ≡ [] → Duplicates text_of destination source g c g c
+  none_left none = (sources, targets, from, to, (ap (λ writes. with_writes writes (map_grid text_of g)) (sym (ap (λ ts. rounds ts g.rows g.columns targets) none) ∙ written), refl))
+
+  pub left_all : 0 < length texts → map_grid text_of h ≡ with_writes (round_writes texts g.rows g.columns targets) (map_grid text_of g) → Duplicates text_of destination source g c h c
+  left_all some done = (sources, targets, from, to, (done ∙ ap (λ writes. with_writes writes (map_grid text_of g)) (some_rounds texts g.rows g.columns targets some ∙ written), refl))
+
+  pub left_first : 0 < length texts → FirstWrites (round_writes texts g.rows g.columns targets) (map_grid text_of g) (map_grid text_of h) → DuplicatesFirst text_of destination source g c h c
+  left_first some first = inr (sources, targets, from, to, (subst (λ (writes : List Write). FirstWrites writes (map_grid text_of g) (map_grid text_of h)) (some_rounds texts g.rows g.columns targets some ∙ written) first, refl))

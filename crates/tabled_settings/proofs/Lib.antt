@@ -10,6 +10,7 @@ pub mod KeptSome
 pub mod LineReads
 pub mod Mapped
 pub mod MirroredSpans
+pub mod Named
 pub mod PiecePlaces
 pub mod PieceReads
 pub mod PieceTexts

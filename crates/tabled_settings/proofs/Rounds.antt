@@ -1,5 +1,5 @@
--- Places in a round.
-use Rattle.std.proofs.Common.{◌≡◌, ◌<◌, ◌∙◌, ℕ, ◌+◌, ◌*◌, ◌/◌, ◌%◌, ap, sym, arith}
+-- Places in a round, and its texts.
+use Rattle.std.proofs.Common.{◌≡◌, ◌<◌, ◌∙◌, ℕ, zero, suc, ◌+◌, ◌*◌, ◌/◌, ◌%◌, List, [], ◌∷◌, ◌++◌, take, ap, refl, sym, arith}
 use Rattle.std.proofs.Math.Nat.{add-mod_right}
 use Rattle.std.proofs.lemmas.Nat.{div-add-mod', mod-mul-add}
 
@@ -22,3 +22,9 @@ pub zero_mod : (n : ℕ) → 0 < n → 0 ≡ 0 % n
 zero_mod n some =
     let zeros : 0 ≡ 0 * n + 0 = omega arith in
     sym (ap (λ x. x % n) zeros ∙ mod-mul-add 0 n 0 some)
+
+-- the first n of a list that begins with the first n of another
+pub take-append-take : {X : Type 0} (n : ℕ) (xs ys : List X) → take n (take n xs ++ ys) ≡ take n (xs ++ ys)
+take-append-take zero xs ys = refl
+take-append-take (suc n) [] ys = refl
+take-append-take (suc n) (x ∷ xs) ys = ap (λ zs. x ∷ zs) (take-append-take n xs ys)

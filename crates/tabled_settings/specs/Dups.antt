@@ -1,5 +1,5 @@
 -- Texts of some cells written to others.
-use Rattle.std.specs.Prelude.{◌≡◌, ◌⊎◌, ◌%◌, ◌+◌, ℕ, List, [], ◌∷◌, get_or, length, map}
+use Rattle.std.specs.Prelude.{◌%◌, ◌+◌, ℕ, List, [], ◌∷◌, get_or, length, map}
 use Rattle.std.specs.List.{flat_map}
 use Rattle.tabled_grid.specs.Entity.{inside}
 use Rattle.tabled_grid.specs.Grid.{Grid, map_grid}
@@ -32,9 +32,9 @@ source_texts g sources = map (text_at g) (flat sources g.rows g.columns)
 abbrev pub dup_writes : List Entity → List Entity → Grid (List ℕ) → List Write
 dup_writes sources targets g = rounds (source_texts g sources) g.rows g.columns targets
 
--- the texts of a source, written to what a destination lists in the old grid; without texts it isn't asked
+-- the texts of a source, written to what a destination lists in the old grid
 abbrev pub Duplicates : {A C : Type 0} → (A → List ℕ) → (Grid A → List Entity → Type 0) → (Grid A → List Entity → Type 0) → Change A C
-Duplicates text_of destination source g c h d = (sources : List Entity) × (targets : List Entity) × source g sources × ((source_texts (map_grid text_of g) sources ≡ []) ⊎ destination g targets) × DoesWrites text_of (dup_writes sources targets) g c h d
+Duplicates text_of destination source g c h d = (sources : List Entity) × (targets : List Entity) × source g sources × destination g targets × DoesWrites text_of (dup_writes sources targets) g c h d
 
 -- no change, or the first of these writes
 abbrev pub DuplicatesFirst : {A C : Type 0} → (A → List ℕ) → (Grid A → List Entity → Type 0) → (Grid A → List Entity → Type 0) → Change A C

@@ -1,6 +1,7 @@
 //! Texts of some cells written to others.
 
-ghost use Rattle.std.specs.Prelude.{◌≡◌, ◌<◌, ◌++◌, List, ℕ, length, map, OnErr, OnOk, IfOk};
+ghost use Rattle.std.specs.Prelude.{◌≡◌, ◌<◌, ◌≤◌, ◌++◌, List, ℕ, length, map, take, OnErr, OnOk, IfOk};
+ghost use Rattle.std.specs.List.{AllByRecursion};
 ghost use Rattle.std.specs.String.{string_bytes};
 ghost use Rattle.tabled_grid.specs.Entity.{inside};
 ghost use Rattle.tabled_grid.specs.Grid.{map_grid};
@@ -19,9 +20,9 @@ use tabled_select::object::{Object, entities};
 /// Writes the texts of one object's cells to the cells of another. A contract sees it as both, the
 /// destination first.
 ///
-/// All texts of the source are read before any is written. Each entity of the destination takes them from
-/// the first on, and after the last one the first again. A source without cells changes nothing.
-/// Refused for memory, it leaves the cells that it wrote.
+/// The texts of the source are read before any is written, as many as an entity of the destination takes.
+/// Each of these takes them from the first on, and after the last one the first again. A source without cells
+/// changes nothing. Refused for memory, it leaves the cells that it wrote.
 ///
 /// Ported from `tabled::settings::Dup`.
 #[derive(Clone, Copy, Drop)]
@@ -74,11 +75,12 @@ where
         _dimension: &mut D,
     ) -> Result<(), AllocError> {
         let sources = entities(alloc, &self.src, records)?;
-        let texts = texts_of(alloc, records, sources)?;
+        let targets = entities(alloc, &self.dst, records)?;
+        let many = most_named(&targets, records.count_rows(), records.count_columns());
+        let texts = first_texts(alloc, records, sources, many)?;
         if texts.is_empty() {
             return Ok(());
         }
-        let targets = entities(alloc, &self.dst, records)?;
         write_rounds(alloc, records, targets, &texts)
     }
 
@@ -89,37 +91,74 @@ where
     ghost acts_like = { Prim.search rules };
 }
 
-/// Appends copies of the texts of the cells inside that an entity names.
+/// How many cells an entity names at most in a table (`rows x columns`).
+fn count_named(entity: Entity, rows: usize, columns: usize) -> u128
+    ensures { length (inside entity rows columns) ≤ result }
+{
+    match entity {
+        Entity::Global => rows as u128 * columns as u128,
+        Entity::Column(_) => rows as u128,
+        Entity::Row(_) => columns as u128,
+        Entity::Cell(_, _) => 1,
+    }
+}
+
+/// How many cells each of some entities names at most in a table (`rows x columns`).
+fn most_named(entities: &[Entity], rows: usize, columns: usize) -> u128
+    ensures { AllByRecursion (λ entity. length (inside entity rows columns) ≤ result) entities.now }
+{
+    let mut most = 0;
+    for entity in entities {
+        let many = count_named(*entity, rows, columns);
+        if many > most {
+            most = many;
+        }
+    }
+    most
+}
+
+/// Appends copies of the texts of the cells inside that an entity names, until there are as many as are wanted.
 fn push_texts<R>(
     alloc: Global,
     records: &R,
     entity: Entity,
+    many: u128,
     texts: &mut Vec<String>,
 ) -> Result<(), AllocError>
 where
     R: Records + ExactRecords + PeekableRecords,
     R::Cell: CellText,
     requires well { R.is_well_formed records.now }
-    ensures { OnOk result (map string_bytes texts.new.items ≡ map string_bytes texts.old.items ++ map (text_at (map_grid R.Cell.text_of (R.grid records.now))) (inside entity (R.grid records.now).rows (R.grid records.now).columns)) }
+    requires few { length texts.old.items ≤ many }
+    ensures texts { OnOk result (map string_bytes texts.new.items ≡ take many (map string_bytes texts.old.items ++ map (text_at (map_grid R.Cell.text_of (R.grid records.now))) (inside entity (R.grid records.now).rows (R.grid records.now).columns))) }
+    ensures few { OnOk result (length texts.new.items ≤ many) }
 {
     for pos in entity.iter(records.count_rows(), records.count_columns()) {
+        if texts.len() as u128 == many {
+            return Ok(());
+        }
         texts.push(String::from_str(alloc, records.get_text(pos))?)?;
     }
     Ok(())
 }
 
-/// Copies of the texts of what entities name.
-fn texts_of<R>(alloc: Global, records: &R, entities: Vec<Entity>) -> Result<Vec<String>, AllocError>
+/// Copies of the first texts of what entities name.
+fn first_texts<R>(
+    alloc: Global,
+    records: &R,
+    entities: Vec<Entity>,
+    many: u128,
+) -> Result<Vec<String>, AllocError>
 where
     R: Records + ExactRecords + PeekableRecords,
     R::Cell: CellText,
     requires well { R.is_well_formed records.now }
-    ensures { IfOk result (λ texts. map string_bytes texts.items ≡ source_texts (map_grid R.Cell.text_of (R.grid records.now)) entities.items) }
+    ensures { IfOk result (λ texts. map string_bytes texts.items ≡ take many (source_texts (map_grid R.Cell.text_of (R.grid records.now)) entities.items)) }
 {
     let mut texts = Vec::new(alloc);
     let mut rest = entities.into_iter();
     while let Some(entity) = rest.next() {
-        push_texts(alloc, records, entity, &mut texts)?;
+        push_texts(alloc, records, entity, many, &mut texts)?;
     }
     Ok(texts)
 }

@@ -1,44 +1,53 @@
-use Rattle.std.proofs.Common.{rules, ◌∙◌, refl}
+use Rattle.std.proofs.Common.{rules, ◌≡◌, ◌∷◌, ◌∙◌, ap, arith, length, refl, subst, sym}
+use Rattle.std.proofs.lemmas.Result.{on_err_weaker, on_ok_weaker}
+use Rattle.tabled_grid.specs.Entity.{inside}
+use Rattle.tabled_grid.specs.Grid.{map_grid, with_cell}
+use Rattle.tabled_options.specs.Writes.{FirstWrites, at_each, with_writes}
 use Rattle.tabled_grid.proofs.Places.{inside-within}
 use Rattle.tabled_options.proofs.Results.{on_err}
 use Rattle.tabled_options.proofs.Writes.{some-next, some-none}
 use Rattle.tabled_options.proofs.writers.write.Goals as goal
 
-pub loop-pos-init : goal.loop-pos-init
-loop-pos-init g c =
+pub loop-next-init : goal.loop-next-init
+loop-next-init g c =
     let first = g.R.GridStore.grid c.args.records.now in
-    let all = c.into_iter-pos-iterator.ensures.into_iter_gives ∙ (rw (c.count_rows-rows.ensures.rows, c.count_columns-columns.ensures.columns) at c.iter-pos-items.ensures) in
+    let all : inside c.args.entity first.rows first.columns ≡ c.in-Some.pos ∷ c.next.new.self = sym (rw (c.count_rows.ensures.rows, c.count_columns.ensures.columns) at c.iter-places.ensures) ∙ c.in-Some.ensures.steps in
     record {
-      can = tt;
-      ends = tt;
       well = c.requires.well;
       rows = refl;
       columns = refl;
-      inside = rw all (inside-within c.args.entity first.rows first.columns);
+      inside = rw all at (inside-within c.args.entity first.rows first.columns);
       ok = rw all refl;
-      err = λ h s. rw all at s;
-      promised = λ e. rw all e;
+      err = λ h s. rw all s;
+      some = λ none. omega (arith, ap length (sym all ∙ none));
     }
 
-pub loop-pos-preserved : goal.loop-pos-preserved
-loop-pos-preserved g c =
-    let texts = rw (c.requires.alike _ c.in_ok-clone.ensures.cases) at c.in_ok-set.ensures.texts in
+pub loop-next-preserved : goal.loop-next-preserved
+loop-next-preserved g c =
+    let i = c.loop-next.invariant in
+    let text = g.T.CellText.text_of c.args.text in
+    let left = at_each text (c.in-Some-next.next ∷ c.next-in-loop-next.new.self) in
+    let texts = c.in_ok-set.ensures.texts ∙ ap (with_cell (map_grid g.R.Cell.CellText.text_of (g.R.GridStore.grid c.loop-next.records)) c.loop-next.pos) (c.requires.alike _ c.in_ok-clone.ensures.cases) in
     record {
-      can = tt;
-      ends = tt;
       well = c.set.ensures.well;
       rows = search rules;
       columns = search rules;
-      inside = (rw c.in-Some.ensures.steps at c.loop-pos.invariant.inside).1;
-      ok = rw texts (rw c.in-Some.ensures.steps at c.loop-pos.invariant.ok);
-      err = λ h s. c.loop-pos.invariant.err h (rw c.in-Some.ensures.steps (some-next _ _ _ h (rw texts at s)));
-      promised = λ e. search rules;
+      inside = (rw c.in-Some-next.ensures.steps at i.inside).1;
+      ok = ap (with_writes left) texts ∙ rw c.in-Some-next.ensures.steps at i.ok;
+      err = λ h s. i.err h (rw c.in-Some-next.ensures.steps (some-next _ _ _ h (subst (λ grid. FirstWrites left grid h) texts s)));
+      some = i.some;
     }
 
 pub returns-in_err-clone-clause-err : goal.returns-in_err-clone-clause-err
-returns-in_err-clone-clause-err g c =
-    on_err c.from_residual.result (c.loop-pos.invariant.err _ (rw c.in-Some.ensures.steps (some-none _ _ _)))
+returns-in_err-clone-clause-err g c = on_err c.from_residual.result (c.loop-next.invariant.err _ (some-none _ _ _))
 
 pub returns-in_err-set-clause-err : goal.returns-in_err-set-clause-err
-returns-in_err-set-clause-err g c =
-    on_err c.from_residual-in_err-set.result (c.loop-pos.invariant.err _ (rw (c.in-Some.ensures.steps, c.in_err-set.ensures.err) (some-none _ _ _)))
+returns-in_err-set-clause-err g c = on_err c.from_residual-in_err-set.result (c.loop-next.invariant.err _ (rw c.in_err-set.ensures.err (some-none _ _ _)))
+
+pub returns-clause-err : goal.returns-clause-err
+returns-clause-err g c =
+    on_err_weaker c.set-2.result (λ same. rw same (c.loop-next.invariant.err _ (some-none _ _ _))) c.set-2.ensures.err
+
+pub returns-clause-ok : goal.returns-clause-ok
+returns-clause-ok g c =
+    on_ok_weaker c.set-2.result (λ put. put ∙ rw c.in_default-next.ensures.steps.0 at c.loop-next.invariant.ok) c.set-2.ensures.texts

@@ -1,4 +1,4 @@
-use Rattle.std.proofs.Common.{◌≡◌, ◌<◌, ℕ, List, []}
+use Rattle.std.proofs.Common.{◌≡◌, ◌<◌, ◌∷◌, ℕ, List, []}
 use Rattle.std.specs.List.{AllByRecursion}
 use Rattle.tabled_grid.specs.Entity.{inside}
 use Rattle.tabled_grid.specs.Grid.{Grid, map_grid}
@@ -6,20 +6,19 @@ use Rattle.tabled_grid.specs.declared.config.position.Position.{Position}
 use Rattle.tabled_options.specs.Writes.{FirstWrites, at_each, with_writes}
 use Rattle.tabled_options.proofs.writers.write.Given as goal
 
-abbrev pub invariant-loop-pos : goal.invariant-loop-pos
-invariant-loop-pos g l =
+abbrev pub invariant-loop-next : goal.invariant-loop-next
+invariant-loop-next g l =
     let first = g.R.GridStore.grid l.fn.records in
     let texts = λ (r : _). map_grid g.R.Cell.CellText.text_of (g.R.GridStore.grid r) in
     let text = g.T.CellText.text_of l.fn.text in
     let all = inside l.fn.entity first.rows first.columns in
+    let left = l.pos ∷ l.places in
     record {
-      can : (goal.iterator-loop-pos g).can_next l.pos-iterator;
-      ends : (goal.iterator-loop-pos g).is_finite l.pos-iterator;
       well : g.R.GridStore.is_well_formed l.records;
       rows : (g.R.GridStore.grid l.records).rows ≡ first.rows;
       columns : (g.R.GridStore.grid l.records).columns ≡ first.columns;
-      inside : AllByRecursion (λ (p : Position). (p.row < first.rows) × (p.col < first.columns)) l.pos-iterator;
-      ok : with_writes (at_each text l.pos-iterator) (texts l.records) ≡ with_writes (at_each text all) (texts l.fn.records);
-      err : (h : Grid (List ℕ)) → FirstWrites (at_each text l.pos-iterator) (texts l.records) h → FirstWrites (at_each text all) (texts l.fn.records) h;
-      promised : all ≡ [] → l.pos-iterator ≡ [];
+      inside : AllByRecursion (λ (p : Position). (p.row < first.rows) × (p.col < first.columns)) left;
+      ok : with_writes (at_each text left) (texts l.records) ≡ with_writes (at_each text all) (texts l.fn.records);
+      err : (h : Grid (List ℕ)) → FirstWrites (at_each text left) (texts l.records) h → FirstWrites (at_each text all) (texts l.fn.records) h;
+      some : all ≡ [] → ⊥;
     }

@@ -1,5 +1,5 @@
-use Rattle.std.proofs.Common.{◌≡◌, ◌∙◌, append-nil, refl}
-use Rattle.std.proofs.lemmas.List.{append_assoc, map-append}
+use Rattle.std.proofs.Common.{◌≡◌, ◌≤◌, ◌<◌, ◌+◌, ◌∙◌, ◌++◌, append-nil, arith, length, map, refl, string_bytes, sym, take}
+use Rattle.std.proofs.lemmas.List.{append_assoc, length-append, length-map, map-append, take-append-le, take_all}
 use Rattle.tabled_grid.specs.Entity.{inside}
 use Rattle.tabled_grid.proofs.Places.{inside-within}
 use Rattle.tabled_settings.proofs.duplicate.push_texts.Goals as goal
@@ -12,7 +12,8 @@ loop-pos-init g c =
       can = tt;
       ends = tt;
       within = rw all (inside-within c.args.entity first.rows first.columns);
-      same = rw all refl;
+      texts = rw all refl;
+      few = c.requires.few;
     }
 
 pub get_text-requires-clause-inside : goal.get_text-requires-clause-inside
@@ -26,8 +27,11 @@ loop-pos-preserved g c =
       can = tt;
       ends = tt;
       within = (rw c.in-Some.ensures.steps at c.loop-pos.invariant.within).1;
-      same = rw (c.in_ok-push.ensures.items, map-append, append_assoc, c.in_ok-from_str.ensures.ok) (rw (c.in-Some.ensures.steps, c.get_text.ensures) at c.loop-pos.invariant.same);
+      texts = rw (c.in_ok-push.ensures.items, map-append, append_assoc, c.in_ok-from_str.ensures.ok) (rw (c.in-Some.ensures.steps, c.get_text.ensures) at c.loop-pos.invariant.texts);
+      few = rw (c.in_ok-push.ensures.items, length-append) (omega (arith, c.loop-pos.invariant.few, rw c.len.ensures at c.if-len-many.false));
     }
 
-pub returns : goal.returns
-returns g c = rw (c.in-None.ensures.steps.0, append-nil) at c.loop-pos.invariant.same
+pub returns-clause-texts : goal.returns-clause-texts
+returns-clause-texts g c =
+    let all = sym (take_all c.args.many (map string_bytes c.loop-pos.texts.items) (rw (length-map c.loop-pos.texts.items string_bytes) c.loop-pos.invariant.few)) in
+    all ∙ (rw (c.in-None.ensures.steps.0, append-nil) at c.loop-pos.invariant.texts)

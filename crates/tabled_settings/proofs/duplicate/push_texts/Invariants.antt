@@ -1,4 +1,4 @@
-use Rattle.std.proofs.Common.{◌≡◌, ◌<◌, ◌++◌, map, string_bytes}
+use Rattle.std.proofs.Common.{◌≡◌, ◌<◌, ◌≤◌, ◌++◌, length, map, string_bytes, take}
 use Rattle.std.specs.List.{AllByRecursion}
 use Rattle.tabled_grid.specs.Entity.{inside}
 use Rattle.tabled_grid.specs.Grid.{map_grid}
@@ -14,5 +14,6 @@ invariant-loop-pos g l =
       can : (goal.iterator-loop-pos g).can_next l.pos-iterator;
       ends : (goal.iterator-loop-pos g).is_finite l.pos-iterator;
       within : AllByRecursion (λ (p : Position). (p.row < grid.rows) × (p.col < grid.columns)) l.pos-iterator;
-      same : map string_bytes l.texts.items ++ map text l.pos-iterator ≡ map string_bytes l.fn.texts.items ++ map text (inside l.fn.entity grid.rows grid.columns);
+      texts : take l.fn.many (map string_bytes l.texts.items ++ map text l.pos-iterator) ≡ take l.fn.many (map string_bytes l.fn.texts.items ++ map text (inside l.fn.entity grid.rows grid.columns));
+      few : length l.texts.items ≤ l.fn.many;
     }

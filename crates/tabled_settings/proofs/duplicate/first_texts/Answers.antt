@@ -1,0 +1,22 @@
+use Rattle.std.proofs.Common.{arith, ◌≡◌, ◌≤◌, ◌∙◌, ◌++◌, [], append-nil, length, map, refl, rules, string_bytes, sym, ap}
+use Rattle.std.proofs.lemmas.Grind.{common_steps}
+use Rattle.std.proofs.lemmas.List.{append_assoc, length-map, map-append, nil_from_length, take_all}
+use Rattle.std.specs.Vec.Iter.{into_iter_items}
+use Rattle.tabled_settings.proofs.Rounds.{take-append-take}
+use Rattle.tabled_settings.proofs.duplicate.first_texts.Goals as goal
+
+pub loop-entity-init : goal.loop-entity-init
+loop-entity-init g c = record { texts = rw (c.new-texts.ensures.items, c.into_iter-rest.ensures.rest) refl; few = rw c.new-texts.ensures.items (omega arith) }
+
+pub loop-entity-preserved : goal.loop-entity-preserved
+loop-entity-preserved g c =
+    record {
+      texts = rw (c.in_ok-push_texts.ensures.texts, take-append-take, append_assoc) (rw (c.in-Some.ensures.items, map-append) at c.loop-entity.invariant.texts);
+      few = c.in_ok-push_texts.ensures.few;
+    }
+
+pub returns : goal.returns
+returns g c =
+    let nothing : into_iter_items c.loop-entity.rest ≡ [] = grind (arith, common_steps, nil_from_length) in
+    let all = sym (take_all c.args.many (map string_bytes c.loop-entity.texts.items) (rw (length-map c.loop-entity.texts.items string_bytes) c.loop-entity.invariant.few)) in
+    all ∙ (rw (nothing, append-nil) at c.loop-entity.invariant.texts)

@@ -1,0 +1,7 @@
+use Rattle.std.proofs.Common.{ℕ, ◌<◌, ◌≤◌, get_or, length}
+use Rattle.tabled_grid.specs.Entity.{inside}
+use Rattle.tabled_grid.specs.declared.config.entity.Entity.TheVariants.{Global}
+use Rattle.tabled_settings.proofs.duplicate.most_named.Given as goal
+
+abbrev pub invariant-loop-entity : goal.invariant-loop-entity
+invariant-loop-entity l = (k : ℕ) → k < l.entity-index → length (inside (get_or l.fn.entities k Global) l.fn.rows l.fn.columns) ≤ l.most
