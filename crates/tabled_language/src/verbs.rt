@@ -28,6 +28,7 @@ impl<'a> Words<'a> {
     pub(crate) fn step(&mut self, alloc: Global, verb: &str) -> Read<Step>
         ensures { Reads after (behind steps verb.now) self.old result self.new }
     {
+        // What many scripts say often comes first.
         match verb {
             "set" => self.set(alloc),
             "dup" => self.dup(alloc),
@@ -35,19 +36,19 @@ impl<'a> Words<'a> {
             "tabs" => self.tabs(alloc),
             "cspan" => self.span(alloc, Axis::Columns),
             "rspan" => self.span(alloc, Axis::Rows),
-            "vmerge" => Ok(Step::MergeVertical(Merge::vertical())),
-            "hmerge" => Ok(Step::MergeHorizontal(Merge::horizontal())),
+            "rotate" => self.turn(),
+            "reverse" => self.reverse(),
+            "remove" => self.removal(alloc),
+            "concat" => self.concat(alloc),
+            "extract" => self.extract(),
+            "split" => self.split(),
             "header" => self.header(alloc),
             "footer" => self.footer(alloc),
             "hpanel" => self.panel(alloc, Axis::Rows),
             "vpanel" => self.panel(alloc, Axis::Columns),
             "vpanelw" => self.cut_panel(alloc),
-            "rotate" => self.turn(),
-            "reverse" => self.reverse(),
-            "extract" => self.extract(),
-            "remove" => self.removal(alloc),
-            "concat" => self.concat(alloc),
-            "split" => self.split(),
+            "vmerge" => Ok(Step::MergeVertical(Merge::vertical())),
+            "hmerge" => Ok(Step::MergeHorizontal(Merge::horizontal())),
             _ => Err(ReadError::Faulty(Fault::UnknownWord)),
         }
     }

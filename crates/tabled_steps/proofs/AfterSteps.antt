@@ -67,11 +67,7 @@ module _ {A : Type 0} (text_of : A → List ℕ) where
     duplicated : (destination source : Select) → Duplicates text_of (Names text_of destination) (Names text_of source) g c h d → state_of text_of h d ≡ duplicate (named_by destination) (named_by source) (state_of text_of g c)
     duplicated destination source (sources, targets, named, aimed, does) =
         let texts : Grid (List ℕ) = map_grid text_of g in
-        same_state _ _ _ _ (does.0 ∙ ap (λ (ws : List Write). with_writes ws texts) (aim (source_texts texts sources) aimed ∙ ap (λ (es : List Entity). dup_writes es (selected texts destination) texts) named)) does.1
-      where
-        aim : (texts : List (List ℕ)) → (texts ≡ []) ⊎ (targets ≡ selected (map_grid text_of g) destination) → rounds texts g.rows g.columns targets ≡ rounds texts g.rows g.columns (selected (map_grid text_of g) destination)
-        aim texts (inl none) = rw none refl
-        aim texts (inr listed) = ap (rounds texts g.rows g.columns) listed
+        same_state _ _ _ _ (does.0 ∙ ap (λ (ws : List Write). with_writes ws texts) (ap (rounds (source_texts texts sources) g.rows g.columns) aimed ∙ ap (λ (es : List Entity). dup_writes es (selected texts destination) texts) named)) does.1
 
     rearranged : (places : ℕ → ℕ → Places) → ((p : Position) → (q : Position) × ((places g.rows g.columns).old_place p ≡ Some q)) → Rearranges (places g.rows g.columns) g c h d → state_of text_of h d ≡ rearrange places (state_of text_of g c)
     rearranged places total (reads, same) = same_state _ _ _ _ (read_through text_of g h (places g.rows g.columns) total reads) same

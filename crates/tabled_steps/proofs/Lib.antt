@@ -2,6 +2,7 @@ pub mod Acts
 pub mod AfterSteps
 pub mod EvenStates
 pub mod Fitting
+pub mod GoneOver
 pub mod LocalChanges
 pub mod MergedRuns
 pub mod Outside

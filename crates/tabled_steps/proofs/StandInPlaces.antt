@@ -74,11 +74,7 @@ module _ {A : Type 0} (text_of : A → List ℕ) (destination source : Select) (
 
   pub duplicated_stand_in : Duplicates text_of (StandsIn text_of destination) (StandsIn text_of source) g c h d → Duplicates text_of (Names text_of destination) (Names text_of source) g c h d
   duplicated_stand_in (sources, targets, stand, aimed, did) =
-      (selected texts source, selected texts destination, refl, inr refl, (did.0 ∙ ap (λ ws. with_writes ws texts) (writes-alike sources targets stand (aim (source_texts texts sources) aimed)), did.1))
-    where
-      aim : (found : List (List ℕ)) → (found ≡ []) ⊎ StandsIn text_of destination g targets → rounds found g.rows g.columns targets ≡ rounds found g.rows g.columns (selected texts destination)
-      aim found (inl none) = rw none refl
-      aim found (inr aimed) = round-alike found targets aimed
+      (selected texts source, selected texts destination, refl, refl, (did.0 ∙ ap (λ ws. with_writes ws texts) (writes-alike sources targets stand (round-alike (source_texts texts sources) targets aimed)), did.1))
 
   pub duplicated_stand_in_refused : DuplicatesFirst text_of (StandsIn text_of destination) (StandsIn text_of source) g c h d → DuplicatesFirst text_of (Names text_of destination) (Names text_of source) g c h d
   duplicated_stand_in_refused (inl none) = inl none

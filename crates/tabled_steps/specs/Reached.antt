@@ -1,6 +1,8 @@
 -- The entities that a selector names in a table, by the places inside that each names.
 use Rattle.std.specs.Prelude.{◌≡◌, ◌≤◌, ◌-◌, ◌*◌, ◌^◌, ◌==◌, ◌⊎◌, if◌then◌else◌, ℕ, List, [], ◌∷◌, ◌++◌, drop, map, max, replicate}
 use Rattle.std.specs.List.{AllByRecursion, flat_map, range_with_len}
+use Rattle.std.specs.Option.{option_to_list}
+use Rattle.std.specs.Vec.Iter.{into_iter_items}
 use Rattle.tabled_grid.specs.Entity.{block, inside, row_places}
 use Rattle.tabled_grid.specs.declared.config.entity.Entity.{Entity}
 use Rattle.tabled_grid.specs.declared.config.entity.Entity.TheVariants.{Cell}
@@ -12,6 +14,8 @@ use Rattle.tabled_steps.specs.declared.reached.Reached.{Reached}
 use Rattle.tabled_steps.specs.declared.reached.Reached.TheVariants.{Each, Runs}
 use Rattle.tabled_steps.specs.declared.reached.Run.{Run}
 use Rattle.tabled_steps.specs.declared.select.Select.{Select}
+use Rattle.tabled_steps.specs.declared.standing.Entities.{Entities}
+use Rattle.tabled_steps.specs.declared.standing.Entities.TheVariants as from
 use Rattle.tabled_steps.specs.Selected.{selected}
 
 -- the places of a table that entities name, of each
@@ -51,6 +55,11 @@ StandFor rows columns entities standing = (runs : List Run) × IsReached rows co
 -- these entities stand for those that a selector names in a table
 abbrev pub StandsIn : {A : Type 0} → (A → List ℕ) → Select → Grid A → List Entity → Type 0
 StandsIn text_of select g standing = StandFor g.rows g.columns (selected (map_grid text_of g) select) standing
+
+-- the entities that are left to go over
+abbrev pub entities_left : Entities → List Entity
+entities_left (from.One entity) = option_to_list entity
+entities_left (from.Each entities) = into_iter_items entities
 
 -- runs that stand for all but the first n of the entities for which others stand
 abbrev pub PassesRuns : ℕ → List Run → List Run → Type 0

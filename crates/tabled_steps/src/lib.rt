@@ -4,6 +4,7 @@
 pub mod laws;
 mod reached;
 mod select;
+mod standing;
 mod step;
 mod steps;
 

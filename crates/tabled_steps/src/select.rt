@@ -1,7 +1,8 @@
 //! Selectors as data.
 
-ghost use Rattle.std.specs.Prelude.{◌≡◌, IfOk};
-ghost use Rattle.tabled_grid.specs.Grid.{map_grid};
+ghost use Rattle.std.specs.Prelude.{◌≡◌, ◌∷◌, [], ℕ, List, IfOk};
+ghost use Rattle.std.specs.Option.{IfSome};
+ghost use Rattle.tabled_grid.specs.Grid.{Grid, map_grid};
 ghost use Rattle.tabled_steps.specs.Reached.{IsReached, StandsIn, runs_of};
 ghost use Rattle.tabled_steps.specs.Selected.{selected};
 
@@ -102,8 +103,21 @@ impl Select {
         }
     }
 
+    /// The one entity that is named in any table, if it is known without one.
+    pub(crate) fn single(&self) -> Option<Entity>
+        ensures { IfSome result (λ entity. (texts : Grid (List ℕ)) → selected texts self.now ≡ entity ∷ []) }
+    {
+        match self {
+            Select::All => Some(Entity::Global),
+            Select::Cell(i, j) => Some(Entity::Cell(*i, *j)),
+            Select::Row(i) => Some(Entity::Row(*i)),
+            Select::Column(j) => Some(Entity::Column(*j)),
+            _ => None,
+        }
+    }
+
     /// The entities that stand for those that are named in a store.
-    fn standing<R>(&self, alloc: Global, records: &R) -> Result<Vec<Entity>, AllocError>
+    pub(crate) fn standing<R>(&self, alloc: Global, records: &R) -> Result<Vec<Entity>, AllocError>
     where
         R: Records + ExactRecords + PeekableRecords,
         R::Cell: CellText,
@@ -204,25 +218,5 @@ where
 
     fn cells(&self, alloc: Global, records: &R) -> Result<vec::IntoIter<Entity>, AllocError> {
         Ok(self.list(alloc, records)?.into_iter())
-    }
-}
-
-/// Names for each run of entities that a selector names the one that stands for it.
-#[derive(Debug, Drop)]
-pub(crate) struct StandIns(pub(crate) Select);
-
-impl<R> Object<R> for StandIns
-where
-    R: Records + ExactRecords + PeekableRecords,
-    R::Cell: CellText,
-{
-    type Iter = vec::IntoIter<Entity>;
-
-    ghost lists = { λ s. StandsIn R.Cell.text_of s.0 };
-
-    ghost can_list = { λ _. Unit {0} };
-
-    fn cells(&self, alloc: Global, records: &R) -> Result<vec::IntoIter<Entity>, AllocError> {
-        Ok(self.0.standing(alloc, records)?.into_iter())
     }
 }

@@ -1,5 +1,7 @@
 //! Merged cells that are carried along: callers that rely on it, done or refused.
 
+ghost use Rattle.std.specs.Prelude.{◌≡◌, OnOk};
+ghost use Rattle.tabled_grid.specs.Fitting.{keep_fitting};
 ghost use Rattle.tabled_grid.specs.Rectangles.{Fits};
 
 use crate::geometry::changes;
@@ -8,9 +10,10 @@ use tabled_grid::config::SpannedConfig;
 use tabled_grid::records::{
     CellText, ExactRecords, PeekableRecords, Records, RecordsMut, Resizable,
 };
+use tabled_images::kept_in_place;
 use tabled_images::laws::{
     carried_rectangles_are_the_images, carried_rectangles_fit, carried_there_and_back_is_as_it_was,
-    fitting_rectangles_are_the_free_ones, there_is_one_image,
+    fitting_rectangles_are_the_free_ones, merged_cells_stay_with_their_cells, there_is_one_image,
 };
 use tabled_select::object::{Column, Rows};
 use tabled_settings::concat::Concat;
@@ -82,6 +85,21 @@ where
     changes(alloc, records, cfg, &mut (), join)
 }
 
+/// Takes the merged cells away that do not fit a table (`rows x columns`).
+pub fn keeps_what_fits(
+    alloc: Global,
+    cfg: &mut SpannedConfig,
+    rows: usize,
+    columns: usize,
+) -> Result<(), AllocError>
+    ensures { OnOk result (cfg.new ≡ keep_fitting rows columns cfg.old) }
+{
+    if let Some(kept) = kept_in_place(alloc, cfg, rows, columns)? {
+        *cfg = kept;
+    }
+    Ok(())
+}
+
 /// Calls the laws of what is carried along.
 pub fn knows_what_is_carried() {
     fitting_rectangles_are_the_free_ones();
@@ -89,6 +107,7 @@ pub fn knows_what_is_carried() {
     there_is_one_image();
     carried_rectangles_fit();
     carried_there_and_back_is_as_it_was();
+    merged_cells_stay_with_their_cells();
     merged_cells_turned_left_then_right_are_as_they_were();
     merged_cells_reversed_twice_are_as_they_were();
 }
