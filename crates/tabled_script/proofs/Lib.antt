@@ -1,3 +1,4 @@
 pub mod Again
 pub mod Changes
 pub mod OutputLines
+pub mod Sent

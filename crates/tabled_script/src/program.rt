@@ -3,12 +3,12 @@
 ghost use Rattle.std.specs.Prelude.{◌≡◌, ◌⊎◌, ℕ, Ok, Err, IfOk, IfSome, MatchResult, OnOk};
 ghost use Rattle.std.specs.Io.KnownBytes.{Appends};
 ghost use Rattle.std.specs.String.{string_bytes};
-ghost use Rattle.tabled_script.specs.Answer.{fault_line, memory_line, output_of};
+ghost use Rattle.tabled_script.specs.Answer.{bytes_of_table, fault_line, memory_line, output_of};
 ghost use Rattle.tabled_language.specs.Line.{Script as Meaning, parse};
 ghost use Rattle.tabled_language.specs.Parsing.{script_in};
 ghost use Rattle.tabled_language.specs.declared.fault.Fault.{Fault};
 
-use crate::output::print;
+use crate::output::{Output, ROOM};
 use crate::watched::Watched;
 use std::alloc::{AllocError, Global};
 use std::io::{self, ErrorKind, Read, Write};
@@ -31,7 +31,7 @@ const FAILED: u8 = 4;
 const MEMORY_LINE: &[u8] = b"out of memory\n";
 
 /// What answers a script: its output, or the line that names its first fault.
-type Answer = Result<Vec<u8>, String>;
+type Answer<'a> = Result<Output<'a>, String>;
 
 /// Runs the script that a reader has, and answers a status.
 ///
@@ -65,22 +65,20 @@ pub fn run_script<R: Read, W: Write>(alloc: Global, reader: &mut R, writer: &mut
 }
 
 /// What answers a script.
-fn answer(alloc: Global, input: &[u8]) -> Result<Answer, AllocError>
+fn answer<'a>(alloc: Global, input: &'a [u8]) -> Result<Answer<'a>, AllocError>
     ensures { IfOk result (λ answer. MatchResult answer
-        (λ output. (script : Meaning) × (parse input.now ≡ Ok script) × (output.items ≡ output_of script))
+        (λ output. (script : Meaning) × (parse input.now ≡ Ok script) × (bytes_of_table output ≡ output_of script))
         (λ line. (fault : ℕ × Fault) × (parse input.now ≡ Err fault) × (string_bytes line ≡ fault_line fault))) }
 {
     match parse(alloc, input)? {
-        // As long as the input, which most outputs are about: it then seldom moves as it grows.
-        Ok(script) => Ok(Ok(output(alloc, script, input.len())?)),
+        Ok(script) => Ok(Ok(output(alloc, script)?)),
         Err(fault) => Ok(Err(fault_line(alloc, fault)?)),
     }
 }
 
-/// The table of a script's records and merged cells after its steps, as it is written, with room for some
-/// bytes from the start.
-fn output(alloc: Global, script: Script, room: usize) -> Result<Vec<u8>, AllocError>
-    ensures { IfOk result (λ output. output.items ≡ output_of (script_in script.entry.records.items script.entry.spans script.entry.steps.items)) }
+/// The table of a script's records and merged cells after its steps, and room to write it.
+fn output<'a>(alloc: Global, script: Script<'a>) -> Result<Output<'a>, AllocError>
+    ensures { IfOk result (λ output. bytes_of_table output ≡ output_of (script_in script.entry.records.items script.entry.spans script.entry.steps.items)) }
 {
     let Script {
         records,
@@ -89,11 +87,12 @@ fn output(alloc: Global, script: Script, room: usize) -> Result<Vec<u8>, AllocEr
     } = script;
     let mut records = padded(records)?;
     match run(alloc, &mut records, &mut spans, steps) {
-        Ok(()) => {
-            let mut out = Vec::with_capacity(alloc, room)?;
-            print(&mut out, &records, &spans)?;
-            Ok(out)
-        }
+        // All memory is asked for before the first byte is written.
+        Ok(()) => Ok(Output {
+            records,
+            spans,
+            held: Vec::with_capacity(alloc, ROOM)?,
+        }),
         Err((_, error)) => Err(error),
     }
 }
@@ -109,18 +108,18 @@ fn fault_line(alloc: Global, fault: (usize, Fault)) -> Result<String, AllocError
 
 /// Writes an answer, or that memory ran out, and answers the status.
 pub(crate) fn write_answer<W: Write>(writer: &mut W, answer: Result<Answer, AllocError>) -> u8
-    ensures { (result ≡ 4) ⊎ MatchResult answer
+    ensures { (result ≡ 4) ⊎ MatchResult answer.entry
         (λ told. MatchResult told
-        (λ output. (result ≡ 0) × Appends (W.contents writer.old) (W.contents writer.new) output.items)
+        (λ output. (result ≡ 0) × Appends (W.contents writer.old) (W.contents writer.new) (bytes_of_table output))
         (λ line. (result ≡ 2) × Appends (W.contents writer.old) (W.contents writer.new) (string_bytes line)))
         (λ _. (result ≡ 3) × Appends (W.contents writer.old) (W.contents writer.new) memory_line) }
 {
-    let (bytes, status) = match &answer {
-        Ok(Ok(output)) => (output.as_slice(), DONE),
-        Ok(Err(line)) => (line.as_bytes(), FAULTY),
-        Err(_) => (MEMORY_LINE, OUT_OF_MEMORY),
+    let (written, status) = match answer {
+        Ok(Ok(output)) => (output.write(writer), DONE),
+        Ok(Err(line)) => (write_whole(writer, line.as_bytes()), FAULTY),
+        Err(_) => (write_whole(writer, MEMORY_LINE), OUT_OF_MEMORY),
     };
-    match write_whole(writer, bytes) {
+    match written {
         Ok(()) => status,
         Err(_) => FAILED,
     }

@@ -1,9 +1,11 @@
 //! Scripts run over readers and writers in memory.
 
+use crate::output::Output;
 use crate::program::write_answer;
 use crate::run_script;
 use std::alloc::{AllocError, Global};
 use std::test::Fail;
+use tabled_grid::config::SpannedConfig;
 
 /// The status for a script, and what was written.
 pub(crate) fn answer(alloc: Global, script: &[u8]) -> (u8, Vec<u8>) {
@@ -273,11 +275,20 @@ fn ends_well_where_a_script_is_cut(rt: HostRuntime) -> Result<(), Fail> {
     Ok(())
 }
 
+/// A table without cells.
+fn nothing<'a>(alloc: Global) -> Output<'a> {
+    Output {
+        records: Vec::new(alloc),
+        spans: SpannedConfig::new(alloc),
+        held: Vec::new(alloc),
+    }
+}
+
 #[test]
 fn writes_what_answers_a_script(rt: HostRuntime) -> Result<(), Fail> {
     let alloc = rt.alloc();
     for (answer, status, bytes) in [
-        (Ok(Ok(Vec::from_slice(alloc, b"shape\n")?)), 0, "shape\n"),
+        (Ok(Ok(nothing(alloc))), 0, "shape\t0\t0\n"),
         (Ok(Err(String::from_str(alloc, "line\n")?)), 2, "line\n"),
         (Err(AllocError), 3, "out of memory\n"),
     ] {

@@ -1,7 +1,39 @@
-use Rattle.std.proofs.Common.{arith}
-use Rattle.std.proofs.lemmas.Grind.{common_steps}
-use Rattle.tabled_script.proofs.OutputLines.{line-pieces}
-use Rattle.tabled_script.proofs.output.push_line.Goals as goal
+use Rattle.std.proofs.Common.{arith, ◌≡◌, ◌+◌, [], ◌∷◌, ◌++◌, append-nil, ap, get_or, map, refl, subst, sym, take, ◌∙◌}
+use Rattle.std.proofs.lemmas.List.{take_all}
+use Rattle.std.specs.List.{flat_map}
+use Rattle.tabled_language.specs.Output.{escaped}
+use Rattle.tabled_script.specs.Sent.{Sends}
+use Rattle.tabled_script.proofs.OutputLines.{line-pieces, pushed_more}
+use Rattle.tabled_script.proofs.Sent.{sends_more, sends_none}
+use Rattle.tabled_script.proofs.output.write_line.Goals as goal
+
+pub loop-text-init : goal.loop-text-init
+loop-text-init g c =
+    let held = c.args.held.now.items in
+    let name = escaped c.args.name.now in
+    sends_none (g.W.Write.contents c.args.writer.now) held c.push_escaped.new.out.items (name ++ []) (rw (c.in_ok-push_escaped.ensures, c.as_bytes.ensures.value) (ap (λ bytes. held ++ bytes) (sym (append-nil name))))
+
+pub loop-text-preserved : goal.loop-text-preserved
+loop-text-preserved g c =
+    let contents = g.W.Write.contents in
+    let word = λ (t : _). 9 ∷ escaped (g.T.CellText.text_of t) in
+    let texts = c.args.texts.now in
+    let i = c.loop-text.text-index in
+    let name = escaped c.args.name.now in
+    let before = name ++ flat_map word (take i texts) in
+    let path = ap (λ bytes. before ++ 9 ∷ escaped bytes) c.text.ensures ∙ pushed_more word name before texts i c.text-item.result c.loop-text-test.true c.text-item.is refl in
+    subst (Sends (contents c.args.writer.now) c.args.held.now.items (contents c.write_word.new.writer) c.write_word.new.held.items) path
+    (sends_more (contents c.args.writer.now) (contents c.loop-text.writer) (contents c.write_word.new.writer) c.args.held.now.items c.loop-text.held.items c.write_word.new.held.items before (9 ∷ escaped c.text.result.now) c.loop-text.invariant c.in_ok-write_word.ensures)
 
 pub returns : goal.returns
-returns g c = rw (line-pieces g.T.CellText.text_of c.args.name.now c.args.texts.now) (grind (arith, common_steps))
+returns g c =
+    let contents = g.W.Write.contents in
+    let text_of = g.T.CellText.text_of in
+    let texts = c.args.texts.now in
+    let name = escaped c.args.name.now in
+    let words = flat_map (λ t. 9 ∷ escaped (text_of t)) (take c.loop-text.text-index texts) in
+    let all = take_all c.loop-text.text-index texts (omega arith) in
+    let path = ap (λ ts. (name ++ flat_map (λ t. 9 ∷ escaped (text_of t)) ts) ++ 10 ∷ []) all ∙ sym (line-pieces text_of c.args.name.now texts) in
+    subst (Sends (contents c.args.writer.now) c.args.held.now.items (contents c.loop-text.writer) c.push.new.self.items) path
+    (sends_more (contents c.args.writer.now) (contents c.loop-text.writer) (contents c.loop-text.writer) c.args.held.now.items c.loop-text.held.items c.push.new.self.items (name ++ words) (10 ∷ []) c.loop-text.invariant
+    (sends_none (contents c.loop-text.writer) c.loop-text.held.items c.push.new.self.items (10 ∷ []) c.in_ok-push.ensures.items))

@@ -14,5 +14,5 @@ returns-in-Ok c =
     let cells = c.in_ok-records.records in
     let script = script_in c.args.script.records.items c.args.script.spans steps in
     let begin : state_of bytes_of (grid_of (map_items cells.items)) c.args.script.spans ≡ start script = rw c.in_ok-records.ensures.cells refl in
-    let end = c.in-Ok.ensures.state ∙ ap (after_all steps) begin ∙ after_all-changed steps (start script) in
-    (rw (c.in_ok-out-in-Ok.ensures.items) at c.in_ok-print-in-Ok.ensures) ∙ ap print end
+    let end : state_of bytes_of (grid_of (map_items c.run.new.records.items)) c.run.new.cfg ≡ _ = c.in-Ok.ensures.state ∙ ap (after_all steps) begin ∙ after_all-changed steps (start script) in
+    ap (λ spans. print (state_of bytes_of (grid_of (map_items c.run.new.records.items)) spans)) c.spans-2.view_is ∙ ap print end

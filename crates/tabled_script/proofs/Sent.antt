@@ -1,0 +1,27 @@
+-- Bytes that are held, and then written.
+use Rattle.std.proofs.Common.{◌≡◌, ℕ, List, [], ◌++◌, Option, append-nil, append_assoc, ap, refl, subst, sym, ◌∙◌}
+use Rattle.std.proofs.KnownBytes.{Appends-nil, Appends-trans}
+use Rattle.std.specs.Io.KnownBytes.{Appends}
+use Rattle.tabled_script.specs.Sent.{Sends}
+
+-- bytes that are held
+pub sends_none : (a : Option (List ℕ)) (held left bytes : List ℕ) → left ≡ held ++ bytes → Sends a held a left bytes
+sends_none a held left bytes is = ([], Appends-nil a, sym is)
+
+-- all that is held, written
+pub sends_held : (a b : Option (List ℕ)) (held : List ℕ) → Appends a b held → Sends a held b [] []
+sends_held a b held wrote = (held, wrote, refl)
+
+-- some bytes, and then others
+pub sends_more : (a b c : Option (List ℕ)) (h i j xs ys : List ℕ) → Sends a h b i xs → Sends b i c j ys → Sends a h c j (xs ++ ys)
+sends_more a b c h i j xs ys first second =
+    (first.0 ++ second.0, Appends-trans a b c first.0 second.0 first.1 second.1, sym (append_assoc h xs ys) ∙ ap (λ l. l ++ ys) first.2 ∙ append_assoc first.0 i ys ∙ ap (λ l. first.0 ++ l) second.2 ∙ sym (append_assoc first.0 second.0 j))
+
+-- bytes that are held, and may then be written
+pub sends_next : (a b c : Option (List ℕ)) (h i j k xs ys zs : List ℕ) → Sends a h b i xs → j ≡ i ++ ys → Sends b j c k [] → xs ++ ys ≡ zs → Sends a h c k zs
+sends_next a b c h i j k xs ys zs first pushed sent is =
+    subst (Sends a h c k) (append-nil (xs ++ ys) ∙ is) (sends_more a b c h j k (xs ++ ys) [] (sends_more a b b h i j xs ys first (sends_none b i j ys pushed)) sent)
+
+-- what was left is written at last
+pub sent_all : (a b c : Option (List ℕ)) (left bytes : List ℕ) → Sends a [] b left bytes → Appends b c left → Appends a c bytes
+sent_all a b c left bytes sent last = subst (Appends a c) (sym sent.2) (Appends-trans a b c sent.0 left sent.1 last)

@@ -1,0 +1,11 @@
+use Rattle.std.proofs.Common.{◌≡◌, ℕ, List, ◌∷◌, ◌++◌, length}
+use Rattle.tabled_language.specs.Output.{escaped}
+use Rattle.tabled_script.specs.Sent.{Sends}
+use Rattle.tabled_script.proofs.output.write_word.Given as goal
+
+abbrev pub invariant-loop-rest : goal.invariant-loop-rest
+invariant-loop-rest g l =
+    (sent : List ℕ) × Sends (g.W.Write.contents l.fn.writer) l.fn.held.items (g.W.Write.contents l.writer) l.held.items sent × (sent ++ escaped l.rest ≡ 9 ∷ escaped l.fn.text)
+
+abbrev pub decreases-loop-rest : goal.decreases-loop-rest
+decreases-loop-rest g l = length l.rest
