@@ -92,10 +92,26 @@ fn write_line<W: Write, T: CellText>(
 {
     push_escaped(held, name.as_bytes())?;
     for text in texts {
-        write_word(writer, held, text.text())?;
+        let text = text.text();
+        if !text.is_empty() {
+            write_word(writer, held, text)?;
+        } else {
+            write_tab(writer, held)?;
+        }
     }
     held.push(b'\n')?;
     Ok(())
+}
+
+/// Writes, or holds, a tab.
+fn write_tab<W: Write>(writer: &mut W, held: &mut Vec<u8>) -> io::Result<()>
+    ensures { OnOk result (Sends (W.contents writer.old) held.old.items (W.contents writer.new) held.new.items (9 ∷ [])) }
+{
+    held.push(b'\t')?;
+    if held.len() < PART {
+        return Ok(());
+    }
+    send(writer, held)
 }
 
 /// Writes, or holds, a tab, and the word that stands for a text.
