@@ -1,5 +1,5 @@
 -- What is carried along fits the new table.
-use Rattle.std.proofs.Common.{◌≡◌, ℕ, ◌+◌, ◌<◌, false, List, [], ◌∷◌, Some, refl, sym, ap, subst, ◌∙◌, arith}
+use Rattle.std.proofs.Common.{◌≡◌, ℕ, false, List, [], ◌∷◌, Some, refl, sym, ap, subst, ◌∙◌, arith}
 use Rattle.std.specs.FinMap.{empty, from_entries, get, entries, entries-from_sorted, from_sorted}
 use Rattle.std.specs.List.{filter}
 use Rattle.tabled_grid.specs.Anchors.{Anchor}

@@ -106,7 +106,7 @@ impl<O, M> ModifyList<O, M> {
 }
 
 /// Changes the entities that the object lists in the table as it is before any change, one after
-/// another, each but the last by a copy of the option.
+/// another, each by a copy of the option.
 ///
 /// A refused list changes nothing. A refused copy or change ends the call there.
 impl<O, M, R, C, D> TableOption<R, C, D> for ModifyList<O, M>
@@ -134,15 +134,11 @@ where
     ) -> Result<(), AllocError> {
         let ModifyList { object, option } = self;
         let mut entities = object.cells(alloc, records)?;
-        let Some(mut entity) = entities.next() else {
-            return Ok(());
-        };
-        while let Some(next) = entities.next() {
+        while let Some(entity) = entities.next() {
             let copy = option.clone()?;
             copy.change(alloc, records, cfg, entity)?;
-            entity = next;
         }
-        option.change(alloc, records, cfg, entity)
+        Ok(())
     }
 
     fn hint_change(&self) -> Option<Entity> {

@@ -17,7 +17,7 @@ use tabled_grid::records::{CellText, ExactRecords, Records};
 use tabled_language::LentText;
 
 /// How many bytes are held before they are written.
-const PART: usize = 65_536;
+const PART: usize = 16_384;
 
 /// Room for the bytes that are held: those of a part, and those of a further part, all of them escaped.
 pub(crate) const ROOM: usize = 4 * PART;

@@ -18,10 +18,13 @@ pub(crate) struct Cut {
     pub(crate) split: Split,
     pub(crate) lines: usize,
     pub(crate) width: usize,
+    /// How many pieces a line has.
+    pub(crate) pieces: usize,
     ghost some: { 0 < lines },
     ghost index: { 0 < split.index },
     ghost narrow: { split.index < width },
-    ghost numbered: { lines * div_ceil width split.index < 2 ^ 64 },
+    ghost counted: { pieces ≡ div_ceil width split.index },
+    ghost numbered: { lines * pieces < 2 ^ 64 },
 }
 
 /// How many pieces come before a piece of a line.
@@ -48,9 +51,8 @@ impl Moves for Cut {
         if line >= self.lines || cell >= self.width {
             return None;
         }
-        let pieces = self.width.div_ceil(self.split.index);
         let number = cell / self.split.index;
-        let nth = piece_index(self.split.behavior, self.lines, pieces, line, number);
+        let nth = piece_index(self.split.behavior, self.lines, self.pieces, line, number);
         Some(axis.place(nth, cell % self.split.index))
     }
 }

@@ -33,7 +33,7 @@ where
     ensures { IfOk result (λ kept. kept.items ≡ kept_pieces cut.now.split (turned cut.now.split.lines (map_grid R.Cell.text_of (R.grid records.now)))) }
 {
     let mut kept = Vec::new(alloc);
-    for nth in 0..cut.lines * cut.width.div_ceil(cut.split.index) {
+    for nth in 0..cut.lines * cut.pieces {
         if stays(records, cut, nth) {
             kept.push(nth)?;
         }
@@ -51,12 +51,11 @@ where
     requires lines { cut.now.lines ≡ count_along cut.now.split.lines (R.grid records.now) }
     requires width { cut.now.width ≡ count_along (across cut.now.split.lines) (R.grid records.now) }
     requires clean { cut.now.split.display ≡ Clean }
-    requires within { nth < cut.now.lines * div_ceil cut.now.width cut.now.split.index }
+    requires within { nth < cut.now.lines * cut.now.pieces }
     ensures { result ≡ stays_at cut.now.split (div_ceil cut.now.width cut.now.split.index) (turned cut.now.split.lines (map_grid R.Cell.text_of (R.grid records.now))).cells nth }
 {
     let index = cut.split.index;
-    let pieces = cut.width.div_ceil(index);
-    let (line, number) = cut.split.behavior.nth_piece(cut.lines, pieces, nth);
+    let (line, number) = cut.split.behavior.nth_piece(cut.lines, cut.pieces, nth);
     let start = number * index;
     let end = start + index.min(cut.width - start);
     number == 0 || has_text(records, cut.split.lines, line, start..end)

@@ -163,13 +163,15 @@ where
         if lines == 0 || self.index == 0 || self.index >= width {
             return Ok(());
         }
-        if lines.checked_mul(width.div_ceil(self.index)).is_none() {
+        let pieces = width.div_ceil(self.index);
+        if lines.checked_mul(pieces).is_none() {
             return Err(AllocError);
         }
         let cut = Cut {
             split: self,
             lines,
             width,
+            pieces,
         };
         match self.display {
             Display::Clean => {

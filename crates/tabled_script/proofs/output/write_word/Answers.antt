@@ -16,7 +16,7 @@ loop-rest-preserved g c =
     let i = c.loop-rest.invariant in
     let part = c.split_at.result.0.now in
     let others = c.split_at.result.1.now in
-    let whole : part ++ others ≡ c.loop-rest.rest.now = rw (c.split_at.ensures.front, c.split_at.ensures.back) (take-append-drop 65_536 c.loop-rest.rest.now) in (
+    let whole : part ++ others ≡ c.loop-rest.rest.now = rw (c.split_at.ensures.front, c.split_at.ensures.back) (take-append-drop 16_384 c.loop-rest.rest.now) in (
       i.0 ++ escaped part,
       sends_next (contents c.args.writer.now) (contents c.loop-rest.writer) (contents c.send.new.writer) c.args.held.now.items c.loop-rest.held.items c.push_escaped.new.out.items c.send.new.held.items
           i.0 (escaped part) (i.0 ++ escaped part) i.1 c.in_ok-push_escaped.ensures c.in_ok-send.ensures refl,

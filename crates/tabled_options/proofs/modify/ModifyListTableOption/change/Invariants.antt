@@ -1,18 +1,18 @@
-use Rattle.std.proofs.Common.{List, ◌∷◌}
+use Rattle.std.proofs.Common.{List}
 use Rattle.std.specs.Iterator.{AlwaysYields}
 use Rattle.tabled_grid.specs.declared.config.entity.Entity.{Entity}
 use Rattle.tabled_options.specs.Does.{Each, EachUntil, SameOr}
 use Rattle.tabled_options.proofs.modify.ModifyListTableOption.change.Given as goal
 
-abbrev pub invariant-loop-next : goal.invariant-loop-next
-invariant-loop-next g l =
+abbrev pub invariant-loop-entity : goal.invariant-loop-entity
+invariant-loop-entity g l =
     let m = g.M.CellOption in
     let grid = g.R.GridStore.grid in
     record {
-      can : (goal.iterator-loop-next g).can_next l.entities;
-      ends : (goal.iterator-loop-next g).is_finite l.entities;
+      can : (goal.iterator-loop-entity g).can_next l.entities;
+      ends : (goal.iterator-loop-entity g).is_finite l.entities;
       well : g.R.GridStore.is_well_formed l.records;
       lasts : (all : List Entity) × (rest : List Entity) × g.O.Object.lists l.fn.self.0 (grid l.fn.records) all × AlwaysYields g.O.Iter.Iterator.next_gives (λ (e : Entity). e) l.entities rest
-          × ((h : _) (d : _) → Each (m.does l.fn.self.1) (l.entity ∷ rest) (grid l.records) l.cfg h d → Each (m.does l.fn.self.1) all (grid l.fn.records) l.fn.cfg h d)
-          × ((h : _) (d : _) → EachUntil (m.does l.fn.self.1) (λ e. SameOr (m.leaves l.fn.self.1 e)) (l.entity ∷ rest) (grid l.records) l.cfg h d → EachUntil (m.does l.fn.self.1) (λ e. SameOr (m.leaves l.fn.self.1 e)) all (grid l.fn.records) l.fn.cfg h d);
+          × ((h : _) (d : _) → Each (m.does l.fn.self.1) rest (grid l.records) l.cfg h d → Each (m.does l.fn.self.1) all (grid l.fn.records) l.fn.cfg h d)
+          × ((h : _) (d : _) → EachUntil (m.does l.fn.self.1) (λ e. SameOr (m.leaves l.fn.self.1 e)) rest (grid l.records) l.cfg h d → EachUntil (m.does l.fn.self.1) (λ e. SameOr (m.leaves l.fn.self.1 e)) all (grid l.fn.records) l.fn.cfg h d);
     }

@@ -21,11 +21,11 @@ returns-clause-takes c =
     let self = c.args.self.now in
     let cell = rw c.across.ensures at c.line_of-cell.ensures in
     cut_takes self.split self.lines self.width c.args.pos c.place.result c.line_of-line.result c.line_of-cell.result c.piece_index-nth.result self.index c.line_of-line.ensures cell c.if-line-self.false c.if-cell-self.false
-    (c.piece_index-nth.ensures.index ∙ ap (λ (k : ℕ). piece_index self.split.behavior self.lines k c.line_of-line.result (c.line_of-cell.result / self.split.index)) c.div_ceil-pieces.ensures) c.place.ensures
+    (c.piece_index-nth.ensures.index ∙ ap (λ (k : ℕ). piece_index self.split.behavior self.lines k c.line_of-line.result (c.line_of-cell.result / self.split.index)) self.counted) c.place.ensures
 
 pub returns-clause-finds : goal.returns-clause-finds
 returns-clause-finds c = λ p takes.
     let self = c.args.self.now in
     let cell = rw c.across.ensures at c.line_of-cell.ensures in
     ap Some (cut_finds self.split self.lines self.width c.args.pos c.place.result c.line_of-line.result c.line_of-cell.result c.piece_index-nth.result self.index c.line_of-line.ensures cell c.if-line-self.false c.if-cell-self.false
-    (c.piece_index-nth.ensures.index ∙ ap (λ (k : ℕ). piece_index self.split.behavior self.lines k c.line_of-line.result (c.line_of-cell.result / self.split.index)) c.div_ceil-pieces.ensures) c.place.ensures p takes)
+    (c.piece_index-nth.ensures.index ∙ ap (λ (k : ℕ). piece_index self.split.behavior self.lines k c.line_of-line.result (c.line_of-cell.result / self.split.index)) self.counted) c.place.ensures p takes)
