@@ -10,6 +10,7 @@ PR_SET_CHILD_SUBREAPER = 36  # of linux/prctl.h
 LEAST_ROUNDS = 7
 LEAST_SECONDS = 3  # that runs are repeated for
 SMALL_RUNS = 4  # of a small size in each round: it is short, and noise weighs more
+PEAK_RUNS = 5  # a peak counts pages that programs share, and how many of these varies
 
 
 def adopt_orphans():
@@ -58,7 +59,11 @@ def best_seconds(runs, wanted=0, least_rounds=LEAST_ROUNDS, seconds=LEAST_SECOND
 
 
 def megabytes_of(command, script, wanted=0):
-    """The peak memory of one run that ends with a status, or with any for None."""
+    """The least peak memory of some runs that end with a status, or with any for None."""
+    return min(peak_megabytes_of(command, script, wanted) for _ in range(PEAK_RUNS))
+
+
+def peak_megabytes_of(command, script, wanted):
     # A peak begins with the memory of the process that starts the program. This script
     # holds more than some cases need, so a shell starts it, ends, and leaves it to us.
     line = 'script=$1; shift; "$@" < "$script" > /dev/null &'
@@ -79,8 +84,8 @@ def stop(message):
 
 
 def judged(figure, limit):
-    note = f" > {limit}" if figure > limit else ""
-    return f"{figure:.2f}{note}"
+    shown = f"{figure:.2f}"
+    return f"{shown} > {limit}" if float(shown) > limit else shown
 
 
 def print_row(cells):
