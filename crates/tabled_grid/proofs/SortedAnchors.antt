@@ -4,7 +4,6 @@ use Rattle.std.specs.Prelude.{T, ◌&&◌, ◌==◌, not}
 use Rattle.std.specs.FinMap.{empty, entries, entries-from_sorted, entries_sorted, get-entries, len-empty, len-entries, from_sorted, get, get-from_sorted, is_sorted, same_map}
 use Rattle.std.specs.FinMap.Entries.{find-where_key, is_sorted-where_key}
 use Rattle.std.specs.List.{AllByRecursion, list_any}
-use Rattle.std.specs.Option.{unwrap_or}
 use Rattle.std.proofs.lemmas.List.Elements.{All-filter, All-from_recursion, recursion_from_All}
 use Rattle.std.proofs.lemmas.List.{nil_from_length}
 use borrow.Author.Tests.{eqb-true, eq-eqb}

@@ -10,7 +10,7 @@ use Rattle.std.specs.FinMap.{IsAntisymmetric, find, get, get-entries, get-insert
 use Rattle.std.specs.FinMap.Entries.{below_all}
 use Rattle.std.specs.List.{list_any}
 use Rattle.std.specs.Option.{unwrap_or}
-use Rattle.std.proofs.lemmas.Bool.{and_parts, and_from, or_cases, or_left, or_right, cases_Bool, cases_lt, not_from_true, not_from_false, cond-true, cond-false}
+use Rattle.std.proofs.lemmas.Bool.{and_parts, and_from, or_cases, or_left, or_right, cases_Bool, cases_lt, not_from_true, not_from_false, cond-true, cond-false, false≢true}
 use Rattle.std.proofs.lemmas.Cmp.{tied_itself}
 use Rattle.std.proofs.lemmas.Option.{none-some, same_Some}
 use borrow.Author.Tests.{leb-true, ltb-true, le-leb, lt-ltb, eqb-true, eq-eqb}
@@ -111,11 +111,8 @@ hidden_by m p h =
       size = found.value;
       has = get-entries m found.key ∙ found.is;
       holds = in_rect-true found.key p found.value parts.0;
-      other = λ e. true_false (sym (not_from_true (same_place found.key p) (subst (λ (x : Position). same_place found.key x ≡ true) e (same_place-self found.key))) ∙ parts.1);
+      other = λ e. false≢true (sym (not_from_true (same_place found.key p) (subst (λ (x : Position). same_place found.key x ≡ true) e (same_place-self found.key))) ∙ parts.1);
     }
-  where
-    true_false : false ≡ true → ⊥
-    true_false e = cc
 
 pub hidden-from : (m : SpanMap) (a p : Position) (size : ℕ × ℕ) → get m a ≡ Some size → In a size p → a ≢ p → is_hidden m p ≡ true
 unfolding hides

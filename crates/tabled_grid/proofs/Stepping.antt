@@ -1,7 +1,7 @@
 -- Which cells of a table a step over rows and columns reaches.
 use Rattle.std.proofs.Common.{◌≡◌, ℕ, ◌+◌, ◌<◌, ◌≤◌, ◌⊎◌, inl, inr, true, false, List, refl, sym, ap, ap₂, subst, ◌∙◌, ◌≢◌, get_or, set, min, max, arith}
 use Rattle.std.specs.Prelude.{◌-◌, ◌*◌, ◌%◌, ◌^◌, ◌↔◌, ◌||◌, ◌&&◌, nat_lt}
-use Rattle.std.proofs.lemmas.Bool.{and_parts, and_from, cases_eq, cases_lt, or_cases, or_left, or_right, false_from_ne_true, not_from_true, not_from_false}
+use Rattle.std.proofs.lemmas.Bool.{and_parts, and_from, cases_eq, cases_lt, or_cases, or_left, or_right, false_from_ne_true, false≢true, not_from_true, not_from_false}
 use Rattle.std.specs.Cmp.{both_ways}
 use borrow.Author.Tests.{leb-true, ltb-true, le-leb, lt-ltb, eqb-true, eq-eqb}
 use Rattle.tabled_grid.specs.Anchors.{Anchor}
@@ -86,10 +86,7 @@ pub record Hides (anchor : Anchor) (p : Position) : Type 0 where
 pub hides-true : (anchor : Anchor) (p : Position) → hides p anchor ≡ true → Hides anchor p
 hides-true anchor p t =
     let parts = and_parts _ _ t in
-    record { holds = in_rect-true anchor.0 p anchor.1 parts.0; other = λ e. true_false (sym (not_from_true _ (subst (λ (x : Position). same_place anchor.0 x ≡ true) e (same_place-self anchor.0))) ∙ parts.1) }
-  where
-    true_false : false ≡ true → ⊥
-    true_false e = cc
+    record { holds = in_rect-true anchor.0 p anchor.1 parts.0; other = λ e. false≢true (sym (not_from_true _ (subst (λ (x : Position). same_place anchor.0 x ≡ true) e (same_place-self anchor.0))) ∙ parts.1) }
 
 hides-from : (anchor : Anchor) (p : Position) → Hides anchor p → hides p anchor ≡ true
 hides-from anchor p h = and_from _ _ (in_rect-from anchor.0 p anchor.1 h.holds) (not_from_false _ (same_place-apart anchor.0 p h.other))

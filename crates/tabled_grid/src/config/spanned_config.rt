@@ -183,6 +183,19 @@ impl SpannedConfig {
         &self.anchors
     }
 
+    /// The anchors of all rectangles and the height and width of each, row by row, in a list to write into.
+    ///
+    /// Of this project.
+    #[doc(hidden)]
+    pub fn into_anchors(self) -> Vec<(Position, (usize, usize))>
+        ensures anchors { result.items ≡ map.entries self }
+        ensures sizes { AreSpanSizes self }
+    {
+        self.keeps_sizes();
+        let SpannedConfig { anchors } = self;
+        anchors
+    }
+
     /// The anchors of rectangles wider than one column, and their widths, row by row.
     ///
     /// Ported from `tabled::grid::config::SpannedConfig::get_column_spans`.
