@@ -1,6 +1,6 @@
 -- What is carried along fits the new table.
-use Rattle.std.proofs.Common.{◌≡◌, ℕ, false, List, [], ◌∷◌, Some, refl, sym, ap, subst, ◌∙◌, arith}
-use Rattle.std.specs.FinMap.{empty, from_entries, get, entries, entries-from_sorted, from_sorted}
+use Rattle.std.proofs.Common.{◌≡◌, ℕ, false, List, [], ◌∷◌, Some, refl, sym, ap, subst, ◌∙◌, arith, length}
+use Rattle.std.specs.FinMap.{empty, empty_of_len, len-entries, from_entries, get, entries, entries-from_sorted, from_sorted}
 use Rattle.std.specs.List.{filter}
 use Rattle.tabled_grid.specs.Anchors.{Anchor}
 use Rattle.tabled_grid.specs.Midway.{In}
@@ -17,10 +17,12 @@ no_images : (fs : List Anchor) → filter (λ (f : Anchor). false) fs ≡ []
 no_images [] = refl
 no_images (f ∷ fs) = no_images fs
 
-pub carried-none : (places : Places) (rows columns : ℕ) (m : SpanMap) → entries m ≡ [] → carried places rows columns m ≡ empty
+-- where nothing is merged, nothing is carried
+pub carried-none : (places : Places) (rows columns : ℕ) (m : SpanMap) → entries m ≡ [] → carried places rows columns m ≡ m
 carried-none places rows columns m none =
     let kept : entries (keep_fitting rows columns m) ≡ [] = ap (λ (es : List Anchor). entries (from_sorted {R = position_cmp} (fitting rows columns es))) none ∙ entries-from_sorted position_cmp [] tt in
-    ap (λ (es : List Anchor). from_entries {R = position_cmp} (images places es)) kept ∙ ap (λ (es : List Anchor). from_entries {R = position_cmp} es) (no_images (rectangles places.rows places.columns))
+    let gone : carried places rows columns m ≡ empty = ap (λ (es : List Anchor). from_entries {R = position_cmp} (images places es)) kept ∙ ap (λ (es : List Anchor). from_entries {R = position_cmp} es) (no_images (rectangles places.rows places.columns)) in
+    gone ∙ sym (empty_of_len m (len-entries m ∙ ap length none))
 
 -- what is carried along fits the new table, whatever the map of places
 pub carried-fits : (places : Places) (rows columns : ℕ) (m : SpanMap) → AreSpanSizes m → Fits (carried places rows columns m) places.rows places.columns

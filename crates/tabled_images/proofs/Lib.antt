@@ -2,6 +2,7 @@ pub mod Back
 pub mod CarriedFits
 pub mod Carrying
 pub mod Free
+pub mod InPlace
 pub mod Pigeonhole
 pub mod RectanglesCarried
 pub mod Walks

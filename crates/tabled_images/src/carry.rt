@@ -2,41 +2,17 @@
 
 ghost use Rattle.std.specs.Prelude.{◌≡◌, IfOk, IsNone, IsOk};
 ghost use Rattle.std.specs.Option.{IfSome};
-ghost use Rattle.std.specs.FinMap as map;
 ghost use Rattle.std.specs.FinMap.{from_sorted};
 ghost use Rattle.tabled_grid.specs.Fitting.{keep_fitting};
 ghost use Rattle.tabled_grid.specs.Rectangles.{Fits};
 ghost use Rattle.tabled_grid.specs.Spans.{AreAnchors, AreSpanSizes};
 ghost use Rattle.tabled_images.specs.Images.{carried, image};
 
-use crate::images::{Moves, Rectangle, image_of};
+use crate::images::{MovesRectangles, Rectangle};
 use crate::sort::sort;
 use std::alloc::{AllocError, Global};
+use std::mem;
 use tabled_grid::config::SpannedConfig;
-
-/// What becomes of the merged cells of a table (`rows x columns`) when its cells move: those that do not
-/// fit go, and each of the others goes along where the new places of its cells form a rectangle.
-///
-/// Without merged cells it takes no memory.
-pub fn carried<M: Moves>(
-    alloc: Global,
-    moves: &M,
-    cfg: &SpannedConfig,
-    rows: usize,
-    columns: usize,
-) -> Result<SpannedConfig, AllocError>
-    ensures carried { IfOk result (λ new. new ≡ carried (M.places moves.now) rows columns cfg.now) }
-    ensures sizes { IfOk result (λ new. AreSpanSizes new) }
-    ensures promised { cfg.now ≡ map.empty → IsOk result }
-{
-    if cfg.anchors().is_empty() {
-        return Ok(SpannedConfig::new(alloc));
-    }
-    match kept_in_place(alloc, cfg, rows, columns)? {
-        Some(kept) => carried_fitting(alloc, moves, &kept, rows, columns),
-        None => carried_fitting(alloc, moves, cfg, rows, columns),
-    }
-}
 
 /// What becomes of the merged cells of a table (`rows x columns`) whose cells keep their places: those that do
 /// not fit go. None where all fit, and the map stays as it is.
@@ -61,42 +37,60 @@ pub fn kept_in_place(
     Ok(Some(kept))
 }
 
-/// What becomes of merged cells that fit a table.
-fn carried_fitting<M: Moves>(
+/// Carries the merged cells of a table (`rows x columns`) along when its cells have moved: those that did not
+/// fit go, and each of the others goes along where the new places of its cells form a rectangle.
+///
+/// It is given what `kept_in_place` made of them before the cells moved, and takes no memory.
+pub fn carry_along<M: MovesRectangles>(
     alloc: Global,
     moves: &M,
-    cfg: &SpannedConfig,
+    cfg: &mut SpannedConfig,
+    kept: Option<SpannedConfig>,
     rows: usize,
     columns: usize,
-) -> Result<SpannedConfig, AllocError>
-    requires { Fits cfg.now rows columns }
-    ensures image { IfOk result (λ new. new ≡ image (M.places moves.now) cfg.now) }
-    ensures sizes { IfOk result (λ new. AreSpanSizes new) }
+)
+    requires kept { IfSome kept (λ kept. kept ≡ keep_fitting rows columns cfg.old) }
+    requires same { IsNone kept → keep_fitting rows columns cfg.old ≡ cfg.old }
+    requires sizes { AreSpanSizes cfg.old }
+    ensures { cfg.new ≡ carried (M.places moves.now) rows columns cfg.old }
 {
-    let images = carry(alloc, moves, cfg.anchors(), rows, columns)?;
-    Ok(SpannedConfig::from_anchors(images))
+    let fitting = match kept {
+        Some(kept) => kept,
+        None => mem::replace(cfg, SpannedConfig::new(alloc)),
+    };
+    *cfg = carried_fitting(moves, fitting, rows, columns);
 }
 
-/// The rectangles that the anchors of a list are carried to, row by row.
-fn carry<M: Moves>(
-    alloc: Global,
+/// What becomes of merged cells that fit a table.
+fn carried_fitting<M: MovesRectangles>(
     moves: &M,
-    anchors: &[Rectangle],
+    cfg: SpannedConfig,
     rows: usize,
     columns: usize,
-) -> Result<Vec<Rectangle>, AllocError>
-    requires anchors { AreAnchors anchors.now }
-    requires fits { Fits (from_sorted anchors.now) rows columns }
-    ensures anchors { IfOk result (λ images. AreAnchors images.items) }
-    ensures image { IfOk result (λ images. from_sorted images.items ≡ image (M.places moves.now) (from_sorted anchors.now)) }
+) -> SpannedConfig
+    requires { Fits cfg rows columns }
+    ensures { result ≡ image (M.places moves.now) cfg }
+{
+    let mut anchors = cfg.into_anchors();
+    carry(moves, &mut anchors, rows, columns);
+    SpannedConfig::from_anchors(anchors)
+}
+
+/// Writes the rectangles that the anchors of a list are carried to over these, row by row.
+fn carry<M: MovesRectangles>(moves: &M, anchors: &mut Vec<Rectangle>, rows: usize, columns: usize)
+    requires anchors { AreAnchors anchors.old.items }
+    requires fits { Fits (from_sorted anchors.old.items) rows columns }
+    ensures anchors { AreAnchors anchors.new.items }
+    ensures image { from_sorted anchors.new.items ≡ image (M.places moves.now) (from_sorted anchors.old.items) }
 {
     let _size = (rows, columns);
-    let mut images = Vec::with_capacity(alloc, anchors.len())?;
-    for anchor in anchors {
-        if let Some(image) = image_of(moves, *anchor) {
-            images.push(image)?;
+    let mut count = 0;
+    for index in 0..anchors.len() {
+        if let Some(image) = moves.new_rectangle(anchors[index]) {
+            anchors[count] = image;
+            count += 1;
         }
     }
-    sort(&mut images);
-    Ok(images)
+    anchors.truncate(count);
+    sort(anchors);
 }

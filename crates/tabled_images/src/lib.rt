@@ -6,5 +6,5 @@ mod images;
 pub mod laws;
 mod sort;
 
-pub use carry::{carried, kept_in_place};
-pub use images::Moves;
+pub use carry::{carry_along, kept_in_place};
+pub use images::{Moves, MovesRectangles, Rectangle, image_of};

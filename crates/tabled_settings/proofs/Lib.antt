@@ -31,6 +31,7 @@ pub mod Sums
 pub mod TakenOnce
 pub mod TextCounts
 pub mod TextsKept
+pub mod TurnedRectangles
 pub mod TurnedSpans
 pub mod TurnedTwice
 pub mod Turns

@@ -10,6 +10,7 @@ use Rattle.tabled_grid.specs.declared.config.position.Position.{Position}
 use Rattle.tabled_images.specs.Images.{Carries, IsFull, LeadsBack, Takes, carried}
 use Rattle.tabled_images.proofs.Back.{carried_back}
 use Rattle.tabled_settings.proofs.Rotated.{as_wide}
+use Rattle.tabled_settings.proofs.TurnedRectangles.{turned, turned_carries, turned_full}
 use Rattle.tabled_settings.specs.Rearranged.{rotated}
 use Rattle.tabled_settings.specs.declared.rotate.Rotate.TheVariants.{Left, Right}
 
@@ -45,32 +46,8 @@ module _ (rows columns : ℕ) (tall : 0 < rows) (wide : 0 < columns) where
             from = ap Some (ap₂ place (sym col) back);
           }
 
-  -- each rectangle inside is carried to one
-  turned : (a : Position) (s : ℕ × ℕ) → IsFull (a, s) → a.row + s.0 ≤ rows → a.col + s.1 ≤ columns → (f : Anchor) × Carries (rotated Left rows columns) (a, s) f × IsFull f
-  turned a s full high far = ((place (columns - (a.col + s.1)) a.row, (s.1, s.0)), record { all = all; only = only; from = from }, record { height = full.width; width = full.height })
-    where
-      all : (q : Position) → In a s q → (p : Position) × Takes (rotated Left rows columns) p q
-      all q h =
-          let back : columns - 1 - (columns - 1 - q.col) ≡ q.col = omega (arith, h.right, far) in
-          (place (columns - 1 - q.col) q.row, record { row = omega (arith, wide); col = subst (λ (n : ℕ). q.row < n) (sym (as_wide columns rows wide)) (omega (arith, h.bottom, high)); from = ap (λ (j : ℕ). Some (place q.row j)) back })
-
-      only : (p q : Position) → Takes (rotated Left rows columns) p q → In a s q → In (place (columns - (a.col + s.1)) a.row) (s.1, s.0) p
-      only p q t h =
-          let is : place p.col (columns - 1 - p.row) ≡ q = same_Some _ _ t.from in
-          let row : p.col ≡ q.row = ap (λ (x : Position). x.row) is in
-          let col : columns - 1 - p.row ≡ q.col = ap (λ (x : Position). x.col) is in
-          let low : p.row < columns = t.row in
-          record { top = omega (arith, col, low, h.right, far); bottom = omega (arith, col, low, h.left, far); left = omega (arith, row, h.top); right = omega (arith, row, h.bottom) }
-
-      from : (p : Position) → In (place (columns - (a.col + s.1)) a.row) (s.1, s.0) p → (q : Position) × In a s q × Takes (rotated Left rows columns) p q
-      from p h = (
-        place p.col (columns - 1 - p.row),
-        record { top = h.left; bottom = h.right; left = omega (arith, h.bottom, far); right = omega (arith, h.top, far, h.bottom) },
-        record { row = omega (arith, h.bottom, far); col = subst (λ (n : ℕ). p.col < n) (sym (as_wide columns rows wide)) (omega (arith, h.right, high)); from = refl },
-      )
-
   -- turned to the left and then to the right, they are as they were
   pub left_then_right_spans : (m : SpanMap) → Fits m rows columns → carried (rotated Right columns rows) columns rows (carried (rotated Left rows columns) rows columns m) ≡ m
   left_then_right_spans m fits =
       subst (λ (n : ℕ). carried (rotated Right columns rows) columns n (carried (rotated Left rows columns) rows columns m) ≡ m) (as_wide columns rows wide)
-      (carried_back (rotated Left rows columns) (rotated Right columns rows) leads m rows columns fits (record { each = λ a s h. let size = fits.sizes.each a s h in let room = fits.inside a s h in turned a s (record { height = size.height; width = size.width }) room.0 room.1 }))
+      (carried_back (rotated Left rows columns) (rotated Right columns rows) leads m rows columns fits (record { each = λ a s h. let size = fits.sizes.each a s h in let room = fits.inside a s h in let full = record { height = size.height; width = size.width } in (turned Left rows columns (a, s), turned_carries Left rows columns (a, s) full room.0 room.1, turned_full Left rows columns (a, s) full) }))

@@ -10,7 +10,7 @@ use crate::kept_lines::index_of;
 use crate::split::Split;
 use tabled_grid::config::Position;
 use tabled_grid::records::PieceOrder;
-use tabled_images::Moves;
+use tabled_images::{Moves, MovesRectangles, Rectangle, image_of};
 
 /// n lines of a width that are cut, where all pieces are kept.
 #[derive(Drop)]
@@ -57,6 +57,12 @@ impl Moves for Cut {
     }
 }
 
+impl MovesRectangles for Cut {
+    fn new_rectangle(&self, of: Rectangle) -> Option<Rectangle> {
+        image_of(self, of)
+    }
+}
+
 /// Lines that are cut, of which some pieces are kept.
 #[derive(Drop)]
 pub(crate) struct CleanCut {
@@ -75,5 +81,11 @@ impl Moves for CleanCut {
         let place = self.cut.new_place(pos)?;
         let line = index_of(&self.kept, axis.line_of(place))?;
         Some(axis.in_line(place, line))
+    }
+}
+
+impl MovesRectangles for CleanCut {
+    fn new_rectangle(&self, of: Rectangle) -> Option<Rectangle> {
+        image_of(self, of)
     }
 }

@@ -1,13 +1,12 @@
 //! Rows or columns that are located, taken away.
 
-ghost use Rattle.std.specs.Prelude.{◌≡◌, ℕ, IfOk, List, OnErr, OnOk, length};
+ghost use Rattle.std.specs.Prelude.{◌≡◌, ℕ, List, OnErr, OnOk};
 ghost use Rattle.tabled_grid.specs.declared.records.axis.Axis.{Axis};
 ghost use Rattle.tabled_grid.specs.declared.records.axis.Axis.TheVariants.{Columns, Rows};
 ghost use Rattle.tabled_options.specs.Does.{Same};
 ghost use Rattle.tabled_grid.specs.Places.{ReadsThrough};
 ghost use Rattle.tabled_images.specs.Images.{carried};
-ghost use Rattle.tabled_settings.specs.Lines.{is_marked};
-ghost use Rattle.tabled_settings.specs.Rearranged.{kept_lines, left_over, removed};
+ghost use Rattle.tabled_settings.specs.Rearranged.{removed};
 ghost use Rattle.std.proofs.Common.{rules};
 
 use crate::kept_lines::Kept;
@@ -16,7 +15,7 @@ use std::alloc::{AllocError, Global};
 use std::marker::{Model, PhantomData};
 use tabled_grid::config::{Entity, SpannedConfig};
 use tabled_grid::records::{Axis, Blank, ExactRecords, Records, Resizable};
-use tabled_images::carried;
+use tabled_images::{carry_along, kept_in_place};
 use tabled_options::TableOption;
 use tabled_select::location::{Location, marks};
 
@@ -173,27 +172,13 @@ where
     let gone = marks(alloc, locator, records, axis.count(records))?;
     let rows = records.count_rows();
     let columns = records.count_columns();
-    let spans = carried_without(alloc, axis, &gone, cfg, rows, columns)?;
-    lines::remove(axis, records, &gone);
-    *cfg = spans;
-    Ok(())
-}
-
-/// What becomes of the merged cells of a table (`rows x columns`) when the lines that are marked go. Without
-/// merged cells it takes no memory.
-fn carried_without(
-    alloc: Global,
-    axis: Axis,
-    gone: &[bool],
-    cfg: &SpannedConfig,
-    rows: usize,
-    columns: usize,
-) -> Result<SpannedConfig, AllocError>
-    ensures { IfOk result (λ new. new ≡ carried (kept_lines axis (left_over (is_marked gone.now) (length gone.now)) rows columns) rows columns cfg.now) }
-{
     if cfg.anchors().is_empty() {
-        return Ok(SpannedConfig::new(alloc));
+        lines::remove(axis, records, &gone);
+        return Ok(());
     }
-    let kept = Kept::unmarked(alloc, axis, gone, rows, columns)?;
-    carried(alloc, &kept, cfg, rows, columns)
+    let left = Kept::unmarked(alloc, axis, &gone, rows, columns)?;
+    let kept = kept_in_place(alloc, cfg, rows, columns)?;
+    lines::remove(axis, records, &gone);
+    carry_along(alloc, &left, cfg, kept, rows, columns);
+    Ok(())
 }

@@ -1,10 +1,10 @@
 //! A part of a table.
 
 ghost use Rattle.std.specs.Prelude.{◌≡◌, ◌+◌, ◌-◌, ◌<◌, ◌^◌, min};
-ghost use Rattle.std.specs.FinMap as map;
 ghost use Rattle.std.specs.declared.ops.Bound.TheVariants.{Unbounded};
 ghost use Rattle.tabled_grid.specs.Entity.{place};
 ghost use Rattle.tabled_grid.specs.Places.{ReadsThrough};
+ghost use Rattle.tabled_grid.specs.Rectangles.{Fits};
 ghost use Rattle.tabled_images.specs.Images.{carried};
 ghost use Rattle.tabled_options.specs.Does.{Same};
 ghost use Rattle.tabled_settings.specs.Rearranged.{columns_if, extracted, window};
@@ -16,11 +16,11 @@ use std::marker::Model;
 use std::ops::{Range, RangeFull};
 use tabled_grid::config::{Entity, Position, SpannedConfig, ToBounds};
 use tabled_grid::records::{Axis, Blank, ExactRecords, Records, Resizable};
-use tabled_images::{Moves, carried};
+use tabled_images::{Moves, MovesRectangles, Rectangle, carry_along, image_of, kept_in_place};
 use tabled_options::TableOption;
 
-/// Keeps the rows of a range, and the columns of another. Only merged cells take memory; refused, it leaves
-/// the table as it was. A contract sees it as the two ranges.
+/// Keeps the rows of a range, and the columns of another. Only merged cells that don't fit the table take
+/// memory; refused, it leaves the table as it was. A contract sees it as the two ranges.
 ///
 /// `Extract::segment(0..9, 1..)` makes
 ///
@@ -96,7 +96,7 @@ where
 
     ghost can_change = { λ _. Unit {0} };
 
-    ghost never_refused = { λ _ _ c. c ≡ map.empty };
+    ghost never_refused = { λ _ g c. Fits c g.rows g.columns };
 
     fn change(
         self,
@@ -110,10 +110,10 @@ where
         let in_rows = self.rows.to_range(rows);
         let in_columns = self.columns.to_range(columns);
         let part = Window::of(&in_rows, &in_columns, rows, columns);
-        let spans = carried(alloc, &part, cfg, rows, columns)?;
+        let kept = kept_in_place(alloc, cfg, rows, columns)?;
         lines::keep(Axis::Rows, records, in_rows);
         lines::keep(Axis::Columns, records, in_columns);
-        *cfg = spans;
+        carry_along(alloc, &part, cfg, kept, rows, columns);
         Ok(())
     }
 
@@ -156,5 +156,11 @@ impl Moves for Window {
         let row = pos.row.checked_sub(self.first.row)?;
         let col = pos.col.checked_sub(self.first.col)?;
         (row < self.rows && col < self.columns).then_some(Position::new(row, col))
+    }
+}
+
+impl MovesRectangles for Window {
+    fn new_rectangle(&self, of: Rectangle) -> Option<Rectangle> {
+        image_of(self, of)
     }
 }

@@ -8,7 +8,7 @@ ghost use Rattle.tabled_settings.specs.Rearranged.{kept_lines, left_over};
 use std::alloc::{AllocError, Global};
 use tabled_grid::config::Position;
 use tabled_grid::records::Axis;
-use tabled_images::Moves;
+use tabled_images::{Moves, MovesRectangles, Rectangle, image_of};
 
 /// Some of the rows, or of the columns, of a table of r rows and c columns.
 #[derive(Drop)]
@@ -91,5 +91,11 @@ impl Moves for Kept {
         }
         let line = index_of(&self.kept, self.axis.line_of(pos))?;
         Some(self.axis.in_line(pos, line))
+    }
+}
+
+impl MovesRectangles for Kept {
+    fn new_rectangle(&self, of: Rectangle) -> Option<Rectangle> {
+        image_of(self, of)
     }
 }

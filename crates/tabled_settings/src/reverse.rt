@@ -1,11 +1,11 @@
 //! Rows or columns in the opposite order.
 
 ghost use Rattle.std.specs.Prelude.{◌≡◌, ◌<◌, ◌≤◌, ◌⊎◌, IfSome, IsNone};
-ghost use Rattle.std.specs.FinMap as map;
 ghost use Rattle.tabled_grid.specs.declared.config.offset.Offset.TheVariants.{End};
 ghost use Rattle.tabled_grid.specs.declared.records.axis.Axis.TheVariants.{Columns, Rows};
 ghost use Rattle.tabled_grid.specs.Axis.{count_of, in_line, line_of};
 ghost use Rattle.tabled_grid.specs.Places.{ReadsThrough};
+ghost use Rattle.tabled_grid.specs.Rectangles.{Fits};
 ghost use Rattle.tabled_options.specs.Does.{Same};
 ghost use Rattle.tabled_settings.specs.Places.{lines_from};
 ghost use Rattle.tabled_settings.specs.Rearranged.{carried_if, limit_end, reversed, reversed_index, reverses};
@@ -15,11 +15,11 @@ use crate::lines;
 use std::alloc::{AllocError, Global};
 use tabled_grid::config::{Entity, Offset, Position, SpannedConfig};
 use tabled_grid::records::{Axis, Blank, ExactRecords, Records, Resizable};
-use tabled_images::{Moves, carried};
+use tabled_images::{Moves, MovesRectangles, Rectangle, carry_along, image_of, kept_in_place};
 use tabled_options::TableOption;
 
 /// Puts rows or columns, from a start up to a limit, into the opposite order, and merged cells with them. It
-/// takes no memory where nothing is merged. Refused, it leaves the table as it was.
+/// takes no memory where all merged cells fit the table. Refused, it leaves the table as it was.
 ///
 /// Where the start isn't before the limit, or the limit is past the table, it changes nothing.
 /// `Reverse::columns(1)` makes
@@ -101,7 +101,7 @@ where
 
     ghost can_change = { λ _. Unit {0} };
 
-    ghost never_refused = { λ _ _ c. c ≡ map.empty };
+    ghost never_refused = { λ _ g c. Fits c g.rows g.columns };
 
     fn change(
         self,
@@ -123,9 +123,9 @@ where
             rows,
             columns,
         };
-        let spans = carried(alloc, &mirror, cfg, rows, columns)?;
+        let kept = kept_in_place(alloc, cfg, rows, columns)?;
         lines::reverse(self.axis, records, self.start, end);
-        *cfg = spans;
+        carry_along(alloc, &mirror, cfg, kept, rows, columns);
         Ok(())
     }
 
@@ -179,5 +179,11 @@ impl Moves for Mirror {
         } else {
             None
         }
+    }
+}
+
+impl MovesRectangles for Mirror {
+    fn new_rectangle(&self, of: Rectangle) -> Option<Rectangle> {
+        image_of(self, of)
     }
 }

@@ -1,10 +1,10 @@
 //! Tables turned by a quarter, or upside down.
 
 ghost use Rattle.std.specs.Prelude.{◌≡◌, ◌⊎◌, IsOk, OnErr, OnOk};
-ghost use Rattle.std.specs.FinMap as map;
 ghost use Rattle.tabled_options.specs.Does.{Same};
 ghost use Rattle.tabled_settings.specs.declared.rotate.Rotate.TheVariants.{Bottom, Top};
 ghost use Rattle.tabled_grid.specs.Places.{ReadsThrough};
+ghost use Rattle.tabled_grid.specs.Rectangles.{Fits};
 ghost use Rattle.tabled_settings.specs.Rearranged.{Rearranges, rotated, turn_of};
 ghost use Rattle.std.proofs.Common.{rules};
 
@@ -12,11 +12,11 @@ use crate::lines;
 use std::alloc::{AllocError, Global};
 use tabled_grid::config::{Entity, Position, SpannedConfig};
 use tabled_grid::records::{Axis, Blank, ExactRecords, Records, Resizable};
-use tabled_images::{Moves, carried};
+use tabled_images::{Moves, MovesRectangles, Rectangle, carry_along, kept_in_place};
 use tabled_options::TableOption;
 
 /// Turns a table, and its merged cells with it. Refused for memory, it leaves the table as it was; `Top` and
-/// `Bottom` take none where nothing is merged.
+/// `Bottom` take none where all merged cells fit the table.
 ///
 /// ```text
 /// a b c    Left: c f    Right: d a    Top: d e f
@@ -50,7 +50,7 @@ where
 
     ghost can_change = { λ _. Unit {0} };
 
-    ghost never_refused = { λ s _ c. ((s ≡ Top) ⊎ (s ≡ Bottom)) × (c ≡ map.empty) };
+    ghost never_refused = { λ s g c. ((s ≡ Top) ⊎ (s ≡ Bottom)) × Fits c g.rows g.columns };
 
     fn change(
         self,
@@ -66,9 +66,9 @@ where
             rows,
             columns,
         };
-        let spans = carried(alloc, &turn, cfg, rows, columns)?;
+        let kept = kept_in_place(alloc, cfg, rows, columns)?;
         turn_cells(alloc, &turn.rotate, records)?;
-        *cfg = spans;
+        carry_along(alloc, &turn, cfg, kept, rows, columns);
         Ok(())
     }
 
@@ -98,6 +98,31 @@ impl Moves for Turn {
             Rotate::Left => Position::new(self.columns - 1 - pos.col, pos.row),
             Rotate::Right => Position::new(pos.col, self.rows - 1 - pos.row),
             Rotate::Top | Rotate::Bottom => Position::new(self.rows - 1 - pos.row, pos.col),
+        })
+    }
+}
+
+impl MovesRectangles for Turn {
+    fn new_rectangle(&self, of: Rectangle) -> Option<Rectangle> {
+        let (first, (height, width)) = of;
+        let bottom = first.row + height;
+        let right = first.col + width;
+        if bottom > self.rows || right > self.columns {
+            return None;
+        }
+        Some(match self.rotate {
+            Rotate::Left => (
+                Position::new(self.columns - right, first.row),
+                (width, height),
+            ),
+            Rotate::Right => (
+                Position::new(first.col, self.rows - bottom),
+                (width, height),
+            ),
+            Rotate::Top | Rotate::Bottom => (
+                Position::new(self.rows - bottom, first.col),
+                (height, width),
+            ),
         })
     }
 }

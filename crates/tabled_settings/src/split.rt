@@ -17,7 +17,7 @@ use std::alloc::{AllocError, Global};
 use tabled_grid::config::{Entity, SpannedConfig};
 pub use tabled_grid::records::PieceOrder as Behavior;
 use tabled_grid::records::{Axis, CellText, ExactRecords, PeekableRecords, Records, Resizable};
-use tabled_images::carried;
+use tabled_images::{carry_along, kept_in_place};
 use tabled_options::TableOption;
 
 /// Whether pieces without a text stay.
@@ -177,15 +177,15 @@ where
             Display::Clean => {
                 let kept = pieces::kept_pieces(alloc, records, &cut)?;
                 let clean = CleanCut { cut, kept };
-                let spans = carried(alloc, &clean, cfg, rows, columns)?;
+                let spans = kept_in_place(alloc, cfg, rows, columns)?;
                 records.cut(alloc, self.lines, self.behavior, self.index)?;
                 lines::keep_some(self.lines, records, &clean.kept);
-                *cfg = spans;
+                carry_along(alloc, &clean, cfg, spans, rows, columns);
             }
             Display::Retain => {
-                let spans = carried(alloc, &cut, cfg, rows, columns)?;
+                let spans = kept_in_place(alloc, cfg, rows, columns)?;
                 records.cut(alloc, self.lines, self.behavior, self.index)?;
-                *cfg = spans;
+                carry_along(alloc, &cut, cfg, spans, rows, columns);
             }
         }
         Ok(())

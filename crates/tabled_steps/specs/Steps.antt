@@ -1,6 +1,5 @@
 -- What steps do to the cells and the merged cells of a table, and what they leave where memory is refused.
 use Rattle.std.specs.Prelude.{◌≡◌, ◌⊎◌, ℕ, false, List}
-use Rattle.std.specs.FinMap as finite
 use Rattle.std.specs.String.{string_bytes}
 use Rattle.tabled_grid.specs.Grid.{Grid, map_grid}
 use Rattle.tabled_grid.specs.Spans.{SpanMap}
@@ -17,6 +16,7 @@ use Rattle.tabled_settings.specs.Joined.{JoinsAt, corner_of, joined_places}
 use Rattle.tabled_settings.specs.PiecePlaces.{Splits, split_places}
 use Rattle.tabled_settings.specs.Pieces.{has_pieces}
 use Rattle.tabled_grid.specs.Places.{ReadsThrough}
+use Rattle.tabled_grid.specs.Rectangles.{Fits}
 use Rattle.tabled_settings.specs.Rearranged.{Rearranges, carried_if, extracted, removed, reversed, reverses, rotated}
 use Rattle.tabled_settings.specs.declared.reverse.Reverse.{Reverse}
 use Rattle.tabled_settings.specs.declared.rotate.Rotate.TheVariants.{Bottom, Top}
@@ -93,9 +93,9 @@ TakesNoMemory is_blank text_of (step.HorizontalPanel panel) g c = has_room Rows 
 TakesNoMemory is_blank text_of (step.VerticalPanel panel) g c = has_room Columns panel.0 g c ≡ false
 TakesNoMemory is_blank text_of (step.Header _) g c = has_room Rows 0 g c ≡ false
 TakesNoMemory is_blank text_of (step.Footer _) g c = has_room Rows g.rows g c ≡ false
-TakesNoMemory is_blank text_of (step.Rotate rotate) g c = ((rotate ≡ Top) ⊎ (rotate ≡ Bottom)) × (c ≡ finite.empty)
-TakesNoMemory is_blank text_of (step.Reverse _) g c = c ≡ finite.empty
-TakesNoMemory is_blank text_of (step.Extract _ _ _ _) g c = c ≡ finite.empty
+TakesNoMemory is_blank text_of (step.Rotate rotate) g c = ((rotate ≡ Top) ⊎ (rotate ≡ Bottom)) × Fits c g.rows g.columns
+TakesNoMemory is_blank text_of (step.Reverse _) g c = Fits c g.rows g.columns
+TakesNoMemory is_blank text_of (step.Extract _ _ _ _) g c = Fits c g.rows g.columns
 TakesNoMemory is_blank text_of (step.Split split) g c = has_pieces split g.rows g.columns ≡ false
 TakesNoMemory is_blank text_of (step.Both' _ first _ second) g c = TakesNoMemory is_blank text_of first g c × AfterNeverRefused (Does is_blank text_of first) (TakesNoMemory is_blank text_of second) g c
 TakesNoMemory is_blank text_of _ g c = ⊥

@@ -7,14 +7,14 @@ use Rattle.tabled_images.specs.Images.{image}
 use Rattle.tabled_images.proofs.carry.carried_fitting.Goals as goal
 
 pub carry-requires-clause-anchors : goal.carry-requires-clause-anchors
-carry-requires-clause-anchors g c = rw c.anchors.ensures.anchors (anchors-of _ c.anchors.ensures.sizes)
+carry-requires-clause-anchors g c = rw c.into_anchors-anchors.ensures.anchors (anchors-of _ c.into_anchors-anchors.ensures.sizes)
 
 pub carry-requires-clause-fits : goal.carry-requires-clause-fits
 carry-requires-clause-fits g c =
-    let is : from_sorted {R = position_cmp} c.anchors.result.now ≡ c.args.cfg.now = ap (λ es. from_sorted {R = position_cmp} es) c.anchors.ensures.anchors ∙ from-entries c.args.cfg.now in
+    let is : from_sorted {R = position_cmp} c.into_anchors-anchors.result.items ≡ c.args.cfg = ap (λ es. from_sorted {R = position_cmp} es) c.into_anchors-anchors.ensures.anchors ∙ from-entries c.args.cfg in
     subst (λ (m : SpanMap). Fits m c.args.rows c.args.columns) (sym is) c.requires
 
-pub returns-clause-image : goal.returns-clause-image
-returns-clause-image g c =
-    let is : from_sorted {R = position_cmp} c.anchors.result.now ≡ c.args.cfg.now = ap (λ es. from_sorted {R = position_cmp} es) c.anchors.ensures.anchors ∙ from-entries c.args.cfg.now in
-    c.from_anchors.ensures.anchors ∙ c.in_ok-images.ensures.image ∙ ap (image (g.M.Moves.places c.args.moves.now)) is
+pub returns : goal.returns
+returns g c =
+    let is : from_sorted {R = position_cmp} c.into_anchors-anchors.result.items ≡ c.args.cfg = ap (λ es. from_sorted {R = position_cmp} es) c.into_anchors-anchors.ensures.anchors ∙ from-entries c.args.cfg in
+    c.from_anchors.ensures.anchors ∙ c.carry.ensures.image ∙ ap (image (g.M.Moves.places c.args.moves.now)) is

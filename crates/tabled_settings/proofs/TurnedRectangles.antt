@@ -1,0 +1,143 @@
+-- Where the rectangles of a table go that is turned.
+use Rattle.std.proofs.Common.{◌≡◌, ℕ, ◌+◌, ◌-◌, ◌<◌, ◌≤◌, Some, refl, sym, ap, ap₂, subst, arith}
+use Rattle.std.proofs.lemmas.Option.{same_Some}
+use Rattle.tabled_grid.specs.Anchors.{Anchor}
+use Rattle.tabled_grid.specs.Entity.{place}
+use Rattle.tabled_grid.specs.Midway.{In}
+use Rattle.tabled_grid.specs.Places.{Places}
+use Rattle.tabled_grid.specs.declared.config.position.Position.{Position}
+use Rattle.tabled_images.specs.Images.{Carries, IsFull, Takes}
+use Rattle.tabled_settings.specs.Rearranged.{rotated, upside_down}
+use Rattle.tabled_settings.specs.declared.rotate.Rotate.{Rotate}
+use Rattle.tabled_settings.specs.declared.rotate.Rotate.TheVariants.{Left, Right, Top, Bottom}
+use Rattle.tabled_settings.proofs.Rotated.{as_wide}
+
+module _ (rows columns : ℕ) (a : Position) (s : ℕ × ℕ) (full : IsFull (a, s)) (high : a.row + s.0 ≤ rows) (far : a.col + s.1 ≤ columns) where
+  wide : 0 < columns
+  wide = omega (arith, full.width, far)
+
+  -- to the left
+  pub left_carries : Carries (rotated Left rows columns) (a, s) (place (columns - (a.col + s.1)) a.row, (s.1, s.0))
+  left_carries = record { all = all; only = only; from = from }
+    where
+      all : (q : Position) → In a s q → (p : Position) × Takes (rotated Left rows columns) p q
+      all q h =
+          let back : columns - 1 - (columns - 1 - q.col) ≡ q.col = omega (arith, h.right, far) in
+          (place (columns - 1 - q.col) q.row, record { row = omega (arith, wide); col = subst (λ (n : ℕ). q.row < n) (sym (as_wide columns rows wide)) (omega (arith, h.bottom, high)); from = ap (λ (j : ℕ). Some (place q.row j)) back })
+
+      only : (p q : Position) → Takes (rotated Left rows columns) p q → In a s q → In (place (columns - (a.col + s.1)) a.row) (s.1, s.0) p
+      only p q t h =
+          let is : place p.col (columns - 1 - p.row) ≡ q = same_Some _ _ t.from in
+          let row : p.col ≡ q.row = ap (λ (x : Position). x.row) is in
+          let col : columns - 1 - p.row ≡ q.col = ap (λ (x : Position). x.col) is in
+          let low : p.row < columns = t.row in
+          record { top = omega (arith, col, low, h.right, far); bottom = omega (arith, col, low, h.left, far); left = omega (arith, row, h.top); right = omega (arith, row, h.bottom) }
+
+      from : (p : Position) → In (place (columns - (a.col + s.1)) a.row) (s.1, s.0) p → (q : Position) × In a s q × Takes (rotated Left rows columns) p q
+      from p h = (
+        place p.col (columns - 1 - p.row),
+        record { top = h.left; bottom = h.right; left = omega (arith, h.bottom, far); right = omega (arith, h.top, far, h.bottom) },
+        record { row = omega (arith, h.bottom, far); col = subst (λ (n : ℕ). p.col < n) (sym (as_wide columns rows wide)) (omega (arith, h.right, high)); from = refl },
+      )
+
+  -- to the right
+  right_carries : Carries (rotated Right rows columns) (a, s) (place a.col (rows - (a.row + s.0)), (s.1, s.0))
+  right_carries = record { all = all; only = only; from = from }
+    where
+      all : (q : Position) → In a s q → (p : Position) × Takes (rotated Right rows columns) p q
+      all q h =
+          let back : rows - 1 - (rows - 1 - q.row) ≡ q.row = omega (arith, h.bottom, high) in
+          let low : rows - 1 - q.row < rows = omega (arith, h.bottom, high) in
+          (place q.col (rows - 1 - q.row), record { row = omega (arith, h.right, far); col = subst (λ (n : ℕ). rows - 1 - q.row < n) (sym (as_wide columns rows wide)) low; from = ap (λ (i : ℕ). Some (place i q.col)) back })
+
+      only : (p q : Position) → Takes (rotated Right rows columns) p q → In a s q → In (place a.col (rows - (a.row + s.0))) (s.1, s.0) p
+      only p q t h =
+          let is : place (rows - 1 - p.col) p.row ≡ q = same_Some _ _ t.from in
+          let row : rows - 1 - p.col ≡ q.row = ap (λ (x : Position). x.row) is in
+          let col : p.row ≡ q.col = ap (λ (x : Position). x.col) is in
+          let low : p.col < rows = subst (λ (n : ℕ). p.col < n) (as_wide columns rows wide) t.col in
+          record { top = omega (arith, col, h.left); bottom = omega (arith, col, h.right); left = omega (arith, row, low, h.bottom, high); right = omega (arith, row, low, h.top, high) }
+
+      from : (p : Position) → In (place a.col (rows - (a.row + s.0))) (s.1, s.0) p → (q : Position) × In a s q × Takes (rotated Right rows columns) p q
+      from p h = (
+        place (rows - 1 - p.col) p.row,
+        record { top = omega (arith, h.right, high); bottom = omega (arith, h.left, high, h.right); left = h.top; right = h.bottom },
+        record { row = omega (arith, h.bottom, far); col = subst (λ (n : ℕ). p.col < n) (sym (as_wide columns rows wide)) (omega (arith, h.right, high)); from = refl },
+      )
+
+  -- upside down
+  over_carries : Carries (upside_down rows columns) (a, s) (place (rows - (a.row + s.0)) a.col, s)
+  over_carries = record { all = all; only = only; from = from }
+    where
+      all : (q : Position) → In a s q → (p : Position) × Takes (upside_down rows columns) p q
+      all q h =
+          let back : rows - 1 - (rows - 1 - q.row) ≡ q.row = omega (arith, h.bottom, high) in
+          (place (rows - 1 - q.row) q.col, record { row = omega (arith, h.bottom, high); col = omega (arith, h.right, far); from = ap (λ (i : ℕ). Some (place i q.col)) back })
+
+      only : (p q : Position) → Takes (upside_down rows columns) p q → In a s q → In (place (rows - (a.row + s.0)) a.col) s p
+      only p q t h =
+          let is : place (rows - 1 - p.row) p.col ≡ q = same_Some _ _ t.from in
+          let row : rows - 1 - p.row ≡ q.row = ap (λ (x : Position). x.row) is in
+          let col : p.col ≡ q.col = ap (λ (x : Position). x.col) is in
+          let low : p.row < rows = t.row in
+          record { top = omega (arith, row, low, h.bottom, high); bottom = omega (arith, row, low, h.top, high); left = omega (arith, col, h.left); right = omega (arith, col, h.right) }
+
+      from : (p : Position) → In (place (rows - (a.row + s.0)) a.col) s p → (q : Position) × In a s q × Takes (upside_down rows columns) p q
+      from p h = (
+        place (rows - 1 - p.row) p.col,
+        record { top = omega (arith, h.bottom, high); bottom = omega (arith, h.top, high, h.bottom); left = h.left; right = h.right },
+        record { row = omega (arith, h.bottom, high); col = omega (arith, h.right, far); from = refl },
+      )
+
+-- the rectangle that one inside the table goes to
+pub turned : Rotate → ℕ → ℕ → Anchor → Anchor
+turned Left rows columns e = (place (columns - (e.0.col + e.1.1)) e.0.row, (e.1.1, e.1.0))
+turned Right rows columns e = (place e.0.col (rows - (e.0.row + e.1.0)), (e.1.1, e.1.0))
+turned Top rows columns e = (place (rows - (e.0.row + e.1.0)) e.0.col, e.1)
+turned Bottom rows columns e = (place (rows - (e.0.row + e.1.0)) e.0.col, e.1)
+
+pub turned_full : (turn : Rotate) (rows columns : ℕ) (e : Anchor) → IsFull e → IsFull (turned turn rows columns e)
+unfolding turned
+turned_full Left rows columns e full = record { height = full.width; width = full.height }
+turned_full Right rows columns e full = record { height = full.width; width = full.height }
+turned_full Top rows columns e full = record { height = full.height; width = full.width }
+turned_full Bottom rows columns e full = record { height = full.height; width = full.width }
+
+pub turned_carries : (turn : Rotate) (rows columns : ℕ) (e : Anchor) → IsFull e → e.0.row + e.1.0 ≤ rows → e.0.col + e.1.1 ≤ columns → Carries (rotated turn rows columns) e (turned turn rows columns e)
+unfolding turned
+turned_carries Left rows columns e full high far = left_carries rows columns e.0 e.1 full high far
+turned_carries Right rows columns e full high far = right_carries rows columns e.0 e.1 full high far
+turned_carries Top rows columns e full high far = over_carries rows columns e.0 e.1 full high far
+turned_carries Bottom rows columns e full high far = over_carries rows columns e.0 e.1 full high far
+
+-- a cell that goes to a place is a cell of the table
+turned_from : (turn : Rotate) (rows columns : ℕ) (p q : Position) → Takes (rotated turn rows columns) p q → (q.row < rows) × (q.col < columns)
+turned_from Left rows columns p q t =
+    let is : place p.col (columns - 1 - p.row) ≡ q = same_Some _ _ t.from in
+    let low : p.row < columns = t.row in
+    let far : p.col < rows = subst (λ (n : ℕ). p.col < n) (as_wide columns rows (omega (arith, low))) t.col in
+    (omega (arith, far, ap (λ (x : Position). x.row) is), omega (arith, low, ap (λ (x : Position). x.col) is))
+turned_from Right rows columns p q t =
+    let is : place (rows - 1 - p.col) p.row ≡ q = same_Some _ _ t.from in
+    let low : p.row < columns = t.row in
+    let far : p.col < rows = subst (λ (n : ℕ). p.col < n) (as_wide columns rows (omega (arith, low))) t.col in
+    (omega (arith, far, ap (λ (x : Position). x.row) is), omega (arith, low, ap (λ (x : Position). x.col) is))
+turned_from Top rows columns p q t =
+    let is : place (rows - 1 - p.row) p.col ≡ q = same_Some _ _ t.from in
+    let low : p.row < rows = t.row in
+    let far : p.col < columns = t.col in
+    (omega (arith, low, ap (λ (x : Position). x.row) is), omega (arith, far, ap (λ (x : Position). x.col) is))
+turned_from Bottom rows columns p q t =
+    let is : place (rows - 1 - p.row) p.col ≡ q = same_Some _ _ t.from in
+    let low : p.row < rows = t.row in
+    let far : p.col < columns = t.col in
+    (omega (arith, low, ap (λ (x : Position). x.row) is), omega (arith, far, ap (λ (x : Position). x.col) is))
+
+-- a rectangle of which each cell goes to a place lies inside the table
+pub turned_inside : (turn : Rotate) (rows columns : ℕ) (e f : Anchor) → IsFull e → Carries (rotated turn rows columns) e f → (e.0.row + e.1.0 ≤ rows) × (e.0.col + e.1.1 ≤ columns)
+turned_inside turn rows columns e f full c =
+    let q : Position = place (e.0.row + e.1.0 - 1) (e.0.col + e.1.1 - 1) in
+    let last : In e.0 e.1 q = record { top = omega (arith, full.height); bottom = omega (arith, full.height); left = omega (arith, full.width); right = omega (arith, full.width) } in
+    let p = c.all q last in
+    let at = turned_from turn rows columns p.0 q p.1 in
+    (omega (arith, at.0, full.height), omega (arith, at.1, full.width))
