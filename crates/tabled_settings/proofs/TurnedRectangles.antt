@@ -1,12 +1,12 @@
 -- Where the rectangles of a table go that is turned.
-use Rattle.std.proofs.Common.{◌≡◌, ℕ, ◌+◌, ◌-◌, ◌<◌, ◌≤◌, Some, refl, sym, ap, ap₂, subst, arith}
+use Rattle.std.proofs.Common.{◌≡◌, ℕ, ◌+◌, ◌-◌, ◌<◌, ◌≤◌, ◌⊎◌, inl, inr, Some, refl, sym, ap, ap₂, subst, ◌∙◌, arith}
 use Rattle.std.proofs.lemmas.Option.{same_Some}
 use Rattle.tabled_grid.specs.Anchors.{Anchor}
 use Rattle.tabled_grid.specs.Entity.{place}
 use Rattle.tabled_grid.specs.Midway.{In}
-use Rattle.tabled_grid.specs.Places.{Places}
 use Rattle.tabled_grid.specs.declared.config.position.Position.{Position}
 use Rattle.tabled_images.specs.Images.{Carries, IsFull, Takes}
+use Rattle.tabled_images.proofs.RectanglesCarried.{carries_one}
 use Rattle.tabled_settings.specs.Rearranged.{rotated, upside_down}
 use Rattle.tabled_settings.specs.declared.rotate.Rotate.{Rotate}
 use Rattle.tabled_settings.specs.declared.rotate.Rotate.TheVariants.{Left, Right, Top, Bottom}
@@ -90,21 +90,23 @@ module _ (rows columns : ℕ) (a : Position) (s : ℕ × ℕ) (full : IsFull (a,
       )
 
 -- the rectangle that one inside the table goes to
-pub turned : Rotate → ℕ → ℕ → Anchor → Anchor
+abbrev pub turned : Rotate → ℕ → ℕ → Anchor → Anchor
 turned Left rows columns e = (place (columns - (e.0.col + e.1.1)) e.0.row, (e.1.1, e.1.0))
 turned Right rows columns e = (place e.0.col (rows - (e.0.row + e.1.0)), (e.1.1, e.1.0))
 turned Top rows columns e = (place (rows - (e.0.row + e.1.0)) e.0.col, e.1)
 turned Bottom rows columns e = (place (rows - (e.0.row + e.1.0)) e.0.col, e.1)
 
+pub turned_over : (turn : Rotate) (rows columns : ℕ) (e : Anchor) (p : Position) → (turn ≡ Top) ⊎ (turn ≡ Bottom) → p.row ≡ rows - (e.0.row + e.1.0) → p.col ≡ e.0.col → (p, e.1) ≡ turned turn rows columns e
+turned_over turn rows columns e p (inl is) row col = rw is (ap (λ (x : Position). (x, e.1)) (ap₂ place row col))
+turned_over turn rows columns e p (inr is) row col = rw is (ap (λ (x : Position). (x, e.1)) (ap₂ place row col))
+
 pub turned_full : (turn : Rotate) (rows columns : ℕ) (e : Anchor) → IsFull e → IsFull (turned turn rows columns e)
-unfolding turned
 turned_full Left rows columns e full = record { height = full.width; width = full.height }
 turned_full Right rows columns e full = record { height = full.width; width = full.height }
 turned_full Top rows columns e full = record { height = full.height; width = full.width }
 turned_full Bottom rows columns e full = record { height = full.height; width = full.width }
 
 pub turned_carries : (turn : Rotate) (rows columns : ℕ) (e : Anchor) → IsFull e → e.0.row + e.1.0 ≤ rows → e.0.col + e.1.1 ≤ columns → Carries (rotated turn rows columns) e (turned turn rows columns e)
-unfolding turned
 turned_carries Left rows columns e full high far = left_carries rows columns e.0 e.1 full high far
 turned_carries Right rows columns e full high far = right_carries rows columns e.0 e.1 full high far
 turned_carries Top rows columns e full high far = over_carries rows columns e.0 e.1 full high far
@@ -141,3 +143,8 @@ turned_inside turn rows columns e f full c =
     let p = c.all q last in
     let at = turned_from turn rows columns p.0 q p.1 in
     (omega (arith, at.0, full.height), omega (arith, at.1, full.width))
+
+-- and no other carries it
+pub turned_one : (turn : Rotate) (rows columns : ℕ) (e f : Anchor) → IsFull e → e.0.row + e.1.0 ≤ rows → e.0.col + e.1.1 ≤ columns → f ≡ turned turn rows columns e → (h : Anchor) → Carries (rotated turn rows columns) e h → IsFull h → Some f ≡ Some h
+turned_one turn rows columns e f full high far is h carries whole =
+    ap Some (is ∙ carries_one (rotated turn rows columns) e (turned turn rows columns e) h (turned_full turn rows columns e full) whole (turned_carries turn rows columns e full high far) carries)

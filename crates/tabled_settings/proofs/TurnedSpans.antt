@@ -1,13 +1,11 @@
 -- Merged cells turned to the left and back.
-use Rattle.std.proofs.Common.{◌≡◌, ℕ, ◌+◌, ◌-◌, ◌<◌, ◌≤◌, Some, refl, sym, ap, ap₂, subst, arith}
+use Rattle.std.proofs.Common.{◌≡◌, ℕ, ◌-◌, ◌<◌, Some, sym, ap, ap₂, subst, arith}
 use Rattle.std.proofs.lemmas.Option.{same_Some}
-use Rattle.tabled_grid.specs.Anchors.{Anchor}
 use Rattle.tabled_grid.specs.Entity.{place}
-use Rattle.tabled_grid.specs.Midway.{In}
 use Rattle.tabled_grid.specs.Rectangles.{Fits}
 use Rattle.tabled_grid.specs.Spans.{SpanMap}
 use Rattle.tabled_grid.specs.declared.config.position.Position.{Position}
-use Rattle.tabled_images.specs.Images.{Carries, IsFull, LeadsBack, Takes, carried}
+use Rattle.tabled_images.specs.Images.{IsFull, LeadsBack, Takes, carried}
 use Rattle.tabled_images.proofs.Back.{carried_back}
 use Rattle.tabled_settings.proofs.Rotated.{as_wide}
 use Rattle.tabled_settings.proofs.TurnedRectangles.{turned, turned_carries, turned_full}
@@ -50,4 +48,4 @@ module _ (rows columns : ℕ) (tall : 0 < rows) (wide : 0 < columns) where
   pub left_then_right_spans : (m : SpanMap) → Fits m rows columns → carried (rotated Right columns rows) columns rows (carried (rotated Left rows columns) rows columns m) ≡ m
   left_then_right_spans m fits =
       subst (λ (n : ℕ). carried (rotated Right columns rows) columns n (carried (rotated Left rows columns) rows columns m) ≡ m) (as_wide columns rows wide)
-      (carried_back (rotated Left rows columns) (rotated Right columns rows) leads m rows columns fits (record { each = λ a s h. let size = fits.sizes.each a s h in let room = fits.inside a s h in let full = record { height = size.height; width = size.width } in (turned Left rows columns (a, s), turned_carries Left rows columns (a, s) full room.0 room.1, turned_full Left rows columns (a, s) full) }))
+      (carried_back (rotated Left rows columns) (rotated Right columns rows) leads m rows columns fits (record { each = λ a s h. let size = fits.sizes.each a s h in let room = fits.inside a s h in let full : IsFull (a, s) = record { height = size.height; width = size.width } in (turned Left rows columns (a, s), turned_carries Left rows columns (a, s) full room.0 room.1, turned_full Left rows columns (a, s) full) }))

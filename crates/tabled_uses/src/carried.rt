@@ -1,20 +1,22 @@
 //! Merged cells that are carried along: callers that rely on it, done or refused.
 
-ghost use Rattle.std.specs.Prelude.{◌≡◌, OnOk};
+ghost use Rattle.std.specs.Prelude.{◌≡◌, IfSome, IsOk, OnErr, OnOk};
+ghost use Rattle.std.specs.FinMap as map;
 ghost use Rattle.tabled_grid.specs.Fitting.{keep_fitting};
 ghost use Rattle.tabled_grid.specs.Rectangles.{Fits};
+ghost use Rattle.tabled_images.specs.Images.{IsFull, carried};
 
 use crate::geometry::changes;
 use std::alloc::{AllocError, Global};
-use tabled_grid::config::SpannedConfig;
+use tabled_grid::config::{Position, SpannedConfig};
 use tabled_grid::records::{
     CellText, ExactRecords, PeekableRecords, Records, RecordsMut, Resizable,
 };
-use tabled_images::kept_in_place;
 use tabled_images::laws::{
     carried_rectangles_are_the_images, carried_rectangles_fit, carried_there_and_back_is_as_it_was,
     fitting_rectangles_are_the_free_ones, merged_cells_stay_with_their_cells, there_is_one_image,
 };
+use tabled_images::{Moves, MovesRectangles, Rectangle, carry_along, image_of, kept_in_place};
 use tabled_select::object::{Column, Rows};
 use tabled_settings::concat::Concat;
 use tabled_settings::disable::{Remove, TargetColumn, TargetRow};
@@ -98,6 +100,37 @@ pub fn keeps_what_fits(
         *cfg = kept;
     }
     Ok(())
+}
+
+/// Carries merged cells along where a caller's own code moves the cells of a table (`rows x columns`).
+pub fn carries_along<M: MovesRectangles>(
+    alloc: Global,
+    moves: &M,
+    cfg: &mut SpannedConfig,
+    rows: usize,
+    columns: usize,
+) -> Result<(), AllocError>
+    ensures ok { OnOk result (cfg.new ≡ carried (M.places moves.now) rows columns cfg.old) }
+    ensures err { OnErr result (cfg.new ≡ cfg.old) }
+    ensures promised { Fits cfg.old rows columns → IsOk result }
+{
+    let kept = kept_in_place(alloc, cfg, rows, columns)?;
+    carry_along(alloc, moves, cfg, kept, rows, columns);
+    Ok(())
+}
+
+/// Where the merged cells go that are anchored at the first place, two rows and three columns of them.
+pub fn first_goes<M: Moves>(moves: &M) -> Option<Rectangle>
+    ensures { IfSome result IsFull }
+{
+    image_of(moves, (Position::new(0, 0), (2, 3)))
+}
+
+/// Gives the list of a map's rectangles away.
+pub fn lists_rectangles(cfg: SpannedConfig) -> Vec<Rectangle>
+    ensures { result.items ≡ map.entries cfg }
+{
+    cfg.into_anchors()
 }
 
 /// Calls the laws of what is carried along.

@@ -1,4 +1,4 @@
-use Rattle.std.proofs.Common.{arith, ◌≡◌, ◌≤◌, ◌∙◌, ◌++◌, [], append-nil, length, map, refl, rules, string_bytes, sym, ap}
+use Rattle.std.proofs.Common.{arith, ◌≡◌, ◌∙◌, [], append-nil, map, refl, string_bytes, sym}
 use Rattle.std.proofs.lemmas.Grind.{common_steps}
 use Rattle.std.proofs.lemmas.List.{append_assoc, length-map, map-append, nil_from_length, take_all}
 use Rattle.std.specs.Vec.Iter.{into_iter_items}

@@ -1,5 +1,5 @@
-use Rattle.std.proofs.Common.{◌≡◌, ◌≤◌, ◌<◌, ◌+◌, ◌∙◌, ◌++◌, append-nil, arith, length, map, refl, string_bytes, sym, take}
-use Rattle.std.proofs.lemmas.List.{append_assoc, length-append, length-map, map-append, take-append-le, take_all}
+use Rattle.std.proofs.Common.{◌≡◌, ◌∙◌, append-nil, arith, map, refl, string_bytes, sym}
+use Rattle.std.proofs.lemmas.List.{append_assoc, length-append, length-map, map-append, take_all}
 use Rattle.tabled_grid.specs.Entity.{inside}
 use Rattle.tabled_grid.proofs.Places.{inside-within}
 use Rattle.tabled_settings.proofs.duplicate.push_texts.Goals as goal
