@@ -10,13 +10,9 @@ CHANGES = 20  # that are made of a store, likewise
 
 
 class Case(NamedTuple):
-    """Calls, the base case that only makes what they are given, and two sizes.
-
-    The small size has a tenth of the cells.
-    """
+    """Calls, and two sizes. The small size has a tenth of the cells."""
 
     name: str
-    base: str
     size: int
     small: int
     cells: Callable[[int], int]
@@ -39,29 +35,29 @@ def hundredth(size):
 
 
 CASES = [
-    Case("push", "records", 100_000, 10_000, lambda size: size * 10),
-    Case("widen", "widening", 2_000, 632, square),
-    Case("clean", "gapped", 1_000, 316, square),
-    Case("transpose", "square", 1_000, 316, square),
-    Case("frame", "store", 2_000, 200, lambda size: (4 * size - 4) * FRAMES),
-    Case("not_frame", "store", 2_000, 632, square),
-    Case("and", "store", 1_000, 316, square),
-    Case("pairs", "store", 1_000, 316, lambda size: PAIRS),
+    Case("push", 100_000, 10_000, lambda size: size * 10),
+    Case("widen", 2_000, 632, square),
+    Case("clean", 1_000, 316, square),
+    Case("transpose", 1_000, 316, square),
+    Case("frame", 2_000, 200, lambda size: (4 * size - 4) * FRAMES),
+    Case("not_frame", 2_000, 632, square),
+    Case("and", 1_000, 316, square),
+    Case("pairs", 1_000, 316, lambda size: PAIRS),
 ]
-CASES += [Case(f"{store}_store", f"{store}_line", 1_000, 316, square) for store in ("flat", "nested")]
+CASES += [Case(f"{store}_store", 1_000, 316, square) for store in ("flat", "nested")]
 CASES += [
-    Case(f"{store}_{change}", f"{store}_store", 1_000, 316, lambda size: size * size * CHANGES)
+    Case(f"{store}_{change}", 1_000, 316, lambda size: size * size * CHANGES)
     for change in ("row", "column", "rows", "columns")
     for store in ("flat", "nested")
 ]
 
 CASES += [
-    Case(f"{merged}_{call}", f"{merged}_made", size, size // 10, lambda size: size)
+    Case(f"{merged}_{call}", size, size // 10, lambda size: size)
     for merged, size in (("flatspans", 100_000), ("tallspans", 10_000), ("staggeredspans", 10_000), ("coveredspans", 100_000))
     for call in ("fits", "drop")
 ]
 CASES += [
-    Case(f"{merged}_{call}", f"{merged}_made", size, size // 10, lambda size: size)
+    Case(f"{merged}_{call}", size, size // 10, lambda size: size)
     for merged, size, calls in (
         ("flatspans", 100_000, ("keep",)),
         ("tallspans", 10_000, ("keep",)),
@@ -72,7 +68,7 @@ CASES += [
     )
     for call in calls
 ]
-CASES += [Case("tenthspans_cover", "tenthspans_made", 1_000, 316, square)]
+CASES += [Case("tenthspans_cover", 1_000, 316, square)]
 
 
 def one(size):
@@ -98,11 +94,12 @@ def script(rows, columns, steps, text="x"):
 
 
 def part_lines(words, columns):
-    """A step on a quarter of the rows up to three quarters, or on columns alike."""
+    """A step on a quarter of the rows up to three quarters, or on columns alike, or with a second table's texts."""
 
     def steps(size):
         wide = columns(size)
-        return [words.format(size // 4, size - size // 4, wide // 4, wide - wide // 4, size // 2, wide // 2, size)]
+        parts = [size // 4, size - size // 4, wide // 4, wide - wide // 4, size // 2, wide // 2, size, wide]
+        return [words.format(*parts, texts=" ".join(["x"] * (size * wide)))]
 
     return steps
 
@@ -115,7 +112,7 @@ STEPS = {
     "extract": "extract {0} {1} {2} {3}",
     "removerows": "remove rows {0} {4}",
     "removecolumns": "remove columns {2} {5}",
-    "concat": "concat vertical - 1 1 x",
+    "concat": "concat vertical - {6} {7} {texts}",
     "content": None,  # no script says what a closure answers
     "lines": None,
     "clean": "clean all",
@@ -124,7 +121,6 @@ STEPS = {
 CASES += [
     Case(
         f"{shape}_{name}",
-        f"{shape}_made",
         size,
         small,
         lambda size, columns=columns: size * columns(size),
@@ -148,7 +144,6 @@ def split(index, order, display):
 CASES += [
     Case(
         f"square_{order}-{display}-{index}",
-        "square_made",
         1_000,
         316,
         square,
@@ -159,11 +154,11 @@ CASES += [
     for display in ("clean", "retain")
 ]
 CASES += [
-    Case("row_zip-clean-10", "row_made", 100_000, 10_000, whole, script(one, whole, split("10", "zip", "clean"))),
+    Case("row_zip-clean-10", 100_000, 10_000, whole, script(one, whole, split("10", "zip", "clean"))),
 ]
 
 CASES += [
-    Case(f"tenths_{name}", "tenths_made", 1_000, 316, square, beside=f"square_{name}")
+    Case(f"tenths_{name}", 1_000, 316, square, beside=f"square_{name}")
     for name in (
         "left",
         "right",
@@ -187,7 +182,7 @@ def put_in(size):
 
 # What merges cells: the shape of the table, the name of the change, sizes, cells, and the script.
 CASES += [
-    Case(f"{shape}_{name}", f"{shape}_made", size, small, cells, steps)
+    Case(f"{shape}_{name}", size, small, cells, steps)
     for shape, name, size, small, cells, steps in (
         ("square", "columnspans", 1_000, 316, square, script(whole, whole, lambda size: ["cspan 2 all"])),
         ("column", "rowspansback", 10_000, 1_000, whole, script(whole, one, lambda size: ["rspan -1 all"])),
@@ -248,7 +243,7 @@ TOLD = [
     ("left, right, top", "Rotate", ""),
     ("reverse, extract", "all columns; the middle half of rows and columns", ""),
     ("removerows, removecolumns", "a quarter", ""),
-    ("concat, dup", "a table of one cell below; the first row to all others", ""),
+    ("concat, dup", "a second table of the same shape below; the first row to all others", ""),
     ("content, lines, clean", "Format::content, multiline, Charset", ""),
     ("zip-.., concat-..", "rows cut into pieces of 1, of 10, or of all cells but the last one; row_ is one row of n", ""),
     ("tenths_..", "the same with a rectangle of 1 x 2 at each tenth place, beside those of square_..", "n x n"),

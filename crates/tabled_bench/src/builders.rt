@@ -1,8 +1,8 @@
 //! Calls of builders.
 //!
-//! What comes out is counted and then left to the end of the process: the time of freeing it, in
-//! whatever order its texts lie, is no part of the calls.
+//! What comes out is counted and then left to the end of the process, so that a run takes no time to free it.
 
+use crate::watch::Watch;
 use std::alloc::{AllocError, Global};
 use std::mem;
 use tabled_table::Table;
@@ -33,7 +33,7 @@ fn gapped_record(alloc: Global, count: usize) -> Result<Vec<String>, AllocError>
 }
 
 /// n records of one length.
-pub(crate) fn records(alloc: Global, count: usize) -> Result<Vec<Vec<String>>, AllocError> {
+fn records(alloc: Global, count: usize) -> Result<Vec<Vec<String>>, AllocError> {
     let mut records = Vec::with_capacity(alloc, count)?;
     for _ in 0..count {
         records.push(record_of(alloc, RECORD_LENGTH)?)?;
@@ -42,7 +42,7 @@ pub(crate) fn records(alloc: Global, count: usize) -> Result<Vec<Vec<String>>, A
 }
 
 /// n records, each a text longer than the one before.
-pub(crate) fn widening(alloc: Global, count: usize) -> Result<Vec<Vec<String>>, AllocError> {
+fn widening(alloc: Global, count: usize) -> Result<Vec<Vec<String>>, AllocError> {
     let mut records = Vec::with_capacity(alloc, count)?;
     for i in 0..count {
         records.push(record_of(alloc, i + 1)?)?;
@@ -51,7 +51,7 @@ pub(crate) fn widening(alloc: Global, count: usize) -> Result<Vec<Vec<String>>, 
 }
 
 /// A builder of `size x size` texts.
-pub(crate) fn square(alloc: Global, size: usize) -> Result<Builder, AllocError> {
+fn square(alloc: Global, size: usize) -> Result<Builder, AllocError> {
     let mut records = Vec::with_capacity(alloc, size)?;
     for _ in 0..size {
         records.push(record_of(alloc, size)?)?;
@@ -60,7 +60,7 @@ pub(crate) fn square(alloc: Global, size: usize) -> Result<Builder, AllocError> 
 }
 
 /// A builder of `size x size` texts whose every second column is empty.
-pub(crate) fn gapped(alloc: Global, size: usize) -> Result<Builder, AllocError> {
+fn gapped(alloc: Global, size: usize) -> Result<Builder, AllocError> {
     let mut records = Vec::with_capacity(alloc, size)?;
     for _ in 0..size {
         records.push(gapped_record(alloc, size)?)?;
@@ -68,15 +68,8 @@ pub(crate) fn gapped(alloc: Global, size: usize) -> Result<Builder, AllocError> 
     Builder::from_strings(alloc, records)
 }
 
-/// Counts records.
-pub(crate) fn count_records(records: Vec<Vec<String>>) -> usize {
-    let count = records.len();
-    mem::forget(records);
-    count
-}
-
 /// Counts the columns of a builder.
-pub(crate) fn count_columns(builder: Builder) -> usize {
+fn count_columns(builder: Builder) -> usize {
     let count = builder.count_columns();
     mem::forget(builder);
     count
@@ -90,31 +83,50 @@ fn count_rows(table: Table) -> usize {
 }
 
 /// Pushes records, and counts the rows of the table.
-fn count_pushed(alloc: Global, records: Vec<Vec<String>>) -> Result<usize, AllocError> {
+fn count_pushed(
+    alloc: Global,
+    records: Vec<Vec<String>>,
+    watch: &mut Watch,
+) -> Result<usize, AllocError> {
+    watch.start();
     let mut builder = Builder::new(alloc);
     for texts in records {
         builder.push_record(alloc, texts)?;
     }
-    Ok(count_rows(builder.build(alloc)?))
+    let table = builder.build(alloc)?;
+    watch.stop();
+    Ok(count_rows(table))
 }
 
-pub(crate) fn push(alloc: Global, count: usize) -> Result<usize, AllocError> {
-    count_pushed(alloc, records(alloc, count)?)
+pub(crate) fn push(alloc: Global, count: usize, watch: &mut Watch) -> Result<usize, AllocError> {
+    let records = records(alloc, count)?;
+    count_pushed(alloc, records, watch)
 }
 
-pub(crate) fn widen(alloc: Global, count: usize) -> Result<usize, AllocError> {
-    count_pushed(alloc, widening(alloc, count)?)
+pub(crate) fn widen(alloc: Global, count: usize, watch: &mut Watch) -> Result<usize, AllocError> {
+    let records = widening(alloc, count)?;
+    count_pushed(alloc, records, watch)
 }
 
 /// Counts the columns that a clean leaves.
-pub(crate) fn clean(alloc: Global, size: usize) -> Result<usize, AllocError> {
+pub(crate) fn clean(alloc: Global, size: usize, watch: &mut Watch) -> Result<usize, AllocError> {
     let mut builder = gapped(alloc, size)?;
+    watch.start();
     builder.clean();
+    watch.stop();
     Ok(count_columns(builder))
 }
 
 /// Counts the rows of a table that was turned.
-pub(crate) fn transpose(alloc: Global, size: usize) -> Result<usize, AllocError> {
-    let index = square(alloc, size)?.index(alloc)?.hide();
-    Ok(count_rows(index.transpose(alloc)?.build(alloc)?))
+pub(crate) fn transpose(
+    alloc: Global,
+    size: usize,
+    watch: &mut Watch,
+) -> Result<usize, AllocError> {
+    let builder = square(alloc, size)?;
+    watch.start();
+    let index = builder.index(alloc)?.hide();
+    let table = index.transpose(alloc)?.build(alloc)?;
+    watch.stop();
+    Ok(count_rows(table))
 }

@@ -1,6 +1,7 @@
-//! Does the calls of one case once, so that a command can time the run.
+//! Does the calls of one case once, and tells how long they took.
 //!
-//! Standard input is a line: the name of the case, a tab and its size.
+//! Standard input is a line: the name of the case, a tab and its size. The answer is a line: the nanoseconds, a
+//! tab and what is counted of what came out.
 #![tactic(auto)]
 
 mod builders;
@@ -10,11 +11,13 @@ mod selectors;
 mod spans;
 mod stores;
 mod tables;
+mod watch;
 
 use case::Case;
 use std::process::ExitCode;
+use watch::Watch;
 
-/// The line names no case, or reading or writing failed.
+/// The line names no case, or reading, writing or the clock failed.
 const FAILED: u8 = 1;
 
 /// Memory was refused.
@@ -33,11 +36,15 @@ fn main(rt: HostRuntime) -> ExitCode {
     let Some((case, size)) = case_of(line.as_str()) else {
         return ExitCode::from(FAILED);
     };
-    let Ok(outcome) = case.run(alloc, size) else {
+    let mut watch = Watch::new(&rt);
+    let Ok(outcome) = case.run(alloc, size, &mut watch) else {
         return ExitCode::from(OUT_OF_MEMORY);
     };
-    // It is written so that no compiler leaves out what it is counted from.
-    match println!(rt; "{outcome}") {
+    let Some(nanoseconds) = watch.nanoseconds() else {
+        return ExitCode::from(FAILED);
+    };
+    // The outcome is written so that no compiler leaves out what it is counted from.
+    match println!(rt; "{nanoseconds}\t{outcome}") {
         Ok(()) => ExitCode::SUCCESS,
         Err(_) => ExitCode::from(FAILED),
     }

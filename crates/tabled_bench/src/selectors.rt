@@ -1,5 +1,6 @@
 //! Calls of selectors.
 
+use crate::watch::Watch;
 use std::alloc::{AllocError, Global};
 use tabled_grid::records::{Resizable, VecRecords};
 use tabled_select::object::{Cell, Frame, Object, Rows, Segment};
@@ -11,7 +12,7 @@ const FRAMES: usize = 1_000;
 const PAIRS: usize = 100_000;
 
 /// A store of `size x size` blanks.
-pub(crate) fn store(alloc: Global, size: usize) -> Result<VecRecords<usize>, AllocError> {
+fn store(alloc: Global, size: usize) -> Result<VecRecords<usize>, AllocError> {
     let mut store = VecRecords::new(alloc, Vec::new(alloc))?;
     store.push_row(alloc)?;
     for _ in 0..size {
@@ -39,32 +40,45 @@ fn count<O: Object<VecRecords<usize>>>(
     Ok(count)
 }
 
-pub(crate) fn frame(alloc: Global, size: usize) -> Result<usize, AllocError> {
+pub(crate) fn frame(alloc: Global, size: usize, watch: &mut Watch) -> Result<usize, AllocError> {
     let store = store(alloc, size)?;
+    watch.start();
     let mut total: usize = 0;
     for _ in 0..FRAMES {
         total = total.wrapping_add(count(alloc, &Frame, &store)?);
     }
+    watch.stop();
     Ok(total)
 }
 
-pub(crate) fn not_frame(alloc: Global, size: usize) -> Result<usize, AllocError> {
+pub(crate) fn not_frame(
+    alloc: Global,
+    size: usize,
+    watch: &mut Watch,
+) -> Result<usize, AllocError> {
     let store = store(alloc, size)?;
-    count(alloc, &Segment::all().not(Frame), &store)
+    watch.start();
+    let total = count(alloc, &Segment::all().not(Frame), &store)?;
+    watch.stop();
+    Ok(total)
 }
 
 /// Counts the cells of two parts that share a third of the table.
-pub(crate) fn and(alloc: Global, size: usize) -> Result<usize, AllocError> {
+pub(crate) fn and(alloc: Global, size: usize, watch: &mut Watch) -> Result<usize, AllocError> {
     let store = store(alloc, size)?;
     let third = size / 3;
     let upper = Rows::new(0..size - third);
     let lower = Rows::new(third..size);
-    count(alloc, &upper.and(lower), &store)
+    watch.start();
+    let total = count(alloc, &upper.and(lower), &store)?;
+    watch.stop();
+    Ok(total)
 }
 
 /// Counts what combinations of two cells name, of which the table has at least the first.
-pub(crate) fn pairs(alloc: Global, size: usize) -> Result<usize, AllocError> {
+pub(crate) fn pairs(alloc: Global, size: usize, watch: &mut Watch) -> Result<usize, AllocError> {
     let store = store(alloc, size)?;
+    watch.start();
     let mut total: usize = 0;
     for i in 0..PAIRS {
         let first = Cell::new(0, i % 100);
@@ -76,5 +90,6 @@ pub(crate) fn pairs(alloc: Global, size: usize) -> Result<usize, AllocError> {
         };
         total = total.wrapping_add(listed);
     }
+    watch.stop();
     Ok(total)
 }

@@ -2,6 +2,7 @@
 
 ghost use Rattle.std.specs.Prelude.{◌≤◌};
 
+use crate::watch::Watch;
 use std::alloc::{AllocError, Global};
 use tabled_grid::config::{CoverMap, Position, SpannedConfig};
 
@@ -33,8 +34,6 @@ pub(crate) enum Merged {
 /// What is done with them.
 #[derive(Clone, Copy)]
 pub(crate) enum Call {
-    /// Nothing: they are only made.
-    Nothing,
     Fits,
     DropHidden,
     /// What doesn't fit is taken away.
@@ -49,16 +48,31 @@ pub(crate) fn run(
     size: usize,
     merged: Merged,
     call: Call,
+    watch: &mut Watch,
 ) -> Result<usize, AllocError> {
     let mut spans = make(alloc, size, merged)?;
     let first = Position::new(0, 0);
     match call {
-        Call::Nothing => {}
-        Call::Fits => return Ok(usize::from(spans.fits(usize::MAX, usize::MAX))),
-        Call::DropHidden => spans.drop_hidden(),
-        Call::KeepFitting => spans.keep_fitting(alloc, usize::MAX, usize::MAX)?,
+        Call::Fits => {
+            watch.start();
+            let fits = spans.fits(usize::MAX, usize::MAX);
+            watch.stop();
+            return Ok(usize::from(fits));
+        }
+        Call::DropHidden => {
+            watch.start();
+            spans.drop_hidden();
+            watch.stop();
+        }
+        Call::KeepFitting => {
+            watch.start();
+            spans.keep_fitting(alloc, usize::MAX, usize::MAX)?;
+            watch.stop();
+        }
         Call::Cover => {
+            watch.start();
             let cover = CoverMap::new(alloc, &spans, size, size)?;
+            watch.stop();
             return Ok(if size > 0 && cover.is_hidden(first) {
                 1
             } else {

@@ -2,6 +2,7 @@
 //!
 //! The cells are blank texts, which take no memory of their own.
 
+use crate::watch::Watch;
 use std::alloc::{AllocError, Global};
 use std::mem;
 use tabled_grid::records::{Blank, ExactRecords, Records, Resizable, Text, VecRecords};
@@ -9,12 +10,18 @@ use tabled_grid::records::{Blank, ExactRecords, Records, Resizable, Text, VecRec
 /// How often each change is made and undone.
 const TIMES: usize = 20;
 
+/// What is called.
+#[derive(Clone, Copy)]
+pub(crate) enum Call {
+    /// One row becomes as many rows as columns, row by row.
+    Growth,
+    /// A store is changed many times.
+    Change(Change),
+}
+
 /// What is changed.
 #[derive(Clone, Copy)]
 pub(crate) enum Change {
-    /// Nothing: the store is only made, or one row of it.
-    Nothing,
-    OneRow,
     /// A row or column is inserted in the middle and removed again.
     MiddleRow,
     MiddleColumn,
@@ -23,38 +30,67 @@ pub(crate) enum Change {
     Columns,
 }
 
-impl Change {
-    /// How many rows are made for it.
-    fn count_rows(self, size: usize) -> usize {
-        match self {
-            Change::OneRow => 1,
-            _ => size,
-        }
-    }
-}
-
-/// A store of `size x size` blanks in one vector, changed many times.
-pub(crate) fn flat(alloc: Global, size: usize, change: Change) -> Result<usize, AllocError> {
+/// Does a call on a store of `size x size` blanks in one vector, and counts its rows.
+pub(crate) fn flat(
+    alloc: Global,
+    size: usize,
+    call: Call,
+    watch: &mut Watch,
+) -> Result<usize, AllocError> {
     let mut store: VecRecords<Text<String>> = VecRecords::new(alloc, Vec::new(alloc))?;
-    fill(alloc, &mut store, change.count_rows(size), size)?;
-    change_often(alloc, &mut store, change)?;
+    run(alloc, &mut store, size, call, watch)?;
     let rows = store.count_rows();
     mem::forget(store);
     Ok(rows)
 }
 
 /// The same in a vector for each row.
-pub(crate) fn nested(alloc: Global, size: usize, change: Change) -> Result<usize, AllocError> {
+pub(crate) fn nested(
+    alloc: Global,
+    size: usize,
+    call: Call,
+    watch: &mut Watch,
+) -> Result<usize, AllocError> {
     let mut store: Vec<Vec<Text<String>>> = Vec::new(alloc);
-    fill(alloc, &mut store, change.count_rows(size), size)?;
-    change_often(alloc, &mut store, change)?;
+    run(alloc, &mut store, size, call, watch)?;
     let rows = store.count_rows();
     mem::forget(store);
     Ok(rows)
 }
 
-/// Grows a store by a row, and by columns, and then row by row.
-fn fill<R>(alloc: Global, records: &mut R, rows: usize, columns: usize) -> Result<(), AllocError>
+/// Makes a store of an empty one, and does a call.
+fn run<R>(
+    alloc: Global,
+    records: &mut R,
+    size: usize,
+    call: Call,
+    watch: &mut Watch,
+) -> Result<(), AllocError>
+where
+    R: Resizable + Records + ExactRecords,
+    R::Cell: Blank,
+    requires { R.is_well_formed records.old }
+    ensures { R.is_well_formed records.new }
+{
+    push_first_row(alloc, records, size)?;
+    match call {
+        Call::Growth => {
+            watch.start();
+            push_other_rows(alloc, records, size)?;
+            watch.stop();
+        }
+        Call::Change(change) => {
+            push_other_rows(alloc, records, size)?;
+            watch.start();
+            change_often(alloc, records, change)?;
+            watch.stop();
+        }
+    }
+    Ok(())
+}
+
+/// Grows a store by a row, and by columns.
+fn push_first_row<R>(alloc: Global, records: &mut R, columns: usize) -> Result<(), AllocError>
 where
     R: Resizable,
     R::Cell: Blank,
@@ -65,6 +101,17 @@ where
     for _ in 0..columns {
         records.push_column(alloc)?;
     }
+    Ok(())
+}
+
+/// Grows a store of one row, row by row.
+fn push_other_rows<R>(alloc: Global, records: &mut R, rows: usize) -> Result<(), AllocError>
+where
+    R: Resizable,
+    R::Cell: Blank,
+    requires { R.is_well_formed records.old }
+    ensures { R.is_well_formed records.new }
+{
     for _ in 1..rows {
         records.push_row(alloc)?;
     }
@@ -96,7 +143,6 @@ where
         return Ok(());
     }
     match change {
-        Change::Nothing | Change::OneRow => {}
         Change::MiddleRow => {
             records.insert_row(alloc, rows / 2)?;
             records.remove_row(rows / 2);

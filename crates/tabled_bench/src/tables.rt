@@ -2,6 +2,7 @@
 
 use crate::merging::Merging;
 use crate::spans::Merged;
+use crate::watch::Watch;
 use crate::{merging, spans};
 use std::alloc::{AllocError, Global};
 use std::mem;
@@ -77,8 +78,6 @@ impl Shape {
 /// What is done to a table.
 #[derive(Clone, Copy)]
 pub(crate) enum Change {
-    /// Nothing: the table is only made.
-    Nothing,
     Left,
     Right,
     Top,
@@ -101,7 +100,6 @@ pub(crate) enum Change {
 impl Change {
     pub(crate) fn of_name(name: &str) -> Option<Change> {
         match name {
-            "made" => Some(Change::Nothing),
             "left" => Some(Change::Left),
             "right" => Some(Change::Right),
             "top" => Some(Change::Top),
@@ -149,6 +147,7 @@ pub(crate) fn run(
     size: usize,
     shape: Shape,
     change: Change,
+    watch: &mut Watch,
 ) -> Result<usize, AllocError> {
     let (rows, columns) = shape.counts(size);
     let mut store = made(alloc, rows, columns)?;
@@ -157,7 +156,7 @@ pub(crate) fn run(
         let letters = Format::positioned(a_letter_in_pairs);
         letters.change(alloc, &mut store, &mut cfg, &mut ())?;
     }
-    change_once(alloc, &mut store, &mut cfg, size, change)?;
+    change_once(alloc, &mut store, &mut cfg, size, change, watch)?;
     let rows = store.count_rows();
     mem::forget(store);
     Ok(rows)
@@ -187,12 +186,16 @@ fn apply<O>(
     option: O,
     store: &mut Store,
     cfg: &mut SpannedConfig,
+    watch: &mut Watch,
 ) -> Result<(), AllocError>
 where
     O: TableOption<Store, SpannedConfig, ()>,
     requires can { O.can_change option }
 {
-    option.change(alloc, store, cfg, &mut ())
+    watch.start();
+    option.change(alloc, store, cfg, &mut ())?;
+    watch.stop();
+    Ok(())
 }
 
 fn change_once(
@@ -201,15 +204,23 @@ fn change_once(
     cfg: &mut SpannedConfig,
     size: usize,
     change: Change,
+    watch: &mut Watch,
 ) -> Result<(), AllocError> {
     let rows = store.count_rows();
     let columns = store.count_columns();
     match change {
-        Change::Nothing => Ok(()),
-        Change::Left => apply(alloc, Rotate::Left, store, cfg),
-        Change::Right => apply(alloc, Rotate::Right, store, cfg),
-        Change::Top => apply(alloc, Rotate::Top, store, cfg),
-        Change::Reverse => { apply(alloc, Reverse::columns(0).limit(Offset::End(0)), store, cfg) }
+        Change::Left => apply(alloc, Rotate::Left, store, cfg, watch),
+        Change::Right => apply(alloc, Rotate::Right, store, cfg, watch),
+        Change::Top => apply(alloc, Rotate::Top, store, cfg, watch),
+        Change::Reverse => {
+            apply(
+                alloc,
+                Reverse::columns(0).limit(Offset::End(0)),
+                store,
+                cfg,
+                watch,
+            )
+        }
         Change::Extract => {
             apply(
                 alloc,
@@ -219,6 +230,7 @@ fn change_once(
                 ),
                 store,
                 cfg,
+                watch,
             )
         }
         Change::RemoveRows => apply(
@@ -226,6 +238,7 @@ fn change_once(
             Remove::row(Rows::new(rows / 4..rows / 2)),
             store,
             cfg,
+            watch,
         ),
         Change::RemoveColumns => {
             apply(
@@ -233,21 +246,40 @@ fn change_once(
                 Remove::column(Columns::new(columns / 4..columns / 2)),
                 store,
                 cfg,
+                watch,
             )
         }
         Change::Concat => {
-            let second = Table::from_records(alloc, made(alloc, 1, 1)?);
-            apply(alloc, Concat::vertical(alloc, second), store, cfg)
+            // A second table as large as the first, so that the time is not too short to tell.
+            let second = Table::from_records(alloc, made(alloc, rows, columns)?);
+            apply(alloc, Concat::vertical(alloc, second), store, cfg, watch)
         }
-        Change::Content => apply(alloc, Format::content(a_letter), store, cfg),
-        Change::Lines => apply(alloc, Format::content(a_letter).multiline(), store, cfg),
-        Change::Clean => apply(alloc, Charset::new().clean(), store, cfg),
-        Change::Dup => apply(alloc, Dup::new(Rows::new(1..), Rows::first()), store, cfg),
-        Change::Split(split) => apply(alloc, split, store, cfg),
+        Change::Content => apply(alloc, Format::content(a_letter), store, cfg, watch),
+        Change::Lines => apply(
+            alloc,
+            Format::content(a_letter).multiline(),
+            store,
+            cfg,
+            watch,
+        ),
+        Change::Clean => apply(alloc, Charset::new().clean(), store, cfg, watch),
+        Change::Dup => apply(
+            alloc,
+            Dup::new(Rows::new(1..), Rows::first()),
+            store,
+            cfg,
+            watch,
+        ),
+        Change::Split(split) => apply(alloc, split, store, cfg, watch),
         Change::SplitLast(split) => {
             let index = columns.saturating_sub(1);
-            apply(alloc, Split { index, ..split }, store, cfg)
+            apply(alloc, Split { index, ..split }, store, cfg, watch)
         }
-        Change::Merging(merging) => merging::run(alloc, store, cfg, size, merging),
+        Change::Merging(merging) => {
+            watch.start();
+            merging::run(alloc, store, cfg, size, merging)?;
+            watch.stop();
+            Ok(())
+        }
     }
 }
