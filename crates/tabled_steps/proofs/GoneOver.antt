@@ -1,5 +1,5 @@
 -- Lists that are gone over from the front.
-use Rattle.std.proofs.Common.{◌≡◌, List, [], ◌∷◌, ap, arith, length, subst, sym}
+use Rattle.std.proofs.Common.{List, [], ◌∷◌, ap, arith, length, subst, sym}
 use Rattle.std.specs.Iterator.{AlwaysYields, YieldsFirst}
 use Rattle.tabled_grid.specs.declared.config.entity.Entity.{Entity}
 
