@@ -10,7 +10,7 @@ use crate::kept_lines::index_of;
 use crate::split::Split;
 use tabled_grid::config::Position;
 use tabled_grid::records::PieceOrder;
-use tabled_images::{Moves, MovesRectangles, Rectangle, image_of};
+use tabled_images::{Moves, MovesRectangles};
 
 /// n lines of a width that are cut, where all pieces are kept.
 #[derive(Drop)]
@@ -57,11 +57,7 @@ impl Moves for Cut {
     }
 }
 
-impl MovesRectangles for Cut {
-    fn new_rectangle(&self, of: Rectangle) -> Option<Rectangle> {
-        image_of(self, of)
-    }
-}
+impl MovesRectangles for Cut {}
 
 /// Lines that are cut, of which some pieces are kept.
 #[derive(Drop)]
@@ -84,8 +80,4 @@ impl Moves for CleanCut {
     }
 }
 
-impl MovesRectangles for CleanCut {
-    fn new_rectangle(&self, of: Rectangle) -> Option<Rectangle> {
-        image_of(self, of)
-    }
-}
+impl MovesRectangles for CleanCut {}

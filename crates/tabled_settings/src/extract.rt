@@ -16,7 +16,7 @@ use std::marker::Model;
 use std::ops::{Range, RangeFull};
 use tabled_grid::config::{Entity, Position, SpannedConfig, ToBounds};
 use tabled_grid::records::{Axis, Blank, ExactRecords, Records, Resizable};
-use tabled_images::{Moves, MovesRectangles, Rectangle, carry_along, image_of, kept_in_place};
+use tabled_images::{Moves, MovesRectangles, carry_along, kept_in_place};
 use tabled_options::TableOption;
 
 /// Keeps the rows of a range, and the columns of another. Only merged cells that don't fit the table take
@@ -159,8 +159,4 @@ impl Moves for Window {
     }
 }
 
-impl MovesRectangles for Window {
-    fn new_rectangle(&self, of: Rectangle) -> Option<Rectangle> {
-        image_of(self, of)
-    }
-}
+impl MovesRectangles for Window {}

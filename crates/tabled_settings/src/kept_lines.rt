@@ -8,7 +8,7 @@ ghost use Rattle.tabled_settings.specs.Rearranged.{kept_lines, left_over};
 use std::alloc::{AllocError, Global};
 use tabled_grid::config::Position;
 use tabled_grid::records::Axis;
-use tabled_images::{Moves, MovesRectangles, Rectangle, image_of};
+use tabled_images::{Moves, MovesRectangles};
 
 /// Some of the rows, or of the columns, of a table of r rows and c columns.
 #[derive(Drop)]
@@ -94,8 +94,4 @@ impl Moves for Kept {
     }
 }
 
-impl MovesRectangles for Kept {
-    fn new_rectangle(&self, of: Rectangle) -> Option<Rectangle> {
-        image_of(self, of)
-    }
-}
+impl MovesRectangles for Kept {}

@@ -15,7 +15,7 @@ use crate::lines;
 use std::alloc::{AllocError, Global};
 use tabled_grid::config::{Entity, Offset, Position, SpannedConfig};
 use tabled_grid::records::{Axis, Blank, ExactRecords, Records, Resizable};
-use tabled_images::{Moves, MovesRectangles, Rectangle, carry_along, image_of, kept_in_place};
+use tabled_images::{Moves, MovesRectangles, carry_along, kept_in_place};
 use tabled_options::TableOption;
 
 /// Puts rows or columns, from a start up to a limit, into the opposite order, and merged cells with them. It
@@ -182,8 +182,4 @@ impl Moves for Mirror {
     }
 }
 
-impl MovesRectangles for Mirror {
-    fn new_rectangle(&self, of: Rectangle) -> Option<Rectangle> {
-        image_of(self, of)
-    }
-}
+impl MovesRectangles for Mirror {}
