@@ -16,7 +16,7 @@ use tabled_images::laws::{
     carried_rectangles_are_the_images, carried_rectangles_fit, carried_there_and_back_is_as_it_was,
     fitting_rectangles_are_the_free_ones, merged_cells_stay_with_their_cells, there_is_one_image,
 };
-use tabled_images::{Moves, MovesRectangles, Rectangle, carry_along, image_of, kept_in_place};
+use tabled_images::{MovesRectangles, Rectangle, carry_along, kept_in_place};
 use tabled_select::object::{Column, Rows};
 use tabled_settings::concat::Concat;
 use tabled_settings::disable::{Remove, TargetColumn, TargetRow};
@@ -120,10 +120,10 @@ pub fn carries_along<M: MovesRectangles>(
 }
 
 /// Where the merged cells go that are anchored at the first place, two rows and three columns of them.
-pub fn first_goes<M: Moves>(moves: &M) -> Option<Rectangle>
+pub fn first_goes<M: MovesRectangles>(moves: &M) -> Option<Rectangle>
     ensures { IfSome result IsFull }
 {
-    image_of(moves, (Position::new(0, 0), (2, 3)))
+    moves.new_rectangle((Position::new(0, 0), (2, 3)))
 }
 
 /// Gives the list of a map's rectangles away.
