@@ -1,7 +1,6 @@
 -- A list of rectangles, as their images are written over it.
 use Rattle.std.proofs.Common.{◌≡◌, ℕ, ◌+◌, ◌≤◌, ◌<◌, ◌++◌, [], ◌∷◌, List, arith, get_or, length, set, subst, sym, take, ◌∙◌}
-use Rattle.std.proofs.lemmas.List.{get_or-set_other, take_more_set}
-use Rattle.std.proofs.lemmas.List.{length-set}
+use Rattle.std.proofs.lemmas.List.{get_or-set_other, length-set, take_more_set}
 use Rattle.tabled_grid.specs.Anchors.{Anchor}
 use Rattle.tabled_grid.specs.Places.{Places}
 use Rattle.tabled_images.proofs.Carrying.{Images}

@@ -37,8 +37,9 @@ pub fn kept_in_place(
     Ok(Some(kept))
 }
 
-/// Carries the merged cells of a table (`rows x columns`) along when its cells have moved: those that did not
-/// fit go, and each of the others goes along where the new places of its cells form a rectangle.
+/// Carries the merged cells of a table along when its cells have moved. It was `rows x columns` before: those
+/// that did not fit it go, and each of the others goes to where the new places of its cells form a rectangle,
+/// or else comes apart.
 ///
 /// It is given what `kept_in_place` made of them before the cells moved, and takes no memory.
 pub fn carry_along<M: MovesRectangles>(
@@ -51,11 +52,14 @@ pub fn carry_along<M: MovesRectangles>(
 )
     requires kept { IfSome kept (λ kept. kept ≡ keep_fitting rows columns cfg.old) }
     requires same { IsNone kept → keep_fitting rows columns cfg.old ≡ cfg.old }
-    requires sizes { AreSpanSizes cfg.old }
-    ensures { cfg.new ≡ carried (M.places moves.now) rows columns cfg.old }
+    ensures carried { cfg.new ≡ carried (M.places moves.now) rows columns cfg.old }
+    ensures sizes { AreSpanSizes cfg.new }
 {
+    // The list tells that the sizes are right.
+    let _ = cfg.anchors();
     let fitting = match kept {
         Some(kept) => kept,
+        // No merged cells stand in meanwhile, which takes no memory.
         None => mem::replace(cfg, SpannedConfig::new(alloc)),
     };
     *cfg = carried_fitting(moves, fitting, rows, columns);
@@ -69,14 +73,15 @@ fn carried_fitting<M: MovesRectangles>(
     columns: usize,
 ) -> SpannedConfig
     requires { Fits cfg rows columns }
-    ensures { result ≡ image (M.places moves.now) cfg }
+    ensures image { result ≡ image (M.places moves.now) cfg }
+    ensures sizes { AreSpanSizes result }
 {
     let mut anchors = cfg.into_anchors();
     carry(moves, &mut anchors, rows, columns);
     SpannedConfig::from_anchors(anchors)
 }
 
-/// Writes the rectangles that the anchors of a list are carried to over these, row by row.
+/// Puts the rectangles that those of a list are carried to in their stead, row by row.
 fn carry<M: MovesRectangles>(moves: &M, anchors: &mut Vec<Rectangle>, rows: usize, columns: usize)
     requires anchors { AreAnchors anchors.old.items }
     requires fits { Fits (from_sorted anchors.old.items) rows columns }

@@ -19,6 +19,33 @@ use Rattle.tabled_settings.specs.Rearranged.{reversed, reversed_index, rotated}
 use Rattle.tabled_settings.specs.declared.rotate.Rotate.TheVariants.{Top}
 use Rattle.tabled_settings.proofs.Reversed.{index_inside}
 
+-- each rectangle inside is carried to one by rows that come from those as far from the other end
+pub rows_carry : (old : ℕ → ℕ) (rows columns : ℕ) → ((i : ℕ) → i < rows → old i + i + 1 ≡ rows) → (a : Position) (s : ℕ × ℕ) → a.row + s.0 ≤ rows → a.col + s.1 ≤ columns → Carries (lines_from Rows old rows columns) (a, s) (place (rows - (a.row + s.0)) a.col, s)
+rows_carry old rows columns mirrors a s high far = record { all = all; only = only; from = from }
+  where
+    all : (q : Position) → In a s q → (p : Position) × Takes (lines_from Rows old rows columns) p q
+    all q h =
+        let low : rows - 1 - q.row < rows = omega (arith, h.bottom, high) in
+        let again : old (rows - 1 - q.row) ≡ q.row = omega (arith, mirrors (rows - 1 - q.row) low, h.bottom, high) in
+        (place (rows - 1 - q.row) q.col, record { row = low; col = omega (arith, h.right, far); from = ap (λ (i : ℕ). Some (place i q.col)) again })
+
+    only : (p q : Position) → Takes (lines_from Rows old rows columns) p q → In a s q → In (place (rows - (a.row + s.0)) a.col) s p
+    only p q t h =
+        let is : place (old p.row) p.col ≡ q = same_Some _ _ t.from in
+        let row : old p.row ≡ q.row = ap (λ (x : Position). x.row) is in
+        let col : p.col ≡ q.col = ap (λ (x : Position). x.col) is in
+        let opposite = mirrors p.row t.row in
+        record { top = omega (arith, row, opposite, h.bottom, high); bottom = omega (arith, row, opposite, h.top, high); left = omega (arith, col, h.left); right = omega (arith, col, h.right) }
+
+    from : (p : Position) → In (place (rows - (a.row + s.0)) a.col) s p → (q : Position) × In a s q × Takes (lines_from Rows old rows columns) p q
+    from p h =
+        let low : p.row < rows = omega (arith, h.bottom, high) in
+        let opposite = mirrors p.row low in (
+          place (old p.row) p.col,
+          record { top = omega (arith, opposite, h.bottom, high); bottom = omega (arith, opposite, h.top, high); left = h.left; right = h.right },
+          record { row = low; col = omega (arith, h.right, far); from = refl },
+        )
+
 -- lines that come from those as far from the other end
 module _ (axis : Axis) (old : ℕ → ℕ) (rows columns : ℕ) (mirrors : (i : ℕ) → i < count_of axis rows columns → old i + i + 1 ≡ count_of axis rows columns) where
   abbrev places : Places
@@ -50,30 +77,7 @@ module _ (axis : Axis) (old : ℕ → ℕ) (rows columns : ℕ) (mirrors : (i : 
   moved a s full high far = by axis mirrors
     where
       by : (axis : Axis) → ((i : ℕ) → i < count_of axis rows columns → old i + i + 1 ≡ count_of axis rows columns) → (f : Anchor) × Carries (lines_from axis old rows columns) (a, s) f × IsFull f
-      by Rows mirrors = ((place (rows - (a.row + s.0)) a.col, s), record { all = all; only = only; from = from }, record { height = full.height; width = full.width })
-        where
-          all : (q : Position) → In a s q → (p : Position) × Takes (lines_from Rows old rows columns) p q
-          all q h =
-              let low : rows - 1 - q.row < rows = omega (arith, h.bottom, high) in
-              let again : old (rows - 1 - q.row) ≡ q.row = omega (arith, mirrors (rows - 1 - q.row) low, h.bottom, high) in
-              (place (rows - 1 - q.row) q.col, record { row = low; col = omega (arith, h.right, far); from = ap (λ (i : ℕ). Some (place i q.col)) again })
-
-          only : (p q : Position) → Takes (lines_from Rows old rows columns) p q → In a s q → In (place (rows - (a.row + s.0)) a.col) s p
-          only p q t h =
-              let is : place (old p.row) p.col ≡ q = same_Some _ _ t.from in
-              let row : old p.row ≡ q.row = ap (λ (x : Position). x.row) is in
-              let col : p.col ≡ q.col = ap (λ (x : Position). x.col) is in
-              let opposite = mirrors p.row t.row in
-              record { top = omega (arith, row, opposite, h.bottom, high); bottom = omega (arith, row, opposite, h.top, high); left = omega (arith, col, h.left); right = omega (arith, col, h.right) }
-
-          from : (p : Position) → In (place (rows - (a.row + s.0)) a.col) s p → (q : Position) × In a s q × Takes (lines_from Rows old rows columns) p q
-          from p h =
-              let low : p.row < rows = omega (arith, h.bottom, high) in
-              let opposite = mirrors p.row low in (
-                place (old p.row) p.col,
-                record { top = omega (arith, opposite, h.bottom, high); bottom = omega (arith, opposite, h.top, high); left = h.left; right = h.right },
-                record { row = low; col = omega (arith, h.right, far); from = refl },
-              )
+      by Rows mirrors = ((place (rows - (a.row + s.0)) a.col, s), rows_carry old rows columns mirrors a s high far, record { height = full.height; width = full.width })
       by Columns mirrors = ((place a.row (columns - (a.col + s.1)), s), record { all = all; only = only; from = from }, record { height = full.height; width = full.width })
         where
           all : (q : Position) → In a s q → (p : Position) × Takes (lines_from Columns old rows columns) p q

@@ -10,6 +10,7 @@ use Rattle.tabled_images.proofs.RectanglesCarried.{carries_one}
 use Rattle.tabled_settings.specs.Rearranged.{rotated, upside_down}
 use Rattle.tabled_settings.specs.declared.rotate.Rotate.{Rotate}
 use Rattle.tabled_settings.specs.declared.rotate.Rotate.TheVariants.{Left, Right, Top, Bottom}
+use Rattle.tabled_settings.proofs.MirroredSpans.{rows_carry}
 use Rattle.tabled_settings.proofs.Rotated.{as_wide}
 
 module _ (rows columns : ℕ) (a : Position) (s : ℕ × ℕ) (full : IsFull (a, s)) (high : a.row + s.0 ≤ rows) (far : a.col + s.1 ≤ columns) where
@@ -17,7 +18,7 @@ module _ (rows columns : ℕ) (a : Position) (s : ℕ × ℕ) (full : IsFull (a,
   wide = omega (arith, full.width, far)
 
   -- to the left
-  pub left_carries : Carries (rotated Left rows columns) (a, s) (place (columns - (a.col + s.1)) a.row, (s.1, s.0))
+  left_carries : Carries (rotated Left rows columns) (a, s) (place (columns - (a.col + s.1)) a.row, (s.1, s.0))
   left_carries = record { all = all; only = only; from = from }
     where
       all : (q : Position) → In a s q → (p : Position) × Takes (rotated Left rows columns) p q
@@ -65,36 +66,19 @@ module _ (rows columns : ℕ) (a : Position) (s : ℕ × ℕ) (full : IsFull (a,
         record { row = omega (arith, h.bottom, far); col = subst (λ (n : ℕ). p.col < n) (sym (as_wide columns rows wide)) (omega (arith, h.right, high)); from = refl },
       )
 
-  -- upside down
-  over_carries : Carries (upside_down rows columns) (a, s) (place (rows - (a.row + s.0)) a.col, s)
-  over_carries = record { all = all; only = only; from = from }
-    where
-      all : (q : Position) → In a s q → (p : Position) × Takes (upside_down rows columns) p q
-      all q h =
-          let back : rows - 1 - (rows - 1 - q.row) ≡ q.row = omega (arith, h.bottom, high) in
-          (place (rows - 1 - q.row) q.col, record { row = omega (arith, h.bottom, high); col = omega (arith, h.right, far); from = ap (λ (i : ℕ). Some (place i q.col)) back })
-
-      only : (p q : Position) → Takes (upside_down rows columns) p q → In a s q → In (place (rows - (a.row + s.0)) a.col) s p
-      only p q t h =
-          let is : place (rows - 1 - p.row) p.col ≡ q = same_Some _ _ t.from in
-          let row : rows - 1 - p.row ≡ q.row = ap (λ (x : Position). x.row) is in
-          let col : p.col ≡ q.col = ap (λ (x : Position). x.col) is in
-          let low : p.row < rows = t.row in
-          record { top = omega (arith, row, low, h.bottom, high); bottom = omega (arith, row, low, h.top, high); left = omega (arith, col, h.left); right = omega (arith, col, h.right) }
-
-      from : (p : Position) → In (place (rows - (a.row + s.0)) a.col) s p → (q : Position) × In a s q × Takes (upside_down rows columns) p q
-      from p h = (
-        place (rows - 1 - p.row) p.col,
-        record { top = omega (arith, h.bottom, high); bottom = omega (arith, h.top, high, h.bottom); left = h.left; right = h.right },
-        record { row = omega (arith, h.bottom, high); col = omega (arith, h.right, far); from = refl },
-      )
-
 -- the rectangle that one inside the table goes to
 abbrev pub turned : Rotate → ℕ → ℕ → Anchor → Anchor
 turned Left rows columns e = (place (columns - (e.0.col + e.1.1)) e.0.row, (e.1.1, e.1.0))
 turned Right rows columns e = (place e.0.col (rows - (e.0.row + e.1.0)), (e.1.1, e.1.0))
 turned Top rows columns e = (place (rows - (e.0.row + e.1.0)) e.0.col, e.1)
 turned Bottom rows columns e = (place (rows - (e.0.row + e.1.0)) e.0.col, e.1)
+
+-- it is known by its place
+pub turned_left : (rows columns : ℕ) (e : Anchor) (p : Position) → p.row ≡ columns - (e.0.col + e.1.1) → p.col ≡ e.0.row → (p, (e.1.1, e.1.0)) ≡ turned Left rows columns e
+turned_left rows columns e p row col = ap (λ (x : Position). (x, (e.1.1, e.1.0))) (ap₂ place row col)
+
+pub turned_right : (rows columns : ℕ) (e : Anchor) (p : Position) → p.row ≡ e.0.col → p.col ≡ rows - (e.0.row + e.1.0) → (p, (e.1.1, e.1.0)) ≡ turned Right rows columns e
+turned_right rows columns e p row col = ap (λ (x : Position). (x, (e.1.1, e.1.0))) (ap₂ place row col)
 
 pub turned_over : (turn : Rotate) (rows columns : ℕ) (e : Anchor) (p : Position) → (turn ≡ Top) ⊎ (turn ≡ Bottom) → p.row ≡ rows - (e.0.row + e.1.0) → p.col ≡ e.0.col → (p, e.1) ≡ turned turn rows columns e
 turned_over turn rows columns e p (inl is) row col = rw is (ap (λ (x : Position). (x, e.1)) (ap₂ place row col))
@@ -106,11 +90,14 @@ turned_full Right rows columns e full = record { height = full.width; width = fu
 turned_full Top rows columns e full = record { height = full.height; width = full.width }
 turned_full Bottom rows columns e full = record { height = full.height; width = full.width }
 
+upside_down_carries : (rows columns : ℕ) (e : Anchor) → e.0.row + e.1.0 ≤ rows → e.0.col + e.1.1 ≤ columns → Carries (upside_down rows columns) e (turned Top rows columns e)
+upside_down_carries rows columns e high far = rows_carry (λ i. rows - 1 - i) rows columns (λ i h. omega (arith, h)) e.0 e.1 high far
+
 pub turned_carries : (turn : Rotate) (rows columns : ℕ) (e : Anchor) → IsFull e → e.0.row + e.1.0 ≤ rows → e.0.col + e.1.1 ≤ columns → Carries (rotated turn rows columns) e (turned turn rows columns e)
 turned_carries Left rows columns e full high far = left_carries rows columns e.0 e.1 full high far
 turned_carries Right rows columns e full high far = right_carries rows columns e.0 e.1 full high far
-turned_carries Top rows columns e full high far = over_carries rows columns e.0 e.1 full high far
-turned_carries Bottom rows columns e full high far = over_carries rows columns e.0 e.1 full high far
+turned_carries Top rows columns e full high far = upside_down_carries rows columns e high far
+turned_carries Bottom rows columns e full high far = upside_down_carries rows columns e high far
 
 -- a cell that goes to a place is a cell of the table
 turned_from : (turn : Rotate) (rows columns : ℕ) (p q : Position) → Takes (rotated turn rows columns) p q → (q.row < rows) × (q.col < columns)
@@ -129,11 +116,7 @@ turned_from Top rows columns p q t =
     let low : p.row < rows = t.row in
     let far : p.col < columns = t.col in
     (omega (arith, low, ap (λ (x : Position). x.row) is), omega (arith, far, ap (λ (x : Position). x.col) is))
-turned_from Bottom rows columns p q t =
-    let is : place (rows - 1 - p.row) p.col ≡ q = same_Some _ _ t.from in
-    let low : p.row < rows = t.row in
-    let far : p.col < columns = t.col in
-    (omega (arith, low, ap (λ (x : Position). x.row) is), omega (arith, far, ap (λ (x : Position). x.col) is))
+turned_from Bottom rows columns p q t = turned_from Top rows columns p q t
 
 -- a rectangle of which each cell goes to a place lies inside the table
 pub turned_inside : (turn : Rotate) (rows columns : ℕ) (e f : Anchor) → IsFull e → Carries (rotated turn rows columns) e f → (e.0.row + e.1.0 ≤ rows) × (e.0.col + e.1.1 ≤ columns)
@@ -144,7 +127,7 @@ turned_inside turn rows columns e f full c =
     let at = turned_from turn rows columns p.0 q p.1 in
     (omega (arith, at.0, full.height), omega (arith, at.1, full.width))
 
--- and no other carries it
+-- and it goes to no other one
 pub turned_one : (turn : Rotate) (rows columns : ℕ) (e f : Anchor) → IsFull e → e.0.row + e.1.0 ≤ rows → e.0.col + e.1.1 ≤ columns → f ≡ turned turn rows columns e → (h : Anchor) → Carries (rotated turn rows columns) e h → IsFull h → Some f ≡ Some h
 turned_one turn rows columns e f full high far is h carries whole =
     ap Some (is ∙ carries_one (rotated turn rows columns) e (turned turn rows columns e) h (turned_full turn rows columns e full) whole (turned_carries turn rows columns e full high far) carries)

@@ -172,6 +172,7 @@ where
     let gone = marks(alloc, locator, records, axis.count(records))?;
     let rows = records.count_rows();
     let columns = records.count_columns();
+    // Without merged cells no list of the lines that are left is made.
     if cfg.anchors().is_empty() {
         lines::remove(axis, records, &gone);
         return Ok(());

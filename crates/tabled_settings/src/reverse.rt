@@ -1,6 +1,6 @@
 //! Rows or columns in the opposite order.
 
-ghost use Rattle.std.specs.Prelude.{◌≡◌, ◌<◌, ◌≤◌, ◌⊎◌, IfSome, IsNone};
+ghost use Rattle.std.specs.Prelude.{◌≡◌, ◌<◌, ◌≤◌, ◌⊎◌, IfSome, IsNone, false};
 ghost use Rattle.tabled_grid.specs.declared.config.offset.Offset.TheVariants.{End};
 ghost use Rattle.tabled_grid.specs.declared.records.axis.Axis.TheVariants.{Columns, Rows};
 ghost use Rattle.tabled_grid.specs.Axis.{count_of, in_line, line_of};
@@ -21,7 +21,8 @@ use tabled_options::TableOption;
 /// Puts rows or columns, from a start up to a limit, into the opposite order, and merged cells with them. It
 /// takes no memory where all merged cells fit the table. Refused, it leaves the table as it was.
 ///
-/// Where the start isn't before the limit, or the limit is past the table, it changes nothing.
+/// Where the start isn't before the limit, or the limit is past the table, it changes nothing, which takes no
+/// memory, either.
 /// `Reverse::columns(1)` makes
 ///
 /// ```text
@@ -101,7 +102,7 @@ where
 
     ghost can_change = { λ _. Unit {0} };
 
-    ghost never_refused = { λ _ g c. Fits c g.rows g.columns };
+    ghost never_refused = { λ s g c. (reverses s.axis s.start s.limit g.rows g.columns ≡ false) ⊎ Fits c g.rows g.columns };
 
     fn change(
         self,

@@ -14,7 +14,7 @@ carry-requires-clause-fits g c =
     let is : from_sorted {R = position_cmp} c.into_anchors-anchors.result.items ≡ c.args.cfg = ap (λ es. from_sorted {R = position_cmp} es) c.into_anchors-anchors.ensures.anchors ∙ from-entries c.args.cfg in
     subst (λ (m : SpanMap). Fits m c.args.rows c.args.columns) (sym is) c.requires
 
-pub returns : goal.returns
-returns g c =
+pub returns-clause-image : goal.returns-clause-image
+returns-clause-image g c =
     let is : from_sorted {R = position_cmp} c.into_anchors-anchors.result.items ≡ c.args.cfg = ap (λ es. from_sorted {R = position_cmp} es) c.into_anchors-anchors.ensures.anchors ∙ from-entries c.args.cfg in
     c.from_anchors.ensures.anchors ∙ c.carry.ensures.image ∙ ap (image (g.M.Moves.places c.args.moves.now)) is
