@@ -100,6 +100,13 @@ turned_carries Top rows columns e full high far = upside_down_carries rows colum
 turned_carries Bottom rows columns e full high far = upside_down_carries rows columns e high far
 
 -- a cell that goes to a place is a cell of the table
+upside_down_from : (rows columns : ℕ) (p q : Position) → Takes (upside_down rows columns) p q → (q.row < rows) × (q.col < columns)
+upside_down_from rows columns p q t =
+    let is : place (rows - 1 - p.row) p.col ≡ q = same_Some _ _ t.from in
+    let low : p.row < rows = t.row in
+    let far : p.col < columns = t.col in
+    (omega (arith, low, ap (λ (x : Position). x.row) is), omega (arith, far, ap (λ (x : Position). x.col) is))
+
 turned_from : (turn : Rotate) (rows columns : ℕ) (p q : Position) → Takes (rotated turn rows columns) p q → (q.row < rows) × (q.col < columns)
 turned_from Left rows columns p q t =
     let is : place p.col (columns - 1 - p.row) ≡ q = same_Some _ _ t.from in
@@ -111,12 +118,8 @@ turned_from Right rows columns p q t =
     let low : p.row < columns = t.row in
     let far : p.col < rows = subst (λ (n : ℕ). p.col < n) (as_wide columns rows (omega (arith, low))) t.col in
     (omega (arith, far, ap (λ (x : Position). x.row) is), omega (arith, low, ap (λ (x : Position). x.col) is))
-turned_from Top rows columns p q t =
-    let is : place (rows - 1 - p.row) p.col ≡ q = same_Some _ _ t.from in
-    let low : p.row < rows = t.row in
-    let far : p.col < columns = t.col in
-    (omega (arith, low, ap (λ (x : Position). x.row) is), omega (arith, far, ap (λ (x : Position). x.col) is))
-turned_from Bottom rows columns p q t = turned_from Top rows columns p q t
+turned_from Top rows columns p q t = upside_down_from rows columns p q t
+turned_from Bottom rows columns p q t = upside_down_from rows columns p q t
 
 -- a rectangle of which each cell goes to a place lies inside the table
 pub turned_inside : (turn : Rotate) (rows columns : ℕ) (e f : Anchor) → IsFull e → Carries (rotated turn rows columns) e f → (e.0.row + e.1.0 ≤ rows) × (e.0.col + e.1.1 ≤ columns)

@@ -24,7 +24,7 @@ pub returns-clause-ok : goal.returns-clause-ok
 returns-clause-ok g c =
     let m = c.in_ok-gone.ensures.marks in
     let told = rw c.count.ensures.count at m.2 in
-    let moved = c.carry_along.ensures ∙ ap (λ (places : Places). carried places c.count_rows-rows.result c.count_columns-columns.result c.args.cfg.now) c.in_ok-left.ensures in (
+    let moved = c.carry_along.ensures.carried ∙ ap (λ (places : Places). carried places c.count_rows-rows.result c.count_columns-columns.result c.args.cfg.now) c.in_ok-left.ensures in (
       m.0,
       m.1,
       removed_done _ _ _ _ _ told.tells (rw c.deref-3.ensures.value at c.remove-2.ensures.dropped),

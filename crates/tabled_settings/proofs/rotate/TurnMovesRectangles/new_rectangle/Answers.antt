@@ -1,7 +1,5 @@
-use Rattle.std.proofs.Common.{◌≡◌, ap, ap₂, arith, subst, sym}
+use Rattle.std.proofs.Common.{arith, subst, sym}
 use Rattle.tabled_grid.specs.Anchors.{Anchor}
-use Rattle.tabled_grid.specs.Entity.{place}
-use Rattle.tabled_grid.specs.declared.config.position.Position.{Position}
 use Rattle.tabled_images.specs.Images.{Carries}
 use Rattle.tabled_settings.specs.Rearranged.{rotated}
 use Rattle.tabled_settings.specs.declared.rotate.Rotate.TheVariants.{Left, Right}

@@ -48,7 +48,7 @@ returns-in_ok-cut-in-Clean-clause-ok g c =
     let fills = (rw (← can.count, ← can.wide) at c.in_ok-cut-in-Clean.ensures.ok) in
     let kept = c.in_ok-kept-in-Clean.ensures in (
       clean_splits text_of s n m grid can g.R.Cell.Blank.is_blank g.met.R.Cell.CellText.blank_is_empty _ fills _ _ c.in-Clean.is kept (rw c.deref.ensures.value at c.keep_some.ensures.kept),
-      spans_carried text_of s n m grid can _ _ _ _ _ (clean_places text_of s n m grid can _ c.in-Clean.is kept) c.count_rows-rows.ensures.rows c.count_columns-columns.ensures.columns c.carry_along.ensures,
+      spans_carried text_of s n m grid can _ _ _ _ _ (clean_places text_of s n m grid can _ c.in-Clean.is kept) c.count_rows-rows.ensures.rows c.count_columns-columns.ensures.columns c.carry_along.ensures.carried,
     )
 
 pub returns-in_ok-cut-in-Retain-clause-ok : goal.returns-in_ok-cut-in-Retain-clause-ok
@@ -61,5 +61,5 @@ returns-in_ok-cut-in-Retain-clause-ok g c =
     let text_of = g.R.Cell.CellText.text_of in
     let fills = (rw (← can.count, ← can.wide) at c.in_ok-cut-in-Retain.ensures.ok) in (
       retained_splits text_of s n m grid can g.R.Cell.Blank.is_blank g.met.R.Cell.CellText.blank_is_empty _ fills c.in-Retain.is,
-      spans_carried text_of s n m grid can _ _ _ _ _ (retained_places text_of s n m grid can c.in-Retain.is) c.count_rows-rows.ensures.rows c.count_columns-columns.ensures.columns c.carry_along-in-Retain.ensures,
+      spans_carried text_of s n m grid can _ _ _ _ _ (retained_places text_of s n m grid can c.in-Retain.is) c.count_rows-rows.ensures.rows c.count_columns-columns.ensures.columns c.carry_along-in-Retain.ensures.carried,
     )
