@@ -94,12 +94,11 @@ def script(rows, columns, steps, text="x"):
 
 
 def part_lines(words, columns):
-    """A step on a quarter of the rows up to three quarters, or on columns alike, or with a second table's texts."""
+    """A step on a quarter of the rows up to three quarters, or on columns alike."""
 
     def steps(size):
         wide = columns(size)
-        parts = [size // 4, size - size // 4, wide // 4, wide - wide // 4, size // 2, wide // 2, size, wide]
-        return [words.format(*parts, texts=" ".join(["x"] * (size * wide)))]
+        return [words.format(size // 4, size - size // 4, wide // 4, wide - wide // 4, size // 2, wide // 2, size)]
 
     return steps
 
@@ -112,7 +111,7 @@ STEPS = {
     "extract": "extract {0} {1} {2} {3}",
     "removerows": "remove rows {0} {4}",
     "removecolumns": "remove columns {2} {5}",
-    "concat": "concat vertical - {6} {7} {texts}",
+    "concat": None,  # a step would make the second table, too
     "content": None,  # no script says what a closure answers
     "lines": None,
     "clean": "clean all",

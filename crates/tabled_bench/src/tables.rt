@@ -6,7 +6,8 @@ use crate::watch::Watch;
 use crate::{merging, spans};
 use std::alloc::{AllocError, Global};
 use std::mem;
-use tabled_grid::config::{Offset, Position, SpannedConfig};
+use std::ops::Range;
+use tabled_grid::config::{Position, SpannedConfig};
 use tabled_grid::records::{ExactRecords, Records, Resizable, Text, VecRecords};
 use tabled_options::TableOption;
 use tabled_select::object::{Columns, Rows};
@@ -141,6 +142,12 @@ impl Change {
     }
 }
 
+/// A store and its merged cells.
+struct Subject {
+    store: Store,
+    cfg: SpannedConfig,
+}
+
 /// Changes a table of a size, and counts its rows.
 pub(crate) fn run(
     alloc: Global,
@@ -150,15 +157,17 @@ pub(crate) fn run(
     watch: &mut Watch,
 ) -> Result<usize, AllocError> {
     let (rows, columns) = shape.counts(size);
-    let mut store = made(alloc, rows, columns)?;
-    let mut cfg = shape.merged_cells(alloc, size)?;
+    let mut table = Subject {
+        store: made(alloc, rows, columns)?,
+        cfg: shape.merged_cells(alloc, size)?,
+    };
     if let Shape::Paired = shape {
         let letters = Format::positioned(a_letter_in_pairs);
-        letters.change(alloc, &mut store, &mut cfg, &mut ())?;
+        letters.change(alloc, &mut table.store, &mut table.cfg, &mut ())?;
     }
-    change_once(alloc, &mut store, &mut cfg, size, change, watch)?;
-    let rows = store.count_rows();
-    mem::forget(store);
+    change_once(alloc, &mut table, size, change, watch)?;
+    let rows = table.store.count_rows();
+    mem::forget(table);
     Ok(rows)
 }
 
@@ -180,12 +189,21 @@ fn a_letter_in_pairs(alloc: Global, _: &str, pos: Position) -> Result<String, Al
     String::from_str(alloc, if pos.row % 4 < 2 { "x" } else { "y" })
 }
 
+/// The middle half of n lines.
+fn middle(count: usize) -> Range<usize> {
+    count / 4..count - count / 4
+}
+
+/// The second quarter of n lines.
+fn second_quarter(count: usize) -> Range<usize> {
+    count / 4..count / 2
+}
+
 /// Applies an option to a table.
 fn apply<O>(
     alloc: Global,
     option: O,
-    store: &mut Store,
-    cfg: &mut SpannedConfig,
+    table: &mut Subject,
     watch: &mut Watch,
 ) -> Result<(), AllocError>
 where
@@ -193,91 +211,57 @@ where
     requires can { O.can_change option }
 {
     watch.start();
-    option.change(alloc, store, cfg, &mut ())?;
+    option.change(alloc, &mut table.store, &mut table.cfg, &mut ())?;
     watch.stop();
     Ok(())
 }
 
 fn change_once(
     alloc: Global,
-    store: &mut Store,
-    cfg: &mut SpannedConfig,
+    table: &mut Subject,
     size: usize,
     change: Change,
     watch: &mut Watch,
 ) -> Result<(), AllocError> {
-    let rows = store.count_rows();
-    let columns = store.count_columns();
+    let rows = table.store.count_rows();
+    let columns = table.store.count_columns();
     match change {
-        Change::Left => apply(alloc, Rotate::Left, store, cfg, watch),
-        Change::Right => apply(alloc, Rotate::Right, store, cfg, watch),
-        Change::Top => apply(alloc, Rotate::Top, store, cfg, watch),
-        Change::Reverse => {
-            apply(
-                alloc,
-                Reverse::columns(0).limit(Offset::End(0)),
-                store,
-                cfg,
-                watch,
-            )
-        }
+        Change::Left => apply(alloc, Rotate::Left, table, watch),
+        Change::Right => apply(alloc, Rotate::Right, table, watch),
+        Change::Top => apply(alloc, Rotate::Top, table, watch),
+        Change::Reverse => apply(alloc, Reverse::columns(0), table, watch),
         Change::Extract => {
-            apply(
-                alloc,
-                Extract::segment(
-                    rows / 4..rows - rows / 4,
-                    columns / 4..columns - columns / 4,
-                ),
-                store,
-                cfg,
-                watch,
-            )
+            let part = Extract::segment(middle(rows), middle(columns));
+            apply(alloc, part, table, watch)
         }
-        Change::RemoveRows => apply(
-            alloc,
-            Remove::row(Rows::new(rows / 4..rows / 2)),
-            store,
-            cfg,
-            watch,
-        ),
+        Change::RemoveRows => {
+            let part = Rows::new(second_quarter(rows));
+            apply(alloc, Remove::row(part), table, watch)
+        }
         Change::RemoveColumns => {
-            apply(
-                alloc,
-                Remove::column(Columns::new(columns / 4..columns / 2)),
-                store,
-                cfg,
-                watch,
-            )
+            let part = Columns::new(second_quarter(columns));
+            apply(alloc, Remove::column(part), table, watch)
         }
         Change::Concat => {
             // A second table as large as the first, so that the time is not too short to tell.
             let second = Table::from_records(alloc, made(alloc, rows, columns)?);
-            apply(alloc, Concat::vertical(alloc, second), store, cfg, watch)
+            apply(alloc, Concat::vertical(alloc, second), table, watch)
         }
-        Change::Content => apply(alloc, Format::content(a_letter), store, cfg, watch),
-        Change::Lines => apply(
-            alloc,
-            Format::content(a_letter).multiline(),
-            store,
-            cfg,
-            watch,
-        ),
-        Change::Clean => apply(alloc, Charset::new().clean(), store, cfg, watch),
-        Change::Dup => apply(
-            alloc,
-            Dup::new(Rows::new(1..), Rows::first()),
-            store,
-            cfg,
-            watch,
-        ),
-        Change::Split(split) => apply(alloc, split, store, cfg, watch),
+        Change::Content => apply(alloc, Format::content(a_letter), table, watch),
+        Change::Lines => apply(alloc, Format::content(a_letter).multiline(), table, watch),
+        Change::Clean => apply(alloc, Charset::new().clean(), table, watch),
+        Change::Dup => {
+            let others = Dup::new(Rows::new(1..), Rows::first());
+            apply(alloc, others, table, watch)
+        }
+        Change::Split(split) => apply(alloc, split, table, watch),
         Change::SplitLast(split) => {
             let index = columns.saturating_sub(1);
-            apply(alloc, Split { index, ..split }, store, cfg, watch)
+            apply(alloc, Split { index, ..split }, table, watch)
         }
         Change::Merging(merging) => {
             watch.start();
-            merging::run(alloc, store, cfg, size, merging)?;
+            merging::run(alloc, &mut table.store, &mut table.cfg, size, merging)?;
             watch.stop();
             Ok(())
         }

@@ -2,8 +2,7 @@
 
 use std::time::{Duration, Instant};
 
-/// Runs during the calls that are timed: what they are given is made before it starts, and what comes out is
-/// dropped after it stops.
+/// Runs during the calls that are timed: tables and stores are made before it starts.
 #[derive(Drop)]
 pub(crate) struct Watch<'a> {
     rt: &'a HostRuntime,

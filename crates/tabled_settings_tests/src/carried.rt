@@ -33,6 +33,12 @@ fn turns_carry_merged_cells(rt: HostRuntime) -> Result<(), Fail> {
         ),
         (
             "a b c / d e f /",
+            one(1, 1, 1, 2),
+            Change::Right,
+            "d a / e b / f c / 1.0:2x1",
+        ),
+        (
+            "a b c / d e f /",
             one(0, 0, 1, 2),
             Change::Top,
             "d e f / a b c / 1.0:1x2",
@@ -57,6 +63,12 @@ fn turns_carry_merged_cells(rt: HostRuntime) -> Result<(), Fail> {
             one(0, 1, 1, 2),
             Change::Reverse(Reverse::columns(0)),
             "d c b a / 0.1:1x2",
+        ),
+        (
+            "a b c d e /",
+            [(0, 0, 1, 2), (0, 2, 1, 3)],
+            Change::Reverse(Reverse::columns(0)),
+            "e d c b a / 0.0:1x3 0.3:1x2",
         ),
         (
             "a / b / c /",

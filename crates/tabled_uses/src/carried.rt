@@ -1,22 +1,26 @@
 //! Merged cells that are carried along: callers that rely on it, done or refused.
 
-ghost use Rattle.std.specs.Prelude.{◌≡◌, IfSome, IsOk, OnErr, OnOk};
+ghost use Rattle.std.specs.Prelude.{◌≡◌, IsOk, OnErr, OnOk, Some};
 ghost use Rattle.std.specs.FinMap as map;
+ghost use Rattle.std.specs.Option.{IfSome};
+ghost use Rattle.tabled_grid.specs.Anchors.{Anchor};
+ghost use Rattle.tabled_grid.specs.Entity.{place};
 ghost use Rattle.tabled_grid.specs.Fitting.{keep_fitting};
 ghost use Rattle.tabled_grid.specs.Rectangles.{Fits};
-ghost use Rattle.tabled_images.specs.Images.{IsFull, carried};
+ghost use Rattle.tabled_images.specs.Images.{Carries, IsFull, carried};
 
 use crate::geometry::changes;
 use std::alloc::{AllocError, Global};
 use tabled_grid::config::{Position, SpannedConfig};
 use tabled_grid::records::{
-    CellText, ExactRecords, PeekableRecords, Records, RecordsMut, Resizable,
+    Blank, CellText, ExactRecords, PeekableRecords, Records, RecordsMut, Resizable,
 };
 use tabled_images::laws::{
     carried_rectangles_are_the_images, carried_rectangles_fit, carried_there_and_back_is_as_it_was,
     fitting_rectangles_are_the_free_ones, merged_cells_stay_with_their_cells, there_is_one_image,
 };
 use tabled_images::{MovesRectangles, Rectangle, carry_along, kept_in_place};
+use tabled_options::TableOption;
 use tabled_select::object::{Column, Rows};
 use tabled_settings::concat::Concat;
 use tabled_settings::disable::{Remove, TargetColumn, TargetRow};
@@ -121,9 +125,27 @@ pub fn carries_along<M: MovesRectangles>(
 
 /// Where the merged cells go that are anchored at the first place, two rows and three columns of them.
 pub fn first_goes<M: MovesRectangles>(moves: &M) -> Option<Rectangle>
-    ensures { IfSome result IsFull }
+    ensures carries { IfSome result (λ f. Carries (M.places moves.now) (place 0 0, (2, 3)) f) }
+    ensures finds { (f : Anchor) → Carries (M.places moves.now) (place 0 0, (2, 3)) f → IsFull f → result ≡ Some f }
 {
     moves.new_rectangle((Position::new(0, 0), (2, 3)))
+}
+
+/// Turns a table upside down whose merged cells fit it, which no want of memory stops.
+pub fn turns_what_fits<R>(
+    alloc: Global,
+    records: &mut R,
+    cfg: &mut SpannedConfig,
+) -> Result<(), AllocError>
+where
+    R: Records + ExactRecords + Resizable,
+    R::Cell: Blank,
+    requires well { R.is_well_formed records.old }
+    requires fits { Fits cfg.old ((R.grid records.old).rows) ((R.grid records.old).columns) }
+    ensures well { R.is_well_formed records.new }
+    ensures promised { IsOk result }
+{
+    Rotate::Top.change(alloc, records, cfg, &mut ())
 }
 
 /// Gives the list of a map's rectangles away.
