@@ -143,6 +143,7 @@ impl Change {
 }
 
 /// A store and its merged cells.
+#[derive(Drop)]
 struct Subject {
     store: Store,
     cfg: SpannedConfig,
