@@ -8,39 +8,42 @@ ghost use Rattle.tabled_grid.specs.Spans.{position_cmp};
 use crate::images::Rectangle;
 
 /// Puts rectangles in order.
+///
+/// Those that fall all the way, and those that fall in each row, as turned and reversed ones do, are turned over
+/// first, which costs less than a sort.
 pub(crate) fn sort(rectangles: &mut [Rectangle])
     ensures permutation { IsPermutation rectangles.old rectangles.new }
     ensures len { length rectangles.new ≡ length rectangles.old }
     ensures sorted { IsSortedByKey (λ (f : Anchor). f.0) position_cmp rectangles.new }
 {
-    if falls(rectangles) {
-        turn_rows_over(rectangles);
-    }
+    turn_over(rectangles);
+    turn_rows_over(rectangles);
     rectangles.sort_unstable_by_key(|rectangle| rectangle.0);
 }
 
-/// Says whether the first rectangle stands below the last one.
-fn falls(rectangles: &[Rectangle]) -> bool {
-    match (rectangles.first(), rectangles.last()) {
-        (Some(first), Some(last)) => first.0.row > last.0.row,
-        _ => false,
+/// Puts rectangles into the opposite order whose first one stands after the last one.
+fn turn_over(rectangles: &mut [Rectangle])
+    ensures permutation { IsPermutation rectangles.old rectangles.new }
+    ensures len { length rectangles.new ≡ length rectangles.old }
+{
+    if let (Some(first), Some(last)) = (rectangles.first(), rectangles.last()) {
+        if first.0 > last.0 {
+            rectangles.reverse();
+        }
     }
 }
 
-/// Puts the last row first and so on, each row in the order that it has.
-///
-/// What comes row by row from the last one is then in order, which costs less than a sort of it.
+/// The same of those of each row.
 fn turn_rows_over(rectangles: &mut [Rectangle])
     ensures permutation { IsPermutation rectangles.old rectangles.new }
     ensures len { length rectangles.new ≡ length rectangles.old }
 {
-    rectangles.reverse();
     let mut start = 0;
     for end in 1..rectangles.len() {
         if rectangles[end].0.row != rectangles[start].0.row {
-            rectangles[start..end].reverse();
+            turn_over(&mut rectangles[start..end]);
             start = end;
         }
     }
-    rectangles[start..].reverse();
+    turn_over(&mut rectangles[start..]);
 }

@@ -1,8 +1,10 @@
 -- Lines taken away, by swaps to the front.
-use Rattle.std.proofs.Common.{◌≡◌, ℕ, suc, ◌+◌, ◌<◌, ◌≤◌, ◌≢◌, ◌⊎◌, inl, inr, Bool, true, false, cond, List, [], ◌∷◌, ◌++◌, refl, sym, ap, ◌∙◌, length, get_or, arith}
+use Rattle.std.proofs.Common.{◌≡◌, ℕ, zero, suc, map, subst, add-one, ◌+◌, ◌<◌, ◌≤◌, ◌≢◌, ◌⊎◌, inl, inr, Bool, true, false, cond, List, [], ◌∷◌, ◌++◌, refl, sym, ap, ap₂, ◌∙◌, length, get_or, arith}
 use Rattle.std.specs.Prelude.{not}
 use Rattle.std.specs.List.{swap}
-use Rattle.std.proofs.lemmas.Bool.{cases_eq}
+use Rattle.std.proofs.lemmas.Bool.{cases_Bool, cases_eq}
+use Rattle.std.proofs.lemmas.List.{map-id}
+use Rattle.std.proofs.lemmas.Simd.{map-map}
 use Rattle.std.proofs.lemmas.List.{append-nil, get_or_at, get_or_append_left, length_push}
 use Rattle.tabled_grid.specs.Along.{along, count_along, first_along}
 use Rattle.tabled_grid.specs.Grid.{Grid, IsEven}
@@ -26,6 +28,13 @@ module _ (test : ℕ → Bool) where
 
   pub left_stays : (n : ℕ) → test n ≡ false → left_over test (suc n) ≡ left_over test n ++ n ∷ []
   left_stays n stays = left_more n ∙ ap (λ (b : Bool). left_over test n ++ cond (not b) (n ∷ []) []) stays
+
+module _ (test : ℕ → Bool) (i : ℕ) where
+  pub left_more_gone : test i ≡ true → length (left_over test (i + 1)) ≡ length (left_over test i)
+  left_more_gone gone = ap (λ (n : ℕ). length (left_over test n)) (add-one i) ∙ ap length (left_gone test i gone)
+
+  pub left_more_kept : test i ≡ false → length (left_over test (i + 1)) ≡ length (left_over test i) + 1
+  left_more_kept stays = ap (λ (n : ℕ). length (left_over test n)) (add-one i) ∙ ap length (left_stays test i stays) ∙ length_push (left_over test i) i
 
 pub left_same : (test other : ℕ → Bool) (n : ℕ) → ((i : ℕ) → i < n → test i ≡ other i) → left_over test n ≡ left_over other n
 left_same test other n alike = filter_alike (λ (i : ℕ). not (test i)) (λ (i : ℕ). not (other i)) 0 n (λ i h. ap not (alike i (omega (arith, h))))
@@ -79,6 +88,49 @@ module _ {A : Type 0} (axis : Axis) (test : ℕ → Bool) where
         shape = rw (← many) (has_lines axis k g cur new fits t.shape.rows t.shape.columns t.shape.even cut);
         kept = λ a h. let below : a < k = omega (arith, h, many) in line_first axis cur new k a t.shape.even below cut ∙ t.front a below ∙ ap (λ (n : ℕ). line axis g (get_or (left_over test n) a 0)) all;
       }
+
+maps_alike : {X Y : Type 0} (f h : X → Y) → ((x : X) → f x ≡ h x) → (xs : List X) → map f xs ≡ map h xs
+maps_alike f h same [] = refl
+maps_alike f h same (x ∷ xs) = ap₂ (λ y ys. y ∷ ys) (same x) (maps_alike f h same xs)
+
+-- a row of which the first items that stay have come to the front
+pub thinned : {A : Type 0} → (ℕ → Bool) → ℕ → List A → List A
+thinned test zero xs = xs
+thinned test (suc i) xs = cond (test i) (thinned test i xs) (swap (thinned test i xs) (length (left_over test i)) i)
+
+module _ {A : Type 0} (test : ℕ → Bool) where
+  pub thinned-none : (xs : List A) → thinned test 0 xs ≡ xs
+  unfolding thinned
+  thinned-none xs = refl
+
+  pub thinned-gone : (i : ℕ) → test i ≡ true → (xs : List A) → thinned test (i + 1) xs ≡ thinned test i xs
+  unfolding thinned
+  thinned-gone i gone xs = ap (λ (n : ℕ). thinned test n xs) (add-one i) ∙ ap (λ (b : Bool). cond b (thinned test i xs) (swap (thinned test i xs) (length (left_over test i)) i)) gone
+
+  pub thinned-kept : (i k : ℕ) → k ≡ length (left_over test i) → test i ≡ false → (xs : List A) → thinned test (i + 1) xs ≡ swap (thinned test i xs) k i
+  unfolding thinned
+  thinned-kept i k many stays xs =
+      ap (λ (n : ℕ). thinned test n xs) (add-one i)
+      ∙ ap (λ (b : Bool). cond b (thinned test i xs) (swap (thinned test i xs) (length (left_over test i)) i)) stays
+      ∙ ap (λ (n : ℕ). swap (thinned test i xs) n i) (sym many)
+
+  abbrev thinned_grid : ℕ → Grid A → Grid A
+  thinned_grid i g = record g { cells = map (thinned test i) g.cells }
+
+  -- the columns of such rows
+  pub thinned_rows : (i : ℕ) (g : Grid A) → IsEven g → i ≤ g.columns → ThinsLines Columns test i (length (left_over test i)) g (record g { cells = map (thinned test i) g.cells })
+  thinned_rows zero g even within = subst (λ (rows : List (List A)). ThinsLines Columns test 0 (length (left_over test 0)) g (record g { cells = rows })) (sym (maps_alike _ _ thinned-none g.cells ∙ map-id g.cells)) (thins_none Columns test g even)
+  thinned_rows (suc i) g even within = by (cases_Bool (test i)) (thinned_rows i g even (omega (arith, within)))
+    where
+      at : (xs : List A) → thinned test (suc i) xs ≡ thinned test (i + 1) xs
+      at xs = ap (λ (n : ℕ). thinned test n xs) (sym (add-one i))
+
+      by : (test i ≡ true) ⊎ (test i ≡ false) → ThinsLines Columns test i (length (left_over test i)) g (thinned_grid i g) → ThinsLines Columns test (suc i) (length (left_over test (suc i))) g (thinned_grid (suc i) g)
+      by (inl gone) old = rw (left_gone test i gone, maps_alike _ _ (λ xs. at xs ∙ thinned-gone i gone xs) g.cells) (thins_gone Columns test i (suc i) (length (left_over test i)) g (thinned_grid i g) (omega arith) gone old)
+      by (inr stays) old =
+          let rows : map (thinned test (suc i)) g.cells ≡ map (λ (xs : List A). swap xs (length (left_over test i)) i) (thinned_grid i g).cells = maps_alike _ _ (λ xs. at xs ∙ thinned-kept i (length (left_over test i)) refl stays xs) g.cells ∙ sym (map-map _ _ g.cells) in
+          let many : length (left_over test (suc i)) ≡ length (left_over test i) + 1 = ap length (left_stays test i stays) ∙ length_push (left_over test i) i in
+          rw many (thins_kept Columns test i (suc i) (length (left_over test i)) (length (left_over test i) + 1) g (thinned_grid i g) _ (omega arith) refl stays old (ap (λ (xs : List (List A)). record g { cells = xs }) rows) (omega (arith, within)))
 
 pub removed_done : {A : Type 0} (axis : Axis) (found : List ℕ) (test : ℕ → Bool) (g new : Grid A) → ((i : ℕ) → i < count_along axis g → test i ≡ is_located found i) → DropsLines axis test g new → ReadsThrough (removed axis found g.rows g.columns) g new
 removed_done Rows found test g new told d =

@@ -25,6 +25,7 @@ pub mod Rewriting
 pub mod RisingLists
 pub mod Rotated
 pub mod Rounds
+pub mod RowByRow
 pub mod SameCells
 pub mod SplitWorked
 pub mod Sums

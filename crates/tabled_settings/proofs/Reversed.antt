@@ -1,7 +1,9 @@
 -- Lines in the opposite order, by swaps from both ends.
-use Rattle.std.proofs.Common.{◌≡◌, ℕ, ◌+◌, ◌-◌, ◌<◌, ◌≤◌, ◌≢◌, ◌⊎◌, inl, inr, Bool, true, false, cond, refl, sym, ap, ◌∙◌, subst, arith}
+use Rattle.std.proofs.Common.{◌≡◌, ℕ, zero, suc, List, map, ◌+◌, ◌-◌, ◌<◌, ◌≤◌, ◌≢◌, ◌⊎◌, inl, inr, Bool, true, false, cond, refl, sym, add-one, ap, ◌∙◌, subst, arith}
 use Rattle.std.specs.Prelude.{nat_le, nat_lt, ◌&&◌}
 use Rattle.std.specs.List.{swap}
+use Rattle.std.proofs.lemmas.List.{map-id}
+use Rattle.std.proofs.lemmas.Simd.{map-map}
 use Rattle.std.proofs.lemmas.Bool.{cases_eq, cases_lt, le-leb, le-ltb, lt-leb, lt-ltb}
 use Rattle.tabled_grid.specs.Along.{along, count_along}
 use Rattle.tabled_grid.specs.Grid.{Grid, IsEven}
@@ -67,6 +69,26 @@ module _ {A : Type 0} (axis : Axis) (s e : ℕ) where
       at i h l (inr low) (inl high) =
           let same : i ≡ s + e - 1 - i = omega (arith, low, high, all) in
           r.between i low high ∙ ap (line axis g) same
+
+-- a row after some swaps from both ends
+pub ends : {A : Type 0} → ℕ → ℕ → ℕ → List A → List A
+ends s e zero xs = xs
+ends s e (suc k) xs = swap (ends s e k xs) (s + k) (e - 1 - k)
+
+pub ends_start : {A : Type 0} (s e : ℕ) (xs : List A) → ends s e 0 xs ≡ xs
+unfolding ends
+ends_start s e xs = refl
+
+pub ends_next : {A : Type 0} (s e k : ℕ) (xs : List A) → ends s e (k + 1) xs ≡ swap (ends s e k xs) (s + k) (e - 1 - k)
+unfolding ends
+ends_next s e k xs = ap (λ (n : ℕ). ends s e n xs) (add-one k)
+
+-- the columns of rows after these
+pub ends_of_rows : {A : Type 0} (s e k : ℕ) (g : Grid A) → IsEven g → s + k + k ≤ e → e ≤ g.columns → ReversesEnds Columns s e k g (record g { cells = map (ends s e k) g.cells })
+unfolding ends
+ends_of_rows s e zero g even fits within = subst (λ (rows : List (List _)). ReversesEnds Columns s e 0 g (record g { cells = rows })) (sym (map-id g.cells)) (ends_none Columns s e g even)
+ends_of_rows s e (suc k) g even fits within =
+    ends_more Columns s e k (suc k) (s + k) (e - 1 - k) g (record g { cells = map (ends s e k) g.cells }) _ (ends_of_rows s e k g even (omega (arith, fits)) within) (ap (λ (rows : List (List _)). record g { cells = rows }) (sym (map-map _ _ g.cells))) (omega arith) refl (omega (arith, fits)) (omega (arith, fits)) (omega (arith, fits, within))
 
 pub count_is : {A : Type 0} (axis : Axis) (g : Grid A) → count_of axis g.rows g.columns ≡ count_along axis g
 count_is Rows g = refl

@@ -4,15 +4,18 @@ ghost use Rattle.std.specs.Prelude.{◌≡◌, ◌<◌, ◌≤◌, ◌-◌, ℕ,
 ghost use Rattle.std.specs.List.Sorted.{IsStrictlyIncreasing};
 ghost use Rattle.tabled_grid.specs.Along.{count_along};
 ghost use Rattle.tabled_grid.specs.Grid.{IsEven};
-ghost use Rattle.tabled_settings.specs.Lines.{DropsLines, KeepsLines, KeepsSome, ReversesLines, is_marked};
+ghost use Rattle.tabled_grid.specs.declared.records.axis.Axis.TheVariants.{Columns, Rows};
+ghost use Rattle.tabled_settings.specs.Lines.{DropsLines, KeepsLines, KeepsSome, ReversesLines, ThinsLines, is_marked};
+ghost use Rattle.tabled_settings.specs.Rearranged.{left_over};
 
 use std::ops::Range;
+use tabled_grid::config::Position;
 use tabled_grid::records::{Axis, Blank, ExactRecords, Records, Resizable};
 
 /// Puts the lines from `start` up to `end` into the opposite order, by swaps from both ends.
 pub(crate) fn reverse<R>(axis: Axis, records: &mut R, start: usize, end: usize)
 where
-    R: Resizable,
+    R: ExactRecords + Resizable,
     R::Cell: Blank,
     requires well { R.is_well_formed records.old }
     requires even { IsEven (R.grid records.old) }
@@ -21,8 +24,47 @@ where
     ensures well { R.is_well_formed records.new }
     ensures reversed { ReversesLines axis start end (R.grid records.old) (R.grid records.new) }
 {
+    match axis {
+        Axis::Rows => reverse_rows(records, start, end),
+        Axis::Columns => reverse_columns(records, start, end),
+    }
+}
+
+fn reverse_rows<R>(records: &mut R, start: usize, end: usize)
+where
+    R: Resizable,
+    R::Cell: Blank,
+    requires well { R.is_well_formed records.old }
+    requires even { IsEven (R.grid records.old) }
+    requires order { start ≤ end }
+    requires within { end ≤ (R.grid records.old).rows }
+    ensures well { R.is_well_formed records.new }
+    ensures reversed { ReversesLines Rows start end (R.grid records.old) (R.grid records.new) }
+{
     for k in 0..(end - start) / 2 {
-        axis.swap(records, start + k, end - 1 - k);
+        records.swap_row(start + k, end - 1 - k);
+    }
+}
+
+/// Reverses row by row, since a walk down a column leaves the caches.
+fn reverse_columns<R>(records: &mut R, start: usize, end: usize)
+where
+    R: ExactRecords + Resizable,
+    R::Cell: Blank,
+    requires well { R.is_well_formed records.old }
+    requires even { IsEven (R.grid records.old) }
+    requires order { start ≤ end }
+    requires within { end ≤ (R.grid records.old).columns }
+    ensures well { R.is_well_formed records.new }
+    ensures reversed { ReversesLines Columns start end (R.grid records.old) (R.grid records.new) }
+{
+    for i in 0..records.count_rows() {
+        for k in 0..(end - start) / 2 {
+            records.swap(
+                Position::new(i, start + k),
+                Position::new(i, end - 1 - k),
+            );
+        }
     }
 }
 
@@ -77,18 +119,73 @@ where
     R: Records + ExactRecords + Resizable,
     R::Cell: Blank,
     requires well { R.is_well_formed records.old }
+    requires even { IsEven (R.grid records.old) }
     requires many { length gone.now ≡ count_along axis (R.grid records.old) }
     ensures well { R.is_well_formed records.new }
     ensures dropped { DropsLines axis (is_marked gone.now) (R.grid records.old) (R.grid records.new) }
 {
+    let kept = match axis {
+        Axis::Rows => thin_rows(records, gone),
+        Axis::Columns => thin_columns(records, gone),
+    };
+    records.truncate_lines(axis, kept);
+}
+
+/// Brings the rows without a mark to the front, and counts them.
+fn thin_rows<R>(records: &mut R, gone: &[bool]) -> usize
+where
+    R: Resizable,
+    R::Cell: Blank,
+    requires well { R.is_well_formed records.old }
+    requires even { IsEven (R.grid records.old) }
+    requires many { length gone.now ≡ (R.grid records.old).rows }
+    ensures well { R.is_well_formed records.new }
+    ensures thins { ThinsLines Rows (is_marked gone.now) (length gone.now) result (R.grid records.old) (R.grid records.new) }
+{
     let mut kept = 0;
-    for i in 0..axis.count(records) {
+    for i in 0..gone.len() {
         if !is_marked(gone, i) {
-            axis.swap(records, kept, i);
+            records.swap_row(kept, i);
             kept += 1;
         }
     }
-    records.truncate_lines(axis, kept);
+    kept
+}
+
+/// Brings the columns without a mark to the front, row by row, and counts them.
+fn thin_columns<R>(records: &mut R, gone: &[bool]) -> usize
+where
+    R: ExactRecords + Resizable,
+    R::Cell: Blank,
+    requires well { R.is_well_formed records.old }
+    requires even { IsEven (R.grid records.old) }
+    requires many { length gone.now ≡ (R.grid records.old).columns }
+    ensures well { R.is_well_formed records.new }
+    ensures thins { ThinsLines Columns (is_marked gone.now) (length gone.now) result (R.grid records.old) (R.grid records.new) }
+{
+    for i in 0..records.count_rows() {
+        let mut kept = 0;
+        for j in 0..gone.len() {
+            if !is_marked(gone, j) {
+                records.swap(Position::new(i, kept), Position::new(i, j));
+                kept += 1;
+            }
+        }
+    }
+    count_kept(gone)
+}
+
+/// How many lines have no mark.
+fn count_kept(gone: &[bool]) -> usize
+    ensures { result ≡ length (left_over (is_marked gone.now) (length gone.now)) }
+{
+    let mut kept = 0;
+    for i in 0..gone.len() {
+        if !is_marked(gone, i) {
+            kept += 1;
+        }
+    }
+    kept
 }
 
 /// Whether a line has a mark.

@@ -15,7 +15,7 @@ use crate::lines;
 use std::alloc::{AllocError, Global};
 use tabled_grid::config::{Entity, Offset, Position, SpannedConfig};
 use tabled_grid::records::{Axis, Blank, ExactRecords, Records, Resizable};
-use tabled_images::{Moves, MovesRectangles, carry_along, kept_in_place};
+use tabled_images::{Moves, MovesRectangles, Rectangle, carry_along, image_of, kept_in_place};
 use tabled_options::TableOption;
 
 /// Puts rows or columns, from a start up to a limit, into the opposite order, and merged cells with them. It
@@ -183,4 +183,21 @@ impl Moves for Mirror {
     }
 }
 
-impl MovesRectangles for Mirror {}
+impl MovesRectangles for Mirror {
+    fn new_rectangle(&self, of: Rectangle) -> Option<Rectangle> {
+        let (first, (height, width)) = of;
+        if first.row + height > self.rows || first.col + width > self.columns {
+            return None;
+        }
+        let line = self.axis.line_of(first);
+        let past = line + self.axis.count_of(height, width);
+        if self.start <= line && past <= self.end {
+            let place = self.axis.in_line(first, self.start + (self.end - past));
+            Some((place, (height, width)))
+        } else if past <= self.start || self.end <= line {
+            Some(of)
+        } else {
+            image_of(self, of)
+        }
+    }
+}
