@@ -9,6 +9,7 @@ pub mod Kept
 pub mod KeptSome
 pub mod LineReads
 pub mod Mapped
+pub mod MirroredParts
 pub mod MirroredSpans
 pub mod Named
 pub mod PiecePlaces

@@ -60,10 +60,7 @@ where
 {
     for i in 0..records.count_rows() {
         for k in 0..(end - start) / 2 {
-            records.swap(
-                Position::new(i, start + k),
-                Position::new(i, end - 1 - k),
-            );
+            records.swap(Position::new(i, start + k), Position::new(i, end - 1 - k));
         }
     }
 }

@@ -186,18 +186,19 @@ impl Moves for Mirror {
 impl MovesRectangles for Mirror {
     fn new_rectangle(&self, of: Rectangle) -> Option<Rectangle> {
         let (first, (height, width)) = of;
-        if first.row + height > self.rows || first.col + width > self.columns {
-            return None;
+        let count = self.axis.count_of(self.rows, self.columns);
+        if self.end > count || first.row + height > self.rows || first.col + width > self.columns {
+            return image_of(self, of);
         }
         let line = self.axis.line_of(first);
         let past = line + self.axis.count_of(height, width);
+        if past <= self.start || self.end <= line {
+            return Some(of);
+        }
         if self.start <= line && past <= self.end {
             let place = self.axis.in_line(first, self.start + (self.end - past));
-            Some((place, (height, width)))
-        } else if past <= self.start || self.end <= line {
-            Some(of)
-        } else {
-            image_of(self, of)
+            return Some((place, (height, width)));
         }
+        image_of(self, of)
     }
 }

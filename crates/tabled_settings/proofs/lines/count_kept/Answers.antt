@@ -1,4 +1,4 @@
-use Rattle.std.proofs.Common.{◌≡◌, ℕ, ◌+◌, ◌≤◌, ◌∙◌, ap, arith, length, sym}
+use Rattle.std.proofs.Common.{◌≡◌, ℕ, ◌+◌, ◌∙◌, ap, arith, length, sym}
 use Rattle.tabled_settings.specs.Lines.{is_marked}
 use Rattle.tabled_settings.specs.Rearranged.{left_over}
 use Rattle.tabled_settings.proofs.Dropped.{left_more_gone, left_more_kept}

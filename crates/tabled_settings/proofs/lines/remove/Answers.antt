@@ -1,4 +1,4 @@
-use Rattle.std.proofs.Common.{◌≡◌, ◌≤◌, arith, length}
+use Rattle.std.proofs.Common.{arith, length}
 use Rattle.tabled_grid.proofs.PiecesPut.{same_count}
 use Rattle.tabled_settings.specs.Lines.{ThinsLines, is_marked}
 use Rattle.tabled_settings.proofs.Dropped.{thins_all}

@@ -1,9 +1,8 @@
-use Rattle.std.proofs.Common.{◌≡◌, ℕ, subst, ◌+◌, ◌-◌, ◌<◌, ◌≤◌, ◌/◌, ◌∙◌, ap₂, arith, refl}
+use Rattle.std.proofs.Common.{◌≡◌, ℕ, subst, ◌+◌, ◌-◌, ◌/◌, ◌∙◌, ap₂, arith, refl}
 use Rattle.tabled_grid.specs.Entity.{place}
 use Rattle.tabled_grid.specs.Resized.{with_cells_swapped}
 use Rattle.tabled_grid.specs.declared.config.position.Position.{Position}
 use Rattle.tabled_grid.specs.declared.records.axis.Axis.TheVariants.{Columns}
-use Rattle.tabled_settings.specs.Lines.{ReversesLines}
 use Rattle.tabled_settings.proofs.Reversed.{ends, ends_all, ends_next, ends_of_rows, ends_start}
 use Rattle.tabled_settings.proofs.RowByRow.{Underway, underway-all, underway-more, underway-next, underway-none}
 use Rattle.tabled_settings.proofs.lines.reverse_columns.Goals as goal

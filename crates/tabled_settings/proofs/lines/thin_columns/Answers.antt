@@ -1,9 +1,8 @@
-use Rattle.std.proofs.Common.{◌≡◌, ℕ, ◌+◌, ◌<◌, ◌≤◌, ◌∙◌, ap, ap₂, arith, length, refl, subst, sym}
+use Rattle.std.proofs.Common.{◌≡◌, ℕ, ◌+◌, ◌∙◌, ap, ap₂, arith, length, refl, subst, sym}
 use Rattle.tabled_grid.specs.Entity.{place}
 use Rattle.tabled_grid.specs.Resized.{with_cells_swapped}
 use Rattle.tabled_grid.specs.declared.config.position.Position.{Position}
 use Rattle.tabled_settings.specs.Lines.{is_marked}
-use Rattle.tabled_settings.specs.Rearranged.{left_over}
 use Rattle.tabled_settings.proofs.Dropped.{left_more_gone, left_more_kept, thinned, thinned-gone, thinned-kept, thinned-none, thinned_rows}
 use Rattle.tabled_settings.proofs.RowByRow.{Underway, underway-all, underway-more, underway-next, underway-none, underway-skip}
 use Rattle.tabled_settings.proofs.lines.thin_columns.Goals as goal
@@ -25,25 +24,25 @@ loop-j-preserved g c =
     let cur = g.R.GridStore.grid c.loop-j.records in
     elim c.if-not-is_marked.branch [
       | then-not-is_marked w ↦ (
-        let stays = sym c.is_marked.ensures ∙ w.if-not-is_marked.true in
-        let left : w.new.result ≡ place i k = ap₂ place w.new.ensures.row w.new.ensures.col in
-        let right : w.new-then-not-is_marked.result ≡ place i j = ap₂ place w.new-then-not-is_marked.ensures.row w.new-then-not-is_marked.ensures.col in
-        rw (w.records-is, w.kept-is) (record {
-          well = w.swap.ensures.well;
-          rows = underway-more (thinned test) _ i _ cur j (j + 1) k j _ u.rows (w.swap.ensures.swapped ∙ ap₂ (λ (p q : Position). with_cells_swapped cur p q) left right) (omega (arith, c.loop-i-test.true, c.count_rows-i-end.ensures.rows)) (omega (arith, u.few, c.loop-j-test.true, c.requires.many)) (omega (arith, c.loop-j-test.true, c.requires.many)) (thinned-kept test j k u.many stays);
-          many = ap (λ (n : ℕ). n + 1) u.many ∙ sym (left_more_kept test j stays);
-          few = omega (arith, u.few);
-        })
-      )
+          let stays = sym c.is_marked.ensures ∙ w.if-not-is_marked.true in
+          let left : w.new.result ≡ place i k = ap₂ place w.new.ensures.row w.new.ensures.col in
+          let right : w.new-then-not-is_marked.result ≡ place i j = ap₂ place w.new-then-not-is_marked.ensures.row w.new-then-not-is_marked.ensures.col in
+          rw (w.records-is, w.kept-is) (record {
+            well = w.swap.ensures.well;
+            rows = underway-more (thinned test) _ i _ cur j (j + 1) k j _ u.rows (w.swap.ensures.swapped ∙ ap₂ (λ (p q : Position). with_cells_swapped cur p q) left right) (omega (arith, c.loop-i-test.true, c.count_rows-i-end.ensures.rows)) (omega (arith, u.few, c.loop-j-test.true, c.requires.many)) (omega (arith, c.loop-j-test.true, c.requires.many)) (thinned-kept test j k u.many stays);
+            many = ap (λ (n : ℕ). n + 1) u.many ∙ sym (left_more_kept test j stays);
+            few = omega (arith, u.few);
+          })
+          )
       | else-not-is_marked w ↦ (
-        let gone = sym c.is_marked.ensures ∙ w.if-not-is_marked.false in
-        rw (w.records-is, w.kept-is) (record {
-          well = u.well;
-          rows = underway-skip (thinned test) _ i _ cur j (j + 1) u.rows (thinned-gone test j gone);
-          many = u.many ∙ sym (left_more_gone test j gone);
-          few = omega (arith, u.few);
-        })
-      )
+          let gone = sym c.is_marked.ensures ∙ w.if-not-is_marked.false in
+          rw (w.records-is, w.kept-is) (record {
+            well = u.well;
+            rows = underway-skip (thinned test) _ i _ cur j (j + 1) u.rows (thinned-gone test j gone);
+            many = u.many ∙ sym (left_more_gone test j gone);
+            few = omega (arith, u.few);
+          })
+          )
     ]
 
 pub loop-i-preserved : goal.loop-i-preserved
