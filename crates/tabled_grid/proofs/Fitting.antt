@@ -12,7 +12,7 @@ use Rattle.tabled_grid.specs.Rectangles.{Fits, in_rect}
 use Rattle.tabled_grid.specs.Spans.{AreAnchors, AreSpanSizes, IsSpanSize, SpanMap, position_cmp}
 use Rattle.tabled_grid.specs.declared.config.position.Position.{Position}
 use Rattle.tabled_grid.proofs.FittingAnchors.{shared, sharing}
-pub use Rattle.tabled_grid.proofs.SortedAnchors.{anchors-of, from-entries, none-listed, some-listed}
+pub use Rattle.tabled_grid.proofs.SortedAnchors.{anchors-of, from-entries}
 use Rattle.tabled_grid.proofs.PassedAnchors.{meets-true}
 use Rattle.tabled_grid.proofs.SpanMaps.{same_place-self, same_place-true}
 use Rattle.tabled_grid.proofs.Spans.{positions_exact, positions_total, span_sizes}

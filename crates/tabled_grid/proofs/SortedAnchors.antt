@@ -1,12 +1,12 @@
 -- Sorted lists of anchors, and the maps that they make.
-use Rattle.std.proofs.Common.{◌≡◌, ℕ, inl, inr, Bool, true, false, List, [], ◌∷◌, refl, sym, ap, ◌∙◌, cond, length, None}
+use Rattle.std.proofs.Common.{◌≡◌, inl, inr, Bool, true, List, [], ◌∷◌, refl, sym, ap, ◌∙◌, cond, length, None}
 use Rattle.std.specs.Prelude.{T, ◌&&◌, ◌==◌, not}
-use Rattle.std.specs.FinMap.{empty, entries, entries-from_sorted, entries_sorted, get-entries, len-empty, len-entries, from_sorted, get, get-from_sorted, is_sorted, same_map}
+use Rattle.std.specs.FinMap.{entries, entries-from_sorted, entries_sorted, get-entries, from_sorted, get, get-from_sorted, is_sorted, same_map}
 use Rattle.std.specs.FinMap.Entries.{find-where_key, is_sorted-where_key}
 use Rattle.std.specs.List.{AllByRecursion, list_any}
 use Rattle.std.proofs.lemmas.List.Elements.{All-filter, All-from_recursion, recursion_from_All}
 use Rattle.std.proofs.lemmas.List.{nil_from_length}
-use borrow.Author.Tests.{eqb-true, eq-eqb}
+use borrow.Author.Tests.{eqb-true}
 use Rattle.tabled_grid.specs.Anchors.{Anchor, dropped, is_hidden_in}
 use Rattle.tabled_grid.specs.Rectangles.{drop_hidden, in_rect, is_hidden}
 use Rattle.tabled_grid.specs.Entity.{same_place}
@@ -59,12 +59,5 @@ anchors-of m sizes = record { sorted = entries_sorted m; sizes = sizes_of (entri
 pub from-entries : (m : SpanMap) → from_sorted (entries m) ≡ m
 from-entries m = same_map positions_total positions_exact (from_sorted (entries m)) m (λ q. get-from_sorted position_cmp (entries m) q (entries_sorted m) ∙ sym (get-entries m q))
 
--- a map without anchors
-pub no-entries : (m : SpanMap) → m ≡ empty → entries m ≡ []
-no-entries m none = ap entries none ∙ nil_from_length (entries empty) (sym (len-entries empty) ∙ len-empty position_cmp (ℕ × ℕ))
-
 pub none-listed : (m : SpanMap) (es : List Anchor) → es ≡ entries m → true ≡ (length es == 0) → entries m ≡ []
 none-listed m es is h = sym is ∙ nil_from_length es (eqb-true (length es) 0 (sym h))
-
-pub some-listed : (m : SpanMap) (es : List Anchor) → es ≡ entries m → false ≡ (length es == 0) → m ≡ empty → ⊥
-some-listed m es is h none = let zero : length es ≡ 0 = ap length (is ∙ no-entries m none) in let never : true ≡ false = sym (eq-eqb (length es) 0 zero) ∙ sym h in cc

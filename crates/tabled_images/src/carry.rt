@@ -32,9 +32,7 @@ pub fn kept_in_place(
     if cfg.fits(rows, columns) {
         return Ok(None);
     }
-    let mut kept = cfg.copy(alloc)?;
-    kept.keep_fitting(alloc, rows, columns)?;
-    Ok(Some(kept))
+    Ok(Some(cfg.fitting(alloc, rows, columns)?))
 }
 
 /// Carries the merged cells of a table along when its cells have moved. It was `rows x columns` before: those

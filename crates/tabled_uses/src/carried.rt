@@ -1,6 +1,6 @@
 //! Merged cells that are carried along: callers that rely on it, done or refused.
 
-ghost use Rattle.std.specs.Prelude.{◌≡◌, IsOk, OnErr, OnOk, Some};
+ghost use Rattle.std.specs.Prelude.{◌≡◌, IfOk, IsOk, OnErr, OnOk, Some};
 ghost use Rattle.std.specs.FinMap as map;
 ghost use Rattle.std.specs.Option.{IfSome};
 ghost use Rattle.tabled_grid.specs.Anchors.{Anchor};
@@ -104,6 +104,18 @@ pub fn keeps_what_fits(
         *cfg = kept;
     }
     Ok(())
+}
+
+/// The merged cells that fit a table (`rows x columns`), beside all of them.
+pub fn what_fits(
+    alloc: Global,
+    cfg: &SpannedConfig,
+    rows: usize,
+    columns: usize,
+) -> Result<SpannedConfig, AllocError>
+    ensures { IfOk result (λ fitting. fitting ≡ keep_fitting rows columns cfg.now) }
+{
+    cfg.fitting(alloc, rows, columns)
 }
 
 /// Carries merged cells along where a caller's own code moves the cells of a table (`rows x columns`).

@@ -179,8 +179,14 @@ fn keeps_fitting(
     let mut spans = merged(alloc, anchors)?;
     let all_fit = spans.fits(rows, columns);
     let all_left = is_listed(alloc, &spans, left)?;
+    let fitting = spans.fitting(alloc, rows, columns)?;
     spans.keep_fitting(alloc, rows, columns)?;
-    Ok(all_fit == all_left && spans.fits(rows, columns) && is_listed(alloc, &spans, left)?)
+    Ok(
+        all_fit == all_left
+            && spans.fits(rows, columns)
+            && is_listed(alloc, &spans, left)?
+            && is_listed(alloc, &fitting, left)?,
+    )
 }
 
 #[test]
@@ -247,6 +253,7 @@ enum Call {
     ColumnSpan,
     Sizes,
     Copy,
+    KeepFitting,
     Cover,
 }
 
@@ -260,6 +267,7 @@ fn make(alloc: Global, spans: &mut SpannedConfig, call: Call) -> Result<(), Allo
             spans.copy(alloc)?;
             Ok(())
         }
+        Call::KeepFitting => spans.keep_fitting(alloc, 1, 2),
         Call::Cover => {
             CoverMap::new(alloc, spans, 3, 3)?;
             Ok(())
@@ -284,6 +292,7 @@ fn keeps_merged_cells_at_a_refusal(rt: HostRuntime) {
         Call::ColumnSpan,
         Call::Sizes,
         Call::Copy,
+        Call::KeepFitting,
         Call::Cover,
     ] {
         // Where the merged cells themselves are refused, there is nothing to compare.

@@ -1,14 +1,64 @@
-//! Anchors whose rectangles fit a table.
+//! Merged cells that fit a table.
 
-ghost use Rattle.std.specs.Prelude.{◌≡◌, ◌∷◌, IfOk, T, length, not};
+ghost use Rattle.std.specs.Prelude.{◌≡◌, ◌∷◌, ◌↔◌, IfOk, IsOk, IsTrue, OnErr, OnOk, T, length, not};
 ghost use Rattle.std.specs.FinMap.{is_sorted};
 ghost use Rattle.std.specs.List.{list_all};
 ghost use Rattle.tabled_grid.specs.Anchors.{Anchor, meets};
-ghost use Rattle.tabled_grid.specs.Fitting.{fitting, with_met};
-ghost use Rattle.tabled_grid.specs.Spans.{position_cmp};
+ghost use Rattle.tabled_grid.specs.Fitting.{fitting, keep_fitting, with_met};
+ghost use Rattle.tabled_grid.specs.Rectangles.{Fits};
+ghost use Rattle.tabled_grid.specs.Spans.{AreSpanSizes, position_cmp};
 
-use crate::config::anchors::{Anchor, is_inside, is_past, meet, rest_of_row};
+use crate::config::anchors::{self, Anchor, is_inside, is_past, meet, rest_of_row};
+use crate::config::spanned_config::SpannedConfig;
 use std::alloc::{AllocError, Global};
+
+impl SpannedConfig {
+    /// Says whether all rectangles lie inside a table (`rows x columns`) and no two share a cell.
+    pub fn fits(&self, rows: usize, columns: usize) -> bool
+        ensures fits { IsTrue result ↔ Fits self.now rows columns }
+        ensures sizes { AreSpanSizes self.now }
+    {
+        anchors::fit(self.anchors(), rows, columns)
+    }
+
+    /// A map of those rectangles alone that lie inside a table (`rows x columns`) and share no cell with
+    /// another one.
+    ///
+    /// Of this project.
+    pub fn fitting(
+        &self,
+        alloc: Global,
+        rows: usize,
+        columns: usize,
+    ) -> Result<SpannedConfig, AllocError>
+        ensures fitting { IfOk result (λ fitting. fitting ≡ keep_fitting rows columns self.now) }
+        ensures sizes { AreSpanSizes self.now }
+    {
+        let kept = fitting(alloc, self.anchors(), rows, columns)?;
+        Ok(SpannedConfig::from_anchors(kept))
+    }
+
+    /// Takes away, at once, all rectangles that don't lie inside a table (`rows x columns`) or share a cell
+    /// with another one. Memory is taken only where there is one. Refused, it changes nothing.
+    ///
+    /// Of this project.
+    pub fn keep_fitting(
+        &mut self,
+        alloc: Global,
+        rows: usize,
+        columns: usize,
+    ) -> Result<(), AllocError>
+        ensures ok { OnOk result (self.new ≡ keep_fitting rows columns self.old) }
+        ensures err { OnErr result (self.new ≡ self.old) }
+        ensures sizes { AreSpanSizes self.new }
+        ensures promised { Fits self.old rows columns → IsOk result }
+    {
+        if !self.fits(rows, columns) {
+            *self = self.fitting(alloc, rows, columns)?;
+        }
+        Ok(())
+    }
+}
 
 /// The rectangles of a list that lie inside a table and share no cell with another one.
 ///

@@ -4,15 +4,14 @@ ghost use Rattle.std.specs.Prelude.{◌≡◌, ◌<◌, ◌≤◌, ◌↔◌, �
 ghost use Rattle.std.specs.FinMap as map;
 ghost use Rattle.std.specs.FinMap.{is_sorted};
 ghost use Rattle.std.specs.List.{AllByRecursion};
-ghost use Rattle.tabled_grid.specs.Fitting.{keep_fitting};
-ghost use Rattle.tabled_grid.specs.Rectangles.{Fits, column_spans, drop_hidden, is_covered_across, is_covered_down, is_visible, row_spans};
+ghost use Rattle.tabled_grid.specs.Rectangles.{column_spans, drop_hidden, is_covered_across, is_covered_down, is_visible, row_spans};
 ghost use Rattle.tabled_grid.specs.Shifts.{is_crossed, shifted};
 ghost use Rattle.tabled_grid.specs.Spans.{AreAnchors, AreSpanSizes, IsSizeAt, IsSpanSize, position_cmp, size_at, with_column_span, with_row_span, with_size, with_sizes};
 ghost use Rattle.tabled_grid.specs.declared.config.position.Position.{Position};
 
 use crate::config::anchors::{self, Anchor};
 use crate::config::position::Position;
-use crate::config::{fitting, shifts};
+use crate::config::shifts;
 use crate::records::Axis;
 use std::alloc::{AllocError, Global};
 use std::marker::Model;
@@ -284,46 +283,6 @@ impl SpannedConfig {
     {
         self.keeps_sizes();
         shifts::cross(&self.anchors, axis, line)
-    }
-
-    /// Says whether all rectangles lie inside a table (`rows x columns`) and no two share a cell.
-    pub fn fits(&self, rows: usize, columns: usize) -> bool
-        ensures fits { IsTrue result ↔ Fits self.now rows columns }
-        ensures sizes { AreSpanSizes self.now }
-    {
-        self.keeps_sizes();
-        anchors::fit(&self.anchors, rows, columns)
-    }
-
-    /// Takes away, at once, all rectangles that don't lie inside a table (`rows x columns`) or share a cell
-    /// with another one. Memory is taken only where there is one. Refused, it changes nothing.
-    ///
-    /// Of this project.
-    pub fn keep_fitting(
-        &mut self,
-        alloc: Global,
-        rows: usize,
-        columns: usize,
-    ) -> Result<(), AllocError>
-        ensures ok { OnOk result (self.new ≡ keep_fitting rows columns self.old) }
-        ensures err { OnErr result (self.new ≡ self.old) }
-        ensures sizes { AreSpanSizes self.new }
-        ensures promised { Fits self.old rows columns → IsOk result }
-    {
-        if self.fits(rows, columns) {
-            return Ok(());
-        }
-        match fitting::fitting(alloc, &self.anchors, rows, columns) {
-            Ok(kept) => {
-                self.anchors = kept;
-                self.keeps_sizes();
-                Ok(())
-            }
-            Err(error) => {
-                self.keeps_sizes();
-                Err(error)
-            }
-        }
     }
 
     /// A copy.

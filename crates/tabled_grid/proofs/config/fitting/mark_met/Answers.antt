@@ -3,10 +3,11 @@ use Rattle.tabled_grid.proofs.MetAnchors.{walked-all, walked-met, walked-out}
 use Rattle.tabled_grid.proofs.PassedAnchors.{apart_past, apart_sorted}
 use Rattle.tabled_grid.proofs.config.fitting.mark_met.Goals as goal
 
-pub returns-then-is_past : goal.returns-then-is_past
-returns-then-is_past c =
-    let done = walked-all c.args.from c.args.anchors.now c.args.marks.now c.loop-k.k c.loop-k.marks c.loop-k.alone (apart_past c.args.from c.args.anchors.now 0 c.loop-k.k _ (omega arith) c.loop-k-test.true c.requires.sorted (sym c.is_past.ensures ∙ c.if-is_past.true)) c.loop-k.invariant in
-    record { alone = done.0; marked = done.1 }
+pub returns-then-is_past-clause-alone : goal.returns-then-is_past-clause-alone
+returns-then-is_past-clause-alone c = (walked-all c.args.from c.args.anchors.now c.args.marks.now c.loop-k.k c.loop-k.marks c.loop-k.alone (apart_past c.args.from c.args.anchors.now 0 c.loop-k.k _ (omega arith) c.loop-k-test.true c.requires.sorted (sym c.is_past.ensures ∙ c.if-is_past.true)) c.loop-k.invariant).0
+
+pub returns-then-is_past-clause-marked : goal.returns-then-is_past-clause-marked
+returns-then-is_past-clause-marked c = (walked-all c.args.from c.args.anchors.now c.args.marks.now c.loop-k.k c.loop-k.marks c.loop-k.alone (apart_past c.args.from c.args.anchors.now 0 c.loop-k.k _ (omega arith) c.loop-k-test.true c.requires.sorted (sym c.is_past.ensures ∙ c.if-is_past.true)) c.loop-k.invariant).1
 
 pub loop-k-preserved-then-meet : goal.loop-k-preserved-then-meet
 loop-k-preserved-then-meet c = walked-met c.args.from c.args.anchors.now c.args.marks.now c.loop-k.k c.loop-k.marks c.loop-k.alone _ c.loop-k-test.true (sym c.meet.ensures ∙ c.if-meet.true) (length-set c.loop-k.marks c.loop-k.k _) c.loop-k.invariant

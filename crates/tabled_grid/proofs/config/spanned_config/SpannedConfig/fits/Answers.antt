@@ -1,5 +1,18 @@
+use Rattle.std.proofs.Common.{subst}
+use Rattle.std.specs.FinMap.{entries}
+use Rattle.std.specs.Bool.{Decides}
+use Rattle.tabled_grid.specs.Anchors.{lie_well}
+use Rattle.tabled_grid.specs.Rectangles.{Fits}
+use Rattle.tabled_grid.specs.Spans.{SpanMap}
 use Rattle.tabled_grid.proofs.FittingAnchors.{fits_decided}
+use Rattle.tabled_grid.proofs.SortedAnchors.{anchors-of, from-entries}
 use Rattle.tabled_grid.proofs.config.spanned_config.SpannedConfig.fits.Goals as goal
 
+pub fit-requires : goal.fit-requires
+fit-requires c = rw c.anchors.ensures.anchors (anchors-of c.args.self.now c.anchors.ensures.sizes)
+
 pub returns-clause-fits : goal.returns-clause-fits
-returns-clause-fits c = rw (← c.self.view_is, c.fit.ensures, c.deref.ensures.value) (fits_decided c.args.rows c.args.columns c.self.inside.anchors.items c.self.invariant)
+returns-clause-fits c =
+    let anchors = entries c.args.self.now in
+    let decided = fits_decided c.args.rows c.args.columns anchors (anchors-of c.args.self.now c.anchors.ensures.sizes) in
+    rw (c.fit.ensures, c.anchors.ensures.anchors) (subst (λ (map : SpanMap). Decides (lie_well c.args.rows c.args.columns anchors) (Fits map c.args.rows c.args.columns)) (from-entries c.args.self.now) decided)
