@@ -22,7 +22,7 @@ impl SpannedConfig {
     }
 
     /// A map of those rectangles alone that lie inside a table (`rows x columns`) and share no cell with
-    /// another one.
+    /// another one. It takes memory; refused, this map is as it was.
     ///
     /// Of this project.
     pub fn fitting(
@@ -63,7 +63,7 @@ impl SpannedConfig {
 /// The rectangles of a list that lie inside a table and share no cell with another one.
 ///
 /// From each rectangle those after it are marked that it meets, whether it stays or not.
-pub(super) fn fitting(
+fn fitting(
     alloc: Global,
     anchors: &[Anchor],
     rows: usize,
