@@ -315,9 +315,22 @@ def needed_imports(text, quoted, methods):
             yield item.kind, path, brace, needed
 
 
+def ghost_words(text):
+    """What is said of items, apart from what they do: their clauses, and the lines of ghost things."""
+    for item in items(text):
+        if item.kind in ("impl", "trait"):
+            yield item.head
+            yield from ghost_words(item.body)
+        else:
+            ghosts = re.findall(r"^\s*ghost\b.*", item.body, re.M)
+            yield " ".join([*item.clauses, *ghosts, item.head if item.kind == "ghost" else ""])
+
+
 def used_by(text, quoted, methods):
     """The `use` lines of a file that a part of it needs; `methods` has those of each trait."""
-    needed = needed_imports(text, quoted, methods)
+    said, done = "\n".join(ghost_words(quoted)), re.sub(r"^\s*//.*", "", quoted, flags=re.M)
+    needed = [it for it in needed_imports(text, said, {}) if it[0] == "ghost use"]
+    needed += [it for it in needed_imports(text, done, methods) if it[0] == "use"]
     return [laid_out(path, brace, names) if brace else f"{path};" for _, path, brace, names in needed]
 
 

@@ -112,6 +112,12 @@ def finds_the_imports_that_are_needed():
     return used == ["ghost use Rattle.std.specs.Prelude.{◌≡◌, ◌<◌, IfOk};", "use a::{B, Counts};"]
 
 
+def passes_over_words_of_comments_and_bodies():
+    text = "ghost use a.{Some, Carries, ◌<◌};\nuse b::{Merged, C};\n"
+    quoted = "/// Carries Merged cells.\nfn f(c: C)\n    requires { 0 < c }\n{\n    if let Some(x) = c {}\n}\n"
+    return used_by(text, quoted, {}) == ["ghost use a.{◌<◌};", "use b::C;"]
+
+
 def finds_the_imports_of_clauses_alone():
     told = [(SOURCE, it) for it in parts_of(SOURCE, PUBLIC)]
     return imports_of_clauses(told) == [
@@ -143,5 +149,5 @@ def reads_names_that_are_offered_again():
 TESTS = [
     ends_at_its_bracket, finds_each_item, tells_public_names_alone, keeps_words_and_pictures, puts_a_clause_in_a_line,
     shows_what_all_see, leaves_out_what_is_alike, tells_a_trait_with_its_words, finds_the_imports_that_are_needed,
-    finds_the_imports_of_clauses_alone, finds_the_paths_of_types, knows_whose_a_part_is, reads_names_that_are_offered_again,
+    passes_over_words_of_comments_and_bodies, finds_the_imports_of_clauses_alone, finds_the_paths_of_types, knows_whose_a_part_is, reads_names_that_are_offered_again,
 ]
