@@ -31,7 +31,7 @@ use crate::split::Split;
 use std::alloc::{AllocError, Global};
 use tabled_grid::config::{Position, SpannedConfig, ToBounds};
 use tabled_grid::records::{
-    CellText, ExactRecords, PeekableRecords, Records, RecordsMut, Resizable,
+    Blank, CellText, ExactRecords, PeekableRecords, Records, RecordsMut, Resizable,
 };
 use tabled_options::{CellOption, MergedCellsFit, Property, TableOption};
 use tabled_select::location::Location;
@@ -179,23 +179,23 @@ where
 /// A turn keeps merged cells inside the table and apart, also where it is refused.
 pub fn turns_keep_merged_cells_fitting<R, D>(_rotate: &Rotate)
 where
-    R: Records + ExactRecords + PeekableRecords + RecordsMut<String> + Resizable,
-    R::Cell: CellText,
+    R: Records + ExactRecords + Resizable,
+    R::Cell: Blank,
     ensures { OptionKeeps ⟦<MergedCellsFit as Property<R::Cell, SpannedConfig>>⟧.holds (⟦<Rotate as TableOption<R, SpannedConfig, D>>⟧.does _rotate.now) (⟦<Rotate as TableOption<R, SpannedConfig, D>>⟧.leaves _rotate.now) }
 {}
 
 /// So does a reversal.
 pub fn reversals_keep_merged_cells_fitting<R, D>(_reverse: Reverse)
 where
-    R: Records + ExactRecords + PeekableRecords + RecordsMut<String> + Resizable,
-    R::Cell: CellText,
+    R: Records + ExactRecords + Resizable,
+    R::Cell: Blank,
     ensures { OptionKeeps ⟦<MergedCellsFit as Property<R::Cell, SpannedConfig>>⟧.holds (⟦<Reverse as TableOption<R, SpannedConfig, D>>⟧.does _reverse) (⟦<Reverse as TableOption<R, SpannedConfig, D>>⟧.leaves _reverse) }
 {}
 
 /// So does a split.
 pub fn splits_keep_merged_cells_fitting<R, D>(_split: Split)
 where
-    R: Records + ExactRecords + PeekableRecords + RecordsMut<String> + Resizable,
+    R: Records + ExactRecords + PeekableRecords + Resizable,
     R::Cell: CellText,
     ensures { OptionKeeps ⟦<MergedCellsFit as Property<R::Cell, SpannedConfig>>⟧.holds (⟦<Split as TableOption<R, SpannedConfig, D>>⟧.does _split) (⟦<Split as TableOption<R, SpannedConfig, D>>⟧.leaves _split) }
 {}
@@ -203,8 +203,8 @@ where
 /// So does a part of a table.
 pub fn extracts_keep_merged_cells_fitting<R, D, A, B>(_extract: &Extract<A, B>)
 where
-    R: Records + ExactRecords + PeekableRecords + RecordsMut<String> + Resizable,
-    R::Cell: CellText,
+    R: Records + ExactRecords + Resizable,
+    R::Cell: Blank,
     A: ToBounds + Drop,
     B: ToBounds + Drop,
     ensures { OptionKeeps ⟦<MergedCellsFit as Property<R::Cell, SpannedConfig>>⟧.holds (⟦<Extract<A, B> as TableOption<R, SpannedConfig, D>>⟧.does _extract.now) (⟦<Extract<A, B> as TableOption<R, SpannedConfig, D>>⟧.leaves _extract.now) }
@@ -213,8 +213,8 @@ where
 /// So do rows or columns that are taken away.
 pub fn removals_keep_merged_cells_fitting<R, D, L, T>(_remove: &Remove<L, T>)
 where
-    R: Records + ExactRecords + PeekableRecords + RecordsMut<String> + Resizable,
-    R::Cell: CellText,
+    R: Records + ExactRecords + Resizable,
+    R::Cell: Blank,
     L: Location<R, Coordinate = usize> + Drop,
     <L::IntoIter as IntoIterator>::IntoIter: Drop,
     T: Target,
@@ -224,7 +224,7 @@ where
 /// So does a second table that is joined.
 pub fn joins_keep_merged_cells_fitting<R, D>(_concat: &Concat)
 where
-    R: Records + ExactRecords + PeekableRecords + RecordsMut<String> + Resizable,
+    R: Records + ExactRecords + Resizable + RecordsMut<String>,
     R::Cell: CellText,
     ensures { OptionKeeps ⟦<MergedCellsFit as Property<R::Cell, SpannedConfig>>⟧.holds (⟦<Concat as TableOption<R, SpannedConfig, D>>⟧.does _concat.now) (⟦<Concat as TableOption<R, SpannedConfig, D>>⟧.leaves _concat.now) }
 {}
