@@ -10,6 +10,7 @@ ghost use Rattle.tabled_options.specs.Does.{OptionKeeps};
 ghost use Rattle.tabled_settings.specs.declared.rotate.Rotate.TheVariants.{Bottom, Left, Right, Top};
 ghost use Rattle.tabled_settings.specs.declared.split.Display.TheVariants.{Retain};
 ghost use Rattle.tabled_settings.specs.Charsets.{IsClean, cleaned, with_tabs};
+ghost use Rattle.tabled_settings.specs.Orders.{charset_cmp, reverse_cmp};
 ghost use Rattle.tabled_settings.specs.PiecePlaces.{glued, split_places, texts_in};
 ghost use Rattle.tabled_settings.specs.Pieces.{split};
 ghost use Rattle.tabled_grid.specs.Places.{ReadsThrough};
@@ -79,6 +80,17 @@ pub fn top_twice_is_as_it_was<A>()
 /// A table whose rows or columns are reversed twice, from the same start up to the same limit, is as it was.
 pub fn reversed_twice_is_as_it_was<A>(_reverse: Reverse)
     ensures { (old : Grid A) (turned : Grid A) (new : Grid A) → IsEven old → ReadsThrough (reversed _reverse.axis _reverse.start _reverse.limit old.rows old.columns) old turned → ReadsThrough (reversed _reverse.axis _reverse.start _reverse.limit turned.rows turned.columns) turned new → new ≡ old }
+{}
+
+/// Reversals are ordered by their axis, rows first, then by their start, and then by their limit.
+pub fn reversals_in_order(_a: Reverse, _b: Reverse)
+    ensures { ⟦<Reverse as Ord>⟧.cmp _a _b ≡ reverse_cmp _a _b }
+{}
+
+/// Charsets are ordered by whether they clean, those that don't first, and then by their tab size, unset
+/// first.
+pub fn charsets_in_order(_a: Charset, _b: Charset)
+    ensures { ⟦<Charset as Ord>⟧.cmp _a _b ≡ charset_cmp _a _b }
 {}
 
 /// A turn takes each old cell to exactly one new place.
