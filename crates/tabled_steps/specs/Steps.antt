@@ -44,8 +44,8 @@ abbrev pub Cuts : {A : Type 0} → (A → Type 0) → (A → List ℕ) → Split
 Cuts is_blank text_of s g c h d = Splits is_blank text_of s g h × (d ≡ carried_if (has_pieces s g.rows g.columns) (split_places s (map_grid text_of g)) g.rows g.columns c)
 
 -- a second table is joined, and the merged cells are carried along
-abbrev pub Joins : {A : Type 0} → (A → List ℕ) → Axis → Grid (List ℕ) → List ℕ → Change A SpanMap
-Joins text_of axis second default g c h d = JoinsAt text_of (corner_of axis g.rows g.columns) second default g h × (d ≡ carried (joined_places (corner_of axis g.rows g.columns) second g.rows g.columns) g.rows g.columns c)
+abbrev pub Joins : {A : Type 0} → (A → Type 0) → (A → List ℕ) → Axis → Grid (List ℕ) → List ℕ → Change A SpanMap
+Joins is_blank text_of axis second default g c h d = JoinsAt is_blank text_of (corner_of axis g.rows g.columns) second default g h × (d ≡ carried (joined_places (corner_of axis g.rows g.columns) second g.rows g.columns) g.rows g.columns c)
 
 -- runs of equal neighbours are merged, and cells stay
 abbrev pub Merges : {A : Type 0} → (A → List ℕ) → Axis → Change A SpanMap
@@ -67,7 +67,7 @@ Does is_blank text_of (step.MergeHorizontal _) = Merges text_of Columns
 Does is_blank text_of (step.Rotate rotate) = λ g. Rearranges (rotated rotate g.rows g.columns) g
 Does is_blank text_of (step.Reverse reverse) = Reverses reverse
 Does is_blank text_of (step.Split split) = Cuts is_blank text_of split
-Does is_blank text_of (step.Concat concat) = Joins text_of concat.0 concat.1 concat.2
+Does is_blank text_of (step.Concat concat) = Joins is_blank text_of concat.0 concat.1 concat.2
 Does is_blank text_of (step.Extract a b c d) = λ g. Rearranges (extracted (half_open a b) (half_open c d) g.rows g.columns) g
 Does is_blank text_of (step.RemoveRows a b) = λ g. Rearranges (removed Rows (indexes (half_open a b) g.rows) g.rows g.columns) g
 Does is_blank text_of (step.RemoveColumns a b) = λ g. Rearranges (removed Columns (indexes (half_open a b) g.columns) g.rows g.columns) g
