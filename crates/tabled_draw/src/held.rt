@@ -84,18 +84,16 @@ impl Held {
         ensures sends { OnOk result (Sends (W.contents writer.old) self.old (W.contents writer.new) self.new (replicate count byte)) }
     {
         let mut left = count;
-        while left > self.bytes.len() - self.len {
-            left -= self.bytes.len() - self.len;
-            self.fill(byte, self.bytes.len());
-            self.send(writer)?;
+        while left > 0 {
+            if self.len == self.bytes.len() {
+                self.send(writer)?;
+            }
+            let n = left.min(self.bytes.len() - self.len);
+            let end = self.len + n;
+            self.bytes[self.len..end].fill(byte);
+            self.len = end;
+            left -= n;
         }
-        self.fill(byte, self.len + left);
         Ok(())
-    }
-
-    /// Holds a byte as often as there is room up to an end.
-    fn fill(&mut self, byte: u8, end: usize) {
-        self.bytes[self.len..end].fill(byte);
-        self.len = end;
     }
 }

@@ -1,6 +1,6 @@
 //! Lines of texts, and how wide they are.
 
-ghost use Rattle.std.specs.Prelude.{◌≡◌, ◌-◌, IfOk, OnOk, IsTrue, chars, encode_utf8_all, length, slice_index_or, []};
+ghost use Rattle.std.specs.Prelude.{◌≡◌, ◌∷◌, ◌-◌, IfOk, OnOk, IsTrue, chars, encode_utf8_all, length, slice_index_or, []};
 ghost use Rattle.tabled_draw.specs.Sent.{Sends};
 ghost use Rattle.tabled_draw.specs.Lines.{after_line, first_line};
 ghost use Rattle.tabled_draw.specs.Sizes.{asks};
