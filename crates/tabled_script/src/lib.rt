@@ -1,9 +1,9 @@
 //! The script program: tables made and changed by the lines of a script.
 #![tactic(auto)]
 
+mod form;
 #[cfg(test)]
 mod gallery;
-mod form;
 mod held;
 pub mod laws;
 mod output;

@@ -33,10 +33,7 @@ impl Form for Picture {
 }
 
 /// Writes a picture, and flushes the writer.
-fn write_drawing<W: Write>(
-    drawing: Drawing<Vec<Vec<LentText>>>,
-    writer: &mut W,
-) -> io::Result<()>
+fn write_drawing<W: Write>(drawing: Drawing<Vec<Vec<LentText>>>, writer: &mut W) -> io::Result<()>
     ensures { OnOk result (Appends (W.contents writer.old) (W.contents writer.new) drawing.entry) }
 {
     drawing.write(writer)?;

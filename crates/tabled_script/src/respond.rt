@@ -31,7 +31,11 @@ const FAILED: u8 = 4;
 const MEMORY_LINE: &[u8] = b"out of memory\n";
 
 /// Runs the script that a reader has, writes the table that it ends with in a form, and answers a status.
-pub(crate) fn respond<F: Form, R: Read, W: Write>(alloc: Global, reader: &mut R, writer: &mut W) -> u8
+pub(crate) fn respond<F: Form, R: Read, W: Write>(
+    alloc: Global,
+    reader: &mut R,
+    writer: &mut W,
+) -> u8
     ensures known { (result ≡ 0) ⊎ ((result ≡ 2) ⊎ ((result ≡ 3) ⊎ (result ≡ 4))) }
     ensures done { result ≡ 0 → IfSome (R.remaining reader.old) (λ input. Shows F.bytes F.known input (W.contents writer.old) (W.contents writer.new)) }
     ensures faulty { result ≡ 2 → IfSome (R.remaining reader.old) (λ input. Faults input (W.contents writer.old) (W.contents writer.new)) }

@@ -288,7 +288,11 @@ fn draws_scripts(rt: HostRuntime) -> Result<(), Fail> {
     ] {
         let mut reader = script.as_bytes();
         let mut written = Vec::new(rt.alloc());
-        assert_eq!(rt; draw_script(rt.alloc(), &mut reader, &mut written), status, "{script:?}");
+        assert_eq!(rt;
+            draw_script(rt.alloc(), &mut reader, &mut written),
+            status,
+            "{script:?}"
+        );
         assert_eq!(rt; written.as_slice(), picture.as_bytes());
     }
     Ok(())

@@ -33,7 +33,7 @@ loop-text-preserved g c =
         sends = subst (Sends (contents c.args.writer.now) c.args.held.now.items (contents w.write_word.new.writer) w.write_word.new.held.items) (ap (λ bytes. before ++ 9 ∷ escaped bytes) c.text-text.ensures ∙ more)
             (sends_more (contents c.args.writer.now) (contents c.loop-text.writer) (contents w.write_word.new.writer) c.args.held.now.items c.loop-text.held.items w.write_word.new.held.items before (9 ∷ escaped c.text-text.result.now) c.loop-text.invariant.sends w.in_ok-write_word.ensures.sends);
         texts = texts_more;
-          room = record { less = omega (arith, w.in_ok-write_word.ensures.room.less); room = w.in_ok-write_word.ensures.room.room };
+        room = record { less = omega (arith, w.in_ok-write_word.ensures.room.less); room = w.in_ok-write_word.ensures.room.room };
       })
       | else-not-is_empty+in_ok-write_tab w ↦
           let none : c.text-text.result.now ≡ [] = grind (arith, common_steps, nil_from_length) in
@@ -41,7 +41,7 @@ loop-text-preserved g c =
             sends = subst (Sends (contents c.args.writer.now) c.args.held.now.items (contents w.write_tab.new.writer) w.write_tab.new.held.items) (ap (λ bytes. before ++ 9 ∷ escaped bytes) (sym none ∙ c.text-text.ensures) ∙ more)
                 (sends_more (contents c.args.writer.now) (contents c.loop-text.writer) (contents w.write_tab.new.writer) c.args.held.now.items c.loop-text.held.items w.write_tab.new.held.items before (9 ∷ []) c.loop-text.invariant.sends w.in_ok-write_tab.ensures.sends);
             texts = texts_more;
-          room = record { less = omega (arith, w.in_ok-write_tab.ensures.room.less); room = w.in_ok-write_tab.ensures.room.room };
+            room = record { less = omega (arith, w.in_ok-write_tab.ensures.room.less); room = w.in_ok-write_tab.ensures.room.room };
           })
     ]
 
