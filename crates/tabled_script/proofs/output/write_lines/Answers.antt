@@ -1,4 +1,4 @@
-use Rattle.std.proofs.Common.{◌≡◌, ℕ, List, [], ◌∷◌, Result, Ok, Err, arith, length, refl}
+use Rattle.std.proofs.Common.{◌≡◌, List, [], ◌∷◌, Result, Ok, Err, arith, length, refl}
 use Rattle.std.specs.Result.{OnOk}
 use Rattle.tabled_grid.proofs.Grids.{IsEven-map_grid}
 use Rattle.tabled_grid.specs.Grid.{grid_of, map_items, width_of}

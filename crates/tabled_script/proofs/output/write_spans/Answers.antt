@@ -1,4 +1,4 @@
-use Rattle.std.proofs.Common.{arith, ◌≡◌, ◌+◌, [], get_or, refl, subst, take, ◌∙◌}
+use Rattle.std.proofs.Common.{arith, ◌+◌, [], get_or, refl, subst, take, ◌∙◌}
 use Rattle.std.proofs.lemmas.List.{get_or_default, take_all}
 use Rattle.std.specs.List.{flat_map}
 use Rattle.tabled_language.specs.Output.{span_line}

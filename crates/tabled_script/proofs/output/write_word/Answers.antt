@@ -1,9 +1,9 @@
-use Rattle.std.proofs.Common.{arith, ◌≡◌, [], ◌∷◌, ◌++◌, append_assoc, ap, refl, sym, ◌∙◌}
+use Rattle.std.proofs.Common.{arith, ◌≡◌, ◌∷◌, ◌++◌, append_assoc, ap, refl, sym, ◌∙◌}
 use Rattle.std.proofs.lemmas.List.{take-append-drop}
 use Rattle.std.proofs.lemmas.List.Concat.{flat_map-append}
 use Rattle.std.proofs.lemmas.Result.{on_ok_weaker}
 use Rattle.tabled_language.specs.Output.{escaped, escaped_byte}
-use Rattle.tabled_script.proofs.Sent.{sends_next, sends_none}
+use Rattle.tabled_script.proofs.Sent.{sends_next}
 use Rattle.tabled_script.proofs.output.write_word.Goals as goal
 
 pub loop-rest-preserved : goal.loop-rest-preserved
