@@ -1,0 +1,3 @@
+pub mod Before
+pub mod Owned
+pub mod Sent

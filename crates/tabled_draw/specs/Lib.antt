@@ -1,0 +1,10 @@
+pub mod Each
+pub mod Laid
+pub mod Lines
+pub mod Measured
+pub mod OwnerRows
+pub mod Owners
+pub mod Picture
+pub mod Sent
+pub mod Sizes
+pub mod Texts

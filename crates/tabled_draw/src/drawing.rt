@@ -1,0 +1,185 @@
+//! Tables that are laid out.
+
+ghost use Rattle.std.specs.Prelude.{◌≡◌, ◌<◌, ◌≤◌, IfOk, OnOk};
+ghost use Rattle.tabled_draw.specs.Picture.{drawn};
+ghost use Rattle.tabled_grid.specs.Grid.{map_grid};
+
+use crate::held::Held;
+use crate::layout::{edges, grow_all, raise_all};
+use crate::lines::write_line;
+use crate::owners::{Owner, clear, owner_row, write_owners};
+use std::alloc::{AllocError, Global};
+use std::io::{self, Write};
+use std::marker::Model;
+use std::mem;
+use tabled_grid::config::{Position, SpannedConfig};
+use tabled_grid::records::{Axis, CellText, ExactRecords, PeekableRecords, Records};
+
+/// A table that is laid out, with all the memory that drawing it takes.
+#[derive(Drop)]
+pub struct Drawing<'a, R>
+where
+    R: Records + ExactRecords + PeekableRecords,
+    R::Cell: CellText,
+{
+    records: &'a R,
+    spans: SpannedConfig,
+    /// Where the left edge of each column stands, and the last edge.
+    edges: Vec<usize>,
+    /// How high each row is.
+    heights: Vec<usize>,
+    /// The owners of the places of two rows.
+    above: Vec<Option<Owner>>,
+    here: Vec<Option<Owner>>,
+    /// What is left of the text that begins in each column.
+    rests: Vec<&'a str>,
+    held: Held,
+}
+
+impl<'a, R> Model for Drawing<'a, R>
+where
+    R: Records + ExactRecords + PeekableRecords,
+    R::Cell: CellText,
+{
+    ghost use Rattle.std.specs.Prelude.{◌≡◌, ◌+◌, ℕ, List, length};
+    ghost use Rattle.std.specs.FinMap.{entries};
+    ghost use Rattle.tabled_draw.specs.Picture.{bytes_of};
+    ghost use Rattle.tabled_draw.specs.Laid.{IsLaidOut};
+    ghost use Rattle.tabled_grid.specs.Grid.{map_grid};
+
+    ghost Value = { List ℕ };
+
+    ghost view = { λ a. bytes_of (map_grid R.Cell.text_of (R.grid a.records.now)) (entries a.spans) };
+
+    ghost invariant = { λ a. R.is_well_formed a.records.now × IsLaidOut (map_grid R.Cell.text_of (R.grid a.records.now)) a.spans a.edges.items a.heights.items (length a.above.items) (length a.here.items) (length a.rests.items) };
+}
+
+impl<'a, R> Drawing<'a, R>
+where
+    R: Records + ExactRecords + PeekableRecords,
+    R::Cell: CellText,
+{
+    ghost use Rattle.std.specs.Io.KnownBytes.{Appends};
+
+    /// Lays out a table.
+    pub fn new(alloc: Global, records: &'a R, cfg: &SpannedConfig) -> Result<Self, AllocError>
+        requires well { R.is_well_formed records.now }
+        ensures drawn { IfOk result (λ drawing. drawing ≡ drawn (map_grid R.Cell.text_of (R.grid records.now)) cfg.now) }
+    {
+        let rows = records.count_rows();
+        let columns = records.count_columns();
+        let spans = cfg.fitting(alloc, rows, columns)?;
+        let mut above = owner_row(alloc, columns)?;
+        let mut here = owner_row(alloc, columns)?;
+        let mut widths = vec![in alloc; 0; columns]?;
+        let mut heights = vec![in alloc; 0; rows]?;
+        raise_all(
+            records,
+            &spans,
+            &mut above,
+            &mut here,
+            &mut widths,
+            &mut heights,
+        )?;
+        grow_all(records, &spans, Axis::Columns, &mut widths)?;
+        grow_all(records, &spans, Axis::Rows, &mut heights)?;
+        Ok(Drawing {
+            records,
+            spans,
+            edges: edges(alloc, &widths)?,
+            heights,
+            above,
+            here,
+            rests: vec![in alloc; ""; columns]?,
+            held: Held::new(alloc)?,
+        })
+    }
+
+    /// Writes the picture.
+    pub fn write<W: Write>(self, writer: &mut W) -> io::Result<()>
+        ensures written { OnOk result (Appends (W.contents writer.old) (W.contents writer.new) self.entry) }
+    {
+        let Drawing {
+            records,
+            spans,
+            edges,
+            heights,
+            mut above,
+            mut here,
+            mut rests,
+            mut held,
+        } = self;
+        if heights.is_empty() || rests.is_empty() {
+            return Ok(());
+        }
+        clear(&mut above);
+        let mut next = 0;
+        for i in 0..heights.len() {
+            next = write_owners(records, &spans, next, i, &above, &mut here);
+            write_row(
+                writer,
+                &mut held,
+                records,
+                &spans,
+                &edges,
+                (i, heights[i]),
+                &above,
+                &here,
+                &mut rests,
+            )?;
+            mem::swap(&mut above, &mut here);
+        }
+        clear(&mut here);
+        write_line(writer, &mut held, b'+', &edges, &above, &here, &mut rests)?;
+        held.send(writer)
+    }
+}
+
+/// Writes the line above a row and the lines in it.
+fn write_row<'a, W, R>(
+    writer: &mut W,
+    held: &mut Held,
+    records: &'a R,
+    spans: &SpannedConfig,
+    edges: &[usize],
+    (i, height): (usize, usize),
+    above: &[Option<Owner>],
+    here: &[Option<Owner>],
+    rests: &mut Vec<&'a str>,
+) -> io::Result<()>
+where
+    W: Write,
+    R: Records + ExactRecords + PeekableRecords,
+    R::Cell: CellText,
+{
+    let _ = spans.anchors();
+    write_line(writer, held, b'+', edges, above, here, rests)?;
+    begin(records, i, here, rests);
+    for _ in 0..height {
+        write_line(writer, held, b'|', edges, here, here, rests)?;
+    }
+    Ok(())
+}
+
+/// Sets the texts whose cells begin in a row.
+fn begin<'a, R>(records: &'a R, i: usize, here: &[Option<Owner>], rests: &mut Vec<&'a str>)
+where
+    R: Records + ExactRecords + PeekableRecords,
+    R::Cell: CellText,
+{
+    for j in 0..rests.len() {
+        rests[j] = text_at(records, here[j + 1], Position { row: i, col: j }, rests[j]);
+    }
+}
+
+/// The text of a place, if its owner begins there, else another one.
+fn text_at<'a, R>(records: &'a R, owner: Option<Owner>, pos: Position, or: &'a str) -> &'a str
+where
+    R: Records + ExactRecords + PeekableRecords,
+    R::Cell: CellText,
+{
+    match owner {
+        Some((at, _)) if at == pos => records.get_text(pos),
+        _ => or,
+    }
+}

@@ -1,0 +1,13 @@
+//! Pictures of tables.
+#![tactic(auto)]
+
+mod drawing;
+mod held;
+mod layout;
+mod lines;
+mod owners;
+mod pictures;
+mod texts;
+
+pub use drawing::Drawing;
+pub use pictures::{draw, picture};

@@ -1,0 +1,45 @@
+//! The picture of a table, written or as a text.
+
+ghost use Rattle.std.specs.Prelude.{◌≡◌, IfOk, OnOk};
+ghost use Rattle.std.specs.Io.KnownBytes.{Appends};
+ghost use Rattle.std.specs.String.{string_bytes};
+ghost use Rattle.tabled_draw.specs.Picture.{drawn};
+ghost use Rattle.tabled_grid.specs.Grid.{map_grid};
+
+use crate::drawing::Drawing;
+use std::alloc::{AllocError, Global};
+use std::io::{self, Write};
+use tabled_grid::config::SpannedConfig;
+use tabled_grid::records::{CellText, ExactRecords, PeekableRecords, Records};
+
+/// Writes the picture of a table (`r x c`).
+pub fn draw<W, R>(alloc: Global, writer: &mut W, records: &R, cfg: &SpannedConfig) -> io::Result<()>
+where
+    W: Write,
+    R: Records + ExactRecords + PeekableRecords,
+    R::Cell: CellText,
+    requires well { R.is_well_formed records.now }
+    ensures drawn { OnOk result (Appends (W.contents writer.old) (W.contents writer.new) (drawn (map_grid R.Cell.text_of (R.grid records.now)) cfg.now)) }
+{
+    let drawing = Drawing::new(alloc, records, cfg)?;
+    drawing.write(writer)
+}
+
+/// The picture of a table as a text.
+pub fn picture<R>(alloc: Global, records: &R, cfg: &SpannedConfig) -> Result<String, AllocError>
+where
+    R: Records + ExactRecords + PeekableRecords,
+    R::Cell: CellText,
+    requires well { R.is_well_formed records.now }
+    ensures drawn { IfOk result (λ picture. string_bytes picture ≡ drawn (map_grid R.Cell.text_of (R.grid records.now)) cfg.now) }
+{
+    let drawing = Drawing::new(alloc, records, cfg)?;
+    let mut bytes = Vec::new(alloc);
+    if drawing.write(&mut bytes).is_err() {
+        return Err(AllocError);
+    }
+    String::from_utf8(bytes).map_err(|_| AllocError)
+}
+
+#[cfg(test)]
+mod tests;

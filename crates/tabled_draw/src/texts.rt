@@ -1,0 +1,141 @@
+//! Lines of texts, and how wide they are.
+
+ghost use Rattle.std.specs.Prelude.{◌≡◌, ◌∷◌, ◌-◌, IfOk, OnOk, IsTrue, encode_utf8_all, length, []};
+ghost use Rattle.tabled_draw.specs.Sent.{Draws};
+ghost use Rattle.tabled_draw.specs.Lines.{after_line, cell, first_line};
+ghost use Rattle.tabled_draw.specs.Sizes.{asks};
+ghost use Rattle.tabled_draw.specs.Texts.{columns_in, lines_of, shown, shown_line, widest};
+
+use crate::held::Held;
+use std::alloc::AllocError;
+use std::io::{self, Write};
+use tabled_grid::records::Axis;
+use unicode_width::UnicodeWidthChar;
+
+/// The character that is shown for one: for a control character another one, which can be seen.
+fn shown(c: char) -> char
+    ensures { result ≡ shown c }
+{
+    match c {
+        '\0'..='\x1f' => char::from_u32(0x2400 + u32::from(c)).unwrap_or(c),
+        '\x7f' => '\u{2421}',
+        '\u{80}'..='\u{9f}' => '\u{fffd}',
+        _ => c,
+    }
+}
+
+/// Says whether a text is one line of characters of one byte, each of which is shown as it is and takes one column.
+fn is_plain(text: &str) -> bool
+    ensures lines { IsTrue result → lines_of text.now ≡ text.now ∷ [] }
+    ensures columns { IsTrue result → columns_in text.now ≡ length text.now }
+    ensures bytes { IsTrue result → encode_utf8_all text.now ≡ text.now }
+{
+    for byte in text.as_bytes() {
+        if *byte < b' ' || *byte > b'~' {
+            return false;
+        }
+    }
+    true
+}
+
+/// The columns that a line takes as it is shown. More than `usize::MAX` are a growth refused.
+fn columns_in(line: &str) -> Result<usize, AllocError>
+    ensures { IfOk result (λ columns. columns ≡ columns_in (shown_line line.now)) }
+{
+    let mut columns: usize = 0;
+    for c in line.chars() {
+        let Some(more) = columns.checked_add(shown(c).width().unwrap_or(0)) else {
+            return Err(AllocError);
+        };
+        columns = more;
+    }
+    Ok(columns)
+}
+
+/// The columns of the widest line of a text.
+fn widest(text: &str) -> Result<usize, AllocError>
+    ensures { IfOk result (λ most. most ≡ widest text.now) }
+{
+    if is_plain(text) {
+        return Ok(text.len());
+    }
+    let mut most: usize = 0;
+    for line in text.split('\n') {
+        most = most.max(columns_in(line)?);
+    }
+    Ok(most)
+}
+
+/// The number of lines of a text.
+fn count_lines(text: &str) -> usize
+    ensures { result ≡ length (lines_of text.now) }
+{
+    if is_plain(text) {
+        return 1;
+    }
+    text.split('\n').count()
+}
+
+/// What a text asks of its row, or of its column.
+pub(crate) fn asked(axis: Axis, text: &str) -> Result<usize, AllocError>
+    ensures { IfOk result (λ asked. asked ≡ asks axis text.now) }
+{
+    match axis {
+        Axis::Rows => Ok(count_lines(text)),
+        Axis::Columns => widest(text),
+    }
+}
+
+/// Writes the first line of a text as it is shown, a blank before it and blanks up to the end of the room and one
+/// more after it. Gives the lines after it.
+pub(crate) fn write_cell<'a, W: Write>(
+    writer: &mut W,
+    held: &mut Held,
+    text: &'a str,
+    room: usize,
+) -> io::Result<&'a str>
+    ensures draws { OnOk result (Draws (W.contents writer.old) held.old (W.contents writer.new) held.new (cell text.now room)) }
+    ensures rest { IfOk result (λ rest. rest.now ≡ after_line text.now) }
+{
+    held.push(writer, b' ')?;
+    let (line, rest) = cut(text);
+    let left = write_shown(writer, held, line, room)?;
+    held.repeat(writer, b' ', left)?;
+    held.push(writer, b' ')?;
+    Ok(rest)
+}
+
+/// The first line of a text, and the lines after it.
+fn cut(text: &str) -> (&str, &str)
+    ensures line { shown_line result.0.now ≡ first_line text.now }
+    ensures rest { result.1.now ≡ after_line text.now }
+{
+    if is_plain(text) {
+        return (text, "");
+    }
+    text.split_once('\n').unwrap_or((text, ""))
+}
+
+/// Writes a line as it is shown, and gives what it leaves of the room.
+fn write_shown<W: Write>(
+    writer: &mut W,
+    held: &mut Held,
+    line: &str,
+    room: usize,
+) -> io::Result<usize>
+    ensures draws { OnOk result (Draws (W.contents writer.old) held.old (W.contents writer.new) held.new (shown_line line.now)) }
+    ensures left { IfOk result (λ left. left ≡ room - columns_in (shown_line line.now)) }
+{
+    if is_plain(line) {
+        held.write(writer, line.as_bytes())?;
+        return Ok(room.saturating_sub(line.len()));
+    }
+    let mut left = room;
+    for c in line.chars() {
+        let c = shown(c);
+        let mut bytes = [0; 4];
+        held.write(writer, c.encode_utf8(&mut bytes).as_bytes())?;
+        left = left.saturating_sub(c.width().unwrap_or(0));
+    }
+    Ok(left)
+}
