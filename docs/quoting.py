@@ -73,7 +73,7 @@ def own(top, crate, name):
     lines += [f"{it}: {' '.join(crates[it])}".rstrip() for it in libraries]
     lines += [f"{name}: {' '.join(crates[crate])}", "END"]
     lines += [f"cd crates/{name}", f'rt try < "$FEHAKIMU"/crates/{crate}/stdin']
-    return "\n".join(f"    {it}" for it in lines)
+    return "\n".join(["```sh", *lines, "```"])
 
 
 def root_of(top, crate):
