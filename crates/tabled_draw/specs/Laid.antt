@@ -13,11 +13,11 @@ pub record AreEdges (g : Grid (List ℕ)) (m : SpanMap) (edges : List ℕ) : Typ
   pub each : (k : ℕ) → k < g.columns + 1 → slice_index_or edges k 0 ≡ left g (entries m) k
 
 -- the layout of a table, and room for two rows of owners and for a text in each column
-pub record IsLaidOut (g : Grid (List ℕ)) (m : SpanMap) (edges high : List ℕ) (above here rests : ℕ) : Type 0 where
+pub record IsLaidOut (g : Grid (List ℕ)) (m : SpanMap) (lefts highs : List ℕ) (over under texts : ℕ) : Type 0 where
   pub fits : Fits m g.rows g.columns
-  pub edges : AreEdges g m edges
-  pub heights : high ≡ heights g (entries m)
-  pub tall : length high ≡ g.rows
-  pub above : above ≡ g.columns + 2
-  pub here : here ≡ g.columns + 2
-  pub rests : rests ≡ g.columns
+  pub edges : AreEdges g m lefts
+  pub heights : highs ≡ heights g (entries m)
+  pub tall : length highs ≡ g.rows
+  pub above : over ≡ g.columns + 2
+  pub here : under ≡ g.columns + 2
+  pub rests : texts ≡ g.columns

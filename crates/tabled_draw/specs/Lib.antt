@@ -1,6 +1,8 @@
 pub mod Each
 pub mod Laid
 pub mod Lines
+pub mod Measured
+pub mod OwnerRows
 pub mod Owners
 pub mod Picture
 pub mod Sent

@@ -1,6 +1,14 @@
 -- Lines of a picture, by what is known as they are written.
-use Rattle.std.specs.Prelude.{◌==◌, if◌then◌else◌, ℕ, List, [], ◌∷◌, slice_index_or}
-use Rattle.tabled_draw.specs.Texts.{lines_of}
+use Rattle.std.specs.Prelude.{◌≡◌, ◌+◌, ◌-◌, ◌<◌, ◌==◌, ◌&&◌, ◌++◌, if◌then◌else◌, ℕ, Bool, true, false, List, [], ◌∷◌, Option, None, Some, replicate, slice_index_or}
+use Rattle.std.specs.FinMap.{entries}
+use Rattle.tabled_draw.specs.Each.{each}
+use Rattle.tabled_draw.specs.Owners.{is_one, owner}
+use Rattle.tabled_draw.specs.Picture.{top}
+use Rattle.tabled_draw.specs.Sizes.{text_at}
+use Rattle.tabled_draw.specs.Texts.{columns_in, lines_of}
+use Rattle.tabled_grid.specs.Anchors.{Anchor}
+use Rattle.tabled_grid.specs.Grid.{Grid}
+use Rattle.tabled_grid.specs.Spans.{SpanMap}
 
 -- the first line of a text, as it is shown
 abbrev pub first_line : List ℕ → List ℕ
@@ -10,3 +18,50 @@ first_line text = slice_index_or (lines_of text) 0 []
 abbrev pub after_line : List ℕ → List ℕ
 after_line [] = []
 after_line (b ∷ bs) = if b == 10 then bs else after_line bs
+
+-- what stands where four places meet, or two in a row
+abbrev pub edge : ℕ → Option Anchor → Option Anchor → Option Anchor → Option Anchor → List ℕ
+edge mark a b c d = if (is_one a b && is_one a c) && is_one a d then [] else mark ∷ []
+
+-- what a cell with some room shows of its text: a blank, the first line, and blanks
+abbrev pub cell : List ℕ → ℕ → List ℕ
+cell text space = 32 ∷ first_line text ++ replicate (space - columns_in (first_line text) + 1) 32
+
+-- an owner begins in a column
+abbrev pub begins : ℕ → Option Anchor → Bool
+begins j None = false
+begins j (Some o) = o.0.col == j
+
+-- what an owner shows in a column: its text, if it begins there
+abbrev pub inside : List ℕ → ℕ → Option Anchor → List ℕ → List ℕ
+inside edges j None text = []
+inside edges j (Some o) text = if o.0.col == j then cell text (slice_index_or edges (j + o.1.1) 0 - slice_index_or edges j 0 - 3) else []
+
+-- what stands in a column, in a row or between two
+abbrev pub column : List ℕ → ℕ → Option Anchor → Option Anchor → List ℕ → List ℕ
+column edges j a b text = if is_one a b then inside edges j a text else replicate (slice_index_or edges (j + 1) 0 - slice_index_or edges j 0 - 1) 45
+
+-- what is left of the text in a column, once a line is drawn
+abbrev pub left_of : ℕ → Option Anchor → Option Anchor → List ℕ → List ℕ
+left_of j a b text = if is_one a b && begins j a then after_line text else text
+
+-- an edge and the column after it
+abbrev pub stretches : ℕ → List ℕ → List (Option Anchor) → List (Option Anchor) → List (List ℕ) → ℕ → List ℕ
+stretches mark edges above below texts j =
+    edge mark (slice_index_or above j None) (slice_index_or above (j + 1) None) (slice_index_or below j None) (slice_index_or below (j + 1) None)
+    ++ column edges j (slice_index_or above (j + 1) None) (slice_index_or below (j + 1) None) (slice_index_or texts j [])
+
+-- a line in a row or between two, whose owners are known
+unfoldable pub drawn_line : ℕ → ℕ → List ℕ → List (Option Anchor) → List (Option Anchor) → List (List ℕ) → List ℕ
+drawn_line columns mark edges above below texts =
+    (each columns (stretches mark edges above below texts)
+    ++ edge mark (slice_index_or above columns None) (slice_index_or above (columns + 1) None) (slice_index_or below columns None) (slice_index_or below (columns + 1) None))
+    ++ (10 ∷ [])
+
+-- the owners of a row have ends inside the table
+pub record EndInside (columns : ℕ) (row : List (Option Anchor)) : Type 0 where
+  pub each : (j : ℕ) (o : Anchor) → j < columns → slice_index_or row (j + 1) None ≡ Some o → o.0.col ≡ j → j + o.1.1 < columns + 1
+
+-- in each column, the lines that are left are those from the n-th of the picture on of the owner in row i that begins there
+pub record AreLeft (g : Grid (List ℕ)) (m : SpanMap) (i n : ℕ) (texts : List (List ℕ)) : Type 0 where
+  pub each : (j : ℕ) (o : Anchor) → j < g.columns → owner g.rows g.columns (entries m) i (j + 1) ≡ Some o → o.0.col ≡ j → (y : ℕ) → slice_index_or (lines_of (slice_index_or texts j [])) y [] ≡ slice_index_or (lines_of (text_at g o.0)) (n - top g (entries m) o.0.row - 1 + y) []

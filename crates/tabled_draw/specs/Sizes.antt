@@ -36,19 +36,23 @@ start axis sizes k = sum_by (λ size. size + gap axis) (take k sizes)
 abbrev pub room : Axis → List ℕ → ℕ → ℕ → ℕ
 room axis sizes at n = start axis sizes (at + n) - start axis sizes at - gap axis
 
--- the sizes, of which the last one of a merged cell has grown by what its text lacks
-abbrev pub grown : Axis → Grid (List ℕ) → List ℕ → Anchor → List ℕ
-grown axis g sizes e =
-    let at = line_of axis e.0 in
-    let n = lines_in axis e.1 in
+-- the sizes, of which the last of n from one on has grown by what they lack
+abbrev pub grown : Axis → List ℕ → ℕ → ℕ → ℕ → List ℕ
+grown axis sizes at n need =
     let last = at + n - 1 in
-    slice_set sizes last (slice_index_or sizes last 0 + (asks axis (text_at g e.0) - room axis sizes at n))
+    slice_set sizes last (slice_index_or sizes last 0 + (need - room axis sizes at n))
 
--- what a text at a place asks of its row or column, if it is seen there and in no other
+-- the sizes, grown by what the text of a merged cell asks
+abbrev pub grown_for : Axis → Grid (List ℕ) → List ℕ → Anchor → List ℕ
+grown_for axis g sizes e = grown axis sizes (line_of axis e.0) (lines_in axis e.1) (asks axis (text_at g e.0))
+
+-- what the text at a place asks of its row or column, if its owner begins there and lies in no other
+abbrev pub own_of : Axis → Grid (List ℕ) → Anchor → Position → ℕ
+own_of axis g o p = if same_place o.0 p && (lines_in axis o.1 == 1) then asks axis (text_at g p) else 0
+
+-- the same, by the merged cells
 abbrev pub own : Axis → Grid (List ℕ) → List Anchor → Position → ℕ
-own axis g es p =
-    let o = owner_in es p in
-    if same_place o.0 p && (lines_in axis o.1 == 1) then asks axis (text_at g p) else 0
+own axis g es p = own_of axis g (owner_in es p) p
 
 -- the most that is asked of each row or column by texts that are seen in no other
 abbrev pub own_sizes : Axis → Grid (List ℕ) → List Anchor → List ℕ
@@ -56,7 +60,7 @@ own_sizes axis g es = each (count_along axis g) (λ k. largest (count_along (acr
 
 -- the heights of rows or the widths of columns: these, grown by one merged cell after another
 unfoldable pub sizes : Axis → Grid (List ℕ) → List Anchor → List ℕ
-sizes axis g es = fold (grown axis g) (own_sizes axis g es) es
+sizes axis g es = fold (grown_for axis g) (own_sizes axis g es) es
 
 -- the widths of columns
 abbrev pub widths : Grid (List ℕ) → List Anchor → List ℕ

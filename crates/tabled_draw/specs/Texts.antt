@@ -1,5 +1,5 @@
 -- Texts as a picture shows them: their lines, and the columns that these take.
-use Rattle.std.specs.Prelude.{◌+◌, ◌==◌, ◌&&◌, if◌then◌else◌, ℕ, List, chars, map, max, nat_le, nat_lt}
+use Rattle.std.specs.Prelude.{◌+◌, ◌==◌, ◌&&◌, if◌then◌else◌, ℕ, List, chars, false, map, max, nat_le, nat_lt}
 use Rattle.std.specs.List.{fold, slice_split, sum_by}
 use Rattle.std.specs.Option.{unwrap_or}
 use Rattle.unicode_width.specs.Width.{char_width}

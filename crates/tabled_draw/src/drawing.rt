@@ -7,7 +7,7 @@ ghost use Rattle.tabled_grid.specs.Grid.{map_grid};
 use crate::held::Held;
 use crate::layout::{edges, grow_all, raise_all};
 use crate::lines::write_line;
-use crate::owners::{Owner, clear, outside, write_owners};
+use crate::owners::{Owner, clear, owner_row, write_owners};
 use std::alloc::{AllocError, Global};
 use std::io::{self, Write};
 use std::marker::Model;
@@ -69,8 +69,8 @@ where
         let rows = records.count_rows();
         let columns = records.count_columns();
         let spans = cfg.fitting(alloc, rows, columns)?;
-        let mut above = outside(alloc, columns)?;
-        let mut here = outside(alloc, columns)?;
+        let mut above = owner_row(alloc, columns)?;
+        let mut here = owner_row(alloc, columns)?;
         let mut widths = vec![in alloc; 0; columns]?;
         let mut heights = vec![in alloc; 0; rows]?;
         raise_all(
@@ -115,18 +115,50 @@ where
         clear(&mut above);
         let mut next = 0;
         for i in 0..heights.len() {
-            next = write_owners(&spans, next, i, &above, &mut here);
-            write_line(writer, &mut held, b'+', &edges, &above, &here, &mut rests)?;
-            begin(records, i, &here, &mut rests);
-            for _ in 0..heights[i] {
-                write_line(writer, &mut held, b'|', &edges, &here, &here, &mut rests)?;
-            }
+            next = write_owners(records, &spans, next, i, &above, &mut here);
+            write_row(
+                writer,
+                &mut held,
+                records,
+                &spans,
+                &edges,
+                (i, heights[i]),
+                &above,
+                &here,
+                &mut rests,
+            )?;
             mem::swap(&mut above, &mut here);
         }
         clear(&mut here);
         write_line(writer, &mut held, b'+', &edges, &above, &here, &mut rests)?;
         held.send(writer)
     }
+}
+
+/// Writes the line above a row and the lines in it.
+fn write_row<'a, W, R>(
+    writer: &mut W,
+    held: &mut Held,
+    records: &'a R,
+    spans: &SpannedConfig,
+    edges: &[usize],
+    (i, height): (usize, usize),
+    above: &[Option<Owner>],
+    here: &[Option<Owner>],
+    rests: &mut Vec<&'a str>,
+) -> io::Result<()>
+where
+    W: Write,
+    R: Records + ExactRecords + PeekableRecords,
+    R::Cell: CellText,
+{
+    let _ = spans.anchors();
+    write_line(writer, held, b'+', edges, above, here, rests)?;
+    begin(records, i, here, rests);
+    for _ in 0..height {
+        write_line(writer, held, b'|', edges, here, here, rests)?;
+    }
+    Ok(())
 }
 
 /// Sets the texts whose cells begin in a row.
@@ -136,11 +168,18 @@ where
     R::Cell: CellText,
 {
     for j in 0..rests.len() {
-        let pos = Position { row: i, col: j };
-        if let Some((at, _)) = here[j + 1]
-            && at == pos
-        {
-            rests[j] = records.get_text(pos);
-        }
+        rests[j] = text_at(records, here[j + 1], Position { row: i, col: j }, rests[j]);
+    }
+}
+
+/// The text of a place, if its owner begins there, else another one.
+fn text_at<'a, R>(records: &'a R, owner: Option<Owner>, pos: Position, or: &'a str) -> &'a str
+where
+    R: Records + ExactRecords + PeekableRecords,
+    R::Cell: CellText,
+{
+    match owner {
+        Some((at, _)) if at == pos => records.get_text(pos),
+        _ => or,
     }
 }

@@ -1,6 +1,6 @@
 //! Bytes that are held until there are many to send.
 
-ghost use Rattle.std.specs.Prelude.{◌≡◌, ◌∷◌, [], IfOk, OnOk, replicate};
+ghost use Rattle.std.specs.Prelude.{◌≡◌, ◌≤◌, ◌<◌, ◌∷◌, [], IfOk, OnOk, length, replicate, take};
 ghost use Rattle.tabled_draw.specs.Sent.{Sends};
 
 use std::alloc::{AllocError, Global};
@@ -50,28 +50,37 @@ impl Held {
     pub(crate) fn push<W: Write>(&mut self, writer: &mut W, byte: u8) -> io::Result<()>
         ensures sends { OnOk result (Sends (W.contents writer.old) self.old (W.contents writer.new) self.new (byte ∷ [])) }
     {
-        if self.len == self.bytes.len() {
-            self.send(writer)?;
-        }
-        self.bytes[self.len] = byte;
-        self.len += 1;
-        Ok(())
+        self.repeat(writer, byte, 1)
     }
 
     /// Sends bytes, or holds them.
     pub(crate) fn write<W: Write>(&mut self, writer: &mut W, bytes: &[u8]) -> io::Result<()>
         ensures sends { OnOk result (Sends (W.contents writer.old) self.old (W.contents writer.new) self.new bytes.now) }
     {
-        if bytes.len() > self.bytes.len() - self.len {
-            self.send(writer)?;
-            if bytes.len() > self.bytes.len() {
-                return writer.write_all(bytes);
-            }
+        let mut rest = bytes;
+        while !rest.is_empty() {
+            let held = self.write_part(writer, rest)?;
+            rest = &rest[held..];
         }
-        let end = self.len + bytes.len();
-        self.bytes[self.len..end].copy_from_slice(bytes);
-        self.len = end;
         Ok(())
+    }
+
+    /// Sends what is held, if there is no room, and then holds the first bytes of some, of which it tells the number.
+    fn write_part<W: Write>(&mut self, writer: &mut W, bytes: &[u8]) -> io::Result<usize>
+        requires { 0 < length bytes.now }
+        ensures some { IfOk result (λ n. 0 < n) }
+        ensures within { IfOk result (λ n. n ≤ length bytes.now) }
+        ensures sends { IfOk result (λ n. Sends (W.contents writer.old) self.old (W.contents writer.new) self.new (take n bytes.now)) }
+    {
+        if self.len == self.bytes.len() {
+            writer.write_all(&self.bytes)?;
+            self.len = 0;
+        }
+        let n = bytes.len().min(self.bytes.len() - self.len);
+        let end = self.len + n;
+        self.bytes[self.len..end].copy_from_slice(&bytes[..n]);
+        self.len = end;
+        Ok(n)
     }
 
     /// Sends a byte many times, or holds it as often.
@@ -84,18 +93,27 @@ impl Held {
         ensures sends { OnOk result (Sends (W.contents writer.old) self.old (W.contents writer.new) self.new (replicate count byte)) }
     {
         let mut left = count;
-        while left > self.bytes.len() - self.len {
-            left -= self.bytes.len() - self.len;
-            self.fill(byte, self.bytes.len());
-            self.send(writer)?;
+        while left > 0 {
+            left -= self.repeat_part(writer, byte, left)?;
         }
-        self.fill(byte, self.len + left);
         Ok(())
     }
 
-    /// Holds a byte as often as there is room up to an end.
-    fn fill(&mut self, byte: u8, end: usize) {
+    /// Sends what is held, if there is no room, and then holds a byte at most so many times, and tells how often.
+    fn repeat_part<W: Write>(&mut self, writer: &mut W, byte: u8, most: usize) -> io::Result<usize>
+        requires { 0 < most }
+        ensures some { IfOk result (λ n. 0 < n) }
+        ensures within { IfOk result (λ n. n ≤ most) }
+        ensures sends { IfOk result (λ n. Sends (W.contents writer.old) self.old (W.contents writer.new) self.new (replicate n byte)) }
+    {
+        if self.len == self.bytes.len() {
+            writer.write_all(&self.bytes)?;
+            self.len = 0;
+        }
+        let n = most.min(self.bytes.len() - self.len);
+        let end = self.len + n;
         self.bytes[self.len..end].fill(byte);
         self.len = end;
+        Ok(n)
     }
 }

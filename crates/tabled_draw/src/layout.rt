@@ -1,15 +1,25 @@
 //! How wide columns and how high rows are.
 
-ghost use Rattle.std.specs.Prelude.{◌≡◌, ◌+◌, ◌<◌, ◌≤◌, ℕ, IfOk, OnOk, Some, length, max, slice_index_or};
+ghost use Rattle.std.specs.Prelude.{◌≡◌, ◌+◌, ◌<◌, ◌≤◌, ℕ, IfOk, OnOk, length, slice_index_or};
+ghost use Rattle.std.specs.FinMap.{entries};
+ghost use Rattle.std.specs.List.{fold};
+ghost use Rattle.tabled_draw.specs.Measured.{Measured, raised};
+ghost use Rattle.tabled_draw.specs.OwnerRows.{IsOwnerRow};
+ghost use Rattle.tabled_draw.specs.Sizes.{gap, grown, grown_for, own_sizes, start};
+ghost use Rattle.tabled_grid.specs.Along.{count_along};
+ghost use Rattle.tabled_grid.specs.Axis.{line_of};
+ghost use Rattle.tabled_grid.specs.Grid.{IsInside, map_grid};
+ghost use Rattle.tabled_grid.specs.Rectangles.{Fits};
+ghost use Rattle.tabled_grid.specs.declared.records.axis.Axis.TheVariants.{Rows, Columns};
 
-use crate::owners::{Owner, write_owners};
+use crate::owners::{Owner, clear, write_owners};
 use crate::texts::asked;
 use std::alloc::{AllocError, Global};
 use std::mem;
 use tabled_grid::config::{Position, SpannedConfig};
 use tabled_grid::records::{Axis, CellText, ExactRecords, PeekableRecords, Records};
 
-/// Raises sizes to what the texts ask that are seen in one row, or in one column.
+/// Raises sizes, which are 0, to what the texts ask that are seen in one row, or in one column.
 pub(crate) fn raise_all<R>(
     records: &R,
     spans: &SpannedConfig,
@@ -21,21 +31,56 @@ pub(crate) fn raise_all<R>(
 where
     R: Records + ExactRecords + PeekableRecords,
     R::Cell: CellText,
+    requires well { R.is_well_formed records.now }
+    requires fits { Fits spans.now ((R.grid records.now).rows) ((R.grid records.now).columns) }
+    requires above { length above.old.items ≡ (R.grid records.now).columns + 2 }
+    requires here { length here.old.items ≡ (R.grid records.now).columns + 2 }
+    requires widths { Measured Columns (map_grid R.Cell.text_of (R.grid records.now)) (entries spans.now) 0 0 widths.old.items }
+    requires heights { Measured Rows (map_grid R.Cell.text_of (R.grid records.now)) (entries spans.now) 0 0 heights.old.items }
+    ensures above { length above.new.items ≡ (R.grid records.now).columns + 2 }
+    ensures here { length here.new.items ≡ (R.grid records.now).columns + 2 }
+    ensures widths { OnOk result (widths.new.items ≡ own_sizes Columns (map_grid R.Cell.text_of (R.grid records.now)) (entries spans.now)) }
+    ensures heights { OnOk result (heights.new.items ≡ own_sizes Rows (map_grid R.Cell.text_of (R.grid records.now)) (entries spans.now)) }
 {
+    clear(above);
     let mut next = 0;
     for i in 0..records.count_rows() {
-        next = write_owners(spans, next, i, above, here);
-        for j in 0..records.count_columns() {
-            let pos = Position { row: i, col: j };
-            raise(records, Axis::Columns, here[j + 1], pos, widths)?;
-            raise(records, Axis::Rows, here[j + 1], pos, heights)?;
-        }
+        next = write_owners(records, spans, next, i, above, here);
+        raise_row(records, spans, i, here, widths, heights)?;
         mem::swap(above, here);
     }
     Ok(())
 }
 
-/// Raises a size to what a text asks, if it is seen there and in no other row, or column.
+/// Raises sizes to what the texts of a row ask.
+fn raise_row<R>(
+    records: &R,
+    spans: &SpannedConfig,
+    i: usize,
+    here: &Vec<Option<Owner>>,
+    widths: &mut Vec<usize>,
+    heights: &mut Vec<usize>,
+) -> Result<(), AllocError>
+where
+    R: Records + ExactRecords + PeekableRecords,
+    R::Cell: CellText,
+    requires well { R.is_well_formed records.now }
+    requires row { i < (R.grid records.now).rows }
+    requires here { IsOwnerRow ((R.grid records.now).rows) ((R.grid records.now).columns) spans.now (i + 1) here.now.items }
+    requires widths { Measured Columns (map_grid R.Cell.text_of (R.grid records.now)) (entries spans.now) i 0 widths.old.items }
+    requires heights { Measured Rows (map_grid R.Cell.text_of (R.grid records.now)) (entries spans.now) i 0 heights.old.items }
+    ensures widths { OnOk result (Measured Columns (map_grid R.Cell.text_of (R.grid records.now)) (entries spans.now) (i + 1) 0 widths.new.items) }
+    ensures heights { OnOk result (Measured Rows (map_grid R.Cell.text_of (R.grid records.now)) (entries spans.now) (i + 1) 0 heights.new.items) }
+{
+    for j in 0..records.count_columns() {
+        let pos = Position { row: i, col: j };
+        raise(records, Axis::Columns, here[j + 1], pos, widths)?;
+        raise(records, Axis::Rows, here[j + 1], pos, heights)?;
+    }
+    Ok(())
+}
+
+/// Raises a size to what a text asks, if its owner begins there and lies in no other row, or column.
 fn raise<R>(
     records: &R,
     axis: Axis,
@@ -46,11 +91,15 @@ fn raise<R>(
 where
     R: Records + ExactRecords + PeekableRecords,
     R::Cell: CellText,
+    requires well { R.is_well_formed records.now }
+    requires inside { IsInside (R.grid records.now) pos }
+    requires line { line_of axis pos < length sizes.old.items }
+    ensures raised { OnOk result (sizes.new.items ≡ raised axis (map_grid R.Cell.text_of (R.grid records.now)) sizes.old.items owner pos) }
 {
-    let Some((at, size)) = owner else {
-        return Ok(());
-    };
-    if at == pos && axis.lines_in(size) == 1 {
+    if let Some((at, size)) = owner
+        && at == pos
+        && axis.lines_in(size) == 1
+    {
         let line = axis.line_of(pos);
         sizes[line] = sizes[line].max(asked(axis, records.get_text(pos))?);
     }
@@ -67,6 +116,11 @@ pub(crate) fn grow_all<R>(
 where
     R: Records + ExactRecords + PeekableRecords,
     R::Cell: CellText,
+    requires well { R.is_well_formed records.now }
+    requires fits { Fits spans.now ((R.grid records.now).rows) ((R.grid records.now).columns) }
+    requires long { length sizes.old.items ≡ count_along axis (R.grid records.now) }
+    ensures long { OnOk result (length sizes.new.items ≡ count_along axis (R.grid records.now)) }
+    ensures grown { OnOk result (sizes.new.items ≡ fold (grown_for axis (map_grid R.Cell.text_of (R.grid records.now))) sizes.old.items (entries spans.now)) }
 {
     let anchors = spans.anchors();
     for k in 0..anchors.len() {
@@ -78,7 +132,9 @@ where
 }
 
 /// What stands after each column or row.
-fn gap(axis: Axis) -> usize {
+fn gap(axis: Axis) -> usize
+    ensures { result ≡ gap axis }
+{
     match axis {
         Axis::Rows => 1,
         Axis::Columns => 3,
@@ -92,21 +148,26 @@ fn grow(
     at: usize,
     n: usize,
     need: usize,
-) -> Result<(), AllocError> {
+) -> Result<(), AllocError>
+    requires some { 1 ≤ n }
+    requires end { at + n ≤ length sizes.old.items }
+    ensures grown { OnOk result (sizes.new.items ≡ grown axis sizes.old.items at n need) }
+{
+    let gap = gap(axis);
     let mut room = 0;
     for k in at..at + n {
-        room = plus(plus(room, sizes[k])?, gap(axis))?;
+        room = plus(plus(room, sizes[k])?, gap)?;
     }
     let last = at + n - 1;
-    sizes[last] = plus(
-        sizes[last],
-        need.saturating_sub(room.saturating_sub(gap(axis))),
-    )?;
+    sizes[last] = plus(sizes[last], need.saturating_sub(room.saturating_sub(gap)))?;
     Ok(())
 }
 
 /// Where the left edge of each column stands, and the last edge.
-pub(crate) fn edges(alloc: Global, widths: &[usize]) -> Result<Vec<usize>, AllocError> {
+pub(crate) fn edges(alloc: Global, widths: &[usize]) -> Result<Vec<usize>, AllocError>
+    ensures long { IfOk result (λ edges. length edges.items ≡ length widths.now + 1) }
+    ensures each { IfOk result (λ edges. (k : ℕ) → k < length widths.now + 1 → slice_index_or edges.items k 0 ≡ start Columns widths.now k) }
+{
     let mut edges = Vec::new(alloc);
     let mut edge = 0;
     edges.push(edge)?;
@@ -121,5 +182,8 @@ pub(crate) fn edges(alloc: Global, widths: &[usize]) -> Result<Vec<usize>, Alloc
 fn plus(a: usize, b: usize) -> Result<usize, AllocError>
     ensures { IfOk result (λ sum. sum ≡ a + b) }
 {
-    a.checked_add(b).ok_or(AllocError)
+    let Some(sum) = a.checked_add(b) else {
+        return Err(AllocError);
+    };
+    Ok(sum)
 }

@@ -6,8 +6,8 @@ mod held;
 mod layout;
 mod lines;
 mod owners;
-mod picture;
+mod pictures;
 mod texts;
 
 pub use drawing::Drawing;
-pub use picture::{draw, picture};
+pub use pictures::{draw, picture};

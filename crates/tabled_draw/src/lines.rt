@@ -1,5 +1,11 @@
 //! The lines of a picture.
 
+ghost use Rattle.std.specs.Prelude.{◌≡◌, ◌+◌, ◌<◌, ◌≤◌, ℕ, IfOk, None, OnOk, Some, length, map, slice_index_or, []};
+ghost use Rattle.tabled_draw.specs.Lines.{EndInside, column, drawn_line, edge, left_of};
+ghost use Rattle.tabled_draw.specs.Owners.{is_one};
+ghost use Rattle.tabled_draw.specs.Sent.{Draws};
+ghost use Rattle.tabled_grid.specs.Anchors.{Anchor};
+
 use crate::held::Held;
 use crate::owners::{Owner, is_one};
 use crate::texts::write_cell;
@@ -15,7 +21,15 @@ pub(crate) fn write_line<'a, W: Write>(
     above: &[Option<Owner>],
     below: &[Option<Owner>],
     rests: &mut Vec<&'a str>,
-) -> io::Result<()> {
+) -> io::Result<()>
+    requires above { length above.now ≡ length rests.old.items + 2 }
+    requires below { length below.now ≡ length rests.old.items + 2 }
+    requires edges { length edges.now ≡ length rests.old.items + 1 }
+    requires inside { EndInside (length rests.old.items) above.now }
+    ensures long { length rests.new.items ≡ length rests.old.items }
+    ensures draws { OnOk result (Draws (W.contents writer.old) held.old (W.contents writer.new) held.new (drawn_line (length rests.old.items) mark edges.now above.now below.now (map (λ r. r.now) rests.old.items))) }
+    ensures rests { OnOk result ((j : ℕ) → j < length rests.old.items → slice_index_or (map (λ r. r.now) rests.new.items) j [] ≡ left_of j (slice_index_or above.now (j + 1) None) (slice_index_or below.now (j + 1) None) (slice_index_or (map (λ r. r.now) rests.old.items) j [])) }
+{
     let columns = rests.len();
     for j in 0..columns {
         write_edge(
@@ -44,7 +58,9 @@ fn write_edge<W: Write>(
     mark: u8,
     above: (Option<Owner>, Option<Owner>),
     below: (Option<Owner>, Option<Owner>),
-) -> io::Result<()> {
+) -> io::Result<()>
+    ensures { OnOk result (Draws (W.contents writer.old) held.old (W.contents writer.new) held.new (edge mark above.0 above.1 below.0 below.1)) }
+{
     let first = above.0;
     if is_one(first, above.1) && is_one(first, below.0) && is_one(first, below.1) {
         return Ok(());
@@ -61,14 +77,24 @@ fn write_column<'a, W: Write>(
     above: Option<Owner>,
     below: Option<Owner>,
     rest: &'a str,
-) -> io::Result<&'a str> {
+) -> io::Result<&'a str>
+    requires col { j + 1 < length edges.now }
+    requires end { (o : Anchor) → above ≡ Some o → o.0.col ≡ j → j + o.1.1 < length edges.now }
+    ensures draws { OnOk result (Draws (W.contents writer.old) held.old (W.contents writer.new) held.new (column edges.now j above below rest.now)) }
+    ensures rest { IfOk result (λ left. left.now ≡ left_of j above below rest.now) }
+{
     if !is_one(above, below) {
-        held.repeat(writer, b'-', edges[j + 1] - edges[j] - 1)?;
+        held.repeat(
+            writer,
+            b'-',
+            edges[j + 1].saturating_sub(edges[j]).saturating_sub(1),
+        )?;
         return Ok(rest);
     }
     match above {
         Some((at, (_, width))) if at.col == j => {
-            write_cell(writer, held, rest, edges[j + width] - edges[j] - 3)
+            let room = edges[j + width].saturating_sub(edges[j]).saturating_sub(3);
+            write_cell(writer, held, rest, room)
         }
         _ => Ok(rest),
     }

@@ -1,15 +1,24 @@
 //! The merged cells that hold the places of a row.
 
-ghost use Rattle.std.specs.Prelude.{◌≡◌};
+ghost use Rattle.std.specs.Prelude.{◌≡◌, ◌+◌, ◌<◌, ◌≤◌, ℕ, IfOk, None, length, slice_index_or};
+ghost use Rattle.std.specs.FinMap.{entries};
+ghost use Rattle.tabled_draw.specs.OwnerRows.{IsOwnerRow, chosen, count_before};
+ghost use Rattle.tabled_draw.specs.Owners.{is_one};
+ghost use Rattle.tabled_grid.specs.Entity.{place};
+ghost use Rattle.tabled_grid.specs.Rectangles.{Fits, in_rect};
+ghost use Rattle.tabled_grid.specs.Spans.{size_at};
 
 use std::alloc::{AllocError, Global};
 use tabled_grid::config::{Position, SpannedConfig};
+use tabled_grid::records::{ExactRecords, Records};
 
 /// A cell or a merged cell: its first place, and its height and width.
 pub(crate) type Owner = (Position, (usize, usize));
 
-/// The owners of the places of a row outside the table, with one more at both sides.
-pub(crate) fn outside(alloc: Global, columns: usize) -> Result<Vec<Option<Owner>>, AllocError> {
+/// Room for the owners of the places of a row, with one more at both sides.
+pub(crate) fn owner_row(alloc: Global, columns: usize) -> Result<Vec<Option<Owner>>, AllocError>
+    ensures { IfOk result (λ row. length row.items ≡ columns + 2) }
+{
     let mut row = Vec::new(alloc);
     row.push(None)?;
     for _ in 0..columns {
@@ -20,45 +29,70 @@ pub(crate) fn outside(alloc: Global, columns: usize) -> Result<Vec<Option<Owner>
 }
 
 /// Makes a row one outside the table.
-pub(crate) fn clear(row: &mut Vec<Option<Owner>>) {
+pub(crate) fn clear(row: &mut Vec<Option<Owner>>)
+    ensures long { length row.new.items ≡ length row.old.items }
+    ensures none { (j : ℕ) → slice_index_or row.new.items j None ≡ None }
+{
     for j in 0..row.len() {
         row[j] = None;
     }
 }
 
-/// Writes the owners of the places of row i, where those of the row above are known and the anchors before the
-/// `next`-th stand in rows above. Gives the number of the anchors up to the end of the row.
-pub(crate) fn write_owners(
+/// Writes the owners of the places of row i, with none on both sides. The owners of the row above are known, and that
+/// `next` anchors stand in rows above. Gives the number of those up to the end of this row.
+pub(crate) fn write_owners<R>(
+    records: &R,
     spans: &SpannedConfig,
     next: usize,
     i: usize,
     above: &Vec<Option<Owner>>,
     here: &mut Vec<Option<Owner>>,
-) -> usize {
-    let anchors = spans.anchors();
+) -> usize
+where
+    R: Records + ExactRecords,
+    requires well { R.is_well_formed records.now }
+    requires fits { Fits spans.now ((R.grid records.now).rows) ((R.grid records.now).columns) }
+    requires row { i < (R.grid records.now).rows }
+    requires next { next ≡ count_before (place i 0) (entries spans.now) }
+    requires above { IsOwnerRow ((R.grid records.now).rows) ((R.grid records.now).columns) spans.now i above.now.items }
+    requires long { length here.old.items ≡ (R.grid records.now).columns + 2 }
+    ensures here { IsOwnerRow ((R.grid records.now).rows) ((R.grid records.now).columns) spans.now (i + 1) here.new.items }
+    ensures next { result ≡ count_before (place (i + 1) 0) (entries spans.now) }
+{
     let mut next = next;
-    for j in 0..here.len() - 2 {
+    let columns = records.count_columns();
+    here[0] = None;
+    for j in 0..columns {
         let pos = Position { row: i, col: j };
-        let owner = owner_of(here[j], above[j + 1], anchor_at(anchors, next, pos), pos);
-        if next < anchors.len() && anchors[next].0 == pos {
-            next += 1;
-        }
-        here[j + 1] = Some(owner);
+        let (begins, after) = next_at(spans, next, pos);
+        here[j + 1] = Some(owner_of(here[j], above[j + 1], begins, pos));
+        next = after;
     }
+    here[columns + 1] = None;
     next
 }
 
-/// The next anchor, if it is at a place, else the place itself.
-fn anchor_at(anchors: &[Owner], next: usize, pos: Position) -> Owner {
-    if next < anchors.len() && anchors[next].0 == pos {
-        anchors[next]
-    } else {
-        (pos, (1, 1))
+/// What begins at a place, where `next` anchors stand before it: the next anchor, if it is here, else the place itself.
+/// Tells how many anchors stand up to the place.
+fn next_at(spans: &SpannedConfig, next: usize, pos: Position) -> (Owner, usize)
+    requires { next ≡ count_before pos (entries spans.now) }
+    ensures begins { result.0 ≡ (pos, size_at spans.now pos) }
+    ensures next { result.1 ≡ count_before (place pos.row (pos.col + 1)) (entries spans.now) }
+{
+    let anchors = spans.anchors();
+    if next < anchors.len() {
+        let (at, size) = anchors[next];
+        if at == pos {
+            return ((pos, size), next + 1);
+        }
     }
+    ((pos, (1, 1)), next)
 }
 
 /// The owner of a place: that of the place before or above, if it holds this one too, else the one that begins here.
-fn owner_of(before: Option<Owner>, above: Option<Owner>, begins: Owner, pos: Position) -> Owner {
+fn owner_of(before: Option<Owner>, above: Option<Owner>, begins: Owner, pos: Position) -> Owner
+    ensures { result ≡ chosen before above begins pos }
+{
     if let Some(owner) = before
         && holds(owner, pos)
     {
@@ -73,13 +107,17 @@ fn owner_of(before: Option<Owner>, above: Option<Owner>, begins: Owner, pos: Pos
 }
 
 /// Says whether a rectangle holds a place.
-fn holds(owner: Owner, pos: Position) -> bool {
+fn holds(owner: Owner, pos: Position) -> bool
+    ensures { result ≡ in_rect owner.0 owner.1 pos }
+{
     let (at, (height, width)) = owner;
     at.row <= pos.row && pos.row - at.row < height && at.col <= pos.col && pos.col - at.col < width
 }
 
 /// Says whether two places have one owner, which none outside the table have.
-pub(crate) fn is_one(a: Option<Owner>, b: Option<Owner>) -> bool {
+pub(crate) fn is_one(a: Option<Owner>, b: Option<Owner>) -> bool
+    ensures { result ≡ is_one a b }
+{
     match (a, b) {
         (Some(a), Some(b)) => a.0.row == b.0.row && a.0.col == b.0.col,
         _ => false,

@@ -1,8 +1,8 @@
 //! Lines of texts, and how wide they are.
 
-ghost use Rattle.std.specs.Prelude.{◌≡◌, ◌-◌, IfOk, OnOk, IsTrue, chars, encode_utf8_all, length, slice_index_or, []};
-ghost use Rattle.tabled_draw.specs.Sent.{Sends};
-ghost use Rattle.tabled_draw.specs.Lines.{after_line, first_line};
+ghost use Rattle.std.specs.Prelude.{◌≡◌, ◌∷◌, ◌-◌, IfOk, OnOk, IsTrue, encode_utf8_all, length, []};
+ghost use Rattle.tabled_draw.specs.Sent.{Draws};
+ghost use Rattle.tabled_draw.specs.Lines.{after_line, cell, first_line};
 ghost use Rattle.tabled_draw.specs.Sizes.{asks};
 ghost use Rattle.tabled_draw.specs.Texts.{columns_in, lines_of, shown, shown_line, widest};
 
@@ -93,19 +93,27 @@ pub(crate) fn write_cell<'a, W: Write>(
     held: &mut Held,
     text: &'a str,
     room: usize,
-) -> io::Result<&'a str> {
+) -> io::Result<&'a str>
+    ensures draws { OnOk result (Draws (W.contents writer.old) held.old (W.contents writer.new) held.new (cell text.now room)) }
+    ensures rest { IfOk result (λ rest. rest.now ≡ after_line text.now) }
+{
     held.push(writer, b' ')?;
-    if is_plain(text) {
-        held.write(writer, text.as_bytes())?;
-        held.repeat(writer, b' ', room.saturating_sub(text.len()))?;
-        held.push(writer, b' ')?;
-        return Ok("");
-    }
-    let (line, rest) = text.split_once('\n').unwrap_or((text, ""));
+    let (line, rest) = cut(text);
     let left = write_shown(writer, held, line, room)?;
     held.repeat(writer, b' ', left)?;
     held.push(writer, b' ')?;
     Ok(rest)
+}
+
+/// The first line of a text, and the lines after it.
+fn cut(text: &str) -> (&str, &str)
+    ensures line { shown_line result.0.now ≡ first_line text.now }
+    ensures rest { result.1.now ≡ after_line text.now }
+{
+    if is_plain(text) {
+        return (text, "");
+    }
+    text.split_once('\n').unwrap_or((text, ""))
 }
 
 /// Writes a line as it is shown, and gives what it leaves of the room.
@@ -114,7 +122,10 @@ fn write_shown<W: Write>(
     held: &mut Held,
     line: &str,
     room: usize,
-) -> io::Result<usize> {
+) -> io::Result<usize>
+    ensures draws { OnOk result (Draws (W.contents writer.old) held.old (W.contents writer.new) held.new (shown_line line.now)) }
+    ensures left { IfOk result (λ left. left ≡ room - columns_in (shown_line line.now)) }
+{
     if is_plain(line) {
         held.write(writer, line.as_bytes())?;
         return Ok(room.saturating_sub(line.len()));
