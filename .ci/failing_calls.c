@@ -3,6 +3,7 @@
    CALL    the kind of call that fails: allocation, read or write
    NUMBER  which of them, from 1
    ERROR   the errno of the failed read or write
+   INTERRUPTED which read is interrupted, besides, from 1
    AT_MOST how many bytes a read or a write moves
 
    At the end "ALLOCATIONS READS WRITES HELD" goes to the descriptor 9: how often each was called, and how many
@@ -23,6 +24,7 @@ enum { ALLOCATION, READ, WRITE, KINDS };
 static const char *const names[KINDS] = {"allocation", "read", "write"};
 static long calls[KINDS], named[KINDS], held;
 static size_t at_most = -1;
+static long interrupted;
 static int error, counts;
 
 static long number_in(const char *name, long otherwise) {
@@ -35,6 +37,7 @@ __attribute__((constructor)) static void begin(void) {
     for (int i = 0; i < KINDS; i++)
         if (kind && !strcmp(kind, names[i])) named[i] = number_in("NUMBER", 0);
     error = number_in("ERROR", EIO);
+    interrupted = number_in("INTERRUPTED", 0);
     at_most = number_in("AT_MOST", -1);
     counts = 1;
 }
@@ -67,6 +70,7 @@ void free(void *old) {
 
 ssize_t read(int file, void *bytes, size_t size) {
     if (fails(READ)) return errno = error, -1;
+    if (counts && calls[READ] == interrupted) return errno = EINTR, -1;
     return syscall(SYS_read, file, bytes, size < at_most ? size : at_most);
 }
 

@@ -1,1 +1,3 @@
--- proofs
+pub mod Before
+pub mod Owned
+pub mod Sent

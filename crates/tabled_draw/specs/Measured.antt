@@ -1,6 +1,7 @@
 -- Sizes, as far as texts have been asked, row by row.
-use Rattle.std.specs.Prelude.{◌≡◌, ◌<◌, ◌==◌, ◌&&◌, ◌||◌, if◌then◌else◌, ℕ, Bool, List, Option, None, Some, length, max, nat_lt, slice_index_or, slice_set}
+use Rattle.std.specs.Prelude.{◌≡◌, ◌<◌, if◌then◌else◌, ℕ, List, Option, None, Some, length, max, slice_index_or, slice_set}
 use Rattle.tabled_draw.specs.Each.{largest}
+use Rattle.tabled_draw.specs.OwnerRows.{is_before}
 use Rattle.tabled_draw.specs.Sizes.{own, own_of}
 use Rattle.tabled_grid.specs.Along.{count_along}
 use Rattle.tabled_grid.specs.Anchors.{Anchor}
@@ -8,10 +9,6 @@ use Rattle.tabled_grid.specs.Axis.{across, line_of, place_in}
 use Rattle.tabled_grid.specs.Grid.{Grid}
 use Rattle.tabled_grid.specs.declared.config.position.Position.{Position}
 use Rattle.tabled_grid.specs.declared.records.axis.Axis.{Axis}
-
--- a place stands before row i's column j, row by row
-abbrev pub is_before : ℕ → ℕ → Position → Bool
-is_before i j p = nat_lt p.row i || ((p.row == i) && nat_lt p.col j)
 
 -- the most that is asked by the texts before row i's column j
 pub record Measured (axis : Axis) (g : Grid (List ℕ)) (es : List Anchor) (i j : ℕ) (sizes : List ℕ) : Type 0 where

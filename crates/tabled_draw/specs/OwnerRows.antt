@@ -1,12 +1,11 @@
 -- Rows of owners, and the anchors up to a place.
-use Rattle.std.specs.Prelude.{◌≡◌, ◌+◌, ◌<◌, ℕ, Bool, false, if◌then◌else◌, List, [], ◌∷◌, Option, None, Some, length, slice_index_or, suc}
+use Rattle.std.specs.Prelude.{◌≡◌, ◌+◌, ◌<◌, ◌==◌, ◌&&◌, ◌||◌, ℕ, Bool, false, if◌then◌else◌, List, [], ◌∷◌, Option, None, Some, length, nat_lt, slice_index_or, suc}
 use Rattle.std.specs.FinMap.{entries}
-use Rattle.std.specs.Ordering.{is_lt}
 use Rattle.std.specs.Option.{unwrap_or}
 use Rattle.tabled_draw.specs.Owners.{owner}
 use Rattle.tabled_grid.specs.Anchors.{Anchor}
 use Rattle.tabled_grid.specs.Rectangles.{in_rect}
-use Rattle.tabled_grid.specs.Spans.{SpanMap, position_cmp}
+use Rattle.tabled_grid.specs.Spans.{SpanMap}
 use Rattle.tabled_grid.specs.declared.config.position.Position.{Position}
 
 -- the owners of the places of a row, which counts from 1, with none on both sides
@@ -14,10 +13,14 @@ pub record IsOwnerRow (rows columns : ℕ) (m : SpanMap) (i : ℕ) (row : List (
   pub long : length row ≡ columns + 2
   pub each : (j : ℕ) → j < columns + 2 → slice_index_or row j None ≡ owner rows columns (entries m) i j
 
--- how many of the first anchors of a list stand before a place, row by row
-abbrev pub count_before : Position → List Anchor → ℕ
-count_before p [] = 0
-count_before p (e ∷ es) = if is_lt (position_cmp e.0 p) then suc (count_before p es) else 0
+-- a place stands before row i's column j, row by row
+abbrev pub is_before : ℕ → ℕ → Position → Bool
+is_before i j p = nat_lt p.row i || ((p.row == i) && nat_lt p.col j)
+
+-- how many of the first anchors of a list stand before row i's column j
+abbrev pub count_before : ℕ → ℕ → List Anchor → ℕ
+count_before i j [] = 0
+count_before i j (e ∷ es) = if is_before i j e.0 then suc (count_before i j es) else 0
 
 -- an owner's rectangle holds a place
 abbrev pub is_held_by : Option Anchor → Position → Bool

@@ -97,7 +97,7 @@ where
 
     /// Writes the picture.
     pub fn write<W: Write>(self, writer: &mut W) -> io::Result<()>
-        ensures written { OnOk result (Appends (W.contents writer.old) (W.contents writer.new) self) }
+        ensures written { OnOk result (Appends (W.contents writer.old) (W.contents writer.new) self.entry) }
     {
         let Drawing {
             records,

@@ -4,7 +4,6 @@ ghost use Rattle.std.specs.Prelude.{◌≡◌, ◌+◌, ◌<◌, ◌≤◌, ℕ,
 ghost use Rattle.std.specs.FinMap.{entries};
 ghost use Rattle.tabled_draw.specs.OwnerRows.{IsOwnerRow, chosen, count_before};
 ghost use Rattle.tabled_draw.specs.Owners.{is_one};
-ghost use Rattle.tabled_grid.specs.Entity.{place};
 ghost use Rattle.tabled_grid.specs.Rectangles.{Fits, in_rect};
 ghost use Rattle.tabled_grid.specs.Spans.{size_at};
 
@@ -53,11 +52,11 @@ where
     requires well { R.is_well_formed records.now }
     requires fits { Fits spans.now ((R.grid records.now).rows) ((R.grid records.now).columns) }
     requires row { i < (R.grid records.now).rows }
-    requires next { next ≡ count_before (place i 0) (entries spans.now) }
+    requires next { next ≡ count_before i 0 (entries spans.now) }
     requires above { IsOwnerRow ((R.grid records.now).rows) ((R.grid records.now).columns) spans.now i above.now.items }
     requires long { length here.old.items ≡ (R.grid records.now).columns + 2 }
     ensures here { IsOwnerRow ((R.grid records.now).rows) ((R.grid records.now).columns) spans.now (i + 1) here.new.items }
-    ensures next { result ≡ count_before (place (i + 1) 0) (entries spans.now) }
+    ensures next { result ≡ count_before (i + 1) 0 (entries spans.now) }
 {
     let mut next = next;
     let columns = records.count_columns();
@@ -75,9 +74,9 @@ where
 /// What begins at a place, where `next` anchors stand before it: the next anchor, if it is here, else the place itself.
 /// Tells how many anchors stand up to the place.
 fn next_at(spans: &SpannedConfig, next: usize, pos: Position) -> (Owner, usize)
-    requires { next ≡ count_before pos (entries spans.now) }
+    requires { next ≡ count_before pos.row pos.col (entries spans.now) }
     ensures begins { result.0 ≡ (pos, size_at spans.now pos) }
-    ensures next { result.1 ≡ count_before (place pos.row (pos.col + 1)) (entries spans.now) }
+    ensures next { result.1 ≡ count_before pos.row (pos.col + 1) (entries spans.now) }
 {
     let anchors = spans.anchors();
     if next < anchors.len() {

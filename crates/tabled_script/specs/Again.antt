@@ -1,7 +1,12 @@
 -- The output of a script, given to the program once more.
 use Rattle.std.specs.Prelude.{◌≡◌, Ok}
 use Rattle.tabled_language.specs.Line.{Script, parse}
-use Rattle.tabled_script.specs.Answer.{output_of}
+use Rattle.tabled_grid.specs.Rectangles.{Fits}
+use Rattle.tabled_script.specs.Answer.{ended, output_of}
+
+-- merged cells fit the table that a script ends with
+abbrev pub FitsAtEnd : Script → Type 0
+FitsAtEnd script = Fits (ended script).spans (ended script).texts.rows (ended script).texts.columns
 
 -- the output of a script is a script that has the same output
 pub record GivesAgain (script : Script) : Type 0 where

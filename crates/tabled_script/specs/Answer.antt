@@ -1,15 +1,14 @@
 -- What the program writes for a script.
-use Rattle.std.specs.Prelude.{ℕ, List, [], ◌∷◌, ◌++◌, codes}
+use Rattle.std.specs.Prelude.{◌≡◌, ℕ, List, [], ◌∷◌, ◌++◌, codes, Option, Ok, Err}
 use Rattle.std.specs.Fmt.{decimal}
+use Rattle.std.specs.Io.KnownBytes.{Appends}
 use Rattle.std.specs.List.{fold}
-use Rattle.tabled_grid.specs.Grid.{grid_of, map_items}
+use Rattle.tabled_draw.specs.Picture.{drawn}
 use Rattle.tabled_language.specs.Faults.{fault_number}
-use Rattle.tabled_language.specs.Lent.{bytes_of}
-use Rattle.tabled_language.specs.Line.{Script, start}
+use Rattle.tabled_language.specs.Line.{Script, parse, start}
 use Rattle.tabled_language.specs.declared.fault.Fault.{Fault}
 use Rattle.tabled_language.specs.Output.{print}
-use Rattle.tabled_script.specs.declared.output.Output.{Output}
-use Rattle.tabled_steps.specs.States.{State, state_of}
+use Rattle.tabled_steps.specs.States.{State}
 
 -- a state after changes, one after another
 abbrev pub changed : List (State → State) → State → State
@@ -23,9 +22,9 @@ ended script = changed script.steps (start script)
 abbrev pub output_of : Script → List ℕ
 output_of script = print (ended script)
 
--- the bytes of a table that is to be written
-abbrev pub bytes_of_table : Output → List ℕ
-bytes_of_table output = print (state_of bytes_of (grid_of (map_items output.records.items)) output.spans)
+-- the picture of a script: of the state that it ends with
+abbrev pub picture_of : Script → List ℕ
+picture_of script = drawn (ended script).texts (ended script).spans
 
 -- `line N: fault K`
 abbrev pub fault_line : ℕ × Fault → List ℕ
@@ -34,3 +33,11 @@ fault_line fault = codes "line " ++ (decimal fault.0 ++ (codes ": fault " ++ (de
 -- `out of memory`
 abbrev pub memory_line : List ℕ
 memory_line = codes "out of memory" ++ 10 ∷ []
+
+-- the table that a script ends with was written as these bytes, and this is known of it
+abbrev pub Shows : (State → List ℕ) → (State → Type 0) → List ℕ → Option (List ℕ) → Option (List ℕ) → Type 0
+Shows bytes known input old new = (script : Script) × (parse input ≡ Ok script) × Appends old new (bytes (ended script)) × known (ended script)
+
+-- the line of a script's first fault was written
+abbrev pub Faults : List ℕ → Option (List ℕ) → Option (List ℕ) → Type 0
+Faults input old new = (fault : ℕ × Fault) × (parse input ≡ Err fault) × Appends old new (fault_line fault)

@@ -3,14 +3,18 @@
 
 #[cfg(test)]
 mod gallery;
+mod form;
+mod held;
 pub mod laws;
 mod output;
+mod picture;
 mod program;
+mod respond;
 #[cfg(test)]
 mod streams;
 #[cfg(test)]
 mod tests;
 mod watched;
 
-pub use program::run_script;
+pub use program::{draw_script, run_script};
 pub use tabled_steps::{Select, Step, run};

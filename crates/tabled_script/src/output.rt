@@ -1,67 +1,67 @@
 //! How a table is written.
 
 ghost use Rattle.std.specs.FinMap.{entries};
-ghost use Rattle.std.specs.Fmt.{decimal};
-ghost use Rattle.std.specs.List.{flat_map};
-ghost use Rattle.std.specs.Prelude.{◌≡◌, [], ◌∷◌, ◌++◌, map, IsTrue, OnOk};
-ghost use Rattle.tabled_grid.specs.Grid.{IsEven, grid_of, map_grid, map_items};
+ghost use Rattle.std.specs.Io.KnownBytes.{Appends};
+ghost use Rattle.std.specs.List.{AllByRecursion, flat_map};
+ghost use Rattle.std.specs.Prelude.{◌≡◌, ◌≤◌, ◌*◌, [], ◌∷◌, ◌++◌, codes, length, map, OnOk, vec_capacity};
+ghost use Rattle.std.specs.Str.{IsUtf8};
+ghost use Rattle.tabled_grid.specs.Grid.{IsEven, grid_of, map_grid, map_items, width_of};
+ghost use Rattle.tabled_grid.specs.Rectangles.{Fits};
 ghost use Rattle.tabled_language.specs.Lent.{bytes_of};
-ghost use Rattle.tabled_language.specs.Output.{escaped, escaped_byte, line, span_line, table_lines};
-ghost use Rattle.tabled_script.specs.Sent.{Sends};
-ghost use Rattle.std.proofs.Props.{props};
+ghost use Rattle.tabled_language.specs.Output.{escaped, line, print, span_line, table_lines};
+ghost use Rattle.tabled_language.specs.RoundTrip.{IsTable};
+ghost use Rattle.tabled_language.specs.Word.{largest_size};
+ghost use Rattle.tabled_script.specs.Sent.{HasRoom, Sends};
+ghost use Rattle.tabled_steps.specs.States.{state_of};
 
-use std::alloc::AllocError;
+use crate::form::Form;
+use crate::held::{PART, ROOM, hold_byte, hold_bytes, hold_escaped, hold_numbers, send};
+use std::alloc::{AllocError, Global};
 use std::io::{self, Write};
-use tabled_grid::config::{Position, SpannedConfig};
+use tabled_grid::config::SpannedConfig;
 use tabled_grid::records::{CellText, ExactRecords, Records};
 use tabled_language::LentText;
 
-/// How many bytes are held before they are written.
-const PART: usize = 16_384;
+/// The lines of a table: its shape, its rows, and then its merged cells.
+pub(crate) struct Lines;
 
-/// Room for the bytes that are held: those of a part, and those of a further part, all of them escaped.
-pub(crate) const ROOM: usize = 4 * PART;
+impl Form for Lines {
+    ghost use Rattle.tabled_grid.specs.Rectangles.{Fits};
+    ghost use Rattle.tabled_language.specs.Output.{print};
+    ghost use Rattle.tabled_language.specs.RoundTrip.{IsTable};
 
-/// A table that is to be written, and room for the bytes that are held on the way.
-#[derive(Drop)]
-pub(crate) struct Output<'a> {
-    pub(crate) records: Vec<Vec<LentText<'a>>>,
-    pub(crate) spans: SpannedConfig,
-    pub(crate) held: Vec<u8>,
-    ghost even: { IsEven (grid_of (map_items records.items)) } by { Prim.hlevel props },
-    ghost unused: { held.items ≡ [] },
-}
+    ghost bytes = { print };
 
-impl<'a> Output<'a> {
-    ghost use Rattle.std.specs.Prelude.{OnOk};
-    ghost use Rattle.std.specs.Io.KnownBytes.{Appends};
-    ghost use Rattle.tabled_script.specs.Answer.{bytes_of_table};
+    ghost known = { λ s. Fits s.spans s.texts.rows s.texts.columns → IsTable s };
 
-    /// Writes the table in parts: its shape, its rows, and then its merged cells. It flushes the writer.
-    pub(crate) fn write<W: Write>(self, writer: &mut W) -> io::Result<()>
-        ensures { OnOk result (Appends (W.contents writer.old) (W.contents writer.new) (bytes_of_table self.entry)) }
-    {
-        let Output {
-            records,
-            spans,
-            mut held,
-        } = self;
-        write_table(writer, &mut held, &records)?;
-        write_spans(writer, &mut held, &spans)?;
-        writer.write_all(&held)?;
-        writer.flush()
+    fn write<W: Write>(
+        alloc: Global,
+        records: &Vec<Vec<LentText>>,
+        spans: &SpannedConfig,
+        writer: &mut W,
+    ) -> Result<io::Result<()>, AllocError> {
+        let mut held = Vec::with_capacity(alloc, ROOM)?;
+        Ok(write_lines(writer, &mut held, records, spans))
     }
 }
 
-/// Writes what is held, where it is much.
-fn send<W: Write>(writer: &mut W, held: &mut Vec<u8>) -> io::Result<()>
-    ensures { OnOk result (Sends (W.contents writer.old) held.old.items (W.contents writer.new) held.new.items []) }
+/// Writes the lines of a table in parts, and flushes the writer.
+fn write_lines<W: Write>(
+    writer: &mut W,
+    held: &mut Vec<u8>,
+    records: &Vec<Vec<LentText>>,
+    spans: &SpannedConfig,
+) -> io::Result<()>
+    requires even { IsEven (grid_of (map_items records.now.items)) }
+    requires unused { held.old.items ≡ [] }
+    requires room { ROOM ≤ vec_capacity held.old }
+    ensures written { OnOk result (Appends (W.contents writer.old) (W.contents writer.new) (print (state_of bytes_of (grid_of (map_items records.now.items)) spans.now))) }
+    ensures known { OnOk result (Fits spans.now ((grid_of (map_items records.now.items)).rows) ((grid_of (map_items records.now.items)).columns) → IsTable (state_of bytes_of (grid_of (map_items records.now.items)) spans.now)) }
 {
-    if held.len() >= PART {
-        writer.write_all(held)?;
-        held.clear();
-    }
-    Ok(())
+    write_table(writer, held, records)?;
+    write_spans(writer, held, spans)?;
+    writer.write_all(held)?;
+    writer.flush()
 }
 
 /// Writes, or holds, a table's shape, and then its rows.
@@ -70,27 +70,34 @@ fn write_table<W: Write>(
     held: &mut Vec<u8>,
     records: &Vec<Vec<LentText>>,
 ) -> io::Result<()>
-    requires { IsEven (grid_of (map_items records.now.items)) }
-    ensures { OnOk result (Sends (W.contents writer.old) held.old.items (W.contents writer.new) held.new.items (table_lines (map_grid bytes_of (grid_of (map_items records.now.items))))) }
+    requires even { IsEven (grid_of (map_items records.now.items)) }
+    requires room { HasRoom PART held.old }
+    ensures sends { OnOk result (Sends (W.contents writer.old) held.old.items (W.contents writer.new) held.new.items (table_lines (map_grid bytes_of (grid_of (map_items records.now.items))))) }
+    ensures texts { OnOk result (AllByRecursion (AllByRecursion IsUtf8) (map (map bytes_of) (map_items records.now.items))) }
+    ensures sizes { OnOk result ((length (map_items records.now.items) ≤ largest_size) × (width_of (map_items records.now.items) ≤ largest_size)) }
+    ensures room { OnOk result (HasRoom PART held.new) }
 {
     let shape = [records.count_rows(), records.count_columns()];
-    push_numbers(held, "shape", &shape)?;
+    hold_numbers(held, "shape", &shape);
+    send(writer, held)?;
     for row in records {
-        write_line(writer, held, "row", row)?;
+        write_row(writer, held, row)?;
     }
     Ok(())
 }
 
-/// Writes, or holds, the line of a name and texts.
-fn write_line<W: Write, T: CellText>(
+/// Writes, or holds, the line of a row's texts.
+fn write_row<W: Write, T: CellText>(
     writer: &mut W,
     held: &mut Vec<u8>,
-    name: &str,
     texts: &[T],
 ) -> io::Result<()>
-    ensures { OnOk result (Sends (W.contents writer.old) held.old.items (W.contents writer.new) held.new.items (line (name.now ∷ map T.text_of texts.now))) }
+    requires { HasRoom PART held.old }
+    ensures sends { OnOk result (Sends (W.contents writer.old) held.old.items (W.contents writer.new) held.new.items (line (codes "row" ∷ map T.text_of texts.now))) }
+    ensures texts { OnOk result (AllByRecursion IsUtf8 (map T.text_of texts.now)) }
+    ensures room { OnOk result (HasRoom PART held.new) }
 {
-    push_escaped(held, name.as_bytes())?;
+    hold_bytes(held, b"row");
     for text in texts {
         let text = text.text();
         if !text.is_empty() {
@@ -99,121 +106,49 @@ fn write_line<W: Write, T: CellText>(
             write_tab(writer, held)?;
         }
     }
-    held.push(b'\n')?;
-    Ok(())
+    hold_byte(held, b'\n');
+    send(writer, held)
 }
 
 /// Writes, or holds, a tab.
 fn write_tab<W: Write>(writer: &mut W, held: &mut Vec<u8>) -> io::Result<()>
-    ensures { OnOk result (Sends (W.contents writer.old) held.old.items (W.contents writer.new) held.new.items (9 ∷ [])) }
+    requires { HasRoom (2 * PART) held.old }
+    ensures sends { OnOk result (Sends (W.contents writer.old) held.old.items (W.contents writer.new) held.new.items (9 ∷ [])) }
+    ensures room { OnOk result (HasRoom PART held.new) }
 {
-    held.push(b'\t')?;
-    if held.len() < PART {
-        return Ok(());
-    }
+    hold_byte(held, b'\t');
     send(writer, held)
 }
 
 /// Writes, or holds, a tab, and the word that stands for a text.
 fn write_word<W: Write>(writer: &mut W, held: &mut Vec<u8>, text: &str) -> io::Result<()>
-    ensures { OnOk result (Sends (W.contents writer.old) held.old.items (W.contents writer.new) held.new.items (9 ∷ escaped text.now)) }
+    requires { HasRoom (2 * PART) held.old }
+    ensures sends { OnOk result (Sends (W.contents writer.old) held.old.items (W.contents writer.new) held.new.items (9 ∷ escaped text.now)) }
+    ensures room { OnOk result (HasRoom PART held.new) }
 {
-    held.push(b'\t')?;
+    hold_byte(held, b'\t');
     let mut rest = text.as_bytes();
     // No more is held than there is room for.
     while rest.len() > PART {
         let (part, others) = rest.split_at(PART);
-        push_escaped(held, part)?;
+        hold_escaped(held, part);
         send(writer, held)?;
         rest = others;
     }
-    push_escaped(held, rest)?;
+    hold_escaped(held, rest);
     send(writer, held)
 }
 
 /// Writes, or holds, the lines of merged cells.
 fn write_spans<W: Write>(writer: &mut W, held: &mut Vec<u8>, cfg: &SpannedConfig) -> io::Result<()>
-    ensures { OnOk result (Sends (W.contents writer.old) held.old.items (W.contents writer.new) held.new.items (flat_map span_line (entries cfg.now))) }
+    requires { HasRoom PART held.old }
+    ensures sends { OnOk result (Sends (W.contents writer.old) held.old.items (W.contents writer.new) held.new.items (flat_map span_line (entries cfg.now))) }
+    ensures room { OnOk result (HasRoom PART held.new) }
 {
     for (pos, size) in cfg.anchors() {
-        push_span(held, *pos, *size)?;
+        let (height, width) = *size;
+        hold_numbers(held, "span", &[pos.row, pos.col, height, width]);
         send(writer, held)?;
     }
     Ok(())
-}
-
-/// Appends the line of an anchor and its rectangle's height and width.
-fn push_span(out: &mut Vec<u8>, pos: Position, size: (usize, usize)) -> Result<(), AllocError>
-    ensures { OnOk result (out.new.items ≡ out.old.items ++ span_line (pos, size)) }
-{
-    let (height, width) = size;
-    push_numbers(out, "span", &[pos.row, pos.col, height, width])
-}
-
-/// Appends the line of a name and numbers.
-fn push_numbers(out: &mut Vec<u8>, name: &str, numbers: &[usize]) -> Result<(), AllocError>
-    ensures { OnOk result (out.new.items ≡ out.old.items ++ line (name.now ∷ map decimal numbers.now)) }
-{
-    push_escaped(out, name.as_bytes())?;
-    for number in numbers {
-        push_number(out, *number)?;
-    }
-    out.push(b'\n')?;
-    Ok(())
-}
-
-/// Appends a tab and a number.
-fn push_number(out: &mut Vec<u8>, number: usize) -> Result<(), AllocError>
-    ensures { OnOk result (out.new.items ≡ out.old.items ++ 9 ∷ escaped (decimal number)) }
-{
-    // A vector refuses bytes only where memory runs out.
-    match write!(out, "\t{number}") {
-        Ok(()) => Ok(()),
-        Err(_) => Err(AllocError),
-    }
-}
-
-/// Appends the word that stands for the bytes of a text.
-fn push_escaped(out: &mut Vec<u8>, bytes: &[u8]) -> Result<(), AllocError>
-    ensures { OnOk result (out.new.items ≡ out.old.items ++ escaped bytes.now) }
-{
-    if bytes.is_empty() {
-        return Ok(());
-    }
-    // Few texts have a byte to escape, and the others are copied whole.
-    if is_plain(bytes) {
-        return out.extend_from_slice(bytes);
-    }
-    for byte in bytes {
-        push_escaped_byte(out, *byte)?;
-    }
-    Ok(())
-}
-
-/// Says whether a text is a word as it is.
-fn is_plain(text: &[u8]) -> bool
-    ensures { IsTrue result → escaped text.now ≡ text.now }
-{
-    for byte in text {
-        // Small letters, and all that is no ASCII, lie after the backslash: one comparison passes them.
-        if *byte <= b'\\' && matches!(*byte, b'\t' | b'\n' | b'\\') {
-            return false;
-        }
-    }
-    true
-}
-
-/// Appends a byte as it stands in a word.
-fn push_escaped_byte(out: &mut Vec<u8>, byte: u8) -> Result<(), AllocError>
-    ensures { OnOk result (out.new.items ≡ out.old.items ++ escaped_byte byte) }
-{
-    match byte {
-        b'\t' => out.extend_from_slice(b"\\t"),
-        b'\n' => out.extend_from_slice(b"\\n"),
-        b'\\' => out.extend_from_slice(b"\\\\"),
-        _ => {
-            out.push(byte)?;
-            Ok(())
-        }
-    }
 }

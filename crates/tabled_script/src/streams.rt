@@ -1,6 +1,6 @@
 //! Scripts run over readers and writers that give and take little, fail, or are interrupted.
 
-use crate::program::write_answer;
+use crate::respond::finish;
 use crate::run_script;
 use std::alloc::AllocError;
 use std::io::{self, ErrorKind, Read, Write};
@@ -121,7 +121,7 @@ fn what_is_written_is_flushed_or_failed(rt: HostRuntime) -> Result<(), Fail> {
                         flushed: Vec::new(alloc),
                     };
                     let answered = if status == 3 {
-                        write_answer(&mut writer, Err(AllocError))
+                        finish(&mut writer, Err(AllocError))
                     } else {
                         let mut reader = script.as_bytes();
                         run_script(alloc, &mut reader, &mut writer)

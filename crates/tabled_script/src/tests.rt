@@ -1,11 +1,10 @@
 //! Scripts run over readers and writers in memory.
 
-use crate::output::Output;
-use crate::program::write_answer;
-use crate::run_script;
+use crate::respond::finish;
+use crate::{draw_script, run_script};
 use std::alloc::{AllocError, Global};
+use std::io::{self, ErrorKind};
 use std::test::Fail;
-use tabled_grid::config::SpannedConfig;
 
 /// The status for a script, and what was written.
 pub(crate) fn answer(alloc: Global, script: &[u8]) -> (u8, Vec<u8>) {
@@ -275,25 +274,36 @@ fn ends_well_where_a_script_is_cut(rt: HostRuntime) -> Result<(), Fail> {
     Ok(())
 }
 
-/// A table without cells.
-fn nothing<'a>(alloc: Global) -> Output<'a> {
-    Output {
-        records: Vec::new(alloc),
-        spans: SpannedConfig::new(alloc),
-        held: Vec::new(alloc),
+#[test]
+fn draws_scripts(rt: HostRuntime) -> Result<(), Fail> {
+    for (script, status, picture) in [
+        ("", 0, ""),
+        ("row\nrow\n", 0, ""),
+        (
+            "row\t0\t1\t\nrow\t\t2\t3\nrow\t4\nrspan\t2\tcell\t0\t0\ncspan\t2\tcell\t0\t1\ncspan\t3\tcell\t2\t0\n",
+            0,
+            "+---+---+---+\n| 0 | 1     |\n+   +---+---+\n|   | 2 | 3 |\n+---+---+---+\n| 4         |\n+---+---+---+\n",
+        ),
+        ("row\ta\nspin\n", 2, "line 2: fault 1\n"),
+    ] {
+        let mut reader = script.as_bytes();
+        let mut written = Vec::new(rt.alloc());
+        assert_eq!(rt; draw_script(rt.alloc(), &mut reader, &mut written), status, "{script:?}");
+        assert_eq!(rt; written.as_slice(), picture.as_bytes());
     }
+    Ok(())
 }
 
 #[test]
-fn writes_what_answers_a_script(rt: HostRuntime) -> Result<(), Fail> {
-    let alloc = rt.alloc();
-    for (answer, status, bytes) in [
-        (Ok(Ok(nothing(alloc))), 0, "shape\t0\t0\n"),
-        (Ok(Err(String::from_str(alloc, "line\n")?)), 2, "line\n"),
+fn says_how_it_ended(rt: HostRuntime) -> Result<(), Fail> {
+    for (answered, status, bytes) in [
+        (Ok((Ok(()), 0)), 0, ""),
+        (Ok((Ok(()), 2)), 2, ""),
+        (Ok((Err(io::Error::from(ErrorKind::BrokenPipe)), 0)), 4, ""),
         (Err(AllocError), 3, "out of memory\n"),
     ] {
-        let mut written = Vec::new(alloc);
-        assert_eq!(rt; write_answer(&mut written, answer), status);
+        let mut written = Vec::new(rt.alloc());
+        assert_eq!(rt; finish(&mut written, answered), status);
         assert_eq!(rt; written.as_slice(), bytes.as_bytes());
     }
     Ok(())

@@ -1,16 +1,11 @@
-use Rattle.std.proofs.Common.{arith, ◌≡◌, ◌+◌, [], append-nil, get_or, refl, subst, sym, take, ◌∙◌}
+use Rattle.std.proofs.Common.{arith, ◌≡◌, ◌+◌, [], get_or, refl, subst, take, ◌∙◌}
 use Rattle.std.proofs.lemmas.List.{get_or_default, take_all}
 use Rattle.std.specs.List.{flat_map}
 use Rattle.tabled_language.specs.Output.{span_line}
 use Rattle.tabled_script.specs.Sent.{Sends}
 use Rattle.tabled_script.proofs.OutputLines.{pushed_more}
-use Rattle.tabled_script.proofs.Sent.{sends_next, sends_none}
+use Rattle.tabled_script.proofs.Sent.{sends_next}
 use Rattle.tabled_script.proofs.output.write_spans.Goals as goal
-
-pub loop-pos-init : goal.loop-pos-init
-loop-pos-init g c =
-    let held = c.args.held.now.items in
-    sends_none (g.W.Write.contents c.args.writer.now) held held [] (sym (append-nil held))
 
 pub loop-pos-preserved : goal.loop-pos-preserved
 loop-pos-preserved g c =
@@ -19,11 +14,14 @@ loop-pos-preserved g c =
     let i = c.loop-pos.pos-index in
     let anchor = get_or anchors i (record { row = 0; col = 0 }, (0, 0)) in
     let before = flat_map span_line (take i anchors) in
-    sends_next (contents c.args.writer.now) (contents c.loop-pos.writer) (contents c.send.new.writer) c.args.held.now.items c.loop-pos.held.items c.push_span.new.out.items c.send.new.held.items
-    before (span_line anchor) (flat_map span_line (take (i + 1) anchors)) c.loop-pos.invariant c.in_ok-push_span.ensures c.in_ok-send.ensures
-    (pushed_more span_line [] before anchors i anchor c.loop-pos-test.true (get_or_default anchors i _ anchor c.loop-pos-test.true) refl)
+    record {
+      sends = sends_next (contents c.args.writer.now) (contents c.loop-pos.writer) (contents c.send.new.writer) c.args.held.now.items c.loop-pos.held.items c.hold_numbers.new.held.items c.send.new.held.items
+          before (span_line anchor) (flat_map span_line (take (i + 1) anchors)) c.loop-pos.invariant.sends c.hold_numbers.ensures.bytes c.in_ok-send.ensures.sends
+          (pushed_more span_line [] before anchors i anchor c.loop-pos-test.true (get_or_default anchors i _ anchor c.loop-pos-test.true) refl);
+      room = c.in_ok-send.ensures.room;
+    }
 
-pub returns : goal.returns
-returns g c =
+pub returns-clause-sends : goal.returns-clause-sends
+returns-clause-sends g c =
     let all = take_all c.loop-pos.pos-index c.anchors-pos-items.result.now (omega arith) in
-    subst (λ anchors. Sends (g.W.Write.contents c.args.writer.now) c.args.held.now.items (g.W.Write.contents c.loop-pos.writer) c.loop-pos.held.items (flat_map span_line anchors)) (all ∙ c.anchors-pos-items.ensures.anchors) c.loop-pos.invariant
+    subst (λ anchors. Sends (g.W.Write.contents c.args.writer.now) c.args.held.now.items (g.W.Write.contents c.loop-pos.writer) c.loop-pos.held.items (flat_map span_line anchors)) (all ∙ c.anchors-pos-items.ensures.anchors) c.loop-pos.invariant.sends

@@ -1,23 +1,32 @@
 use Rattle.std.proofs.Common.{◌≡◌, ◌+◌, ◌<◌, ◌∙◌, [], ◌∷◌, ◌++◌, append-nil, ap, arith, codes, get_or, length, map, refl, subst, sym, take}
 use Rattle.std.specs.Global.{Vec}
 use Rattle.std.specs.Fmt.{decimal}
-use Rattle.std.specs.List.{flat_map}
+use Rattle.std.specs.List.{AllByRecursion, flat_map}
+use Rattle.std.specs.Str.{IsUtf8}
 use Rattle.tabled_grid.specs.Grid.{map_items, width_of}
 use Rattle.tabled_language.specs.Lent.{bytes_of}
 use Rattle.tabled_language.specs.declared.lent.LentText.{LentText}
 use Rattle.tabled_language.specs.Output.{line}
 use Rattle.tabled_script.specs.Sent.{Sends}
 use Rattle.tabled_script.proofs.OutputLines.{pushed_more, table_lines-pieces}
-use Rattle.tabled_script.proofs.Sent.{sends_more, sends_none}
+use Rattle.std.proofs.lemmas.List.{take_all}
+use Rattle.tabled_script.proofs.Texts.{all_map, all_more}
+use Rattle.tabled_script.proofs.Sent.{sends_more, sends_next, sends_none}
 use Rattle.tabled_script.proofs.output.write_table.Goals as goal
 
 pub loop-row-init : goal.loop-row-init
 loop-row-init g c =
+    let contents = g.W.Write.contents in
     let held = c.args.held.now.items in
     let records = c.args.records.now.items in
     let shape = line (codes "shape" ∷ decimal (length (map_items records)) ∷ decimal (width_of (map_items records)) ∷ []) in
-    sends_none (g.W.Write.contents c.args.writer.now) held c.push_numbers.new.out.items (shape ++ [])
-    (rw (c.in_ok-push_numbers.ensures, c.count_rows.ensures.rows, c.count_columns.ensures.columns) (ap (λ bytes. held ++ bytes) (sym (append-nil shape))))
+    let is : c.hold_numbers.new.held.items ≡ held ++ shape = rw (c.hold_numbers.ensures.bytes, c.count_rows.ensures.rows, c.count_columns.ensures.columns) refl in
+    record {
+      sends = sends_next (contents c.args.writer.now) (contents c.args.writer.now) (contents c.send.new.writer) held held c.hold_numbers.new.held.items c.send.new.held.items [] shape (shape ++ [])
+          (sends_none (contents c.args.writer.now) held held [] (sym (append-nil held))) is c.in_ok-send.ensures.sends (sym (append-nil shape));
+      texts = tt;
+      room = c.in_ok-send.ensures.room;
+    }
 
 pub loop-row-preserved : goal.loop-row-preserved
 loop-row-preserved g c =
@@ -30,10 +39,21 @@ loop-row-preserved g c =
     let shape = line (codes "shape" ∷ decimal (length (map_items records)) ∷ decimal (width_of (map_items records)) ∷ []) in
     let before = shape ++ flat_map line_of (take i records) in
     let path = ap (λ texts. before ++ line (codes "row" ∷ map bytes_of texts)) c.deref.ensures.value ∙ pushed_more line_of shape before records i c.row-item.result here row refl in
-    subst (Sends (contents c.args.writer.now) c.args.held.now.items (contents c.write_line.new.writer) c.write_line.new.held.items) path
-    (sends_more (contents c.args.writer.now) (contents c.loop-row.writer) (contents c.write_line.new.writer) c.args.held.now.items c.loop-row.held.items c.write_line.new.held.items before (line (codes "row" ∷ map bytes_of c.deref.result.now)) c.loop-row.invariant c.in_ok-write_line.ensures)
+    record {
+      sends = subst (Sends (contents c.args.writer.now) c.args.held.now.items (contents c.write_row.new.writer) c.write_row.new.held.items) path
+          (sends_more (contents c.args.writer.now) (contents c.loop-row.writer) (contents c.write_row.new.writer) c.args.held.now.items c.loop-row.held.items c.write_row.new.held.items before (line (codes "row" ∷ map bytes_of c.deref.result.now)) c.loop-row.invariant.sends c.in_ok-write_row.ensures.sends);
+      texts = all_more (λ (r : Vec LentText). AllByRecursion IsUtf8 (map bytes_of r.items)) records i c.row-item.result here row c.loop-row.invariant.texts (subst (λ ts. AllByRecursion IsUtf8 (map bytes_of ts)) c.deref.ensures.value c.in_ok-write_row.ensures.texts);
+      room = c.in_ok-write_row.ensures.room;
+    }
 
-pub returns : goal.returns
-returns g c =
+pub returns-clause-sends : goal.returns-clause-sends
+returns-clause-sends g c =
     let contents = g.W.Write.contents in
-    subst (Sends (contents c.args.writer.now) c.args.held.now.items (contents c.loop-row.writer) c.loop-row.held.items) (sym (table_lines-pieces bytes_of c.args.records.now.items c.loop-row.row-index (omega arith))) c.loop-row.invariant
+    subst (Sends (contents c.args.writer.now) c.args.held.now.items (contents c.loop-row.writer) c.loop-row.held.items) (sym (table_lines-pieces bytes_of c.args.records.now.items c.loop-row.row-index (omega arith))) c.loop-row.invariant.sends
+
+pub returns-clause-texts : goal.returns-clause-texts
+returns-clause-texts g c =
+    let records = c.args.records.now.items in
+    let all = take_all c.loop-row.row-index records (omega arith) in
+    let rows = subst (AllByRecursion (λ (r : Vec LentText). AllByRecursion IsUtf8 (map bytes_of r.items))) all c.loop-row.invariant.texts in
+    all_map (AllByRecursion IsUtf8) (map bytes_of) (map_items records) (all_map (λ ts. AllByRecursion IsUtf8 (map bytes_of ts)) (λ (r : Vec LentText). r.items) records rows)

@@ -1,0 +1,219 @@
+-- Places before others, row by row.
+use Rattle.std.proofs.Common.{◌≡◌, ◌≢◌, ◌∙◌, ◌+◌, ◌<◌, ◌≤◌, ◌⊎◌, inl, inr, ℕ, Bool, true, false, cond, List, [], ◌∷◌, Option, None, Some, suc, zero, refl, sym, ap, ap₂, subst, arith, length, get_or, eqb}
+use Rattle.std.specs.Prelude.{◌&&◌, ◌||◌, ◌==◌, T, nat_lt}
+use Rattle.std.specs.FinMap.{entries, entries_sorted, find, get, get-entries, is_sorted}
+use Rattle.std.specs.Ordering.{is_eq}
+use Rattle.std.proofs.lemmas.Bool.{and_parts, and_from, or_cases, or_left, or_right, cases_Bool, cases_lt, cond-true, cond-false, false≢true}
+use Rattle.std.proofs.lemmas.Option.{none-some}
+use borrow.Author.Tests.{ltb-true, lt-ltb, eqb-true, eq-eqb}
+use Rattle.tabled_draw.specs.OwnerRows.{count_before, is_before}
+use Rattle.tabled_grid.proofs.Geometry.{cases_place}
+use Rattle.tabled_grid.proofs.Members.{Member, sorted-find}
+use Rattle.tabled_grid.proofs.PassedAnchors.{Earlier, earlier}
+use Rattle.tabled_grid.proofs.SpanMaps.{equal, found_above, halves, less, size_at-none, size_at-some}
+use Rattle.tabled_grid.proofs.Spans.{positions_exact, positions_total}
+use Rattle.tabled_grid.specs.Anchors.{Anchor}
+use Rattle.tabled_grid.specs.Entity.{place}
+use Rattle.tabled_grid.specs.Rectangles.{Fits}
+use Rattle.tabled_grid.specs.Spans.{SpanMap, position_cmp, size_at}
+use Rattle.tabled_grid.specs.declared.config.position.Position.{Position}
+
+-- what the test says
+abbrev pub Before : ℕ → ℕ → Position → Type 0
+Before i j p = (p.row < i) ⊎ ((p.row ≡ i) × (p.col < j))
+
+abbrev pub After : ℕ → ℕ → Position → Type 0
+After i j p = (i < p.row) ⊎ ((p.row ≡ i) × (j ≤ p.col))
+
+pub before-true : (i j : ℕ) (p : Position) → is_before i j p ≡ true → Before i j p
+before-true i j p t = by (or_cases _ _ t)
+  where
+    by : (nat_lt p.row i ≡ true) ⊎ (((p.row == i) && nat_lt p.col j) ≡ true) → Before i j p
+    by (inl h) = inl (ltb-true _ _ h)
+    by (inr h) = let parts = and_parts _ _ h in inr (eqb-true _ _ parts.0, ltb-true _ _ parts.1)
+
+pub before-from : (i j : ℕ) (p : Position) → Before i j p → is_before i j p ≡ true
+before-from i j p (inl h) = or_left _ _ (lt-ltb _ _ h)
+before-from i j p (inr h) = or_right _ _ (and_from _ _ (eq-eqb _ _ h.0) (lt-ltb _ _ h.1))
+
+pub after-from : (i j : ℕ) (p : Position) → After i j p → is_before i j p ≡ false
+after-from i j p after = by (cases_Bool (is_before i j p))
+  where
+    never : Before i j p → After i j p → ⊥
+    never (inl h) (inl k) = omega (arith, h, k)
+    never (inl h) (inr k) = omega (arith, h, k.0)
+    never (inr h) (inl k) = omega (arith, h.0, k)
+    never (inr h) (inr k) = omega (arith, h.1, k.1)
+
+    by : (is_before i j p ≡ true) ⊎ (is_before i j p ≡ false) → is_before i j p ≡ false
+    by (inl t) = absurd (never (before-true i j p t) after)
+    by (inr f) = f
+
+pub cases_before : (i j : ℕ) (p : Position) → Before i j p ⊎ After i j p
+cases_before i j p = by (cases_lt p.row i) (cases_lt i p.row) (cases_lt p.col j)
+  where
+    by : (p.row < i) ⊎ (i ≤ p.row) → (i < p.row) ⊎ (p.row ≤ i) → (p.col < j) ⊎ (j ≤ p.col) → Before i j p ⊎ After i j p
+    by (inl h) _ _ = inl (inl h)
+    by (inr h) (inl k) _ = inr (inl k)
+    by (inr h) (inr k) (inl c) = inl (inr (omega (arith, h, k), c))
+    by (inr h) (inr k) (inr c) = inr (inr (omega (arith, h, k), c))
+
+-- one place more
+pub before-next : (i j : ℕ) (p : Position) → Before i j p → is_before i (j + 1) p ≡ true
+before-next i j p (inl h) = before-from i (j + 1) p (inl h)
+before-next i j p (inr h) = before-from i (j + 1) p (inr (h.0, omega (arith, h.1)))
+
+pub after-next : (i j : ℕ) (p : Position) → After i j p → p ≢ place i j → is_before i (j + 1) p ≡ false
+after-next i j p (inl h) apart = after-from i (j + 1) p (inl h)
+after-next i j p (inr h) apart = by (cases_lt j p.col)
+  where
+    by : (j < p.col) ⊎ (p.col ≤ j) → is_before i (j + 1) p ≡ false
+    by (inl k) = after-from i (j + 1) p (inr (h.0, omega (arith, k)))
+    by (inr k) = absurd (apart (ap₂ place h.0 (omega (arith, k, h.1))))
+
+pub here-next : (i j : ℕ) (p : Position) → p ≡ place i j → is_before i (j + 1) p ≡ true
+here-next i j p e = before-from i (j + 1) p (inr (ap (λ (q : Position). q.row) e, omega (arith, ap (λ (q : Position). q.col) e)))
+
+-- the end of a row
+pub before-row : (i columns : ℕ) (p : Position) → p.col < columns → is_before i columns p ≡ is_before (i + 1) 0 p
+before-row i columns p within = by (cases_lt p.row (i + 1))
+  where
+    early : p.row < i + 1 → (p.row < i) ⊎ (i ≤ p.row) → is_before i columns p ≡ true
+    early h (inl k) = before-from i columns p (inl k)
+    early h (inr k) = before-from i columns p (inr (omega (arith, h, k), within))
+
+    by : (p.row < i + 1) ⊎ (i + 1 ≤ p.row) → is_before i columns p ≡ is_before (i + 1) 0 p
+    by (inl h) = early h (cases_lt p.row i) ∙ sym (before-from (i + 1) 0 p (inl h))
+    by (inr h) = after-from i columns p (inl (omega (arith, h))) ∙ sym (late (cases_lt (i + 1) p.row))
+      where
+        late : (i + 1 < p.row) ⊎ (p.row ≤ i + 1) → is_before (i + 1) 0 p ≡ false
+        late (inl k) = after-from (i + 1) 0 p (inl k)
+        late (inr k) = after-from (i + 1) 0 p (inr (omega (arith, h, k), omega arith))
+
+pub before-none : (p : Position) → is_before 0 0 p ≡ false
+before-none p = by (cases_lt 0 p.row)
+  where
+    by : (0 < p.row) ⊎ (p.row ≤ 0) → is_before 0 0 p ≡ false
+    by (inl h) = after-from 0 0 p (inl h)
+    by (inr h) = after-from 0 0 p (inr (omega (arith, h), omega arith))
+
+-- ---- anchors before a place
+
+module _ (i j : ℕ) where
+  count-before : (e : Anchor) (es : List Anchor) → is_before i j e.0 ≡ true → count_before i j (e ∷ es) ≡ suc (count_before i j es)
+  count-before e es t = cond-true _ _ _ t
+
+  count-after : (e : Anchor) (es : List Anchor) → is_before i j e.0 ≡ false → count_before i j (e ∷ es) ≡ 0
+  count-after e es f = cond-false _ _ _ f
+
+-- the anchors after one that is at a place stand after it
+none-after : (i j : ℕ) (e : Anchor) (es : List Anchor) → T (is_sorted position_cmp (e ∷ es)) → e.0 ≡ place i j → count_before i (j + 1) es ≡ 0
+none-after i j e [] up at = refl
+none-after i j e (f ∷ fs) up at = count-after i (j + 1) f fs (by (earlier e.0 f.0 (less _ (halves _ _ (halves _ _ up).0).0)))
+  where
+    row : e.0.row ≡ i
+    row = ap (λ (q : Position). q.row) at
+
+    col : e.0.col ≡ j
+    col = ap (λ (q : Position). q.col) at
+
+    by : Earlier e.0 f.0 → is_before i (j + 1) f.0 ≡ false
+    by (inl h) = after-from i (j + 1) f.0 (inl (omega (arith, h, row)))
+    by (inr h) = after-from i (j + 1) f.0 (inr (sym h.0 ∙ row, omega (arith, h.1, col)))
+
+-- the next anchor is at the place
+pub next-here : (i j : ℕ) (es : List Anchor) (d : Anchor) → T (is_sorted position_cmp es) → count_before i j es < length es → (get_or es (count_before i j es) d).0 ≡ place i j → count_before i (j + 1) es ≡ count_before i j es + 1
+next-here i j [] d up within at = absurd (omega (arith, within))
+next-here i j (e ∷ es) d up within at = by (cases_before i j e.0) (next-here i j es d (halves _ _ up).1)
+  where
+    by : Before i j e.0 ⊎ After i j e.0 → (count_before i j es < length es → (get_or es (count_before i j es) d).0 ≡ place i j → count_before i (j + 1) es ≡ count_before i j es + 1) → count_before i (j + 1) (e ∷ es) ≡ count_before i j (e ∷ es) + 1
+    by (inl before) go =
+        let n : count_before i j (e ∷ es) ≡ suc (count_before i j es) = count-before i j e es (before-from i j e.0 before) in
+        let later = go (omega (arith, n, within)) (sym (ap (λ k. (get_or (e ∷ es) k d).0) n) ∙ at) in
+        let next : count_before i (j + 1) (e ∷ es) ≡ suc (count_before i (j + 1) es) = count-before i (j + 1) e es (before-next i j e.0 before) in
+        omega (arith, next, later, n)
+    by (inr after) go =
+        let n : count_before i j (e ∷ es) ≡ 0 = count-after i j e es (after-from i j e.0 after) in
+        let here : e.0 ≡ place i j = sym (ap (λ k. (get_or (e ∷ es) k d).0) n) ∙ at in
+        let next : count_before i (j + 1) (e ∷ es) ≡ suc (count_before i (j + 1) es) = count-before i (j + 1) e es (here-next i j e.0 here) in
+        omega (arith, next, none-after i j e es up here, n)
+
+-- the next anchor is elsewhere, if there is one
+pub next-later : (i j : ℕ) (es : List Anchor) (d : Anchor) → T (is_sorted position_cmp es) → (count_before i j es < length es → (get_or es (count_before i j es) d).0 ≢ place i j)
+  → (count_before i (j + 1) es ≡ count_before i j es) × (find position_cmp (place i j) es ≡ None)
+next-later i j [] d up apart = (refl, refl)
+next-later i j (e ∷ es) d up apart = by (cases_before i j e.0) (next-later i j es d (halves _ _ up).1)
+  where
+    p : Position
+    p = place i j
+
+    other : e.0 ≢ p → find position_cmp p (e ∷ es) ≡ find position_cmp p es
+    other ne = skip (cases_Bool (is_eq (position_cmp p e.0)))
+      where
+        skip : (is_eq (position_cmp p e.0) ≡ true) ⊎ (is_eq (position_cmp p e.0) ≡ false) → find position_cmp p (e ∷ es) ≡ find position_cmp p es
+        skip (inl t) = absurd (ne (sym (positions_exact p e.0 (equal _ t))))
+        skip (inr f) = cond-false _ _ _ f
+
+    not-before : After i j e.0 → Earlier e.0 p → ⊥
+    not-before (inl h) (inl k) = omega (arith, h, k)
+    not-before (inl h) (inr k) = omega (arith, h, k.0)
+    not-before (inr h) (inl k) = omega (arith, h.0, k)
+    not-before (inr h) (inr k) = omega (arith, h.1, k.1)
+
+    none : After i j e.0 → (r : Option (ℕ × ℕ)) → find position_cmp p es ≡ r → r ≡ None
+    none after None is = refl
+    none after (Some v) is = absurd (not-before after (earlier e.0 p (found_above position_cmp positions_total positions_exact p e.0 es v (halves _ _ up).0 is)))
+
+    by : Before i j e.0 ⊎ After i j e.0 → ((count_before i j es < length es → (get_or es (count_before i j es) d).0 ≢ p) → (count_before i (j + 1) es ≡ count_before i j es) × (find position_cmp p es ≡ None))
+      → (count_before i (j + 1) (e ∷ es) ≡ count_before i j (e ∷ es)) × (find position_cmp p (e ∷ es) ≡ None)
+    by (inl before) go =
+        let n : count_before i j (e ∷ es) ≡ suc (count_before i j es) = count-before i j e es (before-from i j e.0 before) in
+        let later = go (λ h. λ at. apart (omega (arith, n, h)) (ap (λ k. (get_or (e ∷ es) k d).0) n ∙ at)) in
+        let ne : e.0 ≢ p = λ at. false≢true (sym (after-from i j e.0 (inr (ap (λ (q : Position). q.row) at, omega (arith, ap (λ (q : Position). q.col) at)))) ∙ before-from i j e.0 before) in
+        (count-before i (j + 1) e es (before-next i j e.0 before) ∙ ap suc later.0 ∙ sym n, other ne ∙ later.1)
+    by (inr after) go =
+        let n : count_before i j (e ∷ es) ≡ 0 = count-after i j e es (after-from i j e.0 after) in
+        let ne : e.0 ≢ p = λ at. apart (omega (arith, n)) (ap (λ k. (get_or (e ∷ es) k d).0) n ∙ at) in
+        (count-after i (j + 1) e es (after-next i j e.0 after ne) ∙ sym n, other ne ∙ none after (find position_cmp p es) refl)
+
+pub count-row : (i columns : ℕ) (es : List Anchor) → ((e : Anchor) → Member e es → e.0.col < columns) → count_before i columns es ≡ count_before (i + 1) 0 es
+count-row i columns [] within = refl
+count-row i columns (e ∷ es) within =
+    ap₂ (λ b n. cond b (suc n) 0) (before-row i columns e.0 (within e (inl refl))) (count-row i columns es (λ f m. within f (inr m)))
+
+pub count-none : (es : List Anchor) → count_before 0 0 es ≡ 0
+count-none [] = refl
+count-none (e ∷ es) = count-after 0 0 e es (before-none e.0)
+
+-- ---- the same of maps
+
+pub member-at : {A : Type 0} (xs : List A) (k : ℕ) (d : A) → k < length xs → Member (get_or xs k d) xs
+member-at [] k d h = absurd (omega (arith, h))
+member-at (x ∷ xs) zero d h = inl refl
+member-at (x ∷ xs) (suc k) d h = inr (member-at xs k d (omega (arith, h)))
+
+module _ (m : SpanMap) (p : Position) (n : ℕ) (is : n ≡ count_before p.row p.col (entries m)) (xs : List Anchor) (same : xs ≡ entries m) (d : Anchor) where
+  at : Anchor
+  at = get_or (entries m) n d
+
+  pub size-here : n < length xs → (get_or xs n d).0 ≡ p → (get_or xs n d).1 ≡ size_at m p
+  unfolding at
+  size-here within here =
+      let found : at.0 ≡ p = ap (λ (ys : List Anchor). (get_or ys n d).0) (sym same) ∙ here in
+      let has : get m at.0 ≡ Some at.1 = get-entries m at.0 ∙ sorted-find position_cmp positions_total positions_exact (entries m) at.0 at.1 (entries_sorted m) (member-at (entries m) n d (subst (λ (ys : List Anchor). n < length ys) same within)) in
+      ap (λ (ys : List Anchor). (get_or ys n d).1) same ∙ sym (size_at-some m p at.1 (ap (get m) (sym found) ∙ has))
+
+  pub count-here : n < length xs → (get_or xs n d).0 ≡ p → n + 1 ≡ count_before p.row (p.col + 1) (entries m)
+  count-here within here =
+      let less : n < length (entries m) = subst (λ (ys : List Anchor). n < length ys) same within in
+      let next : count_before p.row (p.col + 1) (entries m) ≡ count_before p.row p.col (entries m) + 1 = next-here p.row p.col (entries m) d (entries_sorted m) (omega (arith, is, less)) (ap (λ k. (get_or (entries m) k d).0) (sym is) ∙ ap (λ (ys : List Anchor). (get_or ys n d).0) (sym same) ∙ here) in
+      omega (arith, is, next)
+
+  later : (n < length xs → (get_or xs n d).0 ≢ p) → (count_before p.row (p.col + 1) (entries m) ≡ count_before p.row p.col (entries m)) × (find position_cmp p (entries m) ≡ None)
+  later apart = next-later p.row p.col (entries m) d (entries_sorted m) (λ h e. apart (subst (λ (ys : List Anchor). n < length ys) (sym same) (omega (arith, is, h))) (ap (λ (ys : List Anchor). (get_or ys n d).0) same ∙ ap (λ k. (get_or (entries m) k d).0) is ∙ e))
+
+  pub size-later : (n < length xs → (get_or xs n d).0 ≢ p) → (1, 1) ≡ size_at m p
+  size-later apart = sym (size_at-none m p (get-entries m p ∙ (later apart).1))
+
+  pub count-later : (n < length xs → (get_or xs n d).0 ≢ p) → n ≡ count_before p.row (p.col + 1) (entries m)
+  count-later apart = is ∙ sym (later apart).0

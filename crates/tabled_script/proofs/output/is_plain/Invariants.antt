@@ -1,6 +1,0 @@
-use Rattle.std.proofs.Common.{◌≡◌, drop}
-use Rattle.tabled_language.specs.Output.{escaped}
-use Rattle.tabled_script.proofs.output.is_plain.Given as goal
-
-abbrev pub invariant-loop-byte : goal.invariant-loop-byte
-invariant-loop-byte l = escaped (drop l.byte-index l.text) ≡ drop l.byte-index l.text → escaped l.text ≡ l.text

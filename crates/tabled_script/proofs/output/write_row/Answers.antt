@@ -1,0 +1,67 @@
+use Rattle.std.proofs.Common.{arith, ◌≡◌, ◌+◌, [], ◌∷◌, ◌++◌, append-nil, ap, codes, get_or, map, refl, subst, sym, take, ◌∙◌}
+use Rattle.std.proofs.lemmas.Grind.{common_steps}
+use Rattle.std.proofs.lemmas.List.{nil_from_length, take_all}
+use Rattle.std.proofs.lemmas.Result.{on_ok_weaker}
+use Rattle.std.specs.List.{AllByRecursion, flat_map}
+use Rattle.std.specs.Str.{IsUtf8}
+use Rattle.tabled_language.specs.Output.{escaped, line}
+use Rattle.tabled_script.specs.Sent.{Sends}
+use Rattle.tabled_script.proofs.OutputLines.{line-pieces, pushed_more}
+use Rattle.tabled_script.proofs.Texts.{all_map, all_more}
+use Rattle.tabled_script.proofs.Sent.{sends_more, sends_next, sends_none}
+use Rattle.tabled_script.proofs.output.write_row.Goals as goal
+use Rattle.tabled_script.proofs.output.write_row.Goals.{then-not-is_empty+in_ok-write_word, else-not-is_empty+in_ok-write_tab}
+
+pub loop-text-init : goal.loop-text-init
+loop-text-init g c = record {
+  sends = sends_none (g.W.Write.contents c.args.writer.now) c.args.held.now.items c.hold_bytes.new.held.items (codes "row" ++ []) c.hold_bytes.ensures.bytes;
+  texts = tt;
+  room = record { less = omega (arith, c.requires.less); room = omega (arith, c.requires.room) };
+}
+
+pub loop-text-preserved : goal.loop-text-preserved
+loop-text-preserved g c =
+    let contents = g.W.Write.contents in
+    let word = λ (t : _). 9 ∷ escaped (g.T.CellText.text_of t) in
+    let texts = c.args.texts.now in
+    let i = c.loop-text.text-index in
+    let before = codes "row" ++ flat_map word (take i texts) in
+    let texts_more = all_more (λ t. IsUtf8 (g.T.CellText.text_of t)) texts i c.text-item.result c.loop-text-test.true c.text-item.is c.loop-text.invariant.texts (subst IsUtf8 c.text-text.ensures c.text-text.utf8) in
+    let more = pushed_more word (codes "row") before texts i c.text-item.result c.loop-text-test.true c.text-item.is refl in
+    elim c.if-not-is_empty.branch [
+      | then-not-is_empty+in_ok-write_word w ↦ rw (w.writer-is, w.held-is) (record {
+        sends = subst (Sends (contents c.args.writer.now) c.args.held.now.items (contents w.write_word.new.writer) w.write_word.new.held.items) (ap (λ bytes. before ++ 9 ∷ escaped bytes) c.text-text.ensures ∙ more)
+            (sends_more (contents c.args.writer.now) (contents c.loop-text.writer) (contents w.write_word.new.writer) c.args.held.now.items c.loop-text.held.items w.write_word.new.held.items before (9 ∷ escaped c.text-text.result.now) c.loop-text.invariant.sends w.in_ok-write_word.ensures.sends);
+        texts = texts_more;
+          room = record { less = omega (arith, w.in_ok-write_word.ensures.room.less); room = w.in_ok-write_word.ensures.room.room };
+      })
+      | else-not-is_empty+in_ok-write_tab w ↦
+          let none : c.text-text.result.now ≡ [] = grind (arith, common_steps, nil_from_length) in
+          rw (w.writer-is, w.held-is) (record {
+            sends = subst (Sends (contents c.args.writer.now) c.args.held.now.items (contents w.write_tab.new.writer) w.write_tab.new.held.items) (ap (λ bytes. before ++ 9 ∷ escaped bytes) (sym none ∙ c.text-text.ensures) ∙ more)
+                (sends_more (contents c.args.writer.now) (contents c.loop-text.writer) (contents w.write_tab.new.writer) c.args.held.now.items c.loop-text.held.items w.write_tab.new.held.items before (9 ∷ []) c.loop-text.invariant.sends w.in_ok-write_tab.ensures.sends);
+            texts = texts_more;
+          room = record { less = omega (arith, w.in_ok-write_tab.ensures.room.less); room = w.in_ok-write_tab.ensures.room.room };
+          })
+    ]
+
+pub returns-clause-sends : goal.returns-clause-sends
+returns-clause-sends g c =
+    let contents = g.W.Write.contents in
+    let text_of = g.T.CellText.text_of in
+    let texts = c.args.texts.now in
+    let words = flat_map (λ t. 9 ∷ escaped (text_of t)) (take c.loop-text.text-index texts) in
+    let all = take_all c.loop-text.text-index texts (omega arith) in
+    let path = ap (λ ts. (codes "row" ++ flat_map (λ t. 9 ∷ escaped (text_of t)) ts) ++ 10 ∷ []) all ∙ sym (line-pieces text_of (codes "row") texts) in
+    on_ok_weaker c.send.result
+    (λ sent. sends_next (contents c.args.writer.now) (contents c.loop-text.writer) (contents c.send.new.writer) c.args.held.now.items c.loop-text.held.items c.hold_byte.new.held.items c.send.new.held.items
+    (codes "row" ++ words) (10 ∷ []) (line (codes "row" ∷ map text_of texts)) c.loop-text.invariant.sends c.hold_byte.ensures.bytes sent path)
+    c.send.ensures.sends
+
+pub returns-clause-texts : goal.returns-clause-texts
+returns-clause-texts g c =
+    let texts = c.args.texts.now in
+    let all = take_all c.loop-text.text-index texts (omega arith) in
+    on_ok_weaker c.send.result
+    (λ _. all_map IsUtf8 g.T.CellText.text_of texts (subst (AllByRecursion (λ t. IsUtf8 (g.T.CellText.text_of t))) all c.loop-text.invariant.texts))
+    c.send.ensures.room

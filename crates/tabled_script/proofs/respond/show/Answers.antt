@@ -1,0 +1,28 @@
+use Rattle.std.proofs.Common.{◌≡◌, ◌∙◌, Result, Ok, Err, IfOk, ap, refl}
+use Rattle.std.specs.Io.KnownBytes.{Appends}
+use Rattle.std.specs.Result.{OnOk}
+use Rattle.tabled_grid.specs.Grid.{grid_of, map_items}
+use Rattle.tabled_steps.specs.States.{State, after_all, state_of}
+use Rattle.tabled_language.specs.Lent.{bytes_of}
+use Rattle.tabled_language.specs.Line.{start}
+use Rattle.tabled_language.specs.Parsing.{script_in}
+use Rattle.tabled_script.proofs.Changes.{after_all-changed}
+use Rattle.tabled_script.specs.Answer.{ended}
+use Rattle.tabled_script.proofs.respond.show.Goals as goal
+
+-- two facts of a state that was written, of the state that it is
+both : {T E R : Type 0} (r : Result (Result T E) R) (P Q : State → Type 0) (s t : State) → s ≡ t → IfOk r (λ w. OnOk w (P s)) → IfOk r (λ w. OnOk w (Q s)) → IfOk r (λ w. OnOk w (P t × Q t))
+both (Ok (Ok x)) P Q s t is p q = (rw is at p, rw is at q)
+both (Ok (Err e)) P Q s t is p q = tt
+both (Err e) P Q s t is p q = tt
+
+pub returns-in-Ok-clause-shown : goal.returns-in-Ok-clause-shown
+returns-in-Ok-clause-shown g c =
+    let steps = c.args.script.steps.items in
+    let cells = c.in_ok-records.records in
+    let script = script_in c.args.script.records.items c.args.script.spans steps in
+    let begin : state_of bytes_of (grid_of (map_items cells.items)) c.args.script.spans ≡ start script = rw c.in_ok-records.ensures.cells refl in
+    let end : state_of bytes_of (grid_of (map_items c.run.new.records.items)) c.run.new.cfg ≡ ended script = c.in-Ok.ensures.state ∙ ap (after_all steps) begin ∙ after_all-changed steps (start script) in
+    both c.write.result
+    (λ s. Appends (g.W.Write.contents c.args.writer.now) (g.W.Write.contents c.write.new.writer) (g.F.Form.bytes s))
+    g.F.Form.known (state_of bytes_of (grid_of (map_items c.run.new.records.items)) c.run.new.cfg) (ended script) end c.write.ensures.written c.write.ensures.known
