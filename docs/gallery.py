@@ -14,7 +14,7 @@ GAP = "    gives    "
 
 
 class Example(NamedTuple):
-    """A script, what it prints, its picture and that of the table before its steps, which a faulty one lacks."""
+    """A script, what it prints, its picture and that of its table before its steps; a faulty one has no pictures."""
 
     script: str
     output: str
@@ -72,12 +72,12 @@ def constant(name, cases):
 def test_cases(top):
     """The module of the examples that the tests run."""
     made = examples(top)
-    whole = [(name, it.script, it.output, it.picture) for name, it in made.items()]
+    whole = [(name, it.script, it.output, it.output if it.is_faulty() else it.picture) for name, it in made.items()]
     before = {("\n".join([*it.front(), ""]), it.before): name for name, it in made.items() if it.before}
     out = ["//! The scripts of examples/ with what they print and their pictures. `docs/make` makes this file.", ""]
-    out += ["/// A name, a script, its output and its picture, which a faulty one lacks: U+001F stands after each, and"]
-    out += ["/// U+001E before the next name.", *constant("EXAMPLES", whole), ""]
-    out += ["/// A name, the lines in front of the steps and their picture, in the same way."]
+    out += ["/// A name, a script, its output and its picture, or the fault twice: U+001F stands between them, and U+001E"]
+    out += ["/// before the next name.", *constant("EXAMPLES", whole), ""]
+    out += ["/// A name, the lines in front of the steps, and their picture, in the same way."]
     return "\n".join([*out, *constant("BEFORE", [(name, *it) for it, name in before.items()])]) + "\n"
 
 

@@ -1,7 +1,7 @@
 //! The scripts of examples/ with what they print and their pictures. `docs/make` makes this file.
 
-/// A name, a script, its output and its picture, which a faulty one lacks: U+001F stands after each, and
-/// U+001E before the next name.
+/// A name, a script, its output and its picture, or the fault twice: U+001F stands between them, and U+001E
+/// before the next name.
 pub(super) const EXAMPLES: &str = "\
 clean\u{1f}row\tName\tTown\nrow\tAda\\t\tLon\u{7}don\r\nclean\tall\n\u{1f}shape\t2\t2\nrow\tName\tTown\nrow\tAda\tLondon\n\u{1f}+------+--------+\n| Name | Town   |\n+------+--------+\n| Ada  | London |\n+------+--------+\n\u{1e}\
 concat-horizontal\u{1f}row\tApple\nrow\tPear\nconcat\thorizontal\t-\t3\t1\t3\t5\t8\n\u{1f}shape\t3\t2\nrow\tApple\t3\nrow\tPear\t5\nrow\t-\t8\n\u{1f}+-------+---+\n| Apple | 3 |\n+-------+---+\n| Pear  | 5 |\n+-------+---+\n| -     | 8 |\n+-------+---+\n\u{1e}\
@@ -13,14 +13,14 @@ cspan-zero\u{1f}row\tAda\t1\t2\nrow\tBen\t\till\ncspan\t0\tcell\t1\t2\n\u{1f}sha
 dup\u{1f}row\tDay\tDish\nrow\tMonday\tSoup\nrow\tFriday\t\ndup\tcell\t2\t1\tcell\t1\t1\n\u{1f}shape\t3\t2\nrow\tDay\tDish\nrow\tMonday\tSoup\nrow\tFriday\tSoup\n\u{1f}+--------+------+\n| Day    | Dish |\n+--------+------+\n| Monday | Soup |\n+--------+------+\n| Friday | Soup |\n+--------+------+\n\u{1e}\
 extract\u{1f}row\tName\tMaths\tMusic\tArt\nrow\tAda\t1\t2\t1\nrow\tBen\t3\t1\t2\nrow\tEva\t2\t3\t1\nextract\t1\t3\t0\t2\n\u{1f}shape\t2\t2\nrow\tAda\t1\nrow\tBen\t3\n\u{1f}+-----+---+\n| Ada | 1 |\n+-----+---+\n| Ben | 3 |\n+-----+---+\n\u{1e}\
 extract-merged\u{1f}row\tFruit\tPrice\tPrice\nrow\tFruit\tNorth\tSouth\nrow\tApple\t2\t3\nrow\tPear\t4\t5\nspan\t0\t0\t2\t1\nspan\t0\t1\t1\t2\nextract\t0\t4\t0\t2\n\u{1f}shape\t4\t2\nrow\tFruit\tPrice\nrow\tFruit\tNorth\nrow\tApple\t2\nrow\tPear\t4\nspan\t0\t0\t2\t1\n\u{1f}+-------+-------+\n| Fruit | Price |\n+       +-------+\n|       | North |\n+-------+-------+\n| Apple | 2     |\n+-------+-------+\n| Pear  | 4     |\n+-------+-------+\n\u{1e}\
-fault-1\u{1f}row\tApple\t3\nhide\trow\t0\n\u{1f}line 2: fault 1\n\u{1f}\u{1e}\
-fault-2\u{1f}row\tApple\t3\nset\tcell\t0\t1\n\u{1f}line 2: fault 2\n\u{1f}\u{1e}\
-fault-3\u{1f}row\tApple\t3\nset\trow\tfirst\tsold\n\u{1f}line 2: fault 3\n\u{1f}\u{1e}\
-fault-4\u{1f}row\tFile\nrow\tC:\\users\n\u{1f}line 2: fault 4\n\u{1f}\u{1e}\
-fault-5\u{1f}row\tApple\t3\nset\tinverse\tinverse\tinverse\tinverse\tinverse\tinverse\tinverse\tinverse\tinverse\tinverse\tinverse\tinverse\tinverse\tinverse\tinverse\tinverse\tinverse\tinverse\tinverse\tinverse\tinverse\tinverse\tinverse\tinverse\tinverse\tinverse\tinverse\tinverse\tinverse\tinverse\tinverse\tinverse\tinverse\tinverse\tinverse\tinverse\tinverse\tinverse\tinverse\tinverse\tinverse\tinverse\tinverse\tinverse\tinverse\tinverse\tinverse\tinverse\tinverse\tinverse\tinverse\tinverse\tinverse\tinverse\tinverse\tinverse\tinverse\tinverse\tinverse\tinverse\tinverse\tinverse\tinverse\tinverse\tall\tsold\n\u{1f}line 2: fault 5\n\u{1f}\u{1e}\
-fault-6\u{1f}row\tApple\t3\nset\tall\t-\nrow\tPear\t5\n\u{1f}line 3: fault 6\n\u{1f}\u{1e}\
-fault-7\u{1f}row\t2025\t\nrow\tSpring\tAutumn\nspan\t1\t1\t1\t2\n\u{1f}line 3: fault 7\n\u{1f}\u{1e}\
-fault-8\u{1f}shape\t2\t2\nrow\tSpring\tAutumn\nrow\t120\t98\nrow\t131\t102\n\u{1f}line 1: fault 8\n\u{1f}\u{1e}\
+fault-1\u{1f}row\tApple\t3\nhide\trow\t0\n\u{1f}line 2: fault 1\n\u{1f}line 2: fault 1\n\u{1e}\
+fault-2\u{1f}row\tApple\t3\nset\tcell\t0\t1\n\u{1f}line 2: fault 2\n\u{1f}line 2: fault 2\n\u{1e}\
+fault-3\u{1f}row\tApple\t3\nset\trow\tfirst\tsold\n\u{1f}line 2: fault 3\n\u{1f}line 2: fault 3\n\u{1e}\
+fault-4\u{1f}row\tFile\nrow\tC:\\users\n\u{1f}line 2: fault 4\n\u{1f}line 2: fault 4\n\u{1e}\
+fault-5\u{1f}row\tApple\t3\nset\tinverse\tinverse\tinverse\tinverse\tinverse\tinverse\tinverse\tinverse\tinverse\tinverse\tinverse\tinverse\tinverse\tinverse\tinverse\tinverse\tinverse\tinverse\tinverse\tinverse\tinverse\tinverse\tinverse\tinverse\tinverse\tinverse\tinverse\tinverse\tinverse\tinverse\tinverse\tinverse\tinverse\tinverse\tinverse\tinverse\tinverse\tinverse\tinverse\tinverse\tinverse\tinverse\tinverse\tinverse\tinverse\tinverse\tinverse\tinverse\tinverse\tinverse\tinverse\tinverse\tinverse\tinverse\tinverse\tinverse\tinverse\tinverse\tinverse\tinverse\tinverse\tinverse\tinverse\tinverse\tall\tsold\n\u{1f}line 2: fault 5\n\u{1f}line 2: fault 5\n\u{1e}\
+fault-6\u{1f}row\tApple\t3\nset\tall\t-\nrow\tPear\t5\n\u{1f}line 3: fault 6\n\u{1f}line 3: fault 6\n\u{1e}\
+fault-7\u{1f}row\t2025\t\nrow\tSpring\tAutumn\nspan\t1\t1\t1\t2\n\u{1f}line 3: fault 7\n\u{1f}line 3: fault 7\n\u{1e}\
+fault-8\u{1f}shape\t2\t2\nrow\tSpring\tAutumn\nrow\t120\t98\nrow\t131\t102\n\u{1f}line 1: fault 8\n\u{1f}line 1: fault 8\n\u{1e}\
 footer\u{1f}row\tApple\t3\nrow\tPear\t5\nfooter\t8 kilos\n\u{1f}shape\t3\t2\nrow\tApple\t3\nrow\tPear\t5\nrow\t8 kilos\t\nspan\t2\t0\t1\t2\n\u{1f}+-------+---+\n| Apple | 3 |\n+-------+---+\n| Pear  | 5 |\n+-------+---+\n| 8 kilos   |\n+-------+---+\n\u{1e}\
 header\u{1f}row\tApple\t3\nrow\tPear\t5\nheader\tFruit\n\u{1f}shape\t3\t2\nrow\tFruit\t\nrow\tApple\t3\nrow\tPear\t5\nspan\t0\t0\t1\t2\n\u{1f}+-------+---+\n| Fruit     |\n+-------+---+\n| Apple | 3 |\n+-------+---+\n| Pear  | 5 |\n+-------+---+\n\u{1e}\
 hmerge\u{1f}row\tName\tMaths\tMusic\tArt\nrow\tAda\till\till\t1\nrow\tBen\t2\t2\t2\nhmerge\n\u{1f}shape\t3\t4\nrow\tName\tMaths\tMusic\tArt\nrow\tAda\till\till\t1\nrow\tBen\t2\t2\t2\nspan\t1\t1\t1\t2\nspan\t2\t1\t1\t3\n\u{1f}+------+-------+-------+-----+\n| Name | Maths | Music | Art |\n+------+-------+-------+-----+\n| Ada  | ill           | 1   |\n+------+-------+-------+-----+\n| Ben  | 2                   |\n+------+-------+-------+-----+\n\u{1e}\
@@ -78,7 +78,7 @@ vmerge\u{1f}row\tNorth\tJanuary\t120\nrow\tNorth\tFebruary\t98\nrow\tSouth\tFebr
 vpanel\u{1f}row\tAda\tLondon\nrow\tBen\tOxford\nvpanel\t0\tEngland\n\u{1f}shape\t2\t3\nrow\tEngland\tAda\tLondon\nrow\t\tBen\tOxford\nspan\t0\t0\t2\t1\n\u{1f}+---------+-----+--------+\n| England | Ada | London |\n+         +-----+--------+\n|         | Ben | Oxford |\n+---------+-----+--------+\n\u{1e}\
 vpanelw\u{1f}row\tAda\tLondon\nrow\tBen\tOxford\nvpanelw\t0\t4\tEngland\n\u{1f}shape\t2\t3\nrow\tEngl\\nand\tAda\tLondon\nrow\t\tBen\tOxford\nspan\t0\t0\t2\t1\n\u{1f}+------+-----+--------+\n| Engl | Ada | London |\n+ and  +-----+--------+\n|      | Ben | Oxford |\n+------+-----+--------+\n";
 
-/// A name, the lines in front of the steps and their picture, in the same way.
+/// A name, the lines in front of the steps, and their picture, in the same way.
 pub(super) const BEFORE: &str = "\
 clean\u{1f}row\tName\tTown\nrow\tAda\\t\tLon\u{7}don\r\n\u{1f}+------+----------+\n| Name | Town     |\n+------+----------+\n| Ada␉ | Lon␇don␍ |\n+------+----------+\n\u{1e}\
 concat-horizontal\u{1f}row\tApple\nrow\tPear\n\u{1f}+-------+\n| Apple |\n+-------+\n| Pear  |\n+-------+\n\u{1e}\
