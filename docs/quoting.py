@@ -1,7 +1,8 @@
 """What pages quote of the repository: lines such as `code:PATH NAME ..` become what they name.
 
-    script:NAME, printed:NAME   a script of examples/gallery, and what it prints
-    shown:NAME                  both as a picture
+    script:NAME, printed:NAME   a script of examples/, and what it prints
+    drawn:NAME                  its picture
+    shown:NAME                  its steps, its table before them, and its picture
     whole:PATH                  a file
     code:PATH NAME ..           functions of a file, with the `use` lines that they need
     own:CRATE NAME              the lines of crates.txt of a program that is made one's own, under a name

@@ -1,12 +1,12 @@
-//! Prints a diary as a calendar.
+//! Draws a diary as a calendar.
 //!
-//! Each line of the input has a day and an entry, with a tab between them; the first line names the two. The
-//! output has a line with the names of a week's days, and then for each week a line of days and one of entries.
+//! Each line of the input has a day and its entry, with a tab between; the first names both. Each week becomes a
+//! row of days and one of entries.
 #![tactic(auto)]
 
 use std::alloc::{AllocError, Global};
 use std::io;
-use tabled_rows::records::IntoRecords;
+use tabled_draw::draw;
 use tabled_settings::concat::Concat;
 use tabled_settings::split::Split;
 use tabled_table::Table;
@@ -19,11 +19,12 @@ fn main(rt: HostRuntime) -> io::Result<()> {
         diary.push_record(alloc, cells(alloc, line?.as_str())?)?;
     }
     let calendar = calendar(alloc, diary)?;
-    for row in calendar.get_records().iter_rows() {
-        let texts: Vec<&str> = row.iter().map(|cell| cell.as_str()).collect(alloc)?;
-        rt.println(texts.join(alloc, "\t")?)?;
-    }
-    Ok(())
+    draw(
+        alloc,
+        &mut io::writer(&rt),
+        calendar.get_records(),
+        calendar.get_config(),
+    )
 }
 
 /// The cells of a line.
