@@ -1,7 +1,6 @@
 //! Draws a diary as a calendar.
 //!
-//! Each line of the input has a day and its entry, with a tab between; the first names both. Each week becomes a
-//! row of days and one of entries.
+//! A line of the input has a day, a tab and its entry; the first line names both.
 #![tactic(auto)]
 
 use std::alloc::{AllocError, Global};
