@@ -3,8 +3,9 @@
     script:NAME, printed:NAME   a script of examples/, and what it prints
     drawn:NAME                  its picture
     shown:NAME                  its steps, its table before them, and its picture
-    whole:PATH                  a file
+    whole:PATH                  a file, or the files of a folder
     code:PATH NAME ..           functions of a file, with the `use` lines that they need
+    listed:CRATE                a crate's line of crates.txt
     own:CRATE NAME              the lines of crates.txt of a program that is made one's own, under a name
     crates:all                  a table of the crates, and what each uses
     files:all                   the files of the crates without tests, and what each is about
@@ -38,8 +39,21 @@ def methods_of(top):
     return methods
 
 
+def fenced(language, text):
+    return f"```{language}\n{text.strip()}\n```"
+
+
 def rust(text):
-    return f"```rust\n{text.strip()}\n```"
+    return fenced("rust", text)
+
+
+def whole(top, path):
+    """A file of code, of specs/ or of proofs/, or the files of a folder with their paths in it."""
+    if (top / path).is_dir():
+        files = sorted(it for it in (top / path).rglob("*") if it.is_file())
+        return "\n\n".join(f"`{it.relative_to(top / path)}`:\n\n{whole(top, it.relative_to(top))}" for it in files)
+    text = (top / path).read_text()
+    return rust(text) if str(path).endswith(".rt") else fenced("text", text)
 
 
 def code(top, path, *names):
@@ -118,8 +132,9 @@ def file_list(top, _):
 def quoted(top, prose):
     """Prose with what its lines name."""
     makers = {
-        "whole": lambda path: rust((top / path).read_text()),
+        "whole": lambda path: whole(top, path),
         "code": lambda *words: code(top, *words),
+        "listed": lambda crate: f"    {crate}: {' '.join(crates_of(top)[crate])}",
         "own": lambda *words: own(top, *words),
         "crates": lambda word: crate_table(top, word),
         "files": lambda word: file_list(top, word),

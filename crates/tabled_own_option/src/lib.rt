@@ -1,0 +1,9 @@
+//! An option of one's own: a first column of row numbers.
+#![tactic(auto)]
+
+pub mod laws;
+mod row_numbers;
+#[cfg(test)]
+mod tests;
+
+pub use row_numbers::RowNumbers;

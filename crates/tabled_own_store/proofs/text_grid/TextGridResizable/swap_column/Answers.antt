@@ -1,0 +1,10 @@
+use Rattle.std.proofs.Common.{◌≡◌, ◌∙◌, arith}
+use Rattle.std.proofs.lemmas.Grind.{common_steps}
+use Rattle.std.specs.Vec.{with_items}
+use Rattle.tabled_grid.proofs.FlatStore.{columns_swapped}
+use Rattle.tabled_own_store.proofs.text_grid.TextGridResizable.swap_column.Goals as goal
+
+pub returns-clause-swapped : goal.returns-clause-swapped
+returns-clause-swapped c =
+    let items : (with_items c.self.inside.cells c.swap_each.new.cells).items ≡ c.swap_each.new.cells = grind (arith, common_steps) in
+    rw (← c.self.view_is) (columns_swapped _ _ _ c.self.invariant c.args.j c.args.k _ (items ∙ rw c.deref_mut.ensures.value at c.swap_each.ensures))

@@ -1,0 +1,9 @@
+//! A store of one's own: texts in one vector, row after row.
+#![tactic(auto)]
+
+mod moves;
+#[cfg(test)]
+mod tests;
+mod text_grid;
+
+pub use text_grid::TextGrid;
