@@ -67,38 +67,38 @@ fn one(alloc: Global) -> String {
     }
 }
 
-/// Tables of three columns, with the columns that have a first `1`, and the cells that are `1`.
-const ONES: [(usize, &str, &str, &str); 8] = [
-    (3, "1 2 3 1 2 3 1 2 3", "c0", "0:0 1:0 2:0"),
-    (3, "1 2 3 1 1 3 1 2 1", "c0", "0:0 1:0 1:1 2:0 2:2"),
+/// Tables, with the columns that have a first `1`, and the cells that are `1`.
+const ONES: [((usize, usize), &str, &str, &str); 9] = [
+    ((3, 3), "1 2 3 1 2 3 1 2 3", "c0", "0:0 1:0 2:0"),
+    ((3, 3), "1 2 3 1 1 3 1 2 1", "c0", "0:0 1:0 1:1 2:0 2:2"),
     (
-        3,
+        (3, 3),
         "1 1 3 1 1 3 1 1 1",
         "c0 c1",
         "0:0 0:1 1:0 1:1 2:0 2:1 2:2",
     ),
     (
-        3,
+        (3, 3),
         "1 1 1 1 1 3 1 1 1",
         "c0 c1 c2",
         "0:0 0:1 0:2 1:0 1:1 2:0 2:1 2:2",
     ),
     (
-        3,
+        (3, 3),
         "0 1 1 1 1 3 1 1 1",
         "c1 c2",
         "0:1 0:2 1:0 1:1 2:0 2:1 2:2",
     ),
-    (3, "0 0 0 1 1 3 1 1 1", "", "1:0 1:1 2:0 2:1 2:2"),
-    (1, "11 01 10", "", ""),
-    (0, "", "", ""),
+    ((3, 3), "0 0 0 1 1 3 1 1 1", "", "1:0 1:1 2:0 2:1 2:2"),
+    ((1, 3), "11 01 10", "", ""),
+    ((0, 0), "", "", ""),
+    ((3, 0), "", "", ""),
 ];
 
 #[test]
 fn finds_texts(rt: HostRuntime) {
     let alloc = rt.alloc();
-    for (rows, texts, columns, cells) in ONES {
-        let shape = (rows, 3);
+    for (shape, texts, columns, cells) in ONES {
         assert!(rt; finds(alloc, Locator::column(one(alloc)), shape, texts, columns));
         assert!(rt; finds(alloc, Locator::content(one(alloc)), shape, texts, cells));
         let by = Locator::by(|text| text == "1");
@@ -233,6 +233,8 @@ fn marks_rows_and_columns_of_any_range(rt: HostRuntime) {
         assert!(rt; marked(alloc, Rows::new(start..end), count, want));
         assert!(rt; marked(alloc, Columns::new(start..end), count, want));
     }
+    assert!(rt; marked(alloc, Rows::new(..=usize::MAX), 2, &[true, true]));
+    assert!(rt; marked(alloc, Columns::new(..=usize::MAX), 2, &[true, true]));
     assert!(rt; marked(alloc, Rows::last(), 3, &[false, false, true]));
     assert!(rt; marked(alloc, Columns::one(usize::MAX), 2, &[false, false]));
 }

@@ -42,6 +42,12 @@ fn names_ranges(rt: HostRuntime) {
         assert!(rt; names(alloc, Rows::new((from, to)), shape, rows));
         assert!(rt; names(alloc, Columns::new((from, to)), shape, columns));
     }
+    for (start, end, rows, columns) in [(1, 5, "r1 r2 r3 r4", "c1 c2 c3 c4"), (3, 1, "", "")] {
+        assert!(rt; names(alloc, Rows::new(start..end), (4, 1), rows));
+        assert!(rt; names(alloc, Columns::new(start..end), (4, 1), columns));
+    }
+    assert!(rt; names(alloc, Rows::new(usize::MAX..=usize::MAX), (4, 1), ""));
+    assert!(rt; names(alloc, Columns::new(usize::MAX..=usize::MAX), (4, 1), ""));
 }
 
 #[test]
@@ -96,6 +102,8 @@ fn names_one_row_or_column(rt: HostRuntime) {
     let alloc = rt.alloc();
     for (shape, first_row, last_row, first_column, last_column) in [
         ((5, 2), "r0", "r4", "c0", "c1"),
+        ((5, 29), "r0", "r4", "c0", "c28"),
+        ((100, 2), "r0", "r99", "c0", "c1"),
         ((0, 0), "", "", "", ""),
         ((5, 0), "", "", "", ""),
         ((0, 5), "", "", "", ""),

@@ -13,6 +13,7 @@ fn skips_and_steps(rt: HostRuntime) {
         (2, "r3 r4", "r1 r3"),
         (3, "r4", "r1 r4"),
         (4, "", "r1"),
+        (100, "", "r1"),
         (usize::MAX, "", "r1"),
     ] {
         assert!(rt; names(alloc, Rows::new(1..5).skip(n), (10, 10), behind));

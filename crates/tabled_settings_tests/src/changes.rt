@@ -26,6 +26,8 @@ pub(crate) enum Change {
     Split(Split),
     /// The rows from one up to another one are kept, and of these the columns.
     Segment(usize, usize, usize, usize),
+    /// The columns from one on are kept.
+    ColumnsFrom(usize),
     /// The rows from one up to another one go.
     RemoveRows(usize, usize),
     RemoveColumn(usize),
@@ -63,6 +65,7 @@ where
         Change::Segment(top, bottom, left, right) => {
             Extract::segment(top..bottom, left..right).change(alloc, records, cfg, &mut ())
         }
+        Change::ColumnsFrom(left) => Extract::columns(left..).change(alloc, records, cfg, &mut ()),
         Change::RemoveRows(top, bottom) => {
             Remove::row(Rows::new(top..bottom)).change(alloc, records, cfg, &mut ())
         }

@@ -41,11 +41,23 @@ fn segments_are_kept(rt: HostRuntime) -> Result<(), Fail> {
 }
 
 #[test]
-fn ranges_without_an_end_are_kept(rt: HostRuntime) -> Result<(), Fail> {
-    let alloc = rt.alloc();
-    assert!(rt; makes_flat(alloc, "a b / c d /", Extract::segment(0..9, 1..), "b / d /"));
-    assert!(rt; makes_flat(alloc, "a b / c d /", Extract::rows(5..), ""));
-    assert!(rt; makes_flat(alloc, "a b / c d /", Extract::columns(5..), "/ /"));
+fn ranges_to_the_end_are_kept(rt: HostRuntime) -> Result<(), Fail> {
+    let (alloc, old) = (rt.alloc(), "a b / c d /");
+    assert!(rt; makes_flat(alloc, old, Extract::segment(0..9, 1..), "b / d /"));
+    assert!(rt; makes_flat(alloc, old, Extract::rows(5..), ""));
+    assert!(rt; makes_flat(alloc, old, Extract::columns(5..), "/ /"));
+    assert!(rt; makes_flat(alloc, old, Extract::rows(..=usize::MAX), old));
+    assert!(rt; makes_flat(alloc, old, Extract::columns(1..=usize::MAX), "b / d /"));
+    let (merged, kept) = ([(0, 1, 1, 2), (0, 0, 0, 0)], Change::ColumnsFrom(1));
+    assert!(rt;
+        changes::carries(
+            alloc,
+            "a b c / d e f /",
+            merged,
+            kept,
+            "b c / e f / 0.0:1x2"
+        )
+    );
     Ok(())
 }
 

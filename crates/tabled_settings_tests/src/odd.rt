@@ -9,7 +9,8 @@ use tabled_grid::config::Entity;
 use tabled_grid::config::Offset::Start;
 use tabled_grid::records::GridStore;
 use tabled_options::{Modify, TextRef};
-use tabled_select::object::{EntityList, Object, ObjectIterator, Rows, entities};
+use tabled_select::object::{Cell, EntityList, Object, ObjectIterator, Rows, entities};
+use tabled_settings::duplicate::Dup;
 use tabled_settings::extract::Extract;
 use tabled_settings::format::Format;
 use tabled_settings::reverse::Reverse;
@@ -63,13 +64,18 @@ fn what_repeats_and_leaves_the_table_is_named_once_and_inside_it(rt: HostRuntime
 }
 
 #[test]
-fn ranges_at_the_end_of_usize_change_nothing(rt: HostRuntime) {
+fn what_lies_past_the_table_changes_nothing(rt: HostRuntime) {
     let (alloc, old) = (rt.alloc(), "a b / c d /");
     let last = Reverse::columns(usize::MAX).limit(Start(1));
     assert!(rt; makes_flat(alloc, old, last, old));
     assert!(rt; makes_flat(alloc, old, Split::column(usize::MAX), old));
     let last = Modify::list(Rows::new(usize::MAX..=usize::MAX), TextRef("x"));
     assert!(rt; makes_flat(alloc, old, last, old));
+    for (row, col) in [(2, 0), (0, 2), (2, 2)] {
+        let past = Cell::new(row, col);
+        assert!(rt; makes_flat(alloc, old, Dup::new(past, Rows::first()), old));
+        assert!(rt; makes_flat(alloc, old, Dup::new(Rows::first(), past), old));
+    }
 }
 
 #[test]

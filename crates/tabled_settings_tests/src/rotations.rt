@@ -53,8 +53,16 @@ fn rows_and_columns_are_reversed(rt: HostRuntime) -> Result<(), Fail> {
     let cases = [
         ("a / b / c /", Reverse::rows(0), "c / b / a /"),
         ("a b c / d e f /", Reverse::columns(1), "a c b / d f e /"),
-        ("a b c /", Reverse::columns(0).limit(End(1)), "b a c /"),
-        ("a b c /", Reverse::columns(0).limit(End(4)), "a b c /"),
+        (
+            "123 456 789 /",
+            Reverse::columns(0).limit(End(1)),
+            "456 123 789 /",
+        ),
+        (
+            "123 456 789 /",
+            Reverse::columns(0).limit(End(4)),
+            "123 456 789 /",
+        ),
         ("a b c /", Reverse::columns(1).limit(End(2)), "a b c /"),
         (
             "a b c /",

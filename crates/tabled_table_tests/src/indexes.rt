@@ -2,13 +2,16 @@
 
 use crate::call::{builder, holds};
 use std::alloc::{AllocError, Global};
+use std::test::Fail;
+use tabled_grid::config::Position;
+use tabled_table::Table;
 use tabled_table::builder::{Builder, IndexBuilder};
 
 /// A call of an index.
 #[derive(Clone, Copy)]
 enum Turn {
     Hide,
-    Name,
+    Name(&'static str),
     Unname,
     Column(usize),
     Transpose,
@@ -19,7 +22,7 @@ impl Turn {
     fn make(self, alloc: Global, index: IndexBuilder) -> Result<IndexBuilder, AllocError> {
         match self {
             Turn::Hide => Ok(index.hide()),
-            Turn::Name => Ok(index.name(Some(String::from_str(alloc, "index")?))),
+            Turn::Name(name) => Ok(index.name(Some(String::from_str(alloc, name)?))),
             Turn::Unname => Ok(index.name(None)),
             Turn::Column(column) => index.column(alloc, column),
             Turn::Transpose => index.transpose(alloc),
@@ -29,19 +32,45 @@ impl Turn {
 }
 
 /// What two calls make of the index of a builder.
-fn turned(alloc: Global, builder: Builder, turns: [Turn; 2]) -> Result<Builder, AllocError> {
+fn turned(alloc: Global, builder: Builder, turns: [Turn; 2]) -> Result<IndexBuilder, AllocError> {
     let [first, second] = turns;
     let index = first.make(alloc, IndexBuilder::from_builder(alloc, builder)?)?;
-    second.make(alloc, index)?.into_builder(alloc)
+    second.make(alloc, index)
 }
 
 /// What two calls make of the index of records.
-fn indexed(alloc: Global, records: &[&str], turns: [Turn; 2]) -> Result<Builder, AllocError> {
+fn indexed(alloc: Global, records: &[&str], turns: [Turn; 2]) -> Result<IndexBuilder, AllocError> {
     turned(alloc, builder(alloc, records)?, turns)
 }
 
+/// The rows of a table, each as words and a slash.
+fn spelled_table(alloc: Global, table: &Table) -> Result<String, AllocError> {
+    let (rows, columns) = table.shape();
+    let mut spelled = String::new(alloc);
+    for row in 0..rows {
+        for col in 0..columns {
+            let text = table.get_records().get(Position::new(row, col)).as_str();
+            spelled.push_str(if text.is_empty() { "_" } else { text })?;
+            spelled.push(' ')?;
+        }
+        spelled.push('/')?;
+    }
+    Ok(spelled)
+}
+
+/// Whether an index is built to a table of n columns and these rows.
+fn builds(
+    alloc: Global,
+    index: IndexBuilder,
+    columns: usize,
+    want: &str,
+) -> Result<bool, AllocError> {
+    let table = index.build(alloc)?;
+    Ok(table.count_columns() == columns && spelled_table(alloc, &table)?.as_str() == want)
+}
+
 #[test]
-fn indexes_records(rt: HostRuntime) {
+fn indexes_records(rt: HostRuntime) -> Result<(), Fail> {
     use Turn::*;
     let alloc = rt.alloc();
     let three = ["i a b", "0 v w", "2 x y"];
@@ -67,7 +96,7 @@ fn indexes_records(rt: HostRuntime) {
         ),
         (
             three.as_slice(),
-            [Column(1), Name],
+            [Column(1), Name("index")],
             3,
             "_ i b /index _ _ /v 0 w /x 2 y /",
         ),
@@ -109,30 +138,39 @@ fn indexes_records(rt: HostRuntime) {
         ),
         (
             ["i column1 column2", "0 value1 value2"].as_slice(),
-            [Column(1), Name],
+            [Column(1), Name("index")],
             3,
             "_ i column2 /index _ _ /value1 0 value2 /",
         ),
         (["h", "v"].as_slice(), [Column(0), Hide], 0, "//"),
         (["a b"].as_slice(), [Transpose, Hide], 0, "///"),
         ([""].as_slice(), [Keep, Keep], 0, ""),
-        ([""].as_slice(), [Name, Hide], 0, "/"),
-        ([""].as_slice(), [Name, Keep], 1, "_ /index /"),
+        ([""].as_slice(), [Name("index"), Hide], 0, "/"),
+        ([""].as_slice(), [Name("index"), Keep], 1, "_ /index /"),
     ] {
-        assert!(rt; holds(alloc, indexed(alloc, records, turns), columns, want));
+        let made = indexed(alloc, records, turns)?.into_builder(alloc);
+        assert!(rt; holds(alloc, made, columns, want));
+        assert!(rt; builds(alloc, indexed(alloc, records, turns)?, columns, want)?);
     }
+    Ok(())
 }
 
 /// What two calls make of the index of a builder with three columns and no records.
-fn declared(alloc: Global, turns: [Turn; 2]) -> Result<Builder, AllocError> {
+fn declared(alloc: Global, turns: [Turn; 2]) -> Result<IndexBuilder, AllocError> {
     turned(alloc, Builder::with_capacity(alloc, 0, 3)?, turns)
 }
 
 #[test]
-fn indexes_nothing(rt: HostRuntime) {
+fn indexes_nothing(rt: HostRuntime) -> Result<(), Fail> {
+    use Turn::*;
     let alloc = rt.alloc();
-    for turns in [[Turn::Name, Turn::Hide], [Turn::Column(0), Turn::Transpose]] {
-        assert!(rt; holds(alloc, declared(alloc, turns), 0, ""));
-        assert!(rt; holds(alloc, indexed(alloc, &[], turns), 0, ""));
+    for turns in [[Name("n"), Keep], [Name("n"), Hide], [Column(0), Transpose]] {
+        let made = declared(alloc, turns)?.into_builder(alloc);
+        assert!(rt; holds(alloc, made, 0, ""));
+        assert!(rt; builds(alloc, declared(alloc, turns)?, 0, "")?);
+        let made = indexed(alloc, &[], turns)?.into_builder(alloc);
+        assert!(rt; holds(alloc, made, 0, ""));
+        assert!(rt; builds(alloc, indexed(alloc, &[], turns)?, 0, "")?);
     }
+    Ok(())
 }

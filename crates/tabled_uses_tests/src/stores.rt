@@ -16,6 +16,8 @@ use tabled_uses::stores::{
     spelled, two_rows,
 };
 
+const TWO_ROWS: &str = "a b / c d /";
+
 /// What a store is after each change, spelled.
 fn states<R>(alloc: Global, mut records: R, changes: &[Change]) -> Result<Vec<String>, AllocError>
 where
@@ -56,9 +58,14 @@ where
     Ok(states)
 }
 
-/// What changes make of `a b / c d` in one vector of cells.
-fn flat(alloc: Global, changes: &[Change], lent: bool) -> Result<Vec<String>, AllocError> {
-    let records = VecRecords::new(alloc, two_rows(alloc)?)?;
+/// What changes make of a table in one vector of cells.
+fn flat(
+    alloc: Global,
+    old: &str,
+    changes: &[Change],
+    lent: bool,
+) -> Result<Vec<String>, AllocError> {
+    let records = tabled_testing::flat(alloc, old)?;
     if lent {
         lent_states(alloc, records, changes)
     } else {
@@ -67,8 +74,13 @@ fn flat(alloc: Global, changes: &[Change], lent: bool) -> Result<Vec<String>, Al
 }
 
 /// What they make of it in a vector for each row.
-fn nested(alloc: Global, changes: &[Change], lent: bool) -> Result<Vec<String>, AllocError> {
-    let records = two_rows(alloc)?;
+fn nested(
+    alloc: Global,
+    old: &str,
+    changes: &[Change],
+    lent: bool,
+) -> Result<Vec<String>, AllocError> {
+    let records = tabled_testing::nested(alloc, old)?;
     if lent {
         lent_states(alloc, records, changes)
     } else {
@@ -77,17 +89,17 @@ fn nested(alloc: Global, changes: &[Change], lent: bool) -> Result<Vec<String>, 
 }
 
 /// The states after changes, if they are the same in each kind of store, lent or not.
-fn agreed(alloc: Global, changes: &[Change]) -> Result<Option<Vec<String>>, AllocError> {
-    let made = flat(alloc, changes, false)?;
-    let same = flat(alloc, changes, true)? == made
-        && nested(alloc, changes, false)? == made
-        && nested(alloc, changes, true)? == made;
+fn agreed(alloc: Global, old: &str, changes: &[Change]) -> Result<Option<Vec<String>>, AllocError> {
+    let made = flat(alloc, old, changes, false)?;
+    let same = flat(alloc, old, changes, true)? == made
+        && nested(alloc, old, changes, false)? == made
+        && nested(alloc, old, changes, true)? == made;
     Ok(if same { Some(made) } else { None })
 }
 
-/// Whether changes make this of each kind of store.
-fn make(alloc: Global, changes: &[Change], want: &str) -> Result<bool, AllocError> {
-    match agreed(alloc, changes)? {
+/// Whether changes make this of a table in each kind of store.
+fn make(alloc: Global, old: &str, changes: &[Change], want: &str) -> Result<bool, AllocError> {
+    match agreed(alloc, old, changes)? {
         Some(states) => Ok(states.last().is_some_and(|last| last.as_str() == want)),
         None => Ok(false),
     }
@@ -121,7 +133,10 @@ fn changes_rows_and_columns(rt: HostRuntime) -> Result<(), Fail> {
             "8 x 1\n[a]\n[]\n[c]\n[]\n[b]\n[]\n[d]\n[]",
         ),
     ] {
-        assert!(rt; make(rt.alloc(), changes.as_slice(), want)?, "{want:?}");
+        assert!(rt;
+            make(rt.alloc(), TWO_ROWS, changes.as_slice(), want)?,
+            "{want:?}"
+        );
     }
     Ok(())
 }
@@ -146,15 +161,27 @@ fn swaps_rows_columns_and_cells(rt: HostRuntime) -> Result<(), Fail> {
             "3 x 3\n[][][]\n[b][][a]\n[d][][c]",
         ),
     ] {
-        assert!(rt; make(rt.alloc(), changes.as_slice(), want)?, "{want:?}");
+        assert!(rt;
+            make(rt.alloc(), TWO_ROWS, changes.as_slice(), want)?,
+            "{want:?}"
+        );
     }
     Ok(())
 }
 
 #[test]
-fn a_column_comes_into_rows_without_columns(rt: HostRuntime) -> Result<(), Fail> {
-    let changes = [RemoveColumn(1), RemoveColumn(0), PushRow, PushColumn];
-    assert!(rt; make(rt.alloc(), changes.as_slice(), "3 x 1\n[]\n[]\n[]")?);
+fn changes_a_table_once_or_some_times(rt: HostRuntime) -> Result<(), Fail> {
+    for (old, changes, want) in [
+        (
+            TWO_ROWS,
+            [RemoveColumn(1), RemoveColumn(0), PushRow, PushColumn].as_slice(),
+            "3 x 1\n[]\n[]\n[]",
+        ),
+        ("a b c /", [RemoveRow(0), PushRow].as_slice(), "1 x 0\n"),
+        ("a / b /", [SwapRow(1, 1)].as_slice(), "2 x 1\n[a]\n[b]"),
+    ] {
+        assert!(rt; make(rt.alloc(), old, changes, want)?, "{want:?}");
+    }
     Ok(())
 }
 
@@ -194,7 +221,7 @@ fn agrees_after_random_changes(rt: HostRuntime) -> Result<(), Fail> {
     for _ in 0..600 {
         changes.push(next_change(&mut seed))?;
     }
-    assert!(rt; agreed(rt.alloc(), changes.as_slice())?.is_some());
+    assert!(rt; agreed(rt.alloc(), TWO_ROWS, changes.as_slice())?.is_some());
     Ok(())
 }
 
