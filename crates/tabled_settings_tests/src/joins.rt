@@ -60,7 +60,13 @@ fn joins_that_are_refused_are_undone(rt: HostRuntime) -> Result<(), Fail> {
     // So many rows and columns are added, and so many texts written. Cells that the second table lacks aren't.
     let cases = [
         ("a /", Axis::Rows, "x y z /", (3, 5), "a - - / x y z /"),
-        ("a /", Axis::Columns, "x y / z w /", (3, 5), "a x y / - z w /"),
+        (
+            "a /",
+            Axis::Columns,
+            "x y / z w /",
+            (3, 5),
+            "a x y / - z w /",
+        ),
         ("a b /", Axis::Rows, "x /", (1, 1), "a b / x _ /"),
         ("a / b /", Axis::Columns, "x /", (1, 1), "a x / b _ /"),
     ];
