@@ -4,6 +4,7 @@ pub mod Carrying
 pub mod Free
 pub mod InPlace
 pub mod Pigeonhole
+pub mod PutIn
 pub mod RectanglesCarried
 pub mod Walks
 pub mod Worked

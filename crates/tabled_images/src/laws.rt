@@ -1,13 +1,18 @@
 //! Laws of merged cells that are carried along. Each is the contract of a function that does nothing.
 
-ghost use Rattle.std.specs.Prelude.{◌≡◌, ◌↔◌, ℕ, Some};
+ghost use Rattle.std.specs.Prelude.{◌≡◌, ◌↔◌, ℕ, List, Some, false};
 ghost use Rattle.std.specs.FinMap as map;
 ghost use Rattle.tabled_grid.specs.Fitting.{keep_fitting};
+ghost use Rattle.tabled_grid.specs.Grid.{Grid};
 ghost use Rattle.tabled_grid.specs.Places.{Places};
 ghost use Rattle.tabled_grid.specs.Rectangles.{Fits};
+ghost use Rattle.tabled_grid.specs.Shifts.{is_crossed};
 ghost use Rattle.tabled_grid.specs.Spans.{AreSpanSizes, SpanMap};
 ghost use Rattle.tabled_grid.specs.declared.config.position.Position.{Position};
+ghost use Rattle.tabled_grid.specs.declared.records.axis.Axis.{Axis};
+ghost use Rattle.tabled_grid.specs.declared.records.axis.Axis.TheVariants.{Columns, Rows};
 ghost use Rattle.tabled_images.specs.Images.{CarriesAll, IsFree, IsImage, KeepsPlaces, LeadsBack, carried};
+ghost use Rattle.tabled_images.specs.PutIn.{FitsGrid, PutsInColumn, PutsInRow};
 
 /// Those rectangles fit a table that lie inside it and share no cell with another one.
 pub fn fitting_rectangles_are_the_free_ones()
@@ -38,4 +43,12 @@ pub fn carried_there_and_back_is_as_it_was()
 /// Where the cells of a table keep their places, those merged cells stay that fit it.
 pub fn merged_cells_stay_with_their_cells()
     ensures { (places : Places) (rows columns : ℕ) (m : SpanMap) → AreSpanSizes m → KeepsPlaces places rows columns → carried places rows columns m ≡ keep_fitting rows columns m }
+{}
+
+/// Merged cells that fit do so once a row, or a column, is put in that none of them crosses. None crosses
+/// the first one.
+pub fn merged_cells_fit_once_a_line_is_put_in<A>()
+    ensures rows { (i : ℕ) (row : List A) (g h : Grid A) (m n : SpanMap) → PutsInRow i row g m h n → is_crossed Rows i m ≡ false → FitsGrid m g → FitsGrid n h }
+    ensures columns { (j : ℕ) (column : List A) (g h : Grid A) (m n : SpanMap) → PutsInColumn j column g m h n → is_crossed Columns j m ≡ false → FitsGrid m g → FitsGrid n h }
+    ensures first { (axis : Axis) (m : SpanMap) → is_crossed axis 0 m ≡ false }
 {}

@@ -1,0 +1,40 @@
+-- Merged cells once a row or a column is put in.
+use Rattle.std.proofs.Common.{◌≡◌, ℕ, ◌+◌, ◌≤◌, ◌⊎◌, inl, inr, true, false, cond, List, [], ◌∷◌, Some, refl, arith}
+use Rattle.std.specs.Prelude.{nat_eq, nat_lt}
+use Rattle.std.specs.FinMap.{entries, get}
+use Rattle.std.specs.List.{list_any}
+use Rattle.std.proofs.lemmas.Bool.{cases_Bool, false_from_ne_true}
+use borrow.Author.Tests.{eqb-true, ltb-true}
+use Rattle.tabled_grid.specs.Anchors.{Anchor}
+use Rattle.tabled_grid.specs.Axis.{line_of}
+use Rattle.tabled_grid.specs.Rectangles.{Fits}
+use Rattle.tabled_grid.specs.Shifts.{crosses_line, is_crossed, shifted}
+use Rattle.tabled_grid.specs.Spans.{SpanMap}
+use Rattle.tabled_grid.specs.declared.config.position.Position.{Position}
+use Rattle.tabled_grid.specs.declared.records.axis.Axis.{Axis}
+use Rattle.tabled_grid.specs.declared.records.axis.Axis.TheVariants.{Columns}
+use Rattle.tabled_grid.proofs.ShiftedFits.{fits_beside}
+
+none_cross : (axis : Axis) (es : List Anchor) → list_any (crosses_line axis 0) es ≡ false
+none_cross axis [] = refl
+none_cross axis (e ∷ es) =
+    let before : nat_lt (line_of axis e.0) 0 ≡ false = false_from_ne_true _ (λ t. omega (arith, ltb-true _ _ t)) in
+    rw (before, none_cross axis es) refl
+
+-- no rectangle begins before the first line
+pub none_crosses_the_first : (axis : Axis) (m : SpanMap) → is_crossed axis 0 m ≡ false
+none_crosses_the_first axis m = none_cross axis (entries m)
+
+-- without rows nothing is put in, and there are no merged cells
+pub fits_beside_rows : (m : SpanMap) (j rows columns : ℕ) → is_crossed Columns j m ≡ false → Fits m rows columns → Fits (shifted Columns j m) rows (cond (nat_eq rows 0) columns (columns + 1))
+fits_beside_rows m j rows columns free fits = either (cases_Bool (nat_eq rows 0))
+  where
+    wider : Fits (shifted Columns j m) rows (columns + 1)
+    wider = fits_beside m j rows columns free fits
+
+    inside : rows ≡ 0 → (a : Position) (size : ℕ × ℕ) → get (shifted Columns j m) a ≡ Some size → (a.row + size.0 ≤ rows) × (a.col + size.1 ≤ columns)
+    inside none a size has = absurd (omega (arith, none, (wider.sizes.each a size has).height, (wider.inside a size has).0))
+
+    either : (nat_eq rows 0 ≡ true) ⊎ (nat_eq rows 0 ≡ false) → Fits (shifted Columns j m) rows (cond (nat_eq rows 0) columns (columns + 1))
+    either (inl t) = rw t (record { sizes = wider.sizes; inside = inside (eqb-true _ _ t); apart = wider.apart })
+    either (inr f) = rw f wider

@@ -1,0 +1,92 @@
+"""What `./tabled_script --help` prints: docs/pages/HELP.txt, whose lines such as `said:verbs` become what the language's
+page, docs/pages/SCRIPT.md, and its sources say.
+"""
+
+import re
+import textwrap
+
+LEFT, WIDTH = 32, 116  # columns of what is written, and of a line
+SPECS, FAULTS = "crates/tabled_language/specs", "crates/tabled_language/src/fault.rt"
+
+
+def plain(text):
+    """Prose without its marks and links."""
+    return re.sub(r"\[([^]]*)\]\([^)]*\)", r"\1", text).replace("`", "").replace("**", "")
+
+
+def first_sentence(text):
+    return plain(re.split(r"(?<=\.) (?=[^a-z])|\n", text, maxsplit=1)[0]).rstrip(".:")
+
+
+def line(written, meaning):
+    """A line of what is written and its meaning, broken where it is long."""
+    left = f"  {plain(written):<{LEFT - 3}} "
+    return textwrap.fill(plain(meaning) or " ", WIDTH, initial_indent=left, subsequent_indent=" " * LEFT, drop_whitespace=bool(meaning), break_on_hyphens=False).rstrip()
+
+
+def under(prose, heading):
+    """What stands under a heading, up to the next one of its kind."""
+    return re.split(r"^## ", prose.partition(f"\n## {heading}\n")[2], maxsplit=1, flags=re.M)[0]
+
+
+def table_of(text):
+    """The rows of a table, without its head."""
+    rows = [it.split(" | ", 1) for it in text.split("\n") if " | " in it]
+    return rows[1:]
+
+
+def stop_where_other(what, found, wanted):
+    if sorted(found) != sorted(wanted):
+        raise SystemExit(f"docs/pages/SCRIPT.md: other {what} than those of the sources: {sorted({*found} ^ {*wanted})}")
+
+
+def words_of_choices(top, file, *names):
+    """The words of the choices that a file of definitions names."""
+    text = (top / SPECS / file).read_text()
+    parts = [re.search(rf"^{it} .*?(?=\n\n|\Z)", text, re.M | re.S)[0] for it in names]
+    return re.findall(r'codes "([^"]+)"', "\n".join(parts))
+
+
+def verbs(top, prose):
+    """Each verb with its words and what it does, in the page's groups."""
+    lines, found = [], []
+    for group in re.split(r"^## ", prose, flags=re.M):
+        parts = re.split(r"^### `", group, flags=re.M)
+        if len(parts) > 1:
+            title, _, about = parts[0].partition("\n")
+            about = first_sentence(about.strip())
+            lines += ["", textwrap.fill(f"{title}: {about[0].lower()}{about[1:]}." if about else title, WIDTH)]
+        for part in parts[1:]:
+            heading, _, body = part.partition("\n")
+            found.append(heading.partition("`")[0])
+            body = body.strip()
+            lines.append(line(heading, first_sentence(body)))
+            lines += [" " * LEFT + plain(it).rstrip(".") for it in re.findall(r"^- (`.*)", body, re.M)]
+    stop_where_other("verbs", found, words_of_choices(top, "Verb.antt", "steps", "says"))
+    return "\n".join(lines[1:])
+
+
+def selectors(top, prose):
+    lines = [it for it in under(prose, "Selectors").split("\n") if it.startswith("**")]
+    lines = [plain(it).partition(": ") for it in lines]
+    wanted = words_of_choices(top, "Selectors.antt", "plain_selectors", "selectors")
+    stop_where_other("selectors", [it.split()[0] for it, _, _ in lines], wanted)
+    return "\n".join(line(written, meaning.rstrip(".")) for written, _, meaning in lines)
+
+
+def faults(top, prose):
+    meanings = re.findall(r"/// (.*)\.\n    \w+ = (\d)", (top / FAULTS).read_text())
+    stop_where_other("faults", re.findall(r"^### Fault (\d): ", prose, re.M), [number for _, number in meanings])
+    return "\n".join(line(number, it[0].lower() + it[1:]) for it, number in meanings)
+
+
+def page(top):
+    prose = (top / "docs/pages/SCRIPT.md").read_text()
+    makers = {
+        "letters": lambda: "\n".join(line(*it) for it in table_of(under(prose, "Lines and words"))),
+        "verbs": lambda: verbs(top, prose),
+        "selectors": lambda: selectors(top, prose),
+        "statuses": lambda: "\n".join(line(*it) for it in table_of(under(prose, "Statuses"))),
+        "faults": lambda: faults(top, prose),
+    }
+    return re.sub(r"^said:(\w+)$", lambda it: makers[it[1]](), (top / "docs/pages/HELP.txt").read_text(), flags=re.M)
