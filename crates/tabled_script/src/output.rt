@@ -117,6 +117,9 @@ fn write_tab<W: Write>(writer: &mut W, held: &mut Vec<u8>) -> io::Result<()>
     ensures room { OnOk result (HasRoom PART held.new) }
 {
     hold_byte(held, b'\t');
+    if held.len() < PART {
+        return Ok(());
+    }
     send(writer, held)
 }
 
