@@ -1,20 +1,24 @@
 """The pages of docs/api: one a public module, and an index of all public names."""
 
+import os.path
 import re
 
-from contracts import first_sentence, module_words, parts_of, public_names, reexported, sources_of
+from contracts import (
+    first_sentence, imports_of_clauses, imports_of_types, module_words, owner_of, parts_of, public_names, sources_of,
+)
+from exports import Exports
 from phrases import REFUSED
 
 # Those of two stand for all.
 ALIKE = re.compile(r"tuples/(three|four|five|six|seven|eight|nine|ten)\.rt$")
-QUOTED = "`docs/make` makes this page from `src/`. [Definitions](%s) has the words of the clauses."
+QUOTED = "`docs/make` makes this page from `src/`. [Definitions](%s) has the words of the clauses%s."
 
 
 class Module:
-    """A public module of a crate, with its sources."""
+    """A public module of a crate: its sources, each with the parts that stand on its page below it, and its types."""
 
     def __init__(self, crate, name):
-        self.crate, self.name, self.sources = crate, name, []
+        self.crate, self.name, self.sources, self.types = crate, name, [], []
 
     def path(self):
         return "::".join([self.crate, *self.name])
@@ -23,20 +27,47 @@ class Module:
         """Its page, below docs/api."""
         return "/".join([self.crate, *self.name]) + ".md"
 
-    def to_docs(self):
-        """The way from its page to docs/."""
-        return "../" * (len(self.name) + 1)
+    def link(self, target):
+        """The way from its page to a file, named below docs/api."""
+        return os.path.relpath(target, os.path.dirname(self.file()))
+
+    def parts(self):
+        return [part for _, told in self.sources for _, part in told]
 
 
-def modules_of(top, crate):
+def modules_of(sources, crate):
     """The public modules of a crate that have something of their own."""
-    sources = sources_of(top / "crates" / crate / "src")
     public, found = public_names(sources), {}
     for source in sources:
         if not ALIKE.search(str(source.path)):
             module = found.setdefault(source.module, Module(crate, source.module))
-            module.sources.append((source, [*parts_of(source.text, public)]))
-    return found.values()
+            module.sources.append((source, [(source.text, it) for it in parts_of(source.text, public)]))
+            module.types += imports_of_types(crate, source, public)
+    for module in found.values():
+        module.sources = under_their_types(module.sources)
+    return [*found.values()]
+
+
+def under_their_types(sources):
+    """The parts of a module's files, where calls of a type and what it means stand below the type."""
+    types = {part.name for _, told in sources for _, part in told if part.kind in ("struct", "enum", "trait")}
+    below = {}
+
+    def is_owned(part):
+        return part.kind in ("call", "impl") and owner_of(part) in types
+
+    for _, told in sources:
+        for text, part in told:
+            if is_owned(part):
+                below.setdefault(owner_of(part), []).append((text, part))
+    found = []
+    for source, told in sources:
+        kept = []
+        for text, part in told:
+            if not is_owned(part):
+                kept += [(text, part), *(below.get(part.name, []) if part.name in types else [])]
+        found.append((source, kept))
+    return found
 
 
 def anchor(name):
@@ -48,12 +79,12 @@ def fenced(lines):
     return ["```text", *lines, "```"]
 
 
-def told(part):
-    """The lines of a page on one name."""
+def told(part, imports):
+    """The lines of a page on one name, which code imports so."""
     if part.kind == "impl":
         return [*part.words, *fenced(part.lines)]
     level = "###" if part.kind == "call" else "##"
-    return [f"{level} `{part.name}`", "", *part.words, "", *fenced(part.lines)]
+    return [f"{level} `{part.name}`", "", *part.words, "", *fenced([*imports, *[""] * bool(imports), *part.lines])]
 
 
 def bare_together(parts):
@@ -68,45 +99,88 @@ def bare_together(parts):
     return found
 
 
-def page(module, modules):
+def offered_elsewhere(module, exports, files):
+    """What a module offers of others: the path of each of these, and the names, each with the link to its page."""
+    found = {}
+    for here, target in exports.offered(module.path()):
+        at, _, name = target.rpartition("::")
+        if target in files and target != f"{module.path()}::{here}":
+            found.setdefault(at, []).append((here, name, files[target]))
+        elif target not in files and exports.described(target).rpartition("::")[0] != module.path():
+            at = exports.described(target).rpartition("::")[0]
+            found.setdefault(at, []).append((here, name, f"{files[at]}#{anchor(name)}"))
+    return found.items()
+
+
+def reexports(module, exports, files, link):
+    """A line for each module of which this one offers names."""
+    for at, names in offered_elsewhere(module, exports, files):
+        shown = (f"[`{here}`]({link(to)})" + f", there `{there}`" * (here != there) for here, there, to in names)
+        yield f"Re-exports of [`{at}`]({link(files[at])}): " + ", ".join(shown) + "."
+
+
+def imports_block(module):
+    """The end of a page: what a contract imports to speak of the words of its clauses and of its types."""
+    words = imports_of_clauses([it for _, told in module.sources for it in told])
+    out = ["## Imports", ""] if words or module.types else []
+    if words:
+        out += ["A contract of your own imports the words of these clauses so:", "", *fenced(words), ""]
+    if module.types:
+        out += ["And these types, as clauses see them:", "", *fenced(module.types), ""]
+    return out
+
+
+def page(module, modules, exports, files):
     """The page of a module, one of those of its crate."""
     first, _ = module.sources[0]
+    imported = imports_block(module)
     out = [f"# `{module.path()}`", "", *module_words(first.text), ""]
-    out += [QUOTED % (module.to_docs() + "DEFINITIONS.md"), "REFUSED", ""]
+    out += [QUOTED % (module.link("../DEFINITIONS.md"), ", and [Imports](#imports) their paths" * bool(imported)), "REFUSED", ""]
     inner = [it for it in modules if it.name and it.name[:-1] == module.name]
     if inner:
-        folder = module.file().rpartition("/")[2].removesuffix(".md")
-        links = (f"[`{it.name[-1]}`]({folder}/{it.name[-1]}.md)" for it in inner)
-        out += ["Modules: " + ", ".join(links) + ".", ""]
-    for path, listed in reexported(first.text):
-        if path.startswith("tabled_"):
-            target = f"{module.to_docs()}api/{path.replace('::', '/')}.md"
-            out += [f"Re-exports of [`{path}`]({target}): " + ", ".join(f"`{it}`" for it in listed) + ".", ""]
+        out += ["Modules: " + ", ".join(f"[`{it.name[-1]}`]({module.link(it.file())})" for it in inner) + ".", ""]
+    for line in reexports(module, exports, files, module.link):
+        out += [line, ""]
     for source, parts in module.sources:
         if source is not first and parts:
             out += ["---", "", f"`src/{source.path}`: " + " ".join(module_words(source.text)), ""]
-        for part in bare_together(parts):
-            out += [*told(part), ""]
+        for part in bare_together([it for _, it in parts]):
+            out += [*told(part, exports.imports(f"{module.path()}::{part.name}")), ""]
+    out += imported
     text = "\n".join(out)
     said = REFUSED + "\n" if re.search(r"\brefused\b", text.replace("never_refused", ""), re.I) else ""
     return re.sub(r"\n{3,}", "\n\n", text.replace("REFUSED\n", said)).rstrip() + "\n"
 
 
-def index(crates):
+def index(crates, exports, files):
     """docs/api/README.md: what is alike in all, and each public name with its page."""
     out = ["# Index of public names", ""]
-    out += ["Each name leads to its page, which has its whole words and its contract. " + REFUSED, "", *SAID_ONCE]
+    out += ["Each name leads to its page, which has its whole words, its contract and the paths to import. " + REFUSED, "", *SAID_ONCE]
     for modules in crates:
         out += ["", f"## `{modules[0].crate}`"]
         for module in modules:
-            parts = [it for _, parts in module.sources for it in parts if it.kind != "impl"]
-            if not parts:
+            parts = [it for it in module.parts() if it.kind != "impl"]
+            offers = [f"- {it}" for it in reexports(module, exports, files, str)]
+            meant = [it.name for it in module.parts() if it.kind == "impl"]
+            if not parts and not offers and not meant:
                 continue
             out += ["", f"### [`{module.path()}`]({module.file()})", ""]
             for part in parts:
                 link = f"[`{part.name}`]({module.file()}#{anchor(part.name)})"
                 out += [f"{'  ' * (part.kind == 'call')}- {link}: {first_sentence(part.words)}"]
+            if not parts and meant:
+                out += [f"- `{of}`: a store, by " + ", ".join(f"`{it}`" for it in traits) for of, traits in meanings(meant)]
+            out += offers
     return "\n".join(out) + "\n"
+
+
+def meanings(names):
+    """Each type with the traits that it has, from names such as `TYPE as TRAIT`."""
+    found = {}
+    for name in names:
+        of, _, trait = name.partition(" as ")
+        found.setdefault(of, []).append(trait)
+    return found.items()
 
 
 SAID_ONCE = """\
@@ -123,6 +197,9 @@ What is alike in all is said here, and left out of the pages:
 
 def pages(top, crates):
     """All pages, by their paths below docs/api."""
-    every = [[*modules_of(top, crate)] for crate in crates]
-    made = {module.file(): page(module, modules) for modules in every for module in modules}
-    return {"README.md": index(every), **made}
+    sources = {crate: sources_of(top / "crates" / crate / "src") for crate in crates}
+    exports = Exports(sources)
+    every = [modules_of(sources[crate], crate) for crate in crates]
+    files = {module.path(): module.file() for modules in every for module in modules}
+    made = {module.file(): page(module, modules, exports, files) for modules in every for module in modules}
+    return {"README.md": index(every, exports, files), **made}

@@ -138,10 +138,11 @@ def module_words(text):
 
 
 class Source(NamedTuple):
-    """A file: its path, its text, whether its names can be written, and the public module that it belongs to."""
+    """A file: its path, its text, its module, whether its names can be written, and the public module that it belongs to."""
 
     path: Path
     text: str
+    name: tuple
     is_named: bool
     module: tuple
 
@@ -152,7 +153,7 @@ def sources_of(folder):
 
     def visit(file, name, is_named, module):
         text = file.read_text()
-        found.append(Source(file.relative_to(folder), text, is_named, module))
+        found.append(Source(file.relative_to(folder), text, name, is_named, module))
         below = file.parent if file.stem in ("lib", "mod") else file.parent / file.stem
         for attributes, is_pub, inner in re.findall(r"((?:^#\[.*\]\n)*)^(pub )?(?:pub\([a-z]+\) )?mod (\w+);", text, re.M):
             for it in (below / f"{inner}.rt", below / inner / "mod.rt"):
@@ -165,14 +166,14 @@ def sources_of(folder):
 
 
 def reexported(text):
-    """The path and the names of each `pub use` of a file."""
-    for path, listed in re.findall(r"^pub use ([\w:]*?)(?:::)?(\{[^}]*\}|\w+);", text, re.M):
-        yield path, re.findall(r"\w+", listed)
+    """The path of each `pub use` of a file, and its names: each as it is there, and as it is here."""
+    for path, listed in re.findall(r"^pub use ([\w:]*?)(?:::)?(\{[^}]*\}|\w+(?: as \w+)?);", text, re.M):
+        yield path, [(there, here or there) for there, here in re.findall(r"(\w+)(?: as (\w+))?", listed)]
 
 
 def public_names(sources):
     """The names that another crate can write."""
-    names = {it for source in sources for _, listed in reexported(source.text) for it in listed}
+    names = {it for source in sources for _, listed in reexported(source.text) for there, it in listed}
     for source in sources:
         if source.is_named:
             names |= {it.name() for it in items(source.text) if it.is_public}
@@ -195,6 +196,11 @@ class Part(NamedTuple):
     kind: str
     words: list
     lines: list
+
+
+def owner_of(part):
+    """The type whose call a part is, or that it tells the meaning of."""
+    return re.match(r"\W*(?:mut )?(\w*)", part.name)[1]
 
 
 def signature(item):
@@ -285,9 +291,12 @@ def function_text(text, name):
     return found[0].whole
 
 
-def used_by(text, quoted, methods):
-    """The `use` lines of a file that a part of it needs; `methods` has those of each trait."""
-    words, kept = set(re.findall(r"\w+|◌\S*|\S*◌", quoted)), []
+def needed_imports(text, quoted, methods):
+    """The imports of a file that a part of it needs: each with its kind, its path, the mark before its names, and these.
+
+    `methods` has those of each trait.
+    """
+    words = set(re.findall(r"\w+|◌\S*|\S*◌", quoted))
     tokens = set(re.findall(r"[^\s(){}\[\],;.]+", quoted))
 
     def is_needed(name):
@@ -302,11 +311,55 @@ def used_by(text, quoted, methods):
         path, brace, listed = item.head.partition("::{" if item.kind == "use" else ".{")
         names = [it.strip() for it in listed.rstrip("}").split(",")] if brace else [re.split(r"::|\.", path)[-1]]
         needed = [it for it in names if is_needed(it)]
-        if needed and brace:
-            kept.append(laid_out(path, brace, needed))
-        elif needed:
-            kept.append(f"{item.head};")
-    return kept
+        if needed:
+            yield item.kind, path, brace, needed
+
+
+def ghost_words(text):
+    """What is said of items, apart from what they do: their clauses, and the lines of ghost things."""
+    for item in items(text):
+        if item.kind in ("impl", "trait"):
+            yield item.head
+            yield from ghost_words(item.body)
+        else:
+            ghosts = re.findall(r"^\s*ghost\b.*", item.body, re.M)
+            yield " ".join([*item.clauses, *ghosts, item.head if item.kind == "ghost" else ""])
+
+
+def used_by(text, quoted, methods):
+    """The `use` lines of a file that a part of it needs; `methods` has those of each trait."""
+    said, done = "\n".join(ghost_words(quoted)), re.sub(r"^\s*//.*", "", quoted, flags=re.M)
+    needed = [it for it in needed_imports(text, said, {}) if it[0] == "ghost use"]
+    needed += [it for it in needed_imports(text, done, methods) if it[0] == "use"]
+    return [laid_out(path, brace, names) if brace else f"{path};" for _, path, brace, names in needed]
+
+
+CLAUSE_LINE = re.compile(r"\s*(requires|ensures|ghost)\b")
+
+
+def imports_of_clauses(told):
+    """The `ghost use` lines that the clauses of parts need: each part comes with the text of its file."""
+    found = {}
+    for text, part in told:
+        clauses = "\n".join(it for it in part.lines if CLAUSE_LINE.match(it))
+        for kind, path, brace, names in needed_imports(text, clauses, {}):
+            if kind == "ghost use":
+                found.setdefault((path, brace), set()).update(names)
+    return [laid_out(path, brace, sorted(names)) if brace else f"{path};" for (path, brace), names in sorted(found.items())]
+
+
+def imports_of_types(crate, source, public):
+    """The `ghost use` lines of a file's types that a clause sees as they are: their names, and the variants of enums."""
+    opaque = re.findall(r"^impl(?:<.*>)? Model for (\w+)", source.text, re.M)
+    for item in items(source.text):
+        is_seen = item.is_public and item.name() in public and not item.is_hidden and item.name() not in opaque
+        path = ".".join(["Rattle", crate, "specs.declared", *source.name, item.name()])
+        if item.kind == "enum" and is_seen:
+            yield f"ghost use {path}.{{{item.name()}}};"
+            variants = re.findall(r"^    (\w+)", item.body, re.M)
+            yield f"ghost use {path}.TheVariants.{{{', '.join(variants)}}};"
+        elif item.kind == "struct" and is_seen and re.search(r"\bpub (?!\()", item.body + item.head[4:]):
+            yield f"ghost use {path}.{{{item.name()}}};"
 
 
 def laid_out(path, brace, names):

@@ -17,7 +17,7 @@ class Definition:
         self.name, self.words, self.lines = name, words, []
 
     def text(self):
-        return "\n".join(self.lines)
+        return "\n".join(self.lines).strip()
 
 
 def definitions_of(file):
@@ -120,19 +120,15 @@ def used_definitions(top, crates, specs):
     return seen
 
 
-def cell(words):
-    """Words as a table's cell."""
-    return words.replace("|", "\\|")
-
-
 def page(top, crates):
     """docs/DEFINITIONS.md."""
     specs = specs_of(top, crates)
     used = used_definitions(top, crates, specs)
     out = ["# Definitions", ""]
-    out += ["The public clauses rest on these definitions, directly or through others of them. A definition says what is"]
-    out += ["meant, and the code gets there in its own way. Definitions that no public clause rests on are left out."]
-    out += ["`docs/make` makes this page from the words above the definitions, in `crates/*/specs/`. " + REFUSED]
+    out += ["These are the definitions that public clauses rest on, directly or through others of them; all others are left"]
+    out += ["out. The line above each says it in words. The heading above some is their path, by which a contract imports"]
+    out += ["them: `ghost use Rattle.tabled_grid.specs.Axis.{across};`. A definition says what is meant, and the code gets"]
+    out += ["there in its own way. `docs/make` makes this page from `crates/*/specs/`. " + REFUSED]
     last = None
     for (crate, name), (about, found, _) in specs.items():
         kept = [it for it in found if ((crate, name), it.name) in used]
@@ -141,6 +137,6 @@ def page(top, crates):
         if crate != last:
             out += ["", f"## {crate}"]
             last = crate
-        out += ["", f"**`specs/{name}.antt`** {about}", "", "| Definition | In words |", "|---|---|"]
-        out += [f"| `{cell(it.name)}` | {cell(it.words)} |" for it in kept]
+        told = "\n\n".join(f"-- {it.words}\n{it.text()}" for it in kept)
+        out += ["", f"### `Rattle.{crate}.specs.{name}`", "", about, "", "```text", told, "```"]
     return "\n".join(out) + "\n"

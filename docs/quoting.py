@@ -179,7 +179,8 @@ def calling(top, crate):
     out = [f"# Calling `{crate}`", "", *module_words(sources[0].text), "", quoted(top, introduced(prose, is_own)), ""]
     out += ["## A caller", "", f"From `{caller.split()[0]}`, where it is proved:", "", code(top, *caller.split()), ""]
     out += ["## Contracts", "", "These are quoted from `src/`: `S` is what `self` is, or points to, at the call, and `S'`"]
-    out += [f"at the return. [docs/api](../../docs/api/README.md#{crate}) has all calls, and `specs/` defines the words.", ""]
+    out += [f"at the return. [docs/api](../../docs/api/README.md#{crate}) has all calls and the paths to import,"]
+    out += ["[DEFINITIONS](../../docs/DEFINITIONS.md) the words.", ""]
     lines = [it for name in names for it in selected(parts, name)]
     lines = [it for it in lines if not it.lstrip().startswith("//")]
     return "\n".join([*out, "```text", *map(shortened, lines), "```"]) + "\n"

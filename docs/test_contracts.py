@@ -1,6 +1,11 @@
 """Tests of contracts.py, on small sources: run by docs/make --check."""
 
-from contracts import closing, first_sentence, function_text, items, parts_of, used_by
+from pathlib import Path
+
+from contracts import (
+    Source, closing, first_sentence, function_text, imports_of_clauses, imports_of_types, items, owner_of, parts_of,
+    reexported, used_by,
+)
 
 SOURCE = """\
 //! A module.
@@ -107,7 +112,42 @@ def finds_the_imports_that_are_needed():
     return used == ["ghost use Rattle.std.specs.Prelude.{◌≡◌, ◌<◌, IfOk};", "use a::{B, Counts};"]
 
 
+def passes_over_words_of_comments_and_bodies():
+    text = "ghost use a.{Some, Carries, ◌<◌};\nuse b::{Merged, C};\n"
+    quoted = "/// Carries Merged cells.\nfn f(c: C)\n    requires { 0 < c }\n{\n    if let Some(x) = c {}\n}\n"
+    return used_by(text, quoted, {}) == ["ghost use a.{◌<◌};", "use b::C;"]
+
+
+def finds_the_imports_of_clauses_alone():
+    told = [(SOURCE, it) for it in parts_of(SOURCE, PUBLIC)]
+    return imports_of_clauses(told) == [
+        "ghost use Rattle.std.specs.FinMap as map;",
+        "ghost use Rattle.std.specs.Prelude.{IfOk, length, ◌<◌, ◌≡◌};",
+    ]
+
+
+def finds_the_paths_of_types():
+    text = SOURCE + "pub enum Way {\n    /// Back.\n    Left,\n    Right(usize),\n}\nimpl Model for Seen {\n}\npub struct Seen {\n    pub x: u8,\n}\n"
+    source = Source(Path("a/b.rt"), text, ("a", "b"), False, ("a",))
+    return [*imports_of_types("low", source, {*PUBLIC, "Way", "Seen"})] == [
+        "ghost use Rattle.low.specs.declared.a.b.Count.{Count};",
+        "ghost use Rattle.low.specs.declared.a.b.Way.{Way};",
+        "ghost use Rattle.low.specs.declared.a.b.Way.TheVariants.{Left, Right};",
+    ]
+
+
+def knows_whose_a_part_is():
+    return owner_of(part("Count::next")) == owner_of(part("Count as Does")) == "Count"
+
+
+def reads_names_that_are_offered_again():
+    text = "pub use a::b::{C, D as E};\npub use f::G as H;\npub use i;\npub(crate) use j::K;\n"
+    offered = [("a::b", [("C", "C"), ("D", "E")]), ("f", [("G", "H")]), ("", [("i", "i")])]
+    return [*reexported(text)] == offered
+
+
 TESTS = [
     ends_at_its_bracket, finds_each_item, tells_public_names_alone, keeps_words_and_pictures, puts_a_clause_in_a_line,
     shows_what_all_see, leaves_out_what_is_alike, tells_a_trait_with_its_words, finds_the_imports_that_are_needed,
+    passes_over_words_of_comments_and_bodies, finds_the_imports_of_clauses_alone, finds_the_paths_of_types, knows_whose_a_part_is, reads_names_that_are_offered_again,
 ]

@@ -58,10 +58,27 @@ def finds_operators_among_words():
     return is_named("◌⊏◌", words_of("a ⊏ (b)")) and not is_named("◌⊏◌", words_of("a < b"))
 
 
-def leaves_out_what_no_clause_rests_on():
+def told():
+    """The page of the repository above."""
     with tempfile.TemporaryDirectory() as folder:
-        told = page(repository(folder), ["low", "high"])
-    return all(f"| `{it}` |" in told for it in ("Grid", "◌⊏◌", "grows")) and "unused" not in told
+        return page(repository(folder), ["low", "high"])
 
 
-TESTS = [reads_imports_under_other_names, finds_operators_among_words, leaves_out_what_no_clause_rests_on]
+def leaves_out_what_no_clause_rests_on():
+    return all(f"pub {it} :" in told() for it in ("◌⊏◌", "grows")) and "unused" not in told()
+
+
+def shows_each_body_below_its_sentence():
+    grid = "-- a grid\npub record Grid (A : Type 0) : Type 0 where\n  pub rows : ℕ\n\n"
+    above = "-- the first one lies above the second\nabbrev pub ◌⊏◌ : ℕ → ℕ → Type 0\na ⊏ b = a < b\n```"
+    return grid + above in told()
+
+
+def names_the_path_to_import():
+    return "### `Rattle.low.specs.Low`\n\nGrids.\n" in told() and "### `Rattle.high.specs.High`" in told()
+
+
+TESTS = [
+    reads_imports_under_other_names, finds_operators_among_words, leaves_out_what_no_clause_rests_on,
+    shows_each_body_below_its_sentence, names_the_path_to_import,
+]

@@ -1,9 +1,10 @@
 -- What gives items that are made as they are asked for.
-use Rattle.std.specs.Prelude.{◌≡◌, ℕ, Bool, true, false, List, [], ◌∷◌, Option}
+use Rattle.std.specs.Prelude.{◌≡◌, ◌≤◌, ℕ, Bool, true, false, List, [], ◌∷◌, Option, length, nat_lt}
 use Rattle.std.specs.Iterator.{Count, DrainsIf, HoldsAlong, IsFinite}
-use Rattle.std.specs.Iterator.Adapters.{take_count, take_source}
+use Rattle.std.specs.Iterator.Adapters.{fuse_done, take_count, take_source}
 use Rattle.std.specs.List.{All, AllZip}
 use Rattle.std.specs.Vec.Iter.{into_iter_items}
+use Rattle.std.specs.declared.iter.Fuse.{Fuse}
 use Rattle.std.specs.declared.iter.Take.{Take}
 use Rattle.tabled_rows.specs.declared.records.buf_records.BufIterator.{BufIterator}
 use Rattle.tabled_rows.specs.declared.records.buf_records.BufIterator.TheVariants.{Buffered, Iterator}
@@ -19,6 +20,11 @@ EachMayBeAsked {U} {T} becomes can_next remaining next_gives asked source = (ite
 -- what a source becomes was asked and gave these items, and then nothing, where it is said to have ended
 abbrev pub Gave : {U T R : Type 0} → (U → T → Type 0) → (T → Option R → T → Type 0) → U → List R → Bool → Type 0
 Gave {U} {T} becomes next_gives source items ended = (iter : T) × becomes source iter × DrainsIf next_gives (ended ≡ true) iter items
+
+-- at most n rows are in a buffer, and what goes over the others has ended just where they are fewer
+pub record ReadsAhead {T I : Type 0} (n : ℕ) (buffer : List (List T)) (others : Fuse I) : Type 0 where
+  pub within : length buffer ≤ n
+  pub ended : fuse_done others ≡ nat_lt (length buffer) n
 
 -- of a row that came no more cells than these are given
 abbrev pub LimitsRow : {R T : Type 0} → (R → T → Type 0) → ℕ → R → Take T → Type 0

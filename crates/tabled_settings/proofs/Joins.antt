@@ -1,29 +1,26 @@
 -- Two tables joined: growth, texts, and the way back.
-use Rattle.std.proofs.Common.{◌≡◌, ℕ, ◌+◌, ◌-◌, ◌<◌, ◌≤◌, ◌≢◌, ◌⊎◌, inl, inr, Bool, true, false, cond, eqb, List, [], None, Some, refl, sym, ap, ap₂, ◌∙◌, take, get_or, max, arith}
-use Rattle.std.specs.Prelude.{slice_get, nat_lt, if◌then◌else◌, ◌&&◌}
-use Rattle.std.specs.Option.{IfSome, option_map}
+use Rattle.std.proofs.Common.{◌≡◌, ℕ, ◌+◌, ◌-◌, ◌<◌, ◌≤◌, ◌≢◌, ◌⊎◌, inl, inr, Bool, true, false, cond, eqb, List, [], Option, None, Some, refl, sym, ap, ap₂, ◌∙◌, max, arith}
+use Rattle.std.specs.Prelude.{nat_lt, if◌then◌else◌, ◌&&◌}
+use Rattle.std.specs.Option.{IfSome, option_map, unwrap_or}
 use Rattle.std.proofs.lemmas.Bool.{cases_eq, cases_lt, eqb-true, le-leb, lt-ltb, ltb-true}
 use Rattle.std.proofs.lemmas.Option.{none-some, same_Some}
-use Rattle.std.proofs.lemmas.List.{get_or-map as get_or-map_within, get_or_append_left}
 use Rattle.tabled_grid.specs.Along.{first_along}
 use Rattle.tabled_grid.specs.Bulk.{AddsColumns, AddsRows}
 use Rattle.tabled_grid.specs.Entity.{place}
 use Rattle.tabled_grid.specs.Grid.{Grid, IsEmptyWithoutRows, IsEven, IsInside, WritesText, cell_at, map_grid}
 use Rattle.tabled_grid.specs.declared.config.position.Position.{Position}
 use Rattle.tabled_grid.specs.declared.records.axis.Axis.TheVariants.{Rows, Columns}
-use Rattle.tabled_grid.proofs.AddedColumns.{IsEven-adds_columns, columns_front}
-use Rattle.tabled_grid.proofs.AddedRows.{IsEven-adds_rows}
+use Rattle.tabled_grid.proofs.AddedLines.{added_blank, added_even, added_kept}
 use Rattle.tabled_grid.proofs.FirstLines.{IsEven-first, either_way}
 use Rattle.tabled_grid.proofs.Grids.{IsEven-with_cell, cell_at-map_grid, cell_at-map_grid_some, cell_at-with_cell_other, cell_at-with_cell_same}
-use Rattle.tabled_grid.proofs.Transposed.{slice_get-take}
 use Rattle.tabled_images.specs.Images.{KeepsPlaces}
-use Rattle.tabled_settings.specs.Joined.{FillsTo, GrowsTo, JoinsAt, joined_places, joined_text}
+use Rattle.tabled_settings.specs.Joined.{FillsTo, GrowsTo, HasBlank, JoinsAt, joined_places, text_put}
 use Rattle.tabled_settings.proofs.LineReads.{line_first, lines_read}
 use Rattle.tabled_settings.proofs.SameCells.{none_outside, same_cells}
 
--- outside of the second table the text is empty
-pub empty_text : (corner : Position) (second : Grid (List ℕ)) (default : List ℕ) (a b : ℕ) → IsEven second → corner.row ≤ a → corner.col ≤ b → (second.rows ≤ a - corner.row) ⊎ (second.columns ≤ b - corner.col) → [] ≡ joined_text corner second default a b
-empty_text corner second default a b even row col outside =
+-- outside of the second table no text is put
+pub none_put : (corner : Position) (second : Grid (List ℕ)) (default : List ℕ) (a b : ℕ) → IsEven second → corner.row ≤ a → corner.col ≤ b → (second.rows ≤ a - corner.row) ⊎ (second.columns ≤ b - corner.col) → None ≡ text_put corner second default a b
+none_put corner second default a b even row col outside =
     rw (le-leb corner.row a row, le-leb corner.col b col, none_outside second (a - corner.row) (b - corner.col) even outside) refl
 
 -- the cells of the first table keep their places
@@ -42,39 +39,52 @@ wide_enough true c more size none e = sym (none refl)
 wide_enough false c more size none e = e
 
 module _ {A : Type 0} (is_blank : A → Type 0) where
-  pub grown_to : (rows columns many more : ℕ) (old grown new : Grid A) → IsEven old → old.rows + many ≡ rows → old.columns + more ≡ columns → (rows ≡ 0 → columns ≡ 0) → AddsRows is_blank many old grown → AddsColumns is_blank more grown new → GrowsTo rows columns old new
-  grown_to rows columns many more old grown new even tall wide none r c =
-      let grown_even : IsEven grown = IsEven-adds_rows is_blank many old grown r even in
-      let new_even : IsEven new = IsEven-adds_columns is_blank more grown new c grown_even in
-      let high : grown.rows ≡ rows = ap (λ (h : Grid A). h.rows) r.is ∙ tall in
-      let broad : grown.columns ≡ old.columns = ap (λ (h : Grid A). h.columns) r.is in
-      record {
-        even = new_even;
-        rows_are = c.rows ∙ high;
-        columns_are = c.columns ∙ wide_enough (eqb grown.rows 0) grown.columns more columns (λ is. let no_rows = eqb-true grown.rows 0 is in let no_columns = none (sym high ∙ no_rows) in omega (arith, no_columns, broad, wide)) (omega (arith, broad, wide));
-        kept = λ a b h k.
-            let n : ℕ = grown.columns in
-            sym (slice_get-take n (get_or new.cells a []) b (omega (arith, broad, k)))
-            ∙ sym (ap (λ (row : List A). slice_get row b) (get_or-map_within (λ (row : List A). take n row) new.cells a [] [] (omega (arith, new_even.tall, c.rows, high, tall, h))))
-            ∙ ap (λ (all : List (List A)). slice_get (get_or all a []) b) (columns_front is_blank more grown new grown_even c ∙ ap (λ (h : Grid A). h.cells) r.is)
-            ∙ ap (λ (row : List A). slice_get row b) (get_or_append_left old.cells r.added [] a (omega (arith, even.tall, h)));
-      }
+  pub grown_to : (rows columns many more : ℕ) (old grown new : Grid A) → IsEven old → old.rows + many ≡ rows → old.columns + more ≡ columns → (rows ≡ 0 → columns ≡ 0) → AddsRows is_blank many old grown → AddsColumns is_blank more grown new → GrowsTo is_blank rows columns old new
+  grown_to rows columns many more old grown new even tall wide none r c = record {
+    even = added_even is_blank more grown new grown_even Columns c;
+    rows_are = c.rows ∙ high;
+    columns_are = columns_are;
+    kept = λ a b h k. beside a b (omega (arith, h, high, tall)) (omega (arith, k, broad)) ∙ added_kept is_blank many old grown even Rows a b r h k;
+    blanks = λ a b h k outside. blank a b (omega (arith, h, c.rows)) (omega (arith, k, columns_are)) (cases_lt b old.columns) outside;
+  }
+    where
+      grown_even : IsEven grown
+      grown_even = added_even is_blank many old grown even Rows r
 
-module _ {A : Type 0} (text_of : A → List ℕ) (want : ℕ → ℕ → List ℕ) (rows columns : ℕ) where
+      high : grown.rows ≡ rows
+      high = ap (λ (h : Grid A). h.rows) r.is ∙ tall
+
+      broad : grown.columns ≡ old.columns
+      broad = ap (λ (h : Grid A). h.columns) r.is
+
+      columns_are : new.columns ≡ columns
+      columns_are = c.columns ∙ wide_enough (eqb grown.rows 0) grown.columns more columns (λ is. let no_rows = eqb-true grown.rows 0 is in let no_columns = none (sym high ∙ no_rows) in omega (arith, no_columns, broad, wide)) (omega (arith, broad, wide))
+
+      beside : (a b : ℕ) → a < grown.rows → b < grown.columns → cell_at new (place a b) ≡ cell_at grown (place a b)
+      beside a b h k = added_kept is_blank more grown new grown_even Columns b a c k h
+
+      blank : (a b : ℕ) → a < grown.rows → b < columns → (b < old.columns) ⊎ (old.columns ≤ b) → (old.rows ≤ a) ⊎ (old.columns ≤ b) → HasBlank is_blank new (place a b)
+      blank a b h k (inr right) outside = added_blank is_blank more grown new grown_even Columns b a c (omega (arith, right, broad)) (omega (arith, k, broad, wide)) h
+      blank a b h k (inl left) (inr right) = absurd (omega (arith, left, right))
+      blank a b h k (inl left) (inl low) =
+          let cell = added_blank is_blank many old grown even Rows a b r low (omega (arith, h, high, tall)) left in
+          (cell.0, cell.1, beside a b h (omega (arith, left, broad)) ∙ cell.2)
+
+module _ {A : Type 0} (text_of : A → List ℕ) (want : ℕ → ℕ → Option (List ℕ)) (rows columns : ℕ) where
   Before : ℕ → ℕ → ℕ → ℕ → Type 0
   Before i j a b = (a < i) ⊎ ((a ≡ i) × (b < j))
 
   pub fills_none : (g : Grid A) → IsEven g → FillsTo text_of want rows columns 0 0 g g
-  fills_none g even = record { even = even; rows_are = refl; columns_are = refl; kept = λ a b h k. refl; done = λ a b k outside before. none a b before }
+  fills_none g even = record { even = even; rows_are = refl; columns_are = refl; kept = λ a b h k. refl; unwritten = λ a b none. refl; done = λ a b k outside before text is. none a b text before }
     where
-      none : (a b : ℕ) → (a < 0) ⊎ ((a ≡ 0) × (b < 0)) → cell_at (map_grid text_of g) (place a b) ≡ Some (want a b)
-      none a b (inl less) = absurd (omega (arith, less))
-      none a b (inr (at, less)) = absurd (omega (arith, less))
+      none : (a b : ℕ) (text : List ℕ) → (a < 0) ⊎ ((a ≡ 0) × (b < 0)) → cell_at (map_grid text_of g) (place a b) ≡ Some text
+      none a b text (inl less) = absurd (omega (arith, less))
+      none a b text (inr (at, less)) = absurd (omega (arith, less))
 
   module _ (old now : Grid A) (i j : ℕ) (f : FillsTo text_of want rows columns i j old now) where
     -- other places before which all is done
     pub fills_at : (m n : ℕ) → ((a b : ℕ) → b < now.columns → (rows ≤ a) ⊎ (columns ≤ b) → (a < m) ⊎ ((a ≡ m) × (b < n)) → (a < i) ⊎ ((a ≡ i) × (b < j))) → FillsTo text_of want rows columns m n old now
-    fills_at m n earlier = record { even = f.even; rows_are = f.rows_are; columns_are = f.columns_are; kept = f.kept; done = λ a b k outside before. f.done a b k outside (earlier a b k outside before) }
+    fills_at m n earlier = record { even = f.even; rows_are = f.rows_are; columns_are = f.columns_are; kept = f.kept; unwritten = f.unwritten; done = λ a b k outside before. f.done a b k outside (earlier a b k outside before) }
 
     pub fills_some : FillsTo text_of want rows columns 0 0 old now
     fills_some = fills_at 0 0 none
@@ -107,13 +117,33 @@ module _ {A : Type 0} (text_of : A → List ℕ) (want : ℕ → ℕ → List �
         earlier a b k outside (inl less) = inl less
         earlier a b k outside (inr (is, less)) = at a b is less outside (cases_lt i rows)
 
+    -- one place more, where no text is wanted
+    pub fills_over : (next : ℕ) → next ≡ j + 1 → want i j ≡ None → FillsTo text_of want rows columns i next old now
+    fills_over next e none = record {
+      even = f.even;
+      rows_are = f.rows_are;
+      columns_are = f.columns_are;
+      kept = f.kept;
+      unwritten = f.unwritten;
+      done = λ a b k outside before text is. f.done a b k outside (earlier a b text is before) text is;
+    }
+      where
+        earlier : (a b : ℕ) (text : List ℕ) → want a b ≡ Some text → (a < i) ⊎ ((a ≡ i) × (b < next)) → (a < i) ⊎ ((a ≡ i) × (b < j))
+        earlier a b text is (inl less) = inl less
+        earlier a b text is (inr (at, below)) = here (cases_eq b j)
+          where
+            here : (b ≡ j) ⊎ (b ≢ j) → (a < i) ⊎ ((a ≡ i) × (b < j))
+            here (inl at_b) = absurd (none-some text (sym none ∙ sym (ap₂ want at at_b) ∙ is))
+            here (inr off) = inr (at, omega (arith, below, off, e))
+
     -- one text more
-    pub fills_more : (new : Grid A) (next : ℕ) → next ≡ j + 1 → i < now.rows → j < now.columns → (rows ≤ i) ⊎ (columns ≤ j) → WritesText text_of now new (place i j) (want i j) → FillsTo text_of want rows columns i next old new
-    fills_more new next e row col out w = record {
+    pub fills_more : (new : Grid A) (next : ℕ) (text : List ℕ) → next ≡ j + 1 → i < now.rows → j < now.columns → (rows ≤ i) ⊎ (columns ≤ j) → want i j ≡ Some text → WritesText text_of now new (place i j) text → FillsTo text_of want rows columns i next old new
+    fills_more new next text e row col out wants w = record {
       even = rw w.is (IsEven-with_cell now (place i j) w.cell f.even);
       rows_are = ap (λ (g : Grid A). g.rows) w.is ∙ f.rows_are;
       columns_are = ap (λ (g : Grid A). g.columns) w.is ∙ f.columns_are;
       kept = λ a b h k. elsewhere a b (apart a b h k out) ∙ f.kept a b h k;
+      unwritten = λ a b none. elsewhere a b (unwanted a b none) ∙ f.unwritten a b none;
       done = λ a b k outside before. done_at a b (omega (arith, k, ap (λ (g : Grid A). g.columns) w.is)) outside before (cases_eq a i) (cases_eq b j);
     }
       where
@@ -127,21 +157,24 @@ module _ {A : Type 0} (text_of : A → List ℕ) (want : ℕ → ℕ → List �
         apart a b h k (inl low) is = let at = ap (λ (p : Position). p.row) is in absurd (omega (arith, at, h, low))
         apart a b h k (inr right) is = let at = ap (λ (p : Position). p.col) is in absurd (omega (arith, at, k, right))
 
-        here : cell_at (map_grid text_of new) (place i j) ≡ Some (want i j)
+        unwanted : (a b : ℕ) → want a b ≡ None → place a b ≢ place i j
+        unwanted a b none is = absurd (none-some text (sym none ∙ ap (λ (p : Position). want p.row p.col) is ∙ wants))
+
+        here : cell_at (map_grid text_of new) (place i j) ≡ want i j
         here =
             let inside : IsInside now (place i j) = record { row = row; col = col } in
-            cell_at-map_grid_some text_of new (place i j) w.cell (ap (λ (g : Grid A). cell_at g (place i j)) w.is ∙ cell_at-with_cell_same now (place i j) w.cell f.even inside) ∙ ap Some w.has
+            cell_at-map_grid_some text_of new (place i j) w.cell (ap (λ (g : Grid A). cell_at g (place i j)) w.is ∙ cell_at-with_cell_same now (place i j) w.cell f.even inside) ∙ ap Some w.has ∙ sym wants
 
         earlier : (a b : ℕ) → (a ≡ i → b ≢ j) → (a < i) ⊎ ((a ≡ i) × (b < next)) → (a < i) ⊎ ((a ≡ i) × (b < j))
         earlier a b off (inl less) = inl less
         earlier a b off (inr (at, below)) = let ne = off at in inr (at, omega (arith, below, ne, e))
 
-        done_at : (a b : ℕ) → b < now.columns → (rows ≤ a) ⊎ (columns ≤ b) → (a < i) ⊎ ((a ≡ i) × (b < next)) → (a ≡ i) ⊎ (a ≢ i) → (b ≡ j) ⊎ (b ≢ j) → cell_at (map_grid text_of new) (place a b) ≡ Some (want a b)
-        done_at a b k outside before (inl at_a) (inl at_b) = rw (at_a, at_b) here
-        done_at a b k outside before (inl at_a) (inr off_b) = texts a b (λ is. off_b (ap (λ (p : Position). p.col) is)) ∙ f.done a b k outside (earlier a b (λ at. off_b) before)
-        done_at a b k outside before (inr off_a) at_b = texts a b (λ is. off_a (ap (λ (p : Position). p.row) is)) ∙ f.done a b k outside (earlier a b (λ at. absurd (off_a at)) before)
+        done_at : (a b : ℕ) → b < now.columns → (rows ≤ a) ⊎ (columns ≤ b) → (a < i) ⊎ ((a ≡ i) × (b < next)) → (a ≡ i) ⊎ (a ≢ i) → (b ≡ j) ⊎ (b ≢ j) → (t : List ℕ) → want a b ≡ Some t → cell_at (map_grid text_of new) (place a b) ≡ Some t
+        done_at a b k outside before (inl at_a) (inl at_b) t is = ap₂ (λ (m n : ℕ). cell_at (map_grid text_of new) (place m n)) at_a at_b ∙ here ∙ sym (ap₂ want at_a at_b) ∙ is
+        done_at a b k outside before (inl at_a) (inr off_b) t is = texts a b (λ same. off_b (ap (λ (p : Position). p.col) same)) ∙ f.done a b k outside (earlier a b (λ at. off_b) before) t is
+        done_at a b k outside before (inr off_a) at_b t is = texts a b (λ same. off_a (ap (λ (p : Position). p.row) same)) ∙ f.done a b k outside (earlier a b (λ at. absurd (off_a at)) before) t is
 
-module _ {A : Type 0} (text_of : A → List ℕ) (corner : Position) (second : Grid (List ℕ)) (default : List ℕ) (rows columns new_rows new_columns : ℕ) (old grown new : Grid A) (rows_are : rows ≡ old.rows) (columns_are : columns ≡ old.columns) where
+module _ {A : Type 0} (is_blank : A → Type 0) (text_of : A → List ℕ) (corner : Position) (second : Grid (List ℕ)) (default : List ℕ) (rows columns new_rows new_columns : ℕ) (old grown new : Grid A) (rows_are : rows ≡ old.rows) (columns_are : columns ≡ old.columns) where
   stays : (a b : ℕ) → (a < old.rows → b < old.columns → cell_at new (place a b) ≡ cell_at old (place a b)) → IfSome (cond (nat_lt a old.rows && nat_lt b old.columns) (Some (place a b)) None) (λ (q : Position). cell_at new (place a b) ≡ cell_at old q)
   stays a b same = either (nat_lt a old.rows) (nat_lt b old.columns) refl refl
     where
@@ -150,19 +183,31 @@ module _ {A : Type 0} (text_of : A → List ℕ) (corner : Position) (second : G
       either true false h k = tt
       either false y h k = tt
 
-  pub join_done : (i : ℕ) → new_rows ≡ max old.rows (corner.row + second.rows) → new_columns ≡ max old.columns (corner.col + second.columns) → i ≡ grown.rows → GrowsTo new_rows new_columns old grown → FillsTo text_of (joined_text corner second default) rows columns i 0 grown new → JoinsAt text_of corner second default old new
-  join_done i tall wide all g f = record {
+  pub join_done : (i : ℕ) → ((cell : A) → is_blank cell → text_of cell ≡ []) → new_rows ≡ max old.rows (corner.row + second.rows) → new_columns ≡ max old.columns (corner.col + second.columns) → i ≡ grown.rows → GrowsTo is_blank new_rows new_columns old grown → FillsTo text_of (text_put corner second default) rows columns i 0 grown new → JoinsAt is_blank text_of corner second default old new
+  join_done i empty tall wide all g f = record {
     first = record {
       even = f.even;
       rows = f.rows_are ∙ g.rows_are ∙ tall;
       columns = f.columns_are ∙ g.columns_are ∙ wide;
       moved = λ p inside. stays p.row p.col (λ h k. f.kept p.row p.col (omega (arith, rows_are, h)) (omega (arith, columns_are, k)) ∙ g.kept p.row p.col h k);
     };
-    others = λ a b h k outside. f.done a b k (rw (← rows_are, ← columns_are) at outside) (inl (omega (arith, h, f.rows_are, all)));
+    others = λ a b h k outside. text a b h k outside (text_put corner second default a b) refl;
+    blanks = blank;
   }
+    where
+      blank : (a b : ℕ) → a < new.rows → b < new.columns → (old.rows ≤ a) ⊎ (old.columns ≤ b) → text_put corner second default a b ≡ None → HasBlank is_blank new (place a b)
+      blank a b h k outside none =
+          let cell = g.blanks a b (omega (arith, h, f.rows_are)) (omega (arith, k, f.columns_are)) outside in
+          (cell.0, cell.1, f.unwritten a b none ∙ cell.2)
+
+      text : (a b : ℕ) → a < new.rows → b < new.columns → (old.rows ≤ a) ⊎ (old.columns ≤ b) → (put : Option (List ℕ)) → text_put corner second default a b ≡ put → cell_at (map_grid text_of new) (place a b) ≡ Some (unwrap_or put [])
+      text a b h k outside None none =
+          let cell = blank a b h k outside none in
+          cell_at-map_grid_some text_of new (place a b) cell.0 cell.2 ∙ ap Some (empty cell.0 cell.1)
+      text a b h k outside (Some t) some = f.done a b k (rw (← rows_are, ← columns_are) at outside) (inl (omega (arith, h, f.rows_are, all))) t some
 
   -- the new lines taken away again
-  pub join_undone : (i j : ℕ) (want : ℕ → ℕ → List ℕ) (narrow short : Grid A) → IsEven old → IsEmptyWithoutRows old → old.rows ≤ new_rows → old.columns ≤ new_columns → GrowsTo new_rows new_columns old grown → FillsTo text_of want rows columns i j grown new →
+  pub join_undone : (i j : ℕ) (want : ℕ → ℕ → Option (List ℕ)) (narrow short : Grid A) → IsEven old → IsEmptyWithoutRows old → old.rows ≤ new_rows → old.columns ≤ new_columns → GrowsTo is_blank new_rows new_columns old grown → FillsTo text_of want rows columns i j grown new →
       narrow ≡ first_along Columns columns new → short ≡ first_along Rows rows narrow → short ≡ old
   join_undone i j want narrow short even none taller wider g f cut_columns cut_rows =
       let narrow_even : IsEven narrow = rw cut_columns (IsEven-first Columns columns new (omega (arith, wider, columns_are, f.columns_are, g.columns_are)) f.even) in

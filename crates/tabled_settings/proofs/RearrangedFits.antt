@@ -59,8 +59,8 @@ module _ {A : Type 0} where
   }
 
   -- two tables that are joined
-  pub join_keeps : (text_of : A → List ℕ) (axis : Axis) (second : Grid (List ℕ)) (default : List ℕ) → OptionKeeps FitsIn (λ g c h d. JoinsAt text_of (corner_of axis g.rows g.columns) second default g h × (d ≡ carried (joined_places (corner_of axis g.rows g.columns) second g.rows g.columns) g.rows g.columns c)) Same
-  join_keeps text_of axis second default = record {
+  pub join_keeps : (is_blank : A → Type 0) (text_of : A → List ℕ) (axis : Axis) (second : Grid (List ℕ)) (default : List ℕ) → OptionKeeps FitsIn (λ g c h d. JoinsAt is_blank text_of (corner_of axis g.rows g.columns) second default g h × (d ≡ carried (joined_places (corner_of axis g.rows g.columns) second g.rows g.columns) g.rows g.columns c)) Same
+  join_keeps is_blank text_of axis second default = record {
     done = λ g c h d fits does. carried_fit (joined_places (corner_of axis g.rows g.columns) second g.rows g.columns) g.rows g.columns h.rows h.columns c d fits does.0.first.rows does.0.first.columns does.1;
     refused = same_fits;
   }

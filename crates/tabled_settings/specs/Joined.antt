@@ -1,5 +1,5 @@
 -- Two tables joined.
-use Rattle.std.specs.Prelude.{◌≡◌, ◌<◌, ◌≤◌, ◌⊎◌, ℕ, ◌+◌, ◌-◌, ◌&&◌, if◌then◌else◌, List, [], None, Some, max, nat_le, nat_lt}
+use Rattle.std.specs.Prelude.{◌≡◌, ◌<◌, ◌≤◌, ◌⊎◌, ℕ, ◌+◌, ◌-◌, ◌&&◌, if◌then◌else◌, List, [], Option, None, Some, max, nat_le, nat_lt}
 use Rattle.std.specs.Option.{unwrap_or}
 use Rattle.tabled_grid.specs.Entity.{place}
 use Rattle.tabled_grid.specs.Grid.{Grid, IsEven, cell_at, map_grid}
@@ -21,26 +21,37 @@ corner_of Columns rows columns = place 0 columns
 abbrev pub joined_places : {A : Type 0} → Position → Grid A → ℕ → ℕ → Places
 joined_places corner second rows columns = widened rows columns (max rows (corner.row + second.rows)) (max columns (corner.col + second.columns))
 
--- the text at a place outside of the first table: from the corner on that of the second one, empty where it lacks the cell, and else the default
-abbrev pub joined_text : Position → Grid (List ℕ) → List ℕ → ℕ → ℕ → List ℕ
-joined_text corner second default a b = if nat_le corner.row a && nat_le corner.col b then unwrap_or (cell_at second (place (a - corner.row) (b - corner.col))) [] else default
+-- the text that is put at a place outside of the first table: from the corner on that of the second one, none where it lacks the cell, and else the default
+abbrev pub text_put : Position → Grid (List ℕ) → List ℕ → ℕ → ℕ → Option (List ℕ)
+text_put corner second default a b = if nat_le corner.row a && nat_le corner.col b then cell_at second (place (a - corner.row) (b - corner.col)) else Some default
 
--- the cells of the first table stay, and all others have the texts of the second, of the default or none
-pub record JoinsAt {A : Type 0} (text_of : A → List ℕ) (corner : Position) (second : Grid (List ℕ)) (default : List ℕ) (old new : Grid A) : Type 0 where
+-- the text at a place outside of the first table: the one that is put there, or the empty one
+abbrev pub joined_text : Position → Grid (List ℕ) → List ℕ → ℕ → ℕ → List ℕ
+joined_text corner second default a b = unwrap_or (text_put corner second default a b) []
+
+-- a blank stands at a place
+abbrev pub HasBlank : {A : Type 0} → (A → Type 0) → Grid A → Position → Type 0
+HasBlank {A} is_blank g p = (cell : A) × is_blank cell × (cell_at g p ≡ Some cell)
+
+-- the cells of the first table stay, and all others have the texts of the second, of the default or none; those without one are blanks
+pub record JoinsAt {A : Type 0} (is_blank : A → Type 0) (text_of : A → List ℕ) (corner : Position) (second : Grid (List ℕ)) (default : List ℕ) (old new : Grid A) : Type 0 where
   pub first : ReadsThrough (joined_places corner second old.rows old.columns) old new
   pub others : (a b : ℕ) → a < new.rows → b < new.columns → (old.rows ≤ a) ⊎ (old.columns ≤ b) → cell_at (map_grid text_of new) (place a b) ≡ Some (joined_text corner second default a b)
+  pub blanks : (a b : ℕ) → a < new.rows → b < new.columns → (old.rows ≤ a) ⊎ (old.columns ≤ b) → text_put corner second default a b ≡ None → HasBlank is_blank new (place a b)
 
--- a grid of a larger shape, with the old cells where they were
-pub record GrowsTo {A : Type 0} (rows columns : ℕ) (old new : Grid A) : Type 0 where
+-- a grid of a larger shape, with the old cells where they were and blanks elsewhere
+pub record GrowsTo {A : Type 0} (is_blank : A → Type 0) (rows columns : ℕ) (old new : Grid A) : Type 0 where
   pub even : IsEven new
   pub rows_are : new.rows ≡ rows
   pub columns_are : new.columns ≡ columns
   pub kept : (a b : ℕ) → a < old.rows → b < old.columns → cell_at new (place a b) ≡ cell_at old (place a b)
+  pub blanks : (a b : ℕ) → a < new.rows → b < new.columns → (old.rows ≤ a) ⊎ (old.columns ≤ b) → HasBlank is_blank new (place a b)
 
--- the cells outside of r rows and c columns, before a place, row by row, have certain texts; the others are as they were
-pub record FillsTo {A : Type 0} (text_of : A → List ℕ) (want : ℕ → ℕ → List ℕ) (rows columns i j : ℕ) (old new : Grid A) : Type 0 where
+-- the cells outside of r rows and c columns, before a place, row by row, have the texts that are wanted; the others are as they were
+pub record FillsTo {A : Type 0} (text_of : A → List ℕ) (want : ℕ → ℕ → Option (List ℕ)) (rows columns i j : ℕ) (old new : Grid A) : Type 0 where
   pub even : IsEven new
   pub rows_are : new.rows ≡ old.rows
   pub columns_are : new.columns ≡ old.columns
   pub kept : (a b : ℕ) → a < rows → b < columns → cell_at new (place a b) ≡ cell_at old (place a b)
-  pub done : (a b : ℕ) → b < new.columns → (rows ≤ a) ⊎ (columns ≤ b) → (a < i) ⊎ ((a ≡ i) × (b < j)) → cell_at (map_grid text_of new) (place a b) ≡ Some (want a b)
+  pub unwritten : (a b : ℕ) → want a b ≡ None → cell_at new (place a b) ≡ cell_at old (place a b)
+  pub done : (a b : ℕ) → b < new.columns → (rows ≤ a) ⊎ (columns ≤ b) → (a < i) ⊎ ((a ≡ i) × (b < j)) → (text : List ℕ) → want a b ≡ Some text → cell_at (map_grid text_of new) (place a b) ≡ Some text

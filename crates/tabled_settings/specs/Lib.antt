@@ -3,6 +3,7 @@ pub mod Contents
 pub mod Dups
 pub mod Joined
 pub mod Lines
+pub mod Orders
 pub mod PiecePlaces
 pub mod PieceTexts
 pub mod Pieces

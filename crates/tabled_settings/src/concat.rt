@@ -1,12 +1,13 @@
 //! Two tables joined to one.
 
 ghost use Rattle.std.specs.Prelude.{◌≡◌, ◌+◌, ◌≤◌, [], IfOk, OnErr, OnOk, max};
+ghost use Rattle.std.specs.Option.{option_copied};
 ghost use Rattle.std.specs.String.{string_bytes};
 ghost use Rattle.tabled_grid.specs.Grid.{IsEmptyWithoutRows, IsEven, map_grid};
 ghost use Rattle.tabled_grid.specs.declared.records.axis.Axis.TheVariants.{Columns, Rows};
 ghost use Rattle.tabled_images.specs.Images.{carried};
 ghost use Rattle.tabled_options.specs.Does.{Same};
-ghost use Rattle.tabled_settings.specs.Joined.{FillsTo, GrowsTo, JoinsAt, corner_of, joined_places, joined_text, widened};
+ghost use Rattle.tabled_settings.specs.Joined.{FillsTo, GrowsTo, JoinsAt, corner_of, joined_places, text_put, widened};
 ghost use Rattle.std.proofs.Common.{rules};
 
 use std::alloc::{AllocError, Global};
@@ -29,7 +30,8 @@ use tabled_table::{Table, TableOption};
 /// x y z      b
 /// ```
 ///
-/// Refused for memory, it leaves the table as it was.
+/// Cells that the second table lacks, as the one beside `b`, are blank. Refused for memory, it leaves the table
+/// as it was.
 ///
 /// Merged cells of the first table stay as they are if they fit it, as an `a` two columns wide above `x y z`.
 /// Those of the second table are left out, as in the original.
@@ -100,7 +102,7 @@ where
     R: Records + ExactRecords + Resizable + RecordsMut<String>,
     R::Cell: CellText,
 {
-    ghost does = { λ s g c h d. JoinsAt R.Cell.text_of (corner_of s.0 g.rows g.columns) s.1 s.2 g h × (d ≡ carried (joined_places (corner_of s.0 g.rows g.columns) s.1 g.rows g.columns) g.rows g.columns c) };
+    ghost does = { λ s g c h d. JoinsAt R.Cell.is_blank R.Cell.text_of (corner_of s.0 g.rows g.columns) s.1 s.2 g h × (d ≡ carried (joined_places (corner_of s.0 g.rows g.columns) s.1 g.rows g.columns) g.rows g.columns c) };
 
     ghost leaves = { λ _. Same };
 
@@ -219,7 +221,7 @@ where
     requires col { corner.col ≤ (R.grid records.old).columns }
     requires rowless { IsEmptyWithoutRows second.now }
     ensures well { R.is_well_formed records.new }
-    ensures ok { OnOk result (JoinsAt R.Cell.text_of corner (map_grid string_bytes second.now) default.now (R.grid records.old) (R.grid records.new)) }
+    ensures ok { OnOk result (JoinsAt R.Cell.is_blank R.Cell.text_of corner (map_grid string_bytes second.now) default.now (R.grid records.old) (R.grid records.new)) }
     ensures err { OnErr result (R.grid records.new ≡ R.grid records.old) }
 {
     grow(alloc, records, growth.new_rows, growth.new_columns)?;
@@ -250,7 +252,7 @@ where
     requires rowless { IsEmptyWithoutRows (R.grid records.old) → rows ≡ 0 → columns ≡ 0 }
     ensures well { R.is_well_formed records.new }
     ensures rowless { IsEmptyWithoutRows (R.grid records.old) }
-    ensures ok { OnOk result (GrowsTo rows columns (R.grid records.old) (R.grid records.new)) }
+    ensures ok { OnOk result (GrowsTo R.Cell.is_blank rows columns (R.grid records.old) (R.grid records.new)) }
     ensures err { OnErr result (R.grid records.new ≡ R.grid records.old) }
 {
     let old_rows = records.count_rows();
@@ -263,7 +265,7 @@ where
     Ok(())
 }
 
-/// Writes the texts of all cells outside of the first table. Refused, it leaves the first cells as they were.
+/// Writes the texts that are put outside of the first table. Refused, it leaves the first cells as they were.
 fn fill<R>(
     alloc: Global,
     records: &mut R,
@@ -279,43 +281,44 @@ where
     requires well { R.is_well_formed records.old }
     requires wide { columns ≤ (R.grid records.old).columns }
     ensures well { R.is_well_formed records.new }
-    ensures kept { FillsTo R.Cell.text_of (joined_text corner (map_grid string_bytes second.now) default.now) rows columns 0 0 (R.grid records.old) (R.grid records.new) }
-    ensures ok { OnOk result (FillsTo R.Cell.text_of (joined_text corner (map_grid string_bytes second.now) default.now) rows columns ((R.grid records.old).rows) 0 (R.grid records.old) (R.grid records.new)) }
+    ensures kept { FillsTo R.Cell.text_of (text_put corner (map_grid string_bytes second.now) default.now) rows columns 0 0 (R.grid records.old) (R.grid records.new) }
+    ensures ok { OnOk result (FillsTo R.Cell.text_of (text_put corner (map_grid string_bytes second.now) default.now) rows columns ((R.grid records.old).rows) 0 (R.grid records.old) (R.grid records.new)) }
 {
     let count = records.count_columns();
     for i in 0..records.count_rows() {
         let start = if i < rows { columns } else { 0 };
         for j in start..count {
-            let text = text_at(second, default, corner, i, j);
-            records.set(
-                alloc,
-                Position { row: i, col: j },
-                String::from_str(alloc, text)?,
-            )?;
+            if let Some(text) = text_at(second, default, corner, i, j) {
+                records.set(
+                    alloc,
+                    Position { row: i, col: j },
+                    String::from_str(alloc, text)?,
+                )?;
+            }
         }
     }
     Ok(())
 }
 
-/// The text at a place outside of the first table.
+/// The text that is put at a place outside of the first table; none where the second table lacks the cell.
 fn text_at<'a>(
     second: &'a VecRecords<Text<String>>,
     default: &'a str,
     corner: Position,
     row: usize,
     col: usize,
-) -> &'a str
-    ensures { result.now ≡ joined_text corner (map_grid string_bytes second.now) default.now row col }
+) -> Option<&'a str>
+    ensures { option_copied result ≡ text_put corner (map_grid string_bytes second.now) default.now row col }
 {
     if row < corner.row || col < corner.col {
-        return default;
+        return Some(default);
     }
     let pos = Position {
         row: row - corner.row,
         col: col - corner.col,
     };
     if pos.row >= second.count_rows() || pos.col >= second.count_columns() {
-        return "";
+        return None;
     }
-    second.get_text(pos)
+    Some(second.get_text(pos))
 }

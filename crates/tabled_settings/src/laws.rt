@@ -10,6 +10,7 @@ ghost use Rattle.tabled_options.specs.Does.{OptionKeeps};
 ghost use Rattle.tabled_settings.specs.declared.rotate.Rotate.TheVariants.{Bottom, Left, Right, Top};
 ghost use Rattle.tabled_settings.specs.declared.split.Display.TheVariants.{Retain};
 ghost use Rattle.tabled_settings.specs.Charsets.{IsClean, cleaned, with_tabs};
+ghost use Rattle.tabled_settings.specs.Orders.{charset_cmp, reverse_cmp};
 ghost use Rattle.tabled_settings.specs.PiecePlaces.{glued, split_places, texts_in};
 ghost use Rattle.tabled_settings.specs.Pieces.{split};
 ghost use Rattle.tabled_grid.specs.Places.{ReadsThrough};
@@ -31,7 +32,7 @@ use crate::split::Split;
 use std::alloc::{AllocError, Global};
 use tabled_grid::config::{Position, SpannedConfig, ToBounds};
 use tabled_grid::records::{
-    CellText, ExactRecords, PeekableRecords, Records, RecordsMut, Resizable,
+    Blank, CellText, ExactRecords, PeekableRecords, Records, RecordsMut, Resizable,
 };
 use tabled_options::{CellOption, MergedCellsFit, Property, TableOption};
 use tabled_select::location::Location;
@@ -79,6 +80,17 @@ pub fn top_twice_is_as_it_was<A>()
 /// A table whose rows or columns are reversed twice, from the same start up to the same limit, is as it was.
 pub fn reversed_twice_is_as_it_was<A>(_reverse: Reverse)
     ensures { (old : Grid A) (turned : Grid A) (new : Grid A) → IsEven old → ReadsThrough (reversed _reverse.axis _reverse.start _reverse.limit old.rows old.columns) old turned → ReadsThrough (reversed _reverse.axis _reverse.start _reverse.limit turned.rows turned.columns) turned new → new ≡ old }
+{}
+
+/// Reversals are ordered by their axis, rows first, then by their start, and then by their limit.
+pub fn reversals_in_order(_a: Reverse, _b: Reverse)
+    ensures { ⟦<Reverse as Ord>⟧.cmp _a _b ≡ reverse_cmp _a _b }
+{}
+
+/// Charsets are ordered by whether they clean, those that don't first, and then by their tab size, unset
+/// first.
+pub fn charsets_in_order(_a: Charset, _b: Charset)
+    ensures { ⟦<Charset as Ord>⟧.cmp _a _b ≡ charset_cmp _a _b }
 {}
 
 /// A turn takes each old cell to exactly one new place.
@@ -179,23 +191,23 @@ where
 /// A turn keeps merged cells inside the table and apart, also where it is refused.
 pub fn turns_keep_merged_cells_fitting<R, D>(_rotate: &Rotate)
 where
-    R: Records + ExactRecords + PeekableRecords + RecordsMut<String> + Resizable,
-    R::Cell: CellText,
+    R: Records + ExactRecords + Resizable,
+    R::Cell: Blank,
     ensures { OptionKeeps ⟦<MergedCellsFit as Property<R::Cell, SpannedConfig>>⟧.holds (⟦<Rotate as TableOption<R, SpannedConfig, D>>⟧.does _rotate.now) (⟦<Rotate as TableOption<R, SpannedConfig, D>>⟧.leaves _rotate.now) }
 {}
 
 /// So does a reversal.
 pub fn reversals_keep_merged_cells_fitting<R, D>(_reverse: Reverse)
 where
-    R: Records + ExactRecords + PeekableRecords + RecordsMut<String> + Resizable,
-    R::Cell: CellText,
+    R: Records + ExactRecords + Resizable,
+    R::Cell: Blank,
     ensures { OptionKeeps ⟦<MergedCellsFit as Property<R::Cell, SpannedConfig>>⟧.holds (⟦<Reverse as TableOption<R, SpannedConfig, D>>⟧.does _reverse) (⟦<Reverse as TableOption<R, SpannedConfig, D>>⟧.leaves _reverse) }
 {}
 
 /// So does a split.
 pub fn splits_keep_merged_cells_fitting<R, D>(_split: Split)
 where
-    R: Records + ExactRecords + PeekableRecords + RecordsMut<String> + Resizable,
+    R: Records + ExactRecords + PeekableRecords + Resizable,
     R::Cell: CellText,
     ensures { OptionKeeps ⟦<MergedCellsFit as Property<R::Cell, SpannedConfig>>⟧.holds (⟦<Split as TableOption<R, SpannedConfig, D>>⟧.does _split) (⟦<Split as TableOption<R, SpannedConfig, D>>⟧.leaves _split) }
 {}
@@ -203,8 +215,8 @@ where
 /// So does a part of a table.
 pub fn extracts_keep_merged_cells_fitting<R, D, A, B>(_extract: &Extract<A, B>)
 where
-    R: Records + ExactRecords + PeekableRecords + RecordsMut<String> + Resizable,
-    R::Cell: CellText,
+    R: Records + ExactRecords + Resizable,
+    R::Cell: Blank,
     A: ToBounds + Drop,
     B: ToBounds + Drop,
     ensures { OptionKeeps ⟦<MergedCellsFit as Property<R::Cell, SpannedConfig>>⟧.holds (⟦<Extract<A, B> as TableOption<R, SpannedConfig, D>>⟧.does _extract.now) (⟦<Extract<A, B> as TableOption<R, SpannedConfig, D>>⟧.leaves _extract.now) }
@@ -213,8 +225,8 @@ where
 /// So do rows or columns that are taken away.
 pub fn removals_keep_merged_cells_fitting<R, D, L, T>(_remove: &Remove<L, T>)
 where
-    R: Records + ExactRecords + PeekableRecords + RecordsMut<String> + Resizable,
-    R::Cell: CellText,
+    R: Records + ExactRecords + Resizable,
+    R::Cell: Blank,
     L: Location<R, Coordinate = usize> + Drop,
     <L::IntoIter as IntoIterator>::IntoIter: Drop,
     T: Target,
@@ -224,7 +236,7 @@ where
 /// So does a second table that is joined.
 pub fn joins_keep_merged_cells_fitting<R, D>(_concat: &Concat)
 where
-    R: Records + ExactRecords + PeekableRecords + RecordsMut<String> + Resizable,
+    R: Records + ExactRecords + Resizable + RecordsMut<String>,
     R::Cell: CellText,
     ensures { OptionKeeps ⟦<MergedCellsFit as Property<R::Cell, SpannedConfig>>⟧.holds (⟦<Concat as TableOption<R, SpannedConfig, D>>⟧.does _concat.now) (⟦<Concat as TableOption<R, SpannedConfig, D>>⟧.leaves _concat.now) }
 {}

@@ -24,7 +24,7 @@ use tabled_options::TableOption;
 ///                a d           f c
 /// ```
 ///
-/// Rows without cells become no rows.
+/// By a quarter, rows without cells become no rows; upside down they stay.
 ///
 /// Ported from `tabled::settings::Rotate`.
 #[derive(Debug, Drop)]

@@ -258,7 +258,7 @@ fn refused_changes_leave_merged_cells(rt: HostRuntime) -> Result<(), Fail> {
         (split, (2, 0), "a b / c _ / 0.0:1x2"),
         (
             Change::Join(Axis::Rows, "x /"),
-            (1, 3),
+            (1, 1),
             "a b c / x _ _ / 0.0:1x2",
         ),
         (Change::Segment(0, 1, 0, 2), (0, 0), "a b / 0.0:1x2"),

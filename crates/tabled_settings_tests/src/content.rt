@@ -160,3 +160,15 @@ fn each_charset_writes_all_cells_or_some(rt: HostRuntime) {
         assert!(rt; makes_flat(alloc, old, Settings::new(texts, first), some));
     }
 }
+
+#[test]
+fn charsets_are_ordered(rt: HostRuntime) {
+    let charsets = [
+        Charset::new(),
+        Charset::new().tab_size(0),
+        Charset::new().tab_size(9),
+        Charset::new().clean(),
+        Charset::new().clean().tab_size(4),
+    ];
+    assert!(rt; charsets.iter().is_sorted());
+}

@@ -57,14 +57,16 @@ fn the_default_cell_is_empty(rt: HostRuntime) -> Result<(), Fail> {
 
 #[test]
 fn joins_that_are_refused_are_undone(rt: HostRuntime) -> Result<(), Fail> {
-    // Three rows and columns are added and five texts written.
+    // So many rows and columns are added, and so many texts written. Cells that the second table lacks aren't.
     let cases = [
-        ("a /", Axis::Rows, "x y z /", "a - - / x y z /"),
-        ("a /", Axis::Columns, "x y / z w /", "a x y / - z w /"),
+        ("a /", Axis::Rows, "x y z /", (3, 5), "a - - / x y z /"),
+        ("a /", Axis::Columns, "x y / z w /", (3, 5), "a x y / - z w /"),
+        ("a b /", Axis::Rows, "x /", (1, 1), "a b / x _ /"),
+        ("a / b /", Axis::Columns, "x /", (1, 1), "a x / b _ /"),
     ];
-    for (old, axis, second, new) in cases {
+    for (old, axis, second, refusals, new) in cases {
         let join = Change::Join(axis, second);
-        assert!(rt; undoes(rt.alloc(), old, PLAIN, join, (3, 5), new));
+        assert!(rt; undoes(rt.alloc(), old, PLAIN, join, refusals, new));
     }
     Ok(())
 }

@@ -121,3 +121,15 @@ fn numbers_are_reversed(rt: HostRuntime) -> Result<(), Fail> {
     );
     Ok(())
 }
+
+#[test]
+fn reversals_are_ordered(rt: HostRuntime) {
+    let reversals = [
+        Reverse::rows(0).limit(Start(2)),
+        Reverse::rows(0).limit(End(1)),
+        Reverse::rows(1).limit(Start(0)),
+        Reverse::columns(0).limit(Start(0)),
+        Reverse::columns(0),
+    ];
+    assert!(rt; reversals.iter().is_sorted());
+}

@@ -1,7 +1,52 @@
--- A step does and leaves what it does and leaves.
-use Rattle.std.proofs.Common.{List, ℕ}
-use Rattle.tabled_steps.specs.Steps.{ActsAs, Does, Leaves}
+-- A step does and leaves what its option does and leaves.
+use Rattle.std.proofs.Common.{◌≡◌, ◌⊎◌, inl, inr, refl, List, ℕ}
+use Rattle.std.specs.declared.ops.Bound.{Bound}
+use Rattle.tabled_grid.specs.Grid.{Grid}
+use Rattle.tabled_grid.specs.Places.{ReadsThrough}
+use Rattle.tabled_grid.specs.Spans.{SpanMap}
+use Rattle.tabled_grid.specs.declared.config.entity.Entity.{Entity}
+use Rattle.tabled_grid.specs.declared.records.axis.Axis.{Axis}
+use Rattle.tabled_images.specs.Images.{carried}
+use Rattle.tabled_options.specs.Does.{Change, Same, Then, ThenLeaves}
+use Rattle.tabled_settings.specs.Dups.{Duplicates, DuplicatesFirst}
+use Rattle.tabled_settings.specs.Rearranged.{Rearranges, extracted, removed}
+use Rattle.tabled_steps.specs.Selected.{half_open}
+use Rattle.tabled_steps.specs.Steps.{ActsAs, Does, Leaves, ListAlike}
 use Rattle.tabled_steps.specs.declared.step.Step.{Step}
+use Rattle.tabled_steps.specs.declared.step.Step.TheVariants as step
 
 pub acts : {A : Type 0} (is_blank : A → Type 0) (text_of : A → List ℕ) (step : Step) → ActsAs is_blank text_of step (Does is_blank text_of step) (Leaves is_blank text_of step)
 acts is_blank text_of step = record { done = λ g c h d. ((λ x. x), λ x. x); refused = λ g c h d. ((λ x. x), λ x. x) }
+
+-- ranges of the bounds of a step keep what the step keeps
+pub extracts : {A : Type 0} (is_blank : A → Type 0) (text_of : A → List ℕ) (a b m n : ℕ) (rows columns : Bound ℕ × Bound ℕ) → rows ≡ half_open a b → columns ≡ half_open m n → ActsAs is_blank text_of (step.Extract a b m n) (λ g. Rearranges (extracted rows columns g.rows g.columns) g) Same
+extracts is_blank text_of a b m n rows columns of_rows of_columns = rw (of_rows, of_columns) (acts is_blank text_of (step.Extract a b m n))
+
+-- whatever one change makes, another makes, too
+abbrev pub Makes : {A C : Type 0} → Change A C → Change A C → Type 0
+Makes {A} {C} change other = (g : Grid A) (c : C) (h : Grid A) (d : C) → change g c h d → other g c h d
+
+module _ {A C : Type 0} where
+  pub then_makes : (first second other_first other_second : Change A C) → Makes first other_first → Makes second other_second → Makes (Then first second) (Then other_first other_second)
+  then_makes first second other_first other_second one two g c h d (m, k, did, then) = (m, k, one g c m k did, two m k h d then)
+
+  pub then_leaves : (first left second other_first other_left other_second : Change A C) → Makes first other_first → Makes left other_left → Makes second other_second → Makes (ThenLeaves first left second) (ThenLeaves other_first other_left other_second)
+  then_leaves first left second other_first other_left other_second one leaves two g c h d (inl at_once) = inl (leaves g c h d at_once)
+  then_leaves first left second other_first other_left other_second one leaves two g c h d (inr later) = inr (then_makes first second other_first other_second one two g c h d later)
+
+-- objects that list the same are duplicated alike
+module _ {A C : Type 0} (text_of : A → List ℕ) (destination source other_destination other_source : Grid A → List Entity → Type 0) (to : (g : Grid A) (items : List Entity) → destination g items → other_destination g items) (from : (g : Grid A) (items : List Entity) → source g items → other_source g items) where
+  pub duplicates : Makes (Duplicates {C = C} text_of destination source) (Duplicates text_of other_destination other_source)
+  duplicates g c h d (sources, targets, of, on, writes) = (sources, targets, from g sources of, to g targets on, writes)
+
+  pub duplicates_first : Makes (DuplicatesFirst {C = C} text_of destination source) (DuplicatesFirst text_of other_destination other_source)
+  duplicates_first g c h d (inl same) = inl same
+  duplicates_first g c h d (inr (sources, targets, of, on, writes)) = inr (sources, targets, from g sources of, to g targets on, writes)
+
+-- lines that a location finds, and the lines themselves, are taken away alike
+module _ {A : Type 0} (axis : Axis) (locates : Grid A → List ℕ → Type 0) (found : Grid A → List ℕ) (alike : ListAlike locates (λ g lines. lines ≡ found g)) (g : Grid A) (c : SpanMap) (h : Grid A) (d : SpanMap) where
+  pub finds_removed : Rearranges (removed axis (found g) g.rows g.columns) g c h d → (lines : List ℕ) × locates g lines × ReadsThrough (removed axis lines g.rows g.columns) g h × (d ≡ carried (removed axis lines g.rows g.columns) g.rows g.columns c)
+  finds_removed does = (found g, (alike g (found g)).1 refl, does.0, does.1)
+
+  pub removed_found : (lines : List ℕ) × locates g lines × ReadsThrough (removed axis lines g.rows g.columns) g h × (d ≡ carried (removed axis lines g.rows g.columns) g.rows g.columns c) → Rearranges (removed axis (found g) g.rows g.columns) g c h d
+  removed_found does = let is = (alike g does.0).0 does.1 in (rw (← is) does.2, rw (← is) does.3)

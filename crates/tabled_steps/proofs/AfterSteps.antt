@@ -100,8 +100,8 @@ module _ {A : Type 0} (text_of : A → List ℕ) where
     merged : (axis : Axis) → Merges text_of axis g c h d → state_of text_of h d ≡ merge axis (state_of text_of g c)
     merged axis (cells, runs) = same_state _ _ _ _ (ap (map_grid text_of) cells) (is_merged axis (map_grid text_of g) c d runs)
 
-    joined_at : (axis : Axis) (second : Grid (List ℕ)) (default : List ℕ) → JoinsAt text_of (corner_of axis g.rows g.columns) second default g h → map_grid text_of h ≡ joined axis second default (map_grid text_of g)
-    joined_at axis second default joins = is_table_of text_of h _ _ (λ (p : Position). text p.row p.col) joins.first.even joins.first.rows joins.first.columns (λ a b k l. at a b (omega (arith, joins.first.rows, k)) (omega (arith, joins.first.columns, l)) (cases_lt a g.rows) (cases_lt b g.columns))
+    joined_at : (is_blank : A → Type 0) (axis : Axis) (second : Grid (List ℕ)) (default : List ℕ) → JoinsAt is_blank text_of (corner_of axis g.rows g.columns) second default g h → map_grid text_of h ≡ joined axis second default (map_grid text_of g)
+    joined_at is_blank axis second default joins = is_table_of text_of h _ _ (λ (p : Position). text p.row p.col) joins.first.even joins.first.rows joins.first.columns (λ a b k l. at a b (omega (arith, joins.first.rows, k)) (omega (arith, joins.first.columns, l)) (cases_lt a g.rows) (cases_lt b g.columns))
       where
         corner : Position
         corner = corner_of axis g.rows g.columns
@@ -134,7 +134,7 @@ module _ {A : Type 0} (text_of : A → List ℕ) where
   after_step is_blank (step.Rotate rotate) g c h d does = rearranged g c h d (rotated rotate) (total-rotated rotate g.rows g.columns) does
   after_step is_blank (step.Reverse how) g c h d does = same_state _ _ _ _ (read_through text_of g h (reversed how.axis how.start how.limit g.rows g.columns) (λ p. (_, refl)) does.0) does.1
   after_step is_blank (step.Split how) g c h d does = same_state _ _ _ _ does.0.texts does.1
-  after_step is_blank (step.Concat concat) g c h d does = same_state _ _ _ _ (joined_at g c h d concat.0 concat.1 concat.2 does.0) does.1
+  after_step is_blank (step.Concat concat) g c h d does = same_state _ _ _ _ (joined_at g c h d is_blank concat.0 concat.1 concat.2 does.0) does.1
   after_step is_blank (step.Extract a b k l) g c h d does = rearranged g c h d (extracted (half_open a b) (half_open k l)) (λ p. (_, refl)) does
   after_step is_blank (step.RemoveRows a b) g c h d does = rearranged g c h d (removed Rows (indexes (half_open a b) g.rows)) (total-removed Rows _ g.rows g.columns) does
   after_step is_blank (step.RemoveColumns a b) g c h d does = rearranged g c h d (removed Columns (indexes (half_open a b) g.columns)) (total-removed Columns _ g.rows g.columns) does

@@ -148,6 +148,7 @@ after_flattened (x ∷ xs) s = after_both (parts x) (flattened xs) s ∙ after_f
 pub undone_midway : (xs first rest : List Step) (how : Split) (old new : State) → IsEven old.texts → flattened xs ≡ first ++ step.Split how ∷ rest → new ≡ after_all xs old → IsUndoneMidway how (after_all first old) rest new
 undone_midway xs first rest how old new even are is = record {
   split = after (step.Split how) (after_all first old);
+  is = refl;
   undone = record {
     glued = λ retained index rows columns. split_glued how (after_all first old).texts (after (step.Split how) (after_all first old)).texts (even_after_all first old even) retained rows columns index refl;
   };

@@ -137,5 +137,6 @@ flattened (x ∷ xs) = parts x ++ flattened xs
 -- a split is undone by gluing where it is made, and the steps after it lead on from there
 pub record IsUndoneMidway (how : Split) (old : State) (rest : List Step) (new : State) : Type 0 where
   pub split : State
+  pub is : split ≡ after (step.Split how) old
   pub undone : IsUndone how old split
   pub leads : new ≡ after_all rest split

@@ -1,6 +1,7 @@
 -- What steps do to the cells and the merged cells of a table, and what they leave where memory is refused.
 use Rattle.std.specs.Prelude.{◌≡◌, ◌⊎◌, ℕ, false, List}
 use Rattle.std.specs.String.{string_bytes}
+use Rattle.tabled_grid.specs.Along.{count_along}
 use Rattle.tabled_grid.specs.Grid.{Grid, map_grid}
 use Rattle.tabled_grid.specs.Spans.{SpanMap}
 use Rattle.tabled_grid.specs.declared.config.entity.Entity.{Entity}
@@ -43,8 +44,8 @@ abbrev pub Cuts : {A : Type 0} → (A → Type 0) → (A → List ℕ) → Split
 Cuts is_blank text_of s g c h d = Splits is_blank text_of s g h × (d ≡ carried_if (has_pieces s g.rows g.columns) (split_places s (map_grid text_of g)) g.rows g.columns c)
 
 -- a second table is joined, and the merged cells are carried along
-abbrev pub Joins : {A : Type 0} → (A → List ℕ) → Axis → Grid (List ℕ) → List ℕ → Change A SpanMap
-Joins text_of axis second default g c h d = JoinsAt text_of (corner_of axis g.rows g.columns) second default g h × (d ≡ carried (joined_places (corner_of axis g.rows g.columns) second g.rows g.columns) g.rows g.columns c)
+abbrev pub Joins : {A : Type 0} → (A → Type 0) → (A → List ℕ) → Axis → Grid (List ℕ) → List ℕ → Change A SpanMap
+Joins is_blank text_of axis second default g c h d = JoinsAt is_blank text_of (corner_of axis g.rows g.columns) second default g h × (d ≡ carried (joined_places (corner_of axis g.rows g.columns) second g.rows g.columns) g.rows g.columns c)
 
 -- runs of equal neighbours are merged, and cells stay
 abbrev pub Merges : {A : Type 0} → (A → List ℕ) → Axis → Change A SpanMap
@@ -66,7 +67,7 @@ Does is_blank text_of (step.MergeHorizontal _) = Merges text_of Columns
 Does is_blank text_of (step.Rotate rotate) = λ g. Rearranges (rotated rotate g.rows g.columns) g
 Does is_blank text_of (step.Reverse reverse) = Reverses reverse
 Does is_blank text_of (step.Split split) = Cuts is_blank text_of split
-Does is_blank text_of (step.Concat concat) = Joins text_of concat.0 concat.1 concat.2
+Does is_blank text_of (step.Concat concat) = Joins is_blank text_of concat.0 concat.1 concat.2
 Does is_blank text_of (step.Extract a b c d) = λ g. Rearranges (extracted (half_open a b) (half_open c d) g.rows g.columns) g
 Does is_blank text_of (step.RemoveRows a b) = λ g. Rearranges (removed Rows (indexes (half_open a b) g.rows) g.rows g.columns) g
 Does is_blank text_of (step.RemoveColumns a b) = λ g. Rearranges (removed Columns (indexes (half_open a b) g.columns) g.rows g.columns) g
@@ -112,3 +113,15 @@ pub record ActsAs {A : Type 0} (is_blank : A → Type 0) (text_of : A → List �
 -- the same of an option on each entity that is listed
 abbrev pub ActsOnEach : {A : Type 0} → (A → Type 0) → (A → List ℕ) → Step → (Grid A → List Entity → Type 0) → (Entity → Change A SpanMap) → (Entity → Change A SpanMap) → Type 0
 ActsOnEach is_blank text_of step lists does leaves = ActsAs is_blank text_of step (EachListed lists does) (SameOr (EachListedUntil lists does (λ e. SameOr (leaves e))))
+
+-- two relations hold of the same grids and lists
+abbrev pub ListAlike : {A X : Type 0} → (Grid A → List X → Type 0) → (Grid A → List X → Type 0) → Type 0
+ListAlike {A} {X} lists others = (g : Grid A) (items : List X) → (lists g items → others g items) × (others g items → lists g items)
+
+-- these are the indexes of a range of the rows, or of the columns, of a table
+abbrev pub IndexesAlong : {A : Type 0} → Axis → ℕ → ℕ → Grid A → List ℕ → Type 0
+IndexesAlong axis a b g found = found ≡ indexes (half_open a b) (count_along axis g)
+
+-- these are the columns with a text in the first row
+abbrev pub ColumnsNamed : {A : Type 0} → (A → List ℕ) → List ℕ → Grid A → List ℕ → Type 0
+ColumnsNamed text_of name g found = found ≡ columns_with name (map_grid text_of g)

@@ -1,9 +1,11 @@
 //! Laws of steps. Each is the contract of a function that does nothing.
 
 ghost use Rattle.std.specs.Prelude.{Bool, List, Option, ℕ, ℤ, ◌≡◌};
+ghost use Rattle.std.specs.String.{string_bytes};
 ghost use Rattle.tabled_grid.specs.Grid.{Grid, IsEven};
 ghost use Rattle.tabled_grid.specs.Spans.{SpanMap, with_sizes};
 ghost use Rattle.tabled_grid.specs.declared.records.axis.Axis.{Axis};
+ghost use Rattle.tabled_grid.specs.declared.records.axis.Axis.TheVariants.{Columns, Rows};
 ghost use Rattle.tabled_options.specs.Does.{Each, OptionKeeps};
 ghost use Rattle.tabled_spans.specs.Runs.{MergesRuns};
 ghost use Rattle.tabled_steps.specs.Fitting.{KeepsFitting};
@@ -14,20 +16,25 @@ ghost use Rattle.tabled_settings.specs.declared.rotate.Rotate.{Rotate};
 ghost use Rattle.tabled_settings.specs.declared.split.Split.{Split};
 ghost use Rattle.tabled_spans.specs.declared.merge.MergeDuplicatesHorizontal.{MergeDuplicatesHorizontal};
 ghost use Rattle.tabled_spans.specs.declared.merge.MergeDuplicatesVertical.{MergeDuplicatesVertical};
-ghost use Rattle.tabled_steps.specs.Steps.{ActsAs, ActsOnEach, Does};
+ghost use Rattle.tabled_steps.specs.Selected.{half_open};
+ghost use Rattle.tabled_steps.specs.Steps.{ActsAs, ActsOnEach, ColumnsNamed, Does, IndexesAlong, ListAlike, Names};
 ghost use Rattle.tabled_steps.specs.declared.select.Select.{Select};
 ghost use Rattle.tabled_steps.specs.declared.step.Step.{Step};
 ghost use Rattle.tabled_steps.specs.declared.step.Step.TheVariants as step;
 
 use crate::select::Select;
 use crate::step::Step;
-use tabled_grid::config::SpannedConfig;
+use tabled_grid::config::{SpannedConfig, ToBounds};
 use tabled_grid::records::{
     CellText, ExactRecords, GridStore, PeekableRecords, Records, RecordsMut, Resizable,
 };
-use tabled_options::{CellOption, MergedCellsFit, Property, TableOption};
+use tabled_options::{CellOption, MergedCellsFit, Property, Settings, TableOption};
+use tabled_select::location::Location;
 use tabled_select::object::Object;
 use tabled_settings::concat::Concat;
+use tabled_settings::disable::{Remove, Target};
+use tabled_settings::duplicate::Dup;
+use tabled_settings::extract::Extract;
 use tabled_settings::formatting::Charset;
 use tabled_settings::reverse::Reverse;
 use tabled_settings::rotate::Rotate;
@@ -101,4 +108,51 @@ where
     ensures reverse { (reverse : Reverse) → ActsAs R.Cell.is_blank R.Cell.text_of (step.Reverse reverse) (⟦<Reverse as TableOption<R, SpannedConfig, D>>⟧.does reverse) (⟦<Reverse as TableOption<R, SpannedConfig, D>>⟧.leaves reverse) }
     ensures split { (split : Split) → ActsAs R.Cell.is_blank R.Cell.text_of (step.Split split) (⟦<Split as TableOption<R, SpannedConfig, D>>⟧.does split) (⟦<Split as TableOption<R, SpannedConfig, D>>⟧.leaves split) }
     ensures concat { (concat : Axis × Grid (List ℕ) × List ℕ) → ActsAs R.Cell.is_blank R.Cell.text_of (step.Concat concat) (⟦<Concat as TableOption<R, SpannedConfig, D>>⟧.does concat) (⟦<Concat as TableOption<R, SpannedConfig, D>>⟧.leaves concat) }
+{}
+
+/// Two steps in one do, and refused leave, what two options do and leave one after the other, where each of
+/// the steps does and leaves what its option does and leaves.
+pub fn both_steps_do_what_both_options_do<R, D, A, B>(_first: &A, _second: &B)
+where
+    R: GridStore,
+    R::Cell: CellText,
+    A: TableOption<R, SpannedConfig, D>,
+    B: TableOption<R, SpannedConfig, D> + Drop,
+    ensures { (p : _) (first : Step) (q : _) (second : Step) → ActsAs R.Cell.is_blank R.Cell.text_of first (A.does _first.now) (A.leaves _first.now) → ActsAs R.Cell.is_blank R.Cell.text_of second (B.does _second.now) (B.leaves _second.now) → ActsAs R.Cell.is_blank R.Cell.text_of (step.Both' p first q second) (⟦<Settings<A, B> as TableOption<R, SpannedConfig, D>>⟧.does (_first.now, _second.now)) (⟦<Settings<A, B> as TableOption<R, SpannedConfig, D>>⟧.leaves (_first.now, _second.now)) }
+{}
+
+/// A step that writes texts of cells to others does, and refused leaves, what `Dup` does and leaves with any
+/// objects that list what the step's selectors name.
+pub fn dup_steps_do_what_dup_does<R, D, Dst, Src>(_dup: &Dup<Dst, Src>)
+where
+    R: Records + ExactRecords + PeekableRecords + RecordsMut<String>,
+    R::Cell: CellText,
+    Dst: Object<R> + Drop,
+    Src: Object<R> + Drop,
+    ensures { (destination source : Select) → ListAlike (Dst.lists _dup.now.0) (Names R.Cell.text_of destination) → ListAlike (Src.lists _dup.now.1) (Names R.Cell.text_of source) → ActsAs R.Cell.is_blank R.Cell.text_of (step.Dup destination source) (⟦<Dup<Dst, Src> as TableOption<R, SpannedConfig, D>>⟧.does _dup.now) (⟦<Dup<Dst, Src> as TableOption<R, SpannedConfig, D>>⟧.leaves _dup.now) }
+{}
+
+/// A step that keeps a range of rows and one of columns does, and refused leaves, what `Extract` does and
+/// leaves with any ranges of these bounds.
+pub fn extract_steps_do_what_extract_does<R, D, A, B>(_extract: &Extract<A, B>)
+where
+    A: ToBounds + Drop,
+    B: ToBounds + Drop,
+    R: Records + ExactRecords + Resizable,
+    R::Cell: CellText,
+    ensures { (a b m n : ℕ) → A.bounds_of _extract.now.0 ≡ half_open a b → B.bounds_of _extract.now.1 ≡ half_open m n → ActsAs R.Cell.is_blank R.Cell.text_of (step.Extract a b m n) (⟦<Extract<A, B> as TableOption<R, SpannedConfig, D>>⟧.does _extract.now) (⟦<Extract<A, B> as TableOption<R, SpannedConfig, D>>⟧.leaves _extract.now) }
+{}
+
+/// A step that takes away a range of rows or of columns, or the columns of a name, does, and refused leaves,
+/// what `Remove` does and leaves with any location that finds these.
+pub fn remove_steps_do_what_remove_does<R, D, L, T>(_remove: &Remove<L, T>)
+where
+    T: Target,
+    L: Location<R, Coordinate = usize> + Drop,
+    <L::IntoIter as IntoIterator>::IntoIter: Drop,
+    R: Records + ExactRecords + Resizable,
+    R::Cell: CellText,
+    ensures rows { (a b : ℕ) → T.lines ≡ Rows → ListAlike (L.locates _remove.now) (IndexesAlong Rows a b) → ActsAs R.Cell.is_blank R.Cell.text_of (step.RemoveRows a b) (⟦<Remove<L, T> as TableOption<R, SpannedConfig, D>>⟧.does _remove.now) (⟦<Remove<L, T> as TableOption<R, SpannedConfig, D>>⟧.leaves _remove.now) }
+    ensures columns { (a b : ℕ) → T.lines ≡ Columns → ListAlike (L.locates _remove.now) (IndexesAlong Columns a b) → ActsAs R.Cell.is_blank R.Cell.text_of (step.RemoveColumns a b) (⟦<Remove<L, T> as TableOption<R, SpannedConfig, D>>⟧.does _remove.now) (⟦<Remove<L, T> as TableOption<R, SpannedConfig, D>>⟧.leaves _remove.now) }
+    ensures named { (name : _) → T.lines ≡ Columns → ListAlike (L.locates _remove.now) (ColumnsNamed R.Cell.text_of (string_bytes name)) → ActsAs R.Cell.is_blank R.Cell.text_of (step.RemoveNamed name) (⟦<Remove<L, T> as TableOption<R, SpannedConfig, D>>⟧.does _remove.now) (⟦<Remove<L, T> as TableOption<R, SpannedConfig, D>>⟧.leaves _remove.now) }
 {}

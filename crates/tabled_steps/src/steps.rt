@@ -1,6 +1,6 @@
 //! Lists of steps.
 
-ghost use Rattle.std.specs.Prelude.{◌≡◌, ◌<◌, ◌∷◌, ◌++◌, IfErr, List, OnOk, length};
+ghost use Rattle.std.specs.Prelude.{◌≡◌, ◌<◌, ◌∷◌, ◌++◌, IfErr, List, OnOk, length, take};
 ghost use Rattle.std.specs.List.{AllByRecursion};
 ghost use Rattle.tabled_grid.specs.Rectangles.{Fits};
 ghost use Rattle.tabled_options.specs.Does.{Each, EachUntilAt};
@@ -28,8 +28,8 @@ use tabled_options::TableOption;
 ///   leaves. No step is refused that takes no memory.
 /// - Where no step is a span of size 0 or below, merged cells that lay inside the table and apart do so after
 ///   it, done or refused: cells that move carry theirs along.
-/// - Where a step, or a part of one, is a split that keeps all pieces, and these have a cell, the table before
-///   it, if it has a row and a column, is its pieces, glued together.
+/// - Where a step that is done, or a part of one, is a split that keeps all pieces, and these have a cell, the
+///   table before it, if it has a row and a column, is its pieces, glued together.
 ///
 /// Of this project.
 pub fn run<R>(
@@ -49,6 +49,7 @@ where
     ensures err { IfErr result (λ refused. EachUntilAt (Does R.Cell.is_blank R.Cell.text_of) (Refused R.Cell.is_blank R.Cell.text_of) steps.items refused.0 (R.grid records.old) cfg.old (R.grid records.new) cfg.new) }
     ensures fitting { AllByRecursion KeepsFitting steps.items → Fits cfg.old ((R.grid records.old).rows) ((R.grid records.old).columns) → Fits cfg.new ((R.grid records.new).rows) ((R.grid records.new).columns) }
     ensures glued { OnOk result ((first rest : List Step) (split : Split) → flattened steps.items ≡ first ++ step.Split split ∷ rest → IsUndoneMidway split (after_all first (state_of R.Cell.text_of (R.grid records.old) cfg.old)) rest (state_of R.Cell.text_of (R.grid records.new) cfg.new)) }
+    ensures glued_before { IfErr result (λ refused. (first rest : List Step) (split : Split) → flattened (take refused.0 steps.items) ≡ first ++ step.Split split ∷ rest → IsUndoneMidway split (after_all first (state_of R.Cell.text_of (R.grid records.old) cfg.old)) rest (after_all (take refused.0 steps.items) (state_of R.Cell.text_of (R.grid records.old) cfg.old))) }
 {
     // A count of rows promises that they are equally long.
     let _ = records.count_rows();

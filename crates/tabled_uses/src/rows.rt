@@ -77,6 +77,23 @@ pub fn read_ahead(alloc: Global, rows: usize) -> Result<(usize, String), AllocEr
     Ok((count, spelling.end()?))
 }
 
+/// How many lines of a text are read ahead, and the words of all lines.
+///
+/// A line is found, and its words are lent, only when they are asked for.
+pub fn lines_ahead(alloc: Global, text: &str, rows: usize) -> Result<(usize, String), AllocError> {
+    let words = IterRows::new(text.lines().map(|line: &str| line.split_whitespace()));
+    let ahead = BufRecords::new(alloc, words, rows)?;
+    let count = ahead.as_slice().len();
+    let mut spelling = Spelling::new(alloc);
+    for row in ahead.iter_rows() {
+        for word in row {
+            spelling.push_cell(word);
+        }
+        spelling.push("|");
+    }
+    Ok((count, spelling.end()?))
+}
+
 /// The rows of a lent store.
 pub fn lent(alloc: Global, store: &VecRecords<Text<String>>) -> Result<String, AllocError> {
     let mut spelling = Spelling::new(alloc);

@@ -5,7 +5,7 @@ use std::test::Fail;
 use tabled_grid::records::{Resizable, Text, VecRecords};
 use tabled_rows::records::{EitherString, EmptyRecords};
 use tabled_testing::is_word;
-use tabled_uses::rows::{empty, lent, limited, lines, read_ahead, skipped};
+use tabled_uses::rows::{empty, lent, limited, lines, lines_ahead, read_ahead, skipped};
 use tabled_uses::stores::fruits;
 
 const MAX: usize = usize::MAX;
@@ -51,16 +51,25 @@ fn skips(rt: HostRuntime) {
     }
 }
 
-/// Whether n rows are read ahead, and all are given.
-fn reads(alloc: Global, rows: usize, want: usize) -> Result<bool, AllocError> {
-    let (count, given) = read_ahead(alloc, rows)?;
-    Ok(count == want && given.as_str() == ROWS)
+/// Whether so many rows were read ahead, and these were given.
+fn reads(
+    ahead: Result<(usize, String), AllocError>,
+    want: usize,
+    rows: &str,
+) -> Result<bool, AllocError> {
+    let (count, given) = ahead?;
+    Ok(count == want && given.as_str() == rows)
 }
 
 #[test]
 fn reads_ahead(rt: HostRuntime) -> Result<(), Fail> {
     for (rows, want) in [(0, 0), (1, 1), (2, 2), (3, 3), (4, 3), (MAX, 3)] {
-        assert!(rt; reads(rt.alloc(), rows, want)?, "{rows}");
+        assert!(rt; reads(read_ahead(rt.alloc(), rows), want, ROWS)?, "{rows}");
+    }
+    let (text, words) = ("a b c\nd\n\ne f", "[a][b][c]|[d]||[e][f]|");
+    for (rows, want) in [(0, 0), (1, 1), (3, 3), (4, 4), (5, 4), (MAX, 4)] {
+        let ahead = lines_ahead(rt.alloc(), text, rows);
+        assert!(rt; reads(ahead, want, words)?, "{rows}");
     }
     Ok(())
 }

@@ -5,7 +5,7 @@ ghost use Rattle.std.specs.Iterator.{DrainsIf, HoldsAlong, IsFinite, count_unles
 ghost use Rattle.std.specs.Iterator.Adapters.{fuse_done, fuse_source, fuse_steps};
 ghost use Rattle.std.specs.List.{All, AllZip};
 ghost use Rattle.tabled_grid.specs.Grid.{map_items};
-ghost use Rattle.tabled_rows.specs.Gave.{FollowsBuffer, Gave, MayBeAsked};
+ghost use Rattle.tabled_rows.specs.Gave.{FollowsBuffer, Gave, MayBeAsked, ReadsAhead};
 ghost use Rattle.tabled_rows.specs.Listed.{GoesOver, ListsEachOnce};
 ghost use Rattle.tabled_rows.specs.Rows.{Shows, all_shown, first_rows};
 
@@ -51,14 +51,15 @@ impl<S: IntoRecords> BufRecords<S, <S::IterRows as IntoIterator>::IntoIter, S::C
 where
     S::Cell: Drop,
 {
-    /// Reads the first `n` rows of a source into a buffer, or all where there are fewer. Whatever comes after
-    /// them, the source gave the rows that were read, and then that.
+    /// Reads the first `n` rows of a source into a buffer. It reads fewer only where the source has ended, and
+    /// then asks it no more. Whatever comes after them, the source gave the rows that were read, and then that.
     ///
     /// Refused for memory, it drops the source and what was read.
     ///
     /// Ported from `tabled::grid::records::into_records::BufRecords::new`.
     pub fn new(alloc: Global, records: S, n: usize) -> Result<Self, AllocError>
         requires { S.may_be_asked records ⊎ ((rows : List (List S.Shown)) × S.gives records rows) }
+        ensures ahead { IfOk result (λ ahead. ReadsAhead n ahead.0 ahead.1) }
         ensures buffered { (rows : List (List S.Shown)) → S.gives records rows → IfOk result (λ ahead. all_shown S.shown ahead.0 ≡ first_rows n rows) }
         ensures same { (rows : List (List S.Shown)) → S.gives records rows → IfOk result (λ ahead. ⟦<BufRecords<S, <S::IterRows as IntoIterator>::IntoIter, S::Cell> as IntoRecords>⟧.gives ahead rows) }
         ensures asked { IfOk result (λ ahead. ⟦<BufRecords<S, <S::IterRows as IntoIterator>::IntoIter, S::Cell> as IntoRecords>⟧.may_be_asked ahead) }

@@ -224,7 +224,7 @@ pub(super) const CASES: [(&str, &str, &str, &str, &str); 43] = [
         "cspan 2 cell 0 0",
         "concat vertical - 1 1 x",
         "a b / 0.0:1x2 !0 | a b / x _ / 0.0:1x2",
-        "a b / 0.0:1x2 !0 | a b / 0.0:1x2 !0 | a b / x _ / 0.0:1x2",
+        "a b / 0.0:1x2 !0 | a b / x _ / 0.0:1x2",
     ),
     ("a b / c d /", "", "extract 0 1 1 9", "b /", "b /"),
     ("a / b /", "", "remove rows 0 1", "b /", "b /"),

@@ -1,22 +1,29 @@
-use Rattle.std.proofs.Common.{◌≡◌, ◌≤◌, ◌⊎◌, ◌+◌, ◌∙◌, inl, inr, refl, arith}
+use Rattle.std.proofs.Common.{◌≡◌, ◌≤◌, ◌⊎◌, ◌+◌, ◌∙◌, Some, None, ap, inl, inr, refl, sym, arith}
 use Rattle.std.specs.String.{string_bytes}
-use Rattle.tabled_grid.specs.Entity.{place}
-use Rattle.tabled_grid.specs.Grid.{WritesText, map_grid}
-use Rattle.tabled_settings.specs.Joined.{joined_text}
-use Rattle.tabled_settings.proofs.Joins.{fills_more}
+use Rattle.tabled_grid.specs.Grid.{map_grid}
+use Rattle.tabled_settings.specs.Joined.{text_put}
+use Rattle.tabled_settings.proofs.Joins.{fills_more, fills_over}
 use Rattle.tabled_settings.proofs.concat.fill.Goals as goal
-use Rattle.tabled_settings.proofs.concat.fill.Goals.{then-i-rows, else-i-rows}
+use Rattle.tabled_settings.proofs.concat.fill.Goals.{in-Some+in_ok-from_str+in_ok-set, in_default, then-i-rows, else-i-rows}
 
 pub loop-j-preserved : goal.loop-j-preserved
 loop-j-preserved g c =
     let i = c.loop-j.invariant in
-    let grid = g.R.GridStore.grid in
     let outside : (c.args.rows ≤ c.loop-i.i) ⊎ (c.args.columns ≤ c.loop-j.j) = elim c.if-i-rows.branch [ then-i-rows w ↦ inr (omega (arith, w.start-is, c.loop-j.auto.j)) | else-i-rows w ↦ inl (omega (arith, w.if-i-rows.false)) ] in
-    let text : string_bytes c.in_ok-from_str.field-0 ≡ joined_text c.args.corner (map_grid string_bytes c.args.second.now) c.args.default.now c.loop-i.i c.loop-j.j = c.in_ok-from_str.ensures.ok ∙ c.text_at-text.ensures in
-    let written : WritesText g.R.Cell.CellText.text_of (grid c.loop-j.records) (grid c.set.new.self) (place c.loop-i.i c.loop-j.j) (joined_text c.args.corner (map_grid string_bytes c.args.second.now) c.args.default.now c.loop-i.i c.loop-j.j) =
-    (rw text at c.in_ok-set.ensures.ok) in
-    record {
-      well = c.set.ensures.well;
-      count = i.count;
-      fills = fills_more _ _ c.args.rows c.args.columns _ _ c.loop-i.i c.loop-j.j i.fills _ (c.loop-j.j + 1) refl (omega (arith, c.loop-i-test.true, c.count_rows-i-end.ensures.rows, i.fills.rows_are)) (omega (arith, c.loop-j-test.true, i.count, i.fills.columns_are)) outside written;
-    }
+    elim c.match-text_at.branch [
+      | in-Some+in_ok-from_str+in_ok-set w ↦
+          let text = string_bytes w.in_ok-from_str.field-0 in
+          let put : text_put c.args.corner (map_grid string_bytes c.args.second.now) c.args.default.now c.loop-i.i c.loop-j.j ≡ Some text = sym (rw w.in-Some.is at c.text_at.ensures) ∙ ap Some (sym w.in_ok-from_str.ensures.ok) in
+          rw w.records-is (record {
+            well = w.set.ensures.well;
+            count = i.count;
+            fills = fills_more _ _ c.args.rows c.args.columns _ _ c.loop-i.i c.loop-j.j i.fills _ (c.loop-j.j + 1) text refl (omega (arith, c.loop-i-test.true, c.count_rows-i-end.ensures.rows, i.fills.rows_are)) (omega (arith, c.loop-j-test.true, i.count, i.fills.columns_are)) outside put w.in_ok-set.ensures.ok;
+          })
+      | in_default w ↦
+          let none : text_put c.args.corner (map_grid string_bytes c.args.second.now) c.args.default.now c.loop-i.i c.loop-j.j ≡ None = sym (rw w.in_default.is at c.text_at.ensures) in
+          rw w.records-is (record {
+            well = i.well;
+            count = i.count;
+            fills = fills_over _ _ c.args.rows c.args.columns _ _ c.loop-i.i c.loop-j.j i.fills (c.loop-j.j + 1) refl none;
+          })
+    ]

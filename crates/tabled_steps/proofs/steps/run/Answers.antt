@@ -1,9 +1,10 @@
-use Rattle.std.proofs.lemmas.Result.{on_ok_weaker}
+use Rattle.std.proofs.Common.{refl, take}
+use Rattle.std.proofs.lemmas.Result.{IfErr-weaker, on_ok_weaker}
 use Rattle.tabled_grid.proofs.Grids.{IsEven-map_grid}
 use Rattle.tabled_steps.proofs.AfterSteps.{after_each}
 use Rattle.tabled_steps.proofs.EvenStates.{undone_midway}
 use Rattle.tabled_steps.proofs.Fitting.{steps_kept}
-use Rattle.tabled_steps.specs.States.{state_of}
+use Rattle.tabled_steps.specs.States.{after_all, state_of}
 use Rattle.tabled_steps.proofs.steps.run.Goals as goal
 
 pub returns-clause-state : goal.returns-clause-state
@@ -18,3 +19,11 @@ returns-clause-glued g c =
     let grid = g.R.GridStore.grid in
     let even = IsEven-map_grid text_of (grid c.args.records.now) c.count_rows.ensures.even in
     on_ok_weaker c.run_each.result (λ does first rest split are. undone_midway c.args.steps.items first rest split (state_of text_of (grid c.args.records.now) c.args.cfg.now) (state_of text_of (grid c.run_each.new.records) c.run_each.new.cfg) even are (after_each text_of g.R.Cell.Blank.is_blank c.args.steps.items (grid c.args.records.now) c.args.cfg.now (grid c.run_each.new.records) c.run_each.new.cfg does)) c.run_each.ensures.ok
+
+pub returns-clause-glued_before : goal.returns-clause-glued_before
+returns-clause-glued_before g c =
+    let text_of = g.R.Cell.CellText.text_of in
+    let grid = g.R.GridStore.grid in
+    let old = state_of text_of (grid c.args.records.now) c.args.cfg.now in
+    let even = IsEven-map_grid text_of (grid c.args.records.now) c.count_rows.ensures.even in
+    IfErr-weaker c.run_each.result _ _ (λ refused index first rest split are. let done = take refused.0 c.args.steps.items in undone_midway done first rest split old (after_all done old) even are refl) c.run_each.ensures.index

@@ -1,0 +1,159 @@
+//! The calls.
+
+use std::alloc::{AllocError, Global};
+use tabled_grid::config::{Position, SpannedConfig};
+use tabled_grid::records::{
+    CellText, ExactRecords, PeekableRecords, Records, RecordsMut, Resizable,
+};
+use tabled_options::{Modify, Settings, TableOption, TextRef};
+use tabled_select::location::Locator;
+use tabled_select::object::{Columns, Rows, Segment};
+use tabled_settings::duplicate::Dup;
+use tabled_settings::format::Format;
+use tabled_settings::formatting::Charset;
+use tabled_settings::rotate::Rotate;
+use tabled_spans::span::Span;
+use tabled_steps::{Step, run};
+
+/// A call. `Run` and `List` do the steps that they are handed.
+#[derive(Clone, Copy)]
+pub(crate) enum Call {
+    /// The steps by `run`.
+    Run,
+    /// The steps as a list of options.
+    List,
+    /// A text on the first row and a turn to the left, as one option.
+    Settings,
+    /// Two texts, one after another, on each row.
+    Modify,
+    /// A span of two columns on each row.
+    Spans,
+    /// `!` behind each text.
+    Content,
+    /// Row and column behind each text.
+    Positioned,
+    /// `!` behind each line of the texts of the first row.
+    Multiline,
+    /// The texts of the first row below it.
+    Duplicate,
+    /// The first column without control characters, with two blanks for a tab.
+    Charset,
+    /// `x` on cells of the text `a`.
+    ByContent,
+    /// `x` on the columns named `b`.
+    ByColumnName,
+    /// `x` on cells without text.
+    ByCondition,
+    /// `x` on the first cell of the longest text.
+    ByValue,
+    /// A turn to the left that first writes a text, which it may not leave.
+    Faulty,
+}
+
+impl Call {
+    pub(crate) fn of_name(name: &str) -> Option<Call> {
+        match name {
+            "run" => Some(Call::Run),
+            "list" => Some(Call::List),
+            "settings" => Some(Call::Settings),
+            "modify" => Some(Call::Modify),
+            "spans" => Some(Call::Spans),
+            "content" => Some(Call::Content),
+            "positioned" => Some(Call::Positioned),
+            "multiline" => Some(Call::Multiline),
+            "duplicate" => Some(Call::Duplicate),
+            "charset" => Some(Call::Charset),
+            "by_content" => Some(Call::ByContent),
+            "by_column_name" => Some(Call::ByColumnName),
+            "by_condition" => Some(Call::ByCondition),
+            "by_value" => Some(Call::ByValue),
+            "faulty" => Some(Call::Faulty),
+            _ => None,
+        }
+    }
+
+    /// Does the call to a table.
+    pub(crate) fn does<R>(
+        self,
+        alloc: Global,
+        records: &mut R,
+        cfg: &mut SpannedConfig,
+        steps: Vec<Step>,
+    ) -> Result<(), AllocError>
+    where
+        R: Records + ExactRecords + PeekableRecords + Resizable,
+        R: RecordsMut<String> + for<'t> RecordsMut<&'t str>,
+        R::Cell: CellText,
+        requires { R.is_well_formed records.old }
+        ensures { R.is_well_formed records.new }
+    {
+        match self {
+            Call::Run => run(alloc, records, cfg, steps).map_err(|(_, error)| error),
+            Call::List => steps.change(alloc, records, cfg, &mut ()),
+            Call::Settings => Settings::empty()
+                .modify(Rows::first(), TextRef("x"))
+                .with(Rotate::Left)
+                .change(alloc, records, cfg, &mut ()),
+            Call::Modify => Modify::list(Rows::new(..), (TextRef("x"), TextRef("y"))).change(
+                alloc,
+                records,
+                cfg,
+                &mut (),
+            ),
+            Call::Spans => {
+                Modify::list(Rows::new(..), Span::column(2)).change(alloc, records, cfg, &mut ())
+            }
+            Call::Content => Format::content(marked).change(alloc, records, cfg, &mut ()),
+            Call::Positioned => Format::positioned(placed).change(alloc, records, cfg, &mut ()),
+            Call::Multiline => Modify::list(
+                Rows::first(),
+                Format::content(marked).multiline(),
+            ).change(alloc, records, cfg, &mut ()),
+            Call::Duplicate => {
+                Dup::new(Rows::new(1..), Rows::first()).change(alloc, records, cfg, &mut ())
+            }
+            Call::Charset => Modify::list(
+                Columns::first(),
+                Charset::new().clean().tab_size(2),
+            ).change(alloc, records, cfg, &mut ()),
+            Call::ByContent => {
+                let text = String::from_str(alloc, "a")?;
+                Modify::list(Locator::content(text), TextRef("x")).change(
+                    alloc,
+                    records,
+                    cfg,
+                    &mut (),
+                )
+            }
+            Call::ByColumnName => {
+                let name = String::from_str(alloc, "b")?;
+                Modify::list(Locator::column(name), TextRef("x")).change(
+                    alloc,
+                    records,
+                    cfg,
+                    &mut (),
+                )
+            }
+            Call::ByCondition => Modify::list(
+                Locator::by(|text| text.is_empty()),
+                TextRef("x"),
+            ).change(alloc, records, cfg, &mut ()),
+            Call::ByValue => {
+                let longest = Locator::value(Segment::all(), |text, held| text.len() > held.len());
+                Modify::list(longest, TextRef("x")).change(alloc, records, cfg, &mut ())
+            }
+            Call::Faulty => {
+                Modify::list(Rows::first(), TextRef("x")).change(alloc, records, cfg, &mut ())?;
+                Rotate::Left.change(alloc, records, cfg, &mut ())
+            }
+        }
+    }
+}
+
+fn marked(alloc: Global, text: &str) -> Result<String, AllocError> {
+    format!(in alloc; "{text}!")
+}
+
+fn placed(alloc: Global, text: &str, pos: Position) -> Result<String, AllocError> {
+    format!(in alloc; "{text}{}:{}", pos.row, pos.col)
+}

@@ -1,0 +1,37 @@
+use Rattle.std.specs.String.{string_bytes}
+use Rattle.tabled_grid.specs.Along.{count_along}
+use Rattle.tabled_grid.specs.Bounds.{indexes}
+use Rattle.tabled_grid.specs.Grid.{map_grid}
+use Rattle.tabled_grid.specs.declared.records.axis.Axis.TheVariants.{Columns, Rows}
+use Rattle.tabled_select.specs.Locators.{columns_with}
+use Rattle.tabled_steps.specs.Selected.{half_open}
+use Rattle.tabled_steps.proofs.Acts.{finds_removed, removed_found}
+use Rattle.tabled_steps.proofs.laws.remove_steps_do_what_remove_does.Goals as goal
+
+pub returns : goal.returns
+returns g c =
+    let locates = g.L.Location.locates c.args._remove.now in
+    let text_of = g.R.Cell.CellText.text_of in
+    record {
+      rows = λ a b lines alike. rw lines (record {
+        done = λ k m h d. (
+          finds_removed Rows locates (λ k. indexes (half_open a b) (count_along Rows k)) alike k m h d,
+          removed_found Rows locates (λ k. indexes (half_open a b) (count_along Rows k)) alike k m h d,
+        );
+        refused = λ k m h d. ((λ left. left), λ left. left);
+      });
+      columns = λ a b lines alike. rw lines (record {
+        done = λ k m h d. (
+          finds_removed Columns locates (λ k. indexes (half_open a b) (count_along Columns k)) alike k m h d,
+          removed_found Columns locates (λ k. indexes (half_open a b) (count_along Columns k)) alike k m h d,
+        );
+        refused = λ k m h d. ((λ left. left), λ left. left);
+      });
+      named = λ name lines alike. rw lines (record {
+        done = λ k m h d. (
+          finds_removed Columns locates (λ k. columns_with (string_bytes name) (map_grid text_of k)) alike k m h d,
+          removed_found Columns locates (λ k. columns_with (string_bytes name) (map_grid text_of k)) alike k m h d,
+        );
+        refused = λ k m h d. ((λ left. left), λ left. left);
+      });
+    }
