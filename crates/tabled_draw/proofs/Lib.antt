@@ -1,3 +1,4 @@
 pub mod Before
+pub mod Measured
 pub mod Owned
 pub mod Sent
