@@ -1,6 +1,7 @@
 -- Lines of a picture, by what is known as they are written.
 use Rattle.std.specs.Prelude.{◌≡◌, ◌+◌, ◌-◌, ◌<◌, ◌==◌, ◌&&◌, ◌++◌, if◌then◌else◌, ℕ, Bool, true, false, List, [], ◌∷◌, Option, None, Some, replicate, slice_index_or}
 use Rattle.std.specs.FinMap.{entries}
+use Rattle.std.specs.List.{All, after_first}
 use Rattle.tabled_draw.specs.Each.{each}
 use Rattle.tabled_draw.specs.Owners.{is_one, owner}
 use Rattle.tabled_draw.specs.Picture.{top}
@@ -16,8 +17,11 @@ first_line text = slice_index_or (lines_of text) 0 []
 
 -- the lines of a text after the first one
 abbrev pub after_line : List ℕ → List ℕ
-after_line [] = []
-after_line (b ∷ bs) = if b == 10 then bs else after_line bs
+after_line text = after_first (λ b. b == 10) text
+
+-- each byte is a character that can be seen, in one column, or a blank
+abbrev pub ArePlain : List ℕ → Type 0
+ArePlain bytes = All (λ b. (31 < b) × (b < 127)) bytes
 
 -- what stands where four places meet, or two in a row
 abbrev pub edge : ℕ → Option Anchor → Option Anchor → Option Anchor → Option Anchor → List ℕ
