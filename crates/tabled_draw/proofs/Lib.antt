@@ -5,3 +5,4 @@ pub mod Owned
 pub mod Plain
 pub mod Sent
 pub mod Shown
+pub mod Sizes

@@ -121,10 +121,10 @@ module _ (axis : Axis) (g : Grid (List ℕ)) (es : List Anchor) where
     (λ k h. was.each k h ∙ largest-same (asked_at i 0 k) (λ x. own axis g es (place_in axis k x)) (count_along (across axis) g) (λ x less. cond-true _ _ _ (before-from i 0 (place_in axis k x) (inl (omega (arith, row-within axis g k x h less, e))))))
 
   module _ (i j : ℕ) (h : i < g.rows) (w : j < g.columns) (sizes : List ℕ) (was : Measured axis g es i j sizes) where
-    p : Position
+    pub p : Position
     p = place i j
 
-    line : ℕ
+    pub line : ℕ
     line = line_of axis p
 
     -- another place is asked no more than before

@@ -8,7 +8,9 @@ use Rattle.tabled_draw.specs.Picture.{top}
 use Rattle.tabled_draw.specs.Sizes.{text_at}
 use Rattle.tabled_draw.specs.Texts.{columns_in, lines_of}
 use Rattle.tabled_grid.specs.Anchors.{Anchor}
+use Rattle.tabled_grid.specs.Entity.{same_place}
 use Rattle.tabled_grid.specs.Grid.{Grid}
+use Rattle.tabled_grid.specs.declared.config.position.Position.{Position}
 use Rattle.tabled_grid.specs.Spans.{SpanMap}
 
 -- the first line of a text, as it is shown
@@ -69,3 +71,8 @@ pub record EndInside (columns : ℕ) (row : List (Option Anchor)) : Type 0 where
 -- in each column, the lines that are left are those from the n-th of the picture on of the owner in row i that begins there
 pub record AreLeft (g : Grid (List ℕ)) (m : SpanMap) (i n : ℕ) (texts : List (List ℕ)) : Type 0 where
   pub each : (j : ℕ) (o : Anchor) → j < g.columns → owner g.rows g.columns (entries m) i (j + 1) ≡ Some o → o.0.col ≡ j → (y : ℕ) → slice_index_or (lines_of (slice_index_or texts j [])) y [] ≡ slice_index_or (lines_of (text_at g o.0)) (n - top g (entries m) o.0.row - 1 + y) []
+
+-- the text at a place, if its owner begins there, else another one
+abbrev pub begun : Grid (List ℕ) → Option Anchor → Position → List ℕ → List ℕ
+begun g None p text = text
+begun g (Some o) p text = if same_place o.0 p then text_at g p else text

@@ -1,8 +1,16 @@
 //! Tables that are laid out.
 
-ghost use Rattle.std.specs.Prelude.{◌≡◌, ◌<◌, ◌≤◌, IfOk, OnOk};
-ghost use Rattle.tabled_draw.specs.Picture.{drawn};
-ghost use Rattle.tabled_grid.specs.Grid.{map_grid};
+ghost use Rattle.std.specs.Prelude.{◌≡◌, ◌+◌, ◌<◌, ℕ, IfOk, None, OnOk, length, map, slice_index_or, []};
+ghost use Rattle.std.specs.FinMap.{entries};
+ghost use Rattle.tabled_draw.specs.Laid.{AreEdges};
+ghost use Rattle.tabled_draw.specs.Lines.{AreLeft, begun};
+ghost use Rattle.tabled_draw.specs.OwnerRows.{IsOwnerRow};
+ghost use Rattle.tabled_draw.specs.Picture.{drawn, ended, lines_of_row, top};
+ghost use Rattle.tabled_draw.specs.Sent.{Draws};
+ghost use Rattle.tabled_draw.specs.Sizes.{heights};
+ghost use Rattle.tabled_grid.specs.Entity.{place};
+ghost use Rattle.tabled_grid.specs.Grid.{IsInside, map_grid};
+ghost use Rattle.tabled_grid.specs.Rectangles.{Fits};
 
 use crate::held::Held;
 use crate::layout::{edges, grow_all, raise_all};
@@ -51,7 +59,7 @@ where
 
     ghost view = { λ a. bytes_of (map_grid R.Cell.text_of (R.grid a.records.now)) (entries a.spans) };
 
-    ghost invariant = { λ a. R.is_well_formed a.records.now × IsLaidOut (map_grid R.Cell.text_of (R.grid a.records.now)) a.spans a.edges.items a.heights.items (length a.above.items) (length a.here.items) (length a.rests.items) };
+    ghost invariant = { λ a. R.is_well_formed a.records.now × IsLaidOut (map_grid R.Cell.text_of (R.grid a.records.now)) a.spans a.edges.items a.heights.items (length a.above.items) (length a.here.items) (length a.rests.items) a.held };
 }
 
 impl<'a, R> Drawing<'a, R>
@@ -151,11 +159,23 @@ where
     W: Write,
     R: Records + ExactRecords + PeekableRecords,
     R::Cell: CellText,
+    requires well { R.is_well_formed records.now }
+    requires fits { Fits spans.now ((R.grid records.now).rows) ((R.grid records.now).columns) }
+    requires edges { AreEdges (map_grid R.Cell.text_of (R.grid records.now)) spans.now edges.now }
+    requires row { i < (R.grid records.now).rows }
+    requires height { height ≡ slice_index_or (heights (map_grid R.Cell.text_of (R.grid records.now)) (entries spans.now)) i 0 }
+    requires above { IsOwnerRow ((R.grid records.now).rows) ((R.grid records.now).columns) spans.now i above.now }
+    requires here { IsOwnerRow ((R.grid records.now).rows) ((R.grid records.now).columns) spans.now (i + 1) here.now }
+    requires long { length rests.old.items ≡ (R.grid records.now).columns }
+    requires left { AreLeft (map_grid R.Cell.text_of (R.grid records.now)) spans.now i (top (map_grid R.Cell.text_of (R.grid records.now)) (entries spans.now) i) (map (λ r. r.now) rests.old.items) }
+    ensures long { length rests.new.items ≡ (R.grid records.now).columns }
+    ensures draws { OnOk result (Draws (W.contents writer.old) held.old (W.contents writer.new) held.new (ended (lines_of_row (map_grid R.Cell.text_of (R.grid records.now)) (entries spans.now) i))) }
+    ensures left { OnOk result (AreLeft (map_grid R.Cell.text_of (R.grid records.now)) spans.now (i + 1) (top (map_grid R.Cell.text_of (R.grid records.now)) (entries spans.now) (i + 1)) (map (λ r. r.now) rests.new.items)) }
 {
     let _ = spans.anchors();
     write_line(writer, held, b'+', edges, above, here, rests)?;
     begin(records, i, here, rests);
-    for _ in 0..height {
+    for _y in 0..height {
         write_line(writer, held, b'|', edges, here, here, rests)?;
     }
     Ok(())
@@ -166,20 +186,29 @@ fn begin<'a, R>(records: &'a R, i: usize, here: &[Option<Owner>], rests: &mut Ve
 where
     R: Records + ExactRecords + PeekableRecords,
     R::Cell: CellText,
+    requires well { R.is_well_formed records.now }
+    requires row { i < (R.grid records.now).rows }
+    requires here { length here.now ≡ (R.grid records.now).columns + 2 }
+    requires long { length rests.old.items ≡ (R.grid records.now).columns }
+    ensures long { length rests.new.items ≡ (R.grid records.now).columns }
+    ensures begun { (j : ℕ) → j < (R.grid records.now).columns → slice_index_or (map (λ r. r.now) rests.new.items) j [] ≡ begun (map_grid R.Cell.text_of (R.grid records.now)) (slice_index_or here.now (j + 1) None) (place i j) (slice_index_or (map (λ r. r.now) rests.old.items) j []) }
 {
     for j in 0..rests.len() {
         rests[j] = text_at(records, here[j + 1], Position { row: i, col: j }, rests[j]);
     }
 }
 
-/// The text of a place, if its owner begins there, else another one.
-fn text_at<'a, R>(records: &'a R, owner: Option<Owner>, pos: Position, or: &'a str) -> &'a str
+/// The text at a place, if its owner begins there, else another one.
+fn text_at<'a, R>(records: &'a R, owner: Option<Owner>, pos: Position, other: &'a str) -> &'a str
 where
     R: Records + ExactRecords + PeekableRecords,
     R::Cell: CellText,
+    requires well { R.is_well_formed records.now }
+    requires inside { IsInside (R.grid records.now) pos }
+    ensures { result.now ≡ begun (map_grid R.Cell.text_of (R.grid records.now)) owner pos other.now }
 {
     match owner {
         Some((at, _)) if at == pos => records.get_text(pos),
-        _ => or,
+        _ => other,
     }
 }

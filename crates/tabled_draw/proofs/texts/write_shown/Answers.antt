@@ -28,7 +28,7 @@ loop-c-preserved g c =
       can = tt;
       ends = tt;
       utf8 = IsUtf8-past_char whole rest c.in-Some.c c.loop-c.invariant.utf8 step;
-      drawn = drawn-more _ _ _ _ _ _ c.in-Some.c _ whole rest _ c.loop-c.invariant.utf8 step c.loop-c.invariant.drawn (c.as_bytes.ensures.value ∙ c.encode_utf8.ensures.value ∙ ap encode_utf8 c.shown-c.ensures) c.in_ok-write.ensures.sends;
+      drawn = drawn-more _ _ _ _ _ _ c.in-Some.c _ whole rest _ c.loop-c.invariant.utf8 step c.loop-c.invariant.drawn (c.as_bytes-in-loop-c.ensures.value ∙ c.encode_utf8.ensures.value ∙ ap encode_utf8 c.shown-c.ensures) c.in_ok-write-2.ensures.sends;
       left = left-more c.in-Some.c c.loop-c.left _ _ _ _ c.width.result (c.width.ensures.value ∙ ap (char_width false) c.shown-c.ensures) (counted c.in-Some.c rest whole c.loop-c.invariant.utf8 step) c.loop-c.invariant.left (c.saturating_sub-left.ensures ∙ ap (λ n. c.loop-c.left - n) c.unwrap_or.ensures);
     }
 
