@@ -3,6 +3,9 @@ pub mod Cells
 pub mod Measured
 pub mod Owned
 pub mod Plain
+pub mod Rests
+pub mod Rows
 pub mod Sent
 pub mod Shown
 pub mod Sizes
+pub mod Stretches
