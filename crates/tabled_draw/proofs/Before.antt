@@ -140,7 +140,7 @@ next-here i j (e ∷ es) d up within at = by (cases_before i j e.0) (next-here i
 
 -- the next anchor is elsewhere, if there is one
 pub next-later : (i j : ℕ) (es : List Anchor) (d : Anchor) → T (is_sorted position_cmp es) → (count_before i j es < length es → (get_or es (count_before i j es) d).0 ≢ place i j)
-  → (count_before i (j + 1) es ≡ count_before i j es) × (find position_cmp (place i j) es ≡ None)
+    → (count_before i (j + 1) es ≡ count_before i j es) × (find position_cmp (place i j) es ≡ None)
 next-later i j [] d up apart = (refl, refl)
 next-later i j (e ∷ es) d up apart = by (cases_before i j e.0) (next-later i j es d (halves _ _ up).1)
   where
@@ -165,7 +165,7 @@ next-later i j (e ∷ es) d up apart = by (cases_before i j e.0) (next-later i j
     none after (Some v) is = absurd (not-before after (earlier e.0 p (found_above position_cmp positions_total positions_exact p e.0 es v (halves _ _ up).0 is)))
 
     by : Before i j e.0 ⊎ After i j e.0 → ((count_before i j es < length es → (get_or es (count_before i j es) d).0 ≢ p) → (count_before i (j + 1) es ≡ count_before i j es) × (find position_cmp p es ≡ None))
-      → (count_before i (j + 1) (e ∷ es) ≡ count_before i j (e ∷ es)) × (find position_cmp p (e ∷ es) ≡ None)
+        → (count_before i (j + 1) (e ∷ es) ≡ count_before i j (e ∷ es)) × (find position_cmp p (e ∷ es) ≡ None)
     by (inl before) go =
         let n : count_before i j (e ∷ es) ≡ suc (count_before i j es) = count-before i j e es (before-from i j e.0 before) in
         let later = go (λ h. λ at. apart (omega (arith, n, h)) (ap (λ k. (get_or (e ∷ es) k d).0) n ∙ at)) in

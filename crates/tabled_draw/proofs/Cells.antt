@@ -19,7 +19,7 @@ pub draws-byte : (a b : Option (List ℕ)) (h i : List ℕ) (c : ℕ) → c < 12
 draws-byte a b h i c low = draws-repeat a b h i 1 c low
 
 pub draws-cell : (a b c d e : Option (List ℕ)) (h i j k l : List ℕ) (text line : List ℕ) (space left : ℕ) → line ≡ first_line text → left ≡ space - columns_in line
-  → Draws a h b i (32 ∷ []) → Draws b i c j line → Draws c j d k (replicate left 32) → Draws d k e l (32 ∷ []) → Draws a h e l (cell text space)
+    → Draws a h b i (32 ∷ []) → Draws b i c j line → Draws c j d k (replicate left 32) → Draws d k e l (32 ∷ []) → Draws a h e l (cell text space)
 draws-cell a b c d e h i j k l text line space left is many first second third fourth =
     let front : Draws a h c j ((32 ∷ []) ++ line) = draws-then a h b c i j (32 ∷ []) line first second in
     let back : Draws c j e l (replicate left 32 ++ replicate 1 32) = draws-then c j d e k l (replicate left 32) (32 ∷ []) third fourth in

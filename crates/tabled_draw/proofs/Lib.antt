@@ -1,5 +1,6 @@
 pub mod Before
 pub mod Cells
+pub mod Laid
 pub mod Measured
 pub mod Owned
 pub mod Plain

@@ -118,7 +118,7 @@ module _ (axis : Axis) (g : Grid (List ℕ)) (es : List Anchor) where
   pub measured-all : (i : ℕ) (sizes : List ℕ) → i ≡ g.rows → Measured axis g es i 0 sizes → sizes ≡ own_sizes axis g es
   unfolding asked_at
   measured-all i sizes e was = is-each (λ k. largest (count_along (across axis) g) (λ x. own axis g es (place_in axis k x))) (count_along axis g) sizes was.long
-    (λ k h. was.each k h ∙ largest-same (asked_at i 0 k) (λ x. own axis g es (place_in axis k x)) (count_along (across axis) g) (λ x less. cond-true _ _ _ (before-from i 0 (place_in axis k x) (inl (omega (arith, row-within axis g k x h less, e))))))
+      (λ k h. was.each k h ∙ largest-same (asked_at i 0 k) (λ x. own axis g es (place_in axis k x)) (count_along (across axis) g) (λ x less. cond-true _ _ _ (before-from i 0 (place_in axis k x) (inl (omega (arith, row-within axis g k x h less, e))))))
 
   module _ (i j : ℕ) (h : i < g.rows) (w : j < g.columns) (sizes : List ℕ) (was : Measured axis g es i j sizes) where
     pub p : Position

@@ -200,9 +200,9 @@ module _ (m : SpanMap) (rows columns : ℕ) (fits : Fits m rows columns) (p : Po
       is ∙ sym (owner-above m rows columns fits s.row p.col (sym (ap₂ (λ (x : Anchor) y. in_rect x.0 x.1 y) is at) ∙ holds)) ∙ ap (owner_in (entries m)) (sym at)
 
   pub neither-holds : p.row < rows → p.col < columns
-    → ((o : Anchor) → owner rows columns (entries m) (p.row + 1) p.col ≡ Some o → in_rect o.0 o.1 p ≡ false)
-    → ((o : Anchor) → owner rows columns (entries m) p.row (p.col + 1) ≡ Some o → in_rect o.0 o.1 p ≡ false)
-    → owner_in (entries m) p ≡ (p, size_at m p)
+      → ((o : Anchor) → owner rows columns (entries m) (p.row + 1) p.col ≡ Some o → in_rect o.0 o.1 p ≡ false)
+      → ((o : Anchor) → owner rows columns (entries m) p.row (p.col + 1) ≡ Some o → in_rect o.0 o.1 p ≡ false)
+      → owner_in (entries m) p ≡ (p, size_at m p)
   neither-holds h k before above = owner-own m rows columns fits p.row p.col (record {
     before = λ j e. before _ (ap (owner rows columns (entries m) (p.row + 1)) (sym e) ∙ owner-inside rows columns m p.row j h (omega arith));
     above = λ i e. above _ (ap (λ x. owner rows columns (entries m) x (p.col + 1)) (sym e) ∙ owner-inside rows columns m i p.col (omega arith) k);
@@ -210,8 +210,8 @@ module _ (m : SpanMap) (rows columns : ℕ) (fits : Fits m rows columns) (p : Po
 
   -- the owner that is chosen by those before and above
   pub chosen-owner : p.row < rows → p.col < columns → (before above : Option Anchor)
-    → before ≡ owner rows columns (entries m) (p.row + 1) p.col → above ≡ owner rows columns (entries m) p.row (p.col + 1)
-    → chosen before above (p, size_at m p) p ≡ owner_in (entries m) p
+      → before ≡ owner rows columns (entries m) (p.row + 1) p.col → above ≡ owner rows columns (entries m) p.row (p.col + 1)
+      → chosen before above (p, size_at m p) p ≡ owner_in (entries m) p
   chosen-owner h k before above e1 e2 = by (cases_Bool (is_held_by before p)) (cases_Bool (is_held_by above p))
     where
       first : (x : Option Anchor) → x ≡ owner rows columns (entries m) (p.row + 1) p.col → is_held_by x p ≡ true → unwrap_or x (p, size_at m p) ≡ owner_in (entries m) p

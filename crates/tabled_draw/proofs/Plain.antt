@@ -115,7 +115,7 @@ plain-first bs all = plain-line bs all ∙ sym (ap (λ ls. get_or ls 0 []) (plai
 
 -- a text that is split at its first newline, if it has one
 pub split-first : (bs : List ℕ) (r : Option (Bor (List ℕ) × Bor (List ℕ))) (whole : Bor (List ℕ) × Bor (List ℕ)) → whole.0.now ≡ bs
-  → MatchOption r (position_or_len (λ b. b == 10) bs ≡ length bs) (λ x. (x.0.now ≡ before_first (λ b. b == 10) bs) × (x.1.now ≡ after_first (λ b. b == 10) bs) × (position_or_len (λ b. b == 10) bs < length bs))
-  → shown_line (unwrap_or r whole).0.now ≡ first_line bs
+    → MatchOption r (position_or_len (λ b. b == 10) bs ≡ length bs) (λ x. (x.0.now ≡ before_first (λ b. b == 10) bs) × (x.1.now ≡ after_first (λ b. b == 10) bs) × (position_or_len (λ b. b == 10) bs < length bs))
+    → shown_line (unwrap_or r whole).0.now ≡ first_line bs
 split-first bs None whole is all = ap shown_line is ∙ sym (ap (λ ls. get_or ls 0 []) (first-none bs all))
 split-first bs (Some x) whole is found = ap shown_line found.0 ∙ sym (ap (λ ls. get_or ls 0 []) (first-found bs found.2))

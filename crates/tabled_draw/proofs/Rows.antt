@@ -105,7 +105,7 @@ module _ (m : SpanMap) (rows columns : ℕ) (fits : Fits m rows columns) where
 -- ---- what is left of the texts, line by line
 
 module _ (g : Grid (List ℕ)) (m : SpanMap) (fits : Fits m g.rows g.columns) where
-  at : ℕ → ℕ → Option Anchor
+  abbrev pub at : ℕ → ℕ → Option Anchor
   at i j = owner g.rows g.columns (entries m) i j
 
   -- above the first row nothing is left
@@ -118,8 +118,7 @@ module _ (g : Grid (List ℕ)) (m : SpanMap) (fits : Fits m g.rows g.columns) wh
 
   -- a line in a row
   pub left-in_row : (i n : ℕ) (old new : List (List ℕ)) → 0 < i → i ≤ g.rows → top g (entries m) (i - 1) + 1 ≤ n → AreLeft g m i n old
-    → ((j : ℕ) → j < g.columns → get_or new j [] ≡ left_of j (at i (j + 1)) (at i (j + 1)) (get_or old j [])) → AreLeft g m i (n + 1) new
-  unfolding at
+      → ((j : ℕ) → j < g.columns → get_or new j [] ≡ left_of j (at i (j + 1)) (at i (j + 1)) (get_or old j [])) → AreLeft g m i (n + 1) new
   left-in_row i n old new low high after was is = record { each = λ j o less e begin y. by j o less e begin y }
     where
       by : (j : ℕ) (o : Anchor) → j < g.columns → owner g.rows g.columns (entries m) i (j + 1) ≡ Some o → o.0.col ≡ j → (y : ℕ) → get_or (lines_of (get_or new j [])) y [] ≡ get_or (lines_of (text_at g o.0)) (n + 1 - top g (entries m) o.0.row - 1 + y) []
@@ -136,9 +135,8 @@ module _ (g : Grid (List ℕ)) (m : SpanMap) (fits : Fits m g.rows g.columns) wh
 
   -- the line above a row, and the texts that begin in it
   pub left-next_row : (i n : ℕ) (old cut new : List (List ℕ)) → i < g.rows → n ≡ top g (entries m) i → AreLeft g m i n old
-    → ((j : ℕ) → j < g.columns → get_or cut j [] ≡ left_of j (at i (j + 1)) (at (i + 1) (j + 1)) (get_or old j []))
-    → ((j : ℕ) → j < g.columns → get_or new j [] ≡ begun g (at (i + 1) (j + 1)) (place i j) (get_or cut j [])) → AreLeft g m (i + 1) (n + 1) new
-  unfolding at
+      → ((j : ℕ) → j < g.columns → get_or cut j [] ≡ left_of j (at i (j + 1)) (at (i + 1) (j + 1)) (get_or old j []))
+      → ((j : ℕ) → j < g.columns → get_or new j [] ≡ begun g (at (i + 1) (j + 1)) (place i j) (get_or cut j [])) → AreLeft g m (i + 1) (n + 1) new
   left-next_row i n old cut new high is_n was is_cut is_new = record { each = λ j o less e begin y. by j o less e begin y (cases_lt o.0.row i) }
     where
       by : (j : ℕ) (o : Anchor) → j < g.columns → owner g.rows g.columns (entries m) (i + 1) (j + 1) ≡ Some o → o.0.col ≡ j → (y : ℕ) → (o.0.row < i) ⊎ (i ≤ o.0.row) → get_or (lines_of (get_or new j [])) y [] ≡ get_or (lines_of (text_at g o.0)) (n + 1 - top g (entries m) o.0.row - 1 + y) []
@@ -173,14 +171,14 @@ module _ (g : Grid (List ℕ)) (m : SpanMap) (fits : Fits m g.rows g.columns) (e
 
   -- the line above a row
   pub between : (i n : ℕ) (above here : List (Option Anchor)) (texts : List (List ℕ)) (columns : ℕ) → n ≡ top g (entries m) i → IsOwnerRow g.rows g.columns m i above → IsOwnerRow g.rows g.columns m (i + 1) here → AreLeft g m i n texts → columns ≡ g.columns
-    → drawn_line columns 43 edges above here texts ≡ line g (entries m) (top g (entries m) i) i (i + 1) ++ (10 ∷ [])
+      → drawn_line columns 43 edges above here texts ≡ line g (entries m) (top g (entries m) i) i (i + 1) ++ (10 ∷ [])
   between i n above here texts columns is over under was same =
       line-is g m fits edges laid n i (i + 1) 43 (sym (ap (λ b. cond b 124 43) (apart i))) above here over under (λ e. absurd (omega (arith, e))) (sizes-long Columns g (entries m)) texts (next-of i (i + 1) n texts was) columns same
       ∙ ap (λ k. line g (entries m) k i (i + 1) ++ (10 ∷ [])) is
 
   -- a line in a row
   pub in-row : (i n : ℕ) (here : List (Option Anchor)) (texts : List (List ℕ)) (columns : ℕ) → i < g.rows → IsOwnerRow g.rows g.columns m (i + 1) here → AreLeft g m (i + 1) n texts → columns ≡ g.columns
-    → drawn_line columns 124 edges here here texts ≡ line g (entries m) n (i + 1) (i + 1) ++ (10 ∷ [])
+      → drawn_line columns 124 edges here here texts ≡ line g (entries m) n (i + 1) (i + 1) ++ (10 ∷ [])
   in-row i n here texts columns high over was same =
       line-is g m fits edges laid n (i + 1) (i + 1) 124 (sym (ap (λ b. cond b 124 43) (eq-eqb (i + 1) (i + 1) refl))) here here over over (λ e. (omega arith, omega (arith, high))) (sizes-long Columns g (entries m)) texts (next-of (i + 1) (i + 1) n texts was) columns same
 

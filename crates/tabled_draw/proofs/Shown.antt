@@ -31,7 +31,7 @@ counted-end columns all rest none same =
     omega (arith, nothing, same)
 
 pub widest-more : {A : Type 0} (f : A → List ℕ) (most : ℕ) (xs : List A) (x : A) → most ≡ fold (λ most line. max most (columns_in line)) 0 (map shown_line (map f xs))
-  → max most (columns_in (shown_line (f x))) ≡ fold (λ most line. max most (columns_in line)) 0 (map shown_line (map f (xs ++ (x ∷ []))))
+    → max most (columns_in (shown_line (f x))) ≡ fold (λ most line. max most (columns_in line)) 0 (map shown_line (map f (xs ++ (x ∷ []))))
 widest-more f most xs x is =
     let wider : ℕ → List ℕ → ℕ = λ most line. max most (columns_in line) in
     ap (λ n. max n (columns_in (shown_line (f x)))) is

@@ -43,8 +43,8 @@ lines-end Rows g e in_table = in_table.bottom
 lines-end Columns g e in_table = in_table.right
 
 pub grown-more : (axis : Axis) (g : Grid (List ℕ)) (m : SpanMap) (base : List ℕ) (k : ℕ) (d : Anchor) (xs : List Anchor) → xs ≡ entries m → k < length xs → (s : List ℕ) (text : List ℕ) → cell_at g (get_or xs k d).0 ≡ Some text → (n : ℕ) (new : List ℕ)
-  → s ≡ fold (grown_for axis g) base (take k (entries m)) → n ≡ asks axis text → new ≡ grown axis s (line_of axis (get_or xs k d).0) (lines_in axis (get_or xs k d).1) n
-  → new ≡ fold (grown_for axis g) base (take (k + 1) (entries m))
+    → s ≡ fold (grown_for axis g) base (take k (entries m)) → n ≡ asks axis text → new ≡ grown axis s (line_of axis (get_or xs k d).0) (lines_in axis (get_or xs k d).1) n
+    → new ≡ fold (grown_for axis g) base (take (k + 1) (entries m))
 grown-more axis g m base k d xs is within s text read n new was many grew =
     grew ∙ ap (grown axis s (line_of axis (get_or xs k d).0) (lines_in axis (get_or xs k d).1)) (many ∙ ap (asks axis) (text-of g _ text read))
     ∙ ap (λ ws. grown_for axis g ws (get_or xs k d)) was ∙ ap (λ (ys : List Anchor). grown_for axis g (fold (grown_for axis g) base (take k (entries m))) (get_or ys k d)) is

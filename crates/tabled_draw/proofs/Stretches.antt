@@ -71,7 +71,7 @@ module _ (g : Grid (List ℕ)) (es : List Anchor) (n u d j : ℕ) where
   shows-none (Some o) = ap (λ b. cond (b && eqb j (o.0.col + 1)) (shows g es n o) []) (apart j)
 
   edge-by : (mark : ℕ) (p q r s : Option Anchor) → mark ≡ cond (eqb u d) 124 43
-    → edge mark p q r s ≡ cond ((is_one p q && is_one p r) && is_one p s) (shows_in g es n j (j + 1) p) (replicate 1 (cond (eqb u d) 124 (cond (eqb j (j + 1)) 45 43)))
+      → edge mark p q r s ≡ cond ((is_one p q && is_one p r) && is_one p s) (shows_in g es n j (j + 1) p) (replicate 1 (cond (eqb u d) 124 (cond (eqb j (j + 1)) 45 43)))
   edge-by mark p q r s is = by ((is_one p q && is_one p r) && is_one p s)
     where
       by : (b : Bool) → cond b [] (mark ∷ []) ≡ cond b (shows_in g es n j (j + 1) p) (replicate 1 (cond (eqb u d) 124 (cond (eqb j (j + 1)) 45 43)))
@@ -79,12 +79,12 @@ module _ (g : Grid (List ℕ)) (es : List Anchor) (n u d j : ℕ) where
       by false = ap (λ c. c ∷ []) (is ∙ ap (λ b. cond (eqb u d) 124 (cond b 45 43)) (sym (apart j)))
 
   pub edge-is : (mark : ℕ) (p q r s : Option Anchor) → mark ≡ cond (eqb u d) 124 43
-    → p ≡ owner g.rows g.columns es u j → q ≡ owner g.rows g.columns es u (j + 1) → r ≡ owner g.rows g.columns es d j → s ≡ owner g.rows g.columns es d (j + 1)
-    → edge mark p q r s ≡ stretch g es n u d j (j + 1) 1
+      → p ≡ owner g.rows g.columns es u j → q ≡ owner g.rows g.columns es u (j + 1) → r ≡ owner g.rows g.columns es d j → s ≡ owner g.rows g.columns es d (j + 1)
+      → edge mark p q r s ≡ stretch g es n u d j (j + 1) 1
   edge-is mark p q r s is e1 e2 e3 e4 = rw (e1, e2, e3, e4) (edge-by mark (owner g.rows g.columns es u j) (owner g.rows g.columns es u (j + 1)) (owner g.rows g.columns es d j) (owner g.rows g.columns es d (j + 1)) is)
 
   column-by : (a b : Option Anchor) (shown : List ℕ) (size : ℕ) → (is_one a b ≡ true → shown ≡ shows_in g es n (j + 1) (j + 1) a) → (u ≡ d → is_one a b ≡ true)
-    → cond (is_one a b) shown (replicate size 45) ≡ cond ((is_one a a && is_one a b) && is_one a b) (shows_in g es n (j + 1) (j + 1) a) (replicate size (cond (eqb u d) 124 (cond (eqb (j + 1) (j + 1)) 45 43)))
+      → cond (is_one a b) shown (replicate size 45) ≡ cond ((is_one a a && is_one a b) && is_one a b) (shows_in g es n (j + 1) (j + 1) a) (replicate size (cond (eqb u d) 124 (cond (eqb (j + 1) (j + 1)) 45 43)))
   column-by a b shown size is within = by (cases_Bool (is_one a b)) (cases_Bool (eqb u d))
     where
       by : (is_one a b ≡ true) ⊎ (is_one a b ≡ false) → (eqb u d ≡ true) ⊎ (eqb u d ≡ false) → cond (is_one a b) shown (replicate size 45) ≡ cond ((is_one a a && is_one a b) && is_one a b) (shows_in g es n (j + 1) (j + 1) a) (replicate size (cond (eqb u d) 124 (cond (eqb (j + 1) (j + 1)) 45 43)))
@@ -108,12 +108,12 @@ module _ (g : Grid (List ℕ)) (m : SpanMap) (fits : Fits m g.rows g.columns) (e
   es = entries m
 
   -- the lines that are left in each column are those that the n-th line of the picture shows
-  pub AreNext : List (List ℕ) → Type 0
+  unfoldable pub AreNext : List (List ℕ) → Type 0
   AreNext texts = (j : ℕ) (o : Anchor) → j < g.columns → owner g.rows g.columns (entries m) u (j + 1) ≡ Some o → o.0.col ≡ j → is_one (owner g.rows g.columns (entries m) u (j + 1)) (owner g.rows g.columns (entries m) d (j + 1)) ≡ true
-    → first_line (get_or texts j []) ≡ get_or (lines_of (text_at g o.0)) (n - top g (entries m) o.0.row - 1) []
+      → first_line (get_or texts j []) ≡ get_or (lines_of (text_at g o.0)) (n - top g (entries m) o.0.row - 1) []
 
   inside-is : (texts : List (List ℕ)) → AreNext texts → (j : ℕ) → j < g.columns → (a : Option Anchor) → a ≡ owner g.rows g.columns (entries m) u (j + 1)
-    → is_one (owner g.rows g.columns (entries m) u (j + 1)) (owner g.rows g.columns (entries m) d (j + 1)) ≡ true → inside edges j a (get_or texts j []) ≡ shows_in g (entries m) n (j + 1) (j + 1) a
+      → is_one (owner g.rows g.columns (entries m) u (j + 1)) (owner g.rows g.columns (entries m) d (j + 1)) ≡ true → inside edges j a (get_or texts j []) ≡ shows_in g (entries m) n (j + 1) (j + 1) a
   unfolding AreNext
   inside-is texts next j less None e one = refl
   inside-is texts next j less (Some o) e one = by (cases_Bool (eqb o.0.col j))
@@ -127,7 +127,7 @@ module _ (g : Grid (List ℕ)) (m : SpanMap) (fits : Fits m g.rows g.columns) (e
           let both : (eqb (j + 1) (j + 1) && eqb (j + 1) (o.0.col + 1)) ≡ true = and_from _ _ (eq-eqb (j + 1) (j + 1) refl) (eq-eqb (j + 1) (o.0.col + 1) (ap (λ k. k + 1) (sym at))) in
           let shown : first_line (get_or texts j []) ≡ get_or (lines_of (text_at g o.0)) (n - top g (entries m) o.0.row - 1) [] = next j o less (sym e) at one in
           let space : get_or edges (j + o.1.1) 0 - get_or edges j 0 - 3 ≡ room Columns (widths g (entries m)) o.0.col o.1.1 =
-              ap₂ (λ x y. x - y - 3) (laid.each (j + o.1.1) (omega (arith, there.end, at)) ∙ ap (λ k. left g (entries m) (k + o.1.1)) (sym at)) (laid.each j (omega (arith, less)) ∙ ap (left g (entries m)) (sym at)) in
+          ap₂ (λ x y. x - y - 3) (laid.each (j + o.1.1) (omega (arith, there.end, at)) ∙ ap (λ k. left g (entries m) (k + o.1.1)) (sym at)) (laid.each j (omega (arith, less)) ∙ ap (left g (entries m)) (sym at)) in
           cond-true _ _ _ t ∙ ap₂ (λ x y. 32 ∷ x ++ replicate (y - columns_in x + 1) 32) shown space ∙ sym (cond-true _ _ _ both)
       by (inr f) =
           let other : (eqb (j + 1) (j + 1) && eqb (j + 1) (o.0.col + 1)) ≡ false = never (cases_Bool (eqb (j + 1) (j + 1) && eqb (j + 1) (o.0.col + 1))) in
@@ -147,7 +147,7 @@ module _ (g : Grid (List ℕ)) (m : SpanMap) (fits : Fits m g.rows g.columns) (e
       omega (arith, first, next, more)
 
   module _ (mark : ℕ) (is_mark : mark ≡ cond (eqb u d) 124 43) (above below : List (Option Anchor)) (over : IsOwnerRow g.rows g.columns m u above) (under : IsOwnerRow g.rows g.columns m d below)
-    (within : u ≡ d → (0 < u) × (u ≤ g.rows)) (long : length (widths g (entries m)) ≡ g.columns) (texts : List (List ℕ)) (next : AreNext texts) where
+      (within : u ≡ d → (0 < u) × (u ≤ g.rows)) (long : length (widths g (entries m)) ≡ g.columns) (texts : List (List ℕ)) (next : AreNext texts) where
     column-is : (j : ℕ) → j < g.columns → column edges j (get_or above (j + 1) None) (get_or below (j + 1) None) (get_or texts j []) ≡ stretch g (entries m) n u d (j + 1) (j + 1) (get_or (widths g (entries m)) j 0 + 2)
     column-is j less =
         let a = owner g.rows g.columns (entries m) u (j + 1) in
@@ -162,7 +162,7 @@ module _ (g : Grid (List ℕ)) (m : SpanMap) (fits : Fits m g.rows g.columns) (e
     line-is columns same =
         ap (λ x. x ++ (10 ∷ [])) (ap (λ k. each k (stretches mark edges above below texts) ++ edge mark (get_or above k None) (get_or above (k + 1) None) (get_or below k None) (get_or below (k + 1) None)) same
         ∙ ap₂ (λ x y. x ++ y)
-            (each-same (stretches mark edges above below texts) _ g.columns (λ j less. ap₂ (λ x y. x ++ y)
-              (edge-is g (entries m) n u d j mark _ _ _ _ is_mark (over.each j (omega (arith, less))) (over.each (j + 1) (omega (arith, less))) (under.each j (omega (arith, less))) (under.each (j + 1) (omega (arith, less))))
-              (column-is j less)))
-            (edge-is g (entries m) n u d g.columns mark _ _ _ _ is_mark (over.each g.columns (omega arith)) (over.each (g.columns + 1) (omega arith)) (under.each g.columns (omega arith)) (under.each (g.columns + 1) (omega arith))))
+        (each-same (stretches mark edges above below texts) _ g.columns (λ j less. ap₂ (λ x y. x ++ y)
+        (edge-is g (entries m) n u d j mark _ _ _ _ is_mark (over.each j (omega (arith, less))) (over.each (j + 1) (omega (arith, less))) (under.each j (omega (arith, less))) (under.each (j + 1) (omega (arith, less))))
+        (column-is j less)))
+        (edge-is g (entries m) n u d g.columns mark _ _ _ _ is_mark (over.each g.columns (omega arith)) (over.each (g.columns + 1) (omega arith)) (under.each g.columns (omega arith)) (under.each (g.columns + 1) (omega arith))))

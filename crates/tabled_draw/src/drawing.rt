@@ -2,10 +2,10 @@
 
 ghost use Rattle.std.specs.Prelude.{◌≡◌, ◌+◌, ◌<◌, ℕ, IfOk, None, OnOk, length, map, slice_index_or, []};
 ghost use Rattle.std.specs.FinMap.{entries};
-ghost use Rattle.tabled_draw.specs.Laid.{AreEdges};
+ghost use Rattle.tabled_draw.specs.Laid.{AreEdges, IsLaidOut};
 ghost use Rattle.tabled_draw.specs.Lines.{AreLeft, begun};
-ghost use Rattle.tabled_draw.specs.OwnerRows.{IsOwnerRow};
-ghost use Rattle.tabled_draw.specs.Picture.{drawn, ended, lines_of_row, top};
+ghost use Rattle.tabled_draw.specs.OwnerRows.{IsOwnerRow, count_before};
+ghost use Rattle.tabled_draw.specs.Picture.{drawn, ended, lines_of_row, picture, top};
 ghost use Rattle.tabled_draw.specs.Sent.{Draws};
 ghost use Rattle.tabled_draw.specs.Sizes.{heights};
 ghost use Rattle.tabled_grid.specs.Entity.{place};
@@ -120,31 +120,50 @@ where
         if heights.is_empty() || rests.is_empty() {
             return Ok(());
         }
-        clear(&mut above);
-        let mut next = 0;
-        for i in 0..heights.len() {
-            next = write_owners(records, &spans, next, i, &above, &mut here);
-            write_row(
-                writer,
-                &mut held,
-                records,
-                &spans,
-                &edges,
-                i,
-                heights[i],
-                &above,
-                &here,
-                &mut rests,
-            )?;
-            mem::swap(&mut above, &mut here);
-        }
-        clear(&mut here);
-        write_line(writer, &mut held, b'+', &edges, &above, &here, &mut rests)?;
+        write_lines(
+            writer, &mut held, records, &spans, &edges, &heights, &mut above, &mut here, &mut rests,
+        )?;
         held.send(writer)
     }
 }
 
-/// Writes the line above a row and the lines in it.
+/// Writes the lines of a table with cells.
+fn write_lines<'a, W, R>(
+    writer: &mut W,
+    held: &mut Held,
+    records: &'a R,
+    spans: &SpannedConfig,
+    edges: &[usize],
+    heights: &[usize],
+    above: &mut Vec<Option<Owner>>,
+    here: &mut Vec<Option<Owner>>,
+    rests: &mut Vec<&'a str>,
+) -> io::Result<()>
+where
+    W: Write,
+    R: Records + ExactRecords + PeekableRecords,
+    R::Cell: CellText,
+    requires well { R.is_well_formed records.now }
+    requires laid { IsLaidOut (map_grid R.Cell.text_of (R.grid records.now)) spans.now edges.now heights.now (length above.old.items) (length here.old.items) (length rests.old.items) held.old }
+    requires high { 0 < (R.grid records.now).rows }
+    requires wide { 0 < (R.grid records.now).columns }
+    ensures { OnOk result (Draws (W.contents writer.old) held.old (W.contents writer.new) held.new (ended (picture (map_grid R.Cell.text_of (R.grid records.now)) (entries spans.now)))) }
+{
+    clear(above);
+    let mut next = 0;
+    for i in 0..heights.len() {
+        next = write_row(
+            writer, held, records, spans, edges, i, heights[i], next, above, here, rests,
+        )?;
+        mem::swap(above, here);
+    }
+    clear(here);
+    write_line(writer, held, b'+', edges, above, here, rests)?;
+    Ok(())
+}
+
+/// Makes the owners of a row, and writes the line above it and the lines in it. Gives the number of the anchors up to
+/// the end of the row.
 fn write_row<'a, W, R>(
     writer: &mut W,
     held: &mut Held,
@@ -153,10 +172,11 @@ fn write_row<'a, W, R>(
     edges: &[usize],
     i: usize,
     height: usize,
-    above: &[Option<Owner>],
-    here: &[Option<Owner>],
+    next: usize,
+    above: &Vec<Option<Owner>>,
+    here: &mut Vec<Option<Owner>>,
     rests: &mut Vec<&'a str>,
-) -> io::Result<()>
+) -> io::Result<usize>
 where
     W: Write,
     R: Records + ExactRecords + PeekableRecords,
@@ -166,21 +186,24 @@ where
     requires edges { AreEdges (map_grid R.Cell.text_of (R.grid records.now)) spans.now edges.now }
     requires row { i < (R.grid records.now).rows }
     requires height { height ≡ slice_index_or (heights (map_grid R.Cell.text_of (R.grid records.now)) (entries spans.now)) i 0 }
-    requires above { IsOwnerRow ((R.grid records.now).rows) ((R.grid records.now).columns) spans.now i above.now }
-    requires here { IsOwnerRow ((R.grid records.now).rows) ((R.grid records.now).columns) spans.now (i + 1) here.now }
+    requires next { next ≡ count_before i 0 (entries spans.now) }
+    requires above { IsOwnerRow ((R.grid records.now).rows) ((R.grid records.now).columns) spans.now i above.now.items }
+    requires here { length here.old.items ≡ (R.grid records.now).columns + 2 }
     requires long { length rests.old.items ≡ (R.grid records.now).columns }
     requires left { AreLeft (map_grid R.Cell.text_of (R.grid records.now)) spans.now i (top (map_grid R.Cell.text_of (R.grid records.now)) (entries spans.now) i) (map (λ r. r.now) rests.old.items) }
-    ensures long { length rests.new.items ≡ (R.grid records.now).columns }
+    ensures next { IfOk result (λ next. next ≡ count_before (i + 1) 0 (entries spans.now)) }
+    ensures here { OnOk result (IsOwnerRow ((R.grid records.now).rows) ((R.grid records.now).columns) spans.now (i + 1) here.new.items) }
+    ensures long { OnOk result (length rests.new.items ≡ (R.grid records.now).columns) }
     ensures draws { OnOk result (Draws (W.contents writer.old) held.old (W.contents writer.new) held.new (ended (lines_of_row (map_grid R.Cell.text_of (R.grid records.now)) (entries spans.now) i))) }
     ensures left { OnOk result (AreLeft (map_grid R.Cell.text_of (R.grid records.now)) spans.now (i + 1) (top (map_grid R.Cell.text_of (R.grid records.now)) (entries spans.now) (i + 1)) (map (λ r. r.now) rests.new.items)) }
 {
-    let _ = spans.anchors();
+    let after = write_owners(records, spans, next, i, above, here);
     write_line(writer, held, b'+', edges, above, here, rests)?;
     begin(records, i, here, rests);
     for _y in 0..height {
         write_line(writer, held, b'|', edges, here, here, rests)?;
     }
-    Ok(())
+    Ok(after)
 }
 
 /// Sets the texts whose cells begin in a row.

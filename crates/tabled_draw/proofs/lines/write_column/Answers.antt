@@ -15,8 +15,8 @@ returns-then-not-is_one-clause-draws g c =
     let count = c.saturating_sub-then-not-is_one.result in
     let size : count ≡ get_or c.args.edges.now (c.args.j + 1) 0 - get_or c.args.edges.now c.args.j 0 - 1 = c.saturating_sub-then-not-is_one.ensures ∙ ap (λ x. x - 1) c.saturating_sub.ensures in
     draws-as (contents c.args.writer.now) c.args.held.now (contents c.repeat.new.writer) c.repeat.new.self (replicate count 45) (column c.args.edges.now c.args.j c.args.above c.args.below c.args.rest.now)
-      (ap (λ n. replicate n 45) size ∙ sym (cond-false _ _ _ (sym c.is_one.ensures ∙ c.if-not-is_one.true)))
-      (draws-repeat (contents c.args.writer.now) (contents c.repeat.new.writer) c.args.held.now c.repeat.new.self count 45 (lit< tt) c.in_ok-repeat.ensures.sends)
+    (ap (λ n. replicate n 45) size ∙ sym (cond-false _ _ _ (sym c.is_one.ensures ∙ c.if-not-is_one.true)))
+    (draws-repeat (contents c.args.writer.now) (contents c.repeat.new.writer) c.args.held.now c.repeat.new.self count 45 (lit< tt) c.in_ok-repeat.ensures.sends)
 
 nothing : (edges : List ℕ) (j : ℕ) (a b : Option Anchor) (text : List ℕ) → is_one a b ≡ true → ((o : Anchor) → a ≡ Some o → eqb o.0.col j ≡ false) → [] ≡ column edges j a b text
 nothing edges j None b text one never = sym (cond-true _ _ _ one)
@@ -30,4 +30,4 @@ returns-in_default-clause-draws g c =
       | in_default-via-in_default w ↦ absurd (w.in_default.not-Some o e)
     ] in
     draws-as (contents c.args.writer.now) c.args.held.now (contents c.args.writer.now) c.args.held.now [] _ (nothing c.args.edges.now c.args.j c.args.above c.args.below c.args.rest.now (sym c.is_one.ensures ∙ c.if-not-is_one.false) never)
-      (draws-none (contents c.args.writer.now) c.args.held.now)
+    (draws-none (contents c.args.writer.now) c.args.held.now)

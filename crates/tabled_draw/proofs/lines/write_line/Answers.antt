@@ -28,9 +28,9 @@ loop-j-preserved g c =
       long = length-set c.loop-j.rests.items j _ ∙ c.loop-j.invariant.long;
       rests = changed-more _ old c.loop-j.rests.items j c.in_ok-rests.field-0 c.loop-j.invariant.rests less (c.in_ok-rests.ensures.rest ∙ ap (left_of j a b) text);
       drawn = draws-as (contents c.args.writer.now) c.args.held.now (contents c.write_column.new.writer) c.write_column.new.held _ _ (sym (each-more (stretches c.args.mark c.args.edges.now c.args.above.now c.args.below.now old) j))
-        (draws-then (contents c.args.writer.now) c.args.held.now (contents c.loop-j.writer) (contents c.write_column.new.writer) c.loop-j.held c.write_column.new.held _ _ c.loop-j.invariant.drawn
-        (draws-then (contents c.loop-j.writer) c.loop-j.held (contents c.write_edge.new.writer) (contents c.write_column.new.writer) c.write_edge.new.held c.write_column.new.held _ _ c.in_ok-write_edge.ensures
-        (draws-as (contents c.write_edge.new.writer) c.write_edge.new.held (contents c.write_column.new.writer) c.write_column.new.held _ _ (ap (column c.args.edges.now j a b) text) c.in_ok-rests.ensures.draws)));
+          (draws-then (contents c.args.writer.now) c.args.held.now (contents c.loop-j.writer) (contents c.write_column.new.writer) c.loop-j.held c.write_column.new.held _ _ c.loop-j.invariant.drawn
+          (draws-then (contents c.loop-j.writer) c.loop-j.held (contents c.write_edge.new.writer) (contents c.write_column.new.writer) c.write_edge.new.held c.write_column.new.held _ _ c.in_ok-write_edge.ensures
+          (draws-as (contents c.write_edge.new.writer) c.write_edge.new.held (contents c.write_column.new.writer) c.write_column.new.held _ _ (ap (column c.args.edges.now j a b) text) c.in_ok-rests.ensures.draws)));
     }
 
 pub returns : goal.returns
@@ -42,9 +42,9 @@ returns g c =
     record {
       long = c.loop-j.invariant.long;
       draws = draws-then (contents c.args.writer.now) c.args.held.now (contents c.write_edge-2.new.writer) (contents c.push.new.writer) c.write_edge-2.new.held c.push.new.self _ (10 ∷ [])
-        (draws-then (contents c.args.writer.now) c.args.held.now (contents c.loop-j.writer) (contents c.write_edge-2.new.writer) c.loop-j.held c.write_edge-2.new.held _ _
+          (draws-then (contents c.args.writer.now) c.args.held.now (contents c.loop-j.writer) (contents c.write_edge-2.new.writer) c.loop-j.held c.write_edge-2.new.held _ _
           (draws-as (contents c.args.writer.now) c.args.held.now (contents c.loop-j.writer) c.loop-j.held _ _ (ap (λ n. each n (stretches c.args.mark c.args.edges.now c.args.above.now c.args.below.now (bytes_in c.args.rests.now.items))) end) c.loop-j.invariant.drawn)
           (draws-as (contents c.loop-j.writer) c.loop-j.held (contents c.write_edge-2.new.writer) c.write_edge-2.new.held _ _ (ap (λ n. edge c.args.mark (get_or c.args.above.now n None) (get_or c.args.above.now (n + 1) None) (get_or c.args.below.now n None) (get_or c.args.below.now (n + 1) None)) columns) c.in_ok-write_edge-2.ensures))
-        (draws-byte (contents c.write_edge-2.new.writer) (contents c.push.new.writer) c.write_edge-2.new.held c.push.new.self 10 (lit< tt) c.in_ok-push.ensures.sends);
+          (draws-byte (contents c.write_edge-2.new.writer) (contents c.push.new.writer) c.write_edge-2.new.held c.push.new.self 10 (lit< tt) c.in_ok-push.ensures.sends);
       rests = λ j h. c.loop-j.invariant.rests.done j (omega (arith, end, h));
     }

@@ -26,8 +26,8 @@ loop-j-preserved g c =
     let above : c.index-in-loop-j.result.now ≡ owner rows columns (entries m) i (j + 1) = c.index-in-loop-j.ensures ∙ get_or_default c.args.above.now.items (j + 1) c.index-in-loop-j.result.now None (omega (arith, c.requires.above.long, within)) ∙ c.requires.above.each (j + 1) (omega (arith, within)) in
     record {
       row = row-more rows columns m (i + 1) (j + 1) c.loop-j.here.items _ c.loop-j.invariant.row (omega (arith, within))
-        (ap Some (c.owner_of.ensures ∙ ap (λ e. chosen c.index.result.now c.index-in-loop-j.result.now e (place i j)) c.next_at-after.ensures.begins ∙ chosen-owner m rows columns c.requires.fits (place i j) c.requires.row within _ _ before above)
-        ∙ sym (owner-inside rows columns m i j c.requires.row within));
+          (ap Some (c.owner_of.ensures ∙ ap (λ e. chosen c.index.result.now c.index-in-loop-j.result.now e (place i j)) c.next_at-after.ensures.begins ∙ chosen-owner m rows columns c.requires.fits (place i j) c.requires.row within _ _ before above)
+          ∙ sym (owner-inside rows columns m i j c.requires.row within));
       next = c.next_at-after.ensures.next;
     }
 

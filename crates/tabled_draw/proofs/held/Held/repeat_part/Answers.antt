@@ -27,4 +27,4 @@ returns-clause-sends g c =
     let whole = with_items_is c.if-self-len.self-inside.bytes ws (search (rules, places)) in
     subst (λ z. Sends (contents c.args.writer.now) c.args.self.now (contents c.if-self-len.writer) (take (len + c.min-n.result) z) (replicate c.min-n.result c.args.byte)) (sym whole)
     (put-part (contents c.args.writer.now) (contents c.if-self-len.writer) c.args.self.now c.if-self-len.self-inside.bytes.items c.deref_mut.result.now c.fill.new.self (post_of len (len + c.min-n.result - len) c.deref_mut.result.now) _ len c.min-n.result room c.deref_mut.ensures.value long
-      (c.fill.ensures.after (λ y e. e) ∙ ap (λ k. replicate k c.args.byte) (sym c.fill.ensures.len ∙ long)))
+    (c.fill.ensures.after (λ y e. e) ∙ ap (λ k. replicate k c.args.byte) (sym c.fill.ensures.len ∙ long)))

@@ -14,4 +14,4 @@ loop-done-preserved g c =
     }
 
 pub returns : goal.returns
-returns g c = record { sends = sends-as (g.W.Write.contents c.args.writer.now) (g.W.Write.contents c.loop-done.writer) c.args.self.now c.loop-done.self _ _ (take_all c.loop-done.done c.args.bytes.now (omega (arith, c.loop-done-test.false))) c.loop-done.invariant.sent; }
+returns g c = record { sends = sends-as (g.W.Write.contents c.args.writer.now) (g.W.Write.contents c.loop-done.writer) c.args.self.now c.loop-done.self _ _ (take_all c.loop-done.done c.args.bytes.now (omega (arith, c.loop-done-test.false))) c.loop-done.invariant.sent }
