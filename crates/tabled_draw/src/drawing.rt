@@ -13,15 +13,15 @@ ghost use Rattle.tabled_grid.specs.Grid.{IsInside, map_grid};
 ghost use Rattle.tabled_grid.specs.Rectangles.{Fits};
 
 use crate::held::Held;
-use crate::layout::{edges, grow_all, raise_all};
+use crate::layout::{Layout, layout_of};
 use crate::lines::write_line;
-use crate::owners::{Owner, clear, owner_row, write_owners};
+use crate::owners::{Owner, clear, write_owners};
 use std::alloc::{AllocError, Global};
 use std::io::{self, Write};
 use std::marker::Model;
 use std::mem;
 use tabled_grid::config::{Position, SpannedConfig};
-use tabled_grid::records::{Axis, CellText, ExactRecords, PeekableRecords, Records};
+use tabled_grid::records::{CellText, ExactRecords, PeekableRecords, Records};
 
 /// A table that is laid out, with all the memory that drawing it takes.
 #[derive(Drop)]
@@ -32,13 +32,7 @@ where
 {
     records: &'a R,
     spans: SpannedConfig,
-    /// Where the left edge of each column stands, and the last edge.
-    edges: Vec<usize>,
-    /// How high each row is.
-    heights: Vec<usize>,
-    /// The owners of the places of two rows.
-    above: Vec<Option<Owner>>,
-    here: Vec<Option<Owner>>,
+    layout: Layout,
     /// What is left of the text that begins in each column.
     rests: Vec<&'a str>,
     held: Held,
@@ -59,7 +53,7 @@ where
 
     ghost view = { λ a. bytes_of (map_grid R.Cell.text_of (R.grid a.records.now)) (entries a.spans) };
 
-    ghost invariant = { λ a. R.is_well_formed a.records.now × IsLaidOut (map_grid R.Cell.text_of (R.grid a.records.now)) a.spans a.edges.items a.heights.items (length a.above.items) (length a.here.items) (length a.rests.items) a.held };
+    ghost invariant = { λ a. R.is_well_formed a.records.now × IsLaidOut (map_grid R.Cell.text_of (R.grid a.records.now)) a.spans a.layout.edges.items a.layout.heights.items (length a.layout.above.items) (length a.layout.here.items) (length a.rests.items) a.held };
 }
 
 impl<'a, R> Drawing<'a, R>
@@ -77,29 +71,15 @@ where
         let rows = records.count_rows();
         let columns = records.count_columns();
         let spans = cfg.fitting(alloc, rows, columns)?;
-        let mut above = owner_row(alloc, columns)?;
-        let mut here = owner_row(alloc, columns)?;
-        let mut widths = vec![in alloc; 0; columns]?;
-        let mut heights = vec![in alloc; 0; rows]?;
-        raise_all(
-            records,
-            &spans,
-            &mut above,
-            &mut here,
-            &mut widths,
-            &mut heights,
-        )?;
-        grow_all(records, &spans, Axis::Columns, &mut widths)?;
-        grow_all(records, &spans, Axis::Rows, &mut heights)?;
+        let layout = layout_of(alloc, records, &spans)?;
+        let rests = vec![in alloc; ""; columns]?;
+        let held = Held::new(alloc)?;
         Ok(Drawing {
             records,
             spans,
-            edges: edges(alloc, &widths)?,
-            heights,
-            above,
-            here,
-            rests: vec![in alloc; ""; columns]?,
-            held: Held::new(alloc)?,
+            layout,
+            rests,
+            held,
         })
     }
 
@@ -110,20 +90,24 @@ where
         let Drawing {
             records,
             spans,
+            layout,
+            mut rests,
+            mut held,
+        } = self;
+        let Layout {
             edges,
             heights,
             mut above,
             mut here,
-            mut rests,
-            mut held,
-        } = self;
+        } = layout;
         if heights.is_empty() || rests.is_empty() {
             return Ok(());
         }
         write_lines(
             writer, &mut held, records, &spans, &edges, &heights, &mut above, &mut here, &mut rests,
         )?;
-        held.send(writer)
+        held.send(writer)?;
+        Ok(())
     }
 }
 

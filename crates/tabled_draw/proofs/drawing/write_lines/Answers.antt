@@ -37,7 +37,7 @@ loop-i-preserved g c =
       long = c.in_ok-next.ensures.long;
       left = c.in_ok-next.ensures.left;
       drawn = draws-as (contents c.args.writer.now) c.args.held.now (contents c.write_row.new.writer) c.write_row.new.held _ _ (more-rows t (entries m) c.loop-i.i)
-        (draws-then (contents c.args.writer.now) c.args.held.now (contents c.loop-i.writer) (contents c.write_row.new.writer) c.loop-i.held c.write_row.new.held _ _ c.loop-i.invariant.drawn c.in_ok-next.ensures.draws);
+          (draws-then (contents c.args.writer.now) c.args.held.now (contents c.loop-i.writer) (contents c.write_row.new.writer) c.loop-i.held c.write_row.new.held _ _ c.loop-i.invariant.drawn c.in_ok-next.ensures.draws);
     }
 
 pub write_line-requires-clause-inside : goal.write_line-requires-clause-inside
@@ -53,7 +53,7 @@ returns g c =
     let over : IsOwnerRow t.rows t.columns m c.loop-i.i c.deref.result.now = rw c.deref.ensures.value c.loop-i.invariant.above in
     let under : IsOwnerRow t.rows t.columns m (c.loop-i.i + 1) c.deref-2.result.now = rw c.deref-2.ensures.value (row-outside t.rows t.columns m (c.loop-i.i + 1) c.clear-2.new.row.items (λ j. owner-below t.rows t.columns m (c.loop-i.i + 1) j (omega (arith, i))) (c.clear-2.ensures.long ∙ c.loop-i.invariant.here) c.clear-2.ensures.none) in
     draws-as (contents c.args.writer.now) c.args.held.now (contents c.write_line.new.writer) c.write_line.new.held _ _ (all-rows t (entries m) c.loop-i.i i c.requires.high c.requires.wide)
-      (draws-then (contents c.args.writer.now) c.args.held.now (contents c.loop-i.writer) (contents c.write_line.new.writer) c.loop-i.held c.write_line.new.held _ _ c.loop-i.invariant.drawn
-      (draws-as (contents c.loop-i.writer) c.loop-i.held (contents c.write_line.new.writer) c.write_line.new.held _ _
-        (between t m c.requires.laid.fits c.args.edges.now c.requires.laid.edges c.loop-i.i (top t (entries m) c.loop-i.i) c.deref.result.now c.deref-2.result.now old (length c.loop-i.rests.items) refl over under c.loop-i.invariant.left c.loop-i.invariant.long ∙ ap (λ k. line t (entries m) (top t (entries m) k) k (k + 1) ++ (10 ∷ [])) i)
-        c.in_ok-write_line.ensures.draws))
+    (draws-then (contents c.args.writer.now) c.args.held.now (contents c.loop-i.writer) (contents c.write_line.new.writer) c.loop-i.held c.write_line.new.held _ _ c.loop-i.invariant.drawn
+    (draws-as (contents c.loop-i.writer) c.loop-i.held (contents c.write_line.new.writer) c.write_line.new.held _ _
+    (between t m c.requires.laid.fits c.args.edges.now c.requires.laid.edges c.loop-i.i (top t (entries m) c.loop-i.i) c.deref.result.now c.deref-2.result.now old (length c.loop-i.rests.items) refl over under c.loop-i.invariant.left c.loop-i.invariant.long ∙ ap (λ k. line t (entries m) (top t (entries m) k) k (k + 1) ++ (10 ∷ [])) i)
+    c.in_ok-write_line.ensures.draws))

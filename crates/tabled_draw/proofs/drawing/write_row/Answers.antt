@@ -33,11 +33,11 @@ loop-y-init g c =
     record {
       long = c.begin.ensures.long;
       left = subst (λ n. AreLeft t m (i + 1) n new) (sym (add-zero (top t (entries m) i + 1))) (left-next_row t m c.requires.fits i (top t (entries m) i) old cut new c.requires.row refl c.requires.left
-        (λ j less. c.in_ok-write_line.ensures.rests j (omega (arith, less, c.requires.long)) ∙ ap₂ (λ a b. left_of j a b (get_or old j [])) (over.each (j + 1) (omega (arith, less))) (under.each (j + 1) (omega (arith, less))))
-        (λ j less. c.begin.ensures.begun j less ∙ ap (λ a. begun t a (place i j) (get_or cut j [])) (again.each (j + 1) (omega (arith, less)))));
+          (λ j less. c.in_ok-write_line.ensures.rests j (omega (arith, less, c.requires.long)) ∙ ap₂ (λ a b. left_of j a b (get_or old j [])) (over.each (j + 1) (omega (arith, less))) (under.each (j + 1) (omega (arith, less))))
+          (λ j less. c.begin.ensures.begun j less ∙ ap (λ a. begun t a (place i j) (get_or cut j [])) (again.each (j + 1) (omega (arith, less)))));
       drawn = draws-as (contents c.args.writer.now) c.args.held.now (contents c.write_line.new.writer) c.write_line.new.held _ _
-        (between t m c.requires.fits c.args.edges.now c.requires.edges i (top t (entries m) i) c.deref.result.now c.deref-2.result.now old (length c.args.rests.now.items) refl over under c.requires.left c.requires.long ∙ first-below t (entries m) i)
-        c.in_ok-write_line.ensures.draws;
+          (between t m c.requires.fits c.args.edges.now c.requires.edges i (top t (entries m) i) c.deref.result.now c.deref-2.result.now old (length c.args.rests.now.items) refl over under c.requires.left c.requires.long ∙ first-below t (entries m) i)
+          c.in_ok-write_line.ensures.draws;
     }
 
 next : (a y : ℕ) → a + 1 + y + 1 ≡ a + 1 + (y + 1)
@@ -61,10 +61,10 @@ loop-y-preserved g c =
     record {
       long = c.in_ok-write_line-2.ensures.long ∙ c.loop-y.invariant.long;
       left = subst (λ k. AreLeft t m (i + 1) k new) (next (top t (entries m) i) y) (left-in_row t m c.requires.fits (i + 1) n old new (omega arith) (omega (arith, within)) low c.loop-y.invariant.left
-        (λ j less. c.in_ok-write_line-2.ensures.rests j (omega (arith, less, c.loop-y.invariant.long)) ∙ ap₂ (λ a b. left_of j a b (get_or old j [])) (ap (λ row. get_or row (j + 1) None) c.deref-in-loop-y.ensures.value ∙ own.each (j + 1) (omega (arith, less))) (ap (λ row. get_or row (j + 1) None) c.deref-in-loop-y-2.ensures.value ∙ own.each (j + 1) (omega (arith, less)))));
+          (λ j less. c.in_ok-write_line-2.ensures.rests j (omega (arith, less, c.loop-y.invariant.long)) ∙ ap₂ (λ a b. left_of j a b (get_or old j [])) (ap (λ row. get_or row (j + 1) None) c.deref-in-loop-y.ensures.value ∙ own.each (j + 1) (omega (arith, less))) (ap (λ row. get_or row (j + 1) None) c.deref-in-loop-y-2.ensures.value ∙ own.each (j + 1) (omega (arith, less)))));
       drawn = draws-as (contents c.args.writer.now) c.args.held.now (contents c.write_line-in-loop-y.new.writer) c.write_line-in-loop-y.new.held _ _ (more-below t (entries m) i y)
-        (draws-then (contents c.args.writer.now) c.args.held.now (contents c.loop-y.writer) (contents c.write_line-in-loop-y.new.writer) c.loop-y.held c.write_line-in-loop-y.new.held _ _ c.loop-y.invariant.drawn
-        (draws-as (contents c.loop-y.writer) c.loop-y.held (contents c.write_line-in-loop-y.new.writer) c.write_line-in-loop-y.new.held _ _
+          (draws-then (contents c.args.writer.now) c.args.held.now (contents c.loop-y.writer) (contents c.write_line-in-loop-y.new.writer) c.loop-y.held c.write_line-in-loop-y.new.held _ _ c.loop-y.invariant.drawn
+          (draws-as (contents c.loop-y.writer) c.loop-y.held (contents c.write_line-in-loop-y.new.writer) c.write_line-in-loop-y.new.held _ _
           (ap₂ (λ a b. drawn_line (length c.loop-y.rests.items) 124 edges a b old) c.deref-in-loop-y.ensures.value c.deref-in-loop-y-2.ensures.value ∙ in-row t m c.requires.fits edges c.requires.edges i n here old (length c.loop-y.rests.items) within own c.loop-y.invariant.left c.loop-y.invariant.long)
           c.in_ok-write_line-2.ensures.draws));
     }
