@@ -1,3 +1,12 @@
 pub mod Before
+pub mod Cells
+pub mod Laid
+pub mod Measured
 pub mod Owned
+pub mod Plain
+pub mod Rests
+pub mod Rows
 pub mod Sent
+pub mod Shown
+pub mod Sizes
+pub mod Stretches

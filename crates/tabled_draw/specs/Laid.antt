@@ -1,5 +1,5 @@
 -- Where columns and rows lie, and how much room drawing has.
-use Rattle.std.specs.Prelude.{◌≡◌, ◌+◌, ◌<◌, ◌≤◌, ℕ, List, length, slice_index_or}
+use Rattle.std.specs.Prelude.{◌≡◌, ◌+◌, ◌<◌, ◌≤◌, ℕ, List, [], length, slice_index_or}
 use Rattle.std.specs.FinMap.{entries}
 use Rattle.tabled_draw.specs.Picture.{left}
 use Rattle.tabled_draw.specs.Sizes.{heights}
@@ -13,7 +13,7 @@ pub record AreEdges (g : Grid (List ℕ)) (m : SpanMap) (edges : List ℕ) : Typ
   pub each : (k : ℕ) → k < g.columns + 1 → slice_index_or edges k 0 ≡ left g (entries m) k
 
 -- the layout of a table, and room for two rows of owners and for a text in each column
-pub record IsLaidOut (g : Grid (List ℕ)) (m : SpanMap) (lefts highs : List ℕ) (over under texts : ℕ) : Type 0 where
+pub record IsLaidOut (g : Grid (List ℕ)) (m : SpanMap) (lefts highs : List ℕ) (over under texts : ℕ) (kept : List ℕ) : Type 0 where
   pub fits : Fits m g.rows g.columns
   pub edges : AreEdges g m lefts
   pub heights : highs ≡ heights g (entries m)
@@ -21,3 +21,4 @@ pub record IsLaidOut (g : Grid (List ℕ)) (m : SpanMap) (lefts highs : List ℕ
   pub above : over ≡ g.columns + 2
   pub here : under ≡ g.columns + 2
   pub rests : texts ≡ g.columns
+  pub unused : kept ≡ []

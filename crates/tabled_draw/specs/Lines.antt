@@ -1,13 +1,16 @@
 -- Lines of a picture, by what is known as they are written.
 use Rattle.std.specs.Prelude.{◌≡◌, ◌+◌, ◌-◌, ◌<◌, ◌==◌, ◌&&◌, ◌++◌, if◌then◌else◌, ℕ, Bool, true, false, List, [], ◌∷◌, Option, None, Some, replicate, slice_index_or}
 use Rattle.std.specs.FinMap.{entries}
+use Rattle.std.specs.List.{All, after_first}
 use Rattle.tabled_draw.specs.Each.{each}
 use Rattle.tabled_draw.specs.Owners.{is_one, owner}
 use Rattle.tabled_draw.specs.Picture.{top}
 use Rattle.tabled_draw.specs.Sizes.{text_at}
 use Rattle.tabled_draw.specs.Texts.{columns_in, lines_of}
 use Rattle.tabled_grid.specs.Anchors.{Anchor}
+use Rattle.tabled_grid.specs.Entity.{same_place}
 use Rattle.tabled_grid.specs.Grid.{Grid}
+use Rattle.tabled_grid.specs.declared.config.position.Position.{Position}
 use Rattle.tabled_grid.specs.Spans.{SpanMap}
 
 -- the first line of a text, as it is shown
@@ -16,8 +19,11 @@ first_line text = slice_index_or (lines_of text) 0 []
 
 -- the lines of a text after the first one
 abbrev pub after_line : List ℕ → List ℕ
-after_line [] = []
-after_line (b ∷ bs) = if b == 10 then bs else after_line bs
+after_line text = after_first (λ b. b == 10) text
+
+-- each byte is a character that can be seen, in one column, or a blank
+abbrev pub ArePlain : List ℕ → Type 0
+ArePlain bytes = All (λ b. (31 < b) × (b < 127)) bytes
 
 -- what stands where four places meet, or two in a row
 abbrev pub edge : ℕ → Option Anchor → Option Anchor → Option Anchor → Option Anchor → List ℕ
@@ -65,3 +71,8 @@ pub record EndInside (columns : ℕ) (row : List (Option Anchor)) : Type 0 where
 -- in each column, the lines that are left are those from the n-th of the picture on of the owner in row i that begins there
 pub record AreLeft (g : Grid (List ℕ)) (m : SpanMap) (i n : ℕ) (texts : List (List ℕ)) : Type 0 where
   pub each : (j : ℕ) (o : Anchor) → j < g.columns → owner g.rows g.columns (entries m) i (j + 1) ≡ Some o → o.0.col ≡ j → (y : ℕ) → slice_index_or (lines_of (slice_index_or texts j [])) y [] ≡ slice_index_or (lines_of (text_at g o.0)) (n - top g (entries m) o.0.row - 1 + y) []
+
+-- the text at a place, if its owner begins there, else another one
+abbrev pub begun : Grid (List ℕ) → Option Anchor → Position → List ℕ → List ℕ
+begun g None p text = text
+begun g (Some o) p text = if same_place o.0 p then text_at g p else text

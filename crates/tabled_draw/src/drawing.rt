@@ -1,19 +1,27 @@
 //! Tables that are laid out.
 
-ghost use Rattle.std.specs.Prelude.{◌≡◌, ◌<◌, ◌≤◌, IfOk, OnOk};
-ghost use Rattle.tabled_draw.specs.Picture.{drawn};
-ghost use Rattle.tabled_grid.specs.Grid.{map_grid};
+ghost use Rattle.std.specs.Prelude.{◌≡◌, ◌+◌, ◌<◌, ℕ, IfOk, None, OnOk, length, map, slice_index_or, []};
+ghost use Rattle.std.specs.FinMap.{entries};
+ghost use Rattle.tabled_draw.specs.Laid.{AreEdges, IsLaidOut};
+ghost use Rattle.tabled_draw.specs.Lines.{AreLeft, begun};
+ghost use Rattle.tabled_draw.specs.OwnerRows.{IsOwnerRow, count_before};
+ghost use Rattle.tabled_draw.specs.Picture.{drawn, ended, lines_of_row, picture, top};
+ghost use Rattle.tabled_draw.specs.Sent.{Draws};
+ghost use Rattle.tabled_draw.specs.Sizes.{heights};
+ghost use Rattle.tabled_grid.specs.Entity.{place};
+ghost use Rattle.tabled_grid.specs.Grid.{IsInside, map_grid};
+ghost use Rattle.tabled_grid.specs.Rectangles.{Fits};
 
 use crate::held::Held;
-use crate::layout::{edges, grow_all, raise_all};
+use crate::layout::{Layout, layout_of};
 use crate::lines::write_line;
-use crate::owners::{Owner, clear, owner_row, write_owners};
+use crate::owners::{Owner, clear, write_owners};
 use std::alloc::{AllocError, Global};
 use std::io::{self, Write};
 use std::marker::Model;
 use std::mem;
 use tabled_grid::config::{Position, SpannedConfig};
-use tabled_grid::records::{Axis, CellText, ExactRecords, PeekableRecords, Records};
+use tabled_grid::records::{CellText, ExactRecords, PeekableRecords, Records};
 
 /// A table that is laid out, with all the memory that drawing it takes.
 #[derive(Drop)]
@@ -24,13 +32,7 @@ where
 {
     records: &'a R,
     spans: SpannedConfig,
-    /// Where the left edge of each column stands, and the last edge.
-    edges: Vec<usize>,
-    /// How high each row is.
-    heights: Vec<usize>,
-    /// The owners of the places of two rows.
-    above: Vec<Option<Owner>>,
-    here: Vec<Option<Owner>>,
+    layout: Layout,
     /// What is left of the text that begins in each column.
     rests: Vec<&'a str>,
     held: Held,
@@ -51,7 +53,7 @@ where
 
     ghost view = { λ a. bytes_of (map_grid R.Cell.text_of (R.grid a.records.now)) (entries a.spans) };
 
-    ghost invariant = { λ a. R.is_well_formed a.records.now × IsLaidOut (map_grid R.Cell.text_of (R.grid a.records.now)) a.spans a.edges.items a.heights.items (length a.above.items) (length a.here.items) (length a.rests.items) };
+    ghost invariant = { λ a. R.is_well_formed a.records.now × IsLaidOut (map_grid R.Cell.text_of (R.grid a.records.now)) a.spans a.layout.edges.items a.layout.heights.items (length a.layout.above.items) (length a.layout.here.items) (length a.rests.items) a.held };
 }
 
 impl<'a, R> Drawing<'a, R>
@@ -69,29 +71,15 @@ where
         let rows = records.count_rows();
         let columns = records.count_columns();
         let spans = cfg.fitting(alloc, rows, columns)?;
-        let mut above = owner_row(alloc, columns)?;
-        let mut here = owner_row(alloc, columns)?;
-        let mut widths = vec![in alloc; 0; columns]?;
-        let mut heights = vec![in alloc; 0; rows]?;
-        raise_all(
-            records,
-            &spans,
-            &mut above,
-            &mut here,
-            &mut widths,
-            &mut heights,
-        )?;
-        grow_all(records, &spans, Axis::Columns, &mut widths)?;
-        grow_all(records, &spans, Axis::Rows, &mut heights)?;
+        let layout = layout_of(alloc, records, &spans)?;
+        let rests = vec![in alloc; ""; columns]?;
+        let held = Held::new(alloc)?;
         Ok(Drawing {
             records,
             spans,
-            edges: edges(alloc, &widths)?,
-            heights,
-            above,
-            here,
-            rests: vec![in alloc; ""; columns]?,
-            held: Held::new(alloc)?,
+            layout,
+            rests,
+            held,
         })
     }
 
@@ -102,63 +90,104 @@ where
         let Drawing {
             records,
             spans,
+            layout,
+            mut rests,
+            mut held,
+        } = self;
+        let Layout {
             edges,
             heights,
             mut above,
             mut here,
-            mut rests,
-            mut held,
-        } = self;
+        } = layout;
         if heights.is_empty() || rests.is_empty() {
             return Ok(());
         }
-        clear(&mut above);
-        let mut next = 0;
-        for i in 0..heights.len() {
-            next = write_owners(records, &spans, next, i, &above, &mut here);
-            write_row(
-                writer,
-                &mut held,
-                records,
-                &spans,
-                &edges,
-                (i, heights[i]),
-                &above,
-                &here,
-                &mut rests,
-            )?;
-            mem::swap(&mut above, &mut here);
-        }
-        clear(&mut here);
-        write_line(writer, &mut held, b'+', &edges, &above, &here, &mut rests)?;
-        held.send(writer)
+        write_lines(
+            writer, &mut held, records, &spans, &edges, &heights, &mut above, &mut here, &mut rests,
+        )?;
+        held.send(writer)?;
+        Ok(())
     }
 }
 
-/// Writes the line above a row and the lines in it.
-fn write_row<'a, W, R>(
+/// Writes the lines of a table with cells.
+fn write_lines<'a, W, R>(
     writer: &mut W,
     held: &mut Held,
     records: &'a R,
     spans: &SpannedConfig,
     edges: &[usize],
-    (i, height): (usize, usize),
-    above: &[Option<Owner>],
-    here: &[Option<Owner>],
+    heights: &[usize],
+    above: &mut Vec<Option<Owner>>,
+    here: &mut Vec<Option<Owner>>,
     rests: &mut Vec<&'a str>,
 ) -> io::Result<()>
 where
     W: Write,
     R: Records + ExactRecords + PeekableRecords,
     R::Cell: CellText,
+    requires well { R.is_well_formed records.now }
+    requires laid { IsLaidOut (map_grid R.Cell.text_of (R.grid records.now)) spans.now edges.now heights.now (length above.old.items) (length here.old.items) (length rests.old.items) held.old }
+    requires high { 0 < (R.grid records.now).rows }
+    requires wide { 0 < (R.grid records.now).columns }
+    ensures { OnOk result (Draws (W.contents writer.old) held.old (W.contents writer.new) held.new (ended (picture (map_grid R.Cell.text_of (R.grid records.now)) (entries spans.now)))) }
 {
-    let _ = spans.anchors();
+    clear(above);
+    let mut next = 0;
+    for i in 0..heights.len() {
+        next = write_row(
+            writer, held, records, spans, edges, i, heights[i], next, above, here, rests,
+        )?;
+        mem::swap(above, here);
+    }
+    clear(here);
+    write_line(writer, held, b'+', edges, above, here, rests)?;
+    Ok(())
+}
+
+/// Makes the owners of a row, and writes the line above it and the lines in it. Gives the number of the anchors up to
+/// the end of the row.
+fn write_row<'a, W, R>(
+    writer: &mut W,
+    held: &mut Held,
+    records: &'a R,
+    spans: &SpannedConfig,
+    edges: &[usize],
+    i: usize,
+    height: usize,
+    next: usize,
+    above: &Vec<Option<Owner>>,
+    here: &mut Vec<Option<Owner>>,
+    rests: &mut Vec<&'a str>,
+) -> io::Result<usize>
+where
+    W: Write,
+    R: Records + ExactRecords + PeekableRecords,
+    R::Cell: CellText,
+    requires well { R.is_well_formed records.now }
+    requires fits { Fits spans.now ((R.grid records.now).rows) ((R.grid records.now).columns) }
+    requires edges { AreEdges (map_grid R.Cell.text_of (R.grid records.now)) spans.now edges.now }
+    requires row { i < (R.grid records.now).rows }
+    requires height { height ≡ slice_index_or (heights (map_grid R.Cell.text_of (R.grid records.now)) (entries spans.now)) i 0 }
+    requires next { next ≡ count_before i 0 (entries spans.now) }
+    requires above { IsOwnerRow ((R.grid records.now).rows) ((R.grid records.now).columns) spans.now i above.now.items }
+    requires here { length here.old.items ≡ (R.grid records.now).columns + 2 }
+    requires long { length rests.old.items ≡ (R.grid records.now).columns }
+    requires left { AreLeft (map_grid R.Cell.text_of (R.grid records.now)) spans.now i (top (map_grid R.Cell.text_of (R.grid records.now)) (entries spans.now) i) (map (λ r. r.now) rests.old.items) }
+    ensures next { IfOk result (λ next. next ≡ count_before (i + 1) 0 (entries spans.now)) }
+    ensures here { OnOk result (IsOwnerRow ((R.grid records.now).rows) ((R.grid records.now).columns) spans.now (i + 1) here.new.items) }
+    ensures long { OnOk result (length rests.new.items ≡ (R.grid records.now).columns) }
+    ensures draws { OnOk result (Draws (W.contents writer.old) held.old (W.contents writer.new) held.new (ended (lines_of_row (map_grid R.Cell.text_of (R.grid records.now)) (entries spans.now) i))) }
+    ensures left { OnOk result (AreLeft (map_grid R.Cell.text_of (R.grid records.now)) spans.now (i + 1) (top (map_grid R.Cell.text_of (R.grid records.now)) (entries spans.now) (i + 1)) (map (λ r. r.now) rests.new.items)) }
+{
+    let after = write_owners(records, spans, next, i, above, here);
     write_line(writer, held, b'+', edges, above, here, rests)?;
     begin(records, i, here, rests);
-    for _ in 0..height {
+    for _y in 0..height {
         write_line(writer, held, b'|', edges, here, here, rests)?;
     }
-    Ok(())
+    Ok(after)
 }
 
 /// Sets the texts whose cells begin in a row.
@@ -166,20 +195,29 @@ fn begin<'a, R>(records: &'a R, i: usize, here: &[Option<Owner>], rests: &mut Ve
 where
     R: Records + ExactRecords + PeekableRecords,
     R::Cell: CellText,
+    requires well { R.is_well_formed records.now }
+    requires row { i < (R.grid records.now).rows }
+    requires here { length here.now ≡ (R.grid records.now).columns + 2 }
+    requires long { length rests.old.items ≡ (R.grid records.now).columns }
+    ensures long { length rests.new.items ≡ (R.grid records.now).columns }
+    ensures begun { (j : ℕ) → j < (R.grid records.now).columns → slice_index_or (map (λ r. r.now) rests.new.items) j [] ≡ begun (map_grid R.Cell.text_of (R.grid records.now)) (slice_index_or here.now (j + 1) None) (place i j) (slice_index_or (map (λ r. r.now) rests.old.items) j []) }
 {
     for j in 0..rests.len() {
         rests[j] = text_at(records, here[j + 1], Position { row: i, col: j }, rests[j]);
     }
 }
 
-/// The text of a place, if its owner begins there, else another one.
-fn text_at<'a, R>(records: &'a R, owner: Option<Owner>, pos: Position, or: &'a str) -> &'a str
+/// The text at a place, if its owner begins there, else another one.
+fn text_at<'a, R>(records: &'a R, owner: Option<Owner>, pos: Position, other: &'a str) -> &'a str
 where
     R: Records + ExactRecords + PeekableRecords,
     R::Cell: CellText,
+    requires well { R.is_well_formed records.now }
+    requires inside { IsInside (R.grid records.now) pos }
+    ensures { result.now ≡ begun (map_grid R.Cell.text_of (R.grid records.now)) owner pos other.now }
 {
     match owner {
         Some((at, _)) if at == pos => records.get_text(pos),
-        _ => or,
+        _ => other,
     }
 }

@@ -57,10 +57,9 @@ impl Held {
     pub(crate) fn write<W: Write>(&mut self, writer: &mut W, bytes: &[u8]) -> io::Result<()>
         ensures sends { OnOk result (Sends (W.contents writer.old) self.old (W.contents writer.new) self.new bytes.now) }
     {
-        let mut rest = bytes;
-        while !rest.is_empty() {
-            let held = self.write_part(writer, rest)?;
-            rest = &rest[held..];
+        let mut done = 0;
+        while done < bytes.len() {
+            done += self.write_part(writer, &bytes[done..])?;
         }
         Ok(())
     }

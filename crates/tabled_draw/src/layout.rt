@@ -3,24 +3,75 @@
 ghost use Rattle.std.specs.Prelude.{◌≡◌, ◌+◌, ◌<◌, ◌≤◌, ℕ, IfOk, OnOk, length, slice_index_or};
 ghost use Rattle.std.specs.FinMap.{entries};
 ghost use Rattle.std.specs.List.{fold};
+ghost use Rattle.tabled_draw.specs.Laid.{AreEdges};
 ghost use Rattle.tabled_draw.specs.Measured.{Measured, raised};
 ghost use Rattle.tabled_draw.specs.OwnerRows.{IsOwnerRow};
-ghost use Rattle.tabled_draw.specs.Sizes.{gap, grown, grown_for, own_sizes, start};
+ghost use Rattle.tabled_draw.specs.Sizes.{gap, grown, grown_for, heights, own_sizes, start};
 ghost use Rattle.tabled_grid.specs.Along.{count_along};
 ghost use Rattle.tabled_grid.specs.Axis.{line_of};
 ghost use Rattle.tabled_grid.specs.Grid.{IsInside, map_grid};
 ghost use Rattle.tabled_grid.specs.Rectangles.{Fits};
 ghost use Rattle.tabled_grid.specs.declared.records.axis.Axis.TheVariants.{Rows, Columns};
 
-use crate::owners::{Owner, clear, write_owners};
+use crate::owners::{Owner, clear, owner_row, write_owners};
 use crate::texts::asked;
 use std::alloc::{AllocError, Global};
 use std::mem;
 use tabled_grid::config::{Position, SpannedConfig};
 use tabled_grid::records::{Axis, CellText, ExactRecords, PeekableRecords, Records};
 
+/// Where columns and rows lie, and room for the owners of the places of two rows.
+#[derive(Drop)]
+pub(crate) struct Layout {
+    /// Where the left edge of each column stands, and the last edge.
+    pub(crate) edges: Vec<usize>,
+    /// How high each row is.
+    pub(crate) heights: Vec<usize>,
+    pub(crate) above: Vec<Option<Owner>>,
+    pub(crate) here: Vec<Option<Owner>>,
+}
+
+/// Lays out a table.
+pub(crate) fn layout_of<R>(
+    alloc: Global,
+    records: &R,
+    spans: &SpannedConfig,
+) -> Result<Layout, AllocError>
+where
+    R: Records + ExactRecords + PeekableRecords,
+    R::Cell: CellText,
+    requires well { R.is_well_formed records.now }
+    requires fits { Fits spans.now ((R.grid records.now).rows) ((R.grid records.now).columns) }
+    ensures edges { IfOk result (λ layout. AreEdges (map_grid R.Cell.text_of (R.grid records.now)) spans.now layout.edges.items) }
+    ensures heights { IfOk result (λ layout. layout.heights.items ≡ heights (map_grid R.Cell.text_of (R.grid records.now)) (entries spans.now)) }
+    ensures above { IfOk result (λ layout. length layout.above.items ≡ (R.grid records.now).columns + 2) }
+    ensures here { IfOk result (λ layout. length layout.here.items ≡ (R.grid records.now).columns + 2) }
+{
+    let columns = records.count_columns();
+    let mut above = owner_row(alloc, columns)?;
+    let mut here = owner_row(alloc, columns)?;
+    let mut widths = vec![in alloc; 0; columns]?;
+    let mut heights = vec![in alloc; 0; records.count_rows()]?;
+    raise_all(
+        records,
+        spans,
+        &mut above,
+        &mut here,
+        &mut widths,
+        &mut heights,
+    )?;
+    grow_all(records, spans, Axis::Columns, &mut widths)?;
+    grow_all(records, spans, Axis::Rows, &mut heights)?;
+    Ok(Layout {
+        edges: edges(alloc, &widths)?,
+        heights,
+        above,
+        here,
+    })
+}
+
 /// Raises sizes, which are 0, to what the texts ask that are seen in one row, or in one column.
-pub(crate) fn raise_all<R>(
+fn raise_all<R>(
     records: &R,
     spans: &SpannedConfig,
     above: &mut Vec<Option<Owner>>,
@@ -107,7 +158,7 @@ where
 }
 
 /// Lets the last size of each merged cell grow by what its text lacks, one after another.
-pub(crate) fn grow_all<R>(
+fn grow_all<R>(
     records: &R,
     spans: &SpannedConfig,
     axis: Axis,
@@ -164,7 +215,7 @@ fn grow(
 }
 
 /// Where the left edge of each column stands, and the last edge.
-pub(crate) fn edges(alloc: Global, widths: &[usize]) -> Result<Vec<usize>, AllocError>
+fn edges(alloc: Global, widths: &[usize]) -> Result<Vec<usize>, AllocError>
     ensures long { IfOk result (λ edges. length edges.items ≡ length widths.now + 1) }
     ensures each { IfOk result (λ edges. (k : ℕ) → k < length widths.now + 1 → slice_index_or edges.items k 0 ≡ start Columns widths.now k) }
 {

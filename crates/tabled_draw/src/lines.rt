@@ -1,6 +1,6 @@
 //! The lines of a picture.
 
-ghost use Rattle.std.specs.Prelude.{◌≡◌, ◌+◌, ◌<◌, ◌≤◌, ℕ, IfOk, None, OnOk, Some, length, map, slice_index_or, []};
+ghost use Rattle.std.specs.Prelude.{◌≡◌, ◌+◌, ◌<◌, ◌&&◌, ℕ, IfOk, None, OnOk, Some, length, map, slice_index_or, []};
 ghost use Rattle.tabled_draw.specs.Lines.{EndInside, column, drawn_line, edge, left_of};
 ghost use Rattle.tabled_draw.specs.Owners.{is_one};
 ghost use Rattle.tabled_draw.specs.Sent.{Draws};
@@ -22,6 +22,7 @@ pub(crate) fn write_line<'a, W: Write>(
     below: &[Option<Owner>],
     rests: &mut Vec<&'a str>,
 ) -> io::Result<()>
+    requires mark { mark < 128 }
     requires above { length above.now ≡ length rests.old.items + 2 }
     requires below { length below.now ≡ length rests.old.items + 2 }
     requires edges { length edges.now ≡ length rests.old.items + 1 }
@@ -48,7 +49,8 @@ pub(crate) fn write_line<'a, W: Write>(
         (above[columns], above[columns + 1]),
         (below[columns], below[columns + 1]),
     )?;
-    held.push(writer, b'\n')
+    held.push(writer, b'\n')?;
+    Ok(())
 }
 
 /// Writes what a line has at an edge between columns.
@@ -59,13 +61,22 @@ fn write_edge<W: Write>(
     above: (Option<Owner>, Option<Owner>),
     below: (Option<Owner>, Option<Owner>),
 ) -> io::Result<()>
+    requires { mark < 128 }
     ensures { OnOk result (Draws (W.contents writer.old) held.old (W.contents writer.new) held.new (edge mark above.0 above.1 below.0 below.1)) }
 {
-    let first = above.0;
-    if is_one(first, above.1) && is_one(first, below.0) && is_one(first, below.1) {
+    if is_within(above, below) {
         return Ok(());
     }
-    held.push(writer, mark)
+    held.push(writer, mark)?;
+    Ok(())
+}
+
+/// Says whether one owner is all around an edge.
+fn is_within(above: (Option<Owner>, Option<Owner>), below: (Option<Owner>, Option<Owner>)) -> bool
+    ensures { result ≡ (is_one above.0 above.1 && is_one above.0 below.0) && is_one above.0 below.1 }
+{
+    let first = above.0;
+    is_one(first, above.1) && is_one(first, below.0) && is_one(first, below.1)
 }
 
 /// Writes what a line has in a column, and gives what is left there of a text.

@@ -1,8 +1,8 @@
 //! Lines of texts, and how wide they are.
 
-ghost use Rattle.std.specs.Prelude.{◌≡◌, ◌∷◌, ◌-◌, IfOk, OnOk, IsTrue, encode_utf8_all, length, []};
+ghost use Rattle.std.specs.Prelude.{◌≡◌, ◌-◌, IfOk, OnOk, IsTrue, length};
 ghost use Rattle.tabled_draw.specs.Sent.{Draws};
-ghost use Rattle.tabled_draw.specs.Lines.{after_line, cell, first_line};
+ghost use Rattle.tabled_draw.specs.Lines.{ArePlain, after_line, cell, first_line};
 ghost use Rattle.tabled_draw.specs.Sizes.{asks};
 ghost use Rattle.tabled_draw.specs.Texts.{columns_in, lines_of, shown, shown_line, widest};
 
@@ -26,9 +26,7 @@ fn shown(c: char) -> char
 
 /// Says whether a text is one line of characters of one byte, each of which is shown as it is and takes one column.
 fn is_plain(text: &str) -> bool
-    ensures lines { IsTrue result → lines_of text.now ≡ text.now ∷ [] }
-    ensures columns { IsTrue result → columns_in text.now ≡ length text.now }
-    ensures bytes { IsTrue result → encode_utf8_all text.now ≡ text.now }
+    ensures { IsTrue result → ArePlain text.now }
 {
     for byte in text.as_bytes() {
         if *byte < b' ' || *byte > b'~' {

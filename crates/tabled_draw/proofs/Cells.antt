@@ -1,0 +1,26 @@
+-- Bytes and cells that are drawn.
+use Rattle.std.proofs.Common.{◌≡◌, ◌∙◌, ◌+◌, ◌-◌, ◌<◌, ◌++◌, ℕ, suc, zero, List, [], ◌∷◌, Option, append-nil, append_assoc, ap, ap₂, refl, replicate, sym}
+use Rattle.std.specs.Prelude.{encode_utf8_all}
+use Rattle.std.proofs.lemmas.List.{replicate-append-replicate}
+use Rattle.std.proofs.lemmas.Str.{encode_ascii}
+use Rattle.tabled_draw.proofs.Sent.{draws-as, draws-bytes, draws-then}
+use Rattle.tabled_draw.specs.Lines.{cell, first_line}
+use Rattle.tabled_draw.specs.Sent.{Draws, Sends}
+use Rattle.tabled_draw.specs.Texts.{columns_in}
+
+encodes : (n c : ℕ) → c < 128 → encode_utf8_all (replicate n c) ≡ replicate n c
+encodes zero c low = refl
+encodes (suc n) c low = ap₂ (λ x y. x ++ y) (encode_ascii c low) (encodes n c low)
+
+pub draws-repeat : (a b : Option (List ℕ)) (h i : List ℕ) (n c : ℕ) → c < 128 → Sends a h b i (replicate n c) → Draws a h b i (replicate n c)
+draws-repeat a b h i n c low = draws-bytes a h b i (replicate n c) (replicate n c) (sym (encodes n c low))
+
+pub draws-byte : (a b : Option (List ℕ)) (h i : List ℕ) (c : ℕ) → c < 128 → Sends a h b i (c ∷ []) → Draws a h b i (c ∷ [])
+draws-byte a b h i c low = draws-repeat a b h i 1 c low
+
+pub draws-cell : (a b c d e : Option (List ℕ)) (h i j k l : List ℕ) (text line : List ℕ) (space left : ℕ) → line ≡ first_line text → left ≡ space - columns_in line
+    → Draws a h b i (32 ∷ []) → Draws b i c j line → Draws c j d k (replicate left 32) → Draws d k e l (32 ∷ []) → Draws a h e l (cell text space)
+draws-cell a b c d e h i j k l text line space left is many first second third fourth =
+    let front : Draws a h c j ((32 ∷ []) ++ line) = draws-then a h b c i j (32 ∷ []) line first second in
+    let back : Draws c j e l (replicate left 32 ++ replicate 1 32) = draws-then c j d e k l (replicate left 32) (32 ∷ []) third fourth in
+    draws-as a h e l _ _ (ap₂ (λ x y. (32 ∷ x) ++ y) is (replicate-append-replicate left 1 32 ∙ ap (λ n. replicate (n + 1) 32) (many ∙ ap (λ x. space - columns_in x) is))) (draws-then a h c e j l _ _ front back)

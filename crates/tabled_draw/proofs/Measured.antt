@@ -1,0 +1,171 @@
+-- Sizes, as texts are asked one after another.
+use Rattle.std.proofs.Common.{◌≡◌, ◌≢◌, ◌∙◌, ◌+◌, ◌-◌, ◌<◌, ◌≤◌, ◌⊎◌, inl, inr, ◌++◌, ℕ, suc, zero, Bool, true, false, cond, List, [], ◌∷◌, Option, None, Some, refl, sym, ap, ap₂, subst, arith, length, get_or, replicate, length-append, add-one}
+use Rattle.std.specs.Prelude.{max}
+use Rattle.std.specs.FinMap.{entries}
+use Rattle.std.specs.Option.{unwrap_or}
+use Rattle.std.proofs.lemmas.Bool.{cases_Bool, cases_lt, cond-true, cond-false, false≢true}
+use Rattle.std.proofs.lemmas.List.{ext_get_or, get_or_append_left, get_or_push, get_or-replicate, get_or-set_other, get_or-set_same, length-replicate}
+use Rattle.std.proofs.Math.ListN.{length-set, set}
+use Rattle.tabled_draw.proofs.Before.{After, Before, after-next, before-from, before-next, before-none, before-row, cases_before, after-from, here-next}
+use Rattle.tabled_draw.specs.Each.{each, largest}
+use Rattle.tabled_draw.specs.Measured.{Measured, raised}
+use Rattle.tabled_draw.specs.OwnerRows.{is_before}
+use Rattle.tabled_draw.specs.Owners.{owner_in}
+use Rattle.tabled_draw.specs.Sizes.{asks, own, own_of, own_sizes, text_at}
+use Rattle.tabled_grid.proofs.Geometry.{cases_place}
+use Rattle.tabled_grid.specs.Along.{count_along}
+use Rattle.tabled_grid.specs.Anchors.{Anchor}
+use Rattle.tabled_grid.specs.Axis.{across, line_of, lines_in, place_in}
+use Rattle.tabled_grid.specs.Entity.{place, same_place}
+use Rattle.tabled_grid.specs.Grid.{Grid, cell_at}
+use Rattle.tabled_grid.specs.declared.config.position.Position.{Position}
+use Rattle.tabled_grid.specs.declared.records.axis.Axis.{Axis}
+use Rattle.tabled_grid.specs.declared.records.axis.Axis.TheVariants.{Rows, Columns}
+
+-- ---- lists of what a function gives
+
+pub length-each : (f : ℕ → ℕ) (n : ℕ) → length (each n (λ j. f j ∷ [])) ≡ n
+length-each f zero = refl
+length-each f (suc n) = length-append (each n (λ j. f j ∷ [])) (f n ∷ []) ∙ ap (λ k. k + 1) (length-each f n) ∙ add-one n
+
+pub get_or-each : (f : ℕ → ℕ) (n k : ℕ) → k < n → get_or (each n (λ j. f j ∷ [])) k 0 ≡ f k
+get_or-each f zero k h = absurd (omega (arith, h))
+get_or-each f (suc n) k h = by (cases_lt k n) (get_or-each f n k)
+  where
+    by : (k < n) ⊎ (n ≤ k) → (k < n → get_or (each n (λ j. f j ∷ [])) k 0 ≡ f k) → get_or (each n (λ j. f j ∷ []) ++ (f n ∷ [])) k 0 ≡ f k
+    by (inl before) go = get_or_append_left (each n (λ j. f j ∷ [])) (f n ∷ []) 0 k (omega (arith, before, length-each f n)) ∙ go before
+    by (inr after) go =
+        let same : n ≡ k = omega (arith, h, after) in
+        get_or_push (each n (λ j. f j ∷ [])) (f n) 0 k (length-each f n ∙ same) ∙ ap f same
+
+pub is-each : (f : ℕ → ℕ) (n : ℕ) (xs : List ℕ) → length xs ≡ n → ((j : ℕ) → j < n → get_or xs j 0 ≡ f j) → xs ≡ each n (λ j. f j ∷ [])
+is-each f n xs long same = ext_get_or 0 xs (each n (λ j. f j ∷ [])) (long ∙ sym (length-each f n)) (λ i h. same i (omega (arith, h, long)) ∙ sym (get_or-each f n i (omega (arith, h, long))))
+
+-- ---- the largest of numbers
+
+pub largest-same : (f h : ℕ → ℕ) (n : ℕ) → ((k : ℕ) → k < n → f k ≡ h k) → largest n f ≡ largest n h
+largest-same f h zero same = refl
+largest-same f h (suc n) same = ap₂ max (largest-same f h n (λ k less. same k (omega (arith, less)))) (same n (omega arith))
+
+largest-zero : (n : ℕ) → largest n (λ k. 0) ≡ 0
+largest-zero zero = refl
+largest-zero (suc n) = ap (λ a. max a 0) (largest-zero n)
+
+-- one of the numbers is raised from 0
+largest-raised : (f h : ℕ → ℕ) (n x : ℕ) → x < n → f x ≡ 0 → ((k : ℕ) → k ≢ x → h k ≡ f k) → largest n h ≡ max (largest n f) (h x)
+largest-raised f h zero x less none same = absurd (omega (arith, less))
+largest-raised f h (suc n) x less none same = by (cases_lt x n) (largest-raised f h n x)
+  where
+    by : (x < n) ⊎ (n ≤ x) → (x < n → f x ≡ 0 → ((k : ℕ) → k ≢ x → h k ≡ f k) → largest n h ≡ max (largest n f) (h x)) → max (largest n h) (h n) ≡ max (max (largest n f) (f n)) (h x)
+    by (inl before) go =
+        let first : largest n h ≡ max (largest n f) (h x) = go before none same in
+        let last : h n ≡ f n = same n (λ e. absurd (omega (arith, e, before))) in
+        omega (arith, first, last)
+    by (inr after) go =
+        let here : x ≡ n = omega (arith, less, after) in
+        let first : largest n h ≡ largest n f = largest-same h f n (λ k low. same k (λ e. absurd (omega (arith, e, low, here)))) in
+        let last : h n ≡ h x = ap h (sym here) in
+        let nothing : f n ≡ 0 = ap f (sym here) ∙ none in
+        omega (arith, first, last, nothing)
+
+-- ---- places of lines
+
+pub line-place : (axis : Axis) (i j : ℕ) → place_in axis (line_of axis (place i j)) (line_of (across axis) (place i j)) ≡ place i j
+line-place Rows i j = refl
+line-place Columns i j = refl
+
+pub in-line : (axis : Axis) (k x : ℕ) (p : Position) → place_in axis k x ≡ p → (k ≡ line_of axis p) × (x ≡ line_of (across axis) p)
+in-line Rows k x p e = (ap (λ (q : Position). q.row) e, ap (λ (q : Position). q.col) e)
+in-line Columns k x p e = (ap (λ (q : Position). q.col) e, ap (λ (q : Position). q.row) e)
+
+pub line-within : (axis : Axis) (g : Grid (List ℕ)) (i j : ℕ) → i < g.rows → j < g.columns → line_of axis (place i j) < count_along axis g
+line-within Rows g i j h k = h
+line-within Columns g i j h k = k
+
+pub across-within : (axis : Axis) (g : Grid (List ℕ)) (i j : ℕ) → i < g.rows → j < g.columns → line_of (across axis) (place i j) < count_along (across axis) g
+across-within Rows g i j h k = k
+across-within Columns g i j h k = h
+
+pub col-within : (axis : Axis) (g : Grid (List ℕ)) (k x : ℕ) → k < count_along axis g → x < count_along (across axis) g → (place_in axis k x).col < g.columns
+col-within Rows g k x h1 h2 = h2
+col-within Columns g k x h1 h2 = h1
+
+pub row-within : (axis : Axis) (g : Grid (List ℕ)) (k x : ℕ) → k < count_along axis g → x < count_along (across axis) g → (place_in axis k x).row < g.rows
+row-within Rows g k x h1 h2 = h1
+row-within Columns g k x h1 h2 = h2
+
+-- ---- sizes as they are measured
+
+module _ (axis : Axis) (g : Grid (List ℕ)) (es : List Anchor) where
+  -- what is asked by the text at a place, if it has been asked
+  asked_at : ℕ → ℕ → ℕ → ℕ → ℕ
+  asked_at i j k x = cond (is_before i j (place_in axis k x)) (own axis g es (place_in axis k x)) 0
+
+  pub measured-none : (sizes : List ℕ) → sizes ≡ replicate (count_along axis g) 0 → Measured axis g es 0 0 sizes
+  unfolding asked_at
+  measured-none sizes is = record {
+    long = ap length is ∙ length-replicate (count_along axis g) 0;
+    each = λ k h. ap (λ (xs : List ℕ). get_or xs k 0) is ∙ get_or-replicate (count_along axis g) k 0 0 h ∙ sym (largest-same (asked_at 0 0 k) (λ x. 0) (count_along (across axis) g) (λ x less. cond-false _ _ _ (before-none (place_in axis k x))) ∙ largest-zero (count_along (across axis) g));
+  }
+
+  pub measured-row : (i j : ℕ) (sizes : List ℕ) → j ≡ g.columns → Measured axis g es i j sizes → Measured axis g es (i + 1) 0 sizes
+  unfolding asked_at
+  measured-row i j sizes e was = record {
+    long = was.long;
+    each = λ k h. was.each k h ∙ largest-same (asked_at i j k) (asked_at (i + 1) 0 k) (count_along (across axis) g) (λ x less. ap (λ b. cond b (own axis g es (place_in axis k x)) 0) (ap (λ c. is_before i c (place_in axis k x)) e ∙ before-row i g.columns (place_in axis k x) (col-within axis g k x h less)));
+  }
+
+  pub measured-all : (i : ℕ) (sizes : List ℕ) → i ≡ g.rows → Measured axis g es i 0 sizes → sizes ≡ own_sizes axis g es
+  unfolding asked_at
+  measured-all i sizes e was = is-each (λ k. largest (count_along (across axis) g) (λ x. own axis g es (place_in axis k x))) (count_along axis g) sizes was.long
+      (λ k h. was.each k h ∙ largest-same (asked_at i 0 k) (λ x. own axis g es (place_in axis k x)) (count_along (across axis) g) (λ x less. cond-true _ _ _ (before-from i 0 (place_in axis k x) (inl (omega (arith, row-within axis g k x h less, e))))))
+
+  module _ (i j : ℕ) (h : i < g.rows) (w : j < g.columns) (sizes : List ℕ) (was : Measured axis g es i j sizes) where
+    pub p : Position
+    p = place i j
+
+    pub line : ℕ
+    line = line_of axis p
+
+    -- another place is asked no more than before
+    other : (k x : ℕ) → place_in axis k x ≢ p → asked_at i (j + 1) k x ≡ asked_at i j k x
+    unfolding asked_at p
+    other k x apart = by (cases_before i j (place_in axis k x))
+      where
+        by : Before i j (place_in axis k x) ⊎ After i j (place_in axis k x) → asked_at i (j + 1) k x ≡ asked_at i j k x
+        by (inl before) = ap (λ b. cond b (own axis g es (place_in axis k x)) 0) (before-next i j (place_in axis k x) before ∙ sym (before-from i j (place_in axis k x) before))
+        by (inr after) = ap (λ b. cond b (own axis g es (place_in axis k x)) 0) (after-next i j (place_in axis k x) after apart ∙ sym (after-from i j (place_in axis k x) after))
+
+    here : largest (count_along (across axis) g) (asked_at i (j + 1) line) ≡ max (largest (count_along (across axis) g) (asked_at i j line)) (own axis g es p)
+    unfolding asked_at p line
+    here =
+        let x = line_of (across axis) p in
+        let at : place_in axis line x ≡ p = line-place axis i j in
+        let none : asked_at i j line x ≡ 0 = cond-false _ _ _ (ap (is_before i j) at ∙ after-from i j p (inr (refl, omega arith))) in
+        let now : asked_at i (j + 1) line x ≡ own axis g es p = cond-true _ _ _ (ap (is_before i (j + 1)) at ∙ here-next i j p refl) ∙ ap (own axis g es) at in
+        largest-raised (asked_at i j line) (asked_at i (j + 1) line) (count_along (across axis) g) x (across-within axis g i j h w) none (λ k apart. other line k (λ e. apart (in-line axis line k p e).1))
+        ∙ ap (max (largest (count_along (across axis) g) (asked_at i j line))) now
+
+    pub measured-more : (new : List ℕ) → new ≡ set sizes line (max (get_or sizes line 0) (own axis g es p)) → Measured axis g es i (j + 1) new
+    unfolding asked_at p line
+    measured-more new is = record {
+      long = ap length is ∙ length-set sizes line _ ∙ was.long;
+      each = λ k less. ap (λ (xs : List ℕ). get_or xs k 0) is ∙ by k less (cases_lt k line) (cases_lt line k);
+    }
+      where
+        apart : (k : ℕ) → k < count_along axis g → k ≢ line → get_or (set sizes line (max (get_or sizes line 0) (own axis g es p))) k 0 ≡ largest (count_along (across axis) g) (asked_at i (j + 1) k)
+        apart k less ne = get_or-set_other sizes line k _ 0 ne ∙ was.each k less ∙ largest-same (asked_at i j k) (asked_at i (j + 1) k) (count_along (across axis) g) (λ x within. sym (other k x (λ e. ne (in-line axis k x p e).0)))
+
+        by : (k : ℕ) → k < count_along axis g → (k < line) ⊎ (line ≤ k) → (line < k) ⊎ (k ≤ line) → get_or (set sizes line (max (get_or sizes line 0) (own axis g es p))) k 0 ≡ largest (count_along (across axis) g) (asked_at i (j + 1) k)
+        by k less (inl low) _ = apart k less (λ e. omega (arith, e, low))
+        by k less (inr a) (inl high) = apart k less (λ e. omega (arith, e, high))
+        by k less (inr a) (inr b) =
+            let same : k ≡ line = omega (arith, a, b) in
+            let within : line < length sizes = omega (arith, was.long, line-within axis g i j h w) in
+            ap (λ z. get_or (set sizes line (max (get_or sizes line 0) (own axis g es p))) z 0) same ∙ get_or-set_same sizes line _ 0 within
+            ∙ ap (λ a. max a (own axis g es p)) (was.each line (line-within axis g i j h w)) ∙ sym here ∙ ap (λ z. largest (count_along (across axis) g) (asked_at i (j + 1) z)) (sym same)
+
+    -- the same, by the owner of the place
+    pub measured-raised : (new : List ℕ) (o : Option Anchor) → o ≡ Some (owner_in es (place i j)) → new ≡ raised axis g sizes o (place i j) → Measured axis g es i (j + 1) new
+    unfolding p line
+    measured-raised new o owned is = measured-more new (is ∙ ap (λ (x : Option Anchor). raised axis g sizes x p) owned)

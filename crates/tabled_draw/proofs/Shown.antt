@@ -1,0 +1,69 @@
+-- Characters as they are shown, one by one.
+use Rattle.std.proofs.Common.{◌≡◌, ◌∙◌, ◌+◌, ◌-◌, ◌<◌, ◌≤◌, ◌++◌, ◌⊎◌, inl, inr, append-nil, ℕ, Bool, true, false, cond, List, [], ◌∷◌, Option, None, Some, refl, sym, ap, ap₂, append_assoc, encode_utf8, arith, length, eqb}
+use Rattle.std.specs.Prelude.{◌==◌, ◌&&◌, SomeIff, chars, encode_utf8_all, map, max, nat_le, nat_lt}
+use Rattle.std.specs.List.{fold}
+use Rattle.std.specs.Option.{IsSome, unwrap_or}
+use Rattle.std.specs.Str.{IsUtf8}
+use Rattle.std.specs.Char.{InScalarRange, IsScalar}
+use Rattle.std.proofs.lemmas.Bool.{and_from, cases_Bool, cond-true, cond-false, false≢true}
+use Rattle.std.proofs.lemmas.List.{map-append}
+use Rattle.std.proofs.lemmas.List.Sums.{fold-append, sum_by-cons}
+use Rattle.std.proofs.lemmas.Str.{chars_past_char, chars-nil}
+use borrow.Author.Tests.{leb-true, ltb-true, le-leb, lt-ltb, leb-false, ltb-false, eq-eqb, ne_eqb}
+use Rattle.unicode_width.specs.Width.{char_width}
+use Rattle.tabled_draw.proofs.Sent.{draws-as, draws-bytes, draws-none, draws-then}
+use Rattle.tabled_draw.specs.Sent.{Draws, Sends}
+use Rattle.tabled_draw.specs.Texts.{columns_in, shown, shown_line}
+
+pub counted : (c : ℕ) (rest whole : List ℕ) → IsUtf8 whole → whole ≡ encode_utf8 c ++ rest → columns_in (shown_line whole) ≡ unwrap_or (char_width false (shown c)) 0 + columns_in (shown_line rest)
+counted c rest whole utf8 is =
+    ap (λ cs. columns_in (map shown cs)) (chars_past_char whole rest c utf8 is)
+    ∙ sum_by-cons (λ d. unwrap_or (char_width false d) 0) (shown c) (map shown (chars rest))
+
+pub counted-more : (c columns more rest whole all : ℕ) (w : Option ℕ) → w ≡ char_width false (shown c) → whole ≡ unwrap_or (char_width false (shown c)) 0 + rest → columns + whole ≡ all → more ≡ columns + unwrap_or w 0 → more + rest ≡ all
+counted-more c columns more rest whole all w width is same sum =
+    let value : unwrap_or w 0 ≡ unwrap_or (char_width false (shown c)) 0 = ap (λ x. unwrap_or x 0) width in
+    omega (arith, value, is, same, sum)
+
+pub counted-end : (columns all : ℕ) (rest : List ℕ) → rest ≡ [] → columns + columns_in (shown_line rest) ≡ all → columns ≡ all
+counted-end columns all rest none same =
+    let nothing : columns_in (shown_line rest) ≡ 0 = ap (λ cs. columns_in (map shown cs)) (ap chars none ∙ chars-nil) in
+    omega (arith, nothing, same)
+
+pub widest-more : {A : Type 0} (f : A → List ℕ) (most : ℕ) (xs : List A) (x : A) → most ≡ fold (λ most line. max most (columns_in line)) 0 (map shown_line (map f xs))
+    → max most (columns_in (shown_line (f x))) ≡ fold (λ most line. max most (columns_in line)) 0 (map shown_line (map f (xs ++ (x ∷ []))))
+widest-more f most xs x is =
+    let wider : ℕ → List ℕ → ℕ = λ most line. max most (columns_in line) in
+    ap (λ n. max n (columns_in (shown_line (f x)))) is
+    ∙ sym (fold-append wider 0 (map shown_line (map f xs)) (shown_line (f x) ∷ []))
+    ∙ ap (fold wider 0) (sym (map-append shown_line (map f xs) (f x ∷ [])) ∙ ap (map shown_line) (sym (map-append f xs (x ∷ []))))
+
+-- a line is drawn, up to its last characters
+pub record Drawn (a : Option (List ℕ)) (h : List ℕ) (b : Option (List ℕ)) (i rest all : List ℕ) : Type 0 where
+  pub done : List ℕ
+  pub is : all ≡ done ++ rest
+  pub drawn : Draws a h b i done
+
+pub drawn-none : (a : Option (List ℕ)) (h rest all : List ℕ) → all ≡ rest → Drawn a h a h rest all
+drawn-none a h rest all is = record { done = []; is = is; drawn = draws-none a h }
+
+pub drawn-more : (a b d : Option (List ℕ)) (h i j : List ℕ) (c : ℕ) (bytes whole rest all : List ℕ) → IsUtf8 whole → whole ≡ encode_utf8 c ++ rest → Drawn a h b i (shown_line whole) all → bytes ≡ encode_utf8 (shown c) → Sends b i d j bytes → Drawn a h d j (shown_line rest) all
+drawn-more a b d h i j c bytes whole rest all utf8 is was same sent = record {
+  done = was.done ++ (shown c ∷ []);
+  is = was.is ∙ ap (λ cs. was.done ++ map shown cs) (chars_past_char whole rest c utf8 is) ∙ sym (append_assoc was.done (shown c ∷ []) (shown_line rest));
+  drawn = draws-then a h b d i j was.done (shown c ∷ []) was.drawn (draws-bytes b i d j bytes (shown c ∷ []) (same ∙ sym (append-nil (encode_utf8 (shown c)))) sent);
+}
+
+pub drawn-all : (a b : Option (List ℕ)) (h i rest all : List ℕ) → rest ≡ [] → Drawn a h b i (shown_line rest) all → Draws a h b i all
+drawn-all a b h i rest all none was =
+    draws-as a h b i was.done all (sym (was.is ∙ ap (λ r. was.done ++ r) (ap (λ cs. map shown cs) (ap chars none ∙ chars-nil)) ∙ append-nil was.done)) was.drawn
+
+pub left-more : (c left more whole rest all : ℕ) (w : Option ℕ) → w ≡ char_width false (shown c) → whole ≡ unwrap_or (char_width false (shown c)) 0 + rest → left - whole ≡ all → more ≡ left - unwrap_or w 0 → more - rest ≡ all
+left-more c left more whole rest all w width is same less =
+    let value : unwrap_or w 0 ≡ unwrap_or (char_width false (shown c)) 0 = ap (λ x. unwrap_or x 0) width in
+    omega (arith, value, is, same, less)
+
+pub left-end : (left all : ℕ) (rest : List ℕ) → rest ≡ [] → left - columns_in (shown_line rest) ≡ all → left ≡ all
+left-end left all rest none same =
+    let nothing : columns_in (shown_line rest) ≡ 0 = ap (λ cs. columns_in (map shown cs)) (ap chars none ∙ chars-nil) in
+    omega (arith, nothing, same)

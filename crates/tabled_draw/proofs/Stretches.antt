@@ -1,0 +1,168 @@
+-- A line that is drawn by what is known as it is written is the line of the picture.
+use Rattle.std.proofs.Common.{◌≡◌, ◌≢◌, ◌∙◌, ◌+◌, ◌-◌, ◌<◌, ◌≤◌, ◌⊎◌, ◌++◌, inl, inr, ℕ, suc, zero, Bool, true, false, cond, List, [], ◌∷◌, Option, Some, None, refl, sym, ap, ap₂, subst, arith, eqb, length, replicate, add-one, get_or}
+use Rattle.std.specs.Prelude.{◌&&◌}
+use Rattle.std.specs.FinMap.{entries, get}
+use Rattle.std.proofs.lemmas.Bool.{and_from, and_parts, cases_Bool, cond-true, cond-false, false≢true}
+use borrow.Author.Tests.{eq-eqb, eqb-true}
+use Rattle.tabled_draw.proofs.Owned.{Inside, Owned, owned, owner-inside, owner-some}
+use Rattle.tabled_draw.proofs.Owned.Owned.{alone, held}
+use Rattle.tabled_draw.proofs.Sizes.{start-more}
+use Rattle.tabled_draw.specs.Each.{each}
+use Rattle.tabled_draw.specs.Laid.{AreEdges}
+use Rattle.tabled_draw.specs.Lines.{AreLeft, cell, column, drawn_line, edge, first_line, inside, stretches}
+use Rattle.tabled_draw.specs.OwnerRows.{IsOwnerRow}
+use Rattle.tabled_draw.specs.Owners.{is_one, owner, owner_in}
+use Rattle.tabled_draw.specs.Picture.{left, line, shows, shows_in, stretch, top}
+use Rattle.tabled_draw.specs.Sizes.{room, text_at, widths}
+use Rattle.tabled_draw.specs.Texts.{columns_in, lines_of}
+use Rattle.tabled_grid.proofs.SpanMaps.{same_place-self}
+use Rattle.tabled_grid.specs.Anchors.{Anchor}
+use Rattle.tabled_grid.specs.Entity.{place, same_place}
+use Rattle.tabled_grid.specs.Grid.{Grid}
+use Rattle.tabled_grid.specs.Rectangles.{Fits}
+use Rattle.tabled_grid.specs.Spans.{SpanMap}
+use Rattle.tabled_grid.specs.declared.records.axis.Axis.TheVariants.{Rows, Columns}
+
+pub each-more : {A : Type 0} (f : ℕ → List A) (n : ℕ) → each (n + 1) f ≡ each n f ++ f n
+each-more f n = ap (λ k. each k f) (add-one n)
+
+pub each-same : {A : Type 0} (f h : ℕ → List A) (n : ℕ) → ((k : ℕ) → k < n → f k ≡ h k) → each n f ≡ each n h
+each-same f h zero same = refl
+each-same f h (suc n) same = ap₂ (λ x y. x ++ y) (each-same f h n (λ k less. same k (omega (arith, less)))) (same n (omega arith))
+
+-- an owner lies in the table
+pub record IsIn (rows columns : ℕ) (o : Anchor) : Type 0 where
+  pub row : o.0.row < rows
+  pub end : o.0.col + o.1.1 ≤ columns
+  pub some : 1 ≤ o.1.1
+
+pub owner-in : (m : SpanMap) (rows columns : ℕ) → Fits m rows columns → (i j : ℕ) (o : Anchor) → owner rows columns (entries m) i j ≡ Some o → IsIn rows columns o
+owner-in m rows columns fits i j o e = by (owned m (place s.row s.col)) s.is
+  where
+    s : Inside rows columns m i j o
+    s = owner-some rows columns m i j o e
+
+    by : Owned m (place s.row s.col) (owner_in (entries m) (place s.row s.col)) → o ≡ owner_in (entries m) (place s.row s.col) → IsIn rows columns o
+    by (held has _) is =
+        let x = owner_in (entries m) (place s.row s.col) in
+        let within = fits.inside x.0 x.1 has in
+        let sizes = fits.sizes.each x.0 x.1 has in
+        rw is (record { row = omega (arith, within.0, sizes.height); end = within.1; some = sizes.width })
+    by (alone single _) is = rw (is ∙ single) (record { row = s.below; end = omega (arith, s.right); some = omega arith })
+
+and-false : (b : Bool) → (b && false) ≡ false
+and-false true = refl
+and-false false = refl
+
+one-self : (a b : Option Anchor) → is_one a b ≡ true → is_one a a ≡ true
+one-self None b t = absurd (false≢true t)
+one-self (Some p) b t = same_place-self p.0
+
+pub apart : (j : ℕ) → eqb j (j + 1) ≡ false
+apart j = by (cases_Bool (eqb j (j + 1)))
+  where
+    by : (eqb j (j + 1) ≡ true) ⊎ (eqb j (j + 1) ≡ false) → eqb j (j + 1) ≡ false
+    by (inl t) = let e : j ≡ j + 1 = eqb-true j (j + 1) t in absurd (omega (arith, e))
+    by (inr f) = f
+
+module _ (g : Grid (List ℕ)) (es : List Anchor) (n u d j : ℕ) where
+  shows-none : (a : Option Anchor) → shows_in g es n j (j + 1) a ≡ []
+  shows-none None = refl
+  shows-none (Some o) = ap (λ b. cond (b && eqb j (o.0.col + 1)) (shows g es n o) []) (apart j)
+
+  edge-by : (mark : ℕ) (p q r s : Option Anchor) → mark ≡ cond (eqb u d) 124 43
+      → edge mark p q r s ≡ cond ((is_one p q && is_one p r) && is_one p s) (shows_in g es n j (j + 1) p) (replicate 1 (cond (eqb u d) 124 (cond (eqb j (j + 1)) 45 43)))
+  edge-by mark p q r s is = by ((is_one p q && is_one p r) && is_one p s)
+    where
+      by : (b : Bool) → cond b [] (mark ∷ []) ≡ cond b (shows_in g es n j (j + 1) p) (replicate 1 (cond (eqb u d) 124 (cond (eqb j (j + 1)) 45 43)))
+      by true = sym (shows-none p)
+      by false = ap (λ c. c ∷ []) (is ∙ ap (λ b. cond (eqb u d) 124 (cond b 45 43)) (sym (apart j)))
+
+  pub edge-is : (mark : ℕ) (p q r s : Option Anchor) → mark ≡ cond (eqb u d) 124 43
+      → p ≡ owner g.rows g.columns es u j → q ≡ owner g.rows g.columns es u (j + 1) → r ≡ owner g.rows g.columns es d j → s ≡ owner g.rows g.columns es d (j + 1)
+      → edge mark p q r s ≡ stretch g es n u d j (j + 1) 1
+  edge-is mark p q r s is e1 e2 e3 e4 = rw (e1, e2, e3, e4) (edge-by mark (owner g.rows g.columns es u j) (owner g.rows g.columns es u (j + 1)) (owner g.rows g.columns es d j) (owner g.rows g.columns es d (j + 1)) is)
+
+  column-by : (a b : Option Anchor) (shown : List ℕ) (size : ℕ) → (is_one a b ≡ true → shown ≡ shows_in g es n (j + 1) (j + 1) a) → (u ≡ d → is_one a b ≡ true)
+      → cond (is_one a b) shown (replicate size 45) ≡ cond ((is_one a a && is_one a b) && is_one a b) (shows_in g es n (j + 1) (j + 1) a) (replicate size (cond (eqb u d) 124 (cond (eqb (j + 1) (j + 1)) 45 43)))
+  column-by a b shown size is within = by (cases_Bool (is_one a b)) (cases_Bool (eqb u d))
+    where
+      by : (is_one a b ≡ true) ⊎ (is_one a b ≡ false) → (eqb u d ≡ true) ⊎ (eqb u d ≡ false) → cond (is_one a b) shown (replicate size 45) ≡ cond ((is_one a a && is_one a b) && is_one a b) (shows_in g es n (j + 1) (j + 1) a) (replicate size (cond (eqb u d) 124 (cond (eqb (j + 1) (j + 1)) 45 43)))
+      by (inl t) _ = cond-true _ _ _ t ∙ is t ∙ sym (cond-true _ _ _ (and_from _ _ (and_from _ _ (one-self a b t) t) t))
+      by (inr f) (inl same) = absurd (false≢true (sym f ∙ within (eqb-true u d same)))
+      by (inr f) (inr other) =
+          let all : ((is_one a a && is_one a b) && is_one a b) ≡ false = ap (λ x. (is_one a a && is_one a b) && x) f ∙ and-false (is_one a a && is_one a b) in
+          let mark : cond (eqb u d) 124 (cond (eqb (j + 1) (j + 1)) 45 43) ≡ 45 = ap (λ x. cond x 124 (cond (eqb (j + 1) (j + 1)) 45 43)) other ∙ ap (λ x. cond x 45 43) (eq-eqb (j + 1) (j + 1) refl) in
+          cond-false _ _ _ f ∙ ap (replicate size) (sym mark) ∙ sym (cond-false _ _ _ all)
+
+-- in a row, above and below are one
+pub one-in_row : (m : SpanMap) (rows columns i j : ℕ) → 0 < i → i ≤ rows → j < columns → is_one (owner rows columns (entries m) i (j + 1)) (owner rows columns (entries m) i (j + 1)) ≡ true
+one-in_row m rows columns i j low high right =
+    let up : i ≡ i - 1 + 1 = omega (arith, low) in
+    let o = owner_in (entries m) (place (i - 1) j) in
+    let is : owner rows columns (entries m) i (j + 1) ≡ Some o = ap (λ k. owner rows columns (entries m) k (j + 1)) up ∙ owner-inside rows columns m (i - 1) j (omega (arith, low, high)) right in
+    ap₂ is_one is is ∙ same_place-self o.0
+
+module _ (g : Grid (List ℕ)) (m : SpanMap) (fits : Fits m g.rows g.columns) (edges : List ℕ) (laid : AreEdges g m edges) (n u d : ℕ) where
+  es : List Anchor
+  es = entries m
+
+  -- the lines that are left in each column are those that the n-th line of the picture shows
+  unfoldable pub AreNext : List (List ℕ) → Type 0
+  AreNext texts = (j : ℕ) (o : Anchor) → j < g.columns → owner g.rows g.columns (entries m) u (j + 1) ≡ Some o → o.0.col ≡ j → is_one (owner g.rows g.columns (entries m) u (j + 1)) (owner g.rows g.columns (entries m) d (j + 1)) ≡ true
+      → first_line (get_or texts j []) ≡ get_or (lines_of (text_at g o.0)) (n - top g (entries m) o.0.row - 1) []
+
+  inside-is : (texts : List (List ℕ)) → AreNext texts → (j : ℕ) → j < g.columns → (a : Option Anchor) → a ≡ owner g.rows g.columns (entries m) u (j + 1)
+      → is_one (owner g.rows g.columns (entries m) u (j + 1)) (owner g.rows g.columns (entries m) d (j + 1)) ≡ true → inside edges j a (get_or texts j []) ≡ shows_in g (entries m) n (j + 1) (j + 1) a
+  unfolding AreNext
+  inside-is texts next j less None e one = refl
+  inside-is texts next j less (Some o) e one = by (cases_Bool (eqb o.0.col j))
+    where
+      there : IsIn g.rows g.columns o
+      there = owner-in m g.rows g.columns fits u (j + 1) o (sym e)
+
+      by : (eqb o.0.col j ≡ true) ⊎ (eqb o.0.col j ≡ false) → inside edges j (Some o) (get_or texts j []) ≡ shows_in g (entries m) n (j + 1) (j + 1) (Some o)
+      by (inl t) =
+          let at : o.0.col ≡ j = eqb-true o.0.col j t in
+          let both : (eqb (j + 1) (j + 1) && eqb (j + 1) (o.0.col + 1)) ≡ true = and_from _ _ (eq-eqb (j + 1) (j + 1) refl) (eq-eqb (j + 1) (o.0.col + 1) (ap (λ k. k + 1) (sym at))) in
+          let shown : first_line (get_or texts j []) ≡ get_or (lines_of (text_at g o.0)) (n - top g (entries m) o.0.row - 1) [] = next j o less (sym e) at one in
+          let space : get_or edges (j + o.1.1) 0 - get_or edges j 0 - 3 ≡ room Columns (widths g (entries m)) o.0.col o.1.1 =
+          ap₂ (λ x y. x - y - 3) (laid.each (j + o.1.1) (omega (arith, there.end, at)) ∙ ap (λ k. left g (entries m) (k + o.1.1)) (sym at)) (laid.each j (omega (arith, less)) ∙ ap (left g (entries m)) (sym at)) in
+          cond-true _ _ _ t ∙ ap₂ (λ x y. 32 ∷ x ++ replicate (y - columns_in x + 1) 32) shown space ∙ sym (cond-true _ _ _ both)
+      by (inr f) =
+          let other : (eqb (j + 1) (j + 1) && eqb (j + 1) (o.0.col + 1)) ≡ false = never (cases_Bool (eqb (j + 1) (j + 1) && eqb (j + 1) (o.0.col + 1))) in
+          cond-false _ _ _ f ∙ sym (cond-false _ _ _ other)
+        where
+          never : ((eqb (j + 1) (j + 1) && eqb (j + 1) (o.0.col + 1)) ≡ true) ⊎ ((eqb (j + 1) (j + 1) && eqb (j + 1) (o.0.col + 1)) ≡ false) → (eqb (j + 1) (j + 1) && eqb (j + 1) (o.0.col + 1)) ≡ false
+          never (inl t) =
+              let same : j + 1 ≡ o.0.col + 1 = eqb-true (j + 1) (o.0.col + 1) (and_parts _ _ t).1 in
+              absurd (false≢true (sym f ∙ eq-eqb o.0.col j (omega (arith, same))))
+          never (inr h) = h
+
+  size-is : (j : ℕ) → j < g.columns → length (widths g (entries m)) ≡ g.columns → get_or edges (j + 1) 0 - get_or edges j 0 - 1 ≡ get_or (widths g (entries m)) j 0 + 2
+  size-is j less long =
+      let first : get_or edges j 0 ≡ left g (entries m) j = laid.each j (omega (arith, less)) in
+      let next : get_or edges (j + 1) 0 ≡ left g (entries m) (j + 1) = laid.each (j + 1) (omega (arith, less)) in
+      let more : left g (entries m) (j + 1) ≡ left g (entries m) j + (get_or (widths g (entries m)) j 0 + 3) = start-more Columns (widths g (entries m)) j (omega (arith, less, long)) in
+      omega (arith, first, next, more)
+
+  module _ (mark : ℕ) (is_mark : mark ≡ cond (eqb u d) 124 43) (above below : List (Option Anchor)) (over : IsOwnerRow g.rows g.columns m u above) (under : IsOwnerRow g.rows g.columns m d below)
+      (within : u ≡ d → (0 < u) × (u ≤ g.rows)) (long : length (widths g (entries m)) ≡ g.columns) (texts : List (List ℕ)) (next : AreNext texts) where
+    column-is : (j : ℕ) → j < g.columns → column edges j (get_or above (j + 1) None) (get_or below (j + 1) None) (get_or texts j []) ≡ stretch g (entries m) n u d (j + 1) (j + 1) (get_or (widths g (entries m)) j 0 + 2)
+    column-is j less =
+        let a = owner g.rows g.columns (entries m) u (j + 1) in
+        let b = owner g.rows g.columns (entries m) d (j + 1) in
+        let row : u ≡ d → is_one a b ≡ true = λ same. ap (λ k. is_one a (owner g.rows g.columns (entries m) k (j + 1))) (sym same) ∙ one-in_row m g.rows g.columns u j (within same).0 (within same).1 less in
+        ap₂ (λ x y. column edges j x y (get_or texts j [])) (over.each (j + 1) (omega (arith, less))) (under.each (j + 1) (omega (arith, less)))
+        ∙ ap (λ s. cond (is_one a b) (inside edges j a (get_or texts j [])) (replicate s 45)) (size-is j less long)
+        ∙ column-by g (entries m) n u d j a b (inside edges j a (get_or texts j [])) (get_or (widths g (entries m)) j 0 + 2) (λ one. inside-is texts next j less a refl one) row
+
+    pub line-is : (columns : ℕ) → columns ≡ g.columns → drawn_line columns mark edges above below texts ≡ line g (entries m) n u d ++ (10 ∷ [])
+    unfolding drawn_line
+    line-is columns same =
+        ap (λ x. x ++ (10 ∷ [])) (ap (λ k. each k (stretches mark edges above below texts) ++ edge mark (get_or above k None) (get_or above (k + 1) None) (get_or below k None) (get_or below (k + 1) None)) same
+        ∙ ap₂ (λ x y. x ++ y)
+        (each-same (stretches mark edges above below texts) _ g.columns (λ j less. ap₂ (λ x y. x ++ y)
+        (edge-is g (entries m) n u d j mark _ _ _ _ is_mark (over.each j (omega (arith, less))) (over.each (j + 1) (omega (arith, less))) (under.each j (omega (arith, less))) (under.each (j + 1) (omega (arith, less))))
+        (column-is j less)))
+        (edge-is g (entries m) n u d g.columns mark _ _ _ _ is_mark (over.each g.columns (omega arith)) (over.each (g.columns + 1) (omega arith)) (under.each g.columns (omega arith)) (under.each (g.columns + 1) (omega arith))))

@@ -1,0 +1,31 @@
+use Rattle.std.proofs.Common.{◌≡◌, ◌∙◌, ◌+◌, ◌<◌, ℕ, List, [], ap, arith, length, refl, sym}
+use Rattle.std.proofs.lemmas.List.{length-replicate}
+use Rattle.std.specs.FinMap.{entries}
+use Rattle.tabled_draw.proofs.Laid.{bytes-drawn, fits-of}
+use Rattle.tabled_draw.proofs.Rows.{sizes-long}
+use Rattle.tabled_grid.specs.Grid.{map_grid}
+use Rattle.tabled_grid.specs.declared.records.axis.Axis.TheVariants.{Rows, Columns}
+use Rattle.tabled_draw.proofs.drawing.Drawing.new.Goals as goal
+
+pub layout_of-requires-clause-fits : goal.layout_of-requires-clause-fits
+layout_of-requires-clause-fits g c = fits-of (map_grid g.R.Cell.CellText.text_of (g.R.GridStore.grid c.args.records.now)) c.args.cfg.now c.in_ok-spans.spans _ _ c.count_rows-rows.ensures.rows c.count_columns-columns.ensures.columns c.in_ok-spans.ensures.fitting c.fitting.ensures.sizes
+
+pub invariant_of-result : goal.invariant_of-result
+invariant_of-result g c =
+    let t = map_grid g.R.Cell.CellText.text_of (g.R.GridStore.grid c.args.records.now) in
+    let m = c.in_ok-spans.spans in (
+      c.requires.well,
+      record {
+        fits = fits-of t c.args.cfg.now m _ _ c.count_rows-rows.ensures.rows c.count_columns-columns.ensures.columns c.in_ok-spans.ensures.fitting c.fitting.ensures.sizes;
+        edges = c.in_ok-layout.ensures.edges;
+        heights = c.in_ok-layout.ensures.heights;
+        tall = ap length c.in_ok-layout.ensures.heights ∙ sizes-long Rows t (entries m);
+        above = c.in_ok-layout.ensures.above;
+        here = c.in_ok-layout.ensures.here;
+        rests = ap length (c.in_ok-rests.ensures.items_if_clones_equal (λ y e. e)) ∙ length-replicate _ _ ∙ c.count_columns-columns.ensures.columns;
+        unused = c.in_ok-held.ensures.empty;
+      },
+    )
+
+pub returns : goal.returns
+returns g c = record { drawn = bytes-drawn (map_grid g.R.Cell.CellText.text_of (g.R.GridStore.grid c.args.records.now)) c.args.cfg.now c.in_ok-spans.spans _ _ c.count_rows-rows.ensures.rows c.count_columns-columns.ensures.columns c.in_ok-spans.ensures.fitting c.fitting.ensures.sizes }

@@ -1,0 +1,13 @@
+use Rattle.std.proofs.Common.{◌≡◌, length, take}
+use Rattle.std.specs.FinMap.{entries}
+use Rattle.std.specs.List.{fold}
+use Rattle.tabled_draw.specs.Sizes.{grown_for}
+use Rattle.tabled_grid.specs.Along.{count_along}
+use Rattle.tabled_grid.specs.Grid.{map_grid}
+use Rattle.tabled_draw.proofs.layout.grow_all.Given as goal
+
+abbrev pub invariant-loop-k : goal.invariant-loop-k
+invariant-loop-k g l = record {
+  long : length l.sizes.items ≡ count_along l.axis (g.R.GridStore.grid l.records);
+  grown : l.sizes.items ≡ fold (grown_for l.axis (map_grid g.R.Cell.CellText.text_of (g.R.GridStore.grid l.records))) l.initial.sizes.items (take l.k (entries l.spans));
+}

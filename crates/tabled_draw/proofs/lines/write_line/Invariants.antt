@@ -1,0 +1,13 @@
+use Rattle.std.proofs.Common.{◌≡◌, ◌+◌, ℕ, None, [], get_or, length}
+use Rattle.tabled_draw.proofs.Rests.{Changed, bytes_in}
+use Rattle.tabled_draw.specs.Each.{each}
+use Rattle.tabled_draw.specs.Lines.{left_of, stretches}
+use Rattle.tabled_draw.specs.Sent.{Draws}
+use Rattle.tabled_draw.proofs.lines.write_line.Given as goal
+
+abbrev pub invariant-loop-j : goal.invariant-loop-j
+invariant-loop-j g l = record {
+  long : length l.rests.items ≡ length l.initial.rests.items;
+  rests : Changed (λ k. left_of k (get_or l.above (k + 1) None) (get_or l.below (k + 1) None) (get_or (bytes_in l.initial.rests.items) k [])) (bytes_in l.initial.rests.items) (bytes_in l.rests.items) l.j;
+  drawn : Draws (g.W.Write.contents l.initial.writer) l.initial.held (g.W.Write.contents l.writer) l.held (each l.j (stretches l.fn.mark l.edges l.above l.below (bytes_in l.initial.rests.items)));
+}

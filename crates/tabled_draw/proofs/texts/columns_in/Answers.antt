@@ -1,0 +1,35 @@
+use Rattle.std.proofs.Common.{◌≡◌, ◌∙◌, ◌+◌, ◌++◌, ap, refl, sym, zero-add, encode_utf8, false, arith}
+use Rattle.std.proofs.lemmas.List.{nil_from_length}
+use Rattle.std.proofs.lemmas.Str.{IsUtf8-past_char, chars-nil}
+use Rattle.std.specs.Prelude.{chars, map}
+use Rattle.std.specs.Str.Iter.{chars_rest}
+use Rattle.tabled_draw.specs.Texts.{columns_in, shown, shown_line}
+use Rattle.tabled_draw.proofs.Shown.{counted, counted-end, counted-more}
+use Rattle.unicode_width.specs.Width.{char_width}
+use Rattle.tabled_draw.proofs.texts.columns_in.Goals as goal
+
+pub loop-c-init : goal.loop-c-init
+loop-c-init c = record {
+  can = tt;
+  ends = tt;
+  utf8 = rw (c.into_iter-c-iterator.ensures.into_iter_gives, c.chars-c-items.ensures.rest) c.utf8.line;
+  same = rw (c.into_iter-c-iterator.ensures.into_iter_gives, c.chars-c-items.ensures.rest) (zero-add _);
+}
+
+pub loop-c-preserved : goal.loop-c-preserved
+loop-c-preserved c =
+    let whole = chars_rest c.loop-c.c-iterator in
+    let rest = chars_rest c.next.new.self in
+    let step : whole ≡ encode_utf8 c.in-Some.c ++ rest = c.in-Some.ensures.steps.0 in
+    let more = counted c.in-Some.c rest whole c.loop-c.invariant.utf8 step in
+    record {
+      can = tt;
+      ends = tt;
+      utf8 = IsUtf8-past_char whole rest c.in-Some.c c.loop-c.invariant.utf8 step;
+      same = counted-more c.in-Some.c c.loop-c.columns c.in-Some-checked_add.more _ _ _ c.width.result (c.width.ensures.value ∙ ap (char_width false) c.shown.ensures) more c.loop-c.invariant.same (c.in-Some-checked_add.ensures.1 ∙ ap (λ n. c.loop-c.columns + n) c.unwrap_or.ensures);
+    }
+
+pub returns : goal.returns
+returns c =
+    let none = nil_from_length _ c.in-None.ensures.steps.0.0 in
+    counted-end c.loop-c.columns _ _ none c.loop-c.invariant.same

@@ -1,0 +1,14 @@
+use Rattle.std.proofs.Common.{◌≡◌, ◌+◌}
+use Rattle.std.specs.Prelude.{chars, map}
+use Rattle.std.specs.Str.{IsUtf8}
+use Rattle.std.specs.Str.Iter.{chars_rest}
+use Rattle.tabled_draw.specs.Texts.{columns_in, shown, shown_line}
+use Rattle.tabled_draw.proofs.texts.columns_in.Given as goal
+
+abbrev pub invariant-loop-c : goal.invariant-loop-c
+invariant-loop-c l = record {
+  can : goal.iterator-loop-c.can_next l.c-iterator;
+  ends : goal.iterator-loop-c.is_finite l.c-iterator;
+  utf8 : IsUtf8 (chars_rest l.c-iterator);
+  same : l.columns + columns_in (map shown (chars (chars_rest l.c-iterator))) ≡ columns_in (map shown (chars l.fn.line));
+}

@@ -1,0 +1,28 @@
+use Rattle.std.proofs.Common.{◌≡◌, ◌∙◌, refl, sym, ap, List, ℕ, arith, lit<}
+use Rattle.std.specs.Prelude.{chars, map, max}
+use Rattle.std.specs.List.{fold}
+use Rattle.std.proofs.lemmas.Iterator.Consumers.{YieldsList-end}
+use Rattle.std.proofs.lemmas.Iterator.Splits.{YieldsList-from_str_split}
+use Rattle.std.specs.Str.Iter.{split_has_more, split_pattern, split_text}
+use Rattle.tabled_draw.proofs.Plain.{plain-widest}
+use Rattle.tabled_draw.proofs.Shown.{widest-more}
+use Rattle.tabled_draw.specs.Texts.{columns_in, shown, shown_line}
+use Rattle.tabled_draw.proofs.texts.widest.Goals as goal
+
+pub loop-line-init : goal.loop-line-init
+loop-line-init c = record { can = tt; ends = tt; most = refl }
+
+pub loop-line-preserved : goal.loop-line-preserved
+loop-line-preserved c = record {
+  can = tt;
+  ends = tt;
+  most = c.max-most.ensures ∙ ap (max c.loop-line.most) c.in_ok-columns_in.ensures ∙ widest-more (λ x. x.now) c.loop-line.most c.loop-line.yielded c.in-Some.line c.loop-line.invariant.most;
+}
+
+pub returns : goal.returns
+returns c =
+    let end = YieldsList-end (YieldsList-from_str_split 10 c.args.text.now (lit< tt) (ap split_text c.into_iter-line-iterator.ensures.into_iter_gives ∙ c.split-line-items.ensures.text) (ap split_has_more c.into_iter-line-iterator.ensures.into_iter_gives ∙ c.split-line-items.ensures.has_more) (ap split_pattern c.into_iter-line-iterator.ensures.into_iter_gives ∙ c.split-line-items.ensures.pattern)) c.loop-line.yielded _ c.loop-line.yielded_by _ _ c.in-None.is c.next.ensures.steps in
+    c.loop-line.invariant.most ∙ ap (λ lines. fold (λ most line. max most (columns_in line)) 0 (map shown_line lines)) end.0
+
+pub returns-then-is_plain : goal.returns-then-is_plain
+returns-then-is_plain c = plain-widest c.args.text.now (c.is_plain.ensures c.if-is_plain.true)

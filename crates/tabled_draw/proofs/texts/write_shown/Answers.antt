@@ -1,0 +1,50 @@
+use Rattle.std.proofs.Common.{◌≡◌, ◌∙◌, ◌+◌, ◌-◌, ◌++◌, ap, refl, sym, encode_utf8, false, arith}
+use Rattle.std.proofs.lemmas.List.{nil_from_length}
+use Rattle.std.proofs.lemmas.Str.{IsUtf8-past_char, chars-nil}
+use Rattle.std.specs.Prelude.{chars, map}
+use Rattle.std.specs.Str.Iter.{chars_rest}
+use Rattle.tabled_draw.proofs.Plain.{plain-bytes, plain-columns, plain-line}
+use Rattle.tabled_draw.proofs.Sent.{draws-bytes}
+use Rattle.tabled_draw.proofs.Shown.{counted, drawn-all, drawn-more, drawn-none, left-end, left-more}
+use Rattle.tabled_draw.specs.Texts.{columns_in, shown, shown_line}
+use Rattle.unicode_width.specs.Width.{char_width}
+use Rattle.tabled_draw.proofs.texts.write_shown.Goals as goal
+
+pub loop-c-init : goal.loop-c-init
+loop-c-init g c = record {
+  can = tt;
+  ends = tt;
+  utf8 = rw (c.into_iter-c-iterator.ensures.into_iter_gives, c.chars-c-items.ensures.rest) c.utf8.line;
+  drawn = rw (c.into_iter-c-iterator.ensures.into_iter_gives, c.chars-c-items.ensures.rest) (drawn-none _ _ _ _ refl);
+  left = rw (c.into_iter-c-iterator.ensures.into_iter_gives, c.chars-c-items.ensures.rest) refl;
+}
+
+pub loop-c-preserved : goal.loop-c-preserved
+loop-c-preserved g c =
+    let whole = chars_rest c.loop-c.c-iterator in
+    let rest = chars_rest c.next.new.self in
+    let step : whole ≡ encode_utf8 c.in-Some.c ++ rest = c.in-Some.ensures.steps.0 in
+    record {
+      can = tt;
+      ends = tt;
+      utf8 = IsUtf8-past_char whole rest c.in-Some.c c.loop-c.invariant.utf8 step;
+      drawn = drawn-more _ _ _ _ _ _ c.in-Some.c _ whole rest _ c.loop-c.invariant.utf8 step c.loop-c.invariant.drawn (c.as_bytes-in-loop-c.ensures.value ∙ c.encode_utf8.ensures.value ∙ ap encode_utf8 c.shown-c.ensures) c.in_ok-write-2.ensures.sends;
+      left = left-more c.in-Some.c c.loop-c.left _ _ _ _ c.width.result (c.width.ensures.value ∙ ap (char_width false) c.shown-c.ensures) (counted c.in-Some.c rest whole c.loop-c.invariant.utf8 step) c.loop-c.invariant.left (c.saturating_sub-left.ensures ∙ ap (λ n. c.loop-c.left - n) c.unwrap_or.ensures);
+    }
+
+pub returns : goal.returns
+returns g c =
+    let none = nil_from_length _ c.in-None.ensures.steps.0.0 in
+    record {
+      draws = drawn-all (g.W.Write.contents c.args.writer.now) (g.W.Write.contents c.loop-c.writer) c.args.held.now c.loop-c.held _ (shown_line c.args.line.now) none c.loop-c.invariant.drawn;
+      left = left-end c.loop-c.left _ _ none c.loop-c.invariant.left;
+    }
+
+pub returns-then-is_plain : goal.returns-then-is_plain
+returns-then-is_plain g c =
+    let plain = c.is_plain.ensures c.if-is_plain.true in
+    let line = plain-line c.args.line.now plain in
+    record {
+      draws = draws-bytes (g.W.Write.contents c.args.writer.now) c.args.held.now (g.W.Write.contents c.write.new.writer) c.write.new.self c.args.line.now _ (rw line (sym (plain-bytes c.args.line.now plain))) (rw c.as_bytes.ensures.value at c.in_ok-write.ensures.sends);
+      left = c.saturating_sub.ensures ∙ ap (λ n. c.args.room - n) (sym (plain-columns c.args.line.now plain) ∙ ap columns_in (sym line));
+    }
