@@ -1,3 +1,11 @@
 pub mod Before
+pub mod LawAsked
+pub mod LawBorders
+pub mod LawControls
+pub mod LawLines
+pub mod LawMaps
+pub mod LawOwners
+pub mod LawPicture
+pub mod LawSizes
 pub mod Owned
 pub mod Sent
