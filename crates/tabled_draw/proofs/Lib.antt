@@ -1,6 +1,14 @@
 pub mod Before
 pub mod Cells
 pub mod Laid
+pub mod LawAsked
+pub mod LawBorders
+pub mod LawControls
+pub mod LawLines
+pub mod LawMaps
+pub mod LawOwners
+pub mod LawPicture
+pub mod LawSizes
 pub mod Measured
 pub mod Owned
 pub mod Plain

@@ -2,9 +2,11 @@ pub mod Each
 pub mod Laid
 pub mod Lines
 pub mod Measured
+pub mod Overall
 pub mod OwnerRows
 pub mod Owners
 pub mod Picture
 pub mod Sent
 pub mod Sizes
+pub mod Standing
 pub mod Texts

@@ -3,6 +3,7 @@
 
 mod drawing;
 mod held;
+pub mod laws;
 mod layout;
 mod lines;
 mod owners;

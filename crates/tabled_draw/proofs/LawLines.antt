@@ -1,0 +1,351 @@
+-- A line of a picture, from its left edge to its right one.
+use Rattle.std.proofs.Common.{◌≡◌, ◌≢◌, ◌∙◌, ◌+◌, ◌-◌, ◌<◌, ◌≤◌, ◌⊎◌, ◌++◌, inl, inr, ℕ, Bool, true, false, cond, suc, zero, List, [], ◌∷◌, Option, None, Some, refl, sym, ap, ap₂, subst, arith, get_or, replicate, add-one, add-zero, eqb, append_assoc, append-nil}
+use Rattle.std.specs.Prelude.{◌&&◌}
+use Rattle.std.specs.Option.{unwrap_or}
+use Rattle.std.proofs.lemmas.Bool.{and_from, and_parts, cases_Bool, cases_lt, cond-true, cond-false, false≢true}
+use Rattle.std.proofs.lemmas.List.Sums.{sum_by-append, sum_by-cons}
+use Rattle.std.proofs.lemmas.Option.{same_Some}
+use Rattle.std.proofs.Math.Bool.{and-false}
+use borrow.Author.Tests.{eq-eqb, ne_eqb}
+use Rattle.tabled_draw.proofs.LawOwners.{LieWell, LiesIn, Owns, owner-both, owner-left, owner-owns, owner-right, owner-some}
+use Rattle.tabled_draw.proofs.LawSizes.{length-sizes, line-least, room-end, room-enough, start-next}
+use Rattle.tabled_draw.specs.Each.{each}
+use Rattle.tabled_draw.specs.Owners.{is_one, owner}
+use Rattle.tabled_draw.specs.Picture.{left, line, shows, shows_in, stretch, top}
+use Rattle.tabled_draw.specs.Sizes.{room, text_at, widths}
+use Rattle.tabled_draw.specs.Standing.{StandsIn}
+use Rattle.tabled_draw.specs.Texts.{columns_in, lines_of, widest}
+use Rattle.tabled_grid.proofs.SpanMaps.{same_place-self}
+use Rattle.tabled_grid.specs.Anchors.{Anchor}
+use Rattle.tabled_grid.specs.Entity.{place}
+use Rattle.tabled_grid.specs.Grid.{Grid}
+use Rattle.tabled_grid.specs.declared.records.axis.Axis.TheVariants.{Columns}
+use Rattle.unicode_width.specs.Width.{char_width}
+
+-- ---- the columns of characters
+
+columns-cons : (c : ℕ) (cs : List ℕ) → columns_in (c ∷ cs) ≡ unwrap_or (char_width false c) 0 + columns_in cs
+columns-cons c cs = sum_by-cons (λ d. unwrap_or (char_width false d) 0) c cs
+
+pub columns-append : (xs ys : List ℕ) → columns_in (xs ++ ys) ≡ columns_in xs + columns_in ys
+columns-append xs ys = sum_by-append (λ d. unwrap_or (char_width false d) 0) xs ys
+
+columns-replicate : (n c : ℕ) → char_width false c ≡ Some 1 → columns_in (replicate n c) ≡ n
+columns-replicate zero c one = refl
+columns-replicate (suc n) c one =
+    let go : columns_in (replicate n c) ≡ n = columns-replicate n c one in
+    let w : unwrap_or (char_width false c) 0 ≡ 1 = ap (λ x. unwrap_or x 0) one in
+    columns-cons c (replicate n c) ∙ ap₂ (λ x y. x + y) w go ∙ (let s : 1 + n ≡ suc n = omega arith in s)
+
+blank-one : char_width false 32 ≡ Some 1
+unfolding char_width
+blank-one = refl
+
+mark-one : (b c : Bool) → char_width false (cond b 124 (cond c 45 43)) ≡ Some 1
+unfolding char_width
+mark-one true c = refl
+mark-one false true = refl
+mark-one false false = refl
+
+pub columns-blank : (cs : List ℕ) → columns_in (32 ∷ cs) ≡ 1 + columns_in cs
+columns-blank cs = columns-cons 32 cs ∙ ap (λ x. x + columns_in cs) (ap (λ x. unwrap_or x 0) blank-one)
+
+-- ---- owners all round
+
+abbrev all_one : Option Anchor → Option Anchor → Option Anchor → Option Anchor → Bool
+all_one a b c d = (is_one a b && is_one a c) && is_one a d
+
+all-from : (a b c d : Option Anchor) (o : Anchor) → a ≡ Some o → b ≡ Some o → c ≡ Some o → d ≡ Some o → all_one a b c d ≡ true
+all-from a b c d o e f h k = and_from _ _ (and_from _ _ (ap₂ is_one e f ∙ same_place-self o.0) (ap₂ is_one e h ∙ same_place-self o.0)) (ap₂ is_one e k ∙ same_place-self o.0)
+
+all-not_right : (a b c d : Option Anchor) → is_one a b ≡ false → all_one a b c d ≡ false
+all-not_right a b c d f = ap (λ x. (x && is_one a c) && is_one a d) f
+
+all-not_down : (a b c d : Option Anchor) → is_one a c ≡ false → all_one a b c d ≡ false
+all-not_down a b c d f = ap (λ x. (is_one a b && x) && is_one a d) f ∙ ap (λ x. x && is_one a d) (and-false (is_one a b))
+
+all-not_last : (a b c d : Option Anchor) → is_one a d ≡ false → all_one a b c d ≡ false
+all-not_last a b c d f = ap (λ x. (is_one a b && is_one a c) && x) f ∙ and-false (is_one a b && is_one a c)
+
+all-parts : (a b c d : Option Anchor) → all_one a b c d ≡ true → (is_one a b ≡ true) × (is_one a c ≡ true) × (is_one a d ≡ true)
+all-parts a b c d t =
+    let outer : (is_one a b && is_one a c ≡ true) × (is_one a d ≡ true) = and_parts _ _ t in
+    let inner : (is_one a b ≡ true) × (is_one a c ≡ true) = and_parts _ _ outer.0 in
+    (inner.0, inner.1, outer.1)
+
+none-one : (a : Option Anchor) → is_one a None ≡ false
+none-one None = refl
+none-one (Some o) = refl
+
+-- ---- a part of a list of parts
+
+pub record Split {A : Type 0} (f : ℕ → List A) (n j : ℕ) : Type 0 where
+  pub rest : List A
+  pub is : each n f ≡ each j f ++ (f j ++ rest)
+
+pub split-each : {A : Type 0} (f : ℕ → List A) (n j : ℕ) → j < n → Split f n j
+split-each f zero j h = absurd (omega arith)
+split-each {A} f (suc n) j h = by (cases_lt j n) (split-each f n j)
+  where
+    by : (j < n) ⊎ (n ≤ j) → (j < n → Split f n j) → Split f (suc n) j
+    by (inl less) go = let s = go less in record { rest = s.rest ++ f n; is = ap (λ xs. xs ++ f n) s.is ∙ append_assoc (each j f) (f j ++ s.rest) (f n) ∙ ap (λ xs. each j f ++ xs) (append_assoc (f j) s.rest (f n)) }
+    by (inr more) go = let same : n ≡ j = omega arith in record { rest = []; is = ap (λ k. each k f ++ f k) same ∙ ap (λ xs. each j f ++ xs) (sym (append-nil (f j))) }
+
+module _ (g : Grid (List ℕ)) (es : List Anchor) (well : LieWell g.rows g.columns es) where
+  left-next : (j : ℕ) → j < g.columns → left g es (j + 1) ≡ left g es j + (get_or (widths g es) j 0 + 3)
+  left-next j h = start-next Columns g es j h
+
+  left-end : (o : Anchor) → LiesIn g.rows g.columns o → left g es (o.0.col + o.1.1) ≡ left g es o.0.col + (room Columns (widths g es) o.0.col o.1.1 + 3)
+  left-end o lies = room-end Columns (widths g es) o.0.col o.1.1 lies.wide (omega (arith, lies.right, length-sizes Columns g es))
+
+  -- what an owner shows is as wide as its room, with a blank at both sides
+  shows-wide : (n i j : ℕ) (o : Anchor) → owner g.rows g.columns es i j ≡ Some o → columns_in (shows g es n o) ≡ room Columns (widths g es) o.0.col o.1.1 + 2
+  shows-wide n i j o e =
+      let s = owner-some g.rows g.columns es i j o e in
+      let lines = lines_of (text_at g o.0) in
+      let k = n - top g es o.0.row - 1 in
+      let text = get_or lines k [] in
+      let wide = room Columns (widths g es) o.0.col o.1.1 in
+      let P : Anchor → Type 0 = λ x. widest (text_at g x.0) ≤ room Columns (widths g es) x.0.col x.1.1 in
+      let enough : widest (text_at g o.0) ≤ wide = subst P (sym s.is) (room-enough Columns g es well (place s.row s.col) s.below s.right) in
+      let within : columns_in text ≤ widest (text_at g o.0) = line-least lines 0 k in
+      let fill = wide - columns_in text + 1 in
+      let a : columns_in ((32 ∷ text) ++ replicate fill 32) ≡ columns_in (32 ∷ text) + columns_in (replicate fill 32) = columns-append (32 ∷ text) (replicate fill 32) in
+      a ∙ ap₂ (λ x y. x + y) (columns-blank text) (columns-replicate fill 32 blank-one) ∙ sum wide (columns_in text) (omega arith)
+    where
+      sum : (w c : ℕ) → c ≤ w → 1 + c + (w - c + 1) ≡ w + 2
+      sum w c h = omega arith
+
+  module _ (n u d : ℕ) where
+    abbrev up : ℕ → Option Anchor
+    up j = owner g.rows g.columns es u j
+
+    abbrev down : ℕ → Option Anchor
+    down j = owner g.rows g.columns es d j
+
+    -- one owner all round the edge before a column
+    abbrev joint : ℕ → Bool
+    joint j = all_one (up j) (up (j + 1)) (down j) (down (j + 1))
+
+    abbrev mark : ℕ → ℕ → ℕ
+    mark l r = cond (eqb u d) 124 (cond (eqb l r) 45 43)
+
+    abbrev edge_at : ℕ → List ℕ
+    edge_at j = stretch g es n u d j (j + 1) 1
+
+    abbrev column_at : ℕ → List ℕ
+    column_at j = stretch g es n u d (j + 1) (j + 1) (get_or (widths g es) j 0 + 2)
+
+    abbrev part : ℕ → List ℕ
+    part j = edge_at j ++ column_at j
+
+    joint-from : (j : ℕ) (o : Anchor) → up j ≡ Some o → down j ≡ Some o → up (j + 1) ≡ Some o → down (j + 1) ≡ Some o → joint j ≡ true
+    joint-from j o e f e' f' = all-from (up j) (up (j + 1)) (down j) (down (j + 1)) o e e' f f'
+
+    joint-parts : (j : ℕ) → joint j ≡ true → (is_one (up j) (up (j + 1)) ≡ true) × (is_one (up j) (down j) ≡ true) × (is_one (up j) (down (j + 1)) ≡ true)
+    joint-parts j t = all-parts (up j) (up (j + 1)) (down j) (down (j + 1)) t
+
+    -- where no owner is all round an edge
+    not-joint : (j : ℕ) → ((o : Anchor) → up j ≡ Some o → up (j + 1) ≡ Some o → down j ≡ Some o → down (j + 1) ≡ Some o → ⊥) → joint j ≡ false
+    not-joint j never = by (cases_Bool (joint j))
+      where
+        by : (joint j ≡ true) ⊎ (joint j ≡ false) → joint j ≡ false
+        by (inr f) = f
+        by (inl t) =
+            let parts = joint-parts j t in
+            let a = owner-both g.rows g.columns es well u j u (j + 1) parts.0 in
+            let b = owner-both g.rows g.columns es well u j d j parts.1 in
+            let c = owner-both g.rows g.columns es well u j d (j + 1) parts.2 in
+            absurd (never a.0 a.1 a.2 (b.2 ∙ sym b.1 ∙ a.1) (c.2 ∙ sym c.1 ∙ a.1))
+
+    stretch-one : (l r size : ℕ) → all_one (up l) (up r) (down l) (down r) ≡ true → stretch g es n u d l r size ≡ shows_in g es n l r (up l)
+    stretch-one l r size t = cond-true (all_one (up l) (up r) (down l) (down r)) (shows_in g es n l r (up l)) (replicate size (mark l r)) t
+
+    stretch-apart : (l r size : ℕ) → all_one (up l) (up r) (down l) (down r) ≡ false → stretch g es n u d l r size ≡ replicate size (mark l r)
+    stretch-apart l r size f = cond-false (all_one (up l) (up r) (down l) (down r)) (shows_in g es n l r (up l)) (replicate size (mark l r)) f
+
+    border-wide : (l r size : ℕ) → all_one (up l) (up r) (down l) (down r) ≡ false → columns_in (stretch g es n u d l r size) ≡ size
+    border-wide l r size f = ap columns_in (stretch-apart l r size f) ∙ columns-replicate size (mark l r) (mark-one (eqb u d) (eqb l r))
+
+    edge-none : (j : ℕ) → joint j ≡ true → edge_at j ≡ []
+    edge-none j t = stretch-one j (j + 1) 1 t ∙ none (up j)
+      where
+        none : (a : Option Anchor) → shows_in g es n j (j + 1) a ≡ []
+        none None = refl
+        none (Some o) = ap (λ b. cond (b && eqb j (o.0.col + 1)) (shows g es n o) []) (ne_eqb j (j + 1) (λ e. omega (arith, e)))
+
+    column-one : (j : ℕ) (o : Anchor) → up (j + 1) ≡ Some o → down (j + 1) ≡ Some o → column_at j ≡ cond (eqb (j + 1) (j + 1) && eqb (j + 1) (o.0.col + 1)) (shows g es n o) []
+    column-one j o e f = stretch-one (j + 1) (j + 1) (get_or (widths g es) j 0 + 2) (all-from (up (j + 1)) (up (j + 1)) (down (j + 1)) (down (j + 1)) o e e f f) ∙ ap (shows_in g es n (j + 1) (j + 1)) e
+
+    column-shows : (j : ℕ) (o : Anchor) → up (j + 1) ≡ Some o → down (j + 1) ≡ Some o → o.0.col ≡ j → column_at j ≡ shows g es n o
+    column-shows j o e f first = column-one j o e f ∙ cond-true _ (shows g es n o) [] (and_from _ _ (eq-eqb (j + 1) (j + 1) refl) (eq-eqb (j + 1) (o.0.col + 1) (ap (λ k. k + 1) (sym first))))
+
+    column-none : (j : ℕ) (o : Anchor) → up (j + 1) ≡ Some o → down (j + 1) ≡ Some o → o.0.col ≢ j → column_at j ≡ []
+    column-none j o e f later = column-one j o e f ∙ cond-false _ (shows g es n o) [] (ap (λ b. eqb (j + 1) (j + 1) && b) (ne_eqb (j + 1) (o.0.col + 1) (λ same. later (omega (arith, same)))) ∙ and-false (eqb (j + 1) (j + 1)))
+
+    -- how far a line has come: to an edge, or to the right edge of what it shows
+    data Reached (j w : ℕ) : Type 0 where
+      edge : joint j ≡ false → w ≡ left g es j → Reached j w
+      inside : (o : Anchor) → up j ≡ Some o → down j ≡ Some o → up (j + 1) ≡ Some o → down (j + 1) ≡ Some o → w ≡ left g es (o.0.col + o.1.1) → Reached j w
+
+    -- past a column that one owner has above and below
+    past : (j w : ℕ) (o : Anchor) → up (j + 1) ≡ Some o → down (j + 1) ≡ Some o → w ≡ left g es (o.0.col + o.1.1) → Reached (j + 1) w
+    past j w o e f is = by (cases_lt (j + 1) (o.0.col + o.1.1))
+      where
+        a : Owns g.rows g.columns es u (j + 1) o
+        a = owner-owns g.rows g.columns es well u (j + 1) o e
+
+        b : Owns g.rows g.columns es d (j + 1) o
+        b = owner-owns g.rows g.columns es well d (j + 1) o f
+
+        ends : o.0.col + o.1.1 ≡ j + 1 → (joint (j + 1) ≡ true) ⊎ (joint (j + 1) ≡ false) → joint (j + 1) ≡ false
+        ends last (inr apart) = apart
+        ends last (inl one) =
+            let both = owner-both g.rows g.columns es well u (j + 1) u (j + 1 + 1) (joint-parts (j + 1) one).0 in
+            let same : o ≡ both.0 = same_Some _ _ (sym e ∙ both.1) in
+            let far = owner-owns g.rows g.columns es well u (j + 1 + 1) o (both.2 ∙ ap Some (sym same)) in
+            absurd (omega (arith, far.right))
+
+        by : (j + 1 < o.0.col + o.1.1) ⊎ (o.0.col + o.1.1 ≤ j + 1) → Reached (j + 1) w
+        by (inl more) = inside o e f (a.all u (j + 1 + 1) a.top a.bottom (omega (arith, a.left)) (omega arith)) (b.all d (j + 1 + 1) b.top b.bottom (omega (arith, b.left)) (omega arith)) is
+        by (inr last) =
+            let same : o.0.col + o.1.1 ≡ j + 1 = omega (arith, a.right) in
+            edge (ends same (cases_Bool (joint (j + 1)))) (is ∙ ap (left g es) same)
+
+    columns-part : (j x y : ℕ) → columns_in (edge_at j) ≡ x → columns_in (column_at j) ≡ y → columns_in (part j) ≡ x + y
+    columns-part j x y e f = columns-append (edge_at j) (column_at j) ∙ ap₂ (λ x y. x + y) e f
+
+    more : (j w : ℕ) → j < g.columns → Reached j w → Reached (j + 1) (w + columns_in (part j))
+    more j w less (inside o e f e' f' is) =
+        let a = owner-owns g.rows g.columns es well u j o e in
+        let none : columns_in (part j) ≡ 0 = columns-part j 0 0 (ap columns_in (edge-none j (joint-from j o e f e' f'))) (ap columns_in (column-none j o e' f' (λ same. omega (arith, a.left, same)))) in
+        past j (w + columns_in (part j)) o e' f' (ap (λ x. w + x) none ∙ add-zero w ∙ is)
+    more j w less (edge apart is) = by (cases_Bool (is_one (up (j + 1)) (down (j + 1))))
+      where
+        first : columns_in (edge_at j) ≡ 1
+        first = border-wide j (j + 1) 1 apart
+
+        by : (is_one (up (j + 1)) (down (j + 1)) ≡ true) ⊎ (is_one (up (j + 1)) (down (j + 1)) ≡ false) → Reached (j + 1) (w + columns_in (part j))
+        by (inr two) =
+            let wide : columns_in (part j) ≡ 1 + (get_or (widths g es) j 0 + 2) = columns-part j 1 _ first (border-wide (j + 1) (j + 1) (get_or (widths g es) j 0 + 2) (all-not_down (up (j + 1)) (up (j + 1)) (down (j + 1)) (down (j + 1)) two)) in
+            let to = left-next j less in
+            edge (all-not_down (up (j + 1)) (up (j + 1 + 1)) (down (j + 1)) (down (j + 1 + 1)) two) (omega (arith, wide, to, is))
+        by (inl one) = begins (owner-both g.rows g.columns es well u (j + 1) d (j + 1) one)
+          where
+            begins : (o : Anchor) × (up (j + 1) ≡ Some o) × (down (j + 1) ≡ Some o) → Reached (j + 1) (w + columns_in (part j))
+            begins (o, e, f) = at (cases_lt o.0.col j)
+              where
+                a : Owns g.rows g.columns es u (j + 1) o
+                a = owner-owns g.rows g.columns es well u (j + 1) o e
+
+                b : Owns g.rows g.columns es d (j + 1) o
+                b = owner-owns g.rows g.columns es well d (j + 1) o f
+
+                at : (o.0.col < j) ⊎ (j ≤ o.0.col) → Reached (j + 1) (w + columns_in (part j))
+                at (inl before) =
+                    let x = a.all u j a.top a.bottom before (omega (arith, a.right)) in
+                    let y = b.all d j b.top b.bottom before (omega (arith, b.right)) in
+                    absurd (false≢true (sym apart ∙ joint-from j o x y e f))
+                at (inr here) =
+                    let col : o.0.col ≡ j = omega (arith, a.left) in
+                    let wide : columns_in (part j) ≡ 1 + (room Columns (widths g es) o.0.col o.1.1 + 2) = columns-part j 1 _ first (ap columns_in (column-shows j o e f col) ∙ shows-wide n u (j + 1) o e) in
+                    let to = left-end o a.lies in
+                    let same : left g es o.0.col ≡ left g es j = ap (left g es) col in
+                    past j (w + columns_in (part j)) o e f (omega (arith, wide, to, is, same))
+
+    begun : Reached 0 0
+    begun = edge (ap (λ a. all_one a (up (0 + 1)) (down 0) (down (0 + 1))) (owner-left g.rows g.columns es u)) refl
+
+    reached : (j : ℕ) → j ≤ g.columns → Reached j (columns_in (each j part))
+    reached zero h = begun
+    reached (suc j) h =
+        let go : Reached j (columns_in (each j part)) = reached j (omega arith) in
+        let next_one : Reached (j + 1) (columns_in (each j part) + columns_in (part j)) = more j (columns_in (each j part)) (omega arith) go in
+        subst (λ k. Reached k (columns_in (each j part ++ part j))) (add-one j) (subst (λ w. Reached (j + 1) w) (sym (columns-append (each j part) (part j))) next_one)
+
+    -- at the right edge of the table no owner reaches over
+    apart-last : joint g.columns ≡ false
+    apart-last = all-not_right (up g.columns) (up (g.columns + 1)) (down g.columns) (down (g.columns + 1)) (ap (is_one (up g.columns)) (owner-right g.rows g.columns es u (g.columns + 1) (omega arith)) ∙ none-one (up g.columns))
+
+    -- where not one owner is all round an edge, a line has come to that edge
+    reached-edge : (j : ℕ) → j ≤ g.columns → joint j ≡ false → columns_in (each j part) ≡ left g es j
+    reached-edge j h apart = by (reached j h)
+      where
+        by : Reached j (columns_in (each j part)) → columns_in (each j part) ≡ left g es j
+        by (edge _ is) = is
+        by (inside o e f e' f' _) = absurd (false≢true (sym apart ∙ joint-from j o e f e' f'))
+
+    pub line-wide : columns_in (line g es n u d) ≡ left g es g.columns + 1
+    line-wide = columns-append (each g.columns part) (edge_at g.columns) ∙ ap₂ (λ x y. x + y) (reached-edge g.columns (omega arith) apart-last) (border-wide g.columns (g.columns + 1) 1 apart-last)
+
+    -- ---- what stands in a line
+
+    abbrev pub mark_of : ℕ
+    mark_of = cond (eqb u d) 124 43
+
+    -- an edge stands where no owner is all round it
+    pub edge-stands : (j : ℕ) → j ≤ g.columns → ((o : Anchor) → up j ≡ Some o → up (j + 1) ≡ Some o → down j ≡ Some o → down (j + 1) ≡ Some o → ⊥) → StandsIn (line g es n u d) (left g es j) (mark_of ∷ [])
+    edge-stands j h never = by (cases_lt j g.columns)
+      where
+        apart : joint j ≡ false
+        apart = not-joint j never
+
+        edge_is : edge_at j ≡ mark_of ∷ []
+        edge_is = stretch-apart j (j + 1) 1 apart ∙ ap (λ b. cond (eqb u d) 124 (cond b 45 43) ∷ []) (ne_eqb j (j + 1) (λ e. omega (arith, e)))
+
+        by : (j < g.columns) ⊎ (g.columns ≤ j) → StandsIn (line g es n u d) (left g es j) (mark_of ∷ [])
+        by (inl less) =
+            let s = split-each part g.columns j less in
+            record {
+              before = each j part;
+              after = column_at j ++ (s.rest ++ edge_at g.columns);
+              is = ap (λ xs. xs ++ edge_at g.columns) s.is ∙ regroup (each j part) (edge_at j) (column_at j) s.rest (edge_at g.columns) ∙ ap (λ xs. each j part ++ (xs ++ (column_at j ++ (s.rest ++ edge_at g.columns)))) edge_is;
+              at = reached-edge j h apart;
+            }
+          where
+            regroup : (a b c r l : List ℕ) → (a ++ ((b ++ c) ++ r)) ++ l ≡ a ++ (b ++ (c ++ (r ++ l)))
+            regroup a b c r l = simp append_assoc
+        by (inr last) =
+            let same : g.columns ≡ j = omega arith in
+            record {
+              before = each j part;
+              after = [];
+              is = ap (λ k. each k part ++ edge_at k) same ∙ ap (λ xs. each j part ++ xs) (edge_is ∙ sym (append-nil (mark_of ∷ [])));
+              at = reached-edge j h apart;
+            }
+
+    -- after an edge that stands comes its column
+    column-stands : (j : ℕ) → j < g.columns → joint j ≡ false → StandsIn (line g es n u d) (left g es j + 1) (column_at j)
+    column-stands j less apart =
+        let s = split-each part g.columns j less in
+        record {
+          before = each j part ++ edge_at j;
+          after = s.rest ++ edge_at g.columns;
+          is = ap (λ xs. xs ++ edge_at g.columns) s.is ∙ regroup (each j part) (edge_at j) (column_at j) s.rest (edge_at g.columns);
+          at = columns-append (each j part) (edge_at j) ∙ ap₂ (λ x y. x + y) (reached-edge j (omega arith) apart) (border-wide j (j + 1) 1 apart);
+        }
+      where
+        regroup : (a b c r l : List ℕ) → (a ++ ((b ++ c) ++ r)) ++ l ≡ (a ++ b) ++ (c ++ (r ++ l))
+        regroup a b c r l = simp append_assoc
+
+    -- between two owners stand dashes
+    pub dashes-stand : (j : ℕ) → j < g.columns → u ≢ d → ((o : Anchor) → up (j + 1) ≡ Some o → down (j + 1) ≡ Some o → ⊥) → StandsIn (line g es n u d) (left g es j + 1) (replicate (left g es (j + 1) - left g es j - 1) 45)
+    dashes-stand j less between never =
+        let size = get_or (widths g es) j 0 + 2 in
+        let is : column_at j ≡ replicate size 45 = stretch-apart (j + 1) (j + 1) size (all-not_down (up (j + 1)) (up (j + 1)) (down (j + 1)) (down (j + 1)) (two (cases_Bool (is_one (up (j + 1)) (down (j + 1)))))) ∙ ap (replicate size) (ap₂ (λ x y. cond x 124 (cond y 45 43)) (ne_eqb u d between) (eq-eqb (j + 1) (j + 1) refl)) in
+        let many : size ≡ left g es (j + 1) - left g es j - 1 = omega (arith, left-next j less) in
+        subst (StandsIn (line g es n u d) (left g es j + 1)) (is ∙ ap (λ k. replicate k 45) many) (column-stands j less (not-joint j (λ o e e' f f'. never o e' f')))
+      where
+        two : (is_one (up (j + 1)) (down (j + 1)) ≡ true) ⊎ (is_one (up (j + 1)) (down (j + 1)) ≡ false) → is_one (up (j + 1)) (down (j + 1)) ≡ false
+        two (inr f) = f
+        two (inl t) = let both = owner-both g.rows g.columns es well u (j + 1) d (j + 1) t in absurd (never both.0 both.1 both.2)
+
+    -- what a cell shows stands at its left edge
+    pub cell-stands : (j : ℕ) (o : Anchor) → j < g.columns → o.0.col ≡ j → up (j + 1) ≡ Some o → down (j + 1) ≡ Some o → StandsIn (line g es n u d) (left g es j + 1) (shows g es n o)
+    cell-stands j o less first e f = subst (StandsIn (line g es n u d) (left g es j + 1)) (column-shows j o e f first) (column-stands j less (not-joint j begins))
+      where
+        begins : (p : Anchor) → up j ≡ Some p → up (j + 1) ≡ Some p → down j ≡ Some p → down (j + 1) ≡ Some p → ⊥
+        begins p a a' b b' =
+            let same : o ≡ p = same_Some _ _ (sym e ∙ a') in
+            let far = owner-owns g.rows g.columns es well u j o (a ∙ ap Some (sym same)) in
+            omega (arith, far.left)

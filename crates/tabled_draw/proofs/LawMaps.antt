@@ -1,0 +1,60 @@
+-- Merged cells that fit a table lie well, and so do those that are kept of any.
+use Rattle.std.proofs.Common.{◌≡◌, ◌∙◌, ℕ, List, Some, sym, ap, ap₂, subst}
+use Rattle.std.specs.FinMap.{entries, entries-from_sorted, entries_sorted, from_sorted, get, get-entries}
+use Rattle.std.proofs.lemmas.Option.{same_Some}
+use Rattle.tabled_draw.proofs.LawOwners.{LieWell}
+use Rattle.tabled_draw.specs.Overall.{HoldsOfPictures}
+use Rattle.tabled_draw.specs.Picture.{bytes_of, drawn}
+use Rattle.tabled_grid.proofs.Fitting.{anchors-fitting, anchors-of, fitting-fits, keep_fitting-all, keep_fitting-fits}
+use Rattle.tabled_grid.proofs.Members.{Member, sorted-find}
+use Rattle.tabled_grid.proofs.SpanMaps.{in_rect-from}
+use Rattle.tabled_grid.proofs.Spans.{positions_exact, positions_total}
+use Rattle.tabled_grid.specs.Anchors.{Anchor}
+use Rattle.tabled_grid.specs.Fitting.{fitting, keep_fitting}
+use Rattle.tabled_grid.specs.Grid.{Grid}
+use Rattle.tabled_grid.specs.Rectangles.{Fits}
+use Rattle.tabled_grid.specs.Spans.{AreAnchors, AreSpanSizes, SpanMap, position_cmp}
+
+pub fits-well : (m : SpanMap) (rows columns : ℕ) → Fits m rows columns → LieWell rows columns (entries m)
+fits-well m rows columns fits = record {
+  high = λ e i. (fits.sizes.each e.0 e.1 (has e i)).height;
+  wide = λ e i. (fits.sizes.each e.0 e.1 (has e i)).width;
+  bottom = λ e i. (fits.inside e.0 e.1 (has e i)).0;
+  right = λ e i. (fits.inside e.0 e.1 (has e i)).1;
+  apart = λ e f p i j h k. (let same : e.0 ≡ f.0 = fits.apart e.0 f.0 e.1 f.1 p (has e i) (has f j) (in_rect-from e.0 p e.1 h) (in_rect-from f.0 p f.1 k) in
+      ap₂ (λ x y. (x, y)) same (same_Some e.1 f.1 (sym (has e i) ∙ ap (get m) same ∙ has f j)));
+}
+  where
+    has : (e : Anchor) → Member e (entries m) → get m e.0 ≡ Some e.1
+    has e i = get-entries m e.0 ∙ sorted-find position_cmp positions_total positions_exact (entries m) e.0 e.1 (entries_sorted m) i
+
+pub kept-well : (m : SpanMap) (rows columns : ℕ) → AreSpanSizes m → LieWell rows columns (fitting rows columns (entries m))
+kept-well m rows columns sizes =
+    let kept = fitting rows columns (entries m) in
+    let valid : AreAnchors kept = anchors-fitting rows columns (entries m) (anchors-of m sizes) in
+    subst (λ (es : List Anchor). LieWell rows columns es) (entries-from_sorted position_cmp kept valid.sorted) (fits-well (from_sorted kept) rows columns (fitting-fits rows columns (entries m) (anchors-of m sizes)))
+
+-- what holds where merged cells of a list lie well
+pub holds : (Says : Grid (List ℕ) → List Anchor → Type 0) → ((g : Grid (List ℕ)) (es : List Anchor) → LieWell g.rows g.columns es → Says g es) → HoldsOfPictures Says
+holds Says each = record {
+  where_all_fit = λ g m fits. each g (entries m) (fits-well m g.rows g.columns fits);
+  of_drawn = λ g m sizes. each g (fitting g.rows g.columns (entries m)) (kept-well m g.rows g.columns sizes);
+}
+
+-- ---- what is drawn
+
+fitting-all : (m : SpanMap) (rows columns : ℕ) → Fits m rows columns → fitting rows columns (entries m) ≡ entries m
+fitting-all m rows columns fits =
+    let valid : AreAnchors (fitting rows columns (entries m)) = anchors-fitting rows columns (entries m) (anchors-of m fits.sizes) in
+    sym (entries-from_sorted position_cmp (fitting rows columns (entries m)) valid.sorted) ∙ ap entries (keep_fitting-all rows columns m fits)
+
+pub drawn-all : (g : Grid (List ℕ)) (m : SpanMap) → Fits m g.rows g.columns → drawn g m ≡ bytes_of g (entries m)
+unfolding drawn
+drawn-all g m fits = ap (bytes_of g) (fitting-all m g.rows g.columns fits)
+
+pub drawn-kept : (g : Grid (List ℕ)) (m : SpanMap) → AreSpanSizes m → drawn g m ≡ drawn g (keep_fitting g.rows g.columns m)
+unfolding drawn
+drawn-kept g m sizes =
+    let kept = fitting g.rows g.columns (entries m) in
+    let valid : AreAnchors kept = anchors-fitting g.rows g.columns (entries m) (anchors-of m sizes) in
+    ap (bytes_of g) (sym (entries-from_sorted position_cmp kept valid.sorted) ∙ sym (fitting-all (keep_fitting g.rows g.columns m) g.rows g.columns (keep_fitting-fits g.rows g.columns m sizes)))

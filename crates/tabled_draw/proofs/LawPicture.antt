@@ -1,0 +1,251 @@
+-- The lines of a picture, and what stands in them.
+use Rattle.std.proofs.Common.{◌≡◌, ◌≢◌, ◌∙◌, ◌+◌, ◌-◌, ◌<◌, ◌≤◌, ◌⊎◌, ◌++◌, inl, inr, ℕ, Bool, true, false, cond, suc, zero, List, [], ◌∷◌, Some, refl, sym, ap, ap₂, subst, arith, length, get_or, replicate, add-one, add-zero, append_assoc, length-append}
+use Rattle.std.specs.Prelude.{◌&&◌, ◌||◌, ◌==◌, not}
+use Rattle.std.specs.List.{AllByRecursion}
+use Rattle.std.proofs.lemmas.Bool.{and_from, cases_eq, cases_lt, cond-false, false≢true}
+use Rattle.std.proofs.lemmas.List.{get_or_append_left, get_or-append-add}
+use borrow.Author.Tests.{ne_eqb}
+use Rattle.tabled_draw.proofs.LawLines.{cell-stands, columns-append, columns-blank, line-wide, split-each}
+use Rattle.tabled_draw.proofs.LawOwners.{LieWell, LiesIn, Owned, owned, owner-inside, owner-lies, owner-owns}
+use Rattle.tabled_draw.proofs.LawOwners.Owned.{alone, held}
+use Rattle.tabled_draw.proofs.LawSizes.{get-singles, length-singles, line-least, room-end, length-sizes, room-enough, start-next}
+use Rattle.tabled_draw.specs.Each.{each}
+use Rattle.tabled_draw.specs.Owners.{owner, owner_in}
+use Rattle.tabled_draw.specs.Picture.{left, line, lines_of_row, picture, shows, top}
+use Rattle.tabled_draw.specs.Sizes.{heights, room, text_at, widths}
+use Rattle.tabled_draw.specs.Overall.{AreEquallyWide}
+use Rattle.tabled_draw.specs.Standing.{IsSeen, ShowsTexts, StandsAt, StandsIn, inner_height, inner_width, padded, text_line}
+use Rattle.tabled_draw.specs.Texts.{columns_in, lines_of, widest}
+use Rattle.tabled_grid.proofs.Members.{Member, any-from}
+use Rattle.tabled_grid.proofs.SpanMaps.{same_place-apart}
+use Rattle.tabled_grid.proofs.Geometry.{cases_place}
+use Rattle.tabled_grid.proofs.SpanMaps.{in_rect-from}
+use Rattle.tabled_grid.proofs.Lists.{all-append}
+use Rattle.tabled_grid.specs.Anchors.{Anchor, is_hidden_in}
+use Rattle.tabled_grid.specs.Entity.{same_place}
+use Rattle.tabled_grid.specs.Grid.{Grid, IsInside}
+use Rattle.tabled_grid.specs.Rectangles.{in_rect}
+use Rattle.tabled_grid.specs.declared.config.position.Position.{Position}
+use Rattle.tabled_grid.specs.declared.records.axis.Axis.TheVariants.{Columns, Rows}
+
+-- what no other merged cell holds owns itself
+pub owner-self : (es : List Anchor) (p : Position) → is_hidden_in es p ≡ false → (owner_in es p).0 ≡ p
+owner-self es p seen = by (owned es p)
+  where
+    by_place : Member (owner_in es p) es → in_rect (owner_in es p).0 (owner_in es p).1 p ≡ true → ((owner_in es p).0 ≡ p) ⊎ ((owner_in es p).0 ≢ p) → (owner_in es p).0 ≡ p
+    by_place m t (inl same) = same
+    by_place m t (inr other) = absurd (false≢true (sym seen ∙ any-from (λ (e : Anchor). in_rect e.0 e.1 p && not (same_place e.0 p)) (owner_in es p) es m (and_from _ _ t (ap not (same_place-apart (owner_in es p).0 p other)))))
+
+    by : Owned es p (owner_in es p) → (owner_in es p).0 ≡ p
+    by (held m h) = by_place m (in_rect-from _ _ _ h) (cases_place (owner_in es p).0 p)
+    by (alone is _) = ap (λ (x : Anchor). x.0) is
+
+-- a part of what stands, stands
+stands-part : (row : List ℕ) (columns : ℕ) (a b c : List ℕ) → StandsIn row columns (a ++ (b ++ c)) → StandsIn row (columns + columns_in a) b
+stands-part row columns a b c s = record {
+  before = s.before ++ a;
+  after = c ++ s.after;
+  is = s.is ∙ regroup s.before a b c s.after;
+  at = columns-append s.before a ∙ ap (λ n. n + columns_in a) s.at;
+}
+  where
+    regroup : (x a b c y : List ℕ) → x ++ ((a ++ (b ++ c)) ++ y) ≡ (x ++ a) ++ (b ++ (c ++ y))
+    regroup x a b c y = simp append_assoc
+
+all-each : (P : List ℕ → Type 0) (f : ℕ → List (List ℕ)) → ((i : ℕ) → AllByRecursion P (f i)) → (k : ℕ) → AllByRecursion P (each k f)
+all-each P f all zero = tt
+all-each P f all (suc k) = all-append P (each k f) (f k) (all-each P f all k) (all k)
+
+module _ (g : Grid (List ℕ)) (es : List Anchor) where
+  -- ---- which line of the picture is which
+
+  top-next : (i : ℕ) → i < g.rows → top g es (i + 1) ≡ top g es i + (get_or (heights g es) i 0 + 1)
+  top-next i h = start-next Rows g es i h
+
+  length-row : (i : ℕ) → length (lines_of_row g es i) ≡ get_or (heights g es) i 0 + 1
+  length-row i = ap suc (length-singles (λ y. line g es (top g es i + 1 + y) (i + 1) (i + 1)) (get_or (heights g es) i 0)) ∙ sym (add-one (get_or (heights g es) i 0))
+
+  length-rows : (i : ℕ) → i ≤ g.rows → length (each i (lines_of_row g es)) ≡ top g es i
+  length-rows zero h = refl
+  length-rows (suc i) h =
+      let go : length (each i (lines_of_row g es)) ≡ top g es i = length-rows i (omega arith) in
+      length-append (each i (lines_of_row g es)) (lines_of_row g es i) ∙ ap₂ (λ x y. x + y) go (length-row i) ∙ sym (top-next i (omega arith)) ∙ ap (top g es) (add-one i)
+
+  -- a line of the picture
+  pub record IsLine (n : ℕ) (row : List ℕ) : Type 0 where
+    pub inside : n < length (picture g es)
+    pub is : get_or (picture g es) n [] ≡ row
+
+  pub stands-at : (n columns : ℕ) (row text : List ℕ) → IsLine n row → StandsIn row columns text → StandsAt (picture g es) n columns text
+  stands-at n columns row text l s = record { inside = l.inside; stands = subst (λ x. StandsIn x columns text) (sym l.is) s }
+
+  module _ (low : 0 < g.rows) (far : 0 < g.columns) where
+    picture-is : picture g es ≡ each g.rows (lines_of_row g es) ++ (line g es (top g es g.rows) g.rows (g.rows + 1) ∷ [])
+    picture-is = cond-false ((g.rows == 0) || (g.columns == 0)) [] (each g.rows (lines_of_row g es) ++ (line g es (top g es g.rows) g.rows (g.rows + 1) ∷ [])) (ap₂ (λ x y. x || y) (ne_eqb g.rows 0 (λ e. omega (arith, e))) (ne_eqb g.columns 0 (λ e. omega (arith, e))))
+
+    pub length-picture : length (picture g es) ≡ top g es g.rows + 1
+    length-picture = ap length picture-is ∙ length-append (each g.rows (lines_of_row g es)) (line g es (top g es g.rows) g.rows (g.rows + 1) ∷ []) ∙ ap (λ n. n + 1) (length-rows g.rows (omega arith))
+
+    line-last : IsLine (top g es g.rows) (line g es (top g es g.rows) g.rows (g.rows + 1))
+    line-last =
+        let rows = each g.rows (lines_of_row g es) in
+        let before : length rows + 0 ≡ top g es g.rows = add-zero (length rows) ∙ length-rows g.rows (omega arith) in
+        record {
+          inside = omega (arith, length-picture);
+          is = ap (λ (xs : List (List ℕ)). get_or xs (top g es g.rows) []) picture-is ∙ ap (λ k. get_or (rows ++ (line g es (top g es g.rows) g.rows (g.rows + 1) ∷ [])) k []) (sym before) ∙ get_or-append-add rows (line g es (top g es g.rows) g.rows (g.rows + 1) ∷ []) 0 [];
+        }
+
+    line-at : (r y : ℕ) → r < g.rows → y < get_or (heights g es) r 0 + 1 → IsLine (top g es r + y) (get_or (lines_of_row g es r) y [])
+    line-at r y below less =
+        let s = split-each (lines_of_row g es) g.rows r below in
+        let end = line g es (top g es g.rows) g.rows (g.rows + 1) ∷ [] in
+        let whole : picture g es ≡ each r (lines_of_row g es) ++ (lines_of_row g es r ++ (s.rest ++ end)) = picture-is ∙ ap (λ xs. xs ++ end) s.is ∙ append_assoc (each r (lines_of_row g es)) (lines_of_row g es r ++ s.rest) end ∙ ap (λ xs. each r (lines_of_row g es) ++ xs) (append_assoc (lines_of_row g es r) s.rest end) in
+        let before : length (each r (lines_of_row g es)) ≡ top g es r = length-rows r (omega arith) in
+        let here : length (lines_of_row g es r) ≡ get_or (heights g es) r 0 + 1 = length-row r in
+        let a : length (each r (lines_of_row g es) ++ (lines_of_row g es r ++ (s.rest ++ end))) ≡ length (each r (lines_of_row g es)) + length (lines_of_row g es r ++ (s.rest ++ end)) = length-append (each r (lines_of_row g es)) (lines_of_row g es r ++ (s.rest ++ end)) in
+        let b : length (lines_of_row g es r ++ (s.rest ++ end)) ≡ length (lines_of_row g es r) + length (s.rest ++ end) = length-append (lines_of_row g es r) (s.rest ++ end) in
+        let all : length (picture g es) ≡ length (each r (lines_of_row g es) ++ (lines_of_row g es r ++ (s.rest ++ end))) = ap length whole in
+        record {
+          inside = omega arith;
+          is = ap (λ (xs : List (List ℕ)). get_or xs (top g es r + y) []) whole ∙ ap (λ k. get_or (each r (lines_of_row g es) ++ (lines_of_row g es r ++ (s.rest ++ end))) (k + y) []) (sym before) ∙ get_or-append-add (each r (lines_of_row g es)) (lines_of_row g es r ++ (s.rest ++ end)) y [] ∙ get_or_append_left (lines_of_row g es r) (s.rest ++ end) [] y (omega arith);
+        }
+
+    -- the line above a row, or below the last one
+    pub line-above : (i : ℕ) → i ≤ g.rows → IsLine (top g es i) (line g es (top g es i) i (i + 1))
+    line-above i h = by (cases_lt i g.rows)
+      where
+        by : (i < g.rows) ⊎ (g.rows ≤ i) → IsLine (top g es i) (line g es (top g es i) i (i + 1))
+        by (inl less) = subst (λ n. IsLine n (line g es (top g es i) i (i + 1))) (add-zero (top g es i)) (line-at i 0 less (omega arith))
+        by (inr end) = let same : g.rows ≡ i = omega arith in subst (λ k. IsLine (top g es k) (line g es (top g es k) k (k + 1))) same line-last
+
+    -- a line of a row
+    pub line-in : (i n : ℕ) → i < g.rows → top g es i < n → n < top g es (i + 1) → IsLine n (line g es n (i + 1) (i + 1))
+    line-in i n h above below =
+        let y = n - top g es i - 1 in
+        let less : y < get_or (heights g es) i 0 = omega (arith, top-next i h) in
+        let at : top g es i + suc y ≡ n = omega arith in
+        let at' : top g es i + 1 + y ≡ n = omega arith in
+        let row : get_or (lines_of_row g es i) (suc y) [] ≡ line g es n (i + 1) (i + 1) = get-singles (λ y. line g es (top g es i + 1 + y) (i + 1) (i + 1)) (get_or (heights g es) i 0) y [] less ∙ ap (λ k. line g es k (i + 1) (i + 1)) at' in
+        subst (λ x. IsLine n x) row (subst (λ k. IsLine k (get_or (lines_of_row g es i) (suc y) [])) at (line-at i (suc y) h (omega arith)))
+
+  -- the n-th line is the line above a row, or a line of one, among those of some rows
+  pub data Where (a h n : ℕ) : Type 0 where
+    border : (r : ℕ) → a < r → r < a + h → top g es r ≡ n → Where a h n
+    text : (r : ℕ) → a ≤ r → r < a + h → top g es r < n → n < top g es (r + 1) → Where a h n
+
+  locate : (a h n : ℕ) → a + h ≤ g.rows → top g es a < n → n < top g es (a + h) → Where a h n
+  locate a zero n end low high = let e : top g es (a + 0) ≡ top g es a = ap (top g es) (add-zero a) in absurd (omega arith)
+  locate a (suc h) n end low high = by (cases_lt n (top g es (a + h))) (locate a h n (omega arith) low)
+    where
+      past : n < top g es (a + h + 1)
+      past = let e : top g es (a + suc h) ≡ top g es (a + h + 1) = ap (top g es) (let same : a + suc h ≡ a + h + 1 = omega arith in same) in omega arith
+
+      wider : Where a h n → Where a (suc h) n
+      wider (border r x y e) = border r x (omega arith) e
+      wider (text r x y e f) = text r x (omega arith) e f
+
+      at : (h ≡ 0) ⊎ (h ≢ 0) → top g es (a + h) ≡ n → Where a (suc h) n
+      at (inl none) e = let same : top g es (a + h) ≡ top g es a = ap (top g es) (let z : a + h ≡ a = omega arith in z) in absurd (omega arith)
+      at (inr some) e = border (a + h) (omega arith) (omega arith) e
+
+      here : (n < top g es (a + h) + 1) ⊎ (top g es (a + h) + 1 ≤ n) → top g es (a + h) ≤ n → Where a (suc h) n
+      here (inl same) least = at (cases_eq h 0) (omega arith)
+      here (inr later) least = text (a + h) (omega arith) (omega arith) (omega arith) past
+
+      by : (n < top g es (a + h)) ⊎ (top g es (a + h) ≤ n) → (n < top g es (a + h) → Where a h n) → Where a (suc h) n
+      by (inl less) go = wider (go less)
+      by (inr more) go = here (cases_lt n (top g es (a + h) + 1)) more
+
+module _ (g : Grid (List ℕ)) (es : List Anchor) (well : LieWell g.rows g.columns es) where
+  pub equally-wide : AreEquallyWide g es
+  equally-wide = by ((g.rows == 0) || (g.columns == 0))
+    where
+      row : (i : ℕ) → AllByRecursion (λ line. columns_in line ≡ left g es g.columns + 1) (lines_of_row g es i)
+      row i = (line-wide g es well (top g es i) i (i + 1), all-each (λ line. columns_in line ≡ left g es g.columns + 1) (λ y. line g es (top g es i + 1 + y) (i + 1) (i + 1) ∷ []) (λ y. (line-wide g es well (top g es i + 1 + y) (i + 1) (i + 1), tt)) (get_or (heights g es) i 0))
+
+      by : (b : Bool) → AllByRecursion (λ line. columns_in line ≡ left g es g.columns + 1) (cond b [] (each g.rows (lines_of_row g es) ++ (line g es (top g es g.rows) g.rows (g.rows + 1) ∷ [])))
+      by true = tt
+      by false = all-append (λ line. columns_in line ≡ left g es g.columns + 1) (each g.rows (lines_of_row g es)) (line g es (top g es g.rows) g.rows (g.rows + 1) ∷ []) (all-each (λ line. columns_in line ≡ left g es g.columns + 1) (lines_of_row g es) row g.rows) (line-wide g es well (top g es g.rows) g.rows (g.rows + 1), tt)
+
+  -- ---- what a cell shows
+
+  module _ (p : Position) (it : IsSeen g es p) where
+    inside : IsInside g p
+    inside = it.inside
+
+    self : (owner_in es p).0 ≡ p
+    self = owner-self es p it.seen
+
+    lies : LiesIn g.rows g.columns (owner_in es p)
+    lies = owner-lies g.rows g.columns es well p inside.row inside.col
+
+    row_is : (owner_in es p).0.row ≡ p.row
+    row_is = ap (λ (q : Position). q.row) self
+
+    col_is : (owner_in es p).0.col ≡ p.col
+    col_is = ap (λ (q : Position). q.col) self
+
+    owns : (r : ℕ) → p.row < r → r ≤ p.row + (owner_in es p).1.0 → owner g.rows g.columns es r (p.col + 1) ≡ Some (owner_in es p)
+    owns r above below = (owner-owns g.rows g.columns es well (p.row + 1) (p.col + 1) (owner_in es p) (owner-inside g.rows g.columns es p.row p.col inside.row inside.col)).all r (p.col + 1) (omega (arith, row_is)) (omega (arith, row_is)) (omega (arith, col_is)) (omega (arith, col_is, lies.wide))
+
+    shows-stands : (n : ℕ) → top g es p.row < n → n < top g es (p.row + (owner_in es p).1.0) → StandsAt (picture g es) n (left g es p.col + 1) (shows g es n (owner_in es p))
+    shows-stands n low high = by (locate g es p.row (owner_in es p).1.0 n (omega (arith, row_is, lies.bottom)) low high)
+      where
+        low' : 0 < g.rows
+        low' = omega (arith, inside.row)
+
+        far' : 0 < g.columns
+        far' = omega (arith, inside.col)
+
+        by : Where g es p.row (owner_in es p).1.0 n → StandsAt (picture g es) n (left g es p.col + 1) (shows g es n (owner_in es p))
+        by (border r above below is) =
+            let l : IsLine g es n (line g es n r (r + 1)) = subst (λ k. IsLine g es k (line g es k r (r + 1))) is (line-above g es low' far' r (omega (arith, row_is, lies.bottom))) in
+            stands-at g es n (left g es p.col + 1) (line g es n r (r + 1)) (shows g es n (owner_in es p)) l (cell-stands g es well n r (r + 1) p.col (owner_in es p) inside.col col_is (owns r above (omega arith)) (owns (r + 1) (omega arith) (omega arith)))
+        by (text r above below x y) =
+            stands-at g es n (left g es p.col + 1) (line g es n (r + 1) (r + 1)) (shows g es n (owner_in es p)) (line-in g es low' far' r n (omega (arith, row_is, lies.bottom)) x y) (cell-stands g es well n (r + 1) (r + 1) p.col (owner_in es p) inside.col col_is (owns (r + 1) (omega arith) (omega arith)) (owns (r + 1) (omega arith) (omega arith)))
+
+    -- its room
+    width-enough : (k : ℕ) → columns_in (text_line g p k) ≤ room Columns (widths g es) p.col (owner_in es p).1.1
+    width-enough k =
+        let enough : widest (text_at g p) ≤ room Columns (widths g es) p.col (owner_in es p).1.1 = subst (λ (q : Position). widest (text_at g q) ≤ room Columns (widths g es) q.col (owner_in es p).1.1) self (room-enough Columns g es well p it.inside.row it.inside.col) in
+        let within : columns_in (text_line g p k) ≤ widest (text_at g p) = line-least (lines_of (text_at g p)) 0 k in
+        omega arith
+
+    width-inner : inner_width g es p ≡ room Columns (widths g es) p.col (owner_in es p).1.1 + 2
+    width-inner =
+        let end : left g es (p.col + (owner_in es p).1.1) ≡ left g es p.col + (room Columns (widths g es) p.col (owner_in es p).1.1 + 3) = room-end Columns (widths g es) p.col (owner_in es p).1.1 lies.wide (omega (arith, lies.right, col_is, length-sizes Columns g es)) in
+        omega arith
+
+    text-wide : (k : ℕ) → columns_in (text_line g p k) + 2 ≤ inner_width g es p
+    text-wide k = omega (arith, width-enough k, width-inner)
+
+    text-high : length (lines_of (text_at g p)) ≤ inner_height g es p
+    text-high =
+        let enough : length (lines_of (text_at g p)) ≤ room Rows (heights g es) p.row (owner_in es p).1.0 = subst (λ (q : Position). length (lines_of (text_at g q)) ≤ room Rows (heights g es) q.row (owner_in es p).1.0) self (room-enough Rows g es well p it.inside.row it.inside.col) in
+        let end : top g es (p.row + (owner_in es p).1.0) ≡ top g es p.row + (room Rows (heights g es) p.row (owner_in es p).1.0 + 1) = room-end Rows (heights g es) p.row (owner_in es p).1.0 lies.high (omega (arith, lies.bottom, row_is, length-sizes Rows g es)) in
+        omega arith
+
+    -- what it shows, in other words
+    shows-is : (k : ℕ) → shows g es (top g es p.row + 1 + k) (owner_in es p) ≡ padded (inner_width g es p) (text_line g p k)
+    shows-is k = ap (λ (q : Position). 32 ∷ get_or (lines_of (text_at g q)) (top g es p.row + 1 + k - top g es q.row - 1) [] ++ replicate (room Columns (widths g es) q.col (owner_in es p).1.1 - columns_in (get_or (lines_of (text_at g q)) (top g es p.row + 1 + k - top g es q.row - 1) []) + 1) 32) self
+        ∙ ap (λ i. 32 ∷ text_line g p i ++ replicate (room Columns (widths g es) p.col (owner_in es p).1.1 - columns_in (text_line g p i) + 1) 32) (let z : top g es p.row + 1 + k - top g es p.row - 1 ≡ k = omega arith in z)
+        ∙ ap (λ i. 32 ∷ text_line g p k ++ replicate i 32) fill
+      where
+        fill : room Columns (widths g es) p.col (owner_in es p).1.1 - columns_in (text_line g p k) + 1 ≡ inner_width g es p - columns_in (text_line g p k) - 1
+        fill = omega (arith, width-enough k, width-inner)
+
+    text-alone : (k : ℕ) → k < inner_height g es p → StandsAt (picture g es) (top g es p.row + 1 + k) (left g es p.col + 1) (padded (inner_width g es p) (text_line g p k))
+    text-alone k less = subst (λ t. StandsAt (picture g es) (top g es p.row + 1 + k) (left g es p.col + 1) t) (shows-is k) (shows-stands (top g es p.row + 1 + k) (omega arith) (omega arith))
+
+    text-whole : (k : ℕ) → k < length (lines_of (text_at g p)) → StandsAt (picture g es) (top g es p.row + 1 + k) (left g es p.col + 2) (text_line g p k)
+    text-whole k less =
+        let s = text-alone k (omega (arith, text-high)) in
+        let row = get_or (picture g es) (top g es p.row + 1 + k) [] in
+        let part = stands-part row (left g es p.col + 1) (32 ∷ []) (text_line g p k) (replicate (inner_width g es p - columns_in (text_line g p k) - 1) 32) s.stands in
+        record { inside = s.inside; stands = subst (λ n. StandsIn row n (text_line g p k)) two part }
+      where
+        two : left g es p.col + 1 + columns_in (32 ∷ []) ≡ left g es p.col + 2
+        two = omega (arith, columns-blank [])
+
+  pub shows-texts : ShowsTexts g es
+  shows-texts = record { whole = text-whole; alone = text-alone; high = text-high; wide = text-wide }
