@@ -1,5 +1,6 @@
 pub mod Before
 pub mod Cells
+pub mod Example
 pub mod Laid
 pub mod LawAsked
 pub mod LawBorders

@@ -1,9 +1,10 @@
 -- Bytes that are held, and then sent.
-use Rattle.std.proofs.Common.{◌≡◌, ◌∙◌, ◌+◌, ◌-◌, ◌≤◌, ◌++◌, ℕ, List, [], ◌∷◌, Option, append-nil, append_assoc, ap, ap₂, arith, drop, length, length-append, length-drop, refl, replicate, subst, sym, take}
+use Rattle.std.proofs.Common.{◌≡◌, ◌∙◌, ◌+◌, ◌-◌, ◌<◌, ◌≤◌, ◌++◌, ℕ, List, [], ◌∷◌, Option, append-nil, append_assoc, ap, ap₂, arith, drop, length, length-append, length-drop, refl, replicate, subst, sym, take}
 use Rattle.std.specs.Prelude.{encode_utf8_all}
 use Rattle.std.proofs.KnownBytes.{Appends-nil, Appends-trans}
+use Rattle.std.proofs.Math.ListN.{set}
 use Rattle.std.proofs.Math.Seq.{take-add, take-append_seam}
-use Rattle.std.proofs.lemmas.List.{length-take-le, replicate-append-replicate, take_all}
+use Rattle.std.proofs.lemmas.List.{length-take-le, replicate-append-replicate, take_all, take_more_set}
 use Rattle.std.proofs.lemmas.Str.{encodes-append}
 use Rattle.std.specs.Io.KnownBytes.{Appends}
 use Rattle.tabled_draw.specs.Sent.{Draws, Sends}
@@ -70,6 +71,13 @@ put-part a b held xs ys mid post bytes len n room same long is = by room
     by : Room a b held xs len → Sends a held b (take (len + n) (take len ys ++ (mid ++ post))) bytes
     by (emptied wrote none) = rw now (held, wrote, ap (λ k. held ++ (take k xs ++ bytes)) (sym none))
     by (kept one is_held low) = rw (← one) (sends-held a held _ bytes (now ∙ ap (λ z. z ++ bytes) (sym is_held)))
+
+pub put-byte : (a b : Option (List ℕ)) (held xs : List ℕ) (len byte : ℕ) → Room a b held xs len → len < length xs → Sends a held b (take (len + 1) (set xs len byte)) (byte ∷ [])
+put-byte a b held xs len byte room low = by room
+  where
+    by : Room a b held xs len → Sends a held b (take (len + 1) (set xs len byte)) (byte ∷ [])
+    by (emptied wrote none) = rw (take_more_set xs len byte low) (held, wrote, ap (λ k. held ++ (take k xs ++ (byte ∷ []))) (sym none))
+    by (kept one is_held _) = rw (← one) (sends-held a held _ (byte ∷ []) (take_more_set xs len byte low ∙ ap (λ z. z ++ (byte ∷ [])) (sym is_held)))
 
 -- one byte more and more
 pub sends-repeat : (a b c : Option (List ℕ)) (h i j : List ℕ) (byte count left n k : ℕ) → n ≤ left → left ≤ count → k ≡ count - (left - n) → Sends a h b i (replicate (count - left) byte) → Sends b i c j (replicate n byte) → Sends a h c j (replicate k byte)

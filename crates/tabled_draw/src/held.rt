@@ -50,7 +50,13 @@ impl Held {
     pub(crate) fn push<W: Write>(&mut self, writer: &mut W, byte: u8) -> io::Result<()>
         ensures sends { OnOk result (Sends (W.contents writer.old) self.old (W.contents writer.new) self.new (byte ∷ [])) }
     {
-        self.repeat(writer, byte, 1)
+        if self.len == self.bytes.len() {
+            writer.write_all(&self.bytes)?;
+            self.len = 0;
+        }
+        self.bytes[self.len] = byte;
+        self.len += 1;
+        Ok(())
     }
 
     /// Sends bytes, or holds them.
