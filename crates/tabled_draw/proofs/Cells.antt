@@ -1,5 +1,5 @@
 -- Bytes and cells that are drawn.
-use Rattle.std.proofs.Common.{◌≡◌, ◌∙◌, ◌+◌, ◌-◌, ◌<◌, ◌++◌, ℕ, suc, zero, List, [], ◌∷◌, Option, append-nil, append_assoc, ap, ap₂, refl, replicate, sym}
+use Rattle.std.proofs.Common.{◌≡◌, ◌∙◌, ◌+◌, ◌-◌, ◌<◌, ◌++◌, ℕ, suc, zero, List, [], ◌∷◌, Option, ap, ap₂, refl, replicate, sym}
 use Rattle.std.specs.Prelude.{encode_utf8_all}
 use Rattle.std.proofs.lemmas.List.{replicate-append-replicate}
 use Rattle.std.proofs.lemmas.Str.{encode_ascii}

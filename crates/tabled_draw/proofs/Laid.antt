@@ -1,15 +1,12 @@
 -- Tables that are laid out.
-use Rattle.std.proofs.Common.{◌≡◌, ◌∙◌, ◌+◌, ◌<◌, ℕ, List, [], ap, ap₂, arith, get_or, length, refl, replicate, sym}
+use Rattle.std.proofs.Common.{◌≡◌, ◌∙◌, ◌+◌, ◌<◌, ℕ, List, ap, ap₂, arith, get_or, length, replicate}
 use Rattle.std.specs.FinMap.{entries, entries-from_sorted}
-use Rattle.std.specs.List.{fold}
-use Rattle.std.proofs.lemmas.List.{length-replicate}
 use Rattle.tabled_draw.proofs.Measured.{length-each, measured-none}
 use Rattle.tabled_draw.proofs.Rows.{sizes-long}
-use Rattle.tabled_draw.proofs.Sizes.{sizes-is}
 use Rattle.tabled_draw.specs.Laid.{AreEdges}
 use Rattle.tabled_draw.specs.Measured.{Measured}
 use Rattle.tabled_draw.specs.Picture.{bytes_of, drawn}
-use Rattle.tabled_draw.specs.Sizes.{grown_for, own_sizes, sizes, start, widths}
+use Rattle.tabled_draw.specs.Sizes.{own_sizes, start, widths}
 use Rattle.tabled_grid.proofs.Fitting.{anchors-fitting, keep_fitting-fits}
 use Rattle.tabled_grid.proofs.SortedAnchors.{anchors-of}
 use Rattle.tabled_grid.specs.Along.{count_along}
@@ -19,7 +16,7 @@ use Rattle.tabled_grid.specs.Grid.{Grid}
 use Rattle.tabled_grid.specs.Rectangles.{Fits}
 use Rattle.tabled_grid.specs.Spans.{AreSpanSizes, SpanMap, position_cmp}
 use Rattle.tabled_grid.specs.declared.records.axis.Axis.{Axis}
-use Rattle.tabled_grid.specs.declared.records.axis.Axis.TheVariants.{Rows, Columns}
+use Rattle.tabled_grid.specs.declared.records.axis.Axis.TheVariants.{Columns}
 
 module _ (g : Grid (List ℕ)) (m kept : SpanMap) (rows columns : ℕ) (is_rows : rows ≡ g.rows) (is_columns : columns ≡ g.columns) (is : kept ≡ keep_fitting rows columns m) (valid : AreSpanSizes m) where
   pub fits-of : Fits kept g.rows g.columns

@@ -1,9 +1,7 @@
 -- Sizes, as texts are asked one after another.
-use Rattle.std.proofs.Common.{◌≡◌, ◌≢◌, ◌∙◌, ◌+◌, ◌-◌, ◌<◌, ◌≤◌, ◌⊎◌, inl, inr, ◌++◌, ℕ, suc, zero, Bool, true, false, cond, List, [], ◌∷◌, Option, None, Some, refl, sym, ap, ap₂, subst, arith, length, get_or, replicate, length-append, add-one}
+use Rattle.std.proofs.Common.{◌≡◌, ◌≢◌, ◌∙◌, ◌+◌, ◌<◌, ◌≤◌, ◌⊎◌, inl, inr, ◌++◌, ℕ, suc, zero, cond, List, [], ◌∷◌, Option, Some, refl, sym, ap, ap₂, arith, length, get_or, replicate, length-append, add-one}
 use Rattle.std.specs.Prelude.{max}
-use Rattle.std.specs.FinMap.{entries}
-use Rattle.std.specs.Option.{unwrap_or}
-use Rattle.std.proofs.lemmas.Bool.{cases_Bool, cases_lt, cond-true, cond-false, false≢true}
+use Rattle.std.proofs.lemmas.Bool.{cases_lt, cond-true, cond-false}
 use Rattle.std.proofs.lemmas.List.{ext_get_or, get_or_append_left, get_or_push, get_or-replicate, get_or-set_other, get_or-set_same, length-replicate}
 use Rattle.std.proofs.Math.ListN.{length-set, set}
 use Rattle.tabled_draw.proofs.Before.{After, Before, after-next, before-from, before-next, before-none, before-row, cases_before, after-from, here-next}
@@ -11,13 +9,12 @@ use Rattle.tabled_draw.specs.Each.{each, largest}
 use Rattle.tabled_draw.specs.Measured.{Measured, raised}
 use Rattle.tabled_draw.specs.OwnerRows.{is_before}
 use Rattle.tabled_draw.specs.Owners.{owner_in}
-use Rattle.tabled_draw.specs.Sizes.{asks, own, own_of, own_sizes, text_at}
-use Rattle.tabled_grid.proofs.Geometry.{cases_place}
+use Rattle.tabled_draw.specs.Sizes.{own, own_sizes}
 use Rattle.tabled_grid.specs.Along.{count_along}
 use Rattle.tabled_grid.specs.Anchors.{Anchor}
-use Rattle.tabled_grid.specs.Axis.{across, line_of, lines_in, place_in}
-use Rattle.tabled_grid.specs.Entity.{place, same_place}
-use Rattle.tabled_grid.specs.Grid.{Grid, cell_at}
+use Rattle.tabled_grid.specs.Axis.{across, line_of, place_in}
+use Rattle.tabled_grid.specs.Entity.{place}
+use Rattle.tabled_grid.specs.Grid.{Grid}
 use Rattle.tabled_grid.specs.declared.config.position.Position.{Position}
 use Rattle.tabled_grid.specs.declared.records.axis.Axis.{Axis}
 use Rattle.tabled_grid.specs.declared.records.axis.Axis.TheVariants.{Rows, Columns}

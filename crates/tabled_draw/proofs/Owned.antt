@@ -1,6 +1,6 @@
 -- Who owns a place.
-use Rattle.std.proofs.Common.{◌≡◌, ◌≢◌, ◌∙◌, ◌+◌, ◌-◌, ◌<◌, ◌≤◌, ◌⊎◌, inl, inr, ℕ, Bool, true, false, cond, IsTrue, List, [], ◌∷◌, Option, None, Some, suc, zero, add-one, refl, sym, ap, ap₂, subst, arith, rules, length, get_or}
-use Rattle.std.specs.FinMap.{entries, entries_sorted, find, get, get-entries}
+use Rattle.std.proofs.Common.{◌≡◌, ◌≢◌, ◌∙◌, ◌+◌, ◌-◌, ◌<◌, ◌≤◌, ◌⊎◌, inl, inr, ℕ, true, false, cond, List, [], ◌∷◌, Option, None, Some, refl, sym, ap, ap₂, subst, arith, length, get_or}
+use Rattle.std.specs.FinMap.{entries, entries_sorted, get, get-entries}
 use Rattle.std.specs.Prelude.{◌&&◌, nat_le, nat_lt}
 use Rattle.std.specs.Option.{unwrap_or}
 use borrow.Author.Tests.{leb-true, ltb-true, le-leb, lt-ltb}
@@ -16,10 +16,10 @@ use Rattle.tabled_grid.proofs.SpanMaps.{in_rect-true, in_rect-from, size_at-some
 use Rattle.tabled_grid.proofs.SpanMaps.At.{none, some}
 use Rattle.tabled_grid.proofs.Spans.{positions_exact, positions_total}
 use Rattle.tabled_grid.specs.Anchors.{Anchor}
-use Rattle.tabled_grid.specs.Entity.{place, same_place}
+use Rattle.tabled_grid.specs.Entity.{place}
 use Rattle.tabled_grid.specs.Midway.{In}
 use Rattle.tabled_grid.specs.Rectangles.{Fits, in_rect}
-use Rattle.tabled_grid.specs.Spans.{SpanMap, size_at, AreSpanSizes, position_cmp}
+use Rattle.tabled_grid.specs.Spans.{SpanMap, size_at, position_cmp}
 use Rattle.tabled_grid.specs.declared.config.position.Position.{Position}
 
 -- the owner of a place is a merged cell of a list that holds it, or the place where there is none

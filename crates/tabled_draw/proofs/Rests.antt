@@ -1,8 +1,8 @@
 -- What is left of the texts in each column.
-use Rattle.std.proofs.Common.{◌≡◌, ◌≢◌, ◌∙◌, ◌+◌, ◌-◌, ◌<◌, ◌≤◌, ◌⊎◌, ◌++◌, inl, inr, ℕ, List, [], ◌∷◌, Option, Some, None, refl, sym, ap, ap₂, subst, arith, length, get_or, map, Bor}
+use Rattle.std.proofs.Common.{◌≡◌, ◌∙◌, ◌+◌, ◌<◌, ◌≤◌, ◌⊎◌, inl, inr, ℕ, List, [], refl, sym, ap, arith, length, get_or, map, Bor}
 use Rattle.std.proofs.lemmas.Bool.{cases_lt}
 use Rattle.std.proofs.lemmas.List.{get_or-map, get_or-set_other, get_or-set_same, length-map, map-set}
-use Rattle.std.proofs.Math.ListN.{length-set, set}
+use Rattle.std.proofs.Math.ListN.{set}
 
 -- the bytes of texts that are lent
 abbrev pub bytes_in : List (Bor (List ℕ)) → List (List ℕ)

@@ -1,25 +1,24 @@
 -- The lines of a row, and those of all rows.
-use Rattle.std.proofs.Common.{◌≡◌, ◌≢◌, ◌∙◌, ◌+◌, ◌-◌, ◌<◌, ◌≤◌, ◌⊎◌, ◌++◌, inl, inr, ℕ, suc, zero, Bool, true, false, cond, List, [], ◌∷◌, Option, Some, None, refl, sym, ap, ap₂, subst, arith, append_assoc, append-nil, eqb, get_or, length, add-one, add-zero}
-use Rattle.std.specs.Prelude.{◌||◌, ◌&&◌, ◌==◌, encode_utf8_all}
+use Rattle.std.proofs.Common.{◌≡◌, ◌∙◌, ◌+◌, ◌-◌, ◌<◌, ◌≤◌, ◌⊎◌, ◌++◌, inl, inr, ℕ, suc, zero, Bool, true, false, cond, List, [], ◌∷◌, Option, Some, refl, sym, ap, ap₂, subst, arith, append-nil, get_or, length, add-zero}
+use Rattle.std.specs.Prelude.{◌||◌, ◌&&◌, ◌==◌}
 use Rattle.std.specs.FinMap.{entries, get}
-use Rattle.std.specs.List.{flat_map, fold}
-use Rattle.std.proofs.lemmas.Bool.{cases_Bool, cases_lt, cond-true, cond-false, false≢true}
+use Rattle.std.specs.List.{fold}
+use Rattle.std.proofs.lemmas.Bool.{cases_Bool, cases_lt, cond-true, cond-false}
 use Rattle.std.proofs.lemmas.List.Concat.{flat_map-append}
-use Rattle.std.proofs.lemmas.Option.{same_Some}
 use borrow.Author.Tests.{eq-eqb}
 use Rattle.tabled_draw.proofs.Measured.{length-each}
 use Rattle.tabled_draw.proofs.Owned.{Inside, Owned, owned, owner-held, owner-inside, owner-some}
 use Rattle.tabled_draw.proofs.Owned.Owned.{alone, held}
 use Rattle.tabled_draw.proofs.Plain.{eq-false, next-line}
 use Rattle.tabled_draw.proofs.Sizes.{length-grown, start-more}
-use Rattle.tabled_draw.proofs.Stretches.{AreNext, IsIn, apart, each-more, line-is, one-in_row, owner-in}
+use Rattle.tabled_draw.proofs.Stretches.{AreNext, apart, each-more, line-is, one-in_row, owner-in}
 use Rattle.tabled_draw.specs.Each.{each}
-use Rattle.tabled_draw.specs.Lines.{AreLeft, EndInside, drawn_line, after_line, begins, begun, first_line, left_of}
+use Rattle.tabled_draw.specs.Lines.{AreLeft, EndInside, drawn_line, after_line, begins, begun, left_of}
 use Rattle.tabled_draw.specs.Laid.{AreEdges}
 use Rattle.tabled_draw.specs.OwnerRows.{IsOwnerRow}
 use Rattle.tabled_draw.specs.Owners.{is_one, owner, owner_in}
-use Rattle.tabled_draw.specs.Picture.{bytes_of, ended, line, lines_of_row, picture, top}
-use Rattle.tabled_draw.specs.Sizes.{gap, grown_for, heights, own_sizes, sizes, start, text_at}
+use Rattle.tabled_draw.specs.Picture.{ended, line, lines_of_row, picture, top}
+use Rattle.tabled_draw.specs.Sizes.{grown_for, heights, own_sizes, sizes, text_at}
 use Rattle.tabled_draw.specs.Texts.{lines_of}
 use Rattle.tabled_grid.proofs.SpanMaps.{same_place-self, same_place-true}
 use Rattle.tabled_grid.specs.Along.{count_along}

@@ -1,15 +1,12 @@
 -- Characters as they are shown, one by one.
-use Rattle.std.proofs.Common.{◌≡◌, ◌∙◌, ◌+◌, ◌-◌, ◌<◌, ◌≤◌, ◌++◌, ◌⊎◌, inl, inr, append-nil, ℕ, Bool, true, false, cond, List, [], ◌∷◌, Option, None, Some, refl, sym, ap, ap₂, append_assoc, encode_utf8, arith, length, eqb}
-use Rattle.std.specs.Prelude.{◌==◌, ◌&&◌, SomeIff, chars, encode_utf8_all, map, max, nat_le, nat_lt}
+use Rattle.std.proofs.Common.{◌≡◌, ◌∙◌, ◌+◌, ◌-◌, ◌++◌, append-nil, ℕ, false, List, [], ◌∷◌, Option, sym, ap, append_assoc, encode_utf8, arith}
+use Rattle.std.specs.Prelude.{chars, map, max}
 use Rattle.std.specs.List.{fold}
-use Rattle.std.specs.Option.{IsSome, unwrap_or}
+use Rattle.std.specs.Option.{unwrap_or}
 use Rattle.std.specs.Str.{IsUtf8}
-use Rattle.std.specs.Char.{InScalarRange, IsScalar}
-use Rattle.std.proofs.lemmas.Bool.{and_from, cases_Bool, cond-true, cond-false, false≢true}
 use Rattle.std.proofs.lemmas.List.{map-append}
 use Rattle.std.proofs.lemmas.List.Sums.{fold-append, sum_by-cons}
 use Rattle.std.proofs.lemmas.Str.{chars_past_char, chars-nil}
-use borrow.Author.Tests.{leb-true, ltb-true, le-leb, lt-ltb, leb-false, ltb-false, eq-eqb, ne_eqb}
 use Rattle.unicode_width.specs.Width.{char_width}
 use Rattle.tabled_draw.proofs.Sent.{draws-as, draws-bytes, draws-none, draws-then}
 use Rattle.tabled_draw.specs.Sent.{Draws, Sends}

@@ -1,5 +1,5 @@
 -- Sizes that grow, one merged cell after another.
-use Rattle.std.proofs.Common.{◌≡◌, ◌∙◌, ◌+◌, ◌-◌, ◌<◌, ◌≤◌, ◌⊎◌, inl, inr, ◌++◌, ℕ, suc, zero, List, [], ◌∷◌, Option, Some, refl, sym, ap, subst, arith, length, get_or, take, take_all}
+use Rattle.std.proofs.Common.{◌≡◌, ◌∙◌, ◌+◌, ◌-◌, ◌<◌, ◌≤◌, ℕ, List, [], ◌∷◌, Option, Some, sym, ap, subst, length, get_or, take, take_all}
 use Rattle.std.specs.FinMap.{entries}
 use Rattle.std.specs.List.{fold}
 use Rattle.std.specs.Option.{unwrap_or}
@@ -12,7 +12,7 @@ use Rattle.tabled_draw.specs.Sizes.{asks, gap, grown, grown_for, own_sizes, size
 use Rattle.tabled_grid.specs.Along.{count_along}
 use Rattle.tabled_grid.specs.Anchors.{Anchor}
 use Rattle.tabled_grid.specs.Axis.{line_of, lines_in}
-use Rattle.tabled_grid.specs.Grid.{Grid, IsInside, cell_at}
+use Rattle.tabled_grid.specs.Grid.{Grid, cell_at}
 use Rattle.tabled_grid.specs.Rectangles.{Fits}
 use Rattle.tabled_grid.specs.Spans.{SpanMap}
 use Rattle.tabled_grid.specs.declared.config.position.Position.{Position}

@@ -1,7 +1,7 @@
 -- A line that is drawn by what is known as it is written is the line of the picture.
-use Rattle.std.proofs.Common.{◌≡◌, ◌≢◌, ◌∙◌, ◌+◌, ◌-◌, ◌<◌, ◌≤◌, ◌⊎◌, ◌++◌, inl, inr, ℕ, suc, zero, Bool, true, false, cond, List, [], ◌∷◌, Option, Some, None, refl, sym, ap, ap₂, subst, arith, eqb, length, replicate, add-one, get_or}
+use Rattle.std.proofs.Common.{◌≡◌, ◌∙◌, ◌+◌, ◌-◌, ◌<◌, ◌≤◌, ◌⊎◌, ◌++◌, inl, inr, ℕ, suc, zero, Bool, true, false, cond, List, [], ◌∷◌, Option, Some, None, refl, sym, ap, ap₂, arith, eqb, length, replicate, add-one, get_or}
 use Rattle.std.specs.Prelude.{◌&&◌}
-use Rattle.std.specs.FinMap.{entries, get}
+use Rattle.std.specs.FinMap.{entries}
 use Rattle.std.proofs.lemmas.Bool.{and_from, and_parts, cases_Bool, cond-true, cond-false, false≢true}
 use borrow.Author.Tests.{eq-eqb, eqb-true}
 use Rattle.tabled_draw.proofs.Owned.{Inside, Owned, owned, owner-inside, owner-some}
@@ -9,7 +9,7 @@ use Rattle.tabled_draw.proofs.Owned.Owned.{alone, held}
 use Rattle.tabled_draw.proofs.Sizes.{start-more}
 use Rattle.tabled_draw.specs.Each.{each}
 use Rattle.tabled_draw.specs.Laid.{AreEdges}
-use Rattle.tabled_draw.specs.Lines.{AreLeft, cell, column, drawn_line, edge, first_line, inside, stretches}
+use Rattle.tabled_draw.specs.Lines.{column, drawn_line, edge, first_line, inside, stretches}
 use Rattle.tabled_draw.specs.OwnerRows.{IsOwnerRow}
 use Rattle.tabled_draw.specs.Owners.{is_one, owner, owner_in}
 use Rattle.tabled_draw.specs.Picture.{left, line, shows, shows_in, stretch, top}
@@ -17,11 +17,11 @@ use Rattle.tabled_draw.specs.Sizes.{room, text_at, widths}
 use Rattle.tabled_draw.specs.Texts.{columns_in, lines_of}
 use Rattle.tabled_grid.proofs.SpanMaps.{same_place-self}
 use Rattle.tabled_grid.specs.Anchors.{Anchor}
-use Rattle.tabled_grid.specs.Entity.{place, same_place}
+use Rattle.tabled_grid.specs.Entity.{place}
 use Rattle.tabled_grid.specs.Grid.{Grid}
 use Rattle.tabled_grid.specs.Rectangles.{Fits}
 use Rattle.tabled_grid.specs.Spans.{SpanMap}
-use Rattle.tabled_grid.specs.declared.records.axis.Axis.TheVariants.{Rows, Columns}
+use Rattle.tabled_grid.specs.declared.records.axis.Axis.TheVariants.{Columns}
 
 pub each-more : {A : Type 0} (f : ℕ → List A) (n : ℕ) → each (n + 1) f ≡ each n f ++ f n
 each-more f n = ap (λ k. each k f) (add-one n)

@@ -1,5 +1,5 @@
 -- Where columns and rows lie, and how much room drawing has.
-use Rattle.std.specs.Prelude.{◌≡◌, ◌+◌, ◌<◌, ◌≤◌, ℕ, List, [], length, slice_index_or}
+use Rattle.std.specs.Prelude.{◌≡◌, ◌+◌, ◌<◌, ℕ, List, [], length, slice_index_or}
 use Rattle.std.specs.FinMap.{entries}
 use Rattle.tabled_draw.specs.Picture.{left}
 use Rattle.tabled_draw.specs.Sizes.{heights}

@@ -1,5 +1,5 @@
 -- Lines of a picture, by what is known as they are written.
-use Rattle.std.specs.Prelude.{◌≡◌, ◌+◌, ◌-◌, ◌<◌, ◌==◌, ◌&&◌, ◌++◌, if◌then◌else◌, ℕ, Bool, true, false, List, [], ◌∷◌, Option, None, Some, replicate, slice_index_or}
+use Rattle.std.specs.Prelude.{◌≡◌, ◌+◌, ◌-◌, ◌<◌, ◌==◌, ◌&&◌, ◌++◌, if◌then◌else◌, ℕ, Bool, false, List, [], ◌∷◌, Option, None, Some, replicate, slice_index_or}
 use Rattle.std.specs.FinMap.{entries}
 use Rattle.std.specs.List.{All, after_first}
 use Rattle.tabled_draw.specs.Each.{each}

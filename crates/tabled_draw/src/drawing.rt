@@ -23,7 +23,10 @@ use std::mem;
 use tabled_grid::config::{Position, SpannedConfig};
 use tabled_grid::records::{CellText, ExactRecords, PeekableRecords, Records};
 
-/// A table that is laid out, with all the memory that drawing it takes.
+/// A table that is laid out, with all the memory that drawing it takes. A contract sees it as the bytes of its
+/// picture.
+///
+/// Of this project.
 #[derive(Drop)]
 pub struct Drawing<'a, R>
 where
@@ -63,7 +66,10 @@ where
 {
     ghost use Rattle.std.specs.Io.KnownBytes.{Appends};
 
-    /// Lays out a table.
+    /// Lays out a table (`r x c`), with those of its merged cells that lie inside and share no cell with another one.
+    ///
+    /// This asks for all the memory that drawing takes, which grows with the table and not with its picture. Refused
+    /// for memory, or where the widths or heights come to more than `usize::MAX`, it leaves the table as it is.
     pub fn new(alloc: Global, records: &'a R, cfg: &SpannedConfig) -> Result<Self, AllocError>
         requires well { R.is_well_formed records.now }
         ensures drawn { IfOk result (λ drawing. drawing ≡ drawn (map_grid R.Cell.text_of (R.grid records.now)) cfg.now) }
@@ -83,7 +89,7 @@ where
         })
     }
 
-    /// Writes the picture.
+    /// Writes the picture, part by part. It takes no memory and doesn't flush the writer.
     pub fn write<W: Write>(self, writer: &mut W) -> io::Result<()>
         ensures written { OnOk result (Appends (W.contents writer.old) (W.contents writer.new) self.entry) }
     {

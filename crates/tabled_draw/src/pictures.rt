@@ -12,7 +12,13 @@ use std::io::{self, Write};
 use tabled_grid::config::SpannedConfig;
 use tabled_grid::records::{CellText, ExactRecords, PeekableRecords, Records};
 
-/// Writes the picture of a table (`r x c`).
+/// Writes the picture of a table (`r x c`) with its merged cells, of which those that don't lie inside or that share a
+/// cell with another one are left out. Each line ends with a newline. A table without cells has no line.
+///
+/// All memory is asked for before the first byte is written: refused, this is an error of the kind `OutOfMemory`, and
+/// nothing is written. Any other error is the writer's. It doesn't flush the writer.
+///
+/// Of this project.
 pub fn draw<W, R>(alloc: Global, writer: &mut W, records: &R, cfg: &SpannedConfig) -> io::Result<()>
 where
     W: Write,
@@ -25,7 +31,9 @@ where
     drawing.write(writer)
 }
 
-/// The picture of a table as a text.
+/// The picture of a table (`r x c`) as a text, as `draw` writes it. It may be refused for memory.
+///
+/// Of this project.
 pub fn picture<R>(alloc: Global, records: &R, cfg: &SpannedConfig) -> Result<String, AllocError>
 where
     R: Records + ExactRecords + PeekableRecords,
@@ -40,6 +48,3 @@ where
     }
     String::from_utf8(bytes).map_err(|_| AllocError)
 }
-
-#[cfg(test)]
-mod tests;

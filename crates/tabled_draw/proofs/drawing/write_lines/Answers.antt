@@ -1,15 +1,12 @@
-use Rattle.std.proofs.Common.{◌≡◌, ◌∙◌, ◌+◌, ◌<◌, ◌≤◌, ◌++◌, ℕ, List, [], ◌∷◌, None, Option, ap, ap₂, arith, get_or, length, refl, subst, sym}
-use Rattle.std.proofs.lemmas.List.{get_or_default}
+use Rattle.std.proofs.Common.{◌≡◌, ◌∙◌, ◌+◌, ◌++◌, [], ◌∷◌, ap, arith, length, refl, sym}
 use Rattle.std.specs.FinMap.{entries}
 use Rattle.tabled_draw.proofs.Before.{count-none}
 use Rattle.tabled_draw.proofs.Owned.{owner-below, owner-top, row-outside}
 use Rattle.tabled_draw.proofs.Rests.{bytes_in}
 use Rattle.tabled_draw.proofs.Rows.{all-rows, between, end-inside, left-outside, more-rows}
 use Rattle.tabled_draw.proofs.Sent.{draws-as, draws-none, draws-then}
-use Rattle.tabled_draw.specs.Each.{each}
-use Rattle.tabled_draw.specs.Lines.{AreLeft}
 use Rattle.tabled_draw.specs.OwnerRows.{IsOwnerRow}
-use Rattle.tabled_draw.specs.Picture.{ended, line, lines_of_row, top}
+use Rattle.tabled_draw.specs.Picture.{line, top}
 use Rattle.tabled_grid.specs.Grid.{map_grid}
 use Rattle.tabled_draw.proofs.drawing.write_lines.Goals as goal
 

@@ -1,13 +1,12 @@
-use Rattle.std.proofs.Common.{◌≡◌, ◌∙◌, ◌+◌, ◌-◌, ◌<◌, ◌≤◌, ◌++◌, ℕ, List, [], ◌∷◌, None, Option, add-zero, ap, ap₂, arith, get_or, length, lit<, refl, subst, sym}
+use Rattle.std.proofs.Common.{◌≡◌, ◌∙◌, ◌+◌, ◌-◌, ◌<◌, ◌≤◌, ℕ, [], None, add-zero, ap, ap₂, arith, get_or, length, refl, subst, sym}
 use Rattle.std.specs.FinMap.{entries}
 use Rattle.tabled_draw.proofs.Rests.{bytes_in}
-use Rattle.tabled_draw.proofs.Rows.{all-below, between, end-inside, first-below, in-row, left-in_row, left-next_row, lines_below, more-below, top-more}
+use Rattle.tabled_draw.proofs.Rows.{all-below, between, end-inside, first-below, in-row, left-in_row, left-next_row, more-below, top-more}
 use Rattle.tabled_draw.proofs.Sent.{draws-as, draws-then}
 use Rattle.tabled_draw.specs.Lines.{AreLeft, begun, drawn_line, left_of}
 use Rattle.tabled_draw.specs.OwnerRows.{IsOwnerRow}
-use Rattle.tabled_draw.specs.Picture.{ended, line, top}
+use Rattle.tabled_draw.specs.Picture.{top}
 use Rattle.tabled_draw.specs.Sizes.{heights}
-use Rattle.tabled_grid.specs.Anchors.{Anchor}
 use Rattle.tabled_grid.specs.Entity.{place}
 use Rattle.tabled_grid.specs.Grid.{map_grid}
 use Rattle.tabled_draw.proofs.drawing.write_row.Goals as goal

@@ -1,5 +1,4 @@
-use Rattle.std.proofs.Common.{◌≡◌, ◌∙◌, ◌+◌, ◌<◌, ◌≤◌, ap, ap₂, arith, get_or, length, refl}
-use Rattle.std.specs.FinMap.{entries}
+use Rattle.std.proofs.Common.{◌≡◌, ◌∙◌, ap, ap₂, get_or, length, refl}
 use Rattle.tabled_draw.proofs.Sizes.{anchor-at, grown-all, grown-more, length-grown, lines-end, some-lines}
 use Rattle.tabled_draw.specs.Sizes.{grown}
 use Rattle.tabled_grid.specs.Axis.{line_of, lines_in}

@@ -1,11 +1,8 @@
-use Rattle.std.proofs.Common.{◌≡◌, ◌∙◌, ◌+◌, ◌<◌, ℕ, List, [], ap, arith, length, refl, sym}
-use Rattle.std.proofs.lemmas.List.{length-replicate}
+use Rattle.std.proofs.Common.{◌≡◌, ◌∙◌}
 use Rattle.std.specs.FinMap.{entries}
-use Rattle.tabled_draw.proofs.Laid.{bytes-drawn, edges-of, fits-of, none-asked, own-long}
-use Rattle.tabled_draw.proofs.Rows.{sizes-long}
+use Rattle.tabled_draw.proofs.Laid.{edges-of, none-asked, own-long}
 use Rattle.tabled_draw.proofs.Sizes.{sizes-is}
 use Rattle.tabled_draw.specs.Sizes.{heights, widths}
-use Rattle.tabled_grid.specs.Along.{count_along}
 use Rattle.tabled_grid.specs.Grid.{map_grid}
 use Rattle.tabled_grid.specs.declared.records.axis.Axis.TheVariants.{Rows, Columns}
 use Rattle.tabled_draw.proofs.layout.layout_of.Goals as goal

@@ -1,4 +1,4 @@
-use Rattle.std.proofs.Common.{◌≡◌, ◌∙◌, ◌+◌, arith, refl, sym}
+use Rattle.std.proofs.Common.{◌∙◌, arith, sym}
 use Rattle.std.specs.FinMap.{entries}
 use Rattle.tabled_draw.proofs.Before.{count-none}
 use Rattle.tabled_draw.proofs.Measured.{measured-all}

@@ -1,9 +1,9 @@
-use Rattle.std.proofs.Common.{◌≡◌, ◌∙◌, ◌+◌, ◌-◌, [], ℕ, List, Option, Some, None, ap, arith, eqb, false, true, get_or, lit<, refl, replicate, sym}
+use Rattle.std.proofs.Common.{◌≡◌, ◌∙◌, ◌+◌, ◌-◌, [], ℕ, List, Option, Some, None, ap, eqb, false, true, get_or, lit<, refl, replicate, sym}
 use Rattle.std.proofs.lemmas.Bool.{cond-true, cond-false}
 use Rattle.tabled_draw.proofs.Cells.{draws-repeat}
 use Rattle.tabled_draw.proofs.Plain.{eq-false}
 use Rattle.tabled_draw.proofs.Sent.{draws-as, draws-none}
-use Rattle.tabled_draw.specs.Lines.{column, inside}
+use Rattle.tabled_draw.specs.Lines.{column}
 use Rattle.tabled_draw.specs.Owners.{is_one}
 use Rattle.tabled_grid.specs.Anchors.{Anchor}
 use Rattle.tabled_draw.proofs.lines.write_column.Goals as goal

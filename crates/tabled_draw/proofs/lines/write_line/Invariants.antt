@@ -1,4 +1,4 @@
-use Rattle.std.proofs.Common.{◌≡◌, ◌+◌, ℕ, None, [], get_or, length}
+use Rattle.std.proofs.Common.{◌≡◌, ◌+◌, None, [], get_or, length}
 use Rattle.tabled_draw.proofs.Rests.{Changed, bytes_in}
 use Rattle.tabled_draw.specs.Each.{each}
 use Rattle.tabled_draw.specs.Lines.{left_of, stretches}

@@ -1,5 +1,4 @@
-use Rattle.std.proofs.Common.{◌≡◌, ◌≢◌, ◌∙◌, ◌+◌, ◌<◌, refl, sym, ap, subst, arith, get_or, ℕ, List, length, true, false}
-use Rattle.std.specs.FinMap.{entries}
+use Rattle.std.proofs.Common.{◌≡◌, ◌≢◌, ◌∙◌, sym, ap, arith, false}
 use Rattle.std.proofs.lemmas.Bool.{false≢true}
 use Rattle.tabled_draw.proofs.Before.{count-here, count-later, size-here, size-later}
 use Rattle.tabled_grid.proofs.SpanMaps.{same_place-self, same_place-true}

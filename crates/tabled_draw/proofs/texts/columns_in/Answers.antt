@@ -1,9 +1,7 @@
-use Rattle.std.proofs.Common.{◌≡◌, ◌∙◌, ◌+◌, ◌++◌, ap, refl, sym, zero-add, encode_utf8, false, arith}
+use Rattle.std.proofs.Common.{◌≡◌, ◌∙◌, ◌+◌, ◌++◌, ap, zero-add, encode_utf8, false}
 use Rattle.std.proofs.lemmas.List.{nil_from_length}
-use Rattle.std.proofs.lemmas.Str.{IsUtf8-past_char, chars-nil}
-use Rattle.std.specs.Prelude.{chars, map}
+use Rattle.std.proofs.lemmas.Str.{IsUtf8-past_char}
 use Rattle.std.specs.Str.Iter.{chars_rest}
-use Rattle.tabled_draw.specs.Texts.{columns_in, shown, shown_line}
 use Rattle.tabled_draw.proofs.Shown.{counted, counted-end, counted-more}
 use Rattle.unicode_width.specs.Width.{char_width}
 use Rattle.tabled_draw.proofs.texts.columns_in.Goals as goal

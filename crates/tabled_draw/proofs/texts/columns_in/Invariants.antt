@@ -2,7 +2,7 @@ use Rattle.std.proofs.Common.{◌≡◌, ◌+◌}
 use Rattle.std.specs.Prelude.{chars, map}
 use Rattle.std.specs.Str.{IsUtf8}
 use Rattle.std.specs.Str.Iter.{chars_rest}
-use Rattle.tabled_draw.specs.Texts.{columns_in, shown, shown_line}
+use Rattle.tabled_draw.specs.Texts.{columns_in, shown}
 use Rattle.tabled_draw.proofs.texts.columns_in.Given as goal
 
 abbrev pub invariant-loop-c : goal.invariant-loop-c

@@ -1,11 +1,10 @@
-use Rattle.std.proofs.Common.{◌≡◌, ◌∙◌, ◌==◌, refl, sym, ap, length, lit<}
-use Rattle.std.specs.Prelude.{chars, map}
+use Rattle.std.proofs.Common.{◌∙◌, ◌==◌, sym, ap, length, lit<}
 use Rattle.std.specs.List.{slice_split}
 use Rattle.std.proofs.lemmas.Iterator.Consumers.{count_from_yields_List}
 use Rattle.std.proofs.lemmas.Iterator.Splits.{YieldsList-from_str_split}
 use Rattle.std.proofs.lemmas.List.{length-map}
 use Rattle.tabled_draw.proofs.Plain.{plain-lines}
-use Rattle.tabled_draw.specs.Texts.{lines_of, shown, shown_line}
+use Rattle.tabled_draw.specs.Texts.{shown_line}
 use Rattle.tabled_draw.proofs.texts.count_lines.Goals as goal
 
 pub returns : goal.returns

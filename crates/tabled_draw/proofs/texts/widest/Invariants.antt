@@ -1,7 +1,7 @@
-use Rattle.std.proofs.Common.{◌≡◌, List, ℕ}
-use Rattle.std.specs.Prelude.{chars, map, max}
+use Rattle.std.proofs.Common.{◌≡◌}
+use Rattle.std.specs.Prelude.{map, max}
 use Rattle.std.specs.List.{fold}
-use Rattle.tabled_draw.specs.Texts.{columns_in, shown, shown_line}
+use Rattle.tabled_draw.specs.Texts.{columns_in, shown_line}
 use Rattle.tabled_draw.proofs.texts.widest.Given as goal
 
 abbrev pub invariant-loop-line : goal.invariant-loop-line

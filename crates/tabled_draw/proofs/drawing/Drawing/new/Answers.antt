@@ -1,10 +1,10 @@
-use Rattle.std.proofs.Common.{◌≡◌, ◌∙◌, ◌+◌, ◌<◌, ℕ, List, [], ap, arith, length, refl, sym}
+use Rattle.std.proofs.Common.{◌∙◌, ap, length}
 use Rattle.std.proofs.lemmas.List.{length-replicate}
 use Rattle.std.specs.FinMap.{entries}
 use Rattle.tabled_draw.proofs.Laid.{bytes-drawn, fits-of}
 use Rattle.tabled_draw.proofs.Rows.{sizes-long}
 use Rattle.tabled_grid.specs.Grid.{map_grid}
-use Rattle.tabled_grid.specs.declared.records.axis.Axis.TheVariants.{Rows, Columns}
+use Rattle.tabled_grid.specs.declared.records.axis.Axis.TheVariants.{Rows}
 use Rattle.tabled_draw.proofs.drawing.Drawing.new.Goals as goal
 
 pub layout_of-requires-clause-fits : goal.layout_of-requires-clause-fits

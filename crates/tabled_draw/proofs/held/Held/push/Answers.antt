@@ -1,6 +1,6 @@
-use Rattle.std.proofs.Common.{◌≡◌, ◌∙◌, ◌+◌, ◌≤◌, ◌<◌, List, ℕ, refl, sym, ap, arith, length}
+use Rattle.std.proofs.Common.{◌≡◌, ◌∙◌, ◌≤◌, ◌<◌, List, ℕ, refl, sym, ap, arith, length}
 use Rattle.std.proofs.lemmas.List.{take_all}
-use Rattle.tabled_draw.proofs.Sent.{Room, put-byte, room-len}
+use Rattle.tabled_draw.proofs.Sent.{Room, put-byte}
 use Rattle.tabled_draw.proofs.Sent.Room.{emptied, kept}
 use Rattle.tabled_draw.proofs.held.Held.push.Goals as goal
 use Rattle.tabled_draw.proofs.held.Held.push.Goals.{then-self-len+in_ok-write_all, else-self-len}

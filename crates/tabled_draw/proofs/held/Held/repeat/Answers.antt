@@ -1,4 +1,4 @@
-use Rattle.std.proofs.Common.{◌≤◌, ◌-◌, arith, refl, replicate}
+use Rattle.std.proofs.Common.{arith, refl}
 use Rattle.tabled_draw.proofs.Sent.{sends-repeat}
 use Rattle.tabled_draw.proofs.held.Held.repeat.Goals as goal
 

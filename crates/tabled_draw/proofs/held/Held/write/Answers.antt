@@ -1,4 +1,4 @@
-use Rattle.std.proofs.Common.{◌≡◌, ◌∙◌, ◌≤◌, ◌-◌, arith, length, length-drop, sym, take, drop}
+use Rattle.std.proofs.Common.{◌-◌, arith, length, length-drop, drop}
 use Rattle.std.proofs.lemmas.List.{length-take-le, take_all}
 use Rattle.tabled_draw.proofs.Sent.{sends-as, sends-part}
 use Rattle.tabled_draw.proofs.held.Held.write.Goals as goal

@@ -1,7 +1,6 @@
-use Rattle.std.proofs.Common.{◌≡◌, ◌∙◌, ◌+◌, ◌-◌, ◌≤◌, ◌++◌, rules, List, ℕ, refl, sym, ap, arith, length, replicate, subst, take}
+use Rattle.std.proofs.Common.{◌≡◌, ◌∙◌, ◌+◌, ◌-◌, ◌≤◌, ◌++◌, rules, List, ℕ, refl, sym, ap, arith, length, subst, take}
 use borrow.Rule.Slice.PartMut.{post_of}
 use Rattle.std.proofs.lemmas.List.{places, take_all, with_items_is}
-use Rattle.std.specs.Io.KnownBytes.{Appends}
 use Rattle.tabled_draw.specs.Sent.{Sends}
 use Rattle.tabled_draw.proofs.Sent.{Room, part-long, put-part, room-len}
 use Rattle.tabled_draw.proofs.Sent.Room.{emptied, kept}
