@@ -82,7 +82,7 @@ impl Call {
     ) -> Result<(), AllocError>
     where
         R: Records + ExactRecords + PeekableRecords + Resizable,
-        R: RecordsMut<String> + for<'t> RecordsMut<&'t str>,
+        R: RecordsMut<String> + RecordsMut<&'static str>,
         R::Cell: CellText,
         requires { R.is_well_formed records.old }
         ensures { R.is_well_formed records.new }

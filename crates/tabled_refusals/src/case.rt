@@ -83,15 +83,13 @@ impl<'a> Case<'a> {
                 Outcome::Wrong
             });
         }
-        let mut count = 0;
-        for part in &parts {
+        for count in 0..parts.len() {
             let (from, merged) = self.after(alloc, count)?;
-            count += 1;
             if cfg.anchors() != merged.anchors() {
                 continue;
             }
-            let is_left = if is_writer(part) {
-                let (to, _) = self.after(alloc, count)?;
+            let is_left = if is_writer(&parts[count]) {
+                let (to, _) = self.after(alloc, count + 1)?;
                 is_partly(records, &from, &to)
             } else {
                 is_partly(records, &from, &from)
