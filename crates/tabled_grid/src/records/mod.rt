@@ -1,6 +1,16 @@
 //! Stores of cells, and the traits that every store keeps.
 //!
 //! A contract sees a store as its grid alone, a shape and the list of its rows.
+//!
+//! Stores keep these traits:
+//!
+//! - `GridStore`: what the store means.
+//! - `Records` and `ExactRecords`: how many columns and rows it has.
+//! - `PeekableRecords`: the texts of its cells.
+//! - `RecordsMut`: its texts can be written.
+//! - `Resizable`: rows and columns are put in, taken out, exchanged and cut.
+//!
+//! Their cells keep `CellText` (has a text), `Blank` (can be made empty) and `FromText` (is made of a text).
 
 mod axis;
 mod blank;
