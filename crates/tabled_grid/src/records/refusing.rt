@@ -79,6 +79,8 @@ impl<S: GridStore> GridStore for Refusing<S> {
     ghost grid = { λ s. S.grid s.store };
 
     ghost is_well_formed = { λ s. S.is_well_formed s.store };
+
+    ghost even = { λ s. S.even s.store };
 }
 
 impl<S: Records> Records for Refusing<S> {
@@ -259,4 +261,6 @@ where
     {
         self.store.swap_column(j, k);
     }
+
+    ghost rowless = { λ s. S.rowless s.store };
 }

@@ -351,6 +351,9 @@ where
         self.truncate_lines(across, index);
         Ok(())
     }
+
+    /// A store without rows has no columns.
+    ghost rowless: { (s : Self) → Self.is_well_formed s → IsEmptyWithoutRows (Self.grid s) };
 }
 
 /// Shows that a store without rows has no columns, and changes nothing.

@@ -28,6 +28,8 @@ impl<T> GridStore for Vec<Vec<T>> {
     ghost grid = { λ rows. grid_of (map_items rows.items) };
 
     ghost is_well_formed = { λ rows. IsEven (grid_of (map_items rows.items)) };
+
+    ghost even = { λ _ well. well };
 }
 
 impl<T> Records for Vec<Vec<T>> {
