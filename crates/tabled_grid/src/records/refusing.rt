@@ -1,7 +1,7 @@
 //! A store that refuses one growth and one write.
 
 ghost use Rattle.std.specs.Prelude.{◌≡◌, ◌-◌, ◌<◌, ◌≤◌, IsErr, OnErr, OnOk};
-ghost use Rattle.tabled_grid.specs.Grid.{IsEmptyWithoutRows, IsInside, WritesText, map_grid, with_cell};
+ghost use Rattle.tabled_grid.specs.Grid.{IsInside, WritesText, map_grid, with_cell};
 ghost use Rattle.tabled_grid.specs.Resized.{InsertsColumn, InsertsRow, with_cells_swapped, with_columns_swapped, with_rows_swapped, without_column, without_row};
 
 use crate::config::Position;
@@ -139,7 +139,6 @@ where
     fn push_row(&mut self, alloc: Global) -> Result<(), AllocError>
         requires well { S.is_well_formed self.old.store }
         ensures well { S.is_well_formed self.new.store }
-        ensures rowless { OnOk result (IsEmptyWithoutRows (S.grid self.old.store)) }
         ensures ok { OnOk result (InsertsRow S.Cell.is_blank (S.grid self.old.store) (S.grid self.new.store) ((S.grid self.old.store).rows)) }
         ensures err { OnErr result (S.grid self.new.store ≡ S.grid self.old.store) }
         ensures counted { self.new.growth ≡ self.old.growth - 1 }
@@ -154,7 +153,6 @@ where
     fn push_column(&mut self, alloc: Global) -> Result<(), AllocError>
         requires well { S.is_well_formed self.old.store }
         ensures well { S.is_well_formed self.new.store }
-        ensures rowless { OnOk result (IsEmptyWithoutRows (S.grid self.old.store)) }
         ensures ok { OnOk result (InsertsColumn S.Cell.is_blank (S.grid self.old.store) (S.grid self.new.store) ((S.grid self.old.store).columns)) }
         ensures err { OnErr result (S.grid self.new.store ≡ S.grid self.old.store) }
         ensures counted { self.new.growth ≡ self.old.growth - 1 }
@@ -170,7 +168,6 @@ where
         requires well { S.is_well_formed self.old.store }
         requires within { i ≤ (S.grid self.old.store).rows }
         ensures well { S.is_well_formed self.new.store }
-        ensures rowless { OnOk result (IsEmptyWithoutRows (S.grid self.old.store)) }
         ensures ok { OnOk result (InsertsRow S.Cell.is_blank (S.grid self.old.store) (S.grid self.new.store) i) }
         ensures err { OnErr result (S.grid self.new.store ≡ S.grid self.old.store) }
         ensures counted { self.new.growth ≡ self.old.growth - 1 }
@@ -186,7 +183,6 @@ where
         requires well { S.is_well_formed self.old.store }
         requires within { j ≤ (S.grid self.old.store).columns }
         ensures well { S.is_well_formed self.new.store }
-        ensures rowless { OnOk result (IsEmptyWithoutRows (S.grid self.old.store)) }
         ensures ok { OnOk result (InsertsColumn S.Cell.is_blank (S.grid self.old.store) (S.grid self.new.store) j) }
         ensures err { OnErr result (S.grid self.new.store ≡ S.grid self.old.store) }
         ensures counted { self.new.growth ≡ self.old.growth - 1 }
@@ -214,7 +210,6 @@ where
         requires well { S.is_well_formed self.old.store }
         requires within { j < (S.grid self.old.store).columns }
         ensures well { S.is_well_formed self.new.store }
-        ensures rowless { IsEmptyWithoutRows (S.grid self.old.store) }
         ensures removed { S.grid self.new.store ≡ without_column (S.grid self.old.store) j }
         ensures growth { self.new.growth ≡ self.old.growth }
         ensures set { self.new.set ≡ self.old.set }
@@ -254,7 +249,6 @@ where
         requires j_within { j < (S.grid self.old.store).columns }
         requires k_within { k < (S.grid self.old.store).columns }
         ensures well { S.is_well_formed self.new.store }
-        ensures rowless { IsEmptyWithoutRows (S.grid self.old.store) }
         ensures swapped { S.grid self.new.store ≡ with_columns_swapped (S.grid self.old.store) j k }
         ensures growth { self.new.growth ≡ self.old.growth }
         ensures set { self.new.set ≡ self.old.set }

@@ -5,9 +5,6 @@ use Rattle.tabled_grid.proofs.AddedColumns.{columns_added_none}
 use Rattle.tabled_grid.proofs.FlatStore.{columns_put, full_put}
 use Rattle.tabled_grid.proofs.records.vec_records.resizable.VecRecordsResizable.push_columns.Goals as goal
 
-pub returns-then-many-eq0-clause-rowless : goal.returns-then-many-eq0-clause-rowless
-returns-then-many-eq0-clause-rowless g c = rw (← c.self.view_is) c.self.inside.full.rowless
-
 pub returns-then-many-eq0-clause-ok : goal.returns-then-many-eq0-clause-ok
 returns-then-many-eq0-clause-ok g c = rw c.if-many-eq0.true (columns_added_none g.T.Blank.is_blank _)
 
