@@ -65,7 +65,3 @@ module _ {A : Type 0} where
   pub rowless-first : (axis : Axis) (n : ℕ) (g : Grid A) → n ≤ count_along axis g → IsEmptyWithoutRows g → IsEmptyWithoutRows (first_along axis n g)
   rowless-first Rows n g h none e = rw e refl
   rowless-first Columns n g h none e = omega (arith, none e, h)
-
-  -- keeping all lines changes nothing
-  pub kept_all : (axis : Axis) (n : ℕ) (g new : Grid A) → n ≡ count_along axis g → IsEven g → IsEmptyWithoutRows g → new ≡ first_along axis n g → new ≡ g
-  kept_all axis n g new e even none is = is ∙ sym (first_all axis n g e even none)

@@ -1,27 +1,11 @@
 -- Rows cut out of one list of cells, and joined again.
 use Rattle.std.proofs.Common.{◌≡◌, ℕ, zero, suc, ◌*◌, List, [], ◌∷◌, ◌++◌, refl, sym, ap, ◌∙◌, length, take, drop, arith}
-use Rattle.std.specs.List.{AllByRecursion}
-use Rattle.std.proofs.lemmas.List.{length-append, length-drop, length-take-le, take-append-drop, take_at, drop_at, nil_from_length}
+use Rattle.std.proofs.lemmas.List.{length-append, length-drop, take-append-drop, take_at, drop_at, nil_from_length}
 use Rattle.tabled_grid.specs.Grid.{Grid, IsEven}
+use Rattle.tabled_grid.specs.Evenness.{AreWide}
 use Rattle.tabled_grid.specs.Flat.{IsFull, chunks, flat_grid, joined}
 
--- rows of n cells each
-abbrev pub AreWide : {A : Type 0} → ℕ → List (List A) → Type 0
-AreWide {A} c rows = AllByRecursion (λ (row : List A). length row ≡ c) rows
-
 module _ {A : Type 0} where
-  pub length-chunks : (r c : ℕ) (xs : List A) → length (chunks r c xs) ≡ r
-  length-chunks zero c xs = refl
-  length-chunks (suc r) c xs = ap suc (length-chunks r c (drop c xs))
-
-  pub wide-chunks : (r c : ℕ) (xs : List A) → length xs ≡ r * c → AreWide c (chunks r c xs)
-  wide-chunks zero c xs h = tt
-  wide-chunks (suc r) c xs h = (length-take-le c xs (omega (arith, h)), wide-chunks r c (drop c xs) (omega (arith, h, length-drop c xs)))
-
-  -- a list of all cells is a grid
-  pub is_even : (r c : ℕ) (xs : List A) → IsFull r c xs → IsEven (flat_grid r c xs)
-  is_even r c xs h = record { tall = length-chunks r c xs; wide = wide-chunks r c xs h.full }
-
   pub joined-chunks : (r c : ℕ) (xs : List A) → length xs ≡ r * c → joined (chunks r c xs) ≡ xs
   joined-chunks zero c xs h = sym (nil_from_length xs (omega (arith, h)))
   joined-chunks (suc r) c xs h = ap (λ ys. take c xs ++ ys) (joined-chunks r c (drop c xs) (omega (arith, h, length-drop c xs))) ∙ take-append-drop c xs

@@ -11,7 +11,8 @@ use Rattle.tabled_grid.specs.Resized.{with_cells_swapped}
 use Rattle.tabled_grid.proofs.Grids.{IsEven-with_cell}
 use Rattle.tabled_grid.proofs.Swaps.{at}
 use Rattle.tabled_grid.specs.Flat.{joined}
-use Rattle.tabled_grid.proofs.Flat.{AreWide, length-grid}
+use Rattle.tabled_grid.specs.Evenness.{AreWide}
+use Rattle.tabled_grid.proofs.Flat.{length-grid}
 
 module _ {A : Type 0} where
   slice_get-left : (xs ys : List A) (n : ℕ) → n < length xs → slice_get (xs ++ ys) n ≡ slice_get xs n

@@ -11,7 +11,8 @@ use Rattle.tabled_grid.proofs.Lists.{all-append, all-take, all-drop, all-set, al
 use Rattle.tabled_grid.proofs.Swaps.{at}
 use Rattle.tabled_grid.specs.Flat.{chunks, joined}
 use Rattle.tabled_grid.specs.Moves.{Slid}
-use Rattle.tabled_grid.proofs.Flat.{AreWide, joined-chunks, length-joined}
+use Rattle.tabled_grid.specs.Evenness.{AreWide}
+use Rattle.tabled_grid.proofs.Flat.{joined-chunks, length-joined}
 use Rattle.tabled_grid.proofs.FlatCells.{set-joined, slice_get-joined}
 use Rattle.tabled_grid.proofs.FlatRows.{joined-append}
 use Rattle.std.proofs.lemmas.List.Sorted.{length_permutation}

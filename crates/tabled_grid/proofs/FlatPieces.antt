@@ -11,7 +11,7 @@ use Rattle.tabled_grid.specs.Pieces.{cut_places}
 use Rattle.tabled_grid.specs.Places.{FillsThrough}
 use Rattle.tabled_grid.specs.declared.records.axis.Axis.TheVariants.{Rows}
 use Rattle.tabled_grid.specs.declared.records.piece_order.PieceOrder.TheVariants.{Zip}
-use Rattle.tabled_grid.proofs.Flat.{is_even}
+use Rattle.tabled_grid.specs.Evenness.{is_even}
 use Rattle.tabled_grid.proofs.FlatCells.{cell-joined}
 use Rattle.tabled_grid.proofs.FlatStore.{cells_are}
 use Rattle.tabled_grid.proofs.PiecePlaces.{cut_fills}

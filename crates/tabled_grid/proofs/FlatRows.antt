@@ -8,7 +8,7 @@ use Rattle.std.proofs.Math.Seq.{take-append-add}
 use Rattle.tabled_grid.proofs.Lists.{all-take}
 use Rattle.tabled_grid.specs.Flat.{joined}
 use Rattle.tabled_grid.specs.Moves.{with_runs_swapped}
-use Rattle.tabled_grid.proofs.Flat.{AreWide}
+use Rattle.tabled_grid.specs.Evenness.{AreWide}
 
 -- a swap is the same either way round
 pub swap-turned : {A : Type 0} (xs : List A) (i k : ℕ) → i ≢ k → swap xs k i ≡ swap xs i k

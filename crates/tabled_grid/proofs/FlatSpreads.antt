@@ -7,7 +7,8 @@ use Rattle.tabled_grid.specs.Resized.{AreBlanks}
 use Rattle.tabled_grid.proofs.Lists.{all-drop, all-take}
 use Rattle.tabled_grid.specs.Flat.{chunks, joined}
 use Rattle.tabled_grid.specs.Moves.{InsertsBlanks, PutsBlanks, SlidBack}
-use Rattle.tabled_grid.proofs.Flat.{AreWide, joined-chunks, length-chunks, length-joined}
+use Rattle.tabled_grid.specs.Evenness.{AreWide, length-chunks}
+use Rattle.tabled_grid.proofs.Flat.{joined-chunks, length-joined}
 use Rattle.tabled_grid.proofs.FlatColumns.{joined-push, row_long}
 use Rattle.tabled_grid.proofs.FlatSlides.{all-moved}
 use Rattle.std.proofs.lemmas.List.Sorted.{length_permutation}

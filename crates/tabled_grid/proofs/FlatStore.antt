@@ -7,7 +7,7 @@ use Rattle.std.proofs.lemmas.List.{append-nil, drop_all, drop_at, take_all, take
 use Rattle.std.proofs.lemmas.Nat.{mul-add-lt}
 use Rattle.std.proofs.lemmas.Option.{slice_get-get_or}
 use Rattle.tabled_grid.specs.declared.config.position.Position.{Position}
-use Rattle.tabled_grid.specs.Grid.{IsEven, IsInside, cell_at, width_of, with_cell}
+use Rattle.tabled_grid.specs.Grid.{IsEven, IsInside, cell_at, with_cell}
 use Rattle.tabled_grid.specs.Resized.{AreBlanks, InsertsBlank, InsertsColumn, InsertsRow, with_cells_swapped, with_column, with_columns_swapped, with_row, with_rows_swapped, without_column, without_row}
 use Rattle.tabled_grid.proofs.Blanks.{blank_column}
 use Rattle.tabled_grid.proofs.FirstLines.{IsEven-first}
@@ -21,16 +21,12 @@ use Rattle.tabled_grid.proofs.AddedColumns.{IsEven-adds_columns}
 use Rattle.tabled_grid.proofs.AddedRows.{IsEven-adds_rows}
 use Rattle.tabled_grid.proofs.Lists.{all-zip-map}
 use Rattle.tabled_grid.specs.Moves.{AddsBlanks, InsertsBlanks, PutsBlanks, with_runs_swapped}
-use Rattle.tabled_grid.proofs.Flat.{full_of, is_even, joined-chunks, length-chunks, view_of}
+use Rattle.tabled_grid.specs.Evenness.{is_even, length-chunks}
+use Rattle.tabled_grid.proofs.Flat.{full_of, joined-chunks, view_of}
 use Rattle.tabled_grid.proofs.FlatCells.{cell-joined, written-joined, swapped-joined}
 use Rattle.tabled_grid.proofs.FlatColumns.{shorter-last}
 use Rattle.tabled_grid.proofs.Through.{blank_chunks}
 use Rattle.tabled_grid.proofs.FlatRows.{joined-append, joined-insert, joined-remove, joined-swap, row-joined, swap-turned, take-joined}
-
--- without rows there is no first one
-pub no_width : {A : Type 0} (rows : List (List A)) → length rows ≡ 0 → width_of rows ≡ 0
-no_width [] h = refl
-no_width (row ∷ rows) h = absurd (omega (arith, h))
 
 module _ {A : Type 0} (is_blank : A → Type 0) where
   -- one blank, and blanks after the last cell

@@ -11,6 +11,7 @@ use Rattle.std.proofs.lemmas.Option.{slice_get_read}
 use Rattle.std.proofs.Math.ListN.{get_or-map}
 use Rattle.tabled_grid.specs.declared.config.position.Position.{Position}
 use Rattle.tabled_grid.specs.Grid.{Grid, IsEmptyWithoutRows, IsEven, IsInside, cell_at, grid_of, map_items, width_of, with_cell}
+use Rattle.tabled_grid.specs.Evenness.{no_columns}
 use Rattle.tabled_grid.specs.Along.{first_along}
 use Rattle.tabled_grid.specs.Bulk.{AddsColumns, AddsRows}
 use Rattle.tabled_grid.specs.Resized.{AreBlanks, InsertsBlank, InsertsColumn}
@@ -32,10 +33,6 @@ module _ {A : Type 0} where
   width_is rows columns [] tall wide none = sym (none (sym tall))
   width_is rows columns (row ∷ cells) tall wide none = wide.0
 
-  pub rowless : (rows : List (List A)) → IsEmptyWithoutRows (grid_of rows)
-  rowless [] e = refl
-  rowless (row ∷ rows) e = absurd (omega (arith, e))
-
   -- the rows of an even grid that has no columns without rows
   pub have_grid : (g : Grid A) (rows : List (List A)) → IsEven g → IsEmptyWithoutRows g → rows ≡ g.cells → HaveGrid rows g
   have_grid g rows even none e =
@@ -55,15 +52,15 @@ module _ {A : Type 0} where
       record {
         column = c.column;
         blanks = c.blanks;
-        is = (have_grid _ new (IsEven-with_column (grid_of old) j c.column h c.blanks.many even) (rowless-with_column (grid_of old) j c.column (rowless old)) c.is).is;
+        is = (have_grid _ new (IsEven-with_column (grid_of old) j c.column h c.blanks.many even) (rowless-with_column (grid_of old) j c.column (no_columns old)) c.is).is;
       }
 
   -- the first rows, and the first columns
   pub rows_cut : (n : ℕ) (old new : List (List A)) → n ≤ length old → IsEven (grid_of old) → new ≡ take n old → HaveGrid new (first_along Rows n (grid_of old))
-  rows_cut n old new h even e = have_grid _ new (IsEven-first Rows n (grid_of old) h even) (rowless-first Rows n (grid_of old) h (rowless old)) e
+  rows_cut n old new h even e = have_grid _ new (IsEven-first Rows n (grid_of old) h even) (rowless-first Rows n (grid_of old) h (no_columns old)) e
 
   pub columns_cut : (n : ℕ) (old new : List (List A)) → n ≤ width_of old → IsEven (grid_of old) → new ≡ map (λ (row : List A). take n row) old → HaveGrid new (first_along Columns n (grid_of old))
-  columns_cut n old new h even e = have_grid _ new (IsEven-first Columns n (grid_of old) h even) (rowless-first Columns n (grid_of old) h (rowless old)) e
+  columns_cut n old new h even e = have_grid _ new (IsEven-first Columns n (grid_of old) h even) (rowless-first Columns n (grid_of old) h (no_columns old)) e
 
   module _ (is_blank : A → Type 0) (many : ℕ) where
     -- n blanks after each row
@@ -85,7 +82,7 @@ module _ {A : Type 0} where
       adds = record { added = added; blanks = blanks; many_are = tall; is = refl }
 
       have_added : HaveGrid new (record { rows = length old + many; columns = width_of old; cells = old ++ added })
-      have_added = have_grid _ new (IsEven-adds_rows is_blank many (grid_of old) _ adds even) (λ e. rowless old (omega (arith, e))) is
+      have_added = have_grid _ new (IsEven-adds_rows is_blank many (grid_of old) _ adds even) (λ e. no_columns old (omega (arith, e))) is
 
       pub rows_added : AddsRows is_blank many (grid_of old) (grid_of new)
       rows_added = rw have_added.is adds
@@ -109,5 +106,5 @@ module _ {A : Type 0} (rows : List (Vec A)) (p : Position) (row : Vec A) (even :
 
   pub row_written : (x : A) → HaveGrid (map_items (set rows p.row (with_item row p.col x))) (with_cell (grid_of (map_items rows)) p x)
   row_written x =
-      have_grid _ _ (IsEven-with_cell _ p x even) (rowless (map_items rows))
+      have_grid _ _ (IsEven-with_cell _ p x even) (no_columns (map_items rows))
       (map-set (λ (v : Vec A). v.items) rows p.row (with_item row p.col x) ∙ ap (λ ys. set (map_items rows) p.row (set ys p.col x)) (sym row_items))

@@ -7,6 +7,7 @@ pub mod Bounds
 pub mod Bulk
 pub mod Covers
 pub mod Entity
+pub mod Evenness
 pub mod Fitting
 pub mod Flat
 pub mod Grid

@@ -16,6 +16,8 @@ impl<S: GridStore> GridStore for &mut S {
     ghost grid = { λ store. S.grid store.now };
 
     ghost is_well_formed = { λ store. S.is_well_formed store.now };
+
+    ghost even = { λ store. S.even store.now };
 }
 
 impl<S, T> RecordsMut<T> for &mut S
@@ -69,4 +71,6 @@ where
     fn swap_column(&mut self, j: usize, k: usize) {
         (**self).swap_column(j, k);
     }
+
+    ghost rowless = { λ store. S.rowless store.now };
 }

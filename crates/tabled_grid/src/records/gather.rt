@@ -3,7 +3,7 @@
 ghost use Rattle.std.specs.Prelude.{◌≡◌, ◌<◌, IfOk, OnErr, OnOk};
 ghost use Rattle.std.specs.List.{AllByRecursion};
 ghost use Rattle.tabled_grid.specs.Bulk.{Exchanges};
-ghost use Rattle.tabled_grid.specs.Grid.{IsEven, IsInside};
+ghost use Rattle.tabled_grid.specs.Grid.{IsInside};
 ghost use Rattle.tabled_grid.specs.Places.{FillsThrough, Places, TakesOnce, Within};
 ghost use Rattle.tabled_grid.specs.Resized.{AreBlanks};
 
@@ -21,7 +21,6 @@ where
     fn of_blanks(alloc: Global, rows: usize, columns: usize) -> Result<Self, AllocError>
         requires { 0 < rows }
         ensures well { IfOk result (λ store. Self.is_well_formed store) }
-        ensures even { IfOk result (λ store. IsEven (Self.grid store)) }
         ensures rows { IfOk result (λ store. (Self.grid store).rows ≡ rows) }
         ensures columns { IfOk result (λ store. (Self.grid store).columns ≡ columns) }
         ensures blanks { IfOk result (λ store. AllByRecursion (AreBlanks Self.Cell.is_blank columns) (Self.grid store).cells) };
@@ -62,7 +61,6 @@ where
     R::Cell: Blank,
     P: Rearrange,
     requires well { R.is_well_formed records.old }
-    requires even { IsEven (R.grid records.old) }
     requires some { 0 < rows }
     requires rows { rows ≡ (P.places places.now).rows }
     requires columns { columns ≡ (P.places places.now).columns }

@@ -1,6 +1,6 @@
 //! What every store means.
 
-ghost use Rattle.tabled_grid.specs.Grid.{Grid};
+ghost use Rattle.tabled_grid.specs.Grid.{Grid, IsEven};
 
 /// A store of cells, whose one meaning is its grid.
 ///
@@ -14,4 +14,7 @@ pub trait GridStore {
 
     /// The rows are as many and as long as the shape says.
     ghost is_well_formed: { Self → Type 0 };
+
+    /// A well-formed store is even.
+    ghost even: { (s : Self) → is_well_formed s → IsEven (grid s) };
 }

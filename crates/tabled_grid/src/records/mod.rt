@@ -43,5 +43,5 @@ pub use piece_order::PieceOrder;
 pub use records::Records;
 pub use records_mut::RecordsMut;
 pub use refusing::Refusing;
-pub use resizable::{Resizable, empty_without_rows};
+pub use resizable::Resizable;
 pub use vec_records::{Text, VecRecords};

@@ -1,8 +1,8 @@
 //! A store that refuses one growth and one write.
 
-ghost use Rattle.std.specs.Prelude.{◌≡◌, ◌-◌, ◌≤◌, IsErr, OnErr, OnOk};
-ghost use Rattle.tabled_grid.specs.Grid.{IsEmptyWithoutRows, IsInside, WritesText, map_grid, with_cell};
-ghost use Rattle.tabled_grid.specs.Resized.{InsertsColumn, InsertsRow};
+ghost use Rattle.std.specs.Prelude.{◌≡◌, ◌-◌, ◌<◌, ◌≤◌, IsErr, OnErr, OnOk};
+ghost use Rattle.tabled_grid.specs.Grid.{IsInside, WritesText, map_grid, with_cell};
+ghost use Rattle.tabled_grid.specs.Resized.{InsertsColumn, InsertsRow, with_cells_swapped, with_columns_swapped, with_rows_swapped, without_column, without_row};
 
 use crate::config::Position;
 use crate::records::blank::Blank;
@@ -20,9 +20,11 @@ use std::alloc::{AllocError, Global};
 /// It shows in a test what an option, or a caller's own code, leaves where memory ends in the
 /// midst of it, without a machine that is out of memory: each growth and each write in turn.
 ///
-/// A growth is a call of `push_row`, `push_column`, `insert_row` or `insert_column`. The calls for many
-/// lines (`push_rows`, `push_columns`, `transpose`, `cut`) are left to the default bodies of `Resizable`,
-/// also where the store around which it stands has its own, so that each line is a growth of its own.
+/// A growth is a call of `push_row`, `push_column`, `insert_row` or `insert_column`, and a write a call of
+/// `set`. The calls that remove or swap (`remove_row`, `remove_column`, `swap`, `swap_row`, `swap_column`)
+/// count as neither, and leave both numbers as they are. The calls for many lines (`push_rows`,
+/// `push_columns`, `transpose`, `cut`) are left to the default bodies of `Resizable`, also where the store
+/// around which it stands has its own, so that each line is a growth of its own.
 /// What is not refused goes to that store, whose grid is the meaning of both.
 ///
 /// Of this project.
@@ -77,6 +79,8 @@ impl<S: GridStore> GridStore for Refusing<S> {
     ghost grid = { λ s. S.grid s.store };
 
     ghost is_well_formed = { λ s. S.is_well_formed s.store };
+
+    ghost even = { λ s. S.even s.store };
 }
 
 impl<S: Records> Records for Refusing<S> {
@@ -135,7 +139,6 @@ where
     fn push_row(&mut self, alloc: Global) -> Result<(), AllocError>
         requires well { S.is_well_formed self.old.store }
         ensures well { S.is_well_formed self.new.store }
-        ensures rowless { OnOk result (IsEmptyWithoutRows (S.grid self.old.store)) }
         ensures ok { OnOk result (InsertsRow S.Cell.is_blank (S.grid self.old.store) (S.grid self.new.store) ((S.grid self.old.store).rows)) }
         ensures err { OnErr result (S.grid self.new.store ≡ S.grid self.old.store) }
         ensures counted { self.new.growth ≡ self.old.growth - 1 }
@@ -150,7 +153,6 @@ where
     fn push_column(&mut self, alloc: Global) -> Result<(), AllocError>
         requires well { S.is_well_formed self.old.store }
         ensures well { S.is_well_formed self.new.store }
-        ensures rowless { OnOk result (IsEmptyWithoutRows (S.grid self.old.store)) }
         ensures ok { OnOk result (InsertsColumn S.Cell.is_blank (S.grid self.old.store) (S.grid self.new.store) ((S.grid self.old.store).columns)) }
         ensures err { OnErr result (S.grid self.new.store ≡ S.grid self.old.store) }
         ensures counted { self.new.growth ≡ self.old.growth - 1 }
@@ -166,7 +168,6 @@ where
         requires well { S.is_well_formed self.old.store }
         requires within { i ≤ (S.grid self.old.store).rows }
         ensures well { S.is_well_formed self.new.store }
-        ensures rowless { OnOk result (IsEmptyWithoutRows (S.grid self.old.store)) }
         ensures ok { OnOk result (InsertsRow S.Cell.is_blank (S.grid self.old.store) (S.grid self.new.store) i) }
         ensures err { OnErr result (S.grid self.new.store ≡ S.grid self.old.store) }
         ensures counted { self.new.growth ≡ self.old.growth - 1 }
@@ -182,7 +183,6 @@ where
         requires well { S.is_well_formed self.old.store }
         requires within { j ≤ (S.grid self.old.store).columns }
         ensures well { S.is_well_formed self.new.store }
-        ensures rowless { OnOk result (IsEmptyWithoutRows (S.grid self.old.store)) }
         ensures ok { OnOk result (InsertsColumn S.Cell.is_blank (S.grid self.old.store) (S.grid self.new.store) j) }
         ensures err { OnErr result (S.grid self.new.store ≡ S.grid self.old.store) }
         ensures counted { self.new.growth ≡ self.old.growth - 1 }
@@ -193,23 +193,68 @@ where
         self.store.insert_column(alloc, j)
     }
 
-    fn remove_row(&mut self, i: usize) {
+    /// Removes a row. Counted as nothing.
+    fn remove_row(&mut self, i: usize)
+        requires well { S.is_well_formed self.old.store }
+        requires within { i < (S.grid self.old.store).rows }
+        ensures well { S.is_well_formed self.new.store }
+        ensures removed { S.grid self.new.store ≡ without_row (S.grid self.old.store) i }
+        ensures growth { self.new.growth ≡ self.old.growth }
+        ensures set { self.new.set ≡ self.old.set }
+    {
         self.store.remove_row(i);
     }
 
-    fn remove_column(&mut self, j: usize) {
+    /// Removes a column. Counted as nothing.
+    fn remove_column(&mut self, j: usize)
+        requires well { S.is_well_formed self.old.store }
+        requires within { j < (S.grid self.old.store).columns }
+        ensures well { S.is_well_formed self.new.store }
+        ensures removed { S.grid self.new.store ≡ without_column (S.grid self.old.store) j }
+        ensures growth { self.new.growth ≡ self.old.growth }
+        ensures set { self.new.set ≡ self.old.set }
+    {
         self.store.remove_column(j);
     }
 
-    fn swap(&mut self, p: Position, q: Position) {
+    /// Swaps two cells. Counted as nothing.
+    fn swap(&mut self, p: Position, q: Position)
+        requires well { S.is_well_formed self.old.store }
+        requires p_inside { IsInside (S.grid self.old.store) p }
+        requires q_inside { IsInside (S.grid self.old.store) q }
+        ensures well { S.is_well_formed self.new.store }
+        ensures swapped { S.grid self.new.store ≡ with_cells_swapped (S.grid self.old.store) p q }
+        ensures growth { self.new.growth ≡ self.old.growth }
+        ensures set { self.new.set ≡ self.old.set }
+    {
         self.store.swap(p, q);
     }
 
-    fn swap_row(&mut self, i: usize, k: usize) {
+    /// Swaps two rows. Counted as nothing.
+    fn swap_row(&mut self, i: usize, k: usize)
+        requires well { S.is_well_formed self.old.store }
+        requires i_within { i < (S.grid self.old.store).rows }
+        requires k_within { k < (S.grid self.old.store).rows }
+        ensures well { S.is_well_formed self.new.store }
+        ensures swapped { S.grid self.new.store ≡ with_rows_swapped (S.grid self.old.store) i k }
+        ensures growth { self.new.growth ≡ self.old.growth }
+        ensures set { self.new.set ≡ self.old.set }
+    {
         self.store.swap_row(i, k);
     }
 
-    fn swap_column(&mut self, j: usize, k: usize) {
+    /// Swaps two columns. Counted as nothing.
+    fn swap_column(&mut self, j: usize, k: usize)
+        requires well { S.is_well_formed self.old.store }
+        requires j_within { j < (S.grid self.old.store).columns }
+        requires k_within { k < (S.grid self.old.store).columns }
+        ensures well { S.is_well_formed self.new.store }
+        ensures swapped { S.grid self.new.store ≡ with_columns_swapped (S.grid self.old.store) j k }
+        ensures growth { self.new.growth ≡ self.old.growth }
+        ensures set { self.new.set ≡ self.old.set }
+    {
         self.store.swap_column(j, k);
     }
+
+    ghost rowless = { λ s. S.rowless s.store };
 }

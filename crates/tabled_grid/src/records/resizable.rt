@@ -25,9 +25,7 @@ use std::alloc::{AllocError, Global};
 /// A call that grows may be refused for memory, and then leaves the store as it was. The others take
 /// no memory and can't be refused.
 ///
-/// A store without rows has no columns. Each call that isn't refused says so of the store as it was
-/// (`rowless`), or asks for a row, and what it says of the store that it leaves carries this over.
-/// Where no change is made, `empty_without_rows` shows it.
+/// A store without rows has no columns (`rowless`).
 ///
 /// Ported from `tabled::grid::records::Resizable`.
 pub trait Resizable: GridStore
@@ -40,7 +38,6 @@ where
     fn push_row(&mut self, alloc: Global) -> Result<(), AllocError>
         requires well { Self.is_well_formed self.old }
         ensures well { Self.is_well_formed self.new }
-        ensures rowless { OnOk result (IsEmptyWithoutRows (Self.grid self.old)) }
         ensures ok { OnOk result (InsertsRow Self.Cell.is_blank (Self.grid self.old) (Self.grid self.new) ((Self.grid self.old).rows)) }
         ensures err { OnErr result (Self.grid self.new ≡ Self.grid self.old) };
 
@@ -50,7 +47,6 @@ where
     fn push_column(&mut self, alloc: Global) -> Result<(), AllocError>
         requires well { Self.is_well_formed self.old }
         ensures well { Self.is_well_formed self.new }
-        ensures rowless { OnOk result (IsEmptyWithoutRows (Self.grid self.old)) }
         ensures ok { OnOk result (InsertsColumn Self.Cell.is_blank (Self.grid self.old) (Self.grid self.new) ((Self.grid self.old).columns)) }
         ensures err { OnErr result (Self.grid self.new ≡ Self.grid self.old) };
 
@@ -62,7 +58,6 @@ where
         requires well { Self.is_well_formed self.old }
         requires within { i ≤ (Self.grid self.old).rows }
         ensures well { Self.is_well_formed self.new }
-        ensures rowless { OnOk result (IsEmptyWithoutRows (Self.grid self.old)) }
         ensures ok { OnOk result (InsertsRow Self.Cell.is_blank (Self.grid self.old) (Self.grid self.new) i) }
         ensures err { OnErr result (Self.grid self.new ≡ Self.grid self.old) };
 
@@ -74,7 +69,6 @@ where
         requires well { Self.is_well_formed self.old }
         requires within { j ≤ (Self.grid self.old).columns }
         ensures well { Self.is_well_formed self.new }
-        ensures rowless { OnOk result (IsEmptyWithoutRows (Self.grid self.old)) }
         ensures ok { OnOk result (InsertsColumn Self.Cell.is_blank (Self.grid self.old) (Self.grid self.new) j) }
         ensures err { OnErr result (Self.grid self.new ≡ Self.grid self.old) };
 
@@ -95,7 +89,6 @@ where
         requires well { Self.is_well_formed self.old }
         requires within { j < (Self.grid self.old).columns }
         ensures well { Self.is_well_formed self.new }
-        ensures rowless { IsEmptyWithoutRows (Self.grid self.old) }
         ensures removed { Self.grid self.new ≡ without_column (Self.grid self.old) j };
 
     /// Swaps two cells. Equal places change nothing.
@@ -126,7 +119,6 @@ where
         requires j_within { j < (Self.grid self.old).columns }
         requires k_within { k < (Self.grid self.old).columns }
         ensures well { Self.is_well_formed self.new }
-        ensures rowless { IsEmptyWithoutRows (Self.grid self.old) }
         ensures swapped { Self.grid self.new ≡ with_columns_swapped (Self.grid self.old) j k };
 
     /// Keeps the first `count` rows alone (r x c to count x c, or to 0 x 0).
@@ -138,14 +130,9 @@ where
         requires well { Self.is_well_formed self.old }
         requires within { count ≤ (Self.grid self.old).rows }
         ensures well { Self.is_well_formed self.new }
-        ensures rowless { IsEmptyWithoutRows (Self.grid self.old) }
         ensures first { Self.grid self.new ≡ first_along Rows count (Self.grid self.old) }
     {
         let mut left = self.count_rows();
-        // Columns without rows never come; if they came, this call would say that there are none.
-        if left == 0 && self.count_columns() > 0 {
-            self.remove_column(0);
-        }
         while left > count {
             left -= 1;
             self.remove_row(left);
@@ -161,10 +148,8 @@ where
         requires well { Self.is_well_formed self.old }
         requires within { count ≤ (Self.grid self.old).columns }
         ensures well { Self.is_well_formed self.new }
-        ensures rowless { IsEmptyWithoutRows (Self.grid self.old) }
         ensures first { Self.grid self.new ≡ first_along Columns count (Self.grid self.old) }
     {
-        self.truncate_rows(self.count_rows());
         let mut left = self.count_columns();
         while left > count {
             left -= 1;
@@ -181,14 +166,11 @@ where
         Self: Records + ExactRecords,
         requires well { Self.is_well_formed self.old }
         ensures well { Self.is_well_formed self.new }
-        ensures rowless { IsEmptyWithoutRows (Self.grid self.old) }
         ensures ok { OnOk result (AddsRows Self.Cell.is_blank many (Self.grid self.old) (Self.grid self.new)) }
         ensures err { OnErr result (Self.grid self.new ≡ Self.grid self.old) }
     {
         let rows = self.count_rows();
-        self.truncate_rows(rows);
-        for pushed in 0..many {
-            let _ = pushed;
+        for _ in 0..many {
             if let Err(error) = self.push_row(alloc) {
                 self.truncate_rows(rows);
                 return Err(error);
@@ -206,14 +188,11 @@ where
         Self: Records + ExactRecords,
         requires well { Self.is_well_formed self.old }
         ensures well { Self.is_well_formed self.new }
-        ensures rowless { IsEmptyWithoutRows (Self.grid self.old) }
         ensures ok { OnOk result (AddsColumns Self.Cell.is_blank many (Self.grid self.old) (Self.grid self.new)) }
         ensures err { OnErr result (Self.grid self.new ≡ Self.grid self.old) }
     {
         let columns = self.count_columns();
-        self.truncate_columns(columns);
-        for pushed in 0..many {
-            let _ = pushed;
+        for _ in 0..many {
             if let Err(error) = self.push_column(alloc) {
                 self.truncate_columns(columns);
                 return Err(error);
@@ -232,7 +211,6 @@ where
         Self: Records + ExactRecords,
         requires well { Self.is_well_formed self.old }
         ensures well { Self.is_well_formed self.new }
-        ensures rowless { IsEmptyWithoutRows (Self.grid self.old) }
         ensures ok { OnOk result (Self.grid self.new ≡ transposed (Self.grid self.old)) }
         ensures err { OnErr result (Self.grid self.new ≡ Self.grid self.old) }
         ensures no_columns { (Self.grid self.old).columns ≡ 0 → IsOk result }
@@ -268,7 +246,6 @@ where
         requires well { Self.is_well_formed self.old }
         requires within { count ≤ count_along axis (Self.grid self.old) }
         ensures well { Self.is_well_formed self.new }
-        ensures rowless { IsEmptyWithoutRows (Self.grid self.old) }
         ensures first { Self.grid self.new ≡ first_along axis count (Self.grid self.old) }
     {
         match axis {
@@ -285,7 +262,6 @@ where
         Self: Records + ExactRecords,
         requires well { Self.is_well_formed self.old }
         ensures well { Self.is_well_formed self.new }
-        ensures rowless { IsEmptyWithoutRows (Self.grid self.old) }
         ensures ok { OnOk result (AddsLines Self.Cell.is_blank axis many (Self.grid self.old) (Self.grid self.new)) }
         ensures err { OnErr result (Self.grid self.new ≡ Self.grid self.old) }
     {
@@ -351,21 +327,7 @@ where
         self.truncate_lines(across, index);
         Ok(())
     }
-}
 
-/// Shows that a store without rows has no columns, and changes nothing.
-#[doc(hidden)]
-pub fn empty_without_rows<R>(records: &mut R)
-where
-    R: Records + ExactRecords + Resizable,
-    R::Cell: Blank,
-    requires { R.is_well_formed records.old }
-    ensures well { R.is_well_formed records.new }
-    ensures kept { R.grid records.new ≡ R.grid records.old }
-    ensures rowless { IsEmptyWithoutRows (R.grid records.new) }
-{
-    // Columns without rows never come; if they came, this call would say that there are none.
-    if records.count_rows() == 0 && records.count_columns() > 0 {
-        records.remove_column(0);
-    }
+    /// A store without rows has no columns.
+    ghost rowless: { (s : Self) → Self.is_well_formed s → IsEmptyWithoutRows (Self.grid s) };
 }

@@ -2,7 +2,6 @@
 
 ghost use Rattle.std.specs.Prelude.{◌≡◌, ◌<◌, OnErr, OnOk};
 ghost use Rattle.tabled_grid.specs.Bulk.{transposed};
-ghost use Rattle.tabled_grid.specs.Grid.{IsEven};
 
 use crate::config::Position;
 use crate::records::blank::Blank;

@@ -6,7 +6,7 @@ pub(super) mod moves;
 mod resizable;
 
 ghost use Rattle.std.specs.Prelude.{◌≡◌};
-ghost use Rattle.tabled_grid.specs.Grid.{IsEmptyWithoutRows, IsEven, IsInside, grid_of, map_items, with_cell};
+ghost use Rattle.tabled_grid.specs.Grid.{IsEven, IsInside, grid_of, map_items, with_cell};
 
 use crate::config::Position;
 use crate::records::cell_text::CellText;
@@ -28,16 +28,13 @@ impl<T> GridStore for Vec<Vec<T>> {
     ghost grid = { λ rows. grid_of (map_items rows.items) };
 
     ghost is_well_formed = { λ rows. IsEven (grid_of (map_items rows.items)) };
+
+    ghost even = { λ _ well. well };
 }
 
 impl<T> Records for Vec<Vec<T>> {
     /// The number of columns: that of cells of the first row, and none without rows.
-    fn count_columns(&self) -> usize
-        requires { IsEven (grid_of (map_items self.now.items)) }
-        ensures columns { result ≡ (grid_of (map_items self.now.items)).columns }
-        ensures even { IsEven (grid_of (map_items self.now.items)) }
-        ensures rowless { IsEmptyWithoutRows (grid_of (map_items self.now.items)) }
-    {
+    fn count_columns(&self) -> usize {
         width(self)
     }
 
@@ -47,13 +44,7 @@ impl<T> Records for Vec<Vec<T>> {
 }
 
 impl<T> ExactRecords for Vec<Vec<T>> {
-    /// The number of rows, without which there are no columns.
-    fn count_rows(&self) -> usize
-        requires { IsEven (grid_of (map_items self.now.items)) }
-        ensures rows { result ≡ (grid_of (map_items self.now.items)).rows }
-        ensures even { IsEven (grid_of (map_items self.now.items)) }
-        ensures rowless { IsEmptyWithoutRows (grid_of (map_items self.now.items)) }
-    {
+    fn count_rows(&self) -> usize {
         self.len()
     }
 }

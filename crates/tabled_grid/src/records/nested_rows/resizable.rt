@@ -30,6 +30,9 @@ impl<T: Blank> Exchange for Vec<Vec<T>> {
 }
 
 impl<T: Blank> Resizable for Vec<Vec<T>> {
+    ghost use Rattle.tabled_grid.specs.Evenness.{no_columns};
+    ghost use Rattle.tabled_grid.specs.Grid.{map_items};
+
     fn push_row(&mut self, alloc: Global) -> Result<(), AllocError> {
         self.insert_row(alloc, self.count_rows())
     }
@@ -110,4 +113,6 @@ impl<T: Blank> Resizable for Vec<Vec<T>> {
     ) -> Result<(), AllocError> {
         cut_lines(alloc, self, lines, order, index)
     }
+
+    ghost rowless = { λ rows _. no_columns (map_items rows.items) };
 }

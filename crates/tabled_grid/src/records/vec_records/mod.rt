@@ -7,7 +7,8 @@ mod resizable;
 mod text;
 
 ghost use Rattle.std.specs.Prelude.{◌≡◌, ◌<◌, Some, slice_get, IfOk};
-ghost use Rattle.tabled_grid.specs.Grid.{Grid, IsEmptyWithoutRows, IsEven, IsInside, cell_at, grid_of, map_items, with_cell};
+ghost use Rattle.tabled_grid.specs.Flat.{IsFull};
+ghost use Rattle.tabled_grid.specs.Grid.{IsEven, IsInside, cell_at, grid_of, map_items, with_cell};
 
 use crate::config::Position;
 use crate::records::cell_text::CellText;
@@ -23,7 +24,8 @@ use std::alloc::{AllocError, Global};
 use std::marker::Model;
 pub use text::Text;
 
-/// A store of rows of cells, all equally long, in one vector. A contract sees it as its grid.
+/// A store of rows of cells, all equally long, in one vector. A contract sees it as its grid, with what is
+/// true of it.
 ///
 /// More rows or cells than `usize::MAX` are a growth refused.
 ///
@@ -33,17 +35,15 @@ pub struct VecRecords<T> {
     cells: Vec<T>,
     rows: usize,
     columns: usize,
+    ghost full: { IsFull rows columns cells.items },
 }
 
 impl<T> Model for VecRecords<T> {
-    ghost use Rattle.tabled_grid.specs.Flat.{IsFull, flat_grid};
-    ghost use Rattle.tabled_grid.specs.Grid.{Grid};
+    ghost use Rattle.tabled_grid.specs.Evenness.{EvenGrid, even_grid};
 
-    ghost Value = { Grid T };
+    ghost Value = { EvenGrid T };
 
-    ghost view = { λ a. flat_grid a.rows a.columns a.cells.items };
-
-    ghost invariant = { λ a. IsFull a.rows a.columns a.cells.items };
+    ghost view = { λ a. even_grid a.rows a.columns a.cells.items a.full };
 }
 
 impl<T: Drop> VecRecords<T> {
@@ -55,7 +55,7 @@ impl<T: Drop> VecRecords<T> {
     /// Ported from `tabled::grid::records::vec_records::VecRecords::new`.
     pub fn new(alloc: Global, rows: Vec<Vec<T>>) -> Result<Self, AllocError>
         requires { IsEven (grid_of (map_items rows.items)) }
-        ensures { IfOk result (λ store. store ≡ grid_of (map_items rows.items)) }
+        ensures { IfOk result (λ store. store.grid ≡ grid_of (map_items rows.items)) }
     {
         let count = rows.len();
         let columns = width(&rows);
@@ -73,7 +73,7 @@ impl<T: Drop> VecRecords<T> {
     ///
     /// Ported from `impl From<VecRecords<T>> for Vec<Vec<T>>`.
     pub fn into_rows(self, alloc: Global) -> Result<Vec<Vec<T>>, AllocError>
-        ensures { IfOk result (λ rows. map_items rows.items ≡ self.cells) }
+        ensures { IfOk result (λ rows. map_items rows.items ≡ self.grid.cells) }
     {
         let VecRecords {
             cells,
@@ -85,8 +85,8 @@ impl<T: Drop> VecRecords<T> {
 
     /// Replaces the cell at a place inside the shape.
     fn write(&mut self, pos: Position, cell: T)
-        requires { IsInside self.old pos }
-        ensures { self.new ≡ with_cell self.old pos cell }
+        requires { IsInside self.old.grid pos }
+        ensures { self.new.grid ≡ with_cell self.old.grid pos cell }
     {
         let place = pos.row * self.columns + pos.col;
         self.cells[place] = cell;
@@ -96,8 +96,8 @@ impl<T: Drop> VecRecords<T> {
 impl<T> VecRecords<T> {
     /// The cell at a place inside the shape. It stands for `[row][col]`.
     pub fn get(&self, pos: Position) -> &T
-        requires { IsInside self.now pos }
-        ensures { cell_at self.now pos ≡ Some result.now }
+        requires { IsInside self.now.grid pos }
+        ensures { cell_at self.now.grid pos ≡ Some result.now }
     {
         let place = pos.row * self.columns + pos.col;
         &self.cells[place]
@@ -105,8 +105,8 @@ impl<T> VecRecords<T> {
 
     /// The cells of a row below the number of rows. It stands for `[row]`.
     pub fn row(&self, i: usize) -> &[T]
-        requires { i < self.now.rows }
-        ensures { slice_get self.now.cells i ≡ Some result.now }
+        requires { i < self.now.grid.rows }
+        ensures { slice_get self.now.grid.cells i ≡ Some result.now }
     {
         let start = i * self.columns;
         &self.cells[start..start + self.columns]
@@ -114,20 +114,19 @@ impl<T> VecRecords<T> {
 }
 
 impl<T> GridStore for VecRecords<T> {
+    ghost use Rattle.tabled_grid.specs.Evenness.{is_even_grid};
+
     type Cell = T;
 
-    ghost grid = { λ store. store };
+    ghost grid = { λ store. store.grid };
 
     ghost is_well_formed = { λ _. Unit {0} };
+
+    ghost even = { λ store _. is_even_grid store };
 }
 
 impl<T> Records for VecRecords<T> {
-    /// The number of columns: none without rows.
-    fn count_columns(&self) -> usize
-        ensures columns { result ≡ self.now.columns }
-        ensures even { IsEven self.now }
-        ensures rowless { IsEmptyWithoutRows self.now }
-    {
+    fn count_columns(&self) -> usize {
         self.columns
     }
 
@@ -137,12 +136,7 @@ impl<T> Records for VecRecords<T> {
 }
 
 impl<T> ExactRecords for VecRecords<T> {
-    /// The number of rows, without which there are no columns.
-    fn count_rows(&self) -> usize
-        ensures rows { result ≡ self.now.rows }
-        ensures even { IsEven self.now }
-        ensures rowless { IsEmptyWithoutRows self.now }
-    {
+    fn count_rows(&self) -> usize {
         self.rows
     }
 }

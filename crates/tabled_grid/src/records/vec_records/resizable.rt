@@ -155,4 +155,6 @@ impl<T: Blank> Resizable for VecRecords<T> {
             _ => cut_lines(alloc, self, lines, order, index),
         }
     }
+
+    ghost rowless = { λ store _. store.rowless };
 }

@@ -10,7 +10,7 @@ loop-row-init g c = record {
   well = c.requires.well;
   other = c.in_ok-gathered.ensures.well;
   moves = through_none g.R.Cell.Blank.is_blank (g.P.Rearrange.places c.args.places.now) (g.R.GridStore.grid c.args.records.now) c.args.columns (g.R.GridStore.grid c.in_ok-gathered.gathered)
-      c.requires.even c.in_ok-gathered.ensures.even (c.in_ok-gathered.ensures.rows ∙ c.requires.rows) c.in_ok-gathered.ensures.columns c.requires.columns c.in_ok-gathered.ensures.blanks;
+      (g.R.GridStore.even _ c.requires.well) (g.R.GridStore.even _ c.in_ok-gathered.ensures.well) (c.in_ok-gathered.ensures.rows ∙ c.requires.rows) c.in_ok-gathered.ensures.columns c.requires.columns c.in_ok-gathered.ensures.blanks;
 }
 
 pub loop-col-preserved : goal.loop-col-preserved

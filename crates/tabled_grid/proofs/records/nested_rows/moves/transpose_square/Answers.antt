@@ -2,7 +2,8 @@ use Rattle.std.proofs.Common.{◌+◌, ◌<◌, refl, arith}
 use Rattle.std.proofs.lemmas.List.{length-map}
 use Rattle.tabled_grid.specs.Grid.{grid_of, map_items}
 use Rattle.tabled_grid.proofs.Diagonal.{half_begun, half_none, half_row}
-use Rattle.tabled_grid.proofs.NestedRows.{each_long, have_grid, rowless}
+use Rattle.tabled_grid.specs.Evenness.{no_columns}
+use Rattle.tabled_grid.proofs.NestedRows.{each_long, have_grid}
 use Rattle.tabled_grid.proofs.Resized.{IsEven-with_cells_swapped}
 use Rattle.tabled_grid.proofs.Squares.{square_swapped, turned_more, turned_square}
 use Rattle.tabled_grid.proofs.records.nested_rows.moves.transpose_square.Goals as goal
@@ -28,7 +29,7 @@ swap_cells-requires-clause-q_col g c = let i = c.loop-j.invariant in each_long (
 pub loop-j-preserved : goal.loop-j-preserved
 loop-j-preserved g c =
     let i = c.loop-j.invariant in
-    let swapped = have_grid _ _ (IsEven-with_cells_swapped (grid_of (map_items c.loop-j.rows)) (record { row = c.loop-i.i; col = c.loop-j.j }) (record { row = c.loop-j.j; col = c.loop-i.i }) i.square.even) (rowless (map_items c.loop-j.rows)) c.swap_cells.ensures in
+    let swapped = have_grid _ _ (IsEven-with_cells_swapped (grid_of (map_items c.loop-j.rows)) (record { row = c.loop-i.i; col = c.loop-j.j }) (record { row = c.loop-j.j; col = c.loop-i.i }) i.square.even) (no_columns (map_items c.loop-j.rows)) c.swap_cells.ensures in
     record {
       square = square_swapped _ _ _ _ _ i.square swapped.is;
       turned = turned_more (grid_of (map_items c.args.rows.now)) (grid_of (map_items c.loop-j.rows)) (grid_of (map_items c.swap_cells.new.rows)) _ c.loop-i.i c.loop-j.j i.turned (record { row = c.loop-i.i; col = c.loop-j.j }) (record { row = c.loop-j.j; col = c.loop-i.i }) (c.loop-j.j + 1) refl (omega (arith, c.loop-j.auto.j)) refl refl refl refl (omega (arith, c.loop-j-test.true)) i.square swapped.is;

@@ -6,7 +6,7 @@ use Rattle.tabled_grid.proofs.records.resizable.Resizable.cut.Goals as goal
 
 pub returns-in-Err-clause-err : goal.returns-in-Err-clause-err
 returns-in-Err-clause-err g c =
-    added_undone g.Self.Cell.Blank.is_blank _ (g.Self.GridStore.grid c.args.self.now) _ c.count-count.ensures.even c.across-across.result _ c.count-width.result c.in_ok-push_lines.ensures.rowless c.in_ok-push_lines.ensures.ok c.count-width.ensures.count
+    added_undone g.Self.Cell.Blank.is_blank _ (g.Self.GridStore.grid c.args.self.now) _ c.count-count.ensures.even c.across-across.result _ c.count-width.result (g.met.Self.Resizable.rowless _ c.requires.well) c.in_ok-push_lines.ensures.ok c.count-width.ensures.count
     (c.truncate_lines.ensures.first ∙ ap (first_along c.across-across.result c.count-width.result) c.in-Err.ensures.err)
 
 pub loop-target-init : goal.loop-target-init

@@ -1,12 +1,10 @@
 use Rattle.tabled_grid.specs.Bulk.{AddsColumns}
-use Rattle.tabled_grid.specs.Grid.{IsEmptyWithoutRows}
 use Rattle.tabled_grid.proofs.records.resizable.Resizable.push_columns.Given as goal
 
-abbrev pub invariant-loop-pushed : goal.invariant-loop-pushed
-invariant-loop-pushed g l =
+abbrev pub invariant-loop : goal.invariant-loop
+invariant-loop g l =
     let grid = g.Self.GridStore.grid in
     record {
       well : g.Self.GridStore.is_well_formed l.self;
-      rowless : IsEmptyWithoutRows (grid l.fn.self);
-      adds : AddsColumns g.Self.Cell.Blank.is_blank l.pushed (grid l.fn.self) (grid l.self);
+      adds : AddsColumns g.Self.Cell.Blank.is_blank l.counter (grid l.fn.self) (grid l.self);
     }

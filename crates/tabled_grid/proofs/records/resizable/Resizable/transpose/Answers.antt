@@ -11,7 +11,7 @@ loop-i-init g c =
     let tall : (g.Self.GridStore.grid c.args.self.now).rows + (c.max-size.result - c.count_rows-rows.result) ≡ c.max-size.result = omega (arith, c.count_rows-rows.ensures.rows, c.max-size.ensures) in
     record {
       well = c.push_columns.ensures.well;
-      square = square_made _ c.max-size.result _ _ (g.Self.GridStore.grid c.args.self.now) _ _ c.count_rows-rows.ensures.even c.push_columns.ensures.rowless tall (omega (arith, c.count_columns-columns.ensures.columns, c.max-size.ensures)) rows columns;
+      square = square_made _ c.max-size.result _ _ (g.Self.GridStore.grid c.args.self.now) _ _ c.count_rows-rows.ensures.even (g.met.Self.Resizable.rowless _ c.push_rows.ensures.well) tall (omega (arith, c.count_columns-columns.ensures.columns, c.max-size.ensures)) rows columns;
       turned = square_begins _ c.max-size.result _ _ (g.Self.GridStore.grid c.args.self.now) _ _ tall rows columns;
     }
 

@@ -1,6 +1,5 @@
 use Rattle.std.proofs.Common.{◌≡◌, ◌≤◌}
 use Rattle.tabled_grid.specs.Along.{first_along}
-use Rattle.tabled_grid.specs.Grid.{IsEmptyWithoutRows}
 use Rattle.tabled_grid.specs.declared.records.axis.Axis.TheVariants.{Columns}
 use Rattle.tabled_grid.proofs.records.resizable.Resizable.truncate_columns.Given as goal
 
@@ -9,7 +8,6 @@ invariant-loop-left g l =
     let grid = g.Self.GridStore.grid in
     record {
       well : g.Self.GridStore.is_well_formed l.self;
-      rowless : IsEmptyWithoutRows (grid l.fn.self);
       low : l.count ≤ l.left;
       is : grid l.self ≡ first_along Columns l.left (grid l.fn.self);
       high : l.left ≤ (grid l.fn.self).columns;

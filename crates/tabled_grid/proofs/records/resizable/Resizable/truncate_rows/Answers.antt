@@ -1,14 +1,24 @@
 use Rattle.std.proofs.Common.{◌-◌, arith}
-use Rattle.tabled_grid.proofs.FirstLines.{first_step}
+use Rattle.tabled_grid.proofs.FirstLines.{first_all, first_step}
 use Rattle.tabled_grid.specs.declared.records.axis.Axis.TheVariants.{Rows}
 use Rattle.tabled_grid.proofs.records.resizable.Resizable.truncate_rows.Goals as goal
+
+pub loop-left-init : goal.loop-left-init
+loop-left-init g c =
+    let s = c.args.self.now in
+    let count = c.count_rows-left.ensures.rows in
+    record {
+      well = c.requires.well;
+      low = omega (arith, count, c.requires.within);
+      is = first_all Rows _ (g.Self.GridStore.grid s) count (g.Self.GridStore.even s c.requires.well) (g.met.Self.Resizable.rowless s c.requires.well);
+      high = omega (arith, count);
+    }
 
 pub loop-left-preserved : goal.loop-left-preserved
 loop-left-preserved g c =
     let i = c.loop-left.invariant in
     record {
       well = c.remove_row.ensures.well;
-      rowless = i.rowless;
       low = omega arith;
       is = first_step Rows c.loop-left.left (c.loop-left.left - 1) (g.Self.GridStore.grid c.loop-left.self) (g.Self.GridStore.grid c.remove_row.new.self) (g.Self.GridStore.grid c.args.self.now) i.is c.remove_row.ensures.removed (omega arith);
       high = omega (arith, i.high);

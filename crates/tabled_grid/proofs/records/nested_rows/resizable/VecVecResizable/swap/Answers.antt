@@ -3,7 +3,8 @@ use Rattle.std.proofs.lemmas.Grind.{common_steps}
 use Rattle.std.specs.Vec.{with_items}
 use Rattle.tabled_grid.specs.Grid.{grid_of, map_items}
 use Rattle.tabled_grid.specs.Resized.{with_cells_swapped}
-use Rattle.tabled_grid.proofs.NestedRows.{HaveGrid, each_long, have_grid, rowless}
+use Rattle.tabled_grid.specs.Evenness.{no_columns}
+use Rattle.tabled_grid.proofs.NestedRows.{HaveGrid, each_long, have_grid}
 use Rattle.tabled_grid.proofs.Resized.{IsEven-with_cells_swapped}
 use Rattle.tabled_grid.proofs.records.nested_rows.resizable.VecVecResizable.swap.Goals as goal
 
@@ -16,7 +17,7 @@ swap_cells-requires-clause-q_col g c = rw c.deref_mut.ensures.value (each_long (
 swapped : (g : _) (c : goal.After-self-1 g) → HaveGrid (map_items (with_items c.args.self.now c.swap_cells.new.rows).items) (with_cells_swapped (grid_of (map_items c.args.self.now.items)) c.args.p c.args.q)
 swapped g c =
     let items : (with_items c.args.self.now c.swap_cells.new.rows).items ≡ c.swap_cells.new.rows = grind (arith, common_steps) in
-    rw items (have_grid _ _ (IsEven-with_cells_swapped _ c.args.p c.args.q c.requires.well) (rowless _) (rw c.deref_mut.ensures.value at c.swap_cells.ensures))
+    rw items (have_grid _ _ (IsEven-with_cells_swapped _ c.args.p c.args.q c.requires.well) (no_columns _) (rw c.deref_mut.ensures.value at c.swap_cells.ensures))
 
 pub returns-clause-swapped : goal.returns-clause-swapped
 returns-clause-swapped g c = (swapped g c).is

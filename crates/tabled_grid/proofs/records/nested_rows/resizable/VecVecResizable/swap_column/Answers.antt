@@ -3,7 +3,8 @@ use Rattle.std.proofs.lemmas.Grind.{common_steps}
 use Rattle.std.specs.Vec.{with_items}
 use Rattle.tabled_grid.specs.Grid.{grid_of, map_items}
 use Rattle.tabled_grid.specs.Resized.{with_columns_swapped}
-use Rattle.tabled_grid.proofs.NestedRows.{HaveGrid, each_long, have_grid, rowless}
+use Rattle.tabled_grid.specs.Evenness.{no_columns}
+use Rattle.tabled_grid.proofs.NestedRows.{HaveGrid, each_long, have_grid}
 use Rattle.tabled_grid.proofs.Resized.{IsEven-with_columns_swapped}
 use Rattle.tabled_grid.proofs.records.nested_rows.resizable.VecVecResizable.swap_column.Goals as goal
 
@@ -16,7 +17,7 @@ swap_each-requires-clause-k_within g c = rw c.deref_mut.ensures.value (each_long
 swapped : (g : _) (c : goal.After-self-1 g) → HaveGrid (map_items (with_items c.args.self.now c.swap_each.new.rows).items) (with_columns_swapped (grid_of (map_items c.args.self.now.items)) c.args.j c.args.k)
 swapped g c =
     let items : (with_items c.args.self.now c.swap_each.new.rows).items ≡ c.swap_each.new.rows = grind (arith, common_steps) in
-    rw items (have_grid _ _ (IsEven-with_columns_swapped _ c.requires.well c.args.j c.args.k) (rowless _) (rw c.deref_mut.ensures.value at c.swap_each.ensures))
+    rw items (have_grid _ _ (IsEven-with_columns_swapped _ c.requires.well c.args.j c.args.k) (no_columns _) (rw c.deref_mut.ensures.value at c.swap_each.ensures))
 
 pub returns-clause-swapped : goal.returns-clause-swapped
 returns-clause-swapped g c = (swapped g c).is

@@ -1,11 +1,7 @@
 use Rattle.std.proofs.Common.{arith}
 use Rattle.std.proofs.lemmas.Grind.{common_steps}
-use Rattle.tabled_grid.proofs.Flat.{is_even}
 use Rattle.tabled_grid.proofs.Through.{blank_chunks}
 use Rattle.tabled_grid.proofs.records.vec_records.gather.VecRecordsExchange.of_blanks.Goals as goal
-
-pub returns-clause-even : goal.returns-clause-even
-returns-clause-even g c = is_even _ _ _ (record { full = grind (arith, common_steps); rowless = λ e. absurd (omega (arith, e, c.requires)) })
 
 pub returns-clause-blanks : goal.returns-clause-blanks
 returns-clause-blanks g c = blank_chunks g.T.Blank.is_blank c.args.rows c.args.columns c.in_ok-blanks.field-0.items (grind (arith, common_steps)) c.in_ok-blanks.ensures.blank
