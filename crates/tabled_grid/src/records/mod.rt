@@ -19,6 +19,7 @@ mod records;
 mod records_mut;
 mod refusing;
 mod resizable;
+mod target;
 mod turn;
 pub mod vec_records;
 
@@ -34,4 +35,5 @@ pub use records::Records;
 pub use records_mut::RecordsMut;
 pub use refusing::Refusing;
 pub use resizable::{Resizable, empty_without_rows};
+pub use target::{Target, TargetColumn, TargetRow};
 pub use vec_records::{Text, VecRecords};
