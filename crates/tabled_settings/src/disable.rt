@@ -1,8 +1,6 @@
 //! Rows or columns that are located, taken away.
 
 ghost use Rattle.std.specs.Prelude.{◌≡◌, ℕ, List, OnErr, OnOk};
-ghost use Rattle.tabled_grid.specs.declared.records.axis.Axis.{Axis};
-ghost use Rattle.tabled_grid.specs.declared.records.axis.Axis.TheVariants.{Columns, Rows};
 ghost use Rattle.tabled_options.specs.Does.{Same};
 ghost use Rattle.tabled_grid.specs.Places.{ReadsThrough};
 ghost use Rattle.tabled_images.specs.Images.{carried};
@@ -15,6 +13,7 @@ use std::alloc::{AllocError, Global};
 use std::marker::{Model, PhantomData};
 use tabled_grid::config::{Entity, SpannedConfig};
 use tabled_grid::records::{Axis, Blank, ExactRecords, Records, Resizable};
+pub use tabled_grid::records::{Target, TargetColumn, TargetRow};
 use tabled_images::{carry_along, kept_in_place};
 use tabled_options::TableOption;
 use tabled_select::location::{Location, marks};
@@ -49,18 +48,6 @@ impl<L, Target> Model for Remove<L, Target> {
     ghost view = { λ a. a.locator };
 }
 
-/// Says that `Remove` takes rows away.
-///
-/// Ported from `tabled::settings::disable::TargetRow`.
-#[derive(Debug)]
-pub struct TargetRow;
-
-/// Says that `Remove` takes columns away.
-///
-/// Ported from `tabled::settings::disable::TargetColumn`.
-#[derive(Debug)]
-pub struct TargetColumn;
-
 impl<L> Remove<L, TargetRow> {
     /// The rows that a location finds.
     ///
@@ -86,32 +73,6 @@ impl<L> Remove<L, TargetColumn> {
             locator,
             target: PhantomData,
         }
-    }
-}
-
-/// The lines that `Remove` takes away.
-pub trait Target {
-    /// Rows or columns.
-    ghost lines: { Axis };
-
-    /// The axis of the lines.
-    fn axis() -> Axis
-        ensures { result ≡ lines };
-}
-
-impl Target for TargetRow {
-    ghost lines = { Rows };
-
-    fn axis() -> Axis {
-        Axis::Rows
-    }
-}
-
-impl Target for TargetColumn {
-    ghost lines = { Columns };
-
-    fn axis() -> Axis {
-        Axis::Columns
     }
 }
 

@@ -1,12 +1,12 @@
 -- What a search of the anchors tells.
-use Rattle.std.proofs.Common.{◌≡◌, ◌⊎◌, ℕ, ◌<◌, Bool, true, false, List, Some, None, Option, Result, Ok, Err, refl, sym, ap, arith, inl, inr, length, get_or, ◌∙◌}
+use Rattle.std.proofs.Common.{◌≡◌, ◌⊎◌, ℕ, ◌<◌, Bool, true, false, Some, None, Result, Ok, Err, refl, arith, inl, inr, length, get_or, ◌∙◌}
 use Rattle.std.specs.Prelude.{◌==◌, ◌&&◌, MatchResult, not}
-use Rattle.std.specs.FinMap.{entries, entries_sorted, find, get, get-entries}
+use Rattle.std.specs.FinMap.{entries, entries_sorted, find, get-entries}
 use Rattle.std.specs.List.Sorted.{IsBinarySearchResult, IsSearchInRange}
 use Rattle.std.specs.Result.{is_ok}
 use Rattle.std.proofs.lemmas.Bool.{ne_eqb}
 use Rattle.tabled_grid.specs.declared.config.position.Position.{Position}
-use Rattle.tabled_grid.specs.Spans.{AreSpanSizes, IsSpanSize, SpanMap, position_cmp, size_at}
+use Rattle.tabled_grid.specs.Spans.{AreSpanSizes, SpanMap, position_cmp, size_at}
 use Rattle.tabled_grid.proofs.SortedEntries.{searched}
 use Rattle.tabled_grid.proofs.Spans.{positions_exact, positions_total}
 

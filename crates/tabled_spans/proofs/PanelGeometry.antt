@@ -59,8 +59,8 @@ module _ {A : Type 0} where
       (fits_over (shifted Columns line m) (place_in Columns line 0) (g.rows, 1) g.rows (g.columns + 1) (no_anchor Columns line m) (omega arith) (omega arith) (omega arith) (omega arith)
       (λ a q s has holds over. absurd (line_is_free Columns line m a q s free has holds (omega (arith, over.left, over.right)))) (fits_beside m line g.rows g.columns free fits))
 
-  pub panels_fit : (text_of : A → List ℕ) (axis : Axis) (line : ℕ) (text : List ℕ) (g : Grid A) (m : SpanMap) (h : Grid A) (n : SpanMap) → Fits m g.rows g.columns → Panels text_of axis line text g m h n → Fits n h.rows h.columns
-  panels_fit text_of axis line text g m h n fits panel = either (cases_Bool (has_room axis line g m))
+  pub panels_fit : (is_blank : A → Type 0) (text_of : A → List ℕ) (axis : Axis) (line : ℕ) (text : List ℕ) (g : Grid A) (m : SpanMap) (h : Grid A) (n : SpanMap) → Fits m g.rows g.columns → Panels is_blank text_of axis line text g m h n → Fits n h.rows h.columns
+  panels_fit is_blank text_of axis line text g m h n fits panel = either (cases_Bool (has_room axis line g m))
     where
       either : (has_room axis line g m ≡ true) ⊎ (has_room axis line g m ≡ false) → Fits n h.rows h.columns
       either (inl room) =

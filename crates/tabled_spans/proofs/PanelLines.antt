@@ -1,18 +1,22 @@
 -- A line put in, with a text in its first cell, and the way back.
-use Rattle.std.proofs.Common.{◌≡◌, ℕ, zero, suc, ◌+◌, ◌-◌, ◌≤◌, false, cond, List, [], ◌∷◌, refl, ap, ap₂, ◌∙◌, arith, length, get_or, set, map}
-use Rattle.std.specs.Prelude.{nat_eq, replicate}
+use Rattle.std.proofs.Common.{◌≡◌, ℕ, zero, suc, ◌+◌, ◌-◌, ◌≤◌, true, false, cond, List, [], ◌∷◌, refl, sym, ap, ap₂, ◌∙◌, arith, length, get_or, set, map}
+use Rattle.std.specs.Prelude.{◌&&◌, nat_eq, not, replicate}
 use Rattle.std.specs.List.{AllByRecursion, insert, remove, zip}
-use Rattle.std.proofs.lemmas.Bool.{false_from_ne_true}
-use borrow.Author.Tests.{eqb-true}
+use Rattle.std.proofs.lemmas.Bool.{false_from_ne_true, false≢true}
+use borrow.Author.Tests.{eqb-true, le-leb, lt-ltb}
 use Rattle.tabled_grid.specs.Axis.{across, place_in}
 use Rattle.tabled_grid.specs.Along.{count_along, without_line}
 use Rattle.tabled_grid.specs.Entity.{place}
 use Rattle.tabled_grid.specs.Grid.{Grid, IsEmptyWithoutRows, IsEven, WritesText, with_cell}
 use Rattle.tabled_grid.specs.Resized.{AreBlanks, with_column, with_row, without_column, without_row}
+use Rattle.tabled_grid.specs.Shifts.{is_crossed, shifted}
+use Rattle.tabled_grid.specs.Spans.{SpanMap}
 use Rattle.tabled_grid.specs.declared.records.axis.Axis.{Axis}
 use Rattle.tabled_grid.specs.declared.records.axis.Axis.TheVariants.{Rows, Columns}
 use Rattle.tabled_spans.specs.PanelSteps.{InsertsLine}
-use Rattle.tabled_spans.specs.Panels.{PutsIn}
+use Rattle.tabled_spans.specs.Panels.{Panels, PutsIn, has_room}
+use Rattle.tabled_spans.specs.Spanned.{with_span}
+use Rattle.tabled_spans.proofs.PanelMaps.{panel_merged}
 
 module _ {X : Type 0} where
   pub got_inserted : (xs : List X) (i : ℕ) (x d : X) → i ≤ length xs → get_or (insert xs i x) i d ≡ x
@@ -68,11 +72,12 @@ module _ {A : Type 0} (is_blank : A → Type 0) (text_of : A → List ℕ) (empt
   no_texts (x ∷ cells) (suc n) blank long = ap₂ (λ (t : List ℕ) ts. t ∷ ts) (empty x blank.0) (no_texts cells n blank.1 (omega arith))
 
   module _ (line : ℕ) (text : List ℕ) (old mid new : Grid A) (even : IsEven old) where
-    by_row : line ≤ old.rows → 1 ≤ old.columns → (row : List A) → AreBlanks is_blank old.columns row → mid ≡ with_row old line row → WritesText text_of mid new (place line 0) text → PutsIn text_of Rows line text old new
+    by_row : line ≤ old.rows → 1 ≤ old.columns → (row : List A) → AreBlanks is_blank old.columns row → mid ≡ with_row old line row → WritesText text_of mid new (place line 0) text → PutsIn is_blank text_of Rows line text old new
     by_row within some [] blanks is writes = absurd (omega (arith, blanks.many))
     by_row within some (x ∷ row) blanks is writes = record {
       cells = writes.cell ∷ row;
       texts = ap₂ (λ (t : List ℕ) ts. t ∷ ts) writes.has (no_texts row (old.columns - 1) blanks.blank.1 (omega (arith, blanks.many)));
+      blanks = blanks.blank.1;
       is = writes.is ∙ ap (λ h. with_cell h (place line 0) writes.cell) is ∙ ap (λ cs. let g : Grid A = record { rows = old.rows + 1; columns = old.columns; cells = cs } in g) put;
     }
       where
@@ -82,11 +87,12 @@ module _ {A : Type 0} (is_blank : A → Type 0) (text_of : A → List ℕ) (empt
         put : set (insert old.cells line (x ∷ row)) line (set (get_or (insert old.cells line (x ∷ row)) line []) 0 writes.cell) ≡ insert old.cells line (writes.cell ∷ row)
         put = ap (λ (r : List A). set (insert old.cells line (x ∷ row)) line (set r 0 writes.cell)) (got_inserted old.cells line (x ∷ row) [] high) ∙ set_inserted old.cells line (x ∷ row) (writes.cell ∷ row) high
 
-    by_column : line ≤ old.columns → 1 ≤ old.rows → (column : List A) → AreBlanks is_blank old.rows column → mid ≡ with_column old line column → WritesText text_of mid new (place 0 line) text → PutsIn text_of Columns line text old new
+    by_column : line ≤ old.columns → 1 ≤ old.rows → (column : List A) → AreBlanks is_blank old.rows column → mid ≡ with_column old line column → WritesText text_of mid new (place 0 line) text → PutsIn is_blank text_of Columns line text old new
     by_column within some [] blanks is writes = absurd (omega (arith, blanks.many))
     by_column within some (x ∷ column) blanks is writes = record {
       cells = writes.cell ∷ column;
       texts = ap₂ (λ (t : List ℕ) ts. t ∷ ts) writes.has (no_texts column (old.rows - 1) blanks.blank.1 (omega (arith, blanks.many)));
+      blanks = blanks.blank.1;
       is = writes.is ∙ ap (λ h. with_cell h (place 0 line) writes.cell) is ∙ ap (λ cs. let g : Grid A = record { rows = old.rows; columns = cond (nat_eq old.rows 0) old.columns (old.columns + 1); cells = cs } in g) (put old.cells even.wide (omega (arith, even.tall)));
     }
       where
@@ -94,6 +100,17 @@ module _ {A : Type 0} (is_blank : A → Type 0) (text_of : A → List ℕ) (empt
         put [] wide h = absurd (omega arith)
         put (r ∷ rows) wide h = ap (λ (s : List A). s ∷ map (λ (p : List A × A). insert p.0 line p.1) (zip rows column)) (set_inserted r line x writes.cell (omega (arith, wide.0)))
 
-  pub put_in : (axis : Axis) (line : ℕ) (text : List ℕ) (old mid new : Grid A) → IsEven old → line ≤ count_along axis old → 1 ≤ count_along (across axis) old → InsertsLine is_blank axis old mid line → WritesText text_of mid new (place_in axis line 0) text → PutsIn text_of axis line text old new
+  pub put_in : (axis : Axis) (line : ℕ) (text : List ℕ) (old mid new : Grid A) → IsEven old → line ≤ count_along axis old → 1 ≤ count_along (across axis) old → InsertsLine is_blank axis old mid line → WritesText text_of mid new (place_in axis line 0) text → PutsIn is_blank text_of axis line text old new
   put_in Rows line text old mid new even within some inserts writes = by_row line text old mid new even within some inserts.row inserts.blanks inserts.is writes
   put_in Columns line text old mid new even within some inserts writes = by_column line text old mid new even within some inserts.column inserts.blanks inserts.is writes
+
+  -- a panel is put in and merged
+  pub panelled : (axis : Axis) (line : ℕ) (text : List ℕ) (old mid new : Grid A) (m n : SpanMap) → IsEven old → line ≤ count_along axis old → 1 ≤ count_along (across axis) old → is_crossed axis line m ≡ false → InsertsLine is_blank axis old mid line → WritesText text_of mid new (place_in axis line 0) text → n ≡ with_span (across axis) (shifted axis line m) (place_in axis line 0) (count_along (across axis) old) → Panels is_blank text_of axis line text old m new n
+  panelled axis line text old mid new m n even within some free inserts writes merged = record {
+    puts = λ _. put_in axis line text old mid new even within some inserts writes;
+    merges = λ _. merged ∙ panel_merged axis line (count_along (across axis) old) m some;
+    leaves = λ none. absurd (false≢true (sym none ∙ room));
+  }
+    where
+      room : has_room axis line old m ≡ true
+      room = ap₂ (λ a b. a && b) (le-leb line (count_along axis old) within) (ap₂ (λ a b. a && b) (lt-ltb 0 (count_along (across axis) old) some) (ap not free))

@@ -1,9 +1,9 @@
 -- The map with a panel.
 use Rattle.std.proofs.Common.{◌≡◌, ℕ, ◌≤◌, None, refl, ap, ◌∙◌, arith}
 use Rattle.std.specs.FinMap.{get}
-use Rattle.tabled_grid.specs.Axis.{line_of, place_in}
+use Rattle.tabled_grid.specs.Axis.{across, line_of, place_in}
 use Rattle.tabled_grid.specs.Shifts.{shifted}
-use Rattle.tabled_grid.specs.Spans.{SpanMap, size_at, with_column_span, with_row_span, with_size}
+use Rattle.tabled_grid.specs.Spans.{SpanMap, size_at, with_size}
 use Rattle.tabled_grid.specs.declared.config.position.Position.{Position}
 use Rattle.tabled_grid.specs.declared.records.axis.Axis.{Axis}
 use Rattle.tabled_grid.specs.declared.records.axis.Axis.TheVariants.{Rows, Columns}
@@ -12,6 +12,7 @@ use Rattle.tabled_grid.proofs.ShiftedFits.{came}
 use Rattle.tabled_grid.proofs.Shifts.{Comes, moves, stays}
 use Rattle.tabled_grid.proofs.SpanMaps.{At, at, none, size_at-none, some}
 use Rattle.tabled_spans.specs.Panels.{with_panel}
+use Rattle.tabled_spans.specs.Spanned.{with_span}
 
 starts : (axis : Axis) (line : ℕ) → line_of axis (place_in axis line 0) ≡ line
 starts Rows line = refl
@@ -31,12 +32,10 @@ no_anchor axis line m = either (at (shifted axis line m) (place_in axis line 0))
     either (none e) = e
     either (some size e) = let it = came axis line m (place_in axis line 0) size e in absurd (comes_beside axis line it.old (place_in axis line 0) it.comes (starts axis line))
 
-pub row_merged : (line many : ℕ) (m : SpanMap) → 1 ≤ many → with_column_span (shifted Rows line m) (place_in Rows line 0) many ≡ with_panel Rows line many m
-row_merged line many m h =
+pub panel_merged : (axis : Axis) (line many : ℕ) (m : SpanMap) → 1 ≤ many → with_span (across axis) (shifted axis line m) (place_in axis line 0) many ≡ with_panel axis line many m
+panel_merged Rows line many m h =
     let here : size_at (shifted Rows line m) (place_in Rows line 0) ≡ (1, 1) = size_at-none _ (place_in Rows line 0) (no_anchor Rows line m) in
     column_span-is (shifted Rows line m) (place_in Rows line 0) many h ∙ ap (λ (s : ℕ × ℕ). with_size (shifted Rows line m) (place_in Rows line 0) (s.0, many)) here
-
-pub column_merged : (line many : ℕ) (m : SpanMap) → 1 ≤ many → with_row_span (shifted Columns line m) (place_in Columns line 0) many ≡ with_panel Columns line many m
-column_merged line many m h =
+panel_merged Columns line many m h =
     let here : size_at (shifted Columns line m) (place_in Columns line 0) ≡ (1, 1) = size_at-none _ (place_in Columns line 0) (no_anchor Columns line m) in
     row_span-is (shifted Columns line m) (place_in Columns line 0) many h ∙ ap (λ (s : ℕ × ℕ). with_size (shifted Columns line m) (place_in Columns line 0) (many, s.1)) here

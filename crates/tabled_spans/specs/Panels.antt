@@ -1,5 +1,6 @@
 -- Panels: a line, which is a row or a column, with one text is put in before a line of a table.
-use Rattle.std.specs.Prelude.{◌≡◌, ◌-◌, ◌&&◌, ℕ, Bool, true, false, List, [], ◌∷◌, map, nat_le, nat_lt, not, replicate}
+use Rattle.std.specs.Prelude.{◌≡◌, ◌-◌, ◌&&◌, ℕ, Bool, true, false, List, [], ◌∷◌, drop, map, nat_le, nat_lt, not, replicate}
+use Rattle.std.specs.List.{AllByRecursion}
 use Rattle.tabled_grid.specs.Along.{count_along}
 use Rattle.tabled_grid.specs.Axis.{across, place_in, resized}
 use Rattle.tabled_grid.specs.Grid.{Grid}
@@ -19,10 +20,11 @@ abbrev pub with_line : {A : Type 0} → Axis → ℕ → List A → Grid A → G
 with_line Rows i cells g = with_row g i cells
 with_line Columns j cells g = with_column g j cells
 
--- a line is put in before another, with a text in its first cell and none in the others
-pub record PutsIn {A : Type 0} (text_of : A → List ℕ) (axis : Axis) (line : ℕ) (text : List ℕ) (old new : Grid A) : Type 0 where
+-- a line is put in before another: a cell with a text, and then blanks, which have none
+pub record PutsIn {A : Type 0} (is_blank : A → Type 0) (text_of : A → List ℕ) (axis : Axis) (line : ℕ) (text : List ℕ) (old new : Grid A) : Type 0 where
   pub cells : List A
   pub texts : map text_of cells ≡ text ∷ replicate (cells_along axis old - 1) []
+  pub blanks : AllByRecursion is_blank (drop 1 cells)
   pub is : new ≡ with_line axis line cells old
 
 -- the map: anchors from the line on go one further, and the line is one rectangle
@@ -34,7 +36,7 @@ abbrev pub has_room : {A : Type 0} → Axis → ℕ → Grid A → SpanMap → B
 has_room axis line g m = nat_le line (count_along axis g) && (nat_lt 0 (cells_along axis g) && not (is_crossed axis line m))
 
 -- a panel before a line, where it may stand, and else nothing
-pub record Panels {A : Type 0} (text_of : A → List ℕ) (axis : Axis) (line : ℕ) (text : List ℕ) (g : Grid A) (m : SpanMap) (h : Grid A) (n : SpanMap) : Type 0 where
-  pub puts : has_room axis line g m ≡ true → PutsIn text_of axis line text g h
+pub record Panels {A : Type 0} (is_blank : A → Type 0) (text_of : A → List ℕ) (axis : Axis) (line : ℕ) (text : List ℕ) (g : Grid A) (m : SpanMap) (h : Grid A) (n : SpanMap) : Type 0 where
+  pub puts : has_room axis line g m ≡ true → PutsIn is_blank text_of axis line text g h
   pub merges : has_room axis line g m ≡ true → n ≡ with_panel axis line (cells_along axis g) m
   pub leaves : has_room axis line g m ≡ false → Same g m h n

@@ -1,4 +1,4 @@
-//! Spans of the least and of the greatest size, and anchors in the last row that there can be.
+//! Spans of the least and of the greatest size and what they print, and anchors in the last row that there can be.
 
 use crate::made::Step::{Anchor, Header, Nothing};
 use crate::made::{Store, makes};
@@ -52,4 +52,11 @@ fn the_least_and_the_greatest_span_end_at_the_table(rt: HostRuntime) {
 fn a_header_drops_an_anchor_in_the_last_row_that_there_can_be(rt: HostRuntime) {
     let steps = [Anchor(usize::MAX, 0, 1, 2), Header("N"), Nothing];
     assert!(rt; makes(rt.alloc(), Store::Flat, "a b /", steps, "N _ / a b / 0.0w2"));
+}
+
+#[test]
+fn a_span_prints_as_a_span_of_columns_or_of_rows(rt: HostRuntime) {
+    let (columns, rows) = (ColumnSpan::new(2), RowSpan::new(-1));
+    let printed = format!(in rt.alloc(); "{columns:?}, {rows:?}");
+    assert!(rt; is_word(printed, "ColumnSpan { size: 2 }, RowSpan { size: -1 }"));
 }

@@ -84,8 +84,8 @@ module _ {A : Type 0} (text_of : A → List ℕ) where
     put_in Rows line cells = map_grid-with_row text_of g line cells
     put_in Columns line cells = map_grid-with_column text_of g line cells
 
-    panelled : (axis : Axis) (line : ℕ) (text : List ℕ) → Panels text_of axis line text g c h d → state_of text_of h d ≡ put_panel axis line text (state_of text_of g c)
-    panelled axis line text panel = by (cases_Bool (has_room axis line g c))
+    panelled : (is_blank : A → Type 0) (axis : Axis) (line : ℕ) (text : List ℕ) → Panels is_blank text_of axis line text g c h d → state_of text_of h d ≡ put_panel axis line text (state_of text_of g c)
+    panelled is_blank axis line text panel = by (cases_Bool (has_room axis line g c))
       where
         by : (has_room axis line g c ≡ true) ⊎ (has_room axis line g c ≡ false) → state_of text_of h d ≡ put_panel axis line text (state_of text_of g c)
         by (inl fits) =
@@ -125,10 +125,10 @@ module _ {A : Type 0} (text_of : A → List ℕ) where
   after_step is_blank (step.Charset charset select) g c h d does = listed_is select _ (recode charset) (λ e g c h d w. same_state _ _ _ _ w.0 w.1) g c h d does
   after_step is_blank (step.ColumnSpan size select) g c h d does = listed_is select _ (span Columns size) (λ e g c h d w. same_state _ _ _ _ w.texts w.spans) g c h d does
   after_step is_blank (step.RowSpan size select) g c h d does = listed_is select _ (span Rows size) (λ e g c h d w. same_state _ _ _ _ w.texts w.spans) g c h d does
-  after_step is_blank (step.HorizontalPanel panel) g c h d does = panelled g c h d Rows panel.0 panel.1 does
-  after_step is_blank (step.VerticalPanel panel) g c h d does = panelled g c h d Columns panel.0 panel.1 does
-  after_step is_blank (step.Header text) g c h d does = panelled g c h d Rows 0 text does
-  after_step is_blank (step.Footer text) g c h d does = panelled g c h d Rows g.rows text does
+  after_step is_blank (step.HorizontalPanel panel) g c h d does = panelled g c h d is_blank Rows panel.0 panel.1 does
+  after_step is_blank (step.VerticalPanel panel) g c h d does = panelled g c h d is_blank Columns panel.0 panel.1 does
+  after_step is_blank (step.Header text) g c h d does = panelled g c h d is_blank Rows 0 text does
+  after_step is_blank (step.Footer text) g c h d does = panelled g c h d is_blank Rows g.rows text does
   after_step is_blank (step.MergeVertical _) g c h d does = merged g c h d Rows does
   after_step is_blank (step.MergeHorizontal _) g c h d does = merged g c h d Columns does
   after_step is_blank (step.Rotate rotate) g c h d does = rearranged g c h d (rotated rotate) (total-rotated rotate g.rows g.columns) does

@@ -38,8 +38,8 @@ module _ {A : Type 0} (is_blank : A → Type 0) (text_of : A → List ℕ) where
   on_entities : (select : Select) (does leaves : Entity → Change A SpanMap) → ((e : Entity) → OptionKeeps fitting (does e) (leaves e)) → OptionKeeps fitting (EachListed (Names text_of select) does) (LeavesFirst text_of select does leaves)
   on_entities select does leaves keeps = keeps_copied fitting _ _ (keeps_listed fitting does _ (Names text_of select) (λ e. keeps_copied fitting (does e) (leaves e) (keeps e)))
 
-  panels : (axis : Axis) (line : Grid A → ℕ) (text : List ℕ) → OptionKeeps fitting (λ g. Panels text_of axis (line g) text g) Same
-  panels axis line text = record { done = λ g m h n fits does. panels_fit text_of axis (line g) text g m h n fits does; refused = same_fits }
+  panels : (axis : Axis) (line : Grid A → ℕ) (text : List ℕ) → OptionKeeps fitting (λ g. Panels is_blank text_of axis (line g) text g) Same
+  panels axis line text = record { done = λ g m h n fits does. panels_fit is_blank text_of axis (line g) text g m h n fits does; refused = same_fits }
 
   merges : (axis : Axis) → OptionKeeps fitting (Merges text_of axis) Same
   merges axis = record { done = λ g m h n fits does. rw does.0 (fits_merged axis (map_grid text_of g) m n does.1 fits); refused = same_fits }

@@ -19,7 +19,8 @@ use std::alloc::{AllocError, Global};
 pub(super) type Anchor = (Position, (usize, usize));
 
 /// The index of the anchor at a place, or else that where it would stand.
-pub(super) fn search(anchors: &[Anchor], pos: Position) -> Result<usize, usize>
+#[doc(hidden)]
+pub fn search(anchors: &[Anchor], pos: Position) -> Result<usize, usize>
     ensures within { IsSearchInRange result (length anchors.now) }
     ensures found { IsBinarySearchResult (λ (anchor : Position × (ℕ × ℕ)). position_cmp anchor.0 pos) anchors.now result }
 {

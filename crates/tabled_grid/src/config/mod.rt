@@ -11,6 +11,8 @@ mod position;
 mod shifts;
 mod spanned_config;
 
+#[doc(hidden)]
+pub use anchors::search;
 pub use bounds::ToBounds;
 pub use cover_map::CoverMap;
 pub use entity::{Entity, EntityIterator};

@@ -29,6 +29,7 @@ mod records;
 mod records_mut;
 mod refusing;
 mod resizable;
+mod target;
 mod turn;
 pub mod vec_records;
 
@@ -44,4 +45,5 @@ pub use records::Records;
 pub use records_mut::RecordsMut;
 pub use refusing::Refusing;
 pub use resizable::Resizable;
+pub use target::{Target, TargetColumn, TargetRow};
 pub use vec_records::{Text, VecRecords};

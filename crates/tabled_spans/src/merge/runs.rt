@@ -10,7 +10,7 @@ ghost use Rattle.tabled_spans.specs.RunSteps.{RunAt, RunsBefore};
 ghost use Rattle.tabled_spans.specs.Runs.{Joins, further, is_free};
 
 use std::alloc::{AllocError, Global};
-use tabled_grid::config::{CoverMap, Position, SpannedConfig};
+use tabled_grid::config::{CoverMap, Position, SpannedConfig, search};
 use tabled_grid::records::{Axis, CellText, ExactRecords, PeekableRecords, Records};
 
 /// The first cell of each run and the size of the run, row by row.
@@ -107,9 +107,7 @@ fn is_free(cfg: &SpannedConfig, cover: &CoverMap, pos: Position) -> bool
 fn is_anchor(cfg: &SpannedConfig, pos: Position) -> bool
     ensures { result ≡ not (((size_at cfg.now pos).0 == 1) && ((size_at cfg.now pos).1 == 1)) }
 {
-    cfg.anchors()
-        .binary_search_by_key(&pos, |anchor| anchor.0)
-        .is_ok()
+    search(cfg.anchors(), pos).is_ok()
 }
 
 /// The next place along an axis.

@@ -7,11 +7,11 @@ ghost use Rattle.tabled_options.specs.Does.{Same};
 ghost use Rattle.tabled_spans.specs.Panels.{Panels, has_room};
 ghost use Rattle.std.proofs.Common.{rules};
 
-use crate::panel::put::put;
+use crate::panel::HorizontalPanel;
 use std::alloc::{AllocError, Global};
 use std::marker::Model;
 use tabled_grid::config::{Entity, SpannedConfig};
-use tabled_grid::records::{Axis, CellText, ExactRecords, Records, RecordsMut, Resizable};
+use tabled_grid::records::{CellText, ExactRecords, Records, RecordsMut, Resizable};
 use tabled_options::TableOption;
 
 /// Puts a row with one text in after the last row, as `HorizontalPanel` does (r x c to r+1 x c).
@@ -50,7 +50,7 @@ where
     R: Records + ExactRecords + Resizable + RecordsMut<String>,
     R::Cell: CellText,
 {
-    ghost does = { λ s g. Panels R.Cell.text_of Rows g.rows s g };
+    ghost does = { λ s g. Panels R.Cell.is_blank R.Cell.text_of Rows g.rows s g };
 
     ghost leaves = { λ _. Same };
 
@@ -63,10 +63,10 @@ where
         alloc: Global,
         records: &mut R,
         cfg: &mut SpannedConfig,
-        _dimension: &mut D,
+        dimension: &mut D,
     ) -> Result<(), AllocError> {
         let rows = records.count_rows();
-        put(alloc, records, cfg, Axis::Rows, rows, self.text)
+        HorizontalPanel::new(rows, self.text).change(alloc, records, cfg, dimension)
     }
 
     fn hint_change(&self) -> Option<Entity> {

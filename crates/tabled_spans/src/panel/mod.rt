@@ -5,15 +5,12 @@ ghost use Rattle.std.specs.String.{string_bytes};
 
 mod footer;
 mod header;
-mod horizontal_panel;
-mod put;
-mod vertical_panel;
+mod panel_on;
 mod width;
 
 pub use footer::Footer;
 pub use header::Header;
-pub use horizontal_panel::HorizontalPanel;
-pub use vertical_panel::VerticalPanel;
+pub use panel_on::{HorizontalPanel, PanelOn, VerticalPanel};
 
 /// Makes panels: rows and columns of one text, each of which is one merged cell.
 ///

@@ -1,24 +1,15 @@
 //! Spans of columns and of rows.
 
-ghost use Rattle.std.specs.Prelude.{◌≡◌, ◌<ℤ◌, OnErr, OnOk};
-ghost use Rattle.tabled_spans.specs.Spanned.{Spans, SpansFirst};
+ghost use Rattle.std.specs.Prelude.{◌≡◌};
 
 mod along;
-mod column;
 mod grow;
 mod property;
 mod pull;
-mod row;
+mod span_on;
 
-use crate::span::along::back_of;
-use crate::span::grow::grow;
-use crate::span::pull::pull_each;
-pub use column::ColumnSpan;
 pub use property::{ColumnSpansFit, RowSpansFit};
-pub use row::RowSpan;
-use std::alloc::{AllocError, Global};
-use tabled_grid::config::{Entity, SpannedConfig};
-use tabled_grid::records::{Axis, CellText, ExactRecords, PeekableRecords, Records, RecordsMut};
+pub use span_on::{ColumnSpan, RowSpan, SpanOn};
 
 /// Makes spans of columns and of rows.
 ///
@@ -60,33 +51,4 @@ impl Span {
     {
         RowSpan::new(size)
     }
-}
-
-/// Merges cells at each place that an entity names in a table, one after another, and drops what is hidden
-/// then.
-///
-/// Refused for memory, it leaves all as it was or the writes before one of its own, and the merged cells as
-/// they were.
-fn span_cells<R>(
-    alloc: Global,
-    records: &mut R,
-    cfg: &mut SpannedConfig,
-    axis: Axis,
-    size: isize,
-    entity: Entity,
-) -> Result<(), AllocError>
-where
-    R: Records + ExactRecords + PeekableRecords + RecordsMut<String>,
-    R::Cell: CellText,
-    requires { R.is_well_formed records.old }
-    ensures well { R.is_well_formed records.new }
-    ensures ok { OnOk result (Spans R.Cell.text_of axis size entity (R.grid records.old) cfg.old (R.grid records.new) cfg.new) }
-    ensures err { OnErr result (SpansFirst R.Cell.text_of axis size entity (R.grid records.old) cfg.old (R.grid records.new) cfg.new) }
-{
-    if size > 0 {
-        let rows = records.count_rows();
-        let columns = records.count_columns();
-        return grow(alloc, cfg, axis, size.unsigned_abs(), entity, rows, columns);
-    }
-    pull_each(alloc, records, cfg, axis, back_of(size), entity)
 }

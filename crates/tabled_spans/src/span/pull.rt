@@ -1,9 +1,8 @@
 //! Spans back from a place, or over all of a line, visible or not.
 
-ghost use Rattle.std.specs.Prelude.{◌≡◌, ◌+◌, ◌<◌, ◌≤◌, ◌^◌, ℕ, IfOk, OnErr, OnOk, T, length};
+ghost use Rattle.std.specs.Prelude.{◌≡◌, ◌+◌, ◌<◌, ◌≤◌, ◌^◌, ℕ, IfOk, OnErr, OnOk, T};
 ghost use Rattle.std.specs.FinMap.{is_sorted};
 ghost use Rattle.std.specs.List.{AllByRecursion};
-ghost use Rattle.std.specs.List.Sorted.{IsBinarySearchResult, IsSearchInRange};
 ghost use Rattle.tabled_grid.specs.Entity.{inside};
 ghost use Rattle.tabled_grid.specs.Spans.{IsSizeAt, position_cmp, with_sizes};
 ghost use Rattle.tabled_grid.specs.declared.config.position.Position.{Position};
@@ -15,16 +14,8 @@ ghost use Rattle.tabled_spans.specs.Spanned.{pull_writes_on, pulled, pulled_each
 
 use crate::span::along::{resized, size_at, taken};
 use std::alloc::{AllocError, Global};
-use tabled_grid::config::{Entity, Position, SpannedConfig};
+use tabled_grid::config::{Entity, Position, SpannedConfig, search};
 use tabled_grid::records::{Axis, CellText, ExactRecords, PeekableRecords, Records, RecordsMut};
-
-/// The index of the change at a place, or else that where it would stand.
-fn search(changes: &[(Position, (usize, usize))], pos: Position) -> Result<usize, usize>
-    ensures within { IsSearchInRange result (length changes.now) }
-    ensures found { IsBinarySearchResult (λ (change : Position × (ℕ × ℕ)). position_cmp change.0 pos) changes.now result }
-{
-    changes.binary_search_by_key(&pos, |change| change.0)
-}
 
 /// Gives a place a height or a width among the changes of `cfg`, of which the later one counts.
 fn put_span(
