@@ -9,6 +9,7 @@ mod hiders;
 mod offset;
 mod position;
 mod shifts;
+mod size;
 mod spanned_config;
 
 pub use bounds::ToBounds;
@@ -16,4 +17,5 @@ pub use cover_map::CoverMap;
 pub use entity::{Entity, EntityIterator};
 pub use offset::Offset;
 pub use position::Position;
+pub use size::{Rectangle, Size};
 pub use spanned_config::SpannedConfig;
