@@ -1,7 +1,6 @@
 -- Worked rows of carried rectangles.
 use Rattle.std.proofs.Common.{◌≡◌, ℕ, ◌-◌, List, [], ◌∷◌, Some, refl}
 use Rattle.std.specs.Prelude.{length, slice_index_or}
-use Rattle.tabled_grid.specs.Anchors.{Anchor}
 use Rattle.tabled_grid.specs.Entity.{place}
 use Rattle.tabled_grid.specs.Pieces.{cut_places}
 use Rattle.tabled_grid.specs.Places.{Places}
@@ -9,6 +8,7 @@ use Rattle.tabled_grid.specs.declared.config.position.Position.{Position}
 use Rattle.tabled_grid.specs.declared.records.axis.Axis.TheVariants.{Rows}
 use Rattle.tabled_grid.specs.declared.records.piece_order.PieceOrder.TheVariants.{Concat, Zip}
 use Rattle.tabled_grid.specs.Fitting.{fitting}
+use Rattle.tabled_grid.specs.Spans.{Rectangle}
 use Rattle.tabled_images.specs.Images.{images}
 
 -- a turn to the left
@@ -28,7 +28,7 @@ abbrev columns_of : List ℕ → ℕ → ℕ → Places
 columns_of kept rows columns = record { rows = rows; columns = columns; old_place = λ (p : Position). Some (place p.row (slice_index_or kept p.col 0)) }
 
 -- the anchors of what becomes of those of a list
-abbrev after : Places → ℕ → ℕ → List Anchor → List Anchor
+abbrev after : Places → ℕ → ℕ → List Rectangle → List Rectangle
 after places rows columns es = images places (fitting rows columns es)
 
 rotated_left : after (left 2 3) 2 3 ((place 0 0, (1, 2)) ∷ []) ≡ (place 1 0, (2, 1)) ∷ []
