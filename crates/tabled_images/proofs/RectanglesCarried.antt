@@ -97,7 +97,7 @@ module _ (places : Places) where
           let q = c.3.from p ha in
           let r = d.3.from p hb in
           let one = takes_one p q.0 r.0 q.2 r.2 in
-          let anchor = fits.apart c.0 d.0 c.1 d.1 q.0 c.2 d.2 (holds-from _ _ q.1) (holds-from _ _ (subst (λ x. In d x) (sym one) r.1)) in
+          let anchor = fits.apart c.0 d.0 c.1 d.1 q.0 c.2 d.2 (holds-from _ _ q.1) (holds-from _ _ (subst (λ x. In (d.0, d.1) x) (sym one) r.1)) in
           let size = same_Some _ _ (sym c.2 ∙ ap (get old) anchor ∙ d.2) in
           let other : Carries places (c.0, c.1) (b, t) = subst (λ e. Carries places e (b, t)) (ap₂ (λ k z. (k, z)) (sym anchor) (sym size)) d.3 in
           ap (λ (f : Rectangle). f.0) (carries_one (c.0, c.1) (a, s) (b, t) c.4 d.4 c.3 other)
@@ -255,7 +255,7 @@ module _ (places : Places) where
           let q = c.from b (first_in (b, t) full) in
           let r = d.3.from b (first_in (b, found.0) d.4) in
           let one = takes_one b q.0 r.0 q.2 r.2 in
-          let anchor = fits.apart a d.0 s d.1 q.0 has d.2 (holds-from _ _ q.1) (holds-from _ _ (subst (λ x. In d x) (sym one) r.1)) in
+          let anchor = fits.apart a d.0 s d.1 q.0 has d.2 (holds-from _ _ q.1) (holds-from _ _ (subst (λ x. In (d.0, d.1) x) (sym one) r.1)) in
           let size = same_Some _ _ (sym has ∙ ap (get m) anchor ∙ d.2) in
           let other : Carries places (a, s) (b, found.0) = subst (λ e. Carries places e (b, found.0)) (ap₂ (λ k z. (k, z)) (sym anchor) (sym size)) d.3 in
           got ∙ ap (λ (f : Rectangle). Some f.1) (carries_one (a, s) (b, found.0) (b, t) d.4 full other c)
