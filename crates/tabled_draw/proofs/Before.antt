@@ -10,10 +10,10 @@ use Rattle.tabled_grid.proofs.Members.{Member, sorted-find}
 use Rattle.tabled_grid.proofs.PassedAnchors.{Earlier, earlier}
 use Rattle.tabled_grid.proofs.SpanMaps.{equal, found_above, halves, less, size_at-none, size_at-some}
 use Rattle.tabled_grid.proofs.Spans.{positions_exact, positions_total}
-use Rattle.tabled_grid.specs.Anchors.{Anchor}
 use Rattle.tabled_grid.specs.Entity.{place}
-use Rattle.tabled_grid.specs.Spans.{SpanMap, position_cmp, size_at}
+use Rattle.tabled_grid.specs.Spans.{Rectangle, SpanMap, position_cmp, size_at, sized}
 use Rattle.tabled_grid.specs.declared.config.position.Position.{Position}
+use Rattle.tabled_grid.specs.declared.config.size.Size.{Size}
 
 -- what the test says
 abbrev pub Before : ℕ → ℕ → Position → Type 0
@@ -97,14 +97,14 @@ before-none p = by (cases_lt 0 p.row)
 -- ---- anchors before a place
 
 module _ (i j : ℕ) where
-  count-before : (e : Anchor) (es : List Anchor) → is_before i j e.0 ≡ true → count_before i j (e ∷ es) ≡ suc (count_before i j es)
+  count-before : (e : Rectangle) (es : List Rectangle) → is_before i j e.0 ≡ true → count_before i j (e ∷ es) ≡ suc (count_before i j es)
   count-before e es t = cond-true _ _ _ t
 
-  count-after : (e : Anchor) (es : List Anchor) → is_before i j e.0 ≡ false → count_before i j (e ∷ es) ≡ 0
+  count-after : (e : Rectangle) (es : List Rectangle) → is_before i j e.0 ≡ false → count_before i j (e ∷ es) ≡ 0
   count-after e es f = cond-false _ _ _ f
 
 -- the anchors after one that is at a place stand after it
-none-after : (i j : ℕ) (e : Anchor) (es : List Anchor) → T (is_sorted position_cmp (e ∷ es)) → e.0 ≡ place i j → count_before i (j + 1) es ≡ 0
+none-after : (i j : ℕ) (e : Rectangle) (es : List Rectangle) → T (is_sorted position_cmp (e ∷ es)) → e.0 ≡ place i j → count_before i (j + 1) es ≡ 0
 none-after i j e [] up at = refl
 none-after i j e (f ∷ fs) up at = count-after i (j + 1) f fs (by (earlier e.0 f.0 (less _ (halves _ _ (halves _ _ up).0).0)))
   where
@@ -119,7 +119,7 @@ none-after i j e (f ∷ fs) up at = count-after i (j + 1) f fs (by (earlier e.0 
     by (inr h) = after-from i (j + 1) f.0 (inr (sym h.0 ∙ row, omega (arith, h.1, col)))
 
 -- the next anchor is at the place
-pub next-here : (i j : ℕ) (es : List Anchor) (d : Anchor) → T (is_sorted position_cmp es) → count_before i j es < length es → (get_or es (count_before i j es) d).0 ≡ place i j → count_before i (j + 1) es ≡ count_before i j es + 1
+pub next-here : (i j : ℕ) (es : List Rectangle) (d : Rectangle) → T (is_sorted position_cmp es) → count_before i j es < length es → (get_or es (count_before i j es) d).0 ≡ place i j → count_before i (j + 1) es ≡ count_before i j es + 1
 next-here i j [] d up within at = absurd (omega (arith, within))
 next-here i j (e ∷ es) d up within at = by (cases_before i j e.0) (next-here i j es d (halves _ _ up).1)
   where
@@ -136,7 +136,7 @@ next-here i j (e ∷ es) d up within at = by (cases_before i j e.0) (next-here i
         omega (arith, next, none-after i j e es up here, n)
 
 -- the next anchor is elsewhere, if there is one
-pub next-later : (i j : ℕ) (es : List Anchor) (d : Anchor) → T (is_sorted position_cmp es) → (count_before i j es < length es → (get_or es (count_before i j es) d).0 ≢ place i j)
+pub next-later : (i j : ℕ) (es : List Rectangle) (d : Rectangle) → T (is_sorted position_cmp es) → (count_before i j es < length es → (get_or es (count_before i j es) d).0 ≢ place i j)
     → (count_before i (j + 1) es ≡ count_before i j es) × (find position_cmp (place i j) es ≡ None)
 next-later i j [] d up apart = (refl, refl)
 next-later i j (e ∷ es) d up apart = by (cases_before i j e.0) (next-later i j es d (halves _ _ up).1)
@@ -157,7 +157,7 @@ next-later i j (e ∷ es) d up apart = by (cases_before i j e.0) (next-later i j
     not-before (inr h) (inl k) = omega (arith, h.0, k)
     not-before (inr h) (inr k) = omega (arith, h.1, k.1)
 
-    none : After i j e.0 → (r : Option (ℕ × ℕ)) → find position_cmp p es ≡ r → r ≡ None
+    none : After i j e.0 → (r : Option Size) → find position_cmp p es ≡ r → r ≡ None
     none after None is = refl
     none after (Some v) is = absurd (not-before after (earlier e.0 p (found_above position_cmp positions_total positions_exact p e.0 es v (halves _ _ up).0 is)))
 
@@ -173,12 +173,12 @@ next-later i j (e ∷ es) d up apart = by (cases_before i j e.0) (next-later i j
         let ne : e.0 ≢ p = λ at. apart (omega (arith, n)) (ap (λ k. (get_or (e ∷ es) k d).0) n ∙ at) in
         (count-after i (j + 1) e es (after-next i j e.0 after ne) ∙ sym n, other ne ∙ none after (find position_cmp p es) refl)
 
-pub count-row : (i columns : ℕ) (es : List Anchor) → ((e : Anchor) → Member e es → e.0.col < columns) → count_before i columns es ≡ count_before (i + 1) 0 es
+pub count-row : (i columns : ℕ) (es : List Rectangle) → ((e : Rectangle) → Member e es → e.0.col < columns) → count_before i columns es ≡ count_before (i + 1) 0 es
 count-row i columns [] within = refl
 count-row i columns (e ∷ es) within =
     ap₂ (λ b n. cond b (suc n) 0) (before-row i columns e.0 (within e (inl refl))) (count-row i columns es (λ f m. within f (inr m)))
 
-pub count-none : (es : List Anchor) → count_before 0 0 es ≡ 0
+pub count-none : (es : List Rectangle) → count_before 0 0 es ≡ 0
 count-none [] = refl
 count-none (e ∷ es) = count-after 0 0 e es (before-none e.0)
 
@@ -189,27 +189,27 @@ member-at [] k d h = absurd (omega (arith, h))
 member-at (x ∷ xs) zero d h = inl refl
 member-at (x ∷ xs) (suc k) d h = inr (member-at xs k d (omega (arith, h)))
 
-module _ (m : SpanMap) (p : Position) (n : ℕ) (is : n ≡ count_before p.row p.col (entries m)) (xs : List Anchor) (same : xs ≡ entries m) (d : Anchor) where
-  at : Anchor
+module _ (m : SpanMap) (p : Position) (n : ℕ) (is : n ≡ count_before p.row p.col (entries m)) (xs : List Rectangle) (same : xs ≡ entries m) (d : Rectangle) where
+  at : Rectangle
   at = get_or (entries m) n d
 
   pub size-here : n < length xs → (get_or xs n d).0 ≡ p → (get_or xs n d).1 ≡ size_at m p
   unfolding at
   size-here within here =
-      let found : at.0 ≡ p = ap (λ (ys : List Anchor). (get_or ys n d).0) (sym same) ∙ here in
-      let has : get m at.0 ≡ Some at.1 = get-entries m at.0 ∙ sorted-find position_cmp positions_total positions_exact (entries m) at.0 at.1 (entries_sorted m) (member-at (entries m) n d (subst (λ (ys : List Anchor). n < length ys) same within)) in
-      ap (λ (ys : List Anchor). (get_or ys n d).1) same ∙ sym (size_at-some m p at.1 (ap (get m) (sym found) ∙ has))
+      let found : at.0 ≡ p = ap (λ (ys : List Rectangle). (get_or ys n d).0) (sym same) ∙ here in
+      let has : get m at.0 ≡ Some at.1 = get-entries m at.0 ∙ sorted-find position_cmp positions_total positions_exact (entries m) at.0 at.1 (entries_sorted m) (member-at (entries m) n d (subst (λ (ys : List Rectangle). n < length ys) same within)) in
+      ap (λ (ys : List Rectangle). (get_or ys n d).1) same ∙ sym (size_at-some m p at.1 (ap (get m) (sym found) ∙ has))
 
   pub count-here : n < length xs → (get_or xs n d).0 ≡ p → n + 1 ≡ count_before p.row (p.col + 1) (entries m)
   count-here within here =
-      let less : n < length (entries m) = subst (λ (ys : List Anchor). n < length ys) same within in
-      let next : count_before p.row (p.col + 1) (entries m) ≡ count_before p.row p.col (entries m) + 1 = next-here p.row p.col (entries m) d (entries_sorted m) (omega (arith, is, less)) (ap (λ k. (get_or (entries m) k d).0) (sym is) ∙ ap (λ (ys : List Anchor). (get_or ys n d).0) (sym same) ∙ here) in
+      let less : n < length (entries m) = subst (λ (ys : List Rectangle). n < length ys) same within in
+      let next : count_before p.row (p.col + 1) (entries m) ≡ count_before p.row p.col (entries m) + 1 = next-here p.row p.col (entries m) d (entries_sorted m) (omega (arith, is, less)) (ap (λ k. (get_or (entries m) k d).0) (sym is) ∙ ap (λ (ys : List Rectangle). (get_or ys n d).0) (sym same) ∙ here) in
       omega (arith, is, next)
 
   later : (n < length xs → (get_or xs n d).0 ≢ p) → (count_before p.row (p.col + 1) (entries m) ≡ count_before p.row p.col (entries m)) × (find position_cmp p (entries m) ≡ None)
-  later apart = next-later p.row p.col (entries m) d (entries_sorted m) (λ h e. apart (subst (λ (ys : List Anchor). n < length ys) (sym same) (omega (arith, is, h))) (ap (λ (ys : List Anchor). (get_or ys n d).0) same ∙ ap (λ k. (get_or (entries m) k d).0) is ∙ e))
+  later apart = next-later p.row p.col (entries m) d (entries_sorted m) (λ h e. apart (subst (λ (ys : List Rectangle). n < length ys) (sym same) (omega (arith, is, h))) (ap (λ (ys : List Rectangle). (get_or ys n d).0) same ∙ ap (λ k. (get_or (entries m) k d).0) is ∙ e))
 
-  pub size-later : (n < length xs → (get_or xs n d).0 ≢ p) → (1, 1) ≡ size_at m p
+  pub size-later : (n < length xs → (get_or xs n d).0 ≢ p) → sized 1 1 ≡ size_at m p
   size-later apart = sym (size_at-none m p (get-entries m p ∙ (later apart).1))
 
   pub count-later : (n < length xs → (get_or xs n d).0 ≢ p) → n ≡ count_before p.row (p.col + 1) (entries m)

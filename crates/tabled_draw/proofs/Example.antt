@@ -5,16 +5,16 @@ use Rattle.std.specs.Str.{chars}
 use Rattle.tabled_draw.specs.Owners.{owner}
 use Rattle.tabled_draw.specs.Picture.{ended, picture}
 use Rattle.tabled_draw.specs.Sizes.{sizes}
-use Rattle.tabled_grid.specs.Anchors.{Anchor}
 use Rattle.tabled_grid.specs.Entity.{place}
 use Rattle.tabled_grid.specs.Grid.{Grid}
+use Rattle.tabled_grid.specs.Spans.{Rectangle, sized}
 use Rattle.unicode_width.specs.Width.{char_width}
 
 abbrev table : Grid (List ℕ)
 table = record { rows = 3; columns = 3; cells = (codes "0" ∷ codes "1" ∷ codes "x" ∷ []) ∷ (codes "y" ∷ codes "2" ∷ codes "3" ∷ []) ∷ (codes "4" ∷ codes "z" ∷ codes "w" ∷ []) ∷ [] }
 
-abbrev merged : List Anchor
-merged = (place 0 0, (2, 1)) ∷ (place 0 1, (1, 2)) ∷ (place 2 0, (1, 3)) ∷ []
+abbrev merged : List Rectangle
+merged = (place 0 0, sized 2 1) ∷ (place 0 1, sized 1 2) ∷ (place 2 0, sized 1 3) ∷ []
 
 pub drawn : ended (picture table merged) ≡ codes "+---+---+---+\n| 0 | 1     |\n+   +---+---+\n|   | 2 | 3 |\n+---+---+---+\n| 4         |\n+---+---+---+\n"
 unfolding chars char_width owner sizes

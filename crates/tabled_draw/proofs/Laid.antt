@@ -10,11 +10,10 @@ use Rattle.tabled_draw.specs.Sizes.{own_sizes, start, widths}
 use Rattle.tabled_grid.proofs.Fitting.{anchors-fitting, keep_fitting-fits}
 use Rattle.tabled_grid.proofs.SortedAnchors.{anchors-of}
 use Rattle.tabled_grid.specs.Along.{count_along}
-use Rattle.tabled_grid.specs.Anchors.{Anchor}
 use Rattle.tabled_grid.specs.Fitting.{fitting, keep_fitting}
 use Rattle.tabled_grid.specs.Grid.{Grid}
 use Rattle.tabled_grid.specs.Rectangles.{Fits}
-use Rattle.tabled_grid.specs.Spans.{AreSpanSizes, SpanMap, position_cmp}
+use Rattle.tabled_grid.specs.Spans.{AreSpanSizes, Rectangle, SpanMap, position_cmp}
 use Rattle.tabled_grid.specs.declared.records.axis.Axis.{Axis}
 use Rattle.tabled_grid.specs.declared.records.axis.Axis.TheVariants.{Columns}
 
@@ -29,7 +28,7 @@ module _ (g : Grid (List ℕ)) (m kept : SpanMap) (rows columns : ℕ) (is_rows 
       ap (λ k. bytes_of g (entries k)) (is ∙ ap₂ (λ r c. keep_fitting r c m) is_rows is_columns)
       ∙ ap (bytes_of g) (entries-from_sorted position_cmp (fitting g.rows g.columns (entries m)) (anchors-fitting g.rows g.columns (entries m) (anchors-of m valid)).sorted)
 
-module _ (axis : Axis) (g : Grid (List ℕ)) (es : List Anchor) where
+module _ (axis : Axis) (g : Grid (List ℕ)) (es : List Rectangle) where
   pub none-asked : (n : ℕ) (s : List ℕ) → n ≡ count_along axis g → s ≡ replicate n 0 → Measured axis g es 0 0 s
   none-asked n s same is = measured-none axis g es s (is ∙ ap (λ k. replicate k 0) same)
 

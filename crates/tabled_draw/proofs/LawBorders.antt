@@ -11,9 +11,10 @@ use Rattle.tabled_draw.specs.Owners.{owner, owner_in}
 use Rattle.tabled_draw.specs.Picture.{left, line, picture, top}
 use Rattle.tabled_draw.specs.Standing.{StandBetween, StandsAt, StandsIn, is_amid, is_among, is_joined_above, is_joined_around, is_joined_beside}
 use Rattle.tabled_grid.proofs.Members.{Member, any-from}
-use Rattle.tabled_grid.specs.Anchors.{Anchor}
 use Rattle.tabled_grid.specs.Entity.{place}
 use Rattle.tabled_grid.specs.Grid.{Grid, IsInside}
+use Rattle.tabled_grid.specs.Spans.{Rectangle, sized}
+use Rattle.tabled_grid.specs.declared.config.size.Size.{Size}
 
 among-from : (k at n : ℕ) → at ≤ k → k < at + n → is_among k at n ≡ true
 among-from k at n low high = and_from _ _ (le-leb at k low) (lt-ltb k (at + n) high)
@@ -21,17 +22,17 @@ among-from k at n low high = and_from _ _ (le-leb at k low) (lt-ltb k (at + n) h
 amid-from : (k at n : ℕ) → at < k → k < at + n → is_amid k at n ≡ true
 amid-from k at n low high = and_from _ _ (lt-ltb at k low) (lt-ltb k (at + n) high)
 
-module _ (g : Grid (List ℕ)) (es : List Anchor) (well : LieWell g.rows g.columns es) (some : IsInside g (place 0 0)) where
+module _ (g : Grid (List ℕ)) (es : List Rectangle) (well : LieWell g.rows g.columns es) (some : IsInside g (place 0 0)) where
   -- an owner is a merged cell, or takes one place
-  merged : (i j : ℕ) (o : Anchor) → owner g.rows g.columns es i j ≡ Some o → Member o es ⊎ (o.1 ≡ (1, 1))
+  merged : (i j : ℕ) (o : Rectangle) → owner g.rows g.columns es i j ≡ Some o → Member o es ⊎ (o.1 ≡ sized 1 1)
   merged i j o e = by (owned es (place s.row s.col)) s.is
     where
       s : Inside g.rows g.columns es i j o
       s = owner-some g.rows g.columns es i j o e
 
-      by : Owned es (place s.row s.col) (owner_in es (place s.row s.col)) → o ≡ owner_in es (place s.row s.col) → Member o es ⊎ (o.1 ≡ (1, 1))
-      by (held m h) is = inl (subst (λ (x : Anchor). Member x es) (sym is) m)
-      by (alone single never) is = inr (ap (λ (x : Anchor). x.1) (is ∙ single))
+      by : Owned es (place s.row s.col) (owner_in es (place s.row s.col)) → o ≡ owner_in es (place s.row s.col) → Member o es ⊎ (o.1 ≡ sized 1 1)
+      by (held m h) is = inl (subst (λ (x : Rectangle). Member x es) (sym is) m)
+      by (alone single never) is = inr (ap (λ (x : Rectangle). x.1) (is ∙ single))
 
   beside-stands : (i j n : ℕ) → i < g.rows → j ≤ g.columns → top g es i < n → n < top g es (i + 1) → is_joined_beside es i j ≡ false
       → StandsAt (picture g es) n (left g es j) (124 ∷ [])
@@ -39,7 +40,7 @@ module _ (g : Grid (List ℕ)) (es : List Anchor) (well : LieWell g.rows g.colum
       stands-at g es n (left g es j) (line g es n (i + 1) (i + 1)) (124 ∷ []) (line-in g es some.row some.col i n h above below)
       (subst (λ b. StandsIn (line g es n (i + 1) (i + 1)) (left g es j) (cond b 124 43 ∷ [])) (eq-eqb (i + 1) (i + 1) refl) (edge-stands g es well n (i + 1) (i + 1) j k never))
     where
-      never : (o : Anchor) → owner g.rows g.columns es (i + 1) j ≡ Some o → owner g.rows g.columns es (i + 1) (j + 1) ≡ Some o → owner g.rows g.columns es (i + 1) j ≡ Some o → owner g.rows g.columns es (i + 1) (j + 1) ≡ Some o → ⊥
+      never : (o : Rectangle) → owner g.rows g.columns es (i + 1) j ≡ Some o → owner g.rows g.columns es (i + 1) (j + 1) ≡ Some o → owner g.rows g.columns es (i + 1) j ≡ Some o → owner g.rows g.columns es (i + 1) (j + 1) ≡ Some o → ⊥
       never o e e' f f' = by (merged (i + 1) j o e)
         where
           a : Owns g.rows g.columns es (i + 1) j o
@@ -48,9 +49,9 @@ module _ (g : Grid (List ℕ)) (es : List Anchor) (well : LieWell g.rows g.colum
           b : Owns g.rows g.columns es (i + 1) (j + 1) o
           b = owner-owns g.rows g.columns es well (i + 1) (j + 1) o e'
 
-          by : Member o es ⊎ (o.1 ≡ (1, 1)) → ⊥
-          by (inr one) = let w : o.1.1 ≡ 1 = ap (λ (x : ℕ × ℕ). x.1) one in omega (arith, a.left, b.right)
-          by (inl m) = false≢true (sym clear ∙ any-from (λ (e : Anchor). is_among i e.0.row e.1.0 && is_amid j e.0.col e.1.1) o es m (and_from _ _ (among-from i o.0.row o.1.0 (omega (arith, a.top)) (omega (arith, a.bottom))) (amid-from j o.0.col o.1.1 a.left (omega (arith, b.right)))))
+          by : Member o es ⊎ (o.1 ≡ sized 1 1) → ⊥
+          by (inr one) = let w : o.1.width ≡ 1 = ap (λ (x : Size). x.1) one in omega (arith, a.left, b.right)
+          by (inl m) = false≢true (sym clear ∙ any-from (λ (e : Rectangle). is_among i e.0.row e.1.height && is_amid j e.0.col e.1.width) o es m (and_from _ _ (among-from i o.0.row o.1.height (omega (arith, a.top)) (omega (arith, a.bottom))) (amid-from j o.0.col o.1.width a.left (omega (arith, b.right)))))
 
   above-stands : (i j : ℕ) → i ≤ g.rows → j < g.columns → is_joined_above es i j ≡ false
       → StandsAt (picture g es) (top g es i) (left g es j + 1) (replicate (left g es (j + 1) - left g es j - 1) 45)
@@ -58,7 +59,7 @@ module _ (g : Grid (List ℕ)) (es : List Anchor) (well : LieWell g.rows g.colum
       stands-at g es (top g es i) (left g es j + 1) (line g es (top g es i) i (i + 1)) (replicate (left g es (j + 1) - left g es j - 1) 45) (line-above g es some.row some.col i h)
       (dashes-stand g es well (top g es i) i (i + 1) j k (λ same. omega (arith, same)) never)
     where
-      never : (o : Anchor) → owner g.rows g.columns es i (j + 1) ≡ Some o → owner g.rows g.columns es (i + 1) (j + 1) ≡ Some o → ⊥
+      never : (o : Rectangle) → owner g.rows g.columns es i (j + 1) ≡ Some o → owner g.rows g.columns es (i + 1) (j + 1) ≡ Some o → ⊥
       never o e f = by (merged i (j + 1) o e)
         where
           a : Owns g.rows g.columns es i (j + 1) o
@@ -67,9 +68,9 @@ module _ (g : Grid (List ℕ)) (es : List Anchor) (well : LieWell g.rows g.colum
           b : Owns g.rows g.columns es (i + 1) (j + 1) o
           b = owner-owns g.rows g.columns es well (i + 1) (j + 1) o f
 
-          by : Member o es ⊎ (o.1 ≡ (1, 1)) → ⊥
-          by (inr one) = let w : o.1.0 ≡ 1 = ap (λ (x : ℕ × ℕ). x.0) one in omega (arith, a.top, b.bottom)
-          by (inl m) = false≢true (sym clear ∙ any-from (λ (e : Anchor). is_amid i e.0.row e.1.0 && is_among j e.0.col e.1.1) o es m (and_from _ _ (amid-from i o.0.row o.1.0 a.top (omega (arith, b.bottom))) (among-from j o.0.col o.1.1 (omega (arith, a.left)) (omega (arith, a.right)))))
+          by : Member o es ⊎ (o.1 ≡ sized 1 1) → ⊥
+          by (inr one) = let w : o.1.height ≡ 1 = ap (λ (x : Size). x.0) one in omega (arith, a.top, b.bottom)
+          by (inl m) = false≢true (sym clear ∙ any-from (λ (e : Rectangle). is_amid i e.0.row e.1.height && is_among j e.0.col e.1.width) o es m (and_from _ _ (amid-from i o.0.row o.1.height a.top (omega (arith, b.bottom))) (among-from j o.0.col o.1.width (omega (arith, a.left)) (omega (arith, a.right)))))
 
   corner-stands : (i j : ℕ) → i ≤ g.rows → j ≤ g.columns → is_joined_around es i j ≡ false
       → StandsAt (picture g es) (top g es i) (left g es j) (43 ∷ [])
@@ -77,7 +78,7 @@ module _ (g : Grid (List ℕ)) (es : List Anchor) (well : LieWell g.rows g.colum
       stands-at g es (top g es i) (left g es j) (line g es (top g es i) i (i + 1)) (43 ∷ []) (line-above g es some.row some.col i h)
       (subst (λ b. StandsIn (line g es (top g es i) i (i + 1)) (left g es j) (cond b 124 43 ∷ [])) (ne_eqb i (i + 1) (λ same. omega (arith, same))) (edge-stands g es well (top g es i) i (i + 1) j k never))
     where
-      never : (o : Anchor) → owner g.rows g.columns es i j ≡ Some o → owner g.rows g.columns es i (j + 1) ≡ Some o → owner g.rows g.columns es (i + 1) j ≡ Some o → owner g.rows g.columns es (i + 1) (j + 1) ≡ Some o → ⊥
+      never : (o : Rectangle) → owner g.rows g.columns es i j ≡ Some o → owner g.rows g.columns es i (j + 1) ≡ Some o → owner g.rows g.columns es (i + 1) j ≡ Some o → owner g.rows g.columns es (i + 1) (j + 1) ≡ Some o → ⊥
       never o e e' f f' = by (merged i j o e)
         where
           a : Owns g.rows g.columns es i j o
@@ -86,9 +87,9 @@ module _ (g : Grid (List ℕ)) (es : List Anchor) (well : LieWell g.rows g.colum
           b : Owns g.rows g.columns es (i + 1) (j + 1) o
           b = owner-owns g.rows g.columns es well (i + 1) (j + 1) o f'
 
-          by : Member o es ⊎ (o.1 ≡ (1, 1)) → ⊥
-          by (inr one) = let w : o.1.1 ≡ 1 = ap (λ (x : ℕ × ℕ). x.1) one in omega (arith, a.left, b.right)
-          by (inl m) = false≢true (sym clear ∙ any-from (λ (e : Anchor). is_amid i e.0.row e.1.0 && is_amid j e.0.col e.1.1) o es m (and_from _ _ (amid-from i o.0.row o.1.0 a.top (omega (arith, b.bottom))) (amid-from j o.0.col o.1.1 a.left (omega (arith, b.right)))))
+          by : Member o es ⊎ (o.1 ≡ sized 1 1) → ⊥
+          by (inr one) = let w : o.1.width ≡ 1 = ap (λ (x : Size). x.1) one in omega (arith, a.left, b.right)
+          by (inl m) = false≢true (sym clear ∙ any-from (λ (e : Rectangle). is_amid i e.0.row e.1.height && is_amid j e.0.col e.1.width) o es m (and_from _ _ (amid-from i o.0.row o.1.height a.top (omega (arith, b.bottom))) (amid-from j o.0.col o.1.width a.left (omega (arith, b.right)))))
 
   pub stand-between : StandBetween g es
   stand-between = record { beside = beside-stands; above = above-stands; corner = corner-stands }

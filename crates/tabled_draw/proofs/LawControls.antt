@@ -11,9 +11,9 @@ use Rattle.tabled_draw.specs.Sizes.{heights, room, text_at, widths}
 use Rattle.tabled_draw.specs.Overall.{AreNoControls, IsNoControl}
 use Rattle.tabled_draw.specs.Texts.{columns_in, lines_of, shown, shown_line}
 use Rattle.tabled_grid.proofs.Lists.{all-append}
-use Rattle.tabled_grid.specs.Anchors.{Anchor}
 use Rattle.tabled_grid.specs.Grid.{Grid}
 use Rattle.tabled_grid.specs.declared.records.axis.Axis.TheVariants.{Columns}
+use Rattle.tabled_grid.specs.Spans.{Rectangle}
 
 shown-fine : (c : ℕ) → IsNoControl (shown c)
 shown-fine c = by (cases_Bool (nat_lt c 0x20)) (cases_Bool (c == 0x7F)) (cases_Bool (nat_le 0x80 c && nat_le c 0x9F))
@@ -67,14 +67,14 @@ mark-fine true c = record { above = omega arith; no_delete = λ e. omega (arith,
 mark-fine false true = record { above = omega arith; no_delete = λ e. omega (arith, e); outside = inl (omega arith) }
 mark-fine false false = record { above = omega arith; no_delete = λ e. omega (arith, e); outside = inl (omega arith) }
 
-module _ (g : Grid (List ℕ)) (es : List Anchor) where
-  all-shows : (n : ℕ) (o : Anchor) → AreNoControls (shows g es n o)
+module _ (g : Grid (List ℕ)) (es : List Rectangle) where
+  all-shows : (n : ℕ) (o : Rectangle) → AreNoControls (shows g es n o)
   all-shows n o =
       let k = n - top g es o.0.row - 1 in
       let text = get_or (lines_of (text_at g o.0)) k [] in
-      (blank-fine, all-append IsNoControl text (replicate (room Columns (widths g es) o.0.col o.1.1 - columns_in text + 1) 32) (line-fine (lines_of (text_at g o.0)) k (all-texts (slice_split (λ b. b == 10) (text_at g o.0)))) (all-repeated (room Columns (widths g es) o.0.col o.1.1 - columns_in text + 1) 32 blank-fine))
+      (blank-fine, all-append IsNoControl text (replicate (room Columns (widths g es) o.0.col o.1.width - columns_in text + 1) 32) (line-fine (lines_of (text_at g o.0)) k (all-texts (slice_split (λ b. b == 10) (text_at g o.0)))) (all-repeated (room Columns (widths g es) o.0.col o.1.width - columns_in text + 1) 32 blank-fine))
 
-  all-shows_in : (n l r : ℕ) (a : Option Anchor) → AreNoControls (shows_in g es n l r a)
+  all-shows_in : (n l r : ℕ) (a : Option Rectangle) → AreNoControls (shows_in g es n l r a)
   all-shows_in n l r None = tt
   all-shows_in n l r (Some o) = by ((l == r) && (l == o.0.col + 1))
     where
@@ -85,7 +85,7 @@ module _ (g : Grid (List ℕ)) (es : List Anchor) where
   all-stretch : (n u d l r size : ℕ) → AreNoControls (stretch g es n u d l r size)
   all-stretch n u d l r size = by ((is_one (at u l) (at u r) && is_one (at u l) (at d l)) && is_one (at u l) (at d r))
     where
-      at : ℕ → ℕ → Option Anchor
+      at : ℕ → ℕ → Option Rectangle
       at i j = owner g.rows g.columns es i j
 
       by : (b : Bool) → AreNoControls (cond b (shows_in g es n l r (owner g.rows g.columns es u l)) (replicate size (cond (eqb u d) 124 (cond (eqb l r) 45 43))))

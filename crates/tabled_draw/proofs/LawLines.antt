@@ -16,10 +16,10 @@ use Rattle.tabled_draw.specs.Sizes.{room, text_at, widths}
 use Rattle.tabled_draw.specs.Standing.{StandsIn}
 use Rattle.tabled_draw.specs.Texts.{columns_in, lines_of, widest}
 use Rattle.tabled_grid.proofs.SpanMaps.{same_place-self}
-use Rattle.tabled_grid.specs.Anchors.{Anchor}
 use Rattle.tabled_grid.specs.Entity.{place}
 use Rattle.tabled_grid.specs.Grid.{Grid}
 use Rattle.tabled_grid.specs.declared.records.axis.Axis.TheVariants.{Columns}
+use Rattle.tabled_grid.specs.Spans.{Rectangle}
 use Rattle.unicode_width.specs.Width.{char_width}
 
 -- ---- the columns of characters
@@ -52,28 +52,28 @@ columns-blank cs = columns-cons 32 cs ∙ ap (λ x. x + columns_in cs) (ap (λ x
 
 -- ---- owners all round
 
-abbrev all_one : Option Anchor → Option Anchor → Option Anchor → Option Anchor → Bool
+abbrev all_one : Option Rectangle → Option Rectangle → Option Rectangle → Option Rectangle → Bool
 all_one a b c d = (is_one a b && is_one a c) && is_one a d
 
-all-from : (a b c d : Option Anchor) (o : Anchor) → a ≡ Some o → b ≡ Some o → c ≡ Some o → d ≡ Some o → all_one a b c d ≡ true
+all-from : (a b c d : Option Rectangle) (o : Rectangle) → a ≡ Some o → b ≡ Some o → c ≡ Some o → d ≡ Some o → all_one a b c d ≡ true
 all-from a b c d o e f h k = and_from _ _ (and_from _ _ (ap₂ is_one e f ∙ same_place-self o.0) (ap₂ is_one e h ∙ same_place-self o.0)) (ap₂ is_one e k ∙ same_place-self o.0)
 
-all-not_right : (a b c d : Option Anchor) → is_one a b ≡ false → all_one a b c d ≡ false
+all-not_right : (a b c d : Option Rectangle) → is_one a b ≡ false → all_one a b c d ≡ false
 all-not_right a b c d f = ap (λ x. (x && is_one a c) && is_one a d) f
 
-all-not_down : (a b c d : Option Anchor) → is_one a c ≡ false → all_one a b c d ≡ false
+all-not_down : (a b c d : Option Rectangle) → is_one a c ≡ false → all_one a b c d ≡ false
 all-not_down a b c d f = ap (λ x. (is_one a b && x) && is_one a d) f ∙ ap (λ x. x && is_one a d) (and-false (is_one a b))
 
-all-not_last : (a b c d : Option Anchor) → is_one a d ≡ false → all_one a b c d ≡ false
+all-not_last : (a b c d : Option Rectangle) → is_one a d ≡ false → all_one a b c d ≡ false
 all-not_last a b c d f = ap (λ x. (is_one a b && is_one a c) && x) f ∙ and-false (is_one a b && is_one a c)
 
-all-parts : (a b c d : Option Anchor) → all_one a b c d ≡ true → (is_one a b ≡ true) × (is_one a c ≡ true) × (is_one a d ≡ true)
+all-parts : (a b c d : Option Rectangle) → all_one a b c d ≡ true → (is_one a b ≡ true) × (is_one a c ≡ true) × (is_one a d ≡ true)
 all-parts a b c d t =
     let outer : (is_one a b && is_one a c ≡ true) × (is_one a d ≡ true) = and_parts _ _ t in
     let inner : (is_one a b ≡ true) × (is_one a c ≡ true) = and_parts _ _ outer.0 in
     (inner.0, inner.1, outer.1)
 
-none-one : (a : Option Anchor) → is_one a None ≡ false
+none-one : (a : Option Rectangle) → is_one a None ≡ false
 none-one None = refl
 none-one (Some o) = refl
 
@@ -91,22 +91,22 @@ split-each {A} f (suc n) j h = by (cases_lt j n) (split-each f n j)
     by (inl less) go = let s = go less in record { rest = s.rest ++ f n; is = ap (λ xs. xs ++ f n) s.is ∙ append_assoc (each j f) (f j ++ s.rest) (f n) ∙ ap (λ xs. each j f ++ xs) (append_assoc (f j) s.rest (f n)) }
     by (inr more) go = let same : n ≡ j = omega arith in record { rest = []; is = ap (λ k. each k f ++ f k) same ∙ ap (λ xs. each j f ++ xs) (sym (append-nil (f j))) }
 
-module _ (g : Grid (List ℕ)) (es : List Anchor) (well : LieWell g.rows g.columns es) where
+module _ (g : Grid (List ℕ)) (es : List Rectangle) (well : LieWell g.rows g.columns es) where
   left-next : (j : ℕ) → j < g.columns → left g es (j + 1) ≡ left g es j + (get_or (widths g es) j 0 + 3)
   left-next j h = start-next Columns g es j h
 
-  left-end : (o : Anchor) → LiesIn g.rows g.columns o → left g es (o.0.col + o.1.1) ≡ left g es o.0.col + (room Columns (widths g es) o.0.col o.1.1 + 3)
-  left-end o lies = room-end Columns (widths g es) o.0.col o.1.1 lies.wide (omega (arith, lies.right, length-sizes Columns g es))
+  left-end : (o : Rectangle) → LiesIn g.rows g.columns o → left g es (o.0.col + o.1.width) ≡ left g es o.0.col + (room Columns (widths g es) o.0.col o.1.width + 3)
+  left-end o lies = room-end Columns (widths g es) o.0.col o.1.width lies.wide (omega (arith, lies.right, length-sizes Columns g es))
 
   -- what an owner shows is as wide as its room, with a blank at both sides
-  shows-wide : (n i j : ℕ) (o : Anchor) → owner g.rows g.columns es i j ≡ Some o → columns_in (shows g es n o) ≡ room Columns (widths g es) o.0.col o.1.1 + 2
+  shows-wide : (n i j : ℕ) (o : Rectangle) → owner g.rows g.columns es i j ≡ Some o → columns_in (shows g es n o) ≡ room Columns (widths g es) o.0.col o.1.width + 2
   shows-wide n i j o e =
       let s = owner-some g.rows g.columns es i j o e in
       let lines = lines_of (text_at g o.0) in
       let k = n - top g es o.0.row - 1 in
       let text = get_or lines k [] in
-      let wide = room Columns (widths g es) o.0.col o.1.1 in
-      let P : Anchor → Type 0 = λ x. widest (text_at g x.0) ≤ room Columns (widths g es) x.0.col x.1.1 in
+      let wide = room Columns (widths g es) o.0.col o.1.width in
+      let P : Rectangle → Type 0 = λ x. widest (text_at g x.0) ≤ room Columns (widths g es) x.0.col x.1.width in
       let enough : widest (text_at g o.0) ≤ wide = subst P (sym s.is) (room-enough Columns g es well (place s.row s.col) s.below s.right) in
       let within : columns_in text ≤ widest (text_at g o.0) = line-least lines 0 k in
       let fill = wide - columns_in text + 1 in
@@ -117,10 +117,10 @@ module _ (g : Grid (List ℕ)) (es : List Anchor) (well : LieWell g.rows g.colum
       sum w c h = omega arith
 
   module _ (n u d : ℕ) where
-    abbrev up : ℕ → Option Anchor
+    abbrev up : ℕ → Option Rectangle
     up j = owner g.rows g.columns es u j
 
-    abbrev down : ℕ → Option Anchor
+    abbrev down : ℕ → Option Rectangle
     down j = owner g.rows g.columns es d j
 
     -- one owner all round the edge before a column
@@ -139,14 +139,14 @@ module _ (g : Grid (List ℕ)) (es : List Anchor) (well : LieWell g.rows g.colum
     abbrev part : ℕ → List ℕ
     part j = edge_at j ++ column_at j
 
-    joint-from : (j : ℕ) (o : Anchor) → up j ≡ Some o → down j ≡ Some o → up (j + 1) ≡ Some o → down (j + 1) ≡ Some o → joint j ≡ true
+    joint-from : (j : ℕ) (o : Rectangle) → up j ≡ Some o → down j ≡ Some o → up (j + 1) ≡ Some o → down (j + 1) ≡ Some o → joint j ≡ true
     joint-from j o e f e' f' = all-from (up j) (up (j + 1)) (down j) (down (j + 1)) o e e' f f'
 
     joint-parts : (j : ℕ) → joint j ≡ true → (is_one (up j) (up (j + 1)) ≡ true) × (is_one (up j) (down j) ≡ true) × (is_one (up j) (down (j + 1)) ≡ true)
     joint-parts j t = all-parts (up j) (up (j + 1)) (down j) (down (j + 1)) t
 
     -- where no owner is all round an edge
-    not-joint : (j : ℕ) → ((o : Anchor) → up j ≡ Some o → up (j + 1) ≡ Some o → down j ≡ Some o → down (j + 1) ≡ Some o → ⊥) → joint j ≡ false
+    not-joint : (j : ℕ) → ((o : Rectangle) → up j ≡ Some o → up (j + 1) ≡ Some o → down j ≡ Some o → down (j + 1) ≡ Some o → ⊥) → joint j ≡ false
     not-joint j never = by (cases_Bool (joint j))
       where
         by : (joint j ≡ true) ⊎ (joint j ≡ false) → joint j ≡ false
@@ -170,27 +170,27 @@ module _ (g : Grid (List ℕ)) (es : List Anchor) (well : LieWell g.rows g.colum
     edge-none : (j : ℕ) → joint j ≡ true → edge_at j ≡ []
     edge-none j t = stretch-one j (j + 1) 1 t ∙ none (up j)
       where
-        none : (a : Option Anchor) → shows_in g es n j (j + 1) a ≡ []
+        none : (a : Option Rectangle) → shows_in g es n j (j + 1) a ≡ []
         none None = refl
         none (Some o) = ap (λ b. cond (b && eqb j (o.0.col + 1)) (shows g es n o) []) (ne_eqb j (j + 1) (λ e. omega (arith, e)))
 
-    column-one : (j : ℕ) (o : Anchor) → up (j + 1) ≡ Some o → down (j + 1) ≡ Some o → column_at j ≡ cond (eqb (j + 1) (j + 1) && eqb (j + 1) (o.0.col + 1)) (shows g es n o) []
+    column-one : (j : ℕ) (o : Rectangle) → up (j + 1) ≡ Some o → down (j + 1) ≡ Some o → column_at j ≡ cond (eqb (j + 1) (j + 1) && eqb (j + 1) (o.0.col + 1)) (shows g es n o) []
     column-one j o e f = stretch-one (j + 1) (j + 1) (get_or (widths g es) j 0 + 2) (all-from (up (j + 1)) (up (j + 1)) (down (j + 1)) (down (j + 1)) o e e f f) ∙ ap (shows_in g es n (j + 1) (j + 1)) e
 
-    column-shows : (j : ℕ) (o : Anchor) → up (j + 1) ≡ Some o → down (j + 1) ≡ Some o → o.0.col ≡ j → column_at j ≡ shows g es n o
+    column-shows : (j : ℕ) (o : Rectangle) → up (j + 1) ≡ Some o → down (j + 1) ≡ Some o → o.0.col ≡ j → column_at j ≡ shows g es n o
     column-shows j o e f first = column-one j o e f ∙ cond-true _ (shows g es n o) [] (and_from _ _ (eq-eqb (j + 1) (j + 1) refl) (eq-eqb (j + 1) (o.0.col + 1) (ap (λ k. k + 1) (sym first))))
 
-    column-none : (j : ℕ) (o : Anchor) → up (j + 1) ≡ Some o → down (j + 1) ≡ Some o → o.0.col ≢ j → column_at j ≡ []
+    column-none : (j : ℕ) (o : Rectangle) → up (j + 1) ≡ Some o → down (j + 1) ≡ Some o → o.0.col ≢ j → column_at j ≡ []
     column-none j o e f later = column-one j o e f ∙ cond-false _ (shows g es n o) [] (ap (λ b. eqb (j + 1) (j + 1) && b) (ne_eqb (j + 1) (o.0.col + 1) (λ same. later (omega (arith, same)))) ∙ and-false (eqb (j + 1) (j + 1)))
 
     -- how far a line has come: to an edge, or to the right edge of what it shows
     data Reached (j w : ℕ) : Type 0 where
       edge : joint j ≡ false → w ≡ left g es j → Reached j w
-      inside : (o : Anchor) → up j ≡ Some o → down j ≡ Some o → up (j + 1) ≡ Some o → down (j + 1) ≡ Some o → w ≡ left g es (o.0.col + o.1.1) → Reached j w
+      inside : (o : Rectangle) → up j ≡ Some o → down j ≡ Some o → up (j + 1) ≡ Some o → down (j + 1) ≡ Some o → w ≡ left g es (o.0.col + o.1.width) → Reached j w
 
     -- past a column that one owner has above and below
-    past : (j w : ℕ) (o : Anchor) → up (j + 1) ≡ Some o → down (j + 1) ≡ Some o → w ≡ left g es (o.0.col + o.1.1) → Reached (j + 1) w
-    past j w o e f is = by (cases_lt (j + 1) (o.0.col + o.1.1))
+    past : (j w : ℕ) (o : Rectangle) → up (j + 1) ≡ Some o → down (j + 1) ≡ Some o → w ≡ left g es (o.0.col + o.1.width) → Reached (j + 1) w
+    past j w o e f is = by (cases_lt (j + 1) (o.0.col + o.1.width))
       where
         a : Owns g.rows g.columns es u (j + 1) o
         a = owner-owns g.rows g.columns es well u (j + 1) o e
@@ -198,7 +198,7 @@ module _ (g : Grid (List ℕ)) (es : List Anchor) (well : LieWell g.rows g.colum
         b : Owns g.rows g.columns es d (j + 1) o
         b = owner-owns g.rows g.columns es well d (j + 1) o f
 
-        ends : o.0.col + o.1.1 ≡ j + 1 → (joint (j + 1) ≡ true) ⊎ (joint (j + 1) ≡ false) → joint (j + 1) ≡ false
+        ends : o.0.col + o.1.width ≡ j + 1 → (joint (j + 1) ≡ true) ⊎ (joint (j + 1) ≡ false) → joint (j + 1) ≡ false
         ends last (inr apart) = apart
         ends last (inl one) =
             let both = owner-both g.rows g.columns es well u (j + 1) u (j + 1 + 1) (joint-parts (j + 1) one).0 in
@@ -206,10 +206,10 @@ module _ (g : Grid (List ℕ)) (es : List Anchor) (well : LieWell g.rows g.colum
             let far = owner-owns g.rows g.columns es well u (j + 1 + 1) o (both.2 ∙ ap Some (sym same)) in
             absurd (omega (arith, far.right))
 
-        by : (j + 1 < o.0.col + o.1.1) ⊎ (o.0.col + o.1.1 ≤ j + 1) → Reached (j + 1) w
+        by : (j + 1 < o.0.col + o.1.width) ⊎ (o.0.col + o.1.width ≤ j + 1) → Reached (j + 1) w
         by (inl more) = inside o e f (a.all u (j + 1 + 1) a.top a.bottom (omega (arith, a.left)) (omega arith)) (b.all d (j + 1 + 1) b.top b.bottom (omega (arith, b.left)) (omega arith)) is
         by (inr last) =
-            let same : o.0.col + o.1.1 ≡ j + 1 = omega (arith, a.right) in
+            let same : o.0.col + o.1.width ≡ j + 1 = omega (arith, a.right) in
             edge (ends same (cases_Bool (joint (j + 1)))) (is ∙ ap (left g es) same)
 
     columns-part : (j x y : ℕ) → columns_in (edge_at j) ≡ x → columns_in (column_at j) ≡ y → columns_in (part j) ≡ x + y
@@ -232,7 +232,7 @@ module _ (g : Grid (List ℕ)) (es : List Anchor) (well : LieWell g.rows g.colum
             edge (all-not_down (up (j + 1)) (up (j + 1 + 1)) (down (j + 1)) (down (j + 1 + 1)) two) (omega (arith, wide, to, is))
         by (inl one) = begins (owner-both g.rows g.columns es well u (j + 1) d (j + 1) one)
           where
-            begins : (o : Anchor) × (up (j + 1) ≡ Some o) × (down (j + 1) ≡ Some o) → Reached (j + 1) (w + columns_in (part j))
+            begins : (o : Rectangle) × (up (j + 1) ≡ Some o) × (down (j + 1) ≡ Some o) → Reached (j + 1) (w + columns_in (part j))
             begins (o, e, f) = at (cases_lt o.0.col j)
               where
                 a : Owns g.rows g.columns es u (j + 1) o
@@ -248,7 +248,7 @@ module _ (g : Grid (List ℕ)) (es : List Anchor) (well : LieWell g.rows g.colum
                     absurd (false≢true (sym apart ∙ joint-from j o x y e f))
                 at (inr here) =
                     let col : o.0.col ≡ j = omega (arith, a.left) in
-                    let wide : columns_in (part j) ≡ 1 + (room Columns (widths g es) o.0.col o.1.1 + 2) = columns-part j 1 _ first (ap columns_in (column-shows j o e f col) ∙ shows-wide n u (j + 1) o e) in
+                    let wide : columns_in (part j) ≡ 1 + (room Columns (widths g es) o.0.col o.1.width + 2) = columns-part j 1 _ first (ap columns_in (column-shows j o e f col) ∙ shows-wide n u (j + 1) o e) in
                     let to = left-end o a.lies in
                     let same : left g es o.0.col ≡ left g es j = ap (left g es) col in
                     past j (w + columns_in (part j)) o e f (omega (arith, wide, to, is, same))
@@ -284,7 +284,7 @@ module _ (g : Grid (List ℕ)) (es : List Anchor) (well : LieWell g.rows g.colum
     mark_of = cond (eqb u d) 124 43
 
     -- an edge stands where no owner is all round it
-    pub edge-stands : (j : ℕ) → j ≤ g.columns → ((o : Anchor) → up j ≡ Some o → up (j + 1) ≡ Some o → down j ≡ Some o → down (j + 1) ≡ Some o → ⊥) → StandsIn (line g es n u d) (left g es j) (mark_of ∷ [])
+    pub edge-stands : (j : ℕ) → j ≤ g.columns → ((o : Rectangle) → up j ≡ Some o → up (j + 1) ≡ Some o → down j ≡ Some o → down (j + 1) ≡ Some o → ⊥) → StandsIn (line g es n u d) (left g es j) (mark_of ∷ [])
     edge-stands j h never = by (cases_lt j g.columns)
       where
         apart : joint j ≡ false
@@ -329,7 +329,7 @@ module _ (g : Grid (List ℕ)) (es : List Anchor) (well : LieWell g.rows g.colum
         regroup a b c r l = simp append_assoc
 
     -- between two owners stand dashes
-    pub dashes-stand : (j : ℕ) → j < g.columns → u ≢ d → ((o : Anchor) → up (j + 1) ≡ Some o → down (j + 1) ≡ Some o → ⊥) → StandsIn (line g es n u d) (left g es j + 1) (replicate (left g es (j + 1) - left g es j - 1) 45)
+    pub dashes-stand : (j : ℕ) → j < g.columns → u ≢ d → ((o : Rectangle) → up (j + 1) ≡ Some o → down (j + 1) ≡ Some o → ⊥) → StandsIn (line g es n u d) (left g es j + 1) (replicate (left g es (j + 1) - left g es j - 1) 45)
     dashes-stand j less between never =
         let size = get_or (widths g es) j 0 + 2 in
         let is : column_at j ≡ replicate size 45 = stretch-apart (j + 1) (j + 1) size (all-not_down (up (j + 1)) (up (j + 1)) (down (j + 1)) (down (j + 1)) (two (cases_Bool (is_one (up (j + 1)) (down (j + 1)))))) ∙ ap (replicate size) (ap₂ (λ x y. cond x 124 (cond y 45 43)) (ne_eqb u d between) (eq-eqb (j + 1) (j + 1) refl)) in
@@ -341,10 +341,10 @@ module _ (g : Grid (List ℕ)) (es : List Anchor) (well : LieWell g.rows g.colum
         two (inl t) = let both = owner-both g.rows g.columns es well u (j + 1) d (j + 1) t in absurd (never both.0 both.1 both.2)
 
     -- what a cell shows stands at its left edge
-    pub cell-stands : (j : ℕ) (o : Anchor) → j < g.columns → o.0.col ≡ j → up (j + 1) ≡ Some o → down (j + 1) ≡ Some o → StandsIn (line g es n u d) (left g es j + 1) (shows g es n o)
+    pub cell-stands : (j : ℕ) (o : Rectangle) → j < g.columns → o.0.col ≡ j → up (j + 1) ≡ Some o → down (j + 1) ≡ Some o → StandsIn (line g es n u d) (left g es j + 1) (shows g es n o)
     cell-stands j o less first e f = subst (StandsIn (line g es n u d) (left g es j + 1)) (column-shows j o e f first) (column-stands j less (not-joint j begins))
       where
-        begins : (p : Anchor) → up j ≡ Some p → up (j + 1) ≡ Some p → down j ≡ Some p → down (j + 1) ≡ Some p → ⊥
+        begins : (p : Rectangle) → up j ≡ Some p → up (j + 1) ≡ Some p → down j ≡ Some p → down (j + 1) ≡ Some p → ⊥
         begins p a a' b b' =
             let same : o ≡ p = same_Some _ _ (sym e ∙ a') in
             let far = owner-owns g.rows g.columns es well u j o (a ∙ ap Some (sym same)) in

@@ -7,13 +7,12 @@ use Rattle.tabled_draw.specs.Overall.{HoldsOfPictures}
 use Rattle.tabled_draw.specs.Picture.{bytes_of, drawn}
 use Rattle.tabled_grid.proofs.Fitting.{anchors-fitting, anchors-of, fitting-fits, keep_fitting-all, keep_fitting-fits}
 use Rattle.tabled_grid.proofs.Members.{Member, sorted-find}
-use Rattle.tabled_grid.proofs.SpanMaps.{in_rect-from}
+use Rattle.tabled_grid.proofs.SpanMaps.{holds-from}
 use Rattle.tabled_grid.proofs.Spans.{positions_exact, positions_total}
-use Rattle.tabled_grid.specs.Anchors.{Anchor}
 use Rattle.tabled_grid.specs.Fitting.{fitting, keep_fitting}
 use Rattle.tabled_grid.specs.Grid.{Grid}
 use Rattle.tabled_grid.specs.Rectangles.{Fits}
-use Rattle.tabled_grid.specs.Spans.{AreAnchors, AreSpanSizes, SpanMap, position_cmp}
+use Rattle.tabled_grid.specs.Spans.{AreAnchors, AreSpanSizes, Rectangle, SpanMap, position_cmp}
 
 pub fits-well : (m : SpanMap) (rows columns : ℕ) → Fits m rows columns → LieWell rows columns (entries m)
 fits-well m rows columns fits = record {
@@ -21,21 +20,21 @@ fits-well m rows columns fits = record {
   wide = λ e i. (fits.sizes.each e.0 e.1 (has e i)).width;
   bottom = λ e i. (fits.inside e.0 e.1 (has e i)).0;
   right = λ e i. (fits.inside e.0 e.1 (has e i)).1;
-  apart = λ e f p i j h k. (let same : e.0 ≡ f.0 = fits.apart e.0 f.0 e.1 f.1 p (has e i) (has f j) (in_rect-from e.0 p e.1 h) (in_rect-from f.0 p f.1 k) in
+  apart = λ e f p i j h k. (let same : e.0 ≡ f.0 = fits.apart e.0 f.0 e.1 f.1 p (has e i) (has f j) (holds-from e p h) (holds-from f p k) in
       ap₂ (λ x y. (x, y)) same (same_Some e.1 f.1 (sym (has e i) ∙ ap (get m) same ∙ has f j)));
 }
   where
-    has : (e : Anchor) → Member e (entries m) → get m e.0 ≡ Some e.1
+    has : (e : Rectangle) → Member e (entries m) → get m e.0 ≡ Some e.1
     has e i = get-entries m e.0 ∙ sorted-find position_cmp positions_total positions_exact (entries m) e.0 e.1 (entries_sorted m) i
 
 pub kept-well : (m : SpanMap) (rows columns : ℕ) → AreSpanSizes m → LieWell rows columns (fitting rows columns (entries m))
 kept-well m rows columns sizes =
     let kept = fitting rows columns (entries m) in
     let valid : AreAnchors kept = anchors-fitting rows columns (entries m) (anchors-of m sizes) in
-    subst (λ (es : List Anchor). LieWell rows columns es) (entries-from_sorted position_cmp kept valid.sorted) (fits-well (from_sorted kept) rows columns (fitting-fits rows columns (entries m) (anchors-of m sizes)))
+    subst (λ (es : List Rectangle). LieWell rows columns es) (entries-from_sorted position_cmp kept valid.sorted) (fits-well (from_sorted kept) rows columns (fitting-fits rows columns (entries m) (anchors-of m sizes)))
 
 -- what holds where merged cells of a list lie well
-pub holds : (Says : Grid (List ℕ) → List Anchor → Type 0) → ((g : Grid (List ℕ)) (es : List Anchor) → LieWell g.rows g.columns es → Says g es) → HoldsOfPictures Says
+pub holds : (Says : Grid (List ℕ) → List Rectangle → Type 0) → ((g : Grid (List ℕ)) (es : List Rectangle) → LieWell g.rows g.columns es → Says g es) → HoldsOfPictures Says
 holds Says each = record {
   where_all_fit = λ g m fits. each g (entries m) (fits-well m g.rows g.columns fits);
   of_drawn = λ g m sizes. each g (fitting g.rows g.columns (entries m)) (kept-well m g.rows g.columns sizes);

@@ -19,26 +19,27 @@ use Rattle.tabled_draw.specs.Texts.{columns_in, lines_of, widest}
 use Rattle.tabled_grid.proofs.Members.{Member, any-from}
 use Rattle.tabled_grid.proofs.SpanMaps.{same_place-apart}
 use Rattle.tabled_grid.proofs.Geometry.{cases_place}
-use Rattle.tabled_grid.proofs.SpanMaps.{in_rect-from}
+use Rattle.tabled_grid.proofs.SpanMaps.{holds-from}
 use Rattle.tabled_grid.proofs.Lists.{all-append}
-use Rattle.tabled_grid.specs.Anchors.{Anchor, is_hidden_in}
+use Rattle.tabled_grid.specs.Anchors.{is_hidden_in}
 use Rattle.tabled_grid.specs.Entity.{same_place}
 use Rattle.tabled_grid.specs.Grid.{Grid, IsInside}
-use Rattle.tabled_grid.specs.Rectangles.{in_rect}
+use Rattle.tabled_grid.specs.Rectangles.{holds}
 use Rattle.tabled_grid.specs.declared.config.position.Position.{Position}
 use Rattle.tabled_grid.specs.declared.records.axis.Axis.TheVariants.{Columns, Rows}
+use Rattle.tabled_grid.specs.Spans.{Rectangle}
 
 -- what no other merged cell holds owns itself
-pub owner-self : (es : List Anchor) (p : Position) → is_hidden_in es p ≡ false → (owner_in es p).0 ≡ p
+pub owner-self : (es : List Rectangle) (p : Position) → is_hidden_in es p ≡ false → (owner_in es p).0 ≡ p
 owner-self es p seen = by (owned es p)
   where
-    by_place : Member (owner_in es p) es → in_rect (owner_in es p).0 (owner_in es p).1 p ≡ true → ((owner_in es p).0 ≡ p) ⊎ ((owner_in es p).0 ≢ p) → (owner_in es p).0 ≡ p
+    by_place : Member (owner_in es p) es → holds (owner_in es p) p ≡ true → ((owner_in es p).0 ≡ p) ⊎ ((owner_in es p).0 ≢ p) → (owner_in es p).0 ≡ p
     by_place m t (inl same) = same
-    by_place m t (inr other) = absurd (false≢true (sym seen ∙ any-from (λ (e : Anchor). in_rect e.0 e.1 p && not (same_place e.0 p)) (owner_in es p) es m (and_from _ _ t (ap not (same_place-apart (owner_in es p).0 p other)))))
+    by_place m t (inr other) = absurd (false≢true (sym seen ∙ any-from (λ (e : Rectangle). holds e p && not (same_place e.0 p)) (owner_in es p) es m (and_from _ _ t (ap not (same_place-apart (owner_in es p).0 p other)))))
 
     by : Owned es p (owner_in es p) → (owner_in es p).0 ≡ p
-    by (held m h) = by_place m (in_rect-from _ _ _ h) (cases_place (owner_in es p).0 p)
-    by (alone is _) = ap (λ (x : Anchor). x.0) is
+    by (held m h) = by_place m (holds-from _ _ h) (cases_place (owner_in es p).0 p)
+    by (alone is _) = ap (λ (x : Rectangle). x.0) is
 
 -- a part of what stands, stands
 stands-part : (row : List ℕ) (columns : ℕ) (a b c : List ℕ) → StandsIn row columns (a ++ (b ++ c)) → StandsIn row (columns + columns_in a) b
@@ -56,7 +57,7 @@ all-each : (P : List ℕ → Type 0) (f : ℕ → List (List ℕ)) → ((i : ℕ
 all-each P f all zero = tt
 all-each P f all (suc k) = all-append P (each k f) (f k) (all-each P f all k) (all k)
 
-module _ (g : Grid (List ℕ)) (es : List Anchor) where
+module _ (g : Grid (List ℕ)) (es : List Rectangle) where
   -- ---- which line of the picture is which
 
   top-next : (i : ℕ) → i < g.rows → top g es (i + 1) ≡ top g es i + (get_or (heights g es) i 0 + 1)
@@ -156,7 +157,7 @@ module _ (g : Grid (List ℕ)) (es : List Anchor) where
       by (inl less) go = wider (go less)
       by (inr more) go = here (cases_lt n (top g es (a + h) + 1)) more
 
-module _ (g : Grid (List ℕ)) (es : List Anchor) (well : LieWell g.rows g.columns es) where
+module _ (g : Grid (List ℕ)) (es : List Rectangle) (well : LieWell g.rows g.columns es) where
   pub equally-wide : AreEquallyWide g es
   equally-wide = by ((g.rows == 0) || (g.columns == 0))
     where
@@ -185,11 +186,11 @@ module _ (g : Grid (List ℕ)) (es : List Anchor) (well : LieWell g.rows g.colum
     col_is : (owner_in es p).0.col ≡ p.col
     col_is = ap (λ (q : Position). q.col) self
 
-    owns : (r : ℕ) → p.row < r → r ≤ p.row + (owner_in es p).1.0 → owner g.rows g.columns es r (p.col + 1) ≡ Some (owner_in es p)
+    owns : (r : ℕ) → p.row < r → r ≤ p.row + (owner_in es p).1.height → owner g.rows g.columns es r (p.col + 1) ≡ Some (owner_in es p)
     owns r above below = (owner-owns g.rows g.columns es well (p.row + 1) (p.col + 1) (owner_in es p) (owner-inside g.rows g.columns es p.row p.col inside.row inside.col)).all r (p.col + 1) (omega (arith, row_is)) (omega (arith, row_is)) (omega (arith, col_is)) (omega (arith, col_is, lies.wide))
 
-    shows-stands : (n : ℕ) → top g es p.row < n → n < top g es (p.row + (owner_in es p).1.0) → StandsAt (picture g es) n (left g es p.col + 1) (shows g es n (owner_in es p))
-    shows-stands n low high = by (locate g es p.row (owner_in es p).1.0 n (omega (arith, row_is, lies.bottom)) low high)
+    shows-stands : (n : ℕ) → top g es p.row < n → n < top g es (p.row + (owner_in es p).1.height) → StandsAt (picture g es) n (left g es p.col + 1) (shows g es n (owner_in es p))
+    shows-stands n low high = by (locate g es p.row (owner_in es p).1.height n (omega (arith, row_is, lies.bottom)) low high)
       where
         low' : 0 < g.rows
         low' = omega (arith, inside.row)
@@ -197,7 +198,7 @@ module _ (g : Grid (List ℕ)) (es : List Anchor) (well : LieWell g.rows g.colum
         far' : 0 < g.columns
         far' = omega (arith, inside.col)
 
-        by : Where g es p.row (owner_in es p).1.0 n → StandsAt (picture g es) n (left g es p.col + 1) (shows g es n (owner_in es p))
+        by : Where g es p.row (owner_in es p).1.height n → StandsAt (picture g es) n (left g es p.col + 1) (shows g es n (owner_in es p))
         by (border r above below is) =
             let l : IsLine g es n (line g es n r (r + 1)) = subst (λ k. IsLine g es k (line g es k r (r + 1))) is (line-above g es low' far' r (omega (arith, row_is, lies.bottom))) in
             stands-at g es n (left g es p.col + 1) (line g es n r (r + 1)) (shows g es n (owner_in es p)) l (cell-stands g es well n r (r + 1) p.col (owner_in es p) inside.col col_is (owns r above (omega arith)) (owns (r + 1) (omega arith) (omega arith)))
@@ -205,15 +206,15 @@ module _ (g : Grid (List ℕ)) (es : List Anchor) (well : LieWell g.rows g.colum
             stands-at g es n (left g es p.col + 1) (line g es n (r + 1) (r + 1)) (shows g es n (owner_in es p)) (line-in g es low' far' r n (omega (arith, row_is, lies.bottom)) x y) (cell-stands g es well n (r + 1) (r + 1) p.col (owner_in es p) inside.col col_is (owns (r + 1) (omega arith) (omega arith)) (owns (r + 1) (omega arith) (omega arith)))
 
     -- its room
-    width-enough : (k : ℕ) → columns_in (text_line g p k) ≤ room Columns (widths g es) p.col (owner_in es p).1.1
+    width-enough : (k : ℕ) → columns_in (text_line g p k) ≤ room Columns (widths g es) p.col (owner_in es p).1.width
     width-enough k =
-        let enough : widest (text_at g p) ≤ room Columns (widths g es) p.col (owner_in es p).1.1 = subst (λ (q : Position). widest (text_at g q) ≤ room Columns (widths g es) q.col (owner_in es p).1.1) self (room-enough Columns g es well p it.inside.row it.inside.col) in
+        let enough : widest (text_at g p) ≤ room Columns (widths g es) p.col (owner_in es p).1.width = subst (λ (q : Position). widest (text_at g q) ≤ room Columns (widths g es) q.col (owner_in es p).1.width) self (room-enough Columns g es well p it.inside.row it.inside.col) in
         let within : columns_in (text_line g p k) ≤ widest (text_at g p) = line-least (lines_of (text_at g p)) 0 k in
         omega arith
 
-    width-inner : inner_width g es p ≡ room Columns (widths g es) p.col (owner_in es p).1.1 + 2
+    width-inner : inner_width g es p ≡ room Columns (widths g es) p.col (owner_in es p).1.width + 2
     width-inner =
-        let end : left g es (p.col + (owner_in es p).1.1) ≡ left g es p.col + (room Columns (widths g es) p.col (owner_in es p).1.1 + 3) = room-end Columns (widths g es) p.col (owner_in es p).1.1 lies.wide (omega (arith, lies.right, col_is, length-sizes Columns g es)) in
+        let end : left g es (p.col + (owner_in es p).1.width) ≡ left g es p.col + (room Columns (widths g es) p.col (owner_in es p).1.width + 3) = room-end Columns (widths g es) p.col (owner_in es p).1.width lies.wide (omega (arith, lies.right, col_is, length-sizes Columns g es)) in
         omega arith
 
     text-wide : (k : ℕ) → columns_in (text_line g p k) + 2 ≤ inner_width g es p
@@ -221,17 +222,17 @@ module _ (g : Grid (List ℕ)) (es : List Anchor) (well : LieWell g.rows g.colum
 
     text-high : length (lines_of (text_at g p)) ≤ inner_height g es p
     text-high =
-        let enough : length (lines_of (text_at g p)) ≤ room Rows (heights g es) p.row (owner_in es p).1.0 = subst (λ (q : Position). length (lines_of (text_at g q)) ≤ room Rows (heights g es) q.row (owner_in es p).1.0) self (room-enough Rows g es well p it.inside.row it.inside.col) in
-        let end : top g es (p.row + (owner_in es p).1.0) ≡ top g es p.row + (room Rows (heights g es) p.row (owner_in es p).1.0 + 1) = room-end Rows (heights g es) p.row (owner_in es p).1.0 lies.high (omega (arith, lies.bottom, row_is, length-sizes Rows g es)) in
+        let enough : length (lines_of (text_at g p)) ≤ room Rows (heights g es) p.row (owner_in es p).1.height = subst (λ (q : Position). length (lines_of (text_at g q)) ≤ room Rows (heights g es) q.row (owner_in es p).1.height) self (room-enough Rows g es well p it.inside.row it.inside.col) in
+        let end : top g es (p.row + (owner_in es p).1.height) ≡ top g es p.row + (room Rows (heights g es) p.row (owner_in es p).1.height + 1) = room-end Rows (heights g es) p.row (owner_in es p).1.height lies.high (omega (arith, lies.bottom, row_is, length-sizes Rows g es)) in
         omega arith
 
     -- what it shows, in other words
     shows-is : (k : ℕ) → shows g es (top g es p.row + 1 + k) (owner_in es p) ≡ padded (inner_width g es p) (text_line g p k)
-    shows-is k = ap (λ (q : Position). 32 ∷ get_or (lines_of (text_at g q)) (top g es p.row + 1 + k - top g es q.row - 1) [] ++ replicate (room Columns (widths g es) q.col (owner_in es p).1.1 - columns_in (get_or (lines_of (text_at g q)) (top g es p.row + 1 + k - top g es q.row - 1) []) + 1) 32) self
-        ∙ ap (λ i. 32 ∷ text_line g p i ++ replicate (room Columns (widths g es) p.col (owner_in es p).1.1 - columns_in (text_line g p i) + 1) 32) (let z : top g es p.row + 1 + k - top g es p.row - 1 ≡ k = omega arith in z)
+    shows-is k = ap (λ (q : Position). 32 ∷ get_or (lines_of (text_at g q)) (top g es p.row + 1 + k - top g es q.row - 1) [] ++ replicate (room Columns (widths g es) q.col (owner_in es p).1.width - columns_in (get_or (lines_of (text_at g q)) (top g es p.row + 1 + k - top g es q.row - 1) []) + 1) 32) self
+        ∙ ap (λ i. 32 ∷ text_line g p i ++ replicate (room Columns (widths g es) p.col (owner_in es p).1.width - columns_in (text_line g p i) + 1) 32) (let z : top g es p.row + 1 + k - top g es p.row - 1 ≡ k = omega arith in z)
         ∙ ap (λ i. 32 ∷ text_line g p k ++ replicate i 32) fill
       where
-        fill : room Columns (widths g es) p.col (owner_in es p).1.1 - columns_in (text_line g p k) + 1 ≡ inner_width g es p - columns_in (text_line g p k) - 1
+        fill : room Columns (widths g es) p.col (owner_in es p).1.width - columns_in (text_line g p k) + 1 ≡ inner_width g es p - columns_in (text_line g p k) - 1
         fill = omega (arith, width-enough k, width-inner)
 
     text-alone : (k : ℕ) → k < inner_height g es p → StandsAt (picture g es) (top g es p.row + 1 + k) (left g es p.col + 1) (padded (inner_width g es p) (text_line g p k))

@@ -14,7 +14,6 @@ use Rattle.tabled_draw.specs.Sizes.{asks, gap, grown_for, own, own_sizes, room, 
 use Rattle.tabled_draw.specs.Texts.{columns_in}
 use Rattle.tabled_grid.proofs.Members.{Member}
 use Rattle.tabled_grid.proofs.SpanMaps.{same_place-self}
-use Rattle.tabled_grid.specs.Anchors.{Anchor}
 use Rattle.tabled_grid.specs.Along.{count_along}
 use Rattle.tabled_grid.specs.Axis.{across, line_of, lines_in, place_in}
 use Rattle.tabled_grid.specs.Entity.{same_place}
@@ -22,6 +21,7 @@ use Rattle.tabled_grid.specs.Grid.{Grid}
 use Rattle.tabled_grid.specs.declared.config.position.Position.{Position}
 use Rattle.tabled_grid.specs.declared.records.axis.Axis.{Axis}
 use Rattle.tabled_grid.specs.declared.records.axis.Axis.TheVariants.{Rows, Columns}
+use Rattle.tabled_grid.specs.Spans.{Rectangle, sized}
 
 -- ---- lists of what a function gives of each number
 
@@ -127,7 +127,7 @@ enough-set axis s t at (suc k) need some h larger grew =
 
 -- ---- by axis
 
-one_line : (axis : Axis) → lines_in axis (1, 1) ≡ 1
+one_line : (axis : Axis) → lines_in axis (sized 1 1) ≡ 1
 one_line Rows = refl
 one_line Columns = refl
 
@@ -136,15 +136,15 @@ place_is Rows p = refl
 place_is Columns p = refl
 
 -- merged cells that lie well have rows and columns of the table
-pub well-along : (g : Grid (List ℕ)) (es : List Anchor) → LieWell g.rows g.columns es → (axis : Axis) (e : Anchor) → Member e es → (1 ≤ lines_in axis e.1) × (line_of axis e.0 + lines_in axis e.1 ≤ count_along axis g)
+pub well-along : (g : Grid (List ℕ)) (es : List Rectangle) → LieWell g.rows g.columns es → (axis : Axis) (e : Rectangle) → Member e es → (1 ≤ lines_in axis e.1) × (line_of axis e.0 + lines_in axis e.1 ≤ count_along axis g)
 well-along g es well Rows e m = (well.high e m, well.bottom e m)
 well-along g es well Columns e m = (well.wide e m, well.right e m)
 
 module _ (axis : Axis) (g : Grid (List ℕ)) where
-  pub grown-larger : (s : List ℕ) (e : Anchor) → Larger s (grown_for axis g s e)
+  pub grown-larger : (s : List ℕ) (e : Rectangle) → Larger s (grown_for axis g s e)
   grown-larger s e = record { long = length-set s (line_of axis e.0 + lines_in axis e.1 - 1) _; each = λ k. get_or-set s (line_of axis e.0 + lines_in axis e.1 - 1) _ k (omega arith) }
 
-  grown-enough : (s : List ℕ) (e : Anchor) → 1 ≤ lines_in axis e.1 → line_of axis e.0 + lines_in axis e.1 ≤ length s → asks axis (text_at g e.0) ≤ span axis (grown_for axis g s e) (line_of axis e.0) (lines_in axis e.1) - gap axis
+  grown-enough : (s : List ℕ) (e : Rectangle) → 1 ≤ lines_in axis e.1 → line_of axis e.0 + lines_in axis e.1 ≤ length s → asks axis (text_at g e.0) ≤ span axis (grown_for axis g s e) (line_of axis e.0) (lines_in axis e.1) - gap axis
   grown-enough s e some h =
       let at = line_of axis e.0 in
       let n = lines_in axis e.1 in
@@ -152,12 +152,12 @@ module _ (axis : Axis) (g : Grid (List ℕ)) where
       let v = get_or s last 0 + (asks axis (text_at g e.0) - room axis s at n) in
       enough-set axis s (set s last v) at n (asks axis (text_at g e.0)) some h (grown-larger s e) (get_or-set_same s last v 0 (omega arith))
 
-  fold-larger : (es : List Anchor) (s : List ℕ) → Larger s (fold (grown_for axis g) s es)
+  fold-larger : (es : List Rectangle) (s : List ℕ) → Larger s (fold (grown_for axis g) s es)
   fold-larger [] s = record { long = refl; each = λ k. omega arith }
   fold-larger (e ∷ es) s = larger-trans s (grown_for axis g s e) (fold (grown_for axis g) (grown_for axis g s e) es) (grown-larger s e) (fold-larger es (grown_for axis g s e))
 
-  fold-enough : (es : List Anchor) (s : List ℕ) → ((e : Anchor) → Member e es → (1 ≤ lines_in axis e.1) × (line_of axis e.0 + lines_in axis e.1 ≤ length s))
-      → (e : Anchor) → Member e es → asks axis (text_at g e.0) ≤ span axis (fold (grown_for axis g) s es) (line_of axis e.0) (lines_in axis e.1) - gap axis
+  fold-enough : (es : List Rectangle) (s : List ℕ) → ((e : Rectangle) → Member e es → (1 ≤ lines_in axis e.1) × (line_of axis e.0 + lines_in axis e.1 ≤ length s))
+      → (e : Rectangle) → Member e es → asks axis (text_at g e.0) ≤ span axis (fold (grown_for axis g) s es) (line_of axis e.0) (lines_in axis e.1) - gap axis
   fold-enough [] s all e m = absurd m
   fold-enough (x ∷ es) s all e (inl same) =
       let need = asks axis (text_at g x.0) in
@@ -165,11 +165,11 @@ module _ (axis : Axis) (g : Grid (List ℕ)) where
       let inside = all x (inl refl) in
       let first : need ≤ span axis t (line_of axis x.0) (lines_in axis x.1) - gap axis = grown-enough s x inside.0 inside.1 in
       let later : span axis t (line_of axis x.0) (lines_in axis x.1) ≤ span axis (fold (grown_for axis g) t es) (line_of axis x.0) (lines_in axis x.1) = span-larger axis t (fold (grown_for axis g) t es) (fold-larger es t) (line_of axis x.0) (lines_in axis x.1) in
-      let P : Anchor → Type 0 = λ y. asks axis (text_at g y.0) ≤ span axis (fold (grown_for axis g) t es) (line_of axis y.0) (lines_in axis y.1) - gap axis in
+      let P : Rectangle → Type 0 = λ y. asks axis (text_at g y.0) ≤ span axis (fold (grown_for axis g) t es) (line_of axis y.0) (lines_in axis y.1) - gap axis in
       subst P (sym same) (omega arith)
   fold-enough (x ∷ es) s all e (inr m) = fold-enough es (grown_for axis g s x) (λ d i. ((all d (inr i)).0, (let inside = (all d (inr i)).1 in omega (arith, (grown-larger s x).long)))) e m
 
-  module _ (es : List Anchor) where
+  module _ (es : List Rectangle) where
     pub length-own : length (own_sizes axis g es) ≡ count_along axis g
     length-own = length-singles (λ k. largest (count_along (across axis) g) (λ i. own axis g es (place_in axis k i))) (count_along axis g)
 
@@ -185,7 +185,7 @@ module _ (axis : Axis) (g : Grid (List ℕ)) where
     unfolding sizes span
     room-enough well p low far = by (owned es p)
       where
-        o : Anchor
+        o : Rectangle
         o = owner_in es p
 
         base : List ℕ
@@ -194,7 +194,7 @@ module _ (axis : Axis) (g : Grid (List ℕ)) where
         larger : Larger base (sizes axis g es)
         larger = fold-larger es base
 
-        all : (e : Anchor) → Member e es → (1 ≤ lines_in axis e.1) × (line_of axis e.0 + lines_in axis e.1 ≤ length base)
+        all : (e : Rectangle) → Member e es → (1 ≤ lines_in axis e.1) × (line_of axis e.0 + lines_in axis e.1 ≤ length base)
         all e m = let here = well-along g es well axis e m in (here.0, omega (arith, here.1, length-own))
 
         line_below : (a : Axis) → line_of a p < count_along a g
@@ -207,8 +207,8 @@ module _ (axis : Axis) (g : Grid (List ℕ)) where
             let e : room axis (sizes axis g es) (line_of axis o.0) (lines_in axis o.1) ≡ span axis (sizes axis g es) (line_of axis o.0) (lines_in axis o.1) - gap axis = room-span axis (sizes axis g es) (line_of axis o.0) (lines_in axis o.1) (omega (arith, (all o m).1, larger.long)) in
             omega (arith, enough)
         by (alone is never) =
-            let one : lines_in axis o.1 ≡ 1 = ap (λ (x : Anchor). lines_in axis x.1) is ∙ one_line axis in
-            let asked : own axis g es p ≡ asks axis (text_at g p) = cond-true _ _ _ (and_from _ _ (ap (λ (x : Anchor). same_place x.0 p) is ∙ same_place-self p) (ap (λ n. eqb n 1) one)) in
+            let one : lines_in axis o.1 ≡ 1 = ap (λ (x : Rectangle). lines_in axis x.1) is ∙ one_line axis in
+            let asked : own axis g es p ≡ asks axis (text_at g p) = cond-true _ _ _ (and_from _ _ (ap (λ (x : Rectangle). same_place x.0 p) is ∙ same_place-self p) (ap (λ n. eqb n 1) one)) in
             let i = line_of axis p in
             let j = line_of (across axis) p in
             let there : own axis g es (place_in axis i j) ≡ own axis g es p = ap (own axis g es) (place_is axis p) in
@@ -219,7 +219,7 @@ module _ (axis : Axis) (g : Grid (List ℕ)) where
             let same : get_or (sizes axis g es) (i + 0) 0 ≡ get_or (sizes axis g es) i 0 = ap (λ k. get_or (sizes axis g es) k 0) (add-zero i) in
             let e : room axis (sizes axis g es) i 1 ≡ 0 + (get_or (sizes axis g es) (i + 0) 0 + gap axis) - gap axis = room-span axis (sizes axis g es) i 1 (omega (arith, larger.long, length-own, line_below axis)) in
             let enough : asks axis (text_at g p) ≤ room axis (sizes axis g es) i 1 = omega arith in
-            let P : Anchor → Type 0 = λ x. asks axis (text_at g x.0) ≤ room axis (sizes axis g es) (line_of axis x.0) (lines_in axis x.1) in
+            let P : Rectangle → Type 0 = λ x. asks axis (text_at g x.0) ≤ room axis (sizes axis g es) (line_of axis x.0) (lines_in axis x.1) in
             let Q : ℕ → Type 0 = λ n. asks axis (text_at g p) ≤ room axis (sizes axis g es) i n in
             subst P (sym is) (subst Q (sym (one_line axis)) enough)
 

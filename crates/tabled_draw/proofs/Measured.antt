@@ -11,13 +11,13 @@ use Rattle.tabled_draw.specs.OwnerRows.{is_before}
 use Rattle.tabled_draw.specs.Owners.{owner_in}
 use Rattle.tabled_draw.specs.Sizes.{own, own_sizes}
 use Rattle.tabled_grid.specs.Along.{count_along}
-use Rattle.tabled_grid.specs.Anchors.{Anchor}
 use Rattle.tabled_grid.specs.Axis.{across, line_of, place_in}
 use Rattle.tabled_grid.specs.Entity.{place}
 use Rattle.tabled_grid.specs.Grid.{Grid}
 use Rattle.tabled_grid.specs.declared.config.position.Position.{Position}
 use Rattle.tabled_grid.specs.declared.records.axis.Axis.{Axis}
 use Rattle.tabled_grid.specs.declared.records.axis.Axis.TheVariants.{Rows, Columns}
+use Rattle.tabled_grid.specs.Spans.{Rectangle}
 
 -- ---- lists of what a function gives
 
@@ -93,7 +93,7 @@ row-within Columns g k x h1 h2 = h2
 
 -- ---- sizes as they are measured
 
-module _ (axis : Axis) (g : Grid (List ℕ)) (es : List Anchor) where
+module _ (axis : Axis) (g : Grid (List ℕ)) (es : List Rectangle) where
   -- what is asked by the text at a place, if it has been asked
   asked_at : ℕ → ℕ → ℕ → ℕ → ℕ
   asked_at i j k x = cond (is_before i j (place_in axis k x)) (own axis g es (place_in axis k x)) 0
@@ -163,6 +163,6 @@ module _ (axis : Axis) (g : Grid (List ℕ)) (es : List Anchor) where
             ∙ ap (λ a. max a (own axis g es p)) (was.each line (line-within axis g i j h w)) ∙ sym here ∙ ap (λ z. largest (count_along (across axis) g) (asked_at i (j + 1) z)) (sym same)
 
     -- the same, by the owner of the place
-    pub measured-raised : (new : List ℕ) (o : Option Anchor) → o ≡ Some (owner_in es (place i j)) → new ≡ raised axis g sizes o (place i j) → Measured axis g es i (j + 1) new
+    pub measured-raised : (new : List ℕ) (o : Option Rectangle) → o ≡ Some (owner_in es (place i j)) → new ≡ raised axis g sizes o (place i j) → Measured axis g es i (j + 1) new
     unfolding p line
-    measured-raised new o owned is = measured-more new (is ∙ ap (λ (x : Option Anchor). raised axis g sizes x p) owned)
+    measured-raised new o owned is = measured-more new (is ∙ ap (λ (x : Option Rectangle). raised axis g sizes x p) owned)

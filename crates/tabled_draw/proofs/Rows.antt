@@ -22,27 +22,26 @@ use Rattle.tabled_draw.specs.Sizes.{grown_for, heights, own_sizes, sizes, text_a
 use Rattle.tabled_draw.specs.Texts.{lines_of}
 use Rattle.tabled_grid.proofs.SpanMaps.{same_place-self, same_place-true}
 use Rattle.tabled_grid.specs.Along.{count_along}
-use Rattle.tabled_grid.specs.Anchors.{Anchor}
 use Rattle.tabled_grid.specs.Entity.{place, same_place}
 use Rattle.tabled_grid.specs.Grid.{Grid}
 use Rattle.tabled_grid.specs.Midway.{In}
 use Rattle.tabled_grid.specs.Rectangles.{Fits}
-use Rattle.tabled_grid.specs.Spans.{SpanMap}
+use Rattle.tabled_grid.specs.Spans.{Rectangle, SpanMap}
 use Rattle.tabled_grid.specs.declared.config.position.Position.{Position}
 use Rattle.tabled_grid.specs.declared.records.axis.Axis.{Axis}
 use Rattle.tabled_grid.specs.declared.records.axis.Axis.TheVariants.{Rows, Columns}
 
 -- ---- how many sizes there are
 
-fold-long : (axis : Axis) (g : Grid (List ℕ)) (es : List Anchor) (s : List ℕ) → length (fold (grown_for axis g) s es) ≡ length s
+fold-long : (axis : Axis) (g : Grid (List ℕ)) (es : List Rectangle) (s : List ℕ) → length (fold (grown_for axis g) s es) ≡ length s
 fold-long axis g [] s = refl
 fold-long axis g (e ∷ es) s = fold-long axis g es (grown_for axis g s e) ∙ length-grown axis s _ _ _
 
-pub sizes-long : (axis : Axis) (g : Grid (List ℕ)) (es : List Anchor) → length (sizes axis g es) ≡ count_along axis g
+pub sizes-long : (axis : Axis) (g : Grid (List ℕ)) (es : List Rectangle) → length (sizes axis g es) ≡ count_along axis g
 unfolding sizes
 sizes-long axis g es = fold-long axis g es (own_sizes axis g es) ∙ length-each _ (count_along axis g)
 
-module _ (g : Grid (List ℕ)) (es : List Anchor) where
+module _ (g : Grid (List ℕ)) (es : List Rectangle) where
   pub top-more : (i : ℕ) → i < g.rows → top g es (i + 1) ≡ top g es i + (get_or (heights g es) i 0 + 1)
   top-more i h = start-more Rows (heights g es) i (omega (arith, h, sizes-long Rows g es))
 
@@ -68,7 +67,7 @@ module _ (g : Grid (List ℕ)) (es : List Anchor) where
 
 module _ (m : SpanMap) (rows columns : ℕ) (fits : Fits m rows columns) where
   -- an owner begins in its row or above
-  pub owner-row : (i j : ℕ) (o : Anchor) → owner rows columns (entries m) i j ≡ Some o → o.0.row < i
+  pub owner-row : (i j : ℕ) (o : Rectangle) → owner rows columns (entries m) i j ≡ Some o → o.0.row < i
   owner-row i j o e = by (owned m (place s.row s.col)) s.is
     where
       s : Inside rows columns m i j o
@@ -79,7 +78,7 @@ module _ (m : SpanMap) (rows columns : ℕ) (fits : Fits m rows columns) where
       by (alone single _) is = rw (is ∙ single) (omega (arith, s.is_row))
 
   -- one that begins above a row owns the place above, too
-  pub owner-over : (i j : ℕ) (o : Anchor) → owner rows columns (entries m) (i + 1) j ≡ Some o → o.0.row < i → owner rows columns (entries m) i j ≡ Some o
+  pub owner-over : (i j : ℕ) (o : Rectangle) → owner rows columns (entries m) (i + 1) j ≡ Some o → o.0.row < i → owner rows columns (entries m) i j ≡ Some o
   owner-over i j o e above = by (owned m (place s.row s.col)) s.is
     where
       s : Inside rows columns m (i + 1) j o
@@ -96,15 +95,15 @@ module _ (m : SpanMap) (rows columns : ℕ) (fits : Fits m rows columns) where
 
       by : Owned m (place s.row s.col) (owner_in (entries m) (place s.row s.col)) → o ≡ owner_in (entries m) (place s.row s.col) → owner rows columns (entries m) i j ≡ Some o
       by (held has inside) is =
-          let h : get m o.0 ≡ Some o.1 = ap (λ (x : Anchor). get m x.0) is ∙ has ∙ ap (λ (x : Anchor). Some x.1) (sym is) in
-          let n : In o.0 o.1 (place s.row s.col) = let P : Anchor → Type 0 = λ x. In x.0 x.1 (place s.row s.col) in subst P (sym is) inside in
+          let h : get m o.0 ≡ Some o.1 = ap (λ (x : Rectangle). get m x.0) is ∙ has ∙ ap (λ (x : Rectangle). Some x.1) (sym is) in
+          let n : In o (place s.row s.col) = let P : Rectangle → Type 0 = λ x. In x (place s.row s.col) in subst P (sym is) inside in
           at ∙ ap Some (owner-held m rows columns fits o.0 o.1 (place (i - 1) s.col) h (record { top = omega (arith, above); bottom = omega (arith, n.bottom, row); left = n.left; right = n.right }))
-      by (alone single _) is = absurd (omega (arith, above, row, ap (λ (x : Anchor). x.0.row) (is ∙ single)))
+      by (alone single _) is = absurd (omega (arith, above, row, ap (λ (x : Rectangle). x.0.row) (is ∙ single)))
 
 -- ---- what is left of the texts, line by line
 
 module _ (g : Grid (List ℕ)) (m : SpanMap) (fits : Fits m g.rows g.columns) where
-  abbrev pub at : ℕ → ℕ → Option Anchor
+  abbrev pub at : ℕ → ℕ → Option Rectangle
   at i j = owner g.rows g.columns (entries m) i j
 
   -- above the first row nothing is left
@@ -120,10 +119,10 @@ module _ (g : Grid (List ℕ)) (m : SpanMap) (fits : Fits m g.rows g.columns) wh
       → ((j : ℕ) → j < g.columns → get_or new j [] ≡ left_of j (at i (j + 1)) (at i (j + 1)) (get_or old j [])) → AreLeft g m i (n + 1) new
   left-in_row i n old new low high after was is = record { each = λ j o less e begin y. by j o less e begin y }
     where
-      by : (j : ℕ) (o : Anchor) → j < g.columns → owner g.rows g.columns (entries m) i (j + 1) ≡ Some o → o.0.col ≡ j → (y : ℕ) → get_or (lines_of (get_or new j [])) y [] ≡ get_or (lines_of (text_at g o.0)) (n + 1 - top g (entries m) o.0.row - 1 + y) []
+      by : (j : ℕ) (o : Rectangle) → j < g.columns → owner g.rows g.columns (entries m) i (j + 1) ≡ Some o → o.0.col ≡ j → (y : ℕ) → get_or (lines_of (get_or new j [])) y [] ≡ get_or (lines_of (text_at g o.0)) (n + 1 - top g (entries m) o.0.row - 1 + y) []
       by j o less e begin y =
           let one : is_one (owner g.rows g.columns (entries m) i (j + 1)) (owner g.rows g.columns (entries m) i (j + 1)) ≡ true = one-in_row m g.rows g.columns i j low high less in
-          let cut : get_or new j [] ≡ after_line (get_or old j []) = is j less ∙ cond-true _ _ _ (ap₂ (λ (a : Bool) (x : Option Anchor). a && begins j x) one e ∙ eq-eqb o.0.col j begin) in
+          let cut : get_or new j [] ≡ after_line (get_or old j []) = is j less ∙ cond-true _ _ _ (ap₂ (λ (a : Bool) (x : Option Rectangle). a && begins j x) one e ∙ eq-eqb o.0.col j begin) in
           let row = owner-row m g.rows g.columns fits i (j + 1) o e in
           let over : top g (entries m) o.0.row + 1 ≤ n = upper (cases_lt o.0.row (i - 1)) row in
           ap (λ t. get_or (lines_of t) y []) cut ∙ cut-next (get_or old j []) (text_at g o.0) (n - top g (entries m) o.0.row - 1) y (was.each j o less e begin) ∙ ap (λ k. get_or (lines_of (text_at g o.0)) k []) (omega (arith, over))
@@ -138,19 +137,19 @@ module _ (g : Grid (List ℕ)) (m : SpanMap) (fits : Fits m g.rows g.columns) wh
       → ((j : ℕ) → j < g.columns → get_or new j [] ≡ begun g (at (i + 1) (j + 1)) (place i j) (get_or cut j [])) → AreLeft g m (i + 1) (n + 1) new
   left-next_row i n old cut new high is_n was is_cut is_new = record { each = λ j o less e begin y. by j o less e begin y (cases_lt o.0.row i) }
     where
-      by : (j : ℕ) (o : Anchor) → j < g.columns → owner g.rows g.columns (entries m) (i + 1) (j + 1) ≡ Some o → o.0.col ≡ j → (y : ℕ) → (o.0.row < i) ⊎ (i ≤ o.0.row) → get_or (lines_of (get_or new j [])) y [] ≡ get_or (lines_of (text_at g o.0)) (n + 1 - top g (entries m) o.0.row - 1 + y) []
+      by : (j : ℕ) (o : Rectangle) → j < g.columns → owner g.rows g.columns (entries m) (i + 1) (j + 1) ≡ Some o → o.0.col ≡ j → (y : ℕ) → (o.0.row < i) ⊎ (i ≤ o.0.row) → get_or (lines_of (get_or new j [])) y [] ≡ get_or (lines_of (text_at g o.0)) (n + 1 - top g (entries m) o.0.row - 1 + y) []
       by j o less e begin y (inr here) =
           let row : o.0.row ≡ i = omega (arith, here, owner-row m g.rows g.columns fits (i + 1) (j + 1) o e) in
           let same : o.0 ≡ place i j = ap₂ place row begin in
-          let text : get_or new j [] ≡ text_at g o.0 = is_new j less ∙ ap (λ (x : Option Anchor). begun g x (place i j) (get_or cut j [])) e ∙ cond-true _ _ _ (ap (λ q. same_place q (place i j)) same ∙ same_place-self (place i j)) ∙ ap (text_at g) (sym same) in
+          let text : get_or new j [] ≡ text_at g o.0 = is_new j less ∙ ap (λ (x : Option Rectangle). begun g x (place i j) (get_or cut j [])) e ∙ cond-true _ _ _ (ap (λ q. same_place q (place i j)) same ∙ same_place-self (place i j)) ∙ ap (text_at g) (sym same) in
           let first : n + 1 - top g (entries m) o.0.row - 1 + y ≡ y = (let t : top g (entries m) o.0.row ≡ top g (entries m) i = ap (top g (entries m)) row in omega (arith, t, is_n)) in
           ap (λ t. get_or (lines_of t) y []) text ∙ ap (λ k. get_or (lines_of (text_at g o.0)) k []) (sym first)
       by j o less e begin y (inl above) =
           let over : owner g.rows g.columns (entries m) i (j + 1) ≡ Some o = owner-over m g.rows g.columns fits i (j + 1) o e above in
           let one : is_one (owner g.rows g.columns (entries m) i (j + 1)) (owner g.rows g.columns (entries m) (i + 1) (j + 1)) ≡ true = ap₂ is_one over e ∙ same_place-self o.0 in
           let apart : same_place o.0 (place i j) ≡ false = never (cases_Bool (same_place o.0 (place i j))) in
-          let kept : get_or new j [] ≡ get_or cut j [] = is_new j less ∙ ap (λ (x : Option Anchor). begun g x (place i j) (get_or cut j [])) e ∙ cond-false _ _ _ apart in
-          let next : get_or cut j [] ≡ after_line (get_or old j []) = is_cut j less ∙ cond-true _ _ _ (ap₂ (λ (a : Bool) (x : Option Anchor). a && begins j x) one over ∙ eq-eqb o.0.col j begin) in
+          let kept : get_or new j [] ≡ get_or cut j [] = is_new j less ∙ ap (λ (x : Option Rectangle). begun g x (place i j) (get_or cut j [])) e ∙ cond-false _ _ _ apart in
+          let next : get_or cut j [] ≡ after_line (get_or old j []) = is_cut j less ∙ cond-true _ _ _ (ap₂ (λ (a : Bool) (x : Option Rectangle). a && begins j x) one over ∙ eq-eqb o.0.col j begin) in
           let low : top g (entries m) o.0.row + 1 ≤ n = omega (arith, top-below g (entries m) o.0.row i above (omega (arith, high)), is_n) in
           ap (λ t. get_or (lines_of t) y []) (kept ∙ next) ∙ cut-next (get_or old j []) (text_at g o.0) (n - top g (entries m) o.0.row - 1) y (was.each j o less over begin) ∙ ap (λ k. get_or (lines_of (text_at g o.0)) k []) (omega (arith, low))
         where
@@ -160,7 +159,7 @@ module _ (g : Grid (List ℕ)) (m : SpanMap) (fits : Fits m g.rows g.columns) wh
 
 -- ---- lines as they are drawn
 
-pub end-inside : (m : SpanMap) (rows columns i : ℕ) (row : List (Option Anchor)) → Fits m rows columns → IsOwnerRow rows columns m i row → EndInside columns row
+pub end-inside : (m : SpanMap) (rows columns i : ℕ) (row : List (Option Rectangle)) → Fits m rows columns → IsOwnerRow rows columns m i row → EndInside columns row
 end-inside m rows columns i row fits is = record { each = λ j o less e begin. (let there = owner-in m rows columns fits i (j + 1) o (sym (is.each (j + 1) (omega (arith, less))) ∙ e) in omega (arith, there.end, begin)) }
 
 module _ (g : Grid (List ℕ)) (m : SpanMap) (fits : Fits m g.rows g.columns) (edges : List ℕ) (laid : AreEdges g m edges) where
@@ -169,14 +168,14 @@ module _ (g : Grid (List ℕ)) (m : SpanMap) (fits : Fits m g.rows g.columns) (e
   next-of u d n texts was j o less e begin one = was.each j o less e begin 0 ∙ ap (λ k. get_or (lines_of (text_at g o.0)) k []) (add-zero (n - top g (entries m) o.0.row - 1))
 
   -- the line above a row
-  pub between : (i n : ℕ) (above here : List (Option Anchor)) (texts : List (List ℕ)) (columns : ℕ) → n ≡ top g (entries m) i → IsOwnerRow g.rows g.columns m i above → IsOwnerRow g.rows g.columns m (i + 1) here → AreLeft g m i n texts → columns ≡ g.columns
+  pub between : (i n : ℕ) (above here : List (Option Rectangle)) (texts : List (List ℕ)) (columns : ℕ) → n ≡ top g (entries m) i → IsOwnerRow g.rows g.columns m i above → IsOwnerRow g.rows g.columns m (i + 1) here → AreLeft g m i n texts → columns ≡ g.columns
       → drawn_line columns 43 edges above here texts ≡ line g (entries m) (top g (entries m) i) i (i + 1) ++ (10 ∷ [])
   between i n above here texts columns is over under was same =
       line-is g m fits edges laid n i (i + 1) 43 (sym (ap (λ b. cond b 124 43) (apart i))) above here over under (λ e. absurd (omega (arith, e))) (sizes-long Columns g (entries m)) texts (next-of i (i + 1) n texts was) columns same
       ∙ ap (λ k. line g (entries m) k i (i + 1) ++ (10 ∷ [])) is
 
   -- a line in a row
-  pub in-row : (i n : ℕ) (here : List (Option Anchor)) (texts : List (List ℕ)) (columns : ℕ) → i < g.rows → IsOwnerRow g.rows g.columns m (i + 1) here → AreLeft g m (i + 1) n texts → columns ≡ g.columns
+  pub in-row : (i n : ℕ) (here : List (Option Rectangle)) (texts : List (List ℕ)) (columns : ℕ) → i < g.rows → IsOwnerRow g.rows g.columns m (i + 1) here → AreLeft g m (i + 1) n texts → columns ≡ g.columns
       → drawn_line columns 124 edges here here texts ≡ line g (entries m) n (i + 1) (i + 1) ++ (10 ∷ [])
   in-row i n here texts columns high over was same =
       line-is g m fits edges laid n (i + 1) (i + 1) 124 (sym (ap (λ b. cond b 124 43) (eq-eqb (i + 1) (i + 1) refl))) here here over over (λ e. (omega arith, omega (arith, high))) (sizes-long Columns g (entries m)) texts (next-of (i + 1) (i + 1) n texts was) columns same
@@ -189,7 +188,7 @@ ended-more xs x = flat_map-append (λ line. line ++ (10 ∷ [])) xs (x ∷ []) �
 pub ended-both : (xs ys : List (List ℕ)) → ended (xs ++ ys) ≡ ended xs ++ ended ys
 ended-both xs ys = flat_map-append (λ line. line ++ (10 ∷ [])) xs ys
 
-module _ (g : Grid (List ℕ)) (es : List Anchor) where
+module _ (g : Grid (List ℕ)) (es : List Rectangle) where
   -- the lines of a row up to one of them
   abbrev pub lines_below : ℕ → ℕ → List (List ℕ)
   lines_below i y = line g es (top g es i) i (i + 1) ∷ each y (λ y. line g es (top g es i + 1 + y) (i + 1) (i + 1) ∷ [])

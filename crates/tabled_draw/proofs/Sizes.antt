@@ -10,11 +10,10 @@ use Rattle.tabled_draw.proofs.Before.{member-at}
 use Rattle.tabled_draw.proofs.Owned.{IsInTable, anchor-in}
 use Rattle.tabled_draw.specs.Sizes.{asks, gap, grown, grown_for, own_sizes, sizes, start, text_at}
 use Rattle.tabled_grid.specs.Along.{count_along}
-use Rattle.tabled_grid.specs.Anchors.{Anchor}
 use Rattle.tabled_grid.specs.Axis.{line_of, lines_in}
 use Rattle.tabled_grid.specs.Grid.{Grid, cell_at}
 use Rattle.tabled_grid.specs.Rectangles.{Fits}
-use Rattle.tabled_grid.specs.Spans.{SpanMap}
+use Rattle.tabled_grid.specs.Spans.{Rectangle, SpanMap}
 use Rattle.tabled_grid.specs.declared.config.position.Position.{Position}
 use Rattle.tabled_grid.specs.declared.records.axis.Axis.{Axis}
 use Rattle.tabled_grid.specs.declared.records.axis.Axis.TheVariants.{Rows, Columns}
@@ -30,25 +29,25 @@ pub text-of : (g : Grid (List ℕ)) (p : Position) (text : List ℕ) → cell_at
 text-of g p text is = sym (ap (λ (t : Option (List ℕ)). unwrap_or t []) is)
 
 -- what is known of the k-th merged cell
-pub anchor-at : (m : SpanMap) (rows columns : ℕ) → Fits m rows columns → (xs : List Anchor) → xs ≡ entries m → (k : ℕ) (d : Anchor) → k < length xs → IsInTable rows columns (get_or xs k d)
+pub anchor-at : (m : SpanMap) (rows columns : ℕ) → Fits m rows columns → (xs : List Rectangle) → xs ≡ entries m → (k : ℕ) (d : Rectangle) → k < length xs → IsInTable rows columns (get_or xs k d)
 anchor-at m rows columns fits xs is k d h =
-    rw is (anchor-in m rows columns fits (get_or (entries m) k d) (member-at (entries m) k d (subst (λ (ys : List Anchor). k < length ys) is h)))
+    rw is (anchor-in m rows columns fits (get_or (entries m) k d) (member-at (entries m) k d (subst (λ (ys : List Rectangle). k < length ys) is h)))
 
-pub some-lines : (axis : Axis) (rows columns : ℕ) (e : Anchor) → IsInTable rows columns e → 1 ≤ lines_in axis e.1
+pub some-lines : (axis : Axis) (rows columns : ℕ) (e : Rectangle) → IsInTable rows columns e → 1 ≤ lines_in axis e.1
 some-lines Rows rows columns e in_table = in_table.high
 some-lines Columns rows columns e in_table = in_table.wide
 
-pub lines-end : {A : Type 0} (axis : Axis) (g : Grid A) (e : Anchor) → IsInTable g.rows g.columns e → line_of axis e.0 + lines_in axis e.1 ≤ count_along axis g
+pub lines-end : {A : Type 0} (axis : Axis) (g : Grid A) (e : Rectangle) → IsInTable g.rows g.columns e → line_of axis e.0 + lines_in axis e.1 ≤ count_along axis g
 lines-end Rows g e in_table = in_table.bottom
 lines-end Columns g e in_table = in_table.right
 
-pub grown-more : (axis : Axis) (g : Grid (List ℕ)) (m : SpanMap) (base : List ℕ) (k : ℕ) (d : Anchor) (xs : List Anchor) → xs ≡ entries m → k < length xs → (s : List ℕ) (text : List ℕ) → cell_at g (get_or xs k d).0 ≡ Some text → (n : ℕ) (new : List ℕ)
+pub grown-more : (axis : Axis) (g : Grid (List ℕ)) (m : SpanMap) (base : List ℕ) (k : ℕ) (d : Rectangle) (xs : List Rectangle) → xs ≡ entries m → k < length xs → (s : List ℕ) (text : List ℕ) → cell_at g (get_or xs k d).0 ≡ Some text → (n : ℕ) (new : List ℕ)
     → s ≡ fold (grown_for axis g) base (take k (entries m)) → n ≡ asks axis text → new ≡ grown axis s (line_of axis (get_or xs k d).0) (lines_in axis (get_or xs k d).1) n
     → new ≡ fold (grown_for axis g) base (take (k + 1) (entries m))
 grown-more axis g m base k d xs is within s text read n new was many grew =
     grew ∙ ap (grown axis s (line_of axis (get_or xs k d).0) (lines_in axis (get_or xs k d).1)) (many ∙ ap (asks axis) (text-of g _ text read))
-    ∙ ap (λ ws. grown_for axis g ws (get_or xs k d)) was ∙ ap (λ (ys : List Anchor). grown_for axis g (fold (grown_for axis g) base (take k (entries m))) (get_or ys k d)) is
-    ∙ sym (fold-more (grown_for axis g) base (entries m) k d (subst (λ (ys : List Anchor). k < length ys) is within))
+    ∙ ap (λ ws. grown_for axis g ws (get_or xs k d)) was ∙ ap (λ (ys : List Rectangle). grown_for axis g (fold (grown_for axis g) base (take k (entries m))) (get_or ys k d)) is
+    ∙ sym (fold-more (grown_for axis g) base (entries m) k d (subst (λ (ys : List Rectangle). k < length ys) is within))
 
 pub grown-all : (axis : Axis) (g : Grid (List ℕ)) (m : SpanMap) (base s : List ℕ) (k : ℕ) → s ≡ fold (grown_for axis g) base (take k (entries m)) → length (entries m) ≤ k → s ≡ fold (grown_for axis g) base (entries m)
 grown-all axis g m base s k is all = is ∙ ap (fold (grown_for axis g) base) (take_all k (entries m) all)

@@ -16,11 +16,10 @@ use Rattle.tabled_draw.specs.Picture.{left, line, shows, shows_in, stretch, top}
 use Rattle.tabled_draw.specs.Sizes.{room, text_at, widths}
 use Rattle.tabled_draw.specs.Texts.{columns_in, lines_of}
 use Rattle.tabled_grid.proofs.SpanMaps.{same_place-self}
-use Rattle.tabled_grid.specs.Anchors.{Anchor}
 use Rattle.tabled_grid.specs.Entity.{place}
 use Rattle.tabled_grid.specs.Grid.{Grid}
 use Rattle.tabled_grid.specs.Rectangles.{Fits}
-use Rattle.tabled_grid.specs.Spans.{SpanMap}
+use Rattle.tabled_grid.specs.Spans.{Rectangle, SpanMap}
 use Rattle.tabled_grid.specs.declared.records.axis.Axis.TheVariants.{Columns}
 
 pub each-more : {A : Type 0} (f : ℕ → List A) (n : ℕ) → each (n + 1) f ≡ each n f ++ f n
@@ -31,12 +30,12 @@ each-same f h zero same = refl
 each-same f h (suc n) same = ap₂ (λ x y. x ++ y) (each-same f h n (λ k less. same k (omega (arith, less)))) (same n (omega arith))
 
 -- an owner lies in the table
-pub record IsIn (rows columns : ℕ) (o : Anchor) : Type 0 where
+pub record IsIn (rows columns : ℕ) (o : Rectangle) : Type 0 where
   pub row : o.0.row < rows
-  pub end : o.0.col + o.1.1 ≤ columns
-  pub some : 1 ≤ o.1.1
+  pub end : o.0.col + o.1.width ≤ columns
+  pub some : 1 ≤ o.1.width
 
-pub owner-in : (m : SpanMap) (rows columns : ℕ) → Fits m rows columns → (i j : ℕ) (o : Anchor) → owner rows columns (entries m) i j ≡ Some o → IsIn rows columns o
+pub owner-in : (m : SpanMap) (rows columns : ℕ) → Fits m rows columns → (i j : ℕ) (o : Rectangle) → owner rows columns (entries m) i j ≡ Some o → IsIn rows columns o
 owner-in m rows columns fits i j o e = by (owned m (place s.row s.col)) s.is
   where
     s : Inside rows columns m i j o
@@ -54,7 +53,7 @@ and-false : (b : Bool) → (b && false) ≡ false
 and-false true = refl
 and-false false = refl
 
-one-self : (a b : Option Anchor) → is_one a b ≡ true → is_one a a ≡ true
+one-self : (a b : Option Rectangle) → is_one a b ≡ true → is_one a a ≡ true
 one-self None b t = absurd (false≢true t)
 one-self (Some p) b t = same_place-self p.0
 
@@ -65,12 +64,12 @@ apart j = by (cases_Bool (eqb j (j + 1)))
     by (inl t) = let e : j ≡ j + 1 = eqb-true j (j + 1) t in absurd (omega (arith, e))
     by (inr f) = f
 
-module _ (g : Grid (List ℕ)) (es : List Anchor) (n u d j : ℕ) where
-  shows-none : (a : Option Anchor) → shows_in g es n j (j + 1) a ≡ []
+module _ (g : Grid (List ℕ)) (es : List Rectangle) (n u d j : ℕ) where
+  shows-none : (a : Option Rectangle) → shows_in g es n j (j + 1) a ≡ []
   shows-none None = refl
   shows-none (Some o) = ap (λ b. cond (b && eqb j (o.0.col + 1)) (shows g es n o) []) (apart j)
 
-  edge-by : (mark : ℕ) (p q r s : Option Anchor) → mark ≡ cond (eqb u d) 124 43
+  edge-by : (mark : ℕ) (p q r s : Option Rectangle) → mark ≡ cond (eqb u d) 124 43
       → edge mark p q r s ≡ cond ((is_one p q && is_one p r) && is_one p s) (shows_in g es n j (j + 1) p) (replicate 1 (cond (eqb u d) 124 (cond (eqb j (j + 1)) 45 43)))
   edge-by mark p q r s is = by ((is_one p q && is_one p r) && is_one p s)
     where
@@ -78,12 +77,12 @@ module _ (g : Grid (List ℕ)) (es : List Anchor) (n u d j : ℕ) where
       by true = sym (shows-none p)
       by false = ap (λ c. c ∷ []) (is ∙ ap (λ b. cond (eqb u d) 124 (cond b 45 43)) (sym (apart j)))
 
-  pub edge-is : (mark : ℕ) (p q r s : Option Anchor) → mark ≡ cond (eqb u d) 124 43
+  pub edge-is : (mark : ℕ) (p q r s : Option Rectangle) → mark ≡ cond (eqb u d) 124 43
       → p ≡ owner g.rows g.columns es u j → q ≡ owner g.rows g.columns es u (j + 1) → r ≡ owner g.rows g.columns es d j → s ≡ owner g.rows g.columns es d (j + 1)
       → edge mark p q r s ≡ stretch g es n u d j (j + 1) 1
   edge-is mark p q r s is e1 e2 e3 e4 = rw (e1, e2, e3, e4) (edge-by mark (owner g.rows g.columns es u j) (owner g.rows g.columns es u (j + 1)) (owner g.rows g.columns es d j) (owner g.rows g.columns es d (j + 1)) is)
 
-  column-by : (a b : Option Anchor) (shown : List ℕ) (size : ℕ) → (is_one a b ≡ true → shown ≡ shows_in g es n (j + 1) (j + 1) a) → (u ≡ d → is_one a b ≡ true)
+  column-by : (a b : Option Rectangle) (shown : List ℕ) (size : ℕ) → (is_one a b ≡ true → shown ≡ shows_in g es n (j + 1) (j + 1) a) → (u ≡ d → is_one a b ≡ true)
       → cond (is_one a b) shown (replicate size 45) ≡ cond ((is_one a a && is_one a b) && is_one a b) (shows_in g es n (j + 1) (j + 1) a) (replicate size (cond (eqb u d) 124 (cond (eqb (j + 1) (j + 1)) 45 43)))
   column-by a b shown size is within = by (cases_Bool (is_one a b)) (cases_Bool (eqb u d))
     where
@@ -104,15 +103,15 @@ one-in_row m rows columns i j low high right =
     ap₂ is_one is is ∙ same_place-self o.0
 
 module _ (g : Grid (List ℕ)) (m : SpanMap) (fits : Fits m g.rows g.columns) (edges : List ℕ) (laid : AreEdges g m edges) (n u d : ℕ) where
-  es : List Anchor
+  es : List Rectangle
   es = entries m
 
   -- the lines that are left in each column are those that the n-th line of the picture shows
   unfoldable pub AreNext : List (List ℕ) → Type 0
-  AreNext texts = (j : ℕ) (o : Anchor) → j < g.columns → owner g.rows g.columns (entries m) u (j + 1) ≡ Some o → o.0.col ≡ j → is_one (owner g.rows g.columns (entries m) u (j + 1)) (owner g.rows g.columns (entries m) d (j + 1)) ≡ true
+  AreNext texts = (j : ℕ) (o : Rectangle) → j < g.columns → owner g.rows g.columns (entries m) u (j + 1) ≡ Some o → o.0.col ≡ j → is_one (owner g.rows g.columns (entries m) u (j + 1)) (owner g.rows g.columns (entries m) d (j + 1)) ≡ true
       → first_line (get_or texts j []) ≡ get_or (lines_of (text_at g o.0)) (n - top g (entries m) o.0.row - 1) []
 
-  inside-is : (texts : List (List ℕ)) → AreNext texts → (j : ℕ) → j < g.columns → (a : Option Anchor) → a ≡ owner g.rows g.columns (entries m) u (j + 1)
+  inside-is : (texts : List (List ℕ)) → AreNext texts → (j : ℕ) → j < g.columns → (a : Option Rectangle) → a ≡ owner g.rows g.columns (entries m) u (j + 1)
       → is_one (owner g.rows g.columns (entries m) u (j + 1)) (owner g.rows g.columns (entries m) d (j + 1)) ≡ true → inside edges j a (get_or texts j []) ≡ shows_in g (entries m) n (j + 1) (j + 1) a
   unfolding AreNext
   inside-is texts next j less None e one = refl
@@ -126,8 +125,8 @@ module _ (g : Grid (List ℕ)) (m : SpanMap) (fits : Fits m g.rows g.columns) (e
           let at : o.0.col ≡ j = eqb-true o.0.col j t in
           let both : (eqb (j + 1) (j + 1) && eqb (j + 1) (o.0.col + 1)) ≡ true = and_from _ _ (eq-eqb (j + 1) (j + 1) refl) (eq-eqb (j + 1) (o.0.col + 1) (ap (λ k. k + 1) (sym at))) in
           let shown : first_line (get_or texts j []) ≡ get_or (lines_of (text_at g o.0)) (n - top g (entries m) o.0.row - 1) [] = next j o less (sym e) at one in
-          let space : get_or edges (j + o.1.1) 0 - get_or edges j 0 - 3 ≡ room Columns (widths g (entries m)) o.0.col o.1.1 =
-          ap₂ (λ x y. x - y - 3) (laid.each (j + o.1.1) (omega (arith, there.end, at)) ∙ ap (λ k. left g (entries m) (k + o.1.1)) (sym at)) (laid.each j (omega (arith, less)) ∙ ap (left g (entries m)) (sym at)) in
+          let space : get_or edges (j + o.1.width) 0 - get_or edges j 0 - 3 ≡ room Columns (widths g (entries m)) o.0.col o.1.width =
+          ap₂ (λ x y. x - y - 3) (laid.each (j + o.1.width) (omega (arith, there.end, at)) ∙ ap (λ k. left g (entries m) (k + o.1.width)) (sym at)) (laid.each j (omega (arith, less)) ∙ ap (left g (entries m)) (sym at)) in
           cond-true _ _ _ t ∙ ap₂ (λ x y. 32 ∷ x ++ replicate (y - columns_in x + 1) 32) shown space ∙ sym (cond-true _ _ _ both)
       by (inr f) =
           let other : (eqb (j + 1) (j + 1) && eqb (j + 1) (o.0.col + 1)) ≡ false = never (cases_Bool (eqb (j + 1) (j + 1) && eqb (j + 1) (o.0.col + 1))) in
@@ -146,7 +145,7 @@ module _ (g : Grid (List ℕ)) (m : SpanMap) (fits : Fits m g.rows g.columns) (e
       let more : left g (entries m) (j + 1) ≡ left g (entries m) j + (get_or (widths g (entries m)) j 0 + 3) = start-more Columns (widths g (entries m)) j (omega (arith, less, long)) in
       omega (arith, first, next, more)
 
-  module _ (mark : ℕ) (is_mark : mark ≡ cond (eqb u d) 124 43) (above below : List (Option Anchor)) (over : IsOwnerRow g.rows g.columns m u above) (under : IsOwnerRow g.rows g.columns m d below)
+  module _ (mark : ℕ) (is_mark : mark ≡ cond (eqb u d) 124 43) (above below : List (Option Rectangle)) (over : IsOwnerRow g.rows g.columns m u above) (under : IsOwnerRow g.rows g.columns m d below)
       (within : u ≡ d → (0 < u) × (u ≤ g.rows)) (long : length (widths g (entries m)) ≡ g.columns) (texts : List (List ℕ)) (next : AreNext texts) where
     column-is : (j : ℕ) → j < g.columns → column edges j (get_or above (j + 1) None) (get_or below (j + 1) None) (get_or texts j []) ≡ stretch g (entries m) n u d (j + 1) (j + 1) (get_or (widths g (entries m)) j 0 + 2)
     column-is j less =

@@ -1,24 +1,24 @@
 -- The owners of places: the merged cells that hold them, or the places themselves.
 use Rattle.std.specs.Prelude.{◌-◌, ◌&&◌, if◌then◌else◌, ℕ, Bool, false, List, [], ◌∷◌, Option, None, Some, nat_le, nat_lt}
-use Rattle.tabled_grid.specs.Anchors.{Anchor}
 use Rattle.tabled_grid.specs.Entity.{place, same_place}
-use Rattle.tabled_grid.specs.Rectangles.{in_rect}
+use Rattle.tabled_grid.specs.Rectangles.{holds}
 use Rattle.tabled_grid.specs.declared.config.position.Position.{Position}
+use Rattle.tabled_grid.specs.Spans.{Rectangle, sized}
 
 -- the first merged cell of a list that holds a place, else the place itself
-abbrev pub owner_in : List Anchor → Position → Anchor
-owner_in [] p = (p, (1, 1))
-owner_in (e ∷ es) p = if in_rect e.0 e.1 p then e else owner_in es p
+abbrev pub owner_in : List Rectangle → Position → Rectangle
+owner_in [] p = (p, sized 1 1)
+owner_in (e ∷ es) p = if holds e p then e else owner_in es p
 
 -- the owner of a place in row i and column j, which count from 1: outside the table there is none
-unfoldable pub owner : ℕ → ℕ → List Anchor → ℕ → ℕ → Option Anchor
+unfoldable pub owner : ℕ → ℕ → List Rectangle → ℕ → ℕ → Option Rectangle
 owner rows columns es i j =
     if (nat_lt 0 i && nat_le i rows) && (nat_lt 0 j && nat_le j columns)
     then Some (owner_in es (place (i - 1) (j - 1)))
     else None
 
 -- two owners are one: none is no other's
-abbrev pub is_one : Option Anchor → Option Anchor → Bool
+abbrev pub is_one : Option Rectangle → Option Rectangle → Bool
 is_one None q = false
 is_one (Some p) None = false
 is_one (Some p) (Some q) = same_place p.0 q.0

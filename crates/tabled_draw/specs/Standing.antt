@@ -5,10 +5,11 @@ use Rattle.tabled_draw.specs.Owners.{owner_in}
 use Rattle.tabled_draw.specs.Picture.{left, picture, top}
 use Rattle.tabled_draw.specs.Sizes.{text_at}
 use Rattle.tabled_draw.specs.Texts.{columns_in, lines_of}
-use Rattle.tabled_grid.specs.Anchors.{Anchor, is_hidden_in}
+use Rattle.tabled_grid.specs.Anchors.{is_hidden_in}
 use Rattle.tabled_grid.specs.Entity.{place}
 use Rattle.tabled_grid.specs.Grid.{Grid, IsInside}
 use Rattle.tabled_grid.specs.declared.config.position.Position.{Position}
+use Rattle.tabled_grid.specs.Spans.{Rectangle}
 
 -- characters stand in a line, after some columns
 pub record StandsIn (line : List ℕ) (columns : ℕ) (text : List ℕ) : Type 0 where
@@ -25,17 +26,17 @@ pub record StandsAt (lines : List (List ℕ)) (n columns : ℕ) (text : List ℕ
 -- ---- texts
 
 -- a cell of the table that no merged cell hides
-pub record IsSeen (g : Grid (List ℕ)) (es : List Anchor) (p : Position) : Type 0 where
+pub record IsSeen (g : Grid (List ℕ)) (es : List Rectangle) (p : Position) : Type 0 where
   pub inside : IsInside g p
   pub seen : is_hidden_in es p ≡ false
 
 -- the number of lines between a cell's upper and lower border
-abbrev pub inner_height : Grid (List ℕ) → List Anchor → Position → ℕ
-inner_height g es p = top g es (p.row + (owner_in es p).1.0) - top g es p.row - 1
+abbrev pub inner_height : Grid (List ℕ) → List Rectangle → Position → ℕ
+inner_height g es p = top g es (p.row + (owner_in es p).1.height) - top g es p.row - 1
 
 -- the number of columns between a cell's left and right border
-abbrev pub inner_width : Grid (List ℕ) → List Anchor → Position → ℕ
-inner_width g es p = left g es (p.col + (owner_in es p).1.1) - left g es p.col - 1
+abbrev pub inner_width : Grid (List ℕ) → List Rectangle → Position → ℕ
+inner_width g es p = left g es (p.col + (owner_in es p).1.width) - left g es p.col - 1
 
 -- the k-th line of a cell's text, without characters where the text has fewer lines
 abbrev pub text_line : Grid (List ℕ) → Position → ℕ → List ℕ
@@ -47,7 +48,7 @@ padded columns line = 32 ∷ line ++ replicate (columns - columns_in line - 1) 3
 
 -- Each line of the text of each cell that is seen stands whole, two columns after the cell's left border; between its
 -- borders stands nothing but its text and blanks; and there is room for all lines, with a blank at both sides.
-pub record ShowsTexts (g : Grid (List ℕ)) (es : List Anchor) : Type 0 where
+pub record ShowsTexts (g : Grid (List ℕ)) (es : List Rectangle) : Type 0 where
   pub whole : (p : Position) → IsSeen g es p → (k : ℕ) → k < length (lines_of (text_at g p))
       → StandsAt (picture g es) (top g es p.row + 1 + k) (left g es p.col + 2) (text_line g p k)
   pub alone : (p : Position) → IsSeen g es p → (k : ℕ) → k < inner_height g es p
@@ -66,21 +67,21 @@ abbrev pub is_amid : ℕ → ℕ → ℕ → Bool
 is_amid k at n = nat_lt at k && nat_lt k (at + n)
 
 -- in row i, one merged cell lies at both sides of the left edge of column j
-abbrev pub is_joined_beside : List Anchor → ℕ → ℕ → Bool
-is_joined_beside es i j = list_any (λ (e : Anchor). is_among i e.0.row e.1.0 && is_amid j e.0.col e.1.1) es
+abbrev pub is_joined_beside : List Rectangle → ℕ → ℕ → Bool
+is_joined_beside es i j = list_any (λ (e : Rectangle). is_among i e.0.row e.1.height && is_amid j e.0.col e.1.width) es
 
 -- in column j, one merged cell lies above and below the upper edge of row i
-abbrev pub is_joined_above : List Anchor → ℕ → ℕ → Bool
-is_joined_above es i j = list_any (λ (e : Anchor). is_amid i e.0.row e.1.0 && is_among j e.0.col e.1.1) es
+abbrev pub is_joined_above : List Rectangle → ℕ → ℕ → Bool
+is_joined_above es i j = list_any (λ (e : Rectangle). is_amid i e.0.row e.1.height && is_among j e.0.col e.1.width) es
 
 -- one merged cell lies all round the upper left corner of row i and column j
-abbrev pub is_joined_around : List Anchor → ℕ → ℕ → Bool
-is_joined_around es i j = list_any (λ (e : Anchor). is_amid i e.0.row e.1.0 && is_amid j e.0.col e.1.1) es
+abbrev pub is_joined_around : List Rectangle → ℕ → ℕ → Bool
+is_joined_around es i j = list_any (λ (e : Rectangle). is_amid i e.0.row e.1.height && is_amid j e.0.col e.1.width) es
 
 -- Unless one merged cell lies at both sides, `|` stands at each left edge of a column in each line of a row, and dashes
 -- at each upper edge of a row, as wide as the column; and `+` at each corner, unless one lies all round it.
 -- The edge after the last column, and the one below the last row, are such edges, too.
-pub record StandBetween (g : Grid (List ℕ)) (es : List Anchor) : Type 0 where
+pub record StandBetween (g : Grid (List ℕ)) (es : List Rectangle) : Type 0 where
   pub beside : (i j n : ℕ) → i < g.rows → j ≤ g.columns → top g es i < n → n < top g es (i + 1) → is_joined_beside es i j ≡ false
       → StandsAt (picture g es) n (left g es j) (124 ∷ [])
   pub above : (i j : ℕ) → i ≤ g.rows → j < g.columns → is_joined_above es i j ≡ false
@@ -89,5 +90,5 @@ pub record StandBetween (g : Grid (List ℕ)) (es : List Anchor) : Type 0 where
       → StandsAt (picture g es) (top g es i) (left g es j) (43 ∷ [])
 
 -- so stand the borders of a table with a cell
-abbrev pub HasBorders : Grid (List ℕ) → List Anchor → Type 0
+abbrev pub HasBorders : Grid (List ℕ) → List Rectangle → Type 0
 HasBorders g es = IsInside g (place 0 0) → StandBetween g es

@@ -15,12 +15,12 @@ ghost use Rattle.tabled_grid.specs.Rectangles.{Fits};
 use crate::held::Held;
 use crate::layout::{Layout, layout_of};
 use crate::lines::write_line;
-use crate::owners::{Owner, clear, write_owners};
+use crate::owners::{clear, write_owners};
 use std::alloc::{AllocError, Global};
 use std::io::{self, Write};
 use std::marker::Model;
 use std::mem;
-use tabled_grid::config::{Position, SpannedConfig};
+use tabled_grid::config::{Position, Rectangle, SpannedConfig};
 use tabled_grid::records::{CellText, ExactRecords, PeekableRecords, Records};
 
 /// A table that is laid out, with all the memory that drawing it takes. A contract sees it as the bytes of its
@@ -125,8 +125,8 @@ fn write_lines<'a, W, R>(
     spans: &SpannedConfig,
     edges: &[usize],
     heights: &[usize],
-    above: &mut Vec<Option<Owner>>,
-    here: &mut Vec<Option<Owner>>,
+    above: &mut Vec<Option<Rectangle>>,
+    here: &mut Vec<Option<Rectangle>>,
     rests: &mut Vec<&'a str>,
 ) -> io::Result<()>
 where
@@ -163,8 +163,8 @@ fn write_row<'a, W, R>(
     i: usize,
     height: usize,
     next: usize,
-    above: &Vec<Option<Owner>>,
-    here: &mut Vec<Option<Owner>>,
+    above: &Vec<Option<Rectangle>>,
+    here: &mut Vec<Option<Rectangle>>,
     rests: &mut Vec<&'a str>,
 ) -> io::Result<usize>
 where
@@ -197,7 +197,7 @@ where
 }
 
 /// Sets the texts whose cells begin in a row.
-fn begin<'a, R>(records: &'a R, i: usize, here: &[Option<Owner>], rests: &mut Vec<&'a str>)
+fn begin<'a, R>(records: &'a R, i: usize, here: &[Option<Rectangle>], rests: &mut Vec<&'a str>)
 where
     R: Records + ExactRecords + PeekableRecords,
     R::Cell: CellText,
@@ -214,7 +214,12 @@ where
 }
 
 /// The text at a place, if its owner begins there, else another one.
-fn text_at<'a, R>(records: &'a R, owner: Option<Owner>, pos: Position, other: &'a str) -> &'a str
+fn text_at<'a, R>(
+    records: &'a R,
+    owner: Option<Rectangle>,
+    pos: Position,
+    other: &'a str,
+) -> &'a str
 where
     R: Records + ExactRecords + PeekableRecords,
     R::Cell: CellText,

@@ -7,12 +7,11 @@ ghost use Rattle.tabled_draw.specs.Overall.{AreDrawnAlike, AreEquallyWide, AreNo
 ghost use Rattle.tabled_draw.specs.Picture.{bytes_of, drawn, picture};
 ghost use Rattle.tabled_draw.specs.Sizes.{heights};
 ghost use Rattle.tabled_draw.specs.Standing.{HasBorders, ShowsTexts};
-ghost use Rattle.tabled_grid.specs.Anchors.{Anchor};
 ghost use Rattle.tabled_grid.specs.Entity.{place};
 ghost use Rattle.tabled_grid.specs.Fitting.{keep_fitting};
 ghost use Rattle.tabled_grid.specs.Grid.{Grid, IsInside, map_grid};
 ghost use Rattle.tabled_grid.specs.Rectangles.{Fits};
-ghost use Rattle.tabled_grid.specs.Spans.{AreSpanSizes, SpanMap};
+ghost use Rattle.tabled_grid.specs.Spans.{AreSpanSizes, Rectangle, SpanMap};
 
 use tabled_grid::records::{CellText, Records};
 
@@ -24,8 +23,8 @@ pub fn lines_are_equally_wide()
 /// A picture has a line for each line of a row, one above each row, and one below the last row; that of a
 /// table without cells has none.
 pub fn pictures_have_as_many_lines()
-    ensures some { (g : Grid (List ℕ)) (es : List Anchor) → IsInside g (place 0 0) → length (picture g es) ≡ sum (heights g es) + g.rows + 1 }
-    ensures none { (g : Grid (List ℕ)) (es : List Anchor) → (g.rows ≡ 0) ⊎ (g.columns ≡ 0) → picture g es ≡ [] }
+    ensures some { (g : Grid (List ℕ)) (es : List Rectangle) → IsInside g (place 0 0) → length (picture g es) ≡ sum (heights g es) + g.rows + 1 }
+    ensures none { (g : Grid (List ℕ)) (es : List Rectangle) → (g.rows ≡ 0) ⊎ (g.columns ≡ 0) → picture g es ≡ [] }
 {}
 
 /// No column is wider, and no row higher, than the most that is asked of it: by a text that is seen in no
@@ -36,7 +35,7 @@ pub fn rows_and_columns_are_no_larger_than_asked()
 
 /// No control character stands in a line of a picture: no text ends a line or sends an escape sequence.
 pub fn no_control_character_is_drawn()
-    ensures { (g : Grid (List ℕ)) (es : List Anchor) → AllByRecursion AreNoControls (picture g es) }
+    ensures { (g : Grid (List ℕ)) (es : List Rectangle) → AllByRecursion AreNoControls (picture g es) }
 {}
 
 /// Each line of the text of each cell that no merged cell hides stands whole at the cell's place, with

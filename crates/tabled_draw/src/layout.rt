@@ -13,11 +13,11 @@ ghost use Rattle.tabled_grid.specs.Grid.{IsInside, map_grid};
 ghost use Rattle.tabled_grid.specs.Rectangles.{Fits};
 ghost use Rattle.tabled_grid.specs.declared.records.axis.Axis.TheVariants.{Rows, Columns};
 
-use crate::owners::{Owner, clear, owner_row, write_owners};
+use crate::owners::{clear, owner_row, write_owners};
 use crate::texts::asked;
 use std::alloc::{AllocError, Global};
 use std::mem;
-use tabled_grid::config::{Position, SpannedConfig};
+use tabled_grid::config::{Position, Rectangle, SpannedConfig};
 use tabled_grid::records::{Axis, CellText, ExactRecords, PeekableRecords, Records};
 
 /// Where columns and rows lie, and room for the owners of the places of two rows.
@@ -27,8 +27,8 @@ pub(crate) struct Layout {
     pub(crate) edges: Vec<usize>,
     /// How high each row is.
     pub(crate) heights: Vec<usize>,
-    pub(crate) above: Vec<Option<Owner>>,
-    pub(crate) here: Vec<Option<Owner>>,
+    pub(crate) above: Vec<Option<Rectangle>>,
+    pub(crate) here: Vec<Option<Rectangle>>,
 }
 
 /// Lays out a table.
@@ -74,8 +74,8 @@ where
 fn raise_all<R>(
     records: &R,
     spans: &SpannedConfig,
-    above: &mut Vec<Option<Owner>>,
-    here: &mut Vec<Option<Owner>>,
+    above: &mut Vec<Option<Rectangle>>,
+    here: &mut Vec<Option<Rectangle>>,
     widths: &mut Vec<usize>,
     heights: &mut Vec<usize>,
 ) -> Result<(), AllocError>
@@ -108,7 +108,7 @@ fn raise_row<R>(
     records: &R,
     spans: &SpannedConfig,
     i: usize,
-    here: &Vec<Option<Owner>>,
+    here: &Vec<Option<Rectangle>>,
     widths: &mut Vec<usize>,
     heights: &mut Vec<usize>,
 ) -> Result<(), AllocError>
@@ -135,7 +135,7 @@ where
 fn raise<R>(
     records: &R,
     axis: Axis,
-    owner: Option<Owner>,
+    owner: Option<Rectangle>,
     pos: Position,
     sizes: &mut Vec<usize>,
 ) -> Result<(), AllocError>

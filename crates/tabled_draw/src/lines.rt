@@ -4,12 +4,13 @@ ghost use Rattle.std.specs.Prelude.{◌≡◌, ◌+◌, ◌<◌, ◌&&◌, ℕ, 
 ghost use Rattle.tabled_draw.specs.Lines.{EndInside, column, drawn_line, edge, left_of};
 ghost use Rattle.tabled_draw.specs.Owners.{is_one};
 ghost use Rattle.tabled_draw.specs.Sent.{Draws};
-ghost use Rattle.tabled_grid.specs.Anchors.{Anchor};
+ghost use Rattle.tabled_grid.specs.Spans.{Rectangle};
 
 use crate::held::Held;
-use crate::owners::{Owner, is_one};
+use crate::owners::is_one;
 use crate::texts::write_cell;
 use std::io::{self, Write};
+use tabled_grid::config::{Rectangle, Size};
 
 /// Writes a line, in a row or between two: its marks at edges, and what its columns have. Where a cell's text begins,
 /// the lines of it that are left are cut by one.
@@ -18,8 +19,8 @@ pub(crate) fn write_line<'a, W: Write>(
     held: &mut Held,
     mark: u8,
     edges: &[usize],
-    above: &[Option<Owner>],
-    below: &[Option<Owner>],
+    above: &[Option<Rectangle>],
+    below: &[Option<Rectangle>],
     rests: &mut Vec<&'a str>,
 ) -> io::Result<()>
     requires mark { mark < 128 }
@@ -58,8 +59,8 @@ fn write_edge<W: Write>(
     writer: &mut W,
     held: &mut Held,
     mark: u8,
-    above: (Option<Owner>, Option<Owner>),
-    below: (Option<Owner>, Option<Owner>),
+    above: (Option<Rectangle>, Option<Rectangle>),
+    below: (Option<Rectangle>, Option<Rectangle>),
 ) -> io::Result<()>
     requires { mark < 128 }
     ensures { OnOk result (Draws (W.contents writer.old) held.old (W.contents writer.new) held.new (edge mark above.0 above.1 below.0 below.1)) }
@@ -72,7 +73,10 @@ fn write_edge<W: Write>(
 }
 
 /// Says whether one owner is all around an edge.
-fn is_within(above: (Option<Owner>, Option<Owner>), below: (Option<Owner>, Option<Owner>)) -> bool
+fn is_within(
+    above: (Option<Rectangle>, Option<Rectangle>),
+    below: (Option<Rectangle>, Option<Rectangle>),
+) -> bool
     ensures { result ≡ (is_one above.0 above.1 && is_one above.0 below.0) && is_one above.0 below.1 }
 {
     let first = above.0;
@@ -85,12 +89,12 @@ fn write_column<'a, W: Write>(
     held: &mut Held,
     edges: &[usize],
     j: usize,
-    above: Option<Owner>,
-    below: Option<Owner>,
+    above: Option<Rectangle>,
+    below: Option<Rectangle>,
     rest: &'a str,
 ) -> io::Result<&'a str>
     requires col { j + 1 < length edges.now }
-    requires end { (o : Anchor) → above ≡ Some o → o.0.col ≡ j → j + o.1.1 < length edges.now }
+    requires end { (o : Rectangle) → above ≡ Some o → o.0.col ≡ j → j + o.1.width < length edges.now }
     ensures draws { OnOk result (Draws (W.contents writer.old) held.old (W.contents writer.new) held.new (column edges.now j above below rest.now)) }
     ensures rest { IfOk result (λ left. left.now ≡ left_of j above below rest.now) }
 {
@@ -103,7 +107,7 @@ fn write_column<'a, W: Write>(
         return Ok(rest);
     }
     match above {
-        Some((at, (_, width))) if at.col == j => {
+        Some((at, Size { width, .. })) if at.col == j => {
             let room = edges[j + width].saturating_sub(edges[j]).saturating_sub(3);
             write_cell(writer, held, rest, room)
         }

@@ -4,18 +4,15 @@ ghost use Rattle.std.specs.Prelude.{◌≡◌, ◌+◌, ◌<◌, ◌≤◌, ℕ,
 ghost use Rattle.std.specs.FinMap.{entries};
 ghost use Rattle.tabled_draw.specs.OwnerRows.{IsOwnerRow, chosen, count_before};
 ghost use Rattle.tabled_draw.specs.Owners.{is_one};
-ghost use Rattle.tabled_grid.specs.Rectangles.{Fits, in_rect};
+ghost use Rattle.tabled_grid.specs.Rectangles.{Fits, holds};
 ghost use Rattle.tabled_grid.specs.Spans.{size_at};
 
 use std::alloc::{AllocError, Global};
-use tabled_grid::config::{Position, SpannedConfig};
+use tabled_grid::config::{Position, Rectangle, Size, SpannedConfig};
 use tabled_grid::records::{ExactRecords, Records};
 
-/// A cell or a merged cell: its first place, and its height and width.
-pub(crate) type Owner = (Position, (usize, usize));
-
 /// Room for the owners of the places of a row, with one more at both sides.
-pub(crate) fn owner_row(alloc: Global, columns: usize) -> Result<Vec<Option<Owner>>, AllocError>
+pub(crate) fn owner_row(alloc: Global, columns: usize) -> Result<Vec<Option<Rectangle>>, AllocError>
     ensures { IfOk result (λ row. length row.items ≡ columns + 2) }
 {
     let mut row = Vec::new(alloc);
@@ -28,7 +25,7 @@ pub(crate) fn owner_row(alloc: Global, columns: usize) -> Result<Vec<Option<Owne
 }
 
 /// Makes a row one outside the table.
-pub(crate) fn clear(row: &mut Vec<Option<Owner>>)
+pub(crate) fn clear(row: &mut Vec<Option<Rectangle>>)
     ensures long { length row.new.items ≡ length row.old.items }
     ensures none { (j : ℕ) → slice_index_or row.new.items j None ≡ None }
 {
@@ -44,8 +41,8 @@ pub(crate) fn write_owners<R>(
     spans: &SpannedConfig,
     next: usize,
     i: usize,
-    above: &Vec<Option<Owner>>,
-    here: &mut Vec<Option<Owner>>,
+    above: &Vec<Option<Rectangle>>,
+    here: &mut Vec<Option<Rectangle>>,
 ) -> usize
 where
     R: Records + ExactRecords,
@@ -73,7 +70,7 @@ where
 
 /// What begins at a place, where `next` anchors stand before it: the next anchor, if it is here, else the place itself.
 /// Tells how many anchors stand up to the place.
-fn next_at(spans: &SpannedConfig, next: usize, pos: Position) -> (Owner, usize)
+fn next_at(spans: &SpannedConfig, next: usize, pos: Position) -> (Rectangle, usize)
     requires { next ≡ count_before pos.row pos.col (entries spans.now) }
     ensures begins { result.0 ≡ (pos, size_at spans.now pos) }
     ensures next { result.1 ≡ count_before pos.row (pos.col + 1) (entries spans.now) }
@@ -85,11 +82,20 @@ fn next_at(spans: &SpannedConfig, next: usize, pos: Position) -> (Owner, usize)
             return ((pos, size), next + 1);
         }
     }
-    ((pos, (1, 1)), next)
+    let one = Size {
+        height: 1,
+        width: 1,
+    };
+    ((pos, one), next)
 }
 
 /// The owner of a place: that of the place before or above, if it holds this one too, else the one that begins here.
-fn owner_of(before: Option<Owner>, above: Option<Owner>, begins: Owner, pos: Position) -> Owner
+fn owner_of(
+    before: Option<Rectangle>,
+    above: Option<Rectangle>,
+    begins: Rectangle,
+    pos: Position,
+) -> Rectangle
     ensures { result ≡ chosen before above begins pos }
 {
     if let Some(owner) = before
@@ -106,15 +112,18 @@ fn owner_of(before: Option<Owner>, above: Option<Owner>, begins: Owner, pos: Pos
 }
 
 /// Says whether a rectangle holds a place.
-fn holds(owner: Owner, pos: Position) -> bool
-    ensures { result ≡ in_rect owner.0 owner.1 pos }
+fn holds(owner: Rectangle, pos: Position) -> bool
+    ensures { result ≡ holds owner pos }
 {
-    let (at, (height, width)) = owner;
-    at.row <= pos.row && pos.row - at.row < height && at.col <= pos.col && pos.col - at.col < width
+    let (at, size) = owner;
+    at.row <= pos.row
+        && pos.row - at.row < size.height
+        && at.col <= pos.col
+        && pos.col - at.col < size.width
 }
 
 /// Says whether two places have one owner, which none outside the table have.
-pub(crate) fn is_one(a: Option<Owner>, b: Option<Owner>) -> bool
+pub(crate) fn is_one(a: Option<Rectangle>, b: Option<Rectangle>) -> bool
     ensures { result ≡ is_one a b }
 {
     match (a, b) {

@@ -6,10 +6,10 @@ use Rattle.std.specs.List.{list_all}
 use Rattle.std.proofs.lemmas.List.Elements.{All-filter, All-from_recursion, recursion_from_All}
 use Rattle.std.proofs.lemmas.Bool.{and_from, and_parts, cases_Bool, or_cases, or_left, or_right, not_from_false}
 use borrow.Author.Tests.{leb-true, le-leb}
-use Rattle.tabled_grid.specs.Anchors.{Anchor, lies_inside, meets}
+use Rattle.tabled_grid.specs.Anchors.{lies_inside, meets}
 use Rattle.tabled_grid.specs.Entity.{same_place}
-use Rattle.tabled_grid.specs.Rectangles.{Fits, in_rect}
-use Rattle.tabled_grid.specs.Spans.{AreAnchors, AreSpanSizes, IsSpanSize, SpanMap, position_cmp}
+use Rattle.tabled_grid.specs.Rectangles.{Fits, holds}
+use Rattle.tabled_grid.specs.Spans.{AreAnchors, AreSpanSizes, IsSpanSize, Rectangle, SpanMap, position_cmp}
 use Rattle.tabled_grid.specs.declared.config.position.Position.{Position}
 use Rattle.tabled_grid.proofs.FittingAnchors.{shared, sharing}
 pub use Rattle.tabled_grid.proofs.SortedAnchors.{anchors-of, from-entries}
@@ -17,50 +17,51 @@ use Rattle.tabled_grid.proofs.PassedAnchors.{meets-true}
 use Rattle.tabled_grid.proofs.SpanMaps.{same_place-self, same_place-true}
 use Rattle.tabled_grid.proofs.Spans.{positions_exact, positions_total, span_sizes}
 use Rattle.tabled_grid.specs.Fitting.{fits_among, fitting, keep_fitting}
+use Rattle.tabled_grid.specs.declared.config.size.Size.{Size}
 use Rattle.tabled_grid.proofs.Members.{Member, all-from, all-member, filter-from, filter-member, find-member, sorted-filter, sorted-find}
 
-pub anchors-fitting : (rows columns : ℕ) (es : List Anchor) → AreAnchors es → AreAnchors (fitting rows columns es)
+pub anchors-fitting : (rows columns : ℕ) (es : List Rectangle) → AreAnchors es → AreAnchors (fitting rows columns es)
 anchors-fitting rows columns es valid = record {
   sorted = sorted-filter position_cmp positions_total positions_exact (fits_among rows columns es) es valid.sorted;
-  sizes = recursion_from_All _ _ (All-filter (fits_among rows columns es) (λ (e : Anchor). IsSpanSize e.1) es (All-from_recursion _ _ valid.sizes));
+  sizes = recursion_from_All _ _ (All-filter (fits_among rows columns es) (λ (e : Rectangle). IsSpanSize e.1) es (All-from_recursion _ _ valid.sizes));
 }
 
 -- those that are left fit
-pub fitting-fits : (rows columns : ℕ) (es : List Anchor) → AreAnchors es → Fits (from_sorted (fitting rows columns es)) rows columns
+pub fitting-fits : (rows columns : ℕ) (es : List Rectangle) → AreAnchors es → Fits (from_sorted (fitting rows columns es)) rows columns
 fitting-fits rows columns es valid = record { sizes = span_sizes (fitting rows columns es) left; inside = inside; apart = apart }
   where
     left : AreAnchors (fitting rows columns es)
     left = anchors-fitting rows columns es valid
 
-    kept : (a : Position) (s : ℕ × ℕ) → get (from_sorted {R = position_cmp} (fitting rows columns es)) a ≡ Some s → Member (a, s) es × (fits_among rows columns es (a, s) ≡ true)
+    kept : (a : Position) (s : Size) → get (from_sorted {R = position_cmp} (fitting rows columns es)) a ≡ Some s → Member (a, s) es × (fits_among rows columns es (a, s) ≡ true)
     kept a s h = filter-member (fits_among rows columns es) (a, s) es (find-member position_cmp positions_total positions_exact (fitting rows columns es) a s (sym (get-from_sorted position_cmp (fitting rows columns es) a left.sorted) ∙ h))
 
-    inside : (a : Position) (s : ℕ × ℕ) → get (from_sorted {R = position_cmp} (fitting rows columns es)) a ≡ Some s → (a.row + s.0 ≤ rows) × (a.col + s.1 ≤ columns)
+    inside : (a : Position) (s : Size) → get (from_sorted {R = position_cmp} (fitting rows columns es)) a ≡ Some s → (a.row + s.height ≤ rows) × (a.col + s.width ≤ columns)
     inside a s h =
-        let parts = and_parts (lies_inside rows columns (a, s)) (list_all (λ (f : Anchor). same_place a f.0 || not (meets (a, s) f)) es) (kept a s h).1 in
+        let parts = and_parts (lies_inside rows columns (a, s)) (list_all (λ (f : Rectangle). same_place a f.0 || not (meets (a, s) f)) es) (kept a s h).1 in
         let room = and_parts _ _ parts.0 in
         (leb-true _ _ room.0, leb-true _ _ room.1)
 
-    apart : (a b : Position) (s t : ℕ × ℕ) (p : Position) → get (from_sorted {R = position_cmp} (fitting rows columns es)) a ≡ Some s → get (from_sorted {R = position_cmp} (fitting rows columns es)) b ≡ Some t → in_rect a s p ≡ true → in_rect b t p ≡ true → a ≡ b
+    apart : (a b : Position) (s t : Size) (p : Position) → get (from_sorted {R = position_cmp} (fitting rows columns es)) a ≡ Some s → get (from_sorted {R = position_cmp} (fitting rows columns es)) b ≡ Some t → holds (a, s) p ≡ true → holds (b, t) p ≡ true → a ≡ b
     apart a b s t p ha hb ia ib =
-        let parts = and_parts (lies_inside rows columns (a, s)) (list_all (λ (f : Anchor). same_place a f.0 || not (meets (a, s) f)) es) (kept a s ha).1 in
-        by (or_cases (same_place a b) (not (meets (a, s) (b, t))) (all-member (λ (f : Anchor). same_place a f.0 || not (meets (a, s) f)) (b, t) es parts.1 (kept b t hb).0))
+        let parts = and_parts (lies_inside rows columns (a, s)) (list_all (λ (f : Rectangle). same_place a f.0 || not (meets (a, s) f)) es) (kept a s ha).1 in
+        by (or_cases (same_place a b) (not (meets (a, s) (b, t))) (all-member (λ (f : Rectangle). same_place a f.0 || not (meets (a, s) f)) (b, t) es parts.1 (kept b t hb).0))
       where
         by : (same_place a b ≡ true) ⊎ (not (meets (a, s) (b, t)) ≡ true) → a ≡ b
         by (inl same) = same_place-true a b same
         by (inr out) = let never : true ≡ false = sym out ∙ ap not (sharing a b s t p ia ib) in cc
 
 -- where all fit, all are left
-pub fitting-all : (rows columns : ℕ) (es : List Anchor) → AreAnchors es → Fits (from_sorted es) rows columns → from_sorted {R = position_cmp} (fitting rows columns es) ≡ from_sorted es
+pub fitting-all : (rows columns : ℕ) (es : List Rectangle) → AreAnchors es → Fits (from_sorted es) rows columns → from_sorted {R = position_cmp} (fitting rows columns es) ≡ from_sorted es
 fitting-all rows columns es valid fits = same_map positions_total positions_exact (from_sorted (fitting rows columns es)) (from_sorted es) (λ q. by q (get (from_sorted {R = position_cmp} es) q) refl (get (from_sorted {R = position_cmp} (fitting rows columns es)) q) refl)
   where
     left : AreAnchors (fitting rows columns es)
     left = anchors-fitting rows columns es valid
 
-    has : (f : Anchor) → Member f es → get (from_sorted {R = position_cmp} es) f.0 ≡ Some f.1
+    has : (f : Rectangle) → Member f es → get (from_sorted {R = position_cmp} es) f.0 ≡ Some f.1
     has f m = get-from_sorted position_cmp es f.0 valid.sorted ∙ sorted-find position_cmp positions_total positions_exact es f.0 f.1 valid.sorted m
 
-    alone : (e f : Anchor) → Member e es → Member f es → (same_place e.0 f.0 || not (meets e f)) ≡ true
+    alone : (e f : Rectangle) → Member e es → Member f es → (same_place e.0 f.0 || not (meets e f)) ≡ true
     alone e f m n = either (cases_Bool (meets e f))
       where
         either : (meets e f ≡ true) ⊎ (meets e f ≡ false) → (same_place e.0 f.0 || not (meets e f)) ≡ true
@@ -72,20 +73,20 @@ fitting-all rows columns es valid fits = same_map positions_total positions_exac
             let anchor = fits.apart e.0 f.0 e.1 f.1 cell.0 (has e m) (has f n) cell.1 cell.2 in
             or_left (same_place e.0 f.0) (not (meets e f)) (subst (λ (p : Position). same_place e.0 p ≡ true) anchor (same_place-self e.0))
 
-    stays : (e : Anchor) → Member e es → fits_among rows columns es e ≡ true
+    stays : (e : Rectangle) → Member e es → fits_among rows columns es e ≡ true
     stays e m =
         let room = fits.inside e.0 e.1 (has e m) in
-        and_from (lies_inside rows columns e) (list_all (λ (f : Anchor). same_place e.0 f.0 || not (meets e f)) es) (and_from _ _ (le-leb _ _ room.0) (le-leb _ _ room.1)) (all-from (λ (f : Anchor). same_place e.0 f.0 || not (meets e f)) es (λ f n. alone e f m n))
+        and_from (lies_inside rows columns e) (list_all (λ (f : Rectangle). same_place e.0 f.0 || not (meets e f)) es) (and_from _ _ (le-leb _ _ room.0) (le-leb _ _ room.1)) (all-from (λ (f : Rectangle). same_place e.0 f.0 || not (meets e f)) es (λ f n. alone e f m n))
 
-    over : (q : Position) (s : ℕ × ℕ) → get (from_sorted {R = position_cmp} es) q ≡ Some s → get (from_sorted {R = position_cmp} (fitting rows columns es)) q ≡ Some s
+    over : (q : Position) (s : Size) → get (from_sorted {R = position_cmp} es) q ≡ Some s → get (from_sorted {R = position_cmp} (fitting rows columns es)) q ≡ Some s
     over q s h =
         let m = find-member position_cmp positions_total positions_exact es q s (sym (get-from_sorted position_cmp es q valid.sorted) ∙ h) in
         get-from_sorted position_cmp (fitting rows columns es) q left.sorted ∙ sorted-find position_cmp positions_total positions_exact (fitting rows columns es) q s left.sorted (filter-from (fits_among rows columns es) (q, s) es m (stays (q, s) m))
 
-    back : (q : Position) (s : ℕ × ℕ) → get (from_sorted {R = position_cmp} (fitting rows columns es)) q ≡ Some s → get (from_sorted {R = position_cmp} es) q ≡ Some s
+    back : (q : Position) (s : Size) → get (from_sorted {R = position_cmp} (fitting rows columns es)) q ≡ Some s → get (from_sorted {R = position_cmp} es) q ≡ Some s
     back q s h = has (q, s) (filter-member (fits_among rows columns es) (q, s) es (find-member position_cmp positions_total positions_exact (fitting rows columns es) q s (sym (get-from_sorted position_cmp (fitting rows columns es) q left.sorted) ∙ h))).0
 
-    by : (q : Position) (x : Option (ℕ × ℕ)) → get (from_sorted {R = position_cmp} es) q ≡ x → (y : Option (ℕ × ℕ)) → get (from_sorted {R = position_cmp} (fitting rows columns es)) q ≡ y → get (from_sorted {R = position_cmp} (fitting rows columns es)) q ≡ get (from_sorted {R = position_cmp} es) q
+    by : (q : Position) (x : Option Size) → get (from_sorted {R = position_cmp} es) q ≡ x → (y : Option Size) → get (from_sorted {R = position_cmp} (fitting rows columns es)) q ≡ y → get (from_sorted {R = position_cmp} (fitting rows columns es)) q ≡ get (from_sorted {R = position_cmp} es) q
     by q (Some s) h y k = over q s h ∙ sym h
     by q None h (Some s) k = k ∙ sym (back q s k)
     by q None h None k = k ∙ sym h

@@ -4,19 +4,21 @@ use Rattle.std.proofs.lemmas.Bool.{cases_eq, cases_lt}
 use Rattle.tabled_grid.specs.Entity.{place}
 use Rattle.tabled_grid.specs.declared.config.position.Position.{Position}
 pub use Rattle.tabled_grid.specs.Midway.{Flat, Hooked, In, Narrow, Sizes, Within}
+use Rattle.tabled_grid.specs.Spans.{Rectangle, sized}
+use Rattle.tabled_grid.specs.declared.config.size.Size.{Size}
 
 -- no rectangle is empty
 pub record Full (s : Sizes) : Type 0 where
-  pub height : (a : Position) → 1 ≤ (s a).0
-  pub width : (a : Position) → 1 ≤ (s a).1
+  pub height : (a : Position) → 1 ≤ (s a).height
+  pub width : (a : Position) → 1 ≤ (s a).width
 
 -- no other rectangle holds the place
 abbrev pub Visible : Sizes → Position → Type 0
-Visible s p = (a : Position) → In a (s a) p → a ≡ p
+Visible s p = (a : Position) → In (a, s a) p → a ≡ p
 
 -- a width at a place, and all else as it was
 pub record Widened (s t : Sizes) (p : Position) (w : ℕ) : Type 0 where
-  pub here : t p ≡ ((s p).0, w)
+  pub here : t p ≡ sized (s p).height w
   pub others : (q : Position) → q ≢ p → t q ≡ s q
 
 pub cases_place : (a b : Position) → (a ≡ b) ⊎ (a ≢ b)
@@ -29,7 +31,7 @@ cases_place a b = by_row (cases_eq a.row b.row) (cases_eq a.col b.col)
 
 module _ (s : Sizes) (p : Position) (w : ℕ) (full : Full s) (hooked : Hooked s) (visible : (k : ℕ) → p.col ≤ k → k < p.col + w → Visible s (place p.row k)) where
   -- another rectangle that meets the widened one begins in it: not above it
-  not_above : (b q : Position) → b ≢ p → In p ((s p).0, w) q → In b (s b) q → b.row < p.row → ⊥
+  not_above : (b q : Position) → b ≢ p → In (p, sized (s p).height w) q → In (b, s b) q → b.row < p.row → ⊥
   not_above b q apart new old above = at (cases_lt b.col p.col)
     where
       at : (b.col < p.col) ⊎ (p.col ≤ b.col) → ⊥
@@ -41,16 +43,16 @@ module _ (s : Sizes) (p : Position) (w : ℕ) (full : Full s) (hooked : Hooked s
           omega (arith, ap (λ (x : Position). x.row) same)
 
   -- and not left of it
-  not_left : (b q : Position) → b ≢ p → In p ((s p).0, w) q → In b (s b) q → p.row ≤ b.row → b.col < p.col → ⊥
+  not_left : (b q : Position) → b ≢ p → In (p, sized (s p).height w) q → In (b, s b) q → p.row ≤ b.row → b.col < p.col → ⊥
   not_left b q apart new old below left = at (cases_lt p.row b.row)
     where
-      crossing : p.row < b.row → In p (s p) (place b.row p.col)
+      crossing : p.row < b.row → In (p, s p) (place b.row p.col)
       crossing under = record { top = omega arith; bottom = omega (arith, old.top, new.bottom); left = omega arith; right = omega (arith, full.width p) }
 
-      crossed : In b (s b) (place b.row p.col)
+      crossed : In (b, s b) (place b.row p.col)
       crossed = record { top = omega arith; bottom = omega (arith, full.height b); left = omega arith; right = omega (arith, new.left, old.right) }
 
-      hooks : p.row < b.row → In p (s p) b ⊎ In b (s b) p → ⊥
+      hooks : p.row < b.row → In (p, s p) b ⊎ In (b, s b) p → ⊥
       hooks under (inl h) = omega (arith, h.left)
       hooks under (inr h) = omega (arith, h.top)
 
@@ -60,10 +62,10 @@ module _ (s : Sizes) (p : Position) (w : ℕ) (full : Full s) (hooked : Hooked s
           let same = visible p.col (omega arith) (omega (arith, new.left, new.right)) b (record { top = omega arith; bottom = omega (arith, full.height b); left = omega arith; right = omega (arith, new.left, old.right) }) in
           omega (arith, ap (λ (x : Position). x.col) same)
 
-  begins_in : (b q : Position) → b ≢ p → In p ((s p).0, w) q → In b (s b) q → In p ((s p).0, w) b
+  begins_in : (b q : Position) → b ≢ p → In (p, sized (s p).height w) q → In (b, s b) q → In (p, sized (s p).height w) b
   begins_in b q apart new old = by_row (cases_lt b.row p.row) (cases_lt b.col p.col)
     where
-      by_row : (b.row < p.row) ⊎ (p.row ≤ b.row) → (b.col < p.col) ⊎ (p.col ≤ b.col) → In p ((s p).0, w) b
+      by_row : (b.row < p.row) ⊎ (p.row ≤ b.row) → (b.col < p.col) ⊎ (p.col ≤ b.col) → In (p, sized (s p).height w) b
       by_row (inl above) c = absurd (not_above b q apart new old above)
       by_row (inr below) (inl left) = absurd (not_left b q apart new old below left)
       by_row (inr below) (inr right) = record { top = below; bottom = omega (arith, old.top, new.bottom); left = right; right = omega (arith, old.left, new.right) }
@@ -71,38 +73,42 @@ module _ (s : Sizes) (p : Position) (w : ℕ) (full : Full s) (hooked : Hooked s
   pub hooked_widened : (t : Sizes) → Widened s t p w → Hooked t
   hooked_widened t is = record { hook = hook }
     where
-      hook_at : (a b q : Position) → (a ≡ p) ⊎ (a ≢ p) → (b ≡ p) ⊎ (b ≢ p) → In a (t a) q → In b (t b) q → In a (t a) b ⊎ In b (t b) a
-      hook_at a b q (inl e) (inl f) ha hb = inl (subst (λ (x : Position). In a (t a) x) (e ∙ sym f) (record { top = omega arith; bottom = omega (arith, ha.top, ha.bottom); left = omega arith; right = omega (arith, ha.left, ha.right) }))
+      hook_at : (a b q : Position) → (a ≡ p) ⊎ (a ≢ p) → (b ≡ p) ⊎ (b ≢ p) → In (a, t a) q → In (b, t b) q → In (a, t a) b ⊎ In (b, t b) a
+      hook_at a b q (inl e) (inl f) ha hb = inl (subst (λ (x : Position). In (a, t a) x) (e ∙ sym f) (record { top = omega arith; bottom = omega (arith, ha.top, ha.bottom); left = omega arith; right = omega (arith, ha.left, ha.right) }))
       hook_at a b q (inl e) (inr n) ha hb =
-          let new = subst (λ (x : Position). In x (t x) q) e ha in
+          let new = subst (λ (x : Position). In (x, t x) q) e ha in
           let inside = begins_in b q n (rw is.here at new) (rw (is.others b n) at hb) in
-          inl (subst (λ (x : Position). In x (t x) b) (sym e) (rw is.here inside))
+          inl (subst (λ (x : Position). In (x, t x) b) (sym e) (rw is.here inside))
       hook_at a b q (inr n) (inl f) ha hb =
-          let new = subst (λ (x : Position). In x (t x) q) f hb in
+          let new = subst (λ (x : Position). In (x, t x) q) f hb in
           let inside = begins_in a q n (rw is.here at new) (rw (is.others a n) at ha) in
-          inr (subst (λ (x : Position). In x (t x) a) (sym f) (rw is.here inside))
+          inr (subst (λ (x : Position). In (x, t x) a) (sym f) (rw is.here inside))
       hook_at a b q (inr n) (inr k) ha hb = rw (is.others a n, is.others b k) (hooked.hook a b q (rw (is.others a n) at ha) (rw (is.others b k) at hb))
 
-      hook : (a b q : Position) → In a (t a) q → In b (t b) q → In a (t a) b ⊎ In b (t b) a
+      hook : (a b q : Position) → In (a, t a) q → In (b, t b) q → In (a, t a) b ⊎ In (b, t b) a
       hook a b q = hook_at a b q (cases_place a p) (cases_place b p)
 
 -- the place, with rows and columns exchanged
 abbrev pub flip : Position → Position
 flip p = place p.col p.row
 
+-- the size, with height and width exchanged
+abbrev pub flip_size : Size → Size
+flip_size size = sized size.width size.height
+
 -- the sizes, with rows and columns exchanged
 abbrev pub flipped : Sizes → Sizes
-flipped s p = ((s (flip p)).1, (s (flip p)).0)
+flipped s p = flip_size (s (flip p))
 
-pub In-flip : (a p : Position) (h w : ℕ) → In a (h, w) p → In (flip a) (w, h) (flip p)
-In-flip a p h w i = record { top = i.left; bottom = i.right; left = i.top; right = i.bottom }
+pub In-flip : (e : Rectangle) (p : Position) → In e p → In (flip e.0, flip_size e.1) (flip p)
+In-flip e p i = record { top = i.left; bottom = i.right; left = i.top; right = i.bottom }
 
 pub hooked_flipped : (s : Sizes) → Hooked s → Hooked (flipped s)
-hooked_flipped s hooked = record { hook = λ a b p ha hb. back a b (hooked.hook (flip a) (flip b) (flip p) (In-flip a p _ _ ha) (In-flip b p _ _ hb)) }
+hooked_flipped s hooked = record { hook = λ a b p ha hb. back a b (hooked.hook (flip a) (flip b) (flip p) (In-flip _ p ha) (In-flip _ p hb)) }
   where
-    back : (a b : Position) → In (flip a) (s (flip a)) (flip b) ⊎ In (flip b) (s (flip b)) (flip a) → In a (flipped s a) b ⊎ In b (flipped s b) a
-    back a b (inl h) = inl (In-flip (flip a) (flip b) _ _ h)
-    back a b (inr h) = inr (In-flip (flip b) (flip a) _ _ h)
+    back : (a b : Position) → In (flip a, s (flip a)) (flip b) ⊎ In (flip b, s (flip b)) (flip a) → In (a, flipped s a) b ⊎ In (b, flipped s b) a
+    back a b (inl h) = inl (In-flip _ (flip b) h)
+    back a b (inr h) = inr (In-flip _ (flip a) h)
 
 pub full_flipped : (s : Sizes) → Full s → Full (flipped s)
 full_flipped s full = record { height = λ a. full.width (flip a); width = λ a. full.height (flip a) }
@@ -115,13 +121,13 @@ pub within_flipped : (s : Sizes) (rows columns : ℕ) → Within s rows columns 
 within_flipped s rows columns within = record { tall = λ a h. within.wide (flip a) (swap_cases h); wide = λ a h. within.tall (flip a) (swap_cases h) }
 
 pub visible_flipped : (s : Sizes) (p : Position) → Visible s p → Visible (flipped s) (flip p)
-visible_flipped s p visible a h = ap flip (visible (flip a) (In-flip a (flip p) _ _ h))
+visible_flipped s p visible a h = ap flip (visible (flip a) (In-flip _ (flip p) h))
 
 -- where all heights are 1, rectangles are hooked
 pub hooked_flat : (s : Sizes) → Full s → Flat s → Hooked s
 hooked_flat s full flat = record { hook = λ a b p ha hb. by_col a b p ha hb (cases_lt b.col a.col) }
   where
-    by_col : (a b p : Position) → In a (s a) p → In b (s b) p → (b.col < a.col) ⊎ (a.col ≤ b.col) → In a (s a) b ⊎ In b (s b) a
+    by_col : (a b p : Position) → In (a, s a) p → In (b, s b) p → (b.col < a.col) ⊎ (a.col ≤ b.col) → In (a, s a) b ⊎ In (b, s b) a
     by_col a b p ha hb (inl left) = inr (record { top = omega (arith, ha.top, ha.bottom, hb.top, hb.bottom, flat.height a, flat.height b); bottom = omega (arith, ha.top, ha.bottom, hb.top, hb.bottom, flat.height a, flat.height b); left = omega arith; right = omega (arith, ha.left, hb.right) })
     by_col a b p ha hb (inr right) = inl (record { top = omega (arith, ha.top, ha.bottom, hb.top, hb.bottom, flat.height a, flat.height b); bottom = omega (arith, ha.top, ha.bottom, hb.top, hb.bottom, flat.height a, flat.height b); left = omega arith; right = omega (arith, hb.left, ha.right) })
 
@@ -129,23 +135,23 @@ hooked_flat s full flat = record { hook = λ a b p ha hb. by_col a b p ha hb (ca
 pub within_widened : (s t : Sizes) (p : Position) (w rows columns : ℕ) → Widened s t p w → 1 ≤ w → p.row < rows → p.col + w ≤ columns → Within s rows columns → Within t rows columns
 within_widened s t p w rows columns is positive inside fits within = record { tall = λ a. tall a (cases_place a p); wide = λ a. wide a (cases_place a p) }
   where
-    height : (1 < (s p).0) ⊎ ((s p).0 ≤ 1) → p.row + (s p).0 ≤ rows
+    height : (1 < (s p).height) ⊎ ((s p).height ≤ 1) → p.row + (s p).height ≤ rows
     height (inl more) = within.tall p (inl more)
     height (inr one) = omega arith
 
-    tall : (a : Position) → (a ≡ p) ⊎ (a ≢ p) → (1 < (t a).0) ⊎ (1 < (t a).1) → a.row + (t a).0 ≤ rows
-    tall a (inl e) h = subst (λ (x : Position). x.row + (t x).0 ≤ rows) (sym e) (rw is.here (height (cases_lt 1 (s p).0)))
+    tall : (a : Position) → (a ≡ p) ⊎ (a ≢ p) → (1 < (t a).height) ⊎ (1 < (t a).width) → a.row + (t a).height ≤ rows
+    tall a (inl e) h = subst (λ (x : Position). x.row + (t x).height ≤ rows) (sym e) (rw is.here (height (cases_lt 1 (s p).height)))
     tall a (inr n) h = rw (is.others a n) (within.tall a (rw (is.others a n) at h))
 
-    wide : (a : Position) → (a ≡ p) ⊎ (a ≢ p) → (1 < (t a).0) ⊎ (1 < (t a).1) → a.col + (t a).1 ≤ columns
-    wide a (inl e) h = subst (λ (x : Position). x.col + (t x).1 ≤ columns) (sym e) (rw is.here fits)
+    wide : (a : Position) → (a ≡ p) ⊎ (a ≢ p) → (1 < (t a).height) ⊎ (1 < (t a).width) → a.col + (t a).width ≤ columns
+    wide a (inl e) h = subst (λ (x : Position). x.col + (t x).width ≤ columns) (sym e) (rw is.here fits)
     wide a (inr n) h = rw (is.others a n) (within.wide a (rw (is.others a n) at h))
 
 pub flat_widened : (s t : Sizes) (p : Position) (w : ℕ) → Widened s t p w → Flat s → Flat t
 flat_widened s t p w is flat = record { height = λ a. height a (cases_place a p) }
   where
-    height : (a : Position) → (a ≡ p) ⊎ (a ≢ p) → (t a).0 ≡ 1
-    height a (inl e) = subst (λ (x : Position). (t x).0 ≡ 1) (sym e) (rw is.here (flat.height p))
+    height : (a : Position) → (a ≡ p) ⊎ (a ≢ p) → (t a).height ≡ 1
+    height a (inl e) = subst (λ (x : Position). (t x).height ≡ 1) (sym e) (rw is.here (flat.height p))
     height a (inr n) = rw (is.others a n) (flat.height a)
 
 pub narrow_flipped : (s : Sizes) → Narrow s → Flat (flipped s)

@@ -12,12 +12,12 @@ use Rattle.std.proofs.lemmas.Cmp.{tied_itself}
 use Rattle.std.proofs.lemmas.List.Sums.{count_by_more_no, count_by_more_yes, sum_by-cons, sum_by-take-le}
 use Rattle.std.proofs.Math.Nat.{mul-le-mul_right}
 use borrow.Author.Tests.{lt-ltb}
-use Rattle.tabled_grid.specs.Anchors.{Anchor}
 use Rattle.tabled_grid.specs.Covers.{IsNumbered, Stepped, Steps, beyond, hiders_in, hiders_of, hides, table}
 use Rattle.tabled_grid.specs.Entity.{place}
 use Rattle.tabled_grid.specs.Rectangles.{is_hidden}
-use Rattle.tabled_grid.specs.Spans.{SpanMap, position_cmp, size_at, with_size}
+use Rattle.tabled_grid.specs.Spans.{Rectangle, SpanMap, position_cmp, size_at, sized, with_size}
 use Rattle.tabled_grid.specs.declared.config.position.Position.{Position}
+use Rattle.tabled_grid.specs.declared.config.size.Size.{Size}
 use Rattle.tabled_grid.proofs.PassedAnchors.{Earlier, earlier}
 use Rattle.tabled_grid.proofs.Spans.{positions_exact, positions_total}
 use Rattle.tabled_grid.proofs.SpanMaps.{equal, found_above, halves, less, size_at-with_size, with_size-other}
@@ -56,7 +56,7 @@ code-less columns p q (inr beside) h =
     omega (arith, row, beside.1)
 
 -- what hides a place comes before it
-hider-before : (columns : ℕ) (p : Position) (e : Anchor) → p.col < columns → hides p e ≡ true → (e.0.col < columns) × (code columns e.0 < code columns p)
+hider-before : (columns : ℕ) (p : Position) (e : Rectangle) → p.col < columns → hides p e ≡ true → (e.0.col < columns) × (code columns e.0 < code columns p)
 hider-before columns p e h t = by (hides-true e p t)
   where
     earlier_than : Hides e p → (e.0.row < p.row) ⊎ (p.row ≤ e.0.row) → (e.0.col < p.col) ⊎ (p.col ≤ e.0.col) → Earlier e.0 p
@@ -68,33 +68,33 @@ hider-before columns p e h t = by (hides-true e p t)
     by at = let inside : e.0.col < columns = omega (arith, at.holds.left) in (inside, code-less columns e.0 p (earlier_than at (cases_lt e.0.row p.row) (cases_lt e.0.col p.col)) inside)
 
 -- those that hide a place, if they begin from place k on, are at most the places from there up to it
-few : (columns k : ℕ) (p : Position) (es : List Anchor) → T (is_sorted position_cmp es) → p.col < columns → k ≤ code columns p → AllByRecursion (λ (e : Anchor). hides p e ≡ true → k ≤ code columns e.0) es → hiders_in es p + k ≤ code columns p
+few : (columns k : ℕ) (p : Position) (es : List Rectangle) → T (is_sorted position_cmp es) → p.col < columns → k ≤ code columns p → AllByRecursion (λ (e : Rectangle). hides p e ≡ true → k ≤ code columns e.0) es → hiders_in es p + k ≤ code columns p
 few columns k p [] up h l all = omega (arith, l)
 few columns k p (e ∷ es) up h l all = by (cases_Bool (hides p e)) (few columns k p es (halves _ _ up).1 h l all.1) (λ j below rest. few columns j p es (halves _ _ up).1 h below rest)
   where
-    after : (fs : List Anchor) → hides p e ≡ true → T (below_all position_cmp e.0 fs) → AllByRecursion (λ (f : Anchor). hides p f ≡ true → code columns e.0 + 1 ≤ code columns f.0) fs
+    after : (fs : List Rectangle) → hides p e ≡ true → T (below_all position_cmp e.0 fs) → AllByRecursion (λ (f : Rectangle). hides p f ≡ true → code columns e.0 + 1 ≤ code columns f.0) fs
     after [] t below = tt
     after (f ∷ fs) t below = ((λ u. omega (arith, code-less columns e.0 f.0 (earlier e.0 f.0 (less _ (halves _ _ below).0)) (hider-before columns p e h t).0)), after fs t (halves _ _ below).1)
 
-    by : (hides p e ≡ true) ⊎ (hides p e ≡ false) → hiders_in es p + k ≤ code columns p → ((j : ℕ) → j ≤ code columns p → AllByRecursion (λ (f : Anchor). hides p f ≡ true → j ≤ code columns f.0) es → hiders_in es p + j ≤ code columns p) → hiders_in (e ∷ es) p + k ≤ code columns p
+    by : (hides p e ≡ true) ⊎ (hides p e ≡ false) → hiders_in es p + k ≤ code columns p → ((j : ℕ) → j ≤ code columns p → AllByRecursion (λ (f : Rectangle). hides p f ≡ true → j ≤ code columns f.0) es → hiders_in es p + j ≤ code columns p) → hiders_in (e ∷ es) p + k ≤ code columns p
     by (inl t) same go =
         let more = go (code columns e.0 + 1) (omega (arith, (hider-before columns p e h t).1)) (after es t (halves _ _ up).0) in
         omega (arith, more, all.0 t, count-yes (hides p) e es t)
     by (inr t) same go = omega (arith, same, count-no (hides p) e es t)
 
-from_start : (columns : ℕ) (p : Position) (es : List Anchor) → AllByRecursion (λ (e : Anchor). hides p e ≡ true → 0 ≤ code columns e.0) es
+from_start : (columns : ℕ) (p : Position) (es : List Rectangle) → AllByRecursion (λ (e : Rectangle). hides p e ≡ true → 0 ≤ code columns e.0) es
 from_start columns p [] = tt
 from_start columns p (e ∷ es) = ((λ t. omega arith), from_start columns p es)
 
 -- so their number fits a word where that of the shape's cells does
-pub hiders-fit : (rows columns : ℕ) (p : Position) (es : List Anchor) → T (is_sorted position_cmp es) → p.row < rows → p.col < columns → rows * columns < 2 ^ 64 → hiders_in es p < 2 ^ 64
+pub hiders-fit : (rows columns : ℕ) (p : Position) (es : List Rectangle) → T (is_sorted position_cmp es) → p.row < rows → p.col < columns → rows * columns < 2 ^ 64 → hiders_in es p < 2 ^ 64
 hiders-fit rows columns p es up row col fits =
     let before : hiders_in es p + 0 ≤ code columns p = few columns 0 p es up col (omega arith) (from_start columns p es) in
     let inside : (p.row + 1) * columns ≤ rows * columns = mul-le-mul_right columns (omega arith) in
     omega (arith, before, inside)
 
 -- the entries of a map but that at a place
-rest : SpanMap → Position → List Anchor
+rest : SpanMap → Position → List Rectangle
 rest m a = where_key position_cmp (λ q. not (eq_by_cmp position_cmp a q)) (entries m)
 
 rest-same : (m n : SpanMap) (a : Position) → ((q : Position) → q ≢ a → get n q ≡ get m q) → rest n a ≡ rest m a
@@ -118,10 +118,10 @@ rest-same m n a same = sym (entries-from_sorted position_cmp (rest n a) (up n)) 
             both e = cc
 
 -- nothing is found at a place below all
-none_below : (a : Position) (es : List Anchor) → T (below_all position_cmp a es) → find position_cmp a es ≡ None
+none_below : (a : Position) (es : List Rectangle) → T (below_all position_cmp a es) → find position_cmp a es ≡ None
 none_below a es below = by (find position_cmp a es) refl
   where
-    by : (s : Option (ℕ × ℕ)) → find position_cmp a es ≡ s → s ≡ None
+    by : (s : Option Size) → find position_cmp a es ≡ s → s ≡ None
     by None e = refl
     by (Some v) e = absurd (never (sym (tied_itself positions_total a) ∙ found_above position_cmp positions_total positions_exact a a es v below e))
       where
@@ -129,15 +129,15 @@ none_below a es below = by (find position_cmp a es) refl
         never e = cc
 
 -- a place of one cell is none that an entry may have for nothing
-counts-apart : (test : Anchor → Bool) (a : Position) (es : List Anchor) → test (a, (1, 1)) ≡ false → T (is_sorted position_cmp es) → count_by test es ≡ count_by test (where_key position_cmp (λ q. not (eq_by_cmp position_cmp a q)) es) + cond (test (a, unwrap_or (find position_cmp a es) (1, 1))) 1 0
+counts-apart : (test : Rectangle → Bool) (a : Position) (es : List Rectangle) → test (a, sized 1 1) ≡ false → T (is_sorted position_cmp es) → count_by test es ≡ count_by test (where_key position_cmp (λ q. not (eq_by_cmp position_cmp a q)) es) + cond (test (a, unwrap_or (find position_cmp a es) (sized 1 1))) 1 0
 counts-apart test a [] one up = ap (λ (b : Bool). 0 + cond b 1 0) (sym one)
 counts-apart test a (e ∷ es) one up = by (cases_Bool (eq_by_cmp position_cmp a e.0)) (cases_Bool (test e)) (counts-apart test a es one (halves _ _ up).1)
   where
-    others : List Anchor
+    others : List Rectangle
     others = where_key position_cmp (λ q. not (eq_by_cmp position_cmp a q)) es
 
-    at : Option (ℕ × ℕ) → ℕ
-    at v = cond (test (a, unwrap_or v (1, 1))) 1 0
+    at : Option Size → ℕ
+    at v = cond (test (a, unwrap_or v (sized 1 1))) 1 0
 
     kept : (b : Bool) → eq_by_cmp position_cmp a e.0 ≡ b → where_key position_cmp (λ q. not (eq_by_cmp position_cmp a q)) (e ∷ es) ≡ cond (not b) (e ∷ others) others
     kept b t = ap (λ c. cond (not c) (e ∷ others) others) t
@@ -158,15 +158,15 @@ counts-apart test a (e ∷ es) one up = by (cases_Bool (eq_by_cmp position_cmp a
     by (inr f) c go =
         rw (kept false f, looked false f) (omega (arith, go, sum_by-cons (λ y. cond (test y) 1 0) e es, sum_by-cons (λ y. cond (test y) 1 0) e others))
 
-one_cell : (a p : Position) → hides p (a, (1, 1)) ≡ false
-one_cell a p = false_from_ne_true _ (λ t. let at = hides-true (a, (1, 1)) p t in at.other (ap₂ place (omega (arith, at.holds.top, at.holds.bottom)) (omega (arith, at.holds.left, at.holds.right))))
+one_cell_hides_none : (a p : Position) → hides p (a, sized 1 1) ≡ false
+one_cell_hides_none a p = false_from_ne_true _ (λ t. let at = hides-true (a, sized 1 1) p t in at.other (ap₂ place (omega (arith, at.holds.top, at.holds.bottom)) (omega (arith, at.holds.left, at.holds.right))))
 
 -- an anchor hides a place, or not, beside all others
 hiders-apart : (m : SpanMap) (a p : Position) → hiders_of m p ≡ hiders_in (rest m a) p + cond (hides p (a, size_at m a)) 1 0
 unfolding rest
-hiders-apart m a p = counts-apart (hides p) a (entries m) (one_cell a p) (entries_sorted m) ∙ ap (λ v. hiders_in (rest m a) p + cond (hides p (a, unwrap_or v (1, 1))) 1 0) (sym (get-entries m a))
+hiders-apart m a p = counts-apart (hides p) a (entries m) (one_cell_hides_none a p) (entries_sorted m) ∙ ap (λ v. hiders_in (rest m a) p + cond (hides p (a, unwrap_or v (sized 1 1))) 1 0) (sym (get-entries m a))
 
-hiders-with : (m : SpanMap) (a p : Position) (new : ℕ × ℕ) → hiders_of (with_size m a new) p ≡ hiders_in (rest m a) p + cond (hides p (a, new)) 1 0
+hiders-with : (m : SpanMap) (a p : Position) (new : Size) → hiders_of (with_size m a new) p ≡ hiders_in (rest m a) p + cond (hides p (a, new)) 1 0
 hiders-with m a p new =
     hiders-apart (with_size m a new) a p
     ∙ ap₂ (λ es size. hiders_in es p + cond (hides p (a, size)) 1 0) (rest-same m (with_size m a new) a (λ q n. with_size-other m a new q n)) (size_at-with_size m a new)
@@ -180,7 +180,7 @@ one-if b t = ap number t
 none-if : (b : Bool) → b ≡ false → number b ≡ 0
 none-if b t = ap number t
 
-module _ (m : SpanMap) (a : Position) (old new : ℕ × ℕ) (first : Position) (rows columns : ℕ) (has : size_at m a ≡ old) (fits : IsNumbered first rows columns) where
+module _ (m : SpanMap) (a : Position) (old new : Size) (first : Position) (rows columns : ℕ) (has : size_at m a ≡ old) (fits : IsNumbered first rows columns) where
   abbrev at : ℕ → ℕ → Position
   at i j = beyond first (place i j)
 
@@ -207,7 +207,7 @@ module _ (m : SpanMap) (a : Position) (old new : ℕ × ℕ) (first : Position) 
   hiders-replaced xs ys zs back on is = on.is (λ p. hiders_in (rest m a) (beyond first p)) (λ p. hiders_of (with_size m a new) (beyond first p)) given (back.is (λ p. hiders_of m (beyond first p)) (λ p. hiders_in (rest m a) (beyond first p)) taken is)
 
 -- one anchor of a sorted list more
-pub hiders-more : (es : List Anchor) (n : ℕ) (d : Anchor) (xs ys : List ℕ) (first : Position) (rows columns : ℕ) → T (is_sorted position_cmp es) → n < length es → IsNumbered first rows columns → Steps xs ys (λ p. hides (beyond first p) (get_or es n d)) 1 rows columns → xs ≡ table (λ p. hiders_in (take n es) (beyond first p)) rows columns → ys ≡ table (λ p. hiders_in (take (n + 1) es) (beyond first p)) rows columns
+pub hiders-more : (es : List Rectangle) (n : ℕ) (d : Rectangle) (xs ys : List ℕ) (first : Position) (rows columns : ℕ) → T (is_sorted position_cmp es) → n < length es → IsNumbered first rows columns → Steps xs ys (λ p. hides (beyond first p) (get_or es n d)) 1 rows columns → xs ≡ table (λ p. hiders_in (take n es) (beyond first p)) rows columns → ys ≡ table (λ p. hiders_in (take (n + 1) es) (beyond first p)) rows columns
 hiders-more es n d xs ys first rows columns up here fits steps is = steps.is (λ p. hiders_in (take n es) (beyond first p)) (λ p. hiders_in (take (n + 1) es) (beyond first p)) (record {
   here = λ i j h k t. omega (arith, count_by_more_yes (hides (beyond first (place i j))) es n d here t, sum_by-take-le (λ e. cond (hides (beyond first (place i j)) e) 1 0) es (n + 1), hiders-fit (first.row + rows) (first.col + columns) (beyond first (place i j)) es up (omega arith) (omega arith) fits.cells);
   others = λ i j h k t. count_by_more_no (hides (beyond first (place i j))) es n d here t;

@@ -8,123 +8,123 @@ use Rattle.std.specs.Ordering.{is_lt}
 use Rattle.std.proofs.lemmas.Bool.{false_from_ne_true}
 use Rattle.std.proofs.lemmas.List.{drop_at, drop_more, get_or_append_left, get_or-take, length-take, take_at, take_more}
 use borrow.Author.Tests.{lt-ltb}
-use Rattle.tabled_grid.specs.Spans.{IsSpanSize, position_cmp}
+use Rattle.tabled_grid.specs.Spans.{IsSpanSize, Rectangle, position_cmp, sized}
 use Rattle.tabled_grid.specs.declared.config.position.Position.{Position}
-use Rattle.tabled_grid.specs.Anchors.{Anchor, dropped, is_hidden_in, marked, unless_held}
-use Rattle.tabled_grid.specs.Rectangles.{in_rect}
+use Rattle.tabled_grid.specs.Anchors.{dropped, is_hidden_in, marked, unless_held}
+use Rattle.tabled_grid.specs.Rectangles.{holds}
 use Rattle.tabled_grid.specs.Entity.{same_place}
 use Rattle.tabled_grid.proofs.Geometry.{In}
-use Rattle.tabled_grid.proofs.SpanMaps.{both, halves, in_rect-true, less, same_place-self}
+use Rattle.tabled_grid.proofs.SpanMaps.{both, halves, holds-true, less, same_place-self}
 use Rattle.tabled_grid.proofs.PassedAnchors.{Earlier, earlier, places_apart}
 
 -- a mark keeps the place
-place_kept : (by e : Anchor) → (unless_held by e).0 ≡ e.0
-place_kept by e = either (in_rect by.0 by.1 e.0)
+place_kept : (by e : Rectangle) → (unless_held by e).0 ≡ e.0
+place_kept by e = either (holds by e.0)
   where
-    either : (b : Bool) → (cond b (e.0, (0, 0)) e).0 ≡ e.0
+    either : (b : Bool) → (cond b (e.0, sized 0 0) e).0 ≡ e.0
     either true = refl
     either false = refl
 
-below_held : (x : Position) (by : Anchor) (es : List Anchor) → T (below_all position_cmp x es) → T (below_all position_cmp x (map (unless_held by) es))
+below_held : (x : Position) (by : Rectangle) (es : List Rectangle) → T (below_all position_cmp x es) → T (below_all position_cmp x (map (unless_held by) es))
 below_held x by [] h = tt
 below_held x by (e ∷ es) h = both _ _ (subst (λ p. T (is_lt (position_cmp x p))) (sym (place_kept by e)) (halves _ _ h).0) (below_held x by es (halves _ _ h).1)
 
-sorted_held : (by : Anchor) (es : List Anchor) → T (is_sorted position_cmp es) → T (is_sorted position_cmp (map (unless_held by) es))
+sorted_held : (by : Rectangle) (es : List Rectangle) → T (is_sorted position_cmp es) → T (is_sorted position_cmp (map (unless_held by) es))
 sorted_held by [] h = tt
 sorted_held by (e ∷ es) h = both _ _ (subst (λ p. T (below_all position_cmp p (map (unless_held by) es))) (sym (place_kept by e)) (below_held e.0 by es (halves _ _ h).0)) (sorted_held by es (halves _ _ h).1)
 
-below_marked : (x : Position) (es : List Anchor) → T (below_all position_cmp x es) → T (below_all position_cmp x (marked es))
+below_marked : (x : Position) (es : List Rectangle) → T (below_all position_cmp x es) → T (below_all position_cmp x (marked es))
 below_marked x [] h = tt
 below_marked x (e ∷ es) h = both _ _ (halves _ _ h).0 (below_held x e (marked es) (below_marked x es (halves _ _ h).1))
 
-sorted_marked : (es : List Anchor) → T (is_sorted position_cmp es) → T (is_sorted position_cmp (marked es))
+sorted_marked : (es : List Rectangle) → T (is_sorted position_cmp es) → T (is_sorted position_cmp (marked es))
 sorted_marked [] h = tt
 sorted_marked (e ∷ es) h = both _ _ (below_held e.0 e (marked es) (below_marked e.0 es (halves _ _ h).0)) (sorted_held e (marked es) (sorted_marked es (halves _ _ h).1))
 
 -- the anchors before an index as they were, and the others marked
-abbrev pub marked_from : List Anchor → ℕ → List Anchor
+abbrev pub marked_from : List Rectangle → ℕ → List Rectangle
 marked_from old i = take i old ++ marked (drop i old)
 
-module _ (old : List Anchor) (i : ℕ) (here : i < length old) where
+module _ (old : List Rectangle) (i : ℕ) (here : i < length old) where
   front : length (take (i + 1) old) ≡ i + 1
   front = omega (arith, length-take (i + 1) old)
 
-  pub at_mark : (d : Anchor) → get_or (marked_from old (i + 1)) i d ≡ get_or old i d
+  pub at_mark : (d : Rectangle) → get_or (marked_from old (i + 1)) i d ≡ get_or old i d
   at_mark d = get_or_append_left (take (i + 1) old) (marked (drop (i + 1) old)) d i (omega (arith, front)) ∙ get_or-take (i + 1) old i d (omega arith)
 
-  pub sorted_mark : (d : Anchor) → ((n : ℕ) → T (is_sorted position_cmp (drop n old))) → T (is_sorted position_cmp (get_or (marked_from old (i + 1)) i d ∷ drop (i + 1) (marked_from old (i + 1))))
+  pub sorted_mark : (d : Rectangle) → ((n : ℕ) → T (is_sorted position_cmp (drop n old))) → T (is_sorted position_cmp (get_or (marked_from old (i + 1)) i d ∷ drop (i + 1) (marked_from old (i + 1))))
   sorted_mark d up =
       let whole = subst (λ es. T (is_sorted position_cmp es)) (drop_more old i d here) (up i) in
       let rest = both _ _ (below_marked (get_or old i d).0 (drop (i + 1) old) (halves _ _ whole).0) (sorted_marked (drop (i + 1) old) (halves _ _ whole).1) in
       rw (at_mark d, drop_at (take (i + 1) old) (marked (drop (i + 1) old)) (i + 1) front) rest
 
-  pub mark_more : (d : Anchor) → take (i + 1) (marked_from old (i + 1)) ++ map (unless_held (get_or (marked_from old (i + 1)) i d)) (drop (i + 1) (marked_from old (i + 1))) ≡ marked_from old i
+  pub mark_more : (d : Rectangle) → take (i + 1) (marked_from old (i + 1)) ++ map (unless_held (get_or (marked_from old (i + 1)) i d)) (drop (i + 1) (marked_from old (i + 1))) ≡ marked_from old i
   mark_more d =
       rw (at_mark d, drop_at (take (i + 1) old) (marked (drop (i + 1) old)) (i + 1) front, take_at (take (i + 1) old) (marked (drop (i + 1) old)) (i + 1) front, take_more old i d here, append_assoc)
       (ap (λ es. take i old ++ marked es) (sym (drop_more old i d here)))
 
 -- what has a size is left of the marked
-abbrev pub has_size : Anchor → Bool
-has_size e = nat_lt 0 e.1.0
+abbrev pub has_size : Rectangle → Bool
+has_size e = nat_lt 0 e.1.height
 
-sized_held : (by : Anchor) (es : List Anchor) → filter has_size (map (unless_held by) es) ≡ filter (λ (e : Anchor). not (in_rect by.0 by.1 e.0)) (filter has_size es)
+sized_held : (by : Rectangle) (es : List Rectangle) → filter has_size (map (unless_held by) es) ≡ filter (λ (e : Rectangle). not (holds by e.0)) (filter has_size es)
 sized_held by [] = refl
-sized_held by (e ∷ es) = either (in_rect by.0 by.1 e.0) refl (has_size e) refl (sized_held by es)
+sized_held by (e ∷ es) = either (holds by e.0) refl (has_size e) refl (sized_held by es)
   where
-    either : (b : Bool) → in_rect by.0 by.1 e.0 ≡ b → (s : Bool) → has_size e ≡ s → filter has_size (map (unless_held by) es) ≡ filter (λ (f : Anchor). not (in_rect by.0 by.1 f.0)) (filter has_size es) → filter has_size (cond b (e.0, (0, 0)) e ∷ map (unless_held by) es) ≡ filter (λ (f : Anchor). not (in_rect by.0 by.1 f.0)) (cond s (e ∷ filter has_size es) (filter has_size es))
+    either : (b : Bool) → holds by e.0 ≡ b → (s : Bool) → has_size e ≡ s → filter has_size (map (unless_held by) es) ≡ filter (λ (f : Rectangle). not (holds by f.0)) (filter has_size es) → filter has_size (cond b (e.0, sized 0 0) e ∷ map (unless_held by) es) ≡ filter (λ (f : Rectangle). not (holds by f.0)) (cond s (e ∷ filter has_size es) (filter has_size es))
     either true is true has go = rw is go
     either true is false has go = go
     either false is true has go = rw (is, has) (ap (λ fs. e ∷ fs) go)
     either false is false has go = rw has go
 
 -- an anchor's rectangle and other tests, of anchors that come after it
-hidden_later : (h : Position → Bool) (e : Anchor) (fs : List Anchor) → T (below_all position_cmp e.0 fs) → filter (λ (f : Anchor). not ((in_rect e.0 e.1 f.0 && not (same_place e.0 f.0)) || h f.0)) fs ≡ filter (λ (f : Anchor). not (in_rect e.0 e.1 f.0)) (filter (λ (f : Anchor). not (h f.0)) fs)
+hidden_later : (h : Position → Bool) (e : Rectangle) (fs : List Rectangle) → T (below_all position_cmp e.0 fs) → filter (λ (f : Rectangle). not ((holds e f.0 && not (same_place e.0 f.0)) || h f.0)) fs ≡ filter (λ (f : Rectangle). not (holds e f.0)) (filter (λ (f : Rectangle). not (h f.0)) fs)
 hidden_later h e [] below = refl
-hidden_later h e (f ∷ fs) below = either (in_rect e.0 e.1 f.0) refl (h f.0) refl (places_apart e.0 f.0 (less _ (halves _ _ below).0)).0 (hidden_later h e fs (halves _ _ below).1)
+hidden_later h e (f ∷ fs) below = either (holds e f.0) refl (h f.0) refl (places_apart e.0 f.0 (less _ (halves _ _ below).0)).0 (hidden_later h e fs (halves _ _ below).1)
   where
-    rest : List Anchor → List Anchor
-    rest gs = filter (λ (g : Anchor). not ((in_rect e.0 e.1 g.0 && not (same_place e.0 g.0)) || h g.0)) gs
+    rest : List Rectangle → List Rectangle
+    rest gs = filter (λ (g : Rectangle). not ((holds e g.0 && not (same_place e.0 g.0)) || h g.0)) gs
 
-    either : (b : Bool) → in_rect e.0 e.1 f.0 ≡ b → (s : Bool) → h f.0 ≡ s → same_place e.0 f.0 ≡ false → filter (λ (g : Anchor). not ((in_rect e.0 e.1 g.0 && not (same_place e.0 g.0)) || h g.0)) fs ≡ filter (λ (g : Anchor). not (in_rect e.0 e.1 g.0)) (filter (λ (g : Anchor). not (h g.0)) fs) →
-        cond (not ((b && not (same_place e.0 f.0)) || s)) (f ∷ filter (λ (g : Anchor). not ((in_rect e.0 e.1 g.0 && not (same_place e.0 g.0)) || h g.0)) fs) (filter (λ (g : Anchor). not ((in_rect e.0 e.1 g.0 && not (same_place e.0 g.0)) || h g.0)) fs) ≡ filter (λ (g : Anchor). not (in_rect e.0 e.1 g.0)) (cond (not s) (f ∷ filter (λ (g : Anchor). not (h g.0)) fs) (filter (λ (g : Anchor). not (h g.0)) fs))
+    either : (b : Bool) → holds e f.0 ≡ b → (s : Bool) → h f.0 ≡ s → same_place e.0 f.0 ≡ false → filter (λ (g : Rectangle). not ((holds e g.0 && not (same_place e.0 g.0)) || h g.0)) fs ≡ filter (λ (g : Rectangle). not (holds e g.0)) (filter (λ (g : Rectangle). not (h g.0)) fs) →
+        cond (not ((b && not (same_place e.0 f.0)) || s)) (f ∷ filter (λ (g : Rectangle). not ((holds e g.0 && not (same_place e.0 g.0)) || h g.0)) fs) (filter (λ (g : Rectangle). not ((holds e g.0 && not (same_place e.0 g.0)) || h g.0)) fs) ≡ filter (λ (g : Rectangle). not (holds e g.0)) (cond (not s) (f ∷ filter (λ (g : Rectangle). not (h g.0)) fs) (filter (λ (g : Rectangle). not (h g.0)) fs))
     either true is true hid same go = rw same go
     either true is false hid same go = rw (same, is) go
     either false is true hid same go = go
     either false is false hid same go = rw is (ap (λ gs. f ∷ gs) go)
 
 -- nothing that comes later holds a place
-none_later : (p : Position) (es : List Anchor) → T (below_all position_cmp p es) → is_hidden_in es p ≡ false
+none_later : (p : Position) (es : List Rectangle) → T (below_all position_cmp p es) → is_hidden_in es p ≡ false
 none_later p [] below = refl
 none_later p (e ∷ es) below = ap (λ b. (b && not (same_place e.0 p)) || is_hidden_in es p) (out (earlier p e.0 (less _ (halves _ _ below).0))) ∙ none_later p es (halves _ _ below).1
   where
-    not_in : Earlier p e.0 → In e.0 e.1 p → ⊥
+    not_in : Earlier p e.0 → In e p → ⊥
     not_in (inl l) h = omega (arith, h.top)
     not_in (inr l) h = omega (arith, h.left)
 
-    out : Earlier p e.0 → in_rect e.0 e.1 p ≡ false
-    out l = false_from_ne_true _ (λ t. not_in l (in_rect-true e.0 p e.1 t))
+    out : Earlier p e.0 → holds e p ≡ false
+    out l = false_from_ne_true _ (λ t. not_in l (holds-true e p t))
 
-pub sized_marked : (es : List Anchor) → T (is_sorted position_cmp es) → AllByRecursion (λ (e : Anchor). IsSpanSize e.1) es → filter has_size (marked es) ≡ dropped es
+pub sized_marked : (es : List Rectangle) → T (is_sorted position_cmp es) → AllByRecursion (λ (e : Rectangle). IsSpanSize e.1) es → filter has_size (marked es) ≡ dropped es
 sized_marked [] up sizes = refl
 sized_marked (e ∷ es) up sizes =
     let rest = sized_marked es (halves _ _ up).1 sizes.1 in
-    rw (lt-ltb 0 e.1.0 (omega (arith, sizes.0.height)), sized_held e (marked es), rest)
+    rw (lt-ltb 0 e.1.height (omega (arith, sizes.0.height)), sized_held e (marked es), rest)
     (ap (λ fs. e ∷ fs) (sym (hidden_later (is_hidden_in es) e es (halves _ _ up).0)) ∙ sym shown)
   where
-    self : (in_rect e.0 e.1 e.0 && not (same_place e.0 e.0)) ≡ false
-    self = rw (same_place-self e.0) (either (in_rect e.0 e.1 e.0))
+    self : (holds e e.0 && not (same_place e.0 e.0)) ≡ false
+    self = rw (same_place-self e.0) (either (holds e e.0))
       where
         either : (b : Bool) → (b && false) ≡ false
         either true = refl
         either false = refl
 
-    shown : dropped (e ∷ es) ≡ e ∷ filter (λ (f : Anchor). not (is_hidden_in (e ∷ es) f.0)) es
-    shown = ap (λ b. cond (not b) (e ∷ filter (λ (f : Anchor). not (is_hidden_in (e ∷ es) f.0)) es) (filter (λ (f : Anchor). not (is_hidden_in (e ∷ es) f.0)) es)) (ap₂ (λ a b. a || b) self (none_later e.0 es (halves _ _ up).0))
+    shown : dropped (e ∷ es) ≡ e ∷ filter (λ (f : Rectangle). not (is_hidden_in (e ∷ es) f.0)) es
+    shown = ap (λ b. cond (not b) (e ∷ filter (λ (f : Rectangle). not (is_hidden_in (e ∷ es) f.0)) es) (filter (λ (f : Rectangle). not (is_hidden_in (e ∷ es) f.0)) es)) (ap₂ (λ a b. a || b) self (none_later e.0 es (halves _ _ up).0))
 
-length_held : (by : Anchor) (es : List Anchor) → length (map (unless_held by) es) ≡ length es
+length_held : (by : Rectangle) (es : List Rectangle) → length (map (unless_held by) es) ≡ length es
 length_held by [] = refl
 length_held by (e ∷ es) = ap suc (length_held by es)
 
-pub length_marked : (es : List Anchor) → length (marked es) ≡ length es
+pub length_marked : (es : List Rectangle) → length (marked es) ≡ length es
 length_marked [] = refl
 length_marked (e ∷ es) = ap suc (length_held e (marked es) ∙ length_marked es)

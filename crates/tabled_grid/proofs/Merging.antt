@@ -8,29 +8,30 @@ use Rattle.std.proofs.lemmas.Bool.{false_from_ne_true}
 use borrow.Author.Tests.{eqb-true}
 use Rattle.tabled_grid.specs.Entity.{place}
 use Rattle.tabled_grid.specs.Midway.{Midway}
-use Rattle.tabled_grid.specs.Rectangles.{Fits, drop_hidden, in_rect, is_visible}
-use Rattle.tabled_grid.specs.Spans.{AreSpanSizes, IsSpanSize, SpanMap, size_at, with_column_span, with_row_span, with_size}
+use Rattle.tabled_grid.specs.Rectangles.{Fits, drop_hidden, holds, is_visible}
+use Rattle.tabled_grid.specs.Spans.{AreSpanSizes, IsSpanSize, SpanMap, size_at, sized, with_column_span, with_row_span, with_size}
 use Rattle.tabled_grid.specs.declared.config.position.Position.{Position}
-use Rattle.tabled_grid.proofs.Geometry.{Flat, Hooked, In, Narrow, Widened, Within, cases_place, flat_flipped, flat_widened, flip, flipped, full_flipped, hooked_flat, hooked_flipped, hooked_widened, narrow_flipped, visible_flipped, within_flipped, within_widened}
-use Rattle.tabled_grid.proofs.SpanMaps.{At, at, full, in_rect-from, in_rect-true, kept, kept_or_one, none, size_at-none, size_at-some, size_at-with_size, size_at-with_size-other, sizes-drop_hidden, sizes-with_size, some, visible, with_size-other}
+use Rattle.tabled_grid.specs.declared.config.size.Size.{Size}
+use Rattle.tabled_grid.proofs.Geometry.{Flat, Hooked, In, Narrow, Widened, Within, cases_place, flat_flipped, flat_widened, flip, flip_size, flipped, full_flipped, hooked_flat, hooked_flipped, hooked_widened, narrow_flipped, visible_flipped, within_flipped, within_widened}
+use Rattle.tabled_grid.proofs.SpanMaps.{At, at, full, holds-from, holds-true, kept, kept_or_one, none, size_at-none, size_at-some, size_at-with_size, size_at-with_size-other, sizes-drop_hidden, sizes-with_size, some, visible, with_size-other}
 
 -- rectangles that fit
 
 hooked_fits : (m : SpanMap) (rows columns : ℕ) → Fits m rows columns → Hooked (size_at m)
 hooked_fits m rows columns fits = record { hook = λ a b p ha hb. by_anchor a b p ha hb (at m a) (at m b) }
   where
-    alone : (a b p : Position) → get m a ≡ None → In a (size_at m a) p → In b (size_at m b) p → In b (size_at m b) a
+    alone : (a b p : Position) → get m a ≡ None → In (a, size_at m a) p → In (b, size_at m b) p → In (b, size_at m b) a
     alone a b p e ha hb = let h = rw (size_at-none m a e) at ha in record { top = omega (arith, h.top, h.bottom, hb.top, hb.bottom); bottom = omega (arith, h.top, h.bottom, hb.top, hb.bottom); left = omega (arith, h.left, h.right, hb.left, hb.right); right = omega (arith, h.left, h.right, hb.left, hb.right) }
 
-    itself : (a p : Position) → In a (size_at m a) p → In a (size_at m a) a
+    itself : (a p : Position) → In (a, size_at m a) p → In (a, size_at m a) a
     itself a p ha = record { top = omega arith; bottom = omega (arith, ha.top, ha.bottom); left = omega arith; right = omega (arith, ha.left, ha.right) }
 
-    by_anchor : (a b p : Position) → In a (size_at m a) p → In b (size_at m b) p → At m a → At m b → In a (size_at m a) b ⊎ In b (size_at m b) a
+    by_anchor : (a b p : Position) → In (a, size_at m a) p → In (b, size_at m b) p → At m a → At m b → In (a, size_at m a) b ⊎ In (b, size_at m b) a
     by_anchor a b p ha hb (none e) c = inr (alone a b p e ha hb)
     by_anchor a b p ha hb (some s e) (none f) = inl (alone b a p f hb ha)
     by_anchor a b p ha hb (some s e) (some t f) =
-        let same = fits.apart a b s t p e f (in_rect-from a p s (rw (size_at-some m a s e) at ha)) (in_rect-from b p t (rw (size_at-some m b t f) at hb)) in
-        inl (subst (λ (x : Position). In a (size_at m a) x) same (itself a p ha))
+        let same = fits.apart a b s t p e f (holds-from (a, s) p (rw (size_at-some m a s e) at ha)) (holds-from (b, t) p (rw (size_at-some m b t f) at hb)) in
+        inl (subst (λ (x : Position). In (a, size_at m a) x) same (itself a p ha))
 
 -- before the first span is set
 pub midway : (m : SpanMap) (rows columns : ℕ) → Fits m rows columns → Midway m rows columns
@@ -40,15 +41,15 @@ midway m rows columns fits = record {
   within = record { tall = λ a h. tall a (at m a) h; wide = λ a h. wide a (at m a) h };
 }
   where
-    one : (a : Position) → get m a ≡ None → (1 < (size_at m a).0) ⊎ (1 < (size_at m a).1) → ⊥
+    one : (a : Position) → get m a ≡ None → (1 < (size_at m a).height) ⊎ (1 < (size_at m a).width) → ⊥
     one a e (inl h) = let k = rw (size_at-none m a e) at h in omega arith
     one a e (inr h) = let k = rw (size_at-none m a e) at h in omega arith
 
-    tall : (a : Position) → At m a → (1 < (size_at m a).0) ⊎ (1 < (size_at m a).1) → a.row + (size_at m a).0 ≤ rows
+    tall : (a : Position) → At m a → (1 < (size_at m a).height) ⊎ (1 < (size_at m a).width) → a.row + (size_at m a).height ≤ rows
     tall a (none e) h = absurd (one a e h)
     tall a (some s e) h = rw (size_at-some m a s e) (fits.inside a s e).0
 
-    wide : (a : Position) → At m a → (1 < (size_at m a).0) ⊎ (1 < (size_at m a).1) → a.col + (size_at m a).1 ≤ columns
+    wide : (a : Position) → At m a → (1 < (size_at m a).height) ⊎ (1 < (size_at m a).width) → a.col + (size_at m a).width ≤ columns
     wide a (none e) h = absurd (one a e h)
     wide a (some s e) h = rw (size_at-some m a s e) (fits.inside a s e).1
 
@@ -56,22 +57,22 @@ midway m rows columns fits = record {
 pub fits_dropped : (m : SpanMap) (rows columns : ℕ) → Midway m rows columns → Fits (drop_hidden m) rows columns
 fits_dropped m rows columns mid = record { sizes = sizes-drop_hidden m mid.sizes; inside = inside_at; apart = apart }
   where
-    inside_at : (a : Position) (size : ℕ × ℕ) → get (drop_hidden m) a ≡ Some size → (a.row + size.0 ≤ rows) × (a.col + size.1 ≤ columns)
+    inside_at : (a : Position) (size : Size) → get (drop_hidden m) a ≡ Some size → (a.row + size.height ≤ rows) × (a.col + size.width ≤ columns)
     inside_at a size has =
         let was = kept m a size has in
         let is = size_at-some m a size was.had in
         let more = (mid.sizes.each a size was.had).merges in
-        (subst (λ (s : ℕ × ℕ). a.row + s.0 ≤ rows) is (mid.within.tall a (rw is more)), subst (λ (s : ℕ × ℕ). a.col + s.1 ≤ columns) is (mid.within.wide a (rw is more)))
+        (subst (λ (s : Size). a.row + s.height ≤ rows) is (mid.within.tall a (rw is more)), subst (λ (s : Size). a.col + s.width ≤ columns) is (mid.within.wide a (rw is more)))
 
-    by_hook : (a b : Position) → is_visible m a ≡ true → is_visible m b ≡ true → In a (size_at m a) b ⊎ In b (size_at m b) a → a ≡ b
+    by_hook : (a b : Position) → is_visible m a ≡ true → is_visible m b ≡ true → In (a, size_at m a) b ⊎ In (b, size_at m b) a → a ≡ b
     by_hook a b sa sb (inl h) = visible m b sb a h
     by_hook a b sa sb (inr h) = sym (visible m a sa b h)
 
-    apart : (a b : Position) (s t : ℕ × ℕ) (p : Position) → get (drop_hidden m) a ≡ Some s → get (drop_hidden m) b ≡ Some t → in_rect a s p ≡ true → in_rect b t p ≡ true → a ≡ b
+    apart : (a b : Position) (s t : Size) (p : Position) → get (drop_hidden m) a ≡ Some s → get (drop_hidden m) b ≡ Some t → holds (a, s) p ≡ true → holds (b, t) p ≡ true → a ≡ b
     apart a b s t p ha hb ia ib =
         let ka = kept m a s ha in
         let kb = kept m b t hb in
-        by_hook a b ka.shown kb.shown (mid.hooked.hook a b p (rw (size_at-some m a s ka.had) (in_rect-true a p s ia)) (rw (size_at-some m b t kb.had) (in_rect-true b p t ib)))
+        by_hook a b ka.shown kb.shown (mid.hooked.hook a b p (rw (size_at-some m a s ka.had) (holds-true (a, s) p ia)) (rw (size_at-some m b t kb.had) (holds-true (b, t) p ib)))
 
 -- widths and heights that are set
 
@@ -79,28 +80,28 @@ positive : (w : ℕ) → 1 ≤ w → nat_eq w 0 ≡ false
 positive w h = false_from_ne_true _ (λ e. omega (arith, eqb-true w 0 e))
 
 -- a width of at least 1
-pub column_span-is : (m : SpanMap) (p : Position) (w : ℕ) → 1 ≤ w → with_column_span m p w ≡ with_size m p ((size_at m p).0, w)
+pub column_span-is : (m : SpanMap) (p : Position) (w : ℕ) → 1 ≤ w → with_column_span m p w ≡ with_size m p (sized (size_at m p).height w)
 column_span-is m p w h = rw (positive w h) refl
 
 -- a height of at least 1
-pub row_span-is : (m : SpanMap) (p : Position) (h : ℕ) → 1 ≤ h → with_row_span m p h ≡ with_size m p (h, (size_at m p).1)
+pub row_span-is : (m : SpanMap) (p : Position) (h : ℕ) → 1 ≤ h → with_row_span m p h ≡ with_size m p (sized h (size_at m p).width)
 row_span-is m p h k = rw (positive h k) refl
 
 module _ (m : SpanMap) (p : Position) (w : ℕ) (some_width : 1 ≤ w) where
   widened : Widened (size_at m) (size_at (with_column_span m p w)) p w
-  widened = rw (column_span-is m p w some_width) (record { here = size_at-with_size m p ((size_at m p).0, w); others = λ q n. size_at-with_size-other m p ((size_at m p).0, w) q n })
+  widened = rw (column_span-is m p w some_width) (record { here = size_at-with_size m p (sized (size_at m p).height w); others = λ q n. size_at-with_size-other m p (sized (size_at m p).height w) q n })
 
   heightened : Widened (flipped (size_at m)) (flipped (size_at (with_row_span m p w))) (flip p) w
   heightened = rw (row_span-is m p w some_width) (record {
-    here = ap (λ (s : ℕ × ℕ). (s.1, s.0)) (size_at-with_size m p (w, (size_at m p).1));
-    others = λ q n. ap (λ (s : ℕ × ℕ). (s.1, s.0)) (size_at-with_size-other m p (w, (size_at m p).1) (flip q) (λ e. n (ap flip e)));
+    here = ap flip_size (size_at-with_size m p (sized w (size_at m p).width));
+    others = λ q n. ap flip_size (size_at-with_size-other m p (sized w (size_at m p).width) (flip q) (λ e. n (ap flip e)));
   })
 
   pub sizes_widened : AreSpanSizes m → AreSpanSizes (with_column_span m p w)
-  sizes_widened sizes = rw (column_span-is m p w some_width) (sizes-with_size m p ((size_at m p).0, w) ((full m sizes).height p) some_width sizes)
+  sizes_widened sizes = rw (column_span-is m p w some_width) (sizes-with_size m p (sized (size_at m p).height w) ((full m sizes).height p) some_width sizes)
 
   pub sizes_heightened : AreSpanSizes m → AreSpanSizes (with_row_span m p w)
-  sizes_heightened sizes = rw (row_span-is m p w some_width) (sizes-with_size m p (w, (size_at m p).1) some_width ((full m sizes).width p) sizes)
+  sizes_heightened sizes = rw (row_span-is m p w some_width) (sizes-with_size m p (sized w (size_at m p).width) some_width ((full m sizes).width p) sizes)
 
   module _ (rows columns : ℕ) where
     pub within_wide : p.row < rows → p.col + w ≤ columns → Within (size_at m) rows columns → Within (size_at (with_column_span m p w)) rows columns
@@ -147,34 +148,34 @@ narrow_row_span m p h k narrow = flat_flipped _ (flat_widened (flipped (size_at 
 pub flat_dropped : (m : SpanMap) → Flat (size_at m) → Flat (size_at (drop_hidden m))
 flat_dropped m flat = record { height = λ a. by a (kept_or_one m a) }
   where
-    by : (a : Position) → (size_at (drop_hidden m) a ≡ size_at m a) ⊎ (size_at (drop_hidden m) a ≡ (1, 1)) → (size_at (drop_hidden m) a).0 ≡ 1
-    by a (inl same) = ap (λ (s : ℕ × ℕ). s.0) same ∙ flat.height a
-    by a (inr one) = ap (λ (s : ℕ × ℕ). s.0) one
+    by : (a : Position) → (size_at (drop_hidden m) a ≡ size_at m a) ⊎ (size_at (drop_hidden m) a ≡ sized 1 1) → (size_at (drop_hidden m) a).height ≡ 1
+    by a (inl same) = ap (λ (s : Size). s.height) same ∙ flat.height a
+    by a (inr one) = ap (λ (s : Size). s.height) one
 
 pub narrow_dropped : (m : SpanMap) → Narrow (size_at m) → Narrow (size_at (drop_hidden m))
 narrow_dropped m narrow = record { width = λ a. by a (kept_or_one m a) }
   where
-    by : (a : Position) → (size_at (drop_hidden m) a ≡ size_at m a) ⊎ (size_at (drop_hidden m) a ≡ (1, 1)) → (size_at (drop_hidden m) a).1 ≡ 1
-    by a (inl same) = ap (λ (s : ℕ × ℕ). s.1) same ∙ narrow.width a
-    by a (inr one) = ap (λ (s : ℕ × ℕ). s.1) one
+    by : (a : Position) → (size_at (drop_hidden m) a ≡ size_at m a) ⊎ (size_at (drop_hidden m) a ≡ sized 1 1) → (size_at (drop_hidden m) a).width ≡ 1
+    by a (inl same) = ap (λ (s : Size). s.width) same ∙ narrow.width a
+    by a (inr one) = ap (λ (s : Size). s.width) one
 
 -- a rectangle that shares no cell with another's, and lies inside, is set beside rectangles that fit
-pub fits_with : (m : SpanMap) (p : Position) (size : ℕ × ℕ) (rows columns : ℕ) → IsSpanSize size → p.row + size.0 ≤ rows → p.col + size.1 ≤ columns → ((a q : Position) (s : ℕ × ℕ) → get m a ≡ Some s → In a s q → In p size q → a ≡ p) → Fits m rows columns → Fits (with_size m p size) rows columns
-fits_with m p size rows columns merges tall wide free fits = record { sizes = sizes-with_size m p size merges.height merges.width fits.sizes; inside = λ a s has. inside_at a s has (cases_place a p); apart = λ a b s t q ha hb ia ib. apart a b s t q ha hb (in_rect-true a q s ia) (in_rect-true b q t ib) (cases_place a p) (cases_place b p) }
+pub fits_with : (m : SpanMap) (p : Position) (size : Size) (rows columns : ℕ) → IsSpanSize size → p.row + size.height ≤ rows → p.col + size.width ≤ columns → ((a q : Position) (s : Size) → get m a ≡ Some s → In (a, s) q → In (p, size) q → a ≡ p) → Fits m rows columns → Fits (with_size m p size) rows columns
+fits_with m p size rows columns merges tall wide free fits = record { sizes = sizes-with_size m p size merges.height merges.width fits.sizes; inside = λ a s has. inside_at a s has (cases_place a p); apart = λ a b s t q ha hb ia ib. apart a b s t q ha hb (holds-true (a, s) q ia) (holds-true (b, t) q ib) (cases_place a p) (cases_place b p) }
   where
-    here : (s : ℕ × ℕ) → get (with_size m p size) p ≡ Some s → s ≡ size
+    here : (s : Size) → get (with_size m p size) p ≡ Some s → s ≡ size
     here s has = sym (size_at-some (with_size m p size) p s has) ∙ size_at-with_size m p size
 
-    there : (a : Position) (s : ℕ × ℕ) → a ≢ p → get (with_size m p size) a ≡ Some s → get m a ≡ Some s
+    there : (a : Position) (s : Size) → a ≢ p → get (with_size m p size) a ≡ Some s → get m a ≡ Some s
     there a s n has = sym (with_size-other m p size a n) ∙ has
 
-    inside_at : (a : Position) (s : ℕ × ℕ) → get (with_size m p size) a ≡ Some s → (a ≡ p) ⊎ (a ≢ p) → (a.row + s.0 ≤ rows) × (a.col + s.1 ≤ columns)
+    inside_at : (a : Position) (s : Size) → get (with_size m p size) a ≡ Some s → (a ≡ p) ⊎ (a ≢ p) → (a.row + s.height ≤ rows) × (a.col + s.width ≤ columns)
     inside_at a s has (inl e) =
         let is = here s (subst (λ x. get (with_size m p size) x ≡ Some s) e has) in
         rw (e, is) (tall, wide)
     inside_at a s has (inr n) = fits.inside a s (there a s n has)
 
-    apart : (a b : Position) (s t : ℕ × ℕ) (q : Position) → get (with_size m p size) a ≡ Some s → get (with_size m p size) b ≡ Some t → In a s q → In b t q → (a ≡ p) ⊎ (a ≢ p) → (b ≡ p) ⊎ (b ≢ p) → a ≡ b
+    apart : (a b : Position) (s t : Size) (q : Position) → get (with_size m p size) a ≡ Some s → get (with_size m p size) b ≡ Some t → In (a, s) q → In (b, t) q → (a ≡ p) ⊎ (a ≢ p) → (b ≡ p) ⊎ (b ≢ p) → a ≡ b
     apart a b s t q ha hb ia ib (inl e) (inl f) = e ∙ sym f
     apart a b s t q ha hb ia ib (inl e) (inr n) =
         let is = here s (subst (λ x. get (with_size m p size) x ≡ Some s) e ha) in
@@ -182,4 +183,4 @@ fits_with m p size rows columns merges tall wide free fits = record { sizes = si
     apart a b s t q ha hb ia ib (inr n) (inl f) =
         let is = here t (subst (λ x. get (with_size m p size) x ≡ Some t) f hb) in
         free a q s (there a s n ha) ia (rw (← is, ← f) ib) ∙ sym f
-    apart a b s t q ha hb ia ib (inr n) (inr k) = fits.apart a b s t q (there a s n ha) (there b t k hb) (in_rect-from a q s ia) (in_rect-from b q t ib)
+    apart a b s t q ha hb ia ib (inr n) (inr k) = fits.apart a b s t q (there a s n ha) (there b t k hb) (holds-from (a, s) q ia) (holds-from (b, t) q ib)

@@ -11,36 +11,36 @@ use Rattle.std.proofs.lemmas.List.Elements.{filter_more}
 use Rattle.std.proofs.lemmas.List.Folds.{list_all-append, list_any_more}
 use Rattle.std.proofs.Math.Seq.{take-add}
 use borrow.Rule.Slice.PartMut.{post_of, put_mid}
-use Rattle.tabled_grid.specs.Anchors.{Anchor, lies_inside, meets}
+use Rattle.tabled_grid.specs.Anchors.{lies_inside, meets}
 use Rattle.tabled_grid.specs.Entity.{same_place}
 use Rattle.tabled_grid.specs.Fitting.{fits_among, with_met}
-use Rattle.tabled_grid.specs.Spans.{position_cmp}
+use Rattle.tabled_grid.specs.Spans.{Rectangle, position_cmp}
 use Rattle.tabled_grid.specs.declared.config.position.Position.{Position}
 use Rattle.tabled_grid.proofs.BesideAnchors.{before}
 use Rattle.tabled_grid.proofs.PassedAnchors.{all_after, apart_over, places_apart, sorted_drop}
 use Rattle.tabled_grid.proofs.SpanMaps.{halves, less, same_place-self}
 
-module _ (by : Anchor) where
+module _ (by : Rectangle) where
   or_false : (a b : Bool) → b ≡ false → (a || b) ≡ a
   or_false true b h = refl
   or_false false b h = h
 
-  pub marks-over : (n : ℕ) (es : List Anchor) (marks : List Bool) → length marks ≡ length es → list_all (λ (e : Anchor). not (meets by e)) (take n es) ≡ true → take n marks ++ with_met by (drop n es) (drop n marks) ≡ with_met by es marks
+  pub marks-over : (n : ℕ) (es : List Rectangle) (marks : List Bool) → length marks ≡ length es → list_all (λ (e : Rectangle). not (meets by e)) (take n es) ≡ true → take n marks ++ with_met by (drop n es) (drop n marks) ≡ with_met by es marks
   marks-over zero es marks long h = refl
   marks-over (suc n) [] [] long h = refl
   marks-over (suc n) [] (m ∷ marks) long h = absurd (omega (arith, long))
   marks-over (suc n) (e ∷ es) [] long h = absurd (omega (arith, long))
   marks-over (suc n) (e ∷ es) (m ∷ marks) long h =
-      let parts = and_parts (not (meets by e)) (list_all (λ (f : Anchor). not (meets by f)) (take n es)) h in
+      let parts = and_parts (not (meets by e)) (list_all (λ (f : Rectangle). not (meets by f)) (take n es)) h in
       ap₂ (λ x xs. x ∷ xs) (sym (or_false m (meets by e) (not-true _ parts.0))) (marks-over n es marks (omega (arith, long)) parts.1)
 
   -- the marks from the first to an index are made, and those from there on are as they were
-  pub record Walked (es : List Anchor) (old : List Bool) (k : ℕ) (marks : List Bool) (alone : Bool) : Type 0 where
+  pub record Walked (es : List Rectangle) (old : List Bool) (k : ℕ) (marks : List Bool) (alone : Bool) : Type 0 where
     pub long : length marks ≡ length es
     pub marked : take k marks ++ with_met by (drop k es) (drop k marks) ≡ with_met by es old
-    pub all : (alone && list_all (λ (e : Anchor). not (meets by e)) (drop k es)) ≡ list_all (λ (e : Anchor). not (meets by e)) es
+    pub all : (alone && list_all (λ (e : Rectangle). not (meets by e)) (drop k es)) ≡ list_all (λ (e : Rectangle). not (meets by e)) es
 
-  module _ (es : List Anchor) (old : List Bool) (k : ℕ) (marks : List Bool) (alone : Bool) (d : Anchor) where
+  module _ (es : List Rectangle) (old : List Bool) (k : ℕ) (marks : List Bool) (alone : Bool) (d : Rectangle) where
     at_mark : k < length es → Walked es old k marks alone → with_met by (drop k es) (drop k marks) ≡ (get_or marks k false || meets by (get_or es k d)) ∷ with_met by (drop (k + 1) es) (drop (k + 1) marks)
     at_mark here walked = let within : k < length marks = omega (arith, walked.long) in ap₂ (with_met by) (drop_more es k d here) (drop_more marks k false within)
 
@@ -54,15 +54,15 @@ module _ (by : Anchor) where
               ∙ ap (λ m. take k marks ++ m ∷ with_met by (drop (k + 1) es) (drop (k + 1) marks)) (sym (or_right (get_or marks k false) _ met))
               ∙ ap (λ xs. take k marks ++ xs) (sym (at_mark here walked))
               ∙ walked.marked;
-          all = sym (and_right alone (list_all (λ (e : Anchor). not (meets by e)) (drop k es)) (ap (list_all (λ (e : Anchor). not (meets by e))) (drop_more es k d here) ∙ ap (λ b. not b && list_all (λ (e : Anchor). not (meets by e)) (drop (k + 1) es)) met)) ∙ walked.all;
+          all = sym (and_right alone (list_all (λ (e : Rectangle). not (meets by e)) (drop k es)) (ap (list_all (λ (e : Rectangle). not (meets by e))) (drop_more es k d here) ∙ ap (λ b. not b && list_all (λ (e : Rectangle). not (meets by e)) (drop (k + 1) es)) met)) ∙ walked.all;
         }
 
-    pub walked-out : (n : ℕ) → k < length es → meets by (get_or es k d) ≡ false → list_all (λ (e : Anchor). not (meets by e)) (take n (take (length es - (k + 1)) (drop (k + 1) es))) ≡ true → Walked es old k marks alone → Walked es old (k + (1 + n)) marks alone
+    pub walked-out : (n : ℕ) → k < length es → meets by (get_or es k d) ≡ false → list_all (λ (e : Rectangle). not (meets by e)) (take n (take (length es - (k + 1)) (drop (k + 1) es))) ≡ true → Walked es old k marks alone → Walked es old (k + (1 + n)) marks alone
     walked-out n here out free walked =
         let within : k < length marks = omega (arith, walked.long) in
         let sum : (k + 1) + n ≡ k + (1 + n) = omega arith in
         let same : length (drop (k + 1) marks) ≡ length (drop (k + 1) es) = omega (arith, walked.long, length-drop (k + 1) marks, length-drop (k + 1) es) in
-        let rest = marks-over n (drop (k + 1) es) (drop (k + 1) marks) same (ap (λ fs. list_all (λ (e : Anchor). not (meets by e)) (take n fs)) (sym (all_after es k)) ∙ free) in
+        let rest = marks-over n (drop (k + 1) es) (drop (k + 1) marks) same (ap (λ fs. list_all (λ (e : Rectangle). not (meets by e)) (take n fs)) (sym (all_after es k)) ∙ free) in
         record {
           long = walked.long;
           marked = ap (λ m. take m marks ++ with_met by (drop m es) (drop m marks)) (sym sum)
@@ -73,10 +73,10 @@ module _ (by : Anchor) where
               ∙ ap (λ m. take k marks ++ m ∷ with_met by (drop (k + 1) es) (drop (k + 1) marks)) (sym (or_false (get_or marks k false) _ out))
               ∙ ap (λ xs. take k marks ++ xs) (sym (at_mark here walked))
               ∙ walked.marked;
-          all = ap (λ b. alone && b) (apart_over by es k n d (list_all (λ (e : Anchor). not (meets by e)) (drop k es)) here out free refl) ∙ walked.all;
+          all = ap (λ b. alone && b) (apart_over by es k n d (list_all (λ (e : Rectangle). not (meets by e)) (drop k es)) here out free refl) ∙ walked.all;
         }
 
-  pub walked-all : (es : List Anchor) (old : List Bool) (k : ℕ) (marks : List Bool) (alone : Bool) → list_all (λ (e : Anchor). not (meets by e)) (drop k es) ≡ true → Walked es old k marks alone → (alone ≡ list_all (λ (e : Anchor). not (meets by e)) es) × (marks ≡ with_met by es old)
+  pub walked-all : (es : List Rectangle) (old : List Bool) (k : ℕ) (marks : List Bool) (alone : Bool) → list_all (λ (e : Rectangle). not (meets by e)) (drop k es) ≡ true → Walked es old k marks alone → (alone ≡ list_all (λ (e : Rectangle). not (meets by e)) es) × (marks ≡ with_met by es old)
   walked-all es old k marks alone free walked =
       let same : length (drop k marks) ≡ length (drop k es) = omega (arith, walked.long, length-drop k marks, length-drop k es) in
       (sym (unless alone) ∙ ap (λ b. alone && b) (sym free) ∙ walked.all, sym (take-append-drop k marks) ∙ ap (λ xs. take k marks ++ xs) (sym (none (drop k es) (drop k marks) same free)) ∙ walked.marked)
@@ -85,14 +85,14 @@ module _ (by : Anchor) where
       unless true = refl
       unless false = refl
 
-      none : (fs : List Anchor) (ms : List Bool) → length ms ≡ length fs → list_all (λ (e : Anchor). not (meets by e)) fs ≡ true → with_met by fs ms ≡ ms
+      none : (fs : List Rectangle) (ms : List Bool) → length ms ≡ length fs → list_all (λ (e : Rectangle). not (meets by e)) fs ≡ true → with_met by fs ms ≡ ms
       none [] ms long h = refl
       none (f ∷ fs) [] long h = refl
       none (f ∷ fs) (m ∷ ms) long h =
-          let parts = and_parts (not (meets by f)) (list_all (λ (g : Anchor). not (meets by g)) fs) h in
+          let parts = and_parts (not (meets by f)) (list_all (λ (g : Rectangle). not (meets by g)) fs) h in
           ap₂ (λ x xs. x ∷ xs) (or_false m (meets by f) (not-true _ parts.0)) (none fs ms (omega (arith, long)) parts.1)
 
-  pub marks-map : (t u : Anchor → Bool) → ((e : Anchor) → (t e || meets by e) ≡ u e) → (es : List Anchor) → with_met by es (map t es) ≡ map u es
+  pub marks-map : (t u : Rectangle → Bool) → ((e : Rectangle) → (t e || meets by e) ≡ u e) → (es : List Rectangle) → with_met by es (map t es) ≡ map u es
   marks-map t u more [] = refl
   marks-map t u more (e ∷ es) = ap₂ (λ x xs. x ∷ xs) (more e) (marks-map t u more es)
 
@@ -103,10 +103,10 @@ both-turned true false = refl
 both-turned false true = refl
 both-turned false false = refl
 
-meets-turned : (a b : Anchor) → meets a b ≡ meets b a
+meets-turned : (a b : Rectangle) → meets a b ≡ meets b a
 meets-turned a b = ap₂ (λ x y. x && y)
-    (both-turned (nat_lt a.0.row (b.0.row + b.1.0)) (nat_lt b.0.row (a.0.row + a.1.0)))
-    (both-turned (nat_lt a.0.col (b.0.col + b.1.1)) (nat_lt b.0.col (a.0.col + a.1.1)))
+    (both-turned (nat_lt a.0.row (b.0.row + b.1.height)) (nat_lt b.0.row (a.0.row + a.1.height)))
+    (both-turned (nat_lt a.0.col (b.0.col + b.1.width)) (nat_lt b.0.col (a.0.col + a.1.width)))
 
 -- the marks from an index on are written anew, as a slice of a vector
 marks-written : (i len : ℕ) (old new rest : List Bool) → i < length old → len ≡ length old → length new ≡ length old - (i + 1) → (length (take len (put_mid (i + 1) (length old - (i + 1)) old new ++ rest)) ≡ length old) × (drop (i + 1) (take len (put_mid (i + 1) (length old - (i + 1)) old new ++ rest)) ≡ new)
@@ -119,62 +119,62 @@ marks-written i len old new rest here full long =
     (ap length is ∙ all, ap (drop (i + 1)) is ∙ drop_at (take (i + 1) old) new (i + 1) front)
 
 -- of a rectangle and another one of a list: they are one, or share no cell
-abbrev clear : Anchor → Anchor → Bool
+abbrev clear : Rectangle → Rectangle → Bool
 clear e f = same_place e.0 f.0 || not (meets e f)
 
-clear-before : (e : Anchor) (n : ℕ) (fs : List Anchor) → ((j : ℕ) (d : Anchor) → j < n → position_cmp (get_or fs j d).0 e.0 ≡ Less) → n ≤ length fs → list_all (clear e) (take n fs) ≡ not (list_any (λ (f : Anchor). meets f e) (take n fs))
+clear-before : (e : Rectangle) (n : ℕ) (fs : List Rectangle) → ((j : ℕ) (d : Rectangle) → j < n → position_cmp (get_or fs j d).0 e.0 ≡ Less) → n ≤ length fs → list_all (clear e) (take n fs) ≡ not (list_any (λ (f : Rectangle). meets f e) (take n fs))
 clear-before e zero fs below within = refl
 clear-before e (suc n) [] below within = absurd (omega arith)
 clear-before e (suc n) (f ∷ fs) below within =
     let rest = clear-before e n fs (λ j d h. below (suc j) d (omega arith)) (omega arith) in
-    ap (λ b. clear e f && b) rest ∙ neither (same_place e.0 f.0) (meets e f) (list_any (λ (g : Anchor). meets g e) (take n fs)) (places_apart f.0 e.0 (below 0 e (omega arith))).1 ∙ ap (λ m. not (m || list_any (λ (g : Anchor). meets g e) (take n fs))) (meets-turned e f)
+    ap (λ b. clear e f && b) rest ∙ neither (same_place e.0 f.0) (meets e f) (list_any (λ (g : Rectangle). meets g e) (take n fs)) (places_apart f.0 e.0 (below 0 e (omega arith))).1 ∙ ap (λ m. not (m || list_any (λ (g : Rectangle). meets g e) (take n fs))) (meets-turned e f)
   where
     neither : (same met any : Bool) → same ≡ false → ((same || not met) && not any) ≡ not (met || any)
     neither true met any h = cc
     neither false true any h = refl
     neither false false any h = refl
 
-clear-after : (e : Anchor) (fs : List Anchor) → T (below_all position_cmp e.0 fs) → list_all (clear e) fs ≡ list_all (λ (f : Anchor). not (meets e f)) fs
+clear-after : (e : Rectangle) (fs : List Rectangle) → T (below_all position_cmp e.0 fs) → list_all (clear e) fs ≡ list_all (λ (f : Rectangle). not (meets e f)) fs
 clear-after e [] below = refl
 clear-after e (f ∷ fs) below = ap₂ (λ a b. a && b) (ap (λ same. same || not (meets e f)) (places_apart e.0 f.0 (less _ (halves _ _ below).0)).0) (clear-after e fs (halves _ _ below).1)
 
-module _ (rows columns : ℕ) (es : List Anchor) where
+module _ (rows columns : ℕ) (es : List Rectangle) where
   -- those before an index that fit are kept, and those from there on are marked that one before the index meets
-  pub record Kept (i : ℕ) (kept : List Anchor) (marks : List Bool) : Type 0 where
+  pub record Kept (i : ℕ) (kept : List Rectangle) (marks : List Bool) : Type 0 where
     pub long : length marks ≡ length es
     pub fit : kept ≡ filter (fits_among rows columns es) (take i es)
-    pub met : drop i marks ≡ map (λ (e : Anchor). list_any (λ (f : Anchor). meets f e) (take i es)) (drop i es)
+    pub met : drop i marks ≡ map (λ (e : Rectangle). list_any (λ (f : Rectangle). meets f e) (take i es)) (drop i es)
 
-  none_met : (fs : List Anchor) → replicate (length fs) false ≡ map (λ (e : Anchor). false) fs
+  none_met : (fs : List Rectangle) → replicate (length fs) false ≡ map (λ (e : Rectangle). false) fs
   none_met [] = refl
   none_met (f ∷ fs) = ap (λ ms. false ∷ ms) (none_met fs)
 
   pub kept-none : (marks : List Bool) → marks ≡ replicate (length es) false → Kept 0 [] marks
   kept-none marks is = record { long = ap length is ∙ length-replicate (length es) false; fit = refl; met = is ∙ none_met es }
 
-  module _ (i : ℕ) (d : Anchor) (here : i < length es) (kept : List Anchor) (marks : List Bool) (so : Kept i kept marks) where
-    heads : (get_or marks i false ≡ list_any (λ (f : Anchor). meets f (get_or es i d)) (take i es)) × (drop (i + 1) marks ≡ map (λ (e : Anchor). list_any (λ (f : Anchor). meets f e) (take i es)) (drop (i + 1) es))
+  module _ (i : ℕ) (d : Rectangle) (here : i < length es) (kept : List Rectangle) (marks : List Bool) (so : Kept i kept marks) where
+    heads : (get_or marks i false ≡ list_any (λ (f : Rectangle). meets f (get_or es i d)) (take i es)) × (drop (i + 1) marks ≡ map (λ (e : Rectangle). list_any (λ (f : Rectangle). meets f e) (take i es)) (drop (i + 1) es))
     heads =
         let within : i < length marks = omega (arith, so.long) in
-        parts _ _ _ _ (sym (drop_more marks i false within) ∙ so.met ∙ ap (map (λ (e : Anchor). list_any (λ (f : Anchor). meets f e) (take i es))) (drop_more es i d here))
+        parts _ _ _ _ (sym (drop_more marks i false within) ∙ so.met ∙ ap (map (λ (e : Rectangle). list_any (λ (f : Rectangle). meets f e) (take i es))) (drop_more es i d here))
       where
         parts : (x y : Bool) (xs ys : List Bool) → x ∷ xs ≡ y ∷ ys → (x ≡ y) × (xs ≡ ys)
         parts x y xs ys same = (cc, cc)
 
-    fits-here : T (is_sorted position_cmp es) → fits_among rows columns es (get_or es i d) ≡ (lies_inside rows columns (get_or es i d) && (not (get_or marks i false) && list_all (λ (f : Anchor). not (meets (get_or es i d) f)) (drop (i + 1) es)))
+    fits-here : T (is_sorted position_cmp es) → fits_among rows columns es (get_or es i d) ≡ (lies_inside rows columns (get_or es i d) && (not (get_or marks i false) && list_all (λ (f : Rectangle). not (meets (get_or es i d) f)) (drop (i + 1) es)))
     fits-here up =
         let e = get_or es i d in
         let later : T (below_all position_cmp e.0 (drop (i + 1) es)) = (halves _ _ (subst (λ fs. T (is_sorted position_cmp fs)) (drop_more es i d here) (sorted_drop i es up))).0 in
         ap (λ b. lies_inside rows columns e && b)
         (ap (list_all (clear e)) (sym (take-append-drop i es)) ∙ list_all-append (clear e) (take i es) (drop i es)
         ∙ ap₂ (λ a b. a && b)
-        (clear-before e i es (λ j c h. subst (λ (p : Position). position_cmp (get_or es j c).0 p ≡ Less) (ap (λ (f : Anchor). f.0) (get_or_default es i c d here)) (before es j i c up h here)) (omega arith) ∙ ap not (sym heads.0))
+        (clear-before e i es (λ j c h. subst (λ (p : Position). position_cmp (get_or es j c).0 p ≡ Less) (ap (λ (f : Rectangle). f.0) (get_or_default es i c d here)) (before es j i c up h here)) (omega arith) ∙ ap not (sym heads.0))
         (ap (list_all (clear e)) (drop_more es i d here) ∙ ap (λ same. (same || not (meets e e)) && list_all (clear e) (drop (i + 1) es)) (same_place-self e.0) ∙ clear-after e (drop (i + 1) es) later))
 
     -- the marks, of which those after the index are written anew as a slice, and the anchor at the index if it fits
-    pub kept-more : T (is_sorted position_cmp es) → (now new rest : List Bool) (len : ℕ) (newer : List Anchor) (alone met unset : Bool) → now ≡ marks → len ≡ length now → length new ≡ length (take (length now - (i + 1)) (drop (i + 1) now)) →
+    pub kept-more : T (is_sorted position_cmp es) → (now new rest : List Bool) (len : ℕ) (newer : List Rectangle) (alone met unset : Bool) → now ≡ marks → len ≡ length now → length new ≡ length (take (length now - (i + 1)) (drop (i + 1) now)) →
         new ≡ with_met (get_or es i d) (take (length es - (i + 1)) (drop (i + 1) es)) (take (length now - (i + 1)) (drop (i + 1) now)) →
-        alone ≡ list_all (λ (f : Anchor). not (meets (get_or es i d) f)) (take (length es - (i + 1)) (drop (i + 1) es)) → met ≡ get_or marks i unset →
+        alone ≡ list_all (λ (f : Rectangle). not (meets (get_or es i d) f)) (take (length es - (i + 1)) (drop (i + 1) es)) → met ≡ get_or marks i unset →
         newer ≡ cond ((alone && not met) && lies_inside rows columns (get_or es i d)) (kept ++ get_or es i d ∷ []) kept → Kept (i + 1) newer (take len (put_mid (i + 1) (length now - (i + 1)) now new ++ rest))
     kept-more up now new rest len newer alone met unset same full long new_is alone_is met_is newer_is =
         let e = get_or es i d in
@@ -187,10 +187,10 @@ module _ (rows columns : ℕ) (es : List Anchor) where
           long = written.0 ∙ ap length same ∙ so.long;
           fit = newer_is ∙ chosen ((alone && not met) && lies_inside rows columns e)
               ∙ ap₂ (λ ks b. ks ++ cond b (e ∷ []) []) so.fit
-              (turned alone (not met) (lies_inside rows columns e) ∙ ap (λ b. lies_inside rows columns e && b) (ap₂ (λ a b. not a && b) (met_is ∙ get_or_default marks i unset false before_all) (alone_is ∙ ap (list_all (λ (f : Anchor). not (meets e f))) (all_after es i))) ∙ sym (fits-here up))
+              (turned alone (not met) (lies_inside rows columns e) ∙ ap (λ b. lies_inside rows columns e && b) (ap₂ (λ a b. not a && b) (met_is ∙ get_or_default marks i unset false before_all) (alone_is ∙ ap (list_all (λ (f : Rectangle). not (meets e f))) (all_after es i))) ∙ sym (fits-here up))
               ∙ sym (filter_more (fits_among rows columns es) es i d here);
           met = written.1 ∙ new_is ∙ ap₂ (with_met e) (all_after es i) (after ∙ heads.1)
-              ∙ marks-map e _ _ (λ f. sym (list_any_more (λ (g : Anchor). meets g f) es i d here)) (drop (i + 1) es);
+              ∙ marks-map e _ _ (λ f. sym (list_any_more (λ (g : Rectangle). meets g f) es i d here)) (drop (i + 1) es);
         }
       where
         chosen : (b : Bool) → cond b (kept ++ get_or es i d ∷ []) kept ≡ kept ++ cond b (get_or es i d ∷ []) []

@@ -7,9 +7,9 @@ use Rattle.std.specs.List.{AllByRecursion, list_all}
 use Rattle.std.specs.declared.cmp.Ordering.TheVariants.{Less}
 use Rattle.std.proofs.lemmas.Bool.{and_from, and_parts, cases_lt, false_from_ne_true, not_from_false}
 use Rattle.std.proofs.lemmas.List.{drop-drop, drop_more}
-use Rattle.tabled_grid.specs.Anchors.{Anchor, lie_well, lies_inside, meets}
+use Rattle.tabled_grid.specs.Anchors.{lie_well, lies_inside, meets}
 use Rattle.tabled_grid.specs.Apart.{AreApart}
-use Rattle.tabled_grid.specs.Spans.{AreAnchors, IsSpanSize, position_cmp}
+use Rattle.tabled_grid.specs.Spans.{AreAnchors, IsSpanSize, Rectangle, position_cmp}
 use Rattle.tabled_grid.specs.declared.config.position.Position.{Position}
 use Rattle.tabled_grid.proofs.Lists.{all-drop}
 use Rattle.tabled_grid.proofs.PassedAnchors.{Earlier, all_after, apart_sorted, earlier, meets-from, meets-true, sorted_drop}
@@ -23,40 +23,40 @@ false_from_not true h = sym h
 false_from_not false h = cc
 
 -- anchors that lie well are apart, and so are the last of them
-pub apart_from_well : (rows columns : ℕ) (es : List Anchor) → lie_well rows columns es ≡ true → AreApart es
+pub apart_from_well : (rows columns : ℕ) (es : List Rectangle) → lie_well rows columns es ≡ true → AreApart es
 apart_from_well rows columns [] well = tt
 apart_from_well rows columns (e ∷ es) well =
     let rest = and_parts _ _ (and_parts _ _ well).1 in
     (rest.0, apart_from_well rows columns es rest.1)
 
-pub apart_drop : (n : ℕ) (es : List Anchor) → AreApart es → AreApart (drop n es)
+pub apart_drop : (n : ℕ) (es : List Rectangle) → AreApart es → AreApart (drop n es)
 apart_drop zero es apart = apart
 apart_drop (suc n) [] apart = tt
 apart_drop (suc n) (e ∷ es) apart = apart_drop n es apart.1
 
-pub anchors_drop : (n : ℕ) (es : List Anchor) → AreAnchors es → AreAnchors (drop n es)
-anchors_drop n es valid = record { sorted = sorted_drop n es valid.sorted; sizes = all-drop (λ (e : Anchor). IsSpanSize e.1) n es valid.sizes }
+pub anchors_drop : (n : ℕ) (es : List Rectangle) → AreAnchors es → AreAnchors (drop n es)
+anchors_drop n es valid = record { sorted = sorted_drop n es valid.sorted; sizes = all-drop (λ (e : Rectangle). IsSpanSize e.1) n es valid.sizes }
 
 -- the last of anchors that lie well lie well
-pub well_drop : (rows columns n : ℕ) (es : List Anchor) → lie_well rows columns es ≡ true → lie_well rows columns (drop n es) ≡ true
+pub well_drop : (rows columns n : ℕ) (es : List Rectangle) → lie_well rows columns es ≡ true → lie_well rows columns (drop n es) ≡ true
 well_drop rows columns zero es well = well
 well_drop rows columns (suc n) [] well = well
 well_drop rows columns (suc n) (e ∷ es) well = well_drop rows columns n es (and_parts _ _ (and_parts _ _ well).1).1
 
-pub ill_drop : (rows columns n : ℕ) (es : List Anchor) → lie_well rows columns (drop n es) ≡ false → lie_well rows columns es ≡ false
+pub ill_drop : (rows columns n : ℕ) (es : List Rectangle) → lie_well rows columns (drop n es) ≡ false → lie_well rows columns es ≡ false
 ill_drop rows columns n es ill = false_from_ne_true _ (λ well. never _ (well_drop rows columns n es well) ill)
 
 -- of two that are apart in one row, the first ends before the second
-ends_before : (e f : Anchor) → 1 ≤ e.1.0 → 1 ≤ f.1.0 → e.0.row ≡ f.0.row → e.0.col < f.0.col → meets e f ≡ false → e.0.col + e.1.1 ≤ f.0.col
-ends_before e f tall high same before apart = by (cases_lt f.0.col (e.0.col + e.1.1))
+ends_before : (e f : Rectangle) → 1 ≤ e.1.height → 1 ≤ f.1.height → e.0.row ≡ f.0.row → e.0.col < f.0.col → meets e f ≡ false → e.0.col + e.1.width ≤ f.0.col
+ends_before e f tall high same before apart = by (cases_lt f.0.col (e.0.col + e.1.width))
   where
-    by : (f.0.col < e.0.col + e.1.1) ⊎ (e.0.col + e.1.1 ≤ f.0.col) → e.0.col + e.1.1 ≤ f.0.col
+    by : (f.0.col < e.0.col + e.1.width) ⊎ (e.0.col + e.1.width ≤ f.0.col) → e.0.col + e.1.width ≤ f.0.col
     by (inl h) = never _ (meets-from e f (record { above = omega arith; below = omega arith; left = omega arith; right = h })) apart
     by (inr h) = h
 
 -- where anchors stand from a place to a rectangle in one row, all but the last of them are apart from it
-pub near_passed : (from : Anchor) (pos : Position) (es : List Anchor) (i n : ℕ) → n ≤ i - 1 → T (is_sorted position_cmp es) → AllByRecursion (λ (e : Anchor). IsSpanSize e.1) es → AreApart es → T (below_all position_cmp pos es) →
-    ((j : ℕ) (d : Anchor) → j < i → position_cmp (get_or es j d).0 (record { row = pos.row; col = from.0.col }) ≡ Less) → i ≤ length es → list_all (λ (e : Anchor). not (meets from e)) (take n es) ≡ true
+pub near_passed : (from : Rectangle) (pos : Position) (es : List Rectangle) (i n : ℕ) → n ≤ i - 1 → T (is_sorted position_cmp es) → AllByRecursion (λ (e : Rectangle). IsSpanSize e.1) es → AreApart es → T (below_all position_cmp pos es) →
+    ((j : ℕ) (d : Rectangle) → j < i → position_cmp (get_or es j d).0 (record { row = pos.row; col = from.0.col }) ≡ Less) → i ≤ length es → list_all (λ (e : Rectangle). not (meets from e)) (take n es) ≡ true
 near_passed from pos es i zero some up sizes apart below until within = refl
 near_passed from pos [] i (suc n) some up sizes apart below until within = absurd (omega arith)
 near_passed from pos (e ∷ []) i (suc n) some up sizes apart below until within = absurd (omega arith)
@@ -79,34 +79,34 @@ near_passed from pos (e ∷ f ∷ es) i (suc n) some up sizes apart below until 
     in_order (inr l) same = l.1
 
 -- the anchors after one, as a slice of those from an earlier index on
-after_in : (es : List Anchor) (first k : ℕ) → first ≤ k → drop ((k + 1) - first) (drop first es) ≡ take (length es - (k + 1)) (drop (k + 1) es)
+after_in : (es : List Rectangle) (first k : ℕ) → first ≤ k → drop ((k + 1) - first) (drop first es) ≡ take (length es - (k + 1)) (drop (k + 1) es)
 after_in es first k low =
     let whole : first + ((k + 1) - first) ≡ k + 1 = omega arith in
     drop-drop ((k + 1) - first) first es ∙ ap (λ n. drop n es) whole ∙ sym (all_after es k)
 
-pub apart_after : (es : List Anchor) (first k : ℕ) → first ≤ k → AreApart (drop first es) → AreApart (take (length es - (k + 1)) (drop (k + 1) es))
+pub apart_after : (es : List Rectangle) (first k : ℕ) → first ≤ k → AreApart (drop first es) → AreApart (take (length es - (k + 1)) (drop (k + 1) es))
 apart_after es first k low apart = subst AreApart (after_in es first k low) (apart_drop ((k + 1) - first) (drop first es) apart)
 
-pub anchors_after : (a : Anchor) (es : List Anchor) (first k : ℕ) (d : Anchor) → first ≤ k → k < length es → AreAnchors (a ∷ drop first es) → AreAnchors (((get_or es k d).0, a.1) ∷ take (length es - (k + 1)) (drop (k + 1) es))
+pub anchors_after : (a : Rectangle) (es : List Rectangle) (first k : ℕ) (d : Rectangle) → first ≤ k → k < length es → AreAnchors (a ∷ drop first es) → AreAnchors (((get_or es k d).0, a.1) ∷ take (length es - (k + 1)) (drop (k + 1) es))
 anchors_after a es first k d low here valid = record {
   sorted = apart_sorted a es first k d low here valid.sorted;
-  sizes = (valid.sizes.0, subst (λ fs. AllByRecursion (λ (e : Anchor). IsSpanSize e.1) fs) (after_in es first k low) (all-drop (λ (e : Anchor). IsSpanSize e.1) ((k + 1) - first) (drop first es) valid.sizes.1));
+  sizes = (valid.sizes.0, subst (λ fs. AllByRecursion (λ (e : Rectangle). IsSpanSize e.1) fs) (after_in es first k low) (all-drop (λ (e : Rectangle). IsSpanSize e.1) ((k + 1) - first) (drop first es) valid.sizes.1));
 }
 
 -- the anchors from an index on, the first of which is this one
-pub anchors_from : (es : List Anchor) (i : ℕ) (d : Anchor) → i < length es → AreAnchors es → AreAnchors (get_or es i d ∷ drop (i + 1) es)
+pub anchors_from : (es : List Rectangle) (i : ℕ) (d : Rectangle) → i < length es → AreAnchors es → AreAnchors (get_or es i d ∷ drop (i + 1) es)
 anchors_from es i d here valid = subst AreAnchors (drop_more es i d here) (anchors_drop i es valid)
 
 -- one anchor more, before those that lie well
-module _ (rows columns : ℕ) (es : List Anchor) (i : ℕ) (d : Anchor) (here : i < length es) where
+module _ (rows columns : ℕ) (es : List Rectangle) (i : ℕ) (d : Rectangle) (here : i < length es) where
   from_here : lie_well rows columns (drop i es) ≡ lie_well rows columns (get_or es i d ∷ drop (i + 1) es)
   from_here = ap (lie_well rows columns) (drop_more es i d here)
 
-  pub well_more : lies_inside rows columns (get_or es i d) ≡ true → list_all (λ (f : Anchor). not (meets (get_or es i d) f)) (drop (i + 1) es) ≡ true → lie_well rows columns (drop (i + 1) es) ≡ true → lie_well rows columns (drop i es) ≡ true
+  pub well_more : lies_inside rows columns (get_or es i d) ≡ true → list_all (λ (f : Rectangle). not (meets (get_or es i d) f)) (drop (i + 1) es) ≡ true → lie_well rows columns (drop (i + 1) es) ≡ true → lie_well rows columns (drop i es) ≡ true
   well_more inside apart rest = from_here ∙ and_from _ _ inside (and_from _ _ apart rest)
 
   pub ill_outside : lies_inside rows columns (get_or es i d) ≡ false → lie_well rows columns es ≡ false
   ill_outside out = ill_drop rows columns i es (false_from_ne_true _ (λ t. never _ (and_parts _ _ (sym from_here ∙ t)).0 out))
 
-  pub ill_met : list_all (λ (f : Anchor). not (meets (get_or es i d) f)) (drop (i + 1) es) ≡ false → lie_well rows columns es ≡ false
+  pub ill_met : list_all (λ (f : Rectangle). not (meets (get_or es i d) f)) (drop (i + 1) es) ≡ false → lie_well rows columns es ≡ false
   ill_met met = ill_drop rows columns i es (false_from_ne_true _ (λ t. never _ (and_parts _ _ (and_parts _ _ (sym from_here ∙ t)).1).0 met))

@@ -12,13 +12,13 @@ use Rattle.std.proofs.lemmas.List.{append-nil, drop-drop, drop-set-lt, get_or_de
 use Rattle.std.proofs.Math.Seq.{take-add}
 use Rattle.std.proofs.lemmas.Grind.{drop_more_same}
 use borrow.Author.Tests.{eqb-true, leb-true, lt-ltb, ltb-true}
-use Rattle.tabled_grid.specs.Spans.{position_cmp}
+use Rattle.tabled_grid.specs.Spans.{Rectangle, position_cmp, sized}
 use Rattle.tabled_grid.specs.declared.config.position.Position.{Position}
-use Rattle.tabled_grid.specs.Anchors.{Anchor, is_past, meets, unless_held}
+use Rattle.tabled_grid.specs.Anchors.{is_past, meets, unless_held}
 use Rattle.tabled_grid.specs.Entity.{same_place}
-use Rattle.tabled_grid.specs.Rectangles.{in_rect}
+use Rattle.tabled_grid.specs.Rectangles.{holds}
 use Rattle.tabled_grid.proofs.Geometry.{In}
-use Rattle.tabled_grid.proofs.SpanMaps.{in_rect-true, halves, less, same_place-apart}
+use Rattle.tabled_grid.proofs.SpanMaps.{holds-true, halves, less, same_place-apart}
 
 -- the first comes before the second, row by row
 abbrev pub Earlier : Position → Position → Type 0
@@ -43,74 +43,74 @@ pub places_apart : (p q : Position) → position_cmp p q ≡ Less → (same_plac
 places_apart p q h = (same_place-apart p q (later_apart p q (earlier p q h)), same_place-apart q p (λ same. later_apart p q (earlier p q h) (sym same)))
 
 -- what the test says
-pub record IsPast (a : Anchor) (p : Position) : Type 0 where
+pub record IsPast (a : Rectangle) (p : Position) : Type 0 where
   pub after : a.0.row ≤ p.row
-  pub below : (a.0.row + a.1.0 ≤ p.row) ⊎ ((a.0.row + a.1.0 ≡ p.row + 1) × (a.0.col + a.1.1 ≤ p.col))
+  pub below : (a.0.row + a.1.height ≤ p.row) ⊎ ((a.0.row + a.1.height ≡ p.row + 1) × (a.0.col + a.1.width ≤ p.col))
 
-pub past-true : (a : Anchor) (p : Position) → is_past a p ≡ true → IsPast a p
+pub past-true : (a : Rectangle) (p : Position) → is_past a p ≡ true → IsPast a p
 past-true a p t = let parts = and_parts _ _ t in record { after = leb-true _ _ parts.0; below = either (or_cases _ _ parts.1) }
   where
-    either : (nat_le (a.0.row + a.1.0) p.row ≡ true) ⊎ (((a.0.row + a.1.0 == p.row + 1) && nat_le (a.0.col + a.1.1) p.col) ≡ true) → (a.0.row + a.1.0 ≤ p.row) ⊎ ((a.0.row + a.1.0 ≡ p.row + 1) × (a.0.col + a.1.1 ≤ p.col))
+    either : (nat_le (a.0.row + a.1.height) p.row ≡ true) ⊎ (((a.0.row + a.1.height == p.row + 1) && nat_le (a.0.col + a.1.width) p.col) ≡ true) → (a.0.row + a.1.height ≤ p.row) ⊎ ((a.0.row + a.1.height ≡ p.row + 1) × (a.0.col + a.1.width ≤ p.col))
     either (inl b) = inl (leb-true _ _ b)
     either (inr b) = let ends = and_parts _ _ b in inr (eqb-true _ _ ends.0, leb-true _ _ ends.1)
 
 -- past a rectangle, and so is what comes later
-pub past_later : (a : Anchor) (p q : Position) → IsPast a p → Earlier p q → IsPast a q
+pub past_later : (a : Rectangle) (p q : Position) → IsPast a p → Earlier p q → IsPast a q
 past_later a p q past later = by past.below later
   where
     after : a.0.row ≤ p.row
     after = past.after
 
-    by : (a.0.row + a.1.0 ≤ p.row) ⊎ ((a.0.row + a.1.0 ≡ p.row + 1) × (a.0.col + a.1.1 ≤ p.col)) → Earlier p q → IsPast a q
+    by : (a.0.row + a.1.height ≤ p.row) ⊎ ((a.0.row + a.1.height ≡ p.row + 1) × (a.0.col + a.1.width ≤ p.col)) → Earlier p q → IsPast a q
     by (inl b) (inl l) = record { after = omega (arith, past.after); below = inl (omega arith) }
     by (inl b) (inr l) = record { after = omega (arith, past.after); below = inl (omega arith) }
     by (inr b) (inl l) = record { after = omega (arith, past.after); below = inl (omega arith) }
     by (inr b) (inr l) = record { after = omega (arith, past.after); below = inr (omega arith, omega arith) }
 
-pub past_out : (a : Anchor) (p : Position) → IsPast a p → in_rect a.0 a.1 p ≡ false
-past_out a p past = false_from_ne_true _ (λ t. out past.below (in_rect-true a.0 p a.1 t))
+pub past_out : (a : Rectangle) (p : Position) → IsPast a p → holds a p ≡ false
+past_out a p past = false_from_ne_true _ (λ t. out past.below (holds-true a p t))
   where
-    out : (a.0.row + a.1.0 ≤ p.row) ⊎ ((a.0.row + a.1.0 ≡ p.row + 1) × (a.0.col + a.1.1 ≤ p.col)) → In a.0 a.1 p → ⊥
+    out : (a.0.row + a.1.height ≤ p.row) ⊎ ((a.0.row + a.1.height ≡ p.row + 1) × (a.0.col + a.1.width ≤ p.col)) → In a p → ⊥
     out (inl b) h = omega (arith, h.bottom)
     out (inr b) h = omega (arith, h.right)
 
 -- two rectangles share a cell
-pub record Meets (a b : Anchor) : Type 0 where
-  pub above : a.0.row < b.0.row + b.1.0
-  pub below : b.0.row < a.0.row + a.1.0
-  pub left : a.0.col < b.0.col + b.1.1
-  pub right : b.0.col < a.0.col + a.1.1
+pub record Meets (a b : Rectangle) : Type 0 where
+  pub above : a.0.row < b.0.row + b.1.height
+  pub below : b.0.row < a.0.row + a.1.height
+  pub left : a.0.col < b.0.col + b.1.width
+  pub right : b.0.col < a.0.col + a.1.width
 
-pub meets-true : (a b : Anchor) → meets a b ≡ true → Meets a b
+pub meets-true : (a b : Rectangle) → meets a b ≡ true → Meets a b
 meets-true a b t =
     let rows = and_parts _ _ (and_parts _ _ t).0 in
     let columns = and_parts _ _ (and_parts _ _ t).1 in
     record { above = ltb-true _ _ rows.0; below = ltb-true _ _ rows.1; left = ltb-true _ _ columns.0; right = ltb-true _ _ columns.1 }
 
-pub meets-from : (a b : Anchor) → Meets a b → meets a b ≡ true
+pub meets-from : (a b : Rectangle) → Meets a b → meets a b ≡ true
 meets-from a b m = and_from _ _ (and_from _ _ (lt-ltb _ _ m.above) (lt-ltb _ _ m.below)) (and_from _ _ (lt-ltb _ _ m.left) (lt-ltb _ _ m.right))
 
-pub past_apart : (a b : Anchor) → IsPast a b.0 → meets a b ≡ false
+pub past_apart : (a b : Rectangle) → IsPast a b.0 → meets a b ≡ false
 past_apart a b past = false_from_ne_true _ (λ t. out past.below (meets-true a b t))
   where
-    out : (a.0.row + a.1.0 ≤ b.0.row) ⊎ ((a.0.row + a.1.0 ≡ b.0.row + 1) × (a.0.col + a.1.1 ≤ b.0.col)) → Meets a b → ⊥
+    out : (a.0.row + a.1.height ≤ b.0.row) ⊎ ((a.0.row + a.1.height ≡ b.0.row + 1) × (a.0.col + a.1.width ≤ b.0.col)) → Meets a b → ⊥
     out (inl b) h = omega (arith, h.below)
     out (inr b) h = omega (arith, h.right)
 
 -- a list in order whose first is past an anchor's rectangle
-past_first : (a e f : Anchor) (es : List Anchor) → T (is_sorted position_cmp (e ∷ f ∷ es)) → IsPast a e.0 → IsPast a f.0
+past_first : (a e f : Rectangle) (es : List Rectangle) → T (is_sorted position_cmp (e ∷ f ∷ es)) → IsPast a e.0 → IsPast a f.0
 past_first a e f es up past = past_later a e.0 f.0 past (earlier e.0 f.0 (less _ (halves _ _ (halves _ _ up).0).0))
 
-pub none_held : (a e : Anchor) (es : List Anchor) → T (is_sorted position_cmp (e ∷ es)) → IsPast a e.0 → map (unless_held a) (e ∷ es) ≡ e ∷ es
-none_held a e [] up past = ap (λ b. cond b (e.0, (0, 0)) e ∷ []) (past_out a e.0 past)
-none_held a e (f ∷ es) up past = ap₂ (λ x xs. x ∷ xs) (ap (λ b. cond b (e.0, (0, 0)) e) (past_out a e.0 past)) (none_held a f es (halves _ _ up).1 (past_first a e f es up past))
+pub none_held : (a e : Rectangle) (es : List Rectangle) → T (is_sorted position_cmp (e ∷ es)) → IsPast a e.0 → map (unless_held a) (e ∷ es) ≡ e ∷ es
+none_held a e [] up past = ap (λ b. cond b (e.0, sized 0 0) e ∷ []) (past_out a e.0 past)
+none_held a e (f ∷ es) up past = ap₂ (λ x xs. x ∷ xs) (ap (λ b. cond b (e.0, sized 0 0) e) (past_out a e.0 past)) (none_held a f es (halves _ _ up).1 (past_first a e f es up past))
 
-pub none_meets : (a e : Anchor) (es : List Anchor) → T (is_sorted position_cmp (e ∷ es)) → IsPast a e.0 → list_all (λ (f : Anchor). not (meets a f)) (e ∷ es) ≡ true
+pub none_meets : (a e : Rectangle) (es : List Rectangle) → T (is_sorted position_cmp (e ∷ es)) → IsPast a e.0 → list_all (λ (f : Rectangle). not (meets a f)) (e ∷ es) ≡ true
 none_meets a e [] up past = and_from _ _ (ap not (past_apart a e past)) refl
 none_meets a e (f ∷ es) up past = and_from _ _ (ap not (past_apart a e past)) (none_meets a f es (halves _ _ up).1 (past_first a e f es up past))
 
 -- what is left of a list in order is in order
-pub sorted_drop : (n : ℕ) (es : List Anchor) → T (is_sorted position_cmp es) → T (is_sorted position_cmp (drop n es))
+pub sorted_drop : (n : ℕ) (es : List Rectangle) → T (is_sorted position_cmp es) → T (is_sorted position_cmp (drop n es))
 sorted_drop zero es up = up
 sorted_drop (suc n) [] up = tt
 sorted_drop (suc n) (e ∷ es) up = sorted_drop n es (halves _ _ up).1
@@ -167,20 +167,20 @@ left_item old new k d left =
     let at : k + 0 ≡ k = omega arith in
     sym (get_or-drop k old 0 d ∙ ap (λ n. get_or old n d) at) ∙ ap (λ xs. get_or xs 0 d) (sym left) ∙ get_or-drop k new 0 d ∙ ap (λ n. get_or new n d) at
 
-module _ (by : Anchor) (old new : List Anchor) (first k : ℕ) (d : Anchor) (low : first ≤ k) (here : k < length new) (same : length new ≡ length old) (changed : ChangedTo (unless_held by) old first new k) where
+module _ (by : Rectangle) (old new : List Rectangle) (first k : ℕ) (d : Rectangle) (low : first ≤ k) (here : k < length new) (same : length new ≡ length old) (changed : ChangedTo (unless_held by) old first new k) where
   is_item : get_or old k (get_or new k d) ≡ get_or new k d
   is_item = left_item old new k (get_or new k d) changed.left ∙ get_or_default new k (get_or new k d) d here
 
-  pub hidden_held : in_rect by.0 by.1 (get_or new k d).0 ≡ true → ChangedTo (unless_held by) old first (set new k ((get_or new k d).0, (0, 0))) (k + 1)
+  pub hidden_held : holds by (get_or new k d).0 ≡ true → ChangedTo (unless_held by) old first (set new k ((get_or new k d).0, sized 0 0)) (k + 1)
   hidden_held held =
-      let v : Anchor = ((get_or new k d).0, (0, 0)) in
+      let v : Rectangle = ((get_or new k d).0, sized 0 0) in
       changed_more (unless_held by) old first new (set new k v) k (get_or new k d) low (omega arith) is_item changed
-      (take_more_set new k v here ∙ ap (λ b. take k new ++ cond b ((get_or new k d).0, (0, 0)) (get_or new k d) ∷ []) (sym held))
+      (take_more_set new k v here ∙ ap (λ b. take k new ++ cond b ((get_or new k d).0, sized 0 0) (get_or new k d) ∷ []) (sym held))
       (drop-set-lt (k + 1) new k v (omega arith) ∙ drop_more_same new old k changed.left)
 
-  pub hidden_other : in_rect by.0 by.1 (get_or new k d).0 ≡ false → ChangedTo (unless_held by) old first new (k + 1)
+  pub hidden_other : holds by (get_or new k d).0 ≡ false → ChangedTo (unless_held by) old first new (k + 1)
   hidden_other out = changed_more (unless_held by) old first new new k (get_or new k d) low (omega arith) is_item changed
-      (take_more new k d here ∙ ap (λ b. take k new ++ cond b ((get_or new k d).0, (0, 0)) (get_or new k d) ∷ []) (sym out))
+      (take_more new k d here ∙ ap (λ b. take k new ++ cond b ((get_or new k d).0, sized 0 0) (get_or new k d) ∷ []) (sym out))
       (drop_more_same new old k changed.left)
 
   -- the anchors after it, as a slice of those that are gone through
@@ -196,7 +196,7 @@ module _ (by : Anchor) (old new : List Anchor) (first k : ℕ) (d : Anchor) (low
       let sorted = sorted_drop (k - first) (drop first old) (halves _ _ up).1 in
       subst (λ es. T (is_sorted position_cmp es)) (drop-drop (k - first) first old ∙ ap (λ n. drop n old) at ∙ rest ∙ ap (λ xs. e ∷ xs) (sym (drop_more_same new old k changed.left) ∙ sym after_is)) sorted
 
-  pub hidden_over : (n : ℕ) → in_rect by.0 by.1 (get_or new k d).0 ≡ false → map (unless_held by) (take n (take (length new - (k + 1)) (drop (k + 1) new))) ≡ take n (take (length new - (k + 1)) (drop (k + 1) new)) → ChangedTo (unless_held by) old first new (k + (1 + n))
+  pub hidden_over : (n : ℕ) → holds by (get_or new k d).0 ≡ false → map (unless_held by) (take n (take (length new - (k + 1)) (drop (k + 1) new))) ≡ take n (take (length new - (k + 1)) (drop (k + 1) new)) → ChangedTo (unless_held by) old first new (k + (1 + n))
   hidden_over n out free =
       let same_rest : take (length new - (k + 1)) (drop (k + 1) new) ≡ drop (k + 1) old = after_is ∙ drop_more_same new old k changed.left in
       let all : (k + 1) + n ≡ k + (1 + n) = omega arith in
@@ -214,37 +214,37 @@ module _ (by : Anchor) (old new : List Anchor) (first k : ℕ) (d : Anchor) (low
       changed_all (unless_held by) old first new k low changed (ap (map (unless_held by)) rest ∙ none_held by e (drop (k + 1) old) up_here (past-true by e.0 past) ∙ sym rest)
 
 -- none of the rest meets once one is past
-pub apart_past : (a : Anchor) (es : List Anchor) (first k : ℕ) (d : Anchor) → first ≤ k → k < length es → T (is_sorted position_cmp (a ∷ drop first es)) → is_past a (get_or es k d).0 ≡ true → list_all (λ (e : Anchor). not (meets a e)) (drop k es) ≡ true
+pub apart_past : (a : Rectangle) (es : List Rectangle) (first k : ℕ) (d : Rectangle) → first ≤ k → k < length es → T (is_sorted position_cmp (a ∷ drop first es)) → is_past a (get_or es k d).0 ≡ true → list_all (λ (e : Rectangle). not (meets a e)) (drop k es) ≡ true
 apart_past a es first k d low here up past =
     let e = get_or es k d in
     let sorted = sorted_drop (k - first) (drop first es) (halves _ _ up).1 in
     let at : first + (k - first) ≡ k = omega arith in
     let rest = drop_more es k d here in
     let up_here = subst (λ fs. T (is_sorted position_cmp fs)) (drop-drop (k - first) first es ∙ ap (λ n. drop n es) at ∙ rest) sorted in
-    ap (list_all (λ (f : Anchor). not (meets a f))) rest ∙ none_meets a e (drop (k + 1) es) up_here (past-true a e.0 past)
+    ap (list_all (λ (f : Rectangle). not (meets a f))) rest ∙ none_meets a e (drop (k + 1) es) up_here (past-true a e.0 past)
 
 -- the anchors after one, as a slice of those that are gone through
-pub all_after : (es : List Anchor) (k : ℕ) → take (length es - (k + 1)) (drop (k + 1) es) ≡ drop (k + 1) es
+pub all_after : (es : List Rectangle) (k : ℕ) → take (length es - (k + 1)) (drop (k + 1) es) ≡ drop (k + 1) es
 all_after es k = take_all (length es - (k + 1)) (drop (k + 1) es) (omega (arith, length-drop (k + 1) es))
 
-pub apart_sorted : (a : Anchor) (es : List Anchor) (first k : ℕ) (d : Anchor) → first ≤ k → k < length es → T (is_sorted position_cmp (a ∷ drop first es)) → T (is_sorted position_cmp (get_or es k d ∷ take (length es - (k + 1)) (drop (k + 1) es)))
+pub apart_sorted : (a : Rectangle) (es : List Rectangle) (first k : ℕ) (d : Rectangle) → first ≤ k → k < length es → T (is_sorted position_cmp (a ∷ drop first es)) → T (is_sorted position_cmp (get_or es k d ∷ take (length es - (k + 1)) (drop (k + 1) es)))
 apart_sorted a es first k d low here up =
     let at : first + (k - first) ≡ k = omega arith in
     subst (λ fs. T (is_sorted position_cmp fs)) (drop-drop (k - first) first es ∙ ap (λ n. drop n es) at ∙ drop_more es k d here ∙ ap (λ fs. get_or es k d ∷ fs) (sym (all_after es k))) (sorted_drop (k - first) (drop first es) (halves _ _ up).1)
 
 -- the first n pass, so all do just where the others do
-passed : (test : Anchor → Bool) (n : ℕ) (es : List Anchor) → list_all test (take n es) ≡ true → list_all test (drop n es) ≡ list_all test es
+passed : (test : Rectangle → Bool) (n : ℕ) (es : List Rectangle) → list_all test (take n es) ≡ true → list_all test (drop n es) ≡ list_all test es
 passed test zero es h = refl
 passed test (suc n) [] h = refl
 passed test (suc n) (e ∷ es) h =
     let parts = and_parts (test e) (list_all test (take n es)) h in
     passed test n es parts.1 ∙ sym (ap (λ b. b && list_all test es) parts.0)
 
-pub apart_over : (a : Anchor) (es : List Anchor) (k n : ℕ) (d : Anchor) (all : Bool) → k < length es → meets a (get_or es k d) ≡ false → list_all (λ (e : Anchor). not (meets a e)) (take n (take (length es - (k + 1)) (drop (k + 1) es))) ≡ true → list_all (λ (e : Anchor). not (meets a e)) (drop k es) ≡ all → list_all (λ (e : Anchor). not (meets a e)) (drop (k + (1 + n)) es) ≡ all
+pub apart_over : (a : Rectangle) (es : List Rectangle) (k n : ℕ) (d : Rectangle) (all : Bool) → k < length es → meets a (get_or es k d) ≡ false → list_all (λ (e : Rectangle). not (meets a e)) (take n (take (length es - (k + 1)) (drop (k + 1) es))) ≡ true → list_all (λ (e : Rectangle). not (meets a e)) (drop k es) ≡ all → list_all (λ (e : Rectangle). not (meets a e)) (drop (k + (1 + n)) es) ≡ all
 apart_over a es k n d all here out free so =
     let sum : (k + 1) + n ≡ k + (1 + n) = omega arith in
-    ap (λ m. list_all (λ (e : Anchor). not (meets a e)) (drop m es)) (sym sum)
-    ∙ ap (list_all (λ (e : Anchor). not (meets a e))) (sym (drop-drop n (k + 1) es))
-    ∙ passed (λ (e : Anchor). not (meets a e)) n (drop (k + 1) es) (ap (λ fs. list_all (λ (e : Anchor). not (meets a e)) (take n fs)) (sym (all_after es k)) ∙ free)
-    ∙ sym (ap (list_all (λ (e : Anchor). not (meets a e))) (drop_more es k d here) ∙ ap (λ b. not b && list_all (λ (e : Anchor). not (meets a e)) (drop (k + 1) es)) out)
+    ap (λ m. list_all (λ (e : Rectangle). not (meets a e)) (drop m es)) (sym sum)
+    ∙ ap (list_all (λ (e : Rectangle). not (meets a e))) (sym (drop-drop n (k + 1) es))
+    ∙ passed (λ (e : Rectangle). not (meets a e)) n (drop (k + 1) es) (ap (λ fs. list_all (λ (e : Rectangle). not (meets a e)) (take n fs)) (sym (all_after es k)) ∙ free)
+    ∙ sym (ap (list_all (λ (e : Rectangle). not (meets a e))) (drop_more es k d here) ∙ ap (λ b. not b && list_all (λ (e : Rectangle). not (meets a e)) (drop (k + 1) es)) out)
     ∙ so

@@ -5,28 +5,28 @@ use Rattle.std.specs.Ordering.{is_eq}
 use Rattle.std.proofs.lemmas.Bool.{and_from, cases_lt}
 use Rattle.std.proofs.lemmas.Option.{none-some, same_Some}
 use borrow.Author.Tests.{lt-ltb}
-use Rattle.tabled_grid.specs.Anchors.{Anchor}
 use Rattle.tabled_grid.specs.Entity.{place}
 use Rattle.tabled_grid.specs.Midway.{In}
-use Rattle.tabled_grid.specs.Rectangles.{Fits, in_rect}
+use Rattle.tabled_grid.specs.Rectangles.{Fits, holds}
 use Rattle.tabled_grid.specs.Axis.{line_of, lines_in, next_line}
 use Rattle.tabled_grid.specs.Shifts.{crosses_line, is_crossed, shifted, shifted_in, shifted_place}
-use Rattle.tabled_grid.specs.Spans.{AreSpanSizes, SpanMap, position_cmp}
+use Rattle.tabled_grid.specs.Spans.{AreSpanSizes, Rectangle, SpanMap, position_cmp}
 use Rattle.tabled_grid.specs.declared.config.position.Position.{Position}
 use Rattle.tabled_grid.specs.declared.records.axis.Axis.{Axis}
 use Rattle.tabled_grid.specs.declared.records.axis.Axis.TheVariants.{Rows, Columns}
+use Rattle.tabled_grid.specs.declared.config.size.Size.{Size}
 use Rattle.tabled_grid.proofs.Geometry.{cases_place}
 use Rattle.tabled_grid.proofs.Shifts.{Comes, comes, moves, sorted_shifted, stays}
-use Rattle.tabled_grid.proofs.SpanMaps.{found-any, in_rect-from, in_rect-true, tied, untied}
+use Rattle.tabled_grid.proofs.SpanMaps.{found-any, holds-from, holds-true, tied, untied}
 use Rattle.tabled_grid.proofs.Spans.{positions_exact, positions_total}
 
 -- an anchor that came from where another was
-record CameIn (axis : Axis) (from : ℕ) (es : List Anchor) (a : Position) (size : ℕ × ℕ) : Type 0 where
+record CameIn (axis : Axis) (from : ℕ) (es : List Rectangle) (a : Position) (size : Size) : Type 0 where
   old : Position
   was : find position_cmp old es ≡ Some size
   to : shifted_place axis from old ≡ Some a
 
-came_in : (axis : Axis) (from : ℕ) (es : List Anchor) (a : Position) (size : ℕ × ℕ) → find position_cmp a (shifted_in axis from es) ≡ Some size → CameIn axis from es a size
+came_in : (axis : Axis) (from : ℕ) (es : List Rectangle) (a : Position) (size : Size) → find position_cmp a (shifted_in axis from es) ≡ Some size → CameIn axis from es a size
 came_in axis from [] a size has = absurd (none-some size has)
 came_in axis from (e ∷ es) a size has = either (shifted_place axis from e.0) refl (cases_place a) (came_in axis from es a size) has
   where
@@ -52,19 +52,19 @@ came_in axis from (e ∷ es) a size has = either (shifted_place axis from e.0) r
             passed rest.old (λ eq. n (same_Some a p (sym rest.to ∙ ap (shifted_place axis from) eq ∙ is))) rest.was rest.to
 
 -- an anchor of the map once a line is put in was in the map before
-pub record Came (axis : Axis) (from : ℕ) (m : SpanMap) (a : Position) (size : ℕ × ℕ) : Type 0 where
+pub record Came (axis : Axis) (from : ℕ) (m : SpanMap) (a : Position) (size : Size) : Type 0 where
   pub old : Position
   pub was : get m old ≡ Some size
   pub comes : Comes axis from old a
 
-pub came : (axis : Axis) (from : ℕ) (m : SpanMap) (a : Position) (size : ℕ × ℕ) → get (shifted axis from m) a ≡ Some size → Came axis from m a size
+pub came : (axis : Axis) (from : ℕ) (m : SpanMap) (a : Position) (size : Size) → get (shifted axis from m) a ≡ Some size → Came axis from m a size
 came axis from m a size has =
     let up = sorted_shifted axis from (entries m) (entries_sorted m) in
     let it = came_in axis from (entries m) a size (sym (get-from_sorted position_cmp (shifted_in axis from (entries m)) a up) ∙ has) in
     record { old = it.old; was = get-entries m it.old ∙ it.was; comes = comes axis from it.old a it.to }
 
 -- a rectangle that begins before a line that none crosses ends before it
-ends_before : (axis : Axis) (line : ℕ) (m : SpanMap) (a : Position) (size : ℕ × ℕ) → is_crossed axis line m ≡ false → get m a ≡ Some size → line_of axis a < line → line_of axis a + lines_in axis size ≤ line
+ends_before : (axis : Axis) (line : ℕ) (m : SpanMap) (a : Position) (size : Size) → is_crossed axis line m ≡ false → get m a ≡ Some size → line_of axis a < line → line_of axis a + lines_in axis size ≤ line
 ends_before axis line m a size free has before = either (cases_lt line (line_of axis a + lines_in axis size))
   where
     either : (line < line_of axis a + lines_in axis size) ⊎ (line_of axis a + lines_in axis size ≤ line) → line_of axis a + lines_in axis size ≤ line
@@ -77,20 +77,20 @@ pub sizes_shifted : (axis : Axis) (line : ℕ) (m : SpanMap) → AreSpanSizes m 
 sizes_shifted axis line m sizes = record { each = λ a size has. let it = came axis line m a size has in sizes.each it.old size it.was }
 
 -- no rectangle holds a cell of the line that was put in
-pub line_is_free : (axis : Axis) (line : ℕ) (m : SpanMap) (a q : Position) (size : ℕ × ℕ) → is_crossed axis line m ≡ false → get (shifted axis line m) a ≡ Some size → In a size q → line_of axis q ≢ line
+pub line_is_free : (axis : Axis) (line : ℕ) (m : SpanMap) (a q : Position) (size : Size) → is_crossed axis line m ≡ false → get (shifted axis line m) a ≡ Some size → In (a, size) q → line_of axis q ≢ line
 line_is_free axis line m a q size free has holds same = at axis it.old (ends_before axis line m it.old size free it.was) it.comes holds same
   where
     it : Came axis line m a size
     it = came axis line m a size has
 
-    at : (x : Axis) (old : Position) → (line_of x old < line → line_of x old + lines_in x size ≤ line) → Comes x line old a → In a size q → line_of x q ≡ line → ⊥
+    at : (x : Axis) (old : Position) → (line_of x old < line → line_of x old + lines_in x size ≤ line) → Comes x line old a → In (a, size) q → line_of x q ≡ line → ⊥
     at Rows old ends (stays before is) h e = let k = rw is at h in omega (arith, k.bottom, ends before, e)
     at Rows old ends (moves after is) h e = let k = rw is at h in omega (arith, k.top, after, e)
     at Columns old ends (stays before is) h e = let k = rw is at h in omega (arith, k.right, ends before, e)
     at Columns old ends (moves after is) h e = let k = rw is at h in omega (arith, k.left, after, e)
 
 -- a rectangle that came one further holds what it held, one further
-held_before : (axis : Axis) (old p : Position) (size : ℕ × ℕ) → In (next_line axis old) size p → (q : Position) × In old size q × (p ≡ next_line axis q)
+held_before : (axis : Axis) (old p : Position) (size : Size) → In (next_line axis old, size) p → (q : Position) × In (old, size) q × (p ≡ next_line axis q)
 held_before Rows old p size h = (place (p.row - 1) p.col, record { top = omega (arith, h.top); bottom = omega (arith, h.top, h.bottom); left = h.left; right = h.right }, ap₂ place (omega (arith, h.top)) refl)
 held_before Columns old p size h = (place p.row (p.col - 1), record { top = h.top; bottom = h.bottom; left = omega (arith, h.left); right = omega (arith, h.left, h.right) }, ap₂ place refl (omega (arith, h.left)))
 
@@ -100,44 +100,44 @@ same_before Columns p q e = ap₂ place (ap (λ (x : Position). x.row) e) (omega
 
 module _ (axis : Axis) (line : ℕ) (m : SpanMap) (rows columns : ℕ) (free : is_crossed axis line m ≡ false) (fits : Fits m rows columns) where
   -- one that stays and one that moves lie on the two sides of the line
-  sides : (x : Axis) (a b p : Position) (s t : ℕ × ℕ) → line_of x a + lines_in x s ≤ line → line ≤ line_of x b → In a s p → In (next_line x b) t p → ⊥
+  sides : (x : Axis) (a b p : Position) (s t : Size) → line_of x a + lines_in x s ≤ line → line ≤ line_of x b → In (a, s) p → In (next_line x b, t) p → ⊥
   sides Rows a b p s t ends after ha hb = omega (arith, ha.bottom, ends, after, hb.top)
   sides Columns a b p s t ends after ha hb = omega (arith, ha.right, ends, after, hb.left)
 
-  pub apart_shifted : (a b : Position) (s t : ℕ × ℕ) (p : Position) → get (shifted axis line m) a ≡ Some s → get (shifted axis line m) b ≡ Some t → in_rect a s p ≡ true → in_rect b t p ≡ true → a ≡ b
+  pub apart_shifted : (a b : Position) (s t : Size) (p : Position) → get (shifted axis line m) a ≡ Some s → get (shifted axis line m) b ≡ Some t → holds (a, s) p ≡ true → holds (b, t) p ≡ true → a ≡ b
   apart_shifted a b s t p ha hb ia ib =
       let ca = came axis line m a s ha in
       let cb = came axis line m b t hb in
-      by ca.old cb.old ca.was cb.was ca.comes cb.comes (in_rect-true a p s ia) (in_rect-true b p t ib)
+      by ca.old cb.old ca.was cb.was ca.comes cb.comes (holds-true (a, s) p ia) (holds-true (b, t) p ib)
     where
-      by : (c d : Position) → get m c ≡ Some s → get m d ≡ Some t → Comes axis line c a → Comes axis line d b → In a s p → In b t p → a ≡ b
-      by c d hc hd (stays u is) (stays v js) pa pb = is ∙ fits.apart c d s t p hc hd (in_rect-from c p s (rw is at pa)) (in_rect-from d p t (rw js at pb)) ∙ sym js
+      by : (c d : Position) → get m c ≡ Some s → get m d ≡ Some t → Comes axis line c a → Comes axis line d b → In (a, s) p → In (b, t) p → a ≡ b
+      by c d hc hd (stays u is) (stays v js) pa pb = is ∙ fits.apart c d s t p hc hd (holds-from (c, s) p (rw is at pa)) (holds-from (d, t) p (rw js at pb)) ∙ sym js
       by c d hc hd (stays u is) (moves v js) pa pb = absurd (sides axis c d p s t (ends_before axis line m c s free hc u) v (rw is at pa) (rw js at pb))
       by c d hc hd (moves u is) (stays v js) pa pb = absurd (sides axis d c p t s (ends_before axis line m d t free hd v) u (rw js at pb) (rw is at pa))
       by c d hc hd (moves u is) (moves v js) pa pb =
           let qa = held_before axis c p s (rw is at pa) in
           let qb = held_before axis d p t (rw js at pb) in
           let same = same_before axis qa.0 qb.0 (sym qa.2 ∙ qb.2) in
-          is ∙ ap (next_line axis) (fits.apart c d s t qa.0 hc hd (in_rect-from c qa.0 s qa.1) (subst (λ q. in_rect d t q ≡ true) (sym same) (in_rect-from d qb.0 t qb.1))) ∙ sym js
+          is ∙ ap (next_line axis) (fits.apart c d s t qa.0 hc hd (holds-from (c, s) qa.0 qa.1) (subst (λ q. holds (d, t) q ≡ true) (sym same) (holds-from (d, t) qb.0 qb.1))) ∙ sym js
 
 -- they fit the table with one row more
 pub fits_below : (m : SpanMap) (line : ℕ) (rows columns : ℕ) → is_crossed Rows line m ≡ false → Fits m rows columns → Fits (shifted Rows line m) (rows + 1) columns
 fits_below m line rows columns free fits = record { sizes = sizes_shifted Rows line m fits.sizes; inside = inside; apart = apart_shifted Rows line m rows columns free fits }
   where
-    by : (old a : Position) (size : ℕ × ℕ) → (old.row + size.0 ≤ rows) × (old.col + size.1 ≤ columns) → Comes Rows line old a → (a.row + size.0 ≤ rows + 1) × (a.col + size.1 ≤ columns)
+    by : (old a : Position) (size : Size) → (old.row + size.height ≤ rows) × (old.col + size.width ≤ columns) → Comes Rows line old a → (a.row + size.height ≤ rows + 1) × (a.col + size.width ≤ columns)
     by old a size inside (stays before is) = rw is (omega (arith, inside.0), inside.1)
     by old a size inside (moves after is) = rw is (omega (arith, inside.0), inside.1)
 
-    inside : (a : Position) (size : ℕ × ℕ) → get (shifted Rows line m) a ≡ Some size → (a.row + size.0 ≤ rows + 1) × (a.col + size.1 ≤ columns)
+    inside : (a : Position) (size : Size) → get (shifted Rows line m) a ≡ Some size → (a.row + size.height ≤ rows + 1) × (a.col + size.width ≤ columns)
     inside a size has = let it = came Rows line m a size has in by it.old a size (fits.inside it.old size it.was) it.comes
 
 -- they fit the table with one column more
 pub fits_beside : (m : SpanMap) (line : ℕ) (rows columns : ℕ) → is_crossed Columns line m ≡ false → Fits m rows columns → Fits (shifted Columns line m) rows (columns + 1)
 fits_beside m line rows columns free fits = record { sizes = sizes_shifted Columns line m fits.sizes; inside = inside; apart = apart_shifted Columns line m rows columns free fits }
   where
-    by : (old a : Position) (size : ℕ × ℕ) → (old.row + size.0 ≤ rows) × (old.col + size.1 ≤ columns) → Comes Columns line old a → (a.row + size.0 ≤ rows) × (a.col + size.1 ≤ columns + 1)
+    by : (old a : Position) (size : Size) → (old.row + size.height ≤ rows) × (old.col + size.width ≤ columns) → Comes Columns line old a → (a.row + size.height ≤ rows) × (a.col + size.width ≤ columns + 1)
     by old a size inside (stays before is) = rw is (inside.0, omega (arith, inside.1))
     by old a size inside (moves after is) = rw is (inside.0, omega (arith, inside.1))
 
-    inside : (a : Position) (size : ℕ × ℕ) → get (shifted Columns line m) a ≡ Some size → (a.row + size.0 ≤ rows) × (a.col + size.1 ≤ columns + 1)
+    inside : (a : Position) (size : Size) → get (shifted Columns line m) a ≡ Some size → (a.row + size.height ≤ rows) × (a.col + size.width ≤ columns + 1)
     inside a size has = let it = came Columns line m a size has in by it.old a size (fits.inside it.old size it.was) it.comes

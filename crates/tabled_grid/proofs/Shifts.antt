@@ -12,10 +12,9 @@ use Rattle.std.proofs.lemmas.Bool.{cases_Bool}
 use Rattle.std.proofs.lemmas.Cmp.{ranked}
 use Rattle.std.proofs.lemmas.Option.{none-some, same_Some}
 use borrow.Author.Tests.{ltb-true, ltb-false}
-use Rattle.tabled_grid.specs.Anchors.{Anchor}
 use Rattle.tabled_grid.specs.Axis.{line_of, next_line}
 use Rattle.tabled_grid.specs.Shifts.{shifted_in, shifted_place}
-use Rattle.tabled_grid.specs.Spans.{AreAnchors, IsSpanSize, position_cmp}
+use Rattle.tabled_grid.specs.Spans.{AreAnchors, IsSpanSize, Rectangle, position_cmp}
 use Rattle.tabled_grid.specs.declared.config.position.Position.{Position}
 use Rattle.tabled_grid.specs.declared.records.axis.Axis.{Axis}
 use Rattle.tabled_grid.specs.declared.records.axis.Axis.TheVariants.{Rows, Columns}
@@ -46,10 +45,10 @@ module _ {X : Type 0} (f : X → X) where
   all_changed (x ∷ xs) = ap (λ ys. f x ∷ ys) (all_changed xs)
 
 -- the anchor where it is once a line is put in, or where it was if no index is left
-abbrev pub shifted_or_kept : Axis → ℕ → Anchor → Anchor
+abbrev pub shifted_or_kept : Axis → ℕ → Rectangle → Rectangle
 shifted_or_kept axis from e = (unwrap_or (shifted_place axis from e.0) e.0, e.1)
 
-abbrev pub has_place : Axis → ℕ → Anchor → Bool
+abbrev pub has_place : Axis → ℕ → Rectangle → Bool
 has_place axis from e = is_some (shifted_place axis from e.0)
 
 -- where a place comes to
@@ -59,13 +58,13 @@ pub data Comes (axis : Axis) (from : ℕ) (p q : Position) : Type 0 where
 
 module _ (axis : Axis) (from : ℕ) where
   -- those with an index left, each moved
-  pub moved_one_by_one : (es : List Anchor) → map (shifted_or_kept axis from) (filter (has_place axis from) es) ≡ shifted_in axis from es
+  pub moved_one_by_one : (es : List Rectangle) → map (shifted_or_kept axis from) (filter (has_place axis from) es) ≡ shifted_in axis from es
   moved_one_by_one [] = refl
   moved_one_by_one (e ∷ es) = either (shifted_place axis from e.0) refl (moved_one_by_one es)
     where
       either : (s : Option Position) → shifted_place axis from e.0 ≡ s → map (shifted_or_kept axis from) (filter (has_place axis from) es) ≡ shifted_in axis from es → map (shifted_or_kept axis from) (filter (has_place axis from) (e ∷ es)) ≡ shifted_in axis from (e ∷ es)
       either None is rest = rw is rest
-      either (Some p) is rest = rw is (ap₂ (λ (x : Anchor) xs. x ∷ xs) (ap (λ s. (unwrap_or s e.0, e.1)) is) rest)
+      either (Some p) is rest = rw is (ap₂ (λ (x : Rectangle) xs. x ∷ xs) (ap (λ s. (unwrap_or s e.0, e.1)) is) rest)
 
   pub comes : (p q : Position) → shifted_place axis from p ≡ Some q → Comes axis from p q
   comes p q is = either (cases_Bool (nat_lt (line_of axis p) from)) (cases_Bool (nat_lt (line_of axis p + 1) (2 ^ 64)))
@@ -107,7 +106,7 @@ from_earlier p q e = by_row (nat_cmp p.row q.row) refl (ranked p.row q.row (nat_
     by_row Greater is m (inr e) = absurd (omega arith)
 
 module _ (axis : Axis) (from : ℕ) where
-  below_shifted : (x y : Position) (es : List Anchor) → shifted_place axis from x ≡ Some y → T (below_all position_cmp x es) → T (below_all position_cmp y (shifted_in axis from es))
+  below_shifted : (x y : Position) (es : List Rectangle) → shifted_place axis from x ≡ Some y → T (below_all position_cmp x es) → T (below_all position_cmp y (shifted_in axis from es))
   below_shifted x y [] is h = tt
   below_shifted x y (e ∷ es) is h = either (shifted_place axis from e.0) refl (below_shifted x y es is (halves _ _ h).1)
     where
@@ -115,7 +114,7 @@ module _ (axis : Axis) (from : ℕ) where
       either None js rest = rw js rest
       either (Some p) js rest = rw js (both _ _ (is_less _ (from_earlier y p (next_later axis from x e.0 y p (earlier x e.0 (less _ (halves _ _ h).0)) (comes axis from x y is) (comes axis from e.0 p js)))) rest)
 
-  pub sorted_shifted : (es : List Anchor) → T (is_sorted position_cmp es) → T (is_sorted position_cmp (shifted_in axis from es))
+  pub sorted_shifted : (es : List Rectangle) → T (is_sorted position_cmp es) → T (is_sorted position_cmp (shifted_in axis from es))
   sorted_shifted [] h = tt
   sorted_shifted (e ∷ es) h = either (shifted_place axis from e.0) refl (sorted_shifted es (halves _ _ h).1)
     where
@@ -123,14 +122,14 @@ module _ (axis : Axis) (from : ℕ) where
       either None js rest = rw js rest
       either (Some p) js rest = rw js (both _ _ (below_shifted e.0 p es js (halves _ _ h).0) rest)
 
-  sizes_shifted : (es : List Anchor) → AllByRecursion (λ (e : Anchor). IsSpanSize e.1) es → AllByRecursion (λ (e : Anchor). IsSpanSize e.1) (shifted_in axis from es)
+  sizes_shifted : (es : List Rectangle) → AllByRecursion (λ (e : Rectangle). IsSpanSize e.1) es → AllByRecursion (λ (e : Rectangle). IsSpanSize e.1) (shifted_in axis from es)
   sizes_shifted [] h = h
   sizes_shifted (e ∷ es) h = either (shifted_place axis from e.0) refl (sizes_shifted es h.1)
     where
-      either : (s : Option Position) → shifted_place axis from e.0 ≡ s → AllByRecursion (λ (e : Anchor). IsSpanSize e.1) (shifted_in axis from es) → AllByRecursion (λ (e : Anchor). IsSpanSize e.1) (shifted_in axis from (e ∷ es))
+      either : (s : Option Position) → shifted_place axis from e.0 ≡ s → AllByRecursion (λ (e : Rectangle). IsSpanSize e.1) (shifted_in axis from es) → AllByRecursion (λ (e : Rectangle). IsSpanSize e.1) (shifted_in axis from (e ∷ es))
       either None js rest = rw js rest
       either (Some p) js rest = rw js (h.0, rest)
 
   -- anchors that are shifted are anchors
-  pub anchors_shifted : (es : List Anchor) → AreAnchors es → AreAnchors (shifted_in axis from es)
+  pub anchors_shifted : (es : List Rectangle) → AreAnchors es → AreAnchors (shifted_in axis from es)
   anchors_shifted es valid = record { sorted = sorted_shifted es valid.sorted; sizes = sizes_shifted es valid.sizes }

@@ -7,27 +7,27 @@ use Rattle.std.specs.List.{AllByRecursion, list_any}
 use Rattle.std.proofs.lemmas.List.Elements.{All-filter, All-from_recursion, recursion_from_All}
 use Rattle.std.proofs.lemmas.List.{nil_from_length}
 use borrow.Author.Tests.{eqb-true}
-use Rattle.tabled_grid.specs.Anchors.{Anchor, dropped, is_hidden_in}
-use Rattle.tabled_grid.specs.Rectangles.{drop_hidden, in_rect, is_hidden}
+use Rattle.tabled_grid.specs.Anchors.{dropped, is_hidden_in}
+use Rattle.tabled_grid.specs.Rectangles.{drop_hidden, holds, is_hidden}
 use Rattle.tabled_grid.specs.Entity.{same_place}
-use Rattle.tabled_grid.specs.Spans.{AreAnchors, AreSpanSizes, IsSpanSize, SpanMap, position_cmp}
+use Rattle.tabled_grid.specs.Spans.{AreAnchors, AreSpanSizes, IsSpanSize, Rectangle, SpanMap, position_cmp}
 use Rattle.tabled_grid.specs.declared.config.position.Position.{Position}
 use Rattle.tabled_grid.proofs.Members.{Member, sorted-find}
 use Rattle.tabled_grid.proofs.SpanMaps.{get-drop_hidden}
 use Rattle.tabled_grid.proofs.Spans.{positions_exact, positions_total}
 
 -- a list of anchors in order, and the map that it makes
-pub record Lists (es : List Anchor) (m : SpanMap) : Type 0 where
+pub record Lists (es : List Rectangle) (m : SpanMap) : Type 0 where
   pub up : T (is_sorted position_cmp es)
   pub is : m ≡ from_sorted es
 
-abbrev pub visible_in : List Anchor → Position → Bool
+abbrev pub visible_in : List Rectangle → Position → Bool
 visible_in es p = not (is_hidden_in es p)
 
-pub hidden_is : (es : List Anchor) (m : SpanMap) (p : Position) → Lists es m → is_hidden m p ≡ is_hidden_in es p
-hidden_is es m p l = rw l.is (ap (list_any (λ (e : Anchor). in_rect e.0 e.1 p && not (same_place e.0 p))) (entries-from_sorted position_cmp es l.up))
+pub hidden_is : (es : List Rectangle) (m : SpanMap) (p : Position) → Lists es m → is_hidden m p ≡ is_hidden_in es p
+hidden_is es m p l = rw l.is (ap (list_any (λ (e : Rectangle). holds e p && not (same_place e.0 p))) (entries-from_sorted position_cmp es l.up))
 
-pub dropped_is : (es : List Anchor) (m : SpanMap) → Lists es m → Lists (dropped es) (drop_hidden m)
+pub dropped_is : (es : List Rectangle) (m : SpanMap) → Lists es m → Lists (dropped es) (drop_hidden m)
 dropped_is es m l = record {
   up = up;
   is = same_map positions_total positions_exact _ _ (λ q.
@@ -42,22 +42,22 @@ dropped_is es m l = record {
     up = is_sorted-where_key position_cmp (visible_in es) es l.up
 
 -- the anchors that are left are anchors
-pub anchors_dropped : (es : List Anchor) → AreAnchors es → AreAnchors (dropped es)
+pub anchors_dropped : (es : List Rectangle) → AreAnchors es → AreAnchors (dropped es)
 anchors_dropped es valid = record {
   sorted = (dropped_is es (from_sorted es) (record { up = valid.sorted; is = refl })).up;
-  sizes = recursion_from_All _ _ (All-filter (λ (e : Anchor). visible_in es e.0) (λ (e : Anchor). IsSpanSize e.1) es (All-from_recursion _ _ valid.sizes));
+  sizes = recursion_from_All _ _ (All-filter (λ (e : Rectangle). visible_in es e.0) (λ (e : Rectangle). IsSpanSize e.1) es (All-from_recursion _ _ valid.sizes));
 }
 
 -- the entries of a map are its anchors
 pub anchors-of : (m : SpanMap) → AreSpanSizes m → AreAnchors (entries m)
 anchors-of m sizes = record { sorted = entries_sorted m; sizes = sizes_of (entries m) (λ f h. sizes.each f.0 f.1 (get-entries m f.0 ∙ sorted-find position_cmp positions_total positions_exact (entries m) f.0 f.1 (entries_sorted m) h)) }
   where
-    sizes_of : (es : List Anchor) → ((f : Anchor) → Member f es → IsSpanSize f.1) → AllByRecursion (λ (f : Anchor). IsSpanSize f.1) es
+    sizes_of : (es : List Rectangle) → ((f : Rectangle) → Member f es → IsSpanSize f.1) → AllByRecursion (λ (f : Rectangle). IsSpanSize f.1) es
     sizes_of [] each = tt
     sizes_of (f ∷ es) each = (each f (inl refl), sizes_of es (λ g m. each g (inr m)))
 
 pub from-entries : (m : SpanMap) → from_sorted (entries m) ≡ m
 from-entries m = same_map positions_total positions_exact (from_sorted (entries m)) m (λ q. get-from_sorted position_cmp (entries m) q (entries_sorted m) ∙ sym (get-entries m q))
 
-pub none-listed : (m : SpanMap) (es : List Anchor) → es ≡ entries m → true ≡ (length es == 0) → entries m ≡ []
+pub none-listed : (m : SpanMap) (es : List Rectangle) → es ≡ entries m → true ≡ (length es == 0) → entries m ≡ []
 none-listed m es is h = sym is ∙ nil_from_length es (eqb-true (length es) 0 (sym h))

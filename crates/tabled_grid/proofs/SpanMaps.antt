@@ -1,5 +1,5 @@
 -- What maps of spans have at each place, after each change.
-use Rattle.std.proofs.Common.{◌≡◌, ℕ, ◌<◌, ◌≤◌, ◌≢◌, ◌⊎◌, inl, inr, Bool, true, false, cond, List, [], ◌∷◌, Some, None, Option, refl, sym, ap, ap₂, subst, ◌∙◌, arith}
+use Rattle.std.proofs.Common.{◌≡◌, ◌<◌, ◌≤◌, ◌≢◌, ◌⊎◌, inl, inr, Bool, true, false, cond, List, [], ◌∷◌, Some, None, Option, refl, sym, ap, ap₂, subst, ◌∙◌, arith}
 use Rattle.std.specs.Prelude.{T, not, ◌&&◌, ◌==◌}
 use Rattle.std.specs.declared.cmp.Ordering.{Ordering}
 use Rattle.std.specs.declared.cmp.Ordering.TheVariants.{Less, Equal, Greater}
@@ -14,13 +14,14 @@ use Rattle.std.proofs.lemmas.Bool.{and_parts, and_from, or_cases, or_left, or_ri
 use Rattle.std.proofs.lemmas.Cmp.{tied_itself}
 use Rattle.std.proofs.lemmas.Option.{none-some, same_Some}
 use borrow.Author.Tests.{leb-true, ltb-true, le-leb, lt-ltb, eqb-true, eq-eqb}
-use Rattle.tabled_grid.specs.Spans.{AreSpanSizes, IsSpanSize, SpanMap, position_cmp, size_at, with_size}
+use Rattle.tabled_grid.specs.Spans.{AreSpanSizes, IsSpanSize, Rectangle, SpanMap, position_cmp, size_at, sized, with_size}
 use Rattle.tabled_grid.specs.Entity.{place}
 use Rattle.tabled_grid.specs.declared.config.position.Position.{Position}
 pub use Rattle.tabled_grid.proofs.SortedEntries.{both, halves, less}
 use Rattle.tabled_grid.proofs.Spans.{positions_exact, positions_total}
-use Rattle.tabled_grid.specs.Rectangles.{drop_hidden, in_rect, is_hidden, is_visible}
+use Rattle.tabled_grid.specs.Rectangles.{drop_hidden, holds, is_hidden, is_visible}
 use Rattle.tabled_grid.specs.Entity.{same_place}
+use Rattle.tabled_grid.specs.declared.config.size.Size.{Size}
 use Rattle.tabled_grid.proofs.Geometry.{Full, In, Visible, cases_place}
 
 pub equal : (o : Ordering) → is_eq o ≡ true → o ≡ Equal
@@ -68,14 +69,14 @@ module _ {K X : Type 0} (R : K → K → Ordering) (o : IsTotalOrder R) (exact :
       either (inr f) later = or_right (test e) (list_any test es) (later (subst (λ b. cond b (Some e.1) (find R k es) ≡ Some v) f is))
 
 -- the test of a rectangle says what it says
-pub in_rect-true : (a p : Position) (size : ℕ × ℕ) → in_rect a size p ≡ true → In a size p
-in_rect-true a p size t =
+pub holds-true : (e : Rectangle) (p : Position) → holds e p ≡ true → In e p
+holds-true e p t =
     let rows = and_parts _ _ (and_parts _ _ t).0 in
     let columns = and_parts _ _ (and_parts _ _ t).1 in
     record { top = leb-true _ _ rows.0; bottom = ltb-true _ _ rows.1; left = leb-true _ _ columns.0; right = ltb-true _ _ columns.1 }
 
-pub in_rect-from : (a p : Position) (size : ℕ × ℕ) → In a size p → in_rect a size p ≡ true
-in_rect-from a p size i = and_from _ _ (and_from _ _ (le-leb _ _ i.top) (lt-ltb _ _ i.bottom)) (and_from _ _ (le-leb _ _ i.left) (lt-ltb _ _ i.right))
+pub holds-from : (e : Rectangle) (p : Position) → In e p → holds e p ≡ true
+holds-from e p i = and_from _ _ (and_from _ _ (le-leb _ _ i.top) (lt-ltb _ _ i.bottom)) (and_from _ _ (le-leb _ _ i.left) (lt-ltb _ _ i.right))
 
 pub same_place-true : (a b : Position) → same_place a b ≡ true → a ≡ b
 same_place-true a b t = let parts = and_parts _ _ t in ap₂ place (eqb-true _ _ parts.0) (eqb-true _ _ parts.1)
@@ -93,13 +94,13 @@ same_place-apart a b apart = either (cases_Bool (same_place a b))
 -- another anchor whose rectangle holds a place
 pub record HiddenBy (m : SpanMap) (p : Position) : Type 0 where
   pub anchor : Position
-  pub size : ℕ × ℕ
+  pub size : Size
   pub has : get m anchor ≡ Some size
-  pub holds : In anchor size p
+  pub holds : In (anchor, size) p
   pub other : anchor ≢ p
 
-hides : Position → Position × (ℕ × ℕ) → Bool
-hides p e = in_rect e.0 e.1 p && not (same_place e.0 p)
+hides : Position → Rectangle → Bool
+hides p e = holds e p && not (same_place e.0 p)
 
 pub hidden_by : (m : SpanMap) (p : Position) → is_hidden m p ≡ true → HiddenBy m p
 unfolding hides
@@ -110,32 +111,32 @@ hidden_by m p h =
       anchor = found.key;
       size = found.value;
       has = get-entries m found.key ∙ found.is;
-      holds = in_rect-true found.key p found.value parts.0;
+      holds = holds-true (found.key, found.value) p parts.0;
       other = λ e. false≢true (sym (not_from_true (same_place found.key p) (subst (λ (x : Position). same_place found.key x ≡ true) e (same_place-self found.key))) ∙ parts.1);
     }
 
-pub hidden-from : (m : SpanMap) (a p : Position) (size : ℕ × ℕ) → get m a ≡ Some size → In a size p → a ≢ p → is_hidden m p ≡ true
+pub hidden-from : (m : SpanMap) (a p : Position) (size : Size) → get m a ≡ Some size → In (a, size) p → a ≢ p → is_hidden m p ≡ true
 unfolding hides
 hidden-from m a p size has holds other =
     found-any position_cmp positions_total positions_exact (hides p) (entries m) a size (sym (get-entries m a) ∙ has)
-    (and_from _ _ (in_rect-from a p size holds) (not_from_false _ (same_place-apart a p other)))
+    (and_from _ _ (holds-from (a, size) p holds) (not_from_false _ (same_place-apart a p other)))
 
 -- the size at a place is that of its anchor
-pub size_at-some : (m : SpanMap) (a : Position) (size : ℕ × ℕ) → get m a ≡ Some size → size_at m a ≡ size
-size_at-some m a size has = ap (λ (s : Option (ℕ × ℕ)). unwrap_or s (1, 1)) has
+pub size_at-some : (m : SpanMap) (a : Position) (size : Size) → get m a ≡ Some size → size_at m a ≡ size
+size_at-some m a size has = ap (λ (s : Option Size). unwrap_or s (sized 1 1)) has
 
-pub size_at-none : (m : SpanMap) (a : Position) → get m a ≡ None → size_at m a ≡ (1, 1)
-size_at-none m a has = ap (λ (s : Option (ℕ × ℕ)). unwrap_or s (1, 1)) has
+pub size_at-none : (m : SpanMap) (a : Position) → get m a ≡ None → size_at m a ≡ (sized 1 1)
+size_at-none m a has = ap (λ (s : Option Size). unwrap_or s (sized 1 1)) has
 
 -- a place has an anchor or has none
 pub data At (m : SpanMap) (a : Position) : Type 0 where
   none : get m a ≡ None → At m a
-  some : (size : ℕ × ℕ) → get m a ≡ Some size → At m a
+  some : (size : Size) → get m a ≡ Some size → At m a
 
 pub at : (m : SpanMap) (a : Position) → At m a
 at m a = either (get m a) refl
   where
-    either : (s : Option (ℕ × ℕ)) → get m a ≡ s → At m a
+    either : (s : Option Size) → get m a ≡ s → At m a
     either None e = none e
     either (Some size) e = some size e
 
@@ -154,11 +155,11 @@ visible m p shown a holds = by_anchor (at m a) (cases_place a p)
 pub full : (m : SpanMap) → AreSpanSizes m → Full (size_at m)
 full m sizes = record { height = λ a. height a (at m a); width = λ a. width a (at m a) }
   where
-    height : (a : Position) → At m a → 1 ≤ (size_at m a).0
+    height : (a : Position) → At m a → 1 ≤ (size_at m a).height
     height a (none e) = rw (size_at-none m a e) (omega arith)
     height a (some size e) = rw (size_at-some m a size e) (sizes.each a size e).height
 
-    width : (a : Position) → At m a → 1 ≤ (size_at m a).1
+    width : (a : Position) → At m a → 1 ≤ (size_at m a).width
     width a (none e) = rw (size_at-none m a e) (omega arith)
     width a (some size e) = rw (size_at-some m a size e) (sizes.each a size e).width
 
@@ -173,43 +174,43 @@ untied q p n = either (cases_Bool (eq_by_cmp position_cmp q p))
     either (inr f) = f
 
 -- what the map has at the place whose size was set, and elsewhere
-module _ (m : SpanMap) (p : Position) (size : ℕ × ℕ) where
+module _ (m : SpanMap) (p : Position) (size : Size) where
   pub with_size-other : (q : Position) → q ≢ p → get (with_size m p size) q ≡ get m q
-  with_size-other q n = either (cases_Bool ((size.0 == 1) && (size.1 == 1)))
+  with_size-other q n = either (cases_Bool ((size.height == 1) && (size.width == 1)))
     where
-      either : (((size.0 == 1) && (size.1 == 1)) ≡ true) ⊎ (((size.0 == 1) && (size.1 == 1)) ≡ false) → get (with_size m p size) q ≡ get m q
+      either : (((size.height == 1) && (size.width == 1)) ≡ true) ⊎ (((size.height == 1) && (size.width == 1)) ≡ false) → get (with_size m p size) q ≡ get m q
       either (inl t) = rw t (get-remove positions_total m p q ∙ cond-false _ _ _ (untied q p n))
       either (inr f) = rw f (get-insert positions_total m p size q ∙ cond-false _ _ _ (untied q p n))
 
   pub size_at-with_size-other : (q : Position) → q ≢ p → size_at (with_size m p size) q ≡ size_at m q
-  size_at-with_size-other q n = ap (λ (s : Option (ℕ × ℕ)). unwrap_or s (1, 1)) (with_size-other q n)
+  size_at-with_size-other q n = ap (λ (s : Option Size). unwrap_or s (sized 1 1)) (with_size-other q n)
 
   pub size_at-with_size : size_at (with_size m p size) p ≡ size
-  size_at-with_size = either (cases_Bool ((size.0 == 1) && (size.1 == 1)))
+  size_at-with_size = either (cases_Bool ((size.height == 1) && (size.width == 1)))
     where
-      either : (((size.0 == 1) && (size.1 == 1)) ≡ true) ⊎ (((size.0 == 1) && (size.1 == 1)) ≡ false) → size_at (with_size m p size) p ≡ size
+      either : (((size.height == 1) && (size.width == 1)) ≡ true) ⊎ (((size.height == 1) && (size.width == 1)) ≡ false) → size_at (with_size m p size) p ≡ size
       either (inl t) =
           let parts = and_parts _ _ t in
           let gone : get (map.remove m p) p ≡ None = get-remove positions_total m p p ∙ cond-true _ _ _ (tied p) in
-          rw t (size_at-none (map.remove m p) p gone ∙ ap₂ (λ h w. (h, w)) (sym (eqb-true _ _ parts.0)) (sym (eqb-true _ _ parts.1)))
+          rw t (size_at-none (map.remove m p) p gone ∙ ap₂ sized (sym (eqb-true _ _ parts.0)) (sym (eqb-true _ _ parts.1)))
       either (inr f) =
           let put : get (map.insert m p size) p ≡ Some size = get-insert positions_total m p size p ∙ cond-true _ _ _ (tied p) in
           rw f (size_at-some (map.insert m p size) p size put)
 
-  pub sizes-with_size : 1 ≤ size.0 → 1 ≤ size.1 → AreSpanSizes m → AreSpanSizes (with_size m p size)
-  sizes-with_size tall wide sizes = record { each = λ a s has. by_place a s has (cases_place a p) (cases_Bool ((size.0 == 1) && (size.1 == 1))) }
+  pub sizes-with_size : 1 ≤ size.height → 1 ≤ size.width → AreSpanSizes m → AreSpanSizes (with_size m p size)
+  sizes-with_size tall wide sizes = record { each = λ a s has. by_place a s has (cases_place a p) (cases_Bool ((size.height == 1) && (size.width == 1))) }
     where
-      more : ((size.0 == 1) && (size.1 == 1)) ≡ false → (1 < size.0) ⊎ (1 < size.1)
-      more f = either (cases_lt 1 size.0) (cases_lt 1 size.1)
+      more : ((size.height == 1) && (size.width == 1)) ≡ false → (1 < size.height) ⊎ (1 < size.width)
+      more f = either (cases_lt 1 size.height) (cases_lt 1 size.width)
         where
-          either : (1 < size.0) ⊎ (size.0 ≤ 1) → (1 < size.1) ⊎ (size.1 ≤ 1) → (1 < size.0) ⊎ (1 < size.1)
+          either : (1 < size.height) ⊎ (size.height ≤ 1) → (1 < size.width) ⊎ (size.width ≤ 1) → (1 < size.height) ⊎ (1 < size.width)
           either (inl h) c = inl h
           either (inr l) (inl h) = inr h
           either (inr l) (inr k) =
-              let one : ((size.0 == 1) && (size.1 == 1)) ≡ true = and_from _ _ (eq-eqb size.0 1 (omega arith)) (eq-eqb size.1 1 (omega arith)) in
+              let one : ((size.height == 1) && (size.width == 1)) ≡ true = and_from _ _ (eq-eqb size.height 1 (omega arith)) (eq-eqb size.width 1 (omega arith)) in
               let never : false ≡ true = sym f ∙ one in cc
 
-      here : (s : ℕ × ℕ) → get (with_size m p size) p ≡ Some s → (((size.0 == 1) && (size.1 == 1)) ≡ true) ⊎ (((size.0 == 1) && (size.1 == 1)) ≡ false) → IsSpanSize s
+      here : (s : Size) → get (with_size m p size) p ≡ Some s → (((size.height == 1) && (size.width == 1)) ≡ true) ⊎ (((size.height == 1) && (size.width == 1)) ≡ false) → IsSpanSize s
       here s has (inl t) =
           let gone : get (map.remove m p) p ≡ None = get-remove positions_total m p p ∙ cond-true _ _ _ (tied p) in
           absurd (none-some s (sym gone ∙ (rw t at has)))
@@ -217,7 +218,7 @@ module _ (m : SpanMap) (p : Position) (size : ℕ × ℕ) where
           let put : get (map.insert m p size) p ≡ Some size = get-insert positions_total m p size p ∙ cond-true _ _ _ (tied p) in
           subst IsSpanSize (same_Some size s (sym put ∙ (rw f at has))) (record { height = tall; width = wide; merges = more f })
 
-      by_place : (a : Position) (s : ℕ × ℕ) → get (with_size m p size) a ≡ Some s → (a ≡ p) ⊎ (a ≢ p) → (((size.0 == 1) && (size.1 == 1)) ≡ true) ⊎ (((size.0 == 1) && (size.1 == 1)) ≡ false) → IsSpanSize s
+      by_place : (a : Position) (s : Size) → get (with_size m p size) a ≡ Some s → (a ≡ p) ⊎ (a ≢ p) → (((size.height == 1) && (size.width == 1)) ≡ true) ⊎ (((size.height == 1) && (size.width == 1)) ≡ false) → IsSpanSize s
       by_place a s has (inl e) b = here s (subst (λ (x : Position). get (with_size m p size) x ≡ Some s) e has) b
       by_place a s has (inr n) b = sizes.each a s (sym (with_size-other a n) ∙ has)
 
@@ -225,11 +226,11 @@ module _ (m : SpanMap) (p : Position) (size : ℕ × ℕ) where
 pub get-drop_hidden : (m : SpanMap) (q : Position) → get (drop_hidden m) q ≡ cond (is_visible m q) (get m q) None
 get-drop_hidden m q = get-retain_keys m (is_visible m) q (λ x t. ap (is_visible m) (sym (positions_exact q x t)))
 
-pub record Kept (m : SpanMap) (a : Position) (size : ℕ × ℕ) : Type 0 where
+pub record Kept (m : SpanMap) (a : Position) (size : Size) : Type 0 where
   pub had : get m a ≡ Some size
   pub shown : is_visible m a ≡ true
 
-pub kept : (m : SpanMap) (a : Position) (size : ℕ × ℕ) → get (drop_hidden m) a ≡ Some size → Kept m a size
+pub kept : (m : SpanMap) (a : Position) (size : Size) → get (drop_hidden m) a ≡ Some size → Kept m a size
 kept m a size has = either (cases_Bool (is_visible m a)) (sym (get-drop_hidden m a) ∙ has)
   where
     either : (is_visible m a ≡ true) ⊎ (is_visible m a ≡ false) → cond (is_visible m a) (get m a) None ≡ Some size → Kept m a size
@@ -240,9 +241,9 @@ pub sizes-drop_hidden : (m : SpanMap) → AreSpanSizes m → AreSpanSizes (drop_
 sizes-drop_hidden m sizes = record { each = λ a size has. sizes.each a size (kept m a size has).had }
 
 -- after hidden anchors are dropped a place has the size that it had, or that of one cell
-pub kept_or_one : (m : SpanMap) (a : Position) → (size_at (drop_hidden m) a ≡ size_at m a) ⊎ (size_at (drop_hidden m) a ≡ (1, 1))
+pub kept_or_one : (m : SpanMap) (a : Position) → (size_at (drop_hidden m) a ≡ size_at m a) ⊎ (size_at (drop_hidden m) a ≡ sized 1 1)
 kept_or_one m a = either (cases_Bool (is_visible m a))
   where
-    either : (is_visible m a ≡ true) ⊎ (is_visible m a ≡ false) → (size_at (drop_hidden m) a ≡ size_at m a) ⊎ (size_at (drop_hidden m) a ≡ (1, 1))
-    either (inl t) = inl (ap (λ (s : Option (ℕ × ℕ)). unwrap_or s (1, 1)) (get-drop_hidden m a ∙ ap (λ b. cond b (get m a) None) t))
-    either (inr f) = inr (ap (λ (s : Option (ℕ × ℕ)). unwrap_or s (1, 1)) (get-drop_hidden m a ∙ ap (λ b. cond b (get m a) None) f))
+    either : (is_visible m a ≡ true) ⊎ (is_visible m a ≡ false) → (size_at (drop_hidden m) a ≡ size_at m a) ⊎ (size_at (drop_hidden m) a ≡ sized 1 1)
+    either (inl t) = inl (ap (λ (s : Option Size). unwrap_or s (sized 1 1)) (get-drop_hidden m a ∙ ap (λ b. cond b (get m a) None) t))
+    either (inr f) = inr (ap (λ (s : Option Size). unwrap_or s (sized 1 1)) (get-drop_hidden m a ∙ ap (λ b. cond b (get m a) None) f))

@@ -4,12 +4,12 @@ use Rattle.std.specs.Prelude.{◌-◌, ◌*◌, ◌%◌, ◌^◌, ◌↔◌, ◌
 use Rattle.std.proofs.lemmas.Bool.{and_parts, and_from, cases_eq, cases_lt, or_cases, or_left, or_right, false_from_ne_true, false≢true, not_from_true, not_from_false}
 use Rattle.std.specs.Cmp.{both_ways}
 use borrow.Author.Tests.{leb-true, ltb-true, le-leb, lt-ltb, eqb-true, eq-eqb}
-use Rattle.tabled_grid.specs.Anchors.{Anchor}
 use Rattle.tabled_grid.specs.Covers.{Steps, beyond, hides, in_run}
 use Rattle.tabled_grid.specs.Entity.{place, same_place}
 use Rattle.tabled_grid.specs.declared.config.position.Position.{Position}
+use Rattle.tabled_grid.specs.Spans.{Rectangle}
 use Rattle.tabled_grid.proofs.Geometry.{In}
-use Rattle.tabled_grid.proofs.SpanMaps.{in_rect-from, in_rect-true, same_place-apart, same_place-true, same_place-self}
+use Rattle.tabled_grid.proofs.SpanMaps.{holds-from, holds-true, same_place-apart, same_place-true, same_place-self}
 use Rattle.tabled_grid.proofs.Tables.{steps_joined, steps_nowhere, steps_one, steps_same}
 
 record InRun (i : ℕ) (run : ℕ × ℕ) (p : Position) : Type 0 where
@@ -75,23 +75,23 @@ run_done old xs i j run step rows columns so past near = either (cases_lt run.1 
         steps_same old xs (in_run i (run.0, j)) (in_run i run) step rows columns (λ r c u v. ap (λ n. in_run i (run.0, n) (place r c)) end) so.steps
 
 -- an anchor's rectangle, cut at a block, and the rows of it that are stepped
-pub record EachTo (old new : List ℕ) (first : Position) (anchor : Anchor) (i step rows columns : ℕ) : Type 0 where
+pub record EachTo (old new : List ℕ) (first : Position) (anchor : Rectangle) (i step rows columns : ℕ) : Type 0 where
   pub steps : Steps old new (λ p. hides (beyond first p) anchor && nat_lt p.row i) step rows columns
 
 -- what it is for an anchor to hide a place
-pub record Hides (anchor : Anchor) (p : Position) : Type 0 where
-  pub holds : In anchor.0 anchor.1 p
+pub record Hides (anchor : Rectangle) (p : Position) : Type 0 where
+  pub holds : In anchor p
   pub other : anchor.0 ≢ p
 
-pub hides-true : (anchor : Anchor) (p : Position) → hides p anchor ≡ true → Hides anchor p
+pub hides-true : (anchor : Rectangle) (p : Position) → hides p anchor ≡ true → Hides anchor p
 hides-true anchor p t =
     let parts = and_parts _ _ t in
-    record { holds = in_rect-true anchor.0 p anchor.1 parts.0; other = λ e. false≢true (sym (not_from_true _ (subst (λ (x : Position). same_place anchor.0 x ≡ true) e (same_place-self anchor.0))) ∙ parts.1) }
+    record { holds = holds-true anchor p parts.0; other = λ e. false≢true (sym (not_from_true _ (subst (λ (x : Position). same_place anchor.0 x ≡ true) e (same_place-self anchor.0))) ∙ parts.1) }
 
-hides-from : (anchor : Anchor) (p : Position) → Hides anchor p → hides p anchor ≡ true
-hides-from anchor p h = and_from _ _ (in_rect-from anchor.0 p anchor.1 h.holds) (not_from_false _ (same_place-apart anchor.0 p h.other))
+hides-from : (anchor : Rectangle) (p : Position) → Hides anchor p → hides p anchor ≡ true
+hides-from anchor p h = and_from _ _ (holds-from anchor p h.holds) (not_from_false _ (same_place-apart anchor.0 p h.other))
 
-pub each_starts : (xs : List ℕ) (first : Position) (anchor : Anchor) (i step rows columns : ℕ) → i + first.row ≤ max anchor.0.row first.row → EachTo xs xs first anchor i step rows columns
+pub each_starts : (xs : List ℕ) (first : Position) (anchor : Rectangle) (i step rows columns : ℕ) → i + first.row ≤ max anchor.0.row first.row → EachTo xs xs first anchor i step rows columns
 each_starts xs first anchor i step rows columns low = record {
   steps = steps_nowhere xs _ step rows columns (λ r c h k. false_from_ne_true _ (λ t.
       let parts = and_parts _ _ t in
@@ -100,11 +100,11 @@ each_starts xs first anchor i step rows columns low = record {
 }
 
 -- where the first of an anchor's columns is another's place
-abbrev pub Begins : Position → Anchor → ℕ → ℕ → ℕ → Type 0
+abbrev pub Begins : Position → Rectangle → ℕ → ℕ → ℕ → Type 0
 Begins first anchor i left columns = (j : ℕ) → j < columns → (left ≤ j) ↔ ((anchor.0.col ≤ first.col + j) × (first.row + i ≡ anchor.0.row → first.col + j ≡ anchor.0.col → ⊥))
 
 -- one row more
-pub each_more : (old xs ys : List ℕ) (first : Position) (anchor : Anchor) (i left right step rows columns : ℕ) → EachTo old xs first anchor i step rows columns → Steps xs ys (in_run i (left, right)) step rows columns → anchor.0.row ≤ first.row + i → first.row + i < anchor.0.row + anchor.1.0 → Begins first anchor i left columns → ((j : ℕ) → j < columns → (j < right) ↔ (first.col + j < anchor.0.col + anchor.1.1)) → EachTo old ys first anchor (i + 1) step rows columns
+pub each_more : (old xs ys : List ℕ) (first : Position) (anchor : Rectangle) (i left right step rows columns : ℕ) → EachTo old xs first anchor i step rows columns → Steps xs ys (in_run i (left, right)) step rows columns → anchor.0.row ≤ first.row + i → first.row + i < anchor.0.row + anchor.1.height → Begins first anchor i left columns → ((j : ℕ) → j < columns → (j < right) ↔ (first.col + j < anchor.0.col + anchor.1.width)) → EachTo old ys first anchor (i + 1) step rows columns
 each_more old xs ys first anchor i left right step rows columns so run low high begins end = record {
   steps = steps_joined old xs ys (λ p. hides (beyond first p) anchor && nat_lt p.row i) (in_run i (left, right)) (λ p. hides (beyond first p) anchor && nat_lt p.row (i + 1)) step rows columns
       (λ r c h k. both_ways _ _ (to r c k) (λ t. from r c k (or_cases _ _ t)))
@@ -132,15 +132,15 @@ each_more old xs ys first anchor i left right step rows columns so run low high 
         })) (lt-ltb _ _ (omega (arith, at.row)))
 
 -- all rows of the block that the rectangle has
-pub each_done : (old xs : List ℕ) (first : Position) (anchor : Anchor) (i step rows columns : ℕ) → EachTo old xs first anchor i step rows columns → ((r : ℕ) → r < rows → first.row + r < anchor.0.row + anchor.1.0 → r < i) → Steps old xs (λ p. hides (beyond first p) anchor) step rows columns
+pub each_done : (old xs : List ℕ) (first : Position) (anchor : Rectangle) (i step rows columns : ℕ) → EachTo old xs first anchor i step rows columns → ((r : ℕ) → r < rows → first.row + r < anchor.0.row + anchor.1.height → r < i) → Steps old xs (λ p. hides (beyond first p) anchor) step rows columns
 each_done old xs first anchor i step rows columns so past = steps_same old xs _ _ step rows columns (λ r c h k. both_ways _ _ (λ t. (and_parts _ _ t).0) (λ t. and_from _ _ t (lt-ltb _ _ (past r h (hides-true anchor (beyond first (place r c)) t).holds.bottom)))) so.steps
 
-pub begins_after : (first : Position) (anchor : Anchor) (i left columns : ℕ) → first.col + columns < 2 ^ 64 → first.row + i ≡ anchor.0.row → left ≡ min (anchor.0.col + 1) 18446744073709551615 - first.col → Begins first anchor i left columns
+pub begins_after : (first : Position) (anchor : Rectangle) (i left columns : ℕ) → first.col + columns < 2 ^ 64 → first.row + i ≡ anchor.0.row → left ≡ min (anchor.0.col + 1) 18446744073709551615 - first.col → Begins first anchor i left columns
 begins_after first anchor i left columns fits row is = λ j h. (λ l. (omega arith, λ e f. omega arith), λ b. by (cases_eq (first.col + j) anchor.0.col) b h)
   where
     by : {j : ℕ} → (first.col + j ≡ anchor.0.col) ⊎ (first.col + j ≡ anchor.0.col → ⊥) → (anchor.0.col ≤ first.col + j) × (first.row + i ≡ anchor.0.row → first.col + j ≡ anchor.0.col → ⊥) → j < columns → left ≤ j
     by (inl e) b h = absurd (b.1 row e)
     by (inr n) b h = omega (arith, b.0, n)
 
-pub begins_at : (first : Position) (anchor : Anchor) (i left columns : ℕ) → (first.row + i ≡ anchor.0.row → ⊥) → left ≡ anchor.0.col - first.col → Begins first anchor i left columns
+pub begins_at : (first : Position) (anchor : Rectangle) (i left columns : ℕ) → (first.row + i ≡ anchor.0.row → ⊥) → left ≡ anchor.0.col - first.col → Begins first anchor i left columns
 begins_at first anchor i left columns apart is = λ j h. (λ l. (omega arith, λ e f. apart e), λ b. omega (arith, b.0))

@@ -4,6 +4,8 @@ use Rattle.tabled_grid.specs.Entity.{place}
 use Rattle.tabled_grid.specs.declared.config.position.Position.{Position}
 use Rattle.tabled_grid.specs.declared.records.axis.Axis.{Axis}
 use Rattle.tabled_grid.specs.declared.records.axis.Axis.TheVariants.{Rows, Columns}
+use Rattle.tabled_grid.specs.Spans.{sized}
+use Rattle.tabled_grid.specs.declared.config.size.Size.{Size}
 
 -- columns for rows, rows for columns
 abbrev pub across : Axis → Axis
@@ -35,11 +37,11 @@ abbrev pub next_line : Axis → Position → Position
 next_line axis p = in_line axis p (line_of axis p + 1)
 
 -- how many lines a size takes
-abbrev pub lines_in : Axis → ℕ × ℕ → ℕ
-lines_in Rows size = size.0
-lines_in Columns size = size.1
+abbrev pub lines_in : Axis → Size → ℕ
+lines_in Rows size = size.height
+lines_in Columns size = size.width
 
 -- the size with n lines
-abbrev pub resized : Axis → ℕ × ℕ → ℕ → ℕ × ℕ
-resized Rows size many = (many, size.1)
-resized Columns size many = (size.0, many)
+abbrev pub resized : Axis → Size → ℕ → Size
+resized Rows size many = sized many size.width
+resized Columns size many = sized size.height many

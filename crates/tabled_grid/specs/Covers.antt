@@ -2,18 +2,17 @@
 use Rattle.std.specs.Prelude.{◌≡◌, ◌+◌, ◌*◌, ◌<◌, ◌%◌, ◌^◌, ◌==◌, ℕ, ◌&&◌, Bool, true, false, List, map, nat_le, nat_lt, not}
 use Rattle.std.specs.FinMap.{entries}
 use Rattle.std.specs.List.{count_by}
-use Rattle.tabled_grid.specs.Anchors.{Anchor}
 use Rattle.tabled_grid.specs.Entity.{block, place, same_place}
-use Rattle.tabled_grid.specs.Rectangles.{in_rect}
-use Rattle.tabled_grid.specs.Spans.{SpanMap}
+use Rattle.tabled_grid.specs.Rectangles.{holds}
+use Rattle.tabled_grid.specs.Spans.{Rectangle, SpanMap}
 use Rattle.tabled_grid.specs.declared.config.position.Position.{Position}
 
 -- the rectangle of an anchor at another place holds the place
-abbrev pub hides : Position → Anchor → Bool
-hides p e = in_rect e.0 e.1 p && not (same_place e.0 p)
+abbrev pub hides : Position → Rectangle → Bool
+hides p e = holds e p && not (same_place e.0 p)
 
 -- how many anchors of a list hide the place
-abbrev pub hiders_in : List Anchor → Position → ℕ
+abbrev pub hiders_in : List Rectangle → Position → ℕ
 hiders_in es p = count_by (hides p) es
 
 -- how many anchors hide the place

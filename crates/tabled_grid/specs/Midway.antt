@@ -1,35 +1,36 @@
 -- What holds of rectangles while a span option sets one after another: they may meet, and lie inside.
 use Rattle.std.specs.Prelude.{◌≡◌, ◌+◌, ◌<◌, ◌≤◌, ◌⊎◌, ℕ}
-use Rattle.tabled_grid.specs.Spans.{AreSpanSizes, SpanMap, size_at}
+use Rattle.tabled_grid.specs.Spans.{AreSpanSizes, Rectangle, SpanMap, size_at}
 use Rattle.tabled_grid.specs.declared.config.position.Position.{Position}
+use Rattle.tabled_grid.specs.declared.config.size.Size.{Size}
 
--- the height and the width of the rectangle at each place, both 1 where nothing is merged
+-- the size of the rectangle at each place, that of one cell where nothing is merged
 abbrev pub Sizes : Type 0
-Sizes = Position → ℕ × ℕ
+Sizes = Position → Size
 
--- the rectangle of a size at a place holds a place
-pub record In (a : Position) (size : ℕ × ℕ) (p : Position) : Type 0 where
-  pub top : a.row ≤ p.row
-  pub bottom : p.row < a.row + size.0
-  pub left : a.col ≤ p.col
-  pub right : p.col < a.col + size.1
+-- the place is in the rectangle
+pub record In (e : Rectangle) (p : Position) : Type 0 where
+  pub top : e.0.row ≤ p.row
+  pub bottom : p.row < e.0.row + e.1.height
+  pub left : e.0.col ≤ p.col
+  pub right : p.col < e.0.col + e.1.width
 
 -- of two rectangles that share a cell, one has its first cell in the other
 pub record Hooked (s : Sizes) : Type 0 where
-  pub hook : (a b p : Position) → In a (s a) p → In b (s b) p → In a (s a) b ⊎ In b (s b) a
+  pub hook : (a b p : Position) → In (a, s a) p → In (b, s b) p → In (a, s a) b ⊎ In (b, s b) a
 
 -- each rectangle of more than one cell lies inside a table
 pub record Within (s : Sizes) (rows columns : ℕ) : Type 0 where
-  pub tall : (a : Position) → (1 < (s a).0) ⊎ (1 < (s a).1) → a.row + (s a).0 ≤ rows
-  pub wide : (a : Position) → (1 < (s a).0) ⊎ (1 < (s a).1) → a.col + (s a).1 ≤ columns
+  pub tall : (a : Position) → (1 < (s a).height) ⊎ (1 < (s a).width) → a.row + (s a).height ≤ rows
+  pub wide : (a : Position) → (1 < (s a).height) ⊎ (1 < (s a).width) → a.col + (s a).width ≤ columns
 
 -- all heights are 1
 pub record Flat (s : Sizes) : Type 0 where
-  pub height : (a : Position) → (s a).0 ≡ 1
+  pub height : (a : Position) → (s a).height ≡ 1
 
 -- all widths are 1
 pub record Narrow (s : Sizes) : Type 0 where
-  pub width : (a : Position) → (s a).1 ≡ 1
+  pub width : (a : Position) → (s a).width ≡ 1
 
 -- all rectangles lie inside a table, and of two that share a cell, one has its first cell in the other
 pub record Midway (m : SpanMap) (rows columns : ℕ) : Type 0 where

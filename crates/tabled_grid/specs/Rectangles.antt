@@ -3,16 +3,17 @@ use Rattle.std.specs.Prelude.{◌≡◌, ◌+◌, ◌≤◌, ◌&&◌, ◌==◌,
 use Rattle.std.specs.FinMap as map
 use Rattle.std.specs.List.{list_any}
 use Rattle.tabled_grid.specs.Entity.{same_place}
-use Rattle.tabled_grid.specs.Spans.{AreSpanSizes, SpanMap}
+use Rattle.tabled_grid.specs.Spans.{AreSpanSizes, Rectangle, SpanMap}
 use Rattle.tabled_grid.specs.declared.config.position.Position.{Position}
+use Rattle.tabled_grid.specs.declared.config.size.Size.{Size}
 
--- a place is in the rectangle of a size at a place
-abbrev pub in_rect : Position → ℕ × ℕ → Position → Bool
-in_rect a size p = (nat_le a.row p.row && nat_lt p.row (a.row + size.0)) && (nat_le a.col p.col && nat_lt p.col (a.col + size.1))
+-- the rectangle holds the place
+abbrev pub holds : Rectangle → Position → Bool
+holds e p = (nat_le e.0.row p.row && nat_lt p.row (e.0.row + e.1.height)) && (nat_le e.0.col p.col && nat_lt p.col (e.0.col + e.1.width))
 
 -- another anchor's rectangle holds the place
 abbrev pub is_hidden : SpanMap → Position → Bool
-is_hidden m p = list_any (λ (e : Position × (ℕ × ℕ)). in_rect e.0 e.1 p && not (same_place e.0 p)) (map.entries m)
+is_hidden m p = list_any (λ (e : Rectangle). holds e p && not (same_place e.0 p)) (map.entries m)
 
 -- no other anchor's rectangle holds the place
 abbrev pub is_visible : SpanMap → Position → Bool
@@ -25,32 +26,32 @@ drop_hidden m = map.retain_keys m (is_visible m)
 -- all rectangles, each of more than one cell, lie inside a table, and those that share a cell are one
 pub record Fits (m : SpanMap) (rows columns : ℕ) : Type 0 where
   pub sizes : AreSpanSizes m
-  pub inside : (a : Position) (size : ℕ × ℕ) → map.get m a ≡ Some size → (a.row + size.0 ≤ rows) × (a.col + size.1 ≤ columns)
-  pub apart : (a b : Position) (s t : ℕ × ℕ) (p : Position) → map.get m a ≡ Some s → map.get m b ≡ Some t → IsTrue (in_rect a s p) → IsTrue (in_rect b t p) → a ≡ b
+  pub inside : (a : Position) (size : Size) → map.get m a ≡ Some size → (a.row + size.height ≤ rows) × (a.col + size.width ≤ columns)
+  pub apart : (a b : Position) (s t : Size) (p : Position) → map.get m a ≡ Some s → map.get m b ≡ Some t → IsTrue (holds (a, s) p) → IsTrue (holds (b, t) p) → a ≡ b
 
 -- an anchor in the place's row, left of it, has a width that reaches it
-abbrev pub reaches_across : Position × (ℕ × ℕ) → Position → Bool
-reaches_across e p = (e.0.row == p.row) && (nat_lt e.0.col p.col && nat_lt p.col (e.0.col + e.1.1))
+abbrev pub reaches_across : Rectangle → Position → Bool
+reaches_across e p = (e.0.row == p.row) && (nat_lt e.0.col p.col && nat_lt p.col (e.0.col + e.1.width))
 
 -- an anchor in the place's column, above it, has a height that reaches it
-abbrev pub reaches_down : Position × (ℕ × ℕ) → Position → Bool
-reaches_down e p = (e.0.col == p.col) && (nat_lt e.0.row p.row && nat_lt p.row (e.0.row + e.1.0))
+abbrev pub reaches_down : Rectangle → Position → Bool
+reaches_down e p = (e.0.col == p.col) && (nat_lt e.0.row p.row && nat_lt p.row (e.0.row + e.1.height))
 
 -- a rectangle from the left reaches the place across
 abbrev pub is_covered_across : SpanMap → Position → Bool
-is_covered_across m p = list_any (λ (e : Position × (ℕ × ℕ)). reaches_across e p) (map.entries m)
+is_covered_across m p = list_any (λ (e : Rectangle). reaches_across e p) (map.entries m)
 
 -- a rectangle from above reaches the place down
 abbrev pub is_covered_down : SpanMap → Position → Bool
-is_covered_down m p = list_any (λ (e : Position × (ℕ × ℕ)). reaches_down e p) (map.entries m)
+is_covered_down m p = list_any (λ (e : Rectangle). reaches_down e p) (map.entries m)
 
 -- the anchors of a list whose rectangles are wider than one column, and their widths
-abbrev pub widths_in : List (Position × (ℕ × ℕ)) → List (Position × ℕ)
-widths_in es = filter_map (λ (e : Position × (ℕ × ℕ)). if nat_lt 1 e.1.1 then Some (e.0, e.1.1) else None) es
+abbrev pub widths_in : List Rectangle → List (Position × ℕ)
+widths_in es = filter_map (λ (e : Rectangle). if nat_lt 1 e.1.width then Some (e.0, e.1.width) else None) es
 
 -- the anchors of a list whose rectangles are higher than one row, and their heights
-abbrev pub heights_in : List (Position × (ℕ × ℕ)) → List (Position × ℕ)
-heights_in es = filter_map (λ (e : Position × (ℕ × ℕ)). if nat_lt 1 e.1.0 then Some (e.0, e.1.0) else None) es
+abbrev pub heights_in : List Rectangle → List (Position × ℕ)
+heights_in es = filter_map (λ (e : Rectangle). if nat_lt 1 e.1.height then Some (e.0, e.1.height) else None) es
 
 -- the anchors whose rectangles are wider than one column, and their widths, row by row
 abbrev pub column_spans : SpanMap → List (Position × ℕ)

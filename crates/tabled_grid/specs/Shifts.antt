@@ -3,9 +3,8 @@ use Rattle.std.specs.Prelude.{◌+◌, ◌^◌, ◌&&◌, if◌then◌else◌, �
 use Rattle.std.specs.FinMap as map
 use Rattle.std.specs.List.{list_any}
 use Rattle.std.specs.Option.{option_map}
-use Rattle.tabled_grid.specs.Anchors.{Anchor}
 use Rattle.tabled_grid.specs.Axis.{line_of, lines_in, next_line}
-use Rattle.tabled_grid.specs.Spans.{SpanMap}
+use Rattle.tabled_grid.specs.Spans.{Rectangle, SpanMap}
 use Rattle.tabled_grid.specs.declared.config.position.Position.{Position}
 use Rattle.tabled_grid.specs.declared.records.axis.Axis.{Axis}
 
@@ -14,11 +13,11 @@ abbrev pub shifted_place : Axis → ℕ → Position → Option Position
 shifted_place axis from p = if nat_lt (line_of axis p) from then Some p else (if nat_lt (line_of axis p + 1) (2 ^ 64) then Some (next_line axis p) else None)
 
 -- an anchor there, with the size that it had
-abbrev pub shifted_anchor : Axis → ℕ → Anchor → Option Anchor
+abbrev pub shifted_anchor : Axis → ℕ → Rectangle → Option Rectangle
 shifted_anchor axis from e = option_map (λ (p : Position). (p, e.1)) (shifted_place axis from e.0)
 
 -- the anchors of a list where they are once a line is put in
-abbrev pub shifted_in : Axis → ℕ → List Anchor → List Anchor
+abbrev pub shifted_in : Axis → ℕ → List Rectangle → List Rectangle
 shifted_in axis from es = filter_map (shifted_anchor axis from) es
 
 -- the map once a line is put in before line `from`: all its anchors from there on go one further, at once
@@ -26,7 +25,7 @@ abbrev pub shifted : Axis → ℕ → SpanMap → SpanMap
 shifted axis from m = map.from_sorted (shifted_in axis from (map.entries m))
 
 -- the rectangle of an anchor begins before a line and holds a cell of it
-abbrev pub crosses_line : Axis → ℕ → Anchor → Bool
+abbrev pub crosses_line : Axis → ℕ → Rectangle → Bool
 crosses_line axis line e = nat_lt (line_of axis e.0) line && nat_lt line (line_of axis e.0 + lines_in axis e.1)
 
 -- one of the rectangles does

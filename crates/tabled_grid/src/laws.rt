@@ -16,6 +16,7 @@ ghost use Rattle.tabled_grid.specs.declared.config.offset.Offset.TheVariants.{En
 ghost use Rattle.tabled_grid.specs.declared.records.axis.Axis.{Axis};
 ghost use Rattle.tabled_grid.specs.declared.records.axis.Axis.TheVariants.{Columns, Rows};
 ghost use Rattle.tabled_grid.specs.Resized.{with_cells_swapped, with_columns_swapped, with_rows_swapped};
+ghost use Rattle.tabled_grid.specs.declared.config.size.Size.{Size};
 
 use crate::config::{Entity, Offset, Position};
 use crate::records::GridStore;
@@ -78,7 +79,7 @@ pub fn flat_spans_fit_once_hidden_anchors_go()
 
 /// A rectangle over cells that no other has keeps merged cells inside and apart.
 pub fn a_rectangle_over_free_cells_fits()
-    ensures { (m : SpanMap) (p : Position) (size : ℕ × ℕ) (rows columns : ℕ) → IsSpanSize size → p.row + size.0 ≤ rows → p.col + size.1 ≤ columns → ((a q : Position) (s : ℕ × ℕ) → map.get m a ≡ Some s → In a s q → In p size q → a ≡ p) → Fits m rows columns → Fits (with_size m p size) rows columns }
+    ensures { (m : SpanMap) (p : Position) (size : Size) (rows columns : ℕ) → IsSpanSize size → p.row + size.height ≤ rows → p.col + size.width ≤ columns → ((a q : Position) (s : Size) → map.get m a ≡ Some s → In (a, s) q → In (p, size) q → a ≡ p) → Fits m rows columns → Fits (with_size m p size) rows columns }
 {}
 
 /// Rectangles that don't cross a line which is put in fit the table with one line more, and leave that
@@ -86,5 +87,5 @@ pub fn a_rectangle_over_free_cells_fits()
 pub fn shifted_rectangles_fit()
     ensures rows { (m : SpanMap) (line rows columns : ℕ) → is_crossed Rows line m ≡ false → Fits m rows columns → Fits (shifted Rows line m) (rows + 1) columns }
     ensures columns { (m : SpanMap) (line rows columns : ℕ) → is_crossed Columns line m ≡ false → Fits m rows columns → Fits (shifted Columns line m) rows (columns + 1) }
-    ensures free { (axis : Axis) (m : SpanMap) (line : ℕ) (a q : Position) (size : ℕ × ℕ) → is_crossed axis line m ≡ false → map.get (shifted axis line m) a ≡ Some size → In a size q → line_of axis q ≡ line → ⊥ }
+    ensures free { (axis : Axis) (m : SpanMap) (line : ℕ) (a q : Position) (size : Size) → is_crossed axis line m ≡ false → map.get (shifted axis line m) a ≡ Some size → In (a, size) q → line_of axis q ≡ line → ⊥ }
 {}

@@ -5,17 +5,17 @@ use Rattle.std.specs.FinMap.{entries, get}
 use Rattle.std.specs.List.{list_any}
 use Rattle.std.proofs.lemmas.Bool.{cases_Bool, false_from_ne_true}
 use borrow.Author.Tests.{eqb-true, ltb-true}
-use Rattle.tabled_grid.specs.Anchors.{Anchor}
 use Rattle.tabled_grid.specs.Axis.{line_of}
 use Rattle.tabled_grid.specs.Rectangles.{Fits}
 use Rattle.tabled_grid.specs.Shifts.{crosses_line, is_crossed, shifted}
-use Rattle.tabled_grid.specs.Spans.{SpanMap}
+use Rattle.tabled_grid.specs.Spans.{Rectangle, SpanMap}
 use Rattle.tabled_grid.specs.declared.config.position.Position.{Position}
 use Rattle.tabled_grid.specs.declared.records.axis.Axis.{Axis}
 use Rattle.tabled_grid.specs.declared.records.axis.Axis.TheVariants.{Columns}
+use Rattle.tabled_grid.specs.declared.config.size.Size.{Size}
 use Rattle.tabled_grid.proofs.ShiftedFits.{fits_beside}
 
-none_cross : (axis : Axis) (es : List Anchor) → list_any (crosses_line axis 0) es ≡ false
+none_cross : (axis : Axis) (es : List Rectangle) → list_any (crosses_line axis 0) es ≡ false
 none_cross axis [] = refl
 none_cross axis (e ∷ es) =
     let before : nat_lt (line_of axis e.0) 0 ≡ false = false_from_ne_true _ (λ t. omega (arith, ltb-true _ _ t)) in
@@ -32,7 +32,7 @@ fits_beside_rows m j rows columns free fits = either (cases_Bool (nat_eq rows 0)
     wider : Fits (shifted Columns j m) rows (columns + 1)
     wider = fits_beside m j rows columns free fits
 
-    inside : rows ≡ 0 → (a : Position) (size : ℕ × ℕ) → get (shifted Columns j m) a ≡ Some size → (a.row + size.0 ≤ rows) × (a.col + size.1 ≤ columns)
+    inside : rows ≡ 0 → (a : Position) (size : Size) → get (shifted Columns j m) a ≡ Some size → (a.row + size.height ≤ rows) × (a.col + size.width ≤ columns)
     inside none a size has = absurd (omega (arith, none, (wider.sizes.each a size has).height, (wider.inside a size has).0))
 
     either : (nat_eq rows 0 ≡ true) ⊎ (nat_eq rows 0 ≡ false) → Fits (shifted Columns j m) rows (cond (nat_eq rows 0) columns (columns + 1))

@@ -2,25 +2,25 @@
 use Rattle.std.specs.Prelude.{◌≡◌, ◌<◌, ◌≤◌, ℕ, ◌+◌, ◌-◌, ◌&&◌, if◌then◌else◌, Bool, false, List, Option, None, Some, map, not}
 use Rattle.std.specs.FinMap as finite
 use Rattle.std.specs.List.{filter, flat_map, list_all, list_any}
-use Rattle.tabled_grid.specs.Anchors.{Anchor}
 use Rattle.tabled_grid.specs.Entity.{block, same_place}
 use Rattle.tabled_grid.specs.Fitting.{keep_fitting}
 use Rattle.tabled_grid.specs.Midway.{In}
 use Rattle.tabled_grid.specs.Places.{Places}
-use Rattle.tabled_grid.specs.Rectangles.{in_rect}
-use Rattle.tabled_grid.specs.Spans.{SpanMap}
+use Rattle.tabled_grid.specs.Rectangles.{holds}
+use Rattle.tabled_grid.specs.Spans.{Rectangle, SpanMap, sized}
 use Rattle.tabled_grid.specs.declared.config.position.Position.{Position}
+use Rattle.tabled_grid.specs.declared.config.size.Size.{Size}
 
 -- a rectangle of a map lies inside a table, and shares no cell with another one
-pub record IsFree (m : SpanMap) (rows columns : ℕ) (a : Position) (s : ℕ × ℕ) : Type 0 where
+pub record IsFree (m : SpanMap) (rows columns : ℕ) (a : Position) (s : Size) : Type 0 where
   pub here : finite.get m a ≡ Some s
-  pub bottom : a.row + s.0 ≤ rows
-  pub right : a.col + s.1 ≤ columns
-  pub alone : (b : Position) (t : ℕ × ℕ) (p : Position) → finite.get m b ≡ Some t → In a s p → In b t p → a ≡ b
+  pub bottom : a.row + s.height ≤ rows
+  pub right : a.col + s.width ≤ columns
+  pub alone : (b : Position) (t : Size) (p : Position) → finite.get m b ≡ Some t → In (a, s) p → In (b, t) p → a ≡ b
 
 -- the cells of a rectangle, row by row
-abbrev pub cells_of : Anchor → List Position
-cells_of e = block e.0.row (e.0.row + e.1.0) e.0.col (e.0.col + e.1.1)
+abbrev pub cells_of : Rectangle → List Position
+cells_of e = block e.0.row (e.0.row + e.1.height) e.0.col (e.0.col + e.1.width)
 
 -- an old place that passes a test
 abbrev pub passes : (Position → Bool) → Option Position → Bool
@@ -32,18 +32,18 @@ abbrev pub alike : Bool → Bool → Bool
 alike a b = if a then b else not b
 
 -- the new places of all cells of one rectangle are the cells of another one
-abbrev pub carries : Places → Anchor → Anchor → Bool
+abbrev pub carries : Places → Rectangle → Rectangle → Bool
 carries places e f =
-    list_all (λ (p : Position). alike (passes (in_rect e.0 e.1) (places.old_place p)) (in_rect f.0 f.1 p)) (block 0 places.rows 0 places.columns)
+    list_all (λ (p : Position). alike (passes (holds e) (places.old_place p)) (holds f p)) (block 0 places.rows 0 places.columns)
     && list_all (λ (q : Position). list_any (λ (p : Position). passes (same_place q) (places.old_place p)) (cells_of f)) (cells_of e)
 
 -- the rectangles inside a table
-abbrev pub rectangles : ℕ → ℕ → List Anchor
-rectangles rows columns = flat_map (λ (p : Position). map (λ (last : Position). (p, (last.row + 1, last.col + 1))) (block 0 (rows - p.row) 0 (columns - p.col))) (block 0 rows 0 columns)
+abbrev pub rectangles : ℕ → ℕ → List Rectangle
+rectangles rows columns = flat_map (λ (p : Position). map (λ (last : Position). (p, sized (last.row + 1) (last.col + 1))) (block 0 (rows - p.row) 0 (columns - p.col))) (block 0 rows 0 columns)
 
 -- the rectangles of a new table that carry one of the old ones
-abbrev pub images : Places → List Anchor → List Anchor
-images places es = filter (λ (f : Anchor). list_any (λ (e : Anchor). carries places e f) es) (rectangles places.rows places.columns)
+abbrev pub images : Places → List Rectangle → List Rectangle
+images places es = filter (λ (f : Rectangle). list_any (λ (e : Rectangle). carries places e f) es) (rectangles places.rows places.columns)
 
 -- the map of these
 abbrev pub image : Places → SpanMap → SpanMap
@@ -60,20 +60,20 @@ pub record Takes (places : Places) (p q : Position) : Type 0 where
   pub from : places.old_place p ≡ Some q
 
 -- all cells of a rectangle have new places, and these are the cells of another one
-pub record Carries (places : Places) (e f : Anchor) : Type 0 where
-  pub all : (q : Position) → In e.0 e.1 q → (p : Position) × Takes places p q
-  pub only : (p q : Position) → Takes places p q → In e.0 e.1 q → In f.0 f.1 p
-  pub from : (p : Position) → In f.0 f.1 p → (q : Position) × In e.0 e.1 q × Takes places p q
+pub record Carries (places : Places) (e f : Rectangle) : Type 0 where
+  pub all : (q : Position) → In e q → (p : Position) × Takes places p q
+  pub only : (p q : Position) → Takes places p q → In e q → In f p
+  pub from : (p : Position) → In f p → (q : Position) × In e q × Takes places p q
 
 -- a rectangle is not empty
-pub record IsFull (f : Anchor) : Type 0 where
-  pub height : 1 ≤ f.1.0
-  pub width : 1 ≤ f.1.1
+pub record IsFull (f : Rectangle) : Type 0 where
+  pub height : 1 ≤ f.1.height
+  pub width : 1 ≤ f.1.width
 
 -- the new map has just the rectangles that carry one of the old map
 pub record IsImage (places : Places) (old new : SpanMap) : Type 0 where
-  pub comes : (b : Position) (t : ℕ × ℕ) → finite.get new b ≡ Some t → (a : Position) × (s : ℕ × ℕ) × (finite.get old a ≡ Some s) × Carries places (a, s) (b, t) × IsFull (b, t)
-  pub goes : (a b : Position) (s t : ℕ × ℕ) → finite.get old a ≡ Some s → Carries places (a, s) (b, t) → IsFull (b, t) → finite.get new b ≡ Some t
+  pub comes : (b : Position) (t : Size) → finite.get new b ≡ Some t → (a : Position) × (s : Size) × (finite.get old a ≡ Some s) × Carries places (a, s) (b, t) × IsFull (b, t)
+  pub goes : (a b : Position) (s t : Size) → finite.get old a ≡ Some s → Carries places (a, s) (b, t) → IsFull (b, t) → finite.get new b ≡ Some t
 
 -- what goes from a place comes back to it
 pub record LeadsBack (there back : Places) : Type 0 where
@@ -82,7 +82,7 @@ pub record LeadsBack (there back : Places) : Type 0 where
 
 -- each rectangle of a map is carried to one
 pub record CarriesAll (places : Places) (m : SpanMap) : Type 0 where
-  pub each : (a : Position) (s : ℕ × ℕ) → finite.get m a ≡ Some s → (f : Anchor) × Carries places (a, s) f × IsFull f
+  pub each : (a : Position) (s : Size) → finite.get m a ≡ Some s → (f : Rectangle) × Carries places (a, s) f × IsFull f
 
 -- the cells of a table of r rows and c columns keep their places, and no other cell comes to one
 pub record KeepsPlaces (places : Places) (rows columns : ℕ) : Type 0 where

@@ -8,11 +8,11 @@ ghost use Rattle.tabled_grid.specs.Rectangles.{Fits};
 ghost use Rattle.tabled_grid.specs.Spans.{AreAnchors, AreSpanSizes};
 ghost use Rattle.tabled_images.specs.Images.{carried, image};
 
-use crate::images::{MovesRectangles, Rectangle};
+use crate::images::MovesRectangles;
 use crate::sort::sort;
 use std::alloc::{AllocError, Global};
 use std::mem;
-use tabled_grid::config::SpannedConfig;
+use tabled_grid::config::{Rectangle, SpannedConfig};
 
 /// What becomes of the merged cells of a table (`rows x columns`) whose cells keep their places: those that do
 /// not fit go. None where all fit, and the map stays as it is.

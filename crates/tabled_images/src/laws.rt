@@ -11,12 +11,13 @@ ghost use Rattle.tabled_grid.specs.Spans.{AreSpanSizes, SpanMap};
 ghost use Rattle.tabled_grid.specs.declared.config.position.Position.{Position};
 ghost use Rattle.tabled_grid.specs.declared.records.axis.Axis.{Axis};
 ghost use Rattle.tabled_grid.specs.declared.records.axis.Axis.TheVariants.{Columns, Rows};
+ghost use Rattle.tabled_grid.specs.declared.config.size.Size.{Size};
 ghost use Rattle.tabled_images.specs.Images.{CarriesAll, IsFree, IsImage, KeepsPlaces, LeadsBack, carried};
 ghost use Rattle.tabled_images.specs.PutIn.{FitsGrid, PutsInColumn, PutsInRow};
 
 /// Those rectangles fit a table that lie inside it and share no cell with another one.
 pub fn fitting_rectangles_are_the_free_ones()
-    ensures { (m : SpanMap) (rows columns : ℕ) (a : Position) (s : ℕ × ℕ) → AreSpanSizes m → (map.get (keep_fitting rows columns m) a ≡ Some s) ↔ IsFree m rows columns a s }
+    ensures { (m : SpanMap) (rows columns : ℕ) (a : Position) (s : Size) → AreSpanSizes m → (map.get (keep_fitting rows columns m) a ≡ Some s) ↔ IsFree m rows columns a s }
 {}
 
 /// The rectangles that are carried along are just those whose cells are the new places of the cells of one

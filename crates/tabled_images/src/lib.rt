@@ -7,4 +7,4 @@ pub mod laws;
 mod sort;
 
 pub use carry::{carry_along, kept_in_place};
-pub use images::{Moves, MovesRectangles, Rectangle, image_of};
+pub use images::{Moves, MovesRectangles, image_of};

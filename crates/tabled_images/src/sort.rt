@@ -2,10 +2,9 @@
 
 ghost use Rattle.std.specs.Prelude.{◌≡◌, length};
 ghost use Rattle.std.specs.List.Sorted.{IsPermutation, IsSortedByKey};
-ghost use Rattle.tabled_grid.specs.Anchors.{Anchor};
-ghost use Rattle.tabled_grid.specs.Spans.{position_cmp};
+ghost use Rattle.tabled_grid.specs.Spans.{Rectangle, position_cmp};
 
-use crate::images::Rectangle;
+use tabled_grid::config::Rectangle;
 
 /// Puts rectangles in order.
 ///
@@ -14,7 +13,7 @@ use crate::images::Rectangle;
 pub(crate) fn sort(rectangles: &mut [Rectangle])
     ensures permutation { IsPermutation rectangles.old rectangles.new }
     ensures len { length rectangles.new ≡ length rectangles.old }
-    ensures sorted { IsSortedByKey (λ (f : Anchor). f.0) position_cmp rectangles.new }
+    ensures sorted { IsSortedByKey (λ (f : Rectangle). f.0) position_cmp rectangles.new }
 {
     turn_over(rectangles);
     turn_rows_over(rectangles);

@@ -5,8 +5,7 @@ use Rattle.std.specs.List.{AllByRecursion}
 use Rattle.std.specs.Str.{IsUtf8, chars, is_utf8}
 use Rattle.std.proofs.lemmas.Bool.{and_left, and_right}
 use Rattle.std.proofs.lemmas.Str.{IsUtf8-from_is_utf8}
-use Rattle.tabled_grid.specs.Anchors.{Anchor}
-use Rattle.tabled_grid.specs.Spans.{IsSpanSize}
+use Rattle.tabled_grid.specs.Spans.{IsSpanSize, Rectangle, sized}
 use Rattle.tabled_language.specs.Line.{line_of, meaning_of, texts_of, words_of}
 use Rattle.tabled_grid.specs.Entity.{place}
 use Rattle.tabled_language.specs.declared.fault.Fault.TheVariants.{NumberRange}
@@ -54,15 +53,15 @@ shape_back rows columns r c =
     ∙ ap ShapeLine read
 
 -- the words of an anchor
-abbrev pub span_words : Anchor → List (List ℕ)
-span_words e = decimal e.0.row ∷ decimal e.0.col ∷ decimal e.1.0 ∷ decimal e.1.1 ∷ []
+abbrev pub span_words : Rectangle → List (List ℕ)
+span_words e = decimal e.0.row ∷ decimal e.0.col ∷ decimal e.1.height ∷ decimal e.1.width ∷ []
 
 -- each number of an anchor is one that may be
-pub record IsSmall (e : Anchor) : Type 0 where
+pub record IsSmall (e : Rectangle) : Type 0 where
   pub row : e.0.row < 2 ^ 64
   pub col : e.0.col < 2 ^ 64
-  pub height : e.1.0 < 2 ^ 64
-  pub width : e.1.1 < 2 ^ 64
+  pub height : e.1.height < 2 ^ 64
+  pub width : e.1.width < 2 ^ 64
 
 pub not_one : (h w : ℕ) → (1 < h) ⊎ (1 < w) → (eqb h 1 && eqb w 1) ≡ false
 not_one h w (inl more) = and_left (eqb h 1) (eqb w 1) (ne_eqb h 1 (λ one. omega (arith, more, one)))
@@ -88,28 +87,28 @@ width_read height n texts small some merges =
     reads-next reads_extent (λ (m : ℕ). cond (eqb height 1 && eqb m 1) (fails NumberRange) (gives m)) (decimal n ∷ texts) texts n (extent_read n texts small some) ∙ rw (not_one height n merges) refl
 
 -- what is read after the row, the column and the height of an anchor
-abbrev behind_height : ℕ → ℕ → ℕ → Reading Anchor
-behind_height row column height = then_reads (reads_width height) (λ width. gives (place row column, (height, width)))
+abbrev behind_height : ℕ → ℕ → ℕ → Reading Rectangle
+behind_height row column height = then_reads (reads_width height) (λ width. gives (place row column, sized height width))
 
-abbrev behind_column : ℕ → ℕ → Reading Anchor
+abbrev behind_column : ℕ → ℕ → Reading Rectangle
 behind_column row column = then_reads reads_extent (λ height. behind_height row column height)
 
-abbrev behind_row : ℕ → Reading Anchor
+abbrev behind_row : ℕ → Reading Rectangle
 behind_row row = then_reads reads_size (λ column. behind_column row column)
 
-anchor_back : (e : Anchor) → IsSmall e → IsSpanSize e.1 → whole reads_anchor (span_words e) ≡ Ok e
+anchor_back : (e : Rectangle) → IsSmall e → IsSpanSize e.1 → whole reads_anchor (span_words e) ≡ Ok e
 anchor_back e small size =
-    let sizes = decimal e.1.0 ∷ decimal e.1.1 ∷ [] in
+    let sizes = decimal e.1.height ∷ decimal e.1.width ∷ [] in
     whole-read reads_anchor (span_words e) e
     (reads-next reads_size behind_row (span_words e) (decimal e.0.col ∷ sizes) e.0.row (size_read e.0.row (decimal e.0.col ∷ sizes) small.row)
     ∙ reads-next reads_size (λ column. behind_column e.0.row column) (decimal e.0.col ∷ sizes) sizes e.0.col (size_read e.0.col sizes small.col)
-    ∙ reads-next reads_extent (λ height. behind_height e.0.row e.0.col height) sizes (decimal e.1.1 ∷ []) e.1.0 (extent_read e.1.0 (decimal e.1.1 ∷ []) small.height size.height)
-    ∙ reads-next (reads_width e.1.0) (λ width. gives (place e.0.row e.0.col, (e.1.0, width))) (decimal e.1.1 ∷ []) [] e.1.1 (width_read e.1.0 e.1.1 [] small.width size.width size.merges))
+    ∙ reads-next reads_extent (λ height. behind_height e.0.row e.0.col height) sizes (decimal e.1.width ∷ []) e.1.height (extent_read e.1.height (decimal e.1.width ∷ []) small.height size.height)
+    ∙ reads-next (reads_width e.1.height) (λ width. gives (place e.0.row e.0.col, sized e.1.height width)) (decimal e.1.width ∷ []) [] e.1.width (width_read e.1.height e.1.width [] small.width size.width size.merges))
 
-pub span_back : (e : Anchor) → IsSmall e → IsSpanSize e.1 → line_of (joined (codes "span" ∷ span_words e)) ≡ SpanLine (Ok e)
+pub span_back : (e : Rectangle) → IsSmall e → IsSpanSize e.1 → line_of (joined (codes "span" ∷ span_words e)) ≡ SpanLine (Ok e)
 span_back e small size =
     line_of-texts (joined (codes "span" ∷ span_words e)) (codes "span" ∷ span_words e) (omega arith)
-    (texts_of-joined (codes "span") (span_words e) span_utf8 (decimal-utf8 e.0.row small.row, (decimal-utf8 e.0.col small.col, (decimal-utf8 e.1.0 small.height, (decimal-utf8 e.1.1 small.width, tt)))))
+    (texts_of-joined (codes "span") (span_words e) span_utf8 (decimal-utf8 e.0.row small.row, (decimal-utf8 e.0.col small.col, (decimal-utf8 e.1.height small.height, (decimal-utf8 e.1.width small.width, tt)))))
     ∙ ap SpanLine (anchor_back e small size)
 
 -- lines of things, each of which says what it says

@@ -5,8 +5,8 @@ use Rattle.std.specs.List.{AllByRecursion}
 use Rattle.std.specs.Option.{is_none}
 use Rattle.std.proofs.lemmas.List.{length-append}
 use Rattle.std.proofs.lemmas.List.Folds.{list_all-append}
-use Rattle.tabled_grid.specs.Anchors.{Anchor}
 use Rattle.tabled_grid.specs.Grid.{Grid}
+use Rattle.tabled_grid.specs.Spans.{Rectangle}
 use Rattle.tabled_language.specs.declared.fault.Fault.{Fault}
 use Rattle.tabled_language.specs.declared.fault.Fault.TheVariants.{OutOfPlace}
 use Rattle.tabled_language.specs.Drafts.{draft_of, fault_behind, is_nil, shape_among, shape_misfit, takes}
@@ -55,7 +55,7 @@ record_place texts (SpanLine (Err fault) ∷ lines) sound = absurd sound.0
 record_place texts (StepLine step ∷ lines) sound = sym (and_false (is_nil (filter_map anchor_in lines)))
 record_place texts (FaultyLine fault ∷ lines) sound = absurd sound.0
 
-span_place : (read : Result Anchor Fault) (lines : List Line) → AllByRecursion IsSound lines → is_in_place lines (SpanLine read) ≡ is_nil (filter_map step_in lines)
+span_place : (read : Result Rectangle Fault) (lines : List Line) → AllByRecursion IsSound lines → is_in_place lines (SpanLine read) ≡ is_nil (filter_map step_in lines)
 span_place read [] sound = refl
 span_place read (EmptyLine ∷ lines) sound = span_place read lines sound.1
 span_place read (ShapeLine (Ok shape) ∷ lines) sound = span_place read lines sound.1

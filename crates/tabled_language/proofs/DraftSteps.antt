@@ -4,8 +4,8 @@ use Rattle.std.specs.Prelude.{filter_map}
 use Rattle.std.specs.FinMap.{from_entries}
 use Rattle.std.specs.Option.{option_map, option_or}
 use Rattle.std.proofs.lemmas.List.Elements.{filter_map-append}
-use Rattle.tabled_grid.specs.Anchors.{Anchor}
 use Rattle.tabled_grid.specs.Grid.{Grid}
+use Rattle.tabled_grid.specs.Spans.{Rectangle}
 use Rattle.tabled_steps.specs.States.{State}
 use Rattle.tabled_language.specs.declared.fault.Fault.{Fault}
 use Rattle.tabled_language.specs.declared.fault.Fault.TheVariants.{SpanMisfits}
@@ -32,18 +32,18 @@ shape-push n m (first ∷ lines) line is =
     ap (option_or (option_map (λ shape. (n + 1, shape)) (shape_in first))) (shape-push (n + 1) m lines line (omega (arith, is)))
     ∙ or_assoc (option_map (λ shape. (n + 1, shape)) (shape_in first)) (shape_among (n + 1) lines) (option_map (λ shape. (m + 1, shape)) (shape_in line))
 
-lines-push : (n m : ℕ) (lines : List Line) (line : Line) → m ≡ n + length lines → anchor_lines n (lines ++ line ∷ []) ≡ anchor_lines n lines ++ map (λ (e : Anchor). m + 1) (filter_map anchor_in (line ∷ []))
+lines-push : (n m : ℕ) (lines : List Line) (line : Line) → m ≡ n + length lines → anchor_lines n (lines ++ line ∷ []) ≡ anchor_lines n lines ++ map (λ (e : Rectangle). m + 1) (filter_map anchor_in (line ∷ []))
 lines-push n m [] line is = by (anchor_in line) refl
   where
     same : m ≡ n
     same = omega (arith, is)
 
-    by : (o : Option Anchor) → anchor_in line ≡ o → anchor_lines n (line ∷ []) ≡ map (λ (e : Anchor). m + 1) (filter_map anchor_in (line ∷ []))
+    by : (o : Option Rectangle) → anchor_in line ≡ o → anchor_lines n (line ∷ []) ≡ map (λ (e : Rectangle). m + 1) (filter_map anchor_in (line ∷ []))
     by None e = rw e refl
     by (Some a) e = rw (e, same) refl
 lines-push n m (first ∷ lines) line is = by (anchor_in first) refl (lines-push (n + 1) m lines line (omega (arith, is)))
   where
-    by : (o : Option Anchor) → anchor_in first ≡ o → anchor_lines (n + 1) (lines ++ line ∷ []) ≡ anchor_lines (n + 1) lines ++ map (λ (e : Anchor). m + 1) (filter_map anchor_in (line ∷ [])) → anchor_lines n (first ∷ lines ++ line ∷ []) ≡ anchor_lines n (first ∷ lines) ++ map (λ (e : Anchor). m + 1) (filter_map anchor_in (line ∷ []))
+    by : (o : Option Rectangle) → anchor_in first ≡ o → anchor_lines (n + 1) (lines ++ line ∷ []) ≡ anchor_lines (n + 1) lines ++ map (λ (e : Rectangle). m + 1) (filter_map anchor_in (line ∷ [])) → anchor_lines n (first ∷ lines ++ line ∷ []) ≡ anchor_lines n (first ∷ lines) ++ map (λ (e : Rectangle). m + 1) (filter_map anchor_in (line ∷ []))
     by None e later = rw e later
     by (Some a) e later = rw e (ap (λ (ns : List ℕ). (n + 1) ∷ ns) later)
 
@@ -51,10 +51,10 @@ lines-push n m (first ∷ lines) line is = by (anchor_in first) refl (lines-push
 pub draft_of-push : (lines : List Line) (line : Line) → draft_of (lines ++ line ∷ []) ≡ with_line (draft_of lines) (length lines + 1) line
 draft_of-push lines line = same (shape-push 0 (length lines) lines line (omega arith)) (filter_map-append record_in lines (line ∷ [])) (filter_map-append anchor_in lines (line ∷ [])) (lines-push 0 (length lines) lines line (omega arith)) (filter_map-append step_in lines (line ∷ []))
   where
-    made : Option (ℕ × (ℕ × ℕ)) → List (List (List ℕ)) → List Anchor → List ℕ → List (State → State) → Draft
+    made : Option (ℕ × (ℕ × ℕ)) → List (List (List ℕ)) → List Rectangle → List ℕ → List (State → State) → Draft
     made s r a l f = record { shape = s; records = r; anchors = a; lines = l; steps = f }
 
-    same : {s t : Option (ℕ × (ℕ × ℕ))} {r q : List (List (List ℕ))} {a b : List Anchor} {l k : List ℕ} {f g : List (State → State)} → s ≡ t → r ≡ q → a ≡ b → l ≡ k → f ≡ g → made s r a l f ≡ made t q b k g
+    same : {s t : Option (ℕ × (ℕ × ℕ))} {r q : List (List (List ℕ))} {a b : List Rectangle} {l k : List ℕ} {f g : List (State → State)} → s ≡ t → r ≡ q → a ≡ b → l ≡ k → f ≡ g → made s r a l f ≡ made t q b k g
     same u v w x y = rw (u, v, w, x, y) refl
 
 -- without a fault in a line by itself, the checks of the whole are those of the draft

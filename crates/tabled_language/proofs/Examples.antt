@@ -10,8 +10,7 @@ use Rattle.tabled_language.specs.declared.fault.Fault.{Fault}
 use Rattle.tabled_language.specs.declared.fault.Fault.TheVariants as fault
 use Rattle.tabled_language.specs.Output.{print}
 use Rattle.tabled_language.proofs.BackToAnchors.{sorted_map}
-use Rattle.tabled_grid.specs.Anchors.{Anchor}
-use Rattle.tabled_grid.specs.Spans.{position_cmp}
+use Rattle.tabled_grid.specs.Spans.{Rectangle, position_cmp}
 
 -- a shape without columns, and one of nothing
 no_columns : parse (codes "shape\t2\t0\nrow\nrow\n") ≡ Ok (record { records = [] ∷ [] ∷ []; spans = from_entries []; steps = [] })
@@ -119,7 +118,7 @@ rows =
     ∷ (codes "4" ∷ [] ∷ codes "5" ∷ codes "6" ∷ [])
     ∷ []
 
-anchors : List Anchor
+anchors : List Rectangle
 anchors = (place 0 0, (1, 4)) ∷ (place 1 1, (3, 1)) ∷ []
 
 table_read : parse printed ≡ Ok (record { records = rows; spans = from_entries anchors; steps = [] })
@@ -140,7 +139,7 @@ blank_cell : parse (codes "shape\t2\t2\nrow\ta\tx\nrow\tc\t\nspan\t1\t0\t1\t2\n"
 unfolding is_utf8 chars lib.Utf8.encode
 blank_cell = refl
 
-abbrev blank_cell_anchors : List Anchor
+abbrev blank_cell_anchors : List Rectangle
 blank_cell_anchors = (place 1 0, (1, 2)) ∷ []
 
 blank_cell_entries : entries (from_entries {R = position_cmp} blank_cell_anchors) ≡ blank_cell_anchors

@@ -9,7 +9,7 @@ use Rattle.std.specs.declared.cmp.Ordering.TheVariants.{Less}
 use Rattle.std.specs.declared.ops.Bound.TheVariants.{Excluded, Unbounded}
 use Rattle.std.proofs.lemmas.Bool.{lt-ltb}
 use Rattle.std.proofs.lemmas.Cmp.{ranked}
-use Rattle.tabled_grid.specs.Anchors.{Anchor}
+use Rattle.tabled_grid.specs.Spans.{Rectangle}
 
 before : (q n : ℕ) → q < n → nat_cmp q n ≡ Less
 before q n below = rw (lt-ltb q n below) refl
@@ -18,12 +18,12 @@ pub below_when_before : (q n : ℕ) → nat_cmp q n ≡ Less → q < n
 below_when_before q n is = subst (λ (o : Ordering). MatchOrdering o (q < n) (q ≡ n) (n < q)) is (ranked q n (nat_cmp q n) refl)
 
 -- or none after it
-pub none_between : (m : BTreeMap ℕ Anchor) (n : ℕ) (r t : List (ℕ × Anchor)) (e : ℕ × Anchor) → IsRangeOf nat_cmp Unbounded (Excluded n) m r → r ≡ t ++ e ∷ [] → (q : ℕ) → e.0 < q → q < n → get nat_cmp m q ≡ None
+pub none_between : (m : BTreeMap ℕ Rectangle) (n : ℕ) (r t : List (ℕ × Rectangle)) (e : ℕ × Rectangle) → IsRangeOf nat_cmp Unbounded (Excluded n) m r → r ≡ t ++ e ∷ [] → (q : ℕ) → e.0 < q → q < n → get nat_cmp m q ≡ None
 none_between m n r t e h ends q above below = by (get nat_cmp m q) refl
   where
     never : false ≡ true → ⊥
     never x = cc
 
-    by : (o : Option Anchor) → get nat_cmp m q ≡ o → get nat_cmp m q ≡ None
+    by : (o : Option Rectangle) → get nat_cmp m q ≡ o → get nat_cmp m q ≡ None
     by None is = is
     by (Some f) is = absurd (never (sym (h.4 e t ends q (tt, before q n below) (ap is_some is)) ∙ ap is_lt (before e.0 q above)))

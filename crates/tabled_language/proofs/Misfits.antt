@@ -4,8 +4,8 @@ use Rattle.std.specs.Prelude.{filter_map}
 use Rattle.std.proofs.lemmas.Bool.{and_parts}
 use Rattle.std.proofs.lemmas.List.{append-nil, append_assoc, length-append}
 use Rattle.std.proofs.lemmas.List.Elements.{filter_map-append}
-use Rattle.tabled_grid.specs.Anchors.{Anchor}
 use Rattle.tabled_grid.specs.Grid.{Grid}
+use Rattle.tabled_grid.specs.Spans.{Rectangle}
 use Rattle.tabled_language.specs.declared.fault.Fault.{Fault}
 use Rattle.tabled_language.specs.declared.fault.Fault.TheVariants.{SpanMisfits}
 use Rattle.tabled_language.specs.Drafts.{anchor_lines}
@@ -22,41 +22,41 @@ first-step : (fault_at : List Line → Line → Option Fault) (earlier : List Li
 first-step fault_at earlier line lines None is = rw is refl
 first-step fault_at earlier line lines (Some fault) is = rw is refl
 
-abbrev numbered : ℕ → Option Anchor → List ℕ → List ℕ
+abbrev numbered : ℕ → Option Rectangle → List ℕ → List ℕ
 numbered n None numbers = numbers
 numbered n (Some anchor) numbers = (n + 1) ∷ numbers
 
-lines-step : (n : ℕ) (line : Line) (lines : List Line) (o : Option Anchor) → anchor_in line ≡ o → anchor_lines n (line ∷ lines) ≡ numbered n o (anchor_lines (n + 1) lines)
+lines-step : (n : ℕ) (line : Line) (lines : List Line) (o : Option Rectangle) → anchor_in line ≡ o → anchor_lines n (line ∷ lines) ≡ numbered n o (anchor_lines (n + 1) lines)
 lines-step n line lines None is = rw is refl
 lines-step n line lines (Some anchor) is = rw is refl
 
-abbrev with_first : Option Anchor → List Anchor → List Anchor
+abbrev with_first : Option Rectangle → List Rectangle → List Rectangle
 with_first None es = es
 with_first (Some e) es = e ∷ es
 
-anchors-step : (line : Line) (lines : List Line) (o : Option Anchor) → anchor_in line ≡ o → filter_map anchor_in (line ∷ lines) ≡ with_first o (filter_map anchor_in lines)
+anchors-step : (line : Line) (lines : List Line) (o : Option Rectangle) → anchor_in line ≡ o → filter_map anchor_in (line ∷ lines) ≡ with_first o (filter_map anchor_in lines)
 anchors-step line lines None is = rw is refl
 anchors-step line lines (Some e) is = rw is refl
 
 module _ (g : Grid (List ℕ)) where
   -- after these anchors, the first i have places and the next has none
-  abbrev Misfit : List Anchor → List Anchor → ℕ → Type 0
-  Misfit done es i = (have_places g.rows g.columns done (take i es) ≡ true) × ((d : Anchor) → has_place g.rows g.columns (done ++ take i es) (get_or es i d) ≡ false) × (i < length es)
+  abbrev Misfit : List Rectangle → List Rectangle → ℕ → Type 0
+  Misfit done es i = (have_places g.rows g.columns done (take i es) ≡ true) × ((d : Rectangle) → has_place g.rows g.columns (done ++ take i es) (get_or es i d) ≡ false) × (i < length es)
 
-  misfit_at : (lines earlier : List Line) (done : List Anchor) (i : ℕ) → filter_map anchor_in earlier ≡ done → Misfit done (filter_map anchor_in lines) i → first_fault (span_fault g) earlier lines ≡ Some (get_or (anchor_lines (length earlier) lines) i 0, SpanMisfits)
+  misfit_at : (lines earlier : List Line) (done : List Rectangle) (i : ℕ) → filter_map anchor_in earlier ≡ done → Misfit done (filter_map anchor_in lines) i → first_fault (span_fault g) earlier lines ≡ Some (get_or (anchor_lines (length earlier) lines) i 0, SpanMisfits)
   misfit_at [] earlier done i is m = absurd (omega (arith, m.2))
   misfit_at (line ∷ lines) earlier done i is m = by (anchor_in line) refl i m (λ k. misfit_at lines (earlier ++ line ∷ []) k)
     where
       longer : length (earlier ++ line ∷ []) ≡ length earlier + 1
       longer = length-append earlier (line ∷ [])
 
-      fault : (o : Option Anchor) → anchor_in line ≡ o → span_fault g earlier line ≡ unless_it (has_place g.rows g.columns done) SpanMisfits o
-      fault o e = ap₂ (λ (es : List Anchor) (a : Option Anchor). unless_it (has_place g.rows g.columns es) SpanMisfits a) is e
+      fault : (o : Option Rectangle) → anchor_in line ≡ o → span_fault g earlier line ≡ unless_it (has_place g.rows g.columns done) SpanMisfits o
+      fault o e = ap₂ (λ (es : List Rectangle) (a : Option Rectangle). unless_it (has_place g.rows g.columns es) SpanMisfits a) is e
 
-      more : (o : Option Anchor) → anchor_in line ≡ o → filter_map anchor_in (earlier ++ line ∷ []) ≡ done ++ with_first o []
-      more o e = filter_map-append anchor_in earlier (line ∷ []) ∙ ap₂ (λ (xs ys : List Anchor). xs ++ ys) is (anchors-step line [] o e)
+      more : (o : Option Rectangle) → anchor_in line ≡ o → filter_map anchor_in (earlier ++ line ∷ []) ≡ done ++ with_first o []
+      more o e = filter_map-append anchor_in earlier (line ∷ []) ∙ ap₂ (λ (xs ys : List Rectangle). xs ++ ys) is (anchors-step line [] o e)
 
-      by : (o : Option Anchor) → anchor_in line ≡ o → (i : ℕ) → Misfit done (filter_map anchor_in (line ∷ lines)) i → ((k : List Anchor) (j : ℕ) → filter_map anchor_in (earlier ++ line ∷ []) ≡ k → Misfit k (filter_map anchor_in lines) j → first_fault (span_fault g) (earlier ++ line ∷ []) lines ≡ Some (get_or (anchor_lines (length (earlier ++ line ∷ [])) lines) j 0, SpanMisfits)) → first_fault (span_fault g) earlier (line ∷ lines) ≡ Some (get_or (anchor_lines (length earlier) (line ∷ lines)) i 0, SpanMisfits)
+      by : (o : Option Rectangle) → anchor_in line ≡ o → (i : ℕ) → Misfit done (filter_map anchor_in (line ∷ lines)) i → ((k : List Rectangle) (j : ℕ) → filter_map anchor_in (earlier ++ line ∷ []) ≡ k → Misfit k (filter_map anchor_in lines) j → first_fault (span_fault g) (earlier ++ line ∷ []) lines ≡ Some (get_or (anchor_lines (length (earlier ++ line ∷ [])) lines) j 0, SpanMisfits)) → first_fault (span_fault g) earlier (line ∷ lines) ≡ Some (get_or (anchor_lines (length earlier) (line ∷ lines)) i 0, SpanMisfits)
       by None e i m later =
           let here : Misfit done (filter_map anchor_in lines) i = subst (λ es. Misfit done es i) (anchors-step line lines None e) m in
           first-step (span_fault g) earlier line lines None (fault None e)
@@ -76,17 +76,17 @@ module _ (g : Grid (List ℕ)) where
           ∙ ap (λ (ns : List ℕ). Some (get_or ns i 0, SpanMisfits)) (ap (λ n. anchor_lines n lines) longer)
           ∙ ap (λ (ns : List ℕ). Some (get_or ns (suc i) 0, SpanMisfits)) (sym (lines-step (length earlier) line lines (Some a) e))
 
-  fits_at : (lines earlier : List Line) (done : List Anchor) → filter_map anchor_in earlier ≡ done → have_places g.rows g.columns done (filter_map anchor_in lines) ≡ true → first_fault (span_fault g) earlier lines ≡ None
+  fits_at : (lines earlier : List Line) (done : List Rectangle) → filter_map anchor_in earlier ≡ done → have_places g.rows g.columns done (filter_map anchor_in lines) ≡ true → first_fault (span_fault g) earlier lines ≡ None
   fits_at [] earlier done is fit = refl
   fits_at (line ∷ lines) earlier done is fit = by (anchor_in line) refl (fits_at lines (earlier ++ line ∷ []))
     where
-      fault : (o : Option Anchor) → anchor_in line ≡ o → span_fault g earlier line ≡ unless_it (has_place g.rows g.columns done) SpanMisfits o
-      fault o e = ap₂ (λ (es : List Anchor) (a : Option Anchor). unless_it (has_place g.rows g.columns es) SpanMisfits a) is e
+      fault : (o : Option Rectangle) → anchor_in line ≡ o → span_fault g earlier line ≡ unless_it (has_place g.rows g.columns done) SpanMisfits o
+      fault o e = ap₂ (λ (es : List Rectangle) (a : Option Rectangle). unless_it (has_place g.rows g.columns es) SpanMisfits a) is e
 
-      more : (o : Option Anchor) → anchor_in line ≡ o → filter_map anchor_in (earlier ++ line ∷ []) ≡ done ++ with_first o []
-      more o e = filter_map-append anchor_in earlier (line ∷ []) ∙ ap₂ (λ (xs ys : List Anchor). xs ++ ys) is (anchors-step line [] o e)
+      more : (o : Option Rectangle) → anchor_in line ≡ o → filter_map anchor_in (earlier ++ line ∷ []) ≡ done ++ with_first o []
+      more o e = filter_map-append anchor_in earlier (line ∷ []) ∙ ap₂ (λ (xs ys : List Rectangle). xs ++ ys) is (anchors-step line [] o e)
 
-      by : (o : Option Anchor) → anchor_in line ≡ o → ((k : List Anchor) → filter_map anchor_in (earlier ++ line ∷ []) ≡ k → have_places g.rows g.columns k (filter_map anchor_in lines) ≡ true → first_fault (span_fault g) (earlier ++ line ∷ []) lines ≡ None) → first_fault (span_fault g) earlier (line ∷ lines) ≡ None
+      by : (o : Option Rectangle) → anchor_in line ≡ o → ((k : List Rectangle) → filter_map anchor_in (earlier ++ line ∷ []) ≡ k → have_places g.rows g.columns k (filter_map anchor_in lines) ≡ true → first_fault (span_fault g) (earlier ++ line ∷ []) lines ≡ None) → first_fault (span_fault g) earlier (line ∷ lines) ≡ None
       by None e later =
           first-step (span_fault g) earlier line lines None (fault None e)
           ∙ later done (more None e ∙ append-nil done) (ap (have_places g.rows g.columns done) (sym (anchors-step line lines None e)) ∙ fit)

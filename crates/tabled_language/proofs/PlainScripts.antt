@@ -7,9 +7,8 @@ use Rattle.std.specs.Option.{option_or}
 use Rattle.std.specs.Str.{bytes_eq}
 use Rattle.std.proofs.lemmas.Bool.{or_parts}
 use Rattle.tabled_grid.proofs.Lists.{all-append}
-use Rattle.tabled_grid.specs.Anchors.{Anchor}
 use Rattle.tabled_grid.specs.Grid.{Grid}
-use Rattle.tabled_grid.specs.Spans.{SpanMap}
+use Rattle.tabled_grid.specs.Spans.{Rectangle, SpanMap}
 use Rattle.tabled_steps.specs.States.{State}
 use Rattle.tabled_language.specs.declared.fault.Fault.{Fault}
 use Rattle.tabled_language.specs.declared.fault.Fault.TheVariants.{OutOfPlace}
@@ -148,7 +147,7 @@ script-plain : (lines : List Line) → AllByRecursion IsPlain lines → script_o
 script-plain lines plain =
     let first = first_fault plain_fault [] lines in
     either_way lines first (among-plain lines plain)
-    ∙ ap (λ (es : List Anchor). scripted lines first (from_entries es)) (no_anchors lines plain)
+    ∙ ap (λ (es : List Rectangle). scripted lines first (from_entries es)) (no_anchors lines plain)
     ∙ sym (plain_way lines first refl)
 
 -- a script in which no line begins with `shape` or `span` means what it meant

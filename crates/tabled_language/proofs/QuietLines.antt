@@ -6,8 +6,9 @@ use Rattle.std.proofs.lemmas.Bool.{and_from, and_parts, not_from_false}
 use Rattle.std.proofs.lemmas.List.{append-nil}
 use Rattle.std.proofs.lemmas.List.Elements.{filter_map-append}
 use Rattle.std.proofs.lemmas.List.Folds.{list_all-append}
-use Rattle.tabled_grid.specs.Anchors.{Anchor, lie_well, lies_inside, meets}
+use Rattle.tabled_grid.specs.Anchors.{lie_well, lies_inside, meets}
 use Rattle.tabled_grid.specs.Grid.{Grid}
+use Rattle.tabled_grid.specs.Spans.{Rectangle}
 use Rattle.tabled_language.specs.declared.fault.Fault.{Fault}
 use Rattle.tabled_language.specs.Line.{anchor_in, fault_of, first_fault, is_in_place, may_follow, record_in, shape_fault, span_fault, step_in}
 use Rattle.tabled_language.specs.Placed.{has_place}
@@ -40,23 +41,23 @@ all-push line before earlier h k = list_all-append (may_follow line) earlier (be
 abbrev pub records : List (List (List ℕ)) → List Line
 records rows = map RecordLine rows
 
-abbrev pub span : Anchor → Line
+abbrev pub span : Rectangle → Line
 span e = SpanLine (Ok e)
 
 -- a shape, records and spans
-abbrev pub table : ℕ → ℕ → List (List (List ℕ)) → List Anchor → List Line
+abbrev pub table : ℕ → ℕ → List (List (List ℕ)) → List Rectangle → List Line
 table r c rows es = ShapeLine (Ok (r, c)) ∷ (map RecordLine rows ++ (map span es ++ EmptyLine ∷ []))
 
 -- records and spans may stand after these lines
 record TakesRecords (earlier : List Line) : Type 0 where
   rows : (texts : List (List ℕ)) → is_in_place earlier (RecordLine texts) ≡ true
-  spans : (e : Anchor) → is_in_place earlier (span e) ≡ true
+  spans : (e : Rectangle) → is_in_place earlier (span e) ≡ true
 
 TakesSpans : List Line → Type 0
-TakesSpans earlier = (e : Anchor) → is_in_place earlier (span e) ≡ true
+TakesSpans earlier = (e : Rectangle) → is_in_place earlier (span e) ≡ true
 
 -- each line is in its place
-pub in_place : (r c : ℕ) (rows : List (List (List ℕ))) (es : List Anchor) → first_fault fault_of [] (table r c rows es) ≡ None
+pub in_place : (r c : ℕ) (rows : List (List (List ℕ))) (es : List Rectangle) → first_fault fault_of [] (table r c rows es) ≡ None
 unfolding TakesSpans
 in_place r c rows es = block fault_of RecordLine TakesRecords
     (λ earlier texts kept. rw (kept.rows texts) refl)
@@ -69,15 +70,15 @@ in_place r c rows es = block fault_of RecordLine TakesRecords
     (λ last takes. rw (loose_place EmptyLine last tt) refl))
 
 -- the shape is that of the table
-pub shape_fine : (g : Grid (List ℕ)) (rows : List (List (List ℕ))) (es : List Anchor) → first_fault (shape_fault g) [] (table g.rows g.columns rows es) ≡ None
+pub shape_fine : (g : Grid (List ℕ)) (rows : List (List (List ℕ))) (es : List Rectangle) → first_fault (shape_fault g) [] (table g.rows g.columns rows es) ≡ None
 shape_fine g rows es = quiet-cons (shape_fault g) [] (ShapeLine (Ok (g.rows, g.columns))) (map RecordLine rows ++ (map span es ++ EmptyLine ∷ [])) (rw (eq-eqb g.rows g.rows refl, eq-eqb g.columns g.columns refl) refl)
     (block (shape_fault g) RecordLine (λ earlier. Unit {0}) (λ earlier x kept. refl) (λ earlier x kept. tt) rows (map span es ++ EmptyLine ∷ []) (ShapeLine (Ok (g.rows, g.columns)) ∷ []) tt
     (λ later kept. block (shape_fault g) span (λ earlier. Unit {0}) (λ earlier x kept. refl) (λ earlier x kept. tt) es (EmptyLine ∷ []) later tt (λ last kept. refl)))
 
-place_found : (rows columns : ℕ) (done : List Anchor) (e : Anchor) → lies_inside rows columns e ≡ true → list_any (meets e) done ≡ false → has_place rows columns done e ≡ true
+place_found : (rows columns : ℕ) (done : List Rectangle) (e : Rectangle) → lies_inside rows columns e ≡ true → list_any (meets e) done ≡ false → has_place rows columns done e ≡ true
 place_found rows columns done e inside apart = and_from _ _ inside (not_from_false _ apart)
 
-spans_apart : (g : Grid (List ℕ)) (es done : List Anchor) (rest earlier : List Line) → filter_map anchor_in earlier ≡ done → lie_well g.rows g.columns es ≡ true → MeetNone done es → ((later : List Line) → first_fault (span_fault g) later rest ≡ None) → first_fault (span_fault g) earlier (map span es ++ rest) ≡ None
+spans_apart : (g : Grid (List ℕ)) (es done : List Rectangle) (rest earlier : List Line) → filter_map anchor_in earlier ≡ done → lie_well g.rows g.columns es ≡ true → MeetNone done es → ((later : List Line) → first_fault (span_fault g) later rest ≡ None) → first_fault (span_fault g) earlier (map span es ++ rest) ≡ None
 spans_apart g [] done rest earlier is well apart after = after earlier
 spans_apart g (e ∷ es) done rest earlier is well apart after =
     let parts = and_parts _ _ well in
@@ -88,17 +89,17 @@ spans_apart g (e ∷ es) done rest earlier is well apart after =
     (spans_apart g es (done ++ e ∷ []) rest (earlier ++ span e ∷ []) more others.1 (meet_none-push e done es others.0 apart.1) after)
 
 -- each rectangle lies inside the table, and shares no cell with an earlier one
-pub spans_fine : (g : Grid (List ℕ)) (r c : ℕ) (rows : List (List (List ℕ))) (es : List Anchor) → lie_well g.rows g.columns es ≡ true → MeetNone [] es → first_fault (span_fault g) [] (table r c rows es) ≡ None
+pub spans_fine : (g : Grid (List ℕ)) (r c : ℕ) (rows : List (List (List ℕ))) (es : List Rectangle) → lie_well g.rows g.columns es ≡ true → MeetNone [] es → first_fault (span_fault g) [] (table r c rows es) ≡ None
 spans_fine g r c rows es well apart = block (span_fault g) RecordLine (λ earlier. filter_map anchor_in earlier ≡ []) (λ earlier x kept. refl)
     (λ earlier x kept. filter_map-append anchor_in earlier (RecordLine x ∷ []) ∙ append-nil (filter_map anchor_in earlier) ∙ kept)
     rows (map span es ++ EmptyLine ∷ []) (ShapeLine (Ok (r, c)) ∷ []) refl
     (λ later none. spans_apart g es [] (EmptyLine ∷ []) later none well apart (λ last. refl))
 
-pub records_are : (r c : ℕ) (rows : List (List (List ℕ))) (es : List Anchor) → filter_map record_in (table r c rows es) ≡ rows
+pub records_are : (r c : ℕ) (rows : List (List (List ℕ))) (es : List Rectangle) → filter_map record_in (table r c rows es) ≡ rows
 records_are r c rows es = picked record_in RecordLine (λ texts. texts) (λ texts. refl) rows (map span es ++ EmptyLine ∷ []) ∙ ap₂ (λ (xs ys : List (List (List ℕ))). xs ++ ys) (map-id rows) (passed record_in span (λ e. refl) es (EmptyLine ∷ [])) ∙ append-nil rows
 
-pub anchors_are : (r c : ℕ) (rows : List (List (List ℕ))) (es : List Anchor) → filter_map anchor_in (table r c rows es) ≡ es
-anchors_are r c rows es = passed anchor_in RecordLine (λ texts. refl) rows (map span es ++ EmptyLine ∷ []) ∙ picked anchor_in span (λ e. e) (λ e. refl) es (EmptyLine ∷ []) ∙ append-nil (map (λ (e : Anchor). e) es) ∙ map-id es
+pub anchors_are : (r c : ℕ) (rows : List (List (List ℕ))) (es : List Rectangle) → filter_map anchor_in (table r c rows es) ≡ es
+anchors_are r c rows es = passed anchor_in RecordLine (λ texts. refl) rows (map span es ++ EmptyLine ∷ []) ∙ picked anchor_in span (λ e. e) (λ e. refl) es (EmptyLine ∷ []) ∙ append-nil (map (λ (e : Rectangle). e) es) ∙ map-id es
 
-pub steps_are : (r c : ℕ) (rows : List (List (List ℕ))) (es : List Anchor) → filter_map step_in (table r c rows es) ≡ []
+pub steps_are : (r c : ℕ) (rows : List (List (List ℕ))) (es : List Rectangle) → filter_map step_in (table r c rows es) ≡ []
 steps_are r c rows es = passed step_in RecordLine (λ texts. refl) rows (map span es ++ EmptyLine ∷ []) ∙ passed step_in span (λ e. refl) es (EmptyLine ∷ [])

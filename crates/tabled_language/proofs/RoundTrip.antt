@@ -5,9 +5,9 @@ use Rattle.std.specs.Prelude.{filter_map}
 use Rattle.std.specs.List.{AllByRecursion, flat_map}
 use Rattle.std.specs.Str.{IsUtf8}
 use Rattle.std.proofs.lemmas.List.{append-nil, append_assoc}
-use Rattle.tabled_grid.specs.Anchors.{Anchor, lie_well}
+use Rattle.tabled_grid.specs.Anchors.{lie_well}
 use Rattle.tabled_grid.specs.Grid.{Grid}
-use Rattle.tabled_grid.specs.Spans.{SpanMap}
+use Rattle.tabled_grid.specs.Spans.{Rectangle, SpanMap}
 use Rattle.tabled_steps.specs.States.{State}
 use Rattle.tabled_language.specs.Line.{Script, fault_among, first_fault, line_of, lines_of, parse, record_in, script_of, script_or_fault, shape_fault, span_fault, table_from}
 use Rattle.tabled_language.specs.Output.{joined, line, print, span_line}
@@ -34,9 +34,9 @@ lines-print s =
     ∙ ap (λ lines. joined (codes "shape" ∷ shape_words s.texts.rows s.texts.columns) ∷ lines)
     (lines_of-lines (λ (row : List (List ℕ)). codes "row" ∷ row) s.texts.cells spans
     ∙ ap (λ lines. map (λ (row : List (List ℕ)). joined (codes "row" ∷ row)) s.texts.cells ++ lines)
-    (ap lines_of (sym (append-nil spans)) ∙ lines_of-lines (λ (e : Anchor). codes "span" ∷ span_words e) (entries s.spans) []))
+    (ap lines_of (sym (append-nil spans)) ∙ lines_of-lines (λ (e : Rectangle). codes "span" ∷ span_words e) (entries s.spans) []))
 
-small : (rows columns : ℕ) (e : Anchor) → rows < 2 ^ 64 → columns < 2 ^ 64 → IsSpanIn rows columns e → IsSmall e
+small : (rows columns : ℕ) (e : Rectangle) → rows < 2 ^ 64 → columns < 2 ^ 64 → IsSpanIn rows columns e → IsSmall e
 small rows columns e r c h = record { row = omega (arith, r, h.bottom); col = omega (arith, c, h.right); height = omega (arith, r, h.bottom); width = omega (arith, c, h.right) }
 
 -- what they say
@@ -44,13 +44,13 @@ says-print : (s : State) → IsTable s → map line_of (lines_of (print s)) ≡ 
 says-print s h =
     let r : s.texts.rows < 2 ^ 64 = omega (arith, h.rows) in
     let c : s.texts.columns < 2 ^ 64 = omega (arith, h.columns) in
-    let spans = all_back (λ (e : Anchor). codes "span" ∷ span_words e) span (IsSpanIn s.texts.rows s.texts.columns) (λ e inside. span_back e (small s.texts.rows s.texts.columns e r c inside) inside.size) (entries s.spans) ([] ∷ []) (spans_in s.spans s.texts.rows s.texts.columns h.fits) in
+    let spans = all_back (λ (e : Rectangle). codes "span" ∷ span_words e) span (IsSpanIn s.texts.rows s.texts.columns) (λ e inside. span_back e (small s.texts.rows s.texts.columns e r c inside) inside.size) (entries s.spans) ([] ∷ []) (spans_in s.spans s.texts.rows s.texts.columns h.fits) in
     let rows = all_back (λ (row : List (List ℕ)). codes "row" ∷ row) RecordLine (AllByRecursion IsUtf8) row_back s.texts.cells (map (λ e. joined (codes "span" ∷ span_words e)) (entries s.spans) ++ [] ∷ []) h.texts in
     ap (map line_of) (lines-print s)
     ∙ ap₂ (λ (first : Line) (others : List Line). first ∷ others) (shape_back s.texts.rows s.texts.columns r c)
     (rows ∙ ap (λ lines. map RecordLine s.texts.cells ++ lines) spans)
 
-no_fault : (g : Grid (List ℕ)) (es : List Anchor) → table_from g.cells ≡ g → lie_well g.rows g.columns es ≡ true → fault_among (table g.rows g.columns g.cells es) ≡ None
+no_fault : (g : Grid (List ℕ)) (es : List Rectangle) → table_from g.cells ≡ g → lie_well g.rows g.columns es ≡ true → fault_among (table g.rows g.columns g.cells es) ≡ None
 no_fault g es even well =
     let is : table_from (filter_map record_in (table g.rows g.columns g.cells es)) ≡ g = ap table_from (records_are g.rows g.columns g.cells es) ∙ even in
     let shape : first_fault (shape_fault (table_from (filter_map record_in (table g.rows g.columns g.cells es)))) [] (table g.rows g.columns g.cells es) ≡ None = ap (λ h. first_fault (shape_fault h) [] (table g.rows g.columns g.cells es)) is ∙ shape_fine g g.cells es in

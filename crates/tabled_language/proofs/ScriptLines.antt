@@ -9,7 +9,6 @@ use Rattle.std.proofs.lemmas.Option.{none-some}
 use Rattle.std.proofs.lemmas.Str.{IsUtf8-from_is_utf8}
 use Rattle.std.specs.List.{AllByRecursion, remove, slice_index_or}
 use Rattle.tabled_grid.proofs.Lists.{all-append}
-use Rattle.tabled_grid.specs.Anchors.{Anchor}
 use Rattle.tabled_language.specs.declared.fault.Fault.{Fault}
 use Rattle.tabled_language.specs.declared.fault.Fault.TheVariants.{OutOfPlace}
 use Rattle.tabled_language.specs.declared.fault.ReadError.{ReadError}
@@ -25,6 +24,7 @@ use Rattle.tabled_language.proofs.Asking.{or_later}
 use Rattle.tabled_language.proofs.DraftLines.{IsSound, fault_told, place_told, sound_line}
 use Rattle.tabled_language.proofs.DraftSteps.{draft_of-push}
 use Rattle.tabled_language.proofs.PlainLines.{texts_of-plain}
+use Rattle.tabled_grid.specs.Spans.{Rectangle}
 
 -- of all lines a number was read into a draft, and the rest is left
 pub record HasRead (all rest : List (List ℕ)) (number : ℕ) (draft : Draft) : Type 0 where
@@ -50,11 +50,11 @@ in_its_place earlier line fine = by (is_in_place earlier line) fine
     by false e = absurd (none-some OutOfPlace (sym e))
 
 -- words that say an anchor ask for memory in their place
-words_ask-span : (in_place : Line → Bool) (words : List (List ℕ)) (anchor : Anchor) → anchor_in (meaning_of (Some words)) ≡ Some anchor → in_place (meaning_of (Some words)) ≡ true → words_ask in_place words ≡ true
+words_ask-span : (in_place : Line → Bool) (words : List (List ℕ)) (anchor : Rectangle) → anchor_in (meaning_of (Some words)) ≡ Some anchor → in_place (meaning_of (Some words)) ≡ true → words_ask in_place words ≡ true
 words_ask-span in_place [] anchor is here = absurd (none-some anchor is)
 words_ask-span in_place (verb ∷ texts) anchor is here = by (bytes_eq verb (codes "row")) (bytes_eq verb (codes "shape")) (bytes_eq verb (codes "span")) is here
   where
-    kept : (read : Result Anchor Fault) → anchor_in (SpanLine read) ≡ Some anchor → is_ok read ≡ true
+    kept : (read : Result Rectangle Fault) → anchor_in (SpanLine read) ≡ Some anchor → is_ok read ≡ true
     kept (Ok e) is = refl
     kept (Err fault) is = absurd (none-some anchor is)
 
@@ -69,7 +69,7 @@ words_ask-span in_place (verb ∷ texts) anchor is here = by (bytes_eq verb (cod
     by false false false is here = absurd (none-some anchor (sym (no_step (whole (behind steps verb) texts)) ∙ is))
 
 -- so does a line
-line_asks-span : (in_place : Line → Bool) (line : List ℕ) (anchor : Anchor) → anchor_in (line_of line) ≡ Some anchor → in_place (line_of line) ≡ true → line_asks in_place line ≡ true
+line_asks-span : (in_place : Line → Bool) (line : List ℕ) (anchor : Rectangle) → anchor_in (line_of line) ≡ Some anchor → in_place (line_of line) ≡ true → line_asks in_place line ≡ true
 line_asks-span in_place [] anchor is here = absurd (none-some anchor is)
 line_asks-span in_place (b ∷ bs) anchor is here = by (is_plain (b ∷ bs)) refl
   where
@@ -111,7 +111,7 @@ has_read-more {all} {rest} {number} {draft} line h fine =
       spans = some none (anchor_in (line_of line)) refl;
     }
   where
-    some : fault_of h.earlier (line_of line) ≡ None → (o : Option Anchor) → anchor_in (line_of line) ≡ o → 0 < length (with_line draft (number + 1) (line_of line)).anchors → lines_ask [] all ≡ true
+    some : fault_of h.earlier (line_of line) ≡ None → (o : Option Rectangle) → anchor_in (line_of line) ≡ o → 0 < length (with_line draft (number + 1) (line_of line)).anchors → lines_ask [] all ≡ true
     some none None e more = h.spans (rw (e, append-nil draft.anchors) at more)
     some none (Some anchor) e more = h.memory (lines_ask-here h.earlier line rest (line_asks-span (is_in_place h.earlier) line anchor e (in_its_place h.earlier (line_of line) none)))
 

@@ -10,26 +10,26 @@ use Rattle.std.proofs.lemmas.List.{get_or_default, take-append-drop, take_more}
 use Rattle.std.proofs.lemmas.Option.{none-some, same_Some}
 use Rattle.tabled_grid.proofs.Lists.{all-append}
 use Rattle.tabled_grid.proofs.PassedAnchors.{Meets, meets-from, meets-true}
-use Rattle.tabled_grid.specs.Anchors.{Anchor, lies_inside, meets}
-use Rattle.tabled_grid.specs.Spans.{IsSpanSize}
+use Rattle.tabled_grid.specs.Anchors.{lies_inside, meets}
+use Rattle.tabled_grid.specs.Spans.{IsSpanSize, Rectangle}
 use Rattle.tabled_language.specs.Placed.{fit_in, has_place, have_places}
 use Rattle.tabled_language.specs.Walk.{AreBeside, AreKeyed, EndsAbove, IsBeside, RowsRise}
 use Rattle.tabled_language.proofs.BackToAnchors.{meets-turned}
 use Rattle.tabled_language.proofs.PlacedAnchors.{any-parts, have_places-push}
 
 -- of the rectangles gone through those are kept that may reach a row or a later one
-pub record IsWalked (done : List Anchor) (m : BTreeMap ℕ Anchor) (row : ℕ) : Type 0 where
-  pub kept : AllByRecursion (λ (f : Anchor). EndsAbove row f ⊎ (get nat_cmp m f.0.col ≡ Some f)) done
+pub record IsWalked (done : List Rectangle) (m : BTreeMap ℕ Rectangle) (row : ℕ) : Type 0 where
+  pub kept : AllByRecursion (λ (f : Rectangle). EndsAbove row f ⊎ (get nat_cmp m f.0.col ≡ Some f)) done
   pub keyed : AreKeyed m
-  pub begun : (q : ℕ) (f : Anchor) → get nat_cmp m q ≡ Some f → (f.0.row ≤ row) × (1 ≤ f.1.1)
+  pub begun : (q : ℕ) (f : Rectangle) → get nat_cmp m q ≡ Some f → (f.0.row ≤ row) × (1 ≤ f.1.width)
   pub beside : AreBeside row m
-  pub among : (q : ℕ) (f : Anchor) → get nat_cmp m q ≡ Some f → (e : Anchor) → list_any (meets e) done ≡ false → meets e f ≡ false
+  pub among : (q : ℕ) (f : Rectangle) → get nat_cmp m q ≡ Some f → (e : Rectangle) → list_any (meets e) done ≡ false → meets e f ≡ false
 
-nothing : {P : Type 0} (m : BTreeMap ℕ Anchor) (q : ℕ) (f : Anchor) → m.entries ≡ [] → get nat_cmp m q ≡ Some f → P
+nothing : {P : Type 0} (m : BTreeMap ℕ Rectangle) (q : ℕ) (f : Rectangle) → m.entries ≡ [] → get nat_cmp m q ≡ Some f → P
 nothing m q f none is = absurd (none-some f (sym (rw none refl) ∙ is))
 
 -- what may reach a later row
-pub walked-later : (done : List Anchor) (m : BTreeMap ℕ Anchor) (row later : ℕ) → row ≤ later → IsWalked done m row → IsWalked done m later
+pub walked-later : (done : List Rectangle) (m : BTreeMap ℕ Rectangle) (row later : ℕ) → row ≤ later → IsWalked done m row → IsWalked done m later
 walked-later done m row later le h = record {
   kept = go done h.kept;
   keyed = h.keyed;
@@ -38,23 +38,23 @@ walked-later done m row later le h = record {
   among = h.among;
 }
   where
-    by : (f : Anchor) → EndsAbove row f ⊎ (get nat_cmp m f.0.col ≡ Some f) → EndsAbove later f ⊎ (get nat_cmp m f.0.col ≡ Some f)
+    by : (f : Rectangle) → EndsAbove row f ⊎ (get nat_cmp m f.0.col ≡ Some f) → EndsAbove later f ⊎ (get nat_cmp m f.0.col ≡ Some f)
     by f (inl above) = inl (omega (arith, le, above))
     by f (inr is) = inr is
 
-    go : (fs : List Anchor) → AllByRecursion (λ (f : Anchor). EndsAbove row f ⊎ (get nat_cmp m f.0.col ≡ Some f)) fs → AllByRecursion (λ (f : Anchor). EndsAbove later f ⊎ (get nat_cmp m f.0.col ≡ Some f)) fs
+    go : (fs : List Rectangle) → AllByRecursion (λ (f : Rectangle). EndsAbove row f ⊎ (get nat_cmp m f.0.col ≡ Some f)) fs → AllByRecursion (λ (f : Rectangle). EndsAbove later f ⊎ (get nat_cmp m f.0.col ≡ Some f)) fs
     go [] all = tt
     go (f ∷ fs) all = (by f all.0, go fs all.1)
 
 -- none that is kept and reaches an anchor's row shares a column with it
-abbrev pub IsClear : BTreeMap ℕ Anchor → Anchor → Type 0
-IsClear m e = (q : ℕ) (f : Anchor) → get nat_cmp m q ≡ Some f → EndsAbove e.0.row f ⊎ IsBeside e f
+abbrev pub IsClear : BTreeMap ℕ Rectangle → Rectangle → Type 0
+IsClear m e = (q : ℕ) (f : Rectangle) → get nat_cmp m q ≡ Some f → EndsAbove e.0.row f ⊎ IsBeside e f
 
 -- one does
-abbrev pub IsMet : BTreeMap ℕ Anchor → Anchor → Type 0
-IsMet m e = (q : ℕ) × (f : Anchor) × (get nat_cmp m q ≡ Some f) × (e.0.row < f.0.row + f.1.0) × (f.0.col < e.0.col + e.1.1) × (e.0.col < f.0.col + f.1.1)
+abbrev pub IsMet : BTreeMap ℕ Rectangle → Rectangle → Type 0
+IsMet m e = (q : ℕ) × (f : Rectangle) × (get nat_cmp m q ≡ Some f) × (e.0.row < f.0.row + f.1.height) × (f.0.col < e.0.col + e.1.width) × (e.0.col < f.0.col + f.1.width)
 
-apart_from : (e f : Anchor) → EndsAbove e.0.row f ⊎ IsBeside e f → meets e f ≡ false
+apart_from : (e f : Rectangle) → EndsAbove e.0.row f ⊎ IsBeside e f → meets e f ≡ false
 apart_from e f h = false_from_ne_true _ (λ t. by (meets-true e f t) h)
   where
     by : Meets e f → EndsAbove e.0.row f ⊎ IsBeside e f → ⊥
@@ -63,19 +63,19 @@ apart_from e f h = false_from_ne_true _ (λ t. by (meets-true e f t) h)
     by m (inr (inr right)) = omega (arith, m.right, right)
 
 -- then the anchor has a place
-pub clear_place : (rows columns : ℕ) (done : List Anchor) (m : BTreeMap ℕ Anchor) (e : Anchor) → IsWalked done m e.0.row → IsClear m e → lies_inside rows columns e ≡ true → has_place rows columns done e ≡ true
+pub clear_place : (rows columns : ℕ) (done : List Rectangle) (m : BTreeMap ℕ Rectangle) (e : Rectangle) → IsWalked done m e.0.row → IsClear m e → lies_inside rows columns e ≡ true → has_place rows columns done e ≡ true
 clear_place rows columns done m e h clear inside = and_from _ _ inside (not_from_false _ (go done h.kept))
   where
-    by : (f : Anchor) → EndsAbove e.0.row f ⊎ (get nat_cmp m f.0.col ≡ Some f) → meets e f ≡ false
+    by : (f : Rectangle) → EndsAbove e.0.row f ⊎ (get nat_cmp m f.0.col ≡ Some f) → meets e f ≡ false
     by f (inl above) = apart_from e f (inl above)
     by f (inr is) = apart_from e f (clear f.0.col f is)
 
-    go : (fs : List Anchor) → AllByRecursion (λ (f : Anchor). EndsAbove e.0.row f ⊎ (get nat_cmp m f.0.col ≡ Some f)) fs → list_any (meets e) fs ≡ false
+    go : (fs : List Rectangle) → AllByRecursion (λ (f : Rectangle). EndsAbove e.0.row f ⊎ (get nat_cmp m f.0.col ≡ Some f)) fs → list_any (meets e) fs ≡ false
     go [] all = refl
     go (f ∷ fs) all = or_from (meets e f) (list_any (meets e) fs) (by f all.0) (go fs all.1)
 
 -- or it has none
-pub met_place : (rows columns : ℕ) (done : List Anchor) (m : BTreeMap ℕ Anchor) (e : Anchor) → IsWalked done m e.0.row → 1 ≤ e.1.0 → IsMet m e → has_place rows columns done e ≡ false
+pub met_place : (rows columns : ℕ) (done : List Rectangle) (m : BTreeMap ℕ Rectangle) (e : Rectangle) → IsWalked done m e.0.row → 1 ≤ e.1.height → IsMet m e → has_place rows columns done e ≡ false
 met_place rows columns done m e h high (q, f, is, reach, right, left) = by (list_any (meets e) done) refl
   where
     met : meets e f ≡ true
@@ -89,12 +89,12 @@ met_place rows columns done m e h high (q, f, is, reach, right, left) = by (list
         never x = cc
 
 -- the map of those that may reach a row, with the anchor put in
-module _ (done : List Anchor) (m kept new : BTreeMap ℕ Anchor) (e : Anchor) (h : IsWalked done m e.0.row) (wide : 1 ≤ e.1.1) (clear : IsClear m e) (was : (q : ℕ) (f : Anchor) → get nat_cmp kept q ≡ Some f → get nat_cmp m q ≡ Some f) (gone : (q : ℕ) (f : Anchor) → get nat_cmp m q ≡ Some f → EndsAbove e.0.row f ⊎ (get nat_cmp kept q ≡ Some f)) (put : (q : ℕ) → get nat_cmp new q ≡ cond (is_eq (nat_cmp e.0.col q)) (Some e) (get nat_cmp kept q)) where
+module _ (done : List Rectangle) (m kept new : BTreeMap ℕ Rectangle) (e : Rectangle) (h : IsWalked done m e.0.row) (wide : 1 ≤ e.1.width) (clear : IsClear m e) (was : (q : ℕ) (f : Rectangle) → get nat_cmp kept q ≡ Some f → get nat_cmp m q ≡ Some f) (gone : (q : ℕ) (f : Rectangle) → get nat_cmp m q ≡ Some f → EndsAbove e.0.row f ⊎ (get nat_cmp kept q ≡ Some f)) (put : (q : ℕ) → get nat_cmp new q ≡ cond (is_eq (nat_cmp e.0.col q)) (Some e) (get nat_cmp kept q)) where
   -- the anchor itself, or one from before
-  Old : ℕ → Anchor → Type 0
+  Old : ℕ → Rectangle → Type 0
   Old q f = ((q ≡ e.0.col) × (f ≡ e)) ⊎ (get nat_cmp m q ≡ Some f)
 
-  old : (q : ℕ) (f : Anchor) → get nat_cmp new q ≡ Some f → Old q f
+  old : (q : ℕ) (f : Rectangle) → get nat_cmp new q ≡ Some f → Old q f
   unfolding Old
   old q f is = by (is_eq (nat_cmp e.0.col q)) refl
     where
@@ -105,7 +105,7 @@ module _ (done : List Anchor) (m kept new : BTreeMap ℕ Anchor) (e : Anchor) (h
   here : get nat_cmp new e.0.col ≡ Some e
   here = (let t : is_eq (nat_cmp e.0.col e.0.col) ≡ true = grind (arith, nat_tests) in put e.0.col ∙ ap (λ b. cond b (Some e) (get nat_cmp kept e.0.col)) t)
 
-  stays : (f : Anchor) → EndsAbove e.0.row f ⊎ (get nat_cmp m f.0.col ≡ Some f) → EndsAbove e.0.row f ⊎ (get nat_cmp new f.0.col ≡ Some f)
+  stays : (f : Rectangle) → EndsAbove e.0.row f ⊎ (get nat_cmp m f.0.col ≡ Some f) → EndsAbove e.0.row f ⊎ (get nat_cmp new f.0.col ≡ Some f)
   stays f (inl above) = inl above
   stays f (inr is) = by (gone f.0.col f is) (is_eq (nat_cmp e.0.col f.0.col)) refl
     where
@@ -119,45 +119,45 @@ module _ (done : List Anchor) (m kept new : BTreeMap ℕ Anchor) (e : Anchor) (h
       by (inr still) true t = beside (grind (arith, nat_tests)) (clear f.0.col f is)
       by (inr still) false t = inr (put f.0.col ∙ ap (λ b. cond b (Some e) (get nat_cmp kept f.0.col)) t ∙ still)
 
-  all_stay : (fs : List Anchor) → AllByRecursion (λ (f : Anchor). EndsAbove e.0.row f ⊎ (get nat_cmp m f.0.col ≡ Some f)) fs → AllByRecursion (λ (f : Anchor). EndsAbove e.0.row f ⊎ (get nat_cmp new f.0.col ≡ Some f)) fs
+  all_stay : (fs : List Rectangle) → AllByRecursion (λ (f : Rectangle). EndsAbove e.0.row f ⊎ (get nat_cmp m f.0.col ≡ Some f)) fs → AllByRecursion (λ (f : Rectangle). EndsAbove e.0.row f ⊎ (get nat_cmp new f.0.col ≡ Some f)) fs
   all_stay [] all = tt
   all_stay (f ∷ fs) all = (stays f all.0, all_stay fs all.1)
 
-  keyed : (q : ℕ) (f : Anchor) → Old q f → f.0.col ≡ q
+  keyed : (q : ℕ) (f : Rectangle) → Old q f → f.0.col ≡ q
   unfolding Old
-  keyed q f (inl (at, is)) = ap (λ (a : Anchor). a.0.col) is ∙ sym at
+  keyed q f (inl (at, is)) = ap (λ (a : Rectangle). a.0.col) is ∙ sym at
   keyed q f (inr is) = h.keyed q f is
 
-  begun : (q : ℕ) (f : Anchor) → Old q f → (f.0.row ≤ e.0.row) × (1 ≤ f.1.1)
+  begun : (q : ℕ) (f : Rectangle) → Old q f → (f.0.row ≤ e.0.row) × (1 ≤ f.1.width)
   unfolding Old
-  begun q f (inl (at, is)) = subst (λ (a : Anchor). (a.0.row ≤ e.0.row) × (1 ≤ a.1.1)) (sym is) (omega arith, wide)
+  begun q f (inl (at, is)) = subst (λ (a : Rectangle). (a.0.row ≤ e.0.row) × (1 ≤ a.1.width)) (sym is) (omega arith, wide)
   begun q f (inr is) = h.begun q f is
 
-  beside : (q r : ℕ) (f g : Anchor) → Old q f → Old r g → q < r → e.0.row < f.0.row + f.1.0 → e.0.row < g.0.row + g.1.0 → f.0.col + f.1.1 ≤ r
+  beside : (q r : ℕ) (f g : Rectangle) → Old q f → Old r g → q < r → e.0.row < f.0.row + f.1.height → e.0.row < g.0.row + g.1.height → f.0.col + f.1.width ≤ r
   unfolding Old
   beside q r f g (inl (at, is)) (inl (at_too, is_too)) below reach reach_too = absurd (omega (arith, at, at_too, below))
-  beside q r f g (inl (at, is)) (inr other) below reach reach_too = subst (λ (a : Anchor). a.0.col + a.1.1 ≤ r) (sym is) (by (clear r g other))
+  beside q r f g (inl (at, is)) (inr other) below reach reach_too = subst (λ (a : Rectangle). a.0.col + a.1.width ≤ r) (sym is) (by (clear r g other))
     where
-      by : EndsAbove e.0.row g ⊎ IsBeside e g → e.0.col + e.1.1 ≤ r
+      by : EndsAbove e.0.row g ⊎ IsBeside e g → e.0.col + e.1.width ≤ r
       by (inl above) = absurd (omega (arith, above, reach_too))
       by (inr (inl left)) = absurd (omega (arith, left, h.keyed r g other, at, below))
       by (inr (inr right)) = omega (arith, right, h.keyed r g other)
   beside q r f g (inr one) (inl (at, is)) below reach reach_too = by (clear q f one)
     where
-      by : EndsAbove e.0.row f ⊎ IsBeside e f → f.0.col + f.1.1 ≤ r
+      by : EndsAbove e.0.row f ⊎ IsBeside e f → f.0.col + f.1.width ≤ r
       by (inl above) = absurd (omega (arith, above, reach))
       by (inr (inl left)) = omega (arith, left, at)
       by (inr (inr right)) = absurd (omega (arith, right, h.keyed q f one, at, below))
   beside q r f g (inr one) (inr other) below reach reach_too = h.beside q r f g one other below reach reach_too
 
-  among : (q : ℕ) (f : Anchor) → Old q f → (a : Anchor) → list_any (meets a) (done ++ e ∷ []) ≡ false → meets a f ≡ false
+  among : (q : ℕ) (f : Rectangle) → Old q f → (a : Rectangle) → list_any (meets a) (done ++ e ∷ []) ≡ false → meets a f ≡ false
   unfolding Old
   among q f (inl (at, is)) a none = ap (meets a) is ∙ meets-turned a e ∙ (any-parts a e done none).1
   among q f (inr is) a none = h.among q f is a (any-parts a e done none).0
 
   pub walked-more : IsWalked (done ++ e ∷ []) new e.0.row
   walked-more = record {
-    kept = all-append (λ (f : Anchor). EndsAbove e.0.row f ⊎ (get nat_cmp new f.0.col ≡ Some f)) done (e ∷ []) (all_stay done h.kept) (inr here, tt);
+    kept = all-append (λ (f : Rectangle). EndsAbove e.0.row f ⊎ (get nat_cmp new f.0.col ≡ Some f)) done (e ∷ []) (all_stay done h.kept) (inr here, tt);
     keyed = λ q f is. keyed q f (old q f is);
     begun = λ q f is. begun q f (old q f is);
     beside = λ q r f g is other below reach reach_too. beside q r f g (old q f is) (old r g other) below reach reach_too;
@@ -165,14 +165,14 @@ module _ (done : List Anchor) (m kept new : BTreeMap ℕ Anchor) (e : Anchor) (h
   }
 
 -- so far gone through
-pub record HasWalked (rows columns : ℕ) (es : List Anchor) (k : ℕ) (m : BTreeMap ℕ Anchor) : Type 0 where
+pub record HasWalked (rows columns : ℕ) (es : List Rectangle) (k : ℕ) (m : BTreeMap ℕ Rectangle) : Type 0 where
   pub row : ℕ
   pub walked : IsWalked (take k es) m row
-  pub below : (d : Anchor) → k < length es → row ≤ (get_or es k d).0.row
+  pub below : (d : Rectangle) → k < length es → row ≤ (get_or es k d).0.row
   pub fits : fit_in rows columns (take k es) ≡ true
 
 -- none has a place after one that has none
-cut_short : (rows columns : ℕ) (done xs ys : List Anchor) → have_places rows columns done xs ≡ false → have_places rows columns done (xs ++ ys) ≡ false
+cut_short : (rows columns : ℕ) (done xs ys : List Rectangle) → have_places rows columns done xs ≡ false → have_places rows columns done (xs ++ ys) ≡ false
 cut_short rows columns done [] ys h = absurd (never h)
   where
     never : true ≡ false → ⊥
@@ -184,33 +184,33 @@ cut_short rows columns done (x ∷ xs) ys h = by (has_place rows columns done x)
     by true g later = later g
 
 -- an anchor that has no place after those gone through
-pub has_walked-stop : (rows columns : ℕ) (es : List Anchor) (k : ℕ) (e : Anchor) → k < length es → e ≡ get_or es k e → has_place rows columns (take k es) e ≡ false → fit_in rows columns es ≡ false
+pub has_walked-stop : (rows columns : ℕ) (es : List Rectangle) (k : ℕ) (e : Rectangle) → k < length es → e ≡ get_or es k e → has_place rows columns (take k es) e ≡ false → fit_in rows columns es ≡ false
 has_walked-stop rows columns es k e within is none =
-    let more : take (k + 1) es ≡ take k es ++ e ∷ [] = take_more es k e within ∙ ap (λ (a : Anchor). take k es ++ a ∷ []) (sym is) in
+    let more : take (k + 1) es ≡ take k es ++ e ∷ [] = take_more es k e within ∙ ap (λ (a : Rectangle). take k es ++ a ∷ []) (sym is) in
     let stop : fit_in rows columns (take (k + 1) es) ≡ false = ap (fit_in rows columns) more ∙ have_places-push rows columns [] (take k es) e ∙ and_right _ _ none in
     ap (fit_in rows columns) (sym (take-append-drop (k + 1) es)) ∙ cut_short rows columns [] (take (k + 1) es) (drop (k + 1) es) stop
 
 -- at the row of the next anchor
-pub walked-here : (rows columns : ℕ) (es : List Anchor) (k : ℕ) (m : BTreeMap ℕ Anchor) (e : Anchor) → HasWalked rows columns es k m → k < length es → e ≡ get_or es k e → IsWalked (take k es) m e.0.row
-walked-here rows columns es k m e h within is = walked-later (take k es) m h.row e.0.row (subst (λ (a : Anchor). h.row ≤ a.0.row) (sym is) (h.below e within)) h.walked
+pub walked-here : (rows columns : ℕ) (es : List Rectangle) (k : ℕ) (m : BTreeMap ℕ Rectangle) (e : Rectangle) → HasWalked rows columns es k m → k < length es → e ≡ get_or es k e → IsWalked (take k es) m e.0.row
+walked-here rows columns es k m e h within is = walked-later (take k es) m h.row e.0.row (subst (λ (a : Rectangle). h.row ≤ a.0.row) (sym is) (h.below e within)) h.walked
 
 -- one more
-pub has_walked-more : (rows columns : ℕ) (es : List Anchor) (k : ℕ) (m kept new : BTreeMap ℕ Anchor) (e : Anchor) → HasWalked rows columns es k m → RowsRise es → k < length es → e ≡ get_or es k e → 1 ≤ e.1.1 → lies_inside rows columns e ≡ true → IsClear m e → ((q : ℕ) (f : Anchor) → get nat_cmp kept q ≡ Some f → get nat_cmp m q ≡ Some f) → ((q : ℕ) (f : Anchor) → get nat_cmp m q ≡ Some f → EndsAbove e.0.row f ⊎ (get nat_cmp kept q ≡ Some f)) → ((q : ℕ) → get nat_cmp new q ≡ cond (is_eq (nat_cmp e.0.col q)) (Some e) (get nat_cmp kept q)) → HasWalked rows columns es (k + 1) new
+pub has_walked-more : (rows columns : ℕ) (es : List Rectangle) (k : ℕ) (m kept new : BTreeMap ℕ Rectangle) (e : Rectangle) → HasWalked rows columns es k m → RowsRise es → k < length es → e ≡ get_or es k e → 1 ≤ e.1.width → lies_inside rows columns e ≡ true → IsClear m e → ((q : ℕ) (f : Rectangle) → get nat_cmp kept q ≡ Some f → get nat_cmp m q ≡ Some f) → ((q : ℕ) (f : Rectangle) → get nat_cmp m q ≡ Some f → EndsAbove e.0.row f ⊎ (get nat_cmp kept q ≡ Some f)) → ((q : ℕ) → get nat_cmp new q ≡ cond (is_eq (nat_cmp e.0.col q)) (Some e) (get nat_cmp kept q)) → HasWalked rows columns es (k + 1) new
 has_walked-more rows columns es k m kept new e h up within is wide inside clear was gone put =
-    let more : take (k + 1) es ≡ take k es ++ e ∷ [] = take_more es k e within ∙ ap (λ (a : Anchor). take k es ++ a ∷ []) (sym is) in
+    let more : take (k + 1) es ≡ take k es ++ e ∷ [] = take_more es k e within ∙ ap (λ (a : Rectangle). take k es ++ a ∷ []) (sym is) in
     let at : IsWalked (take k es) m e.0.row = walked-here rows columns es k m e h within is in
     record {
       row = e.0.row;
-      walked = subst (λ (fs : List Anchor). IsWalked fs new e.0.row) (sym more) (walked-more (take k es) m kept new e at wide clear was gone put);
+      walked = subst (λ (fs : List Rectangle). IsWalked fs new e.0.row) (sym more) (walked-more (take k es) m kept new e at wide clear was gone put);
       below = λ d next. by d next (up k d next);
       fits = ap (fit_in rows columns) more ∙ have_places-push rows columns [] (take k es) e ∙ and_from _ _ h.fits (clear_place rows columns (take k es) m e at clear inside);
     }
   where
-    by : (d : Anchor) → k + 1 < length es → (get_or es k d).0.row ≤ (get_or es (k + 1) d).0.row → e.0.row ≤ (get_or es (k + 1) d).0.row
-    by d next le = subst (λ (a : Anchor). a.0.row ≤ (get_or es (k + 1) d).0.row) (get_or_default es k d e within ∙ sym is) le
+    by : (d : Rectangle) → k + 1 < length es → (get_or es k d).0.row ≤ (get_or es (k + 1) d).0.row → e.0.row ≤ (get_or es (k + 1) d).0.row
+    by d next le = subst (λ (a : Rectangle). a.0.row ≤ (get_or es (k + 1) d).0.row) (get_or_default es k d e within ∙ sym is) le
 
 -- the size of an anchor of a list
-pub size_at : (es : List Anchor) (k : ℕ) (d : Anchor) → k < length es → AllByRecursion (λ (e : Anchor). IsSpanSize e.1) es → IsSpanSize (get_or es k d).1
+pub size_at : (es : List Rectangle) (k : ℕ) (d : Rectangle) → k < length es → AllByRecursion (λ (e : Rectangle). IsSpanSize e.1) es → IsSpanSize (get_or es k d).1
 size_at [] k d within sizes = absurd (omega (arith, within))
 size_at (e ∷ es) zero d within sizes = sizes.0
 size_at (e ∷ es) (suc k) d within sizes = size_at es k d (omega (arith, within)) sizes.1

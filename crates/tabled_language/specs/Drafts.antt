@@ -1,8 +1,8 @@
 -- What was read of a script so far: enough to tell whether the next line stands in its place, and to check the whole at the end. Nothing of it belongs to the language.
 use Rattle.std.specs.Prelude.{ℕ, ◌+◌, ◌==◌, ◌&&◌, Bool, true, false, List, [], ◌∷◌, ◌++◌, if◌then◌else◌, map, Option, None, Some, filter_map}
 use Rattle.std.specs.Option.{is_none, option_map, option_or}
-use Rattle.tabled_grid.specs.Anchors.{Anchor}
 use Rattle.tabled_grid.specs.Grid.{Grid}
+use Rattle.tabled_grid.specs.Spans.{Rectangle}
 use Rattle.tabled_steps.specs.States.{State}
 use Rattle.tabled_language.specs.declared.fault.Fault.{Fault}
 use Rattle.tabled_language.specs.declared.fault.Fault.TheVariants.{OutOfPlace, ShapeDiffers}
@@ -13,7 +13,7 @@ use Rattle.tabled_language.specs.Verb.{Line, ShapeLine, RecordLine, SpanLine}
 pub record Draft : Type 0 where
   pub shape : Option (ℕ × (ℕ × ℕ))
   pub records : List (List (List ℕ))
-  pub anchors : List Anchor
+  pub anchors : List Rectangle
   pub lines : List ℕ
   pub steps : List (State → State)
 
@@ -43,7 +43,7 @@ abbrev pub anchor_lines : ℕ → List Line → List ℕ
 anchor_lines n [] = []
 anchor_lines n (line ∷ lines) = go (anchor_in line) (anchor_lines (n + 1) lines)
   where
-    go : Option Anchor → List ℕ → List ℕ
+    go : Option Rectangle → List ℕ → List ℕ
     go None numbers = numbers
     go (Some anchor) numbers = (n + 1) ∷ numbers
 
@@ -62,6 +62,6 @@ with_line d n line = record {
   shape = option_or d.shape (option_map (λ shape. (n, shape)) (shape_in line));
   records = d.records ++ filter_map record_in (line ∷ []);
   anchors = d.anchors ++ filter_map anchor_in (line ∷ []);
-  lines = d.lines ++ map (λ (e : Anchor). n) (filter_map anchor_in (line ∷ []));
+  lines = d.lines ++ map (λ (e : Rectangle). n) (filter_map anchor_in (line ∷ []));
   steps = d.steps ++ filter_map step_in (line ∷ []);
 }

@@ -5,9 +5,8 @@ use Rattle.std.specs.List.{list_all, list_any, slice_split}
 use Rattle.std.specs.Option.{option_map, option_or}
 use Rattle.std.specs.Result.{result_ok}
 use Rattle.std.specs.Str.{bytes_eq, is_utf8}
-use Rattle.tabled_grid.specs.Anchors.{Anchor}
 use Rattle.tabled_grid.specs.Grid.{Grid}
-use Rattle.tabled_grid.specs.Spans.{SpanMap}
+use Rattle.tabled_grid.specs.Spans.{Rectangle, SpanMap}
 use Rattle.tabled_language.specs.declared.fault.Fault.{Fault}
 use Rattle.tabled_language.specs.declared.fault.Fault.TheVariants.{Escape, OutOfPlace, ShapeDiffers, SpanMisfits}
 use Rattle.tabled_language.specs.Placed.{has_place}
@@ -97,7 +96,7 @@ record_in (RecordLine texts) = Some texts
 record_in line = None
 
 -- the anchor that a line says, if it says one
-abbrev pub anchor_in : Line → Option Anchor
+abbrev pub anchor_in : Line → Option Rectangle
 anchor_in (SpanLine read) = result_ok read
 anchor_in line = None
 

@@ -4,7 +4,7 @@ use Rattle.std.specs.FinMap.{entries}
 use Rattle.std.specs.List.{flat_map, join_with_byte}
 use Rattle.std.specs.Fmt.{decimal}
 use Rattle.tabled_grid.specs.Grid.{Grid}
-use Rattle.tabled_grid.specs.declared.config.position.Position.{Position}
+use Rattle.tabled_grid.specs.Spans.{Rectangle}
 use Rattle.tabled_steps.specs.States.{State}
 
 -- a byte of a text as it stands in a word
@@ -24,8 +24,8 @@ abbrev pub line : List (List ℕ) → List ℕ
 line texts = joined texts ++ 10 ∷ []
 
 -- the line of an anchor: its row and column, and its rectangle's height and width
-abbrev pub span_line : Position × (ℕ × ℕ) → List ℕ
-span_line e = line (codes "span" ∷ decimal e.0.row ∷ decimal e.0.col ∷ decimal e.1.0 ∷ decimal e.1.1 ∷ [])
+abbrev pub span_line : Rectangle → List ℕ
+span_line e = line (codes "span" ∷ decimal e.0.row ∷ decimal e.0.col ∷ decimal e.1.height ∷ decimal e.1.width ∷ [])
 
 -- the lines of a table's shape, and then of its rows
 abbrev pub table_lines : Grid (List ℕ) → List ℕ

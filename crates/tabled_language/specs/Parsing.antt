@@ -3,9 +3,8 @@ use Rattle.std.specs.Prelude.{◌≡◌, ◌<◌, ℕ, Bool, true, List, [], len
 use Rattle.std.specs.Global.{Vec}
 use Rattle.std.specs.List.{AllByRecursion}
 use Rattle.std.specs.Slice.Iter.{iter_rest}
-use Rattle.tabled_grid.specs.Anchors.{Anchor}
 use Rattle.tabled_grid.specs.Grid.{map_items}
-use Rattle.tabled_grid.specs.Spans.{IsSpanSize, SpanMap}
+use Rattle.tabled_grid.specs.Spans.{IsSpanSize, Rectangle, SpanMap}
 use Rattle.tabled_steps.specs.States.{after}
 use Rattle.tabled_steps.specs.declared.step.Step.{Step}
 use Rattle.tabled_language.specs.declared.draft.Draft.{Draft as Drafted}
@@ -54,7 +53,7 @@ ReadsLine old n line asks result new = MatchResult result (λ _. (fault_behind o
 
 -- each anchor has the size of more than one cell, and the number of a line
 abbrev pub IsNumbered : Drafted → Type 0
-IsNumbered d = AllByRecursion (λ (e : Anchor). IsSpanSize e.1) d.anchors.items × (length d.lines.items ≡ length d.anchors.items)
+IsNumbered d = AllByRecursion (λ (e : Rectangle). IsSpanSize e.1) d.anchors.items × (length d.lines.items ≡ length d.anchors.items)
 
 -- all lines of a script are read into a draft, and none is faulty by itself
 pub record ReadsScript (input : List ℕ) (draft : Draft) : Type 0 where

@@ -1,23 +1,24 @@
 -- Rectangles that come one after another, each with a place of its own.
 use Rattle.std.specs.Prelude.{◌≡◌, ◌<◌, ℕ, ◌&&◌, Bool, true, false, length, get_or, take, List, [], ◌∷◌, ◌++◌, not}
 use Rattle.std.specs.List.{list_any}
-use Rattle.tabled_grid.specs.Anchors.{Anchor, lies_inside, meets}
+use Rattle.tabled_grid.specs.Anchors.{lies_inside, meets}
+use Rattle.tabled_grid.specs.Spans.{Rectangle}
 
 -- a rectangle lies inside a table, and shares no cell with those of anchors
-abbrev pub has_place : ℕ → ℕ → List Anchor → Anchor → Bool
+abbrev pub has_place : ℕ → ℕ → List Rectangle → Rectangle → Bool
 has_place rows columns anchors e = lies_inside rows columns e && not (list_any (meets e) anchors)
 
 -- each anchor has a place after those before it
-abbrev pub have_places : ℕ → ℕ → List Anchor → List Anchor → Bool
+abbrev pub have_places : ℕ → ℕ → List Rectangle → List Rectangle → Bool
 have_places rows columns done [] = true
 have_places rows columns done (e ∷ es) = has_place rows columns done e && have_places rows columns (done ++ e ∷ []) es
 
 -- all anchors have places
-abbrev pub fit_in : ℕ → ℕ → List Anchor → Bool
+abbrev pub fit_in : ℕ → ℕ → List Rectangle → Bool
 fit_in rows columns es = have_places rows columns [] es
 
 -- the anchors before an index have places, and the one there has none after them
-pub record IsFirstMisfit (rows columns : ℕ) (es : List Anchor) (i : ℕ) : Type 0 where
+pub record IsFirstMisfit (rows columns : ℕ) (es : List Rectangle) (i : ℕ) : Type 0 where
   pub within : i < length es
   pub before : fit_in rows columns (take i es) ≡ true
-  pub there : (d : Anchor) → has_place rows columns (take i es) (get_or es i d) ≡ false
+  pub there : (d : Rectangle) → has_place rows columns (take i es) (get_or es i d) ≡ false

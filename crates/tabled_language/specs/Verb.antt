@@ -2,7 +2,6 @@
 use Rattle.std.specs.Prelude.{ℕ, ◌*◌, true, false, List, [], ◌∷◌, codes, if◌then◌else◌, None, Some, Result, Ok, Err, take, drop, map, length, nat_le}
 use Rattle.std.specs.List.{range_with_len}
 use Rattle.std.specs.Str.{bytes_eq}
-use Rattle.tabled_grid.specs.Anchors.{Anchor}
 use Rattle.tabled_grid.specs.Grid.{Grid}
 use Rattle.tabled_grid.specs.declared.config.offset.Offset.{Offset}
 use Rattle.tabled_grid.specs.declared.config.offset.Offset.TheVariants.{End, Start}
@@ -12,6 +11,7 @@ use Rattle.tabled_settings.specs.Rearranged.{extracted, rotated}
 use Rattle.tabled_settings.specs.declared.rotate.Rotate.{Rotate}
 use Rattle.tabled_settings.specs.declared.rotate.Rotate.TheVariants.{Bottom, Left, Right, Top}
 use Rattle.tabled_grid.specs.declared.records.piece_order.PieceOrder.{PieceOrder}
+use Rattle.tabled_grid.specs.Spans.{Rectangle}
 use Rattle.tabled_grid.specs.declared.records.piece_order.PieceOrder.TheVariants as order
 use Rattle.tabled_settings.specs.declared.split.Display.{Display}
 use Rattle.tabled_settings.specs.declared.split.Display.TheVariants as display
@@ -30,7 +30,7 @@ pub data Line : Type 0 where
   EmptyLine : Line
   ShapeLine : Result (ℕ × ℕ) Fault → Line
   RecordLine : List (List ℕ) → Line
-  SpanLine : Result Anchor Fault → Line
+  SpanLine : Result Rectangle Fault → Line
   StepLine : (State → State) → Line
   FaultyLine : Fault → Line
 

@@ -9,10 +9,11 @@ use crate::fault::{Fault, ReadError};
 use crate::lent::LentText;
 use crate::padding::longest;
 use crate::script::Script;
-use crate::spans::{Anchor, merged_or_misfit};
+use crate::spans::merged_or_misfit;
 use crate::texts::{Fields, escaped_texts, plain};
 use crate::words::{Read, Words};
 use std::alloc::{AllocError, Global};
+use tabled_grid::config::Rectangle;
 use tabled_grid::records::CellText;
 use tabled_steps::Step;
 
@@ -23,7 +24,7 @@ pub(crate) struct Draft<'a> {
     shape: Option<(usize, (usize, usize))>,
     records: Vec<Vec<LentText<'a>>>,
     /// The anchors, in the order of their lines.
-    anchors: Vec<Anchor>,
+    anchors: Vec<Rectangle>,
     /// The number of each anchor's line.
     lines: Vec<usize>,
     steps: Vec<Step>,

@@ -1,9 +1,8 @@
 //! The words after `shape` and `span`.
 
 use crate::fault::{Fault, ReadError};
-use crate::spans::Anchor;
 use crate::words::{Read, Words};
-use tabled_grid::config::Position;
+use tabled_grid::config::{Position, Rectangle, Size};
 
 impl<'a> Words<'a> {
     ghost use Rattle.std.specs.Prelude.{◌≡◌, ◌≤◌, ◌<◌, IfOk};
@@ -21,7 +20,7 @@ impl<'a> Words<'a> {
     }
 
     /// A row and a column, and then a height and a width.
-    pub(crate) fn anchor(&mut self) -> Read<Anchor>
+    pub(crate) fn anchor(&mut self) -> Read<Rectangle>
         ensures read { Reads (λ anchor. anchor) reads_anchor self.old result self.new }
         ensures size { IfOk result (λ anchor. IsSpanSize anchor.1) }
     {
@@ -29,7 +28,7 @@ impl<'a> Words<'a> {
         let column = self.size()?;
         let height = self.extent()?;
         let width = self.width(height)?;
-        Ok((Position::new(row, column), (height, width)))
+        Ok((Position::new(row, column), Size { height, width }))
     }
 
     /// A width after a height; one cell is no rectangle.

@@ -3,16 +3,12 @@
 ghost use Rattle.std.specs.Prelude.{false, true, ◌≡◌, ◌+◌, ◌<◌, ◌≤◌, ℕ, IfOk, MatchResult, OnErr, length};
 ghost use Rattle.std.specs.FinMap.{from_entries, from_sorted};
 ghost use Rattle.std.specs.List.{AllByRecursion};
-ghost use Rattle.tabled_grid.specs.Spans.{AreAnchors, IsSpanSize, position_cmp};
-ghost use Rattle.tabled_grid.specs.declared.config.position.Position.{Position};
+ghost use Rattle.tabled_grid.specs.Spans.{AreAnchors, IsSpanSize, Rectangle, position_cmp};
 ghost use Rattle.tabled_language.specs.Placed.{IsFirstMisfit, fit_in};
 
 use crate::walk::have_places;
 use std::alloc::{AllocError, Global};
-use tabled_grid::config::{Position, SpannedConfig};
-
-/// A place, and the height and the width of the rectangle that is anchored there.
-pub(crate) type Anchor = (Position, (usize, usize));
+use tabled_grid::config::{Rectangle, SpannedConfig};
 
 /// The merged cells of anchors, or the index of the first whose rectangle leaves the table or shares a
 /// cell with that of one before it. It takes no memory where there are no anchors.
@@ -21,11 +17,11 @@ pub(crate) type Anchor = (Position, (usize, usize));
 /// steps that double, and then by halves: what fits still fits with fewer anchors.
 pub(crate) fn merged_or_misfit(
     alloc: Global,
-    anchors: &[Anchor],
+    anchors: &[Rectangle],
     rows: usize,
     columns: usize,
 ) -> Result<Result<SpannedConfig, usize>, AllocError>
-    requires { AllByRecursion (λ (e : Position × (ℕ × ℕ)). IsSpanSize e.1) anchors.now }
+    requires { AllByRecursion (λ (e : Rectangle). IsSpanSize e.1) anchors.now }
     ensures answer { IfOk result (λ answer. MatchResult answer
         (λ spans. (fit_in rows columns anchors.now ≡ true) × (spans ≡ from_entries anchors.now))
         (λ misfit. IsFirstMisfit rows columns anchors.now misfit)) }
@@ -46,12 +42,12 @@ pub(crate) fn merged_or_misfit(
 /// vector has their map.
 fn fit(
     alloc: Global,
-    sorted: &mut Vec<Anchor>,
-    anchors: &[Anchor],
+    sorted: &mut Vec<Rectangle>,
+    anchors: &[Rectangle],
     rows: usize,
     columns: usize,
 ) -> Result<bool, AllocError>
-    requires { AllByRecursion (λ (e : Position × (ℕ × ℕ)). IsSpanSize e.1) anchors.now }
+    requires { AllByRecursion (λ (e : Rectangle). IsSpanSize e.1) anchors.now }
     ensures fit { IfOk result (λ fit. fit ≡ fit_in rows columns anchors.now) }
     ensures made { IfOk result (λ fit. fit ≡ true → AreAnchors sorted.new.items × (from_sorted {R = position_cmp} sorted.new.items ≡ from_entries anchors.now)) }
 {
@@ -64,12 +60,12 @@ fn fit(
 /// The index of the first anchor that has no place after those before it.
 fn first_misfit(
     alloc: Global,
-    mut sorted: Vec<Anchor>,
-    anchors: &[Anchor],
+    mut sorted: Vec<Rectangle>,
+    anchors: &[Rectangle],
     rows: usize,
     columns: usize,
 ) -> Result<usize, AllocError>
-    requires sizes { AllByRecursion (λ (e : Position × (ℕ × ℕ)). IsSpanSize e.1) anchors.now }
+    requires sizes { AllByRecursion (λ (e : Rectangle). IsSpanSize e.1) anchors.now }
     requires misfits { fit_in rows columns anchors.now ≡ false }
     ensures { IfOk result (λ misfit. IsFirstMisfit rows columns anchors.now misfit) }
 {

@@ -4,14 +4,14 @@ ghost use Rattle.std.specs.Prelude.{◌≡◌, ◌+◌, ◌^◌, ◌≤◌, ◌<
 ghost use Rattle.std.specs.BTreeMap.{get};
 ghost use Rattle.std.specs.List.{AllByRecursion};
 ghost use Rattle.std.specs.Ordering.{nat_cmp};
-ghost use Rattle.tabled_grid.specs.Anchors.{Anchor, lies_inside};
-ghost use Rattle.tabled_grid.specs.Spans.{IsSpanSize};
+ghost use Rattle.tabled_grid.specs.Anchors.{lies_inside};
+ghost use Rattle.tabled_grid.specs.Spans.{IsSpanSize, Rectangle};
 ghost use Rattle.tabled_language.specs.Placed.{fit_in};
 ghost use Rattle.tabled_language.specs.Walk.{AreKeyed, AreBeside, EndsAbove, IsBeside, RowsRise};
 
-use crate::spans::Anchor;
 use std::alloc::{AllocError, Global};
 use std::collections::BTreeMap;
+use tabled_grid::config::{Rectangle, Size};
 
 /// Says whether all rectangles lie inside a table and no two share a cell.
 ///
@@ -20,12 +20,12 @@ use std::collections::BTreeMap;
 /// that each comes and goes once.
 pub(crate) fn have_places(
     alloc: Global,
-    anchors: &[Anchor],
+    anchors: &[Rectangle],
     rows: usize,
     columns: usize,
 ) -> Result<bool, AllocError>
     requires rising { RowsRise anchors.now }
-    requires sizes { AllByRecursion (λ (e : Anchor). IsSpanSize e.1) anchors.now }
+    requires sizes { AllByRecursion (λ (e : Rectangle). IsSpanSize e.1) anchors.now }
     ensures { IfOk result (λ fit. fit ≡ fit_in rows columns anchors.now) }
 {
     let mut reaching = BTreeMap::new(alloc);
@@ -40,20 +40,20 @@ pub(crate) fn have_places(
 
 /// Says whether no rectangle that reaches the row of an anchor shares a column with it. Takes some away that
 /// end above.
-fn is_clear(reaching: &mut BTreeMap<usize, Anchor>, anchor: Anchor) -> bool
-    requires fits { anchor.0.col + anchor.1.1 < 2 ^ 64 }
+fn is_clear(reaching: &mut BTreeMap<usize, Rectangle>, anchor: Rectangle) -> bool
+    requires fits { anchor.0.col + anchor.1.width < 2 ^ 64 }
     requires keyed { AreKeyed reaching.old }
     requires beside { AreBeside anchor.0.row reaching.old }
-    ensures kept { (q : ℕ) (f : Anchor) → get nat_cmp reaching.new q ≡ Some f → get nat_cmp reaching.old q ≡ Some f }
-    ensures gone { (q : ℕ) (f : Anchor) → get nat_cmp reaching.old q ≡ Some f → EndsAbove anchor.0.row f ⊎ (get nat_cmp reaching.new q ≡ Some f) }
+    ensures kept { (q : ℕ) (f : Rectangle) → get nat_cmp reaching.new q ≡ Some f → get nat_cmp reaching.old q ≡ Some f }
+    ensures gone { (q : ℕ) (f : Rectangle) → get nat_cmp reaching.old q ≡ Some f → EndsAbove anchor.0.row f ⊎ (get nat_cmp reaching.new q ≡ Some f) }
     ensures clear { MatchBool result
-        ((q : ℕ) (f : Anchor) → get nat_cmp reaching.old q ≡ Some f → EndsAbove anchor.0.row f ⊎ IsBeside anchor f)
-        ((q : ℕ) × (f : Anchor) × (get nat_cmp reaching.old q ≡ Some f) × (anchor.0.row < f.0.row + f.1.0) × (f.0.col < anchor.0.col + anchor.1.1) × (anchor.0.col < f.0.col + f.1.1)) }
+        ((q : ℕ) (f : Rectangle) → get nat_cmp reaching.old q ≡ Some f → EndsAbove anchor.0.row f ⊎ IsBeside anchor f)
+        ((q : ℕ) × (f : Rectangle) × (get nat_cmp reaching.old q ≡ Some f) × (anchor.0.row < f.0.row + f.1.height) × (f.0.col < anchor.0.col + anchor.1.width) × (anchor.0.col < f.0.col + f.1.width)) }
 {
-    let end = anchor.0.col + anchor.1.1;
+    let end = anchor.0.col + anchor.1.width;
     while let Some(near) = last_before(reaching, end) {
-        if !ends_by(near.0.row, near.1.0, anchor.0.row) {
-            return ends_by(near.0.col, near.1.1, anchor.0.col);
+        if !ends_by(near.0.row, near.1.height, anchor.0.row) {
+            return ends_by(near.0.col, near.1.width, anchor.0.col);
         }
         reaching.remove(&near.0.col);
     }
@@ -61,7 +61,7 @@ fn is_clear(reaching: &mut BTreeMap<usize, Anchor>, anchor: Anchor) -> bool
 }
 
 /// The last rectangle that begins before a column.
-fn last_before(reaching: &BTreeMap<usize, Anchor>, column: usize) -> Option<Anchor>
+fn last_before(reaching: &BTreeMap<usize, Rectangle>, column: usize) -> Option<Rectangle>
     ensures { MatchOption result
         ((q : ℕ) → q < column → get nat_cmp reaching.now q ≡ None)
         (λ f. (q : ℕ) × (q < column) × (get nat_cmp reaching.now q ≡ Some f) × ((r : ℕ) → q < r → r < column → get nat_cmp reaching.now r ≡ None)) }
@@ -73,10 +73,10 @@ fn last_before(reaching: &BTreeMap<usize, Anchor>, column: usize) -> Option<Anch
 }
 
 /// Says whether the rectangle of an anchor lies inside a table.
-fn is_inside(anchor: Anchor, rows: usize, columns: usize) -> bool
+fn is_inside(anchor: Rectangle, rows: usize, columns: usize) -> bool
     ensures { result ≡ lies_inside rows columns anchor }
 {
-    let (first, (height, width)) = anchor;
+    let (first, Size { height, width }) = anchor;
     ends_by(first.row, height, rows) && ends_by(first.col, width, columns)
 }
 

@@ -149,8 +149,8 @@ fn write_spans<W: Write>(writer: &mut W, held: &mut Vec<u8>, cfg: &SpannedConfig
     ensures room { OnOk result (HasRoom PART held.new) }
 {
     for (pos, size) in cfg.anchors() {
-        let (height, width) = *size;
-        hold_numbers(held, "span", &[pos.row, pos.col, height, width]);
+        let numbers = [pos.row, pos.col, size.height, size.width];
+        hold_numbers(held, "span", &numbers);
         send(writer, held)?;
     }
     Ok(())

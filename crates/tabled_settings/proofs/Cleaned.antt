@@ -6,6 +6,7 @@ use Rattle.std.specs.List.{AllByRecursion}
 use Rattle.std.specs.Prelude.{◌==◌}
 use Rattle.tabled_grid.proofs.Lists.{all-append}
 use Rattle.tabled_settings.specs.Charsets.{IsClean, cleaned, replaced, stays, with_tabs}
+use Rattle.tabled_grid.specs.Spans.{sized}
 
 spaces_clean : (n : ℕ) → AllByRecursion IsClean (replicate n 32)
 spaces_clean zero = tt

@@ -13,9 +13,9 @@ ghost use Rattle.std.proofs.Common.{rules};
 
 use crate::lines;
 use std::alloc::{AllocError, Global};
-use tabled_grid::config::{Entity, Offset, Position, SpannedConfig};
+use tabled_grid::config::{Entity, Offset, Position, Rectangle, Size, SpannedConfig};
 use tabled_grid::records::{Axis, Blank, ExactRecords, Records, Resizable};
-use tabled_images::{Moves, MovesRectangles, Rectangle, carry_along, image_of, kept_in_place};
+use tabled_images::{Moves, MovesRectangles, carry_along, image_of, kept_in_place};
 use tabled_options::TableOption;
 
 /// Puts rows or columns, from a start up to a limit, into the opposite order, and merged cells with them. It
@@ -185,7 +185,7 @@ impl Moves for Mirror {
 
 impl MovesRectangles for Mirror {
     fn new_rectangle(&self, of: Rectangle) -> Option<Rectangle> {
-        let (first, (height, width)) = of;
+        let (first, Size { height, width }) = of;
         let count = self.axis.count_of(self.rows, self.columns);
         if self.end > count || first.row + height > self.rows || first.col + width > self.columns {
             return image_of(self, of);
@@ -197,7 +197,7 @@ impl MovesRectangles for Mirror {
         }
         if self.start <= line && past <= self.end {
             let place = self.axis.in_line(first, self.start + (self.end - past));
-            return Some((place, (height, width)));
+            return Some((place, Size { height, width }));
         }
         image_of(self, of)
     }

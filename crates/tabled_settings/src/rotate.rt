@@ -10,9 +10,9 @@ ghost use Rattle.std.proofs.Common.{rules};
 
 use crate::lines;
 use std::alloc::{AllocError, Global};
-use tabled_grid::config::{Entity, Position, SpannedConfig};
+use tabled_grid::config::{Entity, Position, Rectangle, Size, SpannedConfig};
 use tabled_grid::records::{Axis, Blank, ExactRecords, Records, Resizable};
-use tabled_images::{Moves, MovesRectangles, Rectangle, carry_along, kept_in_place};
+use tabled_images::{Moves, MovesRectangles, carry_along, kept_in_place};
 use tabled_options::TableOption;
 
 /// Turns a table, and its merged cells with it. Refused for memory, it leaves the table as it was; `Top` and
@@ -104,25 +104,20 @@ impl Moves for Turn {
 
 impl MovesRectangles for Turn {
     fn new_rectangle(&self, of: Rectangle) -> Option<Rectangle> {
-        let (first, (height, width)) = of;
+        let (first, Size { height, width }) = of;
         let bottom = first.row + height;
         let right = first.col + width;
         if bottom > self.rows || right > self.columns {
             return None;
         }
+        let turned = Size {
+            height: width,
+            width: height,
+        };
         Some(match self.rotate {
-            Rotate::Left => (
-                Position::new(self.columns - right, first.row),
-                (width, height),
-            ),
-            Rotate::Right => (
-                Position::new(first.col, self.rows - bottom),
-                (width, height),
-            ),
-            Rotate::Top | Rotate::Bottom => (
-                Position::new(self.rows - bottom, first.col),
-                (height, width),
-            ),
+            Rotate::Left => (Position::new(self.columns - right, first.row), turned),
+            Rotate::Right => (Position::new(first.col, self.rows - bottom), turned),
+            Rotate::Top | Rotate::Bottom => { (Position::new(self.rows - bottom, first.col), of.1) }
         })
     }
 }

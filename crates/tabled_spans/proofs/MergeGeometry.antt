@@ -12,12 +12,13 @@ use Rattle.tabled_grid.specs.Spans.{IsSpanSize, SpanMap, size_at}
 use Rattle.tabled_grid.specs.declared.config.position.Position.{Position}
 use Rattle.tabled_grid.specs.declared.records.axis.Axis.{Axis}
 use Rattle.tabled_grid.specs.declared.records.axis.Axis.TheVariants.{Rows, Columns}
-use Rattle.tabled_grid.proofs.SpanMaps.{in_rect-from, in_rect-true, size_at-some, visible}
+use Rattle.tabled_grid.specs.declared.config.size.Size.{Size}
+use Rattle.tabled_grid.proofs.SpanMaps.{holds-from, holds-true, size_at-some, visible}
 use Rattle.tabled_spans.specs.Runs.{IsRun, MergesRuns, further, is_free, size_of_run}
 use Rattle.tabled_spans.proofs.Runs.{further_more, further_none}
 
 -- a place of a run's rectangle is n cells from its first
-cell_of : (axis : Axis) (a p : Position) (many : ℕ) → In a (size_of_run axis many) p → (k : ℕ) × (k < many) × (p ≡ further axis k a)
+cell_of : (axis : Axis) (a p : Position) (many : ℕ) → In (a, size_of_run axis many) p → (k : ℕ) × (k < many) × (p ≡ further axis k a)
 cell_of Rows a p many h = (p.row - a.row, omega (arith, h.top, h.bottom), ap₂ place (omega (arith, h.top)) (omega (arith, h.left, h.right)))
 cell_of Columns a p many h = (p.col - a.col, omega (arith, h.left, h.right), ap₂ place (omega (arith, h.top, h.bottom)) (omega (arith, h.left)))
 
@@ -53,7 +54,7 @@ module _ (axis : Axis) (g : Grid (List ℕ)) (m : SpanMap) where
       let step : further axis 1 (further axis (l - k - 1) b) ≡ further axis (l - k) b = further_more axis (l - k - 1) (l - k) b (omega arith) in
       first.begins (further axis (l - k - 1) b) (step ∙ sym at) (second.joins (l - k - 1) (omega arith))
 
-  same_first : (a b p : Position) (many n : ℕ) → IsRun axis g m a many → IsRun axis g m b n → In a (size_of_run axis many) p → In b (size_of_run axis n) p → a ≡ b
+  same_first : (a b p : Position) (many n : ℕ) → IsRun axis g m a many → IsRun axis g m b n → In (a, size_of_run axis many) p → In (b, size_of_run axis n) p → a ≡ b
   same_first a b p many n first second ha hb = by (cell_of axis a p many ha) (cell_of axis b p n hb)
     where
       by : (k : ℕ) × (k < many) × (p ≡ further axis k a) → (l : ℕ) × (l < n) × (p ≡ further axis l b) → a ≡ b
@@ -65,36 +66,36 @@ module _ (axis : Axis) (g : Grid (List ℕ)) (m : SpanMap) where
           either (inr x) (inr y) = further_back axis a b k l (sym is ∙ js) y ∙ ap (λ d. further axis d b) (omega arith) ∙ further_none axis b
 
   -- an old rectangle holds no cell of a run
-  no_old : (rows columns : ℕ) (a b p : Position) (many : ℕ) (t : ℕ × ℕ) → Fits m rows columns → IsRun axis g m a many → get m b ≡ Some t → In a (size_of_run axis many) p → In b t p → ⊥
+  no_old : (rows columns : ℕ) (a b p : Position) (many : ℕ) (t : Size) → Fits m rows columns → IsRun axis g m a many → get m b ≡ Some t → In (a, size_of_run axis many) p → In (b, t) p → ⊥
   no_old rows columns a b p many t fits run has ha hb =
       let at = cell_of axis a p many ha in
       let parts = and_parts _ _ (subst (λ x. is_free m x ≡ true) (sym at.2) (run_cell a many at.0 run at.1).free) in
       let ones = and_parts _ _ parts.1 in
       let same : b ≡ p = visible m p parts.0 b (rw (size_at-some m b t has) hb) in
       let size : size_at m p ≡ t = size_at-some m p t (subst (λ x. get m x ≡ Some t) same has) in
-      one t (fits.sizes.each b t has) (sym (ap (λ (s : ℕ × ℕ). s.0) size) ∙ eqb-true _ _ ones.0) (sym (ap (λ (s : ℕ × ℕ). s.1) size) ∙ eqb-true _ _ ones.1)
+      one t (fits.sizes.each b t has) (sym (ap (λ (s : Size). s.height) size) ∙ eqb-true _ _ ones.0) (sym (ap (λ (s : Size). s.width) size) ∙ eqb-true _ _ ones.1)
     where
-      one : (s : ℕ × ℕ) → IsSpanSize s → s.0 ≡ 1 → s.1 ≡ 1 → ⊥
+      one : (s : Size) → IsSpanSize s → s.height ≡ 1 → s.width ≡ 1 → ⊥
       one s is e f = either is.merges
         where
-          either : (1 < s.0) ⊎ (1 < s.1) → ⊥
+          either : (1 < s.height) ⊎ (1 < s.width) → ⊥
           either (inl h) = omega (arith, h, e)
           either (inr h) = omega (arith, h, f)
 
-  run_inside : (a : Position) (many : ℕ) → IsRun axis g m a many → (a.row + (size_of_run axis many).0 ≤ g.rows) × (a.col + (size_of_run axis many).1 ≤ g.columns)
+  run_inside : (a : Position) (many : ℕ) → IsRun axis g m a many → (a.row + (size_of_run axis many).height ≤ g.rows) × (a.col + (size_of_run axis many).width ≤ g.columns)
   run_inside a many run = by axis (run_cell a many (many - 1) run (omega (arith, run.some))).inside
     where
-      by : (x : Axis) → IsInside g (further x (many - 1) a) → (a.row + (size_of_run x many).0 ≤ g.rows) × (a.col + (size_of_run x many).1 ≤ g.columns)
+      by : (x : Axis) → IsInside g (further x (many - 1) a) → (a.row + (size_of_run x many).height ≤ g.rows) × (a.col + (size_of_run x many).width ≤ g.columns)
       by Rows h = (omega (arith, h.row, run.some), omega (arith, h.col))
       by Columns h = (omega (arith, h.row), omega (arith, h.col, run.some))
 
   module _ (n : SpanMap) (merged : MergesRuns axis g m n) (fits : Fits m g.rows g.columns) where
     -- an anchor is that of a run, or an old one
-    data Anchored (a : Position) (s : ℕ × ℕ) : Type 0 where
+    data Anchored (a : Position) (s : Size) : Type 0 where
       of_run : (many : ℕ) → IsRun axis g m a many → s ≡ size_of_run axis many → Anchored a s
       of_old : get m a ≡ Some s → Anchored a s
 
-    anchor : (a : Position) (s : ℕ × ℕ) → get n a ≡ Some s → Anchored a s
+    anchor : (a : Position) (s : Size) → get n a ≡ Some s → Anchored a s
     anchor a s has = by (merged.each a)
       where
         by : ((many : ℕ) × IsRun axis g m a many × (get n a ≡ Some (size_of_run axis many))) ⊎ (((many : ℕ) → IsRun axis g m a many → ⊥) × (get n a ≡ get m a)) → Anchored a s
@@ -102,18 +103,18 @@ module _ (axis : Axis) (g : Grid (List ℕ)) (m : SpanMap) where
         by (inr (never, is)) = of_old (sym is ∙ has)
 
     pub fits_merged : Fits n g.rows g.columns
-    fits_merged = record { sizes = record { each = λ a s has. size a s (anchor a s has) }; inside = λ a s has. inside a s (anchor a s has); apart = λ a b s t p ha hb ia ib. apart a b s t p (in_rect-true a p s ia) (in_rect-true b p t ib) (anchor a s ha) (anchor b t hb) }
+    fits_merged = record { sizes = record { each = λ a s has. size a s (anchor a s has) }; inside = λ a s has. inside a s (anchor a s has); apart = λ a b s t p ha hb ia ib. apart a b s t p (holds-true (a, s) p ia) (holds-true (b, t) p ib) (anchor a s ha) (anchor b t hb) }
       where
-        size : (a : Position) (s : ℕ × ℕ) → Anchored a s → IsSpanSize s
+        size : (a : Position) (s : Size) → Anchored a s → IsSpanSize s
         size a s (of_run many run e) = subst IsSpanSize (sym e) (size_is_more axis many run.some)
         size a s (of_old has) = fits.sizes.each a s has
 
-        inside : (a : Position) (s : ℕ × ℕ) → Anchored a s → (a.row + s.0 ≤ g.rows) × (a.col + s.1 ≤ g.columns)
+        inside : (a : Position) (s : Size) → Anchored a s → (a.row + s.height ≤ g.rows) × (a.col + s.width ≤ g.columns)
         inside a s (of_run many run e) = rw e (run_inside a many run)
         inside a s (of_old has) = fits.inside a s has
 
-        apart : (a b : Position) (s t : ℕ × ℕ) (p : Position) → In a s p → In b t p → Anchored a s → Anchored b t → a ≡ b
+        apart : (a b : Position) (s t : Size) (p : Position) → In (a, s) p → In (b, t) p → Anchored a s → Anchored b t → a ≡ b
         apart a b s t p ha hb (of_run many run e) (of_run k other f) = same_first a b p many k run other (rw e at ha) (rw f at hb)
         apart a b s t p ha hb (of_run many run e) (of_old has) = absurd (no_old g.rows g.columns a b p many t fits run has (rw e at ha) hb)
         apart a b s t p ha hb (of_old has) (of_run many run e) = absurd (no_old g.rows g.columns b a p many s fits run has (rw e at hb) ha)
-        apart a b s t p ha hb (of_old has) (of_old had) = fits.apart a b s t p has had (in_rect-from a p s ha) (in_rect-from b p t hb)
+        apart a b s t p ha hb (of_old has) (of_old had) = fits.apart a b s t p has had (holds-from (a, s) p ha) (holds-from (b, t) p hb)

@@ -10,28 +10,29 @@ use Rattle.tabled_grid.specs.Entity.{place}
 use Rattle.tabled_grid.specs.Grid.{Grid, IsInside, cell_at}
 use Rattle.tabled_grid.specs.Midway.{In}
 use Rattle.tabled_grid.specs.Rectangles.{is_hidden, is_visible}
-use Rattle.tabled_grid.specs.Spans.{SpanMap, position_cmp, size_at}
+use Rattle.tabled_grid.specs.Spans.{SpanMap, position_cmp, size_at, sized}
 use Rattle.tabled_grid.specs.declared.config.position.Position.{Position}
 use Rattle.tabled_grid.specs.declared.records.axis.Axis.{Axis}
 use Rattle.tabled_grid.specs.declared.records.axis.Axis.TheVariants.{Rows, Columns}
+use Rattle.tabled_grid.specs.declared.config.size.Size.{Size}
 use Rattle.tabled_grid.proofs.SpanMaps.{hidden-from, hidden_by, size_at-some}
 use Rattle.tabled_grid.proofs.Spans.{positions_exact, positions_total}
 use Rattle.tabled_spans.specs.Runs.{IsRun, Joins, MergesRuns, further, is_free, size_of_run}
 use Rattle.tabled_spans.proofs.MergeGeometry.{run_cell}
 use Rattle.tabled_spans.proofs.Runs.{further_none, same_run}
 
-one_size : (s : ℕ × ℕ) → s.0 ≡ 1 → s.1 ≡ 1 → s ≡ (1, 1)
-one_size s e f = ap₂ (λ (h w : ℕ). (h, w)) e f
+one_size : (s : Size) → s.height ≡ 1 → s.width ≡ 1 → s ≡ sized 1 1
+one_size s e f = ap₂ sized e f
 
-free_size : (m : SpanMap) (p : Position) → is_free m p ≡ true → size_at m p ≡ (1, 1)
+free_size : (m : SpanMap) (p : Position) → is_free m p ≡ true → size_at m p ≡ sized 1 1
 free_size m p free = let ones = and_parts _ _ (and_parts _ _ free).1 in one_size (size_at m p) (eqb-true _ _ ones.0) (eqb-true _ _ ones.1)
 
-free_by : (m : SpanMap) (p : Position) → is_visible m p ≡ true → size_at m p ≡ (1, 1) → is_free m p ≡ true
-free_by m p shown is = and_from _ _ shown (and_from _ _ (eq-eqb _ _ (ap (λ (s : ℕ × ℕ). s.0) is)) (eq-eqb _ _ (ap (λ (s : ℕ × ℕ). s.1) is)))
+free_by : (m : SpanMap) (p : Position) → is_visible m p ≡ true → size_at m p ≡ sized 1 1 → is_free m p ≡ true
+free_by m p shown is = and_from _ _ shown (and_from _ _ (eq-eqb _ _ (ap (λ (s : Size). s.height) is)) (eq-eqb _ _ (ap (λ (s : Size). s.width) is)))
 
-not_one : (a : Axis) (many : ℕ) → 2 ≤ many → size_of_run a many ≡ (1, 1) → ⊥
-not_one Rows many h e = omega (arith, h, ap (λ (s : ℕ × ℕ). s.0) e)
-not_one Columns many h e = omega (arith, h, ap (λ (s : ℕ × ℕ). s.1) e)
+not_one : (a : Axis) (many : ℕ) → 2 ≤ many → size_of_run a many ≡ sized 1 1 → ⊥
+not_one Rows many h e = omega (arith, h, ap (λ (s : Size). s.height) e)
+not_one Columns many h e = omega (arith, h, ap (λ (s : Size). s.width) e)
 
 true_false : false ≡ true → ⊥
 true_false e = cc
@@ -88,10 +89,10 @@ module _ (axis : Axis) (g : Grid (List ℕ)) (m : SpanMap) where
     hidden_still : (p : Position) → is_hidden m p ≡ true → is_hidden n p ≡ true
     hidden_still p h = let it = hidden_by m p h in by it.anchor it.size it.has it.holds it.other (merged.each it.anchor)
       where
-        by : (a : Position) (s : ℕ × ℕ) → get m a ≡ Some s → In a s p → a ≢ p → ((k : ℕ) × IsRun axis g m a k × (get n a ≡ Some (size_of_run axis k))) ⊎ (((k : ℕ) → IsRun axis g m a k → ⊥) × (get n a ≡ get m a)) → is_hidden n p ≡ true
+        by : (a : Position) (s : Size) → get m a ≡ Some s → In (a, s) p → a ≢ p → ((k : ℕ) × IsRun axis g m a k × (get n a ≡ Some (size_of_run axis k))) ⊎ (((k : ℕ) → IsRun axis g m a k → ⊥) × (get n a ≡ get m a)) → is_hidden n p ≡ true
         by a s has holds other (inl (k, run, is)) =
-            let one : s ≡ (1, 1) = sym (size_at-some m a s has) ∙ free_size m a (first_free a k run) in
-            let h1 = subst (λ (t : ℕ × ℕ). In a t p) one holds in
+            let one : s ≡ sized 1 1 = sym (size_at-some m a s has) ∙ free_size m a (first_free a k run) in
+            let h1 = subst (λ (t : Size). In (a, t) p) one holds in
             absurd (other (ap₂ place (omega (arith, h1.top, h1.bottom)) (omega (arith, h1.left, h1.right))))
         by a s has holds other (inr (never, is)) = hidden-from n a p s (is ∙ has) holds other
 
@@ -105,14 +106,14 @@ module _ (axis : Axis) (g : Grid (List ℕ)) (m : SpanMap) where
     was_free : (p : Position) → is_free n p ≡ true → is_free m p ≡ true
     was_free p free = free_by m p (was_visible p (and_parts _ _ free).0) (by (merged.each p))
       where
-        by : ((k : ℕ) × IsRun axis g m p k × (get n p ≡ Some (size_of_run axis k))) ⊎ (((k : ℕ) → IsRun axis g m p k → ⊥) × (get n p ≡ get m p)) → size_at m p ≡ (1, 1)
+        by : ((k : ℕ) × IsRun axis g m p k × (get n p ≡ Some (size_of_run axis k))) ⊎ (((k : ℕ) → IsRun axis g m p k → ⊥) × (get n p ≡ get m p)) → size_at m p ≡ sized 1 1
         by (inl (k, run, is)) = absurd (not_one axis k run.some (sym (size_at-some n p (size_of_run axis k) is) ∙ free_size n p free))
-        by (inr (never, is)) = ap (λ o. unwrap_or o (1, 1)) (sym is) ∙ free_size n p free
+        by (inr (never, is)) = ap (λ o. unwrap_or o (sized 1 1)) (sym is) ∙ free_size n p free
 
     was_joined : (p : Position) → Joins axis g n p → Joins axis g m p
     was_joined p j = record { inside = j.inside; next_inside = j.next_inside; free = was_free p j.free; next_free = was_free (further axis 1 p) j.next_free; same = j.same }
 
-    covers : (x : Axis) (a : Position) (many k : ℕ) → 2 ≤ many → k < many → In a (size_of_run x many) (further x k a)
+    covers : (x : Axis) (a : Position) (many k : ℕ) → 2 ≤ many → k < many → In (a, size_of_run x many) (further x k a)
     covers Rows a many k some h = record { top = omega arith; bottom = omega arith; left = omega arith; right = omega arith }
     covers Columns a many k some h = record { top = omega arith; bottom = omega arith; left = omega arith; right = omega arith }
 
@@ -127,7 +128,7 @@ module _ (axis : Axis) (g : Grid (List ℕ)) (m : SpanMap) where
         by : (b : ℕ) × IsRun axis g m a b × (get n a ≡ Some (size_of_run axis b)) → (0 < k) ⊎ (k ≤ 0) → ⊥
         by (b, other, has) (inl l) =
             let long : k < b = omega (arith, h, same_run axis g m a many b run other) in
-            let hidden : is_hidden n p ≡ true = hidden-from n a p (size_of_run axis b) has (subst (In a (size_of_run axis b)) is (covers axis a b k other.some long)) (λ e. apart_from axis a k l (e ∙ sym is)) in
+            let hidden : is_hidden n p ≡ true = hidden-from n a p (size_of_run axis b) has (subst (In (a, size_of_run axis b)) is (covers axis a b k other.some long)) (λ e. apart_from axis a k l (e ∙ sym is)) in
             true_false (sym (not_from_true _ hidden) ∙ (and_parts _ _ free).0)
         by (b, other, has) (inr l) =
             let here : a ≡ p = sym (further_none axis a) ∙ ap (λ i. further axis i a) (omega arith) ∙ is in
@@ -150,7 +151,7 @@ nothing = map.empty
 
 -- without rectangles each cell is free
 free_in_none : (p : Position) → is_free map.empty p ≡ true
-free_in_none p = free_by map.empty p (by (cases_Bool (is_hidden map.empty p))) (ap (λ o. unwrap_or o (1, 1)) (get-empty position_cmp p))
+free_in_none p = free_by map.empty p (by (cases_Bool (is_hidden map.empty p))) (ap (λ o. unwrap_or o (sized 1 1)) (get-empty position_cmp p))
   where
     by : (is_hidden map.empty p ≡ true) ⊎ (is_hidden map.empty p ≡ false) → is_visible map.empty p ≡ true
     by (inl t) = let it = hidden_by map.empty p t in absurd (none-some it.size (sym (get-empty position_cmp it.anchor) ∙ it.has))
@@ -166,7 +167,7 @@ run_is_merged axis g n p many merged run = by (merged.each p)
     by (inl (k, other, is)) = is ∙ ap (λ b. Some (size_of_run axis b)) (same_run axis g map.empty p k many other run)
     by (inr it) = absurd (it.0 many run)
 
-pub merged_is_run : (axis : Axis) (g : Grid (List ℕ)) (n : SpanMap) (p : Position) (size : ℕ × ℕ) → MergesRuns axis g map.empty n → get n p ≡ Some size → (many : ℕ) × IsRun axis g map.empty p many × (size ≡ size_of_run axis many)
+pub merged_is_run : (axis : Axis) (g : Grid (List ℕ)) (n : SpanMap) (p : Position) (size : Size) → MergesRuns axis g map.empty n → get n p ≡ Some size → (many : ℕ) × IsRun axis g map.empty p many × (size ≡ size_of_run axis many)
 merged_is_run axis g n p size merged has = by (merged.each p)
   where
     by : ((k : ℕ) × IsRun axis g map.empty p k × (get n p ≡ Some (size_of_run axis k))) ⊎ (((k : ℕ) → IsRun axis g map.empty p k → ⊥) × (get n p ≡ get nothing p)) → (many : ℕ) × IsRun axis g map.empty p many × (size ≡ size_of_run axis many)

@@ -10,10 +10,11 @@ use Rattle.tabled_grid.specs.Grid.{Grid}
 use Rattle.tabled_grid.specs.Midway.{In}
 use Rattle.tabled_grid.specs.Rectangles.{Fits}
 use Rattle.tabled_grid.specs.Shifts.{is_crossed, shifted}
-use Rattle.tabled_grid.specs.Spans.{SpanMap, with_size}
+use Rattle.tabled_grid.specs.Spans.{SpanMap, sized, with_size}
 use Rattle.tabled_grid.specs.declared.config.position.Position.{Position}
 use Rattle.tabled_grid.specs.declared.records.axis.Axis.{Axis}
 use Rattle.tabled_grid.specs.declared.records.axis.Axis.TheVariants.{Rows, Columns}
+use Rattle.tabled_grid.specs.declared.config.size.Size.{Size}
 use Rattle.tabled_grid.proofs.Geometry.{cases_place}
 use Rattle.tabled_grid.proofs.Merging.{fits_with}
 use Rattle.tabled_grid.proofs.ShiftedFits.{fits_below, fits_beside, line_is_free}
@@ -23,25 +24,25 @@ use Rattle.tabled_spans.specs.Panels.{Panels, has_room, with_line, with_panel}
 use Rattle.tabled_spans.proofs.PanelMaps.{no_anchor}
 
 -- the size of one cell where there is no anchor changes nothing
-pub one_cell : (m : SpanMap) (p : Position) → get m p ≡ None → with_size m p (1, 1) ≡ m
-one_cell m p absent = same_map positions_total positions_exact (with_size m p (1, 1)) m (λ q. by q (cases_place q p))
+pub one_cell : (m : SpanMap) (p : Position) → get m p ≡ None → with_size m p (sized 1 1) ≡ m
+one_cell m p absent = same_map positions_total positions_exact (with_size m p (sized 1 1)) m (λ q. by q (cases_place q p))
   where
-    by : (q : Position) → (q ≡ p) ⊎ (q ≢ p) → get (with_size m p (1, 1)) q ≡ get m q
-    by q (inl e) = ap (get (with_size m p (1, 1))) e ∙ get-remove positions_total m p p ∙ cond-true _ _ _ (tied p) ∙ sym absent ∙ ap (get m) (sym e)
-    by q (inr n) = with_size-other m p (1, 1) q n
+    by : (q : Position) → (q ≡ p) ⊎ (q ≢ p) → get (with_size m p (sized 1 1)) q ≡ get m q
+    by q (inl e) = ap (get (with_size m p (sized 1 1))) e ∙ get-remove positions_total m p p ∙ cond-true _ _ _ (tied p) ∙ sym absent ∙ ap (get m) (sym e)
+    by q (inr n) = with_size-other m p (sized 1 1) q n
 
 -- a size over cells that no rectangle has, which may be that of one cell
-pub fits_over : (m : SpanMap) (p : Position) (size : ℕ × ℕ) (rows columns : ℕ) → get m p ≡ None → 1 ≤ size.0 → 1 ≤ size.1 → p.row + size.0 ≤ rows → p.col + size.1 ≤ columns → ((a q : Position) (s : ℕ × ℕ) → get m a ≡ Some s → In a s q → In p size q → a ≡ p) → Fits m rows columns → Fits (with_size m p size) rows columns
-fits_over m p size rows columns absent high wide down across free fits = either (cases_lt 1 size.0) (cases_lt 1 size.1)
+pub fits_over : (m : SpanMap) (p : Position) (size : Size) (rows columns : ℕ) → get m p ≡ None → 1 ≤ size.height → 1 ≤ size.width → p.row + size.height ≤ rows → p.col + size.width ≤ columns → ((a q : Position) (s : Size) → get m a ≡ Some s → In (a, s) q → In (p, size) q → a ≡ p) → Fits m rows columns → Fits (with_size m p size) rows columns
+fits_over m p size rows columns absent high wide down across free fits = either (cases_lt 1 size.height) (cases_lt 1 size.width)
   where
-    more : (1 < size.0) ⊎ (1 < size.1) → Fits (with_size m p size) rows columns
+    more : (1 < size.height) ⊎ (1 < size.width) → Fits (with_size m p size) rows columns
     more h = fits_with m p size rows columns (record { height = high; width = wide; merges = h }) down across free fits
 
-    either : (1 < size.0) ⊎ (size.0 ≤ 1) → (1 < size.1) ⊎ (size.1 ≤ 1) → Fits (with_size m p size) rows columns
+    either : (1 < size.height) ⊎ (size.height ≤ 1) → (1 < size.width) ⊎ (size.width ≤ 1) → Fits (with_size m p size) rows columns
     either (inl h) c = more (inl h)
     either (inr l) (inl h) = more (inr h)
     either (inr l) (inr k) =
-        let one : size ≡ (1, 1) = ap₂ (λ (h w : ℕ). (h, w)) (omega arith) (omega arith) in
+        let one : size ≡ sized 1 1 = ap₂ sized (omega arith) (omega arith) in
         subst (λ (n : SpanMap). Fits n rows columns) (sym (ap (with_size m p) one ∙ one_cell m p absent)) fits
 
 not_false : (b : Bool) → not b ≡ true → b ≡ false

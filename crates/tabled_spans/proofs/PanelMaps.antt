@@ -3,10 +3,11 @@ use Rattle.std.proofs.Common.{◌≡◌, ℕ, ◌≤◌, None, refl, ap, ◌∙�
 use Rattle.std.specs.FinMap.{get}
 use Rattle.tabled_grid.specs.Axis.{across, line_of, place_in}
 use Rattle.tabled_grid.specs.Shifts.{shifted}
-use Rattle.tabled_grid.specs.Spans.{SpanMap, size_at, with_size}
+use Rattle.tabled_grid.specs.Spans.{SpanMap, size_at, sized, with_size}
 use Rattle.tabled_grid.specs.declared.config.position.Position.{Position}
 use Rattle.tabled_grid.specs.declared.records.axis.Axis.{Axis}
 use Rattle.tabled_grid.specs.declared.records.axis.Axis.TheVariants.{Rows, Columns}
+use Rattle.tabled_grid.specs.declared.config.size.Size.{Size}
 use Rattle.tabled_grid.proofs.Merging.{column_span-is, row_span-is}
 use Rattle.tabled_grid.proofs.ShiftedFits.{came}
 use Rattle.tabled_grid.proofs.Shifts.{Comes, moves, stays}
@@ -34,8 +35,8 @@ no_anchor axis line m = either (at (shifted axis line m) (place_in axis line 0))
 
 pub panel_merged : (axis : Axis) (line many : ℕ) (m : SpanMap) → 1 ≤ many → with_span (across axis) (shifted axis line m) (place_in axis line 0) many ≡ with_panel axis line many m
 panel_merged Rows line many m h =
-    let here : size_at (shifted Rows line m) (place_in Rows line 0) ≡ (1, 1) = size_at-none _ (place_in Rows line 0) (no_anchor Rows line m) in
-    column_span-is (shifted Rows line m) (place_in Rows line 0) many h ∙ ap (λ (s : ℕ × ℕ). with_size (shifted Rows line m) (place_in Rows line 0) (s.0, many)) here
+    let here : size_at (shifted Rows line m) (place_in Rows line 0) ≡ sized 1 1 = size_at-none _ (place_in Rows line 0) (no_anchor Rows line m) in
+    column_span-is (shifted Rows line m) (place_in Rows line 0) many h ∙ ap (λ (s : Size). with_size (shifted Rows line m) (place_in Rows line 0) (sized s.height many)) here
 panel_merged Columns line many m h =
-    let here : size_at (shifted Columns line m) (place_in Columns line 0) ≡ (1, 1) = size_at-none _ (place_in Columns line 0) (no_anchor Columns line m) in
-    row_span-is (shifted Columns line m) (place_in Columns line 0) many h ∙ ap (λ (s : ℕ × ℕ). with_size (shifted Columns line m) (place_in Columns line 0) (many, s.1)) here
+    let here : size_at (shifted Columns line m) (place_in Columns line 0) ≡ sized 1 1 = size_at-none _ (place_in Columns line 0) (no_anchor Columns line m) in
+    row_span-is (shifted Columns line m) (place_in Columns line 0) many h ∙ ap (λ (s : Size). with_size (shifted Columns line m) (place_in Columns line 0) (sized many s.width)) here

@@ -9,9 +9,8 @@ use Rattle.std.specs.declared.cmp.Ordering.{Ordering}
 use Rattle.std.specs.declared.cmp.Ordering.TheVariants.{Less, Equal}
 use Rattle.std.proofs.lemmas.Bool.{cases_Bool}
 use Rattle.std.proofs.lemmas.Cmp.{by_ranked, ranked}
-use Rattle.tabled_grid.specs.Anchors.{Anchor}
 use Rattle.tabled_grid.specs.Entity.{inside, names, place, row_places}
-use Rattle.tabled_grid.specs.Spans.{position_cmp}
+use Rattle.tabled_grid.specs.Spans.{Rectangle, position_cmp, sized}
 use Rattle.tabled_grid.specs.declared.config.entity.Entity.{Entity}
 use Rattle.tabled_grid.specs.declared.config.position.Position.{Position}
 use Rattle.tabled_grid.proofs.PassedAnchors.{Earlier}
@@ -36,8 +35,8 @@ Rise [] = Unit {0}
 Rise (p ∷ ps) = AllByRecursion (Earlier p) ps × Rise ps
 
 -- places of one cell each
-abbrev pub ones : List Position → List Anchor
-ones ps = map (λ (p : Position). (p, (1, 1))) ps
+abbrev pub ones : List Position → List Rectangle
+ones ps = map (λ (p : Position). (p, sized 1 1)) ps
 
 below_ones : (k : Position) (ps : List Position) → AllByRecursion (Earlier k) ps → T (below_all position_cmp k (ones ps))
 below_ones k [] all = tt

@@ -9,13 +9,13 @@ use Rattle.std.specs.Option.{unwrap_or}
 use Rattle.std.specs.Ordering.{is_eq, is_lt}
 use Rattle.std.proofs.lemmas.Bool.{cases_Bool, cases_lt}
 use Rattle.std.proofs.lemmas.Option.{none-some, same_Some}
-use Rattle.tabled_grid.specs.Anchors.{Anchor}
 use Rattle.tabled_grid.specs.Entity.{place}
 use Rattle.tabled_grid.specs.Grid.{Grid}
-use Rattle.tabled_grid.specs.Spans.{SpanMap, position_cmp, size_at, with_size, with_sizes}
+use Rattle.tabled_grid.specs.Spans.{Rectangle, SpanMap, position_cmp, size_at, sized, with_size, with_sizes}
 use Rattle.tabled_grid.specs.declared.config.position.Position.{Position}
 use Rattle.tabled_grid.specs.declared.records.axis.Axis.{Axis}
 use Rattle.tabled_grid.specs.declared.records.axis.Axis.TheVariants.{Rows, Columns}
+use Rattle.tabled_grid.specs.declared.config.size.Size.{Size}
 use Rattle.tabled_grid.proofs.Geometry.{cases_place}
 use Rattle.tabled_grid.proofs.Shifts.{from_earlier}
 use Rattle.tabled_grid.proofs.SpanMaps.{At, at, found_above, halves, none, size_at-none, size_at-some, size_at-with_size, some, tied, untied, with_size-other}
@@ -29,15 +29,15 @@ both true b p q = q
 both false b p q = p
 
 -- one entry more, after all others
-module _ (q : Position) (size : ℕ × ℕ) where
-  below_behind : (x : Position) (es : List Anchor) → T (below_all position_cmp x es) → T (is_lt (position_cmp x q)) → T (below_all position_cmp x (es ++ ((q, size) ∷ [])))
+module _ (q : Position) (size : Size) where
+  below_behind : (x : Position) (es : List Rectangle) → T (below_all position_cmp x es) → T (is_lt (position_cmp x q)) → T (below_all position_cmp x (es ++ ((q, size) ∷ [])))
   below_behind x [] h l = both _ _ l tt
   below_behind x (e ∷ es) h l = both _ _ (halves _ _ h).0 (below_behind x es (halves _ _ h).1 l)
 
   less_than : (p : Position) → Before q.row q.col p → T (is_lt (position_cmp p q))
   less_than p before = rw (from_earlier p q before) tt
 
-  pub sorted_behind : (es : List Anchor) → T (is_sorted position_cmp es) → AllByRecursion (λ (e : Anchor). Before q.row q.col e.0) es → T (is_sorted position_cmp (es ++ ((q, size) ∷ [])))
+  pub sorted_behind : (es : List Rectangle) → T (is_sorted position_cmp es) → AllByRecursion (λ (e : Rectangle). Before q.row q.col e.0) es → T (is_sorted position_cmp (es ++ ((q, size) ∷ [])))
   sorted_behind [] h before = tt
   sorted_behind (e ∷ es) h before = both _ _ (below_behind e.0 es (halves _ _ h).0 (less_than e.0 before.0)) (sorted_behind es (halves _ _ h).1 before.1)
 
@@ -45,11 +45,11 @@ module _ (q : Position) (size : ℕ × ℕ) where
   apart_from p (inl above) e = omega (arith, above, ap (λ (x : Position). x.row) e)
   apart_from p (inr (same, left)) e = omega (arith, left, ap (λ (x : Position). x.col) e)
 
-  pub found_behind : (es : List Anchor) → AllByRecursion (λ (e : Anchor). Before q.row q.col e.0) es → find position_cmp q (es ++ ((q, size) ∷ [])) ≡ Some size
+  pub found_behind : (es : List Rectangle) → AllByRecursion (λ (e : Rectangle). Before q.row q.col e.0) es → find position_cmp q (es ++ ((q, size) ∷ [])) ≡ Some size
   found_behind [] before = ap (λ b. cond b (Some size) None) (tied q)
   found_behind (e ∷ es) before = ap (λ b. cond b (Some e.1) (find position_cmp q (es ++ ((q, size) ∷ [])))) (untied q e.0 (apart_from e.0 before.0)) ∙ found_behind es before.1
 
-  pub found_before : (p : Position) (s : ℕ × ℕ) (es : List Anchor) → find position_cmp p es ≡ Some s → find position_cmp p (es ++ ((q, size) ∷ [])) ≡ Some s
+  pub found_before : (p : Position) (s : Size) (es : List Rectangle) → find position_cmp p es ≡ Some s → find position_cmp p (es ++ ((q, size) ∷ [])) ≡ Some s
   found_before p s [] is = absurd (none-some s is)
   found_before p s (e ∷ es) is = either (cases_Bool (is_eq (position_cmp p e.0))) (found_before p s es)
     where
@@ -57,11 +57,11 @@ module _ (q : Position) (size : ℕ × ℕ) where
       either (inl t) later = ap (λ b. cond b (Some e.1) (find position_cmp p (es ++ ((q, size) ∷ [])))) t ∙ sym (ap (λ b. cond b (Some e.1) (find position_cmp p es)) t) ∙ is
       either (inr f) later = ap (λ b. cond b (Some e.1) (find position_cmp p (es ++ ((q, size) ∷ [])))) f ∙ later (sym (ap (λ b. cond b (Some e.1) (find position_cmp p es)) f) ∙ is)
 
-all_behind : (P : Anchor → Type 0) (es : List Anchor) (e : Anchor) → AllByRecursion P es → P e → AllByRecursion P (es ++ (e ∷ []))
+all_behind : (P : Rectangle → Type 0) (es : List Rectangle) (e : Rectangle) → AllByRecursion P es → P e → AllByRecursion P (es ++ (e ∷ []))
 all_behind P [] e all h = (h, tt)
 all_behind P (f ∷ es) e all h = (all.0, all_behind P es e all.1 h)
 
-all_then : {P Q : Anchor → Type 0} → ((e : Anchor) → P e → Q e) → (es : List Anchor) → AllByRecursion P es → AllByRecursion Q es
+all_then : {P Q : Rectangle → Type 0} → ((e : Rectangle) → P e → Q e) → (es : List Rectangle) → AllByRecursion P es → AllByRecursion Q es
 all_then f [] all = tt
 all_then f (e ∷ es) all = (f e all.0, all_then f es all.1)
 
@@ -79,12 +79,12 @@ split_last i j p (inr (same, left)) = either (cases_lt p.col j)
     either (inr l) = inr (ap₂ place same (omega arith))
 
 module _ (axis : Axis) (g : Grid (List ℕ)) (m : SpanMap) where
-  module _ (i j : ℕ) (es : List Anchor) (so_far : RunsBefore axis g m i j es) where
+  module _ (i j : ℕ) (es : List Rectangle) (so_far : RunsBefore axis g m i j es) where
     -- no run begins at the place
     pub run_passed : (many : ℕ) → many ≤ 1 → RunAt axis g m (place i j) many → RunsBefore axis g m i (j + 1) es
     run_passed many few found = record {
       sorted = so_far.sorted;
-      before = all_then (λ (e : Anchor) h. one_more i j e.0 h) es so_far.before;
+      before = all_then (λ (e : Rectangle) h. one_more i j e.0 h) es so_far.before;
       each = so_far.each;
       all = λ p n run h. by p n run (split_last i j p h);
     }
@@ -97,7 +97,7 @@ module _ (axis : Axis) (g : Grid (List ℕ)) (m : SpanMap) where
     pub run_added : (many : ℕ) → 2 ≤ many → RunAt axis g m (place i j) many → RunsBefore axis g m i (j + 1) (es ++ ((place i j, size_of_run axis many) ∷ []))
     run_added many two found = record {
       sorted = sorted_behind (place i j) (size_of_run axis many) es so_far.sorted so_far.before;
-      before = all_behind _ es (place i j, size_of_run axis many) (all_then (λ (e : Anchor) h. one_more i j e.0 h) es so_far.before) (inr (refl, omega arith));
+      before = all_behind _ es (place i j, size_of_run axis many) (all_then (λ (e : Rectangle) h. one_more i j e.0 h) es so_far.before) (inr (refl, omega arith));
       each = all_behind _ es (place i j, size_of_run axis many) so_far.each (many, found.is two, refl);
       all = λ p n run h. by p n run (split_last i j p h);
     }
@@ -116,10 +116,10 @@ module _ (axis : Axis) (g : Grid (List ℕ)) (m : SpanMap) where
   begins_above p n run = (subst (λ (x : Position). x.row < g.rows) (further_none axis p) (run.joins 0 (omega (arith, run.some))).inside.row)
 
   -- all places of a row
-  pub row_done : (i j : ℕ) (es : List Anchor) → g.columns ≤ j → RunsBefore axis g m i j es → RunsBefore axis g m (i + 1) 0 es
+  pub row_done : (i j : ℕ) (es : List Rectangle) → g.columns ≤ j → RunsBefore axis g m i j es → RunsBefore axis g m (i + 1) 0 es
   row_done i j es wide so_far = record {
     sorted = so_far.sorted;
-    before = all_then (λ (e : Anchor) h. next_row e.0 h) es so_far.before;
+    before = all_then (λ (e : Rectangle) h. next_row e.0 h) es so_far.before;
     each = so_far.each;
     all = λ p n run h. so_far.all p n run (in_row p (begins_inside p n run) h);
   }
@@ -137,7 +137,7 @@ module _ (axis : Axis) (g : Grid (List ℕ)) (m : SpanMap) where
           either (inr l) = inr (omega arith, omega arith)
 
 -- sizes that are set at places, each once
-missed : (es : List Anchor) (m : SpanMap) (p : Position) → find position_cmp p es ≡ None → get (with_sizes m es) p ≡ get m p
+missed : (es : List Rectangle) (m : SpanMap) (p : Position) → find position_cmp p es ≡ None → get (with_sizes m es) p ≡ get m p
 missed [] m p is = refl
 missed (e ∷ es) m p is = either (cases_place p e.0) (missed es (with_size m e.0 e.1) p)
   where
@@ -145,17 +145,17 @@ missed (e ∷ es) m p is = either (cases_place p e.0) (missed es (with_size m e.
     either (inl same) later = absurd (none-some e.1 (sym is ∙ ap (λ b. cond b (Some e.1) (find position_cmp p es)) (subst (λ x. is_eq (position_cmp p x) ≡ true) same (tied p))))
     either (inr n) later = later (sym (ap (λ b. cond b (Some e.1) (find position_cmp p es)) (untied p e.0 n)) ∙ is) ∙ with_size-other m e.0 e.1 p n
 
-none_below : (x : Position) (es : List Anchor) → T (below_all position_cmp x es) → find position_cmp x es ≡ None
+none_below : (x : Position) (es : List Rectangle) → T (below_all position_cmp x es) → find position_cmp x es ≡ None
 none_below x es below = either (find position_cmp x es) refl
   where
     never : is_eq Less ≡ true → ⊥
     never e = let f : false ≡ true = e in cc
 
-    either : (s : Option (ℕ × ℕ)) → find position_cmp x es ≡ s → find position_cmp x es ≡ None
+    either : (s : Option Size) → find position_cmp x es ≡ s → find position_cmp x es ≡ None
     either None is = is
     either (Some v) is = absurd (never (ap is_eq (sym (found_above position_cmp positions_total positions_exact x x es v below is)) ∙ tied x))
 
-found : (es : List Anchor) (m : SpanMap) (p : Position) (s : ℕ × ℕ) → T (is_sorted position_cmp es) → find position_cmp p es ≡ Some s → size_at (with_sizes m es) p ≡ s
+found : (es : List Rectangle) (m : SpanMap) (p : Position) (s : Size) → T (is_sorted position_cmp es) → find position_cmp p es ≡ Some s → size_at (with_sizes m es) p ≡ s
 found [] m p s up is = absurd (none-some s is)
 found (e ∷ es) m p s up is = either (cases_place p e.0) (found es (with_size m e.0 e.1) p s (halves _ _ up).1)
   where
@@ -163,23 +163,23 @@ found (e ∷ es) m p s up is = either (cases_place p e.0) (found es (with_size m
     either (inl same) later =
         let value = same_Some e.1 s (sym (ap (λ b. cond b (Some e.1) (find position_cmp p es)) (subst (λ x. is_eq (position_cmp p x) ≡ true) same (tied p))) ∙ is) in
         let kept : get (with_sizes (with_size m e.0 e.1) es) e.0 ≡ get (with_size m e.0 e.1) e.0 = missed es (with_size m e.0 e.1) e.0 (none_below e.0 es (halves _ _ up).0) in
-        ap (size_at (with_sizes (with_size m e.0 e.1) es)) same ∙ ap (λ o. unwrap_or o (1, 1)) kept ∙ size_at-with_size m e.0 e.1 ∙ value
+        ap (size_at (with_sizes (with_size m e.0 e.1) es)) same ∙ ap (λ o. unwrap_or o (sized 1 1)) kept ∙ size_at-with_size m e.0 e.1 ∙ value
     either (inr n) later = later (sym (ap (λ b. cond b (Some e.1) (find position_cmp p es)) (untied p e.0 n)) ∙ is)
 
 -- a size of more than one cell is that of an anchor
 anchored : (axis : Axis) (many : ℕ) (n : SpanMap) (p : Position) → 2 ≤ many → size_at n p ≡ size_of_run axis many → get n p ≡ Some (size_of_run axis many)
 anchored axis many n p two is = either (at n p)
   where
-    not_one : (a : Axis) → (1, 1) ≡ size_of_run a many → ⊥
-    not_one Rows e = omega (arith, ap (λ (s : ℕ × ℕ). s.0) e)
-    not_one Columns e = omega (arith, ap (λ (s : ℕ × ℕ). s.1) e)
+    not_one : (a : Axis) → (sized 1 1) ≡ size_of_run a many → ⊥
+    not_one Rows e = omega (arith, ap (λ (s : Size). s.height) e)
+    not_one Columns e = omega (arith, ap (λ (s : Size). s.width) e)
 
     either : At n p → get n p ≡ Some (size_of_run axis many)
     either (none e) = absurd (not_one axis (sym (size_at-none n p e) ∙ is))
     either (some size e) = e ∙ ap Some (sym (size_at-some n p size e) ∙ is)
 
-module _ (axis : Axis) (g : Grid (List ℕ)) (m : SpanMap) (es : List Anchor) (listed : RunsBefore axis g m g.rows 0 es) where
-  entry_of : (fs : List Anchor) → AllByRecursion (IsOfRun axis g m) fs → (p : Position) (s : ℕ × ℕ) → find position_cmp p fs ≡ Some s → (many : ℕ) × IsRun axis g m p many
+module _ (axis : Axis) (g : Grid (List ℕ)) (m : SpanMap) (es : List Rectangle) (listed : RunsBefore axis g m g.rows 0 es) where
+  entry_of : (fs : List Rectangle) → AllByRecursion (IsOfRun axis g m) fs → (p : Position) (s : Size) → find position_cmp p fs ≡ Some s → (many : ℕ) × IsRun axis g m p many
   entry_of [] each p s is = absurd (none-some s is)
   entry_of (e ∷ fs) each p s is = either (cases_place p e.0) (entry_of fs each.1 p s)
     where
@@ -193,7 +193,7 @@ module _ (axis : Axis) (g : Grid (List ℕ)) (m : SpanMap) (es : List Anchor) (l
       listed_of : (p : Position) (many : ℕ) → IsRun axis g m p many → find position_cmp p es ≡ Some (size_of_run axis many)
       listed_of p many run = listed.all p many run (inl (begins_above axis g m p many run))
 
-      by : (p : Position) (o : Option (ℕ × ℕ)) → find position_cmp p es ≡ o → ((many : ℕ) × IsRun axis g m p many × (get (with_sizes m es) p ≡ Some (size_of_run axis many))) ⊎ (((many : ℕ) → IsRun axis g m p many → ⊥) × (get (with_sizes m es) p ≡ get m p))
+      by : (p : Position) (o : Option Size) → find position_cmp p es ≡ o → ((many : ℕ) × IsRun axis g m p many × (get (with_sizes m es) p ≡ Some (size_of_run axis many))) ⊎ (((many : ℕ) → IsRun axis g m p many → ⊥) × (get (with_sizes m es) p ≡ get m p))
       by p None is = inr (λ many run. none-some (size_of_run axis many) (sym is ∙ listed_of p many run), missed es m p is)
       by p (Some s) is =
           let it = entry_of es listed.each p s is in

@@ -8,45 +8,45 @@ use Rattle.std.specs.Option.{unwrap_or}
 use Rattle.std.specs.Ordering.{eq_by_cmp, is_eq}
 use Rattle.std.proofs.lemmas.Bool.{and_parts, cases_Bool}
 use borrow.Author.Tests.{eqb-true}
-use Rattle.tabled_grid.specs.Anchors.{Anchor}
-use Rattle.tabled_grid.specs.Spans.{SpanMap, position_cmp, size_at, with_size, with_sizes}
+use Rattle.tabled_grid.specs.Spans.{Rectangle, SpanMap, position_cmp, size_at, sized, with_size, with_sizes}
 use Rattle.tabled_grid.specs.declared.config.position.Position.{Position}
 use Rattle.tabled_grid.specs.declared.records.axis.Axis.{Axis}
 use Rattle.tabled_grid.proofs.SpanMaps.{equal, found_above, halves, tied}
 use Rattle.tabled_grid.proofs.Spans.{positions_exact, positions_total}
 use Rattle.tabled_spans.specs.Spanned.{with_span}
 use Rattle.tabled_grid.specs.Axis.{resized}
+use Rattle.tabled_grid.specs.declared.config.size.Size.{Size}
 use Rattle.tabled_spans.proofs.SpanChanges.{span-is}
 
 -- what a map has at a place, after a size is set there, or none
-abbrev set_or : Option (ℕ × ℕ) → Option (ℕ × ℕ) → Option (ℕ × ℕ)
+abbrev set_or : Option Size → Option Size → Option Size
 set_or None old = old
-set_or (Some size) old = if (size.0 == 1) && (size.1 == 1) then None else Some size
+set_or (Some size) old = if (size.height == 1) && (size.width == 1) then None else Some size
 
-get-with_size : (m : SpanMap) (p : Position) (size : ℕ × ℕ) (q : Position) → get (with_size m p size) q ≡ set_or (cond (eq_by_cmp position_cmp q p) (Some size) None) (get m q)
-get-with_size m p size q = either (cases_Bool ((size.0 == 1) && (size.1 == 1)))
+get-with_size : (m : SpanMap) (p : Position) (size : Size) (q : Position) → get (with_size m p size) q ≡ set_or (cond (eq_by_cmp position_cmp q p) (Some size) None) (get m q)
+get-with_size m p size q = either (cases_Bool ((size.height == 1) && (size.width == 1)))
   where
-    set : (o : Option (ℕ × ℕ)) (b : Bool) → ((size.0 == 1) && (size.1 == 1)) ≡ b → cond (eq_by_cmp position_cmp q p) (if b then None else Some size) o ≡ set_or (cond (eq_by_cmp position_cmp q p) (Some size) None) o
+    set : (o : Option Size) (b : Bool) → ((size.height == 1) && (size.width == 1)) ≡ b → cond (eq_by_cmp position_cmp q p) (if b then None else Some size) o ≡ set_or (cond (eq_by_cmp position_cmp q p) (Some size) None) o
     set o b t = either_place (eq_by_cmp position_cmp q p)
       where
         either_place : (c : Bool) → cond c (if b then None else Some size) o ≡ set_or (cond c (Some size) None) o
         either_place true = ap (λ (x : Bool). if x then None else Some size) (sym t)
         either_place false = refl
 
-    either : (((size.0 == 1) && (size.1 == 1)) ≡ true) ⊎ (((size.0 == 1) && (size.1 == 1)) ≡ false) → get (with_size m p size) q ≡ set_or (cond (eq_by_cmp position_cmp q p) (Some size) None) (get m q)
+    either : (((size.height == 1) && (size.width == 1)) ≡ true) ⊎ (((size.height == 1) && (size.width == 1)) ≡ false) → get (with_size m p size) q ≡ set_or (cond (eq_by_cmp position_cmp q p) (Some size) None) (get m q)
     either (inl t) = ap (λ (x : Bool). get (if x then map.remove m p else map.insert m p size) q) t ∙ get-remove positions_total m p q ∙ set (get m q) true t
     either (inr f) = ap (λ (x : Bool). get (if x then map.remove m p else map.insert m p size) q) f ∙ get-insert positions_total m p size q ∙ set (get m q) false f
 
 -- nothing is found at a place below all
-none_below : (a : Position) (es : List Anchor) → T (below_all position_cmp a es) → find position_cmp a es ≡ None
+none_below : (a : Position) (es : List Rectangle) → T (below_all position_cmp a es) → find position_cmp a es ≡ None
 none_below a es below = by (find position_cmp a es) refl
   where
-    by : (s : Option (ℕ × ℕ)) → find position_cmp a es ≡ s → s ≡ None
+    by : (s : Option Size) → find position_cmp a es ≡ s → s ≡ None
     by None e = refl
     by (Some v) e = let never : false ≡ true = sym (ap is_eq (found_above position_cmp positions_total positions_exact a a es v below e)) ∙ tied a in cc
 
 -- what a map has after sizes are set at once
-get-with_sizes : (es : List Anchor) (m : SpanMap) (q : Position) → T (is_sorted position_cmp es) → get (with_sizes m es) q ≡ set_or (find position_cmp q es) (get m q)
+get-with_sizes : (es : List Rectangle) (m : SpanMap) (q : Position) → T (is_sorted position_cmp es) → get (with_sizes m es) q ≡ set_or (find position_cmp q es) (get m q)
 get-with_sizes [] m q up = refl
 get-with_sizes (e ∷ es) m q up = get-with_sizes es (with_size m e.0 e.1) q (halves _ _ up).1 ∙ either (cases_Bool (eq_by_cmp position_cmp q e.0))
   where
@@ -60,38 +60,38 @@ get-with_sizes (e ∷ es) m q up = get-with_sizes es (with_size m e.0 e.1) q (ha
     either (inl t) =
         let same : e.0 ≡ q = sym (positions_exact q e.0 (equal _ t)) in
         let none : find position_cmp q es ≡ None = none_below q es (subst (λ (x : Position). T (below_all position_cmp x es)) same (halves _ _ up).0) in
-        ap (λ (o : Option (ℕ × ℕ)). set_or o (get (with_size m e.0 e.1) q)) none ∙ one true t ∙ ap (λ (o : Option (ℕ × ℕ)). set_or o (get m q)) (sym (found true t))
-    either (inr f) = ap (set_or (find position_cmp q es)) (one false f) ∙ ap (λ (o : Option (ℕ × ℕ)). set_or o (get m q)) (sym (found false f))
+        ap (λ (o : Option Size). set_or o (get (with_size m e.0 e.1) q)) none ∙ one true t ∙ ap (λ (o : Option Size). set_or o (get m q)) (sym (found true t))
+    either (inr f) = ap (set_or (find position_cmp q es)) (one false f) ∙ ap (λ (o : Option Size). set_or o (get m q)) (sym (found false f))
 
 -- one size more
-pub with_sizes-put : (m : SpanMap) (es : List Anchor) (a : Position) (size : ℕ × ℕ) → T (is_sorted position_cmp es) → with_sizes m (put position_cmp a size es) ≡ with_size (with_sizes m es) a size
+pub with_sizes-put : (m : SpanMap) (es : List Rectangle) (a : Position) (size : Size) → T (is_sorted position_cmp es) → with_sizes m (put position_cmp a size es) ≡ with_size (with_sizes m es) a size
 with_sizes-put m es a size up = same_map positions_total positions_exact _ _ (λ q.
     get-with_sizes (put position_cmp a size es) m q (is_sorted-put position_cmp positions_total a size es up)
-    ∙ ap (λ (o : Option (ℕ × ℕ)). set_or o (get m q)) (find-put position_cmp positions_total q a size es)
+    ∙ ap (λ (o : Option Size). set_or o (get m q)) (find-put position_cmp positions_total q a size es)
     ∙ joined (eq_by_cmp position_cmp q a) (find position_cmp q es) (get m q)
     ∙ ap (set_or (cond (eq_by_cmp position_cmp q a) (Some size) None)) (sym (get-with_sizes es m q up))
     ∙ sym (get-with_size (with_sizes m es) a size q))
   where
-    joined : (b : Bool) (o old : Option (ℕ × ℕ)) → set_or (cond b (Some size) o) old ≡ set_or (cond b (Some size) None) (set_or o old)
+    joined : (b : Bool) (o old : Option Size) → set_or (cond b (Some size) o) old ≡ set_or (cond b (Some size) None) (set_or o old)
     joined true o old = refl
     joined false o old = refl
 
 -- the size at a place, among those that are set
-pub size-set : (m : SpanMap) (es : List Anchor) (a : Position) (size : ℕ × ℕ) → T (is_sorted position_cmp es) → find position_cmp a es ≡ Some size → size_at (with_sizes m es) a ≡ size
-size-set m es a size up found = ap (λ (o : Option (ℕ × ℕ)). unwrap_or o (1, 1)) (get-with_sizes es m a up ∙ ap (λ (o : Option (ℕ × ℕ)). set_or o (get m a)) found) ∙ either (cases_Bool ((size.0 == 1) && (size.1 == 1)))
+pub size-set : (m : SpanMap) (es : List Rectangle) (a : Position) (size : Size) → T (is_sorted position_cmp es) → find position_cmp a es ≡ Some size → size_at (with_sizes m es) a ≡ size
+size-set m es a size up found = ap (λ (o : Option Size). unwrap_or o (sized 1 1)) (get-with_sizes es m a up ∙ ap (λ (o : Option Size). set_or o (get m a)) found) ∙ either (cases_Bool ((size.height == 1) && (size.width == 1)))
   where
-    either : (((size.0 == 1) && (size.1 == 1)) ≡ true) ⊎ (((size.0 == 1) && (size.1 == 1)) ≡ false) → unwrap_or (set_or (Some size) (get m a)) (1, 1) ≡ size
-    either (inl t) = let parts = and_parts _ _ t in rw t (ap₂ (λ h w. (h, w)) (sym (eqb-true _ _ parts.0)) (sym (eqb-true _ _ parts.1)))
+    either : (((size.height == 1) && (size.width == 1)) ≡ true) ⊎ (((size.height == 1) && (size.width == 1)) ≡ false) → unwrap_or (set_or (Some size) (get m a)) (sized 1 1) ≡ size
+    either (inl t) = let parts = and_parts _ _ t in rw t (ap₂ sized (sym (eqb-true _ _ parts.0)) (sym (eqb-true _ _ parts.1)))
     either (inr f) = rw f refl
 
-pub size-unset : (m : SpanMap) (es : List Anchor) (a : Position) → T (is_sorted position_cmp es) → find position_cmp a es ≡ None → size_at (with_sizes m es) a ≡ size_at m a
-size-unset m es a up missed = ap (λ (o : Option (ℕ × ℕ)). unwrap_or o (1, 1)) (get-with_sizes es m a up ∙ ap (λ (o : Option (ℕ × ℕ)). set_or o (get m a)) missed)
+pub size-unset : (m : SpanMap) (es : List Rectangle) (a : Position) → T (is_sorted position_cmp es) → find position_cmp a es ≡ None → size_at (with_sizes m es) a ≡ size_at m a
+size-unset m es a up missed = ap (λ (o : Option Size). unwrap_or o (sized 1 1)) (get-with_sizes es m a up ∙ ap (λ (o : Option Size). set_or o (get m a)) missed)
 
-pub sorted-put : (es new : List Anchor) (a : Position) (size : ℕ × ℕ) → T (is_sorted position_cmp es) → new ≡ put position_cmp a size es → T (is_sorted position_cmp new)
-sorted-put es new a size up is = subst (λ (xs : List Anchor). T (is_sorted position_cmp xs)) (sym is) (is_sorted-put position_cmp positions_total a size es up)
+pub sorted-put : (es new : List Rectangle) (a : Position) (size : Size) → T (is_sorted position_cmp es) → new ≡ put position_cmp a size es → T (is_sorted position_cmp new)
+sorted-put es new a size up is = subst (λ (xs : List Rectangle). T (is_sorted position_cmp xs)) (sym is) (is_sorted-put position_cmp positions_total a size es up)
 
 -- so a span after those that are set is one size more
-pub span-put : (m : SpanMap) (es new : List Anchor) (axis : Axis) (a : Position) (size : ℕ × ℕ) (many : ℕ) → 1 ≤ many → T (is_sorted position_cmp es) → size_at (with_sizes m es) a ≡ size → new ≡ put position_cmp a (resized axis size many) es → with_sizes m new ≡ with_span axis (with_sizes m es) a many
+pub span-put : (m : SpanMap) (es new : List Rectangle) (axis : Axis) (a : Position) (size : Size) (many : ℕ) → 1 ≤ many → T (is_sorted position_cmp es) → size_at (with_sizes m es) a ≡ size → new ≡ put position_cmp a (resized axis size many) es → with_sizes m new ≡ with_span axis (with_sizes m es) a many
 span-put m es new axis a size many some up has is =
     ap (with_sizes m) is
     ∙ with_sizes-put m es a (resized axis size many) up

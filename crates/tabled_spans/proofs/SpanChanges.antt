@@ -8,10 +8,9 @@ use Rattle.std.specs.Ordering.{is_eq}
 use Rattle.std.specs.declared.cmp.Ordering.TheVariants.{Less}
 use Rattle.std.proofs.lemmas.Bool.{cases_Bool}
 use Rattle.std.proofs.lemmas.Cmp.{tied_itself}
-use Rattle.tabled_grid.specs.Anchors.{Anchor}
 use Rattle.tabled_grid.specs.Covers.{cover_in}
 use Rattle.tabled_grid.specs.Rectangles.{is_visible}
-use Rattle.tabled_grid.specs.Spans.{SpanMap, position_cmp, size_at, with_size, with_sizes}
+use Rattle.tabled_grid.specs.Spans.{Rectangle, SpanMap, position_cmp, size_at, sized, with_size, with_sizes}
 use Rattle.tabled_grid.specs.declared.config.position.Position.{Position}
 use Rattle.tabled_grid.specs.declared.records.axis.Axis.{Axis}
 use Rattle.tabled_grid.specs.declared.records.axis.Axis.TheVariants.{Rows, Columns}
@@ -19,37 +18,38 @@ use Rattle.tabled_grid.proofs.Merging.{column_span-is, row_span-is}
 use Rattle.tabled_grid.proofs.SpanMaps.{halves, less, size_at-with_size-other}
 use Rattle.tabled_grid.proofs.Spans.{positions_total}
 use Rattle.tabled_grid.specs.Axis.{across, count_of, line_of, resized}
+use Rattle.tabled_grid.specs.declared.config.size.Size.{Size}
 use Rattle.tabled_spans.specs.Spanned.{grown_each, stretch, with_span, with_visible_span}
 use Rattle.tabled_spans.specs.SpanSteps.{change_at}
 use Rattle.tabled_spans.proofs.RisingPlaces.{both}
 
-pub with_sizes-append : (m : SpanMap) (xs ys : List Anchor) → with_sizes m (xs ++ ys) ≡ with_sizes (with_sizes m xs) ys
+pub with_sizes-append : (m : SpanMap) (xs ys : List Rectangle) → with_sizes m (xs ++ ys) ≡ with_sizes (with_sizes m xs) ys
 with_sizes-append m [] ys = refl
 with_sizes-append m (x ∷ xs) ys = with_sizes-append (with_size m x.0 x.1) xs ys
 
 -- what stands below all of a list stands below each of it
-below_here : (k : Position) (xs : List Anchor) (p : Position) (s : ℕ × ℕ) (rest : List Anchor) → T (below_all position_cmp k (xs ++ (p, s) ∷ rest)) → position_cmp k p ≡ Less
+below_here : (k : Position) (xs : List Rectangle) (p : Position) (s : Size) (rest : List Rectangle) → T (below_all position_cmp k (xs ++ (p, s) ∷ rest)) → position_cmp k p ≡ Less
 below_here k [] p s rest b = less _ (halves _ _ b).0
 below_here k (x ∷ xs) p s rest b = below_here k xs p s rest (halves _ _ b).1
 
-below_set : (k : Position) (xs : List Anchor) (p : Position) (s t : ℕ × ℕ) (rest : List Anchor) → T (below_all position_cmp k (xs ++ (p, s) ∷ rest)) → T (below_all position_cmp k (xs ++ (p, t) ∷ rest))
+below_set : (k : Position) (xs : List Rectangle) (p : Position) (s t : Size) (rest : List Rectangle) → T (below_all position_cmp k (xs ++ (p, s) ∷ rest)) → T (below_all position_cmp k (xs ++ (p, t) ∷ rest))
 below_set k [] p s t rest b = b
 below_set k (x ∷ xs) p s t rest b = both _ _ (halves _ _ b).0 (below_set k xs p s t rest (halves _ _ b).1)
 
-below_skip : (k : Position) (xs : List Anchor) (p : Position) (s : ℕ × ℕ) (rest : List Anchor) → T (below_all position_cmp k (xs ++ (p, s) ∷ rest)) → T (below_all position_cmp k (xs ++ rest))
+below_skip : (k : Position) (xs : List Rectangle) (p : Position) (s : Size) (rest : List Rectangle) → T (below_all position_cmp k (xs ++ (p, s) ∷ rest)) → T (below_all position_cmp k (xs ++ rest))
 below_skip k [] p s rest b = (halves _ _ b).1
 below_skip k (x ∷ xs) p s rest b = both _ _ (halves _ _ b).0 (below_skip k xs p s rest (halves _ _ b).1)
 
-sorted_set : (xs : List Anchor) (p : Position) (s t : ℕ × ℕ) (rest : List Anchor) → T (is_sorted position_cmp (xs ++ (p, s) ∷ rest)) → T (is_sorted position_cmp (xs ++ (p, t) ∷ rest))
+sorted_set : (xs : List Rectangle) (p : Position) (s t : Size) (rest : List Rectangle) → T (is_sorted position_cmp (xs ++ (p, s) ∷ rest)) → T (is_sorted position_cmp (xs ++ (p, t) ∷ rest))
 sorted_set [] p s t rest up = up
 sorted_set (x ∷ xs) p s t rest up = both _ _ (below_set x.0 xs p s t rest (halves _ _ up).0) (sorted_set xs p s t rest (halves _ _ up).1)
 
-sorted_skip : (xs : List Anchor) (p : Position) (s : ℕ × ℕ) (rest : List Anchor) → T (is_sorted position_cmp (xs ++ (p, s) ∷ rest)) → T (is_sorted position_cmp (xs ++ rest))
+sorted_skip : (xs : List Rectangle) (p : Position) (s : Size) (rest : List Rectangle) → T (is_sorted position_cmp (xs ++ (p, s) ∷ rest)) → T (is_sorted position_cmp (xs ++ rest))
 sorted_skip [] p s rest up = (halves _ _ up).1
 sorted_skip (x ∷ xs) p s rest up = both _ _ (below_skip x.0 xs p s rest (halves _ _ up).0) (sorted_skip xs p s rest (halves _ _ up).1)
 
 -- sizes set at places before do not touch a place
-pub size-before : (m : SpanMap) (xs : List Anchor) (p : Position) (s : ℕ × ℕ) (rest : List Anchor) → T (is_sorted position_cmp (xs ++ (p, s) ∷ rest)) → size_at (with_sizes m xs) p ≡ size_at m p
+pub size-before : (m : SpanMap) (xs : List Rectangle) (p : Position) (s : Size) (rest : List Rectangle) → T (is_sorted position_cmp (xs ++ (p, s) ∷ rest)) → size_at (with_sizes m xs) p ≡ size_at m p
 size-before m [] p s rest up = refl
 size-before m (x ∷ xs) p s rest up = size-before (with_size m x.0 x.1) xs p s rest (halves _ _ up).1 ∙ size_at-with_size-other m x.0 x.1 p apart
   where
@@ -72,18 +72,18 @@ change-is axis m p many some = either (cases_Bool (list_all (is_visible m) (stre
     either (inr f) = rw f refl
 
 -- after the change at a place, the next places still rise
-pub sorted-change : (axis : Axis) (m : SpanMap) (p : Position) (many : ℕ) (xs rest : List Anchor) → T (is_sorted position_cmp (xs ++ (p, (1, 1)) ∷ rest)) → T (is_sorted position_cmp ((xs ++ change_at axis m p many) ++ rest))
-sorted-change axis m p many xs rest up = subst (λ (es : List Anchor). T (is_sorted position_cmp es)) (sym (append_assoc xs (change_at axis m p many) rest)) (either (cases_Bool (list_all (is_visible m) (stretch axis p (line_of axis p) many))))
+pub sorted-change : (axis : Axis) (m : SpanMap) (p : Position) (many : ℕ) (xs rest : List Rectangle) → T (is_sorted position_cmp (xs ++ (p, sized 1 1) ∷ rest)) → T (is_sorted position_cmp ((xs ++ change_at axis m p many) ++ rest))
+sorted-change axis m p many xs rest up = subst (λ (es : List Rectangle). T (is_sorted position_cmp es)) (sym (append_assoc xs (change_at axis m p many) rest)) (either (cases_Bool (list_all (is_visible m) (stretch axis p (line_of axis p) many))))
   where
     either : (list_all (is_visible m) (stretch axis p (line_of axis p) many) ≡ true) ⊎ (list_all (is_visible m) (stretch axis p (line_of axis p) many) ≡ false) → T (is_sorted position_cmp (xs ++ (change_at axis m p many ++ rest)))
-    either (inl t) = rw t (sorted_set xs p (1, 1) (resized axis (size_at m p) many) rest up)
-    either (inr f) = rw f (sorted_skip xs p (1, 1) rest up)
+    either (inl t) = rw t (sorted_set xs p (sized 1 1) (resized axis (size_at m p) many) rest up)
+    either (inr f) = rw f (sorted_skip xs p (sized 1 1) rest up)
 
 -- the change at a place, and spans at those that follow
-pub changes-more : (cfg : SpanMap) (xs new : List Anchor) (p : Position) (rest : List Position) (axis : Axis) (size n many : ℕ) → many ≡ min size (n - line_of axis p) → 1 ≤ many → new ≡ xs ++ change_at axis (with_sizes cfg xs) p many → grown_each axis size n (with_sizes cfg new) rest ≡ grown_each axis size n (with_sizes cfg xs) (p ∷ rest)
+pub changes-more : (cfg : SpanMap) (xs new : List Rectangle) (p : Position) (rest : List Position) (axis : Axis) (size n many : ℕ) → many ≡ min size (n - line_of axis p) → 1 ≤ many → new ≡ xs ++ change_at axis (with_sizes cfg xs) p many → grown_each axis size n (with_sizes cfg new) rest ≡ grown_each axis size n (with_sizes cfg xs) (p ∷ rest)
 changes-more cfg xs new p rest axis size n many is some added =
     let m = with_sizes cfg xs in
-    ap (λ (es : List Anchor). grown_each axis size n (with_sizes cfg es) rest) added
+    ap (λ (es : List Rectangle). grown_each axis size n (with_sizes cfg es) rest) added
     ∙ ap (λ (k : SpanMap). grown_each axis size n k rest) (with_sizes-append cfg xs (change_at axis m p many) ∙ change-is axis m p many some ∙ ap (with_visible_span axis m p) is)
 
 pub line_within : (axis : Axis) (first p : Position) (rows columns : ℕ) → first.row ≤ p.row → p.row < first.row + rows → first.col ≤ p.col → p.col < first.col + columns → (line_of (across axis) first ≤ line_of (across axis) p) × (line_of (across axis) p - line_of (across axis) first < count_of (across axis) rows columns)
@@ -100,5 +100,5 @@ index_within Rows p rows columns row col = row
 index_within Columns p rows columns row col = col
 
 -- what the cover map follows
-pub cover-change : (cfg : SpanMap) (xs new : List Anchor) (axis : Axis) (p : Position) (many : ℕ) (first : Position) (rows columns : ℕ) → new ≡ xs ++ change_at axis (with_sizes cfg xs) p many → cover_in (with_sizes (with_sizes cfg xs) (change_at axis (with_sizes cfg xs) p many)) first rows columns ≡ cover_in (with_sizes cfg new) first rows columns
+pub cover-change : (cfg : SpanMap) (xs new : List Rectangle) (axis : Axis) (p : Position) (many : ℕ) (first : Position) (rows columns : ℕ) → new ≡ xs ++ change_at axis (with_sizes cfg xs) p many → cover_in (with_sizes (with_sizes cfg xs) (change_at axis (with_sizes cfg xs) p many)) first rows columns ≡ cover_in (with_sizes cfg new) first rows columns
 cover-change cfg xs new axis p many first rows columns added = ap (λ (m : SpanMap). cover_in m first rows columns) (sym (ap (with_sizes cfg) added ∙ with_sizes-append cfg xs (change_at axis (with_sizes cfg xs) p many)))

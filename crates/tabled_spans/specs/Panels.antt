@@ -6,7 +6,7 @@ use Rattle.tabled_grid.specs.Axis.{across, place_in, resized}
 use Rattle.tabled_grid.specs.Grid.{Grid}
 use Rattle.tabled_grid.specs.Resized.{with_column, with_row}
 use Rattle.tabled_grid.specs.Shifts.{is_crossed, shifted}
-use Rattle.tabled_grid.specs.Spans.{SpanMap, with_size}
+use Rattle.tabled_grid.specs.Spans.{SpanMap, sized, with_size}
 use Rattle.tabled_grid.specs.declared.records.axis.Axis.{Axis}
 use Rattle.tabled_grid.specs.declared.records.axis.Axis.TheVariants.{Rows, Columns}
 use Rattle.tabled_options.specs.Does.{Same}
@@ -29,7 +29,7 @@ pub record PutsIn {A : Type 0} (is_blank : A → Type 0) (text_of : A → List �
 
 -- the map: anchors from the line on go one further, and the line is one rectangle
 abbrev pub with_panel : Axis → ℕ → ℕ → SpanMap → SpanMap
-with_panel axis line many m = with_size (shifted axis line m) (place_in axis line 0) (resized (across axis) (1, 1) many)
+with_panel axis line many m = with_size (shifted axis line m) (place_in axis line 0) (resized (across axis) (sized 1 1) many)
 
 -- a panel may stand before a line: it isn't past the last one, lines have cells, and no rectangle begins before it and holds a cell of it
 abbrev pub has_room : {A : Type 0} → Axis → ℕ → Grid A → SpanMap → Bool

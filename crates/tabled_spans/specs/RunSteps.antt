@@ -2,9 +2,8 @@
 use Rattle.std.specs.Prelude.{◌≡◌, ◌<◌, ◌≤◌, ◌⊎◌, ℕ, List, Some, T}
 use Rattle.std.specs.FinMap.{find, is_sorted}
 use Rattle.std.specs.List.{AllByRecursion}
-use Rattle.tabled_grid.specs.Anchors.{Anchor}
 use Rattle.tabled_grid.specs.Grid.{Grid}
-use Rattle.tabled_grid.specs.Spans.{SpanMap, position_cmp}
+use Rattle.tabled_grid.specs.Spans.{Rectangle, SpanMap, position_cmp}
 use Rattle.tabled_grid.specs.declared.config.position.Position.{Position}
 use Rattle.tabled_grid.specs.declared.records.axis.Axis.{Axis}
 use Rattle.tabled_spans.specs.Runs.{IsRun, size_of_run}
@@ -19,12 +18,12 @@ abbrev pub Before : ℕ → ℕ → Position → Type 0
 Before i j p = (p.row < i) ⊎ ((p.row ≡ i) × (p.col < j))
 
 -- the anchor and the size of a run
-abbrev pub IsOfRun : Axis → Grid (List ℕ) → SpanMap → Anchor → Type 0
+abbrev pub IsOfRun : Axis → Grid (List ℕ) → SpanMap → Rectangle → Type 0
 IsOfRun axis g m e = (many : ℕ) × IsRun axis g m e.0 many × (e.1 ≡ size_of_run axis many)
 
 -- the anchors and sizes of all runs that begin before a place, row by row
-pub record RunsBefore (axis : Axis) (g : Grid (List ℕ)) (m : SpanMap) (i j : ℕ) (sizes : List Anchor) : Type 0 where
+pub record RunsBefore (axis : Axis) (g : Grid (List ℕ)) (m : SpanMap) (i j : ℕ) (sizes : List Rectangle) : Type 0 where
   pub sorted : T (is_sorted position_cmp sizes)
-  pub before : AllByRecursion (λ (e : Anchor). Before i j e.0) sizes
+  pub before : AllByRecursion (λ (e : Rectangle). Before i j e.0) sizes
   pub each : AllByRecursion (IsOfRun axis g m) sizes
   pub all : (p : Position) (many : ℕ) → IsRun axis g m p many → Before i j p → find position_cmp p sizes ≡ Some (size_of_run axis many)

@@ -4,21 +4,22 @@ use Rattle.std.specs.FinMap as map
 use Rattle.tabled_grid.specs.Axis.{in_line, line_of, resized}
 use Rattle.tabled_grid.specs.Grid.{Grid, IsInside, cell_at}
 use Rattle.tabled_grid.specs.Rectangles.{is_visible}
-use Rattle.tabled_grid.specs.Spans.{SpanMap, size_at}
+use Rattle.tabled_grid.specs.Spans.{SpanMap, size_at, sized}
 use Rattle.tabled_grid.specs.declared.config.position.Position.{Position}
 use Rattle.tabled_grid.specs.declared.records.axis.Axis.{Axis}
+use Rattle.tabled_grid.specs.declared.config.size.Size.{Size}
 
 -- the place n rows (or columns) further
 abbrev pub further : Axis → ℕ → Position → Position
 further axis k p = in_line axis p (line_of axis p + k)
 
 -- the size of n rows (or columns) of one cell
-abbrev pub size_of_run : Axis → ℕ → ℕ × ℕ
-size_of_run axis many = resized axis (1, 1) many
+abbrev pub size_of_run : Axis → ℕ → Size
+size_of_run axis many = resized axis (sized 1 1) many
 
 -- the cell is visible and no anchor
 abbrev pub is_free : SpanMap → Position → Bool
-is_free m p = is_visible m p && (((size_at m p).0 == 1) && ((size_at m p).1 == 1))
+is_free m p = is_visible m p && (((size_at m p).height == 1) && ((size_at m p).width == 1))
 
 -- a cell and the next one along an axis are visible and no anchors, and have equal texts
 pub record Joins (axis : Axis) (g : Grid (List ℕ)) (m : SpanMap) (p : Position) : Type 0 where

@@ -1,10 +1,9 @@
 -- What a span over visible cells changes at one place after another.
 use Rattle.std.specs.Prelude.{◌≡◌, ◌+◌, ◌-◌, ◌<◌, ◌≤◌, ℕ, true, min, List, [], ◌∷◌, if◌then◌else◌}
 use Rattle.std.specs.List.{list_all}
-use Rattle.tabled_grid.specs.Anchors.{Anchor}
 use Rattle.tabled_grid.specs.Entity.{names}
 use Rattle.tabled_grid.specs.Rectangles.{is_visible}
-use Rattle.tabled_grid.specs.Spans.{SpanMap, size_at}
+use Rattle.tabled_grid.specs.Spans.{Rectangle, SpanMap, size_at}
 use Rattle.tabled_grid.specs.declared.config.entity.Entity.{Entity}
 use Rattle.tabled_grid.specs.declared.config.position.Position.{Position}
 use Rattle.tabled_grid.specs.declared.records.axis.Axis.{Axis}
@@ -12,7 +11,7 @@ use Rattle.tabled_grid.specs.Axis.{count_of, line_of, resized}
 use Rattle.tabled_spans.specs.Spanned.{stretch}
 
 -- the new size at a place, if n cells from there on are all visible
-abbrev pub change_at : Axis → SpanMap → Position → ℕ → List Anchor
+abbrev pub change_at : Axis → SpanMap → Position → ℕ → List Rectangle
 change_at axis m p many = if list_all (is_visible m) (stretch axis p (line_of axis p) many) then (p, resized axis (size_at m p) many) ∷ [] else []
 
 -- the cells that a span takes from a place on lie in the first r rows and c columns

@@ -12,6 +12,7 @@ ghost use Rattle.tabled_grid.specs.declared.records.axis.Axis.{Axis};
 ghost use Rattle.tabled_options.specs.Does.{OptionKeeps};
 ghost use Rattle.tabled_spans.specs.Runs.{IsRun, Joins, MergesRuns, further, size_of_run};
 ghost use Rattle.tabled_grid.specs.Axis.{count_of};
+ghost use Rattle.tabled_grid.specs.declared.config.size.Size.{Size};
 ghost use Rattle.tabled_spans.specs.Spanned.{grown_each};
 
 use crate::merge::{MergeDuplicatesHorizontal, MergeDuplicatesVertical};
@@ -102,6 +103,6 @@ pub fn merged_twice_is_merged_once()
 /// column one merged cell each. Rows alike.
 pub fn exactly_the_runs_are_merged()
     ensures merged { (axis : Axis) (g : Grid (List ℕ)) (n : SpanMap) (p : Position) (many : ℕ) → MergesRuns axis g map.empty n → IsRun axis g map.empty p many → map.get n p ≡ Some (size_of_run axis many) }
-    ensures no_others { (axis : Axis) (g : Grid (List ℕ)) (n : SpanMap) (p : Position) (size : ℕ × ℕ) → MergesRuns axis g map.empty n → map.get n p ≡ Some size → (many : ℕ) × IsRun axis g map.empty p many × (size ≡ size_of_run axis many) }
+    ensures no_others { (axis : Axis) (g : Grid (List ℕ)) (n : SpanMap) (p : Position) (size : Size) → MergesRuns axis g map.empty n → map.get n p ≡ Some size → (many : ℕ) × IsRun axis g map.empty p many × (size ≡ size_of_run axis many) }
     ensures joined { (axis : Axis) (g : Grid (List ℕ)) (p : Position) → IsInside g p → IsInside g (further axis 1 p) → cell_at g p ≡ cell_at g (further axis 1 p) → Joins axis g map.empty p }
 {}

@@ -9,10 +9,9 @@ use Rattle.std.proofs.lemmas.Grind.{flat_map-append}
 use Rattle.std.proofs.lemmas.List.{append-nil, append_assoc}
 use Rattle.std.proofs.lemmas.Option.{none-some, same_Some}
 use Rattle.std.proofs.lemmas.Slice.Eq.{bytes_eq-Decides}
-use Rattle.tabled_grid.specs.Anchors.{Anchor}
 use Rattle.tabled_grid.specs.Entity.{place}
 use Rattle.tabled_grid.specs.Grid.{Grid, IsInside}
-use Rattle.tabled_grid.specs.Spans.{SpanMap, with_sizes}
+use Rattle.tabled_grid.specs.Spans.{Rectangle, SpanMap, with_sizes}
 use Rattle.tabled_grid.specs.declared.config.position.Position.{Position}
 use Rattle.tabled_grid.specs.declared.records.axis.Axis.{Axis}
 use Rattle.tabled_grid.specs.declared.records.axis.Axis.TheVariants.{Rows, Columns}
@@ -149,7 +148,7 @@ module _ (axis : Axis) (g : Grid (List ℕ)) (m : SpanMap) where
   one_at zero p f = refl
   one_at (suc most) p f = rw f refl
 
-  one_place : (i j : ℕ) (es : List Anchor) → RunsBefore axis g m i j es → RunsBefore axis g m i (j + 1) (es ++ run_at axis g m (place i j))
+  one_place : (i j : ℕ) (es : List Rectangle) → RunsBefore axis g m i j es → RunsBefore axis g m i (j + 1) (es ++ run_at axis g m (place i j))
   one_place i j es so_far = by (joins axis g m p) (is_joined axis g m p) refl refl
     where
       p : Position
@@ -163,14 +162,14 @@ module _ (axis : Axis) (g : Grid (List ℕ)) (m : SpanMap) where
       by false true t f = rw (t, append-nil es) (run_passed axis g m i j es so_far 0 (omega arith) (continued (place i j) f))
       by false false t f = rw (t, append-nil es) (run_passed axis g m i j es so_far (counted (place i j)) (omega (arith, one_at (g.rows + g.columns) (place i j) t)) (found_at (place i j) f))
 
-  abbrev listed : List Position → List Anchor
+  abbrev listed : List Position → List Rectangle
   listed = flat_map (run_at axis g m)
 
-  one_row : (n i j : ℕ) (es : List Anchor) → j + n ≡ g.columns → RunsBefore axis g m i j es → RunsBefore axis g m i g.columns (es ++ listed (map (place i) (range_with_len j n)))
+  one_row : (n i j : ℕ) (es : List Rectangle) → j + n ≡ g.columns → RunsBefore axis g m i j es → RunsBefore axis g m i g.columns (es ++ listed (map (place i) (range_with_len j n)))
   one_row zero i j es e so_far = rw (append-nil es) (subst (λ k. RunsBefore axis g m i k es) (omega (arith, e)) so_far)
   one_row (suc n) i j es e so_far = rw (← append_assoc es (run_at axis g m (place i j)) (listed (map (place i) (range_with_len (j + 1) n)))) (one_row n i (j + 1) (es ++ run_at axis g m (place i j)) (omega (arith, e)) (one_place i j es so_far))
 
-  all_rows : (n i : ℕ) (es : List Anchor) → i + n ≡ g.rows → RunsBefore axis g m i 0 es → RunsBefore axis g m g.rows 0 (es ++ listed (places (range_with_len i n) (range_with_len 0 g.columns)))
+  all_rows : (n i : ℕ) (es : List Rectangle) → i + n ≡ g.rows → RunsBefore axis g m i 0 es → RunsBefore axis g m g.rows 0 (es ++ listed (places (range_with_len i n) (range_with_len 0 g.columns)))
   all_rows zero i es e so_far = rw (append-nil es) (subst (λ k. RunsBefore axis g m k 0 es) (omega (arith, e)) so_far)
   all_rows (suc n) i es e so_far =
       let first = map (place i) (range_with_len 0 g.columns) in

@@ -3,10 +3,9 @@ use Rattle.std.specs.Prelude.{ℕ, zero, suc, ◌+◌, ◌-◌, ◌&&◌, if◌t
 use Rattle.std.specs.List.{flat_map}
 use Rattle.std.specs.Option.{option_eq}
 use Rattle.std.specs.Str.{bytes_eq}
-use Rattle.tabled_grid.specs.Anchors.{Anchor}
 use Rattle.tabled_grid.specs.Entity.{block, place}
 use Rattle.tabled_grid.specs.Grid.{Grid, cell_at}
-use Rattle.tabled_grid.specs.Spans.{SpanMap}
+use Rattle.tabled_grid.specs.Spans.{Rectangle, SpanMap}
 use Rattle.tabled_grid.specs.declared.config.position.Position.{Position}
 use Rattle.tabled_grid.specs.declared.records.axis.Axis.{Axis}
 use Rattle.tabled_grid.specs.declared.records.axis.Axis.TheVariants.{Rows, Columns}
@@ -31,9 +30,9 @@ run_from zero axis g m p = 1
 run_from (suc most) axis g m p = if joins axis g m p then suc (run_from most axis g m (further axis 1 p)) else 1
 
 -- the anchor and the size of the run that begins at a place, if one does
-abbrev pub run_at : Axis → Grid (List ℕ) → SpanMap → Position → List Anchor
+abbrev pub run_at : Axis → Grid (List ℕ) → SpanMap → Position → List Rectangle
 run_at axis g m p = if joins axis g m p && not (is_joined axis g m p) then (p, size_of_run axis (run_from (g.rows + g.columns) axis g m p)) ∷ [] else []
 
 -- the anchors and the sizes of all runs, row by row
-abbrev pub runs : Axis → Grid (List ℕ) → SpanMap → List Anchor
+abbrev pub runs : Axis → Grid (List ℕ) → SpanMap → List Rectangle
 runs axis g m = flat_map (run_at axis g m) (block 0 g.rows 0 g.columns)

@@ -142,8 +142,9 @@ where
     requires { R.is_well_formed records.now }
 {
     let mut words = spelled(alloc, records)?;
-    for (pos, (height, width)) in cfg.anchors().iter() {
+    for (pos, size) in cfg.anchors().iter() {
         let (row, col) = (pos.row, pos.col);
+        let (height, width) = (size.height, size.width);
         let rectangle = format!(in alloc; "{row}.{col}:{height}x{width}")?;
         push_word(&mut words, rectangle.as_str())?;
     }

@@ -3,15 +3,15 @@
 ghost use Rattle.std.specs.Prelude.{◌≡◌, IfOk, IsOk, OnErr, OnOk, Some};
 ghost use Rattle.std.specs.FinMap as map;
 ghost use Rattle.std.specs.Option.{IfSome};
-ghost use Rattle.tabled_grid.specs.Anchors.{Anchor};
 ghost use Rattle.tabled_grid.specs.Entity.{place};
 ghost use Rattle.tabled_grid.specs.Fitting.{keep_fitting};
 ghost use Rattle.tabled_grid.specs.Rectangles.{Fits};
+ghost use Rattle.tabled_grid.specs.Spans.{Rectangle, sized};
 ghost use Rattle.tabled_images.specs.Images.{Carries, IsFull, carried};
 
 use crate::geometry::changes;
 use std::alloc::{AllocError, Global};
-use tabled_grid::config::{Position, SpannedConfig};
+use tabled_grid::config::{Position, Rectangle, Size, SpannedConfig};
 use tabled_grid::records::{
     Blank, CellText, ExactRecords, PeekableRecords, Records, RecordsMut, Resizable,
 };
@@ -19,7 +19,7 @@ use tabled_images::laws::{
     carried_rectangles_are_the_images, carried_rectangles_fit, carried_there_and_back_is_as_it_was,
     fitting_rectangles_are_the_free_ones, merged_cells_stay_with_their_cells, there_is_one_image,
 };
-use tabled_images::{MovesRectangles, Rectangle, carry_along, kept_in_place};
+use tabled_images::{MovesRectangles, carry_along, kept_in_place};
 use tabled_options::TableOption;
 use tabled_select::object::{Column, Rows};
 use tabled_settings::concat::Concat;
@@ -137,10 +137,14 @@ pub fn carries_along<M: MovesRectangles>(
 
 /// Where the merged cells go that are anchored at the first place, two rows and three columns of them.
 pub fn first_goes<M: MovesRectangles>(moves: &M) -> Option<Rectangle>
-    ensures carries { IfSome result (λ f. Carries (M.places moves.now) (place 0 0, (2, 3)) f) }
-    ensures finds { (f : Anchor) → Carries (M.places moves.now) (place 0 0, (2, 3)) f → IsFull f → result ≡ Some f }
+    ensures carries { IfSome result (λ f. Carries (M.places moves.now) (place 0 0, sized 2 3) f) }
+    ensures finds { (f : Rectangle) → Carries (M.places moves.now) (place 0 0, sized 2 3) f → IsFull f → result ≡ Some f }
 {
-    moves.new_rectangle((Position::new(0, 0), (2, 3)))
+    let size = Size {
+        height: 2,
+        width: 3,
+    };
+    moves.new_rectangle((Position::new(0, 0), size))
 }
 
 /// Turns a table upside down whose merged cells fit it, which no want of memory stops.

@@ -6,7 +6,7 @@ ghost use Rattle.tabled_grid.specs.Entity.{place};
 use crate::spans::{Anchor, merged};
 use std::alloc::{AllocError, Global};
 use std::test::Fail;
-use tabled_grid::config::{CoverMap, Position, SpannedConfig};
+use tabled_grid::config::{CoverMap, Position, Size, SpannedConfig};
 
 /// Whether a cell is visible, and whether a rectangle covers it from the left, and from above.
 fn told(spans: &SpannedConfig, row: usize, col: usize) -> (bool, bool, bool) {
@@ -83,7 +83,11 @@ fn follow(
     let old_width = spans.get_column_span(pos).unwrap_or(1);
     spans.set_row_span(alloc, pos, height)?;
     spans.set_column_span(alloc, pos, width)?;
-    cover.replace(pos, (old_height, old_width), (height, width));
+    let old = Size {
+        height: old_height,
+        width: old_width,
+    };
+    cover.replace(pos, old, Size { height, width });
     Ok(())
 }
 

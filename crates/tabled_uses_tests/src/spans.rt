@@ -2,10 +2,10 @@
 //!
 //! Merged cells are spelled by their anchors, each as `row col height width` with a semicolon after.
 
-use Size::{Height, Width};
+use Side::{Height, Width};
 use std::alloc::{AllocError, Global};
 use std::test::Fail;
-use tabled_grid::config::{CoverMap, Position, SpannedConfig};
+use tabled_grid::config::{CoverMap, Position, Size, SpannedConfig};
 
 /// An anchor: its row and column, and the height and the width of its rectangle.
 pub(crate) type Anchor = (usize, usize, usize, usize);
@@ -58,19 +58,19 @@ fn is_listed(alloc: Global, spans: &SpannedConfig, anchors: &str) -> Result<bool
 }
 
 #[derive(Clone, Copy)]
-enum Size {
+enum Side {
     Height(usize),
     Width(usize),
 }
 
-/// Sets a size of an anchor, and answers its height and its width.
+/// Sets a side of an anchor's rectangle, and answers its height and its width.
 fn set(
     alloc: Global,
     spans: &mut SpannedConfig,
     pos: Position,
-    size: Size,
+    side: Side,
 ) -> Result<(Option<usize>, Option<usize>), AllocError> {
-    match size {
+    match side {
         Height(height) => spans.set_row_span(alloc, pos, height)?,
         Width(width) => spans.set_column_span(alloc, pos, width)?,
     }
@@ -84,7 +84,7 @@ fn keeps_spans(rt: HostRuntime) -> Result<(), Fail> {
     let end = Position::new(usize::MAX, usize::MAX);
     let mut spans = SpannedConfig::new(rt.alloc());
     assert!(rt; spans.get_column_span(corner).is_none());
-    for (pos, size, sizes) in [
+    for (pos, side, sizes) in [
         (corner, Width(0), (None, None)),
         (corner, Width(3), (None, Some(3))),
         (corner, Height(2), (Some(2), Some(3))),
@@ -94,7 +94,7 @@ fn keeps_spans(rt: HostRuntime) -> Result<(), Fail> {
         (end, Height(1), (None, Some(usize::MAX))),
         (corner, Width(1), (Some(2), None)),
     ] {
-        assert!(rt; set(rt.alloc(), &mut spans, pos, size)? == sizes);
+        assert!(rt; set(rt.alloc(), &mut spans, pos, side)? == sizes);
     }
     Ok(())
 }
@@ -259,10 +259,14 @@ enum Call {
 
 fn make(alloc: Global, spans: &mut SpannedConfig, call: Call) -> Result<(), AllocError> {
     let pos = Position::new(1, 3);
+    let size = Size {
+        height: 2,
+        width: 2,
+    };
     match call {
         Call::RowSpan => spans.set_row_span(alloc, pos, 2),
         Call::ColumnSpan => spans.set_column_span(alloc, pos, 2),
-        Call::Sizes => spans.set_sizes(alloc, &[(pos, (2, 2))]),
+        Call::Sizes => spans.set_sizes(alloc, &[(pos, size)]),
         Call::Copy => {
             spans.copy(alloc)?;
             Ok(())

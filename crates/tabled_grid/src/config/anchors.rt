@@ -1,45 +1,42 @@
 //! Sorted lists of anchors: which are hidden, and whether their rectangles lie well.
 
-ghost use Rattle.std.specs.Prelude.{false, true, ◌≡◌, ◌+◌, ◌≤◌, ◌∷◌, ◌++◌, ℕ, IfOk, OnOk, T, drop, length, map, nat_lt, not, take};
+ghost use Rattle.std.specs.Prelude.{false, true, ◌≡◌, ◌+◌, ◌≤◌, ◌∷◌, ◌++◌, IfOk, OnOk, T, drop, length, map, nat_lt, not, take};
 ghost use Rattle.std.specs.FinMap.{is_sorted};
 ghost use Rattle.std.specs.List.{AllWithin, filter, list_all, list_any};
 ghost use Rattle.std.specs.declared.cmp.Ordering.TheVariants.{Less};
 ghost use Rattle.std.specs.List.Sorted.{IsBinarySearchResult, IsSearchInRange};
 ghost use Rattle.tabled_grid.specs.Anchors.{dropped, is_hidden_in, is_past, lie_well, lies_inside, marked, meets, unless_held, anchor_of, with_sizes_in, without_first_at};
 ghost use Rattle.tabled_grid.specs.Apart.{AreApart};
-ghost use Rattle.tabled_grid.specs.Rectangles.{heights_in, in_rect, reaches_across, reaches_down, widths_in};
+ghost use Rattle.tabled_grid.specs.Rectangles.{heights_in, holds, reaches_across, reaches_down, widths_in};
 ghost use Rattle.tabled_grid.specs.Entity.{same_place};
-ghost use Rattle.tabled_grid.specs.Spans.{AreAnchors, position_cmp};
-ghost use Rattle.tabled_grid.specs.declared.config.position.Position.{Position};
+ghost use Rattle.tabled_grid.specs.Spans.{AreAnchors, Rectangle, position_cmp};
 
 use crate::config::position::Position;
+use crate::config::size::{Rectangle, Size};
 use std::alloc::{AllocError, Global};
-
-/// A place, and the height and the width of the rectangle that is anchored there.
-pub(super) type Anchor = (Position, (usize, usize));
 
 /// The index of the anchor at a place, or else that where it would stand.
 #[doc(hidden)]
-pub fn search(anchors: &[Anchor], pos: Position) -> Result<usize, usize>
+pub fn search(anchors: &[Rectangle], pos: Position) -> Result<usize, usize>
     ensures within { IsSearchInRange result (length anchors.now) }
-    ensures found { IsBinarySearchResult (λ (anchor : Position × (ℕ × ℕ)). position_cmp anchor.0 pos) anchors.now result }
+    ensures found { IsBinarySearchResult (λ (anchor : Rectangle). position_cmp anchor.0 pos) anchors.now result }
 {
     anchors.binary_search_by_key(&pos, |anchor| anchor.0)
 }
 
-/// Says whether the rectangle of an anchor holds a place.
-fn holds(anchor: Anchor, pos: Position) -> bool
-    ensures { result ≡ in_rect anchor.0 anchor.1 pos }
+/// Says whether a rectangle holds a place.
+fn holds(anchor: Rectangle, pos: Position) -> bool
+    ensures { result ≡ holds anchor pos }
 {
-    let (first, (height, width)) = anchor;
+    let (first, size) = anchor;
     first.row <= pos.row
-        && pos.row - first.row < height
+        && pos.row - first.row < size.height
         && first.col <= pos.col
-        && pos.col - first.col < width
+        && pos.col - first.col < size.width
 }
 
 /// Says whether the rectangle of an anchor at another place holds a place.
-pub(super) fn is_hidden(anchors: &[Anchor], pos: Position) -> bool
+pub(super) fn is_hidden(anchors: &[Rectangle], pos: Position) -> bool
     ensures { result ≡ is_hidden_in anchors.now pos }
 {
     anchors
@@ -48,37 +45,37 @@ pub(super) fn is_hidden(anchors: &[Anchor], pos: Position) -> bool
 }
 
 /// Says whether the rectangle of an anchor to the left in a place's row reaches it across.
-pub(super) fn is_covered_across(anchors: &[Anchor], pos: Position) -> bool
-    ensures { result ≡ list_any (λ (e : Position × (ℕ × ℕ)). reaches_across e pos) anchors.now }
+pub(super) fn is_covered_across(anchors: &[Rectangle], pos: Position) -> bool
+    ensures { result ≡ list_any (λ (e : Rectangle). reaches_across e pos) anchors.now }
 {
     anchors.iter().any(|anchor| {
-        let (first, (_, width)) = *anchor;
-        first.row == pos.row && first.col < pos.col && pos.col - first.col < width
+        let (first, size) = *anchor;
+        first.row == pos.row && first.col < pos.col && pos.col - first.col < size.width
     })
 }
 
 /// Says whether the rectangle of an anchor above in a place's column reaches it down.
-pub(super) fn is_covered_down(anchors: &[Anchor], pos: Position) -> bool
-    ensures { result ≡ list_any (λ (e : Position × (ℕ × ℕ)). reaches_down e pos) anchors.now }
+pub(super) fn is_covered_down(anchors: &[Rectangle], pos: Position) -> bool
+    ensures { result ≡ list_any (λ (e : Rectangle). reaches_down e pos) anchors.now }
 {
     anchors.iter().any(|anchor| {
-        let (first, (height, _)) = *anchor;
-        first.col == pos.col && first.row < pos.row && pos.row - first.row < height
+        let (first, size) = *anchor;
+        first.col == pos.col && first.row < pos.row && pos.row - first.row < size.height
     })
 }
 
 /// The anchors whose rectangles are wider than one column, and their widths.
 pub(super) fn widths(
     alloc: Global,
-    anchors: &[Anchor],
+    anchors: &[Rectangle],
 ) -> Result<Vec<(Position, usize)>, AllocError>
     ensures { IfOk result (λ widths. widths.items ≡ widths_in anchors.now) }
 {
     anchors
         .iter()
         .filter_map(|anchor| {
-            let (pos, (_, width)) = *anchor;
-            (width > 1).then_some((pos, width))
+            let (pos, size) = *anchor;
+            (size.width > 1).then_some((pos, size.width))
         })
         .collect(alloc)
 }
@@ -86,15 +83,15 @@ pub(super) fn widths(
 /// The anchors whose rectangles are higher than one row, and their heights.
 pub(super) fn heights(
     alloc: Global,
-    anchors: &[Anchor],
+    anchors: &[Rectangle],
 ) -> Result<Vec<(Position, usize)>, AllocError>
     ensures { IfOk result (λ heights. heights.items ≡ heights_in anchors.now) }
 {
     anchors
         .iter()
         .filter_map(|anchor| {
-            let (pos, (height, _)) = *anchor;
-            (height > 1).then_some((pos, height))
+            let (pos, size) = *anchor;
+            (size.height > 1).then_some((pos, size.height))
         })
         .collect(alloc)
 }
@@ -107,19 +104,20 @@ fn is_same(a: Position, b: Position) -> bool
 }
 
 /// Says whether a place comes after all cells of an anchor's rectangle, row by row.
-pub(super) fn is_past(anchor: Anchor, pos: Position) -> bool
+pub(super) fn is_past(anchor: Rectangle, pos: Position) -> bool
     ensures { result ≡ is_past anchor pos }
 {
-    let (first, (height, width)) = anchor;
+    let (first, size) = anchor;
     if pos.row < first.row {
         return false;
     }
     let down = pos.row - first.row;
-    down >= height || (down + 1 == height && pos.col >= first.col && pos.col - first.col >= width)
+    down >= size.height
+        || (down + 1 == size.height && pos.col >= first.col && pos.col - first.col >= size.width)
 }
 
 /// Marks the anchors from an index on that an anchor before them holds, by an empty size.
-fn hide(anchors: &mut [Anchor], first: usize, by: Anchor)
+fn hide(anchors: &mut [Rectangle], first: usize, by: Rectangle)
     requires within { first ≤ length anchors.old }
     requires sorted { T (is_sorted position_cmp (by ∷ drop first anchors.old)) }
     ensures { anchors.new ≡ take first anchors.old ++ map (unless_held by) (drop first anchors.old) }
@@ -131,7 +129,11 @@ fn hide(anchors: &mut [Anchor], first: usize, by: Anchor)
             return;
         }
         if holds(by, pos) {
-            anchors[k] = (pos, (0, 0));
+            let empty = Size {
+                height: 0,
+                width: 0,
+            };
+            anchors[k] = (pos, empty);
             k += 1;
         } else {
             k += 1 + beside(&anchors[k + 1..], by, pos);
@@ -141,9 +143,9 @@ fn hide(anchors: &mut [Anchor], first: usize, by: Anchor)
 
 /// How many of the anchors after a place outside of a rectangle stand there before the row that the
 /// rectangle next reaches, and before the rectangle in that row.
-fn beside(anchors: &[Anchor], by: Anchor, pos: Position) -> usize
+fn beside(anchors: &[Rectangle], by: Rectangle, pos: Position) -> usize
     requires sorted { T (is_sorted position_cmp ((pos, by.1) ∷ anchors.now)) }
-    requires out { in_rect by.0 by.1 pos ≡ false }
+    requires out { holds by pos ≡ false }
     ensures within { result ≤ length anchors.now }
     ensures free { map (unless_held by) (take result anchors.now) ≡ take result anchors.now }
 {
@@ -159,7 +161,7 @@ fn beside(anchors: &[Anchor], by: Anchor, pos: Position) -> usize
 }
 
 /// Marks the anchors that another holds, by an empty size.
-fn mark_hidden(anchors: &mut [Anchor])
+fn mark_hidden(anchors: &mut [Rectangle])
     requires { T (is_sorted position_cmp anchors.old) }
     ensures { anchors.new ≡ marked anchors.old }
 {
@@ -170,7 +172,7 @@ fn mark_hidden(anchors: &mut [Anchor])
 }
 
 /// Removes the anchors that are hidden.
-pub(super) fn drop_hidden(anchors: &mut Vec<Anchor>)
+pub(super) fn drop_hidden(anchors: &mut Vec<Rectangle>)
     requires { AreAnchors anchors.old.items }
     ensures { anchors.new.items ≡ dropped anchors.old.items }
 {
@@ -179,22 +181,22 @@ pub(super) fn drop_hidden(anchors: &mut Vec<Anchor>)
 }
 
 /// Removes the anchors of an empty size.
-fn drop_empty(anchors: &mut Vec<Anchor>)
-    ensures { anchors.new.items ≡ filter (λ (e : Position × (ℕ × ℕ)). nat_lt 0 e.1.0) anchors.old.items }
+fn drop_empty(anchors: &mut Vec<Rectangle>)
+    ensures { anchors.new.items ≡ filter (λ (e : Rectangle). nat_lt 0 e.1.height) anchors.old.items }
 {
-    anchors.retain(|anchor| anchor.1.0 > 0);
+    anchors.retain(|anchor| anchor.1.height > 0);
 }
 
 /// Says whether the rectangles of two anchors share a cell.
-pub(super) fn meet(a: Anchor, b: Anchor) -> bool
+pub(super) fn meet(a: Rectangle, b: Rectangle) -> bool
     ensures { result ≡ meets a b }
 {
-    let (p, (height, width)) = a;
-    let (q, (other_height, other_width)) = b;
-    begins_before(p.row, q.row, other_height)
-        && begins_before(q.row, p.row, height)
-        && begins_before(p.col, q.col, other_width)
-        && begins_before(q.col, p.col, width)
+    let (p, size) = a;
+    let (q, other) = b;
+    begins_before(p.row, q.row, other.height)
+        && begins_before(q.row, p.row, size.height)
+        && begins_before(p.col, q.col, other.width)
+        && begins_before(q.col, p.col, size.width)
 }
 
 /// Says whether an index is below the end of n indexes from another on.
@@ -208,11 +210,11 @@ fn begins_before(index: usize, first: usize, many: usize) -> bool
 ///
 /// In each row that the rectangle reaches, few anchors are tested: the first one, the nearest on the
 /// left, and the one after it. A rectangle further left meets the nearest, or ends before it.
-fn is_apart(anchors: &[Anchor], first: usize, from: Anchor) -> bool
+fn is_apart(anchors: &[Rectangle], first: usize, from: Rectangle) -> bool
     requires within { first ≤ length anchors.now }
     requires anchors { AreAnchors (from ∷ drop first anchors.now) }
     requires apart { AreApart (drop first anchors.now) }
-    ensures { result ≡ list_all (λ (e : Position × (ℕ × ℕ)). not (meets from e)) (drop first anchors.now) }
+    ensures { result ≡ list_all (λ (e : Rectangle). not (meets from e)) (drop first anchors.now) }
 {
     let mut k = first;
     while k < anchors.len() {
@@ -230,11 +232,11 @@ fn is_apart(anchors: &[Anchor], first: usize, from: Anchor) -> bool
 
 /// How many of the anchors after a place need no test: those in its row, where it is right of a
 /// rectangle, and those left of the rectangle but the nearest, where it is left of it.
-fn beyond(anchors: &[Anchor], from: Anchor, pos: Position) -> usize
+fn beyond(anchors: &[Rectangle], from: Rectangle, pos: Position) -> usize
     requires anchors { AreAnchors ((pos, from.1) ∷ anchors.now) }
     requires apart { AreApart anchors.now }
     ensures within { result ≤ length anchors.now }
-    ensures apart { list_all (λ (e : Position × (ℕ × ℕ)). not (meets from e)) (take result anchors.now) ≡ true }
+    ensures apart { list_all (λ (e : Rectangle). not (meets from e)) (take result anchors.now) ≡ true }
 {
     let left = from.0.col;
     if pos.col < left {
@@ -244,23 +246,23 @@ fn beyond(anchors: &[Anchor], from: Anchor, pos: Position) -> usize
 }
 
 /// How many of the anchors after a place stand in its row, where it is right of a rectangle.
-pub(super) fn rest_of_row(anchors: &[Anchor], from: Anchor, pos: Position) -> usize
+pub(super) fn rest_of_row(anchors: &[Rectangle], from: Rectangle, pos: Position) -> usize
     requires { T (is_sorted position_cmp ((pos, from.1) ∷ anchors.now)) }
     ensures within { result ≤ length anchors.now }
-    ensures apart { list_all (λ (e : Position × (ℕ × ℕ)). not (meets from e)) (take result anchors.now) ≡ true }
+    ensures apart { list_all (λ (e : Rectangle). not (meets from e)) (take result anchors.now) ≡ true }
 {
-    let (first, (_, width)) = from;
-    if begins_before(pos.col, first.col, width) {
+    let (first, size) = from;
+    if begins_before(pos.col, first.col, size.width) {
         return 0;
     }
     count_before(anchors, Position::new(pos.row.saturating_add(1), 0))
 }
 
 /// How many anchors stand before a place.
-fn count_before(anchors: &[Anchor], pos: Position) -> usize
+fn count_before(anchors: &[Rectangle], pos: Position) -> usize
     requires { T (is_sorted position_cmp anchors.now) }
     ensures within { result ≤ length anchors.now }
-    ensures before { AllWithin (λ (e : Position × (ℕ × ℕ)). position_cmp e.0 pos ≡ Less) anchors.now 0 result }
+    ensures before { AllWithin (λ (e : Rectangle). position_cmp e.0 pos ≡ Less) anchors.now 0 result }
 {
     match search(anchors, pos) {
         Ok(i) | Err(i) => i,
@@ -268,15 +270,18 @@ fn count_before(anchors: &[Anchor], pos: Position) -> usize
 }
 
 /// Says whether the rectangle of an anchor lies inside a table.
-pub(super) fn is_inside(anchor: Anchor, rows: usize, columns: usize) -> bool
+pub(super) fn is_inside(anchor: Rectangle, rows: usize, columns: usize) -> bool
     ensures { result ≡ lies_inside rows columns anchor }
 {
-    let (first, (height, width)) = anchor;
-    height <= rows && first.row <= rows - height && width <= columns && first.col <= columns - width
+    let (first, size) = anchor;
+    size.height <= rows
+        && first.row <= rows - size.height
+        && size.width <= columns
+        && first.col <= columns - size.width
 }
 
 /// Says whether all rectangles lie inside a table and no two of them share a cell.
-pub(super) fn fit(anchors: &[Anchor], rows: usize, columns: usize) -> bool
+pub(super) fn fit(anchors: &[Rectangle], rows: usize, columns: usize) -> bool
     requires { AreAnchors anchors.now }
     ensures { result ≡ lie_well rows columns anchors.now }
 {
@@ -292,9 +297,9 @@ pub(super) fn fit(anchors: &[Anchor], rows: usize, columns: usize) -> bool
 /// The anchors of a sorted list with the sizes that another one sets. Both are gone through once.
 pub(super) fn merge(
     alloc: Global,
-    anchors: &[Anchor],
-    sizes: &[Anchor],
-) -> Result<Vec<Anchor>, AllocError>
+    anchors: &[Rectangle],
+    sizes: &[Rectangle],
+) -> Result<Vec<Rectangle>, AllocError>
     requires anchors { T (is_sorted position_cmp anchors.now) }
     requires sizes { T (is_sorted position_cmp sizes.now) }
     ensures { IfOk result (λ merged. merged.items ≡ with_sizes_in anchors.now sizes.now) }
@@ -318,7 +323,7 @@ pub(super) fn merge(
 }
 
 /// The index of the next anchor, or the one after it if it is at a place.
-fn after(anchors: &[Anchor], next: usize, pos: Position) -> usize
+fn after(anchors: &[Rectangle], next: usize, pos: Position) -> usize
     requires { next ≤ length anchors.now }
     ensures within { result ≤ length anchors.now }
     ensures after { drop result anchors.now ≡ without_first_at pos (drop next anchors.now) }
@@ -331,14 +336,10 @@ fn after(anchors: &[Anchor], next: usize, pos: Position) -> usize
 }
 
 /// Puts an anchor of a size last, unless the size is that of one cell.
-fn push_anchor(
-    anchors: &mut Vec<Anchor>,
-    pos: Position,
-    size: (usize, usize),
-) -> Result<(), AllocError>
+fn push_anchor(anchors: &mut Vec<Rectangle>, pos: Position, size: Size) -> Result<(), AllocError>
     ensures { OnOk result (anchors.new.items ≡ anchors.old.items ++ anchor_of (pos, size)) }
 {
-    if size == (1, 1) {
+    if size.height == 1 && size.width == 1 {
         return Ok(());
     }
     anchors.push((pos, size))?;

@@ -8,6 +8,7 @@ ghost use Rattle.tabled_grid.specs.Spans.{SpanMap, size_at, with_size};
 
 use crate::config::hiders::{follow, step_each};
 use crate::config::position::Position;
+use crate::config::size::Size;
 use crate::config::spanned_config::SpannedConfig;
 use std::alloc::{AllocError, Global};
 use std::marker::Model;
@@ -93,11 +94,11 @@ impl CoverMap {
         self.hiders[row * self.columns + col] > 0
     }
 
-    /// Follows a map whose size at a place becomes another. `(1, 1)` stands for no anchor. It takes no
-    /// memory.
+    /// Follows a map whose size at a place becomes another. That of one cell stands for no anchor. It takes
+    /// no memory.
     ///
     /// What is left is promised where `old` is the size that the map had.
-    pub fn replace(&mut self, pos: Position, old: (usize, usize), new: (usize, usize))
+    pub fn replace(&mut self, pos: Position, old: Size, new: Size)
         ensures first { self.new.first ≡ self.old.first }
         ensures rows { self.new.rows ≡ self.old.rows }
         ensures columns { self.new.columns ≡ self.old.columns }

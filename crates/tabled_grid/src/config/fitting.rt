@@ -3,12 +3,13 @@
 ghost use Rattle.std.specs.Prelude.{◌≡◌, ◌∷◌, ◌↔◌, IfOk, IsOk, IsTrue, OnErr, OnOk, T, length, not};
 ghost use Rattle.std.specs.FinMap.{is_sorted};
 ghost use Rattle.std.specs.List.{list_all};
-ghost use Rattle.tabled_grid.specs.Anchors.{Anchor, meets};
+ghost use Rattle.tabled_grid.specs.Anchors.{meets};
 ghost use Rattle.tabled_grid.specs.Fitting.{fitting, keep_fitting, with_met};
 ghost use Rattle.tabled_grid.specs.Rectangles.{Fits};
-ghost use Rattle.tabled_grid.specs.Spans.{AreSpanSizes, position_cmp};
+ghost use Rattle.tabled_grid.specs.Spans.{AreSpanSizes, Rectangle, position_cmp};
 
-use crate::config::anchors::{self, Anchor, is_inside, is_past, meet, rest_of_row};
+use crate::config::anchors::{self, is_inside, is_past, meet, rest_of_row};
+use crate::config::size::Rectangle;
 use crate::config::spanned_config::SpannedConfig;
 use std::alloc::{AllocError, Global};
 
@@ -65,10 +66,10 @@ impl SpannedConfig {
 /// From each rectangle those after it are marked that it meets, whether it stays or not.
 fn fitting(
     alloc: Global,
-    anchors: &[Anchor],
+    anchors: &[Rectangle],
     rows: usize,
     columns: usize,
-) -> Result<Vec<Anchor>, AllocError>
+) -> Result<Vec<Rectangle>, AllocError>
     requires { T (is_sorted position_cmp anchors.now) }
     ensures { IfOk result (λ kept. kept.items ≡ fitting rows columns anchors.now) }
 {
@@ -86,10 +87,10 @@ fn fitting(
 }
 
 /// Marks the anchors after one that its rectangle meets, and says whether there are none.
-fn mark_met(anchors: &[Anchor], marks: &mut [bool], from: Anchor) -> bool
+fn mark_met(anchors: &[Rectangle], marks: &mut [bool], from: Rectangle) -> bool
     requires marks { length marks.old ≡ length anchors.now }
     requires sorted { T (is_sorted position_cmp (from ∷ anchors.now)) }
-    ensures alone { result ≡ list_all (λ (e : Anchor). not (meets from e)) anchors.now }
+    ensures alone { result ≡ list_all (λ (e : Rectangle). not (meets from e)) anchors.now }
     ensures marked { marks.new ≡ with_met from anchors.now marks.old }
 {
     let mut alone = true;

@@ -4,8 +4,8 @@ ghost use Rattle.std.specs.Prelude.{◌≡◌, ◌+◌, ◌*◌, ◌-◌, ◌^�
 ghost use Rattle.tabled_grid.specs.Covers.{IsNumbered, Steps, beyond, hiders_of, hides, in_run, table};
 ghost use Rattle.tabled_grid.specs.Spans.{SpanMap, size_at, with_size};
 
-use crate::config::anchors::Anchor;
 use crate::config::position::Position;
+use crate::config::size::{Rectangle, Size};
 
 /// Follows a map whose size at a place becomes another.
 pub(super) fn follow(
@@ -14,8 +14,8 @@ pub(super) fn follow(
     rows: usize,
     columns: usize,
     pos: Position,
-    old: (usize, usize),
-    new: (usize, usize),
+    old: Size,
+    new: Size,
 )
     requires size { length hiders.old ≡ rows * columns }
     requires fits { IsNumbered first rows columns }
@@ -32,7 +32,7 @@ pub(super) fn step_each(
     first: Position,
     rows: usize,
     columns: usize,
-    anchor: Anchor,
+    anchor: Rectangle,
     step: usize,
 )
     requires size { length hiders.old ≡ rows * columns }
@@ -40,10 +40,10 @@ pub(super) fn step_each(
     ensures size { length hiders.new ≡ rows * columns }
     ensures steps { Steps hiders.old hiders.new (λ p. hides (beyond first p) anchor) step rows columns }
 {
-    let (at, (height, width)) = anchor;
+    let (at, size) = anchor;
     let top = at.row.saturating_sub(first.row);
-    let bottom = at.row.saturating_add(height).saturating_sub(first.row);
-    let right = at.col.saturating_add(width).saturating_sub(first.col);
+    let bottom = at.row.saturating_add(size.height).saturating_sub(first.row);
+    let right = at.col.saturating_add(size.width).saturating_sub(first.col);
     for i in top..bottom.min(rows) {
         let left = if first.row + i == at.row {
             at.col.saturating_add(1)

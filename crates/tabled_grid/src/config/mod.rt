@@ -9,6 +9,7 @@ mod hiders;
 mod offset;
 mod position;
 mod shifts;
+mod size;
 mod spanned_config;
 
 #[doc(hidden)]
@@ -18,4 +19,5 @@ pub use cover_map::CoverMap;
 pub use entity::{Entity, EntityIterator};
 pub use offset::Offset;
 pub use position::Position;
+pub use size::{Rectangle, Size};
 pub use spanned_config::SpannedConfig;

@@ -1,17 +1,17 @@
 //! Lists of anchors when a line, which is a row or a column, is put in.
 
-ghost use Rattle.std.specs.Prelude.{◌≡◌, ℕ, map};
+ghost use Rattle.std.specs.Prelude.{◌≡◌, map};
 ghost use Rattle.std.specs.Option.{unwrap_or};
 ghost use Rattle.std.specs.List.{list_any};
 ghost use Rattle.tabled_grid.specs.Shifts.{crosses_line, shifted_in, shifted_place};
-ghost use Rattle.tabled_grid.specs.declared.config.position.Position.{Position};
+ghost use Rattle.tabled_grid.specs.Spans.{Rectangle};
 
-use crate::config::anchors::Anchor;
 use crate::config::position::Position;
+use crate::config::size::Rectangle;
 use crate::records::Axis;
 
 /// Moves all anchors from a line on one line further. One that has no index left goes away.
-pub(super) fn shift(anchors: &mut Vec<Anchor>, axis: Axis, from: usize)
+pub(super) fn shift(anchors: &mut Vec<Rectangle>, axis: Axis, from: usize)
     ensures { anchors.new.items ≡ shifted_in axis from anchors.old.items }
 {
     anchors.retain(|anchor| place_once_shifted(axis, from, anchor.0).is_some());
@@ -19,8 +19,8 @@ pub(super) fn shift(anchors: &mut Vec<Anchor>, axis: Axis, from: usize)
 }
 
 /// Moves anchors from a line on one line further, where an index is left.
-fn shift_each(anchors: &mut [Anchor], axis: Axis, from: usize)
-    ensures { anchors.new ≡ map (λ (e : Position × (ℕ × ℕ)). (unwrap_or (shifted_place axis from e.0) e.0, e.1)) anchors.old }
+fn shift_each(anchors: &mut [Rectangle], axis: Axis, from: usize)
+    ensures { anchors.new ≡ map (λ (e : Rectangle). (unwrap_or (shifted_place axis from e.0) e.0, e.1)) anchors.old }
 {
     for k in 0..anchors.len() {
         let (pos, size) = anchors[k];
@@ -29,7 +29,7 @@ fn shift_each(anchors: &mut [Anchor], axis: Axis, from: usize)
 }
 
 /// Says whether a rectangle begins before a line and holds a cell of it.
-pub(super) fn cross(anchors: &[Anchor], axis: Axis, line: usize) -> bool
+pub(super) fn cross(anchors: &[Rectangle], axis: Axis, line: usize) -> bool
     ensures { result ≡ list_any (crosses_line axis line) anchors.now }
 {
     anchors.iter().any(|anchor| {

@@ -1,31 +1,30 @@
 //! Which cells are merged.
 
-ghost use Rattle.std.specs.Prelude.{◌≡◌, ◌<◌, ◌≤◌, ◌↔◌, ◌⊎◌, ℕ, IfOk, IsOk, IsSome, IsTrue, OnErr, OnOk, SomeIff, T, length};
+ghost use Rattle.std.specs.Prelude.{◌≡◌, ◌<◌, ◌≤◌, ◌↔◌, ◌⊎◌, IfOk, IsOk, IsSome, IsTrue, OnErr, OnOk, SomeIff, T, length};
 ghost use Rattle.std.specs.FinMap as map;
 ghost use Rattle.std.specs.FinMap.{is_sorted};
 ghost use Rattle.std.specs.List.{AllByRecursion};
 ghost use Rattle.tabled_grid.specs.Rectangles.{column_spans, drop_hidden, is_covered_across, is_covered_down, is_visible, row_spans};
 ghost use Rattle.tabled_grid.specs.Shifts.{is_crossed, shifted};
-ghost use Rattle.tabled_grid.specs.Spans.{AreAnchors, AreSpanSizes, IsSizeAt, IsSpanSize, position_cmp, size_at, with_column_span, with_row_span, with_size, with_sizes};
-ghost use Rattle.tabled_grid.specs.declared.config.position.Position.{Position};
+ghost use Rattle.tabled_grid.specs.Spans.{AreAnchors, AreSpanSizes, IsSizeAt, IsSpanSize, position_cmp, size_at, sized, with_column_span, with_row_span, with_size, with_sizes};
 
-use crate::config::anchors::{self, Anchor};
 use crate::config::position::Position;
-use crate::config::shifts;
+use crate::config::size::{Rectangle, Size};
+use crate::config::{anchors, shifts};
 use crate::records::Axis;
 use std::alloc::{AllocError, Global};
 use std::marker::Model;
 
 /// Which cells are merged: rectangles of cells, each of which goes right and down from its anchor.
 ///
-/// A contract sees it as a finite map from anchors to heights and widths, both at least 1 and not
-/// both 1 (`sizes`). Rectangles need not lie inside a table, and may share cells.
+/// A contract sees it as a finite map from anchors to sizes, of a height and a width of at least 1 and
+/// not both 1 (`sizes`). Rectangles need not lie inside a table, and may share cells.
 ///
 /// Ported from the spans of `tabled::grid::config::SpannedConfig`.
 #[derive(Drop)]
 pub struct SpannedConfig {
-    /// The anchors and the height and width of each, row by row.
-    anchors: Vec<Anchor>,
+    /// The anchors and the size of each, row by row.
+    anchors: Vec<Rectangle>,
 }
 
 impl Model for SpannedConfig {
@@ -58,7 +57,7 @@ impl SpannedConfig {
     ///
     /// Of this project.
     #[doc(hidden)]
-    pub fn from_anchors(anchors: Vec<(Position, (usize, usize))>) -> Self
+    pub fn from_anchors(anchors: Vec<Rectangle>) -> Self
         requires { AreAnchors anchors.items }
         ensures anchors { result ≡ map.from_sorted anchors.items }
         ensures sizes { AreSpanSizes result }
@@ -72,10 +71,10 @@ impl SpannedConfig {
     ///
     /// Ported from `tabled::grid::config::SpannedConfig::get_column_span`.
     pub fn get_column_span(&self, pos: Position) -> Option<usize>
-        ensures span { SomeIff result (1 < (size_at self.now pos).1) (size_at self.now pos).1 }
+        ensures span { SomeIff result (1 < (size_at self.now pos).width) (size_at self.now pos).width }
         ensures sizes { AreSpanSizes self.now }
     {
-        let (_, width) = self.size(pos);
+        let width = self.size(pos).width;
         (width > 1).then_some(width)
     }
 
@@ -83,10 +82,10 @@ impl SpannedConfig {
     ///
     /// Ported from `tabled::grid::config::SpannedConfig::get_row_span`.
     pub fn get_row_span(&self, pos: Position) -> Option<usize>
-        ensures span { SomeIff result (1 < (size_at self.now pos).0) (size_at self.now pos).0 }
+        ensures span { SomeIff result (1 < (size_at self.now pos).height) (size_at self.now pos).height }
         ensures sizes { AreSpanSizes self.now }
     {
-        let (height, _) = self.size(pos);
+        let height = self.size(pos).height;
         (height > 1).then_some(height)
     }
 
@@ -111,8 +110,8 @@ impl SpannedConfig {
             self.keeps_sizes();
             return Ok(());
         }
-        let (height, _) = self.size(pos);
-        self.set_size(pos, (height, width))
+        let height = self.size(pos).height;
+        self.set_size(pos, Size { height, width })
     }
 
     /// Sets the height of the rectangle that is anchored at a place, and leaves its width. A height of 0
@@ -136,22 +135,18 @@ impl SpannedConfig {
             self.keeps_sizes();
             return Ok(());
         }
-        let (_, width) = self.size(pos);
-        self.set_size(pos, (height, width))
+        let width = self.size(pos).width;
+        self.set_size(pos, Size { height, width })
     }
 
-    /// Sets the sizes of many rectangles at once, each `(height, width)`, where `(1, 1)` stands for no
-    /// anchor. The places are given row by row, each once.
+    /// Sets the sizes of many rectangles at once, where that of one cell stands for no anchor. The places
+    /// are given row by row, each once.
     ///
     /// It costs the anchors and the sizes, where one call each would cost their product. Refused for
     /// memory, it changes nothing.
     ///
     /// Of this project.
-    pub fn set_sizes(
-        &mut self,
-        alloc: Global,
-        sizes: &[(Position, (usize, usize))],
-    ) -> Result<(), AllocError>
+    pub fn set_sizes(&mut self, alloc: Global, sizes: &[Rectangle]) -> Result<(), AllocError>
         requires sorted { T (is_sorted position_cmp sizes.now) }
         requires each { AllByRecursion IsSizeAt sizes.now }
         ensures ok { OnOk result (self.new ≡ with_sizes self.old sizes.now) }
@@ -171,10 +166,10 @@ impl SpannedConfig {
         }
     }
 
-    /// The anchors of all rectangles and the height and width of each, row by row.
+    /// The anchors of all rectangles and the size of each, row by row.
     ///
     /// Of this project.
-    pub fn anchors(&self) -> &[(Position, (usize, usize))]
+    pub fn anchors(&self) -> &[Rectangle]
         ensures anchors { result.now ≡ map.entries self.now }
         ensures sizes { AreSpanSizes self.now }
     {
@@ -182,11 +177,11 @@ impl SpannedConfig {
         &self.anchors
     }
 
-    /// The anchors of all rectangles and the height and width of each, row by row, in a list to write into.
+    /// The anchors of all rectangles and the size of each, row by row, in a list to write into.
     ///
     /// Of this project.
     #[doc(hidden)]
-    pub fn into_anchors(self) -> Vec<(Position, (usize, usize))>
+    pub fn into_anchors(self) -> Vec<Rectangle>
         ensures anchors { result.items ≡ map.entries self }
         ensures sizes { AreSpanSizes self }
     {
@@ -297,15 +292,15 @@ impl SpannedConfig {
     }
 
     /// Sets the size at a place. Refused for memory, it changes nothing.
-    fn set_size(&mut self, pos: Position, size: (usize, usize)) -> Result<(), AllocError>
-        requires height { 1 ≤ size.0 }
-        requires width { 1 ≤ size.1 }
+    fn set_size(&mut self, pos: Position, size: Size) -> Result<(), AllocError>
+        requires height { 1 ≤ size.height }
+        requires width { 1 ≤ size.width }
         ensures ok { OnOk result (self.new ≡ with_size self.old pos size) }
         ensures err { OnErr result (self.new ≡ self.old) }
         ensures sizes { AreSpanSizes self.new }
-        ensures promised { (size ≡ (1, 1)) ⊎ IsSome (map.get self.old pos) → IsOk result }
+        ensures promised { (size ≡ sized 1 1) ⊎ IsSome (map.get self.old pos) → IsOk result }
     {
-        let set = if size == (1, 1) {
+        let set = if size.height == 1 && size.width == 1 {
             self.remove(pos);
             Ok(())
         } else {
@@ -316,7 +311,7 @@ impl SpannedConfig {
     }
 
     /// Puts an anchor of a size at a place. Memory is taken only for a new one. Refused, it changes nothing.
-    fn insert(&mut self, pos: Position, size: (usize, usize)) -> Result<(), AllocError>
+    fn insert(&mut self, pos: Position, size: Size) -> Result<(), AllocError>
         requires { IsSpanSize size }
         ensures ok { OnOk result (self.new ≡ map.insert self.old pos size) }
         ensures err { OnErr result (self.new ≡ self.old) }
@@ -353,17 +348,20 @@ impl SpannedConfig {
         let _ = &self.anchors;
     }
 
-    /// The height and the width at a place, both 1 where there is no anchor.
-    fn size(&self, pos: Position) -> (usize, usize)
+    /// The size at a place, that of one cell where there is no anchor.
+    fn size(&self, pos: Position) -> Size
         ensures value { result ≡ size_at self.now pos }
         ensures sizes { AreSpanSizes self.now }
-        ensures height { 1 ≤ result.0 }
-        ensures width { 1 ≤ result.1 }
+        ensures height { 1 ≤ result.height }
+        ensures width { 1 ≤ result.width }
     {
         self.keeps_sizes();
         match anchors::search(&self.anchors, pos) {
             Ok(i) => self.anchors[i].1,
-            Err(_) => (1, 1),
+            Err(_) => Size {
+                height: 1,
+                width: 1,
+            },
         }
     }
 }

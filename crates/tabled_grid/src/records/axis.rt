@@ -6,7 +6,7 @@ ghost use Rattle.tabled_grid.specs.Along.{along, count_along};
 ghost use Rattle.tabled_grid.specs.Grid.{IsEven};
 ghost use Rattle.tabled_grid.specs.Axis.{across, count_of, in_line, line_of, lines_in, place_in, resized};
 
-use crate::config::Position;
+use crate::config::{Position, Size};
 use crate::records::blank::Blank;
 use crate::records::exact_records::ExactRecords;
 use crate::records::records::Records;
@@ -84,23 +84,29 @@ impl Axis {
 
     /// How many lines a size takes.
     #[doc(hidden)]
-    pub fn lines_in(self, size: (usize, usize)) -> usize
+    pub fn lines_in(self, size: Size) -> usize
         ensures { result ≡ lines_in self size }
     {
         match self {
-            Axis::Rows => size.0,
-            Axis::Columns => size.1,
+            Axis::Rows => size.height,
+            Axis::Columns => size.width,
         }
     }
 
     /// The size with n lines.
     #[doc(hidden)]
-    pub fn resized(self, size: (usize, usize), many: usize) -> (usize, usize)
+    pub fn resized(self, size: Size, many: usize) -> Size
         ensures { result ≡ resized self size many }
     {
         match self {
-            Axis::Rows => (many, size.1),
-            Axis::Columns => (size.0, many),
+            Axis::Rows => Size {
+                height: many,
+                ..size
+            },
+            Axis::Columns => Size {
+                width: many,
+                ..size
+            },
         }
     }
 

@@ -10,7 +10,7 @@ ghost use Rattle.tabled_spans.specs.RunSteps.{RunAt, RunsBefore};
 ghost use Rattle.tabled_spans.specs.Runs.{Joins, further, is_free};
 
 use std::alloc::{AllocError, Global};
-use tabled_grid::config::{CoverMap, Position, SpannedConfig, search};
+use tabled_grid::config::{CoverMap, Position, Rectangle, Size, SpannedConfig, search};
 use tabled_grid::records::{Axis, CellText, ExactRecords, PeekableRecords, Records};
 
 /// The first cell of each run and the size of the run, row by row.
@@ -20,7 +20,7 @@ pub(super) fn runs<R>(
     cfg: &SpannedConfig,
     cover: &CoverMap,
     axis: Axis,
-) -> Result<Vec<(Position, (usize, usize))>, AllocError>
+) -> Result<Vec<Rectangle>, AllocError>
 where
     R: Records + ExactRecords + PeekableRecords,
     R::Cell: CellText,
@@ -28,13 +28,17 @@ where
     requires cover { cover.now ≡ cover_of cfg.now ((R.grid records.now).rows) ((R.grid records.now).columns) }
     ensures { IfOk result (λ sizes. RunsBefore axis (map_grid R.Cell.text_of (R.grid records.now)) cfg.now ((R.grid records.now).rows) 0 sizes.items) }
 {
+    let one = Size {
+        height: 1,
+        width: 1,
+    };
     let mut sizes = Vec::new(alloc);
     for i in 0..records.count_rows() {
         for j in 0..records.count_columns() {
             let pos = Position { row: i, col: j };
             let many = run_from(records, cfg, cover, axis, pos);
             if many > 1 {
-                sizes.push((pos, axis.resized((1, 1), many)))?;
+                sizes.push((pos, axis.resized(one, many)))?;
             }
         }
     }
@@ -105,7 +109,7 @@ fn is_free(cfg: &SpannedConfig, cover: &CoverMap, pos: Position) -> bool
 
 /// Says whether a rectangle is anchored at a place. One search tells, for its height and its width.
 fn is_anchor(cfg: &SpannedConfig, pos: Position) -> bool
-    ensures { result ≡ not (((size_at cfg.now pos).0 == 1) && ((size_at cfg.now pos).1 == 1)) }
+    ensures { result ≡ not (((size_at cfg.now pos).height == 1) && ((size_at cfg.now pos).width == 1)) }
 {
     search(cfg.anchors(), pos).is_ok()
 }

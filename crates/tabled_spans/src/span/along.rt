@@ -5,7 +5,7 @@ ghost use Rattle.tabled_grid.specs.Spans.{size_at};
 ghost use Rattle.tabled_grid.specs.Axis.{resized};
 ghost use Rattle.tabled_spans.specs.Spanned.{back_of, taken};
 
-use tabled_grid::config::{Position, SpannedConfig};
+use tabled_grid::config::{Position, Size, SpannedConfig};
 use tabled_grid::records::Axis;
 
 /// How many cells back a span of size 0 or below takes, or all of the line.
@@ -35,25 +35,25 @@ pub(super) fn taken(back: Option<usize>, count: usize, index: usize) -> (usize, 
     }
 }
 
-/// The height and the width at a place, both 1 where there is no anchor.
-pub(super) fn size_at(cfg: &SpannedConfig, pos: Position) -> (usize, usize)
+/// The size at a place, that of one cell where there is no anchor.
+pub(super) fn size_at(cfg: &SpannedConfig, pos: Position) -> Size
     ensures value { result ≡ size_at cfg.now pos }
-    ensures height { 1 ≤ result.0 }
-    ensures width { 1 ≤ result.1 }
+    ensures height { 1 ≤ result.height }
+    ensures width { 1 ≤ result.width }
 {
     let height = cfg.get_row_span(pos).unwrap_or(1);
     let width = cfg.get_column_span(pos).unwrap_or(1);
-    (height, width)
+    Size { height, width }
 }
 
 /// The size with n lines.
-pub(super) fn resized(axis: Axis, size: (usize, usize), many: usize) -> (usize, usize)
-    requires height { 1 ≤ size.0 }
-    requires width { 1 ≤ size.1 }
+pub(super) fn resized(axis: Axis, size: Size, many: usize) -> Size
+    requires height { 1 ≤ size.height }
+    requires width { 1 ≤ size.width }
     requires some { 1 ≤ many }
     ensures size { result ≡ resized axis size many }
-    ensures height { 1 ≤ result.0 }
-    ensures width { 1 ≤ result.1 }
+    ensures height { 1 ≤ result.height }
+    ensures width { 1 ≤ result.width }
 {
     axis.resized(size, many)
 }

@@ -13,7 +13,7 @@ ghost use Rattle.tabled_spans.specs.SpanSteps.{IsReach, change_at};
 
 use crate::span::along::{resized, size_at};
 use std::alloc::{AllocError, Global};
-use tabled_grid::config::{CoverMap, Entity, Position, SpannedConfig};
+use tabled_grid::config::{CoverMap, Entity, Position, Rectangle, SpannedConfig};
 use tabled_grid::records::Axis;
 
 /// Says whether n cells are all visible, from a place on.
@@ -49,7 +49,7 @@ fn is_free(cover: &CoverMap, axis: Axis, pos: Position, many: usize, hint: &mut 
 fn grow_at(
     alloc: Global,
     cover: &mut CoverMap,
-    changes: &mut Vec<(Position, (usize, usize))>,
+    changes: &mut Vec<Rectangle>,
     cfg: &SpannedConfig,
     axis: Axis,
     pos: Position,
@@ -118,7 +118,7 @@ fn changes(
     entity: Entity,
     rows: usize,
     columns: usize,
-) -> Result<Vec<(Position, (usize, usize))>, AllocError>
+) -> Result<Vec<Rectangle>, AllocError>
     requires { 1 ≤ size }
     ensures sorted { IfOk result (λ changes. T (is_sorted position_cmp changes.items)) }
     ensures full { IfOk result (λ changes. AllByRecursion IsSizeAt changes.items) }

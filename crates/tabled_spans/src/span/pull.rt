@@ -4,7 +4,7 @@ ghost use Rattle.std.specs.Prelude.{◌≡◌, ◌+◌, ◌<◌, ◌≤◌, ◌^
 ghost use Rattle.std.specs.FinMap.{is_sorted};
 ghost use Rattle.std.specs.List.{AllByRecursion};
 ghost use Rattle.tabled_grid.specs.Entity.{inside};
-ghost use Rattle.tabled_grid.specs.Spans.{IsSizeAt, position_cmp, with_sizes};
+ghost use Rattle.tabled_grid.specs.Spans.{IsSizeAt, Rectangle, position_cmp, with_sizes};
 ghost use Rattle.tabled_grid.specs.declared.config.position.Position.{Position};
 ghost use Rattle.tabled_grid.specs.Grid.{IsInside, map_grid};
 ghost use Rattle.tabled_options.specs.Does.{SameOr};
@@ -14,12 +14,12 @@ ghost use Rattle.tabled_spans.specs.Spanned.{pull_writes_on, pulled, pulled_each
 
 use crate::span::along::{resized, size_at, taken};
 use std::alloc::{AllocError, Global};
-use tabled_grid::config::{Entity, Position, SpannedConfig, search};
+use tabled_grid::config::{Entity, Position, Rectangle, SpannedConfig, search};
 use tabled_grid::records::{Axis, CellText, ExactRecords, PeekableRecords, Records, RecordsMut};
 
 /// Gives a place a height or a width among the changes of `cfg`, of which the later one counts.
 fn put_span(
-    changes: &mut Vec<(Position, (usize, usize))>,
+    changes: &mut Vec<Rectangle>,
     cfg: &SpannedConfig,
     axis: Axis,
     pos: Position,
@@ -54,7 +54,7 @@ fn changes(
     entity: Entity,
     rows: usize,
     columns: usize,
-) -> Result<Vec<(Position, (usize, usize))>, AllocError>
+) -> Result<Vec<Rectangle>, AllocError>
     ensures sorted { IfOk result (λ changes. T (is_sorted position_cmp changes.items)) }
     ensures full { IfOk result (λ changes. AllByRecursion IsSizeAt changes.items) }
     ensures sizes { IfOk result (λ changes. with_sizes cfg.now changes.items ≡ pulled_each axis back (count_of axis rows columns) cfg.now (inside entity rows columns)) }

@@ -3,6 +3,7 @@ use Rattle.tabled_draw.proofs.Sizes.{anchor-at, grown-all, grown-more, length-gr
 use Rattle.tabled_draw.specs.Sizes.{grown}
 use Rattle.tabled_grid.specs.Axis.{line_of, lines_in}
 use Rattle.tabled_grid.specs.Grid.{map_grid}
+use Rattle.tabled_grid.specs.Spans.{sized}
 use Rattle.tabled_draw.proofs.layout.grow_all.Goals as goal
 
 pub loop-k-init : goal.loop-k-init
@@ -10,24 +11,24 @@ loop-k-init g c = record { long = c.requires.long; grown = refl }
 
 pub get_text-requires-clause-inside : goal.get_text-requires-clause-inside
 get_text-requires-clause-inside g c =
-    let e = anchor-at c.args.spans.now _ _ c.requires.fits c.anchors-anchors.result.now c.anchors-anchors.ensures.anchors c.loop-k.k (record { row = 0; col = 0 }, (0, 0)) c.loop-k-test.true in
+    let e = anchor-at c.args.spans.now _ _ c.requires.fits c.anchors-anchors.result.now c.anchors-anchors.ensures.anchors c.loop-k.k (record { row = 0; col = 0 }, sized 0 0) c.loop-k-test.true in
     record { row = e.top; col = e.left }
 
 pub grow-requires-clause-some : goal.grow-requires-clause-some
-grow-requires-clause-some g c = rw c.lines_in.ensures (some-lines c.args.axis _ _ _ (anchor-at c.args.spans.now _ _ c.requires.fits c.anchors-anchors.result.now c.anchors-anchors.ensures.anchors c.loop-k.k (record { row = 0; col = 0 }, (0, 0)) c.loop-k-test.true))
+grow-requires-clause-some g c = rw c.lines_in.ensures (some-lines c.args.axis _ _ _ (anchor-at c.args.spans.now _ _ c.requires.fits c.anchors-anchors.result.now c.anchors-anchors.ensures.anchors c.loop-k.k (record { row = 0; col = 0 }, sized 0 0) c.loop-k-test.true))
 
 pub grow-requires-clause-end : goal.grow-requires-clause-end
 grow-requires-clause-end g c =
-    rw (c.lines_in.ensures, c.line_of.ensures, c.loop-k.invariant.long) (lines-end c.args.axis (g.R.GridStore.grid c.args.records.now) _ (anchor-at c.args.spans.now _ _ c.requires.fits c.anchors-anchors.result.now c.anchors-anchors.ensures.anchors c.loop-k.k (record { row = 0; col = 0 }, (0, 0)) c.loop-k-test.true))
+    rw (c.lines_in.ensures, c.line_of.ensures, c.loop-k.invariant.long) (lines-end c.args.axis (g.R.GridStore.grid c.args.records.now) _ (anchor-at c.args.spans.now _ _ c.requires.fits c.anchors-anchors.result.now c.anchors-anchors.ensures.anchors c.loop-k.k (record { row = 0; col = 0 }, sized 0 0) c.loop-k-test.true))
 
 pub loop-k-preserved : goal.loop-k-preserved
 loop-k-preserved g c =
     let t = map_grid g.R.Cell.CellText.text_of (g.R.GridStore.grid c.args.records.now) in
-    let e = get_or c.anchors-anchors.result.now c.loop-k.k (record { row = 0; col = 0 }, (0, 0)) in
+    let e = get_or c.anchors-anchors.result.now c.loop-k.k (record { row = 0; col = 0 }, sized 0 0) in
     let grew : c.grow.new.sizes.items ≡ grown c.args.axis c.loop-k.sizes.items (line_of c.args.axis e.0) (lines_in c.args.axis e.1) c.in_ok-need.need = c.in_ok-grow.ensures.grown ∙ ap₂ (λ a n. grown c.args.axis c.loop-k.sizes.items a n c.in_ok-need.need) c.line_of.ensures c.lines_in.ensures in
     record {
       long = ap length grew ∙ length-grown c.args.axis c.loop-k.sizes.items _ _ _ ∙ c.loop-k.invariant.long;
-      grown = grown-more c.args.axis t c.args.spans.now c.args.sizes.now.items c.loop-k.k (record { row = 0; col = 0 }, (0, 0)) c.anchors-anchors.result.now c.anchors-anchors.ensures.anchors c.loop-k-test.true c.loop-k.sizes.items _ c.get_text.ensures c.in_ok-need.need _ c.loop-k.invariant.grown c.in_ok-need.ensures grew;
+      grown = grown-more c.args.axis t c.args.spans.now c.args.sizes.now.items c.loop-k.k (record { row = 0; col = 0 }, sized 0 0) c.anchors-anchors.result.now c.anchors-anchors.ensures.anchors c.loop-k-test.true c.loop-k.sizes.items _ c.get_text.ensures c.in_ok-need.need _ c.loop-k.invariant.grown c.in_ok-need.ensures grew;
     }
 
 pub returns : goal.returns

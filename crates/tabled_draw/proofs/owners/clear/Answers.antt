@@ -2,17 +2,17 @@ use Rattle.std.proofs.Common.{◌≡◌, ◌∙◌, ◌+◌, ◌<◌, ◌≤◌,
 use Rattle.std.proofs.lemmas.Bool.{cases_lt}
 use Rattle.std.proofs.lemmas.List.{get_or-set_same, get_or-set_other, get_or_past}
 use Rattle.std.proofs.Math.ListN.{length-set, set}
-use Rattle.tabled_grid.specs.Anchors.{Anchor}
+use Rattle.tabled_grid.specs.Spans.{Rectangle}
 use Rattle.tabled_draw.proofs.owners.clear.Goals as goal
 
-cleared : (row : List (Option Anchor)) (j k : ℕ) → j < length row → ((k : ℕ) → k < j → get_or row k None ≡ None) → k < j + 1 → get_or (set row j None) k None ≡ None
+cleared : (row : List (Option Rectangle)) (j k : ℕ) → j < length row → ((k : ℕ) → k < j → get_or row k None ≡ None) → k < j + 1 → get_or (set row j None) k None ≡ None
 cleared row j k less before h = by (cases_lt k j)
   where
     by : (k < j) ⊎ (j ≤ k) → get_or (set row j None) k None ≡ None
     by (inl b) = get_or-set_other row j k None None (λ e. absurd (omega (arith, e, b))) ∙ before k b
     by (inr b) = let same : k ≡ j = omega (arith, h, b) in ap (λ z. get_or (set row j None) z None) same ∙ get_or-set_same row j None None less
 
-all : (row : List (Option Anchor)) (j k : ℕ) → length row ≤ j → ((k : ℕ) → k < j → get_or row k None ≡ None) → get_or row k None ≡ None
+all : (row : List (Option Rectangle)) (j k : ℕ) → length row ≤ j → ((k : ℕ) → k < j → get_or row k None ≡ None) → get_or row k None ≡ None
 all row j k end before = by (cases_lt k j)
   where
     by : (k < j) ⊎ (j ≤ k) → get_or row k None ≡ None

@@ -2,13 +2,13 @@ use Rattle.std.proofs.Common.{◌≡◌, ◌≢◌, ◌∙◌, sym, ap, arith, f
 use Rattle.std.proofs.lemmas.Bool.{false≢true}
 use Rattle.tabled_draw.proofs.Before.{count-here, count-later, size-here, size-later}
 use Rattle.tabled_grid.proofs.SpanMaps.{same_place-self, same_place-true}
-use Rattle.tabled_grid.specs.Anchors.{Anchor}
 use Rattle.tabled_grid.specs.Entity.{same_place}
 use Rattle.tabled_grid.specs.declared.config.position.Position.{Position}
+use Rattle.tabled_grid.specs.Spans.{Rectangle, sized}
 use Rattle.tabled_draw.proofs.owners.next_at.Goals as goal
 
-none : Anchor
-none = (record { row = 0; col = 0 }, (0, 0))
+none : Rectangle
+none = (record { row = 0; col = 0 }, sized 0 0)
 
 apart : (p q : Position) → same_place p q ≡ false → p ≢ q
 apart p q f e = false≢true (sym f ∙ ap (λ r. same_place r q) e ∙ same_place-self q)

@@ -1,15 +1,15 @@
 use Rattle.std.proofs.Common.{◌≡◌, false, get_or, sym, take, ◌∙◌}
 use Rattle.std.proofs.lemmas.Bool.{and_left}
 use Rattle.std.proofs.lemmas.List.{get_or_default}
-use Rattle.tabled_grid.specs.Anchors.{Anchor}
 use Rattle.tabled_language.specs.Placed.{has_place}
 use Rattle.tabled_language.proofs.Walked.{IsWalked, has_walked-more, has_walked-stop, met_place, size_at, walked-here}
 use Rattle.tabled_language.proofs.walk.have_places.Goals as goal
 use Rattle.tabled_language.proofs.walk.have_places.Goals.{then-not-is_inside-via-then-not-is_inside, then-not-is_inside-via-else-not-is_inside+then-not-is_clear}
+use Rattle.tabled_grid.specs.Spans.{Rectangle, sized}
 
 -- what stands for an anchor after the last
-abbrev beyond : Anchor
-beyond = (record { row = 0; col = 0 }, (0, 0))
+abbrev beyond : Rectangle
+beyond = (record { row = 0; col = 0 }, sized 0 0)
 
 pub is_clear-requires-clause-keyed : goal.is_clear-requires-clause-keyed
 is_clear-requires-clause-keyed c = c.loop-anchor.invariant.walked.keyed

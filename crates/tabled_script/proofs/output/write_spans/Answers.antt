@@ -5,6 +5,7 @@ use Rattle.tabled_language.specs.Output.{span_line}
 use Rattle.tabled_script.specs.Sent.{Sends}
 use Rattle.tabled_script.proofs.OutputLines.{pushed_more}
 use Rattle.tabled_script.proofs.Sent.{sends_next}
+use Rattle.tabled_grid.specs.Spans.{sized}
 use Rattle.tabled_script.proofs.output.write_spans.Goals as goal
 
 pub loop-pos-preserved : goal.loop-pos-preserved
@@ -12,7 +13,7 @@ loop-pos-preserved g c =
     let contents = g.W.Write.contents in
     let anchors = c.anchors-pos-items.result.now in
     let i = c.loop-pos.pos-index in
-    let anchor = get_or anchors i (record { row = 0; col = 0 }, (0, 0)) in
+    let anchor = get_or anchors i (record { row = 0; col = 0 }, sized 0 0) in
     let before = flat_map span_line (take i anchors) in
     record {
       sends = sends_next (contents c.args.writer.now) (contents c.loop-pos.writer) (contents c.send.new.writer) c.args.held.now.items c.loop-pos.held.items c.hold_numbers.new.held.items c.send.new.held.items

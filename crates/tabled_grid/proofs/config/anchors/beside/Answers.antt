@@ -1,8 +1,7 @@
 use Rattle.std.proofs.Common.{◌≡◌, ap₂, subst, arith, get_or}
 use Rattle.std.specs.declared.cmp.Ordering.TheVariants.{Less}
-use Rattle.tabled_grid.specs.Anchors.{Anchor}
 use Rattle.tabled_grid.specs.Entity.{place}
-use Rattle.tabled_grid.specs.Spans.{position_cmp}
+use Rattle.tabled_grid.specs.Spans.{Rectangle, position_cmp}
 use Rattle.tabled_grid.specs.declared.config.position.Position.{Position}
 use Rattle.tabled_grid.proofs.BesideAnchors.{Reaches, before_found, before_missed, passed_over, reaches_here, reaches_next}
 use Rattle.tabled_grid.proofs.SpanMaps.{halves}
@@ -17,7 +16,7 @@ returns-in-Ok-clause-free c =
     ] in
     let target : c.new.result ≡ place c.if-pos-left.row c.args.by.0.col = ap₂ place c.new.ensures.row c.new.ensures.col in
     passed_over c.args.by c.args.pos c.if-pos-left.row reaches c.requires.out c.args.anchors.now c.in-Ok.i (halves _ _ c.requires.sorted).0
-    (λ j d h. subst (λ (p : Position). position_cmp (get_or c.args.anchors.now j d).0 p ≡ Less) target (before_found c.args.anchors.now c.new.result c.in-Ok.i (halves _ _ c.requires.sorted).1 c.in-Ok.ensures.within (λ (e : Anchor). c.in-Ok.ensures.found e) j d h)) (omega (arith, c.in-Ok.ensures.within))
+    (λ j d h. subst (λ (p : Position). position_cmp (get_or c.args.anchors.now j d).0 p ≡ Less) target (before_found c.args.anchors.now c.new.result c.in-Ok.i (halves _ _ c.requires.sorted).1 c.in-Ok.ensures.within (λ (e : Rectangle). c.in-Ok.ensures.found e) j d h)) (omega (arith, c.in-Ok.ensures.within))
 
 pub returns-in-Ok-2-clause-free : goal.returns-in-Ok-2-clause-free
 returns-in-Ok-2-clause-free c =

@@ -1,7 +1,6 @@
 use Rattle.std.proofs.Common.{◌≡◌, ◌+◌, ◌-◌, ◌<◌, ◌∷◌, ◌∙◌, T, ap, sym, subst, arith, drop, get_or, length}
 use Rattle.std.specs.FinMap.{is_sorted}
-use Rattle.tabled_grid.specs.Spans.{position_cmp}
-use Rattle.tabled_grid.specs.Anchors.{Anchor}
+use Rattle.tabled_grid.specs.Spans.{Rectangle, position_cmp, sized}
 use Rattle.tabled_grid.proofs.MarkedAnchors.{marked_from, sorted_mark}
 use Rattle.tabled_grid.proofs.PassedAnchors.{sorted_drop}
 use Rattle.tabled_grid.proofs.config.anchors.mark_hidden.Goals as goal
@@ -13,5 +12,5 @@ hide-requires-clause-sorted c =
     let here : i < length old = omega arith in
     let back : i + 1 ≡ c.loop-i.i = omega arith in
     let e : c.loop-i.anchors ≡ marked_from old (i + 1) = c.loop-i.invariant ∙ ap (marked_from old) (sym back) in
-    let d : Anchor = (record { row = 0; col = 0 }, (0, 0)) in
+    let d : Rectangle = (record { row = 0; col = 0 }, sized 0 0) in
     subst (λ xs. T (is_sorted position_cmp (get_or xs i d ∷ drop (i + 1) xs))) (sym e) (sorted_mark old i here d (λ n. sorted_drop n old c.requires))

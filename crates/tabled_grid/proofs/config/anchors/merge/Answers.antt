@@ -2,12 +2,12 @@ use Rattle.std.proofs.Common.{◌∙◌, sym, ap, arith, drop, get_or}
 use Rattle.std.specs.Prelude.{T}
 use Rattle.std.specs.Ordering.{is_lt}
 use Rattle.tabled_grid.proofs.MergedAnchors.{anchor_step, size_step, starts_at, starts_from, starts_past}
-use Rattle.tabled_grid.specs.Anchors.{Anchor}
 use Rattle.tabled_grid.proofs.config.anchors.merge.Goals as goal
 use Rattle.tabled_grid.proofs.config.anchors.merge.Goals.{else-loop-next-test, then-loop-next-test+else-is_lt}
+use Rattle.tabled_grid.specs.Spans.{Rectangle, sized}
 
-abbrev none : Anchor
-none = (record { row = 0; col = 0 }, (0, 0))
+abbrev none : Rectangle
+none = (record { row = 0; col = 0 }, sized 0 0)
 
 pub loop-next-preserved : goal.loop-next-preserved
 loop-next-preserved c = record {

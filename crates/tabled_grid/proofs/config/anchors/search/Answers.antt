@@ -1,7 +1,7 @@
-use Rattle.std.proofs.Common.{rules, ℕ}
+use Rattle.std.proofs.Common.{rules}
 use Rattle.std.proofs.lemmas.List.Sorted.{answers_always}
-use Rattle.tabled_grid.specs.declared.config.position.Position.{Position}
+use Rattle.tabled_grid.specs.Spans.{Rectangle}
 use Rattle.tabled_grid.proofs.config.anchors.search.Goals as goal
 
 pub returns-clause-found : goal.returns-clause-found
-returns-clause-found c = c.binary_search_by_key.ensures.position (λ (anchor : Position × (ℕ × ℕ)). anchor.0) (answers_always _ _ _ (λ f a r f' h. search rules))
+returns-clause-found c = c.binary_search_by_key.ensures.position (λ (anchor : Rectangle). anchor.0) (answers_always _ _ _ (λ f a r f' h. search rules))

@@ -3,8 +3,8 @@ use Rattle.std.specs.Prelude.{◌&&◌, not}
 use Rattle.std.specs.FinMap.{is_sorted}
 use Rattle.std.proofs.lemmas.Bool.{and_from, and_left, and_right, cond-false, cond-true, not_from_false, not_from_true}
 use Rattle.std.proofs.lemmas.List.{drop_more}
-use Rattle.tabled_grid.specs.Anchors.{Anchor, lies_inside}
-use Rattle.tabled_grid.specs.Spans.{position_cmp}
+use Rattle.tabled_grid.specs.Anchors.{lies_inside}
+use Rattle.tabled_grid.specs.Spans.{Rectangle, position_cmp, sized}
 use Rattle.tabled_grid.proofs.MetAnchors.{kept-more, kept-none}
 use Rattle.tabled_grid.proofs.PassedAnchors.{all_after, sorted_drop}
 use Rattle.tabled_grid.proofs.config.fitting.fitting.Goals as goal
@@ -17,21 +17,21 @@ pub mark_met-alone-requires-clause-sorted : goal.mark_met-alone-requires-clause-
 mark_met-alone-requires-clause-sorted c =
     let es = c.args.anchors.now in
     let i = c.loop-i.i in
-    let d : Anchor = (record { row = 0; col = 0 }, (0, 0)) in
+    let d : Rectangle = (record { row = 0; col = 0 }, sized 0 0) in
     subst (λ fs. T (is_sorted position_cmp fs)) (drop_more es i d c.loop-i-test.true ∙ ap (λ fs. get_or es i d ∷ fs) (sym (all_after es i))) (sorted_drop i es c.requires)
 
 pub loop-i-preserved : goal.loop-i-preserved
 loop-i-preserved c =
     let es = c.args.anchors.now in
-    let d : Anchor = (record { row = 0; col = 0 }, (0, 0)) in
-    let e : Anchor = get_or es c.loop-i.i d in
+    let d : Rectangle = (record { row = 0; col = 0 }, sized 0 0) in
+    let e : Rectangle = get_or es c.loop-i.i d in
     let alone = c.mark_met-alone.result in
     let met = c.index-is_met.result.now in
     let inside = lies_inside c.args.rows c.args.columns e in
     let kept = c.loop-i.kept.items in
     let newer : c.if-alone.kept.items ≡ cond ((alone && not met) && inside) (kept ++ e ∷ []) kept = elim c.if-alone.branch [
-      | then-alone+then-not-is_met+then-is_inside+in_ok-push w ↦ ap (λ (v : Vec Anchor Global). v.items) w.kept-is ∙ w.in_ok-push.ensures.items ∙ sym (cond-true ((alone && not met) && inside) (kept ++ e ∷ []) kept (and_from (alone && not met) inside (and_from alone (not met) w.if-alone.true (not_from_false met w.if-not-is_met.true)) (sym w.is_inside.ensures ∙ w.if-is_inside.true)))
-      | else-alone w ↦ ap (λ (v : Vec Anchor Global). v.items) w.kept-is ∙ sym (cond-false ((alone && not met) && inside) (kept ++ e ∷ []) kept (elim w.else-alone.branch [
+      | then-alone+then-not-is_met+then-is_inside+in_ok-push w ↦ ap (λ (v : Vec Rectangle Global). v.items) w.kept-is ∙ w.in_ok-push.ensures.items ∙ sym (cond-true ((alone && not met) && inside) (kept ++ e ∷ []) kept (and_from (alone && not met) inside (and_from alone (not met) w.if-alone.true (not_from_false met w.if-not-is_met.true)) (sym w.is_inside.ensures ∙ w.if-is_inside.true)))
+      | else-alone w ↦ ap (λ (v : Vec Rectangle Global). v.items) w.kept-is ∙ sym (cond-false ((alone && not met) && inside) (kept ++ e ∷ []) kept (elim w.else-alone.branch [
         | else-alone-via-then-alone+then-not-is_met+else-is_inside v ↦ and_right (alone && not met) inside (sym v.is_inside.ensures ∙ v.if-is_inside.false)
         | else-alone-via-then-alone+else-not-is_met v ↦ and_left (alone && not met) inside (and_right alone (not met) (not_from_true met v.if-not-is_met.false))
         | else-alone-via-else-alone v ↦ and_left (alone && not met) inside (and_left alone (not met) v.if-alone.false)

@@ -1,9 +1,9 @@
 use Rattle.std.proofs.Common.{◌≡◌, ◌+◌, ◌<◌, ◌∙◌, ap, refl, arith, get_or, length, set, suc}
 use Rattle.std.specs.Option.{unwrap_or}
-use Rattle.tabled_grid.specs.Anchors.{Anchor}
 use Rattle.tabled_grid.specs.Entity.{place}
 use Rattle.tabled_grid.specs.Shifts.{shifted_place}
 use Rattle.tabled_grid.specs.declared.config.position.Position.{Position}
+use Rattle.tabled_grid.specs.Spans.{Rectangle, sized}
 use Rattle.tabled_grid.proofs.Shifts.{all_changed, first_changed, length_first_changed, one_more_changed, shifted_or_kept}
 use Rattle.tabled_grid.proofs.config.shifts.shift_each.Goals as goal
 
@@ -14,7 +14,7 @@ pub loop-k-preserved : goal.loop-k-preserved
 loop-k-preserved c =
     let old = c.args.anchors.now in
     let k = c.loop-k.k in
-    let d : Anchor = (place 0 0, (0, 0)) in
+    let d : Rectangle = (place 0 0, sized 0 0) in
     let change = shifted_or_kept c.args.axis c.args.from in
     let here = get_or c.loop-k.anchors k d in
     let long : length c.loop-k.anchors ≡ length old = ap length c.loop-k.invariant ∙ length_first_changed change k old in

@@ -14,7 +14,7 @@ pub returns-then-past-self-clause-carries : goal.returns-then-past-self-clause-c
 returns-then-past-self-clause-carries c =
     let t = c.args.self.now in
     let n = count_of t.axis t.rows t.columns in
-    let beside : (line_of t.axis c.args.of.0 + count_of t.axis c.args.of.1.0 c.args.of.1.1 ≤ t.start) ⊎ (t.end ≤ line_of t.axis c.args.of.0) = elim c.then-past-self.branch [
+    let beside : (line_of t.axis c.args.of.0 + count_of t.axis c.args.of.1.height c.args.of.1.width ≤ t.start) ⊎ (t.end ≤ line_of t.axis c.args.of.0) = elim c.then-past-self.branch [
       | then-past-self-via-then-past-self w ↦ inl (omega (arith, w.if-past-self.true, c.line_of-line.ensures, c.count_of.ensures))
       | then-past-self-via-else-past-self+then-self-line w ↦ inr (omega (arith, w.if-self-line.true, c.line_of-line.ensures))
     ] in
@@ -30,7 +30,7 @@ returns-then-past-self-2-clause-carries c =
     let e = c.args.of in
     let fits : t.end ≤ n = omega (arith, c.if-self-count.false, c.count_of-count.ensures) in
     let past = ap₂ (λ (i m : ℕ). i + m) c.line_of-line.ensures c.count_of.ensures in
-    let is : c.in_line-place.result ≡ in_line t.axis e.0 (t.start + (t.end - (line_of t.axis e.0 + count_of t.axis e.1.0 e.1.1))) = c.in_line-place.ensures ∙ ap (λ (m : ℕ). in_line t.axis e.0 (t.start + (t.end - m))) past in
+    let is : c.in_line-place.result ≡ in_line t.axis e.0 (t.start + (t.end - (line_of t.axis e.0 + count_of t.axis e.1.height e.1.width))) = c.in_line-place.ensures ∙ ap (λ (m : ℕ). in_line t.axis e.0 (t.start + (t.end - m))) past in
     subst (λ (p : Position). Carries (lines_from t.axis (reversed_index t.start t.end n) t.rows t.columns) e (p, e.1)) (sym is)
     (part_mirrored (reversed_index t.start t.end n) t.rows t.columns t.start t.end (λ i low below. index_inside t.start t.end n i fits low below) (index_outside t.start t.end n) e.0 e.1 (omega (arith, c.if-first-height.false)) (omega (arith, c.if-first-width.false)) t.axis fits (omega (arith, c.if-self-line-2.true, c.line_of-line.ensures)) (omega (arith, c.if-past-self-2.true, past)))
 

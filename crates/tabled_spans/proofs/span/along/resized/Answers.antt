@@ -2,9 +2,10 @@ use Rattle.std.proofs.Common.{ℕ, ◌≤◌}
 use Rattle.tabled_grid.specs.Axis.{resized}
 use Rattle.tabled_grid.specs.declared.records.axis.Axis.{Axis}
 use Rattle.tabled_grid.specs.declared.records.axis.Axis.TheVariants.{Rows, Columns}
+use Rattle.tabled_grid.specs.declared.config.size.Size.{Size}
 use Rattle.tabled_spans.proofs.span.along.resized.Goals as goal
 
-full : (axis : Axis) (size : ℕ × ℕ) (many : ℕ) → 1 ≤ size.0 → 1 ≤ size.1 → 1 ≤ many → (1 ≤ (resized axis size many).0) × (1 ≤ (resized axis size many).1)
+full : (axis : Axis) (size : Size) (many : ℕ) → 1 ≤ size.height → 1 ≤ size.width → 1 ≤ many → (1 ≤ (resized axis size many).height) × (1 ≤ (resized axis size many).width)
 full Rows size many height width some = (some, width)
 full Columns size many height width some = (height, some)
 

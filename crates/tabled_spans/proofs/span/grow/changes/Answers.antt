@@ -2,7 +2,7 @@ use Rattle.std.proofs.Common.{rules, ◌≡◌, ◌++◌, ◌-◌, ◌≤◌, �
 use Rattle.std.specs.Prelude.{T, min}
 use Rattle.std.specs.FinMap.{is_sorted}
 use Rattle.tabled_grid.specs.Covers.{Cover}
-use Rattle.tabled_grid.specs.Spans.{position_cmp, size_at, with_sizes}
+use Rattle.tabled_grid.specs.Spans.{position_cmp, size_at, sized, with_sizes}
 use Rattle.tabled_grid.specs.Axis.{count_of, line_of}
 use Rattle.tabled_spans.proofs.Reach.{inside-reach}
 use Rattle.tabled_spans.proofs.RisingPlaces.{ones, sorted_inside}
@@ -58,8 +58,8 @@ loop-pos-preserved c =
     let xs = c.loop-pos.changes.items in
     let m = with_sizes cfg xs in
     let here = (rw c.in-Some.ensures.steps at c.loop-pos.invariant.within) in
-    let up : T (is_sorted position_cmp (xs ++ (p, (1, 1)) ∷ ones rest)) = rw c.in-Some.ensures.steps at c.loop-pos.invariant.sorted in
-    let before : size_at m p ≡ size_at cfg p = size-before cfg xs p (1, 1) (ones rest) up in
+    let up : T (is_sorted position_cmp (xs ++ (p, sized 1 1) ∷ ones rest)) = rw c.in-Some.ensures.steps at c.loop-pos.invariant.sorted in
+    let before : size_at m p ≡ size_at cfg p = size-before cfg xs p (sized 1 1) (ones rest) up in
     let added = c.in_ok-grow_at.ensures.ok m c.first_named-first.result (c.reach-bottom.result.0 - c.first_named-first.result.row) (c.reach-bottom.result.1 - c.first_named-first.result.col) c.loop-pos.invariant.cover before in
     let covered = c.in_ok-grow_at.ensures.cover m c.first_named-first.result (c.reach-bottom.result.0 - c.first_named-first.result.row) (c.reach-bottom.result.1 - c.first_named-first.result.col) c.loop-pos.invariant.cover before in
     let some : 1 ≤ many = omega (arith, here.0.1.line, c.min-many.ensures, c.line_of-index.ensures, c.count_of-count.ensures, c.requires) in

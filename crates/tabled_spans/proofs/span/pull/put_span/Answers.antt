@@ -1,7 +1,6 @@
 use Rattle.std.proofs.Common.{◌∙◌, Ok, Err, Some, ap, sym}
 use Rattle.std.specs.FinMap.Entries.{put}
-use Rattle.tabled_grid.specs.Anchors.{Anchor}
-use Rattle.tabled_grid.specs.Spans.{position_cmp}
+use Rattle.tabled_grid.specs.Spans.{Rectangle, position_cmp}
 use Rattle.tabled_grid.proofs.SortedEntries.{put_found, put_missed, searchable, searched}
 use Rattle.tabled_grid.proofs.Spans.{positions_exact, positions_total}
 use Rattle.tabled_spans.proofs.SetSizes.{span-put, size-set, size-unset, sorted-put}
@@ -17,7 +16,7 @@ pub returns-in-Ok-clause-sizes : goal.returns-in-Ok-clause-sizes
 returns-in-Ok-clause-sizes c =
     let es = c.args.changes.now.items in
     let found = searched position_cmp positions_total positions_exact es c.args.pos (Ok c.in-Ok.k) c.requires.sorted (rw c.deref.ensures.value at c.in-Ok.ensures.within) (rw c.deref.ensures.value at c.in-Ok.ensures.found) c.index.result.now in
-    let has = size-set c.args.cfg.now es c.args.pos c.index.result.now.1 c.requires.sorted (found ∙ ap (λ (e : Anchor). Some e.1) (sym c.index.ensures)) in
+    let has = size-set c.args.cfg.now es c.args.pos c.index.result.now.1 c.requires.sorted (found ∙ ap (λ (e : Rectangle). Some e.1) (sym c.index.ensures)) in
     span-put c.args.cfg.now es _ c.args.axis c.args.pos c.index.result.now.1 c.args.many c.requires.some c.requires.sorted has
     (sym (put_found position_cmp positions_total positions_exact es c.args.pos c.resized-size.result c.in-Ok.k (c.args.pos, c.resized-size.result) c.requires.sorted (rw c.deref.ensures.value at c.in-Ok.ensures.within) ((rw c.deref.ensures.value at c.in-Ok.ensures.found) (c.args.pos, c.resized-size.result))) ∙ ap (λ s. put position_cmp c.args.pos s es) c.resized-size.ensures.size)
 

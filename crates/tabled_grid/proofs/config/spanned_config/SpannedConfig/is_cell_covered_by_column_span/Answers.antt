@@ -1,12 +1,11 @@
 use Rattle.std.proofs.Common.{ap, sym}
 use Rattle.std.specs.FinMap.{entries-from_sorted}
 use Rattle.std.specs.List.{list_any}
-use Rattle.tabled_grid.specs.Anchors.{Anchor}
 use Rattle.tabled_grid.specs.Rectangles.{reaches_across}
-use Rattle.tabled_grid.specs.Spans.{position_cmp}
+use Rattle.tabled_grid.specs.Spans.{Rectangle, position_cmp}
 use Rattle.tabled_grid.proofs.config.spanned_config.SpannedConfig.is_cell_covered_by_column_span.Goals as goal
 
 pub returns-clause-covered : goal.returns-clause-covered
 returns-clause-covered c =
     rw (← c.self.view_is, c.is_covered_across.ensures, c.deref.ensures.value)
-    (ap (list_any (λ (e : Anchor). reaches_across e c.args.pos)) (sym (entries-from_sorted position_cmp c.self.inside.anchors.items c.self.invariant.sorted)))
+    (ap (list_any (λ (e : Rectangle). reaches_across e c.args.pos)) (sym (entries-from_sorted position_cmp c.self.inside.anchors.items c.self.invariant.sorted)))
