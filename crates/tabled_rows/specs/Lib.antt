@@ -1,3 +1,4 @@
+pub mod Evenness
 pub mod Gave
 pub mod Listed
 pub mod Rows

@@ -1,7 +1,7 @@
 //! A store of empty texts.
 
 ghost use Rattle.std.specs.Prelude.{◌≡◌, [], ℕ, List};
-ghost use Rattle.tabled_rows.specs.Rows.{empty_grid, filled};
+ghost use Rattle.tabled_rows.specs.Rows.{filled};
 
 use crate::records::into_records::IntoRecords;
 use std::iter::{RepeatN, repeat_n};
@@ -51,11 +51,16 @@ impl From<(usize, usize)> for EmptyRecords {
 }
 
 impl GridStore for EmptyRecords {
+    ghost use Rattle.tabled_rows.specs.Rows.{empty_grid};
+    ghost use Rattle.tabled_rows.specs.Evenness.{is_even_empty};
+
     type Cell = &'static str;
 
     ghost grid = { λ store. empty_grid store };
 
     ghost is_well_formed = { λ _. Unit {0} };
+
+    ghost even = { λ store _. is_even_empty store };
 }
 
 impl Records for EmptyRecords {

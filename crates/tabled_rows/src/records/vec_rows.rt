@@ -17,7 +17,7 @@ impl<'a, T> IntoRecords for &'a VecRecords<T> {
 
     ghost shown = { λ cell. cell.now };
 
-    ghost gives = { λ s rows. rows ≡ s.now.cells };
+    ghost gives = { λ s rows. rows ≡ s.now.grid.cells };
 
     ghost may_be_asked = { λ _. Unit {0} };
 
@@ -42,9 +42,9 @@ impl<'a, T> Iterator for VecRows<'a, T> {
     ghost use Rattle.std.specs.Prelude.{drop};
     ghost use Rattle.std.specs.Iterator.{YieldsFirstRef, item_count};
 
-    ghost next_gives = { YieldsFirstRef (λ s. drop s.row s.records.now.cells) };
+    ghost next_gives = { YieldsFirstRef (λ s. drop s.row s.records.now.grid.cells) };
 
-    ghost remaining = { item_count (λ s. drop s.row s.records.now.cells) };
+    ghost remaining = { item_count (λ s. drop s.row s.records.now.grid.cells) };
 
     fn next(&mut self) -> Option<&'a [T]> {
         let records = self.records;

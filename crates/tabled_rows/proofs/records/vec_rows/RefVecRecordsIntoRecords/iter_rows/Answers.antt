@@ -8,7 +8,7 @@ pub returns-clause-given : goal.returns-clause-given
 returns-clause-given g c = λ rows is iter same. rw same (record {
   can = tt;
   ends = tt;
-  gives = rw is (gives-shown (YieldsFirstRef (λ (s : VecRows _). drop s.row s.records.now.cells)) _ (λ s. drop s.row s.records.now.cells) (λ row. row.now) (λ row it from. record {
+  gives = rw is (gives-shown (YieldsFirstRef (λ (s : VecRows _). drop s.row s.records.now.grid.cells)) _ (λ s. drop s.row s.records.now.grid.cells) (λ row. row.now) (λ row it from. record {
     can = tt;
     ends = tt;
     gives = rw (← from.0) (gives-slice _ (λ x. refl) it);
