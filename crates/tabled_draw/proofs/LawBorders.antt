@@ -50,7 +50,7 @@ module _ (g : Grid (List ℕ)) (es : List Rectangle) (well : LieWell g.rows g.co
           b = owner-owns g.rows g.columns es well (i + 1) (j + 1) o e'
 
           by : Member o es ⊎ (o.1 ≡ sized 1 1) → ⊥
-          by (inr one) = let w : o.1.width ≡ 1 = ap (λ (x : Size). x.1) one in omega (arith, a.left, b.right)
+          by (inr one) = let w : o.1.width ≡ 1 = ap (λ (x : Size). x.width) one in omega (arith, a.left, b.right)
           by (inl m) = false≢true (sym clear ∙ any-from (λ (e : Rectangle). is_among i e.0.row e.1.height && is_amid j e.0.col e.1.width) o es m (and_from _ _ (among-from i o.0.row o.1.height (omega (arith, a.top)) (omega (arith, a.bottom))) (amid-from j o.0.col o.1.width a.left (omega (arith, b.right)))))
 
   above-stands : (i j : ℕ) → i ≤ g.rows → j < g.columns → is_joined_above es i j ≡ false
@@ -69,7 +69,7 @@ module _ (g : Grid (List ℕ)) (es : List Rectangle) (well : LieWell g.rows g.co
           b = owner-owns g.rows g.columns es well (i + 1) (j + 1) o f
 
           by : Member o es ⊎ (o.1 ≡ sized 1 1) → ⊥
-          by (inr one) = let w : o.1.height ≡ 1 = ap (λ (x : Size). x.0) one in omega (arith, a.top, b.bottom)
+          by (inr one) = let w : o.1.height ≡ 1 = ap (λ (x : Size). x.height) one in omega (arith, a.top, b.bottom)
           by (inl m) = false≢true (sym clear ∙ any-from (λ (e : Rectangle). is_amid i e.0.row e.1.height && is_among j e.0.col e.1.width) o es m (and_from _ _ (amid-from i o.0.row o.1.height a.top (omega (arith, b.bottom))) (among-from j o.0.col o.1.width (omega (arith, a.left)) (omega (arith, a.right)))))
 
   corner-stands : (i j : ℕ) → i ≤ g.rows → j ≤ g.columns → is_joined_around es i j ≡ false
@@ -88,7 +88,7 @@ module _ (g : Grid (List ℕ)) (es : List Rectangle) (well : LieWell g.rows g.co
           b = owner-owns g.rows g.columns es well (i + 1) (j + 1) o f'
 
           by : Member o es ⊎ (o.1 ≡ sized 1 1) → ⊥
-          by (inr one) = let w : o.1.width ≡ 1 = ap (λ (x : Size). x.1) one in omega (arith, a.left, b.right)
+          by (inr one) = let w : o.1.width ≡ 1 = ap (λ (x : Size). x.width) one in omega (arith, a.left, b.right)
           by (inl m) = false≢true (sym clear ∙ any-from (λ (e : Rectangle). is_amid i e.0.row e.1.height && is_amid j e.0.col e.1.width) o es m (and_from _ _ (amid-from i o.0.row o.1.height a.top (omega (arith, b.bottom))) (amid-from j o.0.col o.1.width a.left (omega (arith, b.right)))))
 
   pub stand-between : StandBetween g es

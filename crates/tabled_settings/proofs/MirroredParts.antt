@@ -136,11 +136,11 @@ module _ (old : ℕ → ℕ) (rows columns s e : ℕ) (inside : (i : ℕ) → s 
             by (inr m) other = record { top = omega (arith, row, h.top); bottom = omega (arith, row, h.bottom); left = omega (arith, m.1, h.left); right = omega (arith, m.1, h.right) }
 
     -- a rectangle in the part
-    pub part_mirrored : (axis : Axis) → e ≤ count_of axis rows columns → s ≤ line_of axis a → line_of axis a + count_of axis t.0 t.1 ≤ e → Carries (lines_from axis old rows columns) (a, t) (in_line axis a (s + (e - (line_of axis a + count_of axis t.0 t.1))), t)
+    pub part_mirrored : (axis : Axis) → e ≤ count_of axis rows columns → s ≤ line_of axis a → line_of axis a + count_of axis t.height t.width ≤ e → Carries (lines_from axis old rows columns) (a, t) (in_line axis a (s + (e - (line_of axis a + count_of axis t.height t.width))), t)
     part_mirrored Rows = rows_mirrored
     part_mirrored Columns = columns_mirrored
 
     -- a rectangle beside it
-    pub part_stays : (axis : Axis) → (line_of axis a + count_of axis t.0 t.1 ≤ s) ⊎ (e ≤ line_of axis a) → Carries (lines_from axis old rows columns) (a, t) (a, t)
+    pub part_stays : (axis : Axis) → (line_of axis a + count_of axis t.height t.width ≤ s) ⊎ (e ≤ line_of axis a) → Carries (lines_from axis old rows columns) (a, t) (a, t)
     part_stays Rows = rows_stay
     part_stays Columns = columns_stay

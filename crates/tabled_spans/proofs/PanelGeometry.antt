@@ -52,12 +52,12 @@ not_false false e = refl
 module _ {A : Type 0} where
   fits_panel : (axis : Axis) (line : ℕ) (cells : List A) (g : Grid A) (m : SpanMap) → line ≤ count_along axis g → 0 < count_along (across axis) g → is_crossed axis line m ≡ false → Fits m g.rows g.columns → Fits (with_panel axis line (count_along (across axis) g) m) ((with_line axis line cells g).rows) ((with_line axis line cells g).columns)
   fits_panel Rows line cells g m within some free fits =
-      fits_over (shifted Rows line m) (place_in Rows line 0) (1, g.columns) (g.rows + 1) g.columns (no_anchor Rows line m) (omega arith) (omega arith) (omega arith) (omega arith)
+      fits_over (shifted Rows line m) (place_in Rows line 0) (sized 1 g.columns) (g.rows + 1) g.columns (no_anchor Rows line m) (omega arith) (omega arith) (omega arith) (omega arith)
       (λ a q s has holds over. absurd (line_is_free Rows line m a q s free has holds (omega (arith, over.top, over.bottom)))) (fits_below m line g.rows g.columns free fits)
   fits_panel Columns line cells g m within some free fits =
       let rows : nat_eq g.rows 0 ≡ false = false_from_ne_true _ (λ e. omega (arith, eqb-true _ _ e)) in
       subst (λ b. Fits (with_panel Columns line g.rows m) g.rows (cond b g.columns (g.columns + 1))) (sym rows)
-      (fits_over (shifted Columns line m) (place_in Columns line 0) (g.rows, 1) g.rows (g.columns + 1) (no_anchor Columns line m) (omega arith) (omega arith) (omega arith) (omega arith)
+      (fits_over (shifted Columns line m) (place_in Columns line 0) (sized g.rows 1) g.rows (g.columns + 1) (no_anchor Columns line m) (omega arith) (omega arith) (omega arith) (omega arith)
       (λ a q s has holds over. absurd (line_is_free Columns line m a q s free has holds (omega (arith, over.left, over.right)))) (fits_beside m line g.rows g.columns free fits))
 
   pub panels_fit : (is_blank : A → Type 0) (text_of : A → List ℕ) (axis : Axis) (line : ℕ) (text : List ℕ) (g : Grid A) (m : SpanMap) (h : Grid A) (n : SpanMap) → Fits m g.rows g.columns → Panels is_blank text_of axis line text g m h n → Fits n h.rows h.columns
