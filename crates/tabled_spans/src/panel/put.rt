@@ -4,7 +4,6 @@ ghost use Rattle.std.specs.Prelude.{◌≡◌, ◌<◌, ◌≤◌, false, IfOk, 
 ghost use Rattle.std.specs.String.{string_bytes};
 ghost use Rattle.tabled_grid.specs.Axis.{across};
 ghost use Rattle.tabled_grid.specs.Along.{count_along, without_line};
-ghost use Rattle.tabled_grid.specs.Grid.{IsEmptyWithoutRows};
 ghost use Rattle.tabled_options.specs.Does.{Same};
 ghost use Rattle.tabled_spans.specs.PanelSteps.{InsertsLine};
 ghost use Rattle.tabled_spans.specs.Panels.{Panels, PutsIn, has_room, with_panel};
@@ -71,7 +70,7 @@ fn put_line<R>(
     text: String,
 ) -> Result<(), AllocError>
 where
-    R: Records + ExactRecords + Resizable + RecordsMut<String>,
+    R: Resizable + RecordsMut<String>,
     R::Cell: CellText,
     requires well { R.is_well_formed records.old }
     requires within { line ≤ count_along axis (R.grid records.old) }
@@ -80,8 +79,6 @@ where
     ensures ok { OnOk result (PutsIn R.Cell.text_of axis line (string_bytes text) (R.grid records.old) (R.grid records.new)) }
     ensures err { OnErr result (R.grid records.new ≡ R.grid records.old) }
 {
-    // A count tells that the rows are equally long.
-    let _ = records.count_rows();
     insert_line(alloc, records, axis, line)?;
     if let Err(error) = records.set(alloc, axis.place(line, 0), text) {
         remove_line(records, axis, line);
@@ -98,7 +95,6 @@ where
     requires well { R.is_well_formed records.old }
     requires within { line ≤ count_along axis (R.grid records.old) }
     ensures well { R.is_well_formed records.new }
-    ensures rowless { OnOk result (IsEmptyWithoutRows (R.grid records.old)) }
     ensures ok { OnOk result (InsertsLine R.Cell.is_blank axis (R.grid records.old) (R.grid records.new) line) }
     ensures err { OnErr result (R.grid records.new ≡ R.grid records.old) }
 {
