@@ -25,7 +25,7 @@ impl Model for Table {
 
     ghost coded = { Prim.hlevel (codes, span_code) };
 
-    ghost view = { λ a. record { cells = a.records; spans = a.config } };
+    ghost view = { λ a. record { cells = a.records.grid; spans = a.config } };
 }
 
 impl Table {
@@ -35,7 +35,7 @@ impl Table {
 
     /// A table of the cells of a store, with no merged cells.
     pub fn from_records(alloc: Global, records: VecRecords<Text<String>>) -> Self
-        ensures cells { result.cells ≡ records }
+        ensures cells { result.cells ≡ records.grid }
         ensures spans { result.spans ≡ map.empty }
     {
         Table {
@@ -107,7 +107,7 @@ impl Table {
     ///
     /// Ported from `tabled::Table::get_records`.
     pub fn get_records(&self) -> &VecRecords<Text<String>>
-        ensures { result.now ≡ self.now.cells }
+        ensures { result.now.grid ≡ self.now.cells }
     {
         &self.records
     }

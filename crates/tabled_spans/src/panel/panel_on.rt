@@ -3,7 +3,6 @@
 ghost use Rattle.std.specs.Prelude.{◌≡◌, ◌<◌, ◌≤◌, false, IfOk, OnErr, OnOk};
 ghost use Rattle.std.specs.String.{string_bytes};
 ghost use Rattle.tabled_grid.specs.Along.{count_along, without_line};
-ghost use Rattle.tabled_grid.specs.Grid.{IsEmptyWithoutRows};
 ghost use Rattle.tabled_options.specs.Does.{Same};
 ghost use Rattle.tabled_spans.specs.PanelSteps.{InsertsLine};
 ghost use Rattle.tabled_spans.specs.Panels.{Panels, has_room};
@@ -187,7 +186,6 @@ where
     requires well { R.is_well_formed records.old }
     requires within { line ≤ count_along axis (R.grid records.old) }
     ensures well { R.is_well_formed records.new }
-    ensures rowless { OnOk result (IsEmptyWithoutRows (R.grid records.old)) }
     ensures ok { OnOk result (InsertsLine R.Cell.is_blank axis (R.grid records.old) (R.grid records.new) line) }
     ensures err { OnErr result (R.grid records.new ≡ R.grid records.old) }
 {

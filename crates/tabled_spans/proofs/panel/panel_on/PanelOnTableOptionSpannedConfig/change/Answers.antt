@@ -17,7 +17,7 @@ returns-in-Err-clause-err g c =
     (
       c.remove_line.ensures.removed
       ∙ ap (without_line axis c.self.inside.line) c.in-Err.ensures.err
-      ∙ undone g.R.Cell.Blank.is_blank axis c.self.inside.line _ _ c.count.ensures.even c.in_ok-insert_line.ensures.rowless within cells c.in_ok-insert_line.ensures.ok,
+      ∙ undone g.R.Cell.Blank.is_blank axis c.self.inside.line _ _ (g.R.GridStore.even _ c.requires.well) (g.met.R.Resizable.rowless _ c.requires.well) within cells c.in_ok-insert_line.ensures.ok,
       refl,
     )
 
@@ -33,4 +33,4 @@ returns-clause-ok g c =
     let writes : WritesText text_of (g.R.GridStore.grid c.insert_line.new.records) (g.R.GridStore.grid c.set.new.self) (place_in axis line 0) (string_bytes c.self.inside.text) = rw (c.in_default.is, c.place-2.ensures) at c.set.ensures.ok in
     let merged : c.set_span.new.cfg ≡ with_span (across axis) (shifted axis line c.args.cfg.now) (place_in axis line 0) (count_along (across axis) old) = c.in_ok-set_span.ensures ∙ rw (c.shift.ensures.shifted, c.in_ok-merged.ensures.copy, c.place.ensures, c.across-2.ensures, many) refl in
     rw (← c.self.view_is, ← c.axis-axis.ensures)
-    (panelled g.R.Cell.Blank.is_blank text_of g.met.R.Cell.CellText.blank_is_empty axis line (string_bytes c.self.inside.text) _ _ _ _ _ c.count.ensures.even within cells (sym c.crosses.ensures.crosses ∙ c.if-crosses.false) c.in_ok-insert_line.ensures.ok writes merged)
+    (panelled g.R.Cell.Blank.is_blank text_of g.met.R.Cell.CellText.blank_is_empty axis line (string_bytes c.self.inside.text) _ _ _ _ _ (g.R.GridStore.even _ c.requires.well) within cells (sym c.crosses.ensures.crosses ∙ c.if-crosses.false) c.in_ok-insert_line.ensures.ok writes merged)
