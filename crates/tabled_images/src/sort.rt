@@ -8,20 +8,20 @@ use tabled_grid::config::Rectangle;
 
 /// Puts rectangles in order.
 ///
-/// Those that fall all the way, and those that fall in each row, as turned and reversed ones do, are turned over
+/// Those that fall all the way, and those that fall in each row, as turned and reversed ones do, are reversed
 /// first, which costs less than a sort.
 pub(crate) fn sort(rectangles: &mut [Rectangle])
     ensures permutation { IsPermutation rectangles.old rectangles.new }
     ensures len { length rectangles.new ≡ length rectangles.old }
     ensures sorted { IsSortedByKey (λ (f : Rectangle). f.0) position_cmp rectangles.new }
 {
-    turn_over(rectangles);
-    turn_rows_over(rectangles);
+    reverse_descending(rectangles);
+    reverse_descending_rows(rectangles);
     rectangles.sort_unstable_by_key(|rectangle| rectangle.0);
 }
 
 /// Puts rectangles into the opposite order whose first one stands after the last one.
-fn turn_over(rectangles: &mut [Rectangle])
+fn reverse_descending(rectangles: &mut [Rectangle])
     ensures permutation { IsPermutation rectangles.old rectangles.new }
     ensures len { length rectangles.new ≡ length rectangles.old }
 {
@@ -33,16 +33,16 @@ fn turn_over(rectangles: &mut [Rectangle])
 }
 
 /// The same of those of each row.
-fn turn_rows_over(rectangles: &mut [Rectangle])
+fn reverse_descending_rows(rectangles: &mut [Rectangle])
     ensures permutation { IsPermutation rectangles.old rectangles.new }
     ensures len { length rectangles.new ≡ length rectangles.old }
 {
     let mut start = 0;
     for end in 1..rectangles.len() {
         if rectangles[end].0.row != rectangles[start].0.row {
-            turn_over(&mut rectangles[start..end]);
+            reverse_descending(&mut rectangles[start..end]);
             start = end;
         }
     }
-    turn_over(&mut rectangles[start..]);
+    reverse_descending(&mut rectangles[start..]);
 }

@@ -6,10 +6,10 @@ use Rattle.std.specs.Prelude.{if◌then◌else◌}
 use Rattle.tabled_grid.specs.Entity.{place}
 use Rattle.tabled_grid.specs.declared.config.entity.Entity.{Entity}
 use Rattle.tabled_grid.specs.declared.config.entity.Entity.TheVariants.{Global, Column, Row, Cell}
-use Rattle.tabled_options.specs.Hints.{Covers, IsCombined, covers}
+use Rattle.tabled_options.specs.Hints.{Covers, IsCombined, names_all_of}
 
 -- what the test finds, covers
-pub covers_means : (a b : Entity) → covers a b ≡ true → Covers a b
+pub covers_means : (a b : Entity) → names_all_of a b ≡ true → Covers a b
 covers_means Global b t p n = refl
 covers_means (Column j) (Column l) t p n = grind (arith, nat_tests)
 covers_means (Column j) (Cell k l) t p n = grind (arith, nat_tests)
@@ -25,7 +25,7 @@ covers_means (Cell i j) (Row k) t p n = grind (arith, nat_tests)
 covers_means (Cell i j) (Column l) t p n = grind (arith, nat_tests)
 
 -- what covers, the test finds
-pub covers_from : (a b : Entity) → Covers a b → covers a b ≡ true
+pub covers_from : (a b : Entity) → Covers a b → names_all_of a b ≡ true
 covers_from Global b t = refl
 covers_from (Column j) (Column l) t = let h = t (place 0 l) in grind (arith, nat_tests)
 covers_from (Column j) (Cell k l) t = let h = t (place k l) in grind (arith, nat_tests)
@@ -41,7 +41,7 @@ covers_from (Cell i j) (Row k) t = let h = t (place k (j + 1)) in grind (arith, 
 covers_from (Cell i j) (Column l) t = let h = t (place (i + 1) l) in grind (arith, nat_tests)
 
 -- entities that cover each other are one
-alike : (a b : Entity) → covers a b ≡ true → covers b a ≡ true → a ≡ b
+alike : (a b : Entity) → names_all_of a b ≡ true → names_all_of b a ≡ true → a ≡ b
 alike Global Global s t = refl
 alike (Column j) (Column l) s t = ap Column (grind (arith, nat_tests))
 alike (Row i) (Row k) s t = ap Row (grind (arith, nat_tests))
@@ -49,7 +49,7 @@ alike (Cell i j) (Cell k l) s t = grind (arith, nat_tests)
 alike a b s t = grind (arith, nat_tests)
 
 -- what two entities combine to, by the two tests
-pub combined_means : (a b : Entity) (s t : Bool) → covers a b ≡ s → covers b a ≡ t → IsCombined a b (if s then a else (if t then b else Global))
+pub combined_means : (a b : Entity) (s t : Bool) → names_all_of a b ≡ s → names_all_of b a ≡ t → IsCombined a b (if s then a else (if t then b else Global))
 combined_means a b true t e f = record {
   covers_first = λ p n. n;
   covers_second = covers_means a b e;

@@ -18,18 +18,18 @@ pub record IsCombined (a b e : Entity) : Type 0 where
   pub is_all : (Covers a b → ⊥) → (Covers b a → ⊥) → e ≡ Global
 
 -- all cells that the second entity names, the first names too
-abbrev pub covers : Entity → Entity → Bool
-covers Global b = true
-covers (Column j) (Column l) = j == l
-covers (Column j) (Cell k l) = j == l
-covers (Row i) (Row k) = i == k
-covers (Row i) (Cell k l) = i == k
-covers (Cell i j) (Cell k l) = (i == k) && (j == l)
-covers a b = false
+abbrev pub names_all_of : Entity → Entity → Bool
+names_all_of Global b = true
+names_all_of (Column j) (Column l) = j == l
+names_all_of (Column j) (Cell k l) = j == l
+names_all_of (Row i) (Row k) = i == k
+names_all_of (Row i) (Cell k l) = i == k
+names_all_of (Cell i j) (Cell k l) = (i == k) && (j == l)
+names_all_of a b = false
 
 -- the one of two entities that covers the other, or all cells
 abbrev pub combined : Entity → Entity → Entity
-combined a b = if covers a b then a else (if covers b a then b else Global)
+combined a b = if names_all_of a b then a else (if names_all_of b a then b else Global)
 
 -- the hints that are there, combined
 abbrev pub combined_hint : Option Entity → Option Entity → Option Entity

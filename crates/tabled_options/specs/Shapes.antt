@@ -1,8 +1,19 @@
 -- Changes that leave the shape of a table.
 use Rattle.std.specs.Prelude.{◌≡◌}
 use Rattle.tabled_grid.specs.Grid.{Grid}
-use Rattle.tabled_options.specs.Does.{Change}
+use Rattle.tabled_grid.specs.Rectangles.{Fits}
+use Rattle.tabled_grid.specs.Spans.{SpanMap}
+use Rattle.tabled_grid.specs.declared.config.entity.Entity.{Entity}
+use Rattle.tabled_options.specs.Does.{Change, OptionKeeps}
 
 -- a change leaves the numbers of rows and columns, and the configuration
 pub record KeepsShape {A C : Type 0} (change : Change A C) : Type 0 where
   pub each : (g : Grid A) (c : C) (h : Grid A) (d : C) → change g c h d → (h.rows ≡ g.rows) × (h.columns ≡ g.columns) × (d ≡ c)
+
+-- merged cells that fit the table do so after an option, whether it is done or refused
+abbrev pub FitsAfter : {A : Type 0} → Change A SpanMap → Change A SpanMap → Type 0
+FitsAfter does leaves = OptionKeeps (λ g c. Fits c g.rows g.columns) does leaves
+
+-- the same of an option on each entity
+abbrev pub FitsAfterEach : {A : Type 0} → (Entity → Change A SpanMap) → (Entity → Change A SpanMap) → Type 0
+FitsAfterEach does leaves = (e : Entity) → FitsAfter (does e) (leaves e)

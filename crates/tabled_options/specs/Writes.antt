@@ -22,13 +22,21 @@ pub record FirstWrites (writes : List Write) (g h : Grid (List ℕ)) : Type 0 wh
   pub within : count < length writes
   pub is : h ≡ with_writes (take count writes) g
 
+-- writes that the old texts name
+abbrev pub Written : {A : Type 0} → (A → List ℕ) → (Grid (List ℕ) → List Write) → Grid A → Grid A → Type 0
+Written text_of writes g h = map_grid text_of h ≡ with_writes (writes (map_grid text_of g)) (map_grid text_of g)
+
+-- the same for the writes before one of these
+abbrev pub FirstWritten : {A : Type 0} → (A → List ℕ) → (Grid (List ℕ) → List Write) → Grid A → Grid A → Type 0
+FirstWritten text_of writes g h = FirstWrites (writes (map_grid text_of g)) (map_grid text_of g) (map_grid text_of h)
+
 -- writes that the old texts name, and the configuration as it was
 abbrev pub DoesWrites : {A C : Type 0} → (A → List ℕ) → (Grid (List ℕ) → List Write) → Change A C
-DoesWrites text_of writes g c h d = (map_grid text_of h ≡ with_writes (writes (map_grid text_of g)) (map_grid text_of g)) × (d ≡ c)
+DoesWrites text_of writes g c h d = Written text_of writes g h × (d ≡ c)
 
 -- the same for the writes before one of these
 abbrev pub DoesFirstWrites : {A C : Type 0} → (A → List ℕ) → (Grid (List ℕ) → List Write) → Change A C
-DoesFirstWrites text_of writes g c h d = FirstWrites (writes (map_grid text_of g)) (map_grid text_of g) (map_grid text_of h) × (d ≡ c)
+DoesFirstWrites text_of writes g c h d = FirstWritten text_of writes g h × (d ≡ c)
 
 -- a text at each of these places
 abbrev pub at_each : List ℕ → List Position → List Write

@@ -1,7 +1,7 @@
 //! Hints of what changes.
 
 ghost use Rattle.std.specs.Prelude.{◌≡◌};
-ghost use Rattle.tabled_options.specs.Hints.{IsCombined, combined, combined_hint, covers};
+ghost use Rattle.tabled_options.specs.Hints.{IsCombined, combined, combined_hint, names_all_of};
 
 use tabled_grid::config::Entity;
 
@@ -34,7 +34,7 @@ pub(crate) fn combine_hints(a: Option<Entity>, b: Option<Entity>) -> Option<Enti
 
 /// Says whether all cells of the second entity are cells of the first.
 fn covers(a: Entity, b: Entity) -> bool
-    ensures { result ≡ covers a b }
+    ensures { result ≡ names_all_of a b }
 {
     match (a, b) {
         (Entity::Global, _) => true,

@@ -6,12 +6,12 @@ ghost use Rattle.tabled_grid.specs.Entity.{names};
 ghost use Rattle.tabled_grid.specs.declared.config.entity.Entity.{Entity};
 ghost use Rattle.tabled_options.specs.Does.{CopiesAlike, OptionKeeps};
 ghost use Rattle.tabled_options.specs.Hints.{combined};
-ghost use Rattle.tabled_options.specs.Shapes.{KeepsShape};
+ghost use Rattle.tabled_options.specs.Shapes.{FitsAfter, FitsAfterEach, KeepsShape};
 
 use crate::cell_option::CellOption;
 use crate::modify::ModifyList;
 use crate::option_list::OptionSlice;
-use crate::property::{MergedCellsFit, Property};
+use crate::property::Property;
 use crate::settings_list::Settings;
 use crate::table_option::TableOption;
 use crate::writers::TextRef;
@@ -21,7 +21,7 @@ use tabled_select::object::Object;
 
 /// Two entities combine to the same one either way.
 pub fn combined_either_way(_a: Entity, _b: Entity)
-    ensures { combined _a _b ≡ combined _b _a }
+    ensures same { combined _a _b ≡ combined _b _a }
 {}
 
 /// What two entities combine to names each place that one of them names.
@@ -55,7 +55,7 @@ pub fn vectors_copied<R, C, D, T>(_options: &Vec<T>)
 where
     R: GridStore,
     T: TableOption<R, C, D> + Clone + Drop,
-    ensures { AllByRecursion (CopiesAlike T.is_clone T.is_like) _options.now.items → CopiesAlike ⟦<Vec<T> as Clone>⟧.is_clone ⟦<Vec<T> as TableOption<R, C, D>>⟧.is_like _options.now }
+    ensures vector { AllByRecursion (CopiesAlike T.is_clone T.is_like) _options.now.items → CopiesAlike ⟦<Vec<T> as Clone>⟧.is_clone ⟦<Vec<T> as TableOption<R, C, D>>⟧.is_like _options.now }
 {}
 
 /// Settings on tables, and pairs, keep what both of their parts keep, also where they are refused.
@@ -88,7 +88,7 @@ where
     R: GridStore,
     P: Property<R::Cell, C>,
     T: TableOption<R, C, D> + Drop,
-    ensures { AllByRecursion (λ x. OptionKeeps P.holds (T.does x) (T.leaves x)) _options.now.items → OptionKeeps P.holds (⟦<Vec<T> as TableOption<R, C, D>>⟧.does _options.now) (⟦<Vec<T> as TableOption<R, C, D>>⟧.leaves _options.now) }
+    ensures vector { AllByRecursion (λ x. OptionKeeps P.holds (T.does x) (T.leaves x)) _options.now.items → OptionKeeps P.holds (⟦<Vec<T> as TableOption<R, C, D>>⟧.does _options.now) (⟦<Vec<T> as TableOption<R, C, D>>⟧.leaves _options.now) }
 {}
 
 /// A slice of options keeps what each of them keeps.
@@ -97,7 +97,7 @@ where
     R: GridStore,
     P: Property<R::Cell, C>,
     T: TableOption<R, C, D> + Clone,
-    ensures { AllByRecursion (λ x. OptionKeeps P.holds (T.does x) (T.leaves x)) _options.now.0.now → OptionKeeps P.holds (⟦<OptionSlice<'a, T> as TableOption<R, C, D>>⟧.does _options.now) (⟦<OptionSlice<'a, T> as TableOption<R, C, D>>⟧.leaves _options.now) }
+    ensures slice { AllByRecursion (λ x. OptionKeeps P.holds (T.does x) (T.leaves x)) _options.now.0.now → OptionKeeps P.holds (⟦<OptionSlice<'a, T> as TableOption<R, C, D>>⟧.does _options.now) (⟦<OptionSlice<'a, T> as TableOption<R, C, D>>⟧.leaves _options.now) }
 {}
 
 /// An option on what an object lists keeps what it keeps on each entity.
@@ -107,7 +107,7 @@ where
     P: Property<R::Cell, C>,
     O: Object<R> + Drop,
     M: CellOption<R, C> + Clone,
-    ensures { ((e : Entity) → OptionKeeps P.holds (M.does _option.now e) (M.leaves _option.now e)) → OptionKeeps P.holds (⟦<ModifyList<O, M> as TableOption<R, C, D>>⟧.does (_object.now, _option.now)) (⟦<ModifyList<O, M> as TableOption<R, C, D>>⟧.leaves (_object.now, _option.now)) }
+    ensures each { ((e : Entity) → OptionKeeps P.holds (M.does _option.now e) (M.leaves _option.now e)) → OptionKeeps P.holds (⟦<ModifyList<O, M> as TableOption<R, C, D>>⟧.does (_object.now, _option.now)) (⟦<ModifyList<O, M> as TableOption<R, C, D>>⟧.leaves (_object.now, _option.now)) }
 {}
 
 /// An option on cells that leaves the numbers of rows and columns and the configuration, done or refused,
@@ -116,7 +116,7 @@ pub fn same_shape_keeps_merged_cells_fitting<R, M>(_option: &M)
 where
     R: Records + ExactRecords,
     M: CellOption<R, SpannedConfig>,
-    ensures { (e : Entity) → KeepsShape (M.does _option.now e) → KeepsShape (M.leaves _option.now e) → OptionKeeps ⟦<MergedCellsFit as Property<R::Cell, SpannedConfig>>⟧.holds (M.does _option.now e) (M.leaves _option.now e) }
+    ensures cells { (e : Entity) → KeepsShape (M.does _option.now e) → KeepsShape (M.leaves _option.now e) → FitsAfter (M.does _option.now e) (M.leaves _option.now e) }
 {}
 
 /// So does such an option on tables.
@@ -124,7 +124,7 @@ pub fn same_table_shape_keeps_merged_cells_fitting<R, D, T>(_option: &T)
 where
     R: GridStore,
     T: TableOption<R, SpannedConfig, D>,
-    ensures { KeepsShape (T.does _option.now) → KeepsShape (T.leaves _option.now) → OptionKeeps ⟦<MergedCellsFit as Property<R::Cell, SpannedConfig>>⟧.holds (T.does _option.now) (T.leaves _option.now) }
+    ensures table { KeepsShape (T.does _option.now) → KeepsShape (T.leaves _option.now) → FitsAfter (T.does _option.now) (T.leaves _option.now) }
 {}
 
 /// A string on an entity keeps merged cells inside the table and apart, also where it is refused.
@@ -132,7 +132,7 @@ pub fn strings_keep_merged_cells_fitting<R>(_text: &String)
 where
     R: Records + ExactRecords + RecordsMut<String>,
     R::Cell: CellText,
-    ensures { (e : Entity) → OptionKeeps ⟦<MergedCellsFit as Property<R::Cell, SpannedConfig>>⟧.holds (⟦<String as CellOption<R, SpannedConfig>>⟧.does _text.now e) (⟦<String as CellOption<R, SpannedConfig>>⟧.leaves _text.now e) }
+    ensures cells { let how = ⟦<String as CellOption<R, SpannedConfig>>⟧ in FitsAfterEach (how.does _text.now) (how.leaves _text.now) }
 {}
 
 /// A text that is lent does so, too.
@@ -140,5 +140,5 @@ pub fn lent_texts_keep_merged_cells_fitting<'a, R>(_text: TextRef<'a>)
 where
     R: Records + ExactRecords + RecordsMut<&'a str>,
     R::Cell: CellText,
-    ensures { (e : Entity) → OptionKeeps ⟦<MergedCellsFit as Property<R::Cell, SpannedConfig>>⟧.holds (⟦<TextRef<'a> as CellOption<R, SpannedConfig>>⟧.does _text.entry e) (⟦<TextRef<'a> as CellOption<R, SpannedConfig>>⟧.leaves _text.entry e) }
+    ensures cells { let how = ⟦<TextRef<'a> as CellOption<R, SpannedConfig>>⟧ in FitsAfterEach (how.does _text.entry) (how.leaves _text.entry) }
 {}

@@ -3,8 +3,7 @@
 ghost use Rattle.std.specs.Prelude.{◌≡◌, [], OnOk, OnErr, IsOk};
 ghost use Rattle.std.specs.String.{string_bytes};
 ghost use Rattle.tabled_grid.specs.Entity.{inside};
-ghost use Rattle.tabled_grid.specs.Grid.{map_grid};
-ghost use Rattle.tabled_options.specs.Writes.{DoesFirstWrites, DoesWrites, FirstWrites, text_writes, with_writes};
+ghost use Rattle.tabled_options.specs.Writes.{DoesFirstWrites, DoesWrites, FirstWritten, Written, text_writes};
 ghost use Rattle.std.proofs.Common.{rules};
 
 use crate::cell_option::CellOption;
@@ -92,8 +91,8 @@ where
     requires well { R.is_well_formed records.old }
     requires alike { (copy : T) → T.is_clone text copy → T.text_of copy ≡ T.text_of text }
     ensures well { R.is_well_formed records.new }
-    ensures ok { OnOk result (map_grid R.Cell.text_of (R.grid records.new) ≡ with_writes (text_writes (T.text_of text) entity (map_grid R.Cell.text_of (R.grid records.old))) (map_grid R.Cell.text_of (R.grid records.old))) }
-    ensures err { OnErr result (FirstWrites (text_writes (T.text_of text) entity (map_grid R.Cell.text_of (R.grid records.old))) (map_grid R.Cell.text_of (R.grid records.old)) (map_grid R.Cell.text_of (R.grid records.new))) }
+    ensures ok { OnOk result (Written R.Cell.text_of (text_writes (T.text_of text) entity) (R.grid records.old) (R.grid records.new)) }
+    ensures err { OnErr result (FirstWritten R.Cell.text_of (text_writes (T.text_of text) entity) (R.grid records.old) (R.grid records.new)) }
     ensures promised { inside entity ((R.grid records.old).rows) ((R.grid records.old).columns) ≡ [] → IsOk result }
 {
     let mut places = entity.iter(records.count_rows(), records.count_columns());

@@ -7,10 +7,10 @@ use Rattle.std.proofs.lemmas.List.Edits.{length-remove}
 use Rattle.std.proofs.lemmas.List.FromFn.{length-map-range_with_len}
 use Rattle.tabled_grid.specs.Grid.{width_of}
 use Rattle.tabled_table.specs.Builder.{AreRecords}
-use Rattle.tabled_table.specs.Index.{Indexed, IsIndexed, numbers, rows_of, transposed, turned_over, with_column_as_index, with_index, with_name, with_name_if}
+use Rattle.tabled_table.specs.Index.{Indexed, IsIndexed, built_rows, columns_as_rows, numbers, transposed_index, with_column_as_index, with_index, with_index_name, with_name_if}
 use Rattle.tabled_table.proofs.Columns.{even-with_items, even-without}
 use Rattle.tabled_table.proofs.Padded.{length-padded_to}
-use Rattle.tabled_table.proofs.Transposed.{even-transposed, length-transposed, transposed-transposed}
+use Rattle.tabled_table.proofs.Transposed.{even-columns_as_rows, length-columns_as_rows, columns_as_rows-columns_as_rows}
 
 -- rows of one length are as long as the first
 even-width : {A : Type 0} (n : ℕ) (rows : List (List A)) → AreRecords n rows → AreRecords (width_of rows) rows
@@ -26,7 +26,7 @@ even-index : (shown : Bool) (x : Indexed) → x.shown ≡ shown → IsIndexed x 
 even-index true x e h = rw e (even-with_items (length x.header) 0 (x.header ∷ x.body) ([] ∷ x.index) (omega arith) (refl, h.wide))
 even-index false x e h = rw e (refl, h.wide)
 
-even-name : (n : ℕ) (in_header : Bool) (name : List ℕ) (rows : List (List (List ℕ))) → AreRecords n rows → AreRecords n (with_name in_header name rows)
+even-name : (n : ℕ) (in_header : Bool) (name : List ℕ) (rows : List (List (List ℕ))) → AreRecords n rows → AreRecords n (with_index_name in_header name rows)
 even-name n in_header name [] even = tt
 even-name n in_header name ([] ∷ rows) even = even
 even-name n true name ((first ∷ header) ∷ rows) even = even
@@ -36,16 +36,16 @@ even-name_if : (n : ℕ) (in_header : Bool) (name : Option (List ℕ)) (rows : L
 even-name_if n in_header None rows even = even
 even-name_if n in_header (Some name) rows even = even-name n in_header name rows even
 
-pub even-rows_of : (x : Indexed) → IsIndexed x → AreRecords (width_of (rows_of x)) (rows_of x)
+pub even-rows_of : (x : Indexed) → IsIndexed x → AreRecords (width_of (built_rows x)) (built_rows x)
 even-rows_of x h =
     let columns = columns_with x.shown (length x.header) in
-    even-width columns (rows_of x) (even-name_if columns _ x.name (with_index x) (even-index x.shown x refl h))
+    even-width columns (built_rows x) (even-name_if columns _ x.name (with_index x) (even-index x.shown x refl h))
 
 pub IsIndexed-numbers : (x : Indexed) → x.index ≡ numbers (length x.body) → AreRecords (length x.header) x.body → IsIndexed x
 IsIndexed-numbers x is wide = record { tall = sym (ap length is ∙ length-map-range_with_len decimal 0 (length x.body)); wide = wide }
 
-pub IsIndexed-turned : (x : Indexed) → IsIndexed x → IsIndexed (turned_over x)
-IsIndexed-turned x h = record { tall = length-transposed (length x.header) x.body; wide = subst (λ n. AreRecords n (transposed (length x.header) x.body)) h.tall (even-transposed (length x.header) x.body) }
+pub IsIndexed-transposed : (x : Indexed) → IsIndexed x → IsIndexed (transposed_index x)
+IsIndexed-transposed x h = record { tall = length-columns_as_rows (length x.header) x.body; wide = subst (λ n. AreRecords n (columns_as_rows (length x.header) x.body)) h.tall (even-columns_as_rows (length x.header) x.body) }
 
 pub IsIndexed-column : (c : ℕ) (x : Indexed) → c < length x.header → IsIndexed x → IsIndexed (with_column_as_index c x)
 IsIndexed-column c x within h =
@@ -59,11 +59,11 @@ not_twice : (b : Bool) → not (not b) ≡ b
 not_twice true = refl
 not_twice false = refl
 
-pub turned_over-turned_over : (x : Indexed) → IsIndexed x → turned_over (turned_over x) ≡ x
-turned_over-turned_over x h =
-    let body : transposed (length x.index) (transposed (length x.header) x.body) ≡ x.body = ap (λ n. transposed n (transposed (length x.header) x.body)) (sym h.tall) ∙ transposed-transposed (length x.header) x.body h.wide in
-    rw (body, not_twice x.turned) refl
+pub transposed_index-transposed_index : (x : Indexed) → IsIndexed x → transposed_index (transposed_index x) ≡ x
+transposed_index-transposed_index x h =
+    let body : columns_as_rows (length x.index) (columns_as_rows (length x.header) x.body) ≡ x.body = ap (λ n. columns_as_rows n (columns_as_rows (length x.header) x.body)) (sym h.tall) ∙ columns_as_rows-columns_as_rows (length x.header) x.body h.wide in
+    rw (body, not_twice x.is_transposed) refl
 
-pub turned_twice : (x : Option Indexed) → IfSome x IsIndexed → option_map turned_over (option_map turned_over x) ≡ x
-turned_twice None h = refl
-turned_twice (Some x) h = ap Some (turned_over-turned_over x h)
+pub transposed_twice : (x : Option Indexed) → IfSome x IsIndexed → option_map transposed_index (option_map transposed_index x) ≡ x
+transposed_twice None h = refl
+transposed_twice (Some x) h = ap Some (transposed_index-transposed_index x h)

@@ -8,7 +8,7 @@ use Rattle.std.proofs.lemmas.List.Elements.{All-from_recursion}
 use Rattle.std.proofs.lemmas.List.FromFn.{length-map-range_with_len}
 use Rattle.std.proofs.lemmas.Simd.{map-map}
 use Rattle.tabled_table.specs.Builder.{AreRecords, row_texts, with_items_behind}
-use Rattle.tabled_table.specs.Index.{column_of, transposed}
+use Rattle.tabled_table.specs.Index.{column_of, columns_as_rows}
 use Rattle.tabled_table.proofs.Columns.{first_left}
 
 -- some rows were turned, and the others are left
@@ -16,7 +16,7 @@ pub record Transposes (columns : ℕ) (all rest turned : List (List (List ℕ)))
   pub done : List (List (List ℕ))
   pub is : all ≡ done ++ rest
   pub even : AreRecords columns rest
-  pub turns : turned ≡ transposed columns done
+  pub turns : turned ≡ columns_as_rows columns done
 
 length-column_of : (rows : List (List (List ℕ))) (j : ℕ) → length (column_of rows j) ≡ length rows
 length-column_of rows j = length-map rows (λ row. get_or row j [])
@@ -32,26 +32,26 @@ push_from a done row (text ∷ texts) here =
     (ap (λ t. column_of done a ++ t ∷ []) (sym same) ∙ sym (map-append (λ r. get_or r a []) done (row ∷ [])))
     (push_from (a + 1) done row texts next)
 
-pub transposed-push : (columns : ℕ) (done : List (List (List ℕ))) (row : List (List ℕ)) → length row ≡ columns →
-    with_items_behind (transposed columns done) row ≡ transposed columns (done ++ row ∷ [])
-transposed-push columns done row wide = rw (sym wide) (push_from 0 done row row refl)
+pub columns_as_rows-push : (columns : ℕ) (done : List (List (List ℕ))) (row : List (List ℕ)) → length row ≡ columns →
+    with_items_behind (columns_as_rows columns done) row ≡ columns_as_rows columns (done ++ row ∷ [])
+columns_as_rows-push columns done row wide = rw (sym wide) (push_from 0 done row row refl)
 
-pub length-transposed : (columns : ℕ) (rows : List (List (List ℕ))) → length (transposed columns rows) ≡ columns
-length-transposed columns rows = length-map-range_with_len (column_of rows) 0 columns
+pub length-columns_as_rows : (columns : ℕ) (rows : List (List (List ℕ))) → length (columns_as_rows columns rows) ≡ columns
+length-columns_as_rows columns rows = length-map-range_with_len (column_of rows) 0 columns
 
 even-columns : (js : List ℕ) (rows : List (List (List ℕ))) → AreRecords (length rows) (map (column_of rows) js)
 even-columns [] rows = tt
 even-columns (j ∷ js) rows = (length-column_of rows j, even-columns js rows)
 
-pub even-transposed : (columns : ℕ) (rows : List (List (List ℕ))) → AreRecords (length rows) (transposed columns rows)
-even-transposed columns rows = even-columns (range_with_len 0 columns) rows
+pub even-columns_as_rows : (columns : ℕ) (rows : List (List (List ℕ))) → AreRecords (length rows) (columns_as_rows columns rows)
+even-columns_as_rows columns rows = even-columns (range_with_len 0 columns) rows
 
 pub transposes_more : (columns : ℕ) (all : List (List (List ℕ))) (row : List (List ℕ)) (rest turned : List (List (List ℕ))) → Transposes columns all (row ∷ rest) turned → Transposes columns all rest (with_items_behind turned row)
 transposes_more columns all row rest turned h = record {
   done = h.done ++ row ∷ [];
   is = h.is ∙ sym (append_assoc h.done (row ∷ []) rest);
   even = h.even.1;
-  turns = ap (λ rows. with_items_behind rows row) h.turns ∙ transposed-push columns h.done row h.even.0;
+  turns = ap (λ rows. with_items_behind rows row) h.turns ∙ columns_as_rows-push columns h.done row h.even.0;
 }
 
 nothing_turned : (a n : ℕ) → replicate n [] ≡ map (column_of []) (range_with_len a n)
@@ -62,7 +62,7 @@ pub transposes_none : (columns : ℕ) (rows turned : List (List (List ℕ))) →
 transposes_none columns rows turned even empty = record { done = []; is = refl; even = even; turns = empty ∙ nothing_turned 0 columns }
 
 pub length-turned : (columns : ℕ) (all rest turned : List (List (List ℕ))) → Transposes columns all rest turned → length turned ≡ columns
-length-turned columns all rest turned h = rw h.turns (length-transposed columns h.done)
+length-turned columns all rest turned h = rw h.turns (length-columns_as_rows columns h.done)
 
 -- the text that is taken out of the next row belongs to the column
 pub column_taken : (rows : List (Vec (String Global))) (column : List (String Global)) (i j : ℕ) (row : Vec (String Global)) (cell : String Global) → i < length rows → string_bytes cell ≡ get_or (map string_bytes (get_or rows i row).items) j [] →
@@ -89,10 +89,10 @@ read_from d whole a [] here = refl
 read_from d whole a (x ∷ xs) here = ap₂ (λ y ys. y ∷ ys) (sym (first_left whole a d) ∙ ap (λ ys. get_or ys 0 d) here) (read_from d whole (a + 1) xs (sym (drop-drop 1 a whole) ∙ ap (drop 1) here))
 
 -- turned twice, rows are as they were
-pub transposed-transposed : (n : ℕ) (rows : List (List (List ℕ))) → AreRecords n rows → transposed (length rows) (transposed n rows) ≡ rows
-transposed-transposed n rows even = same_on_range (column_of (transposed n rows)) (λ i. get_or rows i []) 0 (length rows) row_back ∙ read_from [] rows 0 rows refl
+pub columns_as_rows-columns_as_rows : (n : ℕ) (rows : List (List (List ℕ))) → AreRecords n rows → columns_as_rows (length rows) (columns_as_rows n rows) ≡ rows
+columns_as_rows-columns_as_rows n rows even = same_on_range (column_of (columns_as_rows n rows)) (λ i. get_or rows i []) 0 (length rows) row_back ∙ read_from [] rows 0 rows refl
   where
-    row_back : (i : ℕ) → 0 ≤ i → i < 0 + length rows → column_of (transposed n rows) i ≡ get_or rows i []
+    row_back : (i : ℕ) → 0 ≤ i → i < 0 + length rows → column_of (columns_as_rows n rows) i ≡ get_or rows i []
     row_back i from below =
         let within : i < length rows = omega arith in
         let wide : length (get_or rows i []) ≡ n = All-from_recursion (λ row. length row ≡ n) rows even i [] within in

@@ -47,8 +47,8 @@ abbrev pub with_items_at : ℕ → List ℕ → List (List (List ℕ)) → List 
 with_items_at j empty rows items = with_items j rows (padded_to (length rows) empty items)
 
 -- a column inserted before column j, without its surplus items
-abbrev pub with_column : Builder → ℕ → List (List ℕ) → Builder
-with_column b j items = record b { columns = b.columns + 1; rows = with_items_at j b.empty b.rows (take (length b.rows) items) }
+abbrev pub builder_with_column : Builder → ℕ → List (List ℕ) → Builder
+builder_with_column b j items = record b { columns = b.columns + 1; rows = with_items_at j b.empty b.rows (take (length b.rows) items) }
 
 -- a column after the others, where each surplus item makes a row
 abbrev pub with_last_column : Builder → List (List ℕ) → Builder
@@ -61,16 +61,16 @@ abbrev pub without_record : Builder → ℕ → Builder
 without_record b i = record b { rows = remove b.rows i }
 
 -- the builder without column j
-abbrev pub without_column : Builder → ℕ → Builder
-without_column b j = record b { columns = b.columns - 1; rows = map (λ (row : List (List ℕ)). remove row j) b.rows }
+abbrev pub builder_without_column : Builder → ℕ → Builder
+builder_without_column b j = record b { columns = b.columns - 1; rows = map (λ (row : List (List ℕ)). remove row j) b.rows }
 
 -- a text without bytes
 abbrev pub is_empty_text : List ℕ → Bool
 is_empty_text text = length text == 0
 
 -- a row with a text
-abbrev pub has_text : List (List ℕ) → Bool
-has_text row = not (list_all is_empty_text row)
+abbrev pub row_has_text : List (List ℕ) → Bool
+row_has_text row = not (list_all is_empty_text row)
 
 -- some row has a text in column j
 abbrev pub has_text_in : List (List (List ℕ)) → ℕ → Bool
@@ -85,11 +85,11 @@ abbrev pub cleaned : Builder → Builder
 cleaned b =
     let kept = columns_with_text b in
     let rows = map (λ (row : List (List ℕ)). map (λ j. slice_index_or row j []) kept) b.rows in
-    record b { columns = length kept; rows = filter has_text rows }
+    record b { columns = length kept; rows = filter row_has_text rows }
 
 -- each row and each column has a text
 pub record IsClean (b : Builder) : Type 0 where
-  pub rows : AllByRecursion (λ row. has_text row ≡ true) b.rows
+  pub rows : AllByRecursion (λ row. row_has_text row ≡ true) b.rows
   pub columns : (j : ℕ) → j < b.columns → has_text_in b.rows j ≡ true
 
 -- no rows and no columns

@@ -5,14 +5,14 @@ use Rattle.std.specs.Fmt.{decimal}
 use Rattle.tabled_grid.specs.Grid.{width_of}
 use Rattle.tabled_table.specs.Builder.{AreRecords, Builder, padded_to, with_items}
 
--- the header, the index, the body, the index's name, and whether the index is shown and the table turned
+-- the header, the index, the body, the index's name, and whether the index is shown and the table transposed
 pub record Indexed : Type 0 where
   pub header : List (List ℕ)
   pub index : List (List ℕ)
   pub body : List (List (List ℕ))
   pub name : Option (List ℕ)
   pub shown : Bool
-  pub turned : Bool
+  pub is_transposed : Bool
 
 -- the body has a row for each text of the index, and in it a text for each one of the header
 pub record IsIndexed (x : Indexed) : Type 0 where
@@ -26,15 +26,15 @@ numbers n = map decimal (range_with_len 0 n)
 -- the first row as the header, the others as the body, and their numbers as the index
 abbrev pub indexed_rows : List (List (List ℕ)) → Option Indexed
 indexed_rows [] = None
-indexed_rows (header ∷ body) = Some (record { header = header; index = numbers (length body); body = body; name = None; shown = true; turned = false })
+indexed_rows (header ∷ body) = Some (record { header = header; index = numbers (length body); body = body; name = None; shown = true; is_transposed = false })
 
 -- column j of rows
 abbrev pub column_of : List (List (List ℕ)) → ℕ → List (List ℕ)
 column_of rows j = map (λ row. slice_index_or row j []) rows
 
 -- rows of n columns with their columns as rows
-abbrev pub transposed : ℕ → List (List (List ℕ)) → List (List (List ℕ))
-transposed columns rows = map (column_of rows) (range_with_len 0 columns)
+abbrev pub columns_as_rows : ℕ → List (List (List ℕ)) → List (List (List ℕ))
+columns_as_rows columns rows = map (column_of rows) (range_with_len 0 columns)
 
 -- column c as the index, and its header as the name
 abbrev pub with_column_as_index : ℕ → Indexed → Indexed
@@ -44,29 +44,29 @@ with_column_as_index c x = record x { header = remove x.header c; index = column
 abbrev pub with_column_as_index_if_there : ℕ → Indexed → Indexed
 with_column_as_index_if_there c x = if nat_lt c (length x.header) then with_column_as_index c x else x
 
--- header and index swapped, and the body turned with them
-abbrev pub turned_over : Indexed → Indexed
-turned_over x = record x { header = x.index; index = x.header; body = transposed (length x.header) x.body; turned = not x.turned }
+-- header and index swapped, and the body transposed with them
+abbrev pub transposed_index : Indexed → Indexed
+transposed_index x = record x { header = x.index; index = x.header; body = columns_as_rows (length x.header) x.body; is_transposed = not x.is_transposed }
 
 -- the header and the body, where the index is shown with its texts first in their rows
 abbrev pub with_index : Indexed → List (List (List ℕ))
 with_index x = if x.shown then with_items 0 (x.header ∷ x.body) ([] ∷ x.index) else x.header ∷ x.body
 
 -- rows with a name in the first cell, or first in a row of its own below the header; without cells it is left out
-abbrev pub with_name : Bool → List ℕ → List (List (List ℕ)) → List (List (List ℕ))
-with_name in_header name [] = []
-with_name in_header name ([] ∷ rows) = [] ∷ rows
-with_name true name ((first ∷ header) ∷ rows) = (name ∷ header) ∷ rows
-with_name false name ((first ∷ header) ∷ rows) = (first ∷ header) ∷ padded_to (length header + 1) [] (name ∷ []) ∷ rows
+abbrev pub with_index_name : Bool → List ℕ → List (List (List ℕ)) → List (List (List ℕ))
+with_index_name in_header name [] = []
+with_index_name in_header name ([] ∷ rows) = [] ∷ rows
+with_index_name true name ((first ∷ header) ∷ rows) = (name ∷ header) ∷ rows
+with_index_name false name ((first ∷ header) ∷ rows) = (first ∷ header) ∷ padded_to (length header + 1) [] (name ∷ []) ∷ rows
 
 -- rows with a name, if there is one
 abbrev pub with_name_if : Bool → Option (List ℕ) → List (List (List ℕ)) → List (List (List ℕ))
 with_name_if in_header None rows = rows
-with_name_if in_header (Some name) rows = with_name in_header name rows
+with_name_if in_header (Some name) rows = with_index_name in_header name rows
 
--- the rows of the table that is built: a turned table has the name in its header, if its index is shown
-abbrev pub rows_of : Indexed → List (List (List ℕ))
-rows_of x = with_name_if (x.shown && x.turned) x.name (with_index x)
+-- the rows of the table that is built: a transposed one has the name in its header, if its index is shown
+abbrev pub built_rows : Indexed → List (List (List ℕ))
+built_rows x = with_name_if (x.shown && x.is_transposed) x.name (with_index x)
 
 -- no header, no index and no name
 abbrev pub is_bare : Indexed → Bool
@@ -79,7 +79,7 @@ is_bare x = is_nothing x.header x.index x.name
 -- a builder of rows, and of none where there is nothing to build
 abbrev pub builder_of : Option Indexed → Builder
 builder_of None = record { columns = 0; rows = []; empty = [] }
-builder_of (Some x) = of_rows (if is_bare x then [] else rows_of x)
+builder_of (Some x) = of_rows (if is_bare x then [] else built_rows x)
   where
     of_rows : List (List (List ℕ)) → Builder
     of_rows rows = record { columns = width_of rows; rows = rows; empty = [] }

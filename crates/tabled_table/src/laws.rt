@@ -2,7 +2,7 @@
 
 ghost use Rattle.std.specs.Prelude.{◌≡◌, option_map};
 ghost use Rattle.tabled_table.specs.Builder.{IsClean, cleaned};
-ghost use Rattle.tabled_table.specs.Index.{turned_over};
+ghost use Rattle.tabled_table.specs.Index.{transposed_index};
 
 use crate::builder::{Builder, IndexBuilder};
 pub use tabled_options::laws::{combined_either_way, combined_names_both};
@@ -19,7 +19,7 @@ pub fn cleaned_is_clean(_builder: &Builder)
 
 /// An index builder that is transposed twice is as it was.
 pub fn transposed_twice_is_as_it_was(builder: &IndexBuilder)
-    ensures { option_map turned_over (option_map turned_over builder.now) ≡ builder.now }
+    ensures { option_map transposed_index (option_map transposed_index builder.now) ≡ builder.now }
 {
     builder.keeps_its_shape();
 }

@@ -6,7 +6,7 @@ ghost use Rattle.std.specs.List.{All, count_by, filter, range_with_len, remove};
 ghost use Rattle.std.specs.String.{string_bytes};
 ghost use Rattle.tabled_table.specs.Builder.{AreRecords, has_text_in, is_empty_text, row_texts, with_items, with_items_behind};
 ghost use Rattle.tabled_table.specs.Gathering.{brought_forward};
-ghost use Rattle.tabled_table.specs.Index.{column_of, transposed as turned_rows};
+ghost use Rattle.tabled_table.specs.Index.{column_of, columns_as_rows};
 
 use std::alloc::{AllocError, Global};
 use tabled_grid::records::Text;
@@ -165,11 +165,11 @@ pub(super) fn transposed(
     columns: usize,
 ) -> Result<Vec<Vec<Text<String>>>, AllocError>
     requires { AreRecords columns (row_texts rows.items) }
-    ensures { IfOk result (λ turned. row_texts turned.items ≡ turned_rows columns (row_texts rows.items)) }
+    ensures { IfOk result (λ all. row_texts all.items ≡ columns_as_rows columns (row_texts rows.items)) }
 {
-    let mut turned = empty_rows(alloc, columns, rows.len())?;
+    let mut all = empty_rows(alloc, columns, rows.len())?;
     for row in rows {
-        push_items(&mut turned, row)?;
+        push_items(&mut all, row)?;
     }
-    Ok(turned)
+    Ok(all)
 }

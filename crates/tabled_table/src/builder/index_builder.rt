@@ -11,7 +11,7 @@ use tabled_grid::records::Text;
 ///
 /// The header is the first record. The index is the numbers of the other records from 0 on, until a
 /// column is taken for it. A contract sees the header, the index, the body, the name of the index,
-/// and whether the index is shown and the table turned; or nothing, where there were no records.
+/// and whether the index is shown and the table transposed; or nothing, where there were no records.
 ///
 /// Of the records `h1 h2`, `a b`, `c d` it builds, with `.` for an empty text,
 ///
@@ -42,7 +42,7 @@ impl IndexBuilder {
     ghost use Rattle.std.specs.String.{string_bytes};
     ghost use Rattle.tabled_grid.specs.Grid.{map_grid, width_of};
     ghost use Rattle.tabled_table.specs.Builder.{AreRecords, row_texts, table_of};
-    ghost use Rattle.tabled_table.specs.Index.{Indexed as Parts, IsIndexed, builder_of, indexed_rows, is_bare, turned_over, with_column_as_index_if_there};
+    ghost use Rattle.tabled_table.specs.Index.{Indexed as Parts, IsIndexed, builder_of, indexed_rows, is_bare, transposed_index, with_column_as_index_if_there};
 
     /// The records of a builder, of which the first is the header, with their numbers as the index.
     ///
@@ -87,7 +87,7 @@ impl IndexBuilder {
     }
 
     /// Gives the index a name, or none. The name stands first in a row of its own below the header,
-    /// or in the first cell of a table that is turned and shows its index. `name(Some("n"))` makes it
+    /// or in the first cell of a table that is transposed and shows its index. `name(Some("n"))` makes it
     ///
     /// ```text
     /// . h1 h2
@@ -132,7 +132,7 @@ impl IndexBuilder {
         Ok(IndexBuilder { indexed })
     }
 
-    /// Swaps the header and the index, and turns the body with them. Of the table above this is
+    /// Swaps the header and the index, and transposes the body. Of the table above this is
     ///
     /// ```text
     /// .  0 1
@@ -144,13 +144,13 @@ impl IndexBuilder {
     ///
     /// Ported from `tabled::builder::IndexBuilder::transpose`.
     pub fn transpose(self, alloc: Global) -> Result<Self, AllocError>
-        ensures ok { IfOk result (λ x. x ≡ option_map turned_over self) }
+        ensures ok { IfOk result (λ x. x ≡ option_map transposed_index self) }
         ensures promised { self ≡ None → IsOk result }
     {
         match self.indexed {
             None => Ok(IndexBuilder { indexed: None }),
             Some(indexed) => Ok(IndexBuilder {
-                indexed: Some(indexed.turn_over(alloc)?),
+                indexed: Some(indexed.transpose(alloc)?),
             }),
         }
     }

@@ -3,7 +3,7 @@
 ghost use Rattle.std.specs.Prelude.{◌≡◌, [], ◌∷◌, IfOk, map, vec_len};
 ghost use Rattle.std.specs.String.{string_bytes};
 ghost use Rattle.tabled_table.specs.Builder.{row_texts, with_items};
-ghost use Rattle.tabled_table.specs.Index.{numbers, with_name};
+ghost use Rattle.tabled_table.specs.Index.{numbers, with_index_name};
 
 use crate::builder::{columns, rows};
 use std::alloc::{AllocError, Global};
@@ -18,7 +18,7 @@ pub(super) struct Indexed {
     body: Vec<Vec<Text<String>>>,
     name: Option<Text<String>>,
     is_shown: bool,
-    is_turned: bool,
+    is_transposed: bool,
 }
 
 impl Model for Indexed {
@@ -29,9 +29,9 @@ impl Model for Indexed {
 
     ghost Value = { Indexed };
 
-    ghost view = { λ a. record { header = map string_bytes a.header.items; index = map string_bytes a.index.items; body = row_texts a.body.items; name = option_map string_bytes a.name; shown = a.is_shown; turned = a.is_turned } };
+    ghost view = { λ a. record { header = map string_bytes a.header.items; index = map string_bytes a.index.items; body = row_texts a.body.items; name = option_map string_bytes a.name; shown = a.is_shown; is_transposed = a.is_transposed } };
 
-    ghost invariant = { λ a. IsIndexed (record { header = map string_bytes a.header.items; index = map string_bytes a.index.items; body = row_texts a.body.items; name = option_map string_bytes a.name; shown = a.is_shown; turned = a.is_turned }) };
+    ghost invariant = { λ a. IsIndexed (record { header = map string_bytes a.header.items; index = map string_bytes a.index.items; body = row_texts a.body.items; name = option_map string_bytes a.name; shown = a.is_shown; is_transposed = a.is_transposed }) };
 }
 
 impl Indexed {
@@ -39,7 +39,7 @@ impl Indexed {
     ghost use Rattle.std.specs.String.{string_bytes};
     ghost use Rattle.tabled_grid.specs.Grid.{width_of};
     ghost use Rattle.tabled_table.specs.Builder.{AreRecords, row_texts};
-    ghost use Rattle.tabled_table.specs.Index.{IsIndexed, is_bare as has_nothing, numbers, rows_of, turned_over, with_column_as_index};
+    ghost use Rattle.tabled_table.specs.Index.{IsIndexed, built_rows, is_bare as has_nothing, numbers, transposed_index, with_column_as_index};
 
     /// A header and a body with the numbers of its rows as the index.
     pub(super) fn new(
@@ -48,7 +48,7 @@ impl Indexed {
         body: Vec<Vec<Text<String>>>,
     ) -> Result<Self, AllocError>
         requires { AreRecords (vec_len header) (row_texts body.items) }
-        ensures { IfOk result (λ x. x ≡ record { header = map string_bytes header.items; index = numbers (vec_len body); body = row_texts body.items; name = None; shown = true; turned = false }) }
+        ensures { IfOk result (λ x. x ≡ record { header = map string_bytes header.items; index = numbers (vec_len body); body = row_texts body.items; name = None; shown = true; is_transposed = false }) }
     {
         let index = numbers_below(alloc, body.len())?;
         Ok(Indexed {
@@ -57,7 +57,7 @@ impl Indexed {
             body,
             name: None,
             is_shown: true,
-            is_turned: false,
+            is_transposed: false,
         })
     }
 
@@ -90,7 +90,7 @@ impl Indexed {
             mut body,
             name: _,
             is_shown,
-            is_turned,
+            is_transposed,
         } = self;
         let index = columns::take_column(alloc, &mut body, column)?;
         let name = Some(header.remove(column));
@@ -100,13 +100,13 @@ impl Indexed {
             body,
             name,
             is_shown,
-            is_turned,
+            is_transposed,
         })
     }
 
-    /// Swaps header and index, and turns the body with them.
-    pub(super) fn turn_over(self, alloc: Global) -> Result<Self, AllocError>
-        ensures { IfOk result (λ x. x ≡ turned_over self) }
+    /// Swaps header and index, and transposes the body.
+    pub(super) fn transpose(self, alloc: Global) -> Result<Self, AllocError>
+        ensures { IfOk result (λ x. x ≡ transposed_index self) }
     {
         let Indexed {
             header,
@@ -114,7 +114,7 @@ impl Indexed {
             body,
             name,
             is_shown,
-            is_turned,
+            is_transposed,
         } = self;
         let body = columns::transposed(alloc, body, header.len())?;
         Ok(Indexed {
@@ -123,7 +123,7 @@ impl Indexed {
             body,
             name,
             is_shown,
-            is_turned: !is_turned,
+            is_transposed: !is_transposed,
         })
     }
 
@@ -136,7 +136,7 @@ impl Indexed {
 
     /// The rows of the table: the header and the body, with the index and its name.
     pub(super) fn into_rows(self, alloc: Global) -> Result<Vec<Vec<Text<String>>>, AllocError>
-        ensures rows { IfOk result (λ rows. row_texts rows.items ≡ rows_of self) }
+        ensures rows { IfOk result (λ rows. row_texts rows.items ≡ built_rows self) }
         ensures even { IfOk result (λ rows. AreRecords (width_of (row_texts rows.items)) (row_texts rows.items)) }
     {
         let Indexed {
@@ -145,7 +145,7 @@ impl Indexed {
             body,
             name,
             is_shown,
-            is_turned,
+            is_transposed,
         } = self;
         let rows = if is_shown {
             rows_with_index(alloc, header, index, body)?
@@ -154,7 +154,7 @@ impl Indexed {
         };
         match name {
             None => Ok(rows),
-            Some(name) => rows_with_name(alloc, rows, name, is_shown && is_turned),
+            Some(name) => rows_with_name(alloc, rows, name, is_shown && is_transposed),
         }
     }
 
@@ -203,7 +203,7 @@ fn rows_with_name(
     name: Text<String>,
     in_header: bool,
 ) -> Result<Vec<Vec<Text<String>>>, AllocError>
-    ensures { IfOk result (λ named. row_texts named.items ≡ with_name in_header (string_bytes name) (row_texts rows.items)) }
+    ensures { IfOk result (λ named. row_texts named.items ≡ with_index_name in_header (string_bytes name) (row_texts rows.items)) }
 {
     let mut rows = rows;
     let columns = rows::width(&rows);

@@ -4,7 +4,7 @@ ghost use Rattle.std.specs.Prelude.{◌≡◌, ℕ, ◌<◌, ◌≤◌, ◌++◌
 ghost use Rattle.std.specs.List.{filter, insert};
 ghost use Rattle.std.specs.String.{string_bytes};
 ghost use Rattle.tabled_grid.specs.Grid.{width_of};
-ghost use Rattle.tabled_table.specs.Builder.{AreRecords, has_text as row_has_text, longest as longest_of, padded_to, row_texts, with_items};
+ghost use Rattle.tabled_table.specs.Builder.{AreRecords, longest as longest_of, padded_to, row_has_text, row_texts, with_items};
 ghost use Rattle.tabled_table.specs.Given.{GaveTexts, MayBeAsked};
 
 use crate::builder::columns::insert_items;

@@ -32,7 +32,7 @@ impl Builder {
     ghost use Rattle.std.specs.FinMap as map;
     ghost use Rattle.std.specs.Prelude.{◌≡◌, ◌<◌, ◌≤◌, [], IfOk, IsOk, OnOk, OnErr, length};
     ghost use Rattle.std.specs.String.{string_bytes};
-    ghost use Rattle.tabled_table.specs.Builder.{AreRecords, cleaned, cleared, from_uneven, row_texts, table_of, with_column, with_last_column, with_record, without_column, without_record};
+    ghost use Rattle.tabled_table.specs.Builder.{AreRecords, builder_with_column, builder_without_column, cleaned, cleared, from_uneven, row_texts, table_of, with_last_column, with_record, without_record};
     ghost use Rattle.tabled_grid.specs.Grid.{map_grid, width_of};
     ghost use Rattle.tabled_table.specs.Index.{indexed_rows};
     ghost use Rattle.tabled_table.specs.Given.{EachMayBeAsked, GaveRecords, GaveRows, GaveTexts, MayBeAsked};
@@ -333,7 +333,7 @@ impl Builder {
         R: IntoIterator<Item = String>,
         requires within { j ≤ self.old.columns }
         requires asked { MayBeAsked R.into_iter_gives R.IntoIter.can_next R.IntoIter.remaining texts }
-        ensures ok { OnOk result (GaveTexts R.into_iter_gives R.IntoIter.next_gives texts (λ given. self.new ≡ with_column self.old j given)) }
+        ensures ok { OnOk result (GaveTexts R.into_iter_gives R.IntoIter.next_gives texts (λ given. self.new ≡ builder_with_column self.old j given)) }
         ensures err { OnErr result (self.new ≡ self.old) }
     {
         let count = self.rows.len();
@@ -363,7 +363,7 @@ impl Builder {
     /// Ported from `tabled::builder::Builder::remove_column`.
     pub fn remove_column(&mut self, j: usize)
         requires { j < self.old.columns }
-        ensures { self.new ≡ without_column self.old j }
+        ensures { self.new ≡ builder_without_column self.old j }
     {
         remove_each(&mut self.rows, j);
         self.count_columns -= 1;

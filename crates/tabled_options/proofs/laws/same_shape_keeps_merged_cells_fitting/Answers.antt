@@ -2,4 +2,4 @@ use Rattle.tabled_options.proofs.Shapes.{fits_kept}
 use Rattle.tabled_options.proofs.laws.same_shape_keeps_merged_cells_fitting.Goals as goal
 
 pub returns : goal.returns
-returns g c = λ e done refused. fits_kept _ _ done refused
+returns g c = record { cells = λ e done refused. fits_kept _ _ done refused }

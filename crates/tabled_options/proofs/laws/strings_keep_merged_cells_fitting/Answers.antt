@@ -4,4 +4,4 @@ use Rattle.tabled_options.proofs.Shapes.{writes_keep}
 use Rattle.tabled_options.proofs.laws.strings_keep_merged_cells_fitting.Goals as goal
 
 pub returns : goal.returns
-returns g c = λ e. writes_keep g.R.Cell.CellText.text_of (text_writes (string_bytes c.args._text.now) e)
+returns g c = record { cells = λ e. writes_keep g.R.Cell.CellText.text_of (text_writes (string_bytes c.args._text.now) e) }
