@@ -92,25 +92,25 @@ module _ (m : SpanMap) (rows columns : ℕ) (fits : Fits m rows columns) where
 
       -- a merged cell that holds the place, and another before or above it, is shut out
       shut : (q : Position) → get m o.0 ≡ Some o.1 → In o p → In o q → holds (owner_in (entries m) q) p ≡ false → ⊥
-      shut q has holds also never =
+      shut q has inside also never =
           let is = owner-held o.0 o.1 q has also in
-          false≢true (sym never ∙ ap (λ (x : Rectangle). holds x p) is ∙ holds-from _ _ holds)
+          false≢true (sym never ∙ ap (λ (x : Rectangle). holds x p) is ∙ holds-from _ _ inside)
 
       left : get m o.0 ≡ Some o.1 → In o p → o.0.col < j → ⊥
-      left has holds less = shut (place i (j - 1)) has holds (record { top = holds.top; bottom = holds.bottom; left = omega arith; right = omega (arith, holds.right) }) (begins.before (j - 1) (omega arith))
+      left has inside less = shut (place i (j - 1)) has inside (record { top = inside.top; bottom = inside.bottom; left = omega arith; right = omega (arith, inside.right) }) (begins.before (j - 1) (omega arith))
 
       up : get m o.0 ≡ Some o.1 → In o p → o.0.row < i → ⊥
-      up has holds less = shut (place (i - 1) j) has holds (record { top = omega arith; bottom = omega (arith, holds.bottom); left = holds.left; right = holds.right }) (begins.above (i - 1) (omega arith))
+      up has inside less = shut (place (i - 1) j) has inside (record { top = omega arith; bottom = omega (arith, inside.bottom); left = inside.left; right = inside.right }) (begins.above (i - 1) (omega arith))
 
       by_place : get m o.0 ≡ Some o.1 → In o p → (o.0 ≡ p) ⊎ (o.0 ≢ p) → o ≡ (p, size_at m p)
-      by_place has holds (inl e) = ap₂ (λ x y. (x, y)) e (sym (size_at-some m p o.1 (ap (get m) (sym e) ∙ has)))
-      by_place has holds (inr apart) = absurd (apart (ap₂ place (omega (arith, row)) (omega (arith, col))))
+      by_place has inside (inl e) = ap₂ (λ x y. (x, y)) e (sym (size_at-some m p o.1 (ap (get m) (sym e) ∙ has)))
+      by_place has inside (inr apart) = absurd (apart (ap₂ place (omega (arith, row)) (omega (arith, col))))
         where
           row : o.0.row ≡ i
-          row = omega (arith, up has holds, holds.top)
+          row = omega (arith, up has inside, inside.top)
 
           col : o.0.col ≡ j
-          col = omega (arith, left has holds, holds.left)
+          col = omega (arith, left has inside, inside.left)
 
       by_size : o ≡ (p, sized 1 1) → ((a : Position) (s : Size) → get m a ≡ Some s → In (a, s) p → ⊥) → At m p → o ≡ (p, size_at m p)
       by_size is never (none e) = is ∙ ap (λ s. (p, s)) (sym (size_at-none m p e))
@@ -119,7 +119,7 @@ module _ (m : SpanMap) (rows columns : ℕ) (fits : Fits m rows columns) where
           absurd (never p size e (record { top = omega arith; bottom = omega (arith, sizes.height); left = omega arith; right = omega (arith, sizes.width) }))
 
       by : Owned m p o → o ≡ (p, size_at m p)
-      by (held has holds) = by_place has holds (cases_place o.0 p)
+      by (held has inside) = by_place has inside (cases_place o.0 p)
       by (alone is never) = by_size is never (at m p)
 
 -- ---- owners with rows and columns that count from 1
@@ -184,20 +184,20 @@ owner-right rows columns m i j h = by (owner rows columns (entries m) i j) refl
 
 module _ (m : SpanMap) (rows columns : ℕ) (fits : Fits m rows columns) (p : Position) where
   pub before-holds : (o : Rectangle) → owner rows columns (entries m) (p.row + 1) p.col ≡ Some o → holds o p ≡ true → o ≡ owner_in (entries m) p
-  before-holds o e holds =
+  before-holds o e inside =
       let s = owner-some rows columns m (p.row + 1) p.col o e in
       let q : place s.row s.col ≡ place p.row s.col = ap₂ place (omega (arith, s.is_row)) refl in
       let is : o ≡ owner_in (entries m) (place p.row s.col) = s.is ∙ ap (owner_in (entries m)) q in
       let at : p ≡ place p.row (s.col + 1) = ap₂ place refl s.is_col in
-      is ∙ sym (owner-before m rows columns fits p.row s.col (sym (ap₂ (λ (x : Rectangle) y. holds x y) is at) ∙ holds)) ∙ ap (owner_in (entries m)) (sym at)
+      is ∙ sym (owner-before m rows columns fits p.row s.col (sym (ap₂ (λ (x : Rectangle) y. holds x y) is at) ∙ inside)) ∙ ap (owner_in (entries m)) (sym at)
 
   pub above-holds : (o : Rectangle) → owner rows columns (entries m) p.row (p.col + 1) ≡ Some o → holds o p ≡ true → o ≡ owner_in (entries m) p
-  above-holds o e holds =
+  above-holds o e inside =
       let s = owner-some rows columns m p.row (p.col + 1) o e in
       let q : place s.row s.col ≡ place s.row p.col = ap₂ place refl (omega (arith, s.is_col)) in
       let is : o ≡ owner_in (entries m) (place s.row p.col) = s.is ∙ ap (owner_in (entries m)) q in
       let at : p ≡ place (s.row + 1) p.col = ap₂ place s.is_row refl in
-      is ∙ sym (owner-above m rows columns fits s.row p.col (sym (ap₂ (λ (x : Rectangle) y. holds x y) is at) ∙ holds)) ∙ ap (owner_in (entries m)) (sym at)
+      is ∙ sym (owner-above m rows columns fits s.row p.col (sym (ap₂ (λ (x : Rectangle) y. holds x y) is at) ∙ inside)) ∙ ap (owner_in (entries m)) (sym at)
 
   pub neither-holds : p.row < rows → p.col < columns
       → ((o : Rectangle) → owner rows columns (entries m) (p.row + 1) p.col ≡ Some o → holds o p ≡ false)
