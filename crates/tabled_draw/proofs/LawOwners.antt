@@ -71,7 +71,7 @@ module _ (rows columns : ℕ) (es : List Rectangle) (well : LieWell rows columns
       by (held m h) (alone is never) = absurd (never _ m inside)
       by (alone is never) other =
           let P : Rectangle → Type 0 = λ x. In x q in
-          let here : In (p, 1, 1) q = subst P is inside in
+          let here : In (p, sized 1 1) q = subst P is inside in
           ap (owner_in es) (ap₂ place (omega (arith, here.top, here.bottom)) (omega (arith, here.left, here.right)))
 
   -- what begins in one place is one owner

@@ -10,7 +10,7 @@ use Rattle.tabled_language.specs.declared.fault.Fault.{Fault}
 use Rattle.tabled_language.specs.declared.fault.Fault.TheVariants as fault
 use Rattle.tabled_language.specs.Output.{print}
 use Rattle.tabled_language.proofs.BackToAnchors.{sorted_map}
-use Rattle.tabled_grid.specs.Spans.{Rectangle, position_cmp}
+use Rattle.tabled_grid.specs.Spans.{Rectangle, position_cmp, sized}
 
 -- a shape without columns, and one of nothing
 no_columns : parse (codes "shape\t2\t0\nrow\nrow\n") ≡ Ok (record { records = [] ∷ [] ∷ []; spans = from_entries []; steps = [] })
@@ -53,7 +53,7 @@ unfolding is_utf8 chars lib.Utf8.encode
 shape_behind_row = refl
 
 -- merged cells
-spanned : parse (codes "row\ta\tb\nspan\t0\t0\t1\t2\n") ≡ Ok (record { records = (codes "a" ∷ codes "b" ∷ []) ∷ []; spans = from_entries ((place 0 0, (1, 2)) ∷ []); steps = [] })
+spanned : parse (codes "row\ta\tb\nspan\t0\t0\t1\t2\n") ≡ Ok (record { records = (codes "a" ∷ codes "b" ∷ []) ∷ []; spans = from_entries ((place 0 0, sized 1 2) ∷ []); steps = [] })
 unfolding is_utf8 chars lib.Utf8.encode
 spanned = refl
 
@@ -119,7 +119,7 @@ rows =
     ∷ []
 
 anchors : List Rectangle
-anchors = (place 0 0, (1, 4)) ∷ (place 1 1, (3, 1)) ∷ []
+anchors = (place 0 0, sized 1 4) ∷ (place 1 1, sized 3 1) ∷ []
 
 table_read : parse printed ≡ Ok (record { records = rows; spans = from_entries anchors; steps = [] })
 unfolding is_utf8 chars lib.Utf8.encode printed rows anchors
@@ -135,16 +135,16 @@ unfolding digits printed rows anchors
 table_again = rw anchors_entries refl
 
 -- another one
-blank_cell : parse (codes "shape\t2\t2\nrow\ta\tx\nrow\tc\t\nspan\t1\t0\t1\t2\n") ≡ Ok (record { records = (codes "a" ∷ codes "x" ∷ []) ∷ (codes "c" ∷ [] ∷ []) ∷ []; spans = from_entries ((place 1 0, (1, 2)) ∷ []); steps = [] })
+blank_cell : parse (codes "shape\t2\t2\nrow\ta\tx\nrow\tc\t\nspan\t1\t0\t1\t2\n") ≡ Ok (record { records = (codes "a" ∷ codes "x" ∷ []) ∷ (codes "c" ∷ [] ∷ []) ∷ []; spans = from_entries ((place 1 0, sized 1 2) ∷ []); steps = [] })
 unfolding is_utf8 chars lib.Utf8.encode
 blank_cell = refl
 
 abbrev blank_cell_anchors : List Rectangle
-blank_cell_anchors = (place 1 0, (1, 2)) ∷ []
+blank_cell_anchors = (place 1 0, sized 1 2) ∷ []
 
 blank_cell_entries : entries (from_entries {R = position_cmp} blank_cell_anchors) ≡ blank_cell_anchors
 blank_cell_entries = ap entries (sorted_map blank_cell_anchors tt) ∙ entries-from_sorted position_cmp blank_cell_anchors tt
 
-blank_cell_again : print (start (record { records = (codes "a" ∷ codes "x" ∷ []) ∷ (codes "c" ∷ [] ∷ []) ∷ []; spans = from_entries ((place 1 0, (1, 2)) ∷ []); steps = [] })) ≡ codes "shape\t2\t2\nrow\ta\tx\nrow\tc\t\nspan\t1\t0\t1\t2\n"
+blank_cell_again : print (start (record { records = (codes "a" ∷ codes "x" ∷ []) ∷ (codes "c" ∷ [] ∷ []) ∷ []; spans = from_entries ((place 1 0, sized 1 2) ∷ []); steps = [] })) ≡ codes "shape\t2\t2\nrow\ta\tx\nrow\tc\t\nspan\t1\t0\t1\t2\n"
 unfolding digits
 blank_cell_again = rw blank_cell_entries refl
