@@ -3,7 +3,7 @@
 ghost use Rattle.std.specs.Prelude.{◌≡◌, ◌+◌, ◌≤◌, [], IfOk, OnErr, OnOk, max};
 ghost use Rattle.std.specs.Option.{option_copied};
 ghost use Rattle.std.specs.String.{string_bytes};
-ghost use Rattle.tabled_grid.specs.Grid.{IsEmptyWithoutRows, IsEven, map_grid};
+ghost use Rattle.tabled_grid.specs.Grid.{map_grid};
 ghost use Rattle.tabled_grid.specs.declared.records.axis.Axis.TheVariants.{Columns, Rows};
 ghost use Rattle.tabled_images.specs.Images.{carried};
 ghost use Rattle.tabled_options.specs.Does.{Same};
@@ -176,11 +176,10 @@ impl Growth {
         corner: Position,
         second: &VecRecords<Text<String>>,
     ) -> Result<Self, AllocError>
-        ensures rowless { IsEmptyWithoutRows second.now }
         ensures rows { IfOk result (λ g. g.rows ≡ rows) }
         ensures columns { IfOk result (λ g. g.columns ≡ columns) }
-        ensures tall { IfOk result (λ g. g.new_rows ≡ max rows (corner.row + second.now.rows)) }
-        ensures wide { IfOk result (λ g. g.new_columns ≡ max columns (corner.col + second.now.columns)) }
+        ensures tall { IfOk result (λ g. g.new_rows ≡ max rows (corner.row + second.now.grid.rows)) }
+        ensures wide { IfOk result (λ g. g.new_columns ≡ max columns (corner.col + second.now.grid.columns)) }
     {
         let bottom = corner
             .row
@@ -212,16 +211,14 @@ where
     R: Records + ExactRecords + Resizable + RecordsMut<String>,
     R::Cell: CellText,
     requires well { R.is_well_formed records.old }
-    requires even { IsEven (R.grid records.old) }
     requires rows { growth.now.rows ≡ (R.grid records.old).rows }
     requires columns { growth.now.columns ≡ (R.grid records.old).columns }
-    requires tall { growth.now.new_rows ≡ max growth.now.rows (corner.row + second.now.rows) }
-    requires wide { growth.now.new_columns ≡ max growth.now.columns (corner.col + second.now.columns) }
+    requires tall { growth.now.new_rows ≡ max growth.now.rows (corner.row + second.now.grid.rows) }
+    requires wide { growth.now.new_columns ≡ max growth.now.columns (corner.col + second.now.grid.columns) }
     requires row { corner.row ≤ (R.grid records.old).rows }
     requires col { corner.col ≤ (R.grid records.old).columns }
-    requires rowless { IsEmptyWithoutRows second.now }
     ensures well { R.is_well_formed records.new }
-    ensures ok { OnOk result (JoinsAt R.Cell.is_blank R.Cell.text_of corner (map_grid string_bytes second.now) default.now (R.grid records.old) (R.grid records.new)) }
+    ensures ok { OnOk result (JoinsAt R.Cell.is_blank R.Cell.text_of corner (map_grid string_bytes second.now.grid) default.now (R.grid records.old) (R.grid records.new)) }
     ensures err { OnErr result (R.grid records.new ≡ R.grid records.old) }
 {
     grow(alloc, records, growth.new_rows, growth.new_columns)?;
@@ -249,9 +246,8 @@ where
     requires well { R.is_well_formed records.old }
     requires taller { (R.grid records.old).rows ≤ rows }
     requires wider { (R.grid records.old).columns ≤ columns }
-    requires rowless { IsEmptyWithoutRows (R.grid records.old) → rows ≡ 0 → columns ≡ 0 }
+    requires rowless { rows ≡ 0 → columns ≡ 0 }
     ensures well { R.is_well_formed records.new }
-    ensures rowless { IsEmptyWithoutRows (R.grid records.old) }
     ensures ok { OnOk result (GrowsTo R.Cell.is_blank rows columns (R.grid records.old) (R.grid records.new)) }
     ensures err { OnErr result (R.grid records.new ≡ R.grid records.old) }
 {
@@ -281,8 +277,8 @@ where
     requires well { R.is_well_formed records.old }
     requires wide { columns ≤ (R.grid records.old).columns }
     ensures well { R.is_well_formed records.new }
-    ensures kept { FillsTo R.Cell.text_of (text_put corner (map_grid string_bytes second.now) default.now) rows columns 0 0 (R.grid records.old) (R.grid records.new) }
-    ensures ok { OnOk result (FillsTo R.Cell.text_of (text_put corner (map_grid string_bytes second.now) default.now) rows columns ((R.grid records.old).rows) 0 (R.grid records.old) (R.grid records.new)) }
+    ensures kept { FillsTo R.Cell.text_of (text_put corner (map_grid string_bytes second.now.grid) default.now) rows columns 0 0 (R.grid records.old) (R.grid records.new) }
+    ensures ok { OnOk result (FillsTo R.Cell.text_of (text_put corner (map_grid string_bytes second.now.grid) default.now) rows columns ((R.grid records.old).rows) 0 (R.grid records.old) (R.grid records.new)) }
 {
     let count = records.count_columns();
     for i in 0..records.count_rows() {
@@ -308,7 +304,7 @@ fn text_at<'a>(
     row: usize,
     col: usize,
 ) -> Option<&'a str>
-    ensures { option_copied result ≡ text_put corner (map_grid string_bytes second.now) default.now row col }
+    ensures { option_copied result ≡ text_put corner (map_grid string_bytes second.now.grid) default.now row col }
 {
     if row < corner.row || col < corner.col {
         return Some(default);

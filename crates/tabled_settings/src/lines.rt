@@ -3,7 +3,6 @@
 ghost use Rattle.std.specs.Prelude.{◌≡◌, ◌<◌, ◌≤◌, ◌-◌, ℕ, length, min, slice_index};
 ghost use Rattle.std.specs.List.Sorted.{IsStrictlyIncreasing};
 ghost use Rattle.tabled_grid.specs.Along.{count_along};
-ghost use Rattle.tabled_grid.specs.Grid.{IsEven};
 ghost use Rattle.tabled_grid.specs.declared.records.axis.Axis.TheVariants.{Columns, Rows};
 ghost use Rattle.tabled_settings.specs.Lines.{DropsLines, KeepsLines, KeepsSome, ReversesLines, ThinsLines, is_marked};
 ghost use Rattle.tabled_settings.specs.Rearranged.{left_over};
@@ -18,7 +17,6 @@ where
     R: ExactRecords + Resizable,
     R::Cell: Blank,
     requires well { R.is_well_formed records.old }
-    requires even { IsEven (R.grid records.old) }
     requires order { start ≤ end }
     requires within { end ≤ count_along axis (R.grid records.old) }
     ensures well { R.is_well_formed records.new }
@@ -35,7 +33,6 @@ where
     R: Resizable,
     R::Cell: Blank,
     requires well { R.is_well_formed records.old }
-    requires even { IsEven (R.grid records.old) }
     requires order { start ≤ end }
     requires within { end ≤ (R.grid records.old).rows }
     ensures well { R.is_well_formed records.new }
@@ -52,7 +49,6 @@ where
     R: ExactRecords + Resizable,
     R::Cell: Blank,
     requires well { R.is_well_formed records.old }
-    requires even { IsEven (R.grid records.old) }
     requires order { start ≤ end }
     requires within { end ≤ (R.grid records.old).columns }
     ensures well { R.is_well_formed records.new }
@@ -90,7 +86,6 @@ where
     R: Records + ExactRecords + Resizable,
     R::Cell: Blank,
     requires well { R.is_well_formed records.old }
-    requires even { IsEven (R.grid records.old) }
     requires rising { IsStrictlyIncreasing kept.now }
     requires within { (k : ℕ) → k < length kept.now → slice_index kept.now k < count_along axis (R.grid records.old) }
     ensures well { R.is_well_formed records.new }
@@ -116,7 +111,6 @@ where
     R: Records + ExactRecords + Resizable,
     R::Cell: Blank,
     requires well { R.is_well_formed records.old }
-    requires even { IsEven (R.grid records.old) }
     requires many { length gone.now ≡ count_along axis (R.grid records.old) }
     ensures well { R.is_well_formed records.new }
     ensures dropped { DropsLines axis (is_marked gone.now) (R.grid records.old) (R.grid records.new) }
@@ -134,7 +128,6 @@ where
     R: Resizable,
     R::Cell: Blank,
     requires well { R.is_well_formed records.old }
-    requires even { IsEven (R.grid records.old) }
     requires many { length gone.now ≡ (R.grid records.old).rows }
     ensures well { R.is_well_formed records.new }
     ensures thins { ThinsLines Rows (is_marked gone.now) (length gone.now) result (R.grid records.old) (R.grid records.new) }
@@ -155,7 +148,6 @@ where
     R: ExactRecords + Resizable,
     R::Cell: Blank,
     requires well { R.is_well_formed records.old }
-    requires even { IsEven (R.grid records.old) }
     requires many { length gone.now ≡ (R.grid records.old).columns }
     ensures well { R.is_well_formed records.new }
     ensures thins { ThinsLines Columns (is_marked gone.now) (length gone.now) result (R.grid records.old) (R.grid records.new) }

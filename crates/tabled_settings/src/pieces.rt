@@ -4,7 +4,7 @@ ghost use Rattle.std.specs.Prelude.{◌≡◌, ◌*◌, ◌<◌, ◌≤◌, ℕ,
 ghost use Rattle.std.specs.Int.{div_ceil};
 ghost use Rattle.tabled_grid.specs.Along.{count_along};
 ghost use Rattle.tabled_grid.specs.Axis.{across, place_in};
-ghost use Rattle.tabled_grid.specs.Grid.{IsEven, map_grid};
+ghost use Rattle.tabled_grid.specs.Grid.{map_grid};
 ghost use Rattle.tabled_settings.specs.declared.split.Display.TheVariants.{Clean};
 ghost use Rattle.tabled_settings.specs.PiecePlaces.{kept_pieces};
 ghost use Rattle.tabled_settings.specs.Pieces.{stays_at, turned};
@@ -26,7 +26,6 @@ where
     R: Records + ExactRecords + PeekableRecords,
     R::Cell: CellText,
     requires well { R.is_well_formed records.now }
-    requires even { IsEven (R.grid records.now) }
     requires lines { cut.now.lines ≡ count_along cut.now.split.lines (R.grid records.now) }
     requires width { cut.now.width ≡ count_along (across cut.now.split.lines) (R.grid records.now) }
     requires clean { cut.now.split.display ≡ Clean }
@@ -47,7 +46,6 @@ where
     R: Records + ExactRecords + PeekableRecords,
     R::Cell: CellText,
     requires well { R.is_well_formed records.now }
-    requires even { IsEven (R.grid records.now) }
     requires lines { cut.now.lines ≡ count_along cut.now.split.lines (R.grid records.now) }
     requires width { cut.now.width ≡ count_along (across cut.now.split.lines) (R.grid records.now) }
     requires clean { cut.now.split.display ≡ Clean }

@@ -154,8 +154,6 @@ where
     ensures ok { OnOk result (ReadsThrough (rotated (turn_of reversed) ((R.grid records.old).rows) ((R.grid records.old).columns)) (R.grid records.old) (R.grid records.new)) }
     ensures err { OnErr result (R.grid records.new ≡ R.grid records.old) }
 {
-    // A count tells that the rows are equally long.
-    let _ = records.count_rows();
     records.transpose(alloc)?;
     let count = reversed.count(records);
     lines::reverse(reversed, records, 0, count);

@@ -10,7 +10,7 @@ invariant-loop-i g l =
     record {
       well : g.R.GridStore.is_well_formed l.records;
       count : l.count ≡ (grid l.fn.records).columns;
-      fills : FillsTo g.R.Cell.CellText.text_of (text_put l.corner (map_grid string_bytes l.second) l.default) l.rows l.columns l.i 0 (grid l.fn.records) (grid l.records);
+      fills : FillsTo g.R.Cell.CellText.text_of (text_put l.corner (map_grid string_bytes l.second.grid) l.default) l.rows l.columns l.i 0 (grid l.fn.records) (grid l.records);
     }
 
 abbrev pub invariant-loop-j : goal.invariant-loop-j
@@ -19,5 +19,5 @@ invariant-loop-j g l =
     record {
       well : g.R.GridStore.is_well_formed l.records;
       count : l.count ≡ (grid l.fn.records).columns;
-      fills : FillsTo g.R.Cell.CellText.text_of (text_put l.corner (map_grid string_bytes l.second) l.default) l.rows l.columns l.i l.j (grid l.fn.records) (grid l.records);
+      fills : FillsTo g.R.Cell.CellText.text_of (text_put l.corner (map_grid string_bytes l.second.grid) l.default) l.rows l.columns l.i l.j (grid l.fn.records) (grid l.records);
     }

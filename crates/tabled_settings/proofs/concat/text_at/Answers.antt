@@ -7,7 +7,7 @@ use Rattle.tabled_settings.proofs.concat.text_at.Goals.{then-pos-count_rows-via-
 
 pub returns-then-pos-count_rows : goal.returns-then-pos-count_rows
 returns-then-pos-count_rows c =
-    let even = IsEven-map_grid string_bytes c.args.second.now c.count_rows.ensures.even in
+    let even = IsEven-map_grid string_bytes c.args.second.now.grid c.count_rows.ensures.even in
     none_put c.args.corner _ c.args.default.now c.args.row c.args.col even (omega (arith, c.if-row-corner.false)) (omega (arith, c.if-col-corner.false))
     (elim c.then-pos-count_rows.branch [
       | then-pos-count_rows-via-then-pos-count_rows w ↦ inl (omega (arith, w.if-pos-count_rows.true, c.count_rows.ensures.rows))

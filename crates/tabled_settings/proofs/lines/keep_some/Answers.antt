@@ -5,7 +5,7 @@ use Rattle.tabled_grid.proofs.PiecesPut.{same_count}
 use Rattle.tabled_settings.proofs.lines.keep_some.Goals as goal
 
 pub loop-k-init : goal.loop-k-init
-loop-k-init g c = record { well = c.requires.well; brings = some_none _ _ _ c.requires.even }
+loop-k-init g c = record { well = c.requires.well; brings = some_none _ _ _ (g.R.GridStore.even _ c.requires.well) }
 
 pub swap-requires-clause-i_within : goal.swap-requires-clause-i_within
 swap-requires-clause-i_within g c =

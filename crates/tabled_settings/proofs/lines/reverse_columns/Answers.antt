@@ -8,7 +8,7 @@ use Rattle.tabled_settings.proofs.RowByRow.{Underway, underway-all, underway-mor
 use Rattle.tabled_settings.proofs.lines.reverse_columns.Goals as goal
 
 pub loop-i-init : goal.loop-i-init
-loop-i-init g c = record { well = c.requires.well; rows = underway-none (ends c.args.start c.args.end) _ _ c.requires.even (ends_start c.args.start c.args.end) }
+loop-i-init g c = record { well = c.requires.well; rows = underway-none (ends c.args.start c.args.end) _ _ (g.R.GridStore.even _ c.requires.well) (ends_start c.args.start c.args.end) }
 
 pub loop-k-preserved : goal.loop-k-preserved
 loop-k-preserved g c =
@@ -37,5 +37,5 @@ returns-clause-reversed g c =
     let e = c.args.end in
     let m = (e - s) / 2 in
     let old = g.R.GridStore.grid c.args.records.now in
-    let is = underway-all (ends s e) m c.loop-i.i 0 old _ c.requires.even (omega (arith, c.loop-i-test.false, c.count_rows-i-end.ensures.rows)) c.loop-i.invariant.rows in
-    rw is (ends_all Columns s e m old _ (omega (arith, c.requires.order)) (omega (arith, c.requires.order)) (ends_of_rows s e m old c.requires.even (omega (arith, c.requires.order)) c.requires.within))
+    let is = underway-all (ends s e) m c.loop-i.i 0 old _ (g.R.GridStore.even _ c.requires.well) (omega (arith, c.loop-i-test.false, c.count_rows-i-end.ensures.rows)) c.loop-i.invariant.rows in
+    rw is (ends_all Columns s e m old _ (omega (arith, c.requires.order)) (omega (arith, c.requires.order)) (ends_of_rows s e m old (g.R.GridStore.even _ c.requires.well) (omega (arith, c.requires.order)) c.requires.within))

@@ -5,7 +5,7 @@ use Rattle.tabled_settings.proofs.Reversed.{ends_all, ends_more, ends_none}
 use Rattle.tabled_settings.proofs.lines.reverse_rows.Goals as goal
 
 pub loop-k-init : goal.loop-k-init
-loop-k-init g c = record { well = c.requires.well; ends = ends_none _ _ _ _ c.requires.even }
+loop-k-init g c = record { well = c.requires.well; ends = ends_none _ _ _ _ (g.R.GridStore.even _ c.requires.well) }
 
 pub swap_row-requires-clause-i_within : goal.swap_row-requires-clause-i_within
 swap_row-requires-clause-i_within g c = let s = same_count Rows (g.R.GridStore.grid c.args.records.now) (g.R.GridStore.grid c.loop-k.records) c.loop-k.invariant.ends.shape in omega (arith, s, c.loop-k-test.true)

@@ -9,7 +9,7 @@ use Rattle.tabled_settings.proofs.lines.thin_columns.Goals as goal
 use Rattle.tabled_settings.proofs.lines.thin_columns.Goals.{then-not-is_marked, else-not-is_marked}
 
 pub loop-i-init : goal.loop-i-init
-loop-i-init g c = record { well = c.requires.well; rows = underway-none (thinned (is_marked c.args.gone.now)) _ _ c.requires.even (thinned-none (is_marked c.args.gone.now)) }
+loop-i-init g c = record { well = c.requires.well; rows = underway-none (thinned (is_marked c.args.gone.now)) _ _ (g.R.GridStore.even _ c.requires.well) (thinned-none (is_marked c.args.gone.now)) }
 
 pub loop-j-init : goal.loop-j-init
 loop-j-init g c = record { well = c.loop-i.invariant.well; rows = c.loop-i.invariant.rows; many = refl; few = omega arith }
@@ -56,5 +56,5 @@ returns-clause-thins g c =
     let test = is_marked c.args.gone.now in
     let m = length c.args.gone.now in
     let old = g.R.GridStore.grid c.args.records.now in
-    let is = underway-all (thinned test) m c.loop-i.i 0 old _ c.requires.even (omega (arith, c.loop-i-test.false, c.count_rows-i-end.ensures.rows)) c.loop-i.invariant.rows in
-    rw (is, c.count_kept.ensures) (thinned_rows test m old c.requires.even (omega (arith, c.requires.many)))
+    let is = underway-all (thinned test) m c.loop-i.i 0 old _ (g.R.GridStore.even _ c.requires.well) (omega (arith, c.loop-i-test.false, c.count_rows-i-end.ensures.rows)) c.loop-i.invariant.rows in
+    rw (is, c.count_kept.ensures) (thinned_rows test m old (g.R.GridStore.even _ c.requires.well) (omega (arith, c.requires.many)))

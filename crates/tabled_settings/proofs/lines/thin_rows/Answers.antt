@@ -7,7 +7,7 @@ use Rattle.tabled_settings.proofs.lines.thin_rows.Goals as goal
 use Rattle.tabled_settings.proofs.lines.thin_rows.Goals.{then-not-is_marked, else-not-is_marked}
 
 pub loop-i-init : goal.loop-i-init
-loop-i-init g c = record { well = c.requires.well; thins = thins_none _ _ _ c.requires.even }
+loop-i-init g c = record { well = c.requires.well; thins = thins_none _ _ _ (g.R.GridStore.even _ c.requires.well) }
 
 pub loop-i-preserved : goal.loop-i-preserved
 loop-i-preserved g c =

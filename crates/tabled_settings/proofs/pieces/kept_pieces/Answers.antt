@@ -17,5 +17,5 @@ returns g c =
     let cut = c.args.cut.now in
     let all : c.loop-nth.nth ≡ cut.lines * div_ceil cut.width cut.split.index = omega (arith, c.loop-nth-test.false, c.loop-nth.auto.nth-end, ap (λ (n : ℕ). cut.lines * n) cut.counted) in
     let grid = g.R.GridStore.grid c.args.records.now in
-    let can : CanBeCut cut.split cut.lines cut.width grid = record { even = c.requires.even; count = c.requires.lines; wide = c.requires.width; some = cut.some; index = cut.index; narrow = cut.narrow } in
+    let can : CanBeCut cut.split cut.lines cut.width grid = record { even = g.R.GridStore.even _ c.requires.well; count = c.requires.lines; wide = c.requires.width; some = cut.some; index = cut.index; narrow = cut.narrow } in
     rw all at c.loop-nth.invariant ∙ sym (staying_is g.R.Cell.CellText.text_of cut.split cut.lines cut.width grid can)
