@@ -11,6 +11,5 @@ pub mod RoundTrip
 pub mod Selectors
 pub mod Sizes
 pub mod Verb
-pub mod Walk
 pub mod Word
 pub mod Words

@@ -15,7 +15,6 @@ mod sizes;
 mod spans;
 mod texts;
 mod verbs;
-mod walk;
 mod word;
 mod words;
 
