@@ -10,9 +10,8 @@ use Rattle.tabled_draw.specs.Sizes.{own_sizes, start, widths}
 use Rattle.tabled_grid.proofs.Fitting.{anchors-fitting, keep_fitting-fits}
 use Rattle.tabled_grid.proofs.SortedAnchors.{anchors-of}
 use Rattle.tabled_grid.specs.Along.{count_along}
-use Rattle.tabled_grid.specs.Fitting.{fitting, keep_fitting}
+use Rattle.tabled_grid.specs.Fitting.{Fits, fitting, keep_fitting}
 use Rattle.tabled_grid.specs.Grid.{Grid}
-use Rattle.tabled_grid.specs.Rectangles.{Fits}
 use Rattle.tabled_grid.specs.Spans.{AreSpanSizes, Rectangle, SpanMap, position_cmp}
 use Rattle.tabled_grid.specs.declared.records.axis.Axis.{Axis}
 use Rattle.tabled_grid.specs.declared.records.axis.Axis.TheVariants.{Columns}

@@ -9,9 +9,8 @@ use Rattle.tabled_grid.proofs.Fitting.{anchors-fitting, anchors-of, fitting-fits
 use Rattle.tabled_grid.proofs.Members.{Member, sorted-find}
 use Rattle.tabled_grid.proofs.SpanMaps.{holds-from}
 use Rattle.tabled_grid.proofs.Spans.{positions_exact, positions_total}
-use Rattle.tabled_grid.specs.Fitting.{fitting, keep_fitting}
+use Rattle.tabled_grid.specs.Fitting.{Fits, fitting, keep_fitting}
 use Rattle.tabled_grid.specs.Grid.{Grid}
-use Rattle.tabled_grid.specs.Rectangles.{Fits}
 use Rattle.tabled_grid.specs.Spans.{AreAnchors, AreSpanSizes, Rectangle, SpanMap, position_cmp}
 
 pub fits-well : (m : SpanMap) (rows columns : ℕ) → Fits m rows columns → LieWell rows columns (entries m)

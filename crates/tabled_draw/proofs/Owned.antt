@@ -17,7 +17,8 @@ use Rattle.tabled_grid.proofs.SpanMaps.At.{none, some}
 use Rattle.tabled_grid.proofs.Spans.{positions_exact, positions_total}
 use Rattle.tabled_grid.specs.Entity.{place}
 use Rattle.tabled_grid.specs.Midway.{In}
-use Rattle.tabled_grid.specs.Rectangles.{Fits, holds}
+use Rattle.tabled_grid.specs.Rectangles.{holds}
+use Rattle.tabled_grid.specs.Fitting.{Fits}
 use Rattle.tabled_grid.specs.Spans.{SpanMap, size_at, position_cmp, Rectangle, sized}
 use Rattle.tabled_grid.specs.declared.config.position.Position.{Position}
 use Rattle.tabled_grid.specs.declared.config.size.Size.{Size}

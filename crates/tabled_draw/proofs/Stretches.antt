@@ -18,7 +18,7 @@ use Rattle.tabled_draw.specs.Texts.{columns_in, lines_of}
 use Rattle.tabled_grid.proofs.SpanMaps.{same_place-self}
 use Rattle.tabled_grid.specs.Entity.{place}
 use Rattle.tabled_grid.specs.Grid.{Grid}
-use Rattle.tabled_grid.specs.Rectangles.{Fits}
+use Rattle.tabled_grid.specs.Fitting.{Fits}
 use Rattle.tabled_grid.specs.Spans.{Rectangle, SpanMap}
 use Rattle.tabled_grid.specs.declared.records.axis.Axis.TheVariants.{Columns}
 

@@ -6,9 +6,8 @@ use Rattle.tabled_draw.specs.Picture.{drawn, left, picture}
 use Rattle.tabled_draw.specs.Sizes.{asks, own_sizes, sizes, text_at}
 use Rattle.tabled_draw.specs.Texts.{columns_in}
 use Rattle.tabled_grid.specs.Axis.{line_of, lines_in}
-use Rattle.tabled_grid.specs.Fitting.{fitting}
+use Rattle.tabled_grid.specs.Fitting.{Fits, fitting}
 use Rattle.tabled_grid.specs.Grid.{Grid}
-use Rattle.tabled_grid.specs.Rectangles.{Fits}
 use Rattle.tabled_grid.specs.Spans.{AreSpanSizes, Rectangle, SpanMap}
 use Rattle.tabled_grid.specs.declared.records.axis.Axis.{Axis}
 

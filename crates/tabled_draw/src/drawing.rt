@@ -10,7 +10,7 @@ ghost use Rattle.tabled_draw.specs.Sent.{Draws};
 ghost use Rattle.tabled_draw.specs.Sizes.{heights};
 ghost use Rattle.tabled_grid.specs.Entity.{place};
 ghost use Rattle.tabled_grid.specs.Grid.{IsInside, map_grid};
-ghost use Rattle.tabled_grid.specs.Rectangles.{Fits};
+ghost use Rattle.tabled_grid.specs.Fitting.{Fits};
 
 use crate::held::Held;
 use crate::layout::{Layout, layout_of};

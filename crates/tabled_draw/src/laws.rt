@@ -8,9 +8,8 @@ ghost use Rattle.tabled_draw.specs.Picture.{bytes_of, drawn, picture};
 ghost use Rattle.tabled_draw.specs.Sizes.{heights};
 ghost use Rattle.tabled_draw.specs.Standing.{HasBorders, ShowsTexts};
 ghost use Rattle.tabled_grid.specs.Entity.{place};
-ghost use Rattle.tabled_grid.specs.Fitting.{keep_fitting};
+ghost use Rattle.tabled_grid.specs.Fitting.{Fits, keep_fitting};
 ghost use Rattle.tabled_grid.specs.Grid.{Grid, IsInside, map_grid};
-ghost use Rattle.tabled_grid.specs.Rectangles.{Fits};
 ghost use Rattle.tabled_grid.specs.Spans.{AreSpanSizes, Rectangle, SpanMap};
 
 use tabled_grid::records::{CellText, Records};

@@ -10,7 +10,7 @@ ghost use Rattle.tabled_draw.specs.Sizes.{gap, grown, grown_for, heights, own_si
 ghost use Rattle.tabled_grid.specs.Along.{count_along};
 ghost use Rattle.tabled_grid.specs.Axis.{line_of};
 ghost use Rattle.tabled_grid.specs.Grid.{IsInside, map_grid};
-ghost use Rattle.tabled_grid.specs.Rectangles.{Fits};
+ghost use Rattle.tabled_grid.specs.Fitting.{Fits};
 ghost use Rattle.tabled_grid.specs.declared.records.axis.Axis.TheVariants.{Rows, Columns};
 
 use crate::owners::{clear, owner_row, write_owners};

@@ -4,7 +4,8 @@ ghost use Rattle.std.specs.Prelude.{◌≡◌, ◌+◌, ◌<◌, ◌≤◌, ℕ,
 ghost use Rattle.std.specs.FinMap.{entries};
 ghost use Rattle.tabled_draw.specs.OwnerRows.{IsOwnerRow, chosen, count_before};
 ghost use Rattle.tabled_draw.specs.Owners.{is_one};
-ghost use Rattle.tabled_grid.specs.Rectangles.{Fits, holds};
+ghost use Rattle.tabled_grid.specs.Rectangles.{holds};
+ghost use Rattle.tabled_grid.specs.Fitting.{Fits};
 ghost use Rattle.tabled_grid.specs.Spans.{size_at};
 
 use std::alloc::{AllocError, Global};

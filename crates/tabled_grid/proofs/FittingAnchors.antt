@@ -17,7 +17,8 @@ use Rattle.tabled_grid.specs.Spans.{AreAnchors, IsSpanSize, Rectangle, position_
 use Rattle.tabled_grid.specs.declared.config.position.Position.{Position}
 use Rattle.tabled_grid.proofs.Spans.{positions_exact, positions_total, span_sizes}
 use Rattle.tabled_grid.specs.Anchors.{lie_well, lies_inside, meets}
-use Rattle.tabled_grid.specs.Rectangles.{Fits, holds}
+use Rattle.tabled_grid.specs.Rectangles.{holds}
+use Rattle.tabled_grid.specs.Fitting.{Fits}
 use Rattle.tabled_grid.specs.declared.config.size.Size.{Size}
 use Rattle.tabled_grid.proofs.Geometry.{In}
 use Rattle.tabled_grid.proofs.SpanMaps.{equal, found_above, halves, holds-from, holds-true, less}

@@ -14,7 +14,7 @@ use Rattle.std.proofs.Math.Nat.{mul-le-mul_right}
 use borrow.Author.Tests.{lt-ltb}
 use Rattle.tabled_grid.specs.Covers.{IsNumbered, Stepped, Steps, beyond, hiders_in, hiders_of, hides, table}
 use Rattle.tabled_grid.specs.Entity.{place}
-use Rattle.tabled_grid.specs.Rectangles.{is_hidden}
+use Rattle.tabled_grid.specs.Hidden.{is_hidden}
 use Rattle.tabled_grid.specs.Spans.{Rectangle, SpanMap, position_cmp, size_at, sized, with_size}
 use Rattle.tabled_grid.specs.declared.config.position.Position.{Position}
 use Rattle.tabled_grid.specs.declared.config.size.Size.{Size}

@@ -7,7 +7,8 @@ use Rattle.std.proofs.lemmas.Option.{none-some, same_Some}
 use borrow.Author.Tests.{lt-ltb}
 use Rattle.tabled_grid.specs.Entity.{place}
 use Rattle.tabled_grid.specs.Midway.{In}
-use Rattle.tabled_grid.specs.Rectangles.{Fits, holds}
+use Rattle.tabled_grid.specs.Rectangles.{holds}
+use Rattle.tabled_grid.specs.Fitting.{Fits}
 use Rattle.tabled_grid.specs.Axis.{line_of, lines_in, next_line}
 use Rattle.tabled_grid.specs.Shifts.{crosses_line, is_crossed, shifted, shifted_in, shifted_place}
 use Rattle.tabled_grid.specs.Spans.{AreSpanSizes, Rectangle, SpanMap, position_cmp}

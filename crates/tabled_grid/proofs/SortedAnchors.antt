@@ -8,7 +8,8 @@ use Rattle.std.proofs.lemmas.List.Elements.{All-filter, All-from_recursion, recu
 use Rattle.std.proofs.lemmas.List.{nil_from_length}
 use borrow.Author.Tests.{eqb-true}
 use Rattle.tabled_grid.specs.Anchors.{dropped, is_hidden_in}
-use Rattle.tabled_grid.specs.Rectangles.{drop_hidden, holds, is_hidden}
+use Rattle.tabled_grid.specs.Rectangles.{holds}
+use Rattle.tabled_grid.specs.Hidden.{drop_hidden, is_hidden}
 use Rattle.tabled_grid.specs.Entity.{same_place}
 use Rattle.tabled_grid.specs.Spans.{AreAnchors, AreSpanSizes, IsSpanSize, Rectangle, SpanMap, position_cmp}
 use Rattle.tabled_grid.specs.declared.config.position.Position.{Position}

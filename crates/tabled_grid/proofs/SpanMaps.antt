@@ -19,7 +19,8 @@ use Rattle.tabled_grid.specs.Entity.{place}
 use Rattle.tabled_grid.specs.declared.config.position.Position.{Position}
 pub use Rattle.tabled_grid.proofs.SortedEntries.{both, halves, less}
 use Rattle.tabled_grid.proofs.Spans.{positions_exact, positions_total}
-use Rattle.tabled_grid.specs.Rectangles.{drop_hidden, holds, is_hidden, is_visible}
+use Rattle.tabled_grid.specs.Rectangles.{holds}
+use Rattle.tabled_grid.specs.Hidden.{drop_hidden, is_hidden, is_visible}
 use Rattle.tabled_grid.specs.Entity.{same_place}
 use Rattle.tabled_grid.specs.declared.config.size.Size.{Size}
 use Rattle.tabled_grid.proofs.Geometry.{Full, In, Visible, cases_place}

@@ -11,6 +11,7 @@ pub mod Evenness
 pub mod Fitting
 pub mod Flat
 pub mod Grid
+pub mod Hidden
 pub mod Midway
 pub mod Moves
 pub mod Pieces

@@ -4,13 +4,12 @@ use Rattle.std.specs.FinMap.{empty, empty_of_len, len-entries, from_entries, get
 use Rattle.std.specs.List.{filter}
 use Rattle.tabled_grid.specs.Midway.{In}
 use Rattle.tabled_grid.specs.Places.{Places}
-use Rattle.tabled_grid.specs.Rectangles.{Fits}
+use Rattle.tabled_grid.specs.Fitting.{Fits, fitting, keep_fitting}
 use Rattle.tabled_grid.specs.Spans.{AreSpanSizes, Rectangle, SpanMap, position_cmp}
 use Rattle.tabled_grid.specs.declared.config.position.Position.{Position}
 use Rattle.tabled_images.specs.Images.{Carries, IsFull, KeepsPlaces, Takes, carried, images, rectangles}
 use Rattle.tabled_images.proofs.RectanglesCarried.{carries_one, image_fits, image_is, image_one}
 use Rattle.tabled_grid.proofs.Fitting.{keep_fitting-fits}
-use Rattle.tabled_grid.specs.Fitting.{fitting, keep_fitting}
 use Rattle.tabled_grid.specs.declared.config.size.Size.{Size}
 
 no_images : (fs : List Rectangle) → filter (λ (f : Rectangle). false) fs ≡ []

@@ -16,7 +16,7 @@ use borrow.Author.Tests.{eqb-true, eq-eqb}
 use Rattle.tabled_grid.specs.Entity.{same_place}
 use Rattle.tabled_grid.specs.Midway.{In}
 use Rattle.tabled_grid.specs.Places.{Places}
-use Rattle.tabled_grid.specs.Rectangles.{Fits}
+use Rattle.tabled_grid.specs.Fitting.{Fits}
 use Rattle.tabled_grid.specs.Spans.{AreAnchors, IsSpanSize, Rectangle, position_cmp, sized}
 use Rattle.tabled_grid.specs.declared.config.position.Position.{Position}
 use Rattle.tabled_grid.specs.declared.config.size.Size.{Size}

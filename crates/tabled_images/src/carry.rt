@@ -3,8 +3,7 @@
 ghost use Rattle.std.specs.Prelude.{◌≡◌, IfOk, IsNone, IsOk};
 ghost use Rattle.std.specs.Option.{IfSome};
 ghost use Rattle.std.specs.FinMap.{from_sorted};
-ghost use Rattle.tabled_grid.specs.Fitting.{keep_fitting};
-ghost use Rattle.tabled_grid.specs.Rectangles.{Fits};
+ghost use Rattle.tabled_grid.specs.Fitting.{Fits, keep_fitting};
 ghost use Rattle.tabled_grid.specs.Spans.{AreAnchors, AreSpanSizes};
 ghost use Rattle.tabled_images.specs.Images.{carried, image};
 

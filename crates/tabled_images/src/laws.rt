@@ -2,10 +2,9 @@
 
 ghost use Rattle.std.specs.Prelude.{◌≡◌, ◌↔◌, ℕ, List, Some, false};
 ghost use Rattle.std.specs.FinMap as map;
-ghost use Rattle.tabled_grid.specs.Fitting.{keep_fitting};
+ghost use Rattle.tabled_grid.specs.Fitting.{Fits, keep_fitting};
 ghost use Rattle.tabled_grid.specs.Grid.{Grid};
 ghost use Rattle.tabled_grid.specs.Places.{Places};
-ghost use Rattle.tabled_grid.specs.Rectangles.{Fits};
 ghost use Rattle.tabled_grid.specs.Shifts.{is_crossed};
 ghost use Rattle.tabled_grid.specs.Spans.{AreSpanSizes, SpanMap};
 ghost use Rattle.tabled_grid.specs.declared.config.position.Position.{Position};

@@ -1,7 +1,7 @@
 -- What keeps the shape of a table, and so its merged cells inside and apart.
 use Rattle.std.proofs.Common.{◌≡◌, ℕ, List, [], ◌∷◌, refl, ap, ◌∙◌, take}
 use Rattle.tabled_grid.specs.Grid.{Grid, map_grid, with_cell}
-use Rattle.tabled_grid.specs.Rectangles.{Fits}
+use Rattle.tabled_grid.specs.Fitting.{Fits}
 use Rattle.tabled_grid.specs.Spans.{SpanMap}
 use Rattle.tabled_options.specs.Does.{Change, OptionKeeps}
 use Rattle.tabled_options.specs.Shapes.{KeepsShape}

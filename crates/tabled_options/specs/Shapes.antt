@@ -1,7 +1,7 @@
 -- Changes that leave the shape of a table.
 use Rattle.std.specs.Prelude.{◌≡◌}
 use Rattle.tabled_grid.specs.Grid.{Grid}
-use Rattle.tabled_grid.specs.Rectangles.{Fits}
+use Rattle.tabled_grid.specs.Fitting.{Fits}
 use Rattle.tabled_grid.specs.Spans.{SpanMap}
 use Rattle.tabled_grid.specs.declared.config.entity.Entity.{Entity}
 use Rattle.tabled_options.specs.Does.{Change, OptionKeeps}

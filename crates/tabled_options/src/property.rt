@@ -1,7 +1,7 @@
 //! Properties of tables.
 
 ghost use Rattle.tabled_grid.specs.Grid.{Grid};
-ghost use Rattle.tabled_grid.specs.Rectangles.{Fits};
+ghost use Rattle.tabled_grid.specs.Fitting.{Fits};
 
 use tabled_grid::config::SpannedConfig;
 

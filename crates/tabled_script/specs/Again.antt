@@ -1,7 +1,7 @@
 -- The output of a script, given to the program once more.
 use Rattle.std.specs.Prelude.{◌≡◌, Ok}
 use Rattle.tabled_language.specs.Line.{Script, parse}
-use Rattle.tabled_grid.specs.Rectangles.{Fits}
+use Rattle.tabled_grid.specs.Fitting.{Fits}
 use Rattle.tabled_script.specs.Answer.{ended, output_of}
 
 -- merged cells fit the table that a script ends with

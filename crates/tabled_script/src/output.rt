@@ -6,7 +6,7 @@ ghost use Rattle.std.specs.List.{AllByRecursion, flat_map};
 ghost use Rattle.std.specs.Prelude.{◌≡◌, ◌≤◌, ◌*◌, [], ◌∷◌, ◌++◌, codes, length, map, OnOk, vec_capacity};
 ghost use Rattle.std.specs.Str.{IsUtf8};
 ghost use Rattle.tabled_grid.specs.Grid.{IsEven, grid_of, map_grid, map_items, width_of};
-ghost use Rattle.tabled_grid.specs.Rectangles.{Fits};
+ghost use Rattle.tabled_grid.specs.Fitting.{Fits};
 ghost use Rattle.tabled_language.specs.Lent.{bytes_of};
 ghost use Rattle.tabled_language.specs.Output.{escaped, line, print, span_line, table_lines};
 ghost use Rattle.tabled_language.specs.RoundTrip.{IsTable};
@@ -26,7 +26,7 @@ use tabled_language::LentText;
 pub(crate) struct Lines;
 
 impl Form for Lines {
-    ghost use Rattle.tabled_grid.specs.Rectangles.{Fits};
+    ghost use Rattle.tabled_grid.specs.Fitting.{Fits};
     ghost use Rattle.tabled_language.specs.Output.{print};
     ghost use Rattle.tabled_language.specs.RoundTrip.{IsTable};
 

@@ -5,7 +5,7 @@ use Rattle.tabled_grid.specs.Axis.{count_of}
 use Rattle.tabled_grid.specs.Entity.{place}
 use Rattle.tabled_grid.specs.Midway.{In}
 use Rattle.tabled_grid.specs.Places.{Places}
-use Rattle.tabled_grid.specs.Rectangles.{Fits}
+use Rattle.tabled_grid.specs.Fitting.{Fits}
 use Rattle.tabled_grid.specs.Spans.{Rectangle, SpanMap}
 use Rattle.tabled_grid.specs.declared.config.offset.Offset.TheVariants.{End}
 use Rattle.tabled_grid.specs.declared.config.position.Position.{Position}

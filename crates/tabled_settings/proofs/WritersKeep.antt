@@ -1,7 +1,7 @@
 -- Options that write texts keep merged cells inside the table and apart.
 use Rattle.std.proofs.Common.{◌≡◌, ℕ, List, [], inl, inr, ap, take}
 use Rattle.tabled_grid.specs.Grid.{Grid, map_grid}
-use Rattle.tabled_grid.specs.Rectangles.{Fits}
+use Rattle.tabled_grid.specs.Fitting.{Fits}
 use Rattle.tabled_grid.specs.Spans.{SpanMap}
 use Rattle.tabled_grid.specs.declared.config.entity.Entity.{Entity}
 use Rattle.tabled_options.specs.Does.{OptionKeeps}

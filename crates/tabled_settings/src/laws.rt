@@ -14,7 +14,7 @@ ghost use Rattle.tabled_settings.specs.Orders.{charset_cmp, reverse_cmp};
 ghost use Rattle.tabled_settings.specs.PiecePlaces.{glued, split_places, texts_in};
 ghost use Rattle.tabled_settings.specs.Pieces.{split};
 ghost use Rattle.tabled_grid.specs.Places.{ReadsThrough};
-ghost use Rattle.tabled_grid.specs.Rectangles.{Fits};
+ghost use Rattle.tabled_grid.specs.Fitting.{Fits};
 ghost use Rattle.tabled_grid.specs.Spans.{SpanMap};
 ghost use Rattle.tabled_images.specs.Images.{carried};
 ghost use Rattle.tabled_settings.specs.Places.{IsTakenOnce};

@@ -5,7 +5,7 @@ ghost use Rattle.tabled_grid.specs.declared.config.offset.Offset.TheVariants.{En
 ghost use Rattle.tabled_grid.specs.declared.records.axis.Axis.TheVariants.{Columns, Rows};
 ghost use Rattle.tabled_grid.specs.Axis.{count_of, in_line, line_of};
 ghost use Rattle.tabled_grid.specs.Places.{ReadsThrough};
-ghost use Rattle.tabled_grid.specs.Rectangles.{Fits};
+ghost use Rattle.tabled_grid.specs.Fitting.{Fits};
 ghost use Rattle.tabled_options.specs.Does.{Same};
 ghost use Rattle.tabled_settings.specs.Places.{lines_from};
 ghost use Rattle.tabled_settings.specs.Rearranged.{carried_if, limit_end, reversed, reversed_index, reverses};

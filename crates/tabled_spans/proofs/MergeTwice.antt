@@ -9,7 +9,7 @@ use borrow.Author.Tests.{eqb-true}
 use Rattle.tabled_grid.specs.Entity.{place}
 use Rattle.tabled_grid.specs.Grid.{Grid, IsInside, cell_at}
 use Rattle.tabled_grid.specs.Midway.{In}
-use Rattle.tabled_grid.specs.Rectangles.{is_hidden, is_visible}
+use Rattle.tabled_grid.specs.Hidden.{is_hidden, is_visible}
 use Rattle.tabled_grid.specs.Spans.{SpanMap, position_cmp, size_at, sized}
 use Rattle.tabled_grid.specs.declared.config.position.Position.{Position}
 use Rattle.tabled_grid.specs.declared.records.axis.Axis.{Axis}

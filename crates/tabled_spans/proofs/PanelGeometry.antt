@@ -8,7 +8,7 @@ use Rattle.tabled_grid.specs.Axis.{across, place_in}
 use Rattle.tabled_grid.specs.Along.{count_along}
 use Rattle.tabled_grid.specs.Grid.{Grid}
 use Rattle.tabled_grid.specs.Midway.{In}
-use Rattle.tabled_grid.specs.Rectangles.{Fits}
+use Rattle.tabled_grid.specs.Fitting.{Fits}
 use Rattle.tabled_grid.specs.Shifts.{is_crossed, shifted}
 use Rattle.tabled_grid.specs.Spans.{SpanMap, sized, with_size}
 use Rattle.tabled_grid.specs.declared.config.position.Position.{Position}

@@ -6,7 +6,8 @@ use Rattle.std.proofs.lemmas.Bool.{cases_Bool}
 use Rattle.tabled_grid.specs.Entity.{inside}
 use Rattle.tabled_grid.specs.Grid.{Grid, map_grid}
 use Rattle.tabled_grid.specs.Midway.{Midway, Within}
-use Rattle.tabled_grid.specs.Rectangles.{Fits, drop_hidden, is_visible}
+use Rattle.tabled_grid.specs.Hidden.{drop_hidden, is_visible}
+use Rattle.tabled_grid.specs.Fitting.{Fits}
 use Rattle.tabled_grid.specs.Spans.{AreSpanSizes, SpanMap, size_at}
 use Rattle.tabled_grid.specs.declared.config.entity.Entity.{Entity}
 use Rattle.tabled_grid.specs.declared.config.position.Position.{Position}

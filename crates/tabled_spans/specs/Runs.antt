@@ -3,7 +3,7 @@ use Rattle.std.specs.Prelude.{◌≡◌, ◌+◌, ◌-◌, ◌<◌, ◌≤◌, �
 use Rattle.std.specs.FinMap as map
 use Rattle.tabled_grid.specs.Axis.{in_line, line_of, resized}
 use Rattle.tabled_grid.specs.Grid.{Grid, IsInside, cell_at}
-use Rattle.tabled_grid.specs.Rectangles.{is_visible}
+use Rattle.tabled_grid.specs.Hidden.{is_visible}
 use Rattle.tabled_grid.specs.Spans.{SpanMap, size_at, sized}
 use Rattle.tabled_grid.specs.declared.config.position.Position.{Position}
 use Rattle.tabled_grid.specs.declared.records.axis.Axis.{Axis}

@@ -2,7 +2,7 @@
 use Rattle.std.specs.Prelude.{◌≡◌, ◌+◌, ◌-◌, ◌<◌, ◌≤◌, ℕ, true, min, List, [], ◌∷◌, if◌then◌else◌}
 use Rattle.std.specs.List.{list_all}
 use Rattle.tabled_grid.specs.Entity.{names}
-use Rattle.tabled_grid.specs.Rectangles.{is_visible}
+use Rattle.tabled_grid.specs.Hidden.{is_visible}
 use Rattle.tabled_grid.specs.Spans.{Rectangle, SpanMap, size_at}
 use Rattle.tabled_grid.specs.declared.config.entity.Entity.{Entity}
 use Rattle.tabled_grid.specs.declared.config.position.Position.{Position}

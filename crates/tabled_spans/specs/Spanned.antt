@@ -7,7 +7,7 @@ use Rattle.tabled_grid.specs.Axis.{count_of, in_line, line_of}
 use Rattle.tabled_grid.specs.Entity.{inside}
 use Rattle.tabled_grid.specs.Grid.{Grid, cell_at, map_grid}
 use Rattle.tabled_grid.specs.Midway.{Flat, Narrow}
-use Rattle.tabled_grid.specs.Rectangles.{drop_hidden, is_visible}
+use Rattle.tabled_grid.specs.Hidden.{drop_hidden, is_visible}
 use Rattle.tabled_grid.specs.Spans.{SpanMap, size_at, with_column_span, with_row_span}
 use Rattle.tabled_grid.specs.declared.config.entity.Entity.{Entity}
 use Rattle.tabled_grid.specs.declared.config.position.Position.{Position}

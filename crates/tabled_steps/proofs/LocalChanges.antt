@@ -5,7 +5,7 @@ use Rattle.std.proofs.lemmas.Bool.{cases_Bool}
 use Rattle.tabled_grid.specs.Axis.{count_of}
 use Rattle.tabled_grid.specs.Entity.{inside}
 use Rattle.tabled_grid.specs.Grid.{Grid, map_grid}
-use Rattle.tabled_grid.specs.Rectangles.{drop_hidden, is_hidden, is_visible}
+use Rattle.tabled_grid.specs.Hidden.{drop_hidden, is_hidden, is_visible}
 use Rattle.tabled_grid.specs.Spans.{SpanMap}
 use Rattle.tabled_grid.specs.declared.config.entity.Entity.{Entity}
 use Rattle.tabled_grid.specs.declared.config.position.Position.{Position}

@@ -17,7 +17,7 @@ use Rattle.tabled_settings.specs.Joined.{JoinsAt, corner_of, joined_places}
 use Rattle.tabled_settings.specs.PiecePlaces.{Splits, split_places}
 use Rattle.tabled_settings.specs.Pieces.{has_pieces}
 use Rattle.tabled_grid.specs.Places.{ReadsThrough}
-use Rattle.tabled_grid.specs.Rectangles.{Fits}
+use Rattle.tabled_grid.specs.Fitting.{Fits}
 use Rattle.tabled_settings.specs.Rearranged.{Rearranges, carried_if, extracted, removed, reversed, reverses, rotated}
 use Rattle.tabled_settings.specs.declared.reverse.Reverse.{Reverse}
 use Rattle.tabled_settings.specs.declared.rotate.Rotate.TheVariants.{Bottom, Top}

@@ -2,7 +2,7 @@
 
 ghost use Rattle.std.specs.Prelude.{◌≡◌, ◌<◌, ◌∷◌, ◌++◌, IfErr, List, OnOk, length, take};
 ghost use Rattle.std.specs.List.{AllByRecursion};
-ghost use Rattle.tabled_grid.specs.Rectangles.{Fits};
+ghost use Rattle.tabled_grid.specs.Fitting.{Fits};
 ghost use Rattle.tabled_options.specs.Does.{Each, EachUntilAt};
 ghost use Rattle.tabled_settings.specs.declared.split.Split.{Split};
 ghost use Rattle.tabled_steps.specs.Fitting.{KeepsFitting};

@@ -4,8 +4,7 @@ ghost use Rattle.std.specs.Prelude.{◌≡◌, IfOk, IsOk, OnErr, OnOk, Some};
 ghost use Rattle.std.specs.FinMap as map;
 ghost use Rattle.std.specs.Option.{IfSome};
 ghost use Rattle.tabled_grid.specs.Entity.{place};
-ghost use Rattle.tabled_grid.specs.Fitting.{keep_fitting};
-ghost use Rattle.tabled_grid.specs.Rectangles.{Fits};
+ghost use Rattle.tabled_grid.specs.Fitting.{Fits, keep_fitting};
 ghost use Rattle.tabled_grid.specs.Spans.{Rectangle, sized};
 ghost use Rattle.tabled_images.specs.Images.{Carries, IsFull, carried};
 

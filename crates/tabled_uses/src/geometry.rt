@@ -1,7 +1,7 @@
 //! Merged cells that lie inside a table and apart: callers that rely on it, done or refused. A law says of
 //! an option that it keeps this, so a caller calls the law, and then changes a table by the option.
 
-ghost use Rattle.tabled_grid.specs.Rectangles.{Fits};
+ghost use Rattle.tabled_grid.specs.Fitting.{Fits};
 ghost use Rattle.tabled_grid.specs.declared.config.entity.Entity.{Entity};
 ghost use Rattle.tabled_grid.specs.declared.records.axis.Axis.TheVariants.{Columns};
 ghost use Rattle.tabled_options.specs.Does.{OptionKeeps};

@@ -2,7 +2,7 @@
 
 ghost use Rattle.std.specs.Prelude.{ℕ, [], ◌<◌, ◌≤◌, ◌∷◌};
 ghost use Rattle.tabled_grid.specs.Midway.{Midway};
-ghost use Rattle.tabled_grid.specs.Rectangles.{Fits};
+ghost use Rattle.tabled_grid.specs.Fitting.{Fits};
 ghost use Rattle.tabled_grid.specs.Spans.{SpanMap};
 ghost use Rattle.tabled_grid.specs.declared.config.position.Position.{Position};
 ghost use Rattle.tabled_grid.specs.declared.records.axis.Axis.TheVariants as axis;

@@ -1,6 +1,6 @@
 //! Merged cells fit after each call that keeps them fitting.
 
-ghost use Rattle.tabled_grid.specs.Rectangles.{Fits};
+ghost use Rattle.tabled_grid.specs.Fitting.{Fits};
 
 use std::alloc::{AllocError, Global};
 use std::test::Fail;

@@ -3,7 +3,7 @@
 ghost use Rattle.std.specs.Prelude.{◌≡◌, ◌+◌, ◌*◌, ◌<◌, ◌≤◌, ◌^◌, ℕ, IfOk};
 ghost use Rattle.std.specs.Option.{IfSome};
 ghost use Rattle.tabled_grid.specs.Covers.{IsNumbered, cover_in, cover_of};
-ghost use Rattle.tabled_grid.specs.Rectangles.{is_hidden};
+ghost use Rattle.tabled_grid.specs.Hidden.{is_hidden};
 ghost use Rattle.tabled_grid.specs.Spans.{SpanMap, size_at, with_size};
 
 use crate::config::hiders::{follow, step_each};

@@ -4,8 +4,7 @@ ghost use Rattle.std.specs.Prelude.{◌≡◌, ◌∷◌, ◌↔◌, IfOk, IsOk,
 ghost use Rattle.std.specs.FinMap.{is_sorted};
 ghost use Rattle.std.specs.List.{list_all};
 ghost use Rattle.tabled_grid.specs.Anchors.{meets};
-ghost use Rattle.tabled_grid.specs.Fitting.{fitting, keep_fitting, with_met};
-ghost use Rattle.tabled_grid.specs.Rectangles.{Fits};
+ghost use Rattle.tabled_grid.specs.Fitting.{Fits, fitting, keep_fitting, with_met};
 ghost use Rattle.tabled_grid.specs.Spans.{AreSpanSizes, Rectangle, position_cmp};
 
 use crate::config::anchors::{self, is_inside, is_past, meet, rest_of_row};

@@ -4,7 +4,8 @@ ghost use Rattle.std.specs.Prelude.{◌≡◌, ◌<◌, ◌≤◌, ◌↔◌, �
 ghost use Rattle.std.specs.FinMap as map;
 ghost use Rattle.std.specs.FinMap.{is_sorted};
 ghost use Rattle.std.specs.List.{AllByRecursion};
-ghost use Rattle.tabled_grid.specs.Rectangles.{column_spans, drop_hidden, is_covered_across, is_covered_down, is_visible, row_spans};
+ghost use Rattle.tabled_grid.specs.Rectangles.{column_spans, is_covered_across, is_covered_down, row_spans};
+ghost use Rattle.tabled_grid.specs.Hidden.{drop_hidden, is_visible};
 ghost use Rattle.tabled_grid.specs.Shifts.{is_crossed, shifted};
 ghost use Rattle.tabled_grid.specs.Spans.{AreAnchors, AreSpanSizes, IsSizeAt, IsSpanSize, position_cmp, size_at, sized, with_column_span, with_row_span, with_size, with_sizes};
 

@@ -5,7 +5,7 @@ ghost use Rattle.std.specs.FinMap.{is_sorted};
 ghost use Rattle.std.specs.List.{AllByRecursion, list_all};
 ghost use Rattle.tabled_grid.specs.Covers.{cover_in};
 ghost use Rattle.tabled_grid.specs.Entity.{inside, names};
-ghost use Rattle.tabled_grid.specs.Rectangles.{is_visible};
+ghost use Rattle.tabled_grid.specs.Hidden.{is_visible};
 ghost use Rattle.tabled_grid.specs.Spans.{IsSizeAt, SpanMap, position_cmp, size_at, with_sizes};
 ghost use Rattle.tabled_grid.specs.Axis.{across, count_of, line_of, resized};
 ghost use Rattle.tabled_spans.specs.Spanned.{grown, grown_each, stretch};

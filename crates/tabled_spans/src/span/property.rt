@@ -1,6 +1,6 @@
 //! Properties of tables that spans of any size keep.
 
-ghost use Rattle.tabled_grid.specs.Rectangles.{Fits};
+ghost use Rattle.tabled_grid.specs.Fitting.{Fits};
 ghost use Rattle.tabled_spans.specs.Spanned.{IsFlat};
 
 use tabled_grid::config::SpannedConfig;

@@ -1,6 +1,6 @@
 use Rattle.std.proofs.Common.{◌≡◌, ap, subst, sym, ◌∙◌}
 use Rattle.std.specs.FinMap.{from_sorted}
-use Rattle.tabled_grid.specs.Rectangles.{Fits}
+use Rattle.tabled_grid.specs.Fitting.{Fits}
 use Rattle.tabled_grid.specs.Spans.{SpanMap, position_cmp}
 use Rattle.tabled_grid.proofs.Fitting.{anchors-of, from-entries}
 use Rattle.tabled_images.specs.Images.{image}

@@ -1,8 +1,7 @@
 use Rattle.std.proofs.Common.{◌≡◌, ap, subst, sym, refl, ◌∙◌}
 use Rattle.std.specs.Option.{IfSome}
 use Rattle.std.specs.Prelude.{IsNone, Option}
-use Rattle.tabled_grid.specs.Fitting.{keep_fitting}
-use Rattle.tabled_grid.specs.Rectangles.{Fits}
+use Rattle.tabled_grid.specs.Fitting.{Fits, keep_fitting}
 use Rattle.tabled_grid.specs.Spans.{SpanMap}
 use Rattle.tabled_grid.proofs.Fitting.{keep_fitting-fits}
 use Rattle.tabled_images.specs.Images.{image}

@@ -1,4 +1,4 @@
-use Rattle.tabled_grid.specs.Rectangles.{Fits}
+use Rattle.tabled_grid.specs.Fitting.{Fits}
 use Rattle.tabled_grid.specs.declared.records.axis.Axis.TheVariants.{Rows, Columns}
 use Rattle.tabled_spans.specs.Spanned.{IsFlat}
 use Rattle.tabled_spans.proofs.SpanGeometry.{flat_spanned, option_keeps}

@@ -1,6 +1,6 @@
 use Rattle.std.proofs.Common.{◌≡◌, ◌+◌, ◌-◌, ◌∙◌, ap, sym, false, true, arith}
 use Rattle.std.specs.Prelude.{not}
-use Rattle.tabled_grid.specs.Rectangles.{is_hidden, is_visible}
+use Rattle.tabled_grid.specs.Hidden.{is_hidden, is_visible}
 use Rattle.tabled_grid.specs.Axis.{in_line, line_of}
 use Rattle.tabled_spans.proofs.FreeCells.{one_fails, one_passes}
 use Rattle.tabled_spans.proofs.span.grow.is_free.Goals as goal
