@@ -1,4 +1,4 @@
-"""Merged cells carried along when the cells of a table move, after crates/tabled_images/specs/Images.antt.
+"""Merged cells carried along when the cells of a table move, after crates/tabled_carry/specs/Images.antt.
 
 Where cells move to is said as in tabled_settings: a new shape, and for each new place its old one or none.
 """

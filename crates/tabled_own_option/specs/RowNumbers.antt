@@ -4,7 +4,7 @@ use Rattle.std.specs.List.{range_with_len}
 use Rattle.std.specs.Prelude.{◌≡◌, ℕ, List, map}
 use Rattle.tabled_grid.specs.Grid.{Grid}
 use Rattle.tabled_grid.specs.Spans.{SpanMap}
-use Rattle.tabled_images.specs.PutIn.{PutsInColumn}
+use Rattle.tabled_carry.specs.PutIn.{PutsInColumn}
 
 -- the numbers 1, 2, .. of n rows, as texts
 abbrev pub row_numbers : ℕ → List (List ℕ)

@@ -3,9 +3,9 @@
 ghost use Rattle.tabled_options.specs.Does.{OptionKeeps};
 
 use crate::row_numbers::RowNumbers;
+use tabled_carry::laws::merged_cells_fit_once_a_line_is_put_in;
 use tabled_grid::config::SpannedConfig;
 use tabled_grid::records::{CellText, ExactRecords, Records, RecordsMut, Resizable};
-use tabled_images::laws::merged_cells_fit_once_a_line_is_put_in;
 use tabled_options::{MergedCellsFit, Property, TableOption};
 
 /// Row numbers keep merged cells inside the table and apart, also where they are refused.

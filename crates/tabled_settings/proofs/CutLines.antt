@@ -9,7 +9,7 @@ use Rattle.tabled_grid.specs.declared.records.axis.Axis.{Axis}
 use Rattle.tabled_grid.specs.declared.records.axis.Axis.TheVariants.{Rows, Columns}
 use Rattle.tabled_grid.specs.declared.records.piece_order.PieceOrder.{PieceOrder}
 use Rattle.tabled_grid.proofs.PiecePlaces.{pieces_take_once}
-use Rattle.tabled_images.specs.Images.{Takes}
+use Rattle.tabled_carry.specs.Images.{Takes}
 use Rattle.tabled_settings.specs.Places.{IsTakenOnce}
 use Rattle.tabled_settings.specs.declared.split.Split.{Split}
 use Rattle.tabled_settings.proofs.PiecePlaces.{cut_once, cut_to}

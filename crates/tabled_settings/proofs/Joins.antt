@@ -13,7 +13,7 @@ use Rattle.tabled_grid.specs.declared.records.axis.Axis.TheVariants.{Rows, Colum
 use Rattle.tabled_grid.proofs.AddedLines.{added_blank, added_even, added_kept}
 use Rattle.tabled_grid.proofs.FirstLines.{IsEven-first, either_way}
 use Rattle.tabled_grid.proofs.Grids.{IsEven-with_cell, cell_at-map_grid, cell_at-map_grid_some, cell_at-with_cell_other, cell_at-with_cell_same}
-use Rattle.tabled_images.specs.Images.{KeepsPlaces}
+use Rattle.tabled_carry.specs.Images.{KeepsPlaces}
 use Rattle.tabled_settings.specs.Joined.{FillsTo, GrowsTo, HasBlank, JoinsAt, joined_places, text_put}
 use Rattle.tabled_settings.proofs.LineReads.{line_first, lines_read}
 use Rattle.tabled_settings.proofs.SameCells.{none_outside, same_cells}

@@ -14,7 +14,7 @@ use Rattle.tabled_grid.proofs.FirstLines.{IsEven-first}
 use Rattle.tabled_settings.specs.Lines.{BringsLines, HasLines, KeepsLines, line}
 use Rattle.tabled_grid.specs.Places.{Places, ReadsThrough}
 use Rattle.tabled_grid.specs.Spans.{SpanMap}
-use Rattle.tabled_images.specs.Images.{carried}
+use Rattle.tabled_carry.specs.Images.{carried}
 use Rattle.tabled_settings.specs.Places.{lines_from}
 use Rattle.tabled_settings.specs.Rearranged.{columns_if, count_in, extracted, window}
 use Rattle.tabled_grid.proofs.PiecesPut.{same_count, same_shape, shape_after}

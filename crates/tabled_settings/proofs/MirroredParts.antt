@@ -9,7 +9,7 @@ use Rattle.tabled_grid.specs.declared.config.position.Position.{Position}
 use Rattle.tabled_grid.specs.declared.records.axis.Axis.{Axis}
 use Rattle.tabled_grid.specs.declared.records.axis.Axis.TheVariants.{Rows, Columns}
 use Rattle.tabled_grid.specs.declared.config.size.Size.{Size}
-use Rattle.tabled_images.specs.Images.{Carries, Takes}
+use Rattle.tabled_carry.specs.Images.{Carries, Takes}
 use Rattle.tabled_settings.specs.Places.{lines_from}
 
 -- the lines from s up to e come from those as far from the other end, and the others stay

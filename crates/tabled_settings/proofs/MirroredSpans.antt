@@ -12,8 +12,8 @@ use Rattle.tabled_grid.specs.declared.config.position.Position.{Position}
 use Rattle.tabled_grid.specs.declared.records.axis.Axis.{Axis}
 use Rattle.tabled_grid.specs.declared.records.axis.Axis.TheVariants.{Rows, Columns}
 use Rattle.tabled_grid.specs.declared.config.size.Size.{Size}
-use Rattle.tabled_images.specs.Images.{Carries, IsFull, Takes, carried}
-use Rattle.tabled_images.proofs.Back.{carried_back}
+use Rattle.tabled_carry.specs.Images.{Carries, IsFull, Takes, carried}
+use Rattle.tabled_carry.proofs.Back.{carried_back}
 use Rattle.tabled_settings.specs.Places.{lines_from}
 use Rattle.tabled_settings.specs.Rearranged.{reversed, reversed_index, rotated}
 use Rattle.tabled_settings.specs.declared.rotate.Rotate.TheVariants.{Top}

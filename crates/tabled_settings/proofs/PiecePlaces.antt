@@ -22,7 +22,7 @@ use Rattle.tabled_settings.specs.PiecePlaces.{Splits, kept_pieces, same_places, 
 use Rattle.tabled_settings.specs.Pieces.{has_pieces, turned}
 use Rattle.tabled_grid.specs.Places.{FillsThrough, Places, ReadsThrough}
 use Rattle.tabled_grid.specs.Spans.{SpanMap}
-use Rattle.tabled_images.specs.Images.{carried}
+use Rattle.tabled_carry.specs.Images.{carried}
 use Rattle.tabled_settings.specs.Places.{IsTakenOnce, lines_from}
 use Rattle.tabled_settings.specs.Rearranged.{carried_if}
 use Rattle.tabled_settings.proofs.Glued.{piece_index_below, piece_of}

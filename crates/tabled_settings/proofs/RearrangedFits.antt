@@ -6,8 +6,8 @@ use Rattle.tabled_grid.specs.Fitting.{Fits}
 use Rattle.tabled_grid.specs.Spans.{SpanMap}
 use Rattle.tabled_grid.specs.declared.config.offset.Offset.{Offset}
 use Rattle.tabled_grid.specs.declared.records.axis.Axis.{Axis}
-use Rattle.tabled_images.proofs.CarriedFits.{carried-fits}
-use Rattle.tabled_images.specs.Images.{carried}
+use Rattle.tabled_carry.proofs.CarriedFits.{carried-fits}
+use Rattle.tabled_carry.specs.Images.{carried}
 use Rattle.tabled_options.specs.Does.{OptionKeeps, Same}
 use Rattle.tabled_settings.specs.Joined.{JoinsAt, corner_of, joined_places}
 use Rattle.tabled_settings.specs.PiecePlaces.{Splits, split_places}

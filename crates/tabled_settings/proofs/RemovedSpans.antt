@@ -6,7 +6,7 @@ use Rattle.tabled_grid.specs.Grid.{Grid}
 use Rattle.tabled_grid.specs.Places.{Places}
 use Rattle.tabled_grid.specs.Spans.{SpanMap}
 use Rattle.tabled_grid.specs.declared.records.axis.Axis.{Axis}
-use Rattle.tabled_images.specs.Images.{carried}
+use Rattle.tabled_carry.specs.Images.{carried}
 use Rattle.tabled_select.specs.Located.{TellsLocated, is_located}
 use Rattle.tabled_settings.specs.Lines.{is_marked}
 use Rattle.tabled_settings.specs.Rearranged.{kept_lines, left_over, removed}

@@ -6,7 +6,7 @@ use Rattle.tabled_grid.specs.Axis.{count_of}
 use Rattle.tabled_grid.specs.Spans.{SpanMap}
 use Rattle.tabled_grid.specs.declared.config.offset.Offset.{Offset}
 use Rattle.tabled_grid.specs.declared.records.axis.Axis.{Axis}
-use Rattle.tabled_images.specs.Images.{carried}
+use Rattle.tabled_carry.specs.Images.{carried}
 use Rattle.tabled_settings.specs.Places.{lines_from}
 use Rattle.tabled_settings.specs.Rearranged.{carried_if, limit_end, reversed, reversed_index, reverses}
 

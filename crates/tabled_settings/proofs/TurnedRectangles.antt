@@ -6,8 +6,8 @@ use Rattle.tabled_grid.specs.Midway.{In}
 use Rattle.tabled_grid.specs.declared.config.position.Position.{Position}
 use Rattle.tabled_grid.specs.Spans.{Rectangle, sized}
 use Rattle.tabled_grid.specs.declared.config.size.Size.{Size}
-use Rattle.tabled_images.specs.Images.{Carries, IsFull, Takes}
-use Rattle.tabled_images.proofs.RectanglesCarried.{carries_one}
+use Rattle.tabled_carry.specs.Images.{Carries, IsFull, Takes}
+use Rattle.tabled_carry.proofs.RectanglesCarried.{carries_one}
 use Rattle.tabled_settings.specs.Rearranged.{rotated, upside_down}
 use Rattle.tabled_settings.specs.declared.rotate.Rotate.{Rotate}
 use Rattle.tabled_settings.specs.declared.rotate.Rotate.TheVariants.{Left, Right, Top, Bottom}

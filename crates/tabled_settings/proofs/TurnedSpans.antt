@@ -5,8 +5,8 @@ use Rattle.tabled_grid.specs.Entity.{place}
 use Rattle.tabled_grid.specs.Fitting.{Fits}
 use Rattle.tabled_grid.specs.Spans.{SpanMap}
 use Rattle.tabled_grid.specs.declared.config.position.Position.{Position}
-use Rattle.tabled_images.specs.Images.{IsFull, LeadsBack, Takes, carried}
-use Rattle.tabled_images.proofs.Back.{carried_back}
+use Rattle.tabled_carry.specs.Images.{IsFull, LeadsBack, Takes, carried}
+use Rattle.tabled_carry.proofs.Back.{carried_back}
 use Rattle.tabled_settings.proofs.Rotated.{as_wide}
 use Rattle.tabled_settings.proofs.TurnedRectangles.{turned, turned_carries, turned_full}
 use Rattle.tabled_settings.specs.Rearranged.{rotated}

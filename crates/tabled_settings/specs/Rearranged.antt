@@ -14,7 +14,7 @@ use Rattle.tabled_settings.specs.declared.rotate.Rotate.TheVariants.{Left, Right
 use Rattle.tabled_grid.specs.Axis.{count_of}
 use Rattle.tabled_grid.specs.Places.{Places, ReadsThrough}
 use Rattle.tabled_grid.specs.Spans.{SpanMap}
-use Rattle.tabled_images.specs.Images.{carried}
+use Rattle.tabled_carry.specs.Images.{carried}
 use Rattle.tabled_options.specs.Does.{Change}
 use Rattle.tabled_select.specs.Located.{is_located}
 use Rattle.tabled_settings.specs.Places.{lines_from}

@@ -5,18 +5,18 @@ ghost use Rattle.std.specs.Option.{option_copied};
 ghost use Rattle.std.specs.String.{string_bytes};
 ghost use Rattle.tabled_grid.specs.Grid.{map_grid};
 ghost use Rattle.tabled_grid.specs.declared.records.axis.Axis.TheVariants.{Columns, Rows};
-ghost use Rattle.tabled_images.specs.Images.{carried};
+ghost use Rattle.tabled_carry.specs.Images.{carried};
 ghost use Rattle.tabled_options.specs.Does.{Same};
 ghost use Rattle.tabled_settings.specs.Joined.{FillsTo, GrowsTo, JoinsAt, corner_of, joined_places, text_put, widened};
 ghost use Rattle.std.proofs.Common.{rules};
 
 use std::alloc::{AllocError, Global};
 use std::marker::Model;
+use tabled_carry::kept_in_place;
 use tabled_grid::config::{Entity, Position, SpannedConfig};
 use tabled_grid::records::{
     Axis, CellText, ExactRecords, PeekableRecords, Records, RecordsMut, Resizable, Text, VecRecords,
 };
-use tabled_images::kept_in_place;
 use tabled_table::{Table, TableOption};
 
 /// Joins a second table to a table, below it or right of it. A contract sees it as where the second table

@@ -8,9 +8,9 @@ ghost use Rattle.tabled_settings.specs.PiecePlaces.{thinned};
 
 use crate::kept_lines::index_of;
 use crate::split::Split;
+use tabled_carry::{Moves, MovesRectangles};
 use tabled_grid::config::Position;
 use tabled_grid::records::PieceOrder;
-use tabled_images::{Moves, MovesRectangles};
 
 /// n lines of a width that are cut, where all pieces are kept.
 #[derive(Drop)]

@@ -3,7 +3,7 @@
 ghost use Rattle.std.specs.Prelude.{◌≡◌, ℕ, List, OnErr, OnOk};
 ghost use Rattle.tabled_options.specs.Does.{Same};
 ghost use Rattle.tabled_grid.specs.Places.{ReadsThrough};
-ghost use Rattle.tabled_images.specs.Images.{carried};
+ghost use Rattle.tabled_carry.specs.Images.{carried};
 ghost use Rattle.tabled_settings.specs.Rearranged.{removed};
 ghost use Rattle.std.proofs.Common.{rules};
 
@@ -11,10 +11,10 @@ use crate::kept_lines::Kept;
 use crate::lines;
 use std::alloc::{AllocError, Global};
 use std::marker::{Model, PhantomData};
+use tabled_carry::{carry_along, kept_in_place};
 use tabled_grid::config::{Entity, SpannedConfig};
 use tabled_grid::records::{Axis, Blank, ExactRecords, Records, Resizable};
 pub use tabled_grid::records::{Target, TargetColumn, TargetRow};
-use tabled_images::{carry_along, kept_in_place};
 use tabled_options::TableOption;
 use tabled_select::location::{Location, marks};
 

@@ -5,7 +5,7 @@ ghost use Rattle.std.specs.declared.ops.Bound.TheVariants.{Unbounded};
 ghost use Rattle.tabled_grid.specs.Entity.{place};
 ghost use Rattle.tabled_grid.specs.Places.{ReadsThrough};
 ghost use Rattle.tabled_grid.specs.Fitting.{Fits};
-ghost use Rattle.tabled_images.specs.Images.{carried};
+ghost use Rattle.tabled_carry.specs.Images.{carried};
 ghost use Rattle.tabled_options.specs.Does.{Same};
 ghost use Rattle.tabled_settings.specs.Rearranged.{columns_if, extracted, window};
 ghost use Rattle.std.proofs.Common.{rules};
@@ -14,9 +14,9 @@ use crate::lines;
 use std::alloc::{AllocError, Global};
 use std::marker::Model;
 use std::ops::{Range, RangeFull};
+use tabled_carry::{Moves, MovesRectangles, carry_along, kept_in_place};
 use tabled_grid::config::{Entity, Position, SpannedConfig, ToBounds};
 use tabled_grid::records::{Axis, Blank, ExactRecords, Records, Resizable};
-use tabled_images::{Moves, MovesRectangles, carry_along, kept_in_place};
 use tabled_options::TableOption;
 
 /// Keeps the rows of a range, and the columns of another. Only merged cells that don't fit the table take

@@ -6,9 +6,9 @@ ghost use Rattle.tabled_settings.specs.Lines.{is_marked};
 ghost use Rattle.tabled_settings.specs.Rearranged.{kept_lines, left_over};
 
 use std::alloc::{AllocError, Global};
+use tabled_carry::{Moves, MovesRectangles};
 use tabled_grid::config::Position;
 use tabled_grid::records::Axis;
-use tabled_images::{Moves, MovesRectangles};
 
 /// Some of the rows, or of the columns, of a table of r rows and c columns.
 #[derive(Drop)]

@@ -16,7 +16,7 @@ ghost use Rattle.tabled_settings.specs.Pieces.{split};
 ghost use Rattle.tabled_grid.specs.Places.{ReadsThrough};
 ghost use Rattle.tabled_grid.specs.Fitting.{Fits};
 ghost use Rattle.tabled_grid.specs.Spans.{SpanMap};
-ghost use Rattle.tabled_images.specs.Images.{carried};
+ghost use Rattle.tabled_carry.specs.Images.{carried};
 ghost use Rattle.tabled_settings.specs.Places.{IsTakenOnce};
 ghost use Rattle.tabled_settings.specs.Rearranged.{reversed, rotated, turned_half};
 

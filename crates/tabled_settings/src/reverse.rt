@@ -13,9 +13,9 @@ ghost use Rattle.std.proofs.Common.{rules};
 
 use crate::lines;
 use std::alloc::{AllocError, Global};
+use tabled_carry::{Moves, MovesRectangles, carry_along, image_of, kept_in_place};
 use tabled_grid::config::{Entity, Offset, Position, Rectangle, Size, SpannedConfig};
 use tabled_grid::records::{Axis, Blank, ExactRecords, Records, Resizable};
-use tabled_images::{Moves, MovesRectangles, carry_along, image_of, kept_in_place};
 use tabled_options::TableOption;
 
 /// Puts rows or columns, from a start up to a limit, into the opposite order, and merged cells with them. It

@@ -10,9 +10,9 @@ ghost use Rattle.std.proofs.Common.{rules};
 
 use crate::lines;
 use std::alloc::{AllocError, Global};
+use tabled_carry::{Moves, MovesRectangles, carry_along, kept_in_place};
 use tabled_grid::config::{Entity, Position, Rectangle, Size, SpannedConfig};
 use tabled_grid::records::{Axis, Blank, ExactRecords, Records, Resizable};
-use tabled_images::{Moves, MovesRectangles, carry_along, kept_in_place};
 use tabled_options::TableOption;
 
 /// Turns a table, and its merged cells with it. Refused for memory, it leaves the table as it was; `Top` and

@@ -14,10 +14,10 @@ ghost use Rattle.std.proofs.Common.{rules};
 use crate::cuts::{CleanCut, Cut};
 use crate::{lines, pieces};
 use std::alloc::{AllocError, Global};
+use tabled_carry::{carry_along, kept_in_place};
 use tabled_grid::config::{Entity, SpannedConfig};
 pub use tabled_grid::records::PieceOrder as Behavior;
 use tabled_grid::records::{Axis, CellText, ExactRecords, PeekableRecords, Records, Resizable};
-use tabled_images::{carry_along, kept_in_place};
 use tabled_options::TableOption;
 
 /// Whether pieces without a text stay.

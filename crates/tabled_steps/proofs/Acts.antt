@@ -6,7 +6,7 @@ use Rattle.tabled_grid.specs.Places.{ReadsThrough}
 use Rattle.tabled_grid.specs.Spans.{SpanMap}
 use Rattle.tabled_grid.specs.declared.config.entity.Entity.{Entity}
 use Rattle.tabled_grid.specs.declared.records.axis.Axis.{Axis}
-use Rattle.tabled_images.specs.Images.{carried}
+use Rattle.tabled_carry.specs.Images.{carried}
 use Rattle.tabled_options.specs.Does.{Change, Same, Then, ThenLeaves}
 use Rattle.tabled_settings.specs.Dups.{Duplicates, DuplicatesFirst}
 use Rattle.tabled_settings.specs.Rearranged.{Rearranges, extracted, removed}

@@ -12,7 +12,7 @@ use Rattle.tabled_options.specs.Writes.{text_writes, with_writes}
 use Rattle.tabled_select.specs.Locators.{columns_with}
 use Rattle.tabled_settings.specs.Charsets.{charset_writes}
 use Rattle.tabled_settings.specs.Dups.{dup_writes}
-use Rattle.tabled_images.specs.Images.{carried}
+use Rattle.tabled_carry.specs.Images.{carried}
 use Rattle.tabled_settings.specs.Joined.{corner_of, joined_places}
 use Rattle.tabled_settings.specs.PiecePlaces.{glued, split_places}
 use Rattle.tabled_settings.specs.Pieces.{has_pieces, split}

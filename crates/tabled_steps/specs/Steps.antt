@@ -12,7 +12,7 @@ use Rattle.tabled_options.specs.Writes.{DoesFirstWrites, DoesWrites, text_writes
 use Rattle.tabled_select.specs.Locators.{columns_with}
 use Rattle.tabled_settings.specs.Charsets.{charset_writes}
 use Rattle.tabled_settings.specs.Dups.{Duplicates, DuplicatesFirst}
-use Rattle.tabled_images.specs.Images.{carried}
+use Rattle.tabled_carry.specs.Images.{carried}
 use Rattle.tabled_settings.specs.Joined.{JoinsAt, corner_of, joined_places}
 use Rattle.tabled_settings.specs.PiecePlaces.{Splits, split_places}
 use Rattle.tabled_settings.specs.Pieces.{has_pieces}

@@ -6,19 +6,19 @@ ghost use Rattle.std.specs.Option.{IfSome};
 ghost use Rattle.tabled_grid.specs.Entity.{place};
 ghost use Rattle.tabled_grid.specs.Fitting.{Fits, keep_fitting};
 ghost use Rattle.tabled_grid.specs.Spans.{Rectangle, sized};
-ghost use Rattle.tabled_images.specs.Images.{Carries, IsFull, carried};
+ghost use Rattle.tabled_carry.specs.Images.{Carries, IsFull, carried};
 
 use crate::geometry::changes;
 use std::alloc::{AllocError, Global};
+use tabled_carry::laws::{
+    carried_rectangles_are_the_images, carried_rectangles_fit, carried_there_and_back_is_as_it_was,
+    fitting_rectangles_are_the_free_ones, merged_cells_stay_with_their_cells, there_is_one_image,
+};
+use tabled_carry::{MovesRectangles, carry_along, kept_in_place};
 use tabled_grid::config::{Position, Rectangle, Size, SpannedConfig};
 use tabled_grid::records::{
     Blank, CellText, ExactRecords, PeekableRecords, Records, RecordsMut, Resizable,
 };
-use tabled_images::laws::{
-    carried_rectangles_are_the_images, carried_rectangles_fit, carried_there_and_back_is_as_it_was,
-    fitting_rectangles_are_the_free_ones, merged_cells_stay_with_their_cells, there_is_one_image,
-};
-use tabled_images::{MovesRectangles, carry_along, kept_in_place};
 use tabled_options::TableOption;
 use tabled_select::object::{Column, Rows};
 use tabled_settings::concat::Concat;

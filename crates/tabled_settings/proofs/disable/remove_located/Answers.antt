@@ -1,8 +1,8 @@
 use Rattle.std.proofs.Common.{◌∙◌, ap, sym}
 use Rattle.tabled_grid.proofs.SortedAnchors.{none-listed}
 use Rattle.tabled_grid.specs.Places.{Places}
-use Rattle.tabled_images.specs.Images.{carried}
-use Rattle.tabled_images.proofs.CarriedFits.{carried-none}
+use Rattle.tabled_carry.specs.Images.{carried}
+use Rattle.tabled_carry.proofs.CarriedFits.{carried-none}
 use Rattle.tabled_settings.specs.Rearranged.{removed}
 use Rattle.tabled_settings.proofs.Dropped.{removed_done}
 use Rattle.tabled_settings.proofs.RemovedSpans.{removed_carried}

@@ -2,8 +2,8 @@ use Rattle.std.proofs.Common.{◌≡◌, IsNone, Option, ap₂, refl, rules, sym
 use Rattle.std.specs.Option.{IfSome}
 use Rattle.tabled_grid.specs.Fitting.{keep_fitting}
 use Rattle.tabled_grid.specs.Spans.{SpanMap}
-use Rattle.tabled_images.specs.Images.{carried}
-use Rattle.tabled_images.proofs.CarriedFits.{carried-stays}
+use Rattle.tabled_carry.specs.Images.{carried}
+use Rattle.tabled_carry.proofs.CarriedFits.{carried-stays}
 use Rattle.tabled_settings.specs.Joined.{corner_of, joined_places}
 use Rattle.tabled_settings.proofs.Joins.{joined_keeps}
 use Rattle.tabled_settings.proofs.concat.ConcatTableOptionSpannedConfig.change.Goals as goal

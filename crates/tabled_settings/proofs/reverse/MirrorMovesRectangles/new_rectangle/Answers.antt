@@ -1,8 +1,8 @@
 use Rattle.std.proofs.Common.{◌≡◌, ℕ, ◌+◌, ◌-◌, ◌≤◌, ◌⊎◌, inl, inr, Some, ap, ap₂, arith, subst, sym, ◌∙◌}
 use Rattle.tabled_grid.specs.Axis.{count_of, in_line, line_of}
 use Rattle.tabled_grid.specs.declared.config.position.Position.{Position}
-use Rattle.tabled_images.specs.Images.{Carries}
-use Rattle.tabled_images.proofs.RectanglesCarried.{carries_one}
+use Rattle.tabled_carry.specs.Images.{Carries}
+use Rattle.tabled_carry.proofs.RectanglesCarried.{carries_one}
 use Rattle.tabled_settings.specs.Places.{lines_from}
 use Rattle.tabled_settings.specs.Rearranged.{reversed_index}
 use Rattle.tabled_settings.proofs.MirroredParts.{part_mirrored, part_stays}

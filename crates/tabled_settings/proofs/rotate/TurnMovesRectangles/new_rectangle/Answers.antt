@@ -1,5 +1,5 @@
 use Rattle.std.proofs.Common.{arith, subst, sym}
-use Rattle.tabled_images.specs.Images.{Carries}
+use Rattle.tabled_carry.specs.Images.{Carries}
 use Rattle.tabled_settings.specs.Rearranged.{rotated}
 use Rattle.tabled_settings.specs.declared.rotate.Rotate.TheVariants.{Left, Right}
 use Rattle.tabled_settings.proofs.TurnedRectangles.{turned_carries, turned_inside, turned_left, turned_one, turned_over, turned_right}

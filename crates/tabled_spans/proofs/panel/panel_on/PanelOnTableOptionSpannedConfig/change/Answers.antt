@@ -13,11 +13,10 @@ returns-in-Err-clause-err g c =
     let old = g.R.GridStore.grid c.args.records.now in
     let axis = c.axis-axis.result in
     let within : c.self.inside.line ≤ count_along axis old = omega (arith, c.if-line-count.false, c.count.ensures.count) in
-    let cells : 1 ≤ count_along (across axis) old = omega (arith, c.if-many-eq0.false, rw c.across.ensures at c.count-many.ensures.count) in
-    (
+    let cells : 1 ≤ count_along (across axis) old = omega (arith, c.if-many-eq0.false, rw c.across.ensures at c.count-many.ensures.count) in (
       c.remove_line.ensures.removed
-      ∙ ap (without_line axis c.self.inside.line) c.in-Err.ensures.err
-      ∙ undone g.R.Cell.Blank.is_blank axis c.self.inside.line _ _ (g.R.GridStore.even _ c.requires.well) (g.met.R.Resizable.rowless _ c.requires.well) within cells c.in_ok-insert_line.ensures.ok,
+          ∙ ap (without_line axis c.self.inside.line) c.in-Err.ensures.err
+          ∙ undone g.R.Cell.Blank.is_blank axis c.self.inside.line _ _ (g.R.GridStore.even _ c.requires.well) (g.met.R.Resizable.rowless _ c.requires.well) within cells c.in_ok-insert_line.ensures.ok,
       refl,
     )
 

@@ -1,0 +1,56 @@
+-- What is carried along fits the new table.
+use Rattle.std.proofs.Common.{◌≡◌, ℕ, false, List, [], ◌∷◌, Some, refl, sym, ap, subst, ◌∙◌, arith, length}
+use Rattle.std.specs.FinMap.{empty, empty_of_len, len-entries, from_entries, get, entries, entries-from_sorted, from_sorted}
+use Rattle.std.specs.List.{filter}
+use Rattle.tabled_grid.specs.Midway.{In}
+use Rattle.tabled_grid.specs.Places.{Places}
+use Rattle.tabled_grid.specs.Fitting.{Fits, fitting, keep_fitting}
+use Rattle.tabled_grid.specs.Spans.{AreSpanSizes, Rectangle, SpanMap, position_cmp}
+use Rattle.tabled_grid.specs.declared.config.position.Position.{Position}
+use Rattle.tabled_carry.specs.Images.{Carries, IsFull, KeepsPlaces, Takes, carried, images, rectangles}
+use Rattle.tabled_carry.proofs.RectanglesCarried.{carries_one, image_fits, image_is, image_one}
+use Rattle.tabled_grid.proofs.Fitting.{keep_fitting-fits}
+use Rattle.tabled_grid.specs.declared.config.size.Size.{Size}
+
+no_images : (fs : List Rectangle) → filter (λ (f : Rectangle). false) fs ≡ []
+no_images [] = refl
+no_images (f ∷ fs) = no_images fs
+
+-- where nothing is merged, nothing is carried
+pub carried-none : (places : Places) (rows columns : ℕ) (m : SpanMap) → entries m ≡ [] → carried places rows columns m ≡ m
+carried-none places rows columns m none =
+    let kept : entries (keep_fitting rows columns m) ≡ [] = ap (λ (es : List Rectangle). entries (from_sorted {R = position_cmp} (fitting rows columns es))) none ∙ entries-from_sorted position_cmp [] tt in
+    let gone : carried places rows columns m ≡ empty = ap (λ (es : List Rectangle). from_entries {R = position_cmp} (images places es)) kept ∙ ap (λ (es : List Rectangle). from_entries {R = position_cmp} es) (no_images (rectangles places.rows places.columns)) in
+    gone ∙ sym (empty_of_len m (len-entries m ∙ ap length none))
+
+-- what is carried along fits the new table, whatever the map of places
+pub carried-fits : (places : Places) (rows columns : ℕ) (m : SpanMap) → AreSpanSizes m → Fits (carried places rows columns m) places.rows places.columns
+carried-fits places rows columns m sizes =
+    let kept = keep_fitting-fits rows columns m sizes in
+    image_fits places (keep_fitting rows columns m) (carried places rows columns m) rows columns (image_is places (keep_fitting rows columns m) rows columns kept) kept
+
+-- where cells keep their places, so does what fits
+pub carried-stays : (places : Places) (rows columns : ℕ) (m : SpanMap) → AreSpanSizes m → KeepsPlaces places rows columns → carried places rows columns m ≡ keep_fitting rows columns m
+carried-stays places rows columns m sizes keeps =
+    image_one places kept (carried places rows columns m) kept (image_is places kept rows columns fits) (record { comes = comes; goes = goes })
+  where
+    kept : SpanMap
+    kept = keep_fitting rows columns m
+
+    fits : Fits kept rows columns
+    fits = keep_fitting-fits rows columns m sizes
+
+    full : (a : Position) (s : Size) → get kept a ≡ Some s → IsFull (a, s)
+    full a s h = let size = fits.sizes.each a s h in record { height = size.height; width = size.width }
+
+    stays : (a : Position) (s : Size) → get kept a ≡ Some s → Carries places (a, s) (a, s)
+    stays a s h =
+        let inside = fits.inside a s h in
+        let takes : (p : Position) → In (a, s) p → Takes places p p = λ p i. keeps.stays p (omega (arith, i.bottom, inside.0)) (omega (arith, i.right, inside.1)) in
+        record { all = λ p i. (p, takes p i); only = λ p q t i. subst (λ (x : Position). In (a, s) x) (sym (keeps.alone p q t)) i; from = λ p i. (p, i, takes p i) }
+
+    comes : (b : Position) (t : Size) → get kept b ≡ Some t → (a : Position) × (s : Size) × (get kept a ≡ Some s) × Carries places (a, s) (b, t) × IsFull (b, t)
+    comes b t h = (b, t, h, stays b t h, full b t h)
+
+    goes : (a b : Position) (s t : Size) → get kept a ≡ Some s → Carries places (a, s) (b, t) → IsFull (b, t) → get kept b ≡ Some t
+    goes a b s t h c whole = subst (λ (e : Rectangle). get kept e.0 ≡ Some e.1) (carries_one places (a, s) (a, s) (b, t) (full a s h) whole (stays a s h) c) h

@@ -1,0 +1,262 @@
+-- Rectangles carried along fit the new table, and the map of them is the image.
+use Rattle.std.proofs.Common.{◌≡◌, ℕ, ◌+◌, ◌-◌, ◌<◌, ◌≤◌, ◌⊎◌, inl, inr, Bool, true, false, Option, None, Some, map, refl, sym, ap, ap₂, subst, ◌∙◌, arith}
+use Rattle.std.specs.FinMap.{entries, entries_sorted, get, get-entries, get-from_entries, same_map}
+use Rattle.std.specs.List.{list_all, list_any}
+use Rattle.std.proofs.lemmas.Bool.{and_from, and_parts, cases_lt}
+use Rattle.std.proofs.lemmas.Option.{same_Some}
+use Rattle.tabled_grid.specs.Entity.{block, place, same_place}
+use Rattle.tabled_grid.specs.Midway.{In}
+use Rattle.tabled_grid.specs.Places.{Places}
+use Rattle.tabled_grid.specs.Rectangles.{holds}
+use Rattle.tabled_grid.specs.Fitting.{Fits}
+use Rattle.tabled_grid.specs.Spans.{IsSpanSize, Rectangle, SpanMap, position_cmp, sized}
+use Rattle.tabled_grid.specs.declared.config.position.Position.{Position}
+use Rattle.tabled_grid.specs.declared.config.size.Size.{Size}
+use Rattle.tabled_grid.proofs.SpanMaps.{holds-from, holds-true, same_place-self, same_place-true}
+use Rattle.tabled_grid.proofs.Spans.{positions_exact, positions_total}
+use Rattle.tabled_carry.specs.Images.{Carries, IsFull, IsImage, Takes, alike, carries, cells_of, image, images, passes, rectangles}
+use Rattle.tabled_grid.proofs.Members.{Member, all-from, all-member, any-from, any-member, block-from, block-member, filter-from, filter-member, find-member, flat_map-from, flat_map-member, map-from, map-member, member-find, sorted-find}
+
+-- the first and the last cell of a rectangle
+abbrev last_of : Rectangle → Position
+last_of f = place (f.0.row + (f.1.height - 1)) (f.0.col + (f.1.width - 1))
+
+pub first_in : (f : Rectangle) → IsFull f → In f f.0
+first_in f full = record { top = omega arith; bottom = omega (arith, full.height); left = omega arith; right = omega (arith, full.width) }
+
+last_in : (f : Rectangle) → IsFull f → In f (last_of f)
+last_in f full = record { top = omega arith; bottom = omega (arith, full.height); left = omega arith; right = omega (arith, full.width) }
+
+-- rectangles with the same cells are one
+pub same_cells : (f g : Rectangle) → IsFull f → IsFull g → ((p : Position) → In f p → In g p) → ((p : Position) → In g p → In f p) → f ≡ g
+same_cells f g full full' to back =
+    let a = to f.0 (first_in f full) in
+    let b = back g.0 (first_in g full') in
+    let c = to (last_of f) (last_in f full) in
+    let d = back (last_of g) (last_in g full') in
+    let row : f.0.row ≡ g.0.row = omega (arith, a.top, b.top) in
+    let col : f.0.col ≡ g.0.col = omega (arith, a.left, b.left) in
+    let height : f.1.height ≡ g.1.height = omega (arith, row, c.bottom, d.bottom, full.height, full'.height) in
+    let width : f.1.width ≡ g.1.width = omega (arith, col, c.right, d.right, full.width, full'.width) in
+    ap₂ (λ p s. (p, s)) (ap₂ place row col) (ap₂ sized height width)
+
+module _ (places : Places) where
+  -- a new place has one old place
+  pub takes_one : (p q r : Position) → Takes places p q → Takes places p r → q ≡ r
+  takes_one p q r a b = same_Some q r (sym a.from ∙ b.from)
+
+  -- a rectangle is carried to one rectangle at most
+  pub carries_one : (e f g : Rectangle) → IsFull f → IsFull g → Carries places e f → Carries places e g → f ≡ g
+  carries_one e f g full full' c d = same_cells f g full full' (λ p h. let t = c.from p h in d.only p t.0 t.2 t.1) (λ p h. let t = d.from p h in c.only p t.0 t.2 t.1)
+
+  -- more than one cell goes to more than one
+  pub carries_more : (e f : Rectangle) → IsFull f → Carries places e f → IsSpanSize e.1 → IsSpanSize f.1
+  carries_more e f full c size = record { height = full.height; width = full.width; merges = by (cases_lt 1 f.1.height) (cases_lt 1 f.1.width) }
+    where
+      first : In e e.0
+      first = first_in e (record { height = size.height; width = size.width })
+
+      -- two cells that have the one place are one
+      alone : f.1.height ≤ 1 → f.1.width ≤ 1 → (q : Position) → In e q → q ≡ e.0
+      alone low thin q h =
+          let t = c.all q h in
+          let u = c.all e.0 first in
+          let i = c.only t.0 q t.1 h in
+          let j = c.only u.0 e.0 u.1 first in
+          let row : t.0.row ≡ u.0.row = omega (arith, i.top, i.bottom, j.top, j.bottom, low) in
+          let col : t.0.col ≡ u.0.col = omega (arith, i.left, i.right, j.left, j.right, thin) in
+          takes_one u.0 q e.0 (subst (λ x. Takes places x q) (ap₂ place row col) t.1) u.1
+
+      never : f.1.height ≤ 1 → f.1.width ≤ 1 → (1 < e.1.height) ⊎ (1 < e.1.width) → ⊥
+      never low thin (inl tall) =
+          let same = alone low thin (place (e.0.row + 1) e.0.col) (record { top = omega arith; bottom = omega (arith, tall); left = omega arith; right = omega (arith, size.width) }) in
+          omega (arith, ap (λ (x : Position). x.row) same)
+      never low thin (inr wide) =
+          let same = alone low thin (place e.0.row (e.0.col + 1)) (record { top = omega arith; bottom = omega (arith, size.height); left = omega arith; right = omega (arith, wide) }) in
+          omega (arith, ap (λ (x : Position). x.col) same)
+
+      by : (1 < f.1.height) ⊎ (f.1.height ≤ 1) → (1 < f.1.width) ⊎ (f.1.width ≤ 1) → (1 < f.1.height) ⊎ (1 < f.1.width)
+      by (inl tall) w = inl tall
+      by (inr low) (inl wide) = inr wide
+      by (inr low) (inr thin) = absurd (never low thin size.merges)
+
+  -- an image of what fits, fits
+  pub image_fits : (old new : SpanMap) (rows columns : ℕ) → IsImage places old new → Fits old rows columns → Fits new places.rows places.columns
+  image_fits old new rows columns is fits = record { sizes = record { each = sizes }; inside = inside; apart = apart }
+    where
+      sizes : (b : Position) (t : Size) → get new b ≡ Some t → IsSpanSize t
+      sizes b t has = let c = is.comes b t has in carries_more (c.0, c.1) (b, t) c.4 c.3 (fits.sizes.each c.0 c.1 c.2)
+
+      inside : (b : Position) (t : Size) → get new b ≡ Some t → (b.row + t.height ≤ places.rows) × (b.col + t.width ≤ places.columns)
+      inside b t has =
+          let c = is.comes b t has in
+          let last = (c.3.from (last_of (b, t)) (last_in (b, t) c.4)).2 in
+          (omega (arith, last.row, c.4.height), omega (arith, last.col, c.4.width))
+
+      meet : (a b p : Position) (s t : Size) (c : (k : Position) × (z : Size) × (get old k ≡ Some z) × Carries places (k, z) (a, s) × IsFull (a, s)) (d : (k : Position) × (z : Size) × (get old k ≡ Some z) × Carries places (k, z) (b, t) × IsFull (b, t)) → In (a, s) p → In (b, t) p → a ≡ b
+      meet a b p s t c d ha hb =
+          let q = c.3.from p ha in
+          let r = d.3.from p hb in
+          let one = takes_one p q.0 r.0 q.2 r.2 in
+          let anchor = fits.apart c.0 d.0 c.1 d.1 q.0 c.2 d.2 (holds-from _ _ q.1) (holds-from _ _ (subst (λ x. In (d.0, d.1) x) (sym one) r.1)) in
+          let size = same_Some _ _ (sym c.2 ∙ ap (get old) anchor ∙ d.2) in
+          let other : Carries places (c.0, c.1) (b, t) = subst (λ e. Carries places e (b, t)) (ap₂ (λ k z. (k, z)) (sym anchor) (sym size)) d.3 in
+          ap (λ (f : Rectangle). f.0) (carries_one (c.0, c.1) (a, s) (b, t) c.4 d.4 c.3 other)
+
+      apart : (a b : Position) (s t : Size) (p : Position) → get new a ≡ Some s → get new b ≡ Some t → holds (a, s) p ≡ true → holds (b, t) p ≡ true → a ≡ b
+      apart a b s t p ha hb ia ib = meet a b p s t (is.comes a s ha) (is.comes b t hb) (holds-true _ _ ia) (holds-true _ _ ib)
+
+  -- a map has one image
+  pub image_one : (old new other : SpanMap) → IsImage places old new → IsImage places old other → new ≡ other
+  image_one old new other is also = same_map positions_total positions_exact new other (λ q. by q (get new q) refl (get other q) refl)
+    where
+      over : (m n : SpanMap) → IsImage places old m → IsImage places old n → (b : Position) (t : Size) → get m b ≡ Some t → get n b ≡ Some t
+      over m n i j b t h = let c = i.comes b t h in j.goes c.0 b c.1 t c.2 c.3 c.4
+
+      by : (b : Position) (x : Option Size) → get new b ≡ x → (y : Option Size) → get other b ≡ y → get new b ≡ get other b
+      by b (Some t) h y k = h ∙ sym (over new other is also b t h)
+      by b None h (Some t) k = over other new also is b t k ∙ sym k
+      by b None h None k = h ∙ sym k
+
+  -- the test of an old place
+  passed : (test : Position → Bool) (o : Option Position) → passes test o ≡ true → (q : Position) × (o ≡ Some q) × (test q ≡ true)
+  passed test None h = cc
+  passed test (Some q) h = (q, refl, h)
+
+  passed-from : (test : Position → Bool) (o : Option Position) (q : Position) → o ≡ Some q → test q ≡ true → passes test o ≡ true
+  passed-from test o q is h = ap (passes test) is ∙ h
+
+  alike-true : (a b : Bool) → alike a b ≡ true → a ≡ b
+  alike-true true b h = sym h
+  alike-true false true h = cc
+  alike-true false false h = refl
+
+  alike-from : (a b : Bool) → (a ≡ true → b ≡ true) → (b ≡ true → a ≡ true) → alike a b ≡ true
+  alike-from true b to back = to refl
+  alike-from false true to back = back refl
+  alike-from false false to back = refl
+
+  pub cell_in : (f : Rectangle) (p : Position) → Member p (cells_of f) → In f p
+  cell_in f p m = let h = block-member _ _ _ _ p m in record { top = h.top; bottom = h.bottom; left = h.left; right = h.right }
+
+  pub cell_from : (f : Rectangle) (p : Position) → In f p → Member p (cells_of f)
+  cell_from f p h = block-from _ _ _ _ p (record { top = h.top; bottom = h.bottom; left = h.left; right = h.right })
+
+  -- the test says what the record says
+  carries-true : (e f : Rectangle) → (f.0.row + f.1.height ≤ places.rows) × (f.0.col + f.1.width ≤ places.columns) → carries places e f ≡ true → Carries places e f
+  carries-true e f inside h = record { all = all; only = only; from = from }
+    where
+      new : Position → Bool
+      new p = alike (passes (holds e) (places.old_place p)) (holds f p)
+
+      has : Position → Bool
+      has q = list_any (λ (p : Position). passes (same_place q) (places.old_place p)) (cells_of f)
+
+      parts : (list_all new (block 0 places.rows 0 places.columns) ≡ true) × (list_all has (cells_of e) ≡ true)
+      parts = and_parts (list_all new (block 0 places.rows 0 places.columns)) (list_all has (cells_of e)) h
+
+      all : (q : Position) → In e q → (p : Position) × Takes places p q
+      all q i =
+          let there = all-member has q (cells_of e) parts.1 (cell_from e q i) in
+          let m = any-member (λ (p : Position). passes (same_place q) (places.old_place p)) (cells_of f) there in
+          let c = cell_in f m.0 m.1 in
+          let o = passed (same_place q) (places.old_place m.0) m.2 in
+          (m.0, record { row = omega (arith, c.bottom, inside.0); col = omega (arith, c.right, inside.1); from = o.1 ∙ ap Some (sym (same_place-true q o.0 o.2)) })
+
+      only : (p q : Position) → Takes places p q → In e q → In f p
+      only p q t i =
+          let m = block-from 0 places.rows 0 places.columns p (record { top = omega arith; bottom = t.row; left = omega arith; right = t.col }) in
+          let same = alike-true _ _ (all-member new p (block 0 places.rows 0 places.columns) parts.0 m) in
+          holds-true f p (sym same ∙ passed-from (holds e) (places.old_place p) q t.from (holds-from e q i))
+
+      from : (p : Position) → In f p → (q : Position) × In e q × Takes places p q
+      from p i =
+          let row : p.row < places.rows = omega (arith, i.bottom, inside.0) in
+          let col : p.col < places.columns = omega (arith, i.right, inside.1) in
+          let m = block-from 0 places.rows 0 places.columns p (record { top = omega arith; bottom = row; left = omega arith; right = col }) in
+          let same = alike-true _ _ (all-member new p (block 0 places.rows 0 places.columns) parts.0 m) in
+          let o = passed (holds e) (places.old_place p) (same ∙ holds-from f p i) in
+          (o.0, holds-true e o.0 o.2, record { row = row; col = col; from = o.1 })
+
+  carries-from : (e f : Rectangle) → Carries places e f → carries places e f ≡ true
+  carries-from e f c = and_from _ _ (all-from new (block 0 places.rows 0 places.columns) just) (all-from has (cells_of e) each)
+    where
+      new : Position → Bool
+      new p = alike (passes (holds e) (places.old_place p)) (holds f p)
+
+      has : Position → Bool
+      has q = list_any (λ (p : Position). passes (same_place q) (places.old_place p)) (cells_of f)
+
+      just : (p : Position) → Member p (block 0 places.rows 0 places.columns) → new p ≡ true
+      just p m =
+          let b = block-member 0 places.rows 0 places.columns p m in
+          alike-from _ _
+          (λ h. let o = passed (holds e) (places.old_place p) h in holds-from f p (c.only p o.0 (record { row = b.bottom; col = b.right; from = o.1 }) (holds-true e o.0 o.2)))
+          (λ h. let t = c.from p (holds-true f p h) in passed-from (holds e) (places.old_place p) t.0 t.2.from (holds-from e t.0 t.1))
+
+      each : (q : Position) → Member q (cells_of e) → has q ≡ true
+      each q m =
+          let i = cell_in e q m in
+          let t = c.all q i in
+          any-from (λ (p : Position). passes (same_place q) (places.old_place p)) t.0 (cells_of f) (cell_from f t.0 (c.only t.0 q t.1 i)) (passed-from (same_place q) (places.old_place t.0) q t.1.from (same_place-self q))
+
+  -- the rectangles inside a table
+  rectangle-member : (f : Rectangle) → Member f (rectangles places.rows places.columns) → IsFull f × (f.0.row + f.1.height ≤ places.rows) × (f.0.col + f.1.width ≤ places.columns)
+  rectangle-member f m =
+      let p = flat_map-member (λ (p : Position). map (λ (last : Position). (p, sized (last.row + 1) (last.col + 1))) (block 0 (places.rows - p.row) 0 (places.columns - p.col))) f (block 0 places.rows 0 places.columns) m in
+      let q = map-member (λ (last : Position). (p.0, sized (last.row + 1) (last.col + 1))) f (block 0 (places.rows - p.0.row) 0 (places.columns - p.0.col)) p.2 in
+      let b = block-member 0 places.rows 0 places.columns p.0 p.1 in
+      let l = block-member 0 (places.rows - p.0.row) 0 (places.columns - p.0.col) q.0 q.1 in
+      let row : f.0.row ≡ p.0.row = ap (λ (e : Rectangle). e.0.row) q.2 in
+      let col : f.0.col ≡ p.0.col = ap (λ (e : Rectangle). e.0.col) q.2 in
+      let height : f.1.height ≡ q.0.row + 1 = ap (λ (e : Rectangle). e.1.height) q.2 in
+      let width : f.1.width ≡ q.0.col + 1 = ap (λ (e : Rectangle). e.1.width) q.2 in
+      (record { height = omega (arith, height); width = omega (arith, width) }, omega (arith, row, height, l.bottom, b.bottom), omega (arith, col, width, l.right, b.right))
+
+  rectangle-from : (f : Rectangle) → IsFull f → f.0.row + f.1.height ≤ places.rows → f.0.col + f.1.width ≤ places.columns → Member f (rectangles places.rows places.columns)
+  rectangle-from f full tall wide =
+      let height : f.1.height - 1 + 1 ≡ f.1.height = omega (arith, full.height) in
+      let width : f.1.width - 1 + 1 ≡ f.1.width = omega (arith, full.width) in
+      let within : Member f.0 (block 0 places.rows 0 places.columns) = block-from 0 places.rows 0 places.columns f.0 (record { top = omega arith; bottom = omega (arith, full.height, tall); left = omega arith; right = omega (arith, full.width, wide) }) in
+      let last : Member (place (f.1.height - 1) (f.1.width - 1)) (block 0 (places.rows - f.0.row) 0 (places.columns - f.0.col)) = block-from 0 (places.rows - f.0.row) 0 (places.columns - f.0.col) (place (f.1.height - 1) (f.1.width - 1)) (record { top = omega arith; bottom = omega (arith, full.height, tall); left = omega arith; right = omega (arith, full.width, wide) }) in
+      let made = map-from (λ (last : Position). (f.0, sized (last.row + 1) (last.col + 1))) (place (f.1.height - 1) (f.1.width - 1)) (block 0 (places.rows - f.0.row) 0 (places.columns - f.0.col)) last in
+      let f' : Rectangle = (f.0, sized (f.1.height - 1 + 1) (f.1.width - 1 + 1)) in
+      let same : f' ≡ f = ap₂ (λ h w. (f.0, sized h w)) height width in
+      flat_map-from (λ (p : Position). map (λ (last : Position). (p, sized (last.row + 1) (last.col + 1))) (block 0 (places.rows - p.row) 0 (places.columns - p.col))) f.0 f (block 0 places.rows 0 places.columns) within
+      (subst (λ g. Member g (map (λ (last : Position). (f.0, sized (last.row + 1) (last.col + 1))) (block 0 (places.rows - f.0.row) 0 (places.columns - f.0.col)))) same made)
+
+  -- the defined map is the image, where rectangles share no cell
+  pub image_is : (m : SpanMap) (rows columns : ℕ) → Fits m rows columns → IsImage places m (image places m)
+  image_is m rows columns fits = record { comes = comes; goes = goes }
+    where
+      test : Rectangle → Bool
+      test f = list_any (λ (e : Rectangle). carries places e f) (entries m)
+
+      of_member : (b : Position) (t : Size) → Member (b, t) (images places (entries m)) → (a : Position) × (s : Size) × (get m a ≡ Some s) × Carries places (a, s) (b, t) × IsFull (b, t)
+      of_member b t h =
+          let parts = filter-member test (b, t) (rectangles places.rows places.columns) h in
+          let room = rectangle-member (b, t) parts.0 in
+          let e = any-member (λ (e : Rectangle). carries places e (b, t)) (entries m) parts.1 in
+          let here = sorted-find position_cmp positions_total positions_exact (entries m) e.0.0 e.0.1 (entries_sorted m) e.1 in
+          (e.0.0, e.0.1, get-entries m e.0.0 ∙ here, carries-true e.0 (b, t) (room.1, room.2) e.2, room.0)
+
+      comes : (b : Position) (t : Size) → get (image places m) b ≡ Some t → (a : Position) × (s : Size) × (get m a ≡ Some s) × Carries places (a, s) (b, t) × IsFull (b, t)
+      comes b t h = of_member b t (find-member position_cmp positions_total positions_exact (images places (entries m)) b t (sym (get-from_entries positions_total (images places (entries m)) b) ∙ h))
+
+      goes : (a b : Position) (s t : Size) → get m a ≡ Some s → Carries places (a, s) (b, t) → IsFull (b, t) → get (image places m) b ≡ Some t
+      goes a b s t has c full =
+          let l = last_in (b, t) full in
+          let end = (c.from (last_of (b, t)) l).2 in
+          let inside = rectangle-from (b, t) full (omega (arith, end.row, full.height)) (omega (arith, end.col, full.width)) in
+          let entry = find-member position_cmp positions_total positions_exact (entries m) a s (sym (get-entries m a) ∙ has) in
+          let member = filter-from test (b, t) (rectangles places.rows places.columns) inside (any-from (λ (e : Rectangle). carries places e (b, t)) (a, s) (entries m) entry (carries-from (a, s) (b, t) c)) in
+          let found = member-find position_cmp positions_total positions_exact (images places (entries m)) b t member in
+          let got = get-from_entries positions_total (images places (entries m)) b ∙ found.1 in
+          let d = comes b found.0 got in
+          let q = c.from b (first_in (b, t) full) in
+          let r = d.3.from b (first_in (b, found.0) d.4) in
+          let one = takes_one b q.0 r.0 q.2 r.2 in
+          let anchor = fits.apart a d.0 s d.1 q.0 has d.2 (holds-from _ _ q.1) (holds-from _ _ (subst (λ x. In (d.0, d.1) x) (sym one) r.1)) in
+          let size = same_Some _ _ (sym has ∙ ap (get m) anchor ∙ d.2) in
+          let other : Carries places (a, s) (b, found.0) = subst (λ e. Carries places e (b, found.0)) (ap₂ (λ k z. (k, z)) (sym anchor) (sym size)) d.3 in
+          got ∙ ap (λ (f : Rectangle). Some f.1) (carries_one (a, s) (b, found.0) (b, t) d.4 full other c)

@@ -1,0 +1,20 @@
+use Rattle.std.proofs.Common.{◌≡◌, ap, subst, sym, ◌∙◌}
+use Rattle.std.specs.FinMap.{from_sorted}
+use Rattle.tabled_grid.specs.Fitting.{Fits}
+use Rattle.tabled_grid.specs.Spans.{SpanMap, position_cmp}
+use Rattle.tabled_grid.proofs.Fitting.{anchors-of, from-entries}
+use Rattle.tabled_carry.specs.Images.{image}
+use Rattle.tabled_carry.proofs.carry.carried_fitting.Goals as goal
+
+pub carry-requires-clause-anchors : goal.carry-requires-clause-anchors
+carry-requires-clause-anchors g c = rw c.into_anchors-anchors.ensures.anchors (anchors-of _ c.into_anchors-anchors.ensures.sizes)
+
+pub carry-requires-clause-fits : goal.carry-requires-clause-fits
+carry-requires-clause-fits g c =
+    let is : from_sorted {R = position_cmp} c.into_anchors-anchors.result.items ≡ c.args.cfg = ap (λ es. from_sorted {R = position_cmp} es) c.into_anchors-anchors.ensures.anchors ∙ from-entries c.args.cfg in
+    subst (λ (m : SpanMap). Fits m c.args.rows c.args.columns) (sym is) c.requires
+
+pub returns-clause-image : goal.returns-clause-image
+returns-clause-image g c =
+    let is : from_sorted {R = position_cmp} c.into_anchors-anchors.result.items ≡ c.args.cfg = ap (λ es. from_sorted {R = position_cmp} es) c.into_anchors-anchors.ensures.anchors ∙ from-entries c.args.cfg in
+    c.from_anchors.ensures.anchors ∙ c.carry.ensures.image ∙ ap (image (g.M.Moves.places c.args.moves.now)) is

@@ -1,0 +1,14 @@
+use Rattle.std.proofs.Common.{◌≡◌, ◌<◌}
+use Rattle.std.specs.Option.{IfSome}
+use Rattle.std.specs.Prelude.{IsNone}
+use Rattle.tabled_grid.specs.Midway.{In}
+use Rattle.tabled_grid.specs.declared.config.position.Position.{Position}
+use Rattle.tabled_carry.specs.Corners.{Around}
+use Rattle.tabled_carry.proofs.Walks.{Before}
+use Rattle.tabled_carry.proofs.images.around.Given as goal
+
+abbrev pub invariant-loop-j : goal.invariant-loop-j
+invariant-loop-j g l = IfSome l.corners (λ corners. Around (g.M.Moves.places l.fn.moves) l.fn.of (λ (q : Position). In l.fn.of q × Before l.i l.j q) corners.first corners.last) × (IsNone l.corners → (l.i ≡ l.fn.of.0.row) × (l.j ≡ l.fn.of.0.col))
+
+abbrev pub invariant-loop-i : goal.invariant-loop-i
+invariant-loop-i g l = IfSome l.corners (λ corners. Around (g.M.Moves.places l.fn.moves) l.fn.of (λ (q : Position). In l.fn.of q × (q.row < l.i)) corners.first corners.last) × (IsNone l.corners → l.i ≡ l.fn.of.0.row)

@@ -1,0 +1,7 @@
+use Rattle.tabled_grid.proofs.Fitting.{keep_fitting-fits}
+use Rattle.tabled_grid.specs.Fitting.{keep_fitting}
+use Rattle.tabled_carry.proofs.RectanglesCarried.{image_is}
+use Rattle.tabled_carry.proofs.laws.carried_rectangles_are_the_images.Goals as goal
+
+pub returns : goal.returns
+returns c = λ places rows columns m sizes. image_is places (keep_fitting rows columns m) rows columns (keep_fitting-fits rows columns m sizes)

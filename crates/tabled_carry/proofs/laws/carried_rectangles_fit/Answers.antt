@@ -1,0 +1,5 @@
+use Rattle.tabled_carry.proofs.CarriedFits.{carried-fits}
+use Rattle.tabled_carry.proofs.laws.carried_rectangles_fit.Goals as goal
+
+pub returns : goal.returns
+returns c = λ places rows columns m sizes. carried-fits places rows columns m sizes

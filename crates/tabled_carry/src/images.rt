@@ -1,0 +1,119 @@
+//! What becomes of a rectangle of cells when the cells of a table move.
+
+ghost use Rattle.std.specs.Prelude.{◌≡◌, ◌+◌, ◌*◌, ◌<◌, ◌^◌, IsNone, Some, max, min};
+ghost use Rattle.std.specs.Option.{IfSome};
+ghost use Rattle.tabled_grid.specs.Entity.{place};
+ghost use Rattle.tabled_grid.specs.Midway.{In};
+ghost use Rattle.tabled_grid.specs.Places.{Places};
+ghost use Rattle.tabled_grid.specs.declared.config.position.Position.{Position};
+ghost use Rattle.tabled_grid.specs.Spans.{Rectangle};
+ghost use Rattle.tabled_carry.specs.Corners.{Around};
+ghost use Rattle.tabled_carry.specs.Images.{Carries, IsFull, Takes};
+
+use tabled_grid::config::{Position, Rectangle, Size};
+
+/// Where the cells of a table go when they move, and where they come from. No cell goes to two places.
+pub trait Moves {
+    /// The new shape, and for each new place its old place or none.
+    ghost places: { Self → Places };
+
+    /// The new place of the cell at an old place, if it has one.
+    fn new_place(&self, pos: Position) -> Option<Position>
+        ensures takes { IfSome result (λ p. Takes (places self.now) p pos) }
+        ensures row { IfSome result (λ p. p.row + 1 < 2 ^ 64) }
+        ensures col { IfSome result (λ p. p.col + 1 < 2 ^ 64) }
+        ensures finds { (p : Position) → Takes (places self.now) p pos → result ≡ Some p };
+}
+
+/// Moves that tell where the cells of a rectangle go, too, which may be known without a look at each.
+pub trait MovesRectangles: Moves {
+    /// The rectangle that a rectangle is carried to, if there is one.
+    ///
+    /// By default it looks at the new place of each cell.
+    fn new_rectangle(&self, of: Rectangle) -> Option<Rectangle>
+        requires full { IsFull of }
+        requires bottom { of.0.row + of.1.height < 2 ^ 64 }
+        requires right { of.0.col + of.1.width < 2 ^ 64 }
+        ensures carries { IfSome result (λ f. Carries (Self.places self.now) of f) }
+        ensures full { IfSome result IsFull }
+        ensures finds { (f : Rectangle) → Carries (Self.places self.now) of f → IsFull f → result ≡ Some f }
+    {
+        image_of(self, of)
+    }
+}
+
+/// The first row and column of some places, and the last ones.
+#[derive(Clone, Copy)]
+struct Corners {
+    first: Position,
+    last: Position,
+}
+
+impl Corners {
+    /// Those of one more place.
+    fn with(self, pos: Position) -> Self
+        ensures first { result.first ≡ place (min self.first.row pos.row) (min self.first.col pos.col) }
+        ensures last { result.last ≡ place (max self.last.row pos.row) (max self.last.col pos.col) }
+    {
+        Corners {
+            first: Position::new(self.first.row.min(pos.row), self.first.col.min(pos.col)),
+            last: Position::new(self.last.row.max(pos.row), self.last.col.max(pos.col)),
+        }
+    }
+}
+
+/// The corners of the new places of all cells of a rectangle, if each has one.
+fn around<M: Moves>(moves: &M, of: Rectangle) -> Option<Corners>
+    requires full { IsFull of }
+    requires bottom { of.0.row + of.1.height < 2 ^ 64 }
+    requires right { of.0.col + of.1.width < 2 ^ 64 }
+    ensures around { IfSome result (λ corners. Around (M.places moves.now) of (In of) corners.first corners.last) }
+    ensures none { IsNone result → (q : Position) × In of q × ((p : Position) → Takes (M.places moves.now) p q → ⊥) }
+{
+    let (first, size) = of;
+    let mut corners: Option<Corners> = None;
+    for i in first.row..first.row + size.height {
+        for j in first.col..first.col + size.width {
+            let pos = moves.new_place(Position::new(i, j))?;
+            corners = Some(match corners {
+                Some(known) => known.with(pos),
+                None => Corners {
+                    first: pos,
+                    last: pos,
+                },
+            });
+        }
+    }
+    corners
+}
+
+/// How many cells a rectangle has.
+fn count_of(rectangle: Rectangle) -> u128
+    ensures { result ≡ rectangle.1.height * rectangle.1.width }
+{
+    let (_, size) = rectangle;
+    size.height as u128 * size.width as u128
+}
+
+/// The rectangle that a rectangle is carried to, if there is one, by the new place of each cell.
+pub fn image_of<M: Moves>(moves: &M, of: Rectangle) -> Option<Rectangle>
+    requires full { IsFull of }
+    requires bottom { of.0.row + of.1.height < 2 ^ 64 }
+    requires right { of.0.col + of.1.width < 2 ^ 64 }
+    ensures carries { IfSome result (λ f. Carries (M.places moves.now) of f) }
+    ensures full { IfSome result IsFull }
+    ensures finds { (f : Rectangle) → Carries (M.places moves.now) of f → IsFull f → result ≡ Some f }
+{
+    let Corners { first, last } = around(moves, of)?;
+    let size = Size {
+        height: last.row - first.row + 1,
+        width: last.col - first.col + 1,
+    };
+    let image = (first, size);
+    // No two cells come to one place: as many places are those of all cells.
+    if count_of(image) == count_of(of) {
+        Some(image)
+    } else {
+        None
+    }
+}

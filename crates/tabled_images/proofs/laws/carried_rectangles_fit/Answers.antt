@@ -1,5 +1,0 @@
-use Rattle.tabled_images.proofs.CarriedFits.{carried-fits}
-use Rattle.tabled_images.proofs.laws.carried_rectangles_fit.Goals as goal
-
-pub returns : goal.returns
-returns c = λ places rows columns m sizes. carried-fits places rows columns m sizes

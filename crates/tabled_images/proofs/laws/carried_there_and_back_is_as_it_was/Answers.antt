@@ -1,5 +1,0 @@
-use Rattle.tabled_images.proofs.Back.{carried_back}
-use Rattle.tabled_images.proofs.laws.carried_there_and_back_is_as_it_was.Goals as goal
-
-pub returns : goal.returns
-returns c = λ there back rows columns m leads all fits. carried_back there back leads m rows columns fits all

@@ -1,5 +1,0 @@
-use Rattle.tabled_images.proofs.CarriedFits.{carried-stays}
-use Rattle.tabled_images.proofs.laws.merged_cells_stay_with_their_cells.Goals as goal
-
-pub returns : goal.returns
-returns c = λ places rows columns m sizes keeps. carried-stays places rows columns m sizes keeps
