@@ -3,7 +3,6 @@
 ghost use Rattle.std.specs.Prelude.{◌≡◌, ◌<◌};
 ghost use Rattle.std.specs.List.{swap};
 ghost use Rattle.tabled_grid.specs.Along.{along, count_along};
-ghost use Rattle.tabled_grid.specs.Grid.{IsEven};
 ghost use Rattle.tabled_grid.specs.Axis.{across, count_of, in_line, line_of, lines_in, place_in, resized};
 
 use crate::config::{Position, Size};
@@ -115,7 +114,6 @@ impl Axis {
     pub fn count<R: Records + ExactRecords>(self, records: &R) -> usize
         requires { R.is_well_formed records.now }
         ensures count { result ≡ count_along self (R.grid records.now) }
-        ensures even { IsEven (R.grid records.now) }
     {
         match self {
             Axis::Rows => records.count_rows(),

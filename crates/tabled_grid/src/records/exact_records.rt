@@ -1,7 +1,6 @@
 //! Stores that know their rows.
 
 ghost use Rattle.std.specs.Prelude.{◌≡◌};
-ghost use Rattle.tabled_grid.specs.Grid.{IsEven};
 
 use crate::records::grid_store::GridStore;
 
@@ -14,6 +13,5 @@ pub trait ExactRecords: GridStore {
     /// Ported from `tabled::grid::records::ExactRecords::count_rows`.
     fn count_rows(&self) -> usize
         requires { Self.is_well_formed self.now }
-        ensures rows { result ≡ (Self.grid self.now).rows }
-        ensures even { IsEven (Self.grid self.now) };
+        ensures rows { result ≡ (Self.grid self.now).rows };
 }

@@ -1,7 +1,6 @@
 //! Stores that know their columns.
 
 ghost use Rattle.std.specs.Prelude.{◌≡◌, Some};
-ghost use Rattle.tabled_grid.specs.Grid.{IsEven};
 
 use crate::records::grid_store::GridStore;
 
@@ -14,8 +13,7 @@ pub trait Records: GridStore {
     /// Ported from `tabled::grid::records::Records::count_columns`.
     fn count_columns(&self) -> usize
         requires { Self.is_well_formed self.now }
-        ensures columns { result ≡ (Self.grid self.now).columns }
-        ensures even { IsEven (Self.grid self.now) };
+        ensures columns { result ≡ (Self.grid self.now).columns };
 
     /// The number of rows, which every store knows.
     ///

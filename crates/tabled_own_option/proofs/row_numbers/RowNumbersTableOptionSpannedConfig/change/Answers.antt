@@ -11,11 +11,11 @@ loop-row-preserved g c =
     let within : c.loop-row.row < (g.R.GridStore.grid c.args.records.now).rows = omega (arith, c.loop-row-test.true, c.count_rows-rows.ensures.rows) in
     record {
       well = c.write_number.ensures.well;
-      numbered = one_more_numbered _ _ _ _ _ c.count_rows-rows.ensures.even within c.loop-row.invariant.numbered (rw c.in_default.is at c.write_number.ensures.ok);
+      numbered = one_more_numbered _ _ _ _ _ (g.R.GridStore.even _ c.requires.well) within c.loop-row.invariant.numbered (rw c.in_default.is at c.write_number.ensures.ok);
     }
 
 pub returns-in-Err-clause-err : goal.returns-in-Err-clause-err
 returns-in-Err-clause-err g c =
     let some : 0 < (g.R.GridStore.grid c.args.records.now).rows = omega (arith, c.loop-row-test.true, c.count_rows-rows.ensures.rows) in
-    let back = taken_back _ _ _ _ c.count_rows-rows.ensures.even some c.loop-row.invariant.numbered in
+    let back = taken_back _ _ _ _ (g.R.GridStore.even _ c.requires.well) some c.loop-row.invariant.numbered in
     (c.remove_column.ensures.removed ∙ ap (λ grid. without_column grid 0) c.in-Err.ensures.err ∙ back, refl)

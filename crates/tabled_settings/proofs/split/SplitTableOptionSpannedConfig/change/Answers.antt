@@ -15,7 +15,7 @@ can_be_cut g c =
     let rows = c.count_rows-rows.ensures.rows in
     let columns = c.count_columns-columns.ensures.columns in
     record {
-      even = c.count_rows-rows.ensures.even;
+      even = g.R.GridStore.even _ c.requires.well;
       count = lines_counted s.lines grid _ _ _ c.count_of-lines.ensures rows columns;
       wide = lines_counted (across s.lines) grid _ _ _ (rw c.across.ensures at c.count_of-width.ensures) rows columns;
       some = omega (arith, c.if-lines-eq0.false);

@@ -6,14 +6,14 @@ use Rattle.tabled_grid.proofs.records.resizable.Resizable.cut.Goals as goal
 
 pub returns-in-Err-clause-err : goal.returns-in-Err-clause-err
 returns-in-Err-clause-err g c =
-    added_undone g.Self.Cell.Blank.is_blank _ (g.Self.GridStore.grid c.args.self.now) _ c.count-count.ensures.even c.across-across.result _ c.count-width.result (g.met.Self.Resizable.rowless _ c.requires.well) c.in_ok-push_lines.ensures.ok c.count-width.ensures.count
+    added_undone g.Self.Cell.Blank.is_blank _ (g.Self.GridStore.grid c.args.self.now) _ (g.Self.GridStore.even _ c.requires.well) c.across-across.result _ c.count-width.result (g.met.Self.Resizable.rowless _ c.requires.well) c.in_ok-push_lines.ensures.ok c.count-width.ensures.count
     (c.truncate_lines.ensures.first ∙ ap (first_along c.across-across.result c.count-width.result) c.in-Err.ensures.err)
 
 pub loop-target-init : goal.loop-target-init
 loop-target-init g c =
     let width = rw c.across-across.ensures at c.count-width.ensures.count in
     let z : Sizes c.args.lines c.args.index c.count-count.result c.count-width.result c.div_ceil-pieces.result c.in-Some.all c.in-Some-checked_mul.wide (g.Self.GridStore.grid c.args.self.now) =
-    record { even = c.count-count.ensures.even; lines_are = c.count-count.ensures.count; width_is = width; some = omega (arith, c.count-count.ensures.count, c.requires.some); some_index = c.requires.index; narrow = omega (arith, width, c.requires.narrow); pieces_are = c.div_ceil-pieces.ensures; all_is = c.in-Some.ensures.1; broad_is = c.in-Some-checked_mul.ensures.1 } in
+    record { even = (g.Self.GridStore.even _ c.requires.well); lines_are = c.count-count.ensures.count; width_is = width; some = omega (arith, c.count-count.ensures.count, c.requires.some); some_index = c.requires.index; narrow = omega (arith, width, c.requires.narrow); pieces_are = c.div_ceil-pieces.ensures; all_is = c.in-Some.ensures.1; broad_is = c.in-Some-checked_mul.ensures.1 } in
     record {
       sizes = z;
       well = c.in_default-push_lines.ensures.well;

@@ -11,7 +11,7 @@ loop-i-init g c =
     let tall : (g.Self.GridStore.grid c.args.self.now).rows + (c.max-size.result - c.count_rows-rows.result) ≡ c.max-size.result = omega (arith, c.count_rows-rows.ensures.rows, c.max-size.ensures) in
     record {
       well = c.push_columns.ensures.well;
-      square = square_made _ c.max-size.result _ _ (g.Self.GridStore.grid c.args.self.now) _ _ c.count_rows-rows.ensures.even (g.met.Self.Resizable.rowless _ c.push_rows.ensures.well) tall (omega (arith, c.count_columns-columns.ensures.columns, c.max-size.ensures)) rows columns;
+      square = square_made _ c.max-size.result _ _ (g.Self.GridStore.grid c.args.self.now) _ _ (g.Self.GridStore.even _ c.requires.well) (g.met.Self.Resizable.rowless _ c.push_rows.ensures.well) tall (omega (arith, c.count_columns-columns.ensures.columns, c.max-size.ensures)) rows columns;
       turned = square_begins _ c.max-size.result _ _ (g.Self.GridStore.grid c.args.self.now) _ _ tall rows columns;
     }
 
@@ -39,10 +39,10 @@ loop-i-preserved g c =
     record { well = i.well; square = i.square; turned = square_more _ _ _ _ _ _ _ _ _ i.turned (λ _ t. half_row _ _ _ c.loop-i.i c.loop-j.j (c.loop-i.i + 1) refl (omega (arith, c.loop-j-test.false)) t) }
 
 pub returns-then-columns-eq0-clause-ok : goal.returns-then-columns-eq0-clause-ok
-returns-then-columns-eq0-clause-ok g c = transposed_none _ _ c.count_rows-rows.ensures.even (omega (arith, c.count_columns-columns.ensures.columns, c.if-columns-eq0.true)) c.truncate_rows.ensures.first
+returns-then-columns-eq0-clause-ok g c = transposed_none _ _ (g.Self.GridStore.even _ c.requires.well) (omega (arith, c.count_columns-columns.ensures.columns, c.if-columns-eq0.true)) c.truncate_rows.ensures.first
 
 pub returns-clause-ok : goal.returns-clause-ok
 returns-clause-ok g c =
     let i = c.loop-i.invariant in
-    square_cut _ _ _ _ _ i.turned c.count_rows-rows.ensures.even i.square (omega (arith, c.count_columns-columns.ensures.columns, c.max-size.ensures)) (omega (arith, c.loop-i-test.false))
+    square_cut _ _ _ _ _ i.turned (g.Self.GridStore.even _ c.requires.well) i.square (omega (arith, c.count_columns-columns.ensures.columns, c.max-size.ensures)) (omega (arith, c.loop-i-test.false))
     _ _ _ _ c.count_rows-rows.ensures.rows c.count_columns-columns.ensures.columns (omega (arith, c.if-columns-eq0.false)) c.truncate_rows-2.ensures.first c.truncate_columns.ensures.first
