@@ -51,8 +51,6 @@ where
     ensures glued { OnOk result ((first rest : List Step) (split : Split) → flattened steps.items ≡ first ++ step.Split split ∷ rest → IsUndoneMidway split (after_all first (state_of R.Cell.text_of (R.grid records.old) cfg.old)) rest (state_of R.Cell.text_of (R.grid records.new) cfg.new)) }
     ensures glued_before { IfErr result (λ refused. (first rest : List Step) (split : Split) → flattened (take refused.0 steps.items) ≡ first ++ step.Split split ∷ rest → IsUndoneMidway split (after_all first (state_of R.Cell.text_of (R.grid records.old) cfg.old)) rest (after_all (take refused.0 steps.items) (state_of R.Cell.text_of (R.grid records.old) cfg.old))) }
 {
-    // A count of rows promises that they are equally long.
-    let _ = records.count_rows();
     run_each(alloc, records, cfg, steps)
 }
 

@@ -17,7 +17,7 @@ pub returns-clause-glued : goal.returns-clause-glued
 returns-clause-glued g c =
     let text_of = g.R.Cell.CellText.text_of in
     let grid = g.R.GridStore.grid in
-    let even = IsEven-map_grid text_of (grid c.args.records.now) c.count_rows.ensures.even in
+    let even = IsEven-map_grid text_of (grid c.args.records.now) (g.R.GridStore.even _ c.requires.well) in
     on_ok_weaker c.run_each.result (λ does first rest split are. undone_midway c.args.steps.items first rest split (state_of text_of (grid c.args.records.now) c.args.cfg.now) (state_of text_of (grid c.run_each.new.records) c.run_each.new.cfg) even are (after_each text_of g.R.Cell.Blank.is_blank c.args.steps.items (grid c.args.records.now) c.args.cfg.now (grid c.run_each.new.records) c.run_each.new.cfg does)) c.run_each.ensures.ok
 
 pub returns-clause-glued_before : goal.returns-clause-glued_before
@@ -25,5 +25,5 @@ returns-clause-glued_before g c =
     let text_of = g.R.Cell.CellText.text_of in
     let grid = g.R.GridStore.grid in
     let old = state_of text_of (grid c.args.records.now) c.args.cfg.now in
-    let even = IsEven-map_grid text_of (grid c.args.records.now) c.count_rows.ensures.even in
+    let even = IsEven-map_grid text_of (grid c.args.records.now) (g.R.GridStore.even _ c.requires.well) in
     IfErr-weaker c.run_each.result _ _ (λ refused index first rest split are. let done = take refused.0 c.args.steps.items in undone_midway done first rest split old (after_all done old) even are refl) c.run_each.ensures.index
