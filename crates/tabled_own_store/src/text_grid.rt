@@ -13,32 +13,31 @@ use tabled_grid::records::{
     ExactRecords, GridStore, PeekableRecords, Records, RecordsMut, Resizable,
 };
 
-/// Rows of texts, one after another in one vector. A contract sees it as its grid.
+/// Rows of texts, one after another in one vector. A contract sees it as its grid, with what is true
+/// of it.
 #[derive(Drop)]
 pub struct TextGrid {
     cells: Vec<String>,
     rows: usize,
     columns: usize,
+    ghost full: { IsFull rows columns cells.items },
 }
 
 impl Model for TextGrid {
     ghost use Rattle.std.specs.Global.{Global};
     ghost use Rattle.std.specs.Prelude.{String};
-    ghost use Rattle.tabled_grid.specs.Flat.{IsFull, flat_grid};
-    ghost use Rattle.tabled_grid.specs.Grid.{Grid};
+    ghost use Rattle.tabled_grid.specs.Evenness.{EvenGrid, even_grid};
 
-    ghost Value = { Grid (String Global) };
+    ghost Value = { EvenGrid (String Global) };
 
-    ghost view = { λ a. flat_grid a.rows a.columns a.cells.items };
-
-    ghost invariant = { λ a. IsFull a.rows a.columns a.cells.items };
+    ghost view = { λ a. even_grid a.rows a.columns a.cells.items a.full };
 }
 
 impl TextGrid {
     /// A store of cells, row after row (r x c).
     pub fn new(rows: usize, columns: usize, cells: Vec<String>) -> Self
         requires { IsFull rows columns cells.items }
-        ensures { result ≡ flat_grid rows columns cells.items }
+        ensures { result.grid ≡ flat_grid rows columns cells.items }
     {
         TextGrid {
             cells,
@@ -49,11 +48,15 @@ impl TextGrid {
 }
 
 impl GridStore for TextGrid {
+    ghost use Rattle.tabled_grid.specs.Evenness.{is_even_grid};
+
     type Cell = String;
 
-    ghost grid = { λ store. store };
+    ghost grid = { λ store. store.grid };
 
     ghost is_well_formed = { λ _. Unit {0} };
+
+    ghost even = { λ store _. is_even_grid store };
 }
 
 impl Records for TextGrid {
@@ -146,4 +149,6 @@ impl Resizable for TextGrid {
     fn swap_column(&mut self, j: usize, k: usize) {
         swap_each(&mut self.cells, self.rows, self.columns, j, k);
     }
+
+    ghost rowless = { λ store _. store.rowless };
 }

@@ -1,6 +1,6 @@
 use Rattle.std.proofs.Common.{◌≡◌, ◌*◌, ◌-◌, length, ap, refl, arith}
 use Rattle.tabled_grid.specs.Flat.{chunks}
-use Rattle.tabled_grid.proofs.Flat.{length-chunks, wide-chunks}
+use Rattle.tabled_grid.specs.Evenness.{length-chunks, wide-chunks}
 use Rattle.tabled_grid.proofs.FlatColumns.{closed_none, closed_more, closed_all}
 use Rattle.tabled_own_store.proofs.moves.close_up.Goals as goal
 

@@ -1,6 +1,6 @@
 use Rattle.std.proofs.Common.{List, ◌∙◌, refl, arith}
 use Rattle.std.specs.List.{swap}
-use Rattle.tabled_grid.proofs.Flat.{length-chunks, wide-chunks}
+use Rattle.tabled_grid.specs.Evenness.{length-chunks, wide-chunks}
 use Rattle.tabled_grid.proofs.FlatColumns.{swapped_none, swapped_more, swapped_all}
 use Rattle.tabled_own_store.proofs.moves.swap_each.Goals as goal
 

@@ -8,8 +8,8 @@ use Rattle.tabled_own_store.proofs.text_grid.TextGridPeekableRecords.get_text.Go
 
 pub returns : goal.returns
 returns c =
-    let cell : cell_at c.args.self.now c.args.pos ≡ Some c.index.result.now =
+    let cell : cell_at c.args.self.now.grid c.args.pos ≡ Some c.index.result.now =
     rw (← c.self.view_is)
-    (cell_read _ _ _ c.self.invariant c.args.pos _ _ (rw (← c.self.view_is) at c.requires.inside) refl
-    (slice_get_read _ _ _ _ refl (cell_within _ _ _ c.self.invariant c.args.pos _ (rw (← c.self.view_is) at c.requires.inside) refl) c.index.ensures)) in
-    rw c.as_str.ensures.value (cell_at-map_grid_some string_bytes c.args.self.now c.args.pos _ cell)
+    (cell_read _ _ _ c.self.inside.full c.args.pos _ _ (rw (← c.self.view_is) at c.requires.inside) refl
+    (slice_get_read _ _ _ _ refl (cell_within _ _ _ c.self.inside.full c.args.pos _ (rw (← c.self.view_is) at c.requires.inside) refl) c.index.ensures)) in
+    rw c.as_str.ensures.value (cell_at-map_grid_some string_bytes c.args.self.now.grid c.args.pos _ cell)

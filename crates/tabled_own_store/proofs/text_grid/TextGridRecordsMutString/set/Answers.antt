@@ -7,7 +7,7 @@ pub returns-clause-ok : goal.returns-clause-ok
 returns-clause-ok c = record {
   cell = c.args.text;
   has = refl;
-  is = rw (← c.self.view_is) (cell_written _ _ _ c.self.invariant c.args.pos _ c.args.text (rw (← c.self.view_is) at c.requires.inside) refl);
+  is = rw (← c.self.view_is) (cell_written _ _ _ c.self.inside.full c.args.pos _ c.args.text (rw (← c.self.view_is) at c.requires.inside) refl);
 }
 
 pub returns-clause-texts : goal.returns-clause-texts

@@ -2,12 +2,12 @@ use Rattle.std.proofs.Common.{◌≡◌, ◌+◌, rules}
 use Rattle.tabled_grid.proofs.FlatStore.{row_inserted, row_inserted_full}
 use Rattle.tabled_own_store.proofs.text_grid.TextGridResizable.insert_row.Goals as goal
 
-pub invariant_of-self-2 : goal.invariant_of-self-2
-invariant_of-self-2 c =
+pub invariant_of-self-inside-2 : goal.invariant_of-self-inside-2
+invariant_of-self-inside-2 c =
     let more : c.in-Some.rows ≡ c.self.inside.rows + 1 = search rules in
-    row_inserted_full _ _ _ c.self.invariant _ c.args.i _ _ (rw (← c.self.view_is) at c.requires.within) more c.in_ok-insert_blanks.ensures.ok
+    (row_inserted_full _ _ _ c.self.inside.full _ c.args.i _ _ (rw (← c.self.view_is) at c.requires.within) more c.in_ok-insert_blanks.ensures.ok, tt)
 
 pub returns-clause-ok : goal.returns-clause-ok
 returns-clause-ok c =
     let more : c.in-Some.rows ≡ c.self.inside.rows + 1 = search rules in
-    rw (← c.self.view_is) (row_inserted _ _ _ c.self.invariant _ c.args.i _ _ (rw (← c.self.view_is) at c.requires.within) more c.in_ok-insert_blanks.ensures.ok)
+    rw (← c.self.view_is) (row_inserted _ _ _ c.self.inside.full _ c.args.i _ _ (rw (← c.self.view_is) at c.requires.within) more c.in_ok-insert_blanks.ensures.ok)

@@ -7,4 +7,4 @@ use Rattle.tabled_own_store.proofs.text_grid.TextGridResizable.swap_column.Goals
 pub returns-clause-swapped : goal.returns-clause-swapped
 returns-clause-swapped c =
     let items : (with_items c.self.inside.cells c.swap_each.new.cells).items ≡ c.swap_each.new.cells = grind (arith, common_steps) in
-    rw (← c.self.view_is) (columns_swapped _ _ _ c.self.invariant c.args.j c.args.k _ (items ∙ rw c.deref_mut.ensures.value at c.swap_each.ensures))
+    rw (← c.self.view_is) (columns_swapped _ _ _ c.self.inside.full c.args.j c.args.k _ (items ∙ rw c.deref_mut.ensures.value at c.swap_each.ensures))
