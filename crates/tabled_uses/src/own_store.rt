@@ -13,7 +13,7 @@ pub struct Line {
 }
 
 impl GridStore for Line {
-    ghost use Rattle.std.specs.Prelude.{[], ◌∷◌};
+    ghost use Rattle.std.specs.Prelude.{[], ◌∷◌, refl};
     ghost use Rattle.tabled_grid.specs.Grid.{grid_of};
 
     type Cell = Text<String>;
@@ -21,6 +21,8 @@ impl GridStore for Line {
     ghost grid = { λ line. grid_of (line.cells.items ∷ []) };
 
     ghost is_well_formed = { λ line. Unit {0} };
+
+    ghost even = { λ _ _. record { tall = refl; wide = (refl, tt) } };
 }
 
 impl Records for Line {

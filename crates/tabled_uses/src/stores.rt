@@ -8,7 +8,7 @@ use std::alloc::{AllocError, Global};
 use tabled_grid::config::Position;
 use tabled_grid::records::{
     Axis, Blank, CellText, ExactRecords, PeekableRecords, PieceOrder, Records, RecordsMut,
-    Resizable, Text, VecRecords, empty_without_rows,
+    Resizable, Text, VecRecords,
 };
 
 /// A cell of a text.
@@ -223,13 +223,12 @@ where
     ensures kept { R.grid records.new ≡ R.grid records.old }
     ensures rowless { IsEmptyWithoutRows (R.grid records.old) }
 {
-    empty_without_rows(records);
     (records.count_rows(), records.count_columns())
 }
 
-/// The same of the stores of rows, which say so where their counts are read.
+/// The same of a `VecRecords`, whose value says so.
 pub fn columns_of<T>(records: &VecRecords<T>) -> usize
-    ensures { IsEmptyWithoutRows records.now }
+    ensures { IsEmptyWithoutRows records.now.grid }
 {
     records.count_columns()
 }
