@@ -15,21 +15,21 @@ fn merged_cells_that_do_not_fit_are_left_out(rt: HostRuntime) -> Result<(), Fail
     for (rectangles, lines) in [
         // One reaches out of the table.
         (
-            [(0, 0, 2, 1), (1, 1, 1, 3)],
+            "0.0:2x1 1.1:1x3",
             "+---+---+---+\n| a | b | c |\n+   +---+---+\n|   | e | f |\n+---+---+---+",
         ),
         (
-            [(0, 1, 1, 2), (1, 0, 2, 1)],
+            "0.1:1x2 1.0:2x1",
             "+---+---+---+\n| a | b     |\n+---+---+---+\n| d | e | f |\n+---+---+---+",
         ),
         // Two share a cell, and neither fits.
         (
-            [(0, 0, 2, 2), (1, 1, 1, 2)],
+            "0.0:2x2 1.1:1x2",
             "+---+---+---+\n| a | b | c |\n+---+---+---+\n| d | e | f |\n+---+---+---+",
         ),
         // One begins outside of the table.
         (
-            [(0, 1, 2, 2), (7, 7, 2, 2)],
+            "0.1:2x2 7.7:2x2",
             "+---+--+--+\n| a | b   |\n+---+     +\n| d |     |\n+---+--+--+",
         ),
     ] {
@@ -38,7 +38,7 @@ fn merged_cells_that_do_not_fit_are_left_out(rt: HostRuntime) -> Result<(), Fail
             picture(alloc, &flat(alloc, "a b c / d e f /")?, &cfg)?,
             picture(alloc, &nested(alloc, "a b c / d e f /")?, &cfg)?,
         ] {
-            assert!(rt; has_lines(picture.as_str(), lines), "{rectangles:?}");
+            assert!(rt; has_lines(picture.as_str(), lines), "{rectangles}");
         }
     }
     Ok(())

@@ -35,7 +35,7 @@ impl Write for Sink {
 fn what_is_written_is_the_picture_or_failed(rt: HostRuntime) -> Result<(), Fail> {
     let alloc = rt.alloc();
     let records = flat(alloc, "a b / c d / e f /")?;
-    let cfg = merged(alloc, [(0, 0, 2, 1), (2, 0, 1, 2)])?;
+    let cfg = merged(alloc, "0.0:2x1 2.0:1x2")?;
     let whole = picture(alloc, &records, &cfg)?;
     for at_most in [1, 7, 1000] {
         let calls = whole.len().div_ceil(at_most);

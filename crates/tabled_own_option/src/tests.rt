@@ -29,7 +29,7 @@ fn numbers_tables(rt: HostRuntime) -> Result<(), Fail> {
 /// A table with merged cells after row numbers, whose write of a number is refused.
 fn refused_at(alloc: Global, set: usize) -> Result<String, AllocError> {
     let mut records = Refusing::new(flat(alloc, "a b / c d /")?, 0, set);
-    let mut cfg = merged(alloc, [(0, 0, 1, 2), (1, 1, 1, 1)])?;
+    let mut cfg = merged(alloc, "0.0:1x2")?;
     let done = RowNumbers.change(alloc, &mut records, &mut cfg, &mut ());
     if done.is_err() != (set > 0) {
         return Err(AllocError);

@@ -1,6 +1,8 @@
 //! The script program: tables made and changed by the lines of a script.
 #![tactic(auto)]
 
+#[cfg(test)]
+mod faults;
 mod form;
 #[cfg(test)]
 mod gallery;

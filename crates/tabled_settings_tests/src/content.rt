@@ -3,15 +3,14 @@
 use crate::tables::{exclaimed, made, makes_flat};
 use std::alloc::{AllocError, Global};
 use std::test::Fail;
-use tabled_grid::config::Position;
+use tabled_grid::config::{Position, SpannedConfig};
 use tabled_grid::records::{Text, VecRecords};
 use tabled_options::{Modify, Settings, TextRef};
 use tabled_select::location::Locator;
-use tabled_select::object::{Columns, Rows};
-use tabled_settings::duplicate::Dup;
+use tabled_select::object::Rows;
 use tabled_settings::format::Format;
 use tabled_settings::formatting::Charset;
-use tabled_testing::{flat, is_word};
+use tabled_testing::is_word;
 
 #[test]
 fn answers_keep_their_state(rt: HostRuntime) {
@@ -32,23 +31,6 @@ fn answers_keep_their_state(rt: HostRuntime) {
 }
 
 #[test]
-fn texts_are_duplicated(rt: HostRuntime) {
-    let alloc = rt.alloc();
-    let last = Dup::new(Columns::last(), Rows::first());
-    assert!(rt; makes_flat(alloc, "1 2 3 / 4 5 6 /", last, "1 2 1 / 4 5 2 /"));
-    let two = Dup::new(Columns::new(0..2), Rows::first());
-    assert!(rt; makes_flat(alloc, "1 2 3 / 4 5 6 /", two, "1 1 3 / 2 2 6 /"));
-}
-
-#[test]
-fn located_texts_are_written(rt: HostRuntime) -> Result<(), Fail> {
-    let alloc = rt.alloc();
-    let found = Locator::content(String::from_str(alloc, "a")?);
-    assert!(rt; makes_flat(alloc, "a a /", Modify::list(found, TextRef("b")), "b b /"));
-    Ok(())
-}
-
-#[test]
 fn copies_write_where_the_first_ones_do(rt: HostRuntime) -> Result<(), Fail> {
     let alloc = rt.alloc();
     let content = Modify::new(Locator::content(String::from_str(alloc, "a")?));
@@ -65,17 +47,11 @@ fn copies_write_where_the_first_ones_do(rt: HostRuntime) -> Result<(), Fail> {
 }
 
 #[test]
-fn nothing_is_located_without_columns(rt: HostRuntime) -> Result<(), Fail> {
-    let alloc = rt.alloc();
+fn nothing_is_located_without_columns(rt: HostRuntime) {
     for table in ["", "/ / /"] {
-        let column = Locator::column(String::from_str(alloc, "1")?);
-        assert!(rt; makes_flat(alloc, table, Modify::list(column, TextRef("x")), table));
-        let content = Locator::content(String::from_str(alloc, "1")?);
-        assert!(rt; makes_flat(alloc, table, Modify::list(content, TextRef("x")), table));
         let by = Locator::by(|text| text == "1");
-        assert!(rt; makes_flat(alloc, table, Modify::list(by, TextRef("x")), table));
+        assert!(rt; makes_flat(rt.alloc(), table, Modify::list(by, TextRef("x")), table));
     }
-    Ok(())
 }
 
 #[test]
@@ -90,7 +66,8 @@ fn texts_are_cleaned(rt: HostRuntime) -> Result<(), Fail> {
 fn exclaimed_lines(alloc: Global, text: &str) -> Result<String, AllocError> {
     let cell = vec![in alloc; Text::new(String::from_str(alloc, text)?)]?;
     let store = VecRecords::new(alloc, vec![in alloc; cell]?)?;
-    made(alloc, store, Format::content(exclaimed).multiline())
+    let lines = Format::content(exclaimed).multiline();
+    made(alloc, store, SpannedConfig::new(alloc), lines)
 }
 
 #[test]

@@ -2,87 +2,41 @@
 
 ghost use Rattle.std.specs.Prelude.{◌≡◌};
 
-use crate::changes;
-use crate::changes::Change;
 use crate::tables::{makes_flat, makes_nested, makes_refusing};
 use std::alloc::{AllocError, Global};
-use std::test::Fail;
 use tabled_grid::records::GridStore;
 use tabled_select::location::Location;
+use tabled_select::object::Columns;
 use tabled_settings::disable::Remove;
 use tabled_settings::extract::Extract;
 
 #[test]
-fn segments_are_kept(rt: HostRuntime) -> Result<(), Fail> {
-    let square = "a b / c d /";
-    let most = usize::MAX;
-    let cases = [
-        (square, Change::Segment(0, 9, 1, most), "b / d /"),
-        (square, Change::Segment(1, 2, 0, 1), "c /"),
-        (
-            "a b c / d e f / g h i /",
-            Change::Segment(1, 3, 1, 2),
-            "e / h /",
-        ),
-        (square, Change::Segment(2, 1, 0, 2), ""),
-        (square, Change::Segment(0, 2, 2, 1), "/ /"),
-        (square, Change::Segment(1, 1, 0, 2), ""),
-        (square, Change::Segment(5, 9, 0, 2), ""),
-        (square, Change::Segment(0, 1, 5, 9), "/"),
-        (square, Change::Segment(0, 2, most, most), "/ /"),
-        ("/ /", Change::Segment(1, 2, 0, 1), "/"),
-        ("", Change::Segment(0, 1, 0, 1), ""),
-    ];
-    for (old, segment, new) in cases {
-        assert!(rt; changes::makes(rt.alloc(), old, segment, new));
-        assert!(rt; changes::makes_in_place(rt.alloc(), old, segment, new));
-    }
-    Ok(())
-}
-
-#[test]
-fn ranges_to_the_end_are_kept(rt: HostRuntime) -> Result<(), Fail> {
+fn ranges_to_the_end_are_kept(rt: HostRuntime) {
     let (alloc, old) = (rt.alloc(), "a b / c d /");
     assert!(rt; makes_flat(alloc, old, Extract::segment(0..9, 1..), "b / d /"));
     assert!(rt; makes_flat(alloc, old, Extract::rows(5..), ""));
     assert!(rt; makes_flat(alloc, old, Extract::columns(5..), "/ /"));
     assert!(rt; makes_flat(alloc, old, Extract::rows(..=usize::MAX), old));
     assert!(rt; makes_flat(alloc, old, Extract::columns(1..=usize::MAX), "b / d /"));
-    let (merged, kept) = ([(0, 1, 1, 2), (0, 0, 0, 0)], Change::ColumnsFrom(1));
-    assert!(rt;
-        changes::carries(
-            alloc,
-            "a b c / d e f /",
-            merged,
-            kept,
-            "b c / e f / 0.0:1x2"
-        )
-    );
-    Ok(())
+    let (old, new) = ("a b c / d e f / 0.1:1x2", "b c / e f / 0.0:1x2");
+    assert!(rt; makes_flat(alloc, old, Extract::columns(1..), new));
+    assert!(rt; makes_nested(alloc, old, Extract::columns(1..), new));
 }
 
 #[test]
-fn rows_and_columns_are_removed(rt: HostRuntime) -> Result<(), Fail> {
-    let lines = "p / q / r / s /";
-    let cases = [
-        (lines, Change::RemoveRows(1, 3), "p / s /"),
-        (lines, Change::RemoveRows(3, 1), lines),
-        (lines, Change::RemoveRows(2, 9), "p / q /"),
-        (lines, Change::RemoveRows(4, 9), lines),
-        ("p q / r s /", Change::RemoveRows(0, 9), ""),
-        ("p q / r s /", Change::RemoveRows(0, usize::MAX), ""),
-        ("p q / r s /", Change::RemoveRows(1, usize::MAX), "p q /"),
-        ("/ /", Change::RemoveRows(0, 1), "/"),
-        ("", Change::RemoveLastColumn, ""),
-        ("/ /", Change::RemoveLastColumn, "/ /"),
-        ("a /", Change::RemoveLastColumn, "/"),
-        ("a b / c d /", Change::RemoveLastColumn, "a / c /"),
-    ];
-    for (old, change, new) in cases {
-        assert!(rt; changes::makes(rt.alloc(), old, change, new));
-        assert!(rt; changes::makes_in_place(rt.alloc(), old, change, new));
+fn the_last_column_is_removed(rt: HostRuntime) {
+    for (old, new) in [
+        ("", ""),
+        ("/ /", "/ /"),
+        ("a /", "/"),
+        ("a b / c d /", "a / c /"),
+        ("a b c / d e f / 0.0:2x2", "a b / d e / 0.0:2x2"),
+    ] {
+        let last = Remove::column(Columns::last());
+        assert!(rt; makes_nested(rt.alloc(), old, last, new), "{old}");
+        let last = Remove::column(Columns::last());
+        assert!(rt; makes_refusing(rt.alloc(), (1, 1), old, last, new), "{old}");
     }
-    Ok(())
 }
 
 /// Indexes that are told, whatever the table.
@@ -104,7 +58,7 @@ impl<R: GridStore> Location<R> for Told {
 }
 
 #[test]
-fn told_rows_and_columns_are_removed(rt: HostRuntime) -> Result<(), Fail> {
+fn told_rows_and_columns_are_removed(rt: HostRuntime) {
     let cases = [
         (Told(&[0, 2, 0, 9]), "q / s /", "q s /"),
         (Told(&[3, 2, 1]), "p /", "p /"),
@@ -125,5 +79,4 @@ fn told_rows_and_columns_are_removed(rt: HostRuntime) -> Result<(), Fail> {
             )
         );
     }
-    Ok(())
 }

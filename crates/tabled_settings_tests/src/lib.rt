@@ -1,10 +1,6 @@
-//! Tests of the public calls of `tabled_settings`.
+//! Tests of the public calls of `tabled_settings` and `tabled_spans`.
 #![tactic(auto)]
 
-#[cfg(test)]
-mod carried;
-#[cfg(test)]
-mod changes;
 #[cfg(test)]
 mod content;
 #[cfg(test)]
@@ -12,12 +8,12 @@ mod cuts;
 #[cfg(test)]
 mod joins;
 #[cfg(test)]
+mod moves;
+#[cfg(test)]
 mod odd;
 #[cfg(test)]
 mod refused_writers;
 #[cfg(test)]
-mod rotations;
-#[cfg(test)]
-mod splits;
+mod spans;
 #[cfg(test)]
 mod tables;

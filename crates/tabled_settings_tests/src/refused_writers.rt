@@ -7,7 +7,6 @@ use tabled_grid::config::Position;
 use tabled_options::{Modify, Settings, TextRef};
 use tabled_select::location::Locator;
 use tabled_select::object::{ObjectIterator, Rows};
-use tabled_settings::duplicate::Dup;
 use tabled_settings::format::Format;
 use tabled_settings::formatting::Charset;
 
@@ -31,20 +30,7 @@ fn writes_are_refused_in_turn(rt: HostRuntime) {
         let positioned = Format::positioned(exclaimed_at);
         assert!(rt; makes_refusing(alloc, calls, "a b c /", positioned, *want));
     }
-    // The text between the two stays as it is, and isn't written.
-    for (set, want) in [
-        (1, "a\u{7} b c\u{7} /!"),
-        (2, "a b c\u{7} /!"),
-        (3, "a b c /"),
-    ] {
-        let clean = Charset::new().clean();
-        assert!(rt; makes_refusing(alloc, (1, set), "a\u{7} b c\u{7} /", clean, want));
-        assert!(rt; makes_refusing(alloc, (1, set), "a\u{7} b /", Charset::new(), "a\u{7} b /"));
-    }
-    for (set, want) in [(1, "a b / c d /!"), (2, "a b / a d /!"), (3, "a b / a b /")] {
-        let dup = Dup::new(Rows::last(), Rows::first());
-        assert!(rt; makes_refusing(alloc, (1, set), "a b / c d /", dup, want));
-    }
+    assert!(rt; makes_refusing(alloc, (1, 1), "a\u{7} b /", Charset::new(), "a\u{7} b /"));
 }
 
 #[test]
@@ -60,12 +46,6 @@ fn writes_where_closures_say_are_refused_in_turn(rt: HostRuntime) {
     }
     let never = Modify::list(Locator::by(|_| false), Format::content(exclaimed));
     assert!(rt; makes_refusing(alloc, (1, 1), "a b c /", never, "a b c /"));
-}
-
-#[test]
-fn a_text_whose_second_write_is_refused_leaves_the_first(rt: HostRuntime) {
-    let first_row = Modify::list(Rows::first(), TextRef("x"));
-    assert!(rt; makes_refusing(rt.alloc(), (0, 2), "a b c /", first_row, "x b c /!"));
 }
 
 #[test]

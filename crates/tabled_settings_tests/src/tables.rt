@@ -1,13 +1,18 @@
-//! What options make of tables that are spelled.
+//! What options make of tables that are spelled, with their merged cells.
 
 use std::alloc::{AllocError, Global};
 use tabled_grid::config::SpannedConfig;
 use tabled_grid::records::{CellText, ExactRecords, PeekableRecords, Records, Refusing};
 use tabled_options::TableOption;
-use tabled_testing::{Flat, Nested, flat, is_word, nested, spelled};
+use tabled_testing::{Flat, Nested, flat, is_word, merged, nested, spelled_merged};
 
-/// What an option makes of a table, with `!` after it where it was refused.
-pub(crate) fn made<R, O>(alloc: Global, mut records: R, option: O) -> Result<String, AllocError>
+/// What an option makes of a table with merged cells, with `!` after it where it was refused.
+pub(crate) fn made<R, O>(
+    alloc: Global,
+    mut records: R,
+    mut cfg: SpannedConfig,
+    option: O,
+) -> Result<String, AllocError>
 where
     R: Records + ExactRecords + PeekableRecords + Drop,
     R::Cell: CellText,
@@ -15,35 +20,20 @@ where
     requires well { R.is_well_formed records }
     requires can { O.can_change option }
 {
-    let done = option.change(alloc, &mut records, &mut SpannedConfig::new(alloc), &mut ());
-    made_by(alloc, &records, done)
-}
-
-/// A table that was changed, with `!` after it where that was refused.
-pub(crate) fn made_by<R>(
-    alloc: Global,
-    records: &R,
-    done: Result<(), AllocError>,
-) -> Result<String, AllocError>
-where
-    R: Records + ExactRecords + PeekableRecords,
-    R::Cell: CellText,
-    requires { R.is_well_formed records.now }
-{
-    let mut words = spelled(alloc, records)?;
+    let done = option.change(alloc, &mut records, &mut cfg, &mut ());
+    let mut words = spelled_merged(alloc, &records, &cfg)?;
     if done.is_err() {
         words.push('!')?;
     }
     Ok(words)
 }
 
-/// What it makes of one in one vector of cells.
-pub(crate) fn made_flat<O>(alloc: Global, old: &str, option: O) -> Result<String, AllocError>
+fn made_flat<O>(alloc: Global, old: &str, option: O) -> Result<String, AllocError>
 where
     O: TableOption<Flat, SpannedConfig, ()> + Drop,
     requires { O.can_change option }
 {
-    made(alloc, flat(alloc, old)?, option)
+    made(alloc, flat(alloc, old)?, merged(alloc, old)?, option)
 }
 
 /// Whether an option makes one table of another in one vector of cells.
@@ -60,7 +50,7 @@ where
     O: TableOption<Nested, SpannedConfig, ()> + Drop,
     requires { O.can_change option }
 {
-    made(alloc, nested(alloc, old)?, option)
+    made(alloc, nested(alloc, old)?, merged(alloc, old)?, option)
 }
 
 /// The same in a vector for each row.
@@ -82,8 +72,8 @@ where
     O: TableOption<Refusing<Flat>, SpannedConfig, ()> + Drop,
     requires { O.can_change option }
 {
-    let store = flat(alloc, old)?;
-    made(alloc, Refusing::new(store, calls.0, calls.1), option)
+    let records = Refusing::new(flat(alloc, old)?, calls.0, calls.1);
+    made(alloc, records, merged(alloc, old)?, option)
 }
 
 /// The same in a store that refuses one growth and one write, each counted from 1, or none at 0. A refusal is

@@ -4,5 +4,6 @@
 mod tables;
 
 pub use tables::{
-    Flat, Nested, flat, is_word, merged, nested, push_word, spelled, spelled_merged, spells,
+    Flat, Nested, flat, is_word, merged, nested, push_merged, push_word, spelled, spelled_merged,
+    spells,
 };

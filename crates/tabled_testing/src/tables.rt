@@ -1,7 +1,8 @@
 //! Tables as words.
 //!
 //! A table is spelled by its words with a slash after each row, as in `a b / c _ /`, where `_` stands for
-//! an empty text.
+//! an empty text. After the last row stands each merged cell, as `1.0:2x3` for 2 rows and 3 columns from
+//! row 1 and column 0 on.
 
 ghost use Rattle.std.specs.Prelude.{IfOk};
 
@@ -22,15 +23,18 @@ pub type Nested = Vec<Vec<Text<String>>>;
 /// The shape of a table that is spelled.
 fn shape_of(table: &str) -> (usize, usize) {
     let mut rows: usize = 0;
+    let mut columns: usize = 0;
     let mut words: usize = 0;
     for word in table.split_whitespace() {
         if word == "/" {
             rows = rows.saturating_add(1);
+            columns = words;
+            words = 0;
         } else {
             words = words.saturating_add(1);
         }
     }
-    (rows, words.checked_div(rows).unwrap_or(0))
+    (rows, columns)
 }
 
 /// Grows an empty store to a table that is spelled.
@@ -116,21 +120,50 @@ where
     is_word(spelled(alloc, records), want)
 }
 
-/// Merged cells, each by its row, its column, its height and its width.
-pub fn merged(
-    alloc: Global,
-    rectangles: [(usize, usize, usize, usize); 2],
-) -> Result<SpannedConfig, AllocError> {
+/// A place and two sizes of a word such as `1.0:2x3`.
+fn rectangle(word: &str) -> Option<(Position, usize, usize)> {
+    let (place, sizes) = word.split_once(':')?;
+    let (row, col) = place.split_once('.')?;
+    let (height, width) = sizes.split_once('x')?;
+    let pos = Position {
+        row: row.parse().ok()?,
+        col: col.parse().ok()?,
+    };
+    Some((pos, height.parse().ok()?, width.parse().ok()?))
+}
+
+/// The merged cells that are spelled after a table, or alone.
+pub fn merged(alloc: Global, table: &str) -> Result<SpannedConfig, AllocError> {
     let mut cfg = SpannedConfig::new(alloc);
-    for (row, col, height, width) in rectangles {
-        cfg.set_row_span(alloc, Position { row, col }, height)?;
-        cfg.set_column_span(alloc, Position { row, col }, width)?;
+    let rectangles = match table.rsplit_once('/') {
+        Some((_, after)) => after,
+        None => table,
+    };
+    for word in rectangles.split_whitespace() {
+        if let Some((pos, height, width)) = rectangle(word) {
+            cfg.set_row_span(alloc, pos, height)?;
+            cfg.set_column_span(alloc, pos, width)?;
+        }
     }
     Ok(cfg)
 }
 
-/// Spells a table, and after it each merged rectangle, as `1.0:2x3` for 2 rows and 3 columns from row 1 and
-/// column 0 on.
+/// Writes merged cells after words.
+pub fn push_merged(
+    alloc: Global,
+    words: &mut String,
+    cfg: &SpannedConfig,
+) -> Result<(), AllocError> {
+    for (pos, size) in cfg.anchors().iter() {
+        let (row, col) = (pos.row, pos.col);
+        let (height, width) = (size.height, size.width);
+        let rectangle = format!(in alloc; "{row}.{col}:{height}x{width}")?;
+        push_word(words, rectangle.as_str())?;
+    }
+    Ok(())
+}
+
+/// Spells a table with its merged cells.
 pub fn spelled_merged<R>(
     alloc: Global,
     records: &R,
@@ -142,11 +175,6 @@ where
     requires { R.is_well_formed records.now }
 {
     let mut words = spelled(alloc, records)?;
-    for (pos, size) in cfg.anchors().iter() {
-        let (row, col) = (pos.row, pos.col);
-        let (height, width) = (size.height, size.width);
-        let rectangle = format!(in alloc; "{row}.{col}:{height}x{width}")?;
-        push_word(&mut words, rectangle.as_str())?;
-    }
+    push_merged(alloc, &mut words, cfg)?;
     Ok(words)
 }

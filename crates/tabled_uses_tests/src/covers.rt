@@ -3,10 +3,10 @@
 ghost use Rattle.std.specs.Prelude.{◌≡◌};
 ghost use Rattle.tabled_grid.specs.Entity.{place};
 
-use crate::spans::{Anchor, merged};
 use std::alloc::{AllocError, Global};
 use std::test::Fail;
 use tabled_grid::config::{CoverMap, Position, Size, SpannedConfig};
+use tabled_testing::merged;
 
 /// Whether a cell is visible, and whether a rectangle covers it from the left, and from above.
 fn told(spans: &SpannedConfig, row: usize, col: usize) -> (bool, bool, bool) {
@@ -18,8 +18,7 @@ fn told(spans: &SpannedConfig, row: usize, col: usize) -> (bool, bool, bool) {
 
 #[test]
 fn tells_which_cells_are_covered(rt: HostRuntime) -> Result<(), Fail> {
-    let anchors: [Anchor; 1] = [(1, 1, 2, 3)];
-    let spans = merged(rt.alloc(), anchors.as_slice())?;
+    let spans = merged(rt.alloc(), "1.1:2x3")?;
     for (row, col, covered) in [
         (1, 1, (true, false, false)),
         (1, 3, (false, true, false)),
@@ -35,8 +34,8 @@ fn tells_which_cells_are_covered(rt: HostRuntime) -> Result<(), Fail> {
 }
 
 /// Which cells of the rows and columns 0 and 1 are hidden, row by row.
-fn hidden(alloc: Global, anchors: &[Anchor]) -> Result<[bool; 4], AllocError> {
-    let cover = CoverMap::new(alloc, &merged(alloc, anchors)?, 2, 2)?;
+fn hidden(alloc: Global, spans: &str) -> Result<[bool; 4], AllocError> {
+    let cover = CoverMap::new(alloc, &merged(alloc, spans)?, 2, 2)?;
     Ok([
         cover.is_hidden(Position::new(0, 0)),
         cover.is_hidden(Position::new(0, 1)),
@@ -47,15 +46,12 @@ fn hidden(alloc: Global, anchors: &[Anchor]) -> Result<[bool; 4], AllocError> {
 
 #[test]
 fn keeps_which_cells_are_hidden(rt: HostRuntime) -> Result<(), Fail> {
-    let past: [Anchor; 3] = [(0, 0, 3, 1), (0, 1, 1, 9), (5, 5, 2, 2)];
-    let whole: [Anchor; 1] = [(0, 0, 2, 2)];
-    let far: [Anchor; 1] = [(usize::MAX, usize::MAX, 2, 2)];
-    for (anchors, cells) in [
-        (past.as_slice(), [false, false, true, false]),
-        (whole.as_slice(), [false, true, true, true]),
-        (far.as_slice(), [false; 4]),
+    for (spans, cells) in [
+        ("0.0:3x1 0.1:1x9 5.5:2x2", [false, false, true, false]),
+        ("0.0:2x2", [false, true, true, true]),
+        ("18446744073709551615.18446744073709551615:2x2", [false; 4]),
     ] {
-        assert!(rt; hidden(rt.alloc(), anchors)? == cells);
+        assert!(rt; hidden(rt.alloc(), spans)? == cells, "{spans}");
     }
     Ok(())
 }
@@ -65,6 +61,9 @@ fn refuses_a_block_past_the_largest_number(rt: HostRuntime) {
     let none = SpannedConfig::new(rt.alloc());
     assert!(rt; CoverMap::new(rt.alloc(), &none, usize::MAX, 2).is_err());
 }
+
+/// An anchor: its row and column, and the height and the width of its rectangle.
+type Anchor = (usize, usize, usize, usize);
 
 /// Sets the sizes of an anchor, which a map of hidden cells follows.
 fn follow(

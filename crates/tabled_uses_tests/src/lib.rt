@@ -2,23 +2,13 @@
 #![tactic(auto)]
 
 #[cfg(test)]
-mod alike;
-#[cfg(test)]
 mod covers;
-#[cfg(test)]
-mod faults;
 #[cfg(test)]
 mod fitting;
 #[cfg(test)]
-mod large;
-#[cfg(test)]
 mod places;
 #[cfg(test)]
-mod refused_steps;
-#[cfg(test)]
 mod rows;
-#[cfg(test)]
-mod selectors;
 #[cfg(test)]
 mod spans;
 #[cfg(test)]
@@ -27,5 +17,3 @@ mod steps;
 mod store_calls;
 #[cfg(test)]
 mod stores;
-#[cfg(test)]
-mod worded;

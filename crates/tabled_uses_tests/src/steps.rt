@@ -6,8 +6,8 @@ use tabled_grid::config::{Position, SpannedConfig};
 use tabled_grid::records::{
     CellText, ExactRecords, PeekableRecords, Records, RecordsMut, Resizable,
 };
-use tabled_testing::{flat, nested};
-use tabled_uses::language::ends_with;
+use tabled_testing::{flat, is_word, merged, nested, spelled_merged};
+use tabled_uses::language::{does, ends_with};
 use tabled_uses::steps::runs;
 
 /// How many steps are run, and the height of the second cell after them.
@@ -25,14 +25,37 @@ where
 const BLANKS: &str = "_ _ _ / _ _ _ /";
 
 #[test]
-fn steps_run_on_one_vector_of_cells(rt: HostRuntime) -> Result<(), Fail> {
-    assert!(rt; run_on(rt.alloc(), flat(rt.alloc(), BLANKS)?)? == (3, Some(3)));
+fn steps_run_on_each_kind_of_store(rt: HostRuntime) -> Result<(), Fail> {
+    let alloc = rt.alloc();
+    assert!(rt; run_on(alloc, flat(alloc, BLANKS)?)? == (3, Some(3)));
+    assert!(rt; run_on(alloc, nested(alloc, BLANKS)?)? == (3, Some(3)));
     Ok(())
 }
 
+/// Whether the steps of a script make this of a table, or the number of its first faulty line.
+fn makes(alloc: Global, script: &str, old: &str, new: &str) -> Result<Option<usize>, AllocError> {
+    let mut records = flat(alloc, old)?;
+    let mut cfg = merged(alloc, old)?;
+    let faulty = does(alloc, script.as_bytes(), &mut records, &mut cfg)?;
+    let same = is_word(spelled_merged(alloc, &records, &cfg), new);
+    Ok(if same { faulty } else { Some(usize::MAX) })
+}
+
 #[test]
-fn steps_run_on_a_vector_for_each_row(rt: HostRuntime) -> Result<(), Fail> {
-    assert!(rt; run_on(rt.alloc(), nested(rt.alloc(), BLANKS)?)? == (3, Some(3)));
+fn scripts_change_tables(rt: HostRuntime) -> Result<(), Fail> {
+    for (script, new, faulty) in [
+        (
+            "rotate\tleft\nheader\tN\n",
+            "N _ / b d / a c / 0.0:1x2",
+            None,
+        ),
+        ("rotate\tleft\nspin\n", "a b / c d /", Some(2)),
+    ] {
+        assert!(rt;
+            makes(rt.alloc(), script, "a b / c d /", new)? == faulty,
+            "{script:?}"
+        );
+    }
     Ok(())
 }
 

@@ -9,35 +9,22 @@ use tabled_grid::records::{
     Blank, CellText, ExactRecords, PeekableRecords, PieceOrder, Records, RecordsMut, Resizable,
     Text, VecRecords,
 };
-use tabled_testing::is_word;
+use tabled_testing::{flat, is_word, nested};
 use tabled_uses::stores::Change::{self, *};
 use tabled_uses::stores::{
     cell, change_lent, fruits, make_change, make_lent_change, push_and_remove_row, read, shape,
-    spelled, two_rows,
+    spelled,
 };
 
 const TWO_ROWS: &str = "a b / c d /";
 
-/// What a store is after each change, spelled.
-fn states<R>(alloc: Global, mut records: R, changes: &[Change]) -> Result<Vec<String>, AllocError>
-where
-    R: Resizable + Records + ExactRecords + PeekableRecords + RecordsMut<String> + Drop,
-    R::Cell: CellText,
-    requires { R.is_well_formed records }
-{
-    let mut states = Vec::new(alloc);
-    for change in changes {
-        make_change(alloc, &mut records, *change)?;
-        states.push(spelled(alloc, &records)?)?;
-    }
-    Ok(states)
-}
-
-/// The same of a store that is changed through its `&mut` where the change is of one row, column or cell.
-fn lent_states<R>(
+/// What a store is after each change, spelled. Lent, it is changed through its `&mut` where the change is of one
+/// row, column or cell.
+fn states<R>(
     alloc: Global,
     mut records: R,
     changes: &[Change],
+    is_lent: bool,
 ) -> Result<Vec<String>, AllocError>
 where
     R: Resizable + Records + ExactRecords + PeekableRecords + RecordsMut<String> + Drop,
@@ -51,49 +38,40 @@ where
             PushRows(_) | PushColumns(_) | Transpose | CutRows(_) => {
                 make_change(alloc, lent, *change)?;
             }
-            _ => make_lent_change(alloc, &mut lent, *change)?,
+            _ if is_lent => make_lent_change(alloc, &mut lent, *change)?,
+            _ => make_change(alloc, lent, *change)?,
         }
         states.push(spelled(alloc, &*lent)?)?;
     }
     Ok(states)
 }
 
-/// What changes make of a table in one vector of cells.
-fn flat(
+/// What changes make of a table in a vector for each row.
+fn nested_states(
     alloc: Global,
     old: &str,
     changes: &[Change],
-    lent: bool,
+    is_lent: bool,
 ) -> Result<Vec<String>, AllocError> {
-    let records = tabled_testing::flat(alloc, old)?;
-    if lent {
-        lent_states(alloc, records, changes)
-    } else {
-        states(alloc, records, changes)
-    }
+    states(alloc, nested(alloc, old)?, changes, is_lent)
 }
 
-/// What they make of it in a vector for each row.
-fn nested(
+/// What they make of it in one vector of cells.
+fn flat_states(
     alloc: Global,
     old: &str,
     changes: &[Change],
-    lent: bool,
+    is_lent: bool,
 ) -> Result<Vec<String>, AllocError> {
-    let records = tabled_testing::nested(alloc, old)?;
-    if lent {
-        lent_states(alloc, records, changes)
-    } else {
-        states(alloc, records, changes)
-    }
+    states(alloc, flat(alloc, old)?, changes, is_lent)
 }
 
 /// The states after changes, if they are the same in each kind of store, lent or not.
 fn agreed(alloc: Global, old: &str, changes: &[Change]) -> Result<Option<Vec<String>>, AllocError> {
-    let made = flat(alloc, old, changes, false)?;
-    let same = flat(alloc, old, changes, true)? == made
-        && nested(alloc, old, changes, false)? == made
-        && nested(alloc, old, changes, true)? == made;
+    let made = flat_states(alloc, old, changes, false)?;
+    let same = flat_states(alloc, old, changes, true)? == made
+        && nested_states(alloc, old, changes, false)? == made
+        && nested_states(alloc, old, changes, true)? == made;
     Ok(if same { Some(made) } else { None })
 }
 
@@ -105,82 +83,77 @@ fn make(alloc: Global, old: &str, changes: &[Change], want: &str) -> Result<bool
     }
 }
 
-#[test]
-fn changes_rows_and_columns(rt: HostRuntime) -> Result<(), Fail> {
-    for (changes, want) in [
-        ([RemoveColumn(0), RemoveRow(0), PushColumn], "1 x 2\n[d][]"),
-        ([RemoveRow(1), RemoveRow(0), PushColumn], "0 x 0"),
-        ([RemoveRow(0), RemoveRow(0), PushRow], "1 x 0\n"),
-        ([RemoveColumn(1), RemoveColumn(0), PushRow], "3 x 0\n\n\n"),
-        (
-            [RemoveColumn(1), RemoveColumn(0), PushColumn],
-            "2 x 1\n[]\n[]",
-        ),
-        (
-            [PushRow, InsertRow(1), PushColumn],
-            "4 x 3\n[a][b][]\n[][][]\n[c][d][]\n[][][]",
-        ),
-        (
-            [PushColumns(2), Set(0, 0), Transpose],
-            "4 x 2\n[00][c]\n[b][d]\n[][]\n[][]",
-        ),
-        (
-            [
-                CutRows(PieceOrder::Concat),
-                PushColumn,
-                CutRows(PieceOrder::Zip),
-            ],
-            "8 x 1\n[a]\n[]\n[c]\n[]\n[b]\n[]\n[d]\n[]",
-        ),
-    ] {
-        assert!(rt;
-            make(rt.alloc(), TWO_ROWS, changes.as_slice(), want)?,
-            "{want:?}"
-        );
-    }
-    Ok(())
-}
+/// A table, changes, and what they make of it.
+const CHANGES: &[(&str, &[Change], &str)] = &[
+    (
+        TWO_ROWS,
+        &[RemoveColumn(0), RemoveRow(0), PushColumn],
+        "1 x 2\n[d][]",
+    ),
+    (TWO_ROWS, &[RemoveRow(1), RemoveRow(0), PushColumn], "0 x 0"),
+    (TWO_ROWS, &[RemoveRow(0), RemoveRow(0), PushRow], "1 x 0\n"),
+    (
+        TWO_ROWS,
+        &[RemoveColumn(1), RemoveColumn(0), PushRow],
+        "3 x 0\n\n\n",
+    ),
+    (
+        TWO_ROWS,
+        &[RemoveColumn(1), RemoveColumn(0), PushColumn],
+        "2 x 1\n[]\n[]",
+    ),
+    (
+        TWO_ROWS,
+        &[RemoveColumn(1), RemoveColumn(0), PushRow, PushColumn],
+        "3 x 1\n[]\n[]\n[]",
+    ),
+    ("a b c /", &[RemoveRow(0), PushRow], "1 x 0\n"),
+    (
+        TWO_ROWS,
+        &[PushRow, InsertRow(1), PushColumn],
+        "4 x 3\n[a][b][]\n[][][]\n[c][d][]\n[][][]",
+    ),
+    (
+        TWO_ROWS,
+        &[PushColumns(2), Set(0, 0), Transpose],
+        "4 x 2\n[00][c]\n[b][d]\n[][]\n[][]",
+    ),
+    (
+        TWO_ROWS,
+        &[
+            CutRows(PieceOrder::Concat),
+            PushColumn,
+            CutRows(PieceOrder::Zip),
+        ],
+        "8 x 1\n[a]\n[]\n[c]\n[]\n[b]\n[]\n[d]\n[]",
+    ),
+    (
+        TWO_ROWS,
+        &[SwapRow(1, 1), SwapColumn(0, 0), Swap((1, 0), (1, 0))],
+        "2 x 2\n[a][b]\n[c][d]",
+    ),
+    ("a / b /", &[SwapRow(1, 1)], "2 x 1\n[a]\n[b]"),
+    (
+        TWO_ROWS,
+        &[SwapRow(0, 1), SwapColumn(1, 0), Set(1, 1)],
+        "2 x 2\n[d][c]\n[b][11]",
+    ),
+    (
+        TWO_ROWS,
+        &[Swap((0, 1), (1, 0)), Swap((1, 1), (1, 0)), PushRow],
+        "3 x 2\n[a][c]\n[d][b]\n[][]",
+    ),
+    (
+        TWO_ROWS,
+        &[InsertColumn(1), InsertRow(0), SwapColumn(0, 2)],
+        "3 x 3\n[][][]\n[b][][a]\n[d][][c]",
+    ),
+];
 
 #[test]
-fn swaps_rows_columns_and_cells(rt: HostRuntime) -> Result<(), Fail> {
-    for (changes, want) in [
-        (
-            [SwapRow(1, 1), SwapColumn(0, 0), Swap((1, 0), (1, 0))],
-            "2 x 2\n[a][b]\n[c][d]",
-        ),
-        (
-            [SwapRow(0, 1), SwapColumn(1, 0), Set(1, 1)],
-            "2 x 2\n[d][c]\n[b][11]",
-        ),
-        (
-            [Swap((0, 1), (1, 0)), Swap((1, 1), (1, 0)), PushRow],
-            "3 x 2\n[a][c]\n[d][b]\n[][]",
-        ),
-        (
-            [InsertColumn(1), InsertRow(0), SwapColumn(0, 2)],
-            "3 x 3\n[][][]\n[b][][a]\n[d][][c]",
-        ),
-    ] {
-        assert!(rt;
-            make(rt.alloc(), TWO_ROWS, changes.as_slice(), want)?,
-            "{want:?}"
-        );
-    }
-    Ok(())
-}
-
-#[test]
-fn changes_a_table_once_or_some_times(rt: HostRuntime) -> Result<(), Fail> {
-    for (old, changes, want) in [
-        (
-            TWO_ROWS,
-            [RemoveColumn(1), RemoveColumn(0), PushRow, PushColumn].as_slice(),
-            "3 x 1\n[]\n[]\n[]",
-        ),
-        ("a b c /", [RemoveRow(0), PushRow].as_slice(), "1 x 0\n"),
-        ("a / b /", [SwapRow(1, 1)].as_slice(), "2 x 1\n[a]\n[b]"),
-    ] {
-        assert!(rt; make(rt.alloc(), old, changes, want)?, "{want:?}");
+fn changes_rows_columns_and_cells(rt: HostRuntime) -> Result<(), Fail> {
+    for (old, changes, want) in CHANGES.iter() {
+        assert!(rt; make(rt.alloc(), *old, *changes, *want)?, "{want:?}");
     }
     Ok(())
 }
@@ -232,20 +205,13 @@ struct Outcome {
     same: bool,
 }
 
-fn attempt<R>(alloc: Global, mut records: R, change: Change) -> Result<Outcome, AllocError>
-where
-    R: Resizable + Records + ExactRecords + PeekableRecords + RecordsMut<String> + Drop,
-    R::Cell: CellText,
-    requires { R.is_well_formed records }
-{
-    let before = spelled(alloc, &records)?;
-    let made = make_change(alloc, &mut records, change).is_ok();
-    let same = spelled(alloc, &records)? == before;
-    Ok(Outcome { made, same })
-}
-
-/// The same of a change of one row, column or cell through the store's `&mut`.
-fn lent_attempt<R>(alloc: Global, mut records: R, change: Change) -> Result<Outcome, AllocError>
+/// Attempts a change, of one row, column or cell through the store's `&mut` if that is lent.
+fn attempt<R>(
+    alloc: Global,
+    mut records: R,
+    change: Change,
+    is_lent: bool,
+) -> Result<Outcome, AllocError>
 where
     R: Resizable + Records + ExactRecords + PeekableRecords + RecordsMut<String> + Drop,
     R::Cell: CellText,
@@ -253,21 +219,24 @@ where
 {
     let before = spelled(alloc, &records)?;
     let mut lent = &mut records;
-    let made = make_lent_change(alloc, &mut lent, change).is_ok();
+    let made = if is_lent {
+        make_lent_change(alloc, &mut lent, change).is_ok()
+    } else {
+        make_change(alloc, lent, change).is_ok()
+    };
     let same = spelled(alloc, &*lent)? == before;
     Ok(Outcome { made, same })
 }
 
 /// The outcomes of a change of each kind of store, of which the flat one may be lent.
-fn outcomes(alloc: Global, change: Change, lent: bool) -> Result<(Outcome, Outcome), AllocError> {
-    let flat = VecRecords::new(alloc, two_rows(alloc)?)?;
-    let flat = if lent {
-        lent_attempt(alloc, flat, change)?
-    } else {
-        attempt(alloc, flat, change)?
-    };
-    let nested = attempt(alloc, two_rows(alloc)?, change)?;
-    Ok((flat, nested))
+fn outcomes(
+    alloc: Global,
+    change: Change,
+    is_lent: bool,
+) -> Result<(Outcome, Outcome), AllocError> {
+    let in_one = attempt(alloc, flat(alloc, TWO_ROWS)?, change, is_lent)?;
+    let in_rows = attempt(alloc, nested(alloc, TWO_ROWS)?, change, false)?;
+    Ok((in_one, in_rows))
 }
 
 /// Says whether each kind of store is as it was if it refuses a change.

@@ -2,16 +2,16 @@
 
 use crate::worded::steps;
 use std::alloc::Global;
+use tabled_select::object::entities;
 use tabled_steps::Step;
 use tabled_testing::flat;
-use tabled_uses::select::lists_selected;
 
 /// How many entities the selector of these words names in a table.
 fn count(alloc: Global, words: &str) -> Option<usize> {
     let table = flat(alloc, "a b c / d e f / g h i /").ok()?;
     let line = format!(in alloc; "set {words} x").ok()?;
     match steps(alloc, line.as_str())?.pop()? {
-        Step::Set(select, _) => lists_selected(alloc, &select, &table).ok(),
+        Step::Set(select, _) => Some(entities(alloc, &select, &table).ok()?.len()),
         _ => None,
     }
 }

@@ -1,20 +1,17 @@
-//! What the language reads, and each fault of each of its words.
+//! What the program reads, and each fault of each of its words.
 
+use crate::tests::{answer, gives};
 use std::alloc::{AllocError, Global};
 use std::test::Fail;
-use tabled_language::parse;
 
-/// Says whether a script's first faulty line is one of a number, with a fault of a number. No line is 0.
+/// Says whether a script is answered by a fault of a number in a line of a number, or by its table for line 0.
 fn is_faulty(alloc: Global, script: &str, line: usize, fault: u8) -> Result<bool, AllocError> {
-    are_faulty(alloc, script.as_bytes(), line, fault)
-}
-
-/// The same of the bytes of a script.
-fn are_faulty(alloc: Global, script: &[u8], line: usize, fault: u8) -> Result<bool, AllocError> {
-    match parse(alloc, script)? {
-        Ok(_) => Ok(line == 0),
-        Err((at, what)) => Ok(at == line && what.number() == fault),
+    if line == 0 {
+        let (status, _) = answer(alloc, script.as_bytes());
+        return Ok(status == 0);
     }
+    let output = format!(in alloc; "line {line}: fault {fault}\n")?;
+    Ok(gives(alloc, script.as_bytes(), output.as_bytes()))
 }
 
 #[test]
@@ -284,8 +281,8 @@ fn each_word_may_be_unknown_or_no_number(rt: HostRuntime) -> Result<(), Fail> {
 #[test]
 fn a_bad_byte_or_escape_or_number_is_a_fault_of_its_line(rt: HostRuntime) -> Result<(), Fail> {
     let alloc = rt.alloc();
-    assert!(rt; are_faulty(alloc, b"row\ta\n\xff", 2, 4)?);
-    assert!(rt; are_faulty(alloc, b"\nrow\ta\\", 2, 4)?);
-    assert!(rt; are_faulty(alloc, b"cspan\t-10001\tall", 1, 3)?);
+    assert!(rt; gives(alloc, b"row\ta\n\xff", b"line 2: fault 4\n"));
+    assert!(rt; gives(alloc, b"\nrow\ta\\", b"line 2: fault 4\n"));
+    assert!(rt; gives(alloc, b"cspan\t-10001\tall", b"line 1: fault 3\n"));
     Ok(())
 }
