@@ -2,6 +2,9 @@
 
 import ctypes
 import os
+import re
+import shutil
+import subprocess
 import sys
 import time
 
@@ -72,6 +75,17 @@ def peak_megabytes_of(command, script, wanted):
     _, status, usage = os.wait4(-1, 0)
     demand_status(command, status, wanted)
     return usage.ru_maxrss * 1024 / 1e6
+
+
+def instructions_of(command, script):
+    """How many instructions a run takes, which hardly varies, or None where there is no valgrind."""
+    if not shutil.which("valgrind"):
+        return None
+    words = ["valgrind", "--tool=callgrind", "--callgrind-out-file=/dev/null", *command]
+    with open(script) as file:
+        ran = subprocess.run(words, stdin=file, stdout=subprocess.DEVNULL, stderr=subprocess.PIPE, text=True)
+    count = re.search(r"Collected : (\d+)", ran.stderr)
+    return int(count[1]) if count else stop(f"valgrind counts no instructions: {ran.stderr}")
 
 
 def demand_status(command, status, wanted):

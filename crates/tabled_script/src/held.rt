@@ -19,10 +19,22 @@ pub(crate) fn send<W: Write>(writer: &mut W, held: &mut Vec<u8>) -> io::Result<(
     ensures sends { OnOk result (Sends (W.contents writer.old) held.old.items (W.contents writer.new) held.new.items []) }
     ensures room { OnOk result (HasRoom PART held.new) }
 {
-    if held.len() >= PART {
-        writer.write_all(held)?;
-        held.clear();
+    if held.len() < PART {
+        return Ok(());
     }
+    write_held(writer, held)
+}
+
+/// Writes what is held.
+// A call of its own keeps `send` small, which each text calls.
+#[inline(never)]
+fn write_held<W: Write>(writer: &mut W, held: &mut Vec<u8>) -> io::Result<()>
+    requires { ROOM ≤ vec_capacity held.old }
+    ensures sends { OnOk result (Sends (W.contents writer.old) held.old.items (W.contents writer.new) held.new.items []) }
+    ensures room { OnOk result (HasRoom PART held.new) }
+{
+    writer.write_all(held)?;
+    held.clear();
     Ok(())
 }
 
@@ -75,6 +87,16 @@ fn hold_number(held: &mut Vec<u8>, number: usize)
     hold_byte(held, b'0' + (number % 10) as u8);
 }
 
+/// Holds a tab, and the word that stands for a text.
+pub(crate) fn hold_word(held: &mut Vec<u8>, text: &str)
+    requires { vec_len held.old + 2 * length text.now < vec_capacity held.old }
+    ensures bytes { held.new.items ≡ held.old.items ++ 9 ∷ escaped text.now }
+    ensures room { vec_capacity held.old ≤ vec_capacity held.new }
+{
+    hold_byte(held, b'\t');
+    hold_escaped(held, text.as_bytes());
+}
+
 /// Holds the word that stands for the bytes of a text.
 pub(crate) fn hold_escaped(held: &mut Vec<u8>, bytes: &[u8])
     requires { vec_len held.old + 2 * length bytes.now ≤ vec_capacity held.old }
@@ -90,6 +112,18 @@ pub(crate) fn hold_escaped(held: &mut Vec<u8>, bytes: &[u8])
         hold_bytes(held, bytes);
         return;
     }
+    hold_each(held, bytes);
+}
+
+/// The same, byte by byte.
+// A call of its own keeps `hold_escaped` small.
+#[inline(never)]
+fn hold_each(held: &mut Vec<u8>, bytes: &[u8])
+    requires { vec_len held.old + 2 * length bytes.now ≤ vec_capacity held.old }
+    ensures bytes { held.new.items ≡ held.old.items ++ escaped bytes.now }
+    ensures len { vec_len held.new ≤ vec_len held.old + 2 * length bytes.now }
+    ensures room { vec_capacity held.old ≤ vec_capacity held.new }
+{
     for byte in bytes {
         hold_escaped_byte(held, *byte);
     }
@@ -97,6 +131,22 @@ pub(crate) fn hold_escaped(held: &mut Vec<u8>, bytes: &[u8])
 
 /// Says whether a text is a word as it is.
 fn is_plain(text: &[u8]) -> bool
+    ensures { IsTrue result → escaped text.now ≡ text.now }
+{
+    let mut rest = text;
+    // A loop of eight steps is written out by the compiler, which takes half of the time.
+    while 8 <= rest.len() {
+        let (part, others) = rest.split_at(8);
+        if !is_plain_part(part) {
+            return false;
+        }
+        rest = others;
+    }
+    is_plain_part(rest)
+}
+
+/// The same, byte by byte.
+fn is_plain_part(text: &[u8]) -> bool
     ensures { IsTrue result → escaped text.now ≡ text.now }
 {
     for byte in text {

@@ -15,7 +15,7 @@ ghost use Rattle.tabled_script.specs.Sent.{HasRoom, Sends};
 ghost use Rattle.tabled_steps.specs.States.{state_of};
 
 use crate::form::Form;
-use crate::held::{PART, ROOM, hold_byte, hold_bytes, hold_escaped, hold_numbers, send};
+use crate::held::{PART, ROOM, hold_byte, hold_bytes, hold_escaped, hold_numbers, hold_word, send};
 use std::alloc::{AllocError, Global};
 use std::io::{self, Write};
 use tabled_grid::config::SpannedConfig;
@@ -100,26 +100,14 @@ fn write_row<W: Write, T: CellText>(
     hold_bytes(held, b"row");
     for text in texts {
         let text = text.text();
-        if !text.is_empty() {
+        if text.len() > PART {
             write_word(writer, held, text)?;
         } else {
-            write_tab(writer, held)?;
+            hold_word(held, text);
+            send(writer, held)?;
         }
     }
     hold_byte(held, b'\n');
-    send(writer, held)
-}
-
-/// Writes, or holds, a tab.
-fn write_tab<W: Write>(writer: &mut W, held: &mut Vec<u8>) -> io::Result<()>
-    requires { HasRoom (2 * PART) held.old }
-    ensures sends { OnOk result (Sends (W.contents writer.old) held.old.items (W.contents writer.new) held.new.items (9 ∷ [])) }
-    ensures room { OnOk result (HasRoom PART held.new) }
-{
-    hold_byte(held, b'\t');
-    if held.len() < PART {
-        return Ok(());
-    }
     send(writer, held)
 }
 

@@ -1,6 +1,5 @@
-use Rattle.std.proofs.Common.{arith, ◌≡◌, [], ◌∷◌, ◌++◌, ap, codes, map, refl, subst, sym, take, ◌∙◌}
-use Rattle.std.proofs.lemmas.Grind.{common_steps}
-use Rattle.std.proofs.lemmas.List.{nil_from_length, take_all}
+use Rattle.std.proofs.Common.{arith, ◌+◌, [], ◌∷◌, ◌++◌, ap, codes, map, refl, subst, sym, take, ◌∙◌}
+use Rattle.std.proofs.lemmas.List.{take_all}
 use Rattle.std.proofs.lemmas.Result.{on_ok_weaker}
 use Rattle.std.specs.List.{AllByRecursion, flat_map}
 use Rattle.std.specs.Str.{IsUtf8}
@@ -10,7 +9,7 @@ use Rattle.tabled_script.proofs.OutputLines.{line-pieces, pushed_more}
 use Rattle.tabled_script.proofs.Texts.{all_map, all_more}
 use Rattle.tabled_script.proofs.Sent.{sends_more, sends_next, sends_none}
 use Rattle.tabled_script.proofs.output.write_row.Goals as goal
-use Rattle.tabled_script.proofs.output.write_row.Goals.{then-not-is_empty+in_ok-write_word, else-not-is_empty+in_ok-write_tab}
+use Rattle.tabled_script.proofs.output.write_row.Goals.{then-text-gt-PART+in_ok-write_word, else-text-gt-PART+in_ok-send}
 
 pub loop-text-init : goal.loop-text-init
 loop-text-init g c = record {
@@ -28,21 +27,20 @@ loop-text-preserved g c =
     let before = codes "row" ++ flat_map word (take i texts) in
     let texts_more = all_more (λ t. IsUtf8 (g.T.CellText.text_of t)) texts i c.text-item.result c.loop-text-test.true c.text-item.is c.loop-text.invariant.texts (subst IsUtf8 c.text-text.ensures c.text-text.utf8) in
     let more = pushed_more word (codes "row") before texts i c.text-item.result c.loop-text-test.true c.text-item.is refl in
-    elim c.if-not-is_empty.branch [
-      | then-not-is_empty+in_ok-write_word w ↦ rw (w.writer-is, w.held-is) (record {
-        sends = subst (Sends (contents c.args.writer.now) c.args.held.now.items (contents w.write_word.new.writer) w.write_word.new.held.items) (ap (λ bytes. before ++ 9 ∷ escaped bytes) c.text-text.ensures ∙ more)
+    let one_more = ap (λ bytes. before ++ 9 ∷ escaped bytes) c.text-text.ensures ∙ more in
+    elim c.if-text-gt-PART.branch [
+      | then-text-gt-PART+in_ok-write_word w ↦ rw (w.writer-is, w.held-is) (record {
+        sends = subst (Sends (contents c.args.writer.now) c.args.held.now.items (contents w.write_word.new.writer) w.write_word.new.held.items) one_more
             (sends_more (contents c.args.writer.now) (contents c.loop-text.writer) (contents w.write_word.new.writer) c.args.held.now.items c.loop-text.held.items w.write_word.new.held.items before (9 ∷ escaped c.text-text.result.now) c.loop-text.invariant.sends w.in_ok-write_word.ensures.sends);
         texts = texts_more;
         room = record { less = omega (arith, w.in_ok-write_word.ensures.room.less); room = w.in_ok-write_word.ensures.room.room };
       })
-      | else-not-is_empty+in_ok-write_tab w ↦
-          let none : c.text-text.result.now ≡ [] = grind (arith, common_steps, nil_from_length) in
-          rw (w.writer-is, w.held-is) (record {
-            sends = subst (Sends (contents c.args.writer.now) c.args.held.now.items (contents w.write_tab.new.writer) w.write_tab.new.held.items) (ap (λ bytes. before ++ 9 ∷ escaped bytes) (sym none ∙ c.text-text.ensures) ∙ more)
-                (sends_more (contents c.args.writer.now) (contents c.loop-text.writer) (contents w.write_tab.new.writer) c.args.held.now.items c.loop-text.held.items w.write_tab.new.held.items before (9 ∷ []) c.loop-text.invariant.sends w.in_ok-write_tab.ensures.sends);
-            texts = texts_more;
-            room = record { less = omega (arith, w.in_ok-write_tab.ensures.room.less); room = w.in_ok-write_tab.ensures.room.room };
-          })
+      | else-text-gt-PART+in_ok-send w ↦ rw (w.writer-is, w.held-is) (record {
+        sends = sends_next (contents c.args.writer.now) (contents c.loop-text.writer) (contents w.send.new.writer) c.args.held.now.items c.loop-text.held.items w.hold_word.new.held.items w.send.new.held.items
+            before (9 ∷ escaped c.text-text.result.now) (codes "row" ++ flat_map word (take (i + 1) texts)) c.loop-text.invariant.sends w.hold_word.ensures.bytes w.in_ok-send.ensures.sends one_more;
+        texts = texts_more;
+        room = record { less = omega (arith, w.in_ok-send.ensures.room.less); room = w.in_ok-send.ensures.room.room };
+      })
     ]
 
 pub returns-clause-sends : goal.returns-clause-sends
@@ -53,15 +51,15 @@ returns-clause-sends g c =
     let words = flat_map (λ t. 9 ∷ escaped (text_of t)) (take c.loop-text.text-index texts) in
     let all = take_all c.loop-text.text-index texts (omega arith) in
     let path = ap (λ ts. (codes "row" ++ flat_map (λ t. 9 ∷ escaped (text_of t)) ts) ++ 10 ∷ []) all ∙ sym (line-pieces text_of (codes "row") texts) in
-    on_ok_weaker c.send.result
-    (λ sent. sends_next (contents c.args.writer.now) (contents c.loop-text.writer) (contents c.send.new.writer) c.args.held.now.items c.loop-text.held.items c.hold_byte.new.held.items c.send.new.held.items
+    on_ok_weaker c.send-2.result
+    (λ sent. sends_next (contents c.args.writer.now) (contents c.loop-text.writer) (contents c.send-2.new.writer) c.args.held.now.items c.loop-text.held.items c.hold_byte.new.held.items c.send-2.new.held.items
     (codes "row" ++ words) (10 ∷ []) (line (codes "row" ∷ map text_of texts)) c.loop-text.invariant.sends c.hold_byte.ensures.bytes sent path)
-    c.send.ensures.sends
+    c.send-2.ensures.sends
 
 pub returns-clause-texts : goal.returns-clause-texts
 returns-clause-texts g c =
     let texts = c.args.texts.now in
     let all = take_all c.loop-text.text-index texts (omega arith) in
-    on_ok_weaker c.send.result
+    on_ok_weaker c.send-2.result
     (λ _. all_map IsUtf8 g.T.CellText.text_of texts (subst (AllByRecursion (λ t. IsUtf8 (g.T.CellText.text_of t))) all c.loop-text.invariant.texts))
-    c.send.ensures.room
+    c.send-2.ensures.room

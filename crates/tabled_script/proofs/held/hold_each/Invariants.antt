@@ -1,6 +1,6 @@
 use Rattle.std.proofs.Common.{◌≡◌, ◌+◌, ◌*◌, ◌≤◌, ◌++◌, take, vec_capacity, vec_len}
 use Rattle.tabled_language.specs.Output.{escaped}
-use Rattle.tabled_script.proofs.held.hold_escaped.Given as goal
+use Rattle.tabled_script.proofs.held.hold_each.Given as goal
 
 abbrev pub invariant-loop-byte : goal.invariant-loop-byte
 invariant-loop-byte l = record {

@@ -1,0 +1,14 @@
+use Rattle.std.proofs.Common.{◌≡◌, ◌++◌, ap, ap₂, rules, sym, ◌∙◌}
+use Rattle.std.proofs.lemmas.List.{take-append-drop}
+use Rattle.std.proofs.lemmas.List.Concat.{flat_map-append}
+use Rattle.tabled_language.specs.Output.{escaped, escaped_byte}
+use Rattle.tabled_script.proofs.held.is_plain.Goals as goal
+
+pub loop-rest-preserved : goal.loop-rest-preserved
+loop-rest-preserved c = λ plain.
+    let part = c.split_at.result.0.now in
+    let others = c.split_at.result.1.now in
+    let whole : part ++ others ≡ c.loop-rest.rest.now = rw (c.split_at.ensures.front, c.split_at.ensures.back) (take-append-drop 8 c.loop-rest.rest.now) in
+    let first : escaped part ≡ part = search rules in
+    let both : escaped (part ++ others) ≡ part ++ others = flat_map-append escaped_byte part others ∙ ap₂ (λ xs ys. xs ++ ys) first plain in
+    c.loop-rest.invariant (ap escaped (sym whole) ∙ both ∙ whole)

@@ -1,0 +1,6 @@
+use Rattle.std.proofs.Common.{◌≡◌, drop}
+use Rattle.tabled_language.specs.Output.{escaped}
+use Rattle.tabled_script.proofs.held.is_plain_part.Given as goal
+
+abbrev pub invariant-loop-byte : goal.invariant-loop-byte
+invariant-loop-byte l = escaped (drop l.byte-index l.text) ≡ drop l.byte-index l.text → escaped l.text ≡ l.text
