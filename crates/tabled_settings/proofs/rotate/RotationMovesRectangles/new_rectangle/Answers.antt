@@ -4,8 +4,8 @@ use Rattle.tabled_images.specs.Images.{Carries}
 use Rattle.tabled_settings.specs.Rearranged.{rotated}
 use Rattle.tabled_settings.specs.declared.rotate.Rotate.TheVariants.{Left, Right}
 use Rattle.tabled_settings.proofs.TurnedRectangles.{turned_carries, turned_inside, turned_left, turned_one, turned_over, turned_right}
-use Rattle.tabled_settings.proofs.rotate.TurnMovesRectangles.new_rectangle.Goals as goal
-use Rattle.tabled_settings.proofs.rotate.TurnMovesRectangles.new_rectangle.Goals.{then-bottom-self-via-then-bottom-self, then-bottom-self-via-else-bottom-self+then-right-self}
+use Rattle.tabled_settings.proofs.rotate.RotationMovesRectangles.new_rectangle.Goals as goal
+use Rattle.tabled_settings.proofs.rotate.RotationMovesRectangles.new_rectangle.Goals.{then-bottom-self-via-then-bottom-self, then-bottom-self-via-else-bottom-self+then-right-self}
 
 pub returns-then-bottom-self-clause-finds : goal.returns-then-bottom-self-clause-finds
 returns-then-bottom-self-clause-finds c = λ f carries whole.
