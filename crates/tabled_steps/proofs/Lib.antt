@@ -6,8 +6,8 @@ pub mod GoneOver
 pub mod LocalChanges
 pub mod MergedRuns
 pub mod Outside
-pub mod RunSteps
-pub mod StandInPlaces
-pub mod StandIns
+pub mod GroupSteps
+pub mod RepresentedPlaces
+pub mod Representatives
 pub mod StepsUntil
 pub mod TextReads
