@@ -8,7 +8,7 @@ use Rattle.tabled_options.specs.Writes.{text_writes}
 use Rattle.tabled_settings.specs.Charsets.{charset_writes}
 use Rattle.tabled_steps.proofs.LocalChanges.{local_charset, local_spans, local_text, local_writes}
 use Rattle.tabled_steps.proofs.RepresentedPlaces.{duplicated_represented, duplicated_represented_refused}
-use Rattle.tabled_steps.proofs.Representatives.{represented, represented_refused}
+use Rattle.tabled_steps.proofs.RepresentedChanges.{represented, represented_refused}
 use Rattle.tabled_steps.proofs.step.Step.+apply.Goals as goal
 
 pub returns-in-Set-clause-ok : goal.returns-in-Set-clause-ok
