@@ -9,7 +9,7 @@ loop-group-preserved-then-group-ahead c =
     let items = c.in-Some.ensures.steps.0 in
     let lengths = ap length items in
     let ahead = c.loop-group.ahead in
-    let group = c.in-Some.group' in
+    let group = c.in-Some.group in
     record {
       can = search rules;
       ends = search rules;
@@ -22,7 +22,7 @@ loop-group-preserved c =
     let items = c.in-Some.ensures.steps.0 in
     let lengths = ap length items in
     let ahead = c.loop-group.ahead in
-    let group = c.in-Some.group' in
+    let group = c.in-Some.group in
     let part : Group = record { entity = group.entity; count = group.count - ahead } in
     let some : 1 ≤ part.count = omega (arith, c.if-group-ahead.false) in
     let few : part.count ≤ group.count = omega arith in

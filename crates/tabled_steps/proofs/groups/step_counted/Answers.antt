@@ -12,7 +12,7 @@ loop-group-preserved-then-group-ahead c =
     let items = c.in-Some.ensures.steps.0 in
     let lengths = ap length items in
     let ahead = c.loop-group.ahead in
-    let group = c.in-Some.group' in
+    let group = c.in-Some.group in
     record {
       can = search rules;
       ends = search rules;
@@ -25,7 +25,7 @@ loop-group-preserved c =
     let items = c.in-Some.ensures.steps.0 in
     let lengths = ap length items in
     let ahead = c.loop-group.ahead in
-    let group = c.in-Some.group' in
+    let group = c.in-Some.group in
     let some_step : 0 < c.args.n = omega (arith, c.if-n-eq0.false) in
     let part : Group = record { entity = group.entity; count = (group.count - ahead - 1) / c.args.n + 1 } in
     let some : 1 ≤ part.count = omega arith in
