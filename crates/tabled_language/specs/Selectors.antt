@@ -1,7 +1,7 @@
 -- The words that name cells, in prefix form.
 use Rattle.std.specs.Prelude.{ℕ, zero, suc, [], ◌∷◌, codes, drop}
 use Rattle.tabled_select.specs.Steps.{every}
-use Rattle.tabled_steps.specs.Selected.{Named, named_by, others, shared, united, with_content, with_name, without}
+use Rattle.tabled_steps.specs.Selected.{Named, named_by, named_columns, others, shared, united, with_content, without}
 use Rattle.tabled_steps.specs.declared.select.Select.{Select}
 use Rattle.tabled_steps.specs.declared.select.Select.TheVariants as select
 use Rattle.tabled_language.specs.declared.fault.Fault.TheVariants.{SelectorDepth}
@@ -44,7 +44,7 @@ selectors inner =
     ∷ (codes "row", with_number select.Row)
     ∷ (codes "column", with_number select.Column)
     ∷ (codes "content", then_reads reads_text (λ text. gives (with_content text)))
-    ∷ (codes "name", then_reads reads_text (λ text. gives (with_name text)))
+    ∷ (codes "name", then_reads reads_text (λ text. gives (named_columns text)))
     ∷ (codes "and", then_reads inner (λ x. then_reads inner (λ y. gives (λ g. united g (x g) (y g)))))
     ∷ (codes "not", then_reads inner (λ x. then_reads inner (λ y. gives (λ g. without g (x g) (y g)))))
     ∷ (codes "intersect", then_reads inner (λ x. then_reads inner (λ y. gives (λ g. shared g (x g) (y g)))))

@@ -17,7 +17,7 @@ use Rattle.tabled_settings.specs.declared.split.Display.{Display}
 use Rattle.tabled_settings.specs.declared.split.Display.TheVariants as display
 use Rattle.tabled_spans.specs.Widths as widths
 use Rattle.tabled_steps.specs.Selected.{half_open}
-use Rattle.tabled_steps.specs.States.{State, cut, duplicate, join, merge, on_each, put_panel, rearrange, recode, remove_named, remove_range, reverse, set, span}
+use Rattle.tabled_steps.specs.States.{State, cut_lines, duplicate, join, merge, on_each, put_panel, rearrange, recode, remove_named, remove_range, reverse, set, span}
 use Rattle.tabled_language.specs.declared.fault.Fault.{Fault}
 use Rattle.tabled_language.specs.declared.fault.Fault.TheVariants.{WordCount}
 use Rattle.tabled_language.specs.Selectors.{reads_cells}
@@ -148,7 +148,7 @@ reads_concat = then_reads reads_side (λ axis. then_reads reads_text (λ default
 
 -- what is cut, into how many, the order of the pieces and which of them stay
 abbrev pub reads_split : Reading (State → State)
-reads_split = then_reads reads_cut_lines (λ lines. then_reads reads_number (λ index. then_reads reads_behavior (λ pieces. then_reads reads_display (λ shown. gives (cut (record { lines = lines; behavior = pieces; display = shown; index = index }))))))
+reads_split = then_reads reads_cut_lines (λ lines. then_reads reads_number (λ index. then_reads reads_behavior (λ pieces. then_reads reads_display (λ shown. gives (cut_lines (record { lines = lines; behavior = pieces; display = shown; index = index }))))))
 
 -- the verbs of steps, and what is read after each
 abbrev pub steps : Choices (State → State)

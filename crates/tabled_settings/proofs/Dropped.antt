@@ -10,7 +10,7 @@ use Rattle.tabled_grid.specs.Along.{along, count_along, first_along}
 use Rattle.tabled_grid.specs.Grid.{Grid, IsEven}
 use Rattle.tabled_grid.specs.declared.records.axis.Axis.{Axis}
 use Rattle.tabled_grid.specs.declared.records.axis.Axis.TheVariants.{Rows, Columns}
-use Rattle.tabled_settings.specs.Lines.{DropsLines, ThinsLines, line}
+use Rattle.tabled_settings.specs.Lines.{DropsLines, ThinsLines, line_cells}
 use Rattle.tabled_grid.specs.Places.{ReadsThrough}
 use Rattle.tabled_select.specs.Located.{is_located}
 use Rattle.tabled_settings.specs.Rearranged.{left_over, removed}
@@ -51,25 +51,25 @@ module _ {A : Type 0} (axis : Axis) (test : ℕ → Bool) where
         shape = t.shape;
         many = t.many ∙ sym (ap length left);
         few = omega (arith, t.few, next);
-        front = λ a h. t.front a h ∙ ap (λ (ys : List ℕ). line axis g (get_or ys a 0)) (sym left);
+        front = λ a h. t.front a h ∙ ap (λ (ys : List ℕ). line_cells axis g (get_or ys a 0)) (sym left);
         behind = λ a h. t.behind a (omega (arith, h, next));
       }
 
   module _ (i n k m : ℕ) (g cur new : Grid A) (next : n ≡ i + 1) (more : m ≡ k + 1) (stays : test i ≡ false) (t : ThinsLines axis test i k g cur) (is : new ≡ along axis (λ _ xs. swap xs k i) cur) (within : i < count_along axis cur) where
-    moved : (line axis new k ≡ line axis cur i) × (line axis new i ≡ line axis cur k) × ((a : ℕ) → a ≢ k → a ≢ i → line axis new a ≡ line axis cur a)
+    moved : (line_cells axis new k ≡ line_cells axis cur i) × (line_cells axis new i ≡ line_cells axis cur k) × ((a : ℕ) → a ≢ k → a ≢ i → line_cells axis new a ≡ line_cells axis cur a)
     moved = lines_swapped axis cur new k i t.shape.even (omega (arith, within, t.few)) within is
 
     left : left_over test n ≡ left_over test i ++ i ∷ []
     left = let same : n ≡ suc i = omega (arith, next) in ap (left_over test) same ∙ left_stays test i stays
 
-    front_at : (a : ℕ) → a < m → (a ≡ k) ⊎ (a ≢ k) → line axis new a ≡ line axis g (get_or (left_over test n) a 0)
+    front_at : (a : ℕ) → a < m → (a ≡ k) ⊎ (a ≢ k) → line_cells axis new a ≡ line_cells axis g (get_or (left_over test n) a 0)
     front_at a h (inl at) =
-        ap (line axis new) at ∙ moved.0 ∙ t.behind i (omega arith)
-        ∙ ap (line axis g) (sym (ap (λ (ys : List ℕ). get_or ys a 0) left ∙ get_or_at (left_over test i) i [] 0 a (omega (arith, at, t.many))))
+        ap (line_cells axis new) at ∙ moved.0 ∙ t.behind i (omega arith)
+        ∙ ap (line_cells axis g) (sym (ap (λ (ys : List ℕ). get_or ys a 0) left ∙ get_or_at (left_over test i) i [] 0 a (omega (arith, at, t.many))))
     front_at a h (inr off) =
         moved.2 a off (λ at. absurd (omega (arith, at, h, more, off, t.few)))
         ∙ t.front a (omega (arith, h, more, off))
-        ∙ ap (line axis g) (sym (ap (λ (ys : List ℕ). get_or ys a 0) left ∙ get_or_append_left (left_over test i) (i ∷ []) 0 a (omega (arith, h, more, off, t.many))))
+        ∙ ap (line_cells axis g) (sym (ap (λ (ys : List ℕ). get_or ys a 0) left ∙ get_or_append_left (left_over test i) (i ∷ []) 0 a (omega (arith, h, more, off, t.many))))
 
     pub thins_kept : ThinsLines axis test n m g new
     thins_kept = record {
@@ -86,7 +86,7 @@ module _ {A : Type 0} (axis : Axis) (test : ℕ → Bool) where
       let many : k ≡ length (left_over test (count_along axis g)) = t.many ∙ ap (λ (n : ℕ). length (left_over test n)) all in
       record {
         shape = rw (← many) (has_lines axis k g cur new fits t.shape.rows t.shape.columns t.shape.even cut);
-        kept = λ a h. let below : a < k = omega (arith, h, many) in line_first axis cur new k a t.shape.even below cut ∙ t.front a below ∙ ap (λ (n : ℕ). line axis g (get_or (left_over test n) a 0)) all;
+        kept = λ a h. let below : a < k = omega (arith, h, many) in line_first axis cur new k a t.shape.even below cut ∙ t.front a below ∙ ap (λ (n : ℕ). line_cells axis g (get_or (left_over test n) a 0)) all;
       }
 
 maps_alike : {X Y : Type 0} (f h : X → Y) → ((x : X) → f x ≡ h x) → (xs : List X) → map f xs ≡ map h xs

@@ -24,7 +24,7 @@ use Rattle.tabled_settings.specs.declared.split.Split.{Split}
 use Rattle.tabled_settings.specs.PiecePlaces.{glue_rows, glued, glued_line}
 use Rattle.tabled_grid.specs.Axis.{across}
 use Rattle.tabled_grid.specs.Pieces.{nth_piece, piece_index}
-use Rattle.tabled_settings.specs.Pieces.{cut_rows, has_pieces, piece_at, split, staying, stays, turned}
+use Rattle.tabled_settings.specs.Pieces.{cut_rows, has_pieces, piece_at, split, staying, stays, oriented}
 use Rattle.tabled_settings.proofs.PieceReads.{cut_count, cut_even, cut_text, filter_all, piece_text, same_by_lines, turned_across, turned_back, turned_cell, turned_columns, turned_count, turned_even, turned_rows}
 use Rattle.tabled_grid.proofs.PiecesCut.{enough_pieces, some_pieces}
 use Rattle.tabled_settings.proofs.PiecesDone.{counted}
@@ -112,16 +112,16 @@ module _ {A : Type 0} (s : Split) (lines width pieces n : ℕ) (g h : Grid A) (e
       remade : ℕ → Grid A
       remade p = record { rows = lines; columns = width; cells = map (glued_line s.behavior lines p width h.cells) (range_with_len 0 lines) }
 
-turned_twice : {A : Type 0} (axis : Axis) (g : Grid A) → IsEven g → 0 < count_along axis g → 0 < count_along (across axis) g → turned axis (turned axis g) ≡ g
+turned_twice : {A : Type 0} (axis : Axis) (g : Grid A) → IsEven g → 0 < count_along axis g → 0 < count_along (across axis) g → oriented axis (oriented axis g) ≡ g
 turned_twice Rows g even some any = refl
 turned_twice Columns g even some any =
-    let half : IsEven (turned Columns g) = turned_even Columns g even some in
-    let high : (turned Columns g).columns ≡ g.rows = turned_columns Columns g some in
-    same_by_lines Columns (turned Columns (turned Columns g)) g (turned_even Columns (turned Columns g) half (omega (arith, high, any))) even
-    (turned_count Columns (turned Columns g) (omega (arith, high, any))) (turned_across Columns (turned Columns g) ∙ high)
-    (λ i j l m. turned_back Columns (turned Columns g) i j half ∙ turned_cell Columns g i j even)
+    let half : IsEven (oriented Columns g) = turned_even Columns g even some in
+    let high : (oriented Columns g).columns ≡ g.rows = turned_columns Columns g some in
+    same_by_lines Columns (oriented Columns (oriented Columns g)) g (turned_even Columns (oriented Columns g) half (omega (arith, high, any))) even
+    (turned_count Columns (oriented Columns g) (omega (arith, high, any))) (turned_across Columns (oriented Columns g) ∙ high)
+    (λ i j l m. turned_back Columns (oriented Columns g) i j half ∙ turned_cell Columns g i j even)
 
-pub turned_back_twice : (axis : Axis) (c : Grid (List ℕ)) → IsEven c → 0 < c.rows → 0 < c.columns → turned axis (turned axis c) ≡ c
+pub turned_back_twice : (axis : Axis) (c : Grid (List ℕ)) → IsEven c → 0 < c.rows → 0 < c.columns → oriented axis (oriented axis c) ≡ c
 turned_back_twice Rows c c_even k l = turned_twice Rows c c_even k l
 turned_back_twice Columns c c_even k l = turned_twice Columns c c_even l k
 
@@ -195,7 +195,7 @@ has_if s g b e some index = rw (counted s.lines g, counted (across s.lines) g, l
 
 pub split_glued : (s : Split) (g h : Grid (List ℕ)) → IsEven g → s.display ≡ Retain → 0 < g.rows → 0 < g.columns → 0 < s.index → h ≡ split s g → glued s g.rows g.columns h ≡ g
 split_glued s g h even retained some_rows some_columns index is =
-    rw (counted s.lines g, counted (across s.lines) g) (ap (turned s.lines) (either (nat_lt s.index (count_along (across s.lines) g)) refl) ∙ turned_twice s.lines g even some any)
+    rw (counted s.lines g, counted (across s.lines) g) (ap (oriented s.lines) (either (nat_lt s.index (count_along (across s.lines) g)) refl) ∙ turned_twice s.lines g even some any)
   where
     some_of : (axis : Axis) → 0 < count_along axis g
     some_of Rows = some_rows
@@ -208,31 +208,31 @@ split_glued s g h even retained some_rows some_columns index is =
     any = some_of (across s.lines)
 
     lines : Grid (List ℕ)
-    lines = turned s.lines g
+    lines = oriented s.lines g
 
-    lines_even : IsEven (turned s.lines g)
+    lines_even : IsEven (oriented s.lines g)
     lines_even = turned_even s.lines g even some
 
-    high : (turned s.lines g).rows ≡ count_along s.lines g
+    high : (oriented s.lines g).rows ≡ count_along s.lines g
     high = turned_rows s.lines g
 
-    wide : (turned s.lines g).columns ≡ count_along (across s.lines) g
+    wide : (oriented s.lines g).columns ≡ count_along (across s.lines) g
     wide = turned_columns s.lines g some
 
-    either : (b : Bool) → nat_lt s.index (count_along (across s.lines) g) ≡ b → glue_rows s (count_along s.lines g) (count_along (across s.lines) g) (turned s.lines h) ≡ turned s.lines g
+    either : (b : Bool) → nat_lt s.index (count_along (across s.lines) g) ≡ b → glue_rows s (count_along s.lines g) (count_along (across s.lines) g) (oriented s.lines h) ≡ oriented s.lines g
     either true e =
-        let narrow : s.index < (turned s.lines g).columns = omega (arith, ltb-true s.index (count_along (across s.lines) g) e, wide) in
-        let cut : Grid (List ℕ) = cut_rows s (turned s.lines g) in
-        let made : h ≡ turned s.lines (cut_rows s (turned s.lines g)) = is ∙ ap (λ (b : Bool). cond b (turned s.lines (cut_rows s (turned s.lines g))) g) (has_if s g true e some index) in
-        let tall : 0 < (cut_rows s (turned s.lines g)).rows = omega (arith, cut_count s (turned s.lines g), count s (turned s.lines g) lines_even retained (omega (arith, high, some)) index narrow, more_some (turned s.lines g).rows (div_ceil (turned s.lines g).columns s.index) (omega (arith, high, some)) (some_pieces (div_ceil (turned s.lines g).columns s.index) s.index (turned s.lines g).columns (omega (arith, wide, any)) (enough_pieces (div_ceil (turned s.lines g).columns s.index) s.index (turned s.lines g).columns index refl))) in
-        ap₂ (λ (r c : ℕ). glue_rows s r c (turned s.lines h)) (sym high) (sym wide)
-        ∙ cut_glued s (turned s.lines g) lines_even retained (omega (arith, high, some)) index narrow (turned s.lines h) (ap (turned s.lines) made ∙ turned_back_twice s.lines cut (cut_even s (turned s.lines g)) tall index)
+        let narrow : s.index < (oriented s.lines g).columns = omega (arith, ltb-true s.index (count_along (across s.lines) g) e, wide) in
+        let cut : Grid (List ℕ) = cut_rows s (oriented s.lines g) in
+        let made : h ≡ oriented s.lines (cut_rows s (oriented s.lines g)) = is ∙ ap (λ (b : Bool). cond b (oriented s.lines (cut_rows s (oriented s.lines g))) g) (has_if s g true e some index) in
+        let tall : 0 < (cut_rows s (oriented s.lines g)).rows = omega (arith, cut_count s (oriented s.lines g), count s (oriented s.lines g) lines_even retained (omega (arith, high, some)) index narrow, more_some (oriented s.lines g).rows (div_ceil (oriented s.lines g).columns s.index) (omega (arith, high, some)) (some_pieces (div_ceil (oriented s.lines g).columns s.index) s.index (oriented s.lines g).columns (omega (arith, wide, any)) (enough_pieces (div_ceil (oriented s.lines g).columns s.index) s.index (oriented s.lines g).columns index refl))) in
+        ap₂ (λ (r c : ℕ). glue_rows s r c (oriented s.lines h)) (sym high) (sym wide)
+        ∙ cut_glued s (oriented s.lines g) lines_even retained (omega (arith, high, some)) index narrow (oriented s.lines h) (ap (oriented s.lines) made ∙ turned_back_twice s.lines cut (cut_even s (oriented s.lines g)) tall index)
       where
         more_some : (a b : ℕ) → 0 < a → 0 < b → 0 < a * b
         more_some a b k l = omega (arith, row_fits 0 a b a l (omega arith), k)
     either false e =
-        let short : (turned s.lines g).columns ≤ s.index = omega (arith, ltb-false s.index (count_along (across s.lines) g) e, wide) in
-        let same : h ≡ g = is ∙ ap (λ (b : Bool). cond b (turned s.lines (cut_rows s (turned s.lines g))) g) (has_if s g false e some index) in
-        ap₂ (λ (r c : ℕ). glue_rows s r c (turned s.lines h)) (sym high) (sym wide)
-        ∙ ap (λ (k : Grid (List ℕ)). glue_rows s (turned s.lines g).rows (turned s.lines g).columns (turned s.lines k)) same
-        ∙ uncut_glued s (turned s.lines g) lines_even (omega (arith, wide, any)) short
+        let short : (oriented s.lines g).columns ≤ s.index = omega (arith, ltb-false s.index (count_along (across s.lines) g) e, wide) in
+        let same : h ≡ g = is ∙ ap (λ (b : Bool). cond b (oriented s.lines (cut_rows s (oriented s.lines g))) g) (has_if s g false e some index) in
+        ap₂ (λ (r c : ℕ). glue_rows s r c (oriented s.lines h)) (sym high) (sym wide)
+        ∙ ap (λ (k : Grid (List ℕ)). glue_rows s (oriented s.lines g).rows (oriented s.lines g).columns (oriented s.lines k)) same
+        ∙ uncut_glued s (oriented s.lines g) lines_even (omega (arith, wide, any)) short

@@ -11,7 +11,7 @@ use Rattle.tabled_grid.specs.Grid.{Grid, IsEven, IsInside, cell_at}
 use Rattle.tabled_grid.specs.declared.records.axis.Axis.{Axis}
 use Rattle.tabled_grid.specs.declared.records.axis.Axis.TheVariants.{Rows, Columns}
 use Rattle.tabled_grid.proofs.FirstLines.{IsEven-first}
-use Rattle.tabled_settings.specs.Lines.{BringsLines, HasLines, KeepsLines, line}
+use Rattle.tabled_settings.specs.Lines.{BringsLines, HasLines, KeepsLines, line_cells}
 use Rattle.tabled_grid.specs.Places.{Places, ReadsThrough}
 use Rattle.tabled_grid.specs.Spans.{SpanMap}
 use Rattle.tabled_carry.specs.Images.{carried}
@@ -26,11 +26,11 @@ module _ {A : Type 0} (axis : Axis) (s : ℕ) where
 
   -- one line more
   module _ (k n : ℕ) (g cur new : Grid A) (b : BringsLines axis s k g cur) (is : new ≡ along axis (λ _ xs. swap xs k (s + k)) cur) (next : n ≡ k + 1) (some : 0 < s) (within : s + k < count_along axis cur) where
-    moved : (line axis new k ≡ line axis cur (s + k)) × (line axis new (s + k) ≡ line axis cur k) × ((m : ℕ) → m ≢ k → m ≢ s + k → line axis new m ≡ line axis cur m)
+    moved : (line_cells axis new k ≡ line_cells axis cur (s + k)) × (line_cells axis new (s + k) ≡ line_cells axis cur k) × ((m : ℕ) → m ≢ k → m ≢ s + k → line_cells axis new m ≡ line_cells axis cur m)
     moved = lines_swapped axis cur new k (s + k) b.shape.even (omega (arith, within)) within is
 
-    front_at : (i : ℕ) → i < n → (i ≡ k) ⊎ (i ≢ k) → line axis new i ≡ line axis g (s + i)
-    front_at i h (inl at) = ap (line axis new) at ∙ moved.0 ∙ b.behind (s + k) (omega arith) ∙ ap (λ (m : ℕ). line axis g (s + m)) (sym at)
+    front_at : (i : ℕ) → i < n → (i ≡ k) ⊎ (i ≢ k) → line_cells axis new i ≡ line_cells axis g (s + i)
+    front_at i h (inl at) = ap (line_cells axis new) at ∙ moved.0 ∙ b.behind (s + k) (omega arith) ∙ ap (λ (m : ℕ). line_cells axis g (s + m)) (sym at)
     front_at i h (inr off) = moved.2 i off (λ at. absurd (omega (arith, at, h, next, some))) ∙ b.front i (omega (arith, h, off, next))
 
     pub brings_more : BringsLines axis s n g new
@@ -61,13 +61,13 @@ kept_all {A} axis s e k n g cur new b all is cut =
       kept = λ i h. let below : i < n = omega (arith, h, is) in line_first axis cur new n i b.shape.even below cut ∙ at i below all;
     }
   where
-    at : (i : ℕ) → i < n → (s ≡ 0) ⊎ (k ≡ n) → line axis cur i ≡ line axis g (s + i)
+    at : (i : ℕ) → i < n → (s ≡ 0) ⊎ (k ≡ n) → line_cells axis cur i ≡ line_cells axis g (s + i)
     at i h (inr e) = b.front i (omega (arith, h, e))
     at i h (inl e) = first i (cases_lt i k)
       where
-        first : (i : ℕ) → (i < k) ⊎ (k ≤ i) → line axis cur i ≡ line axis g (s + i)
+        first : (i : ℕ) → (i < k) ⊎ (k ≤ i) → line_cells axis cur i ≡ line_cells axis g (s + i)
         first i (inl less) = b.front i less
-        first i (inr more) = b.behind i (omega (arith, more, e)) ∙ ap (line axis g) (omega (arith, e))
+        first i (inr more) = b.behind i (omega (arith, more, e)) ∙ ap (line_cells axis g) (omega (arith, e))
 
 pub lines_are : {A : Type 0} (axis : Axis) (n : ℕ) (g new : Grid A) → HasLines axis n g new → count_along axis new ≡ n
 lines_are Rows n g new s = s.rows

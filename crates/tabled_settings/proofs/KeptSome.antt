@@ -7,7 +7,7 @@ use Rattle.tabled_grid.specs.Along.{along, count_along, first_along}
 use Rattle.tabled_grid.specs.Grid.{Grid, IsEven}
 use Rattle.tabled_grid.specs.declared.records.axis.Axis.{Axis}
 use Rattle.tabled_grid.proofs.PiecesPut.{same_shape, shape_after}
-use Rattle.tabled_settings.specs.Lines.{BringsSome, KeepsSome, line}
+use Rattle.tabled_settings.specs.Lines.{BringsSome, KeepsSome, line_cells}
 use Rattle.tabled_settings.proofs.Kept.{has_lines}
 use Rattle.tabled_settings.proofs.LineReads.{line_first, lines_swapped, shape_swapped}
 use Rattle.tabled_settings.proofs.RisingLists.{index_within, rises}
@@ -21,14 +21,14 @@ module _ {A : Type 0} (axis : Axis) (kept : List ℕ) where
     low : k ≤ i
     low = omega (arith, at, index_within kept up k here)
 
-    moved : (line axis new k ≡ line axis cur i) × (line axis new i ≡ line axis cur k) × ((a : ℕ) → a ≢ k → a ≢ i → line axis new a ≡ line axis cur a)
+    moved : (line_cells axis new k ≡ line_cells axis cur i) × (line_cells axis new i ≡ line_cells axis cur k) × ((a : ℕ) → a ≢ k → a ≢ i → line_cells axis new a ≡ line_cells axis cur a)
     moved = lines_swapped axis cur new k i b.shape.even (omega (arith, within, low)) within is
 
-    front_at : (a : ℕ) → a < n → (a ≡ k) ⊎ (a ≢ k) → line axis new a ≡ line axis g (get_or kept a 0)
+    front_at : (a : ℕ) → a < n → (a ≡ k) ⊎ (a ≢ k) → line_cells axis new a ≡ line_cells axis g (get_or kept a 0)
     front_at a h (inl same) =
-        ap (line axis new) same ∙ moved.0
+        ap (line_cells axis new) same ∙ moved.0
         ∙ b.behind i low (λ c l. omega (arith, at, rises kept up c k l here))
-        ∙ ap (line axis g) (at ∙ ap (λ (m : ℕ). get_or kept m 0) (sym same))
+        ∙ ap (line_cells axis g) (at ∙ ap (λ (m : ℕ). get_or kept m 0) (sym same))
     front_at a h (inr off) = moved.2 a off (λ same. absurd (omega (arith, same, h, next, off, low))) ∙ b.front a (omega (arith, h, off, next))
 
     pub some_more : BringsSome axis kept n g new

@@ -14,7 +14,7 @@ use Rattle.tabled_grid.proofs.Lists.{map-swap}
 use Rattle.tabled_grid.proofs.Resized.{IsEven-with_rows_swapped, IsEven-with_columns_swapped}
 use Rattle.tabled_grid.proofs.Transposed.{slice_get-some, slice_get-take}
 use Rattle.tabled_grid.specs.Places.{IsShapedAs, ReadsThrough}
-use Rattle.tabled_settings.specs.Lines.{line}
+use Rattle.tabled_settings.specs.Lines.{line_cells}
 use Rattle.tabled_grid.specs.Axis.{in_line, line_of}
 use Rattle.tabled_settings.specs.Places.{lines_from}
 
@@ -38,12 +38,12 @@ module _ {A : Type 0} where
       map (λ (row : List A). slice_get row m) (map (λ (row : List A). swap row j k) rows) ≡ map (λ (row : List A). slice_get row n) rows
   column_swapped c j k m n rows wide same = maps_agree_on (λ (row : List A). length row ≡ c) (λ (row : List A). slice_get row m) (λ (row : List A). swap row j k) (λ (row : List A). slice_get row n) same rows wide
 
-  pub lines_swapped : (axis : Axis) (g new : Grid A) (i k : ℕ) → IsEven g → i < count_along axis g → k < count_along axis g → new ≡ along axis (λ _ xs. swap xs i k) g → Swapped (line axis g) (line axis new) i k
+  pub lines_swapped : (axis : Axis) (g new : Grid A) (i k : ℕ) → IsEven g → i < count_along axis g → k < count_along axis g → new ≡ along axis (λ _ xs. swap xs i k) g → Swapped (line_cells axis g) (line_cells axis new) i k
   lines_swapped Rows g new i k even h l is =
       let moved = swapped_from_swap g.cells new.cells i k [] (omega (arith, even.tall, h)) (omega (arith, even.tall, l)) (ap (λ (h : Grid A). h.cells) is) in
       (ap (map Some) moved.0, ap (map Some) moved.1, λ m a b. ap (map Some) (moved.2 m a b))
   lines_swapped Columns g new j k even h l is =
-      let cells : (m : ℕ) → line Columns new m ≡ line Columns (along Columns (λ _ xs. swap xs j k) g) m = λ m. ap (λ (h : Grid A). line Columns h m) is in
+      let cells : (m : ℕ) → line_cells Columns new m ≡ line_cells Columns (along Columns (λ _ xs. swap xs j k) g) m = λ m. ap (λ (h : Grid A). line_cells Columns h m) is in
       let slots : (row : List A) → length row ≡ g.columns → Swapped (slice_get row) (slice_get (swap row j k)) j k = λ row long. slots_swapped row j k (omega (arith, long, h)) (omega (arith, long, l)) in (
         cells j ∙ column_swapped g.columns j k j k g.cells even.wide (λ row long. (slots row long).0),
         cells k ∙ column_swapped g.columns j k k j g.cells even.wide (λ row long. (slots row long).1),
@@ -55,22 +55,22 @@ module _ {A : Type 0} where
   shape_swapped Columns g new i k even is = record { even = rw is (IsEven-with_columns_swapped g even i k); rows = ap (λ (h : Grid A). h.rows) is; columns = ap (λ (h : Grid A). h.columns) is }
 
   -- the first lines are as they were
-  pub line_first : (axis : Axis) (g new : Grid A) (n i : ℕ) → IsEven g → i < n → new ≡ first_along axis n g → line axis new i ≡ line axis g i
-  line_first Rows g new n i even h is = ap (λ (h : Grid A). line Rows h i) is ∙ ap (map Some) (get_or-take n g.cells i [] h)
+  pub line_first : (axis : Axis) (g new : Grid A) (n i : ℕ) → IsEven g → i < n → new ≡ first_along axis n g → line_cells axis new i ≡ line_cells axis g i
+  line_first Rows g new n i even h is = ap (λ (h : Grid A). line_cells Rows h i) is ∙ ap (map Some) (get_or-take n g.cells i [] h)
   line_first Columns g new n i even h is =
-      ap (λ (h : Grid A). line Columns h i) is
+      ap (λ (h : Grid A). line_cells Columns h i) is
       ∙ maps_agree_on (λ (row : List A). length row ≡ g.columns) (λ (row : List A). slice_get row i) (λ (row : List A). take n row) (λ (row : List A). slice_get row i) (λ row long. slice_get-take n row i h) g.cells even.wide
 
   -- a cell as one of its line
   abbrev cell_in_line : Axis → Grid A → Position → Option A
-  cell_in_line Rows g p = get_or (line Rows g p.row) p.col None
-  cell_in_line Columns g p = get_or (line Columns g p.col) p.row None
+  cell_in_line Rows g p = get_or (line_cells Rows g p.row) p.col None
+  cell_in_line Columns g p = get_or (line_cells Columns g p.col) p.row None
 
   cell_of_line : (axis : Axis) (g : Grid A) (p : Position) → cell_at g p ≡ cell_in_line axis g p
   cell_of_line Rows g p = sym (slice_get-some (get_or g.cells p.row []) p.col)
   cell_of_line Columns g p = sym (get_or-map (λ (row : List A). slice_get row p.col) g.cells p.row [])
 
-  read_line : (axis : Axis) (g h : Grid A) (p : Position) (i : ℕ) → line axis h (line_of axis p) ≡ line axis g i → cell_in_line axis h p ≡ cell_in_line axis g (in_line axis p i)
+  read_line : (axis : Axis) (g h : Grid A) (p : Position) (i : ℕ) → line_cells axis h (line_of axis p) ≡ line_cells axis g i → cell_in_line axis h p ≡ cell_in_line axis g (in_line axis p i)
   read_line Rows g h p i e = let none : Option A = None in ap (λ (cells : List (Option A)). get_or cells p.col none) e
   read_line Columns g h p i e = let none : Option A = None in ap (λ (cells : List (Option A)). get_or cells p.row none) e
 
@@ -79,7 +79,7 @@ module _ {A : Type 0} where
   below Columns h p inside = inside.col
 
   -- a grid whose lines each come from an old one
-  pub lines_read : (axis : Axis) (from : ℕ → ℕ) (rows columns : ℕ) (g h : Grid A) → IsEven h → h.rows ≡ rows → h.columns ≡ columns → ((i : ℕ) → i < count_along axis h → line axis h i ≡ line axis g (from i)) →
+  pub lines_read : (axis : Axis) (from : ℕ → ℕ) (rows columns : ℕ) (g h : Grid A) → IsEven h → h.rows ≡ rows → h.columns ≡ columns → ((i : ℕ) → i < count_along axis h → line_cells axis h i ≡ line_cells axis g (from i)) →
       ReadsThrough (lines_from axis from rows columns) g h
   lines_read axis from rows columns g h even tall wide each = record {
     even = even;

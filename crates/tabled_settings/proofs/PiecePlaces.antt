@@ -13,13 +13,13 @@ use Rattle.tabled_grid.specs.declared.records.axis.Axis.TheVariants.{Rows, Colum
 use Rattle.tabled_settings.specs.declared.split.Display.{Display}
 use Rattle.tabled_settings.specs.declared.split.Display.TheVariants.{Clean, Retain}
 use Rattle.tabled_settings.specs.declared.split.Split.{Split}
-use Rattle.tabled_settings.specs.Lines.{KeepsSome, line}
+use Rattle.tabled_settings.specs.Lines.{KeepsSome, line_cells}
 use Rattle.tabled_grid.proofs.PiecePlaces.{across_is, fills_cut, line_is, place_is}
 use Rattle.tabled_grid.proofs.PiecesCut.{IsCut, enough_pieces}
 use Rattle.tabled_grid.specs.Axis.{across, count_of, in_line, line_of, place_in}
 use Rattle.tabled_grid.specs.Pieces.{cut_places, index_in_line, nth_piece, piece_index}
-use Rattle.tabled_settings.specs.PiecePlaces.{Splits, kept_pieces, same_places, shown, split_places, thinned}
-use Rattle.tabled_settings.specs.Pieces.{has_pieces, turned}
+use Rattle.tabled_settings.specs.PiecePlaces.{Splits, kept_pieces, same_places, shown_lines, split_places, thinned}
+use Rattle.tabled_settings.specs.Pieces.{has_pieces, oriented}
 use Rattle.tabled_grid.specs.Places.{FillsThrough, Places, ReadsThrough}
 use Rattle.tabled_grid.specs.Spans.{SpanMap}
 use Rattle.tabled_carry.specs.Images.{carried}
@@ -35,15 +35,15 @@ use mathlib.Core.Bool.{true≢false}
 with_pieces : (b : Bool) (ps qs : Places) → b ≡ true → cond b ps qs ≡ ps
 with_pieces b ps qs e = rw e refl
 
-all_shown : (d : Display) (axis : Axis) (kept : List ℕ) (places : Places) → d ≡ Retain → shown d axis kept places ≡ places
+all_shown : (d : Display) (axis : Axis) (kept : List ℕ) (places : Places) → d ≡ Retain → shown_lines d axis kept places ≡ places
 all_shown d axis kept places e = rw e refl
 
-some_shown : (d : Display) (axis : Axis) (kept : List ℕ) (places : Places) → d ≡ Clean → shown d axis kept places ≡ thinned axis kept places
+some_shown : (d : Display) (axis : Axis) (kept : List ℕ) (places : Places) → d ≡ Clean → shown_lines d axis kept places ≡ thinned axis kept places
 some_shown d axis kept places e = rw e refl
 
 -- some lines of a grid that is read through places
 module _ {A : Type 0} (is_blank : A → Type 0) (axis : Axis) (kept : List ℕ) (places : Places) (g mid new : Grid A) (fills : FillsThrough is_blank places g mid) (even : IsEven new) (count : count_along axis new ≡ length kept) (wide : count_along (across axis) new ≡ count_along (across axis) mid)
-    (each : (a : ℕ) → a < length kept → (line axis new a ≡ line axis mid (get_or kept a 0)) × (get_or kept a 0 < count_along axis mid)) where
+    (each : (a : ℕ) → a < length kept → (line_cells axis new a ≡ line_cells axis mid (get_or kept a 0)) × (get_or kept a 0 < count_along axis mid)) where
   abbrev from : ℕ → ℕ
   from i = get_or kept i 0
 
@@ -82,7 +82,7 @@ module _ {A : Type 0} (text_of : A → List ℕ) (s : Split) (lines width : ℕ)
   pub retained_places : s.display ≡ Retain → cut_places s.lines s.behavior s.index lines width ≡ split_places s (map_grid text_of g)
   retained_places e = all_places ∙ sym (with_pieces (has_pieces s g.rows g.columns) _ (same_places g.rows g.columns) is_cut ∙ all_shown s.display s.lines _ _ e)
 
-  pub clean_places : (kept : List ℕ) → s.display ≡ Clean → kept ≡ kept_pieces s (turned s.lines (map_grid text_of g)) → thinned s.lines kept (cut_places s.lines s.behavior s.index lines width) ≡ split_places s (map_grid text_of g)
+  pub clean_places : (kept : List ℕ) → s.display ≡ Clean → kept ≡ kept_pieces s (oriented s.lines (map_grid text_of g)) → thinned s.lines kept (cut_places s.lines s.behavior s.index lines width) ≡ split_places s (map_grid text_of g)
   clean_places kept e are =
       ap₂ (λ (ts : List ℕ) (places : Places). thinned s.lines ts places) are all_places
       ∙ sym (with_pieces (has_pieces s g.rows g.columns) _ (same_places g.rows g.columns) is_cut ∙ some_shown s.display s.lines _ _ e)
@@ -107,7 +107,7 @@ module _ {A : Type 0} (text_of : A → List ℕ) (s : Split) (lines width : ℕ)
       unsplit = λ none. absurd (true≢false (sym is_cut ∙ none));
     }
 
-    module _ (new : Grid A) (kept : List ℕ) (e : s.display ≡ Clean) (are : kept ≡ kept_pieces s (turned s.lines (map_grid text_of g))) (k : KeepsSome s.lines kept mid new) where
+    module _ (new : Grid A) (kept : List ℕ) (e : s.display ≡ Clean) (are : kept ≡ kept_pieces s (oriented s.lines (map_grid text_of g))) (k : KeepsSome s.lines kept mid new) where
       counts : (count_along s.lines new ≡ length kept) × (count_along (across s.lines) new ≡ count_along (across s.lines) mid)
       counts = clean_counts text_of s lines width g can is_blank blank_empty mid cut new kept are e k
 
@@ -210,9 +210,9 @@ split_once s g q retained h k = either (has_pieces s g.rows g.columns) refl
     second false true z e = refl
     second false false z e = e
 
-    either : (b : Bool) → has_pieces s g.rows g.columns ≡ b → IsTakenOnce (cond b (shown s.display s.lines (kept_pieces s (turned s.lines g)) all) (same_places g.rows g.columns)) q
+    either : (b : Bool) → has_pieces s g.rows g.columns ≡ b → IsTakenOnce (cond b (shown_lines s.display s.lines (kept_pieces s (oriented s.lines g)) all) (same_places g.rows g.columns)) q
     either true e =
         let some : 0 < s.index = ltb-true 0 s.index (second (nat_lt 0 (count_of s.lines g.rows g.columns)) (nat_lt 0 s.index) (nat_lt s.index (count_of (across s.lines) g.rows g.columns)) e) in
-        subst (λ (places : Places). IsTakenOnce places q) (sym (all_shown s.display s.lines (kept_pieces s (turned s.lines g)) all retained))
+        subst (λ (places : Places). IsTakenOnce places q) (sym (all_shown s.display s.lines (kept_pieces s (oriented s.lines g)) all retained))
         (cut_once s (count_of s.lines g.rows g.columns) (count_of (across s.lines) g.rows g.columns) q some (lines_of s.lines).0 (lines_of s.lines).1)
     either false e = record { to = q; row = h; col = k; takes = refl; alone = λ p at_row at_col is. ap (λ (o : Option Position). unwrap_or o p) is }

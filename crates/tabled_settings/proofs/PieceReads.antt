@@ -23,7 +23,7 @@ use Rattle.tabled_grid.specs.declared.records.piece_order.PieceOrder.TheVariants
 use Rattle.tabled_settings.specs.declared.split.Split.{Split}
 use Rattle.tabled_grid.specs.Axis.{across, place_in}
 use Rattle.tabled_grid.specs.Pieces.{nth_piece}
-use Rattle.tabled_settings.specs.Pieces.{cut_rows, piece, piece_at, staying, turned}
+use Rattle.tabled_settings.specs.Pieces.{cut_rows, piece, piece_at, staying, oriented}
 use Rattle.tabled_settings.proofs.SameCells.{same_cells}
 
 -- the rows of a grid, or its columns as rows
@@ -31,34 +31,34 @@ if_some : (n m : ℕ) → 0 < n → cond (eqb n 0) 0 m ≡ m
 if_some n m h = ap (λ (b : Bool). cond b 0 m) (ne_eqb n 0 (λ e. omega (arith, e, h)))
 
 module _ {A : Type 0} where
-  pub turned_even : (axis : Axis) (g : Grid A) → IsEven g → 0 < count_along axis g → IsEven (turned axis g)
+  pub turned_even : (axis : Axis) (g : Grid A) → IsEven g → 0 < count_along axis g → IsEven (oriented axis g)
   turned_even Rows g even some = even
   turned_even Columns g even some = record {
     tall = length-transposed g.columns g.cells even.wide;
     wide = subst (λ (n : ℕ). AllByRecursion (λ (row : List A). length row ≡ n) (transposed_rows g.columns g.cells)) (even.tall ∙ sym (if_some g.columns g.rows some)) (wide-transposed g.columns g.cells);
   }
 
-  pub turned_rows : (axis : Axis) (g : Grid A) → (turned axis g).rows ≡ count_along axis g
+  pub turned_rows : (axis : Axis) (g : Grid A) → (oriented axis g).rows ≡ count_along axis g
   turned_rows Rows g = refl
   turned_rows Columns g = refl
 
-  pub turned_columns : (axis : Axis) (g : Grid A) → 0 < count_along axis g → (turned axis g).columns ≡ count_along (across axis) g
+  pub turned_columns : (axis : Axis) (g : Grid A) → 0 < count_along axis g → (oriented axis g).columns ≡ count_along (across axis) g
   turned_columns Rows g some = refl
   turned_columns Columns g some = if_some g.columns g.rows some
 
-  pub turned_count : (axis : Axis) (g : Grid A) → 0 < g.columns → count_along axis (turned axis g) ≡ g.rows
+  pub turned_count : (axis : Axis) (g : Grid A) → 0 < g.columns → count_along axis (oriented axis g) ≡ g.rows
   turned_count Rows g some = refl
   turned_count Columns g some = if_some g.columns g.rows some
 
-  pub turned_across : (axis : Axis) (g : Grid A) → count_along (across axis) (turned axis g) ≡ g.columns
+  pub turned_across : (axis : Axis) (g : Grid A) → count_along (across axis) (oriented axis g) ≡ g.columns
   turned_across Rows g = refl
   turned_across Columns g = refl
 
-  pub turned_cell : (axis : Axis) (g : Grid A) (i j : ℕ) → IsEven g → cell_at (turned axis g) (place i j) ≡ cell_at g (place_in axis i j)
+  pub turned_cell : (axis : Axis) (g : Grid A) (i j : ℕ) → IsEven g → cell_at (oriented axis g) (place i j) ≡ cell_at g (place_in axis i j)
   turned_cell Rows g i j even = refl
   turned_cell Columns g i j even = at-transposed g.columns g.cells i j even.wide
 
-  pub turned_back : (axis : Axis) (g : Grid A) (i j : ℕ) → IsEven g → cell_at (turned axis g) (place_in axis i j) ≡ cell_at g (place i j)
+  pub turned_back : (axis : Axis) (g : Grid A) (i j : ℕ) → IsEven g → cell_at (oriented axis g) (place_in axis i j) ≡ cell_at g (place i j)
   turned_back Rows g i j even = refl
   turned_back Columns g i j even = at-transposed g.columns g.cells j i even.wide
 
@@ -145,14 +145,14 @@ module _ (s : Split) (g : Grid (List ℕ)) where
 
 -- a grid whose lines are the pieces that stay is the grid of these pieces
 pub pieces_are : (s : Split) (g new : Grid (List ℕ)) (pieces : ℕ) → IsEven g → IsEven new → 0 < count_along s.lines g → 0 < s.index → pieces ≡ div_ceil (count_along (across s.lines) g) s.index →
-    count_along s.lines new ≡ length (staying s pieces (turned s.lines g).cells) → count_along (across s.lines) new ≡ s.index →
-    ((a b : ℕ) → a < length (staying s pieces (turned s.lines g).cells) → b < s.index → cell_at new (place_in s.lines a b) ≡ Some (get_or (piece_at s pieces (turned s.lines g).cells (get_or (staying s pieces (turned s.lines g).cells) a 0)) b [])) →
-    new ≡ turned s.lines (cut_rows s (turned s.lines g))
+    count_along s.lines new ≡ length (staying s pieces (oriented s.lines g).cells) → count_along (across s.lines) new ≡ s.index →
+    ((a b : ℕ) → a < length (staying s pieces (oriented s.lines g).cells) → b < s.index → cell_at new (place_in s.lines a b) ≡ Some (get_or (piece_at s pieces (oriented s.lines g).cells (get_or (staying s pieces (oriented s.lines g).cells) a 0)) b [])) →
+    new ≡ oriented s.lines (cut_rows s (oriented s.lines g))
 pieces_are s g new pieces even new_even some index pieces_is count wide each =
-    let lines : Grid (List ℕ) = turned s.lines g in
+    let lines : Grid (List ℕ) = oriented s.lines g in
     let same : pieces ≡ div_ceil lines.columns s.index = pieces_is ∙ ap (λ (n : ℕ). div_ceil n s.index) (sym (turned_columns s.lines g some)) in
-    let high : count_along s.lines (turned s.lines (cut_rows s lines)) ≡ length (staying s (div_ceil lines.columns s.index) lines.cells) = turned_count s.lines (cut_rows s lines) index ∙ cut_count s lines in
-    same_by_lines s.lines new (turned s.lines (cut_rows s lines)) new_even (made_even s.lines (cut_rows s lines) (cut_even s lines) index)
+    let high : count_along s.lines (oriented s.lines (cut_rows s lines)) ≡ length (staying s (div_ceil lines.columns s.index) lines.cells) = turned_count s.lines (cut_rows s lines) index ∙ cut_count s lines in
+    same_by_lines s.lines new (oriented s.lines (cut_rows s lines)) new_even (made_even s.lines (cut_rows s lines) (cut_even s lines) index)
     (count ∙ ap (λ (n : ℕ). length (staying s n lines.cells)) same ∙ sym high)
     (wide ∙ sym (turned_across s.lines (cut_rows s lines)))
     (λ a b h k.
@@ -161,6 +161,6 @@ pieces_are s g new pieces even new_even some index pieces_is count wide each =
     (rw same at each) a b a_in b_in
     ∙ sym (turned_back s.lines (cut_rows s lines) a b (cut_even s lines) ∙ cut_text s lines a b a_in b_in))
   where
-    made_even : (axis : Axis) (h : Grid (List ℕ)) → IsEven h → 0 < h.columns → IsEven (turned axis h)
+    made_even : (axis : Axis) (h : Grid (List ℕ)) → IsEven h → 0 < h.columns → IsEven (oriented axis h)
     made_even Rows h h_even any = h_even
     made_even Columns h h_even any = turned_even Columns h h_even any

@@ -20,14 +20,14 @@ use Rattle.tabled_grid.proofs.Grids.{IsEven-map_grid, cell_at-map_grid, cell_at-
 use Rattle.tabled_settings.specs.declared.split.Display.{Display}
 use Rattle.tabled_settings.specs.declared.split.Display.TheVariants.{Clean, Retain}
 use Rattle.tabled_settings.specs.declared.split.Split.{Split}
-use Rattle.tabled_settings.specs.Lines.{HasLines, KeepsSome, line}
+use Rattle.tabled_settings.specs.Lines.{HasLines, KeepsSome, line_cells}
 use Rattle.tabled_grid.proofs.PiecesCut.{ComesFrom, IsCut, enough_pieces, some_pieces}
 use Rattle.tabled_grid.proofs.PiecesPut.{inside_of, piece_line, source}
 use Rattle.tabled_settings.specs.PiecePlaces.{kept_pieces}
 use Rattle.tabled_settings.specs.PieceTexts.{has_text}
 use Rattle.tabled_grid.specs.Axis.{across, count_of, place_in}
 use Rattle.tabled_grid.specs.Pieces.{nth_piece}
-use Rattle.tabled_settings.specs.Pieces.{has_pieces, is_text, piece_at, split, staying, stays, stays_at, turned}
+use Rattle.tabled_settings.specs.Pieces.{has_pieces, is_text, piece_at, split, staying, stays, stays_at, oriented}
 use Rattle.tabled_settings.proofs.PieceReads.{filter_all, filter_below, filter_some, first_number, length-piece, piece_text, pieces_are, some_inside, turned_cell, turned_columns, turned_even, turned_rows}
 use Rattle.tabled_settings.proofs.PieceTexts.{at_line}
 use Rattle.tabled_settings.proofs.RisingLists.{range_rises}
@@ -65,7 +65,7 @@ module _ {A : Type 0} (text_of : A → List ℕ) (s : Split) (lines width : ℕ)
   texts = map_grid text_of g
 
   abbrev rows : List (List (List ℕ))
-  rows = (turned s.lines texts).cells
+  rows = (oriented s.lines texts).cells
 
   texts_even : IsEven texts
   texts_even = IsEven-map_grid text_of g can.even
@@ -93,15 +93,15 @@ module _ {A : Type 0} (text_of : A → List ℕ) (s : Split) (lines width : ℕ)
       ∙ ap (λ (m : ℕ). unwrap_or (cell_at texts (source s.lines s.behavior s.index m pieces t b)) none) long
 
   -- the pieces that stay, by number
-  pub staying_is : kept_pieces s (turned s.lines texts) ≡ filter (stays_at s pieces rows) (range_with_len 0 (lines * pieces))
+  pub staying_is : kept_pieces s (oriented s.lines texts) ≡ filter (stays_at s pieces rows) (range_with_len 0 (lines * pieces))
   staying_is =
       ap (λ (n : ℕ). staying s n rows) (ap (λ (n : ℕ). div_ceil n s.index) (turned_columns s.lines texts (omega (arith, can.some, texts_lines)) ∙ texts_width))
       ∙ ap (λ (n : ℕ). filter (stays_at s pieces rows) (range_with_len 0 (n * pieces))) long
 
-  pub kept_rising : IsStrictlyIncreasing (kept_pieces s (turned s.lines texts))
+  pub kept_rising : IsStrictlyIncreasing (kept_pieces s (oriented s.lines texts))
   kept_rising = subst IsStrictlyIncreasing (sym staying_is) (IsStrictlyIncreasing-filter (stays_at s pieces rows) (range_with_len 0 (lines * pieces)) (range_rises (lines * pieces)))
 
-  pub kept_below : (a : ℕ) → a < length (kept_pieces s (turned s.lines texts)) → get_or (kept_pieces s (turned s.lines texts)) a 0 < lines * pieces
+  pub kept_below : (a : ℕ) → a < length (kept_pieces s (oriented s.lines texts)) → get_or (kept_pieces s (oriented s.lines texts)) a 0 < lines * pieces
   kept_below = subst (λ (ts : List ℕ). (a : ℕ) → a < length ts → get_or ts a 0 < lines * pieces) (sym staying_is) (filter_below (stays_at s pieces rows) (lines * pieces))
 
   -- where the first pieces of all lines stay, and of the others those with a text
@@ -221,7 +221,7 @@ module _ {A : Type 0} (text_of : A → List ℕ) (s : Split) (lines width : ℕ)
         ∙ mid_text (get_or ts a 0) b from.1 k))
         ∙ sym (chosen (has_pieces s texts.rows texts.columns) has)
       where
-        chosen : (b : Bool) → b ≡ true → cond b (turned s.lines (Rattle.tabled_settings.specs.Pieces.cut_rows s (turned s.lines texts))) texts ≡ turned s.lines (Rattle.tabled_settings.specs.Pieces.cut_rows s (turned s.lines texts))
+        chosen : (b : Bool) → b ≡ true → cond b (oriented s.lines (Rattle.tabled_settings.specs.Pieces.cut_rows s (oriented s.lines texts))) texts ≡ oriented s.lines (Rattle.tabled_settings.specs.Pieces.cut_rows s (oriented s.lines texts))
         chosen b e = rw e refl
 
     pub retained_done : s.display ≡ Retain → map_grid text_of mid ≡ split s texts
@@ -233,7 +233,7 @@ module _ {A : Type 0} (text_of : A → List ℕ) (s : Split) (lines width : ℕ)
         let at : get_or (range_with_len 0 (lines * pieces)) a 0 ≡ a = omega (arith, read) in
         (ap (λ (m : ℕ). cell_at mid (place_in s.lines m b)) (sym at), omega (arith, at, below)))
 
-    module _ (new : Grid A) (kept : List ℕ) (are : kept ≡ kept_pieces s (turned s.lines texts)) (clean : s.display ≡ Clean) (k : KeepsSome s.lines kept mid new) where
+    module _ (new : Grid A) (kept : List ℕ) (are : kept ≡ kept_pieces s (oriented s.lines texts)) (clean : s.display ≡ Clean) (k : KeepsSome s.lines kept mid new) where
       all_kept : kept ≡ filter (stays_at s pieces rows) (range_with_len 0 (lines * pieces))
       all_kept = are ∙ staying_is
 
@@ -250,7 +250,7 @@ module _ {A : Type 0} (text_of : A → List ℕ) (s : Split) (lines width : ℕ)
       below : (a : ℕ) → a < length kept → get_or kept a 0 < lines * pieces
       below = subst (λ (ts : List ℕ). (a : ℕ) → a < length ts → get_or ts a 0 < lines * pieces) (sym are) kept_below
 
-      pub clean_lines : (a : ℕ) → a < length kept → (line s.lines new a ≡ line s.lines mid (get_or kept a 0)) × (get_or kept a 0 < count_along s.lines mid)
+      pub clean_lines : (a : ℕ) → a < length kept → (line_cells s.lines new a ≡ line_cells s.lines mid (get_or kept a 0)) × (get_or kept a 0 < count_along s.lines mid)
       clean_lines a h = (k.each a h, omega (arith, below a h, cut.count))
 
       pub clean_done : map_grid text_of new ≡ split s texts

@@ -12,7 +12,7 @@ use Rattle.tabled_options.specs.Does.{OptionKeeps, Same}
 use Rattle.tabled_settings.specs.Joined.{JoinsAt, corner_of, joined_places}
 use Rattle.tabled_settings.specs.PiecePlaces.{Splits, split_places}
 use Rattle.tabled_settings.specs.Pieces.{has_pieces}
-use Rattle.tabled_settings.specs.Rearranged.{Rearranges, carried_if, removed, reversed, reverses}
+use Rattle.tabled_settings.specs.Rearranged.{Rearranges, Removes, carried_if, removed, reversed, reverses}
 use Rattle.tabled_settings.specs.declared.split.Split.{Split}
 use Rattle.tabled_spans.proofs.PanelGeometry.{same_fits}
 
@@ -52,9 +52,9 @@ module _ {A : Type 0} where
     }
 
   -- lines that a location finds, taken away
-  pub removal_keeps : (axis : Axis) (locates : Grid A → List ℕ → Type 0) → OptionKeeps FitsIn (λ g c h d. (found : List ℕ) × locates g found × ReadsThrough (removed axis found g.rows g.columns) g h × (d ≡ carried (removed axis found g.rows g.columns) g.rows g.columns c)) Same
+  pub removal_keeps : (axis : Axis) (locates : Grid A → List ℕ → Type 0) → OptionKeeps FitsIn (Removes axis locates) Same
   removal_keeps axis locates = record {
-    done = λ g c h d fits does. carried_fit (removed axis does.0 g.rows g.columns) g.rows g.columns h.rows h.columns c d fits does.2.rows does.2.columns does.3;
+    done = λ g c h d fits does. carried_fit (removed axis does.found g.rows g.columns) g.rows g.columns h.rows h.columns c d fits does.rearranged.0.rows does.rearranged.0.columns does.rearranged.1;
     refused = same_fits;
   }
 

@@ -6,10 +6,10 @@ use Rattle.std.proofs.lemmas.List.{append_assoc}
 use Rattle.std.proofs.lemmas.Str.{encode_ascii}
 use Rattle.std.specs.List.{AllByRecursion, flat_map, list_all}
 use Rattle.std.specs.Prelude.{◌==◌, ◌&&◌, not}
-use Rattle.tabled_settings.specs.Charsets.{recoded, replaced, stays}
+use Rattle.tabled_settings.specs.Charsets.{byte_stays, recoded, replaced}
 
 -- a byte of a character that isn't ASCII stays
-stays_high : (cleans : Bool) (b : ℕ) → 128 ≤ b → stays cleans b ≡ true
+stays_high : (cleans : Bool) (b : ℕ) → 128 ≤ b → byte_stays cleans b ≡ true
 stays_high true b h = rw (ne_eqb b 10 (λ e. omega (arith, h, e)), le-ltb b 32 (omega (arith, h))) refl
 stays_high false b h = refl
 
@@ -30,39 +30,39 @@ encode_high c h = rw (le-ltb c 128 h) (by (ltb c 2048) (ltb c 65536))
     by false false = (omega arith, (omega arith, (omega arith, (omega arith, tt))))
 
 -- what comes in the place of a character
-replaced-char : (cleans : Bool) (n c : ℕ) → flat_map (replaced cleans n) (encode_utf8 c) ≡ cond (c == 9) (replicate n 32) (cond (stays cleans c) (encode_utf8 c) [])
+replaced-char : (cleans : Bool) (n c : ℕ) → flat_map (replaced cleans n) (encode_utf8 c) ≡ cond (c == 9) (replicate n 32) (cond (byte_stays cleans c) (encode_utf8 c) [])
 replaced-char cleans n c = by (ltb c 128) refl
   where
-    by : (b : Bool) → ltb c 128 ≡ b → flat_map (replaced cleans n) (encode_utf8 c) ≡ cond (c == 9) (replicate n 32) (cond (stays cleans c) (encode_utf8 c) [])
+    by : (b : Bool) → ltb c 128 ≡ b → flat_map (replaced cleans n) (encode_utf8 c) ≡ cond (c == 9) (replicate n 32) (cond (byte_stays cleans c) (encode_utf8 c) [])
     by true e = rw (encode_ascii c (ltb-true c 128 e)) (append-nil (replaced cleans n c))
     by false e =
         let high : 128 ≤ c = ltb-false c 128 e in
         all_high cleans n (encode_utf8 c) (encode_high c high) ∙ rw (ne_eqb c 9 (λ x. omega (arith, high, x)), stays_high cleans c high) refl
 
 -- one more character replaced
-pub replaced-more : (cleans : Bool) (n c : ℕ) (out put rest whole all : List ℕ) → whole ≡ encode_utf8 c ++ rest → put ≡ cond (c == 9) (replicate n 32) (cond (stays cleans c) (encode_utf8 c) []) → out ++ flat_map (replaced cleans n) whole ≡ all → (out ++ put) ++ flat_map (replaced cleans n) rest ≡ all
+pub replaced-more : (cleans : Bool) (n c : ℕ) (out put rest whole all : List ℕ) → whole ≡ encode_utf8 c ++ rest → put ≡ cond (c == 9) (replicate n 32) (cond (byte_stays cleans c) (encode_utf8 c) []) → out ++ flat_map (replaced cleans n) whole ≡ all → (out ++ put) ++ flat_map (replaced cleans n) rest ≡ all
 replaced-more cleans n c out put rest whole all e is same =
     append_assoc out put (flat_map (replaced cleans n) rest)
     ∙ rw is (rw (e, flat_map-append (replaced cleans n) (encode_utf8 c) rest, replaced-char cleans n c) at same)
 
 -- a byte that is no tab and stays
-plain_byte : (cleans : Bool) (n b : ℕ) → (not (b == 9) && stays cleans b) ≡ true → replaced cleans n b ≡ b ∷ []
-plain_byte cleans n b h = by (b == 9) (stays cleans b) refl refl h
+plain_byte : (cleans : Bool) (n b : ℕ) → (not (b == 9) && byte_stays cleans b) ≡ true → replaced cleans n b ≡ b ∷ []
+plain_byte cleans n b h = by (b == 9) (byte_stays cleans b) refl refl h
   where
-    by : (tab stay : Bool) → b == 9 ≡ tab → stays cleans b ≡ stay → (not tab && stay) ≡ true → replaced cleans n b ≡ b ∷ []
+    by : (tab stay : Bool) → b == 9 ≡ tab → byte_stays cleans b ≡ stay → (not tab && stay) ≡ true → replaced cleans n b ≡ b ∷ []
     by false true e f h = rw (e, f) refl
     by false false e f h = absurd (false≢true h)
     by true stay e f h = absurd (false≢true h)
 
 -- a text without tabs, of which all stays, is as it was
-plain-same : (cleans : Bool) (n : ℕ) (text : List ℕ) → list_all (λ b. not (b == 9) && stays cleans b) text ≡ true → flat_map (replaced cleans n) text ≡ text
+plain-same : (cleans : Bool) (n : ℕ) (text : List ℕ) → list_all (λ b. not (b == 9) && byte_stays cleans b) text ≡ true → flat_map (replaced cleans n) text ≡ text
 plain-same cleans n [] h = refl
 plain-same cleans n (b ∷ text) h =
-    let parts = and_parts (not (b == 9) && stays cleans b) (list_all (λ c. not (c == 9) && stays cleans c) text) h in
+    let parts = and_parts (not (b == 9) && byte_stays cleans b) (list_all (λ c. not (c == 9) && byte_stays cleans c) text) h in
     rw (plain_byte cleans n b parts.0, plain-same cleans n text parts.1) refl
 
 -- and so it is in a charset that cleans alike
-pub recoded-same : (s : Bool × Option ℕ) (text : List ℕ) → list_all (λ b. not (b == 9) && stays s.0 b) text ≡ true → text ≡ recoded s text
+pub recoded-same : (s : Bool × Option ℕ) (text : List ℕ) → list_all (λ b. not (b == 9) && byte_stays s.0 b) text ≡ true → text ≡ recoded s text
 recoded-same (cleans, Some n) text h = sym (plain-same cleans n text h)
 recoded-same (true, None) text h = sym (plain-same true 0 text h)
 recoded-same (false, None) text h = refl

@@ -10,7 +10,7 @@ use Rattle.tabled_grid.specs.Grid.{Grid, IsEven}
 use Rattle.tabled_grid.specs.declared.config.offset.Offset.{Offset}
 use Rattle.tabled_grid.specs.declared.records.axis.Axis.{Axis}
 use Rattle.tabled_grid.specs.declared.records.axis.Axis.TheVariants.{Rows, Columns}
-use Rattle.tabled_settings.specs.Lines.{ReversesEnds, ReversesLines, line}
+use Rattle.tabled_settings.specs.Lines.{ReversesEnds, ReversesLines, line_cells}
 use Rattle.tabled_grid.specs.Axis.{count_of}
 use Rattle.tabled_grid.specs.Places.{ReadsThrough}
 use Rattle.tabled_settings.specs.Places.{lines_from}
@@ -31,19 +31,19 @@ module _ {A : Type 0} (axis : Axis) (s e : ℕ) where
   -- one swap more
   module _ (k n low high : ℕ) (g cur new : Grid A) (r : ReversesEnds axis s e k g cur) (is : new ≡ along axis (λ _ xs. swap xs low high) cur)
       (next : n ≡ k + 1) (at_low : low ≡ s + k) (at_high : high + k + 1 ≡ e) (apart : low < high) (within : high < count_along axis cur) where
-    moved : (line axis new low ≡ line axis cur high) × (line axis new high ≡ line axis cur low) × ((m : ℕ) → m ≢ low → m ≢ high → line axis new m ≡ line axis cur m)
+    moved : (line_cells axis new low ≡ line_cells axis cur high) × (line_cells axis new high ≡ line_cells axis cur low) × ((m : ℕ) → m ≢ low → m ≢ high → line_cells axis new m ≡ line_cells axis cur m)
     moved = lines_swapped axis cur new low high r.shape.even (omega (arith, apart, within)) within is
 
-    front_at : (i : ℕ) → s ≤ i → i < s + n → (i ≡ low) ⊎ (i ≢ low) → line axis new i ≡ line axis g (s + e - 1 - i)
+    front_at : (i : ℕ) → s ≤ i → i < s + n → (i ≡ low) ⊎ (i ≢ low) → line_cells axis new i ≡ line_cells axis g (s + e - 1 - i)
     front_at i h l (inl at) =
         let from : high ≡ s + e - 1 - i = omega (arith, at, at_low, at_high) in
-        ap (line axis new) at ∙ moved.0 ∙ r.between high (omega (arith, at_low, apart)) (omega (arith, at_high)) ∙ ap (line axis g) from
+        ap (line_cells axis new) at ∙ moved.0 ∙ r.between high (omega (arith, at_low, apart)) (omega (arith, at_high)) ∙ ap (line_cells axis g) from
     front_at i h l (inr off) = moved.2 i off (λ at. absurd (omega (arith, at, l, off, next, at_low, apart))) ∙ r.front i h (omega (arith, l, off, next, at_low))
 
-    back_at : (i : ℕ) → e ≤ i + n → i < e → (i ≡ high) ⊎ (i ≢ high) → line axis new i ≡ line axis g (s + e - 1 - i)
+    back_at : (i : ℕ) → e ≤ i + n → i < e → (i ≡ high) ⊎ (i ≢ high) → line_cells axis new i ≡ line_cells axis g (s + e - 1 - i)
     back_at i h l (inl at) =
         let from : low ≡ s + e - 1 - i = omega (arith, at, at_low, at_high) in
-        ap (line axis new) at ∙ moved.1 ∙ r.between low (omega (arith, at_low)) (omega (arith, at_high, apart)) ∙ ap (line axis g) from
+        ap (line_cells axis new) at ∙ moved.1 ∙ r.between low (omega (arith, at_low)) (omega (arith, at_high, apart)) ∙ ap (line_cells axis g) from
     back_at i h l (inr off) = moved.2 i (λ at. absurd (omega (arith, at, h, off, next, at_high, apart))) off ∙ r.back i (omega (arith, h, off, next, at_high)) l
 
     pub ends_more : ReversesEnds axis s e n g new
@@ -55,7 +55,7 @@ module _ {A : Type 0} (axis : Axis) (s e : ℕ) where
       outside = λ i h. off i h;
     }
       where
-        off : (i : ℕ) → (i < s) ⊎ (e ≤ i) → line axis new i ≡ line axis g i
+        off : (i : ℕ) → (i < s) ⊎ (e ≤ i) → line_cells axis new i ≡ line_cells axis g i
         off i (inl less) = moved.2 i (λ at. absurd (omega (arith, at, less, at_low))) (λ at. absurd (omega (arith, at, less, at_low, apart))) ∙ r.outside i (inl less)
         off i (inr more) = moved.2 i (λ at. absurd (omega (arith, at, more, at_high, apart))) (λ at. absurd (omega (arith, at, more, at_high))) ∙ r.outside i (inr more)
 
@@ -63,12 +63,12 @@ module _ {A : Type 0} (axis : Axis) (s e : ℕ) where
   pub ends_all : (k : ℕ) (g new : Grid A) → s + k ≤ e → e ≤ s + k + k + 1 → ReversesEnds axis s e k g new → ReversesLines axis s e g new
   ends_all k g new fits all r = record { shape = r.shape; inside = λ i h l. at i h l (cases_lt i (s + k)) (cases_lt (i + k) e); outside = r.outside }
     where
-      at : (i : ℕ) → s ≤ i → i < e → (i < s + k) ⊎ (s + k ≤ i) → (i + k < e) ⊎ (e ≤ i + k) → line axis new i ≡ line axis g (s + e - 1 - i)
+      at : (i : ℕ) → s ≤ i → i < e → (i < s + k) ⊎ (s + k ≤ i) → (i + k < e) ⊎ (e ≤ i + k) → line_cells axis new i ≡ line_cells axis g (s + e - 1 - i)
       at i h l (inl low) high = r.front i h low
       at i h l (inr low) (inr high) = r.back i high l
       at i h l (inr low) (inl high) =
           let same : i ≡ s + e - 1 - i = omega (arith, low, high, all) in
-          r.between i low high ∙ ap (line axis g) same
+          r.between i low high ∙ ap (line_cells axis g) same
 
 -- a row after some swaps from both ends
 pub ends : {A : Type 0} → ℕ → ℕ → ℕ → List A → List A
@@ -119,13 +119,13 @@ module _ {A : Type 0} (axis : Axis) (s e : ℕ) where
   pub reversed_read : (n : ℕ) (g new : Grid A) → n ≡ count_along axis g → e ≤ n → ReversesLines axis s e g new → ReadsThrough (lines_from axis (reversed_index s e n) g.rows g.columns) g new
   reversed_read n g new is fits r = lines_read axis (reversed_index s e n) g.rows g.columns g new r.shape.even r.shape.rows r.shape.columns (λ i h. at i (cases_lt i s) (cases_lt i e))
     where
-      at : (i : ℕ) → (i < s) ⊎ (s ≤ i) → (i < e) ⊎ (e ≤ i) → line axis new i ≡ line axis g (reversed_index s e n i)
-      at i (inl less) end = r.outside i (inl less) ∙ ap (line axis g) (sym (index_outside s e n i (inl less)))
-      at i (inr from) (inr past) = r.outside i (inr past) ∙ ap (line axis g) (sym (index_outside s e n i (inr past)))
-      at i (inr from) (inl below) = r.inside i from below ∙ ap (line axis g) (sym (index_inside s e n i fits from below))
+      at : (i : ℕ) → (i < s) ⊎ (s ≤ i) → (i < e) ⊎ (e ≤ i) → line_cells axis new i ≡ line_cells axis g (reversed_index s e n i)
+      at i (inl less) end = r.outside i (inl less) ∙ ap (line_cells axis g) (sym (index_outside s e n i (inl less)))
+      at i (inr from) (inr past) = r.outside i (inr past) ∙ ap (line_cells axis g) (sym (index_outside s e n i (inr past)))
+      at i (inr from) (inl below) = r.inside i from below ∙ ap (line_cells axis g) (sym (index_inside s e n i fits from below))
 
   pub reversed_none : (n : ℕ) (g : Grid A) → IsEven g → (e ≤ s) ⊎ (n < e) → ReadsThrough (lines_from axis (reversed_index s e n) g.rows g.columns) g g
-  reversed_none n g even none = lines_read axis (reversed_index s e n) g.rows g.columns g g even refl refl (λ i h. ap (line axis g) (sym (at i none (cases_lt i s))))
+  reversed_none n g even none = lines_read axis (reversed_index s e n) g.rows g.columns g g even refl refl (λ i h. ap (line_cells axis g) (sym (at i none (cases_lt i s))))
     where
       at : (i : ℕ) → (e ≤ s) ⊎ (n < e) → (i < s) ⊎ (s ≤ i) → reversed_index s e n i ≡ i
       at i (inr past) where_it_is = not_fitting s e n i past
@@ -135,7 +135,7 @@ module _ {A : Type 0} (axis : Axis) (s e : ℕ) where
 -- a whole grid
 pub whole_read : {A : Type 0} (axis : Axis) (n : ℕ) (g new : Grid A) → n ≡ count_along axis g → ReversesLines axis 0 n g new → ReadsThrough (lines_from axis (λ i. n - 1 - i) g.rows g.columns) g new
 whole_read axis n g new is r = lines_read axis (λ i. n - 1 - i) g.rows g.columns g new r.shape.even r.shape.rows r.shape.columns
-    (λ i h. let same : 0 + n - 1 - i ≡ n - 1 - i = omega arith in r.inside i (omega arith) (omega (arith, h, is, same_count axis g new r.shape)) ∙ ap (line axis g) same)
+    (λ i h. let same : 0 + n - 1 - i ≡ n - 1 - i = omega arith in r.inside i (omega arith) (omega (arith, h, is, same_count axis g new r.shape)) ∙ ap (line_cells axis g) same)
 
 module _ {A : Type 0} (axis : Axis) (s : ℕ) (limit : Offset) (n : ℕ) (g : Grid A) (is : n ≡ count_along axis g) where
   in_table : (new : Grid A) → ReadsThrough (lines_from axis (reversed_index s (limit_end limit s n) n) g.rows g.columns) g new → ReadsThrough (reversed axis s limit g.rows g.columns) g new

@@ -12,7 +12,7 @@ use Rattle.tabled_settings.specs.Lines.{ReversesLines}
 use Rattle.tabled_settings.specs.declared.rotate.Rotate.{Rotate}
 use Rattle.tabled_settings.specs.declared.rotate.Rotate.TheVariants.{Top, Bottom}
 use Rattle.tabled_grid.specs.Places.{ReadsThrough}
-use Rattle.tabled_settings.specs.Rearranged.{columns_if, rotated, turn_of, upside_down}
+use Rattle.tabled_settings.specs.Rearranged.{columns_if, rotated, quarter_of, upside_down}
 use Rattle.tabled_settings.proofs.Reversed.{whole_read}
 
 -- there are as many columns as there were rows, where there is a row
@@ -29,7 +29,7 @@ module _ {A : Type 0} where
   across : (g over : Grid A) (a b : ℕ) → IsEven g → over ≡ transposed g → cell_at over (place a b) ≡ cell_at g (place b a)
   across g over a b even is = ap (λ (h : Grid A). cell_at h (place a b)) is ∙ at-transposed g.columns g.cells a b even.wide
 
-  pub quarter_done : (axis : Axis) (n : ℕ) (g over new : Grid A) → IsEven g → over ≡ transposed g → n ≡ count_along axis over → ReversesLines axis 0 n over new → ReadsThrough (rotated (turn_of axis) g.rows g.columns) g new
+  pub quarter_done : (axis : Axis) (n : ℕ) (g over new : Grid A) → IsEven g → over ≡ transposed g → n ≡ count_along axis over → ReversesLines axis 0 n over new → ReadsThrough (rotated (quarter_of axis) g.rows g.columns) g new
   quarter_done Rows n g over new even is count r =
       let all = whole_read Rows n over new count r in
       let high : over.rows ≡ g.columns = ap (λ (h : Grid A). h.rows) is in

@@ -12,7 +12,7 @@ use Rattle.tabled_grid.specs.Pieces.{nth_piece, piece_index}
 use Rattle.tabled_grid.proofs.PiecesCut.{enough_pieces}
 use Rattle.tabled_settings.specs.declared.split.Split.{Split}
 use Rattle.tabled_settings.specs.PiecePlaces.{texts_in}
-use Rattle.tabled_settings.specs.Pieces.{has_pieces, is_text, piece, piece_at, split, turned}
+use Rattle.tabled_settings.specs.Pieces.{has_pieces, is_text, piece, piece_at, split, oriented}
 use Rattle.tabled_settings.proofs.Glued.{piece_of}
 use Rattle.tabled_settings.proofs.Sums.{count_by-filter, sum_by-joined, sum_by-places, sum_by-range, sum_to, sum_to-alike, sum_to-blocks, sum_to-swap}
 use Rattle.tabled_settings.proofs.PieceReads.{turned_even}
@@ -65,7 +65,7 @@ each_as_often s g p even = either (has_pieces s g.rows g.columns) refl
     either false e = ap (count_by p) (texts_uncut s g e)
     either true e =
         let need = pieces_need s g e in
-        let lines : Grid (List ℕ) = turned s.lines g in
+        let lines : Grid (List ℕ) = oriented s.lines g in
         let enough : lines.columns ≤ div_ceil lines.columns s.index * s.index = enough_pieces (div_ceil lines.columns s.index) s.index lines.columns need.1 refl in
         ap (count_by p) (texts_of_pieces s g even e)
         ∙ weighs (joined (all_pieces s lines))

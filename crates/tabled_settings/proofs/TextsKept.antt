@@ -16,7 +16,7 @@ use Rattle.tabled_settings.specs.declared.split.Split.{Split}
 use Rattle.tabled_settings.specs.PiecePlaces.{texts_in}
 use Rattle.tabled_grid.specs.Axis.{across, count_of}
 use Rattle.tabled_grid.specs.Pieces.{nth_piece}
-use Rattle.tabled_settings.specs.Pieces.{cut_rows, has_pieces, is_text, piece_at, split, stays, turned}
+use Rattle.tabled_settings.specs.Pieces.{cut_rows, has_pieces, is_text, piece_at, split, stays, oriented}
 use Rattle.tabled_settings.proofs.Glued.{turned_back_twice}
 use Rattle.tabled_settings.proofs.PieceReads.{cut_count, cut_even, filter_some, first_number, turned_columns, turned_even, turned_rows}
 use Rattle.tabled_grid.proofs.PiecesCut.{enough_pieces, some_pieces}
@@ -89,20 +89,20 @@ pieces_need s g e =
     parts false y z e = absurd (true≢false (sym e))
 
 -- the texts of the result, along the lines, are those of all pieces
-pub texts_of_pieces : (s : Split) (g : Grid (List ℕ)) → IsEven g → has_pieces s g.rows g.columns ≡ true → texts_in s.lines (split s g) ≡ filter is_text (joined (all_pieces s (turned s.lines g)))
+pub texts_of_pieces : (s : Split) (g : Grid (List ℕ)) → IsEven g → has_pieces s g.rows g.columns ≡ true → texts_in s.lines (split s g) ≡ filter is_text (joined (all_pieces s (oriented s.lines g)))
 texts_of_pieces s g even e =
     let need : (0 < count_along s.lines g) × (0 < s.index) × (s.index < count_along (across s.lines) g) = pieces_need s g e in
-    let lines_even : IsEven (turned s.lines g) = turned_even s.lines g even need.0 in
-    let tall : 0 < length (turned s.lines g).cells = omega (arith, lines_even.tall, turned_rows s.lines g, need.0) in
-    let wide : (turned s.lines g).columns ≡ count_along (across s.lines) g = turned_columns s.lines g need.0 in
-    let any : 0 < div_ceil (turned s.lines g).columns s.index = some_pieces (div_ceil (turned s.lines g).columns s.index) s.index (turned s.lines g).columns (omega (arith, need.2, wide)) (enough_pieces (div_ceil (turned s.lines g).columns s.index) s.index (turned s.lines g).columns need.1 refl) in
-    ap (λ (b : Bool). texts_in s.lines (cond b (turned s.lines (cut_rows s (turned s.lines g))) g)) e
-    ∙ ap (λ (h : Grid (List ℕ)). filter is_text (joined h.cells)) (turned_back_twice s.lines (cut_rows s (turned s.lines g)) (cut_even s (turned s.lines g)) (some_stay s (turned s.lines g) tall any) need.1)
-    ∙ all_texts s (turned s.lines g)
+    let lines_even : IsEven (oriented s.lines g) = turned_even s.lines g even need.0 in
+    let tall : 0 < length (oriented s.lines g).cells = omega (arith, lines_even.tall, turned_rows s.lines g, need.0) in
+    let wide : (oriented s.lines g).columns ≡ count_along (across s.lines) g = turned_columns s.lines g need.0 in
+    let any : 0 < div_ceil (oriented s.lines g).columns s.index = some_pieces (div_ceil (oriented s.lines g).columns s.index) s.index (oriented s.lines g).columns (omega (arith, need.2, wide)) (enough_pieces (div_ceil (oriented s.lines g).columns s.index) s.index (oriented s.lines g).columns need.1 refl) in
+    ap (λ (b : Bool). texts_in s.lines (cond b (oriented s.lines (cut_rows s (oriented s.lines g))) g)) e
+    ∙ ap (λ (h : Grid (List ℕ)). filter is_text (joined h.cells)) (turned_back_twice s.lines (cut_rows s (oriented s.lines g)) (cut_even s (oriented s.lines g)) (some_stay s (oriented s.lines g) tall any) need.1)
+    ∙ all_texts s (oriented s.lines g)
 
 -- where there are no pieces, the texts are as they were
 pub texts_uncut : (s : Split) (g : Grid (List ℕ)) → has_pieces s g.rows g.columns ≡ false → texts_in s.lines (split s g) ≡ texts_in s.lines g
-texts_uncut s g e = ap (λ (b : Bool). texts_in s.lines (cond b (turned s.lines (cut_rows s (turned s.lines g))) g)) e
+texts_uncut s g e = ap (λ (b : Bool). texts_in s.lines (cond b (oriented s.lines (cut_rows s (oriented s.lines g))) g)) e
 
 pub no_text_lost : (s : Split) (g : Grid (List ℕ)) → IsEven g → texts_in s.lines (split s g) ≡ texts_in s.lines (split (record s { display = Retain }) g)
 no_text_lost s g even = either (has_pieces s g.rows g.columns) refl

@@ -8,7 +8,7 @@ use Rattle.tabled_grid.specs.declared.records.axis.Axis.{Axis}
 use Rattle.tabled_grid.specs.declared.records.axis.Axis.TheVariants.{Rows, Columns}
 use Rattle.tabled_settings.specs.declared.rotate.Rotate.TheVariants.{Left, Right}
 use Rattle.tabled_grid.specs.Places.{ReadsThrough}
-use Rattle.tabled_settings.specs.Rearranged.{limit_end, reversed, reversed_index, rotated, turned_half, upside_down}
+use Rattle.tabled_settings.specs.Rearranged.{limit_end, reversed, reversed_index, rotated, half_rotated, upside_down}
 use Rattle.tabled_settings.proofs.Reversed.{index_inside, index_outside, not_fitting}
 use Rattle.tabled_settings.proofs.Rotated.{as_wide}
 use Rattle.tabled_settings.proofs.SameCells.{same_cells}
@@ -27,7 +27,7 @@ module _ {A : Type 0} (g h l : Grid A) where
       ∙ first.moved (place (h.rows - 1 - b) a) at
       ∙ ap (λ (j : ℕ). cell_at g (place a j)) back)
 
-  pub left_twice : 0 < g.rows → 0 < g.columns → ReadsThrough (rotated Left g.rows g.columns) g h → ReadsThrough (rotated Left h.rows h.columns) h l → ReadsThrough (turned_half g.rows g.columns) g l
+  pub left_twice : 0 < g.rows → 0 < g.columns → ReadsThrough (rotated Left g.rows g.columns) g h → ReadsThrough (rotated Left h.rows h.columns) h l → ReadsThrough (half_rotated g.rows g.columns) g l
   left_twice some any first second =
       let wide : h.columns ≡ g.rows = first.columns ∙ as_wide g.columns g.rows any in
       let columns : l.columns ≡ g.columns = second.columns ∙ as_wide h.columns h.rows (omega (arith, wide, some)) ∙ first.rows in

@@ -9,16 +9,16 @@ use Rattle.tabled_select.specs.Locators.{text_at}
 use Rattle.tabled_options.specs.Writes.{Write}
 
 -- a byte stays: all do where nothing is cleaned, and else a newline and what is no control character
-abbrev pub stays : Bool → ℕ → Bool
-stays cleans b = not cleans || ((b == 10) || not (nat_lt b 32))
+abbrev pub byte_stays : Bool → ℕ → Bool
+byte_stays cleans b = not cleans || ((b == 10) || not (nat_lt b 32))
 
 -- what comes in the place of a byte, where a tab becomes n spaces
 abbrev pub replaced : Bool → ℕ → ℕ → List ℕ
-replaced cleans n b = if b == 9 then replicate n 32 else (if stays cleans b then b ∷ [] else [])
+replaced cleans n b = if b == 9 then replicate n 32 else (if byte_stays cleans b then b ∷ [] else [])
 
 -- a text with n spaces for each tab, and without other control characters but the newline
-abbrev pub cleaned : ℕ → List ℕ → List ℕ
-cleaned n text = flat_map (replaced true n) text
+abbrev pub clean_text : ℕ → List ℕ → List ℕ
+clean_text n text = flat_map (replaced true n) text
 
 -- a text with n spaces for each tab
 abbrev pub with_tabs : ℕ → List ℕ → List ℕ
@@ -27,7 +27,7 @@ with_tabs n text = flat_map (replaced false n) text
 -- what a charset makes of a text, by whether it cleans and by its tab size
 abbrev pub recoded : Bool × Option ℕ → List ℕ → List ℕ
 recoded (cleans, Some n) text = flat_map (replaced cleans n) text
-recoded (true, None) text = cleaned 0 text
+recoded (true, None) text = clean_text 0 text
 recoded (false, None) text = text
 
 -- the writes of what f makes of the old texts at these places, in order
@@ -43,5 +43,5 @@ abbrev pub charset_writes : Bool × Option ℕ → Entity → Grid (List ℕ) �
 charset_writes s e g = if is_set s then mapped_writes (recoded s) g (inside e g.rows g.columns) else []
 
 -- a byte of no control character, or a newline; bytes below 32 are characters of their own
-abbrev pub IsClean : ℕ → Type 0
-IsClean b = (b ≡ 10) ⊎ (32 ≤ b)
+abbrev pub IsCleanByte : ℕ → Type 0
+IsCleanByte b = (b ≡ 10) ⊎ (32 ≤ b)

@@ -17,9 +17,9 @@ abbrev pub AskedAt : {F : Type 0} → (F → Global → Bor (List ℕ) → Posit
 AskedAt step f p old new next = (alloc : Global) × (shown : Bor (List ℕ)) × (text : String Global) × (shown.now ≡ old) × step f alloc shown p (Ok text) next × (new ≡ string_bytes text)
 
 -- texts with a newline between each two
-abbrev pub joined : List (List ℕ) → List ℕ
-joined [] = []
-joined (text ∷ texts) = text ++ flat_map (λ more. 10 ∷ more) texts
+abbrev pub joined_lines : List (List ℕ) → List ℕ
+joined_lines [] = []
+joined_lines (text ∷ texts) = text ++ flat_map (λ more. 10 ∷ more) texts
 
 -- a closure that was asked for one text after another gave these answers, and became another closure
 abbrev pub AskedInTurn : {F : Type 0} → (F → List ℕ → List ℕ → F → Type 0) → F → List (List ℕ) → List (List ℕ) → F → Type 0
@@ -28,7 +28,7 @@ AskedInTurn {F} asked f (text ∷ texts) answers last = (answer : List ℕ) × (
 
 -- a closure that was asked for one line of a text after another gave these answers, joined
 abbrev pub AskedByLine : {F : Type 0} → (F → List ℕ → List ℕ → F → Type 0) → F → List ℕ → List ℕ → Type 0
-AskedByLine {F} asked f old new = (answers : List (List ℕ)) × (last : F) × AskedInTurn asked f (lines old) answers last × (new ≡ joined answers)
+AskedByLine {F} asked f old new = (answers : List (List ℕ)) × (last : F) × AskedInTurn asked f (lines old) answers last × (new ≡ joined_lines answers)
 
 -- what a closure answers to a text; or line by line to its lines, where a copy is asked and the closure stays as it was
 abbrev pub AnswersAs : {F : Type 0} → (F → List ℕ → List ℕ → F → Type 0) → Bool → F → List ℕ → List ℕ → F → Type 0

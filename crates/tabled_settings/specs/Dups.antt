@@ -19,10 +19,21 @@ round_from i texts (p ∷ places) = record { place = p; text = get_or texts (i %
 abbrev pub round_writes : List (List ℕ) → ℕ → ℕ → List Entity → List Write
 round_writes texts rows columns entities = flat_map (λ e. round_from 0 texts (inside e rows columns)) entities
 
+-- texts for what an entity names in a grid, and for what each of some entities does
+abbrev pub texts_to : Entity → List (List ℕ) → Grid (List ℕ) → List Write
+texts_to e texts g = round_from 0 texts (inside e g.rows g.columns)
+
+abbrev pub texts_to_each : List Entity → List (List ℕ) → Grid (List ℕ) → List Write
+texts_to_each entities texts g = round_writes texts g.rows g.columns entities
+
 -- the same where there are texts, and else no writes
 abbrev pub rounds : List (List ℕ) → ℕ → ℕ → List Entity → List Write
 rounds [] rows columns entities = []
 rounds (text ∷ texts) rows columns entities = round_writes (text ∷ texts) rows columns entities
+
+-- the texts in a grid of what an entity names
+abbrev pub texts_at : Entity → Grid (List ℕ) → List (List ℕ)
+texts_at e g = map (text_at g) (inside e g.rows g.columns)
 
 -- the texts in a grid of what entities name
 abbrev pub source_texts : Grid (List ℕ) → List Entity → List (List ℕ)

@@ -13,7 +13,7 @@ use Rattle.tabled_grid.specs.declared.records.piece_order.PieceOrder.{PieceOrder
 use Rattle.tabled_settings.specs.declared.split.Display.{Display}
 use Rattle.tabled_settings.specs.declared.split.Display.TheVariants.{Clean, Retain}
 use Rattle.tabled_settings.specs.declared.split.Split.{Split}
-use Rattle.tabled_settings.specs.Pieces.{has_pieces, is_text, split, staying, turned}
+use Rattle.tabled_settings.specs.Pieces.{has_pieces, is_text, split, staying, oriented}
 
 -- each place keeps its cell
 abbrev pub same_places : ℕ → ℕ → Places
@@ -28,9 +28,9 @@ thinned axis kept places = record {
 }
 
 -- the lines that are shown: all of them, or those that are kept
-abbrev pub shown : Display → Axis → List ℕ → Places → Places
-shown Retain axis kept places = places
-shown Clean axis kept places = thinned axis kept places
+abbrev pub shown_lines : Display → Axis → List ℕ → Places → Places
+shown_lines Retain axis kept places = places
+shown_lines Clean axis kept places = thinned axis kept places
 
 -- the numbers of the pieces of rows that stay, in order
 abbrev pub kept_pieces : Split → Grid (List ℕ) → List ℕ
@@ -38,7 +38,7 @@ kept_pieces s g = staying s (div_ceil g.columns s.index) g.cells
 
 -- where the cells of the pieces that stay come from, in a grid of these texts
 abbrev pub split_places : Split → Grid (List ℕ) → Places
-split_places s g = if has_pieces s g.rows g.columns then shown s.display s.lines (kept_pieces s (turned s.lines g)) (cut_places s.lines s.behavior s.index (count_of s.lines g.rows g.columns) (count_of (across s.lines) g.rows g.columns)) else same_places g.rows g.columns
+split_places s g = if has_pieces s g.rows g.columns then shown_lines s.display s.lines (kept_pieces s (oriented s.lines g)) (cut_places s.lines s.behavior s.index (count_of s.lines g.rows g.columns) (count_of (across s.lines) g.rows g.columns)) else same_places g.rows g.columns
 
 -- the texts are those of the pieces that stay, each cell is the old one of its place or a blank, and where there are no pieces the grid is as it was
 pub record Splits {A : Type 0} (is_blank : A → Type 0) (text_of : A → List ℕ) (s : Split) (old new : Grid A) : Type 0 where
@@ -56,8 +56,12 @@ glue_rows s lines width h = record { rows = lines; columns = width; cells = map 
 
 -- a table of r rows and c columns, from the rows, or the columns, that are the pieces of its own
 abbrev pub glued : {A : Type 0} → Split → ℕ → ℕ → Grid A → Grid A
-glued s rows columns h = turned s.lines (glue_rows s (count_of s.lines rows columns) (count_of (across s.lines) rows columns) (turned s.lines h))
+glued s rows columns h = oriented s.lines (glue_rows s (count_of s.lines rows columns) (count_of (across s.lines) rows columns) (oriented s.lines h))
 
 -- the texts that aren't empty, row by row or column by column
 abbrev pub texts_in : Axis → Grid (List ℕ) → List (List ℕ)
-texts_in axis g = filter is_text (joined (turned axis g).cells)
+texts_in axis g = filter is_text (joined (oriented axis g).cells)
+
+-- a table that is split, with all pieces kept
+abbrev pub all_pieces : Split → Grid (List ℕ) → Grid (List ℕ)
+all_pieces s g = split (record s { display = Retain }) g

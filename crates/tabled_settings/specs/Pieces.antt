@@ -46,9 +46,9 @@ cut_rows s g = of_rows (map (piece_at s (div_ceil g.columns s.index) g.cells) (s
     of_rows rows = record { rows = length rows; columns = s.index; cells = rows }
 
 -- a grid whose rows are the rows, or the columns, of another one
-abbrev pub turned : {A : Type 0} → Axis → Grid A → Grid A
-turned Rows g = g
-turned Columns g = transposed g
+abbrev pub oriented : {A : Type 0} → Axis → Grid A → Grid A
+oriented Rows g = g
+oriented Columns g = transposed g
 
 -- a table of r rows and c columns has lines that are longer than a piece
 abbrev pub has_pieces : Split → ℕ → ℕ → Bool
@@ -56,4 +56,4 @@ has_pieces s rows columns = nat_lt 0 (count_of s.lines rows columns) && (nat_lt 
 
 -- the grid of the pieces, or as it was where there are none
 abbrev pub split : Split → Grid (List ℕ) → Grid (List ℕ)
-split s g = if has_pieces s g.rows g.columns then turned s.lines (cut_rows s (turned s.lines g)) else g
+split s g = if has_pieces s g.rows g.columns then oriented s.lines (cut_rows s (oriented s.lines g)) else g

@@ -11,7 +11,9 @@ use Rattle.tabled_grid.specs.declared.records.axis.Axis.{Axis}
 use Rattle.tabled_grid.specs.declared.records.axis.Axis.TheVariants.{Rows, Columns}
 use Rattle.tabled_settings.specs.declared.rotate.Rotate.{Rotate}
 use Rattle.tabled_settings.specs.declared.rotate.Rotate.TheVariants.{Left, Right, Top, Bottom}
+use Rattle.tabled_settings.specs.declared.reverse.Reverse.{Reverse}
 use Rattle.tabled_grid.specs.Axis.{count_of}
+use Rattle.tabled_grid.specs.Grid.{Grid}
 use Rattle.tabled_grid.specs.Places.{Places, ReadsThrough}
 use Rattle.tabled_grid.specs.Spans.{SpanMap}
 use Rattle.tabled_carry.specs.Images.{carried}
@@ -43,9 +45,9 @@ rotated Top rows columns = upside_down rows columns
 rotated Bottom rows columns = upside_down rows columns
 
 -- the turn that exchanges rows and columns and then reverses the rows, or the columns
-abbrev pub turn_of : Axis → Rotate
-turn_of Rows = Left
-turn_of Columns = Right
+abbrev pub quarter_of : Axis → Rotate
+quarter_of Rows = Left
+quarter_of Columns = Right
 
 -- the index past the last one that is reversed, of n
 abbrev pub limit_end : Offset → ℕ → ℕ → ℕ
@@ -88,6 +90,32 @@ kept_lines axis kept rows columns = lines_from axis (λ (i : ℕ). slice_index_o
 abbrev pub removed : Axis → List ℕ → ℕ → ℕ → Places
 removed axis found rows columns = kept_lines axis (left_over (is_located found) (count_of axis rows columns)) rows columns
 
+-- the lines that are located are taken away, and the merged cells are carried along
+pub record Removes {A : Type 0} (axis : Axis) (locates : Grid A → List ℕ → Type 0) (g : Grid A) (c : SpanMap) (h : Grid A) (d : SpanMap) : Type 0 where
+  pub found : List ℕ
+  pub located : locates g found
+  pub rearranged : Rearranges (removed axis found g.rows g.columns) g c h d
+
+-- a table is another one, rotated
+abbrev pub IsRotated : {A : Type 0} → Rotate → Grid A → Grid A → Type 0
+IsRotated rotate g h = ReadsThrough (rotated rotate g.rows g.columns) g h
+
+-- a table is another one, reversed
+abbrev pub IsReversed : {A : Type 0} → Reverse → Grid A → Grid A → Type 0
+IsReversed reverse g h = ReadsThrough (reversed reverse.axis reverse.start reverse.limit g.rows g.columns) g h
+
+-- the merged cells of a table that is rotated
+abbrev pub spans_rotated : Rotate → ℕ → ℕ → SpanMap → SpanMap
+spans_rotated rotate rows columns m = carried (rotated rotate rows columns) rows columns m
+
+-- the merged cells of a table of which all rows, or all columns, are reversed
+abbrev pub spans_reversed : Axis → ℕ → ℕ → SpanMap → SpanMap
+spans_reversed axis rows columns m = carried (reversed axis 0 (End 0) rows columns) rows columns m
+
 -- a table with its rows and its columns in the opposite order
-abbrev pub turned_half : ℕ → ℕ → Places
-turned_half rows columns = record { rows = rows; columns = columns; old_place = λ (p : Position). Some (place (rows - 1 - p.row) (columns - 1 - p.col)) }
+abbrev pub half_rotated : ℕ → ℕ → Places
+half_rotated rows columns = record { rows = rows; columns = columns; old_place = λ (p : Position). Some (place (rows - 1 - p.row) (columns - 1 - p.col)) }
+
+-- a table is another one, with its rows and its columns in the opposite order
+abbrev pub IsHalfRotated : {A : Type 0} → Grid A → Grid A → Type 0
+IsHalfRotated g h = ReadsThrough (half_rotated g.rows g.columns) g h

@@ -31,10 +31,18 @@ pub record RewritesUntil {S : Type 0} (asks : Asking S) (first : S) (places : Li
   pub within : count < length places
   pub before : RewritesAt asks first (take count places) g h
 
--- the answers to the cells inside that an entity names, row by row, and the configuration as it was
+-- the answers to the cells inside that an entity names, row by row
+abbrev pub Rewritten : {A S : Type 0} → (A → List ℕ) → Asking S → S → Entity → Grid A → Grid A → Type 0
+Rewritten text_of asks first e g h = RewritesAt asks first (inside e g.rows g.columns) (map_grid text_of g) (map_grid text_of h)
+
+-- the same for the cells before one of them
+abbrev pub FirstRewritten : {A S : Type 0} → (A → List ℕ) → Asking S → S → Entity → Grid A → Grid A → Type 0
+FirstRewritten text_of asks first e g h = RewritesUntil asks first (inside e g.rows g.columns) (map_grid text_of g) (map_grid text_of h)
+
+-- the answers to them, and the configuration as it was
 abbrev pub Rewrites : {A C S : Type 0} → (A → List ℕ) → Asking S → S → Entity → Change A C
-Rewrites text_of asks first e g c h d = RewritesAt asks first (inside e g.rows g.columns) (map_grid text_of g) (map_grid text_of h) × (d ≡ c)
+Rewrites text_of asks first e g c h d = Rewritten text_of asks first e g h × (d ≡ c)
 
 -- the same for the cells before one of them
 abbrev pub RewritesBefore : {A C S : Type 0} → (A → List ℕ) → Asking S → S → Entity → Change A C
-RewritesBefore text_of asks first e g c h d = RewritesUntil asks first (inside e g.rows g.columns) (map_grid text_of g) (map_grid text_of h) × (d ≡ c)
+RewritesBefore text_of asks first e g c h d = FirstRewritten text_of asks first e g h × (d ≡ c)

@@ -1,10 +1,10 @@
 //! Rows or columns that are located, taken away.
 
-ghost use Rattle.std.specs.Prelude.{◌≡◌, ℕ, List, OnErr, OnOk};
+ghost use Rattle.std.specs.Prelude.{◌≡◌, OnErr, OnOk};
+ghost use Rattle.tabled_grid.specs.declared.records.axis.Axis.{Axis};
+ghost use Rattle.tabled_grid.specs.declared.records.axis.Axis.TheVariants.{Columns, Rows};
 ghost use Rattle.tabled_options.specs.Does.{Same};
-ghost use Rattle.tabled_grid.specs.Places.{ReadsThrough};
-ghost use Rattle.tabled_carry.specs.Images.{carried};
-ghost use Rattle.tabled_settings.specs.Rearranged.{removed};
+ghost use Rattle.tabled_settings.specs.Rearranged.{Removes};
 ghost use Rattle.std.proofs.Common.{rules};
 
 use crate::kept_lines::Kept;
@@ -84,7 +84,7 @@ where
     R: Records + ExactRecords + Resizable,
     R::Cell: Blank,
 {
-    ghost does = { λ s g c h d. (found : List ℕ) × L.locates s g found × ReadsThrough (removed T.lines found g.rows g.columns) g h × (d ≡ carried (removed T.lines found g.rows g.columns) g.rows g.columns c) };
+    ghost does = { λ s. Removes T.lines (L.locates s) };
 
     ghost leaves = { λ _. Same };
 
@@ -126,7 +126,7 @@ where
     requires well { R.is_well_formed records.old }
     requires can { L.can_locate locator.old }
     ensures well { R.is_well_formed records.new }
-    ensures ok { OnOk result ((found : List ℕ) × L.locates locator.old (R.grid records.old) found × ReadsThrough (removed axis found ((R.grid records.old).rows) ((R.grid records.old).columns)) (R.grid records.old) (R.grid records.new) × (cfg.new ≡ carried (removed axis found ((R.grid records.old).rows) ((R.grid records.old).columns)) ((R.grid records.old).rows) ((R.grid records.old).columns) cfg.old)) }
+    ensures ok { OnOk result (Removes axis (L.locates locator.old) (R.grid records.old) cfg.old (R.grid records.new) cfg.new) }
     ensures err { OnErr result (R.grid records.new ≡ R.grid records.old) }
     ensures same { OnErr result (cfg.new ≡ cfg.old) }
 {

@@ -2,23 +2,19 @@
 
 ghost use Rattle.std.specs.Prelude.{◌≡◌, ◌<◌, ℕ, Bool, List, count_by};
 ghost use Rattle.std.specs.List.{AllByRecursion};
-ghost use Rattle.tabled_grid.specs.Grid.{Grid, IsEven, map_grid};
-ghost use Rattle.tabled_grid.specs.declared.config.entity.Entity.{Entity};
-ghost use Rattle.tabled_grid.specs.declared.config.offset.Offset.TheVariants.{End};
+ghost use Rattle.tabled_grid.specs.Grid.{Grid, IsEven};
 ghost use Rattle.tabled_grid.specs.declared.records.axis.Axis.{Axis};
-ghost use Rattle.tabled_options.specs.Does.{OptionKeeps};
+ghost use Rattle.tabled_options.specs.Shapes.{FitsAfter, FitsAfterEach};
 ghost use Rattle.tabled_settings.specs.declared.rotate.Rotate.TheVariants.{Bottom, Left, Right, Top};
 ghost use Rattle.tabled_settings.specs.declared.split.Display.TheVariants.{Retain};
-ghost use Rattle.tabled_settings.specs.Charsets.{IsClean, cleaned, with_tabs};
+ghost use Rattle.tabled_settings.specs.Charsets.{IsCleanByte, clean_text, with_tabs};
 ghost use Rattle.tabled_settings.specs.Orders.{charset_cmp, reverse_cmp};
-ghost use Rattle.tabled_settings.specs.PiecePlaces.{glued, split_places, texts_in};
+ghost use Rattle.tabled_settings.specs.PiecePlaces.{all_pieces, glued, split_places, texts_in};
 ghost use Rattle.tabled_settings.specs.Pieces.{split};
-ghost use Rattle.tabled_grid.specs.Places.{ReadsThrough};
 ghost use Rattle.tabled_grid.specs.Fitting.{Fits};
 ghost use Rattle.tabled_grid.specs.Spans.{SpanMap};
-ghost use Rattle.tabled_carry.specs.Images.{carried};
-ghost use Rattle.tabled_settings.specs.Places.{IsTakenOnce};
-ghost use Rattle.tabled_settings.specs.Rearranged.{reversed, rotated, turned_half};
+ghost use Rattle.tabled_settings.specs.Places.{TakesEachOnce};
+ghost use Rattle.tabled_settings.specs.Rearranged.{IsHalfRotated, IsReversed, IsRotated, reversed, rotated, spans_reversed, spans_rotated};
 
 use crate::concat::Concat;
 use crate::disable::{Remove, Target};
@@ -34,7 +30,7 @@ use tabled_grid::config::{Position, SpannedConfig, ToBounds};
 use tabled_grid::records::{
     Blank, CellText, ExactRecords, PeekableRecords, Records, RecordsMut, Resizable,
 };
-use tabled_options::{CellOption, MergedCellsFit, Property, TableOption};
+use tabled_options::{CellOption, TableOption};
 use tabled_select::location::Location;
 use tabled_select::object::Object;
 pub use tabled_spans::laws::{
@@ -46,104 +42,99 @@ pub use tabled_spans::laws::{
 
 /// A table with a row and a column that is turned to the left and then to the right is as it was.
 pub fn left_then_right_is_as_it_was<A>()
-    ensures { (old : Grid A) (turned : Grid A) (new : Grid A) → IsEven old → 0 < old.rows → 0 < old.columns → ReadsThrough (rotated Left old.rows old.columns) old turned → ReadsThrough (rotated Right turned.rows turned.columns) turned new → new ≡ old }
+    ensures same { (old between new : Grid A) → IsEven old → 0 < old.rows → 0 < old.columns → IsRotated Left old between → IsRotated Right between new → new ≡ old }
 {}
 
 /// Merged cells that fit a table with a row and a column, turned to the left and then to the right, are as
 /// they were.
 pub fn merged_cells_turned_left_then_right_are_as_they_were()
-    ensures { (m : SpanMap) (rows columns : ℕ) → 0 < rows → 0 < columns → Fits m rows columns → carried (rotated Right columns rows) columns rows (carried (rotated Left rows columns) rows columns m) ≡ m }
+    ensures same { (m : SpanMap) (r c : ℕ) → 0 < r → 0 < c → Fits m r c → spans_rotated Right c r (spans_rotated Left r c m) ≡ m }
 {}
 
 /// Merged cells that fit, turned upside down twice or in lines that are all reversed twice, are as they were.
 pub fn merged_cells_reversed_twice_are_as_they_were()
-    ensures top { (m : SpanMap) (rows columns : ℕ) → Fits m rows columns → carried (rotated Top rows columns) rows columns (carried (rotated Top rows columns) rows columns m) ≡ m }
-    ensures lines { (axis : Axis) (m : SpanMap) (rows columns : ℕ) → Fits m rows columns → carried (reversed axis 0 (End 0) rows columns) rows columns (carried (reversed axis 0 (End 0) rows columns) rows columns m) ≡ m }
+    ensures top { (m : SpanMap) (r c : ℕ) → Fits m r c → spans_rotated Top r c (spans_rotated Top r c m) ≡ m }
+    ensures lines { (axis : Axis) (m : SpanMap) (r c : ℕ) → Fits m r c → spans_reversed axis r c (spans_reversed axis r c m) ≡ m }
 {}
 
 /// A table with a row and a column that is turned to the left twice has its rows and its columns in the
 /// opposite order.
 pub fn left_twice_is_a_half_turn<A>()
-    ensures { (old : Grid A) (turned : Grid A) (new : Grid A) → 0 < old.rows → 0 < old.columns → ReadsThrough (rotated Left old.rows old.columns) old turned → ReadsThrough (rotated Left turned.rows turned.columns) turned new → ReadsThrough (turned_half old.rows old.columns) old new }
+    ensures half { (old between new : Grid A) → 0 < old.rows → 0 < old.columns → IsRotated Left old between → IsRotated Left between new → IsHalfRotated old new }
 {}
 
 /// To the top and to the bottom are one turn.
-pub fn top_is_bottom(_rows: usize, _columns: usize)
-    ensures { rotated Top _rows _columns ≡ rotated Bottom _rows _columns }
+pub fn top_is_bottom()
+    ensures same { (rows columns : ℕ) → rotated Top rows columns ≡ rotated Bottom rows columns }
 {}
 
 /// A table that is turned upside down twice is as it was.
 pub fn top_twice_is_as_it_was<A>()
-    ensures { (old : Grid A) (turned : Grid A) (new : Grid A) → IsEven old → ReadsThrough (rotated Top old.rows old.columns) old turned → ReadsThrough (rotated Top turned.rows turned.columns) turned new → new ≡ old }
+    ensures same { (old between new : Grid A) → IsEven old → IsRotated Top old between → IsRotated Top between new → new ≡ old }
 {}
 
 /// A table whose rows or columns are reversed twice, from the same start up to the same limit, is as it was.
 pub fn reversed_twice_is_as_it_was<A>(_reverse: Reverse)
-    ensures { (old : Grid A) (turned : Grid A) (new : Grid A) → IsEven old → ReadsThrough (reversed _reverse.axis _reverse.start _reverse.limit old.rows old.columns) old turned → ReadsThrough (reversed _reverse.axis _reverse.start _reverse.limit turned.rows turned.columns) turned new → new ≡ old }
+    ensures same { (old between new : Grid A) → IsEven old → IsReversed _reverse old between → IsReversed _reverse between new → new ≡ old }
 {}
 
 /// Reversals are ordered by their axis, rows first, then by their start, and then by their limit.
 pub fn reversals_in_order(_a: Reverse, _b: Reverse)
-    ensures { ⟦<Reverse as Ord>⟧.cmp _a _b ≡ reverse_cmp _a _b }
+    ensures order { ⟦<Reverse as Ord>⟧.cmp _a _b ≡ reverse_cmp _a _b }
 {}
 
 /// Charsets are ordered by whether they clean, those that don't first, and then by their tab size, unset
 /// first.
 pub fn charsets_in_order(_a: Charset, _b: Charset)
-    ensures { ⟦<Charset as Ord>⟧.cmp _a _b ≡ charset_cmp _a _b }
+    ensures order { ⟦<Charset as Ord>⟧.cmp _a _b ≡ charset_cmp _a _b }
 {}
 
 /// A turn takes each old cell to exactly one new place.
-pub fn rotate_takes_each_cell_once(_rotate: &Rotate, _rows: usize, _columns: usize, _pos: Position)
-    ensures { _pos.row < _rows → _pos.col < _columns → IsTakenOnce (rotated _rotate.now _rows _columns) _pos }
+pub fn rotate_takes_each_cell_once(_rotate: &Rotate)
+    ensures once { (rows columns : ℕ) → TakesEachOnce (rotated _rotate.now rows columns) rows columns }
 {}
 
 /// A reversal takes each old cell to exactly one new place.
-pub fn reverse_takes_each_cell_once(
-    _reverse: Reverse,
-    _rows: usize,
-    _columns: usize,
-    _pos: Position,
-)
-    ensures { _pos.row < _rows → _pos.col < _columns → IsTakenOnce (reversed _reverse.axis _reverse.start _reverse.limit _rows _columns) _pos }
+pub fn reverse_takes_each_cell_once(_reverse: Reverse)
+    ensures once { (rows columns : ℕ) → TakesEachOnce (reversed _reverse.axis _reverse.start _reverse.limit rows columns) rows columns }
 {}
 
 /// A split that keeps all pieces takes each old cell to exactly one new place.
-pub fn split_takes_each_cell_once(_split: Split, _pos: Position)
-    ensures { (g : Grid (List ℕ)) → _split.display ≡ Retain → _pos.row < g.rows → _pos.col < g.columns → IsTakenOnce (split_places _split g) _pos }
+pub fn split_takes_each_cell_once(_split: Split)
+    ensures once { (g : Grid (List ℕ)) → _split.display ≡ Retain → TakesEachOnce (split_places _split g) g.rows g.columns }
 {}
 
 /// The pieces of a table with a row and a column, all kept, are the table again where they are glued
 /// together and cut at its old shape.
 pub fn split_is_undone_by_gluing(_split: Split)
-    ensures { (old : Grid (List ℕ)) → IsEven old → 0 < old.rows → 0 < old.columns → 0 < _split.index → _split.display ≡ Retain → glued _split old.rows old.columns (split _split old) ≡ old }
+    ensures undone { (old : Grid (List ℕ)) → IsEven old → 0 < old.rows → 0 < old.columns → 0 < _split.index → _split.display ≡ Retain → glued _split old.rows old.columns (split _split old) ≡ old }
 {}
 
 /// A split loses no text: those that aren't empty stand in the new rows, or columns, as often as in all
 /// the pieces, and in their order.
 pub fn split_loses_no_text(_split: Split)
-    ensures { (old : Grid (List ℕ)) → IsEven old → texts_in _split.lines (split _split old) ≡ texts_in _split.lines (split (record _split { display = Retain }) old) }
+    ensures kept { (g : Grid (List ℕ)) → IsEven g → texts_in _split.lines (split _split g) ≡ texts_in _split.lines (all_pieces _split g) }
 {}
 
 /// A split keeps each text as often as it stood in the table: of the texts that aren't empty, as many pass
 /// a test after it as before it, whatever the test, the order of the pieces and which of them stay.
 pub fn split_keeps_each_text_as_often(_split: Split)
-    ensures { (old : Grid (List ℕ)) (p : List ℕ → Bool) → IsEven old → count_by p (texts_in _split.lines (split _split old)) ≡ count_by p (texts_in _split.lines old) }
+    ensures kept { (g : Grid (List ℕ)) (p : List ℕ → Bool) → IsEven g → count_by p (texts_in _split.lines (split _split g)) ≡ count_by p (texts_in _split.lines g) }
 {}
 
 /// A clean text has no control character but the newline.
-pub fn clean_leaves_no_control_character(_text: &str, _tab_size: usize)
-    ensures { AllByRecursion IsClean (cleaned _tab_size _text.now) }
+pub fn clean_leaves_no_control_character()
+    ensures clean { (text : List ℕ) (tab_size : ℕ) → AllByRecursion IsCleanByte (clean_text tab_size text) }
 {}
 
 /// A second clean changes nothing, whatever the tab sizes.
-pub fn clean_twice_is_once(_text: &str, _tab_size: usize, _second: usize)
-    ensures { cleaned _second (cleaned _tab_size _text.now) ≡ cleaned _tab_size _text.now }
+pub fn clean_twice_is_once()
+    ensures same { (text : List ℕ) (tab_size second : ℕ) → clean_text second (clean_text tab_size text) ≡ clean_text tab_size text }
 {}
 
 /// Cleaning replaces the tabs, and then cleans.
-pub fn clean_is_clean_after_tabs(_text: &str, _tab_size: usize)
-    ensures { cleaned _tab_size _text.now ≡ cleaned 0 (with_tabs _tab_size _text.now) }
+pub fn clean_is_clean_after_tabs()
+    ensures same { (text : List ℕ) (tab_size : ℕ) → clean_text tab_size text ≡ clean_text 0 (with_tabs tab_size text) }
 {}
 
 /// A charset keeps merged cells inside the table and apart, on each entity and on the table, also where it
@@ -152,8 +143,8 @@ pub fn charsets_keep_merged_cells_fitting<R, D>(_charset: &Charset)
 where
     R: Records + ExactRecords + PeekableRecords + RecordsMut<String>,
     R::Cell: CellText,
-    ensures cells { (e : Entity) → OptionKeeps ⟦<MergedCellsFit as Property<R::Cell, SpannedConfig>>⟧.holds (⟦<Charset as CellOption<R, SpannedConfig>>⟧.does _charset.now e) (⟦<Charset as CellOption<R, SpannedConfig>>⟧.leaves _charset.now e) }
-    ensures table { OptionKeeps ⟦<MergedCellsFit as Property<R::Cell, SpannedConfig>>⟧.holds (⟦<Charset as TableOption<R, SpannedConfig, D>>⟧.does _charset.now) (⟦<Charset as TableOption<R, SpannedConfig, D>>⟧.leaves _charset.now) }
+    ensures cells { let how = ⟦<Charset as CellOption<R, SpannedConfig>>⟧ in FitsAfterEach (how.does _charset.now) (how.leaves _charset.now) }
+    ensures table { let how = ⟦<Charset as TableOption<R, SpannedConfig, D>>⟧ in FitsAfter (how.does _charset.now) (how.leaves _charset.now) }
 {}
 
 /// A format keeps merged cells inside the table and apart, on each entity and on the table, also where it
@@ -163,8 +154,8 @@ where
     R: Records + ExactRecords + PeekableRecords + RecordsMut<String>,
     R::Cell: CellText,
     F: FnMut(Global, &str) -> Result<String, AllocError> + Clone + Drop,
-    ensures cells { (e : Entity) → OptionKeeps ⟦<MergedCellsFit as Property<R::Cell, SpannedConfig>>⟧.holds (⟦<FormatContent<F> as CellOption<R, SpannedConfig>>⟧.does _format.now e) (⟦<FormatContent<F> as CellOption<R, SpannedConfig>>⟧.leaves _format.now e) }
-    ensures table { OptionKeeps ⟦<MergedCellsFit as Property<R::Cell, SpannedConfig>>⟧.holds (⟦<FormatContent<F> as TableOption<R, SpannedConfig, D>>⟧.does _format.now) (⟦<FormatContent<F> as TableOption<R, SpannedConfig, D>>⟧.leaves _format.now) }
+    ensures cells { let how = ⟦<FormatContent<F> as CellOption<R, SpannedConfig>>⟧ in FitsAfterEach (how.does _format.now) (how.leaves _format.now) }
+    ensures table { let how = ⟦<FormatContent<F> as TableOption<R, SpannedConfig, D>>⟧ in FitsAfter (how.does _format.now) (how.leaves _format.now) }
 {}
 
 /// So does a format that is asked for places, too.
@@ -173,8 +164,8 @@ where
     R: Records + ExactRecords + PeekableRecords + RecordsMut<String>,
     R::Cell: CellText,
     F: FnMut(Global, &str, Position) -> Result<String, AllocError> + Drop,
-    ensures cells { (e : Entity) → OptionKeeps ⟦<MergedCellsFit as Property<R::Cell, SpannedConfig>>⟧.holds (⟦<FormatContentPositioned<F> as CellOption<R, SpannedConfig>>⟧.does _format.now e) (⟦<FormatContentPositioned<F> as CellOption<R, SpannedConfig>>⟧.leaves _format.now e) }
-    ensures table { OptionKeeps ⟦<MergedCellsFit as Property<R::Cell, SpannedConfig>>⟧.holds (⟦<FormatContentPositioned<F> as TableOption<R, SpannedConfig, D>>⟧.does _format.now) (⟦<FormatContentPositioned<F> as TableOption<R, SpannedConfig, D>>⟧.leaves _format.now) }
+    ensures cells { let how = ⟦<FormatContentPositioned<F> as CellOption<R, SpannedConfig>>⟧ in FitsAfterEach (how.does _format.now) (how.leaves _format.now) }
+    ensures table { let how = ⟦<FormatContentPositioned<F> as TableOption<R, SpannedConfig, D>>⟧ in FitsAfter (how.does _format.now) (how.leaves _format.now) }
 {}
 
 /// Texts that are written to other cells keep merged cells inside the table and apart, also where that is
@@ -185,15 +176,15 @@ where
     R::Cell: CellText,
     Dst: Object<R> + Drop,
     Src: Object<R> + Drop,
-    ensures { OptionKeeps ⟦<MergedCellsFit as Property<R::Cell, SpannedConfig>>⟧.holds (⟦<Dup<Dst, Src> as TableOption<R, SpannedConfig, D>>⟧.does _dup.now) (⟦<Dup<Dst, Src> as TableOption<R, SpannedConfig, D>>⟧.leaves _dup.now) }
+    ensures table { let how = ⟦<Dup<Dst, Src> as TableOption<R, SpannedConfig, D>>⟧ in FitsAfter (how.does _dup.now) (how.leaves _dup.now) }
 {}
 
 /// A turn keeps merged cells inside the table and apart, also where it is refused.
-pub fn turns_keep_merged_cells_fitting<R, D>(_rotate: &Rotate)
+pub fn rotations_keep_merged_cells_fitting<R, D>(_rotate: &Rotate)
 where
     R: Records + ExactRecords + Resizable,
     R::Cell: Blank,
-    ensures { OptionKeeps ⟦<MergedCellsFit as Property<R::Cell, SpannedConfig>>⟧.holds (⟦<Rotate as TableOption<R, SpannedConfig, D>>⟧.does _rotate.now) (⟦<Rotate as TableOption<R, SpannedConfig, D>>⟧.leaves _rotate.now) }
+    ensures table { let how = ⟦<Rotate as TableOption<R, SpannedConfig, D>>⟧ in FitsAfter (how.does _rotate.now) (how.leaves _rotate.now) }
 {}
 
 /// So does a reversal.
@@ -201,7 +192,7 @@ pub fn reversals_keep_merged_cells_fitting<R, D>(_reverse: Reverse)
 where
     R: Records + ExactRecords + Resizable,
     R::Cell: Blank,
-    ensures { OptionKeeps ⟦<MergedCellsFit as Property<R::Cell, SpannedConfig>>⟧.holds (⟦<Reverse as TableOption<R, SpannedConfig, D>>⟧.does _reverse) (⟦<Reverse as TableOption<R, SpannedConfig, D>>⟧.leaves _reverse) }
+    ensures table { let how = ⟦<Reverse as TableOption<R, SpannedConfig, D>>⟧ in FitsAfter (how.does _reverse) (how.leaves _reverse) }
 {}
 
 /// So does a split.
@@ -209,7 +200,7 @@ pub fn splits_keep_merged_cells_fitting<R, D>(_split: Split)
 where
     R: Records + ExactRecords + PeekableRecords + Resizable,
     R::Cell: CellText,
-    ensures { OptionKeeps ⟦<MergedCellsFit as Property<R::Cell, SpannedConfig>>⟧.holds (⟦<Split as TableOption<R, SpannedConfig, D>>⟧.does _split) (⟦<Split as TableOption<R, SpannedConfig, D>>⟧.leaves _split) }
+    ensures table { let how = ⟦<Split as TableOption<R, SpannedConfig, D>>⟧ in FitsAfter (how.does _split) (how.leaves _split) }
 {}
 
 /// So does a part of a table.
@@ -219,7 +210,7 @@ where
     R::Cell: Blank,
     A: ToBounds + Drop,
     B: ToBounds + Drop,
-    ensures { OptionKeeps ⟦<MergedCellsFit as Property<R::Cell, SpannedConfig>>⟧.holds (⟦<Extract<A, B> as TableOption<R, SpannedConfig, D>>⟧.does _extract.now) (⟦<Extract<A, B> as TableOption<R, SpannedConfig, D>>⟧.leaves _extract.now) }
+    ensures table { let how = ⟦<Extract<A, B> as TableOption<R, SpannedConfig, D>>⟧ in FitsAfter (how.does _extract.now) (how.leaves _extract.now) }
 {}
 
 /// So do rows or columns that are taken away.
@@ -230,7 +221,7 @@ where
     L: Location<R, Coordinate = usize> + Drop,
     <L::IntoIter as IntoIterator>::IntoIter: Drop,
     T: Target,
-    ensures { OptionKeeps ⟦<MergedCellsFit as Property<R::Cell, SpannedConfig>>⟧.holds (⟦<Remove<L, T> as TableOption<R, SpannedConfig, D>>⟧.does _remove.now) (⟦<Remove<L, T> as TableOption<R, SpannedConfig, D>>⟧.leaves _remove.now) }
+    ensures table { let how = ⟦<Remove<L, T> as TableOption<R, SpannedConfig, D>>⟧ in FitsAfter (how.does _remove.now) (how.leaves _remove.now) }
 {}
 
 /// So does a second table that is joined.
@@ -238,5 +229,5 @@ pub fn joins_keep_merged_cells_fitting<R, D>(_concat: &Concat)
 where
     R: Records + ExactRecords + Resizable + RecordsMut<String>,
     R::Cell: CellText,
-    ensures { OptionKeeps ⟦<MergedCellsFit as Property<R::Cell, SpannedConfig>>⟧.holds (⟦<Concat as TableOption<R, SpannedConfig, D>>⟧.does _concat.now) (⟦<Concat as TableOption<R, SpannedConfig, D>>⟧.leaves _concat.now) }
+    ensures table { let how = ⟦<Concat as TableOption<R, SpannedConfig, D>>⟧ in FitsAfter (how.does _concat.now) (how.leaves _concat.now) }
 {}

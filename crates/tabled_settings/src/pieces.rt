@@ -1,14 +1,14 @@
 //! Which pieces of lines stay.
 
-ghost use Rattle.std.specs.Prelude.{◌≡◌, ◌*◌, ◌<◌, ◌≤◌, ℕ, IfOk, IsFalse, IsTrue, false, true};
+ghost use Rattle.std.specs.Prelude.{◌≡◌, ◌*◌, ◌<◌, ◌≤◌, IfOk, IsFalse, IsTrue};
 ghost use Rattle.std.specs.Int.{div_ceil};
 ghost use Rattle.tabled_grid.specs.Along.{count_along};
-ghost use Rattle.tabled_grid.specs.Axis.{across, place_in};
+ghost use Rattle.tabled_grid.specs.Axis.{across};
 ghost use Rattle.tabled_grid.specs.Grid.{map_grid};
 ghost use Rattle.tabled_settings.specs.declared.split.Display.TheVariants.{Clean};
 ghost use Rattle.tabled_settings.specs.PiecePlaces.{kept_pieces};
-ghost use Rattle.tabled_settings.specs.Pieces.{stays_at, turned};
-ghost use Rattle.tabled_settings.specs.PieceTexts.{has_text};
+ghost use Rattle.tabled_settings.specs.Pieces.{oriented, stays_at};
+ghost use Rattle.tabled_settings.specs.PieceTexts.{NoText, SomeText};
 
 use crate::cuts::Cut;
 use std::alloc::{AllocError, Global};
@@ -29,7 +29,7 @@ where
     requires lines { cut.now.lines ≡ count_along cut.now.split.lines (R.grid records.now) }
     requires width { cut.now.width ≡ count_along (across cut.now.split.lines) (R.grid records.now) }
     requires clean { cut.now.split.display ≡ Clean }
-    ensures { IfOk result (λ kept. kept.items ≡ kept_pieces cut.now.split (turned cut.now.split.lines (map_grid R.Cell.text_of (R.grid records.now)))) }
+    ensures { IfOk result (λ kept. kept.items ≡ kept_pieces cut.now.split (oriented cut.now.split.lines (map_grid R.Cell.text_of (R.grid records.now)))) }
 {
     let mut kept = Vec::new(alloc);
     for nth in 0..cut.lines * cut.pieces {
@@ -50,7 +50,7 @@ where
     requires width { cut.now.width ≡ count_along (across cut.now.split.lines) (R.grid records.now) }
     requires clean { cut.now.split.display ≡ Clean }
     requires within { nth < cut.now.lines * cut.now.pieces }
-    ensures { result ≡ stays_at cut.now.split (div_ceil cut.now.width cut.now.split.index) (turned cut.now.split.lines (map_grid R.Cell.text_of (R.grid records.now))).cells nth }
+    ensures { result ≡ stays_at cut.now.split (div_ceil cut.now.width cut.now.split.index) (oriented cut.now.split.lines (map_grid R.Cell.text_of (R.grid records.now))).cells nth }
 {
     let index = cut.split.index;
     let (line, number) = cut.split.behavior.nth_piece(cut.lines, cut.pieces, nth);
@@ -67,8 +67,8 @@ where
     requires well { R.is_well_formed records.now }
     requires line { line < count_along axis (R.grid records.now) }
     requires cells { cells.end ≤ count_along (across axis) (R.grid records.now) }
-    ensures found { IsTrue result → (j : ℕ) × (cells.start ≤ j) × (j < cells.end) × (has_text (map_grid R.Cell.text_of (R.grid records.now)) (place_in axis line j) ≡ true) }
-    ensures missed { IsFalse result → (j : ℕ) → cells.start ≤ j → j < cells.end → has_text (map_grid R.Cell.text_of (R.grid records.now)) (place_in axis line j) ≡ false }
+    ensures found { IsTrue result → SomeText (map_grid R.Cell.text_of (R.grid records.now)) axis line cells.start cells.end }
+    ensures missed { IsFalse result → NoText (map_grid R.Cell.text_of (R.grid records.now)) axis line cells.start cells.end }
 {
     for cell in cells.start..cells.end {
         if !records.get_text(axis.place(line, cell)).is_empty() {

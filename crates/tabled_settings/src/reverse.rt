@@ -152,7 +152,7 @@ impl Mirror {
     fn across(&self, pos: Position) -> Position
         requires row { pos.row < self.now.rows }
         requires col { pos.col < self.now.columns }
-        ensures { result ≡ in_line self.now.axis pos (reversed_index self.now.start self.now.end (count_of self.now.axis self.now.rows self.now.columns) (line_of self.now.axis pos)) }
+        ensures { let m = self.now in result ≡ in_line m.axis pos (reversed_index m.start m.end (count_of m.axis m.rows m.columns) (line_of m.axis pos)) }
     {
         let count = self.axis.count_of(self.rows, self.columns);
         self.axis

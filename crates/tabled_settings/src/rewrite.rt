@@ -3,9 +3,8 @@
 ghost use Rattle.std.specs.Prelude.{◌≡◌, [], ℕ, List, IfOk, IsOk, IsTrue, OnErr, OnOk};
 ghost use Rattle.std.specs.String.{string_bytes};
 ghost use Rattle.tabled_grid.specs.Entity.{inside};
-ghost use Rattle.tabled_grid.specs.Grid.{map_grid};
 ghost use Rattle.tabled_grid.specs.declared.config.position.Position.{Position};
-ghost use Rattle.tabled_settings.specs.Rewrites.{RewritesAt, RewritesUntil};
+ghost use Rattle.tabled_settings.specs.Rewrites.{FirstRewritten, Rewritten};
 
 use std::alloc::{AllocError, Global};
 use tabled_grid::config::{Entity, Position};
@@ -50,8 +49,8 @@ where
     requires well { R.is_well_formed records.old }
     requires can { A.can_answer answers }
     ensures well { R.is_well_formed records.new }
-    ensures ok { OnOk result (RewritesAt A.asks answers (inside entity (R.grid records.old).rows (R.grid records.old).columns) (map_grid R.Cell.text_of (R.grid records.old)) (map_grid R.Cell.text_of (R.grid records.new))) }
-    ensures err { OnErr result (RewritesUntil A.asks answers (inside entity (R.grid records.old).rows (R.grid records.old).columns) (map_grid R.Cell.text_of (R.grid records.old)) (map_grid R.Cell.text_of (R.grid records.new))) }
+    ensures ok { OnOk result (Rewritten R.Cell.text_of A.asks answers entity (R.grid records.old) (R.grid records.new)) }
+    ensures err { OnErr result (FirstRewritten R.Cell.text_of A.asks answers entity (R.grid records.old) (R.grid records.new)) }
     ensures promised { inside entity (R.grid records.old).rows (R.grid records.old).columns ≡ [] → IsOk result }
 {
     for pos in entity.iter(records.count_rows(), records.count_columns()) {

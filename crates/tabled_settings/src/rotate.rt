@@ -3,9 +3,8 @@
 ghost use Rattle.std.specs.Prelude.{◌≡◌, ◌⊎◌, IsOk, OnErr, OnOk};
 ghost use Rattle.tabled_options.specs.Does.{Same};
 ghost use Rattle.tabled_settings.specs.declared.rotate.Rotate.TheVariants.{Bottom, Top};
-ghost use Rattle.tabled_grid.specs.Places.{ReadsThrough};
 ghost use Rattle.tabled_grid.specs.Fitting.{Fits};
-ghost use Rattle.tabled_settings.specs.Rearranged.{Rearranges, rotated, turn_of};
+ghost use Rattle.tabled_settings.specs.Rearranged.{IsRotated, Rearranges, quarter_of, rotated};
 ghost use Rattle.std.proofs.Common.{rules};
 
 use crate::lines;
@@ -61,14 +60,14 @@ where
     ) -> Result<(), AllocError> {
         let rows = records.count_rows();
         let columns = records.count_columns();
-        let turn = Turn {
+        let rotation = Rotation {
             rotate: self,
             rows,
             columns,
         };
         let kept = kept_in_place(alloc, cfg, rows, columns)?;
-        turn_cells(alloc, &turn.rotate, records)?;
-        carry_along(alloc, &turn, cfg, kept, rows, columns);
+        rotate_cells(alloc, &rotation.rotate, records)?;
+        carry_along(alloc, &rotation, cfg, kept, rows, columns);
         Ok(())
     }
 
@@ -81,13 +80,13 @@ where
 
 /// A turn of a table of r rows and c columns.
 #[derive(Drop)]
-struct Turn {
+struct Rotation {
     rotate: Rotate,
     rows: usize,
     columns: usize,
 }
 
-impl Moves for Turn {
+impl Moves for Rotation {
     ghost places = { λ t. rotated t.rotate t.rows t.columns };
 
     fn new_place(&self, pos: Position) -> Option<Position> {
@@ -102,7 +101,7 @@ impl Moves for Turn {
     }
 }
 
-impl MovesRectangles for Turn {
+impl MovesRectangles for Rotation {
     fn new_rectangle(&self, of: Rectangle) -> Option<Rectangle> {
         let (first, Size { height, width }) = of;
         let bottom = first.row + height;
@@ -123,13 +122,13 @@ impl MovesRectangles for Turn {
 }
 
 /// Turns the cells of a table.
-fn turn_cells<R>(alloc: Global, rotate: &Rotate, records: &mut R) -> Result<(), AllocError>
+fn rotate_cells<R>(alloc: Global, rotate: &Rotate, records: &mut R) -> Result<(), AllocError>
 where
     R: Records + ExactRecords + Resizable,
     R::Cell: Blank,
     requires { R.is_well_formed records.old }
     ensures well { R.is_well_formed records.new }
-    ensures ok { OnOk result (ReadsThrough (rotated rotate.now ((R.grid records.old).rows) ((R.grid records.old).columns)) (R.grid records.old) (R.grid records.new)) }
+    ensures ok { OnOk result (IsRotated rotate.now (R.grid records.old) (R.grid records.new)) }
     ensures err { OnErr result (R.grid records.new ≡ R.grid records.old) }
     ensures promised { (rotate.now ≡ Top) ⊎ (rotate.now ≡ Bottom) → IsOk result }
 {
@@ -151,7 +150,7 @@ where
     R::Cell: Blank,
     requires { R.is_well_formed records.old }
     ensures well { R.is_well_formed records.new }
-    ensures ok { OnOk result (ReadsThrough (rotated (turn_of reversed) ((R.grid records.old).rows) ((R.grid records.old).columns)) (R.grid records.old) (R.grid records.new)) }
+    ensures ok { OnOk result (IsRotated (quarter_of reversed) (R.grid records.old) (R.grid records.new)) }
     ensures err { OnErr result (R.grid records.new ≡ R.grid records.old) }
 {
     records.transpose(alloc)?;

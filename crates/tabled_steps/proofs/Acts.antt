@@ -2,16 +2,14 @@
 use Rattle.std.proofs.Common.{◌≡◌, ◌⊎◌, inl, inr, refl, List, ℕ}
 use Rattle.std.specs.declared.ops.Bound.{Bound}
 use Rattle.tabled_grid.specs.Grid.{Grid}
-use Rattle.tabled_grid.specs.Places.{ReadsThrough}
 use Rattle.tabled_grid.specs.Spans.{SpanMap}
 use Rattle.tabled_grid.specs.declared.config.entity.Entity.{Entity}
 use Rattle.tabled_grid.specs.declared.records.axis.Axis.{Axis}
-use Rattle.tabled_carry.specs.Images.{carried}
 use Rattle.tabled_options.specs.Does.{Change, Same, Then, ThenLeaves}
 use Rattle.tabled_settings.specs.Dups.{Duplicates, DuplicatesFirst}
-use Rattle.tabled_settings.specs.Rearranged.{Rearranges, extracted, removed}
+use Rattle.tabled_settings.specs.Rearranged.{Rearranges, Removes, extracted, removed}
 use Rattle.tabled_steps.specs.Selected.{half_open}
-use Rattle.tabled_steps.specs.Steps.{ActsAs, Does, Leaves, ListAlike}
+use Rattle.tabled_steps.specs.Steps.{ActsAs, Does, Leaves, ListAlike, Makes}
 use Rattle.tabled_steps.specs.declared.step.Step.{Step}
 use Rattle.tabled_steps.specs.declared.step.Step.TheVariants as step
 
@@ -21,10 +19,6 @@ acts is_blank text_of step = record { done = λ g c h d. ((λ x. x), λ x. x); r
 -- ranges of the bounds of a step keep what the step keeps
 pub extracts : {A : Type 0} (is_blank : A → Type 0) (text_of : A → List ℕ) (a b m n : ℕ) (rows columns : Bound ℕ × Bound ℕ) → rows ≡ half_open a b → columns ≡ half_open m n → ActsAs is_blank text_of (step.Extract a b m n) (λ g. Rearranges (extracted rows columns g.rows g.columns) g) Same
 extracts is_blank text_of a b m n rows columns of_rows of_columns = rw (of_rows, of_columns) (acts is_blank text_of (step.Extract a b m n))
-
--- whatever one change makes, another makes, too
-abbrev pub Makes : {A C : Type 0} → Change A C → Change A C → Type 0
-Makes {A} {C} change other = (g : Grid A) (c : C) (h : Grid A) (d : C) → change g c h d → other g c h d
 
 module _ {A C : Type 0} where
   pub then_makes : (first second other_first other_second : Change A C) → Makes first other_first → Makes second other_second → Makes (Then first second) (Then other_first other_second)
@@ -45,8 +39,8 @@ module _ {A C : Type 0} (text_of : A → List ℕ) (destination source other_des
 
 -- lines that a location finds, and the lines themselves, are taken away alike
 module _ {A : Type 0} (axis : Axis) (locates : Grid A → List ℕ → Type 0) (found : Grid A → List ℕ) (alike : ListAlike locates (λ g lines. lines ≡ found g)) (g : Grid A) (c : SpanMap) (h : Grid A) (d : SpanMap) where
-  pub finds_removed : Rearranges (removed axis (found g) g.rows g.columns) g c h d → (lines : List ℕ) × locates g lines × ReadsThrough (removed axis lines g.rows g.columns) g h × (d ≡ carried (removed axis lines g.rows g.columns) g.rows g.columns c)
-  finds_removed does = (found g, (alike g (found g)).1 refl, does.0, does.1)
+  pub finds_removed : Rearranges (removed axis (found g) g.rows g.columns) g c h d → Removes axis locates g c h d
+  finds_removed does = record { found = found g; located = (alike g (found g)).1 refl; rearranged = does }
 
-  pub removed_found : (lines : List ℕ) × locates g lines × ReadsThrough (removed axis lines g.rows g.columns) g h × (d ≡ carried (removed axis lines g.rows g.columns) g.rows g.columns c) → Rearranges (removed axis (found g) g.rows g.columns) g c h d
-  removed_found does = let is = (alike g does.0).0 does.1 in (rw (← is) does.2, rw (← is) does.3)
+  pub removed_found : Removes axis locates g c h d → Rearranges (removed axis (found g) g.rows g.columns) g c h d
+  removed_found does = rw (← (alike g does.found).0 does.located) does.rearranged

@@ -25,7 +25,7 @@ use Rattle.tabled_settings.specs.Rearranged.{Rearranges, extracted, removed, rev
 use Rattle.tabled_settings.specs.declared.rotate.Rotate.{Rotate}
 use Rattle.tabled_settings.specs.declared.rotate.Rotate.TheVariants.{Left, Right, Top, Bottom}
 use Rattle.tabled_spans.specs.Panels.{Panels, cells_along, has_room, with_line}
-use Rattle.tabled_steps.specs.Reads.{joined}
+use Rattle.tabled_steps.specs.Reads.{joined_tables}
 use Rattle.tabled_steps.specs.Selected.{half_open, named_by, selected}
 use Rattle.tabled_steps.specs.States.{State, after, after_all, duplicate, merge, on_each, put_panel, rearrange, recode, set, span, state_of}
 use Rattle.tabled_steps.specs.Steps.{Does, Merges, Names}
@@ -100,7 +100,7 @@ module _ {A : Type 0} (text_of : A → List ℕ) where
     merged : (axis : Axis) → Merges text_of axis g c h d → state_of text_of h d ≡ merge axis (state_of text_of g c)
     merged axis (cells, runs) = same_state _ _ _ _ (ap (map_grid text_of) cells) (is_merged axis (map_grid text_of g) c d runs)
 
-    joined_at : (is_blank : A → Type 0) (axis : Axis) (second : Grid (List ℕ)) (default : List ℕ) → JoinsAt is_blank text_of (corner_of axis g.rows g.columns) second default g h → map_grid text_of h ≡ joined axis second default (map_grid text_of g)
+    joined_at : (is_blank : A → Type 0) (axis : Axis) (second : Grid (List ℕ)) (default : List ℕ) → JoinsAt is_blank text_of (corner_of axis g.rows g.columns) second default g h → map_grid text_of h ≡ joined_tables axis second default (map_grid text_of g)
     joined_at is_blank axis second default joins = is_table_of text_of h _ _ (λ (p : Position). text p.row p.col) joins.first.even joins.first.rows joins.first.columns (λ a b k l. at a b (omega (arith, joins.first.rows, k)) (omega (arith, joins.first.columns, l)) (cases_lt a g.rows) (cases_lt b g.columns))
       where
         corner : Position

@@ -21,13 +21,13 @@ use Rattle.tabled_settings.specs.Joined.{corner_of, joined_text}
 use Rattle.tabled_grid.specs.Places.{Places}
 use Rattle.tabled_settings.specs.Rearranged.{extracted, removed, reversed, rotated}
 use Rattle.tabled_settings.specs.Dups.{dup_writes}
-use Rattle.tabled_settings.specs.Pieces.{cut_rows, has_pieces, split, turned}
+use Rattle.tabled_settings.specs.Pieces.{cut_rows, has_pieces, split, oriented}
 use Rattle.tabled_settings.specs.declared.split.Split.{Split}
 use Rattle.tabled_settings.proofs.Glued.{split_glued}
 use Rattle.tabled_settings.proofs.PieceReads.{cut_even, turned_even}
 use Rattle.tabled_spans.specs.Panels.{has_room}
 use Rattle.tabled_spans.specs.Spanned.{span_writes}
-use Rattle.tabled_steps.specs.Reads.{joined, read}
+use Rattle.tabled_steps.specs.Reads.{joined_tables, read}
 use Rattle.tabled_steps.specs.Selected.{half_open, named_by, selected}
 use Rattle.tabled_steps.specs.States.{IsUndoneMidway, State, after, after_all, flattened, on_each, parts, put_panel, rearrange}
 use Rattle.tabled_steps.specs.declared.select.Select.{Select}
@@ -70,9 +70,9 @@ even_panel axis line text s even = by axis (cases_Bool (has_room axis line s.tex
 even_split : (how : Split) (g : Grid (List ℕ)) → IsEven g → IsEven (split how g)
 even_split how g even = by (cases_Bool (has_pieces how g.rows g.columns))
   where
-    turned_cut : (axis : Axis) → 0 < how.index → IsEven (turned axis (cut_rows how (turned how.lines g)))
-    turned_cut Rows index = cut_even how (turned how.lines g)
-    turned_cut Columns index = turned_even Columns (cut_rows how (turned how.lines g)) (cut_even how (turned how.lines g)) index
+    turned_cut : (axis : Axis) → 0 < how.index → IsEven (oriented axis (cut_rows how (oriented how.lines g)))
+    turned_cut Rows index = cut_even how (oriented how.lines g)
+    turned_cut Columns index = turned_even Columns (cut_rows how (oriented how.lines g)) (cut_even how (oriented how.lines g)) index
 
     by : (has_pieces how g.rows g.columns ≡ true) ⊎ (has_pieces how g.rows g.columns ≡ false) → IsEven (split how g)
     by (inl some) = rw some (turned_cut how.lines (ltb-true 0 how.index (and_parts _ _ (and_parts _ _ some).1).0))
@@ -84,7 +84,7 @@ even_read from s = IsEven-table_of from.rows from.columns (λ (p : Position). un
 even_rearranged : (places : ℕ → ℕ → Places) → Keeps (rearrange places)
 even_rearranged places s even = even_read (places s.texts.rows s.texts.columns) s
 
-even_joined : (axis : Axis) (second : Grid (List ℕ)) (default : List ℕ) (g : Grid (List ℕ)) → IsEven (joined axis second default g)
+even_joined : (axis : Axis) (second : Grid (List ℕ)) (default : List ℕ) (g : Grid (List ℕ)) → IsEven (joined_tables axis second default g)
 even_joined axis second default g = let corner = corner_of axis g.rows g.columns in IsEven-table_of (max g.rows (corner.row + second.rows)) (max g.columns (corner.col + second.columns)) (λ (p : Position). cond (nat_lt p.row g.rows && nat_lt p.col g.columns) (text_at g p) (joined_text corner second default p.row p.col))
 
 pub even_after : (x : Step) → Keeps (after x)

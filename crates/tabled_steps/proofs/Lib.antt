@@ -3,11 +3,11 @@ pub mod AfterSteps
 pub mod EvenStates
 pub mod Fitting
 pub mod GoneOver
+pub mod GroupSteps
 pub mod LocalChanges
 pub mod MergedRuns
 pub mod Outside
-pub mod RunSteps
-pub mod StandInPlaces
-pub mod StandIns
+pub mod RepresentedChanges
+pub mod RepresentedPlaces
 pub mod StepsUntil
 pub mod TextReads

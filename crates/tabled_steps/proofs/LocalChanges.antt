@@ -16,7 +16,7 @@ use Rattle.tabled_options.specs.Writes.{DoesFirstWrites, DoesWrites, FirstWrites
 use Rattle.tabled_options.proofs.Shapes.{shape_texts}
 use Rattle.tabled_settings.specs.Charsets.{charset_writes, is_set, mapped_writes, recoded}
 use Rattle.tabled_spans.specs.Spanned.{Spans, SpansFirst, back_of, grown_each, pull_writes, pulled_each, span_writes, spanned}
-use Rattle.tabled_steps.proofs.StandIns.{IsLocal}
+use Rattle.tabled_steps.proofs.RepresentedChanges.{IsLocal}
 
 -- writes on an entity that depend on the places alone that it names, and are none where it names none
 pub record AreLocal (writes : Entity → Grid (List ℕ) → List Write) : Type 0 where

@@ -1,4 +1,4 @@
--- Runs that stand for the rows, the columns or the cells of a range.
+-- Groups of the rows, the columns or the cells of a range.
 use Rattle.std.proofs.Common.{◌≡◌, ℕ, zero, suc, ◌+◌, ◌-◌, ◌*◌, ◌^◌, ◌<◌, ◌≤◌, ◌⊎◌, inl, inr, List, [], ◌∷◌, ◌++◌, refl, sym, ap, ap₂, subst, ◌∙◌, map, max, min, length, length-append, arith, replicate}
 use Rattle.std.proofs.Math.Nat.{suc-mul}
 use Rattle.std.proofs.lemmas.Bool.{cases_lt, ne_eqb}
@@ -12,8 +12,8 @@ use Rattle.tabled_grid.specs.declared.config.position.Position.{Position}
 use Rattle.tabled_grid.proofs.Lists.{all-append}
 use Rattle.tabled_grid.proofs.Places.{inside-no_cell, inside-no_column, inside-no_row}
 use Rattle.tabled_select.specs.Algebra.{cells_of}
-use Rattle.tabled_steps.specs.Reached.{IsReached, IsRun, entities_of, named_places, once, row_runs, runs_outside, segment_cells, segment_runs}
-use Rattle.tabled_steps.specs.declared.reached.Run.{Run}
+use Rattle.tabled_steps.specs.Groups.{AreGroups, IsGroup, representatives_of, named_places, once, row_groups, groups_outside, segment_cells, segment_groups}
+use Rattle.tabled_steps.specs.declared.groups.Group.{Group}
 
 pub range_split : (a m n : ℕ) → range_with_len a (m + n) ≡ range_with_len a m ++ range_with_len (a + m) n
 range_split a zero n =
@@ -25,18 +25,18 @@ range_split a (suc m) n =
     let all : suc m + n ≡ suc (m + n) = omega arith in
     ap (range_with_len a) all ∙ ap (λ is. a ∷ is) (range_split (a + 1) m n ∙ ap (λ i. range_with_len (a + 1) m ++ range_with_len i n) next)
 
--- runs of one entity are those entities
-pub entities_of-once : (es : List Entity) → es ≡ entities_of (map once es)
-entities_of-once [] = refl
-entities_of-once (e ∷ es) = ap (λ fs. e ∷ fs) (entities_of-once es)
+-- groups of one entity are those entities
+pub representatives_of-once : (es : List Entity) → es ≡ representatives_of (map once es)
+representatives_of-once [] = refl
+representatives_of-once (e ∷ es) = ap (λ fs. e ∷ fs) (representatives_of-once es)
 
 -- one more cell of a row
-pub row_more : (i a j : ℕ) (start now next : List Run) → a ≤ j → now ≡ start ++ map once (cells_of (map (place i) (range_with_len a (j - a)))) → next ≡ now ++ once (Cell i j) ∷ [] → next ≡ start ++ map once (cells_of (map (place i) (range_with_len a (j + 1 - a))))
+pub row_more : (i a j : ℕ) (start now next : List Group) → a ≤ j → now ≡ start ++ map once (cells_of (map (place i) (range_with_len a (j - a)))) → next ≡ now ++ once (Cell i j) ∷ [] → next ≡ start ++ map once (cells_of (map (place i) (range_with_len a (j + 1 - a))))
 row_more i a j start now next from so_far one =
     let at : a + (j - a) ≡ j = omega arith in
     let all : (j - a) + 1 ≡ j + 1 - a = omega arith in
     let last : map once (cells_of (map (place i) (range_with_len (a + (j - a)) 1))) ≡ once (Cell i j) ∷ [] = ap (λ k. map once (cells_of (map (place i) (range_with_len k 1)))) at in
-    let cells : List Run = map once (cells_of (map (place i) (range_with_len a (j - a)))) in
+    let cells : List Group = map once (cells_of (map (place i) (range_with_len a (j - a)))) in
     let split : map once (cells_of (map (place i) (range_with_len a (j + 1 - a)))) ≡ cells ++ once (Cell i j) ∷ [] =
     ap (λ k. map once (cells_of (map (place i) (range_with_len a k)))) (sym all)
     ∙ ap (λ is. map once (cells_of (map (place i) is))) (range_split a (j - a) 1)
@@ -47,13 +47,13 @@ row_more i a j start now next from so_far one =
     one ∙ ap (λ rs. rs ++ once (Cell i j) ∷ []) so_far ∙ append_assoc start cells (once (Cell i j) ∷ []) ∙ ap (λ rs. start ++ rs) (sym split)
 
 -- a row is at its end
-pub row_end : (i j n within : ℕ) (columns : ℕ × ℕ) (start now next : List Run) → j - columns.0 ≡ within - columns.0 → n ≡ columns.1 - within → now ≡ start ++ map once (cells_of (map (place i) (range_with_len columns.0 (j - columns.0)))) → next ≡ now ++ runs_outside n → next ≡ start ++ row_runs columns within i
+pub row_end : (i j n within : ℕ) (columns : ℕ × ℕ) (start now next : List Group) → j - columns.0 ≡ within - columns.0 → n ≡ columns.1 - within → now ≡ start ++ map once (cells_of (map (place i) (range_with_len columns.0 (j - columns.0)))) → next ≡ now ++ groups_outside n → next ≡ start ++ row_groups columns within i
 row_end i j n within columns start now next all many so_far last =
-    last ∙ ap₂ (λ rs k. rs ++ runs_outside k) (so_far ∙ ap (λ k. start ++ map once (cells_of (map (place i) (range_with_len columns.0 k)))) all) many
-    ∙ append_assoc start (map once (cells_of (row_places columns.0 within i))) (runs_outside (columns.1 - within))
+    last ∙ ap₂ (λ rs k. rs ++ groups_outside k) (so_far ∙ ap (λ k. start ++ map once (cells_of (map (place i) (range_with_len columns.0 k)))) all) many
+    ∙ append_assoc start (map once (cells_of (row_places columns.0 within i))) (groups_outside (columns.1 - within))
 
 -- one more row
-pub rows_more : (f : ℕ → List Run) (a i : ℕ) (now next : List Run) → a ≤ i → now ≡ flat_map f (range_with_len a (i - a)) → next ≡ now ++ f i → next ≡ flat_map f (range_with_len a (i + 1 - a))
+pub rows_more : (f : ℕ → List Group) (a i : ℕ) (now next : List Group) → a ≤ i → now ≡ flat_map f (range_with_len a (i - a)) → next ≡ now ++ f i → next ≡ flat_map f (range_with_len a (i + 1 - a))
 rows_more f a i now next from so_far one =
     let at : a + (i - a) ≡ i = omega arith in
     let all : (i - a) + 1 ≡ i + 1 - a = omega arith in
@@ -64,20 +64,20 @@ rows_more f a i now next from so_far one =
     ∙ ap (λ k. flat_map f (range_with_len a k)) all
 
 -- what comes past the rows that have cells
-pub rows_end : (f : ℕ → List Run) (a i within n m : ℕ) (now next : List Run) → i - a ≡ within - a → n ≡ m → now ≡ flat_map f (range_with_len a (i - a)) → next ≡ now ++ runs_outside n → next ≡ flat_map f (range_with_len a (within - a)) ++ runs_outside m
-rows_end f a i within n m now next all many so_far last = last ∙ ap₂ (λ rs k. rs ++ runs_outside k) (so_far ∙ ap (λ k. flat_map f (range_with_len a k)) all) many
+pub rows_end : (f : ℕ → List Group) (a i within n m : ℕ) (now next : List Group) → i - a ≡ within - a → n ≡ m → now ≡ flat_map f (range_with_len a (i - a)) → next ≡ now ++ groups_outside n → next ≡ flat_map f (range_with_len a (within - a)) ++ groups_outside m
+rows_end f a i within n m now next all many so_far last = last ∙ ap₂ (λ rs k. rs ++ groups_outside k) (so_far ∙ ap (λ k. flat_map f (range_with_len a k)) all) many
 
 module _ (rows columns : ℕ) where
   -- each entity stands for itself
-  pub each_once : (es : List Entity) → IsReached rows columns es (map once es)
+  pub each_once : (es : List Entity) → AreGroups rows columns es (map once es)
   each_once [] = record { same = refl; each = tt }
   each_once (e ∷ es) = let rest = each_once es in record { same = ap (λ ps. inside e rows columns ∷ ps) rest.same; each = (inl refl, rest.each) }
 
-  -- runs one after the other
-  pub reached-append : (es fs : List Entity) (rs qs : List Run) → IsReached rows columns es rs → IsReached rows columns fs qs → IsReached rows columns (es ++ fs) (rs ++ qs)
-  reached-append es fs rs qs first second = record {
-    same = map-append (λ (e : Entity). inside e rows columns) es fs ∙ ap₂ (λ ps ts. ps ++ ts) first.same second.same ∙ sym (flat_map-append (λ (r : Run). replicate r.count (inside r.entity rows columns)) rs qs);
-    each = all-append (IsRun rows columns) rs qs first.each second.each;
+  -- groups one after the other
+  pub grouped-append : (es fs : List Entity) (rs qs : List Group) → AreGroups rows columns es rs → AreGroups rows columns fs qs → AreGroups rows columns (es ++ fs) (rs ++ qs)
+  grouped-append es fs rs qs first second = record {
+    same = map-append (λ (e : Entity). inside e rows columns) es fs ∙ ap₂ (λ ps ts. ps ++ ts) first.same second.same ∙ sym (flat_map-append (λ (r : Group). replicate r.count (inside r.entity rows columns)) rs qs);
+    each = all-append (IsGroup rows columns) rs qs first.each second.each;
   }
 
   -- an entity has no cell in the table
@@ -93,10 +93,10 @@ module _ (rows columns : ℕ) where
     far = inside-no_cell (2 ^ 64 - 1) (2 ^ 64 - 1) rows columns low
 
     -- entities that have no cell in the table
-    pub reached-outside : (count : ℕ) (es : List Entity) → length es ≡ count → AllByRecursion IsOutside es → IsReached rows columns es (runs_outside count)
-    reached-outside zero [] long all = record { same = refl; each = tt }
-    reached-outside zero (e ∷ es) long all = absurd (omega arith)
-    reached-outside (suc n) es long all =
+    pub grouped-outside : (count : ℕ) (es : List Entity) → length es ≡ count → AllByRecursion IsOutside es → AreGroups rows columns es (groups_outside count)
+    grouped-outside zero [] long all = record { same = refl; each = tt }
+    grouped-outside zero (e ∷ es) long all = absurd (omega arith)
+    grouped-outside (suc n) es long all =
         let some = ne_eqb (suc n) 0 (λ z. omega arith) in
         rw some (record {
           same = nones es all ∙ ap₂ (λ k (p : List Position). replicate k p) long (sym far) ∙ sym (append-nil (replicate (suc n) (inside (Cell (2 ^ 64 - 1) (2 ^ 64 - 1)) rows columns)));
@@ -113,20 +113,20 @@ module _ (rows columns : ℕ) where
       length-lines a zero = refl
       length-lines a (suc n) = ap suc (length-lines (a + 1) n)
 
-      pub reached-lines : (a b : ℕ) → IsReached rows columns (map line (range_with_len a (b - a))) (map once (map line (range_with_len a (min b count - a))) ++ runs_outside (b - max a count))
-      reached-lines a b =
+      pub grouped-lines : (a b : ℕ) → AreGroups rows columns (map line (range_with_len a (b - a))) (map once (map line (range_with_len a (min b count - a))) ++ groups_outside (b - max a count))
+      grouped-lines a b =
           let m = min b count - a in
           let n = b - max a count in
           let all : m + n ≡ b - a = omega arith in
           let past : 0 < n → count ≤ a + m = λ some. omega arith in
           let parts : map line (range_with_len a (b - a)) ≡ map line (range_with_len a m) ++ map line (range_with_len (a + m) n) = ap (λ k. map line (range_with_len a k)) (sym all) ∙ ap (map line) (range_split a m n) ∙ map-append line (range_with_len a m) (range_with_len (a + m) n) in
-          rw parts (reached-append (map line (range_with_len a m)) (map line (range_with_len (a + m) n)) _ _ (each_once (map line (range_with_len a m))) (reached-outside n (map line (range_with_len (a + m) n)) (length-lines (a + m) n) (lines-outside (a + m) n past)))
+          rw parts (grouped-append (map line (range_with_len a m)) (map line (range_with_len (a + m) n)) _ _ (each_once (map line (range_with_len a m))) (grouped-outside n (map line (range_with_len (a + m) n)) (length-lines (a + m) n) (lines-outside (a + m) n past)))
 
-    pub reached-rows : (a b : ℕ) → IsReached rows columns (map Row (range_with_len a (b - a))) (map once (map Row (range_with_len a (min b rows - a))) ++ runs_outside (b - max a rows))
-    reached-rows = reached-lines Row rows (λ i past. inside-no_row i rows columns past)
+    pub grouped-rows : (a b : ℕ) → AreGroups rows columns (map Row (range_with_len a (b - a))) (map once (map Row (range_with_len a (min b rows - a))) ++ groups_outside (b - max a rows))
+    grouped-rows = grouped-lines Row rows (λ i past. inside-no_row i rows columns past)
 
-    pub reached-columns : (a b : ℕ) → IsReached rows columns (map Column (range_with_len a (b - a))) (map once (map Column (range_with_len a (min b columns - a))) ++ runs_outside (b - max a columns))
-    reached-columns = reached-lines Column columns (λ j past. inside-no_column j rows columns past)
+    pub grouped-columns : (a b : ℕ) → AreGroups rows columns (map Column (range_with_len a (b - a))) (map once (map Column (range_with_len a (min b columns - a))) ++ groups_outside (b - max a columns))
+    grouped-columns = grouped-lines Column columns (λ j past. inside-no_column j rows columns past)
 
     cells_of-row : (i : ℕ) (js : List ℕ) → cells_of (map (place i) js) ≡ map (Cell i) js
     cells_of-row i [] = refl
@@ -134,18 +134,18 @@ module _ (rows columns : ℕ) where
 
     module _ (c d : ℕ) where
       -- the cells of a row
-      reached-row : (i : ℕ) → c < min d columns → IsReached rows columns (cells_of (row_places c d i)) (row_runs (c, d) (min d columns) i)
-      reached-row i some =
+      grouped-row : (i : ℕ) → c < min d columns → AreGroups rows columns (cells_of (row_places c d i)) (row_groups (c, d) (min d columns) i)
+      grouped-row i some =
           let over : d - max c columns ≡ d - min d columns = omega arith in
           rw (cells_of-row i (range_with_len c (d - c)), cells_of-row i (range_with_len c (min d columns - c)))
-          (subst (λ k. IsReached rows columns (map (Cell i) (range_with_len c (d - c))) (map once (map (Cell i) (range_with_len c (min d columns - c))) ++ runs_outside k)) over
-          (reached-lines (Cell i) columns (λ j past. inside-no_cell i j rows columns (inr past)) c d))
+          (subst (λ k. AreGroups rows columns (map (Cell i) (range_with_len c (d - c))) (map once (map (Cell i) (range_with_len c (min d columns - c))) ++ groups_outside k)) over
+          (grouped-lines (Cell i) columns (λ j past. inside-no_cell i j rows columns (inr past)) c d))
 
-      reached-block : (is : List ℕ) → c < min d columns → IsReached rows columns (cells_of (flat_map (row_places c d) is)) (flat_map (row_runs (c, d) (min d columns)) is)
-      reached-block [] some = record { same = refl; each = tt }
-      reached-block (i ∷ is) some =
+      grouped-block : (is : List ℕ) → c < min d columns → AreGroups rows columns (cells_of (flat_map (row_places c d) is)) (flat_map (row_groups (c, d) (min d columns)) is)
+      grouped-block [] some = record { same = refl; each = tt }
+      grouped-block (i ∷ is) some =
           let parts = map-append (λ (p : Position). Cell p.row p.col) (row_places c d i) (flat_map (row_places c d) is) in
-          rw parts (reached-append (cells_of (row_places c d i)) (cells_of (flat_map (row_places c d) is)) _ _ (reached-row i some) (reached-block is some))
+          rw parts (grouped-append (cells_of (row_places c d i)) (cells_of (flat_map (row_places c d) is)) _ _ (grouped-row i some) (grouped-block is some))
 
       outside-row : (i a n : ℕ) → (rows ≤ i) ⊎ (columns ≤ a) → AllByRecursion IsOutside (cells_of (map (place i) (range_with_len a n)))
       outside-row i a zero past = tt
@@ -187,9 +187,9 @@ module _ (rows columns : ℕ) where
           next (inr h) = inr h
 
       -- the cells of a segment, row by row as far as rows have some
-      pub reached-segment : (a b within_rows : ℕ) → within_rows ≤ max a b → (within_rows ≤ a) ⊎ (c < min d columns) → (0 < b - max a within_rows → rows ≤ max a within_rows) ⊎ ((columns ≤ c) ⊎ (d ≤ c))
-          → IsReached rows columns (segment_cells (a, b) (c, d)) (segment_runs (a, b) within_rows (c, d) (min d columns))
-      reached-segment a b within_rows few wide past =
+      pub grouped-segment : (a b within_rows : ℕ) → within_rows ≤ max a b → (within_rows ≤ a) ⊎ (c < min d columns) → (0 < b - max a within_rows → rows ≤ max a within_rows) ⊎ ((columns ≤ c) ⊎ (d ≤ c))
+          → AreGroups rows columns (segment_cells (a, b) (c, d)) (segment_groups (a, b) within_rows (c, d) (min d columns))
+      grouped-segment a b within_rows few wide past =
           let m = within_rows - a in
           let n = b - max a within_rows in
           let all : m + n ≡ b - a = omega arith in
@@ -199,25 +199,25 @@ module _ (rows columns : ℕ) where
           ∙ ap (λ is. cells_of (flat_map (row_places c d) is)) (range_split a m n ∙ ap (λ k. range_with_len a m ++ range_with_len k n) at)
           ∙ ap cells_of (flat_map-append (row_places c d) (range_with_len a m) (range_with_len (max a within_rows) n))
           ∙ map-append (λ (p : Position). Cell p.row p.col) (flat_map (row_places c d) (range_with_len a m)) (flat_map (row_places c d) (range_with_len (max a within_rows) n)) in
-          rw parts (reached-append _ _ _ _ (first wide) (reached-outside (n * (d - c)) (cells_of (flat_map (row_places c d) (range_with_len (max a within_rows) n))) (length-block (max a within_rows) n) (outside-block (max a within_rows) n past)))
+          rw parts (grouped-append _ _ _ _ (first wide) (grouped-outside (n * (d - c)) (cells_of (flat_map (row_places c d) (range_with_len (max a within_rows) n))) (length-block (max a within_rows) n) (outside-block (max a within_rows) n past)))
         where
-          first : (within_rows ≤ a) ⊎ (c < min d columns) → IsReached rows columns (cells_of (flat_map (row_places c d) (range_with_len a (within_rows - a)))) (flat_map (row_runs (c, d) (min d columns)) (range_with_len a (within_rows - a)))
+          first : (within_rows ≤ a) ⊎ (c < min d columns) → AreGroups rows columns (cells_of (flat_map (row_places c d) (range_with_len a (within_rows - a)))) (flat_map (row_groups (c, d) (min d columns)) (range_with_len a (within_rows - a)))
           first (inl none) = let zeros : within_rows - a ≡ 0 = omega arith in rw zeros (record { same = refl; each = tt })
-          first (inr some) = reached-block (range_with_len a (within_rows - a)) some
+          first (inr some) = grouped-block (range_with_len a (within_rows - a)) some
 
 -- the cells of a segment, as a body makes them
-pub segment_at : (rows columns : ℕ) → (rows ≤ 2 ^ 64 - 1) ⊎ (columns ≤ 2 ^ 64 - 1) → (p q : ℕ × ℕ) (within_rows within : ℕ) (items : List Run) → within ≡ min q.1 columns
+pub segment_at : (rows columns : ℕ) → (rows ≤ 2 ^ 64 - 1) ⊎ (columns ≤ 2 ^ 64 - 1) → (p q : ℕ × ℕ) (within_rows within : ℕ) (items : List Group) → within ≡ min q.1 columns
     → ((q.0 < within) × (within_rows ≡ min p.1 rows)) ⊎ ((within ≤ q.0) × (within_rows ≡ p.0))
-    → items ≡ segment_runs p within_rows q within → IsReached rows columns (segment_cells p q) items
+    → items ≡ segment_groups p within_rows q within → AreGroups rows columns (segment_cells p q) items
 segment_at rows columns low p q within_rows within items is (inl (wide, at)) made =
     let some : q.0 < min q.1 columns = omega arith in
     let few : within_rows ≤ max p.0 p.1 = omega arith in
     let past : 0 < p.1 - max p.0 within_rows → rows ≤ max p.0 within_rows = λ more. omega arith in
-    rw (made, is) (reached-segment rows columns low q.0 q.1 p.0 p.1 within_rows few (inr some) (inl past))
+    rw (made, is) (grouped-segment rows columns low q.0 q.1 p.0 p.1 within_rows few (inr some) (inl past))
 segment_at rows columns low p q within_rows within items is (inr (narrow, at)) made =
     let few : within_rows ≤ max p.0 p.1 = omega arith in
     let none : within_rows ≤ p.0 = omega arith in
-    rw (made, is) (reached-segment rows columns low q.0 q.1 p.0 p.1 within_rows few (inl none) (inr (past (cases_lt q.0 columns))))
+    rw (made, is) (grouped-segment rows columns low q.0 q.1 p.0 p.1 within_rows few (inl none) (inr (past (cases_lt q.0 columns))))
   where
     past : (q.0 < columns) ⊎ (columns ≤ q.0) → (columns ≤ q.0) ⊎ (q.1 ≤ q.0)
     past (inl some) = inr (omega arith)

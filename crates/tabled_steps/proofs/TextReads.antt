@@ -12,7 +12,7 @@ use Rattle.tabled_grid.specs.declared.config.position.Position.{Position}
 use Rattle.tabled_grid.proofs.Grids.{IsEven-map_grid, cell_at-map_grid}
 use Rattle.tabled_grid.specs.Places.{Places, ReadsThrough}
 use Rattle.tabled_settings.proofs.SameCells.{same_cells}
-use Rattle.tabled_steps.specs.Reads.{read, table_of}
+use Rattle.tabled_steps.specs.Reads.{read, texts_by_place}
 
 abbrev row : ℕ → (Position → List ℕ) → ℕ → List (List ℕ)
 row columns text i = map (λ (j : ℕ). text (place i j)) (range_with_len 0 columns)
@@ -21,20 +21,20 @@ wide : (columns : ℕ) (text : Position → List ℕ) (is : List ℕ) → AllByR
 wide columns text [] = tt
 wide columns text (i ∷ is) = (length-map-range_with_len (λ (j : ℕ). text (place i j)) 0 columns, wide columns text is)
 
-pub IsEven-table_of : (rows columns : ℕ) (text : Position → List ℕ) → IsEven (table_of rows columns text)
+pub IsEven-table_of : (rows columns : ℕ) (text : Position → List ℕ) → IsEven (texts_by_place rows columns text)
 IsEven-table_of rows columns text = record { tall = length-map-range_with_len (row columns text) 0 rows; wide = wide columns text (range_with_len 0 rows) }
 
-pub cell_at-table_of : (rows columns : ℕ) (text : Position → List ℕ) (a b : ℕ) → a < rows → b < columns → cell_at (table_of rows columns text) (place a b) ≡ Some (text (place a b))
+pub cell_at-table_of : (rows columns : ℕ) (text : Position → List ℕ) (a b : ℕ) → a < rows → b < columns → cell_at (texts_by_place rows columns text) (place a b) ≡ Some (text (place a b))
 cell_at-table_of rows columns text a b h k =
-    let at_row : get_or (table_of rows columns text).cells a [] ≡ row columns text a = get_or-map-range_with_len (row columns text) 0 rows a a [] h (omega arith) in
+    let at_row : get_or (texts_by_place rows columns text).cells a [] ≡ row columns text a = get_or-map-range_with_len (row columns text) 0 rows a a [] h (omega arith) in
     let long : b < length (row columns text a) = omega (arith, length-map-range_with_len (λ (j : ℕ). text (place a j)) 0 columns, k) in
     ap (λ (r : List (List ℕ)). slice_get r b) at_row
     ∙ slice_get-get_or (row columns text a) b [] long
     ∙ ap Some (get_or-map-range_with_len (λ (j : ℕ). text (place a j)) 0 columns b b [] k (omega arith))
 
 -- an even grid that has these texts is the table of them
-pub is_table_of : {A : Type 0} (text_of : A → List ℕ) (g : Grid A) (rows columns : ℕ) (text : Position → List ℕ) → IsEven g → g.rows ≡ rows → g.columns ≡ columns → ((a b : ℕ) → a < rows → b < columns → cell_at (map_grid text_of g) (place a b) ≡ Some (text (place a b))) → map_grid text_of g ≡ table_of rows columns text
-is_table_of text_of g rows columns text even tall broad each = same_cells (map_grid text_of g) (table_of rows columns text) (IsEven-map_grid text_of g even) (IsEven-table_of rows columns text) tall broad (λ a b h k. each a b h k ∙ sym (cell_at-table_of rows columns text a b h k))
+pub is_table_of : {A : Type 0} (text_of : A → List ℕ) (g : Grid A) (rows columns : ℕ) (text : Position → List ℕ) → IsEven g → g.rows ≡ rows → g.columns ≡ columns → ((a b : ℕ) → a < rows → b < columns → cell_at (map_grid text_of g) (place a b) ≡ Some (text (place a b))) → map_grid text_of g ≡ texts_by_place rows columns text
+is_table_of text_of g rows columns text even tall broad each = same_cells (map_grid text_of g) (texts_by_place rows columns text) (IsEven-map_grid text_of g even) (IsEven-table_of rows columns text) tall broad (λ a b h k. each a b h k ∙ sym (cell_at-table_of rows columns text a b h k))
 
 -- there is a text at each place inside
 pub some_text : (g : Grid (List ℕ)) (a b : ℕ) → IsEven g → a < g.rows → b < g.columns → (text : List ℕ) × (cell_at g (place a b) ≡ Some text)

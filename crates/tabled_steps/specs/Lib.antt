@@ -1,6 +1,6 @@
 pub mod Fitting
 pub mod MergedRuns
-pub mod Reached
+pub mod Groups
 pub mod Reads
 pub mod Selected
 pub mod States

@@ -11,14 +11,14 @@ use Rattle.tabled_settings.specs.Joined.{corner_of, joined_text}
 use Rattle.tabled_grid.specs.Places.{Places}
 
 -- r rows and c columns of texts, each by its place
-abbrev pub table_of : ℕ → ℕ → (Position → List ℕ) → Grid (List ℕ)
-table_of rows columns text = record { rows = rows; columns = columns; cells = map (λ (i : ℕ). map (λ (j : ℕ). text (place i j)) (range_with_len 0 columns)) (range_with_len 0 rows) }
+abbrev pub texts_by_place : ℕ → ℕ → (Position → List ℕ) → Grid (List ℕ)
+texts_by_place rows columns text = record { rows = rows; columns = columns; cells = map (λ (i : ℕ). map (λ (j : ℕ). text (place i j)) (range_with_len 0 columns)) (range_with_len 0 rows) }
 
 -- the texts that a map of places takes from a table
 abbrev pub read : Places → Grid (List ℕ) → Grid (List ℕ)
-read places g = table_of places.rows places.columns (λ (p : Position). unwrap_or (option_and_then (cell_at g) (places.old_place p)) [])
+read places g = texts_by_place places.rows places.columns (λ (p : Position). unwrap_or (option_and_then (cell_at g) (places.old_place p)) [])
 
 -- a table with a second one below it or right of it, with a default text where there is none of either
-abbrev pub joined : Axis → Grid (List ℕ) → List ℕ → Grid (List ℕ) → Grid (List ℕ)
-joined axis second default g = let corner = corner_of axis g.rows g.columns in
-    table_of (max g.rows (corner.row + second.rows)) (max g.columns (corner.col + second.columns)) (λ (p : Position). if nat_lt p.row g.rows && nat_lt p.col g.columns then text_at g p else joined_text corner second default p.row p.col)
+abbrev pub joined_tables : Axis → Grid (List ℕ) → List ℕ → Grid (List ℕ) → Grid (List ℕ)
+joined_tables axis second default g = let corner = corner_of axis g.rows g.columns in
+    texts_by_place (max g.rows (corner.row + second.rows)) (max g.columns (corner.col + second.columns)) (λ (p : Position). if nat_lt p.row g.rows && nat_lt p.col g.columns then text_at g p else joined_text corner second default p.row p.col)

@@ -39,8 +39,8 @@ abbrev pub with_content : List ℕ → Grid (List ℕ) → List Entity
 with_content text g = cells_of (places_with text g)
 
 -- the columns with a text in the first row
-abbrev pub with_name : List ℕ → Grid (List ℕ) → List Entity
-with_name text g = columns_of (columns_with text g)
+abbrev pub named_columns : List ℕ → Grid (List ℕ) → List Entity
+named_columns text g = columns_of (columns_with text g)
 
 -- the entities that a selector names in a table of texts, in order
 abbrev pub selected : Grid (List ℕ) → Select → List Entity
@@ -61,7 +61,7 @@ selected g (select.Columns a b) = columns_of (indexes (half_open a b) g.columns)
 selected g (select.Segment a b c d) = cells_of (segment (half_open a b) (half_open c d) g.rows g.columns)
 selected g select.Frame = cells_of (frame g.rows g.columns)
 selected g (select.Content text) = with_content (string_bytes text) g
-selected g (select.Name text) = with_name (string_bytes text) g
+selected g (select.Name text) = named_columns (string_bytes text) g
 selected g (select.And' _ x _ y) = united g (selected g x) (selected g y)
 selected g (select.Not' _ x _ y) = without g (selected g x) (selected g y)
 selected g (select.Intersect' _ x _ y) = shared g (selected g x) (selected g y)

@@ -1,5 +1,5 @@
 -- The texts of a table and its merged cells, and what steps make of them.
-use Rattle.std.specs.Prelude.{◌≡◌, ◌<◌, ℕ, ◌-◌, ℤ, if◌then◌else◌, Bool, List, [], ◌∷◌, ◌++◌, replicate, Option}
+use Rattle.std.specs.Prelude.{◌≡◌, ◌<◌, ℕ, ◌-◌, ℤ, if◌then◌else◌, Bool, List, [], ◌∷◌, ◌++◌, replicate, Option, take}
 use Rattle.std.specs.List.{fold}
 use Rattle.std.specs.String.{string_bytes}
 use Rattle.tabled_grid.specs.Bounds.{indexes}
@@ -8,6 +8,7 @@ use Rattle.tabled_grid.specs.Spans.{SpanMap, with_sizes}
 use Rattle.tabled_grid.specs.declared.config.entity.Entity.{Entity}
 use Rattle.tabled_grid.specs.declared.records.axis.Axis.{Axis}
 use Rattle.tabled_grid.specs.declared.records.axis.Axis.TheVariants.{Rows, Columns}
+use Rattle.tabled_options.specs.Does.{Change}
 use Rattle.tabled_options.specs.Writes.{text_writes, with_writes}
 use Rattle.tabled_select.specs.Locators.{columns_with}
 use Rattle.tabled_settings.specs.Charsets.{charset_writes}
@@ -24,7 +25,7 @@ use Rattle.tabled_settings.specs.declared.split.Split.{Split}
 use Rattle.tabled_spans.specs.Panels.{cells_along, has_room, with_line, with_panel}
 use Rattle.tabled_spans.specs.Spanned.{span_writes, spanned}
 use Rattle.tabled_steps.specs.MergedRuns.{runs}
-use Rattle.tabled_steps.specs.Reads.{joined, read}
+use Rattle.tabled_steps.specs.Reads.{joined_tables, read}
 use Rattle.tabled_steps.specs.Selected.{Named, half_open, named_by}
 use Rattle.tabled_steps.specs.declared.step.Step.{Step}
 use Rattle.tabled_steps.specs.declared.step.Step.TheVariants as step
@@ -76,12 +77,12 @@ reverse r s = let places = reversed r.axis r.start r.limit s.texts.rows s.texts.
     record { texts = read places s.texts; spans = carried_if (reverses r.axis r.start r.limit s.texts.rows s.texts.columns) places s.texts.rows s.texts.columns s.spans }
 
 -- rows or columns cut into pieces
-abbrev pub cut : Split → State → State
-cut how s = record { texts = split how s.texts; spans = carried_if (has_pieces how s.texts.rows s.texts.columns) (split_places how s.texts) s.texts.rows s.texts.columns s.spans }
+abbrev pub cut_lines : Split → State → State
+cut_lines how s = record { texts = split how s.texts; spans = carried_if (has_pieces how s.texts.rows s.texts.columns) (split_places how s.texts) s.texts.rows s.texts.columns s.spans }
 
 -- a second table joined to the texts
 abbrev pub join : Axis → Grid (List ℕ) → List ℕ → State → State
-join axis second default s = record { texts = joined axis second default s.texts; spans = carried (joined_places (corner_of axis s.texts.rows s.texts.columns) second s.texts.rows s.texts.columns) s.texts.rows s.texts.columns s.spans }
+join axis second default s = record { texts = joined_tables axis second default s.texts; spans = carried (joined_places (corner_of axis s.texts.rows s.texts.columns) second s.texts.rows s.texts.columns) s.texts.rows s.texts.columns s.spans }
 
 -- the rows, or the columns, of a range taken away
 abbrev pub remove_range : Axis → ℕ → ℕ → State → State
@@ -107,7 +108,7 @@ after (step.MergeVertical _) = merge Rows
 after (step.MergeHorizontal _) = merge Columns
 after (step.Rotate rotate) = rearrange (rotated rotate)
 after (step.Reverse how) = reverse how
-after (step.Split how) = cut how
+after (step.Split how) = cut_lines how
 after (step.Concat concat) = join concat.0 concat.1 concat.2
 after (step.Extract a b c d) = rearrange (extracted (half_open a b) (half_open c d))
 after (step.RemoveRows a b) = remove_range Rows a b
@@ -119,6 +120,10 @@ after (step.Both' _ first _ second) = λ s. after second (after first s)
 abbrev pub after_all : List Step → State → State
 after_all [] s = s
 after_all (x ∷ xs) s = after_all xs (after x s)
+
+-- the texts and the merged cells become what a formula makes of them
+abbrev pub Becomes : {A : Type 0} → (A → List ℕ) → (State → State) → Change A SpanMap
+Becomes text_of formula g c h d = state_of text_of h d ≡ formula (state_of text_of g c)
 
 -- a table with a row and a column is the pieces of its split glued together, where all were kept
 pub record IsUndone (how : Split) (old new : State) : Type 0 where
@@ -140,3 +145,15 @@ pub record IsUndoneMidway (how : Split) (old : State) (rest : List Step) (new : 
   pub is : split ≡ after (step.Split how) old
   pub undone : IsUndone how old split
   pub leads : new ≡ after_all rest split
+
+-- each split among steps that lead from a state to another is undone by gluing where it is made
+abbrev pub AreUndone : List Step → State → State → Type 0
+AreUndone steps old new = (first rest : List Step) (split : Split) → flattened steps ≡ first ++ step.Split split ∷ rest → IsUndoneMidway split (after_all first old) rest new
+
+-- the same of the tables before the steps and after them
+abbrev pub SplitsAreUndone : {A : Type 0} → (A → List ℕ) → List Step → Change A SpanMap
+SplitsAreUndone text_of steps g c h d = AreUndone steps (state_of text_of g c) (state_of text_of h d)
+
+-- the same of the steps before step k
+abbrev pub SplitsAreUndoneBefore : ℕ → List Step → State → Type 0
+SplitsAreUndoneBefore k steps old = AreUndone (take k steps) old (after_all (take k steps) old)

@@ -7,7 +7,7 @@ use Rattle.tabled_grid.specs.Spans.{SpanMap}
 use Rattle.tabled_grid.specs.declared.config.entity.Entity.{Entity}
 use Rattle.tabled_grid.specs.declared.records.axis.Axis.{Axis}
 use Rattle.tabled_grid.specs.declared.records.axis.Axis.TheVariants.{Rows, Columns}
-use Rattle.tabled_options.specs.Does.{AfterNeverRefused, Change, EachListed, EachListedUntil, Same, SameOr, Then, ThenLeaves}
+use Rattle.tabled_options.specs.Does.{AfterNeverRefused, Change, EachListed, EachListedUntil, EachUntilAt, Same, SameOr, Then, ThenLeaves}
 use Rattle.tabled_options.specs.Writes.{DoesFirstWrites, DoesWrites, text_writes}
 use Rattle.tabled_select.specs.Locators.{columns_with}
 use Rattle.tabled_settings.specs.Charsets.{charset_writes}
@@ -44,8 +44,8 @@ abbrev pub Cuts : {A : Type 0} → (A → Type 0) → (A → List ℕ) → Split
 Cuts is_blank text_of s g c h d = Splits is_blank text_of s g h × (d ≡ carried_if (has_pieces s g.rows g.columns) (split_places s (map_grid text_of g)) g.rows g.columns c)
 
 -- a second table is joined, and the merged cells are carried along
-abbrev pub Joins : {A : Type 0} → (A → Type 0) → (A → List ℕ) → Axis → Grid (List ℕ) → List ℕ → Change A SpanMap
-Joins is_blank text_of axis second default g c h d = JoinsAt is_blank text_of (corner_of axis g.rows g.columns) second default g h × (d ≡ carried (joined_places (corner_of axis g.rows g.columns) second g.rows g.columns) g.rows g.columns c)
+abbrev pub JoinsTables : {A : Type 0} → (A → Type 0) → (A → List ℕ) → Axis → Grid (List ℕ) → List ℕ → Change A SpanMap
+JoinsTables is_blank text_of axis second default g c h d = JoinsAt is_blank text_of (corner_of axis g.rows g.columns) second default g h × (d ≡ carried (joined_places (corner_of axis g.rows g.columns) second g.rows g.columns) g.rows g.columns c)
 
 -- runs of equal neighbours are merged, and cells stay
 abbrev pub Merges : {A : Type 0} → (A → List ℕ) → Axis → Change A SpanMap
@@ -67,7 +67,7 @@ Does is_blank text_of (step.MergeHorizontal _) = Merges text_of Columns
 Does is_blank text_of (step.Rotate rotate) = λ g. Rearranges (rotated rotate g.rows g.columns) g
 Does is_blank text_of (step.Reverse reverse) = Reverses reverse
 Does is_blank text_of (step.Split split) = Cuts is_blank text_of split
-Does is_blank text_of (step.Concat concat) = Joins is_blank text_of concat.0 concat.1 concat.2
+Does is_blank text_of (step.Concat concat) = JoinsTables is_blank text_of concat.0 concat.1 concat.2
 Does is_blank text_of (step.Extract a b c d) = λ g. Rearranges (extracted (half_open a b) (half_open c d) g.rows g.columns) g
 Does is_blank text_of (step.RemoveRows a b) = λ g. Rearranges (removed Rows (indexes (half_open a b) g.rows) g.rows g.columns) g
 Does is_blank text_of (step.RemoveColumns a b) = λ g. Rearranges (removed Columns (indexes (half_open a b) g.columns) g.rows g.columns) g
@@ -105,10 +105,22 @@ TakesNoMemory is_blank text_of _ g c = ⊥
 abbrev pub Refused : {A : Type 0} → (A → Type 0) → (A → List ℕ) → Step → Change A SpanMap
 Refused is_blank text_of step g c h d = Leaves is_blank text_of step g c h d × (TakesNoMemory is_blank text_of step g c → ⊥)
 
+-- the steps before step k are done, and that one is refused
+abbrev pub RefusedAt : {A : Type 0} → (A → Type 0) → (A → List ℕ) → List Step → ℕ → Change A SpanMap
+RefusedAt is_blank text_of = EachUntilAt (Does is_blank text_of) (Refused is_blank text_of)
+
+-- whatever one change makes, another makes, too
+abbrev pub Makes : {A C : Type 0} → Change A C → Change A C → Type 0
+Makes {A} {C} change other = (g : Grid A) (c : C) (h : Grid A) (d : C) → change g c h d → other g c h d
+
 -- a step does, and leaves where it is refused, just what an option does and leaves
 pub record ActsAs {A : Type 0} (is_blank : A → Type 0) (text_of : A → List ℕ) (step : Step) (does leaves : Change A SpanMap) : Type 0 where
   pub done : (g : Grid A) (c : SpanMap) (h : Grid A) (d : SpanMap) → (Does is_blank text_of step g c h d → does g c h d) × (does g c h d → Does is_blank text_of step g c h d)
   pub refused : (g : Grid A) (c : SpanMap) (h : Grid A) (d : SpanMap) → (Leaves is_blank text_of step g c h d → leaves g c h d) × (leaves g c h d → Leaves is_blank text_of step g c h d)
+
+-- so does a kind of step for a kind of option, whatever the option is
+abbrev pub ActAs : {A X : Type 0} → (A → Type 0) → (A → List ℕ) → (X → Step) → (X → Change A SpanMap) → (X → Change A SpanMap) → Type 0
+ActAs {A} {X} is_blank text_of step does leaves = (x : X) → ActsAs is_blank text_of (step x) (does x) (leaves x)
 
 -- the same of an option on each entity that is listed
 abbrev pub ActsOnEach : {A : Type 0} → (A → Type 0) → (A → List ℕ) → Step → (Grid A → List Entity → Type 0) → (Entity → Change A SpanMap) → (Entity → Change A SpanMap) → Type 0

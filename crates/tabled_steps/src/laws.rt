@@ -6,18 +6,14 @@ ghost use Rattle.tabled_grid.specs.Grid.{Grid, IsEven};
 ghost use Rattle.tabled_grid.specs.Spans.{SpanMap, with_sizes};
 ghost use Rattle.tabled_grid.specs.declared.records.axis.Axis.{Axis};
 ghost use Rattle.tabled_grid.specs.declared.records.axis.Axis.TheVariants.{Columns, Rows};
-ghost use Rattle.tabled_options.specs.Does.{Each, OptionKeeps};
+ghost use Rattle.tabled_options.specs.Does.{Each};
+ghost use Rattle.tabled_options.specs.Shapes.{FitsAfter};
 ghost use Rattle.tabled_spans.specs.Runs.{MergesRuns};
 ghost use Rattle.tabled_steps.specs.Fitting.{KeepsFitting};
 ghost use Rattle.tabled_steps.specs.MergedRuns.{runs};
-ghost use Rattle.tabled_steps.specs.States.{State, after, after_all, state_of};
-ghost use Rattle.tabled_settings.specs.declared.reverse.Reverse.{Reverse};
-ghost use Rattle.tabled_settings.specs.declared.rotate.Rotate.{Rotate};
-ghost use Rattle.tabled_settings.specs.declared.split.Split.{Split};
-ghost use Rattle.tabled_spans.specs.declared.merge.MergeDuplicatesHorizontal.{MergeDuplicatesHorizontal};
-ghost use Rattle.tabled_spans.specs.declared.merge.MergeDuplicatesVertical.{MergeDuplicatesVertical};
+ghost use Rattle.tabled_steps.specs.States.{Becomes, State, after, after_all, state_of};
 ghost use Rattle.tabled_steps.specs.Selected.{half_open};
-ghost use Rattle.tabled_steps.specs.Steps.{ActsAs, ActsOnEach, ColumnsNamed, Does, IndexesAlong, ListAlike, Names};
+ghost use Rattle.tabled_steps.specs.Steps.{ActAs, ActsAs, ActsOnEach, ColumnsNamed, Does, IndexesAlong, ListAlike, Makes, Names};
 ghost use Rattle.tabled_steps.specs.declared.select.Select.{Select};
 ghost use Rattle.tabled_steps.specs.declared.step.Step.{Step};
 ghost use Rattle.tabled_steps.specs.declared.step.Step.TheVariants as step;
@@ -28,7 +24,7 @@ use tabled_grid::config::{SpannedConfig, ToBounds};
 use tabled_grid::records::{
     CellText, ExactRecords, GridStore, PeekableRecords, Records, RecordsMut, Resizable,
 };
-use tabled_options::{CellOption, MergedCellsFit, Property, Settings, TableOption};
+use tabled_options::{CellOption, Settings, TableOption};
 use tabled_select::location::Location;
 use tabled_select::object::Object;
 use tabled_settings::concat::Concat;
@@ -48,8 +44,8 @@ use tabled_spans::span::{ColumnSpan, RowSpan};
 pub fn steps_do_what_their_formulas_say<R: GridStore>()
 where
     R::Cell: CellText,
-    ensures one { (step : Step) (g : Grid R.Cell) (c : SpanMap) (h : Grid R.Cell) (d : SpanMap) → Does R.Cell.is_blank R.Cell.text_of step g c h d → state_of R.Cell.text_of h d ≡ after step (state_of R.Cell.text_of g c) }
-    ensures all { (steps : List Step) (g : Grid R.Cell) (c : SpanMap) (h : Grid R.Cell) (d : SpanMap) → Each (Does R.Cell.is_blank R.Cell.text_of) steps g c h d → state_of R.Cell.text_of h d ≡ after_all steps (state_of R.Cell.text_of g c) }
+    ensures one { (step : Step) → Makes (Does R.Cell.is_blank R.Cell.text_of step) (Becomes R.Cell.text_of (after step)) }
+    ensures all { (steps : List Step) → Makes (Each (Does R.Cell.is_blank R.Cell.text_of) steps) (Becomes R.Cell.text_of (after_all steps)) }
 {}
 
 /// The formulas of steps keep a table even: as many texts in each row as there are columns.
@@ -61,7 +57,7 @@ pub fn formulas_keep_tables_even()
 /// The runs that the formula of a merge lists are the longest ones of two or more cells next to each other
 /// that are visible and no anchors, and have equal texts: in the map with their sizes exactly they are merged.
 pub fn listed_runs_are_the_longest_ones()
-    ensures { (axis : Axis) (g : Grid (List ℕ)) (m : SpanMap) → MergesRuns axis g m (with_sizes m (runs axis g m)) }
+    ensures merges { (axis : Axis) (g : Grid (List ℕ)) (m : SpanMap) → MergesRuns axis g m (with_sizes m (runs axis g m)) }
 {}
 
 /// Two stores, of whatever kind, with equal texts and merged cells have equal ones after the same steps.
@@ -69,7 +65,7 @@ pub fn stores_end_alike<A: GridStore, B: GridStore>()
 where
     A::Cell: CellText,
     B::Cell: CellText,
-    ensures { (steps : List Step) (g : Grid A.Cell) (c : SpanMap) (h : Grid A.Cell) (d : SpanMap) (k : Grid B.Cell) (m : SpanMap) (l : Grid B.Cell) (n : SpanMap) → Each (Does A.Cell.is_blank A.Cell.text_of) steps g c h d → Each (Does B.Cell.is_blank B.Cell.text_of) steps k m l n → state_of A.Cell.text_of g c ≡ state_of B.Cell.text_of k m → state_of A.Cell.text_of h d ≡ state_of B.Cell.text_of l n }
+    ensures alike { (steps : List Step) (g : Grid A.Cell) (c : SpanMap) (h : Grid A.Cell) (d : SpanMap) (k : Grid B.Cell) (m : SpanMap) (l : Grid B.Cell) (n : SpanMap) → Each (Does A.Cell.is_blank A.Cell.text_of) steps g c h d → Each (Does B.Cell.is_blank B.Cell.text_of) steps k m l n → state_of A.Cell.text_of g c ≡ state_of B.Cell.text_of k m → state_of A.Cell.text_of h d ≡ state_of B.Cell.text_of l n }
 {}
 
 /// Steps but spans of size 0 or below keep merged cells inside the table and apart, also where they are
@@ -78,7 +74,7 @@ pub fn steps_keep_merged_cells_fitting<R, D>(_step: &Step)
 where
     R: Records + ExactRecords + PeekableRecords + RecordsMut<String> + Resizable,
     R::Cell: CellText,
-    ensures { KeepsFitting _step.now → OptionKeeps ⟦<MergedCellsFit as Property<R::Cell, SpannedConfig>>⟧.holds (⟦<Step as TableOption<R, SpannedConfig, D>>⟧.does _step.now) (⟦<Step as TableOption<R, SpannedConfig, D>>⟧.leaves _step.now) }
+    ensures table { let how = ⟦<Step as TableOption<R, SpannedConfig, D>>⟧ in KeepsFitting _step.now → FitsAfter (how.does _step.now) (how.leaves _step.now) }
 {}
 
 /// A step with a selector does, and refused leaves, what its option does and leaves on each entity that the
@@ -98,16 +94,16 @@ pub fn steps_do_what_options_do<R, D>()
 where
     R: Records + ExactRecords + PeekableRecords + RecordsMut<String> + Resizable,
     R::Cell: CellText,
-    ensures horizontal_panel { (panel : ℕ × List ℕ) → ActsAs R.Cell.is_blank R.Cell.text_of (step.HorizontalPanel panel) (⟦<HorizontalPanel as TableOption<R, SpannedConfig, D>>⟧.does panel) (⟦<HorizontalPanel as TableOption<R, SpannedConfig, D>>⟧.leaves panel) }
-    ensures vertical_panel { (panel : ℕ × List ℕ) → ActsAs R.Cell.is_blank R.Cell.text_of (step.VerticalPanel panel) (⟦<VerticalPanel as TableOption<R, SpannedConfig, D>>⟧.does panel) (⟦<VerticalPanel as TableOption<R, SpannedConfig, D>>⟧.leaves panel) }
-    ensures header { (text : List ℕ) → ActsAs R.Cell.is_blank R.Cell.text_of (step.Header text) (⟦<Header as TableOption<R, SpannedConfig, D>>⟧.does text) (⟦<Header as TableOption<R, SpannedConfig, D>>⟧.leaves text) }
-    ensures footer { (text : List ℕ) → ActsAs R.Cell.is_blank R.Cell.text_of (step.Footer text) (⟦<Footer as TableOption<R, SpannedConfig, D>>⟧.does text) (⟦<Footer as TableOption<R, SpannedConfig, D>>⟧.leaves text) }
-    ensures merge_vertical { (merge : MergeDuplicatesVertical) → ActsAs R.Cell.is_blank R.Cell.text_of (step.MergeVertical merge) (⟦<MergeDuplicatesVertical as TableOption<R, SpannedConfig, D>>⟧.does merge) (⟦<MergeDuplicatesVertical as TableOption<R, SpannedConfig, D>>⟧.leaves merge) }
-    ensures merge_horizontal { (merge : MergeDuplicatesHorizontal) → ActsAs R.Cell.is_blank R.Cell.text_of (step.MergeHorizontal merge) (⟦<MergeDuplicatesHorizontal as TableOption<R, SpannedConfig, D>>⟧.does merge) (⟦<MergeDuplicatesHorizontal as TableOption<R, SpannedConfig, D>>⟧.leaves merge) }
-    ensures rotate { (rotate : Rotate) → ActsAs R.Cell.is_blank R.Cell.text_of (step.Rotate rotate) (⟦<Rotate as TableOption<R, SpannedConfig, D>>⟧.does rotate) (⟦<Rotate as TableOption<R, SpannedConfig, D>>⟧.leaves rotate) }
-    ensures reverse { (reverse : Reverse) → ActsAs R.Cell.is_blank R.Cell.text_of (step.Reverse reverse) (⟦<Reverse as TableOption<R, SpannedConfig, D>>⟧.does reverse) (⟦<Reverse as TableOption<R, SpannedConfig, D>>⟧.leaves reverse) }
-    ensures split { (split : Split) → ActsAs R.Cell.is_blank R.Cell.text_of (step.Split split) (⟦<Split as TableOption<R, SpannedConfig, D>>⟧.does split) (⟦<Split as TableOption<R, SpannedConfig, D>>⟧.leaves split) }
-    ensures concat { (concat : Axis × Grid (List ℕ) × List ℕ) → ActsAs R.Cell.is_blank R.Cell.text_of (step.Concat concat) (⟦<Concat as TableOption<R, SpannedConfig, D>>⟧.does concat) (⟦<Concat as TableOption<R, SpannedConfig, D>>⟧.leaves concat) }
+    ensures horizontal_panel { let how = ⟦<HorizontalPanel as TableOption<R, SpannedConfig, D>>⟧ in ActAs R.Cell.is_blank R.Cell.text_of step.HorizontalPanel how.does how.leaves }
+    ensures vertical_panel { let how = ⟦<VerticalPanel as TableOption<R, SpannedConfig, D>>⟧ in ActAs R.Cell.is_blank R.Cell.text_of step.VerticalPanel how.does how.leaves }
+    ensures header { let how = ⟦<Header as TableOption<R, SpannedConfig, D>>⟧ in ActAs R.Cell.is_blank R.Cell.text_of step.Header how.does how.leaves }
+    ensures footer { let how = ⟦<Footer as TableOption<R, SpannedConfig, D>>⟧ in ActAs R.Cell.is_blank R.Cell.text_of step.Footer how.does how.leaves }
+    ensures merge_vertical { let how = ⟦<MergeDuplicatesVertical as TableOption<R, SpannedConfig, D>>⟧ in ActAs R.Cell.is_blank R.Cell.text_of step.MergeVertical how.does how.leaves }
+    ensures merge_horizontal { let how = ⟦<MergeDuplicatesHorizontal as TableOption<R, SpannedConfig, D>>⟧ in ActAs R.Cell.is_blank R.Cell.text_of step.MergeHorizontal how.does how.leaves }
+    ensures rotate { let how = ⟦<Rotate as TableOption<R, SpannedConfig, D>>⟧ in ActAs R.Cell.is_blank R.Cell.text_of step.Rotate how.does how.leaves }
+    ensures reverse { let how = ⟦<Reverse as TableOption<R, SpannedConfig, D>>⟧ in ActAs R.Cell.is_blank R.Cell.text_of step.Reverse how.does how.leaves }
+    ensures split { let how = ⟦<Split as TableOption<R, SpannedConfig, D>>⟧ in ActAs R.Cell.is_blank R.Cell.text_of step.Split how.does how.leaves }
+    ensures concat { let how = ⟦<Concat as TableOption<R, SpannedConfig, D>>⟧ in ActAs R.Cell.is_blank R.Cell.text_of step.Concat how.does how.leaves }
 {}
 
 /// Two steps in one do, and refused leave, what two options do and leave one after the other, where each of
@@ -118,7 +114,7 @@ where
     R::Cell: CellText,
     A: TableOption<R, SpannedConfig, D>,
     B: TableOption<R, SpannedConfig, D> + Drop,
-    ensures { (p : _) (first : Step) (q : _) (second : Step) → ActsAs R.Cell.is_blank R.Cell.text_of first (A.does _first.now) (A.leaves _first.now) → ActsAs R.Cell.is_blank R.Cell.text_of second (B.does _second.now) (B.leaves _second.now) → ActsAs R.Cell.is_blank R.Cell.text_of (step.Both' p first q second) (⟦<Settings<A, B> as TableOption<R, SpannedConfig, D>>⟧.does (_first.now, _second.now)) (⟦<Settings<A, B> as TableOption<R, SpannedConfig, D>>⟧.leaves (_first.now, _second.now)) }
+    ensures acts { (p : _) (first : Step) (q : _) (second : Step) → ActsAs R.Cell.is_blank R.Cell.text_of first (A.does _first.now) (A.leaves _first.now) → ActsAs R.Cell.is_blank R.Cell.text_of second (B.does _second.now) (B.leaves _second.now) → ActsAs R.Cell.is_blank R.Cell.text_of (step.Both' p first q second) (⟦<Settings<A, B> as TableOption<R, SpannedConfig, D>>⟧.does (_first.now, _second.now)) (⟦<Settings<A, B> as TableOption<R, SpannedConfig, D>>⟧.leaves (_first.now, _second.now)) }
 {}
 
 /// A step that writes texts of cells to others does, and refused leaves, what `Dup` does and leaves with any
@@ -129,7 +125,7 @@ where
     R::Cell: CellText,
     Dst: Object<R> + Drop,
     Src: Object<R> + Drop,
-    ensures { (destination source : Select) → ListAlike (Dst.lists _dup.now.0) (Names R.Cell.text_of destination) → ListAlike (Src.lists _dup.now.1) (Names R.Cell.text_of source) → ActsAs R.Cell.is_blank R.Cell.text_of (step.Dup destination source) (⟦<Dup<Dst, Src> as TableOption<R, SpannedConfig, D>>⟧.does _dup.now) (⟦<Dup<Dst, Src> as TableOption<R, SpannedConfig, D>>⟧.leaves _dup.now) }
+    ensures acts { (destination source : Select) → ListAlike (Dst.lists _dup.now.0) (Names R.Cell.text_of destination) → ListAlike (Src.lists _dup.now.1) (Names R.Cell.text_of source) → ActsAs R.Cell.is_blank R.Cell.text_of (step.Dup destination source) (⟦<Dup<Dst, Src> as TableOption<R, SpannedConfig, D>>⟧.does _dup.now) (⟦<Dup<Dst, Src> as TableOption<R, SpannedConfig, D>>⟧.leaves _dup.now) }
 {}
 
 /// A step that keeps a range of rows and one of columns does, and refused leaves, what `Extract` does and
@@ -140,7 +136,7 @@ where
     B: ToBounds + Drop,
     R: Records + ExactRecords + Resizable,
     R::Cell: CellText,
-    ensures { (a b m n : ℕ) → A.bounds_of _extract.now.0 ≡ half_open a b → B.bounds_of _extract.now.1 ≡ half_open m n → ActsAs R.Cell.is_blank R.Cell.text_of (step.Extract a b m n) (⟦<Extract<A, B> as TableOption<R, SpannedConfig, D>>⟧.does _extract.now) (⟦<Extract<A, B> as TableOption<R, SpannedConfig, D>>⟧.leaves _extract.now) }
+    ensures acts { (a b m n : ℕ) → A.bounds_of _extract.now.0 ≡ half_open a b → B.bounds_of _extract.now.1 ≡ half_open m n → ActsAs R.Cell.is_blank R.Cell.text_of (step.Extract a b m n) (⟦<Extract<A, B> as TableOption<R, SpannedConfig, D>>⟧.does _extract.now) (⟦<Extract<A, B> as TableOption<R, SpannedConfig, D>>⟧.leaves _extract.now) }
 {}
 
 /// A step that takes away a range of rows or of columns, or the columns of a name, does, and refused leaves,

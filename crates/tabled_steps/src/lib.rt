@@ -1,10 +1,10 @@
 //! Selectors and steps as data, and lists of steps that run on any store.
 #![tactic(auto)]
 
+mod groups;
 pub mod laws;
-mod reached;
+mod representatives;
 mod select;
-mod standing;
 mod step;
 mod steps;
 

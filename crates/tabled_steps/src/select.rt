@@ -3,10 +3,10 @@
 ghost use Rattle.std.specs.Prelude.{◌≡◌, ◌∷◌, [], ℕ, List, IfOk};
 ghost use Rattle.std.specs.Option.{IfSome};
 ghost use Rattle.tabled_grid.specs.Grid.{Grid, map_grid};
-ghost use Rattle.tabled_steps.specs.Reached.{IsReached, StandsIn, runs_of};
+ghost use Rattle.tabled_steps.specs.Groups.{AreGroupedIn, AreRepresentatives};
 ghost use Rattle.tabled_steps.specs.Selected.{selected};
 
-use crate::reached::{Reached, reached_columns, reached_rows, reached_segment};
+use crate::groups::{Groups, group_columns, group_rows, group_segment};
 use std::alloc::{AllocError, Global};
 use std::vec;
 use tabled_grid::config::Entity;
@@ -64,45 +64,6 @@ pub enum Select {
 }
 
 impl Select {
-    /// The entities that are named in a store, in order, those without a cell in it counted.
-    ///
-    /// Its work grows with the cells of the store, and not with what is named outside.
-    pub(crate) fn reached<R>(&self, alloc: Global, records: &R) -> Result<Reached, AllocError>
-    where
-        R: Records + ExactRecords + PeekableRecords,
-        R::Cell: CellText,
-        requires { R.is_well_formed records.now }
-        ensures { IfOk result (λ reached. IsReached (R.grid records.now).rows (R.grid records.now).columns (selected (map_grid R.Cell.text_of (R.grid records.now)) self.now) (runs_of reached)) }
-    {
-        match self {
-            Select::Rows(a, b) => reached_rows(alloc, records, *a, *b),
-            Select::Columns(a, b) => reached_columns(alloc, records, *a, *b),
-            Select::Segment(a, b, c, d) => reached_segment(alloc, records, (*a, *b), (*c, *d)),
-            Select::And(x, y) => {
-                let lhs = EntityList(x.reached(alloc, records)?.into_entities(alloc)?);
-                let rhs = EntityList(y.reached(alloc, records)?.into_entities(alloc)?);
-                Ok(Reached::Each(entities(alloc, &lhs.and(rhs), records)?))
-            }
-            Select::Not(x, y) => {
-                let lhs = EntityList(x.reached(alloc, records)?.into_entities(alloc)?);
-                let rhs = EntityList(y.reached(alloc, records)?.into_entities(alloc)?);
-                Ok(Reached::Each(entities(alloc, &lhs.not(rhs), records)?))
-            }
-            Select::Intersect(x, y) => {
-                let lhs = EntityList(x.reached(alloc, records)?.into_entities(alloc)?);
-                let rhs = EntityList(y.reached(alloc, records)?.into_entities(alloc)?);
-                Ok(Reached::Each(entities(alloc, &lhs.intersect(rhs), records)?))
-            }
-            Select::Inverse(x) => {
-                let named = EntityList(x.reached(alloc, records)?.into_entities(alloc)?);
-                Ok(Reached::Each(entities(alloc, &named.inverse(), records)?))
-            }
-            Select::Skip(n, x) => x.reached(alloc, records)?.skip(alloc, records, *n),
-            Select::StepBy(n, x) => x.reached(alloc, records)?.step_by(alloc, records, *n),
-            _ => Ok(Reached::Each(self.list(alloc, records)?)),
-        }
-    }
-
     /// The one entity that is named in any table, if it is known without one.
     pub(crate) fn single(&self) -> Option<Entity>
         ensures { IfSome result (λ entity. (texts : Grid (List ℕ)) → selected texts self.now ≡ entity ∷ []) }
@@ -117,37 +78,46 @@ impl Select {
     }
 
     /// The entities that stand for those that are named in a store.
-    pub(crate) fn standing<R>(&self, alloc: Global, records: &R) -> Result<Vec<Entity>, AllocError>
+    #[cycle(listing)]
+    pub(crate) fn representatives<R>(
+        &self,
+        alloc: Global,
+        records: &R,
+    ) -> Result<Vec<Entity>, AllocError>
     where
         R: Records + ExactRecords + PeekableRecords,
         R::Cell: CellText,
         requires { R.is_well_formed records.now }
-        ensures { IfOk result (λ standing. StandsIn R.Cell.text_of self.now (R.grid records.now) standing.items) }
+        ensures { IfOk result (λ all. AreRepresentatives R.Cell.text_of self.now (R.grid records.now) all.items) }
+    {
+        self.groups(alloc, records)?.into_representatives(alloc)
+    }
+
+    /// Groups of the entities that are named in a store, in order.
+    ///
+    /// Its work grows with the cells of the store, and not with what is named outside.
+    #[cycle(listing)]
+    fn groups<R>(&self, alloc: Global, records: &R) -> Result<Groups, AllocError>
+    where
+        R: Records + ExactRecords + PeekableRecords,
+        R::Cell: CellText,
+        requires { R.is_well_formed records.now }
+        ensures { IfOk result (AreGroupedIn (R.grid records.now) (selected (map_grid R.Cell.text_of (R.grid records.now)) self.now)) }
     {
         match self {
-            Select::Rows(_, _)
-            | Select::Columns(_, _)
-            | Select::Segment(_, _, _, _)
-            | Select::And(_, _)
-            | Select::Not(_, _)
-            | Select::Intersect(_, _)
-            | Select::Inverse(_)
-            | Select::Skip(_, _)
-            | Select::StepBy(_, _) => {
-                let standing = self.reached(alloc, records)?.into_entities(alloc)?;
-                Ok(standing)
-            }
-            // Each entity stands for itself.
-            _ => {
-                let named = self.list(alloc, records)?;
-                Ok(named)
-            }
+            Select::Rows(a, b) => group_rows(alloc, records, *a, *b),
+            Select::Columns(a, b) => group_columns(alloc, records, *a, *b),
+            Select::Segment(a, b, c, d) => group_segment(alloc, records, (*a, *b), (*c, *d)),
+            Select::Skip(n, x) => x.groups(alloc, records)?.skip(alloc, records, *n),
+            Select::StepBy(n, x) => x.groups(alloc, records)?.step_by(alloc, records, *n),
+            _ => Ok(Groups::Each(self.list(alloc, records)?)),
         }
     }
 
     /// The entities that are named in a store, in order.
     ///
-    /// A combination lists its parts first, so its work grows with the cells and entities of both.
+    /// Cells are combined inside the store alone, so those that stand for the entities of the parts do.
+    #[cycle(listing)]
     fn list<R>(&self, alloc: Global, records: &R) -> Result<Vec<Entity>, AllocError>
     where
         R: Records + ExactRecords + PeekableRecords,
@@ -175,23 +145,23 @@ impl Select {
             Select::Content(text) => { entities(alloc, &ByContent::new(text.clone()?), records) }
             Select::Name(text) => entities(alloc, &ByColumnName::new(text.clone()?), records),
             Select::And(x, y) => {
-                let lhs = EntityList(x.list(alloc, records)?);
-                let rhs = EntityList(y.list(alloc, records)?);
+                let lhs = EntityList(x.representatives(alloc, records)?);
+                let rhs = EntityList(y.representatives(alloc, records)?);
                 entities(alloc, &lhs.and(rhs), records)
             }
             Select::Not(x, y) => {
-                let lhs = EntityList(x.list(alloc, records)?);
-                let rhs = EntityList(y.list(alloc, records)?);
+                let lhs = EntityList(x.representatives(alloc, records)?);
+                let rhs = EntityList(y.representatives(alloc, records)?);
                 entities(alloc, &lhs.not(rhs), records)
             }
             Select::Intersect(x, y) => {
-                let lhs = EntityList(x.list(alloc, records)?);
-                let rhs = EntityList(y.list(alloc, records)?);
+                let lhs = EntityList(x.representatives(alloc, records)?);
+                let rhs = EntityList(y.representatives(alloc, records)?);
                 entities(alloc, &lhs.intersect(rhs), records)
             }
             Select::Inverse(x) => {
-                let listed = EntityList(x.list(alloc, records)?);
-                entities(alloc, &listed.inverse(), records)
+                let named = EntityList(x.representatives(alloc, records)?);
+                entities(alloc, &named.inverse(), records)
             }
             Select::Skip(n, x) => {
                 let listed = EntityList(x.list(alloc, records)?);

@@ -4,8 +4,8 @@ ghost use Rattle.std.specs.Prelude.{◌≡◌, IsOk, OnErr, OnOk};
 ghost use Rattle.tabled_steps.specs.Steps.{Does, Leaves, TakesNoMemory};
 ghost use Rattle.std.proofs.Common.{rules};
 
+use crate::representatives::Representatives;
 use crate::select::Select;
-use crate::standing::StandIns;
 use std::alloc::{AllocError, Global};
 use tabled_grid::config::{Entity, SpannedConfig};
 use tabled_grid::records::{
@@ -87,23 +87,25 @@ impl Step {
     {
         match self {
             Step::Set(select, text) => {
-                Modify::list(StandIns(select), text).change(alloc, records, cfg, dimension)
+                Modify::list(Representatives(select), text).change(alloc, records, cfg, dimension)
             }
             Step::Dup(destination, source) => {
-                Dup::new(StandIns(destination), StandIns(source)).change(
+                Dup::new(Representatives(destination), Representatives(source)).change(
                     alloc, records, cfg, dimension,
                 )
             }
             Step::Charset(charset, select) => {
-                Modify::list(StandIns(select), charset).change(alloc, records, cfg, dimension)
+                Modify::list(Representatives(select), charset).change(
+                    alloc, records, cfg, dimension,
+                )
             }
             Step::ColumnSpan(size, select) => {
-                Modify::list(StandIns(select), Span::column(size)).change(
+                Modify::list(Representatives(select), Span::column(size)).change(
                     alloc, records, cfg, dimension,
                 )
             }
             Step::RowSpan(size, select) => {
-                Modify::list(StandIns(select), Span::row(size)).change(
+                Modify::list(Representatives(select), Span::row(size)).change(
                     alloc, records, cfg, dimension,
                 )
             }

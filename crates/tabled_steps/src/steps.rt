@@ -1,15 +1,12 @@
 //! Lists of steps.
 
-ghost use Rattle.std.specs.Prelude.{◌≡◌, ◌<◌, ◌∷◌, ◌++◌, IfErr, List, OnOk, length, take};
+ghost use Rattle.std.specs.Prelude.{◌<◌, IfErr, OnOk, length};
 ghost use Rattle.std.specs.List.{AllByRecursion};
-ghost use Rattle.tabled_grid.specs.Fitting.{Fits};
-ghost use Rattle.tabled_options.specs.Does.{Each, EachUntilAt};
-ghost use Rattle.tabled_settings.specs.declared.split.Split.{Split};
+ghost use Rattle.tabled_carry.specs.PutIn.{FitsGrid};
+ghost use Rattle.tabled_options.specs.Does.{Each};
 ghost use Rattle.tabled_steps.specs.Fitting.{KeepsFitting};
-ghost use Rattle.tabled_steps.specs.States.{IsUndoneMidway, after_all, flattened, state_of};
-ghost use Rattle.tabled_steps.specs.Steps.{Does, Refused};
-ghost use Rattle.tabled_steps.specs.declared.step.Step.{Step};
-ghost use Rattle.tabled_steps.specs.declared.step.Step.TheVariants as step;
+ghost use Rattle.tabled_steps.specs.States.{Becomes, SplitsAreUndone, SplitsAreUndoneBefore, after_all, state_of};
+ghost use Rattle.tabled_steps.specs.Steps.{Does, RefusedAt};
 
 use crate::step::Step;
 use std::alloc::{AllocError, Global};
@@ -43,13 +40,13 @@ where
     R::Cell: CellText,
     requires well { R.is_well_formed records.old }
     ensures well { R.is_well_formed records.new }
-    ensures state { OnOk result (state_of R.Cell.text_of (R.grid records.new) cfg.new ≡ after_all steps.items (state_of R.Cell.text_of (R.grid records.old) cfg.old)) }
+    ensures state { OnOk result (Becomes R.Cell.text_of (after_all steps.items) (R.grid records.old) cfg.old (R.grid records.new) cfg.new) }
     ensures ok { OnOk result (Each (Does R.Cell.is_blank R.Cell.text_of) steps.items (R.grid records.old) cfg.old (R.grid records.new) cfg.new) }
-    ensures index { IfErr result (λ refused. refused.0 < length steps.items) }
-    ensures err { IfErr result (λ refused. EachUntilAt (Does R.Cell.is_blank R.Cell.text_of) (Refused R.Cell.is_blank R.Cell.text_of) steps.items refused.0 (R.grid records.old) cfg.old (R.grid records.new) cfg.new) }
-    ensures fitting { AllByRecursion KeepsFitting steps.items → Fits cfg.old ((R.grid records.old).rows) ((R.grid records.old).columns) → Fits cfg.new ((R.grid records.new).rows) ((R.grid records.new).columns) }
-    ensures glued { OnOk result ((first rest : List Step) (split : Split) → flattened steps.items ≡ first ++ step.Split split ∷ rest → IsUndoneMidway split (after_all first (state_of R.Cell.text_of (R.grid records.old) cfg.old)) rest (state_of R.Cell.text_of (R.grid records.new) cfg.new)) }
-    ensures glued_before { IfErr result (λ refused. (first rest : List Step) (split : Split) → flattened (take refused.0 steps.items) ≡ first ++ step.Split split ∷ rest → IsUndoneMidway split (after_all first (state_of R.Cell.text_of (R.grid records.old) cfg.old)) rest (after_all (take refused.0 steps.items) (state_of R.Cell.text_of (R.grid records.old) cfg.old))) }
+    ensures index { IfErr result (λ e. e.0 < length steps.items) }
+    ensures err { IfErr result (λ e. RefusedAt R.Cell.is_blank R.Cell.text_of steps.items e.0 (R.grid records.old) cfg.old (R.grid records.new) cfg.new) }
+    ensures fitting { AllByRecursion KeepsFitting steps.items → FitsGrid cfg.old (R.grid records.old) → FitsGrid cfg.new (R.grid records.new) }
+    ensures glued { OnOk result (SplitsAreUndone R.Cell.text_of steps.items (R.grid records.old) cfg.old (R.grid records.new) cfg.new) }
+    ensures glued_before { IfErr result (λ e. SplitsAreUndoneBefore e.0 steps.items (state_of R.Cell.text_of (R.grid records.old) cfg.old)) }
 {
     run_each(alloc, records, cfg, steps)
 }
@@ -67,8 +64,8 @@ where
     requires well { R.is_well_formed records.old }
     ensures well { R.is_well_formed records.new }
     ensures ok { OnOk result (Each (Does R.Cell.is_blank R.Cell.text_of) steps.items (R.grid records.old) cfg.old (R.grid records.new) cfg.new) }
-    ensures index { IfErr result (λ refused. refused.0 < length steps.items) }
-    ensures err { IfErr result (λ refused. EachUntilAt (Does R.Cell.is_blank R.Cell.text_of) (Refused R.Cell.is_blank R.Cell.text_of) steps.items refused.0 (R.grid records.old) cfg.old (R.grid records.new) cfg.new) }
+    ensures index { IfErr result (λ e. e.0 < length steps.items) }
+    ensures err { IfErr result (λ e. RefusedAt R.Cell.is_blank R.Cell.text_of steps.items e.0 (R.grid records.old) cfg.old (R.grid records.new) cfg.new) }
 {
     let mut index = 0;
     for step in steps {

@@ -28,8 +28,8 @@ use tabled_settings::laws::{
     extracts_keep_merged_cells_fitting, joins_keep_merged_cells_fitting,
     merged_cells_reversed_twice_are_as_they_were,
     merged_cells_turned_left_then_right_are_as_they_were, removals_keep_merged_cells_fitting,
-    reversals_keep_merged_cells_fitting, splits_keep_merged_cells_fitting,
-    turns_keep_merged_cells_fitting,
+    reversals_keep_merged_cells_fitting, rotations_keep_merged_cells_fitting,
+    splits_keep_merged_cells_fitting,
 };
 use tabled_settings::reverse::Reverse;
 use tabled_settings::rotate::Rotate;
@@ -51,7 +51,7 @@ where
     ensures fits { Fits cfg.new ((R.grid records.new).rows) ((R.grid records.new).columns) }
 {
     let turn = Rotate::Left;
-    turns_keep_merged_cells_fitting::<R, ()>(&turn);
+    rotations_keep_merged_cells_fitting::<R, ()>(&turn);
     changes(alloc, records, cfg, &mut (), turn)?;
     let reverse = Reverse::rows(1);
     reversals_keep_merged_cells_fitting::<R, ()>(reverse);

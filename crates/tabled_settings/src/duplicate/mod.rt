@@ -1,13 +1,12 @@
 //! Texts of some cells written to others.
 
-ghost use Rattle.std.specs.Prelude.{◌≡◌, ◌<◌, ◌≤◌, ◌++◌, List, ℕ, length, map, take, OnErr, OnOk, IfOk};
+ghost use Rattle.std.specs.Prelude.{◌≡◌, ◌<◌, ◌≤◌, ◌++◌, length, map, take, OnErr, OnOk, IfOk};
 ghost use Rattle.std.specs.List.{AllByRecursion};
 ghost use Rattle.std.specs.String.{string_bytes};
 ghost use Rattle.tabled_grid.specs.Entity.{inside};
 ghost use Rattle.tabled_grid.specs.Grid.{map_grid};
-ghost use Rattle.tabled_select.specs.Locators.{text_at};
-ghost use Rattle.tabled_settings.specs.Dups.{Duplicates, DuplicatesFirst, round_from, round_writes, source_texts};
-ghost use Rattle.tabled_options.specs.Writes.{FirstWrites, with_writes};
+ghost use Rattle.tabled_settings.specs.Dups.{Duplicates, DuplicatesFirst, source_texts, texts_at, texts_to, texts_to_each};
+ghost use Rattle.tabled_options.specs.Writes.{FirstWritten, Written};
 ghost use Rattle.std.proofs.Common.{rules};
 
 use std::alloc::{AllocError, Global};
@@ -130,7 +129,7 @@ where
     R::Cell: CellText,
     requires well { R.is_well_formed records.now }
     requires few { length texts.old.items ≤ many }
-    ensures texts { OnOk result (map string_bytes texts.new.items ≡ take many (map string_bytes texts.old.items ++ map (text_at (map_grid R.Cell.text_of (R.grid records.now))) (inside entity (R.grid records.now).rows (R.grid records.now).columns))) }
+    ensures texts { OnOk result (map string_bytes texts.new.items ≡ take many (map string_bytes texts.old.items ++ texts_at entity (map_grid R.Cell.text_of (R.grid records.now)))) }
     ensures few { OnOk result (length texts.new.items ≤ many) }
 {
     for pos in entity.iter(records.count_rows(), records.count_columns()) {
@@ -178,8 +177,8 @@ where
     ensures well { R.is_well_formed records.new }
     ensures rows { (R.grid records.new).rows ≡ (R.grid records.old).rows }
     ensures columns { (R.grid records.new).columns ≡ (R.grid records.old).columns }
-    ensures ok { OnOk result (map_grid R.Cell.text_of (R.grid records.new) ≡ with_writes (round_from 0 (map string_bytes texts.now) (inside entity (R.grid records.old).rows (R.grid records.old).columns)) (map_grid R.Cell.text_of (R.grid records.old))) }
-    ensures err { OnErr result (FirstWrites (round_from 0 (map string_bytes texts.now) (inside entity (R.grid records.old).rows (R.grid records.old).columns)) (map_grid R.Cell.text_of (R.grid records.old)) (map_grid R.Cell.text_of (R.grid records.new))) }
+    ensures ok { OnOk result (Written R.Cell.text_of (texts_to entity (map string_bytes texts.now)) (R.grid records.old) (R.grid records.new)) }
+    ensures err { OnErr result (FirstWritten R.Cell.text_of (texts_to entity (map string_bytes texts.now)) (R.grid records.old) (R.grid records.new)) }
 {
     let mut next = 0;
     for pos in entity.iter(records.count_rows(), records.count_columns()) {
@@ -205,8 +204,8 @@ where
     requires well { R.is_well_formed records.old }
     requires some { 0 < length texts.now }
     ensures well { R.is_well_formed records.new }
-    ensures ok { OnOk result (map_grid R.Cell.text_of (R.grid records.new) ≡ with_writes (round_writes (map string_bytes texts.now) (R.grid records.old).rows (R.grid records.old).columns entities.items) (map_grid R.Cell.text_of (R.grid records.old))) }
-    ensures err { OnErr result (FirstWrites (round_writes (map string_bytes texts.now) (R.grid records.old).rows (R.grid records.old).columns entities.items) (map_grid R.Cell.text_of (R.grid records.old)) (map_grid R.Cell.text_of (R.grid records.new))) }
+    ensures ok { OnOk result (Written R.Cell.text_of (texts_to_each entities.items (map string_bytes texts.now)) (R.grid records.old) (R.grid records.new)) }
+    ensures err { OnErr result (FirstWritten R.Cell.text_of (texts_to_each entities.items (map string_bytes texts.now)) (R.grid records.old) (R.grid records.new)) }
 {
     let mut rest = entities.into_iter();
     while let Some(entity) = rest.next() {

@@ -4,10 +4,9 @@ ghost use Rattle.std.specs.Prelude.{◌≡◌, ◌+◌, ◌*◌, ◌==◌, ◌++
 ghost use Rattle.std.specs.List.{count_by, flat_map, list_all};
 ghost use Rattle.std.specs.String.{string_bytes};
 ghost use Rattle.tabled_grid.specs.Entity.{inside};
-ghost use Rattle.tabled_grid.specs.Grid.{map_grid};
 ghost use Rattle.tabled_grid.specs.declared.config.entity.Entity.TheVariants.{Global};
-ghost use Rattle.tabled_settings.specs.Charsets.{charset_writes, is_set, recoded, replaced, stays};
-ghost use Rattle.tabled_options.specs.Writes.{DoesFirstWrites, DoesWrites, FirstWrites, with_writes};
+ghost use Rattle.tabled_settings.specs.Charsets.{byte_stays, charset_writes, is_set, recoded, replaced};
+ghost use Rattle.tabled_options.specs.Writes.{DoesFirstWrites, DoesWrites, FirstWritten, Written};
 ghost use Rattle.std.proofs.Common.{rules};
 
 use crate::rewrite::{Answers, rewrite};
@@ -42,7 +41,7 @@ impl Model for Charset {
 impl Charset {
     ghost use Rattle.std.specs.Prelude.{◌≡◌, IfOk, None, Some, false, true};
     ghost use Rattle.std.specs.String.{string_bytes};
-    ghost use Rattle.tabled_settings.specs.Charsets.{cleaned, is_set};
+    ghost use Rattle.tabled_settings.specs.Charsets.{clean_text, is_set};
 
     /// Nothing set.
     ///
@@ -94,7 +93,7 @@ impl Charset {
     ///
     /// Ported from `tabled::settings::formatting::Charset::charset_clean`.
     pub fn charset_clean(alloc: Global, s: &str) -> Result<String, AllocError>
-        ensures { IfOk result (λ new. string_bytes new ≡ cleaned 4 s.now) }
+        ensures { IfOk result (λ new. string_bytes new ≡ clean_text 4 s.now) }
     {
         replaced(alloc, s, true, 4)
     }
@@ -173,8 +172,8 @@ where
     R::Cell: CellText,
     requires well { R.is_well_formed records.old }
     ensures well { R.is_well_formed records.new }
-    ensures ok { OnOk result (map_grid R.Cell.text_of (R.grid records.new) ≡ with_writes (charset_writes charset entity (map_grid R.Cell.text_of (R.grid records.old))) (map_grid R.Cell.text_of (R.grid records.old))) }
-    ensures err { OnErr result (FirstWrites (charset_writes charset entity (map_grid R.Cell.text_of (R.grid records.old))) (map_grid R.Cell.text_of (R.grid records.old)) (map_grid R.Cell.text_of (R.grid records.new))) }
+    ensures ok { OnOk result (Written R.Cell.text_of (charset_writes charset entity) (R.grid records.old) (R.grid records.new)) }
+    ensures err { OnErr result (FirstWritten R.Cell.text_of (charset_writes charset entity) (R.grid records.old) (R.grid records.new)) }
     ensures promised { (is_set charset ≡ false) ⊎ (inside entity (R.grid records.old).rows (R.grid records.old).columns ≡ []) → IsOk result }
 {
     if !charset.is_set() {
@@ -203,7 +202,7 @@ impl Answers for Charset {
 
 /// Says whether a text has no tab and, if it is to be cleaned, no other control character but the newline.
 fn is_plain(text: &[u8], cleans: bool) -> bool
-    ensures { result ≡ list_all (λ b. not (b == 9) && stays cleans b) text.now }
+    ensures { result ≡ list_all (λ b. not (b == 9) && byte_stays cleans b) text.now }
 {
     text.iter().all(|byte| *byte != b'\t' && (!cleans || *byte == b'\n' || *byte >= b' '))
 }
@@ -243,7 +242,7 @@ fn count_tabs(bytes: &[u8]) -> usize
 
 /// Whether a character that is no tab stays.
 fn stays(cleans: bool, c: char) -> bool
-    ensures { result ≡ stays cleans c }
+    ensures { result ≡ byte_stays cleans c }
 {
     !cleans || c == '\n' || c >= ' '
 }

@@ -13,20 +13,18 @@ returns-then-is_empty-clause-ok g c =
     let m = c.in_ok-gone.ensures.marks in
     let told = rw c.count.ensures.count at m.2 in
     let grid = g.R.GridStore.grid c.args.records.now in
-    let none = none-listed c.args.cfg.now c.anchors.result.now c.anchors.ensures.anchors c.if-is_empty.ensures in (
-      m.0,
-      m.1,
-      removed_done _ _ _ _ _ told.tells (rw c.deref.ensures.value at c.remove.ensures.dropped),
-      sym (carried-none (removed c.args.axis m.0 grid.rows grid.columns) grid.rows grid.columns c.args.cfg.now none),
-    )
+    let none = none-listed c.args.cfg.now c.anchors.result.now c.anchors.ensures.anchors c.if-is_empty.ensures in record {
+      found = m.0;
+      located = m.1;
+      rearranged = (removed_done _ _ _ _ _ told.tells (rw c.deref.ensures.value at c.remove.ensures.dropped), sym (carried-none (removed c.args.axis m.0 grid.rows grid.columns) grid.rows grid.columns c.args.cfg.now none));
+    }
 
 pub returns-clause-ok : goal.returns-clause-ok
 returns-clause-ok g c =
     let m = c.in_ok-gone.ensures.marks in
     let told = rw c.count.ensures.count at m.2 in
-    let moved = c.carry_along.ensures.carried ∙ ap (λ (places : Places). carried places c.count_rows-rows.result c.count_columns-columns.result c.args.cfg.now) c.in_ok-left.ensures in (
-      m.0,
-      m.1,
-      removed_done _ _ _ _ _ told.tells (rw c.deref-3.ensures.value at c.remove-2.ensures.dropped),
-      removed_carried _ _ _ _ told _ _ _ _ c.count_rows-rows.ensures.rows c.count_columns-columns.ensures.columns (rw c.deref-2.ensures.value at moved),
-    )
+    let moved = c.carry_along.ensures.carried ∙ ap (λ (places : Places). carried places c.count_rows-rows.result c.count_columns-columns.result c.args.cfg.now) c.in_ok-left.ensures in record {
+      found = m.0;
+      located = m.1;
+      rearranged = (removed_done _ _ _ _ _ told.tells (rw c.deref-3.ensures.value at c.remove-2.ensures.dropped), removed_carried _ _ _ _ told _ _ _ _ c.count_rows-rows.ensures.rows c.count_columns-columns.ensures.columns (rw c.deref-2.ensures.value at moved));
+    }

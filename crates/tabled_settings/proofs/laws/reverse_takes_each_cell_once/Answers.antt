@@ -2,4 +2,4 @@ use Rattle.tabled_settings.proofs.TakenOnce.{reversed_once}
 use Rattle.tabled_settings.proofs.laws.reverse_takes_each_cell_once.Goals as goal
 
 pub returns : goal.returns
-returns c = reversed_once c.args._reverse.axis c.args._reverse.start c.args._reverse.limit c.args._rows c.args._columns c.args._pos
+returns c = record { once = λ rows columns p. reversed_once c.args._reverse.axis c.args._reverse.start c.args._reverse.limit rows columns p }

@@ -2,4 +2,4 @@ use Rattle.tabled_settings.proofs.TakenOnce.{rotated_once}
 use Rattle.tabled_settings.proofs.laws.rotate_takes_each_cell_once.Goals as goal
 
 pub returns : goal.returns
-returns c = rotated_once c.args._rotate.now c.args._rows c.args._columns c.args._pos
+returns c = record { once = λ rows columns p. rotated_once c.args._rotate.now rows columns p }

@@ -4,5 +4,7 @@ use Rattle.tabled_steps.specs.States.{after_all}
 use Rattle.tabled_steps.proofs.laws.stores_end_alike.Goals as goal
 
 pub returns : goal.returns
-returns g_all c steps g0 m h d k n l o first second same =
-    after_each g_all.A.Cell.CellText.text_of g_all.A.Cell.Blank.is_blank steps g0 m h d first ∙ ap (after_all steps) same ∙ sym (after_each g_all.B.Cell.CellText.text_of g_all.B.Cell.Blank.is_blank steps k n l o second)
+returns g c = record {
+  alike = λ steps k m h d l n o p first second same.
+      after_each g.A.Cell.CellText.text_of g.A.Cell.Blank.is_blank steps k m h d first ∙ ap (after_all steps) same ∙ sym (after_each g.B.Cell.CellText.text_of g.B.Cell.Blank.is_blank steps l n o p second);
+}

@@ -3,7 +3,7 @@ use Rattle.std.specs.Iterator.{AlwaysYields}
 use Rattle.std.specs.List.{flat_map}
 use Rattle.std.specs.Str.Iter.{lines_steps}
 use Rattle.std.specs.Str.Lines.{lines}
-use Rattle.tabled_settings.specs.Contents.{Asked, AskedInTurn, joined}
+use Rattle.tabled_settings.specs.Contents.{Asked, AskedInTurn, joined_lines}
 use Rattle.tabled_settings.proofs.format.format_content.by_line.Given as goal
 
 abbrev pub invariant-loop-line : goal.invariant-loop-line
@@ -14,5 +14,5 @@ invariant-loop-line g l =
       next : (goal.iterator-loop-line g).can_next l.line-iterator;
       ends : (goal.iterator-loop-line g).is_finite l.line-iterator;
       rest : (left : List (List ℕ)) × AlwaysYields lines_steps (λ x. x.now) l.line-iterator left
-          × ((answers : List (List ℕ)) (last : _) → AskedInTurn asked l.f left answers last → (all : List (List ℕ)) × AskedInTurn asked l.fn.f (lines l.fn.text) all last × (joined all ≡ string_bytes l.joined ++ flat_map (λ more. 10 ∷ more) answers));
+          × ((answers : List (List ℕ)) (last : _) → AskedInTurn asked l.f left answers last → (all : List (List ℕ)) × AskedInTurn asked l.fn.f (lines l.fn.text) all last × (joined_lines all ≡ string_bytes l.joined ++ flat_map (λ more. 10 ∷ more) answers));
     }

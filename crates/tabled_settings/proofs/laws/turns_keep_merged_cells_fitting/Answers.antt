@@ -1,6 +1,0 @@
-use Rattle.tabled_settings.proofs.RearrangedFits.{rearranged_keeps}
-use Rattle.tabled_settings.specs.Rearranged.{rotated}
-use Rattle.tabled_settings.proofs.laws.turns_keep_merged_cells_fitting.Goals as goal
-
-pub returns : goal.returns
-returns g c = rearranged_keeps (λ old. rotated c.args._rotate.now old.rows old.columns)

@@ -1,0 +1,87 @@
+-- The places that entities name in a table, and those of what stands for them.
+use Rattle.std.proofs.Common.{◌≡◌, ℕ, zero, suc, inl, inr, List, [], ◌∷◌, ◌++◌, refl, sym, ap, ap₂, subst, ◌∙◌, map, replicate}
+use Rattle.std.proofs.lemmas.Grind.{flat_map-append}
+use Rattle.std.proofs.lemmas.List.{append-nil}
+use Rattle.std.specs.List.{AllByRecursion, flat_map}
+use Rattle.tabled_grid.specs.Entity.{inside}
+use Rattle.tabled_grid.specs.Grid.{Grid, map_grid}
+use Rattle.tabled_grid.specs.Spans.{SpanMap}
+use Rattle.tabled_grid.specs.declared.config.entity.Entity.{Entity}
+use Rattle.tabled_grid.specs.declared.config.position.Position.{Position}
+use Rattle.tabled_options.specs.Writes.{FirstWrites, with_writes}
+use Rattle.tabled_select.specs.Algebra.{cells_of, flat}
+use Rattle.tabled_select.specs.Locators.{text_at}
+use Rattle.tabled_settings.specs.Dups.{Duplicates, DuplicatesFirst, dup_writes, round_from, round_writes, rounds, source_texts}
+use Rattle.tabled_steps.specs.Groups.{AreGroups, IsGroup, AreRepresentatives, representatives_of, named_places, unrolled}
+use Rattle.tabled_steps.specs.Selected.{selected}
+use Rattle.tabled_steps.specs.Steps.{Names}
+use Rattle.tabled_steps.specs.declared.groups.Group.{Group}
+use Rattle.tabled_steps.specs.declared.select.Select.{Select}
+
+-- what is made of the places that each entity names, and is nothing where it names none
+module _ {X : Type 0} (make : List Position → List X) (nothing : make [] ≡ []) (rows columns : ℕ) where
+  abbrev made : List Entity → List X
+  made es = flat_map (λ (e : Entity). make (inside e rows columns)) es
+
+  made-places : (es : List Entity) → made es ≡ flat_map make (named_places rows columns es)
+  made-places [] = refl
+  made-places (e ∷ es) = ap (λ xs. make (inside e rows columns) ++ xs) (made-places es)
+
+  made-none : (n : ℕ) → flat_map make (replicate n []) ≡ []
+  made-none zero = refl
+  made-none (suc n) = ap₂ (λ xs ys. xs ++ ys) nothing (made-none n)
+
+  made-group : (group : Group) → IsGroup rows columns group → flat_map make (replicate group.count (inside group.entity rows columns)) ≡ make (inside group.entity rows columns)
+  made-group group (inl one) = ap (λ n. flat_map make (replicate n (inside group.entity rows columns))) one ∙ append-nil (make (inside group.entity rows columns))
+  made-group group (inr (some, none)) = ap (λ ps. flat_map make (replicate group.count ps)) none ∙ made-none group.count ∙ sym (ap make none ∙ nothing)
+
+  made-groups : (groups : List Group) → AllByRecursion (IsGroup rows columns) groups → flat_map make (unrolled rows columns groups) ≡ made (representatives_of groups)
+  made-groups [] each = refl
+  made-groups (group ∷ groups) each =
+      flat_map-append make (replicate group.count (inside group.entity rows columns)) (unrolled rows columns groups)
+      ∙ ap₂ (λ xs ys. xs ++ ys) (made-group group each.0) (made-groups groups each.1)
+
+  pub made-alike : (es : List Entity) (groups : List Group) → AreGroups rows columns es groups → flat_map (λ (e : Entity). make (inside e rows columns)) (representatives_of groups) ≡ flat_map (λ (e : Entity). make (inside e rows columns)) es
+  made-alike es groups grouped = sym (made-groups groups grouped.each) ∙ ap (flat_map make) (sym grouped.same) ∙ sym (made-places es)
+
+-- the places of all
+pub flat-alike : (rows columns : ℕ) (es : List Entity) (groups : List Group) (representatives : List Entity) → representatives ≡ representatives_of groups → AreGroups rows columns es groups → flat representatives rows columns ≡ flat es rows columns
+flat-alike rows columns es groups representatives are grouped = ap (λ fs. flat fs rows columns) are ∙ made-alike (λ ps. ps) refl rows columns es groups grouped
+
+-- what stands for the entities that a selector names has their places
+pub flat-represented : {A : Type 0} (text_of : A → List ℕ) (select : Select) (g : Grid A) (all : List Entity) → AreRepresentatives text_of select g all → flat all g.rows g.columns ≡ flat (selected (map_grid text_of g) select) g.rows g.columns
+flat-represented text_of select g all (groups, grouped, are) = flat-alike g.rows g.columns (selected (map_grid text_of g) select) groups all are grouped
+
+-- cells that are made of the places of what stands for two selections are made of those of what they name
+pub cells_alike : {A : Type 0} (text_of : A → List ℕ) (x y : Select) (g : Grid A) (make : List Position → List Position → List Position) (lhs rhs a b items : List Entity)
+    → AreRepresentatives text_of x g lhs → AreRepresentatives text_of y g rhs → a ≡ lhs → b ≡ rhs → items ≡ cells_of (make (flat a g.rows g.columns) (flat b g.rows g.columns))
+    → items ≡ cells_of (make (flat (selected (map_grid text_of g) x) g.rows g.columns) (flat (selected (map_grid text_of g) y) g.rows g.columns))
+cells_alike text_of x y g make lhs rhs a b items first second left right is =
+    is
+    ∙ ap₂ (λ (ps ts : List Position). cells_of (make ps ts))
+    (ap (λ es. flat es g.rows g.columns) left ∙ flat-represented text_of x g lhs first)
+    (ap (λ es. flat es g.rows g.columns) right ∙ flat-represented text_of y g rhs second)
+
+module _ {A : Type 0} (text_of : A → List ℕ) (destination source : Select) (g : Grid A) (c : SpanMap) (h : Grid A) (d : SpanMap) where
+  abbrev texts : Grid (List ℕ)
+  texts = map_grid text_of g
+
+  source-alike : (sources : List Entity) → AreRepresentatives text_of source g sources → source_texts texts sources ≡ source_texts texts (selected texts source)
+  source-alike sources (groups, grouped, are) = ap (map (text_at texts)) (flat-alike g.rows g.columns (selected texts source) groups sources are grouped)
+
+  round-alike : (found : List (List ℕ)) (targets : List Entity) → AreRepresentatives text_of destination g targets → rounds found g.rows g.columns targets ≡ rounds found g.rows g.columns (selected texts destination)
+  round-alike [] targets stand = refl
+  round-alike (text ∷ found) targets (groups, grouped, are) = ap (round_writes (text ∷ found) g.rows g.columns) are ∙ made-alike (round_from 0 (text ∷ found)) refl g.rows g.columns (selected texts destination) groups grouped
+
+  -- the writes are those of the named entities
+  writes-alike : (sources targets : List Entity) → AreRepresentatives text_of source g sources → rounds (source_texts texts sources) g.rows g.columns targets ≡ rounds (source_texts texts sources) g.rows g.columns (selected texts destination) → dup_writes sources targets texts ≡ dup_writes (selected texts source) (selected texts destination) texts
+  writes-alike sources targets stand aim = aim ∙ ap (λ found. rounds found g.rows g.columns (selected texts destination)) (source-alike sources stand)
+
+  pub duplicated_represented : Duplicates text_of (AreRepresentatives text_of destination) (AreRepresentatives text_of source) g c h d → Duplicates text_of (Names text_of destination) (Names text_of source) g c h d
+  duplicated_represented (sources, targets, stand, aimed, did) =
+      (selected texts source, selected texts destination, refl, refl, (did.0 ∙ ap (λ ws. with_writes ws texts) (writes-alike sources targets stand (round-alike (source_texts texts sources) targets aimed)), did.1))
+
+  pub duplicated_represented_refused : DuplicatesFirst text_of (AreRepresentatives text_of destination) (AreRepresentatives text_of source) g c h d → DuplicatesFirst text_of (Names text_of destination) (Names text_of source) g c h d
+  duplicated_represented_refused (inl none) = inl none
+  duplicated_represented_refused (inr (sources, targets, stand, aimed, first)) =
+      inr (selected texts source, selected texts destination, refl, refl, (subst (λ ws. FirstWrites ws texts (map_grid text_of h)) (writes-alike sources targets stand (round-alike (source_texts texts sources) targets aimed)) first.0, first.1))

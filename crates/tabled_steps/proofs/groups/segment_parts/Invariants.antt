@@ -1,0 +1,10 @@
+use Rattle.std.proofs.Common.{◌≡◌, ◌≤◌, max, ◌-◌}
+use Rattle.std.specs.List.{flat_map, range_with_len}
+use Rattle.tabled_steps.specs.Groups.{row_groups}
+use Rattle.tabled_steps.proofs.groups.segment_parts.Given as goal
+
+abbrev pub invariant-loop-i : goal.invariant-loop-i
+invariant-loop-i l = record {
+  bounded : l.i ≤ max l.fn.rows.0 l.fn.rows_within;
+  so_far : l.groups.items ≡ flat_map (row_groups l.fn.columns l.fn.within) (range_with_len l.fn.rows.0 (l.i - l.fn.rows.0));
+}

@@ -1,8 +1,0 @@
-use Rattle.std.proofs.Common.{◌∙◌, ap, drop}
-use Rattle.tabled_steps.proofs.RunSteps.{once-skipped}
-use Rattle.tabled_steps.proofs.reached.Reached.skip.Goals as goal
-
-pub returns-in_ok-entities-in-Each : goal.returns-in_ok-entities-in-Each
-returns-in_ok-entities-in-Each g c = λ rows columns entities reached.
-    let is = c.in_ok-entities-in-Each.ensures in
-    once-skipped rows columns entities c.in-Each.listed.items (rw c.in-Each.is at reached) c.args.n c.in_ok-entities-in-Each.field-0.items (is.2 ∙ ap (drop c.skip.result.1) is.1 ∙ ap (λ (s : _). drop s.1 s.0.0.items) c.skip.ensures)

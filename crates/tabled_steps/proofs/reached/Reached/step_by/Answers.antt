@@ -1,9 +1,0 @@
-use Rattle.std.proofs.Common.{◌∙◌, ap}
-use Rattle.tabled_select.specs.Steps.{every}
-use Rattle.tabled_steps.proofs.RunSteps.{once-stepped}
-use Rattle.tabled_steps.proofs.reached.Reached.step_by.Goals as goal
-
-pub returns-in_ok-entities-in-Each : goal.returns-in_ok-entities-in-Each
-returns-in_ok-entities-in-Each g c = λ rows columns entities reached.
-    let is = c.in_ok-entities-in-Each.ensures in
-    once-stepped rows columns entities c.in-Each.listed.items (rw c.in-Each.is at reached) c.args.n c.in_ok-entities-in-Each.field-0.items (is.2 ∙ ap (every c.step_by.result.1) is.1 ∙ ap (λ (s : _). every s.1 s.0.0.items) c.step_by.ensures)
