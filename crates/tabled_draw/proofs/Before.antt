@@ -7,7 +7,7 @@ use Rattle.std.proofs.lemmas.Bool.{and_parts, and_from, or_cases, or_left, or_ri
 use borrow.Author.Tests.{ltb-true, lt-ltb, eqb-true, eq-eqb}
 use Rattle.tabled_draw.proofs.Owned.{anchor-has}
 use Rattle.tabled_draw.specs.OwnerRows.{count_before, is_before}
-use Rattle.tabled_grid.proofs.Members.{Member, sorted-find}
+use Rattle.tabled_grid.proofs.Members.{Member}
 use Rattle.tabled_grid.proofs.PassedAnchors.{Earlier, earlier}
 use Rattle.tabled_grid.proofs.SpanMaps.{equal, found_above, halves, less, size_at-none, size_at-some}
 use Rattle.tabled_grid.proofs.Spans.{positions_exact, positions_total}

@@ -1,13 +1,10 @@
 -- Merged cells that fit a table lie well, and so do those that are kept of any.
-use Rattle.std.proofs.Common.{◌≡◌, ◌∙◌, ℕ, List, Some, sym, ap, ap₂, subst}
-use Rattle.std.specs.FinMap.{entries, entries-from_sorted, entries_sorted, from_sorted, get, get-entries}
-use Rattle.std.proofs.lemmas.Option.{same_Some}
+use Rattle.std.proofs.Common.{◌≡◌, ◌∙◌, ℕ, List, sym, ap, subst}
+use Rattle.std.specs.FinMap.{entries, entries-from_sorted, from_sorted}
 use Rattle.tabled_draw.proofs.Owned.{LieWell, fits-well}
 use Rattle.tabled_draw.specs.Overall.{HoldsOfPictures}
 use Rattle.tabled_draw.specs.Picture.{bytes_of, drawn}
 use Rattle.tabled_grid.proofs.Fitting.{anchors-fitting, anchors-of, fitting-fits, keep_fitting-all, keep_fitting-fits}
-use Rattle.tabled_grid.proofs.Members.{Member, sorted-find}
-use Rattle.tabled_grid.proofs.Spans.{positions_exact, positions_total}
 use Rattle.tabled_grid.specs.Fitting.{Fits, fitting, keep_fitting}
 use Rattle.tabled_grid.specs.Grid.{Grid}
 use Rattle.tabled_grid.specs.Spans.{AreAnchors, AreSpanSizes, Rectangle, SpanMap, position_cmp}

@@ -1,15 +1,15 @@
 -- Columns are as wide, and rows as high, as what they show asks.
-use Rattle.std.proofs.Common.{◌≡◌, ◌∙◌, ◌+◌, ◌-◌, ◌<◌, ◌≤◌, ◌⊎◌, ◌++◌, inl, inr, ℕ, suc, zero, List, [], ◌∷◌, refl, sym, ap, subst, arith, length, get_or, add-one, add-zero, add_assoc, eqb, length-append}
+use Rattle.std.proofs.Common.{◌≡◌, ◌∙◌, ◌+◌, ◌-◌, ◌<◌, ◌≤◌, ◌⊎◌, inl, inr, ℕ, suc, zero, List, [], ◌∷◌, refl, sym, ap, subst, arith, length, get_or, add-zero, add_assoc, eqb}
 use Rattle.std.specs.Prelude.{max}
 use Rattle.std.specs.List.{fold}
 use Rattle.std.proofs.lemmas.Bool.{and_from, cases_lt, cond-true}
-use Rattle.std.proofs.lemmas.List.{get_or-set_same, get_or_append_left, get_or_push}
+use Rattle.std.proofs.lemmas.List.{get_or-set_same}
 use Rattle.std.proofs.lemmas.List.Sums.{sum_by_more}
 use Rattle.std.proofs.Math.ListN.{length-set, set}
 use Rattle.tabled_draw.proofs.Each.{get-singles, length-singles}
 use Rattle.tabled_draw.proofs.Owned.{LieWell, LiesIn, Owned, owned}
 use Rattle.tabled_draw.proofs.Owned.Owned.{alone, held}
-use Rattle.tabled_draw.specs.Each.{each, largest}
+use Rattle.tabled_draw.specs.Each.{largest}
 use Rattle.tabled_draw.specs.Owners.{owner_in}
 use Rattle.tabled_draw.specs.Sizes.{asks, gap, grown_for, own, own_sizes, room, sizes, start, text_at}
 use Rattle.tabled_draw.specs.Texts.{columns_in}

@@ -1,8 +1,8 @@
 -- Sizes, as texts are asked one after another.
-use Rattle.std.proofs.Common.{◌≡◌, ◌≢◌, ◌∙◌, ◌+◌, ◌<◌, ◌≤◌, ◌⊎◌, inl, inr, ◌++◌, ℕ, suc, zero, cond, List, [], ◌∷◌, Option, Some, refl, sym, ap, ap₂, arith, length, get_or, replicate, length-append, add-one}
+use Rattle.std.proofs.Common.{◌≡◌, ◌≢◌, ◌∙◌, ◌+◌, ◌<◌, ◌≤◌, ◌⊎◌, inl, inr, ℕ, suc, zero, cond, List, [], ◌∷◌, Option, Some, refl, sym, ap, ap₂, arith, length, get_or, replicate}
 use Rattle.std.specs.Prelude.{max}
 use Rattle.std.proofs.lemmas.Bool.{cases_lt, cond-true, cond-false}
-use Rattle.std.proofs.lemmas.List.{ext_get_or, get_or_append_left, get_or_push, get_or-replicate, get_or-set_other, get_or-set_same, length-replicate}
+use Rattle.std.proofs.lemmas.List.{ext_get_or, get_or-replicate, get_or-set_other, get_or-set_same, length-replicate}
 use Rattle.std.proofs.Math.ListN.{length-set, set}
 use Rattle.tabled_draw.proofs.Before.{After, Before, after-next, before-from, before-next, before-none, before-row, cases_before, after-from, here-next}
 use Rattle.tabled_draw.proofs.Each.{get-singles, length-singles}

@@ -1,9 +1,9 @@
 -- Texts whose bytes are characters of one column each.
-use Rattle.std.proofs.Common.{◌≡◌, ◌∙◌, ◌+◌, ◌<◌, ◌≤◌, ◌⊎◌, ◌++◌, inl, inr, ℕ, suc, zero, true, false, List, [], ◌∷◌, Option, None, Some, refl, sym, ap, ap₂, arith, length, get_or, add-one, Bor}
-use Rattle.std.specs.Prelude.{◌==◌, ◌&&◌, encode_utf8_all, map, max, nat_le, nat_lt, not}
+use Rattle.std.proofs.Common.{◌≡◌, ◌∙◌, ◌+◌, ◌<◌, ◌≤◌, ◌⊎◌, ◌++◌, inl, inr, ℕ, suc, zero, false, List, [], ◌∷◌, Option, None, Some, refl, sym, ap, ap₂, arith, length, get_or, add-one, Bor}
+use Rattle.std.specs.Prelude.{◌==◌, ◌&&◌, encode_utf8_all, map, max, nat_le, not}
 use Rattle.std.specs.List.{All, after_first, before_first, fold, position_or_len, slice_split}
 use Rattle.std.specs.Option.{MatchOption, unwrap_or}
-use Rattle.std.proofs.lemmas.Bool.{cases_Bool, cases_lt, cond-true, cond-false}
+use Rattle.std.proofs.lemmas.Bool.{cases_lt, cond-true, cond-false}
 use Rattle.std.proofs.lemmas.List.Elements.{All-head, All-tail}
 use Rattle.std.proofs.lemmas.List.Splits.{slice_split_first, slice_split_none}
 use Rattle.std.proofs.lemmas.List.Sums.{fails_before_first, position_or_len_is, prefix_len-le-length, sum_by-cons}

@@ -1,8 +1,7 @@
 -- The lines of a row, and those of all rows.
-use Rattle.std.proofs.Common.{◌≡◌, ◌∙◌, ◌+◌, ◌-◌, ◌<◌, ◌≤◌, ◌⊎◌, ◌++◌, inl, inr, ℕ, suc, zero, Bool, true, false, cond, List, [], ◌∷◌, Option, Some, refl, sym, ap, ap₂, subst, arith, append-nil, get_or, length, add-zero}
+use Rattle.std.proofs.Common.{◌≡◌, ◌∙◌, ◌+◌, ◌-◌, ◌<◌, ◌≤◌, ◌⊎◌, ◌++◌, inl, inr, ℕ, Bool, true, false, cond, List, [], ◌∷◌, Option, Some, refl, sym, ap, ap₂, arith, append-nil, get_or, length, add-zero}
 use Rattle.std.specs.Prelude.{◌||◌, ◌&&◌, ◌==◌}
-use Rattle.std.specs.FinMap.{entries, get}
-use Rattle.std.specs.List.{fold}
+use Rattle.std.specs.FinMap.{entries}
 use Rattle.std.proofs.lemmas.Bool.{cases_Bool, cases_lt, cond-true, cond-false}
 use Rattle.std.proofs.lemmas.List.Concat.{flat_map-append}
 use borrow.Author.Tests.{eq-eqb, ne_eqb}
@@ -15,19 +14,17 @@ use Rattle.tabled_draw.specs.Each.{each}
 use Rattle.tabled_draw.specs.Lines.{AreLeft, EndInside, drawn_line, after_line, begins, begun, left_of}
 use Rattle.tabled_draw.specs.Laid.{AreEdges}
 use Rattle.tabled_draw.specs.OwnerRows.{IsOwnerRow}
-use Rattle.tabled_draw.specs.Owners.{is_one, owner, owner_in}
+use Rattle.tabled_draw.specs.Owners.{is_one, owner}
 use Rattle.tabled_draw.specs.Picture.{ended, line, lines_of_row, picture, top}
 use Rattle.tabled_draw.specs.Sizes.{heights, room, text_at}
 use Rattle.tabled_draw.specs.Texts.{lines_of}
 use Rattle.tabled_grid.proofs.SpanMaps.{same_place-self, same_place-true}
-use Rattle.tabled_grid.specs.Along.{count_along}
 use Rattle.tabled_grid.specs.Entity.{place, same_place}
 use Rattle.tabled_grid.specs.Grid.{Grid}
 use Rattle.tabled_grid.specs.Fitting.{Fits}
 use Rattle.tabled_grid.specs.Spans.{Rectangle, SpanMap}
 use Rattle.tabled_grid.specs.declared.config.position.Position.{Position}
-use Rattle.tabled_grid.specs.declared.records.axis.Axis.{Axis}
-use Rattle.tabled_grid.specs.declared.records.axis.Axis.TheVariants.{Rows, Columns}
+use Rattle.tabled_grid.specs.declared.records.axis.Axis.TheVariants.{Rows}
 
 -- the line above a row stands after those above all rows before it
 pub top-below : (g : Grid (List ℕ)) (es : List Rectangle) (r i : ℕ) → r < i → i ≤ g.rows → top g es r + 1 ≤ top g es i

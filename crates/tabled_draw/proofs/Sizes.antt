@@ -1,22 +1,19 @@
 -- Sizes that grow, one merged cell after another.
-use Rattle.std.proofs.Common.{◌≡◌, ◌∙◌, ◌+◌, ◌-◌, ◌<◌, ◌≤◌, ℕ, List, [], ◌∷◌, Option, Some, sym, ap, subst, length, get_or, take, take_all}
+use Rattle.std.proofs.Common.{◌≡◌, ◌∙◌, ◌+◌, ◌<◌, ◌≤◌, ℕ, List, [], ◌∷◌, Option, Some, sym, ap, subst, length, get_or, take, take_all}
 use Rattle.std.specs.FinMap.{entries}
 use Rattle.std.specs.List.{fold}
 use Rattle.std.specs.Option.{unwrap_or}
 use Rattle.std.proofs.lemmas.List.{take_more}
-use Rattle.std.proofs.lemmas.List.Sums.{fold-append, sum_by_more}
-use Rattle.std.proofs.Math.ListN.{length-set}
+use Rattle.std.proofs.lemmas.List.Sums.{fold-append}
 use Rattle.tabled_draw.proofs.Before.{member-at}
 use Rattle.tabled_draw.proofs.Owned.{LiesIn, fits-well}
-use Rattle.tabled_draw.specs.Sizes.{asks, gap, grown, grown_for, own_sizes, sizes, start, text_at}
-use Rattle.tabled_grid.specs.Along.{count_along}
+use Rattle.tabled_draw.specs.Sizes.{asks, grown, grown_for, own_sizes, sizes, text_at}
 use Rattle.tabled_grid.specs.Axis.{line_of, lines_in}
 use Rattle.tabled_grid.specs.Grid.{Grid, cell_at}
 use Rattle.tabled_grid.specs.Fitting.{Fits}
 use Rattle.tabled_grid.specs.Spans.{Rectangle, SpanMap}
 use Rattle.tabled_grid.specs.declared.config.position.Position.{Position}
 use Rattle.tabled_grid.specs.declared.records.axis.Axis.{Axis}
-use Rattle.tabled_grid.specs.declared.records.axis.Axis.TheVariants.{Rows, Columns}
 
 -- one step more
 pub fold-more : {A B : Type 0} (f : B → A → B) (a : B) (xs : List A) (k : ℕ) (d : A) → k < length xs → fold f a (take (k + 1) xs) ≡ f (fold f a (take k xs)) (get_or xs k d)

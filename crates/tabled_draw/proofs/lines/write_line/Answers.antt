@@ -1,4 +1,4 @@
-use Rattle.std.proofs.Common.{◌≡◌, ◌∙◌, ◌+◌, ◌<◌, [], ◌∷◌, None, ap, arith, get_or, length, lit<, refl, sym}
+use Rattle.std.proofs.Common.{◌≡◌, ◌∙◌, ◌+◌, ◌<◌, [], None, ap, arith, get_or, length, lit<, refl, sym}
 use Rattle.std.proofs.Math.ListN.{length-set}
 use Rattle.tabled_draw.proofs.Cells.{draws-byte}
 use Rattle.tabled_draw.proofs.Rests.{bytes_in, changed-more, changed-none, text-in}

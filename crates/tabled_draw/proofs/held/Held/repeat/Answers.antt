@@ -1,4 +1,4 @@
-use Rattle.std.proofs.Common.{◌≡◌, ◌∙◌, ◌+◌, ◌-◌, ◌++◌, ap₂, arith, length, replicate, subst}
+use Rattle.std.proofs.Common.{◌≡◌, ◌∙◌, ◌+◌, ◌-◌, ◌++◌, ap₂, arith, replicate, subst}
 use Rattle.std.proofs.lemmas.List.{replicate-append-replicate, take_all}
 use Rattle.tabled_draw.specs.Sent.{Sends}
 use Rattle.tabled_draw.proofs.Sent.{sends-held, sends-then}
