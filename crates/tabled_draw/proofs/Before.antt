@@ -5,8 +5,9 @@ use Rattle.std.specs.FinMap.{entries, entries_sorted, find, get, get-entries, is
 use Rattle.std.specs.Ordering.{is_eq}
 use Rattle.std.proofs.lemmas.Bool.{and_parts, and_from, or_cases, or_left, or_right, cases_Bool, cases_lt, cond-true, cond-false, false≢true}
 use borrow.Author.Tests.{ltb-true, lt-ltb, eqb-true, eq-eqb}
+use Rattle.tabled_draw.proofs.Owned.{anchor-has}
 use Rattle.tabled_draw.specs.OwnerRows.{count_before, is_before}
-use Rattle.tabled_grid.proofs.Members.{Member, sorted-find}
+use Rattle.tabled_grid.proofs.Members.{Member}
 use Rattle.tabled_grid.proofs.PassedAnchors.{Earlier, earlier}
 use Rattle.tabled_grid.proofs.SpanMaps.{equal, found_above, halves, less, size_at-none, size_at-some}
 use Rattle.tabled_grid.proofs.Spans.{positions_exact, positions_total}
@@ -197,7 +198,7 @@ module _ (m : SpanMap) (p : Position) (n : ℕ) (is : n ≡ count_before p.row p
   unfolding at
   size-here within here =
       let found : at.0 ≡ p = ap (λ (ys : List Rectangle). (get_or ys n d).0) (sym same) ∙ here in
-      let has : get m at.0 ≡ Some at.1 = get-entries m at.0 ∙ sorted-find position_cmp positions_total positions_exact (entries m) at.0 at.1 (entries_sorted m) (member-at (entries m) n d (subst (λ (ys : List Rectangle). n < length ys) same within)) in
+      let has : get m at.0 ≡ Some at.1 = anchor-has m at (member-at (entries m) n d (subst (λ (ys : List Rectangle). n < length ys) same within)) in
       ap (λ (ys : List Rectangle). (get_or ys n d).1) same ∙ sym (size_at-some m p at.1 (ap (get m) (sym found) ∙ has))
 
   pub count-here : n < length xs → (get_or xs n d).0 ≡ p → n + 1 ≡ count_before p.row (p.col + 1) (entries m)

@@ -13,14 +13,13 @@ encodes zero c low = refl
 encodes (suc n) c low = ap₂ (λ x y. x ++ y) (encode_ascii c low) (encodes n c low)
 
 pub draws-repeat : (a b : Option (List ℕ)) (h i : List ℕ) (n c : ℕ) → c < 128 → Sends a h b i (replicate n c) → Draws a h b i (replicate n c)
-draws-repeat a b h i n c low = draws-bytes a h b i (replicate n c) (replicate n c) (sym (encodes n c low))
+draws-repeat a b h i n c low = draws-bytes a b h i (replicate n c) (replicate n c) (sym (encodes n c low))
 
 pub draws-byte : (a b : Option (List ℕ)) (h i : List ℕ) (c : ℕ) → c < 128 → Sends a h b i (c ∷ []) → Draws a h b i (c ∷ [])
-draws-byte a b h i c low = draws-repeat a b h i 1 c low
+draws-byte a b h i = draws-repeat a b h i 1
 
-pub draws-cell : (a b c d e : Option (List ℕ)) (h i j k l : List ℕ) (text line : List ℕ) (space left : ℕ) → line ≡ first_line text → left ≡ space - columns_in line
+pub draws-cell : {a b c d e : Option (List ℕ)} {h i j k l : List ℕ} {line : List ℕ} {left : ℕ} (text : List ℕ) (space : ℕ) → line ≡ first_line text → left ≡ space - columns_in line
     → Draws a h b i (32 ∷ []) → Draws b i c j line → Draws c j d k (replicate left 32) → Draws d k e l (32 ∷ []) → Draws a h e l (cell text space)
-draws-cell a b c d e h i j k l text line space left is many first second third fourth =
-    let front : Draws a h c j ((32 ∷ []) ++ line) = draws-then a h b c i j (32 ∷ []) line first second in
-    let back : Draws c j e l (replicate left 32 ++ replicate 1 32) = draws-then c j d e k l (replicate left 32) (32 ∷ []) third fourth in
-    draws-as a h e l _ _ (ap₂ (λ x y. (32 ∷ x) ++ y) is (replicate-append-replicate left 1 32 ∙ ap (λ n. replicate (n + 1) 32) (many ∙ ap (λ x. space - columns_in x) is))) (draws-then a h c e j l _ _ front back)
+draws-cell {left = left} text space is many first second third fourth =
+    draws-as (ap₂ (λ x y. (32 ∷ x) ++ y) is (replicate-append-replicate left 1 32 ∙ ap (λ n. replicate (n + 1) 32) (many ∙ ap (λ x. space - columns_in x) is)))
+    (draws-then (draws-then first second) (draws-then third fourth))

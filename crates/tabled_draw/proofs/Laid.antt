@@ -1,8 +1,8 @@
 -- Tables that are laid out.
 use Rattle.std.proofs.Common.{◌≡◌, ◌∙◌, ◌+◌, ◌<◌, ℕ, List, ap, ap₂, arith, get_or, length, replicate}
 use Rattle.std.specs.FinMap.{entries, entries-from_sorted}
-use Rattle.tabled_draw.proofs.Measured.{length-each, measured-none}
-use Rattle.tabled_draw.proofs.Rows.{sizes-long}
+use Rattle.tabled_draw.proofs.LawSizes.{length-own, length-sizes}
+use Rattle.tabled_draw.proofs.Measured.{measured-none}
 use Rattle.tabled_draw.specs.Laid.{AreEdges}
 use Rattle.tabled_draw.specs.Measured.{Measured}
 use Rattle.tabled_draw.specs.Picture.{bytes_of, drawn}
@@ -32,9 +32,9 @@ module _ (axis : Axis) (g : Grid (List ℕ)) (es : List Rectangle) where
   none-asked n s same is = measured-none axis g es s (is ∙ ap (λ k. replicate k 0) same)
 
   pub own-long : (s : List ℕ) → s ≡ own_sizes axis g es → length s ≡ count_along axis g
-  own-long s is = ap length is ∙ length-each _ (count_along axis g)
+  own-long s is = ap length is ∙ length-own axis g es
 
 pub edges-of : (g : Grid (List ℕ)) (m : SpanMap) (ws edges : List ℕ) → ws ≡ widths g (entries m) → length edges ≡ length ws + 1 → ((k : ℕ) → k < length ws + 1 → get_or edges k 0 ≡ start Columns ws k) → AreEdges g m edges
 edges-of g m ws edges is long each-is =
-    let many : length ws ≡ g.columns = ap length is ∙ sizes-long Columns g (entries m) in
+    let many : length ws ≡ g.columns = ap length is ∙ length-sizes Columns g (entries m) in
     record { long = long ∙ ap (λ k. k + 1) many; each = λ k h. each-is k (omega (arith, h, many)) ∙ ap (λ s. start Columns s k) is }

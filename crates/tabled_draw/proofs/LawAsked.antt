@@ -6,9 +6,9 @@ use Rattle.std.proofs.lemmas.Bool.{cases_Bool, cond-true, cond-false, false≢tr
 use Rattle.std.proofs.lemmas.List.{get_or-set_other, get_or-set_same}
 use Rattle.std.proofs.lemmas.List.Sums.{sum_by-cons}
 use borrow.Author.Tests.{eq-eqb, eqb-true}
-use Rattle.tabled_draw.proofs.LawOwners.{LieWell}
+use Rattle.tabled_draw.proofs.Owned.{LieWell}
 use Rattle.tabled_draw.proofs.LawPicture.{length-picture}
-use Rattle.tabled_draw.proofs.LawSizes.{grown-larger, length-own, length-sizes, room-last, well-along}
+use Rattle.tabled_draw.proofs.LawSizes.{grown-larger, length-own, length-sizes, lies-along, room-last}
 use Rattle.tabled_draw.specs.Each.{each}
 use Rattle.tabled_draw.specs.Picture.{line, lines_of_row, picture, top}
 use Rattle.tabled_draw.specs.Sizes.{asks, grown_for, heights, own_sizes, room, sizes, text_at}
@@ -49,7 +49,7 @@ module _ (axis : Axis) (g : Grid (List ℕ)) (k : ℕ) where
 
 pub no-larger : (g : Grid (List ℕ)) (es : List Rectangle) → LieWell g.rows g.columns es → AreNoLargerThanAsked g es
 unfolding sizes
-no-larger g es well axis k = fold-asked axis g k es (own_sizes axis g es) (get_or (own_sizes axis g es) k 0) (λ e i. (let here = well-along g es well axis e i in (here.0, omega (arith, here.1, length-own axis g es)))) (omega arith)
+no-larger g es well axis k = fold-asked axis g k es (own_sizes axis g es) (get_or (own_sizes axis g es) k 0) (λ e i. (let here = lies-along axis g e (well.lies e i) in (here.0, omega (arith, here.1, length-own axis g es)))) (omega arith)
 
 -- ---- how many lines there are
 

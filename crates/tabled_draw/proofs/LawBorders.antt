@@ -4,8 +4,8 @@ use Rattle.std.specs.Prelude.{◌&&◌}
 use Rattle.std.proofs.lemmas.Bool.{and_from, false≢true}
 use borrow.Author.Tests.{eq-eqb, le-leb, lt-ltb, ne_eqb}
 use Rattle.tabled_draw.proofs.LawLines.{dashes-stand, edge-stands}
-use Rattle.tabled_draw.proofs.LawOwners.{Inside, LieWell, Owned, Owns, owned, owner-owns, owner-some}
-use Rattle.tabled_draw.proofs.LawOwners.Owned.{alone, held}
+use Rattle.tabled_draw.proofs.Owned.{Inside, LieWell, Owned, Owns, owned, owner-owns, owner-some}
+use Rattle.tabled_draw.proofs.Owned.Owned.{alone, held}
 use Rattle.tabled_draw.proofs.LawPicture.{line-above, line-in, stands-at}
 use Rattle.tabled_draw.specs.Owners.{owner, owner_in}
 use Rattle.tabled_draw.specs.Picture.{left, line, picture, top}

@@ -4,6 +4,7 @@ use Rattle.std.specs.Prelude.{◌&&◌, ◌||◌, ◌==◌, chars, nat_le, nat_l
 use Rattle.std.specs.List.{AllByRecursion, slice_split}
 use Rattle.std.proofs.lemmas.Bool.{and_from, cases_Bool, cases_lt, cond-true, cond-false, eqb-false, false≢true, ltb-false}
 use borrow.Author.Tests.{le-leb}
+use Rattle.tabled_draw.proofs.Each.{all-each}
 use Rattle.tabled_draw.specs.Each.{each}
 use Rattle.tabled_draw.specs.Owners.{is_one, owner}
 use Rattle.tabled_draw.specs.Picture.{line, lines_of_row, picture, shows, shows_in, stretch, top}
@@ -55,10 +56,6 @@ all-repeated : (n c : ℕ) → IsNoControl c → AreNoControls (replicate n c)
 all-repeated zero c s = tt
 all-repeated (suc n) c s = (s, all-repeated n c s)
 
-all-parts : {A : Type 0} (P : A → Type 0) (f : ℕ → List A) → ((k : ℕ) → AllByRecursion P (f k)) → (n : ℕ) → AllByRecursion P (each n f)
-all-parts P f all zero = tt
-all-parts P f all (suc n) = all-append P (each n f) (f n) (all-parts P f all n) (all n)
-
 blank-fine : IsNoControl 32
 blank-fine = record { above = omega arith; no_delete = λ e. omega (arith, e); outside = inl (omega arith) }
 
@@ -96,15 +93,15 @@ module _ (g : Grid (List ℕ)) (es : List Rectangle) where
   all-line n u d =
       let part : ℕ → List ℕ = λ j. stretch g es n u d j (j + 1) 1 ++ stretch g es n u d (j + 1) (j + 1) (get_or (widths g es) j 0 + 2) in
       all-append IsNoControl (each g.columns part) (stretch g es n u d g.columns (g.columns + 1) 1)
-      (all-parts IsNoControl part (λ j. all-append IsNoControl (stretch g es n u d j (j + 1) 1) (stretch g es n u d (j + 1) (j + 1) (get_or (widths g es) j 0 + 2)) (all-stretch n u d j (j + 1) 1) (all-stretch n u d (j + 1) (j + 1) (get_or (widths g es) j 0 + 2))) g.columns)
+      (all-each IsNoControl part (λ j. all-append IsNoControl (stretch g es n u d j (j + 1) 1) (stretch g es n u d (j + 1) (j + 1) (get_or (widths g es) j 0 + 2)) (all-stretch n u d j (j + 1) 1) (all-stretch n u d (j + 1) (j + 1) (get_or (widths g es) j 0 + 2))) g.columns)
       (all-stretch n u d g.columns (g.columns + 1) 1)
 
   all-row : (i : ℕ) → AllByRecursion AreNoControls (lines_of_row g es i)
-  all-row i = (all-line (top g es i) i (i + 1), all-parts AreNoControls (λ y. line g es (top g es i + 1 + y) (i + 1) (i + 1) ∷ []) (λ y. (all-line (top g es i + 1 + y) (i + 1) (i + 1), tt)) (get_or (heights g es) i 0))
+  all-row i = (all-line (top g es i) i (i + 1), all-each AreNoControls (λ y. line g es (top g es i + 1 + y) (i + 1) (i + 1) ∷ []) (λ y. (all-line (top g es i + 1 + y) (i + 1) (i + 1), tt)) (get_or (heights g es) i 0))
 
   pub no-controls : AllByRecursion AreNoControls (picture g es)
   no-controls = by ((g.rows == 0) || (g.columns == 0))
     where
       by : (b : Bool) → AllByRecursion AreNoControls (cond b [] (each g.rows (lines_of_row g es) ++ (line g es (top g es g.rows) g.rows (g.rows + 1) ∷ [])))
       by true = tt
-      by false = all-append AreNoControls (each g.rows (lines_of_row g es)) (line g es (top g es g.rows) g.rows (g.rows + 1) ∷ []) (all-parts AreNoControls (lines_of_row g es) all-row g.rows) (all-line (top g es g.rows) g.rows (g.rows + 1), tt)
+      by false = all-append AreNoControls (each g.rows (lines_of_row g es)) (line g es (top g es g.rows) g.rows (g.rows + 1) ∷ []) (all-each AreNoControls (lines_of_row g es) all-row g.rows) (all-line (top g es g.rows) g.rows (g.rows + 1), tt)

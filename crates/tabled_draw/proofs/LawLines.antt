@@ -7,7 +7,8 @@ use Rattle.std.proofs.lemmas.List.Sums.{sum_by-append, sum_by-cons}
 use Rattle.std.proofs.lemmas.Option.{same_Some}
 use Rattle.std.proofs.Math.Bool.{and-false}
 use borrow.Author.Tests.{eq-eqb, ne_eqb}
-use Rattle.tabled_draw.proofs.LawOwners.{LieWell, LiesIn, Owns, owner-both, owner-left, owner-owns, owner-right, owner-some}
+use Rattle.tabled_draw.proofs.Each.{split-each}
+use Rattle.tabled_draw.proofs.Owned.{LieWell, LiesIn, Owns, owner-both, owner-left, owner-owns, owner-right, owner-some}
 use Rattle.tabled_draw.proofs.LawSizes.{length-sizes, line-least, room-end, room-enough, start-next}
 use Rattle.tabled_draw.specs.Each.{each}
 use Rattle.tabled_draw.specs.Owners.{is_one, owner}
@@ -76,20 +77,6 @@ all-parts a b c d t =
 none-one : (a : Option Rectangle) → is_one a None ≡ false
 none-one None = refl
 none-one (Some o) = refl
-
--- ---- a part of a list of parts
-
-pub record Split {A : Type 0} (f : ℕ → List A) (n j : ℕ) : Type 0 where
-  pub rest : List A
-  pub is : each n f ≡ each j f ++ (f j ++ rest)
-
-pub split-each : {A : Type 0} (f : ℕ → List A) (n j : ℕ) → j < n → Split f n j
-split-each f zero j h = absurd (omega arith)
-split-each {A} f (suc n) j h = by (cases_lt j n) (split-each f n j)
-  where
-    by : (j < n) ⊎ (n ≤ j) → (j < n → Split f n j) → Split f (suc n) j
-    by (inl less) go = let s = go less in record { rest = s.rest ++ f n; is = ap (λ xs. xs ++ f n) s.is ∙ append_assoc (each j f) (f j ++ s.rest) (f n) ∙ ap (λ xs. each j f ++ xs) (append_assoc (f j) s.rest (f n)) }
-    by (inr more) go = let same : n ≡ j = omega arith in record { rest = []; is = ap (λ k. each k f ++ f k) same ∙ ap (λ xs. each j f ++ xs) (sym (append-nil (f j))) }
 
 module _ (g : Grid (List ℕ)) (es : List Rectangle) (well : LieWell g.rows g.columns es) where
   left-next : (j : ℕ) → j < g.columns → left g es (j + 1) ≡ left g es j + (get_or (widths g es) j 0 + 3)

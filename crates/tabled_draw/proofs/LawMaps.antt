@@ -1,30 +1,13 @@
 -- Merged cells that fit a table lie well, and so do those that are kept of any.
-use Rattle.std.proofs.Common.{◌≡◌, ◌∙◌, ℕ, List, Some, sym, ap, ap₂, subst}
-use Rattle.std.specs.FinMap.{entries, entries-from_sorted, entries_sorted, from_sorted, get, get-entries}
-use Rattle.std.proofs.lemmas.Option.{same_Some}
-use Rattle.tabled_draw.proofs.LawOwners.{LieWell}
+use Rattle.std.proofs.Common.{◌≡◌, ◌∙◌, ℕ, List, sym, ap, subst}
+use Rattle.std.specs.FinMap.{entries, entries-from_sorted, from_sorted}
+use Rattle.tabled_draw.proofs.Owned.{LieWell, fits-well}
 use Rattle.tabled_draw.specs.Overall.{HoldsOfPictures}
 use Rattle.tabled_draw.specs.Picture.{bytes_of, drawn}
 use Rattle.tabled_grid.proofs.Fitting.{anchors-fitting, anchors-of, fitting-fits, keep_fitting-all, keep_fitting-fits}
-use Rattle.tabled_grid.proofs.Members.{Member, sorted-find}
-use Rattle.tabled_grid.proofs.SpanMaps.{holds-from}
-use Rattle.tabled_grid.proofs.Spans.{positions_exact, positions_total}
 use Rattle.tabled_grid.specs.Fitting.{Fits, fitting, keep_fitting}
 use Rattle.tabled_grid.specs.Grid.{Grid}
 use Rattle.tabled_grid.specs.Spans.{AreAnchors, AreSpanSizes, Rectangle, SpanMap, position_cmp}
-
-pub fits-well : (m : SpanMap) (rows columns : ℕ) → Fits m rows columns → LieWell rows columns (entries m)
-fits-well m rows columns fits = record {
-  high = λ e i. (fits.sizes.each e.0 e.1 (has e i)).height;
-  wide = λ e i. (fits.sizes.each e.0 e.1 (has e i)).width;
-  bottom = λ e i. (fits.inside e.0 e.1 (has e i)).0;
-  right = λ e i. (fits.inside e.0 e.1 (has e i)).1;
-  apart = λ e f p i j h k. (let same : e.0 ≡ f.0 = fits.apart e.0 f.0 e.1 f.1 p (has e i) (has f j) (holds-from e p h) (holds-from f p k) in
-      ap₂ (λ x y. (x, y)) same (same_Some e.1 f.1 (sym (has e i) ∙ ap (get m) same ∙ has f j)));
-}
-  where
-    has : (e : Rectangle) → Member e (entries m) → get m e.0 ≡ Some e.1
-    has e i = get-entries m e.0 ∙ sorted-find position_cmp positions_total positions_exact (entries m) e.0 e.1 (entries_sorted m) i
 
 pub kept-well : (m : SpanMap) (rows columns : ℕ) → AreSpanSizes m → LieWell rows columns (fitting rows columns (entries m))
 kept-well m rows columns sizes =

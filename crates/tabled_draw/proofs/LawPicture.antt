@@ -5,10 +5,11 @@ use Rattle.std.specs.List.{AllByRecursion}
 use Rattle.std.proofs.lemmas.Bool.{and_from, cases_eq, cases_lt, cond-false, false≢true}
 use Rattle.std.proofs.lemmas.List.{get_or_append_left, get_or-append-add}
 use borrow.Author.Tests.{ne_eqb}
-use Rattle.tabled_draw.proofs.LawLines.{cell-stands, columns-append, columns-blank, line-wide, split-each}
-use Rattle.tabled_draw.proofs.LawOwners.{LieWell, LiesIn, Owned, owned, owner-inside, owner-lies, owner-owns}
-use Rattle.tabled_draw.proofs.LawOwners.Owned.{alone, held}
-use Rattle.tabled_draw.proofs.LawSizes.{get-singles, length-singles, line-least, room-end, length-sizes, room-enough, start-next}
+use Rattle.tabled_draw.proofs.Each.{all-each, get-singles, length-singles, split-each}
+use Rattle.tabled_draw.proofs.LawLines.{cell-stands, columns-append, columns-blank, line-wide}
+use Rattle.tabled_draw.proofs.Owned.{LieWell, LiesIn, Owned, owned, owner-inside, owner-lies, owner-owns}
+use Rattle.tabled_draw.proofs.Owned.Owned.{alone, held}
+use Rattle.tabled_draw.proofs.LawSizes.{line-least, room-end, length-sizes, room-enough, start-next}
 use Rattle.tabled_draw.specs.Each.{each}
 use Rattle.tabled_draw.specs.Owners.{owner, owner_in}
 use Rattle.tabled_draw.specs.Picture.{left, line, lines_of_row, picture, shows, top}
@@ -52,10 +53,6 @@ stands-part row columns a b c s = record {
   where
     regroup : (x a b c y : List ℕ) → x ++ ((a ++ (b ++ c)) ++ y) ≡ (x ++ a) ++ (b ++ (c ++ y))
     regroup x a b c y = simp append_assoc
-
-all-each : (P : List ℕ → Type 0) (f : ℕ → List (List ℕ)) → ((i : ℕ) → AllByRecursion P (f i)) → (k : ℕ) → AllByRecursion P (each k f)
-all-each P f all zero = tt
-all-each P f all (suc k) = all-append P (each k f) (f k) (all-each P f all k) (all k)
 
 module _ (g : Grid (List ℕ)) (es : List Rectangle) where
   -- ---- which line of the picture is which

@@ -1,14 +1,15 @@
 -- Columns are as wide, and rows as high, as what they show asks.
-use Rattle.std.proofs.Common.{◌≡◌, ◌∙◌, ◌+◌, ◌-◌, ◌<◌, ◌≤◌, ◌⊎◌, ◌++◌, inl, inr, ℕ, suc, zero, List, [], ◌∷◌, refl, sym, ap, subst, arith, length, get_or, add-one, add-zero, add_assoc, eqb, length-append}
+use Rattle.std.proofs.Common.{◌≡◌, ◌∙◌, ◌+◌, ◌-◌, ◌<◌, ◌≤◌, ◌⊎◌, inl, inr, ℕ, suc, zero, List, [], ◌∷◌, refl, sym, ap, subst, arith, length, get_or, add-zero, add_assoc, eqb}
 use Rattle.std.specs.Prelude.{max}
 use Rattle.std.specs.List.{fold}
 use Rattle.std.proofs.lemmas.Bool.{and_from, cases_lt, cond-true}
-use Rattle.std.proofs.lemmas.List.{get_or-set_same, get_or_append_left, get_or_push}
+use Rattle.std.proofs.lemmas.List.{get_or-set_same}
 use Rattle.std.proofs.lemmas.List.Sums.{sum_by_more}
 use Rattle.std.proofs.Math.ListN.{length-set, set}
-use Rattle.tabled_draw.proofs.LawOwners.{LieWell, Owned, owned}
-use Rattle.tabled_draw.proofs.LawOwners.Owned.{alone, held}
-use Rattle.tabled_draw.specs.Each.{each, largest}
+use Rattle.tabled_draw.proofs.Each.{get-singles, length-singles}
+use Rattle.tabled_draw.proofs.Owned.{LieWell, LiesIn, Owned, owned}
+use Rattle.tabled_draw.proofs.Owned.Owned.{alone, held}
+use Rattle.tabled_draw.specs.Each.{largest}
 use Rattle.tabled_draw.specs.Owners.{owner_in}
 use Rattle.tabled_draw.specs.Sizes.{asks, gap, grown_for, own, own_sizes, room, sizes, start, text_at}
 use Rattle.tabled_draw.specs.Texts.{columns_in}
@@ -22,22 +23,6 @@ use Rattle.tabled_grid.specs.declared.config.position.Position.{Position}
 use Rattle.tabled_grid.specs.declared.records.axis.Axis.{Axis}
 use Rattle.tabled_grid.specs.declared.records.axis.Axis.TheVariants.{Rows, Columns}
 use Rattle.tabled_grid.specs.Spans.{Rectangle, sized}
-
--- ---- lists of what a function gives of each number
-
-pub length-singles : {A : Type 0} (f : ℕ → A) (n : ℕ) → length (each n (λ k. f k ∷ [])) ≡ n
-length-singles f zero = refl
-length-singles f (suc n) = length-append (each n (λ k. f k ∷ [])) (f n ∷ []) ∙ ap (λ k. k + 1) (length-singles f n) ∙ add-one n
-
-pub get-singles : {A : Type 0} (f : ℕ → A) (n k : ℕ) (d : A) → k < n → get_or (each n (λ k. f k ∷ [])) k d ≡ f k
-get-singles f zero k d h = absurd (omega arith)
-get-singles f (suc n) k d h = by (cases_lt k n) (get-singles f n k d)
-  where
-    by : (k < n) ⊎ (n ≤ k) → (k < n → get_or (each n (λ k. f k ∷ [])) k d ≡ f k) → get_or (each n (λ k. f k ∷ []) ++ (f n ∷ [])) k d ≡ f k
-    by (inl less) go = get_or_append_left (each n (λ k. f k ∷ [])) (f n ∷ []) d k (omega (arith, length-singles f n)) ∙ go less
-    by (inr more) go =
-        let same : n ≡ k = omega arith in
-        get_or_push (each n (λ k. f k ∷ [])) (f n) d k (length-singles f n ∙ same) ∙ ap f same
 
 largest-least : (f : ℕ → ℕ) (n i : ℕ) → i < n → f i ≤ largest n f
 largest-least f zero i h = absurd (omega arith)
@@ -135,10 +120,10 @@ place_is : (axis : Axis) (p : Position) → place_in axis (line_of axis p) (line
 place_is Rows p = refl
 place_is Columns p = refl
 
--- merged cells that lie well have rows and columns of the table
-pub well-along : (g : Grid (List ℕ)) (es : List Rectangle) → LieWell g.rows g.columns es → (axis : Axis) (e : Rectangle) → Member e es → (1 ≤ lines_in axis e.1) × (line_of axis e.0 + lines_in axis e.1 ≤ count_along axis g)
-well-along g es well Rows e m = (well.high e m, well.bottom e m)
-well-along g es well Columns e m = (well.wide e m, well.right e m)
+-- what lies in a table has rows and columns of it
+pub lies-along : {A : Type 0} (axis : Axis) (g : Grid A) (e : Rectangle) → LiesIn g.rows g.columns e → (1 ≤ lines_in axis e.1) × (line_of axis e.0 + lines_in axis e.1 ≤ count_along axis g)
+lies-along Rows g e lies = (lies.high, lies.bottom)
+lies-along Columns g e lies = (lies.wide, lies.right)
 
 module _ (axis : Axis) (g : Grid (List ℕ)) where
   pub grown-larger : (s : List ℕ) (e : Rectangle) → Larger s (grown_for axis g s e)
@@ -195,7 +180,7 @@ module _ (axis : Axis) (g : Grid (List ℕ)) where
         larger = fold-larger es base
 
         all : (e : Rectangle) → Member e es → (1 ≤ lines_in axis e.1) × (line_of axis e.0 + lines_in axis e.1 ≤ length base)
-        all e m = let here = well-along g es well axis e m in (here.0, omega (arith, here.1, length-own))
+        all e m = let here = lies-along axis g e (well.lies e m) in (here.0, omega (arith, here.1, length-own))
 
         line_below : (a : Axis) → line_of a p < count_along a g
         line_below Rows = low

@@ -1,5 +1,6 @@
 pub mod Before
 pub mod Cells
+pub mod Each
 pub mod Example
 pub mod Laid
 pub mod LawAsked
@@ -7,7 +8,6 @@ pub mod LawBorders
 pub mod LawControls
 pub mod LawLines
 pub mod LawMaps
-pub mod LawOwners
 pub mod LawPicture
 pub mod LawSizes
 pub mod Measured

@@ -1,10 +1,11 @@
 -- Sizes, as texts are asked one after another.
-use Rattle.std.proofs.Common.{◌≡◌, ◌≢◌, ◌∙◌, ◌+◌, ◌<◌, ◌≤◌, ◌⊎◌, inl, inr, ◌++◌, ℕ, suc, zero, cond, List, [], ◌∷◌, Option, Some, refl, sym, ap, ap₂, arith, length, get_or, replicate, length-append, add-one}
+use Rattle.std.proofs.Common.{◌≡◌, ◌≢◌, ◌∙◌, ◌+◌, ◌<◌, ◌≤◌, ◌⊎◌, inl, inr, ℕ, suc, zero, cond, List, [], ◌∷◌, Option, Some, refl, sym, ap, ap₂, arith, length, get_or, replicate}
 use Rattle.std.specs.Prelude.{max}
 use Rattle.std.proofs.lemmas.Bool.{cases_lt, cond-true, cond-false}
-use Rattle.std.proofs.lemmas.List.{ext_get_or, get_or_append_left, get_or_push, get_or-replicate, get_or-set_other, get_or-set_same, length-replicate}
+use Rattle.std.proofs.lemmas.List.{ext_get_or, get_or-replicate, get_or-set_other, get_or-set_same, length-replicate}
 use Rattle.std.proofs.Math.ListN.{length-set, set}
 use Rattle.tabled_draw.proofs.Before.{After, Before, after-next, before-from, before-next, before-none, before-row, cases_before, after-from, here-next}
+use Rattle.tabled_draw.proofs.Each.{get-singles, length-singles}
 use Rattle.tabled_draw.specs.Each.{each, largest}
 use Rattle.tabled_draw.specs.Measured.{Measured, raised}
 use Rattle.tabled_draw.specs.OwnerRows.{is_before}
@@ -21,22 +22,8 @@ use Rattle.tabled_grid.specs.Spans.{Rectangle}
 
 -- ---- lists of what a function gives
 
-pub length-each : (f : ℕ → ℕ) (n : ℕ) → length (each n (λ j. f j ∷ [])) ≡ n
-length-each f zero = refl
-length-each f (suc n) = length-append (each n (λ j. f j ∷ [])) (f n ∷ []) ∙ ap (λ k. k + 1) (length-each f n) ∙ add-one n
-
-pub get_or-each : (f : ℕ → ℕ) (n k : ℕ) → k < n → get_or (each n (λ j. f j ∷ [])) k 0 ≡ f k
-get_or-each f zero k h = absurd (omega (arith, h))
-get_or-each f (suc n) k h = by (cases_lt k n) (get_or-each f n k)
-  where
-    by : (k < n) ⊎ (n ≤ k) → (k < n → get_or (each n (λ j. f j ∷ [])) k 0 ≡ f k) → get_or (each n (λ j. f j ∷ []) ++ (f n ∷ [])) k 0 ≡ f k
-    by (inl before) go = get_or_append_left (each n (λ j. f j ∷ [])) (f n ∷ []) 0 k (omega (arith, before, length-each f n)) ∙ go before
-    by (inr after) go =
-        let same : n ≡ k = omega (arith, h, after) in
-        get_or_push (each n (λ j. f j ∷ [])) (f n) 0 k (length-each f n ∙ same) ∙ ap f same
-
 pub is-each : (f : ℕ → ℕ) (n : ℕ) (xs : List ℕ) → length xs ≡ n → ((j : ℕ) → j < n → get_or xs j 0 ≡ f j) → xs ≡ each n (λ j. f j ∷ [])
-is-each f n xs long same = ext_get_or 0 xs (each n (λ j. f j ∷ [])) (long ∙ sym (length-each f n)) (λ i h. same i (omega (arith, h, long)) ∙ sym (get_or-each f n i (omega (arith, h, long))))
+is-each f n xs long same = ext_get_or 0 xs (each n (λ j. f j ∷ [])) (long ∙ sym (length-singles f n)) (λ i h. same i (omega (arith, h, long)) ∙ sym (get-singles f n i 0 (omega (arith, h, long))))
 
 -- ---- the largest of numbers
 

@@ -1,44 +1,23 @@
 -- Texts whose bytes are characters of one column each.
-use Rattle.std.proofs.Common.{◌≡◌, ◌∙◌, ◌+◌, ◌<◌, ◌≤◌, ◌⊎◌, ◌++◌, inl, inr, ℕ, suc, zero, true, false, List, [], ◌∷◌, Option, None, Some, refl, sym, ap, ap₂, arith, length, get_or, add-one, Bor}
-use Rattle.std.specs.Prelude.{◌==◌, ◌&&◌, encode_utf8_all, map, max, nat_le, nat_lt, not}
+use Rattle.std.proofs.Common.{◌≡◌, ◌∙◌, ◌+◌, ◌<◌, ◌≤◌, ◌⊎◌, ◌++◌, inl, inr, ℕ, suc, zero, false, List, [], ◌∷◌, Option, None, Some, refl, sym, ap, ap₂, arith, length, get_or, add-one, Bor}
+use Rattle.std.specs.Prelude.{◌==◌, ◌&&◌, encode_utf8_all, map, max, nat_le, not}
 use Rattle.std.specs.List.{All, after_first, before_first, fold, position_or_len, slice_split}
 use Rattle.std.specs.Option.{MatchOption, unwrap_or}
-use Rattle.std.proofs.lemmas.Bool.{cases_Bool, cases_lt, cond-true, cond-false}
+use Rattle.std.proofs.lemmas.Bool.{cases_lt, cond-true, cond-false}
 use Rattle.std.proofs.lemmas.List.Elements.{All-head, All-tail}
 use Rattle.std.proofs.lemmas.List.Splits.{slice_split_first, slice_split_none}
 use Rattle.std.proofs.lemmas.List.Sums.{fails_before_first, position_or_len_is, prefix_len-le-length, sum_by-cons}
 use Rattle.std.proofs.lemmas.Str.{chars-IsAscii, chars-nil, encode_ascii}
 use Rattle.std.proofs.lemmas.Str.Ascii.{IsAscii-from_all}
 use Rattle.std.proofs.Math.ListN.{drop_of_length-le}
-use borrow.Author.Tests.{leb-true, ltb-true, eqb-true, le-leb, lt-ltb}
+use borrow.Author.Tests.{le-leb, le-ltb, lt-leb, lt-ltb, ne_eqb}
 use Rattle.unicode_width.specs.Width.{char_width}
 use Rattle.tabled_draw.specs.Lines.{ArePlain, after_line, first_line}
 use Rattle.tabled_draw.specs.Texts.{columns_in, lines_of, shown, shown_line, widest}
 
-pub lt-false : (a b : ℕ) → b ≤ a → nat_lt a b ≡ false
-lt-false a b h = by (cases_Bool (nat_lt a b))
-  where
-    by : (nat_lt a b ≡ true) ⊎ (nat_lt a b ≡ false) → nat_lt a b ≡ false
-    by (inl t) = absurd (omega (arith, ltb-true a b t, h))
-    by (inr f) = f
-
-pub le-false : (a b : ℕ) → b < a → nat_le a b ≡ false
-le-false a b h = by (cases_Bool (nat_le a b))
-  where
-    by : (nat_le a b ≡ true) ⊎ (nat_le a b ≡ false) → nat_le a b ≡ false
-    by (inl t) = absurd (omega (arith, leb-true a b t, h))
-    by (inr f) = f
-
-pub eq-false : (a b : ℕ) → (a ≡ b → ⊥) → (a == b) ≡ false
-eq-false a b h = by (cases_Bool (a == b))
-  where
-    by : ((a == b) ≡ true) ⊎ ((a == b) ≡ false) → (a == b) ≡ false
-    by (inl t) = absurd (h (eqb-true a b t))
-    by (inr f) = f
-
 shown-plain : (b : ℕ) → 31 < b → b < 127 → shown b ≡ b
 shown-plain b low high =
-    cond-false _ _ _ (lt-false b 32 (omega (arith, low))) ∙ cond-false _ _ _ (eq-false b 127 (λ e. omega (arith, e, high))) ∙ cond-false _ _ _ (ap (λ x. x && nat_le b 159) (le-false 128 b (omega (arith, high))))
+    cond-false _ _ _ (le-ltb b 32 (omega (arith, low))) ∙ cond-false _ _ _ (ne_eqb b 127 (λ e. omega (arith, e, high))) ∙ cond-false _ _ _ (ap (λ x. x && nat_le b 159) (lt-leb 128 b (omega (arith, high))))
 
 width-plain : (b : ℕ) → 31 < b → b < 127 → unwrap_or (char_width false b) 0 ≡ 1
 unfolding char_width
@@ -67,7 +46,7 @@ pub plain-line : (bs : List ℕ) → ArePlain bs → shown_line bs ≡ bs
 plain-line bs all = ap (map shown) (chars-IsAscii bs (IsAscii-from_all bs (λ k d h. omega (arith, (all k d h).1)))) ∙ map-plain bs all
 
 pub plain-split : (bs : List ℕ) → ArePlain bs → slice_split (λ b. b == 10) bs ≡ bs ∷ []
-plain-split bs all = slice_split_none (λ b. b == 10) bs (λ k d h. eq-false (get_or bs k d) 10 (λ e. omega (arith, (all k d h).0, e)))
+plain-split bs all = slice_split_none (λ b. b == 10) bs (λ k d h. ne_eqb (get_or bs k d) 10 (λ e. omega (arith, (all k d h).0, e)))
 
 pub plain-lines : (bs : List ℕ) → ArePlain bs → lines_of bs ≡ bs ∷ []
 plain-lines bs all = ap (map shown_line) (plain-split bs all) ∙ ap (λ l. l ∷ []) (plain-line bs all)
@@ -107,7 +86,7 @@ next-line bs y = by (cases_lt (position_or_len (λ b. b == 10) bs) (length bs))
         ap (λ t. get_or (lines_of t) y []) (after-none bs all) ∙ nothing y ∙ sym (ap₂ (λ ls k. get_or ls k []) (first-none bs all) (add-one y))
 
 pub plain-after : (bs : List ℕ) → ArePlain bs → after_line bs ≡ []
-plain-after bs all = after-none bs (position_or_len_is (λ b. b == 10) bs (length bs) 0 (omega arith) (λ k h. eq-false (get_or bs k 0) 10 (λ e. omega (arith, (all k 0 h).0, e))) (λ h. absurd (omega (arith, h))))
+plain-after bs all = after-none bs (position_or_len_is (λ b. b == 10) bs (length bs) 0 (omega arith) (λ k h. ne_eqb (get_or bs k 0) 10 (λ e. omega (arith, (all k 0 h).0, e))) (λ h. absurd (omega (arith, h))))
 
 pub plain-first : (bs : List ℕ) → ArePlain bs → shown_line bs ≡ first_line bs
 plain-first bs all = plain-line bs all ∙ sym (ap (λ ls. get_or ls 0 []) (plain-lines bs all))

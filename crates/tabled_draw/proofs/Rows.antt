@@ -1,104 +1,49 @@
 -- The lines of a row, and those of all rows.
-use Rattle.std.proofs.Common.{◌≡◌, ◌∙◌, ◌+◌, ◌-◌, ◌<◌, ◌≤◌, ◌⊎◌, ◌++◌, inl, inr, ℕ, suc, zero, Bool, true, false, cond, List, [], ◌∷◌, Option, Some, refl, sym, ap, ap₂, subst, arith, append-nil, get_or, length, add-zero}
+use Rattle.std.proofs.Common.{◌≡◌, ◌∙◌, ◌+◌, ◌-◌, ◌<◌, ◌≤◌, ◌⊎◌, ◌++◌, inl, inr, ℕ, Bool, true, false, cond, List, [], ◌∷◌, Option, Some, refl, sym, ap, ap₂, arith, append-nil, get_or, length, add-zero}
 use Rattle.std.specs.Prelude.{◌||◌, ◌&&◌, ◌==◌}
-use Rattle.std.specs.FinMap.{entries, get}
-use Rattle.std.specs.List.{fold}
+use Rattle.std.specs.FinMap.{entries}
 use Rattle.std.proofs.lemmas.Bool.{cases_Bool, cases_lt, cond-true, cond-false}
 use Rattle.std.proofs.lemmas.List.Concat.{flat_map-append}
-use borrow.Author.Tests.{eq-eqb}
-use Rattle.tabled_draw.proofs.Measured.{length-each}
-use Rattle.tabled_draw.proofs.Owned.{Inside, Owned, owned, owner-held, owner-inside, owner-some}
-use Rattle.tabled_draw.proofs.Owned.Owned.{alone, held}
-use Rattle.tabled_draw.proofs.Plain.{eq-false, next-line}
-use Rattle.tabled_draw.proofs.Sizes.{length-grown, start-more}
-use Rattle.tabled_draw.proofs.Stretches.{AreNext, apart, each-more, line-is, one-in_row, owner-in}
+use borrow.Author.Tests.{eq-eqb, ne_eqb}
+use Rattle.tabled_draw.proofs.Each.{each-more}
+use Rattle.tabled_draw.proofs.LawSizes.{length-sizes, room-end}
+use Rattle.tabled_draw.proofs.Owned.{Owns, fits-well, owner-owns, owner-some}
+use Rattle.tabled_draw.proofs.Plain.{next-line}
+use Rattle.tabled_draw.proofs.Stretches.{AreNext, line-is, one-in_row}
 use Rattle.tabled_draw.specs.Each.{each}
 use Rattle.tabled_draw.specs.Lines.{AreLeft, EndInside, drawn_line, after_line, begins, begun, left_of}
 use Rattle.tabled_draw.specs.Laid.{AreEdges}
 use Rattle.tabled_draw.specs.OwnerRows.{IsOwnerRow}
-use Rattle.tabled_draw.specs.Owners.{is_one, owner, owner_in}
+use Rattle.tabled_draw.specs.Owners.{is_one, owner}
 use Rattle.tabled_draw.specs.Picture.{ended, line, lines_of_row, picture, top}
-use Rattle.tabled_draw.specs.Sizes.{grown_for, heights, own_sizes, sizes, text_at}
+use Rattle.tabled_draw.specs.Sizes.{heights, room, text_at}
 use Rattle.tabled_draw.specs.Texts.{lines_of}
 use Rattle.tabled_grid.proofs.SpanMaps.{same_place-self, same_place-true}
-use Rattle.tabled_grid.specs.Along.{count_along}
 use Rattle.tabled_grid.specs.Entity.{place, same_place}
 use Rattle.tabled_grid.specs.Grid.{Grid}
-use Rattle.tabled_grid.specs.Midway.{In}
 use Rattle.tabled_grid.specs.Fitting.{Fits}
 use Rattle.tabled_grid.specs.Spans.{Rectangle, SpanMap}
 use Rattle.tabled_grid.specs.declared.config.position.Position.{Position}
-use Rattle.tabled_grid.specs.declared.records.axis.Axis.{Axis}
-use Rattle.tabled_grid.specs.declared.records.axis.Axis.TheVariants.{Rows, Columns}
+use Rattle.tabled_grid.specs.declared.records.axis.Axis.TheVariants.{Rows}
 
--- ---- how many sizes there are
-
-fold-long : (axis : Axis) (g : Grid (List ℕ)) (es : List Rectangle) (s : List ℕ) → length (fold (grown_for axis g) s es) ≡ length s
-fold-long axis g [] s = refl
-fold-long axis g (e ∷ es) s = fold-long axis g es (grown_for axis g s e) ∙ length-grown axis s _ _ _
-
-pub sizes-long : (axis : Axis) (g : Grid (List ℕ)) (es : List Rectangle) → length (sizes axis g es) ≡ count_along axis g
-unfolding sizes
-sizes-long axis g es = fold-long axis g es (own_sizes axis g es) ∙ length-each _ (count_along axis g)
-
-module _ (g : Grid (List ℕ)) (es : List Rectangle) where
-  pub top-more : (i : ℕ) → i < g.rows → top g es (i + 1) ≡ top g es i + (get_or (heights g es) i 0 + 1)
-  top-more i h = start-more Rows (heights g es) i (omega (arith, h, sizes-long Rows g es))
-
-  -- the line above a row stands after those above all rows before it
-  pub top-after : (r k : ℕ) → r + k < g.rows → top g es r + 1 ≤ top g es (r + k + 1)
-  top-after r zero h =
-      let more = top-more r (omega (arith, h)) in
-      let same : top g es (r + 0 + 1) ≡ top g es (r + 1) = ap (top g es) (omega arith) in
-      omega (arith, more, same)
-  top-after r (suc k) h =
-      let go = top-after r k (omega (arith, h)) in
-      let more = top-more (r + k + 1) (omega (arith, h)) in
-      let same : top g es (r + suc k + 1) ≡ top g es (r + k + 1 + 1) = ap (top g es) (omega arith) in
-      omega (arith, go, more, same)
-
-  pub top-below : (r i : ℕ) → r < i → i ≤ g.rows → top g es r + 1 ≤ top g es i
-  top-below r i low high =
-      let go = top-after r (i - r - 1) (omega (arith, low, high)) in
-      let same : top g es (r + (i - r - 1) + 1) ≡ top g es i = ap (top g es) (omega (arith, low)) in
-      omega (arith, go, same)
+-- the line above a row stands after those above all rows before it
+pub top-below : (g : Grid (List ℕ)) (es : List Rectangle) (r i : ℕ) → r < i → i ≤ g.rows → top g es r + 1 ≤ top g es i
+top-below g es r i low high =
+    let n = i - r in
+    let same : top g es (r + n) ≡ top g es i = ap (top g es) (let e : r + n ≡ i = omega arith in e) in
+    let within : r + n ≤ length (heights g es) = omega (arith, length-sizes Rows g es) in
+    let more : top g es (r + n) ≡ top g es r + (room Rows (heights g es) r n + 1) = room-end Rows (heights g es) r n (omega arith) within in
+    omega (arith, same, more)
 
 -- ---- owners of two rows
 
 module _ (m : SpanMap) (rows columns : ℕ) (fits : Fits m rows columns) where
-  -- an owner begins in its row or above
-  pub owner-row : (i j : ℕ) (o : Rectangle) → owner rows columns (entries m) i j ≡ Some o → o.0.row < i
-  owner-row i j o e = by (owned m (place s.row s.col)) s.is
-    where
-      s : Inside rows columns m i j o
-      s = owner-some rows columns m i j o e
-
-      by : Owned m (place s.row s.col) (owner_in (entries m) (place s.row s.col)) → o ≡ owner_in (entries m) (place s.row s.col) → o.0.row < i
-      by (held _ inside) is = rw is (omega (arith, s.is_row, inside.top))
-      by (alone single _) is = rw (is ∙ single) (omega (arith, s.is_row))
+  pub owns : (i j : ℕ) (o : Rectangle) → owner rows columns (entries m) i j ≡ Some o → Owns rows columns (entries m) i j o
+  owns = owner-owns rows columns (entries m) (fits-well m rows columns fits)
 
   -- one that begins above a row owns the place above, too
   pub owner-over : (i j : ℕ) (o : Rectangle) → owner rows columns (entries m) (i + 1) j ≡ Some o → o.0.row < i → owner rows columns (entries m) i j ≡ Some o
-  owner-over i j o e above = by (owned m (place s.row s.col)) s.is
-    where
-      s : Inside rows columns m (i + 1) j o
-      s = owner-some rows columns m (i + 1) j o e
-
-      row : s.row ≡ i
-      row = omega (arith, s.is_row)
-
-      up : i ≡ i - 1 + 1
-      up = omega (arith, above)
-
-      at : owner rows columns (entries m) i j ≡ Some (owner_in (entries m) (place (i - 1) s.col))
-      at = ap₂ (owner rows columns (entries m)) up s.is_col ∙ owner-inside rows columns m (i - 1) s.col (omega (arith, s.below, row)) s.right
-
-      by : Owned m (place s.row s.col) (owner_in (entries m) (place s.row s.col)) → o ≡ owner_in (entries m) (place s.row s.col) → owner rows columns (entries m) i j ≡ Some o
-      by (held has inside) is =
-          let h : get m o.0 ≡ Some o.1 = ap (λ (x : Rectangle). get m x.0) is ∙ has ∙ ap (λ (x : Rectangle). Some x.1) (sym is) in
-          let n : In o (place s.row s.col) = let P : Rectangle → Type 0 = λ x. In x (place s.row s.col) in subst P (sym is) inside in
-          at ∙ ap Some (owner-held m rows columns fits o.0 o.1 (place (i - 1) s.col) h (record { top = omega (arith, above); bottom = omega (arith, n.bottom, row); left = n.left; right = n.right }))
-      by (alone single _) is = absurd (omega (arith, above, row, ap (λ (x : Rectangle). x.0.row) (is ∙ single)))
+  owner-over i j o e above = let a = owns (i + 1) j o e in a.all i j above (omega (arith, a.bottom)) a.left a.right
 
 -- ---- what is left of the texts, line by line
 
@@ -108,7 +53,7 @@ module _ (g : Grid (List ℕ)) (m : SpanMap) (fits : Fits m g.rows g.columns) wh
 
   -- above the first row nothing is left
   pub left-outside : (n : ℕ) (texts : List (List ℕ)) → AreLeft g m 0 n texts
-  left-outside n texts = record { each = λ j o less e. (let s = owner-some g.rows g.columns m 0 (j + 1) o e in absurd (omega (arith, s.is_row))) }
+  left-outside n texts = record { each = λ j o less e. (let s = owner-some g.rows g.columns (entries m) 0 (j + 1) o e in absurd (omega (arith, s.is_row))) }
 
   -- a line that runs through an owner shows the next line of its text
   cut-next : (text lines : List ℕ) (k y : ℕ) → ((y : ℕ) → get_or (lines_of text) y [] ≡ get_or (lines_of lines) (k + y) []) → get_or (lines_of (after_line text)) y [] ≡ get_or (lines_of lines) (k + 1 + y) []
@@ -123,7 +68,7 @@ module _ (g : Grid (List ℕ)) (m : SpanMap) (fits : Fits m g.rows g.columns) wh
       by j o less e begin y =
           let one : is_one (owner g.rows g.columns (entries m) i (j + 1)) (owner g.rows g.columns (entries m) i (j + 1)) ≡ true = one-in_row m g.rows g.columns i j low high less in
           let cut : get_or new j [] ≡ after_line (get_or old j []) = is j less ∙ cond-true _ _ _ (ap₂ (λ (a : Bool) (x : Option Rectangle). a && begins j x) one e ∙ eq-eqb o.0.col j begin) in
-          let row = owner-row m g.rows g.columns fits i (j + 1) o e in
+          let row = (owns m g.rows g.columns fits i (j + 1) o e).top in
           let over : top g (entries m) o.0.row + 1 ≤ n = upper (cases_lt o.0.row (i - 1)) row in
           ap (λ t. get_or (lines_of t) y []) cut ∙ cut-next (get_or old j []) (text_at g o.0) (n - top g (entries m) o.0.row - 1) y (was.each j o less e begin) ∙ ap (λ k. get_or (lines_of (text_at g o.0)) k []) (omega (arith, over))
         where
@@ -139,7 +84,7 @@ module _ (g : Grid (List ℕ)) (m : SpanMap) (fits : Fits m g.rows g.columns) wh
     where
       by : (j : ℕ) (o : Rectangle) → j < g.columns → owner g.rows g.columns (entries m) (i + 1) (j + 1) ≡ Some o → o.0.col ≡ j → (y : ℕ) → (o.0.row < i) ⊎ (i ≤ o.0.row) → get_or (lines_of (get_or new j [])) y [] ≡ get_or (lines_of (text_at g o.0)) (n + 1 - top g (entries m) o.0.row - 1 + y) []
       by j o less e begin y (inr here) =
-          let row : o.0.row ≡ i = omega (arith, here, owner-row m g.rows g.columns fits (i + 1) (j + 1) o e) in
+          let row : o.0.row ≡ i = omega (arith, here, (owns m g.rows g.columns fits (i + 1) (j + 1) o e).top) in
           let same : o.0 ≡ place i j = ap₂ place row begin in
           let text : get_or new j [] ≡ text_at g o.0 = is_new j less ∙ ap (λ (x : Option Rectangle). begun g x (place i j) (get_or cut j [])) e ∙ cond-true _ _ _ (ap (λ q. same_place q (place i j)) same ∙ same_place-self (place i j)) ∙ ap (text_at g) (sym same) in
           let first : n + 1 - top g (entries m) o.0.row - 1 + y ≡ y = (let t : top g (entries m) o.0.row ≡ top g (entries m) i = ap (top g (entries m)) row in omega (arith, t, is_n)) in
@@ -160,7 +105,7 @@ module _ (g : Grid (List ℕ)) (m : SpanMap) (fits : Fits m g.rows g.columns) wh
 -- ---- lines as they are drawn
 
 pub end-inside : (m : SpanMap) (rows columns i : ℕ) (row : List (Option Rectangle)) → Fits m rows columns → IsOwnerRow rows columns m i row → EndInside columns row
-end-inside m rows columns i row fits is = record { each = λ j o less e begin. (let there = owner-in m rows columns fits i (j + 1) o (sym (is.each (j + 1) (omega (arith, less))) ∙ e) in omega (arith, there.end, begin)) }
+end-inside m rows columns i row fits is = record { each = λ j o less e begin. (let there = owns m rows columns fits i (j + 1) o (sym (is.each (j + 1) (omega (arith, less))) ∙ e) in omega (arith, there.lies.right, begin)) }
 
 module _ (g : Grid (List ℕ)) (m : SpanMap) (fits : Fits m g.rows g.columns) (edges : List ℕ) (laid : AreEdges g m edges) where
   next-of : (u d n : ℕ) (texts : List (List ℕ)) → AreLeft g m u n texts → AreNext g m fits edges laid n u d texts
@@ -171,14 +116,14 @@ module _ (g : Grid (List ℕ)) (m : SpanMap) (fits : Fits m g.rows g.columns) (e
   pub between : (i n : ℕ) (above here : List (Option Rectangle)) (texts : List (List ℕ)) (columns : ℕ) → n ≡ top g (entries m) i → IsOwnerRow g.rows g.columns m i above → IsOwnerRow g.rows g.columns m (i + 1) here → AreLeft g m i n texts → columns ≡ g.columns
       → drawn_line columns 43 edges above here texts ≡ line g (entries m) (top g (entries m) i) i (i + 1) ++ (10 ∷ [])
   between i n above here texts columns is over under was same =
-      line-is g m fits edges laid n i (i + 1) 43 (sym (ap (λ b. cond b 124 43) (apart i))) above here over under (λ e. absurd (omega (arith, e))) (sizes-long Columns g (entries m)) texts (next-of i (i + 1) n texts was) columns same
+      line-is g m fits edges laid n i (i + 1) 43 (sym (ap (λ b. cond b 124 43) (ne_eqb i (i + 1) (λ e. omega (arith, e))))) above here over under (λ e. absurd (omega (arith, e))) texts (next-of i (i + 1) n texts was) columns same
       ∙ ap (λ k. line g (entries m) k i (i + 1) ++ (10 ∷ [])) is
 
   -- a line in a row
   pub in-row : (i n : ℕ) (here : List (Option Rectangle)) (texts : List (List ℕ)) (columns : ℕ) → i < g.rows → IsOwnerRow g.rows g.columns m (i + 1) here → AreLeft g m (i + 1) n texts → columns ≡ g.columns
       → drawn_line columns 124 edges here here texts ≡ line g (entries m) n (i + 1) (i + 1) ++ (10 ∷ [])
   in-row i n here texts columns high over was same =
-      line-is g m fits edges laid n (i + 1) (i + 1) 124 (sym (ap (λ b. cond b 124 43) (eq-eqb (i + 1) (i + 1) refl))) here here over over (λ e. (omega arith, omega (arith, high))) (sizes-long Columns g (entries m)) texts (next-of (i + 1) (i + 1) n texts was) columns same
+      line-is g m fits edges laid n (i + 1) (i + 1) 124 (sym (ap (λ b. cond b 124 43) (eq-eqb (i + 1) (i + 1) refl))) here here over over (λ e. (omega arith, omega (arith, high))) texts (next-of (i + 1) (i + 1) n texts was) columns same
 
 -- ---- lines with a newline after each
 
@@ -207,5 +152,5 @@ module _ (g : Grid (List ℕ)) (es : List Rectangle) where
 
   pub all-rows : (i : ℕ) → i ≡ g.rows → 0 < g.rows → 0 < g.columns → ended (each i (lines_of_row g es)) ++ (line g es (top g es g.rows) g.rows (g.rows + 1) ++ (10 ∷ [])) ≡ ended (picture g es)
   all-rows i is high wide =
-      let full : ((g.rows == 0) || (g.columns == 0)) ≡ false = ap₂ (λ x y. x || y) (eq-false g.rows 0 (λ e. omega (arith, e, high))) (eq-false g.columns 0 (λ e. omega (arith, e, wide))) in
+      let full : ((g.rows == 0) || (g.columns == 0)) ≡ false = ap₂ (λ x y. x || y) (ne_eqb g.rows 0 (λ e. omega (arith, e, high))) (ne_eqb g.columns 0 (λ e. omega (arith, e, wide))) in
       ap (λ k. ended (each k (lines_of_row g es)) ++ (line g es (top g es g.rows) g.rows (g.rows + 1) ++ (10 ∷ []))) is ∙ sym (ended-more (each g.rows (lines_of_row g es)) (line g es (top g es g.rows) g.rows (g.rows + 1))) ∙ ap ended (sym (cond-false _ _ _ full))

@@ -42,18 +42,18 @@ pub record Drawn (a : Option (List ℕ)) (h : List ℕ) (b : Option (List ℕ)) 
   pub drawn : Draws a h b i done
 
 pub drawn-none : (a : Option (List ℕ)) (h rest all : List ℕ) → all ≡ rest → Drawn a h a h rest all
-drawn-none a h rest all is = record { done = []; is = is; drawn = draws-none a h }
+drawn-none a h rest all is = record { done = []; is = is; drawn = draws-none }
 
 pub drawn-more : (a b d : Option (List ℕ)) (h i j : List ℕ) (c : ℕ) (bytes whole rest all : List ℕ) → IsUtf8 whole → whole ≡ encode_utf8 c ++ rest → Drawn a h b i (shown_line whole) all → bytes ≡ encode_utf8 (shown c) → Sends b i d j bytes → Drawn a h d j (shown_line rest) all
 drawn-more a b d h i j c bytes whole rest all utf8 is was same sent = record {
   done = was.done ++ (shown c ∷ []);
   is = was.is ∙ ap (λ cs. was.done ++ map shown cs) (chars_past_char whole rest c utf8 is) ∙ sym (append_assoc was.done (shown c ∷ []) (shown_line rest));
-  drawn = draws-then a h b d i j was.done (shown c ∷ []) was.drawn (draws-bytes b i d j bytes (shown c ∷ []) (same ∙ sym (append-nil (encode_utf8 (shown c)))) sent);
+  drawn = draws-then was.drawn (draws-bytes b d i j bytes (shown c ∷ []) (same ∙ sym (append-nil (encode_utf8 (shown c)))) sent);
 }
 
 pub drawn-all : (a b : Option (List ℕ)) (h i rest all : List ℕ) → rest ≡ [] → Drawn a h b i (shown_line rest) all → Draws a h b i all
 drawn-all a b h i rest all none was =
-    draws-as a h b i was.done all (sym (was.is ∙ ap (λ r. was.done ++ r) (ap (λ cs. map shown cs) (ap chars none ∙ chars-nil)) ∙ append-nil was.done)) was.drawn
+    draws-as (sym (was.is ∙ ap (λ r. was.done ++ r) (ap (λ cs. map shown cs) (ap chars none ∙ chars-nil)) ∙ append-nil was.done)) was.drawn
 
 pub left-more : (c left more whole rest all : ℕ) (w : Option ℕ) → w ≡ char_width false (shown c) → whole ≡ unwrap_or (char_width false (shown c)) 0 + rest → left - whole ≡ all → more ≡ left - unwrap_or w 0 → more - rest ≡ all
 left-more c left more whole rest all w width is same less =

@@ -1,45 +1,31 @@
 -- Sizes that grow, one merged cell after another.
-use Rattle.std.proofs.Common.{◌≡◌, ◌∙◌, ◌+◌, ◌-◌, ◌<◌, ◌≤◌, ℕ, List, [], ◌∷◌, Option, Some, sym, ap, subst, length, get_or, take, take_all}
+use Rattle.std.proofs.Common.{◌≡◌, ◌∙◌, ◌+◌, ◌<◌, ◌≤◌, ℕ, List, [], ◌∷◌, Option, Some, sym, ap, subst, length, get_or, take, take_all}
 use Rattle.std.specs.FinMap.{entries}
 use Rattle.std.specs.List.{fold}
 use Rattle.std.specs.Option.{unwrap_or}
 use Rattle.std.proofs.lemmas.List.{take_more}
-use Rattle.std.proofs.lemmas.List.Sums.{fold-append, sum_by_more}
-use Rattle.std.proofs.Math.ListN.{length-set}
+use Rattle.std.proofs.lemmas.List.Sums.{fold-append}
 use Rattle.tabled_draw.proofs.Before.{member-at}
-use Rattle.tabled_draw.proofs.Owned.{IsInTable, anchor-in}
-use Rattle.tabled_draw.specs.Sizes.{asks, gap, grown, grown_for, own_sizes, sizes, start, text_at}
-use Rattle.tabled_grid.specs.Along.{count_along}
+use Rattle.tabled_draw.proofs.Owned.{LiesIn, fits-well}
+use Rattle.tabled_draw.specs.Sizes.{asks, grown, grown_for, own_sizes, sizes, text_at}
 use Rattle.tabled_grid.specs.Axis.{line_of, lines_in}
 use Rattle.tabled_grid.specs.Grid.{Grid, cell_at}
 use Rattle.tabled_grid.specs.Fitting.{Fits}
 use Rattle.tabled_grid.specs.Spans.{Rectangle, SpanMap}
 use Rattle.tabled_grid.specs.declared.config.position.Position.{Position}
 use Rattle.tabled_grid.specs.declared.records.axis.Axis.{Axis}
-use Rattle.tabled_grid.specs.declared.records.axis.Axis.TheVariants.{Rows, Columns}
 
 -- one step more
 pub fold-more : {A B : Type 0} (f : B → A → B) (a : B) (xs : List A) (k : ℕ) (d : A) → k < length xs → fold f a (take (k + 1) xs) ≡ f (fold f a (take k xs)) (get_or xs k d)
 fold-more f a xs k d h = ap (fold f a) (take_more xs k d h) ∙ fold-append f a (take k xs) (get_or xs k d ∷ [])
 
-pub length-grown : (axis : Axis) (s : List ℕ) (at n need : ℕ) → length (grown axis s at n need) ≡ length s
-length-grown axis s at n need = length-set s (at + n - 1) _
-
 pub text-of : (g : Grid (List ℕ)) (p : Position) (text : List ℕ) → cell_at g p ≡ Some text → text ≡ text_at g p
 text-of g p text is = sym (ap (λ (t : Option (List ℕ)). unwrap_or t []) is)
 
 -- what is known of the k-th merged cell
-pub anchor-at : (m : SpanMap) (rows columns : ℕ) → Fits m rows columns → (xs : List Rectangle) → xs ≡ entries m → (k : ℕ) (d : Rectangle) → k < length xs → IsInTable rows columns (get_or xs k d)
+pub anchor-at : (m : SpanMap) (rows columns : ℕ) → Fits m rows columns → (xs : List Rectangle) → xs ≡ entries m → (k : ℕ) (d : Rectangle) → k < length xs → LiesIn rows columns (get_or xs k d)
 anchor-at m rows columns fits xs is k d h =
-    rw is (anchor-in m rows columns fits (get_or (entries m) k d) (member-at (entries m) k d (subst (λ (ys : List Rectangle). k < length ys) is h)))
-
-pub some-lines : (axis : Axis) (rows columns : ℕ) (e : Rectangle) → IsInTable rows columns e → 1 ≤ lines_in axis e.1
-some-lines Rows rows columns e in_table = in_table.high
-some-lines Columns rows columns e in_table = in_table.wide
-
-pub lines-end : {A : Type 0} (axis : Axis) (g : Grid A) (e : Rectangle) → IsInTable g.rows g.columns e → line_of axis e.0 + lines_in axis e.1 ≤ count_along axis g
-lines-end Rows g e in_table = in_table.bottom
-lines-end Columns g e in_table = in_table.right
+    rw is ((fits-well m rows columns fits).lies (get_or (entries m) k d) (member-at (entries m) k d (subst (λ (ys : List Rectangle). k < length ys) is h)))
 
 pub grown-more : (axis : Axis) (g : Grid (List ℕ)) (m : SpanMap) (base : List ℕ) (k : ℕ) (d : Rectangle) (xs : List Rectangle) → xs ≡ entries m → k < length xs → (s : List ℕ) (text : List ℕ) → cell_at g (get_or xs k d).0 ≡ Some text → (n : ℕ) (new : List ℕ)
     → s ≡ fold (grown_for axis g) base (take k (entries m)) → n ≡ asks axis text → new ≡ grown axis s (line_of axis (get_or xs k d).0) (lines_in axis (get_or xs k d).1) n
@@ -55,6 +41,3 @@ grown-all axis g m base s k is all = is ∙ ap (fold (grown_for axis g) base) (t
 pub sizes-is : (axis : Axis) (g : Grid (List ℕ)) (m : SpanMap) (base s : List ℕ) → base ≡ own_sizes axis g (entries m) → s ≡ fold (grown_for axis g) base (entries m) → s ≡ sizes axis g (entries m)
 unfolding sizes
 sizes-is axis g m base s first is = is ∙ ap (λ b. fold (grown_for axis g) b (entries m)) first
-
-pub start-more : (axis : Axis) (s : List ℕ) (k : ℕ) → k < length s → start axis s (k + 1) ≡ start axis s k + (get_or s k 0 + gap axis)
-start-more axis s k h = sum_by_more (λ x. x + gap axis) s k 0 h

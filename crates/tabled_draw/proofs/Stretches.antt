@@ -1,12 +1,13 @@
 -- A line that is drawn by what is known as it is written is the line of the picture.
-use Rattle.std.proofs.Common.{◌≡◌, ◌∙◌, ◌+◌, ◌-◌, ◌<◌, ◌≤◌, ◌⊎◌, ◌++◌, inl, inr, ℕ, suc, zero, Bool, true, false, cond, List, [], ◌∷◌, Option, Some, None, refl, sym, ap, ap₂, arith, eqb, length, replicate, add-one, get_or}
+use Rattle.std.proofs.Common.{◌≡◌, ◌∙◌, ◌+◌, ◌-◌, ◌<◌, ◌≤◌, ◌≢◌, ◌⊎◌, ◌++◌, inl, inr, ℕ, Bool, true, false, cond, List, [], ◌∷◌, Option, Some, None, refl, sym, ap, ap₂, arith, eqb, replicate, get_or}
 use Rattle.std.specs.Prelude.{◌&&◌}
 use Rattle.std.specs.FinMap.{entries}
-use Rattle.std.proofs.lemmas.Bool.{and_from, and_parts, cases_Bool, cond-true, cond-false, false≢true}
-use borrow.Author.Tests.{eq-eqb, eqb-true}
-use Rattle.tabled_draw.proofs.Owned.{Inside, Owned, owned, owner-inside, owner-some}
-use Rattle.tabled_draw.proofs.Owned.Owned.{alone, held}
-use Rattle.tabled_draw.proofs.Sizes.{start-more}
+use Rattle.std.proofs.lemmas.Bool.{and_from, cases_Bool, cases_eq, cond-true, cond-false, false≢true}
+use Rattle.std.proofs.Math.Bool.{and-false}
+use borrow.Author.Tests.{eq-eqb, eqb-true, ne_eqb}
+use Rattle.tabled_draw.proofs.Each.{each-same}
+use Rattle.tabled_draw.proofs.LawSizes.{start-next}
+use Rattle.tabled_draw.proofs.Owned.{Owns, fits-well, owner-inside, owner-owns}
 use Rattle.tabled_draw.specs.Each.{each}
 use Rattle.tabled_draw.specs.Laid.{AreEdges}
 use Rattle.tabled_draw.specs.Lines.{column, drawn_line, edge, first_line, inside, stretches}
@@ -22,52 +23,14 @@ use Rattle.tabled_grid.specs.Fitting.{Fits}
 use Rattle.tabled_grid.specs.Spans.{Rectangle, SpanMap}
 use Rattle.tabled_grid.specs.declared.records.axis.Axis.TheVariants.{Columns}
 
-pub each-more : {A : Type 0} (f : ℕ → List A) (n : ℕ) → each (n + 1) f ≡ each n f ++ f n
-each-more f n = ap (λ k. each k f) (add-one n)
-
-pub each-same : {A : Type 0} (f h : ℕ → List A) (n : ℕ) → ((k : ℕ) → k < n → f k ≡ h k) → each n f ≡ each n h
-each-same f h zero same = refl
-each-same f h (suc n) same = ap₂ (λ x y. x ++ y) (each-same f h n (λ k less. same k (omega (arith, less)))) (same n (omega arith))
-
--- an owner lies in the table
-pub record IsIn (rows columns : ℕ) (o : Rectangle) : Type 0 where
-  pub row : o.0.row < rows
-  pub end : o.0.col + o.1.width ≤ columns
-  pub some : 1 ≤ o.1.width
-
-pub owner-in : (m : SpanMap) (rows columns : ℕ) → Fits m rows columns → (i j : ℕ) (o : Rectangle) → owner rows columns (entries m) i j ≡ Some o → IsIn rows columns o
-owner-in m rows columns fits i j o e = by (owned m (place s.row s.col)) s.is
-  where
-    s : Inside rows columns m i j o
-    s = owner-some rows columns m i j o e
-
-    by : Owned m (place s.row s.col) (owner_in (entries m) (place s.row s.col)) → o ≡ owner_in (entries m) (place s.row s.col) → IsIn rows columns o
-    by (held has _) is =
-        let x = owner_in (entries m) (place s.row s.col) in
-        let within = fits.inside x.0 x.1 has in
-        let sizes = fits.sizes.each x.0 x.1 has in
-        rw is (record { row = omega (arith, within.0, sizes.height); end = within.1; some = sizes.width })
-    by (alone single _) is = rw (is ∙ single) (record { row = s.below; end = omega (arith, s.right); some = omega arith })
-
-and-false : (b : Bool) → (b && false) ≡ false
-and-false true = refl
-and-false false = refl
-
 one-self : (a b : Option Rectangle) → is_one a b ≡ true → is_one a a ≡ true
 one-self None b t = absurd (false≢true t)
 one-self (Some p) b t = same_place-self p.0
 
-pub apart : (j : ℕ) → eqb j (j + 1) ≡ false
-apart j = by (cases_Bool (eqb j (j + 1)))
-  where
-    by : (eqb j (j + 1) ≡ true) ⊎ (eqb j (j + 1) ≡ false) → eqb j (j + 1) ≡ false
-    by (inl t) = let e : j ≡ j + 1 = eqb-true j (j + 1) t in absurd (omega (arith, e))
-    by (inr f) = f
-
 module _ (g : Grid (List ℕ)) (es : List Rectangle) (n u d j : ℕ) where
   shows-none : (a : Option Rectangle) → shows_in g es n j (j + 1) a ≡ []
   shows-none None = refl
-  shows-none (Some o) = ap (λ b. cond (b && eqb j (o.0.col + 1)) (shows g es n o) []) (apart j)
+  shows-none (Some o) = ap (λ b. cond (b && eqb j (o.0.col + 1)) (shows g es n o) []) (ne_eqb j (j + 1) (λ e. omega (arith, e)))
 
   edge-by : (mark : ℕ) (p q r s : Option Rectangle) → mark ≡ cond (eqb u d) 124 43
       → edge mark p q r s ≡ cond ((is_one p q && is_one p r) && is_one p s) (shows_in g es n j (j + 1) p) (replicate 1 (cond (eqb u d) 124 (cond (eqb j (j + 1)) 45 43)))
@@ -75,7 +38,7 @@ module _ (g : Grid (List ℕ)) (es : List Rectangle) (n u d j : ℕ) where
     where
       by : (b : Bool) → cond b [] (mark ∷ []) ≡ cond b (shows_in g es n j (j + 1) p) (replicate 1 (cond (eqb u d) 124 (cond (eqb j (j + 1)) 45 43)))
       by true = sym (shows-none p)
-      by false = ap (λ c. c ∷ []) (is ∙ ap (λ b. cond (eqb u d) 124 (cond b 45 43)) (sym (apart j)))
+      by false = ap (λ c. c ∷ []) (is ∙ ap (λ b. cond (eqb u d) 124 (cond b 45 43)) (sym (ne_eqb j (j + 1) (λ e. omega (arith, e)))))
 
   pub edge-is : (mark : ℕ) (p q r s : Option Rectangle) → mark ≡ cond (eqb u d) 124 43
       → p ≡ owner g.rows g.columns es u j → q ≡ owner g.rows g.columns es u (j + 1) → r ≡ owner g.rows g.columns es d j → s ≡ owner g.rows g.columns es d (j + 1)
@@ -99,7 +62,7 @@ pub one-in_row : (m : SpanMap) (rows columns i j : ℕ) → 0 < i → i ≤ rows
 one-in_row m rows columns i j low high right =
     let up : i ≡ i - 1 + 1 = omega (arith, low) in
     let o = owner_in (entries m) (place (i - 1) j) in
-    let is : owner rows columns (entries m) i (j + 1) ≡ Some o = ap (λ k. owner rows columns (entries m) k (j + 1)) up ∙ owner-inside rows columns m (i - 1) j (omega (arith, low, high)) right in
+    let is : owner rows columns (entries m) i (j + 1) ≡ Some o = ap (λ k. owner rows columns (entries m) k (j + 1)) up ∙ owner-inside rows columns (entries m) (i - 1) j (omega (arith, low, high)) right in
     ap₂ is_one is is ∙ same_place-self o.0
 
 module _ (g : Grid (List ℕ)) (m : SpanMap) (fits : Fits m g.rows g.columns) (edges : List ℕ) (laid : AreEdges g m edges) (n u d : ℕ) where
@@ -115,45 +78,38 @@ module _ (g : Grid (List ℕ)) (m : SpanMap) (fits : Fits m g.rows g.columns) (e
       → is_one (owner g.rows g.columns (entries m) u (j + 1)) (owner g.rows g.columns (entries m) d (j + 1)) ≡ true → inside edges j a (get_or texts j []) ≡ shows_in g (entries m) n (j + 1) (j + 1) a
   unfolding AreNext
   inside-is texts next j less None e one = refl
-  inside-is texts next j less (Some o) e one = by (cases_Bool (eqb o.0.col j))
+  inside-is texts next j less (Some o) e one = by (cases_eq o.0.col j)
     where
-      there : IsIn g.rows g.columns o
-      there = owner-in m g.rows g.columns fits u (j + 1) o (sym e)
+      there : Owns g.rows g.columns (entries m) u (j + 1) o
+      there = owner-owns g.rows g.columns (entries m) (fits-well m g.rows g.columns fits) u (j + 1) o (sym e)
 
-      by : (eqb o.0.col j ≡ true) ⊎ (eqb o.0.col j ≡ false) → inside edges j (Some o) (get_or texts j []) ≡ shows_in g (entries m) n (j + 1) (j + 1) (Some o)
-      by (inl t) =
-          let at : o.0.col ≡ j = eqb-true o.0.col j t in
+      by : (o.0.col ≡ j) ⊎ (o.0.col ≢ j) → inside edges j (Some o) (get_or texts j []) ≡ shows_in g (entries m) n (j + 1) (j + 1) (Some o)
+      by (inl at) =
           let both : (eqb (j + 1) (j + 1) && eqb (j + 1) (o.0.col + 1)) ≡ true = and_from _ _ (eq-eqb (j + 1) (j + 1) refl) (eq-eqb (j + 1) (o.0.col + 1) (ap (λ k. k + 1) (sym at))) in
           let shown : first_line (get_or texts j []) ≡ get_or (lines_of (text_at g o.0)) (n - top g (entries m) o.0.row - 1) [] = next j o less (sym e) at one in
           let space : get_or edges (j + o.1.width) 0 - get_or edges j 0 - 3 ≡ room Columns (widths g (entries m)) o.0.col o.1.width =
-          ap₂ (λ x y. x - y - 3) (laid.each (j + o.1.width) (omega (arith, there.end, at)) ∙ ap (λ k. left g (entries m) (k + o.1.width)) (sym at)) (laid.each j (omega (arith, less)) ∙ ap (left g (entries m)) (sym at)) in
-          cond-true _ _ _ t ∙ ap₂ (λ x y. 32 ∷ x ++ replicate (y - columns_in x + 1) 32) shown space ∙ sym (cond-true _ _ _ both)
-      by (inr f) =
-          let other : (eqb (j + 1) (j + 1) && eqb (j + 1) (o.0.col + 1)) ≡ false = never (cases_Bool (eqb (j + 1) (j + 1) && eqb (j + 1) (o.0.col + 1))) in
-          cond-false _ _ _ f ∙ sym (cond-false _ _ _ other)
-        where
-          never : ((eqb (j + 1) (j + 1) && eqb (j + 1) (o.0.col + 1)) ≡ true) ⊎ ((eqb (j + 1) (j + 1) && eqb (j + 1) (o.0.col + 1)) ≡ false) → (eqb (j + 1) (j + 1) && eqb (j + 1) (o.0.col + 1)) ≡ false
-          never (inl t) =
-              let same : j + 1 ≡ o.0.col + 1 = eqb-true (j + 1) (o.0.col + 1) (and_parts _ _ t).1 in
-              absurd (false≢true (sym f ∙ eq-eqb o.0.col j (omega (arith, same))))
-          never (inr h) = h
+          ap₂ (λ x y. x - y - 3) (laid.each (j + o.1.width) (omega (arith, there.lies.right, at)) ∙ ap (λ k. left g (entries m) (k + o.1.width)) (sym at)) (laid.each j (omega (arith, less)) ∙ ap (left g (entries m)) (sym at)) in
+          cond-true _ _ _ (eq-eqb o.0.col j at) ∙ ap₂ (λ x y. 32 ∷ x ++ replicate (y - columns_in x + 1) 32) shown space ∙ sym (cond-true _ _ _ both)
+      by (inr apart) =
+          let other : (eqb (j + 1) (j + 1) && eqb (j + 1) (o.0.col + 1)) ≡ false = ap (λ b. eqb (j + 1) (j + 1) && b) (ne_eqb (j + 1) (o.0.col + 1) (λ same. apart (omega (arith, same)))) ∙ and-false (eqb (j + 1) (j + 1)) in
+          cond-false _ _ _ (ne_eqb o.0.col j apart) ∙ sym (cond-false _ _ _ other)
 
-  size-is : (j : ℕ) → j < g.columns → length (widths g (entries m)) ≡ g.columns → get_or edges (j + 1) 0 - get_or edges j 0 - 1 ≡ get_or (widths g (entries m)) j 0 + 2
-  size-is j less long =
+  size-is : (j : ℕ) → j < g.columns → get_or edges (j + 1) 0 - get_or edges j 0 - 1 ≡ get_or (widths g (entries m)) j 0 + 2
+  size-is j less =
       let first : get_or edges j 0 ≡ left g (entries m) j = laid.each j (omega (arith, less)) in
       let next : get_or edges (j + 1) 0 ≡ left g (entries m) (j + 1) = laid.each (j + 1) (omega (arith, less)) in
-      let more : left g (entries m) (j + 1) ≡ left g (entries m) j + (get_or (widths g (entries m)) j 0 + 3) = start-more Columns (widths g (entries m)) j (omega (arith, less, long)) in
+      let more : left g (entries m) (j + 1) ≡ left g (entries m) j + (get_or (widths g (entries m)) j 0 + 3) = start-next Columns g (entries m) j less in
       omega (arith, first, next, more)
 
   module _ (mark : ℕ) (is_mark : mark ≡ cond (eqb u d) 124 43) (above below : List (Option Rectangle)) (over : IsOwnerRow g.rows g.columns m u above) (under : IsOwnerRow g.rows g.columns m d below)
-      (within : u ≡ d → (0 < u) × (u ≤ g.rows)) (long : length (widths g (entries m)) ≡ g.columns) (texts : List (List ℕ)) (next : AreNext texts) where
+      (within : u ≡ d → (0 < u) × (u ≤ g.rows)) (texts : List (List ℕ)) (next : AreNext texts) where
     column-is : (j : ℕ) → j < g.columns → column edges j (get_or above (j + 1) None) (get_or below (j + 1) None) (get_or texts j []) ≡ stretch g (entries m) n u d (j + 1) (j + 1) (get_or (widths g (entries m)) j 0 + 2)
     column-is j less =
         let a = owner g.rows g.columns (entries m) u (j + 1) in
         let b = owner g.rows g.columns (entries m) d (j + 1) in
         let row : u ≡ d → is_one a b ≡ true = λ same. ap (λ k. is_one a (owner g.rows g.columns (entries m) k (j + 1))) (sym same) ∙ one-in_row m g.rows g.columns u j (within same).0 (within same).1 less in
         ap₂ (λ x y. column edges j x y (get_or texts j [])) (over.each (j + 1) (omega (arith, less))) (under.each (j + 1) (omega (arith, less)))
-        ∙ ap (λ s. cond (is_one a b) (inside edges j a (get_or texts j [])) (replicate s 45)) (size-is j less long)
+        ∙ ap (λ s. cond (is_one a b) (inside edges j a (get_or texts j [])) (replicate s 45)) (size-is j less)
         ∙ column-by g (entries m) n u d j a b (inside edges j a (get_or texts j [])) (get_or (widths g (entries m)) j 0 + 2) (λ one. inside-is texts next j less a refl one) row
 
     pub line-is : (columns : ℕ) → columns ≡ g.columns → drawn_line columns mark edges above below texts ≡ line g (entries m) n u d ++ (10 ∷ [])

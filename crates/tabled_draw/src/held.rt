@@ -1,6 +1,6 @@
 //! Bytes that are held until there are many to send.
 
-ghost use Rattle.std.specs.Prelude.{◌≡◌, ◌≤◌, ◌<◌, ◌∷◌, [], IfOk, OnOk, length, replicate, take};
+ghost use Rattle.std.specs.Prelude.{◌≡◌, ◌∷◌, [], IfOk, OnOk, replicate};
 ghost use Rattle.tabled_draw.specs.Sent.{Sends};
 
 use std::alloc::{AllocError, Global};
@@ -10,21 +10,18 @@ use std::marker::Model;
 /// How many bytes are held at most.
 const ROOM: usize = 16_384;
 
-/// Room for bytes, of which the first ones are held. It never grows.
+/// Bytes that are held. Their room never grows.
 #[derive(Drop)]
 pub(crate) struct Held {
     bytes: Vec<u8>,
-    len: usize,
 }
 
 impl Model for Held {
-    ghost use Rattle.std.specs.Prelude.{ℕ, ◌<◌, ◌≤◌, List, length, take};
+    ghost use Rattle.std.specs.Prelude.{ℕ, List};
 
     ghost Value = { List ℕ };
 
-    ghost view = { λ a. take a.len a.bytes.items };
-
-    ghost invariant = { λ a. (a.len ≤ length a.bytes.items) × (0 < length a.bytes.items) };
+    ghost view = { λ a. a.bytes.items };
 }
 
 impl Held {
@@ -32,8 +29,8 @@ impl Held {
     pub(crate) fn new(alloc: Global) -> Result<Self, AllocError>
         ensures empty { IfOk result (λ held. held ≡ []) }
     {
-        let bytes = vec![in alloc; 0; ROOM]?;
-        Ok(Held { bytes, len: 0 })
+        let bytes = Vec::with_capacity(alloc, ROOM)?;
+        Ok(Held { bytes })
     }
 
     /// Sends what is held.
@@ -41,8 +38,8 @@ impl Held {
         ensures sends { OnOk result (Sends (W.contents writer.old) self.old (W.contents writer.new) self.new []) }
         ensures empty { OnOk result (self.new ≡ []) }
     {
-        writer.write_all(&self.bytes[..self.len])?;
-        self.len = 0;
+        writer.write_all(&self.bytes)?;
+        self.bytes.clear();
         Ok(())
     }
 
@@ -50,42 +47,24 @@ impl Held {
     pub(crate) fn push<W: Write>(&mut self, writer: &mut W, byte: u8) -> io::Result<()>
         ensures sends { OnOk result (Sends (W.contents writer.old) self.old (W.contents writer.new) self.new (byte ∷ [])) }
     {
-        if self.len == self.bytes.len() {
-            writer.write_all(&self.bytes)?;
-            self.len = 0;
+        if self.bytes.len() == self.bytes.capacity() {
+            return self.write(writer, &[byte]);
         }
-        self.bytes[self.len] = byte;
-        self.len += 1;
+        self.bytes.push(byte)?;
         Ok(())
     }
 
-    /// Sends bytes, or holds them.
+    /// Holds bytes, or sends them after what is held, if there is no room.
     pub(crate) fn write<W: Write>(&mut self, writer: &mut W, bytes: &[u8]) -> io::Result<()>
         ensures sends { OnOk result (Sends (W.contents writer.old) self.old (W.contents writer.new) self.new bytes.now) }
     {
-        let mut done = 0;
-        while done < bytes.len() {
-            done += self.write_part(writer, &bytes[done..])?;
+        if bytes.len() > self.bytes.capacity() - self.bytes.len() {
+            self.send(writer)?;
+            writer.write_all(bytes)?;
+            return Ok(());
         }
+        self.bytes.extend_from_slice(bytes)?;
         Ok(())
-    }
-
-    /// Sends what is held, if there is no room, and then holds the first bytes of some, of which it tells the number.
-    fn write_part<W: Write>(&mut self, writer: &mut W, bytes: &[u8]) -> io::Result<usize>
-        requires { 0 < length bytes.now }
-        ensures some { IfOk result (λ n. 0 < n) }
-        ensures within { IfOk result (λ n. n ≤ length bytes.now) }
-        ensures sends { IfOk result (λ n. Sends (W.contents writer.old) self.old (W.contents writer.new) self.new (take n bytes.now)) }
-    {
-        if self.len == self.bytes.len() {
-            writer.write_all(&self.bytes)?;
-            self.len = 0;
-        }
-        let n = bytes.len().min(self.bytes.len() - self.len);
-        let end = self.len + n;
-        self.bytes[self.len..end].copy_from_slice(&bytes[..n]);
-        self.len = end;
-        Ok(n)
     }
 
     /// Sends a byte many times, or holds it as often.
@@ -97,28 +76,14 @@ impl Held {
     ) -> io::Result<()>
         ensures sends { OnOk result (Sends (W.contents writer.old) self.old (W.contents writer.new) self.new (replicate count byte)) }
     {
-        let mut left = count;
-        while left > 0 {
-            left -= self.repeat_part(writer, byte, left)?;
+        let len = self.bytes.len();
+        if count > self.bytes.capacity() - len {
+            for _ in 0..count {
+                self.push(writer, byte)?;
+            }
+            return Ok(());
         }
+        self.bytes.resize(len + count, byte)?;
         Ok(())
-    }
-
-    /// Sends what is held, if there is no room, and then holds a byte at most so many times, and tells how often.
-    fn repeat_part<W: Write>(&mut self, writer: &mut W, byte: u8, most: usize) -> io::Result<usize>
-        requires { 0 < most }
-        ensures some { IfOk result (λ n. 0 < n) }
-        ensures within { IfOk result (λ n. n ≤ most) }
-        ensures sends { IfOk result (λ n. Sends (W.contents writer.old) self.old (W.contents writer.new) self.new (replicate n byte)) }
-    {
-        if self.len == self.bytes.len() {
-            writer.write_all(&self.bytes)?;
-            self.len = 0;
-        }
-        let n = most.min(self.bytes.len() - self.len);
-        let end = self.len + n;
-        self.bytes[self.len..end].fill(byte);
-        self.len = end;
-        Ok(n)
     }
 }

@@ -1,11 +1,11 @@
 //! Pictures of texts and of tables that few users have in mind.
 
-use crate::scripts::{drawn, first_wrong};
+use crate::scripts::drawn;
 use std::alloc::{AllocError, Global};
 use std::test::Fail;
 
 /// Wide characters, such that take no column, control characters, lines, and how columns and rows grow.
-const ODD: &str = "row\t漢字\ta
+pub(crate) const ODD: &str = "row\t漢字\ta
 row\tb\t漢
 =
 +------+----+
@@ -112,12 +112,6 @@ row\t
 +--+
 |  |
 +--+";
-
-#[test]
-fn odd_texts_are_drawn(rt: HostRuntime) -> Result<(), Fail> {
-    assert_eq!(rt; first_wrong(rt.alloc(), ODD)?, None);
-    Ok(())
-}
 
 /// Whether the picture of a script's table is empty.
 fn has_no_line(alloc: Global, script: &str) -> Result<bool, AllocError> {

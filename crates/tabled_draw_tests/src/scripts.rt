@@ -1,5 +1,8 @@
 //! Scripts and the pictures of their tables.
 
+use crate::odd::ODD;
+use crate::originals::ORIGINALS;
+use crate::rearranged::{REARRANGED, TABLE};
 use std::alloc::{AllocError, Global};
 use std::test::Fail;
 use tabled_draw::picture;
@@ -33,15 +36,17 @@ pub(crate) fn has_lines(picture: &str, lines: &str) -> bool {
     picture.strip_suffix('\n') == Some(lines)
 }
 
-/// Tells the first of some cases that isn't drawn as it says. A case is a script and, after a line `=`, the
-/// lines of its picture; an empty line stands before the next case.
-pub(crate) fn first_wrong(
+/// Tells the first of some cases that isn't drawn as it says. A case is lines of a script, before which some stand in
+/// all cases, and, after a line `=`, the lines of its picture; an empty line stands before the next case.
+fn first_wrong(
     alloc: Global,
+    before: &str,
     cases: &'static str,
 ) -> Result<Option<&'static str>, Fail> {
     for case in cases.split("\n\n") {
-        let (script, lines) = case.split_once("\n=\n").unwrap_or(("", ""));
-        let is_right = match drawn(alloc, script)? {
+        let (steps, lines) = case.split_once("=\n").unwrap_or(("", ""));
+        let script = format!(in alloc; "{before}{steps}")?;
+        let is_right = match drawn(alloc, script.as_str())? {
             Some(picture) => has_lines(picture.as_str(), lines),
             None => false,
         };
@@ -50,4 +55,12 @@ pub(crate) fn first_wrong(
         }
     }
     Ok(None)
+}
+
+#[test]
+fn are_drawn_as_they_say(rt: HostRuntime) -> Result<(), Fail> {
+    for (before, cases) in [("", ORIGINALS), ("", ODD), (TABLE, REARRANGED)] {
+        assert_eq!(rt; first_wrong(rt.alloc(), before, cases)?, None);
+    }
+    Ok(())
 }

@@ -1,7 +1,8 @@
 use Rattle.std.proofs.Common.{◌≡◌, ◌∙◌, ◌+◌, ◌-◌, ◌<◌, ◌≤◌, ℕ, [], None, add-zero, ap, ap₂, arith, get_or, length, refl, subst, sym}
 use Rattle.std.specs.FinMap.{entries}
+use Rattle.tabled_draw.proofs.LawSizes.{start-next}
 use Rattle.tabled_draw.proofs.Rests.{bytes_in}
-use Rattle.tabled_draw.proofs.Rows.{all-below, between, end-inside, first-below, in-row, left-in_row, left-next_row, more-below, top-more}
+use Rattle.tabled_draw.proofs.Rows.{all-below, between, end-inside, first-below, in-row, left-in_row, left-next_row, more-below}
 use Rattle.tabled_draw.proofs.Sent.{draws-as, draws-then}
 use Rattle.tabled_draw.specs.Lines.{AreLeft, begun, drawn_line, left_of}
 use Rattle.tabled_draw.specs.OwnerRows.{IsOwnerRow}
@@ -9,6 +10,7 @@ use Rattle.tabled_draw.specs.Picture.{top}
 use Rattle.tabled_draw.specs.Sizes.{heights}
 use Rattle.tabled_grid.specs.Entity.{place}
 use Rattle.tabled_grid.specs.Grid.{map_grid}
+use Rattle.tabled_grid.specs.declared.records.axis.Axis.TheVariants.{Rows}
 use Rattle.tabled_draw.proofs.drawing.write_row.Goals as goal
 
 pub write_line-requires-clause-inside : goal.write_line-requires-clause-inside
@@ -22,7 +24,6 @@ loop-y-init g c =
     let t = map_grid g.R.Cell.CellText.text_of (g.R.GridStore.grid c.args.records.now) in
     let m = c.args.spans.now in
     let i = c.args.i in
-    let contents = g.W.Write.contents in
     let old = bytes_in c.args.rests.now.items in
     let cut = bytes_in c.write_line.new.rests.items in
     let new = bytes_in c.begin.new.rests.items in
@@ -34,7 +35,7 @@ loop-y-init g c =
       left = subst (λ n. AreLeft t m (i + 1) n new) (sym (add-zero (top t (entries m) i + 1))) (left-next_row t m c.requires.fits i (top t (entries m) i) old cut new c.requires.row refl c.requires.left
           (λ j less. c.in_ok-write_line.ensures.rests j (omega (arith, less, c.requires.long)) ∙ ap₂ (λ a b. left_of j a b (get_or old j [])) (over.each (j + 1) (omega (arith, less))) (under.each (j + 1) (omega (arith, less))))
           (λ j less. c.begin.ensures.begun j less ∙ ap (λ a. begun t a (place i j) (get_or cut j [])) (again.each (j + 1) (omega (arith, less)))));
-      drawn = draws-as (contents c.args.writer.now) c.args.held.now (contents c.write_line.new.writer) c.write_line.new.held _ _
+      drawn = draws-as
           (between t m c.requires.fits c.args.edges.now c.requires.edges i (top t (entries m) i) c.deref.result.now c.deref-2.result.now old (length c.args.rests.now.items) refl over under c.requires.left c.requires.long ∙ first-below t (entries m) i)
           c.in_ok-write_line.ensures.draws;
     }
@@ -49,7 +50,6 @@ loop-y-preserved g c =
     let i = c.args.i in
     let y = c.loop-y._y in
     let n = top t (entries m) i + 1 + y in
-    let contents = g.W.Write.contents in
     let old = bytes_in c.loop-y.rests.items in
     let new = bytes_in c.write_line-in-loop-y.new.rests.items in
     let here = c.write_owners-after.new.here.items in
@@ -61,9 +61,7 @@ loop-y-preserved g c =
       long = c.in_ok-write_line-2.ensures.long ∙ c.loop-y.invariant.long;
       left = subst (λ k. AreLeft t m (i + 1) k new) (next (top t (entries m) i) y) (left-in_row t m c.requires.fits (i + 1) n old new (omega arith) (omega (arith, within)) low c.loop-y.invariant.left
           (λ j less. c.in_ok-write_line-2.ensures.rests j (omega (arith, less, c.loop-y.invariant.long)) ∙ ap₂ (λ a b. left_of j a b (get_or old j [])) (ap (λ row. get_or row (j + 1) None) c.deref-in-loop-y.ensures.value ∙ own.each (j + 1) (omega (arith, less))) (ap (λ row. get_or row (j + 1) None) c.deref-in-loop-y-2.ensures.value ∙ own.each (j + 1) (omega (arith, less)))));
-      drawn = draws-as (contents c.args.writer.now) c.args.held.now (contents c.write_line-in-loop-y.new.writer) c.write_line-in-loop-y.new.held _ _ (more-below t (entries m) i y)
-          (draws-then (contents c.args.writer.now) c.args.held.now (contents c.loop-y.writer) (contents c.write_line-in-loop-y.new.writer) c.loop-y.held c.write_line-in-loop-y.new.held _ _ c.loop-y.invariant.drawn
-          (draws-as (contents c.loop-y.writer) c.loop-y.held (contents c.write_line-in-loop-y.new.writer) c.write_line-in-loop-y.new.held _ _
+      drawn = draws-as (more-below t (entries m) i y) (draws-then c.loop-y.invariant.drawn (draws-as
           (ap₂ (λ a b. drawn_line (length c.loop-y.rests.items) 124 edges a b old) c.deref-in-loop-y.ensures.value c.deref-in-loop-y-2.ensures.value ∙ in-row t m c.requires.fits edges c.requires.edges i n here old (length c.loop-y.rests.items) within own c.loop-y.invariant.left c.loop-y.invariant.long)
           c.in_ok-write_line-2.ensures.draws));
     }
@@ -76,12 +74,11 @@ returns g c =
     let t = map_grid g.R.Cell.CellText.text_of (g.R.GridStore.grid c.args.records.now) in
     let m = c.args.spans.now in
     let i = c.args.i in
-    let contents = g.W.Write.contents in
     let y : c.loop-y._y ≡ get_or (heights t (entries m)) i 0 = (let e : c.loop-y._y ≡ c.args.height = omega (arith, c.loop-y-test.false, c.loop-y.auto._y-end) in e ∙ c.requires.height) in
     record {
       next = c.write_owners-after.ensures.next;
       here = c.write_owners-after.ensures.here;
       long = c.loop-y.invariant.long;
-      draws = draws-as (contents c.args.writer.now) c.args.held.now (contents c.loop-y.writer) c.loop-y.held _ _ (all-below t (entries m) i c.loop-y._y y) c.loop-y.invariant.drawn;
-      left = subst (λ k. AreLeft t m (i + 1) k (bytes_in c.loop-y.rests.items)) (ap (λ k. top t (entries m) i + 1 + k) y ∙ last (top t (entries m) i) (get_or (heights t (entries m)) i 0) (top t (entries m) (i + 1)) (top-more t (entries m) i c.requires.row)) c.loop-y.invariant.left;
+      draws = draws-as (all-below t (entries m) i c.loop-y._y y) c.loop-y.invariant.drawn;
+      left = subst (λ k. AreLeft t m (i + 1) k (bytes_in c.loop-y.rests.items)) (ap (λ k. top t (entries m) i + 1 + k) y ∙ last (top t (entries m) i) (get_or (heights t (entries m)) i 0) (top t (entries m) (i + 1)) (start-next Rows t (entries m) i c.requires.row)) c.loop-y.invariant.left;
     }

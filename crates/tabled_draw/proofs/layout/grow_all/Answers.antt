@@ -1,5 +1,7 @@
-use Rattle.std.proofs.Common.{◌≡◌, ◌∙◌, ap, ap₂, get_or, length, refl}
-use Rattle.tabled_draw.proofs.Sizes.{anchor-at, grown-all, grown-more, length-grown, lines-end, some-lines}
+use Rattle.std.proofs.Common.{◌≡◌, ◌∙◌, arith, ap, ap₂, get_or, length, refl}
+use Rattle.std.proofs.Math.ListN.{length-set}
+use Rattle.tabled_draw.proofs.LawSizes.{lies-along}
+use Rattle.tabled_draw.proofs.Sizes.{anchor-at, grown-all, grown-more}
 use Rattle.tabled_draw.specs.Sizes.{grown}
 use Rattle.tabled_grid.specs.Axis.{line_of, lines_in}
 use Rattle.tabled_grid.specs.Grid.{map_grid}
@@ -12,14 +14,13 @@ loop-k-init g c = record { long = c.requires.long; grown = refl }
 pub get_text-requires-clause-inside : goal.get_text-requires-clause-inside
 get_text-requires-clause-inside g c =
     let e = anchor-at c.args.spans.now _ _ c.requires.fits c.anchors-anchors.result.now c.anchors-anchors.ensures.anchors c.loop-k.k (record { row = 0; col = 0 }, sized 0 0) c.loop-k-test.true in
-    record { row = e.top; col = e.left }
+    record { row = omega (arith, e.high, e.bottom); col = omega (arith, e.wide, e.right) }
 
-pub grow-requires-clause-some : goal.grow-requires-clause-some
-grow-requires-clause-some g c = rw c.lines_in.ensures (some-lines c.args.axis _ _ _ (anchor-at c.args.spans.now _ _ c.requires.fits c.anchors-anchors.result.now c.anchors-anchors.ensures.anchors c.loop-k.k (record { row = 0; col = 0 }, sized 0 0) c.loop-k-test.true))
-
-pub grow-requires-clause-end : goal.grow-requires-clause-end
-grow-requires-clause-end g c =
-    rw (c.lines_in.ensures, c.line_of.ensures, c.loop-k.invariant.long) (lines-end c.args.axis (g.R.GridStore.grid c.args.records.now) _ (anchor-at c.args.spans.now _ _ c.requires.fits c.anchors-anchors.result.now c.anchors-anchors.ensures.anchors c.loop-k.k (record { row = 0; col = 0 }, sized 0 0) c.loop-k-test.true))
+pub grow-requires : goal.grow-requires
+grow-requires g c =
+    let e = anchor-at c.args.spans.now _ _ c.requires.fits c.anchors-anchors.result.now c.anchors-anchors.ensures.anchors c.loop-k.k (record { row = 0; col = 0 }, sized 0 0) c.loop-k-test.true in
+    let along = lies-along c.args.axis (g.R.GridStore.grid c.args.records.now) _ e in
+    record { some = rw c.lines_in.ensures along.0; end = rw (c.lines_in.ensures, c.line_of.ensures, c.loop-k.invariant.long) along.1 }
 
 pub loop-k-preserved : goal.loop-k-preserved
 loop-k-preserved g c =
@@ -27,7 +28,7 @@ loop-k-preserved g c =
     let e = get_or c.anchors-anchors.result.now c.loop-k.k (record { row = 0; col = 0 }, sized 0 0) in
     let grew : c.grow.new.sizes.items ≡ grown c.args.axis c.loop-k.sizes.items (line_of c.args.axis e.0) (lines_in c.args.axis e.1) c.in_ok-need.need = c.in_ok-grow.ensures.grown ∙ ap₂ (λ a n. grown c.args.axis c.loop-k.sizes.items a n c.in_ok-need.need) c.line_of.ensures c.lines_in.ensures in
     record {
-      long = ap length grew ∙ length-grown c.args.axis c.loop-k.sizes.items _ _ _ ∙ c.loop-k.invariant.long;
+      long = ap length grew ∙ length-set c.loop-k.sizes.items _ _ ∙ c.loop-k.invariant.long;
       grown = grown-more c.args.axis t c.args.spans.now c.args.sizes.now.items c.loop-k.k (record { row = 0; col = 0 }, sized 0 0) c.anchors-anchors.result.now c.anchors-anchors.ensures.anchors c.loop-k-test.true c.loop-k.sizes.items _ c.get_text.ensures c.in_ok-need.need _ c.loop-k.invariant.grown c.in_ok-need.ensures grew;
     }
 

@@ -9,7 +9,7 @@ use Rattle.tabled_draw.proofs.layout.raise_all.Goals as goal
 
 pub loop-i-init : goal.loop-i-init
 loop-i-init g c = record {
-  above = row-outside _ _ c.args.spans.now 0 _ (owner-top _ _ c.args.spans.now) (c.clear.ensures.long ∙ c.requires.above) c.clear.ensures.none;
+  above = row-outside _ _ c.args.spans.now 0 _ (owner-top _ _ (entries c.args.spans.now)) (c.clear.ensures.long ∙ c.requires.above) c.clear.ensures.none;
   here = c.requires.here;
   next = sym (count-none (entries c.args.spans.now));
   widths = c.requires.widths;

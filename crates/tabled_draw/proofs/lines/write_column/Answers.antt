@@ -1,7 +1,7 @@
 use Rattle.std.proofs.Common.{◌≡◌, ◌∙◌, ◌+◌, ◌-◌, [], ℕ, List, Option, Some, None, ap, eqb, false, true, get_or, lit<, refl, replicate, sym}
 use Rattle.std.proofs.lemmas.Bool.{cond-true, cond-false}
 use Rattle.tabled_draw.proofs.Cells.{draws-repeat}
-use Rattle.tabled_draw.proofs.Plain.{eq-false}
+use borrow.Author.Tests.{ne_eqb}
 use Rattle.tabled_draw.proofs.Sent.{draws-as, draws-none}
 use Rattle.tabled_draw.specs.Lines.{column}
 use Rattle.tabled_draw.specs.Owners.{is_one}
@@ -11,12 +11,9 @@ use Rattle.tabled_grid.specs.Spans.{Rectangle}
 
 pub returns-then-not-is_one-clause-draws : goal.returns-then-not-is_one-clause-draws
 returns-then-not-is_one-clause-draws g c =
-    let contents = g.W.Write.contents in
-    let count = c.saturating_sub-then-not-is_one.result in
-    let size : count ≡ get_or c.args.edges.now (c.args.j + 1) 0 - get_or c.args.edges.now c.args.j 0 - 1 = c.saturating_sub-then-not-is_one.ensures ∙ ap (λ x. x - 1) c.saturating_sub.ensures in
-    draws-as (contents c.args.writer.now) c.args.held.now (contents c.repeat.new.writer) c.repeat.new.self (replicate count 45) (column c.args.edges.now c.args.j c.args.above c.args.below c.args.rest.now)
-    (ap (λ n. replicate n 45) size ∙ sym (cond-false _ _ _ (sym c.is_one.ensures ∙ c.if-not-is_one.true)))
-    (draws-repeat (contents c.args.writer.now) (contents c.repeat.new.writer) c.args.held.now c.repeat.new.self count 45 (lit< tt) c.in_ok-repeat.ensures.sends)
+    let size : c.saturating_sub-then-not-is_one.result ≡ get_or c.args.edges.now (c.args.j + 1) 0 - get_or c.args.edges.now c.args.j 0 - 1 = c.saturating_sub-then-not-is_one.ensures ∙ ap (λ x. x - 1) c.saturating_sub.ensures in
+    draws-as (ap (λ n. replicate n 45) size ∙ sym (cond-false _ _ _ (sym c.is_one.ensures ∙ c.if-not-is_one.true)))
+    (draws-repeat _ _ _ _ c.saturating_sub-then-not-is_one.result 45 (lit< tt) c.in_ok-repeat.ensures.sends)
 
 nothing : (edges : List ℕ) (j : ℕ) (a b : Option Rectangle) (text : List ℕ) → is_one a b ≡ true → ((o : Rectangle) → a ≡ Some o → eqb o.0.col j ≡ false) → [] ≡ column edges j a b text
 nothing edges j None b text one never = sym (cond-true _ _ _ one)
@@ -24,10 +21,8 @@ nothing edges j (Some o) b text one never = sym (cond-true _ _ _ one ∙ cond-fa
 
 pub returns-in_default-clause-draws : goal.returns-in_default-clause-draws
 returns-in_default-clause-draws g c =
-    let contents = g.W.Write.contents in
     let never : (o : Rectangle) → c.args.above ≡ Some o → eqb o.0.col c.args.j ≡ false = λ o e. elim c.in_default.branch [
-      | in_default-via-in-Some+else-at-j w ↦ eq-false o.0.col c.args.j (λ at. w.if-at-j.false (let same = sym w.in-Some.is ∙ e in ap (λ (x : Option Rectangle). elim x [ None ↦ 0 | Some y ↦ y.0.col ]) same ∙ at))
+      | in_default-via-in-Some+else-at-j w ↦ ne_eqb o.0.col c.args.j (λ at. w.if-at-j.false (let same = sym w.in-Some.is ∙ e in ap (λ (x : Option Rectangle). elim x [ None ↦ 0 | Some y ↦ y.0.col ]) same ∙ at))
       | in_default-via-in_default w ↦ absurd (w.in_default.not-Some o e)
     ] in
-    draws-as (contents c.args.writer.now) c.args.held.now (contents c.args.writer.now) c.args.held.now [] _ (nothing c.args.edges.now c.args.j c.args.above c.args.below c.args.rest.now (sym c.is_one.ensures ∙ c.if-not-is_one.false) never)
-    (draws-none (contents c.args.writer.now) c.args.held.now)
+    draws-as (nothing c.args.edges.now c.args.j c.args.above c.args.below c.args.rest.now (sym c.is_one.ensures ∙ c.if-not-is_one.false) never) draws-none

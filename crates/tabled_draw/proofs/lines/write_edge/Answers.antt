@@ -5,7 +5,7 @@ use Rattle.tabled_draw.proofs.Sent.{draws-as, draws-none}
 use Rattle.tabled_draw.proofs.lines.write_edge.Goals as goal
 
 pub returns-then-is_within : goal.returns-then-is_within
-returns-then-is_within g c = draws-as (g.W.Write.contents c.args.writer.now) c.args.held.now (g.W.Write.contents c.args.writer.now) c.args.held.now _ _ (sym (cond-true _ [] (c.args.mark ∷ []) (sym c.is_within.ensures ∙ c.if-is_within.true))) (draws-none (g.W.Write.contents c.args.writer.now) c.args.held.now)
+returns-then-is_within g c = draws-as (sym (cond-true _ [] (c.args.mark ∷ []) (sym c.is_within.ensures ∙ c.if-is_within.true))) draws-none
 
 pub returns : goal.returns
-returns g c = draws-as (g.W.Write.contents c.args.writer.now) c.args.held.now (g.W.Write.contents c.push.new.writer) c.push.new.self _ _ (sym (cond-false _ [] (c.args.mark ∷ []) (sym c.is_within.ensures ∙ c.if-is_within.false))) (draws-byte (g.W.Write.contents c.args.writer.now) (g.W.Write.contents c.push.new.writer) c.args.held.now c.push.new.self c.args.mark c.requires c.in_ok-push.ensures.sends)
+returns g c = draws-as (sym (cond-false _ [] (c.args.mark ∷ []) (sym c.is_within.ensures ∙ c.if-is_within.false))) (draws-byte _ _ _ _ c.args.mark c.requires c.in_ok-push.ensures.sends)

@@ -1,9 +1,9 @@
-use Rattle.std.proofs.Common.{◌≡◌, ◌∙◌, ◌+◌, ◌<◌, [], ◌∷◌, None, ap, arith, get_or, length, lit<, refl, sym}
+use Rattle.std.proofs.Common.{◌≡◌, ◌∙◌, ◌+◌, ◌<◌, [], None, ap, arith, get_or, length, lit<, refl, sym}
 use Rattle.std.proofs.Math.ListN.{length-set}
 use Rattle.tabled_draw.proofs.Cells.{draws-byte}
 use Rattle.tabled_draw.proofs.Rests.{bytes_in, changed-more, changed-none, text-in}
 use Rattle.tabled_draw.proofs.Sent.{draws-as, draws-none, draws-then}
-use Rattle.tabled_draw.proofs.Stretches.{each-more}
+use Rattle.tabled_draw.proofs.Each.{each-more}
 use Rattle.tabled_draw.specs.Each.{each}
 use Rattle.tabled_draw.specs.Lines.{column, drawn_line, edge, left_of, stretches}
 use Rattle.tabled_draw.proofs.lines.write_line.Goals as goal
@@ -12,11 +12,10 @@ pub write_column-requires-clause-end : goal.write_column-requires-clause-end
 write_column-requires-clause-end g c = λ o e at. omega (arith, c.requires.inside.each c.loop-j.j o (omega (arith, c.loop-j-test.true, c.len-columns.ensures)) e at, c.requires.edges)
 
 pub loop-j-init : goal.loop-j-init
-loop-j-init g c = record { long = refl; rests = changed-none _ _; drawn = draws-none _ _ }
+loop-j-init g c = record { long = refl; rests = changed-none _ _; drawn = draws-none }
 
 pub loop-j-preserved : goal.loop-j-preserved
 loop-j-preserved g c =
-    let contents = g.W.Write.contents in
     let j = c.loop-j.j in
     let old = bytes_in c.args.rests.now.items in
     let less : j < length c.loop-j.rests.items = omega (arith, c.loop-j-test.true, c.len-columns.ensures, c.loop-j.invariant.long) in
@@ -26,24 +25,20 @@ loop-j-preserved g c =
     record {
       long = length-set c.loop-j.rests.items j _ ∙ c.loop-j.invariant.long;
       rests = changed-more _ old c.loop-j.rests.items j c.in_ok-rests.field-0 c.loop-j.invariant.rests less (c.in_ok-rests.ensures.rest ∙ ap (left_of j a b) text);
-      drawn = draws-as (contents c.args.writer.now) c.args.held.now (contents c.write_column.new.writer) c.write_column.new.held _ _ (sym (each-more (stretches c.args.mark c.args.edges.now c.args.above.now c.args.below.now old) j))
-          (draws-then (contents c.args.writer.now) c.args.held.now (contents c.loop-j.writer) (contents c.write_column.new.writer) c.loop-j.held c.write_column.new.held _ _ c.loop-j.invariant.drawn
-          (draws-then (contents c.loop-j.writer) c.loop-j.held (contents c.write_edge.new.writer) (contents c.write_column.new.writer) c.write_edge.new.held c.write_column.new.held _ _ c.in_ok-write_edge.ensures
-          (draws-as (contents c.write_edge.new.writer) c.write_edge.new.held (contents c.write_column.new.writer) c.write_column.new.held _ _ (ap (column c.args.edges.now j a b) text) c.in_ok-rests.ensures.draws)));
+      drawn = draws-as (sym (each-more (stretches c.args.mark c.args.edges.now c.args.above.now c.args.below.now old) j))
+          (draws-then c.loop-j.invariant.drawn (draws-then c.in_ok-write_edge.ensures (draws-as (ap (column c.args.edges.now j a b) text) c.in_ok-rests.ensures.draws)));
     }
 
 pub returns : goal.returns
 unfolding drawn_line
 returns g c =
-    let contents = g.W.Write.contents in
     let columns : c.len-columns.result ≡ length c.args.rests.now.items = omega (arith, c.len-columns.ensures) in
     let end : c.loop-j.j ≡ length c.args.rests.now.items = omega (arith, c.loop-j-test.false, c.loop-j.auto.j-end, c.len-columns.ensures) in
     record {
       long = c.loop-j.invariant.long;
-      draws = draws-then (contents c.args.writer.now) c.args.held.now (contents c.write_edge-2.new.writer) (contents c.push.new.writer) c.write_edge-2.new.held c.push.new.self _ (10 ∷ [])
-          (draws-then (contents c.args.writer.now) c.args.held.now (contents c.loop-j.writer) (contents c.write_edge-2.new.writer) c.loop-j.held c.write_edge-2.new.held _ _
-          (draws-as (contents c.args.writer.now) c.args.held.now (contents c.loop-j.writer) c.loop-j.held _ _ (ap (λ n. each n (stretches c.args.mark c.args.edges.now c.args.above.now c.args.below.now (bytes_in c.args.rests.now.items))) end) c.loop-j.invariant.drawn)
-          (draws-as (contents c.loop-j.writer) c.loop-j.held (contents c.write_edge-2.new.writer) c.write_edge-2.new.held _ _ (ap (λ n. edge c.args.mark (get_or c.args.above.now n None) (get_or c.args.above.now (n + 1) None) (get_or c.args.below.now n None) (get_or c.args.below.now (n + 1) None)) columns) c.in_ok-write_edge-2.ensures))
-          (draws-byte (contents c.write_edge-2.new.writer) (contents c.push.new.writer) c.write_edge-2.new.held c.push.new.self 10 (lit< tt) c.in_ok-push.ensures.sends);
+      draws = draws-then (draws-then
+          (draws-as (ap (λ n. each n (stretches c.args.mark c.args.edges.now c.args.above.now c.args.below.now (bytes_in c.args.rests.now.items))) end) c.loop-j.invariant.drawn)
+          (draws-as (ap (λ n. edge c.args.mark (get_or c.args.above.now n None) (get_or c.args.above.now (n + 1) None) (get_or c.args.below.now n None) (get_or c.args.below.now (n + 1) None)) columns) c.in_ok-write_edge-2.ensures))
+          (draws-byte _ _ _ _ 10 (lit< tt) c.in_ok-push.ensures.sends);
       rests = λ j h. c.loop-j.invariant.rests.done j (omega (arith, end, h));
     }

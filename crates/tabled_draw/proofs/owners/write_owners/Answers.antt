@@ -2,7 +2,7 @@ use Rattle.std.proofs.Common.{◌≡◌, ◌∙◌, ◌+◌, ◌<◌, None, Some
 use Rattle.std.proofs.lemmas.List.{get_or_default}
 use Rattle.std.specs.FinMap.{entries}
 use Rattle.tabled_draw.proofs.Before.{count-row}
-use Rattle.tabled_draw.proofs.Owned.{anchor-in, chosen-owner, owner-inside, row-first, row-last, row-more}
+use Rattle.tabled_draw.proofs.Owned.{chosen-owner, fits-well, owner-inside, row-first, row-last, row-more}
 use Rattle.tabled_draw.specs.OwnerRows.{chosen, count_before}
 use Rattle.tabled_draw.specs.Owners.{owner}
 use Rattle.tabled_grid.specs.Entity.{place}
@@ -27,7 +27,7 @@ loop-j-preserved g c =
     record {
       row = row-more rows columns m (i + 1) (j + 1) c.loop-j.here.items _ c.loop-j.invariant.row (omega (arith, within))
           (ap Some (c.owner_of.ensures ∙ ap (λ e. chosen c.index.result.now c.index-in-loop-j.result.now e (place i j)) c.next_at-after.ensures.begins ∙ chosen-owner m rows columns c.requires.fits (place i j) c.requires.row within _ _ before above)
-          ∙ sym (owner-inside rows columns m i j c.requires.row within));
+          ∙ sym (owner-inside rows columns (entries m) i j c.requires.row within));
       next = c.next_at-after.ensures.next;
     }
 
@@ -41,4 +41,4 @@ pub returns-clause-next : goal.returns-clause-next
 returns-clause-next g c =
     let columns = (g.R.GridStore.grid c.args.records.now).columns in
     let end : c.loop-j.j ≡ columns = omega (arith, c.loop-j-test.false, c.loop-j.auto.j-end, c.count_columns-columns.ensures.columns) in
-    c.loop-j.invariant.next ∙ ap (λ k. count_before c.args.i k (entries c.args.spans.now)) end ∙ count-row c.args.i columns (entries c.args.spans.now) (λ e m. (anchor-in c.args.spans.now _ columns c.requires.fits e m).left)
+    c.loop-j.invariant.next ∙ ap (λ k. count_before c.args.i k (entries c.args.spans.now)) end ∙ count-row c.args.i columns (entries c.args.spans.now) (λ e m. (let l = (fits-well c.args.spans.now _ columns c.requires.fits).lies e m in omega (arith, l.wide, l.right)))

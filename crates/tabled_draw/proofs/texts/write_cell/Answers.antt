@@ -4,7 +4,5 @@ use Rattle.tabled_draw.proofs.texts.write_cell.Goals as goal
 
 pub returns-clause-draws : goal.returns-clause-draws
 returns-clause-draws g c =
-    let contents = g.W.Write.contents in
-    draws-cell (contents c.args.writer.now) (contents c.push.new.writer) (contents c.write_shown.new.writer) (contents c.repeat.new.writer) (contents c.push-2.new.writer)
-    c.args.held.now c.push.new.self c.write_shown.new.held c.repeat.new.self c.push-2.new.self c.args.text.now _ c.args.room c.in_ok-left.left c.cut.ensures.line c.in_ok-left.ensures.left
-    (draws-byte _ _ _ _ 32 (lit< tt) c.in_ok-push.ensures.sends) c.in_ok-left.ensures.draws (draws-repeat _ _ _ _ c.in_ok-left.left 32 (lit< tt) c.in_ok-repeat.ensures.sends) (draws-byte _ _ _ _ 32 (lit< tt) c.in_ok-push-2.ensures.sends)
+    draws-cell c.args.text.now c.args.room c.cut.ensures.line c.in_ok-left.ensures.left (draws-byte _ _ _ _ 32 (lit< tt) c.in_ok-push.ensures.sends) c.in_ok-left.ensures.draws
+    (draws-repeat _ _ _ _ c.in_ok-left.left 32 (lit< tt) c.in_ok-repeat.ensures.sends) (draws-byte _ _ _ _ 32 (lit< tt) c.in_ok-push-2.ensures.sends)

@@ -44,6 +44,6 @@ returns-then-is_plain g c =
     let plain = c.is_plain.ensures c.if-is_plain.true in
     let line = plain-line c.args.line.now plain in
     record {
-      draws = draws-bytes (g.W.Write.contents c.args.writer.now) c.args.held.now (g.W.Write.contents c.write.new.writer) c.write.new.self c.args.line.now _ (rw line (sym (plain-bytes c.args.line.now plain))) (rw c.as_bytes.ensures.value at c.in_ok-write.ensures.sends);
+      draws = draws-bytes (g.W.Write.contents c.args.writer.now) (g.W.Write.contents c.write.new.writer) c.args.held.now c.write.new.self c.args.line.now _ (rw line (sym (plain-bytes c.args.line.now plain))) (rw c.as_bytes.ensures.value at c.in_ok-write.ensures.sends);
       left = c.saturating_sub.ensures ∙ ap (λ n. c.args.room - n) (sym (plain-columns c.args.line.now plain) ∙ ap columns_in (sym line));
     }

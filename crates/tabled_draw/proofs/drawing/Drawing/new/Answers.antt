@@ -2,7 +2,7 @@ use Rattle.std.proofs.Common.{◌∙◌, ap, length}
 use Rattle.std.proofs.lemmas.List.{length-replicate}
 use Rattle.std.specs.FinMap.{entries}
 use Rattle.tabled_draw.proofs.Laid.{bytes-drawn, fits-of}
-use Rattle.tabled_draw.proofs.Rows.{sizes-long}
+use Rattle.tabled_draw.proofs.LawSizes.{length-sizes}
 use Rattle.tabled_grid.specs.Grid.{map_grid}
 use Rattle.tabled_grid.specs.declared.records.axis.Axis.TheVariants.{Rows}
 use Rattle.tabled_draw.proofs.drawing.Drawing.new.Goals as goal
@@ -19,7 +19,7 @@ invariant_of-result g c =
         fits = fits-of t c.args.cfg.now m _ _ c.count_rows-rows.ensures.rows c.count_columns-columns.ensures.columns c.in_ok-spans.ensures.fitting c.fitting.ensures.sizes;
         edges = c.in_ok-layout.ensures.edges;
         heights = c.in_ok-layout.ensures.heights;
-        tall = ap length c.in_ok-layout.ensures.heights ∙ sizes-long Rows t (entries m);
+        tall = ap length c.in_ok-layout.ensures.heights ∙ length-sizes Rows t (entries m);
         above = c.in_ok-layout.ensures.above;
         here = c.in_ok-layout.ensures.here;
         rests = ap length (c.in_ok-rests.ensures.items_if_clones_equal (λ y e. e)) ∙ length-replicate _ _ ∙ c.count_columns-columns.ensures.columns;

@@ -1,0 +1,46 @@
+-- Lists of what a function gives of one number after another.
+use Rattle.std.proofs.Common.{◌≡◌, ◌∙◌, ◌+◌, ◌<◌, ◌≤◌, ◌⊎◌, ◌++◌, inl, inr, ℕ, suc, zero, List, [], ◌∷◌, refl, sym, ap, ap₂, arith, length, get_or, add-one, append_assoc, append-nil, length-append}
+use Rattle.std.specs.List.{AllByRecursion}
+use Rattle.std.proofs.lemmas.Bool.{cases_lt}
+use Rattle.std.proofs.lemmas.List.{get_or_append_left, get_or_push}
+use Rattle.tabled_draw.specs.Each.{each}
+use Rattle.tabled_grid.proofs.Lists.{all-append}
+
+pub each-more : {A : Type 0} (f : ℕ → List A) (n : ℕ) → each (n + 1) f ≡ each n f ++ f n
+each-more f n = ap (λ k. each k f) (add-one n)
+
+pub each-same : {A : Type 0} (f h : ℕ → List A) (n : ℕ) → ((k : ℕ) → k < n → f k ≡ h k) → each n f ≡ each n h
+each-same f h zero same = refl
+each-same f h (suc n) same = ap₂ (λ x y. x ++ y) (each-same f h n (λ k less. same k (omega (arith, less)))) (same n (omega arith))
+
+pub length-singles : {A : Type 0} (f : ℕ → A) (n : ℕ) → length (each n (λ k. f k ∷ [])) ≡ n
+length-singles f zero = refl
+length-singles f (suc n) = length-append (each n (λ k. f k ∷ [])) (f n ∷ []) ∙ ap (λ k. k + 1) (length-singles f n) ∙ add-one n
+
+pub get-singles : {A : Type 0} (f : ℕ → A) (n k : ℕ) (d : A) → k < n → get_or (each n (λ k. f k ∷ [])) k d ≡ f k
+get-singles f zero k d h = absurd (omega arith)
+get-singles f (suc n) k d h = by (cases_lt k n) (get-singles f n k d)
+  where
+    by : (k < n) ⊎ (n ≤ k) → (k < n → get_or (each n (λ k. f k ∷ [])) k d ≡ f k) → get_or (each n (λ k. f k ∷ []) ++ (f n ∷ [])) k d ≡ f k
+    by (inl less) go = get_or_append_left (each n (λ k. f k ∷ [])) (f n ∷ []) d k (omega (arith, length-singles f n)) ∙ go less
+    by (inr more) go =
+        let same : n ≡ k = omega arith in
+        get_or_push (each n (λ k. f k ∷ [])) (f n) d k (length-singles f n ∙ same) ∙ ap f same
+
+-- a part of a list of parts
+
+pub record Split {A : Type 0} (f : ℕ → List A) (n j : ℕ) : Type 0 where
+  pub rest : List A
+  pub is : each n f ≡ each j f ++ (f j ++ rest)
+
+pub split-each : {A : Type 0} (f : ℕ → List A) (n j : ℕ) → j < n → Split f n j
+split-each f zero j h = absurd (omega arith)
+split-each {A} f (suc n) j h = by (cases_lt j n) (split-each f n j)
+  where
+    by : (j < n) ⊎ (n ≤ j) → (j < n → Split f n j) → Split f (suc n) j
+    by (inl less) go = let s = go less in record { rest = s.rest ++ f n; is = ap (λ xs. xs ++ f n) s.is ∙ append_assoc (each j f) (f j ++ s.rest) (f n) ∙ ap (λ xs. each j f ++ xs) (append_assoc (f j) s.rest (f n)) }
+    by (inr more) go = let same : n ≡ j = omega arith in record { rest = []; is = ap (λ k. each k f ++ f k) same ∙ ap (λ xs. each j f ++ xs) (sym (append-nil (f j))) }
+
+pub all-each : {A : Type 0} (P : A → Type 0) (f : ℕ → List A) → ((i : ℕ) → AllByRecursion P (f i)) → (k : ℕ) → AllByRecursion P (each k f)
+all-each P f all zero = tt
+all-each P f all (suc k) = all-append P (each k f) (f k) (all-each P f all k) (all k)
