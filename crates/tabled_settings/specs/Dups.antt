@@ -19,10 +19,11 @@ round_from i texts (p ∷ places) = record { place = p; text = get_or texts (i %
 abbrev pub round_writes : List (List ℕ) → ℕ → ℕ → List Entity → List Write
 round_writes texts rows columns entities = flat_map (λ e. round_from 0 texts (inside e rows columns)) entities
 
--- texts for what an entity names in a grid, and for what each of some entities does
+-- texts for the cells that an entity names in a grid, one after another
 abbrev pub texts_to : Entity → List (List ℕ) → Grid (List ℕ) → List Write
 texts_to e texts g = round_from 0 texts (inside e g.rows g.columns)
 
+-- the same for each of some entities
 abbrev pub texts_to_each : List Entity → List (List ℕ) → Grid (List ℕ) → List Write
 texts_to_each entities texts g = round_writes texts g.rows g.columns entities
 
