@@ -1,6 +1,7 @@
 //! Spans of the least and of the greatest size, what spans print, and a text that is cut to the greatest width.
 
 use crate::tables::makes_flat;
+use Many::{All, Exactly, Greatest, Least};
 use SpanOf::{Columns, Rows};
 use std::alloc::{AllocError, Global};
 use std::test::Fail;
@@ -15,9 +16,35 @@ use tabled_spans::span::{ColumnSpan, RowSpan, Span};
 use tabled_testing::{flat, is_word, merged, nested, spelled_merged};
 
 #[derive(Clone, Copy)]
+enum Many {
+    Least,
+    Greatest,
+    All,
+    Exactly(isize),
+}
+
+#[derive(Clone, Copy)]
 enum SpanOf {
-    Columns(ColumnSpan),
-    Rows(RowSpan),
+    Columns(Many),
+    Rows(Many),
+}
+
+fn columns(many: Many) -> ColumnSpan {
+    match many {
+        Least => ColumnSpan::min(),
+        Greatest => ColumnSpan::max(),
+        All => ColumnSpan::spread(),
+        Exactly(size) => Span::column(size),
+    }
+}
+
+fn rows(many: Many) -> RowSpan {
+    match many {
+        Least => RowSpan::min(),
+        Greatest => RowSpan::max(),
+        All => RowSpan::spread(),
+        Exactly(size) => Span::row(size),
+    }
 }
 
 /// What a span on an entity makes of a table with merged cells, with `!` after it where it was refused.
@@ -34,8 +61,8 @@ where
     requires { R.is_well_formed records }
 {
     let done = match span {
-        Columns(span) => span.change(alloc, &mut records, &mut cfg, entity),
-        Rows(span) => span.change(alloc, &mut records, &mut cfg, entity),
+        Columns(many) => columns(many).change(alloc, &mut records, &mut cfg, entity),
+        Rows(many) => rows(many).change(alloc, &mut records, &mut cfg, entity),
     };
     let mut words = spelled_merged(alloc, &records, &cfg)?;
     if done.is_err() {
@@ -76,58 +103,38 @@ fn spanned_refusing(
 fn the_least_and_the_greatest_span_end_at_the_table(rt: HostRuntime) {
     let alloc = rt.alloc();
     for (old, span, entity, new) in [
-        (
-            "a b c /",
-            Columns(ColumnSpan::min()),
-            Cell(0, 2),
-            "c _ _ / 0.0:1x3",
-        ),
-        (
-            "a b c /",
-            Columns(ColumnSpan::max()),
-            Cell(0, 1),
-            "a b c / 0.1:1x2",
-        ),
-        (
-            "a b c /",
-            Columns(ColumnSpan::spread()),
-            Cell(0, 1),
-            "b _ _ / 0.0:1x3",
-        ),
+        ("a b c /", Columns(Least), Cell(0, 2), "c _ _ / 0.0:1x3"),
+        ("a b c /", Columns(Greatest), Cell(0, 1), "a b c / 0.1:1x2"),
+        ("a b c /", Columns(All), Cell(0, 1), "b _ _ / 0.0:1x3"),
         (
             "a / b / c /",
-            Rows(RowSpan::min()),
+            Rows(Least),
             Cell(2, 0),
             "c / _ / _ / 0.0:3x1",
         ),
         (
             "a / b / c /",
-            Rows(RowSpan::max()),
+            Rows(Greatest),
             Cell(1, 0),
             "a / b / c / 1.0:2x1",
         ),
-        (
-            "a / b / c /",
-            Rows(RowSpan::spread()),
-            Cell(1, 0),
-            "b / _ / _ / 0.0:3x1",
-        ),
-        ("a b c /", Rows(Span::row(2)), Column(usize::MAX), "a b c /"),
+        ("a / b / c /", Rows(All), Cell(1, 0), "b / _ / _ / 0.0:3x1"),
+        ("a b c /", Rows(Exactly(2)), Column(usize::MAX), "a b c /"),
         (
             "a b c / d e f / g h i / 1.2:2x1",
-            Columns(Span::column(isize::MAX)),
+            Columns(Exactly(isize::MAX)),
             Entity::Global,
             "a b c / d e f / g h i / 0.0:1x3 1.0:1x3",
         ),
         (
             "a b c / d e f / g h i / 2.1:1x2",
-            Rows(Span::row(isize::MAX)),
+            Rows(Exactly(isize::MAX)),
             Entity::Global,
             "a b c / d e f / g h i / 0.0:3x1 0.1:3x1",
         ),
         (
             "a b c / d e f / g h i / 0.2:3x1",
-            Columns(Span::column(isize::MAX)),
+            Columns(Exactly(isize::MAX)),
             Row(1),
             "a b c / d e f / g h i / 0.2:3x1",
         ),
@@ -146,7 +153,7 @@ fn the_least_and_the_greatest_span_end_at_the_table(rt: HostRuntime) {
 #[test]
 fn writes_of_the_least_span_are_refused_in_turn(rt: HostRuntime) {
     let alloc = rt.alloc();
-    let least = Columns(ColumnSpan::new(isize::MIN));
+    let least = Columns(Exactly(isize::MIN));
     for (set, left) in [
         (1, "a b c /!"),
         (2, "c b c /!"),
