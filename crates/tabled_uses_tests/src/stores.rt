@@ -205,13 +205,21 @@ struct Outcome {
     same: bool,
 }
 
-/// Attempts a change, of one row, column or cell through the store's `&mut` if that is lent.
-fn attempt<R>(
-    alloc: Global,
-    mut records: R,
-    change: Change,
-    is_lent: bool,
-) -> Result<Outcome, AllocError>
+/// Attempts a change.
+fn attempt<R>(alloc: Global, mut records: R, change: Change) -> Result<Outcome, AllocError>
+where
+    R: Resizable + Records + ExactRecords + PeekableRecords + RecordsMut<String> + Drop,
+    R::Cell: CellText,
+    requires { R.is_well_formed records }
+{
+    let before = spelled(alloc, &records)?;
+    let made = make_change(alloc, &mut records, change).is_ok();
+    let same = spelled(alloc, &records)? == before;
+    Ok(Outcome { made, same })
+}
+
+/// The same of a change of one row, column or cell through the store's `&mut`.
+fn lent_attempt<R>(alloc: Global, mut records: R, change: Change) -> Result<Outcome, AllocError>
 where
     R: Resizable + Records + ExactRecords + PeekableRecords + RecordsMut<String> + Drop,
     R::Cell: CellText,
@@ -219,11 +227,7 @@ where
 {
     let before = spelled(alloc, &records)?;
     let mut lent = &mut records;
-    let made = if is_lent {
-        make_lent_change(alloc, &mut lent, change).is_ok()
-    } else {
-        make_change(alloc, lent, change).is_ok()
-    };
+    let made = make_lent_change(alloc, &mut lent, change).is_ok();
     let same = spelled(alloc, &*lent)? == before;
     Ok(Outcome { made, same })
 }
@@ -234,8 +238,13 @@ fn outcomes(
     change: Change,
     is_lent: bool,
 ) -> Result<(Outcome, Outcome), AllocError> {
-    let in_one = attempt(alloc, flat(alloc, TWO_ROWS)?, change, is_lent)?;
-    let in_rows = attempt(alloc, nested(alloc, TWO_ROWS)?, change, false)?;
+    let records = flat(alloc, TWO_ROWS)?;
+    let in_one = if is_lent {
+        lent_attempt(alloc, records, change)?
+    } else {
+        attempt(alloc, records, change)?
+    };
+    let in_rows = attempt(alloc, nested(alloc, TWO_ROWS)?, change)?;
     Ok((in_one, in_rows))
 }
 
