@@ -48,6 +48,10 @@ EachListed {A} {C} {X} lists does g c h d = (items : List X) × lists g items ×
 abbrev pub EachListedUntil : {A C X : Type 0} → (Grid A → List X → Type 0) → (X → Change A C) → (X → Change A C) → Change A C
 EachListedUntil {A} {C} {X} lists does leaves g c h d = (items : List X) × lists g items × EachUntil does leaves items g c h d
 
+-- what is left of a change for each listed item by a copy of one option, where the list, a copy or its change is refused
+abbrev pub EachListedLeaves : {A C X : Type 0} → (Grid A → List X → Type 0) → (X → Change A C) → (X → Change A C) → Change A C
+EachListedLeaves lists does leaves = SameOr (EachListedUntil lists does (λ x. SameOr (leaves x)))
+
 -- the second change is never refused where the first leads
 abbrev pub AfterNeverRefused : {A C : Type 0} → Change A C → (Grid A → C → Type 0) → Grid A → C → Type 0
 AfterNeverRefused {A} {C} does never g c = (h : Grid A) (d : C) → does g c h d → never h d

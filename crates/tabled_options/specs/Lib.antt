@@ -1,5 +1,6 @@
 pub mod Copies
 pub mod Does
 pub mod Hints
+pub mod Kept
 pub mod Shapes
 pub mod Writes

@@ -17,3 +17,7 @@ FitsAfter does leaves = OptionKeeps (λ g c. Fits c g.rows g.columns) does leave
 -- the same of an option on each entity
 abbrev pub FitsAfterEach : {A : Type 0} → (Entity → Change A SpanMap) → (Entity → Change A SpanMap) → Type 0
 FitsAfterEach does leaves = (e : Entity) → FitsAfter (does e) (leaves e)
+
+-- merged cells that fit do so after an option that leaves the shape, done and refused
+abbrev pub FitsInSameShape : {A : Type 0} → Change A SpanMap → Change A SpanMap → Type 0
+FitsInSameShape does leaves = KeepsShape does → KeepsShape leaves → FitsAfter does leaves

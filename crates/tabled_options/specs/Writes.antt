@@ -5,7 +5,7 @@ use Rattle.tabled_grid.specs.Entity.{inside}
 use Rattle.tabled_grid.specs.Grid.{Grid, map_grid, with_cell}
 use Rattle.tabled_grid.specs.declared.config.entity.Entity.{Entity}
 use Rattle.tabled_grid.specs.declared.config.position.Position.{Position}
-use Rattle.tabled_options.specs.Does.{Change}
+use Rattle.tabled_options.specs.Does.{Change, SameOr}
 
 -- a place and the text that is written there
 pub record Write : Type 0 where
@@ -37,6 +37,10 @@ DoesWrites text_of writes g c h d = Written text_of writes g h × (d ≡ c)
 -- the same for the writes before one of these
 abbrev pub DoesFirstWrites : {A C : Type 0} → (A → List ℕ) → (Grid (List ℕ) → List Write) → Change A C
 DoesFirstWrites text_of writes g c h d = FirstWritten text_of writes g h × (d ≡ c)
+
+-- nothing changed, or the writes before one of these
+abbrev pub SameOrFirstWrites : {A C : Type 0} → (A → List ℕ) → (Grid (List ℕ) → List Write) → Change A C
+SameOrFirstWrites text_of writes = SameOr (DoesFirstWrites text_of writes)
 
 -- a text at each of these places
 abbrev pub at_each : List ℕ → List Position → List Write

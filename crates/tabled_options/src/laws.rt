@@ -1,12 +1,11 @@
 //! Laws of what options do and leave. Each is the contract of a function that does nothing.
 
 ghost use Rattle.std.specs.Prelude.{◌≡◌, true};
-ghost use Rattle.std.specs.List.{AllByRecursion};
 ghost use Rattle.tabled_grid.specs.Entity.{names};
 ghost use Rattle.tabled_grid.specs.declared.config.entity.Entity.{Entity};
-ghost use Rattle.tabled_options.specs.Does.{CopiesAlike, OptionKeeps};
 ghost use Rattle.tabled_options.specs.Hints.{combined};
-ghost use Rattle.tabled_options.specs.Shapes.{FitsAfter, FitsAfterEach, KeepsShape};
+ghost use Rattle.tabled_options.specs.Kept.{CellCopiedAsPair, CopiedAsAll, CopiedAsPair, KeptBy, KeptByAll, KeptByPair, KeptOnEach, KeptOnEachByPair};
+ghost use Rattle.tabled_options.specs.Shapes.{FitsAfterEach, FitsInSameShape};
 
 use crate::cell_option::CellOption;
 use crate::modify::ModifyList;
@@ -36,8 +35,8 @@ where
     R: GridStore,
     A: TableOption<R, C, D> + Clone,
     B: TableOption<R, C, D> + Clone + Drop,
-    ensures settings { CopiesAlike A.is_clone A.is_like _first.now → CopiesAlike B.is_clone B.is_like _second.now → CopiesAlike ⟦<Settings<A, B> as Clone>⟧.is_clone ⟦<Settings<A, B> as TableOption<R, C, D>>⟧.is_like (_first.now, _second.now) }
-    ensures pairs { CopiesAlike A.is_clone A.is_like _first.now → CopiesAlike B.is_clone B.is_like _second.now → CopiesAlike ⟦<(A, B) as Clone>⟧.is_clone ⟦<(A, B) as TableOption<R, C, D>>⟧.is_like (_first.now, _second.now) }
+    ensures settings { CopiedAsPair A.Clone A.TableOption B.Clone B.TableOption ⟦<Settings<A, B> as Clone>⟧ ⟦<Settings<A, B> as TableOption<R, C, D>>⟧ _first.now _second.now }
+    ensures pairs { CopiedAsPair A.Clone A.TableOption B.Clone B.TableOption ⟦<(A, B) as Clone>⟧ ⟦<(A, B) as TableOption<R, C, D>>⟧ _first.now _second.now }
 {}
 
 /// Copies of settings on cells, and of pairs, are like them where those of their parts are.
@@ -46,8 +45,8 @@ where
     R: GridStore,
     A: CellOption<R, C> + Clone,
     B: CellOption<R, C> + Clone + Drop,
-    ensures settings { CopiesAlike A.is_clone A.is_like _first.now → CopiesAlike B.is_clone B.is_like _second.now → CopiesAlike ⟦<Settings<A, B> as Clone>⟧.is_clone ⟦<Settings<A, B> as CellOption<R, C>>⟧.is_like (_first.now, _second.now) }
-    ensures pairs { CopiesAlike A.is_clone A.is_like _first.now → CopiesAlike B.is_clone B.is_like _second.now → CopiesAlike ⟦<(A, B) as Clone>⟧.is_clone ⟦<(A, B) as CellOption<R, C>>⟧.is_like (_first.now, _second.now) }
+    ensures settings { CellCopiedAsPair A.Clone A.CellOption B.Clone B.CellOption ⟦<Settings<A, B> as Clone>⟧ ⟦<Settings<A, B> as CellOption<R, C>>⟧ _first.now _second.now }
+    ensures pairs { CellCopiedAsPair A.Clone A.CellOption B.Clone B.CellOption ⟦<(A, B) as Clone>⟧ ⟦<(A, B) as CellOption<R, C>>⟧ _first.now _second.now }
 {}
 
 /// Copies of a vector of options are like it, item by item, where those of its items are.
@@ -55,7 +54,7 @@ pub fn vectors_copied<R, C, D, T>(_options: &Vec<T>)
 where
     R: GridStore,
     T: TableOption<R, C, D> + Clone + Drop,
-    ensures vector { AllByRecursion (CopiesAlike T.is_clone T.is_like) _options.now.items → CopiesAlike ⟦<Vec<T> as Clone>⟧.is_clone ⟦<Vec<T> as TableOption<R, C, D>>⟧.is_like _options.now }
+    ensures vector { CopiedAsAll T.Clone T.TableOption ⟦<Vec<T> as Clone>⟧ ⟦<Vec<T> as TableOption<R, C, D>>⟧ _options.now.items _options.now }
 {}
 
 /// Settings on tables, and pairs, keep what both of their parts keep, also where they are refused.
@@ -67,8 +66,8 @@ where
     P: Property<R::Cell, C>,
     A: TableOption<R, C, D>,
     B: TableOption<R, C, D> + Drop,
-    ensures settings { OptionKeeps P.holds (A.does _first.now) (A.leaves _first.now) → OptionKeeps P.holds (B.does _second.now) (B.leaves _second.now) → OptionKeeps P.holds (⟦<Settings<A, B> as TableOption<R, C, D>>⟧.does (_first.now, _second.now)) (⟦<Settings<A, B> as TableOption<R, C, D>>⟧.leaves (_first.now, _second.now)) }
-    ensures pairs { OptionKeeps P.holds (A.does _first.now) (A.leaves _first.now) → OptionKeeps P.holds (B.does _second.now) (B.leaves _second.now) → OptionKeeps P.holds (⟦<(A, B) as TableOption<R, C, D>>⟧.does (_first.now, _second.now)) (⟦<(A, B) as TableOption<R, C, D>>⟧.leaves (_first.now, _second.now)) }
+    ensures settings { KeptByPair P.holds A.TableOption B.TableOption ⟦<Settings<A, B> as TableOption<R, C, D>>⟧ _first.now _second.now }
+    ensures pairs { KeptByPair P.holds A.TableOption B.TableOption ⟦<(A, B) as TableOption<R, C, D>>⟧ _first.now _second.now }
 {}
 
 /// Settings on cells, and pairs, keep on an entity what both of their parts keep on it.
@@ -78,8 +77,8 @@ where
     P: Property<R::Cell, C>,
     A: CellOption<R, C>,
     B: CellOption<R, C> + Drop,
-    ensures settings { (e : Entity) → OptionKeeps P.holds (A.does _first.now e) (A.leaves _first.now e) → OptionKeeps P.holds (B.does _second.now e) (B.leaves _second.now e) → OptionKeeps P.holds (⟦<Settings<A, B> as CellOption<R, C>>⟧.does (_first.now, _second.now) e) (⟦<Settings<A, B> as CellOption<R, C>>⟧.leaves (_first.now, _second.now) e) }
-    ensures pairs { (e : Entity) → OptionKeeps P.holds (A.does _first.now e) (A.leaves _first.now e) → OptionKeeps P.holds (B.does _second.now e) (B.leaves _second.now e) → OptionKeeps P.holds (⟦<(A, B) as CellOption<R, C>>⟧.does (_first.now, _second.now) e) (⟦<(A, B) as CellOption<R, C>>⟧.leaves (_first.now, _second.now) e) }
+    ensures settings { KeptOnEachByPair P.holds A.CellOption B.CellOption ⟦<Settings<A, B> as CellOption<R, C>>⟧ _first.now _second.now }
+    ensures pairs { KeptOnEachByPair P.holds A.CellOption B.CellOption ⟦<(A, B) as CellOption<R, C>>⟧ _first.now _second.now }
 {}
 
 /// A vector of options keeps what each of them keeps.
@@ -88,7 +87,7 @@ where
     R: GridStore,
     P: Property<R::Cell, C>,
     T: TableOption<R, C, D> + Drop,
-    ensures vector { AllByRecursion (λ x. OptionKeeps P.holds (T.does x) (T.leaves x)) _options.now.items → OptionKeeps P.holds (⟦<Vec<T> as TableOption<R, C, D>>⟧.does _options.now) (⟦<Vec<T> as TableOption<R, C, D>>⟧.leaves _options.now) }
+    ensures vector { KeptByAll P.holds T.TableOption ⟦<Vec<T> as TableOption<R, C, D>>⟧ _options.now.items _options.now }
 {}
 
 /// A slice of options keeps what each of them keeps.
@@ -97,7 +96,7 @@ where
     R: GridStore,
     P: Property<R::Cell, C>,
     T: TableOption<R, C, D> + Clone,
-    ensures slice { AllByRecursion (λ x. OptionKeeps P.holds (T.does x) (T.leaves x)) _options.now.0.now → OptionKeeps P.holds (⟦<OptionSlice<'a, T> as TableOption<R, C, D>>⟧.does _options.now) (⟦<OptionSlice<'a, T> as TableOption<R, C, D>>⟧.leaves _options.now) }
+    ensures slice { KeptByAll P.holds T.TableOption ⟦<OptionSlice<'a, T> as TableOption<R, C, D>>⟧ _options.now.0.now _options.now }
 {}
 
 /// An option on what an object lists keeps what it keeps on each entity.
@@ -107,7 +106,7 @@ where
     P: Property<R::Cell, C>,
     O: Object<R> + Drop,
     M: CellOption<R, C> + Clone,
-    ensures each { ((e : Entity) → OptionKeeps P.holds (M.does _option.now e) (M.leaves _option.now e)) → OptionKeeps P.holds (⟦<ModifyList<O, M> as TableOption<R, C, D>>⟧.does (_object.now, _option.now)) (⟦<ModifyList<O, M> as TableOption<R, C, D>>⟧.leaves (_object.now, _option.now)) }
+    ensures each { KeptOnEach P.holds M.CellOption _option.now → KeptBy P.holds ⟦<ModifyList<O, M> as TableOption<R, C, D>>⟧ (_object.now, _option.now) }
 {}
 
 /// An option on cells that leaves the numbers of rows and columns and the configuration, done or refused,
@@ -116,7 +115,7 @@ pub fn same_shape_keeps_merged_cells_fitting<R, M>(_option: &M)
 where
     R: Records + ExactRecords,
     M: CellOption<R, SpannedConfig>,
-    ensures cells { (e : Entity) → KeepsShape (M.does _option.now e) → KeepsShape (M.leaves _option.now e) → FitsAfter (M.does _option.now e) (M.leaves _option.now e) }
+    ensures cells { (e : Entity) → FitsInSameShape (M.does _option.now e) (M.leaves _option.now e) }
 {}
 
 /// So does such an option on tables.
@@ -124,7 +123,7 @@ pub fn same_table_shape_keeps_merged_cells_fitting<R, D, T>(_option: &T)
 where
     R: GridStore,
     T: TableOption<R, SpannedConfig, D>,
-    ensures table { KeepsShape (T.does _option.now) → KeepsShape (T.leaves _option.now) → FitsAfter (T.does _option.now) (T.leaves _option.now) }
+    ensures table { FitsInSameShape (T.does _option.now) (T.leaves _option.now) }
 {}
 
 /// A string on an entity keeps merged cells inside the table and apart, also where it is refused.

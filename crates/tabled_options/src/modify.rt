@@ -1,7 +1,7 @@
 //! A cell option on what an object lists.
 
 ghost use Rattle.std.specs.Prelude.{◌≡◌};
-ghost use Rattle.tabled_options.specs.Does.{CopiesAlike, EachListed, EachListedUntil, SameOr};
+ghost use Rattle.tabled_options.specs.Does.{CopiesAlike, EachListed, EachListedLeaves};
 ghost use Rattle.std.proofs.Common.{rules};
 
 use crate::cell_option::CellOption;
@@ -117,7 +117,7 @@ where
 {
     ghost does = { λ s. EachListed (O.lists s.0) (M.does s.1) };
 
-    ghost leaves = { λ s. SameOr (EachListedUntil (O.lists s.0) (M.does s.1) (λ e. SameOr (M.leaves s.1 e))) };
+    ghost leaves = { λ s. EachListedLeaves (O.lists s.0) (M.does s.1) (M.leaves s.1) };
 
     ghost can_change = { λ s. O.can_list s.0 × (M.can_change s.1 × CopiesAlike M.is_clone M.is_like s.1) };
 
