@@ -20,7 +20,7 @@ use Rattle.tabled_grid.proofs.Merging.{fits_with}
 use Rattle.tabled_grid.proofs.ShiftedFits.{fits_below, fits_beside, line_is_free}
 use Rattle.tabled_grid.proofs.SpanMaps.{tied, with_size-other}
 use Rattle.tabled_grid.proofs.Spans.{positions_exact, positions_total}
-use Rattle.tabled_spans.specs.Panels.{Panels, has_room, with_line, with_panel}
+use Rattle.tabled_spans.specs.Panels.{Panels, has_room, with_line_at, with_panel}
 use Rattle.tabled_spans.proofs.PanelMaps.{no_anchor}
 
 -- the size of one cell where there is no anchor changes nothing
@@ -50,7 +50,7 @@ not_false true e = sym e
 not_false false e = refl
 
 module _ {A : Type 0} where
-  fits_panel : (axis : Axis) (line : ℕ) (cells : List A) (g : Grid A) (m : SpanMap) → line ≤ count_along axis g → 0 < count_along (across axis) g → is_crossed axis line m ≡ false → Fits m g.rows g.columns → Fits (with_panel axis line (count_along (across axis) g) m) ((with_line axis line cells g).rows) ((with_line axis line cells g).columns)
+  fits_panel : (axis : Axis) (line : ℕ) (cells : List A) (g : Grid A) (m : SpanMap) → line ≤ count_along axis g → 0 < count_along (across axis) g → is_crossed axis line m ≡ false → Fits m g.rows g.columns → Fits (with_panel axis line (count_along (across axis) g) m) ((with_line_at axis line cells g).rows) ((with_line_at axis line cells g).columns)
   fits_panel Rows line cells g m within some free fits =
       fits_over (shifted Rows line m) (place_in Rows line 0) (sized 1 g.columns) (g.rows + 1) g.columns (no_anchor Rows line m) (omega arith) (omega arith) (omega arith) (omega arith)
       (λ a q s has holds over. absurd (line_is_free Rows line m a q s free has holds (omega (arith, over.top, over.bottom)))) (fits_below m line g.rows g.columns free fits)

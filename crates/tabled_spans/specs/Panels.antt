@@ -16,16 +16,16 @@ abbrev pub cells_along : {A : Type 0} → Axis → Grid A → ℕ
 cells_along axis g = count_along (across axis) g
 
 -- the grid with a line put in before another
-abbrev pub with_line : {A : Type 0} → Axis → ℕ → List A → Grid A → Grid A
-with_line Rows i cells g = with_row g i cells
-with_line Columns j cells g = with_column g j cells
+abbrev pub with_line_at : {A : Type 0} → Axis → ℕ → List A → Grid A → Grid A
+with_line_at Rows i cells g = with_row g i cells
+with_line_at Columns j cells g = with_column g j cells
 
 -- a line is put in before another: a cell with a text, and then blanks, which have none
 pub record PutsIn {A : Type 0} (is_blank : A → Type 0) (text_of : A → List ℕ) (axis : Axis) (line : ℕ) (text : List ℕ) (old new : Grid A) : Type 0 where
   pub cells : List A
   pub texts : map text_of cells ≡ text ∷ replicate (cells_along axis old - 1) []
   pub blanks : AllByRecursion is_blank (drop 1 cells)
-  pub is : new ≡ with_line axis line cells old
+  pub is : new ≡ with_line_at axis line cells old
 
 -- the map: anchors from the line on go one further, and the line is one rectangle
 abbrev pub with_panel : Axis → ℕ → ℕ → SpanMap → SpanMap

@@ -36,6 +36,18 @@ pub record IsRun (axis : Axis) (g : Grid (List ℕ)) (m : SpanMap) (p : Position
   pub ends : Joins axis g m (further axis (many - 1) p) → ⊥
   pub begins : (q : Position) → further axis 1 q ≡ p → Joins axis g m q → ⊥
 
+-- without merged cells, neighbours with equal texts join
+abbrev pub JoinsIfEqual : Axis → Grid (List ℕ) → Position → Type 0
+JoinsIfEqual axis g p = cell_at g p ≡ cell_at g (further axis 1 p) → Joins axis g map.empty p
+
+-- a run among cells that were not merged is a rectangle of the map
+abbrev pub RunIsMerged : Axis → Grid (List ℕ) → SpanMap → Position → ℕ → Type 0
+RunIsMerged axis g m p many = IsRun axis g map.empty p many → map.get m p ≡ Some (size_of_run axis many)
+
+-- a rectangle of the map is a run among cells that were not merged
+abbrev pub MergedIsRun : Axis → Grid (List ℕ) → SpanMap → Position → Size → Type 0
+MergedIsRun axis g m p size = map.get m p ≡ Some size → (many : ℕ) × IsRun axis g map.empty p many × (size ≡ size_of_run axis many)
+
 -- the map with a rectangle for each run, anchored at its first cell, and with all others as they were
 pub record MergesRuns (axis : Axis) (g : Grid (List ℕ)) (m n : SpanMap) : Type 0 where
   pub each : (p : Position) → ((many : ℕ) × IsRun axis g m p many × (map.get n p ≡ Some (size_of_run axis many))) ⊎ (((many : ℕ) → IsRun axis g m p many → ⊥) × (map.get n p ≡ map.get m p))

@@ -1,18 +1,25 @@
 -- What a span over visible cells changes at one place after another.
 use Rattle.std.specs.Prelude.{◌≡◌, ◌+◌, ◌-◌, ◌<◌, ◌≤◌, ℕ, true, min, List, [], ◌∷◌, if◌then◌else◌}
-use Rattle.std.specs.List.{list_all}
+use Rattle.tabled_grid.specs.Covers.{Cover, cover_in}
 use Rattle.tabled_grid.specs.Entity.{names}
-use Rattle.tabled_grid.specs.Hidden.{is_visible}
-use Rattle.tabled_grid.specs.Spans.{Rectangle, SpanMap, size_at}
+use Rattle.tabled_grid.specs.Spans.{Rectangle, SpanMap, size_at, with_sizes}
 use Rattle.tabled_grid.specs.declared.config.entity.Entity.{Entity}
 use Rattle.tabled_grid.specs.declared.config.position.Position.{Position}
 use Rattle.tabled_grid.specs.declared.records.axis.Axis.{Axis}
 use Rattle.tabled_grid.specs.Axis.{count_of, line_of, resized}
-use Rattle.tabled_spans.specs.Spanned.{stretch}
+use Rattle.tabled_spans.specs.Spanned.{are_visible}
 
 -- the new size at a place, if n cells from there on are all visible
 abbrev pub change_at : Axis → SpanMap → Position → ℕ → List Rectangle
-change_at axis m p many = if list_all (is_visible m) (stretch axis p (line_of axis p) many) then (p, resized axis (size_at m p) many) ∷ [] else []
+change_at axis m p many = if are_visible axis m p many then (p, resized axis (size_at m p) many) ∷ [] else []
+
+-- the map with that size
+abbrev pub with_change_at : Axis → SpanMap → Position → ℕ → SpanMap
+with_change_at axis m p many = with_sizes m (change_at axis m p many)
+
+-- P holds of each map with these covered cells, and of its block, where the map has at a place the size that another has there
+abbrev pub ForEachCovering : Cover → SpanMap → Position → (SpanMap → Position → ℕ → ℕ → Type 0) → Type 0
+ForEachCovering cover spans p P = (m : SpanMap) (first : Position) (rows columns : ℕ) → cover ≡ cover_in m first rows columns → size_at m p ≡ size_at spans p → P m first rows columns
 
 -- the cells that a span takes from a place on lie in the first r rows and c columns
 pub record InReach (axis : Axis) (size n bottom right : ℕ) (p : Position) : Type 0 where

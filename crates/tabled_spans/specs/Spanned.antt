@@ -1,24 +1,28 @@
 -- Spans: how cells next to each other are merged, and what becomes of their texts.
 -- A span of rows goes along the rows, over the cells of a column; a span of columns along the columns.
-use Rattle.std.specs.Prelude.{◌≡◌, ◌<ℤ◌, ◌+◌, ◌-◌, ℕ, suc, ℤ, pos, negsuc, min, Option, None, Some, List, [], ◌∷◌, map, ◌++◌, if◌then◌else◌}
-use Rattle.std.specs.List.{fold, list_all, range_with_len}
+use Rattle.std.specs.Prelude.{◌≡◌, ◌<◌, ◌<ℤ◌, ◌+◌, ◌-◌, Bool, ℕ, suc, ℤ, pos, negsuc, min, Option, None, Some, List, [], ◌∷◌, map, ◌++◌, if◌then◌else◌}
+use Rattle.std.specs.List.{AllByRecursion, fold, list_all, range_with_len}
 use Rattle.std.specs.Option.{unwrap_or}
 use Rattle.tabled_grid.specs.Axis.{count_of, in_line, line_of}
 use Rattle.tabled_grid.specs.Entity.{inside}
 use Rattle.tabled_grid.specs.Grid.{Grid, cell_at, map_grid}
-use Rattle.tabled_grid.specs.Midway.{Flat, Narrow}
+use Rattle.tabled_grid.specs.Midway.{Flat, Midway, Narrow}
 use Rattle.tabled_grid.specs.Hidden.{drop_hidden, is_visible}
 use Rattle.tabled_grid.specs.Spans.{SpanMap, size_at, with_column_span, with_row_span}
 use Rattle.tabled_grid.specs.declared.config.entity.Entity.{Entity}
 use Rattle.tabled_grid.specs.declared.config.position.Position.{Position}
 use Rattle.tabled_grid.specs.declared.records.axis.Axis.{Axis}
 use Rattle.tabled_grid.specs.declared.records.axis.Axis.TheVariants.{Rows, Columns}
-use Rattle.tabled_options.specs.Does.{Change, SameOr}
-use Rattle.tabled_options.specs.Writes.{DoesFirstWrites, Write, at_each, with_writes}
+use Rattle.tabled_options.specs.Does.{Change}
+use Rattle.tabled_options.specs.Writes.{SameOrFirstWrites, Write, at_each, with_writes}
 
 -- the place in n rows or columns, from one on
 abbrev pub stretch : Axis → Position → ℕ → ℕ → List Position
 stretch axis p first many = map (in_line axis p) (range_with_len first many)
+
+-- n cells from a place on are all visible
+abbrev pub are_visible : Axis → SpanMap → Position → ℕ → Bool
+are_visible axis m p many = list_all (is_visible m) (stretch axis p (line_of axis p) many)
 
 -- the map with a height or a width at a place, of which 0 changes nothing
 abbrev pub with_span : Axis → SpanMap → Position → ℕ → SpanMap
@@ -27,7 +31,7 @@ with_span Columns = with_column_span
 
 -- the map with a span over n cells from a place on, if they are all visible
 abbrev pub with_visible_span : Axis → SpanMap → Position → ℕ → SpanMap
-with_visible_span axis m p many = if list_all (is_visible m) (stretch axis p (line_of axis p) many) then with_span axis m p many else m
+with_visible_span axis m p many = if are_visible axis m p many then with_span axis m p many else m
 
 -- the map after a span of n cells from a place on, cut at the last of n rows or columns
 abbrev pub grown_at : Axis → ℕ → ℕ → SpanMap → Position → SpanMap
@@ -37,9 +41,17 @@ grown_at axis size n m p = with_visible_span axis m p (min size (n - line_of axi
 abbrev pub grown_each : Axis → ℕ → ℕ → SpanMap → List Position → SpanMap
 grown_each axis size n = fold (grown_at axis size n)
 
--- the map after such a span at each place of a table that an entity names. Then hidden anchors go at once
+-- the map after such a span at each place of a table that an entity names
+abbrev pub grown_on : Axis → ℕ → Entity → ℕ → ℕ → SpanMap → SpanMap
+grown_on axis size e rows columns m = grown_each axis size (count_of axis rows columns) m (inside e rows columns)
+
+-- the same, and then hidden anchors go at once
 abbrev pub grown : Axis → ℕ → Entity → ℕ → ℕ → SpanMap → SpanMap
-grown axis size e rows columns m = drop_hidden (grown_each axis size (count_of axis rows columns) m (inside e rows columns))
+grown axis size e rows columns m = drop_hidden (grown_on axis size e rows columns m)
+
+-- such spans at places of a table keep that merged cells lie inside it, and that of two that share a cell one begins in the other
+abbrev pub KeepsMidway : Axis → ℕ → List Position → SpanMap → ℕ → ℕ → Type 0
+KeepsMidway axis size places m rows columns = AllByRecursion (λ (p : Position). (p.row < rows) × (p.col < columns)) places → Midway m rows columns → Midway (grown_each axis size (count_of axis rows columns) m places) rows columns
 
 -- how many cells back a span of size 0 or below takes, or all of the line
 abbrev pub back_of : ℤ → Option ℕ
@@ -59,9 +71,13 @@ pulled_at axis back n m p = let cells = taken back n (line_of axis p) in with_sp
 abbrev pub pulled_each : Axis → Option ℕ → ℕ → SpanMap → List Position → SpanMap
 pulled_each axis back n = fold (pulled_at axis back n)
 
--- the map after such a span at each place of a table that an entity names. Then hidden anchors go at once
+-- the map after such a span at each place of a table that an entity names
+abbrev pub pulled_on : Axis → Option ℕ → Entity → ℕ → ℕ → SpanMap → SpanMap
+pulled_on axis back e rows columns m = pulled_each axis back (count_of axis rows columns) m (inside e rows columns)
+
+-- the same, and then hidden anchors go at once
 abbrev pub pulled : Axis → Option ℕ → Entity → ℕ → ℕ → SpanMap → SpanMap
-pulled axis back e rows columns m = drop_hidden (pulled_each axis back (count_of axis rows columns) m (inside e rows columns))
+pulled axis back e rows columns m = drop_hidden (pulled_on axis back e rows columns m)
 
 -- the map after a span of a size on an entity
 abbrev pub spanned : Axis → ℤ → Entity → ℕ → ℕ → SpanMap → SpanMap
@@ -98,7 +114,7 @@ pub record Spans {A : Type 0} (text_of : A → List ℕ) (axis : Axis) (size : �
 
 -- what it leaves where it is refused: all as it was, or the writes before one of its own, with the merged cells as they were
 abbrev pub SpansFirst : {A : Type 0} → (A → List ℕ) → Axis → ℤ → Entity → Change A SpanMap
-SpansFirst text_of axis size e = SameOr (DoesFirstWrites text_of (span_writes axis size e))
+SpansFirst text_of axis size e = SameOrFirstWrites text_of (span_writes axis size e)
 
 -- no rectangle has more than one line: one column for spans of rows, one row for spans of columns
 abbrev pub IsFlat : Axis → SpanMap → Type 0

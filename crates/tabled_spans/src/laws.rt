@@ -1,19 +1,16 @@
 //! Laws of merged cells. Each is the contract of a function that does nothing.
 
 ghost use Rattle.std.specs.FinMap as map;
-ghost use Rattle.std.specs.List.{AllByRecursion};
-ghost use Rattle.std.specs.Prelude.{List, Some, pos, ℕ, ◌<ℤ◌, ◌<◌, ◌≡◌, ◌≤◌};
-ghost use Rattle.tabled_grid.specs.Grid.{Grid, IsInside, cell_at};
-ghost use Rattle.tabled_grid.specs.Midway.{Midway};
+ghost use Rattle.std.specs.Prelude.{List, pos, ℕ, ◌<ℤ◌, ◌≡◌, ◌≤◌};
+ghost use Rattle.tabled_grid.specs.Grid.{Grid, IsInside};
 ghost use Rattle.tabled_grid.specs.Spans.{SpanMap};
-ghost use Rattle.tabled_grid.specs.declared.config.entity.Entity.{Entity};
 ghost use Rattle.tabled_grid.specs.declared.config.position.Position.{Position};
 ghost use Rattle.tabled_grid.specs.declared.records.axis.Axis.{Axis};
-ghost use Rattle.tabled_options.specs.Does.{OptionKeeps};
-ghost use Rattle.tabled_spans.specs.Runs.{IsRun, Joins, MergesRuns, further, size_of_run};
-ghost use Rattle.tabled_grid.specs.Axis.{count_of};
+ghost use Rattle.tabled_options.specs.Kept.{KeptOnEach};
+ghost use Rattle.tabled_options.specs.Shapes.{FitsAfter, FitsAfterEach};
+ghost use Rattle.tabled_spans.specs.Runs.{JoinsIfEqual, MergedIsRun, MergesRuns, RunIsMerged, further};
 ghost use Rattle.tabled_grid.specs.declared.config.size.Size.{Size};
-ghost use Rattle.tabled_spans.specs.Spanned.{grown_each};
+ghost use Rattle.tabled_spans.specs.Spanned.{KeepsMidway};
 
 use crate::merge::{MergeDuplicatesHorizontal, MergeDuplicatesVertical};
 use crate::panel::{Footer, Header, HorizontalPanel, VerticalPanel};
@@ -22,7 +19,7 @@ use tabled_grid::config::SpannedConfig;
 use tabled_grid::records::{
     Axis, CellText, ExactRecords, PeekableRecords, Records, RecordsMut, Resizable,
 };
-use tabled_options::{CellOption, MergedCellsFit, Property, TableOption};
+use tabled_options::{CellOption, Property, TableOption};
 
 /// Spans of size 1 or more keep, on each entity, that merged cells lie inside the table and apart, also
 /// where they are refused.
@@ -30,14 +27,14 @@ pub fn spans_of_size_1_or_more_fit<R>(_columns: ColumnSpan, _rows: RowSpan)
 where
     R: Records + ExactRecords + PeekableRecords + RecordsMut<String>,
     R::Cell: CellText,
-    ensures columns { pos 0 <ℤ _columns → (e : Entity) → OptionKeeps ⟦<MergedCellsFit as Property<R::Cell, SpannedConfig>>⟧.holds (⟦<ColumnSpan as CellOption<R, SpannedConfig>>⟧.does _columns e) (⟦<ColumnSpan as CellOption<R, SpannedConfig>>⟧.leaves _columns e) }
-    ensures rows { pos 0 <ℤ _rows → (e : Entity) → OptionKeeps ⟦<MergedCellsFit as Property<R::Cell, SpannedConfig>>⟧.holds (⟦<RowSpan as CellOption<R, SpannedConfig>>⟧.does _rows e) (⟦<RowSpan as CellOption<R, SpannedConfig>>⟧.leaves _rows e) }
+    ensures columns { let how = ⟦<ColumnSpan as CellOption<R, SpannedConfig>>⟧ in pos 0 <ℤ _columns → FitsAfterEach (how.does _columns) (how.leaves _columns) }
+    ensures rows { let how = ⟦<RowSpan as CellOption<R, SpannedConfig>>⟧ in pos 0 <ℤ _rows → FitsAfterEach (how.does _rows) (how.leaves _rows) }
 {}
 
 /// In the middle of an entity, after such spans at some places of a table, merged cells lie inside it,
 /// and of two that share a cell, one begins in the other.
 pub fn spans_fit_midway(_axis: Axis, _size: usize)
-    ensures { (places : List Position) (m : SpanMap) (rows columns : ℕ) → 1 ≤ _size → AllByRecursion (λ (p : Position). (p.row < rows) × (p.col < columns)) places → Midway m rows columns → Midway (grown_each _axis _size (count_of _axis rows columns) m places) rows columns }
+    ensures { (places : List Position) (m : SpanMap) (rows columns : ℕ) → 1 ≤ _size → KeepsMidway _axis _size places m rows columns }
 {}
 
 /// Where all merged cells are one row high, inside the table and apart, spans of columns of any size keep
@@ -46,8 +43,8 @@ pub fn spans_along_lines_fit<R>(_columns: ColumnSpan, _rows: RowSpan)
 where
     R: Records + ExactRecords + PeekableRecords + RecordsMut<String>,
     R::Cell: CellText,
-    ensures columns { (e : Entity) → OptionKeeps ⟦<ColumnSpansFit as Property<R::Cell, SpannedConfig>>⟧.holds (⟦<ColumnSpan as CellOption<R, SpannedConfig>>⟧.does _columns e) (⟦<ColumnSpan as CellOption<R, SpannedConfig>>⟧.leaves _columns e) }
-    ensures rows { (e : Entity) → OptionKeeps ⟦<RowSpansFit as Property<R::Cell, SpannedConfig>>⟧.holds (⟦<RowSpan as CellOption<R, SpannedConfig>>⟧.does _rows e) (⟦<RowSpan as CellOption<R, SpannedConfig>>⟧.leaves _rows e) }
+    ensures columns { KeptOnEach ⟦<ColumnSpansFit as Property<R::Cell, SpannedConfig>>⟧.holds ⟦<ColumnSpan as CellOption<R, SpannedConfig>>⟧ _columns }
+    ensures rows { KeptOnEach ⟦<RowSpansFit as Property<R::Cell, SpannedConfig>>⟧.holds ⟦<RowSpan as CellOption<R, SpannedConfig>>⟧ _rows }
 {}
 
 /// A horizontal panel keeps merged cells inside the table and apart, also where it is refused.
@@ -55,7 +52,7 @@ pub fn horizontal_panels_keep_merged_cells_fitting<R, D>(_panel: &HorizontalPane
 where
     R: Records + ExactRecords + Resizable + RecordsMut<String>,
     R::Cell: CellText,
-    ensures { OptionKeeps ⟦<MergedCellsFit as Property<R::Cell, SpannedConfig>>⟧.holds (⟦<HorizontalPanel as TableOption<R, SpannedConfig, D>>⟧.does _panel.now) (⟦<HorizontalPanel as TableOption<R, SpannedConfig, D>>⟧.leaves _panel.now) }
+    ensures { let how = ⟦<HorizontalPanel as TableOption<R, SpannedConfig, D>>⟧ in FitsAfter (how.does _panel.now) (how.leaves _panel.now) }
 {}
 
 /// So does a vertical panel.
@@ -63,7 +60,7 @@ pub fn vertical_panels_keep_merged_cells_fitting<R, D>(_panel: &VerticalPanel)
 where
     R: Records + ExactRecords + Resizable + RecordsMut<String>,
     R::Cell: CellText,
-    ensures { OptionKeeps ⟦<MergedCellsFit as Property<R::Cell, SpannedConfig>>⟧.holds (⟦<VerticalPanel as TableOption<R, SpannedConfig, D>>⟧.does _panel.now) (⟦<VerticalPanel as TableOption<R, SpannedConfig, D>>⟧.leaves _panel.now) }
+    ensures { let how = ⟦<VerticalPanel as TableOption<R, SpannedConfig, D>>⟧ in FitsAfter (how.does _panel.now) (how.leaves _panel.now) }
 {}
 
 /// So does a header.
@@ -71,7 +68,7 @@ pub fn headers_keep_merged_cells_fitting<R, D>(_header: &Header)
 where
     R: Records + ExactRecords + Resizable + RecordsMut<String>,
     R::Cell: CellText,
-    ensures { OptionKeeps ⟦<MergedCellsFit as Property<R::Cell, SpannedConfig>>⟧.holds (⟦<Header as TableOption<R, SpannedConfig, D>>⟧.does _header.now) (⟦<Header as TableOption<R, SpannedConfig, D>>⟧.leaves _header.now) }
+    ensures { let how = ⟦<Header as TableOption<R, SpannedConfig, D>>⟧ in FitsAfter (how.does _header.now) (how.leaves _header.now) }
 {}
 
 /// So does a footer.
@@ -79,7 +76,7 @@ pub fn footers_keep_merged_cells_fitting<R, D>(_footer: &Footer)
 where
     R: Records + ExactRecords + Resizable + RecordsMut<String>,
     R::Cell: CellText,
-    ensures { OptionKeeps ⟦<MergedCellsFit as Property<R::Cell, SpannedConfig>>⟧.holds (⟦<Footer as TableOption<R, SpannedConfig, D>>⟧.does _footer.now) (⟦<Footer as TableOption<R, SpannedConfig, D>>⟧.leaves _footer.now) }
+    ensures { let how = ⟦<Footer as TableOption<R, SpannedConfig, D>>⟧ in FitsAfter (how.does _footer.now) (how.leaves _footer.now) }
 {}
 
 /// Merges keep merged cells inside the table and apart, also where they are refused.
@@ -90,8 +87,8 @@ pub fn merges_keep_merged_cells_fitting<R, D>(
 where
     R: Records + ExactRecords + PeekableRecords,
     R::Cell: CellText,
-    ensures vertical { OptionKeeps ⟦<MergedCellsFit as Property<R::Cell, SpannedConfig>>⟧.holds (⟦<MergeDuplicatesVertical as TableOption<R, SpannedConfig, D>>⟧.does _vertical.now) (⟦<MergeDuplicatesVertical as TableOption<R, SpannedConfig, D>>⟧.leaves _vertical.now) }
-    ensures horizontal { OptionKeeps ⟦<MergedCellsFit as Property<R::Cell, SpannedConfig>>⟧.holds (⟦<MergeDuplicatesHorizontal as TableOption<R, SpannedConfig, D>>⟧.does _horizontal.now) (⟦<MergeDuplicatesHorizontal as TableOption<R, SpannedConfig, D>>⟧.leaves _horizontal.now) }
+    ensures vertical { let how = ⟦<MergeDuplicatesVertical as TableOption<R, SpannedConfig, D>>⟧ in FitsAfter (how.does _vertical.now) (how.leaves _vertical.now) }
+    ensures horizontal { let how = ⟦<MergeDuplicatesHorizontal as TableOption<R, SpannedConfig, D>>⟧ in FitsAfter (how.does _horizontal.now) (how.leaves _horizontal.now) }
 {}
 
 /// Runs that are merged once are merged: a second merge along the same axis changes nothing.
@@ -102,7 +99,7 @@ pub fn merged_twice_is_merged_once()
 /// Without merged cells, a vertical merge makes exactly the longest runs of two or more equal texts in a
 /// column one merged cell each. Rows alike.
 pub fn exactly_the_runs_are_merged()
-    ensures merged { (axis : Axis) (g : Grid (List ℕ)) (n : SpanMap) (p : Position) (many : ℕ) → MergesRuns axis g map.empty n → IsRun axis g map.empty p many → map.get n p ≡ Some (size_of_run axis many) }
-    ensures no_others { (axis : Axis) (g : Grid (List ℕ)) (n : SpanMap) (p : Position) (size : Size) → MergesRuns axis g map.empty n → map.get n p ≡ Some size → (many : ℕ) × IsRun axis g map.empty p many × (size ≡ size_of_run axis many) }
-    ensures joined { (axis : Axis) (g : Grid (List ℕ)) (p : Position) → IsInside g p → IsInside g (further axis 1 p) → cell_at g p ≡ cell_at g (further axis 1 p) → Joins axis g map.empty p }
+    ensures merged { (axis : Axis) (g : Grid (List ℕ)) (n : SpanMap) (p : Position) (many : ℕ) → MergesRuns axis g map.empty n → RunIsMerged axis g n p many }
+    ensures no_others { (axis : Axis) (g : Grid (List ℕ)) (n : SpanMap) (p : Position) (size : Size) → MergesRuns axis g map.empty n → MergedIsRun axis g n p size }
+    ensures joined { (axis : Axis) (g : Grid (List ℕ)) (p : Position) → IsInside g p → IsInside g (further axis 1 p) → JoinsIfEqual axis g p }
 {}

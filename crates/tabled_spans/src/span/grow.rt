@@ -2,14 +2,13 @@
 
 ghost use Rattle.std.specs.Prelude.{◌≡◌, ◌+◌, ◌<◌, ◌≤◌, ◌++◌, ◌^◌, ℕ, true, IfOk, OnErr, OnOk, T};
 ghost use Rattle.std.specs.FinMap.{is_sorted};
-ghost use Rattle.std.specs.List.{AllByRecursion, list_all};
+ghost use Rattle.std.specs.List.{AllByRecursion};
 ghost use Rattle.tabled_grid.specs.Covers.{cover_in};
-ghost use Rattle.tabled_grid.specs.Entity.{inside, names};
-ghost use Rattle.tabled_grid.specs.Hidden.{is_visible};
-ghost use Rattle.tabled_grid.specs.Spans.{IsSizeAt, SpanMap, position_cmp, size_at, with_sizes};
+ghost use Rattle.tabled_grid.specs.Entity.{names};
+ghost use Rattle.tabled_grid.specs.Spans.{IsSizeAt, SpanMap, position_cmp, with_sizes};
 ghost use Rattle.tabled_grid.specs.Axis.{across, count_of, line_of, resized};
-ghost use Rattle.tabled_spans.specs.Spanned.{grown, grown_each, stretch};
-ghost use Rattle.tabled_spans.specs.SpanSteps.{IsReach, change_at};
+ghost use Rattle.tabled_spans.specs.Spanned.{are_visible, grown, grown_on};
+ghost use Rattle.tabled_spans.specs.SpanSteps.{ForEachCovering, IsReach, change_at, with_change_at};
 
 use crate::span::along::{resized, size_at};
 use std::alloc::{AllocError, Global};
@@ -27,7 +26,7 @@ fn is_free(cover: &CoverMap, axis: Axis, pos: Position, many: usize, hint: &mut 
     requires right { pos.col < cover.now.first.col + cover.now.columns }
     requires within { line_of axis pos + many ≤ line_of axis cover.now.first + count_of axis cover.now.rows cover.now.columns }
     requires end { line_of axis pos + many < 2 ^ 64 }
-    ensures { (m : SpanMap) (first : Position) (rows columns : ℕ) → cover.now ≡ cover_in m first rows columns → result ≡ list_all (is_visible m) (stretch axis pos (line_of axis pos) many) }
+    ensures { (m : SpanMap) (first : Position) (rows columns : ℕ) → cover.now ≡ cover_in m first rows columns → result ≡ are_visible axis m pos many }
 {
     let first = axis.line_of(pos);
     let end = first + many;
@@ -63,9 +62,9 @@ fn grow_at(
     requires some { 1 ≤ many }
     requires within { line_of axis pos + many ≤ line_of axis cover.old.first + count_of axis cover.old.rows cover.old.columns }
     requires end { line_of axis pos + many < 2 ^ 64 }
-    ensures ok { (m : SpanMap) (first : Position) (rows columns : ℕ) → cover.old ≡ cover_in m first rows columns → size_at m pos ≡ size_at cfg.now pos → OnOk result (changes.new.items ≡ changes.old.items ++ change_at axis m pos many) }
+    ensures ok { ForEachCovering cover.old cfg.now pos (λ m _ _ _. OnOk result (changes.new.items ≡ changes.old.items ++ change_at axis m pos many)) }
     ensures full { AllByRecursion IsSizeAt changes.old.items → OnOk result (AllByRecursion IsSizeAt changes.new.items) }
-    ensures cover { (m : SpanMap) (first : Position) (rows columns : ℕ) → cover.old ≡ cover_in m first rows columns → size_at m pos ≡ size_at cfg.now pos → OnOk result (cover.new ≡ cover_in (with_sizes m (change_at axis m pos many)) first rows columns) }
+    ensures cover { ForEachCovering cover.old cfg.now pos (λ m first rows columns. OnOk result (cover.new ≡ cover_in (with_change_at axis m pos many) first rows columns)) }
 {
     if !is_free(cover, axis, pos, many, hint) {
         return Ok(());
@@ -122,7 +121,7 @@ fn changes(
     requires { 1 ≤ size }
     ensures sorted { IfOk result (λ changes. T (is_sorted position_cmp changes.items)) }
     ensures full { IfOk result (λ changes. AllByRecursion IsSizeAt changes.items) }
-    ensures sizes { IfOk result (λ changes. with_sizes cfg.now changes.items ≡ grown_each axis size (count_of axis rows columns) cfg.now (inside entity rows columns)) }
+    ensures sizes { IfOk result (λ changes. with_sizes cfg.now changes.items ≡ grown_on axis size entity rows columns cfg.now) }
 {
     let count = axis.count_of(rows, columns);
     let (bottom, right) = reach(axis, size, entity, rows, columns);

@@ -3,14 +3,12 @@
 ghost use Rattle.std.specs.Prelude.{◌≡◌, ◌+◌, ◌<◌, ◌≤◌, ◌^◌, ℕ, IfOk, OnErr, OnOk, T};
 ghost use Rattle.std.specs.FinMap.{is_sorted};
 ghost use Rattle.std.specs.List.{AllByRecursion};
-ghost use Rattle.tabled_grid.specs.Entity.{inside};
 ghost use Rattle.tabled_grid.specs.Spans.{IsSizeAt, Rectangle, position_cmp, with_sizes};
 ghost use Rattle.tabled_grid.specs.declared.config.position.Position.{Position};
-ghost use Rattle.tabled_grid.specs.Grid.{IsInside, map_grid};
-ghost use Rattle.tabled_options.specs.Does.{SameOr};
-ghost use Rattle.tabled_options.specs.Writes.{DoesFirstWrites, FirstWrites, with_writes};
-ghost use Rattle.tabled_grid.specs.Axis.{count_of, in_line};
-ghost use Rattle.tabled_spans.specs.Spanned.{pull_writes_on, pulled, pulled_each, pulling, with_span};
+ghost use Rattle.tabled_grid.specs.Grid.{IsInside};
+ghost use Rattle.tabled_options.specs.Writes.{FirstWritten, SameOrFirstWrites, Written};
+ghost use Rattle.tabled_grid.specs.Axis.{in_line};
+ghost use Rattle.tabled_spans.specs.Spanned.{pull_writes_on, pulled, pulled_on, pulling, with_span};
 
 use crate::span::along::{resized, size_at, taken};
 use std::alloc::{AllocError, Global};
@@ -57,7 +55,7 @@ fn changes(
 ) -> Result<Vec<Rectangle>, AllocError>
     ensures sorted { IfOk result (λ changes. T (is_sorted position_cmp changes.items)) }
     ensures full { IfOk result (λ changes. AllByRecursion IsSizeAt changes.items) }
-    ensures sizes { IfOk result (λ changes. with_sizes cfg.now changes.items ≡ pulled_each axis back (count_of axis rows columns) cfg.now (inside entity rows columns)) }
+    ensures sizes { IfOk result (λ changes. with_sizes cfg.now changes.items ≡ pulled_on axis back entity rows columns cfg.now) }
 {
     let count = axis.count_of(rows, columns);
     let mut changes = Vec::new(alloc);
@@ -110,8 +108,8 @@ where
     ensures well { R.is_well_formed records.new }
     ensures rows { (R.grid records.new).rows ≡ (R.grid records.old).rows }
     ensures columns { (R.grid records.new).columns ≡ (R.grid records.old).columns }
-    ensures ok { OnOk result (map_grid R.Cell.text_of (R.grid records.new) ≡ with_writes (pulling axis pos (first, many) (map_grid R.Cell.text_of (R.grid records.old))) (map_grid R.Cell.text_of (R.grid records.old))) }
-    ensures err { OnErr result (FirstWrites (pulling axis pos (first, many) (map_grid R.Cell.text_of (R.grid records.old))) (map_grid R.Cell.text_of (R.grid records.old)) (map_grid R.Cell.text_of (R.grid records.new))) }
+    ensures ok { OnOk result (Written R.Cell.text_of (pulling axis pos (first, many)) (R.grid records.old) (R.grid records.new)) }
+    ensures err { OnErr result (FirstWritten R.Cell.text_of (pulling axis pos (first, many)) (R.grid records.old) (R.grid records.new)) }
 {
     let text = String::from_str(alloc, records.get_text(pos))?;
     records.set(alloc, axis.in_line(pos, first), text)?;
@@ -135,8 +133,8 @@ where
     R::Cell: CellText,
     requires { R.is_well_formed records.old }
     ensures well { R.is_well_formed records.new }
-    ensures ok { OnOk result (map_grid R.Cell.text_of (R.grid records.new) ≡ with_writes (pull_writes_on axis back entity (map_grid R.Cell.text_of (R.grid records.old))) (map_grid R.Cell.text_of (R.grid records.old))) }
-    ensures err { OnErr result (FirstWrites (pull_writes_on axis back entity (map_grid R.Cell.text_of (R.grid records.old))) (map_grid R.Cell.text_of (R.grid records.old)) (map_grid R.Cell.text_of (R.grid records.new))) }
+    ensures ok { OnOk result (Written R.Cell.text_of (pull_writes_on axis back entity) (R.grid records.old) (R.grid records.new)) }
+    ensures err { OnErr result (FirstWritten R.Cell.text_of (pull_writes_on axis back entity) (R.grid records.old) (R.grid records.new)) }
 {
     let rows = records.count_rows();
     let columns = records.count_columns();
@@ -166,9 +164,9 @@ where
     R::Cell: CellText,
     requires { R.is_well_formed records.old }
     ensures well { R.is_well_formed records.new }
-    ensures texts { OnOk result (map_grid R.Cell.text_of (R.grid records.new) ≡ with_writes (pull_writes_on axis back entity (map_grid R.Cell.text_of (R.grid records.old))) (map_grid R.Cell.text_of (R.grid records.old))) }
+    ensures texts { OnOk result (Written R.Cell.text_of (pull_writes_on axis back entity) (R.grid records.old) (R.grid records.new)) }
     ensures spans { OnOk result (cfg.new ≡ pulled axis back entity ((R.grid records.old).rows) ((R.grid records.old).columns) cfg.old) }
-    ensures err { OnErr result (SameOr (DoesFirstWrites R.Cell.text_of (pull_writes_on axis back entity)) (R.grid records.old) cfg.old (R.grid records.new) cfg.new) }
+    ensures err { OnErr result (SameOrFirstWrites R.Cell.text_of (pull_writes_on axis back entity) (R.grid records.old) cfg.old (R.grid records.new) cfg.new) }
 {
     let rows = records.count_rows();
     let columns = records.count_columns();
