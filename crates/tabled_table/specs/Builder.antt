@@ -28,15 +28,23 @@ longest (row ∷ rows) = max (length row) (longest rows)
 abbrev pub from_uneven : List (List (List ℕ)) → Builder
 from_uneven rows = record { columns = longest rows; rows = map (padded_to (longest rows) []) rows; empty = [] }
 
+-- a row inserted before row i of others, which are padded to a length
+abbrev pub with_row_at : {A : Type 0} → ℕ → A → List (List A) → ℕ → List A → List (List A)
+with_row_at n filler rows i row = insert (map (padded_to n filler) rows) i row
+
 -- a record inserted before record i, where all are padded to the longest
 abbrev pub with_record : Builder → ℕ → List (List ℕ) → Builder
 with_record b i texts =
     let columns = max b.columns (length texts) in
-    record b { columns = columns; rows = insert (map (padded_to columns b.empty) b.rows) i (padded_to columns b.empty texts) }
+    record b { columns = columns; rows = with_row_at columns b.empty b.rows i (padded_to columns b.empty texts) }
 
 -- each row with its item inserted at j
 abbrev pub with_items : {A : Type 0} → ℕ → List (List A) → List A → List (List A)
 with_items {A} j rows items = map (λ (p : List A × A). insert p.0 j p.1) (zip rows items)
+
+-- an item pushed to each of so many rows of n members, where rows of a filler make up for those that lack
+abbrev pub pushed_items : {A : Type 0} → ℕ → ℕ → A → List (List A) → List A → List (List A)
+pushed_items count n filler rows items = with_items n (padded_to count (replicate n filler) rows) items
 
 -- each row with its item after
 abbrev pub with_items_behind : {A : Type 0} → List (List A) → List A → List (List A)
@@ -68,6 +76,10 @@ builder_without_column b j = record b { columns = b.columns - 1; rows = map (λ 
 abbrev pub is_empty_text : List ℕ → Bool
 is_empty_text text = length text == 0
 
+-- a row has a text at j
+abbrev pub has_text_at : List (List ℕ) → ℕ → Bool
+has_text_at row j = not (is_empty_text (slice_index_or row j []))
+
 -- a row with a text
 abbrev pub row_has_text : List (List ℕ) → Bool
 row_has_text row = not (list_all is_empty_text row)
@@ -76,16 +88,23 @@ row_has_text row = not (list_all is_empty_text row)
 abbrev pub has_text_in : List (List (List ℕ)) → ℕ → Bool
 has_text_in rows j = not (list_all (λ row. is_empty_text (slice_index_or row j [])) rows)
 
+-- the columns of n in which some row has a text
+abbrev pub text_columns : ℕ → List (List (List ℕ)) → List ℕ
+text_columns n rows = filter (has_text_in rows) (range_with_len 0 n)
+
+-- rows with these of their columns alone, in this order
+abbrev pub only_columns : List ℕ → List (List (List ℕ)) → List (List (List ℕ))
+only_columns columns rows = map (λ (row : List (List ℕ)). map (λ j. slice_index_or row j []) columns) rows
+
 -- the columns with a text
 abbrev pub columns_with_text : Builder → List ℕ
-columns_with_text b = filter (has_text_in b.rows) (range_with_len 0 b.columns)
+columns_with_text b = text_columns b.columns b.rows
 
 -- the columns without a text removed, and then the rows without one
 abbrev pub cleaned : Builder → Builder
 cleaned b =
     let kept = columns_with_text b in
-    let rows = map (λ (row : List (List ℕ)). map (λ j. slice_index_or row j []) kept) b.rows in
-    record b { columns = length kept; rows = filter row_has_text rows }
+    record b { columns = length kept; rows = filter row_has_text (only_columns kept b.rows) }
 
 -- each row and each column has a text
 pub record IsClean (b : Builder) : Type 0 where

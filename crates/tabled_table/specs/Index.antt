@@ -23,10 +23,14 @@ pub record IsIndexed (x : Indexed) : Type 0 where
 abbrev pub numbers : ℕ → List (List ℕ)
 numbers n = map decimal (range_with_len 0 n)
 
+-- a header above a body, and the numbers below one as the index
+abbrev pub numbered : ℕ → List (List ℕ) → List (List (List ℕ)) → Indexed
+numbered count header body = record { header = header; index = numbers count; body = body; name = None; shown = true; is_transposed = false }
+
 -- the first row as the header, the others as the body, and their numbers as the index
 abbrev pub indexed_rows : List (List (List ℕ)) → Option Indexed
 indexed_rows [] = None
-indexed_rows (header ∷ body) = Some (record { header = header; index = numbers (length body); body = body; name = None; shown = true; is_transposed = false })
+indexed_rows (header ∷ body) = Some (numbered (length body) header body)
 
 -- column j of rows
 abbrev pub column_of : List (List (List ℕ)) → ℕ → List (List ℕ)

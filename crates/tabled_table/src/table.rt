@@ -31,7 +31,7 @@ impl Model for Table {
 impl Table {
     ghost use Rattle.std.specs.Prelude.{◌≡◌, OnOk, OnErr, IsOk};
     ghost use Rattle.std.specs.FinMap as map;
-    ghost use Rattle.tabled_options.specs.Does.{CopiesAlike, EachListed, EachListedUntil, SameOr};
+    ghost use Rattle.tabled_options.specs.Does.{CopiesAlike, EachListed, EachListedLeaves};
 
     /// A table of the cells of a store, with no merged cells.
     pub fn from_records(alloc: Global, records: VecRecords<Text<String>>) -> Self
@@ -50,7 +50,7 @@ impl Table {
     pub fn with<O>(&mut self, alloc: Global, option: O) -> Result<(), AllocError>
     where
         O: TableOption<VecRecords<Text<String>>, SpannedConfig, ()>,
-        requires { O.can_change option }
+        requires can { O.can_change option }
         ensures ok { OnOk result (O.does option self.old.cells self.old.spans self.new.cells self.new.spans) }
         ensures err { OnErr result (O.leaves option self.old.cells self.old.spans self.new.cells self.new.spans) }
         ensures promised { O.never_refused option self.old.cells self.old.spans → IsOk result }
@@ -71,7 +71,7 @@ impl Table {
         requires can { M.can_change option }
         requires copies { CopiesAlike M.is_clone M.is_like option }
         ensures ok { OnOk result (EachListed (O.lists object) (M.does option) self.old.cells self.old.spans self.new.cells self.new.spans) }
-        ensures err { OnErr result (SameOr (EachListedUntil (O.lists object) (M.does option) (λ e. SameOr (M.leaves option e))) self.old.cells self.old.spans self.new.cells self.new.spans) }
+        ensures err { OnErr result (EachListedLeaves (O.lists object) (M.does option) (M.leaves option) self.old.cells self.old.spans self.new.cells self.new.spans) }
     {
         self.with(alloc, Modify::list(object, option))
     }

@@ -35,11 +35,11 @@ impl Model for Indexed {
 }
 
 impl Indexed {
-    ghost use Rattle.std.specs.Prelude.{◌≡◌, ◌<◌, None, IfOk, true, false, length, map, option_map, vec_len};
+    ghost use Rattle.std.specs.Prelude.{◌≡◌, ◌<◌, IfOk, false, length, map, option_map, vec_len};
     ghost use Rattle.std.specs.String.{string_bytes};
     ghost use Rattle.tabled_grid.specs.Grid.{width_of};
     ghost use Rattle.tabled_table.specs.Builder.{AreRecords, row_texts};
-    ghost use Rattle.tabled_table.specs.Index.{IsIndexed, built_rows, is_bare as has_nothing, numbers, transposed_index, with_column_as_index};
+    ghost use Rattle.tabled_table.specs.Index.{IsIndexed, built_rows, is_bare as has_nothing, numbered, transposed_index, with_column_as_index};
 
     /// A header and a body with the numbers of its rows as the index.
     pub(super) fn new(
@@ -48,7 +48,7 @@ impl Indexed {
         body: Vec<Vec<Text<String>>>,
     ) -> Result<Self, AllocError>
         requires { AreRecords (vec_len header) (row_texts body.items) }
-        ensures { IfOk result (λ x. x ≡ record { header = map string_bytes header.items; index = numbers (vec_len body); body = row_texts body.items; name = None; shown = true; is_transposed = false }) }
+        ensures { IfOk result (λ x. x ≡ numbered (vec_len body) (map string_bytes header.items) (row_texts body.items)) }
     {
         let index = numbers_below(alloc, body.len())?;
         Ok(Indexed {

@@ -1,10 +1,9 @@
 //! Builders of maps and sets, with a row an entry.
 
-ghost use Rattle.std.specs.Prelude.{◌≡◌, IfOk, OnErr, OnOk};
-ghost use Rattle.std.specs.List.{AllZip};
+ghost use Rattle.std.specs.Prelude.{◌≡◌, IfOk, OnOk};
 ghost use Rattle.std.specs.List.Sorted.{IsPermutation, IsSorted};
 ghost use Rattle.tabled_table.specs.Builder.{row_texts};
-ghost use Rattle.tabled_table.specs.Given.{GaveRecords, MayBeAsked};
+ghost use Rattle.tabled_table.specs.Given.{GaveEntries, MayBeAsked};
 ghost use Rattle.tabled_table.specs.Printed.{Lists, ListsSorted, PrintsOne, PrintsPair, row_cmp};
 
 use crate::builder::Builder;
@@ -84,8 +83,8 @@ where
     K: Display + Drop,
     V: Display + Drop,
     I: IntoIterator<Item = (K, V)>,
-    requires { MayBeAsked I.into_iter_gives I.IntoIter.can_next I.IntoIter.remaining entries }
-    ensures { IfOk result (λ all. GaveRecords I.into_iter_gives I.IntoIter.next_gives (AllZip (PrintsPair K.output V.output)) entries (λ rows. row_texts all.items ≡ rows)) }
+    requires { MayBeAsked I.IntoIterator I.IntoIter.Iterator entries }
+    ensures { IfOk result (λ all. GaveEntries I.IntoIterator I.IntoIter.Iterator (PrintsPair K.output V.output) entries (λ rows. row_texts all.items ≡ rows)) }
 {
     let mut all = Vec::new(alloc);
     for (key, value) in entries {
@@ -102,8 +101,8 @@ fn single_rows<K, I>(alloc: Global, keys: I) -> Result<Vec<Vec<String>>, AllocEr
 where
     K: Display + Drop,
     I: IntoIterator<Item = K>,
-    requires { MayBeAsked I.into_iter_gives I.IntoIter.can_next I.IntoIter.remaining keys }
-    ensures { IfOk result (λ all. GaveRecords I.into_iter_gives I.IntoIter.next_gives (AllZip (PrintsOne K.output)) keys (λ rows. row_texts all.items ≡ rows)) }
+    requires { MayBeAsked I.IntoIterator I.IntoIter.Iterator keys }
+    ensures { IfOk result (λ all. GaveEntries I.IntoIterator I.IntoIter.Iterator (PrintsOne K.output) keys (λ rows. row_texts all.items ≡ rows)) }
 {
     let mut all = Vec::new(alloc);
     for key in keys {

@@ -1,10 +1,10 @@
 //! Work on the rows of a builder, cell by cell and row by row.
 
-ghost use Rattle.std.specs.Prelude.{◌≡◌, ℕ, ◌<◌, ◌≤◌, ◌++◌, IfOk, OnOk, OnErr, length, map, replicate, take, vec_len};
-ghost use Rattle.std.specs.List.{filter, insert};
+ghost use Rattle.std.specs.Prelude.{◌≡◌, ℕ, ◌<◌, ◌≤◌, IfOk, OnOk, OnErr, map, replicate, take, vec_len};
+ghost use Rattle.std.specs.List.{filter};
 ghost use Rattle.std.specs.String.{string_bytes};
 ghost use Rattle.tabled_grid.specs.Grid.{width_of};
-ghost use Rattle.tabled_table.specs.Builder.{AreRecords, longest as longest_of, padded_to, row_has_text, row_texts, with_items};
+ghost use Rattle.tabled_table.specs.Builder.{AreRecords, longest as longest_of, padded_to, pushed_items, row_has_text, row_texts, with_row_at};
 ghost use Rattle.tabled_table.specs.Given.{GaveTexts, MayBeAsked};
 
 use crate::builder::columns::insert_items;
@@ -19,8 +19,8 @@ pub(super) fn collect<R>(
 ) -> Result<Vec<Text<String>>, AllocError>
 where
     R: IntoIterator<Item = String>,
-    requires { MayBeAsked R.into_iter_gives R.IntoIter.can_next R.IntoIter.remaining texts }
-    ensures { IfOk result (λ row. GaveTexts R.into_iter_gives R.IntoIter.next_gives texts (λ given. map string_bytes row.items ≡ given)) }
+    requires { MayBeAsked R.IntoIterator R.IntoIter.Iterator texts }
+    ensures { IfOk result (λ row. GaveTexts R.IntoIterator R.IntoIter.Iterator texts (λ given. map string_bytes row.items ≡ given)) }
 {
     let mut row = Vec::new(alloc);
     let _ = row.reserve_exact(room);
@@ -104,7 +104,7 @@ pub(super) fn insert_row(
     requires within { i ≤ vec_len rows.old }
     requires even { AreRecords from (row_texts rows.old.items) }
     requires long { from ≤ vec_len row }
-    ensures ok { OnOk result (row_texts rows.new.items ≡ insert (map (padded_to (vec_len row) empty.now) (row_texts rows.old.items)) i (map string_bytes row.items)) }
+    ensures ok { OnOk result (row_texts rows.new.items ≡ with_row_at (vec_len row) empty.now (row_texts rows.old.items) i (map string_bytes row.items)) }
     ensures err { OnErr result (row_texts rows.new.items ≡ row_texts rows.old.items) }
 {
     rows.reserve(1)?;
@@ -146,7 +146,7 @@ fn try_push_items(
 ) -> Result<(), AllocError>
     requires even { AreRecords columns (row_texts rows.old.items) }
     requires many { vec_len rows.old ≤ vec_len items }
-    ensures ok { OnOk result (row_texts rows.new.items ≡ with_items columns (padded_to (vec_len items) (replicate columns empty.now) (row_texts rows.old.items)) (map string_bytes items.items)) }
+    ensures ok { OnOk result (row_texts rows.new.items ≡ pushed_items (vec_len items) columns empty.now (row_texts rows.old.items) (map string_bytes items.items)) }
     ensures err { OnErr result (take (vec_len rows.old) (row_texts rows.new.items) ≡ row_texts rows.old.items) }
 {
     pad_rows(alloc, rows, items.len(), columns, empty)?;
@@ -164,7 +164,7 @@ pub(super) fn push_items(
 ) -> Result<(), AllocError>
     requires even { AreRecords columns (row_texts rows.old.items) }
     requires many { vec_len rows.old ≤ vec_len items }
-    ensures ok { OnOk result (row_texts rows.new.items ≡ with_items columns (padded_to (vec_len items) (replicate columns empty.now) (row_texts rows.old.items)) (map string_bytes items.items)) }
+    ensures ok { OnOk result (row_texts rows.new.items ≡ pushed_items (vec_len items) columns empty.now (row_texts rows.old.items) (map string_bytes items.items)) }
     ensures err { OnErr result (row_texts rows.new.items ≡ row_texts rows.old.items) }
 {
     let count = rows.len();

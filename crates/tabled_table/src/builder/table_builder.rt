@@ -35,7 +35,7 @@ impl Builder {
     ghost use Rattle.tabled_table.specs.Builder.{AreRecords, builder_with_column, builder_without_column, cleaned, cleared, from_uneven, row_texts, table_of, with_last_column, with_record, without_record};
     ghost use Rattle.tabled_grid.specs.Grid.{map_grid, width_of};
     ghost use Rattle.tabled_table.specs.Index.{indexed_rows};
-    ghost use Rattle.tabled_table.specs.Given.{EachMayBeAsked, GaveRecords, GaveRows, GaveTexts, MayBeAsked};
+    ghost use Rattle.tabled_table.specs.Given.{EachGaveTexts, EachMayBeAsked, GaveTexts, MayBeAsked};
 
     /// A builder with no columns and no records (0 x 0), whose empty text is `""`.
     ///
@@ -73,8 +73,8 @@ impl Builder {
     ///
     /// Ported from `tabled::builder::Builder::from_vec`.
     pub fn from_vec(alloc: Global, rows: Vec<Vec<Text<String>>>) -> Self
-        requires { AreRecords (width_of (row_texts rows.items)) (row_texts rows.items) }
-        ensures { result ≡ record { columns = width_of (row_texts rows.items); rows = row_texts rows.items; empty = [] } }
+        requires even { AreRecords (width_of (row_texts rows.items)) (row_texts rows.items) }
+        ensures rows { result ≡ record { columns = width_of (row_texts rows.items); rows = row_texts rows.items; empty = [] } }
     {
         let count_columns = rows::width(&rows);
         Builder {
@@ -138,8 +138,8 @@ impl Builder {
     where
         I: IntoIterator<Item = R>,
         R: IntoIterator<Item = String>,
-        requires { EachMayBeAsked I.into_iter_gives I.IntoIter.can_next I.IntoIter.remaining I.IntoIter.next_gives (MayBeAsked R.into_iter_gives R.IntoIter.can_next R.IntoIter.remaining) records }
-        ensures { IfOk result (λ b. GaveRecords I.into_iter_gives I.IntoIter.next_gives (GaveRows R.into_iter_gives R.IntoIter.next_gives) records (λ rows. b ≡ from_uneven rows)) }
+        requires asked { EachMayBeAsked I.IntoIterator I.IntoIter.Iterator R.IntoIterator R.IntoIter.Iterator records }
+        ensures ok { IfOk result (λ b. EachGaveTexts I.IntoIterator I.IntoIter.Iterator R.IntoIterator R.IntoIter.Iterator records (λ rows. b ≡ from_uneven rows)) }
     {
         let mut builder = Builder::new(alloc);
         for row in records {
@@ -244,8 +244,8 @@ impl Builder {
     pub fn push_record<R>(&mut self, alloc: Global, texts: R) -> Result<(), AllocError>
     where
         R: IntoIterator<Item = String>,
-        requires { MayBeAsked R.into_iter_gives R.IntoIter.can_next R.IntoIter.remaining texts }
-        ensures ok { OnOk result (GaveTexts R.into_iter_gives R.IntoIter.next_gives texts (λ given. self.new ≡ with_record self.old (length self.old.rows) given)) }
+        requires asked { MayBeAsked R.IntoIterator R.IntoIter.Iterator texts }
+        ensures ok { OnOk result (GaveTexts R.IntoIterator R.IntoIter.Iterator texts (λ given. self.new ≡ with_record self.old (length self.old.rows) given)) }
         ensures err { OnErr result (self.new ≡ self.old) }
     {
         let end = self.rows.len();
@@ -260,8 +260,8 @@ impl Builder {
     pub fn extend_record<R>(&mut self, alloc: Global, texts: R) -> Result<(), AllocError>
     where
         R: IntoIterator<Item = String>,
-        requires { MayBeAsked R.into_iter_gives R.IntoIter.can_next R.IntoIter.remaining texts }
-        ensures ok { OnOk result (GaveTexts R.into_iter_gives R.IntoIter.next_gives texts (λ given. self.new ≡ with_record self.old (length self.old.rows) given)) }
+        requires asked { MayBeAsked R.IntoIterator R.IntoIter.Iterator texts }
+        ensures ok { OnOk result (GaveTexts R.IntoIterator R.IntoIter.Iterator texts (λ given. self.new ≡ with_record self.old (length self.old.rows) given)) }
         ensures err { OnErr result (self.new ≡ self.old) }
     {
         self.push_record(alloc, texts)
@@ -278,8 +278,8 @@ impl Builder {
     where
         R: IntoIterator<Item = String>,
         requires within { i ≤ length self.old.rows }
-        requires asked { MayBeAsked R.into_iter_gives R.IntoIter.can_next R.IntoIter.remaining texts }
-        ensures ok { OnOk result (GaveTexts R.into_iter_gives R.IntoIter.next_gives texts (λ given. self.new ≡ with_record self.old i given)) }
+        requires asked { MayBeAsked R.IntoIterator R.IntoIter.Iterator texts }
+        ensures ok { OnOk result (GaveTexts R.IntoIterator R.IntoIter.Iterator texts (λ given. self.new ≡ with_record self.old i given)) }
         ensures err { OnErr result (self.new ≡ self.old) }
     {
         let mut row = rows::collect(alloc, self.count_columns, texts)?;
@@ -307,8 +307,8 @@ impl Builder {
     pub fn push_column<R>(&mut self, alloc: Global, texts: R) -> Result<(), AllocError>
     where
         R: IntoIterator<Item = String>,
-        requires { MayBeAsked R.into_iter_gives R.IntoIter.can_next R.IntoIter.remaining texts }
-        ensures ok { OnOk result (GaveTexts R.into_iter_gives R.IntoIter.next_gives texts (λ given. self.new ≡ with_last_column self.old given)) }
+        requires asked { MayBeAsked R.IntoIterator R.IntoIter.Iterator texts }
+        ensures ok { OnOk result (GaveTexts R.IntoIterator R.IntoIter.Iterator texts (λ given. self.new ≡ with_last_column self.old given)) }
         ensures err { OnErr result (self.new ≡ self.old) }
     {
         let count = self.rows.len();
@@ -332,8 +332,8 @@ impl Builder {
     where
         R: IntoIterator<Item = String>,
         requires within { j ≤ self.old.columns }
-        requires asked { MayBeAsked R.into_iter_gives R.IntoIter.can_next R.IntoIter.remaining texts }
-        ensures ok { OnOk result (GaveTexts R.into_iter_gives R.IntoIter.next_gives texts (λ given. self.new ≡ builder_with_column self.old j given)) }
+        requires asked { MayBeAsked R.IntoIterator R.IntoIter.Iterator texts }
+        ensures ok { OnOk result (GaveTexts R.IntoIterator R.IntoIter.Iterator texts (λ given. self.new ≡ builder_with_column self.old j given)) }
         ensures err { OnErr result (self.new ≡ self.old) }
     {
         let count = self.rows.len();
@@ -351,8 +351,8 @@ impl Builder {
     ///
     /// Ported from `tabled::builder::Builder::remove_record`.
     pub fn remove_record(&mut self, i: usize)
-        requires { i < length self.old.rows }
-        ensures { self.new ≡ without_record self.old i }
+        requires within { i < length self.old.rows }
+        ensures removed { self.new ≡ without_record self.old i }
     {
         let _record = self.rows.remove(i);
     }
@@ -362,8 +362,8 @@ impl Builder {
     ///
     /// Ported from `tabled::builder::Builder::remove_column`.
     pub fn remove_column(&mut self, j: usize)
-        requires { j < self.old.columns }
-        ensures { self.new ≡ builder_without_column self.old j }
+        requires within { j < self.old.columns }
+        ensures removed { self.new ≡ builder_without_column self.old j }
     {
         remove_each(&mut self.rows, j);
         self.count_columns -= 1;

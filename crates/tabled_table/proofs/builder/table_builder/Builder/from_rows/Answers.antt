@@ -17,7 +17,7 @@ push_record-requires g c =
     let xs = c.loop-row.yielded in
     let x = c.in-Some.row in
     let more = Yields-more g.I.IntoIter.Iterator.next_gives it.result xs c.loop-row.row-iterator x c.next.new.self c.loop-row.yielded_by c.in-Some.ensures.steps in
-    (All-pop (MayBeAsked g.R.IntoIterator.into_iter_gives g.R.IntoIter.Iterator.can_next g.R.IntoIter.Iterator.remaining) (xs ++ x ∷ []) xs (Some x) refl ((c.requires it.result it.ensures.into_iter_gives).2 (xs ++ x ∷ []) c.next.new.self more)).1
+    record { asked = (All-pop (MayBeAsked g.R.IntoIterator g.R.IntoIter.Iterator) (xs ++ x ∷ []) xs (Some x) refl ((c.requires.asked it.result it.ensures.into_iter_gives).2 (xs ++ x ∷ []) c.next.new.self more)).1 }
 
 pub loop-row-preserved : goal.loop-row-preserved
 loop-row-preserved g c =
@@ -30,4 +30,4 @@ pub returns : goal.returns
 returns g c =
     let so_far = c.loop-row.invariant in
     let it = c.into_iter-row-iterator in
-    (it.result, c.loop-row.yielded, so_far.0, it.ensures.into_iter_gives, (c.next.new.self, (c.loop-row.row-iterator, c.loop-row.yielded_by, c.in-None.ensures.steps)), so_far.1, so_far.2)
+    record { ok = (it.result, c.loop-row.yielded, so_far.0, it.ensures.into_iter_gives, (c.next.new.self, (c.loop-row.row-iterator, c.loop-row.yielded_by, c.in-None.ensures.steps)), so_far.1, so_far.2) }

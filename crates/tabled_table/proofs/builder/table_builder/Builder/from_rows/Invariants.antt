@@ -4,4 +4,4 @@ use Rattle.tabled_table.specs.Given.{GaveRows}
 use Rattle.tabled_table.proofs.builder.table_builder.Builder.from_rows.Given as goal
 
 abbrev pub invariant-loop-row : goal.invariant-loop-row
-invariant-loop-row g l = (rows : List (List (List ℕ))) × GaveRows g.R.IntoIterator.into_iter_gives g.R.IntoIter.Iterator.next_gives l.yielded rows × (l.builder ≡ from_uneven rows)
+invariant-loop-row g l = (rows : List (List (List ℕ))) × GaveRows g.R.IntoIterator g.R.IntoIter.Iterator l.yielded rows × (l.builder ≡ from_uneven rows)

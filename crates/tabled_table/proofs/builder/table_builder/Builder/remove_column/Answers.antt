@@ -8,7 +8,7 @@ use Rattle.tabled_table.proofs.RowTexts.{All-lens, texts_removed}
 use Rattle.tabled_table.proofs.builder.table_builder.Builder.remove_column.Goals as goal
 
 pub remove_each-requires : goal.remove_each-requires
-remove_each-requires c = rw c.deref_mut.ensures.value (All-lens (λ n. c.args.j < n) c.self.inside.count_columns c.self.inside.rows.items (rw (← c.self.view_is) at c.requires) c.self.invariant)
+remove_each-requires c = rw c.deref_mut.ensures.value (All-lens (λ n. c.args.j < n) c.self.inside.count_columns c.self.inside.rows.items (rw (← c.self.view_is) at c.requires.within) c.self.invariant)
 
 -- the texts of the rows that are left
 left : (c : goal.After-self-2-1) → row_texts (with_items c.self.inside.rows c.remove_each.new.rows).items ≡ map (λ (row : List (List ℕ)). remove row c.args.j) (row_texts c.self.inside.rows.items)
@@ -17,7 +17,7 @@ left c =
     ∙ ap (λ rows. map (λ row. remove row c.args.j) (row_texts rows)) c.deref_mut.ensures.value
 
 pub invariant_of-self : goal.invariant_of-self
-invariant_of-self c = rw (left c) (even-without c.self.inside.count_columns c.args.j (row_texts c.self.inside.rows.items) (rw (← c.self.view_is) at c.requires) c.self.invariant)
+invariant_of-self c = rw (left c) (even-without c.self.inside.count_columns c.args.j (row_texts c.self.inside.rows.items) (rw (← c.self.view_is) at c.requires.within) c.self.invariant)
 
 pub returns : goal.returns
-returns c = rw (← c.self.view_is, left c) refl
+returns c = record { removed = rw (← c.self.view_is, left c) refl }

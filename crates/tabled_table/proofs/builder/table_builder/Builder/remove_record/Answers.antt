@@ -8,4 +8,4 @@ pub invariant_of-self : goal.invariant_of-self
 invariant_of-self c = rw (c.remove-record.ensures.items, map-remove (λ (row : Vec (String Global)). map string_bytes row.items) c.self.inside.rows.items c.args.i) (all-remove _ _ c.args.i c.self.invariant)
 
 pub returns : goal.returns
-returns c = rw (← c.self.view_is, c.remove-record.ensures.items, map-remove (λ (row : Vec (String Global)). map string_bytes row.items) c.self.inside.rows.items c.args.i) refl
+returns c = record { removed = rw (← c.self.view_is, c.remove-record.ensures.items, map-remove (λ (row : Vec (String Global)). map string_bytes row.items) c.self.inside.rows.items c.args.i) refl }
