@@ -6,7 +6,7 @@ use Rattle.std.specs.List.Sorted.{IsBinarySearchResult, IsSearchInRange}
 use Rattle.std.specs.Result.{is_ok}
 use Rattle.std.proofs.lemmas.Bool.{ne_eqb}
 use Rattle.tabled_grid.specs.declared.config.position.Position.{Position}
-use Rattle.tabled_grid.specs.Spans.{AreSpanSizes, IsSpanSize, Rectangle, SpanMap, position_cmp, size_at, sized}
+use Rattle.tabled_grid.specs.Spans.{AreSpanSizes, Rectangle, SpanMap, position_cmp, size_at, sized}
 use Rattle.tabled_grid.specs.declared.config.size.Size.{Size}
 use Rattle.tabled_grid.proofs.SortedEntries.{searched}
 use Rattle.tabled_grid.proofs.Spans.{positions_exact, positions_total}

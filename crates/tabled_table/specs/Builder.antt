@@ -77,8 +77,8 @@ abbrev pub is_empty_text : List ℕ → Bool
 is_empty_text text = length text == 0
 
 -- a row has a text at j
-abbrev pub has_text_at : List (List ℕ) → ℕ → Bool
-has_text_at row j = not (is_empty_text (slice_index_or row j []))
+abbrev pub filled_at : List (List ℕ) → ℕ → Bool
+filled_at row j = not (is_empty_text (slice_index_or row j []))
 
 -- a row with a text
 abbrev pub row_has_text : List (List ℕ) → Bool

@@ -1,10 +1,6 @@
 -- How columns are brought to the front of a row. Only the contracts of that work speak of this.
-use Rattle.std.specs.Prelude.{ℕ, ◌+◌, Bool, true, false, List, [], ◌∷◌, slice_index_or}
+use Rattle.std.specs.Prelude.{ℕ, ◌+◌, Bool, true, false, List, [], ◌∷◌}
 use Rattle.std.specs.List.{swap}
-
--- the mark at i, or none past the last
-abbrev pub is_marked : List Bool → ℕ → Bool
-is_marked marks i = slice_index_or marks i false
 
 -- the marked members from j on, each swapped with the next one from `front` on
 abbrev pub brought_forward : {A : Type 0} → List Bool → ℕ → ℕ → List A → List A

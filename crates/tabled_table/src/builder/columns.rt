@@ -1,11 +1,11 @@
 //! Work on the columns of a builder, a cell in each row.
 
-ghost use Rattle.std.specs.Prelude.{◌≡◌, ◌+◌, ◌<◌, ◌≤◌, ◌||◌, false, EachIndex, IfOk, OnOk, OnErr, String, length, map, replicate, take, vec_len, []};
+ghost use Rattle.std.specs.Prelude.{◌≡◌, ◌+◌, ◌<◌, ◌≤◌, ◌||◌, false, EachIndex, IfOk, OnOk, OnErr, String, length, map, replicate, take, vec_len, slice_index_or, []};
 ghost use Rattle.std.specs.Global.{Global as Heap, Vec};
 ghost use Rattle.std.specs.List.{All, count_by, remove};
 ghost use Rattle.std.specs.String.{string_bytes};
-ghost use Rattle.tabled_table.specs.Builder.{AreRecords, has_text_at, has_text_in, only_columns, row_texts, text_columns, with_items, with_items_behind};
-ghost use Rattle.tabled_table.specs.Gathering.{brought_forward, is_marked};
+ghost use Rattle.tabled_table.specs.Builder.{AreRecords, filled_at, has_text_in, only_columns, row_texts, text_columns, with_items, with_items_behind};
+ghost use Rattle.tabled_table.specs.Gathering.{brought_forward};
 ghost use Rattle.tabled_table.specs.Index.{column_of, columns_as_rows};
 
 use std::alloc::{AllocError, Global};
@@ -39,7 +39,7 @@ const BLOCK: usize = 1024;
 /// Marks the columns from `start` on in which the row has a text.
 fn mark_row(row: &[Text<String>], start: usize, marks: &mut [bool])
     requires { start + length marks.old ≤ length row.now }
-    ensures { EachIndex marks.new (λ i. is_marked marks.new i ≡ (is_marked marks.old i || has_text_at (map string_bytes row.now) (start + i))) }
+    ensures { EachIndex marks.new (λ i. slice_index_or marks.new i false ≡ (slice_index_or marks.old i false || filled_at (map string_bytes row.now) (start + i))) }
 {
     for (i, mark) in marks.iter_mut().enumerate() {
         if !row[start + i].as_str().is_empty() {
@@ -51,8 +51,8 @@ fn mark_row(row: &[Text<String>], start: usize, marks: &mut [bool])
 /// Marks the columns from `start` on in which some row has a text, where none is marked before.
 fn mark_columns(rows: &[Vec<Text<String>>], start: usize, marks: &mut [bool])
     requires within { All (λ (row : Vec (String Heap)). start + length marks.old ≤ vec_len row) rows.now }
-    requires unmarked { EachIndex marks.old (λ i. is_marked marks.old i ≡ false) }
-    ensures { EachIndex marks.new (λ i. is_marked marks.new i ≡ has_text_in (row_texts rows.now) (start + i)) }
+    requires unmarked { EachIndex marks.old (λ i. slice_index_or marks.old i false ≡ false) }
+    ensures { EachIndex marks.new (λ i. slice_index_or marks.new i false ≡ has_text_in (row_texts rows.now) (start + i)) }
 {
     for row in rows {
         if !marks.contains(&false) {
