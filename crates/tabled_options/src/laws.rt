@@ -3,8 +3,9 @@
 ghost use Rattle.std.specs.Prelude.{◌≡◌, true};
 ghost use Rattle.tabled_grid.specs.Entity.{names};
 ghost use Rattle.tabled_grid.specs.declared.config.entity.Entity.{Entity};
+ghost use Rattle.tabled_options.specs.Does.{OptionKeeps};
 ghost use Rattle.tabled_options.specs.Hints.{combined};
-ghost use Rattle.tabled_options.specs.Kept.{CellCopiedAsPair, CopiedAsAll, CopiedAsPair, KeptBy, KeptByAll, KeptByPair, KeptOnEach, KeptOnEachByPair};
+ghost use Rattle.tabled_options.specs.Kept.{CellCopiedAsPair, CopiedAsAll, CopiedAsPair, KeptByAll, KeptByPair, KeptOnEachByPair};
 ghost use Rattle.tabled_options.specs.Shapes.{FitsAfterEach, FitsInSameShape};
 
 use crate::cell_option::CellOption;
@@ -30,23 +31,23 @@ pub fn combined_names_both(_a: Entity, _b: Entity, _pos: Position)
 {}
 
 /// Copies of settings on tables, and of pairs, are like them where those of their parts are.
-pub fn settings_copied<R, C, D, A, B>(_first: &A, _second: &B)
+pub fn settings_copied<R, C, D, A, B>(_a: &A, _b: &B)
 where
     R: GridStore,
     A: TableOption<R, C, D> + Clone,
     B: TableOption<R, C, D> + Clone + Drop,
-    ensures settings { CopiedAsPair A.Clone A.TableOption B.Clone B.TableOption ⟦<Settings<A, B> as Clone>⟧ ⟦<Settings<A, B> as TableOption<R, C, D>>⟧ _first.now _second.now }
-    ensures pairs { CopiedAsPair A.Clone A.TableOption B.Clone B.TableOption ⟦<(A, B) as Clone>⟧ ⟦<(A, B) as TableOption<R, C, D>>⟧ _first.now _second.now }
+    ensures settings { CopiedAsPair A.Clone A.TableOption B.Clone B.TableOption ⟦<Settings<A, B> as Clone>⟧ ⟦<Settings<A, B> as TableOption<R, C, D>>⟧ _a.now _b.now }
+    ensures pairs { CopiedAsPair A.Clone A.TableOption B.Clone B.TableOption ⟦<(A, B) as Clone>⟧ ⟦<(A, B) as TableOption<R, C, D>>⟧ _a.now _b.now }
 {}
 
 /// Copies of settings on cells, and of pairs, are like them where those of their parts are.
-pub fn cell_settings_copied<R, C, A, B>(_first: &A, _second: &B)
+pub fn cell_settings_copied<R, C, A, B>(_a: &A, _b: &B)
 where
     R: GridStore,
     A: CellOption<R, C> + Clone,
     B: CellOption<R, C> + Clone + Drop,
-    ensures settings { CellCopiedAsPair A.Clone A.CellOption B.Clone B.CellOption ⟦<Settings<A, B> as Clone>⟧ ⟦<Settings<A, B> as CellOption<R, C>>⟧ _first.now _second.now }
-    ensures pairs { CellCopiedAsPair A.Clone A.CellOption B.Clone B.CellOption ⟦<(A, B) as Clone>⟧ ⟦<(A, B) as CellOption<R, C>>⟧ _first.now _second.now }
+    ensures settings { CellCopiedAsPair A.Clone A.CellOption B.Clone B.CellOption ⟦<Settings<A, B> as Clone>⟧ ⟦<Settings<A, B> as CellOption<R, C>>⟧ _a.now _b.now }
+    ensures pairs { CellCopiedAsPair A.Clone A.CellOption B.Clone B.CellOption ⟦<(A, B) as Clone>⟧ ⟦<(A, B) as CellOption<R, C>>⟧ _a.now _b.now }
 {}
 
 /// Copies of a vector of options are like it, item by item, where those of its items are.
@@ -106,7 +107,7 @@ where
     P: Property<R::Cell, C>,
     O: Object<R> + Drop,
     M: CellOption<R, C> + Clone,
-    ensures each { KeptOnEach P.holds M.CellOption _option.now → KeptBy P.holds ⟦<ModifyList<O, M> as TableOption<R, C, D>>⟧ (_object.now, _option.now) }
+    ensures each { ((e : Entity) → OptionKeeps P.holds (M.does _option.now e) (M.leaves _option.now e)) → OptionKeeps P.holds (⟦<ModifyList<O, M> as TableOption<R, C, D>>⟧.does (_object.now, _option.now)) (⟦<ModifyList<O, M> as TableOption<R, C, D>>⟧.leaves (_object.now, _option.now)) }
 {}
 
 /// An option on cells that leaves the numbers of rows and columns and the configuration, done or refused,
