@@ -10,8 +10,10 @@ pub mod Reach
 pub mod RisingPlaces
 pub mod RunLists
 pub mod Runs
+pub mod RunsFrom
 pub mod SetSizes
 pub mod SpanChanges
 pub mod SpanGeometry
 pub mod SpanWrites
+pub mod Tails
 pub mod Widths

@@ -24,7 +24,7 @@ use Rattle.tabled_spans.specs.RunSteps.{Before, IsOfRun, RunAt, RunsBefore}
 use Rattle.tabled_spans.specs.Runs.{IsRun, MergesRuns, size_of_run}
 use Rattle.tabled_spans.proofs.Runs.{further_none, same_run}
 
-both : (a b : Bool) → T a → T b → T (a && b)
+pub both : (a b : Bool) → T a → T b → T (a && b)
 both true b p q = q
 both false b p q = p
 
@@ -61,22 +61,31 @@ all_behind : (P : Rectangle → Type 0) (es : List Rectangle) (e : Rectangle) �
 all_behind P [] e all h = (h, tt)
 all_behind P (f ∷ es) e all h = (all.0, all_behind P es e all.1 h)
 
-all_then : {P Q : Rectangle → Type 0} → ((e : Rectangle) → P e → Q e) → (es : List Rectangle) → AllByRecursion P es → AllByRecursion Q es
+pub all_then : {P Q : Rectangle → Type 0} → ((e : Rectangle) → P e → Q e) → (es : List Rectangle) → AllByRecursion P es → AllByRecursion Q es
 all_then f [] all = tt
 all_then f (e ∷ es) all = (f e all.0, all_then f es all.1)
 
-one_more : (i j : ℕ) (p : Position) → Before i j p → Before i (j + 1) p
+pub one_more : (i j : ℕ) (p : Position) → Before i j p → Before i (j + 1) p
 one_more i j p (inl above) = inl above
 one_more i j p (inr (same, left)) = inr (same, omega arith)
 
 -- before the place after another: before it, or at it
-split_last : (i j : ℕ) (p : Position) → Before i (j + 1) p → Before i j p ⊎ (p ≡ place i j)
+pub split_last : (i j : ℕ) (p : Position) → Before i (j + 1) p → Before i j p ⊎ (p ≡ place i j)
 split_last i j p (inl above) = inl (inl above)
 split_last i j p (inr (same, left)) = either (cases_lt p.col j)
   where
     either : (p.col < j) ⊎ (j ≤ p.col) → Before i j p ⊎ (p ≡ place i j)
     either (inl l) = inl (inr (same, l))
     either (inr l) = inr (ap₂ place same (omega arith))
+
+-- a place that comes before the next row comes before the end of this one
+pub in_row : (i j columns : ℕ) (p : Position) → columns ≤ j → p.col < columns → Before (i + 1) 0 p → Before i j p
+in_row i j columns p wide inside (inr h) = absurd (omega (arith, h.1))
+in_row i j columns p wide inside (inl above) = either (cases_lt p.row i)
+  where
+    either : (p.row < i) ⊎ (i ≤ p.row) → Before i j p
+    either (inl l) = inl l
+    either (inr l) = inr (omega arith, omega arith)
 
 module _ (axis : Axis) (g : Grid (List ℕ)) (m : SpanMap) where
   module _ (i j : ℕ) (es : List Rectangle) (so_far : RunsBefore axis g m i j es) where
@@ -109,10 +118,10 @@ module _ (axis : Axis) (g : Grid (List ℕ)) (m : SpanMap) where
             ap (λ x. find position_cmp x (es ++ ((place i j, size_of_run axis many) ∷ []))) e ∙ found_behind (place i j) (size_of_run axis many) es so_far.before ∙ ap (λ k. Some (size_of_run axis k)) same
 
   -- a run begins inside the table
-  begins_inside : (p : Position) (n : ℕ) → IsRun axis g m p n → p.col < g.columns
+  pub begins_inside : (p : Position) (n : ℕ) → IsRun axis g m p n → p.col < g.columns
   begins_inside p n run = (subst (λ (x : Position). x.col < g.columns) (further_none axis p) (run.joins 0 (omega (arith, run.some))).inside.col)
 
-  begins_above : (p : Position) (n : ℕ) → IsRun axis g m p n → p.row < g.rows
+  pub begins_above : (p : Position) (n : ℕ) → IsRun axis g m p n → p.row < g.rows
   begins_above p n run = (subst (λ (x : Position). x.row < g.rows) (further_none axis p) (run.joins 0 (omega (arith, run.some))).inside.row)
 
   -- all places of a row
@@ -121,20 +130,12 @@ module _ (axis : Axis) (g : Grid (List ℕ)) (m : SpanMap) where
     sorted = so_far.sorted;
     before = all_then (λ (e : Rectangle) h. next_row e.0 h) es so_far.before;
     each = so_far.each;
-    all = λ p n run h. so_far.all p n run (in_row p (begins_inside p n run) h);
+    all = λ p n run h. so_far.all p n run (in_row i j g.columns p wide (begins_inside p n run) h);
   }
     where
       next_row : (p : Position) → Before i j p → Before (i + 1) 0 p
       next_row p (inl above) = inl (omega arith)
       next_row p (inr h) = inl (omega (arith, h.0))
-
-      in_row : (p : Position) → p.col < g.columns → Before (i + 1) 0 p → Before i j p
-      in_row p inside (inr h) = absurd (omega (arith, h.1))
-      in_row p inside (inl above) = either (cases_lt p.row i)
-        where
-          either : (p.row < i) ⊎ (i ≤ p.row) → Before i j p
-          either (inl l) = inl l
-          either (inr l) = inr (omega arith, omega arith)
 
 -- sizes that are set at places, each once
 missed : (es : List Rectangle) (m : SpanMap) (p : Position) → find position_cmp p es ≡ None → get (with_sizes m es) p ≡ get m p

@@ -27,24 +27,12 @@ module _ (axis : Axis) (g : Grid (List ℕ)) (m : SpanMap) (p : Position) where
   pub continues : (last : Position) → further axis 1 last ≡ p → Joins axis g m last → RunAt axis g m p 0
   continues last is joins = record { is = λ h. absurd (omega (arith, h)); none = λ h n run. run.begins last is joins }
 
-  -- none joins the place where the one before it doesn't
-  pub begins_by : (last : Position) → further axis 1 last ≡ p → (Joins axis g m last → ⊥) → (q : Position) → further axis 1 q ≡ p → Joins axis g m q → ⊥
-  begins_by last is never q e joins = never (subst (Joins axis g m) (same_last axis q last (e ∙ sym is)) joins)
-
   -- what was found by going on as far as cells join
   pub run_at : (many : ℕ) (last : Position) → 1 ≤ many → last ≡ further axis (many - 1) p → ((k : ℕ) → k + 1 < many → Joins axis g m (further axis k p)) → (Joins axis g m last → ⊥) → ((q : Position) → further axis 1 q ≡ p → Joins axis g m q → ⊥) → RunAt axis g m p many
   run_at many last some is joins ends begins = record {
     is = λ two. record { some = two; joins = joins; ends = λ j. ends (subst (Joins axis g m) (sym is) j); begins = begins };
     none = λ one n run. ends (subst (Joins axis g m) (ap (λ k. further axis k p) (omega arith) ∙ sym is) (run.joins 0 (omega (arith, run.some))));
   }
-
-  -- one cell more
-  pub joins_more : (many : ℕ) (last : Position) → last ≡ further axis (many - 1) p → ((k : ℕ) → k + 1 < many → Joins axis g m (further axis k p)) → Joins axis g m last → (k : ℕ) → k + 1 < many + 1 → Joins axis g m (further axis k p)
-  joins_more many last is joins more k h = either (cases_lt (k + 1) many)
-    where
-      either : (k + 1 < many) ⊎ (many ≤ k + 1) → Joins axis g m (further axis k p)
-      either (inl l) = joins k l
-      either (inr l) = subst (Joins axis g m) (is ∙ ap (λ n. further axis n p) (omega arith)) more
 
 -- a run is as long as any other that begins at the same place
 pub same_run : (axis : Axis) (g : Grid (List ℕ)) (m : SpanMap) (p : Position) (a b : ℕ) → IsRun axis g m p a → IsRun axis g m p b → a ≡ b

@@ -1,12 +1,12 @@
 -- The steps in which runs are found, row by row.
-use Rattle.std.specs.Prelude.{◌≡◌, ◌<◌, ◌≤◌, ◌⊎◌, ℕ, List, Some, T}
+use Rattle.std.specs.Prelude.{◌≡◌, ◌+◌, ◌-◌, ◌<◌, ◌≤◌, ◌⊎◌, ℕ, List, Some, T, length, slice_index}
 use Rattle.std.specs.FinMap.{find, is_sorted}
 use Rattle.std.specs.List.{AllByRecursion}
-use Rattle.tabled_grid.specs.Grid.{Grid}
+use Rattle.tabled_grid.specs.Grid.{Grid, IsInside}
 use Rattle.tabled_grid.specs.Spans.{Rectangle, SpanMap, position_cmp}
 use Rattle.tabled_grid.specs.declared.config.position.Position.{Position}
 use Rattle.tabled_grid.specs.declared.records.axis.Axis.{Axis}
-use Rattle.tabled_spans.specs.Runs.{IsRun, size_of_run}
+use Rattle.tabled_spans.specs.Runs.{IsRun, Joins, further, size_of_run}
 
 -- a run of n cells begins at the place, or none where that is below 2
 pub record RunAt (axis : Axis) (g : Grid (List ℕ)) (m : SpanMap) (p : Position) (many : ℕ) : Type 0 where
@@ -27,3 +27,21 @@ pub record RunsBefore (axis : Axis) (g : Grid (List ℕ)) (m : SpanMap) (i j : �
   pub before : AllByRecursion (λ (e : Rectangle). Before i j e.0) sizes
   pub each : AllByRecursion (IsOfRun axis g m) sizes
   pub all : (p : Position) (many : ℕ) → IsRun axis g m p many → Before i j p → find position_cmp p sizes ≡ Some (size_of_run axis many)
+
+-- the anchors and sizes of all runs that begin at a place or after it, row by row
+pub record RunsFrom (axis : Axis) (g : Grid (List ℕ)) (m : SpanMap) (i j : ℕ) (sizes : List Rectangle) : Type 0 where
+  pub sorted : T (is_sorted position_cmp sizes)
+  pub from : AllByRecursion (λ (e : Rectangle). Before i j e.0 → ⊥) sizes
+  pub each : AllByRecursion (IsOfRun axis g m) sizes
+  pub all : (p : Position) (many : ℕ) → IsRun axis g m p many → (Before i j p → ⊥) → find position_cmp p sizes ≡ Some (size_of_run axis many)
+
+-- the cell and those after it along the axis, as far as each joins the next one
+pub record IsTail (axis : Axis) (g : Grid (List ℕ)) (m : SpanMap) (p : Position) (many : ℕ) : Type 0 where
+  pub some : 1 ≤ many
+  pub joins : (k : ℕ) → k + 1 < many → Joins axis g m (further axis k p)
+  pub ends : Joins axis g m (further axis (many - 1) p) → ⊥
+
+-- the length of the tail of each cell before a place, row by row, whose next one isn't before it, at the cell's column
+pub record AreTails (axis : Axis) (g : Grid (List ℕ)) (m : SpanMap) (i j : ℕ) (lengths : List ℕ) : Type 0 where
+  pub size : length lengths ≡ g.columns
+  pub each : (p : Position) → IsInside g p → Before i j p → (IsInside g (further axis 1 p) → Before i j (further axis 1 p) → ⊥) → IsTail axis g m p (slice_index lengths p.col)

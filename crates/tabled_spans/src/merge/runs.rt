@@ -1,12 +1,12 @@
 //! Runs of equal neighbours along an axis.
 
-ghost use Rattle.std.specs.Prelude.{◌≡◌, ◌↔◌, ◌+◌, ◌^◌, ◌<◌, ◌==◌, ◌&&◌, IfOk, IsNone, IsTrue, not};
+ghost use Rattle.std.specs.Prelude.{◌≡◌, ◌↔◌, ◌+◌, ◌<◌, ◌==◌, ◌&&◌, IfOk, IsNone, IsTrue, not, true};
 ghost use Rattle.std.specs.Option.{IfSome};
 ghost use Rattle.tabled_grid.specs.Covers.{cover_of};
 ghost use Rattle.tabled_grid.specs.Grid.{IsInside, map_grid};
 ghost use Rattle.tabled_grid.specs.Spans.{size_at};
 ghost use Rattle.tabled_grid.specs.declared.config.position.Position.{Position};
-ghost use Rattle.tabled_spans.specs.RunSteps.{RunAt, RunsBefore};
+ghost use Rattle.tabled_spans.specs.RunSteps.{AreTails, RunAt, RunsBefore};
 ghost use Rattle.tabled_spans.specs.Runs.{Joins, further, is_free};
 
 use std::alloc::{AllocError, Global};
@@ -14,6 +14,8 @@ use tabled_grid::config::{CoverMap, Position, Rectangle, Size, SpannedConfig, se
 use tabled_grid::records::{Axis, CellText, ExactRecords, PeekableRecords, Records};
 
 /// The first cell of each run and the size of the run, row by row.
+///
+/// It goes back from the last cell, so that a run's length is known at its first cell.
 pub(super) fn runs<R>(
     alloc: Global,
     records: &R,
@@ -33,24 +35,30 @@ where
         width: 1,
     };
     let mut sizes = Vec::new(alloc);
-    for i in 0..records.count_rows() {
-        for j in 0..records.count_columns() {
+    let mut lengths = vec![in alloc; 1; records.count_columns()]?;
+    for i in (0..records.count_rows()).rev() {
+        for j in (0..records.count_columns()).rev() {
             let pos = Position { row: i, col: j };
-            let many = run_from(records, cfg, cover, axis, pos);
+            let many = run_from(records, cfg, cover, axis, &mut lengths, pos);
             if many > 1 {
                 sizes.push((pos, axis.resized(one, many)))?;
             }
         }
     }
+    sizes.reverse();
     Ok(sizes)
 }
 
 /// How many cells the run has that begins at a cell; 0 or 1 where none begins.
+///
+/// `lengths` has, for the next cell of each column that the walk comes to, how many cells join one another
+/// from there on.
 fn run_from<R>(
     records: &R,
     cfg: &SpannedConfig,
     cover: &CoverMap,
     axis: Axis,
+    lengths: &mut [usize],
     pos: Position,
 ) -> usize
 where
@@ -59,42 +67,49 @@ where
     requires well { R.is_well_formed records.now }
     requires cover { cover.now ≡ cover_of cfg.now ((R.grid records.now).rows) ((R.grid records.now).columns) }
     requires inside { IsInside (R.grid records.now) pos }
-    ensures { RunAt axis (map_grid R.Cell.text_of (R.grid records.now)) cfg.now pos result }
+    requires lengths { AreTails axis (map_grid R.Cell.text_of (R.grid records.now)) cfg.now pos.row (pos.col + 1) lengths.old }
+    ensures run { RunAt axis (map_grid R.Cell.text_of (R.grid records.now)) cfg.now pos result }
+    ensures lengths { AreTails axis (map_grid R.Cell.text_of (R.grid records.now)) cfg.now pos.row pos.col lengths.new }
 {
-    // Counts tell that the index after a cell's is still a `usize`.
+    // Counts tell that a length is still a `usize`.
     let _ = (records.count_rows(), records.count_columns());
-    if let Some(last) = before(axis, pos) {
-        if joins(records, cfg, cover, axis, last) {
-            return 0;
-        }
+    let many = lengths[pos.col];
+    let Some(last) = before(axis, pos) else {
+        return many;
+    };
+    if joins(records, cfg, cover, axis, last, pos, many > 1) {
+        lengths[last.col] = many + 1;
+        return 0;
     }
-    let mut many = 1;
-    let mut last = pos;
-    while joins(records, cfg, cover, axis, last) {
-        last = next(axis, last);
-        many += 1;
-    }
+    lengths[last.col] = 1;
     many
 }
 
-/// Says whether a cell and the next one along an axis are visible and no anchors, and have equal texts.
-fn joins<R>(records: &R, cfg: &SpannedConfig, cover: &CoverMap, axis: Axis, pos: Position) -> bool
+/// Says whether a cell joins the next one along an axis: both are visible and no anchors, and have equal texts.
+///
+/// Of a next one that is known to be `free`, only its text is asked.
+fn joins<R>(
+    records: &R,
+    cfg: &SpannedConfig,
+    cover: &CoverMap,
+    axis: Axis,
+    pos: Position,
+    next: Position,
+    free: bool,
+) -> bool
 where
     R: Records + ExactRecords + PeekableRecords,
     R::Cell: CellText,
     requires well { R.is_well_formed records.now }
     requires cover { cover.now ≡ cover_of cfg.now ((R.grid records.now).rows) ((R.grid records.now).columns) }
-    requires inside { IsInside (R.grid records.now) pos }
+    requires inside { IsInside (R.grid records.now) next }
+    requires next { further axis 1 pos ≡ next }
+    requires free { IsTrue free → is_free cfg.now next ≡ true }
     ensures { IsTrue result ↔ Joins axis (map_grid R.Cell.text_of (R.grid records.now)) cfg.now pos }
 {
-    let rows = records.count_rows();
-    let columns = records.count_columns();
-    let other = next(axis, pos);
-    other.row < rows
-        && other.col < columns
-        && records.get_text(pos) == records.get_text(other)
+    records.get_text(pos) == records.get_text(next)
+        && (free || is_free(cfg, cover, next))
         && is_free(cfg, cover, pos)
-        && is_free(cfg, cover, other)
 }
 
 /// Says whether a cell is visible and no anchor.
@@ -112,15 +127,6 @@ fn is_anchor(cfg: &SpannedConfig, pos: Position) -> bool
     ensures { result ≡ not (((size_at cfg.now pos).height == 1) && ((size_at cfg.now pos).width == 1)) }
 {
     search(cfg.anchors(), pos).is_ok()
-}
-
-/// The next place along an axis.
-fn next(axis: Axis, pos: Position) -> Position
-    requires row { pos.row + 1 < 2 ^ 64 }
-    requires col { pos.col + 1 < 2 ^ 64 }
-    ensures { result ≡ further axis 1 pos }
-{
-    axis.in_line(pos, axis.line_of(pos) + 1)
 }
 
 /// The place before another along an axis, if it isn't the first.

@@ -1,0 +1,105 @@
+-- Lists of the runs from a place on, row by row.
+use Rattle.std.proofs.Common.{◌≡◌, ℕ, ◌+◌, ◌<◌, ◌≤◌, ◌≢◌, ◌⊎◌, inl, inr, true, cond, List, [], ◌∷◌, Some, refl, ap, subst, ◌∙◌, T, arith}
+use Rattle.std.specs.FinMap.{find}
+use Rattle.std.specs.FinMap.Entries.{below_all}
+use Rattle.std.specs.List.{AllByRecursion}
+use Rattle.std.specs.Ordering.{is_eq}
+use Rattle.std.proofs.lemmas.Bool.{cases_lt}
+use Rattle.tabled_grid.specs.Entity.{place}
+use Rattle.tabled_grid.specs.Grid.{Grid}
+use Rattle.tabled_grid.specs.Spans.{Rectangle, SpanMap, position_cmp}
+use Rattle.tabled_grid.specs.declared.config.position.Position.{Position}
+use Rattle.tabled_grid.specs.declared.records.axis.Axis.{Axis}
+use Rattle.tabled_grid.proofs.Geometry.{cases_place}
+use Rattle.tabled_grid.proofs.Shifts.{from_earlier}
+use Rattle.tabled_grid.proofs.SpanMaps.{tied, untied}
+use Rattle.tabled_spans.specs.RunSteps.{Before, IsOfRun, RunAt, RunsBefore, RunsFrom}
+use Rattle.tabled_spans.specs.Runs.{IsRun, size_of_run}
+use Rattle.tabled_spans.proofs.RunLists.{all_then, begins_above, begins_inside, both, in_row, one_more, split_last}
+use Rattle.tabled_spans.proofs.Runs.{same_run}
+
+-- a place that comes not before the next one of another comes after this
+is_after : (i j : ℕ) (q : Position) → (Before i (j + 1) q → ⊥) → Before q.row q.col (place i j)
+is_after i j q never = either (cases_lt i q.row) (cases_lt q.row i) (cases_lt q.col (j + 1))
+  where
+    either : (i < q.row) ⊎ (q.row ≤ i) → (q.row < i) ⊎ (i ≤ q.row) → (q.col < j + 1) ⊎ (j + 1 ≤ q.col) → Before q.row q.col (place i j)
+    either (inl l) c d = inl l
+    either (inr l) (inl k) d = absurd (never (inl k))
+    either (inr l) (inr k) (inl h) = absurd (never (inr (omega arith, h)))
+    either (inr l) (inr k) (inr h) = inr (omega arith, omega arith)
+
+not_itself : (i j : ℕ) → Before i j (place i j) → ⊥
+not_itself i j (inl above) = omega (arith, above)
+not_itself i j (inr h) = omega (arith, h.1)
+
+below_after : (i j : ℕ) (es : List Rectangle) → AllByRecursion (λ (e : Rectangle). Before i (j + 1) e.0 → ⊥) es → T (below_all position_cmp (place i j) es)
+below_after i j [] after = tt
+below_after i j (e ∷ es) after = both _ _ (rw (from_earlier (place i j) e.0 (is_after i j e.0 after.0)) tt) (below_after i j es after.1)
+
+module _ (axis : Axis) (g : Grid (List ℕ)) (m : SpanMap) where
+  -- no run begins below the table
+  pub none_below : (i : ℕ) → g.rows ≤ i → RunsFrom axis g m i 0 []
+  none_below i high = record { sorted = tt; from = tt; each = tt; all = λ p n run h. absurd (h (inl (omega (arith, high, begins_above axis g m p n run)))) }
+
+  -- those from the first place on are all
+  pub from_first : (es : List Rectangle) → RunsFrom axis g m 0 0 es → RunsBefore axis g m g.rows 0 es
+  from_first es listed = record {
+    sorted = listed.sorted;
+    before = all_then (λ (e : Rectangle) (run : IsOfRun axis g m e). inl (begins_above axis g m e.0 run.0 run.1)) es listed.each;
+    each = listed.each;
+    all = λ p n run h. listed.all p n run (nowhere p);
+  }
+    where
+      nowhere : (p : Position) → Before 0 0 p → ⊥
+      nowhere p (inl above) = omega (arith, above)
+      nowhere p (inr h) = omega (arith, h.1)
+
+  -- those from a row on are those from the end of the row before on
+  pub from_end : (i j : ℕ) (es : List Rectangle) → g.columns ≤ j → RunsFrom axis g m (i + 1) 0 es → RunsFrom axis g m i j es
+  from_end i j es wide so_far = record {
+    sorted = so_far.sorted;
+    from = all_then {Q = λ (e : Rectangle). Before i j e.0 → ⊥} (λ e never h. never (next_row e.0 h)) es so_far.from;
+    each = so_far.each;
+    all = λ p n run never. so_far.all p n run (λ h. never (in_row i j g.columns p wide (begins_inside axis g m p n run) h));
+  }
+    where
+      next_row : (p : Position) → Before i j p → Before (i + 1) 0 p
+      next_row p (inl above) = inl (omega arith)
+      next_row p (inr h) = inl (omega (arith, h.0))
+
+  module _ (i j : ℕ) (es : List Rectangle) (so_far : RunsFrom axis g m i (j + 1) es) where
+    still_from : AllByRecursion (λ (e : Rectangle). Before i j e.0 → ⊥) es
+    still_from = all_then {Q = λ (e : Rectangle). Before i j e.0 → ⊥} (λ e never h. never (one_more i j e.0 h)) es so_far.from
+
+    -- a run that begins from the place on begins after it, where it doesn't begin at it
+    begins_after : (p : Position) → p ≢ place i j → (Before i j p → ⊥) → Before i (j + 1) p → ⊥
+    begins_after p other never h = either (split_last i j p h)
+      where
+        either : Before i j p ⊎ (p ≡ place i j) → ⊥
+        either (inl b) = never b
+        either (inr e) = other e
+
+    -- no run begins at the place
+    pub none_put : (many : ℕ) → many ≤ 1 → RunAt axis g m (place i j) many → RunsFrom axis g m i j es
+    none_put many few found = record {
+      sorted = so_far.sorted;
+      from = still_from;
+      each = so_far.each;
+      all = λ p n run never. so_far.all p n run (begins_after p (λ e. found.none few n (subst (λ x. IsRun axis g m x n) e run)) never);
+    }
+
+    -- one begins there
+    pub run_put : (many : ℕ) → 2 ≤ many → RunAt axis g m (place i j) many → RunsFrom axis g m i j ((place i j, size_of_run axis many) ∷ es)
+    run_put many two found = record {
+      sorted = both _ _ (below_after i j es so_far.from) so_far.sorted;
+      from = (not_itself i j, still_from);
+      each = ((many, found.is two, refl), so_far.each);
+      all = λ p n run never. by p n run never (cases_place p (place i j));
+    }
+      where
+        by : (p : Position) (n : ℕ) → IsRun axis g m p n → (Before i j p → ⊥) → (p ≡ place i j) ⊎ (p ≢ place i j) → find position_cmp p ((place i j, size_of_run axis many) ∷ es) ≡ Some (size_of_run axis n)
+        by p n run never (inl e) =
+            let same = same_run axis g m (place i j) many n (found.is two) (subst (λ x. IsRun axis g m x n) e run) in
+            ap (λ b. cond b (Some (size_of_run axis many)) (find position_cmp p es)) (subst (λ x. is_eq (position_cmp p x) ≡ true) e (tied p)) ∙ ap (λ k. Some (size_of_run axis k)) same
+        by p n run never (inr other) =
+            ap (λ b. cond b (Some (size_of_run axis many)) (find position_cmp p es)) (untied p (place i j) other) ∙ so_far.all p n run (begins_after p other never)

@@ -1,0 +1,126 @@
+-- Tails of runs: the lengths that are carried from each cell to the one before it.
+use Rattle.std.proofs.Common.{◌≡◌, ℕ, ◌+◌, ◌-◌, ◌<◌, ◌≤◌, ◌≢◌, ◌⊎◌, inl, inr, List, length, replicate, slice_index, slice_set, refl, sym, ap, ap₂, subst, ◌∙◌, arith}
+use Rattle.std.proofs.lemmas.Bool.{cases_lt}
+use Rattle.std.proofs.lemmas.List.{get_or-replicate, get_or-set_other, get_or-set_same, length-replicate, length-set}
+use Rattle.tabled_grid.specs.Entity.{place}
+use Rattle.tabled_grid.specs.Grid.{Grid, IsInside}
+use Rattle.tabled_grid.specs.Spans.{SpanMap}
+use Rattle.tabled_grid.specs.declared.config.position.Position.{Position}
+use Rattle.tabled_grid.specs.declared.records.axis.Axis.{Axis}
+use Rattle.tabled_grid.specs.declared.records.axis.Axis.TheVariants.{Rows, Columns}
+use Rattle.tabled_grid.proofs.Geometry.{cases_place}
+use Rattle.tabled_spans.specs.RunSteps.{AreTails, Before, IsTail}
+use Rattle.tabled_spans.specs.Runs.{Joins, further}
+use Rattle.tabled_spans.proofs.RunLists.{in_row, one_more, split_last}
+use Rattle.tabled_spans.proofs.Runs.{further_none, same_last}
+
+-- n cells from the next place on are n + 1 from this one on
+further_back : (axis : Axis) (k n : ℕ) (last p : Position) → further axis 1 last ≡ p → k + 1 ≡ n → further axis k p ≡ further axis n last
+further_back Rows k n last p is e = ap₂ place (omega (arith, e, ap (λ (x : Position). x.row) is)) (sym (ap (λ (x : Position). x.col) is))
+further_back Columns k n last p is e = ap₂ place (sym (ap (λ (x : Position). x.row) is)) (omega (arith, e, ap (λ (x : Position). x.col) is))
+
+-- the cell after a place along the axis comes not before the next place, row by row
+next_after : (axis : Axis) (p : Position) → Before p.row (p.col + 1) (further axis 1 p) → ⊥
+next_after Rows p (inl h) = omega (arith, h)
+next_after Rows p (inr h) = omega (arith, h.0)
+next_after Columns p (inl h) = omega (arith, h)
+next_after Columns p (inr h) = omega (arith, h.1)
+
+module _ (axis : Axis) (g : Grid (List ℕ)) (m : SpanMap) where
+  -- a cell that joins none
+  pub tail_alone : (p : Position) → (Joins axis g m p → ⊥) → IsTail axis g m p 1
+  tail_alone p never = record {
+    some = omega arith;
+    joins = λ k h. absurd (omega (arith, h));
+    ends = λ j. never (subst (Joins axis g m) (further_none axis p) j);
+  }
+
+  -- a cell that joins the first of others
+  pub tail_more : (last p : Position) (many : ℕ) → further axis 1 last ≡ p → Joins axis g m last → IsTail axis g m p many → IsTail axis g m last (many + 1)
+  tail_more last p many is j tail = record {
+    some = omega arith;
+    joins = λ k h. either k h (cases_lt 0 k);
+    ends = λ e. tail.ends (subst (Joins axis g m) (sym (further_back axis (many - 1) (many + 1 - 1) last p is (omega (arith, tail.some)))) e);
+  }
+    where
+      either : (k : ℕ) → k + 1 < many + 1 → (0 < k) ⊎ (k ≤ 0) → Joins axis g m (further axis k last)
+      either k h (inl l) = subst (Joins axis g m) (further_back axis (k - 1) k last p is (omega arith)) (tail.joins (k - 1) (omega arith))
+      either k h (inr l) = subst (Joins axis g m) (sym (further_none axis last) ∙ ap (λ n. further axis n last) (omega arith)) j
+
+  -- the first cell of a tail of two joins the next one
+  pub tail_joins : (p : Position) (many : ℕ) → IsTail axis g m p many → 2 ≤ many → Joins axis g m p
+  tail_joins p many tail two = subst (Joins axis g m) (further_none axis p) (tail.joins 0 (omega arith))
+
+  -- with one cell before it, a tail is no longer than a line
+  pub tail_fits : (last p : Position) (many bound : ℕ) → further axis 1 last ≡ p → IsInside g p → IsTail axis g m p many → g.rows < bound → g.columns < bound → many + 1 < bound
+  tail_fits last p many bound is inside tail high wide = either axis is (cases_lt 1 many) (λ two. (tail.joins (many - 2) (omega arith)).next_inside)
+    where
+      either : (x : Axis) → further x 1 last ≡ p → (1 < many) ⊎ (many ≤ 1) → (1 < many → IsInside g (further x 1 (further x (many - 2) p))) → many + 1 < bound
+      either Rows e (inl two) within = let there = (within two).row in omega (arith, there, high, two, ap (λ (y : Position). y.row) e)
+      either Rows e (inr one) within = omega (arith, high, one, inside.row, ap (λ (y : Position). y.row) e)
+      either Columns e (inl two) within = let there = (within two).col in omega (arith, there, wide, two, ap (λ (y : Position). y.col) e)
+      either Columns e (inr one) within = omega (arith, wide, one, inside.col, ap (λ (y : Position). y.col) e)
+
+  -- below the table
+  pub tails_below : (i : ℕ) → g.rows ≤ i → AreTails axis g m i 0 (replicate g.columns 1)
+  tails_below i high = record {
+    size = length-replicate g.columns 1;
+    each = λ p inside before alone. subst (IsTail axis g m p) (sym (get_or-replicate g.columns p.col 1 0 inside.col)) (tail_alone p (λ j. alone j.next_inside (inl (omega (arith, high, j.next_inside.row)))));
+  }
+
+  -- from the end of a row on
+  pub tails_end : (i j : ℕ) (lengths : List ℕ) → g.columns ≤ j → AreTails axis g m (i + 1) 0 lengths → AreTails axis g m i j lengths
+  tails_end i j lengths wide so_far = record {
+    size = so_far.size;
+    each = λ p inside before alone. so_far.each p inside (next_row p before) (λ within h. alone within (in_row i j g.columns (further axis 1 p) wide within.col h));
+  }
+    where
+      next_row : (p : Position) → Before i j p → Before (i + 1) 0 p
+      next_row p (inl above) = inl (omega arith)
+      next_row p (inr h) = inl (omega (arith, h.0))
+
+  module _ (p : Position) (inside : IsInside g p) (lengths : List ℕ) (so_far : AreTails axis g m p.row (p.col + 1) lengths) where
+    -- the tail at the place
+    pub tail_here : IsTail axis g m p (slice_index lengths p.col)
+    tail_here = so_far.each p inside (inr (refl, omega arith)) (λ within h. next_after axis p h)
+
+    tail_still : (r : Position) → IsInside g r → Before p.row p.col r → (IsInside g (further axis 1 r) → Before p.row p.col (further axis 1 r) → ⊥) → (further axis 1 r ≡ p → ⊥) → IsTail axis g m r (slice_index lengths r.col)
+    tail_still r within before alone other = so_far.each r within (one_more p.row p.col r before) (λ next h. either next (split_last p.row p.col (further axis 1 r) h))
+      where
+        either : IsInside g (further axis 1 r) → Before p.row p.col (further axis 1 r) ⊎ (further axis 1 r ≡ p) → ⊥
+        either next (inl h) = alone next h
+        either next (inr e) = other e
+
+    -- where none comes before the place
+    pub tails_kept : ((last : Position) → further axis 1 last ≡ p → ⊥) → AreTails axis g m p.row p.col lengths
+    tails_kept first = record {
+      size = so_far.size;
+      each = λ r within before alone. tail_still r within before alone (first r);
+    }
+
+    -- the tail at the place before it
+    pub tails_set : (last : Position) (many : ℕ) → further axis 1 last ≡ p → IsTail axis g m last many → AreTails axis g m p.row p.col (slice_set lengths last.col many)
+    tails_set last many is tail = record {
+      size = length-set lengths last.col many ∙ so_far.size;
+      each = λ r within before alone. by r within before alone (cases_place r last);
+    }
+      where
+        in_columns : (x : Axis) → further x 1 last ≡ p → last.col < length lengths
+        in_columns Rows e = omega (arith, ap (λ (y : Position). y.col) e, inside.col, so_far.size)
+        in_columns Columns e = omega (arith, ap (λ (y : Position). y.col) e, inside.col, so_far.size)
+
+        same_column : (x : Axis) (r : Position) → further x 1 last ≡ p → Before p.row p.col r → r.col ≡ last.col → (IsInside g (further x 1 r) → Before p.row p.col (further x 1 r) → ⊥) → further x 1 r ≡ p
+        same_column Rows r e (inl above) same alone = either (cases_lt (r.row + 1) p.row)
+          where
+            either : (r.row + 1 < p.row) ⊎ (p.row ≤ r.row + 1) → further Rows 1 r ≡ p
+            either (inl l) = absurd (alone (record { row = omega (arith, inside.row); col = omega (arith, same, ap (λ (y : Position). y.col) e, inside.col) }) (inl l))
+            either (inr l) = ap₂ place (omega (arith, above)) (same ∙ ap (λ (y : Position). y.col) e)
+        same_column Rows r e (inr h) same alone = absurd (omega (arith, h.1, same, ap (λ (y : Position). y.col) e))
+        same_column Columns r e (inl above) same alone = absurd (alone (record { row = omega (arith, above, inside.row); col = omega (arith, same, ap (λ (y : Position). y.col) e, inside.col) }) (inl above))
+        same_column Columns r e (inr h) same alone = ap₂ place h.0 (omega (arith, same, ap (λ (y : Position). y.col) e))
+
+        by : (r : Position) → IsInside g r → Before p.row p.col r → (IsInside g (further axis 1 r) → Before p.row p.col (further axis 1 r) → ⊥) → (r ≡ last) ⊎ (r ≢ last) → IsTail axis g m r (slice_index (slice_set lengths last.col many) r.col)
+        by r within before alone (inl e) = subst (λ (x : Position). IsTail axis g m x (slice_index (slice_set lengths last.col many) x.col)) (sym e) (subst (IsTail axis g m last) (sym (get_or-set_same lengths last.col many 0 (in_columns axis is))) tail)
+        by r within before alone (inr other) =
+            let apart : further axis 1 r ≢ p = λ e. other (same_last axis r last (e ∙ sym is)) in
+            subst (IsTail axis g m r) (sym (get_or-set_other lengths last.col r.col many 0 (λ same. apart (same_column axis r is before same alone)))) (tail_still r within before alone apart)
