@@ -1,7 +1,7 @@
 -- Merged cells in and beside a part of the lines that is put into the opposite order.
 use Rattle.std.proofs.Common.{◌≡◌, ℕ, ◌+◌, ◌-◌, ◌<◌, ◌≤◌, ◌⊎◌, inl, inr, refl, sym, ap, ◌∙◌, arith}
 use Rattle.std.proofs.lemmas.Bool.{cases_lt}
-use Rattle.tabled_grid.specs.Axis.{across, count_of, in_line, line_of}
+use Rattle.tabled_grid.specs.Axis.{count_of, in_line, line_of}
 use Rattle.tabled_grid.specs.Midway.{In}
 use Rattle.tabled_grid.specs.declared.config.position.Position.{Position}
 use Rattle.tabled_grid.specs.declared.records.axis.Axis.{Axis}
@@ -41,13 +41,15 @@ module _ (axis : Axis) (old : ℕ → ℕ) (rows columns s e : ℕ) (inside : (i
           let h = is_along axis (a, t) q holds in
           let i = s + e - 1 - line_of axis q in
           let back : old i ≡ line_of axis q = inside i (omega (arith, h.last, last)) (omega (arith, h.first, first, h.last, last)) ∙ omega (arith, h.first, first, h.last, last) in
-          let p = in_line axis q i in
-          (p, takes old rows columns p q axis (record {
-            within = omega (arith, line_is axis q i, h.first, first, h.last, last, fits);
-            across_within = omega (arith, across_is axis q i, h.to, room.across);
-            line = ap old (line_is axis q i) ∙ back;
-            same = across_is axis q i;
-          }))
+          let p = in_line axis q i in (
+            p,
+            takes old rows columns p q axis (record {
+              within = omega (arith, line_is axis q i, h.first, first, h.last, last, fits);
+              across_within = omega (arith, across_is axis q i, h.to, room.across);
+              line = ap old (line_is axis q i) ∙ back;
+              same = across_is axis q i;
+            }),
+          )
 
       only : (p q : Position) → Takes (lines_from axis old rows columns) p q → In (a, t) q → In (in_line axis a line, t) p
       only p q k holds =

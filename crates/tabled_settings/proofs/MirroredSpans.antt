@@ -1,6 +1,6 @@
 -- Merged cells when all lines are put into the opposite order, twice.
-use Rattle.std.proofs.Common.{◌≡◌, ℕ, ◌+◌, ◌-◌, ◌<◌, ◌≤◌, ◌⊎◌, inl, inr, sym, arith}
-use Rattle.tabled_grid.specs.Axis.{across, count_of, in_line, line_of}
+use Rattle.std.proofs.Common.{◌≡◌, ℕ, ◌+◌, ◌-◌, ◌<◌, ◌≤◌, ◌⊎◌, sym, arith}
+use Rattle.tabled_grid.specs.Axis.{count_of, in_line, line_of}
 use Rattle.tabled_grid.specs.Places.{Places}
 use Rattle.tabled_grid.specs.Fitting.{Fits}
 use Rattle.tabled_grid.specs.Spans.{Rectangle, SpanMap}

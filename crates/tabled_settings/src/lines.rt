@@ -33,7 +33,10 @@ where
         Axis::Columns => {
             for row in 0..records.count_rows() {
                 for j in 0..swaps {
-                    records.swap(Position::new(row, start + j), Position::new(row, end - 1 - j));
+                    records.swap(
+                        Position::new(row, start + j),
+                        Position::new(row, end - 1 - j),
+                    );
                 }
             }
         }

@@ -1,4 +1,3 @@
-use Rattle.std.proofs.Common.{◌-◌, ◌/◌}
 use Rattle.tabled_grid.specs.declared.records.axis.Axis.TheVariants.{Rows}
 use Rattle.tabled_settings.specs.Lines.{ReversesEnds}
 use Rattle.tabled_settings.proofs.Reversed.{ends}
