@@ -1,5 +1,5 @@
 -- A step does and leaves what its option does and leaves.
-use Rattle.std.proofs.Common.{◌≡◌, ◌⊎◌, inl, inr, refl, List, ℕ}
+use Rattle.std.proofs.Common.{◌≡◌, inl, inr, refl, List, ℕ}
 use Rattle.std.specs.declared.ops.Bound.{Bound}
 use Rattle.tabled_grid.specs.Grid.{Grid}
 use Rattle.tabled_grid.specs.Spans.{SpanMap}

@@ -1,7 +1,6 @@
 //! Laws of steps. Each is the contract of a function that does nothing.
 
-ghost use Rattle.std.specs.Prelude.{Bool, List, Option, ℕ, ℤ, ◌≡◌};
-ghost use Rattle.std.specs.String.{string_bytes};
+ghost use Rattle.std.specs.Prelude.{List, ℕ};
 ghost use Rattle.tabled_grid.specs.Grid.{Grid, IsEven};
 ghost use Rattle.tabled_grid.specs.Spans.{SpanMap, with_sizes};
 ghost use Rattle.tabled_grid.specs.declared.records.axis.Axis.{Axis};
@@ -14,7 +13,6 @@ ghost use Rattle.tabled_steps.specs.Fitting.{KeepsFitting};
 ghost use Rattle.tabled_steps.specs.MergedRuns.{runs};
 ghost use Rattle.tabled_steps.specs.States.{Becomes, EndAlike, State, after, after_all};
 ghost use Rattle.tabled_steps.specs.Steps.{Does};
-ghost use Rattle.tabled_steps.specs.declared.select.Select.{Select};
 ghost use Rattle.tabled_steps.specs.declared.step.Step.{Step};
 ghost use Rattle.tabled_steps.specs.declared.step.Step.TheVariants as step;
 
