@@ -16,7 +16,7 @@ use Rattle.tabled_grid.specs.Places.{Places, ReadsThrough}
 use Rattle.tabled_grid.specs.Spans.{SpanMap}
 use Rattle.tabled_carry.specs.Images.{carried}
 use Rattle.tabled_settings.specs.Places.{lines_from}
-use Rattle.tabled_settings.specs.Rearranged.{columns_if, count_in, extracted, window}
+use Rattle.tabled_settings.specs.Rearranged.{columns_if, count_in, extracted, part}
 use Rattle.tabled_grid.proofs.PiecesPut.{same_count, same_shape, shape_after}
 use Rattle.tabled_settings.proofs.LineReads.{line_first, lines_read, lines_swapped, shape_swapped}
 
@@ -102,5 +102,5 @@ extract_done {A} in_rows in_columns rs re cs ce g mid new first_row end_row firs
 
 -- merged cells go along with them
 pub extract_carried : (in_rows in_columns : Bound ℕ × Bound ℕ) (rs re cs ce rows columns r c : ℕ) (places : Places) (m k : SpanMap) → rs ≡ first_index in_rows.0 → re ≡ end_index in_rows.1 rows → cs ≡ first_index in_columns.0 → ce ≡ end_index in_columns.1 columns → rows ≡ r → columns ≡ c →
-    places ≡ window (place rs cs) (min re rows - rs) (columns_if (min re rows - rs) (min ce columns - cs)) → k ≡ carried places rows columns m → k ≡ carried (extracted in_rows in_columns r c) r c m
+    places ≡ part rs re cs ce rows columns → k ≡ carried places rows columns m → k ≡ carried (extracted in_rows in_columns r c) r c m
 extract_carried in_rows in_columns rs re cs ce rows columns r c places m k first_row end_row first_column end_column tall wide part is = rw (first_row, end_row, first_column, end_column, tall, wide) at (is ∙ ap (λ (p : Places). carried p rows columns m) part)

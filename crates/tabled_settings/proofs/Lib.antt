@@ -1,3 +1,4 @@
+pub mod AlongLines
 pub mod Apart
 pub mod Cleaned
 pub mod CutLines

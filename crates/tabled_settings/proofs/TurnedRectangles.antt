@@ -6,12 +6,13 @@ use Rattle.tabled_grid.specs.Midway.{In}
 use Rattle.tabled_grid.specs.declared.config.position.Position.{Position}
 use Rattle.tabled_grid.specs.Spans.{Rectangle, sized}
 use Rattle.tabled_grid.specs.declared.config.size.Size.{Size}
+use Rattle.tabled_grid.specs.declared.records.axis.Axis.TheVariants.{Rows}
 use Rattle.tabled_carry.specs.Images.{Carries, IsFull, Takes}
 use Rattle.tabled_carry.proofs.RectanglesCarried.{carries_one}
 use Rattle.tabled_settings.specs.Rearranged.{rotated, upside_down}
 use Rattle.tabled_settings.specs.declared.rotate.Rotate.{Rotate}
 use Rattle.tabled_settings.specs.declared.rotate.Rotate.TheVariants.{Left, Right, Top, Bottom}
-use Rattle.tabled_settings.proofs.MirroredSpans.{rows_carry}
+use Rattle.tabled_settings.proofs.MirroredSpans.{lines_carry}
 use Rattle.tabled_settings.proofs.Rotated.{as_wide}
 
 module _ (rows columns : ℕ) (a : Position) (s : Size) (full : IsFull (a, s)) (high : a.row + s.height ≤ rows) (far : a.col + s.width ≤ columns) where
@@ -92,7 +93,7 @@ turned_full Top rows columns e full = record { height = full.height; width = ful
 turned_full Bottom rows columns e full = record { height = full.height; width = full.width }
 
 upside_down_carries : (rows columns : ℕ) (e : Rectangle) → e.0.row + e.1.height ≤ rows → e.0.col + e.1.width ≤ columns → Carries (upside_down rows columns) e (turned Top rows columns e)
-upside_down_carries rows columns e high far = rows_carry (λ i. rows - 1 - i) rows columns (λ i h. omega (arith, h)) e.0 e.1 high far
+upside_down_carries rows columns e high far = lines_carry Rows (λ i. rows - 1 - i) rows columns (λ i h. omega (arith, h)) e.0 e.1 high far
 
 pub turned_carries : (turn : Rotate) (rows columns : ℕ) (e : Rectangle) → IsFull e → e.0.row + e.1.height ≤ rows → e.0.col + e.1.width ≤ columns → Carries (rotated turn rows columns) e (turned turn rows columns e)
 turned_carries Left rows columns e full high far = left_carries rows columns e.0 e.1 full high far

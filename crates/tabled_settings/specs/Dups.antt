@@ -1,5 +1,6 @@
 -- Texts of some cells written to others.
-use Rattle.std.specs.Prelude.{◌%◌, ◌+◌, ℕ, List, [], ◌∷◌, get_or, length, map}
+use Rattle.std.specs.Prelude.{◌≡◌, ◌%◌, ◌+◌, ℕ, List, [], ◌∷◌, ◌++◌, String, get_or, length, map, string_bytes, take}
+use Rattle.std.specs.Global.{Global}
 use Rattle.std.specs.List.{flat_map}
 use Rattle.tabled_grid.specs.Entity.{inside}
 use Rattle.tabled_grid.specs.Grid.{Grid}
@@ -39,6 +40,10 @@ texts_at e g = map (text_at g) (inside e g.rows g.columns)
 -- the texts in a grid of what entities name
 abbrev pub source_texts : Grid (List ℕ) → List Entity → List (List ℕ)
 source_texts g sources = map (text_at g) (flat sources g.rows g.columns)
+
+-- texts with others after them, as many of all these as are wanted
+abbrev pub AppendsUpTo : ℕ → List (String Global) → List (List ℕ) → List (String Global) → Type 0
+AppendsUpTo many old more new = map string_bytes new ≡ take many (map string_bytes old ++ more)
 
 -- the writes of the texts of sources to what targets name
 abbrev pub dup_writes : List Entity → List Entity → Grid (List ℕ) → List Write

@@ -1,5 +1,6 @@
 -- Two tables joined.
-use Rattle.std.specs.Prelude.{◌≡◌, ◌<◌, ◌≤◌, ◌⊎◌, ℕ, ◌+◌, ◌-◌, ◌&&◌, if◌then◌else◌, List, [], Option, None, Some, max, nat_le, nat_lt}
+use Rattle.std.specs.Prelude.{◌≡◌, ◌<◌, ◌≤◌, ◌⊎◌, ℕ, ◌+◌, ◌-◌, ◌&&◌, if◌then◌else◌, List, [], Option, None, Some, String, max, nat_le, nat_lt, string_bytes}
+use Rattle.std.specs.Global.{Global}
 use Rattle.std.specs.Option.{unwrap_or}
 use Rattle.tabled_grid.specs.Entity.{place}
 use Rattle.tabled_grid.specs.Grid.{Grid, IsEven, cell_at, map_grid}
@@ -29,6 +30,10 @@ text_put corner second default a b = if nat_le corner.row a && nat_le corner.col
 abbrev pub joined_text : Position → Grid (List ℕ) → List ℕ → ℕ → ℕ → List ℕ
 joined_text corner second default a b = unwrap_or (text_put corner second default a b) []
 
+-- a grid of texts, each as its bytes
+abbrev pub as_texts : Grid (String Global) → Grid (List ℕ)
+as_texts = map_grid string_bytes
+
 -- a blank stands at a place
 abbrev pub HasBlank : {A : Type 0} → (A → Type 0) → Grid A → Position → Type 0
 HasBlank {A} is_blank g p = (cell : A) × is_blank cell × (cell_at g p ≡ Some cell)
@@ -55,3 +60,7 @@ pub record FillsTo {A : Type 0} (text_of : A → List ℕ) (want : ℕ → ℕ �
   pub kept : (a b : ℕ) → a < rows → b < columns → cell_at new (place a b) ≡ cell_at old (place a b)
   pub unwritten : (a b : ℕ) → want a b ≡ None → cell_at new (place a b) ≡ cell_at old (place a b)
   pub done : (a b : ℕ) → b < new.columns → (rows ≤ a) ⊎ (columns ≤ b) → (a < i) ⊎ ((a ≡ i) × (b < j)) → (text : List ℕ) → want a b ≡ Some text → cell_at (map_grid text_of new) (place a b) ≡ Some text
+
+-- the texts that a second table puts at places outside of r rows and c columns stand there, and the others are as they were
+abbrev pub Fills : {A : Type 0} → (A → List ℕ) → Position → Grid (List ℕ) → List ℕ → ℕ → ℕ → Grid A → Grid A → Type 0
+Fills text_of corner second default rows columns old new = FillsTo text_of (text_put corner second default) rows columns old.rows 0 old new

@@ -1,5 +1,5 @@
 -- Where the cells of pieces come from, and pieces glued together.
-use Rattle.std.specs.Prelude.{◌≡◌, ℕ, if◌then◌else◌, false, List, [], Some, length, map, slice_index_or, take}
+use Rattle.std.specs.Prelude.{◌≡◌, ◌<◌, ℕ, if◌then◌else◌, false, List, [], Some, length, map, slice_index_or, take}
 use Rattle.std.specs.Int.{div_ceil}
 use Rattle.std.specs.List.{filter, flat_map, range_with_len}
 use Rattle.tabled_grid.specs.Flat.{joined}
@@ -57,6 +57,10 @@ glue_rows s lines width h = record { rows = lines; columns = width; cells = map 
 -- a table of r rows and c columns, from the rows, or the columns, that are the pieces of its own
 abbrev pub glued : {A : Type 0} → Split → ℕ → ℕ → Grid A → Grid A
 glued s rows columns h = oriented s.lines (glue_rows s (count_of s.lines rows columns) (count_of (across s.lines) rows columns) (oriented s.lines h))
+
+-- a table with a row and a column is the pieces of its split glued together, where all were kept
+abbrev pub IsGluedBack : Split → Grid (List ℕ) → Grid (List ℕ) → Type 0
+IsGluedBack s old new = 0 < old.rows → 0 < old.columns → 0 < s.index → s.display ≡ Retain → glued s old.rows old.columns new ≡ old
 
 -- the texts that aren't empty, row by row or column by column
 abbrev pub texts_in : Axis → Grid (List ℕ) → List (List ℕ)

@@ -12,6 +12,11 @@ use Rattle.tabled_settings.specs.declared.split.Display.{Display}
 use Rattle.tabled_settings.specs.declared.split.Display.TheVariants.{Clean, Retain}
 use Rattle.tabled_settings.specs.declared.split.Split.{Split}
 
+-- a grid whose rows are the rows, or the columns, of another one
+abbrev pub oriented : {A : Type 0} → Axis → Grid A → Grid A
+oriented Rows g = g
+oriented Columns g = transposed g
+
 -- piece k of a line: its n texts from k * n on, with empty ones after its end
 abbrev pub piece : ℕ → ℕ → List (List ℕ) → List (List ℕ)
 piece n k texts = map (λ (b : ℕ). slice_index_or texts (k * n + b) []) (range_with_len 0 n)
@@ -34,6 +39,10 @@ piece_at s pieces rows t = piece s.index (nth_piece s.behavior (length rows) pie
 abbrev pub stays_at : Split → ℕ → List (List (List ℕ)) → ℕ → Bool
 stays_at s pieces rows t = stays s.display (nth_piece s.behavior (length rows) pieces t).1 (piece_at s pieces rows t)
 
+-- the same of the pieces of the rows, or of the columns, of a grid
+abbrev pub stays_in : Split → ℕ → Grid (List ℕ) → ℕ → Bool
+stays_in s pieces g t = stays_at s pieces (oriented s.lines g).cells t
+
 -- which pieces stay, in order
 abbrev pub staying : Split → ℕ → List (List (List ℕ)) → List ℕ
 staying s pieces rows = filter (stays_at s pieces rows) (range_with_len 0 (length rows * pieces))
@@ -44,11 +53,6 @@ cut_rows s g = of_rows (map (piece_at s (div_ceil g.columns s.index) g.cells) (s
   where
     of_rows : List (List (List ℕ)) → Grid (List ℕ)
     of_rows rows = record { rows = length rows; columns = s.index; cells = rows }
-
--- a grid whose rows are the rows, or the columns, of another one
-abbrev pub oriented : {A : Type 0} → Axis → Grid A → Grid A
-oriented Rows g = g
-oriented Columns g = transposed g
 
 -- a table of r rows and c columns has lines that are longer than a piece
 abbrev pub has_pieces : Split → ℕ → ℕ → Bool

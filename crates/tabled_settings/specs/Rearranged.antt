@@ -74,6 +74,10 @@ count_in range n = min (end_index range.1 n) n - first_index range.0
 abbrev pub window : Position → ℕ → ℕ → Places
 window first rows columns = record { rows = rows; columns = columns; old_place = λ (p : Position). Some (place (first.row + p.row) (first.col + p.col)) }
 
+-- the rows from one index up to another, and of these the columns from one up to another, of r rows and c columns
+abbrev pub part : ℕ → ℕ → ℕ → ℕ → ℕ → ℕ → Places
+part first_row end_row first_column end_column rows columns = window (place first_row first_column) (min end_row rows - first_row) (columns_if (min end_row rows - first_row) (min end_column columns - first_column))
+
 -- the rows of a range, and of these the columns of another one
 abbrev pub extracted : (Bound ℕ × Bound ℕ) → (Bound ℕ × Bound ℕ) → ℕ → ℕ → Places
 extracted in_rows in_columns rows columns = window (place (first_index in_rows.0) (first_index in_columns.0)) (count_in in_rows rows) (columns_if (count_in in_rows rows) (count_in in_columns columns))

@@ -7,7 +7,7 @@ ghost use Rattle.tabled_grid.specs.Grid.{map_grid};
 ghost use Rattle.tabled_grid.specs.declared.records.axis.Axis.TheVariants.{Columns, Rows};
 ghost use Rattle.tabled_carry.specs.Images.{carried};
 ghost use Rattle.tabled_options.specs.Does.{Same};
-ghost use Rattle.tabled_settings.specs.Joined.{FillsTo, GrowsTo, JoinsAt, corner_of, joined_places, text_put, widened};
+ghost use Rattle.tabled_settings.specs.Joined.{Fills, FillsTo, GrowsTo, JoinsAt, as_texts, corner_of, joined_places, text_put, widened};
 ghost use Rattle.std.proofs.Common.{rules};
 
 use std::alloc::{AllocError, Global};
@@ -218,7 +218,7 @@ where
     requires row { corner.row ≤ (R.grid records.old).rows }
     requires col { corner.col ≤ (R.grid records.old).columns }
     ensures well { R.is_well_formed records.new }
-    ensures ok { OnOk result (JoinsAt R.Cell.is_blank R.Cell.text_of corner (map_grid string_bytes second.now.grid) default.now (R.grid records.old) (R.grid records.new)) }
+    ensures ok { OnOk result (JoinsAt R.Cell.is_blank R.Cell.text_of corner (as_texts second.now.grid) default.now (R.grid records.old) (R.grid records.new)) }
     ensures err { OnErr result (R.grid records.new ≡ R.grid records.old) }
 {
     grow(alloc, records, growth.new_rows, growth.new_columns)?;
@@ -277,8 +277,8 @@ where
     requires well { R.is_well_formed records.old }
     requires wide { columns ≤ (R.grid records.old).columns }
     ensures well { R.is_well_formed records.new }
-    ensures kept { FillsTo R.Cell.text_of (text_put corner (map_grid string_bytes second.now.grid) default.now) rows columns 0 0 (R.grid records.old) (R.grid records.new) }
-    ensures ok { OnOk result (FillsTo R.Cell.text_of (text_put corner (map_grid string_bytes second.now.grid) default.now) rows columns ((R.grid records.old).rows) 0 (R.grid records.old) (R.grid records.new)) }
+    ensures kept { FillsTo R.Cell.text_of (text_put corner (as_texts second.now.grid) default.now) rows columns 0 0 (R.grid records.old) (R.grid records.new) }
+    ensures ok { OnOk result (Fills R.Cell.text_of corner (as_texts second.now.grid) default.now rows columns (R.grid records.old) (R.grid records.new)) }
 {
     let count = records.count_columns();
     for i in 0..records.count_rows() {
@@ -304,7 +304,7 @@ fn text_at<'a>(
     row: usize,
     col: usize,
 ) -> Option<&'a str>
-    ensures { option_copied result ≡ text_put corner (map_grid string_bytes second.now.grid) default.now row col }
+    ensures { option_copied result ≡ text_put corner (as_texts second.now.grid) default.now row col }
 {
     if row < corner.row || col < corner.col {
         return Some(default);

@@ -1,13 +1,12 @@
 //! A part of a table.
 
-ghost use Rattle.std.specs.Prelude.{◌≡◌, ◌+◌, ◌-◌, ◌<◌, ◌^◌, min};
+ghost use Rattle.std.specs.Prelude.{◌≡◌, ◌+◌, ◌<◌, ◌^◌};
 ghost use Rattle.std.specs.declared.ops.Bound.TheVariants.{Unbounded};
-ghost use Rattle.tabled_grid.specs.Entity.{place};
 ghost use Rattle.tabled_grid.specs.Places.{ReadsThrough};
 ghost use Rattle.tabled_grid.specs.Fitting.{Fits};
 ghost use Rattle.tabled_carry.specs.Images.{carried};
 ghost use Rattle.tabled_options.specs.Does.{Same};
-ghost use Rattle.tabled_settings.specs.Rearranged.{columns_if, extracted, window};
+ghost use Rattle.tabled_settings.specs.Rearranged.{extracted, part, window};
 ghost use Rattle.std.proofs.Common.{rules};
 
 use crate::lines;
@@ -137,7 +136,7 @@ struct Window {
 impl Window {
     /// Those of two ranges, of a table of r rows and c columns.
     fn of(in_rows: &Range<usize>, in_columns: &Range<usize>, rows: usize, columns: usize) -> Self
-        ensures { window result.first result.rows result.columns ≡ window (place in_rows.now.start in_columns.now.start) (min in_rows.now.end rows - in_rows.now.start) (columns_if (min in_rows.now.end rows - in_rows.now.start) (min in_columns.now.end columns - in_columns.now.start)) }
+        ensures { window result.first result.rows result.columns ≡ part in_rows.now.start in_rows.now.end in_columns.now.start in_columns.now.end rows columns }
     {
         let height = lines::count_in(in_rows, rows);
         let width = lines::count_in(in_columns, columns);

@@ -57,7 +57,7 @@ fn unmarked(alloc: Global, marks: &[bool]) -> Result<Vec<usize>, AllocError>
 
 /// Where an index is in a list that rises, if it is there.
 pub(crate) fn index_of(rising: &[usize], index: usize) -> Option<usize>
-    requires { IsStrictlyIncreasing rising.now }
+    requires rising { IsStrictlyIncreasing rising.now }
     ensures at { IfSome result (λ k. (k < length rising.now) × (slice_index rising.now k ≡ index)) }
     ensures finds { (k : ℕ) → k < length rising.now → slice_index rising.now k ≡ index → result ≡ Some k }
 {

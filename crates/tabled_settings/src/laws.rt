@@ -9,7 +9,7 @@ ghost use Rattle.tabled_settings.specs.declared.rotate.Rotate.TheVariants.{Botto
 ghost use Rattle.tabled_settings.specs.declared.split.Display.TheVariants.{Retain};
 ghost use Rattle.tabled_settings.specs.Charsets.{IsCleanByte, clean_text, with_tabs};
 ghost use Rattle.tabled_settings.specs.Orders.{charset_cmp, reverse_cmp};
-ghost use Rattle.tabled_settings.specs.PiecePlaces.{all_pieces, glued, split_places, texts_in};
+ghost use Rattle.tabled_settings.specs.PiecePlaces.{IsGluedBack, all_pieces, split_places, texts_in};
 ghost use Rattle.tabled_settings.specs.Pieces.{split};
 ghost use Rattle.tabled_grid.specs.Fitting.{Fits};
 ghost use Rattle.tabled_grid.specs.Spans.{SpanMap};
@@ -107,7 +107,7 @@ pub fn split_takes_each_cell_once(_split: Split)
 /// The pieces of a table with a row and a column, all kept, are the table again where they are glued
 /// together and cut at its old shape.
 pub fn split_is_undone_by_gluing(_split: Split)
-    ensures undone { (old : Grid (List ℕ)) → IsEven old → 0 < old.rows → 0 < old.columns → 0 < _split.index → _split.display ≡ Retain → glued _split old.rows old.columns (split _split old) ≡ old }
+    ensures undone { (old : Grid (List ℕ)) → IsEven old → IsGluedBack _split old (split _split old) }
 {}
 
 /// A split loses no text: those that aren't empty stand in the new rows, or columns, as often as in all

@@ -11,7 +11,8 @@ use std::ops::Range;
 use tabled_grid::config::Position;
 use tabled_grid::records::{Axis, Blank, ExactRecords, Records, Resizable};
 
-/// Puts the lines from `start` up to `end` into the opposite order, by swaps from both ends.
+/// Puts the lines from `start` up to `end` into the opposite order, by swaps from both ends: columns row by
+/// row, since a walk down a column leaves the caches.
 pub(crate) fn reverse<R>(axis: Axis, records: &mut R, start: usize, end: usize)
 where
     R: ExactRecords + Resizable,
@@ -22,41 +23,22 @@ where
     ensures well { R.is_well_formed records.new }
     ensures reversed { ReversesLines axis start end (R.grid records.old) (R.grid records.new) }
 {
+    let swaps = (end - start) / 2;
     match axis {
-        Axis::Rows => reverse_rows(records, start, end),
-        Axis::Columns => reverse_columns(records, start, end),
-    }
-}
-
-fn reverse_rows<R>(records: &mut R, start: usize, end: usize)
-where
-    R: Resizable,
-    R::Cell: Blank,
-    requires well { R.is_well_formed records.old }
-    requires order { start ≤ end }
-    requires within { end ≤ (R.grid records.old).rows }
-    ensures well { R.is_well_formed records.new }
-    ensures reversed { ReversesLines Rows start end (R.grid records.old) (R.grid records.new) }
-{
-    for k in 0..(end - start) / 2 {
-        records.swap_row(start + k, end - 1 - k);
-    }
-}
-
-/// Reverses row by row, since a walk down a column leaves the caches.
-fn reverse_columns<R>(records: &mut R, start: usize, end: usize)
-where
-    R: ExactRecords + Resizable,
-    R::Cell: Blank,
-    requires well { R.is_well_formed records.old }
-    requires order { start ≤ end }
-    requires within { end ≤ (R.grid records.old).columns }
-    ensures well { R.is_well_formed records.new }
-    ensures reversed { ReversesLines Columns start end (R.grid records.old) (R.grid records.new) }
-{
-    for i in 0..records.count_rows() {
-        for k in 0..(end - start) / 2 {
-            records.swap(Position::new(i, start + k), Position::new(i, end - 1 - k));
+        Axis::Rows => {
+            for k in 0..swaps {
+                records.swap_row(start + k, end - 1 - k);
+            }
+        }
+        Axis::Columns => {
+            for row in 0..records.count_rows() {
+                for j in 0..swaps {
+                    records.swap(
+                        Position::new(row, start + j),
+                        Position::new(row, end - 1 - j),
+                    );
+                }
+            }
         }
     }
 }

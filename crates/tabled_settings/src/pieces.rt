@@ -7,7 +7,7 @@ ghost use Rattle.tabled_grid.specs.Axis.{across};
 ghost use Rattle.tabled_grid.specs.Grid.{map_grid};
 ghost use Rattle.tabled_settings.specs.declared.split.Display.TheVariants.{Clean};
 ghost use Rattle.tabled_settings.specs.PiecePlaces.{kept_pieces};
-ghost use Rattle.tabled_settings.specs.Pieces.{oriented, stays_at};
+ghost use Rattle.tabled_settings.specs.Pieces.{oriented, stays_in};
 ghost use Rattle.tabled_settings.specs.PieceTexts.{NoText, SomeText};
 
 use crate::cuts::Cut;
@@ -50,7 +50,7 @@ where
     requires width { cut.now.width ≡ count_along (across cut.now.split.lines) (R.grid records.now) }
     requires clean { cut.now.split.display ≡ Clean }
     requires within { nth < cut.now.lines * cut.now.pieces }
-    ensures { result ≡ stays_at cut.now.split (div_ceil cut.now.width cut.now.split.index) (oriented cut.now.split.lines (map_grid R.Cell.text_of (R.grid records.now))).cells nth }
+    ensures { result ≡ stays_in cut.now.split (div_ceil cut.now.width cut.now.split.index) (map_grid R.Cell.text_of (R.grid records.now)) nth }
 {
     let index = cut.split.index;
     let (line, number) = cut.split.behavior.nth_piece(cut.lines, cut.pieces, nth);

@@ -126,7 +126,7 @@ fn rotate_cells<R>(alloc: Global, rotate: &Rotate, records: &mut R) -> Result<()
 where
     R: Records + ExactRecords + Resizable,
     R::Cell: Blank,
-    requires { R.is_well_formed records.old }
+    requires well { R.is_well_formed records.old }
     ensures well { R.is_well_formed records.new }
     ensures ok { OnOk result (IsRotated rotate.now (R.grid records.old) (R.grid records.new)) }
     ensures err { OnErr result (R.grid records.new ≡ R.grid records.old) }
@@ -148,7 +148,7 @@ fn quarter<R>(alloc: Global, records: &mut R, reversed: Axis) -> Result<(), Allo
 where
     R: Records + ExactRecords + Resizable,
     R::Cell: Blank,
-    requires { R.is_well_formed records.old }
+    requires well { R.is_well_formed records.old }
     ensures well { R.is_well_formed records.new }
     ensures ok { OnOk result (IsRotated (quarter_of reversed) (R.grid records.old) (R.grid records.new)) }
     ensures err { OnErr result (R.grid records.new ≡ R.grid records.old) }

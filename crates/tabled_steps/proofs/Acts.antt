@@ -1,5 +1,5 @@
 -- A step does and leaves what its option does and leaves.
-use Rattle.std.proofs.Common.{◌≡◌, ◌⊎◌, inl, inr, refl, List, ℕ}
+use Rattle.std.proofs.Common.{◌≡◌, inl, inr, refl, List, ℕ}
 use Rattle.std.specs.declared.ops.Bound.{Bound}
 use Rattle.tabled_grid.specs.Grid.{Grid}
 use Rattle.tabled_grid.specs.Spans.{SpanMap}
@@ -8,8 +8,9 @@ use Rattle.tabled_grid.specs.declared.records.axis.Axis.{Axis}
 use Rattle.tabled_options.specs.Does.{Change, Same, Then, ThenLeaves}
 use Rattle.tabled_settings.specs.Dups.{Duplicates, DuplicatesFirst}
 use Rattle.tabled_settings.specs.Rearranged.{Rearranges, Removes, extracted, removed}
+use Rattle.tabled_steps.specs.Acts.{ActsAs, ListAlike, Makes}
 use Rattle.tabled_steps.specs.Selected.{half_open}
-use Rattle.tabled_steps.specs.Steps.{ActsAs, Does, Leaves, ListAlike, Makes}
+use Rattle.tabled_steps.specs.Steps.{Does, Leaves}
 use Rattle.tabled_steps.specs.declared.step.Step.{Step}
 use Rattle.tabled_steps.specs.declared.step.Step.TheVariants as step
 

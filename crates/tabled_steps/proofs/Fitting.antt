@@ -1,7 +1,6 @@
 -- Steps that keep merged cells inside the table and apart.
-use Rattle.std.proofs.Common.{ℕ, List, [], ◌∷◌, Result, Ok, Err}
+use Rattle.std.proofs.Common.{ℕ, List, [], ◌∷◌}
 use Rattle.std.specs.List.{AllByRecursion}
-use Rattle.std.specs.Result.{IfErr, OnOk}
 use Rattle.std.specs.String.{string_bytes}
 use Rattle.tabled_grid.specs.Grid.{Grid, map_grid}
 use Rattle.tabled_grid.specs.Fitting.{Fits}
@@ -9,7 +8,7 @@ use Rattle.tabled_grid.specs.Spans.{SpanMap}
 use Rattle.tabled_grid.specs.declared.config.entity.Entity.{Entity}
 use Rattle.tabled_grid.specs.declared.records.axis.Axis.{Axis}
 use Rattle.tabled_grid.specs.declared.records.axis.Axis.TheVariants.{Rows, Columns}
-use Rattle.tabled_options.specs.Does.{Change, Each, EachListed, EachUntil, EachUntilAt, OptionKeeps, Same}
+use Rattle.tabled_options.specs.Does.{Change, Each, EachListed, EachUntil, OptionKeeps, Same}
 use Rattle.tabled_options.proofs.Keeps.{keeps_all, keeps_copied, keeps_in_order, keeps_listed}
 use Rattle.tabled_options.proofs.Shapes.{writes_keep}
 use Rattle.tabled_options.specs.Writes.{text_writes}
@@ -72,8 +71,3 @@ module _ {A : Type 0} (is_blank : A → Type 0) (text_of : A → List ℕ) where
 
   pub steps_keep : (steps : List Step) → AllByRecursion KeepsFitting steps → OptionKeeps fitting (Each (Does is_blank text_of) steps) (EachUntil (Does is_blank text_of) (Refused is_blank text_of) steps)
   steps_keep steps all = keeps_all fitting (Does is_blank text_of) (Refused is_blank text_of) steps (refused_keeps steps all)
-
-  -- whether all steps were done or one was refused
-  pub steps_kept : {T E : Type 0} (r : Result T (ℕ × E)) (steps : List Step) (g : Grid A) (c : SpanMap) (h : Grid A) (d : SpanMap) → OnOk r (Each (Does is_blank text_of) steps g c h d) → IfErr r (λ refused. EachUntilAt (Does is_blank text_of) (Refused is_blank text_of) steps refused.0 g c h d) → AllByRecursion KeepsFitting steps → fitting g c → fitting h d
-  steps_kept (Ok x) steps g c h d done left all fits = (steps_keep steps all).done g c h d fits done
-  steps_kept (Err e) steps g c h d done left all fits = (steps_keep steps all).refused g c h d fits (e.0, left)

@@ -1,3 +1,4 @@
+pub mod Acts
 pub mod Fitting
 pub mod MergedRuns
 pub mod Groups

@@ -8,7 +8,7 @@ use Rattle.tabled_grid.specs.Spans.{SpanMap, with_sizes}
 use Rattle.tabled_grid.specs.declared.config.entity.Entity.{Entity}
 use Rattle.tabled_grid.specs.declared.records.axis.Axis.{Axis}
 use Rattle.tabled_grid.specs.declared.records.axis.Axis.TheVariants.{Rows, Columns}
-use Rattle.tabled_options.specs.Does.{Change}
+use Rattle.tabled_options.specs.Does.{Change, Each}
 use Rattle.tabled_options.specs.Writes.{text_writes, with_writes}
 use Rattle.tabled_select.specs.Locators.{columns_with}
 use Rattle.tabled_settings.specs.Charsets.{charset_writes}
@@ -124,6 +124,10 @@ after_all (x ∷ xs) s = after_all xs (after x s)
 -- the texts and the merged cells become what a formula makes of them
 abbrev pub Becomes : {A : Type 0} → (A → List ℕ) → (State → State) → Change A SpanMap
 Becomes text_of formula g c h d = state_of text_of h d ≡ formula (state_of text_of g c)
+
+-- changes for each item, in stores of two kinds, make equal texts and merged cells of equal ones
+abbrev pub EndAlike : {A B X : Type 0} → (A → List ℕ) → (B → List ℕ) → (X → Change A SpanMap) → (X → Change B SpanMap) → List X → Type 0
+EndAlike {A} {B} text_of other_text_of does other_does items = (g : Grid A) (c : SpanMap) (h : Grid A) (d : SpanMap) (k : Grid B) (m : SpanMap) (l : Grid B) (n : SpanMap) → Each does items g c h d → Each other_does items k m l n → state_of text_of g c ≡ state_of other_text_of k m → state_of text_of h d ≡ state_of other_text_of l n
 
 -- a table with a row and a column is the pieces of its split glued together, where all were kept
 pub record IsUndone (how : Split) (old new : State) : Type 0 where

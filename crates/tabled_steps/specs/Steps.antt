@@ -1,7 +1,6 @@
 -- What steps do to the cells and the merged cells of a table, and what they leave where memory is refused.
 use Rattle.std.specs.Prelude.{◌≡◌, ◌⊎◌, ℕ, false, List}
 use Rattle.std.specs.String.{string_bytes}
-use Rattle.tabled_grid.specs.Along.{count_along}
 use Rattle.tabled_grid.specs.Grid.{Grid, map_grid}
 use Rattle.tabled_grid.specs.Spans.{SpanMap}
 use Rattle.tabled_grid.specs.declared.config.entity.Entity.{Entity}
@@ -108,32 +107,3 @@ Refused is_blank text_of step g c h d = Leaves is_blank text_of step g c h d × 
 -- the steps before step k are done, and that one is refused
 abbrev pub RefusedAt : {A : Type 0} → (A → Type 0) → (A → List ℕ) → List Step → ℕ → Change A SpanMap
 RefusedAt is_blank text_of = EachUntilAt (Does is_blank text_of) (Refused is_blank text_of)
-
--- whatever one change makes, another makes, too
-abbrev pub Makes : {A C : Type 0} → Change A C → Change A C → Type 0
-Makes {A} {C} change other = (g : Grid A) (c : C) (h : Grid A) (d : C) → change g c h d → other g c h d
-
--- a step does, and leaves where it is refused, just what an option does and leaves
-pub record ActsAs {A : Type 0} (is_blank : A → Type 0) (text_of : A → List ℕ) (step : Step) (does leaves : Change A SpanMap) : Type 0 where
-  pub done : (g : Grid A) (c : SpanMap) (h : Grid A) (d : SpanMap) → (Does is_blank text_of step g c h d → does g c h d) × (does g c h d → Does is_blank text_of step g c h d)
-  pub refused : (g : Grid A) (c : SpanMap) (h : Grid A) (d : SpanMap) → (Leaves is_blank text_of step g c h d → leaves g c h d) × (leaves g c h d → Leaves is_blank text_of step g c h d)
-
--- so does a kind of step for a kind of option, whatever the option is
-abbrev pub ActAs : {A X : Type 0} → (A → Type 0) → (A → List ℕ) → (X → Step) → (X → Change A SpanMap) → (X → Change A SpanMap) → Type 0
-ActAs {A} {X} is_blank text_of step does leaves = (x : X) → ActsAs is_blank text_of (step x) (does x) (leaves x)
-
--- the same of an option on each entity that is listed
-abbrev pub ActsOnEach : {A : Type 0} → (A → Type 0) → (A → List ℕ) → Step → (Grid A → List Entity → Type 0) → (Entity → Change A SpanMap) → (Entity → Change A SpanMap) → Type 0
-ActsOnEach is_blank text_of step lists does leaves = ActsAs is_blank text_of step (EachListed lists does) (SameOr (EachListedUntil lists does (λ e. SameOr (leaves e))))
-
--- two relations hold of the same grids and lists
-abbrev pub ListAlike : {A X : Type 0} → (Grid A → List X → Type 0) → (Grid A → List X → Type 0) → Type 0
-ListAlike {A} {X} lists others = (g : Grid A) (items : List X) → (lists g items → others g items) × (others g items → lists g items)
-
--- these are the indexes of a range of the rows, or of the columns, of a table
-abbrev pub IndexesAlong : {A : Type 0} → Axis → ℕ → ℕ → Grid A → List ℕ → Type 0
-IndexesAlong axis a b g found = found ≡ indexes (half_open a b) (count_along axis g)
-
--- these are the columns with a text in the first row
-abbrev pub ColumnsNamed : {A : Type 0} → (A → List ℕ) → List ℕ → Grid A → List ℕ → Type 0
-ColumnsNamed text_of name g found = found ≡ columns_with name (map_grid text_of g)

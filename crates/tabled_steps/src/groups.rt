@@ -43,7 +43,7 @@ impl Groups {
     pub(crate) fn skip<R>(self, alloc: Global, records: &R, n: usize) -> Result<Groups, AllocError>
     where
         R: Records + ExactRecords,
-        requires { R.is_well_formed records.now }
+        requires well { R.is_well_formed records.now }
         ensures { IfOk result (λ left. Skips n (groups_of self) (groups_of left)) }
     {
         match self {
@@ -65,7 +65,7 @@ impl Groups {
     ) -> Result<Groups, AllocError>
     where
         R: Records + ExactRecords,
-        requires { R.is_well_formed records.now }
+        requires well { R.is_well_formed records.now }
         ensures { IfOk result (λ left. StepsBy n (groups_of self) (groups_of left)) }
     {
         match self {
@@ -172,7 +172,7 @@ pub(crate) fn group_rows<R>(
 ) -> Result<Groups, AllocError>
 where
     R: Records + ExactRecords,
-    requires { R.is_well_formed records.now }
+    requires well { R.is_well_formed records.now }
     ensures { IfOk result (AreGroupedIn (R.grid records.now) (rows_of (indexes (half_open start end) (R.grid records.now).rows))) }
 {
     let count = records.count_rows();
@@ -189,7 +189,7 @@ pub(crate) fn group_columns<R>(
 ) -> Result<Groups, AllocError>
 where
     R: Records + ExactRecords,
-    requires { R.is_well_formed records.now }
+    requires well { R.is_well_formed records.now }
     ensures { IfOk result (AreGroupedIn (R.grid records.now) (columns_of (indexes (half_open start end) (R.grid records.now).columns))) }
 {
     let count = records.count_columns();
@@ -206,7 +206,7 @@ pub(crate) fn group_segment<R>(
 ) -> Result<Groups, AllocError>
 where
     R: Records + ExactRecords,
-    requires { R.is_well_formed records.now }
+    requires well { R.is_well_formed records.now }
     ensures { IfOk result (AreGroupedIn (R.grid records.now) (segment_cells rows columns)) }
 {
     let (all_rows, all_columns) = (records.count_rows(), records.count_columns());

@@ -1,7 +1,6 @@
 //! Laws of steps. Each is the contract of a function that does nothing.
 
-ghost use Rattle.std.specs.Prelude.{Bool, List, Option, ℕ, ℤ, ◌≡◌};
-ghost use Rattle.std.specs.String.{string_bytes};
+ghost use Rattle.std.specs.Prelude.{List, ℕ};
 ghost use Rattle.tabled_grid.specs.Grid.{Grid, IsEven};
 ghost use Rattle.tabled_grid.specs.Spans.{SpanMap, with_sizes};
 ghost use Rattle.tabled_grid.specs.declared.records.axis.Axis.{Axis};
@@ -9,12 +8,11 @@ ghost use Rattle.tabled_grid.specs.declared.records.axis.Axis.TheVariants.{Colum
 ghost use Rattle.tabled_options.specs.Does.{Each};
 ghost use Rattle.tabled_options.specs.Shapes.{FitsAfter};
 ghost use Rattle.tabled_spans.specs.Runs.{MergesRuns};
+ghost use Rattle.tabled_steps.specs.Acts.{ActAs, ActOnListed, ActOnObjects, ActWithin, InTurn, Makes, RemovesNamed, RemovesRange};
 ghost use Rattle.tabled_steps.specs.Fitting.{KeepsFitting};
 ghost use Rattle.tabled_steps.specs.MergedRuns.{runs};
-ghost use Rattle.tabled_steps.specs.States.{Becomes, State, after, after_all, state_of};
-ghost use Rattle.tabled_steps.specs.Selected.{half_open};
-ghost use Rattle.tabled_steps.specs.Steps.{ActAs, ActsAs, ActsOnEach, ColumnsNamed, Does, IndexesAlong, ListAlike, Makes, Names};
-ghost use Rattle.tabled_steps.specs.declared.select.Select.{Select};
+ghost use Rattle.tabled_steps.specs.States.{Becomes, EndAlike, State, after, after_all};
+ghost use Rattle.tabled_steps.specs.Steps.{Does};
 ghost use Rattle.tabled_steps.specs.declared.step.Step.{Step};
 ghost use Rattle.tabled_steps.specs.declared.step.Step.TheVariants as step;
 
@@ -65,7 +63,7 @@ pub fn stores_end_alike<A: GridStore, B: GridStore>()
 where
     A::Cell: CellText,
     B::Cell: CellText,
-    ensures alike { (steps : List Step) (g : Grid A.Cell) (c : SpanMap) (h : Grid A.Cell) (d : SpanMap) (k : Grid B.Cell) (m : SpanMap) (l : Grid B.Cell) (n : SpanMap) → Each (Does A.Cell.is_blank A.Cell.text_of) steps g c h d → Each (Does B.Cell.is_blank B.Cell.text_of) steps k m l n → state_of A.Cell.text_of g c ≡ state_of B.Cell.text_of k m → state_of A.Cell.text_of h d ≡ state_of B.Cell.text_of l n }
+    ensures alike { (steps : List Step) → EndAlike A.Cell.text_of B.Cell.text_of (Does A.Cell.is_blank A.Cell.text_of) (Does B.Cell.is_blank B.Cell.text_of) steps }
 {}
 
 /// Steps but spans of size 0 or below keep merged cells inside the table and apart, also where they are
@@ -83,10 +81,10 @@ pub fn steps_do_what_cell_options_do<R>()
 where
     R: Records + ExactRecords + PeekableRecords + RecordsMut<String> + Resizable,
     R::Cell: CellText,
-    ensures set { (text : _) (select : Select) → ActsOnEach R.Cell.is_blank R.Cell.text_of (step.Set select text) (⟦<Select as Object<R>>⟧.lists select) (⟦<String as CellOption<R, SpannedConfig>>⟧.does text) (⟦<String as CellOption<R, SpannedConfig>>⟧.leaves text) }
-    ensures charset { (charset : Bool × Option ℕ) (select : Select) → ActsOnEach R.Cell.is_blank R.Cell.text_of (step.Charset charset select) (⟦<Select as Object<R>>⟧.lists select) (⟦<Charset as CellOption<R, SpannedConfig>>⟧.does charset) (⟦<Charset as CellOption<R, SpannedConfig>>⟧.leaves charset) }
-    ensures column_span { (size : ℤ) (select : Select) → ActsOnEach R.Cell.is_blank R.Cell.text_of (step.ColumnSpan size select) (⟦<Select as Object<R>>⟧.lists select) (⟦<ColumnSpan as CellOption<R, SpannedConfig>>⟧.does size) (⟦<ColumnSpan as CellOption<R, SpannedConfig>>⟧.leaves size) }
-    ensures row_span { (size : ℤ) (select : Select) → ActsOnEach R.Cell.is_blank R.Cell.text_of (step.RowSpan size select) (⟦<Select as Object<R>>⟧.lists select) (⟦<RowSpan as CellOption<R, SpannedConfig>>⟧.does size) (⟦<RowSpan as CellOption<R, SpannedConfig>>⟧.leaves size) }
+    ensures set { ActOnListed R.Cell.is_blank R.Cell.text_of ⟦<Select as Object<R>>⟧ (λ text to. step.Set to text) ⟦<String as CellOption<R, SpannedConfig>>⟧ }
+    ensures charset { ActOnListed R.Cell.is_blank R.Cell.text_of ⟦<Select as Object<R>>⟧ step.Charset ⟦<Charset as CellOption<R, SpannedConfig>>⟧ }
+    ensures column_span { ActOnListed R.Cell.is_blank R.Cell.text_of ⟦<Select as Object<R>>⟧ step.ColumnSpan ⟦<ColumnSpan as CellOption<R, SpannedConfig>>⟧ }
+    ensures row_span { ActOnListed R.Cell.is_blank R.Cell.text_of ⟦<Select as Object<R>>⟧ step.RowSpan ⟦<RowSpan as CellOption<R, SpannedConfig>>⟧ }
 {}
 
 /// A step around an option on tables does, and refused leaves, what the option does and leaves.
@@ -94,16 +92,16 @@ pub fn steps_do_what_options_do<R, D>()
 where
     R: Records + ExactRecords + PeekableRecords + RecordsMut<String> + Resizable,
     R::Cell: CellText,
-    ensures horizontal_panel { let how = ⟦<HorizontalPanel as TableOption<R, SpannedConfig, D>>⟧ in ActAs R.Cell.is_blank R.Cell.text_of step.HorizontalPanel how.does how.leaves }
-    ensures vertical_panel { let how = ⟦<VerticalPanel as TableOption<R, SpannedConfig, D>>⟧ in ActAs R.Cell.is_blank R.Cell.text_of step.VerticalPanel how.does how.leaves }
-    ensures header { let how = ⟦<Header as TableOption<R, SpannedConfig, D>>⟧ in ActAs R.Cell.is_blank R.Cell.text_of step.Header how.does how.leaves }
-    ensures footer { let how = ⟦<Footer as TableOption<R, SpannedConfig, D>>⟧ in ActAs R.Cell.is_blank R.Cell.text_of step.Footer how.does how.leaves }
-    ensures merge_vertical { let how = ⟦<MergeDuplicatesVertical as TableOption<R, SpannedConfig, D>>⟧ in ActAs R.Cell.is_blank R.Cell.text_of step.MergeVertical how.does how.leaves }
-    ensures merge_horizontal { let how = ⟦<MergeDuplicatesHorizontal as TableOption<R, SpannedConfig, D>>⟧ in ActAs R.Cell.is_blank R.Cell.text_of step.MergeHorizontal how.does how.leaves }
-    ensures rotate { let how = ⟦<Rotate as TableOption<R, SpannedConfig, D>>⟧ in ActAs R.Cell.is_blank R.Cell.text_of step.Rotate how.does how.leaves }
-    ensures reverse { let how = ⟦<Reverse as TableOption<R, SpannedConfig, D>>⟧ in ActAs R.Cell.is_blank R.Cell.text_of step.Reverse how.does how.leaves }
-    ensures split { let how = ⟦<Split as TableOption<R, SpannedConfig, D>>⟧ in ActAs R.Cell.is_blank R.Cell.text_of step.Split how.does how.leaves }
-    ensures concat { let how = ⟦<Concat as TableOption<R, SpannedConfig, D>>⟧ in ActAs R.Cell.is_blank R.Cell.text_of step.Concat how.does how.leaves }
+    ensures horizontal_panel { ActAs R.Cell.is_blank R.Cell.text_of step.HorizontalPanel ⟦<HorizontalPanel as TableOption<R, SpannedConfig, D>>⟧ }
+    ensures vertical_panel { ActAs R.Cell.is_blank R.Cell.text_of step.VerticalPanel ⟦<VerticalPanel as TableOption<R, SpannedConfig, D>>⟧ }
+    ensures header { ActAs R.Cell.is_blank R.Cell.text_of step.Header ⟦<Header as TableOption<R, SpannedConfig, D>>⟧ }
+    ensures footer { ActAs R.Cell.is_blank R.Cell.text_of step.Footer ⟦<Footer as TableOption<R, SpannedConfig, D>>⟧ }
+    ensures merge_vertical { ActAs R.Cell.is_blank R.Cell.text_of step.MergeVertical ⟦<MergeDuplicatesVertical as TableOption<R, SpannedConfig, D>>⟧ }
+    ensures merge_horizontal { ActAs R.Cell.is_blank R.Cell.text_of step.MergeHorizontal ⟦<MergeDuplicatesHorizontal as TableOption<R, SpannedConfig, D>>⟧ }
+    ensures rotate { ActAs R.Cell.is_blank R.Cell.text_of step.Rotate ⟦<Rotate as TableOption<R, SpannedConfig, D>>⟧ }
+    ensures reverse { ActAs R.Cell.is_blank R.Cell.text_of step.Reverse ⟦<Reverse as TableOption<R, SpannedConfig, D>>⟧ }
+    ensures split { ActAs R.Cell.is_blank R.Cell.text_of step.Split ⟦<Split as TableOption<R, SpannedConfig, D>>⟧ }
+    ensures concat { ActAs R.Cell.is_blank R.Cell.text_of step.Concat ⟦<Concat as TableOption<R, SpannedConfig, D>>⟧ }
 {}
 
 /// Two steps in one do, and refused leave, what two options do and leave one after the other, where each of
@@ -114,7 +112,7 @@ where
     R::Cell: CellText,
     A: TableOption<R, SpannedConfig, D>,
     B: TableOption<R, SpannedConfig, D> + Drop,
-    ensures acts { (p : _) (first : Step) (q : _) (second : Step) → ActsAs R.Cell.is_blank R.Cell.text_of first (A.does _first.now) (A.leaves _first.now) → ActsAs R.Cell.is_blank R.Cell.text_of second (B.does _second.now) (B.leaves _second.now) → ActsAs R.Cell.is_blank R.Cell.text_of (step.Both' p first q second) (⟦<Settings<A, B> as TableOption<R, SpannedConfig, D>>⟧.does (_first.now, _second.now)) (⟦<Settings<A, B> as TableOption<R, SpannedConfig, D>>⟧.leaves (_first.now, _second.now)) }
+    ensures acts { InTurn R.Cell.is_blank R.Cell.text_of A.TableOption B.TableOption ⟦<Settings<A, B> as TableOption<R, SpannedConfig, D>>⟧ _first.now _second.now }
 {}
 
 /// A step that writes texts of cells to others does, and refused leaves, what `Dup` does and leaves with any
@@ -125,7 +123,7 @@ where
     R::Cell: CellText,
     Dst: Object<R> + Drop,
     Src: Object<R> + Drop,
-    ensures acts { (destination source : Select) → ListAlike (Dst.lists _dup.now.0) (Names R.Cell.text_of destination) → ListAlike (Src.lists _dup.now.1) (Names R.Cell.text_of source) → ActsAs R.Cell.is_blank R.Cell.text_of (step.Dup destination source) (⟦<Dup<Dst, Src> as TableOption<R, SpannedConfig, D>>⟧.does _dup.now) (⟦<Dup<Dst, Src> as TableOption<R, SpannedConfig, D>>⟧.leaves _dup.now) }
+    ensures acts { ActOnObjects R.Cell.is_blank R.Cell.text_of step.Dup Dst.Object Src.Object ⟦<Dup<Dst, Src> as TableOption<R, SpannedConfig, D>>⟧ _dup.now }
 {}
 
 /// A step that keeps a range of rows and one of columns does, and refused leaves, what `Extract` does and
@@ -136,7 +134,7 @@ where
     B: ToBounds + Drop,
     R: Records + ExactRecords + Resizable,
     R::Cell: CellText,
-    ensures acts { (a b m n : ℕ) → A.bounds_of _extract.now.0 ≡ half_open a b → B.bounds_of _extract.now.1 ≡ half_open m n → ActsAs R.Cell.is_blank R.Cell.text_of (step.Extract a b m n) (⟦<Extract<A, B> as TableOption<R, SpannedConfig, D>>⟧.does _extract.now) (⟦<Extract<A, B> as TableOption<R, SpannedConfig, D>>⟧.leaves _extract.now) }
+    ensures acts { ActWithin R.Cell.is_blank R.Cell.text_of step.Extract A.ToBounds B.ToBounds ⟦<Extract<A, B> as TableOption<R, SpannedConfig, D>>⟧ _extract.now }
 {}
 
 /// A step that takes away a range of rows or of columns, or the columns of a name, does, and refused leaves,
@@ -148,7 +146,7 @@ where
     <L::IntoIter as IntoIterator>::IntoIter: Drop,
     R: Records + ExactRecords + Resizable,
     R::Cell: CellText,
-    ensures rows { (a b : ℕ) → T.lines ≡ Rows → ListAlike (L.locates _remove.now) (IndexesAlong Rows a b) → ActsAs R.Cell.is_blank R.Cell.text_of (step.RemoveRows a b) (⟦<Remove<L, T> as TableOption<R, SpannedConfig, D>>⟧.does _remove.now) (⟦<Remove<L, T> as TableOption<R, SpannedConfig, D>>⟧.leaves _remove.now) }
-    ensures columns { (a b : ℕ) → T.lines ≡ Columns → ListAlike (L.locates _remove.now) (IndexesAlong Columns a b) → ActsAs R.Cell.is_blank R.Cell.text_of (step.RemoveColumns a b) (⟦<Remove<L, T> as TableOption<R, SpannedConfig, D>>⟧.does _remove.now) (⟦<Remove<L, T> as TableOption<R, SpannedConfig, D>>⟧.leaves _remove.now) }
-    ensures named { (name : _) → T.lines ≡ Columns → ListAlike (L.locates _remove.now) (ColumnsNamed R.Cell.text_of (string_bytes name)) → ActsAs R.Cell.is_blank R.Cell.text_of (step.RemoveNamed name) (⟦<Remove<L, T> as TableOption<R, SpannedConfig, D>>⟧.does _remove.now) (⟦<Remove<L, T> as TableOption<R, SpannedConfig, D>>⟧.leaves _remove.now) }
+    ensures rows { RemovesRange R.Cell.is_blank R.Cell.text_of Rows T.lines L.Location ⟦<Remove<L, T> as TableOption<R, SpannedConfig, D>>⟧ _remove.now }
+    ensures columns { RemovesRange R.Cell.is_blank R.Cell.text_of Columns T.lines L.Location ⟦<Remove<L, T> as TableOption<R, SpannedConfig, D>>⟧ _remove.now }
+    ensures named { RemovesNamed R.Cell.is_blank R.Cell.text_of T.lines L.Location ⟦<Remove<L, T> as TableOption<R, SpannedConfig, D>>⟧ _remove.now }
 {}

@@ -87,7 +87,7 @@ impl Select {
     where
         R: Records + ExactRecords + PeekableRecords,
         R::Cell: CellText,
-        requires { R.is_well_formed records.now }
+        requires well { R.is_well_formed records.now }
         ensures { IfOk result (λ all. AreRepresentatives R.Cell.text_of self.now (R.grid records.now) all.items) }
     {
         self.groups(alloc, records)?.into_representatives(alloc)
@@ -101,7 +101,7 @@ impl Select {
     where
         R: Records + ExactRecords + PeekableRecords,
         R::Cell: CellText,
-        requires { R.is_well_formed records.now }
+        requires well { R.is_well_formed records.now }
         ensures { IfOk result (AreGroupedIn (R.grid records.now) (selected (map_grid R.Cell.text_of (R.grid records.now)) self.now)) }
     {
         match self {
@@ -122,7 +122,7 @@ impl Select {
     where
         R: Records + ExactRecords + PeekableRecords,
         R::Cell: CellText,
-        requires { R.is_well_formed records.now }
+        requires well { R.is_well_formed records.now }
         ensures { IfOk result (λ all. all.items ≡ selected (map_grid R.Cell.text_of (R.grid records.now)) self.now) }
     {
         match self {

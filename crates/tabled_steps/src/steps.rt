@@ -48,25 +48,6 @@ where
     ensures glued { OnOk result (SplitsAreUndone R.Cell.text_of steps.items (R.grid records.old) cfg.old (R.grid records.new) cfg.new) }
     ensures glued_before { IfErr result (λ e. SplitsAreUndoneBefore e.0 steps.items (state_of R.Cell.text_of (R.grid records.old) cfg.old)) }
 {
-    run_each(alloc, records, cfg, steps)
-}
-
-/// Does steps, one after another.
-fn run_each<R>(
-    alloc: Global,
-    records: &mut R,
-    cfg: &mut SpannedConfig,
-    steps: Vec<Step>,
-) -> Result<(), (usize, AllocError)>
-where
-    R: Records + ExactRecords + PeekableRecords + RecordsMut<String> + Resizable,
-    R::Cell: CellText,
-    requires well { R.is_well_formed records.old }
-    ensures well { R.is_well_formed records.new }
-    ensures ok { OnOk result (Each (Does R.Cell.is_blank R.Cell.text_of) steps.items (R.grid records.old) cfg.old (R.grid records.new) cfg.new) }
-    ensures index { IfErr result (λ e. e.0 < length steps.items) }
-    ensures err { IfErr result (λ e. RefusedAt R.Cell.is_blank R.Cell.text_of steps.items e.0 (R.grid records.old) cfg.old (R.grid records.new) cfg.new) }
-{
     let mut index = 0;
     for step in steps {
         if let Err(error) = step.change(alloc, records, cfg, &mut ()) {

@@ -1,11 +1,11 @@
 //! Texts of some cells written to others.
 
-ghost use Rattle.std.specs.Prelude.{◌≡◌, ◌<◌, ◌≤◌, ◌++◌, length, map, take, OnErr, OnOk, IfOk};
+ghost use Rattle.std.specs.Prelude.{◌≡◌, ◌<◌, ◌≤◌, length, map, take, OnErr, OnOk, IfOk};
 ghost use Rattle.std.specs.List.{AllByRecursion};
 ghost use Rattle.std.specs.String.{string_bytes};
 ghost use Rattle.tabled_grid.specs.Entity.{inside};
 ghost use Rattle.tabled_grid.specs.Grid.{map_grid};
-ghost use Rattle.tabled_settings.specs.Dups.{Duplicates, DuplicatesFirst, source_texts, texts_at, texts_to, texts_to_each};
+ghost use Rattle.tabled_settings.specs.Dups.{AppendsUpTo, Duplicates, DuplicatesFirst, source_texts, texts_at, texts_to, texts_to_each};
 ghost use Rattle.tabled_options.specs.Writes.{FirstWritten, Written};
 ghost use Rattle.std.proofs.Common.{rules};
 
@@ -129,7 +129,7 @@ where
     R::Cell: CellText,
     requires well { R.is_well_formed records.now }
     requires few { length texts.old.items ≤ many }
-    ensures texts { OnOk result (map string_bytes texts.new.items ≡ take many (map string_bytes texts.old.items ++ texts_at entity (map_grid R.Cell.text_of (R.grid records.now)))) }
+    ensures texts { OnOk result (AppendsUpTo many texts.old.items (texts_at entity (map_grid R.Cell.text_of (R.grid records.now))) texts.new.items) }
     ensures few { OnOk result (length texts.new.items ≤ many) }
 {
     for pos in entity.iter(records.count_rows(), records.count_columns()) {

@@ -18,7 +18,7 @@ returns-then-past-self-clause-carries c =
       | then-past-self-via-then-past-self w ↦ inl (omega (arith, w.if-past-self.true, c.line_of-line.ensures, c.count_of.ensures))
       | then-past-self-via-else-past-self+then-self-line w ↦ inr (omega (arith, w.if-self-line.true, c.line_of-line.ensures))
     ] in
-    part_stays (reversed_index t.start t.end n) t.rows t.columns t.start t.end (λ i low below. index_inside t.start t.end n i (omega (arith, c.if-self-count.false, c.count_of-count.ensures)) low below) (index_outside t.start t.end n) c.args.of.0 c.args.of.1 (omega (arith, c.if-first-height.false)) (omega (arith, c.if-first-width.false)) t.axis beside
+    part_stays t.axis (reversed_index t.start t.end n) t.rows t.columns t.start t.end (λ i low below. index_inside t.start t.end n i (omega (arith, c.if-self-count.false, c.count_of-count.ensures)) low below) (λ i within. index_outside t.start t.end n i) c.args.of.0 c.args.of.1 (omega (arith, c.if-first-height.false)) (omega (arith, c.if-first-width.false)) beside
 
 pub returns-then-past-self-clause-finds : goal.returns-then-past-self-clause-finds
 returns-then-past-self-clause-finds c = λ f carries whole. ap Some (carries_one _ c.args.of c.args.of f c.requires.full whole (returns-then-past-self-clause-carries c) carries)
@@ -32,7 +32,7 @@ returns-then-past-self-2-clause-carries c =
     let past = ap₂ (λ (i m : ℕ). i + m) c.line_of-line.ensures c.count_of.ensures in
     let is : c.in_line-place.result ≡ in_line t.axis e.0 (t.start + (t.end - (line_of t.axis e.0 + count_of t.axis e.1.height e.1.width))) = c.in_line-place.ensures ∙ ap (λ (m : ℕ). in_line t.axis e.0 (t.start + (t.end - m))) past in
     subst (λ (p : Position). Carries (lines_from t.axis (reversed_index t.start t.end n) t.rows t.columns) e (p, e.1)) (sym is)
-    (part_mirrored (reversed_index t.start t.end n) t.rows t.columns t.start t.end (λ i low below. index_inside t.start t.end n i fits low below) (index_outside t.start t.end n) e.0 e.1 (omega (arith, c.if-first-height.false)) (omega (arith, c.if-first-width.false)) t.axis fits (omega (arith, c.if-self-line-2.true, c.line_of-line.ensures)) (omega (arith, c.if-past-self-2.true, past)))
+    (part_mirrored t.axis (reversed_index t.start t.end n) t.rows t.columns t.start t.end (λ i low below. index_inside t.start t.end n i fits low below) (λ i within. index_outside t.start t.end n i) e.0 e.1 (omega (arith, c.if-first-height.false)) (omega (arith, c.if-first-width.false)) fits (omega (arith, c.if-self-line-2.true, c.line_of-line.ensures)) (omega (arith, c.if-past-self-2.true, past)))
 
 pub returns-then-past-self-2-clause-finds : goal.returns-then-past-self-2-clause-finds
 returns-then-past-self-2-clause-finds c = λ f carries whole. ap Some (carries_one _ c.args.of (c.in_line-place.result, c.args.of.1) f (record { height = c.requires.full.height; width = c.requires.full.width }) whole (returns-then-past-self-2-clause-carries c) carries)

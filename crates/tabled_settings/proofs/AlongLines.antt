@@ -1,0 +1,64 @@
+-- Places and rectangles by their lines, and by where they are in them.
+use Rattle.std.proofs.Common.{◌≡◌, ℕ, ◌+◌, ◌<◌, ◌≤◌, Some, refl, ap, ap₂}
+use Rattle.std.proofs.lemmas.Option.{same_Some}
+use Rattle.tabled_grid.specs.Axis.{across, count_of, in_line, line_of}
+use Rattle.tabled_grid.specs.Entity.{place}
+use Rattle.tabled_grid.specs.Midway.{In}
+use Rattle.tabled_grid.specs.Spans.{Rectangle}
+use Rattle.tabled_grid.specs.declared.config.position.Position.{Position}
+use Rattle.tabled_grid.specs.declared.records.axis.Axis.{Axis}
+use Rattle.tabled_grid.specs.declared.records.axis.Axis.TheVariants.{Rows, Columns}
+use Rattle.tabled_carry.specs.Images.{Takes}
+use Rattle.tabled_settings.specs.Places.{lines_from}
+
+pub line_is : (axis : Axis) (p : Position) (i : ℕ) → line_of axis (in_line axis p i) ≡ i
+line_is Rows p i = refl
+line_is Columns p i = refl
+
+pub across_is : (axis : Axis) (p : Position) (i : ℕ) → line_of (across axis) (in_line axis p i) ≡ line_of (across axis) p
+across_is Rows p i = refl
+across_is Columns p i = refl
+
+-- a place is in a rectangle
+pub record IsAlong (axis : Axis) (e : Rectangle) (p : Position) : Type 0 where
+  pub first : line_of axis e.0 ≤ line_of axis p
+  pub last : line_of axis p < line_of axis e.0 + count_of axis e.1.height e.1.width
+  pub from : line_of (across axis) e.0 ≤ line_of (across axis) p
+  pub to : line_of (across axis) p < line_of (across axis) e.0 + count_of (across axis) e.1.height e.1.width
+
+pub is_along : (axis : Axis) (e : Rectangle) (p : Position) → In e p → IsAlong axis e p
+is_along Rows e p h = record { first = h.top; last = h.bottom; from = h.left; to = h.right }
+is_along Columns e p h = record { first = h.left; last = h.right; from = h.top; to = h.bottom }
+
+pub is_in : (axis : Axis) (e : Rectangle) (p : Position) → IsAlong axis e p → In e p
+is_in Rows e p h = record { top = h.first; bottom = h.last; left = h.from; right = h.to }
+is_in Columns e p h = record { top = h.from; bottom = h.to; left = h.first; right = h.last }
+
+-- a rectangle lies inside a table
+pub record LiesAlong (axis : Axis) (rows columns : ℕ) (e : Rectangle) : Type 0 where
+  pub lines : line_of axis e.0 + count_of axis e.1.height e.1.width ≤ count_of axis rows columns
+  pub across : line_of (across axis) e.0 + count_of (across axis) e.1.height e.1.width ≤ count_of (across axis) rows columns
+
+pub lies_along : (axis : Axis) (rows columns : ℕ) (e : Rectangle) → e.0.row + e.1.height ≤ rows → e.0.col + e.1.width ≤ columns → LiesAlong axis rows columns e
+lies_along Rows rows columns e high far = record { lines = high; across = far }
+lies_along Columns rows columns e high far = record { lines = far; across = high }
+
+-- a new place takes the cell of an old one, where lines come from old ones
+pub record TakesAlong (axis : Axis) (old : ℕ → ℕ) (rows columns : ℕ) (p q : Position) : Type 0 where
+  pub within : line_of axis p < count_of axis rows columns
+  pub across_within : line_of (across axis) p < count_of (across axis) rows columns
+  pub line : old (line_of axis p) ≡ line_of axis q
+  pub same : line_of (across axis) p ≡ line_of (across axis) q
+
+module _ (old : ℕ → ℕ) (rows columns : ℕ) (p q : Position) where
+  pub takes : (axis : Axis) → TakesAlong axis old rows columns p q → Takes (lines_from axis old rows columns) p q
+  takes Rows t = record { row = t.within; col = t.across_within; from = ap₂ (λ (i j : ℕ). Some (place i j)) t.line t.same }
+  takes Columns t = record { row = t.across_within; col = t.within; from = ap₂ (λ (i j : ℕ). Some (place i j)) t.same t.line }
+
+  pub taken : (axis : Axis) → Takes (lines_from axis old rows columns) p q → TakesAlong axis old rows columns p q
+  taken Rows t =
+      let is : place (old p.row) p.col ≡ q = same_Some _ _ t.from in
+      record { within = t.row; across_within = t.col; line = ap (λ (x : Position). x.row) is; same = ap (λ (x : Position). x.col) is }
+  taken Columns t =
+      let is : place p.row (old p.col) ≡ q = same_Some _ _ t.from in
+      record { within = t.col; across_within = t.row; line = ap (λ (x : Position). x.col) is; same = ap (λ (x : Position). x.row) is }

@@ -1,0 +1,79 @@
+-- Steps that do what options do, and leave where they are refused what these leave.
+use Rattle.std.specs.Prelude.{◌≡◌, ℕ, List}
+use Rattle.std.specs.String.{string_bytes}
+use Rattle.tabled_grid.specs.Along.{count_along}
+use Rattle.tabled_grid.specs.Bounds.{indexes}
+use Rattle.tabled_grid.specs.Grid.{Grid, map_grid}
+use Rattle.tabled_grid.specs.Spans.{SpanMap}
+use Rattle.tabled_grid.specs.declared.config.bounds.ToBounds.{Ghosts as BoundsOf}
+use Rattle.tabled_grid.specs.declared.records.axis.Axis.{Axis}
+use Rattle.tabled_grid.specs.declared.records.axis.Axis.TheVariants.{Rows, Columns}
+use Rattle.tabled_options.specs.Does.{Change, EachListed, EachListedUntil, SameOr}
+use Rattle.tabled_options.specs.declared.cell_option.CellOption.{Ghosts as CellOptionOf}
+use Rattle.tabled_options.specs.declared.table_option.TableOption.{Ghosts as TableOptionOf}
+use Rattle.tabled_select.specs.Locators.{columns_with}
+use Rattle.tabled_select.specs.declared.location.Location.{Ghosts as LocationOf}
+use Rattle.tabled_select.specs.declared.object.Object.{Ghosts as ObjectOf}
+use Rattle.tabled_steps.specs.Selected.{half_open}
+use Rattle.tabled_steps.specs.Steps.{Does, Leaves, Names}
+use Rattle.tabled_steps.specs.declared.select.Select.{Select}
+use Rattle.tabled_steps.specs.declared.step.Step.{Step}
+use Rattle.tabled_steps.specs.declared.step.Step.TheVariants as step
+
+-- whatever one change makes, another makes, too
+abbrev pub Makes : {A C : Type 0} → Change A C → Change A C → Type 0
+Makes {A} {C} change other = (g : Grid A) (c : C) (h : Grid A) (d : C) → change g c h d → other g c h d
+
+-- a step does, and leaves where it is refused, just what an option does and leaves
+pub record ActsAs {A : Type 0} (is_blank : A → Type 0) (text_of : A → List ℕ) (step : Step) (does leaves : Change A SpanMap) : Type 0 where
+  pub done : (g : Grid A) (c : SpanMap) (h : Grid A) (d : SpanMap) → (Does is_blank text_of step g c h d → does g c h d) × (does g c h d → Does is_blank text_of step g c h d)
+  pub refused : (g : Grid A) (c : SpanMap) (h : Grid A) (d : SpanMap) → (Leaves is_blank text_of step g c h d → leaves g c h d) × (leaves g c h d → Leaves is_blank text_of step g c h d)
+
+-- the same of an option of some type
+abbrev pub ActsAsOption : {A X R D : Type 0} → (A → Type 0) → (A → List ℕ) → Step → TableOptionOf X R SpanMap D A → X → Type 0
+ActsAsOption is_blank text_of step how x = ActsAs is_blank text_of step (how.does x) (how.leaves x)
+
+-- so does a kind of step for a kind of option, whatever the option is
+abbrev pub ActAs : {A X R D : Type 0} → (A → Type 0) → (A → List ℕ) → (X → Step) → TableOptionOf X R SpanMap D A → Type 0
+ActAs {A} {X} is_blank text_of step how = (x : X) → ActsAsOption is_blank text_of (step x) how x
+
+-- the same of a kind of option on each entity that a selector lists
+abbrev pub ActOnListed : {A X R I : Type 0} → (A → Type 0) → (A → List ℕ) → ObjectOf Select R I A → (X → Select → Step) → CellOptionOf X R SpanMap A → Type 0
+ActOnListed {A} {X} is_blank text_of object step how = (x : X) (select : Select) → ActsAs is_blank text_of (step x select) (EachListed (object.lists select) (how.does x)) (SameOr (EachListedUntil (object.lists select) (how.does x) (λ e. SameOr (how.leaves x e))))
+
+-- two steps in one act as two options one after the other, where each of the steps acts as its option
+abbrev pub InTurn : {A X Y R D : Type 0} → (A → Type 0) → (A → List ℕ) → TableOptionOf X R SpanMap D A → TableOptionOf Y R SpanMap D A → TableOptionOf (X × Y) R SpanMap D A → X → Y → Type 0
+InTurn is_blank text_of how next both x y = (p : _) (first : Step) (q : _) (second : Step) → ActsAsOption is_blank text_of first how x → ActsAsOption is_blank text_of second next y → ActsAsOption is_blank text_of (step.Both' p first q second) both (x, y)
+
+-- two relations hold of the same grids and lists
+abbrev pub ListAlike : {A X : Type 0} → (Grid A → List X → Type 0) → (Grid A → List X → Type 0) → Type 0
+ListAlike {A} {X} lists others = (g : Grid A) (items : List X) → (lists g items → others g items) × (others g items → lists g items)
+
+-- a kind of step on what two selectors name acts as an option on two objects, where these list that
+abbrev pub ActOnObjects : {A X Y R I J D : Type 0} → (A → Type 0) → (A → List ℕ) → (Select → Select → Step) → ObjectOf X R I A → ObjectOf Y R J A → TableOptionOf (X × Y) R SpanMap D A → X × Y → Type 0
+ActOnObjects is_blank text_of step to from how x = (destination source : Select) → ListAlike (to.lists x.0) (Names text_of destination) → ListAlike (from.lists x.1) (Names text_of source) → ActsAsOption is_blank text_of (step destination source) how x
+
+-- a kind of step on a range of rows and one of columns acts as an option on two ranges, where these have the same bounds
+abbrev pub ActWithin : {A X Y R D : Type 0} → (A → Type 0) → (A → List ℕ) → (ℕ → ℕ → ℕ → ℕ → Step) → BoundsOf X → BoundsOf Y → TableOptionOf (X × Y) R SpanMap D A → X × Y → Type 0
+ActWithin is_blank text_of step rows columns how x = (a b m n : ℕ) → rows.bounds_of x.0 ≡ half_open a b → columns.bounds_of x.1 ≡ half_open m n → ActsAsOption is_blank text_of (step a b m n) how x
+
+-- the step that takes away the rows, or the columns, of a range
+abbrev pub range_removed : Axis → ℕ → ℕ → Step
+range_removed Rows = step.RemoveRows
+range_removed Columns = step.RemoveColumns
+
+-- these are the indexes of a range of the rows, or of the columns, of a table
+abbrev pub IndexesAlong : {A : Type 0} → Axis → ℕ → ℕ → Grid A → List ℕ → Type 0
+IndexesAlong axis a b g found = found ≡ indexes (half_open a b) (count_along axis g)
+
+-- that step acts as an option that takes away lines, where it takes rows, or columns, and its location finds those of the range
+abbrev pub RemovesRange : {A X R I J N : Type 0} → (A → Type 0) → (A → List ℕ) → Axis → Axis → LocationOf X R ℕ I J A → TableOptionOf X R SpanMap N A → X → Type 0
+RemovesRange is_blank text_of axis lines location how x = (a b : ℕ) → lines ≡ axis → ListAlike (location.locates x) (IndexesAlong axis a b) → ActsAsOption is_blank text_of (range_removed axis a b) how x
+
+-- these are the columns with a text in the first row
+abbrev pub ColumnsNamed : {A : Type 0} → (A → List ℕ) → List ℕ → Grid A → List ℕ → Type 0
+ColumnsNamed text_of name g found = found ≡ columns_with name (map_grid text_of g)
+
+-- the same of the step that takes away the columns of a name
+abbrev pub RemovesNamed : {A X R I J N : Type 0} → (A → Type 0) → (A → List ℕ) → Axis → LocationOf X R ℕ I J A → TableOptionOf X R SpanMap N A → X → Type 0
+RemovesNamed is_blank text_of lines location how x = (name : _) → lines ≡ Columns → ListAlike (location.locates x) (ColumnsNamed text_of (string_bytes name)) → ActsAsOption is_blank text_of (step.RemoveNamed name) how x
