@@ -24,7 +24,7 @@ use Rattle.tabled_grid.specs.Places.{Places}
 use Rattle.tabled_settings.specs.Rearranged.{Rearranges, extracted, removed, reversed, rotated}
 use Rattle.tabled_settings.specs.declared.rotate.Rotate.{Rotate}
 use Rattle.tabled_settings.specs.declared.rotate.Rotate.TheVariants.{Left, Right, Top, Bottom}
-use Rattle.tabled_spans.specs.Panels.{Panels, cells_along, has_room, with_line}
+use Rattle.tabled_spans.specs.Panels.{Panels, cells_along, has_room, with_line_at}
 use Rattle.tabled_steps.specs.Reads.{joined_tables}
 use Rattle.tabled_steps.specs.Selected.{half_open, named_by, selected}
 use Rattle.tabled_steps.specs.States.{State, after, after_all, duplicate, merge, on_each, put_panel, rearrange, recode, set, span, state_of}
@@ -80,7 +80,7 @@ module _ {A : Type 0} (text_of : A → List ℕ) where
     along Rows = refl
     along Columns = refl
 
-    put_in : (axis : Axis) (line : ℕ) (cells : List A) → map_grid text_of (with_line axis line cells g) ≡ with_line axis line (map text_of cells) (map_grid text_of g)
+    put_in : (axis : Axis) (line : ℕ) (cells : List A) → map_grid text_of (with_line_at axis line cells g) ≡ with_line_at axis line (map text_of cells) (map_grid text_of g)
     put_in Rows line cells = map_grid-with_row text_of g line cells
     put_in Columns line cells = map_grid-with_column text_of g line cells
 
@@ -92,7 +92,7 @@ module _ {A : Type 0} (text_of : A → List ℕ) where
             let puts = panel.puts fits in
             let spans = panel.merges fits in
             rw (room axis line, fits, along axis)
-            (same_state _ _ _ _ (ap (map_grid text_of) puts.is ∙ put_in axis line puts.cells ∙ ap (λ texts. with_line axis line texts (map_grid text_of g)) puts.texts) spans)
+            (same_state _ _ _ _ (ap (map_grid text_of) puts.is ∙ put_in axis line puts.cells ∙ ap (λ texts. with_line_at axis line texts (map_grid text_of g)) puts.texts) spans)
         by (inr crossed) =
             let same = panel.leaves crossed in
             rw (room axis line, crossed) (same_state _ _ _ _ (ap (map_grid text_of) same.0) same.1)

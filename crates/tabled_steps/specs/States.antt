@@ -22,7 +22,7 @@ use Rattle.tabled_settings.specs.Rearranged.{carried_if, extracted, removed, rev
 use Rattle.tabled_settings.specs.declared.reverse.Reverse.{Reverse}
 use Rattle.tabled_settings.specs.declared.split.Display.TheVariants.{Retain}
 use Rattle.tabled_settings.specs.declared.split.Split.{Split}
-use Rattle.tabled_spans.specs.Panels.{cells_along, has_room, with_line, with_panel}
+use Rattle.tabled_spans.specs.Panels.{cells_along, has_room, with_line_at, with_panel}
 use Rattle.tabled_spans.specs.Spanned.{span_writes, spanned}
 use Rattle.tabled_steps.specs.MergedRuns.{runs}
 use Rattle.tabled_steps.specs.Reads.{joined_tables, read}
@@ -61,7 +61,7 @@ duplicate destination source s = record s { texts = with_writes (dup_writes (sou
 
 -- a panel before a line, where it may stand
 abbrev pub put_panel : Axis → ℕ → List ℕ → State → State
-put_panel axis line text s = if has_room axis line s.texts s.spans then record { texts = with_line axis line (text ∷ replicate (cells_along axis s.texts - 1) []) s.texts; spans = with_panel axis line (cells_along axis s.texts) s.spans } else s
+put_panel axis line text s = if has_room axis line s.texts s.spans then record { texts = with_line_at axis line (text ∷ replicate (cells_along axis s.texts - 1) []) s.texts; spans = with_panel axis line (cells_along axis s.texts) s.spans } else s
 
 -- a rectangle for each run of equal neighbours
 abbrev pub merge : Axis → State → State
