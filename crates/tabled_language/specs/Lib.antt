@@ -11,5 +11,6 @@ pub mod RoundTrip
 pub mod Selectors
 pub mod Sizes
 pub mod Verb
+pub mod Walk
 pub mod Word
 pub mod Words

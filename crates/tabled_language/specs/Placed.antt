@@ -1,9 +1,8 @@
 -- Rectangles that come one after another, each with a place of its own.
 use Rattle.std.specs.Prelude.{◌≡◌, ◌<◌, ℕ, ◌&&◌, Bool, true, false, length, get_or, take, List, [], ◌∷◌, ◌++◌, not}
 use Rattle.std.specs.List.{list_any}
-use Rattle.std.specs.Ordering.{is_lt}
 use Rattle.tabled_grid.specs.Anchors.{lies_inside, meets}
-use Rattle.tabled_grid.specs.Spans.{Rectangle, position_cmp}
+use Rattle.tabled_grid.specs.Spans.{Rectangle}
 
 -- a rectangle lies inside a table, and shares no cell with those of anchors
 abbrev pub has_place : ℕ → ℕ → List Rectangle → Rectangle → Bool
@@ -13,12 +12,6 @@ has_place rows columns anchors e = lies_inside rows columns e && not (list_any (
 abbrev pub have_places : ℕ → ℕ → List Rectangle → List Rectangle → Bool
 have_places rows columns done [] = true
 have_places rows columns done (e ∷ es) = has_place rows columns done e && have_places rows columns (done ++ e ∷ []) es
-
--- each anchor stands before the next, row by row
-abbrev pub rising : List Rectangle → Bool
-rising [] = true
-rising (e ∷ []) = true
-rising (e ∷ f ∷ es) = is_lt (position_cmp e.0 f.0) && rising (f ∷ es)
 
 -- all anchors have places
 abbrev pub fit_in : ℕ → ℕ → List Rectangle → Bool

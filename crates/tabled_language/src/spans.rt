@@ -4,17 +4,17 @@ ghost use Rattle.std.specs.Prelude.{false, true, ◌≡◌, ◌+◌, ◌<◌, �
 ghost use Rattle.std.specs.FinMap.{from_entries, from_sorted};
 ghost use Rattle.std.specs.List.{AllByRecursion};
 ghost use Rattle.tabled_grid.specs.Spans.{AreAnchors, IsSpanSize, Rectangle, position_cmp};
-ghost use Rattle.tabled_language.specs.Placed.{IsFirstMisfit, fit_in, rising};
+ghost use Rattle.tabled_language.specs.Placed.{IsFirstMisfit, fit_in};
 
+use crate::walk::have_places;
 use std::alloc::{AllocError, Global};
-use std::mem;
 use tabled_grid::config::{Rectangle, SpannedConfig};
 
 /// The merged cells of anchors, or the index of the first whose rectangle leaves the table or shares a
 /// cell with that of one before it. It takes no memory where there are no anchors.
 ///
-/// One sort and one call of the grid decide whether all fit. Where not, the first misfit is searched from
-/// the end, by steps that double, and then by halves: what fits still fits with fewer anchors.
+/// One sort and one walk decide whether all fit. Where not, the first misfit is searched from the end, by
+/// steps that double, and then by halves: what fits still fits with fewer anchors.
 pub(crate) fn merged_or_misfit(
     alloc: Global,
     anchors: &[Rectangle],
@@ -54,25 +54,7 @@ fn fit(
     sorted.clear();
     sorted.extend_from_slice(anchors)?;
     sorted.sort_unstable_by_key(|anchor| anchor.0);
-    if !rise(sorted) {
-        return Ok(false);
-    }
-    let spans = SpannedConfig::from_anchors(mem::replace(sorted, Vec::new(alloc)));
-    let fit = spans.fits(rows, columns);
-    *sorted = spans.into_anchors();
-    Ok(fit)
-}
-
-/// Says whether each anchor stands before the next, row by row.
-fn rise(anchors: &[Rectangle]) -> bool
-    ensures { result ≡ rising anchors.now }
-{
-    for k in (1..anchors.len()).rev() {
-        if !anchors[k - 1].0.cmp(&anchors[k].0).is_lt() {
-            return false;
-        }
-    }
-    true
+    have_places(alloc, sorted, rows, columns)
 }
 
 /// The index of the first anchor that has no place after those before it.
