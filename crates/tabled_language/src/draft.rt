@@ -17,11 +17,19 @@ use tabled_grid::config::Rectangle;
 use tabled_grid::records::CellText;
 use tabled_steps::Step;
 
+/// The shape that a line says.
+#[derive(Clone, Copy)]
+struct Shape {
+    /// The number of the line.
+    line: usize,
+    rows: usize,
+    columns: usize,
+}
+
 /// What was read of a script so far.
 #[derive(Drop)]
 pub(crate) struct Draft<'a> {
-    /// The number of the shape's line, and the rows and columns that it says.
-    shape: Option<(usize, (usize, usize))>,
+    shape: Option<Shape>,
     records: Vec<Vec<LentText<'a>>>,
     /// The anchors, in the order of their lines.
     anchors: Vec<Rectangle>,
@@ -31,7 +39,7 @@ pub(crate) struct Draft<'a> {
 }
 
 impl<'a> Draft<'a> {
-    ghost use Rattle.std.specs.Prelude.{◌≡◌, ◌<◌, ◌&&◌, false, [], List, map, IfOk, MatchResult, None, OnErr, Some, Ok, Err, length, true};
+    ghost use Rattle.std.specs.Prelude.{◌≡◌, ◌<◌, ◌&&◌, false, [], ℕ, List, map, IfOk, MatchResult, None, OnErr, Some, Ok, Err, length, true};
     ghost use Rattle.tabled_language.specs.Drafts.{draft_of, takes};
     ghost use Rattle.tabled_language.specs.Lent.{bytes_of};
     ghost use Rattle.tabled_language.specs.Line.{fault_of, first_fault, line_asks, line_of, meaning_of, script_or_fault, words_ask, words_of};
@@ -90,7 +98,7 @@ impl<'a> Draft<'a> {
             }
             Some("shape") => self.read_shape(number, Words::of_line(fields)),
             Some("span") => self.read_span(number, Words::of_line(fields)),
-            Some(verb) => self.read_step(alloc, number, verb, Words::of_line(fields)),
+            Some(verb) => self.read_step(alloc, verb, Words::of_line(fields)),
         }
     }
 
@@ -111,7 +119,7 @@ impl<'a> Draft<'a> {
             }
             "shape" => self.read_shape(number, Words::of_texts(&texts)),
             "span" => self.read_span(number, Words::of_texts(&texts)),
-            verb => self.read_step(alloc, number, verb, Words::of_texts(&texts)),
+            verb => self.read_step(alloc, verb, Words::of_texts(&texts)),
         }
     }
 
@@ -127,11 +135,15 @@ impl<'a> Draft<'a> {
         {
             return Err(ReadError::Faulty(Fault::OutOfPlace));
         }
-        let shape = words.shape()?;
+        let (rows, columns) = words.shape()?;
         if words.left() > 0 {
             return Err(ReadError::Faulty(Fault::WordCount));
         }
-        self.shape = Some((number, shape));
+        self.shape = Some(Shape {
+            line: number,
+            rows,
+            columns,
+        });
         Ok(())
     }
 
@@ -163,8 +175,8 @@ impl<'a> Draft<'a> {
     }
 
     /// Adds the step that a verb and the words after it say, or says why it isn't read.
-    fn read_step(&mut self, alloc: Global, _number: usize, verb: &str, mut words: Words) -> Read<()>
-        ensures read { ReadsLine (draft_in self.old) _number (step_line (whole (behind steps verb.now) words.entry)) (keeping_asks (behind steps verb.now) words.entry) result (draft_in self.new) }
+    fn read_step(&mut self, alloc: Global, verb: &str, mut words: Words) -> Read<()>
+        ensures read { (number : ℕ) → ReadsLine (draft_in self.old) number (step_line (whole (behind steps verb.now) words.entry)) (keeping_asks (behind steps verb.now) words.entry) result (draft_in self.new) }
         ensures sizes { IfOk result (λ _. IsNumbered self.old → IsNumbered self.new) }
     {
         let step = words.step(alloc, verb)?;
@@ -209,15 +221,15 @@ impl<'a> Draft<'a> {
 }
 
 /// The number of a shape's line, where the shape isn't that of a table.
-fn misshaped(shape: Option<(usize, (usize, usize))>, rows: usize, columns: usize) -> Option<usize>
+fn misshaped(shape: Option<Shape>, rows: usize, columns: usize) -> Option<usize>
     ensures { option_map (λ n. (n, ShapeDiffers)) result ≡ shape_misfit (record { rows = rows; columns = columns; cells = [] }) shape }
 {
     match shape {
-        Some((number, (said_rows, said_columns))) => {
-            if said_rows == rows && said_columns == columns {
+        Some(said) => {
+            if said.rows == rows && said.columns == columns {
                 None
             } else {
-                Some(number)
+                Some(said.line)
             }
         }
         None => None,

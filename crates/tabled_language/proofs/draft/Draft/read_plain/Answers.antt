@@ -10,4 +10,4 @@ returns-in-Some-clause-read c =
     let verb = c.in-Some.verb.now in
     let first : words_of c.args.line.now ≡ verb ∷ c.next.new.self = sym c.new-fields.ensures ∙ c.in-Some.ensures.steps in
     let is : words_of c.args.line.now ≡ verb ∷ c.of_line-in-Some.result = first ∙ ap (λ words. verb ∷ words) (sym c.of_line-in-Some.ensures) in
-    same_line (draft_in c.args.self.now) (draft_in c.read_step.new.self) c.args.number c.read_step.result _ _ _ _ (meaning_of-step (words_of c.args.line.now) verb c.of_line-in-Some.result is c.in-Some.not-row c.in-Some.not-shape c.in-Some.not-span) (words_ask-step (takes (draft_in c.args.self.now)) (words_of c.args.line.now) verb c.of_line-in-Some.result is c.in-Some.not-row c.in-Some.not-shape c.in-Some.not-span) c.read_step.ensures.read
+    same_line (draft_in c.args.self.now) (draft_in c.read_step.new.self) c.args.number c.read_step.result _ _ _ _ (meaning_of-step (words_of c.args.line.now) verb c.of_line-in-Some.result is c.in-Some.not-row c.in-Some.not-shape c.in-Some.not-span) (words_ask-step (takes (draft_in c.args.self.now)) (words_of c.args.line.now) verb c.of_line-in-Some.result is c.in-Some.not-row c.in-Some.not-shape c.in-Some.not-span) (c.read_step.ensures.read c.args.number)

@@ -18,4 +18,4 @@ returns-in_default-clause-read c =
     let said = meaning_of-step texts verb c.of_texts-in_default.result (first ∙ ap (λ words. verb ∷ words) (sym left)) c.in_default.not-row c.in_default.not-shape c.in_default.not-span in
     let old = draft_in c.args.self.now in
     let new = draft_in c.read_step.new.self in
-    same_line old new c.args.number c.read_step.result _ _ _ _ said refl (asks_anyway old new c.args.number (step_line (whole (behind steps verb) c.of_texts-in_default.result)) (keeping_asks (behind steps verb) c.of_texts-in_default.result) c.read_step.result c.read_step.ensures.read)
+    same_line old new c.args.number c.read_step.result _ _ _ _ said refl (asks_anyway old new c.args.number (step_line (whole (behind steps verb) c.of_texts-in_default.result)) (keeping_asks (behind steps verb) c.of_texts-in_default.result) c.read_step.result (c.read_step.ensures.read c.args.number))
