@@ -11,9 +11,9 @@ use Rattle.tabled_language.specs.declared.fault.Fault.{Fault}
 use Rattle.tabled_language.specs.declared.fault.Fault.TheVariants.{Escape, OutOfPlace, ShapeDiffers, SpanMisfits}
 use Rattle.tabled_language.specs.Placed.{has_place}
 use Rattle.tabled_language.specs.Sizes.{reads_anchor}
-use Rattle.tabled_language.specs.Verb.{Line, EmptyLine, ShapeLine, RecordLine, SpanLine, StepLine, FaultyLine, says, steps}
+use Rattle.tabled_language.specs.Verb.{Line, EmptyLine, ShapeLine, RecordLine, SpanLine, StepLine, FaultyLine, says, says_span, steps}
 use Rattle.tabled_language.specs.Word.{text_of_word}
-use Rattle.tabled_language.specs.Words.{behind, keeping_asks, whole}
+use Rattle.tabled_language.specs.Words.{behind, keeping_asks}
 use Rattle.tabled_steps.specs.States.{State}
 use Rattle.tabled_table.specs.Builder.{from_uneven, table_of}
 
@@ -158,14 +158,22 @@ parse input = script_or_fault (map line_of (lines_of input))
 abbrev pub is_plain : List ℕ → Bool
 is_plain line = is_utf8 line && not (list_any (λ b. b == 92) line)
 
--- reading words asks for memory, the first of them a verb, where it is told which lines would stand in their place. A shape takes none
+-- reading the texts after `span` asks for memory, where it is told which lines would stand in their place
+abbrev pub span_asks : (Line → Bool) → List (List ℕ) → Bool
+span_asks in_place texts = in_place (says_span texts) && keeping_asks reads_anchor texts
+
+-- reading the texts after the verb of a step does
+abbrev pub step_asks : List ℕ → List (List ℕ) → Bool
+step_asks verb texts = keeping_asks (behind steps verb) texts
+
+-- reading words does, the first of them a verb. A shape takes none
 abbrev pub words_ask : (Line → Bool) → List (List ℕ) → Bool
 words_ask in_place [] = false
 words_ask in_place (verb ∷ texts) =
     if bytes_eq verb (codes "row") then in_place (RecordLine texts)
     else (if bytes_eq verb (codes "shape") then false
-    else (if bytes_eq verb (codes "span") then in_place (SpanLine (whole reads_anchor texts)) && keeping_asks reads_anchor texts
-    else keeping_asks (behind steps verb) texts))
+    else (if bytes_eq verb (codes "span") then span_asks in_place texts
+    else step_asks verb texts))
 
 -- reading a line does; one that isn't plain asks for its texts
 abbrev pub line_asks : (Line → Bool) → List ℕ → Bool

@@ -1,8 +1,9 @@
 -- Rectangles that come one after another, each with a place of its own.
-use Rattle.std.specs.Prelude.{◌≡◌, ◌<◌, ℕ, ◌&&◌, Bool, true, false, length, get_or, take, List, [], ◌∷◌, ◌++◌, not}
+use Rattle.std.specs.Prelude.{◌≡◌, ◌<◌, ℕ, ◌&&◌, Bool, true, false, length, get_or, take, List, [], ◌∷◌, ◌++◌, MatchResult, Result, not}
+use Rattle.std.specs.FinMap.{from_entries}
 use Rattle.std.specs.List.{list_any}
 use Rattle.tabled_grid.specs.Anchors.{lies_inside, meets}
-use Rattle.tabled_grid.specs.Spans.{Rectangle}
+use Rattle.tabled_grid.specs.Spans.{Rectangle, SpanMap}
 
 -- a rectangle lies inside a table, and shares no cell with those of anchors
 abbrev pub has_place : ℕ → ℕ → List Rectangle → Rectangle → Bool
@@ -22,3 +23,7 @@ pub record IsFirstMisfit (rows columns : ℕ) (es : List Rectangle) (i : ℕ) : 
   pub within : i < length es
   pub before : fit_in rows columns (take i es) ≡ true
   pub there : (d : Rectangle) → has_place rows columns (take i es) (get_or es i d) ≡ false
+
+-- an answer is the merged cells of anchors that all have places, or the index of the first that has none
+abbrev pub MergesOrMisfits : ℕ → ℕ → List Rectangle → Result SpanMap ℕ → Type 0
+MergesOrMisfits rows columns es answer = MatchResult answer (λ spans. (fit_in rows columns es ≡ true) × (spans ≡ from_entries es)) (λ misfit. IsFirstMisfit rows columns es misfit)

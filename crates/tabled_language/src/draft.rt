@@ -1,6 +1,6 @@
 //! What the lines of a script say, one after another.
 
-ghost use Rattle.std.specs.Prelude.{◌≡◌, [], MatchResult};
+ghost use Rattle.std.specs.Prelude.{◌≡◌, []};
 ghost use Rattle.std.specs.Option.{option_map};
 ghost use Rattle.tabled_language.specs.Drafts.{shape_misfit};
 ghost use Rattle.tabled_language.specs.declared.fault.Fault.TheVariants.{ShapeDiffers};
@@ -39,16 +39,12 @@ pub(crate) struct Draft<'a> {
 }
 
 impl<'a> Draft<'a> {
-    ghost use Rattle.std.specs.Prelude.{◌≡◌, ◌<◌, ◌&&◌, false, [], ℕ, List, map, IfOk, MatchResult, None, OnErr, Some, Ok, Err, length, true};
-    ghost use Rattle.tabled_language.specs.Drafts.{draft_of, takes};
+    ghost use Rattle.std.specs.Prelude.{◌≡◌, ◌<◌, false, true, [], ℕ, map, IfOk, None, OnErr, Some, length};
+    ghost use Rattle.tabled_language.specs.Drafts.{takes};
     ghost use Rattle.tabled_language.specs.Lent.{bytes_of};
-    ghost use Rattle.tabled_language.specs.Line.{fault_of, first_fault, line_asks, line_of, meaning_of, script_or_fault, words_ask, words_of};
-    ghost use Rattle.tabled_language.specs.Parsing.{IsNumbered, ReadsLine, draft_in, script_in};
-    ghost use Rattle.tabled_language.specs.Sizes.{reads_anchor, reads_shape};
-    ghost use Rattle.tabled_language.specs.Verb.{Line, RecordLine, ShapeLine, SpanLine, step_line, steps};
-    ghost use Rattle.tabled_language.specs.Words.{behind, keeping_asks, whole};
-    ghost use Rattle.tabled_language.specs.declared.fault.Fault.TheVariants.{OutOfPlace};
-    ghost use Rattle.tabled_language.specs.declared.fault.ReadError.TheVariants.{Faulty};
+    ghost use Rattle.tabled_language.specs.Line.{line_asks, line_of, meaning_of, span_asks, step_asks, words_of};
+    ghost use Rattle.tabled_language.specs.Parsing.{AnswersDraft, IsNumbered, IsPlaced, ReadsLine, ReadsWords, draft_in};
+    ghost use Rattle.tabled_language.specs.Verb.{RecordLine, says_shape, says_span, says_step};
 
     pub(crate) fn new(alloc: Global) -> Self
         ensures shape { result.shape ≡ None }
@@ -85,7 +81,7 @@ impl<'a> Draft<'a> {
 
     /// Adds what a line without escapes says, or says why it isn't read.
     fn read_plain(&mut self, alloc: Global, number: usize, line: &'a str) -> Read<()>
-        ensures read { ReadsLine (draft_in self.old) number (meaning_of (Some (words_of line.now))) (words_ask (takes (draft_in self.old)) (words_of line.now)) result (draft_in self.new) }
+        ensures read { ReadsWords (draft_in self.old) number (words_of line.now) result (draft_in self.new) }
         ensures sizes { IfOk result (λ _. IsNumbered self.old → IsNumbered self.new) }
     {
         let mut fields = Fields::new(line);
@@ -125,7 +121,7 @@ impl<'a> Draft<'a> {
 
     /// Takes the shape that words say, or says why it isn't read.
     fn read_shape(&mut self, number: usize, mut words: Words) -> Read<()>
-        ensures read { ReadsLine (draft_in self.old) number (ShapeLine (whole reads_shape words.entry)) false result (draft_in self.new) }
+        ensures read { ReadsLine (draft_in self.old) number (says_shape words.entry) false result (draft_in self.new) }
         ensures sizes { IfOk result (λ _. IsNumbered self.old → IsNumbered self.new) }
     {
         if self.shape.is_some()
@@ -149,7 +145,7 @@ impl<'a> Draft<'a> {
 
     /// Says that a record stands after a span or a step, where it does.
     fn before_spans(&self) -> Read<()>
-        ensures { MatchResult result (λ _. takes (draft_in self.now) (RecordLine []) ≡ true) (λ error. (error ≡ Faulty OutOfPlace) × (takes (draft_in self.now) (RecordLine []) ≡ false)) }
+        ensures { IsPlaced (draft_in self.now) (RecordLine []) result }
     {
         if !self.anchors.is_empty() || !self.steps.is_empty() {
             return Err(ReadError::Faulty(Fault::OutOfPlace));
@@ -159,7 +155,7 @@ impl<'a> Draft<'a> {
 
     /// Adds the anchor that words say, or says why it isn't read.
     fn read_span(&mut self, number: usize, mut words: Words) -> Read<()>
-        ensures read { ReadsLine (draft_in self.old) number (SpanLine (whole reads_anchor words.entry)) (takes (draft_in self.old) (SpanLine (whole reads_anchor words.entry)) && keeping_asks reads_anchor words.entry) result (draft_in self.new) }
+        ensures read { ReadsLine (draft_in self.old) number (says_span words.entry) (span_asks (takes (draft_in self.old)) words.entry) result (draft_in self.new) }
         ensures sizes { IfOk result (λ _. IsNumbered self.old → IsNumbered self.new) }
     {
         if !self.steps.is_empty() {
@@ -176,7 +172,7 @@ impl<'a> Draft<'a> {
 
     /// Adds the step that a verb and the words after it say, or says why it isn't read.
     fn read_step(&mut self, alloc: Global, verb: &str, mut words: Words) -> Read<()>
-        ensures read { (number : ℕ) → ReadsLine (draft_in self.old) number (step_line (whole (behind steps verb.now) words.entry)) (keeping_asks (behind steps verb.now) words.entry) result (draft_in self.new) }
+        ensures read { (n : ℕ) → ReadsLine (draft_in self.old) n (says_step verb.now words.entry) (step_asks verb.now words.entry) result (draft_in self.new) }
         ensures sizes { IfOk result (λ _. IsNumbered self.old → IsNumbered self.new) }
     {
         let step = words.step(alloc, verb)?;
@@ -193,8 +189,7 @@ impl<'a> Draft<'a> {
         alloc: Global,
     ) -> Result<Result<Script<'a>, (usize, Fault)>, AllocError>
         requires { IsNumbered self }
-        ensures script { IfOk result (λ answer. (lines : List Line) → first_fault fault_of [] lines ≡ None → draft_in self.entry ≡ draft_of lines →
-            MatchResult answer (λ s. script_or_fault lines ≡ Ok (script_in s.records.items s.spans s.steps.items)) (λ fault. script_or_fault lines ≡ Err fault)) }
+        ensures script { IfOk result (AnswersDraft (draft_in self.entry)) }
         ensures memory { OnErr result (0 < length self.entry.anchors.items) }
     {
         let Draft {

@@ -1,8 +1,8 @@
 //! A script: its records, its merged cells and its steps.
 
-ghost use Rattle.std.specs.Prelude.{◌≡◌, IfOk, MatchResult, OnErr, Ok, Err, true};
+ghost use Rattle.std.specs.Prelude.{◌≡◌, IfOk, MatchResult, OnErr, true};
 ghost use Rattle.tabled_language.specs.Line.{asks_memory, parse};
-ghost use Rattle.tabled_language.specs.Parsing.{IsNumbered, ReadsScript, ScriptEnds, draft_in, script_in};
+ghost use Rattle.tabled_language.specs.Parsing.{IsAnswer, IsNumbered, ReadsScript, ScriptEnds, draft_in};
 
 use crate::draft::Draft;
 use crate::fault::{Fault, ReadError};
@@ -47,7 +47,7 @@ pub fn parse<'a>(
     alloc: Global,
     input: &'a [u8],
 ) -> Result<Result<Script<'a>, (usize, Fault)>, AllocError>
-    ensures script { IfOk result (λ script. MatchResult script (λ s. parse input.now ≡ Ok (script_in s.records.items s.spans s.steps.items)) (λ fault. parse input.now ≡ Err fault)) }
+    ensures script { IfOk result (IsAnswer (parse input.now)) }
     ensures memory { OnErr result (asks_memory input.now ≡ true) }
 {
     match read_lines(alloc, input) {

@@ -1,10 +1,10 @@
 //! Anchors in the order of their lines, and the merged cells that they make.
 
-ghost use Rattle.std.specs.Prelude.{false, true, ◌≡◌, ◌+◌, ◌<◌, ◌≤◌, ℕ, IfOk, MatchResult, OnErr, length};
+ghost use Rattle.std.specs.Prelude.{false, true, ◌≡◌, ◌+◌, ◌<◌, ◌≤◌, IfOk, OnErr, length};
 ghost use Rattle.std.specs.FinMap.{from_entries, from_sorted};
 ghost use Rattle.std.specs.List.{AllByRecursion};
 ghost use Rattle.tabled_grid.specs.Spans.{AreAnchors, IsSpanSize, Rectangle, position_cmp};
-ghost use Rattle.tabled_language.specs.Placed.{IsFirstMisfit, fit_in};
+ghost use Rattle.tabled_language.specs.Placed.{IsFirstMisfit, MergesOrMisfits, fit_in};
 
 use crate::walk::have_places;
 use std::alloc::{AllocError, Global};
@@ -22,9 +22,7 @@ pub(crate) fn merged_or_misfit(
     columns: usize,
 ) -> Result<Result<SpannedConfig, usize>, AllocError>
     requires { AllByRecursion (λ (e : Rectangle). IsSpanSize e.1) anchors.now }
-    ensures answer { IfOk result (λ answer. MatchResult answer
-        (λ spans. (fit_in rows columns anchors.now ≡ true) × (spans ≡ from_entries anchors.now))
-        (λ misfit. IsFirstMisfit rows columns anchors.now misfit)) }
+    ensures answer { IfOk result (MergesOrMisfits rows columns anchors.now) }
     ensures memory { OnErr result (0 < length anchors.now) }
 {
     if anchors.is_empty() {
