@@ -11,7 +11,9 @@ use Rattle.tabled_language.specs.declared.draft.Shape.{Shape}
 use Rattle.tabled_language.specs.declared.fault.Fault.{Fault}
 use Rattle.tabled_language.specs.declared.fault.Fault.TheVariants.{SpanMisfits}
 use Rattle.tabled_language.specs.Drafts.{Draft, anchor_lines, draft_of, shape_among, shape_at, shape_misfit, with_line}
-use Rattle.tabled_language.specs.Line.{anchor_in, fault_of, first_fault, record_in, script_or_fault, shape_in, step_in, table_from}
+use Rattle.tabled_language.specs.Faults.{fault_of, first_fault}
+use Rattle.tabled_language.specs.Line.{anchor_in, record_in, shape_in, step_in, table_from}
+use Rattle.tabled_language.specs.Script.{script_or_fault}
 use Rattle.tabled_language.specs.Placed.{IsFirstMisfit, fit_in}
 use Rattle.tabled_language.specs.Verb.{Line}
 use Rattle.tabled_language.proofs.DraftLines.{shape_told}

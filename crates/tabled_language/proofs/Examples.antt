@@ -5,7 +5,7 @@ use Rattle.std.specs.Str.{chars, is_utf8}
 use Rattle.std.specs.Fmt.{digits}
 use Rattle.tabled_grid.specs.Entity.{place}
 use Rattle.tabled_grid.specs.Grid.{Grid}
-use Rattle.tabled_language.specs.Line.{Script, parse, start}
+use Rattle.tabled_language.specs.Script.{Script, parse, start}
 use Rattle.tabled_language.specs.declared.fault.Fault.{Fault}
 use Rattle.tabled_language.specs.declared.fault.Fault.TheVariants as fault
 use Rattle.tabled_language.specs.Output.{print}

@@ -10,7 +10,9 @@ use Rattle.tabled_table.specs.Builder.{longest}
 use Rattle.tabled_language.specs.declared.draft.Shape.{Shape}
 use Rattle.tabled_language.specs.declared.fault.Fault.TheVariants.{ShapeDiffers, SpanMisfits}
 use Rattle.tabled_language.specs.Drafts.{Draft, draft_of, shape_misfit}
-use Rattle.tabled_language.specs.Line.{Script, fault_of, first_fault, script_or_fault, table_from}
+use Rattle.tabled_language.specs.Faults.{fault_of, first_fault}
+use Rattle.tabled_language.specs.Line.{table_from}
+use Rattle.tabled_language.specs.Script.{Script, script_or_fault}
 use Rattle.tabled_language.specs.Placed.{IsFirstMisfit, fit_in}
 use Rattle.tabled_language.specs.Verb.{Line}
 use Rattle.tabled_language.proofs.DraftSteps.{all_fits, shape_differs, span_misfits}

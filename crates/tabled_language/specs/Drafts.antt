@@ -7,7 +7,8 @@ use Rattle.tabled_steps.specs.States.{State}
 use Rattle.tabled_language.specs.declared.draft.Shape.{Shape}
 use Rattle.tabled_language.specs.declared.fault.Fault.{Fault}
 use Rattle.tabled_language.specs.declared.fault.Fault.TheVariants.{OutOfPlace, ShapeDiffers}
-use Rattle.tabled_language.specs.Line.{anchor_in, record_in, shape_in, step_in, words_fault}
+use Rattle.tabled_language.specs.Faults.{words_fault}
+use Rattle.tabled_language.specs.Line.{anchor_in, record_in, shape_in, step_in}
 use Rattle.tabled_language.specs.Verb.{Line, ShapeLine, RecordLine, SpanLine}
 
 -- the shape that a line says, the records, the anchors and the numbers of their lines, and the steps

@@ -19,7 +19,10 @@ use Rattle.tabled_language.specs.declared.words.Source.{Source}
 use Rattle.tabled_language.specs.declared.words.Source.TheVariants.{Line as InLine, Texts}
 use Rattle.tabled_language.specs.Drafts.{Draft, draft_of, fault_behind, takes, with_line}
 use Rattle.tabled_language.specs.Lent.{bytes_of}
-use Rattle.tabled_language.specs.Line.{Script, asks_memory, fault_of, first_fault, line_of, lines_of, meaning_of, parse, script_or_fault, words_ask}
+use Rattle.tabled_language.specs.Faults.{fault_of, first_fault}
+use Rattle.tabled_language.specs.Line.{line_of, lines_of, meaning_of}
+use Rattle.tabled_language.specs.Memory.{asks_memory, words_ask}
+use Rattle.tabled_language.specs.Script.{Script, parse, script_or_fault}
 use Rattle.tabled_language.specs.Verb.{Line}
 use Rattle.tabled_language.specs.Words.{Reading}
 

@@ -5,7 +5,9 @@ use Rattle.std.specs.List.{list_any}
 use Rattle.std.specs.Str.{bytes_eq}
 use Rattle.tabled_language.specs.declared.fault.Fault.{Fault}
 use Rattle.tabled_language.specs.declared.fault.Fault.TheVariants.{Escape, OutOfPlace}
-use Rattle.tabled_language.specs.Line.{Script, first_fault, record_in, step_in}
+use Rattle.tabled_language.specs.Faults.{first_fault}
+use Rattle.tabled_language.specs.Line.{record_in, step_in}
+use Rattle.tabled_language.specs.Script.{Script}
 use Rattle.tabled_language.specs.Line.{lines_of, texts_of, words_of}
 use Rattle.tabled_language.specs.Verb.{Line, EmptyLine, RecordLine, StepLine, FaultyLine, says_step}
 

@@ -42,7 +42,8 @@ impl<'a> Draft<'a> {
     ghost use Rattle.std.specs.Prelude.{◌≡◌, ◌<◌, false, true, [], ℕ, map, IfOk, None, OnErr, Some, length};
     ghost use Rattle.tabled_language.specs.Drafts.{takes};
     ghost use Rattle.tabled_language.specs.Lent.{bytes_of};
-    ghost use Rattle.tabled_language.specs.Line.{line_asks, line_of, meaning_of, span_asks, step_asks, words_of};
+    ghost use Rattle.tabled_language.specs.Line.{line_of, meaning_of, words_of};
+    ghost use Rattle.tabled_language.specs.Memory.{line_asks, span_asks, step_asks};
     ghost use Rattle.tabled_language.specs.Parsing.{AnswersDraft, IsNumbered, IsPlaced, ReadsLine, ReadsWords, draft_in};
     ghost use Rattle.tabled_language.specs.Verb.{RecordLine, says_shape, says_span, says_step};
 

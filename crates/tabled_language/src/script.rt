@@ -1,7 +1,8 @@
 //! A script: its records, its merged cells and its steps.
 
 ghost use Rattle.std.specs.Prelude.{◌≡◌, IfOk, MatchResult, OnErr, true};
-ghost use Rattle.tabled_language.specs.Line.{asks_memory, parse};
+ghost use Rattle.tabled_language.specs.Memory.{asks_memory};
+ghost use Rattle.tabled_language.specs.Script.{parse};
 ghost use Rattle.tabled_language.specs.Parsing.{IsAnswer, IsNumbered, ReadsScript, ScriptEnds, draft_in};
 
 use crate::draft::Draft;
