@@ -1,11 +1,10 @@
 -- What the code's values say of a script (`script_in`), and how it goes through one, step by step. Nothing of it belongs to the language.
 use Rattle.std.specs.Prelude.{◌≡◌, ◌<◌, ℕ, Bool, true, false, List, [], length, Option, None, Some, Result, Ok, Err, MatchResult, String, map}
 use Rattle.std.specs.Global.{Global, Vec}
-use Rattle.std.specs.List.{AllByRecursion}
 use Rattle.std.specs.Slice.Iter.{iter_rest}
 use Rattle.std.specs.String.{string_bytes}
 use Rattle.tabled_grid.specs.Grid.{map_items}
-use Rattle.tabled_grid.specs.Spans.{IsSpanSize, Rectangle, SpanMap}
+use Rattle.tabled_grid.specs.Spans.{SpanMap}
 use Rattle.tabled_steps.specs.States.{after}
 use Rattle.tabled_steps.specs.declared.step.Step.{Step}
 use Rattle.tabled_language.specs.declared.draft.Draft.{Draft as Drafted}
@@ -50,7 +49,7 @@ Takes view taken left result new = MatchResult result (λ x. (view x ≡ taken) 
 
 -- the draft of what is in memory
 abbrev pub draft_in : Drafted → Draft
-draft_in d = record { shape = d.shape; records = map (map bytes_of) (map_items d.records.items); anchors = d.anchors.items; lines = d.lines.items; steps = map after d.steps.items }
+draft_in d = record { shape = d.shape; records = map (map bytes_of) (map_items d.records.items); anchors = d.spans.anchors; lines = d.spans.numbers; steps = map after d.steps.items }
 
 -- the script of what is in memory
 abbrev pub script_in : List (Vec LentText) → SpanMap → List Step → Script
@@ -80,10 +79,6 @@ ReadsWords old n words result new = ReadsLine old n (meaning_of (Some words)) (w
 -- code says that a line stands in its place after what was read, or that it doesn't
 abbrev pub IsPlaced : {X : Type 0} → Draft → Line → Result X ReadError → Type 0
 IsPlaced d line result = MatchResult result (λ _. takes d line ≡ true) (λ error. (error ≡ Faulty OutOfPlace) × (takes d line ≡ false))
-
--- each anchor has the size of more than one cell, and the number of a line
-abbrev pub IsNumbered : Drafted → Type 0
-IsNumbered d = AllByRecursion (λ (e : Rectangle). IsSpanSize e.1) d.anchors.items × (length d.lines.items ≡ length d.anchors.items)
 
 -- all lines of a script are read into a draft, and none is faulty by itself
 pub record ReadsScript (input : List ℕ) (draft : Draft) : Type 0 where

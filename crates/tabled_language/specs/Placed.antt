@@ -27,3 +27,12 @@ pub record IsFirstMisfit (rows columns : ℕ) (es : List Rectangle) (i : ℕ) : 
 -- an answer is the merged cells of anchors that all have places, or the index of the first that has none
 abbrev pub MergesOrMisfits : ℕ → ℕ → List Rectangle → Result SpanMap ℕ → Type 0
 MergesOrMisfits rows columns es answer = MatchResult answer (λ spans. (fit_in rows columns es ≡ true) × (spans ≡ from_entries es)) (λ misfit. IsFirstMisfit rows columns es misfit)
+
+-- anchors in the order of their lines, and the numbers of these lines
+pub record NumberedAnchors : Type 0 where
+  pub anchors : List Rectangle
+  pub numbers : List ℕ
+
+-- an answer is the merged cells of anchors that all have places, or the number of the line of the first that has none
+abbrev pub MergesOrNames : ℕ → ℕ → NumberedAnchors → Result SpanMap ℕ → Type 0
+MergesOrNames rows columns es answer = MatchResult answer (λ spans. (fit_in rows columns es.anchors ≡ true) × (spans ≡ from_entries es.anchors)) (λ number. (i : ℕ) × IsFirstMisfit rows columns es.anchors i × (number ≡ get_or es.numbers i 0))

@@ -9,11 +9,10 @@ use crate::fault::{Fault, ReadError};
 use crate::lent::LentText;
 use crate::padding::longest;
 use crate::script::Script;
-use crate::spans::merged_or_misfit;
+use crate::spans::SpanLines;
 use crate::texts::{Fields, escaped_texts, plain};
 use crate::words::{Read, Words};
 use std::alloc::{AllocError, Global};
-use tabled_grid::config::Rectangle;
 use tabled_grid::records::CellText;
 use tabled_steps::Step;
 
@@ -31,10 +30,7 @@ struct Shape {
 pub(crate) struct Draft<'a> {
     shape: Option<Shape>,
     records: Vec<Vec<LentText<'a>>>,
-    /// The anchors, in the order of their lines.
-    anchors: Vec<Rectangle>,
-    /// The number of each anchor's line.
-    lines: Vec<usize>,
+    spans: SpanLines,
     steps: Vec<Step>,
 }
 
@@ -44,29 +40,26 @@ impl<'a> Draft<'a> {
     ghost use Rattle.tabled_language.specs.Lent.{bytes_of};
     ghost use Rattle.tabled_language.specs.Line.{line_of, meaning_of, words_of};
     ghost use Rattle.tabled_language.specs.Memory.{line_asks, span_asks, step_asks};
-    ghost use Rattle.tabled_language.specs.Parsing.{AnswersDraft, IsNumbered, IsPlaced, ReadsLine, ReadsWords, draft_in};
+    ghost use Rattle.tabled_language.specs.Parsing.{AnswersDraft, IsPlaced, ReadsLine, ReadsWords, draft_in};
     ghost use Rattle.tabled_language.specs.Verb.{RecordLine, says_shape, says_span, says_step};
 
     pub(crate) fn new(alloc: Global) -> Self
         ensures shape { result.shape ≡ None }
         ensures records { result.records.items ≡ [] }
-        ensures anchors { result.anchors.items ≡ [] }
-        ensures lines { result.lines.items ≡ [] }
+        ensures spans { result.spans ≡ record { anchors = []; numbers = [] } }
         ensures steps { result.steps.items ≡ [] }
     {
         Draft {
             shape: None,
             records: Vec::new(alloc),
-            anchors: Vec::new(alloc),
-            lines: Vec::new(alloc),
+            spans: SpanLines::new(alloc),
             steps: Vec::new(alloc),
         }
     }
 
     /// Adds what the line of a number says, or says why it isn't read.
     pub(crate) fn read_line(&mut self, alloc: Global, number: usize, line: &'a [u8]) -> Read<()>
-        ensures read { ReadsLine (draft_in self.old) number (line_of line.now) (line_asks (takes (draft_in self.old)) line.now) result (draft_in self.new) }
-        ensures sizes { IfOk result (λ _. IsNumbered self.old → IsNumbered self.new) }
+        ensures { ReadsLine (draft_in self.old) number (line_of line.now) (line_asks (takes (draft_in self.old)) line.now) result (draft_in self.new) }
     {
         if line.is_empty() {
             return Ok(());
@@ -82,8 +75,7 @@ impl<'a> Draft<'a> {
 
     /// Adds what a line without escapes says, or says why it isn't read.
     fn read_plain(&mut self, alloc: Global, number: usize, line: &'a str) -> Read<()>
-        ensures read { ReadsWords (draft_in self.old) number (words_of line.now) result (draft_in self.new) }
-        ensures sizes { IfOk result (λ _. IsNumbered self.old → IsNumbered self.new) }
+        ensures { ReadsWords (draft_in self.old) number (words_of line.now) result (draft_in self.new) }
     {
         let mut fields = Fields::new(line);
         match fields.next() {
@@ -101,8 +93,7 @@ impl<'a> Draft<'a> {
 
     /// Adds what a line's texts say, or says why they aren't read.
     fn read_texts(&mut self, alloc: Global, number: usize, mut texts: Vec<LentText<'a>>) -> Read<()>
-        ensures read { ReadsLine (draft_in self.old) number (meaning_of (Some (map bytes_of texts.entry.items))) true result (draft_in self.new) }
-        ensures sizes { IfOk result (λ _. IsNumbered self.old → IsNumbered self.new) }
+        ensures { ReadsLine (draft_in self.old) number (meaning_of (Some (map bytes_of texts.entry.items))) true result (draft_in self.new) }
     {
         if texts.is_empty() {
             return Ok(());
@@ -122,12 +113,11 @@ impl<'a> Draft<'a> {
 
     /// Takes the shape that words say, or says why it isn't read.
     fn read_shape(&mut self, number: usize, mut words: Words) -> Read<()>
-        ensures read { ReadsLine (draft_in self.old) number (says_shape words.entry) false result (draft_in self.new) }
-        ensures sizes { IfOk result (λ _. IsNumbered self.old → IsNumbered self.new) }
+        ensures { ReadsLine (draft_in self.old) number (says_shape words.entry) false result (draft_in self.new) }
     {
         if self.shape.is_some()
             || !self.records.is_empty()
-            || !self.anchors.is_empty()
+            || !self.spans.is_empty()
             || !self.steps.is_empty()
         {
             return Err(ReadError::Faulty(Fault::OutOfPlace));
@@ -148,7 +138,7 @@ impl<'a> Draft<'a> {
     fn before_spans(&self) -> Read<()>
         ensures { IsPlaced (draft_in self.now) (RecordLine []) result }
     {
-        if !self.anchors.is_empty() || !self.steps.is_empty() {
+        if !self.spans.is_empty() || !self.steps.is_empty() {
             return Err(ReadError::Faulty(Fault::OutOfPlace));
         }
         Ok(())
@@ -156,8 +146,7 @@ impl<'a> Draft<'a> {
 
     /// Adds the anchor that words say, or says why it isn't read.
     fn read_span(&mut self, number: usize, mut words: Words) -> Read<()>
-        ensures read { ReadsLine (draft_in self.old) number (says_span words.entry) (span_asks (takes (draft_in self.old)) words.entry) result (draft_in self.new) }
-        ensures sizes { IfOk result (λ _. IsNumbered self.old → IsNumbered self.new) }
+        ensures { ReadsLine (draft_in self.old) number (says_span words.entry) (span_asks (takes (draft_in self.old)) words.entry) result (draft_in self.new) }
     {
         if !self.steps.is_empty() {
             return Err(ReadError::Faulty(Fault::OutOfPlace));
@@ -166,15 +155,13 @@ impl<'a> Draft<'a> {
         if words.left() > 0 {
             return Err(ReadError::Faulty(Fault::WordCount));
         }
-        self.anchors.push(anchor)?;
-        self.lines.push(number)?;
+        self.spans.push(number, anchor)?;
         Ok(())
     }
 
     /// Adds the step that a verb and the words after it say, or says why it isn't read.
     fn read_step(&mut self, alloc: Global, verb: &str, mut words: Words) -> Read<()>
-        ensures read { (n : ℕ) → ReadsLine (draft_in self.old) n (says_step verb.now words.entry) (step_asks verb.now words.entry) result (draft_in self.new) }
-        ensures sizes { IfOk result (λ _. IsNumbered self.old → IsNumbered self.new) }
+        ensures { (n : ℕ) → ReadsLine (draft_in self.old) n (says_step verb.now words.entry) (step_asks verb.now words.entry) result (draft_in self.new) }
     {
         let step = words.step(alloc, verb)?;
         if words.left() > 0 {
@@ -189,15 +176,13 @@ impl<'a> Draft<'a> {
         self,
         alloc: Global,
     ) -> Result<Result<Script<'a>, (usize, Fault)>, AllocError>
-        requires { IsNumbered self }
         ensures script { IfOk result (AnswersDraft (draft_in self.entry)) }
-        ensures memory { OnErr result (0 < length self.entry.anchors.items) }
+        ensures memory { OnErr result (0 < length self.entry.spans.anchors) }
     {
         let Draft {
             shape,
             records,
-            anchors,
-            lines,
+            spans,
             steps,
         } = self;
         let rows = records.len();
@@ -205,13 +190,13 @@ impl<'a> Draft<'a> {
         if let Some(number) = misshaped(shape, rows, columns) {
             return Ok(Err((number, Fault::ShapeDiffers)));
         }
-        match merged_or_misfit(alloc, &anchors, rows, columns)? {
+        match spans.merged(alloc, rows, columns)? {
             Ok(spans) => Ok(Ok(Script {
                 records,
                 spans,
                 steps,
             })),
-            Err(misfit) => Ok(Err((lines[misfit], Fault::SpanMisfits))),
+            Err(line) => Ok(Err((line, Fault::SpanMisfits))),
         }
     }
 }

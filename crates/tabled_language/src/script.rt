@@ -3,7 +3,7 @@
 ghost use Rattle.std.specs.Prelude.{◌≡◌, IfOk, MatchResult, OnErr, true};
 ghost use Rattle.tabled_language.specs.Memory.{asks_memory};
 ghost use Rattle.tabled_language.specs.Script.{parse};
-ghost use Rattle.tabled_language.specs.Parsing.{IsAnswer, IsNumbered, ReadsScript, ScriptEnds, draft_in};
+ghost use Rattle.tabled_language.specs.Parsing.{IsAnswer, ReadsScript, ScriptEnds, draft_in};
 
 use crate::draft::Draft;
 use crate::fault::{Fault, ReadError};
@@ -24,8 +24,7 @@ pub struct Script<'a> {
 
 /// What the lines of bytes say, or the number of the line that isn't read and why.
 fn read_lines<'a>(alloc: Global, input: &'a [u8]) -> Result<Draft<'a>, (usize, ReadError)>
-    ensures read { MatchResult result (λ d. ReadsScript input.now (draft_in d)) (ScriptEnds input.now) }
-    ensures sizes { IfOk result (λ d. IsNumbered d) }
+    ensures { MatchResult result (λ d. ReadsScript input.now (draft_in d)) (ScriptEnds input.now) }
 {
     let mut draft = Draft::new(alloc);
     let mut number = 0;
