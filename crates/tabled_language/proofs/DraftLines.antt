@@ -10,7 +10,8 @@ use Rattle.tabled_grid.specs.Spans.{Rectangle}
 use Rattle.tabled_language.specs.declared.fault.Fault.{Fault}
 use Rattle.tabled_language.specs.declared.fault.Fault.TheVariants.{OutOfPlace}
 use Rattle.tabled_language.specs.Drafts.{draft_of, fault_behind, is_nil, shape_among, shape_misfit, takes}
-use Rattle.tabled_language.specs.Line.{anchor_in, fault_of, first_fault, is_in_place, may_follow, record_in, shape_fault, step_in, words_fault}
+use Rattle.tabled_language.specs.Faults.{fault_of, first_fault, is_in_place, may_follow, shape_fault, words_fault}
+use Rattle.tabled_language.specs.Line.{anchor_in, record_in, step_in}
 use Rattle.tabled_language.proofs.LooseLines.{loose_place}
 use Rattle.tabled_language.specs.Verb.{Line, EmptyLine, ShapeLine, RecordLine, SpanLine, StepLine, FaultyLine}
 

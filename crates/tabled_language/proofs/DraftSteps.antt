@@ -7,10 +7,13 @@ use Rattle.std.proofs.lemmas.List.Elements.{filter_map-append}
 use Rattle.tabled_grid.specs.Grid.{Grid}
 use Rattle.tabled_grid.specs.Spans.{Rectangle}
 use Rattle.tabled_steps.specs.States.{State}
+use Rattle.tabled_language.specs.declared.draft.Shape.{Shape}
 use Rattle.tabled_language.specs.declared.fault.Fault.{Fault}
 use Rattle.tabled_language.specs.declared.fault.Fault.TheVariants.{SpanMisfits}
-use Rattle.tabled_language.specs.Drafts.{Draft, anchor_lines, draft_of, shape_among, shape_misfit, with_line}
-use Rattle.tabled_language.specs.Line.{anchor_in, fault_of, first_fault, record_in, script_or_fault, shape_in, step_in, table_from}
+use Rattle.tabled_language.specs.Drafts.{Draft, anchor_lines, draft_of, shape_among, shape_at, shape_misfit, with_line}
+use Rattle.tabled_language.specs.Faults.{fault_of, first_fault}
+use Rattle.tabled_language.specs.Line.{anchor_in, record_in, shape_in, step_in, table_from}
+use Rattle.tabled_language.specs.Script.{script_or_fault}
 use Rattle.tabled_language.specs.Placed.{IsFirstMisfit, fit_in}
 use Rattle.tabled_language.specs.Verb.{Line}
 use Rattle.tabled_language.proofs.DraftLines.{shape_told}
@@ -24,13 +27,13 @@ or_none : {A : Type 0} (x : Option A) → option_or x None ≡ x
 or_none None = refl
 or_none (Some x) = refl
 
-shape-push : (n m : ℕ) (lines : List Line) (line : Line) → m ≡ n + length lines → shape_among n (lines ++ line ∷ []) ≡ option_or (shape_among n lines) (option_map (λ shape. (m + 1, shape)) (shape_in line))
+shape-push : (n m : ℕ) (lines : List Line) (line : Line) → m ≡ n + length lines → shape_among n (lines ++ line ∷ []) ≡ option_or (shape_among n lines) (option_map (shape_at (m + 1)) (shape_in line))
 shape-push n m [] line is =
     let same : m ≡ n = omega (arith, is) in
-    rw same (or_none (option_map (λ shape. (n + 1, shape)) (shape_in line)))
+    rw same (or_none (option_map (shape_at (n + 1)) (shape_in line)))
 shape-push n m (first ∷ lines) line is =
-    ap (option_or (option_map (λ shape. (n + 1, shape)) (shape_in first))) (shape-push (n + 1) m lines line (omega (arith, is)))
-    ∙ or_assoc (option_map (λ shape. (n + 1, shape)) (shape_in first)) (shape_among (n + 1) lines) (option_map (λ shape. (m + 1, shape)) (shape_in line))
+    ap (option_or (option_map (shape_at (n + 1)) (shape_in first))) (shape-push (n + 1) m lines line (omega (arith, is)))
+    ∙ or_assoc (option_map (shape_at (n + 1)) (shape_in first)) (shape_among (n + 1) lines) (option_map (shape_at (m + 1)) (shape_in line))
 
 lines-push : (n m : ℕ) (lines : List Line) (line : Line) → m ≡ n + length lines → anchor_lines n (lines ++ line ∷ []) ≡ anchor_lines n lines ++ map (λ (e : Rectangle). m + 1) (filter_map anchor_in (line ∷ []))
 lines-push n m [] line is = by (anchor_in line) refl
@@ -51,10 +54,10 @@ lines-push n m (first ∷ lines) line is = by (anchor_in first) refl (lines-push
 pub draft_of-push : (lines : List Line) (line : Line) → draft_of (lines ++ line ∷ []) ≡ with_line (draft_of lines) (length lines + 1) line
 draft_of-push lines line = same (shape-push 0 (length lines) lines line (omega arith)) (filter_map-append record_in lines (line ∷ [])) (filter_map-append anchor_in lines (line ∷ [])) (lines-push 0 (length lines) lines line (omega arith)) (filter_map-append step_in lines (line ∷ []))
   where
-    made : Option (ℕ × (ℕ × ℕ)) → List (List (List ℕ)) → List Rectangle → List ℕ → List (State → State) → Draft
+    made : Option Shape → List (List (List ℕ)) → List Rectangle → List ℕ → List (State → State) → Draft
     made s r a l f = record { shape = s; records = r; anchors = a; lines = l; steps = f }
 
-    same : {s t : Option (ℕ × (ℕ × ℕ))} {r q : List (List (List ℕ))} {a b : List Rectangle} {l k : List ℕ} {f g : List (State → State)} → s ≡ t → r ≡ q → a ≡ b → l ≡ k → f ≡ g → made s r a l f ≡ made t q b k g
+    same : {s t : Option Shape} {r q : List (List (List ℕ))} {a b : List Rectangle} {l k : List ℕ} {f g : List (State → State)} → s ≡ t → r ≡ q → a ≡ b → l ≡ k → f ≡ g → made s r a l f ≡ made t q b k g
     same u v w x y = rw (u, v, w, x, y) refl
 
 -- without a fault in a line by itself, the checks of the whole are those of the draft

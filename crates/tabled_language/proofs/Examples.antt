@@ -1,12 +1,10 @@
 -- Scripts with shapes and spans, read.
-use Rattle.std.proofs.Common.{◌≡◌, ℕ, List, [], ◌∷◌, ◌++◌, codes, Ok, Err, Result, refl, ap, ◌∙◌}
+use Rattle.std.proofs.Common.{◌≡◌, ℕ, List, [], ◌∷◌, codes, Ok, Err, refl, ap, ◌∙◌}
 use Rattle.std.specs.FinMap.{entries, entries-from_sorted, from_entries}
 use Rattle.std.specs.Str.{chars, is_utf8}
 use Rattle.std.specs.Fmt.{digits}
 use Rattle.tabled_grid.specs.Entity.{place}
-use Rattle.tabled_grid.specs.Grid.{Grid}
-use Rattle.tabled_language.specs.Line.{Script, parse, start}
-use Rattle.tabled_language.specs.declared.fault.Fault.{Fault}
+use Rattle.tabled_language.specs.Script.{parse, start}
 use Rattle.tabled_language.specs.declared.fault.Fault.TheVariants as fault
 use Rattle.tabled_language.specs.Output.{print}
 use Rattle.tabled_language.proofs.BackToAnchors.{sorted_map}

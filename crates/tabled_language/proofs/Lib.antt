@@ -4,11 +4,13 @@ pub mod BackToLines
 pub mod BackToNumbers
 pub mod BackToRecords
 pub mod BackToTexts
+pub mod Cleared
 pub mod DeeperSelectors
 pub mod DraftLines
 pub mod DraftSteps
 pub mod Escapes
 pub mod Examples
+pub mod LastBefore
 pub mod LooseLines
 pub mod Misfits
 pub mod Numbers
@@ -23,3 +25,4 @@ pub mod ScriptLines
 pub mod Separated
 pub mod TableRows
 pub mod Utf8
+pub mod Walked

@@ -1,6 +1,6 @@
 -- Lines that may stand anywhere.
 use Rattle.std.proofs.Common.{◌≡◌, true, List, [], ◌∷◌, refl}
-use Rattle.tabled_language.specs.Line.{is_in_place, may_follow}
+use Rattle.tabled_language.specs.Faults.{is_in_place, may_follow}
 use Rattle.tabled_language.specs.Verb.{Line, EmptyLine, ShapeLine, RecordLine, SpanLine, StepLine, FaultyLine}
 
 -- a line says no shape, no record and no span

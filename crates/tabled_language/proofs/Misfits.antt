@@ -9,7 +9,8 @@ use Rattle.tabled_grid.specs.Spans.{Rectangle}
 use Rattle.tabled_language.specs.declared.fault.Fault.{Fault}
 use Rattle.tabled_language.specs.declared.fault.Fault.TheVariants.{SpanMisfits}
 use Rattle.tabled_language.specs.Drafts.{anchor_lines}
-use Rattle.tabled_language.specs.Line.{anchor_in, first_fault, span_fault, unless_it}
+use Rattle.tabled_language.specs.Faults.{first_fault, span_fault, unless_it}
+use Rattle.tabled_language.specs.Line.{anchor_in}
 use Rattle.tabled_language.specs.Placed.{IsFirstMisfit, fit_in, has_place, have_places}
 use Rattle.tabled_language.specs.Verb.{Line}
 

@@ -1,34 +1,38 @@
 -- Anchors have places in any order, or in none.
-use Rattle.std.proofs.Common.{◌≡◌, ℕ, zero, suc, ◌+◌, ◌-◌, ◌≤◌, ◌<◌, ◌⊎◌, inl, inr, ◌&&◌, Bool, true, false, cond, not, length, get_or, drop, take, List, [], ◌∷◌, ◌++◌, Some, refl, sym, ap, subst, ◌∙◌, arith}
+use Rattle.std.proofs.Common.{◌≡◌, ℕ, suc, ◌+◌, ◌≤◌, ◌<◌, ◌⊎◌, inl, inr, ◌&&◌, Bool, true, false, cond, not, length, get_or, take, List, [], ◌∷◌, ◌++◌, Some, refl, sym, ap, subst, ◌∙◌, arith}
 use Rattle.std.specs.Prelude.{T, Option, None, is_some}
 use Rattle.std.proofs.Math.Numerals.{add-one}
-use Rattle.std.specs.FinMap.{entries, entries-from_sorted, find, from_entries, from_sorted, get-from_entries, get-from_sorted, is_sorted, same_map}
+use Rattle.std.specs.FinMap.{find, from_entries, from_sorted, get-from_entries, get-from_sorted, is_sorted, same_map}
 use Rattle.std.specs.FinMap.Entries.{below_all}
-use Rattle.std.specs.Bool.{Decides}
 use Rattle.std.specs.List.{AllByRecursion, IsDistinct, list_all, list_any}
 use Rattle.std.specs.List.Sorted.{IsPermutation, IsSortedByKey}
 use Rattle.std.specs.Ordering.{is_eq, is_lt, ordering_reverse}
 use Rattle.std.specs.declared.cmp.Ordering.{Ordering}
 use Rattle.std.specs.declared.cmp.Ordering.TheVariants.{Less, Equal, Greater}
 use Rattle.std.proofs.lemmas.Bool.{cases_Bool, cases_lt, lt-ltb, and_from, and_parts, not-true, not_from_false, or_parts, or_from, false_from_ne_true}
-use Rattle.std.proofs.lemmas.List.{append-nil, append_assoc, drop_more, take_more}
+use Rattle.std.proofs.lemmas.List.{append-nil, append_assoc, take_more}
 use Rattle.std.proofs.lemmas.List.Elements.{All-from_recursion, recursion_from_All}
 use Rattle.std.proofs.lemmas.List.Sorted.{All-permutation, IsPermutation-sym}
 use Rattle.std.proofs.lemmas.Map.Keys.{IsDistinct-IsPermutation}
-use Rattle.tabled_grid.specs.Anchors.{lie_well, lies_inside, meets}
-use Rattle.tabled_grid.specs.Fitting.{Fits}
-use Rattle.tabled_grid.specs.Spans.{AreAnchors, IsSpanSize, Rectangle, SpanMap, position_cmp}
+use Rattle.tabled_grid.specs.Anchors.{lies_inside, meets}
+use Rattle.tabled_grid.specs.Spans.{AreAnchors, IsSpanSize, Rectangle, position_cmp}
 use Rattle.tabled_grid.specs.declared.config.position.Position.{Position}
 use Rattle.tabled_grid.specs.declared.config.size.Size.{Size}
 use Rattle.tabled_grid.proofs.MergedAnchors.{below_more}
 use Rattle.std.proofs.lemmas.Option.{none-some, same_Some}
 use Rattle.std.proofs.lemmas.Cmp.{tied_itself}
-use Rattle.tabled_grid.proofs.FittingAnchors.{fits_well, well_fits}
 use Rattle.tabled_grid.proofs.PassedAnchors.{meets-from}
 use Rattle.tabled_grid.proofs.SpanMaps.{equal, halves, less}
 use Rattle.tabled_grid.proofs.Spans.{positions_exact, positions_total}
-use Rattle.tabled_language.specs.Placed.{IsFirstMisfit, fit_in, has_place, have_places, rising}
+use Rattle.tabled_language.specs.Placed.{IsFirstMisfit, fit_in, has_place, have_places}
+use Rattle.tabled_language.specs.Walk.{RowsRise}
 use Rattle.tabled_language.proofs.BackToAnchors.{all_found, MeetNone, meet_none, meet_none-push, meets-turned}
+
+-- each place comes before the next, row by row
+abbrev pub rising : List Rectangle → Bool
+rising [] = true
+rising (e ∷ []) = true
+rising (e ∷ f ∷ es) = is_lt (position_cmp e.0 f.0) && rising (f ∷ es)
 
 -- all lie inside, none shares a cell with one of others, and none with one after it
 record Placed (rows columns : ℕ) (es : List Rectangle) : Type 0 where
@@ -71,25 +75,6 @@ placed-to rows columns done (e ∷ es) p none =
     and_from _ _ (and_from _ _ p.inside.0 (not_from_false _ none.0))
     (placed-to rows columns (done ++ e ∷ []) es (record { inside = p.inside.1; apart = p.apart.1 }) (meet_none-push e done es (all-not e es p.apart.0) none.1))
 
-all_apart : (f : Rectangle) (es : List Rectangle) → list_all (λ (e : Rectangle). not (meets f e)) es ≡ true → AllByRecursion (λ (e : Rectangle). meets f e ≡ false) es
-all_apart f [] h = tt
-all_apart f (e ∷ es) h = let parts = and_parts _ _ h in (not-true _ parts.0, all_apart f es parts.1)
-
--- so does the grid's test of a list
-well_placed : (rows columns : ℕ) (es : List Rectangle) → lie_well rows columns es ≡ true → Placed rows columns es
-unfolding IsDistinct
-well_placed rows columns [] h = record { inside = tt; apart = tt }
-well_placed rows columns (e ∷ es) h =
-    let parts = and_parts _ _ h in
-    let others = and_parts _ _ parts.1 in
-    let rest = well_placed rows columns es others.1 in
-    record { inside = (parts.0, rest.inside); apart = (all_apart e es others.0, rest.apart) }
-
-placed_well : (rows columns : ℕ) (es : List Rectangle) → Placed rows columns es → lie_well rows columns es ≡ true
-unfolding IsDistinct
-placed_well rows columns [] p = refl
-placed_well rows columns (e ∷ es) p = and_from _ _ p.inside.0 (and_from _ _ (all-not e es p.apart.0) (placed_well rows columns es (record { inside = p.inside.1; apart = p.apart.1 })))
-
 placed-moved : (rows columns : ℕ) (es fs : List Rectangle) → IsPermutation es fs → Placed rows columns es → Placed rows columns fs
 placed-moved rows columns es fs moved p = record {
   inside = recursion_from_All _ fs (All-permutation (λ (e : Rectangle). lies_inside rows columns e ≡ true) es fs moved (All-from_recursion _ es p.inside));
@@ -118,36 +103,6 @@ sorted-rising (e ∷ f ∷ es) h =
     let rest : T (is_sorted position_cmp (f ∷ es)) = sorted-rising (f ∷ es) parts.1 in
     let step = less _ (T-from _ parts.0) in
     both (below_all position_cmp e.0 (f ∷ es)) (is_sorted position_cmp (f ∷ es)) (both _ _ (T-from _ parts.0) (below_more e.0 f.0 es step (halves _ _ rest).0)) rest
-
-never_both : (b : Bool) → b ≡ true → b ≡ false → ⊥
-never_both b h k = cc
-
-rising_drop : (n : ℕ) (es : List Rectangle) → rising es ≡ true → rising (drop n es) ≡ true
-rising_drop zero es h = h
-rising_drop (suc n) [] h = refl
-rising_drop (suc n) (e ∷ []) h = rising_drop n [] refl
-rising_drop (suc n) (e ∷ f ∷ es) h = rising_drop n (f ∷ es) (and_parts _ _ h).1
-
-pub rising_end : (n : ℕ) (es : List Rectangle) → length es ≤ n + 1 → rising (drop n es) ≡ true
-rising_end zero [] h = refl
-rising_end zero (e ∷ []) h = refl
-rising_end zero (e ∷ f ∷ es) h = absurd (omega arith)
-rising_end (suc n) [] h = refl
-rising_end (suc n) (e ∷ es) h = rising_end n es (omega arith)
-
--- an anchor at an index, and the one before it
-module _ (es : List Rectangle) (i : ℕ) (d : Rectangle) (some : 1 ≤ i) (here : i < length es) where
-  from_before : rising (drop (i - 1) es) ≡ (is_lt (position_cmp (get_or es (i - 1) d).0 (get_or es i d).0) && rising (drop i es))
-  from_before =
-      let back : i - 1 + 1 ≡ i = omega arith in
-      let next = drop_more es i d here in
-      ap rising (drop_more es (i - 1) d (omega arith) ∙ ap (λ n. get_or es (i - 1) d ∷ drop n es) back ∙ ap (λ fs. get_or es (i - 1) d ∷ fs) next) ∙ ap (λ fs. is_lt (position_cmp (get_or es (i - 1) d).0 (get_or es i d).0) && rising fs) (sym next)
-
-  pub rising_more : is_lt (position_cmp (get_or es (i - 1) d).0 (get_or es i d).0) ≡ true → rising (drop i es) ≡ true → rising (drop (i - 1) es) ≡ true
-  rising_more low up = from_before ∙ and_from _ _ low up
-
-  pub rising_stop : is_lt (position_cmp (get_or es (i - 1) d).0 (get_or es i d).0) ≡ false → rising es ≡ false
-  rising_stop high = false_from_ne_true _ (λ t. never_both _ (and_parts _ _ (sym from_before ∙ rising_drop (i - 1) es t)).0 high)
 
 -- neighbours in order, none of which shares a cell with another, rise
 not_above : (e f : Rectangle) → meets e f ≡ false → IsSpanSize e.1 → IsSpanSize f.1 → is_lt (position_cmp f.0 e.0) ≡ false → (o : Ordering) → position_cmp e.0 f.0 ≡ o → is_lt (position_cmp e.0 f.0) ≡ true
@@ -252,11 +207,26 @@ sizes-moved : (es fs : List Rectangle) → IsPermutation es fs → AllByRecursio
 sizes-moved es fs moved sizes = recursion_from_All _ fs (All-permutation (λ (e : Rectangle). IsSpanSize e.1) es fs moved (All-from_recursion _ es sizes))
 
 -- what rises is a list of anchors
-pub anchors_of : (es fs : List Rectangle) → InOrder es fs → rising fs ≡ true → AreAnchors fs
+anchors_of : (es fs : List Rectangle) → InOrder es fs → rising fs ≡ true → AreAnchors fs
 anchors_of es fs h high = record { sorted = sorted-rising fs high; sizes = sizes-moved es fs h.moved h.sizes }
 
 map_is : (es fs : List Rectangle) → InOrder es fs → rising fs ≡ true → from_sorted {R = position_cmp} fs ≡ from_entries {R = position_cmp} es
 map_is es fs h high = same_map positions_total positions_exact _ _ (λ q. get-from_sorted position_cmp fs q (sorted-rising fs high) ∙ sym (same_found es fs h.moved (sorted-rising fs high) q) ∙ sym (get-from_entries positions_total es q))
+
+-- places come row by row
+row_le : (p q : Position) → is_lt (position_cmp q p) ≡ false → p.row ≤ q.row
+row_le p q low = by (cases_lt q.row p.row)
+  where
+    never : true ≡ false → ⊥
+    never e = cc
+
+    by : (q.row < p.row) ⊎ (p.row ≤ q.row) → p.row ≤ q.row
+    by (inl below) = absurd (never (sym (rw (lt-ltb q.row p.row below) refl) ∙ low))
+    by (inr past) = past
+
+-- so sorted anchors rise by rows
+pub rows_rise : (es fs : List Rectangle) → InOrder es fs → RowsRise fs
+rows_rise es fs h k d high = row_le (get_or fs k d).0 (get_or fs (k + 1) d).0 (h.up k d (omega arith) high)
 
 pub sorted_sizes : (es fs : List Rectangle) → InOrder es fs → AllByRecursion (λ (e : Rectangle). IsSpanSize e.1) fs
 sorted_sizes es fs h = sizes-moved es fs h.moved h.sizes
@@ -269,6 +239,10 @@ fit_back rows columns es fs moved h = placed-to rows columns [] es (placed-moved
 rises : (rows columns : ℕ) (es fs : List Rectangle) → InOrder es fs → fit_in rows columns fs ≡ true → rising fs ≡ true
 rises rows columns es fs h fit = rising-sorted fs (sorted_sizes es fs h) (placed-from rows columns [] fs fit).0.apart h.up
 
+-- so they are those of the map of all
+pub map_of_sorted : (rows columns : ℕ) (es fs : List Rectangle) → InOrder es fs → fit_in rows columns fs ≡ true → AreAnchors fs × (from_sorted {R = position_cmp} fs ≡ from_entries {R = position_cmp} es)
+map_of_sorted rows columns es fs h fit = let up = rises rows columns es fs h fit in (anchors_of es fs h up, map_is es fs h up)
+
 -- anchors have places just where they have them in order
 pub told : (rows columns : ℕ) (es fs : List Rectangle) → IsPermutation es fs → fit_in rows columns fs ≡ fit_in rows columns es
 told rows columns es fs moved = by (cases_Bool (fit_in rows columns fs))
@@ -279,28 +253,3 @@ told rows columns es fs moved = by (cases_Bool (fit_in rows columns fs))
     by : (fit_in rows columns fs ≡ true) ⊎ (fit_in rows columns fs ≡ false) → fit_in rows columns fs ≡ fit_in rows columns es
     by (inl fit) = fit ∙ sym (fit_back rows columns es fs moved fit)
     by (inr unfit) = unfit ∙ sym (false_from_ne_true _ (λ fit. never (sym (fit_back rows columns fs es (IsPermutation-sym es fs moved) fit) ∙ unfit)))
-
--- anchors that do not rise in order have no places
-pub unrisen : (rows columns : ℕ) (es fs : List Rectangle) → InOrder es fs → rising fs ≡ false → fit_in rows columns es ≡ false
-unrisen rows columns es fs h low = false_from_ne_true _ (λ fit. never_both _ (rises rows columns es fs h (told rows columns es fs h.moved ∙ fit)) low)
-
--- those that do have them just where their map fits
-pub fits_told : (rows columns : ℕ) (es fs : List Rectangle) (m : SpanMap) (b : Bool) → InOrder es fs → rising fs ≡ true → m ≡ from_sorted fs → Decides b (Fits m rows columns) → b ≡ fit_in rows columns es
-fits_told rows columns es fs m b h up is decides = by (cases_Bool b)
-  where
-    valid : AreAnchors fs
-    valid = anchors_of es fs h up
-
-    by : (b ≡ true) ⊎ (b ≡ false) → b ≡ fit_in rows columns es
-    by (inl t) =
-        let well = well_fits rows columns fs valid (subst (λ (n : SpanMap). Fits n rows columns) is (decides.0 t)) in
-        t ∙ sym (placed-to rows columns [] fs (well_placed rows columns fs well) (meet_none fs)) ∙ told rows columns es fs h.moved
-    by (inr f) = f ∙ sym (false_from_ne_true _ (λ fit.
-        let placed = (placed-from rows columns [] fs (told rows columns es fs h.moved ∙ fit)).0 in
-        never_both b (decides.1 (subst (λ (n : SpanMap). Fits n rows columns) (sym is) (fits_well rows columns fs valid (placed_well rows columns fs placed)))) f))
-
--- what the map of sorted anchors has
-pub listed_again : (es fs gs : List Rectangle) (m : SpanMap) → InOrder es fs → rising fs ≡ true → m ≡ from_sorted fs → gs ≡ entries m → AreAnchors gs × (from_sorted {R = position_cmp} gs ≡ from_entries {R = position_cmp} es)
-listed_again es fs gs m h up is listed =
-    let same : gs ≡ fs = listed ∙ ap entries is ∙ entries-from_sorted position_cmp fs (sorted-rising fs up) in
-    rw same (anchors_of es fs h up, map_is es fs h up)

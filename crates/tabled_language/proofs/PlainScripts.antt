@@ -12,7 +12,9 @@ use Rattle.tabled_grid.specs.Spans.{Rectangle, SpanMap}
 use Rattle.tabled_steps.specs.States.{State}
 use Rattle.tabled_language.specs.declared.fault.Fault.{Fault}
 use Rattle.tabled_language.specs.declared.fault.Fault.TheVariants.{OutOfPlace}
-use Rattle.tabled_language.specs.Line.{Script, anchor_in, fault_among, fault_of, first_fault, is_in_place, line_of, meaning_of, parse, record_in, script_or_fault, shape_fault, span_fault, step_in, table_from}
+use Rattle.tabled_language.specs.Faults.{fault_among, fault_of, first_fault, is_in_place, shape_fault, span_fault}
+use Rattle.tabled_language.specs.Line.{anchor_in, line_of, meaning_of, record_in, step_in, table_from}
+use Rattle.tabled_language.specs.Script.{Script, parse, script_or_fault}
 use Rattle.tabled_language.specs.Plain.{begin_a_table, has_either_word, is_step, plain_fault, plain_line_of, plain_meaning_of, plain_parse, plain_script, says_plainly}
 use Rattle.tabled_language.specs.Line.{lines_of, texts_of, words_of}
 use Rattle.tabled_language.specs.Verb.{Line, EmptyLine, RecordLine, ShapeLine, SpanLine, StepLine, FaultyLine, says, step_line, steps}

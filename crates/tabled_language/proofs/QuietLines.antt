@@ -10,7 +10,8 @@ use Rattle.tabled_grid.specs.Anchors.{lie_well, lies_inside, meets}
 use Rattle.tabled_grid.specs.Grid.{Grid}
 use Rattle.tabled_grid.specs.Spans.{Rectangle}
 use Rattle.tabled_language.specs.declared.fault.Fault.{Fault}
-use Rattle.tabled_language.specs.Line.{anchor_in, fault_of, first_fault, is_in_place, may_follow, record_in, shape_fault, span_fault, step_in}
+use Rattle.tabled_language.specs.Faults.{fault_of, first_fault, is_in_place, may_follow, shape_fault, span_fault}
+use Rattle.tabled_language.specs.Line.{anchor_in, record_in, step_in}
 use Rattle.tabled_language.specs.Placed.{has_place}
 use Rattle.tabled_language.specs.Verb.{Line, EmptyLine, ShapeLine, RecordLine, SpanLine}
 use Rattle.tabled_language.proofs.LooseLines.{loose_place}

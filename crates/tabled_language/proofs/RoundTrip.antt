@@ -9,7 +9,9 @@ use Rattle.tabled_grid.specs.Anchors.{lie_well}
 use Rattle.tabled_grid.specs.Grid.{Grid}
 use Rattle.tabled_grid.specs.Spans.{Rectangle, SpanMap}
 use Rattle.tabled_steps.specs.States.{State}
-use Rattle.tabled_language.specs.Line.{Script, fault_among, first_fault, line_of, lines_of, parse, record_in, script_of, script_or_fault, shape_fault, span_fault, table_from}
+use Rattle.tabled_language.specs.Faults.{fault_among, first_fault, shape_fault, span_fault}
+use Rattle.tabled_language.specs.Line.{line_of, lines_of, record_in, table_from}
+use Rattle.tabled_language.specs.Script.{Script, parse, script_of, script_or_fault}
 use Rattle.tabled_language.specs.Output.{joined, line, print, span_line}
 use Rattle.tabled_language.specs.RoundTrip.{IsTable, ReadsBack}
 use Rattle.tabled_language.specs.Verb.{Line, RecordLine}

@@ -7,9 +7,12 @@ use Rattle.std.specs.Global.{Vec}
 use Rattle.tabled_grid.specs.Grid.{Grid, map_items}
 use Rattle.tabled_grid.specs.Spans.{SpanMap}
 use Rattle.tabled_table.specs.Builder.{longest}
+use Rattle.tabled_language.specs.declared.draft.Shape.{Shape}
 use Rattle.tabled_language.specs.declared.fault.Fault.TheVariants.{ShapeDiffers, SpanMisfits}
 use Rattle.tabled_language.specs.Drafts.{Draft, draft_of, shape_misfit}
-use Rattle.tabled_language.specs.Line.{Script, fault_of, first_fault, script_or_fault, table_from}
+use Rattle.tabled_language.specs.Faults.{fault_of, first_fault}
+use Rattle.tabled_language.specs.Line.{table_from}
+use Rattle.tabled_language.specs.Script.{Script, script_or_fault}
 use Rattle.tabled_language.specs.Placed.{IsFirstMisfit, fit_in}
 use Rattle.tabled_language.specs.Verb.{Line}
 use Rattle.tabled_language.proofs.DraftSteps.{all_fits, shape_differs, span_misfits}
@@ -39,7 +42,7 @@ pub has_shape : {A : Type 0} (f : A → List ℕ) (rows : List (List A)) (r c : 
 has_shape f rows r c tall wide = record { tall = tall ∙ sym (length-map rows (map f)) ∙ sym (table_rows (map (map f) rows)); wide = wide ∙ sym (longest-map f rows) ∙ sym (table_columns (map (map f) rows)) }
 
 -- what a shape beside a table is depends on the table's shape alone
-misfit-alike : (g : Grid (List ℕ)) (rows columns : ℕ) (s : Option (ℕ × (ℕ × ℕ))) → rows ≡ g.rows → columns ≡ g.columns → shape_misfit (record { rows = rows; columns = columns; cells = [] }) s ≡ shape_misfit g s
+misfit-alike : (g : Grid (List ℕ)) (rows columns : ℕ) (s : Option Shape) → rows ≡ g.rows → columns ≡ g.columns → shape_misfit (record { rows = rows; columns = columns; cells = [] }) s ≡ shape_misfit g s
 misfit-alike g rows columns None tall wide = refl
 misfit-alike g rows columns (Some shape) tall wide = rw (tall, wide) refl
 

@@ -14,7 +14,10 @@ use Rattle.tabled_language.specs.declared.fault.Fault.TheVariants.{OutOfPlace}
 use Rattle.tabled_language.specs.declared.fault.ReadError.{ReadError}
 use Rattle.tabled_language.specs.declared.fault.ReadError.TheVariants.{Faulty, OutOfMemory}
 use Rattle.tabled_language.specs.Drafts.{Draft, draft_of, fault_behind, takes, with_line}
-use Rattle.tabled_language.specs.Line.{anchor_in, fault_of, first_fault, is_in_place, is_plain, line_asks, line_of, lines_ask, lines_of, meaning_of, script_or_fault, texts_of, words_ask, words_fault, words_of}
+use Rattle.tabled_language.specs.Faults.{fault_of, first_fault, is_in_place, words_fault}
+use Rattle.tabled_language.specs.Line.{anchor_in, is_plain, line_of, lines_of, meaning_of, texts_of, words_of}
+use Rattle.tabled_language.specs.Memory.{line_asks, lines_ask, words_ask}
+use Rattle.tabled_language.specs.Script.{script_or_fault}
 use Rattle.tabled_language.specs.Parsing.{LineEnds, ReadsLine, ReadsScript, ScriptEnds}
 use Rattle.tabled_language.specs.Sizes.{reads_anchor, reads_shape}
 use Rattle.tabled_language.specs.Verb.{Line, RecordLine, ShapeLine, SpanLine, step_line, steps}

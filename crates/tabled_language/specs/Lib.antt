@@ -2,14 +2,17 @@ pub mod Drafts
 pub mod Faults
 pub mod Lent
 pub mod Line
+pub mod Memory
 pub mod Output
 pub mod Parsing
 pub mod Parts
 pub mod Placed
 pub mod Plain
 pub mod RoundTrip
+pub mod Script
 pub mod Selectors
 pub mod Sizes
 pub mod Verb
+pub mod Walk
 pub mod Word
 pub mod Words

@@ -1,22 +1,27 @@
 -- What the code's values say of a script (`script_in`), and how it goes through one, step by step. Nothing of it belongs to the language.
-use Rattle.std.specs.Prelude.{◌≡◌, ◌<◌, ℕ, Bool, true, List, [], length, Option, None, Some, Result, Ok, Err, MatchResult, map}
-use Rattle.std.specs.Global.{Vec}
-use Rattle.std.specs.List.{AllByRecursion}
+use Rattle.std.specs.Prelude.{◌≡◌, ◌<◌, ℕ, Bool, true, false, List, [], length, Option, None, Some, Result, Ok, Err, MatchResult, String, map}
+use Rattle.std.specs.Global.{Global, Vec}
 use Rattle.std.specs.Slice.Iter.{iter_rest}
+use Rattle.std.specs.String.{string_bytes}
 use Rattle.tabled_grid.specs.Grid.{map_items}
-use Rattle.tabled_grid.specs.Spans.{IsSpanSize, Rectangle, SpanMap}
+use Rattle.tabled_grid.specs.Spans.{SpanMap}
 use Rattle.tabled_steps.specs.States.{after}
 use Rattle.tabled_steps.specs.declared.step.Step.{Step}
 use Rattle.tabled_language.specs.declared.draft.Draft.{Draft as Drafted}
 use Rattle.tabled_language.specs.declared.fault.Fault.{Fault}
+use Rattle.tabled_language.specs.declared.fault.Fault.TheVariants.{OutOfPlace}
 use Rattle.tabled_language.specs.declared.fault.ReadError.{ReadError}
 use Rattle.tabled_language.specs.declared.fault.ReadError.TheVariants.{Faulty, OutOfMemory}
 use Rattle.tabled_language.specs.declared.lent.LentText.{LentText}
+use Rattle.tabled_language.specs.declared.script.Script.{Script as Scripted}
 use Rattle.tabled_language.specs.declared.words.Source.{Source}
 use Rattle.tabled_language.specs.declared.words.Source.TheVariants.{Line as InLine, Texts}
-use Rattle.tabled_language.specs.Drafts.{Draft, draft_of, fault_behind, with_line}
+use Rattle.tabled_language.specs.Drafts.{Draft, draft_of, fault_behind, takes, with_line}
 use Rattle.tabled_language.specs.Lent.{bytes_of}
-use Rattle.tabled_language.specs.Line.{Script, asks_memory, fault_of, first_fault, line_of, lines_of, parse}
+use Rattle.tabled_language.specs.Faults.{fault_of, first_fault}
+use Rattle.tabled_language.specs.Line.{line_of, lines_of, meaning_of}
+use Rattle.tabled_language.specs.Memory.{asks_memory, words_ask}
+use Rattle.tabled_language.specs.Script.{Script, parse, script_or_fault}
 use Rattle.tabled_language.specs.Verb.{Line}
 use Rattle.tabled_language.specs.Words.{Reading}
 
@@ -34,13 +39,29 @@ EndsEarly reading texts OutOfMemory = reading.asks texts ≡ true
 abbrev pub Reads : {A X : Type 0} → (X → A) → Reading A → List (List ℕ) → Result X ReadError → List (List ℕ) → Type 0
 Reads view reading old result new = MatchResult result (λ x. reading.reads old ≡ Ok (view x, new)) (EndsEarly reading old)
 
+-- the texts of rows of cells in memory
+abbrev pub cell_texts : List (Vec (String Global)) → List (List (List ℕ))
+cell_texts rows = map (map string_bytes) (map_items rows)
+
+-- code takes what it is to take, seen through a view, and leaves the texts that it is to leave, or memory was refused
+abbrev pub Takes : {A X : Type 0} → (X → A) → A → List (List ℕ) → Result X ReadError → List (List ℕ) → Type 0
+Takes view taken left result new = MatchResult result (λ x. (view x ≡ taken) × (new ≡ left)) (λ error. error ≡ OutOfMemory)
+
 -- the draft of what is in memory
 abbrev pub draft_in : Drafted → Draft
-draft_in d = record { shape = d.shape; records = map (map bytes_of) (map_items d.records.items); anchors = d.anchors.items; lines = d.lines.items; steps = map after d.steps.items }
+draft_in d = record { shape = d.shape; records = map (map bytes_of) (map_items d.records.items); anchors = d.spans.anchors; lines = d.spans.numbers; steps = map after d.steps.items }
 
 -- the script of what is in memory
 abbrev pub script_in : List (Vec LentText) → SpanMap → List Step → Script
 script_in records spans steps = record { records = map (map bytes_of) (map_items records); spans = spans; steps = map after steps }
+
+-- an answer in memory is the script that is meant, or the number of a line and its fault
+abbrev pub IsAnswer : Result Script (ℕ × Fault) → Result Scripted (ℕ × Fault) → Type 0
+IsAnswer meant answer = MatchResult answer (λ s. meant ≡ Ok (script_in s.records.items s.spans s.steps.items)) (λ fault. meant ≡ Err fault)
+
+-- an answer is what the lines of a draft mean, where none of them is faulty by itself
+abbrev pub AnswersDraft : Draft → Result Scripted (ℕ × Fault) → Type 0
+AnswersDraft d answer = (lines : List Line) → first_fault fault_of [] lines ≡ None → d ≡ draft_of lines → IsAnswer (script_or_fault lines) answer
 
 -- why a line isn't read: its fault, or memory where it asks for some
 abbrev pub LineEnds : Option Fault → Bool → ReadError → Type 0
@@ -51,9 +72,13 @@ LineEnds wrong asks OutOfMemory = asks ≡ true
 abbrev pub ReadsLine : {X : Type 0} → Draft → ℕ → Line → Bool → Result X ReadError → Draft → Type 0
 ReadsLine old n line asks result new = MatchResult result (λ _. (fault_behind old line ≡ None) × (new ≡ with_line old n line)) (LineEnds (fault_behind old line) asks)
 
--- each anchor has the size of more than one cell, and the number of a line
-abbrev pub IsNumbered : Drafted → Type 0
-IsNumbered d = AllByRecursion (λ (e : Rectangle). IsSpanSize e.1) d.anchors.items × (length d.lines.items ≡ length d.anchors.items)
+-- the words of the line of a number read into a draft, or why they aren't
+abbrev pub ReadsWords : {X : Type 0} → Draft → ℕ → List (List ℕ) → Result X ReadError → Draft → Type 0
+ReadsWords old n words result new = ReadsLine old n (meaning_of (Some words)) (words_ask (takes old) words) result new
+
+-- code says that a line stands in its place after what was read, or that it doesn't
+abbrev pub IsPlaced : {X : Type 0} → Draft → Line → Result X ReadError → Type 0
+IsPlaced d line result = MatchResult result (λ _. takes d line ≡ true) (λ error. (error ≡ Faulty OutOfPlace) × (takes d line ≡ false))
 
 -- all lines of a script are read into a draft, and none is faulty by itself
 pub record ReadsScript (input : List ℕ) (draft : Draft) : Type 0 where

@@ -1,9 +1,9 @@
 -- Rectangles that come one after another, each with a place of its own.
-use Rattle.std.specs.Prelude.{◌≡◌, ◌<◌, ℕ, ◌&&◌, Bool, true, false, length, get_or, take, List, [], ◌∷◌, ◌++◌, not}
+use Rattle.std.specs.Prelude.{◌≡◌, ◌<◌, ℕ, ◌&&◌, Bool, true, false, length, get_or, take, List, [], ◌∷◌, ◌++◌, MatchResult, Result, not}
+use Rattle.std.specs.FinMap.{from_entries}
 use Rattle.std.specs.List.{list_any}
-use Rattle.std.specs.Ordering.{is_lt}
 use Rattle.tabled_grid.specs.Anchors.{lies_inside, meets}
-use Rattle.tabled_grid.specs.Spans.{Rectangle, position_cmp}
+use Rattle.tabled_grid.specs.Spans.{Rectangle, SpanMap}
 
 -- a rectangle lies inside a table, and shares no cell with those of anchors
 abbrev pub has_place : ℕ → ℕ → List Rectangle → Rectangle → Bool
@@ -14,12 +14,6 @@ abbrev pub have_places : ℕ → ℕ → List Rectangle → List Rectangle → B
 have_places rows columns done [] = true
 have_places rows columns done (e ∷ es) = has_place rows columns done e && have_places rows columns (done ++ e ∷ []) es
 
--- each anchor stands before the next, row by row
-abbrev pub rising : List Rectangle → Bool
-rising [] = true
-rising (e ∷ []) = true
-rising (e ∷ f ∷ es) = is_lt (position_cmp e.0 f.0) && rising (f ∷ es)
-
 -- all anchors have places
 abbrev pub fit_in : ℕ → ℕ → List Rectangle → Bool
 fit_in rows columns es = have_places rows columns [] es
@@ -29,3 +23,16 @@ pub record IsFirstMisfit (rows columns : ℕ) (es : List Rectangle) (i : ℕ) : 
   pub within : i < length es
   pub before : fit_in rows columns (take i es) ≡ true
   pub there : (d : Rectangle) → has_place rows columns (take i es) (get_or es i d) ≡ false
+
+-- an answer is the merged cells of anchors that all have places, or the index of the first that has none
+abbrev pub MergesOrMisfits : ℕ → ℕ → List Rectangle → Result SpanMap ℕ → Type 0
+MergesOrMisfits rows columns es answer = MatchResult answer (λ spans. (fit_in rows columns es ≡ true) × (spans ≡ from_entries es)) (λ misfit. IsFirstMisfit rows columns es misfit)
+
+-- anchors in the order of their lines, and the numbers of these lines
+pub record NumberedAnchors : Type 0 where
+  pub anchors : List Rectangle
+  pub numbers : List ℕ
+
+-- an answer is the merged cells of anchors that all have places, or the number of the line of the first that has none
+abbrev pub MergesOrNames : ℕ → ℕ → NumberedAnchors → Result SpanMap ℕ → Type 0
+MergesOrNames rows columns es answer = MatchResult answer (λ spans. (fit_in rows columns es.anchors ≡ true) × (spans ≡ from_entries es.anchors)) (λ number. (i : ℕ) × IsFirstMisfit rows columns es.anchors i × (number ≡ get_or es.numbers i 0))

@@ -5,10 +5,11 @@ use Rattle.std.specs.List.{list_any}
 use Rattle.std.specs.Str.{bytes_eq}
 use Rattle.tabled_language.specs.declared.fault.Fault.{Fault}
 use Rattle.tabled_language.specs.declared.fault.Fault.TheVariants.{Escape, OutOfPlace}
-use Rattle.tabled_language.specs.Line.{Script, first_fault, record_in, step_in}
+use Rattle.tabled_language.specs.Faults.{first_fault}
+use Rattle.tabled_language.specs.Line.{record_in, step_in}
+use Rattle.tabled_language.specs.Script.{Script}
 use Rattle.tabled_language.specs.Line.{lines_of, texts_of, words_of}
-use Rattle.tabled_language.specs.Verb.{Line, EmptyLine, RecordLine, StepLine, FaultyLine, step_line, steps}
-use Rattle.tabled_language.specs.Words.{behind, whole}
+use Rattle.tabled_language.specs.Verb.{Line, EmptyLine, RecordLine, StepLine, FaultyLine, says_step}
 
 -- texts begin with `shape` or `span`
 abbrev pub begin_a_table : Option (List (List ℕ)) → Bool
@@ -22,7 +23,7 @@ has_either_word input = list_any (λ line. begin_a_table (texts_of (words_of lin
 
 -- what a verb says with the texts after it: a record or a step
 abbrev pub says_plainly : List ℕ → List (List ℕ) → Line
-says_plainly verb texts = if bytes_eq verb (codes "row") then RecordLine texts else step_line (whole (behind steps verb) texts)
+says_plainly verb texts = if bytes_eq verb (codes "row") then RecordLine texts else says_step verb texts
 
 -- what a line's texts say
 abbrev pub plain_meaning_of : Option (List (List ℕ)) → Line

@@ -5,7 +5,7 @@ use Rattle.std.specs.Str.{IsUtf8}
 use Rattle.tabled_grid.specs.Grid.{IsEmptyWithoutRows, IsEven}
 use Rattle.tabled_grid.specs.Fitting.{Fits}
 use Rattle.tabled_steps.specs.States.{State}
-use Rattle.tabled_language.specs.Line.{Script, parse, start}
+use Rattle.tabled_language.specs.Script.{Script, parse, start}
 use Rattle.tabled_language.specs.Output.{print}
 use Rattle.tabled_language.specs.Word.{largest_size}
 

@@ -174,10 +174,22 @@ steps =
     ∷ (codes "split", reads_split)
     ∷ []
 
+-- what the texts after `shape` say
+abbrev pub says_shape : List (List ℕ) → Line
+says_shape texts = ShapeLine (whole reads_shape texts)
+
+-- what the texts after `span` say
+abbrev pub says_span : List (List ℕ) → Line
+says_span texts = SpanLine (whole reads_anchor texts)
+
+-- what the texts after the verb of a step say
+abbrev pub says_step : List ℕ → List (List ℕ) → Line
+says_step verb texts = step_line (whole (behind steps verb) texts)
+
 -- what a verb says with the texts after it
 abbrev pub says : List ℕ → List (List ℕ) → Line
 says verb texts =
     if bytes_eq verb (codes "row") then RecordLine texts
-    else (if bytes_eq verb (codes "shape") then ShapeLine (whole reads_shape texts)
-    else (if bytes_eq verb (codes "span") then SpanLine (whole reads_anchor texts)
-    else step_line (whole (behind steps verb) texts)))
+    else (if bytes_eq verb (codes "shape") then says_shape texts
+    else (if bytes_eq verb (codes "span") then says_span texts
+    else says_step verb texts))

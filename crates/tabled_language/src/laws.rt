@@ -1,7 +1,7 @@
 //! Laws of what is written and read. Each is the contract of a function that does nothing.
 
 ghost use Rattle.std.specs.Prelude.{◌≡◌, ℕ, List, false};
-ghost use Rattle.tabled_language.specs.Line.{parse};
+ghost use Rattle.tabled_language.specs.Script.{parse};
 ghost use Rattle.tabled_language.specs.Plain.{has_either_word, plain_parse};
 ghost use Rattle.tabled_language.specs.RoundTrip.{IsTable, ReadsBack};
 ghost use Rattle.tabled_steps.specs.States.{State};

@@ -15,6 +15,7 @@ mod sizes;
 mod spans;
 mod texts;
 mod verbs;
+mod walk;
 mod word;
 mod words;
 

@@ -1,8 +1,9 @@
 //! A script: its records, its merged cells and its steps.
 
-ghost use Rattle.std.specs.Prelude.{◌≡◌, IfOk, MatchResult, OnErr, Ok, Err, true};
-ghost use Rattle.tabled_language.specs.Line.{asks_memory, parse};
-ghost use Rattle.tabled_language.specs.Parsing.{IsNumbered, ReadsScript, ScriptEnds, draft_in, script_in};
+ghost use Rattle.std.specs.Prelude.{◌≡◌, IfOk, MatchResult, OnErr, true};
+ghost use Rattle.tabled_language.specs.Memory.{asks_memory};
+ghost use Rattle.tabled_language.specs.Script.{parse};
+ghost use Rattle.tabled_language.specs.Parsing.{IsAnswer, ReadsScript, ScriptEnds, draft_in};
 
 use crate::draft::Draft;
 use crate::fault::{Fault, ReadError};
@@ -23,8 +24,7 @@ pub struct Script<'a> {
 
 /// What the lines of bytes say, or the number of the line that isn't read and why.
 fn read_lines<'a>(alloc: Global, input: &'a [u8]) -> Result<Draft<'a>, (usize, ReadError)>
-    ensures read { MatchResult result (λ d. ReadsScript input.now (draft_in d)) (ScriptEnds input.now) }
-    ensures sizes { IfOk result (λ d. IsNumbered d) }
+    ensures { MatchResult result (λ d. ReadsScript input.now (draft_in d)) (ScriptEnds input.now) }
 {
     let mut draft = Draft::new(alloc);
     let mut number = 0;
@@ -47,7 +47,7 @@ pub fn parse<'a>(
     alloc: Global,
     input: &'a [u8],
 ) -> Result<Result<Script<'a>, (usize, Fault)>, AllocError>
-    ensures script { IfOk result (λ script. MatchResult script (λ s. parse input.now ≡ Ok (script_in s.records.items s.spans s.steps.items)) (λ fault. parse input.now ≡ Err fault)) }
+    ensures script { IfOk result (IsAnswer (parse input.now)) }
     ensures memory { OnErr result (asks_memory input.now ≡ true) }
 {
     match read_lines(alloc, input) {

@@ -1,30 +1,100 @@
-//! Anchors in the order of their lines, and the merged cells that they make.
+//! What `span` lines say, and the merged cells that their anchors make.
 
-ghost use Rattle.std.specs.Prelude.{false, true, ◌≡◌, ◌+◌, ◌<◌, ◌≤◌, ℕ, IfOk, MatchResult, OnErr, length};
+ghost use Rattle.std.specs.Prelude.{false, true, ◌≡◌, ◌+◌, ◌<◌, ◌≤◌, IfOk, OnErr, length};
 ghost use Rattle.std.specs.FinMap.{from_entries, from_sorted};
 ghost use Rattle.std.specs.List.{AllByRecursion};
 ghost use Rattle.tabled_grid.specs.Spans.{AreAnchors, IsSpanSize, Rectangle, position_cmp};
-ghost use Rattle.tabled_language.specs.Placed.{IsFirstMisfit, fit_in, rising};
+ghost use Rattle.tabled_language.specs.Placed.{IsFirstMisfit, MergesOrMisfits, fit_in};
 
+use crate::walk::have_places;
 use std::alloc::{AllocError, Global};
-use std::mem;
+use std::marker::Model;
 use tabled_grid::config::{Rectangle, SpannedConfig};
+
+/// What `span` lines say, in their order: anchors, and the numbers of the lines.
+#[derive(Drop)]
+pub(crate) struct SpanLines {
+    anchors: Vec<Rectangle>,
+    /// One more where memory for an anchor was refused.
+    numbers: Vec<usize>,
+}
+
+impl Model for SpanLines {
+    ghost use Rattle.std.specs.Prelude.{◌≤◌, length};
+    ghost use Rattle.std.specs.List.{AllByRecursion};
+    ghost use Rattle.tabled_grid.specs.Spans.{IsSpanSize, Rectangle};
+    ghost use Rattle.tabled_language.specs.Placed.{NumberedAnchors};
+
+    ghost Value = { NumberedAnchors };
+
+    ghost view = { λ a. record { anchors = a.anchors.items; numbers = a.numbers.items } };
+
+    ghost invariant = { λ a. record { sizes : AllByRecursion (λ (e : Rectangle). IsSpanSize e.1) a.anchors.items; numbered : length a.anchors.items ≤ length a.numbers.items } };
+}
+
+impl SpanLines {
+    ghost use Rattle.std.specs.Prelude.{[], ◌≡◌, ◌<◌, ◌∷◌, ◌++◌, IfOk, OnErr, length};
+    ghost use Rattle.tabled_grid.specs.Spans.{IsSpanSize};
+    ghost use Rattle.tabled_language.specs.Drafts.{is_nil};
+    ghost use Rattle.tabled_language.specs.Placed.{MergesOrNames};
+
+    pub(crate) fn new(alloc: Global) -> Self
+        ensures { result ≡ record { anchors = []; numbers = [] } }
+    {
+        SpanLines {
+            anchors: Vec::new(alloc),
+            numbers: Vec::new(alloc),
+        }
+    }
+
+    pub(crate) fn is_empty(&self) -> bool
+        ensures { result ≡ is_nil self.now.anchors }
+    {
+        self.anchors.is_empty()
+    }
+
+    /// Adds the anchor that the line of a number says.
+    pub(crate) fn push(&mut self, number: usize, anchor: Rectangle) -> Result<(), AllocError>
+        requires { IsSpanSize anchor.1 }
+        ensures anchors { IfOk result (λ _. self.new.anchors ≡ self.old.anchors ++ anchor ∷ []) }
+        ensures numbers { IfOk result (λ _. self.new.numbers ≡ self.old.numbers ++ number ∷ []) }
+    {
+        self.numbers.push(number)?;
+        self.anchors.push(anchor)?;
+        Ok(())
+    }
+
+    /// The merged cells of the anchors, or the number of the first line whose rectangle leaves the table or
+    /// shares a cell with that of one before it. It takes no memory where there are no anchors.
+    pub(crate) fn merged(
+        &self,
+        alloc: Global,
+        rows: usize,
+        columns: usize,
+    ) -> Result<Result<SpannedConfig, usize>, AllocError>
+        ensures answer { IfOk result (MergesOrNames rows columns self.now) }
+        ensures memory { OnErr result (0 < length self.now.anchors) }
+    {
+        match merged_or_misfit(alloc, &self.anchors, rows, columns)? {
+            Ok(spans) => Ok(Ok(spans)),
+            Err(misfit) => Ok(Err(self.numbers[misfit])),
+        }
+    }
+}
 
 /// The merged cells of anchors, or the index of the first whose rectangle leaves the table or shares a
 /// cell with that of one before it. It takes no memory where there are no anchors.
 ///
-/// One sort and one call of the grid decide whether all fit. Where not, the first misfit is searched from
-/// the end, by steps that double, and then by halves: what fits still fits with fewer anchors.
-pub(crate) fn merged_or_misfit(
+/// One sort and one walk decide whether all fit. Where not, the first misfit is searched from the end, by
+/// steps that double, and then by halves: what fits still fits with fewer anchors.
+fn merged_or_misfit(
     alloc: Global,
     anchors: &[Rectangle],
     rows: usize,
     columns: usize,
 ) -> Result<Result<SpannedConfig, usize>, AllocError>
     requires { AllByRecursion (λ (e : Rectangle). IsSpanSize e.1) anchors.now }
-    ensures answer { IfOk result (λ answer. MatchResult answer
-        (λ spans. (fit_in rows columns anchors.now ≡ true) × (spans ≡ from_entries anchors.now))
-        (λ misfit. IsFirstMisfit rows columns anchors.now misfit)) }
+    ensures answer { IfOk result (MergesOrMisfits rows columns anchors.now) }
     ensures memory { OnErr result (0 < length anchors.now) }
 {
     if anchors.is_empty() {
@@ -54,25 +124,7 @@ fn fit(
     sorted.clear();
     sorted.extend_from_slice(anchors)?;
     sorted.sort_unstable_by_key(|anchor| anchor.0);
-    if !rise(sorted) {
-        return Ok(false);
-    }
-    let spans = SpannedConfig::from_anchors(mem::replace(sorted, Vec::new(alloc)));
-    let fit = spans.fits(rows, columns);
-    *sorted = spans.into_anchors();
-    Ok(fit)
-}
-
-/// Says whether each anchor stands before the next, row by row.
-fn rise(anchors: &[Rectangle]) -> bool
-    ensures { result ≡ rising anchors.now }
-{
-    for k in (1..anchors.len()).rev() {
-        if !anchors[k - 1].0.cmp(&anchors[k].0).is_lt() {
-            return false;
-        }
-    }
-    true
+    have_places(alloc, sorted, rows, columns)
 }
 
 /// The index of the first anchor that has no place after those before it.

@@ -14,14 +14,13 @@ use tabled_steps::Step;
 use tabled_table::Table;
 
 impl<'a> Words<'a> {
-    ghost use Rattle.std.specs.Prelude.{◌≡◌, ◌≤◌, ◌*◌, MatchResult, drop, length, map};
+    ghost use Rattle.std.specs.Prelude.{◌≤◌, ◌*◌, drop, length};
     ghost use Rattle.std.specs.String.{string_bytes};
-    ghost use Rattle.tabled_grid.specs.Grid.{map_grid, map_items};
+    ghost use Rattle.tabled_grid.specs.Grid.{map_grid};
     ghost use Rattle.tabled_grid.specs.declared.records.axis.Axis.TheVariants.{Columns, Rows};
-    ghost use Rattle.tabled_language.specs.Parsing.{Reads};
+    ghost use Rattle.tabled_language.specs.Parsing.{Reads, Takes, cell_texts};
     ghost use Rattle.tabled_language.specs.Verb.{reads_clean, reads_concat, reads_cut_panel, reads_dup, reads_extract, reads_footer, reads_header, reads_panel, reads_reverse, reads_set, reads_span, reads_split, reads_table, reads_tabs, reads_turn, removals, rows_of, steps};
     ghost use Rattle.tabled_language.specs.Words.{behind, reads_one_of};
-    ghost use Rattle.tabled_language.specs.declared.fault.ReadError.TheVariants.{OutOfMemory};
     ghost use Rattle.tabled_steps.specs.States.{after};
 
     /// What is after the verb of a step.
@@ -217,7 +216,7 @@ impl<'a> Words<'a> {
     /// r rows of c texts.
     fn rows(&mut self, alloc: Global, rows: usize, columns: usize) -> Read<Vec<Vec<Text<String>>>>
         requires { rows * columns ≤ length self.old }
-        ensures { MatchResult result (λ cells. (map (map string_bytes) (map_items cells.items) ≡ (rows_of rows columns self.old).cells) × (self.new ≡ drop (rows * columns) self.old)) (λ error. error ≡ OutOfMemory) }
+        ensures { Takes (λ cells. cell_texts cells.items) (rows_of rows columns self.old).cells (drop (rows * columns) self.old) result self.new }
     {
         let mut cells = Vec::with_capacity(alloc, rows)?;
         for _ in 0..rows {

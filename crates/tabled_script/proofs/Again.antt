@@ -1,6 +1,6 @@
 -- What is written is read and written again.
 use Rattle.std.proofs.Common.{ap, ◌∙◌}
-use Rattle.tabled_language.specs.Line.{Script, start}
+use Rattle.tabled_language.specs.Script.{Script, start}
 use Rattle.tabled_language.specs.Output.{print}
 use Rattle.tabled_language.specs.RoundTrip.{IsTable, ReadsBack}
 use Rattle.tabled_language.proofs.RoundTrip.{reads_back}

@@ -1,6 +1,6 @@
 -- The output of a script, given to the program once more.
 use Rattle.std.specs.Prelude.{◌≡◌, Ok}
-use Rattle.tabled_language.specs.Line.{Script, parse}
+use Rattle.tabled_language.specs.Script.{Script, parse}
 use Rattle.tabled_grid.specs.Fitting.{Fits}
 use Rattle.tabled_script.specs.Answer.{ended, output_of}
 

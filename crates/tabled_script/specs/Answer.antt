@@ -5,7 +5,7 @@ use Rattle.std.specs.Io.KnownBytes.{Appends}
 use Rattle.std.specs.List.{fold}
 use Rattle.tabled_draw.specs.Picture.{drawn}
 use Rattle.tabled_language.specs.Faults.{fault_number}
-use Rattle.tabled_language.specs.Line.{Script, parse, start}
+use Rattle.tabled_language.specs.Script.{Script, parse, start}
 use Rattle.tabled_language.specs.declared.fault.Fault.{Fault}
 use Rattle.tabled_language.specs.Output.{print}
 use Rattle.tabled_steps.specs.States.{State}

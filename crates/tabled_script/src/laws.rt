@@ -1,6 +1,6 @@
 //! Laws of what the program writes. Each is the contract of a function that does nothing.
 
-ghost use Rattle.tabled_language.specs.Line.{Script};
+ghost use Rattle.tabled_language.specs.Script.{Script};
 ghost use Rattle.tabled_language.specs.RoundTrip.{IsTable};
 ghost use Rattle.tabled_script.specs.Again.{GivesAgain};
 ghost use Rattle.tabled_script.specs.Answer.{ended};

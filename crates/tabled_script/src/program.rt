@@ -4,7 +4,7 @@ ghost use Rattle.std.specs.Prelude.{◌≡◌, ◌⊎◌, ℕ, Ok, Err, IfSome};
 ghost use Rattle.std.specs.Io.KnownBytes.{Appends};
 ghost use Rattle.tabled_script.specs.Again.{FitsAtEnd, GivesAgain};
 ghost use Rattle.tabled_script.specs.Answer.{fault_line, memory_line, output_of, picture_of};
-ghost use Rattle.tabled_language.specs.Line.{Script as Meaning, parse};
+ghost use Rattle.tabled_language.specs.Script.{Script as Meaning, parse};
 ghost use Rattle.tabled_language.specs.declared.fault.Fault.{Fault};
 
 use crate::output::Lines;

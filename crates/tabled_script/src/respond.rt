@@ -3,7 +3,7 @@
 ghost use Rattle.std.specs.Io.KnownBytes.{Appends};
 ghost use Rattle.std.specs.Prelude.{◌≡◌, ◌⊎◌, ℕ, Ok, Err, IfOk, IfSome, IsOk, MatchResult, OnErr, OnOk};
 ghost use Rattle.std.specs.String.{string_bytes};
-ghost use Rattle.tabled_language.specs.Line.{parse};
+ghost use Rattle.tabled_language.specs.Script.{parse};
 ghost use Rattle.tabled_language.specs.Parsing.{script_in};
 ghost use Rattle.tabled_language.specs.declared.fault.Fault.{Fault};
 ghost use Rattle.tabled_script.specs.Answer.{Faults, Shows, ended, fault_line, memory_line};

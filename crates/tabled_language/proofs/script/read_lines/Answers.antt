@@ -10,22 +10,19 @@ use Rattle.tabled_language.proofs.script.read_lines.Goals as goal
 pub overflow_add-number : goal.overflow_add-number
 overflow_add-number c =
     let p = λ (b : ℕ). eqb b 10 in
-    let counted = has_read-counts (rw c.in-Some.ensures.steps at c.loop-line.invariant.read) in
+    let counted = has_read-counts (rw c.in-Some.ensures.steps at c.loop-line.invariant) in
     omega (arith, counted, length-map (lines_of c.args.input.now) line_of, length-map c.next.new.self line_of, length-slice_split p c.args.input.now, count_by-le-length p c.args.input.now)
 
-pub returns-in-Err-clause-read : goal.returns-in-Err-clause-read
-returns-in-Err-clause-read c =
-    script_ends c.args.input.now c.in-Some.line.now c.next.new.self c.loop-line.number (draft_in c.loop-line.draft) c.in-Err.error (rw c.in-Some.ensures.steps at c.loop-line.invariant.read) (rw c.in-Err.is at c.read_line.ensures.read)
+pub returns-in-Err : goal.returns-in-Err
+returns-in-Err c =
+    script_ends c.args.input.now c.in-Some.line.now c.next.new.self c.loop-line.number (draft_in c.loop-line.draft) c.in-Err.error (rw c.in-Some.ensures.steps at c.loop-line.invariant) (rw c.in-Err.is at c.read_line.ensures)
 
 pub loop-line-preserved : goal.loop-line-preserved
 loop-line-preserved c =
-    let read = rw c.in_default.is at c.read_line.ensures.read in
-    record {
-      read = rw read.1 (has_read-more c.in-Some.line.now (rw c.in-Some.ensures.steps at c.loop-line.invariant.read) read.0);
-      numbered = (rw c.in_default.is at c.read_line.ensures.sizes) c.loop-line.invariant.numbered;
-    }
+    let read = rw c.in_default.is at c.read_line.ensures in
+    rw read.1 (has_read-more c.in-Some.line.now (rw c.in-Some.ensures.steps at c.loop-line.invariant) read.0)
 
-pub returns-clause-read : goal.returns-clause-read
-returns-clause-read c =
+pub returns : goal.returns
+returns c =
     let none : ◌≡◌ {A = List (List ℕ)} c.loop-line.line-iterator [] = search rules in
-    has_read-end (rw none at c.loop-line.invariant.read)
+    has_read-end (rw none at c.loop-line.invariant)

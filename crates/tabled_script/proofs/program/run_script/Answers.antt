@@ -1,5 +1,5 @@
 use Rattle.std.proofs.Common.{◌≡◌, ◌∙◌, Result, Ok, Err, ap, subst, sym}
-use Rattle.tabled_language.specs.Line.{Script}
+use Rattle.tabled_language.specs.Script.{Script}
 use Rattle.tabled_language.specs.RoundTrip.{IsTable}
 use Rattle.tabled_script.proofs.Again.{gives_again}
 use Rattle.tabled_script.proofs.Shown.{if_some}

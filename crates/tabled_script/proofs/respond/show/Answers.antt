@@ -4,7 +4,7 @@ use Rattle.std.specs.Result.{OnOk}
 use Rattle.tabled_grid.specs.Grid.{grid_of, map_items}
 use Rattle.tabled_steps.specs.States.{State, after_all, state_of}
 use Rattle.tabled_language.specs.Lent.{bytes_of}
-use Rattle.tabled_language.specs.Line.{start}
+use Rattle.tabled_language.specs.Script.{start}
 use Rattle.tabled_language.specs.Parsing.{script_in}
 use Rattle.tabled_script.proofs.Changes.{after_all-changed}
 use Rattle.tabled_script.specs.Answer.{ended}

@@ -1,9 +1,8 @@
-use Rattle.std.proofs.Common.{arith, rules}
-use Rattle.std.proofs.lemmas.List.{get_or_read, length-map}
+use Rattle.std.proofs.Common.{rules}
+use Rattle.std.proofs.lemmas.List.{length-map}
 use Rattle.tabled_language.specs.Lent.{bytes_of}
 use Rattle.tabled_grid.specs.Grid.{map_items}
 use Rattle.tabled_language.specs.Drafts.{Draft}
-use Rattle.tabled_language.specs.Placed.{IsFirstMisfit}
 use Rattle.tabled_language.specs.Parsing.{draft_in}
 use Rattle.tabled_language.proofs.ScriptChecks.{HasShape, checked_all, checked_shape, checked_span, has_shape}
 use Rattle.tabled_language.proofs.draft.Draft.checked.Goals as goal
@@ -26,6 +25,4 @@ returns-clause-script c = λ lines fine is.
     let d : Draft = draft_in c.args.self in
     let shape : HasShape d.records c.len-rows.result c.longest-columns.result = has_shape bytes_of (map_items c.args.self.records.items) c.len-rows.result c.longest-columns.result (search (rules, length-map)) c.longest-columns.ensures in
     let misfit = rw c.in-Err.is at c.in_ok-spans.ensures.answer in
-    let first : IsFirstMisfit c.len-rows.result c.longest-columns.result c.args.self.anchors.items c.in-Err.misfit = search (rules, misfit) in
-    let number = get_or_read c.args.self.lines.items c.in-Err.misfit c.index.result.now (omega (arith, first.within, c.requires.1)) c.index.ensures 0 in
-    checked_span lines fine d is c.len-rows.result c.longest-columns.result shape c.misshaped.result c.misshaped.ensures c.in-Err.misfit c.index.result.now c.in_default.is first number
+    checked_span lines fine d is c.len-rows.result c.longest-columns.result shape c.misshaped.result c.misshaped.ensures misfit.0 c.in-Err.line c.in_default.is misfit.1 misfit.2

@@ -6,17 +6,17 @@ use Rattle.tabled_language.specs.Parsing.{draft_in}
 use Rattle.tabled_language.proofs.ScriptLines.{line_asks-plain, line_asks-texts, line_of-texts, same_line}
 use Rattle.tabled_language.proofs.draft.Draft.read_line.Goals as goal
 
-pub returns-in-Some-clause-read : goal.returns-in-Some-clause-read
-returns-in-Some-clause-read c =
+pub returns-in-Some : goal.returns-in-Some
+returns-in-Some c =
     let line = c.args.line.now in
     let same = c.in-Some.ensures.0 in
     let some : length line ≢ 0 = search rules in
     let said : line_of line ≡ meaning_of (Some (words_of c.in-Some.line.now)) = line_of-texts line (words_of line) some c.in-Some.ensures.2 ∙ ap (λ bytes. meaning_of (Some (words_of bytes))) (sym same) in
-    same_line (draft_in c.args.self.now) (draft_in c.read_plain.new.self) c.args.number c.read_plain.result _ _ _ _ said (line_asks-plain (takes (draft_in c.args.self.now)) line c.in-Some.line.now same c.in-Some.ensures.1) c.read_plain.ensures.read
+    same_line (draft_in c.args.self.now) (draft_in c.read_plain.new.self) c.args.number c.read_plain.result _ _ _ _ said (line_asks-plain (takes (draft_in c.args.self.now)) line c.in-Some.line.now same c.in-Some.ensures.1) c.read_plain.ensures
 
-pub returns-in-Some-2-clause-read : goal.returns-in-Some-2-clause-read
-returns-in-Some-2-clause-read c =
+pub returns-in-Some-2 : goal.returns-in-Some-2
+returns-in-Some-2 c =
     let line = c.args.line.now in
     let some : length line ≢ 0 = search rules in
     let said = line_of-texts line (map bytes_of c.in-Some-2.texts.items) some (sym (rw c.in-Some-2.is at c.in_ok-texts.ensures)) in
-    same_line (draft_in c.args.self.now) (draft_in c.read_texts.new.self) c.args.number c.read_texts.result _ _ _ _ said (line_asks-texts (takes (draft_in c.args.self.now)) line c.in_default.ensures) c.read_texts.ensures.read
+    same_line (draft_in c.args.self.now) (draft_in c.read_texts.new.self) c.args.number c.read_texts.result _ _ _ _ said (line_asks-texts (takes (draft_in c.args.self.now)) line c.in_default.ensures) c.read_texts.ensures

@@ -6,8 +6,8 @@ use Rattle.tabled_language.specs.Words.{behind, keeping_asks, whole}
 use Rattle.tabled_language.proofs.ScriptLines.{asks_anyway, first_removed, meaning_of-step, same_line}
 use Rattle.tabled_language.proofs.draft.Draft.read_texts.Goals as goal
 
-pub returns-in_default-clause-read : goal.returns-in_default-clause-read
-returns-in_default-clause-read c =
+pub returns-in_default : goal.returns-in_default
+returns-in_default c =
     let verb = c.text.result.now in
     let texts = map bytes_of c.args.texts.items in
     let others = map bytes_of c.remove-verb.new.self.items in
@@ -18,4 +18,4 @@ returns-in_default-clause-read c =
     let said = meaning_of-step texts verb c.of_texts-in_default.result (first ∙ ap (λ words. verb ∷ words) (sym left)) c.in_default.not-row c.in_default.not-shape c.in_default.not-span in
     let old = draft_in c.args.self.now in
     let new = draft_in c.read_step.new.self in
-    same_line old new c.args.number c.read_step.result _ _ _ _ said refl (asks_anyway old new c.args.number (step_line (whole (behind steps verb) c.of_texts-in_default.result)) (keeping_asks (behind steps verb) c.of_texts-in_default.result) c.read_step.result c.read_step.ensures.read)
+    same_line old new c.args.number c.read_step.result _ _ _ _ said refl (asks_anyway old new c.args.number (step_line (whole (behind steps verb) c.of_texts-in_default.result)) (keeping_asks (behind steps verb) c.of_texts-in_default.result) c.read_step.result (c.read_step.ensures c.args.number))

@@ -1,0 +1,122 @@
+-- Of the rectangles that may reach a row, those that end above are taken away until one decides.
+use Rattle.std.proofs.Common.{◌≡◌, ℕ, ◌+◌, ◌<◌, ◌≤◌, ◌⊎◌, inl, inr, Bool, true, false, cond, refl, sym, ap, subst, ◌∙◌, arith}
+use Rattle.std.specs.Prelude.{Option, None, Some, MatchBool, is_some, nat_le}
+use Rattle.std.specs.BTreeMap.{BTreeMap, get}
+use Rattle.std.specs.Ordering.{is_eq, nat_cmp}
+use Rattle.std.proofs.lemmas.Bool.{cases_lt, leb-true}
+use Rattle.std.proofs.lemmas.Bool.Decides.{leb_tells, nat_tests}
+use Rattle.std.proofs.lemmas.Option.{none-some, same_Some}
+use Rattle.tabled_language.specs.Walk.{AreBeside, AreKeyed, EndsAbove, IsBeside, IsClear, IsLastBefore, IsLeft, IsMet, NoneBefore}
+use Rattle.tabled_grid.specs.Spans.{Rectangle}
+
+module _ (old m : BTreeMap ℕ Rectangle) (e : Rectangle) (keyed : AreKeyed old) (beside : AreBeside e.0.row old) (left : IsLeft e.0.row old m) where
+  past : (q : ℕ) (f : Rectangle) → get nat_cmp m q ≡ Some f → e.0.col + e.1.width ≤ q → EndsAbove e.0.row f ⊎ IsBeside e f
+  past q f is after = inr (inr (omega (arith, after, keyed q f (left.kept q f is))))
+
+  -- none begins before the end
+  pub clear-none : NoneBefore m (e.0.col + e.1.width) → IsClear old e
+  clear-none none q f is = by (left.gone q f is)
+    where
+      by : EndsAbove e.0.row f ⊎ (get nat_cmp m q ≡ Some f) → EndsAbove e.0.row f ⊎ IsBeside e f
+      by (inl above) = inl above
+      by (inr still) = at (cases_lt q (e.0.col + e.1.width))
+        where
+          at : (q < e.0.col + e.1.width) ⊎ (e.0.col + e.1.width ≤ q) → EndsAbove e.0.row f ⊎ IsBeside e f
+          at (inl within) = absurd (none-some f (sym (none q within) ∙ still))
+          at (inr after) = past q f still after
+
+  -- the last one that does reaches the row, so it decides
+  pub clear-last : (near : Rectangle) (b : Bool) → IsLastBefore m (e.0.col + e.1.width) near → e.0.row < near.0.row + near.1.height → b ≡ nat_le (near.0.col + near.1.width) e.0.col → MatchBool b (IsClear old e) (IsMet old e)
+  clear-last near b last reach told = by b (leb_tells (near.0.col + near.1.width) e.0.col) told
+    where
+      here : get nat_cmp old last.0 ≡ Some near
+      here = left.kept last.0 near last.2
+
+      at : near.0.col ≡ last.0
+      at = keyed last.0 near (left.kept last.0 near last.2)
+
+      clear : near.0.col + near.1.width ≤ e.0.col → IsClear old e
+      clear ends r f is = go (left.gone r f is)
+        where
+          near_is : get nat_cmp m r ≡ Some f → r ≡ last.0 → f ≡ near
+          near_is still same = same_Some f near (sym still ∙ ap (get nat_cmp m) same ∙ last.2)
+
+          reached : EndsAbove e.0.row f ⊎ (e.0.row < f.0.row + f.1.height) → r < last.0 → EndsAbove e.0.row f ⊎ IsBeside e f
+          reached (inl above) before = inl above
+          reached (inr reaches) before = inr (inl (omega (arith, ends, at, beside r last.0 f near is here before reaches reach)))
+
+          either : (f.0.row + f.1.height ≤ e.0.row) ⊎ (e.0.row < f.0.row + f.1.height)
+          either = turned (cases_lt e.0.row (f.0.row + f.1.height))
+            where
+              turned : (e.0.row < f.0.row + f.1.height) ⊎ (f.0.row + f.1.height ≤ e.0.row) → (f.0.row + f.1.height ≤ e.0.row) ⊎ (e.0.row < f.0.row + f.1.height)
+              turned (inl x) = inr x
+              turned (inr x) = inl x
+
+          order : get nat_cmp m r ≡ Some f → (r < last.0) ⊎ (last.0 ≤ r) → (last.0 < r) ⊎ (r ≤ last.0) → (r < e.0.col + e.1.width) ⊎ (e.0.col + e.1.width ≤ r) → EndsAbove e.0.row f ⊎ IsBeside e f
+          order still (inl before) later within = reached either before
+          order still (inr from) (inl behind) (inl within) = absurd (none-some f (sym (last.3 r behind within) ∙ still))
+          order still (inr from) (inl behind) (inr after) = past r f still after
+          order still (inr from) (inr to) within = subst (λ (a : Rectangle). EndsAbove e.0.row a ⊎ IsBeside e a) (sym (near_is still (omega (arith, from, to)))) (inr (inl ends))
+
+          go : EndsAbove e.0.row f ⊎ (get nat_cmp m r ≡ Some f) → EndsAbove e.0.row f ⊎ IsBeside e f
+          go (inl above) = inl above
+          go (inr still) = order still (cases_lt r last.0) (cases_lt last.0 r) (cases_lt r (e.0.col + e.1.width))
+
+      met : e.0.col < near.0.col + near.1.width → IsMet old e
+      met over = (last.0, near, here, reach, omega (arith, at, last.1), over)
+
+      by : (c : Bool) → ((nat_le (near.0.col + near.1.width) e.0.col ≡ true) × (near.0.col + near.1.width ≤ e.0.col)) ⊎ ((nat_le (near.0.col + near.1.width) e.0.col ≡ false) × (e.0.col < near.0.col + near.1.width)) → c ≡ nat_le (near.0.col + near.1.width) e.0.col → MatchBool c (IsClear old e) (IsMet old e)
+      by true (inl (t, ends)) is = clear ends
+      by true (inr (t, over)) is = absurd (never (is ∙ t))
+        where
+          never : true ≡ false → ⊥
+          never x = cc
+      by false (inl (t, ends)) is = absurd (never (sym (is ∙ t)))
+        where
+          never : true ≡ false → ⊥
+          never x = cc
+      by false (inr (t, over)) is = met over
+
+  -- one that ends above is taken away
+  pub left-less : (near : Rectangle) (new : BTreeMap ℕ Rectangle) → IsLastBefore m (e.0.col + e.1.width) near → EndsAbove e.0.row near → ((q : ℕ) → get nat_cmp new q ≡ cond (is_eq (nat_cmp near.0.col q)) None (get nat_cmp m q)) → IsLeft e.0.row old new
+  left-less near new last above put = record { kept = λ q f is. left.kept q f (was q f is (is_eq (nat_cmp near.0.col q)) refl); gone = λ q f is. gone q f (left.gone q f is) }
+    where
+      at : near.0.col ≡ last.0
+      at = keyed last.0 near (left.kept last.0 near last.2)
+
+      was : (q : ℕ) (f : Rectangle) → get nat_cmp new q ≡ Some f → (b : Bool) → is_eq (nat_cmp near.0.col q) ≡ b → get nat_cmp m q ≡ Some f
+      was q f is true t = absurd (none-some f (sym (put q ∙ ap (λ b. cond b None (get nat_cmp m q)) t) ∙ is))
+      was q f is false t = sym (put q ∙ ap (λ b. cond b None (get nat_cmp m q)) t) ∙ is
+
+      gone : (q : ℕ) (f : Rectangle) → EndsAbove e.0.row f ⊎ (get nat_cmp m q ≡ Some f) → EndsAbove e.0.row f ⊎ (get nat_cmp new q ≡ Some f)
+      gone q f (inl over) = inl over
+      gone q f (inr still) = by (is_eq (nat_cmp near.0.col q)) refl
+        where
+          by : (b : Bool) → is_eq (nat_cmp near.0.col q) ≡ b → EndsAbove e.0.row f ⊎ (get nat_cmp new q ≡ Some f)
+          by true t =
+              let same : near.0.col ≡ q = grind (arith, nat_tests) in
+              inl (subst (λ (a : Rectangle). EndsAbove e.0.row a) (sym (same_Some f near (sym still ∙ ap (get nat_cmp m) (sym same ∙ at) ∙ last.2))) above)
+          by false t = inr (put q ∙ ap (λ b. cond b None (get nat_cmp m q)) t ∙ still)
+
+-- something was taken away
+pub smaller : (r : Option Rectangle) (near : Rectangle) (n k : ℕ) → n + cond (is_some r) 1 0 ≡ k → r ≡ Some near → n < k
+smaller None near n k len is = absurd (none-some near is)
+smaller (Some f) near n k len is = omega (arith, len)
+
+-- it was there
+pub last_here : (old m : BTreeMap ℕ Rectangle) (row end : ℕ) (near : Rectangle) → AreKeyed old → IsLeft row old m → IsLastBefore m end near → get nat_cmp m near.0.col ≡ Some near
+last_here old m row end near keyed left last = ap (get nat_cmp m) (keyed last.0 near (left.kept last.0 near last.2)) ∙ last.2
+
+-- what the tests of a row say
+pub reaches : (b : Bool) (end row : ℕ) → b ≡ nat_le end row → b ≡ false → row < end
+reaches b end row told is = by (leb_tells end row)
+  where
+    never : true ≡ false → ⊥
+    never x = cc
+
+    by : ((nat_le end row ≡ true) × (end ≤ row)) ⊎ ((nat_le end row ≡ false) × (row < end)) → row < end
+    by (inl (t, above)) = absurd (never (sym t ∙ sym told ∙ is))
+    by (inr (t, below)) = below
+
+pub ends_above : (b : Bool) (end row : ℕ) → b ≡ nat_le end row → b ≡ true → end ≤ row
+ends_above b end row told is = leb-true end row (sym told ∙ is)

@@ -1,0 +1,9 @@
+use Rattle.std.specs.BTreeMap.{btree_map_len}
+use Rattle.tabled_language.specs.Walk.{IsLeft}
+use Rattle.tabled_language.proofs.walk.is_clear.Given as goal
+
+abbrev pub invariant-loop-near : goal.invariant-loop-near
+invariant-loop-near l = IsLeft l.anchor.0.row l.fn.reaching l.reaching
+
+abbrev pub decreases-loop-near : goal.decreases-loop-near
+decreases-loop-near l = btree_map_len l.reaching

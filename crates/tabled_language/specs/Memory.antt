@@ -1,0 +1,43 @@
+-- Where reading a script asks for memory.
+use Rattle.std.specs.Prelude.{ℕ, Bool, true, false, ◌&&◌, ◌||◌, codes, List, [], ◌∷◌, ◌++◌, if◌then◌else◌, Option, None, Some}
+use Rattle.std.specs.Str.{bytes_eq}
+use Rattle.tabled_language.specs.declared.fault.Fault.{Fault}
+use Rattle.tabled_language.specs.Sizes.{reads_anchor}
+use Rattle.tabled_language.specs.Verb.{Line, RecordLine, says_span, steps}
+use Rattle.tabled_language.specs.Words.{behind, keeping_asks}
+use Rattle.tabled_language.specs.Line.{is_plain, line_of, lines_of, words_of}
+use Rattle.tabled_language.specs.Faults.{fault_of, is_in_place}
+
+-- reading the texts after `span` asks for memory, where it is told which lines would stand in their place
+abbrev pub span_asks : (Line → Bool) → List (List ℕ) → Bool
+span_asks in_place texts = in_place (says_span texts) && keeping_asks reads_anchor texts
+
+-- reading the texts after the verb of a step does
+abbrev pub step_asks : List ℕ → List (List ℕ) → Bool
+step_asks verb texts = keeping_asks (behind steps verb) texts
+
+-- reading words does, the first of them a verb. A shape takes none
+abbrev pub words_ask : (Line → Bool) → List (List ℕ) → Bool
+words_ask in_place [] = false
+words_ask in_place (verb ∷ texts) =
+    if bytes_eq verb (codes "row") then in_place (RecordLine texts)
+    else (if bytes_eq verb (codes "shape") then false
+    else (if bytes_eq verb (codes "span") then span_asks in_place texts
+    else step_asks verb texts))
+
+-- reading a line does; one that isn't plain asks for its texts
+abbrev pub line_asks : (Line → Bool) → List ℕ → Bool
+line_asks in_place line = if is_plain line then words_ask in_place (words_of line) else true
+
+-- reading lines after earlier ones does: one of them up to the first that is faulty by itself. The checks of the whole ask for none but where a span did
+abbrev pub lines_ask : List Line → List (List ℕ) → Bool
+lines_ask earlier [] = false
+lines_ask earlier (line ∷ lines) = line_asks (is_in_place earlier) line || go (fault_of earlier (line_of line)) (lines_ask (earlier ++ line_of line ∷ []) lines)
+  where
+    go : Option Fault → Bool → Bool
+    go None later = later
+    go (Some fault) later = false
+
+-- reading a script asks for memory before its first fault is found, or its end
+abbrev pub asks_memory : List ℕ → Bool
+asks_memory input = lines_ask [] (lines_of input)

@@ -1,0 +1,35 @@
+-- A script: its records, its merged cells and its steps, and which one bytes write.
+use Rattle.std.specs.Prelude.{ℕ, List, map, Option, None, Some, Result, Ok, Err, filter_map}
+use Rattle.std.specs.FinMap.{from_entries}
+use Rattle.tabled_grid.specs.Spans.{SpanMap}
+use Rattle.tabled_language.specs.declared.fault.Fault.{Fault}
+use Rattle.tabled_language.specs.Verb.{Line}
+use Rattle.tabled_steps.specs.States.{State}
+use Rattle.tabled_language.specs.Line.{anchor_in, line_of, lines_of, record_in, step_in, table_from}
+use Rattle.tabled_language.specs.Faults.{fault_among}
+
+-- the records, the merged cells and the steps of a script
+pub record Script : Type 0 where
+  pub records : List (List (List ℕ))
+  pub spans : SpanMap
+  pub steps : List (State → State)
+
+-- the state that a script begins with: its records, padded, and its merged cells
+abbrev pub start : Script → State
+start script = record { texts = table_from script.records; spans = script.spans }
+
+-- the records, the merged cells and the steps among lines, in order
+abbrev pub script_of : List Line → Script
+script_of lines = record { records = filter_map record_in lines; spans = from_entries (filter_map anchor_in lines); steps = filter_map step_in lines }
+
+-- the script that lines are, or the number of the first faulty one and its fault
+abbrev pub script_or_fault : List Line → Result Script (ℕ × Fault)
+script_or_fault lines = go (fault_among lines)
+  where
+    go : Option (ℕ × Fault) → Result Script (ℕ × Fault)
+    go None = Ok (script_of lines)
+    go (Some fault) = Err fault
+
+-- the script that bytes write, or the number of its first faulty line and the fault
+abbrev pub parse : List ℕ → Result Script (ℕ × Fault)
+parse input = script_or_fault (map line_of (lines_of input))

@@ -1,0 +1,81 @@
+//! Whether rectangles lie inside a table and apart, told by one walk over their anchors, row by row.
+
+ghost use Rattle.std.specs.Prelude.{◌≡◌, ◌+◌, ◌^◌, ◌<◌, IfOk, MatchBool, MatchOption, nat_le};
+ghost use Rattle.std.specs.List.{AllByRecursion};
+ghost use Rattle.tabled_grid.specs.Anchors.{lies_inside};
+ghost use Rattle.tabled_grid.specs.Spans.{IsSpanSize, Rectangle};
+ghost use Rattle.tabled_language.specs.Placed.{fit_in};
+ghost use Rattle.tabled_language.specs.Walk.{AreBeside, AreKeyed, IsClear, IsLastBefore, IsLeft, IsMet, NoneBefore, RowsRise};
+
+use std::alloc::{AllocError, Global};
+use std::collections::BTreeMap;
+use tabled_grid::config::{Rectangle, Size};
+
+/// Says whether all rectangles lie inside a table and no two share a cell.
+///
+/// From row to row those are kept that may reach it, by their columns. Of these the last that begins before
+/// a rectangle's end is the only one that has to be tested. One that ends above goes when it is met, so
+/// that each comes and goes once.
+pub(crate) fn have_places(
+    alloc: Global,
+    anchors: &[Rectangle],
+    rows: usize,
+    columns: usize,
+) -> Result<bool, AllocError>
+    requires rising { RowsRise anchors.now }
+    requires sizes { AllByRecursion (λ (e : Rectangle). IsSpanSize e.1) anchors.now }
+    ensures { IfOk result (λ fit. fit ≡ fit_in rows columns anchors.now) }
+{
+    let mut reaching = BTreeMap::new(alloc);
+    for anchor in anchors {
+        if !is_inside(*anchor, rows, columns) || !is_clear(&mut reaching, *anchor) {
+            return Ok(false);
+        }
+        reaching.insert(anchor.0.col, *anchor)?;
+    }
+    Ok(true)
+}
+
+/// Says whether no rectangle that reaches the row of an anchor shares a column with it. Takes some away that
+/// end above.
+fn is_clear(reaching: &mut BTreeMap<usize, Rectangle>, anchor: Rectangle) -> bool
+    requires fits { anchor.0.col + anchor.1.width < 2 ^ 64 }
+    requires keyed { AreKeyed reaching.old }
+    requires beside { AreBeside anchor.0.row reaching.old }
+    ensures left { IsLeft anchor.0.row reaching.old reaching.new }
+    ensures clear { MatchBool result (IsClear reaching.old anchor) (IsMet reaching.old anchor) }
+{
+    let end = anchor.0.col + anchor.1.width;
+    while let Some(near) = last_before(reaching, end) {
+        if !ends_by(near.0.row, near.1.height, anchor.0.row) {
+            return ends_by(near.0.col, near.1.width, anchor.0.col);
+        }
+        reaching.remove(&near.0.col);
+    }
+    true
+}
+
+/// The last rectangle that begins before a column.
+fn last_before(reaching: &BTreeMap<usize, Rectangle>, column: usize) -> Option<Rectangle>
+    ensures { MatchOption result (NoneBefore reaching.now column) (IsLastBefore reaching.now column) }
+{
+    match reaching.range(..column).next_back() {
+        Some((_, anchor)) => Some(*anchor),
+        None => None,
+    }
+}
+
+/// Says whether the rectangle of an anchor lies inside a table.
+fn is_inside(anchor: Rectangle, rows: usize, columns: usize) -> bool
+    ensures { result ≡ lies_inside rows columns anchor }
+{
+    let (first, Size { height, width }) = anchor;
+    ends_by(first.row, height, rows) && ends_by(first.col, width, columns)
+}
+
+/// Says whether n indexes from one on end at an index or before it.
+fn ends_by(first: usize, many: usize, index: usize) -> bool
+    ensures { result ≡ nat_le (first + many) index }
+{
+    many <= index && first <= index - many
+}
