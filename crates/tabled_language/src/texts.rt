@@ -8,7 +8,7 @@ ghost use Rattle.tabled_language.specs.Line.{is_plain, texts_of, words_of};
 ghost use Rattle.tabled_language.specs.Parts.{parts_left};
 
 use crate::lent::LentText;
-use crate::parts::{Parts, count_parts, first_place};
+use crate::parts::{Parts, count_parts, near_place};
 use crate::word::lent_text;
 use std::alloc::{AllocError, Global};
 use std::marker::Model;
@@ -113,7 +113,7 @@ impl<'a> Iterator for Fields<'a> {
 fn first_word(line: &str) -> (&str, Option<&str>)
     ensures { words_of line.now ≡ result.0.now ∷ parts_left 9 result.1 }
 {
-    match first_place(line.as_bytes(), b'\t') {
+    match near_place(line.as_bytes(), b'\t') {
         Some(tab) => (&line[..tab], Some(&line[tab + 1..])),
         None => (line, None),
     }

@@ -1,11 +1,13 @@
 //! Bytes that are held until they are written, in room that was asked for before: to hold more takes no memory.
 
 ghost use Rattle.std.specs.Fmt.{decimal};
-ghost use Rattle.std.specs.Prelude.{◌≡◌, ◌+◌, ◌*◌, ◌<◌, ◌≤◌, [], ◌∷◌, ◌++◌, IsTrue, OnOk, length, map, vec_capacity, vec_len};
+ghost use Rattle.std.specs.Prelude.{◌≡◌, ◌+◌, ◌*◌, ◌<◌, ◌≤◌, [], ◌∷◌, ◌++◌, IsTrue, OnOk, length, map};
 ghost use Rattle.tabled_language.specs.Output.{escaped, escaped_byte, line};
-ghost use Rattle.tabled_script.specs.Sent.{HasRoom, Sends};
+ghost use Rattle.tabled_script.specs.Sent.{Sends};
 
+use std::alloc::{AllocError, Global};
 use std::io::{self, Write};
+use std::marker::Model;
 
 /// How many bytes are held before they are written.
 pub(crate) const PART: usize = 16_384;
@@ -13,13 +15,53 @@ pub(crate) const PART: usize = 16_384;
 /// Room for the bytes that are held, fewer than two parts have, and for those of a further part, all escaped.
 pub(crate) const ROOM: usize = 4 * PART;
 
+/// Bytes that are held. A contract sees it as their list.
+// To put bytes in their places takes a third of the time of adding them to a vector, which asks each time whether
+// it has to grow.
+#[derive(Drop)]
+pub(crate) struct Held {
+    room: Vec<u8>,
+    len: usize,
+}
+
+impl Model for Held {
+    ghost use Rattle.std.specs.Prelude.{◌≡◌, ◌≤◌, ℕ, List, length, take};
+    ghost use Rattle.tabled_script.specs.declared.held.TheConstants.{ROOM};
+
+    ghost Value = { List ℕ };
+
+    ghost view = { λ a. take a.len a.room.items };
+
+    ghost invariant = { λ a. (a.len ≤ ROOM) × (length a.room.items ≡ ROOM) };
+}
+
+impl Held {
+    ghost use Rattle.std.specs.Prelude.{◌≡◌, [], IfOk};
+
+    /// Room that holds nothing yet.
+    pub(crate) fn new(alloc: Global) -> Result<Self, AllocError>
+        ensures { IfOk result (λ held. held ≡ []) }
+    {
+        Ok(Held {
+            room: Vec::from_elem(alloc, 0, ROOM)?,
+            len: 0,
+        })
+    }
+
+    /// The bytes.
+    pub(crate) fn bytes(&self) -> &[u8]
+        ensures { result.now ≡ self.now }
+    {
+        &self.room[..self.len]
+    }
+}
+
 /// Writes what is held, where it is much.
-pub(crate) fn send<W: Write>(writer: &mut W, held: &mut Vec<u8>) -> io::Result<()>
-    requires { ROOM ≤ vec_capacity held.old }
-    ensures sends { OnOk result (Sends (W.contents writer.old) held.old.items (W.contents writer.new) held.new.items []) }
-    ensures room { OnOk result (HasRoom PART held.new) }
+pub(crate) fn send<W: Write>(writer: &mut W, held: &mut Held) -> io::Result<()>
+    ensures sends { OnOk result (Sends (W.contents writer.old) held.old (W.contents writer.new) held.new []) }
+    ensures less { OnOk result (length held.new < PART) }
 {
-    if held.len() < PART {
+    if held.len < PART {
         return Ok(());
     }
     write_held(writer, held)
@@ -28,41 +70,40 @@ pub(crate) fn send<W: Write>(writer: &mut W, held: &mut Vec<u8>) -> io::Result<(
 /// Writes what is held.
 // A call of its own keeps `send` small, which each text calls.
 #[inline(never)]
-fn write_held<W: Write>(writer: &mut W, held: &mut Vec<u8>) -> io::Result<()>
-    requires { ROOM ≤ vec_capacity held.old }
-    ensures sends { OnOk result (Sends (W.contents writer.old) held.old.items (W.contents writer.new) held.new.items []) }
-    ensures room { OnOk result (HasRoom PART held.new) }
+fn write_held<W: Write>(writer: &mut W, held: &mut Held) -> io::Result<()>
+    ensures sends { OnOk result (Sends (W.contents writer.old) held.old (W.contents writer.new) held.new []) }
+    ensures less { OnOk result (length held.new < PART) }
 {
-    writer.write_all(held)?;
-    held.clear();
+    writer.write_all(held.bytes())?;
+    held.len = 0;
     Ok(())
 }
 
 /// Holds a byte.
-pub(crate) fn hold_byte(held: &mut Vec<u8>, byte: u8)
-    requires { vec_len held.old < vec_capacity held.old }
-    ensures bytes { held.new.items ≡ held.old.items ++ byte ∷ [] }
-    ensures len { vec_len held.new ≡ vec_len held.old + 1 }
-    ensures room { vec_capacity held.old ≤ vec_capacity held.new }
+pub(crate) fn hold_byte(held: &mut Held, byte: u8)
+    requires { length held.old < ROOM }
+    ensures bytes { held.new ≡ held.old ++ byte ∷ [] }
+    ensures len { length held.new ≡ length held.old + 1 }
 {
-    let _ = held.push(byte);
+    held.room[held.len] = byte;
+    held.len += 1;
 }
 
 /// Holds bytes.
-pub(crate) fn hold_bytes(held: &mut Vec<u8>, bytes: &[u8])
-    requires { vec_len held.old + length bytes.now ≤ vec_capacity held.old }
-    ensures bytes { held.new.items ≡ held.old.items ++ bytes.now }
-    ensures len { vec_len held.new ≡ vec_len held.old + length bytes.now }
-    ensures room { vec_capacity held.old ≤ vec_capacity held.new }
+pub(crate) fn hold_bytes(held: &mut Held, bytes: &[u8])
+    requires { length held.old + length bytes.now ≤ ROOM }
+    ensures bytes { held.new ≡ held.old ++ bytes.now }
+    ensures len { length held.new ≡ length held.old + length bytes.now }
 {
-    let _ = held.extend_from_slice(bytes);
+    let len = held.len + bytes.len();
+    held.room[held.len..len].copy_from_slice(bytes);
+    held.len = len;
 }
 
 /// Holds the line of a name and numbers.
-pub(crate) fn hold_numbers(held: &mut Vec<u8>, name: &str, numbers: &[usize])
-    requires { vec_len held.old + 2 * length name.now + 21 * length numbers.now < vec_capacity held.old }
-    ensures bytes { held.new.items ≡ held.old.items ++ line (name.now ∷ map decimal numbers.now) }
-    ensures room { vec_capacity held.old ≤ vec_capacity held.new }
+pub(crate) fn hold_numbers(held: &mut Held, name: &str, numbers: &[usize])
+    requires { length held.old + 2 * length name.now + 21 * length numbers.now < ROOM }
+    ensures { held.new ≡ held.old ++ line (name.now ∷ map decimal numbers.now) }
 {
     hold_escaped(held, name.as_bytes());
     for number in numbers {
@@ -73,11 +114,10 @@ pub(crate) fn hold_numbers(held: &mut Vec<u8>, name: &str, numbers: &[usize])
 }
 
 /// Holds a number's digits.
-fn hold_number(held: &mut Vec<u8>, number: usize)
-    requires { vec_len held.old + length (decimal number) ≤ vec_capacity held.old }
-    ensures bytes { held.new.items ≡ held.old.items ++ decimal number }
-    ensures len { vec_len held.new ≡ vec_len held.old + length (decimal number) }
-    ensures room { vec_capacity held.old ≤ vec_capacity held.new }
+fn hold_number(held: &mut Held, number: usize)
+    requires { length held.old + length (decimal number) ≤ ROOM }
+    ensures bytes { held.new ≡ held.old ++ decimal number }
+    ensures len { length held.new ≡ length held.old + length (decimal number) }
 {
     if number < 10 {
         hold_byte(held, b'0' + number as u8);
@@ -88,21 +128,19 @@ fn hold_number(held: &mut Vec<u8>, number: usize)
 }
 
 /// Holds a tab, and the word that stands for a text.
-pub(crate) fn hold_word(held: &mut Vec<u8>, text: &str)
-    requires { vec_len held.old + 2 * length text.now < vec_capacity held.old }
-    ensures bytes { held.new.items ≡ held.old.items ++ 9 ∷ escaped text.now }
-    ensures room { vec_capacity held.old ≤ vec_capacity held.new }
+pub(crate) fn hold_word(held: &mut Held, text: &str)
+    requires { length held.old + 2 * length text.now < ROOM }
+    ensures { held.new ≡ held.old ++ 9 ∷ escaped text.now }
 {
     hold_byte(held, b'\t');
     hold_escaped(held, text.as_bytes());
 }
 
 /// Holds the word that stands for the bytes of a text.
-pub(crate) fn hold_escaped(held: &mut Vec<u8>, bytes: &[u8])
-    requires { vec_len held.old + 2 * length bytes.now ≤ vec_capacity held.old }
-    ensures bytes { held.new.items ≡ held.old.items ++ escaped bytes.now }
-    ensures len { vec_len held.new ≤ vec_len held.old + 2 * length bytes.now }
-    ensures room { vec_capacity held.old ≤ vec_capacity held.new }
+pub(crate) fn hold_escaped(held: &mut Held, bytes: &[u8])
+    requires { length held.old + 2 * length bytes.now ≤ ROOM }
+    ensures bytes { held.new ≡ held.old ++ escaped bytes.now }
+    ensures len { length held.new ≤ length held.old + 2 * length bytes.now }
 {
     if bytes.is_empty() {
         return;
@@ -118,11 +156,10 @@ pub(crate) fn hold_escaped(held: &mut Vec<u8>, bytes: &[u8])
 /// The same, byte by byte.
 // A call of its own keeps `hold_escaped` small.
 #[inline(never)]
-fn hold_each(held: &mut Vec<u8>, bytes: &[u8])
-    requires { vec_len held.old + 2 * length bytes.now ≤ vec_capacity held.old }
-    ensures bytes { held.new.items ≡ held.old.items ++ escaped bytes.now }
-    ensures len { vec_len held.new ≤ vec_len held.old + 2 * length bytes.now }
-    ensures room { vec_capacity held.old ≤ vec_capacity held.new }
+fn hold_each(held: &mut Held, bytes: &[u8])
+    requires { length held.old + 2 * length bytes.now ≤ ROOM }
+    ensures bytes { held.new ≡ held.old ++ escaped bytes.now }
+    ensures len { length held.new ≤ length held.old + 2 * length bytes.now }
 {
     for byte in bytes {
         hold_escaped_byte(held, *byte);
@@ -159,11 +196,10 @@ fn is_plain_part(text: &[u8]) -> bool
 }
 
 /// Holds a byte as it stands in a word.
-fn hold_escaped_byte(held: &mut Vec<u8>, byte: u8)
-    requires { vec_len held.old + 2 ≤ vec_capacity held.old }
-    ensures bytes { held.new.items ≡ held.old.items ++ escaped_byte byte }
-    ensures len { vec_len held.new ≤ vec_len held.old + 2 }
-    ensures room { vec_capacity held.old ≤ vec_capacity held.new }
+fn hold_escaped_byte(held: &mut Held, byte: u8)
+    requires { length held.old + 2 ≤ ROOM }
+    ensures bytes { held.new ≡ held.old ++ escaped_byte byte }
+    ensures len { length held.new ≤ length held.old + 2 }
 {
     match byte {
         b'\t' => hold_bytes(held, b"\\t"),

@@ -3,7 +3,7 @@
 ghost use Rattle.std.specs.FinMap.{entries};
 ghost use Rattle.std.specs.Io.KnownBytes.{Appends};
 ghost use Rattle.std.specs.List.{AllByRecursion, flat_map};
-ghost use Rattle.std.specs.Prelude.{◌≡◌, ◌≤◌, ◌*◌, [], ◌∷◌, ◌++◌, codes, length, map, OnOk, vec_capacity};
+ghost use Rattle.std.specs.Prelude.{◌≡◌, ◌<◌, ◌≤◌, ◌*◌, [], ◌∷◌, ◌++◌, codes, length, map, OnOk};
 ghost use Rattle.std.specs.Str.{IsUtf8};
 ghost use Rattle.tabled_grid.specs.Grid.{IsEven, grid_of, map_grid, map_items, width_of};
 ghost use Rattle.tabled_grid.specs.Fitting.{Fits};
@@ -11,11 +11,11 @@ ghost use Rattle.tabled_language.specs.Lent.{bytes_of};
 ghost use Rattle.tabled_language.specs.Output.{escaped, line, print, span_line, table_lines};
 ghost use Rattle.tabled_language.specs.RoundTrip.{IsTable};
 ghost use Rattle.tabled_language.specs.Word.{largest_size};
-ghost use Rattle.tabled_script.specs.Sent.{HasRoom, Sends};
+ghost use Rattle.tabled_script.specs.Sent.{Sends};
 ghost use Rattle.tabled_steps.specs.States.{state_of};
 
 use crate::form::Form;
-use crate::held::{PART, ROOM, hold_byte, hold_bytes, hold_escaped, hold_numbers, hold_word, send};
+use crate::held::{Held, PART, hold_byte, hold_bytes, hold_escaped, hold_numbers, hold_word, send};
 use std::alloc::{AllocError, Global};
 use std::io::{self, Write};
 use tabled_grid::config::SpannedConfig;
@@ -40,7 +40,7 @@ impl Form for Lines {
         spans: &SpannedConfig,
         writer: &mut W,
     ) -> Result<io::Result<()>, AllocError> {
-        let mut held = Vec::with_capacity(alloc, ROOM)?;
+        let mut held = Held::new(alloc)?;
         Ok(write_lines(writer, &mut held, records, spans))
     }
 }
@@ -48,34 +48,33 @@ impl Form for Lines {
 /// Writes the lines of a table in parts, and flushes the writer.
 fn write_lines<W: Write>(
     writer: &mut W,
-    held: &mut Vec<u8>,
+    held: &mut Held,
     records: &Vec<Vec<LentText>>,
     spans: &SpannedConfig,
 ) -> io::Result<()>
     requires even { IsEven (grid_of (map_items records.now.items)) }
-    requires unused { held.old.items ≡ [] }
-    requires room { ROOM ≤ vec_capacity held.old }
+    requires unused { held.old ≡ [] }
     ensures written { OnOk result (Appends (W.contents writer.old) (W.contents writer.new) (print (state_of bytes_of (grid_of (map_items records.now.items)) spans.now))) }
     ensures known { OnOk result (Fits spans.now ((grid_of (map_items records.now.items)).rows) ((grid_of (map_items records.now.items)).columns) → IsTable (state_of bytes_of (grid_of (map_items records.now.items)) spans.now)) }
 {
     write_table(writer, held, records)?;
     write_spans(writer, held, spans)?;
-    writer.write_all(held)?;
+    writer.write_all(held.bytes())?;
     writer.flush()
 }
 
 /// Writes, or holds, a table's shape, and then its rows.
 fn write_table<W: Write>(
     writer: &mut W,
-    held: &mut Vec<u8>,
+    held: &mut Held,
     records: &Vec<Vec<LentText>>,
 ) -> io::Result<()>
     requires even { IsEven (grid_of (map_items records.now.items)) }
-    requires room { HasRoom PART held.old }
-    ensures sends { OnOk result (Sends (W.contents writer.old) held.old.items (W.contents writer.new) held.new.items (table_lines (map_grid bytes_of (grid_of (map_items records.now.items))))) }
+    requires less { length held.old < PART }
+    ensures sends { OnOk result (Sends (W.contents writer.old) held.old (W.contents writer.new) held.new (table_lines (map_grid bytes_of (grid_of (map_items records.now.items))))) }
     ensures texts { OnOk result (AllByRecursion (AllByRecursion IsUtf8) (map (map bytes_of) (map_items records.now.items))) }
     ensures sizes { OnOk result ((length (map_items records.now.items) ≤ largest_size) × (width_of (map_items records.now.items) ≤ largest_size)) }
-    ensures room { OnOk result (HasRoom PART held.new) }
+    ensures less { OnOk result (length held.new < PART) }
 {
     let shape = [records.count_rows(), records.count_columns()];
     hold_numbers(held, "shape", &shape);
@@ -87,15 +86,11 @@ fn write_table<W: Write>(
 }
 
 /// Writes, or holds, the line of a row's texts.
-fn write_row<W: Write, T: CellText>(
-    writer: &mut W,
-    held: &mut Vec<u8>,
-    texts: &[T],
-) -> io::Result<()>
-    requires { HasRoom PART held.old }
-    ensures sends { OnOk result (Sends (W.contents writer.old) held.old.items (W.contents writer.new) held.new.items (line (codes "row" ∷ map T.text_of texts.now))) }
+fn write_row<W: Write, T: CellText>(writer: &mut W, held: &mut Held, texts: &[T]) -> io::Result<()>
+    requires { length held.old < PART }
+    ensures sends { OnOk result (Sends (W.contents writer.old) held.old (W.contents writer.new) held.new (line (codes "row" ∷ map T.text_of texts.now))) }
     ensures texts { OnOk result (AllByRecursion IsUtf8 (map T.text_of texts.now)) }
-    ensures room { OnOk result (HasRoom PART held.new) }
+    ensures less { OnOk result (length held.new < PART) }
 {
     hold_bytes(held, b"row");
     for text in texts {
@@ -112,10 +107,10 @@ fn write_row<W: Write, T: CellText>(
 }
 
 /// Writes, or holds, a tab, and the word that stands for a text.
-fn write_word<W: Write>(writer: &mut W, held: &mut Vec<u8>, text: &str) -> io::Result<()>
-    requires { HasRoom (2 * PART) held.old }
-    ensures sends { OnOk result (Sends (W.contents writer.old) held.old.items (W.contents writer.new) held.new.items (9 ∷ escaped text.now)) }
-    ensures room { OnOk result (HasRoom PART held.new) }
+fn write_word<W: Write>(writer: &mut W, held: &mut Held, text: &str) -> io::Result<()>
+    requires { length held.old < 2 * PART }
+    ensures sends { OnOk result (Sends (W.contents writer.old) held.old (W.contents writer.new) held.new (9 ∷ escaped text.now)) }
+    ensures less { OnOk result (length held.new < PART) }
 {
     hold_byte(held, b'\t');
     let mut rest = text.as_bytes();
@@ -131,10 +126,10 @@ fn write_word<W: Write>(writer: &mut W, held: &mut Vec<u8>, text: &str) -> io::R
 }
 
 /// Writes, or holds, the lines of merged cells.
-fn write_spans<W: Write>(writer: &mut W, held: &mut Vec<u8>, cfg: &SpannedConfig) -> io::Result<()>
-    requires { HasRoom PART held.old }
-    ensures sends { OnOk result (Sends (W.contents writer.old) held.old.items (W.contents writer.new) held.new.items (flat_map span_line (entries cfg.now))) }
-    ensures room { OnOk result (HasRoom PART held.new) }
+fn write_spans<W: Write>(writer: &mut W, held: &mut Held, cfg: &SpannedConfig) -> io::Result<()>
+    requires { length held.old < PART }
+    ensures sends { OnOk result (Sends (W.contents writer.old) held.old (W.contents writer.new) held.new (flat_map span_line (entries cfg.now))) }
+    ensures less { OnOk result (length held.new < PART) }
 {
     for (pos, size) in cfg.anchors() {
         let numbers = [pos.row, pos.col, size.height, size.width];

@@ -1,6 +1,9 @@
-use Rattle.std.proofs.Common.{◌≡◌, ◌+◌, eqb, take}
+use Rattle.std.proofs.Common.{◌≡◌, ◌+◌, eqb, length}
 use Rattle.std.specs.List.{count_by}
 use Rattle.tabled_language.proofs.parts.count_parts.Given as goal
 
-abbrev pub invariant-loop-byte : goal.invariant-loop-byte
-invariant-loop-byte l = l.parts ≡ count_by (λ b. eqb b l.at) (take l.byte-index l.bytes) + 1
+abbrev pub invariant-loop-rest : goal.invariant-loop-rest
+invariant-loop-rest l = l.parts + count_by (λ b. eqb b l.at) l.rest ≡ count_by (λ b. eqb b l.at) l.bytes + 1
+
+abbrev pub decreases-loop-rest : goal.decreases-loop-rest
+decreases-loop-rest l = length l.rest

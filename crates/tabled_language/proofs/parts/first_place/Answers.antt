@@ -1,22 +1,18 @@
-use Rattle.std.proofs.Common.{◌≡◌, ◌≢◌, ◌⊎◌, inl, inr, eqb, false, true, get_or, length, arith}
-use Rattle.std.proofs.lemmas.Bool.Decides.{eqb_tells, nat_tests}
+use Rattle.std.proofs.Common.{ℕ, ◌≡◌, ◌<◌, Bool, true, false, List, Option, None, Some, MatchOption, eqb, get_or, length, refl, arith}
 use Rattle.std.proofs.lemmas.List.Sums.{position_or_len_is}
+use Rattle.std.specs.List.{position_or_len}
+use Rattle.memchr.specs.Find.{IsFirstByte, is_byte}
 use Rattle.tabled_language.proofs.parts.first_place.Goals as goal
 
-pub returns-then-byte-at : goal.returns-then-byte-at
-returns-then-byte-at c =
-    let bytes = c.args.bytes.now in
-    let here : eqb (get_or bytes c.loop-i.i 0) c.args.at ≡ true = grind (arith, nat_tests, c.if-byte-at.true) in
-    (position_or_len_is (λ b. eqb b c.args.at) bytes c.loop-i.i 0 (omega (arith, c.loop-i-test.true)) c.loop-i.invariant (λ _. here), c.loop-i-test.true)
+-- a test that doesn't pass fails
+fails : (b : Bool) → (b ≡ true → ⊥) → b ≡ false
+fails false none = refl
+fails true none = absurd (none refl)
 
-pub loop-i-preserved : goal.loop-i-preserved
-loop-i-preserved c k below = by (eqb_tells k c.loop-i.i)
-  where
-    by : ((eqb k c.loop-i.i ≡ true) × (k ≡ c.loop-i.i)) ⊎ ((eqb k c.loop-i.i ≡ false) × (k ≢ c.loop-i.i)) → eqb (get_or c.args.bytes.now k 0) c.args.at ≡ false
-    by (inl (_, same)) = rw same (grind (arith, nat_tests, c.if-byte-at.false))
-    by (inr (_, other)) = c.loop-i.invariant k (omega (arith, below, other))
+-- the first place of a byte, said in two ways
+first_byte : (at : ℕ) (bytes : List ℕ) (r : Option ℕ) → IsFirstByte (is_byte at) bytes r → MatchOption r (position_or_len (λ b. eqb b at) bytes ≡ length bytes) (λ place. (position_or_len (λ b. eqb b at) bytes ≡ place) × (place < length bytes))
+first_byte at bytes None nowhere = position_or_len_is (λ b. eqb b at) bytes (length bytes) 0 (omega arith) (λ k within. fails (eqb (get_or bytes k 0) at) (nowhere k (omega arith) within)) (λ past. absurd (omega (arith, past)))
+first_byte at bytes (Some place) (first, here) = (position_or_len_is (λ b. eqb b at) bytes place 0 (omega (arith, first.high)) (λ k before. fails (eqb (get_or bytes k 0) at) (first.before k (omega arith) before)) (λ _. here), first.high)
 
 pub returns : goal.returns
-returns c =
-    let bytes = c.args.bytes.now in
-    position_or_len_is (λ b. eqb b c.args.at) bytes (length bytes) 0 (omega arith) (λ k within. c.loop-i.invariant k (omega (arith, within, c.loop-i-test.false))) (λ past. absurd (omega (arith, past)))
+returns c = first_byte c.args.at c.args.bytes.now c.memchr.result c.memchr.ensures

@@ -16,9 +16,8 @@ hold_byte-requires t c = omega (arith, single c.args.number c.if-number-lt10.tru
 
 pub returns-then-number-lt10 : goal.returns-then-number-lt10
 returns-then-number-lt10 t c = record {
-  bytes = c.hold_byte.ensures.bytes ∙ ap (λ ds. c.args.held.now.items ++ ds) (sym (decimal_digit c.args.number c.if-number-lt10.true));
+  bytes = c.hold_byte.ensures.bytes ∙ ap (λ ds. c.args.held.now ++ ds) (sym (decimal_digit c.args.number c.if-number-lt10.true));
   len = omega (arith, single c.args.number c.if-number-lt10.true);
-  room = c.hold_byte.ensures.room;
 }
 
 pub hold_number-requires : goal.hold_number-requires
@@ -30,7 +29,7 @@ hold_byte-requires-2 t c = omega (arith, longer c.args.number c.if-number-lt10.f
 pub returns-clause-bytes : goal.returns-clause-bytes
 returns-clause-bytes t c =
     let n = c.args.number in
-    let held = c.args.held.now.items in
+    let held = c.args.held.now in
     c.hold_byte-2.ensures.bytes ∙ ap (λ ds. ds ++ ((48 + n % 10) ∷ [])) c.hold_number.ensures.bytes ∙ append_assoc held (decimal (n / 10)) ((48 + n % 10) ∷ []) ∙ ap (λ ds. held ++ ds) (sym (decimal_step n c.if-number-lt10.false (omega (arith, c.ranges.number.fits))))
 
 pub returns-clause-len : goal.returns-clause-len

@@ -23,14 +23,13 @@ loop-number-preserved c =
     let i = c.loop-number.number-index in
     let n = slice_index_or numbers i 0 in
     let fits : n < 2 ^ 64 = omega (arith, (c.type_inv.numbers i).fits) in
-    let held = c.loop-number.held.items in
+    let held = c.loop-number.held in
     let word = λ (m : ℕ). 9 ∷ escaped (decimal m) in
-    let more : c.hold_number.new.held.items ≡ held ++ word n = c.hold_number.ensures.bytes ∙ ap (λ bytes. bytes ++ decimal n) c.hold_byte.ensures.bytes ∙ append_assoc held (9 ∷ []) (decimal n) ∙ ap (λ ds. held ++ 9 ∷ ds) (sym (escaped-decimal n fits)) in
+    let more : c.hold_number.new.held ≡ held ++ word n = c.hold_number.ensures.bytes ∙ ap (λ bytes. bytes ++ decimal n) c.hold_byte.ensures.bytes ∙ append_assoc held (9 ∷ []) (decimal n) ∙ ap (λ ds. held ++ 9 ∷ ds) (sym (escaped-decimal n fits)) in
     record {
-      bytes = more ∙ pushed_more word c.hold_escaped.new.held.items held numbers i n c.loop-number-test.true (get_or_default numbers i _ n c.loop-number-test.true) c.loop-number.invariant.bytes;
+      bytes = more ∙ pushed_more word c.hold_escaped.new.held held numbers i n c.loop-number-test.true (get_or_default numbers i _ n c.loop-number-test.true) c.loop-number.invariant.bytes;
       left = omega (arith, few n fits);
-      room = omega arith;
     }
 
-pub returns-clause-bytes : goal.returns-clause-bytes
-returns-clause-bytes c = rw (line-pieces decimal c.args.name.now c.args.numbers.now) (grind (arith, common_steps))
+pub returns : goal.returns
+returns c = rw (line-pieces decimal c.args.name.now c.args.numbers.now) (grind (arith, common_steps))

@@ -13,9 +13,9 @@ use Rattle.tabled_script.proofs.output.write_row.Goals.{then-text-gt-PART+in_ok-
 
 pub loop-text-init : goal.loop-text-init
 loop-text-init g c = record {
-  sends = sends_none (g.W.Write.contents c.args.writer.now) c.args.held.now.items c.hold_bytes.new.held.items (codes "row" ++ []) c.hold_bytes.ensures.bytes;
+  sends = sends_none (g.W.Write.contents c.args.writer.now) c.args.held.now c.hold_bytes.new.held (codes "row" ++ []) c.hold_bytes.ensures.bytes;
   texts = tt;
-  room = record { less = omega (arith, c.requires.less); room = omega (arith, c.requires.room) };
+  less = omega (arith, c.requires);
 }
 
 pub loop-text-preserved : goal.loop-text-preserved
@@ -30,16 +30,16 @@ loop-text-preserved g c =
     let one_more = ap (λ bytes. before ++ 9 ∷ escaped bytes) c.text-text.ensures ∙ more in
     elim c.if-text-gt-PART.branch [
       | then-text-gt-PART+in_ok-write_word w ↦ rw (w.writer-is, w.held-is) (record {
-        sends = subst (Sends (contents c.args.writer.now) c.args.held.now.items (contents w.write_word.new.writer) w.write_word.new.held.items) one_more
-            (sends_more (contents c.args.writer.now) (contents c.loop-text.writer) (contents w.write_word.new.writer) c.args.held.now.items c.loop-text.held.items w.write_word.new.held.items before (9 ∷ escaped c.text-text.result.now) c.loop-text.invariant.sends w.in_ok-write_word.ensures.sends);
+        sends = subst (Sends (contents c.args.writer.now) c.args.held.now (contents w.write_word.new.writer) w.write_word.new.held) one_more
+            (sends_more (contents c.args.writer.now) (contents c.loop-text.writer) (contents w.write_word.new.writer) c.args.held.now c.loop-text.held w.write_word.new.held before (9 ∷ escaped c.text-text.result.now) c.loop-text.invariant.sends w.in_ok-write_word.ensures.sends);
         texts = texts_more;
-        room = record { less = omega (arith, w.in_ok-write_word.ensures.room.less); room = w.in_ok-write_word.ensures.room.room };
+        less = omega (arith, w.in_ok-write_word.ensures.less);
       })
       | else-text-gt-PART+in_ok-send w ↦ rw (w.writer-is, w.held-is) (record {
-        sends = sends_next (contents c.args.writer.now) (contents c.loop-text.writer) (contents w.send.new.writer) c.args.held.now.items c.loop-text.held.items w.hold_word.new.held.items w.send.new.held.items
-            before (9 ∷ escaped c.text-text.result.now) (codes "row" ++ flat_map word (take (i + 1) texts)) c.loop-text.invariant.sends w.hold_word.ensures.bytes w.in_ok-send.ensures.sends one_more;
+        sends = sends_next (contents c.args.writer.now) (contents c.loop-text.writer) (contents w.send.new.writer) c.args.held.now c.loop-text.held w.hold_word.new.held w.send.new.held
+            before (9 ∷ escaped c.text-text.result.now) (codes "row" ++ flat_map word (take (i + 1) texts)) c.loop-text.invariant.sends w.hold_word.ensures w.in_ok-send.ensures.sends one_more;
         texts = texts_more;
-        room = record { less = omega (arith, w.in_ok-send.ensures.room.less); room = w.in_ok-send.ensures.room.room };
+        less = omega (arith, w.in_ok-send.ensures.less);
       })
     ]
 
@@ -52,7 +52,7 @@ returns-clause-sends g c =
     let all = take_all c.loop-text.text-index texts (omega arith) in
     let path = ap (λ ts. (codes "row" ++ flat_map (λ t. 9 ∷ escaped (text_of t)) ts) ++ 10 ∷ []) all ∙ sym (line-pieces text_of (codes "row") texts) in
     on_ok_weaker c.send-2.result
-    (λ sent. sends_next (contents c.args.writer.now) (contents c.loop-text.writer) (contents c.send-2.new.writer) c.args.held.now.items c.loop-text.held.items c.hold_byte.new.held.items c.send-2.new.held.items
+    (λ sent. sends_next (contents c.args.writer.now) (contents c.loop-text.writer) (contents c.send-2.new.writer) c.args.held.now c.loop-text.held c.hold_byte.new.held c.send-2.new.held
     (codes "row" ++ words) (10 ∷ []) (line (codes "row" ∷ map text_of texts)) c.loop-text.invariant.sends c.hold_byte.ensures.bytes sent path)
     c.send-2.ensures.sends
 
@@ -62,4 +62,4 @@ returns-clause-texts g c =
     let all = take_all c.loop-text.text-index texts (omega arith) in
     on_ok_weaker c.send-2.result
     (λ _. all_map IsUtf8 g.T.CellText.text_of texts (subst (AllByRecursion (λ t. IsUtf8 (g.T.CellText.text_of t))) all c.loop-text.invariant.texts))
-    c.send-2.ensures.room
+    c.send-2.ensures.less

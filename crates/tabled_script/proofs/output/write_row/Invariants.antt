@@ -1,14 +1,14 @@
-use Rattle.std.proofs.Common.{◌*◌, ◌∷◌, ◌++◌, codes, take}
+use Rattle.std.proofs.Common.{◌*◌, ◌<◌, ◌∷◌, ◌++◌, codes, length, take}
 use Rattle.std.specs.List.{AllByRecursion, flat_map}
 use Rattle.std.specs.Str.{IsUtf8}
 use Rattle.tabled_language.specs.Output.{escaped}
-use Rattle.tabled_script.specs.Sent.{HasRoom, Sends}
+use Rattle.tabled_script.specs.Sent.{Sends}
 use Rattle.tabled_script.specs.declared.held.TheConstants.{PART}
 use Rattle.tabled_script.proofs.output.write_row.Given as goal
 
 abbrev pub invariant-loop-text : goal.invariant-loop-text
 invariant-loop-text g l = record {
-  sends : Sends (g.W.Write.contents l.fn.writer) l.fn.held.items (g.W.Write.contents l.writer) l.held.items (codes "row" ++ flat_map (λ t. 9 ∷ escaped (g.T.CellText.text_of t)) (take l.text-index l.texts));
+  sends : Sends (g.W.Write.contents l.fn.writer) l.fn.held (g.W.Write.contents l.writer) l.held (codes "row" ++ flat_map (λ t. 9 ∷ escaped (g.T.CellText.text_of t)) (take l.text-index l.texts));
   texts : AllByRecursion (λ t. IsUtf8 (g.T.CellText.text_of t)) (take l.text-index l.texts);
-  room : HasRoom (2 * PART) l.held;
+  less : length l.held < 2 * PART;
 }

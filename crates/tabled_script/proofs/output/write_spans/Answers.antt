@@ -16,13 +16,13 @@ loop-pos-preserved g c =
     let anchor = get_or anchors i (record { row = 0; col = 0 }, sized 0 0) in
     let before = flat_map span_line (take i anchors) in
     record {
-      sends = sends_next (contents c.args.writer.now) (contents c.loop-pos.writer) (contents c.send.new.writer) c.args.held.now.items c.loop-pos.held.items c.hold_numbers.new.held.items c.send.new.held.items
-          before (span_line anchor) (flat_map span_line (take (i + 1) anchors)) c.loop-pos.invariant.sends c.hold_numbers.ensures.bytes c.in_ok-send.ensures.sends
+      sends = sends_next (contents c.args.writer.now) (contents c.loop-pos.writer) (contents c.send.new.writer) c.args.held.now c.loop-pos.held c.hold_numbers.new.held c.send.new.held
+          before (span_line anchor) (flat_map span_line (take (i + 1) anchors)) c.loop-pos.invariant.sends c.hold_numbers.ensures c.in_ok-send.ensures.sends
           (pushed_more span_line [] before anchors i anchor c.loop-pos-test.true (get_or_default anchors i _ anchor c.loop-pos-test.true) refl);
-      room = c.in_ok-send.ensures.room;
+      less = c.in_ok-send.ensures.less;
     }
 
 pub returns-clause-sends : goal.returns-clause-sends
 returns-clause-sends g c =
     let all = take_all c.loop-pos.pos-index c.anchors-pos-items.result.now (omega arith) in
-    subst (λ anchors. Sends (g.W.Write.contents c.args.writer.now) c.args.held.now.items (g.W.Write.contents c.loop-pos.writer) c.loop-pos.held.items (flat_map span_line anchors)) (all ∙ c.anchors-pos-items.ensures.anchors) c.loop-pos.invariant.sends
+    subst (λ anchors. Sends (g.W.Write.contents c.args.writer.now) c.args.held.now (g.W.Write.contents c.loop-pos.writer) c.loop-pos.held (flat_map span_line anchors)) (all ∙ c.anchors-pos-items.ensures.anchors) c.loop-pos.invariant.sends

@@ -17,15 +17,15 @@ use Rattle.tabled_script.proofs.output.write_table.Goals as goal
 pub loop-row-init : goal.loop-row-init
 loop-row-init g c =
     let contents = g.W.Write.contents in
-    let held = c.args.held.now.items in
+    let held = c.args.held.now in
     let records = c.args.records.now.items in
     let shape = line (codes "shape" ∷ decimal (length (map_items records)) ∷ decimal (width_of (map_items records)) ∷ []) in
-    let is : c.hold_numbers.new.held.items ≡ held ++ shape = rw (c.hold_numbers.ensures.bytes, c.count_rows.ensures.rows, c.count_columns.ensures.columns) refl in
+    let is : c.hold_numbers.new.held ≡ held ++ shape = rw (c.hold_numbers.ensures, c.count_rows.ensures.rows, c.count_columns.ensures.columns) refl in
     record {
-      sends = sends_next (contents c.args.writer.now) (contents c.args.writer.now) (contents c.send.new.writer) held held c.hold_numbers.new.held.items c.send.new.held.items [] shape (shape ++ [])
+      sends = sends_next (contents c.args.writer.now) (contents c.args.writer.now) (contents c.send.new.writer) held held c.hold_numbers.new.held c.send.new.held [] shape (shape ++ [])
           (sends_none (contents c.args.writer.now) held held [] (sym (append-nil held))) is c.in_ok-send.ensures.sends (sym (append-nil shape));
       texts = tt;
-      room = c.in_ok-send.ensures.room;
+      less = c.in_ok-send.ensures.less;
     }
 
 pub loop-row-preserved : goal.loop-row-preserved
@@ -40,16 +40,16 @@ loop-row-preserved g c =
     let before = shape ++ flat_map line_of (take i records) in
     let path = ap (λ texts. before ++ line (codes "row" ∷ map bytes_of texts)) c.deref.ensures.value ∙ pushed_more line_of shape before records i c.row-item.result here row refl in
     record {
-      sends = subst (Sends (contents c.args.writer.now) c.args.held.now.items (contents c.write_row.new.writer) c.write_row.new.held.items) path
-          (sends_more (contents c.args.writer.now) (contents c.loop-row.writer) (contents c.write_row.new.writer) c.args.held.now.items c.loop-row.held.items c.write_row.new.held.items before (line (codes "row" ∷ map bytes_of c.deref.result.now)) c.loop-row.invariant.sends c.in_ok-write_row.ensures.sends);
+      sends = subst (Sends (contents c.args.writer.now) c.args.held.now (contents c.write_row.new.writer) c.write_row.new.held) path
+          (sends_more (contents c.args.writer.now) (contents c.loop-row.writer) (contents c.write_row.new.writer) c.args.held.now c.loop-row.held c.write_row.new.held before (line (codes "row" ∷ map bytes_of c.deref.result.now)) c.loop-row.invariant.sends c.in_ok-write_row.ensures.sends);
       texts = all_more (λ (r : Vec LentText). AllByRecursion IsUtf8 (map bytes_of r.items)) records i c.row-item.result here row c.loop-row.invariant.texts (subst (λ ts. AllByRecursion IsUtf8 (map bytes_of ts)) c.deref.ensures.value c.in_ok-write_row.ensures.texts);
-      room = c.in_ok-write_row.ensures.room;
+      less = c.in_ok-write_row.ensures.less;
     }
 
 pub returns-clause-sends : goal.returns-clause-sends
 returns-clause-sends g c =
     let contents = g.W.Write.contents in
-    subst (Sends (contents c.args.writer.now) c.args.held.now.items (contents c.loop-row.writer) c.loop-row.held.items) (sym (table_lines-pieces bytes_of c.args.records.now.items c.loop-row.row-index (omega arith))) c.loop-row.invariant.sends
+    subst (Sends (contents c.args.writer.now) c.args.held.now (contents c.loop-row.writer) c.loop-row.held) (sym (table_lines-pieces bytes_of c.args.records.now.items c.loop-row.row-index (omega arith))) c.loop-row.invariant.sends
 
 pub returns-clause-texts : goal.returns-clause-texts
 returns-clause-texts g c =

@@ -1,4 +1,4 @@
-use Rattle.std.proofs.Common.{◌∷◌, ◌++◌, [], take, map, codes, length}
+use Rattle.std.proofs.Common.{◌<◌, ◌∷◌, ◌++◌, [], take, map, codes, length}
 use Rattle.std.specs.Fmt.{decimal}
 use Rattle.std.specs.Global.{Vec}
 use Rattle.std.specs.List.{AllByRecursion, flat_map}
@@ -7,7 +7,7 @@ use Rattle.tabled_grid.specs.Grid.{map_items, width_of}
 use Rattle.tabled_language.specs.Lent.{bytes_of}
 use Rattle.tabled_language.specs.declared.lent.LentText.{LentText}
 use Rattle.tabled_language.specs.Output.{line}
-use Rattle.tabled_script.specs.Sent.{HasRoom, Sends}
+use Rattle.tabled_script.specs.Sent.{Sends}
 use Rattle.tabled_script.specs.declared.held.TheConstants.{PART}
 use Rattle.tabled_script.proofs.output.write_table.Given as goal
 
@@ -15,7 +15,7 @@ abbrev pub invariant-loop-row : goal.invariant-loop-row
 invariant-loop-row g l =
     let shape = line (codes "shape" ∷ decimal (length (map_items l.records.items)) ∷ decimal (width_of (map_items l.records.items)) ∷ []) in
     record {
-      sends : Sends (g.W.Write.contents l.fn.writer) l.fn.held.items (g.W.Write.contents l.writer) l.held.items (shape ++ flat_map (λ (row : Vec LentText). line (codes "row" ∷ map bytes_of row.items)) (take l.row-index l.records.items));
+      sends : Sends (g.W.Write.contents l.fn.writer) l.fn.held (g.W.Write.contents l.writer) l.held (shape ++ flat_map (λ (row : Vec LentText). line (codes "row" ∷ map bytes_of row.items)) (take l.row-index l.records.items));
       texts : AllByRecursion (λ (row : Vec LentText). AllByRecursion IsUtf8 (map bytes_of row.items)) (take l.row-index l.records.items);
-      room : HasRoom PART l.held;
+      less : length l.held < PART;
     }

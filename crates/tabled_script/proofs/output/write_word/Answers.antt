@@ -16,12 +16,11 @@ loop-rest-preserved g c =
     record {
       sends = (
         i.0 ++ escaped part,
-        sends_next (contents c.args.writer.now) (contents c.loop-rest.writer) (contents c.send.new.writer) c.args.held.now.items c.loop-rest.held.items c.hold_escaped.new.held.items c.send.new.held.items
+        sends_next (contents c.args.writer.now) (contents c.loop-rest.writer) (contents c.send.new.writer) c.args.held.now c.loop-rest.held c.hold_escaped.new.held c.send.new.held
             i.0 (escaped part) (i.0 ++ escaped part) i.1 c.hold_escaped.ensures.bytes c.in_ok-send.ensures.sends refl,
         append_assoc i.0 (escaped part) (escaped others) ∙ ap (λ bytes. i.0 ++ bytes) (sym (flat_map-append escaped_byte part others) ∙ ap escaped whole) ∙ i.2,
       );
-      less = omega (arith, c.in_ok-send.ensures.room.less);
-      room = c.in_ok-send.ensures.room.room;
+      less = omega (arith, c.in_ok-send.ensures.less);
     }
 
 pub returns-clause-sends : goal.returns-clause-sends
@@ -29,6 +28,6 @@ returns-clause-sends g c =
     let contents = g.W.Write.contents in
     let i = c.loop-rest.invariant.sends in
     on_ok_weaker c.send-2.result
-    (λ sent. sends_next (contents c.args.writer.now) (contents c.loop-rest.writer) (contents c.send-2.new.writer) c.args.held.now.items c.loop-rest.held.items c.hold_escaped-2.new.held.items c.send-2.new.held.items
+    (λ sent. sends_next (contents c.args.writer.now) (contents c.loop-rest.writer) (contents c.send-2.new.writer) c.args.held.now c.loop-rest.held c.hold_escaped-2.new.held c.send-2.new.held
     i.0 (escaped c.loop-rest.rest.now) (9 ∷ escaped c.args.text.now) i.1 c.hold_escaped-2.ensures.bytes sent i.2)
     c.send-2.ensures.sends

@@ -1,14 +1,13 @@
-use Rattle.std.proofs.Common.{◌≡◌, ◌≤◌, ◌*◌, ℕ, List, ◌∷◌, ◌++◌, length, vec_capacity, vec_len}
+use Rattle.std.proofs.Common.{◌≡◌, ◌≤◌, ◌*◌, ℕ, List, ◌∷◌, ◌++◌, length}
 use Rattle.tabled_language.specs.Output.{escaped}
 use Rattle.tabled_script.specs.Sent.{Sends}
-use Rattle.tabled_script.specs.declared.held.TheConstants.{PART, ROOM}
+use Rattle.tabled_script.specs.declared.held.TheConstants.{PART}
 use Rattle.tabled_script.proofs.output.write_word.Given as goal
 
 abbrev pub invariant-loop-rest : goal.invariant-loop-rest
 invariant-loop-rest g l = record {
-  sends : (sent : List ℕ) × Sends (g.W.Write.contents l.fn.writer) l.fn.held.items (g.W.Write.contents l.writer) l.held.items sent × (sent ++ escaped l.rest ≡ 9 ∷ escaped l.fn.text);
-  less : vec_len l.held ≤ 2 * PART;
-  room : ROOM ≤ vec_capacity l.held;
+  sends : (sent : List ℕ) × Sends (g.W.Write.contents l.fn.writer) l.fn.held (g.W.Write.contents l.writer) l.held sent × (sent ++ escaped l.rest ≡ 9 ∷ escaped l.fn.text);
+  less : length l.held ≤ 2 * PART;
 }
 
 abbrev pub decreases-loop-rest : goal.decreases-loop-rest

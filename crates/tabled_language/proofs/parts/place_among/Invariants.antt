@@ -1,5 +1,5 @@
 use Rattle.std.proofs.Common.{ℕ, ◌≡◌, ◌<◌, eqb, false, get_or}
-use Rattle.tabled_language.proofs.parts.first_place.Given as goal
+use Rattle.tabled_language.proofs.parts.place_among.Given as goal
 
 abbrev pub invariant-loop-i : goal.invariant-loop-i
 invariant-loop-i l = (k : ℕ) → k < l.i → eqb (get_or l.bytes k 0) l.fn.at ≡ false

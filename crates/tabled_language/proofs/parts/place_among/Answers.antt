@@ -1,0 +1,22 @@
+use Rattle.std.proofs.Common.{◌≡◌, ◌≢◌, ◌⊎◌, inl, inr, eqb, false, true, get_or, length, arith}
+use Rattle.std.proofs.lemmas.Bool.Decides.{eqb_tells, nat_tests}
+use Rattle.std.proofs.lemmas.List.Sums.{position_or_len_is}
+use Rattle.tabled_language.proofs.parts.place_among.Goals as goal
+
+pub returns-then-byte-at : goal.returns-then-byte-at
+returns-then-byte-at c =
+    let bytes = c.args.bytes.now in
+    let here : eqb (get_or bytes c.loop-i.i 0) c.args.at ≡ true = grind (arith, nat_tests, c.if-byte-at.true) in
+    (position_or_len_is (λ b. eqb b c.args.at) bytes c.loop-i.i 0 (omega (arith, c.loop-i-test.true)) c.loop-i.invariant (λ _. here), c.loop-i-test.true)
+
+pub loop-i-preserved : goal.loop-i-preserved
+loop-i-preserved c k below = by (eqb_tells k c.loop-i.i)
+  where
+    by : ((eqb k c.loop-i.i ≡ true) × (k ≡ c.loop-i.i)) ⊎ ((eqb k c.loop-i.i ≡ false) × (k ≢ c.loop-i.i)) → eqb (get_or c.args.bytes.now k 0) c.args.at ≡ false
+    by (inl (_, same)) = rw same (grind (arith, nat_tests, c.if-byte-at.false))
+    by (inr (_, other)) = c.loop-i.invariant k (omega (arith, below, other))
+
+pub returns : goal.returns
+returns c =
+    let bytes = c.args.bytes.now in
+    position_or_len_is (λ b. eqb b c.args.at) bytes (length bytes) 0 (omega arith) (λ k within. c.loop-i.invariant k (omega (arith, within, c.loop-i-test.false))) (λ past. absurd (omega (arith, past)))
