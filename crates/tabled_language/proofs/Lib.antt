@@ -12,6 +12,7 @@ pub mod Examples
 pub mod LooseLines
 pub mod Misfits
 pub mod Numbers
+pub mod OwnWords
 pub mod PaddedRecords
 pub mod PlacedAnchors
 pub mod PlainLines

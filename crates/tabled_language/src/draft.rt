@@ -32,9 +32,11 @@ pub(crate) struct Draft<'a> {
 
 impl<'a> Draft<'a> {
     ghost use Rattle.std.specs.Prelude.{◌≡◌, ◌<◌, ◌&&◌, false, [], List, map, IfOk, MatchResult, None, OnErr, Some, Ok, Err, length, true};
+    ghost use Rattle.std.specs.List.{AllByRecursion};
     ghost use Rattle.tabled_language.specs.Drafts.{draft_of, takes};
     ghost use Rattle.tabled_language.specs.Lent.{bytes_of};
-    ghost use Rattle.tabled_language.specs.Line.{fault_of, first_fault, line_asks, line_of, meaning_of, script_or_fault, words_ask, words_of};
+    ghost use Rattle.tabled_language.specs.Line.{fault_of, first_fault, has, line_asks, line_of, meaning_of, script_or_fault, words_ask, words_of};
+    ghost use Rattle.tabled_language.specs.Output.{IsOwnWord};
     ghost use Rattle.tabled_language.specs.Parsing.{IsNumbered, ReadsLine, draft_in, script_in};
     ghost use Rattle.tabled_language.specs.Sizes.{reads_anchor, reads_shape};
     ghost use Rattle.tabled_language.specs.Verb.{Line, RecordLine, ShapeLine, SpanLine, step_line, steps};
@@ -60,6 +62,7 @@ impl<'a> Draft<'a> {
 
     /// Adds what the line of a number says, or says why it isn't read.
     pub(crate) fn read_line(&mut self, alloc: Global, number: usize, line: &'a [u8]) -> Read<()>
+        requires { has 10 line.now ≡ false }
         ensures read { ReadsLine (draft_in self.old) number (line_of line.now) (line_asks (takes (draft_in self.old)) line.now) result (draft_in self.new) }
         ensures sizes { IfOk result (λ _. IsNumbered self.old → IsNumbered self.new) }
     {
@@ -77,6 +80,7 @@ impl<'a> Draft<'a> {
 
     /// Adds what a line without escapes says, or says why it isn't read.
     fn read_plain(&mut self, alloc: Global, number: usize, line: &'a str) -> Read<()>
+        requires { AllByRecursion IsOwnWord (words_of line.now) }
         ensures read { ReadsLine (draft_in self.old) number (meaning_of (Some (words_of line.now))) (words_ask (takes (draft_in self.old)) (words_of line.now)) result (draft_in self.new) }
         ensures sizes { IfOk result (λ _. IsNumbered self.old → IsNumbered self.new) }
     {

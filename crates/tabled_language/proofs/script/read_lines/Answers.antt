@@ -2,8 +2,10 @@ use Rattle.std.proofs.Common.{ℕ, ◌≡◌, List, [], eqb, arith, rules}
 use Rattle.std.proofs.lemmas.List.{length-map}
 use Rattle.std.proofs.lemmas.List.Splits.{length-slice_split}
 use Rattle.std.proofs.lemmas.List.Sums.{count_by-le-length}
-use Rattle.tabled_language.specs.Line.{line_of, lines_of}
+use Rattle.tabled_language.specs.Line.{has, line_of, lines_of}
 use Rattle.tabled_language.specs.Parsing.{draft_in}
+use Rattle.tabled_language.proofs.Escapes.{or-false-left, or-false-right}
+use Rattle.tabled_language.proofs.OwnWords.{parts_lack_separator}
 use Rattle.tabled_language.proofs.ScriptLines.{has_read-counts, has_read-end, has_read-more, script_ends}
 use Rattle.tabled_language.proofs.script.read_lines.Goals as goal
 
@@ -13,9 +15,19 @@ overflow_add-number c =
     let counted = has_read-counts (rw c.in-Some.ensures.steps at c.loop-line.invariant.read) in
     omega (arith, counted, length-map (lines_of c.args.input.now) line_of, length-map c.next.new.self line_of, length-slice_split p c.args.input.now, count_by-le-length p c.args.input.now)
 
+pub read_line-requires : goal.read_line-requires
+read_line-requires c = or-false-left (has 10 c.in-Some.line.now) _ (rw c.in-Some.ensures.steps at c.loop-line.invariant.no_newline)
+
 pub returns-in-Err-clause-read : goal.returns-in-Err-clause-read
 returns-in-Err-clause-read c =
     script_ends c.args.input.now c.in-Some.line.now c.next.new.self c.loop-line.number (draft_in c.loop-line.draft) c.in-Err.error (rw c.in-Some.ensures.steps at c.loop-line.invariant.read) (rw c.in-Err.is at c.read_line.ensures.read)
+
+pub loop-line-init : goal.loop-line-init
+loop-line-init c = record {
+  read = search rules;
+  numbered = search rules;
+  no_newline = search (rules, parts_lack_separator 10 c.args.input.now);
+}
 
 pub loop-line-preserved : goal.loop-line-preserved
 loop-line-preserved c =
@@ -23,6 +35,7 @@ loop-line-preserved c =
     record {
       read = rw read.1 (has_read-more c.in-Some.line.now (rw c.in-Some.ensures.steps at c.loop-line.invariant.read) read.0);
       numbered = (rw c.in_default.is at c.read_line.ensures.sizes) c.loop-line.invariant.numbered;
+      no_newline = or-false-right (has 10 c.in-Some.line.now) _ (rw c.in-Some.ensures.steps at c.loop-line.invariant.no_newline);
     }
 
 pub returns-clause-read : goal.returns-clause-read

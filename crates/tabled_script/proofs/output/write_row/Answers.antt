@@ -3,6 +3,7 @@ use Rattle.std.proofs.lemmas.List.{take_all}
 use Rattle.std.proofs.lemmas.Result.{on_ok_weaker}
 use Rattle.std.specs.List.{AllByRecursion, flat_map}
 use Rattle.std.specs.Str.{IsUtf8}
+use Rattle.tabled_language.specs.Lent.{bytes_of}
 use Rattle.tabled_language.specs.Output.{escaped, line}
 use Rattle.tabled_script.specs.Sent.{Sends}
 use Rattle.tabled_script.proofs.OutputLines.{line-pieces, pushed_more}
@@ -21,11 +22,11 @@ loop-text-init g c = record {
 pub loop-text-preserved : goal.loop-text-preserved
 loop-text-preserved g c =
     let contents = g.W.Write.contents in
-    let word = λ (t : _). 9 ∷ escaped (g.T.CellText.text_of t) in
+    let word = λ (t : _). 9 ∷ escaped (bytes_of t) in
     let texts = c.args.texts.now in
     let i = c.loop-text.text-index in
     let before = codes "row" ++ flat_map word (take i texts) in
-    let texts_more = all_more (λ t. IsUtf8 (g.T.CellText.text_of t)) texts i c.text-item.result c.loop-text-test.true c.text-item.is c.loop-text.invariant.texts (subst IsUtf8 c.text-text.ensures c.text-text.utf8) in
+    let texts_more = all_more (λ t. IsUtf8 (bytes_of t)) texts i c.text-item.result c.loop-text-test.true c.text-item.is c.loop-text.invariant.texts (subst IsUtf8 c.text-text.ensures c.text-text.utf8) in
     let more = pushed_more word (codes "row") before texts i c.text-item.result c.loop-text-test.true c.text-item.is refl in
     let one_more = ap (λ bytes. before ++ 9 ∷ escaped bytes) c.text-text.ensures ∙ more in
     elim c.if-text-gt-PART.branch [
@@ -46,7 +47,7 @@ loop-text-preserved g c =
 pub returns-clause-sends : goal.returns-clause-sends
 returns-clause-sends g c =
     let contents = g.W.Write.contents in
-    let text_of = g.T.CellText.text_of in
+    let text_of = bytes_of in
     let texts = c.args.texts.now in
     let words = flat_map (λ t. 9 ∷ escaped (text_of t)) (take c.loop-text.text-index texts) in
     let all = take_all c.loop-text.text-index texts (omega arith) in
@@ -61,5 +62,5 @@ returns-clause-texts g c =
     let texts = c.args.texts.now in
     let all = take_all c.loop-text.text-index texts (omega arith) in
     on_ok_weaker c.send-2.result
-    (λ _. all_map IsUtf8 g.T.CellText.text_of texts (subst (AllByRecursion (λ t. IsUtf8 (g.T.CellText.text_of t))) all c.loop-text.invariant.texts))
+    (λ _. all_map IsUtf8 bytes_of texts (subst (AllByRecursion (λ t. IsUtf8 (bytes_of t))) all c.loop-text.invariant.texts))
     c.send-2.ensures.less
