@@ -14,6 +14,7 @@ pub mod LastBefore
 pub mod LooseLines
 pub mod Misfits
 pub mod Numbers
+pub mod OwnWords
 pub mod PaddedRecords
 pub mod PlacedAnchors
 pub mod PlainLines

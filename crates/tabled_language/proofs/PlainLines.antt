@@ -3,28 +3,17 @@ use Rattle.std.proofs.Common.{◌≡◌, ℕ, zero, suc, ◌+◌, ◌<◌, ◌�
 use Rattle.std.proofs.lemmas.Bool.Decides.{leb_tells}
 use Rattle.std.proofs.lemmas.List.{length-drop}
 use Rattle.std.proofs.lemmas.Str.{IsCharBoundary-after_ascii, IsCharBoundary-before_ascii, IsUtf8-drop, IsUtf8-from_is_utf8, IsUtf8-take, is_utf8-from_IsUtf8}
-use Rattle.std.specs.List.{AllByRecursion, list_any, onto_first, position_or_len}
+use Rattle.std.specs.List.{AllByRecursion, list_any, position_or_len}
 use Rattle.std.specs.Str.{IsUtf8, is_utf8}
 use Rattle.tabled_language.specs.Line.{is_plain, texts_of, words_of}
 use Rattle.tabled_language.specs.Word.{text_of_word}
+use Rattle.tabled_language.proofs.OwnWords.{parts_lack}
 use Rattle.tabled_language.proofs.Separated.{byte_at_place, one_part, part_and_others}
 use Rattle.tabled_language.proofs.Escapes.{or-false-left, or-false-right, unescaped-clean}
 
 -- a backslash stands in a word
 abbrev pub has_backslash : List ℕ → Bool
 has_backslash word = list_any (λ b. eqb b 92) word
-
-onto_first-clean : (b : ℕ) (words : List (List ℕ)) → eqb b 92 ≡ false → list_any has_backslash words ≡ false → list_any has_backslash (onto_first b words) ≡ false
-onto_first-clean b [] plain clean = rw plain refl
-onto_first-clean b (word ∷ words) plain clean = rw plain clean
-
-words_of-clean : (line : List ℕ) → has_backslash line ≡ false → list_any has_backslash (words_of line) ≡ false
-words_of-clean [] clean = refl
-words_of-clean (b ∷ bs) clean = go (eqb b 9) (words_of-clean bs (or-false-right (eqb b 92) _ clean))
-  where
-    go : (tab : Bool) → list_any has_backslash (words_of bs) ≡ false → list_any has_backslash (cond tab ([] ∷ words_of bs) (onto_first b (words_of bs))) ≡ false
-    go true later = later
-    go false later = onto_first-clean b (words_of bs) (or-false-left (eqb b 92) _ clean) later
 
 words_of-utf8 : (n : ℕ) (line : List ℕ) → length line < n → IsUtf8 line → AllByRecursion IsUtf8 (words_of line)
 words_of-utf8 zero line short text = absurd (omega (arith, short))
@@ -50,7 +39,7 @@ texts_of-clean (word ∷ words) texts clean =
 
 -- the words of a text without a backslash are their own texts
 pub texts_of-plain : (line : List ℕ) → IsUtf8 line → has_backslash line ≡ false → texts_of (words_of line) ≡ Some (words_of line)
-texts_of-plain line text clean = texts_of-clean (words_of line) (words_of-utf8 (length line + 1) line (omega arith) text) (words_of-clean line clean)
+texts_of-plain line text clean = texts_of-clean (words_of line) (words_of-utf8 (length line + 1) line (omega arith) text) (parts_lack 92 9 line clean)
 
 -- such a text is a plain line
 pub plain_line : (line : List ℕ) → IsUtf8 line → has_backslash line ≡ false → is_plain line ≡ true

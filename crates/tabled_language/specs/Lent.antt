@@ -7,7 +7,7 @@ use Rattle.tabled_language.specs.declared.lent.LentText.TheVariants.{Lent, Short
 
 -- the text, as its bytes
 abbrev pub bytes_of : LentText → List ℕ
-bytes_of (Lent text) = text.now
+bytes_of (Lent text) = text
 bytes_of (Short text) = text
 bytes_of (Own text) = string_bytes text.value
 

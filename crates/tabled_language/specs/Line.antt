@@ -20,6 +20,10 @@ lines_of input = slice_split (λ b. b == 10) input
 abbrev pub words_of : List ℕ → List (List ℕ)
 words_of line = slice_split (λ b. b == 9) line
 
+-- a byte stands among bytes
+abbrev pub has : ℕ → List ℕ → Bool
+has b bytes = list_any (λ c. c == b) bytes
+
 -- the texts of words, or nothing where a word has none
 abbrev pub texts_of : List (List ℕ) → Option (List (List ℕ))
 texts_of [] = Some []

@@ -1,5 +1,5 @@
 -- How a table is written.
-use Rattle.std.specs.Prelude.{ℕ, List, [], ◌∷◌, ◌++◌, ◌==◌, map, codes, if◌then◌else◌}
+use Rattle.std.specs.Prelude.{◌≡◌, ℕ, List, [], ◌∷◌, ◌++◌, ◌==◌, map, codes, if◌then◌else◌}
 use Rattle.std.specs.FinMap.{entries}
 use Rattle.std.specs.List.{flat_map, join_with_byte}
 use Rattle.std.specs.Fmt.{decimal}
@@ -14,6 +14,10 @@ escaped_byte b = if b == 9 then codes "\\t" else (if b == 10 then codes "\\n" el
 -- the word that stands for a text
 abbrev pub escaped : List ℕ → List ℕ
 escaped text = flat_map escaped_byte text
+
+-- a text is its own word: each of its bytes stands as it is
+abbrev pub IsOwnWord : List ℕ → Type 0
+IsOwnWord text = escaped text ≡ text
 
 -- the words of texts, separated by tabs
 abbrev pub joined : List (List ℕ) → List ℕ

@@ -36,10 +36,12 @@ pub(crate) struct Draft<'a> {
 
 impl<'a> Draft<'a> {
     ghost use Rattle.std.specs.Prelude.{◌≡◌, ◌<◌, false, true, [], ℕ, map, IfOk, None, OnErr, Some, length};
+    ghost use Rattle.std.specs.List.{AllByRecursion};
     ghost use Rattle.tabled_language.specs.Drafts.{takes};
     ghost use Rattle.tabled_language.specs.Lent.{bytes_of};
-    ghost use Rattle.tabled_language.specs.Line.{line_of, meaning_of, words_of};
+    ghost use Rattle.tabled_language.specs.Line.{has, line_of, meaning_of, words_of};
     ghost use Rattle.tabled_language.specs.Memory.{line_asks, span_asks, step_asks};
+    ghost use Rattle.tabled_language.specs.Output.{IsOwnWord};
     ghost use Rattle.tabled_language.specs.Parsing.{AnswersDraft, IsPlaced, ReadsLine, ReadsWords, draft_in};
     ghost use Rattle.tabled_language.specs.Verb.{RecordLine, says_shape, says_span, says_step};
 
@@ -59,6 +61,7 @@ impl<'a> Draft<'a> {
 
     /// Adds what the line of a number says, or says why it isn't read.
     pub(crate) fn read_line(&mut self, alloc: Global, number: usize, line: &'a [u8]) -> Read<()>
+        requires { has 10 line.now ≡ false }
         ensures { ReadsLine (draft_in self.old) number (line_of line.now) (line_asks (takes (draft_in self.old)) line.now) result (draft_in self.new) }
     {
         if line.is_empty() {
@@ -75,6 +78,7 @@ impl<'a> Draft<'a> {
 
     /// Adds what a line without escapes says, or says why it isn't read.
     fn read_plain(&mut self, alloc: Global, number: usize, line: &'a str) -> Read<()>
+        requires { AllByRecursion IsOwnWord (words_of line.now) }
         ensures { ReadsWords (draft_in self.old) number (words_of line.now) result (draft_in self.new) }
     {
         let mut fields = Fields::new(line);

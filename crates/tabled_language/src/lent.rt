@@ -3,6 +3,7 @@
 ghost use Rattle.std.specs.Prelude.{◌≡◌, []};
 ghost use Rattle.tabled_language.specs.Lent.{bytes_of};
 
+use crate::plain::PlainText;
 use crate::short::ShortText;
 use std::alloc::{AllocError, Global};
 use tabled_grid::records::{Blank, CellText, FromText};
@@ -13,16 +14,34 @@ use tabled_grid::records::{Blank, CellText, FromText};
 /// Of this project.
 #[derive(Drop)]
 pub enum LentText<'a> {
-    Lent(&'a str),
+    Lent(PlainText<'a>),
     Short(ShortText),
     Own(Box<String>),
+}
+
+impl<'a> LentText<'a> {
+    ghost use Rattle.std.specs.Prelude.{◌≡◌, IfSome};
+    ghost use Rattle.tabled_language.specs.Lent.{bytes_of};
+    ghost use Rattle.tabled_language.specs.Output.{escaped};
+
+    /// The word that stands for the text, if it is the text itself and this is known without a look at its bytes.
+    pub fn as_word(&self) -> Option<&str>
+        ensures text { IfSome result (λ word. word.now ≡ bytes_of self.now) }
+        ensures word { IfSome result (λ word. word.now ≡ escaped (bytes_of self.now)) }
+    {
+        match self {
+            LentText::Lent(text) => Some(text.as_word()),
+            LentText::Short(_) => None,
+            LentText::Own(_) => None,
+        }
+    }
 }
 
 impl<'a> Blank for LentText<'a> {
     ghost is_blank = { λ text. bytes_of text ≡ [] };
 
     fn blank(_alloc: Global) -> Self {
-        LentText::Lent("")
+        LentText::Lent(PlainText::new(""))
     }
 }
 
@@ -33,7 +52,7 @@ impl<'a> CellText for LentText<'a> {
 
     fn text(&self) -> &str {
         match self {
-            LentText::Lent(text) => text,
+            LentText::Lent(text) => text.as_word(),
             LentText::Short(text) => text.as_str(),
             LentText::Own(text) => text.as_str(),
         }

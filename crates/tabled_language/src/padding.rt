@@ -7,6 +7,7 @@ ghost use Rattle.tabled_language.specs.Lent.{bytes_of, texts_of};
 ghost use Rattle.tabled_language.specs.Line.{table_from};
 
 use crate::lent::LentText;
+use crate::plain::PlainText;
 use std::alloc::AllocError;
 
 /// The cells that a script begins with: its records, each padded with empty texts to the longest (r x c).
@@ -50,7 +51,7 @@ fn pad(row: &mut Vec<LentText>, columns: usize) -> Result<(), AllocError>
 {
     row.reserve_exact(columns.saturating_sub(row.len()))?;
     while row.len() < columns {
-        row.push(LentText::Lent(""))?;
+        row.push(LentText::Lent(PlainText::new("")))?;
     }
     Ok(())
 }

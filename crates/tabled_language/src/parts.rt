@@ -5,7 +5,6 @@ ghost use Rattle.std.specs.Iterator.{YieldsFirstRef, item_count};
 ghost use Rattle.std.specs.List.{count_by, position_or_len, slice_split};
 ghost use Rattle.tabled_language.specs.Parts.{parts_left};
 
-use memchr::memchr;
 use std::marker::Model;
 
 /// How many bytes are compared at once.
@@ -70,7 +69,31 @@ fn first_part(bytes: &[u8], at: u8) -> (&[u8], Option<&[u8]>)
 fn first_place(bytes: &[u8], at: u8) -> Option<usize>
     ensures { MatchOption result (position_or_len (λ b. b == at) bytes.now ≡ length bytes.now) (λ place. (position_or_len (λ b. b == at) bytes.now ≡ place) × (place < length bytes.now)) }
 {
-    memchr(at, bytes)
+    let mut passed = 0;
+    let mut rest = bytes;
+    while BLOCK <= rest.len() {
+        let (block, others) = rest.split_at(BLOCK);
+        if let Some(place) = place_in_block(block, at) {
+            return Some(passed + place);
+        }
+        passed += BLOCK;
+        rest = others;
+    }
+    match near_place(rest, at) {
+        Some(place) => Some(passed + place),
+        None => None,
+    }
+}
+
+/// The same, among at most 255 bytes, which are compared all at once.
+fn place_in_block(bytes: &[u8], at: u8) -> Option<usize>
+    requires { length bytes.now < 256 }
+    ensures { MatchOption result (position_or_len (λ b. b == at) bytes.now ≡ length bytes.now) (λ place. (position_or_len (λ b. b == at) bytes.now ≡ place) × (place < length bytes.now)) }
+{
+    if count_few(bytes, at) == 0 {
+        return None;
+    }
+    place_among(bytes, at)
 }
 
 /// The same, for a place that is within a few bytes.

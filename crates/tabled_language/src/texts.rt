@@ -4,11 +4,12 @@ ghost use Rattle.std.specs.Prelude.{◌≡◌, ◌∷◌, map, false, true, IfOk
 ghost use Rattle.std.specs.Iterator.{YieldsFirstRef, item_count};
 ghost use Rattle.std.specs.Option.{option_map};
 ghost use Rattle.tabled_language.specs.Lent.{bytes_of};
-ghost use Rattle.tabled_language.specs.Line.{is_plain, texts_of, words_of};
+ghost use Rattle.tabled_language.specs.Line.{has, is_plain, texts_of, words_of};
 ghost use Rattle.tabled_language.specs.Parts.{parts_left};
 
 use crate::lent::LentText;
 use crate::parts::{Parts, count_parts, near_place};
+use crate::plain::PlainText;
 use crate::word::lent_text;
 use std::alloc::{AllocError, Global};
 use std::marker::Model;
@@ -32,6 +33,7 @@ pub(crate) fn escaped_texts<'a>(
     alloc: Global,
     line: &'a [u8],
 ) -> Result<Option<Vec<LentText<'a>>>, AllocError>
+    requires { has 10 line.now ≡ false }
     ensures { IfOk result (λ texts. option_map (λ v. map bytes_of v.items) texts ≡ texts_of (words_of line.now)) }
 {
     let mut texts = Vec::with_capacity(alloc, count_parts(line, b'\t'))?;
@@ -62,8 +64,10 @@ impl<'a> Model for Fields<'a> {
 
 impl<'a> Fields<'a> {
     ghost use Rattle.std.specs.Prelude.{◌≡◌, length, map, IfOk};
+    ghost use Rattle.std.specs.List.{AllByRecursion};
     ghost use Rattle.tabled_language.specs.Lent.{bytes_of};
     ghost use Rattle.tabled_language.specs.Line.{words_of};
+    ghost use Rattle.tabled_language.specs.Output.{IsOwnWord};
 
     pub(crate) fn new(line: &'a str) -> Self
         ensures { result ≡ words_of line.now }
@@ -85,11 +89,12 @@ impl<'a> Fields<'a> {
     // A call of its own keeps the values of this loop, which reads all cells, in registers.
     #[inline(never)]
     pub(crate) fn texts(self, alloc: Global) -> Result<Vec<LentText<'a>>, AllocError>
+        requires { AllByRecursion IsOwnWord self }
         ensures { IfOk result (λ texts. map bytes_of texts.items ≡ self.entry) }
     {
         let mut texts = Vec::with_capacity(alloc, self.left())?;
         for word in self {
-            texts.push(LentText::Lent(word))?;
+            texts.push(LentText::Lent(PlainText::new(word)))?;
         }
         Ok(texts)
     }

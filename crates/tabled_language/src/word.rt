@@ -1,12 +1,14 @@
 //! The words of a line, and the texts that they stand for.
 
-ghost use Rattle.std.specs.Prelude.{◌≡◌, map, IfOk};
+ghost use Rattle.std.specs.Prelude.{◌≡◌, false, map, IfOk};
 ghost use Rattle.std.specs.Option.{option_map};
 ghost use Rattle.std.specs.String.{string_bytes};
 ghost use Rattle.tabled_language.specs.Lent.{bytes_of};
+ghost use Rattle.tabled_language.specs.Line.{has};
 ghost use Rattle.tabled_language.specs.Word.{escape, integer_of, number_of, number_to, size_of, text_of_word, unescaped};
 
 use crate::lent::LentText;
+use crate::plain::PlainText;
 use std::alloc::{AllocError, Global};
 use std::str;
 use tabled_grid::records::FromText;
@@ -66,6 +68,7 @@ pub(crate) fn lent_text<'a>(
     alloc: Global,
     word: &'a [u8],
 ) -> Result<Option<LentText<'a>>, AllocError>
+    requires { (has 9 word.now ≡ false) × (has 10 word.now ≡ false) }
     ensures { IfOk result (λ text. option_map bytes_of text ≡ text_of_word word.now) }
 {
     if word.contains(&b'\\') {
@@ -75,7 +78,7 @@ pub(crate) fn lent_text<'a>(
         return Ok(Some(LentText::from_string(alloc, text)?));
     }
     match str::from_utf8(word) {
-        Ok(text) => Ok(Some(LentText::Lent(text))),
+        Ok(text) => Ok(Some(LentText::Lent(PlainText::new(text)))),
         Err(_) => Ok(None),
     }
 }

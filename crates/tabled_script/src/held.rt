@@ -2,12 +2,15 @@
 
 ghost use Rattle.std.specs.Fmt.{decimal};
 ghost use Rattle.std.specs.Prelude.{◌≡◌, ◌+◌, ◌*◌, ◌<◌, ◌≤◌, [], ◌∷◌, ◌++◌, IsTrue, OnOk, length, map};
+ghost use Rattle.tabled_language.specs.Lent.{bytes_of};
 ghost use Rattle.tabled_language.specs.Output.{escaped, escaped_byte, line};
 ghost use Rattle.tabled_script.specs.Sent.{Sends};
 
 use std::alloc::{AllocError, Global};
 use std::io::{self, Write};
 use std::marker::Model;
+use tabled_grid::records::CellText;
+use tabled_language::LentText;
 
 /// How many bytes are held before they are written.
 pub(crate) const PART: usize = 16_384;
@@ -128,12 +131,15 @@ fn hold_number(held: &mut Held, number: usize)
 }
 
 /// Holds a tab, and the word that stands for a text.
-pub(crate) fn hold_word(held: &mut Held, text: &str)
-    requires { length held.old + 2 * length text.now < ROOM }
-    ensures { held.new ≡ held.old ++ 9 ∷ escaped text.now }
+pub(crate) fn hold_word(held: &mut Held, text: &LentText)
+    requires { length held.old + 2 * length (bytes_of text.now) < ROOM }
+    ensures { held.new ≡ held.old ++ 9 ∷ escaped (bytes_of text.now) }
 {
     hold_byte(held, b'\t');
-    hold_escaped(held, text.as_bytes());
+    match text.as_word() {
+        Some(word) => hold_bytes(held, word.as_bytes()),
+        None => hold_escaped(held, text.text().as_bytes()),
+    }
 }
 
 /// Holds the word that stands for the bytes of a text.

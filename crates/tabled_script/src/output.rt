@@ -86,17 +86,17 @@ fn write_table<W: Write>(
 }
 
 /// Writes, or holds, the line of a row's texts.
-fn write_row<W: Write, T: CellText>(writer: &mut W, held: &mut Held, texts: &[T]) -> io::Result<()>
+fn write_row<W: Write>(writer: &mut W, held: &mut Held, texts: &[LentText]) -> io::Result<()>
     requires { length held.old < PART }
-    ensures sends { OnOk result (Sends (W.contents writer.old) held.old (W.contents writer.new) held.new (line (codes "row" ∷ map T.text_of texts.now))) }
-    ensures texts { OnOk result (AllByRecursion IsUtf8 (map T.text_of texts.now)) }
+    ensures sends { OnOk result (Sends (W.contents writer.old) held.old (W.contents writer.new) held.new (line (codes "row" ∷ map bytes_of texts.now))) }
+    ensures texts { OnOk result (AllByRecursion IsUtf8 (map bytes_of texts.now)) }
     ensures less { OnOk result (length held.new < PART) }
 {
     hold_bytes(held, b"row");
     for text in texts {
-        let text = text.text();
-        if text.len() > PART {
-            write_word(writer, held, text)?;
+        let bytes = text.text();
+        if bytes.len() > PART {
+            write_word(writer, held, bytes)?;
         } else {
             hold_word(held, text);
             send(writer, held)?;

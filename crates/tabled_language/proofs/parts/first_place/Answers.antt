@@ -1,18 +1,20 @@
-use Rattle.std.proofs.Common.{ℕ, ◌≡◌, ◌<◌, Bool, true, false, List, Option, None, Some, MatchOption, eqb, get_or, length, refl, arith}
-use Rattle.std.proofs.lemmas.List.Sums.{position_or_len_is}
+use Rattle.std.proofs.Common.{◌≡◌, ◌+◌, ◌<◌, eqb, length, ap, subst, sym, ◌∙◌, arith}
 use Rattle.std.specs.List.{position_or_len}
-use Rattle.memchr.specs.Find.{IsFirstByte, is_byte}
+use Rattle.tabled_language.proofs.Separated.{behind_first, within_first}
 use Rattle.tabled_language.proofs.parts.first_place.Goals as goal
 
--- a test that doesn't pass fails
-fails : (b : Bool) → (b ≡ true → ⊥) → b ≡ false
-fails false none = refl
-fails true none = absurd (none refl)
+pub returns-in-Some : goal.returns-in-Some
+returns-in-Some c =
+    let front = c.split_at.ensures.front in
+    let first = within_first c.args.at 64 c.loop-rest.rest.now c.in-Some.place (subst (λ part. position_or_len (λ b. eqb b c.args.at) part ≡ c.in-Some.place) front c.in-Some.ensures.0) (subst (λ part. c.in-Some.place < length part) front c.in-Some.ensures.1) in
+    (c.loop-rest.invariant.place ∙ ap (λ n. c.loop-rest.passed + n) first, omega (arith, c.in-Some.ensures.1, c.split_at.ensures.front_len, c.loop-rest-test.true, c.loop-rest.invariant.length))
 
--- the first place of a byte, said in two ways
-first_byte : (at : ℕ) (bytes : List ℕ) (r : Option ℕ) → IsFirstByte (is_byte at) bytes r → MatchOption r (position_or_len (λ b. eqb b at) bytes ≡ length bytes) (λ place. (position_or_len (λ b. eqb b at) bytes ≡ place) × (place < length bytes))
-first_byte at bytes None nowhere = position_or_len_is (λ b. eqb b at) bytes (length bytes) 0 (omega arith) (λ k within. fails (eqb (get_or bytes k 0) at) (nowhere k (omega arith) within)) (λ past. absurd (omega (arith, past)))
-first_byte at bytes (Some place) (first, here) = (position_or_len_is (λ b. eqb b at) bytes place 0 (omega (arith, first.high)) (λ k before. fails (eqb (get_or bytes k 0) at) (first.before k (omega arith) before)) (λ _. here), first.high)
-
-pub returns : goal.returns
-returns c = first_byte c.args.at c.args.bytes.now c.memchr.result c.memchr.ensures
+pub loop-rest-preserved : goal.loop-rest-preserved
+loop-rest-preserved c =
+    let rest = c.loop-rest.rest.now in
+    let none = subst (λ part. position_or_len (λ b. eqb b c.args.at) part ≡ 64) c.split_at.ensures.front (c.in_default.ensures ∙ c.split_at.ensures.front_len) in
+    let later = subst (λ others. position_or_len (λ b. eqb b c.args.at) rest ≡ 64 + position_or_len (λ b. eqb b c.args.at) others) (sym c.split_at.ensures.back) (behind_first c.args.at 64 rest c.loop-rest-test.true none) in
+    record {
+      place = c.loop-rest.invariant.place ∙ ap (λ n. c.loop-rest.passed + n) later ∙ omega arith;
+      length = omega (arith, c.loop-rest.invariant.length, c.split_at.ensures.back_len, c.loop-rest-test.true);
+    }

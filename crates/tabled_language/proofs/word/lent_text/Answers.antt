@@ -1,15 +1,23 @@
-use Rattle.std.proofs.Common.{◌≡◌, eqb, false, rules}
+use Rattle.std.proofs.Common.{◌≡◌, ◌∙◌, eqb, false, rules}
 use Rattle.std.specs.List.{list_any}
 use Rattle.tabled_language.proofs.Escapes.{unescaped-clean}
+use Rattle.tabled_language.proofs.OwnWords.{own_word}
 use Rattle.tabled_language.proofs.Utf8.{no_text, text_lent}
 use Rattle.tabled_language.proofs.word.lent_text.Goals as goal
+
+pub new-requires : goal.new-requires
+new-requires c =
+    let word = c.args.word.now in
+    let clean : list_any (λ b. eqb b 92) word ≡ false = search rules in
+    let text = rw c.in-Ok.is at c.from_utf8.ensures.cases in
+    rw text.0 (own_word word c.requires.0 c.requires.1 clean)
 
 pub returns-in-Ok : goal.returns-in-Ok
 returns-in-Ok c =
     let word = c.args.word.now in
     let clean : list_any (λ b. eqb b 92) word ≡ false = search rules in
     let text = rw c.in-Ok.is at c.from_utf8.ensures.cases in
-    rw (unescaped-clean word clean) (text_lent word c.in-Ok.text.now text.0 text.1)
+    rw (unescaped-clean word clean) (text_lent word c.new.result (c.new.ensures ∙ text.0) text.1)
 
 pub returns-in-Err : goal.returns-in-Err
 returns-in-Err c =

@@ -1,6 +1,7 @@
 use Rattle.std.proofs.Common.{◌*◌, ◌<◌, ◌∷◌, ◌++◌, codes, length, take}
 use Rattle.std.specs.List.{AllByRecursion, flat_map}
 use Rattle.std.specs.Str.{IsUtf8}
+use Rattle.tabled_language.specs.Lent.{bytes_of}
 use Rattle.tabled_language.specs.Output.{escaped}
 use Rattle.tabled_script.specs.Sent.{Sends}
 use Rattle.tabled_script.specs.declared.held.TheConstants.{PART}
@@ -8,7 +9,7 @@ use Rattle.tabled_script.proofs.output.write_row.Given as goal
 
 abbrev pub invariant-loop-text : goal.invariant-loop-text
 invariant-loop-text g l = record {
-  sends : Sends (g.W.Write.contents l.fn.writer) l.fn.held (g.W.Write.contents l.writer) l.held (codes "row" ++ flat_map (λ t. 9 ∷ escaped (g.T.CellText.text_of t)) (take l.text-index l.texts));
-  texts : AllByRecursion (λ t. IsUtf8 (g.T.CellText.text_of t)) (take l.text-index l.texts);
+  sends : Sends (g.W.Write.contents l.fn.writer) l.fn.held (g.W.Write.contents l.writer) l.held (codes "row" ++ flat_map (λ t. 9 ∷ escaped (bytes_of t)) (take l.text-index l.texts));
+  texts : AllByRecursion (λ t. IsUtf8 (bytes_of t)) (take l.text-index l.texts);
   less : length l.held < 2 * PART;
 }

@@ -1,10 +1,19 @@
-use Rattle.std.proofs.Common.{◌≡◌, ◌≢◌, length, map, Some, sym, ap, ◌∙◌, rules}
+use Rattle.std.proofs.Common.{◌≡◌, ◌≢◌, length, map, not, Some, sym, ap, ◌∙◌, rules}
+use Rattle.std.proofs.lemmas.Bool.{and_parts, not-true}
+use Rattle.std.specs.Str.{is_utf8}
 use Rattle.tabled_language.specs.Drafts.{takes}
-use Rattle.tabled_language.specs.Line.{line_of, meaning_of, words_of}
+use Rattle.tabled_language.specs.Line.{has, line_of, meaning_of, words_of}
 use Rattle.tabled_language.specs.Lent.{bytes_of}
 use Rattle.tabled_language.specs.Parsing.{draft_in}
+use Rattle.tabled_language.proofs.OwnWords.{line_of_own_words}
 use Rattle.tabled_language.proofs.ScriptLines.{line_asks-plain, line_asks-texts, line_of-texts, same_line}
 use Rattle.tabled_language.proofs.draft.Draft.read_line.Goals as goal
+
+pub read_plain-requires : goal.read_plain-requires
+read_plain-requires c =
+    let line = c.args.line.now in
+    let clean = and_parts (is_utf8 line) (not (has 92 line)) c.in-Some.ensures.1 in
+    rw c.in-Some.ensures.0 (line_of_own_words line c.requires (not-true (has 92 line) clean.1))
 
 pub returns-in-Some : goal.returns-in-Some
 returns-in-Some c =

@@ -1,0 +1,26 @@
+use Rattle.std.proofs.Common.{arith, rules}
+use Rattle.std.proofs.lemmas.Grind.{common_steps}
+use Rattle.tabled_language.specs.Line.{has}
+use Rattle.tabled_language.proofs.Escapes.{or-false-left, or-false-right}
+use Rattle.tabled_language.proofs.OwnWords.{parts_lack, parts_lack_separator}
+use Rattle.tabled_language.proofs.texts.escaped_texts.Goals as goal
+
+pub loop-word-init : goal.loop-word-init
+loop-word-init c = record {
+  texts = search rules;
+  no_tab = search (rules, parts_lack_separator 9 c.args.line.now);
+  no_newline = search (rules, parts_lack 10 9 c.args.line.now c.requires);
+}
+
+pub lent_text-requires : goal.lent_text-requires
+lent_text-requires c = (
+  or-false-left (has 9 c.in-Some.word.now) _ (rw c.in-Some.ensures.steps at c.loop-word.invariant.no_tab),
+  or-false-left (has 10 c.in-Some.word.now) _ (rw c.in-Some.ensures.steps at c.loop-word.invariant.no_newline),
+)
+
+pub loop-word-preserved : goal.loop-word-preserved
+loop-word-preserved c = record {
+  texts = grind (arith, common_steps);
+  no_tab = or-false-right (has 9 c.in-Some.word.now) _ (rw c.in-Some.ensures.steps at c.loop-word.invariant.no_tab);
+  no_newline = or-false-right (has 10 c.in-Some.word.now) _ (rw c.in-Some.ensures.steps at c.loop-word.invariant.no_newline);
+}
