@@ -25,7 +25,6 @@ returns-in-Err c =
 pub loop-line-init : goal.loop-line-init
 loop-line-init c = record {
   read = search rules;
-  numbered = search rules;
   no_newline = search (rules, parts_lack_separator 10 c.args.input.now);
 }
 

@@ -8,6 +8,5 @@ use Rattle.tabled_language.proofs.script.read_lines.Given as goal
 abbrev pub invariant-loop-line : goal.invariant-loop-line
 invariant-loop-line l = record {
   read : HasRead (lines_of l.input) l.line-iterator l.number (draft_in l.draft);
-  numbered : IsNumbered l.draft;
   no_newline : list_any (has 10) l.line-iterator ≡ false;
 }
