@@ -3,7 +3,7 @@
 use crate::fault::{Fault, ReadError};
 use crate::words::{Read, Words};
 use std::alloc::Global;
-use tabled_steps::Select;
+use tabled_steps::Selector;
 
 /// How many selectors stand in each other at most.
 const LARGEST_DEPTH: usize = 64;
@@ -15,7 +15,7 @@ impl<'a> Words<'a> {
     ghost use Rattle.tabled_steps.specs.Selected.{named_by};
 
     /// A selector that may hold others.
-    pub(crate) fn cells(&mut self, alloc: Global) -> Read<Select>
+    pub(crate) fn cells(&mut self, alloc: Global) -> Read<Selector>
         ensures { Reads named_by reads_cells self.old result self.new }
     {
         self.selector(alloc, LARGEST_DEPTH)
@@ -23,7 +23,7 @@ impl<'a> Words<'a> {
 
     /// A selector that holds others to a depth.
     #[cycle(nested)]
-    fn selector(&mut self, alloc: Global, depth: usize) -> Read<Select>
+    fn selector(&mut self, alloc: Global, depth: usize) -> Read<Selector>
         ensures { Reads named_by (reads_selector depth) self.old result self.new }
     {
         let word = self.word()?;
@@ -35,7 +35,7 @@ impl<'a> Words<'a> {
 
     /// A selector that another one holds, in a place of its own.
     #[cycle(nested)]
-    fn inner(&mut self, alloc: Global, depth: usize) -> Read<Box<Select>>
+    fn inner(&mut self, alloc: Global, depth: usize) -> Read<Box<Selector>>
         ensures { Reads (λ place. named_by place.value) (kept (reads_selector depth)) self.old result self.new }
     {
         let select = self.selector(alloc, depth)?;
@@ -44,108 +44,108 @@ impl<'a> Words<'a> {
 
     /// What is after the word of a selector, where others are held to a depth.
     #[cycle(nested)]
-    fn selector_behind(&mut self, alloc: Global, depth: usize, word: &str) -> Read<Select>
+    fn selector_behind(&mut self, alloc: Global, depth: usize, word: &str) -> Read<Selector>
         ensures { Reads named_by (behind (selectors (kept (reads_selector depth))) word.now) self.old result self.new }
     {
         // What most scripts say comes first.
         match word {
-            "all" => Ok(Select::All),
+            "all" => Ok(Selector::All),
             "cell" => {
                 let row = self.number()?;
                 let column = self.number()?;
-                Ok(Select::Cell(row, column))
+                Ok(Selector::Cell(row, column))
             }
             "row" => {
                 let row = self.number()?;
-                Ok(Select::Row(row))
+                Ok(Selector::Row(row))
             }
             "column" => {
                 let column = self.number()?;
-                Ok(Select::Column(column))
+                Ok(Selector::Column(column))
             }
             "content" => {
                 let text = self.text(alloc)?;
-                Ok(Select::Content(text))
+                Ok(Selector::Content(text))
             }
             "name" => {
                 let text = self.text(alloc)?;
-                Ok(Select::Name(text))
+                Ok(Selector::Name(text))
             }
             "and" => {
                 let x = self.inner(alloc, depth)?;
                 let y = self.inner(alloc, depth)?;
-                Ok(Select::And(x, y))
+                Ok(Selector::And(x, y))
             }
             "not" => {
                 let x = self.inner(alloc, depth)?;
                 let y = self.inner(alloc, depth)?;
-                Ok(Select::Not(x, y))
+                Ok(Selector::Not(x, y))
             }
             "intersect" => {
                 let x = self.inner(alloc, depth)?;
                 let y = self.inner(alloc, depth)?;
-                Ok(Select::Intersect(x, y))
+                Ok(Selector::Intersect(x, y))
             }
             "inverse" => {
                 let x = self.inner(alloc, depth)?;
-                Ok(Select::Inverse(x))
+                Ok(Selector::Inverse(x))
             }
             "skip" => {
                 let n = self.number()?;
                 let x = self.inner(alloc, depth)?;
-                Ok(Select::Skip(n, x))
+                Ok(Selector::Skip(n, x))
             }
             "step" => {
                 let n = self.number()?;
                 let x = self.inner(alloc, depth)?;
-                Ok(Select::StepBy(n, x))
+                Ok(Selector::StepBy(n, x))
             }
             _ => self.plain_selector(word),
         }
     }
 
     /// What is after the word of a further selector that holds no other and no text.
-    fn plain_selector(&mut self, word: &str) -> Read<Select>
+    fn plain_selector(&mut self, word: &str) -> Read<Selector>
         ensures { Reads named_by (behind plain_selectors word.now) self.old result self.new }
     {
         match word {
-            "first-row" => Ok(Select::FirstRow),
-            "last-row" => Ok(Select::LastRow),
-            "first-column" => Ok(Select::FirstColumn),
-            "last-column" => Ok(Select::LastColumn),
-            "frame" => Ok(Select::Frame),
+            "first-row" => Ok(Selector::FirstRow),
+            "last-row" => Ok(Selector::LastRow),
+            "first-column" => Ok(Selector::FirstColumn),
+            "last-column" => Ok(Selector::LastColumn),
+            "frame" => Ok(Selector::Frame),
             "last-row-minus" => {
                 let n = self.number()?;
-                Ok(Select::LastRowMinus(n))
+                Ok(Selector::LastRowMinus(n))
             }
             "last-row-plus" => {
                 let n = self.number()?;
-                Ok(Select::LastRowPlus(n))
+                Ok(Selector::LastRowPlus(n))
             }
             "last-column-minus" => {
                 let n = self.number()?;
-                Ok(Select::LastColumnMinus(n))
+                Ok(Selector::LastColumnMinus(n))
             }
             "last-column-plus" => {
                 let n = self.number()?;
-                Ok(Select::LastColumnPlus(n))
+                Ok(Selector::LastColumnPlus(n))
             }
             "rows" => {
                 let start = self.number()?;
                 let end = self.number()?;
-                Ok(Select::Rows(start, end))
+                Ok(Selector::Rows(start, end))
             }
             "columns" => {
                 let start = self.number()?;
                 let end = self.number()?;
-                Ok(Select::Columns(start, end))
+                Ok(Selector::Columns(start, end))
             }
             "segment" => {
                 let first_row = self.number()?;
                 let end_row = self.number()?;
                 let first_column = self.number()?;
                 let end_column = self.number()?;
-                Ok(Select::Segment(first_row, end_row, first_column, end_column))
+                Ok(Selector::Segment(first_row, end_row, first_column, end_column))
             }
             _ => Err(ReadError::Faulty(Fault::UnknownWord)),
         }

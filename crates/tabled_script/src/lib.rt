@@ -19,4 +19,4 @@ mod tests;
 mod watched;
 
 pub use program::{draw_script, run_script};
-pub use tabled_steps::{Select, Step, run};
+pub use tabled_steps::{Selector, Step, run};

@@ -29,7 +29,7 @@ use Rattle.tabled_steps.specs.Reads.{joined_tables}
 use Rattle.tabled_steps.specs.Selected.{half_open, named_by, selected}
 use Rattle.tabled_steps.specs.States.{State, after, after_all, duplicate, merge, on_each, put_panel, rearrange, recode, set, span, state_of}
 use Rattle.tabled_steps.specs.Steps.{Does, Merges, Names}
-use Rattle.tabled_steps.specs.declared.select.Select.{Select}
+use Rattle.tabled_steps.specs.declared.selector.Selector.{Selector}
 use Rattle.tabled_steps.specs.declared.step.Step.{Step}
 use Rattle.tabled_steps.specs.declared.step.Step.TheVariants as step
 use Rattle.tabled_steps.proofs.MergedRuns.{is_merged}
@@ -58,13 +58,13 @@ module _ {A : Type 0} (text_of : A → List ℕ) where
   each_is does change one [] g c h d same = same_state _ _ _ _ (ap (map_grid text_of) same.0) same.1
   each_is does change one (e ∷ es) g c h d (m, k, first, rest) = each_is does change one es m k h d rest ∙ ap (λ (s : State). fold change s es) (one e g c m k first)
 
-  listed_is : (select : Select) (does : Entity → Change A SpanMap) (change : State → Entity → State)
+  listed_is : (select : Selector) (does : Entity → Change A SpanMap) (change : State → Entity → State)
       → ((e : Entity) (g : Grid A) (c : SpanMap) (h : Grid A) (d : SpanMap) → does e g c h d → state_of text_of h d ≡ change (state_of text_of g c) e)
       → (g : Grid A) (c : SpanMap) (h : Grid A) (d : SpanMap) → EachListed (Names text_of select) does g c h d → state_of text_of h d ≡ on_each change (named_by select) (state_of text_of g c)
   listed_is select does change one g c h d (es, are, each) = each_is does change one es g c h d each ∙ ap (fold change (state_of text_of g c)) are
 
   module _ (g : Grid A) (c : SpanMap) (h : Grid A) (d : SpanMap) where
-    duplicated : (destination source : Select) → Duplicates text_of (Names text_of destination) (Names text_of source) g c h d → state_of text_of h d ≡ duplicate (named_by destination) (named_by source) (state_of text_of g c)
+    duplicated : (destination source : Selector) → Duplicates text_of (Names text_of destination) (Names text_of source) g c h d → state_of text_of h d ≡ duplicate (named_by destination) (named_by source) (state_of text_of g c)
     duplicated destination source (sources, targets, named, aimed, does) =
         let texts : Grid (List ℕ) = map_grid text_of g in
         same_state _ _ _ _ (does.0 ∙ ap (λ (ws : List Write). with_writes ws texts) (ap (rounds (source_texts texts sources) g.rows g.columns) aimed ∙ ap (λ (es : List Entity). dup_writes es (selected texts destination) texts) named)) does.1

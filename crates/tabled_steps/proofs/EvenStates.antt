@@ -30,7 +30,7 @@ use Rattle.tabled_spans.specs.Spanned.{span_writes}
 use Rattle.tabled_steps.specs.Reads.{joined_tables, read}
 use Rattle.tabled_steps.specs.Selected.{half_open, named_by, selected}
 use Rattle.tabled_steps.specs.States.{IsUndoneMidway, State, after, after_all, flattened, on_each, parts, put_panel, rearrange}
-use Rattle.tabled_steps.specs.declared.select.Select.{Select}
+use Rattle.tabled_steps.specs.declared.selector.Selector.{Selector}
 use Rattle.tabled_steps.specs.declared.step.Step.{Step}
 use Rattle.tabled_steps.specs.declared.step.Step.TheVariants as step
 use Rattle.tabled_steps.proofs.TextReads.{IsEven-table_of}
@@ -47,7 +47,7 @@ even_each : (change : State → Entity → State) → ((e : Entity) → Keeps (�
 even_each change keeps [] s even = even
 even_each change keeps (e ∷ es) s even = even_each change keeps es (change s e) (keeps e s even)
 
-even_on_each : (change : State → Entity → State) (select : Select) → ((e : Entity) → Keeps (λ s. change s e)) → Keeps (on_each change (named_by select))
+even_on_each : (change : State → Entity → State) (select : Selector) → ((e : Entity) → Keeps (λ s. change s e)) → Keeps (on_each change (named_by select))
 even_on_each change select keeps s = even_each change keeps (selected s.texts select) s
 
 even_panel : (axis : Axis) (line : ℕ) (text : List ℕ) → Keeps (put_panel axis line text)

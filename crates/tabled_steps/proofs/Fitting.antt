@@ -25,7 +25,7 @@ use Rattle.tabled_spans.proofs.PanelGeometry.{panels_fit, same_fits}
 use Rattle.tabled_spans.proofs.SpanGeometry.{fits_spanned, option_keeps}
 use Rattle.tabled_steps.specs.Fitting.{KeepsFitting}
 use Rattle.tabled_steps.specs.Steps.{Does, Leaves, LeavesFirst, Merges, Names, Refused}
-use Rattle.tabled_steps.specs.declared.select.Select.{Select}
+use Rattle.tabled_steps.specs.declared.selector.Selector.{Selector}
 use Rattle.tabled_steps.specs.declared.step.Step.{Step}
 use Rattle.tabled_steps.specs.declared.step.Step.TheVariants as step
 
@@ -34,7 +34,7 @@ module _ {A : Type 0} (is_blank : A → Type 0) (text_of : A → List ℕ) where
   fitting g c = Fits c g.rows g.columns
 
   -- an option on each entity that a selector names
-  on_entities : (select : Select) (does leaves : Entity → Change A SpanMap) → ((e : Entity) → OptionKeeps fitting (does e) (leaves e)) → OptionKeeps fitting (EachListed (Names text_of select) does) (LeavesFirst text_of select does leaves)
+  on_entities : (select : Selector) (does leaves : Entity → Change A SpanMap) → ((e : Entity) → OptionKeeps fitting (does e) (leaves e)) → OptionKeeps fitting (EachListed (Names text_of select) does) (LeavesFirst text_of select does leaves)
   on_entities select does leaves keeps = keeps_copied fitting _ _ (keeps_listed fitting does _ (Names text_of select) (λ e. keeps_copied fitting (does e) (leaves e) (keeps e)))
 
   panels : (axis : Axis) (line : Grid A → ℕ) (text : List ℕ) → OptionKeeps fitting (λ g. Panels is_blank text_of axis (line g) text g) Same

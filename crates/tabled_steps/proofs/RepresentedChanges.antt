@@ -11,7 +11,7 @@ use Rattle.tabled_steps.specs.Groups.{IsGroup, AreRepresentatives, representativ
 use Rattle.tabled_steps.specs.Selected.{selected}
 use Rattle.tabled_steps.specs.Steps.{LeavesFirst, Names}
 use Rattle.tabled_steps.specs.declared.groups.Group.{Group}
-use Rattle.tabled_steps.specs.declared.select.Select.{Select}
+use Rattle.tabled_steps.specs.declared.selector.Selector.{Selector}
 use Rattle.tabled_steps.proofs.StepsUntil.{first_refused, later_refused}
 
 -- what is done and left on an entity depends on the places alone that it names, the shape stays, and to do it
@@ -129,7 +129,7 @@ module _ {A : Type 0} (does leaves : Entity → Change A SpanMap) (local : IsLoc
       let n = counted group each.0 in
       group_refuses group.entity (representatives_of groups) (unrolled rows columns groups) n.0 es (same ∙ ap (λ k. replicate k (inside group.entity rows columns) ++ unrolled rows columns groups) n.1) n.2 (λ rest is. refuses groups rest is each.1)
 
-module _ {A : Type 0} (text_of : A → List ℕ) (select : Select) (does leaves : Entity → Change A SpanMap) (local : IsLocal does leaves) (g : Grid A) (c : SpanMap) (h : Grid A) (d : SpanMap) where
+module _ {A : Type 0} (text_of : A → List ℕ) (select : Selector) (does leaves : Entity → Change A SpanMap) (local : IsLocal does leaves) (g : Grid A) (c : SpanMap) (h : Grid A) (d : SpanMap) where
   -- a change for each entity that stands for named ones is one for each named entity
   pub represented : EachListed (AreRepresentatives text_of select) does g c h d → EachListed (Names text_of select) does g c h d
   represented (representatives, (groups, grouped, are), each) =

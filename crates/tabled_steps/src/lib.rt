@@ -4,10 +4,10 @@
 mod groups;
 pub mod laws;
 mod representatives;
-mod select;
+mod selector;
 mod step;
 mod steps;
 
-pub use select::Select;
+pub use selector::Selector;
 pub use step::Step;
 pub use steps::run;

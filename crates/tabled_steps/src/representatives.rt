@@ -2,7 +2,7 @@
 
 ghost use Rattle.tabled_steps.specs.Groups.{AreRepresentatives};
 
-use crate::select::Select;
+use crate::selector::Selector;
 use std::alloc::{AllocError, Global};
 use std::marker::Model;
 use std::vec;
@@ -12,7 +12,7 @@ use tabled_select::object::Object;
 
 /// Names for each group of entities that a selector names the one that stands for it.
 #[derive(Debug, Drop)]
-pub(crate) struct Representatives(pub(crate) Select);
+pub(crate) struct Representatives(pub(crate) Selector);
 
 impl<R> Object<R> for Representatives
 where

@@ -5,7 +5,7 @@ ghost use Rattle.tabled_steps.specs.Steps.{Does, Leaves, TakesNoMemory};
 ghost use Rattle.std.proofs.Common.{rules};
 
 use crate::representatives::Representatives;
-use crate::select::Select;
+use crate::selector::Selector;
 use std::alloc::{AllocError, Global};
 use tabled_grid::config::{Entity, SpannedConfig};
 use tabled_grid::records::{
@@ -35,15 +35,15 @@ use tabled_spans::span::Span;
 #[derive(Drop)]
 pub enum Step {
     /// Writes a text to cells.
-    Set(Select, String),
+    Set(Selector, String),
     /// Writes to the first cells the texts of the second ones.
-    Dup(Select, Select),
+    Dup(Selector, Selector),
     /// Replaces tabs in the texts of cells, or takes control characters out, as the charset says.
-    Charset(Charset, Select),
+    Charset(Charset, Selector),
     /// Merges cells along rows, by a span's size.
-    ColumnSpan(isize, Select),
+    ColumnSpan(isize, Selector),
     /// Merges cells along columns, by a span's size.
-    RowSpan(isize, Select),
+    RowSpan(isize, Selector),
     HorizontalPanel(HorizontalPanel),
     VerticalPanel(VerticalPanel),
     Header(Header),

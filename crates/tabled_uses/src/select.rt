@@ -6,7 +6,7 @@ use tabled_grid::records::{Text, VecRecords};
 use tabled_select::object::{
     Cell, Column, Columns, Frame, Object, ObjectIterator, Row, Rows, Segment, entities,
 };
-use tabled_steps::Select;
+use tabled_steps::Selector;
 use tabled_table::{Table, TextRef};
 
 /// A store of texts, as a table has it.
@@ -89,7 +89,7 @@ pub fn lists_steps(alloc: Global, store: &Store) -> Result<usize, AllocError> {
 }
 
 /// How many entities a selector names that is data.
-pub fn lists_selected(alloc: Global, select: &Select, store: &Store) -> Result<usize, AllocError> {
+pub fn lists_selected(alloc: Global, select: &Selector, store: &Store) -> Result<usize, AllocError> {
     count(alloc, select, store)
 }
 

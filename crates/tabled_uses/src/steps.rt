@@ -9,7 +9,7 @@ use tabled_settings::merge::Merge;
 use tabled_settings::rotate::Rotate;
 use tabled_settings::span::Span;
 use tabled_settings::split::Split;
-use tabled_steps::{Select, Step, run};
+use tabled_steps::{Selector, Step, run};
 use tabled_table::{Table, TextRef};
 
 /// Spans cells of a table.
@@ -48,7 +48,7 @@ where
     ensures { R.is_well_formed records.new }
 {
     let text = String::from_str(alloc, "x")?;
-    let first = Step::Set(Select::Skip(1, Box::new(alloc, Select::Rows(0, 9))?), text);
+    let first = Step::Set(Selector::Skip(1, Box::new(alloc, Selector::Rows(0, 9))?), text);
     let both = Step::Both(
         Box::new(alloc, Step::Rotate(Rotate::Left))?,
         Box::new(alloc, Step::Split(Split::column(2)))?,

@@ -21,7 +21,7 @@ use tabled_select::object::{
 ///
 /// Of this project.
 #[derive(Debug, Drop)]
-pub enum Select {
+pub enum Selector {
     /// All cells, as one entity.
     All,
     /// A cell, by its row and column.
@@ -50,29 +50,29 @@ pub enum Select {
     /// The columns with a text in the first row.
     Name(String),
     /// The cells of both, each once.
-    And(Box<Select>, Box<Select>),
+    And(Box<Selector>, Box<Selector>),
     /// The cells of the first that the second doesn't name.
-    Not(Box<Select>, Box<Select>),
+    Not(Box<Selector>, Box<Selector>),
     /// The cells of the first that the second names, too.
-    Intersect(Box<Select>, Box<Select>),
+    Intersect(Box<Selector>, Box<Selector>),
     /// The cells that aren't named.
-    Inverse(Box<Select>),
+    Inverse(Box<Selector>),
     /// What is named without the first n entities.
-    Skip(usize, Box<Select>),
+    Skip(usize, Box<Selector>),
     /// Of what is named the entities 0, n, 2n and so on.
-    StepBy(usize, Box<Select>),
+    StepBy(usize, Box<Selector>),
 }
 
-impl Select {
+impl Selector {
     /// The one entity that is named in any table, if it is known without one.
     pub(crate) fn single(&self) -> Option<Entity>
         ensures { IfSome result (λ entity. (texts : Grid (List ℕ)) → selected texts self.now ≡ entity ∷ []) }
     {
         match self {
-            Select::All => Some(Entity::Global),
-            Select::Cell(i, j) => Some(Entity::Cell(*i, *j)),
-            Select::Row(i) => Some(Entity::Row(*i)),
-            Select::Column(j) => Some(Entity::Column(*j)),
+            Selector::All => Some(Entity::Global),
+            Selector::Cell(i, j) => Some(Entity::Cell(*i, *j)),
+            Selector::Row(i) => Some(Entity::Row(*i)),
+            Selector::Column(j) => Some(Entity::Column(*j)),
             _ => None,
         }
     }
@@ -105,11 +105,11 @@ impl Select {
         ensures { IfOk result (AreGroupedIn (R.grid records.now) (selected (map_grid R.Cell.text_of (R.grid records.now)) self.now)) }
     {
         match self {
-            Select::Rows(a, b) => group_rows(alloc, records, *a, *b),
-            Select::Columns(a, b) => group_columns(alloc, records, *a, *b),
-            Select::Segment(a, b, c, d) => group_segment(alloc, records, (*a, *b), (*c, *d)),
-            Select::Skip(n, x) => x.groups(alloc, records)?.skip(alloc, records, *n),
-            Select::StepBy(n, x) => x.groups(alloc, records)?.step_by(alloc, records, *n),
+            Selector::Rows(a, b) => group_rows(alloc, records, *a, *b),
+            Selector::Columns(a, b) => group_columns(alloc, records, *a, *b),
+            Selector::Segment(a, b, c, d) => group_segment(alloc, records, (*a, *b), (*c, *d)),
+            Selector::Skip(n, x) => x.groups(alloc, records)?.skip(alloc, records, *n),
+            Selector::StepBy(n, x) => x.groups(alloc, records)?.step_by(alloc, records, *n),
             _ => Ok(Groups::Each(self.list(alloc, records)?)),
         }
     }
@@ -126,48 +126,48 @@ impl Select {
         ensures { IfOk result (λ all. all.items ≡ selected (map_grid R.Cell.text_of (R.grid records.now)) self.now) }
     {
         match self {
-            Select::All => entities(alloc, &Segment::all(), records),
-            Select::Cell(i, j) => entities(alloc, &Cell::new(*i, *j), records),
-            Select::Row(i) => entities(alloc, &Row::from(*i), records),
-            Select::Column(j) => entities(alloc, &Column::from(*j), records),
-            Select::FirstRow => entities(alloc, &FirstRow, records),
-            Select::LastRow => entities(alloc, &LastRow, records),
-            Select::FirstColumn => entities(alloc, &FirstColumn, records),
-            Select::LastColumn => entities(alloc, &LastColumn, records),
-            Select::LastRowMinus(n) => entities(alloc, &(LastRow - *n), records),
-            Select::LastRowPlus(n) => entities(alloc, &(LastRow + *n), records),
-            Select::LastColumnMinus(n) => entities(alloc, &(LastColumn - *n), records),
-            Select::LastColumnPlus(n) => entities(alloc, &(LastColumn + *n), records),
-            Select::Rows(a, b) => entities(alloc, &Rows::new(*a..*b), records),
-            Select::Columns(a, b) => entities(alloc, &Columns::new(*a..*b), records),
-            Select::Segment(a, b, c, d) => entities(alloc, &Segment::new(*a..*b, *c..*d), records),
-            Select::Frame => entities(alloc, &Frame, records),
-            Select::Content(text) => { entities(alloc, &ByContent::new(text.clone()?), records) }
-            Select::Name(text) => entities(alloc, &ByColumnName::new(text.clone()?), records),
-            Select::And(x, y) => {
+            Selector::All => entities(alloc, &Segment::all(), records),
+            Selector::Cell(i, j) => entities(alloc, &Cell::new(*i, *j), records),
+            Selector::Row(i) => entities(alloc, &Row::from(*i), records),
+            Selector::Column(j) => entities(alloc, &Column::from(*j), records),
+            Selector::FirstRow => entities(alloc, &FirstRow, records),
+            Selector::LastRow => entities(alloc, &LastRow, records),
+            Selector::FirstColumn => entities(alloc, &FirstColumn, records),
+            Selector::LastColumn => entities(alloc, &LastColumn, records),
+            Selector::LastRowMinus(n) => entities(alloc, &(LastRow - *n), records),
+            Selector::LastRowPlus(n) => entities(alloc, &(LastRow + *n), records),
+            Selector::LastColumnMinus(n) => entities(alloc, &(LastColumn - *n), records),
+            Selector::LastColumnPlus(n) => entities(alloc, &(LastColumn + *n), records),
+            Selector::Rows(a, b) => entities(alloc, &Rows::new(*a..*b), records),
+            Selector::Columns(a, b) => entities(alloc, &Columns::new(*a..*b), records),
+            Selector::Segment(a, b, c, d) => entities(alloc, &Segment::new(*a..*b, *c..*d), records),
+            Selector::Frame => entities(alloc, &Frame, records),
+            Selector::Content(text) => { entities(alloc, &ByContent::new(text.clone()?), records) }
+            Selector::Name(text) => entities(alloc, &ByColumnName::new(text.clone()?), records),
+            Selector::And(x, y) => {
                 let lhs = EntityList(x.representatives(alloc, records)?);
                 let rhs = EntityList(y.representatives(alloc, records)?);
                 entities(alloc, &lhs.and(rhs), records)
             }
-            Select::Not(x, y) => {
+            Selector::Not(x, y) => {
                 let lhs = EntityList(x.representatives(alloc, records)?);
                 let rhs = EntityList(y.representatives(alloc, records)?);
                 entities(alloc, &lhs.not(rhs), records)
             }
-            Select::Intersect(x, y) => {
+            Selector::Intersect(x, y) => {
                 let lhs = EntityList(x.representatives(alloc, records)?);
                 let rhs = EntityList(y.representatives(alloc, records)?);
                 entities(alloc, &lhs.intersect(rhs), records)
             }
-            Select::Inverse(x) => {
+            Selector::Inverse(x) => {
                 let named = EntityList(x.representatives(alloc, records)?);
                 entities(alloc, &named.inverse(), records)
             }
-            Select::Skip(n, x) => {
+            Selector::Skip(n, x) => {
                 let listed = EntityList(x.list(alloc, records)?);
                 entities(alloc, &listed.skip(*n), records)
             }
-            Select::StepBy(n, x) => {
+            Selector::StepBy(n, x) => {
                 let listed = EntityList(x.list(alloc, records)?);
                 entities(alloc, &listed.step_by(*n), records)
             }
@@ -175,7 +175,7 @@ impl Select {
     }
 }
 
-impl<R> Object<R> for Select
+impl<R> Object<R> for Selector
 where
     R: Records + ExactRecords + PeekableRecords,
     R::Cell: CellText,

@@ -1,6 +1,6 @@
 use Rattle.std.proofs.Common.{refl}
 use Rattle.tabled_select.proofs.Located.{vec-lists}
-use Rattle.tabled_steps.proofs.select.SelectObject.cells.Goals as goal
+use Rattle.tabled_steps.proofs.selector.SelectorObject.cells.Goals as goal
 
 pub returns : goal.returns
 returns g c =

@@ -4,7 +4,7 @@ use Rattle.tabled_grid.specs.declared.config.entity.Entity.{Entity}
 use Rattle.tabled_select.specs.Algebra.{cells_of, difference_of, flat, intersection_of, inversion_of, union_of}
 use Rattle.tabled_steps.proofs.Outside.{each_once}
 use Rattle.tabled_steps.proofs.RepresentedPlaces.{cells_alike}
-use Rattle.tabled_steps.proofs.select.Select.+listing.Goals as goal
+use Rattle.tabled_steps.proofs.selector.Selector.+listing.Goals as goal
 
 -- what holds of a result, where it is there, and what follows from it
 with_ok : {A E : Type 0} {P : A → Type 0} (r : Result A E) (Q : A → Type 0) → IfOk r P → ((x : A) → P x → Q x) → IfOk r Q
