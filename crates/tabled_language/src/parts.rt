@@ -1,9 +1,9 @@
 //! Bytes separated at the places of one byte.
 
-ghost use Rattle.std.specs.Prelude.{◌≡◌, ◌<◌, ◌==◌, ◌∷◌, length, MatchOption};
+ghost use Rattle.std.specs.Prelude.{◌≡◌, ◌<◌, ◌==◌, ◌∷◌, length};
 ghost use Rattle.std.specs.Iterator.{YieldsFirstRef, item_count};
-ghost use Rattle.std.specs.List.{count_by, position_or_len, slice_split};
-ghost use Rattle.tabled_language.specs.Parts.{parts_left};
+ghost use Rattle.std.specs.List.{count_by, slice_split};
+ghost use Rattle.tabled_language.specs.Parts.{IsFirstPlace, parts_left};
 
 use std::marker::Model;
 
@@ -67,7 +67,7 @@ fn first_part(bytes: &[u8], at: u8) -> (&[u8], Option<&[u8]>)
 
 /// The first place of a byte.
 fn first_place(bytes: &[u8], at: u8) -> Option<usize>
-    ensures { MatchOption result (position_or_len (λ b. b == at) bytes.now ≡ length bytes.now) (λ place. (position_or_len (λ b. b == at) bytes.now ≡ place) × (place < length bytes.now)) }
+    ensures { IsFirstPlace at bytes.now result }
 {
     let mut passed = 0;
     let mut rest = bytes;
@@ -88,7 +88,7 @@ fn first_place(bytes: &[u8], at: u8) -> Option<usize>
 /// The same, among at most 255 bytes, which are compared all at once.
 fn place_in_block(bytes: &[u8], at: u8) -> Option<usize>
     requires { length bytes.now < 256 }
-    ensures { MatchOption result (position_or_len (λ b. b == at) bytes.now ≡ length bytes.now) (λ place. (position_or_len (λ b. b == at) bytes.now ≡ place) × (place < length bytes.now)) }
+    ensures { IsFirstPlace at bytes.now result }
 {
     if count_few(bytes, at) == 0 {
         return None;
@@ -98,7 +98,7 @@ fn place_in_block(bytes: &[u8], at: u8) -> Option<usize>
 
 /// The same, for a place that is within a few bytes.
 pub(crate) fn near_place(bytes: &[u8], at: u8) -> Option<usize>
-    ensures { MatchOption result (position_or_len (λ b. b == at) bytes.now ≡ length bytes.now) (λ place. (position_or_len (λ b. b == at) bytes.now ≡ place) × (place < length bytes.now)) }
+    ensures { IsFirstPlace at bytes.now result }
 {
     let mut passed = 0;
     let mut rest = bytes;
@@ -119,7 +119,7 @@ pub(crate) fn near_place(bytes: &[u8], at: u8) -> Option<usize>
 
 /// The same, byte by byte.
 fn place_among(bytes: &[u8], at: u8) -> Option<usize>
-    ensures { MatchOption result (position_or_len (λ b. b == at) bytes.now ≡ length bytes.now) (λ place. (position_or_len (λ b. b == at) bytes.now ≡ place) × (place < length bytes.now)) }
+    ensures { IsFirstPlace at bytes.now result }
 {
     for (i, byte) in bytes.iter().enumerate() {
         if *byte == at {
