@@ -140,7 +140,11 @@ impl Selector {
             Selector::LastColumnPlus(n) => entities(alloc, &(LastColumn + *n), records),
             Selector::Rows(a, b) => entities(alloc, &Rows::new(*a..*b), records),
             Selector::Columns(a, b) => entities(alloc, &Columns::new(*a..*b), records),
-            Selector::Segment(a, b, c, d) => entities(alloc, &Segment::new(*a..*b, *c..*d), records),
+            Selector::Segment(a, b, c, d) => entities(
+                alloc,
+                &Segment::new(*a..*b, *c..*d),
+                records,
+            ),
             Selector::Frame => entities(alloc, &Frame, records),
             Selector::Content(text) => { entities(alloc, &ByContent::new(text.clone()?), records) }
             Selector::Name(text) => entities(alloc, &ByColumnName::new(text.clone()?), records),

@@ -89,7 +89,11 @@ pub fn lists_steps(alloc: Global, store: &Store) -> Result<usize, AllocError> {
 }
 
 /// How many entities a selector names that is data.
-pub fn lists_selected(alloc: Global, select: &Selector, store: &Store) -> Result<usize, AllocError> {
+pub fn lists_selected(
+    alloc: Global,
+    select: &Selector,
+    store: &Store,
+) -> Result<usize, AllocError> {
     count(alloc, select, store)
 }
 

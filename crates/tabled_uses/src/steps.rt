@@ -48,7 +48,10 @@ where
     ensures { R.is_well_formed records.new }
 {
     let text = String::from_str(alloc, "x")?;
-    let first = Step::Set(Selector::Skip(1, Box::new(alloc, Selector::Rows(0, 9))?), text);
+    let first = Step::Set(
+        Selector::Skip(1, Box::new(alloc, Selector::Rows(0, 9))?),
+        text,
+    );
     let both = Step::Both(
         Box::new(alloc, Step::Rotate(Rotate::Left))?,
         Box::new(alloc, Step::Split(Split::column(2)))?,
