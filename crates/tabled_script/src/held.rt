@@ -98,6 +98,9 @@ pub(crate) fn hold_bytes(held: &mut Held, bytes: &[u8])
     ensures bytes { held.new ≡ held.old ++ bytes.now }
     ensures len { length held.new ≡ length held.old + length bytes.now }
 {
+    if bytes.is_empty() {
+        return;
+    }
     let len = held.len + bytes.len();
     held.room[held.len..len].copy_from_slice(bytes);
     held.len = len;
