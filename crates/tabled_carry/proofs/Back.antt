@@ -7,7 +7,7 @@ use Rattle.tabled_grid.specs.Fitting.{Fits}
 use Rattle.tabled_grid.specs.Spans.{AreSpanSizes, Rectangle, SpanMap}
 use Rattle.tabled_grid.specs.declared.config.position.Position.{Position}
 use Rattle.tabled_grid.specs.declared.config.size.Size.{Size}
-use Rattle.tabled_carry.specs.Images.{Carries, CarriesAll, IsFull, IsImage, LeadsBack, carried, image}
+use Rattle.tabled_carry.specs.Images.{Carries, CarriesAll, HasArea, IsImage, LeadsBack, carried, image}
 use Rattle.tabled_grid.proofs.Fitting.{keep_fitting-all}
 use Rattle.tabled_carry.proofs.RectanglesCarried.{carries_one, image_fits, image_is, image_one, takes_one}
 
@@ -24,13 +24,13 @@ module _ (there back : Places) (leads : LeadsBack there back) where
   pub image_back : (m n : SpanMap) → AreSpanSizes m → IsImage there m n → CarriesAll there m → IsImage back n m
   image_back m n sizes is all = record { comes = comes; goes = goes }
     where
-      full : (a : Position) (s : Size) → get m a ≡ Some s → IsFull (a, s)
+      full : (a : Position) (s : Size) → get m a ≡ Some s → HasArea (a, s)
       full a s h = let size = sizes.each a s h in record { height = size.height; width = size.width }
 
-      comes : (a : Position) (s : Size) → get m a ≡ Some s → (b : Position) × (t : Size) × (get n b ≡ Some t) × Carries back (b, t) (a, s) × IsFull (a, s)
+      comes : (a : Position) (s : Size) → get m a ≡ Some s → (b : Position) × (t : Size) × (get n b ≡ Some t) × Carries back (b, t) (a, s) × HasArea (a, s)
       comes a s h = let f = all.each a s h in (f.0.0, f.0.1, is.goes a f.0.0 s f.0.1 h f.1 f.2, carries_back (a, s) f.0 f.1, full a s h)
 
-      goes : (b a : Position) (t s : Size) → get n b ≡ Some t → Carries back (b, t) (a, s) → IsFull (a, s) → get m a ≡ Some s
+      goes : (b a : Position) (t s : Size) → get n b ≡ Some t → Carries back (b, t) (a, s) → HasArea (a, s) → get m a ≡ Some s
       goes b a t s h c whole =
           let o = is.comes b t h in
           let one = carries_one back (b, t) (o.0, o.1) (a, s) (full o.0 o.1 o.2) whole (carries_back (o.0, o.1) (b, t) o.3) c in

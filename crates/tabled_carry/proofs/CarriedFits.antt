@@ -7,7 +7,7 @@ use Rattle.tabled_grid.specs.Places.{Places}
 use Rattle.tabled_grid.specs.Fitting.{Fits, fitting, keep_fitting}
 use Rattle.tabled_grid.specs.Spans.{AreSpanSizes, Rectangle, SpanMap, position_cmp}
 use Rattle.tabled_grid.specs.declared.config.position.Position.{Position}
-use Rattle.tabled_carry.specs.Images.{Carries, IsFull, KeepsPlaces, Takes, carried, images, rectangles}
+use Rattle.tabled_carry.specs.Images.{Carries, HasArea, KeepsPlaces, Takes, carried, images, rectangles}
 use Rattle.tabled_carry.proofs.RectanglesCarried.{carries_one, image_fits, image_is, image_one}
 use Rattle.tabled_grid.proofs.Fitting.{keep_fitting-fits}
 use Rattle.tabled_grid.specs.declared.config.size.Size.{Size}
@@ -40,7 +40,7 @@ carried-stays places rows columns m sizes keeps =
     fits : Fits kept rows columns
     fits = keep_fitting-fits rows columns m sizes
 
-    full : (a : Position) (s : Size) → get kept a ≡ Some s → IsFull (a, s)
+    full : (a : Position) (s : Size) → get kept a ≡ Some s → HasArea (a, s)
     full a s h = let size = fits.sizes.each a s h in record { height = size.height; width = size.width }
 
     stays : (a : Position) (s : Size) → get kept a ≡ Some s → Carries places (a, s) (a, s)
@@ -49,8 +49,8 @@ carried-stays places rows columns m sizes keeps =
         let takes : (p : Position) → In (a, s) p → Takes places p p = λ p i. keeps.stays p (omega (arith, i.bottom, inside.0)) (omega (arith, i.right, inside.1)) in
         record { all = λ p i. (p, takes p i); only = λ p q t i. subst (λ (x : Position). In (a, s) x) (sym (keeps.alone p q t)) i; from = λ p i. (p, i, takes p i) }
 
-    comes : (b : Position) (t : Size) → get kept b ≡ Some t → (a : Position) × (s : Size) × (get kept a ≡ Some s) × Carries places (a, s) (b, t) × IsFull (b, t)
+    comes : (b : Position) (t : Size) → get kept b ≡ Some t → (a : Position) × (s : Size) × (get kept a ≡ Some s) × Carries places (a, s) (b, t) × HasArea (b, t)
     comes b t h = (b, t, h, stays b t h, full b t h)
 
-    goes : (a b : Position) (s t : Size) → get kept a ≡ Some s → Carries places (a, s) (b, t) → IsFull (b, t) → get kept b ≡ Some t
+    goes : (a b : Position) (s t : Size) → get kept a ≡ Some s → Carries places (a, s) (b, t) → HasArea (b, t) → get kept b ≡ Some t
     goes a b s t h c whole = subst (λ (e : Rectangle). get kept e.0 ≡ Some e.1) (carries_one places (a, s) (a, s) (b, t) (full a s h) whole (stays a s h) c) h

@@ -24,7 +24,7 @@ use Rattle.tabled_grid.proofs.PassedAnchors.{Earlier, earlier}
 use Rattle.tabled_grid.proofs.Shifts.{from_earlier}
 use Rattle.tabled_grid.proofs.SpanMaps.{halves, holds-from, same_place-self, same_place-true}
 use Rattle.tabled_grid.proofs.Spans.{positions_exact, positions_total}
-use Rattle.tabled_carry.specs.Images.{Carries, IsFull, IsImage, image}
+use Rattle.tabled_carry.specs.Images.{Carries, HasArea, IsImage, image}
 use Rattle.tabled_carry.proofs.RectanglesCarried.{carries_more, first_in, image_is, image_one, takes_one, carries_one}
 use Rattle.tabled_grid.proofs.Members.{Member, any-from, any-member, below-member, find-member, member-either, member-left, member-right, sorted-find}
 
@@ -34,8 +34,8 @@ at_place q f = cond (same_place q f.0) 1 0
 
 -- the images of some rectangles, each anchor once
 pub record Images (places : Places) (done images : List Rectangle) : Type 0 where
-  pub comes : (f : Rectangle) → Member f images → (e : Rectangle) × Member e done × Carries places e f × IsFull f
-  pub goes : (e f : Rectangle) → Member e done → Carries places e f → IsFull f → Member f images
+  pub comes : (f : Rectangle) → Member f images → (e : Rectangle) × Member e done × Carries places e f × HasArea f
+  pub goes : (e f : Rectangle) → Member e done → Carries places e f → HasArea f → Member f images
   pub once : (q : Position) → sum_by (at_place q) images ≤ 1
 
 -- none is at a place where none is anchored
@@ -52,18 +52,18 @@ at_here f = ap (λ b. cond b 1 0) (same_place-self f.0)
 
 module _ (places : Places) (done images : List Rectangle) (e : Rectangle) where
   -- a rectangle more, with its image
-  pub images-more : (f : Rectangle) → Images places done images → Carries places e f → IsFull f → ((g : Rectangle) → Carries places e g → IsFull g → f ≡ g) → ((g : Rectangle) → Member g images → f.0 ≡ g.0 → ⊥) → Images places (done ++ e ∷ []) (images ++ f ∷ [])
+  pub images-more : (f : Rectangle) → Images places done images → Carries places e f → HasArea f → ((g : Rectangle) → Carries places e g → HasArea g → f ≡ g) → ((g : Rectangle) → Member g images → f.0 ≡ g.0 → ⊥) → Images places (done ++ e ∷ []) (images ++ f ∷ [])
   images-more f i carries full one apart = record { comes = comes; goes = goes; once = once }
     where
-      comes : (g : Rectangle) → Member g (images ++ f ∷ []) → (d : Rectangle) × Member d (done ++ e ∷ []) × Carries places d g × IsFull g
+      comes : (g : Rectangle) → Member g (images ++ f ∷ []) → (d : Rectangle) × Member d (done ++ e ∷ []) × Carries places d g × HasArea g
       comes g m = by (member-either g images (f ∷ []) m)
         where
-          by : Member g images ⊎ Member g (f ∷ []) → (d : Rectangle) × Member d (done ++ e ∷ []) × Carries places d g × IsFull g
+          by : Member g images ⊎ Member g (f ∷ []) → (d : Rectangle) × Member d (done ++ e ∷ []) × Carries places d g × HasArea g
           by (inl h) = let c = i.comes g h in (c.0, member-left c.0 done (e ∷ []) c.1, c.2, c.3)
-          by (inr (inl same)) = (e, member-right e done (e ∷ []) (inl refl), subst (λ x. Carries places e x) (sym same) carries, subst IsFull (sym same) full)
+          by (inr (inl same)) = (e, member-right e done (e ∷ []) (inl refl), subst (λ x. Carries places e x) (sym same) carries, subst HasArea (sym same) full)
           by (inr (inr none)) = absurd none
 
-      goes : (d g : Rectangle) → Member d (done ++ e ∷ []) → Carries places d g → IsFull g → Member g (images ++ f ∷ [])
+      goes : (d g : Rectangle) → Member d (done ++ e ∷ []) → Carries places d g → HasArea g → Member g (images ++ f ∷ [])
       goes d g m c h = by (member-either d done (e ∷ []) m)
         where
           by : Member d done ⊎ Member d (e ∷ []) → Member g (images ++ f ∷ [])
@@ -86,10 +86,10 @@ module _ (places : Places) (done images : List Rectangle) (e : Rectangle) where
           by (inr h) = let last : at_place q f ≡ 0 = ap (λ b. cond b 1 0) h in omega (arith, sum, last, i.once q)
 
   -- a rectangle more, which has none
-  pub images-none : Images places done images → ((g : Rectangle) → Carries places e g → IsFull g → ⊥) → Images places (done ++ e ∷ []) images
+  pub images-none : Images places done images → ((g : Rectangle) → Carries places e g → HasArea g → ⊥) → Images places (done ++ e ∷ []) images
   images-none i none = record { comes = λ g m. let c = i.comes g m in (c.0, member-left c.0 done (e ∷ []) c.1, c.2, c.3); goes = goes; once = i.once }
     where
-      goes : (d g : Rectangle) → Member d (done ++ e ∷ []) → Carries places d g → IsFull g → Member g images
+      goes : (d g : Rectangle) → Member d (done ++ e ∷ []) → Carries places d g → HasArea g → Member g images
       goes d g m c h = by (member-either d done (e ∷ []) m)
         where
           by : Member d done ⊎ Member d (e ∷ []) → Member g images
@@ -174,12 +174,12 @@ module _ (places : Places) (es ys : List Rectangle) (rows columns : ℕ) (valid 
   is : IsImage places (from_sorted es) (from_sorted ys)
   is = record { comes = comes; goes = goes }
     where
-      comes : (b : Position) (t : Size) → get (from_sorted {R = position_cmp} ys) b ≡ Some t → (a : Position) × (s : Size) × (get (from_sorted {R = position_cmp} es) a ≡ Some s) × Carries places (a, s) (b, t) × IsFull (b, t)
+      comes : (b : Position) (t : Size) → get (from_sorted {R = position_cmp} ys) b ≡ Some t → (a : Position) × (s : Size) × (get (from_sorted {R = position_cmp} es) a ≡ Some s) × Carries places (a, s) (b, t) × HasArea (b, t)
       comes b t h =
           let c = i.comes (b, t) (find-member position_cmp positions_total positions_exact ys b t (sym (get-from_sorted position_cmp ys b up) ∙ h)) in
           (c.0.0, c.0.1, has c.0 c.1, c.2, c.3)
 
-      goes : (a b : Position) (s t : Size) → get (from_sorted {R = position_cmp} es) a ≡ Some s → Carries places (a, s) (b, t) → IsFull (b, t) → get (from_sorted {R = position_cmp} ys) b ≡ Some t
+      goes : (a b : Position) (s t : Size) → get (from_sorted {R = position_cmp} es) a ≡ Some s → Carries places (a, s) (b, t) → HasArea (b, t) → get (from_sorted {R = position_cmp} ys) b ≡ Some t
       goes a b s t h c full =
           let m = find-member position_cmp positions_total positions_exact es a s (sym (get-from_sorted position_cmp es a valid.sorted) ∙ h) in
           get-from_sorted position_cmp ys b up ∙ sorted-find position_cmp positions_total positions_exact ys b t up (i.goes (a, s) (b, t) m c full)
@@ -226,13 +226,13 @@ module _ (places : Places) (es xs : List Rectangle) (i rows columns : ℕ) (d : 
   next : Rectangle
   next = get_or es i d
 
-  pub next-full : IsFull (get_or es i d)
+  pub next-full : HasArea (get_or es i d)
   next-full = let size = fits.sizes.each (get_or es i d).0 (get_or es i d).1 (got (get_or es i d) (at-member es i d here)) in record { height = size.height; width = size.width }
 
   pub next-inside : ((get_or es i d).0.row + (get_or es i d).1.height ≤ rows) × ((get_or es i d).0.col + (get_or es i d).1.width ≤ columns)
   next-inside = fits.inside (get_or es i d).0 (get_or es i d).1 (got (get_or es i d) (at-member es i d here))
 
-  pub next-some : (f : Rectangle) → Images places (take i es) xs → Carries places (get_or es i d) f → IsFull f → Images places (take (i + 1) es) (xs ++ f ∷ [])
+  pub next-some : (f : Rectangle) → Images places (take i es) xs → Carries places (get_or es i d) f → HasArea f → Images places (take (i + 1) es) (xs ++ f ∷ [])
   next-some f im c full =
       let is = images-more places (take i es) xs (get_or es i d) f im c full (λ g h k. carries_one places (get_or es i d) f g full k c h) apart in
       subst (λ (done : List Rectangle). Images places done (xs ++ f ∷ [])) (sym (take_more es i d here)) is
@@ -246,7 +246,7 @@ module _ (places : Places) (es xs : List Rectangle) (i rows columns : ℕ) (d : 
           let anchor = fits.apart o.0.0 (get_or es i d).0 o.0.1 (get_or es i d).1 q.0 (got o.0 (front-member o.0 i es o.1)) (got (get_or es i d) (at-member es i d here)) (holds-from _ _ (subst (λ (p : Position). In o.0 p) (sym one) r.1)) (holds-from _ _ q.1) in
           never_before o.0.0 (get_or es i d).0 (front-before o.0 i es d valid.sorted here o.1) anchor
 
-  pub next-none : Images places (take i es) xs → ((f : Rectangle) → Carries places (get_or es i d) f → IsFull f → ⊥) → Images places (take (i + 1) es) xs
+  pub next-none : Images places (take i es) xs → ((f : Rectangle) → Carries places (get_or es i d) f → HasArea f → ⊥) → Images places (take (i + 1) es) xs
   next-none im none = subst (λ (done : List Rectangle). Images places done xs) (sym (take_more es i d here)) (images-none places (take i es) xs (get_or es i d) im none)
 
 -- sorted by their places, each once, they rise

@@ -14,21 +14,21 @@ use Rattle.tabled_grid.specs.declared.config.position.Position.{Position}
 use Rattle.tabled_grid.specs.declared.config.size.Size.{Size}
 use Rattle.tabled_grid.proofs.SpanMaps.{holds-from, holds-true, same_place-self, same_place-true}
 use Rattle.tabled_grid.proofs.Spans.{positions_exact, positions_total}
-use Rattle.tabled_carry.specs.Images.{Carries, IsFull, IsImage, Takes, alike, carries, cells_of, image, images, passes, rectangles}
+use Rattle.tabled_carry.specs.Images.{Carries, HasArea, IsImage, Takes, alike, carries, cells_in, image, images, old_place_passes, rectangles}
 use Rattle.tabled_grid.proofs.Members.{Member, all-from, all-member, any-from, any-member, block-from, block-member, filter-from, filter-member, find-member, flat_map-from, flat_map-member, map-from, map-member, member-find, sorted-find}
 
 -- the first and the last cell of a rectangle
 abbrev last_of : Rectangle → Position
 last_of f = place (f.0.row + (f.1.height - 1)) (f.0.col + (f.1.width - 1))
 
-pub first_in : (f : Rectangle) → IsFull f → In f f.0
+pub first_in : (f : Rectangle) → HasArea f → In f f.0
 first_in f full = record { top = omega arith; bottom = omega (arith, full.height); left = omega arith; right = omega (arith, full.width) }
 
-last_in : (f : Rectangle) → IsFull f → In f (last_of f)
+last_in : (f : Rectangle) → HasArea f → In f (last_of f)
 last_in f full = record { top = omega arith; bottom = omega (arith, full.height); left = omega arith; right = omega (arith, full.width) }
 
 -- rectangles with the same cells are one
-pub same_cells : (f g : Rectangle) → IsFull f → IsFull g → ((p : Position) → In f p → In g p) → ((p : Position) → In g p → In f p) → f ≡ g
+pub same_cells : (f g : Rectangle) → HasArea f → HasArea g → ((p : Position) → In f p → In g p) → ((p : Position) → In g p → In f p) → f ≡ g
 same_cells f g full full' to back =
     let a = to f.0 (first_in f full) in
     let b = back g.0 (first_in g full') in
@@ -46,11 +46,11 @@ module _ (places : Places) where
   takes_one p q r a b = same_Some q r (sym a.from ∙ b.from)
 
   -- a rectangle is carried to one rectangle at most
-  pub carries_one : (e f g : Rectangle) → IsFull f → IsFull g → Carries places e f → Carries places e g → f ≡ g
+  pub carries_one : (e f g : Rectangle) → HasArea f → HasArea g → Carries places e f → Carries places e g → f ≡ g
   carries_one e f g full full' c d = same_cells f g full full' (λ p h. let t = c.from p h in d.only p t.0 t.2 t.1) (λ p h. let t = d.from p h in c.only p t.0 t.2 t.1)
 
   -- more than one cell goes to more than one
-  pub carries_more : (e f : Rectangle) → IsFull f → Carries places e f → IsSpanSize e.1 → IsSpanSize f.1
+  pub carries_more : (e f : Rectangle) → HasArea f → Carries places e f → IsSpanSize e.1 → IsSpanSize f.1
   carries_more e f full c size = record { height = full.height; width = full.width; merges = by (cases_lt 1 f.1.height) (cases_lt 1 f.1.width) }
     where
       first : In e e.0
@@ -93,7 +93,7 @@ module _ (places : Places) where
           let last = (c.3.from (last_of (b, t)) (last_in (b, t) c.4)).2 in
           (omega (arith, last.row, c.4.height), omega (arith, last.col, c.4.width))
 
-      meet : (a b p : Position) (s t : Size) (c : (k : Position) × (z : Size) × (get old k ≡ Some z) × Carries places (k, z) (a, s) × IsFull (a, s)) (d : (k : Position) × (z : Size) × (get old k ≡ Some z) × Carries places (k, z) (b, t) × IsFull (b, t)) → In (a, s) p → In (b, t) p → a ≡ b
+      meet : (a b p : Position) (s t : Size) (c : (k : Position) × (z : Size) × (get old k ≡ Some z) × Carries places (k, z) (a, s) × HasArea (a, s)) (d : (k : Position) × (z : Size) × (get old k ≡ Some z) × Carries places (k, z) (b, t) × HasArea (b, t)) → In (a, s) p → In (b, t) p → a ≡ b
       meet a b p s t c d ha hb =
           let q = c.3.from p ha in
           let r = d.3.from p hb in
@@ -119,12 +119,12 @@ module _ (places : Places) where
       by b None h None k = h ∙ sym k
 
   -- the test of an old place
-  passed : (test : Position → Bool) (o : Option Position) → passes test o ≡ true → (q : Position) × (o ≡ Some q) × (test q ≡ true)
+  passed : (test : Position → Bool) (o : Option Position) → old_place_passes test o ≡ true → (q : Position) × (o ≡ Some q) × (test q ≡ true)
   passed test None h = cc
   passed test (Some q) h = (q, refl, h)
 
-  passed-from : (test : Position → Bool) (o : Option Position) (q : Position) → o ≡ Some q → test q ≡ true → passes test o ≡ true
-  passed-from test o q is h = ap (passes test) is ∙ h
+  passed-from : (test : Position → Bool) (o : Option Position) (q : Position) → o ≡ Some q → test q ≡ true → old_place_passes test o ≡ true
+  passed-from test o q is h = ap (old_place_passes test) is ∙ h
 
   alike-true : (a b : Bool) → alike a b ≡ true → a ≡ b
   alike-true true b h = sym h
@@ -136,10 +136,10 @@ module _ (places : Places) where
   alike-from false true to back = back refl
   alike-from false false to back = refl
 
-  pub cell_in : (f : Rectangle) (p : Position) → Member p (cells_of f) → In f p
+  pub cell_in : (f : Rectangle) (p : Position) → Member p (cells_in f) → In f p
   cell_in f p m = let h = block-member _ _ _ _ p m in record { top = h.top; bottom = h.bottom; left = h.left; right = h.right }
 
-  pub cell_from : (f : Rectangle) (p : Position) → In f p → Member p (cells_of f)
+  pub cell_from : (f : Rectangle) (p : Position) → In f p → Member p (cells_in f)
   cell_from f p h = block-from _ _ _ _ p (record { top = h.top; bottom = h.bottom; left = h.left; right = h.right })
 
   -- the test says what the record says
@@ -147,18 +147,18 @@ module _ (places : Places) where
   carries-true e f inside h = record { all = all; only = only; from = from }
     where
       new : Position → Bool
-      new p = alike (passes (holds e) (places.old_place p)) (holds f p)
+      new p = alike (old_place_passes (holds e) (places.old_place p)) (holds f p)
 
       has : Position → Bool
-      has q = list_any (λ (p : Position). passes (same_place q) (places.old_place p)) (cells_of f)
+      has q = list_any (λ (p : Position). old_place_passes (same_place q) (places.old_place p)) (cells_in f)
 
-      parts : (list_all new (block 0 places.rows 0 places.columns) ≡ true) × (list_all has (cells_of e) ≡ true)
-      parts = and_parts (list_all new (block 0 places.rows 0 places.columns)) (list_all has (cells_of e)) h
+      parts : (list_all new (block 0 places.rows 0 places.columns) ≡ true) × (list_all has (cells_in e) ≡ true)
+      parts = and_parts (list_all new (block 0 places.rows 0 places.columns)) (list_all has (cells_in e)) h
 
       all : (q : Position) → In e q → (p : Position) × Takes places p q
       all q i =
-          let there = all-member has q (cells_of e) parts.1 (cell_from e q i) in
-          let m = any-member (λ (p : Position). passes (same_place q) (places.old_place p)) (cells_of f) there in
+          let there = all-member has q (cells_in e) parts.1 (cell_from e q i) in
+          let m = any-member (λ (p : Position). old_place_passes (same_place q) (places.old_place p)) (cells_in f) there in
           let c = cell_in f m.0 m.1 in
           let o = passed (same_place q) (places.old_place m.0) m.2 in
           (m.0, record { row = omega (arith, c.bottom, inside.0); col = omega (arith, c.right, inside.1); from = o.1 ∙ ap Some (sym (same_place-true q o.0 o.2)) })
@@ -179,13 +179,13 @@ module _ (places : Places) where
           (o.0, holds-true e o.0 o.2, record { row = row; col = col; from = o.1 })
 
   carries-from : (e f : Rectangle) → Carries places e f → carries places e f ≡ true
-  carries-from e f c = and_from _ _ (all-from new (block 0 places.rows 0 places.columns) just) (all-from has (cells_of e) each)
+  carries-from e f c = and_from _ _ (all-from new (block 0 places.rows 0 places.columns) just) (all-from has (cells_in e) each)
     where
       new : Position → Bool
-      new p = alike (passes (holds e) (places.old_place p)) (holds f p)
+      new p = alike (old_place_passes (holds e) (places.old_place p)) (holds f p)
 
       has : Position → Bool
-      has q = list_any (λ (p : Position). passes (same_place q) (places.old_place p)) (cells_of f)
+      has q = list_any (λ (p : Position). old_place_passes (same_place q) (places.old_place p)) (cells_in f)
 
       just : (p : Position) → Member p (block 0 places.rows 0 places.columns) → new p ≡ true
       just p m =
@@ -194,14 +194,14 @@ module _ (places : Places) where
           (λ h. let o = passed (holds e) (places.old_place p) h in holds-from f p (c.only p o.0 (record { row = b.bottom; col = b.right; from = o.1 }) (holds-true e o.0 o.2)))
           (λ h. let t = c.from p (holds-true f p h) in passed-from (holds e) (places.old_place p) t.0 t.2.from (holds-from e t.0 t.1))
 
-      each : (q : Position) → Member q (cells_of e) → has q ≡ true
+      each : (q : Position) → Member q (cells_in e) → has q ≡ true
       each q m =
           let i = cell_in e q m in
           let t = c.all q i in
-          any-from (λ (p : Position). passes (same_place q) (places.old_place p)) t.0 (cells_of f) (cell_from f t.0 (c.only t.0 q t.1 i)) (passed-from (same_place q) (places.old_place t.0) q t.1.from (same_place-self q))
+          any-from (λ (p : Position). old_place_passes (same_place q) (places.old_place p)) t.0 (cells_in f) (cell_from f t.0 (c.only t.0 q t.1 i)) (passed-from (same_place q) (places.old_place t.0) q t.1.from (same_place-self q))
 
   -- the rectangles inside a table
-  rectangle-member : (f : Rectangle) → Member f (rectangles places.rows places.columns) → IsFull f × (f.0.row + f.1.height ≤ places.rows) × (f.0.col + f.1.width ≤ places.columns)
+  rectangle-member : (f : Rectangle) → Member f (rectangles places.rows places.columns) → HasArea f × (f.0.row + f.1.height ≤ places.rows) × (f.0.col + f.1.width ≤ places.columns)
   rectangle-member f m =
       let p = flat_map-member (λ (p : Position). map (λ (last : Position). (p, sized (last.row + 1) (last.col + 1))) (block 0 (places.rows - p.row) 0 (places.columns - p.col))) f (block 0 places.rows 0 places.columns) m in
       let q = map-member (λ (last : Position). (p.0, sized (last.row + 1) (last.col + 1))) f (block 0 (places.rows - p.0.row) 0 (places.columns - p.0.col)) p.2 in
@@ -213,7 +213,7 @@ module _ (places : Places) where
       let width : f.1.width ≡ q.0.col + 1 = ap (λ (e : Rectangle). e.1.width) q.2 in
       (record { height = omega (arith, height); width = omega (arith, width) }, omega (arith, row, height, l.bottom, b.bottom), omega (arith, col, width, l.right, b.right))
 
-  rectangle-from : (f : Rectangle) → IsFull f → f.0.row + f.1.height ≤ places.rows → f.0.col + f.1.width ≤ places.columns → Member f (rectangles places.rows places.columns)
+  rectangle-from : (f : Rectangle) → HasArea f → f.0.row + f.1.height ≤ places.rows → f.0.col + f.1.width ≤ places.columns → Member f (rectangles places.rows places.columns)
   rectangle-from f full tall wide =
       let height : f.1.height - 1 + 1 ≡ f.1.height = omega (arith, full.height) in
       let width : f.1.width - 1 + 1 ≡ f.1.width = omega (arith, full.width) in
@@ -232,7 +232,7 @@ module _ (places : Places) where
       test : Rectangle → Bool
       test f = list_any (λ (e : Rectangle). carries places e f) (entries m)
 
-      of_member : (b : Position) (t : Size) → Member (b, t) (images places (entries m)) → (a : Position) × (s : Size) × (get m a ≡ Some s) × Carries places (a, s) (b, t) × IsFull (b, t)
+      of_member : (b : Position) (t : Size) → Member (b, t) (images places (entries m)) → (a : Position) × (s : Size) × (get m a ≡ Some s) × Carries places (a, s) (b, t) × HasArea (b, t)
       of_member b t h =
           let parts = filter-member test (b, t) (rectangles places.rows places.columns) h in
           let room = rectangle-member (b, t) parts.0 in
@@ -240,10 +240,10 @@ module _ (places : Places) where
           let here = sorted-find position_cmp positions_total positions_exact (entries m) e.0.0 e.0.1 (entries_sorted m) e.1 in
           (e.0.0, e.0.1, get-entries m e.0.0 ∙ here, carries-true e.0 (b, t) (room.1, room.2) e.2, room.0)
 
-      comes : (b : Position) (t : Size) → get (image places m) b ≡ Some t → (a : Position) × (s : Size) × (get m a ≡ Some s) × Carries places (a, s) (b, t) × IsFull (b, t)
+      comes : (b : Position) (t : Size) → get (image places m) b ≡ Some t → (a : Position) × (s : Size) × (get m a ≡ Some s) × Carries places (a, s) (b, t) × HasArea (b, t)
       comes b t h = of_member b t (find-member position_cmp positions_total positions_exact (images places (entries m)) b t (sym (get-from_entries positions_total (images places (entries m)) b) ∙ h))
 
-      goes : (a b : Position) (s t : Size) → get m a ≡ Some s → Carries places (a, s) (b, t) → IsFull (b, t) → get (image places m) b ≡ Some t
+      goes : (a b : Position) (s t : Size) → get m a ≡ Some s → Carries places (a, s) (b, t) → HasArea (b, t) → get (image places m) b ≡ Some t
       goes a b s t has c full =
           let l = last_in (b, t) full in
           let end = (c.from (last_of (b, t)) l).2 in

@@ -7,7 +7,7 @@ use Rattle.tabled_grid.specs.Places.{Places}
 use Rattle.tabled_grid.specs.declared.config.position.Position.{Position}
 use Rattle.tabled_grid.specs.Spans.{Rectangle, sized}
 use Rattle.tabled_carry.specs.Corners.{Around, Between}
-use Rattle.tabled_carry.specs.Images.{Carries, IsFull, Takes, cells_of}
+use Rattle.tabled_carry.specs.Images.{Carries, HasArea, Takes, cells_in}
 use Rattle.tabled_carry.proofs.Pigeonhole.{Once, length-block, once-block, paired}
 use Rattle.tabled_carry.proofs.RectanglesCarried.{cell_from, cell_in, same_cells, takes_one}
 
@@ -43,17 +43,17 @@ first_walked e i j q at first r h = by (walked e i j q at r h)
     by (inl b) = absurd (none_before e i j first.0 first.1 r b.0 b.1)
     by (inr same) = same
 
-once-cells : (f : Rectangle) → Once (cells_of f)
+once-cells : (f : Rectangle) → Once (cells_in f)
 once-cells f = once-block f.0.row (f.0.row + f.1.height) f.0.col (f.0.col + f.1.width)
 
-length-cells : (f : Rectangle) → length (cells_of f) ≡ f.1.height * f.1.width
+length-cells : (f : Rectangle) → length (cells_in f) ≡ f.1.height * f.1.width
 length-cells f = length-block f.0.row (f.0.row + f.1.height) f.0.col (f.0.col + f.1.width) ∙ ap₂ (λ n m. n * m) (omega arith) (omega arith)
 
 module _ (places : Places) (e : Rectangle) where
   -- where all cells go to a rectangle that has no more, each of its cells comes from one of them
-  filled : (f : Rectangle) → ((q : Position) → In e q → (p : Position) × In f p × Takes places p q) → (length (cells_of e) ≤ length (cells_of f)) × (length (cells_of f) ≤ length (cells_of e) → (p : Position) → In f p → (q : Position) × In e q × Takes places p q)
+  filled : (f : Rectangle) → ((q : Position) → In e q → (p : Position) × In f p × Takes places p q) → (length (cells_in e) ≤ length (cells_in f)) × (length (cells_in f) ≤ length (cells_in e) → (p : Position) → In f p → (q : Position) × In e q × Takes places p q)
   filled f to =
-      let all = paired (λ q p. Takes places p q) (λ q r p. takes_one places p q r) (cells_of e) (cells_of f) (once-cells e) (λ q m. let t = to q (cell_in places e q m) in (t.0, cell_from places f t.0 t.1, t.2)) in
+      let all = paired (λ q p. Takes places p q) (λ q r p. takes_one places p q r) (cells_in e) (cells_in f) (once-cells e) (λ q m. let t = to q (cell_in places e q m) in (t.0, cell_from places f t.0 t.1, t.2)) in
       (all.0, λ few p h. let t = all.1 few p (cell_from places f p h) in (t.0, cell_in places e t.0 t.1, t.2))
 
   -- fewer cells
@@ -110,7 +110,7 @@ module _ (places : Places) (e : Rectangle) where
             (filled between (λ q m. let t = a.each q m in (t.0, only t.0 q t.1 m, t.1))).1 (omega (arith, length-cells e, length-cells between, many)) p h
 
     -- and the image is no other rectangle
-    pub between-one : (g : Rectangle) → Carries places e g → IsFull g → (first, sized (last.row - first.row + 1) (last.col - first.col + 1)) ≡ g
+    pub between-one : (g : Rectangle) → Carries places e g → HasArea g → (first, sized (last.row - first.row + 1) (last.col - first.col + 1)) ≡ g
     between-one g c full = same_cells between g (record { height = omega arith; width = omega arith }) full to back
       where
         to : (p : Position) → In (first, sized (last.row - first.row + 1) (last.col - first.col + 1)) p → In g p
@@ -127,10 +127,10 @@ module _ (places : Places) (e : Rectangle) where
             record { top = omega (arith, row, n.2.top); bottom = omega (arith, row, n.2.top, n.2.bottom); left = omega (arith, col, n.2.left); right = omega (arith, col, n.2.left, n.2.right) }
 
     -- and has as many cells
-    pub carried-many : (g : Rectangle) → Carries places e g → IsFull g → (last.row - first.row + 1) * (last.col - first.col + 1) ≡ e.1.height * e.1.width
+    pub carried-many : (g : Rectangle) → Carries places e g → HasArea g → (last.row - first.row + 1) * (last.col - first.col + 1) ≡ e.1.height * e.1.width
     carried-many g c full =
         let one : between ≡ g = between-one g c full in
         let to = (filled g (λ q m. let t = c.all q m in (t.0, c.only t.0 q t.1 m, t.1))).0 in
-        let back = (paired (λ p q. In e q × Takes places p q) (λ p r q s t. let n = a.each q s.0 in n.3 p s.1 ∙ sym (n.3 r t.1)) (cells_of g) (cells_of e) (once-cells g) (λ p m. let t = c.from p (cell_in places g p m) in (t.0, cell_from places e t.0 t.1, (t.1, t.2)))).0 in
-        let as_many : length (cells_of g) ≡ length (cells_of e) = omega (arith, to, back) in
-        sym (length-cells between) ∙ ap (λ (f : Rectangle). length (cells_of f)) one ∙ as_many ∙ length-cells e
+        let back = (paired (λ p q. In e q × Takes places p q) (λ p r q s t. let n = a.each q s.0 in n.3 p s.1 ∙ sym (n.3 r t.1)) (cells_in g) (cells_in e) (once-cells g) (λ p m. let t = c.from p (cell_in places g p m) in (t.0, cell_from places e t.0 t.1, (t.1, t.2)))).0 in
+        let as_many : length (cells_in g) ≡ length (cells_in e) = omega (arith, to, back) in
+        sym (length-cells between) ∙ ap (λ (f : Rectangle). length (cells_in f)) one ∙ as_many ∙ length-cells e

@@ -19,13 +19,13 @@ pub record IsFree (m : SpanMap) (rows columns : ℕ) (a : Position) (s : Size) :
   pub alone : (b : Position) (t : Size) (p : Position) → finite.get m b ≡ Some t → In (a, s) p → In (b, t) p → a ≡ b
 
 -- the cells of a rectangle, row by row
-abbrev pub cells_of : Rectangle → List Position
-cells_of e = block e.0.row (e.0.row + e.1.height) e.0.col (e.0.col + e.1.width)
+abbrev pub cells_in : Rectangle → List Position
+cells_in e = block e.0.row (e.0.row + e.1.height) e.0.col (e.0.col + e.1.width)
 
 -- an old place that passes a test
-abbrev pub passes : (Position → Bool) → Option Position → Bool
-passes test None = false
-passes test (Some q) = test q
+abbrev pub old_place_passes : (Position → Bool) → Option Position → Bool
+old_place_passes test None = false
+old_place_passes test (Some q) = test q
 
 -- two tests answer alike
 abbrev pub alike : Bool → Bool → Bool
@@ -34,8 +34,8 @@ alike a b = if a then b else not b
 -- the new places of all cells of one rectangle are the cells of another one
 abbrev pub carries : Places → Rectangle → Rectangle → Bool
 carries places e f =
-    list_all (λ (p : Position). alike (passes (holds e) (places.old_place p)) (holds f p)) (block 0 places.rows 0 places.columns)
-    && list_all (λ (q : Position). list_any (λ (p : Position). passes (same_place q) (places.old_place p)) (cells_of f)) (cells_of e)
+    list_all (λ (p : Position). alike (old_place_passes (holds e) (places.old_place p)) (holds f p)) (block 0 places.rows 0 places.columns)
+    && list_all (λ (q : Position). list_any (λ (p : Position). old_place_passes (same_place q) (places.old_place p)) (cells_in f)) (cells_in e)
 
 -- the rectangles inside a table
 abbrev pub rectangles : ℕ → ℕ → List Rectangle
@@ -66,14 +66,14 @@ pub record Carries (places : Places) (e f : Rectangle) : Type 0 where
   pub from : (p : Position) → In f p → (q : Position) × In e q × Takes places p q
 
 -- a rectangle is not empty
-pub record IsFull (f : Rectangle) : Type 0 where
+pub record HasArea (f : Rectangle) : Type 0 where
   pub height : 1 ≤ f.1.height
   pub width : 1 ≤ f.1.width
 
 -- the new map has just the rectangles that carry one of the old map
 pub record IsImage (places : Places) (old new : SpanMap) : Type 0 where
-  pub comes : (b : Position) (t : Size) → finite.get new b ≡ Some t → (a : Position) × (s : Size) × (finite.get old a ≡ Some s) × Carries places (a, s) (b, t) × IsFull (b, t)
-  pub goes : (a b : Position) (s t : Size) → finite.get old a ≡ Some s → Carries places (a, s) (b, t) → IsFull (b, t) → finite.get new b ≡ Some t
+  pub comes : (b : Position) (t : Size) → finite.get new b ≡ Some t → (a : Position) × (s : Size) × (finite.get old a ≡ Some s) × Carries places (a, s) (b, t) × HasArea (b, t)
+  pub goes : (a b : Position) (s t : Size) → finite.get old a ≡ Some s → Carries places (a, s) (b, t) → HasArea (b, t) → finite.get new b ≡ Some t
 
 -- what goes from a place comes back to it
 pub record LeadsBack (there back : Places) : Type 0 where
@@ -82,7 +82,7 @@ pub record LeadsBack (there back : Places) : Type 0 where
 
 -- each rectangle of a map is carried to one
 pub record CarriesAll (places : Places) (m : SpanMap) : Type 0 where
-  pub each : (a : Position) (s : Size) → finite.get m a ≡ Some s → (f : Rectangle) × Carries places (a, s) f × IsFull f
+  pub each : (a : Position) (s : Size) → finite.get m a ≡ Some s → (f : Rectangle) × Carries places (a, s) f × HasArea f
 
 -- the cells of a table of r rows and c columns keep their places, and no other cell comes to one
 pub record KeepsPlaces (places : Places) (rows columns : ℕ) : Type 0 where

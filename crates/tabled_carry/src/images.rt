@@ -8,7 +8,7 @@ ghost use Rattle.tabled_grid.specs.Places.{Places};
 ghost use Rattle.tabled_grid.specs.declared.config.position.Position.{Position};
 ghost use Rattle.tabled_grid.specs.Spans.{Rectangle};
 ghost use Rattle.tabled_carry.specs.Corners.{Around};
-ghost use Rattle.tabled_carry.specs.Images.{Carries, IsFull, Takes};
+ghost use Rattle.tabled_carry.specs.Images.{Carries, HasArea, Takes};
 
 use tabled_grid::config::{Position, Rectangle, Size};
 
@@ -31,12 +31,12 @@ pub trait MovesRectangles: Moves {
     ///
     /// By default it looks at the new place of each cell.
     fn new_rectangle(&self, of: Rectangle) -> Option<Rectangle>
-        requires full { IsFull of }
+        requires full { HasArea of }
         requires bottom { of.0.row + of.1.height < 2 ^ 64 }
         requires right { of.0.col + of.1.width < 2 ^ 64 }
         ensures carries { IfSome result (λ f. Carries (Self.places self.now) of f) }
-        ensures full { IfSome result IsFull }
-        ensures finds { (f : Rectangle) → Carries (Self.places self.now) of f → IsFull f → result ≡ Some f }
+        ensures full { IfSome result HasArea }
+        ensures finds { (f : Rectangle) → Carries (Self.places self.now) of f → HasArea f → result ≡ Some f }
     {
         image_of(self, of)
     }
@@ -64,7 +64,7 @@ impl Corners {
 
 /// The corners of the new places of all cells of a rectangle, if each has one.
 fn around<M: Moves>(moves: &M, of: Rectangle) -> Option<Corners>
-    requires full { IsFull of }
+    requires full { HasArea of }
     requires bottom { of.0.row + of.1.height < 2 ^ 64 }
     requires right { of.0.col + of.1.width < 2 ^ 64 }
     ensures around { IfSome result (λ corners. Around (M.places moves.now) of (In of) corners.first corners.last) }
@@ -97,12 +97,12 @@ fn count_of(rectangle: Rectangle) -> u128
 
 /// The rectangle that a rectangle is carried to, if there is one, by the new place of each cell.
 pub fn image_of<M: Moves>(moves: &M, of: Rectangle) -> Option<Rectangle>
-    requires full { IsFull of }
+    requires full { HasArea of }
     requires bottom { of.0.row + of.1.height < 2 ^ 64 }
     requires right { of.0.col + of.1.width < 2 ^ 64 }
     ensures carries { IfSome result (λ f. Carries (M.places moves.now) of f) }
-    ensures full { IfSome result IsFull }
-    ensures finds { (f : Rectangle) → Carries (M.places moves.now) of f → IsFull f → result ≡ Some f }
+    ensures full { IfSome result HasArea }
+    ensures finds { (f : Rectangle) → Carries (M.places moves.now) of f → HasArea f → result ≡ Some f }
 {
     let Corners { first, last } = around(moves, of)?;
     let size = Size {

@@ -3,7 +3,7 @@ use Rattle.std.proofs.Common.{◌≡◌, ℕ, List, [], ◌∷◌, refl}
 use Rattle.std.specs.Prelude.{codes}
 use Rattle.std.specs.Str.{chars}
 use Rattle.tabled_draw.specs.Owners.{owner}
-use Rattle.tabled_draw.specs.Picture.{ended, picture}
+use Rattle.tabled_draw.specs.Picture.{with_newlines, picture}
 use Rattle.tabled_draw.specs.Sizes.{sizes}
 use Rattle.tabled_grid.specs.Entity.{place}
 use Rattle.tabled_grid.specs.Grid.{Grid}
@@ -16,6 +16,6 @@ table = record { rows = 3; columns = 3; cells = (codes "0" ∷ codes "1" ∷ cod
 abbrev merged : List Rectangle
 merged = (place 0 0, sized 2 1) ∷ (place 0 1, sized 1 2) ∷ (place 2 0, sized 1 3) ∷ []
 
-pub drawn : ended (picture table merged) ≡ codes "+---+---+---+\n| 0 | 1     |\n+   +---+---+\n|   | 2 | 3 |\n+---+---+---+\n| 4         |\n+---+---+---+\n"
+pub drawn : with_newlines (picture table merged) ≡ codes "+---+---+---+\n| 0 | 1     |\n+   +---+---+\n|   | 2 | 3 |\n+---+---+---+\n| 4         |\n+---+---+---+\n"
 unfolding chars char_width owner sizes
 drawn = refl

@@ -10,8 +10,8 @@ use Rattle.tabled_draw.proofs.Owned.{LieWell}
 use Rattle.tabled_draw.proofs.LawPicture.{length-picture}
 use Rattle.tabled_draw.proofs.LawSizes.{grown-larger, length-own, length-sizes, lies-along, room-last}
 use Rattle.tabled_draw.specs.Each.{each}
-use Rattle.tabled_draw.specs.Picture.{line, lines_of_row, picture, top}
-use Rattle.tabled_draw.specs.Sizes.{asks, grown_for, heights, own_sizes, room, sizes, text_at}
+use Rattle.tabled_draw.specs.Picture.{picture_line, lines_of_row, picture, top}
+use Rattle.tabled_draw.specs.Sizes.{asks, grown_for, heights, own_sizes, room, sizes, text_of_cell}
 use Rattle.tabled_draw.specs.Overall.{AreNoLargerThanAsked, ends_in}
 use Rattle.tabled_grid.proofs.Members.{Member}
 use Rattle.tabled_grid.specs.Axis.{line_of, lines_in}
@@ -23,7 +23,7 @@ use Rattle.tabled_grid.specs.Spans.{Rectangle}
 
 module _ (axis : Axis) (g : Grid (List ℕ)) (k : ℕ) where
   abbrev with_asked : ℕ → Rectangle → ℕ
-  with_asked most e = cond (ends_in axis k e) (max most (asks axis (text_at g e.0))) most
+  with_asked most e = cond (ends_in axis k e) (max most (asks axis (text_of_cell g e.0))) most
 
   grown-asked : (s : List ℕ) (e : Rectangle) (most : ℕ) → 1 ≤ lines_in axis e.1 → line_of axis e.0 + lines_in axis e.1 ≤ length s → get_or s k 0 ≤ most → get_or (grown_for axis g s e) k 0 ≤ with_asked most e
   grown-asked s e most some inside low = by (cases_Bool (ends_in axis k e))
@@ -33,13 +33,13 @@ module _ (axis : Axis) (g : Grid (List ℕ)) (k : ℕ) where
           let ends : line_of axis e.0 + lines_in axis e.1 ≡ k + 1 = eqb-true _ _ t in
           let same : line_of axis e.0 + lines_in axis e.1 - 1 ≡ k = omega arith in
           let old : get_or s (line_of axis e.0 + lines_in axis e.1 - 1) 0 ≡ get_or s k 0 = ap (λ i. get_or s i 0) same in
-          let now : get_or (grown_for axis g s e) k 0 ≡ get_or s (line_of axis e.0 + lines_in axis e.1 - 1) 0 + (asks axis (text_at g e.0) - room axis s (line_of axis e.0) (lines_in axis e.1)) = ap (λ i. get_or (grown_for axis g s e) i 0) (sym same) ∙ get_or-set_same s (line_of axis e.0 + lines_in axis e.1 - 1) _ 0 (omega arith) in
+          let now : get_or (grown_for axis g s e) k 0 ≡ get_or s (line_of axis e.0 + lines_in axis e.1 - 1) 0 + (asks axis (text_of_cell g e.0) - room axis s (line_of axis e.0) (lines_in axis e.1)) = ap (λ i. get_or (grown_for axis g s e) i 0) (sym same) ∙ get_or-set_same s (line_of axis e.0 + lines_in axis e.1 - 1) _ 0 (omega arith) in
           let much = room-last axis s (line_of axis e.0) (lines_in axis e.1) some inside in
-          subst (λ x. get_or (grown_for axis g s e) k 0 ≤ x) (sym (cond-true (ends_in axis k e) (max most (asks axis (text_at g e.0))) most t)) (omega arith)
+          subst (λ x. get_or (grown_for axis g s e) k 0 ≤ x) (sym (cond-true (ends_in axis k e) (max most (asks axis (text_of_cell g e.0))) most t)) (omega arith)
       by (inr f) =
           let other : k ≢ line_of axis e.0 + lines_in axis e.1 - 1 = λ is. false≢true (sym f ∙ eq-eqb (line_of axis e.0 + lines_in axis e.1) (k + 1) (omega (arith, is))) in
           let now : get_or (grown_for axis g s e) k 0 ≡ get_or s k 0 = get_or-set_other s (line_of axis e.0 + lines_in axis e.1 - 1) k _ 0 other in
-          subst (λ x. get_or (grown_for axis g s e) k 0 ≤ x) (sym (cond-false (ends_in axis k e) (max most (asks axis (text_at g e.0))) most f)) (omega arith)
+          subst (λ x. get_or (grown_for axis g s e) k 0 ≤ x) (sym (cond-false (ends_in axis k e) (max most (asks axis (text_of_cell g e.0))) most f)) (omega arith)
 
   fold-asked : (es : List Rectangle) (s : List ℕ) (most : ℕ) → ((e : Rectangle) → Member e es → (1 ≤ lines_in axis e.1) × (line_of axis e.0 + lines_in axis e.1 ≤ length s)) → get_or s k 0 ≤ most → get_or (fold (grown_for axis g) s es) k 0 ≤ fold with_asked most es
   fold-asked [] s most all low = low
@@ -64,7 +64,7 @@ lines-number g es some =
     omega (arith, length-picture g es some.row some.col, sum-ended (heights g es))
 
 pub lines-none : (g : Grid (List ℕ)) (es : List Rectangle) → (g.rows ≡ 0) ⊎ (g.columns ≡ 0) → picture g es ≡ []
-lines-none g es none = cond-true ((g.rows == 0) || (g.columns == 0)) [] (each g.rows (lines_of_row g es) ++ (line g es (top g es g.rows) g.rows (g.rows + 1) ∷ [])) (either none)
+lines-none g es none = cond-true ((g.rows == 0) || (g.columns == 0)) [] (each g.rows (lines_of_row g es) ++ (picture_line g es (top g es g.rows) g.rows (g.rows + 1) ∷ [])) (either none)
   where
     either : (g.rows ≡ 0) ⊎ (g.columns ≡ 0) → ((g.rows == 0) || (g.columns == 0)) ≡ true
     either (inl e) = or_left (g.rows == 0) (g.columns == 0) (eq-eqb g.rows 0 e)

@@ -8,15 +8,15 @@ use Rattle.tabled_draw.proofs.Owned.{Inside, LieWell, Owned, Owns, owned, owner-
 use Rattle.tabled_draw.proofs.Owned.Owned.{alone, held}
 use Rattle.tabled_draw.proofs.LawPicture.{line-above, line-in, stands-at}
 use Rattle.tabled_draw.specs.Owners.{owner, owner_in}
-use Rattle.tabled_draw.specs.Picture.{left, line, picture, top}
-use Rattle.tabled_draw.specs.Standing.{StandBetween, StandsAt, StandsIn, is_amid, is_among, is_joined_above, is_joined_around, is_joined_beside}
+use Rattle.tabled_draw.specs.Picture.{left, picture_line, picture, top}
+use Rattle.tabled_draw.specs.Standing.{StandBetween, StandsAt, StandsIn, is_amid, is_in_range, is_joined_above, is_joined_around, is_joined_beside}
 use Rattle.tabled_grid.proofs.Members.{Member, any-from}
 use Rattle.tabled_grid.specs.Entity.{place}
 use Rattle.tabled_grid.specs.Grid.{Grid, IsInside}
 use Rattle.tabled_grid.specs.Spans.{Rectangle, sized}
 use Rattle.tabled_grid.specs.declared.config.size.Size.{Size}
 
-among-from : (k at n : ℕ) → at ≤ k → k < at + n → is_among k at n ≡ true
+among-from : (k at n : ℕ) → at ≤ k → k < at + n → is_in_range k at n ≡ true
 among-from k at n low high = and_from _ _ (le-leb at k low) (lt-ltb k (at + n) high)
 
 amid-from : (k at n : ℕ) → at < k → k < at + n → is_amid k at n ≡ true
@@ -37,8 +37,8 @@ module _ (g : Grid (List ℕ)) (es : List Rectangle) (well : LieWell g.rows g.co
   beside-stands : (i j n : ℕ) → i < g.rows → j ≤ g.columns → top g es i < n → n < top g es (i + 1) → is_joined_beside es i j ≡ false
       → StandsAt (picture g es) n (left g es j) (124 ∷ [])
   beside-stands i j n h k above below clear =
-      stands-at g es n (left g es j) (line g es n (i + 1) (i + 1)) (124 ∷ []) (line-in g es some.row some.col i n h above below)
-      (subst (λ b. StandsIn (line g es n (i + 1) (i + 1)) (left g es j) (cond b 124 43 ∷ [])) (eq-eqb (i + 1) (i + 1) refl) (edge-stands g es well n (i + 1) (i + 1) j k never))
+      stands-at g es n (left g es j) (picture_line g es n (i + 1) (i + 1)) (124 ∷ []) (line-in g es some.row some.col i n h above below)
+      (subst (λ b. StandsIn (picture_line g es n (i + 1) (i + 1)) (left g es j) (cond b 124 43 ∷ [])) (eq-eqb (i + 1) (i + 1) refl) (edge-stands g es well n (i + 1) (i + 1) j k never))
     where
       never : (o : Rectangle) → owner g.rows g.columns es (i + 1) j ≡ Some o → owner g.rows g.columns es (i + 1) (j + 1) ≡ Some o → owner g.rows g.columns es (i + 1) j ≡ Some o → owner g.rows g.columns es (i + 1) (j + 1) ≡ Some o → ⊥
       never o e e' f f' = by (merged (i + 1) j o e)
@@ -51,12 +51,12 @@ module _ (g : Grid (List ℕ)) (es : List Rectangle) (well : LieWell g.rows g.co
 
           by : Member o es ⊎ (o.1 ≡ sized 1 1) → ⊥
           by (inr one) = let w : o.1.width ≡ 1 = ap (λ (x : Size). x.width) one in omega (arith, a.left, b.right)
-          by (inl m) = false≢true (sym clear ∙ any-from (λ (e : Rectangle). is_among i e.0.row e.1.height && is_amid j e.0.col e.1.width) o es m (and_from _ _ (among-from i o.0.row o.1.height (omega (arith, a.top)) (omega (arith, a.bottom))) (amid-from j o.0.col o.1.width a.left (omega (arith, b.right)))))
+          by (inl m) = false≢true (sym clear ∙ any-from (λ (e : Rectangle). is_in_range i e.0.row e.1.height && is_amid j e.0.col e.1.width) o es m (and_from _ _ (among-from i o.0.row o.1.height (omega (arith, a.top)) (omega (arith, a.bottom))) (amid-from j o.0.col o.1.width a.left (omega (arith, b.right)))))
 
   above-stands : (i j : ℕ) → i ≤ g.rows → j < g.columns → is_joined_above es i j ≡ false
       → StandsAt (picture g es) (top g es i) (left g es j + 1) (replicate (left g es (j + 1) - left g es j - 1) 45)
   above-stands i j h k clear =
-      stands-at g es (top g es i) (left g es j + 1) (line g es (top g es i) i (i + 1)) (replicate (left g es (j + 1) - left g es j - 1) 45) (line-above g es some.row some.col i h)
+      stands-at g es (top g es i) (left g es j + 1) (picture_line g es (top g es i) i (i + 1)) (replicate (left g es (j + 1) - left g es j - 1) 45) (line-above g es some.row some.col i h)
       (dashes-stand g es well (top g es i) i (i + 1) j k (λ same. omega (arith, same)) never)
     where
       never : (o : Rectangle) → owner g.rows g.columns es i (j + 1) ≡ Some o → owner g.rows g.columns es (i + 1) (j + 1) ≡ Some o → ⊥
@@ -70,13 +70,13 @@ module _ (g : Grid (List ℕ)) (es : List Rectangle) (well : LieWell g.rows g.co
 
           by : Member o es ⊎ (o.1 ≡ sized 1 1) → ⊥
           by (inr one) = let w : o.1.height ≡ 1 = ap (λ (x : Size). x.height) one in omega (arith, a.top, b.bottom)
-          by (inl m) = false≢true (sym clear ∙ any-from (λ (e : Rectangle). is_amid i e.0.row e.1.height && is_among j e.0.col e.1.width) o es m (and_from _ _ (amid-from i o.0.row o.1.height a.top (omega (arith, b.bottom))) (among-from j o.0.col o.1.width (omega (arith, a.left)) (omega (arith, a.right)))))
+          by (inl m) = false≢true (sym clear ∙ any-from (λ (e : Rectangle). is_amid i e.0.row e.1.height && is_in_range j e.0.col e.1.width) o es m (and_from _ _ (amid-from i o.0.row o.1.height a.top (omega (arith, b.bottom))) (among-from j o.0.col o.1.width (omega (arith, a.left)) (omega (arith, a.right)))))
 
   corner-stands : (i j : ℕ) → i ≤ g.rows → j ≤ g.columns → is_joined_around es i j ≡ false
       → StandsAt (picture g es) (top g es i) (left g es j) (43 ∷ [])
   corner-stands i j h k clear =
-      stands-at g es (top g es i) (left g es j) (line g es (top g es i) i (i + 1)) (43 ∷ []) (line-above g es some.row some.col i h)
-      (subst (λ b. StandsIn (line g es (top g es i) i (i + 1)) (left g es j) (cond b 124 43 ∷ [])) (ne_eqb i (i + 1) (λ same. omega (arith, same))) (edge-stands g es well (top g es i) i (i + 1) j k never))
+      stands-at g es (top g es i) (left g es j) (picture_line g es (top g es i) i (i + 1)) (43 ∷ []) (line-above g es some.row some.col i h)
+      (subst (λ b. StandsIn (picture_line g es (top g es i) i (i + 1)) (left g es j) (cond b 124 43 ∷ [])) (ne_eqb i (i + 1) (λ same. omega (arith, same))) (edge-stands g es well (top g es i) i (i + 1) j k never))
     where
       never : (o : Rectangle) → owner g.rows g.columns es i j ≡ Some o → owner g.rows g.columns es i (j + 1) ≡ Some o → owner g.rows g.columns es (i + 1) j ≡ Some o → owner g.rows g.columns es (i + 1) (j + 1) ≡ Some o → ⊥
       never o e e' f f' = by (merged i j o e)

@@ -12,10 +12,10 @@ use Rattle.tabled_draw.proofs.Owned.{LieWell, LiesIn, Owns, owner-both, owner-le
 use Rattle.tabled_draw.proofs.LawSizes.{length-sizes, line-least, room-end, room-enough, start-next}
 use Rattle.tabled_draw.specs.Each.{each}
 use Rattle.tabled_draw.specs.Owners.{is_one, owner}
-use Rattle.tabled_draw.specs.Picture.{left, line, shows, shows_in, stretch, top}
-use Rattle.tabled_draw.specs.Sizes.{room, text_at, widths}
+use Rattle.tabled_draw.specs.Picture.{left, picture_line, shows, shows_in, border_stretch, top}
+use Rattle.tabled_draw.specs.Sizes.{room, text_of_cell, widths}
 use Rattle.tabled_draw.specs.Standing.{StandsIn}
-use Rattle.tabled_draw.specs.Texts.{columns_in, lines_of, widest}
+use Rattle.tabled_draw.specs.Texts.{text_width, lines_shown, widest}
 use Rattle.tabled_grid.proofs.SpanMaps.{same_place-self}
 use Rattle.tabled_grid.specs.Entity.{place}
 use Rattle.tabled_grid.specs.Grid.{Grid}
@@ -25,16 +25,16 @@ use Rattle.unicode_width.specs.Width.{char_width}
 
 -- ---- the columns of characters
 
-columns-cons : (c : ℕ) (cs : List ℕ) → columns_in (c ∷ cs) ≡ unwrap_or (char_width false c) 0 + columns_in cs
+columns-cons : (c : ℕ) (cs : List ℕ) → text_width (c ∷ cs) ≡ unwrap_or (char_width false c) 0 + text_width cs
 columns-cons c cs = sum_by-cons (λ d. unwrap_or (char_width false d) 0) c cs
 
-pub columns-append : (xs ys : List ℕ) → columns_in (xs ++ ys) ≡ columns_in xs + columns_in ys
+pub columns-append : (xs ys : List ℕ) → text_width (xs ++ ys) ≡ text_width xs + text_width ys
 columns-append xs ys = sum_by-append (λ d. unwrap_or (char_width false d) 0) xs ys
 
-columns-replicate : (n c : ℕ) → char_width false c ≡ Some 1 → columns_in (replicate n c) ≡ n
+columns-replicate : (n c : ℕ) → char_width false c ≡ Some 1 → text_width (replicate n c) ≡ n
 columns-replicate zero c one = refl
 columns-replicate (suc n) c one =
-    let go : columns_in (replicate n c) ≡ n = columns-replicate n c one in
+    let go : text_width (replicate n c) ≡ n = columns-replicate n c one in
     let w : unwrap_or (char_width false c) 0 ≡ 1 = ap (λ x. unwrap_or x 0) one in
     columns-cons c (replicate n c) ∙ ap₂ (λ x y. x + y) w go ∙ (let s : 1 + n ≡ suc n = omega arith in s)
 
@@ -48,8 +48,8 @@ mark-one true c = refl
 mark-one false true = refl
 mark-one false false = refl
 
-pub columns-blank : (cs : List ℕ) → columns_in (32 ∷ cs) ≡ 1 + columns_in cs
-columns-blank cs = columns-cons 32 cs ∙ ap (λ x. x + columns_in cs) (ap (λ x. unwrap_or x 0) blank-one)
+pub columns-blank : (cs : List ℕ) → text_width (32 ∷ cs) ≡ 1 + text_width cs
+columns-blank cs = columns-cons 32 cs ∙ ap (λ x. x + text_width cs) (ap (λ x. unwrap_or x 0) blank-one)
 
 -- ---- owners all round
 
@@ -86,19 +86,19 @@ module _ (g : Grid (List ℕ)) (es : List Rectangle) (well : LieWell g.rows g.co
   left-end o lies = room-end Columns (widths g es) o.0.col o.1.width lies.wide (omega (arith, lies.right, length-sizes Columns g es))
 
   -- what an owner shows is as wide as its room, with a blank at both sides
-  shows-wide : (n i j : ℕ) (o : Rectangle) → owner g.rows g.columns es i j ≡ Some o → columns_in (shows g es n o) ≡ room Columns (widths g es) o.0.col o.1.width + 2
+  shows-wide : (n i j : ℕ) (o : Rectangle) → owner g.rows g.columns es i j ≡ Some o → text_width (shows g es n o) ≡ room Columns (widths g es) o.0.col o.1.width + 2
   shows-wide n i j o e =
       let s = owner-some g.rows g.columns es i j o e in
-      let lines = lines_of (text_at g o.0) in
+      let lines = lines_shown (text_of_cell g o.0) in
       let k = n - top g es o.0.row - 1 in
       let text = get_or lines k [] in
       let wide = room Columns (widths g es) o.0.col o.1.width in
-      let P : Rectangle → Type 0 = λ x. widest (text_at g x.0) ≤ room Columns (widths g es) x.0.col x.1.width in
-      let enough : widest (text_at g o.0) ≤ wide = subst P (sym s.is) (room-enough Columns g es well (place s.row s.col) s.below s.right) in
-      let within : columns_in text ≤ widest (text_at g o.0) = line-least lines 0 k in
-      let fill = wide - columns_in text + 1 in
-      let a : columns_in ((32 ∷ text) ++ replicate fill 32) ≡ columns_in (32 ∷ text) + columns_in (replicate fill 32) = columns-append (32 ∷ text) (replicate fill 32) in
-      a ∙ ap₂ (λ x y. x + y) (columns-blank text) (columns-replicate fill 32 blank-one) ∙ sum wide (columns_in text) (omega arith)
+      let P : Rectangle → Type 0 = λ x. widest (text_of_cell g x.0) ≤ room Columns (widths g es) x.0.col x.1.width in
+      let enough : widest (text_of_cell g o.0) ≤ wide = subst P (sym s.is) (room-enough Columns g es well (place s.row s.col) s.below s.right) in
+      let within : text_width text ≤ widest (text_of_cell g o.0) = line-least lines 0 k in
+      let fill = wide - text_width text + 1 in
+      let a : text_width ((32 ∷ text) ++ replicate fill 32) ≡ text_width (32 ∷ text) + text_width (replicate fill 32) = columns-append (32 ∷ text) (replicate fill 32) in
+      a ∙ ap₂ (λ x y. x + y) (columns-blank text) (columns-replicate fill 32 blank-one) ∙ sum wide (text_width text) (omega arith)
     where
       sum : (w c : ℕ) → c ≤ w → 1 + c + (w - c + 1) ≡ w + 2
       sum w c h = omega arith
@@ -118,10 +118,10 @@ module _ (g : Grid (List ℕ)) (es : List Rectangle) (well : LieWell g.rows g.co
     mark l r = cond (eqb u d) 124 (cond (eqb l r) 45 43)
 
     abbrev edge_at : ℕ → List ℕ
-    edge_at j = stretch g es n u d j (j + 1) 1
+    edge_at j = border_stretch g es n u d j (j + 1) 1
 
     abbrev column_at : ℕ → List ℕ
-    column_at j = stretch g es n u d (j + 1) (j + 1) (get_or (widths g es) j 0 + 2)
+    column_at j = border_stretch g es n u d (j + 1) (j + 1) (get_or (widths g es) j 0 + 2)
 
     abbrev part : ℕ → List ℕ
     part j = edge_at j ++ column_at j
@@ -145,14 +145,14 @@ module _ (g : Grid (List ℕ)) (es : List Rectangle) (well : LieWell g.rows g.co
             let c = owner-both g.rows g.columns es well u j d (j + 1) parts.2 in
             absurd (never a.0 a.1 a.2 (b.2 ∙ sym b.1 ∙ a.1) (c.2 ∙ sym c.1 ∙ a.1))
 
-    stretch-one : (l r size : ℕ) → all_one (up l) (up r) (down l) (down r) ≡ true → stretch g es n u d l r size ≡ shows_in g es n l r (up l)
+    stretch-one : (l r size : ℕ) → all_one (up l) (up r) (down l) (down r) ≡ true → border_stretch g es n u d l r size ≡ shows_in g es n l r (up l)
     stretch-one l r size t = cond-true (all_one (up l) (up r) (down l) (down r)) (shows_in g es n l r (up l)) (replicate size (mark l r)) t
 
-    stretch-apart : (l r size : ℕ) → all_one (up l) (up r) (down l) (down r) ≡ false → stretch g es n u d l r size ≡ replicate size (mark l r)
+    stretch-apart : (l r size : ℕ) → all_one (up l) (up r) (down l) (down r) ≡ false → border_stretch g es n u d l r size ≡ replicate size (mark l r)
     stretch-apart l r size f = cond-false (all_one (up l) (up r) (down l) (down r)) (shows_in g es n l r (up l)) (replicate size (mark l r)) f
 
-    border-wide : (l r size : ℕ) → all_one (up l) (up r) (down l) (down r) ≡ false → columns_in (stretch g es n u d l r size) ≡ size
-    border-wide l r size f = ap columns_in (stretch-apart l r size f) ∙ columns-replicate size (mark l r) (mark-one (eqb u d) (eqb l r))
+    border-wide : (l r size : ℕ) → all_one (up l) (up r) (down l) (down r) ≡ false → text_width (border_stretch g es n u d l r size) ≡ size
+    border-wide l r size f = ap text_width (stretch-apart l r size f) ∙ columns-replicate size (mark l r) (mark-one (eqb u d) (eqb l r))
 
     edge-none : (j : ℕ) → joint j ≡ true → edge_at j ≡ []
     edge-none j t = stretch-one j (j + 1) 1 t ∙ none (up j)
@@ -199,27 +199,27 @@ module _ (g : Grid (List ℕ)) (es : List Rectangle) (well : LieWell g.rows g.co
             let same : o.0.col + o.1.width ≡ j + 1 = omega (arith, a.right) in
             edge (ends same (cases_Bool (joint (j + 1)))) (is ∙ ap (left g es) same)
 
-    columns-part : (j x y : ℕ) → columns_in (edge_at j) ≡ x → columns_in (column_at j) ≡ y → columns_in (part j) ≡ x + y
+    columns-part : (j x y : ℕ) → text_width (edge_at j) ≡ x → text_width (column_at j) ≡ y → text_width (part j) ≡ x + y
     columns-part j x y e f = columns-append (edge_at j) (column_at j) ∙ ap₂ (λ x y. x + y) e f
 
-    more : (j w : ℕ) → j < g.columns → Reached j w → Reached (j + 1) (w + columns_in (part j))
+    more : (j w : ℕ) → j < g.columns → Reached j w → Reached (j + 1) (w + text_width (part j))
     more j w less (inside o e f e' f' is) =
         let a = owner-owns g.rows g.columns es well u j o e in
-        let none : columns_in (part j) ≡ 0 = columns-part j 0 0 (ap columns_in (edge-none j (joint-from j o e f e' f'))) (ap columns_in (column-none j o e' f' (λ same. omega (arith, a.left, same)))) in
-        past j (w + columns_in (part j)) o e' f' (ap (λ x. w + x) none ∙ add-zero w ∙ is)
+        let none : text_width (part j) ≡ 0 = columns-part j 0 0 (ap text_width (edge-none j (joint-from j o e f e' f'))) (ap text_width (column-none j o e' f' (λ same. omega (arith, a.left, same)))) in
+        past j (w + text_width (part j)) o e' f' (ap (λ x. w + x) none ∙ add-zero w ∙ is)
     more j w less (edge apart is) = by (cases_Bool (is_one (up (j + 1)) (down (j + 1))))
       where
-        first : columns_in (edge_at j) ≡ 1
+        first : text_width (edge_at j) ≡ 1
         first = border-wide j (j + 1) 1 apart
 
-        by : (is_one (up (j + 1)) (down (j + 1)) ≡ true) ⊎ (is_one (up (j + 1)) (down (j + 1)) ≡ false) → Reached (j + 1) (w + columns_in (part j))
+        by : (is_one (up (j + 1)) (down (j + 1)) ≡ true) ⊎ (is_one (up (j + 1)) (down (j + 1)) ≡ false) → Reached (j + 1) (w + text_width (part j))
         by (inr two) =
-            let wide : columns_in (part j) ≡ 1 + (get_or (widths g es) j 0 + 2) = columns-part j 1 _ first (border-wide (j + 1) (j + 1) (get_or (widths g es) j 0 + 2) (all-not_down (up (j + 1)) (up (j + 1)) (down (j + 1)) (down (j + 1)) two)) in
+            let wide : text_width (part j) ≡ 1 + (get_or (widths g es) j 0 + 2) = columns-part j 1 _ first (border-wide (j + 1) (j + 1) (get_or (widths g es) j 0 + 2) (all-not_down (up (j + 1)) (up (j + 1)) (down (j + 1)) (down (j + 1)) two)) in
             let to = left-next j less in
             edge (all-not_down (up (j + 1)) (up (j + 1 + 1)) (down (j + 1)) (down (j + 1 + 1)) two) (omega (arith, wide, to, is))
         by (inl one) = begins (owner-both g.rows g.columns es well u (j + 1) d (j + 1) one)
           where
-            begins : (o : Rectangle) × (up (j + 1) ≡ Some o) × (down (j + 1) ≡ Some o) → Reached (j + 1) (w + columns_in (part j))
+            begins : (o : Rectangle) × (up (j + 1) ≡ Some o) × (down (j + 1) ≡ Some o) → Reached (j + 1) (w + text_width (part j))
             begins (o, e, f) = at (cases_lt o.0.col j)
               where
                 a : Owns g.rows g.columns es u (j + 1) o
@@ -228,41 +228,41 @@ module _ (g : Grid (List ℕ)) (es : List Rectangle) (well : LieWell g.rows g.co
                 b : Owns g.rows g.columns es d (j + 1) o
                 b = owner-owns g.rows g.columns es well d (j + 1) o f
 
-                at : (o.0.col < j) ⊎ (j ≤ o.0.col) → Reached (j + 1) (w + columns_in (part j))
+                at : (o.0.col < j) ⊎ (j ≤ o.0.col) → Reached (j + 1) (w + text_width (part j))
                 at (inl before) =
                     let x = a.all u j a.top a.bottom before (omega (arith, a.right)) in
                     let y = b.all d j b.top b.bottom before (omega (arith, b.right)) in
                     absurd (false≢true (sym apart ∙ joint-from j o x y e f))
                 at (inr here) =
                     let col : o.0.col ≡ j = omega (arith, a.left) in
-                    let wide : columns_in (part j) ≡ 1 + (room Columns (widths g es) o.0.col o.1.width + 2) = columns-part j 1 _ first (ap columns_in (column-shows j o e f col) ∙ shows-wide n u (j + 1) o e) in
+                    let wide : text_width (part j) ≡ 1 + (room Columns (widths g es) o.0.col o.1.width + 2) = columns-part j 1 _ first (ap text_width (column-shows j o e f col) ∙ shows-wide n u (j + 1) o e) in
                     let to = left-end o a.lies in
                     let same : left g es o.0.col ≡ left g es j = ap (left g es) col in
-                    past j (w + columns_in (part j)) o e f (omega (arith, wide, to, is, same))
+                    past j (w + text_width (part j)) o e f (omega (arith, wide, to, is, same))
 
     begun : Reached 0 0
     begun = edge (ap (λ a. all_one a (up (0 + 1)) (down 0) (down (0 + 1))) (owner-left g.rows g.columns es u)) refl
 
-    reached : (j : ℕ) → j ≤ g.columns → Reached j (columns_in (each j part))
+    reached : (j : ℕ) → j ≤ g.columns → Reached j (text_width (each j part))
     reached zero h = begun
     reached (suc j) h =
-        let go : Reached j (columns_in (each j part)) = reached j (omega arith) in
-        let next_one : Reached (j + 1) (columns_in (each j part) + columns_in (part j)) = more j (columns_in (each j part)) (omega arith) go in
-        subst (λ k. Reached k (columns_in (each j part ++ part j))) (add-one j) (subst (λ w. Reached (j + 1) w) (sym (columns-append (each j part) (part j))) next_one)
+        let go : Reached j (text_width (each j part)) = reached j (omega arith) in
+        let next_one : Reached (j + 1) (text_width (each j part) + text_width (part j)) = more j (text_width (each j part)) (omega arith) go in
+        subst (λ k. Reached k (text_width (each j part ++ part j))) (add-one j) (subst (λ w. Reached (j + 1) w) (sym (columns-append (each j part) (part j))) next_one)
 
     -- at the right edge of the table no owner reaches over
     apart-last : joint g.columns ≡ false
     apart-last = all-not_right (up g.columns) (up (g.columns + 1)) (down g.columns) (down (g.columns + 1)) (ap (is_one (up g.columns)) (owner-right g.rows g.columns es u (g.columns + 1) (omega arith)) ∙ none-one (up g.columns))
 
     -- where not one owner is all round an edge, a line has come to that edge
-    reached-edge : (j : ℕ) → j ≤ g.columns → joint j ≡ false → columns_in (each j part) ≡ left g es j
+    reached-edge : (j : ℕ) → j ≤ g.columns → joint j ≡ false → text_width (each j part) ≡ left g es j
     reached-edge j h apart = by (reached j h)
       where
-        by : Reached j (columns_in (each j part)) → columns_in (each j part) ≡ left g es j
+        by : Reached j (text_width (each j part)) → text_width (each j part) ≡ left g es j
         by (edge _ is) = is
         by (inside o e f e' f' _) = absurd (false≢true (sym apart ∙ joint-from j o e f e' f'))
 
-    pub line-wide : columns_in (line g es n u d) ≡ left g es g.columns + 1
+    pub line-wide : text_width (picture_line g es n u d) ≡ left g es g.columns + 1
     line-wide = columns-append (each g.columns part) (edge_at g.columns) ∙ ap₂ (λ x y. x + y) (reached-edge g.columns (omega arith) apart-last) (border-wide g.columns (g.columns + 1) 1 apart-last)
 
     -- ---- what stands in a line
@@ -271,7 +271,7 @@ module _ (g : Grid (List ℕ)) (es : List Rectangle) (well : LieWell g.rows g.co
     mark_of = cond (eqb u d) 124 43
 
     -- an edge stands where no owner is all round it
-    pub edge-stands : (j : ℕ) → j ≤ g.columns → ((o : Rectangle) → up j ≡ Some o → up (j + 1) ≡ Some o → down j ≡ Some o → down (j + 1) ≡ Some o → ⊥) → StandsIn (line g es n u d) (left g es j) (mark_of ∷ [])
+    pub edge-stands : (j : ℕ) → j ≤ g.columns → ((o : Rectangle) → up j ≡ Some o → up (j + 1) ≡ Some o → down j ≡ Some o → down (j + 1) ≡ Some o → ⊥) → StandsIn (picture_line g es n u d) (left g es j) (mark_of ∷ [])
     edge-stands j h never = by (cases_lt j g.columns)
       where
         apart : joint j ≡ false
@@ -280,7 +280,7 @@ module _ (g : Grid (List ℕ)) (es : List Rectangle) (well : LieWell g.rows g.co
         edge_is : edge_at j ≡ mark_of ∷ []
         edge_is = stretch-apart j (j + 1) 1 apart ∙ ap (λ b. cond (eqb u d) 124 (cond b 45 43) ∷ []) (ne_eqb j (j + 1) (λ e. omega (arith, e)))
 
-        by : (j < g.columns) ⊎ (g.columns ≤ j) → StandsIn (line g es n u d) (left g es j) (mark_of ∷ [])
+        by : (j < g.columns) ⊎ (g.columns ≤ j) → StandsIn (picture_line g es n u d) (left g es j) (mark_of ∷ [])
         by (inl less) =
             let s = split-each part g.columns j less in
             record {
@@ -302,7 +302,7 @@ module _ (g : Grid (List ℕ)) (es : List Rectangle) (well : LieWell g.rows g.co
             }
 
     -- after an edge that stands comes its column
-    column-stands : (j : ℕ) → j < g.columns → joint j ≡ false → StandsIn (line g es n u d) (left g es j + 1) (column_at j)
+    column-stands : (j : ℕ) → j < g.columns → joint j ≡ false → StandsIn (picture_line g es n u d) (left g es j + 1) (column_at j)
     column-stands j less apart =
         let s = split-each part g.columns j less in
         record {
@@ -316,20 +316,20 @@ module _ (g : Grid (List ℕ)) (es : List Rectangle) (well : LieWell g.rows g.co
         regroup a b c r l = simp append_assoc
 
     -- between two owners stand dashes
-    pub dashes-stand : (j : ℕ) → j < g.columns → u ≢ d → ((o : Rectangle) → up (j + 1) ≡ Some o → down (j + 1) ≡ Some o → ⊥) → StandsIn (line g es n u d) (left g es j + 1) (replicate (left g es (j + 1) - left g es j - 1) 45)
+    pub dashes-stand : (j : ℕ) → j < g.columns → u ≢ d → ((o : Rectangle) → up (j + 1) ≡ Some o → down (j + 1) ≡ Some o → ⊥) → StandsIn (picture_line g es n u d) (left g es j + 1) (replicate (left g es (j + 1) - left g es j - 1) 45)
     dashes-stand j less between never =
         let size = get_or (widths g es) j 0 + 2 in
         let is : column_at j ≡ replicate size 45 = stretch-apart (j + 1) (j + 1) size (all-not_down (up (j + 1)) (up (j + 1)) (down (j + 1)) (down (j + 1)) (two (cases_Bool (is_one (up (j + 1)) (down (j + 1)))))) ∙ ap (replicate size) (ap₂ (λ x y. cond x 124 (cond y 45 43)) (ne_eqb u d between) (eq-eqb (j + 1) (j + 1) refl)) in
         let many : size ≡ left g es (j + 1) - left g es j - 1 = omega (arith, left-next j less) in
-        subst (StandsIn (line g es n u d) (left g es j + 1)) (is ∙ ap (λ k. replicate k 45) many) (column-stands j less (not-joint j (λ o e e' f f'. never o e' f')))
+        subst (StandsIn (picture_line g es n u d) (left g es j + 1)) (is ∙ ap (λ k. replicate k 45) many) (column-stands j less (not-joint j (λ o e e' f f'. never o e' f')))
       where
         two : (is_one (up (j + 1)) (down (j + 1)) ≡ true) ⊎ (is_one (up (j + 1)) (down (j + 1)) ≡ false) → is_one (up (j + 1)) (down (j + 1)) ≡ false
         two (inr f) = f
         two (inl t) = let both = owner-both g.rows g.columns es well u (j + 1) d (j + 1) t in absurd (never both.0 both.1 both.2)
 
     -- what a cell shows stands at its left edge
-    pub cell-stands : (j : ℕ) (o : Rectangle) → j < g.columns → o.0.col ≡ j → up (j + 1) ≡ Some o → down (j + 1) ≡ Some o → StandsIn (line g es n u d) (left g es j + 1) (shows g es n o)
-    cell-stands j o less first e f = subst (StandsIn (line g es n u d) (left g es j + 1)) (column-shows j o e f first) (column-stands j less (not-joint j begins))
+    pub cell-stands : (j : ℕ) (o : Rectangle) → j < g.columns → o.0.col ≡ j → up (j + 1) ≡ Some o → down (j + 1) ≡ Some o → StandsIn (picture_line g es n u d) (left g es j + 1) (shows g es n o)
+    cell-stands j o less first e f = subst (StandsIn (picture_line g es n u d) (left g es j + 1)) (column-shows j o e f first) (column-stands j less (not-joint j begins))
       where
         begins : (p : Rectangle) → up j ≡ Some p → up (j + 1) ≡ Some p → down j ≡ Some p → down (j + 1) ≡ Some p → ⊥
         begins p a a' b b' =

@@ -3,7 +3,7 @@ use Rattle.std.proofs.Common.{◌≡◌, ◌∙◌, ℕ, List, sym, ap, subst}
 use Rattle.std.specs.FinMap.{entries, entries-from_sorted, from_sorted}
 use Rattle.tabled_draw.proofs.Owned.{LieWell, fits-well}
 use Rattle.tabled_draw.specs.Overall.{HoldsOfPictures}
-use Rattle.tabled_draw.specs.Picture.{bytes_of, drawn}
+use Rattle.tabled_draw.specs.Picture.{picture_bytes, drawn}
 use Rattle.tabled_grid.proofs.Fitting.{anchors-fitting, anchors-of, fitting-fits, keep_fitting-all, keep_fitting-fits}
 use Rattle.tabled_grid.specs.Fitting.{Fits, fitting, keep_fitting}
 use Rattle.tabled_grid.specs.Grid.{Grid}
@@ -29,13 +29,13 @@ fitting-all m rows columns fits =
     let valid : AreAnchors (fitting rows columns (entries m)) = anchors-fitting rows columns (entries m) (anchors-of m fits.sizes) in
     sym (entries-from_sorted position_cmp (fitting rows columns (entries m)) valid.sorted) ∙ ap entries (keep_fitting-all rows columns m fits)
 
-pub drawn-all : (g : Grid (List ℕ)) (m : SpanMap) → Fits m g.rows g.columns → drawn g m ≡ bytes_of g (entries m)
+pub drawn-all : (g : Grid (List ℕ)) (m : SpanMap) → Fits m g.rows g.columns → drawn g m ≡ picture_bytes g (entries m)
 unfolding drawn
-drawn-all g m fits = ap (bytes_of g) (fitting-all m g.rows g.columns fits)
+drawn-all g m fits = ap (picture_bytes g) (fitting-all m g.rows g.columns fits)
 
 pub drawn-kept : (g : Grid (List ℕ)) (m : SpanMap) → AreSpanSizes m → drawn g m ≡ drawn g (keep_fitting g.rows g.columns m)
 unfolding drawn
 drawn-kept g m sizes =
     let kept = fitting g.rows g.columns (entries m) in
     let valid : AreAnchors kept = anchors-fitting g.rows g.columns (entries m) (anchors-of m sizes) in
-    ap (bytes_of g) (sym (entries-from_sorted position_cmp kept valid.sorted) ∙ sym (fitting-all (keep_fitting g.rows g.columns m) g.rows g.columns (keep_fitting-fits g.rows g.columns m sizes)))
+    ap (picture_bytes g) (sym (entries-from_sorted position_cmp kept valid.sorted) ∙ sym (fitting-all (keep_fitting g.rows g.columns m) g.rows g.columns (keep_fitting-fits g.rows g.columns m sizes)))

@@ -12,11 +12,11 @@ use Rattle.tabled_draw.proofs.Owned.Owned.{alone, held}
 use Rattle.tabled_draw.proofs.LawSizes.{line-least, room-end, length-sizes, room-enough, start-next}
 use Rattle.tabled_draw.specs.Each.{each}
 use Rattle.tabled_draw.specs.Owners.{owner, owner_in}
-use Rattle.tabled_draw.specs.Picture.{left, line, lines_of_row, picture, shows, top}
-use Rattle.tabled_draw.specs.Sizes.{heights, room, text_at, widths}
+use Rattle.tabled_draw.specs.Picture.{left, picture_line, lines_of_row, picture, shows, top}
+use Rattle.tabled_draw.specs.Sizes.{heights, room, text_of_cell, widths}
 use Rattle.tabled_draw.specs.Overall.{AreEquallyWide}
 use Rattle.tabled_draw.specs.Standing.{IsSeen, ShowsTexts, StandsAt, StandsIn, inner_height, inner_width, padded, text_line}
-use Rattle.tabled_draw.specs.Texts.{columns_in, lines_of, widest}
+use Rattle.tabled_draw.specs.Texts.{text_width, lines_shown, widest}
 use Rattle.tabled_grid.proofs.Members.{Member, any-from}
 use Rattle.tabled_grid.proofs.SpanMaps.{same_place-apart}
 use Rattle.tabled_grid.proofs.Geometry.{cases_place}
@@ -43,12 +43,12 @@ owner-self es p seen = by (owned es p)
     by (alone is _) = ap (λ (x : Rectangle). x.0) is
 
 -- a part of what stands, stands
-stands-part : (row : List ℕ) (columns : ℕ) (a b c : List ℕ) → StandsIn row columns (a ++ (b ++ c)) → StandsIn row (columns + columns_in a) b
+stands-part : (row : List ℕ) (columns : ℕ) (a b c : List ℕ) → StandsIn row columns (a ++ (b ++ c)) → StandsIn row (columns + text_width a) b
 stands-part row columns a b c s = record {
   before = s.before ++ a;
   after = c ++ s.after;
   is = s.is ∙ regroup s.before a b c s.after;
-  at = columns-append s.before a ∙ ap (λ n. n + columns_in a) s.at;
+  at = columns-append s.before a ∙ ap (λ n. n + text_width a) s.at;
 }
   where
     regroup : (x a b c y : List ℕ) → x ++ ((a ++ (b ++ c)) ++ y) ≡ (x ++ a) ++ (b ++ (c ++ y))
@@ -61,7 +61,7 @@ module _ (g : Grid (List ℕ)) (es : List Rectangle) where
   top-next i h = start-next Rows g es i h
 
   length-row : (i : ℕ) → length (lines_of_row g es i) ≡ get_or (heights g es) i 0 + 1
-  length-row i = ap suc (length-singles (λ y. line g es (top g es i + 1 + y) (i + 1) (i + 1)) (get_or (heights g es) i 0)) ∙ sym (add-one (get_or (heights g es) i 0))
+  length-row i = ap suc (length-singles (λ y. picture_line g es (top g es i + 1 + y) (i + 1) (i + 1)) (get_or (heights g es) i 0)) ∙ sym (add-one (get_or (heights g es) i 0))
 
   length-rows : (i : ℕ) → i ≤ g.rows → length (each i (lines_of_row g es)) ≡ top g es i
   length-rows zero h = refl
@@ -78,25 +78,25 @@ module _ (g : Grid (List ℕ)) (es : List Rectangle) where
   stands-at n columns row text l s = record { inside = l.inside; stands = subst (λ x. StandsIn x columns text) (sym l.is) s }
 
   module _ (low : 0 < g.rows) (far : 0 < g.columns) where
-    picture-is : picture g es ≡ each g.rows (lines_of_row g es) ++ (line g es (top g es g.rows) g.rows (g.rows + 1) ∷ [])
-    picture-is = cond-false ((g.rows == 0) || (g.columns == 0)) [] (each g.rows (lines_of_row g es) ++ (line g es (top g es g.rows) g.rows (g.rows + 1) ∷ [])) (ap₂ (λ x y. x || y) (ne_eqb g.rows 0 (λ e. omega (arith, e))) (ne_eqb g.columns 0 (λ e. omega (arith, e))))
+    picture-is : picture g es ≡ each g.rows (lines_of_row g es) ++ (picture_line g es (top g es g.rows) g.rows (g.rows + 1) ∷ [])
+    picture-is = cond-false ((g.rows == 0) || (g.columns == 0)) [] (each g.rows (lines_of_row g es) ++ (picture_line g es (top g es g.rows) g.rows (g.rows + 1) ∷ [])) (ap₂ (λ x y. x || y) (ne_eqb g.rows 0 (λ e. omega (arith, e))) (ne_eqb g.columns 0 (λ e. omega (arith, e))))
 
     pub length-picture : length (picture g es) ≡ top g es g.rows + 1
-    length-picture = ap length picture-is ∙ length-append (each g.rows (lines_of_row g es)) (line g es (top g es g.rows) g.rows (g.rows + 1) ∷ []) ∙ ap (λ n. n + 1) (length-rows g.rows (omega arith))
+    length-picture = ap length picture-is ∙ length-append (each g.rows (lines_of_row g es)) (picture_line g es (top g es g.rows) g.rows (g.rows + 1) ∷ []) ∙ ap (λ n. n + 1) (length-rows g.rows (omega arith))
 
-    line-last : IsLine (top g es g.rows) (line g es (top g es g.rows) g.rows (g.rows + 1))
+    line-last : IsLine (top g es g.rows) (picture_line g es (top g es g.rows) g.rows (g.rows + 1))
     line-last =
         let rows = each g.rows (lines_of_row g es) in
         let before : length rows + 0 ≡ top g es g.rows = add-zero (length rows) ∙ length-rows g.rows (omega arith) in
         record {
           inside = omega (arith, length-picture);
-          is = ap (λ (xs : List (List ℕ)). get_or xs (top g es g.rows) []) picture-is ∙ ap (λ k. get_or (rows ++ (line g es (top g es g.rows) g.rows (g.rows + 1) ∷ [])) k []) (sym before) ∙ get_or-append-add rows (line g es (top g es g.rows) g.rows (g.rows + 1) ∷ []) 0 [];
+          is = ap (λ (xs : List (List ℕ)). get_or xs (top g es g.rows) []) picture-is ∙ ap (λ k. get_or (rows ++ (picture_line g es (top g es g.rows) g.rows (g.rows + 1) ∷ [])) k []) (sym before) ∙ get_or-append-add rows (picture_line g es (top g es g.rows) g.rows (g.rows + 1) ∷ []) 0 [];
         }
 
     line-at : (r y : ℕ) → r < g.rows → y < get_or (heights g es) r 0 + 1 → IsLine (top g es r + y) (get_or (lines_of_row g es r) y [])
     line-at r y below less =
         let s = split-each (lines_of_row g es) g.rows r below in
-        let end = line g es (top g es g.rows) g.rows (g.rows + 1) ∷ [] in
+        let end = picture_line g es (top g es g.rows) g.rows (g.rows + 1) ∷ [] in
         let whole : picture g es ≡ each r (lines_of_row g es) ++ (lines_of_row g es r ++ (s.rest ++ end)) = picture-is ∙ ap (λ xs. xs ++ end) s.is ∙ append_assoc (each r (lines_of_row g es)) (lines_of_row g es r ++ s.rest) end ∙ ap (λ xs. each r (lines_of_row g es) ++ xs) (append_assoc (lines_of_row g es r) s.rest end) in
         let before : length (each r (lines_of_row g es)) ≡ top g es r = length-rows r (omega arith) in
         let here : length (lines_of_row g es r) ≡ get_or (heights g es) r 0 + 1 = length-row r in
@@ -109,21 +109,21 @@ module _ (g : Grid (List ℕ)) (es : List Rectangle) where
         }
 
     -- the line above a row, or below the last one
-    pub line-above : (i : ℕ) → i ≤ g.rows → IsLine (top g es i) (line g es (top g es i) i (i + 1))
+    pub line-above : (i : ℕ) → i ≤ g.rows → IsLine (top g es i) (picture_line g es (top g es i) i (i + 1))
     line-above i h = by (cases_lt i g.rows)
       where
-        by : (i < g.rows) ⊎ (g.rows ≤ i) → IsLine (top g es i) (line g es (top g es i) i (i + 1))
-        by (inl less) = subst (λ n. IsLine n (line g es (top g es i) i (i + 1))) (add-zero (top g es i)) (line-at i 0 less (omega arith))
-        by (inr end) = let same : g.rows ≡ i = omega arith in subst (λ k. IsLine (top g es k) (line g es (top g es k) k (k + 1))) same line-last
+        by : (i < g.rows) ⊎ (g.rows ≤ i) → IsLine (top g es i) (picture_line g es (top g es i) i (i + 1))
+        by (inl less) = subst (λ n. IsLine n (picture_line g es (top g es i) i (i + 1))) (add-zero (top g es i)) (line-at i 0 less (omega arith))
+        by (inr end) = let same : g.rows ≡ i = omega arith in subst (λ k. IsLine (top g es k) (picture_line g es (top g es k) k (k + 1))) same line-last
 
     -- a line of a row
-    pub line-in : (i n : ℕ) → i < g.rows → top g es i < n → n < top g es (i + 1) → IsLine n (line g es n (i + 1) (i + 1))
+    pub line-in : (i n : ℕ) → i < g.rows → top g es i < n → n < top g es (i + 1) → IsLine n (picture_line g es n (i + 1) (i + 1))
     line-in i n h above below =
         let y = n - top g es i - 1 in
         let less : y < get_or (heights g es) i 0 = omega (arith, top-next i h) in
         let at : top g es i + suc y ≡ n = omega arith in
         let at' : top g es i + 1 + y ≡ n = omega arith in
-        let row : get_or (lines_of_row g es i) (suc y) [] ≡ line g es n (i + 1) (i + 1) = get-singles (λ y. line g es (top g es i + 1 + y) (i + 1) (i + 1)) (get_or (heights g es) i 0) y [] less ∙ ap (λ k. line g es k (i + 1) (i + 1)) at' in
+        let row : get_or (lines_of_row g es i) (suc y) [] ≡ picture_line g es n (i + 1) (i + 1) = get-singles (λ y. picture_line g es (top g es i + 1 + y) (i + 1) (i + 1)) (get_or (heights g es) i 0) y [] less ∙ ap (λ k. picture_line g es k (i + 1) (i + 1)) at' in
         subst (λ x. IsLine n x) row (subst (λ k. IsLine k (get_or (lines_of_row g es i) (suc y) [])) at (line-at i (suc y) h (omega arith)))
 
   -- the n-th line is the line above a row, or a line of one, among those of some rows
@@ -158,12 +158,12 @@ module _ (g : Grid (List ℕ)) (es : List Rectangle) (well : LieWell g.rows g.co
   pub equally-wide : AreEquallyWide g es
   equally-wide = by ((g.rows == 0) || (g.columns == 0))
     where
-      row : (i : ℕ) → AllByRecursion (λ line. columns_in line ≡ left g es g.columns + 1) (lines_of_row g es i)
-      row i = (line-wide g es well (top g es i) i (i + 1), all-each (λ line. columns_in line ≡ left g es g.columns + 1) (λ y. line g es (top g es i + 1 + y) (i + 1) (i + 1) ∷ []) (λ y. (line-wide g es well (top g es i + 1 + y) (i + 1) (i + 1), tt)) (get_or (heights g es) i 0))
+      row : (i : ℕ) → AllByRecursion (λ picture_line. text_width picture_line ≡ left g es g.columns + 1) (lines_of_row g es i)
+      row i = (line-wide g es well (top g es i) i (i + 1), all-each (λ picture_line. text_width picture_line ≡ left g es g.columns + 1) (λ y. picture_line g es (top g es i + 1 + y) (i + 1) (i + 1) ∷ []) (λ y. (line-wide g es well (top g es i + 1 + y) (i + 1) (i + 1), tt)) (get_or (heights g es) i 0))
 
-      by : (b : Bool) → AllByRecursion (λ line. columns_in line ≡ left g es g.columns + 1) (cond b [] (each g.rows (lines_of_row g es) ++ (line g es (top g es g.rows) g.rows (g.rows + 1) ∷ [])))
+      by : (b : Bool) → AllByRecursion (λ picture_line. text_width picture_line ≡ left g es g.columns + 1) (cond b [] (each g.rows (lines_of_row g es) ++ (picture_line g es (top g es g.rows) g.rows (g.rows + 1) ∷ [])))
       by true = tt
-      by false = all-append (λ line. columns_in line ≡ left g es g.columns + 1) (each g.rows (lines_of_row g es)) (line g es (top g es g.rows) g.rows (g.rows + 1) ∷ []) (all-each (λ line. columns_in line ≡ left g es g.columns + 1) (lines_of_row g es) row g.rows) (line-wide g es well (top g es g.rows) g.rows (g.rows + 1), tt)
+      by false = all-append (λ picture_line. text_width picture_line ≡ left g es g.columns + 1) (each g.rows (lines_of_row g es)) (picture_line g es (top g es g.rows) g.rows (g.rows + 1) ∷ []) (all-each (λ picture_line. text_width picture_line ≡ left g es g.columns + 1) (lines_of_row g es) row g.rows) (line-wide g es well (top g es g.rows) g.rows (g.rows + 1), tt)
 
   -- ---- what a cell shows
 
@@ -197,16 +197,16 @@ module _ (g : Grid (List ℕ)) (es : List Rectangle) (well : LieWell g.rows g.co
 
         by : Where g es p.row (owner_in es p).1.height n → StandsAt (picture g es) n (left g es p.col + 1) (shows g es n (owner_in es p))
         by (border r above below is) =
-            let l : IsLine g es n (line g es n r (r + 1)) = subst (λ k. IsLine g es k (line g es k r (r + 1))) is (line-above g es low' far' r (omega (arith, row_is, lies.bottom))) in
-            stands-at g es n (left g es p.col + 1) (line g es n r (r + 1)) (shows g es n (owner_in es p)) l (cell-stands g es well n r (r + 1) p.col (owner_in es p) inside.col col_is (owns r above (omega arith)) (owns (r + 1) (omega arith) (omega arith)))
+            let l : IsLine g es n (picture_line g es n r (r + 1)) = subst (λ k. IsLine g es k (picture_line g es k r (r + 1))) is (line-above g es low' far' r (omega (arith, row_is, lies.bottom))) in
+            stands-at g es n (left g es p.col + 1) (picture_line g es n r (r + 1)) (shows g es n (owner_in es p)) l (cell-stands g es well n r (r + 1) p.col (owner_in es p) inside.col col_is (owns r above (omega arith)) (owns (r + 1) (omega arith) (omega arith)))
         by (text r above below x y) =
-            stands-at g es n (left g es p.col + 1) (line g es n (r + 1) (r + 1)) (shows g es n (owner_in es p)) (line-in g es low' far' r n (omega (arith, row_is, lies.bottom)) x y) (cell-stands g es well n (r + 1) (r + 1) p.col (owner_in es p) inside.col col_is (owns (r + 1) (omega arith) (omega arith)) (owns (r + 1) (omega arith) (omega arith)))
+            stands-at g es n (left g es p.col + 1) (picture_line g es n (r + 1) (r + 1)) (shows g es n (owner_in es p)) (line-in g es low' far' r n (omega (arith, row_is, lies.bottom)) x y) (cell-stands g es well n (r + 1) (r + 1) p.col (owner_in es p) inside.col col_is (owns (r + 1) (omega arith) (omega arith)) (owns (r + 1) (omega arith) (omega arith)))
 
     -- its room
-    width-enough : (k : ℕ) → columns_in (text_line g p k) ≤ room Columns (widths g es) p.col (owner_in es p).1.width
+    width-enough : (k : ℕ) → text_width (text_line g p k) ≤ room Columns (widths g es) p.col (owner_in es p).1.width
     width-enough k =
-        let enough : widest (text_at g p) ≤ room Columns (widths g es) p.col (owner_in es p).1.width = subst (λ (q : Position). widest (text_at g q) ≤ room Columns (widths g es) q.col (owner_in es p).1.width) self (room-enough Columns g es well p it.inside.row it.inside.col) in
-        let within : columns_in (text_line g p k) ≤ widest (text_at g p) = line-least (lines_of (text_at g p)) 0 k in
+        let enough : widest (text_of_cell g p) ≤ room Columns (widths g es) p.col (owner_in es p).1.width = subst (λ (q : Position). widest (text_of_cell g q) ≤ room Columns (widths g es) q.col (owner_in es p).1.width) self (room-enough Columns g es well p it.inside.row it.inside.col) in
+        let within : text_width (text_line g p k) ≤ widest (text_of_cell g p) = line-least (lines_shown (text_of_cell g p)) 0 k in
         omega arith
 
     width-inner : inner_width g es p ≡ room Columns (widths g es) p.col (owner_in es p).1.width + 2
@@ -214,35 +214,35 @@ module _ (g : Grid (List ℕ)) (es : List Rectangle) (well : LieWell g.rows g.co
         let end : left g es (p.col + (owner_in es p).1.width) ≡ left g es p.col + (room Columns (widths g es) p.col (owner_in es p).1.width + 3) = room-end Columns (widths g es) p.col (owner_in es p).1.width lies.wide (omega (arith, lies.right, col_is, length-sizes Columns g es)) in
         omega arith
 
-    text-wide : (k : ℕ) → columns_in (text_line g p k) + 2 ≤ inner_width g es p
+    text-wide : (k : ℕ) → text_width (text_line g p k) + 2 ≤ inner_width g es p
     text-wide k = omega (arith, width-enough k, width-inner)
 
-    text-high : length (lines_of (text_at g p)) ≤ inner_height g es p
+    text-high : length (lines_shown (text_of_cell g p)) ≤ inner_height g es p
     text-high =
-        let enough : length (lines_of (text_at g p)) ≤ room Rows (heights g es) p.row (owner_in es p).1.height = subst (λ (q : Position). length (lines_of (text_at g q)) ≤ room Rows (heights g es) q.row (owner_in es p).1.height) self (room-enough Rows g es well p it.inside.row it.inside.col) in
+        let enough : length (lines_shown (text_of_cell g p)) ≤ room Rows (heights g es) p.row (owner_in es p).1.height = subst (λ (q : Position). length (lines_shown (text_of_cell g q)) ≤ room Rows (heights g es) q.row (owner_in es p).1.height) self (room-enough Rows g es well p it.inside.row it.inside.col) in
         let end : top g es (p.row + (owner_in es p).1.height) ≡ top g es p.row + (room Rows (heights g es) p.row (owner_in es p).1.height + 1) = room-end Rows (heights g es) p.row (owner_in es p).1.height lies.high (omega (arith, lies.bottom, row_is, length-sizes Rows g es)) in
         omega arith
 
     -- what it shows, in other words
     shows-is : (k : ℕ) → shows g es (top g es p.row + 1 + k) (owner_in es p) ≡ padded (inner_width g es p) (text_line g p k)
-    shows-is k = ap (λ (q : Position). 32 ∷ get_or (lines_of (text_at g q)) (top g es p.row + 1 + k - top g es q.row - 1) [] ++ replicate (room Columns (widths g es) q.col (owner_in es p).1.width - columns_in (get_or (lines_of (text_at g q)) (top g es p.row + 1 + k - top g es q.row - 1) []) + 1) 32) self
-        ∙ ap (λ i. 32 ∷ text_line g p i ++ replicate (room Columns (widths g es) p.col (owner_in es p).1.width - columns_in (text_line g p i) + 1) 32) (let z : top g es p.row + 1 + k - top g es p.row - 1 ≡ k = omega arith in z)
+    shows-is k = ap (λ (q : Position). 32 ∷ get_or (lines_shown (text_of_cell g q)) (top g es p.row + 1 + k - top g es q.row - 1) [] ++ replicate (room Columns (widths g es) q.col (owner_in es p).1.width - text_width (get_or (lines_shown (text_of_cell g q)) (top g es p.row + 1 + k - top g es q.row - 1) []) + 1) 32) self
+        ∙ ap (λ i. 32 ∷ text_line g p i ++ replicate (room Columns (widths g es) p.col (owner_in es p).1.width - text_width (text_line g p i) + 1) 32) (let z : top g es p.row + 1 + k - top g es p.row - 1 ≡ k = omega arith in z)
         ∙ ap (λ i. 32 ∷ text_line g p k ++ replicate i 32) fill
       where
-        fill : room Columns (widths g es) p.col (owner_in es p).1.width - columns_in (text_line g p k) + 1 ≡ inner_width g es p - columns_in (text_line g p k) - 1
+        fill : room Columns (widths g es) p.col (owner_in es p).1.width - text_width (text_line g p k) + 1 ≡ inner_width g es p - text_width (text_line g p k) - 1
         fill = omega (arith, width-enough k, width-inner)
 
     text-alone : (k : ℕ) → k < inner_height g es p → StandsAt (picture g es) (top g es p.row + 1 + k) (left g es p.col + 1) (padded (inner_width g es p) (text_line g p k))
     text-alone k less = subst (λ t. StandsAt (picture g es) (top g es p.row + 1 + k) (left g es p.col + 1) t) (shows-is k) (shows-stands (top g es p.row + 1 + k) (omega arith) (omega arith))
 
-    text-whole : (k : ℕ) → k < length (lines_of (text_at g p)) → StandsAt (picture g es) (top g es p.row + 1 + k) (left g es p.col + 2) (text_line g p k)
+    text-whole : (k : ℕ) → k < length (lines_shown (text_of_cell g p)) → StandsAt (picture g es) (top g es p.row + 1 + k) (left g es p.col + 2) (text_line g p k)
     text-whole k less =
         let s = text-alone k (omega (arith, text-high)) in
         let row = get_or (picture g es) (top g es p.row + 1 + k) [] in
-        let part = stands-part row (left g es p.col + 1) (32 ∷ []) (text_line g p k) (replicate (inner_width g es p - columns_in (text_line g p k) - 1) 32) s.stands in
+        let part = stands-part row (left g es p.col + 1) (32 ∷ []) (text_line g p k) (replicate (inner_width g es p - text_width (text_line g p k) - 1) 32) s.stands in
         record { inside = s.inside; stands = subst (λ n. StandsIn row n (text_line g p k)) two part }
       where
-        two : left g es p.col + 1 + columns_in (32 ∷ []) ≡ left g es p.col + 2
+        two : left g es p.col + 1 + text_width (32 ∷ []) ≡ left g es p.col + 2
         two = omega (arith, columns-blank [])
 
   pub shows-texts : ShowsTexts g es

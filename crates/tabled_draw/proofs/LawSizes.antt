@@ -11,8 +11,8 @@ use Rattle.tabled_draw.proofs.Owned.{LieWell, LiesIn, Owned, owned}
 use Rattle.tabled_draw.proofs.Owned.Owned.{alone, held}
 use Rattle.tabled_draw.specs.Each.{largest}
 use Rattle.tabled_draw.specs.Owners.{owner_in}
-use Rattle.tabled_draw.specs.Sizes.{asks, gap, grown_for, own, own_sizes, room, sizes, start, text_at}
-use Rattle.tabled_draw.specs.Texts.{columns_in}
+use Rattle.tabled_draw.specs.Sizes.{asks, gap, grown_for, own, own_sizes, room, sizes, start_of, text_of_cell}
+use Rattle.tabled_draw.specs.Texts.{text_width}
 use Rattle.tabled_grid.proofs.Members.{Member}
 use Rattle.tabled_grid.proofs.SpanMaps.{same_place-self}
 use Rattle.tabled_grid.specs.Along.{count_along}
@@ -40,20 +40,20 @@ module _ (axis : Axis) where
   span s at zero = 0
   span s at (suc n) = span s at n + (get_or s (at + n) 0 + gap axis)
 
-  pub start-more : (s : List ℕ) (k : ℕ) → k < length s → start axis s (k + 1) ≡ start axis s k + (get_or s k 0 + gap axis)
+  pub start-more : (s : List ℕ) (k : ℕ) → k < length s → start_of axis s (k + 1) ≡ start_of axis s k + (get_or s k 0 + gap axis)
   start-more s k h = sum_by_more (λ x. x + gap axis) s k 0 h
 
-  pub start-span : (s : List ℕ) (at n : ℕ) → at + n ≤ length s → start axis s (at + n) ≡ start axis s at + span s at n
+  pub start-span : (s : List ℕ) (at n : ℕ) → at + n ≤ length s → start_of axis s (at + n) ≡ start_of axis s at + span s at n
   unfolding span
-  start-span s at zero h = ap (start axis s) (add-zero at) ∙ sym (add-zero (start axis s at))
+  start-span s at zero h = ap (start_of axis s) (add-zero at) ∙ sym (add-zero (start_of axis s at))
   start-span s at (suc n) h =
-      let go : start axis s (at + n) ≡ start axis s at + span s at n = start-span s at n (omega arith) in
-      let more : start axis s (at + n + 1) ≡ start axis s (at + n) + (get_or s (at + n) 0 + gap axis) = start-more s (at + n) (omega arith) in
+      let go : start_of axis s (at + n) ≡ start_of axis s at + span s at n = start-span s at n (omega arith) in
+      let more : start_of axis s (at + n + 1) ≡ start_of axis s (at + n) + (get_or s (at + n) 0 + gap axis) = start-more s (at + n) (omega arith) in
       let same : at + suc n ≡ at + n + 1 = omega arith in
-      ap (start axis s) same ∙ more ∙ ap (λ x. x + (get_or s (at + n) 0 + gap axis)) go ∙ add_assoc (start axis s at) (span s at n) (get_or s (at + n) 0 + gap axis)
+      ap (start_of axis s) same ∙ more ∙ ap (λ x. x + (get_or s (at + n) 0 + gap axis)) go ∙ add_assoc (start_of axis s at) (span s at n) (get_or s (at + n) 0 + gap axis)
 
   pub room-span : (s : List ℕ) (at n : ℕ) → at + n ≤ length s → room axis s at n ≡ span s at n - gap axis
-  room-span s at n h = let e : start axis s (at + n) ≡ start axis s at + span s at n = start-span s at n h in omega arith
+  room-span s at n h = let e : start_of axis s (at + n) ≡ start_of axis s at + span s at n = start-span s at n h in omega arith
 
   span-some : (s : List ℕ) (at n : ℕ) → 1 ≤ n → gap axis ≤ span s at n
   unfolding span
@@ -70,9 +70,9 @@ module _ (axis : Axis) where
       omega arith
 
   -- where a room ends
-  pub room-end : (s : List ℕ) (at n : ℕ) → 1 ≤ n → at + n ≤ length s → start axis s (at + n) ≡ start axis s at + (room axis s at n + gap axis)
+  pub room-end : (s : List ℕ) (at n : ℕ) → 1 ≤ n → at + n ≤ length s → start_of axis s (at + n) ≡ start_of axis s at + (room axis s at n + gap axis)
   room-end s at n some inside =
-      let a : start axis s (at + n) ≡ start axis s at + span s at n = start-span s at n inside in
+      let a : start_of axis s (at + n) ≡ start_of axis s at + span s at n = start-span s at n inside in
       let b : room axis s at n ≡ span s at n - gap axis = room-span s at n inside in
       let c : gap axis ≤ span s at n = span-some s at n some in
       omega arith
@@ -129,28 +129,28 @@ module _ (axis : Axis) (g : Grid (List ℕ)) where
   pub grown-larger : (s : List ℕ) (e : Rectangle) → Larger s (grown_for axis g s e)
   grown-larger s e = record { long = length-set s (line_of axis e.0 + lines_in axis e.1 - 1) _; each = λ k. get_or-set s (line_of axis e.0 + lines_in axis e.1 - 1) _ k (omega arith) }
 
-  grown-enough : (s : List ℕ) (e : Rectangle) → 1 ≤ lines_in axis e.1 → line_of axis e.0 + lines_in axis e.1 ≤ length s → asks axis (text_at g e.0) ≤ span axis (grown_for axis g s e) (line_of axis e.0) (lines_in axis e.1) - gap axis
+  grown-enough : (s : List ℕ) (e : Rectangle) → 1 ≤ lines_in axis e.1 → line_of axis e.0 + lines_in axis e.1 ≤ length s → asks axis (text_of_cell g e.0) ≤ span axis (grown_for axis g s e) (line_of axis e.0) (lines_in axis e.1) - gap axis
   grown-enough s e some h =
       let at = line_of axis e.0 in
       let n = lines_in axis e.1 in
       let last = at + n - 1 in
-      let v = get_or s last 0 + (asks axis (text_at g e.0) - room axis s at n) in
-      enough-set axis s (set s last v) at n (asks axis (text_at g e.0)) some h (grown-larger s e) (get_or-set_same s last v 0 (omega arith))
+      let v = get_or s last 0 + (asks axis (text_of_cell g e.0) - room axis s at n) in
+      enough-set axis s (set s last v) at n (asks axis (text_of_cell g e.0)) some h (grown-larger s e) (get_or-set_same s last v 0 (omega arith))
 
   fold-larger : (es : List Rectangle) (s : List ℕ) → Larger s (fold (grown_for axis g) s es)
   fold-larger [] s = record { long = refl; each = λ k. omega arith }
   fold-larger (e ∷ es) s = larger-trans s (grown_for axis g s e) (fold (grown_for axis g) (grown_for axis g s e) es) (grown-larger s e) (fold-larger es (grown_for axis g s e))
 
   fold-enough : (es : List Rectangle) (s : List ℕ) → ((e : Rectangle) → Member e es → (1 ≤ lines_in axis e.1) × (line_of axis e.0 + lines_in axis e.1 ≤ length s))
-      → (e : Rectangle) → Member e es → asks axis (text_at g e.0) ≤ span axis (fold (grown_for axis g) s es) (line_of axis e.0) (lines_in axis e.1) - gap axis
+      → (e : Rectangle) → Member e es → asks axis (text_of_cell g e.0) ≤ span axis (fold (grown_for axis g) s es) (line_of axis e.0) (lines_in axis e.1) - gap axis
   fold-enough [] s all e m = absurd m
   fold-enough (x ∷ es) s all e (inl same) =
-      let need = asks axis (text_at g x.0) in
+      let need = asks axis (text_of_cell g x.0) in
       let t = grown_for axis g s x in
       let inside = all x (inl refl) in
       let first : need ≤ span axis t (line_of axis x.0) (lines_in axis x.1) - gap axis = grown-enough s x inside.0 inside.1 in
       let later : span axis t (line_of axis x.0) (lines_in axis x.1) ≤ span axis (fold (grown_for axis g) t es) (line_of axis x.0) (lines_in axis x.1) = span-larger axis t (fold (grown_for axis g) t es) (fold-larger es t) (line_of axis x.0) (lines_in axis x.1) in
-      let P : Rectangle → Type 0 = λ y. asks axis (text_at g y.0) ≤ span axis (fold (grown_for axis g) t es) (line_of axis y.0) (lines_in axis y.1) - gap axis in
+      let P : Rectangle → Type 0 = λ y. asks axis (text_of_cell g y.0) ≤ span axis (fold (grown_for axis g) t es) (line_of axis y.0) (lines_in axis y.1) - gap axis in
       subst P (sym same) (omega arith)
   fold-enough (x ∷ es) s all e (inr m) = fold-enough es (grown_for axis g s x) (λ d i. ((all d (inr i)).0, (let inside = (all d (inr i)).1 in omega (arith, (grown-larger s x).long)))) e m
 
@@ -162,11 +162,11 @@ module _ (axis : Axis) (g : Grid (List ℕ)) where
     unfolding sizes
     length-sizes = (fold-larger es (own_sizes axis g es)).long ∙ length-own
 
-    pub start-next : (k : ℕ) → k < count_along axis g → start axis (sizes axis g es) (k + 1) ≡ start axis (sizes axis g es) k + (get_or (sizes axis g es) k 0 + gap axis)
+    pub start-next : (k : ℕ) → k < count_along axis g → start_of axis (sizes axis g es) (k + 1) ≡ start_of axis (sizes axis g es) k + (get_or (sizes axis g es) k 0 + gap axis)
     start-next k h = start-more axis (sizes axis g es) k (omega (arith, length-sizes))
 
     -- each owner has as much room as its text asks
-    pub room-enough : LieWell g.rows g.columns es → (p : Position) → p.row < g.rows → p.col < g.columns → asks axis (text_at g (owner_in es p).0) ≤ room axis (sizes axis g es) (line_of axis (owner_in es p).0) (lines_in axis (owner_in es p).1)
+    pub room-enough : LieWell g.rows g.columns es → (p : Position) → p.row < g.rows → p.col < g.columns → asks axis (text_of_cell g (owner_in es p).0) ≤ room axis (sizes axis g es) (line_of axis (owner_in es p).0) (lines_in axis (owner_in es p).1)
     unfolding sizes span
     room-enough well p low far = by (owned es p)
       where
@@ -186,14 +186,14 @@ module _ (axis : Axis) (g : Grid (List ℕ)) where
         line_below Rows = low
         line_below Columns = far
 
-        by : Owned es p o → asks axis (text_at g o.0) ≤ room axis (sizes axis g es) (line_of axis o.0) (lines_in axis o.1)
+        by : Owned es p o → asks axis (text_of_cell g o.0) ≤ room axis (sizes axis g es) (line_of axis o.0) (lines_in axis o.1)
         by (held m h) =
             let enough = fold-enough es base all o m in
             let e : room axis (sizes axis g es) (line_of axis o.0) (lines_in axis o.1) ≡ span axis (sizes axis g es) (line_of axis o.0) (lines_in axis o.1) - gap axis = room-span axis (sizes axis g es) (line_of axis o.0) (lines_in axis o.1) (omega (arith, (all o m).1, larger.long)) in
             omega (arith, enough)
         by (alone is never) =
             let one : lines_in axis o.1 ≡ 1 = ap (λ (x : Rectangle). lines_in axis x.1) is ∙ one_line axis in
-            let asked : own axis g es p ≡ asks axis (text_at g p) = cond-true _ _ _ (and_from _ _ (ap (λ (x : Rectangle). same_place x.0 p) is ∙ same_place-self p) (ap (λ n. eqb n 1) one)) in
+            let asked : own axis g es p ≡ asks axis (text_of_cell g p) = cond-true _ _ _ (and_from _ _ (ap (λ (x : Rectangle). same_place x.0 p) is ∙ same_place-self p) (ap (λ n. eqb n 1) one)) in
             let i = line_of axis p in
             let j = line_of (across axis) p in
             let there : own axis g es (place_in axis i j) ≡ own axis g es p = ap (own axis g es) (place_is axis p) in
@@ -203,17 +203,17 @@ module _ (axis : Axis) (g : Grid (List ℕ)) where
             let more : get_or base i 0 ≤ get_or (sizes axis g es) i 0 = larger.each i in
             let same : get_or (sizes axis g es) (i + 0) 0 ≡ get_or (sizes axis g es) i 0 = ap (λ k. get_or (sizes axis g es) k 0) (add-zero i) in
             let e : room axis (sizes axis g es) i 1 ≡ 0 + (get_or (sizes axis g es) (i + 0) 0 + gap axis) - gap axis = room-span axis (sizes axis g es) i 1 (omega (arith, larger.long, length-own, line_below axis)) in
-            let enough : asks axis (text_at g p) ≤ room axis (sizes axis g es) i 1 = omega arith in
-            let P : Rectangle → Type 0 = λ x. asks axis (text_at g x.0) ≤ room axis (sizes axis g es) (line_of axis x.0) (lines_in axis x.1) in
-            let Q : ℕ → Type 0 = λ n. asks axis (text_at g p) ≤ room axis (sizes axis g es) i n in
+            let enough : asks axis (text_of_cell g p) ≤ room axis (sizes axis g es) i 1 = omega arith in
+            let P : Rectangle → Type 0 = λ x. asks axis (text_of_cell g x.0) ≤ room axis (sizes axis g es) (line_of axis x.0) (lines_in axis x.1) in
+            let Q : ℕ → Type 0 = λ n. asks axis (text_of_cell g p) ≤ room axis (sizes axis g es) i n in
             subst P (sym is) (subst Q (sym (one_line axis)) enough)
 
 -- a line of a text is no wider than the text
-most-least : (lines : List (List ℕ)) (a : ℕ) → a ≤ fold (λ most line. max most (columns_in line)) a lines
+most-least : (lines : List (List ℕ)) (a : ℕ) → a ≤ fold (λ most line. max most (text_width line)) a lines
 most-least [] a = omega arith
-most-least (x ∷ lines) a = omega (arith, most-least lines (max a (columns_in x)))
+most-least (x ∷ lines) a = omega (arith, most-least lines (max a (text_width x)))
 
-pub line-least : (lines : List (List ℕ)) (a k : ℕ) → columns_in (get_or lines k []) ≤ fold (λ most line. max most (columns_in line)) a lines
+pub line-least : (lines : List (List ℕ)) (a k : ℕ) → text_width (get_or lines k []) ≤ fold (λ most line. max most (text_width line)) a lines
 line-least [] a k = omega arith
-line-least (x ∷ lines) a zero = omega (arith, most-least lines (max a (columns_in x)))
-line-least (x ∷ lines) a (suc k) = line-least lines (max a (columns_in x)) k
+line-least (x ∷ lines) a zero = omega (arith, most-least lines (max a (text_width x)))
+line-least (x ∷ lines) a (suc k) = line-least lines (max a (text_width x)) k

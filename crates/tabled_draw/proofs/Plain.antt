@@ -13,9 +13,9 @@ use Rattle.std.proofs.Math.ListN.{drop_of_length-le}
 use borrow.Author.Tests.{le-leb, le-ltb, lt-leb, lt-ltb, ne_eqb}
 use Rattle.unicode_width.specs.Width.{char_width}
 use Rattle.tabled_draw.specs.Lines.{ArePlain, after_line, first_line}
-use Rattle.tabled_draw.specs.Texts.{columns_in, lines_of, shown, shown_line, widest}
+use Rattle.tabled_draw.specs.Texts.{text_width, lines_shown, shown_character, shown_line, widest}
 
-shown-plain : (b : ℕ) → 31 < b → b < 127 → shown b ≡ b
+shown-plain : (b : ℕ) → 31 < b → b < 127 → shown_character b ≡ b
 shown-plain b low high =
     cond-false _ _ _ (le-ltb b 32 (omega (arith, low))) ∙ cond-false _ _ _ (ne_eqb b 127 (λ e. omega (arith, e, high))) ∙ cond-false _ _ _ (ap (λ x. x && nat_le b 159) (lt-leb 128 b (omega (arith, high))))
 
@@ -26,15 +26,15 @@ width-plain b low high = ap (λ w. unwrap_or w 0) (cond-true _ _ _ (lt-ltb b 127
 abbrev Plain : ℕ → Type 0
 Plain b = (31 < b) × (b < 127)
 
-map-plain : (bs : List ℕ) → ArePlain bs → map shown bs ≡ bs
+map-plain : (bs : List ℕ) → ArePlain bs → map shown_character bs ≡ bs
 map-plain [] all = refl
 map-plain (b ∷ bs) all = let h = All-head Plain b bs all in ap₂ (λ x xs. x ∷ xs) (shown-plain b h.0 h.1) (map-plain bs (All-tail Plain b bs all))
 
-pub plain-columns : (bs : List ℕ) → ArePlain bs → columns_in bs ≡ length bs
+pub plain-columns : (bs : List ℕ) → ArePlain bs → text_width bs ≡ length bs
 plain-columns [] all = refl
 plain-columns (b ∷ bs) all =
     let h = All-head Plain b bs all in
-    let rest : columns_in bs ≡ length bs = plain-columns bs (All-tail Plain b bs all) in
+    let rest : text_width bs ≡ length bs = plain-columns bs (All-tail Plain b bs all) in
     let first : unwrap_or (char_width false b) 0 ≡ 1 = width-plain b h.0 h.1 in
     sum_by-cons (λ c. unwrap_or (char_width false c) 0) b bs ∙ ap₂ (λ x y. x + y) first rest ∙ (let e : 1 + length bs ≡ suc (length bs) = omega arith in e)
 
@@ -43,18 +43,18 @@ plain-bytes [] all = refl
 plain-bytes (b ∷ bs) all = let h = All-head Plain b bs all in ap₂ (λ x xs. x ++ xs) (encode_ascii b (omega (arith, h.1))) (plain-bytes bs (All-tail Plain b bs all))
 
 pub plain-line : (bs : List ℕ) → ArePlain bs → shown_line bs ≡ bs
-plain-line bs all = ap (map shown) (chars-IsAscii bs (IsAscii-from_all bs (λ k d h. omega (arith, (all k d h).1)))) ∙ map-plain bs all
+plain-line bs all = ap (map shown_character) (chars-IsAscii bs (IsAscii-from_all bs (λ k d h. omega (arith, (all k d h).1)))) ∙ map-plain bs all
 
 pub plain-split : (bs : List ℕ) → ArePlain bs → slice_split (λ b. b == 10) bs ≡ bs ∷ []
 plain-split bs all = slice_split_none (λ b. b == 10) bs (λ k d h. ne_eqb (get_or bs k d) 10 (λ e. omega (arith, (all k d h).0, e)))
 
-pub plain-lines : (bs : List ℕ) → ArePlain bs → lines_of bs ≡ bs ∷ []
+pub plain-lines : (bs : List ℕ) → ArePlain bs → lines_shown bs ≡ bs ∷ []
 plain-lines bs all = ap (map shown_line) (plain-split bs all) ∙ ap (λ l. l ∷ []) (plain-line bs all)
 
 pub plain-widest : (bs : List ℕ) → ArePlain bs → length bs ≡ widest bs
 plain-widest bs all =
-    let one : columns_in bs ≡ length bs = plain-columns bs all in
-    let most : widest bs ≡ columns_in bs = ap (λ ls. fold (λ most line. max most (columns_in line)) 0 ls) (plain-lines bs all) ∙ (let e : max 0 (columns_in bs) ≡ columns_in bs = omega arith in e) in
+    let one : text_width bs ≡ length bs = plain-columns bs all in
+    let most : widest bs ≡ text_width bs = ap (λ ls. fold (λ most line. max most (text_width line)) 0 ls) (plain-lines bs all) ∙ (let e : max 0 (text_width bs) ≡ text_width bs = omega arith in e) in
     sym (most ∙ one)
 
 -- ---- the first line and the lines after it
@@ -62,28 +62,28 @@ plain-widest bs all =
 none-before : (bs : List ℕ) → position_or_len (λ b. b == 10) bs ≡ length bs → All (λ b. (b == 10) ≡ false) bs
 none-before bs all k d h = fails_before_first (λ b. b == 10) bs k d (omega (arith, all, h))
 
-pub first-found : (bs : List ℕ) → position_or_len (λ b. b == 10) bs < length bs → lines_of bs ≡ shown_line (before_first (λ b. b == 10) bs) ∷ lines_of (after_line bs)
+pub first-found : (bs : List ℕ) → position_or_len (λ b. b == 10) bs < length bs → lines_shown bs ≡ shown_line (before_first (λ b. b == 10) bs) ∷ lines_shown (after_line bs)
 first-found bs h = ap (map shown_line) (slice_split_first (λ b. b == 10) bs 0 h)
 
-pub first-none : (bs : List ℕ) → position_or_len (λ b. b == 10) bs ≡ length bs → lines_of bs ≡ shown_line bs ∷ []
+pub first-none : (bs : List ℕ) → position_or_len (λ b. b == 10) bs ≡ length bs → lines_shown bs ≡ shown_line bs ∷ []
 first-none bs h = ap (map shown_line) (slice_split_none (λ b. b == 10) bs (none-before bs h))
 
 pub after-none : (bs : List ℕ) → position_or_len (λ b. b == 10) bs ≡ length bs → after_line bs ≡ []
 after-none bs h = drop_of_length-le bs (omega (arith, h))
 
-nothing : (y : ℕ) → get_or (lines_of []) y [] ≡ []
-nothing zero = ap (map shown) chars-nil
+nothing : (y : ℕ) → get_or (lines_shown []) y [] ≡ []
+nothing zero = ap (map shown_character) chars-nil
 nothing (suc y) = refl
 
 -- the lines of what is left are the next ones
-pub next-line : (bs : List ℕ) (y : ℕ) → get_or (lines_of (after_line bs)) y [] ≡ get_or (lines_of bs) (y + 1) []
+pub next-line : (bs : List ℕ) (y : ℕ) → get_or (lines_shown (after_line bs)) y [] ≡ get_or (lines_shown bs) (y + 1) []
 next-line bs y = by (cases_lt (position_or_len (λ b. b == 10) bs) (length bs))
   where
-    by : (position_or_len (λ b. b == 10) bs < length bs) ⊎ (length bs ≤ position_or_len (λ b. b == 10) bs) → get_or (lines_of (after_line bs)) y [] ≡ get_or (lines_of bs) (y + 1) []
+    by : (position_or_len (λ b. b == 10) bs < length bs) ⊎ (length bs ≤ position_or_len (λ b. b == 10) bs) → get_or (lines_shown (after_line bs)) y [] ≡ get_or (lines_shown bs) (y + 1) []
     by (inl h) = sym (ap₂ (λ ls k. get_or ls k []) (first-found bs h) (add-one y))
     by (inr h) =
         let all : position_or_len (λ b. b == 10) bs ≡ length bs = omega (arith, h, prefix_len-le-length (λ b. not (b == 10)) bs) in
-        ap (λ t. get_or (lines_of t) y []) (after-none bs all) ∙ nothing y ∙ sym (ap₂ (λ ls k. get_or ls k []) (first-none bs all) (add-one y))
+        ap (λ t. get_or (lines_shown t) y []) (after-none bs all) ∙ nothing y ∙ sym (ap₂ (λ ls k. get_or ls k []) (first-none bs all) (add-one y))
 
 pub plain-after : (bs : List ℕ) → ArePlain bs → after_line bs ≡ []
 plain-after bs all = after-none bs (position_or_len_is (λ b. b == 10) bs (length bs) 0 (omega arith) (λ k h. ne_eqb (get_or bs k 0) 10 (λ e. omega (arith, (all k 0 h).0, e))) (λ h. absurd (omega (arith, h))))

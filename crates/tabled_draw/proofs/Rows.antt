@@ -15,9 +15,9 @@ use Rattle.tabled_draw.specs.Lines.{AreLeft, EndInside, drawn_line, after_line, 
 use Rattle.tabled_draw.specs.Laid.{AreEdges}
 use Rattle.tabled_draw.specs.OwnerRows.{IsOwnerRow}
 use Rattle.tabled_draw.specs.Owners.{is_one, owner}
-use Rattle.tabled_draw.specs.Picture.{ended, line, lines_of_row, picture, top}
-use Rattle.tabled_draw.specs.Sizes.{heights, room, text_at}
-use Rattle.tabled_draw.specs.Texts.{lines_of}
+use Rattle.tabled_draw.specs.Picture.{with_newlines, picture_line, lines_of_row, picture, top}
+use Rattle.tabled_draw.specs.Sizes.{heights, room, text_of_cell}
+use Rattle.tabled_draw.specs.Texts.{lines_shown}
 use Rattle.tabled_grid.proofs.SpanMaps.{same_place-self, same_place-true}
 use Rattle.tabled_grid.specs.Entity.{place, same_place}
 use Rattle.tabled_grid.specs.Grid.{Grid}
@@ -56,21 +56,21 @@ module _ (g : Grid (List ℕ)) (m : SpanMap) (fits : Fits m g.rows g.columns) wh
   left-outside n texts = record { each = λ j o less e. (let s = owner-some g.rows g.columns (entries m) 0 (j + 1) o e in absurd (omega (arith, s.is_row))) }
 
   -- a line that runs through an owner shows the next line of its text
-  cut-next : (text lines : List ℕ) (k y : ℕ) → ((y : ℕ) → get_or (lines_of text) y [] ≡ get_or (lines_of lines) (k + y) []) → get_or (lines_of (after_line text)) y [] ≡ get_or (lines_of lines) (k + 1 + y) []
-  cut-next text lines k y was = next-line text y ∙ was (y + 1) ∙ ap (λ n. get_or (lines_of lines) n []) (omega arith)
+  cut-next : (text lines : List ℕ) (k y : ℕ) → ((y : ℕ) → get_or (lines_shown text) y [] ≡ get_or (lines_shown lines) (k + y) []) → get_or (lines_shown (after_line text)) y [] ≡ get_or (lines_shown lines) (k + 1 + y) []
+  cut-next text lines k y was = next-line text y ∙ was (y + 1) ∙ ap (λ n. get_or (lines_shown lines) n []) (omega arith)
 
   -- a line in a row
   pub left-in_row : (i n : ℕ) (old new : List (List ℕ)) → 0 < i → i ≤ g.rows → top g (entries m) (i - 1) + 1 ≤ n → AreLeft g m i n old
       → ((j : ℕ) → j < g.columns → get_or new j [] ≡ left_of j (at i (j + 1)) (at i (j + 1)) (get_or old j [])) → AreLeft g m i (n + 1) new
   left-in_row i n old new low high after was is = record { each = λ j o less e begin y. by j o less e begin y }
     where
-      by : (j : ℕ) (o : Rectangle) → j < g.columns → owner g.rows g.columns (entries m) i (j + 1) ≡ Some o → o.0.col ≡ j → (y : ℕ) → get_or (lines_of (get_or new j [])) y [] ≡ get_or (lines_of (text_at g o.0)) (n + 1 - top g (entries m) o.0.row - 1 + y) []
+      by : (j : ℕ) (o : Rectangle) → j < g.columns → owner g.rows g.columns (entries m) i (j + 1) ≡ Some o → o.0.col ≡ j → (y : ℕ) → get_or (lines_shown (get_or new j [])) y [] ≡ get_or (lines_shown (text_of_cell g o.0)) (n + 1 - top g (entries m) o.0.row - 1 + y) []
       by j o less e begin y =
           let one : is_one (owner g.rows g.columns (entries m) i (j + 1)) (owner g.rows g.columns (entries m) i (j + 1)) ≡ true = one-in_row m g.rows g.columns i j low high less in
           let cut : get_or new j [] ≡ after_line (get_or old j []) = is j less ∙ cond-true _ _ _ (ap₂ (λ (a : Bool) (x : Option Rectangle). a && begins j x) one e ∙ eq-eqb o.0.col j begin) in
           let row = (owns m g.rows g.columns fits i (j + 1) o e).top in
           let over : top g (entries m) o.0.row + 1 ≤ n = upper (cases_lt o.0.row (i - 1)) row in
-          ap (λ t. get_or (lines_of t) y []) cut ∙ cut-next (get_or old j []) (text_at g o.0) (n - top g (entries m) o.0.row - 1) y (was.each j o less e begin) ∙ ap (λ k. get_or (lines_of (text_at g o.0)) k []) (omega (arith, over))
+          ap (λ t. get_or (lines_shown t) y []) cut ∙ cut-next (get_or old j []) (text_of_cell g o.0) (n - top g (entries m) o.0.row - 1) y (was.each j o less e begin) ∙ ap (λ k. get_or (lines_shown (text_of_cell g o.0)) k []) (omega (arith, over))
         where
           upper : (o.0.row < i - 1) ⊎ (i - 1 ≤ o.0.row) → o.0.row < i → top g (entries m) o.0.row + 1 ≤ n
           upper (inl before) row = omega (arith, top-below g (entries m) o.0.row (i - 1) before (omega (arith, high)), after)
@@ -82,13 +82,13 @@ module _ (g : Grid (List ℕ)) (m : SpanMap) (fits : Fits m g.rows g.columns) wh
       → ((j : ℕ) → j < g.columns → get_or new j [] ≡ begun g (at (i + 1) (j + 1)) (place i j) (get_or cut j [])) → AreLeft g m (i + 1) (n + 1) new
   left-next_row i n old cut new high is_n was is_cut is_new = record { each = λ j o less e begin y. by j o less e begin y (cases_lt o.0.row i) }
     where
-      by : (j : ℕ) (o : Rectangle) → j < g.columns → owner g.rows g.columns (entries m) (i + 1) (j + 1) ≡ Some o → o.0.col ≡ j → (y : ℕ) → (o.0.row < i) ⊎ (i ≤ o.0.row) → get_or (lines_of (get_or new j [])) y [] ≡ get_or (lines_of (text_at g o.0)) (n + 1 - top g (entries m) o.0.row - 1 + y) []
+      by : (j : ℕ) (o : Rectangle) → j < g.columns → owner g.rows g.columns (entries m) (i + 1) (j + 1) ≡ Some o → o.0.col ≡ j → (y : ℕ) → (o.0.row < i) ⊎ (i ≤ o.0.row) → get_or (lines_shown (get_or new j [])) y [] ≡ get_or (lines_shown (text_of_cell g o.0)) (n + 1 - top g (entries m) o.0.row - 1 + y) []
       by j o less e begin y (inr here) =
           let row : o.0.row ≡ i = omega (arith, here, (owns m g.rows g.columns fits (i + 1) (j + 1) o e).top) in
           let same : o.0 ≡ place i j = ap₂ place row begin in
-          let text : get_or new j [] ≡ text_at g o.0 = is_new j less ∙ ap (λ (x : Option Rectangle). begun g x (place i j) (get_or cut j [])) e ∙ cond-true _ _ _ (ap (λ q. same_place q (place i j)) same ∙ same_place-self (place i j)) ∙ ap (text_at g) (sym same) in
+          let text : get_or new j [] ≡ text_of_cell g o.0 = is_new j less ∙ ap (λ (x : Option Rectangle). begun g x (place i j) (get_or cut j [])) e ∙ cond-true _ _ _ (ap (λ q. same_place q (place i j)) same ∙ same_place-self (place i j)) ∙ ap (text_of_cell g) (sym same) in
           let first : n + 1 - top g (entries m) o.0.row - 1 + y ≡ y = (let t : top g (entries m) o.0.row ≡ top g (entries m) i = ap (top g (entries m)) row in omega (arith, t, is_n)) in
-          ap (λ t. get_or (lines_of t) y []) text ∙ ap (λ k. get_or (lines_of (text_at g o.0)) k []) (sym first)
+          ap (λ t. get_or (lines_shown t) y []) text ∙ ap (λ k. get_or (lines_shown (text_of_cell g o.0)) k []) (sym first)
       by j o less e begin y (inl above) =
           let over : owner g.rows g.columns (entries m) i (j + 1) ≡ Some o = owner-over m g.rows g.columns fits i (j + 1) o e above in
           let one : is_one (owner g.rows g.columns (entries m) i (j + 1)) (owner g.rows g.columns (entries m) (i + 1) (j + 1)) ≡ true = ap₂ is_one over e ∙ same_place-self o.0 in
@@ -96,7 +96,7 @@ module _ (g : Grid (List ℕ)) (m : SpanMap) (fits : Fits m g.rows g.columns) wh
           let kept : get_or new j [] ≡ get_or cut j [] = is_new j less ∙ ap (λ (x : Option Rectangle). begun g x (place i j) (get_or cut j [])) e ∙ cond-false _ _ _ apart in
           let next : get_or cut j [] ≡ after_line (get_or old j []) = is_cut j less ∙ cond-true _ _ _ (ap₂ (λ (a : Bool) (x : Option Rectangle). a && begins j x) one over ∙ eq-eqb o.0.col j begin) in
           let low : top g (entries m) o.0.row + 1 ≤ n = omega (arith, top-below g (entries m) o.0.row i above (omega (arith, high)), is_n) in
-          ap (λ t. get_or (lines_of t) y []) (kept ∙ next) ∙ cut-next (get_or old j []) (text_at g o.0) (n - top g (entries m) o.0.row - 1) y (was.each j o less over begin) ∙ ap (λ k. get_or (lines_of (text_at g o.0)) k []) (omega (arith, low))
+          ap (λ t. get_or (lines_shown t) y []) (kept ∙ next) ∙ cut-next (get_or old j []) (text_of_cell g o.0) (n - top g (entries m) o.0.row - 1) y (was.each j o less over begin) ∙ ap (λ k. get_or (lines_shown (text_of_cell g o.0)) k []) (omega (arith, low))
         where
           never : (same_place o.0 (place i j) ≡ true) ⊎ (same_place o.0 (place i j) ≡ false) → same_place o.0 (place i j) ≡ false
           never (inl t) = absurd (omega (arith, above, ap (λ (q : Position). q.row) (same_place-true o.0 (place i j) t)))
@@ -110,47 +110,47 @@ end-inside m rows columns i row fits is = record { each = λ j o less e begin. (
 module _ (g : Grid (List ℕ)) (m : SpanMap) (fits : Fits m g.rows g.columns) (edges : List ℕ) (laid : AreEdges g m edges) where
   next-of : (u d n : ℕ) (texts : List (List ℕ)) → AreLeft g m u n texts → AreNext g m fits edges laid n u d texts
   unfolding AreNext
-  next-of u d n texts was j o less e begin one = was.each j o less e begin 0 ∙ ap (λ k. get_or (lines_of (text_at g o.0)) k []) (add-zero (n - top g (entries m) o.0.row - 1))
+  next-of u d n texts was j o less e begin one = was.each j o less e begin 0 ∙ ap (λ k. get_or (lines_shown (text_of_cell g o.0)) k []) (add-zero (n - top g (entries m) o.0.row - 1))
 
   -- the line above a row
   pub between : (i n : ℕ) (above here : List (Option Rectangle)) (texts : List (List ℕ)) (columns : ℕ) → n ≡ top g (entries m) i → IsOwnerRow g.rows g.columns m i above → IsOwnerRow g.rows g.columns m (i + 1) here → AreLeft g m i n texts → columns ≡ g.columns
-      → drawn_line columns 43 edges above here texts ≡ line g (entries m) (top g (entries m) i) i (i + 1) ++ (10 ∷ [])
+      → drawn_line columns 43 edges above here texts ≡ picture_line g (entries m) (top g (entries m) i) i (i + 1) ++ (10 ∷ [])
   between i n above here texts columns is over under was same =
       line-is g m fits edges laid n i (i + 1) 43 (sym (ap (λ b. cond b 124 43) (ne_eqb i (i + 1) (λ e. omega (arith, e))))) above here over under (λ e. absurd (omega (arith, e))) texts (next-of i (i + 1) n texts was) columns same
-      ∙ ap (λ k. line g (entries m) k i (i + 1) ++ (10 ∷ [])) is
+      ∙ ap (λ k. picture_line g (entries m) k i (i + 1) ++ (10 ∷ [])) is
 
   -- a line in a row
   pub in-row : (i n : ℕ) (here : List (Option Rectangle)) (texts : List (List ℕ)) (columns : ℕ) → i < g.rows → IsOwnerRow g.rows g.columns m (i + 1) here → AreLeft g m (i + 1) n texts → columns ≡ g.columns
-      → drawn_line columns 124 edges here here texts ≡ line g (entries m) n (i + 1) (i + 1) ++ (10 ∷ [])
+      → drawn_line columns 124 edges here here texts ≡ picture_line g (entries m) n (i + 1) (i + 1) ++ (10 ∷ [])
   in-row i n here texts columns high over was same =
       line-is g m fits edges laid n (i + 1) (i + 1) 124 (sym (ap (λ b. cond b 124 43) (eq-eqb (i + 1) (i + 1) refl))) here here over over (λ e. (omega arith, omega (arith, high))) texts (next-of (i + 1) (i + 1) n texts was) columns same
 
 -- ---- lines with a newline after each
 
-pub ended-more : (xs : List (List ℕ)) (x : List ℕ) → ended (xs ++ (x ∷ [])) ≡ ended xs ++ (x ++ (10 ∷ []))
-ended-more xs x = flat_map-append (λ line. line ++ (10 ∷ [])) xs (x ∷ []) ∙ ap (λ ys. ended xs ++ ys) (append-nil (x ++ (10 ∷ [])))
+pub ended-more : (xs : List (List ℕ)) (x : List ℕ) → with_newlines (xs ++ (x ∷ [])) ≡ with_newlines xs ++ (x ++ (10 ∷ []))
+ended-more xs x = flat_map-append (λ picture_line. picture_line ++ (10 ∷ [])) xs (x ∷ []) ∙ ap (λ ys. with_newlines xs ++ ys) (append-nil (x ++ (10 ∷ [])))
 
-pub ended-both : (xs ys : List (List ℕ)) → ended (xs ++ ys) ≡ ended xs ++ ended ys
-ended-both xs ys = flat_map-append (λ line. line ++ (10 ∷ [])) xs ys
+pub ended-both : (xs ys : List (List ℕ)) → with_newlines (xs ++ ys) ≡ with_newlines xs ++ with_newlines ys
+ended-both xs ys = flat_map-append (λ picture_line. picture_line ++ (10 ∷ [])) xs ys
 
 module _ (g : Grid (List ℕ)) (es : List Rectangle) where
   -- the lines of a row up to one of them
   abbrev pub lines_below : ℕ → ℕ → List (List ℕ)
-  lines_below i y = line g es (top g es i) i (i + 1) ∷ each y (λ y. line g es (top g es i + 1 + y) (i + 1) (i + 1) ∷ [])
+  lines_below i y = picture_line g es (top g es i) i (i + 1) ∷ each y (λ y. picture_line g es (top g es i + 1 + y) (i + 1) (i + 1) ∷ [])
 
-  pub first-below : (i : ℕ) → line g es (top g es i) i (i + 1) ++ (10 ∷ []) ≡ ended (lines_below i 0)
-  first-below i = sym (append-nil (line g es (top g es i) i (i + 1) ++ (10 ∷ [])))
+  pub first-below : (i : ℕ) → picture_line g es (top g es i) i (i + 1) ++ (10 ∷ []) ≡ with_newlines (lines_below i 0)
+  first-below i = sym (append-nil (picture_line g es (top g es i) i (i + 1) ++ (10 ∷ [])))
 
-  pub more-below : (i y : ℕ) → ended (lines_below i y) ++ (line g es (top g es i + 1 + y) (i + 1) (i + 1) ++ (10 ∷ [])) ≡ ended (lines_below i (y + 1))
-  more-below i y = sym (ended-more (lines_below i y) (line g es (top g es i + 1 + y) (i + 1) (i + 1))) ∙ ap ended (ap (λ ls. line g es (top g es i) i (i + 1) ∷ ls) (sym (each-more (λ y. line g es (top g es i + 1 + y) (i + 1) (i + 1) ∷ []) y)))
+  pub more-below : (i y : ℕ) → with_newlines (lines_below i y) ++ (picture_line g es (top g es i + 1 + y) (i + 1) (i + 1) ++ (10 ∷ [])) ≡ with_newlines (lines_below i (y + 1))
+  more-below i y = sym (ended-more (lines_below i y) (picture_line g es (top g es i + 1 + y) (i + 1) (i + 1))) ∙ ap with_newlines (ap (λ ls. picture_line g es (top g es i) i (i + 1) ∷ ls) (sym (each-more (λ y. picture_line g es (top g es i + 1 + y) (i + 1) (i + 1) ∷ []) y)))
 
-  pub all-below : (i y : ℕ) → y ≡ get_or (heights g es) i 0 → ended (lines_below i y) ≡ ended (lines_of_row g es i)
-  all-below i y is = ap (λ k. ended (lines_below i k)) is
+  pub all-below : (i y : ℕ) → y ≡ get_or (heights g es) i 0 → with_newlines (lines_below i y) ≡ with_newlines (lines_of_row g es i)
+  all-below i y is = ap (λ k. with_newlines (lines_below i k)) is
 
-  pub more-rows : (i : ℕ) → ended (each i (lines_of_row g es)) ++ ended (lines_of_row g es i) ≡ ended (each (i + 1) (lines_of_row g es))
-  more-rows i = sym (ended-both (each i (lines_of_row g es)) (lines_of_row g es i)) ∙ ap ended (sym (each-more (lines_of_row g es) i))
+  pub more-rows : (i : ℕ) → with_newlines (each i (lines_of_row g es)) ++ with_newlines (lines_of_row g es i) ≡ with_newlines (each (i + 1) (lines_of_row g es))
+  more-rows i = sym (ended-both (each i (lines_of_row g es)) (lines_of_row g es i)) ∙ ap with_newlines (sym (each-more (lines_of_row g es) i))
 
-  pub all-rows : (i : ℕ) → i ≡ g.rows → 0 < g.rows → 0 < g.columns → ended (each i (lines_of_row g es)) ++ (line g es (top g es g.rows) g.rows (g.rows + 1) ++ (10 ∷ [])) ≡ ended (picture g es)
+  pub all-rows : (i : ℕ) → i ≡ g.rows → 0 < g.rows → 0 < g.columns → with_newlines (each i (lines_of_row g es)) ++ (picture_line g es (top g es g.rows) g.rows (g.rows + 1) ++ (10 ∷ [])) ≡ with_newlines (picture g es)
   all-rows i is high wide =
       let full : ((g.rows == 0) || (g.columns == 0)) ≡ false = ap₂ (λ x y. x || y) (ne_eqb g.rows 0 (λ e. omega (arith, e, high))) (ne_eqb g.columns 0 (λ e. omega (arith, e, wide))) in
-      ap (λ k. ended (each k (lines_of_row g es)) ++ (line g es (top g es g.rows) g.rows (g.rows + 1) ++ (10 ∷ []))) is ∙ sym (ended-more (each g.rows (lines_of_row g es)) (line g es (top g es g.rows) g.rows (g.rows + 1))) ∙ ap ended (sym (cond-false _ _ _ full))
+      ap (λ k. with_newlines (each k (lines_of_row g es)) ++ (picture_line g es (top g es g.rows) g.rows (g.rows + 1) ++ (10 ∷ []))) is ∙ sym (ended-more (each g.rows (lines_of_row g es)) (picture_line g es (top g es g.rows) g.rows (g.rows + 1))) ∙ ap with_newlines (sym (cond-false _ _ _ full))

@@ -9,29 +9,29 @@ use Rattle.std.proofs.lemmas.List.Sums.{fold-append, sum_by-cons}
 use Rattle.std.proofs.lemmas.Str.{chars_past_char, chars-nil}
 use Rattle.unicode_width.specs.Width.{char_width}
 use Rattle.tabled_draw.proofs.Sent.{draws-as, draws-bytes, draws-none, draws-then}
-use Rattle.tabled_draw.specs.Sent.{Draws, Sends}
-use Rattle.tabled_draw.specs.Texts.{columns_in, shown, shown_line}
+use Rattle.tabled_draw.specs.Sent.{Draws, GrowsBy}
+use Rattle.tabled_draw.specs.Texts.{text_width, shown_character, shown_line}
 
-pub counted : (c : ℕ) (rest whole : List ℕ) → IsUtf8 whole → whole ≡ encode_utf8 c ++ rest → columns_in (shown_line whole) ≡ unwrap_or (char_width false (shown c)) 0 + columns_in (shown_line rest)
+pub counted : (c : ℕ) (rest whole : List ℕ) → IsUtf8 whole → whole ≡ encode_utf8 c ++ rest → text_width (shown_line whole) ≡ unwrap_or (char_width false (shown_character c)) 0 + text_width (shown_line rest)
 counted c rest whole utf8 is =
-    ap (λ cs. columns_in (map shown cs)) (chars_past_char whole rest c utf8 is)
-    ∙ sum_by-cons (λ d. unwrap_or (char_width false d) 0) (shown c) (map shown (chars rest))
+    ap (λ cs. text_width (map shown_character cs)) (chars_past_char whole rest c utf8 is)
+    ∙ sum_by-cons (λ d. unwrap_or (char_width false d) 0) (shown_character c) (map shown_character (chars rest))
 
-pub counted-more : (c columns more rest whole all : ℕ) (w : Option ℕ) → w ≡ char_width false (shown c) → whole ≡ unwrap_or (char_width false (shown c)) 0 + rest → columns + whole ≡ all → more ≡ columns + unwrap_or w 0 → more + rest ≡ all
+pub counted-more : (c columns more rest whole all : ℕ) (w : Option ℕ) → w ≡ char_width false (shown_character c) → whole ≡ unwrap_or (char_width false (shown_character c)) 0 + rest → columns + whole ≡ all → more ≡ columns + unwrap_or w 0 → more + rest ≡ all
 counted-more c columns more rest whole all w width is same sum =
-    let value : unwrap_or w 0 ≡ unwrap_or (char_width false (shown c)) 0 = ap (λ x. unwrap_or x 0) width in
+    let value : unwrap_or w 0 ≡ unwrap_or (char_width false (shown_character c)) 0 = ap (λ x. unwrap_or x 0) width in
     omega (arith, value, is, same, sum)
 
-pub counted-end : (columns all : ℕ) (rest : List ℕ) → rest ≡ [] → columns + columns_in (shown_line rest) ≡ all → columns ≡ all
+pub counted-end : (columns all : ℕ) (rest : List ℕ) → rest ≡ [] → columns + text_width (shown_line rest) ≡ all → columns ≡ all
 counted-end columns all rest none same =
-    let nothing : columns_in (shown_line rest) ≡ 0 = ap (λ cs. columns_in (map shown cs)) (ap chars none ∙ chars-nil) in
+    let nothing : text_width (shown_line rest) ≡ 0 = ap (λ cs. text_width (map shown_character cs)) (ap chars none ∙ chars-nil) in
     omega (arith, nothing, same)
 
-pub widest-more : {A : Type 0} (f : A → List ℕ) (most : ℕ) (xs : List A) (x : A) → most ≡ fold (λ most line. max most (columns_in line)) 0 (map shown_line (map f xs))
-    → max most (columns_in (shown_line (f x))) ≡ fold (λ most line. max most (columns_in line)) 0 (map shown_line (map f (xs ++ (x ∷ []))))
+pub widest-more : {A : Type 0} (f : A → List ℕ) (most : ℕ) (xs : List A) (x : A) → most ≡ fold (λ most line. max most (text_width line)) 0 (map shown_line (map f xs))
+    → max most (text_width (shown_line (f x))) ≡ fold (λ most line. max most (text_width line)) 0 (map shown_line (map f (xs ++ (x ∷ []))))
 widest-more f most xs x is =
-    let wider : ℕ → List ℕ → ℕ = λ most line. max most (columns_in line) in
-    ap (λ n. max n (columns_in (shown_line (f x)))) is
+    let wider : ℕ → List ℕ → ℕ = λ most line. max most (text_width line) in
+    ap (λ n. max n (text_width (shown_line (f x)))) is
     ∙ sym (fold-append wider 0 (map shown_line (map f xs)) (shown_line (f x) ∷ []))
     ∙ ap (fold wider 0) (sym (map-append shown_line (map f xs) (f x ∷ [])) ∙ ap (map shown_line) (sym (map-append f xs (x ∷ []))))
 
@@ -44,23 +44,23 @@ pub record Drawn (a : Option (List ℕ)) (h : List ℕ) (b : Option (List ℕ)) 
 pub drawn-none : (a : Option (List ℕ)) (h rest all : List ℕ) → all ≡ rest → Drawn a h a h rest all
 drawn-none a h rest all is = record { done = []; is = is; drawn = draws-none }
 
-pub drawn-more : (a b d : Option (List ℕ)) (h i j : List ℕ) (c : ℕ) (bytes whole rest all : List ℕ) → IsUtf8 whole → whole ≡ encode_utf8 c ++ rest → Drawn a h b i (shown_line whole) all → bytes ≡ encode_utf8 (shown c) → Sends b i d j bytes → Drawn a h d j (shown_line rest) all
+pub drawn-more : (a b d : Option (List ℕ)) (h i j : List ℕ) (c : ℕ) (bytes whole rest all : List ℕ) → IsUtf8 whole → whole ≡ encode_utf8 c ++ rest → Drawn a h b i (shown_line whole) all → bytes ≡ encode_utf8 (shown_character c) → GrowsBy b i d j bytes → Drawn a h d j (shown_line rest) all
 drawn-more a b d h i j c bytes whole rest all utf8 is was same sent = record {
-  done = was.done ++ (shown c ∷ []);
-  is = was.is ∙ ap (λ cs. was.done ++ map shown cs) (chars_past_char whole rest c utf8 is) ∙ sym (append_assoc was.done (shown c ∷ []) (shown_line rest));
-  drawn = draws-then was.drawn (draws-bytes b d i j bytes (shown c ∷ []) (same ∙ sym (append-nil (encode_utf8 (shown c)))) sent);
+  done = was.done ++ (shown_character c ∷ []);
+  is = was.is ∙ ap (λ cs. was.done ++ map shown_character cs) (chars_past_char whole rest c utf8 is) ∙ sym (append_assoc was.done (shown_character c ∷ []) (shown_line rest));
+  drawn = draws-then was.drawn (draws-bytes b d i j bytes (shown_character c ∷ []) (same ∙ sym (append-nil (encode_utf8 (shown_character c)))) sent);
 }
 
 pub drawn-all : (a b : Option (List ℕ)) (h i rest all : List ℕ) → rest ≡ [] → Drawn a h b i (shown_line rest) all → Draws a h b i all
 drawn-all a b h i rest all none was =
-    draws-as (sym (was.is ∙ ap (λ r. was.done ++ r) (ap (λ cs. map shown cs) (ap chars none ∙ chars-nil)) ∙ append-nil was.done)) was.drawn
+    draws-as (sym (was.is ∙ ap (λ r. was.done ++ r) (ap (λ cs. map shown_character cs) (ap chars none ∙ chars-nil)) ∙ append-nil was.done)) was.drawn
 
-pub left-more : (c left more whole rest all : ℕ) (w : Option ℕ) → w ≡ char_width false (shown c) → whole ≡ unwrap_or (char_width false (shown c)) 0 + rest → left - whole ≡ all → more ≡ left - unwrap_or w 0 → more - rest ≡ all
+pub left-more : (c left more whole rest all : ℕ) (w : Option ℕ) → w ≡ char_width false (shown_character c) → whole ≡ unwrap_or (char_width false (shown_character c)) 0 + rest → left - whole ≡ all → more ≡ left - unwrap_or w 0 → more - rest ≡ all
 left-more c left more whole rest all w width is same less =
-    let value : unwrap_or w 0 ≡ unwrap_or (char_width false (shown c)) 0 = ap (λ x. unwrap_or x 0) width in
+    let value : unwrap_or w 0 ≡ unwrap_or (char_width false (shown_character c)) 0 = ap (λ x. unwrap_or x 0) width in
     omega (arith, value, is, same, less)
 
-pub left-end : (left all : ℕ) (rest : List ℕ) → rest ≡ [] → left - columns_in (shown_line rest) ≡ all → left ≡ all
+pub left-end : (left all : ℕ) (rest : List ℕ) → rest ≡ [] → left - text_width (shown_line rest) ≡ all → left ≡ all
 left-end left all rest none same =
-    let nothing : columns_in (shown_line rest) ≡ 0 = ap (λ cs. columns_in (map shown cs)) (ap chars none ∙ chars-nil) in
+    let nothing : text_width (shown_line rest) ≡ 0 = ap (λ cs. text_width (map shown_character cs)) (ap chars none ∙ chars-nil) in
     omega (arith, nothing, same)

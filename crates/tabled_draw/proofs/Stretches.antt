@@ -10,12 +10,12 @@ use Rattle.tabled_draw.proofs.LawSizes.{start-next}
 use Rattle.tabled_draw.proofs.Owned.{Owns, fits-well, owner-inside, owner-owns}
 use Rattle.tabled_draw.specs.Each.{each}
 use Rattle.tabled_draw.specs.Laid.{AreEdges}
-use Rattle.tabled_draw.specs.Lines.{column, drawn_line, edge, first_line, inside, stretches}
+use Rattle.tabled_draw.specs.Lines.{column, drawn_line, edge, first_line, text_inside, stretches}
 use Rattle.tabled_draw.specs.OwnerRows.{IsOwnerRow}
 use Rattle.tabled_draw.specs.Owners.{is_one, owner, owner_in}
-use Rattle.tabled_draw.specs.Picture.{left, line, shows, shows_in, stretch, top}
-use Rattle.tabled_draw.specs.Sizes.{room, text_at, widths}
-use Rattle.tabled_draw.specs.Texts.{columns_in, lines_of}
+use Rattle.tabled_draw.specs.Picture.{left, picture_line, shows, shows_in, border_stretch, top}
+use Rattle.tabled_draw.specs.Sizes.{room, text_of_cell, widths}
+use Rattle.tabled_draw.specs.Texts.{text_width, lines_shown}
 use Rattle.tabled_grid.proofs.SpanMaps.{same_place-self}
 use Rattle.tabled_grid.specs.Entity.{place}
 use Rattle.tabled_grid.specs.Grid.{Grid}
@@ -42,7 +42,7 @@ module _ (g : Grid (List ℕ)) (es : List Rectangle) (n u d j : ℕ) where
 
   pub edge-is : (mark : ℕ) (p q r s : Option Rectangle) → mark ≡ cond (eqb u d) 124 43
       → p ≡ owner g.rows g.columns es u j → q ≡ owner g.rows g.columns es u (j + 1) → r ≡ owner g.rows g.columns es d j → s ≡ owner g.rows g.columns es d (j + 1)
-      → edge mark p q r s ≡ stretch g es n u d j (j + 1) 1
+      → edge mark p q r s ≡ border_stretch g es n u d j (j + 1) 1
   edge-is mark p q r s is e1 e2 e3 e4 = rw (e1, e2, e3, e4) (edge-by mark (owner g.rows g.columns es u j) (owner g.rows g.columns es u (j + 1)) (owner g.rows g.columns es d j) (owner g.rows g.columns es d (j + 1)) is)
 
   column-by : (a b : Option Rectangle) (shown : List ℕ) (size : ℕ) → (is_one a b ≡ true → shown ≡ shows_in g es n (j + 1) (j + 1) a) → (u ≡ d → is_one a b ≡ true)
@@ -72,10 +72,10 @@ module _ (g : Grid (List ℕ)) (m : SpanMap) (fits : Fits m g.rows g.columns) (e
   -- the lines that are left in each column are those that the n-th line of the picture shows
   unfoldable pub AreNext : List (List ℕ) → Type 0
   AreNext texts = (j : ℕ) (o : Rectangle) → j < g.columns → owner g.rows g.columns (entries m) u (j + 1) ≡ Some o → o.0.col ≡ j → is_one (owner g.rows g.columns (entries m) u (j + 1)) (owner g.rows g.columns (entries m) d (j + 1)) ≡ true
-      → first_line (get_or texts j []) ≡ get_or (lines_of (text_at g o.0)) (n - top g (entries m) o.0.row - 1) []
+      → first_line (get_or texts j []) ≡ get_or (lines_shown (text_of_cell g o.0)) (n - top g (entries m) o.0.row - 1) []
 
   inside-is : (texts : List (List ℕ)) → AreNext texts → (j : ℕ) → j < g.columns → (a : Option Rectangle) → a ≡ owner g.rows g.columns (entries m) u (j + 1)
-      → is_one (owner g.rows g.columns (entries m) u (j + 1)) (owner g.rows g.columns (entries m) d (j + 1)) ≡ true → inside edges j a (get_or texts j []) ≡ shows_in g (entries m) n (j + 1) (j + 1) a
+      → is_one (owner g.rows g.columns (entries m) u (j + 1)) (owner g.rows g.columns (entries m) d (j + 1)) ≡ true → text_inside edges j a (get_or texts j []) ≡ shows_in g (entries m) n (j + 1) (j + 1) a
   unfolding AreNext
   inside-is texts next j less None e one = refl
   inside-is texts next j less (Some o) e one = by (cases_eq o.0.col j)
@@ -83,13 +83,13 @@ module _ (g : Grid (List ℕ)) (m : SpanMap) (fits : Fits m g.rows g.columns) (e
       there : Owns g.rows g.columns (entries m) u (j + 1) o
       there = owner-owns g.rows g.columns (entries m) (fits-well m g.rows g.columns fits) u (j + 1) o (sym e)
 
-      by : (o.0.col ≡ j) ⊎ (o.0.col ≢ j) → inside edges j (Some o) (get_or texts j []) ≡ shows_in g (entries m) n (j + 1) (j + 1) (Some o)
+      by : (o.0.col ≡ j) ⊎ (o.0.col ≢ j) → text_inside edges j (Some o) (get_or texts j []) ≡ shows_in g (entries m) n (j + 1) (j + 1) (Some o)
       by (inl at) =
           let both : (eqb (j + 1) (j + 1) && eqb (j + 1) (o.0.col + 1)) ≡ true = and_from _ _ (eq-eqb (j + 1) (j + 1) refl) (eq-eqb (j + 1) (o.0.col + 1) (ap (λ k. k + 1) (sym at))) in
-          let shown : first_line (get_or texts j []) ≡ get_or (lines_of (text_at g o.0)) (n - top g (entries m) o.0.row - 1) [] = next j o less (sym e) at one in
+          let shown : first_line (get_or texts j []) ≡ get_or (lines_shown (text_of_cell g o.0)) (n - top g (entries m) o.0.row - 1) [] = next j o less (sym e) at one in
           let space : get_or edges (j + o.1.width) 0 - get_or edges j 0 - 3 ≡ room Columns (widths g (entries m)) o.0.col o.1.width =
           ap₂ (λ x y. x - y - 3) (laid.each (j + o.1.width) (omega (arith, there.lies.right, at)) ∙ ap (λ k. left g (entries m) (k + o.1.width)) (sym at)) (laid.each j (omega (arith, less)) ∙ ap (left g (entries m)) (sym at)) in
-          cond-true _ _ _ (eq-eqb o.0.col j at) ∙ ap₂ (λ x y. 32 ∷ x ++ replicate (y - columns_in x + 1) 32) shown space ∙ sym (cond-true _ _ _ both)
+          cond-true _ _ _ (eq-eqb o.0.col j at) ∙ ap₂ (λ x y. 32 ∷ x ++ replicate (y - text_width x + 1) 32) shown space ∙ sym (cond-true _ _ _ both)
       by (inr apart) =
           let other : (eqb (j + 1) (j + 1) && eqb (j + 1) (o.0.col + 1)) ≡ false = ap (λ b. eqb (j + 1) (j + 1) && b) (ne_eqb (j + 1) (o.0.col + 1) (λ same. apart (omega (arith, same)))) ∙ and-false (eqb (j + 1) (j + 1)) in
           cond-false _ _ _ (ne_eqb o.0.col j apart) ∙ sym (cond-false _ _ _ other)
@@ -103,16 +103,16 @@ module _ (g : Grid (List ℕ)) (m : SpanMap) (fits : Fits m g.rows g.columns) (e
 
   module _ (mark : ℕ) (is_mark : mark ≡ cond (eqb u d) 124 43) (above below : List (Option Rectangle)) (over : IsOwnerRow g.rows g.columns m u above) (under : IsOwnerRow g.rows g.columns m d below)
       (within : u ≡ d → (0 < u) × (u ≤ g.rows)) (texts : List (List ℕ)) (next : AreNext texts) where
-    column-is : (j : ℕ) → j < g.columns → column edges j (get_or above (j + 1) None) (get_or below (j + 1) None) (get_or texts j []) ≡ stretch g (entries m) n u d (j + 1) (j + 1) (get_or (widths g (entries m)) j 0 + 2)
+    column-is : (j : ℕ) → j < g.columns → column edges j (get_or above (j + 1) None) (get_or below (j + 1) None) (get_or texts j []) ≡ border_stretch g (entries m) n u d (j + 1) (j + 1) (get_or (widths g (entries m)) j 0 + 2)
     column-is j less =
         let a = owner g.rows g.columns (entries m) u (j + 1) in
         let b = owner g.rows g.columns (entries m) d (j + 1) in
         let row : u ≡ d → is_one a b ≡ true = λ same. ap (λ k. is_one a (owner g.rows g.columns (entries m) k (j + 1))) (sym same) ∙ one-in_row m g.rows g.columns u j (within same).0 (within same).1 less in
         ap₂ (λ x y. column edges j x y (get_or texts j [])) (over.each (j + 1) (omega (arith, less))) (under.each (j + 1) (omega (arith, less)))
-        ∙ ap (λ s. cond (is_one a b) (inside edges j a (get_or texts j [])) (replicate s 45)) (size-is j less)
-        ∙ column-by g (entries m) n u d j a b (inside edges j a (get_or texts j [])) (get_or (widths g (entries m)) j 0 + 2) (λ one. inside-is texts next j less a refl one) row
+        ∙ ap (λ s. cond (is_one a b) (text_inside edges j a (get_or texts j [])) (replicate s 45)) (size-is j less)
+        ∙ column-by g (entries m) n u d j a b (text_inside edges j a (get_or texts j [])) (get_or (widths g (entries m)) j 0 + 2) (λ one. inside-is texts next j less a refl one) row
 
-    pub line-is : (columns : ℕ) → columns ≡ g.columns → drawn_line columns mark edges above below texts ≡ line g (entries m) n u d ++ (10 ∷ [])
+    pub line-is : (columns : ℕ) → columns ≡ g.columns → drawn_line columns mark edges above below texts ≡ picture_line g (entries m) n u d ++ (10 ∷ [])
     unfolding drawn_line
     line-is columns same =
         ap (λ x. x ++ (10 ∷ [])) (ap (λ k. each k (stretches mark edges above below texts) ++ edge mark (get_or above k None) (get_or above (k + 1) None) (get_or below k None) (get_or below (k + 1) None)) same

@@ -5,8 +5,8 @@ use Rattle.std.specs.List.{All, after_first}
 use Rattle.tabled_draw.specs.Each.{each}
 use Rattle.tabled_draw.specs.Owners.{is_one, owner}
 use Rattle.tabled_draw.specs.Picture.{top}
-use Rattle.tabled_draw.specs.Sizes.{text_at}
-use Rattle.tabled_draw.specs.Texts.{columns_in, lines_of}
+use Rattle.tabled_draw.specs.Sizes.{text_of_cell}
+use Rattle.tabled_draw.specs.Texts.{text_width, lines_shown}
 use Rattle.tabled_grid.specs.Entity.{same_place}
 use Rattle.tabled_grid.specs.Grid.{Grid}
 use Rattle.tabled_grid.specs.declared.config.position.Position.{Position}
@@ -14,7 +14,7 @@ use Rattle.tabled_grid.specs.Spans.{Rectangle, SpanMap}
 
 -- the first line of a text, as it is shown
 abbrev pub first_line : List ℕ → List ℕ
-first_line text = slice_index_or (lines_of text) 0 []
+first_line text = slice_index_or (lines_shown text) 0 []
 
 -- the lines of a text after the first one
 abbrev pub after_line : List ℕ → List ℕ
@@ -30,7 +30,7 @@ edge mark a b c d = if (is_one a b && is_one a c) && is_one a d then [] else mar
 
 -- what a cell with some room shows of its text: a blank, the first line, and blanks
 abbrev pub cell : List ℕ → ℕ → List ℕ
-cell text space = 32 ∷ first_line text ++ replicate (space - columns_in (first_line text) + 1) 32
+cell text space = 32 ∷ first_line text ++ replicate (space - text_width (first_line text) + 1) 32
 
 -- an owner begins in a column
 abbrev pub begins : ℕ → Option Rectangle → Bool
@@ -38,13 +38,13 @@ begins j None = false
 begins j (Some o) = o.0.col == j
 
 -- what an owner shows in a column: its text, if it begins there
-abbrev pub inside : List ℕ → ℕ → Option Rectangle → List ℕ → List ℕ
-inside edges j None text = []
-inside edges j (Some o) text = if o.0.col == j then cell text (slice_index_or edges (j + o.1.width) 0 - slice_index_or edges j 0 - 3) else []
+abbrev pub text_inside : List ℕ → ℕ → Option Rectangle → List ℕ → List ℕ
+text_inside edges j None text = []
+text_inside edges j (Some o) text = if o.0.col == j then cell text (slice_index_or edges (j + o.1.width) 0 - slice_index_or edges j 0 - 3) else []
 
 -- what stands in a column, in a row or between two
 abbrev pub column : List ℕ → ℕ → Option Rectangle → Option Rectangle → List ℕ → List ℕ
-column edges j a b text = if is_one a b then inside edges j a text else replicate (slice_index_or edges (j + 1) 0 - slice_index_or edges j 0 - 1) 45
+column edges j a b text = if is_one a b then text_inside edges j a text else replicate (slice_index_or edges (j + 1) 0 - slice_index_or edges j 0 - 1) 45
 
 -- what is left of the text in a column, once a line is drawn
 abbrev pub left_of : ℕ → Option Rectangle → Option Rectangle → List ℕ → List ℕ
@@ -69,9 +69,9 @@ pub record EndInside (columns : ℕ) (row : List (Option Rectangle)) : Type 0 wh
 
 -- in each column, the lines that are left are those from the n-th of the picture on of the owner in row i that begins there
 pub record AreLeft (g : Grid (List ℕ)) (m : SpanMap) (i n : ℕ) (texts : List (List ℕ)) : Type 0 where
-  pub each : (j : ℕ) (o : Rectangle) → j < g.columns → owner g.rows g.columns (entries m) i (j + 1) ≡ Some o → o.0.col ≡ j → (y : ℕ) → slice_index_or (lines_of (slice_index_or texts j [])) y [] ≡ slice_index_or (lines_of (text_at g o.0)) (n - top g (entries m) o.0.row - 1 + y) []
+  pub each : (j : ℕ) (o : Rectangle) → j < g.columns → owner g.rows g.columns (entries m) i (j + 1) ≡ Some o → o.0.col ≡ j → (y : ℕ) → slice_index_or (lines_shown (slice_index_or texts j [])) y [] ≡ slice_index_or (lines_shown (text_of_cell g o.0)) (n - top g (entries m) o.0.row - 1 + y) []
 
 -- the text at a place, if its owner begins there, else another one
 abbrev pub begun : Grid (List ℕ) → Option Rectangle → Position → List ℕ → List ℕ
 begun g None p text = text
-begun g (Some o) p text = if same_place o.0 p then text_at g p else text
+begun g (Some o) p text = if same_place o.0 p then text_of_cell g p else text

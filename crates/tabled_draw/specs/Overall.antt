@@ -3,8 +3,8 @@ use Rattle.std.specs.Prelude.{◌≡◌, ◌≢◌, ◌⊎◌, ◌+◌, ◌<◌,
 use Rattle.std.specs.FinMap.{entries}
 use Rattle.std.specs.List.{AllByRecursion, fold}
 use Rattle.tabled_draw.specs.Picture.{drawn, left, picture}
-use Rattle.tabled_draw.specs.Sizes.{asks, own_sizes, sizes, text_at}
-use Rattle.tabled_draw.specs.Texts.{columns_in}
+use Rattle.tabled_draw.specs.Sizes.{asks, own_sizes, sizes, text_of_cell}
+use Rattle.tabled_draw.specs.Texts.{text_width}
 use Rattle.tabled_grid.specs.Axis.{line_of, lines_in}
 use Rattle.tabled_grid.specs.Fitting.{Fits, fitting}
 use Rattle.tabled_grid.specs.Grid.{Grid}
@@ -32,7 +32,7 @@ AreNoControls line = AllByRecursion IsNoControl line
 
 -- each line takes as many columns as there are before the table's right edge, and one for that edge
 abbrev pub AreEquallyWide : Grid (List ℕ) → List Rectangle → Type 0
-AreEquallyWide g es = AllByRecursion (λ line. columns_in line ≡ left g es g.columns + 1) (picture g es)
+AreEquallyWide g es = AllByRecursion (λ line. text_width line ≡ left g es g.columns + 1) (picture g es)
 
 -- a merged cell ends in a row, or in a column
 abbrev pub ends_in : Axis → ℕ → Rectangle → Bool
@@ -42,7 +42,7 @@ ends_in axis k e = line_of axis e.0 + lines_in axis e.1 == k + 1
 abbrev pub most_asked : Axis → Grid (List ℕ) → List Rectangle → ℕ → ℕ
 most_asked axis g es k =
     let own = slice_index_or (own_sizes axis g es) k 0 in
-    fold (λ most e. if ends_in axis k e then max most (asks axis (text_at g e.0)) else most) own es
+    fold (λ most e. if ends_in axis k e then max most (asks axis (text_of_cell g e.0)) else most) own es
 
 -- no row is higher, and no column wider
 abbrev pub AreNoLargerThanAsked : Grid (List ℕ) → List Rectangle → Type 0

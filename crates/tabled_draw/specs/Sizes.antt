@@ -4,7 +4,7 @@ use Rattle.std.specs.List.{fold, sum_by}
 use Rattle.std.specs.Option.{unwrap_or}
 use Rattle.tabled_draw.specs.Each.{each, largest}
 use Rattle.tabled_draw.specs.Owners.{owner_in}
-use Rattle.tabled_draw.specs.Texts.{lines_of, widest}
+use Rattle.tabled_draw.specs.Texts.{lines_shown, widest}
 use Rattle.tabled_grid.specs.Along.{count_along}
 use Rattle.tabled_grid.specs.Axis.{across, line_of, lines_in, place_in}
 use Rattle.tabled_grid.specs.Entity.{same_place}
@@ -20,35 +20,35 @@ gap Rows = 1
 gap Columns = 3
 
 -- the text at a place
-abbrev pub text_at : Grid (List ℕ) → Position → List ℕ
-text_at g p = unwrap_or (cell_at g p) []
+abbrev pub text_of_cell : Grid (List ℕ) → Position → List ℕ
+text_of_cell g p = unwrap_or (cell_at g p) []
 
 -- what a text asks: of rows as many lines as it has, of columns those of its widest line
 abbrev pub asks : Axis → List ℕ → ℕ
-asks Rows text = length (lines_of text)
+asks Rows text = length (lines_shown text)
 asks Columns text = widest text
 
 -- where the k-th of some sizes begins, with a gap after each
-abbrev pub start : Axis → List ℕ → ℕ → ℕ
-start axis sizes k = sum_by (λ size. size + gap axis) (take k sizes)
+abbrev pub start_of : Axis → List ℕ → ℕ → ℕ
+start_of axis sizes k = sum_by (λ size. size + gap axis) (take k sizes)
 
 -- the room in n sizes from one on, with the gaps between them
 abbrev pub room : Axis → List ℕ → ℕ → ℕ → ℕ
-room axis sizes at n = start axis sizes (at + n) - start axis sizes at - gap axis
+room axis sizes at n = start_of axis sizes (at + n) - start_of axis sizes at - gap axis
 
 -- the sizes, of which the last of n from one on has grown by what they lack
-abbrev pub grown : Axis → List ℕ → ℕ → ℕ → ℕ → List ℕ
-grown axis sizes at n need =
+abbrev pub grown_sizes : Axis → List ℕ → ℕ → ℕ → ℕ → List ℕ
+grown_sizes axis sizes at n need =
     let last = at + n - 1 in
     slice_set sizes last (slice_index_or sizes last 0 + (need - room axis sizes at n))
 
 -- the sizes, grown by what the text of a merged cell asks
 abbrev pub grown_for : Axis → Grid (List ℕ) → List ℕ → Rectangle → List ℕ
-grown_for axis g sizes e = grown axis sizes (line_of axis e.0) (lines_in axis e.1) (asks axis (text_at g e.0))
+grown_for axis g sizes e = grown_sizes axis sizes (line_of axis e.0) (lines_in axis e.1) (asks axis (text_of_cell g e.0))
 
 -- what the text at a place asks of its row or column, if its owner begins there and lies in no other
 abbrev pub own_of : Axis → Grid (List ℕ) → Rectangle → Position → ℕ
-own_of axis g o p = if same_place o.0 p && (lines_in axis o.1 == 1) then asks axis (text_at g p) else 0
+own_of axis g o p = if same_place o.0 p && (lines_in axis o.1 == 1) then asks axis (text_of_cell g p) else 0
 
 -- the same, by the merged cells
 abbrev pub own : Axis → Grid (List ℕ) → List Rectangle → Position → ℕ

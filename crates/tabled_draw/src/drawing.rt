@@ -5,7 +5,7 @@ ghost use Rattle.std.specs.FinMap.{entries};
 ghost use Rattle.tabled_draw.specs.Laid.{AreEdges, IsLaidOut};
 ghost use Rattle.tabled_draw.specs.Lines.{AreLeft, begun};
 ghost use Rattle.tabled_draw.specs.OwnerRows.{IsOwnerRow, count_before};
-ghost use Rattle.tabled_draw.specs.Picture.{drawn, ended, lines_of_row, picture, top};
+ghost use Rattle.tabled_draw.specs.Picture.{drawn, with_newlines, lines_of_row, picture, top};
 ghost use Rattle.tabled_draw.specs.Sent.{Draws};
 ghost use Rattle.tabled_draw.specs.Sizes.{heights};
 ghost use Rattle.tabled_grid.specs.Entity.{place};
@@ -48,13 +48,13 @@ where
 {
     ghost use Rattle.std.specs.Prelude.{◌≡◌, ◌+◌, ℕ, List, length};
     ghost use Rattle.std.specs.FinMap.{entries};
-    ghost use Rattle.tabled_draw.specs.Picture.{bytes_of};
+    ghost use Rattle.tabled_draw.specs.Picture.{picture_bytes};
     ghost use Rattle.tabled_draw.specs.Laid.{IsLaidOut};
     ghost use Rattle.tabled_grid.specs.Grid.{map_grid};
 
     ghost Value = { List ℕ };
 
-    ghost view = { λ a. bytes_of (map_grid R.Cell.text_of (R.grid a.records.now)) (entries a.spans) };
+    ghost view = { λ a. picture_bytes (map_grid R.Cell.text_of (R.grid a.records.now)) (entries a.spans) };
 
     ghost invariant = { λ a. R.is_well_formed a.records.now × IsLaidOut (map_grid R.Cell.text_of (R.grid a.records.now)) a.spans a.layout.edges.items a.layout.heights.items (length a.layout.above.items) (length a.layout.here.items) (length a.rests.items) a.held };
 }
@@ -137,7 +137,7 @@ where
     requires laid { IsLaidOut (map_grid R.Cell.text_of (R.grid records.now)) spans.now edges.now heights.now (length above.old.items) (length here.old.items) (length rests.old.items) held.old }
     requires high { 0 < (R.grid records.now).rows }
     requires wide { 0 < (R.grid records.now).columns }
-    ensures { OnOk result (Draws (W.contents writer.old) held.old (W.contents writer.new) held.new (ended (picture (map_grid R.Cell.text_of (R.grid records.now)) (entries spans.now)))) }
+    ensures { OnOk result (Draws (W.contents writer.old) held.old (W.contents writer.new) held.new (with_newlines (picture (map_grid R.Cell.text_of (R.grid records.now)) (entries spans.now)))) }
 {
     clear(above);
     let mut next = 0;
@@ -184,7 +184,7 @@ where
     ensures next { IfOk result (λ next. next ≡ count_before (i + 1) 0 (entries spans.now)) }
     ensures here { OnOk result (IsOwnerRow ((R.grid records.now).rows) ((R.grid records.now).columns) spans.now (i + 1) here.new.items) }
     ensures long { OnOk result (length rests.new.items ≡ (R.grid records.now).columns) }
-    ensures draws { OnOk result (Draws (W.contents writer.old) held.old (W.contents writer.new) held.new (ended (lines_of_row (map_grid R.Cell.text_of (R.grid records.now)) (entries spans.now) i))) }
+    ensures draws { OnOk result (Draws (W.contents writer.old) held.old (W.contents writer.new) held.new (with_newlines (lines_of_row (map_grid R.Cell.text_of (R.grid records.now)) (entries spans.now) i))) }
     ensures left { OnOk result (AreLeft (map_grid R.Cell.text_of (R.grid records.now)) spans.now (i + 1) (top (map_grid R.Cell.text_of (R.grid records.now)) (entries spans.now) (i + 1)) (map (λ r. r.now) rests.new.items)) }
 {
     let after = write_owners(records, spans, next, i, above, here);

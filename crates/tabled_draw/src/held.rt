@@ -1,7 +1,7 @@
 //! Bytes that are held until there are many to send.
 
 ghost use Rattle.std.specs.Prelude.{◌≡◌, ◌∷◌, [], IfOk, OnOk, replicate};
-ghost use Rattle.tabled_draw.specs.Sent.{Sends};
+ghost use Rattle.tabled_draw.specs.Sent.{GrowsBy};
 
 use std::alloc::{AllocError, Global};
 use std::io::{self, Write};
@@ -35,7 +35,7 @@ impl Held {
 
     /// Sends what is held.
     pub(crate) fn send<W: Write>(&mut self, writer: &mut W) -> io::Result<()>
-        ensures sends { OnOk result (Sends (W.contents writer.old) self.old (W.contents writer.new) self.new []) }
+        ensures sends { OnOk result (GrowsBy (W.contents writer.old) self.old (W.contents writer.new) self.new []) }
         ensures empty { OnOk result (self.new ≡ []) }
     {
         writer.write_all(&self.bytes)?;
@@ -45,7 +45,7 @@ impl Held {
 
     /// Sends a byte, or holds it.
     pub(crate) fn push<W: Write>(&mut self, writer: &mut W, byte: u8) -> io::Result<()>
-        ensures sends { OnOk result (Sends (W.contents writer.old) self.old (W.contents writer.new) self.new (byte ∷ [])) }
+        ensures sends { OnOk result (GrowsBy (W.contents writer.old) self.old (W.contents writer.new) self.new (byte ∷ [])) }
     {
         if self.bytes.len() == self.bytes.capacity() {
             return self.write(writer, &[byte]);
@@ -56,7 +56,7 @@ impl Held {
 
     /// Holds bytes, or sends them after what is held, if there is no room.
     pub(crate) fn write<W: Write>(&mut self, writer: &mut W, bytes: &[u8]) -> io::Result<()>
-        ensures sends { OnOk result (Sends (W.contents writer.old) self.old (W.contents writer.new) self.new bytes.now) }
+        ensures sends { OnOk result (GrowsBy (W.contents writer.old) self.old (W.contents writer.new) self.new bytes.now) }
     {
         if bytes.len() > self.bytes.capacity() - self.bytes.len() {
             self.send(writer)?;
@@ -74,7 +74,7 @@ impl Held {
         byte: u8,
         count: usize,
     ) -> io::Result<()>
-        ensures sends { OnOk result (Sends (W.contents writer.old) self.old (W.contents writer.new) self.new (replicate count byte)) }
+        ensures sends { OnOk result (GrowsBy (W.contents writer.old) self.old (W.contents writer.new) self.new (replicate count byte)) }
     {
         let len = self.bytes.len();
         if count > self.bytes.capacity() - len {

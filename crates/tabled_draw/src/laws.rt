@@ -4,7 +4,7 @@ ghost use Rattle.std.specs.Prelude.{◌≡◌, ◌+◌, ◌⊎◌, ℕ, List, []
 ghost use Rattle.std.specs.FinMap.{entries};
 ghost use Rattle.std.specs.List.{AllByRecursion, sum};
 ghost use Rattle.tabled_draw.specs.Overall.{AreDrawnAlike, AreEquallyWide, AreNoControls, AreNoLargerThanAsked, HoldsOfPictures};
-ghost use Rattle.tabled_draw.specs.Picture.{bytes_of, drawn, picture};
+ghost use Rattle.tabled_draw.specs.Picture.{picture_bytes, drawn, picture};
 ghost use Rattle.tabled_draw.specs.Sizes.{heights};
 ghost use Rattle.tabled_draw.specs.Standing.{HasBorders, ShowsTexts};
 ghost use Rattle.tabled_grid.specs.Entity.{place};
@@ -52,7 +52,7 @@ pub fn borders_are_those_of_the_owners()
 
 /// Where all merged cells fit their table, the picture is that with all; where some don't, that without these.
 pub fn misfits_leave_no_trace()
-    ensures all { (g : Grid (List ℕ)) (m : SpanMap) → Fits m g.rows g.columns → drawn g m ≡ bytes_of g (entries m) }
+    ensures all { (g : Grid (List ℕ)) (m : SpanMap) → Fits m g.rows g.columns → drawn g m ≡ picture_bytes g (entries m) }
     ensures some { (g : Grid (List ℕ)) (m : SpanMap) → AreSpanSizes m → drawn g m ≡ drawn g (keep_fitting g.rows g.columns m) }
 {}
 

@@ -6,7 +6,7 @@ ghost use Rattle.std.specs.List.{fold};
 ghost use Rattle.tabled_draw.specs.Laid.{AreEdges};
 ghost use Rattle.tabled_draw.specs.Measured.{Measured, raised};
 ghost use Rattle.tabled_draw.specs.OwnerRows.{IsOwnerRow};
-ghost use Rattle.tabled_draw.specs.Sizes.{gap, grown, grown_for, heights, own_sizes, start};
+ghost use Rattle.tabled_draw.specs.Sizes.{gap, grown_sizes, grown_for, heights, own_sizes, start_of};
 ghost use Rattle.tabled_grid.specs.Along.{count_along};
 ghost use Rattle.tabled_grid.specs.Axis.{line_of};
 ghost use Rattle.tabled_grid.specs.Grid.{IsInside, map_grid};
@@ -171,7 +171,7 @@ where
     requires fits { Fits spans.now ((R.grid records.now).rows) ((R.grid records.now).columns) }
     requires long { length sizes.old.items ≡ count_along axis (R.grid records.now) }
     ensures long { OnOk result (length sizes.new.items ≡ count_along axis (R.grid records.now)) }
-    ensures grown { OnOk result (sizes.new.items ≡ fold (grown_for axis (map_grid R.Cell.text_of (R.grid records.now))) sizes.old.items (entries spans.now)) }
+    ensures grown_sizes { OnOk result (sizes.new.items ≡ fold (grown_for axis (map_grid R.Cell.text_of (R.grid records.now))) sizes.old.items (entries spans.now)) }
 {
     let anchors = spans.anchors();
     for k in 0..anchors.len() {
@@ -202,7 +202,7 @@ fn grow(
 ) -> Result<(), AllocError>
     requires some { 1 ≤ n }
     requires end { at + n ≤ length sizes.old.items }
-    ensures grown { OnOk result (sizes.new.items ≡ grown axis sizes.old.items at n need) }
+    ensures grown_sizes { OnOk result (sizes.new.items ≡ grown_sizes axis sizes.old.items at n need) }
 {
     let gap = gap(axis);
     let mut room = 0;
@@ -217,7 +217,7 @@ fn grow(
 /// Where the left edge of each column stands, and the last edge.
 fn edges(alloc: Global, widths: &[usize]) -> Result<Vec<usize>, AllocError>
     ensures long { IfOk result (λ edges. length edges.items ≡ length widths.now + 1) }
-    ensures each { IfOk result (λ edges. (k : ℕ) → k < length widths.now + 1 → slice_index_or edges.items k 0 ≡ start Columns widths.now k) }
+    ensures each { IfOk result (λ edges. (k : ℕ) → k < length widths.now + 1 → slice_index_or edges.items k 0 ≡ start_of Columns widths.now k) }
 {
     let mut edges = Vec::new(alloc);
     let mut edge = 0;

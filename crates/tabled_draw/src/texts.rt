@@ -4,7 +4,7 @@ ghost use Rattle.std.specs.Prelude.{◌≡◌, ◌-◌, IfOk, OnOk, IsTrue, leng
 ghost use Rattle.tabled_draw.specs.Sent.{Draws};
 ghost use Rattle.tabled_draw.specs.Lines.{ArePlain, after_line, cell, first_line};
 ghost use Rattle.tabled_draw.specs.Sizes.{asks};
-ghost use Rattle.tabled_draw.specs.Texts.{columns_in, lines_of, shown, shown_line, widest};
+ghost use Rattle.tabled_draw.specs.Texts.{text_width, lines_shown, shown_character, shown_line, widest};
 
 use crate::held::Held;
 use std::alloc::AllocError;
@@ -14,7 +14,7 @@ use unicode_width::UnicodeWidthChar;
 
 /// The character that is shown for one: for a control character another one, which can be seen.
 fn shown(c: char) -> char
-    ensures { result ≡ shown c }
+    ensures { result ≡ shown_character c }
 {
     match c {
         '\0'..='\x1f' => char::from_u32(0x2400 + u32::from(c)).unwrap_or(c),
@@ -38,7 +38,7 @@ fn is_plain(text: &str) -> bool
 
 /// The columns that a line takes as it is shown. More than `usize::MAX` are a growth refused.
 fn columns_in(line: &str) -> Result<usize, AllocError>
-    ensures { IfOk result (λ columns. columns ≡ columns_in (shown_line line.now)) }
+    ensures { IfOk result (λ columns. columns ≡ text_width (shown_line line.now)) }
 {
     let mut columns: usize = 0;
     for c in line.chars() {
@@ -66,7 +66,7 @@ fn widest(text: &str) -> Result<usize, AllocError>
 
 /// The number of lines of a text.
 fn count_lines(text: &str) -> usize
-    ensures { result ≡ length (lines_of text.now) }
+    ensures { result ≡ length (lines_shown text.now) }
 {
     if is_plain(text) {
         return 1;
@@ -122,7 +122,7 @@ fn write_shown<W: Write>(
     room: usize,
 ) -> io::Result<usize>
     ensures draws { OnOk result (Draws (W.contents writer.old) held.old (W.contents writer.new) held.new (shown_line line.now)) }
-    ensures left { IfOk result (λ left. left ≡ room - columns_in (shown_line line.now)) }
+    ensures left { IfOk result (λ left. left ≡ room - text_width (shown_line line.now)) }
 {
     if is_plain(line) {
         held.write(writer, line.as_bytes())?;

@@ -6,18 +6,18 @@ use Rattle.std.specs.Str.{IsUtf8, chars, is_utf8}
 use Rattle.std.proofs.lemmas.Bool.{and_left, and_right}
 use Rattle.std.proofs.lemmas.Str.{IsUtf8-from_is_utf8}
 use Rattle.tabled_grid.specs.Spans.{IsSpanSize, Rectangle, sized}
-use Rattle.tabled_language.specs.Line.{line_of, meaning_of, texts_of, words_of}
+use Rattle.tabled_language.specs.Line.{says_line, meaning_of, texts_of, words_of}
 use Rattle.tabled_grid.specs.Entity.{place}
 use Rattle.tabled_language.specs.declared.fault.Fault.TheVariants.{NumberRange}
 use Rattle.tabled_language.specs.Sizes.{reads_anchor, reads_shape, reads_width}
-use Rattle.tabled_language.specs.Output.{joined}
+use Rattle.tabled_language.specs.Output.{tab_separated}
 use Rattle.tabled_language.specs.Verb.{Line, ShapeLine, RecordLine, SpanLine}
 use Rattle.tabled_language.specs.Words.{Reading, fails, gives, reads_extent, reads_size, then_reads, whole}
 use Rattle.tabled_language.proofs.BackToNumbers.{decimal-utf8, size_of-decimal}
 use Rattle.tabled_language.proofs.BackToTexts.{texts_of-joined}
 
 -- a line with bytes says what its texts say
-line_of-texts : (line : List ℕ) (texts : List (List ℕ)) → 0 < length line → texts_of (words_of line) ≡ Some texts → line_of line ≡ meaning_of (Some texts)
+line_of-texts : (line : List ℕ) (texts : List (List ℕ)) → 0 < length line → texts_of (words_of line) ≡ Some texts → says_line line ≡ meaning_of (Some texts)
 line_of-texts [] texts some is = absurd (omega (arith, some))
 line_of-texts (b ∷ bs) texts some is = ap meaning_of is
 
@@ -33,22 +33,22 @@ span_utf8 : IsUtf8 (codes "span")
 unfolding is_utf8 chars lib.Utf8.encode
 span_utf8 = IsUtf8-from_is_utf8 (codes "span") refl
 
-row_some : (texts : List (List ℕ)) → 0 < length (joined (codes "row" ∷ texts))
+row_some : (texts : List (List ℕ)) → 0 < length (tab_separated (codes "row" ∷ texts))
 row_some [] = omega arith
 row_some (text ∷ texts) = omega arith
 
 -- the line of a record
-pub row_back : (texts : List (List ℕ)) → AllByRecursion IsUtf8 texts → line_of (joined (codes "row" ∷ texts)) ≡ RecordLine texts
-row_back texts utf8 = line_of-texts (joined (codes "row" ∷ texts)) (codes "row" ∷ texts) (row_some texts) (texts_of-joined (codes "row") texts row_utf8 utf8)
+pub row_back : (texts : List (List ℕ)) → AllByRecursion IsUtf8 texts → says_line (tab_separated (codes "row" ∷ texts)) ≡ RecordLine texts
+row_back texts utf8 = line_of-texts (tab_separated (codes "row" ∷ texts)) (codes "row" ∷ texts) (row_some texts) (texts_of-joined (codes "row") texts row_utf8 utf8)
 
 -- the words of a shape
 abbrev pub shape_words : ℕ → ℕ → List (List ℕ)
 shape_words rows columns = decimal rows ∷ decimal columns ∷ []
 
-pub shape_back : (rows columns : ℕ) → rows < 2 ^ 64 → columns < 2 ^ 64 → line_of (joined (codes "shape" ∷ shape_words rows columns)) ≡ ShapeLine (Ok (rows, columns))
+pub shape_back : (rows columns : ℕ) → rows < 2 ^ 64 → columns < 2 ^ 64 → says_line (tab_separated (codes "shape" ∷ shape_words rows columns)) ≡ ShapeLine (Ok (rows, columns))
 shape_back rows columns r c =
     let read : whole reads_shape (shape_words rows columns) ≡ Ok (rows, columns) = rw (size_of-decimal rows r, size_of-decimal columns c) refl in
-    line_of-texts (joined (codes "shape" ∷ shape_words rows columns)) (codes "shape" ∷ shape_words rows columns) (omega arith)
+    line_of-texts (tab_separated (codes "shape" ∷ shape_words rows columns)) (codes "shape" ∷ shape_words rows columns) (omega arith)
     (texts_of-joined (codes "shape") (shape_words rows columns) shape_utf8 (decimal-utf8 rows r, (decimal-utf8 columns c, tt)))
     ∙ ap ShapeLine read
 
@@ -105,13 +105,13 @@ anchor_back e small size =
     ∙ reads-next reads_extent (λ height. behind_height e.0.row e.0.col height) sizes (decimal e.1.width ∷ []) e.1.height (extent_read e.1.height (decimal e.1.width ∷ []) small.height size.height)
     ∙ reads-next (reads_width e.1.height) (λ width. gives (place e.0.row e.0.col, sized e.1.height width)) (decimal e.1.width ∷ []) [] e.1.width (width_read e.1.height e.1.width [] small.width size.width size.merges))
 
-pub span_back : (e : Rectangle) → IsSmall e → IsSpanSize e.1 → line_of (joined (codes "span" ∷ span_words e)) ≡ SpanLine (Ok e)
+pub span_back : (e : Rectangle) → IsSmall e → IsSpanSize e.1 → says_line (tab_separated (codes "span" ∷ span_words e)) ≡ SpanLine (Ok e)
 span_back e small size =
-    line_of-texts (joined (codes "span" ∷ span_words e)) (codes "span" ∷ span_words e) (omega arith)
+    line_of-texts (tab_separated (codes "span" ∷ span_words e)) (codes "span" ∷ span_words e) (omega arith)
     (texts_of-joined (codes "span") (span_words e) span_utf8 (decimal-utf8 e.0.row small.row, (decimal-utf8 e.0.col small.col, (decimal-utf8 e.1.height small.height, (decimal-utf8 e.1.width small.width, tt)))))
     ∙ ap SpanLine (anchor_back e small size)
 
 -- lines of things, each of which says what it says
-pub all_back : {A : Type 0} (texts_in : A → List (List ℕ)) (make : A → Line) (P : A → Type 0) → ((x : A) → P x → line_of (joined (texts_in x)) ≡ make x) → (xs : List A) (lines : List (List ℕ)) → AllByRecursion P xs → map line_of (map (λ x. joined (texts_in x)) xs ++ lines) ≡ map make xs ++ map line_of lines
+pub all_back : {A : Type 0} (texts_in : A → List (List ℕ)) (make : A → Line) (P : A → Type 0) → ((x : A) → P x → says_line (tab_separated (texts_in x)) ≡ make x) → (xs : List A) (lines : List (List ℕ)) → AllByRecursion P xs → map says_line (map (λ x. tab_separated (texts_in x)) xs ++ lines) ≡ map make xs ++ map says_line lines
 all_back texts_in make P back [] lines all = refl
 all_back texts_in make P back (x ∷ xs) lines all = rw (back x all.0, all_back texts_in make P back xs lines all.1) refl

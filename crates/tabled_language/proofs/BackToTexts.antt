@@ -8,7 +8,7 @@ use Rattle.std.proofs.lemmas.List.Elements.{All-from_recursion}
 use Rattle.std.proofs.lemmas.List.Splits.{slice_split_at, slice_split_none}
 use Rattle.std.proofs.lemmas.Str.{is_utf8-from_IsUtf8}
 use Rattle.tabled_language.specs.Line.{lines_of, texts_of, words_of}
-use Rattle.tabled_language.specs.Output.{escaped, escaped_byte, joined, line}
+use Rattle.tabled_language.specs.Output.{escaped, escaped_byte, tab_separated, line}
 use Rattle.tabled_language.specs.Word.{before, text_of_word, unescaped}
 
 -- a byte stands nowhere in a list
@@ -75,10 +75,10 @@ all_lack_tab [] = tt
 all_lack_tab (text ∷ texts) = (lacks_tab text, all_lack_tab texts)
 
 -- the words of a written line are those that were written
-pub words_of-joined : (text : List ℕ) (texts : List (List ℕ)) → words_of (joined (text ∷ texts)) ≡ map escaped (text ∷ texts)
+pub words_of-joined : (text : List ℕ) (texts : List (List ℕ)) → words_of (tab_separated (text ∷ texts)) ≡ map escaped (text ∷ texts)
 words_of-joined text texts = split-joined 9 (escaped text) (map escaped texts) (lacks_tab text) (all_lack_tab texts)
 
-pub texts_of-joined : (text : List ℕ) (texts : List (List ℕ)) → IsUtf8 text → AllByRecursion IsUtf8 texts → texts_of (words_of (joined (text ∷ texts))) ≡ Some (text ∷ texts)
+pub texts_of-joined : (text : List ℕ) (texts : List (List ℕ)) → IsUtf8 text → AllByRecursion IsUtf8 texts → texts_of (words_of (tab_separated (text ∷ texts))) ≡ Some (text ∷ texts)
 texts_of-joined text texts here others = ap texts_of (words_of-joined text texts) ∙ texts_of-escaped (text ∷ texts) (here, others)
 
 join-lacks : (at c : ℕ) (words : List (List ℕ)) → eqb c at ≡ false → AllByRecursion (Lacks at) words → Lacks at (join_with_byte c words)
@@ -91,16 +91,16 @@ all_lack_newline [] = tt
 all_lack_newline (text ∷ texts) = (lacks_newline text, all_lack_newline texts)
 
 -- no newline stands in a written line
-pub joined_lacks_newline : (texts : List (List ℕ)) → Lacks 10 (joined texts)
+pub joined_lacks_newline : (texts : List (List ℕ)) → Lacks 10 (tab_separated texts)
 joined_lacks_newline texts = join-lacks 10 9 (map escaped texts) refl (all_lack_newline texts)
 
 -- written lines are read as these lines, before those of what follows
-pub lines_of-line : (texts : List (List ℕ)) (rest : List ℕ) → lines_of (line texts ++ rest) ≡ joined texts ∷ lines_of rest
-lines_of-line texts rest = ap lines_of (append_assoc (joined texts) (10 ∷ []) rest) ∙ slice_split_at (λ b. eqb b 10) (joined texts) 10 rest (All-from_recursion _ _ (joined_lacks_newline texts)) refl
+pub lines_of-line : (texts : List (List ℕ)) (rest : List ℕ) → lines_of (line texts ++ rest) ≡ tab_separated texts ∷ lines_of rest
+lines_of-line texts rest = ap lines_of (append_assoc (tab_separated texts) (10 ∷ []) rest) ∙ slice_split_at (λ b. eqb b 10) (tab_separated texts) 10 rest (All-from_recursion _ _ (joined_lacks_newline texts)) refl
 
-pub lines_of-lines : {A : Type 0} (texts_in : A → List (List ℕ)) (xs : List A) (rest : List ℕ) → lines_of (flat_map (λ x. line (texts_in x)) xs ++ rest) ≡ map (λ x. joined (texts_in x)) xs ++ lines_of rest
+pub lines_of-lines : {A : Type 0} (texts_in : A → List (List ℕ)) (xs : List A) (rest : List ℕ) → lines_of (flat_map (λ x. line (texts_in x)) xs ++ rest) ≡ map (λ x. tab_separated (texts_in x)) xs ++ lines_of rest
 lines_of-lines texts_in [] rest = refl
 lines_of-lines texts_in (x ∷ xs) rest =
     ap lines_of (append_assoc (line (texts_in x)) (flat_map (λ y. line (texts_in y)) xs) rest)
     ∙ lines_of-line (texts_in x) (flat_map (λ y. line (texts_in y)) xs ++ rest)
-    ∙ ap (λ lines. joined (texts_in x) ∷ lines) (lines_of-lines texts_in xs rest)
+    ∙ ap (λ lines. tab_separated (texts_in x) ∷ lines) (lines_of-lines texts_in xs rest)

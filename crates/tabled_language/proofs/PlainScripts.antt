@@ -13,7 +13,7 @@ use Rattle.tabled_steps.specs.States.{State}
 use Rattle.tabled_language.specs.declared.fault.Fault.{Fault}
 use Rattle.tabled_language.specs.declared.fault.Fault.TheVariants.{OutOfPlace}
 use Rattle.tabled_language.specs.Faults.{fault_among, fault_of, first_fault, is_in_place, shape_fault, span_fault}
-use Rattle.tabled_language.specs.Line.{anchor_in, line_of, meaning_of, record_in, step_in, table_from}
+use Rattle.tabled_language.specs.Line.{anchor_in, says_line, meaning_of, record_in, step_in, table_from}
 use Rattle.tabled_language.specs.Script.{Script, parse, script_or_fault}
 use Rattle.tabled_language.specs.Plain.{begin_a_table, has_either_word, is_step, plain_fault, plain_line_of, plain_meaning_of, plain_parse, plain_script, says_plainly}
 use Rattle.tabled_language.specs.Line.{lines_of, texts_of, words_of}
@@ -37,11 +37,11 @@ meaning-plain None neither = refl
 meaning-plain (Some []) neither = refl
 meaning-plain (Some (verb ∷ texts)) neither = says-plain verb texts neither
 
-line-plain : (line : List ℕ) → begin_a_table (texts_of (words_of line)) ≡ false → line_of line ≡ plain_line_of line
+line-plain : (line : List ℕ) → begin_a_table (texts_of (words_of line)) ≡ false → says_line line ≡ plain_line_of line
 line-plain [] neither = refl
 line-plain (b ∷ bs) neither = meaning-plain (texts_of (words_of (b ∷ bs))) neither
 
-lines-plain : (lines : List (List ℕ)) → list_any (λ line. begin_a_table (texts_of (words_of line))) lines ≡ false → map line_of lines ≡ map plain_line_of lines
+lines-plain : (lines : List (List ℕ)) → list_any (λ line. begin_a_table (texts_of (words_of line))) lines ≡ false → map says_line lines ≡ map plain_line_of lines
 lines-plain [] none = refl
 lines-plain (line ∷ lines) none =
     let parts = or_parts (begin_a_table (texts_of (words_of line))) _ none in

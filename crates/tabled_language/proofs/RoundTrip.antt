@@ -10,9 +10,9 @@ use Rattle.tabled_grid.specs.Grid.{Grid}
 use Rattle.tabled_grid.specs.Spans.{Rectangle, SpanMap}
 use Rattle.tabled_steps.specs.States.{State}
 use Rattle.tabled_language.specs.Faults.{fault_among, first_fault, shape_fault, span_fault}
-use Rattle.tabled_language.specs.Line.{line_of, lines_of, record_in, table_from}
+use Rattle.tabled_language.specs.Line.{says_line, lines_of, record_in, table_from}
 use Rattle.tabled_language.specs.Script.{Script, parse, script_of, script_or_fault}
-use Rattle.tabled_language.specs.Output.{joined, line, print, span_line}
+use Rattle.tabled_language.specs.Output.{tab_separated, line, print, span_line}
 use Rattle.tabled_language.specs.RoundTrip.{IsTable, ReadsBack}
 use Rattle.tabled_language.specs.Verb.{Line, RecordLine}
 use Rattle.tabled_language.proofs.BackToAnchors.{IsSpanIn, entries_well, from_entries-entries, meet_none, spans_in}
@@ -28,27 +28,27 @@ abbrev row_bytes : List (List (List ℕ)) → List ℕ
 row_bytes cells = flat_map (λ row. line (codes "row" ∷ row)) cells
 
 -- the lines of what is printed
-lines-print : (s : State) → lines_of (print s) ≡ joined (codes "shape" ∷ shape_words s.texts.rows s.texts.columns) ∷ (map (λ (row : List (List ℕ)). joined (codes "row" ∷ row)) s.texts.cells ++ (map (λ e. joined (codes "span" ∷ span_words e)) (entries s.spans) ++ [] ∷ []))
+lines-print : (s : State) → lines_of (print s) ≡ tab_separated (codes "shape" ∷ shape_words s.texts.rows s.texts.columns) ∷ (map (λ (row : List (List ℕ)). tab_separated (codes "row" ∷ row)) s.texts.cells ++ (map (λ e. tab_separated (codes "span" ∷ span_words e)) (entries s.spans) ++ [] ∷ []))
 lines-print s =
     let spans = flat_map span_line (entries s.spans) in
     ap lines_of (append_assoc (shape_bytes s.texts) (row_bytes s.texts.cells) spans)
     ∙ lines_of-line (codes "shape" ∷ shape_words s.texts.rows s.texts.columns) (row_bytes s.texts.cells ++ spans)
-    ∙ ap (λ lines. joined (codes "shape" ∷ shape_words s.texts.rows s.texts.columns) ∷ lines)
+    ∙ ap (λ lines. tab_separated (codes "shape" ∷ shape_words s.texts.rows s.texts.columns) ∷ lines)
     (lines_of-lines (λ (row : List (List ℕ)). codes "row" ∷ row) s.texts.cells spans
-    ∙ ap (λ lines. map (λ (row : List (List ℕ)). joined (codes "row" ∷ row)) s.texts.cells ++ lines)
+    ∙ ap (λ lines. map (λ (row : List (List ℕ)). tab_separated (codes "row" ∷ row)) s.texts.cells ++ lines)
     (ap lines_of (sym (append-nil spans)) ∙ lines_of-lines (λ (e : Rectangle). codes "span" ∷ span_words e) (entries s.spans) []))
 
 small : (rows columns : ℕ) (e : Rectangle) → rows < 2 ^ 64 → columns < 2 ^ 64 → IsSpanIn rows columns e → IsSmall e
 small rows columns e r c h = record { row = omega (arith, r, h.bottom); col = omega (arith, c, h.right); height = omega (arith, r, h.bottom); width = omega (arith, c, h.right) }
 
 -- what they say
-says-print : (s : State) → IsTable s → map line_of (lines_of (print s)) ≡ table s.texts.rows s.texts.columns s.texts.cells (entries s.spans)
+says-print : (s : State) → IsTable s → map says_line (lines_of (print s)) ≡ table s.texts.rows s.texts.columns s.texts.cells (entries s.spans)
 says-print s h =
     let r : s.texts.rows < 2 ^ 64 = omega (arith, h.rows) in
     let c : s.texts.columns < 2 ^ 64 = omega (arith, h.columns) in
     let spans = all_back (λ (e : Rectangle). codes "span" ∷ span_words e) span (IsSpanIn s.texts.rows s.texts.columns) (λ e inside. span_back e (small s.texts.rows s.texts.columns e r c inside) inside.size) (entries s.spans) ([] ∷ []) (spans_in s.spans s.texts.rows s.texts.columns h.fits) in
-    let rows = all_back (λ (row : List (List ℕ)). codes "row" ∷ row) RecordLine (AllByRecursion IsUtf8) row_back s.texts.cells (map (λ e. joined (codes "span" ∷ span_words e)) (entries s.spans) ++ [] ∷ []) h.texts in
-    ap (map line_of) (lines-print s)
+    let rows = all_back (λ (row : List (List ℕ)). codes "row" ∷ row) RecordLine (AllByRecursion IsUtf8) row_back s.texts.cells (map (λ e. tab_separated (codes "span" ∷ span_words e)) (entries s.spans) ++ [] ∷ []) h.texts in
+    ap (map says_line) (lines-print s)
     ∙ ap₂ (λ (first : Line) (others : List Line). first ∷ others) (shape_back s.texts.rows s.texts.columns r c)
     (rows ∙ ap (λ lines. map RecordLine s.texts.cells ++ lines) spans)
 

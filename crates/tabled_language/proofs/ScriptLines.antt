@@ -15,7 +15,7 @@ use Rattle.tabled_language.specs.declared.fault.ReadError.{ReadError}
 use Rattle.tabled_language.specs.declared.fault.ReadError.TheVariants.{Faulty, OutOfMemory}
 use Rattle.tabled_language.specs.Drafts.{Draft, draft_of, fault_behind, takes, with_line}
 use Rattle.tabled_language.specs.Faults.{fault_of, first_fault, is_in_place, words_fault}
-use Rattle.tabled_language.specs.Line.{anchor_in, is_plain, line_of, lines_of, meaning_of, texts_of, words_of}
+use Rattle.tabled_language.specs.Line.{anchor_in, is_plain, says_line, lines_of, meaning_of, texts_of, words_of}
 use Rattle.tabled_language.specs.Memory.{line_asks, lines_ask, words_ask}
 use Rattle.tabled_language.specs.Script.{script_or_fault}
 use Rattle.tabled_language.specs.Parsing.{LineEnds, ReadsLine, ReadsScript, ScriptEnds}
@@ -32,17 +32,17 @@ use Rattle.tabled_grid.specs.Spans.{Rectangle}
 -- of all lines a number was read into a draft, and the rest is left
 pub record HasRead (all rest : List (List ℕ)) (number : ℕ) (draft : Draft) : Type 0 where
   pub earlier : List Line
-  pub split : earlier ++ map line_of rest ≡ map line_of all
+  pub split : earlier ++ map says_line rest ≡ map says_line all
   pub counted : length earlier ≡ number
   pub is : draft ≡ draft_of earlier
   pub sound : AllByRecursion IsSound earlier
-  pub faults : first_fault fault_of earlier (map line_of rest) ≡ first_fault fault_of [] (map line_of all)
+  pub faults : first_fault fault_of earlier (map says_line rest) ≡ first_fault fault_of [] (map says_line all)
   pub memory : lines_ask earlier rest ≡ true → lines_ask [] all ≡ true
   pub spans : 0 < length draft.anchors → lines_ask [] all ≡ true
 
 -- each line is read or left
-pub has_read-counts : {all rest : List (List ℕ)} {number : ℕ} {draft : Draft} → HasRead all rest number draft → number + length (map line_of rest) ≡ length (map line_of all)
-has_read-counts {all} {rest} {number} {draft} h = ap (λ n. n + length (map line_of rest)) (sym h.counted) ∙ sym (length-append h.earlier (map line_of rest)) ∙ ap length h.split
+pub has_read-counts : {all rest : List (List ℕ)} {number : ℕ} {draft : Draft} → HasRead all rest number draft → number + length (map says_line rest) ≡ length (map says_line all)
+has_read-counts {all} {rest} {number} {draft} h = ap (λ n. n + length (map says_line rest)) (sym h.counted) ∙ sym (length-append h.earlier (map says_line rest)) ∙ ap length h.split
 
 -- a line without a fault stands in its place
 in_its_place : (earlier : List Line) (line : Line) → fault_of earlier line ≡ None → is_in_place earlier line ≡ true
@@ -72,7 +72,7 @@ words_ask-span in_place (verb ∷ texts) anchor is here = by (bytes_eq verb (cod
     by false false false is here = absurd (none-some anchor (sym (no_step (whole (behind steps verb) texts)) ∙ is))
 
 -- so does a line
-line_asks-span : (in_place : Line → Bool) (line : List ℕ) (anchor : Rectangle) → anchor_in (line_of line) ≡ Some anchor → in_place (line_of line) ≡ true → line_asks in_place line ≡ true
+line_asks-span : (in_place : Line → Bool) (line : List ℕ) (anchor : Rectangle) → anchor_in (says_line line) ≡ Some anchor → in_place (says_line line) ≡ true → line_asks in_place line ≡ true
 line_asks-span in_place [] anchor is here = absurd (none-some anchor is)
 line_asks-span in_place (b ∷ bs) anchor is here = by (is_plain (b ∷ bs)) refl
   where
@@ -80,7 +80,7 @@ line_asks-span in_place (b ∷ bs) anchor is here = by (is_plain (b ∷ bs)) ref
     by false e = refl
     by true e =
         let parts = and_parts _ _ e in
-        let said : line_of (b ∷ bs) ≡ meaning_of (Some (words_of (b ∷ bs))) = ap meaning_of (texts_of-plain (b ∷ bs) (IsUtf8-from_is_utf8 (b ∷ bs) parts.0) (not-true _ parts.1)) in
+        let said : says_line (b ∷ bs) ≡ meaning_of (Some (words_of (b ∷ bs))) = ap meaning_of (texts_of-plain (b ∷ bs) (IsUtf8-from_is_utf8 (b ∷ bs) parts.0) (not-true _ parts.1)) in
         words_ask-span in_place (words_of (b ∷ bs)) anchor (ap anchor_in (sym said) ∙ is) (ap in_place (sym said) ∙ here)
 
 -- what a line asks for is asked for by all that are left, the first of which it is
@@ -88,7 +88,7 @@ lines_ask-here : (earlier : List Line) (line : List ℕ) (lines : List (List ℕ
 lines_ask-here earlier line lines asks = rw asks refl
 
 -- what the lines after a line ask for is asked for by it and them, where it has no fault
-lines_ask-later : (earlier : List Line) (line : List ℕ) (lines : List (List ℕ)) → fault_of earlier (line_of line) ≡ None → lines_ask (earlier ++ line_of line ∷ []) lines ≡ true → lines_ask earlier (line ∷ lines) ≡ true
+lines_ask-later : (earlier : List Line) (line : List ℕ) (lines : List (List ℕ)) → fault_of earlier (says_line line) ≡ None → lines_ask (earlier ++ says_line line ∷ []) lines ≡ true → lines_ask earlier (line ∷ lines) ≡ true
 lines_ask-later earlier line lines fine asks = or_later (line_asks (is_in_place earlier) line) _ (rw fine asks)
 
 -- a line asks alike by two tests that answer alike
@@ -100,33 +100,33 @@ line_asks-alike p q line same = ap (λ b. cond (is_plain line) b true) (words (w
     words (verb ∷ texts) = rw (same (RecordLine texts), same (SpanLine (whole reads_anchor texts))) refl
 
 -- one line more, without a fault
-pub has_read-more : {all rest : List (List ℕ)} {number : ℕ} {draft : Draft} (line : List ℕ) → HasRead all (line ∷ rest) number draft → fault_behind draft (line_of line) ≡ None → HasRead all rest (number + 1) (with_line draft (number + 1) (line_of line))
+pub has_read-more : {all rest : List (List ℕ)} {number : ℕ} {draft : Draft} (line : List ℕ) → HasRead all (line ∷ rest) number draft → fault_behind draft (says_line line) ≡ None → HasRead all rest (number + 1) (with_line draft (number + 1) (says_line line))
 has_read-more {all} {rest} {number} {draft} line h fine =
-    let none : fault_of h.earlier (line_of line) ≡ None = fault_told h.earlier (line_of line) h.sound ∙ ap (λ d. fault_behind d (line_of line)) (sym h.is) ∙ fine in
+    let none : fault_of h.earlier (says_line line) ≡ None = fault_told h.earlier (says_line line) h.sound ∙ ap (λ d. fault_behind d (says_line line)) (sym h.is) ∙ fine in
     record {
-      earlier = h.earlier ++ line_of line ∷ [];
-      split = append_assoc h.earlier (line_of line ∷ []) (map line_of rest) ∙ h.split;
-      counted = length-append h.earlier (line_of line ∷ []) ∙ ap (λ n. n + 1) h.counted;
-      is = ap (λ d. with_line d (number + 1) (line_of line)) h.is ∙ ap (λ n. with_line (draft_of h.earlier) (n + 1) (line_of line)) (sym h.counted) ∙ sym (draft_of-push h.earlier (line_of line));
-      sound = all-append IsSound h.earlier (line_of line ∷ []) h.sound (sound_line h.earlier (line_of line) none, tt);
+      earlier = h.earlier ++ says_line line ∷ [];
+      split = append_assoc h.earlier (says_line line ∷ []) (map says_line rest) ∙ h.split;
+      counted = length-append h.earlier (says_line line ∷ []) ∙ ap (λ n. n + 1) h.counted;
+      is = ap (λ d. with_line d (number + 1) (says_line line)) h.is ∙ ap (λ n. with_line (draft_of h.earlier) (n + 1) (says_line line)) (sym h.counted) ∙ sym (draft_of-push h.earlier (says_line line));
+      sound = all-append IsSound h.earlier (says_line line ∷ []) h.sound (sound_line h.earlier (says_line line) none, tt);
       faults = (rw none at h.faults);
       memory = λ asks. h.memory (lines_ask-later h.earlier line rest none asks);
-      spans = some none (anchor_in (line_of line)) refl;
+      spans = some none (anchor_in (says_line line)) refl;
     }
   where
-    some : fault_of h.earlier (line_of line) ≡ None → (o : Option Rectangle) → anchor_in (line_of line) ≡ o → 0 < length (with_line draft (number + 1) (line_of line)).anchors → lines_ask [] all ≡ true
+    some : fault_of h.earlier (says_line line) ≡ None → (o : Option Rectangle) → anchor_in (says_line line) ≡ o → 0 < length (with_line draft (number + 1) (says_line line)).anchors → lines_ask [] all ≡ true
     some none None e more = h.spans (rw (e, append-nil draft.anchors) at more)
-    some none (Some anchor) e more = h.memory (lines_ask-here h.earlier line rest (line_asks-span (is_in_place h.earlier) line anchor e (in_its_place h.earlier (line_of line) none)))
+    some none (Some anchor) e more = h.memory (lines_ask-here h.earlier line rest (line_asks-span (is_in_place h.earlier) line anchor e (in_its_place h.earlier (says_line line) none)))
 
 -- the first line with a fault
-has_read-fault : {all rest : List (List ℕ)} {number : ℕ} {draft : Draft} (line : List ℕ) (fault : Fault) → HasRead all (line ∷ rest) number draft → fault_behind draft (line_of line) ≡ Some fault → script_or_fault (map line_of all) ≡ Err (number + 1, fault)
+has_read-fault : {all rest : List (List ℕ)} {number : ℕ} {draft : Draft} (line : List ℕ) (fault : Fault) → HasRead all (line ∷ rest) number draft → fault_behind draft (says_line line) ≡ Some fault → script_or_fault (map says_line all) ≡ Err (number + 1, fault)
 has_read-fault {all} {rest} {number} {draft} line fault h bad =
-    let here : fault_of h.earlier (line_of line) ≡ Some fault = fault_told h.earlier (line_of line) h.sound ∙ ap (λ d. fault_behind d (line_of line)) (sym h.is) ∙ bad in
-    let first : first_fault fault_of [] (map line_of all) ≡ Some (length h.earlier + 1, fault) = sym (rw here at h.faults) in
+    let here : fault_of h.earlier (says_line line) ≡ Some fault = fault_told h.earlier (says_line line) h.sound ∙ ap (λ d. fault_behind d (says_line line)) (sym h.is) ∙ bad in
+    let first : first_fault fault_of [] (map says_line all) ≡ Some (length h.earlier + 1, fault) = sym (rw here at h.faults) in
     rw (first, h.counted) refl
 
 -- a script ends with the line that isn't read
-pub script_ends : (input line : List ℕ) (rest : List (List ℕ)) (number : ℕ) (draft : Draft) (error : ReadError) → HasRead (lines_of input) (line ∷ rest) number draft → LineEnds (fault_behind draft (line_of line)) (line_asks (takes draft) line) error → ScriptEnds input (number + 1, error)
+pub script_ends : (input line : List ℕ) (rest : List (List ℕ)) (number : ℕ) (draft : Draft) (error : ReadError) → HasRead (lines_of input) (line ∷ rest) number draft → LineEnds (fault_behind draft (says_line line)) (line_asks (takes draft) line) error → ScriptEnds input (number + 1, error)
 script_ends input line rest number draft (Faulty fault) h told = has_read-fault line fault h told
 script_ends input line rest number draft OutOfMemory h told =
     h.memory (lines_ask-here h.earlier line rest (line_asks-alike (is_in_place h.earlier) (takes draft) line (λ l. place_told h.earlier l h.sound ∙ ap (λ d. takes d l) (sym h.is)) ∙ told))
@@ -136,7 +136,7 @@ pub has_read-end : {input : List ℕ} {number : ℕ} {draft : Draft} → HasRead
 has_read-end {input} {number} {draft} h = record { faultless = sym h.faults; is = h.is ∙ ap draft_of (sym (append-nil h.earlier) ∙ h.split); asks = h.spans }
 
 -- a line with bytes says what its texts say
-pub line_of-texts : (line : List ℕ) (texts : List (List ℕ)) → length line ≢ 0 → texts_of (words_of line) ≡ Some texts → line_of line ≡ meaning_of (Some texts)
+pub line_of-texts : (line : List ℕ) (texts : List (List ℕ)) → length line ≢ 0 → texts_of (words_of line) ≡ Some texts → says_line line ≡ meaning_of (Some texts)
 line_of-texts [] texts some is = absurd (some refl)
 line_of-texts (b ∷ bs) texts some is = ap meaning_of is
 

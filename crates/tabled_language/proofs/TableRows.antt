@@ -11,7 +11,7 @@ use Rattle.tabled_language.specs.declared.fault.Fault.TheVariants.{NumberRange}
 use Rattle.tabled_language.specs.declared.fault.ReadError.{ReadError}
 use Rattle.tabled_language.specs.declared.fault.ReadError.TheVariants.{Faulty, OutOfMemory}
 use Rattle.tabled_language.specs.Parsing.{EndsEarly}
-use Rattle.tabled_language.specs.Verb.{reads_rows, reads_table, rows_of}
+use Rattle.tabled_language.specs.Verb.{reads_rows, reads_table, rows_of_texts}
 use Rattle.tabled_language.specs.Words.{Read, Reading, fails, first_word, gives, reads_count, reads_number, reads_text}
 use Rattle.tabled_language.proofs.Asking.{or_later}
 
@@ -75,9 +75,9 @@ rows_wide f columns texts (row ∷ cells) i (suc n) is fits =
 -- a grid of rows that have these texts
 pub record HasRows {A : Type 0} (f : A → List ℕ) (rows columns : ℕ) (texts : List (List ℕ)) (cells : List (List A)) : Type 0 where
   pub even : IsEven (grid_of cells)
-  pub texts_are : map_grid f (grid_of cells) ≡ rows_of rows columns texts
+  pub texts_are : map_grid f (grid_of cells) ≡ rows_of_texts rows columns texts
 
-pub has_rows : {A : Type 0} (f : A → List ℕ) (rows columns : ℕ) (texts : List (List ℕ)) (cells : List (List A)) → 0 < rows → rows * columns ≤ length texts → map (map f) cells ≡ (rows_of rows columns texts).cells → HasRows f rows columns texts cells
+pub has_rows : {A : Type 0} (f : A → List ℕ) (rows columns : ℕ) (texts : List (List ℕ)) (cells : List (List A)) → 0 < rows → rows * columns ≤ length texts → map (map f) cells ≡ (rows_of_texts rows columns texts).cells → HasRows f rows columns texts cells
 has_rows {A} f rows columns texts cells some fits is =
     let wide = rows_wide f columns texts cells 0 rows is (omega (arith, fits)) in
     let tall : length cells ≡ rows = omega (arith, ap length is, length-map cells (map f), length-map-range_with_len (row_at columns texts) 0 rows) in
@@ -114,7 +114,7 @@ count_some texts left n is = by (reads_number.reads texts) refl
     by (Ok (m, rest)) e = counted (eqb m 0) m n rest left refl (rw e at is)
 
 -- a table that was read
-pub table_read : (texts first second left : List (List ℕ)) (rows columns : ℕ) (g : Grid (List ℕ)) → reads_count.reads texts ≡ Ok (rows, first) → reads_count.reads first ≡ Ok (columns, second) → rows * columns ≤ length second → g ≡ rows_of rows columns second → left ≡ drop (rows * columns) second → reads_table.reads texts ≡ Ok (g, left)
+pub table_read : (texts first second left : List (List ℕ)) (rows columns : ℕ) (g : Grid (List ℕ)) → reads_count.reads texts ≡ Ok (rows, first) → reads_count.reads first ≡ Ok (columns, second) → rows * columns ≤ length second → g ≡ rows_of_texts rows columns second → left ≡ drop (rows * columns) second → reads_table.reads texts ≡ Ok (g, left)
 table_read texts first second left rows columns g a b fits is rest = rw (a, b, le-leb (rows * columns) (length second) fits, is, rest) refl
 
 -- memory is asked for where there are words enough

@@ -12,5 +12,5 @@ bytes_of (Short text) = text
 bytes_of (Own text) = string_bytes text.value
 
 -- the texts of a row
-abbrev pub texts_of : Vec LentText → List (List ℕ)
-texts_of row = map bytes_of row.items
+abbrev pub texts_in_row : Vec LentText → List (List ℕ)
+texts_in_row row = map bytes_of row.items

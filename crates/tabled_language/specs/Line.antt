@@ -21,8 +21,8 @@ abbrev pub words_of : List ℕ → List (List ℕ)
 words_of line = slice_split (λ b. b == 9) line
 
 -- a byte stands among bytes
-abbrev pub has : ℕ → List ℕ → Bool
-has b bytes = list_any (λ c. c == b) bytes
+abbrev pub has_byte : ℕ → List ℕ → Bool
+has_byte b bytes = list_any (λ c. c == b) bytes
 
 -- the texts of words, or nothing where a word has none
 abbrev pub texts_of : List (List ℕ) → Option (List (List ℕ))
@@ -40,9 +40,9 @@ meaning_of (Some []) = EmptyLine
 meaning_of (Some (verb ∷ texts)) = says verb texts
 
 -- what a line says; one without bytes says nothing
-abbrev pub line_of : List ℕ → Line
-line_of [] = EmptyLine
-line_of (b ∷ bs) = meaning_of (texts_of (words_of (b ∷ bs)))
+abbrev pub says_line : List ℕ → Line
+says_line [] = EmptyLine
+says_line (b ∷ bs) = meaning_of (texts_of (words_of (b ∷ bs)))
 
 -- the shape that a line says, if it says one
 abbrev pub shape_in : Line → Option (ℕ × ℕ)

@@ -5,7 +5,7 @@ use Rattle.tabled_language.specs.declared.fault.Fault.{Fault}
 use Rattle.tabled_language.specs.Sizes.{reads_anchor}
 use Rattle.tabled_language.specs.Verb.{Line, RecordLine, says_span, steps}
 use Rattle.tabled_language.specs.Words.{behind, keeping_asks}
-use Rattle.tabled_language.specs.Line.{is_plain, line_of, lines_of, words_of}
+use Rattle.tabled_language.specs.Line.{is_plain, says_line, lines_of, words_of}
 use Rattle.tabled_language.specs.Faults.{fault_of, is_in_place}
 
 -- reading the texts after `span` asks for memory, where it is told which lines would stand in their place
@@ -32,7 +32,7 @@ line_asks in_place line = if is_plain line then words_ask in_place (words_of lin
 -- reading lines after earlier ones does: one of them up to the first that is faulty by itself. The checks of the whole ask for none but where a span did
 abbrev pub lines_ask : List Line → List (List ℕ) → Bool
 lines_ask earlier [] = false
-lines_ask earlier (line ∷ lines) = line_asks (is_in_place earlier) line || go (fault_of earlier (line_of line)) (lines_ask (earlier ++ line_of line ∷ []) lines)
+lines_ask earlier (line ∷ lines) = line_asks (is_in_place earlier) line || go (fault_of earlier (says_line line)) (lines_ask (earlier ++ says_line line ∷ []) lines)
   where
     go : Option Fault → Bool → Bool
     go None later = later

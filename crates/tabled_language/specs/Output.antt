@@ -20,12 +20,12 @@ abbrev pub IsOwnWord : List ℕ → Type 0
 IsOwnWord text = escaped text ≡ text
 
 -- the words of texts, separated by tabs
-abbrev pub joined : List (List ℕ) → List ℕ
-joined texts = join_with_byte 9 (map escaped texts)
+abbrev pub tab_separated : List (List ℕ) → List ℕ
+tab_separated texts = join_with_byte 9 (map escaped texts)
 
 -- the line of texts: their words, and a newline
 abbrev pub line : List (List ℕ) → List ℕ
-line texts = joined texts ++ 10 ∷ []
+line texts = tab_separated texts ++ 10 ∷ []
 
 -- the line of an anchor: its row and column, and its rectangle's height and width
 abbrev pub span_line : Rectangle → List ℕ

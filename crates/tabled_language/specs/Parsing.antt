@@ -19,7 +19,7 @@ use Rattle.tabled_language.specs.declared.words.Source.TheVariants.{Line as InLi
 use Rattle.tabled_language.specs.Drafts.{Draft, draft_of, fault_behind, takes, with_line}
 use Rattle.tabled_language.specs.Lent.{bytes_of}
 use Rattle.tabled_language.specs.Faults.{fault_of, first_fault}
-use Rattle.tabled_language.specs.Line.{line_of, lines_of, meaning_of}
+use Rattle.tabled_language.specs.Line.{says_line, lines_of, meaning_of}
 use Rattle.tabled_language.specs.Memory.{asks_memory, words_ask}
 use Rattle.tabled_language.specs.Script.{Script, parse, script_or_fault}
 use Rattle.tabled_language.specs.Verb.{Line}
@@ -82,8 +82,8 @@ IsPlaced d line result = MatchResult result (λ _. takes d line ≡ true) (λ er
 
 -- all lines of a script are read into a draft, and none is faulty by itself
 pub record ReadsScript (input : List ℕ) (draft : Draft) : Type 0 where
-  pub faultless : first_fault fault_of [] (map line_of (lines_of input)) ≡ None
-  pub is : draft ≡ draft_of (map line_of (lines_of input))
+  pub faultless : first_fault fault_of [] (map says_line (lines_of input)) ≡ None
+  pub is : draft ≡ draft_of (map says_line (lines_of input))
   pub asks : 0 < length draft.anchors → asks_memory input ≡ true
 
 -- why a script isn't read, with the number of the line: the fault of the first faulty one, or memory where it asks for some

@@ -5,7 +5,7 @@ use Rattle.tabled_grid.specs.Spans.{SpanMap}
 use Rattle.tabled_language.specs.declared.fault.Fault.{Fault}
 use Rattle.tabled_language.specs.Verb.{Line}
 use Rattle.tabled_steps.specs.States.{State}
-use Rattle.tabled_language.specs.Line.{anchor_in, line_of, lines_of, record_in, step_in, table_from}
+use Rattle.tabled_language.specs.Line.{anchor_in, says_line, lines_of, record_in, step_in, table_from}
 use Rattle.tabled_language.specs.Faults.{fault_among}
 
 -- the records, the merged cells and the steps of a script
@@ -32,4 +32,4 @@ script_or_fault lines = go (fault_among lines)
 
 -- the script that bytes write, or the number of its first faulty line and the fault
 abbrev pub parse : List ℕ → Result Script (ℕ × Fault)
-parse input = script_or_fault (map line_of (lines_of input))
+parse input = script_or_fault (map says_line (lines_of input))

@@ -72,13 +72,13 @@ abbrev pub reads_side : Reading Axis
 reads_side = reads_one_of ((codes "vertical", gives Rows) ∷ (codes "horizontal", gives Columns) ∷ [])
 
 -- r rows of c texts
-abbrev pub rows_of : ℕ → ℕ → List (List ℕ) → Grid (List ℕ)
-rows_of rows columns texts = record { rows = rows; columns = columns; cells = map (λ (i : ℕ). take columns (drop (i * columns) texts)) (range_with_len 0 rows) }
+abbrev pub rows_of_texts : ℕ → ℕ → List (List ℕ) → Grid (List ℕ)
+rows_of_texts rows columns texts = record { rows = rows; columns = columns; cells = map (λ (i : ℕ). take columns (drop (i * columns) texts)) (range_with_len 0 rows) }
 
 -- these rows, where there are words enough
 abbrev pub reads_rows : ℕ → ℕ → Reading (Grid (List ℕ))
 reads_rows rows columns = kept (record {
-  reads = λ texts. if nat_le (rows * columns) (length texts) then Ok (rows_of rows columns texts, drop (rows * columns) texts) else Err WordCount;
+  reads = λ texts. if nat_le (rows * columns) (length texts) then Ok (rows_of_texts rows columns texts, drop (rows * columns) texts) else Err WordCount;
   asks = λ texts. false;
 })
 

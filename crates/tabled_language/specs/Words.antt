@@ -90,16 +90,16 @@ abbrev pub reads_one_of : {A : Type 0} → Choices A → Reading A
 reads_one_of choices = then_reads reads_word (behind choices)
 
 -- a value, where no word is left over
-abbrev pub ended : {A : Type 0} → A → List (List ℕ) → Result A Fault
-ended x [] = Ok x
-ended x (text ∷ texts) = Err WordCount
+abbrev pub if_no_word_left : {A : Type 0} → A → List (List ℕ) → Result A Fault
+if_no_word_left x [] = Ok x
+if_no_word_left x (text ∷ texts) = Err WordCount
 
 -- what a reading gives of all of these texts
 abbrev pub whole : {A : Type 0} → Reading A → List (List ℕ) → Result A Fault
 whole {A} reading texts = go (reading.reads texts)
   where
     go : Read A → Result A Fault
-    go (Ok read) = ended read.0 read.1
+    go (Ok read) = if_no_word_left read.0 read.1
     go (Err fault) = Err fault
 
 -- what is read of all of these texts is kept: memory is asked for where the reading asks for some, or it is whole

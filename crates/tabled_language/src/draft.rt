@@ -39,7 +39,7 @@ impl<'a> Draft<'a> {
     ghost use Rattle.std.specs.List.{AllByRecursion};
     ghost use Rattle.tabled_language.specs.Drafts.{takes};
     ghost use Rattle.tabled_language.specs.Lent.{bytes_of};
-    ghost use Rattle.tabled_language.specs.Line.{has, line_of, meaning_of, words_of};
+    ghost use Rattle.tabled_language.specs.Line.{has_byte, says_line, meaning_of, words_of};
     ghost use Rattle.tabled_language.specs.Memory.{line_asks, span_asks, step_asks};
     ghost use Rattle.tabled_language.specs.Output.{IsOwnWord};
     ghost use Rattle.tabled_language.specs.Parsing.{AnswersDraft, IsPlaced, ReadsLine, ReadsWords, draft_in};
@@ -61,8 +61,8 @@ impl<'a> Draft<'a> {
 
     /// Adds what the line of a number says, or says why it isn't read.
     pub(crate) fn read_line(&mut self, alloc: Global, number: usize, line: &'a [u8]) -> Read<()>
-        requires { has 10 line.now ≡ false }
-        ensures { ReadsLine (draft_in self.old) number (line_of line.now) (line_asks (takes (draft_in self.old)) line.now) result (draft_in self.new) }
+        requires { has_byte 10 line.now ≡ false }
+        ensures { ReadsLine (draft_in self.old) number (says_line line.now) (line_asks (takes (draft_in self.old)) line.now) result (draft_in self.new) }
     {
         if line.is_empty() {
             return Ok(());

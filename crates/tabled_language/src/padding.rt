@@ -3,7 +3,7 @@
 ghost use Rattle.std.specs.Prelude.{◌≡◌, [], IfOk, OnOk, map};
 ghost use Rattle.tabled_grid.specs.Grid.{IsEven, grid_of, map_grid, map_items};
 ghost use Rattle.tabled_table.specs.Builder.{longest as longest_of, padded_to};
-ghost use Rattle.tabled_language.specs.Lent.{bytes_of, texts_of};
+ghost use Rattle.tabled_language.specs.Lent.{bytes_of, texts_in_row};
 ghost use Rattle.tabled_language.specs.Line.{table_from};
 
 use crate::lent::LentText;
@@ -37,7 +37,7 @@ pub(crate) fn longest(records: &Vec<Vec<LentText>>) -> usize
 
 /// Puts empty texts last in each record, up to a length.
 fn pad_each(records: &mut [Vec<LentText>], columns: usize) -> Result<(), AllocError>
-    ensures { OnOk result (map texts_of records.new ≡ map (padded_to columns []) (map texts_of records.old)) }
+    ensures { OnOk result (map texts_in_row records.new ≡ map (padded_to columns []) (map texts_in_row records.old)) }
 {
     for record in records.iter_mut() {
         pad(record, columns)?;
@@ -47,7 +47,7 @@ fn pad_each(records: &mut [Vec<LentText>], columns: usize) -> Result<(), AllocEr
 
 /// The same in one.
 fn pad(row: &mut Vec<LentText>, columns: usize) -> Result<(), AllocError>
-    ensures { OnOk result (texts_of row.new ≡ padded_to columns [] (texts_of row.old)) }
+    ensures { OnOk result (texts_in_row row.new ≡ padded_to columns [] (texts_in_row row.old)) }
 {
     row.reserve_exact(columns.saturating_sub(row.len()))?;
     while row.len() < columns {

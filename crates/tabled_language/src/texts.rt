@@ -4,7 +4,7 @@ ghost use Rattle.std.specs.Prelude.{◌≡◌, ◌∷◌, map, false, true, IfOk
 ghost use Rattle.std.specs.Iterator.{YieldsFirstRef, item_count};
 ghost use Rattle.std.specs.Option.{option_map};
 ghost use Rattle.tabled_language.specs.Lent.{bytes_of};
-ghost use Rattle.tabled_language.specs.Line.{has, is_plain, texts_of, words_of};
+ghost use Rattle.tabled_language.specs.Line.{has_byte, is_plain, texts_of, words_of};
 ghost use Rattle.tabled_language.specs.Parts.{parts_left};
 
 use crate::lent::LentText;
@@ -33,7 +33,7 @@ pub(crate) fn escaped_texts<'a>(
     alloc: Global,
     line: &'a [u8],
 ) -> Result<Option<Vec<LentText<'a>>>, AllocError>
-    requires { has 10 line.now ≡ false }
+    requires { has_byte 10 line.now ≡ false }
     ensures { IfOk result (λ texts. option_map (λ v. map bytes_of v.items) texts ≡ texts_of (words_of line.now)) }
 {
     let mut texts = Vec::with_capacity(alloc, count_parts(line, b'\t'))?;

@@ -4,7 +4,7 @@ ghost use Rattle.std.specs.Prelude.{◌≡◌, false, map, IfOk};
 ghost use Rattle.std.specs.Option.{option_map};
 ghost use Rattle.std.specs.String.{string_bytes};
 ghost use Rattle.tabled_language.specs.Lent.{bytes_of};
-ghost use Rattle.tabled_language.specs.Line.{has};
+ghost use Rattle.tabled_language.specs.Line.{has_byte};
 ghost use Rattle.tabled_language.specs.Word.{escape, integer_of, number_of, number_to, size_of, text_of_word, unescaped};
 
 use crate::lent::LentText;
@@ -68,7 +68,7 @@ pub(crate) fn lent_text<'a>(
     alloc: Global,
     word: &'a [u8],
 ) -> Result<Option<LentText<'a>>, AllocError>
-    requires { (has 9 word.now ≡ false) × (has 10 word.now ≡ false) }
+    requires { (has_byte 9 word.now ≡ false) × (has_byte 10 word.now ≡ false) }
     ensures { IfOk result (λ text. option_map bytes_of text ≡ text_of_word word.now) }
 {
     if word.contains(&b'\\') {

@@ -9,7 +9,7 @@ use Rattle.std.specs.Vec.{vec_len}
 use Rattle.std.specs.Vec.Iter.{into_iter_items, into_iter_len, into_iter_steps}
 use Rattle.std.specs.declared.vec.IntoIter.{IntoIter}
 use Rattle.tabled_grid.specs.Grid.{map_items}
-use Rattle.tabled_rows.specs.Listed.{GivesEach, GoesOver}
+use Rattle.tabled_rows.specs.Listed.{GivesEach, GoesOverEach}
 use Rattle.tabled_rows.specs.Rows.{Shows, all_shown}
 use Rattle.tabled_rows.specs.Steps.{BufferedWalk, Comes, GivesBuffered, can_come, still_to_come}
 use Rattle.tabled_rows.specs.declared.records.buf_records.BufIterator.{BufIterator}
@@ -39,10 +39,10 @@ module _ {I A B : Type 0} (cell_gives : I → Option A → I → Type 0) (shown 
 
 module _ {S U I W A B : Type 0} (next_gives : S → Option U → S → Type 0) (becomes : U → I → Type 0) (can : I → Type 0) (cell_gives : I → Option A → I → Type 0) (remaining : I → Count) (shown : A → B) (buffer_of : W → IntoIter (Vec A) Global) (rows_of : W → S) where
   abbrev gives-row : U → List B → Type 0
-  gives-row row cells = GoesOver becomes can cell_gives remaining (Shows shown) row cells
+  gives-row row cells = GoesOverEach becomes can cell_gives remaining (Shows shown) row cells
 
   abbrev gives-buffered_row : BufIterator I A → List B → Type 0
-  gives-buffered_row row cells = GoesOver (λ s r. r ≡ s) (can_come can) (Comes cell_gives) (still_to_come remaining) (Shows shown) row cells
+  gives-buffered_row row cells = GoesOverEach (λ s r. r ≡ s) (can_come can) (Comes cell_gives) (still_to_come remaining) (Shows shown) row cells
 
   -- the buffered rows, and then the others, are left
   record IsLeft (walk : W) (rows : List (List B)) : Type 0 where
@@ -121,7 +121,7 @@ module _ {S U I W A B : Type 0} (next_gives : S → Option U → S → Type 0) (
 
 module _ {S U I A B : Type 0} (next_gives : S → Option U → S → Type 0) (becomes : U → I → Type 0) (can : I → Type 0) (cell_gives : I → Option A → I → Type 0) (remaining : I → Count) (shown : A → B) where
   abbrev pub gives-unread : U → List B → Type 0
-  gives-unread row cells = GoesOver becomes can cell_gives remaining (Shows shown) row cells
+  gives-unread row cells = GoesOverEach becomes can cell_gives remaining (Shows shown) row cells
 
   -- rows are in the buffer, and the others are still to come
   pub record IsReadAhead (left : S) (buffer : List (Vec A)) (rows : List (List B)) : Type 0 where

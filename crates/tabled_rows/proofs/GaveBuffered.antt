@@ -11,8 +11,8 @@ use Rattle.std.specs.Vec.Iter.{into_iter_items, into_iter_len}
 use Rattle.std.specs.declared.iter.Fuse.{Fuse}
 use Rattle.std.specs.declared.vec.IntoIter.{IntoIter}
 use Rattle.tabled_grid.specs.Grid.{map_items}
-use Rattle.tabled_rows.specs.Gave.{EachMayBeAsked, FollowsBuffer, Gave, HasCome, MayBeAsked}
-use Rattle.tabled_rows.specs.Listed.{GivesEach, GoesOver}
+use Rattle.tabled_rows.specs.Gave.{EachSourceMayBeAsked, FollowsBuffer, Gave, HasCome, SourceMayBeAsked}
+use Rattle.tabled_rows.specs.Listed.{GivesEach, GoesOverEach}
 use Rattle.tabled_rows.specs.Steps.{GivesBuffered}
 use Rattle.tabled_rows.specs.declared.records.buf_records.BufIterator.{BufIterator}
 use Rattle.tabled_rows.specs.declared.records.buf_records.BufIterator.TheVariants.{Buffered, Iterator}
@@ -22,10 +22,10 @@ use Rattle.tabled_rows.proofs.Listed.{gives-went}
 -- rows that are listed may be asked
 module _ {U T R S A B : Type 0} (becomes : U → T → Type 0) (can : T → Type 0) (next_gives : T → Option R → T → Type 0) (remaining : T → Count) (row_becomes : R → S → Type 0) (cell_can : S → Type 0) (cell_gives : S → Option A → S → Type 0) (cell_remaining : S → Count) (stands_for : A → B → Type 0) where
   abbrev asked : R → Type 0
-  asked = MayBeAsked row_becomes cell_can cell_remaining
+  asked = SourceMayBeAsked row_becomes cell_can cell_remaining
 
   abbrev lists : R → List B → Type 0
-  lists = GoesOver row_becomes cell_can cell_gives cell_remaining stands_for
+  lists = GoesOverEach row_becomes cell_can cell_gives cell_remaining stands_for
 
   listed-each : (xs : List R) (rows : List (List B)) (s t : T) → GivesEach next_gives lists s rows → Yields next_gives s xs t → AllByRecursion asked xs
   listed-each [] rows s t gives ran = tt
@@ -33,7 +33,7 @@ module _ {U T R S A B : Type 0} (becomes : U → T → Type 0) (can : T → Type
       let went = gives-went next_gives lists rows s ran.0 x gives ran.1 in
       ((λ iter is. let cells = went.stands iter is in (cells.can, cells.ends)), listed-each xs went.others ran.0 t went.leaves ran.2)
 
-  pub listed-asked : (source : U) (rows : List (List B)) → GoesOver becomes can next_gives remaining lists source rows → EachMayBeAsked becomes can remaining next_gives asked source
+  pub listed-asked : (source : U) (rows : List (List B)) → GoesOverEach becomes can next_gives remaining lists source rows → EachSourceMayBeAsked becomes can remaining next_gives asked source
   listed-asked source rows over = λ iter is.
       let listed = over iter is in
       (listed.can, listed.ends, λ xs t ran. All-from_recursion asked xs (listed-each xs rows iter t listed.gives ran))

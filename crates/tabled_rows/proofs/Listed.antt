@@ -15,7 +15,7 @@ use Rattle.std.specs.declared.vec.IntoIter.{IntoIter}
 use Rattle.std.specs.declared.vec.Vec.{Vec}
 use Rattle.std.specs.Vec.{vec_len}
 use Rattle.std.specs.Vec.Iter.{into_iter_items, into_iter_len, into_iter_steps}
-use Rattle.tabled_rows.specs.Listed.{GivesEach, GoesOver}
+use Rattle.tabled_rows.specs.Listed.{GivesEach, GoesOverEach}
 use Rattle.tabled_rows.specs.Rows.{Shows}
 use Rattle.tabled_rows.specs.Steps.{GivesLimited}
 
@@ -113,10 +113,10 @@ gives-inside inside next_gives stands_for (y ∷ all) w g = (
 module _ {S U T W A B : Type 0} (next_gives : S → Option U → S → Type 0) (becomes : U → T → Type 0) (can : T → Type 0) (cell_gives : T → Option A → T → Type 0) (remaining : T → Count) (shows : A → B → Type 0) (rows_of : W → S) (limit_of : W → ℕ) where
   -- what a row gives, and what it gives limited
   abbrev gives-row : U → List B → Type 0
-  gives-row row cells = GoesOver becomes can cell_gives remaining shows row cells
+  gives-row row cells = GoesOverEach becomes can cell_gives remaining shows row cells
 
   abbrev gives-limited_row : Take T → List B → Type 0
-  gives-limited_row row cells = GoesOver (λ s r. r ≡ s) (λ s. can (take_source s)) (λ s r t. take_steps cell_gives s r t) (λ s. count_min (at_most (take_count s)) (remaining (take_source s))) shows row cells
+  gives-limited_row row cells = GoesOverEach (λ s r. r ≡ s) (λ s. can (take_source s)) (λ s r t. take_steps cell_gives s r t) (λ s. count_min (at_most (take_count s)) (remaining (take_source s))) shows row cells
 
   limited_row : (n : ℕ) (row : U) (limited : Take T) (xs : List B) → gives-row row xs → becomes row (take_source limited) → take_count limited ≡ n → gives-limited_row limited (take n xs)
   limited_row n row limited xs over source long it same =
@@ -192,7 +192,7 @@ module _ {A B : Type 0} (shown : A → B) where
   row-clones x y = (repeat_n_item y ≡ repeat_n_item x) × (repeat_n_count y ≡ repeat_n_count x)
 
   abbrev gives-cells : RepeatN A → List B → Type 0
-  gives-cells row cells = GoesOver (λ u r. r ≡ u) (λ _. Unit {0}) (repeat_n_steps (λ x y. y ≡ x)) (λ u. at_most (repeat_n_count u)) (Shows shown) row cells
+  gives-cells row cells = GoesOverEach (λ u r. r ≡ u) (λ _. Unit {0}) (repeat_n_steps (λ x y. y ≡ x)) (λ u. at_most (repeat_n_count u)) (Shows shown) row cells
 
   filled_row : (row it : RepeatN A) → it ≡ row → (n : ℕ) (x : B) → repeat_n_count row ≡ n → shown (repeat_n_item row) ≡ x → GivesEach (repeat_n_steps (λ u v. v ≡ u)) (Shows shown) it (replicate n x)
   filled_row row it same n x many is = rw (same, ← many) (gives-repeat (λ u v. v ≡ u) (Shows shown) x row (λ y like. ap shown like ∙ is))

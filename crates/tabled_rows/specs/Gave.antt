@@ -10,12 +10,12 @@ use Rattle.tabled_rows.specs.declared.records.buf_records.BufIterator.{BufIterat
 use Rattle.tabled_rows.specs.declared.records.buf_records.BufIterator.TheVariants.{Buffered, Iterator}
 
 -- what a source becomes may be asked and ends
-abbrev pub MayBeAsked : {U T : Type 0} → (U → T → Type 0) → (T → Type 0) → (T → Count) → U → Type 0
-MayBeAsked {U} {T} becomes can_next remaining source = (iter : T) → becomes source iter → can_next iter × IsFinite (remaining iter)
+abbrev pub SourceMayBeAsked : {U T : Type 0} → (U → T → Type 0) → (T → Type 0) → (T → Count) → U → Type 0
+SourceMayBeAsked {U} {T} becomes can_next remaining source = (iter : T) → becomes source iter → can_next iter × IsFinite (remaining iter)
 
 -- what a source becomes may be asked and ends, and so does each item that it gives
-abbrev pub EachMayBeAsked : {U T R : Type 0} → (U → T → Type 0) → (T → Type 0) → (T → Count) → (T → Option R → T → Type 0) → (R → Type 0) → U → Type 0
-EachMayBeAsked {U} {T} becomes can_next remaining next_gives asked source = (iter : T) → becomes source iter → can_next iter × IsFinite (remaining iter) × HoldsAlong next_gives iter (All asked)
+abbrev pub EachSourceMayBeAsked : {U T R : Type 0} → (U → T → Type 0) → (T → Type 0) → (T → Count) → (T → Option R → T → Type 0) → (R → Type 0) → U → Type 0
+EachSourceMayBeAsked {U} {T} becomes can_next remaining next_gives asked source = (iter : T) → becomes source iter → can_next iter × IsFinite (remaining iter) × HoldsAlong next_gives iter (All asked)
 
 -- what a source becomes was asked and gave these items, and then nothing, where it is said to have ended
 abbrev pub Gave : {U T R : Type 0} → (U → T → Type 0) → (T → Option R → T → Type 0) → U → List R → Bool → Type 0

@@ -16,8 +16,8 @@ pub record ListsEach {S A B : Type 0} (can_next : S → Type 0) (next_gives : S 
   pub gives : GivesEach next_gives stands_for iter items
 
 -- whatever iterator a source becomes, it gives items that stand for these, one by one, and ends
-abbrev pub GoesOver : {U S A B : Type 0} → (U → S → Type 0) → (S → Type 0) → (S → Option A → S → Type 0) → (S → Count) → (A → B → Type 0) → U → List B → Type 0
-GoesOver {S = S} becomes can_next next_gives remaining stands_for source items = (iter : S) → becomes source iter → ListsEach can_next next_gives remaining stands_for iter items
+abbrev pub GoesOverEach : {U S A B : Type 0} → (U → S → Type 0) → (S → Type 0) → (S → Option A → S → Type 0) → (S → Count) → (A → B → Type 0) → U → List B → Type 0
+GoesOverEach {S = S} becomes can_next next_gives remaining stands_for source items = (iter : S) → becomes source iter → ListsEach can_next next_gives remaining stands_for iter items
 
 -- the same of an iterator that isn't asked again once it has ended
 abbrev pub ListsEachOnce : {S A B : Type 0} → (S → Type 0) → (S → Option A → S → Type 0) → (S → Count) → (A → B → Type 0) → Fuse S → List B → Type 0

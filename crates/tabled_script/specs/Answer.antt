@@ -35,8 +35,8 @@ abbrev pub memory_line : List ℕ
 memory_line = codes "out of memory" ++ 10 ∷ []
 
 -- the table that a script ends with was written as these bytes, and this is known of it
-abbrev pub Shows : (State → List ℕ) → (State → Type 0) → List ℕ → Option (List ℕ) → Option (List ℕ) → Type 0
-Shows bytes known input old new = (script : Script) × (parse input ≡ Ok script) × Appends old new (bytes (ended script)) × known (ended script)
+abbrev pub ShowsTable : (State → List ℕ) → (State → Type 0) → List ℕ → Option (List ℕ) → Option (List ℕ) → Type 0
+ShowsTable bytes known input old new = (script : Script) × (parse input ≡ Ok script) × Appends old new (bytes (ended script)) × known (ended script)
 
 -- the line of a script's first fault was written
 abbrev pub Faults : List ℕ → Option (List ℕ) → Option (List ℕ) → Type 0

@@ -6,7 +6,7 @@ ghost use Rattle.std.specs.String.{string_bytes};
 ghost use Rattle.tabled_language.specs.Script.{parse};
 ghost use Rattle.tabled_language.specs.Parsing.{script_in};
 ghost use Rattle.tabled_language.specs.declared.fault.Fault.{Fault};
-ghost use Rattle.tabled_script.specs.Answer.{Faults, Shows, ended, fault_line, memory_line};
+ghost use Rattle.tabled_script.specs.Answer.{Faults, ShowsTable, ended, fault_line, memory_line};
 
 use crate::form::Form;
 use crate::watched::Watched;
@@ -37,7 +37,7 @@ pub(crate) fn respond<F: Form, R: Read, W: Write>(
     writer: &mut W,
 ) -> u8
     ensures known { (result ≡ 0) ⊎ ((result ≡ 2) ⊎ ((result ≡ 3) ⊎ (result ≡ 4))) }
-    ensures done { result ≡ 0 → IfSome (R.remaining reader.old) (λ input. Shows F.bytes F.known input (W.contents writer.old) (W.contents writer.new)) }
+    ensures done { result ≡ 0 → IfSome (R.remaining reader.old) (λ input. ShowsTable F.bytes F.known input (W.contents writer.old) (W.contents writer.new)) }
     ensures faulty { result ≡ 2 → IfSome (R.remaining reader.old) (λ input. Faults input (W.contents writer.old) (W.contents writer.new)) }
     ensures memory { result ≡ 3 → Appends (W.contents writer.old) (W.contents writer.new) memory_line }
 {
@@ -63,7 +63,7 @@ fn answer<F: Form, W: Write>(
     input: &[u8],
     writer: &mut W,
 ) -> Result<(io::Result<()>, u8), AllocError>
-    ensures answered { IfOk result (λ answered. OnOk answered.0 (((answered.1 ≡ 0) × Shows F.bytes F.known input.now (W.contents writer.old) (W.contents writer.new)) ⊎ ((answered.1 ≡ 2) × Faults input.now (W.contents writer.old) (W.contents writer.new)))) }
+    ensures answered { IfOk result (λ answered. OnOk answered.0 (((answered.1 ≡ 0) × ShowsTable F.bytes F.known input.now (W.contents writer.old) (W.contents writer.new)) ⊎ ((answered.1 ≡ 2) × Faults input.now (W.contents writer.old) (W.contents writer.new)))) }
     ensures refused { OnErr result (W.contents writer.new ≡ W.contents writer.old) }
 {
     match parse(alloc, input)? {

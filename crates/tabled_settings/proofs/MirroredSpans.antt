@@ -9,7 +9,7 @@ use Rattle.tabled_grid.specs.declared.config.position.Position.{Position}
 use Rattle.tabled_grid.specs.declared.records.axis.Axis.{Axis}
 use Rattle.tabled_grid.specs.declared.records.axis.Axis.TheVariants.{Rows}
 use Rattle.tabled_grid.specs.declared.config.size.Size.{Size}
-use Rattle.tabled_carry.specs.Images.{Carries, IsFull, Takes, carried}
+use Rattle.tabled_carry.specs.Images.{Carries, HasArea, Takes, carried}
 use Rattle.tabled_carry.proofs.Back.{carried_back}
 use Rattle.tabled_settings.specs.Places.{lines_from}
 use Rattle.tabled_settings.specs.Rearranged.{reversed, reversed_index, rotated}
@@ -40,7 +40,7 @@ module _ (axis : Axis) (old : ℕ → ℕ) (rows columns : ℕ) (mirrors : (i : 
       let within : line_of axis q < count_of axis rows columns = omega (arith, d.line, far) in
       takes old rows columns q p axis (record { within = within; across_within = omega (arith, d.same, d.across_within); line = omega (arith, d.line, far, mirrors (line_of axis q) within); same = sym d.same })
 
-  moved : (a : Position) (s : Size) → IsFull (a, s) → a.row + s.height ≤ rows → a.col + s.width ≤ columns → (f : Rectangle) × Carries places (a, s) f × IsFull f
+  moved : (a : Position) (s : Size) → HasArea (a, s) → a.row + s.height ≤ rows → a.col + s.width ≤ columns → (f : Rectangle) × Carries places (a, s) f × HasArea f
   moved a s full high far = ((in_line axis a (count_of axis rows columns - (line_of axis a + count_of axis s.height s.width)), s), lines_carry a s high far, record { height = full.height; width = full.width })
 
   twice : (m : SpanMap) → Fits m rows columns → carried places rows columns (carried places rows columns m) ≡ m

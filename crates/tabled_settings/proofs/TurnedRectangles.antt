@@ -7,7 +7,7 @@ use Rattle.tabled_grid.specs.declared.config.position.Position.{Position}
 use Rattle.tabled_grid.specs.Spans.{Rectangle, sized}
 use Rattle.tabled_grid.specs.declared.config.size.Size.{Size}
 use Rattle.tabled_grid.specs.declared.records.axis.Axis.TheVariants.{Rows}
-use Rattle.tabled_carry.specs.Images.{Carries, IsFull, Takes}
+use Rattle.tabled_carry.specs.Images.{Carries, HasArea, Takes}
 use Rattle.tabled_carry.proofs.RectanglesCarried.{carries_one}
 use Rattle.tabled_settings.specs.Rearranged.{rotated, upside_down}
 use Rattle.tabled_settings.specs.declared.rotate.Rotate.{Rotate}
@@ -15,7 +15,7 @@ use Rattle.tabled_settings.specs.declared.rotate.Rotate.TheVariants.{Left, Right
 use Rattle.tabled_settings.proofs.MirroredSpans.{lines_carry}
 use Rattle.tabled_settings.proofs.Rotated.{as_wide}
 
-module _ (rows columns : ℕ) (a : Position) (s : Size) (full : IsFull (a, s)) (high : a.row + s.height ≤ rows) (far : a.col + s.width ≤ columns) where
+module _ (rows columns : ℕ) (a : Position) (s : Size) (full : HasArea (a, s)) (high : a.row + s.height ≤ rows) (far : a.col + s.width ≤ columns) where
   wide : 0 < columns
   wide = omega (arith, full.width, far)
 
@@ -86,7 +86,7 @@ pub turned_over : (turn : Rotate) (rows columns : ℕ) (e : Rectangle) (p : Posi
 turned_over turn rows columns e p (inl is) row col = rw is (ap (λ (x : Position). (x, e.1)) (ap₂ place row col))
 turned_over turn rows columns e p (inr is) row col = rw is (ap (λ (x : Position). (x, e.1)) (ap₂ place row col))
 
-pub turned_full : (turn : Rotate) (rows columns : ℕ) (e : Rectangle) → IsFull e → IsFull (turned turn rows columns e)
+pub turned_full : (turn : Rotate) (rows columns : ℕ) (e : Rectangle) → HasArea e → HasArea (turned turn rows columns e)
 turned_full Left rows columns e full = record { height = full.width; width = full.height }
 turned_full Right rows columns e full = record { height = full.width; width = full.height }
 turned_full Top rows columns e full = record { height = full.height; width = full.width }
@@ -95,7 +95,7 @@ turned_full Bottom rows columns e full = record { height = full.height; width = 
 upside_down_carries : (rows columns : ℕ) (e : Rectangle) → e.0.row + e.1.height ≤ rows → e.0.col + e.1.width ≤ columns → Carries (upside_down rows columns) e (turned Top rows columns e)
 upside_down_carries rows columns e high far = lines_carry Rows (λ i. rows - 1 - i) rows columns (λ i h. omega (arith, h)) e.0 e.1 high far
 
-pub turned_carries : (turn : Rotate) (rows columns : ℕ) (e : Rectangle) → IsFull e → e.0.row + e.1.height ≤ rows → e.0.col + e.1.width ≤ columns → Carries (rotated turn rows columns) e (turned turn rows columns e)
+pub turned_carries : (turn : Rotate) (rows columns : ℕ) (e : Rectangle) → HasArea e → e.0.row + e.1.height ≤ rows → e.0.col + e.1.width ≤ columns → Carries (rotated turn rows columns) e (turned turn rows columns e)
 turned_carries Left rows columns e full high far = left_carries rows columns e.0 e.1 full high far
 turned_carries Right rows columns e full high far = right_carries rows columns e.0 e.1 full high far
 turned_carries Top rows columns e full high far = upside_down_carries rows columns e high far
@@ -124,7 +124,7 @@ turned_from Top rows columns p q t = upside_down_from rows columns p q t
 turned_from Bottom rows columns p q t = upside_down_from rows columns p q t
 
 -- a rectangle of which each cell goes to a place lies inside the table
-pub turned_inside : (turn : Rotate) (rows columns : ℕ) (e f : Rectangle) → IsFull e → Carries (rotated turn rows columns) e f → (e.0.row + e.1.height ≤ rows) × (e.0.col + e.1.width ≤ columns)
+pub turned_inside : (turn : Rotate) (rows columns : ℕ) (e f : Rectangle) → HasArea e → Carries (rotated turn rows columns) e f → (e.0.row + e.1.height ≤ rows) × (e.0.col + e.1.width ≤ columns)
 turned_inside turn rows columns e f full c =
     let q : Position = place (e.0.row + e.1.height - 1) (e.0.col + e.1.width - 1) in
     let last : In e q = record { top = omega (arith, full.height); bottom = omega (arith, full.height); left = omega (arith, full.width); right = omega (arith, full.width) } in
@@ -133,6 +133,6 @@ turned_inside turn rows columns e f full c =
     (omega (arith, at.0, full.height), omega (arith, at.1, full.width))
 
 -- and it goes to no other one
-pub turned_one : (turn : Rotate) (rows columns : ℕ) (e f : Rectangle) → IsFull e → e.0.row + e.1.height ≤ rows → e.0.col + e.1.width ≤ columns → f ≡ turned turn rows columns e → (h : Rectangle) → Carries (rotated turn rows columns) e h → IsFull h → Some f ≡ Some h
+pub turned_one : (turn : Rotate) (rows columns : ℕ) (e f : Rectangle) → HasArea e → e.0.row + e.1.height ≤ rows → e.0.col + e.1.width ≤ columns → f ≡ turned turn rows columns e → (h : Rectangle) → Carries (rotated turn rows columns) e h → HasArea h → Some f ≡ Some h
 turned_one turn rows columns e f full high far is h carries whole =
     ap Some (is ∙ carries_one (rotated turn rows columns) e (turned turn rows columns e) h (turned_full turn rows columns e full) whole (turned_carries turn rows columns e full high far) carries)

@@ -5,7 +5,7 @@ use Rattle.tabled_grid.specs.Entity.{place}
 use Rattle.tabled_grid.specs.Fitting.{Fits}
 use Rattle.tabled_grid.specs.Spans.{SpanMap}
 use Rattle.tabled_grid.specs.declared.config.position.Position.{Position}
-use Rattle.tabled_carry.specs.Images.{IsFull, LeadsBack, Takes, carried}
+use Rattle.tabled_carry.specs.Images.{HasArea, LeadsBack, Takes, carried}
 use Rattle.tabled_carry.proofs.Back.{carried_back}
 use Rattle.tabled_settings.proofs.Rotated.{as_wide}
 use Rattle.tabled_settings.proofs.TurnedRectangles.{turned, turned_carries, turned_full}
@@ -48,4 +48,4 @@ module _ (rows columns : ℕ) (tall : 0 < rows) (wide : 0 < columns) where
   pub left_then_right_spans : (m : SpanMap) → Fits m rows columns → carried (rotated Right columns rows) columns rows (carried (rotated Left rows columns) rows columns m) ≡ m
   left_then_right_spans m fits =
       subst (λ (n : ℕ). carried (rotated Right columns rows) columns n (carried (rotated Left rows columns) rows columns m) ≡ m) (as_wide columns rows wide)
-      (carried_back (rotated Left rows columns) (rotated Right columns rows) leads m rows columns fits (record { each = λ a s h. let size = fits.sizes.each a s h in let room = fits.inside a s h in let full : IsFull (a, s) = record { height = size.height; width = size.width } in (turned Left rows columns (a, s), turned_carries Left rows columns (a, s) full room.0 room.1, turned_full Left rows columns (a, s) full) }))
+      (carried_back (rotated Left rows columns) (rotated Right columns rows) leads m rows columns fits (record { each = λ a s h. let size = fits.sizes.each a s h in let room = fits.inside a s h in let full : HasArea (a, s) = record { height = size.height; width = size.width } in (turned Left rows columns (a, s), turned_carries Left rows columns (a, s) full room.0 room.1, turned_full Left rows columns (a, s) full) }))

@@ -7,7 +7,7 @@ use Rattle.std.proofs.lemmas.Bool.Decides.{eqb_tells, leb_tells}
 use Rattle.std.proofs.lemmas.List.{append-nil}
 use Rattle.std.proofs.lemmas.List.Sums.{sum_by-cons, sum_by_push}
 use Rattle.std.proofs.lemmas.List.Splits.{join_with_byte-slice_split}
-use Rattle.tabled_spans.specs.Widths.{AreParts, Begins, IsCut, IsCutLine, Placed, columns_in, columns_of, last_replaced, pieces, placed, shown}
+use Rattle.tabled_spans.specs.Widths.{AreParts, Begins, IsCut, IsCutLine, Placed, columns_in, character_columns, last_replaced, pieces, placed, shown}
 
 tail_same : {X : Type 0} (x y : X) (xs ys : List X) → x ∷ xs ≡ y ∷ ys → xs ≡ ys
 tail_same x y xs ys e = cc
@@ -24,7 +24,7 @@ nowhere (x ∷ front) rest c e = none_some x _ e
 
 -- no character with a column stands after n columns
 abbrev IsShort : ℕ → List ℕ → Type 0
-IsShort width part = (front rest : List ℕ) (c : ℕ) → part ≡ front ++ (c ∷ rest) → 1 ≤ columns_of c → columns_in front < width
+IsShort width part = (front rest : List ℕ) (c : ℕ) → part ≡ front ++ (c ∷ rest) → 1 ≤ character_columns c → columns_in front < width
 
 -- a character that is put after others is the last one, or some other is meant
 last_or_before : (cs front rest : List ℕ) (c d : ℕ) → cs ++ (c ∷ []) ≡ front ++ (d ∷ rest) → ((cs ≡ front) × (c ≡ d)) ⊎ ((less : List ℕ) × (cs ≡ front ++ (d ∷ less)))
@@ -40,20 +40,20 @@ last_or_before (y ∷ cs) (x ∷ front) rest c d e = by (last_or_before cs front
     by (inl (is, last)) = inl (ap (λ z. z ∷ cs) same ∙ ap (λ zs. x ∷ zs) is, last)
     by (inr (less, is)) = inr (less, ap (λ z. z ∷ cs) same ∙ ap (λ zs. x ∷ zs) is)
 
-short_more : (width : ℕ) (part : List ℕ) (c : ℕ) → IsShort width part → (1 ≤ columns_of c → columns_in part < width) → IsShort width (part ++ (c ∷ []))
+short_more : (width : ℕ) (part : List ℕ) (c : ℕ) → IsShort width part → (1 ≤ character_columns c → columns_in part < width) → IsShort width (part ++ (c ∷ []))
 short_more width part c short here front rest d is some = by (last_or_before part front rest c d is)
   where
     by : ((part ≡ front) × (c ≡ d)) ⊎ ((less : List ℕ) × (part ≡ front ++ (d ∷ less))) → columns_in front < width
-    by (inl (same, last)) = subst (λ cs. columns_in cs < width) same (here (subst (λ e. 1 ≤ columns_of e) (sym last) some))
+    by (inl (same, last)) = subst (λ cs. columns_in cs < width) same (here (subst (λ e. 1 ≤ character_columns e) (sym last) some))
     by (inr (less, before)) = short front less d before some
 
 -- a character without columns goes after what is replaced
-replaced_on : (cs : List ℕ) (c : ℕ) → columns_of c ≡ 0 → 1 ≤ columns_in cs → last_replaced (cs ++ (c ∷ [])) ≡ last_replaced cs ++ (c ∷ [])
+replaced_on : (cs : List ℕ) (c : ℕ) → character_columns c ≡ 0 → 1 ≤ columns_in cs → last_replaced (cs ++ (c ∷ [])) ≡ last_replaced cs ++ (c ∷ [])
 replaced_on [] c none some = absurd (omega (arith, some))
 replaced_on (d ∷ cs) c none some = by (eqb (columns_in cs) 0) refl (λ h. replaced_on cs c none h)
   where
     more : columns_in (cs ++ (c ∷ [])) ≡ columns_in cs
-    more = omega (arith, sum_by_push columns_of cs c, none)
+    more = omega (arith, sum_by_push character_columns cs c, none)
 
     by : (b : Bool) → eqb (columns_in cs) 0 ≡ b → (1 ≤ columns_in cs → last_replaced (cs ++ (c ∷ [])) ≡ last_replaced cs ++ (c ∷ [])) → last_replaced ((d ∷ cs) ++ (c ∷ [])) ≡ last_replaced (d ∷ cs) ++ (c ∷ [])
     by true is later = rw (more, is) refl
@@ -62,10 +62,10 @@ replaced_on (d ∷ cs) c none some = by (eqb (columns_in cs) 0) refl (λ h. repl
         rw (more, is) (ap (λ xs. d ∷ xs) (later (omega (arith, apart))))
 
 -- a character with columns after others is the one that is replaced
-replaced_last : (cs : List ℕ) (c : ℕ) → 1 ≤ columns_of c → last_replaced (cs ++ (c ∷ [])) ≡ cs ++ (0xFFFD ∷ [])
+replaced_last : (cs : List ℕ) (c : ℕ) → 1 ≤ character_columns c → last_replaced (cs ++ (c ∷ [])) ≡ cs ++ (0xFFFD ∷ [])
 replaced_last [] c some = refl
 replaced_last (d ∷ cs) c some =
-    let more : eqb (columns_in (cs ++ (c ∷ []))) 0 ≡ false = ne_eqb (columns_in (cs ++ (c ∷ []))) 0 (λ e. omega (arith, e, sum_by_push columns_of cs c, some)) in
+    let more : eqb (columns_in (cs ++ (c ∷ []))) 0 ≡ false = ne_eqb (columns_in (cs ++ (c ∷ []))) 0 (λ e. omega (arith, e, sum_by_push character_columns cs c, some)) in
     rw more (ap (λ xs. d ∷ xs) (replaced_last cs c some))
 
 shown_whole : (width : ℕ) (part : List ℕ) → columns_in part ≤ width → shown width part ≡ part
@@ -90,19 +90,19 @@ record Put (width : ℕ) (part : List ℕ) (c : ℕ) (p : Placed) : Type 0 where
 record Next (width : ℕ) (part : List ℕ) (c : ℕ) (p : Placed) : Type 0 where
   begins : p.begins ≡ true
   full : width ≤ columns_in part
-  some : 1 ≤ columns_of c
+  some : 1 ≤ character_columns c
   short : IsShort width (c ∷ [])
   counted : Counted width (c ∷ []) p.used
   is_shown : shown width (c ∷ []) ≡ p.character ∷ []
 
 module _ (width : ℕ) (wide : 1 ≤ width) (part : List ℕ) (used c : ℕ) (short : IsShort width part) (counted : Counted width part used) (within : eqb c 10 ≡ false) where
-  sum : columns_in (part ++ (c ∷ [])) ≡ columns_in part + columns_of c
-  sum = sum_by_push columns_of part c
+  sum : columns_in (part ++ (c ∷ [])) ≡ columns_in part + character_columns c
+  sum = sum_by_push character_columns part c
 
-  one : columns_in (c ∷ []) ≡ columns_of c
-  one = sum_by-cons columns_of c [] ∙ omega arith
+  one : columns_in (c ∷ []) ≡ character_columns c
+  one = sum_by-cons character_columns c [] ∙ omega arith
 
-  without : columns_of c ≡ 0 → Put width part c (placed width used c)
+  without : character_columns c ≡ 0 → Put width part c (placed width used c)
   without none =
       let is : placed width used c ≡ record { begins = false; character = c; used = used } = rw (within, eq-eqb _ _ none) refl in
       subst (Put width part c) (sym is) (record {
@@ -116,15 +116,15 @@ module _ (width : ℕ) (wide : 1 ≤ width) (part : List ℕ) (used c : ℕ) (sh
       by (inl (t, fits)) = shown_whole width (part ++ (c ∷ [])) (omega (arith, sum, none, fits)) ∙ ap (λ xs. xs ++ (c ∷ [])) (sym (shown_whole width part fits))
       by (inr (f, over)) = shown_cut width (part ++ (c ∷ [])) (omega (arith, sum, none, over)) ∙ replaced_on part c none (omega (arith, over)) ∙ ap (λ xs. xs ++ (c ∷ [])) (sym (shown_cut width part over))
 
-  behind : 1 ≤ columns_of c → used < width → Put width part c (placed width used c)
-  behind some less = by (leb_tells (used + columns_of c) width)
+  behind : 1 ≤ character_columns c → used < width → Put width part c (placed width used c)
+  behind some less = by (leb_tells (used + character_columns c) width)
     where
       fits : columns_in part < width
       fits = omega (arith, counted.all less, less)
 
-      by : ((nat_le (used + columns_of c) width ≡ true) × (used + columns_of c ≤ width)) ⊎ ((nat_le (used + columns_of c) width ≡ false) × (width < used + columns_of c)) → Put width part c (placed width used c)
+      by : ((nat_le (used + character_columns c) width ≡ true) × (used + character_columns c ≤ width)) ⊎ ((nat_le (used + character_columns c) width ≡ false) × (width < used + character_columns c)) → Put width part c (placed width used c)
       by (inl (t, room)) =
-          let is : placed width used c ≡ record { begins = false; character = c; used = used + columns_of c } = rw (within, ne_eqb (columns_of c) 0 (λ e. omega (arith, e, some)), lt-leb _ _ less, t) refl in
+          let is : placed width used c ≡ record { begins = false; character = c; used = used + character_columns c } = rw (within, ne_eqb (character_columns c) 0 (λ e. omega (arith, e, some)), lt-leb _ _ less, t) refl in
           subst (Put width part c) (sym is) (record {
             begins = refl;
             short = short_more width part c short (λ _. fits);
@@ -132,7 +132,7 @@ module _ (width : ℕ) (wide : 1 ≤ width) (part : List ℕ) (used c : ℕ) (sh
             is_shown = shown_whole width (part ++ (c ∷ [])) (omega (arith, sum, counted.all less, room)) ∙ ap (λ xs. xs ++ (c ∷ [])) (sym (shown_whole width part (omega (arith, fits))));
           })
       by (inr (f, over)) =
-          let is : placed width used c ≡ record { begins = false; character = 0xFFFD; used = width } = rw (within, ne_eqb (columns_of c) 0 (λ e. omega (arith, e, some)), lt-leb _ _ less, f) refl in
+          let is : placed width used c ≡ record { begins = false; character = 0xFFFD; used = width } = rw (within, ne_eqb (character_columns c) 0 (λ e. omega (arith, e, some)), lt-leb _ _ less, f) refl in
           subst (Put width part c) (sym is) (record {
             begins = refl;
             short = short_more width part c short (λ _. fits);
@@ -143,12 +143,12 @@ module _ (width : ℕ) (wide : 1 ≤ width) (part : List ℕ) (used c : ℕ) (sh
   alone : IsShort width (c ∷ [])
   alone = short_more width [] c (λ front rest d is. absurd (nowhere front rest d is)) (λ _. omega (arith, wide))
 
-  next : 1 ≤ columns_of c → width ≤ used → Next width part c (placed width used c)
-  next some full = by (leb_tells (0 + columns_of c) width)
+  next : 1 ≤ character_columns c → width ≤ used → Next width part c (placed width used c)
+  next some full = by (leb_tells (0 + character_columns c) width)
     where
-      by : ((nat_le (0 + columns_of c) width ≡ true) × (0 + columns_of c ≤ width)) ⊎ ((nat_le (0 + columns_of c) width ≡ false) × (width < 0 + columns_of c)) → Next width part c (placed width used c)
+      by : ((nat_le (0 + character_columns c) width ≡ true) × (0 + character_columns c ≤ width)) ⊎ ((nat_le (0 + character_columns c) width ≡ false) × (width < 0 + character_columns c)) → Next width part c (placed width used c)
       by (inl (t, room)) =
-          let is : placed width used c ≡ record { begins = true; character = c; used = 0 + columns_of c } = rw (within, ne_eqb (columns_of c) 0 (λ e. omega (arith, e, some)), le-leb _ _ full, t) refl in
+          let is : placed width used c ≡ record { begins = true; character = c; used = 0 + character_columns c } = rw (within, ne_eqb (character_columns c) 0 (λ e. omega (arith, e, some)), le-leb _ _ full, t) refl in
           subst (Next width part c) (sym is) (record {
             begins = refl;
             full = omega (arith, full, counted.most);
@@ -158,7 +158,7 @@ module _ (width : ℕ) (wide : 1 ≤ width) (part : List ℕ) (used c : ℕ) (sh
             is_shown = shown_whole width (c ∷ []) (omega (arith, one, room));
           })
       by (inr (f, over)) =
-          let is : placed width used c ≡ record { begins = true; character = 0xFFFD; used = width } = rw (within, ne_eqb (columns_of c) 0 (λ e. omega (arith, e, some)), le-leb _ _ full, f) refl in
+          let is : placed width used c ≡ record { begins = true; character = 0xFFFD; used = width } = rw (within, ne_eqb (character_columns c) 0 (λ e. omega (arith, e, some)), le-leb _ _ full, f) refl in
           subst (Next width part c) (sym is) (record {
             begins = refl;
             full = omega (arith, full, counted.most);
@@ -193,13 +193,13 @@ parted_none width part short = record {
     lone (x ∷ []) after a b is = none_some a (b ∷ after) (tail_same _ x [] (a ∷ b ∷ after) is)
     lone (x ∷ y ∷ before) after a b is = none_some y _ (tail_same _ x [] _ is)
 
-    only : (before after : List (List ℕ)) (front rest : List ℕ) (c : ℕ) → (part ++ []) ∷ [] ≡ before ++ ((front ++ (c ∷ rest)) ∷ after) → 1 ≤ columns_of c → columns_in front < width
+    only : (before after : List (List ℕ)) (front rest : List ℕ) (c : ℕ) → (part ++ []) ∷ [] ≡ before ++ ((front ++ (c ∷ rest)) ∷ after) → 1 ≤ character_columns c → columns_in front < width
     only [] after front rest c is some = short front rest c (sym (append-nil part) ∙ head_same _ (front ++ (c ∷ rest)) [] after is) some
     only (x ∷ []) after front rest c is some = absurd (none_some (front ++ (c ∷ rest)) after (tail_same _ x [] _ is))
     only (x ∷ y ∷ before) after front rest c is some = absurd (none_some y _ (tail_same _ x [] _ is))
 
 -- a part is ended, and the next one begins with a character
-parted_next : (width : ℕ) (part : List ℕ) (c : ℕ) (cs new : List ℕ) → IsShort width part → width ≤ columns_in part → 1 ≤ columns_of c → Parted width (c ∷ []) cs new → Parted width part (c ∷ cs) (10 ∷ (shown width (c ∷ []) ++ new))
+parted_next : (width : ℕ) (part : List ℕ) (c : ℕ) (cs new : List ℕ) → IsShort width part → width ≤ columns_in part → 1 ≤ character_columns c → Parted width (c ∷ []) cs new → Parted width part (c ∷ cs) (10 ∷ (shown width (c ∷ []) ++ new))
 parted_next width part c cs new short full some later = record {
   more = [];
   others = (c ∷ later.more) ∷ later.others;
@@ -223,7 +223,7 @@ parted_next width part c cs new short full some later = record {
     begins_at [] after a b is = (c, later.more, sym (head_same (c ∷ later.more) b later.others after (tail_same _ a _ (b ∷ after) is)), some)
     begins_at (x ∷ before) after a b is = later.are.begins before after a b (tail_same _ x _ _ is)
 
-    short_at : (before after : List (List ℕ)) (front rest : List ℕ) (d : ℕ) → all ≡ before ++ ((front ++ (d ∷ rest)) ∷ after) → 1 ≤ columns_of d → columns_in front < width
+    short_at : (before after : List (List ℕ)) (front rest : List ℕ) (d : ℕ) → all ≡ before ++ ((front ++ (d ∷ rest)) ∷ after) → 1 ≤ character_columns d → columns_in front < width
     short_at [] after front rest d is has = short front rest d (sym (append-nil part) ∙ head_same _ (front ++ (d ∷ rest)) _ after is) has
     short_at (x ∷ before) after front rest d is has = later.are.short before after front rest d (tail_same _ x _ _ is) has
 
@@ -238,7 +238,7 @@ parted_put width part c e cs new is later = record {
 
 parted : (width : ℕ) → 1 ≤ width → (cs part : List ℕ) (used : ℕ) → IsShort width part → Counted width part used → list_all (λ c. not (eqb c 10)) cs ≡ true → Parted width part cs (pieces width used cs)
 parted width wide [] part used short counted within = parted_none width part short
-parted width wide (c ∷ cs) part used short counted within = by (eqb_tells (columns_of c) 0) (leb_tells width used) (λ p u. parted width wide cs p u)
+parted width wide (c ∷ cs) part used short counted within = by (eqb_tells (character_columns c) 0) (leb_tells width used) (λ p u. parted width wide cs p u)
   where
     apart : eqb c 10 ≡ false
     apart = not_true (eqb c 10) (and_parts _ _ within).0
@@ -253,7 +253,7 @@ parted width wide (c ∷ cs) part used short counted within = by (eqb_tells (col
     start : Next width part c (placed width used c) → ((p : List ℕ) (u : ℕ) → IsShort width p → Counted width p u → list_all (λ c. not (eqb c 10)) cs ≡ true → Parted width p cs (pieces width u cs)) → Parted width part (c ∷ cs) (pieces width used (c ∷ cs))
     start h later = rw h.begins (subst (λ xs. Parted width part (c ∷ cs) (10 ∷ (xs ++ pieces width (placed width used c).used cs))) h.is_shown (parted_next width part c cs (pieces width (placed width used c).used cs) short h.full h.some (later (c ∷ []) (placed width used c).used h.short h.counted (and_parts _ _ within).1)))
 
-    by : ((eqb (columns_of c) 0 ≡ true) × (columns_of c ≡ 0)) ⊎ ((eqb (columns_of c) 0 ≡ false) × (columns_of c ≢ 0)) → ((nat_le width used ≡ true) × (width ≤ used)) ⊎ ((nat_le width used ≡ false) × (used < width)) → ((p : List ℕ) (u : ℕ) → IsShort width p → Counted width p u → list_all (λ c. not (eqb c 10)) cs ≡ true → Parted width p cs (pieces width u cs)) → Parted width part (c ∷ cs) (pieces width used (c ∷ cs))
+    by : ((eqb (character_columns c) 0 ≡ true) × (character_columns c ≡ 0)) ⊎ ((eqb (character_columns c) 0 ≡ false) × (character_columns c ≢ 0)) → ((nat_le width used ≡ true) × (width ≤ used)) ⊎ ((nat_le width used ≡ false) × (used < width)) → ((p : List ℕ) (u : ℕ) → IsShort width p → Counted width p u → list_all (λ c. not (eqb c 10)) cs ≡ true → Parted width p cs (pieces width u cs)) → Parted width part (c ∷ cs) (pieces width used (c ∷ cs))
     by (inl (_, none)) _ later = put (without width wide part used c short counted apart none) later
     by (inr (_, some)) (inl (_, full)) later = start (next width wide part used c short counted apart (omega (arith, some)) full) later
     by (inr (_, some)) (inr (_, less)) later = put (behind width wide part used c short counted apart (omega (arith, some)) less) later

@@ -5,23 +5,23 @@ use Rattle.std.specs.Option.{unwrap_or}
 use Rattle.unicode_width.specs.Width.{char_width}
 
 -- the columns that a character takes, 1 where it is a control character
-abbrev pub columns_of : ℕ → ℕ
-columns_of c = unwrap_or (char_width false c) 1
+abbrev pub character_columns : ℕ → ℕ
+character_columns c = unwrap_or (char_width false c) 1
 
 -- the columns that characters take
 abbrev pub columns_in : List ℕ → ℕ
-columns_in cs = sum_by columns_of cs
+columns_in cs = sum_by character_columns cs
 
 -- the first character has a column
 abbrev pub Begins : List ℕ → Type 0
-Begins cs = (c : ℕ) × (rest : List ℕ) × (cs ≡ c ∷ rest) × (1 ≤ columns_of c)
+Begins cs = (c : ℕ) × (rest : List ℕ) × (cs ≡ c ∷ rest) × (1 ≤ character_columns c)
 
 -- consecutive parts of a line: before each next part there are n columns or more, and it begins with a character that has a column; in no part such a character stands after n columns
 pub record AreParts (width : ℕ) (line : List ℕ) (parts : List (List ℕ)) : Type 0 where
   pub whole : concat parts ≡ line
   pub full : (before after : List (List ℕ)) (one next : List ℕ) → parts ≡ before ++ (one ∷ next ∷ after) → width ≤ columns_in one
   pub begins : (before after : List (List ℕ)) (one next : List ℕ) → parts ≡ before ++ (one ∷ next ∷ after) → Begins next
-  pub short : (before after : List (List ℕ)) (front rest : List ℕ) (c : ℕ) → parts ≡ before ++ ((front ++ (c ∷ rest)) ∷ after) → 1 ≤ columns_of c → columns_in front < width
+  pub short : (before after : List (List ℕ)) (front rest : List ℕ) (c : ℕ) → parts ≡ before ++ ((front ++ (c ∷ rest)) ∷ after) → 1 ≤ character_columns c → columns_in front < width
 
 -- characters, with the replacement character for the last one that has a column
 abbrev pub last_replaced : List ℕ → List ℕ
@@ -54,11 +54,11 @@ pub record Placed : Type 0 where
 
 -- a character of at least one column in a piece of n: the replacement character, which ends the piece, where it doesn't fit
 abbrev pub placed_from : ℕ → Bool → ℕ → ℕ → Placed
-placed_from width begins used c = if nat_le (used + columns_of c) width then record { begins = begins; character = c; used = used + columns_of c } else record { begins = begins; character = 0xFFFD; used = width }
+placed_from width begins used c = if nat_le (used + character_columns c) width then record { begins = begins; character = c; used = used + character_columns c } else record { begins = begins; character = 0xFFFD; used = width }
 
 -- a character where its piece has n columns: a newline ends it, one without columns goes to it, and any other begins the next piece where it is full
 abbrev pub placed : ℕ → ℕ → ℕ → Placed
-placed width used c = if c == 10 then record { begins = false; character = c; used = 0 } else (if columns_of c == 0 then record { begins = false; character = c; used = used } else (if nat_le width used then placed_from width true 0 c else placed_from width false used c))
+placed width used c = if c == 10 then record { begins = false; character = c; used = 0 } else (if character_columns c == 0 then record { begins = false; character = c; used = used } else (if nat_le width used then placed_from width true 0 c else placed_from width false used c))
 
 -- the characters of pieces of at most n columns, joined with newlines, where the first has some columns already
 abbrev pub pieces : ℕ → ℕ → List ℕ → List ℕ

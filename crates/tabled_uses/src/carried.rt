@@ -6,7 +6,7 @@ ghost use Rattle.std.specs.Option.{IfSome};
 ghost use Rattle.tabled_grid.specs.Entity.{place};
 ghost use Rattle.tabled_grid.specs.Fitting.{Fits, keep_fitting};
 ghost use Rattle.tabled_grid.specs.Spans.{Rectangle, sized};
-ghost use Rattle.tabled_carry.specs.Images.{Carries, IsFull, carried};
+ghost use Rattle.tabled_carry.specs.Images.{Carries, HasArea, carried};
 
 use crate::geometry::changes;
 use std::alloc::{AllocError, Global};
@@ -137,7 +137,7 @@ pub fn carries_along<M: MovesRectangles>(
 /// Where the merged cells go that are anchored at the first place, two rows and three columns of them.
 pub fn first_goes<M: MovesRectangles>(moves: &M) -> Option<Rectangle>
     ensures carries { IfSome result (λ f. Carries (M.places moves.now) (place 0 0, sized 2 3) f) }
-    ensures finds { (f : Rectangle) → Carries (M.places moves.now) (place 0 0, sized 2 3) f → IsFull f → result ≡ Some f }
+    ensures finds { (f : Rectangle) → Carries (M.places moves.now) (place 0 0, sized 2 3) f → HasArea f → result ≡ Some f }
 {
     let size = Size {
         height: 2,

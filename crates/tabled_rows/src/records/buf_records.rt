@@ -5,8 +5,8 @@ ghost use Rattle.std.specs.Iterator.{DrainsIf, HoldsAlong, IsFinite, count_unles
 ghost use Rattle.std.specs.Iterator.Adapters.{fuse_done, fuse_source, fuse_steps};
 ghost use Rattle.std.specs.List.{All, AllZip};
 ghost use Rattle.tabled_grid.specs.Grid.{map_items};
-ghost use Rattle.tabled_rows.specs.Gave.{FollowsBuffer, Gave, MayBeAsked, ReadsAhead};
-ghost use Rattle.tabled_rows.specs.Listed.{GoesOver, ListsEachOnce};
+ghost use Rattle.tabled_rows.specs.Gave.{FollowsBuffer, Gave, SourceMayBeAsked, ReadsAhead};
+ghost use Rattle.tabled_rows.specs.Listed.{GoesOverEach, ListsEachOnce};
 ghost use Rattle.tabled_rows.specs.Rows.{Shows, all_shown, first_rows};
 
 use crate::records::into_records::IntoRecords;
@@ -96,9 +96,9 @@ where
 
     ghost shown = { S.shown };
 
-    ghost gives = { λ s rows. (others : List (List S.Shown)) × ListsEachOnce S.IterRows.IntoIter.can_next S.IterRows.IntoIter.next_gives S.IterRows.IntoIter.remaining (GoesOver S.IterColumns.into_iter_gives S.IterColumns.IntoIter.can_next S.IterColumns.IntoIter.next_gives S.IterColumns.IntoIter.remaining (Shows S.shown)) s.1 others × (rows ≡ all_shown S.shown s.0 ++ others) };
+    ghost gives = { λ s rows. (others : List (List S.Shown)) × ListsEachOnce S.IterRows.IntoIter.can_next S.IterRows.IntoIter.next_gives S.IterRows.IntoIter.remaining (GoesOverEach S.IterColumns.into_iter_gives S.IterColumns.IntoIter.can_next S.IterColumns.IntoIter.next_gives S.IterColumns.IntoIter.remaining (Shows S.shown)) s.1 others × (rows ≡ all_shown S.shown s.0 ++ others) };
 
-    ghost may_be_asked = { λ s. (fuse_done s.1 ≡ false → S.IterRows.IntoIter.can_next (fuse_source s.1)) × IsFinite (count_unless (fuse_done s.1) (S.IterRows.IntoIter.remaining (fuse_source s.1))) × HoldsAlong (fuse_steps S.IterRows.IntoIter.next_gives) s.1 (All (MayBeAsked S.IterColumns.into_iter_gives S.IterColumns.IntoIter.can_next S.IterColumns.IntoIter.remaining)) };
+    ghost may_be_asked = { λ s. (fuse_done s.1 ≡ false → S.IterRows.IntoIter.can_next (fuse_source s.1)) × IsFinite (count_unless (fuse_done s.1) (S.IterRows.IntoIter.remaining (fuse_source s.1))) × HoldsAlong (fuse_steps S.IterRows.IntoIter.next_gives) s.1 (All (SourceMayBeAsked S.IterColumns.into_iter_gives S.IterColumns.IntoIter.can_next S.IterColumns.IntoIter.remaining)) };
 
     ghost may_give = { λ s rows ended. (others : List S.IterColumns) × DrainsIf (fuse_steps S.IterRows.IntoIter.next_gives) (ended ≡ true) s.1 others × FollowsBuffer S.IterColumns.into_iter_gives s.0 others rows ended };
 

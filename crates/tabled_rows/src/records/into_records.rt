@@ -1,8 +1,8 @@
 //! What gives rows of cells, and what limits, skips and reads ahead what is given.
 
 ghost use Rattle.std.specs.Prelude.{◌≡◌, Bool, List};
-ghost use Rattle.tabled_rows.specs.Gave.{EachMayBeAsked, Gave, MayBeAsked};
-ghost use Rattle.tabled_rows.specs.Listed.{GoesOver};
+ghost use Rattle.tabled_rows.specs.Gave.{EachSourceMayBeAsked, Gave, SourceMayBeAsked};
+ghost use Rattle.tabled_rows.specs.Listed.{GoesOverEach};
 ghost use Rattle.tabled_rows.specs.Rows.{Shows};
 
 pub use crate::records::buf_records::{BufIterator, BufRecords, BufRecordsIter};
@@ -45,8 +45,8 @@ pub trait IntoRecords {
     ///
     /// Ported from `tabled::grid::records::IntoRecords::iter_rows`.
     fn iter_rows(self) -> Self::IterRows
-        ensures given { (rows : List (List Shown)) → gives self rows → GoesOver Self.IterRows.into_iter_gives Self.IterRows.IntoIter.can_next Self.IterRows.IntoIter.next_gives Self.IterRows.IntoIter.remaining (GoesOver Self.IterColumns.into_iter_gives Self.IterColumns.IntoIter.can_next Self.IterColumns.IntoIter.next_gives Self.IterColumns.IntoIter.remaining (Shows shown)) result rows }
-        ensures asked { may_be_asked self → EachMayBeAsked Self.IterRows.into_iter_gives Self.IterRows.IntoIter.can_next Self.IterRows.IntoIter.remaining Self.IterRows.IntoIter.next_gives (MayBeAsked Self.IterColumns.into_iter_gives Self.IterColumns.IntoIter.can_next Self.IterColumns.IntoIter.remaining) result }
+        ensures given { (rows : List (List Shown)) → gives self rows → GoesOverEach Self.IterRows.into_iter_gives Self.IterRows.IntoIter.can_next Self.IterRows.IntoIter.next_gives Self.IterRows.IntoIter.remaining (GoesOverEach Self.IterColumns.into_iter_gives Self.IterColumns.IntoIter.can_next Self.IterColumns.IntoIter.next_gives Self.IterColumns.IntoIter.remaining (Shows shown)) result rows }
+        ensures asked { may_be_asked self → EachSourceMayBeAsked Self.IterRows.into_iter_gives Self.IterRows.IntoIter.can_next Self.IterRows.IntoIter.remaining Self.IterRows.IntoIter.next_gives (SourceMayBeAsked Self.IterColumns.into_iter_gives Self.IterColumns.IntoIter.can_next Self.IterColumns.IntoIter.remaining) result }
         ensures came { (rows : List Self.IterColumns) (ended : Bool) → Gave Self.IterRows.into_iter_gives Self.IterRows.IntoIter.next_gives result rows ended → may_give self rows ended };
 }
 

@@ -1,8 +1,8 @@
 //! Rows that something goes over, as a source of rows.
 
 ghost use Rattle.std.specs.Prelude.{◌≡◌};
-ghost use Rattle.tabled_rows.specs.Gave.{EachMayBeAsked, Gave, MayBeAsked};
-ghost use Rattle.tabled_rows.specs.Listed.{GoesOver};
+ghost use Rattle.tabled_rows.specs.Gave.{EachSourceMayBeAsked, Gave, SourceMayBeAsked};
+ghost use Rattle.tabled_rows.specs.Listed.{GoesOverEach};
 
 use crate::records::into_records::IntoRecords;
 use std::marker::Model;
@@ -47,9 +47,9 @@ where
 
     ghost shown = { λ cell. cell };
 
-    ghost gives = { GoesOver I.into_iter_gives I.IntoIter.can_next I.IntoIter.next_gives I.IntoIter.remaining (GoesOver I.Item.into_iter_gives I.Item.IntoIter.can_next I.Item.IntoIter.next_gives I.Item.IntoIter.remaining (λ cell x. cell ≡ x)) };
+    ghost gives = { GoesOverEach I.into_iter_gives I.IntoIter.can_next I.IntoIter.next_gives I.IntoIter.remaining (GoesOverEach I.Item.into_iter_gives I.Item.IntoIter.can_next I.Item.IntoIter.next_gives I.Item.IntoIter.remaining (λ cell x. cell ≡ x)) };
 
-    ghost may_be_asked = { EachMayBeAsked I.into_iter_gives I.IntoIter.can_next I.IntoIter.remaining I.IntoIter.next_gives (MayBeAsked I.Item.into_iter_gives I.Item.IntoIter.can_next I.Item.IntoIter.remaining) };
+    ghost may_be_asked = { EachSourceMayBeAsked I.into_iter_gives I.IntoIter.can_next I.IntoIter.remaining I.IntoIter.next_gives (SourceMayBeAsked I.Item.into_iter_gives I.Item.IntoIter.can_next I.Item.IntoIter.remaining) };
 
     ghost may_give = { Gave I.into_iter_gives I.IntoIter.next_gives };
 

@@ -2,7 +2,7 @@
 
 ghost use Rattle.std.specs.Prelude.{◌≡◌, ◌≤◌, ℕ, IfOk, chars, encode_utf8_all};
 ghost use Rattle.std.specs.String.{string_bytes};
-ghost use Rattle.tabled_spans.specs.Widths.{IsCutText, columns_of, pieces, placed};
+ghost use Rattle.tabled_spans.specs.Widths.{IsCutText, character_columns, pieces, placed};
 
 use std::alloc::{AllocError, Global};
 use unicode_width::UnicodeWidthChar;
@@ -48,7 +48,7 @@ fn place(width: usize, used: usize, c: char) -> (bool, char, usize)
 
 /// The columns that a character takes, 1 where it is a control character.
 fn columns_of(c: char) -> usize
-    ensures value { result ≡ columns_of c }
+    ensures value { result ≡ character_columns c }
 {
     c.width().unwrap_or(1)
 }

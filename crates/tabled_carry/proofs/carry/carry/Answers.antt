@@ -4,7 +4,7 @@ use Rattle.std.proofs.lemmas.List.{take_all}
 use Rattle.std.proofs.lemmas.Option.{none-some}
 use Rattle.std.specs.FinMap.{from_sorted}
 use Rattle.tabled_grid.specs.Spans.{AreAnchors, Rectangle, position_cmp}
-use Rattle.tabled_carry.specs.Images.{Carries, IsFull}
+use Rattle.tabled_carry.specs.Images.{Carries, HasArea}
 use Rattle.tabled_carry.proofs.Carrying.{Images, images-anchors, images-make, images-sorted, next-full, next-inside, next-none, next-some, rising-sorted}
 use Rattle.tabled_carry.proofs.InPlace.{underway-none, underway-some}
 use Rattle.tabled_carry.proofs.carry.carry.Goals as goal
@@ -24,7 +24,7 @@ module _ (g : _) (c : After-index g) where
 pub new_rectangle-requires-clause-full : goal.new_rectangle-requires-clause-full
 new_rectangle-requires-clause-full g c =
     let before = (goal.at.new_rectangle-requires-clause-full g c).After-index in
-    subst IsFull (read g before) (next-full (g.M.Moves.places c.args.moves.now) c.args.anchors.now.items [] c.loop-index.index c.args.rows c.args.columns c.index.result.now c.requires.anchors c.requires.fits (here g before))
+    subst HasArea (read g before) (next-full (g.M.Moves.places c.args.moves.now) c.args.anchors.now.items [] c.loop-index.index c.args.rows c.args.columns c.index.result.now c.requires.anchors c.requires.fits (here g before))
 
 pub new_rectangle-requires-clause-bottom : goal.new_rectangle-requires-clause-bottom
 new_rectangle-requires-clause-bottom g c =

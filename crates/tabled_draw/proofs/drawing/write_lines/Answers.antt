@@ -6,7 +6,7 @@ use Rattle.tabled_draw.proofs.Rests.{bytes_in}
 use Rattle.tabled_draw.proofs.Rows.{all-rows, between, end-inside, left-outside, more-rows}
 use Rattle.tabled_draw.proofs.Sent.{draws-as, draws-none, draws-then}
 use Rattle.tabled_draw.specs.OwnerRows.{IsOwnerRow}
-use Rattle.tabled_draw.specs.Picture.{line, top}
+use Rattle.tabled_draw.specs.Picture.{picture_line, top}
 use Rattle.tabled_grid.specs.Grid.{map_grid}
 use Rattle.tabled_draw.proofs.drawing.write_lines.Goals as goal
 
@@ -48,5 +48,5 @@ returns g c =
     let under : IsOwnerRow t.rows t.columns m (c.loop-i.i + 1) c.deref-2.result.now = rw c.deref-2.ensures.value (row-outside t.rows t.columns m (c.loop-i.i + 1) c.clear-2.new.row.items (λ j. owner-below t.rows t.columns (entries m) (c.loop-i.i + 1) j (omega (arith, i))) (c.clear-2.ensures.long ∙ c.loop-i.invariant.here) c.clear-2.ensures.none) in
     draws-as (all-rows t (entries m) c.loop-i.i i c.requires.high c.requires.wide) (draws-then c.loop-i.invariant.drawn
     (draws-as (between t m c.requires.laid.fits c.args.edges.now c.requires.laid.edges c.loop-i.i (top t (entries m) c.loop-i.i) c.deref.result.now c.deref-2.result.now old (length c.loop-i.rests.items) refl over under c.loop-i.invariant.left c.loop-i.invariant.long
-    ∙ ap (λ k. line t (entries m) (top t (entries m) k) k (k + 1) ++ (10 ∷ [])) i)
+    ∙ ap (λ k. picture_line t (entries m) (top t (entries m) k) k (k + 1) ++ (10 ∷ [])) i)
     c.in_ok-write_line.ensures.draws))

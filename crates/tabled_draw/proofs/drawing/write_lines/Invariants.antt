@@ -4,7 +4,7 @@ use Rattle.tabled_draw.proofs.Rests.{bytes_in}
 use Rattle.tabled_draw.specs.Each.{each}
 use Rattle.tabled_draw.specs.Lines.{AreLeft}
 use Rattle.tabled_draw.specs.OwnerRows.{IsOwnerRow, count_before}
-use Rattle.tabled_draw.specs.Picture.{ended, lines_of_row, top}
+use Rattle.tabled_draw.specs.Picture.{with_newlines, lines_of_row, top}
 use Rattle.tabled_draw.specs.Sent.{Draws}
 use Rattle.tabled_grid.specs.Grid.{map_grid}
 use Rattle.tabled_draw.proofs.drawing.write_lines.Given as goal
@@ -18,5 +18,5 @@ invariant-loop-i g l =
       next : l.next ≡ count_before l.i 0 (entries l.spans);
       long : length l.rests.items ≡ (g.R.GridStore.grid l.records).columns;
       left : AreLeft t l.spans l.i (top t (entries l.spans) l.i) (bytes_in l.rests.items);
-      drawn : Draws (g.W.Write.contents l.initial.writer) l.initial.held (g.W.Write.contents l.writer) l.held (ended (each l.i (lines_of_row t (entries l.spans))));
+      drawn : Draws (g.W.Write.contents l.initial.writer) l.initial.held (g.W.Write.contents l.writer) l.held (with_newlines (each l.i (lines_of_row t (entries l.spans))));
     }

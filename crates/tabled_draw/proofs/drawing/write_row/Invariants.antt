@@ -3,7 +3,7 @@ use Rattle.std.specs.FinMap.{entries}
 use Rattle.tabled_draw.proofs.Rests.{bytes_in}
 use Rattle.tabled_draw.proofs.Rows.{lines_below}
 use Rattle.tabled_draw.specs.Lines.{AreLeft}
-use Rattle.tabled_draw.specs.Picture.{ended, top}
+use Rattle.tabled_draw.specs.Picture.{with_newlines, top}
 use Rattle.tabled_draw.specs.Sent.{Draws}
 use Rattle.tabled_grid.specs.Grid.{map_grid}
 use Rattle.tabled_draw.proofs.drawing.write_row.Given as goal
@@ -14,5 +14,5 @@ invariant-loop-y g l =
     record {
       long : length l.rests.items ≡ (g.R.GridStore.grid l.records).columns;
       left : AreLeft t l.spans (l.i + 1) (top t (entries l.spans) l.i + 1 + l._y) (bytes_in l.rests.items);
-      drawn : Draws (g.W.Write.contents l.fn.writer) l.fn.held (g.W.Write.contents l.writer) l.held (ended (lines_below t (entries l.spans) l.i l._y));
+      drawn : Draws (g.W.Write.contents l.fn.writer) l.fn.held (g.W.Write.contents l.writer) l.held (with_newlines (lines_below t (entries l.spans) l.i l._y));
     }

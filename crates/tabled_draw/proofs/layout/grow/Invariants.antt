@@ -1,6 +1,6 @@
 use Rattle.std.proofs.Common.{◌≡◌, ◌+◌}
-use Rattle.tabled_draw.specs.Sizes.{start}
+use Rattle.tabled_draw.specs.Sizes.{start_of}
 use Rattle.tabled_draw.proofs.layout.grow.Given as goal
 
 abbrev pub invariant-loop-k : goal.invariant-loop-k
-invariant-loop-k l = l.room + start l.fn.axis l.sizes.items l.at ≡ start l.fn.axis l.sizes.items l.k
+invariant-loop-k l = l.room + start_of l.fn.axis l.sizes.items l.at ≡ start_of l.fn.axis l.sizes.items l.k

@@ -2,14 +2,14 @@ use Rattle.std.proofs.Common.{◌≡◌, ◌∙◌, arith, ap, ap₂, get_or, le
 use Rattle.std.proofs.Math.ListN.{length-set}
 use Rattle.tabled_draw.proofs.LawSizes.{lies-along}
 use Rattle.tabled_draw.proofs.Sizes.{anchor-at, grown-all, grown-more}
-use Rattle.tabled_draw.specs.Sizes.{grown}
+use Rattle.tabled_draw.specs.Sizes.{grown_sizes}
 use Rattle.tabled_grid.specs.Axis.{line_of, lines_in}
 use Rattle.tabled_grid.specs.Grid.{map_grid}
 use Rattle.tabled_grid.specs.Spans.{sized}
 use Rattle.tabled_draw.proofs.layout.grow_all.Goals as goal
 
 pub loop-k-init : goal.loop-k-init
-loop-k-init g c = record { long = c.requires.long; grown = refl }
+loop-k-init g c = record { long = c.requires.long; grown_sizes = refl }
 
 pub get_text-requires-clause-inside : goal.get_text-requires-clause-inside
 get_text-requires-clause-inside g c =
@@ -26,10 +26,10 @@ pub loop-k-preserved : goal.loop-k-preserved
 loop-k-preserved g c =
     let t = map_grid g.R.Cell.CellText.text_of (g.R.GridStore.grid c.args.records.now) in
     let e = get_or c.anchors-anchors.result.now c.loop-k.k (record { row = 0; col = 0 }, sized 0 0) in
-    let grew : c.grow.new.sizes.items ≡ grown c.args.axis c.loop-k.sizes.items (line_of c.args.axis e.0) (lines_in c.args.axis e.1) c.in_ok-need.need = c.in_ok-grow.ensures.grown ∙ ap₂ (λ a n. grown c.args.axis c.loop-k.sizes.items a n c.in_ok-need.need) c.line_of.ensures c.lines_in.ensures in
+    let grew : c.grow.new.sizes.items ≡ grown_sizes c.args.axis c.loop-k.sizes.items (line_of c.args.axis e.0) (lines_in c.args.axis e.1) c.in_ok-need.need = c.in_ok-grow.ensures.grown ∙ ap₂ (λ a n. grown_sizes c.args.axis c.loop-k.sizes.items a n c.in_ok-need.need) c.line_of.ensures c.lines_in.ensures in
     record {
       long = ap length grew ∙ length-set c.loop-k.sizes.items _ _ ∙ c.loop-k.invariant.long;
-      grown = grown-more c.args.axis t c.args.spans.now c.args.sizes.now.items c.loop-k.k (record { row = 0; col = 0 }, sized 0 0) c.anchors-anchors.result.now c.anchors-anchors.ensures.anchors c.loop-k-test.true c.loop-k.sizes.items _ c.get_text.ensures c.in_ok-need.need _ c.loop-k.invariant.grown c.in_ok-need.ensures grew;
+      grown_sizes = grown-more c.args.axis t c.args.spans.now c.args.sizes.now.items c.loop-k.k (record { row = 0; col = 0 }, sized 0 0) c.anchors-anchors.result.now c.anchors-anchors.ensures.anchors c.loop-k-test.true c.loop-k.sizes.items _ c.get_text.ensures c.in_ok-need.need _ c.loop-k.invariant.grown c.in_ok-need.ensures grew;
     }
 
 pub returns : goal.returns
@@ -37,5 +37,5 @@ returns g c =
     let t = map_grid g.R.Cell.CellText.text_of (g.R.GridStore.grid c.args.records.now) in
     record {
       long = c.loop-k.invariant.long;
-      grown = grown-all c.args.axis t c.args.spans.now c.args.sizes.now.items c.loop-k.sizes.items c.loop-k.k c.loop-k.invariant.grown (rw (← c.anchors-anchors.ensures.anchors) c.loop-k-test.false);
+      grown_sizes = grown-all c.args.axis t c.args.spans.now c.args.sizes.now.items c.loop-k.sizes.items c.loop-k.k c.loop-k.invariant.grown (rw (← c.anchors-anchors.ensures.anchors) c.loop-k-test.false);
     }

@@ -2,7 +2,7 @@ use Rattle.std.proofs.Common.{◌≡◌, ◌+◌}
 use Rattle.std.specs.Prelude.{chars, map}
 use Rattle.std.specs.Str.{IsUtf8}
 use Rattle.std.specs.Str.Iter.{chars_rest}
-use Rattle.tabled_draw.specs.Texts.{columns_in, shown}
+use Rattle.tabled_draw.specs.Texts.{text_width, shown_character}
 use Rattle.tabled_draw.proofs.texts.columns_in.Given as goal
 
 abbrev pub invariant-loop-c : goal.invariant-loop-c
@@ -10,5 +10,5 @@ invariant-loop-c l = record {
   can : goal.iterator-loop-c.can_next l.c-iterator;
   ends : goal.iterator-loop-c.is_finite l.c-iterator;
   utf8 : IsUtf8 (chars_rest l.c-iterator);
-  same : l.columns + columns_in (map shown (chars (chars_rest l.c-iterator))) ≡ columns_in (map shown (chars l.fn.line));
+  same : l.columns + text_width (map shown_character (chars (chars_rest l.c-iterator))) ≡ text_width (map shown_character (chars l.fn.line));
 }

@@ -1,12 +1,12 @@
 use Rattle.std.proofs.Common.{◌≡◌}
 use Rattle.std.specs.Prelude.{map, max}
 use Rattle.std.specs.List.{fold}
-use Rattle.tabled_draw.specs.Texts.{columns_in, shown_line}
+use Rattle.tabled_draw.specs.Texts.{text_width, shown_line}
 use Rattle.tabled_draw.proofs.texts.widest.Given as goal
 
 abbrev pub invariant-loop-line : goal.invariant-loop-line
 invariant-loop-line l = record {
   can : goal.iterator-loop-line.can_next l.line-iterator;
   ends : goal.iterator-loop-line.is_finite l.line-iterator;
-  most : l.most ≡ fold (λ most line. max most (columns_in line)) 0 (map shown_line (map (λ x. x.now) l.yielded));
+  most : l.most ≡ fold (λ most line. max most (text_width line)) 0 (map shown_line (map (λ x. x.now) l.yielded));
 }

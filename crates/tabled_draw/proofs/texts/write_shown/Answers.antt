@@ -5,7 +5,7 @@ use Rattle.std.specs.Str.Iter.{chars_rest}
 use Rattle.tabled_draw.proofs.Plain.{plain-bytes, plain-columns, plain-line}
 use Rattle.tabled_draw.proofs.Sent.{draws-bytes}
 use Rattle.tabled_draw.proofs.Shown.{counted, drawn-all, drawn-more, drawn-none, left-end, left-more}
-use Rattle.tabled_draw.specs.Texts.{columns_in, shown_line}
+use Rattle.tabled_draw.specs.Texts.{text_width, shown_line}
 use Rattle.unicode_width.specs.Width.{char_width}
 use Rattle.tabled_draw.proofs.texts.write_shown.Goals as goal
 
@@ -45,5 +45,5 @@ returns-then-is_plain g c =
     let line = plain-line c.args.line.now plain in
     record {
       draws = draws-bytes (g.W.Write.contents c.args.writer.now) (g.W.Write.contents c.write.new.writer) c.args.held.now c.write.new.self c.args.line.now _ (rw line (sym (plain-bytes c.args.line.now plain))) (rw c.as_bytes.ensures.value at c.in_ok-write.ensures.sends);
-      left = c.saturating_sub.ensures ∙ ap (λ n. c.args.room - n) (sym (plain-columns c.args.line.now plain) ∙ ap columns_in (sym line));
+      left = c.saturating_sub.ensures ∙ ap (λ n. c.args.room - n) (sym (plain-columns c.args.line.now plain) ∙ ap text_width (sym line));
     }

@@ -2,7 +2,7 @@ use Rattle.std.proofs.Common.{◌≡◌, ◌-◌}
 use Rattle.std.specs.Str.{IsUtf8}
 use Rattle.std.specs.Str.Iter.{chars_rest}
 use Rattle.tabled_draw.proofs.Shown.{Drawn}
-use Rattle.tabled_draw.specs.Texts.{columns_in, shown_line}
+use Rattle.tabled_draw.specs.Texts.{text_width, shown_line}
 use Rattle.tabled_draw.proofs.texts.write_shown.Given as goal
 
 abbrev pub invariant-loop-c : goal.invariant-loop-c
@@ -11,5 +11,5 @@ invariant-loop-c g l = record {
   ends : (goal.iterator-loop-c g).is_finite l.c-iterator;
   utf8 : IsUtf8 (chars_rest l.c-iterator);
   drawn : Drawn (g.W.Write.contents l.initial.writer) l.initial.held (g.W.Write.contents l.writer) l.held (shown_line (chars_rest l.c-iterator)) (shown_line l.fn.line);
-  left : l.left - columns_in (shown_line (chars_rest l.c-iterator)) ≡ l.fn.room - columns_in (shown_line l.fn.line);
+  left : l.left - text_width (shown_line (chars_rest l.c-iterator)) ≡ l.fn.room - text_width (shown_line l.fn.line);
 }

@@ -1,8 +1,8 @@
 use Rattle.std.proofs.Common.{[]}
 use Rattle.tabled_table.specs.Builder.{padded_to}
 use Rattle.tabled_table.proofs.RowByRow.{ChangedBy}
-use Rattle.tabled_language.specs.Lent.{texts_of}
+use Rattle.tabled_language.specs.Lent.{texts_in_row}
 use Rattle.tabled_language.proofs.padding.pad_each.Given as goal
 
 abbrev pub invariant-loop-record : goal.invariant-loop-record
-invariant-loop-record l = ChangedBy texts_of (padded_to l.columns []) l.fn.records l.records l.record-index
+invariant-loop-record l = ChangedBy texts_in_row (padded_to l.columns []) l.fn.records l.records l.record-index

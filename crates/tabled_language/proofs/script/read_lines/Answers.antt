@@ -2,7 +2,7 @@ use Rattle.std.proofs.Common.{ℕ, ◌≡◌, List, [], eqb, arith, rules}
 use Rattle.std.proofs.lemmas.List.{length-map}
 use Rattle.std.proofs.lemmas.List.Splits.{length-slice_split}
 use Rattle.std.proofs.lemmas.List.Sums.{count_by-le-length}
-use Rattle.tabled_language.specs.Line.{has, line_of, lines_of}
+use Rattle.tabled_language.specs.Line.{has_byte, says_line, lines_of}
 use Rattle.tabled_language.specs.Parsing.{draft_in}
 use Rattle.tabled_language.proofs.Escapes.{or-false-left, or-false-right}
 use Rattle.tabled_language.proofs.OwnWords.{parts_lack_separator}
@@ -13,10 +13,10 @@ pub overflow_add-number : goal.overflow_add-number
 overflow_add-number c =
     let p = λ (b : ℕ). eqb b 10 in
     let counted = has_read-counts (rw c.in-Some.ensures.steps at c.loop-line.invariant.read) in
-    omega (arith, counted, length-map (lines_of c.args.input.now) line_of, length-map c.next.new.self line_of, length-slice_split p c.args.input.now, count_by-le-length p c.args.input.now)
+    omega (arith, counted, length-map (lines_of c.args.input.now) says_line, length-map c.next.new.self says_line, length-slice_split p c.args.input.now, count_by-le-length p c.args.input.now)
 
 pub read_line-requires : goal.read_line-requires
-read_line-requires c = or-false-left (has 10 c.in-Some.line.now) _ (rw c.in-Some.ensures.steps at c.loop-line.invariant.no_newline)
+read_line-requires c = or-false-left (has_byte 10 c.in-Some.line.now) _ (rw c.in-Some.ensures.steps at c.loop-line.invariant.no_newline)
 
 pub returns-in-Err : goal.returns-in-Err
 returns-in-Err c =
@@ -33,7 +33,7 @@ loop-line-preserved c =
     let read = rw c.in_default.is at c.read_line.ensures in
     record {
       read = rw read.1 (has_read-more c.in-Some.line.now (rw c.in-Some.ensures.steps at c.loop-line.invariant.read) read.0);
-      no_newline = or-false-right (has 10 c.in-Some.line.now) _ (rw c.in-Some.ensures.steps at c.loop-line.invariant.no_newline);
+      no_newline = or-false-right (has_byte 10 c.in-Some.line.now) _ (rw c.in-Some.ensures.steps at c.loop-line.invariant.no_newline);
     }
 
 pub returns : goal.returns

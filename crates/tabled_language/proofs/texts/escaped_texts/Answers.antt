@@ -1,6 +1,6 @@
 use Rattle.std.proofs.Common.{arith, rules}
 use Rattle.std.proofs.lemmas.Grind.{common_steps}
-use Rattle.tabled_language.specs.Line.{has}
+use Rattle.tabled_language.specs.Line.{has_byte}
 use Rattle.tabled_language.proofs.Escapes.{or-false-left, or-false-right}
 use Rattle.tabled_language.proofs.OwnWords.{parts_lack, parts_lack_separator}
 use Rattle.tabled_language.proofs.texts.escaped_texts.Goals as goal
@@ -14,13 +14,13 @@ loop-word-init c = record {
 
 pub lent_text-requires : goal.lent_text-requires
 lent_text-requires c = (
-  or-false-left (has 9 c.in-Some.word.now) _ (rw c.in-Some.ensures.steps at c.loop-word.invariant.no_tab),
-  or-false-left (has 10 c.in-Some.word.now) _ (rw c.in-Some.ensures.steps at c.loop-word.invariant.no_newline),
+  or-false-left (has_byte 9 c.in-Some.word.now) _ (rw c.in-Some.ensures.steps at c.loop-word.invariant.no_tab),
+  or-false-left (has_byte 10 c.in-Some.word.now) _ (rw c.in-Some.ensures.steps at c.loop-word.invariant.no_newline),
 )
 
 pub loop-word-preserved : goal.loop-word-preserved
 loop-word-preserved c = record {
   texts = grind (arith, common_steps);
-  no_tab = or-false-right (has 9 c.in-Some.word.now) _ (rw c.in-Some.ensures.steps at c.loop-word.invariant.no_tab);
-  no_newline = or-false-right (has 10 c.in-Some.word.now) _ (rw c.in-Some.ensures.steps at c.loop-word.invariant.no_newline);
+  no_tab = or-false-right (has_byte 9 c.in-Some.word.now) _ (rw c.in-Some.ensures.steps at c.loop-word.invariant.no_tab);
+  no_newline = or-false-right (has_byte 10 c.in-Some.word.now) _ (rw c.in-Some.ensures.steps at c.loop-word.invariant.no_newline);
 }

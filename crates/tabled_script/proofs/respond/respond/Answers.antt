@@ -1,7 +1,7 @@
 use Rattle.std.proofs.Common.{◌≡◌, ℕ, ◌++◌, ◌⊎◌, inl, inr, Option, Result, Ok, Err, IfOk, IsOk, MatchResult, List, ap, subst, sym, arith, ◌∙◌}
 use Rattle.std.proofs.lemmas.Option.{IfSome_then}
 use Rattle.std.specs.Result.{OnOk}
-use Rattle.tabled_script.specs.Answer.{Faults, Shows}
+use Rattle.tabled_script.specs.Answer.{Faults, ShowsTable}
 use Rattle.tabled_script.proofs.respond.respond.Goals as goal
 
 -- the status of what was answered
@@ -28,7 +28,7 @@ faulty status (Err e) same memory shows faults (inr done) means two = absurd (om
 
 pub returns-clause-done : goal.returns-clause-done
 returns-clause-done g c = λ zero.
-    let Said = λ (bytes : List ℕ) (new : Option (List ℕ)). Shows g.F.Form.bytes g.F.Form.known bytes (g.W.Write.contents c.args.writer.now) new in
+    let Said = λ (bytes : List ℕ) (new : Option (List ℕ)). ShowsTable g.F.Form.bytes g.F.Form.known bytes (g.W.Write.contents c.args.writer.now) new in
     let both = shown c.finish-2.result c.answer-answered.result _ _ _ _ c.finish-2.ensures c.answer-answered.ensures.answered zero in
     let said : Said c.read_to_end.new.buf.items (g.W.Write.contents c.finish-2.new.writer) =
     subst (λ new. Said c.read_to_end.new.buf.items new) (sym both.1) (subst (λ bytes. Said bytes (g.W.Write.contents c.answer-answered.new.writer)) c.deref.ensures.value both.0) in

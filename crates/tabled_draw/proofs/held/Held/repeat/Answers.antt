@@ -1,13 +1,13 @@
 use Rattle.std.proofs.Common.{◌≡◌, ◌∙◌, ◌+◌, ◌-◌, ◌++◌, ap₂, arith, replicate, subst}
 use Rattle.std.proofs.lemmas.List.{replicate-append-replicate, take_all}
-use Rattle.tabled_draw.specs.Sent.{Sends}
+use Rattle.tabled_draw.specs.Sent.{GrowsBy}
 use Rattle.tabled_draw.proofs.Sent.{sends-held, sends-then}
 use Rattle.tabled_draw.proofs.held.Held.repeat.Goals as goal
 
 pub loop-preserved : goal.loop-preserved
 loop-preserved g c =
     let contents = g.W.Write.contents in
-    subst (Sends (contents c.args.writer.now) c.args.self.now (contents c.push.new.writer) c.push.new.self) (replicate-append-replicate c.loop.counter 1 c.args.byte)
+    subst (GrowsBy (contents c.args.writer.now) c.args.self.now (contents c.push.new.writer) c.push.new.self) (replicate-append-replicate c.loop.counter 1 c.args.byte)
     (sends-then (contents c.args.writer.now) (contents c.loop.writer) (contents c.push.new.writer) c.args.self.now c.loop.self c.push.new.self _ _ c.loop.invariant c.in_ok-push.ensures.sends)
 
 pub returns : goal.returns

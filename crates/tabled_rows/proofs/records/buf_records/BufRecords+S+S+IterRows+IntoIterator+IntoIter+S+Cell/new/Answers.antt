@@ -5,7 +5,7 @@ use Rattle.std.proofs.lemmas.List.{length-map, map_push}
 use Rattle.std.specs.Global.{Vec}
 use Rattle.std.specs.Iterator.Adapters.{fuse_steps}
 use Rattle.tabled_grid.specs.Grid.{map_items}
-use Rattle.tabled_rows.specs.Gave.{EachMayBeAsked, MayBeAsked}
+use Rattle.tabled_rows.specs.Gave.{EachSourceMayBeAsked, SourceMayBeAsked}
 use Rattle.tabled_rows.specs.Rows.{Shows, all_shown}
 use Rattle.tabled_rows.proofs.Buffered.{first-read, gives-fuse, gives-fused, gives-unread, read-row}
 use Rattle.tabled_rows.proofs.GaveBuffered.{listed-asked, next-asked, none-asked, none-came, others-asked, others-came, read-more}
@@ -19,7 +19,7 @@ loop-alloc-init g c =
     let cell = g.S.IterColumns.IntoIter.Iterator in
     let rows = g.S.IterRows.IntoIter.Iterator in
     let becomes = g.S.IterRows.IntoIterator.into_iter_gives in
-    let each : EachMayBeAsked becomes rows.can_next rows.remaining rows.next_gives (MayBeAsked row cell.can_next cell.remaining) c.iter_rows.result = elim c.requires [
+    let each : EachSourceMayBeAsked becomes rows.can_next rows.remaining rows.next_gives (SourceMayBeAsked row cell.can_next cell.remaining) c.iter_rows.result = elim c.requires [
       | inl may ↦ c.iter_rows.ensures.asked may
       | inr some ↦ listed-asked becomes rows.can_next rows.next_gives rows.remaining row cell.can_next cell.next_gives cell.remaining (Shows g.S.IntoRecords.shown) c.iter_rows.result some.0 (c.iter_rows.ensures.given some.0 some.1)
     ] in
@@ -130,7 +130,7 @@ returns-clause-asked g c =
       | else-loop-alloc-test w ↦ rw w.rows-is ((λ on. inv.1), rw inv.0 inv.2, others-asked _ _ _ _ _ _ _ _ inv.5 inv.0)
       | then-loop-alloc-test+in_default w ↦
           let over = w.in_default.ensures.steps.1 in
-          rw w.rows-is ((λ on. absurd (true≢false (sym over ∙ on))), rw over tt, none-asked g.S.IterRows.IntoIterator.into_iter_gives g.S.IterRows.IntoIter.Iterator.next_gives (MayBeAsked g.S.IterColumns.IntoIterator.into_iter_gives g.S.IterColumns.IntoIter.Iterator.can_next g.S.IterColumns.IntoIter.Iterator.remaining) g.S.IterColumns.IntoIterator.into_iter_gives g.S.IterColumns.IntoIter.Iterator.next_gives (g.S.IntoRecords.may_give c.args.records) _ over)
+          rw w.rows-is ((λ on. absurd (true≢false (sym over ∙ on))), rw over tt, none-asked g.S.IterRows.IntoIterator.into_iter_gives g.S.IterRows.IntoIter.Iterator.next_gives (SourceMayBeAsked g.S.IterColumns.IntoIterator.into_iter_gives g.S.IterColumns.IntoIter.Iterator.can_next g.S.IterColumns.IntoIter.Iterator.remaining) g.S.IterColumns.IntoIterator.into_iter_gives g.S.IterColumns.IntoIter.Iterator.next_gives (g.S.IntoRecords.may_give c.args.records) _ over)
     ]
 
 pub returns-clause-came : goal.returns-clause-came

@@ -1,7 +1,7 @@
 use Rattle.std.proofs.Common.{◌≡◌, ◌∙◌}
 use Rattle.std.specs.Iterator.Adapters.{fuse_steps}
 use Rattle.tabled_rows.specs.declared.records.buf_records.BufRecordsIter.{BufRecordsIter}
-use Rattle.tabled_rows.specs.Gave.{MayBeAsked}
+use Rattle.tabled_rows.specs.Gave.{SourceMayBeAsked}
 use Rattle.tabled_rows.specs.Steps.{can_come, still_to_come}
 use Rattle.tabled_rows.specs.declared.records.buf_records.BufIterator.{BufIterator}
 use Rattle.tabled_rows.proofs.Buffered.{gives-buffered}
@@ -24,8 +24,8 @@ returns-clause-asked g c = λ may iter is.
     let asked = rw (← c.self.view_is) at may in
     let row = g.S.IterColumns.IntoIterator.into_iter_gives in
     let cell = g.S.IterColumns.IntoIter.Iterator in
-    let row_asked = MayBeAsked row cell.can_next cell.remaining in
-    let given_asked = MayBeAsked (λ (s : BufIterator _ _) r. r ≡ s) (can_come cell.can_next) (still_to_come cell.remaining) in
+    let row_asked = SourceMayBeAsked row cell.can_next cell.remaining in
+    let given_asked = SourceMayBeAsked (λ (s : BufIterator _ _) r. r ≡ s) (can_come cell.can_next) (still_to_come cell.remaining) in
     rw is (
       asked.0,
       asked.1,

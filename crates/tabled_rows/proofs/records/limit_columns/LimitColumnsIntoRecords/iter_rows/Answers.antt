@@ -4,7 +4,7 @@ use Rattle.std.specs.Iterator.Adapters.{take_count, take_source}
 use Rattle.std.specs.declared.iter.Take.{Take}
 use Rattle.tabled_rows.specs.Rows.{Shows}
 use Rattle.tabled_rows.specs.declared.records.limit_columns.LimitColumnsIter.{LimitColumnsIter}
-use Rattle.tabled_rows.specs.Gave.{MayBeAsked}
+use Rattle.tabled_rows.specs.Gave.{SourceMayBeAsked}
 use Rattle.tabled_rows.proofs.Gave.{limited-along, limited-gave}
 use Rattle.tabled_rows.proofs.Listed.{gives-limited}
 use Rattle.tabled_rows.proofs.records.limit_columns.LimitColumnsIntoRecords.iter_rows.Goals as goal
@@ -25,8 +25,8 @@ returns-clause-asked g c = λ may iter is.
     let inner = c.iter_rows.ensures.asked (rw (← c.self.view_is) at may) c.into_iter.result c.into_iter.ensures.into_iter_gives in
     let row = g.I.IterColumns.IntoIterator.into_iter_gives in
     let cell = g.I.IterColumns.IntoIter.Iterator in
-    let row_asked = MayBeAsked row cell.can_next cell.remaining in
-    let limited_asked = MayBeAsked (λ (s : Take _) r. r ≡ s) (λ s. cell.can_next (take_source s)) (λ s. count_min (at_most (take_count s)) (cell.remaining (take_source s))) in
+    let row_asked = SourceMayBeAsked row cell.can_next cell.remaining in
+    let limited_asked = SourceMayBeAsked (λ (s : Take _) r. r ≡ s) (λ s. cell.can_next (take_source s)) (λ s. count_min (at_most (take_count s)) (cell.remaining (take_source s))) in
     rw is (inner.0, inner.1, limited-along g.I.IterRows.IntoIter.Iterator.next_gives row (λ (rows : LimitColumnsIter _). rows.rows) (λ rows. rows.limit) row_asked limited_asked _ (λ row cells asked limits it same. rw same ((asked _ limits.0).0, tt)) inner.2)
 
 pub returns-clause-came : goal.returns-clause-came

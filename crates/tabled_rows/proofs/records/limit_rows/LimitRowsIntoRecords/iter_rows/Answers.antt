@@ -1,5 +1,5 @@
 use Rattle.std.specs.Iterator.Adapters.{take_steps}
-use Rattle.tabled_rows.specs.Gave.{MayBeAsked}
+use Rattle.tabled_rows.specs.Gave.{SourceMayBeAsked}
 use Rattle.tabled_rows.proofs.Gave.{taken-along, taken-gave}
 use Rattle.tabled_rows.proofs.Listed.{gives-inside, gives-take}
 use Rattle.tabled_rows.specs.declared.records.limit_rows.LimitRowsIter.{LimitRowsIter}
@@ -21,7 +21,7 @@ returns-clause-asked g c = λ may iter is.
     let inner = c.iter_rows.ensures.asked (rw (← c.self.view_is) at may) c.into_iter.result c.into_iter.ensures.into_iter_gives in
     let steps = g.I.IterRows.IntoIter.Iterator.next_gives in
     let cell = g.I.IterColumns.IntoIter.Iterator in
-    let asked = MayBeAsked g.I.IterColumns.IntoIterator.into_iter_gives cell.can_next cell.remaining in
+    let asked = SourceMayBeAsked g.I.IterColumns.IntoIterator.into_iter_gives cell.can_next cell.remaining in
     rw is (rw c.take.ensures.source inner.0, tt, taken-along steps (λ (s : LimitRowsIter _). s.rows) asked _ (rw (← c.take.ensures.source) at inner.2))
 
 pub returns-clause-came : goal.returns-clause-came

@@ -1,7 +1,7 @@
 use Rattle.std.proofs.Common.{◌≡◌, ◌∙◌, true, ap, drop, subst}
 use Rattle.std.specs.Iterator.{DrainsIf}
 use Rattle.std.specs.Iterator.Adapters.{skip_count, skip_source, skip_steps}
-use Rattle.tabled_rows.specs.Gave.{MayBeAsked}
+use Rattle.tabled_rows.specs.Gave.{SourceMayBeAsked}
 use Rattle.tabled_rows.proofs.Gave.{skipped-along, skipped-gave}
 use Rattle.tabled_rows.proofs.Listed.{gives-inside, gives-skip}
 use Rattle.tabled_rows.specs.declared.records.skip_rows.SkipRowsIter.{SkipRowsIter}
@@ -23,7 +23,7 @@ returns-clause-asked g c = λ may iter is.
     let inner = c.iter_rows.ensures.asked (rw (← c.self.view_is) at may) c.into_iter.result c.into_iter.ensures.into_iter_gives in
     let steps = g.I.IterRows.IntoIter.Iterator.next_gives in
     let cell = g.I.IterColumns.IntoIter.Iterator in
-    let asked = MayBeAsked g.I.IterColumns.IntoIterator.into_iter_gives cell.can_next cell.remaining in
+    let asked = SourceMayBeAsked g.I.IterColumns.IntoIterator.into_iter_gives cell.can_next cell.remaining in
     rw is (rw c.skip.ensures.source inner.0, rw c.skip.ensures.source inner.1, skipped-along steps (λ (s : SkipRowsIter _). s.rows) asked _ (rw (← c.skip.ensures.source) at inner.2))
 
 pub returns-clause-came : goal.returns-clause-came
