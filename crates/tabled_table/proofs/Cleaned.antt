@@ -1,6 +1,6 @@
 -- Columns that are brought to the front of each row, and rows that are kept.
 use Rattle.std.proofs.Common.{◌≡◌, ◌≢◌, ℕ, zero, suc, ◌+◌, ◌<◌, ◌≤◌, Bool, true, false, cond, not, List, [], ◌∷◌, ◌++◌, ◌&&◌, inl, inr, ◌⊎◌, refl, ap, ap₂, sym, ◌∙◌, map, take, drop, set, get_or, length, replicate, arith}
-use Rattle.std.specs.List.{AllByRecursion, AllZip, EachIndex, filter, list_all, range_with_len, swap}
+use Rattle.std.specs.List.{AllByRecursion, AllZip, EachIndex, filter, list_all, swap}
 use Rattle.std.proofs.lemmas.Bool.{cases_eq}
 use Rattle.std.proofs.lemmas.List.{drop_more, drop-drop, drop-set-lt, get_or-drop, get_or-set_same, append-nil, length_push, get_or-set_other, length-map, length-set, length-take, map-append, map-id, take-set, take-set-le, take_more}
 use Rattle.std.proofs.lemmas.List.Edits.{length-swap, swap_is}
@@ -8,7 +8,7 @@ use Rattle.std.proofs.lemmas.List.FromFn.{filter_of_map_range_with_len_more}
 use Rattle.std.proofs.lemmas.Simd.{map-map}
 use Rattle.std.proofs.lemmas.Slice.Zip.{AllZip-map}
 use Rattle.std.proofs.Math.Nat.{add-zero}
-use Rattle.tabled_table.specs.Builder.{AreRecords, has_text_in, is_empty_text}
+use Rattle.tabled_table.specs.Builder.{AreRecords, has_text_in, is_empty_text, only_columns, text_columns}
 use Rattle.tabled_table.specs.Gathering.{brought_forward}
 
 -- the list with the members of ks in front, and from j on as it was
@@ -86,9 +86,9 @@ brought_next mark marks i front j xs inside is = ap (λ ms. brought_forward ms f
 
 -- n columns with a text, those below j in order, were brought to the front of each row
 pub record GatheredRows (columns kept j : ℕ) (old new : List (List (List ℕ))) : Type 0 where
-  pub count : kept ≡ length (filter (has_text_in old) (range_with_len 0 j))
+  pub count : kept ≡ length (text_columns j old)
   pub below : kept ≤ j
-  pub rows : AllZip (Gathered [] columns kept j (filter (has_text_in old) (range_with_len 0 j))) old new
+  pub rows : AllZip (Gathered [] columns kept j (text_columns j old)) old new
 
 module _ (columns : ℕ) where
   pub gathered_rows_none : (old : List (List (List ℕ))) → AreRecords columns old → GatheredRows columns 0 0 old old
@@ -102,14 +102,14 @@ module _ (columns : ℕ) where
   pub gathered_rows_next : (kept j k : ℕ) (old new : List (List (List ℕ))) → GatheredRows columns kept j old new → has_text_in new (j + k) ≡ has_text_in old (j + k)
   gathered_rows_next kept j k old new h = ap not (each old new h.rows)
     where
-      each : (xs ys : List (List (List ℕ))) → AllZip (Gathered [] columns kept j (filter (has_text_in old) (range_with_len 0 j))) xs ys →
+      each : (xs ys : List (List (List ℕ))) → AllZip (Gathered [] columns kept j (text_columns j old)) xs ys →
           list_all (λ row. is_empty_text (get_or row (j + k) [])) ys ≡ list_all (λ row. is_empty_text (get_or row (j + k) [])) xs
       each [] [] z = refl
       each [] (y ∷ ys) z = absurd z
       each (x ∷ xs) [] z = absurd z
       each (x ∷ xs) (y ∷ ys) z = ap₂ (λ a b. is_empty_text a && b) (gathered_next [] columns kept j k _ x y z.0) (each xs ys z.1)
 
-  gathered_columns : (j : ℕ) (old : List (List (List ℕ))) → filter (has_text_in old) (range_with_len 0 (j + 1)) ≡ filter (has_text_in old) (range_with_len 0 j) ++ cond (has_text_in old j) (j ∷ []) []
+  gathered_columns : (j : ℕ) (old : List (List (List ℕ))) → text_columns (j + 1) old ≡ text_columns j old ++ cond (has_text_in old j) (j ∷ []) []
   gathered_columns j old =
       let more = filter_of_map_range_with_len_more (has_text_in old) (λ k. k) 0 j j (omega arith) in
       rw (map-id, map-id) at more
@@ -117,7 +117,7 @@ module _ (columns : ℕ) where
   pub gathered_rows_even : (kept j : ℕ) (old new : List (List (List ℕ))) → GatheredRows columns kept j old new → AreRecords columns new
   gathered_rows_even kept j old new h = each old new h.rows
     where
-      each : (xs ys : List (List (List ℕ))) → AllZip (Gathered [] columns kept j (filter (has_text_in old) (range_with_len 0 j))) xs ys → AreRecords columns ys
+      each : (xs ys : List (List (List ℕ))) → AllZip (Gathered [] columns kept j (text_columns j old)) xs ys → AreRecords columns ys
       each [] [] z = tt
       each [] (y ∷ ys) z = absurd z
       each (x ∷ xs) [] z = absurd z
@@ -125,8 +125,8 @@ module _ (columns : ℕ) where
 
   gathered_rows_skip : (kept j : ℕ) (old new : List (List (List ℕ))) → GatheredRows columns kept j old new → has_text_in old j ≡ false → GatheredRows columns kept (j + 1) old new
   gathered_rows_skip kept j old new h none =
-      let ks = filter (has_text_in old) (range_with_len 0 j) in
-      let same : filter (has_text_in old) (range_with_len 0 (j + 1)) ≡ ks = gathered_columns j old ∙ ap (λ b. ks ++ cond b (j ∷ []) []) none ∙ append-nil ks in
+      let ks = text_columns j old in
+      let same : text_columns (j + 1) old ≡ ks = gathered_columns j old ∙ ap (λ b. ks ++ cond b (j ∷ []) []) none ∙ append-nil ks in
       record {
         count = h.count ∙ ap length (sym same);
         below = omega (arith, h.below);
@@ -135,8 +135,8 @@ module _ (columns : ℕ) where
 
   gathered_rows_swap : (kept j : ℕ) (old new : List (List (List ℕ))) → j < columns → GatheredRows columns kept j old new → has_text_in old j ≡ true → GatheredRows columns (kept + 1) (j + 1) old (map (λ row. swap row kept j) new)
   gathered_rows_swap kept j old new within h some =
-      let ks = filter (has_text_in old) (range_with_len 0 j) in
-      let more : filter (has_text_in old) (range_with_len 0 (j + 1)) ≡ ks ++ j ∷ [] = gathered_columns j old ∙ ap (λ b. ks ++ cond b (j ∷ []) []) some in
+      let ks = text_columns j old in
+      let more : text_columns (j + 1) old ≡ ks ++ j ∷ [] = gathered_columns j old ∙ ap (λ b. ks ++ cond b (j ∷ []) []) some in
       record {
         count = rw more (ap (λ n. n + 1) h.count ∙ sym (length_push ks j));
         below = omega (arith, h.below);
@@ -164,9 +164,9 @@ module _ (columns : ℕ) where
       rw past at next
 
   pub gathered_rows_all : (kept : ℕ) (old new : List (List (List ℕ))) → GatheredRows columns kept columns old new →
-      map (take kept) new ≡ map (λ row. map (λ j. get_or row j []) (filter (has_text_in old) (range_with_len 0 columns))) old
+      map (take kept) new ≡ only_columns (text_columns columns old) old
   gathered_rows_all kept old new h =
-      let ks = filter (has_text_in old) (range_with_len 0 columns) in
+      let ks = text_columns columns old in
       AllZip-map (λ row. map (λ j. get_or row j []) ks) old (map (take kept) new)
       (AllZip-changed (Gathered [] columns kept columns ks) (λ x y. y ≡ map (λ j. get_or x j []) ks) (take kept) (λ x y r. r.front) old new h.rows)
 
@@ -188,9 +188,9 @@ all-filter P test [] h = tt
 all-filter P test (x ∷ xs) h = all-filter_more P x (filter test xs) h.0 (all-filter P test xs h.1) (test x)
 
 -- the kept members of each row, where rows without a text are gone
-pub even-cleaned : (ks : List ℕ) (rows : List (List (List ℕ))) (test : List (List ℕ) → Bool) → AreRecords (length ks) (filter test (map (λ row. map (λ j. get_or row j []) ks) rows))
-even-cleaned ks rows test = all-filter (λ row. length row ≡ length ks) test (map (λ row. map (λ j. get_or row j []) ks) rows) (each rows)
+pub even-cleaned : (ks : List ℕ) (rows : List (List (List ℕ))) (test : List (List ℕ) → Bool) → AreRecords (length ks) (filter test (only_columns ks rows))
+even-cleaned ks rows test = all-filter (λ row. length row ≡ length ks) test (only_columns ks rows) (each rows)
   where
-    each : (xs : List (List (List ℕ))) → AreRecords (length ks) (map (λ row. map (λ j. get_or row j []) ks) xs)
+    each : (xs : List (List (List ℕ))) → AreRecords (length ks) (only_columns ks xs)
     each [] = tt
     each (x ∷ xs) = (length-map ks (λ j. get_or x j []), each xs)

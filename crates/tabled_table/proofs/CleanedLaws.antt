@@ -4,7 +4,7 @@ use Rattle.std.specs.List.{AllByRecursion, filter, list_all, range_with_len}
 use Rattle.std.proofs.lemmas.List.{get_or-map, length-map}
 use Rattle.std.proofs.lemmas.List.Elements.{All-get_or, filter_passes, recursion_from_All}
 use Rattle.std.proofs.lemmas.List.FromFn.{fill_by_all, length-range_with_len}
-use Rattle.tabled_table.specs.Builder.{AreRecords, Builder, IsClean, cleaned, columns_with_text, has_text_in, is_empty_text, row_has_text}
+use Rattle.tabled_table.specs.Builder.{AreRecords, Builder, IsClean, cleaned, columns_with_text, has_text_in, is_empty_text, only_columns, row_has_text}
 use Rattle.tabled_table.proofs.Cleaned.{even-cleaned}
 
 -- a row that has a text at j has a text
@@ -30,7 +30,7 @@ kept_more false r row rows j e kept others some =
 
 -- a column that had a text has it still
 column_kept : (ks : List ℕ) (j : ℕ) → j < length ks → (rows : List (List (List ℕ))) → has_text_in rows (get_or ks j 0) ≡ true →
-    has_text_in (filter row_has_text (map (λ row. map (λ k. get_or row k []) ks) rows)) j ≡ true
+    has_text_in (filter row_has_text (only_columns ks rows)) j ≡ true
 column_kept ks j h [] some = some
 column_kept ks j h (row ∷ rows) some =
     let texts = map (λ k. get_or row k []) ks in
@@ -49,7 +49,7 @@ all-range P a zero h = tt
 all-range P a (suc n) h = (h a (omega arith) (omega arith), all-range P (a + 1) n (λ k low high. h k (omega arith) (omega arith)))
 
 -- all members of each row
-rows_whole : (n : ℕ) (rows : List (List (List ℕ))) → AreRecords n rows → map (λ row. map (λ k. get_or row k []) (range_with_len 0 n)) rows ≡ rows
+rows_whole : (n : ℕ) (rows : List (List (List ℕ))) → AreRecords n rows → only_columns (range_with_len 0 n) rows ≡ rows
 rows_whole n [] even = refl
 rows_whole n (row ∷ rows) even = ap₂ (λ x xs. x ∷ xs) (sym (fill_by_all (λ k. get_or row k []) row n [] even.0 (λ k h. refl))) (rows_whole n rows even.1)
 
@@ -57,7 +57,7 @@ columns_kept : (b : Builder) (j : ℕ) → j < length (columns_with_text b) → 
 columns_kept b j h = column_kept (columns_with_text b) j h b.rows (All-get_or (λ k. has_text_in b.rows k ≡ true) (columns_with_text b) j 0 h (filter_passes (has_text_in b.rows) (range_with_len 0 b.columns)))
 
 rows_kept : (b : Builder) → AllByRecursion (λ row. row_has_text row ≡ true) (cleaned b).rows
-rows_kept b = recursion_from_All (λ row. row_has_text row ≡ true) (cleaned b).rows (filter_passes row_has_text (map (λ row. map (λ j. get_or row j []) (columns_with_text b)) b.rows))
+rows_kept b = recursion_from_All (λ row. row_has_text row ≡ true) (cleaned b).rows (filter_passes row_has_text (only_columns (columns_with_text b) b.rows))
 
 pub IsClean-cleaned : (b : Builder) → IsClean (cleaned b)
 IsClean-cleaned b = record { rows = rows_kept b; columns = columns_kept b }
@@ -67,6 +67,6 @@ cleaned-cleaned b =
     let rows = (cleaned b).rows in
     let n = length (columns_with_text b) in
     let all : columns_with_text (cleaned b) ≡ range_with_len 0 n = filter_same (has_text_in rows) (range_with_len 0 n) (all-range (λ j. has_text_in rows j ≡ true) 0 n (λ k low high. columns_kept b k (omega arith))) in
-    let whole : map (λ row. map (λ j. get_or row j []) (range_with_len 0 n)) rows ≡ rows = rows_whole n rows (even-cleaned (columns_with_text b) b.rows row_has_text) in
-    ap (λ (ks : List ℕ). let c : Builder = record b { columns = length ks; rows = filter row_has_text (map (λ row. map (λ j. get_or row j []) ks) rows) } in c) all
+    let whole : only_columns (range_with_len 0 n) rows ≡ rows = rows_whole n rows (even-cleaned (columns_with_text b) b.rows row_has_text) in
+    ap (λ (ks : List ℕ). let c : Builder = record b { columns = length ks; rows = filter row_has_text (only_columns ks rows) } in c) all
     ∙ ap₂ (λ (m : ℕ) (rs : List (List (List ℕ))). let c : Builder = record b { columns = m; rows = rs } in c) (length-range_with_len 0 n) (ap (filter row_has_text) whole ∙ filter_same row_has_text rows (rows_kept b))

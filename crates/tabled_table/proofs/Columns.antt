@@ -40,7 +40,7 @@ module _ {A B : Type 0} (f : A → List B) (insert_item : List B → B → List 
   pub puts_next : (old new : List A) (i : ℕ) (d : A) → PutsItems f insert_item items old new i → get_or new i d ≡ get_or old i d
   puts_next old new i d h = sym (first_left new i d) ∙ ap (λ rows. get_or rows 0 d) h.rest ∙ first_left old i d
 
-  pub puts_more : (old new : List A) (i : ℕ) (d y : A) (item : B) → i < length old → i < length items → PutsItems f insert_item items old new i → f y ≡ insert_item (f (get_or old i d)) (get_or items i item) → PutsItems f insert_item items old (set new i y) (i + 1)
+  puts_more : (old new : List A) (i : ℕ) (d y : A) (item : B) → i < length old → i < length items → PutsItems f insert_item items old new i → f y ≡ insert_item (f (get_or old i d)) (get_or items i item) → PutsItems f insert_item items old (set new i y) (i + 1)
   puts_more old new i d y item inside few h written =
       let within : i < length (map f old) = omega (arith, length-map old f) in
       let row = f (get_or old i d) in
@@ -67,6 +67,21 @@ module _ {A B : Type 0} (f : A → List B) (insert_item : List B → B → List 
       let within : length (map f old) ≤ i = omega (arith, length-map old f) in
       h.put ∙ ap₂ (λ xs ys. each_with insert_item xs items ++ ys) (take_all i (map f old) within) (drop_all i (map f old) within) ∙ append-nil (each_with insert_item (map f old) items)
 
+-- the next of the items that are left
+next_item : {A : Type 0} (xs rest : List A) (i : ℕ) (x : A) → drop i xs ≡ x ∷ rest → (x ≡ get_or xs i x) × (rest ≡ drop (i + 1) xs)
+next_item xs rest i x e = (ap (λ ys. get_or ys 0 x) (sym e) ∙ first_left xs i x, ap (drop 1) (sym e) ∙ drop-drop 1 i xs)
+
+-- the next row and its item, seen through functions
+pub next_put : {A B X : Type 0} (f : A → List B) (h : X → B) (insert_item : List B → B → List B) (items left : List X) (old new : List A) (i : ℕ) (d y : A) (x : X) → i < length old → length items ≡ length old → drop i items ≡ x ∷ left →
+    PutsItems f insert_item (map h items) old new i → f y ≡ insert_item (f (get_or new i d)) (h x) → PutsItems f insert_item (map h items) old (set new i y) (i + 1) × (left ≡ drop (i + 1) items)
+next_put f h insert_item items left old new i d y x inside many rest before written =
+    let next = next_item items left i x rest in
+    let few : i < length items = omega (arith, inside, many) in (
+      puts_more f insert_item (map h items) old new i d y (h x) inside (omega (arith, few, length-map items h)) before
+          (written ∙ ap₂ insert_item (ap f (puts_next f insert_item (map h items) old new i d before)) (ap h next.0 ∙ sym (get_or-map h items i x (h x) few))),
+      next.1,
+    )
+
 -- rows of one length are one longer with their items
 pub even-with_items : {B : Type 0} (n j : ℕ) (rows : List (List B)) (items : List B) → j ≤ n → AreRecords n rows → AreRecords (n + 1) (with_items j rows items)
 even-with_items {B} n j rows items within even =
@@ -78,7 +93,3 @@ pub even-without : {B : Type 0} (n j : ℕ) (rows : List (List B)) → j < n →
 even-without {B} n j rows within even =
     all-map (λ (row : List B). length row ≡ n) (λ (row : List B). length row ≡ n - 1) (λ row. remove row j)
     (λ row e. let less : length (remove row j) + 1 ≡ length row = length-remove row j (omega arith) in omega arith) rows even
-
--- the next of the items that are left
-pub next_item : {A : Type 0} (xs rest : List A) (i : ℕ) (x : A) → drop i xs ≡ x ∷ rest → (x ≡ get_or xs i x) × (rest ≡ drop (i + 1) xs)
-next_item xs rest i x e = (ap (λ ys. get_or ys 0 x) (sym e) ∙ first_left xs i x, ap (drop 1) (sym e) ∙ drop-drop 1 i xs)

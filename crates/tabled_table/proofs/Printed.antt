@@ -1,5 +1,5 @@
 -- Rows of the texts that entries print, and rows in order.
-use Rattle.std.proofs.Common.{◌≡◌, ℕ, ◌+◌, ◌<◌, Bool, List, [], ◌∷◌, ◌++◌, None, String, refl, ap, ap₂, sym, ◌∙◌, map, get_or, length, arith}
+use Rattle.std.proofs.Common.{◌≡◌, ℕ, ◌+◌, ◌<◌, Bool, List, [], ◌∷◌, ◌++◌, None, String, refl, ap, ap₂, subst, sym, ◌∙◌, map, get_or, length, arith}
 use Rattle.std.specs.Global.{Global, Vec}
 use Rattle.std.specs.Cmp.Lexicographic.{slice_cmp}
 use Rattle.std.specs.Iterator.{Drains}
@@ -14,9 +14,10 @@ use Rattle.std.proofs.lemmas.List.Sorted.{All-permutation}
 use Rattle.std.proofs.lemmas.Map.Iter.{rest_all, rest_so_far}
 use Rattle.tabled_table.specs.Builder.{AreRecords, row_texts}
 use Rattle.tabled_table.specs.Printed.{row_cmp}
+use Rattle.tabled_table.proofs.RowTexts.{texts_of}
 
 -- an iterator over a list gave that list
-pub drained : {X : Type 0} (items it all : List X) → it ≡ all → Drains (TakesFirst (λ (x : X). x)) it items → items ≡ all
+drained : {X : Type 0} (items it all : List X) → it ≡ all → Drains (TakesFirst (λ (x : X). x)) it items → items ≡ all
 drained {X} items it all is d =
     sym (rest_so_far (λ (x : X). x) items it d.1.0 d.1.1 ∙ ap₂ (λ xs ys. xs ++ ys) (map-id items) (rest_all (λ (x : X). x) d.1.0 d.0 None refl d.1.2) ∙ append-nil items) ∙ is
 
@@ -26,6 +27,10 @@ even-each n R h [] [] z = tt
 even-each n R h [] (row ∷ rows) z = absurd z
 even-each n R h (e ∷ entries) [] z = absurd z
 even-each n R h (e ∷ entries) (row ∷ rows) z = (h e row z.0, even-each n R h entries rows z.1)
+
+-- entries that were handed in, all that there are
+pub all-drained : {E : Type 0} (R : E → List (List ℕ) → Type 0) (all items it : List E) (rows : List (List (List ℕ))) → it ≡ all → Drains (TakesFirst (λ (x : E). x)) it items → AllZip R items rows → AllZip R all rows
+all-drained R all items it rows is d = subst (λ entries. AllZip R entries rows) (drained items it all is d)
 
 pub even-permutation : (n : ℕ) (xs ys : List (List (List ℕ))) → IsPermutation xs ys → AreRecords n xs → AreRecords n ys
 even-permutation n xs ys same even = recursion_from_All (λ (row : List (List ℕ)). length row ≡ n) ys (All-permutation (λ (row : List (List ℕ)). length row ≡ n) xs ys same (All-from_recursion (λ (row : List (List ℕ)). length row ≡ n) xs even))
@@ -45,4 +50,4 @@ row_cmp-texts (x ∷ xs) [] = refl
 row_cmp-texts (x ∷ xs) (y ∷ ys) = ap (ordering_then (string_cmp x y)) (row_cmp-texts xs ys)
 
 pub sorted_rows : (rows : List (Vec (String Global))) → IsSorted (λ (x y : Vec (String Global)). slice_cmp string_cmp x.items y.items) rows → IsSorted row_cmp (row_texts rows)
-sorted_rows rows sorted = sorted-map (λ (row : Vec (String Global)). map string_bytes row.items) (λ x y. is_lt (slice_cmp string_cmp x.items y.items)) (λ x y. is_lt (row_cmp x y)) (λ x y. ap is_lt (row_cmp-texts x.items y.items)) rows sorted
+sorted_rows rows sorted = sorted-map texts_of (λ x y. is_lt (slice_cmp string_cmp x.items y.items)) (λ x y. is_lt (row_cmp x y)) (λ x y. ap is_lt (row_cmp-texts x.items y.items)) rows sorted

@@ -12,6 +12,10 @@ use Rattle.tabled_grid.proofs.Lists.{map-remove}
 use Rattle.tabled_grid.proofs.Mapped.{maps_agree}
 use Rattle.tabled_table.specs.Builder.{AreRecords, row_texts}
 
+-- the texts of a row
+abbrev pub texts_of : Vec (String Global) → List (List ℕ)
+texts_of row = map string_bytes row.items
+
 -- the texts of rows are those of their cells
 row_texts-items : (rows : List (Vec (String Global))) → row_texts rows ≡ map (map string_bytes) (map_items rows)
 row_texts-items [] = refl
@@ -43,12 +47,11 @@ All-lens P n rows p even = All-from_recursion (λ (row : Vec (String Global)). P
 -- where the texts are the same, so are the lengths
 pub same_lens : (old new : List (Vec (String Global))) (i : ℕ) (d : Vec (String Global)) → row_texts new ≡ row_texts old → vec_len (get_or new i d) ≡ vec_len (get_or old i d)
 same_lens old new i d e =
-    let texts = λ (v : Vec (String Global)). map string_bytes v.items in
-    same_len (get_or new i d) (get_or old i d) (sym (get_or-map texts new i d) ∙ ap (λ (rows : List (List (List ℕ))). get_or rows i (texts d)) e ∙ get_or-map texts old i d)
+    same_len (get_or new i d) (get_or old i d) (sym (get_or-map texts_of new i d) ∙ ap (λ (rows : List (List (List ℕ))). get_or rows i (texts_of d)) e ∙ get_or-map texts_of old i d)
 
 -- rows written back into a vector
 pub rows_written : (lines : Vec (Vec (String Global))) (rows : List (Vec (String Global))) → length rows ≡ vec_len lines → row_texts (with_items lines rows).items ≡ row_texts rows
 rows_written lines rows long = ap row_texts (with_items_is lines rows long)
 
 pub vec_len-rows : (rows : Vec (Vec (String Global))) → vec_len rows ≡ length (row_texts rows.items)
-vec_len-rows rows = rows.ok.0 ∙ sym (length-map rows.items (λ (row : Vec (String Global)). map string_bytes row.items))
+vec_len-rows rows = rows.ok.0 ∙ sym (length-map rows.items texts_of)

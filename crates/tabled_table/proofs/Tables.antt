@@ -7,6 +7,7 @@ use Rattle.std.proofs.lemmas.List.{length-map}
 use Rattle.std.proofs.lemmas.Simd.{map-map}
 use Rattle.tabled_grid.specs.Grid.{IsEven, grid_of, map_grid, map_items, width_of}
 use Rattle.tabled_table.specs.Builder.{AreRecords, Builder, row_texts, table_of}
+use Rattle.tabled_table.proofs.RowTexts.{texts_of}
 
 row_width : (row : Vec (String Global)) → length row.items ≡ length (map string_bytes row.items)
 row_width row = sym (length-map row.items string_bytes)
@@ -29,7 +30,7 @@ cells-rows : (rows : List (Vec (String Global))) → map (map string_bytes) (map
 cells-rows rows = map-map (map string_bytes) (λ (row : Vec (String Global)). row.items) rows
 
 tall-rows : (rows : List (Vec (String Global))) → length (map_items rows) ≡ length (row_texts rows)
-tall-rows rows = length-map rows (λ (row : Vec (String Global)). row.items) ∙ sym (length-map rows (λ (row : Vec (String Global)). map string_bytes row.items))
+tall-rows rows = length-map rows (λ (row : Vec (String Global)). row.items) ∙ sym (length-map rows texts_of)
 
 pub map_grid-rows : (n : ℕ) (empty : List ℕ) (rows : List (Vec (String Global))) → AreRecords n (row_texts rows) →
     map_grid string_bytes (grid_of (map_items rows)) ≡ (let b : Builder = record { columns = n; rows = row_texts rows; empty = empty } in table_of b)

@@ -10,6 +10,7 @@ use Rattle.std.proofs.lemmas.Simd.{map-map}
 use Rattle.tabled_table.specs.Builder.{AreRecords, row_texts, with_items_behind}
 use Rattle.tabled_table.specs.Index.{column_of, columns_as_rows}
 use Rattle.tabled_table.proofs.Columns.{first_left}
+use Rattle.tabled_table.proofs.RowTexts.{texts_of}
 
 -- some rows were turned, and the others are left
 pub record Transposes (columns : ℕ) (all rest turned : List (List (List ℕ))) : Type 0 where
@@ -68,16 +69,15 @@ length-turned columns all rest turned h = rw h.turns (length-columns_as_rows col
 pub column_taken : (rows : List (Vec (String Global))) (column : List (String Global)) (i j : ℕ) (row : Vec (String Global)) (cell : String Global) → i < length rows → string_bytes cell ≡ get_or (map string_bytes (get_or rows i row).items) j [] →
     map string_bytes column ≡ column_of (take i (row_texts rows)) j → map string_bytes (column ++ cell ∷ []) ≡ column_of (take (i + 1) (row_texts rows)) j
 column_taken rows column i j row cell inside is before =
-    let texts = λ (v : Vec (String Global)). map string_bytes v.items in
-    let here : get_or (row_texts rows) i (texts row) ≡ texts (get_or rows i row) = get_or-map texts rows i row (texts row) inside in
-    let next : take (i + 1) (row_texts rows) ≡ take i (row_texts rows) ++ texts (get_or rows i row) ∷ [] = take_more (row_texts rows) i (texts row) (omega (arith, length-map rows texts)) ∙ ap (λ r. take i (row_texts rows) ++ r ∷ []) here in
+    let here : get_or (row_texts rows) i (texts_of row) ≡ texts_of (get_or rows i row) = get_or-map texts_of rows i row (texts_of row) inside in
+    let next : take (i + 1) (row_texts rows) ≡ take i (row_texts rows) ++ texts_of (get_or rows i row) ∷ [] = take_more (row_texts rows) i (texts_of row) (omega (arith, length-map rows texts_of)) ∙ ap (λ r. take i (row_texts rows) ++ r ∷ []) here in
     map_push string_bytes column cell
     ∙ ap₂ (λ ts t. ts ++ t ∷ []) before is
-    ∙ sym (map-append (λ r. get_or r j []) (take i (row_texts rows)) (texts (get_or rows i row) ∷ []))
+    ∙ sym (map-append (λ r. get_or r j []) (take i (row_texts rows)) (texts_of (get_or rows i row) ∷ []))
     ∙ ap (λ rs. column_of rs j) (sym next)
 
 pub column_all : (rows : List (Vec (String Global))) (i j : ℕ) → length rows ≤ i → column_of (take i (row_texts rows)) j ≡ column_of (row_texts rows) j
-column_all rows i j past = ap (λ rs. column_of rs j) (take_all i (row_texts rows) (omega (arith, length-map rows (λ (v : Vec (String Global)). map string_bytes v.items))))
+column_all rows i j past = ap (λ rs. column_of rs j) (take_all i (row_texts rows) (omega (arith, length-map rows texts_of)))
 
 same_on_range : {A : Type 0} (f g : ℕ → A) (a n : ℕ) → ((i : ℕ) → a ≤ i → i < a + n → f i ≡ g i) → map f (range_with_len a n) ≡ map g (range_with_len a n)
 same_on_range f g a zero same = refl

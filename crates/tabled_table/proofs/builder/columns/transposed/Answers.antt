@@ -1,9 +1,8 @@
-use Rattle.std.proofs.Common.{◌∙◌, String, ap, sym, map}
-use Rattle.std.specs.Global.{Global, Vec}
+use Rattle.std.proofs.Common.{◌∙◌, ap, sym, map}
 use Rattle.std.specs.String.{string_bytes}
 use Rattle.std.proofs.lemmas.List.{length-map}
 use Rattle.tabled_table.specs.Builder.{row_texts, with_items_behind}
-use Rattle.tabled_table.proofs.RowTexts.{rows_written, vec_len-texts}
+use Rattle.tabled_table.proofs.RowTexts.{rows_written, texts_of, vec_len-texts}
 use Rattle.tabled_table.proofs.Transposed.{length-turned, transposes_more, transposes_none}
 use Rattle.tabled_table.proofs.builder.columns.transposed.Goals as goal
 
@@ -16,7 +15,7 @@ push_items-requires c =
     vec_len-texts c.in-Some.row
     ∙ (rw c.in-Some.ensures.steps.0 at c.loop-row.invariant.even).0
     ∙ sym (length-turned _ _ _ _ c.loop-row.invariant)
-    ∙ length-map all.items (λ (row : Vec (String Global)). map string_bytes row.items)
+    ∙ length-map all.items texts_of
     ∙ sym (c.deref_mut.ensures.len ∙ all.ok.0)
 
 pub loop-row-preserved : goal.loop-row-preserved

@@ -1,13 +1,13 @@
-use Rattle.std.proofs.Common.{String, map, refl}
-use Rattle.std.specs.Global.{Global, Vec}
+use Rattle.std.proofs.Common.{refl}
 use Rattle.std.specs.String.{string_bytes}
 use Rattle.std.proofs.lemmas.List.{map_push}
 use Rattle.std.proofs.lemmas.Slice.Zip.{all_zipped_more}
+use Rattle.tabled_table.proofs.RowTexts.{texts_of}
 use Rattle.tabled_table.proofs.builder.maps.single_rows.Goals as goal
 
 pub loop-key-preserved : goal.loop-key-preserved
 loop-key-preserved g c =
-    rw (c.in_ok-push-2.ensures.items, map_push (λ (row : Vec (String Global)). map string_bytes row.items) c.loop-key.all.items c.push.new.self)
+    rw (c.in_ok-push-2.ensures.items, map_push texts_of c.loop-key.all.items c.push.new.self)
     (all_zipped_more _ _ _ _ _ c.loop-key.invariant (record {
       key = string_bytes c.in_ok-to_string.field-0;
       is = rw (c.in_ok-push.ensures.items, c.in_ok-row.ensures.items) refl;

@@ -6,6 +6,7 @@ use Rattle.std.proofs.lemmas.List.{with_items_is}
 use Rattle.tabled_table.specs.Builder.{padded_to, row_texts}
 use Rattle.tabled_grid.proofs.Lists.{map-insert}
 use Rattle.tabled_table.proofs.Padded.{padded_all}
+use Rattle.tabled_table.proofs.RowTexts.{texts_of}
 use Rattle.tabled_table.proofs.builder.rows.insert_row.Goals as goal
 use Rattle.tabled_table.proofs.builder.rows.insert_row.Goals.{then-from-len+in_ok-pad_each, else-from-len}
 
@@ -27,5 +28,5 @@ returns-clause-ok c =
           ∙ ap (λ n. map (padded_to n c.args.empty.now) (row_texts c.args.rows.now.items)) same
     ] in
     ap row_texts (rw c.unwrap.ensures at c.insert.ensures.items)
-    ∙ map-insert (λ (row : Vec (String Global)). map string_bytes row.items) c.if-from-len.rows.items c.args.i c.args.row
+    ∙ map-insert texts_of c.if-from-len.rows.items c.args.i c.args.row
     ∙ ap (λ rows. insert rows c.args.i (map string_bytes c.args.row.items)) padded

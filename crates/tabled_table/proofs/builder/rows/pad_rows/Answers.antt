@@ -1,16 +1,14 @@
-use Rattle.std.proofs.Common.{◌∙◌, String, arith, map, replicate}
-use Rattle.std.specs.Global.{Global, Vec}
-use Rattle.std.specs.String.{string_bytes}
+use Rattle.std.proofs.Common.{◌∙◌, arith, replicate}
 use Rattle.std.proofs.lemmas.List.{length-map, map_push}
 use Rattle.tabled_table.specs.Builder.{row_texts}
 use Rattle.tabled_table.proofs.Padded.{padded_to-nil, padded_to-push, take_front-append}
+use Rattle.tabled_table.proofs.RowTexts.{texts_of}
 use Rattle.tabled_table.proofs.builder.rows.pad_rows.Goals as goal
 
 pub loop-alloc-preserved : goal.loop-alloc-preserved
 loop-alloc-preserved c =
     let was = c.loop-alloc.rows.items in
-    let texts = λ (row : Vec (String Global)). map string_bytes row.items in
-    rw (c.in_ok-push.ensures.items, map_push texts was c.pad.new.row, c.in_ok-pad.ensures.ok, c.new-row.ensures.items, padded_to-nil) (record {
-      padded = padded_to-push c.args.count (replicate c.args.columns c.args.empty.now) (row_texts was) (omega (arith, length-map was texts)) ∙ c.loop-alloc.invariant.padded;
-      front = take_front-append _ (row_texts was) _ _ (omega (arith, length-map c.args.rows.now.items texts)) c.loop-alloc.invariant.front;
+    rw (c.in_ok-push.ensures.items, map_push texts_of was c.pad.new.row, c.in_ok-pad.ensures.ok, c.new-row.ensures.items, padded_to-nil) (record {
+      padded = padded_to-push c.args.count (replicate c.args.columns c.args.empty.now) (row_texts was) (omega (arith, length-map was texts_of)) ∙ c.loop-alloc.invariant.padded;
+      front = take_front-append _ (row_texts was) _ _ (omega (arith, length-map c.args.rows.now.items texts_of)) c.loop-alloc.invariant.front;
     })

@@ -1,39 +1,29 @@
-use Rattle.std.proofs.Common.{◌≡◌, ◌∙◌, List, [], ℕ, ap, map, not, refl, slice_index_or, take}
-use Rattle.std.specs.List.{filter, list_all, range_with_len}
+use Rattle.std.proofs.Common.{◌≡◌, ◌∙◌, ap, map, refl, take}
+use Rattle.std.specs.List.{filter}
 use Rattle.std.specs.Vec.{with_items}
-use Rattle.tabled_table.specs.Builder.{has_text_in, is_empty_text, row_texts}
+use Rattle.tabled_table.specs.Builder.{only_columns, row_has_text, row_texts, text_columns}
 use Rattle.tabled_table.proofs.Cleaned.{even-cleaned}
 use Rattle.tabled_table.proofs.RowTexts.{rows_written}
 use Rattle.tabled_table.proofs.builder.table_builder.Builder.clean.Goals as goal
+use Rattle.tabled_table.proofs.builder.table_builder.Builder.clean.Goals.{After-retain_texts}
 
-abbrev with_text : List (List (List ℕ)) → List (List (List ℕ))
-with_text rows = filter (λ row. not (list_all is_empty_text row)) rows
-
-abbrev kept_of : ℕ → List (List (List ℕ)) → List (List (List ℕ))
-kept_of columns rows = map (λ row. map (λ j. slice_index_or row j []) (filter (has_text_in rows) (range_with_len 0 columns))) rows
+-- the rows that are left
+left : (c : After-retain_texts) → row_texts c.retain_texts.new.rows.items ≡ filter row_has_text (only_columns (text_columns c.self.inside.count_columns (row_texts c.self.inside.rows.items)) (row_texts c.self.inside.rows.items))
+left c =
+    let n = c.self.inside.count_columns in
+    let once = with_items c.self.inside.rows c.gather-kept.new.rows in
+    c.retain_texts.ensures
+    ∙ ap (filter row_has_text) (rows_written once c.truncate_each.new.rows (c.truncate_each.auto.rows ∙ c.deref_mut-2.ensures.len)
+    ∙ c.truncate_each.ensures
+    ∙ ap (λ rows. map (take c.gather-kept.result) (row_texts rows)) c.deref_mut-2.ensures.value
+    ∙ ap (map (take c.gather-kept.result)) (rows_written c.self.inside.rows c.gather-kept.new.rows (c.gather-kept.auto.rows ∙ c.deref_mut.ensures.len))
+    ∙ c.gather-kept.ensures.front
+    ∙ ap (λ rows. only_columns (text_columns n (row_texts rows)) (row_texts rows)) c.deref_mut.ensures.value)
 
 pub invariant_of-self : goal.invariant_of-self
 invariant_of-self c =
-    let once = with_items c.self.inside.rows c.gather-kept.new.rows in
-    let texts : row_texts c.retain_texts.new.rows.items ≡ with_text (kept_of c.self.inside.count_columns (row_texts c.self.inside.rows.items)) =
-    c.retain_texts.ensures
-    ∙ ap with_text (rows_written once c.truncate_each.new.rows (c.truncate_each.auto.rows ∙ c.deref_mut-2.ensures.len)
-    ∙ c.truncate_each.ensures
-    ∙ ap (λ rows. map (take c.gather-kept.result) (row_texts rows)) c.deref_mut-2.ensures.value
-    ∙ ap (map (take c.gather-kept.result)) (rows_written c.self.inside.rows c.gather-kept.new.rows (c.gather-kept.auto.rows ∙ c.deref_mut.ensures.len))
-    ∙ c.gather-kept.ensures.front
-    ∙ ap (λ rows. kept_of c.self.inside.count_columns (row_texts rows)) c.deref_mut.ensures.value) in
-    rw (texts, c.gather-kept.ensures.count, c.deref_mut.ensures.value) (even-cleaned (filter (has_text_in (row_texts c.self.inside.rows.items)) (range_with_len 0 c.self.inside.count_columns)) (row_texts c.self.inside.rows.items) (λ row. not (list_all is_empty_text row)))
+    let rows = row_texts c.self.inside.rows.items in
+    rw (left (goal.at.invariant_of-self c).After-retain_texts, c.gather-kept.ensures.count, c.deref_mut.ensures.value) (even-cleaned (text_columns c.self.inside.count_columns rows) rows row_has_text)
 
 pub returns : goal.returns
-returns c =
-    let once = with_items c.self.inside.rows c.gather-kept.new.rows in
-    let texts : row_texts c.retain_texts.new.rows.items ≡ with_text (kept_of c.self.inside.count_columns (row_texts c.self.inside.rows.items)) =
-    c.retain_texts.ensures
-    ∙ ap with_text (rows_written once c.truncate_each.new.rows (c.truncate_each.auto.rows ∙ c.deref_mut-2.ensures.len)
-    ∙ c.truncate_each.ensures
-    ∙ ap (λ rows. map (take c.gather-kept.result) (row_texts rows)) c.deref_mut-2.ensures.value
-    ∙ ap (map (take c.gather-kept.result)) (rows_written c.self.inside.rows c.gather-kept.new.rows (c.gather-kept.auto.rows ∙ c.deref_mut.ensures.len))
-    ∙ c.gather-kept.ensures.front
-    ∙ ap (λ rows. kept_of c.self.inside.count_columns (row_texts rows)) c.deref_mut.ensures.value) in
-    rw (← c.self.view_is, texts, c.gather-kept.ensures.count, c.deref_mut.ensures.value) refl
+returns c = rw (← c.self.view_is, left (goal.at.returns c).After-retain_texts, c.gather-kept.ensures.count, c.deref_mut.ensures.value) refl

@@ -1,9 +1,8 @@
-use Rattle.std.proofs.Common.{ap, length, subst}
-use Rattle.std.specs.List.{AllZip}
+use Rattle.std.proofs.Common.{ap, length}
 use Rattle.std.proofs.lemmas.Result.{IfOk-weaker}
 use Rattle.tabled_table.specs.Builder.{row_texts}
 use Rattle.tabled_table.specs.Printed.{PrintsOne}
-use Rattle.tabled_table.proofs.Printed.{drained, even-each, even-permutation}
+use Rattle.tabled_table.proofs.Printed.{all-drained, even-each, even-permutation}
 use Rattle.tabled_table.proofs.builder.table_builder.Builder.from_hash_set.Goals as goal
 
 pub of_rows-requires : goal.of_rows-requires
@@ -16,7 +15,7 @@ returns g c =
     let gave = c.in_ok-rows.ensures in
     IfOk-weaker c.of_rows.result _ _ (λ b e. record {
       unsorted = gave.2;
-      each = subst (λ entries. AllZip (PrintsOne g.K.Display.output) entries gave.2) (drained gave.1 gave.0 c.args.set.keys gave.3.0 gave.4) gave.5;
+      each = all-drained _ c.args.set.keys gave.1 gave.0 gave.2 gave.3.0 gave.4 gave.5;
       rows = row_texts c.sort_rows.new.rows.items;
       same = rw gave.6 at c.sort_rows.ensures.same;
       sorted = c.in_ok-sort_rows.ensures.sorted;

@@ -1,10 +1,9 @@
-use Rattle.std.proofs.Common.{◌≡◌, ◌≤◌, ◌∙◌, ◌+◌, String, arith, ap, ap₂, refl, map, sym, length, take}
-use Rattle.std.specs.Global.{Global, Vec}
+use Rattle.std.proofs.Common.{◌≡◌, ◌≤◌, ◌∙◌, ◌+◌, arith, ap, ap₂, refl, map, sym, length, take}
 use Rattle.std.specs.String.{string_bytes}
-use Rattle.std.proofs.lemmas.List.{length-map, take-map}
+use Rattle.std.proofs.lemmas.List.{take-map}
 use Rattle.tabled_table.specs.Builder.{padded_to, row_texts, with_items}
 use Rattle.tabled_table.proofs.Columns.{even-with_items}
-use Rattle.tabled_table.proofs.RowTexts.{All-lens, rows_written}
+use Rattle.tabled_table.proofs.RowTexts.{All-lens, rows_written, vec_len-rows}
 use Rattle.tabled_table.proofs.builder.table_builder.Builder.insert_column.Goals as goal
 
 pub insert_items-requires-clause-within : goal.insert_items-requires-clause-within
@@ -22,7 +21,7 @@ returns-clause-ok g c =
     let wider : c.in_ok-wider.wider ≡ c.self.inside.count_columns + 1 = grind (arith) in
     let rows = c.self.inside.rows.items in
     let empty = string_bytes c.self.inside.empty_text in
-    let count : c.len-count.result ≡ length (row_texts rows) = c.len-count.ensures ∙ c.self.inside.rows.ok.0 ∙ sym (length-map rows (λ (row : Vec (String Global)). map string_bytes row.items)) in
+    let count : c.len-count.result ≡ length (row_texts rows) = c.len-count.ensures ∙ vec_len-rows c.self.inside.rows in
     let items : map string_bytes c.pad.new.row.items ≡ padded_to (length (row_texts rows)) empty (take (length (row_texts rows)) (map string_bytes given.1)) =
     c.in_ok-pad.ensures.ok
     ∙ ap₂ (λ e ts. padded_to c.len-count.result e ts) c.as_str.ensures.value (ap (map string_bytes) c.truncate.ensures.items ∙ sym (take-map string_bytes c.len-count.result c.in_ok-items.items.items) ∙ ap (take c.len-count.result) given.4)

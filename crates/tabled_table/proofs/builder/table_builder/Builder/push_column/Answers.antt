@@ -1,12 +1,10 @@
-use Rattle.std.proofs.Common.{◌≡◌, ◌∙◌, ◌+◌, String, arith, ap, ap₂, map, sym, length}
-use Rattle.std.specs.Global.{Global, Vec}
+use Rattle.std.proofs.Common.{◌≡◌, ◌∙◌, ◌+◌, arith, ap, ap₂, map, length}
 use Rattle.std.specs.String.{string_bytes}
-use Rattle.std.proofs.lemmas.List.{length-map}
 use Rattle.tabled_table.specs.Builder.{padded_to, row_texts}
 use Rattle.tabled_table.proofs.Columns.{even-with_items}
 use Rattle.tabled_table.proofs.Padded.{even-more}
 use Rattle.tabled_table.proofs.Records.{with_last_column-padded}
-use Rattle.tabled_table.proofs.RowTexts.{vec_len-texts}
+use Rattle.tabled_table.proofs.RowTexts.{vec_len-rows, vec_len-texts}
 use Rattle.tabled_table.proofs.builder.table_builder.Builder.push_column.Goals as goal
 
 pub invariant_of-self-2 : goal.invariant_of-self-2
@@ -24,5 +22,5 @@ returns-clause-ok g c =
     let items : map string_bytes row.items ≡ padded_to (length (row_texts c.self.inside.rows.items)) (string_bytes c.self.inside.empty_text) (map string_bytes given.1) =
     c.in_ok-pad.ensures.ok
     ∙ ap₂ (λ e ts. padded_to c.len-count.result e ts) c.as_str-empty.ensures.value given.4
-    ∙ ap (λ n. padded_to n (string_bytes c.self.inside.empty_text) (map string_bytes given.1)) (c.len-count.ensures ∙ c.self.inside.rows.ok.0 ∙ sym (length-map c.self.inside.rows.items (λ (row : Vec (String Global)). map string_bytes row.items))) in
+    ∙ ap (λ n. padded_to n (string_bytes c.self.inside.empty_text) (map string_bytes given.1)) (c.len-count.ensures ∙ vec_len-rows c.self.inside.rows) in
     (given.0, given.1, given.2, given.3, rw (← c.self.view_is, wider, c.in_ok-push_items.ensures.ok, c.as_str-empty.ensures.value) (with_last_column-padded _ _ _ (map string_bytes row.items) items (vec_len-texts row)))

@@ -1,11 +1,10 @@
-use Rattle.std.proofs.Common.{String, map, refl}
-use Rattle.std.specs.Global.{Global, Vec}
-use Rattle.std.specs.String.{string_bytes}
+use Rattle.std.proofs.Common.{refl}
 use Rattle.tabled_grid.proofs.Lists.{all-remove, map-remove}
+use Rattle.tabled_table.proofs.RowTexts.{texts_of}
 use Rattle.tabled_table.proofs.builder.table_builder.Builder.remove_record.Goals as goal
 
 pub invariant_of-self : goal.invariant_of-self
-invariant_of-self c = rw (c.remove-record.ensures.items, map-remove (λ (row : Vec (String Global)). map string_bytes row.items) c.self.inside.rows.items c.args.i) (all-remove _ _ c.args.i c.self.invariant)
+invariant_of-self c = rw (c.remove-record.ensures.items, map-remove texts_of c.self.inside.rows.items c.args.i) (all-remove _ _ c.args.i c.self.invariant)
 
 pub returns : goal.returns
-returns c = record { removed = rw (← c.self.view_is, c.remove-record.ensures.items, map-remove (λ (row : Vec (String Global)). map string_bytes row.items) c.self.inside.rows.items c.args.i) refl }
+returns c = record { removed = rw (← c.self.view_is, c.remove-record.ensures.items, map-remove texts_of c.self.inside.rows.items c.args.i) refl }
