@@ -5,7 +5,7 @@ use tabled_grid::config::SpannedConfig;
 use tabled_grid::records::{
     CellText, ExactRecords, PeekableRecords, Records, RecordsMut, Resizable,
 };
-use tabled_language::{Script, padded, parse};
+use tabled_language::{LentText, Script, padded, parse};
 use tabled_steps::run;
 
 /// Does the steps of a script to a store, or answers the number of the first faulty line.
@@ -47,4 +47,24 @@ pub fn ends_with(alloc: Global, input: &[u8]) -> Result<Result<(usize, usize), u
         Ok(()) => Ok(Ok((cells.count_rows(), cells.count_columns()))),
         Err((_, error)) => Err(error),
     }
+}
+
+/// The words that the records of a script lend, each behind a tab.
+pub fn lent_words(alloc: Global, input: &[u8]) -> Result<String, AllocError> {
+    let mut words = String::new(alloc);
+    let Ok(script) = parse(alloc, input)? else {
+        return Ok(words);
+    };
+    for record in &script.records {
+        for text in record {
+            let LentText::Lent(plain) = text else {
+                continue;
+            };
+            if text.as_word() == Some(plain.as_word()) {
+                words.push('\t')?;
+                words.push_str(plain.as_word())?;
+            }
+        }
+    }
+    Ok(words)
 }

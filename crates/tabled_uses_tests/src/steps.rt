@@ -7,7 +7,7 @@ use tabled_grid::records::{
     CellText, ExactRecords, PeekableRecords, Records, RecordsMut, Resizable,
 };
 use tabled_testing::{flat, is_word, merged, nested, spelled_merged};
-use tabled_uses::language::{does, ends_with};
+use tabled_uses::language::{does, ends_with, lent_words};
 use tabled_uses::steps::runs;
 
 /// How many steps are run, and the height of the second cell after them.
@@ -71,6 +71,20 @@ fn scripts_end_with_their_tables(rt: HostRuntime) -> Result<(), Fail> {
             ends_with(rt.alloc(), script.as_bytes())? == want,
             "{script:?}"
         );
+    }
+    Ok(())
+}
+
+#[test]
+fn words_without_escapes_are_lent(rt: HostRuntime) -> Result<(), Fail> {
+    let alloc = rt.alloc();
+    for (script, want) in [
+        ("row\ta\t\tbc\n", "\ta\t\tbc"),
+        ("row\ta\t\\\\\tb\n", "\ta\tb"),
+        ("row\t\\t\nrow\ta long text with an escape:\\n\n", ""),
+    ] {
+        let words = lent_words(alloc, script.as_bytes())?;
+        assert!(rt; words.as_str() == want, "{script:?}");
     }
     Ok(())
 }
