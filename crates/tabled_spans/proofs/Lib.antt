@@ -16,4 +16,5 @@ pub mod SpanChanges
 pub mod SpanGeometry
 pub mod SpanWrites
 pub mod Tails
+pub mod Visible
 pub mod Widths

@@ -1,21 +1,26 @@
 -- What a span over visible cells changes at one place after another.
-use Rattle.std.specs.Prelude.{◌≡◌, ◌+◌, ◌-◌, ◌<◌, ◌≤◌, ℕ, true, min, List, [], ◌∷◌, if◌then◌else◌}
-use Rattle.tabled_grid.specs.Covers.{Cover, cover_in}
+use Rattle.std.specs.Prelude.{◌≡◌, ◌+◌, ◌-◌, ◌<◌, ◌≤◌, ℕ, Bool, true, min, not, List, [], ◌∷◌, if◌then◌else◌}
+use Rattle.std.specs.List.{list_all}
+use Rattle.tabled_grid.specs.Covers.{Cover, cover_in, hides}
 use Rattle.tabled_grid.specs.Entity.{names}
 use Rattle.tabled_grid.specs.Spans.{Rectangle, SpanMap, size_at, with_sizes}
 use Rattle.tabled_grid.specs.declared.config.entity.Entity.{Entity}
 use Rattle.tabled_grid.specs.declared.config.position.Position.{Position}
 use Rattle.tabled_grid.specs.declared.records.axis.Axis.{Axis}
 use Rattle.tabled_grid.specs.Axis.{count_of, line_of, resized}
-use Rattle.tabled_spans.specs.Spanned.{are_visible}
+use Rattle.tabled_spans.specs.Spanned.{are_visible, stretch}
+
+-- the rectangle of an anchor hides none of n cells, from a place on
+abbrev pub is_clear : Axis → Position → ℕ → Rectangle → Bool
+is_clear axis p many e = list_all (λ (q : Position). not (hides q e)) (stretch axis p (line_of axis p) many)
 
 -- the new size at a place, if n cells from there on are all visible
 abbrev pub change_at : Axis → SpanMap → Position → ℕ → List Rectangle
 change_at axis m p many = if are_visible axis m p many then (p, resized axis (size_at m p) many) ∷ [] else []
 
--- the map with that size
-abbrev pub with_change_at : Axis → SpanMap → Position → ℕ → SpanMap
-with_change_at axis m p many = with_sizes m (change_at axis m p many)
+-- what the map with that size covers of a block
+abbrev pub cover_changed_at : Axis → SpanMap → Position → ℕ → Position → ℕ → ℕ → Cover
+cover_changed_at axis m p many first rows columns = cover_in (with_sizes m (change_at axis m p many)) first rows columns
 
 -- P holds of each map with these covered cells, and of its block, where the map has at a place the size that another has there
 abbrev pub ForEachCovering : Cover → SpanMap → Position → (SpanMap → Position → ℕ → ℕ → Type 0) → Type 0

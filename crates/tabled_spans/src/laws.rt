@@ -7,9 +7,10 @@ ghost use Rattle.tabled_grid.specs.Spans.{SpanMap};
 ghost use Rattle.tabled_grid.specs.declared.config.position.Position.{Position};
 ghost use Rattle.tabled_grid.specs.declared.records.axis.Axis.{Axis};
 ghost use Rattle.tabled_options.specs.Kept.{KeptOnEach};
-ghost use Rattle.tabled_options.specs.Shapes.{FitsAfter, FitsAfterEach};
+ghost use Rattle.tabled_options.specs.Shapes.{FitsAfterEach};
 ghost use Rattle.tabled_spans.specs.Runs.{JoinsIfEqual, MergedIsRun, MergesRuns, RunIsMerged, further};
 ghost use Rattle.tabled_grid.specs.declared.config.size.Size.{Size};
+ghost use Rattle.tabled_spans.specs.Keeping.{KeepsFitting};
 ghost use Rattle.tabled_spans.specs.Spanned.{KeepsMidway};
 
 use crate::merge::{MergeDuplicatesHorizontal, MergeDuplicatesVertical};
@@ -52,7 +53,7 @@ pub fn horizontal_panels_keep_merged_cells_fitting<R, D>(_panel: &HorizontalPane
 where
     R: Records + ExactRecords + Resizable + RecordsMut<String>,
     R::Cell: CellText,
-    ensures { let how = ⟦<HorizontalPanel as TableOption<R, SpannedConfig, D>>⟧ in FitsAfter (how.does _panel.now) (how.leaves _panel.now) }
+    ensures { KeepsFitting ⟦<HorizontalPanel as TableOption<R, SpannedConfig, D>>⟧ _panel.now }
 {}
 
 /// So does a vertical panel.
@@ -60,7 +61,7 @@ pub fn vertical_panels_keep_merged_cells_fitting<R, D>(_panel: &VerticalPanel)
 where
     R: Records + ExactRecords + Resizable + RecordsMut<String>,
     R::Cell: CellText,
-    ensures { let how = ⟦<VerticalPanel as TableOption<R, SpannedConfig, D>>⟧ in FitsAfter (how.does _panel.now) (how.leaves _panel.now) }
+    ensures { KeepsFitting ⟦<VerticalPanel as TableOption<R, SpannedConfig, D>>⟧ _panel.now }
 {}
 
 /// So does a header.
@@ -68,7 +69,7 @@ pub fn headers_keep_merged_cells_fitting<R, D>(_header: &Header)
 where
     R: Records + ExactRecords + Resizable + RecordsMut<String>,
     R::Cell: CellText,
-    ensures { let how = ⟦<Header as TableOption<R, SpannedConfig, D>>⟧ in FitsAfter (how.does _header.now) (how.leaves _header.now) }
+    ensures { KeepsFitting ⟦<Header as TableOption<R, SpannedConfig, D>>⟧ _header.now }
 {}
 
 /// So does a footer.
@@ -76,7 +77,7 @@ pub fn footers_keep_merged_cells_fitting<R, D>(_footer: &Footer)
 where
     R: Records + ExactRecords + Resizable + RecordsMut<String>,
     R::Cell: CellText,
-    ensures { let how = ⟦<Footer as TableOption<R, SpannedConfig, D>>⟧ in FitsAfter (how.does _footer.now) (how.leaves _footer.now) }
+    ensures { KeepsFitting ⟦<Footer as TableOption<R, SpannedConfig, D>>⟧ _footer.now }
 {}
 
 /// Merges keep merged cells inside the table and apart, also where they are refused.
@@ -87,8 +88,8 @@ pub fn merges_keep_merged_cells_fitting<R, D>(
 where
     R: Records + ExactRecords + PeekableRecords,
     R::Cell: CellText,
-    ensures vertical { let how = ⟦<MergeDuplicatesVertical as TableOption<R, SpannedConfig, D>>⟧ in FitsAfter (how.does _vertical.now) (how.leaves _vertical.now) }
-    ensures horizontal { let how = ⟦<MergeDuplicatesHorizontal as TableOption<R, SpannedConfig, D>>⟧ in FitsAfter (how.does _horizontal.now) (how.leaves _horizontal.now) }
+    ensures vertical { KeepsFitting ⟦<MergeDuplicatesVertical as TableOption<R, SpannedConfig, D>>⟧ _vertical.now }
+    ensures horizontal { KeepsFitting ⟦<MergeDuplicatesHorizontal as TableOption<R, SpannedConfig, D>>⟧ _horizontal.now }
 {}
 
 /// Runs that are merged once are merged: a second merge along the same axis changes nothing.

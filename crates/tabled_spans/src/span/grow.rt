@@ -7,10 +7,11 @@ ghost use Rattle.tabled_grid.specs.Covers.{cover_in};
 ghost use Rattle.tabled_grid.specs.Entity.{names};
 ghost use Rattle.tabled_grid.specs.Spans.{IsSizeAt, SpanMap, position_cmp, with_sizes};
 ghost use Rattle.tabled_grid.specs.Axis.{across, count_of, line_of, resized};
-ghost use Rattle.tabled_spans.specs.Spanned.{are_visible, grown, grown_on};
-ghost use Rattle.tabled_spans.specs.SpanSteps.{ForEachCovering, IsReach, change_at, with_change_at};
+ghost use Rattle.tabled_spans.specs.Spanned.{are_visible, grown, grown_on, with_visible_span};
+ghost use Rattle.tabled_spans.specs.SpanSteps.{ForEachCovering, IsReach, change_at, cover_changed_at};
 
 use crate::span::along::{resized, size_at};
+use crate::span::visible::are_visible;
 use std::alloc::{AllocError, Global};
 use tabled_grid::config::{CoverMap, Entity, Position, Rectangle, SpannedConfig};
 use tabled_grid::records::Axis;
@@ -64,7 +65,7 @@ fn grow_at(
     requires end { line_of axis pos + many < 2 ^ 64 }
     ensures ok { ForEachCovering cover.old cfg.now pos (λ m _ _ _. OnOk result (changes.new.items ≡ changes.old.items ++ change_at axis m pos many)) }
     ensures full { AllByRecursion IsSizeAt changes.old.items → OnOk result (AllByRecursion IsSizeAt changes.new.items) }
-    ensures cover { ForEachCovering cover.old cfg.now pos (λ m first rows columns. OnOk result (cover.new ≡ cover_in (with_change_at axis m pos many) first rows columns)) }
+    ensures cover { ForEachCovering cover.old cfg.now pos (λ m first rows columns. OnOk result (cover.new ≡ cover_changed_at axis m pos many first rows columns)) }
 {
     if !is_free(cover, axis, pos, many, hint) {
         return Ok(());
@@ -142,6 +143,56 @@ fn changes(
     Ok(changes)
 }
 
+/// Merges n cells from a place on, if they are all visible. Refused for memory, it changes nothing.
+fn grow_cell(
+    alloc: Global,
+    cfg: &mut SpannedConfig,
+    axis: Axis,
+    pos: Position,
+    many: usize,
+) -> Result<(), AllocError>
+    requires { line_of axis pos + many < 2 ^ 64 }
+    ensures ok { OnOk result (cfg.new ≡ with_visible_span axis cfg.old pos many) }
+    ensures err { OnErr result (cfg.new ≡ cfg.old) }
+{
+    if !are_visible(cfg, axis, pos, many) {
+        return Ok(());
+    }
+    match axis {
+        Axis::Rows => cfg.set_row_span(alloc, pos, many),
+        Axis::Columns => cfg.set_column_span(alloc, pos, many),
+    }
+}
+
+/// Merges cells from each place on that an entity names in a table (`rows x columns`). Refused for memory, it
+/// changes nothing.
+fn grow_on(
+    alloc: Global,
+    cfg: &mut SpannedConfig,
+    axis: Axis,
+    size: usize,
+    entity: Entity,
+    rows: usize,
+    columns: usize,
+) -> Result<(), AllocError>
+    requires { 1 ≤ size }
+    ensures ok { OnOk result (cfg.new ≡ grown_on axis size entity rows columns cfg.old) }
+    ensures err { OnErr result (cfg.new ≡ cfg.old) }
+{
+    match entity {
+        // One cell needs no map of what is covered.
+        Entity::Cell(row, col) if row < rows && col < columns => {
+            let pos = Position::new(row, col);
+            let left = axis.count_of(rows, columns) - axis.line_of(pos);
+            grow_cell(alloc, cfg, axis, pos, size.min(left))
+        }
+        _ => {
+            let changes = changes(alloc, cfg, axis, size, entity, rows, columns)?;
+            cfg.set_sizes(alloc, &changes)
+        }
+    }
+}
+
 /// Merges cells from each place on that an entity names in a table (`rows x columns`), and drops what is
 /// hidden then. Refused for memory, it changes nothing.
 pub(super) fn grow(
@@ -157,8 +208,7 @@ pub(super) fn grow(
     ensures ok { OnOk result (cfg.new ≡ grown axis size entity rows columns cfg.old) }
     ensures err { OnErr result (cfg.new ≡ cfg.old) }
 {
-    let changes = changes(alloc, cfg, axis, size, entity, rows, columns)?;
-    cfg.set_sizes(alloc, &changes)?;
+    grow_on(alloc, cfg, axis, size, entity, rows, columns)?;
     cfg.drop_hidden();
     Ok(())
 }
