@@ -1,30 +1,104 @@
 -- What a search of the anchors tells.
-use Rattle.std.proofs.Common.{◌≡◌, ◌⊎◌, ℕ, ◌<◌, Bool, true, false, Some, None, Result, Ok, Err, refl, arith, inl, inr, length, get_or, ◌∙◌}
-use Rattle.std.specs.Prelude.{◌==◌, ◌&&◌, MatchResult, not}
-use Rattle.std.specs.FinMap.{entries, entries_sorted, find, get-entries}
+use Rattle.std.proofs.Common.{◌≡◌, ◌⊎◌, ℕ, zero, suc, ◌-◌, ◌<◌, ◌≤◌, Bool, true, false, cond, List, [], ◌∷◌, Some, None, Result, Ok, Err, refl, arith, inl, inr, length, get_or, take, drop, ap, sym, subst, ◌∙◌}
+use Rattle.std.specs.Prelude.{T, ◌==◌, ◌&&◌, MatchResult, not}
+use Rattle.std.specs.FinMap.{entries, entries_sorted, find, get, get-entries, is_sorted}
+use Rattle.std.specs.FinMap.Entries.{below_all}
+use Rattle.std.specs.List.{AllByRecursion}
 use Rattle.std.specs.List.Sorted.{IsBinarySearchResult, IsSearchInRange}
+use Rattle.std.specs.Ordering.{is_eq}
 use Rattle.std.specs.Result.{is_ok}
-use Rattle.std.proofs.lemmas.Bool.{ne_eqb}
+use Rattle.std.proofs.lemmas.Bool.{cases_Bool, ne_eqb}
+use Rattle.std.proofs.lemmas.List.{drop_all}
 use Rattle.tabled_grid.specs.declared.config.position.Position.{Position}
 use Rattle.tabled_grid.specs.Spans.{AreSpanSizes, Rectangle, SpanMap, position_cmp, size_at, sized}
 use Rattle.tabled_grid.specs.declared.config.size.Size.{Size}
-use Rattle.tabled_grid.proofs.SortedEntries.{searched}
+use Rattle.tabled_grid.proofs.PassedAnchors.{Earlier, earlier}
+use Rattle.tabled_grid.proofs.SortedEntries.{below_at, both, halves, searched}
+use Rattle.tabled_grid.proofs.SpanMaps.{equal}
 use Rattle.tabled_grid.proofs.Spans.{positions_exact, positions_total}
+use Rattle.tabled_spans.specs.RunSteps.{StandBelow}
 
--- a search of the anchors finds a place where its size isn't that of one cell
-pub anchor_found : (m : SpanMap) (p : Position) (r : Result ℕ ℕ) → AreSpanSizes m → IsSearchInRange r (length (entries m)) → IsBinarySearchResult (λ (e : Rectangle). position_cmp e.0 p) (entries m) r → is_ok r ≡ not (((size_at m p).height == 1) && ((size_at m p).width == 1))
-anchor_found m p r sizes within found = tell r (searched position_cmp positions_total positions_exact (entries m) p r (entries_sorted m) within found)
+-- an anchor in another row isn't found
+none_apart : (p : Position) (es : List Rectangle) → AllByRecursion (λ (e : Rectangle). p.row ≡ e.0.row → ⊥) es → find position_cmp p es ≡ None
+none_apart p [] apart = refl
+none_apart p (e ∷ es) apart = either (cases_Bool (is_eq (position_cmp p e.0))) (none_apart p es apart.1)
   where
-    second : (a : Bool) → (a && false) ≡ false
-    second true = refl
-    second false = refl
+    either : (is_eq (position_cmp p e.0) ≡ true) ⊎ (is_eq (position_cmp p e.0) ≡ false) → find position_cmp p es ≡ None → find position_cmp p (e ∷ es) ≡ None
+    either (inl t) none = absurd (apart.0 (ap (λ (q : Position). q.row) (positions_exact p e.0 (equal _ t))))
+    either (inr f) none = ap (λ b. cond b (Some e.1) (find position_cmp p es)) f ∙ none
 
-    more : (s : Size) → (1 < s.height) ⊎ (1 < s.width) → ((s.height == 1) && (s.width == 1)) ≡ false
-    more s (inl h) = rw (ne_eqb s.height 1 (λ e. omega (arith, h, e))) refl
-    more s (inr h) = rw (ne_eqb s.width 1 (λ e. omega (arith, h, e))) (second (s.height == 1))
+-- what is so for each is so for each
+weaker : (P Q : Rectangle → Type 0) → ((e : Rectangle) → P e → Q e) → (es : List Rectangle) → AllByRecursion P es → AllByRecursion Q es
+weaker P Q so [] all = tt
+weaker P Q so (e ∷ es) all = (so e all.0, weaker P Q so es all.1)
 
-    tell : (r : Result ℕ ℕ) → MatchResult r (λ i. (d : Rectangle) → find position_cmp p (entries m) ≡ Some (get_or (entries m) i d).1) (λ i. find position_cmp p (entries m) ≡ None) → is_ok r ≡ not (((size_at m p).height == 1) && ((size_at m p).width == 1))
-    tell (Ok i) at =
-        let is = get-entries m p ∙ at (p, sized 1 1) in
-        rw (is, more _ (sizes.each p _ is).merges) refl
-    tell (Err i) none = rw (get-entries m p ∙ none) refl
+-- where the others stand below its row, a place is found among the first
+found_first : (p : Position) (n : ℕ) (es : List Rectangle) → AllByRecursion (λ (e : Rectangle). p.row < e.0.row) (drop n es) → find position_cmp p (take n es) ≡ find position_cmp p es
+found_first p zero [] below = refl
+found_first p (suc n) [] below = refl
+found_first p zero (e ∷ es) below = sym (none_apart p (e ∷ es) (weaker _ _ (λ f low same. omega (arith, low, same)) (e ∷ es) below))
+found_first p (suc n) (e ∷ es) below = ap (cond (is_eq (position_cmp p e.0)) (Some e.1)) (found_first p n es below)
+
+below_take : (p : Position) (n : ℕ) (es : List Rectangle) → T (below_all position_cmp p es) → T (below_all position_cmp p (take n es))
+below_take p zero [] below = tt
+below_take p (suc n) [] below = tt
+below_take p zero (e ∷ es) below = tt
+below_take p (suc n) (e ∷ es) below = both _ _ (halves _ _ below).0 (below_take p n es (halves _ _ below).1)
+
+-- the first of a sorted list are sorted
+sorted_take : (n : ℕ) (es : List Rectangle) → T (is_sorted position_cmp es) → T (is_sorted position_cmp (take n es))
+sorted_take zero [] up = tt
+sorted_take (suc n) [] up = tt
+sorted_take zero (e ∷ es) up = tt
+sorted_take (suc n) (e ∷ es) up = both _ _ (below_take e.0 n es (halves _ _ up).0) (sorted_take n es (halves _ _ up).1)
+
+-- rows rise
+rows_rise : (k : ℕ) (es : List Rectangle) (d : Rectangle) → T (is_sorted position_cmp es) → k < length es → AllByRecursion (λ (e : Rectangle). e.0.row ≤ (get_or es k d).0.row) (take (suc k) es)
+rows_rise k [] d up within = absurd (omega arith)
+rows_rise zero (e ∷ es) d up within = (omega arith, tt)
+rows_rise (suc k) (e ∷ es) d up within = (up_row _ _ (earlier e.0 (get_or es k d).0 (below_at position_cmp e.0 es k d (halves _ _ up).0 (omega arith))), rows_rise k es d (halves _ _ up).1 (omega arith))
+  where
+    up_row : (a b : Position) → Earlier a b → a.row ≤ b.row
+    up_row a b (inl l) = omega (arith, l)
+    up_row a b (inr l) = omega (arith, l.0)
+
+-- the size of a place where none is anchored
+no_anchor : (m : SpanMap) (p : Position) → get m p ≡ None → false ≡ not (((size_at m p).height == 1) && ((size_at m p).width == 1))
+no_anchor m p none = rw none refl
+
+module _ (m : SpanMap) (p : Position) (many : ℕ) (s : StandBelow m p.row many) where
+  -- without anchors in its row and further up, or with the last of them further up, no rectangle is anchored at the place
+  pub none_left : many ≡ 0 → false ≡ not (((size_at m p).height == 1) && ((size_at m p).width == 1))
+  none_left z = no_anchor m p (get-entries m p ∙ sym (found_first p many (entries m) s.below) ∙ ap (λ n. find position_cmp p (take n (entries m))) z)
+
+  pub none_past : (d : Rectangle) → 0 < many → (get_or (entries m) (many - 1) d).0.row < p.row → false ≡ not (((size_at m p).height == 1) && ((size_at m p).width == 1))
+  none_past d some past =
+      let last : suc (many - 1) ≡ many = omega arith in
+      let rows = subst (λ n. AllByRecursion (λ (e : Rectangle). e.0.row ≤ (get_or (entries m) (many - 1) d).0.row) (take n (entries m))) last (rows_rise (many - 1) (entries m) d (entries_sorted m) (omega (arith, s.within))) in
+      no_anchor m p (get-entries m p ∙ sym (found_first p many (entries m) s.below) ∙ none_apart p (take many (entries m)) (weaker _ _ (λ e low same. omega (arith, low, same, past)) (take many (entries m)) rows))
+
+  -- a search of the first anchors finds a place where its size isn't that of one cell
+  pub anchor_found : (r : Result ℕ ℕ) → AreSpanSizes m → IsSearchInRange r (length (take many (entries m))) → IsBinarySearchResult (λ (e : Rectangle). position_cmp e.0 p) (take many (entries m)) r → is_ok r ≡ not (((size_at m p).height == 1) && ((size_at m p).width == 1))
+  anchor_found r sizes within found = tell r (searched position_cmp positions_total positions_exact (take many (entries m)) p r (sorted_take many (entries m) (entries_sorted m)) within found)
+    where
+      second : (a : Bool) → (a && false) ≡ false
+      second true = refl
+      second false = refl
+
+      more : (size : Size) → (1 < size.height) ⊎ (1 < size.width) → ((size.height == 1) && (size.width == 1)) ≡ false
+      more size (inl h) = rw (ne_eqb size.height 1 (λ e. omega (arith, h, e))) refl
+      more size (inr h) = rw (ne_eqb size.width 1 (λ e. omega (arith, h, e))) (second (size.height == 1))
+
+      tell : (r : Result ℕ ℕ) → MatchResult r (λ i. (d : Rectangle) → find position_cmp p (take many (entries m)) ≡ Some (get_or (take many (entries m)) i d).1) (λ i. find position_cmp p (take many (entries m)) ≡ None) → is_ok r ≡ not (((size_at m p).height == 1) && ((size_at m p).width == 1))
+      tell (Ok i) at =
+          let is = get-entries m p ∙ sym (found_first p many (entries m) s.below) ∙ at (p, sized 1 1) in
+          rw (is, more _ (sizes.each p _ is).merges) refl
+      tell (Err i) none = no_anchor m p (get-entries m p ∙ sym (found_first p many (entries m) s.below) ∙ none)
+
+-- what stands below a row stands below those above it
+pub stand_higher : (m : SpanMap) (row higher many : ℕ) → higher ≤ row → StandBelow m row many → StandBelow m higher many
+stand_higher m row higher many h s = record { within = s.within; below = weaker _ _ (λ e low. omega (arith, low, h)) (drop many (entries m)) s.below }
+
+-- no anchor is left to stand below a row
+pub stand_none : (m : SpanMap) (row : ℕ) → StandBelow m row (length (entries m))
+stand_none m row = record { within = omega arith; below = subst (AllByRecursion (λ (e : Rectangle). row < e.0.row)) (sym (drop_all (length (entries m)) (entries m) (omega arith))) tt }

@@ -1,6 +1,6 @@
 -- The steps in which runs are found, row by row.
-use Rattle.std.specs.Prelude.{◌≡◌, ◌+◌, ◌-◌, ◌<◌, ◌≤◌, ◌⊎◌, ℕ, List, Some, T, length, slice_index}
-use Rattle.std.specs.FinMap.{find, is_sorted}
+use Rattle.std.specs.Prelude.{◌≡◌, ◌+◌, ◌-◌, ◌<◌, ◌≤◌, ◌⊎◌, ℕ, List, Some, T, drop, length, slice_index}
+use Rattle.std.specs.FinMap.{entries, find, is_sorted}
 use Rattle.std.specs.List.{AllByRecursion}
 use Rattle.tabled_grid.specs.Grid.{Grid, IsInside}
 use Rattle.tabled_grid.specs.Spans.{Rectangle, SpanMap, position_cmp}
@@ -45,3 +45,8 @@ pub record IsTail (axis : Axis) (g : Grid (List ℕ)) (m : SpanMap) (p : Positio
 pub record AreTails (axis : Axis) (g : Grid (List ℕ)) (m : SpanMap) (i j : ℕ) (lengths : List ℕ) : Type 0 where
   pub size : length lengths ≡ g.columns
   pub each : (p : Position) → IsInside g p → Before i j p → (IsInside g (further axis 1 p) → Before i j (further axis 1 p) → ⊥) → IsTail axis g m p (slice_index lengths p.col)
+
+-- all but the first n anchors stand in the rows below one
+pub record StandBelow (m : SpanMap) (row many : ℕ) : Type 0 where
+  pub within : many ≤ length (entries m)
+  pub below : AllByRecursion (λ (e : Rectangle). row < e.0.row) (drop many (entries m))

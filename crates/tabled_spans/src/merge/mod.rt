@@ -7,6 +7,7 @@ ghost use Rattle.tabled_options.specs.Does.{Same};
 ghost use Rattle.tabled_spans.specs.Runs.{MergesRuns};
 ghost use Rattle.std.proofs.Common.{rules};
 
+mod anchored;
 mod runs;
 
 use crate::merge::runs::runs;

@@ -4,6 +4,7 @@ use Rattle.tabled_grid.specs.Entity.{place}
 use Rattle.tabled_grid.specs.Grid.{map_grid}
 use Rattle.tabled_spans.specs.RunSteps.{AreTails, RunsBefore, RunsFrom}
 use Rattle.tabled_spans.specs.Runs.{size_of_run}
+use Rattle.tabled_spans.proofs.Anchored.{stand_higher, stand_none}
 use Rattle.tabled_spans.proofs.RunsFrom.{from_end, from_first, none_below, none_put, run_put}
 use Rattle.tabled_spans.proofs.Tails.{tails_below, tails_end}
 use Rattle.tabled_spans.proofs.merge.runs.runs.Goals as goal
@@ -15,6 +16,7 @@ loop-i-init g c =
     let ones : c.in_ok-lengths.lengths.items ≡ replicate texts.columns 1 = search (rules, c.in_ok-lengths.ensures.items, c.count_columns.ensures.columns) in (
       subst (λ es. RunsFrom c.args.axis texts c.args.cfg.now rows 0 (reverse es)) (sym c.new-sizes.ensures.items) (none_below c.args.axis texts c.args.cfg.now rows (omega (arith, c.count_rows-i.ensures.rows))),
       subst (AreTails c.args.axis texts c.args.cfg.now rows 0) (sym ones) (tails_below c.args.axis texts c.args.cfg.now rows (omega (arith, c.count_rows-i.ensures.rows))),
+      λ row _. rw c.anchors-ahead.ensures.anchors (stand_none c.args.cfg.now row),
     )
 
 pub loop-j-init : goal.loop-j-init
@@ -33,7 +35,8 @@ pub loop-i-preserved : goal.loop-i-preserved
 loop-i-preserved g c =
     let texts = map_grid g.R.Cell.CellText.text_of (g.R.GridStore.grid c.args.records.now) in
     let i = c.loop-i.i - 1 in
-    subst (λ n. RunsFrom c.args.axis texts c.args.cfg.now i n (reverse c.loop-j.sizes.items) × AreTails c.args.axis texts c.args.cfg.now i n c.loop-j.lengths.items) (omega (arith, c.loop-j-test.false)) c.loop-j.invariant
+    let held = subst (λ n. RunsFrom c.args.axis texts c.args.cfg.now i n (reverse c.loop-j.sizes.items) × AreTails c.args.axis texts c.args.cfg.now i n c.loop-j.lengths.items) (omega (arith, c.loop-j-test.false)) c.loop-j.invariant in
+    (held.0, held.1, λ row low. stand_higher c.args.cfg.now i row _ (omega (arith, low)) c.up_to_row-ahead.ensures)
 
 pub loop-j-preserved-in-Continue-branch-2 : goal.loop-j-preserved-in-Continue-branch-2
 loop-j-preserved-in-Continue-branch-2 g c =

@@ -1,12 +1,12 @@
-use Rattle.std.proofs.Common.{reverse}
+use Rattle.std.proofs.Common.{ℕ, ◌<◌, reverse}
 use Rattle.tabled_grid.specs.Grid.{map_grid}
-use Rattle.tabled_spans.specs.RunSteps.{AreTails, RunsFrom}
+use Rattle.tabled_spans.specs.RunSteps.{AreTails, RunsFrom, StandBelow}
 use Rattle.tabled_spans.proofs.merge.runs.runs.Given as goal
 
 abbrev pub invariant-loop-i : goal.invariant-loop-i
 invariant-loop-i g l =
     let texts = map_grid g.R.Cell.CellText.text_of (g.R.GridStore.grid l.fn.records) in
-    RunsFrom l.fn.axis texts l.fn.cfg l.i 0 (reverse l.sizes.items) × AreTails l.fn.axis texts l.fn.cfg l.i 0 l.lengths.items
+    RunsFrom l.fn.axis texts l.fn.cfg l.i 0 (reverse l.sizes.items) × AreTails l.fn.axis texts l.fn.cfg l.i 0 l.lengths.items × ((row : ℕ) → row < l.i → StandBelow l.fn.cfg row l.ahead)
 
 abbrev pub invariant-loop-j : goal.invariant-loop-j
 invariant-loop-j g l =
