@@ -2,7 +2,7 @@
 use Rattle.std.proofs.Common.{◌≡◌, ℕ, ◌/◌, ◌%◌, ◌<◌, [], refl, sym, ap, ap₂, ◌∙◌, subst, arith}
 use Rattle.std.specs.Int.{div_ceil}
 use Rattle.tabled_grid.specs.Grid.{Grid}
-use Rattle.tabled_grid.specs.Axis.{across, count_of, line_of, place_in}
+use Rattle.tabled_grid.specs.Axis.{across, line_of, place_in}
 use Rattle.tabled_grid.specs.Pieces.{cut_places, piece_index}
 use Rattle.tabled_grid.specs.declared.config.position.Position.{Position}
 use Rattle.tabled_grid.specs.declared.records.axis.Axis.{Axis}
@@ -40,7 +40,3 @@ module _ (s : Split) (lines width : ℕ) (q to : Position) (line cell nth : ℕ)
 
   pub cut_finds : (p : Position) → Takes (cut_places s.lines s.behavior s.index lines width) p q → to ≡ p
   cut_finds p t = same ∙ sym (once.alone p t.row t.col t.from)
-
-pub line_within : (axis : Axis) (p : Position) (m n : ℕ) → p.row < count_of axis m n → p.col < count_of axis n m → line_of axis p < m
-line_within Rows p m n h k = h
-line_within Columns p m n h k = k

@@ -3,6 +3,7 @@ use Rattle.std.proofs.Common.{◌≡◌, ℕ, zero, suc, map, subst, add-one, �
 use Rattle.std.specs.Prelude.{not}
 use Rattle.std.specs.List.{swap}
 use Rattle.std.proofs.lemmas.Bool.{cases_Bool, cases_eq}
+use Rattle.std.proofs.lemmas.List.Edits.{Swapped}
 use Rattle.std.proofs.lemmas.List.{map-id}
 use Rattle.std.proofs.lemmas.Simd.{map-map}
 use Rattle.std.proofs.lemmas.List.{append-nil, get_or_at, get_or_append_left, length_push}
@@ -20,14 +21,11 @@ use Rattle.tabled_settings.proofs.PieceReads.{filter_alike, filter_more}
 use Rattle.tabled_settings.proofs.LineReads.{line_first, lines_read, lines_swapped, shape_swapped}
 
 module _ (test : ℕ → Bool) where
-  left_more : (n : ℕ) → left_over test (suc n) ≡ left_over test n ++ cond (not (test n)) (n ∷ []) []
-  left_more n = filter_more (λ (i : ℕ). not (test i)) n (suc n) (omega arith)
-
   pub left_gone : (n : ℕ) → test n ≡ true → left_over test (suc n) ≡ left_over test n
-  left_gone n gone = left_more n ∙ ap (λ (b : Bool). left_over test n ++ cond (not b) (n ∷ []) []) gone ∙ append-nil (left_over test n)
+  left_gone n gone = filter_more (λ (i : ℕ). not (test i)) n (suc n) false (omega arith) (ap not gone) ∙ append-nil (left_over test n)
 
   pub left_stays : (n : ℕ) → test n ≡ false → left_over test (suc n) ≡ left_over test n ++ n ∷ []
-  left_stays n stays = left_more n ∙ ap (λ (b : Bool). left_over test n ++ cond (not b) (n ∷ []) []) stays
+  left_stays n stays = filter_more (λ (i : ℕ). not (test i)) n (suc n) true (omega arith) (ap not stays)
 
 module _ (test : ℕ → Bool) (i : ℕ) where
   pub left_more_gone : test i ≡ true → length (left_over test (i + 1)) ≡ length (left_over test i)
@@ -56,7 +54,7 @@ module _ {A : Type 0} (axis : Axis) (test : ℕ → Bool) where
       }
 
   module _ (i n k m : ℕ) (g cur new : Grid A) (next : n ≡ i + 1) (more : m ≡ k + 1) (stays : test i ≡ false) (t : ThinsLines axis test i k g cur) (is : new ≡ along axis (λ _ xs. swap xs k i) cur) (within : i < count_along axis cur) where
-    moved : (line_cells axis new k ≡ line_cells axis cur i) × (line_cells axis new i ≡ line_cells axis cur k) × ((a : ℕ) → a ≢ k → a ≢ i → line_cells axis new a ≡ line_cells axis cur a)
+    moved : Swapped (line_cells axis cur) (line_cells axis new) k i
     moved = lines_swapped axis cur new k i t.shape.even (omega (arith, within, t.few)) within is
 
     left : left_over test n ≡ left_over test i ++ i ∷ []
@@ -103,16 +101,15 @@ module _ {A : Type 0} (test : ℕ → Bool) where
   unfolding thinned
   thinned-none xs = refl
 
-  pub thinned-gone : (i : ℕ) → test i ≡ true → (xs : List A) → thinned test (i + 1) xs ≡ thinned test i xs
+  thinned-more : (i : ℕ) (gone : Bool) → test i ≡ gone → (xs : List A) → thinned test (i + 1) xs ≡ cond gone (thinned test i xs) (swap (thinned test i xs) (length (left_over test i)) i)
   unfolding thinned
-  thinned-gone i gone xs = ap (λ (n : ℕ). thinned test n xs) (add-one i) ∙ ap (λ (b : Bool). cond b (thinned test i xs) (swap (thinned test i xs) (length (left_over test i)) i)) gone
+  thinned-more i gone is xs = ap (λ (n : ℕ). thinned test n xs) (add-one i) ∙ ap (λ (b : Bool). cond b (thinned test i xs) (swap (thinned test i xs) (length (left_over test i)) i)) is
+
+  pub thinned-gone : (i : ℕ) → test i ≡ true → (xs : List A) → thinned test (i + 1) xs ≡ thinned test i xs
+  thinned-gone i = thinned-more i true
 
   pub thinned-kept : (i k : ℕ) → k ≡ length (left_over test i) → test i ≡ false → (xs : List A) → thinned test (i + 1) xs ≡ swap (thinned test i xs) k i
-  unfolding thinned
-  thinned-kept i k many stays xs =
-      ap (λ (n : ℕ). thinned test n xs) (add-one i)
-      ∙ ap (λ (b : Bool). cond b (thinned test i xs) (swap (thinned test i xs) (length (left_over test i)) i)) stays
-      ∙ ap (λ (n : ℕ). swap (thinned test i xs) n i) (sym many)
+  thinned-kept i k many stays xs = thinned-more i false stays xs ∙ ap (λ (n : ℕ). swap (thinned test i xs) n i) (sym many)
 
   abbrev thinned_grid : ℕ → Grid A → Grid A
   thinned_grid i g = record g { cells = map (thinned test i) g.cells }

@@ -1,9 +1,9 @@
 -- The writes of texts that are duplicated.
-use Rattle.std.proofs.Common.{◌≡◌, ◌<◌, ◌≤◌, ◌+◌, ◌*◌, ◌%◌, ◌∙◌, ◌++◌, ◌⊎◌, inl, inr, ℕ, zero, suc, List, [], ◌∷◌, get_or, length, take, refl, subst, sym, ap, ap₂, arith}
+use Rattle.std.proofs.Common.{◌≡◌, ◌<◌, ◌≤◌, ◌+◌, ◌%◌, ◌∙◌, ◌++◌, ◌⊎◌, inl, inr, ℕ, zero, suc, List, [], ◌∷◌, get_or, length, take, refl, subst, sym, ap, ap₂, arith}
 use Rattle.std.specs.List.{AllByRecursion}
+use Rattle.std.proofs.Math.Nat.{mod-eq_of_lt}
 use Rattle.std.proofs.lemmas.Bool.{cases_lt}
 use Rattle.std.proofs.lemmas.List.{get_or-take, length-take-le, nil_from_length, take_all}
-use Rattle.std.proofs.lemmas.Nat.{mod-mul-add}
 use Rattle.tabled_grid.specs.Entity.{inside}
 use Rattle.tabled_grid.specs.Grid.{Grid, map_grid}
 use Rattle.tabled_grid.specs.declared.config.entity.Entity.{Entity}
@@ -11,19 +11,19 @@ use Rattle.tabled_grid.specs.declared.config.position.Position.{Position}
 use Rattle.tabled_options.specs.Writes.{FirstWrites, Write, with_writes}
 use Rattle.tabled_settings.specs.Dups.{Duplicates, DuplicatesFirst, round_from, round_writes, rounds, source_texts}
 
--- a number below another is what is left of it
-own_rest : (i n : ℕ) → i < n → i % n ≡ i
-own_rest i n below =
-    let whole : i ≡ 0 * n + i = omega arith in
-    ap (λ x. x % n) whole ∙ mod-mul-add 0 n i below
+-- the first n of a list that begins with the first n of another
+pub take-append-take : {X : Type 0} (n : ℕ) (xs ys : List X) → take n (take n xs ++ ys) ≡ take n (xs ++ ys)
+take-append-take zero xs ys = refl
+take-append-take (suc n) [] ys = refl
+take-append-take (suc n) (x ∷ xs) ys = ap (λ zs. x ∷ zs) (take-append-take n xs ys)
 
 -- places that take only some of the first n texts
 few_places : (i n : ℕ) (texts : List (List ℕ)) (places : List Position) → i + length places ≤ n → n ≤ length texts → round_from i (take n texts) places ≡ round_from i texts places
 few_places i n texts [] few many = refl
 few_places i n texts (p ∷ places) few many =
     let below : i < n = omega (arith, few) in
-    let here : i % length (take n texts) ≡ i = own_rest i (length (take n texts)) (rw (length-take-le n texts many) below) in
-    let there : i % length texts ≡ i = own_rest i (length texts) (omega (arith, below, many)) in
+    let here : i % length (take n texts) ≡ i = mod-eq_of_lt (rw (length-take-le n texts many) below) in
+    let there : i % length texts ≡ i = mod-eq_of_lt (omega (arith, below, many)) in
     let text = ap (λ k. get_or (take n texts) k []) here ∙ get_or-take n texts i [] below ∙ ap (λ k. get_or texts k []) (sym there) in
     ap₂ (λ (t : List ℕ) (writes : List Write). record { place = p; text = t } ∷ writes) text (few_places (i + 1) n texts places (omega (arith, few)) many)
 
@@ -55,17 +55,24 @@ some_rounds : (texts : List (List ℕ)) (rows columns : ℕ) (targets : List Ent
 some_rounds [] rows columns targets some = absurd (omega (arith, some))
 some_rounds (text ∷ texts) rows columns targets some = refl
 
--- texts that are written as the first of a source's
+-- what is read before a text is written: what a source and a destination list, and the first n texts of the source
+pub record IsRead {A : Type 0} (text_of : A → List ℕ) (destination source : Grid A → List Entity → Type 0) (sources targets : List Entity) (texts : List (List ℕ)) (n : ℕ) (g : Grid A) : Type 0 where
+  pub from : source g sources
+  pub to : destination g targets
+  pub are : texts ≡ take n (source_texts (map_grid text_of g) sources)
+  pub few : Few n g.rows g.columns targets
+
+-- these texts are written as all of the source's
 module _ {A C : Type 0} (text_of : A → List ℕ) (destination source : Grid A → List Entity → Type 0) (sources targets : List Entity) (texts : List (List ℕ)) (n : ℕ) (g h : Grid A) (c : C)
-    (from : source g sources) (to : destination g targets) (are : texts ≡ take n (source_texts (map_grid text_of g) sources)) (few : Few n g.rows g.columns targets) where
+    (read : IsRead text_of destination source sources targets texts n g) where
   written : rounds texts g.rows g.columns targets ≡ rounds (source_texts (map_grid text_of g) sources) g.rows g.columns targets
-  written = ap (λ ts. rounds ts g.rows g.columns targets) are ∙ few_rounds n (source_texts (map_grid text_of g) sources) g.rows g.columns targets few
+  written = ap (λ ts. rounds ts g.rows g.columns targets) read.are ∙ few_rounds n (source_texts (map_grid text_of g) sources) g.rows g.columns targets read.few
 
   pub none_left : texts ≡ [] → Duplicates text_of destination source g c g c
-  none_left none = (sources, targets, from, to, (ap (λ writes. with_writes writes (map_grid text_of g)) (sym (ap (λ ts. rounds ts g.rows g.columns targets) none) ∙ written), refl))
+  none_left none = (sources, targets, read.from, read.to, (ap (λ writes. with_writes writes (map_grid text_of g)) (sym (ap (λ ts. rounds ts g.rows g.columns targets) none) ∙ written), refl))
 
   pub left_all : 0 < length texts → map_grid text_of h ≡ with_writes (round_writes texts g.rows g.columns targets) (map_grid text_of g) → Duplicates text_of destination source g c h c
-  left_all some done = (sources, targets, from, to, (done ∙ ap (λ writes. with_writes writes (map_grid text_of g)) (some_rounds texts g.rows g.columns targets some ∙ written), refl))
+  left_all some done = (sources, targets, read.from, read.to, (done ∙ ap (λ writes. with_writes writes (map_grid text_of g)) (some_rounds texts g.rows g.columns targets some ∙ written), refl))
 
   pub left_first : 0 < length texts → FirstWrites (round_writes texts g.rows g.columns targets) (map_grid text_of g) (map_grid text_of h) → DuplicatesFirst text_of destination source g c h c
-  left_first some first = inr (sources, targets, from, to, (subst (λ (writes : List Write). FirstWrites writes (map_grid text_of g) (map_grid text_of h)) (some_rounds texts g.rows g.columns targets some ∙ written) first, refl))
+  left_first some first = inr (sources, targets, read.from, read.to, (subst (λ (writes : List Write). FirstWrites writes (map_grid text_of g) (map_grid text_of h)) (some_rounds texts g.rows g.columns targets some ∙ written) first, refl))

@@ -18,16 +18,15 @@ use Rattle.tabled_grid.specs.declared.records.axis.Axis.TheVariants.{Rows, Colum
 use Rattle.tabled_grid.proofs.Transposed.{slice_get-take}
 use Rattle.tabled_grid.specs.declared.records.piece_order.PieceOrder.{PieceOrder}
 use Rattle.tabled_grid.specs.declared.records.piece_order.PieceOrder.TheVariants.{Concat, Zip}
-use Rattle.tabled_settings.specs.declared.split.Display.{Display}
 use Rattle.tabled_settings.specs.declared.split.Display.TheVariants.{Retain}
 use Rattle.tabled_settings.specs.declared.split.Split.{Split}
 use Rattle.tabled_settings.specs.PiecePlaces.{glue_rows, glued, glued_line}
 use Rattle.tabled_grid.specs.Axis.{across}
 use Rattle.tabled_grid.specs.Pieces.{nth_piece, piece_index}
-use Rattle.tabled_settings.specs.Pieces.{cut_rows, has_pieces, piece_at, split, staying, stays, oriented}
-use Rattle.tabled_settings.proofs.PieceReads.{cut_count, cut_even, cut_text, filter_all, piece_text, same_by_lines, turned_across, turned_back, turned_cell, turned_columns, turned_count, turned_even, turned_rows}
+use Rattle.tabled_settings.specs.Pieces.{cut_rows, has_pieces, piece_at, split, staying, oriented}
+use Rattle.tabled_settings.proofs.PieceReads.{all_retained, cut_count, cut_even, cut_text, piece_text, same_by_lines, turned_across, turned_back, turned_cell, turned_columns, turned_count, turned_even, turned_rows}
 use Rattle.tabled_grid.proofs.PiecesCut.{enough_pieces, some_pieces}
-use Rattle.tabled_settings.proofs.PiecesDone.{counted}
+use Rattle.tabled_settings.proofs.LineReads.{counted}
 use Rattle.tabled_grid.proofs.AddedLines.{back_read, front_read}
 use Rattle.tabled_settings.proofs.SameCells.{same_cells}
 
@@ -148,10 +147,7 @@ module _ (s : Split) (g : Grid (List ℕ)) (even : IsEven g) (retained : s.displ
   enough = enough_pieces (div_ceil g.columns s.index) s.index g.columns index refl
 
   all : staying s pieces g.cells ≡ range_with_len 0 (length g.cells * pieces)
-  all = filter_all (λ (t : ℕ). stays s.display (nth_piece s.behavior (length g.cells) pieces t).1 (piece_at s pieces g.cells t)) (λ t. kept s.display (nth_piece s.behavior (length g.cells) pieces t).1 (piece_at s pieces g.cells t) retained) (range_with_len 0 (length g.cells * pieces))
-    where
-      kept : (d : Display) (k : ℕ) (texts : List (List ℕ)) → d ≡ Retain → stays d k texts ≡ true
-      kept d k texts is = rw is refl
+  all = all_retained s pieces g.cells retained
 
   count : length (staying s pieces g.cells) ≡ g.rows * pieces
   count = ap length all ∙ length-range_with_len 0 (length g.cells * pieces) ∙ ap (λ (n : ℕ). n * pieces) even.tall

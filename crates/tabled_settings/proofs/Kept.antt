@@ -4,6 +4,7 @@ use Rattle.std.specs.Prelude.{min}
 use Rattle.std.specs.List.{swap}
 use Rattle.std.specs.declared.ops.Bound.{Bound}
 use Rattle.std.proofs.lemmas.Bool.{cases_eq, cases_lt}
+use Rattle.std.proofs.lemmas.List.Edits.{Swapped}
 use Rattle.tabled_grid.specs.Along.{along, count_along, first_along}
 use Rattle.tabled_grid.specs.Bounds.{end_index, first_index}
 use Rattle.tabled_grid.specs.Entity.{place}
@@ -26,7 +27,7 @@ module _ {A : Type 0} (axis : Axis) (s : ℕ) where
 
   -- one line more
   module _ (k n : ℕ) (g cur new : Grid A) (b : BringsLines axis s k g cur) (is : new ≡ along axis (λ _ xs. swap xs k (s + k)) cur) (next : n ≡ k + 1) (some : 0 < s) (within : s + k < count_along axis cur) where
-    moved : (line_cells axis new k ≡ line_cells axis cur (s + k)) × (line_cells axis new (s + k) ≡ line_cells axis cur k) × ((m : ℕ) → m ≢ k → m ≢ s + k → line_cells axis new m ≡ line_cells axis cur m)
+    moved : Swapped (line_cells axis cur) (line_cells axis new) k (s + k)
     moved = lines_swapped axis cur new k (s + k) b.shape.even (omega (arith, within)) within is
 
     front_at : (i : ℕ) → i < n → (i ≡ k) ⊎ (i ≢ k) → line_cells axis new i ≡ line_cells axis g (s + i)

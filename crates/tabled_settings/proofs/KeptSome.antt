@@ -3,6 +3,7 @@ use Rattle.std.proofs.Common.{◌≡◌, ℕ, ◌+◌, ◌<◌, ◌≤◌, ◌�
 use Rattle.std.specs.List.{swap}
 use Rattle.std.specs.List.Sorted.{IsStrictlyIncreasing}
 use Rattle.std.proofs.lemmas.Bool.{cases_eq}
+use Rattle.std.proofs.lemmas.List.Edits.{Swapped}
 use Rattle.tabled_grid.specs.Along.{along, count_along, first_along}
 use Rattle.tabled_grid.specs.Grid.{Grid, IsEven}
 use Rattle.tabled_grid.specs.declared.records.axis.Axis.{Axis}
@@ -21,7 +22,7 @@ module _ {A : Type 0} (axis : Axis) (kept : List ℕ) where
     low : k ≤ i
     low = omega (arith, at, index_within kept up k here)
 
-    moved : (line_cells axis new k ≡ line_cells axis cur i) × (line_cells axis new i ≡ line_cells axis cur k) × ((a : ℕ) → a ≢ k → a ≢ i → line_cells axis new a ≡ line_cells axis cur a)
+    moved : Swapped (line_cells axis cur) (line_cells axis new) k i
     moved = lines_swapped axis cur new k i b.shape.even (omega (arith, within, low)) within is
 
     front_at : (a : ℕ) → a < n → (a ≡ k) ⊎ (a ≢ k) → line_cells axis new a ≡ line_cells axis g (get_or kept a 0)

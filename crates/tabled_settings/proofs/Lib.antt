@@ -26,7 +26,6 @@ pub mod ReversedSpans
 pub mod Rewriting
 pub mod RisingLists
 pub mod Rotated
-pub mod Rounds
 pub mod RowByRow
 pub mod SameCells
 pub mod SplitWorked

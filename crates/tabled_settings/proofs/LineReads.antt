@@ -15,8 +15,13 @@ use Rattle.tabled_grid.proofs.Resized.{IsEven-with_rows_swapped, IsEven-with_col
 use Rattle.tabled_grid.proofs.Transposed.{slice_get-some, slice_get-take}
 use Rattle.tabled_grid.specs.Places.{IsShapedAs, ReadsThrough}
 use Rattle.tabled_settings.specs.Lines.{line_cells}
-use Rattle.tabled_grid.specs.Axis.{in_line, line_of}
+use Rattle.tabled_grid.specs.Axis.{count_of, in_line, line_of}
 use Rattle.tabled_settings.specs.Places.{lines_from}
+
+-- a count of lines, by the rows and columns
+pub counted : {A : Type 0} (axis : Axis) (g : Grid A) → count_of axis g.rows g.columns ≡ count_along axis g
+counted Rows g = refl
+counted Columns g = refl
 
 -- maps that agree on what has a property
 pub maps_agree_on : {X Y Z : Type 0} (P : X → Type 0) (f : Y → Z) (g : X → Y) (h : X → Z) → ((x : X) → P x → f (g x) ≡ h x) → (xs : List X) → AllByRecursion P xs → map f (map g xs) ≡ map h xs
@@ -74,9 +79,9 @@ module _ {A : Type 0} where
   read_line Rows g h p i e = let none : Option A = None in ap (λ (cells : List (Option A)). get_or cells p.col none) e
   read_line Columns g h p i e = let none : Option A = None in ap (λ (cells : List (Option A)). get_or cells p.row none) e
 
-  below : (axis : Axis) (h : Grid A) (p : Position) → IsInside h p → line_of axis p < count_along axis h
-  below Rows h p inside = inside.row
-  below Columns h p inside = inside.col
+  pub line_below : (axis : Axis) (h : Grid A) (p : Position) → IsInside h p → line_of axis p < count_along axis h
+  line_below Rows h p inside = inside.row
+  line_below Columns h p inside = inside.col
 
   -- a grid whose lines each come from an old one
   pub lines_read : (axis : Axis) (from : ℕ → ℕ) (rows columns : ℕ) (g h : Grid A) → IsEven h → h.rows ≡ rows → h.columns ≡ columns → ((i : ℕ) → i < count_along axis h → line_cells axis h i ≡ line_cells axis g (from i)) →
@@ -85,5 +90,5 @@ module _ {A : Type 0} where
     even = even;
     rows = tall;
     columns = wide;
-    moved = λ p inside. cell_of_line axis h p ∙ read_line axis g h p (from (line_of axis p)) (each (line_of axis p) (below axis h p inside)) ∙ sym (cell_of_line axis g (in_line axis p (from (line_of axis p))));
+    moved = λ p inside. cell_of_line axis h p ∙ read_line axis g h p (from (line_of axis p)) (each (line_of axis p) (line_below axis h p inside)) ∙ sym (cell_of_line axis g (in_line axis p (from (line_of axis p))));
   }

@@ -1,9 +1,9 @@
 -- Where the cells of pieces come from.
 use Rattle.std.proofs.Common.{◌≡◌, ℕ, ◌+◌, ◌*◌, ◌/◌, ◌%◌, ◌<◌, Bool, true, false, cond, Option, None, Some, refl, sym, ap, ap₂, ◌∙◌, subst, List, [], length, get_or, arith}
-use Rattle.std.specs.Prelude.{nat_lt, ◌&&◌}
+use Rattle.std.specs.Prelude.{nat_lt}
 use Rattle.std.specs.Int.{div_ceil}
 use Rattle.std.specs.Option.{IfSome, unwrap_or}
-use Rattle.std.proofs.lemmas.Bool.{lt-ltb, ltb-true}
+use Rattle.std.proofs.lemmas.Bool.{lt-ltb}
 use Rattle.std.proofs.lemmas.Nat.{div-add-mod', div_below, mod_below, same_from_place}
 use Rattle.tabled_grid.specs.Along.{count_along}
 use Rattle.tabled_grid.specs.Grid.{Grid, IsEven, IsInside, cell_at, map_grid}
@@ -26,8 +26,8 @@ use Rattle.tabled_carry.specs.Images.{carried}
 use Rattle.tabled_settings.specs.Places.{IsTakenOnce, lines_from}
 use Rattle.tabled_settings.specs.Rearranged.{carried_if}
 use Rattle.tabled_settings.proofs.Glued.{piece_index_below, piece_of}
-use Rattle.tabled_settings.proofs.LineReads.{lines_read}
-use Rattle.tabled_settings.proofs.PiecesDone.{CanBeCut, clean_counts, clean_done, clean_lines, counted, has, retained_done}
+use Rattle.tabled_settings.proofs.LineReads.{counted, lines_read}
+use Rattle.tabled_settings.proofs.PiecesDone.{CanBeCut, clean_counts, clean_done, clean_lines, has, pieces_need, retained_done}
 use Rattle.tabled_grid.proofs.PiecesPut.{one_piece, same_place_in}
 use mathlib.Core.Bool.{true≢false}
 
@@ -204,15 +204,9 @@ split_once s g q retained h k = either (has_pieces s g.rows g.columns) refl
     lines_of Rows = (h, k)
     lines_of Columns = (k, h)
 
-    second : (x y z : Bool) → (x && (y && z)) ≡ true → y ≡ true
-    second true true z e = refl
-    second true false z e = e
-    second false true z e = refl
-    second false false z e = e
-
     either : (b : Bool) → has_pieces s g.rows g.columns ≡ b → IsTakenOnce (cond b (shown_lines s.display s.lines (kept_pieces s (oriented s.lines g)) all) (same_places g.rows g.columns)) q
     either true e =
-        let some : 0 < s.index = ltb-true 0 s.index (second (nat_lt 0 (count_of s.lines g.rows g.columns)) (nat_lt 0 s.index) (nat_lt s.index (count_of (across s.lines) g.rows g.columns)) e) in
+        let some : 0 < s.index = (pieces_need s g e).1 in
         subst (λ (places : Places). IsTakenOnce places q) (sym (all_shown s.display s.lines (kept_pieces s (oriented s.lines g)) all retained))
         (cut_once s (count_of s.lines g.rows g.columns) (count_of (across s.lines) g.rows g.columns) q some (lines_of s.lines).0 (lines_of s.lines).1)
     either false e = record { to = q; row = h; col = k; takes = refl; alone = λ p at_row at_col is. ap (λ (o : Option Position). unwrap_or o p) is }

@@ -23,7 +23,9 @@ use Rattle.tabled_grid.specs.declared.records.piece_order.PieceOrder.TheVariants
 use Rattle.tabled_settings.specs.declared.split.Split.{Split}
 use Rattle.tabled_grid.specs.Axis.{across, place_in}
 use Rattle.tabled_grid.specs.Pieces.{nth_piece}
-use Rattle.tabled_settings.specs.Pieces.{cut_rows, piece, piece_at, staying, oriented}
+use Rattle.tabled_settings.specs.declared.split.Display.{Display}
+use Rattle.tabled_settings.specs.declared.split.Display.TheVariants.{Retain}
+use Rattle.tabled_settings.specs.Pieces.{cut_rows, piece, piece_at, staying, stays, stays_at, oriented}
 use Rattle.tabled_settings.proofs.SameCells.{same_cells}
 
 -- the rows of a grid, or its columns as rows
@@ -90,24 +92,32 @@ pub filter_some : (p : ℕ → Bool) (n : ℕ) → 0 < n → p 0 ≡ true → 0 
 filter_some p zero h e = absurd (omega (arith, h))
 filter_some p (suc n) h e = rw e (omega arith)
 
+-- all pieces stay where they are retained
+pub all_retained : (s : Split) (pieces : ℕ) (rows : List (List (List ℕ))) → s.display ≡ Retain → staying s pieces rows ≡ range_with_len 0 (length rows * pieces)
+all_retained s pieces rows retained = filter_all (stays_at s pieces rows) (λ t. kept s.display (nth_piece s.behavior (length rows) pieces t).1 (piece_at s pieces rows t) retained) (range_with_len 0 (length rows * pieces))
+  where
+    kept : (d : Display) (k : ℕ) (texts : List (List ℕ)) → d ≡ Retain → stays d k texts ≡ true
+    kept d k texts is = rw is refl
+
 -- one number more is looked at
 range_more : (a n : ℕ) → range_with_len a (suc n) ≡ range_with_len a n ++ (a + n) ∷ []
 range_more a zero = let same : a + 0 ≡ a = omega arith in rw same refl
 range_more a (suc n) = let same : (a + 1) + n ≡ a + suc n = omega arith in ap (λ ys. a ∷ ys) (range_more (a + 1) n ∙ ap (λ k. range_with_len (a + 1) n ++ k ∷ []) same)
 
-pub filter_more : (p : ℕ → Bool) (n m : ℕ) → m ≡ n + 1 → filter p (range_with_len 0 m) ≡ filter p (range_with_len 0 n) ++ cond (p n) (n ∷ []) []
-filter_more p n m next =
+pub filter_more : (p : ℕ → Bool) (n m : ℕ) (stays : Bool) → m ≡ n + 1 → p n ≡ stays → filter p (range_with_len 0 m) ≡ filter p (range_with_len 0 n) ++ cond stays (n ∷ []) []
+filter_more p n m stays next e =
     let one : m ≡ suc n = omega (arith, next) in
     let same : 0 + n ≡ n = omega arith in
     ap (λ (k : ℕ). filter p (range_with_len 0 k)) one
     ∙ ap (filter p) (range_more 0 n ∙ ap (λ (k : ℕ). range_with_len 0 n ++ k ∷ []) same)
     ∙ filter-append p (range_with_len 0 n) (n ∷ [])
+    ∙ ap (λ (b : Bool). filter p (range_with_len 0 n) ++ cond b (n ∷ []) []) e
 
 pub filter_push : (p : ℕ → Bool) (n m : ℕ) (xs ys : List ℕ) → m ≡ n + 1 → p n ≡ true → xs ≡ filter p (range_with_len 0 n) → ys ≡ xs ++ n ∷ [] → ys ≡ filter p (range_with_len 0 m)
-filter_push p n m xs ys next e are is = is ∙ ap (λ (zs : List ℕ). zs ++ n ∷ []) are ∙ sym (filter_more p n m next ∙ ap (λ (b : Bool). filter p (range_with_len 0 n) ++ cond b (n ∷ []) []) e)
+filter_push p n m xs ys next e are is = is ∙ ap (λ (zs : List ℕ). zs ++ n ∷ []) are ∙ sym (filter_more p n m true next e)
 
 pub filter_skip : (p : ℕ → Bool) (n m : ℕ) (xs : List ℕ) → m ≡ n + 1 → p n ≡ false → xs ≡ filter p (range_with_len 0 n) → xs ≡ filter p (range_with_len 0 m)
-filter_skip p n m xs next e are = are ∙ sym (filter_more p n m next ∙ ap (λ (b : Bool). filter p (range_with_len 0 n) ++ cond b (n ∷ []) []) e ∙ append-nil (filter p (range_with_len 0 n)))
+filter_skip p n m xs next e are = are ∙ sym (filter_more p n m false next e ∙ append-nil (filter p (range_with_len 0 n)))
 
 pub first_number : (o : PieceOrder) (lines pieces : ℕ) → (nth_piece o lines pieces 0).1 ≡ 0
 first_number Zip lines pieces = zero-mod pieces

@@ -1,22 +1,24 @@
 -- The texts of lines that are pieces.
 use Rattle.std.proofs.Common.{◌≡◌, ◌≢◌, ℕ, ◌+◌, ◌-◌, ◌*◌, ◌<◌, ◌≤◌, ◌⊎◌, inl, inr, Bool, true, false, cond, eqb, List, [], Option, None, Some, refl, sym, ap, ap₂, ◌∙◌, subst, length, get_or, arith}
-use Rattle.std.specs.Prelude.{min}
+use Rattle.std.specs.Prelude.{min, nat_lt, ◌&&◌}
 use Rattle.std.specs.Int.{div_ceil}
 use Rattle.std.specs.List.{filter, list_any, range_with_len}
 use Rattle.std.specs.List.Sorted.{IsStrictlyIncreasing}
 use Rattle.std.specs.Option.{option_map, unwrap_or}
-use Rattle.std.proofs.lemmas.Bool.{cases_lt, lt-ltb, ne_eqb}
+use Rattle.std.proofs.lemmas.Bool.{cases_lt, lt-ltb, ltb-true, ne_eqb}
 use Rattle.std.proofs.lemmas.Nat.{row_fits}
 use Rattle.std.proofs.lemmas.List.{get_or_default}
 use Rattle.std.proofs.lemmas.List.Folds.{list_any_at, list_any_none}
 use Rattle.std.proofs.lemmas.List.Kept.{IsStrictlyIncreasing-filter}
 use Rattle.std.proofs.lemmas.List.FromFn.{get_or-range_with_len, length-range_with_len}
 use Rattle.std.proofs.lemmas.Option.{unwrap_or-slice_get}
+use mathlib.Core.Bool.{true≢false}
 use Rattle.tabled_grid.specs.Along.{count_along}
 use Rattle.tabled_grid.specs.Grid.{Grid, IsEven, IsInside, cell_at, map_grid}
 use Rattle.tabled_grid.specs.declared.records.axis.Axis.{Axis}
 use Rattle.tabled_grid.specs.declared.records.axis.Axis.TheVariants.{Rows, Columns}
 use Rattle.tabled_grid.proofs.Grids.{IsEven-map_grid, cell_at-map_grid, cell_at-map_grid_some}
+use Rattle.tabled_settings.specs.declared.cuts.Cut.{Cut}
 use Rattle.tabled_settings.specs.declared.split.Display.{Display}
 use Rattle.tabled_settings.specs.declared.split.Display.TheVariants.{Clean, Retain}
 use Rattle.tabled_settings.specs.declared.split.Split.{Split}
@@ -28,7 +30,8 @@ use Rattle.tabled_settings.specs.PieceTexts.{has_text}
 use Rattle.tabled_grid.specs.Axis.{across, count_of, place_in}
 use Rattle.tabled_grid.specs.Pieces.{nth_piece}
 use Rattle.tabled_settings.specs.Pieces.{has_pieces, is_text, piece_at, split, staying, stays, stays_at, oriented}
-use Rattle.tabled_settings.proofs.PieceReads.{filter_all, filter_below, filter_some, first_number, length-piece, piece_text, pieces_are, some_inside, turned_cell, turned_columns, turned_even, turned_rows}
+use Rattle.tabled_settings.proofs.LineReads.{counted}
+use Rattle.tabled_settings.proofs.PieceReads.{all_retained, filter_below, filter_some, first_number, length-piece, piece_text, pieces_are, some_inside, turned_cell, turned_columns, turned_even, turned_rows}
 use Rattle.tabled_settings.proofs.PieceTexts.{at_line}
 use Rattle.tabled_settings.proofs.RisingLists.{range_rises}
 use Rattle.tabled_settings.proofs.SameCells.{none_outside}
@@ -37,12 +40,23 @@ pub map_count : {A B : Type 0} (f : A → B) (axis : Axis) (g : Grid A) → coun
 map_count f Rows g = refl
 map_count f Columns g = refl
 
-pub counted : {A : Type 0} (axis : Axis) (g : Grid A) → count_of axis g.rows g.columns ≡ count_along axis g
-counted Rows g = refl
-counted Columns g = refl
-
 pub lines_counted : {A : Type 0} (axis : Axis) (g : Grid A) (n rows columns : ℕ) → n ≡ count_of axis rows columns → rows ≡ g.rows → columns ≡ g.columns → n ≡ count_along axis g
 lines_counted axis g n rows columns n_is rows_are columns_are = n_is ∙ ap₂ (count_of axis) rows_are columns_are ∙ counted axis g
+
+-- where there are pieces, there are lines, and they are longer than a piece, which has cells
+pub pieces_need : (s : Split) (g : Grid (List ℕ)) → has_pieces s g.rows g.columns ≡ true → (0 < count_along s.lines g) × (0 < s.index) × (s.index < count_along (across s.lines) g)
+pieces_need s g e =
+    let tests = parts (nat_lt 0 (count_of s.lines g.rows g.columns)) (nat_lt 0 s.index) (nat_lt s.index (count_of (across s.lines) g.rows g.columns)) e in (
+      omega (arith, ltb-true 0 (count_of s.lines g.rows g.columns) tests.0, counted s.lines g),
+      ltb-true 0 s.index tests.1,
+      omega (arith, ltb-true s.index (count_of (across s.lines) g.rows g.columns) tests.2, counted (across s.lines) g),
+    )
+  where
+    parts : (x y z : Bool) → (x && (y && z)) ≡ true → (x ≡ true) × (y ≡ true) × (z ≡ true)
+    parts true true true e = (refl, refl, refl)
+    parts true true false e = absurd (true≢false (sym e))
+    parts true false z e = absurd (true≢false (sym e))
+    parts false y z e = absurd (true≢false (sym e))
 
 pub past_line : {A : Type 0} (axis : Axis) (g : Grid A) (i j : ℕ) → IsEven g → count_along (across axis) g ≤ j → cell_at g (place_in axis i j) ≡ None
 past_line Rows g i j even h = none_outside g i j even (inr h)
@@ -56,6 +70,9 @@ pub record CanBeCut {A : Type 0} (s : Split) (lines width : ℕ) (g : Grid A) : 
   pub some : 0 < lines
   pub index : 0 < s.index
   pub narrow : s.index < width
+
+pub can_be_cut : {A : Type 0} (cut : Cut) (g : Grid A) → IsEven g → cut.lines ≡ count_along cut.split.lines g → cut.width ≡ count_along (across cut.split.lines) g → CanBeCut cut.split cut.lines cut.width g
+can_be_cut cut g even count wide = record { even = even; count = count; wide = wide; some = cut.some; index = cut.index; narrow = cut.narrow }
 
 module _ {A : Type 0} (text_of : A → List ℕ) (s : Split) (lines width : ℕ) (g : Grid A) (can : CanBeCut s lines width g) where
   abbrev pieces : ℕ
@@ -176,12 +193,7 @@ module _ {A : Type 0} (text_of : A → List ℕ) (s : Split) (lines width : ℕ)
   staying_all = ap (λ (n : ℕ). filter (stays_at s pieces rows) (range_with_len 0 (n * pieces))) long
 
   all_stay : s.display ≡ Retain → staying s pieces rows ≡ range_with_len 0 (lines * pieces)
-  all_stay e =
-      filter_all (stays_at s pieces rows) (λ t. retained s.display (nth_piece s.behavior (length rows) pieces t).1 (piece_at s pieces rows t) e) (range_with_len 0 (length rows * pieces))
-      ∙ ap (λ (n : ℕ). range_with_len 0 (n * pieces)) long
-    where
-      retained : (d : Display) (k : ℕ) (texts : List (List ℕ)) → d ≡ Retain → stays d k texts ≡ true
-      retained d k texts is = rw is refl
+  all_stay e = all_retained s pieces rows e ∙ ap (λ (n : ℕ). range_with_len 0 (n * pieces)) long
 
   module _ (is_blank : A → Type 0) (blank_empty : (c : A) → is_blank c → text_of c ≡ []) (mid : Grid A) (cut : IsCut is_blank s.lines s.behavior s.index lines width g mid) where
     mid_text : (t b : ℕ) → t < lines * pieces → b < s.index → cell_at (map_grid text_of mid) (place_in s.lines t b) ≡ Some (get_or (piece_at s pieces rows t) b [])

@@ -11,13 +11,13 @@ use Rattle.tabled_select.specs.Located.{TellsLocated, is_located}
 use Rattle.tabled_settings.specs.Lines.{is_marked}
 use Rattle.tabled_settings.specs.Rearranged.{kept_lines, left_over, removed}
 use Rattle.tabled_settings.proofs.Dropped.{left_same}
-use Rattle.tabled_settings.proofs.Reversed.{count_is}
+use Rattle.tabled_settings.proofs.LineReads.{counted}
 
 module _ {A : Type 0} (axis : Axis) (found : List ℕ) (marks : List Bool) (g : Grid A) (t : TellsLocated found (count_along axis g) marks) where
   -- the lines without a mark are those that are left
   marked_removed : kept_lines axis (left_over (is_marked marks) (length marks)) g.rows g.columns ≡ removed axis found g.rows g.columns
   marked_removed =
-      let many = count_is axis g in
+      let many = counted axis g in
       ap (λ (n : ℕ). kept_lines axis (left_over (is_marked marks) n) g.rows g.columns) (t.many ∙ sym many)
       ∙ ap (λ (kept : List ℕ). kept_lines axis kept g.rows g.columns) (left_same (is_marked marks) (is_located found) (count_of axis g.rows g.columns) (λ i h. t.tells i (omega (arith, h, many))))
 

@@ -5,18 +5,18 @@ use Rattle.std.specs.List.{swap}
 use Rattle.std.proofs.lemmas.List.{map-id}
 use Rattle.std.proofs.lemmas.Simd.{map-map}
 use Rattle.std.proofs.lemmas.Bool.{cases_eq, cases_lt, le-leb, le-ltb, lt-leb, lt-ltb}
+use Rattle.std.proofs.lemmas.List.Edits.{Swapped}
 use Rattle.tabled_grid.specs.Along.{along, count_along}
 use Rattle.tabled_grid.specs.Grid.{Grid, IsEven}
 use Rattle.tabled_grid.specs.declared.config.offset.Offset.{Offset}
 use Rattle.tabled_grid.specs.declared.records.axis.Axis.{Axis}
-use Rattle.tabled_grid.specs.declared.records.axis.Axis.TheVariants.{Rows, Columns}
+use Rattle.tabled_grid.specs.declared.records.axis.Axis.TheVariants.{Columns}
 use Rattle.tabled_settings.specs.Lines.{ReversesEnds, ReversesLines, line_cells}
-use Rattle.tabled_grid.specs.Axis.{count_of}
 use Rattle.tabled_grid.specs.Places.{ReadsThrough}
 use Rattle.tabled_settings.specs.Places.{lines_from}
 use Rattle.tabled_settings.specs.Rearranged.{limit_end, reversed, reversed_index}
 use Rattle.tabled_grid.proofs.PiecesPut.{same_count, same_shape, shape_after}
-use Rattle.tabled_settings.proofs.LineReads.{lines_read, lines_swapped, shape_swapped}
+use Rattle.tabled_settings.proofs.LineReads.{counted, lines_read, lines_swapped, shape_swapped}
 
 module _ {A : Type 0} (axis : Axis) (s e : ℕ) where
   pub ends_none : (g : Grid A) → IsEven g → ReversesEnds axis s e 0 g g
@@ -31,7 +31,7 @@ module _ {A : Type 0} (axis : Axis) (s e : ℕ) where
   -- one swap more
   module _ (k n low high : ℕ) (g cur new : Grid A) (r : ReversesEnds axis s e k g cur) (is : new ≡ along axis (λ _ xs. swap xs low high) cur)
       (next : n ≡ k + 1) (at_low : low ≡ s + k) (at_high : high + k + 1 ≡ e) (apart : low < high) (within : high < count_along axis cur) where
-    moved : (line_cells axis new low ≡ line_cells axis cur high) × (line_cells axis new high ≡ line_cells axis cur low) × ((m : ℕ) → m ≢ low → m ≢ high → line_cells axis new m ≡ line_cells axis cur m)
+    moved : Swapped (line_cells axis cur) (line_cells axis new) low high
     moved = lines_swapped axis cur new low high r.shape.even (omega (arith, apart, within)) within is
 
     front_at : (i : ℕ) → s ≤ i → i < s + n → (i ≡ low) ⊎ (i ≢ low) → line_cells axis new i ≡ line_cells axis g (s + e - 1 - i)
@@ -90,10 +90,6 @@ ends_of_rows s e zero g even fits within = subst (λ (rows : List (List _)). Rev
 ends_of_rows s e (suc k) g even fits within =
     ends_more Columns s e k (suc k) (s + k) (e - 1 - k) g (record g { cells = map (ends s e k) g.cells }) _ (ends_of_rows s e k g even (omega (arith, fits)) within) (ap (λ (rows : List (List _)). record g { cells = rows }) (sym (map-map _ _ g.cells))) (omega arith) refl (omega (arith, fits)) (omega (arith, fits)) (omega (arith, fits, within))
 
-pub count_is : {A : Type 0} (axis : Axis) (g : Grid A) → count_of axis g.rows g.columns ≡ count_along axis g
-count_is Rows g = refl
-count_is Columns g = refl
-
 -- the index where a line comes from
 pub index_inside : (s e n i : ℕ) → e ≤ n → s ≤ i → i < e → reversed_index s e n i ≡ s + e - 1 - i
 index_inside s e n i fits h l = rw (le-leb e n fits, le-leb s i h, lt-ltb i e l) refl
@@ -139,7 +135,7 @@ whole_read axis n g new is r = lines_read axis (λ i. n - 1 - i) g.rows g.column
 
 module _ {A : Type 0} (axis : Axis) (s : ℕ) (limit : Offset) (n : ℕ) (g : Grid A) (is : n ≡ count_along axis g) where
   in_table : (new : Grid A) → ReadsThrough (lines_from axis (reversed_index s (limit_end limit s n) n) g.rows g.columns) g new → ReadsThrough (reversed axis s limit g.rows g.columns) g new
-  in_table new = subst (λ (m : ℕ). ReadsThrough (lines_from axis (reversed_index s (limit_end limit s m) m) g.rows g.columns) g new) (is ∙ sym (count_is axis g))
+  in_table new = subst (λ (m : ℕ). ReadsThrough (lines_from axis (reversed_index s (limit_end limit s m) m) g.rows g.columns) g new) (is ∙ sym (counted axis g))
 
   pub reversed_done : (e : ℕ) (new : Grid A) → e ≡ limit_end limit s n → e ≤ n → ReversesLines axis s e g new → ReadsThrough (reversed axis s limit g.rows g.columns) g new
   reversed_done e new at fits r = in_table new (subst (λ (k : ℕ). ReadsThrough (lines_from axis (reversed_index s k n) g.rows g.columns) g new) at (reversed_read axis s e n g new is fits r))

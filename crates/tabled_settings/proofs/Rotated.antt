@@ -1,5 +1,5 @@
 -- Tables turned by a quarter, or upside down.
-use Rattle.std.proofs.Common.{◌≡◌, ℕ, ◌-◌, ◌<◌, ◌⊎◌, inl, inr, false, eqb, refl, ap, ◌∙◌, arith}
+use Rattle.std.proofs.Common.{◌≡◌, ℕ, ◌-◌, ◌<◌, ◌⊎◌, inl, inr, false, eqb, refl, ap, sym, subst, ◌∙◌, arith}
 use Rattle.std.proofs.lemmas.Bool.{ne_eqb}
 use Rattle.tabled_grid.specs.Along.{count_along}
 use Rattle.tabled_grid.specs.Bulk.{transposed}
@@ -18,6 +18,12 @@ use Rattle.tabled_settings.proofs.Reversed.{whole_read}
 -- there are as many columns as there were rows, where there is a row
 pub as_wide : (c r : ℕ) → 0 < c → columns_if c r ≡ r
 as_wide c r some = let more : eqb c 0 ≡ false = ne_eqb c 0 (λ e. omega (arith, e, some)) in rw more refl
+
+pub into_wide : (c r j : ℕ) → 0 < c → j < r → j < columns_if c r
+into_wide c r j some = subst (λ (n : ℕ). j < n) (sym (as_wide c r some))
+
+pub out_of_wide : (c r j : ℕ) → 0 < c → j < columns_if c r → j < r
+out_of_wide c r j some = subst (λ (n : ℕ). j < n) (as_wide c r some)
 
 module _ {A : Type 0} where
   pub upside_down_done : (n : ℕ) (g new : Grid A) → n ≡ g.rows → ReversesLines Rows 0 n g new → ReadsThrough (upside_down g.rows g.columns) g new

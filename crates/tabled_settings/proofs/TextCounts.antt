@@ -16,7 +16,8 @@ use Rattle.tabled_settings.specs.Pieces.{has_pieces, is_text, piece, piece_at, s
 use Rattle.tabled_settings.proofs.Glued.{piece_of}
 use Rattle.tabled_settings.proofs.Sums.{count_by-filter, sum_by-joined, sum_by-places, sum_by-range, sum_to, sum_to-alike, sum_to-blocks, sum_to-swap}
 use Rattle.tabled_settings.proofs.PieceReads.{turned_even}
-use Rattle.tabled_settings.proofs.TextsKept.{all_pieces, pieces_need, texts_of_pieces, texts_uncut}
+use Rattle.tabled_settings.proofs.PiecesDone.{pieces_need}
+use Rattle.tabled_settings.proofs.TextsKept.{all_pieces, texts_of_pieces, texts_uncut}
 
 -- a sum over all pieces goes over the lines, and in each over its pieces
 by_lines : (o : PieceOrder) (lines pieces : ℕ) (f : ℕ → ℕ) → sum_to (lines * pieces) f ≡ sum_to lines (λ (i : ℕ). sum_to pieces (λ (k : ℕ). f (piece_index o lines pieces i k)))

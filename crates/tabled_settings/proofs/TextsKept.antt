@@ -1,9 +1,8 @@
 -- The texts of the pieces that stay are those of all pieces.
 use Rattle.std.proofs.Common.{◌≡◌, ℕ, ◌*◌, ◌<◌, Bool, true, false, cond, eqb, List, [], ◌∷◌, ◌++◌, refl, sym, ap, ◌∙◌, length, map, arith}
-use Rattle.std.specs.Prelude.{nat_lt, ◌&&◌, ◌||◌}
+use Rattle.std.specs.Prelude.{◌||◌}
 use Rattle.std.specs.Int.{div_ceil}
 use Rattle.std.specs.List.{filter, list_any, range_with_len}
-use Rattle.std.proofs.lemmas.Bool.{ltb-true}
 use Rattle.std.proofs.lemmas.List.Elements.{filter-append}
 use Rattle.std.proofs.lemmas.Nat.{row_fits}
 use mathlib.Core.Bool.{true≢false}
@@ -14,13 +13,13 @@ use Rattle.tabled_settings.specs.declared.split.Display.{Display}
 use Rattle.tabled_settings.specs.declared.split.Display.TheVariants.{Clean, Retain}
 use Rattle.tabled_settings.specs.declared.split.Split.{Split}
 use Rattle.tabled_settings.specs.PiecePlaces.{texts_in}
-use Rattle.tabled_grid.specs.Axis.{across, count_of}
+use Rattle.tabled_grid.specs.Axis.{across}
 use Rattle.tabled_grid.specs.Pieces.{nth_piece}
-use Rattle.tabled_settings.specs.Pieces.{cut_rows, has_pieces, is_text, piece_at, split, stays, oriented}
+use Rattle.tabled_settings.specs.Pieces.{cut_rows, has_pieces, is_text, piece_at, split, stays, stays_at, oriented}
 use Rattle.tabled_settings.proofs.Glued.{turned_back_twice}
 use Rattle.tabled_settings.proofs.PieceReads.{cut_count, cut_even, filter_some, first_number, turned_columns, turned_even, turned_rows}
 use Rattle.tabled_grid.proofs.PiecesCut.{enough_pieces, some_pieces}
-use Rattle.tabled_settings.proofs.PiecesDone.{counted}
+use Rattle.tabled_settings.proofs.PiecesDone.{pieces_need}
 
 no_texts : (xs : List (List ℕ)) → list_any is_text xs ≡ false → filter is_text xs ≡ []
 no_texts [] e = refl
@@ -63,30 +62,15 @@ module _ (s : Split) (g : Grid (List ℕ)) where
 
   all_texts : filter is_text (joined (cut_rows s g).cells) ≡ filter is_text (joined all_pieces)
   all_texts =
-      without_empty (piece_at s pieces g.cells) (λ (t : ℕ). stays s.display (nth_piece s.behavior (length g.cells) pieces t).1 (piece_at s pieces g.cells t))
+      without_empty (piece_at s pieces g.cells) (stays_at s pieces g.cells)
       (λ t e. gone s.display (nth_piece s.behavior (length g.cells) pieces t).1 (piece_at s pieces g.cells t) e) (range_with_len 0 (length g.cells * pieces))
 
   some_stay : 0 < length g.cells → 0 < pieces → 0 < (cut_rows s g).rows
   some_stay h k =
       let all : 0 < length g.cells * pieces = omega (arith, row_fits 0 pieces (length g.cells) pieces h (omega arith), k) in
-      let kept = filter_some (λ (t : ℕ). stays s.display (nth_piece s.behavior (length g.cells) pieces t).1 (piece_at s pieces g.cells t)) (length g.cells * pieces) all
+      let kept = filter_some (stays_at s pieces g.cells) (length g.cells * pieces) all
       (first_stays s.display (nth_piece s.behavior (length g.cells) pieces 0).1 (piece_at s pieces g.cells 0) (first_number s.behavior (length g.cells) pieces)) in
       omega (arith, kept, cut_count s g)
-
--- where there are pieces, there are lines, and they are longer than a piece, which has cells
-pub pieces_need : (s : Split) (g : Grid (List ℕ)) → has_pieces s g.rows g.columns ≡ true → (0 < count_along s.lines g) × (0 < s.index) × (s.index < count_along (across s.lines) g)
-pieces_need s g e =
-    let tests = parts (nat_lt 0 (count_of s.lines g.rows g.columns)) (nat_lt 0 s.index) (nat_lt s.index (count_of (across s.lines) g.rows g.columns)) e in (
-      omega (arith, ltb-true 0 (count_of s.lines g.rows g.columns) tests.0, counted s.lines g),
-      ltb-true 0 s.index tests.1,
-      omega (arith, ltb-true s.index (count_of (across s.lines) g.rows g.columns) tests.2, counted (across s.lines) g),
-    )
-  where
-    parts : (x y z : Bool) → (x && (y && z)) ≡ true → (x ≡ true) × (y ≡ true) × (z ≡ true)
-    parts true true true e = (refl, refl, refl)
-    parts true true false e = absurd (true≢false (sym e))
-    parts true false z e = absurd (true≢false (sym e))
-    parts false y z e = absurd (true≢false (sym e))
 
 -- the texts of the result, along the lines, are those of all pieces
 pub texts_of_pieces : (s : Split) (g : Grid (List ℕ)) → IsEven g → has_pieces s g.rows g.columns ≡ true → texts_in s.lines (split s g) ≡ filter is_text (joined (all_pieces s (oriented s.lines g)))

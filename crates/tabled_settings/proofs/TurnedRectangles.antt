@@ -1,5 +1,5 @@
 -- Where the rectangles of a table go that is turned.
-use Rattle.std.proofs.Common.{◌≡◌, ℕ, ◌+◌, ◌-◌, ◌<◌, ◌≤◌, ◌⊎◌, inl, inr, Some, refl, sym, ap, ap₂, subst, ◌∙◌, arith}
+use Rattle.std.proofs.Common.{◌≡◌, ℕ, ◌+◌, ◌-◌, ◌<◌, ◌≤◌, ◌⊎◌, inl, inr, Some, refl, sym, ap, ap₂, subst, arith}
 use Rattle.std.proofs.lemmas.Option.{same_Some}
 use Rattle.tabled_grid.specs.Entity.{place}
 use Rattle.tabled_grid.specs.Midway.{In}
@@ -8,12 +8,11 @@ use Rattle.tabled_grid.specs.Spans.{Rectangle, sized}
 use Rattle.tabled_grid.specs.declared.config.size.Size.{Size}
 use Rattle.tabled_grid.specs.declared.records.axis.Axis.TheVariants.{Rows}
 use Rattle.tabled_carry.specs.Images.{Carries, HasArea, Takes}
-use Rattle.tabled_carry.proofs.RectanglesCarried.{carries_one}
 use Rattle.tabled_settings.specs.Rearranged.{rotated, upside_down}
 use Rattle.tabled_settings.specs.declared.rotate.Rotate.{Rotate}
 use Rattle.tabled_settings.specs.declared.rotate.Rotate.TheVariants.{Left, Right, Top, Bottom}
 use Rattle.tabled_settings.proofs.MirroredSpans.{lines_carry}
-use Rattle.tabled_settings.proofs.Rotated.{as_wide}
+use Rattle.tabled_settings.proofs.Rotated.{into_wide, out_of_wide}
 
 module _ (rows columns : ℕ) (a : Position) (s : Size) (full : HasArea (a, s)) (high : a.row + s.height ≤ rows) (far : a.col + s.width ≤ columns) where
   wide : 0 < columns
@@ -26,7 +25,7 @@ module _ (rows columns : ℕ) (a : Position) (s : Size) (full : HasArea (a, s)) 
       all : (q : Position) → In (a, s) q → (p : Position) × Takes (rotated Left rows columns) p q
       all q h =
           let back : columns - 1 - (columns - 1 - q.col) ≡ q.col = omega (arith, h.right, far) in
-          (place (columns - 1 - q.col) q.row, record { row = omega (arith, wide); col = subst (λ (n : ℕ). q.row < n) (sym (as_wide columns rows wide)) (omega (arith, h.bottom, high)); from = ap (λ (j : ℕ). Some (place q.row j)) back })
+          (place (columns - 1 - q.col) q.row, record { row = omega (arith, wide); col = into_wide columns rows q.row wide (omega (arith, h.bottom, high)); from = ap (λ (j : ℕ). Some (place q.row j)) back })
 
       only : (p q : Position) → Takes (rotated Left rows columns) p q → In (a, s) q → In (place (columns - (a.col + s.width)) a.row, sized s.width s.height) p
       only p q t h =
@@ -40,7 +39,7 @@ module _ (rows columns : ℕ) (a : Position) (s : Size) (full : HasArea (a, s)) 
       from p h = (
         place p.col (columns - 1 - p.row),
         record { top = h.left; bottom = h.right; left = omega (arith, h.bottom, far); right = omega (arith, h.top, far, h.bottom) },
-        record { row = omega (arith, h.bottom, far); col = subst (λ (n : ℕ). p.col < n) (sym (as_wide columns rows wide)) (omega (arith, h.right, high)); from = refl },
+        record { row = omega (arith, h.bottom, far); col = into_wide columns rows p.col wide (omega (arith, h.right, high)); from = refl },
       )
 
   -- to the right
@@ -51,21 +50,21 @@ module _ (rows columns : ℕ) (a : Position) (s : Size) (full : HasArea (a, s)) 
       all q h =
           let back : rows - 1 - (rows - 1 - q.row) ≡ q.row = omega (arith, h.bottom, high) in
           let low : rows - 1 - q.row < rows = omega (arith, h.bottom, high) in
-          (place q.col (rows - 1 - q.row), record { row = omega (arith, h.right, far); col = subst (λ (n : ℕ). rows - 1 - q.row < n) (sym (as_wide columns rows wide)) low; from = ap (λ (i : ℕ). Some (place i q.col)) back })
+          (place q.col (rows - 1 - q.row), record { row = omega (arith, h.right, far); col = into_wide columns rows (rows - 1 - q.row) wide low; from = ap (λ (i : ℕ). Some (place i q.col)) back })
 
       only : (p q : Position) → Takes (rotated Right rows columns) p q → In (a, s) q → In (place a.col (rows - (a.row + s.height)), sized s.width s.height) p
       only p q t h =
           let is : place (rows - 1 - p.col) p.row ≡ q = same_Some _ _ t.from in
           let row : rows - 1 - p.col ≡ q.row = ap (λ (x : Position). x.row) is in
           let col : p.row ≡ q.col = ap (λ (x : Position). x.col) is in
-          let low : p.col < rows = subst (λ (n : ℕ). p.col < n) (as_wide columns rows wide) t.col in
+          let low : p.col < rows = out_of_wide columns rows p.col wide t.col in
           record { top = omega (arith, col, h.left); bottom = omega (arith, col, h.right); left = omega (arith, row, low, h.bottom, high); right = omega (arith, row, low, h.top, high) }
 
       from : (p : Position) → In (place a.col (rows - (a.row + s.height)), sized s.width s.height) p → (q : Position) × In (a, s) q × Takes (rotated Right rows columns) p q
       from p h = (
         place (rows - 1 - p.col) p.row,
         record { top = omega (arith, h.right, high); bottom = omega (arith, h.left, high, h.right); left = h.top; right = h.bottom },
-        record { row = omega (arith, h.bottom, far); col = subst (λ (n : ℕ). p.col < n) (sym (as_wide columns rows wide)) (omega (arith, h.right, high)); from = refl },
+        record { row = omega (arith, h.bottom, far); col = into_wide columns rows p.col wide (omega (arith, h.right, high)); from = refl },
       )
 
 -- the rectangle that one inside the table goes to
@@ -101,6 +100,9 @@ turned_carries Right rows columns e full high far = right_carries rows columns e
 turned_carries Top rows columns e full high far = upside_down_carries rows columns e high far
 turned_carries Bottom rows columns e full high far = upside_down_carries rows columns e high far
 
+pub turned_to : (turn : Rotate) (rows columns : ℕ) (e f : Rectangle) → HasArea e → e.0.row + e.1.height ≤ rows → e.0.col + e.1.width ≤ columns → f ≡ turned turn rows columns e → Carries (rotated turn rows columns) e f
+turned_to turn rows columns e f full high far is = subst (λ (h : Rectangle). Carries (rotated turn rows columns) e h) (sym is) (turned_carries turn rows columns e full high far)
+
 -- a cell that goes to a place is a cell of the table
 upside_down_from : (rows columns : ℕ) (p q : Position) → Takes (upside_down rows columns) p q → (q.row < rows) × (q.col < columns)
 upside_down_from rows columns p q t =
@@ -113,12 +115,12 @@ turned_from : (turn : Rotate) (rows columns : ℕ) (p q : Position) → Takes (r
 turned_from Left rows columns p q t =
     let is : place p.col (columns - 1 - p.row) ≡ q = same_Some _ _ t.from in
     let low : p.row < columns = t.row in
-    let far : p.col < rows = subst (λ (n : ℕ). p.col < n) (as_wide columns rows (omega (arith, low))) t.col in
+    let far : p.col < rows = out_of_wide columns rows p.col (omega (arith, low)) t.col in
     (omega (arith, far, ap (λ (x : Position). x.row) is), omega (arith, low, ap (λ (x : Position). x.col) is))
 turned_from Right rows columns p q t =
     let is : place (rows - 1 - p.col) p.row ≡ q = same_Some _ _ t.from in
     let low : p.row < columns = t.row in
-    let far : p.col < rows = subst (λ (n : ℕ). p.col < n) (as_wide columns rows (omega (arith, low))) t.col in
+    let far : p.col < rows = out_of_wide columns rows p.col (omega (arith, low)) t.col in
     (omega (arith, far, ap (λ (x : Position). x.row) is), omega (arith, low, ap (λ (x : Position). x.col) is))
 turned_from Top rows columns p q t = upside_down_from rows columns p q t
 turned_from Bottom rows columns p q t = upside_down_from rows columns p q t
@@ -131,8 +133,3 @@ turned_inside turn rows columns e f full c =
     let p = c.all q last in
     let at = turned_from turn rows columns p.0 q p.1 in
     (omega (arith, at.0, full.height), omega (arith, at.1, full.width))
-
--- and it goes to no other one
-pub turned_one : (turn : Rotate) (rows columns : ℕ) (e f : Rectangle) → HasArea e → e.0.row + e.1.height ≤ rows → e.0.col + e.1.width ≤ columns → f ≡ turned turn rows columns e → (h : Rectangle) → Carries (rotated turn rows columns) e h → HasArea h → Some f ≡ Some h
-turned_one turn rows columns e f full high far is h carries whole =
-    ap Some (is ∙ carries_one (rotated turn rows columns) e (turned turn rows columns e) h (turned_full turn rows columns e full) whole (turned_carries turn rows columns e full high far) carries)

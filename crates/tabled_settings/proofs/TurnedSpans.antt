@@ -7,7 +7,7 @@ use Rattle.tabled_grid.specs.Spans.{SpanMap}
 use Rattle.tabled_grid.specs.declared.config.position.Position.{Position}
 use Rattle.tabled_carry.specs.Images.{HasArea, LeadsBack, Takes, carried}
 use Rattle.tabled_carry.proofs.Back.{carried_back}
-use Rattle.tabled_settings.proofs.Rotated.{as_wide}
+use Rattle.tabled_settings.proofs.Rotated.{as_wide, into_wide, out_of_wide}
 use Rattle.tabled_settings.proofs.TurnedRectangles.{turned, turned_carries, turned_full}
 use Rattle.tabled_settings.specs.Rearranged.{rotated}
 use Rattle.tabled_settings.specs.declared.rotate.Rotate.TheVariants.{Left, Right}
@@ -22,11 +22,11 @@ module _ (rows columns : ℕ) (tall : 0 < rows) (wide : 0 < columns) where
           let row : p.col ≡ q.row = ap (λ (x : Position). x.row) is in
           let col : columns - 1 - p.row ≡ q.col = ap (λ (x : Position). x.col) is in
           let low : p.row < columns = t.row in
-          let far : p.col < rows = subst (λ (n : ℕ). p.col < n) (as_wide columns rows wide) t.col in
+          let far : p.col < rows = out_of_wide columns rows p.col wide t.col in
           let back : columns - 1 - q.col ≡ p.row = omega (arith, col, low) in
           record {
             row = omega (arith, row, far);
-            col = subst (λ (n : ℕ). q.col < n) (sym (as_wide rows columns tall)) (omega (arith, col, low));
+            col = into_wide rows columns q.col tall (omega (arith, col, low));
             from = ap Some (ap₂ place back (sym row));
           }
 
@@ -36,11 +36,11 @@ module _ (rows columns : ℕ) (tall : 0 < rows) (wide : 0 < columns) where
           let row : columns - 1 - q.col ≡ p.row = ap (λ (x : Position). x.row) is in
           let col : q.row ≡ p.col = ap (λ (x : Position). x.col) is in
           let low : q.row < rows = t.row in
-          let far : q.col < columns = subst (λ (n : ℕ). q.col < n) (as_wide rows columns tall) t.col in
+          let far : q.col < columns = out_of_wide rows columns q.col tall t.col in
           let back : columns - 1 - p.row ≡ q.col = omega (arith, row, far) in
           record {
             row = omega (arith, row, far);
-            col = subst (λ (n : ℕ). p.col < n) (sym (as_wide columns rows wide)) (omega (arith, col, low));
+            col = into_wide columns rows p.col wide (omega (arith, col, low));
             from = ap Some (ap₂ place (sym col) back);
           }
 

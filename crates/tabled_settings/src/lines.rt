@@ -3,7 +3,6 @@
 ghost use Rattle.std.specs.Prelude.{◌≡◌, ◌<◌, ◌≤◌, ◌-◌, ℕ, length, min, slice_index};
 ghost use Rattle.std.specs.List.Sorted.{IsStrictlyIncreasing};
 ghost use Rattle.tabled_grid.specs.Along.{count_along};
-ghost use Rattle.tabled_grid.specs.declared.records.axis.Axis.TheVariants.{Columns, Rows};
 ghost use Rattle.tabled_settings.specs.Lines.{DropsLines, KeepsLines, KeepsSome, ReversesLines, ThinsLines, is_marked};
 ghost use Rattle.tabled_settings.specs.Rearranged.{left_over};
 
@@ -97,53 +96,45 @@ where
     ensures well { R.is_well_formed records.new }
     ensures dropped { DropsLines axis (is_marked gone.now) (R.grid records.old) (R.grid records.new) }
 {
-    let kept = match axis {
-        Axis::Rows => thin_rows(records, gone),
-        Axis::Columns => thin_columns(records, gone),
-    };
+    let kept = thin(axis, records, gone);
     records.truncate_lines(axis, kept);
 }
 
-/// Brings the rows without a mark to the front, and counts them.
-fn thin_rows<R>(records: &mut R, gone: &[bool]) -> usize
-where
-    R: Resizable,
-    R::Cell: Blank,
-    requires well { R.is_well_formed records.old }
-    requires many { length gone.now ≡ (R.grid records.old).rows }
-    ensures well { R.is_well_formed records.new }
-    ensures thins { ThinsLines Rows (is_marked gone.now) (length gone.now) result (R.grid records.old) (R.grid records.new) }
-{
-    let mut kept = 0;
-    for i in 0..gone.len() {
-        if !is_marked(gone, i) {
-            records.swap_row(kept, i);
-            kept += 1;
-        }
-    }
-    kept
-}
-
-/// Brings the columns without a mark to the front, row by row, and counts them.
-fn thin_columns<R>(records: &mut R, gone: &[bool]) -> usize
+/// Brings the lines without a mark to the front, and counts them: columns row by row, since a walk down a
+/// column leaves the caches.
+fn thin<R>(axis: Axis, records: &mut R, gone: &[bool]) -> usize
 where
     R: ExactRecords + Resizable,
     R::Cell: Blank,
     requires well { R.is_well_formed records.old }
-    requires many { length gone.now ≡ (R.grid records.old).columns }
+    requires many { length gone.now ≡ count_along axis (R.grid records.old) }
     ensures well { R.is_well_formed records.new }
-    ensures thins { ThinsLines Columns (is_marked gone.now) (length gone.now) result (R.grid records.old) (R.grid records.new) }
+    ensures thins { ThinsLines axis (is_marked gone.now) (length gone.now) result (R.grid records.old) (R.grid records.new) }
 {
-    for i in 0..records.count_rows() {
-        let mut kept = 0;
-        for j in 0..gone.len() {
-            if !is_marked(gone, j) {
-                records.swap(Position::new(i, kept), Position::new(i, j));
-                kept += 1;
+    match axis {
+        Axis::Rows => {
+            let mut kept = 0;
+            for i in 0..gone.len() {
+                if !is_marked(gone, i) {
+                    records.swap_row(kept, i);
+                    kept += 1;
+                }
             }
+            kept
+        }
+        Axis::Columns => {
+            for row in 0..records.count_rows() {
+                let mut kept = 0;
+                for j in 0..gone.len() {
+                    if !is_marked(gone, j) {
+                        records.swap(Position::new(row, kept), Position::new(row, j));
+                        kept += 1;
+                    }
+                }
+            }
+            count_kept(gone)
         }
     }
-    count_kept(gone)
 }
 
 /// How many lines have no mark.

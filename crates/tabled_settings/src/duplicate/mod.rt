@@ -1,6 +1,6 @@
 //! Texts of some cells written to others.
 
-ghost use Rattle.std.specs.Prelude.{◌≡◌, ◌<◌, ◌≤◌, length, map, take, OnErr, OnOk, IfOk};
+ghost use Rattle.std.specs.Prelude.{◌≡◌, ◌%◌, ◌+◌, ◌<◌, ◌≤◌, length, map, take, OnErr, OnOk, IfOk};
 ghost use Rattle.std.specs.List.{AllByRecursion};
 ghost use Rattle.std.specs.String.{string_bytes};
 ghost use Rattle.tabled_grid.specs.Entity.{inside};
@@ -162,6 +162,16 @@ where
     Ok(texts)
 }
 
+/// The index after one of n, round and round: after the last one comes the first.
+fn index_after(index: usize, count: usize) -> usize
+    requires { index < count }
+    ensures next { result ≡ (index + 1) % count }
+    ensures within { result < count }
+{
+    let next = index + 1;
+    if next == count { 0 } else { next }
+}
+
 /// Writes texts to the cells inside that an entity names, from the first on, round and round.
 fn write_round<R>(
     alloc: Global,
@@ -183,10 +193,7 @@ where
     let mut next = 0;
     for pos in entity.iter(records.count_rows(), records.count_columns()) {
         records.set(alloc, pos, texts[next].clone()?)?;
-        next += 1;
-        if next == texts.len() {
-            next = 0;
-        }
+        next = index_after(next, texts.len());
     }
     Ok(())
 }

@@ -2,7 +2,7 @@ use Rattle.std.proofs.Common.{arith, ◌≡◌, ◌∙◌, [], append-nil, map, 
 use Rattle.std.proofs.lemmas.Grind.{common_steps}
 use Rattle.std.proofs.lemmas.List.{append_assoc, length-map, map-append, nil_from_length, take_all}
 use Rattle.std.specs.Vec.Iter.{into_iter_items}
-use Rattle.tabled_settings.proofs.Rounds.{take-append-take}
+use Rattle.tabled_settings.proofs.Duplicated.{take-append-take}
 use Rattle.tabled_settings.proofs.duplicate.first_texts.Goals as goal
 
 pub loop-entity-init : goal.loop-entity-init

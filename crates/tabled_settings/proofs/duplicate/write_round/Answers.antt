@@ -1,11 +1,11 @@
-use Rattle.std.proofs.Common.{arith, ◌≡◌, ◌<◌, ◌∙◌, ◌+◌, ◌%◌, [], get_or, map, length, string_bytes, refl, sym, ap}
+use Rattle.std.proofs.Common.{◌≡◌, ◌∙◌, ℕ, ◌+◌, ◌%◌, [], get_or, map, length, string_bytes, refl, sym, ap, ap₂}
+use Rattle.std.proofs.Math.Nat.{mod-add-mod, zero-mod}
 use Rattle.std.proofs.lemmas.List.{get_or-map, length-map}
 use Rattle.tabled_grid.specs.Entity.{inside}
 use Rattle.tabled_grid.specs.Grid.{map_grid, with_cell}
 use Rattle.tabled_grid.proofs.Places.{inside-within}
-use Rattle.tabled_settings.proofs.Results.{on_err}
+use Rattle.tabled_options.proofs.Results.{on_err}
 use Rattle.tabled_options.proofs.Writes.{some-next, some-none}
-use Rattle.tabled_settings.proofs.Rounds.{last_mod, next_mod, zero_mod}
 use Rattle.tabled_settings.proofs.duplicate.write_round.Goals as goal
 
 pub loop-pos-init : goal.loop-pos-init
@@ -20,7 +20,7 @@ loop-pos-init g c =
       columns = refl;
       within = rw all (inside-within c.args.entity first.rows first.columns);
       next = c.requires.some;
-      left = (0, zero_mod (length (map string_bytes c.args.texts.now)) (rw (length-map c.args.texts.now string_bytes) c.requires.some), rw all refl, λ h s. rw all at s);
+      left = (0, sym (zero-mod (length (map string_bytes c.args.texts.now))), rw all refl, λ h s. rw all at s);
     }
 
 pub bounds-texts-next : goal.bounds-texts-next
@@ -55,35 +55,13 @@ returns-in_err-set-clause-columns g c = c.set.ensures.columns ∙ c.loop-pos.inv
 pub returns-in_err-set-clause-err : goal.returns-in_err-set-clause-err
 returns-in_err-set-clause-err g c = on_err c.from_residual-in_err-set.result (c.loop-pos.invariant.left.3 _ (rw (c.in-Some.ensures.steps, c.in_err-set.ensures.err) (some-none _ _ _)))
 
-pub loop-pos-preserved-then-next-texts : goal.loop-pos-preserved-then-next-texts
-loop-pos-preserved-then-next-texts g c =
-    let i = c.loop-pos.invariant in
-    let texts = map string_bytes c.args.texts.now in
-    let n = length texts in
-    let k = i.left.0 in
-    let same : n ≡ length c.args.texts.now = length-map c.args.texts.now string_bytes in
-    let text : string_bytes c.in_ok-clone.field-0 ≡ get_or texts (k % n) [] = c.in_ok-clone.ensures.cases ∙ ap string_bytes c.index-texts-next.is ∙ sym (get_or-map string_bytes c.args.texts.now c.loop-pos.next c.index-texts-next.result [] i.next) ∙ ap (λ x. get_or texts x []) i.left.1 in
-    let put = c.in_ok-set.ensures.texts ∙ ap (with_cell (map_grid g.R.Cell.CellText.text_of (g.R.GridStore.grid c.loop-pos.records)) c.in-Some.pos) text in
-    record {
-      can = tt;
-      ends = tt;
-      well = c.set.ensures.well;
-      rows = c.set.ensures.rows ∙ i.rows;
-      columns = c.set.ensures.columns ∙ i.columns;
-      within = (rw c.in-Some.ensures.steps at i.within).1;
-      next = c.requires.some;
-      left = (k + 1, sym (last_mod k n (rw same c.requires.some) (sym (ap (λ x. x + 1) i.left.1) ∙ c.if-next-texts.true ∙ sym same)), rw put (rw c.in-Some.ensures.steps at i.left.2), λ h s. i.left.3 h (rw c.in-Some.ensures.steps (some-next _ _ _ h (rw put at s))));
-    }
-
 pub loop-pos-preserved : goal.loop-pos-preserved
 loop-pos-preserved g c =
     let i = c.loop-pos.invariant in
     let texts = map string_bytes c.args.texts.now in
-    let n = length texts in
     let k = i.left.0 in
-    let same : n ≡ length c.args.texts.now = length-map c.args.texts.now string_bytes in
-    let text : string_bytes c.in_ok-clone.field-0 ≡ get_or texts (k % n) [] = c.in_ok-clone.ensures.cases ∙ ap string_bytes c.index-texts-next.is ∙ sym (get_or-map string_bytes c.args.texts.now c.loop-pos.next c.index-texts-next.result [] i.next) ∙ ap (λ x. get_or texts x []) i.left.1 in
-    let more : c.loop-pos.next + 1 < length c.args.texts.now = omega (arith, i.next, c.if-next-texts.false) in
+    let same = sym (length-map c.args.texts.now string_bytes) in
+    let text : string_bytes c.in_ok-clone.field-0 ≡ get_or texts (k % length texts) [] = c.in_ok-clone.ensures.cases ∙ ap string_bytes c.index-texts-next.is ∙ sym (get_or-map string_bytes c.args.texts.now c.loop-pos.next c.index-texts-next.result [] i.next) ∙ ap (λ x. get_or texts x []) i.left.1 in
     let put = c.in_ok-set.ensures.texts ∙ ap (with_cell (map_grid g.R.Cell.CellText.text_of (g.R.GridStore.grid c.loop-pos.records)) c.in-Some.pos) text in
     record {
       can = tt;
@@ -92,8 +70,8 @@ loop-pos-preserved g c =
       rows = c.set.ensures.rows ∙ i.rows;
       columns = c.set.ensures.columns ∙ i.columns;
       within = (rw c.in-Some.ensures.steps at i.within).1;
-      next = more;
-      left = (k + 1, ap (λ x. x + 1) i.left.1 ∙ sym (next_mod k n (rw (← i.left.1, same) more)), rw put (rw c.in-Some.ensures.steps at i.left.2), λ h s. i.left.3 h (rw c.in-Some.ensures.steps (some-next _ _ _ h (rw put at s))));
+      next = c.index_after-next.ensures.within;
+      left = (k + 1, c.index_after-next.ensures.next ∙ ap₂ (λ (a n : ℕ). (a + 1) % n) i.left.1 same ∙ mod-add-mod k (length texts) 1, rw put (rw c.in-Some.ensures.steps at i.left.2), λ h s. i.left.3 h (rw c.in-Some.ensures.steps (some-next _ _ _ h (rw put at s))));
     }
 
 pub returns-clause-well : goal.returns-clause-well

@@ -4,7 +4,7 @@ use Rattle.tabled_grid.specs.Entity.{inside}
 use Rattle.tabled_grid.specs.Grid.{map_grid}
 use Rattle.tabled_settings.specs.Dups.{round_from, round_writes}
 use Rattle.tabled_options.specs.Writes.{FirstWrites, with_writes}
-use Rattle.tabled_settings.proofs.Results.{on_err}
+use Rattle.tabled_options.proofs.Results.{on_err}
 use Rattle.tabled_options.proofs.Writes.{some-first, some-later, writes-append}
 use Rattle.tabled_settings.proofs.duplicate.write_rounds.Goals as goal
 

@@ -1,7 +1,7 @@
 use Rattle.std.proofs.Common.{◌≡◌, ℕ, ◌+◌, ◌*◌, ◌∙◌, ap, arith, refl, sym}
 use Rattle.std.specs.Int.{div_ceil}
 use Rattle.tabled_settings.proofs.PieceReads.{filter_push, filter_skip}
-use Rattle.tabled_settings.proofs.PiecesDone.{CanBeCut, staying_is}
+use Rattle.tabled_settings.proofs.PiecesDone.{can_be_cut, staying_is}
 use Rattle.tabled_settings.proofs.pieces.kept_pieces.Goals as goal
 use Rattle.tabled_settings.proofs.pieces.kept_pieces.Goals.{then-stays+in_ok-push, else-stays}
 
@@ -16,6 +16,5 @@ pub returns : goal.returns
 returns g c =
     let cut = c.args.cut.now in
     let all : c.loop-nth.nth ≡ cut.lines * div_ceil cut.width cut.split.index = omega (arith, c.loop-nth-test.false, c.loop-nth.auto.nth-end, ap (λ (n : ℕ). cut.lines * n) cut.counted) in
-    let grid = g.R.GridStore.grid c.args.records.now in
-    let can : CanBeCut cut.split cut.lines cut.width grid = record { even = g.R.GridStore.even _ c.requires.well; count = c.requires.lines; wide = c.requires.width; some = cut.some; index = cut.index; narrow = cut.narrow } in
-    rw all at c.loop-nth.invariant ∙ sym (staying_is g.R.Cell.CellText.text_of cut.split cut.lines cut.width grid can)
+    let can = can_be_cut cut (g.R.GridStore.grid c.args.records.now) (g.R.GridStore.even _ c.requires.well) c.requires.lines c.requires.width in
+    rw all at c.loop-nth.invariant ∙ sym (staying_is g.R.Cell.CellText.text_of _ _ _ _ can)

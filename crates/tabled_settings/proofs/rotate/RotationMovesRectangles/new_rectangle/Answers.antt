@@ -1,11 +1,10 @@
-use Rattle.std.proofs.Common.{arith, subst, sym}
-use Rattle.tabled_carry.specs.Images.{Carries}
-use Rattle.tabled_settings.specs.Rearranged.{rotated}
+use Rattle.std.proofs.Common.{Some, ap, arith}
+use Rattle.tabled_carry.proofs.RectanglesCarried.{carries_one}
 use Rattle.tabled_settings.specs.declared.rotate.Rotate.TheVariants.{Left, Right}
-use Rattle.tabled_settings.proofs.TurnedRectangles.{turned_carries, turned_inside, turned_left, turned_one, turned_over, turned_right}
+use Rattle.tabled_settings.proofs.TurnedRectangles.{turned_inside, turned_left, turned_over, turned_right, turned_to}
 use Rattle.tabled_settings.proofs.rotate.RotationMovesRectangles.new_rectangle.Goals as goal
 use Rattle.tabled_settings.proofs.rotate.RotationMovesRectangles.new_rectangle.Goals.{then-bottom-self-via-then-bottom-self, then-bottom-self-via-else-bottom-self+then-right-self}
-use Rattle.tabled_grid.specs.Spans.{Rectangle, sized}
+use Rattle.tabled_grid.specs.Spans.{sized}
 
 pub returns-then-bottom-self-clause-finds : goal.returns-then-bottom-self-clause-finds
 returns-then-bottom-self-clause-finds c = λ f carries whole.
@@ -19,35 +18,23 @@ returns-then-bottom-self-clause-finds c = λ f carries whole.
 pub returns-in-Left-clause-carries : goal.returns-in-Left-clause-carries
 returns-in-Left-clause-carries c =
     let t = c.args.self.now in
-    let is = turned_left t.rows t.columns c.args.of c.new.result c.new.ensures.row c.new.ensures.col in
-    rw c.in-Left.is (subst (λ (f : Rectangle). Carries (rotated Left t.rows t.columns) c.args.of f) (sym is) (turned_carries Left t.rows t.columns c.args.of c.requires.full (omega (arith, c.if-bottom-self.false)) (omega (arith, c.if-right-self.false))))
+    rw c.in-Left.is (turned_to Left t.rows t.columns c.args.of _ c.requires.full (omega (arith, c.if-bottom-self.false)) (omega (arith, c.if-right-self.false)) (turned_left t.rows t.columns c.args.of c.new.result c.new.ensures.row c.new.ensures.col))
 
 pub returns-in-Left-clause-finds : goal.returns-in-Left-clause-finds
-returns-in-Left-clause-finds c =
-    let t = c.args.self.now in
-    let is = turned_left t.rows t.columns c.args.of c.new.result c.new.ensures.row c.new.ensures.col in
-    rw c.in-Left.is (turned_one Left t.rows t.columns c.args.of (c.new.result, sized c.args.of.1.width c.args.of.1.height) c.requires.full (omega (arith, c.if-bottom-self.false)) (omega (arith, c.if-right-self.false)) is)
+returns-in-Left-clause-finds c = λ f carries whole. ap Some (carries_one _ c.args.of (c.new.result, sized c.args.of.1.width c.args.of.1.height) f (record { height = c.requires.full.width; width = c.requires.full.height }) whole (returns-in-Left-clause-carries c) carries)
 
 pub returns-in-Right-clause-carries : goal.returns-in-Right-clause-carries
 returns-in-Right-clause-carries c =
     let t = c.args.self.now in
-    let is = turned_right t.rows t.columns c.args.of c.new-in-Right.result c.new-in-Right.ensures.row c.new-in-Right.ensures.col in
-    rw c.in-Right.is (subst (λ (f : Rectangle). Carries (rotated Right t.rows t.columns) c.args.of f) (sym is) (turned_carries Right t.rows t.columns c.args.of c.requires.full (omega (arith, c.if-bottom-self.false)) (omega (arith, c.if-right-self.false))))
+    rw c.in-Right.is (turned_to Right t.rows t.columns c.args.of _ c.requires.full (omega (arith, c.if-bottom-self.false)) (omega (arith, c.if-right-self.false)) (turned_right t.rows t.columns c.args.of c.new-in-Right.result c.new-in-Right.ensures.row c.new-in-Right.ensures.col))
 
 pub returns-in-Right-clause-finds : goal.returns-in-Right-clause-finds
-returns-in-Right-clause-finds c =
-    let t = c.args.self.now in
-    let is = turned_right t.rows t.columns c.args.of c.new-in-Right.result c.new-in-Right.ensures.row c.new-in-Right.ensures.col in
-    rw c.in-Right.is (turned_one Right t.rows t.columns c.args.of (c.new-in-Right.result, sized c.args.of.1.width c.args.of.1.height) c.requires.full (omega (arith, c.if-bottom-self.false)) (omega (arith, c.if-right-self.false)) is)
+returns-in-Right-clause-finds c = λ f carries whole. ap Some (carries_one _ c.args.of (c.new-in-Right.result, sized c.args.of.1.width c.args.of.1.height) f (record { height = c.requires.full.width; width = c.requires.full.height }) whole (returns-in-Right-clause-carries c) carries)
 
 pub returns-in-Top-clause-carries : goal.returns-in-Top-clause-carries
 returns-in-Top-clause-carries c =
     let t = c.args.self.now in
-    let is = turned_over t.rotate t.rows t.columns c.args.of c.new-in-Top.result c.in-Top.is c.new-in-Top.ensures.row c.new-in-Top.ensures.col in
-    subst (λ (f : Rectangle). Carries (rotated t.rotate t.rows t.columns) c.args.of f) (sym is) (turned_carries t.rotate t.rows t.columns c.args.of c.requires.full (omega (arith, c.if-bottom-self.false)) (omega (arith, c.if-right-self.false)))
+    turned_to t.rotate t.rows t.columns c.args.of _ c.requires.full (omega (arith, c.if-bottom-self.false)) (omega (arith, c.if-right-self.false)) (turned_over t.rotate t.rows t.columns c.args.of c.new-in-Top.result c.in-Top.is c.new-in-Top.ensures.row c.new-in-Top.ensures.col)
 
 pub returns-in-Top-clause-finds : goal.returns-in-Top-clause-finds
-returns-in-Top-clause-finds c =
-    let t = c.args.self.now in
-    let is = turned_over t.rotate t.rows t.columns c.args.of c.new-in-Top.result c.in-Top.is c.new-in-Top.ensures.row c.new-in-Top.ensures.col in
-    turned_one t.rotate t.rows t.columns c.args.of (c.new-in-Top.result, c.args.of.1) c.requires.full (omega (arith, c.if-bottom-self.false)) (omega (arith, c.if-right-self.false)) is
+returns-in-Top-clause-finds c = λ f carries whole. ap Some (carries_one _ c.args.of (c.new-in-Top.result, c.args.of.1) f (record { height = c.requires.full.height; width = c.requires.full.width }) whole (returns-in-Top-clause-carries c) carries)

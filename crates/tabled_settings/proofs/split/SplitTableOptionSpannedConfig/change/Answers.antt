@@ -39,27 +39,17 @@ invariant_of-clean g c =
 
 pub returns-in_ok-cut-in-Clean-clause-ok : goal.returns-in_ok-cut-in-Clean-clause-ok
 returns-in_ok-cut-in-Clean-clause-ok g c =
-    let s = c.args.self in
-    let grid = g.R.GridStore.grid c.args.records.now in
-    let n = c.count_of-lines.result in
-    let m = c.count_of-width.result in
-    let can = can_be_cut g (goal.at.returns-in_ok-cut-in-Clean-clause-ok g c).After-is_none in
     let text_of = g.R.Cell.CellText.text_of in
-    let fills = (rw (← can.count, ← can.wide) at c.in_ok-cut-in-Clean.ensures.ok) in
+    let can = can_be_cut g (goal.at.returns-in_ok-cut-in-Clean-clause-ok g c).After-is_none in
     let kept = c.in_ok-kept-in-Clean.ensures in (
-      clean_splits text_of s n m grid can g.R.Cell.Blank.is_blank g.met.R.Cell.CellText.blank_is_empty _ fills _ _ c.in-Clean.is kept (rw c.deref.ensures.value at c.keep_some.ensures.kept),
-      spans_carried text_of s n m grid can _ _ _ _ _ (clean_places text_of s n m grid can _ c.in-Clean.is kept) c.count_rows-rows.ensures.rows c.count_columns-columns.ensures.columns c.carry_along.ensures.carried,
+      clean_splits text_of _ _ _ _ can g.R.Cell.Blank.is_blank g.met.R.Cell.CellText.blank_is_empty _ (rw (← can.count, ← can.wide) at c.in_ok-cut-in-Clean.ensures.ok) _ _ c.in-Clean.is kept (rw c.deref.ensures.value at c.keep_some.ensures.kept),
+      spans_carried text_of _ _ _ _ can _ _ _ _ _ (clean_places text_of _ _ _ _ can _ c.in-Clean.is kept) c.count_rows-rows.ensures.rows c.count_columns-columns.ensures.columns c.carry_along.ensures.carried,
     )
 
 pub returns-in_ok-cut-in-Retain-clause-ok : goal.returns-in_ok-cut-in-Retain-clause-ok
 returns-in_ok-cut-in-Retain-clause-ok g c =
-    let s = c.args.self in
-    let grid = g.R.GridStore.grid c.args.records.now in
-    let n = c.count_of-lines.result in
-    let m = c.count_of-width.result in
-    let can = can_be_cut g (goal.at.returns-in_ok-cut-in-Retain-clause-ok g c).After-is_none in
     let text_of = g.R.Cell.CellText.text_of in
-    let fills = (rw (← can.count, ← can.wide) at c.in_ok-cut-in-Retain.ensures.ok) in (
-      retained_splits text_of s n m grid can g.R.Cell.Blank.is_blank g.met.R.Cell.CellText.blank_is_empty _ fills c.in-Retain.is,
-      spans_carried text_of s n m grid can _ _ _ _ _ (retained_places text_of s n m grid can c.in-Retain.is) c.count_rows-rows.ensures.rows c.count_columns-columns.ensures.columns c.carry_along-in-Retain.ensures.carried,
+    let can = can_be_cut g (goal.at.returns-in_ok-cut-in-Retain-clause-ok g c).After-is_none in (
+      retained_splits text_of _ _ _ _ can g.R.Cell.Blank.is_blank g.met.R.Cell.CellText.blank_is_empty _ (rw (← can.count, ← can.wide) at c.in_ok-cut-in-Retain.ensures.ok) c.in-Retain.is,
+      spans_carried text_of _ _ _ _ can _ _ _ _ _ (retained_places text_of _ _ _ _ can c.in-Retain.is) c.count_rows-rows.ensures.rows c.count_columns-columns.ensures.columns c.carry_along-in-Retain.ensures.carried,
     )
