@@ -13,6 +13,7 @@ use Rattle.tabled_settings.specs.declared.rotate.Rotate.{Rotate}
 use Rattle.tabled_settings.specs.declared.rotate.Rotate.TheVariants.{Top, Bottom}
 use Rattle.tabled_grid.specs.Places.{ReadsThrough}
 use Rattle.tabled_settings.specs.Rearranged.{columns_if, rotated, quarter_of, upside_down}
+use Rattle.tabled_settings.specs.Places.{lines_from}
 use Rattle.tabled_settings.proofs.Reversed.{whole_read}
 
 -- there are as many columns as there were rows, where there is a row
@@ -36,26 +37,17 @@ module _ {A : Type 0} where
   across g over a b even is = ap (λ (h : Grid A). cell_at h (place a b)) is ∙ at-transposed g.columns g.cells a b even.wide
 
   pub quarter_done : (axis : Axis) (n : ℕ) (g over new : Grid A) → IsEven g → over ≡ transposed g → n ≡ count_along axis over → ReversesLines axis 0 n over new → ReadsThrough (rotated (quarter_of axis) g.rows g.columns) g new
-  quarter_done Rows n g over new even is count r =
-      let all = whole_read Rows n over new count r in
-      let high : over.rows ≡ g.columns = ap (λ (h : Grid A). h.rows) is in
-      record {
-        even = all.even;
-        rows = all.rows ∙ high;
-        columns = all.columns ∙ ap (λ (h : Grid A). h.columns) is;
-        moved = λ p inside. all.moved p inside ∙ across g over (n - 1 - p.row) p.col even is ∙ ap (λ (m : ℕ). cell_at g (place p.col (m - 1 - p.row))) (count ∙ high);
-      }
-  quarter_done Columns n g over new even is count r =
-      let all = whole_read Columns n over new count r in
-      let high : over.rows ≡ g.columns = ap (λ (h : Grid A). h.rows) is in
-      record {
-        even = all.even;
-        rows = all.rows ∙ high;
-        columns = all.columns ∙ ap (λ (h : Grid A). h.columns) is;
-        moved = λ p inside.
-            let wide : n ≡ g.rows = count ∙ ap (λ (h : Grid A). h.columns) is ∙ as_wide g.columns g.rows (omega (arith, inside.row, all.rows, high)) in
-            all.moved p inside ∙ across g over p.row (n - 1 - p.col) even is ∙ ap (λ (m : ℕ). cell_at g (place (m - 1 - p.col) p.row)) wide;
-      }
+  quarter_done axis n g over new even is count r = turned axis count (whole_read axis n over new count r)
+    where
+      high : over.rows ≡ g.columns
+      high = ap (λ (h : Grid A). h.rows) is
+
+      far : over.columns ≡ columns_if g.columns g.rows
+      far = ap (λ (h : Grid A). h.columns) is
+
+      turned : (axis : Axis) → n ≡ count_along axis over → ReadsThrough (lines_from axis (λ i. n - 1 - i) over.rows over.columns) over new → ReadsThrough (rotated (quarter_of axis) g.rows g.columns) g new
+      turned Rows tall all = record { even = all.even; rows = all.rows ∙ high; columns = all.columns ∙ far; moved = λ p inside. all.moved p inside ∙ across g over (n - 1 - p.row) p.col even is ∙ ap (λ (m : ℕ). cell_at g (place p.col (m - 1 - p.row))) (tall ∙ high) }
+      turned Columns wide all = record { even = all.even; rows = all.rows ∙ high; columns = all.columns ∙ far; moved = λ p inside. all.moved p inside ∙ across g over p.row (n - 1 - p.col) even is ∙ ap (λ (m : ℕ). cell_at g (place (m - 1 - p.col) p.row)) (wide ∙ far ∙ as_wide g.columns g.rows (omega (arith, inside.row, all.rows, high))) }
 
   pub top_or_bottom_done : (s : Rotate) (n : ℕ) (g new : Grid A) → (s ≡ Top) ⊎ (s ≡ Bottom) → n ≡ g.rows → ReversesLines Rows 0 n g new → ReadsThrough (rotated s g.rows g.columns) g new
   top_or_bottom_done s n g new (inl e) is r = rw e (upside_down_done n g new is r)

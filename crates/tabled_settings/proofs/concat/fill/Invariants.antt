@@ -1,7 +1,4 @@
-use Rattle.std.proofs.Common.{◌≡◌}
-use Rattle.std.specs.String.{string_bytes}
-use Rattle.tabled_grid.specs.Grid.{map_grid}
-use Rattle.tabled_settings.specs.Joined.{FillsTo, text_put}
+use Rattle.tabled_settings.specs.Joined.{FillsTo, as_texts, text_put}
 use Rattle.tabled_settings.proofs.concat.fill.Given as goal
 
 abbrev pub invariant-loop-i : goal.invariant-loop-i
@@ -9,8 +6,7 @@ invariant-loop-i g l =
     let grid = g.R.GridStore.grid in
     record {
       well : g.R.GridStore.is_well_formed l.records;
-      count : l.count ≡ (grid l.fn.records).columns;
-      fills : FillsTo g.R.Cell.CellText.text_of (text_put l.corner (map_grid string_bytes l.second.grid) l.default) l.rows l.columns l.i 0 (grid l.fn.records) (grid l.records);
+      fills : FillsTo g.R.Cell.CellText.text_of (text_put l.corner (as_texts l.second.grid) l.default) l.rows l.columns l.i 0 (grid l.fn.records) (grid l.records);
     }
 
 abbrev pub invariant-loop-j : goal.invariant-loop-j
@@ -18,6 +14,5 @@ invariant-loop-j g l =
     let grid = g.R.GridStore.grid in
     record {
       well : g.R.GridStore.is_well_formed l.records;
-      count : l.count ≡ (grid l.fn.records).columns;
-      fills : FillsTo g.R.Cell.CellText.text_of (text_put l.corner (map_grid string_bytes l.second.grid) l.default) l.rows l.columns l.i l.j (grid l.fn.records) (grid l.records);
+      fills : FillsTo g.R.Cell.CellText.text_of (text_put l.corner (as_texts l.second.grid) l.default) l.rows l.columns l.i l.j (grid l.fn.records) (grid l.records);
     }
