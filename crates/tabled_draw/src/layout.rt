@@ -171,7 +171,7 @@ where
     requires fits { Fits spans.now ((R.grid records.now).rows) ((R.grid records.now).columns) }
     requires long { length sizes.old.items ≡ count_along axis (R.grid records.now) }
     ensures long { OnOk result (length sizes.new.items ≡ count_along axis (R.grid records.now)) }
-    ensures grown_sizes { OnOk result (sizes.new.items ≡ fold (grown_for axis (map_grid R.Cell.text_of (R.grid records.now))) sizes.old.items (entries spans.now)) }
+    ensures grown { OnOk result (sizes.new.items ≡ fold (grown_for axis (map_grid R.Cell.text_of (R.grid records.now))) sizes.old.items (entries spans.now)) }
 {
     let anchors = spans.anchors();
     for k in 0..anchors.len() {
@@ -202,7 +202,7 @@ fn grow(
 ) -> Result<(), AllocError>
     requires some { 1 ≤ n }
     requires end { at + n ≤ length sizes.old.items }
-    ensures grown_sizes { OnOk result (sizes.new.items ≡ grown_sizes axis sizes.old.items at n need) }
+    ensures grown { OnOk result (sizes.new.items ≡ grown_sizes axis sizes.old.items at n need) }
 {
     let gap = gap(axis);
     let mut room = 0;

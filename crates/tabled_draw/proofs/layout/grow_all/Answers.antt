@@ -9,7 +9,7 @@ use Rattle.tabled_grid.specs.Spans.{sized}
 use Rattle.tabled_draw.proofs.layout.grow_all.Goals as goal
 
 pub loop-k-init : goal.loop-k-init
-loop-k-init g c = record { long = c.requires.long; grown_sizes = refl }
+loop-k-init g c = record { long = c.requires.long; grown = refl }
 
 pub get_text-requires-clause-inside : goal.get_text-requires-clause-inside
 get_text-requires-clause-inside g c =
@@ -29,7 +29,7 @@ loop-k-preserved g c =
     let grew : c.grow.new.sizes.items ≡ grown_sizes c.args.axis c.loop-k.sizes.items (line_of c.args.axis e.0) (lines_in c.args.axis e.1) c.in_ok-need.need = c.in_ok-grow.ensures.grown ∙ ap₂ (λ a n. grown_sizes c.args.axis c.loop-k.sizes.items a n c.in_ok-need.need) c.line_of.ensures c.lines_in.ensures in
     record {
       long = ap length grew ∙ length-set c.loop-k.sizes.items _ _ ∙ c.loop-k.invariant.long;
-      grown_sizes = grown-more c.args.axis t c.args.spans.now c.args.sizes.now.items c.loop-k.k (record { row = 0; col = 0 }, sized 0 0) c.anchors-anchors.result.now c.anchors-anchors.ensures.anchors c.loop-k-test.true c.loop-k.sizes.items _ c.get_text.ensures c.in_ok-need.need _ c.loop-k.invariant.grown c.in_ok-need.ensures grew;
+      grown = grown-more c.args.axis t c.args.spans.now c.args.sizes.now.items c.loop-k.k (record { row = 0; col = 0 }, sized 0 0) c.anchors-anchors.result.now c.anchors-anchors.ensures.anchors c.loop-k-test.true c.loop-k.sizes.items _ c.get_text.ensures c.in_ok-need.need _ c.loop-k.invariant.grown c.in_ok-need.ensures grew;
     }
 
 pub returns : goal.returns
@@ -37,5 +37,5 @@ returns g c =
     let t = map_grid g.R.Cell.CellText.text_of (g.R.GridStore.grid c.args.records.now) in
     record {
       long = c.loop-k.invariant.long;
-      grown_sizes = grown-all c.args.axis t c.args.spans.now c.args.sizes.now.items c.loop-k.sizes.items c.loop-k.k c.loop-k.invariant.grown (rw (← c.anchors-anchors.ensures.anchors) c.loop-k-test.false);
+      grown = grown-all c.args.axis t c.args.spans.now c.args.sizes.now.items c.loop-k.sizes.items c.loop-k.k c.loop-k.invariant.grown (rw (← c.anchors-anchors.ensures.anchors) c.loop-k-test.false);
     }
