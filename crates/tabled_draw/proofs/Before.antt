@@ -15,6 +15,8 @@ use Rattle.tabled_grid.specs.Entity.{place}
 use Rattle.tabled_grid.specs.Spans.{Rectangle, SpanMap, position_cmp, size_at, sized}
 use Rattle.tabled_grid.specs.declared.config.position.Position.{Position}
 use Rattle.tabled_grid.specs.declared.config.size.Size.{Size}
+use Rattle.std.proofs.lemmas.Bool.Decides.{nat_tests}
+use Rattle.std.proofs.lemmas.Grind.{common_steps, elements}
 
 -- what the test says
 abbrev pub Before : ℕ → ℕ → Position → Type 0
@@ -24,76 +26,33 @@ abbrev pub After : ℕ → ℕ → Position → Type 0
 After i j p = (i < p.row) ⊎ ((p.row ≡ i) × (j ≤ p.col))
 
 pub before-true : (i j : ℕ) (p : Position) → is_before i j p ≡ true → Before i j p
-before-true i j p t = by (or_cases _ _ t)
-  where
-    by : (nat_lt p.row i ≡ true) ⊎ (((p.row == i) && nat_lt p.col j) ≡ true) → Before i j p
-    by (inl h) = inl (ltb-true _ _ h)
-    by (inr h) = let parts = and_parts _ _ h in inr (eqb-true _ _ parts.0, ltb-true _ _ parts.1)
+before-true i j p t = grind (arith, nat_tests)
 
 pub before-from : (i j : ℕ) (p : Position) → Before i j p → is_before i j p ≡ true
-before-from i j p (inl h) = or_left _ _ (lt-ltb _ _ h)
-before-from i j p (inr h) = or_right _ _ (and_from _ _ (eq-eqb _ _ h.0) (lt-ltb _ _ h.1))
+before-from i j p h1 = grind (arith, nat_tests)
 
 pub after-from : (i j : ℕ) (p : Position) → After i j p → is_before i j p ≡ false
-after-from i j p after = by (cases_Bool (is_before i j p))
-  where
-    never : Before i j p → After i j p → ⊥
-    never (inl h) (inl k) = omega (arith, h, k)
-    never (inl h) (inr k) = omega (arith, h, k.0)
-    never (inr h) (inl k) = omega (arith, h.0, k)
-    never (inr h) (inr k) = omega (arith, h.1, k.1)
-
-    by : (is_before i j p ≡ true) ⊎ (is_before i j p ≡ false) → is_before i j p ≡ false
-    by (inl t) = absurd (never (before-true i j p t) after)
-    by (inr f) = f
+after-from i j p after = grind (arith, nat_tests, before-true)
 
 pub cases_before : (i j : ℕ) (p : Position) → Before i j p ⊎ After i j p
-cases_before i j p = by (cases_lt p.row i) (cases_lt i p.row) (cases_lt p.col j)
-  where
-    by : (p.row < i) ⊎ (i ≤ p.row) → (i < p.row) ⊎ (p.row ≤ i) → (p.col < j) ⊎ (j ≤ p.col) → Before i j p ⊎ After i j p
-    by (inl h) _ _ = inl (inl h)
-    by (inr h) (inl k) _ = inr (inl k)
-    by (inr h) (inr k) (inl c) = inl (inr (omega (arith, h, k), c))
-    by (inr h) (inr k) (inr c) = inr (inr (omega (arith, h, k), c))
+cases_before i j p = grind (arith, nat_tests)
 
 -- one place more
 pub before-next : (i j : ℕ) (p : Position) → Before i j p → is_before i (j + 1) p ≡ true
-before-next i j p (inl h) = before-from i (j + 1) p (inl h)
-before-next i j p (inr h) = before-from i (j + 1) p (inr (h.0, omega (arith, h.1)))
+before-next i j p h1 = grind (arith, nat_tests, before-from)
 
 pub after-next : (i j : ℕ) (p : Position) → After i j p → p ≢ place i j → is_before i (j + 1) p ≡ false
-after-next i j p (inl h) apart = after-from i (j + 1) p (inl h)
-after-next i j p (inr h) apart = by (cases_lt j p.col)
-  where
-    by : (j < p.col) ⊎ (p.col ≤ j) → is_before i (j + 1) p ≡ false
-    by (inl k) = after-from i (j + 1) p (inr (h.0, omega (arith, k)))
-    by (inr k) = absurd (apart (ap₂ place h.0 (omega (arith, k, h.1))))
+after-next i j p h1 h2 = grind (arith, nat_tests, after-from)
 
 pub here-next : (i j : ℕ) (p : Position) → p ≡ place i j → is_before i (j + 1) p ≡ true
 here-next i j p e = before-from i (j + 1) p (inr (ap (λ (q : Position). q.row) e, omega (arith, ap (λ (q : Position). q.col) e)))
 
 -- the end of a row
 pub before-row : (i columns : ℕ) (p : Position) → p.col < columns → is_before i columns p ≡ is_before (i + 1) 0 p
-before-row i columns p within = by (cases_lt p.row (i + 1))
-  where
-    early : p.row < i + 1 → (p.row < i) ⊎ (i ≤ p.row) → is_before i columns p ≡ true
-    early h (inl k) = before-from i columns p (inl k)
-    early h (inr k) = before-from i columns p (inr (omega (arith, h, k), within))
-
-    by : (p.row < i + 1) ⊎ (i + 1 ≤ p.row) → is_before i columns p ≡ is_before (i + 1) 0 p
-    by (inl h) = early h (cases_lt p.row i) ∙ sym (before-from (i + 1) 0 p (inl h))
-    by (inr h) = after-from i columns p (inl (omega (arith, h))) ∙ sym (late (cases_lt (i + 1) p.row))
-      where
-        late : (i + 1 < p.row) ⊎ (p.row ≤ i + 1) → is_before (i + 1) 0 p ≡ false
-        late (inl k) = after-from (i + 1) 0 p (inl k)
-        late (inr k) = after-from (i + 1) 0 p (inr (omega (arith, h, k), omega arith))
+before-row i columns p within = grind (arith, nat_tests, before-from, after-from)
 
 pub before-none : (p : Position) → is_before 0 0 p ≡ false
-before-none p = by (cases_lt 0 p.row)
-  where
-    by : (0 < p.row) ⊎ (p.row ≤ 0) → is_before 0 0 p ≡ false
-    by (inl h) = after-from 0 0 p (inl h)
-    by (inr h) = after-from 0 0 p (inr (omega (arith, h), omega arith))
+before-none p = grind (arith, nat_tests, after-from)
 
 -- ---- anchors before a place
 

@@ -20,6 +20,8 @@ use Rattle.tabled_grid.specs.Entity.{place}
 use Rattle.tabled_grid.specs.declared.records.axis.Axis.{Axis}
 use Rattle.tabled_grid.specs.declared.records.axis.Axis.TheVariants.{Rows}
 use Rattle.tabled_grid.specs.Spans.{Rectangle}
+use Rattle.std.proofs.lemmas.Bool.Decides.{nat_tests}
+use Rattle.std.proofs.lemmas.Grind.{common_steps, elements}
 
 module _ (axis : Axis) (g : Grid (List ℕ)) (k : ℕ) where
   abbrev with_asked : ℕ → Rectangle → ℕ
@@ -64,8 +66,4 @@ lines-number g es some =
     omega (arith, length-picture g es some.row some.col, sum-ended (heights g es))
 
 pub lines-none : (g : Grid (List ℕ)) (es : List Rectangle) → (g.rows ≡ 0) ⊎ (g.columns ≡ 0) → picture g es ≡ []
-lines-none g es none = cond-true ((g.rows == 0) || (g.columns == 0)) [] (each g.rows (lines_of_row g es) ++ (picture_line g es (top g es g.rows) g.rows (g.rows + 1) ∷ [])) (either none)
-  where
-    either : (g.rows ≡ 0) ⊎ (g.columns ≡ 0) → ((g.rows == 0) || (g.columns == 0)) ≡ true
-    either (inl e) = or_left (g.rows == 0) (g.columns == 0) (eq-eqb g.rows 0 e)
-    either (inr e) = or_right (g.rows == 0) (g.columns == 0) (eq-eqb g.columns 0 e)
+lines-none g es none = grind (arith, nat_tests)

@@ -15,29 +15,11 @@ use Rattle.tabled_grid.proofs.Lists.{all-append}
 use Rattle.tabled_grid.specs.Grid.{Grid}
 use Rattle.tabled_grid.specs.declared.records.axis.Axis.TheVariants.{Columns}
 use Rattle.tabled_grid.specs.Spans.{Rectangle}
+use Rattle.std.proofs.lemmas.Bool.Decides.{nat_tests}
+use Rattle.std.proofs.lemmas.Grind.{common_steps, elements}
 
 shown-fine : (c : ℕ) → IsNoControl (shown_character c)
-shown-fine c = by (cases_Bool (nat_lt c 0x20)) (cases_Bool (c == 0x7F)) (cases_Bool (nat_le 0x80 c && nat_le c 0x9F))
-  where
-    last : ℕ
-    last = cond (nat_le 0x80 c && nat_le c 0x9F) 0xFFFD c
-
-    rest : ℕ
-    rest = cond (c == 0x7F) 0x2421 (cond (nat_le 0x80 c && nat_le c 0x9F) 0xFFFD c)
-
-    outside : (nat_le 0x80 c && nat_le c 0x9F) ≡ false → (c < 0x80) ⊎ (0x9F < c)
-    outside f = at (cases_lt c 0x80) (cases_lt 0x9F c)
-      where
-        at : (c < 0x80) ⊎ (0x80 ≤ c) → (0x9F < c) ⊎ (c ≤ 0x9F) → (c < 0x80) ⊎ (0x9F < c)
-        at (inl low) _ = inl low
-        at (inr _) (inl high) = inr high
-        at (inr x) (inr y) = absurd (false≢true (sym f ∙ and_from _ _ (le-leb 0x80 c x) (le-leb c 0x9F y)))
-
-    by : (nat_lt c 0x20 ≡ true) ⊎ (nat_lt c 0x20 ≡ false) → ((c == 0x7F) ≡ true) ⊎ ((c == 0x7F) ≡ false) → ((nat_le 0x80 c && nat_le c 0x9F) ≡ true) ⊎ ((nat_le 0x80 c && nat_le c 0x9F) ≡ false) → IsNoControl (shown_character c)
-    by (inl t) _ _ = subst IsNoControl (sym (cond-true (nat_lt c 0x20) (0x2400 + c) rest t)) (record { above = omega arith; no_delete = omega arith; outside = inr (omega arith) })
-    by (inr f) (inl t) _ = subst IsNoControl (sym (cond-false (nat_lt c 0x20) (0x2400 + c) rest f ∙ cond-true (c == 0x7F) 0x2421 last t)) (record { above = omega arith; no_delete = λ e. omega (arith, e); outside = inr (omega arith) })
-    by (inr f) (inr g) (inl t) = subst IsNoControl (sym (cond-false (nat_lt c 0x20) (0x2400 + c) rest f ∙ cond-false (c == 0x7F) 0x2421 last g ∙ cond-true (nat_le 0x80 c && nat_le c 0x9F) 0xFFFD c t)) (record { above = omega arith; no_delete = λ e. omega (arith, e); outside = inr (omega arith) })
-    by (inr f) (inr g) (inr h) = subst IsNoControl (sym (cond-false (nat_lt c 0x20) (0x2400 + c) rest f ∙ cond-false (c == 0x7F) 0x2421 last g ∙ cond-false (nat_le 0x80 c && nat_le c 0x9F) 0xFFFD c h)) (record { above = ltb-false c 0x20 f; no_delete = eqb-false c 0x7F g; outside = outside h })
+shown-fine c = grind (arith, nat_tests, ltb-false, eqb-false)
 
 all-shown : (cs : List ℕ) → AreNoControls (map shown_character cs)
 all-shown [] = tt
@@ -60,9 +42,7 @@ blank-fine : IsNoControl 32
 blank-fine = record { above = omega arith; no_delete = λ e. omega (arith, e); outside = inl (omega arith) }
 
 mark-fine : (b c : Bool) → IsNoControl (cond b 124 (cond c 45 43))
-mark-fine true c = record { above = omega arith; no_delete = λ e. omega (arith, e); outside = inl (omega arith) }
-mark-fine false true = record { above = omega arith; no_delete = λ e. omega (arith, e); outside = inl (omega arith) }
-mark-fine false false = record { above = omega arith; no_delete = λ e. omega (arith, e); outside = inl (omega arith) }
+mark-fine b c = grind (arith, nat_tests)
 
 module _ (g : Grid (List ℕ)) (es : List Rectangle) where
   all-shows : (n : ℕ) (o : Rectangle) → AreNoControls (shows g es n o)

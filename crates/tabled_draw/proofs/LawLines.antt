@@ -22,6 +22,8 @@ use Rattle.tabled_grid.specs.Grid.{Grid}
 use Rattle.tabled_grid.specs.declared.records.axis.Axis.TheVariants.{Columns}
 use Rattle.tabled_grid.specs.Spans.{Rectangle}
 use Rattle.unicode_width.specs.Width.{char_width}
+use Rattle.std.proofs.lemmas.Bool.Decides.{nat_tests}
+use Rattle.std.proofs.lemmas.Grind.{common_steps, elements}
 
 -- ---- the columns of characters
 
@@ -44,9 +46,7 @@ blank-one = refl
 
 mark-one : (b c : Bool) → char_width false (cond b 124 (cond c 45 43)) ≡ Some 1
 unfolding char_width
-mark-one true c = refl
-mark-one false true = refl
-mark-one false false = refl
+mark-one b c = grind (arith, nat_tests)
 
 pub columns-blank : (cs : List ℕ) → text_width (32 ∷ cs) ≡ 1 + text_width cs
 columns-blank cs = columns-cons 32 cs ∙ ap (λ x. x + text_width cs) (ap (λ x. unwrap_or x 0) blank-one)
@@ -69,14 +69,10 @@ all-not_last : (a b c d : Option Rectangle) → is_one a d ≡ false → all_one
 all-not_last a b c d f = ap (λ x. (is_one a b && is_one a c) && x) f ∙ and-false (is_one a b && is_one a c)
 
 all-parts : (a b c d : Option Rectangle) → all_one a b c d ≡ true → (is_one a b ≡ true) × (is_one a c ≡ true) × (is_one a d ≡ true)
-all-parts a b c d t =
-    let outer : (is_one a b && is_one a c ≡ true) × (is_one a d ≡ true) = and_parts _ _ t in
-    let inner : (is_one a b ≡ true) × (is_one a c ≡ true) = and_parts _ _ outer.0 in
-    (inner.0, inner.1, outer.1)
+all-parts a b c d t = grind (arith, nat_tests)
 
 none-one : (a : Option Rectangle) → is_one a None ≡ false
-none-one None = refl
-none-one (Some o) = refl
+none-one a = grind (arith, nat_tests)
 
 module _ (g : Grid (List ℕ)) (es : List Rectangle) (well : LieWell g.rows g.columns es) where
   left-next : (j : ℕ) → j < g.columns → left g es (j + 1) ≡ left g es j + (get_or (widths g es) j 0 + 3)
@@ -155,11 +151,7 @@ module _ (g : Grid (List ℕ)) (es : List Rectangle) (well : LieWell g.rows g.co
     border-wide l r size f = ap text_width (stretch-apart l r size f) ∙ columns-replicate size (mark l r) (mark-one (eqb u d) (eqb l r))
 
     edge-none : (j : ℕ) → joint j ≡ true → edge_at j ≡ []
-    edge-none j t = stretch-one j (j + 1) 1 t ∙ none (up j)
-      where
-        none : (a : Option Rectangle) → shows_in g es n j (j + 1) a ≡ []
-        none None = refl
-        none (Some o) = ap (λ b. cond (b && eqb j (o.0.col + 1)) (shows g es n o) []) (ne_eqb j (j + 1) (λ e. omega (arith, e)))
+    edge-none j t = grind (arith, nat_tests, stretch-one)
 
     column-one : (j : ℕ) (o : Rectangle) → up (j + 1) ≡ Some o → down (j + 1) ≡ Some o → column_at j ≡ cond (eqb (j + 1) (j + 1) && eqb (j + 1) (o.0.col + 1)) (shows g es n o) []
     column-one j o e f = stretch-one (j + 1) (j + 1) (get_or (widths g es) j 0 + 2) (all-from (up (j + 1)) (up (j + 1)) (down (j + 1)) (down (j + 1)) o e e f f) ∙ ap (shows_in g es n (j + 1) (j + 1)) e

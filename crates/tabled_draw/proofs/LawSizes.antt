@@ -23,6 +23,8 @@ use Rattle.tabled_grid.specs.declared.config.position.Position.{Position}
 use Rattle.tabled_grid.specs.declared.records.axis.Axis.{Axis}
 use Rattle.tabled_grid.specs.declared.records.axis.Axis.TheVariants.{Rows, Columns}
 use Rattle.tabled_grid.specs.Spans.{Rectangle, sized}
+use Rattle.std.proofs.lemmas.Bool.Decides.{nat_tests}
+use Rattle.std.proofs.lemmas.Grind.{common_steps, elements}
 
 largest-least : (f : ℕ → ℕ) (n i : ℕ) → i < n → f i ≤ largest n f
 largest-least f zero i h = absurd (omega arith)
@@ -57,8 +59,7 @@ module _ (axis : Axis) where
 
   span-some : (s : List ℕ) (at n : ℕ) → 1 ≤ n → gap axis ≤ span s at n
   unfolding span
-  span-some s at zero h = absurd (omega arith)
-  span-some s at (suc k) h = omega arith
+  span-some s at n h1 = grind (arith, nat_tests)
 
   -- a room is no smaller than its last size
   pub room-last : (s : List ℕ) (at n : ℕ) → 1 ≤ n → at + n ≤ length s → get_or s (at + n - 1) 0 ≤ room axis s at n
@@ -113,17 +114,14 @@ enough-set axis s t at (suc k) need some h larger grew =
 -- ---- by axis
 
 one_line : (axis : Axis) → lines_in axis (sized 1 1) ≡ 1
-one_line Rows = refl
-one_line Columns = refl
+one_line axis = grind (arith, nat_tests)
 
 place_is : (axis : Axis) (p : Position) → place_in axis (line_of axis p) (line_of (across axis) p) ≡ p
-place_is Rows p = refl
-place_is Columns p = refl
+place_is axis p = grind (arith, nat_tests)
 
 -- what lies in a table has rows and columns of it
 pub lies-along : {A : Type 0} (axis : Axis) (g : Grid A) (e : Rectangle) → LiesIn g.rows g.columns e → (1 ≤ lines_in axis e.1) × (line_of axis e.0 + lines_in axis e.1 ≤ count_along axis g)
-lies-along Rows g e lies = (lies.high, lies.bottom)
-lies-along Columns g e lies = (lies.wide, lies.right)
+lies-along axis g e h1 = grind (arith, nat_tests)
 
 module _ (axis : Axis) (g : Grid (List ℕ)) where
   pub grown-larger : (s : List ℕ) (e : Rectangle) → Larger s (grown_for axis g s e)

@@ -19,6 +19,8 @@ use Rattle.tabled_grid.specs.declared.config.position.Position.{Position}
 use Rattle.tabled_grid.specs.declared.records.axis.Axis.{Axis}
 use Rattle.tabled_grid.specs.declared.records.axis.Axis.TheVariants.{Rows, Columns}
 use Rattle.tabled_grid.specs.Spans.{Rectangle}
+use Rattle.std.proofs.lemmas.Bool.Decides.{nat_tests}
+use Rattle.std.proofs.lemmas.Grind.{common_steps, elements}
 
 -- ---- lists of what a function gives
 
@@ -55,28 +57,22 @@ largest-raised f h (suc n) x less none same = by (cases_lt x n) (largest-raised 
 -- ---- places of lines
 
 pub line-place : (axis : Axis) (i j : ℕ) → place_in axis (line_of axis (place i j)) (line_of (across axis) (place i j)) ≡ place i j
-line-place Rows i j = refl
-line-place Columns i j = refl
+line-place axis i j = grind (arith, nat_tests)
 
 pub in-line : (axis : Axis) (k x : ℕ) (p : Position) → place_in axis k x ≡ p → (k ≡ line_of axis p) × (x ≡ line_of (across axis) p)
-in-line Rows k x p e = (ap (λ (q : Position). q.row) e, ap (λ (q : Position). q.col) e)
-in-line Columns k x p e = (ap (λ (q : Position). q.col) e, ap (λ (q : Position). q.row) e)
+in-line axis k x p h1 = grind (arith, nat_tests)
 
 pub line-within : (axis : Axis) (g : Grid (List ℕ)) (i j : ℕ) → i < g.rows → j < g.columns → line_of axis (place i j) < count_along axis g
-line-within Rows g i j h k = h
-line-within Columns g i j h k = k
+line-within axis g i j h1 h2 = grind (arith, nat_tests)
 
 pub across-within : (axis : Axis) (g : Grid (List ℕ)) (i j : ℕ) → i < g.rows → j < g.columns → line_of (across axis) (place i j) < count_along (across axis) g
-across-within Rows g i j h k = k
-across-within Columns g i j h k = h
+across-within axis g i j h1 h2 = grind (arith, nat_tests)
 
 pub col-within : (axis : Axis) (g : Grid (List ℕ)) (k x : ℕ) → k < count_along axis g → x < count_along (across axis) g → (place_in axis k x).col < g.columns
-col-within Rows g k x h1 h2 = h2
-col-within Columns g k x h1 h2 = h1
+col-within axis g k x h1 h2 = grind (arith, nat_tests)
 
 pub row-within : (axis : Axis) (g : Grid (List ℕ)) (k x : ℕ) → k < count_along axis g → x < count_along (across axis) g → (place_in axis k x).row < g.rows
-row-within Rows g k x h1 h2 = h1
-row-within Columns g k x h1 h2 = h2
+row-within axis g k x h1 h2 = grind (arith, nat_tests)
 
 -- ---- sizes as they are measured
 
@@ -114,11 +110,7 @@ module _ (axis : Axis) (g : Grid (List ℕ)) (es : List Rectangle) where
     -- another place is asked no more than before
     other : (k x : ℕ) → place_in axis k x ≢ p → asked_at i (j + 1) k x ≡ asked_at i j k x
     unfolding asked_at p
-    other k x apart = by (cases_before i j (place_in axis k x))
-      where
-        by : Before i j (place_in axis k x) ⊎ After i j (place_in axis k x) → asked_at i (j + 1) k x ≡ asked_at i j k x
-        by (inl before) = ap (λ b. cond b (own axis g es (place_in axis k x)) 0) (before-next i j (place_in axis k x) before ∙ sym (before-from i j (place_in axis k x) before))
-        by (inr after) = ap (λ b. cond b (own axis g es (place_in axis k x)) 0) (after-next i j (place_in axis k x) after apart ∙ sym (after-from i j (place_in axis k x) after))
+    other k x apart = grind (arith, nat_tests, cases_before, asked_at, before-next, before-from, after-next, after-from)
 
     here : largest (count_along (across axis) g) (asked_at i (j + 1) line) ≡ max (largest (count_along (across axis) g) (asked_at i j line)) (own axis g es p)
     unfolding asked_at p line

@@ -20,6 +20,8 @@ use Rattle.tabled_grid.specs.Rectangles.{holds}
 use Rattle.tabled_grid.specs.Fitting.{Fits}
 use Rattle.tabled_grid.specs.Spans.{SpanMap, size_at, position_cmp, Rectangle, sized}
 use Rattle.tabled_grid.specs.declared.config.position.Position.{Position}
+use Rattle.std.proofs.lemmas.Bool.Decides.{nat_tests}
+use Rattle.std.proofs.lemmas.Grind.{common_steps, elements}
 
 -- an anchor lies in a table
 pub record LiesIn (rows columns : ℕ) (o : Rectangle) : Type 0 where
@@ -101,10 +103,7 @@ module _ (rows columns : ℕ) (es : List Rectangle) (well : LieWell rows columns
 
 pub owner-inside : (rows columns : ℕ) (es : List Rectangle) (i j : ℕ) → i < rows → j < columns → owner rows columns es (i + 1) (j + 1) ≡ Some (owner_in es (place i j))
 unfolding owner
-owner-inside rows columns es i j h k =
-    let t = and_from _ _ (and_from _ _ (lt-ltb 0 (i + 1) (omega arith)) (le-leb (i + 1) rows (omega arith))) (and_from _ _ (lt-ltb 0 (j + 1) (omega arith)) (le-leb (j + 1) columns (omega arith))) in
-    let at : place (i + 1 - 1) (j + 1 - 1) ≡ place i j = ap₂ place (omega arith) (omega arith) in
-    cond-true _ _ _ t ∙ ap (λ p. Some (owner_in es p)) at
+owner-inside rows columns es i j h k = grind (arith, nat_tests)
 
 -- what the owner of a place in such numbers says
 pub record Inside (rows columns : ℕ) (es : List Rectangle) (i j : ℕ) (o : Rectangle) : Type 0 where
@@ -277,13 +276,7 @@ pub record IsRowBelow (rows columns : ℕ) (m : SpanMap) (i n : ℕ) (row : List
   pub each : (k : ℕ) → k < n → get_or row k None ≡ owner rows columns (entries m) i k
 
 pub row-more : (rows columns : ℕ) (m : SpanMap) (i n : ℕ) (row : List (Option Rectangle)) (x : Option Rectangle) → IsRowBelow rows columns m i n row → n < columns + 2 → x ≡ owner rows columns (entries m) i n → IsRowBelow rows columns m i (n + 1) (set row n x)
-row-more rows columns m i n row x is less here = record { long = length-set row n x ∙ is.long; each = λ k h. by k h (cases_lt k n) }
-  where
-    by : (k : ℕ) → k < n + 1 → (k < n) ⊎ (n ≤ k) → get_or (set row n x) k None ≡ owner rows columns (entries m) i k
-    by k h (inl before) = get_or-set_other row n k x None (λ e. absurd (omega (arith, e))) ∙ is.each k before
-    by k h (inr more) =
-        let same : k ≡ n = omega arith in
-        ap (λ z. get_or (set row n x) z None) same ∙ get_or-set_same row n x None (omega (arith, is.long)) ∙ here ∙ ap (owner rows columns (entries m) i) (sym same)
+row-more rows columns m i n row x is less here = grind (arith, nat_tests, length-set, get_or-set_other, get_or-set_same)
 
 pub row-first : (rows columns : ℕ) (m : SpanMap) (i : ℕ) (row : List (Option Rectangle)) → length row ≡ columns + 2 → IsRowBelow rows columns m i 1 (set row 0 None)
 row-first rows columns m i row long =

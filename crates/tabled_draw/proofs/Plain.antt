@@ -14,10 +14,11 @@ use borrow.Author.Tests.{le-leb, le-ltb, lt-leb, lt-ltb, ne_eqb}
 use Rattle.unicode_width.specs.Width.{char_width}
 use Rattle.tabled_draw.specs.Lines.{ArePlain, after_line, first_line}
 use Rattle.tabled_draw.specs.Texts.{text_width, lines_shown, shown_character, shown_line, widest}
+use Rattle.std.proofs.lemmas.Bool.Decides.{nat_tests}
+use Rattle.std.proofs.lemmas.Grind.{common_steps, elements}
 
 shown-plain : (b : ℕ) → 31 < b → b < 127 → shown_character b ≡ b
-shown-plain b low high =
-    cond-false _ _ _ (le-ltb b 32 (omega (arith, low))) ∙ cond-false _ _ _ (ne_eqb b 127 (λ e. omega (arith, e, high))) ∙ cond-false _ _ _ (ap (λ x. x && nat_le b 159) (lt-leb 128 b (omega (arith, high))))
+shown-plain b low high = grind (arith, nat_tests)
 
 width-plain : (b : ℕ) → 31 < b → b < 127 → unwrap_or (char_width false b) 0 ≡ 1
 unfolding char_width
@@ -72,8 +73,7 @@ pub after-none : (bs : List ℕ) → position_or_len (λ b. b == 10) bs ≡ leng
 after-none bs h = drop_of_length-le bs (omega (arith, h))
 
 nothing : (y : ℕ) → get_or (lines_shown []) y [] ≡ []
-nothing zero = ap (map shown_character) chars-nil
-nothing (suc y) = refl
+nothing y = grind (arith, nat_tests, chars-nil)
 
 -- the lines of what is left are the next ones
 pub next-line : (bs : List ℕ) (y : ℕ) → get_or (lines_shown (after_line bs)) y [] ≡ get_or (lines_shown bs) (y + 1) []
@@ -95,5 +95,4 @@ plain-first bs all = plain-line bs all ∙ sym (ap (λ ls. get_or ls 0 []) (plai
 pub split-first : (bs : List ℕ) (r : Option (Bor (List ℕ) × Bor (List ℕ))) (whole : Bor (List ℕ) × Bor (List ℕ)) → whole.0.now ≡ bs
     → MatchOption r (position_or_len (λ b. b == 10) bs ≡ length bs) (λ x. (x.0.now ≡ before_first (λ b. b == 10) bs) × (x.1.now ≡ after_first (λ b. b == 10) bs) × (position_or_len (λ b. b == 10) bs < length bs))
     → shown_line (unwrap_or r whole).0.now ≡ first_line bs
-split-first bs None whole is all = ap shown_line is ∙ sym (ap (λ ls. get_or ls 0 []) (first-none bs all))
-split-first bs (Some x) whole is found = ap shown_line found.0 ∙ sym (ap (λ ls. get_or ls 0 []) (first-found bs found.2))
+split-first bs r whole h1 h2 = grind (arith, nat_tests, first-none, first-found)

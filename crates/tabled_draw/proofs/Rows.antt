@@ -25,6 +25,8 @@ use Rattle.tabled_grid.specs.Fitting.{Fits}
 use Rattle.tabled_grid.specs.Spans.{Rectangle, SpanMap}
 use Rattle.tabled_grid.specs.declared.config.position.Position.{Position}
 use Rattle.tabled_grid.specs.declared.records.axis.Axis.TheVariants.{Rows}
+use Rattle.std.proofs.lemmas.Bool.Decides.{nat_tests}
+use Rattle.std.proofs.lemmas.Grind.{common_steps, elements}
 
 -- the line above a row stands after those above all rows before it
 pub top-below : (g : Grid (List ℕ)) (es : List Rectangle) (r i : ℕ) → r < i → i ≤ g.rows → top g es r + 1 ≤ top g es i
@@ -151,6 +153,4 @@ module _ (g : Grid (List ℕ)) (es : List Rectangle) where
   more-rows i = sym (ended-both (each i (lines_of_row g es)) (lines_of_row g es i)) ∙ ap with_newlines (sym (each-more (lines_of_row g es) i))
 
   pub all-rows : (i : ℕ) → i ≡ g.rows → 0 < g.rows → 0 < g.columns → with_newlines (each i (lines_of_row g es)) ++ (picture_line g es (top g es g.rows) g.rows (g.rows + 1) ++ (10 ∷ [])) ≡ with_newlines (picture g es)
-  all-rows i is high wide =
-      let full : ((g.rows == 0) || (g.columns == 0)) ≡ false = ap₂ (λ x y. x || y) (ne_eqb g.rows 0 (λ e. omega (arith, e, high))) (ne_eqb g.columns 0 (λ e. omega (arith, e, wide))) in
-      ap (λ k. with_newlines (each k (lines_of_row g es)) ++ (picture_line g es (top g es g.rows) g.rows (g.rows + 1) ++ (10 ∷ []))) is ∙ sym (ended-more (each g.rows (lines_of_row g es)) (picture_line g es (top g es g.rows) g.rows (g.rows + 1))) ∙ ap with_newlines (sym (cond-false _ _ _ full))
+  all-rows i is high wide = grind (arith, nat_tests, ended-more)

@@ -11,6 +11,8 @@ use Rattle.unicode_width.specs.Width.{char_width}
 use Rattle.tabled_draw.proofs.Sent.{draws-as, draws-bytes, draws-none, draws-then}
 use Rattle.tabled_draw.specs.Sent.{Draws, GrowsBy}
 use Rattle.tabled_draw.specs.Texts.{text_width, shown_character, shown_line}
+use Rattle.std.proofs.lemmas.Bool.Decides.{nat_tests}
+use Rattle.std.proofs.lemmas.Grind.{common_steps, elements}
 
 pub counted : (c : ℕ) (rest whole : List ℕ) → IsUtf8 whole → whole ≡ encode_utf8 c ++ rest → text_width (shown_line whole) ≡ unwrap_or (char_width false (shown_character c)) 0 + text_width (shown_line rest)
 counted c rest whole utf8 is =
@@ -18,22 +20,14 @@ counted c rest whole utf8 is =
     ∙ sum_by-cons (λ d. unwrap_or (char_width false d) 0) (shown_character c) (map shown_character (chars rest))
 
 pub counted-more : (c columns more rest whole all : ℕ) (w : Option ℕ) → w ≡ char_width false (shown_character c) → whole ≡ unwrap_or (char_width false (shown_character c)) 0 + rest → columns + whole ≡ all → more ≡ columns + unwrap_or w 0 → more + rest ≡ all
-counted-more c columns more rest whole all w width is same sum =
-    let value : unwrap_or w 0 ≡ unwrap_or (char_width false (shown_character c)) 0 = ap (λ x. unwrap_or x 0) width in
-    omega (arith, value, is, same, sum)
+counted-more c columns more rest whole all w width is same sum = grind (arith, nat_tests)
 
 pub counted-end : (columns all : ℕ) (rest : List ℕ) → rest ≡ [] → columns + text_width (shown_line rest) ≡ all → columns ≡ all
-counted-end columns all rest none same =
-    let nothing : text_width (shown_line rest) ≡ 0 = ap (λ cs. text_width (map shown_character cs)) (ap chars none ∙ chars-nil) in
-    omega (arith, nothing, same)
+counted-end columns all rest none same = grind (arith, nat_tests, chars-nil)
 
 pub widest-more : {A : Type 0} (f : A → List ℕ) (most : ℕ) (xs : List A) (x : A) → most ≡ fold (λ most line. max most (text_width line)) 0 (map shown_line (map f xs))
     → max most (text_width (shown_line (f x))) ≡ fold (λ most line. max most (text_width line)) 0 (map shown_line (map f (xs ++ (x ∷ []))))
-widest-more f most xs x is =
-    let wider : ℕ → List ℕ → ℕ = λ most line. max most (text_width line) in
-    ap (λ n. max n (text_width (shown_line (f x)))) is
-    ∙ sym (fold-append wider 0 (map shown_line (map f xs)) (shown_line (f x) ∷ []))
-    ∙ ap (fold wider 0) (sym (map-append shown_line (map f xs) (f x ∷ [])) ∙ ap (map shown_line) (sym (map-append f xs (x ∷ []))))
+widest-more f most xs x is = grind (arith, nat_tests, fold-append, map-append)
 
 -- a line is drawn, up to its last characters
 pub record Drawn (a : Option (List ℕ)) (h : List ℕ) (b : Option (List ℕ)) (i rest all : List ℕ) : Type 0 where
@@ -52,15 +46,10 @@ drawn-more a b d h i j c bytes whole rest all utf8 is was same sent = record {
 }
 
 pub drawn-all : (a b : Option (List ℕ)) (h i rest all : List ℕ) → rest ≡ [] → Drawn a h b i (shown_line rest) all → Draws a h b i all
-drawn-all a b h i rest all none was =
-    draws-as (sym (was.is ∙ ap (λ r. was.done ++ r) (ap (λ cs. map shown_character cs) (ap chars none ∙ chars-nil)) ∙ append-nil was.done)) was.drawn
+drawn-all a b h i rest all none was = grind (arith, nat_tests, draws-as, chars-nil, append-nil)
 
 pub left-more : (c left more whole rest all : ℕ) (w : Option ℕ) → w ≡ char_width false (shown_character c) → whole ≡ unwrap_or (char_width false (shown_character c)) 0 + rest → left - whole ≡ all → more ≡ left - unwrap_or w 0 → more - rest ≡ all
-left-more c left more whole rest all w width is same less =
-    let value : unwrap_or w 0 ≡ unwrap_or (char_width false (shown_character c)) 0 = ap (λ x. unwrap_or x 0) width in
-    omega (arith, value, is, same, less)
+left-more c left more whole rest all w width is same less = grind (arith, nat_tests)
 
 pub left-end : (left all : ℕ) (rest : List ℕ) → rest ≡ [] → left - text_width (shown_line rest) ≡ all → left ≡ all
-left-end left all rest none same =
-    let nothing : text_width (shown_line rest) ≡ 0 = ap (λ cs. text_width (map shown_character cs)) (ap chars none ∙ chars-nil) in
-    omega (arith, nothing, same)
+left-end left all rest none same = grind (arith, nat_tests, chars-nil)

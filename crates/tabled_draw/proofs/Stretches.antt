@@ -22,23 +22,19 @@ use Rattle.tabled_grid.specs.Grid.{Grid}
 use Rattle.tabled_grid.specs.Fitting.{Fits}
 use Rattle.tabled_grid.specs.Spans.{Rectangle, SpanMap}
 use Rattle.tabled_grid.specs.declared.records.axis.Axis.TheVariants.{Columns}
+use Rattle.std.proofs.lemmas.Bool.Decides.{nat_tests}
+use Rattle.std.proofs.lemmas.Grind.{common_steps, elements}
 
 one-self : (a b : Option Rectangle) → is_one a b ≡ true → is_one a a ≡ true
-one-self None b t = absurd (false≢true t)
-one-self (Some p) b t = same_place-self p.0
+one-self a b h1 = grind (arith, nat_tests, same_place-self)
 
 module _ (g : Grid (List ℕ)) (es : List Rectangle) (n u d j : ℕ) where
   shows-none : (a : Option Rectangle) → shows_in g es n j (j + 1) a ≡ []
-  shows-none None = refl
-  shows-none (Some o) = ap (λ b. cond (b && eqb j (o.0.col + 1)) (shows g es n o) []) (ne_eqb j (j + 1) (λ e. omega (arith, e)))
+  shows-none a = grind (arith, nat_tests)
 
   edge-by : (mark : ℕ) (p q r s : Option Rectangle) → mark ≡ cond (eqb u d) 124 43
       → edge mark p q r s ≡ cond ((is_one p q && is_one p r) && is_one p s) (shows_in g es n j (j + 1) p) (replicate 1 (cond (eqb u d) 124 (cond (eqb j (j + 1)) 45 43)))
-  edge-by mark p q r s is = by ((is_one p q && is_one p r) && is_one p s)
-    where
-      by : (b : Bool) → cond b [] (mark ∷ []) ≡ cond b (shows_in g es n j (j + 1) p) (replicate 1 (cond (eqb u d) 124 (cond (eqb j (j + 1)) 45 43)))
-      by true = sym (shows-none p)
-      by false = ap (λ c. c ∷ []) (is ∙ ap (λ b. cond (eqb u d) 124 (cond b 45 43)) (sym (ne_eqb j (j + 1) (λ e. omega (arith, e)))))
+  edge-by mark p q r s is = grind (arith, nat_tests, shows-none)
 
   pub edge-is : (mark : ℕ) (p q r s : Option Rectangle) → mark ≡ cond (eqb u d) 124 43
       → p ≡ owner g.rows g.columns es u j → q ≡ owner g.rows g.columns es u (j + 1) → r ≡ owner g.rows g.columns es d j → s ≡ owner g.rows g.columns es d (j + 1)
@@ -47,15 +43,7 @@ module _ (g : Grid (List ℕ)) (es : List Rectangle) (n u d j : ℕ) where
 
   column-by : (a b : Option Rectangle) (shown : List ℕ) (size : ℕ) → (is_one a b ≡ true → shown ≡ shows_in g es n (j + 1) (j + 1) a) → (u ≡ d → is_one a b ≡ true)
       → cond (is_one a b) shown (replicate size 45) ≡ cond ((is_one a a && is_one a b) && is_one a b) (shows_in g es n (j + 1) (j + 1) a) (replicate size (cond (eqb u d) 124 (cond (eqb (j + 1) (j + 1)) 45 43)))
-  column-by a b shown size is within = by (cases_Bool (is_one a b)) (cases_Bool (eqb u d))
-    where
-      by : (is_one a b ≡ true) ⊎ (is_one a b ≡ false) → (eqb u d ≡ true) ⊎ (eqb u d ≡ false) → cond (is_one a b) shown (replicate size 45) ≡ cond ((is_one a a && is_one a b) && is_one a b) (shows_in g es n (j + 1) (j + 1) a) (replicate size (cond (eqb u d) 124 (cond (eqb (j + 1) (j + 1)) 45 43)))
-      by (inl t) _ = cond-true _ _ _ t ∙ is t ∙ sym (cond-true _ _ _ (and_from _ _ (and_from _ _ (one-self a b t) t) t))
-      by (inr f) (inl same) = absurd (false≢true (sym f ∙ within (eqb-true u d same)))
-      by (inr f) (inr other) =
-          let all : ((is_one a a && is_one a b) && is_one a b) ≡ false = ap (λ x. (is_one a a && is_one a b) && x) f ∙ and-false (is_one a a && is_one a b) in
-          let mark : cond (eqb u d) 124 (cond (eqb (j + 1) (j + 1)) 45 43) ≡ 45 = ap (λ x. cond x 124 (cond (eqb (j + 1) (j + 1)) 45 43)) other ∙ ap (λ x. cond x 45 43) (eq-eqb (j + 1) (j + 1) refl) in
-          cond-false _ _ _ f ∙ ap (replicate size) (sym mark) ∙ sym (cond-false _ _ _ all)
+  column-by a b shown size is within = grind (arith, nat_tests, one-self)
 
 -- in a row, above and below are one
 pub one-in_row : (m : SpanMap) (rows columns i j : ℕ) → 0 < i → i ≤ rows → j < columns → is_one (owner rows columns (entries m) i (j + 1)) (owner rows columns (entries m) i (j + 1)) ≡ true

@@ -6,6 +6,7 @@ pub mod Overall
 pub mod OwnerRows
 pub mod Owners
 pub mod Picture
+pub mod Rests
 pub mod Sent
 pub mod Sizes
 pub mod Standing

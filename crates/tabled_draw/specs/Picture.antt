@@ -61,6 +61,14 @@ picture g es =
 abbrev pub with_newlines : List (List ℕ) → List ℕ
 with_newlines lines = flat_map (λ picture_line. picture_line ++ (10 ∷ [])) lines
 
+-- the characters of the lines of a row, each line with a newline
+abbrev pub row_text : Grid (List ℕ) → SpanMap → ℕ → List ℕ
+row_text g m i = with_newlines (lines_of_row g (entries m) i)
+
+-- the characters of a picture, each line with a newline
+abbrev pub picture_text : Grid (List ℕ) → SpanMap → List ℕ
+picture_text g m = with_newlines (picture g (entries m))
+
 -- the bytes of the picture of a table with merged cells
 abbrev pub picture_bytes : Grid (List ℕ) → List Rectangle → List ℕ
 picture_bytes g es = encode_utf8_all (with_newlines (picture g es))

@@ -1,14 +1,14 @@
 //! Tables that are laid out.
 
-ghost use Rattle.std.specs.Prelude.{◌≡◌, ◌+◌, ◌<◌, ℕ, IfOk, None, OnOk, length, map, slice_index_or, []};
+ghost use Rattle.std.specs.Prelude.{◌≡◌, ◌+◌, ◌<◌, IfOk, OnOk, length, slice_index_or};
 ghost use Rattle.std.specs.FinMap.{entries};
 ghost use Rattle.tabled_draw.specs.Laid.{AreEdges, IsLaidOut};
-ghost use Rattle.tabled_draw.specs.Lines.{AreLeft, begun};
+ghost use Rattle.tabled_draw.specs.Lines.{begun};
 ghost use Rattle.tabled_draw.specs.OwnerRows.{IsOwnerRow, count_before};
-ghost use Rattle.tabled_draw.specs.Picture.{drawn, with_newlines, lines_of_row, picture, top};
+ghost use Rattle.tabled_draw.specs.Picture.{drawn, picture_text, row_text};
+ghost use Rattle.tabled_draw.specs.Rests.{AreBegun, AreLeftAbove};
 ghost use Rattle.tabled_draw.specs.Sent.{Draws};
 ghost use Rattle.tabled_draw.specs.Sizes.{heights};
-ghost use Rattle.tabled_grid.specs.Entity.{place};
 ghost use Rattle.tabled_grid.specs.Grid.{IsInside, map_grid};
 ghost use Rattle.tabled_grid.specs.Fitting.{Fits};
 
@@ -46,7 +46,7 @@ where
     R: Records + ExactRecords + PeekableRecords,
     R::Cell: CellText,
 {
-    ghost use Rattle.std.specs.Prelude.{◌≡◌, ◌+◌, ℕ, List, length};
+    ghost use Rattle.std.specs.Prelude.{ℕ, List};
     ghost use Rattle.std.specs.FinMap.{entries};
     ghost use Rattle.tabled_draw.specs.Picture.{picture_bytes};
     ghost use Rattle.tabled_draw.specs.Laid.{IsLaidOut};
@@ -56,7 +56,7 @@ where
 
     ghost view = { λ a. picture_bytes (map_grid R.Cell.text_of (R.grid a.records.now)) (entries a.spans) };
 
-    ghost invariant = { λ a. R.is_well_formed a.records.now × IsLaidOut (map_grid R.Cell.text_of (R.grid a.records.now)) a.spans a.layout.edges.items a.layout.heights.items (length a.layout.above.items) (length a.layout.here.items) (length a.rests.items) a.held };
+    ghost invariant = { λ a. R.is_well_formed a.records.now × IsLaidOut (map_grid R.Cell.text_of (R.grid a.records.now)) a.spans a.layout.edges.items a.layout.heights.items a.layout.above.items a.layout.here.items a.rests.items a.held };
 }
 
 impl<'a, R> Drawing<'a, R>
@@ -134,10 +134,10 @@ where
     R: Records + ExactRecords + PeekableRecords,
     R::Cell: CellText,
     requires well { R.is_well_formed records.now }
-    requires laid { IsLaidOut (map_grid R.Cell.text_of (R.grid records.now)) spans.now edges.now heights.now (length above.old.items) (length here.old.items) (length rests.old.items) held.old }
+    requires laid { IsLaidOut (map_grid R.Cell.text_of (R.grid records.now)) spans.now edges.now heights.now above.old.items here.old.items rests.old.items held.old }
     requires high { 0 < (R.grid records.now).rows }
     requires wide { 0 < (R.grid records.now).columns }
-    ensures { OnOk result (Draws (W.contents writer.old) held.old (W.contents writer.new) held.new (with_newlines (picture (map_grid R.Cell.text_of (R.grid records.now)) (entries spans.now)))) }
+    ensures { OnOk result (Draws (W.contents writer.old) held.old (W.contents writer.new) held.new (picture_text (map_grid R.Cell.text_of (R.grid records.now)) spans.now)) }
 {
     clear(above);
     let mut next = 0;
@@ -180,12 +180,12 @@ where
     requires above { IsOwnerRow ((R.grid records.now).rows) ((R.grid records.now).columns) spans.now i above.now.items }
     requires here { length here.old.items ≡ (R.grid records.now).columns + 2 }
     requires long { length rests.old.items ≡ (R.grid records.now).columns }
-    requires left { AreLeft (map_grid R.Cell.text_of (R.grid records.now)) spans.now i (top (map_grid R.Cell.text_of (R.grid records.now)) (entries spans.now) i) (map (λ r. r.now) rests.old.items) }
+    requires left { AreLeftAbove (map_grid R.Cell.text_of (R.grid records.now)) spans.now i rests.old.items }
     ensures next { IfOk result (λ next. next ≡ count_before (i + 1) 0 (entries spans.now)) }
     ensures here { OnOk result (IsOwnerRow ((R.grid records.now).rows) ((R.grid records.now).columns) spans.now (i + 1) here.new.items) }
     ensures long { OnOk result (length rests.new.items ≡ (R.grid records.now).columns) }
-    ensures draws { OnOk result (Draws (W.contents writer.old) held.old (W.contents writer.new) held.new (with_newlines (lines_of_row (map_grid R.Cell.text_of (R.grid records.now)) (entries spans.now) i))) }
-    ensures left { OnOk result (AreLeft (map_grid R.Cell.text_of (R.grid records.now)) spans.now (i + 1) (top (map_grid R.Cell.text_of (R.grid records.now)) (entries spans.now) (i + 1)) (map (λ r. r.now) rests.new.items)) }
+    ensures draws { OnOk result (Draws (W.contents writer.old) held.old (W.contents writer.new) held.new (row_text (map_grid R.Cell.text_of (R.grid records.now)) spans.now i)) }
+    ensures left { OnOk result (AreLeftAbove (map_grid R.Cell.text_of (R.grid records.now)) spans.now (i + 1) rests.new.items) }
 {
     let after = write_owners(records, spans, next, i, above, here);
     write_line(writer, held, b'+', edges, above, here, rests)?;
@@ -206,7 +206,7 @@ where
     requires here { length here.now ≡ (R.grid records.now).columns + 2 }
     requires long { length rests.old.items ≡ (R.grid records.now).columns }
     ensures long { length rests.new.items ≡ (R.grid records.now).columns }
-    ensures begun { (j : ℕ) → j < (R.grid records.now).columns → slice_index_or (map (λ r. r.now) rests.new.items) j [] ≡ begun (map_grid R.Cell.text_of (R.grid records.now)) (slice_index_or here.now (j + 1) None) (place i j) (slice_index_or (map (λ r. r.now) rests.old.items) j []) }
+    ensures begun { AreBegun (map_grid R.Cell.text_of (R.grid records.now)) i here.now rests.old.items rests.new.items }
 {
     for j in 0..rests.len() {
         rests[j] = text_at(records, here[j + 1], Position { row: i, col: j }, rests[j]);

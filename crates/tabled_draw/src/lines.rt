@@ -1,8 +1,9 @@
 //! The lines of a picture.
 
-ghost use Rattle.std.specs.Prelude.{◌≡◌, ◌+◌, ◌<◌, ◌&&◌, ℕ, IfOk, None, OnOk, Some, length, map, slice_index_or, []};
-ghost use Rattle.tabled_draw.specs.Lines.{EndInside, column, drawn_line, edge, left_of};
+ghost use Rattle.std.specs.Prelude.{◌≡◌, ◌+◌, ◌<◌, ◌&&◌, IfOk, OnOk, Some, length};
+ghost use Rattle.tabled_draw.specs.Lines.{EndInside, column, edge, left_of};
 ghost use Rattle.tabled_draw.specs.Owners.{is_one};
+ghost use Rattle.tabled_draw.specs.Rests.{AreCut, line_of_rests};
 ghost use Rattle.tabled_draw.specs.Sent.{Draws};
 ghost use Rattle.tabled_grid.specs.Spans.{Rectangle};
 
@@ -29,8 +30,8 @@ pub(crate) fn write_line<'a, W: Write>(
     requires edges { length edges.now ≡ length rests.old.items + 1 }
     requires inside { EndInside (length rests.old.items) above.now }
     ensures long { length rests.new.items ≡ length rests.old.items }
-    ensures draws { OnOk result (Draws (W.contents writer.old) held.old (W.contents writer.new) held.new (drawn_line (length rests.old.items) mark edges.now above.now below.now (map (λ r. r.now) rests.old.items))) }
-    ensures rests { OnOk result ((j : ℕ) → j < length rests.old.items → slice_index_or (map (λ r. r.now) rests.new.items) j [] ≡ left_of j (slice_index_or above.now (j + 1) None) (slice_index_or below.now (j + 1) None) (slice_index_or (map (λ r. r.now) rests.old.items) j [])) }
+    ensures draws { OnOk result (Draws (W.contents writer.old) held.old (W.contents writer.new) held.new (line_of_rests mark edges.now above.now below.now rests.old.items)) }
+    ensures rests { OnOk result (AreCut above.now below.now rests.old.items rests.new.items) }
 {
     let columns = rests.len();
     for j in 0..columns {

@@ -2,7 +2,7 @@ use Rattle.std.proofs.Common.{◌≡◌, ◌∙◌, ◌+◌, ◌++◌, [], ◌�
 use Rattle.std.specs.FinMap.{entries}
 use Rattle.tabled_draw.proofs.Before.{count-none}
 use Rattle.tabled_draw.proofs.Owned.{owner-below, owner-top, row-outside}
-use Rattle.tabled_draw.proofs.Rests.{bytes_in}
+use Rattle.tabled_draw.specs.Rests.{bytes_in}
 use Rattle.tabled_draw.proofs.Rows.{all-rows, between, end-inside, left-outside, more-rows}
 use Rattle.tabled_draw.proofs.Sent.{draws-as, draws-none, draws-then}
 use Rattle.tabled_draw.specs.OwnerRows.{IsOwnerRow}

@@ -1,6 +1,6 @@
 use Rattle.std.proofs.Common.{◌≡◌, ◌+◌, length}
 use Rattle.std.specs.FinMap.{entries}
-use Rattle.tabled_draw.proofs.Rests.{bytes_in}
+use Rattle.tabled_draw.specs.Rests.{bytes_in}
 use Rattle.tabled_draw.specs.Each.{each}
 use Rattle.tabled_draw.specs.Lines.{AreLeft}
 use Rattle.tabled_draw.specs.OwnerRows.{IsOwnerRow, count_before}

@@ -1,7 +1,8 @@
 use Rattle.std.proofs.Common.{◌≡◌, ◌∙◌, ◌+◌, ◌<◌, [], None, ap, arith, get_or, length, lit<, refl, sym}
 use Rattle.std.proofs.Math.ListN.{length-set}
 use Rattle.tabled_draw.proofs.Cells.{draws-byte}
-use Rattle.tabled_draw.proofs.Rests.{bytes_in, changed-more, changed-none, text-in}
+use Rattle.tabled_draw.proofs.Rests.{changed-more, changed-none, text-in}
+use Rattle.tabled_draw.specs.Rests.{bytes_in}
 use Rattle.tabled_draw.proofs.Sent.{draws-as, draws-none, draws-then}
 use Rattle.tabled_draw.proofs.Each.{each-more}
 use Rattle.tabled_draw.specs.Each.{each}

@@ -1,0 +1,31 @@
+-- What is left of the texts in each column, of which a line of the picture takes the first lines.
+use Rattle.std.specs.Prelude.{◌≡◌, ◌+◌, ◌<◌, ℕ, List, [], Option, None, length, map, slice_index_or}
+use Rattle.std.specs.FinMap.{entries}
+use denote.Ref.{Bor}
+use Rattle.tabled_draw.specs.Lines.{AreLeft, begun, drawn_line, left_of}
+use Rattle.tabled_draw.specs.Picture.{top}
+use Rattle.tabled_grid.specs.Entity.{place}
+use Rattle.tabled_grid.specs.Grid.{Grid}
+use Rattle.tabled_grid.specs.Spans.{Rectangle, SpanMap}
+
+-- the bytes of texts that are lent
+abbrev pub bytes_in : List (Bor (List ℕ)) → List (List ℕ)
+bytes_in rests = map (λ r. r.now) rests
+
+-- a line in a row or between two, whose owners and texts are known
+abbrev pub line_of_rests : ℕ → List ℕ → List (Option Rectangle) → List (Option Rectangle) → List (Bor (List ℕ)) → List ℕ
+line_of_rests mark edges above below rests = drawn_line (length rests) mark edges above below (bytes_in rests)
+
+-- in each column, what is left of the text once a line is drawn
+abbrev pub AreCut : List (Option Rectangle) → List (Option Rectangle) → List (Bor (List ℕ)) → List (Bor (List ℕ)) → Type 0
+AreCut above below old new =
+    (j : ℕ) → j < length old → slice_index_or (bytes_in new) j [] ≡ left_of j (slice_index_or above (j + 1) None) (slice_index_or below (j + 1) None) (slice_index_or (bytes_in old) j [])
+
+-- in each column, the text of the cell that begins in row i, if one does, else what was left before
+abbrev pub AreBegun : Grid (List ℕ) → ℕ → List (Option Rectangle) → List (Bor (List ℕ)) → List (Bor (List ℕ)) → Type 0
+AreBegun g i here old new =
+    (j : ℕ) → j < g.columns → slice_index_or (bytes_in new) j [] ≡ begun g (slice_index_or here (j + 1) None) (place i j) (slice_index_or (bytes_in old) j [])
+
+-- in each column, the lines that are left where the line above row i is the next one
+abbrev pub AreLeftAbove : Grid (List ℕ) → SpanMap → ℕ → List (Bor (List ℕ)) → Type 0
+AreLeftAbove g m i rests = AreLeft g m i (top g (entries m) i) (bytes_in rests)
