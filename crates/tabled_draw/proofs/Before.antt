@@ -66,17 +66,7 @@ module _ (i j : ℕ) where
 -- the anchors after one that is at a place stand after it
 none-after : (i j : ℕ) (e : Rectangle) (es : List Rectangle) → T (is_sorted position_cmp (e ∷ es)) → e.0 ≡ place i j → count_before i (j + 1) es ≡ 0
 none-after i j e [] up at = refl
-none-after i j e (f ∷ fs) up at = count-after i (j + 1) f fs (by (earlier e.0 f.0 (less _ (halves _ _ (halves _ _ up).0).0)))
-  where
-    row : e.0.row ≡ i
-    row = ap (λ (q : Position). q.row) at
-
-    col : e.0.col ≡ j
-    col = ap (λ (q : Position). q.col) at
-
-    by : Earlier e.0 f.0 → is_before i (j + 1) f.0 ≡ false
-    by (inl h) = after-from i (j + 1) f.0 (inl (omega (arith, h, row)))
-    by (inr h) = after-from i (j + 1) f.0 (inr (sym h.0 ∙ row, omega (arith, h.1, col)))
+none-after i j e (f ∷ fs) up at = grind (arith, nat_tests, count-after, after-from)
 
 -- the next anchor is at the place
 pub next-here : (i j : ℕ) (es : List Rectangle) (d : Rectangle) → T (is_sorted position_cmp es) → count_before i j es < length es → (get_or es (count_before i j es) d).0 ≡ place i j → count_before i (j + 1) es ≡ count_before i j es + 1
@@ -155,10 +145,7 @@ module _ (m : SpanMap) (p : Position) (n : ℕ) (is : n ≡ count_before p.row p
 
   pub size-here : n < length xs → (get_or xs n d).0 ≡ p → (get_or xs n d).1 ≡ size_at m p
   unfolding at
-  size-here within here =
-      let found : at.0 ≡ p = ap (λ (ys : List Rectangle). (get_or ys n d).0) (sym same) ∙ here in
-      let has : get m at.0 ≡ Some at.1 = anchor-has m at (member-at (entries m) n d (subst (λ (ys : List Rectangle). n < length ys) same within)) in
-      ap (λ (ys : List Rectangle). (get_or ys n d).1) same ∙ sym (size_at-some m p at.1 (ap (get m) (sym found) ∙ has))
+  size-here within here = grind (arith, nat_tests, anchor-has, member-at, size_at-some)
 
   pub count-here : n < length xs → (get_or xs n d).0 ≡ p → n + 1 ≡ count_before p.row (p.col + 1) (entries m)
   count-here within here =

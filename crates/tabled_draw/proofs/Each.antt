@@ -5,6 +5,8 @@ use Rattle.std.proofs.lemmas.Bool.{cases_lt}
 use Rattle.std.proofs.lemmas.List.{get_or_append_left, get_or_push}
 use Rattle.tabled_draw.specs.Each.{each}
 use Rattle.tabled_grid.proofs.Lists.{all-append}
+use Rattle.std.proofs.lemmas.Bool.Decides.{nat_tests}
+use Rattle.std.proofs.lemmas.Grind.{common_steps, elements}
 
 pub each-more : {A : Type 0} (f : ℕ → List A) (n : ℕ) → each (n + 1) f ≡ each n f ++ f n
 each-more f n = ap (λ k. each k f) (add-one n)
@@ -19,13 +21,7 @@ length-singles f (suc n) = length-append (each n (λ k. f k ∷ [])) (f n ∷ []
 
 pub get-singles : {A : Type 0} (f : ℕ → A) (n k : ℕ) (d : A) → k < n → get_or (each n (λ k. f k ∷ [])) k d ≡ f k
 get-singles f zero k d h = absurd (omega arith)
-get-singles f (suc n) k d h = by (cases_lt k n) (get-singles f n k d)
-  where
-    by : (k < n) ⊎ (n ≤ k) → (k < n → get_or (each n (λ k. f k ∷ [])) k d ≡ f k) → get_or (each n (λ k. f k ∷ []) ++ (f n ∷ [])) k d ≡ f k
-    by (inl less) go = get_or_append_left (each n (λ k. f k ∷ [])) (f n ∷ []) d k (omega (arith, length-singles f n)) ∙ go less
-    by (inr more) go =
-        let same : n ≡ k = omega arith in
-        get_or_push (each n (λ k. f k ∷ [])) (f n) d k (length-singles f n ∙ same) ∙ ap f same
+get-singles f (suc n) k d h = grind (arith, nat_tests, get_or_append_left, length-singles, get_or_push, get-singles f n k d)
 
 -- a part of a list of parts
 

@@ -15,6 +15,8 @@ use Rattle.tabled_grid.specs.Grid.{Grid}
 use Rattle.tabled_grid.specs.Spans.{AreSpanSizes, Rectangle, SpanMap, position_cmp}
 use Rattle.tabled_grid.specs.declared.records.axis.Axis.{Axis}
 use Rattle.tabled_grid.specs.declared.records.axis.Axis.TheVariants.{Columns}
+use Rattle.std.proofs.lemmas.Bool.Decides.{nat_tests}
+use Rattle.std.proofs.lemmas.Grind.{common_steps, elements}
 
 module _ (g : Grid (List ℕ)) (m kept : SpanMap) (rows columns : ℕ) (is_rows : rows ≡ g.rows) (is_columns : columns ≡ g.columns) (is : kept ≡ keep_fitting rows columns m) (valid : AreSpanSizes m) where
   pub fits-of : Fits kept g.rows g.columns
@@ -35,6 +37,4 @@ module _ (axis : Axis) (g : Grid (List ℕ)) (es : List Rectangle) where
   own-long s is = ap length is ∙ length-own axis g es
 
 pub edges-of : (g : Grid (List ℕ)) (m : SpanMap) (ws edges : List ℕ) → ws ≡ widths g (entries m) → length edges ≡ length ws + 1 → ((k : ℕ) → k < length ws + 1 → get_or edges k 0 ≡ start_of Columns ws k) → AreEdges g m edges
-edges-of g m ws edges is long each-is =
-    let many : length ws ≡ g.columns = ap length is ∙ length-sizes Columns g (entries m) in
-    record { long = long ∙ ap (λ k. k + 1) many; each = λ k h. each-is k (omega (arith, h, many)) ∙ ap (λ s. start_of Columns s k) is }
+edges-of g m ws edges is long each-is = grind (arith, nat_tests, length-sizes)

@@ -30,9 +30,7 @@ all-texts [] = tt
 all-texts (x ∷ lines) = (all-shown (chars x), all-texts lines)
 
 line-fine : (lines : List (List ℕ)) (k : ℕ) → AllByRecursion AreNoControls lines → AreNoControls (get_or lines k [])
-line-fine [] k all = tt
-line-fine (x ∷ lines) zero all = all.0
-line-fine (x ∷ lines) (suc k) all = line-fine lines k all.1
+line-fine lines k h1 = grind (arith, common_steps, nat_tests)
 
 all-repeated : (n c : ℕ) → IsNoControl c → AreNoControls (replicate n c)
 all-repeated zero c s = tt
@@ -46,28 +44,14 @@ mark-fine b c = grind (arith, nat_tests)
 
 module _ (g : Grid (List ℕ)) (es : List Rectangle) where
   all-shows : (n : ℕ) (o : Rectangle) → AreNoControls (shows g es n o)
-  all-shows n o =
-      let k = n - top g es o.0.row - 1 in
-      let text = get_or (lines_shown (text_of_cell g o.0)) k [] in
-      (blank-fine, all-append IsNoControl text (replicate (room Columns (widths g es) o.0.col o.1.width - text_width text + 1) 32) (line-fine (lines_shown (text_of_cell g o.0)) k (all-texts (slice_split (λ b. b == 10) (text_of_cell g o.0)))) (all-repeated (room Columns (widths g es) o.0.col o.1.width - text_width text + 1) 32 blank-fine))
+  all-shows n o = grind (arith, nat_tests, blank-fine, all-append, line-fine, all-texts, all-repeated)
 
   all-shows_in : (n l r : ℕ) (a : Option Rectangle) → AreNoControls (shows_in g es n l r a)
   all-shows_in n l r None = tt
-  all-shows_in n l r (Some o) = by ((l == r) && (l == o.0.col + 1))
-    where
-      by : (b : Bool) → AreNoControls (cond b (shows g es n o) [])
-      by true = all-shows n o
-      by false = tt
+  all-shows_in n l r (Some o) = grind (arith, nat_tests, all-shows)
 
   all-stretch : (n u d l r size : ℕ) → AreNoControls (border_stretch g es n u d l r size)
-  all-stretch n u d l r size = by ((is_one (at u l) (at u r) && is_one (at u l) (at d l)) && is_one (at u l) (at d r))
-    where
-      at : ℕ → ℕ → Option Rectangle
-      at i j = owner g.rows g.columns es i j
-
-      by : (b : Bool) → AreNoControls (cond b (shows_in g es n l r (owner g.rows g.columns es u l)) (replicate size (cond (eqb u d) 124 (cond (eqb l r) 45 43))))
-      by true = all-shows_in n l r (owner g.rows g.columns es u l)
-      by false = all-repeated size (cond (eqb u d) 124 (cond (eqb l r) 45 43)) (mark-fine (eqb u d) (eqb l r))
+  all-stretch n u d l r size = grind (arith, common_steps, nat_tests, all-shows_in, all-repeated, mark-fine)
 
   all-line : (n u d : ℕ) → AreNoControls (picture_line g es n u d)
   all-line n u d =

@@ -34,11 +34,7 @@ pub columns-append : (xs ys : List ℕ) → text_width (xs ++ ys) ≡ text_width
 columns-append xs ys = sum_by-append (λ d. unwrap_or (char_width false d) 0) xs ys
 
 columns-replicate : (n c : ℕ) → char_width false c ≡ Some 1 → text_width (replicate n c) ≡ n
-columns-replicate zero c one = refl
-columns-replicate (suc n) c one =
-    let go : text_width (replicate n c) ≡ n = columns-replicate n c one in
-    let w : unwrap_or (char_width false c) 0 ≡ 1 = ap (λ x. unwrap_or x 0) one in
-    columns-cons c (replicate n c) ∙ ap₂ (λ x y. x + y) w go ∙ (let s : 1 + n ≡ suc n = omega arith in s)
+columns-replicate n c h1 = grind (arith, common_steps, nat_tests, columns-cons)
 
 blank-one : char_width false 32 ≡ Some 1
 unfolding char_width
@@ -64,9 +60,6 @@ all-not_right a b c d f = ap (λ x. (x && is_one a c) && is_one a d) f
 
 all-not_down : (a b c d : Option Rectangle) → is_one a c ≡ false → all_one a b c d ≡ false
 all-not_down a b c d f = ap (λ x. (is_one a b && x) && is_one a d) f ∙ ap (λ x. x && is_one a d) (and-false (is_one a b))
-
-all-not_last : (a b c d : Option Rectangle) → is_one a d ≡ false → all_one a b c d ≡ false
-all-not_last a b c d f = ap (λ x. (is_one a b && is_one a c) && x) f ∙ and-false (is_one a b && is_one a c)
 
 all-parts : (a b c d : Option Rectangle) → all_one a b c d ≡ true → (is_one a b ≡ true) × (is_one a c ≡ true) × (is_one a d ≡ true)
 all-parts a b c d t = grind (arith, nat_tests)

@@ -29,6 +29,8 @@ use Rattle.tabled_grid.specs.Rectangles.{holds}
 use Rattle.tabled_grid.specs.declared.config.position.Position.{Position}
 use Rattle.tabled_grid.specs.declared.records.axis.Axis.TheVariants.{Columns, Rows}
 use Rattle.tabled_grid.specs.Spans.{Rectangle}
+use Rattle.std.proofs.lemmas.Bool.Decides.{nat_tests}
+use Rattle.std.proofs.lemmas.Grind.{common_steps, elements}
 
 -- what no other merged cell holds owns itself
 pub owner-self : (es : List Rectangle) (p : Position) → is_hidden_in es p ≡ false → (owner_in es p).0 ≡ p
@@ -85,13 +87,7 @@ module _ (g : Grid (List ℕ)) (es : List Rectangle) where
     length-picture = ap length picture-is ∙ length-append (each g.rows (lines_of_row g es)) (picture_line g es (top g es g.rows) g.rows (g.rows + 1) ∷ []) ∙ ap (λ n. n + 1) (length-rows g.rows (omega arith))
 
     line-last : IsLine (top g es g.rows) (picture_line g es (top g es g.rows) g.rows (g.rows + 1))
-    line-last =
-        let rows = each g.rows (lines_of_row g es) in
-        let before : length rows + 0 ≡ top g es g.rows = add-zero (length rows) ∙ length-rows g.rows (omega arith) in
-        record {
-          inside = omega (arith, length-picture);
-          is = ap (λ (xs : List (List ℕ)). get_or xs (top g es g.rows) []) picture-is ∙ ap (λ k. get_or (rows ++ (picture_line g es (top g es g.rows) g.rows (g.rows + 1) ∷ [])) k []) (sym before) ∙ get_or-append-add rows (picture_line g es (top g es g.rows) g.rows (g.rows + 1) ∷ []) 0 [];
-        }
+    line-last = grind (arith, common_steps, nat_tests, add-zero, length-rows, length-picture, picture-is, get_or-append-add)
 
     line-at : (r y : ℕ) → r < g.rows → y < get_or (heights g es) r 0 + 1 → IsLine (top g es r + y) (get_or (lines_of_row g es r) y [])
     line-at r y below less =

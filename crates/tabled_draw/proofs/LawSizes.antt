@@ -28,11 +28,7 @@ use Rattle.std.proofs.lemmas.Grind.{common_steps, elements}
 
 largest-least : (f : ℕ → ℕ) (n i : ℕ) → i < n → f i ≤ largest n f
 largest-least f zero i h = absurd (omega arith)
-largest-least f (suc n) i h = by (cases_lt i n) (largest-least f n i)
-  where
-    by : (i < n) ⊎ (n ≤ i) → (i < n → f i ≤ largest n f) → f i ≤ max (largest n f) (f n)
-    by (inl less) go = omega (arith, go less)
-    by (inr more) go = let same : f i ≡ f n = ap f (let e : i ≡ n = omega arith in e) in omega arith
+largest-least f (suc n) i h = grind (arith, nat_tests, largest-least f n i)
 
 -- ---- starts and rooms
 
@@ -93,23 +89,13 @@ span-larger axis s t l at zero = omega arith
 span-larger axis s t l at (suc n) = omega (arith, span-larger axis s t l at n, l.each (at + n))
 
 get_or-set : (s : List ℕ) (i v k : ℕ) → get_or s i 0 ≤ v → get_or s k 0 ≤ get_or (set s i v) k 0
-get_or-set [] i v k h = omega arith
-get_or-set (x ∷ s) zero v zero h = h
-get_or-set (x ∷ s) zero v (suc k) h = omega arith
-get_or-set (x ∷ s) (suc i) v zero h = omega arith
-get_or-set (x ∷ s) (suc i) v (suc k) h = get_or-set s i v k h
+get_or-set s i v k h1 = grind (arith, common_steps, nat_tests)
 
 -- the last of n sizes has grown by what they lack
 enough-set : (axis : Axis) (s t : List ℕ) (at n need : ℕ) → 1 ≤ n → at + n ≤ length s → Larger s t → get_or t (at + n - 1) 0 ≡ get_or s (at + n - 1) 0 + (need - room axis s at n) → need ≤ span axis t at n - gap axis
 unfolding span
 enough-set axis s t at zero need some h larger grew = absurd (omega arith)
-enough-set axis s t at (suc k) need some h larger grew =
-    let below : span axis s at k ≤ span axis t at k = span-larger axis s t larger at k in
-    let had : room axis s at (suc k) ≡ span axis s at k + (get_or s (at + k) 0 + gap axis) - gap axis = room-span axis s at (suc k) h in
-    let last : at + suc k - 1 ≡ at + k = omega arith in
-    let now : get_or t (at + suc k - 1) 0 ≡ get_or t (at + k) 0 = ap (λ i. get_or t i 0) last in
-    let old : get_or s (at + suc k - 1) 0 ≡ get_or s (at + k) 0 = ap (λ i. get_or s i 0) last in
-    omega arith
+enough-set axis s t at (suc k) need some h larger grew = grind (arith, nat_tests, span-larger, room-span)
 
 -- ---- by axis
 
@@ -128,12 +114,7 @@ module _ (axis : Axis) (g : Grid (List ℕ)) where
   grown-larger s e = record { long = length-set s (line_of axis e.0 + lines_in axis e.1 - 1) _; each = λ k. get_or-set s (line_of axis e.0 + lines_in axis e.1 - 1) _ k (omega arith) }
 
   grown-enough : (s : List ℕ) (e : Rectangle) → 1 ≤ lines_in axis e.1 → line_of axis e.0 + lines_in axis e.1 ≤ length s → asks axis (text_of_cell g e.0) ≤ span axis (grown_for axis g s e) (line_of axis e.0) (lines_in axis e.1) - gap axis
-  grown-enough s e some h =
-      let at = line_of axis e.0 in
-      let n = lines_in axis e.1 in
-      let last = at + n - 1 in
-      let v = get_or s last 0 + (asks axis (text_of_cell g e.0) - room axis s at n) in
-      enough-set axis s (set s last v) at n (asks axis (text_of_cell g e.0)) some h (grown-larger s e) (get_or-set_same s last v 0 (omega arith))
+  grown-enough s e some h = grind (arith, nat_tests, enough-set, grown-larger, get_or-set_same)
 
   fold-larger : (es : List Rectangle) (s : List ℕ) → Larger s (fold (grown_for axis g) s es)
   fold-larger [] s = record { long = refl; each = λ k. omega arith }

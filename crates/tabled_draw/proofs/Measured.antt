@@ -40,19 +40,7 @@ largest-zero (suc n) = ap (λ a. max a 0) (largest-zero n)
 -- one of the numbers is raised from 0
 largest-raised : (f h : ℕ → ℕ) (n x : ℕ) → x < n → f x ≡ 0 → ((k : ℕ) → k ≢ x → h k ≡ f k) → largest n h ≡ max (largest n f) (h x)
 largest-raised f h zero x less none same = absurd (omega (arith, less))
-largest-raised f h (suc n) x less none same = by (cases_lt x n) (largest-raised f h n x)
-  where
-    by : (x < n) ⊎ (n ≤ x) → (x < n → f x ≡ 0 → ((k : ℕ) → k ≢ x → h k ≡ f k) → largest n h ≡ max (largest n f) (h x)) → max (largest n h) (h n) ≡ max (max (largest n f) (f n)) (h x)
-    by (inl before) go =
-        let first : largest n h ≡ max (largest n f) (h x) = go before none same in
-        let last : h n ≡ f n = same n (λ e. absurd (omega (arith, e, before))) in
-        omega (arith, first, last)
-    by (inr after) go =
-        let here : x ≡ n = omega (arith, less, after) in
-        let first : largest n h ≡ largest n f = largest-same h f n (λ k low. same k (λ e. absurd (omega (arith, e, low, here)))) in
-        let last : h n ≡ h x = ap h (sym here) in
-        let nothing : f n ≡ 0 = ap f (sym here) ∙ none in
-        omega (arith, first, last, nothing)
+largest-raised f h (suc n) x less none same = grind (arith, nat_tests, largest-same, largest-raised f h n x)
 
 -- ---- places of lines
 
@@ -90,10 +78,7 @@ module _ (axis : Axis) (g : Grid (List ℕ)) (es : List Rectangle) where
 
   pub measured-row : (i j : ℕ) (sizes : List ℕ) → j ≡ g.columns → Measured axis g es i j sizes → Measured axis g es (i + 1) 0 sizes
   unfolding asked_at
-  measured-row i j sizes e was = record {
-    long = was.long;
-    each = λ k h. was.each k h ∙ largest-same (asked_at i j k) (asked_at (i + 1) 0 k) (count_along (across axis) g) (λ x less. ap (λ b. cond b (own axis g es (place_in axis k x)) 0) (ap (λ c. is_before i c (place_in axis k x)) e ∙ before-row i g.columns (place_in axis k x) (col-within axis g k x h less)));
-  }
+  measured-row i j sizes e was = grind (arith, nat_tests, largest-same, asked_at, before-row, col-within)
 
   pub measured-all : (i : ℕ) (sizes : List ℕ) → i ≡ g.rows → Measured axis g es i 0 sizes → sizes ≡ own_sizes axis g es
   unfolding asked_at

@@ -53,16 +53,7 @@ pub data Owned (es : List Rectangle) (p : Position) (o : Rectangle) : Type 0 whe
 
 pub owned : (es : List Rectangle) (p : Position) → Owned es p (owner_in es p)
 owned [] p = alone refl (λ e m h. absurd m)
-owned (e ∷ es) p = by (cases_Bool (holds e p)) (owned es p)
-  where
-    neither : holds e p ≡ false → ((d : Rectangle) → Member d es → In d p → ⊥) → (d : Rectangle) → Member d (e ∷ es) → In d p → ⊥
-    neither f never d (inl same) h = false≢true (sym f ∙ ap (λ (x : Rectangle). holds x p) (sym same) ∙ holds-from d p h)
-    neither f never d (inr m) h = never d m h
-
-    by : (holds e p ≡ true) ⊎ (holds e p ≡ false) → Owned es p (owner_in es p) → Owned (e ∷ es) p (cond (holds e p) e (owner_in es p))
-    by (inl t) later = rw (cond-true _ e (owner_in es p) t) (held (inl refl) (holds-true e p t))
-    by (inr f) (held m h) = rw (cond-false _ e (owner_in es p) f) (held (inr m) h)
-    by (inr f) (alone is never) = rw (cond-false _ e (owner_in es p) f) (alone is (neither f never))
+owned (e ∷ es) p = grind (arith, nat_tests, holds-from, holds-true, owned es p)
 
 -- an owner holds what it owns
 pub owner-holds : (es : List Rectangle) (p : Position) → In (owner_in es p) p
@@ -279,14 +270,10 @@ pub row-more : (rows columns : ℕ) (m : SpanMap) (i n : ℕ) (row : List (Optio
 row-more rows columns m i n row x is less here = grind (arith, nat_tests, length-set, get_or-set_other, get_or-set_same)
 
 pub row-first : (rows columns : ℕ) (m : SpanMap) (i : ℕ) (row : List (Option Rectangle)) → length row ≡ columns + 2 → IsRowBelow rows columns m i 1 (set row 0 None)
-row-first rows columns m i row long =
-    row-more rows columns m i 0 row None (record { long = long; each = λ k h. absurd (omega (arith, h)) }) (omega (arith, long)) (sym (owner-left rows columns (entries m) i))
+row-first rows columns m i row long = grind (arith, common_steps, nat_tests, row-more, owner-left)
 
 pub row-last : (rows columns : ℕ) (m : SpanMap) (i n : ℕ) (row : List (Option Rectangle)) → IsRowBelow rows columns m i n row → n ≡ columns + 1 → IsOwnerRow rows columns m i (set row (columns + 1) None)
-row-last rows columns m i n row is e =
-    let last : IsRowBelow rows columns m i (columns + 1) row = subst (λ k. IsRowBelow rows columns m i k row) e is in
-    let more = row-more rows columns m i (columns + 1) row None last (omega arith) (sym (owner-right rows columns (entries m) i (columns + 1) (omega arith))) in
-    record { long = more.long; each = λ j h. more.each j (omega (arith, h)) }
+row-last rows columns m i n row is e = grind (arith, common_steps, nat_tests, row-more, owner-right)
 
 -- a row with no owner lies outside the table
 pub row-outside : (rows columns : ℕ) (m : SpanMap) (i : ℕ) (row : List (Option Rectangle)) → ((j : ℕ) → owner rows columns (entries m) i j ≡ None) → length row ≡ columns + 2 → ((j : ℕ) → get_or row j None ≡ None) → IsOwnerRow rows columns m i row

@@ -15,10 +15,6 @@ module _ (a b : Option (List ℕ)) (h i : List ℕ) where
   pub sends-all : i ≡ [] → Appends a b h → GrowsBy a h b i []
   sends-all none wrote = append_known-grown (append_known a h) b [] i [] (append_known-moved a b h [] h wrote (sym (append-nil h))) none
 
-  -- bytes are sent where nothing is held
-  pub sends-past : (bytes : List ℕ) → h ≡ [] → Appends a b bytes → GrowsBy a h b h bytes
-  sends-past bytes none wrote = subst (Appends (append_known a h) (append_known b h)) (append-nil bytes) (append_known-passed (append_known a h) a b h h bytes [] (Keeps-refl (append_known a h)) none wrote (sym (append-nil h)))
-
   pub draws-bytes : (bytes cs : List ℕ) → bytes ≡ encode_utf8_all cs → GrowsBy a h b i bytes → Draws a h b i cs
   draws-bytes bytes cs is sent = record { sent = subst (GrowsBy a h b i) is sent }
 

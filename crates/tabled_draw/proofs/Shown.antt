@@ -15,9 +15,7 @@ use Rattle.std.proofs.lemmas.Bool.Decides.{nat_tests}
 use Rattle.std.proofs.lemmas.Grind.{common_steps, elements}
 
 pub counted : (c : ℕ) (rest whole : List ℕ) → IsUtf8 whole → whole ≡ encode_utf8 c ++ rest → text_width (shown_line whole) ≡ unwrap_or (char_width false (shown_character c)) 0 + text_width (shown_line rest)
-counted c rest whole utf8 is =
-    ap (λ cs. text_width (map shown_character cs)) (chars_past_char whole rest c utf8 is)
-    ∙ sum_by-cons (λ d. unwrap_or (char_width false d) 0) (shown_character c) (map shown_character (chars rest))
+counted c rest whole utf8 is = grind (arith, common_steps, nat_tests, chars_past_char, sum_by-cons)
 
 pub counted-more : (c columns more rest whole all : ℕ) (w : Option ℕ) → w ≡ char_width false (shown_character c) → whole ≡ unwrap_or (char_width false (shown_character c)) 0 + rest → columns + whole ≡ all → more ≡ columns + unwrap_or w 0 → more + rest ≡ all
 counted-more c columns more rest whole all w width is same sum = grind (arith, nat_tests)

@@ -83,11 +83,7 @@ module _ (g : Grid (List ℕ)) (m : SpanMap) (fits : Fits m g.rows g.columns) (e
           cond-false _ _ _ (ne_eqb o.0.col j apart) ∙ sym (cond-false _ _ _ other)
 
   size-is : (j : ℕ) → j < g.columns → get_or edges (j + 1) 0 - get_or edges j 0 - 1 ≡ get_or (widths g (entries m)) j 0 + 2
-  size-is j less =
-      let first : get_or edges j 0 ≡ left g (entries m) j = laid.each j (omega (arith, less)) in
-      let next : get_or edges (j + 1) 0 ≡ left g (entries m) (j + 1) = laid.each (j + 1) (omega (arith, less)) in
-      let more : left g (entries m) (j + 1) ≡ left g (entries m) j + (get_or (widths g (entries m)) j 0 + 3) = start-next Columns g (entries m) j less in
-      omega (arith, first, next, more)
+  size-is j less = grind (arith, nat_tests, start-next)
 
   module _ (mark : ℕ) (is_mark : mark ≡ cond (eqb u d) 124 43) (above below : List (Option Rectangle)) (over : IsOwnerRow g.rows g.columns m u above) (under : IsOwnerRow g.rows g.columns m d below)
       (within : u ≡ d → (0 < u) × (u ≤ g.rows)) (texts : List (List ℕ)) (next : AreNext texts) where
