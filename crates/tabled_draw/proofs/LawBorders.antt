@@ -1,6 +1,7 @@
 -- Where borders stand in a picture.
 use Rattle.std.proofs.Common.{◌≡◌, ◌∙◌, ◌+◌, ◌-◌, ◌<◌, ◌≤◌, ◌⊎◌, inl, inr, ℕ, true, false, cond, List, [], ◌∷◌, Some, refl, sym, ap, subst, arith, replicate}
-use Rattle.std.specs.Prelude.{◌&&◌}
+use Rattle.std.specs.Prelude.{◌&&◌, Bool}
+use Rattle.std.specs.List.{list_any}
 use Rattle.std.proofs.lemmas.Bool.{and_from, false≢true}
 use borrow.Author.Tests.{eq-eqb, le-leb, lt-ltb, ne_eqb}
 use Rattle.tabled_draw.proofs.LawLines.{dashes-stand, edge-stands}
@@ -34,62 +35,37 @@ module _ (g : Grid (List ℕ)) (es : List Rectangle) (well : LieWell g.rows g.co
       by (held m h) is = inl (subst (λ (x : Rectangle). Member x es) (sym is) m)
       by (alone single never) is = inr (ap (λ (x : Rectangle). x.1) (is ∙ single))
 
+  -- no owner has two places, unless a test says so of a merged cell
+  crossed : (test : Rectangle → Bool) (i j k l : ℕ) → list_any test es ≡ false → i + j < k + l → ((o : Rectangle) → Owns g.rows g.columns es i j o → Owns g.rows g.columns es k l o → test o ≡ true)
+      → (o : Rectangle) → owner g.rows g.columns es i j ≡ Some o → owner g.rows g.columns es k l ≡ Some o → ⊥
+  crossed test i j k l clear apart meets o e f = by (merged i j o e) (owner-owns g.rows g.columns es well i j o e) (owner-owns g.rows g.columns es well k l o f)
+    where
+      by : Member o es ⊎ (o.1 ≡ sized 1 1) → Owns g.rows g.columns es i j o → Owns g.rows g.columns es k l o → ⊥
+      by (inl m) a b = false≢true (sym clear ∙ any-from test o es m (meets o a b))
+      by (inr one) a b = let h : o.1.height ≡ 1 = ap (λ (x : Size). x.height) one in let w : o.1.width ≡ 1 = ap (λ (x : Size). x.width) one in omega arith
+
   beside-stands : (i j n : ℕ) → i < g.rows → j ≤ g.columns → top g es i < n → n < top g es (i + 1) → is_joined_beside es i j ≡ false
       → StandsAt (picture g es) n (left g es j) (124 ∷ [])
   beside-stands i j n h k above below clear =
       stands-at g es n (left g es j) (picture_line g es n (i + 1) (i + 1)) (124 ∷ []) (line-in g es some.row some.col i n h above below)
-      (subst (λ b. StandsIn (picture_line g es n (i + 1) (i + 1)) (left g es j) (cond b 124 43 ∷ [])) (eq-eqb (i + 1) (i + 1) refl) (edge-stands g es well n (i + 1) (i + 1) j k never))
-    where
-      never : (o : Rectangle) → owner g.rows g.columns es (i + 1) j ≡ Some o → owner g.rows g.columns es (i + 1) (j + 1) ≡ Some o → owner g.rows g.columns es (i + 1) j ≡ Some o → owner g.rows g.columns es (i + 1) (j + 1) ≡ Some o → ⊥
-      never o e e' f f' = by (merged (i + 1) j o e)
-        where
-          a : Owns g.rows g.columns es (i + 1) j o
-          a = owner-owns g.rows g.columns es well (i + 1) j o e
-
-          b : Owns g.rows g.columns es (i + 1) (j + 1) o
-          b = owner-owns g.rows g.columns es well (i + 1) (j + 1) o e'
-
-          by : Member o es ⊎ (o.1 ≡ sized 1 1) → ⊥
-          by (inr one) = let w : o.1.width ≡ 1 = ap (λ (x : Size). x.width) one in omega (arith, a.left, b.right)
-          by (inl m) = false≢true (sym clear ∙ any-from (λ (e : Rectangle). is_in_range i e.0.row e.1.height && is_amid j e.0.col e.1.width) o es m (and_from _ _ (among-from i o.0.row o.1.height (omega (arith, a.top)) (omega (arith, a.bottom))) (amid-from j o.0.col o.1.width a.left (omega (arith, b.right)))))
+      (subst (λ b. StandsIn (picture_line g es n (i + 1) (i + 1)) (left g es j) (cond b 124 43 ∷ [])) (eq-eqb (i + 1) (i + 1) refl) (edge-stands g es well n (i + 1) (i + 1) j k
+      (λ o e e' f f'. crossed (λ (e : Rectangle). is_in_range i e.0.row e.1.height && is_amid j e.0.col e.1.width) (i + 1) j (i + 1) (j + 1) clear (omega arith)
+      (λ o a b. and_from _ _ (among-from i o.0.row o.1.height (omega (arith, a.top)) (omega (arith, a.bottom))) (amid-from j o.0.col o.1.width a.left (omega (arith, b.right)))) o e e')))
 
   above-stands : (i j : ℕ) → i ≤ g.rows → j < g.columns → is_joined_above es i j ≡ false
       → StandsAt (picture g es) (top g es i) (left g es j + 1) (replicate (left g es (j + 1) - left g es j - 1) 45)
   above-stands i j h k clear =
       stands-at g es (top g es i) (left g es j + 1) (picture_line g es (top g es i) i (i + 1)) (replicate (left g es (j + 1) - left g es j - 1) 45) (line-above g es some.row some.col i h)
-      (dashes-stand g es well (top g es i) i (i + 1) j k (λ same. omega (arith, same)) never)
-    where
-      never : (o : Rectangle) → owner g.rows g.columns es i (j + 1) ≡ Some o → owner g.rows g.columns es (i + 1) (j + 1) ≡ Some o → ⊥
-      never o e f = by (merged i (j + 1) o e)
-        where
-          a : Owns g.rows g.columns es i (j + 1) o
-          a = owner-owns g.rows g.columns es well i (j + 1) o e
-
-          b : Owns g.rows g.columns es (i + 1) (j + 1) o
-          b = owner-owns g.rows g.columns es well (i + 1) (j + 1) o f
-
-          by : Member o es ⊎ (o.1 ≡ sized 1 1) → ⊥
-          by (inr one) = let w : o.1.height ≡ 1 = ap (λ (x : Size). x.height) one in omega (arith, a.top, b.bottom)
-          by (inl m) = false≢true (sym clear ∙ any-from (λ (e : Rectangle). is_amid i e.0.row e.1.height && is_in_range j e.0.col e.1.width) o es m (and_from _ _ (amid-from i o.0.row o.1.height a.top (omega (arith, b.bottom))) (among-from j o.0.col o.1.width (omega (arith, a.left)) (omega (arith, a.right)))))
+      (dashes-stand g es well (top g es i) i (i + 1) j k (λ same. omega (arith, same)) (crossed (λ (e : Rectangle). is_amid i e.0.row e.1.height && is_in_range j e.0.col e.1.width) i (j + 1) (i + 1) (j + 1) clear (omega arith)
+      (λ o a b. and_from _ _ (amid-from i o.0.row o.1.height a.top (omega (arith, b.bottom))) (among-from j o.0.col o.1.width (omega (arith, a.left)) (omega (arith, a.right))))))
 
   corner-stands : (i j : ℕ) → i ≤ g.rows → j ≤ g.columns → is_joined_around es i j ≡ false
       → StandsAt (picture g es) (top g es i) (left g es j) (43 ∷ [])
   corner-stands i j h k clear =
       stands-at g es (top g es i) (left g es j) (picture_line g es (top g es i) i (i + 1)) (43 ∷ []) (line-above g es some.row some.col i h)
-      (subst (λ b. StandsIn (picture_line g es (top g es i) i (i + 1)) (left g es j) (cond b 124 43 ∷ [])) (ne_eqb i (i + 1) (λ same. omega (arith, same))) (edge-stands g es well (top g es i) i (i + 1) j k never))
-    where
-      never : (o : Rectangle) → owner g.rows g.columns es i j ≡ Some o → owner g.rows g.columns es i (j + 1) ≡ Some o → owner g.rows g.columns es (i + 1) j ≡ Some o → owner g.rows g.columns es (i + 1) (j + 1) ≡ Some o → ⊥
-      never o e e' f f' = by (merged i j o e)
-        where
-          a : Owns g.rows g.columns es i j o
-          a = owner-owns g.rows g.columns es well i j o e
-
-          b : Owns g.rows g.columns es (i + 1) (j + 1) o
-          b = owner-owns g.rows g.columns es well (i + 1) (j + 1) o f'
-
-          by : Member o es ⊎ (o.1 ≡ sized 1 1) → ⊥
-          by (inr one) = let w : o.1.width ≡ 1 = ap (λ (x : Size). x.width) one in omega (arith, a.left, b.right)
-          by (inl m) = false≢true (sym clear ∙ any-from (λ (e : Rectangle). is_amid i e.0.row e.1.height && is_amid j e.0.col e.1.width) o es m (and_from _ _ (amid-from i o.0.row o.1.height a.top (omega (arith, b.bottom))) (amid-from j o.0.col o.1.width a.left (omega (arith, b.right)))))
+      (subst (λ b. StandsIn (picture_line g es (top g es i) i (i + 1)) (left g es j) (cond b 124 43 ∷ [])) (ne_eqb i (i + 1) (λ same. omega (arith, same))) (edge-stands g es well (top g es i) i (i + 1) j k
+      (λ o e e' f f'. crossed (λ (e : Rectangle). is_amid i e.0.row e.1.height && is_amid j e.0.col e.1.width) i j (i + 1) (j + 1) clear (omega arith)
+      (λ o a b. and_from _ _ (amid-from i o.0.row o.1.height a.top (omega (arith, b.bottom))) (amid-from j o.0.col o.1.width a.left (omega (arith, b.right)))) o e f')))
 
   pub stand-between : StandBetween g es
   stand-between = record { beside = beside-stands; above = above-stands; corner = corner-stands }

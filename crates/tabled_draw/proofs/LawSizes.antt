@@ -102,7 +102,7 @@ enough-set axis s t at (suc k) need some h larger grew = grind (arith, nat_tests
 one_line : (axis : Axis) → lines_in axis (sized 1 1) ≡ 1
 one_line axis = grind (arith, nat_tests)
 
-place_is : (axis : Axis) (p : Position) → place_in axis (line_of axis p) (line_of (across axis) p) ≡ p
+pub place_is : (axis : Axis) (p : Position) → place_in axis (line_of axis p) (line_of (across axis) p) ≡ p
 place_is axis p = grind (arith, nat_tests)
 
 -- what lies in a table has rows and columns of it

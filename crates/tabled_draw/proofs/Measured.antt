@@ -6,6 +6,7 @@ use Rattle.std.proofs.lemmas.List.{ext_get_or, get_or-replicate, get_or-set_othe
 use Rattle.std.proofs.Math.ListN.{length-set, set}
 use Rattle.tabled_draw.proofs.Before.{After, Before, after-next, before-from, before-next, before-none, before-row, cases_before, after-from, here-next}
 use Rattle.tabled_draw.proofs.Each.{get-singles, length-singles}
+use Rattle.tabled_draw.proofs.LawSizes.{place_is}
 use Rattle.tabled_draw.specs.Each.{each, largest}
 use Rattle.tabled_draw.specs.Measured.{Measured, raised}
 use Rattle.tabled_draw.specs.OwnerRows.{is_before}
@@ -44,17 +45,11 @@ largest-raised f h (suc n) x less none same = grind (arith, nat_tests, largest-s
 
 -- ---- places of lines
 
-pub line-place : (axis : Axis) (i j : ℕ) → place_in axis (line_of axis (place i j)) (line_of (across axis) (place i j)) ≡ place i j
-line-place axis i j = grind (arith, nat_tests)
-
 pub in-line : (axis : Axis) (k x : ℕ) (p : Position) → place_in axis k x ≡ p → (k ≡ line_of axis p) × (x ≡ line_of (across axis) p)
 in-line axis k x p h1 = grind (arith, nat_tests)
 
 pub line-within : (axis : Axis) (g : Grid (List ℕ)) (i j : ℕ) → i < g.rows → j < g.columns → line_of axis (place i j) < count_along axis g
 line-within axis g i j h1 h2 = grind (arith, nat_tests)
-
-pub across-within : (axis : Axis) (g : Grid (List ℕ)) (i j : ℕ) → i < g.rows → j < g.columns → line_of (across axis) (place i j) < count_along (across axis) g
-across-within axis g i j h1 h2 = grind (arith, nat_tests)
 
 pub col-within : (axis : Axis) (g : Grid (List ℕ)) (k x : ℕ) → k < count_along axis g → x < count_along (across axis) g → (place_in axis k x).col < g.columns
 col-within axis g k x h1 h2 = grind (arith, nat_tests)
@@ -101,10 +96,10 @@ module _ (axis : Axis) (g : Grid (List ℕ)) (es : List Rectangle) where
     unfolding asked_at p line
     here =
         let x = line_of (across axis) p in
-        let at : place_in axis line x ≡ p = line-place axis i j in
+        let at : place_in axis line x ≡ p = place_is axis p in
         let none : asked_at i j line x ≡ 0 = cond-false _ _ _ (ap (is_before i j) at ∙ after-from i j p (inr (refl, omega arith))) in
         let now : asked_at i (j + 1) line x ≡ own axis g es p = cond-true _ _ _ (ap (is_before i (j + 1)) at ∙ here-next i j p refl) ∙ ap (own axis g es) at in
-        largest-raised (asked_at i j line) (asked_at i (j + 1) line) (count_along (across axis) g) x (across-within axis g i j h w) none (λ k apart. other line k (λ e. apart (in-line axis line k p e).1))
+        largest-raised (asked_at i j line) (asked_at i (j + 1) line) (count_along (across axis) g) x (line-within (across axis) g i j h w) none (λ k apart. other line k (λ e. apart (in-line axis line k p e).1))
         ∙ ap (max (largest (count_along (across axis) g) (asked_at i j line))) now
 
     pub measured-more : (new : List ℕ) → new ≡ set sizes line (max (get_or sizes line 0) (own axis g es p)) → Measured axis g es i (j + 1) new
