@@ -1,22 +1,20 @@
 -- Places before others, row by row.
 use Rattle.std.proofs.Common.{◌≡◌, ◌≢◌, ◌∙◌, ◌+◌, ◌<◌, ◌≤◌, ◌⊎◌, inl, inr, ℕ, true, false, cond, List, [], ◌∷◌, Option, None, Some, suc, zero, refl, sym, ap, ap₂, subst, arith, length, get_or}
-use Rattle.std.specs.Prelude.{◌&&◌, ◌==◌, T, nat_lt}
-use Rattle.std.specs.FinMap.{entries, entries_sorted, find, get, get-entries, is_sorted}
+use Rattle.std.specs.Prelude.{T}
+use Rattle.std.specs.FinMap.{entries, entries_sorted, find, get-entries, is_sorted}
 use Rattle.std.specs.Ordering.{is_eq}
-use Rattle.std.proofs.lemmas.Bool.{and_parts, and_from, or_cases, or_left, or_right, cases_Bool, cases_lt, cond-true, cond-false, false≢true}
-use borrow.Author.Tests.{ltb-true, lt-ltb, eqb-true, eq-eqb}
+use Rattle.std.proofs.lemmas.Bool.{cases_Bool, cond-true, cond-false, false≢true}
 use Rattle.tabled_draw.proofs.Owned.{anchor-has}
 use Rattle.tabled_draw.specs.OwnerRows.{count_before, is_before}
 use Rattle.tabled_grid.proofs.Members.{Member}
 use Rattle.tabled_grid.proofs.PassedAnchors.{Earlier, earlier}
-use Rattle.tabled_grid.proofs.SpanMaps.{equal, found_above, halves, less, size_at-none, size_at-some}
+use Rattle.tabled_grid.proofs.SpanMaps.{equal, found_above, halves, size_at-none, size_at-some}
 use Rattle.tabled_grid.proofs.Spans.{positions_exact, positions_total}
 use Rattle.tabled_grid.specs.Entity.{place}
 use Rattle.tabled_grid.specs.Spans.{Rectangle, SpanMap, position_cmp, size_at, sized}
 use Rattle.tabled_grid.specs.declared.config.position.Position.{Position}
 use Rattle.tabled_grid.specs.declared.config.size.Size.{Size}
 use Rattle.std.proofs.lemmas.Bool.Decides.{nat_tests}
-use Rattle.std.proofs.lemmas.Grind.{common_steps, elements}
 
 -- what the test says
 abbrev pub Before : ℕ → ℕ → Position → Type 0

@@ -16,7 +16,6 @@ use Rattle.tabled_grid.specs.Spans.{AreSpanSizes, Rectangle, SpanMap, position_c
 use Rattle.tabled_grid.specs.declared.records.axis.Axis.{Axis}
 use Rattle.tabled_grid.specs.declared.records.axis.Axis.TheVariants.{Columns}
 use Rattle.std.proofs.lemmas.Bool.Decides.{nat_tests}
-use Rattle.std.proofs.lemmas.Grind.{common_steps, elements}
 
 module _ (g : Grid (List ℕ)) (m kept : SpanMap) (rows columns : ℕ) (is_rows : rows ≡ g.rows) (is_columns : columns ≡ g.columns) (is : kept ≡ keep_fitting rows columns m) (valid : AreSpanSizes m) where
   pub fits-of : Fits kept g.rows g.columns

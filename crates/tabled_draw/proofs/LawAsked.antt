@@ -1,16 +1,15 @@
 -- Rows and columns are no larger than asked, and a picture has as many lines as its rows.
-use Rattle.std.proofs.Common.{◌≡◌, ◌≢◌, ◌∙◌, ◌+◌, ◌-◌, ◌≤◌, ◌⊎◌, inl, inr, ℕ, true, false, cond, List, [], ◌∷◌, refl, sym, ap, subst, arith, length, get_or, take_all, ◌++◌}
-use Rattle.std.specs.Prelude.{max, ◌||◌, ◌==◌}
+use Rattle.std.proofs.Common.{◌≡◌, ◌≢◌, ◌∙◌, ◌+◌, ◌-◌, ◌≤◌, ◌⊎◌, inl, inr, ℕ, true, false, cond, List, [], ◌∷◌, refl, sym, ap, subst, arith, length, get_or, take_all}
+use Rattle.std.specs.Prelude.{max}
 use Rattle.std.specs.List.{fold, sum, sum_by}
-use Rattle.std.proofs.lemmas.Bool.{cases_Bool, cond-true, cond-false, false≢true, or_left, or_right}
+use Rattle.std.proofs.lemmas.Bool.{cases_Bool, cond-true, cond-false, false≢true}
 use Rattle.std.proofs.lemmas.List.{get_or-set_other, get_or-set_same}
 use Rattle.std.proofs.lemmas.List.Sums.{sum_by-cons}
 use borrow.Author.Tests.{eq-eqb, eqb-true}
 use Rattle.tabled_draw.proofs.Owned.{LieWell}
 use Rattle.tabled_draw.proofs.LawPicture.{length-picture}
 use Rattle.tabled_draw.proofs.LawSizes.{grown-larger, length-own, length-sizes, lies-along, room-last}
-use Rattle.tabled_draw.specs.Each.{each}
-use Rattle.tabled_draw.specs.Picture.{picture_line, lines_of_row, picture, top}
+use Rattle.tabled_draw.specs.Picture.{picture, top}
 use Rattle.tabled_draw.specs.Sizes.{asks, grown_for, heights, own_sizes, room, sizes, text_of_cell}
 use Rattle.tabled_draw.specs.Overall.{AreNoLargerThanAsked, ends_in}
 use Rattle.tabled_grid.proofs.Members.{Member}
@@ -21,7 +20,6 @@ use Rattle.tabled_grid.specs.declared.records.axis.Axis.{Axis}
 use Rattle.tabled_grid.specs.declared.records.axis.Axis.TheVariants.{Rows}
 use Rattle.tabled_grid.specs.Spans.{Rectangle}
 use Rattle.std.proofs.lemmas.Bool.Decides.{nat_tests}
-use Rattle.std.proofs.lemmas.Grind.{common_steps, elements}
 
 module _ (axis : Axis) (g : Grid (List ℕ)) (k : ℕ) where
   abbrev with_asked : ℕ → Rectangle → ℕ

@@ -1,22 +1,19 @@
 -- No character of a picture is a control character.
-use Rattle.std.proofs.Common.{◌≡◌, ◌∙◌, ◌+◌, ◌-◌, ◌<◌, ◌≤◌, ◌⊎◌, ◌++◌, inl, inr, ℕ, Bool, true, false, cond, suc, zero, List, [], ◌∷◌, Option, None, Some, sym, subst, arith, get_or, map, replicate, eqb}
-use Rattle.std.specs.Prelude.{◌&&◌, ◌||◌, ◌==◌, chars, nat_le, nat_lt}
-use Rattle.std.specs.List.{AllByRecursion, slice_split}
-use Rattle.std.proofs.lemmas.Bool.{and_from, cases_Bool, cases_lt, cond-true, cond-false, eqb-false, false≢true, ltb-false}
-use borrow.Author.Tests.{le-leb}
+use Rattle.std.proofs.Common.{◌+◌, ◌++◌, inl, ℕ, Bool, true, false, cond, suc, zero, List, [], ◌∷◌, Option, None, Some, arith, get_or, map, replicate}
+use Rattle.std.specs.Prelude.{◌||◌, ◌==◌, chars}
+use Rattle.std.specs.List.{AllByRecursion}
+use Rattle.std.proofs.lemmas.Bool.{eqb-false, ltb-false}
 use Rattle.tabled_draw.proofs.Each.{all-each}
 use Rattle.tabled_draw.specs.Each.{each}
-use Rattle.tabled_draw.specs.Owners.{is_one, owner}
 use Rattle.tabled_draw.specs.Picture.{picture_line, lines_of_row, picture, shows, shows_in, border_stretch, top}
-use Rattle.tabled_draw.specs.Sizes.{heights, room, text_of_cell, widths}
+use Rattle.tabled_draw.specs.Sizes.{heights, widths}
 use Rattle.tabled_draw.specs.Overall.{AreNoControls, IsNoControl}
-use Rattle.tabled_draw.specs.Texts.{text_width, lines_shown, shown_character, shown_line}
+use Rattle.tabled_draw.specs.Texts.{shown_character, shown_line}
 use Rattle.tabled_grid.proofs.Lists.{all-append}
 use Rattle.tabled_grid.specs.Grid.{Grid}
-use Rattle.tabled_grid.specs.declared.records.axis.Axis.TheVariants.{Columns}
 use Rattle.tabled_grid.specs.Spans.{Rectangle}
 use Rattle.std.proofs.lemmas.Bool.Decides.{nat_tests}
-use Rattle.std.proofs.lemmas.Grind.{common_steps, elements}
+use Rattle.std.proofs.lemmas.Grind.{common_steps}
 
 shown-fine : (c : ℕ) → IsNoControl (shown_character c)
 shown-fine c = grind (arith, nat_tests, ltb-false, eqb-false)

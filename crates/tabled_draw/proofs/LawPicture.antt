@@ -30,7 +30,7 @@ use Rattle.tabled_grid.specs.declared.config.position.Position.{Position}
 use Rattle.tabled_grid.specs.declared.records.axis.Axis.TheVariants.{Columns, Rows}
 use Rattle.tabled_grid.specs.Spans.{Rectangle}
 use Rattle.std.proofs.lemmas.Bool.Decides.{nat_tests}
-use Rattle.std.proofs.lemmas.Grind.{common_steps, elements}
+use Rattle.std.proofs.lemmas.Grind.{common_steps}
 
 -- what no other merged cell holds owns itself
 pub owner-self : (es : List Rectangle) (p : Position) → is_hidden_in es p ≡ false → (owner_in es p).0 ≡ p

@@ -1,8 +1,8 @@
 -- Columns are as wide, and rows as high, as what they show asks.
-use Rattle.std.proofs.Common.{◌≡◌, ◌∙◌, ◌+◌, ◌-◌, ◌<◌, ◌≤◌, ◌⊎◌, inl, inr, ℕ, suc, zero, List, [], ◌∷◌, refl, sym, ap, subst, arith, length, get_or, add-zero, add_assoc, eqb}
+use Rattle.std.proofs.Common.{◌≡◌, ◌∙◌, ◌+◌, ◌-◌, ◌<◌, ◌≤◌, inl, inr, ℕ, suc, zero, List, [], ◌∷◌, refl, sym, ap, subst, arith, length, get_or, add-zero, add_assoc, eqb}
 use Rattle.std.specs.Prelude.{max}
 use Rattle.std.specs.List.{fold}
-use Rattle.std.proofs.lemmas.Bool.{and_from, cases_lt, cond-true}
+use Rattle.std.proofs.lemmas.Bool.{and_from, cond-true}
 use Rattle.std.proofs.lemmas.List.{get_or-set_same}
 use Rattle.std.proofs.lemmas.List.Sums.{sum_by_more}
 use Rattle.std.proofs.Math.ListN.{length-set, set}
@@ -24,7 +24,7 @@ use Rattle.tabled_grid.specs.declared.records.axis.Axis.{Axis}
 use Rattle.tabled_grid.specs.declared.records.axis.Axis.TheVariants.{Rows, Columns}
 use Rattle.tabled_grid.specs.Spans.{Rectangle, sized}
 use Rattle.std.proofs.lemmas.Bool.Decides.{nat_tests}
-use Rattle.std.proofs.lemmas.Grind.{common_steps, elements}
+use Rattle.std.proofs.lemmas.Grind.{common_steps}
 
 largest-least : (f : ℕ → ℕ) (n i : ℕ) → i < n → f i ≤ largest n f
 largest-least f zero i h = absurd (omega arith)

@@ -1,21 +1,20 @@
 -- Texts whose bytes are characters of one column each.
-use Rattle.std.proofs.Common.{◌≡◌, ◌∙◌, ◌+◌, ◌<◌, ◌≤◌, ◌⊎◌, ◌++◌, inl, inr, ℕ, suc, zero, false, List, [], ◌∷◌, Option, None, Some, refl, sym, ap, ap₂, arith, length, get_or, add-one, Bor}
-use Rattle.std.specs.Prelude.{◌==◌, ◌&&◌, encode_utf8_all, map, max, nat_le, not}
+use Rattle.std.proofs.Common.{◌≡◌, ◌∙◌, ◌+◌, ◌<◌, ◌≤◌, ◌⊎◌, ◌++◌, inl, inr, ℕ, suc, false, List, [], ◌∷◌, Option, refl, sym, ap, ap₂, arith, length, get_or, add-one, Bor}
+use Rattle.std.specs.Prelude.{◌==◌, encode_utf8_all, map, max, not}
 use Rattle.std.specs.List.{All, after_first, before_first, fold, position_or_len, slice_split}
 use Rattle.std.specs.Option.{MatchOption, unwrap_or}
-use Rattle.std.proofs.lemmas.Bool.{cases_lt, cond-true, cond-false}
+use Rattle.std.proofs.lemmas.Bool.{cases_lt, cond-true}
 use Rattle.std.proofs.lemmas.List.Elements.{All-head, All-tail}
 use Rattle.std.proofs.lemmas.List.Splits.{slice_split_first, slice_split_none}
 use Rattle.std.proofs.lemmas.List.Sums.{fails_before_first, position_or_len_is, prefix_len-le-length, sum_by-cons}
 use Rattle.std.proofs.lemmas.Str.{chars-IsAscii, chars-nil, encode_ascii}
 use Rattle.std.proofs.lemmas.Str.Ascii.{IsAscii-from_all}
 use Rattle.std.proofs.Math.ListN.{drop_of_length-le}
-use borrow.Author.Tests.{le-leb, le-ltb, lt-leb, lt-ltb, ne_eqb}
+use borrow.Author.Tests.{le-leb, lt-ltb, ne_eqb}
 use Rattle.unicode_width.specs.Width.{char_width}
 use Rattle.tabled_draw.specs.Lines.{ArePlain, after_line, first_line}
 use Rattle.tabled_draw.specs.Texts.{text_width, lines_shown, shown_character, shown_line, widest}
 use Rattle.std.proofs.lemmas.Bool.Decides.{nat_tests}
-use Rattle.std.proofs.lemmas.Grind.{common_steps, elements}
 
 shown-plain : (b : ℕ) → 31 < b → b < 127 → shown_character b ≡ b
 shown-plain b low high = grind (arith, nat_tests)

@@ -1,11 +1,9 @@
 -- What is left of the texts in each column.
-use Rattle.std.proofs.Common.{◌≡◌, ◌∙◌, ◌+◌, ◌<◌, ◌≤◌, ◌⊎◌, inl, inr, ℕ, List, [], refl, sym, ap, arith, length, get_or, map, Bor}
-use Rattle.std.proofs.lemmas.Bool.{cases_lt}
+use Rattle.std.proofs.Common.{◌≡◌, ◌∙◌, ◌+◌, ◌<◌, ◌≤◌, ℕ, List, [], refl, sym, ap, arith, length, get_or, Bor}
 use Rattle.std.proofs.lemmas.List.{get_or-map, get_or-set_other, get_or-set_same, length-map, map-set}
 use Rattle.std.proofs.Math.ListN.{set}
 use Rattle.tabled_draw.specs.Rests.{bytes_in}
 use Rattle.std.proofs.lemmas.Bool.Decides.{nat_tests}
-use Rattle.std.proofs.lemmas.Grind.{common_steps, elements}
 
 -- a list that is changed from the front on
 pub record Changed (f : ℕ → List ℕ) (old new : List (List ℕ)) (j : ℕ) : Type 0 where

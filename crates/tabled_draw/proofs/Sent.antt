@@ -1,20 +1,12 @@
 -- Bytes that are held, and then sent.
 use Rattle.std.proofs.Common.{◌≡◌, ◌∙◌, ◌++◌, ℕ, List, [], Option, None, Some, append-nil, ap, refl, subst, sym}
 use Rattle.std.specs.Prelude.{encode_utf8_all}
-use Rattle.std.proofs.KnownBytes.{Appends-nil, Appends-trans, Keeps-refl, append_known-grown, append_known-moved, append_known-passed}
+use Rattle.std.proofs.KnownBytes.{Appends-nil, Appends-trans}
 use Rattle.std.proofs.lemmas.Str.{encodes-append}
 use Rattle.std.specs.Io.KnownBytes.{Appends, append_known}
 use Rattle.tabled_draw.specs.Sent.{Draws, GrowsBy}
 
--- bytes that are held
-pub sends-held : (a : Option (List ℕ)) (h i bytes : List ℕ) → i ≡ h ++ bytes → GrowsBy a h a i bytes
-sends-held a h i bytes = append_known-grown (append_known a h) a h i bytes (Keeps-refl (append_known a h))
-
 module _ (a b : Option (List ℕ)) (h i : List ℕ) where
-  -- all that is held is sent
-  pub sends-all : i ≡ [] → Appends a b h → GrowsBy a h b i []
-  sends-all none wrote = append_known-grown (append_known a h) b [] i [] (append_known-moved a b h [] h wrote (sym (append-nil h))) none
-
   pub draws-bytes : (bytes cs : List ℕ) → bytes ≡ encode_utf8_all cs → GrowsBy a h b i bytes → Draws a h b i cs
   draws-bytes bytes cs is sent = record { sent = subst (GrowsBy a h b i) is sent }
 

@@ -1,6 +1,6 @@
 -- Characters as they are shown, one by one.
 use Rattle.std.proofs.Common.{◌≡◌, ◌∙◌, ◌+◌, ◌-◌, ◌++◌, append-nil, ℕ, false, List, [], ◌∷◌, Option, sym, ap, append_assoc, encode_utf8, arith}
-use Rattle.std.specs.Prelude.{chars, map, max}
+use Rattle.std.specs.Prelude.{map, max}
 use Rattle.std.specs.List.{fold}
 use Rattle.std.specs.Option.{unwrap_or}
 use Rattle.std.specs.Str.{IsUtf8}
@@ -12,7 +12,7 @@ use Rattle.tabled_draw.proofs.Sent.{draws-as, draws-bytes, draws-none, draws-the
 use Rattle.tabled_draw.specs.Sent.{Draws, GrowsBy}
 use Rattle.tabled_draw.specs.Texts.{text_width, shown_character, shown_line}
 use Rattle.std.proofs.lemmas.Bool.Decides.{nat_tests}
-use Rattle.std.proofs.lemmas.Grind.{common_steps, elements}
+use Rattle.std.proofs.lemmas.Grind.{common_steps}
 
 pub counted : (c : ℕ) (rest whole : List ℕ) → IsUtf8 whole → whole ≡ encode_utf8 c ++ rest → text_width (shown_line whole) ≡ unwrap_or (char_width false (shown_character c)) 0 + text_width (shown_line rest)
 counted c rest whole utf8 is = grind (arith, common_steps, nat_tests, chars_past_char, sum_by-cons)

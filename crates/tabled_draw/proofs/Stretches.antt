@@ -1,10 +1,10 @@
 -- A line that is drawn by what is known as it is written is the line of the picture.
-use Rattle.std.proofs.Common.{◌≡◌, ◌∙◌, ◌+◌, ◌-◌, ◌<◌, ◌≤◌, ◌≢◌, ◌⊎◌, ◌++◌, inl, inr, ℕ, Bool, true, false, cond, List, [], ◌∷◌, Option, Some, None, refl, sym, ap, ap₂, arith, eqb, replicate, get_or}
+use Rattle.std.proofs.Common.{◌≡◌, ◌∙◌, ◌+◌, ◌-◌, ◌<◌, ◌≤◌, ◌≢◌, ◌⊎◌, ◌++◌, inl, inr, ℕ, true, false, cond, List, [], ◌∷◌, Option, Some, None, refl, sym, ap, ap₂, arith, eqb, replicate, get_or}
 use Rattle.std.specs.Prelude.{◌&&◌}
 use Rattle.std.specs.FinMap.{entries}
-use Rattle.std.proofs.lemmas.Bool.{and_from, cases_Bool, cases_eq, cond-true, cond-false, false≢true}
+use Rattle.std.proofs.lemmas.Bool.{and_from, cases_eq, cond-true, cond-false}
 use Rattle.std.proofs.Math.Bool.{and-false}
-use borrow.Author.Tests.{eq-eqb, eqb-true, ne_eqb}
+use borrow.Author.Tests.{eq-eqb, ne_eqb}
 use Rattle.tabled_draw.proofs.Each.{each-same}
 use Rattle.tabled_draw.proofs.LawSizes.{start-next}
 use Rattle.tabled_draw.proofs.Owned.{Owns, fits-well, owner-inside, owner-owns}
@@ -13,7 +13,7 @@ use Rattle.tabled_draw.specs.Laid.{AreEdges}
 use Rattle.tabled_draw.specs.Lines.{column, drawn_line, edge, first_line, text_inside, stretches}
 use Rattle.tabled_draw.specs.OwnerRows.{IsOwnerRow}
 use Rattle.tabled_draw.specs.Owners.{is_one, owner, owner_in}
-use Rattle.tabled_draw.specs.Picture.{left, picture_line, shows, shows_in, border_stretch, top}
+use Rattle.tabled_draw.specs.Picture.{left, picture_line, shows_in, border_stretch, top}
 use Rattle.tabled_draw.specs.Sizes.{room, text_of_cell, widths}
 use Rattle.tabled_draw.specs.Texts.{text_width, lines_shown}
 use Rattle.tabled_grid.proofs.SpanMaps.{same_place-self}
@@ -23,7 +23,6 @@ use Rattle.tabled_grid.specs.Fitting.{Fits}
 use Rattle.tabled_grid.specs.Spans.{Rectangle, SpanMap}
 use Rattle.tabled_grid.specs.declared.records.axis.Axis.TheVariants.{Columns}
 use Rattle.std.proofs.lemmas.Bool.Decides.{nat_tests}
-use Rattle.std.proofs.lemmas.Grind.{common_steps, elements}
 
 one-self : (a b : Option Rectangle) → is_one a b ≡ true → is_one a a ≡ true
 one-self a b h1 = grind (arith, nat_tests, same_place-self)
