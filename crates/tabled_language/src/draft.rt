@@ -82,16 +82,18 @@ impl<'a> Draft<'a> {
         ensures { ReadsWords (draft_in self.old) number (words_of line.now) result (draft_in self.new) }
     {
         let mut fields = Fields::new(line);
-        match fields.next() {
-            None => Ok(()),
-            Some("row") => {
+        let Some(verb) = fields.next() else {
+            return Ok(());
+        };
+        match (verb.len(), verb) {
+            (3, "row") => {
                 self.before_spans()?;
                 self.records.push(fields.texts(alloc)?)?;
                 Ok(())
             }
-            Some("shape") => self.read_shape(number, Words::of_line(fields)),
-            Some("span") => self.read_span(number, Words::of_line(fields)),
-            Some(verb) => self.read_step(alloc, verb, Words::of_line(fields)),
+            (5, "shape") => self.read_shape(number, Words::of_line(fields)),
+            (4, "span") => self.read_span(number, Words::of_line(fields)),
+            _ => self.read_step(alloc, verb, Words::of_line(fields)),
         }
     }
 

@@ -21,11 +21,13 @@ pub enum LentText<'a> {
 
 impl<'a> LentText<'a> {
     ghost use Rattle.std.specs.Prelude.{◌≡◌, IfSome};
-    ghost use Rattle.tabled_language.specs.Lent.{bytes_of};
+    ghost use Rattle.std.specs.Option.{option_map};
+    ghost use Rattle.tabled_language.specs.Lent.{bytes_of, lent_word};
     ghost use Rattle.tabled_language.specs.Output.{escaped};
 
     /// The word that stands for the text, if it is the text itself and this is known without a look at its bytes.
     pub fn as_word(&self) -> Option<&str>
+        ensures lent { option_map (λ word. word.now) result ≡ lent_word self.now }
         ensures text { IfSome result (λ word. word.now ≡ bytes_of self.now) }
         ensures word { IfSome result (λ word. word.now ≡ escaped (bytes_of self.now)) }
     {

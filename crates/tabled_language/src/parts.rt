@@ -66,7 +66,7 @@ fn first_part(bytes: &[u8], at: u8) -> (&[u8], Option<&[u8]>)
 }
 
 /// The first place of a byte.
-fn first_place(bytes: &[u8], at: u8) -> Option<usize>
+pub(crate) fn first_place(bytes: &[u8], at: u8) -> Option<usize>
     ensures { IsFirstPlace at bytes.now result }
 {
     let mut passed = 0;

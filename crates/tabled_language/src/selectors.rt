@@ -48,54 +48,54 @@ impl<'a> Words<'a> {
         ensures { Reads named_by (behind (selectors (kept (reads_selector depth))) word.now) self.old result self.new }
     {
         // What most scripts say comes first.
-        match word {
-            "all" => Ok(Selector::All),
-            "cell" => {
+        match (word.len(), word) {
+            (3, "all") => Ok(Selector::All),
+            (4, "cell") => {
                 let row = self.number()?;
                 let column = self.number()?;
                 Ok(Selector::Cell(row, column))
             }
-            "row" => {
+            (3, "row") => {
                 let row = self.number()?;
                 Ok(Selector::Row(row))
             }
-            "column" => {
+            (6, "column") => {
                 let column = self.number()?;
                 Ok(Selector::Column(column))
             }
-            "content" => {
+            (7, "content") => {
                 let text = self.text(alloc)?;
                 Ok(Selector::Content(text))
             }
-            "name" => {
+            (4, "name") => {
                 let text = self.text(alloc)?;
                 Ok(Selector::Name(text))
             }
-            "and" => {
+            (3, "and") => {
                 let x = self.inner(alloc, depth)?;
                 let y = self.inner(alloc, depth)?;
                 Ok(Selector::And(x, y))
             }
-            "not" => {
+            (3, "not") => {
                 let x = self.inner(alloc, depth)?;
                 let y = self.inner(alloc, depth)?;
                 Ok(Selector::Not(x, y))
             }
-            "intersect" => {
+            (9, "intersect") => {
                 let x = self.inner(alloc, depth)?;
                 let y = self.inner(alloc, depth)?;
                 Ok(Selector::Intersect(x, y))
             }
-            "inverse" => {
+            (7, "inverse") => {
                 let x = self.inner(alloc, depth)?;
                 Ok(Selector::Inverse(x))
             }
-            "skip" => {
+            (4, "skip") => {
                 let n = self.number()?;
                 let x = self.inner(alloc, depth)?;
                 Ok(Selector::Skip(n, x))
             }
-            "step" => {
+            (4, "step") => {
                 let n = self.number()?;
                 let x = self.inner(alloc, depth)?;
                 Ok(Selector::StepBy(n, x))
@@ -108,39 +108,39 @@ impl<'a> Words<'a> {
     fn plain_selector(&mut self, word: &str) -> Read<Selector>
         ensures { Reads named_by (behind plain_selectors word.now) self.old result self.new }
     {
-        match word {
-            "first-row" => Ok(Selector::FirstRow),
-            "last-row" => Ok(Selector::LastRow),
-            "first-column" => Ok(Selector::FirstColumn),
-            "last-column" => Ok(Selector::LastColumn),
-            "frame" => Ok(Selector::Frame),
-            "last-row-minus" => {
+        match (word.len(), word) {
+            (9, "first-row") => Ok(Selector::FirstRow),
+            (8, "last-row") => Ok(Selector::LastRow),
+            (12, "first-column") => Ok(Selector::FirstColumn),
+            (11, "last-column") => Ok(Selector::LastColumn),
+            (5, "frame") => Ok(Selector::Frame),
+            (14, "last-row-minus") => {
                 let n = self.number()?;
                 Ok(Selector::LastRowMinus(n))
             }
-            "last-row-plus" => {
+            (13, "last-row-plus") => {
                 let n = self.number()?;
                 Ok(Selector::LastRowPlus(n))
             }
-            "last-column-minus" => {
+            (17, "last-column-minus") => {
                 let n = self.number()?;
                 Ok(Selector::LastColumnMinus(n))
             }
-            "last-column-plus" => {
+            (16, "last-column-plus") => {
                 let n = self.number()?;
                 Ok(Selector::LastColumnPlus(n))
             }
-            "rows" => {
+            (4, "rows") => {
                 let start = self.number()?;
                 let end = self.number()?;
                 Ok(Selector::Rows(start, end))
             }
-            "columns" => {
+            (7, "columns") => {
                 let start = self.number()?;
                 let end = self.number()?;
                 Ok(Selector::Columns(start, end))
             }
-            "segment" => {
+            (7, "segment") => {
                 let first_row = self.number()?;
                 let end_row = self.number()?;
                 let first_column = self.number()?;

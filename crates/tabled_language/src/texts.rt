@@ -1,14 +1,14 @@
 //! The texts of a line.
 
-ghost use Rattle.std.specs.Prelude.{◌≡◌, ◌∷◌, map, false, true, IfOk, MatchOption, Some};
+ghost use Rattle.std.specs.Prelude.{◌≡◌, ◌<◌, map, false, true, IfOk, MatchOption, Some};
 ghost use Rattle.std.specs.Iterator.{YieldsFirstRef, item_count};
 ghost use Rattle.std.specs.Option.{option_map};
 ghost use Rattle.tabled_language.specs.Lent.{bytes_of};
 ghost use Rattle.tabled_language.specs.Line.{has_byte, is_plain, texts_of, words_of};
-ghost use Rattle.tabled_language.specs.Parts.{parts_left};
+ghost use Rattle.tabled_language.specs.Parts.{IsFirstOfText, IsFirstPlace};
 
 use crate::lent::LentText;
-use crate::parts::{Parts, count_parts, near_place};
+use crate::parts::{Parts, count_parts, first_place, near_place};
 use crate::plain::PlainText;
 use crate::word::lent_text;
 use std::alloc::{AllocError, Global};
@@ -93,9 +93,14 @@ impl<'a> Fields<'a> {
         ensures { IfOk result (λ texts. map bytes_of texts.items ≡ self.entry) }
     {
         let mut texts = Vec::with_capacity(alloc, self.left())?;
-        for word in self {
+        let Some(mut rest) = self.rest else {
+            return Ok(texts);
+        };
+        while let Some((word, others)) = first_word(rest) {
             texts.push(LentText::Lent(PlainText::new(word)))?;
+            rest = others;
         }
+        texts.push(LentText::Lent(PlainText::new(rest)))?;
         Ok(texts)
     }
 }
@@ -108,18 +113,42 @@ impl<'a> Iterator for Fields<'a> {
     ghost remaining = { item_count (λ s. s) };
 
     fn next(&mut self) -> Option<&'a str> {
-        let (word, rest) = first_word(self.rest?);
-        self.rest = rest;
-        Some(word)
+        let rest = self.rest?;
+        match first_word(rest) {
+            Some((word, others)) => {
+                self.rest = Some(others);
+                Some(word)
+            }
+            None => {
+                self.rest = None;
+                Some(rest)
+            }
+        }
     }
 }
 
-/// The first word of a line, and what is after its tab.
-fn first_word(line: &str) -> (&str, Option<&str>)
-    ensures { words_of line.now ≡ result.0.now ∷ parts_left 9 result.1 }
+/// The first word of a line and what is after its tab, if it has one.
+fn first_word(line: &str) -> Option<(&str, &str)>
+    ensures { IsFirstOfText 9 line.now result }
 {
-    match near_place(line.as_bytes(), b'\t') {
-        Some(tab) => (&line[..tab], Some(&line[tab + 1..])),
-        None => (line, None),
+    split_at_place(line, b'\t', near_place(line.as_bytes(), b'\t'))
+}
+
+/// The first line of a text and what is after its newline, if it has one.
+pub(crate) fn first_line(text: &str) -> Option<(&str, &str)>
+    ensures { IsFirstOfText 10 text.now result }
+{
+    split_at_place(text, b'\n', first_place(text.as_bytes(), b'\n'))
+}
+
+/// What is before the first place of an ASCII byte and what is after it, if there is one.
+fn split_at_place(text: &str, at: u8, place: Option<usize>) -> Option<(&str, &str)>
+    requires ascii { at < 128 }
+    requires first { IsFirstPlace at text.now place }
+    ensures { IsFirstOfText at text.now result }
+{
+    match place {
+        Some(place) => Some((&text[..place], &text[place + 1..])),
+        None => None,
     }
 }

@@ -28,26 +28,26 @@ impl<'a> Words<'a> {
         ensures { Reads after (behind steps verb.now) self.old result self.new }
     {
         // What many scripts say often comes first.
-        match verb {
-            "set" => self.set(alloc),
-            "dup" => self.dup(alloc),
-            "clean" => self.clean(alloc),
-            "tabs" => self.tabs(alloc),
-            "cspan" => self.span(alloc, Axis::Columns),
-            "rspan" => self.span(alloc, Axis::Rows),
-            "rotate" => self.turn(),
-            "reverse" => self.reverse(),
-            "remove" => self.removal(alloc),
-            "concat" => self.concat(alloc),
-            "extract" => self.extract(),
-            "split" => self.split(),
-            "header" => self.header(alloc),
-            "footer" => self.footer(alloc),
-            "hpanel" => self.panel(alloc, Axis::Rows),
-            "vpanel" => self.panel(alloc, Axis::Columns),
-            "vpanelw" => self.cut_panel(alloc),
-            "vmerge" => Ok(Step::MergeVertical(Merge::vertical())),
-            "hmerge" => Ok(Step::MergeHorizontal(Merge::horizontal())),
+        match (verb.len(), verb) {
+            (3, "set") => self.set(alloc),
+            (3, "dup") => self.dup(alloc),
+            (5, "clean") => self.clean(alloc),
+            (4, "tabs") => self.tabs(alloc),
+            (5, "cspan") => self.span(alloc, Axis::Columns),
+            (5, "rspan") => self.span(alloc, Axis::Rows),
+            (6, "rotate") => self.turn(),
+            (7, "reverse") => self.reverse(),
+            (6, "remove") => self.removal(alloc),
+            (6, "concat") => self.concat(alloc),
+            (7, "extract") => self.extract(),
+            (5, "split") => self.split(),
+            (6, "header") => self.header(alloc),
+            (6, "footer") => self.footer(alloc),
+            (6, "hpanel") => self.panel(alloc, Axis::Rows),
+            (6, "vpanel") => self.panel(alloc, Axis::Columns),
+            (7, "vpanelw") => self.cut_panel(alloc),
+            (6, "vmerge") => Ok(Step::MergeVertical(Merge::vertical())),
+            (6, "hmerge") => Ok(Step::MergeHorizontal(Merge::horizontal())),
             _ => Err(ReadError::Faulty(Fault::UnknownWord)),
         }
     }
@@ -165,18 +165,18 @@ impl<'a> Words<'a> {
     fn removal_behind(&mut self, alloc: Global, word: &str) -> Read<Step>
         ensures { Reads after (behind removals word.now) self.old result self.new }
     {
-        match word {
-            "rows" => {
+        match (word.len(), word) {
+            (4, "rows") => {
                 let start = self.number()?;
                 let end = self.number()?;
                 Ok(Step::RemoveRows(start, end))
             }
-            "columns" => {
+            (7, "columns") => {
                 let start = self.number()?;
                 let end = self.number()?;
                 Ok(Step::RemoveColumns(start, end))
             }
-            "named" => {
+            (5, "named") => {
                 let name = self.text(alloc)?;
                 Ok(Step::RemoveNamed(name))
             }
