@@ -141,8 +141,8 @@ line_of-texts [] texts some is = absurd (some refl)
 line_of-texts (b ∷ bs) texts some is = ap meaning_of is
 
 -- a plain line asks for memory as its words do
-pub line_asks-plain : (in_place : Line → Bool) (line text : List ℕ) → text ≡ line → is_plain line ≡ true → line_asks in_place line ≡ words_ask in_place (words_of text)
-line_asks-plain in_place line text same plain = rw (same, plain) refl
+pub line_asks-plain : (in_place : Line → Bool) (line : List ℕ) → is_plain line ≡ true → line_asks in_place line ≡ words_ask in_place (words_of line)
+line_asks-plain in_place line plain = rw plain refl
 
 -- any other does
 pub line_asks-texts : (in_place : Line → Bool) (line : List ℕ) → is_plain line ≡ false → line_asks in_place line ≡ true

@@ -64,9 +64,6 @@ impl<'a> Draft<'a> {
         requires { has_byte 10 line.now ≡ false }
         ensures { ReadsLine (draft_in self.old) number (says_line line.now) (line_asks (takes (draft_in self.old)) line.now) result (draft_in self.new) }
     {
-        if line.is_empty() {
-            return Ok(());
-        }
         if let Some(line) = plain(line) {
             return self.read_plain(alloc, number, line);
         }
@@ -76,8 +73,20 @@ impl<'a> Draft<'a> {
         }
     }
 
-    /// Adds what a line without escapes says, or says why it isn't read.
-    fn read_plain(&mut self, alloc: Global, number: usize, line: &'a str) -> Read<()>
+    /// The same of a line without escapes.
+    pub(crate) fn read_plain(&mut self, alloc: Global, number: usize, line: &'a str) -> Read<()>
+        requires no_newline { has_byte 10 line.now ≡ false }
+        requires no_escape { has_byte 92 line.now ≡ false }
+        ensures { ReadsLine (draft_in self.old) number (says_line line.now) (line_asks (takes (draft_in self.old)) line.now) result (draft_in self.new) }
+    {
+        if line.is_empty() {
+            return Ok(());
+        }
+        self.read_words(alloc, number, line)
+    }
+
+    /// Adds what the words of a line without escapes say, or says why they aren't read.
+    fn read_words(&mut self, alloc: Global, number: usize, line: &'a str) -> Read<()>
         requires { AllByRecursion IsOwnWord (words_of line.now) }
         ensures { ReadsWords (draft_in self.old) number (words_of line.now) result (draft_in self.new) }
     {

@@ -6,6 +6,7 @@ mod fault;
 mod keywords;
 pub mod laws;
 mod lent;
+mod lines;
 mod padding;
 mod parts;
 mod plain;

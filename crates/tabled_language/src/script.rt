@@ -1,6 +1,7 @@
 //! A script: its records, its merged cells and its steps.
 
-ghost use Rattle.std.specs.Prelude.{◌≡◌, IfOk, MatchResult, OnErr, true};
+ghost use Rattle.std.specs.Prelude.{◌≡◌, false, IfOk, MatchResult, OnErr, true};
+ghost use Rattle.tabled_language.specs.Line.{has_byte};
 ghost use Rattle.tabled_language.specs.Memory.{asks_memory};
 ghost use Rattle.tabled_language.specs.Script.{parse};
 ghost use Rattle.tabled_language.specs.Parsing.{IsAnswer, ReadsScript, ScriptEnds, draft_in};
@@ -8,7 +9,9 @@ ghost use Rattle.tabled_language.specs.Parsing.{IsAnswer, ReadsScript, ScriptEnd
 use crate::draft::Draft;
 use crate::fault::{Fault, ReadError};
 use crate::lent::LentText;
+use crate::lines::Lines;
 use crate::parts::Parts;
+use crate::texts::plain;
 use std::alloc::{AllocError, Global};
 use tabled_grid::config::SpannedConfig;
 use tabled_steps::Step;
@@ -26,11 +29,31 @@ pub struct Script<'a> {
 fn read_lines<'a>(alloc: Global, input: &'a [u8]) -> Result<Draft<'a>, (usize, ReadError)>
     ensures { MatchResult result (λ d. ReadsScript input.now (draft_in d)) (ScriptEnds input.now) }
 {
+    // To test all bytes at once takes less than to test those of each line.
+    if let Some(text) = plain(input) {
+        return read_plain_lines(alloc, text);
+    }
     let mut draft = Draft::new(alloc);
     let mut number = 0;
     for line in Parts::new(input, b'\n') {
         number += 1;
         if let Err(error) = draft.read_line(alloc, number, line) {
+            return Err((number, error));
+        }
+    }
+    Ok(draft)
+}
+
+/// The same, of a text without escapes.
+fn read_plain_lines<'a>(alloc: Global, text: &'a str) -> Result<Draft<'a>, (usize, ReadError)>
+    requires { has_byte 92 text.now ≡ false }
+    ensures { MatchResult result (λ d. ReadsScript text.now (draft_in d)) (ScriptEnds text.now) }
+{
+    let mut draft = Draft::new(alloc);
+    let mut number = 0;
+    for line in Lines::new(text) {
+        number += 1;
+        if let Err(error) = draft.read_plain(alloc, number, line) {
             return Err((number, error));
         }
     }

@@ -8,21 +8,21 @@ ghost use Rattle.tabled_language.specs.Line.{has_byte, is_plain, texts_of, words
 ghost use Rattle.tabled_language.specs.Parts.{IsFirstOfText, IsFirstPlace};
 
 use crate::lent::LentText;
-use crate::parts::{Parts, count_parts, first_place, near_place};
+use crate::parts::{Parts, count_parts, near_place};
 use crate::plain::PlainText;
 use crate::word::lent_text;
 use std::alloc::{AllocError, Global};
 use std::marker::Model;
 use std::str;
 
-/// The line, if it is UTF-8 without a backslash: then its words are their own texts.
-pub(crate) fn plain(line: &[u8]) -> Option<&str>
-    ensures { MatchOption result (is_plain line.now ≡ false) (λ text. (text.now ≡ line.now) × (is_plain line.now ≡ true) × (texts_of (words_of line.now) ≡ Some (words_of line.now))) }
+/// Bytes as a text, if they are UTF-8 without a backslash: then the words are their own texts.
+pub(crate) fn plain(bytes: &[u8]) -> Option<&str>
+    ensures { MatchOption result (is_plain bytes.now ≡ false) (λ text. (text.now ≡ bytes.now) × (is_plain bytes.now ≡ true)) }
 {
-    if line.contains(&b'\\') {
+    if bytes.contains(&b'\\') {
         return None;
     }
-    match str::from_utf8(line) {
+    match str::from_utf8(bytes) {
         Ok(text) => Some(text),
         Err(_) => None,
     }
@@ -134,15 +134,8 @@ fn first_word(line: &str) -> Option<(&str, &str)>
     split_at_place(line, b'\t', near_place(line.as_bytes(), b'\t'))
 }
 
-/// The first line of a text and what is after its newline, if it has one.
-pub(crate) fn first_line(text: &str) -> Option<(&str, &str)>
-    ensures { IsFirstOfText 10 text.now result }
-{
-    split_at_place(text, b'\n', first_place(text.as_bytes(), b'\n'))
-}
-
 /// What is before the first place of an ASCII byte and what is after it, if there is one.
-fn split_at_place(text: &str, at: u8, place: Option<usize>) -> Option<(&str, &str)>
+pub(crate) fn split_at_place(text: &str, at: u8, place: Option<usize>) -> Option<(&str, &str)>
     requires ascii { at < 128 }
     requires first { IsFirstPlace at text.now place }
     ensures { IsFirstOfText at text.now result }

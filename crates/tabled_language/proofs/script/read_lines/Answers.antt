@@ -1,7 +1,9 @@
-use Rattle.std.proofs.Common.{ℕ, ◌≡◌, List, [], eqb, arith, rules}
+use Rattle.std.proofs.Common.{ℕ, ◌≡◌, List, [], not, eqb, arith, rules}
+use Rattle.std.proofs.lemmas.Bool.{and_parts, not-true}
 use Rattle.std.proofs.lemmas.List.{length-map}
 use Rattle.std.proofs.lemmas.List.Splits.{length-slice_split}
 use Rattle.std.proofs.lemmas.List.Sums.{count_by-le-length}
+use Rattle.std.specs.Str.{is_utf8}
 use Rattle.tabled_language.specs.Line.{has_byte, says_line, lines_of}
 use Rattle.tabled_language.specs.Parsing.{draft_in}
 use Rattle.tabled_language.proofs.Escapes.{or-false-left, or-false-right}
@@ -40,3 +42,9 @@ pub returns : goal.returns
 returns c =
     let none : ◌≡◌ {A = List (List ℕ)} c.loop-line.line-iterator [] = search rules in
     has_read-end (rw none at c.loop-line.invariant.read)
+
+pub read_plain_lines-requires : goal.read_plain_lines-requires
+read_plain_lines-requires c =
+    let input = c.args.input.now in
+    let clean = and_parts (is_utf8 input) (not (has_byte 92 input)) c.in-Some.ensures.1 in
+    rw c.in-Some.ensures.0 (not-true (has_byte 92 input) clean.1)

@@ -2,19 +2,19 @@ use Rattle.std.proofs.Common.{◌≡◌, eqb, false, true, rules}
 use Rattle.std.specs.List.{list_any}
 use Rattle.std.specs.Str.{is_utf8}
 use Rattle.tabled_language.proofs.Asking.{and_false}
-use Rattle.tabled_language.proofs.PlainLines.{not_plain, plain_line, texts_of-plain}
+use Rattle.tabled_language.proofs.PlainLines.{not_plain, plain_line}
 use Rattle.tabled_language.proofs.texts.plain.Goals as goal
 
 pub returns-then-contains : goal.returns-then-contains
 returns-then-contains c =
-    let has : list_any (λ b. eqb b 92) c.args.line.now ≡ true = search rules in
-    rw has (and_false (is_utf8 c.args.line.now))
+    let has : list_any (λ b. eqb b 92) c.args.bytes.now ≡ true = search rules in
+    rw has (and_false (is_utf8 c.args.bytes.now))
 
 pub returns-in-Ok : goal.returns-in-Ok
 returns-in-Ok c =
-    let clean : list_any (λ b. eqb b 92) c.args.line.now ≡ false = search rules in
+    let clean : list_any (λ b. eqb b 92) c.args.bytes.now ≡ false = search rules in
     let text = (rw c.in-Ok.is at c.from_utf8.ensures.cases) in
-    (text.0, plain_line c.args.line.now text.1 clean, texts_of-plain c.args.line.now text.1 clean)
+    (text.0, plain_line c.args.bytes.now text.1 clean)
 
 pub returns-in-Err : goal.returns-in-Err
-returns-in-Err c = (let none = (rw c.in-Err.is at c.from_utf8.ensures.cases) in not_plain c.args.line.now none.0)
+returns-in-Err c = (let none = (rw c.in-Err.is at c.from_utf8.ensures.cases) in not_plain c.args.bytes.now none.0)

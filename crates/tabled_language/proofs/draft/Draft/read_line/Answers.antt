@@ -1,27 +1,24 @@
-use Rattle.std.proofs.Common.{◌≡◌, ◌≢◌, length, map, not, Some, sym, ap, ◌∙◌, rules}
+use Rattle.std.proofs.Common.{◌≡◌, map, not, sym, rules}
 use Rattle.std.proofs.lemmas.Bool.{and_parts, not-true}
 use Rattle.std.specs.Str.{is_utf8}
 use Rattle.tabled_language.specs.Drafts.{takes}
-use Rattle.tabled_language.specs.Line.{has_byte, says_line, meaning_of, words_of}
+use Rattle.tabled_language.specs.Line.{has_byte}
 use Rattle.tabled_language.specs.Lent.{bytes_of}
 use Rattle.tabled_language.specs.Parsing.{draft_in}
-use Rattle.tabled_language.proofs.OwnWords.{line_of_own_words}
-use Rattle.tabled_language.proofs.ScriptLines.{line_asks-plain, line_asks-texts, line_of-texts, same_line}
+use Rattle.tabled_language.proofs.ScriptLines.{line_asks-texts, line_of-texts, same_line}
 use Rattle.tabled_language.proofs.draft.Draft.read_line.Goals as goal
 
-pub read_plain-requires : goal.read_plain-requires
-read_plain-requires c =
+pub read_plain-requires-clause-no_newline : goal.read_plain-requires-clause-no_newline
+read_plain-requires-clause-no_newline c = rw c.in-Some.ensures.0 c.requires
+
+pub read_plain-requires-clause-no_escape : goal.read_plain-requires-clause-no_escape
+read_plain-requires-clause-no_escape c =
     let line = c.args.line.now in
     let clean = and_parts (is_utf8 line) (not (has_byte 92 line)) c.in-Some.ensures.1 in
-    rw c.in-Some.ensures.0 (line_of_own_words line c.requires (not-true (has_byte 92 line) clean.1))
+    rw c.in-Some.ensures.0 (not-true (has_byte 92 line) clean.1)
 
 pub returns-in-Some : goal.returns-in-Some
-returns-in-Some c =
-    let line = c.args.line.now in
-    let same = c.in-Some.ensures.0 in
-    let some : length line ≢ 0 = search rules in
-    let said : says_line line ≡ meaning_of (Some (words_of c.in-Some.line.now)) = line_of-texts line (words_of line) some c.in-Some.ensures.2 ∙ ap (λ bytes. meaning_of (Some (words_of bytes))) (sym same) in
-    same_line (draft_in c.args.self.now) (draft_in c.read_plain.new.self) c.args.number c.read_plain.result _ _ _ _ said (line_asks-plain (takes (draft_in c.args.self.now)) line c.in-Some.line.now same c.in-Some.ensures.1) c.read_plain.ensures
+returns-in-Some c = rw c.in-Some.ensures.0 at c.read_plain.ensures
 
 pub returns-in-Some-2 : goal.returns-in-Some-2
 returns-in-Some-2 c =

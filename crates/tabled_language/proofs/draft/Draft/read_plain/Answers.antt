@@ -1,13 +1,19 @@
-use Rattle.std.proofs.Common.{◌≡◌, ◌∷◌, sym, ap, ◌∙◌}
+use Rattle.std.proofs.Common.{◌≡◌, ◌≢◌, length, Some, rules}
 use Rattle.tabled_language.specs.Drafts.{takes}
-use Rattle.tabled_language.specs.Line.{words_of}
+use Rattle.tabled_language.specs.Line.{says_line, meaning_of, words_of}
 use Rattle.tabled_language.specs.Parsing.{draft_in}
-use Rattle.tabled_language.proofs.ScriptLines.{meaning_of-step, same_line, words_ask-step}
+use Rattle.tabled_language.proofs.OwnWords.{line_of_own_words}
+use Rattle.tabled_language.proofs.PlainLines.{plain_line, texts_of-plain}
+use Rattle.tabled_language.proofs.ScriptLines.{line_asks-plain, line_of-texts, same_line}
 use Rattle.tabled_language.proofs.draft.Draft.read_plain.Goals as goal
 
-pub returns-in-Some : goal.returns-in-Some
-returns-in-Some c =
-    let verb = c.in-Some.verb.now in
-    let first : words_of c.args.line.now ≡ verb ∷ c.next.new.self = sym c.new-fields.ensures ∙ c.in-Some.ensures.steps in
-    let is : words_of c.args.line.now ≡ verb ∷ c.of_line-in-Some.result = first ∙ ap (λ words. verb ∷ words) (sym c.of_line-in-Some.ensures) in
-    same_line (draft_in c.args.self.now) (draft_in c.read_step.new.self) c.args.number c.read_step.result _ _ _ _ (meaning_of-step (words_of c.args.line.now) verb c.of_line-in-Some.result is c.in-Some.not-row c.in-Some.not-shape c.in-Some.not-span) (words_ask-step (takes (draft_in c.args.self.now)) (words_of c.args.line.now) verb c.of_line-in-Some.result is c.in-Some.not-row c.in-Some.not-shape c.in-Some.not-span) (c.read_step.ensures c.args.number)
+pub read_words-requires : goal.read_words-requires
+read_words-requires c = line_of_own_words c.args.line.now c.requires.no_newline c.requires.no_escape
+
+pub returns : goal.returns
+returns c =
+    let line = c.args.line.now in
+    let some : length line ≢ 0 = search rules in
+    let said : says_line line ≡ meaning_of (Some (words_of line)) = line_of-texts line (words_of line) some (texts_of-plain line c.utf8.line c.requires.no_escape) in
+    let asks = line_asks-plain (takes (draft_in c.args.self.now)) line (plain_line line c.utf8.line c.requires.no_escape) in
+    same_line (draft_in c.args.self.now) (draft_in c.read_words.new.self) c.args.number c.read_words.result _ _ _ _ said asks c.read_words.ensures
