@@ -69,52 +69,57 @@ fn first_part(bytes: &[u8], at: u8) -> (&[u8], Option<&[u8]>)
 pub(crate) fn first_place(bytes: &[u8], at: u8) -> Option<usize>
     ensures { IsFirstPlace at bytes.now result }
 {
-    let mut passed = 0;
-    let mut rest = bytes;
-    while BLOCK <= rest.len() {
-        let (block, others) = rest.split_at(BLOCK);
-        if let Some(place) = place_in_block(block, at) {
-            return Some(passed + place);
-        }
-        passed += BLOCK;
-        rest = others;
+    let (blocks, rest) = bytes.split_at(bytes.len() - bytes.len() % BLOCK);
+    if let Some(place) = place_by(BLOCK, blocks, at) {
+        return Some(place);
     }
     match near_place(rest, at) {
-        Some(place) => Some(passed + place),
+        Some(place) => Some(blocks.len() + place),
         None => None,
     }
-}
-
-/// The same, among at most 255 bytes, which are compared all at once.
-fn place_in_block(bytes: &[u8], at: u8) -> Option<usize>
-    requires { length bytes.now < 256 }
-    ensures { IsFirstPlace at bytes.now result }
-{
-    if count_few(bytes, at) == 0 {
-        return None;
-    }
-    place_among(bytes, at)
 }
 
 /// The same, for a place that is within a few bytes.
 pub(crate) fn near_place(bytes: &[u8], at: u8) -> Option<usize>
     ensures { IsFirstPlace at bytes.now result }
 {
+    // A loop of eight steps is written out by the compiler, which takes half of the time.
+    place_by(8, bytes, at)
+}
+
+/// The same, in one part of n bytes after another.
+#[inline(always)]
+fn place_by(n: usize, bytes: &[u8], at: u8) -> Option<usize>
+    requires some { 0 < n }
+    requires few { n < 256 }
+    ensures { IsFirstPlace at bytes.now result }
+{
     let mut passed = 0;
     let mut rest = bytes;
-    // A loop of eight steps is written out by the compiler, which takes half of the time.
-    while 8 <= rest.len() {
-        let (part, others) = rest.split_at(8);
-        if let Some(place) = place_among(part, at) {
+    while n <= rest.len() {
+        let (part, others) = rest.split_at(n);
+        if let Some(place) = place_in_part(part, at) {
             return Some(passed + place);
         }
-        passed += 8;
+        passed += n;
         rest = others;
     }
     match place_among(rest, at) {
         Some(place) => Some(passed + place),
         None => None,
     }
+}
+
+/// The same, among at most 255 bytes. Those of a block are compared all at once before one is sought.
+#[inline(always)]
+fn place_in_part(bytes: &[u8], at: u8) -> Option<usize>
+    requires { length bytes.now < 256 }
+    ensures { IsFirstPlace at bytes.now result }
+{
+    if BLOCK <= bytes.len() && count_few(bytes, at) == 0 {
+        return None;
+    }
+    place_among(bytes, at)
 }
 
 /// The same, byte by byte.

@@ -1,6 +1,6 @@
 use Rattle.std.proofs.Common.{◌≡◌, ◌+◌, eqb, length}
 use Rattle.std.specs.List.{position_or_len}
-use Rattle.tabled_language.proofs.parts.near_place.Given as goal
+use Rattle.tabled_language.proofs.parts.place_by.Given as goal
 
 abbrev pub invariant-loop-rest : goal.invariant-loop-rest
 invariant-loop-rest l = record {
