@@ -1,9 +1,9 @@
 -- Rectangles that come one after another, each with a place of its own.
-use Rattle.std.specs.Prelude.{◌≡◌, ◌<◌, ℕ, ◌&&◌, Bool, true, false, length, get_or, take, List, [], ◌∷◌, ◌++◌, MatchResult, Result, not}
+use Rattle.std.specs.Prelude.{◌≡◌, ◌<◌, ◌≤◌, ℕ, ◌&&◌, Bool, true, false, length, get_or, take, List, [], ◌∷◌, ◌++◌, MatchResult, Result, not}
 use Rattle.std.specs.FinMap.{from_entries}
-use Rattle.std.specs.List.{list_any}
+use Rattle.std.specs.List.{AllByRecursion, list_any}
 use Rattle.tabled_grid.specs.Anchors.{lies_inside, meets}
-use Rattle.tabled_grid.specs.Spans.{Rectangle, SpanMap}
+use Rattle.tabled_grid.specs.Spans.{IsSpanSize, Rectangle, SpanMap}
 
 -- a rectangle lies inside a table, and shares no cell with those of anchors
 abbrev pub has_place : ℕ → ℕ → List Rectangle → Rectangle → Bool
@@ -32,6 +32,10 @@ MergesOrMisfits rows columns es answer = MatchResult answer (λ spans. (fit_in r
 pub record NumberedAnchors : Type 0 where
   pub anchors : List Rectangle
   pub numbers : List ℕ
+
+-- each of these anchors has a size that a span may have, and a line
+abbrev pub AreSpanLines : NumberedAnchors → Type 0
+AreSpanLines es = record { sizes : AllByRecursion (λ (e : Rectangle). IsSpanSize e.1) es.anchors; numbered : length es.anchors ≤ length es.numbers }
 
 -- an answer is the merged cells of anchors that all have places, or the number of the line of the first that has none
 abbrev pub MergesOrNames : ℕ → ℕ → NumberedAnchors → Result SpanMap ℕ → Type 0

@@ -64,6 +64,9 @@ impl<'a> Draft<'a> {
         requires { has_byte 10 line.now ≡ false }
         ensures { ReadsLine (draft_in self.old) number (says_line line.now) (line_asks (takes (draft_in self.old)) line.now) result (draft_in self.new) }
     {
+        if line.is_empty() {
+            return Ok(());
+        }
         if let Some(line) = plain(line) {
             return self.read_plain(alloc, number, line);
         }
@@ -91,18 +94,16 @@ impl<'a> Draft<'a> {
         ensures { ReadsWords (draft_in self.old) number (words_of line.now) result (draft_in self.new) }
     {
         let mut fields = Fields::new(line);
-        let Some(verb) = fields.next() else {
-            return Ok(());
-        };
-        match (verb.len(), verb) {
-            (3, "row") => {
+        match fields.next() {
+            None => Ok(()),
+            Some("row") => {
                 self.before_spans()?;
                 self.records.push(fields.texts(alloc)?)?;
                 Ok(())
             }
-            (5, "shape") => self.read_shape(number, Words::of_line(fields)),
-            (4, "span") => self.read_span(number, Words::of_line(fields)),
-            _ => self.read_step(alloc, verb, Words::of_line(fields)),
+            Some("shape") => self.read_shape(number, Words::of_line(fields)),
+            Some("span") => self.read_span(number, Words::of_line(fields)),
+            Some(verb) => self.read_step(alloc, verb, Words::of_line(fields)),
         }
     }
 

@@ -30,9 +30,16 @@ fn read_lines<'a>(alloc: Global, input: &'a [u8]) -> Result<Draft<'a>, (usize, R
     ensures { MatchResult result (λ d. ReadsScript input.now (draft_in d)) (ScriptEnds input.now) }
 {
     // To test all bytes at once takes less than to test those of each line.
-    if let Some(text) = plain(input) {
-        return read_plain_lines(alloc, text);
+    match plain(input) {
+        Some(text) => read_plain_lines(alloc, text),
+        None => read_each_line(alloc, input),
     }
+}
+
+/// The same, of any bytes.
+fn read_each_line<'a>(alloc: Global, input: &'a [u8]) -> Result<Draft<'a>, (usize, ReadError)>
+    ensures { MatchResult result (λ d. ReadsScript input.now (draft_in d)) (ScriptEnds input.now) }
+{
     let mut draft = Draft::new(alloc);
     let mut number = 0;
     for line in Parts::new(input, b'\n') {
@@ -49,15 +56,15 @@ fn read_plain_lines<'a>(alloc: Global, text: &'a str) -> Result<Draft<'a>, (usiz
     requires { has_byte 92 text.now ≡ false }
     ensures { MatchResult result (λ d. ReadsScript text.now (draft_in d)) (ScriptEnds text.now) }
 {
-    let mut draft = Draft::new(alloc);
-    let mut number = 0;
+    let mut read = Draft::new(alloc);
+    let mut line_number = 0;
     for line in Lines::new(text) {
-        number += 1;
-        if let Err(error) = draft.read_plain(alloc, number, line) {
-            return Err((number, error));
+        line_number += 1;
+        if let Err(error) = read.read_plain(alloc, line_number, line) {
+            return Err((line_number, error));
         }
     }
-    Ok(draft)
+    Ok(read)
 }
 
 /// The script that bytes write, or the number of its first faulty line and the fault. Its records are as

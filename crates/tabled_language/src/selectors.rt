@@ -48,54 +48,54 @@ impl<'a> Words<'a> {
         ensures { Reads named_by (behind (selectors (kept (reads_selector depth))) word.now) self.old result self.new }
     {
         // What most scripts say comes first.
-        match (word.len(), word) {
-            (3, "all") => Ok(Selector::All),
-            (4, "cell") => {
+        match word {
+            "all" => Ok(Selector::All),
+            "cell" => {
                 let row = self.number()?;
                 let column = self.number()?;
                 Ok(Selector::Cell(row, column))
             }
-            (3, "row") => {
+            "row" => {
                 let row = self.number()?;
                 Ok(Selector::Row(row))
             }
-            (6, "column") => {
+            "column" => {
                 let column = self.number()?;
                 Ok(Selector::Column(column))
             }
-            (7, "content") => {
+            "content" => {
                 let text = self.text(alloc)?;
                 Ok(Selector::Content(text))
             }
-            (4, "name") => {
+            "name" => {
                 let text = self.text(alloc)?;
                 Ok(Selector::Name(text))
             }
-            (3, "and") => {
+            "and" => {
                 let x = self.inner(alloc, depth)?;
                 let y = self.inner(alloc, depth)?;
                 Ok(Selector::And(x, y))
             }
-            (3, "not") => {
+            "not" => {
                 let x = self.inner(alloc, depth)?;
                 let y = self.inner(alloc, depth)?;
                 Ok(Selector::Not(x, y))
             }
-            (9, "intersect") => {
+            "intersect" => {
                 let x = self.inner(alloc, depth)?;
                 let y = self.inner(alloc, depth)?;
                 Ok(Selector::Intersect(x, y))
             }
-            (7, "inverse") => {
+            "inverse" => {
                 let x = self.inner(alloc, depth)?;
                 Ok(Selector::Inverse(x))
             }
-            (4, "skip") => {
+            "skip" => {
                 let n = self.number()?;
                 let x = self.inner(alloc, depth)?;
                 Ok(Selector::Skip(n, x))
             }
-            (4, "step") => {
+            "step" => {
                 let n = self.number()?;
                 let x = self.inner(alloc, depth)?;
                 Ok(Selector::StepBy(n, x))
@@ -108,39 +108,39 @@ impl<'a> Words<'a> {
     fn plain_selector(&mut self, word: &str) -> Read<Selector>
         ensures { Reads named_by (behind plain_selectors word.now) self.old result self.new }
     {
-        match (word.len(), word) {
-            (9, "first-row") => Ok(Selector::FirstRow),
-            (8, "last-row") => Ok(Selector::LastRow),
-            (12, "first-column") => Ok(Selector::FirstColumn),
-            (11, "last-column") => Ok(Selector::LastColumn),
-            (5, "frame") => Ok(Selector::Frame),
-            (14, "last-row-minus") => {
+        match word {
+            "first-row" => Ok(Selector::FirstRow),
+            "last-row" => Ok(Selector::LastRow),
+            "first-column" => Ok(Selector::FirstColumn),
+            "last-column" => Ok(Selector::LastColumn),
+            "frame" => Ok(Selector::Frame),
+            "last-row-minus" => {
                 let n = self.number()?;
                 Ok(Selector::LastRowMinus(n))
             }
-            (13, "last-row-plus") => {
+            "last-row-plus" => {
                 let n = self.number()?;
                 Ok(Selector::LastRowPlus(n))
             }
-            (17, "last-column-minus") => {
+            "last-column-minus" => {
                 let n = self.number()?;
                 Ok(Selector::LastColumnMinus(n))
             }
-            (16, "last-column-plus") => {
+            "last-column-plus" => {
                 let n = self.number()?;
                 Ok(Selector::LastColumnPlus(n))
             }
-            (4, "rows") => {
+            "rows" => {
                 let start = self.number()?;
                 let end = self.number()?;
                 Ok(Selector::Rows(start, end))
             }
-            (7, "columns") => {
+            "columns" => {
                 let start = self.number()?;
                 let end = self.number()?;
                 Ok(Selector::Columns(start, end))
             }
-            (7, "segment") => {
+            "segment" => {
                 let first_row = self.number()?;
                 let end_row = self.number()?;
                 let first_column = self.number()?;

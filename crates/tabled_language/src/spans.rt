@@ -20,16 +20,13 @@ pub(crate) struct SpanLines {
 }
 
 impl Model for SpanLines {
-    ghost use Rattle.std.specs.Prelude.{◌≤◌, length};
-    ghost use Rattle.std.specs.List.{AllByRecursion};
-    ghost use Rattle.tabled_grid.specs.Spans.{IsSpanSize, Rectangle};
-    ghost use Rattle.tabled_language.specs.Placed.{NumberedAnchors};
+    ghost use Rattle.tabled_language.specs.Placed.{AreSpanLines, NumberedAnchors};
 
     ghost Value = { NumberedAnchors };
 
     ghost view = { λ a. record { anchors = a.anchors.items; numbers = a.numbers.items } };
 
-    ghost invariant = { λ a. record { sizes : AllByRecursion (λ (e : Rectangle). IsSpanSize e.1) a.anchors.items; numbered : length a.anchors.items ≤ length a.numbers.items } };
+    ghost invariant = { λ a. AreSpanLines (record { anchors = a.anchors.items; numbers = a.numbers.items }) };
 }
 
 impl SpanLines {

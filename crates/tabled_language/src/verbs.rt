@@ -27,7 +27,7 @@ impl<'a> Words<'a> {
     pub(crate) fn step(&mut self, alloc: Global, verb: &str) -> Read<Step>
         ensures { Reads after (behind steps verb.now) self.old result self.new }
     {
-        // What many scripts say often comes first.
+        // What many scripts say often comes first. To compare a word takes a call, so its length is compared before.
         match (verb.len(), verb) {
             (3, "set") => self.set(alloc),
             (3, "dup") => self.dup(alloc),

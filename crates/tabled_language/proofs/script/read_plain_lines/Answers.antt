@@ -9,8 +9,8 @@ use Rattle.tabled_language.proofs.OwnWords.{parts_lack, parts_lack_separator}
 use Rattle.tabled_language.proofs.ScriptLines.{has_read-counts, has_read-end, has_read-more, script_ends}
 use Rattle.tabled_language.proofs.script.read_plain_lines.Goals as goal
 
-pub overflow_add-number : goal.overflow_add-number
-overflow_add-number c =
+pub overflow_add-line_number : goal.overflow_add-line_number
+overflow_add-line_number c =
     let p = λ (b : ℕ). eqb b 10 in
     let counted = has_read-counts (rw c.in-Some.ensures.steps at c.loop-line.invariant.read) in
     omega (arith, counted, length-map (lines_of c.args.text.now) says_line, length-map c.next.new.self says_line, length-slice_split p c.args.text.now, count_by-le-length p c.args.text.now)
@@ -23,7 +23,7 @@ read_plain-requires-clause-no_escape c = or-false-left (has_byte 92 c.in-Some.li
 
 pub returns-in-Err : goal.returns-in-Err
 returns-in-Err c =
-    script_ends c.args.text.now c.in-Some.line.now c.next.new.self c.loop-line.number (draft_in c.loop-line.draft) c.in-Err.error (rw c.in-Some.ensures.steps at c.loop-line.invariant.read) (rw c.in-Err.is at c.read_plain.ensures)
+    script_ends c.args.text.now c.in-Some.line.now c.next.new.self c.loop-line.line_number (draft_in c.loop-line.read) c.in-Err.error (rw c.in-Some.ensures.steps at c.loop-line.invariant.read) (rw c.in-Err.is at c.read_plain.ensures)
 
 pub loop-line-init : goal.loop-line-init
 loop-line-init c = record {

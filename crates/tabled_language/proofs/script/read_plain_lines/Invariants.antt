@@ -7,7 +7,7 @@ use Rattle.tabled_language.proofs.script.read_plain_lines.Given as goal
 
 abbrev pub invariant-loop-line : goal.invariant-loop-line
 invariant-loop-line l = record {
-  read : HasRead (lines_of l.text) l.line-iterator l.number (draft_in l.draft);
+  read : HasRead (lines_of l.text) l.line-iterator l.line_number (draft_in l.read);
   no_newline : list_any (has_byte 10) l.line-iterator ≡ false;
   no_escape : list_any (has_byte 92) l.line-iterator ≡ false;
 }

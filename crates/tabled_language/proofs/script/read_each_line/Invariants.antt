@@ -3,7 +3,7 @@ use Rattle.std.specs.List.{list_any}
 use Rattle.tabled_language.specs.Line.{has_byte, lines_of}
 use Rattle.tabled_language.specs.Parsing.{draft_in}
 use Rattle.tabled_language.proofs.ScriptLines.{HasRead}
-use Rattle.tabled_language.proofs.script.read_lines.Given as goal
+use Rattle.tabled_language.proofs.script.read_each_line.Given as goal
 
 abbrev pub invariant-loop-line : goal.invariant-loop-line
 invariant-loop-line l = record {
