@@ -23,7 +23,7 @@ use Rattle.tabled_spans.specs.Panels.{Panels}
 use Rattle.tabled_spans.proofs.MergeGeometry.{fits_merged}
 use Rattle.tabled_spans.proofs.PanelGeometry.{panels_fit, same_fits}
 use Rattle.tabled_spans.proofs.SpanGeometry.{fits_spanned, option_keeps}
-use Rattle.tabled_steps.specs.Fitting.{KeepsFitting}
+use Rattle.tabled_steps.specs.Fitting.{KeepsCellsFitting}
 use Rattle.tabled_steps.specs.Steps.{Does, Leaves, LeavesFirst, Merges, Names, Refused}
 use Rattle.tabled_steps.specs.declared.selector.Selector.{Selector}
 use Rattle.tabled_steps.specs.declared.step.Step.{Step}
@@ -43,7 +43,7 @@ module _ {A : Type 0} (is_blank : A → Type 0) (text_of : A → List ℕ) where
   merges : (axis : Axis) → OptionKeeps fitting (Merges text_of axis) Same
   merges axis = record { done = λ g m h n fits does. rw does.0 (fits_merged axis (map_grid text_of g) m n does.1 fits); refused = same_fits }
 
-  pub step_keeps : (s : Step) → KeepsFitting s → OptionKeeps fitting (Does is_blank text_of s) (Leaves is_blank text_of s)
+  pub step_keeps : (s : Step) → KeepsCellsFitting s → OptionKeeps fitting (Does is_blank text_of s) (Leaves is_blank text_of s)
   step_keeps (step.Set select text) _ = on_entities select _ _ (λ e. writes_keep text_of (text_writes (string_bytes text) e))
   step_keeps (step.Dup destination source) _ = duplicates_keep text_of (Names text_of destination) (Names text_of source)
   step_keeps (step.Charset charset select) _ = on_entities select _ _ (λ e. writes_keep text_of (charset_writes charset e))
@@ -65,9 +65,9 @@ module _ {A : Type 0} (is_blank : A → Type 0) (text_of : A → List ℕ) where
   step_keeps (step.RemoveNamed name) _ = rearranged_keeps (λ g. removed Columns (columns_with (string_bytes name) (map_grid text_of g)) g.rows g.columns)
   step_keeps (step.Both' _ first _ second) both = keeps_in_order fitting _ _ _ _ (step_keeps first both.0) (step_keeps second both.1)
 
-  refused_keeps : (steps : List Step) → AllByRecursion KeepsFitting steps → AllByRecursion (λ s. OptionKeeps fitting (Does is_blank text_of s) (Refused is_blank text_of s)) steps
+  refused_keeps : (steps : List Step) → AllByRecursion KeepsCellsFitting steps → AllByRecursion (λ s. OptionKeeps fitting (Does is_blank text_of s) (Refused is_blank text_of s)) steps
   refused_keeps [] all = tt
   refused_keeps (s ∷ steps) all = (let keeps = step_keeps s all.0 in record { done = keeps.done; refused = λ g c h d fits left. keeps.refused g c h d fits left.0 }, refused_keeps steps all.1)
 
-  pub steps_keep : (steps : List Step) → AllByRecursion KeepsFitting steps → OptionKeeps fitting (Each (Does is_blank text_of) steps) (EachUntil (Does is_blank text_of) (Refused is_blank text_of) steps)
+  pub steps_keep : (steps : List Step) → AllByRecursion KeepsCellsFitting steps → OptionKeeps fitting (Each (Does is_blank text_of) steps) (EachUntil (Does is_blank text_of) (Refused is_blank text_of) steps)
   steps_keep steps all = keeps_all fitting (Does is_blank text_of) (Refused is_blank text_of) steps (refused_keeps steps all)

@@ -9,7 +9,7 @@ ghost use Rattle.tabled_options.specs.Does.{Each};
 ghost use Rattle.tabled_options.specs.Shapes.{FitsAfter};
 ghost use Rattle.tabled_spans.specs.Runs.{MergesRuns};
 ghost use Rattle.tabled_steps.specs.Acts.{ActAs, ActOnListed, ActOnObjects, ActWithin, InTurn, Makes, RemovesNamed, RemovesRange};
-ghost use Rattle.tabled_steps.specs.Fitting.{KeepsFitting};
+ghost use Rattle.tabled_steps.specs.Fitting.{KeepsCellsFitting};
 ghost use Rattle.tabled_steps.specs.MergedRuns.{runs};
 ghost use Rattle.tabled_steps.specs.States.{Becomes, EndAlike, State, after, after_all};
 ghost use Rattle.tabled_steps.specs.Steps.{Does};
@@ -72,7 +72,7 @@ pub fn steps_keep_merged_cells_fitting<R, D>(_step: &Step)
 where
     R: Records + ExactRecords + PeekableRecords + RecordsMut<String> + Resizable,
     R::Cell: CellText,
-    ensures table { let how = ⟦<Step as TableOption<R, SpannedConfig, D>>⟧ in KeepsFitting _step.now → FitsAfter (how.does _step.now) (how.leaves _step.now) }
+    ensures table { let how = ⟦<Step as TableOption<R, SpannedConfig, D>>⟧ in KeepsCellsFitting _step.now → FitsAfter (how.does _step.now) (how.leaves _step.now) }
 {}
 
 /// A step with a selector does, and refused leaves, what its option does and leaves on each entity that the

@@ -4,7 +4,7 @@ ghost use Rattle.std.specs.Prelude.{◌<◌, IfErr, OnOk, length};
 ghost use Rattle.std.specs.List.{AllByRecursion};
 ghost use Rattle.tabled_carry.specs.PutIn.{FitsGrid};
 ghost use Rattle.tabled_options.specs.Does.{Each};
-ghost use Rattle.tabled_steps.specs.Fitting.{KeepsFitting};
+ghost use Rattle.tabled_steps.specs.Fitting.{KeepsCellsFitting};
 ghost use Rattle.tabled_steps.specs.States.{Becomes, SplitsAreUndone, SplitsAreUndoneBefore, after_all, state_of};
 ghost use Rattle.tabled_steps.specs.Steps.{Does, RefusedAt};
 
@@ -44,7 +44,7 @@ where
     ensures ok { OnOk result (Each (Does R.Cell.is_blank R.Cell.text_of) steps.items (R.grid records.old) cfg.old (R.grid records.new) cfg.new) }
     ensures index { IfErr result (λ e. e.0 < length steps.items) }
     ensures err { IfErr result (λ e. RefusedAt R.Cell.is_blank R.Cell.text_of steps.items e.0 (R.grid records.old) cfg.old (R.grid records.new) cfg.new) }
-    ensures fitting { AllByRecursion KeepsFitting steps.items → FitsGrid cfg.old (R.grid records.old) → FitsGrid cfg.new (R.grid records.new) }
+    ensures fitting { AllByRecursion KeepsCellsFitting steps.items → FitsGrid cfg.old (R.grid records.old) → FitsGrid cfg.new (R.grid records.new) }
     ensures glued { OnOk result (SplitsAreUndone R.Cell.text_of steps.items (R.grid records.old) cfg.old (R.grid records.new) cfg.new) }
     ensures glued_before { IfErr result (λ e. SplitsAreUndoneBefore e.0 steps.items (state_of R.Cell.text_of (R.grid records.old) cfg.old)) }
 {
