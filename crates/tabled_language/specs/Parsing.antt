@@ -44,8 +44,8 @@ abbrev pub cell_texts : List (Vec (String Global)) → List (List (List ℕ))
 cell_texts rows = map (map string_bytes) (map_items rows)
 
 -- code takes what it is to take, seen through a view, and leaves the texts that it is to leave, or memory was refused
-abbrev pub Takes : {A X : Type 0} → (X → A) → A → List (List ℕ) → Result X ReadError → List (List ℕ) → Type 0
-Takes view taken left result new = MatchResult result (λ x. (view x ≡ taken) × (new ≡ left)) (λ error. error ≡ OutOfMemory)
+abbrev pub TakesWords : {A X : Type 0} → (X → A) → A → List (List ℕ) → Result X ReadError → List (List ℕ) → Type 0
+TakesWords view taken left result new = MatchResult result (λ x. (view x ≡ taken) × (new ≡ left)) (λ error. error ≡ OutOfMemory)
 
 -- the draft of what is in memory
 abbrev pub draft_in : Drafted → Draft

@@ -18,7 +18,7 @@ impl<'a> Words<'a> {
     ghost use Rattle.std.specs.String.{string_bytes};
     ghost use Rattle.tabled_grid.specs.Grid.{map_grid};
     ghost use Rattle.tabled_grid.specs.declared.records.axis.Axis.TheVariants.{Columns, Rows};
-    ghost use Rattle.tabled_language.specs.Parsing.{Reads, Takes, cell_texts};
+    ghost use Rattle.tabled_language.specs.Parsing.{Reads, TakesWords, cell_texts};
     ghost use Rattle.tabled_language.specs.Verb.{reads_clean, reads_concat, reads_cut_panel, reads_dup, reads_extract, reads_footer, reads_header, reads_panel, reads_reverse, reads_set, reads_span, reads_split, reads_table, reads_tabs, reads_turn, removals, rows_of_texts, steps};
     ghost use Rattle.tabled_language.specs.Words.{behind, reads_one_of};
     ghost use Rattle.tabled_steps.specs.States.{after};
@@ -216,7 +216,7 @@ impl<'a> Words<'a> {
     /// r rows of c texts.
     fn rows(&mut self, alloc: Global, rows: usize, columns: usize) -> Read<Vec<Vec<Text<String>>>>
         requires { rows * columns ≤ length self.old }
-        ensures { Takes (λ cells. cell_texts cells.items) (rows_of_texts rows columns self.old).cells (drop (rows * columns) self.old) result self.new }
+        ensures { TakesWords (λ cells. cell_texts cells.items) (rows_of_texts rows columns self.old).cells (drop (rows * columns) self.old) result self.new }
     {
         let mut cells = Vec::with_capacity(alloc, rows)?;
         for _ in 0..rows {
