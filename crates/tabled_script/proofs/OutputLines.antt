@@ -10,7 +10,7 @@ use Rattle.std.specs.Char.{is_ascii_digit}
 use Rattle.std.specs.Prelude.{nat_le}
 use Rattle.std.specs.Str.{all_ascii_digits}
 use Rattle.std.specs.Str.Parse.{digits_value}
-use Rattle.std.proofs.lemmas.List.{append-nil, append_assoc, take_more, take_all}
+use Rattle.std.proofs.lemmas.List.{append-nil, append_assoc, take_more}
 use Rattle.std.proofs.lemmas.List.Concat.{flat_map-append}
 use Rattle.std.proofs.lemmas.List.Folds.{flat_map-map}
 use Rattle.tabled_grid.specs.Grid.{grid_of, map_grid, map_items, width_of}
@@ -25,13 +25,17 @@ join_with_byte-cons c xs (ys ∷ yss) = ap (λ bs. xs ++ c ∷ bs) (join_with_by
 pub line-pieces : {A : Type 0} (text_of : A → List ℕ) (first : List ℕ) (xs : List A) → line (first ∷ map text_of xs) ≡ (escaped first ++ flat_map (λ x. 9 ∷ escaped (text_of x)) xs) ++ 10 ∷ []
 line-pieces text_of first xs = rw (join_with_byte-cons 9 (escaped first) (map escaped (map text_of xs)), flat_map-map (λ ys. 9 ∷ ys) escaped (map text_of xs), flat_map-map (λ ys. 9 ∷ escaped ys) text_of xs) refl
 
--- a table's shape, and the lines of all its rows
-pub table_lines-pieces : {A : Type 0} (text_of : A → List ℕ) (rows : List (Vec A)) (n : ℕ) → length rows ≤ n → table_lines (map_grid text_of (grid_of (map_items rows))) ≡ line (codes "shape" ∷ decimal (length (map_items rows)) ∷ decimal (width_of (map_items rows)) ∷ []) ++ flat_map (λ (row : Vec A). line (codes "row" ∷ map text_of row.items)) (take n rows)
-table_lines-pieces {A} text_of rows n all = rw (take_all n rows all, flat_map-map (λ row. line (codes "row" ∷ row)) (map text_of) (map_items rows), flat_map-map (λ row. line (codes "row" ∷ map text_of row)) (λ (row : Vec A). row.items) rows) refl
+-- a table's shape, and the lines of its rows
+pub table_lines-pieces : {A : Type 0} (text_of : A → List ℕ) (rows : List (Vec A)) → table_lines (map_grid text_of (grid_of (map_items rows))) ≡ line (codes "shape" ∷ decimal (length (map_items rows)) ∷ decimal (width_of (map_items rows)) ∷ []) ++ flat_map (λ (row : Vec A). line (codes "row" ∷ map text_of row.items)) rows
+table_lines-pieces {A} text_of rows = rw (flat_map-map (λ row. line (codes "row" ∷ row)) (map text_of) (map_items rows), flat_map-map (λ row. line (codes "row" ∷ map text_of row)) (λ (row : Vec A). row.items) rows) refl
 
 -- one more thing's line after those of the things before it
+pub pushed_last : {A : Type 0} (line_of : A → List ℕ) (before : List ℕ) (xs : List A) (x : A) → (before ++ flat_map line_of xs) ++ line_of x ≡ before ++ flat_map line_of (xs ++ x ∷ [])
+pushed_last line_of before xs x = rw (flat_map-append line_of xs (x ∷ []), append-nil (line_of x)) (append_assoc before (flat_map line_of xs) (line_of x))
+
+-- the same of the things before an index, and the one at it
 pub pushed_more : {A : Type 0} (line_of : A → List ℕ) (before out : List ℕ) (xs : List A) (i : ℕ) (x : A) → i < length xs → x ≡ get_or xs i x → out ≡ before ++ flat_map line_of (take i xs) → out ++ line_of x ≡ before ++ flat_map line_of (take (i + 1) xs)
-pushed_more line_of before out xs i x here is read = rw (take_more xs i x here, ← is, flat_map-append line_of (take i xs) (x ∷ []), read, append-nil (line_of x)) (append_assoc before (flat_map line_of (take i xs)) (line_of x))
+pushed_more line_of before out xs i x here is read = rw (take_more xs i x here, ← is, read) (pushed_last line_of before (take i xs) x)
 
 -- a digit stands as it is in a word
 digit_stays : (b : ℕ) → is_ascii_digit b ≡ true → escaped_byte b ≡ b ∷ []

@@ -17,10 +17,14 @@ pub sends_more : (a b c : Option (List ℕ)) (h i j xs ys : List ℕ) → Sends 
 sends_more a b c h i j xs ys first second =
     (first.0 ++ second.0, Appends-trans a b c first.0 second.0 first.1 second.1, sym (append_assoc h xs ys) ∙ ap (λ l. l ++ ys) first.2 ∙ append_assoc first.0 i ys ∙ ap (λ l. first.0 ++ l) second.2 ∙ sym (append_assoc first.0 second.0 j))
 
+-- bytes that are held behind others
+pub sends_pushed : (a b : Option (List ℕ)) (h i j xs ys : List ℕ) → Sends a h b i xs → j ≡ i ++ ys → Sends a h b j (xs ++ ys)
+sends_pushed a b h i j xs ys first pushed = sends_more a b b h i j xs ys first (sends_none b i j ys pushed)
+
 -- bytes that are held, and may then be written
 pub sends_next : (a b c : Option (List ℕ)) (h i j k xs ys zs : List ℕ) → Sends a h b i xs → j ≡ i ++ ys → Sends b j c k [] → xs ++ ys ≡ zs → Sends a h c k zs
 sends_next a b c h i j k xs ys zs first pushed sent is =
-    subst (Sends a h c k) (append-nil (xs ++ ys) ∙ is) (sends_more a b c h j k (xs ++ ys) [] (sends_more a b b h i j xs ys first (sends_none b i j ys pushed)) sent)
+    subst (Sends a h c k) (append-nil (xs ++ ys) ∙ is) (sends_more a b c h j k (xs ++ ys) [] (sends_pushed a b h i j xs ys first pushed) sent)
 
 -- what was left is written at last
 pub sent_all : (a b c : Option (List ℕ)) (left bytes : List ℕ) → Sends a [] b left bytes → Appends b c left → Appends a c bytes

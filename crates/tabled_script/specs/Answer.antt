@@ -1,13 +1,15 @@
 -- What the program writes for a script.
-use Rattle.std.specs.Prelude.{◌≡◌, ℕ, List, [], ◌∷◌, ◌++◌, codes, Option, Ok, Err}
+use Rattle.std.specs.Prelude.{◌≡◌, ◌⊎◌, ℕ, List, [], ◌∷◌, ◌++◌, codes, IsOk, MatchResult, Option, Result, Ok, Err}
 use Rattle.std.specs.Fmt.{decimal}
 use Rattle.std.specs.Io.KnownBytes.{Appends}
 use Rattle.std.specs.List.{fold}
 use Rattle.tabled_draw.specs.Picture.{drawn}
+use Rattle.tabled_grid.specs.Fitting.{Fits}
 use Rattle.tabled_language.specs.Faults.{fault_number}
 use Rattle.tabled_language.specs.Script.{Script, parse, start}
 use Rattle.tabled_language.specs.declared.fault.Fault.{Fault}
 use Rattle.tabled_language.specs.Output.{print}
+use Rattle.tabled_language.specs.RoundTrip.{IsTable}
 use Rattle.tabled_steps.specs.States.{State}
 
 -- a state after changes, one after another
@@ -34,6 +36,14 @@ fault_line fault = codes "line " ++ (decimal fault.0 ++ (codes ": fault " ++ (de
 abbrev pub memory_line : List ℕ
 memory_line = codes "out of memory" ++ 10 ∷ []
 
+-- a state is a table that is read back, if its merged cells fit
+abbrev pub IsTableIfFitting : State → Type 0
+IsTableIfFitting s = Fits s.spans s.texts.rows s.texts.columns → IsTable s
+
+-- a state was written as these bytes, and this is known of it
+abbrev pub ShowsState : (State → List ℕ) → (State → Type 0) → State → Option (List ℕ) → Option (List ℕ) → Type 0
+ShowsState bytes known s old new = Appends old new (bytes s) × known s
+
 -- the table that a script ends with was written as these bytes, and this is known of it
 abbrev pub ShowsTable : (State → List ℕ) → (State → Type 0) → List ℕ → Option (List ℕ) → Option (List ℕ) → Type 0
 ShowsTable bytes known input old new = (script : Script) × (parse input ≡ Ok script) × Appends old new (bytes (ended script)) × known (ended script)
@@ -41,3 +51,11 @@ ShowsTable bytes known input old new = (script : Script) × (parse input ≡ Ok 
 -- the line of a script's first fault was written
 abbrev pub Faults : List ℕ → Option (List ℕ) → Option (List ℕ) → Type 0
 Faults input old new = (fault : ℕ × Fault) × (parse input ≡ Err fault) × Appends old new (fault_line fault)
+
+-- a status says what was written for a script: 0 the table that it ends with, 2 the line of its first fault
+abbrev pub Answers : (State → List ℕ) → (State → Type 0) → List ℕ → Option (List ℕ) → Option (List ℕ) → ℕ → Type 0
+Answers bytes known input old new status = ((status ≡ 0) × ShowsTable bytes known input old new) ⊎ ((status ≡ 2) × Faults input old new)
+
+-- what comes of an answer: 4 where writing failed; its own status, and nothing more is written; or 3 where memory ran out, and this was written
+abbrev pub Finishes : {U E A : Type 0} → Result (Result U E × ℕ) A → ℕ → Option (List ℕ) → Option (List ℕ) → Type 0
+Finishes answered status old new = (status ≡ 4) ⊎ MatchResult answered (λ a. IsOk a.0 × (status ≡ a.1) × (new ≡ old)) (λ _. (status ≡ 3) × Appends old new memory_line)

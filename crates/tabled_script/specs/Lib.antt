@@ -1,3 +1,4 @@
 pub mod Again
 pub mod Answer
+pub mod InMemory
 pub mod Sent

@@ -3,8 +3,8 @@
 ghost use Rattle.std.specs.Io.KnownBytes.{Appends};
 ghost use Rattle.std.specs.Prelude.{◌≡◌, List, ℕ, IfOk, OnErr, OnOk};
 ghost use Rattle.tabled_grid.specs.Grid.{IsEven, grid_of, map_items};
-ghost use Rattle.tabled_language.specs.Lent.{bytes_of};
-ghost use Rattle.tabled_steps.specs.States.{State, state_of};
+ghost use Rattle.tabled_script.specs.InMemory.{state_in};
+ghost use Rattle.tabled_steps.specs.States.{State};
 
 use std::alloc::{AllocError, Global};
 use std::io::{self, Write};
@@ -23,12 +23,12 @@ pub(crate) trait Form {
     /// is written.
     fn write<W: Write>(
         alloc: Global,
-        records: &Vec<Vec<LentText>>,
+        records: Vec<Vec<LentText>>,
         spans: &SpannedConfig,
         writer: &mut W,
     ) -> Result<io::Result<()>, AllocError>
-        requires { IsEven (grid_of (map_items records.now.items)) }
-        ensures written { IfOk result (λ written. OnOk written (Appends (W.contents writer.old) (W.contents writer.new) (bytes (state_of bytes_of (grid_of (map_items records.now.items)) spans.now)))) }
-        ensures known { IfOk result (λ written. OnOk written (known (state_of bytes_of (grid_of (map_items records.now.items)) spans.now))) }
+        requires { IsEven (grid_of (map_items records.items)) }
+        ensures written { IfOk result (λ written. OnOk written (Appends (W.contents writer.old) (W.contents writer.new) (bytes (state_in records.entry.items spans.now)))) }
+        ensures known { IfOk result (λ written. OnOk written (known (state_in records.entry.items spans.now))) }
         ensures refused { OnErr result (W.contents writer.new ≡ W.contents writer.old) };
 }

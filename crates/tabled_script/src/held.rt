@@ -1,7 +1,7 @@
 //! Bytes that are held until they are written, in room that was asked for before: to hold more takes no memory.
 
 ghost use Rattle.std.specs.Fmt.{decimal};
-ghost use Rattle.std.specs.Prelude.{◌≡◌, ◌+◌, ◌*◌, ◌<◌, ◌≤◌, [], ◌∷◌, ◌++◌, IsTrue, OnOk, length, map};
+ghost use Rattle.std.specs.Prelude.{◌≡◌, ◌+◌, ◌*◌, ◌<◌, ◌≤◌, [], ◌∷◌, ◌++◌, IsFalse, IsTrue, IsUtf8, OnOk, length, map};
 ghost use Rattle.tabled_language.specs.Lent.{bytes_of};
 ghost use Rattle.tabled_language.specs.Output.{escaped, escaped_byte, line};
 ghost use Rattle.tabled_script.specs.Sent.{Sends};
@@ -71,7 +71,7 @@ pub(crate) fn send<W: Write>(writer: &mut W, held: &mut Held) -> io::Result<()>
 }
 
 /// Writes what is held.
-// A call of its own keeps `send` small, which each text calls.
+// A call of its own keeps `send` small, which each row calls.
 #[inline(never)]
 fn write_held<W: Write>(writer: &mut W, held: &mut Held) -> io::Result<()>
     ensures sends { OnOk result (Sends (W.contents writer.old) held.old (W.contents writer.new) held.new []) }
@@ -133,16 +133,33 @@ fn hold_number(held: &mut Held, number: usize)
     hold_byte(held, b'0' + (number % 10) as u8);
 }
 
-/// Holds a tab, and the word that stands for a text.
-pub(crate) fn hold_word(held: &mut Held, text: &LentText)
-    requires { length held.old + 2 * length (bytes_of text.now) < ROOM }
-    ensures { held.new ≡ held.old ++ 9 ∷ escaped (bytes_of text.now) }
+/// Holds a tab, and the word that stands for a text, where the text and what is held are less than a part. Says
+/// whether it did.
+// It only says yes or no: a result of writing would be made, and looked at, for each text.
+pub(crate) fn hold_word(held: &mut Held, text: &LentText) -> bool
+    ensures word { IsTrue result → held.new ≡ held.old ++ 9 ∷ escaped (bytes_of text.now) }
+    ensures text { IsTrue result → IsUtf8 (bytes_of text.now) }
+    ensures less { IsTrue result → length held.new < 2 * PART }
+    ensures unheld { IsFalse result → held.new ≡ held.old }
 {
-    hold_byte(held, b'\t');
     match text.as_word() {
-        Some(word) => hold_bytes(held, word.as_bytes()),
-        None => hold_escaped(held, text.text().as_bytes()),
+        Some(word) => {
+            if PART <= held.len + word.len() {
+                return false;
+            }
+            hold_byte(held, b'\t');
+            hold_bytes(held, word.as_bytes());
+        }
+        None => {
+            let bytes = text.text().as_bytes();
+            if PART <= held.len + bytes.len() {
+                return false;
+            }
+            hold_byte(held, b'\t');
+            hold_escaped(held, bytes);
+        }
     }
+    true
 }
 
 /// Holds the word that stands for the bytes of a text.

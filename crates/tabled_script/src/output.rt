@@ -5,14 +5,13 @@ ghost use Rattle.std.specs.Io.KnownBytes.{Appends};
 ghost use Rattle.std.specs.List.{AllByRecursion, flat_map};
 ghost use Rattle.std.specs.Prelude.{◌≡◌, ◌<◌, ◌≤◌, ◌*◌, [], ◌∷◌, ◌++◌, codes, length, map, OnOk};
 ghost use Rattle.std.specs.Str.{IsUtf8};
-ghost use Rattle.tabled_grid.specs.Grid.{IsEven, grid_of, map_grid, map_items, width_of};
-ghost use Rattle.tabled_grid.specs.Fitting.{Fits};
+ghost use Rattle.tabled_grid.specs.Grid.{IsEven, grid_of, map_items, width_of};
 ghost use Rattle.tabled_language.specs.Lent.{bytes_of};
 ghost use Rattle.tabled_language.specs.Output.{escaped, line, print, span_line, table_lines};
-ghost use Rattle.tabled_language.specs.RoundTrip.{IsTable};
 ghost use Rattle.tabled_language.specs.Word.{largest_size};
+ghost use Rattle.tabled_script.specs.Answer.{IsTableIfFitting};
+ghost use Rattle.tabled_script.specs.InMemory.{state_in, texts_in};
 ghost use Rattle.tabled_script.specs.Sent.{Sends};
-ghost use Rattle.tabled_steps.specs.States.{state_of};
 
 use crate::form::Form;
 use crate::held::{Held, PART, hold_byte, hold_bytes, hold_escaped, hold_numbers, hold_word, send};
@@ -26,17 +25,16 @@ use tabled_language::LentText;
 pub(crate) struct Lines;
 
 impl Form for Lines {
-    ghost use Rattle.tabled_grid.specs.Fitting.{Fits};
     ghost use Rattle.tabled_language.specs.Output.{print};
-    ghost use Rattle.tabled_language.specs.RoundTrip.{IsTable};
+    ghost use Rattle.tabled_script.specs.Answer.{IsTableIfFitting};
 
     ghost bytes = { print };
 
-    ghost known = { λ s. Fits s.spans s.texts.rows s.texts.columns → IsTable s };
+    ghost known = { IsTableIfFitting };
 
     fn write<W: Write>(
         alloc: Global,
-        records: &Vec<Vec<LentText>>,
+        records: Vec<Vec<LentText>>,
         spans: &SpannedConfig,
         writer: &mut W,
     ) -> Result<io::Result<()>, AllocError> {
@@ -49,13 +47,13 @@ impl Form for Lines {
 fn write_lines<W: Write>(
     writer: &mut W,
     held: &mut Held,
-    records: &Vec<Vec<LentText>>,
+    records: Vec<Vec<LentText>>,
     spans: &SpannedConfig,
 ) -> io::Result<()>
-    requires even { IsEven (grid_of (map_items records.now.items)) }
+    requires even { IsEven (grid_of (map_items records.items)) }
     requires unused { held.old ≡ [] }
-    ensures written { OnOk result (Appends (W.contents writer.old) (W.contents writer.new) (print (state_of bytes_of (grid_of (map_items records.now.items)) spans.now))) }
-    ensures known { OnOk result (Fits spans.now ((grid_of (map_items records.now.items)).rows) ((grid_of (map_items records.now.items)).columns) → IsTable (state_of bytes_of (grid_of (map_items records.now.items)) spans.now)) }
+    ensures written { OnOk result (Appends (W.contents writer.old) (W.contents writer.new) (print (state_in records.entry.items spans.now))) }
+    ensures known { OnOk result (IsTableIfFitting (state_in records.entry.items spans.now)) }
 {
     write_table(writer, held, records)?;
     write_spans(writer, held, spans)?;
@@ -67,20 +65,20 @@ fn write_lines<W: Write>(
 fn write_table<W: Write>(
     writer: &mut W,
     held: &mut Held,
-    records: &Vec<Vec<LentText>>,
+    records: Vec<Vec<LentText>>,
 ) -> io::Result<()>
-    requires even { IsEven (grid_of (map_items records.now.items)) }
+    requires even { IsEven (grid_of (map_items records.items)) }
     requires less { length held.old < PART }
-    ensures sends { OnOk result (Sends (W.contents writer.old) held.old (W.contents writer.new) held.new (table_lines (map_grid bytes_of (grid_of (map_items records.now.items))))) }
-    ensures texts { OnOk result (AllByRecursion (AllByRecursion IsUtf8) (map (map bytes_of) (map_items records.now.items))) }
-    ensures sizes { OnOk result ((length (map_items records.now.items) ≤ largest_size) × (width_of (map_items records.now.items) ≤ largest_size)) }
+    ensures sends { OnOk result (Sends (W.contents writer.old) held.old (W.contents writer.new) held.new (table_lines (texts_in records.entry.items))) }
+    ensures texts { OnOk result (AllByRecursion (AllByRecursion IsUtf8) (map (map bytes_of) (map_items records.entry.items))) }
+    ensures sizes { OnOk result ((length (map_items records.entry.items) ≤ largest_size) × (width_of (map_items records.entry.items) ≤ largest_size)) }
     ensures less { OnOk result (length held.new < PART) }
 {
     let shape = [records.count_rows(), records.count_columns()];
     hold_numbers(held, "shape", &shape);
     send(writer, held)?;
     for row in records {
-        write_row(writer, held, row)?;
+        write_row(writer, held, &row)?;
     }
     Ok(())
 }
@@ -94,12 +92,8 @@ fn write_row<W: Write>(writer: &mut W, held: &mut Held, texts: &[LentText]) -> i
 {
     hold_bytes(held, b"row");
     for text in texts {
-        let bytes = text.text();
-        if bytes.len() > PART {
-            write_word(writer, held, bytes)?;
-        } else {
-            hold_word(held, text);
-            send(writer, held)?;
+        if !hold_word(held, text) {
+            write_word(writer, held, text.text())?;
         }
     }
     hold_byte(held, b'\n');

@@ -23,11 +23,11 @@ impl Form for Picture {
 
     fn write<W: Write>(
         alloc: Global,
-        records: &Vec<Vec<LentText>>,
+        records: Vec<Vec<LentText>>,
         spans: &SpannedConfig,
         writer: &mut W,
     ) -> Result<io::Result<()>, AllocError> {
-        let drawing = Drawing::new(alloc, records, spans)?;
+        let drawing = Drawing::new(alloc, &records, spans)?;
         Ok(write_drawing(drawing, writer))
     }
 }

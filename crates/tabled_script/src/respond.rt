@@ -1,12 +1,12 @@
 //! A script read, and what answers it written: its table in a form, its first fault, or that memory ran out.
 
 ghost use Rattle.std.specs.Io.KnownBytes.{Appends};
-ghost use Rattle.std.specs.Prelude.{◌≡◌, ◌⊎◌, ℕ, Ok, Err, IfOk, IfSome, IsOk, MatchResult, OnErr, OnOk};
+ghost use Rattle.std.specs.Prelude.{◌≡◌, ◌⊎◌, ℕ, Ok, Err, IfOk, IfSome, OnErr, OnOk};
 ghost use Rattle.std.specs.String.{string_bytes};
 ghost use Rattle.tabled_language.specs.Script.{parse};
-ghost use Rattle.tabled_language.specs.Parsing.{script_in};
 ghost use Rattle.tabled_language.specs.declared.fault.Fault.{Fault};
-ghost use Rattle.tabled_script.specs.Answer.{Faults, ShowsTable, ended, fault_line, memory_line};
+ghost use Rattle.tabled_script.specs.Answer.{Answers, Faults, Finishes, ShowsState, ShowsTable, ended, fault_line, memory_line};
+ghost use Rattle.tabled_script.specs.InMemory.{said_by};
 
 use crate::form::Form;
 use crate::watched::Watched;
@@ -63,7 +63,7 @@ fn answer<F: Form, W: Write>(
     input: &[u8],
     writer: &mut W,
 ) -> Result<(io::Result<()>, u8), AllocError>
-    ensures answered { IfOk result (λ answered. OnOk answered.0 (((answered.1 ≡ 0) × ShowsTable F.bytes F.known input.now (W.contents writer.old) (W.contents writer.new)) ⊎ ((answered.1 ≡ 2) × Faults input.now (W.contents writer.old) (W.contents writer.new)))) }
+    ensures answered { IfOk result (λ answered. OnOk answered.0 (Answers F.bytes F.known input.now (W.contents writer.old) (W.contents writer.new) answered.1)) }
     ensures refused { OnErr result (W.contents writer.new ≡ W.contents writer.old) }
 {
     match parse(alloc, input)? {
@@ -78,7 +78,7 @@ fn show<F: Form, W: Write>(
     script: Script,
     writer: &mut W,
 ) -> Result<io::Result<()>, AllocError>
-    ensures shown { IfOk result (λ written. OnOk written (Appends (W.contents writer.old) (W.contents writer.new) (F.bytes (ended (script_in script.entry.records.items script.entry.spans script.entry.steps.items))) × F.known (ended (script_in script.entry.records.items script.entry.spans script.entry.steps.items)))) }
+    ensures shown { IfOk result (λ written. OnOk written (ShowsState F.bytes F.known (ended (said_by script.entry)) (W.contents writer.old) (W.contents writer.new))) }
     ensures refused { OnErr result (W.contents writer.new ≡ W.contents writer.old) }
 {
     let Script {
@@ -88,7 +88,7 @@ fn show<F: Form, W: Write>(
     } = script;
     let mut records = padded(records)?;
     match run(alloc, &mut records, &mut spans, steps) {
-        Ok(()) => F::write(alloc, &records, &spans, writer),
+        Ok(()) => F::write(alloc, records, &spans, writer),
         Err((_, error)) => Err(error),
     }
 }
@@ -120,9 +120,7 @@ pub(crate) fn finish<W: Write>(
     writer: &mut W,
     answered: Result<(io::Result<()>, u8), AllocError>,
 ) -> u8
-    ensures { (result ≡ 4) ⊎ MatchResult answered
-        (λ answered. IsOk answered.0 × (result ≡ answered.1) × (W.contents writer.new ≡ W.contents writer.old))
-        (λ _. (result ≡ 3) × Appends (W.contents writer.old) (W.contents writer.new) memory_line) }
+    ensures { Finishes answered result (W.contents writer.old) (W.contents writer.new) }
 {
     let (written, status) = match answered {
         Ok(answered) => answered,

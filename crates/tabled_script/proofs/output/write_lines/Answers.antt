@@ -17,7 +17,7 @@ rowless (row ∷ rows) none = absurd (omega (arith, none))
 
 pub returns-clause-known : goal.returns-clause-known
 returns-clause-known g c =
-    let rows = map_items c.args.records.now.items in
+    let rows = map_items c.args.records.items in
     on_ok c.flush.result (λ fits. record {
       even = IsEven-map_grid bytes_of (grid_of rows) c.requires.even;
       empty = rowless rows;

@@ -1,4 +1,4 @@
-use Rattle.std.proofs.Common.{◌<◌, ◌∷◌, ◌++◌, [], take, map, codes, length}
+use Rattle.std.proofs.Common.{◌<◌, ◌∷◌, ◌++◌, [], map, codes, length}
 use Rattle.std.specs.Fmt.{decimal}
 use Rattle.std.specs.Global.{Vec}
 use Rattle.std.specs.List.{AllByRecursion, flat_map}
@@ -13,9 +13,10 @@ use Rattle.tabled_script.proofs.output.write_table.Given as goal
 
 abbrev pub invariant-loop-row : goal.invariant-loop-row
 invariant-loop-row g l =
-    let shape = line (codes "shape" ∷ decimal (length (map_items l.records.items)) ∷ decimal (width_of (map_items l.records.items)) ∷ []) in
+    let records = l.fn.records.items in
+    let shape = line (codes "shape" ∷ decimal (length (map_items records)) ∷ decimal (width_of (map_items records)) ∷ []) in
     record {
-      sends : Sends (g.W.Write.contents l.fn.writer) l.fn.held (g.W.Write.contents l.writer) l.held (shape ++ flat_map (λ (row : Vec LentText). line (codes "row" ∷ map bytes_of row.items)) (take l.row-index l.records.items));
-      texts : AllByRecursion (λ (row : Vec LentText). AllByRecursion IsUtf8 (map bytes_of row.items)) (take l.row-index l.records.items);
+      sends : Sends (g.W.Write.contents l.fn.writer) l.fn.held (g.W.Write.contents l.writer) l.held (shape ++ flat_map (λ (row : Vec LentText). line (codes "row" ∷ map bytes_of row.items)) l.yielded);
+      texts : AllByRecursion (λ (row : Vec LentText). AllByRecursion IsUtf8 (map bytes_of row.items)) l.yielded;
       less : length l.held < PART;
     }

@@ -1,0 +1,23 @@
+-- What the code's values say of a table and of a script.
+use Rattle.std.specs.Prelude.{ℕ, List}
+use Rattle.std.specs.Global.{Vec}
+use Rattle.tabled_grid.specs.Grid.{Grid, grid_of, map_grid, map_items}
+use Rattle.tabled_grid.specs.Spans.{SpanMap}
+use Rattle.tabled_language.specs.Lent.{bytes_of}
+use Rattle.tabled_language.specs.Parsing.{script_in}
+use Rattle.tabled_language.specs.Script.{Script}
+use Rattle.tabled_language.specs.declared.lent.LentText.{LentText}
+use Rattle.tabled_language.specs.declared.script.Script.{Script as Scripted}
+use Rattle.tabled_steps.specs.States.{State, state_of}
+
+-- the texts of records
+abbrev pub texts_in : List (Vec LentText) → Grid (List ℕ)
+texts_in records = map_grid bytes_of (grid_of (map_items records))
+
+-- the state of records and merged cells
+abbrev pub state_in : List (Vec LentText) → SpanMap → State
+state_in records spans = state_of bytes_of (grid_of (map_items records)) spans
+
+-- what a script says
+abbrev pub said_by : Scripted → Script
+said_by script = script_in script.records.items script.spans script.steps.items
