@@ -3,7 +3,7 @@ use Rattle.std.proofs.Common.{◌≡◌, ℕ, ◌+◌, ◌<◌, ◌≤◌, ◌�
 use Rattle.std.proofs.lemmas.Bool.{cases_eq, cases_lt}
 use Rattle.tabled_grid.specs.Entity.{place}
 use Rattle.tabled_grid.specs.declared.config.position.Position.{Position}
-pub use Rattle.tabled_grid.specs.Midway.{Flat, Hooked, In, Narrow, Sizes, Within}
+pub use Rattle.tabled_grid.specs.Midway.{Flat, Hooked, In, Narrow, Sizes, LieWithin}
 use Rattle.tabled_grid.specs.Spans.{Rectangle, sized}
 use Rattle.tabled_grid.specs.declared.config.size.Size.{Size}
 
@@ -117,7 +117,7 @@ pub swap_cases : {P Q : Type 0} → P ⊎ Q → Q ⊎ P
 swap_cases (inl p) = inr p
 swap_cases (inr q) = inl q
 
-pub within_flipped : (s : Sizes) (rows columns : ℕ) → Within s rows columns → Within (flipped s) columns rows
+pub within_flipped : (s : Sizes) (rows columns : ℕ) → LieWithin s rows columns → LieWithin (flipped s) columns rows
 within_flipped s rows columns within = record { tall = λ a h. within.wide (flip a) (swap_cases h); wide = λ a h. within.tall (flip a) (swap_cases h) }
 
 pub visible_flipped : (s : Sizes) (p : Position) → Visible s p → Visible (flipped s) (flip p)
@@ -132,7 +132,7 @@ hooked_flat s full flat = record { hook = λ a b p ha hb. by_col a b p ha hb (ca
     by_col a b p ha hb (inr right) = inl (record { top = omega (arith, ha.top, ha.bottom, hb.top, hb.bottom, flat.height a, flat.height b); bottom = omega (arith, ha.top, ha.bottom, hb.top, hb.bottom, flat.height a, flat.height b); left = omega arith; right = omega (arith, hb.left, ha.right) })
 
 -- a width that fits keeps rectangles inside
-pub within_widened : (s t : Sizes) (p : Position) (w rows columns : ℕ) → Widened s t p w → 1 ≤ w → p.row < rows → p.col + w ≤ columns → Within s rows columns → Within t rows columns
+pub within_widened : (s t : Sizes) (p : Position) (w rows columns : ℕ) → Widened s t p w → 1 ≤ w → p.row < rows → p.col + w ≤ columns → LieWithin s rows columns → LieWithin t rows columns
 within_widened s t p w rows columns is positive inside fits within = record { tall = λ a. tall a (cases_place a p); wide = λ a. wide a (cases_place a p) }
   where
     height : (1 < (s p).height) ⊎ ((s p).height ≤ 1) → p.row + (s p).height ≤ rows

@@ -53,3 +53,4 @@ pub mod Swaps
 pub mod Tables
 pub mod Through
 pub mod Transposed
+pub mod Turned

@@ -14,7 +14,7 @@ use Rattle.tabled_grid.specs.Fitting.{Fits}
 use Rattle.tabled_grid.specs.Spans.{AreSpanSizes, IsSpanSize, SpanMap, size_at, sized, with_column_span, with_row_span, with_size}
 use Rattle.tabled_grid.specs.declared.config.position.Position.{Position}
 use Rattle.tabled_grid.specs.declared.config.size.Size.{Size}
-use Rattle.tabled_grid.proofs.Geometry.{Flat, Hooked, In, Narrow, Widened, Within, cases_place, flat_flipped, flat_widened, flip, flip_size, flipped, full_flipped, hooked_flat, hooked_flipped, hooked_widened, narrow_flipped, visible_flipped, within_flipped, within_widened}
+use Rattle.tabled_grid.proofs.Geometry.{Flat, Hooked, In, Narrow, Widened, LieWithin, cases_place, flat_flipped, flat_widened, flip, flip_size, flipped, full_flipped, hooked_flat, hooked_flipped, hooked_widened, narrow_flipped, visible_flipped, within_flipped, within_widened}
 use Rattle.tabled_grid.proofs.SpanMaps.{At, at, full, holds-from, holds-true, kept, kept_or_one, none, size_at-none, size_at-some, size_at-with_size, size_at-with_size-other, sizes-drop_hidden, sizes-with_size, some, visible, with_size-other}
 
 -- rectangles that fit
@@ -106,10 +106,10 @@ module _ (m : SpanMap) (p : Position) (w : ℕ) (some_width : 1 ≤ w) where
   sizes_heightened sizes = rw (row_span-is m p w some_width) (sizes-with_size m p (sized w (size_at m p).width) some_width ((full m sizes).width p) sizes)
 
   module _ (rows columns : ℕ) where
-    pub within_wide : p.row < rows → p.col + w ≤ columns → Within (size_at m) rows columns → Within (size_at (with_column_span m p w)) rows columns
+    pub within_wide : p.row < rows → p.col + w ≤ columns → LieWithin (size_at m) rows columns → LieWithin (size_at (with_column_span m p w)) rows columns
     within_wide row fits within = within_widened (size_at m) _ p w rows columns widened some_width row fits within
 
-    pub within_high : p.col < columns → p.row + w ≤ rows → Within (size_at m) rows columns → Within (size_at (with_row_span m p w)) rows columns
+    pub within_high : p.col < columns → p.row + w ≤ rows → LieWithin (size_at m) rows columns → LieWithin (size_at (with_row_span m p w)) rows columns
     within_high col fits within = within_flipped _ columns rows (within_widened (flipped (size_at m)) _ (flip p) w columns rows heightened some_width col fits (within_flipped (size_at m) rows columns within))
 
     -- a width over visible cells
@@ -135,10 +135,10 @@ fold-keeps P step rows columns keeps (p ∷ places) m here start = fold-keeps P 
 
 -- rectangles of one row, or of one column, whatever width or height is set
 
-pub midway_flat : (m : SpanMap) (rows columns : ℕ) → AreSpanSizes m → Flat (size_at m) → Within (size_at m) rows columns → Midway m rows columns
+pub midway_flat : (m : SpanMap) (rows columns : ℕ) → AreSpanSizes m → Flat (size_at m) → LieWithin (size_at m) rows columns → Midway m rows columns
 midway_flat m rows columns sizes flat within = record { sizes = sizes; hooked = hooked_flat (size_at m) (full m sizes) flat; within = within }
 
-pub midway_narrow : (m : SpanMap) (rows columns : ℕ) → AreSpanSizes m → Narrow (size_at m) → Within (size_at m) rows columns → Midway m rows columns
+pub midway_narrow : (m : SpanMap) (rows columns : ℕ) → AreSpanSizes m → Narrow (size_at m) → LieWithin (size_at m) rows columns → Midway m rows columns
 midway_narrow m rows columns sizes narrow within = record { sizes = sizes; hooked = hooked_flipped _ (hooked_flat (flipped (size_at m)) (full_flipped (size_at m) (full m sizes)) (narrow_flipped (size_at m) narrow)); within = within }
 
 pub flat_column_span : (m : SpanMap) (p : Position) (w : ℕ) → 1 ≤ w → Flat (size_at m) → Flat (size_at (with_column_span m p w))

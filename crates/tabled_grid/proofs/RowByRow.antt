@@ -15,7 +15,7 @@ pub record Changed {A : Type 0} (R : List A → List A → Type 0) (old new : Li
   pub same : length new ≡ length old
 
 -- the first of what is left from i on
-first_left : {X : Type 0} (xs : List X) (i : ℕ) (d : X) → get_or (drop i xs) 0 d ≡ get_or xs i d
+pub first_left : {X : Type 0} (xs : List X) (i : ℕ) (d : X) → get_or (drop i xs) 0 d ≡ get_or xs i d
 first_left xs i d = let same : i + 0 ≡ i = omega arith in get_or-drop i xs 0 d ∙ ap (λ n. get_or xs n d) same
 
 module _ {A : Type 0} (R : List A → List A → Type 0) where

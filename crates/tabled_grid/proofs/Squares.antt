@@ -16,7 +16,7 @@ use Rattle.tabled_grid.proofs.Resized.{IsEven-with_cells_swapped}
 use Rattle.tabled_grid.proofs.SwappedCells.{Swaps, views_swapped}
 use Rattle.tabled_grid.proofs.Transposed.{at-transposed, cell_in-is, length-transposed, same_rows, transposed_some, wide-transposed}
 
-wide_enough : (b : Bool) (c more size : ℕ) → (b ≡ true → size ≡ c) → c + more ≡ size → cond b c (c + more) ≡ size
+pub wide_enough : (b : Bool) (c more size : ℕ) → (b ≡ true → size ≡ c) → c + more ≡ size → cond b c (c + more) ≡ size
 wide_enough true c more size none e = let same = none refl in omega (arith, same)
 wide_enough false c more size none e = e
 

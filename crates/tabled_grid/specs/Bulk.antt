@@ -21,6 +21,10 @@ pub record AddsColumns {A : Type 0} (is_blank : A → Type 0) (many : ℕ) (old 
   pub columns : new.columns ≡ (if old.rows == 0 then old.columns else old.columns + many)
   pub each : AllZip (λ (row wide : List A). AddsBlanks is_blank row wide many) old.cells new.cells
 
+-- each row with an item behind it
+abbrev pub with_items_behind : {A : Type 0} → List (List A) → List A → List (List A)
+with_items_behind {A} rows items = map (λ (p : List A × A). p.0 ++ p.1 ∷ []) (zip rows items)
+
 -- rows as columns: the cells of a row are put in front of n rows, one each
 abbrev pub transposed_rows : {A : Type 0} → ℕ → List (List A) → List (List A)
 transposed_rows columns [] = replicate columns []

@@ -20,7 +20,7 @@ pub record Hooked (s : Sizes) : Type 0 where
   pub hook : (a b p : Position) → In (a, s a) p → In (b, s b) p → In (a, s a) b ⊎ In (b, s b) a
 
 -- each rectangle of more than one cell lies inside a table
-pub record Within (s : Sizes) (rows columns : ℕ) : Type 0 where
+pub record LieWithin (s : Sizes) (rows columns : ℕ) : Type 0 where
   pub tall : (a : Position) → (1 < (s a).height) ⊎ (1 < (s a).width) → a.row + (s a).height ≤ rows
   pub wide : (a : Position) → (1 < (s a).height) ⊎ (1 < (s a).width) → a.col + (s a).width ≤ columns
 
@@ -36,4 +36,4 @@ pub record Narrow (s : Sizes) : Type 0 where
 pub record Midway (m : SpanMap) (rows columns : ℕ) : Type 0 where
   pub sizes : AreSpanSizes m
   pub hooked : Hooked (size_at m)
-  pub within : Within (size_at m) rows columns
+  pub within : LieWithin (size_at m) rows columns

@@ -5,7 +5,7 @@ ghost use Rattle.std.specs.FinMap as map;
 ghost use Rattle.std.specs.Ordering.{nat_cmp};
 ghost use Rattle.std.specs.declared.cmp.Ordering.TheVariants.{Less};
 ghost use Rattle.tabled_grid.specs.Entity.{place};
-ghost use Rattle.tabled_grid.specs.Midway.{Flat, In, Midway, Narrow, Within};
+ghost use Rattle.tabled_grid.specs.Midway.{Flat, In, Midway, Narrow, LieWithin};
 ghost use Rattle.tabled_grid.specs.Hidden.{drop_hidden, is_visible};
 ghost use Rattle.tabled_grid.specs.Fitting.{Fits};
 ghost use Rattle.tabled_grid.specs.Axis.{line_of};
@@ -74,8 +74,8 @@ pub fn spans_over_visible_cells_fit_once_hidden_anchors_go()
 
 /// Where all heights are 1, widths may be set over any cells, hidden ones too. Heights alike.
 pub fn flat_spans_fit_once_hidden_anchors_go()
-    ensures flat { (m : SpanMap) (rows columns : ℕ) → AreSpanSizes m → Flat (size_at m) → Within (size_at m) rows columns → Fits (drop_hidden m) rows columns × Flat (size_at (drop_hidden m)) }
-    ensures narrow { (m : SpanMap) (rows columns : ℕ) → AreSpanSizes m → Narrow (size_at m) → Within (size_at m) rows columns → Fits (drop_hidden m) rows columns × Narrow (size_at (drop_hidden m)) }
+    ensures flat { (m : SpanMap) (rows columns : ℕ) → AreSpanSizes m → Flat (size_at m) → LieWithin (size_at m) rows columns → Fits (drop_hidden m) rows columns × Flat (size_at (drop_hidden m)) }
+    ensures narrow { (m : SpanMap) (rows columns : ℕ) → AreSpanSizes m → Narrow (size_at m) → LieWithin (size_at m) rows columns → Fits (drop_hidden m) rows columns × Narrow (size_at (drop_hidden m)) }
 {}
 
 /// A rectangle over cells that no other has keeps merged cells inside and apart.

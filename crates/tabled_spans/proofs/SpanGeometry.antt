@@ -5,7 +5,7 @@ use Rattle.std.specs.List.{AllByRecursion, list_all}
 use Rattle.std.proofs.lemmas.Bool.{cases_Bool}
 use Rattle.tabled_grid.specs.Entity.{inside}
 use Rattle.tabled_grid.specs.Grid.{Grid, map_grid}
-use Rattle.tabled_grid.specs.Midway.{Midway, Within}
+use Rattle.tabled_grid.specs.Midway.{Midway, LieWithin}
 use Rattle.tabled_grid.specs.Hidden.{drop_hidden, is_visible}
 use Rattle.tabled_grid.specs.Fitting.{Fits}
 use Rattle.tabled_grid.specs.Spans.{AreSpanSizes, SpanMap, size_at}
@@ -54,7 +54,7 @@ fits_grown axis size e m rows columns least fits = fits_dropped _ rows columns (
 record AreFlat (axis : Axis) (m : SpanMap) (rows columns : ℕ) : Type 0 where
   pub sizes : AreSpanSizes m
   pub flat : IsFlat axis m
-  pub within : Within (size_at m) rows columns
+  pub within : LieWithin (size_at m) rows columns
 
 flat_span : (axis : Axis) (m : SpanMap) (p : Position) (many rows columns : ℕ) → 1 ≤ many → p.row < rows → p.col < columns → line_of axis p + many ≤ count_of axis rows columns → AreFlat axis m rows columns → AreFlat axis (with_span axis m p many) rows columns
 flat_span Columns m p many rows columns some row col fits flat = record { sizes = sizes_widened m p many some flat.sizes; flat = flat_column_span m p many some flat.flat; within = within_wide m p many some rows columns row fits flat.within }

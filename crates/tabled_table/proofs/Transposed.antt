@@ -7,7 +7,8 @@ use Rattle.std.proofs.lemmas.List.{append_assoc, drop-drop, get_or-map, length-m
 use Rattle.std.proofs.lemmas.List.Elements.{All-from_recursion}
 use Rattle.std.proofs.lemmas.List.FromFn.{length-map-range_with_len}
 use Rattle.std.proofs.lemmas.Simd.{map-map}
-use Rattle.tabled_table.specs.Builder.{AreRecords, row_texts, with_items_behind}
+use Rattle.tabled_table.specs.Builder.{AreRecords, row_texts}
+use Rattle.tabled_grid.specs.Bulk.{with_items_behind}
 use Rattle.tabled_table.specs.Index.{column_of, columns_as_rows}
 use Rattle.tabled_table.proofs.Columns.{first_left}
 use Rattle.tabled_table.proofs.RowTexts.{texts_of}

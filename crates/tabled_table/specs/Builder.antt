@@ -46,10 +46,6 @@ with_items {A} j rows items = map (λ (p : List A × A). insert p.0 j p.1) (zip 
 abbrev pub pushed_items : {A : Type 0} → ℕ → ℕ → A → List (List A) → List A → List (List A)
 pushed_items count n filler rows items = with_items n (padded_to count (replicate n filler) rows) items
 
--- each row with its item after
-abbrev pub with_items_behind : {A : Type 0} → List (List A) → List A → List (List A)
-with_items_behind {A} rows items = map (λ (p : List A × A). p.0 ++ p.1 ∷ []) (zip rows items)
-
 -- each row with its item, or with the empty text, inserted at j
 abbrev pub with_items_at : ℕ → List ℕ → List (List (List ℕ)) → List (List ℕ) → List (List (List ℕ))
 with_items_at j empty rows items = with_items j rows (padded_to (length rows) empty items)

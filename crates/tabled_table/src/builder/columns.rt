@@ -4,7 +4,8 @@ ghost use Rattle.std.specs.Prelude.{◌≡◌, ◌+◌, ◌<◌, ◌≤◌, ◌|
 ghost use Rattle.std.specs.Global.{Global as Heap, Vec};
 ghost use Rattle.std.specs.List.{All, count_by, remove};
 ghost use Rattle.std.specs.String.{string_bytes};
-ghost use Rattle.tabled_table.specs.Builder.{AreRecords, filled_at, has_text_in, only_columns, row_texts, text_columns, with_items, with_items_behind};
+ghost use Rattle.tabled_table.specs.Builder.{AreRecords, filled_at, has_text_in, only_columns, row_texts, text_columns, with_items};
+ghost use Rattle.tabled_grid.specs.Bulk.{with_items_behind};
 ghost use Rattle.tabled_table.specs.Gathering.{brought_forward};
 ghost use Rattle.tabled_table.specs.Index.{column_of, columns_as_rows};
 

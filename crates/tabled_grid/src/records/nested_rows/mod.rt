@@ -4,6 +4,7 @@
 
 pub(super) mod moves;
 mod resizable;
+mod turn;
 
 ghost use Rattle.std.specs.Prelude.{◌≡◌};
 ghost use Rattle.tabled_grid.specs.Grid.{IsEven, IsInside, grid_of, map_items, with_cell};
@@ -19,6 +20,7 @@ use crate::records::records_mut::RecordsMut;
 use moves::width;
 pub use moves::{remove_each, reserve_each};
 use std::alloc::{AllocError, Global};
+pub use turn::turn_rows;
 
 impl<T> GridStore for Vec<Vec<T>> {
     ghost use Rattle.tabled_grid.specs.Grid.{IsEven, grid_of, map_items};

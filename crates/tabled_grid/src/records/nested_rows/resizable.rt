@@ -4,6 +4,7 @@ use super::moves::{
     blank_rows, blanks, insert_blanks, remove_each, swap_cells, swap_each, transpose_square,
     truncate_each, widen_each,
 };
+use super::turn::turn_rows;
 use crate::config::Position;
 use crate::records::axis::Axis;
 use crate::records::blank::Blank;
@@ -13,7 +14,6 @@ use crate::records::piece_order::PieceOrder;
 use crate::records::pieces::cut_lines;
 use crate::records::records::Records;
 use crate::records::resizable::Resizable;
-use crate::records::turn::turn;
 use std::alloc::{AllocError, Global};
 use std::mem;
 
@@ -101,7 +101,8 @@ impl<T: Blank> Resizable for Vec<Vec<T>> {
             transpose_square(self);
             return Ok(());
         }
-        turn(alloc, self)
+        turn_rows(alloc, self, columns)?;
+        Ok(())
     }
 
     fn cut(

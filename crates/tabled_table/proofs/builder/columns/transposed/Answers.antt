@@ -1,7 +1,8 @@
 use Rattle.std.proofs.Common.{◌∙◌, ap, sym, map}
 use Rattle.std.specs.String.{string_bytes}
 use Rattle.std.proofs.lemmas.List.{length-map}
-use Rattle.tabled_table.specs.Builder.{row_texts, with_items_behind}
+use Rattle.tabled_table.specs.Builder.{row_texts}
+use Rattle.tabled_grid.specs.Bulk.{with_items_behind}
 use Rattle.tabled_table.proofs.RowTexts.{rows_written, texts_of, vec_len-texts}
 use Rattle.tabled_table.proofs.Transposed.{length-turned, transposes_more, transposes_none}
 use Rattle.tabled_table.proofs.builder.columns.transposed.Goals as goal
