@@ -1,24 +1,12 @@
 -- Why a reading ends early, by why its parts do.
-use Rattle.std.proofs.Common.{◌≡◌, ℕ, List, Bool, true, false, ◌&&◌, ◌||◌, Result, Ok, refl}
+use Rattle.std.proofs.Common.{◌≡◌, ℕ, List, Result, Ok, refl}
+use Rattle.std.proofs.lemmas.Bool.{or_right}
 use Rattle.std.proofs.lemmas.Result.{err_from_is_err_and}
 use Rattle.std.specs.Result.{IsErrAnd}
 use Rattle.tabled_language.specs.declared.fault.ReadError.{ReadError}
 use Rattle.tabled_language.specs.declared.fault.ReadError.TheVariants.{Faulty, OutOfMemory}
 use Rattle.tabled_language.specs.Parsing.{EndsEarly, Reads}
 use Rattle.tabled_language.specs.Words.{Reading, then_reads}
-
--- what is true of the second of two is true of one
-pub or_later : (x y : Bool) → y ≡ true → (x || y) ≡ true
-or_later false y e = e
-or_later true y e = refl
-
-pub or_false : (x : Bool) → (x || false) ≡ x
-or_false true = refl
-or_false false = refl
-
-pub and_false : (x : Bool) → (x && false) ≡ false
-and_false true = refl
-and_false false = refl
 
 -- the first of two readings ends early
 pub ends_first : {A B : Type 0} (first : Reading A) (next : A → Reading B) (texts : List (List ℕ)) (error : ReadError) → EndsEarly first texts error → EndsEarly (then_reads first next) texts error
@@ -28,7 +16,7 @@ ends_first first next texts OutOfMemory told = rw told refl
 -- the second does
 pub ends_later : {A B : Type 0} (first : Reading A) (next : A → Reading B) (texts left : List (List ℕ)) (x : A) (error : ReadError) → first.reads texts ≡ Ok (x, left) → EndsEarly (next x) left error → EndsEarly (then_reads first next) texts error
 ends_later first next texts left x (Faulty fault) is told = rw is told
-ends_later first next texts left x OutOfMemory is told = or_later (first.asks texts) _ (rw is told)
+ends_later first next texts left x OutOfMemory is told = or_right (first.asks texts) _ (rw is told)
 
 -- a reading that ended early, handed on by `?`
 pub handed_on : {A X : Type 0} (view : X → A) (reading : Reading A) (old : List (List ℕ)) (r : Result X ReadError) (new : List (List ℕ)) (error : ReadError) → IsErrAnd r (λ e. e ≡ error) → EndsEarly reading old error → Reads view reading old r new

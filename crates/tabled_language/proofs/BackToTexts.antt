@@ -7,17 +7,15 @@ use Rattle.std.proofs.lemmas.List.{append_assoc}
 use Rattle.std.proofs.lemmas.List.Elements.{All-from_recursion}
 use Rattle.std.proofs.lemmas.List.Splits.{slice_split_at, slice_split_none}
 use Rattle.std.proofs.lemmas.Str.{is_utf8-from_IsUtf8}
+use Rattle.tabled_grid.proofs.Lists.{all-append}
 use Rattle.tabled_language.specs.Line.{lines_of, texts_of, words_of}
 use Rattle.tabled_language.specs.Output.{escaped, escaped_byte, tab_separated, line}
 use Rattle.tabled_language.specs.Word.{before, text_of_word, unescaped}
+use Rattle.tabled_language.proofs.Escapes.{unescaped-plain}
 
 -- a byte stands nowhere in a list
 abbrev pub Lacks : ℕ → List ℕ → Type 0
 Lacks at bytes = AllByRecursion (λ b. eqb b at ≡ false) bytes
-
-unescaped-plain : (b : ℕ) (bs : List ℕ) → eqb b 92 ≡ false → unescaped (b ∷ bs) ≡ before b (unescaped bs)
-unescaped-plain b [] e = rw e refl
-unescaped-plain b (c ∷ bs) e = rw e refl
 
 -- a byte's escape is undone, whatever follows
 unescaped-byte : (b : ℕ) (bs : List ℕ) → unescaped (escaped_byte b ++ bs) ≡ before b (unescaped bs)
@@ -41,10 +39,6 @@ pub texts_of-escaped : (texts : List (List ℕ)) → AllByRecursion IsUtf8 texts
 texts_of-escaped [] utf8 = refl
 texts_of-escaped (text ∷ texts) utf8 = rw (text_of_word-escaped text utf8.0, texts_of-escaped texts utf8.1) refl
 
-lacks-append : (at : ℕ) (bs cs : List ℕ) → Lacks at bs → Lacks at cs → Lacks at (bs ++ cs)
-lacks-append at [] cs h k = k
-lacks-append at (b ∷ bs) cs h k = (h.0, lacks-append at bs cs h.1 k)
-
 lacks-byte : (at b : ℕ) → eqb 92 at ≡ false → eqb 116 at ≡ false → eqb 110 at ≡ false → (eqb b 9 ≡ false → eqb b 10 ≡ false → eqb b at ≡ false) → Lacks at (escaped_byte b)
 lacks-byte at b slash t n plain = go (eqb b 9) (eqb b 10) (eqb b 92) refl refl
   where
@@ -57,11 +51,11 @@ lacks-byte at b slash t n plain = go (eqb b 9) (eqb b 10) (eqb b 92) refl refl
 -- no tab and no newline stands in a word that was written
 pub lacks_tab : (text : List ℕ) → Lacks 9 (escaped text)
 lacks_tab [] = tt
-lacks_tab (b ∷ bs) = lacks-append 9 (escaped_byte b) (escaped bs) (lacks-byte 9 b refl refl refl (λ tab newline. tab)) (lacks_tab bs)
+lacks_tab (b ∷ bs) = all-append (λ c. eqb c 9 ≡ false) (escaped_byte b) (escaped bs) (lacks-byte 9 b refl refl refl (λ tab newline. tab)) (lacks_tab bs)
 
 pub lacks_newline : (text : List ℕ) → Lacks 10 (escaped text)
 lacks_newline [] = tt
-lacks_newline (b ∷ bs) = lacks-append 10 (escaped_byte b) (escaped bs) (lacks-byte 10 b refl refl refl (λ tab newline. newline)) (lacks_newline bs)
+lacks_newline (b ∷ bs) = all-append (λ c. eqb c 10 ≡ false) (escaped_byte b) (escaped bs) (lacks-byte 10 b refl refl refl (λ tab newline. newline)) (lacks_newline bs)
 
 -- words joined by a byte that stands in none of them are parted at it
 pub split-joined : (at : ℕ) (word : List ℕ) (words : List (List ℕ)) → Lacks at word → AllByRecursion (Lacks at) words → slice_split (λ b. eqb b at) (join_with_byte at (word ∷ words)) ≡ word ∷ words
@@ -84,7 +78,7 @@ texts_of-joined text texts here others = ap texts_of (words_of-joined text texts
 join-lacks : (at c : ℕ) (words : List (List ℕ)) → eqb c at ≡ false → AllByRecursion (Lacks at) words → Lacks at (join_with_byte c words)
 join-lacks at c [] other all = tt
 join-lacks at c (word ∷ []) other all = all.0
-join-lacks at c (word ∷ next ∷ words) other all = lacks-append at word (c ∷ join_with_byte c (next ∷ words)) all.0 (other, join-lacks at c (next ∷ words) other all.1)
+join-lacks at c (word ∷ next ∷ words) other all = all-append (λ b. eqb b at ≡ false) word (c ∷ join_with_byte c (next ∷ words)) all.0 (other, join-lacks at c (next ∷ words) other all.1)
 
 all_lack_newline : (texts : List (List ℕ)) → AllByRecursion (Lacks 10) (map escaped texts)
 all_lack_newline [] = tt

@@ -3,8 +3,8 @@ use Rattle.std.proofs.Common.{◌≡◌, ℕ, ◌+◌, ◌<◌, ◌≤◌, ◌�
 use Rattle.std.specs.Prelude.{Option, None, Some, MatchBool, is_some, nat_le}
 use Rattle.std.specs.BTreeMap.{BTreeMap, get}
 use Rattle.std.specs.Ordering.{is_eq, nat_cmp}
-use Rattle.std.proofs.lemmas.Bool.{cases_lt, leb-true}
-use Rattle.std.proofs.lemmas.Bool.Decides.{leb_tells, nat_tests}
+use Rattle.std.proofs.lemmas.Bool.{cases_lt, leb-false, leb-true}
+use Rattle.std.proofs.lemmas.Bool.Decides.{nat_tests}
 use Rattle.std.proofs.lemmas.Option.{none-some, same_Some}
 use Rattle.tabled_language.specs.Walk.{AreBeside, AreKeyed, EndsAbove, IsBeside, IsClear, IsLastBefore, IsLeft, IsMet, NoneBefore}
 use Rattle.tabled_grid.specs.Spans.{Rectangle}
@@ -27,7 +27,7 @@ module _ (old m : BTreeMap ℕ Rectangle) (e : Rectangle) (keyed : AreKeyed old)
 
   -- the last one that does reaches the row, so it decides
   pub clear-last : (near : Rectangle) (b : Bool) → IsLastBefore m (e.0.col + e.1.width) near → e.0.row < near.0.row + near.1.height → b ≡ nat_le (near.0.col + near.1.width) e.0.col → MatchBool b (IsClear old e) (IsMet old e)
-  clear-last near b last reach told = by b (leb_tells (near.0.col + near.1.width) e.0.col) told
+  clear-last near b last reach told = by b told
     where
       here : get nat_cmp old last.0 ≡ Some near
       here = left.kept last.0 near last.2
@@ -41,19 +41,12 @@ module _ (old m : BTreeMap ℕ Rectangle) (e : Rectangle) (keyed : AreKeyed old)
           near_is : get nat_cmp m r ≡ Some f → r ≡ last.0 → f ≡ near
           near_is still same = same_Some f near (sym still ∙ ap (get nat_cmp m) same ∙ last.2)
 
-          reached : EndsAbove e.0.row f ⊎ (e.0.row < f.0.row + f.1.height) → r < last.0 → EndsAbove e.0.row f ⊎ IsBeside e f
-          reached (inl above) before = inl above
-          reached (inr reaches) before = inr (inl (omega (arith, ends, at, beside r last.0 f near is here before reaches reach)))
-
-          either : (f.0.row + f.1.height ≤ e.0.row) ⊎ (e.0.row < f.0.row + f.1.height)
-          either = turned (cases_lt e.0.row (f.0.row + f.1.height))
-            where
-              turned : (e.0.row < f.0.row + f.1.height) ⊎ (f.0.row + f.1.height ≤ e.0.row) → (f.0.row + f.1.height ≤ e.0.row) ⊎ (e.0.row < f.0.row + f.1.height)
-              turned (inl x) = inr x
-              turned (inr x) = inl x
+          reached : (e.0.row < f.0.row + f.1.height) ⊎ EndsAbove e.0.row f → r < last.0 → EndsAbove e.0.row f ⊎ IsBeside e f
+          reached (inl reaches) before = inr (inl (omega (arith, ends, at, beside r last.0 f near is here before reaches reach)))
+          reached (inr above) before = inl above
 
           order : get nat_cmp m r ≡ Some f → (r < last.0) ⊎ (last.0 ≤ r) → (last.0 < r) ⊎ (r ≤ last.0) → (r < e.0.col + e.1.width) ⊎ (e.0.col + e.1.width ≤ r) → EndsAbove e.0.row f ⊎ IsBeside e f
-          order still (inl before) later within = reached either before
+          order still (inl before) later within = reached (cases_lt e.0.row (f.0.row + f.1.height)) before
           order still (inr from) (inl behind) (inl within) = absurd (none-some f (sym (last.3 r behind within) ∙ still))
           order still (inr from) (inl behind) (inr after) = past r f still after
           order still (inr from) (inr to) within = subst (λ (a : Rectangle). EndsAbove e.0.row a ⊎ IsBeside e a) (sym (near_is still (omega (arith, from, to)))) (inr (inl ends))
@@ -65,17 +58,9 @@ module _ (old m : BTreeMap ℕ Rectangle) (e : Rectangle) (keyed : AreKeyed old)
       met : e.0.col < near.0.col + near.1.width → IsMet old e
       met over = (last.0, near, here, reach, omega (arith, at, last.1), over)
 
-      by : (c : Bool) → ((nat_le (near.0.col + near.1.width) e.0.col ≡ true) × (near.0.col + near.1.width ≤ e.0.col)) ⊎ ((nat_le (near.0.col + near.1.width) e.0.col ≡ false) × (e.0.col < near.0.col + near.1.width)) → c ≡ nat_le (near.0.col + near.1.width) e.0.col → MatchBool c (IsClear old e) (IsMet old e)
-      by true (inl (t, ends)) is = clear ends
-      by true (inr (t, over)) is = absurd (never (is ∙ t))
-        where
-          never : true ≡ false → ⊥
-          never x = cc
-      by false (inl (t, ends)) is = absurd (never (sym (is ∙ t)))
-        where
-          never : true ≡ false → ⊥
-          never x = cc
-      by false (inr (t, over)) is = met over
+      by : (c : Bool) → c ≡ nat_le (near.0.col + near.1.width) e.0.col → MatchBool c (IsClear old e) (IsMet old e)
+      by true is = clear (leb-true _ _ (sym is))
+      by false is = met (leb-false _ _ (sym is))
 
   -- one that ends above is taken away
   pub left-less : (near : Rectangle) (new : BTreeMap ℕ Rectangle) → IsLastBefore m (e.0.col + e.1.width) near → EndsAbove e.0.row near → ((q : ℕ) → get nat_cmp new q ≡ cond (is_eq (nat_cmp near.0.col q)) None (get nat_cmp m q)) → IsLeft e.0.row old new
@@ -109,14 +94,7 @@ last_here old m row end near keyed left last = ap (get nat_cmp m) (keyed last.0 
 
 -- what the tests of a row say
 pub reaches : (b : Bool) (end row : ℕ) → b ≡ nat_le end row → b ≡ false → row < end
-reaches b end row told is = by (leb_tells end row)
-  where
-    never : true ≡ false → ⊥
-    never x = cc
-
-    by : ((nat_le end row ≡ true) × (end ≤ row)) ⊎ ((nat_le end row ≡ false) × (row < end)) → row < end
-    by (inl (t, above)) = absurd (never (sym t ∙ sym told ∙ is))
-    by (inr (t, below)) = below
+reaches b end row told is = leb-false end row (sym told ∙ is)
 
 pub ends_above : (b : Bool) (end row : ℕ) → b ≡ nat_le end row → b ≡ true → end ≤ row
 ends_above b end row told is = leb-true end row (sym told ∙ is)

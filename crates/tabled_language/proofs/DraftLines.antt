@@ -3,6 +3,7 @@ use Rattle.std.proofs.Common.{◌≡◌, ℕ, ◌+◌, ◌&&◌, Bool, true, fal
 use Rattle.std.specs.Prelude.{filter_map}
 use Rattle.std.specs.List.{AllByRecursion}
 use Rattle.std.specs.Option.{is_none}
+use Rattle.std.proofs.lemmas.Bool.{and_right}
 use Rattle.std.proofs.lemmas.List.{length-append}
 use Rattle.std.proofs.lemmas.List.Folds.{list_all-append}
 use Rattle.tabled_grid.specs.Grid.{Grid}
@@ -22,27 +23,15 @@ IsSound (SpanLine (Err fault)) = ⊥
 IsSound (FaultyLine fault) = ⊥
 IsSound line = Unit {0}
 
-and_false : (a : Bool) → (a && false) ≡ false
-and_false true = refl
-and_false false = refl
-
-and_both : (a b : Bool) → (a && (b && false)) ≡ false
-and_both a true = and_false a
-and_both a false = and_false a
-
-and_three : (a b c : Bool) → (a && (b && (c && false))) ≡ false
-and_three a b true = and_both a b
-and_three a b false = and_both a b
-
 shape_place : (read : Result (ℕ × ℕ) Fault) (n : ℕ) (lines : List Line) → AllByRecursion IsSound lines → is_in_place lines (ShapeLine read) ≡ (is_none (shape_among n lines) && (is_nil (filter_map record_in lines) && (is_nil (filter_map anchor_in lines) && is_nil (filter_map step_in lines))))
 shape_place read n [] sound = refl
 shape_place read n (EmptyLine ∷ lines) sound = shape_place read (n + 1) lines sound.1
 shape_place read n (ShapeLine (Ok shape) ∷ lines) sound = refl
 shape_place read n (ShapeLine (Err fault) ∷ lines) sound = absurd sound.0
-shape_place read n (RecordLine texts ∷ lines) sound = sym (and_false (is_none (shape_among (n + 1) lines)))
-shape_place read n (SpanLine (Ok e) ∷ lines) sound = sym (and_both (is_none (shape_among (n + 1) lines)) (is_nil (filter_map record_in lines)))
+shape_place read n (RecordLine texts ∷ lines) sound = sym (and_right (is_none (shape_among (n + 1) lines)) false refl)
+shape_place read n (SpanLine (Ok e) ∷ lines) sound = sym (and_right (is_none (shape_among (n + 1) lines)) _ (and_right (is_nil (filter_map record_in lines)) false refl))
 shape_place read n (SpanLine (Err fault) ∷ lines) sound = absurd sound.0
-shape_place read n (StepLine step ∷ lines) sound = sym (and_three (is_none (shape_among (n + 1) lines)) (is_nil (filter_map record_in lines)) (is_nil (filter_map anchor_in lines)))
+shape_place read n (StepLine step ∷ lines) sound = sym (and_right (is_none (shape_among (n + 1) lines)) _ (and_right (is_nil (filter_map record_in lines)) _ (and_right (is_nil (filter_map anchor_in lines)) false refl)))
 shape_place read n (FaultyLine fault ∷ lines) sound = absurd sound.0
 
 record_place : (texts : List (List ℕ)) (lines : List Line) → AllByRecursion IsSound lines → is_in_place lines (RecordLine texts) ≡ (is_nil (filter_map anchor_in lines) && is_nil (filter_map step_in lines))
@@ -53,7 +42,7 @@ record_place texts (ShapeLine (Err fault) ∷ lines) sound = absurd sound.0
 record_place texts (RecordLine others ∷ lines) sound = record_place texts lines sound.1
 record_place texts (SpanLine (Ok e) ∷ lines) sound = refl
 record_place texts (SpanLine (Err fault) ∷ lines) sound = absurd sound.0
-record_place texts (StepLine step ∷ lines) sound = sym (and_false (is_nil (filter_map anchor_in lines)))
+record_place texts (StepLine step ∷ lines) sound = sym (and_right (is_nil (filter_map anchor_in lines)) false refl)
 record_place texts (FaultyLine fault ∷ lines) sound = absurd sound.0
 
 span_place : (read : Result Rectangle Fault) (lines : List Line) → AllByRecursion IsSound lines → is_in_place lines (SpanLine read) ≡ is_nil (filter_map step_in lines)
@@ -118,7 +107,7 @@ blocked-push earlier line blocked read = list_all-append (may_follow (ShapeLine 
 
 blocked_by : (earlier : List Line) (shape : ℕ × ℕ) → Blocked (earlier ++ ShapeLine (Ok shape) ∷ [])
 unfolding Blocked
-blocked_by earlier shape read = list_all-append (may_follow (ShapeLine read)) earlier (ShapeLine (Ok shape) ∷ []) ∙ and_false (is_in_place earlier (ShapeLine read))
+blocked_by earlier shape read = list_all-append (may_follow (ShapeLine read)) earlier (ShapeLine (Ok shape) ∷ []) ∙ and_right (is_in_place earlier (ShapeLine read)) false refl
 
 none_behind : (g : Grid (List ℕ)) (lines earlier : List Line) → Blocked earlier → first_fault fault_of earlier lines ≡ None → first_fault (shape_fault g) earlier lines ≡ None
 unfolding Blocked

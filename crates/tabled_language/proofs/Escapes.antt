@@ -1,6 +1,6 @@
 -- Escapes undone byte by byte.
-use Rattle.std.proofs.Common.{◌≡◌, ℕ, Bool, true, false, cond, eqb, ◌||◌, List, [], ◌∷◌, ◌++◌, Option, Some, None, refl, sym, ap, ◌∙◌}
-use Rattle.std.proofs.lemmas.Bool.{false≢true}
+use Rattle.std.proofs.Common.{◌≡◌, ℕ, Bool, true, false, cond, eqb, List, [], ◌∷◌, ◌++◌, Option, Some, None, refl, sym, ap, ◌∙◌}
+use Rattle.std.proofs.lemmas.Bool.{or_parts}
 use Rattle.std.proofs.lemmas.List.{append_assoc}
 use Rattle.std.specs.List.{list_any}
 use Rattle.std.specs.Option.{option_map, option_and_then}
@@ -27,22 +27,12 @@ pub unescaped-plain : (b : ℕ) (bs : List ℕ) → eqb b 92 ≡ false → unesc
 unescaped-plain b [] e = rw e refl
 unescaped-plain b (c ∷ bs) e = rw e refl
 
--- neither of two is true where their disjunction is false
-pub or-false-left : (x y : Bool) → (x || y) ≡ false → x ≡ false
-or-false-left false y h = refl
-or-false-left true y h = h
-
-pub or-false-right : (x y : Bool) → (x || y) ≡ false → y ≡ false
-or-false-right false y h = h
-or-false-right true y h = absurd (false≢true (sym h))
-
 -- a word without backslashes is its text
 pub unescaped-clean : (bs : List ℕ) → list_any (λ b. eqb b 92) bs ≡ false → unescaped bs ≡ Some bs
 unescaped-clean [] e = refl
 unescaped-clean (b ∷ bs) e =
-    let head : eqb b 92 ≡ false = or-false-left (eqb b 92) _ e in
-    let tail : list_any (λ c. eqb c 92) bs ≡ false = or-false-right (eqb b 92) _ e in
-    unescaped-plain b bs head ∙ ap (before b) (unescaped-clean bs tail)
+    let parts = or_parts (eqb b 92) _ e in
+    unescaped-plain b bs parts.0 ∙ ap (before b) (unescaped-clean bs parts.1)
 
 -- one byte further, after a backslash
 pub escape_more : (bytes bs : List ℕ) (b e : ℕ) → escape b ≡ Some e → all_before bytes (unescaped (92 ∷ b ∷ bs)) ≡ all_before (bytes ++ e ∷ []) (unescaped bs)

@@ -7,7 +7,7 @@ use Rattle.std.specs.Ordering.{MatchOrdering, is_lt, nat_cmp}
 use Rattle.std.specs.declared.cmp.Ordering.{Ordering}
 use Rattle.std.specs.declared.cmp.Ordering.TheVariants.{Less}
 use Rattle.std.specs.declared.ops.Bound.TheVariants.{Excluded, Unbounded}
-use Rattle.std.proofs.lemmas.Bool.{lt-ltb}
+use Rattle.std.proofs.lemmas.Bool.{false≢true, lt-ltb}
 use Rattle.std.proofs.lemmas.Cmp.{ranked}
 use Rattle.tabled_grid.specs.Spans.{Rectangle}
 
@@ -21,9 +21,6 @@ below_when_before q n is = subst (λ (o : Ordering). MatchOrdering o (q < n) (q 
 pub none_between : (m : BTreeMap ℕ Rectangle) (n : ℕ) (r t : List (ℕ × Rectangle)) (e : ℕ × Rectangle) → IsRangeOf nat_cmp Unbounded (Excluded n) m r → r ≡ t ++ e ∷ [] → (q : ℕ) → e.0 < q → q < n → get nat_cmp m q ≡ None
 none_between m n r t e h ends q above below = by (get nat_cmp m q) refl
   where
-    never : false ≡ true → ⊥
-    never x = cc
-
     by : (o : Option Rectangle) → get nat_cmp m q ≡ o → get nat_cmp m q ≡ None
     by None is = is
-    by (Some f) is = absurd (never (sym (h.4 e t ends q (tt, before q n below) (ap is_some is)) ∙ ap is_lt (before e.0 q above)))
+    by (Some f) is = absurd (false≢true (sym (h.4 e t ends q (tt, before q n below) (ap is_some is)) ∙ ap is_lt (before e.0 q above)))

@@ -9,7 +9,7 @@ use Rattle.std.specs.List.Sorted.{IsPermutation, IsSortedByKey}
 use Rattle.std.specs.Ordering.{is_eq, is_lt, ordering_reverse}
 use Rattle.std.specs.declared.cmp.Ordering.{Ordering}
 use Rattle.std.specs.declared.cmp.Ordering.TheVariants.{Less, Equal, Greater}
-use Rattle.std.proofs.lemmas.Bool.{cases_Bool, cases_lt, lt-ltb, and_from, and_parts, not-true, not_from_false, or_parts, or_from, false_from_ne_true}
+use Rattle.std.proofs.lemmas.Bool.{cases_Bool, cases_lt, lt-ltb, and_from, and_parts, not-true, not_from_false, or_parts, or_from, false_from_ne_true, false≢true, true≢false}
 use Rattle.std.proofs.lemmas.List.{append-nil, append_assoc, take_more}
 use Rattle.std.proofs.lemmas.List.Elements.{All-from_recursion, recursion_from_All}
 use Rattle.std.proofs.lemmas.List.Sorted.{All-permutation, IsPermutation-sym}
@@ -107,14 +107,8 @@ sorted-rising (e ∷ f ∷ es) h =
 -- neighbours in order, none of which shares a cell with another, rise
 not_above : (e f : Rectangle) → meets e f ≡ false → IsSpanSize e.1 → IsSpanSize f.1 → is_lt (position_cmp f.0 e.0) ≡ false → (o : Ordering) → position_cmp e.0 f.0 ≡ o → is_lt (position_cmp e.0 f.0) ≡ true
 not_above e f apart s t low Less is = rw is refl
-not_above e f apart s t low Equal is = absurd (never (sym (same_meet e f s t (positions_exact e.0 f.0 is)) ∙ apart))
-  where
-    never : true ≡ false → ⊥
-    never h = cc
-not_above e f apart s t low Greater is = absurd (never (sym low ∙ ap is_lt (positions_total.antisymm f.0 e.0 ∙ ap ordering_reverse is)))
-  where
-    never : false ≡ true → ⊥
-    never h = cc
+not_above e f apart s t low Equal is = absurd (true≢false (sym (same_meet e f s t (positions_exact e.0 f.0 is)) ∙ apart))
+not_above e f apart s t low Greater is = absurd (false≢true (sym low ∙ ap is_lt (positions_total.antisymm f.0 e.0 ∙ ap ordering_reverse is)))
 
 pub rising-sorted : (es : List Rectangle) → AllByRecursion (λ (e : Rectangle). IsSpanSize e.1) es → IsDistinct meets es → IsSortedByKey (λ (e : Rectangle). e.0) position_cmp es → rising es ≡ true
 unfolding IsDistinct
@@ -217,11 +211,8 @@ map_is es fs h high = same_map positions_total positions_exact _ _ (λ q. get-fr
 row_le : (p q : Position) → is_lt (position_cmp q p) ≡ false → p.row ≤ q.row
 row_le p q low = by (cases_lt q.row p.row)
   where
-    never : true ≡ false → ⊥
-    never e = cc
-
     by : (q.row < p.row) ⊎ (p.row ≤ q.row) → p.row ≤ q.row
-    by (inl below) = absurd (never (sym (rw (lt-ltb q.row p.row below) refl) ∙ low))
+    by (inl below) = absurd (true≢false (sym (rw (lt-ltb q.row p.row below) refl) ∙ low))
     by (inr past) = past
 
 -- so sorted anchors rise by rows
@@ -247,9 +238,6 @@ map_of_sorted rows columns es fs h fit = let up = rises rows columns es fs h fit
 pub told : (rows columns : ℕ) (es fs : List Rectangle) → IsPermutation es fs → fit_in rows columns fs ≡ fit_in rows columns es
 told rows columns es fs moved = by (cases_Bool (fit_in rows columns fs))
   where
-    never : true ≡ false → ⊥
-    never e = cc
-
     by : (fit_in rows columns fs ≡ true) ⊎ (fit_in rows columns fs ≡ false) → fit_in rows columns fs ≡ fit_in rows columns es
     by (inl fit) = fit ∙ sym (fit_back rows columns es fs moved fit)
-    by (inr unfit) = unfit ∙ sym (false_from_ne_true _ (λ fit. never (sym (fit_back rows columns fs es (IsPermutation-sym es fs moved) fit) ∙ unfit)))
+    by (inr unfit) = unfit ∙ sym (false_from_ne_true _ (λ fit. true≢false (sym (fit_back rows columns fs es (IsPermutation-sym es fs moved) fit) ∙ unfit)))

@@ -3,17 +3,13 @@ use Rattle.std.proofs.Common.{◌≡◌, ℕ, zero, suc, ◌+◌, ◌<◌, ◌�
 use Rattle.std.proofs.lemmas.Bool.Decides.{leb_tells}
 use Rattle.std.proofs.lemmas.List.{length-drop}
 use Rattle.std.proofs.lemmas.Str.{IsCharBoundary-after_ascii, IsCharBoundary-before_ascii, IsUtf8-drop, IsUtf8-from_is_utf8, IsUtf8-take, is_utf8-from_IsUtf8}
-use Rattle.std.specs.List.{AllByRecursion, list_any, position_or_len}
+use Rattle.std.specs.List.{AllByRecursion, position_or_len}
 use Rattle.std.specs.Str.{IsUtf8, is_utf8}
-use Rattle.tabled_language.specs.Line.{is_plain, texts_of, words_of}
+use Rattle.tabled_language.specs.Line.{has_byte, is_plain, texts_of, words_of}
 use Rattle.tabled_language.specs.Word.{text_of_word}
-use Rattle.tabled_language.proofs.OwnWords.{parts_lack}
-use Rattle.tabled_language.proofs.Separated.{byte_at_place, one_part, part_and_others}
-use Rattle.tabled_language.proofs.Escapes.{or-false-left, or-false-right, unescaped-clean}
-
--- a backslash stands in a word
-abbrev pub has_backslash : List ℕ → Bool
-has_backslash word = list_any (λ b. eqb b 92) word
+use Rattle.tabled_language.proofs.OwnWords.{LackEach, parts_lack}
+use Rattle.tabled_language.proofs.Separated.{ascii_at_place, one_part, part_and_others}
+use Rattle.tabled_language.proofs.Escapes.{unescaped-clean}
 
 words_of-utf8 : (n : ℕ) (line : List ℕ) → length line < n → IsUtf8 line → AllByRecursion IsUtf8 (words_of line)
 words_of-utf8 zero line short text = absurd (omega (arith, short))
@@ -25,24 +21,24 @@ words_of-utf8 (suc n) line short text = by (leb_tells (length line) i) (words_of
     by : ((leb (length line) i ≡ true) × (length line ≤ i)) ⊎ ((leb (length line) i ≡ false) × (i < length line)) → ((others : List ℕ) → length others < n → IsUtf8 others → AllByRecursion IsUtf8 (words_of others)) → AllByRecursion IsUtf8 (words_of line)
     by (inl (_, past)) later = subst (AllByRecursion IsUtf8) (sym (one_part 9 line past)) (text, tt)
     by (inr (_, within)) later =
-        let ascii : get_or line i 0 < 128 = omega (arith, byte_at_place 9 line i refl within) in
+        let ascii = ascii_at_place 9 line i (omega arith) refl within in
         let first = IsUtf8-take line i text (IsCharBoundary-before_ascii line i within ascii) in
         let behind = IsUtf8-drop line (i + 1) text (IsCharBoundary-after_ascii line i text within ascii) in
         let others = later (drop (i + 1) line) (omega (arith, short, within, length-drop (i + 1) line)) behind in
         subst (AllByRecursion IsUtf8) (sym (part_and_others 9 line i refl within)) (first, others)
 
-texts_of-clean : (words : List (List ℕ)) → AllByRecursion IsUtf8 words → list_any has_backslash words ≡ false → texts_of words ≡ Some words
+texts_of-clean : (words : List (List ℕ)) → AllByRecursion IsUtf8 words → LackEach 92 words → texts_of words ≡ Some words
 texts_of-clean [] texts clean = refl
 texts_of-clean (word ∷ words) texts clean =
-    let plain : text_of_word word ≡ Some word = rw (unescaped-clean word (or-false-left (has_backslash word) _ clean), is_utf8-from_IsUtf8 word texts.0) refl in
-    rw (plain, texts_of-clean words texts.1 (or-false-right (has_backslash word) _ clean)) refl
+    let plain : text_of_word word ≡ Some word = rw (unescaped-clean word clean.0, is_utf8-from_IsUtf8 word texts.0) refl in
+    rw (plain, texts_of-clean words texts.1 clean.1) refl
 
 -- the words of a text without a backslash are their own texts
-pub texts_of-plain : (line : List ℕ) → IsUtf8 line → has_backslash line ≡ false → texts_of (words_of line) ≡ Some (words_of line)
+pub texts_of-plain : (line : List ℕ) → IsUtf8 line → has_byte 92 line ≡ false → texts_of (words_of line) ≡ Some (words_of line)
 texts_of-plain line text clean = texts_of-clean (words_of line) (words_of-utf8 (length line + 1) line (omega arith) text) (parts_lack 92 9 line clean)
 
 -- such a text is a plain line
-pub plain_line : (line : List ℕ) → IsUtf8 line → has_backslash line ≡ false → is_plain line ≡ true
+pub plain_line : (line : List ℕ) → IsUtf8 line → has_byte 92 line ≡ false → is_plain line ≡ true
 plain_line line text clean = rw (is_utf8-from_IsUtf8 line text, clean) refl
 
 -- bytes that are no text aren't

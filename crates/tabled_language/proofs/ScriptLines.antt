@@ -3,7 +3,7 @@ use Rattle.std.specs.Prelude.{codes, map, is_ok}
 use Rattle.std.specs.Str.{bytes_eq}
 use Rattle.std.proofs.lemmas.Slice.Eq.{bytes_eq-Decides}
 use Rattle.std.proofs.Common.{◌≡◌, ◌≢◌, ℕ, Bool, true, false, cond, ◌+◌, ◌<◌, List, [], ◌∷◌, ◌++◌, ◌&&◌, length, Option, Some, None, Result, Ok, Err, refl, sym, ap, ◌∙◌}
-use Rattle.std.proofs.lemmas.Bool.{and_from, and_parts, not-true}
+use Rattle.std.proofs.lemmas.Bool.{and_from, and_parts, not-true, or_right}
 use Rattle.std.proofs.lemmas.List.{append-nil, append_assoc, length-append}
 use Rattle.std.proofs.lemmas.Option.{none-some}
 use Rattle.std.proofs.lemmas.Str.{IsUtf8-from_is_utf8}
@@ -23,7 +23,6 @@ use Rattle.tabled_language.specs.Sizes.{reads_anchor, reads_shape}
 use Rattle.tabled_language.specs.Verb.{Line, RecordLine, ShapeLine, SpanLine, step_line, steps}
 use Rattle.tabled_language.specs.Words.{behind, keeping_asks, whole}
 use Rattle.tabled_steps.specs.States.{State}
-use Rattle.tabled_language.proofs.Asking.{or_later}
 use Rattle.tabled_language.proofs.DraftLines.{IsSound, fault_told, place_told, sound_line}
 use Rattle.tabled_language.proofs.DraftSteps.{draft_of-push}
 use Rattle.tabled_language.proofs.PlainLines.{texts_of-plain}
@@ -68,7 +67,7 @@ words_ask-span in_place (verb ∷ texts) anchor is here = by (bytes_eq verb (cod
     by : (row shape span : Bool) → anchor_in (cond row (RecordLine texts) (cond shape (ShapeLine (whole reads_shape texts)) (cond span (SpanLine (whole reads_anchor texts)) (step_line (whole (behind steps verb) texts))))) ≡ Some anchor → in_place (cond row (RecordLine texts) (cond shape (ShapeLine (whole reads_shape texts)) (cond span (SpanLine (whole reads_anchor texts)) (step_line (whole (behind steps verb) texts))))) ≡ true → cond row (in_place (RecordLine texts)) (cond shape false (cond span (in_place (SpanLine (whole reads_anchor texts)) && keeping_asks reads_anchor texts) (keeping_asks (behind steps verb) texts))) ≡ true
     by true shape span is here = here
     by false true span is here = absurd (none-some anchor is)
-    by false false true is here = and_from _ _ here (or_later (reads_anchor.asks texts) _ (kept (whole reads_anchor texts) is))
+    by false false true is here = and_from _ _ here (or_right (reads_anchor.asks texts) _ (kept (whole reads_anchor texts) is))
     by false false false is here = absurd (none-some anchor (sym (no_step (whole (behind steps verb) texts)) ∙ is))
 
 -- so does a line
@@ -89,7 +88,7 @@ lines_ask-here earlier line lines asks = rw asks refl
 
 -- what the lines after a line ask for is asked for by it and them, where it has no fault
 lines_ask-later : (earlier : List Line) (line : List ℕ) (lines : List (List ℕ)) → fault_of earlier (says_line line) ≡ None → lines_ask (earlier ++ says_line line ∷ []) lines ≡ true → lines_ask earlier (line ∷ lines) ≡ true
-lines_ask-later earlier line lines fine asks = or_later (line_asks (is_in_place earlier) line) _ (rw fine asks)
+lines_ask-later earlier line lines fine asks = or_right (line_asks (is_in_place earlier) line) _ (rw fine asks)
 
 -- a line asks alike by two tests that answer alike
 line_asks-alike : (p q : Line → Bool) (line : List ℕ) → ((l : Line) → p l ≡ q l) → line_asks p line ≡ line_asks q line

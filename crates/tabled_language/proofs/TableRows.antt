@@ -1,7 +1,7 @@
 -- Rows of a table, taken from a list of texts.
 use Rattle.std.proofs.Common.{◌≡◌, ℕ, zero, suc, ◌+◌, ◌*◌, ◌<◌, ◌≤◌, List, [], ◌∷◌, ◌++◌, Bool, true, false, cond, eqb, Ok, Err, refl, sym, ap, ap₂, ◌∙◌, length, get_or, map, take, drop, arith}
 use Rattle.std.specs.List.{AllByRecursion, range_with_len}
-use Rattle.std.proofs.lemmas.Bool.{eqb-false, le-leb}
+use Rattle.std.proofs.lemmas.Bool.{eqb-false, le-leb, or_right}
 use Rattle.std.proofs.Math.Nat.{mul-le-mul_right}
 use Rattle.std.proofs.lemmas.List.{drop-drop, drop_more, length-drop, length-map, length-take, map-append, take_more}
 use Rattle.std.proofs.lemmas.List.FromFn.{length-map-range_with_len, map-range_with_len_more}
@@ -13,7 +13,6 @@ use Rattle.tabled_language.specs.declared.fault.ReadError.TheVariants.{Faulty, O
 use Rattle.tabled_language.specs.Parsing.{EndsEarly}
 use Rattle.tabled_language.specs.Verb.{reads_rows, reads_table, rows_of_texts}
 use Rattle.tabled_language.specs.Words.{Read, Reading, fails, first_word, gives, reads_count, reads_number, reads_text}
-use Rattle.tabled_language.proofs.Asking.{or_later}
 
 abbrev row_at : ℕ → List (List ℕ) → ℕ → List (List ℕ)
 row_at columns texts i = take columns (drop (i * columns) texts)
@@ -121,4 +120,4 @@ table_read texts first second left rows columns g a b fits is rest = rw (a, b, l
 pub table_asks : (texts first second : List (List ℕ)) (rows columns : ℕ) → reads_count.reads texts ≡ Ok (rows, first) → reads_count.reads first ≡ Ok (columns, second) → rows * columns ≤ length second → reads_table.asks texts ≡ true
 table_asks texts first second rows columns a b fits =
     let behind : (reads_rows rows columns).asks second ≡ true = rw (le-leb (rows * columns) (length second) fits) refl in
-    or_later (reads_count.asks texts) _ (rw a (or_later (reads_count.asks first) _ (rw b behind)))
+    or_right (reads_count.asks texts) _ (rw a (or_right (reads_count.asks first) _ (rw b behind)))

@@ -1,5 +1,5 @@
 -- Bytes that are gone through part by part.
-use Rattle.std.specs.Prelude.{◌≡◌, ◌<◌, ℕ, ◌==◌, List, [], ◌∷◌, MatchOption, Option, None, Some, length}
+use Rattle.std.specs.Prelude.{◌≡◌, ◌<◌, ℕ, ◌==◌, List, [], MatchOption, Option, None, Some, length}
 use Rattle.std.specs.Borrow.{Bor}
 use Rattle.std.specs.List.{position_or_len, slice_split}
 
@@ -11,7 +11,3 @@ parts_left at (Some bytes) = slice_split (λ b. b == at) bytes.now
 -- the first place of a byte, if it stands among these
 abbrev pub IsFirstPlace : ℕ → List ℕ → Option ℕ → Type 0
 IsFirstPlace at bytes found = MatchOption found (position_or_len (λ b. b == at) bytes ≡ length bytes) (λ place. (position_or_len (λ b. b == at) bytes ≡ place) × (place < length bytes))
-
--- a text is separated at the first place of a byte, if this stands there
-abbrev pub IsFirstOfText : ℕ → List ℕ → Option (Bor (List ℕ) × Bor (List ℕ)) → Type 0
-IsFirstOfText at text parts = MatchOption parts (slice_split (λ b. b == at) text ≡ text ∷ []) (λ two. slice_split (λ b. b == at) text ≡ two.0.now ∷ slice_split (λ b. b == at) two.1.now)

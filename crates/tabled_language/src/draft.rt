@@ -10,7 +10,8 @@ use crate::lent::LentText;
 use crate::padding::longest;
 use crate::script::Script;
 use crate::spans::SpanLines;
-use crate::texts::{Fields, escaped_texts, plain};
+use crate::text_parts::TextParts;
+use crate::texts::{escaped_texts, lent_texts, plain};
 use crate::words::{Read, Words};
 use std::alloc::{AllocError, Global};
 use tabled_grid::records::CellText;
@@ -93,17 +94,17 @@ impl<'a> Draft<'a> {
         requires { AllByRecursion IsOwnWord (words_of line.now) }
         ensures { ReadsWords (draft_in self.old) number (words_of line.now) result (draft_in self.new) }
     {
-        let mut fields = Fields::new(line);
-        match fields.next() {
+        let mut words = TextParts::new(line, b'\t');
+        match words.next() {
             None => Ok(()),
             Some("row") => {
                 self.before_spans()?;
-                self.records.push(fields.texts(alloc)?)?;
+                self.records.push(lent_texts(alloc, words)?)?;
                 Ok(())
             }
-            Some("shape") => self.read_shape(number, Words::of_line(fields)),
-            Some("span") => self.read_span(number, Words::of_line(fields)),
-            Some(verb) => self.read_step(alloc, verb, Words::of_line(fields)),
+            Some("shape") => self.read_shape(number, Words::of_line(words)),
+            Some("span") => self.read_span(number, Words::of_line(words)),
+            Some(verb) => self.read_step(alloc, verb, Words::of_line(words)),
         }
     }
 

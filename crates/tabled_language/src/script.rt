@@ -9,8 +9,8 @@ ghost use Rattle.tabled_language.specs.Parsing.{IsAnswer, ReadsScript, ScriptEnd
 use crate::draft::Draft;
 use crate::fault::{Fault, ReadError};
 use crate::lent::LentText;
-use crate::lines::Lines;
 use crate::parts::Parts;
+use crate::text_parts::TextParts;
 use crate::texts::plain;
 use std::alloc::{AllocError, Global};
 use tabled_grid::config::SpannedConfig;
@@ -56,15 +56,15 @@ fn read_plain_lines<'a>(alloc: Global, text: &'a str) -> Result<Draft<'a>, (usiz
     requires { has_byte 92 text.now ≡ false }
     ensures { MatchResult result (λ d. ReadsScript text.now (draft_in d)) (ScriptEnds text.now) }
 {
-    let mut read = Draft::new(alloc);
-    let mut line_number = 0;
-    for line in Lines::new(text) {
-        line_number += 1;
-        if let Err(error) = read.read_plain(alloc, line_number, line) {
-            return Err((line_number, error));
+    let mut draft = Draft::new(alloc);
+    let mut number = 0;
+    for line in TextParts::new(text, b'\n') {
+        number += 1;
+        if let Err(error) = draft.read_plain(alloc, number, line) {
+            return Err((number, error));
         }
     }
-    Ok(read)
+    Ok(draft)
 }
 
 /// The script that bytes write, or the number of its first faulty line and the fault. Its records are as

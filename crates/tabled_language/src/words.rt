@@ -2,7 +2,7 @@
 
 use crate::fault::{Fault, ReadError};
 use crate::lent::LentText;
-use crate::texts::Fields;
+use crate::text_parts::TextParts;
 use crate::word::{integer_of, number_of, size_of};
 use std::alloc::Global;
 use std::marker::Model;
@@ -15,7 +15,7 @@ pub(crate) type Read<T> = Result<T, ReadError>;
 /// Where words come from: a line without escapes, or the texts of any other.
 #[derive(Drop)]
 enum Source<'a> {
-    Line(Fields<'a>),
+    Line(TextParts<'a>),
     Texts(slice::Iter<'a, LentText<'a>>),
 }
 
@@ -43,11 +43,11 @@ impl<'a> Words<'a> {
     ghost use Rattle.tabled_language.specs.declared.fault.ReadError.TheVariants.{OutOfMemory};
 
     /// The words of a line without escapes.
-    pub(crate) fn of_line(fields: Fields<'a>) -> Self
-        ensures { result ≡ fields.entry }
+    pub(crate) fn of_line(words: TextParts<'a>) -> Self
+        ensures { result ≡ words.entry }
     {
         Words {
-            source: Source::Line(fields),
+            source: Source::Line(words),
         }
     }
 
@@ -64,7 +64,7 @@ impl<'a> Words<'a> {
         ensures { Reads (λ word. word.now) reads_word self.old result self.new }
     {
         match &mut self.source {
-            Source::Line(fields) => match fields.next() {
+            Source::Line(words) => match words.next() {
                 Some(word) => Ok(word),
                 None => Err(ReadError::Faulty(Fault::WordCount)),
             },
@@ -142,7 +142,7 @@ impl<'a> Words<'a> {
         ensures { result ≡ length self.now }
     {
         match &self.source {
-            Source::Line(fields) => fields.left(),
+            Source::Line(words) => words.left(),
             Source::Texts(texts) => texts.len(),
         }
     }

@@ -1,20 +1,27 @@
-use Rattle.std.proofs.Common.{◌≡◌, ◌+◌, ◌<◌, eqb, length, ap, subst, sym, ◌∙◌, arith}
+use Rattle.std.proofs.Common.{◌≡◌, ◌+◌, ◌-◌, drop, eqb, length, length-take, take, ap, ◌∙◌, arith}
+use Rattle.std.proofs.lemmas.List.{drop-drop, length-drop}
 use Rattle.std.specs.List.{position_or_len}
 use Rattle.tabled_language.proofs.Separated.{behind_first, within_first}
 use Rattle.tabled_language.proofs.parts.place_by.Goals as goal
 
 pub returns-in-Some : goal.returns-in-Some
 returns-in-Some c =
-    let front = c.split_at.ensures.front in
-    let first = within_first c.args.at c.args.n c.loop-rest.rest.now c.in-Some.place (subst (λ part. position_or_len (λ b. eqb b c.args.at) part ≡ c.in-Some.place) front c.in-Some.ensures.0) (subst (λ part. c.in-Some.place < length part) front c.in-Some.ensures.1) in
-    (c.loop-rest.invariant.place ∙ ap (λ n. c.loop-rest.passed + n) first, omega (arith, c.in-Some.ensures.1, c.split_at.ensures.front_len, c.loop-rest-test.true, c.loop-rest.invariant.length))
+    let passed = c.loop-passed.passed in
+    let n = passed + c.args.n - passed in
+    let rest = drop passed c.args.bytes.now in
+    let first = within_first c.args.at n rest c.in-Some.place c.in-Some.ensures.0 c.in-Some.ensures.1 in
+    (c.loop-passed.invariant.place ∙ ap (λ k. passed + k) first, omega (arith, c.in-Some.ensures.1, length-take n rest, length-drop passed c.args.bytes.now))
 
-pub loop-rest-preserved : goal.loop-rest-preserved
-loop-rest-preserved c =
-    let rest = c.loop-rest.rest.now in
-    let none = subst (λ part. position_or_len (λ b. eqb b c.args.at) part ≡ c.args.n) c.split_at.ensures.front (c.in_default.ensures ∙ c.split_at.ensures.front_len) in
-    let later = subst (λ others. position_or_len (λ b. eqb b c.args.at) rest ≡ c.args.n + position_or_len (λ b. eqb b c.args.at) others) (sym c.split_at.ensures.back) (behind_first c.args.at c.args.n rest c.loop-rest-test.true none) in
+pub loop-passed-preserved : goal.loop-passed-preserved
+loop-passed-preserved c =
+    let passed = c.loop-passed.passed in
+    let n = passed + c.args.n - passed in
+    let rest = drop passed c.args.bytes.now in
+    let left = length-drop passed c.args.bytes.now in
+    let none : position_or_len (λ b. eqb b c.args.at) (take n rest) ≡ n = c.in_default.ensures ∙ omega (arith, length-take n rest, left) in
+    let others : drop n rest ≡ drop (passed + c.args.n) c.args.bytes.now = drop-drop n passed c.args.bytes.now ∙ ap (λ k. drop k c.args.bytes.now) (omega arith) in
+    let later = behind_first c.args.at n rest (omega (arith, left)) none ∙ ap (λ bytes. n + position_or_len (λ b. eqb b c.args.at) bytes) others in
     record {
-      place = c.loop-rest.invariant.place ∙ ap (λ n. c.loop-rest.passed + n) later ∙ omega arith;
-      length = omega (arith, c.loop-rest.invariant.length, c.split_at.ensures.back_len, c.loop-rest-test.true);
+      place = c.loop-passed.invariant.place ∙ ap (λ k. passed + k) later ∙ omega arith;
+      within = omega arith;
     }

@@ -1,12 +1,12 @@
-use Rattle.std.proofs.Common.{◌≡◌, ◌+◌, eqb, length}
+use Rattle.std.proofs.Common.{◌≡◌, ◌+◌, ◌-◌, ◌≤◌, drop, eqb, length}
 use Rattle.std.specs.List.{position_or_len}
 use Rattle.tabled_language.proofs.parts.place_by.Given as goal
 
-abbrev pub invariant-loop-rest : goal.invariant-loop-rest
-invariant-loop-rest l = record {
-  place : position_or_len (λ b. eqb b l.at) l.bytes ≡ l.passed + position_or_len (λ b. eqb b l.at) l.rest;
-  length : length l.bytes ≡ l.passed + length l.rest;
+abbrev pub invariant-loop-passed : goal.invariant-loop-passed
+invariant-loop-passed l = record {
+  place : position_or_len (λ b. eqb b l.at) l.bytes ≡ l.passed + position_or_len (λ b. eqb b l.at) (drop l.passed l.bytes);
+  within : l.passed ≤ length l.bytes;
 }
 
-abbrev pub decreases-loop-rest : goal.decreases-loop-rest
-decreases-loop-rest l = length l.rest
+abbrev pub decreases-loop-passed : goal.decreases-loop-passed
+decreases-loop-passed l = length l.bytes - l.passed

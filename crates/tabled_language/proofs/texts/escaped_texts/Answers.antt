@@ -1,7 +1,5 @@
 use Rattle.std.proofs.Common.{arith, rules}
 use Rattle.std.proofs.lemmas.Grind.{common_steps}
-use Rattle.tabled_language.specs.Line.{has_byte}
-use Rattle.tabled_language.proofs.Escapes.{or-false-left, or-false-right}
 use Rattle.tabled_language.proofs.OwnWords.{parts_lack, parts_lack_separator}
 use Rattle.tabled_language.proofs.texts.escaped_texts.Goals as goal
 
@@ -13,14 +11,11 @@ loop-word-init c = record {
 }
 
 pub lent_text-requires : goal.lent_text-requires
-lent_text-requires c = (
-  or-false-left (has_byte 9 c.in-Some.word.now) _ (rw c.in-Some.ensures.steps at c.loop-word.invariant.no_tab),
-  or-false-left (has_byte 10 c.in-Some.word.now) _ (rw c.in-Some.ensures.steps at c.loop-word.invariant.no_newline),
-)
+lent_text-requires c = ((rw c.in-Some.ensures.steps at c.loop-word.invariant.no_tab).0, (rw c.in-Some.ensures.steps at c.loop-word.invariant.no_newline).0)
 
 pub loop-word-preserved : goal.loop-word-preserved
 loop-word-preserved c = record {
   texts = grind (arith, common_steps);
-  no_tab = or-false-right (has_byte 9 c.in-Some.word.now) _ (rw c.in-Some.ensures.steps at c.loop-word.invariant.no_tab);
-  no_newline = or-false-right (has_byte 10 c.in-Some.word.now) _ (rw c.in-Some.ensures.steps at c.loop-word.invariant.no_newline);
+  no_tab = (rw c.in-Some.ensures.steps at c.loop-word.invariant.no_tab).1;
+  no_newline = (rw c.in-Some.ensures.steps at c.loop-word.invariant.no_newline).1;
 }

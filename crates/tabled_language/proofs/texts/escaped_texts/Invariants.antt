@@ -1,13 +1,13 @@
-use Rattle.std.proofs.Common.{◌≡◌, ◌++◌, List, ℕ, false, map}
-use Rattle.std.specs.List.{list_any}
+use Rattle.std.proofs.Common.{◌≡◌, ◌++◌, List, ℕ, map}
 use Rattle.std.specs.Option.{option_map}
 use Rattle.tabled_language.specs.Lent.{bytes_of}
-use Rattle.tabled_language.specs.Line.{has_byte, texts_of, words_of}
+use Rattle.tabled_language.specs.Line.{texts_of, words_of}
+use Rattle.tabled_language.proofs.OwnWords.{LackEach}
 use Rattle.tabled_language.proofs.texts.escaped_texts.Given as goal
 
 abbrev pub invariant-loop-word : goal.invariant-loop-word
 invariant-loop-word l = record {
   texts : option_map (λ (ts : List (List ℕ)). map bytes_of l.texts.items ++ ts) (texts_of l.word-iterator) ≡ texts_of (words_of l.line);
-  no_tab : list_any (has_byte 9) l.word-iterator ≡ false;
-  no_newline : list_any (has_byte 10) l.word-iterator ≡ false;
+  no_tab : LackEach 9 l.word-iterator;
+  no_newline : LackEach 10 l.word-iterator;
 }

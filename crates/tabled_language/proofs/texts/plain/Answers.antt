@@ -1,14 +1,14 @@
-use Rattle.std.proofs.Common.{◌≡◌, eqb, false, true, rules}
+use Rattle.std.proofs.Common.{◌≡◌, eqb, false, true, refl, rules}
 use Rattle.std.specs.List.{list_any}
 use Rattle.std.specs.Str.{is_utf8}
-use Rattle.tabled_language.proofs.Asking.{and_false}
+use Rattle.std.proofs.lemmas.Bool.{and_right}
 use Rattle.tabled_language.proofs.PlainLines.{not_plain, plain_line}
 use Rattle.tabled_language.proofs.texts.plain.Goals as goal
 
 pub returns-then-contains : goal.returns-then-contains
 returns-then-contains c =
     let has : list_any (λ b. eqb b 92) c.args.bytes.now ≡ true = search rules in
-    rw has (and_false (is_utf8 c.args.bytes.now))
+    rw has (and_right (is_utf8 c.args.bytes.now) false refl)
 
 pub returns-in-Ok : goal.returns-in-Ok
 returns-in-Ok c =

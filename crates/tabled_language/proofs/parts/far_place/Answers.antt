@@ -1,7 +1,7 @@
 use Rattle.std.proofs.Common.{◌≡◌, ℕ, ◌+◌, ◌-◌, ◌%◌, ◌<◌, ◌≤◌, eqb, length, take, ap, subst, sym, ◌∙◌, arith}
 use Rattle.std.specs.List.{position_or_len}
 use Rattle.tabled_language.proofs.Separated.{behind_first, within_first}
-use Rattle.tabled_language.proofs.parts.first_place.Goals as goal
+use Rattle.tabled_language.proofs.parts.far_place.Goals as goal
 
 pub returns-in-Some : goal.returns-in-Some
 returns-in-Some c =
