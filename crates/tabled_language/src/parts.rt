@@ -89,12 +89,12 @@ fn near_place(bytes: &[u8], at: u8) -> Option<usize>
 fn far_place(bytes: &[u8], at: u8) -> Option<usize>
     ensures { IsFirstPlace at bytes.now result }
 {
-    let (blocks, rest) = bytes.split_at(bytes.len() - bytes.len() % BLOCK);
-    if let Some(place) = place_by(BLOCK, blocks, at) {
+    let blocks = bytes.len() - bytes.len() % BLOCK;
+    if let Some(place) = place_by(BLOCK, &bytes[..blocks], at) {
         return Some(place);
     }
-    match near_place(rest, at) {
-        Some(place) => Some(blocks.len() + place),
+    match near_place(&bytes[blocks..], at) {
+        Some(place) => Some(blocks + place),
         None => None,
     }
 }

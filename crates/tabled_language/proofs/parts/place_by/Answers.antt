@@ -1,4 +1,4 @@
-use Rattle.std.proofs.Common.{◌≡◌, ◌+◌, ◌-◌, drop, eqb, length, length-take, take, ap, ◌∙◌, arith}
+use Rattle.std.proofs.Common.{◌≡◌, ◌+◌, ◌-◌, drop, eqb, length-take, ap, ◌∙◌, arith}
 use Rattle.std.proofs.lemmas.List.{drop-drop, length-drop}
 use Rattle.std.specs.List.{position_or_len}
 use Rattle.tabled_language.proofs.Separated.{behind_first, within_first}
@@ -16,12 +16,10 @@ pub loop-passed-preserved : goal.loop-passed-preserved
 loop-passed-preserved c =
     let passed = c.loop-passed.passed in
     let n = passed + c.args.n - passed in
-    let rest = drop passed c.args.bytes.now in
-    let left = length-drop passed c.args.bytes.now in
-    let none : position_or_len (λ b. eqb b c.args.at) (take n rest) ≡ n = c.in_default.ensures ∙ omega (arith, length-take n rest, left) in
-    let others : drop n rest ≡ drop (passed + c.args.n) c.args.bytes.now = drop-drop n passed c.args.bytes.now ∙ ap (λ k. drop k c.args.bytes.now) (omega arith) in
-    let later = behind_first c.args.at n rest (omega (arith, left)) none ∙ ap (λ bytes. n + position_or_len (λ b. eqb b c.args.at) bytes) others in
+    let bytes = c.args.bytes.now in
+    let later = behind_first c.args.at n (drop passed bytes) (omega (arith, length-drop passed bytes)) c.in_default.ensures in
+    let others : drop n (drop passed bytes) ≡ drop (passed + c.args.n) bytes = drop-drop n passed bytes ∙ ap (λ k. drop k bytes) (omega arith) in
     record {
-      place = c.loop-passed.invariant.place ∙ ap (λ k. passed + k) later ∙ omega arith;
+      place = c.loop-passed.invariant.place ∙ ap (λ k. passed + k) (later ∙ ap (λ bs. n + position_or_len (λ b. eqb b c.args.at) bs) others) ∙ omega arith;
       within = omega arith;
     }
