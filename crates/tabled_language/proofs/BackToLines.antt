@@ -1,12 +1,12 @@
 -- Lines that are written are read as what they say.
-use Rattle.std.proofs.Common.{◌≡◌, ℕ, ◌<◌, ◌≤◌, ◌⊎◌, inl, inr, ◌^◌, ◌&&◌, false, cond, eqb, ne_eqb, List, [], ◌∷◌, ◌++◌, length, map, codes, Some, Ok, refl, ap, ◌∙◌, arith}
+use Rattle.std.proofs.Common.{◌≡◌, ◌≢◌, ℕ, ◌<◌, ◌≤◌, ◌⊎◌, inl, inr, ◌^◌, ◌&&◌, false, cond, eqb, ne_eqb, List, [], ◌∷◌, ◌++◌, length, map, codes, Some, Ok, refl, ap, ◌∙◌, arith}
 use Rattle.std.specs.Fmt.{decimal}
 use Rattle.std.specs.List.{AllByRecursion}
 use Rattle.std.specs.Str.{IsUtf8, chars, is_utf8}
 use Rattle.std.proofs.lemmas.Bool.{and_left, and_right}
 use Rattle.std.proofs.lemmas.Str.{IsUtf8-from_is_utf8}
 use Rattle.tabled_grid.specs.Spans.{IsSpanSize, Rectangle, sized}
-use Rattle.tabled_language.specs.Line.{says_line, meaning_of, texts_of, words_of}
+use Rattle.tabled_language.specs.Line.{says_line}
 use Rattle.tabled_grid.specs.Entity.{place}
 use Rattle.tabled_language.specs.declared.fault.Fault.TheVariants.{NumberRange}
 use Rattle.tabled_language.specs.Sizes.{reads_anchor, reads_shape, reads_width}
@@ -15,11 +15,7 @@ use Rattle.tabled_language.specs.Verb.{Line, ShapeLine, RecordLine, SpanLine}
 use Rattle.tabled_language.specs.Words.{Reading, fails, gives, reads_extent, reads_size, then_reads, whole}
 use Rattle.tabled_language.proofs.BackToNumbers.{decimal-utf8, size_of-decimal}
 use Rattle.tabled_language.proofs.BackToTexts.{texts_of-joined}
-
--- a line with bytes says what its texts say
-line_of-texts : (line : List ℕ) (texts : List (List ℕ)) → 0 < length line → texts_of (words_of line) ≡ Some texts → says_line line ≡ meaning_of (Some texts)
-line_of-texts [] texts some is = absurd (omega (arith, some))
-line_of-texts (b ∷ bs) texts some is = ap meaning_of is
+use Rattle.tabled_language.proofs.ScriptLines.{line_of-texts}
 
 row_utf8 : IsUtf8 (codes "row")
 unfolding is_utf8 chars lib.Utf8.encode
@@ -33,7 +29,7 @@ span_utf8 : IsUtf8 (codes "span")
 unfolding is_utf8 chars lib.Utf8.encode
 span_utf8 = IsUtf8-from_is_utf8 (codes "span") refl
 
-row_some : (texts : List (List ℕ)) → 0 < length (tab_separated (codes "row" ∷ texts))
+row_some : (texts : List (List ℕ)) → length (tab_separated (codes "row" ∷ texts)) ≢ 0
 row_some [] = omega arith
 row_some (text ∷ texts) = omega arith
 

@@ -1,30 +1,21 @@
 -- What is written of a number is read as that number.
-use Rattle.std.proofs.Common.{◌≡◌, ℕ, ◌<◌, ◌≤◌, ◌^◌, ◌-◌, ◌&&◌, Bool, true, false, cond, not, eqb, leb, length, Some, arith, ap, None}
+use Rattle.std.proofs.Common.{◌≡◌, ℕ, ◌<◌, ◌≤◌, ◌^◌, ◌-◌, not, eqb, leb, length, Some, arith, ap, sym, ◌∙◌}
 use Rattle.std.proofs.lemmas.Bool.Decides.{nat_tests}
 use Rattle.std.proofs.lemmas.Fmt.{IsAscii-decimal, decimal_nonempty, digits_decimal, digits_value-decimal}
 use Rattle.std.proofs.lemmas.Str.{IsUtf8-from_ascii}
-use Rattle.std.proofs.lemmas.Str.Parse.{IsNumeralModel, numerals_by_value, tells_all_ascii_digits}
 use Rattle.std.specs.Fmt.{decimal}
 use Rattle.std.specs.Str.{IsUtf8, all_ascii_digits}
 use Rattle.std.specs.Str.Parse.{digits_value}
 use Rattle.tabled_language.specs.Word.{number_to, size_of}
-
-own : IsNumeralModel (λ ds. all_ascii_digits ds ≡ true) (digits_value 10)
-own = numerals_by_value _ tells_all_ascii_digits
-
-some_if : (p q r : Bool) (m n : ℕ) → p ≡ true → q ≡ true → r ≡ true → m ≡ n → cond (p && (q && r)) (Some m) None ≡ Some n
-some_if true true true m n a b c e = ap Some e
-some_if true true false m n a b c e = cc
-some_if true false r m n a b c e = cc
-some_if false q r m n a b c e = cc
+use Rattle.tabled_language.proofs.Numbers.{own, some_if}
 
 -- the digits of a number up to a limit are read as the number
 pub number_to-decimal : (largest n : ℕ) → n ≤ largest → n < 2 ^ 64 → number_to largest (decimal n) ≡ Some n
 number_to-decimal largest n most fits =
     let value : digits_value 10 (decimal n) ≡ n = digits_value-decimal own n fits in
     let some : 0 < length (decimal n) = decimal_nonempty n fits in
-    some_if (not (eqb (length (decimal n)) 0)) (all_ascii_digits (decimal n)) (leb (digits_value 10 (decimal n)) largest) (digits_value 10 (decimal n)) n
-    (grind (arith, nat_tests)) (digits_decimal own n fits) (grind (arith, nat_tests)) value
+    sym (some_if (not (eqb (length (decimal n)) 0)) (all_ascii_digits (decimal n)) (leb (digits_value 10 (decimal n)) largest) (digits_value 10 (decimal n)) (grind (arith, nat_tests)) (digits_decimal own n fits) (grind (arith, nat_tests)))
+    ∙ ap Some value
 
 -- also those of `usize::MAX`
 pub size_of-decimal : (n : ℕ) → n < 2 ^ 64 → size_of (decimal n) ≡ Some n

@@ -8,7 +8,7 @@ use Rattle.std.specs.Result.{result_ok}
 use Rattle.tabled_language.specs.Word.{integer_of, number_of, number_to}
 
 -- digits and their value are std's
-own : IsNumeralModel (λ ds. all_ascii_digits ds ≡ true) (digits_value 10)
+pub own : IsNumeralModel (λ ds. all_ascii_digits ds ≡ true) (digits_value 10)
 own = numerals_by_value _ tells_all_ascii_digits
 
 none_unless : (p q r : Bool) (n : ℕ) → (p ≡ true → q ≡ true → r ≡ true → ⊥) → None ≡ cond (p && (q && r)) (Some n) None
@@ -17,11 +17,8 @@ none_unless true true false n h = refl
 none_unless true false r n h = refl
 none_unless false q r n h = refl
 
-some_if : (p q r : Bool) (n : ℕ) → p ≡ true → q ≡ true → r ≡ true → Some n ≡ cond (p && (q && r)) (Some n) None
-some_if true true true n a b c = refl
-some_if true true false n a b c = cc
-some_if true false r n a b c = cc
-some_if false q r n a b c = cc
+pub some_if : (p q r : Bool) (n : ℕ) → p ≡ true → q ≡ true → r ≡ true → Some n ≡ cond (p && (q && r)) (Some n) None
+some_if p q r n a b c = rw (a, b, c) refl
 
 -- a text that `parse` refuses is no number
 pub number_to-refused : {E : Type 0} (largest : ℕ) (text : List ℕ) (r : Result ℕ E) → largest < 2 ^ 64 → ParsesUnsigned 64 10 text r → get_or text 0 0 ≢ 43 → None ≡ result_ok r → None ≡ number_to largest text

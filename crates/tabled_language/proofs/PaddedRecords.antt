@@ -4,7 +4,8 @@ use Rattle.std.specs.Global.{Vec}
 use Rattle.std.specs.List.{AllByRecursion}
 use Rattle.std.proofs.lemmas.List.{append-nil, drop_all, length-map, take_all}
 use Rattle.std.proofs.lemmas.Simd.{map-map}
-use Rattle.tabled_grid.specs.Grid.{Grid, IsEven, grid_of, map_grid, map_items}
+use Rattle.tabled_grid.proofs.Across.{same_grid}
+use Rattle.tabled_grid.specs.Grid.{IsEven, grid_of, map_grid, map_items}
 use Rattle.tabled_table.specs.Builder.{AreRecords, longest, padded_to}
 use Rattle.tabled_table.proofs.Uneven.{even-longest}
 use Rattle.tabled_language.specs.Line.{table_from}
@@ -13,12 +14,6 @@ use Rattle.tabled_language.proofs.ScriptChecks.{longest-map}
 -- a list that was written over whole
 pub all_written : {A : Type 0} (old new : List A) (len : ℕ) → len ≡ length old → length new ≡ length old → take len (new ++ drop (length new) old) ≡ new
 all_written old new len is same = rw (drop_all (length new) old (omega (arith, same)), append-nil new) (take_all len new (omega (arith, is, same)))
-
-grid : ℕ → ℕ → List (List (List ℕ)) → Grid (List ℕ)
-grid r c xs = record { rows = r; columns = c; cells = xs }
-
-same_grid : {r s c k : ℕ} {xs ys : List (List (List ℕ))} → r ≡ s → c ≡ k → xs ≡ ys → grid r c xs ≡ grid s k ys
-same_grid e k h = rw (e, k, h) refl
 
 module _ {A : Type 0} (f : A → List ℕ) where
   wide : (n m : ℕ) (cells : List (List A)) → n ≡ m → AreRecords n (map (map f) cells) → AllByRecursion (λ (row : List A). length row ≡ m) cells
@@ -40,14 +35,13 @@ module _ {A : Type 0} (f : A → List ℕ) where
   even_cells cells records has = even (longest records) cells (are_records cells records has)
 
   pub table_cells : (cells : List (List A)) (records : List (List (List ℕ))) → HasCells cells records → map_grid f (grid_of cells) ≡ table_from records
-  unfolding grid
   table_cells [] [] has = refl
   table_cells [] (record₁ ∷ records) has = absurd (omega (arith, ap length has.padded))
   table_cells (row ∷ cells) [] has = absurd (omega (arith, ap length has.padded))
   table_cells (row ∷ cells) (record₁ ∷ records) has =
       let all = record₁ ∷ records in
       let wide = are_records (row ∷ cells) all has in
-      same_grid (sym (length-map (row ∷ cells) (map f)) ∙ ap length has.padded) (sym (length-map row f) ∙ wide.0) has.padded
+      same_grid _ _ _ _ _ _ (sym (length-map (row ∷ cells) (map f)) ∙ ap length has.padded) (sym (length-map row f) ∙ wide.0) has.padded
 
   -- vectors of cells, padded one by one
   pub has_cells : (old new : List (Vec A)) (columns : ℕ) → columns ≡ longest (map_items old) → map (λ (v : Vec A). map f v.items) new ≡ map (padded_to columns []) (map (λ (v : Vec A). map f v.items) old) → HasCells (map_items new) (map (map f) (map_items old))

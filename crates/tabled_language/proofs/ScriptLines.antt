@@ -2,9 +2,11 @@
 use Rattle.std.specs.Prelude.{codes, map, is_ok}
 use Rattle.std.specs.Str.{bytes_eq}
 use Rattle.std.proofs.lemmas.Slice.Eq.{bytes_eq-Decides}
-use Rattle.std.proofs.Common.{◌≡◌, ◌≢◌, ℕ, Bool, true, false, cond, ◌+◌, ◌<◌, List, [], ◌∷◌, ◌++◌, ◌&&◌, length, Option, Some, None, Result, Ok, Err, refl, sym, ap, ◌∙◌}
+use Rattle.std.proofs.Common.{◌≡◌, ◌≢◌, ℕ, Bool, true, false, cond, ◌+◌, ◌<◌, ◌≤◌, List, [], ◌∷◌, ◌++◌, ◌&&◌, eqb, length, Option, Some, None, Result, Ok, Err, refl, sym, ap, ◌∙◌, arith}
 use Rattle.std.proofs.lemmas.Bool.{and_from, and_parts, not-true, or_right}
-use Rattle.std.proofs.lemmas.List.{append-nil, append_assoc, length-append}
+use Rattle.std.proofs.lemmas.List.{append-nil, append_assoc, length-append, length-map}
+use Rattle.std.proofs.lemmas.List.Splits.{length-slice_split}
+use Rattle.std.proofs.lemmas.List.Sums.{count_by-le-length}
 use Rattle.std.proofs.lemmas.Option.{none-some}
 use Rattle.std.proofs.lemmas.Str.{IsUtf8-from_is_utf8}
 use Rattle.std.specs.List.{AllByRecursion, remove, slice_index_or}
@@ -25,6 +27,7 @@ use Rattle.tabled_language.specs.Words.{behind, keeping_asks, whole}
 use Rattle.tabled_steps.specs.States.{State}
 use Rattle.tabled_language.proofs.DraftLines.{IsSound, fault_told, place_told, sound_line}
 use Rattle.tabled_language.proofs.DraftSteps.{draft_of-push}
+use Rattle.tabled_language.proofs.OwnWords.{LackEach, parts_lack_separator}
 use Rattle.tabled_language.proofs.PlainLines.{texts_of-plain}
 use Rattle.tabled_grid.specs.Spans.{Rectangle}
 
@@ -38,10 +41,21 @@ pub record HasRead (all rest : List (List ℕ)) (number : ℕ) (draft : Draft) :
   pub faults : first_fault fault_of earlier (map says_line rest) ≡ first_fault fault_of [] (map says_line all)
   pub memory : lines_ask earlier rest ≡ true → lines_ask [] all ≡ true
   pub spans : 0 < length draft.anchors → lines_ask [] all ≡ true
+  pub lack : LackEach 10 rest
 
--- each line is read or left
-pub has_read-counts : {all rest : List (List ℕ)} {number : ℕ} {draft : Draft} → HasRead all rest number draft → number + length (map says_line rest) ≡ length (map says_line all)
-has_read-counts {all} {rest} {number} {draft} h = ap (λ n. n + length (map says_line rest)) (sym h.counted) ∙ sym (length-append h.earlier (map says_line rest)) ∙ ap length h.split
+-- none was read
+pub has_read-start : (input : List ℕ) (draft : Draft) → draft ≡ draft_of [] → HasRead (lines_of input) (lines_of input) 0 draft
+has_read-start input draft is = record { earlier = []; split = refl; counted = refl; is = is; sound = tt; faults = refl; memory = λ asks. asks; spans = λ some. absurd (none (ap (λ (d : Draft). length d.anchors) is) some); lack = parts_lack_separator 10 input }
+  where
+    none : {n : ℕ} → n ≡ 0 → 0 < n → ⊥
+    none is some = omega (arith, is, some)
+
+-- bytes have no more lines than a newline each, and one
+pub has_read-counts : (input line : List ℕ) (rest : List (List ℕ)) (number : ℕ) (draft : Draft) → HasRead (lines_of input) (line ∷ rest) number draft → number ≤ length input
+has_read-counts input line rest number draft h =
+    let newline = λ (b : ℕ). eqb b 10 in
+    let all : length (h.earlier ++ map says_line (line ∷ rest)) ≡ length (map says_line (lines_of input)) = ap length h.split in
+    omega (arith, all, h.counted, length-append h.earlier (map says_line (line ∷ rest)), length-map (lines_of input) says_line, length-slice_split newline input, count_by-le-length newline input)
 
 -- a line without a fault stands in its place
 in_its_place : (earlier : List Line) (line : Line) → fault_of earlier line ≡ None → is_in_place earlier line ≡ true
@@ -111,6 +125,7 @@ has_read-more {all} {rest} {number} {draft} line h fine =
       faults = (rw none at h.faults);
       memory = λ asks. h.memory (lines_ask-later h.earlier line rest none asks);
       spans = some none (anchor_in (says_line line)) refl;
+      lack = h.lack.1;
     }
   where
     some : fault_of h.earlier (says_line line) ≡ None → (o : Option Rectangle) → anchor_in (says_line line) ≡ o → 0 < length (with_line draft (number + 1) (says_line line)).anchors → lines_ask [] all ≡ true

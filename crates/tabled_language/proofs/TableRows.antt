@@ -5,6 +5,7 @@ use Rattle.std.proofs.lemmas.Bool.{eqb-false, le-leb, or_right}
 use Rattle.std.proofs.Math.Nat.{mul-le-mul_right}
 use Rattle.std.proofs.lemmas.List.{drop-drop, drop_more, length-drop, length-map, length-take, map-append, take_more}
 use Rattle.std.proofs.lemmas.List.FromFn.{length-map-range_with_len, map-range_with_len_more}
+use Rattle.tabled_grid.proofs.Across.{same_grid}
 use Rattle.tabled_grid.specs.Grid.{Grid, IsEven, grid_of, map_grid, width_of}
 use Rattle.tabled_language.specs.declared.fault.Fault.{Fault}
 use Rattle.tabled_language.specs.declared.fault.Fault.TheVariants.{NumberRange}
@@ -81,17 +82,11 @@ has_rows {A} f rows columns texts cells some fits is =
     let wide = rows_wide f columns texts cells 0 rows is (omega (arith, fits)) in
     let tall : length cells ≡ rows = omega (arith, ap length is, length-map cells (map f), length-map-range_with_len (row_at columns texts) 0 rows) in
     let broad : width_of cells ≡ columns = width cells wide (omega (arith, tall, some)) in
-    record { even = record { tall = refl; wide = rw broad wide }; texts_are = same tall broad is }
+    record { even = record { tall = refl; wide = rw broad wide }; texts_are = same_grid _ _ _ _ _ _ tall broad is }
   where
     width : (cells : List (List A)) → AllByRecursion (λ (row : List A). length row ≡ columns) cells → 0 < length cells → width_of cells ≡ columns
     width [] wide some = absurd (omega (arith, some))
     width (row ∷ cells) wide some = wide.0
-
-    grid : ℕ → ℕ → List (List (List ℕ)) → Grid (List ℕ)
-    grid r c xs = record { rows = r; columns = c; cells = xs }
-
-    same : {r c : ℕ} {xs ys : List (List (List ℕ))} → r ≡ rows → c ≡ columns → xs ≡ ys → grid r c xs ≡ grid rows columns ys
-    same e k h = rw (e, k, h) refl
 
 abbrev number : Read ℕ → ℕ
 number (Ok counted) = counted.0

@@ -1,12 +1,7 @@
-use Rattle.std.proofs.Common.{◌≡◌, false}
-use Rattle.std.specs.List.{list_any}
-use Rattle.tabled_language.specs.Line.{has_byte, lines_of}
+use Rattle.tabled_language.specs.Line.{lines_of}
 use Rattle.tabled_language.specs.Parsing.{draft_in}
 use Rattle.tabled_language.proofs.ScriptLines.{HasRead}
 use Rattle.tabled_language.proofs.script.read_each_line.Given as goal
 
 abbrev pub invariant-loop-line : goal.invariant-loop-line
-invariant-loop-line l = record {
-  read : HasRead (lines_of l.input) l.line-iterator l.number (draft_in l.draft);
-  no_newline : list_any (has_byte 10) l.line-iterator ≡ false;
-}
+invariant-loop-line l = HasRead (lines_of l.input) l.line-iterator l.number (draft_in l.draft)
