@@ -10,7 +10,7 @@ use crate::lent::LentText;
 use crate::padding::longest;
 use crate::script::Script;
 use crate::spans::SpanLines;
-use crate::text_parts::TextParts;
+use crate::text_parts::Fields;
 use crate::texts::{escaped_texts, lent_texts, plain};
 use crate::words::{Read, Words};
 use std::alloc::{AllocError, Global};
@@ -94,7 +94,7 @@ impl<'a> Draft<'a> {
         requires { AllByRecursion IsOwnWord (words_of line.now) }
         ensures { ReadsWords (draft_in self.old) number (words_of line.now) result (draft_in self.new) }
     {
-        let mut words = TextParts::new(line, b'\t');
+        let mut words = Fields::new(line);
         match words.next() {
             None => Ok(()),
             Some("row") => {

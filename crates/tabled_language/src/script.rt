@@ -10,7 +10,7 @@ use crate::draft::Draft;
 use crate::fault::{Fault, ReadError};
 use crate::lent::LentText;
 use crate::parts::Parts;
-use crate::text_parts::TextParts;
+use crate::text_parts::Lines;
 use crate::texts::plain;
 use std::alloc::{AllocError, Global};
 use tabled_grid::config::SpannedConfig;
@@ -58,7 +58,7 @@ fn read_plain_lines<'a>(alloc: Global, text: &'a str) -> Result<Draft<'a>, (usiz
 {
     let mut draft = Draft::new(alloc);
     let mut number = 0;
-    for line in TextParts::new(text, b'\n') {
+    for line in Lines::new(text) {
         number += 1;
         if let Err(error) = draft.read_plain(alloc, number, line) {
             return Err((number, error));

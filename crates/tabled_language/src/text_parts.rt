@@ -8,37 +8,39 @@ ghost use Rattle.tabled_language.specs.Parts.{parts_left};
 use crate::parts::{count_parts, first_place};
 use std::marker::Model;
 
-/// Goes over the parts of a text between the places of an ASCII byte: its lines, or the words of one. A
-/// contract sees it as the list of the parts that are left.
+/// The lines of a text.
+pub(crate) type Lines<'a> = TextParts<'a, b'\n'>;
+
+/// The words of a line as they stand.
+pub(crate) type Fields<'a> = TextParts<'a, b'\t'>;
+
+/// Goes over the parts of a text between the places of an ASCII byte. A contract sees it as the list of
+/// the parts that are left.
 #[derive(Drop)]
-pub(crate) struct TextParts<'a> {
+pub(crate) struct TextParts<'a, const AT: u8> {
     rest: Option<&'a str>,
-    at: u8,
 }
 
-impl<'a> Model for TextParts<'a> {
+impl<'a, const AT: u8> Model for TextParts<'a, AT> {
     ghost use Rattle.std.specs.Prelude.{◌<◌, ℕ, List};
     ghost use Rattle.tabled_language.specs.Parts.{parts_left};
 
     ghost Value = { List (List ℕ) };
 
-    ghost view = { λ a. parts_left a.at a.rest };
+    ghost view = { λ a. parts_left AT a.rest };
 
-    ghost invariant = { λ a. a.at < 128 };
+    ghost invariant = { λ _. AT < 128 };
 }
 
-impl<'a> TextParts<'a> {
+impl<'a, const AT: u8> TextParts<'a, AT> {
     ghost use Rattle.std.specs.Prelude.{◌≡◌, ◌<◌, ◌==◌, length};
     ghost use Rattle.std.specs.List.{slice_split};
 
-    pub(crate) fn new(text: &'a str, at: u8) -> Self
-        requires { at < 128 }
-        ensures { result ≡ slice_split (λ b. b == at) text.now }
+    pub(crate) fn new(text: &'a str) -> Self
+        requires { AT < 128 }
+        ensures { result ≡ slice_split (λ b. b == AT) text.now }
     {
-        TextParts {
-            rest: Some(text),
-            at,
-        }
+        TextParts { rest: Some(text) }
     }
 
     /// How many are left.
@@ -46,13 +48,13 @@ impl<'a> TextParts<'a> {
         ensures { result ≡ length self.now }
     {
         match self.rest {
-            Some(rest) => count_parts(rest.as_bytes(), self.at),
+            Some(rest) => count_parts(rest.as_bytes(), AT),
             None => 0,
         }
     }
 }
 
-impl<'a> Iterator for TextParts<'a> {
+impl<'a, const AT: u8> Iterator for TextParts<'a, AT> {
     type Item = &'a str;
 
     ghost next_gives = { YieldsFirstRef (λ s. s) };
@@ -60,18 +62,18 @@ impl<'a> Iterator for TextParts<'a> {
     ghost remaining = { item_count (λ s. s) };
 
     fn next(&mut self) -> Option<&'a str> {
-        let (part, rest) = first_part(self.rest?, self.at);
+        let (part, rest) = first_part::<AT>(self.rest?);
         self.rest = rest;
         Some(part)
     }
 }
 
 /// The part before the first place of an ASCII byte, and what is after that place.
-fn first_part(text: &str, at: u8) -> (&str, Option<&str>)
-    requires { at < 128 }
-    ensures { slice_split (λ b. b == at) text.now ≡ result.0.now ∷ parts_left at result.1 }
+fn first_part<const AT: u8>(text: &str) -> (&str, Option<&str>)
+    requires { AT < 128 }
+    ensures { slice_split (λ b. b == AT) text.now ≡ result.0.now ∷ parts_left AT result.1 }
 {
-    match first_place(text.as_bytes(), at) {
+    match first_place(text.as_bytes(), AT) {
         Some(place) => (&text[..place], Some(&text[place + 1..])),
         None => (text, None),
     }

@@ -10,7 +10,7 @@ ghost use Rattle.tabled_language.specs.Output.{IsOwnWord};
 use crate::lent::LentText;
 use crate::parts::{Parts, count_parts};
 use crate::plain::PlainText;
-use crate::text_parts::TextParts;
+use crate::text_parts::Fields;
 use crate::word::lent_text;
 use std::alloc::{AllocError, Global};
 use std::str;
@@ -51,7 +51,7 @@ pub(crate) fn escaped_texts<'a>(
 #[inline(never)]
 pub(crate) fn lent_texts<'a>(
     alloc: Global,
-    words: TextParts<'a>,
+    words: Fields<'a>,
 ) -> Result<Vec<LentText<'a>>, AllocError>
     requires { AllByRecursion IsOwnWord words }
     ensures { IfOk result (λ texts. map bytes_of texts.items ≡ words.entry) }

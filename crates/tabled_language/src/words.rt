@@ -2,7 +2,7 @@
 
 use crate::fault::{Fault, ReadError};
 use crate::lent::LentText;
-use crate::text_parts::TextParts;
+use crate::text_parts::Fields;
 use crate::word::{integer_of, number_of, size_of};
 use std::alloc::Global;
 use std::marker::Model;
@@ -15,7 +15,7 @@ pub(crate) type Read<T> = Result<T, ReadError>;
 /// Where words come from: a line without escapes, or the texts of any other.
 #[derive(Drop)]
 enum Source<'a> {
-    Line(TextParts<'a>),
+    Line(Fields<'a>),
     Texts(slice::Iter<'a, LentText<'a>>),
 }
 
@@ -43,7 +43,7 @@ impl<'a> Words<'a> {
     ghost use Rattle.tabled_language.specs.declared.fault.ReadError.TheVariants.{OutOfMemory};
 
     /// The words of a line without escapes.
-    pub(crate) fn of_line(words: TextParts<'a>) -> Self
+    pub(crate) fn of_line(words: Fields<'a>) -> Self
         ensures { result ≡ words.entry }
     {
         Words {
