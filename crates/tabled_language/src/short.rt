@@ -47,9 +47,6 @@ impl ShortText {
     pub(crate) fn as_str(&self) -> &str
         ensures { result.now ≡ self.now }
     {
-        match str::from_utf8(&self.bytes[..self.len as usize]) {
-            Ok(text) => text,
-            Err(_) => "",
-        }
+        unsafe { str::from_utf8_unchecked(&self.bytes[..self.len as usize]) }
     }
 }

@@ -1,5 +1,5 @@
-use Rattle.std.proofs.Math.Logic.{∥∥₁_elim}
+use Rattle.std.proofs.lemmas.Str.{IsUtf8-had}
 use Rattle.tabled_language.proofs.short.ShortText.as_str.Goals as goal
 
-pub returns-in-Err : goal.returns-in-Err
-returns-in-Err c = absurd (∥∥₁_elim c.self.invariant.2 (λ a b. absurd a) c.in-Err.ensures.cases.0)
+pub from_utf8_unchecked-requires : goal.from_utf8_unchecked-requires
+from_utf8_unchecked-requires c = IsUtf8-had _ c.self.invariant.2
