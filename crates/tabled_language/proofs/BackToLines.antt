@@ -1,5 +1,5 @@
 -- Lines that are written are read as what they say.
-use Rattle.std.proofs.Common.{◌≡◌, ◌≢◌, ℕ, ◌<◌, ◌≤◌, ◌⊎◌, inl, inr, ◌^◌, ◌&&◌, false, cond, eqb, ne_eqb, List, [], ◌∷◌, ◌++◌, length, map, codes, Some, Ok, refl, ap, ◌∙◌, arith}
+use Rattle.std.proofs.Common.{◌≡◌, ◌≢◌, ℕ, ◌<◌, ◌≤◌, ◌⊎◌, inl, inr, ◌^◌, ◌&&◌, false, cond, eqb, ne_eqb, List, [], ◌∷◌, ◌++◌, length, map, codes, Ok, refl, ap, ◌∙◌, arith}
 use Rattle.std.specs.Fmt.{decimal}
 use Rattle.std.specs.List.{AllByRecursion}
 use Rattle.std.specs.Str.{IsUtf8, chars, is_utf8}

@@ -1,4 +1,4 @@
-use Rattle.std.proofs.Common.{◌≡◌, ◌≢◌, length, map, not, sym, rules}
+use Rattle.std.proofs.Common.{◌≢◌, length, map, not, sym, rules}
 use Rattle.std.proofs.lemmas.Bool.{and_parts, not-true}
 use Rattle.std.specs.Str.{is_utf8}
 use Rattle.tabled_language.specs.Drafts.{takes}
