@@ -8,6 +8,7 @@ ghost use Rattle.tabled_table.specs.Index.{numbers, with_index_name};
 use crate::builder::{columns, rows};
 use std::alloc::{AllocError, Global};
 use std::marker::Model;
+use tabled_grid::records::nested_rows::turn_rows;
 use tabled_grid::records::{Blank, Text};
 
 /// A header above a body, and an index beside it.
@@ -38,7 +39,8 @@ impl Indexed {
     ghost use Rattle.std.specs.Prelude.{◌≡◌, ◌<◌, IfOk, false, length, map, option_map, vec_len};
     ghost use Rattle.std.specs.String.{string_bytes};
     ghost use Rattle.tabled_grid.specs.Grid.{width_of};
-    ghost use Rattle.tabled_table.specs.Builder.{AreRecords, row_texts};
+    ghost use Rattle.tabled_grid.specs.Evenness.{AreWide};
+    ghost use Rattle.tabled_table.specs.Builder.{row_texts};
     ghost use Rattle.tabled_table.specs.Index.{IsIndexed, built_rows, is_bare as has_nothing, numbered, transposed_index, with_column_as_index};
 
     /// A header and a body with the numbers of its rows as the index.
@@ -47,7 +49,7 @@ impl Indexed {
         header: Vec<Text<String>>,
         body: Vec<Vec<Text<String>>>,
     ) -> Result<Self, AllocError>
-        requires { AreRecords (vec_len header) (row_texts body.items) }
+        requires { AreWide (vec_len header) (row_texts body.items) }
         ensures { IfOk result (λ x. x ≡ numbered (vec_len body) (map string_bytes header.items) (row_texts body.items)) }
     {
         let index = numbers_below(alloc, body.len())?;
@@ -111,12 +113,12 @@ impl Indexed {
         let Indexed {
             header,
             index,
-            body,
+            mut body,
             name,
             is_shown,
             is_transposed,
         } = self;
-        let body = columns::transposed(alloc, body, header.len())?;
+        turn_rows(alloc, &mut body, header.len())?;
         Ok(Indexed {
             header: index,
             index: header,
@@ -137,7 +139,7 @@ impl Indexed {
     /// The rows of the table: the header and the body, with the index and its name.
     pub(super) fn into_rows(self, alloc: Global) -> Result<Vec<Vec<Text<String>>>, AllocError>
         ensures rows { IfOk result (λ rows. row_texts rows.items ≡ built_rows self) }
-        ensures even { IfOk result (λ rows. AreRecords (width_of (row_texts rows.items)) (row_texts rows.items)) }
+        ensures even { IfOk result (λ rows. AreWide (width_of (row_texts rows.items)) (row_texts rows.items)) }
     {
         let Indexed {
             header,

@@ -5,8 +5,7 @@ use Rattle.std.specs.String.{string_bytes}
 use Rattle.std.specs.Vec.{with_items}
 use Rattle.std.proofs.lemmas.List.{get_or-map, length-map}
 use Rattle.std.proofs.lemmas.Option.{slice_get-get_or}
-use Rattle.tabled_table.specs.Builder.{row_texts}
-use Rattle.tabled_table.specs.Index.{column_of}
+use Rattle.tabled_table.specs.Builder.{column_of, row_texts}
 use Rattle.tabled_table.proofs.Indexed.{IsIndexed-column}
 use Rattle.tabled_grid.proofs.Lists.{map-remove}
 use Rattle.tabled_table.proofs.RowTexts.{All-lens, rows_written}
