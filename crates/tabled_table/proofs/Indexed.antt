@@ -1,7 +1,8 @@
 -- A table with an index: its rows are equally long, and turning it twice changes nothing.
-use Rattle.std.proofs.Common.{◌≡◌, ℕ, ◌+◌, ◌-◌, ◌<◌, Bool, true, false, not, List, [], ◌∷◌, Option, None, Some, IfSome, option_map, refl, ap, sym, subst, ◌∙◌, get_or, length, map, arith}
+use Rattle.std.proofs.Common.{◌≡◌, ℕ, ◌+◌, ◌-◌, ◌<◌, Bool, true, false, List, [], ◌∷◌, Option, None, Some, IfSome, option_map, refl, ap, sym, subst, ◌∙◌, get_or, length, map, arith}
 use Rattle.std.specs.Fmt.{decimal}
 use Rattle.std.specs.List.{remove}
+use Rattle.std.proofs.Math.Bool.{not-not}
 use Rattle.std.proofs.lemmas.List.{length-map}
 use Rattle.std.proofs.lemmas.List.Edits.{length-remove}
 use Rattle.std.proofs.lemmas.List.FromFn.{length-map-range_with_len}
@@ -53,15 +54,8 @@ IsIndexed-column c x within h =
       wide = subst (λ n. AreWide n (map (λ row. remove row c) x.body)) shorter (even-without (length x.header) c x.body within h.wide);
     }
 
-not_twice : (b : Bool) → not (not b) ≡ b
-not_twice true = refl
-not_twice false = refl
-
-pub transposed_index-transposed_index : (x : Indexed) → IsIndexed x → transposed_index (transposed_index x) ≡ x
-transposed_index-transposed_index x h =
-    let body : transposed_rows (length x.index) (transposed_rows (length x.header) x.body) ≡ x.body = ap (λ n. transposed_rows n (transposed_rows (length x.header) x.body)) (sym h.tall) ∙ transposed_rows-transposed_rows (length x.header) x.body h.wide in
-    rw (body, not_twice x.is_transposed) refl
-
 pub transposed_twice : (x : Option Indexed) → IfSome x IsIndexed → option_map transposed_index (option_map transposed_index x) ≡ x
 transposed_twice None h = refl
-transposed_twice (Some x) h = ap Some (transposed_index-transposed_index x h)
+transposed_twice (Some x) h =
+    let body : transposed_rows (length x.index) (transposed_rows (length x.header) x.body) ≡ x.body = ap (λ n. transposed_rows n (transposed_rows (length x.header) x.body)) (sym h.tall) ∙ transposed_rows-transposed_rows (length x.header) x.body h.wide in
+    rw (body, not-not x.is_transposed) refl

@@ -46,9 +46,9 @@ fronts_kept {A} {C} f from old new i n d y even inside fronts long kept =
 pub fronts_all : {A : Type 0} (n : ℕ) (rows : List (List A)) → AreWide n rows → map (take n) rows ≡ rows
 fronts_all n rows even = map-even n (take n) (λ row long. take_all n row (omega arith)) rows even
 
--- rows of one length, padded to it
-pub padded_all : {A : Type 0} (n : ℕ) (filler : A) (rows : List (List A)) → AreWide n rows → map (padded_to n filler) rows ≡ rows
-padded_all n filler rows even = map-even n (padded_to n filler) (λ row long. padded_to-long n filler row (omega arith)) rows even
+-- rows of one length, padded to it or to less
+pub padded_all : {A : Type 0} (from n : ℕ) (filler : A) (rows : List (List A)) → n ≤ from → AreWide from rows → map (padded_to n filler) rows ≡ rows
+padded_all from n filler rows short even = map-even from (padded_to n filler) (λ row long. padded_to-long n filler row (omega arith)) rows even
 
 -- rows of one length, padded to another, all have this
 pub even-padded : {A : Type 0} (from n : ℕ) (filler : A) (rows : List (List A)) → from ≤ n → AreWide from rows → AreWide n (map (padded_to n filler) rows)

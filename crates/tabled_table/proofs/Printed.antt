@@ -17,14 +17,11 @@ use Rattle.tabled_table.specs.Builder.{row_texts}
 use Rattle.tabled_table.specs.Printed.{row_cmp}
 use Rattle.tabled_table.proofs.RowTexts.{texts_of}
 
--- an iterator over a list gave that list
-drained : {X : Type 0} (items it all : List X) → it ≡ all → Drains (TakesFirst (λ (x : X). x)) it items → items ≡ all
-drained {X} items it all is d =
-    sym (rest_so_far (λ (x : X). x) items it d.1.0 d.1.1 ∙ ap₂ (λ xs ys. xs ++ ys) (map-id items) (rest_all (λ (x : X). x) d.1.0 d.0 None refl d.1.2) ∙ append-nil items) ∙ is
-
 -- the rows of the entries that were handed in, all that there are
 pub all-drained : {E : Type 0} (R : E → List (List ℕ) → Type 0) (all items it : List E) (rows : List (List (List ℕ))) → it ≡ all → Drains (TakesFirst (λ (x : E). x)) it items → AllZip R items rows → AllZip R all rows
-all-drained {E} R all items it rows is d each = subst (λ (es : List E). AllZip R es rows) (drained items it all is d) each
+all-drained {E} R all items it rows is d each =
+    let gave : it ≡ items = rest_so_far (λ (x : E). x) items it d.1.0 d.1.1 ∙ ap₂ (λ xs ys. xs ++ ys) (map-id items) (rest_all (λ (x : E). x) d.1.0 d.0 None refl d.1.2) ∙ append-nil items in
+    subst (λ (es : List E). AllZip R es rows) (sym gave ∙ is) each
 
 pub even-permutation : (n : ℕ) (xs ys : List (List (List ℕ))) → IsPermutation xs ys → AreWide n xs → AreWide n ys
 even-permutation n xs ys same even = recursion_from_All (λ (row : List (List ℕ)). length row ≡ n) ys (All-permutation (λ (row : List (List ℕ)). length row ≡ n) xs ys same (All-from_recursion (λ (row : List (List ℕ)). length row ≡ n) xs even))

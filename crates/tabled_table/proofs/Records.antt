@@ -1,8 +1,8 @@
 -- A builder with one record more.
-use Rattle.std.proofs.Common.{◌≡◌, ℕ, ◌+◌, ◌-◌, ◌≤◌, max, List, ◌++◌, refl, ap, ap₂, sym, ◌∙◌, map, replicate, length, arith}
+use Rattle.std.proofs.Common.{◌≡◌, ℕ, ◌+◌, ◌-◌, ◌≤◌, max, List, ◌++◌, refl, ap, ap₂, ◌∙◌, map, replicate, length, arith}
 use Rattle.std.specs.List.{insert}
 use Rattle.tabled_grid.specs.Evenness.{AreWide}
-use Rattle.tabled_table.specs.Builder.{Builder, padded_to, with_items, with_items_at, with_last_column, with_record}
+use Rattle.tabled_table.specs.Builder.{Builder, padded_to, with_items, with_last_column, with_record}
 use Rattle.tabled_grid.proofs.Lists.{all-insert}
 use Rattle.tabled_table.proofs.Padded.{length-padded_to, even-padded}
 
@@ -29,12 +29,7 @@ pub with_last_column-padded : (b : Builder) (n : ℕ) (given items : List (List 
     (let c : Builder = record b { columns = b.columns + 1; rows = with_items b.columns (padded_to n (replicate b.columns b.empty) b.rows) items } in c) ≡ with_last_column b given
 with_last_column-padded b n given items is many =
     let blank = replicate b.columns b.empty in
-    let m = max (length b.rows) (length given) in
-    let total : n ≡ m = many ∙ ap length is ∙ length-padded_to (length b.rows) b.empty given in
-    let turned : max (length given) (length b.rows) ≡ m = omega arith in
-    let rows : padded_to (length given) blank b.rows ≡ padded_to m blank b.rows = padded_to-longest (length given) blank b.rows ∙ ap (λ k. padded_to k blank b.rows) turned in
-    let tall : length (padded_to (length given) blank b.rows) ≡ m = length-padded_to (length given) blank b.rows ∙ turned in
-    let texts : items ≡ padded_to (length (padded_to (length given) blank b.rows)) b.empty given = is ∙ padded_to-longest (length b.rows) b.empty given ∙ ap (λ k. padded_to k b.empty given) (sym tall) in
-    let same : with_items b.columns (padded_to n blank b.rows) items ≡ with_items_at b.columns b.empty (padded_to (length given) blank b.rows) given =
-    ap₂ (λ rs ts. with_items b.columns rs ts) (ap (λ k. padded_to k blank b.rows) total ∙ sym rows) texts in
-    ap (λ (rs : List (List (List ℕ))). let c : Builder = record b { columns = b.columns + 1; rows = rs } in c) same
+    let rows = padded_to (length given) blank b.rows in
+    let added : n - length b.rows ≡ length given - length b.rows = omega (arith, ap length is, length-padded_to (length b.rows) b.empty given) in
+    let lacking : length b.rows - length given ≡ length rows - length given = omega (arith, length-padded_to (length given) blank b.rows) in
+    ap₂ (λ (k : ℕ) (texts : List (List ℕ)). let c : Builder = record b { columns = b.columns + 1; rows = with_items b.columns (b.rows ++ replicate k blank) texts } in c) added (is ∙ ap (λ k. given ++ replicate k b.empty) lacking)

@@ -1,11 +1,10 @@
 -- Rows of any lengths, padded to the longest.
-use Rattle.std.proofs.Common.{◌≡◌, ℕ, ◌+◌, ◌-◌, ◌≤◌, max, List, [], ◌∷◌, ◌++◌, ap, ap₂, sym, ◌∙◌, map, replicate, length, arith}
-use Rattle.std.specs.List.{insert}
+use Rattle.std.proofs.Common.{◌≡◌, ℕ, ◌+◌, ◌-◌, ◌≤◌, max, List, [], ◌∷◌, ◌++◌, refl, ap, sym, ◌∙◌, map, replicate, length, arith}
 use Rattle.std.proofs.lemmas.List.{append_assoc, length-map, map-id, map_push, replicate-append-replicate}
 use Rattle.std.proofs.lemmas.List.Edits.{insert_end}
 use Rattle.tabled_grid.specs.Evenness.{AreWide}
 use Rattle.tabled_grid.proofs.Mapped.{maps_agree}
-use Rattle.tabled_table.specs.Builder.{Builder, from_uneven, longest, padded_to, with_record}
+use Rattle.tabled_table.specs.Builder.{from_uneven, longest, padded_to, with_record}
 use Rattle.tabled_table.proofs.Padded.{length-padded_to}
 
 pub even-longest : {A : Type 0} (n : ℕ) (filler : A) (rows : List (List A)) → longest rows ≤ n → AreWide n (map (padded_to n filler) rows)
@@ -32,10 +31,6 @@ pub from_uneven-push : (rows : List (List (List ℕ))) (row : List (List ℕ)) �
 from_uneven-push rows row =
     let n = longest rows in
     let m = max n (length row) in
-    let columns : longest (rows ++ row ∷ []) ≡ m = longest-push rows row in
-    let twice = all-padded_twice n m [] rows (omega arith) in
-    let count : length (map (padded_to n []) rows) ≡ length (map (padded_to m []) rows) = omega (arith, length-map rows (padded_to {A = List ℕ} n []), length-map rows (padded_to {A = List ℕ} m [])) in
-    let put : insert (map (padded_to m []) (map (padded_to n []) rows)) (length (map (padded_to n []) rows)) (padded_to m [] row) ≡ map (padded_to m []) (rows ++ row ∷ []) =
-    ap₂ (λ rs k. insert rs k (padded_to m [] row)) twice count ∙ insert_end (map (padded_to m []) rows) (padded_to m [] row) ∙ sym (map_push (padded_to m []) rows row) in
-    ap (λ k. let b : Builder = record { columns = k; rows = map (padded_to k []) (rows ++ row ∷ []); empty = [] } in b) columns
-    ∙ ap (λ (rs : List (List (List ℕ))). let b : Builder = record { columns = m; rows = rs; empty = [] } in b) (sym put)
+    let all = map (padded_to m []) rows in
+    let count : length (map (padded_to n []) rows) ≡ length all = length-map rows (padded_to {A = List ℕ} n []) ∙ sym (length-map rows (padded_to {A = List ℕ} m [])) in
+    rw (longest-push rows row, map_push (padded_to m []) rows row, count, all-padded_twice n m [] rows (omega arith), insert_end all (padded_to m [] row)) refl

@@ -8,6 +8,7 @@ ghost use Rattle.tabled_table.specs.Index.{numbers, with_index_name};
 use crate::builder::{columns, rows};
 use std::alloc::{AllocError, Global};
 use std::marker::Model;
+use std::mem;
 use tabled_grid::records::nested_rows::turn_rows;
 use tabled_grid::records::{Blank, Text};
 
@@ -82,51 +83,23 @@ impl Indexed {
     }
 
     /// Makes a column the index and its header the name.
-    pub(super) fn take_column(self, alloc: Global, column: usize) -> Result<Self, AllocError>
+    pub(super) fn take_column(mut self, alloc: Global, column: usize) -> Result<Self, AllocError>
         requires { column < length self.header }
         ensures { IfOk result (λ x. x ≡ with_column_as_index column self) }
     {
-        let Indexed {
-            mut header,
-            index: _,
-            mut body,
-            name: _,
-            is_shown,
-            is_transposed,
-        } = self;
-        let index = columns::take_column(alloc, &mut body, column)?;
-        let name = Some(header.remove(column));
-        Ok(Indexed {
-            header,
-            index,
-            body,
-            name,
-            is_shown,
-            is_transposed,
-        })
+        self.index = columns::take_column(alloc, &mut self.body, column)?;
+        self.name = Some(self.header.remove(column));
+        Ok(self)
     }
 
     /// Swaps header and index, and transposes the body.
-    pub(super) fn transpose(self, alloc: Global) -> Result<Self, AllocError>
+    pub(super) fn transpose(mut self, alloc: Global) -> Result<Self, AllocError>
         ensures { IfOk result (λ x. x ≡ transposed_index self) }
     {
-        let Indexed {
-            header,
-            index,
-            mut body,
-            name,
-            is_shown,
-            is_transposed,
-        } = self;
-        turn_rows(alloc, &mut body, header.len())?;
-        Ok(Indexed {
-            header: index,
-            index: header,
-            body,
-            name,
-            is_shown,
-            is_transposed: !is_transposed,
-        })
+        turn_rows(alloc, &mut self.body, self.header.len())?;
+        mem::swap(&mut self.header, &mut self.index);
+        self.is_transposed = !self.is_transposed;
+        Ok(self)
     }
 
     /// Says whether there is no header, no index and no name.

@@ -73,7 +73,7 @@ pub(super) fn truncate_each(rows: &mut [Vec<Text<String>>], columns: usize)
     }
 }
 
-/// Pads rows of one length to another. Refused, it leaves them as they were.
+/// Pads rows of one length to another, if it is longer. Refused, it leaves them as they were.
 pub(super) fn pad_each(
     alloc: Global,
     rows: &mut [Vec<Text<String>>],
@@ -85,6 +85,9 @@ pub(super) fn pad_each(
     ensures ok { OnOk result (row_texts rows.new ≡ map (padded_to columns empty.now) (row_texts rows.old)) }
     ensures err { OnErr result (row_texts rows.new ≡ row_texts rows.old) }
 {
+    if columns <= from {
+        return Ok(());
+    }
     let padded = try_pad_each(alloc, rows, columns, empty);
     if padded.is_err() {
         truncate_each(rows, from);
@@ -92,8 +95,8 @@ pub(super) fn pad_each(
     padded
 }
 
-/// Inserts a row that is as long as the others, or longer, where these are padded. Refused, it leaves
-/// them as they were.
+/// Inserts a row. The others, all of one length, are padded to it. Refused, it leaves them as they
+/// were.
 pub(super) fn insert_row(
     alloc: Global,
     rows: &mut Vec<Vec<Text<String>>>,
@@ -104,14 +107,11 @@ pub(super) fn insert_row(
 ) -> Result<(), AllocError>
     requires within { i ≤ vec_len rows.old }
     requires even { AreWide from (row_texts rows.old.items) }
-    requires long { from ≤ vec_len row }
     ensures ok { OnOk result (row_texts rows.new.items ≡ with_row_at (vec_len row) empty.now (row_texts rows.old.items) i (map string_bytes row.items)) }
     ensures err { OnErr result (row_texts rows.new.items ≡ row_texts rows.old.items) }
 {
     rows.reserve(1)?;
-    if from < row.len() {
-        pad_each(alloc, rows, from, row.len(), empty)?;
-    }
+    pad_each(alloc, rows, from, row.len(), empty)?;
     rows.insert(i, row).unwrap();
     Ok(())
 }

@@ -15,8 +15,8 @@ turned c = texts_turned c.len.result c.self.inside.body.items c.turn_rows.new.ro
 pub turn_rows-requires : goal.turn_rows-requires
 turn_rows-requires c = rw (c.len.ensures ∙ vec_len-texts c.self.inside.header) (wide-cells _ c.self.inside.body.items c.self.invariant.wide)
 
-pub invariant_of-result : goal.invariant_of-result
-invariant_of-result c = rw (turned (goal.at.invariant_of-result c).In_ok-turn_rows) (IsIndexed-transposed _ c.self.invariant)
+pub invariant_of-self : goal.invariant_of-self
+invariant_of-self c = rw (c.swap.ensures.x_after, c.swap.ensures.y_after, turned (goal.at.invariant_of-self c).In_ok-turn_rows) (IsIndexed-transposed _ c.self.invariant)
 
 pub returns : goal.returns
-returns c = rw (← c.self.view_is, turned (goal.at.returns c).In_ok-turn_rows) refl
+returns c = rw (← c.self.view_is, c.swap.ensures.x_after, c.swap.ensures.y_after, turned (goal.at.returns c).In_ok-turn_rows) refl
