@@ -1,7 +1,7 @@
 -- Columns that are brought to the front of each row, and rows that are kept.
-use Rattle.std.proofs.Common.{◌≡◌, ◌≢◌, ℕ, zero, suc, ◌+◌, ◌<◌, ◌≤◌, Bool, true, false, cond, List, [], ◌∷◌, ◌++◌, inl, inr, ◌⊎◌, refl, ap, ap₂, sym, ◌∙◌, map, take, drop, set, get_or, length, replicate, arith}
+use Rattle.std.proofs.Common.{◌≡◌, ◌≢◌, ℕ, zero, suc, ◌+◌, ◌<◌, ◌≤◌, Bool, true, false, cond, List, [], ◌∷◌, ◌++◌, inl, inr, ◌⊎◌, refl, ap, ap₂, sym, ◌∙◌, map, take, drop, set, get_or, length, replicate, ⊎_elim, arith}
 use Rattle.std.specs.List.{AllZip, EachIndex, filter, swap}
-use Rattle.std.proofs.lemmas.Bool.{cases_eq}
+use Rattle.std.proofs.lemmas.Bool.{cases_Bool, cases_eq}
 use Rattle.std.proofs.lemmas.List.{drop_more, drop-set-lt, get_or-drop, get_or-set_same, append-nil, length_push, get_or-set_other, length-map, length-set, length-take, map-append, map-id, take-set, take-set-le, take_more}
 use Rattle.std.proofs.lemmas.List.Edits.{length-swap, swap_is}
 use Rattle.std.proofs.lemmas.List.Elements.{All-filter, All-map, recursion_from_All}
@@ -158,11 +158,7 @@ module _ (columns : ℕ) where
 -- what a filter keeps, seen through a function
 pub map-filter : {A B : Type 0} (f : A → B) (test : B → Bool) (xs : List A) → map f (filter (λ x. test (f x)) xs) ≡ filter test (map f xs)
 map-filter f test [] = refl
-map-filter {A} {B} f test (x ∷ xs) = each (test (f x)) ∙ ap (λ ys. cond (test (f x)) (f x ∷ ys) ys) (map-filter f test xs)
-  where
-    each : (b : Bool) → map f (cond b (x ∷ filter (λ x. test (f x)) xs) (filter (λ x. test (f x)) xs)) ≡ cond b (f x ∷ map f (filter (λ x. test (f x)) xs)) (map f (filter (λ x. test (f x)) xs))
-    each true = refl
-    each false = refl
+map-filter f test (x ∷ xs) = ⊎_elim (λ passes. rw passes (ap (λ ys. f x ∷ ys) (map-filter f test xs))) (λ fails. rw fails (map-filter f test xs)) (cases_Bool (test (f x)))
 
 -- the kept members of each row, where rows without a text are gone
 pub even-cleaned : (ks : List ℕ) (rows : List (List (List ℕ))) (test : List (List ℕ) → Bool) → AreWide (length ks) (filter test (only_columns ks rows))

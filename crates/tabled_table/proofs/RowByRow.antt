@@ -27,7 +27,7 @@ module _ {A B : Type 0} (f : A → B) where
   pub all_done : (left : List A → List B) (xs : List A) (i : ℕ) → length xs ≤ i → left [] ≡ [] → map f (take i xs) ++ left (drop i xs) ≡ map f xs
   all_done left xs i past none = ap₂ (λ front rest. map f front ++ left rest) (take_all i xs past) (drop_all i xs past) ∙ ap (λ rest. map f xs ++ rest) none ∙ append-nil (map f xs)
 
--- the first i of the old views were changed by h, and the others are as they were
+-- the first i were changed by h, so that all will be what h makes of the old ones
 pub record ChangedBy {A B : Type 0} (f : A → B) (h : B → B) (old new : List A) (i : ℕ) : Type 0 where
   pub is : map f (take i new) ++ map h (map f (drop i new)) ≡ map h (map f old)
 
