@@ -1,5 +1,5 @@
 -- Selections as lists of places, and their combinations.
-use Rattle.std.specs.Prelude.{ℕ, Bool, false, true, List, [], ◌∷◌, ◌++◌, map, not}
+use Rattle.std.specs.Prelude.{ℕ, Bool, false, true, ◌↔◌, List, [], ◌∷◌, ◌++◌, map, not}
 use Rattle.std.specs.List.{filter, flat_map, list_any}
 use Rattle.tabled_grid.specs.Entity.{inside, same_place}
 use Rattle.tabled_grid.specs.declared.config.position.Position.{Position}
@@ -43,3 +43,19 @@ sifted false a b = difference_of a b
 -- the places of a table that aren't among these
 abbrev pub inversion_of : List Position → ℕ → ℕ → List Position
 inversion_of a rows columns = difference_of (inside Global rows columns) a
+
+-- the places that the one's entities name and the other's don't
+abbrev pub named_without : List Entity → List Entity → ℕ → ℕ → List Position
+named_without a b rows columns = difference_of (flat a rows columns) (flat b rows columns)
+
+-- the places that both name
+abbrev pub named_by_both : List Entity → List Entity → ℕ → ℕ → List Position
+named_by_both a b rows columns = intersection_of (flat a rows columns) (flat b rows columns)
+
+-- the cells of a table that entities don't name
+abbrev pub others : List Entity → ℕ → ℕ → List Entity
+others a rows columns = cells_of (inversion_of (flat a rows columns) rows columns)
+
+-- two relations hold of the same lists of entities
+abbrev pub ListAlike : {O G : Type 0} → (O → G → List Entity → Type 0) → (O → G → List Entity → Type 0) → O → G → Type 0
+ListAlike lists other_lists object g = (entities : List Entity) → lists object g entities ↔ other_lists object g entities

@@ -1,5 +1,4 @@
 pub mod Algebra
-pub mod Listed
 pub mod Located
 pub mod Locators
 pub mod Marks

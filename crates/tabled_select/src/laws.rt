@@ -1,17 +1,19 @@
 //! Laws of what objects list. Each is the contract of a function that does nothing.
 
-ghost use Rattle.std.specs.Prelude.{◌≡◌, ◌<◌, ◌↔◌, ℕ, List};
+ghost use Rattle.std.specs.Prelude.{◌≡◌, ◌<◌, ℕ};
 ghost use Rattle.std.specs.declared.cmp.Ordering.TheVariants.{Less};
 ghost use Rattle.tabled_grid.specs.Spans.{position_cmp};
 ghost use Rattle.tabled_select.specs.Selectors.{before_last, past_last};
-ghost use Rattle.tabled_grid.specs.declared.config.entity.Entity.{Entity};
-ghost use Rattle.tabled_select.specs.Algebra.{cells_of, difference_of, flat, intersection_of, inversion_of};
+ghost use Rattle.tabled_select.specs.Algebra.{ListAlike, named_by_both, named_without, others};
 
 use crate::object::{
     Cell, DiffCombination, IntersectionCombination, InversionCombination, LastColumnOffset, Object,
 };
 use tabled_grid::config::Entity;
 use tabled_grid::records::{ExactRecords, Records};
+
+/// What `a.intersect(b.inverse())` is.
+type IntersectionWithInverse<A, B, R> = IntersectionCombination<A, InversionCombination<B, R>, R>;
 
 /// What entities name without others is what they name of the others' inversion, in the same
 /// order.
@@ -21,7 +23,7 @@ pub fn difference_is_intersection_with_inversion(
     _rows: usize,
     _columns: usize,
 )
-    ensures { difference_of (flat _entities.now _rows _columns) (flat _others.now _rows _columns) ≡ intersection_of (flat _entities.now _rows _columns) (flat (cells_of (inversion_of (flat _others.now _rows _columns) _rows _columns)) _rows _columns) }
+    ensures { named_without _entities.now _others.now _rows _columns ≡ named_by_both _entities.now (others _others.now _rows _columns) _rows _columns }
 {}
 
 /// `a.not(b)` lists what `a.intersect(b.inverse())` lists, in the same order, in each store.
@@ -30,7 +32,7 @@ where
     A: Object<R>,
     B: Object<R>,
     R: Records + ExactRecords,
-    ensures { (entities : List Entity) → ⟦<DiffCombination<A, B, R> as Object<R>>⟧.lists (_a.now, _b.now) (R.grid _records.now) entities ↔ ⟦<IntersectionCombination<A, InversionCombination<B, R>, R> as Object<R>>⟧.lists (_a.now, _b.now) (R.grid _records.now) entities }
+    ensures { ListAlike ⟦<DiffCombination<A, B, R> as Object<R>>⟧.lists ⟦<IntersectionWithInverse<A, B, R> as Object<R>>⟧.lists (_a.now, _b.now) (R.grid _records.now) }
 {}
 
 /// Cells are ordered row by row.

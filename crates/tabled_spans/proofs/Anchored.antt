@@ -17,26 +17,21 @@ use Rattle.tabled_grid.proofs.SortedEntries.{below_at, both, halves, searched}
 use Rattle.tabled_grid.proofs.SpanMaps.{equal}
 use Rattle.tabled_grid.proofs.Spans.{positions_exact, positions_total}
 use Rattle.tabled_spans.specs.RunSteps.{StandBelow}
+use Rattle.tabled_spans.proofs.RunLists.{all_then}
 
 -- an anchor in another row isn't found
 none_apart : (p : Position) (es : List Rectangle) → AllByRecursion (λ (e : Rectangle). p.row ≡ e.0.row → ⊥) es → find position_cmp p es ≡ None
 none_apart p [] apart = refl
-none_apart p (e ∷ es) apart = either (cases_Bool (is_eq (position_cmp p e.0))) (none_apart p es apart.1)
-  where
-    either : (is_eq (position_cmp p e.0) ≡ true) ⊎ (is_eq (position_cmp p e.0) ≡ false) → find position_cmp p es ≡ None → find position_cmp p (e ∷ es) ≡ None
-    either (inl t) none = absurd (apart.0 (ap (λ (q : Position). q.row) (positions_exact p e.0 (equal _ t))))
-    either (inr f) none = ap (λ b. cond b (Some e.1) (find position_cmp p es)) f ∙ none
-
--- what is so for each is so for each
-weaker : (P Q : Rectangle → Type 0) → ((e : Rectangle) → P e → Q e) → (es : List Rectangle) → AllByRecursion P es → AllByRecursion Q es
-weaker P Q so [] all = tt
-weaker P Q so (e ∷ es) all = (so e all.0, weaker P Q so es all.1)
+none_apart p (e ∷ es) apart = elim (cases_Bool (is_eq (position_cmp p e.0))) [
+  | inl t ↦ absurd (apart.0 (ap (λ (q : Position). q.row) (positions_exact p e.0 (equal _ t))))
+  | inr f ↦ ap (λ b. cond b (Some e.1) (find position_cmp p es)) f ∙ none_apart p es apart.1
+]
 
 -- where the others stand below its row, a place is found among the first
 found_first : (p : Position) (n : ℕ) (es : List Rectangle) → AllByRecursion (λ (e : Rectangle). p.row < e.0.row) (drop n es) → find position_cmp p (take n es) ≡ find position_cmp p es
 found_first p zero [] below = refl
 found_first p (suc n) [] below = refl
-found_first p zero (e ∷ es) below = sym (none_apart p (e ∷ es) (weaker _ _ (λ f low same. omega (arith, low, same)) (e ∷ es) below))
+found_first p zero (e ∷ es) below = sym (none_apart p (e ∷ es) (all_then (λ f low same. omega (arith, low, same)) (e ∷ es) below))
 found_first p (suc n) (e ∷ es) below = ap (cond (is_eq (position_cmp p e.0)) (Some e.1)) (found_first p n es below)
 
 below_take : (p : Position) (n : ℕ) (es : List Rectangle) → T (below_all position_cmp p es) → T (below_all position_cmp p (take n es))
@@ -75,7 +70,7 @@ module _ (m : SpanMap) (p : Position) (many : ℕ) (s : StandBelow m p.row many)
   none_past d some past =
       let last : suc (many - 1) ≡ many = omega arith in
       let rows = subst (λ n. AllByRecursion (λ (e : Rectangle). e.0.row ≤ (get_or (entries m) (many - 1) d).0.row) (take n (entries m))) last (rows_rise (many - 1) (entries m) d (entries_sorted m) (omega (arith, s.within))) in
-      no_anchor m p (get-entries m p ∙ sym (found_first p many (entries m) s.below) ∙ none_apart p (take many (entries m)) (weaker _ _ (λ e low same. omega (arith, low, same, past)) (take many (entries m)) rows))
+      no_anchor m p (get-entries m p ∙ sym (found_first p many (entries m) s.below) ∙ none_apart p (take many (entries m)) (all_then (λ e low same. omega (arith, low, same, past)) (take many (entries m)) rows))
 
   -- a search of the first anchors finds a place where its size isn't that of one cell
   pub anchor_found : (r : Result ℕ ℕ) → AreSpanSizes m → IsSearchInRange r (length (take many (entries m))) → IsBinarySearchResult (λ (e : Rectangle). position_cmp e.0 p) (take many (entries m)) r → is_ok r ≡ not (((size_at m p).height == 1) && ((size_at m p).width == 1))
@@ -97,7 +92,7 @@ module _ (m : SpanMap) (p : Position) (many : ℕ) (s : StandBelow m p.row many)
 
 -- what stands below a row stands below those above it
 pub stand_higher : (m : SpanMap) (row higher many : ℕ) → higher ≤ row → StandBelow m row many → StandBelow m higher many
-stand_higher m row higher many h s = record { within = s.within; below = weaker _ _ (λ e low. omega (arith, low, h)) (drop many (entries m)) s.below }
+stand_higher m row higher many h s = record { within = s.within; below = all_then (λ e low. omega (arith, low, h)) (drop many (entries m)) s.below }
 
 -- no anchor is left to stand below a row
 pub stand_none : (m : SpanMap) (row : ℕ) → StandBelow m row (length (entries m))

@@ -37,15 +37,14 @@ module _ (axis : Axis) (g : Grid (List ℕ)) (m : SpanMap) where
 
   -- each cell of a run is visible and no anchor
   pub run_cell : (a : Position) (many k : ℕ) → IsRun axis g m a many → k < many → FreeCell (further axis k a)
-  run_cell a many k run h = either (cases_lt (k + 1) many)
-    where
-      either : (k + 1 < many) ⊎ (many ≤ k + 1) → FreeCell (further axis k a)
-      either (inl l) = let j = run.joins k l in record { inside = j.inside; free = j.free }
-      either (inr l) =
-          let some : 2 ≤ many = run.some in
-          let j = run.joins (k - 1) (omega (arith, some)) in
-          let is : further axis 1 (further axis (k - 1) a) ≡ further axis k a = further_more axis (k - 1) k a (omega (arith, some)) in
-          subst FreeCell is (record { inside = j.next_inside; free = j.next_free })
+  run_cell a many k run h = elim (cases_lt (k + 1) many) [
+    | inl l ↦ let j = run.joins k l in record { inside = j.inside; free = j.free }
+    | inr l ↦
+        let some : 2 ≤ many = run.some in
+        let j = run.joins (k - 1) (omega (arith, some)) in
+        let is : further axis 1 (further axis (k - 1) a) ≡ further axis k a = further_more axis (k - 1) k a (omega (arith, some)) in
+        subst FreeCell is (record { inside = j.next_inside; free = j.next_free })
+  ]
 
   -- no run begins inside of another
   ahead : (a b : Position) (many n k l : ℕ) → IsRun axis g m a many → IsRun axis g m b n → l < n → k < l → further axis k a ≡ further axis l b → ⊥
@@ -76,11 +75,7 @@ module _ (axis : Axis) (g : Grid (List ℕ)) (m : SpanMap) where
       one t (fits.sizes.each b t has) (sym (ap (λ (s : Size). s.height) size) ∙ eqb-true _ _ ones.0) (sym (ap (λ (s : Size). s.width) size) ∙ eqb-true _ _ ones.1)
     where
       one : (s : Size) → IsSpanSize s → s.height ≡ 1 → s.width ≡ 1 → ⊥
-      one s is e f = either is.merges
-        where
-          either : (1 < s.height) ⊎ (1 < s.width) → ⊥
-          either (inl h) = omega (arith, h, e)
-          either (inr h) = omega (arith, h, f)
+      one s is e f = elim is.merges [ inl h ↦ omega (arith, h, e) | inr h ↦ omega (arith, h, f) ]
 
   run_inside : (a : Position) (many : ℕ) → IsRun axis g m a many → (a.row + (size_of_run axis many).height ≤ g.rows) × (a.col + (size_of_run axis many).width ≤ g.columns)
   run_inside a many run = by axis (run_cell a many (many - 1) run (omega (arith, run.some))).inside
@@ -96,11 +91,10 @@ module _ (axis : Axis) (g : Grid (List ℕ)) (m : SpanMap) where
       of_old : get m a ≡ Some s → Anchored a s
 
     anchor : (a : Position) (s : Size) → get n a ≡ Some s → Anchored a s
-    anchor a s has = by (merged.each a)
-      where
-        by : ((many : ℕ) × IsRun axis g m a many × (get n a ≡ Some (size_of_run axis many))) ⊎ (((many : ℕ) → IsRun axis g m a many → ⊥) × (get n a ≡ get m a)) → Anchored a s
-        by (inl (many, run, is)) = of_run many run (same_Some s (size_of_run axis many) (sym has ∙ is))
-        by (inr (never, is)) = of_old (sym is ∙ has)
+    anchor a s has = elim (merged.each a) [
+      | inl run ↦ of_run run.0 run.1 (same_Some s (size_of_run axis run.0) (sym has ∙ run.2))
+      | inr old ↦ of_old (sym old.1 ∙ has)
+    ]
 
     pub fits_merged : Fits n g.rows g.columns
     fits_merged = record { sizes = record { each = λ a s has. size a s (anchor a s has) }; inside = λ a s has. inside a s (anchor a s has); apart = λ a b s t p ha hb ia ib. apart a b s t p (holds-true (a, s) p ia) (holds-true (b, t) p ib) (anchor a s ha) (anchor b t hb) }

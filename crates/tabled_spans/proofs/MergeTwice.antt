@@ -1,9 +1,9 @@
 -- A second merge finds no runs, and a merge of a map without rectangles finds those of equal texts.
-use Rattle.std.proofs.Common.{◌≡◌, ℕ, zero, suc, ◌+◌, ◌-◌, ◌<◌, ◌≤◌, ◌≢◌, ◌⊎◌, inl, inr, true, false, List, Some, refl, sym, ap, ap₂, subst, ◌∙◌, arith}
+use Rattle.std.proofs.Common.{◌≡◌, ℕ, zero, suc, ◌+◌, ◌-◌, ◌<◌, ◌≤◌, ◌≢◌, ◌⊎◌, inl, inr, true, List, Some, refl, sym, ap, ap₂, subst, ◌∙◌, arith}
 use Rattle.std.specs.FinMap as map
 use Rattle.std.specs.FinMap.{get, get-empty, same_map}
 use Rattle.std.specs.Option.{unwrap_or}
-use Rattle.std.proofs.lemmas.Bool.{and_from, and_parts, cases_Bool, cases_lt, eq-eqb, not_from_false, not_from_true}
+use Rattle.std.proofs.lemmas.Bool.{and_from, and_parts, cases_lt, eq-eqb, false_from_ne_true, false≢true, not_from_false, not_from_true}
 use Rattle.std.proofs.lemmas.Option.{none-some, same_Some}
 use borrow.Author.Tests.{eqb-true}
 use Rattle.tabled_grid.specs.Entity.{place}
@@ -19,13 +19,10 @@ use Rattle.tabled_grid.proofs.SpanMaps.{hidden-from, hidden_by, size_at-some}
 use Rattle.tabled_grid.proofs.Spans.{positions_exact, positions_total}
 use Rattle.tabled_spans.specs.Runs.{IsRun, Joins, MergesRuns, further, is_free, size_of_run}
 use Rattle.tabled_spans.proofs.MergeGeometry.{run_cell}
-use Rattle.tabled_spans.proofs.Runs.{further_none, same_run}
-
-one_size : (s : Size) → s.height ≡ 1 → s.width ≡ 1 → s ≡ sized 1 1
-one_size s e f = ap₂ sized e f
+use Rattle.tabled_spans.proofs.Runs.{further_back, further_none, same_run}
 
 free_size : (m : SpanMap) (p : Position) → is_free m p ≡ true → size_at m p ≡ sized 1 1
-free_size m p free = let ones = and_parts _ _ (and_parts _ _ free).1 in one_size (size_at m p) (eqb-true _ _ ones.0) (eqb-true _ _ ones.1)
+free_size m p free = let ones = and_parts _ _ (and_parts _ _ free).1 in ap₂ sized (eqb-true _ _ ones.0) (eqb-true _ _ ones.1)
 
 free_by : (m : SpanMap) (p : Position) → is_visible m p ≡ true → size_at m p ≡ sized 1 1 → is_free m p ≡ true
 free_by m p shown is = and_from _ _ shown (and_from _ _ (eq-eqb _ _ (ap (λ (s : Size). s.height) is)) (eq-eqb _ _ (ap (λ (s : Size). s.width) is)))
@@ -33,9 +30,6 @@ free_by m p shown is = and_from _ _ shown (and_from _ _ (eq-eqb _ _ (ap (λ (s :
 not_one : (a : Axis) (many : ℕ) → 2 ≤ many → size_of_run a many ≡ sized 1 1 → ⊥
 not_one Rows many h e = omega (arith, h, ap (λ (s : Size). s.height) e)
 not_one Columns many h e = omega (arith, h, ap (λ (s : Size). s.width) e)
-
-true_false : false ≡ true → ⊥
-true_false e = cc
 
 module _ (axis : Axis) (g : Grid (List ℕ)) (m : SpanMap) where
   place_bound : (q : Position) (k : ℕ) → Joins axis g m (further axis k q) → q.row + q.col + k + 1 < g.rows + g.columns
@@ -58,17 +52,13 @@ module _ (axis : Axis) (g : Grid (List ℕ)) (m : SpanMap) where
   came_before Rows r q e = omega (arith, ap (λ (y : Position). y.row) e, ap (λ (y : Position). y.col) e)
   came_before Columns r q e = omega (arith, ap (λ (y : Position). y.row) e, ap (λ (y : Position). y.col) e)
 
-  further_from : (x : Axis) (r q : Position) (i n : ℕ) → further x 1 r ≡ q → i + 1 ≡ n → further x i q ≡ further x n r
-  further_from Rows r q i n e f = ap₂ place (omega (arith, f, ap (λ (y : Position). y.row) e)) (sym (ap (λ (y : Position). y.col) e))
-  further_from Columns r q i n e f = ap₂ place (sym (ap (λ (y : Position). y.row) e)) (omega (arith, f, ap (λ (y : Position). y.col) e))
-
   -- and back to that cell
   back : (fuel : ℕ) (p q : Position) (k d : ℕ) → q.row + q.col ≤ fuel → 1 ≤ k → d < k → further axis d q ≡ p → ((i : ℕ) → i < k → Joins axis g m (further axis i q)) → ((a : Position) (many i : ℕ) → IsRun axis g m a many → i < many → further axis i a ≡ p → ⊥) → ⊥
   back zero p q k d bound some within is joins hit = onward (g.rows + g.columns) p q k d (omega arith) some within is joins (λ r e j. let f = came_before axis r q e in omega (arith, f, bound)) hit
-  back (suc fuel) p q k d bound some within is joins hit = onward (g.rows + g.columns) p q k d (omega arith) some within is joins (λ r e j. back fuel p r (k + 1) (d + 1) (let f = came_before axis r q e in omega (arith, f, bound)) (omega arith) (omega arith) (sym (further_from axis r q d (d + 1) e refl) ∙ is) (λ i h. more r e j i h (cases_lt 0 i)) hit) hit
+  back (suc fuel) p q k d bound some within is joins hit = onward (g.rows + g.columns) p q k d (omega arith) some within is joins (λ r e j. back fuel p r (k + 1) (d + 1) (let f = came_before axis r q e in omega (arith, f, bound)) (omega arith) (omega arith) (sym (further_back axis d (d + 1) r q e refl) ∙ is) (λ i h. more r e j i h (cases_lt 0 i)) hit) hit
     where
       more : (r : Position) → further axis 1 r ≡ q → Joins axis g m r → (i : ℕ) → i < k + 1 → (0 < i) ⊎ (i ≤ 0) → Joins axis g m (further axis i r)
-      more r e j i h (inl l) = subst (Joins axis g m) (further_from axis r q (i - 1) i e (omega arith)) (joins (i - 1) (omega arith))
+      more r e j i h (inl l) = subst (Joins axis g m) (further_back axis (i - 1) i r q e (omega arith)) (joins (i - 1) (omega arith))
       more r e j i h (inr l) = subst (Joins axis g m) (sym (further_none axis r) ∙ ap (λ n. further axis n r) (omega arith)) j
 
   pub in_a_run : (p : Position) → Joins axis g m p → ((a : Position) (many i : ℕ) → IsRun axis g m a many → i < many → further axis i a ≡ p → ⊥) → ⊥
@@ -76,11 +66,7 @@ module _ (axis : Axis) (g : Grid (List ℕ)) (m : SpanMap) where
 
   module _ (n : SpanMap) (merged : MergesRuns axis g m n) where
     anchor_size : (a : Position) (many : ℕ) → IsRun axis g m a many → (many' : ℕ) × IsRun axis g m a many' × (get n a ≡ Some (size_of_run axis many'))
-    anchor_size a many run = by (merged.each a)
-      where
-        by : ((k : ℕ) × IsRun axis g m a k × (get n a ≡ Some (size_of_run axis k))) ⊎ (((k : ℕ) → IsRun axis g m a k → ⊥) × (get n a ≡ get m a)) → (k : ℕ) × IsRun axis g m a k × (get n a ≡ Some (size_of_run axis k))
-        by (inl it) = it
-        by (inr it) = absurd (it.0 many run)
+    anchor_size a many run = elim (merged.each a) [ inl it ↦ it | inr it ↦ absurd (it.0 many run) ]
 
     first_free : (a : Position) (many : ℕ) → IsRun axis g m a many → is_free m a ≡ true
     first_free a many run = subst (λ x. is_free m x ≡ true) (further_none axis a) (run_cell axis g m a many 0 run (omega (arith, run.some))).free
@@ -97,18 +83,13 @@ module _ (axis : Axis) (g : Grid (List ℕ)) (m : SpanMap) where
         by a s has holds other (inr (never, is)) = hidden-from n a p s (is ∙ has) holds other
 
     was_visible : (p : Position) → is_visible n p ≡ true → is_visible m p ≡ true
-    was_visible p shown = by (cases_Bool (is_hidden m p))
-      where
-        by : (is_hidden m p ≡ true) ⊎ (is_hidden m p ≡ false) → is_visible m p ≡ true
-        by (inl t) = absurd (true_false (sym (not_from_true _ (hidden_still p t)) ∙ shown))
-        by (inr f) = not_from_false _ f
+    was_visible p shown = not_from_false (is_hidden m p) (false_from_ne_true (is_hidden m p) (λ hidden. false≢true (sym (not_from_true _ (hidden_still p hidden)) ∙ shown)))
 
     was_free : (p : Position) → is_free n p ≡ true → is_free m p ≡ true
-    was_free p free = free_by m p (was_visible p (and_parts _ _ free).0) (by (merged.each p))
-      where
-        by : ((k : ℕ) × IsRun axis g m p k × (get n p ≡ Some (size_of_run axis k))) ⊎ (((k : ℕ) → IsRun axis g m p k → ⊥) × (get n p ≡ get m p)) → size_at m p ≡ sized 1 1
-        by (inl (k, run, is)) = absurd (not_one axis k run.some (sym (size_at-some n p (size_of_run axis k) is) ∙ free_size n p free))
-        by (inr (never, is)) = ap (λ o. unwrap_or o (sized 1 1)) (sym is) ∙ free_size n p free
+    was_free p free = free_by m p (was_visible p (and_parts _ _ free).0) (elim (merged.each p) [
+      | inl run ↦ absurd (not_one axis run.0 run.1.some (sym (size_at-some n p (size_of_run axis run.0) run.2) ∙ free_size n p free))
+      | inr old ↦ ap (λ o. unwrap_or o (sized 1 1)) (sym old.1) ∙ free_size n p free
+    ])
 
     was_joined : (p : Position) → Joins axis g n p → Joins axis g m p
     was_joined p j = record { inside = j.inside; next_inside = j.next_inside; free = was_free p j.free; next_free = was_free (further axis 1 p) j.next_free; same = j.same }
@@ -129,7 +110,7 @@ module _ (axis : Axis) (g : Grid (List ℕ)) (m : SpanMap) where
         by (b, other, has) (inl l) =
             let long : k < b = omega (arith, h, same_run axis g m a many b run other) in
             let hidden : is_hidden n p ≡ true = hidden-from n a p (size_of_run axis b) has (subst (In (a, size_of_run axis b)) is (covers axis a b k other.some long)) (λ e. apart_from axis a k l (e ∙ sym is)) in
-            true_false (sym (not_from_true _ hidden) ∙ (and_parts _ _ free).0)
+            false≢true (sym (not_from_true _ hidden) ∙ (and_parts _ _ free).0)
         by (b, other, has) (inr l) =
             let here : a ≡ p = sym (further_none axis a) ∙ ap (λ i. further axis i a) (omega arith) ∙ is in
             not_one axis b other.some (sym (size_at-some n a (size_of_run axis b) has) ∙ ap (size_at n) here ∙ free_size n p free)
@@ -140,36 +121,23 @@ module _ (axis : Axis) (g : Grid (List ℕ)) (m : SpanMap) where
         in_a_run p (was_joined p j) (none_free p j.free)
 
     pub merged_once : (k : SpanMap) → MergesRuns axis g n k → k ≡ n
-    merged_once k again = same_map positions_total positions_exact k n (λ p. by p (again.each p))
-      where
-        by : (p : Position) → ((b : ℕ) × IsRun axis g n p b × (get k p ≡ Some (size_of_run axis b))) ⊎ (((b : ℕ) → IsRun axis g n p b → ⊥) × (get k p ≡ get n p)) → get k p ≡ get n p
-        by p (inl it) = absurd (no_more p it.0 it.1)
-        by p (inr it) = it.1
-
-abbrev nothing : SpanMap
-nothing = map.empty
+    merged_once k again = same_map positions_total positions_exact k n (λ p. elim (again.each p) [ inl run ↦ absurd (no_more p run.0 run.1) | inr old ↦ old.1 ])
 
 -- without rectangles each cell is free
 free_in_none : (p : Position) → is_free map.empty p ≡ true
-free_in_none p = free_by map.empty p (by (cases_Bool (is_hidden map.empty p))) (ap (λ o. unwrap_or o (sized 1 1)) (get-empty position_cmp p))
-  where
-    by : (is_hidden map.empty p ≡ true) ⊎ (is_hidden map.empty p ≡ false) → is_visible map.empty p ≡ true
-    by (inl t) = let it = hidden_by map.empty p t in absurd (none-some it.size (sym (get-empty position_cmp it.anchor) ∙ it.has))
-    by (inr f) = not_from_false _ f
+free_in_none p = free_by map.empty p (not_from_false (is_hidden map.empty p) (false_from_ne_true (is_hidden map.empty p) (λ hidden. let by = hidden_by map.empty p hidden in none-some by.size (sym (get-empty position_cmp by.anchor) ∙ by.has)))) (ap (λ o. unwrap_or o (sized 1 1)) (get-empty position_cmp p))
 
 pub joins_in_none : (axis : Axis) (g : Grid (List ℕ)) (p : Position) → IsInside g p → IsInside g (further axis 1 p) → cell_at g p ≡ cell_at g (further axis 1 p) → Joins axis g map.empty p
 joins_in_none axis g p inside next same = record { inside = inside; next_inside = next; free = free_in_none p; next_free = free_in_none (further axis 1 p); same = same }
 
 pub run_is_merged : (axis : Axis) (g : Grid (List ℕ)) (n : SpanMap) (p : Position) (many : ℕ) → MergesRuns axis g map.empty n → IsRun axis g map.empty p many → get n p ≡ Some (size_of_run axis many)
-run_is_merged axis g n p many merged run = by (merged.each p)
-  where
-    by : ((k : ℕ) × IsRun axis g map.empty p k × (get n p ≡ Some (size_of_run axis k))) ⊎ (((k : ℕ) → IsRun axis g map.empty p k → ⊥) × (get n p ≡ get nothing p)) → get n p ≡ Some (size_of_run axis many)
-    by (inl (k, other, is)) = is ∙ ap (λ b. Some (size_of_run axis b)) (same_run axis g map.empty p k many other run)
-    by (inr it) = absurd (it.0 many run)
+run_is_merged axis g n p many merged run = elim (merged.each p) [
+  | inl it ↦ it.2 ∙ ap (λ b. Some (size_of_run axis b)) (same_run axis g map.empty p it.0 many it.1 run)
+  | inr it ↦ absurd (it.0 many run)
+]
 
 pub merged_is_run : (axis : Axis) (g : Grid (List ℕ)) (n : SpanMap) (p : Position) (size : Size) → MergesRuns axis g map.empty n → get n p ≡ Some size → (many : ℕ) × IsRun axis g map.empty p many × (size ≡ size_of_run axis many)
-merged_is_run axis g n p size merged has = by (merged.each p)
-  where
-    by : ((k : ℕ) × IsRun axis g map.empty p k × (get n p ≡ Some (size_of_run axis k))) ⊎ (((k : ℕ) → IsRun axis g map.empty p k → ⊥) × (get n p ≡ get nothing p)) → (many : ℕ) × IsRun axis g map.empty p many × (size ≡ size_of_run axis many)
-    by (inl (k, run, is)) = (k, run, same_Some size (size_of_run axis k) (sym has ∙ is))
-    by (inr it) = absurd (none-some size (sym (get-empty position_cmp p) ∙ sym it.1 ∙ has))
+merged_is_run axis g n p size merged has = elim (merged.each p) [
+  | inl it ↦ (it.0, it.1, same_Some size (size_of_run axis it.0) (sym has ∙ it.2))
+  | inr it ↦ absurd (none-some size (sym (get-empty position_cmp p) ∙ sym it.1 ∙ has))
+]

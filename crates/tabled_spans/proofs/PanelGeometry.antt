@@ -1,8 +1,8 @@
 -- Rectangles lie well after a panel where they did before it.
-use Rattle.std.proofs.Common.{◌≡◌, ℕ, ◌+◌, ◌<◌, ◌≤◌, ◌⊎◌, ◌≢◌, inl, inr, Bool, true, false, cond, List, None, Some, refl, sym, ap, ap₂, subst, ◌∙◌, arith}
-use Rattle.std.specs.Prelude.{nat_eq, not}
+use Rattle.std.proofs.Common.{◌≡◌, ℕ, ◌+◌, ◌<◌, ◌≤◌, ◌⊎◌, inl, inr, false, cond, List, None, Some, sym, ap, ap₂, subst, ◌∙◌, arith}
+use Rattle.std.specs.Prelude.{nat_eq}
 use Rattle.std.specs.FinMap.{get, get-remove, same_map}
-use Rattle.std.proofs.lemmas.Bool.{and_parts, cases_Bool, cases_lt, cond-true, false_from_ne_true}
+use Rattle.std.proofs.lemmas.Bool.{and_parts, cases_Bool, cases_lt, cond-true, false_from_ne_true, not-true}
 use borrow.Author.Tests.{eqb-true, leb-true, ltb-true}
 use Rattle.tabled_grid.specs.Axis.{across, place_in}
 use Rattle.tabled_grid.specs.Along.{count_along}
@@ -25,11 +25,10 @@ use Rattle.tabled_spans.proofs.PanelMaps.{no_anchor}
 
 -- the size of one cell where there is no anchor changes nothing
 pub one_cell : (m : SpanMap) (p : Position) → get m p ≡ None → with_size m p (sized 1 1) ≡ m
-one_cell m p absent = same_map positions_total positions_exact (with_size m p (sized 1 1)) m (λ q. by q (cases_place q p))
-  where
-    by : (q : Position) → (q ≡ p) ⊎ (q ≢ p) → get (with_size m p (sized 1 1)) q ≡ get m q
-    by q (inl e) = ap (get (with_size m p (sized 1 1))) e ∙ get-remove positions_total m p p ∙ cond-true _ _ _ (tied p) ∙ sym absent ∙ ap (get m) (sym e)
-    by q (inr n) = with_size-other m p (sized 1 1) q n
+one_cell m p absent = same_map positions_total positions_exact (with_size m p (sized 1 1)) m (λ q. elim (cases_place q p) [
+  | inl e ↦ ap (get (with_size m p (sized 1 1))) e ∙ get-remove positions_total m p p ∙ cond-true _ _ _ (tied p) ∙ sym absent ∙ ap (get m) (sym e)
+  | inr n ↦ with_size-other m p (sized 1 1) q n
+])
 
 -- a size over cells that no rectangle has, which may be that of one cell
 pub fits_over : (m : SpanMap) (p : Position) (size : Size) (rows columns : ℕ) → get m p ≡ None → 1 ≤ size.height → 1 ≤ size.width → p.row + size.height ≤ rows → p.col + size.width ≤ columns → ((a q : Position) (s : Size) → get m a ≡ Some s → In (a, s) q → In (p, size) q → a ≡ p) → Fits m rows columns → Fits (with_size m p size) rows columns
@@ -45,10 +44,6 @@ fits_over m p size rows columns absent high wide down across free fits = either 
         let one : size ≡ sized 1 1 = ap₂ sized (omega arith) (omega arith) in
         subst (λ (n : SpanMap). Fits n rows columns) (sym (ap (with_size m p) one ∙ one_cell m p absent)) fits
 
-not_false : (b : Bool) → not b ≡ true → b ≡ false
-not_false true e = sym e
-not_false false e = refl
-
 module _ {A : Type 0} where
   fits_panel : (axis : Axis) (line : ℕ) (cells : List A) (g : Grid A) (m : SpanMap) → line ≤ count_along axis g → 0 < count_along (across axis) g → is_crossed axis line m ≡ false → Fits m g.rows g.columns → Fits (with_panel axis line (count_along (across axis) g) m) ((with_line_at axis line cells g).rows) ((with_line_at axis line cells g).columns)
   fits_panel Rows line cells g m within some free fits =
@@ -61,17 +56,14 @@ module _ {A : Type 0} where
       (λ a q s has holds over. absurd (line_is_free Columns line m a q s free has holds (omega (arith, over.left, over.right)))) (fits_beside m line g.rows g.columns free fits))
 
   pub panels_fit : (is_blank : A → Type 0) (text_of : A → List ℕ) (axis : Axis) (line : ℕ) (text : List ℕ) (g : Grid A) (m : SpanMap) (h : Grid A) (n : SpanMap) → Fits m g.rows g.columns → Panels is_blank text_of axis line text g m h n → Fits n h.rows h.columns
-  panels_fit is_blank text_of axis line text g m h n fits panel = either (cases_Bool (has_room axis line g m))
-    where
-      either : (has_room axis line g m ≡ true) ⊎ (has_room axis line g m ≡ false) → Fits n h.rows h.columns
-      either (inl room) =
-          let parts = and_parts _ _ room in
-          let others = and_parts _ _ parts.1 in
-          let put = panel.puts room in
-          rw (put.is, panel.merges room) (fits_panel axis line put.cells g m (leb-true _ _ parts.0) (ltb-true _ _ others.0) (not_false _ others.1) fits)
-      either (inr none) =
-          let same = panel.leaves none in
-          rw (same.0, same.1) fits
+  panels_fit is_blank text_of axis line text g m h n fits panel = elim (cases_Bool (has_room axis line g m)) [
+    | inl room ↦
+        let parts = and_parts _ _ room in
+        let others = and_parts _ _ parts.1 in
+        let put = panel.puts room in
+        rw (put.is, panel.merges room) (fits_panel axis line put.cells g m (leb-true _ _ parts.0) (ltb-true _ _ others.0) (not-true _ others.1) fits)
+    | inr none ↦ let same = panel.leaves none in rw (same.0, same.1) fits
+  ]
 
   pub same_fits : (g : Grid A) (m : SpanMap) (h : Grid A) (n : SpanMap) → Fits m g.rows g.columns → (h ≡ g) × (n ≡ m) → Fits n h.rows h.columns
   same_fits g m h n fits same = rw (same.0, same.1) fits

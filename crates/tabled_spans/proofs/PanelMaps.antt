@@ -11,7 +11,7 @@ use Rattle.tabled_grid.specs.declared.config.size.Size.{Size}
 use Rattle.tabled_grid.proofs.Merging.{column_span-is, row_span-is}
 use Rattle.tabled_grid.proofs.ShiftedFits.{came}
 use Rattle.tabled_grid.proofs.Shifts.{Comes, moves, stays}
-use Rattle.tabled_grid.proofs.SpanMaps.{At, at, none, size_at-none, some}
+use Rattle.tabled_grid.proofs.SpanMaps.{at, none, size_at-none, some}
 use Rattle.tabled_spans.specs.Panels.{with_panel}
 use Rattle.tabled_spans.specs.Spanned.{with_span}
 
@@ -27,11 +27,10 @@ comes_beside Columns line old a (stays before is) same = omega (arith, before, a
 comes_beside Columns line old a (moves after is) same = omega (arith, after, ap (λ (p : Position). p.col) is, same)
 
 pub no_anchor : (axis : Axis) (line : ℕ) (m : SpanMap) → get (shifted axis line m) (place_in axis line 0) ≡ None
-no_anchor axis line m = either (at (shifted axis line m) (place_in axis line 0))
-  where
-    either : At (shifted axis line m) (place_in axis line 0) → get (shifted axis line m) (place_in axis line 0) ≡ None
-    either (none e) = e
-    either (some size e) = let it = came axis line m (place_in axis line 0) size e in absurd (comes_beside axis line it.old (place_in axis line 0) it.comes (starts axis line))
+no_anchor axis line m = elim (at (shifted axis line m) (place_in axis line 0)) [
+  | none e ↦ e
+  | some size e ↦ let it = came axis line m (place_in axis line 0) size e in absurd (comes_beside axis line it.old (place_in axis line 0) it.comes (starts axis line))
+]
 
 pub panel_merged : (axis : Axis) (line many : ℕ) (m : SpanMap) → 1 ≤ many → with_span (across axis) (shifted axis line m) (place_in axis line 0) many ≡ with_panel axis line many m
 panel_merged Rows line many m h =

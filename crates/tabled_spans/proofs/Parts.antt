@@ -1,8 +1,8 @@
 -- A text that is cut character by character is parted.
-use Rattle.std.proofs.Common.{◌≡◌, ◌≢◌, ◌∙◌, ℕ, ◌+◌, ◌<◌, ◌≤◌, ◌⊎◌, inl, inr, Bool, true, false, cond, List, [], ◌∷◌, ◌++◌, refl, sym, ap, subst, append_assoc, map, arith}
+use Rattle.std.proofs.Common.{◌≡◌, ◌∙◌, ℕ, ◌+◌, ◌<◌, ◌≤◌, ◌⊎◌, inl, inr, true, false, cond, List, [], ◌∷◌, ◌++◌, refl, sym, ap, subst, append_assoc, map, arith}
 use Rattle.std.specs.Prelude.{nat_le, eqb, not}
 use Rattle.std.specs.List.{concat, join_with_byte, list_all, slice_split}
-use Rattle.std.proofs.lemmas.Bool.{and_parts, eq-eqb, eqb-false, le-leb, lt-leb, ne_eqb}
+use Rattle.std.proofs.lemmas.Bool.{and_parts, cases_Bool, eq-eqb, eqb-false, le-leb, lt-leb, ne_eqb, not-true}
 use Rattle.std.proofs.lemmas.Bool.Decides.{eqb_tells, leb_tells}
 use Rattle.std.proofs.lemmas.List.{append-nil}
 use Rattle.std.proofs.lemmas.List.Sums.{sum_by-cons, sum_by_push}
@@ -31,35 +31,28 @@ last_or_before : (cs front rest : List ℕ) (c d : ℕ) → cs ++ (c ∷ []) ≡
 last_or_before [] [] rest c d e = inl (refl, head_same c d [] rest e)
 last_or_before [] (x ∷ front) rest c d e = absurd (nowhere front rest d (tail_same c x [] _ e))
 last_or_before (y ∷ cs) [] rest c d e = inr (cs, ap (λ x. x ∷ cs) (head_same y d _ rest e))
-last_or_before (y ∷ cs) (x ∷ front) rest c d e = by (last_or_before cs front rest c d (tail_same y x _ _ e))
-  where
-    same : y ≡ x
-    same = head_same y x _ _ e
-
-    by : ((cs ≡ front) × (c ≡ d)) ⊎ ((less : List ℕ) × (cs ≡ front ++ (d ∷ less))) → ((y ∷ cs ≡ x ∷ front) × (c ≡ d)) ⊎ ((less : List ℕ) × (y ∷ cs ≡ x ∷ (front ++ (d ∷ less))))
-    by (inl (is, last)) = inl (ap (λ z. z ∷ cs) same ∙ ap (λ zs. x ∷ zs) is, last)
-    by (inr (less, is)) = inr (less, ap (λ z. z ∷ cs) same ∙ ap (λ zs. x ∷ zs) is)
+last_or_before (y ∷ cs) (x ∷ front) rest c d e =
+    let same : y ≡ x = head_same y x _ _ e in
+    elim (last_or_before cs front rest c d (tail_same y x _ _ e)) [
+      | inl last ↦ inl (ap (λ z. z ∷ cs) same ∙ ap (λ zs. x ∷ zs) last.0, last.1)
+      | inr before ↦ inr (before.0, ap (λ z. z ∷ cs) same ∙ ap (λ zs. x ∷ zs) before.1)
+    ]
 
 short_more : (width : ℕ) (part : List ℕ) (c : ℕ) → IsShort width part → (1 ≤ character_columns c → columns_in part < width) → IsShort width (part ++ (c ∷ []))
-short_more width part c short here front rest d is some = by (last_or_before part front rest c d is)
-  where
-    by : ((part ≡ front) × (c ≡ d)) ⊎ ((less : List ℕ) × (part ≡ front ++ (d ∷ less))) → columns_in front < width
-    by (inl (same, last)) = subst (λ cs. columns_in cs < width) same (here (subst (λ e. 1 ≤ character_columns e) (sym last) some))
-    by (inr (less, before)) = short front less d before some
+short_more width part c short here front rest d is some = elim (last_or_before part front rest c d is) [
+  | inl last ↦ subst (λ cs. columns_in cs < width) last.0 (here (subst (λ e. 1 ≤ character_columns e) (sym last.1) some))
+  | inr before ↦ short front before.0 d before.1 some
+]
 
 -- a character without columns goes after what is replaced
 replaced_on : (cs : List ℕ) (c : ℕ) → character_columns c ≡ 0 → 1 ≤ columns_in cs → last_replaced (cs ++ (c ∷ [])) ≡ last_replaced cs ++ (c ∷ [])
 replaced_on [] c none some = absurd (omega (arith, some))
-replaced_on (d ∷ cs) c none some = by (eqb (columns_in cs) 0) refl (λ h. replaced_on cs c none h)
-  where
-    more : columns_in (cs ++ (c ∷ [])) ≡ columns_in cs
-    more = omega (arith, sum_by_push character_columns cs c, none)
-
-    by : (b : Bool) → eqb (columns_in cs) 0 ≡ b → (1 ≤ columns_in cs → last_replaced (cs ++ (c ∷ [])) ≡ last_replaced cs ++ (c ∷ [])) → last_replaced ((d ∷ cs) ++ (c ∷ [])) ≡ last_replaced (d ∷ cs) ++ (c ∷ [])
-    by true is later = rw (more, is) refl
-    by false is later =
-        let apart = eqb-false _ _ is in
-        rw (more, is) (ap (λ xs. d ∷ xs) (later (omega (arith, apart))))
+replaced_on (d ∷ cs) c none some =
+    let more : columns_in (cs ++ (c ∷ [])) ≡ columns_in cs = omega (arith, sum_by_push character_columns cs c, none) in
+    elim (cases_Bool (eqb (columns_in cs) 0)) [
+      | inl is ↦ rw (more, is) refl
+      | inr is ↦ let apart = eqb-false _ _ is in rw (more, is) (ap (λ xs. d ∷ xs) (replaced_on cs c none (omega (arith, apart))))
+    ]
 
 -- a character with columns after others is the one that is replaced
 replaced_last : (cs : List ℕ) (c : ℕ) → 1 ≤ character_columns c → last_replaced (cs ++ (c ∷ [])) ≡ cs ++ (0xFFFD ∷ [])
@@ -109,12 +102,11 @@ module _ (width : ℕ) (wide : 1 ≤ width) (part : List ℕ) (used c : ℕ) (sh
         begins = refl;
         short = short_more width part c short (λ some. absurd (omega (arith, none, some)));
         counted = record { most = omega (arith, sum, none, counted.most); all = λ less. omega (arith, sum, none, counted.all less) };
-        is_shown = by (leb_tells (columns_in part) width);
+        is_shown = elim (leb_tells (columns_in part) width) [
+          | inl (t, fits) ↦ shown_whole width (part ++ (c ∷ [])) (omega (arith, sum, none, fits)) ∙ ap (λ xs. xs ++ (c ∷ [])) (sym (shown_whole width part fits))
+          | inr (f, over) ↦ shown_cut width (part ++ (c ∷ [])) (omega (arith, sum, none, over)) ∙ replaced_on part c none (omega (arith, over)) ∙ ap (λ xs. xs ++ (c ∷ [])) (sym (shown_cut width part over))
+        ];
       })
-    where
-      by : ((nat_le (columns_in part) width ≡ true) × (columns_in part ≤ width)) ⊎ ((nat_le (columns_in part) width ≡ false) × (width < columns_in part)) → shown width (part ++ (c ∷ [])) ≡ shown width part ++ (c ∷ [])
-      by (inl (t, fits)) = shown_whole width (part ++ (c ∷ [])) (omega (arith, sum, none, fits)) ∙ ap (λ xs. xs ++ (c ∷ [])) (sym (shown_whole width part fits))
-      by (inr (f, over)) = shown_cut width (part ++ (c ∷ [])) (omega (arith, sum, none, over)) ∙ replaced_on part c none (omega (arith, over)) ∙ ap (λ xs. xs ++ (c ∷ [])) (sym (shown_cut width part over))
 
   behind : 1 ≤ character_columns c → used < width → Put width part c (placed width used c)
   behind some less = by (leb_tells (used + character_columns c) width)
@@ -238,25 +230,20 @@ parted_put width part c e cs new is later = record {
 
 parted : (width : ℕ) → 1 ≤ width → (cs part : List ℕ) (used : ℕ) → IsShort width part → Counted width part used → list_all (λ c. not (eqb c 10)) cs ≡ true → Parted width part cs (pieces width used cs)
 parted width wide [] part used short counted within = parted_none width part short
-parted width wide (c ∷ cs) part used short counted within = by (eqb_tells (character_columns c) 0) (leb_tells width used) (λ p u. parted width wide cs p u)
-  where
-    apart : eqb c 10 ≡ false
-    apart = not_true (eqb c 10) (and_parts _ _ within).0
-      where
-        not_true : (b : Bool) → not b ≡ true → b ≡ false
-        not_true true e = sym e
-        not_true false e = refl
-
-    put : Put width part c (placed width used c) → ((p : List ℕ) (u : ℕ) → IsShort width p → Counted width p u → list_all (λ c. not (eqb c 10)) cs ≡ true → Parted width p cs (pieces width u cs)) → Parted width part (c ∷ cs) (pieces width used (c ∷ cs))
-    put h later = rw h.begins (parted_put width part c (placed width used c).character cs (pieces width (placed width used c).used cs) h.is_shown (later (part ++ (c ∷ [])) (placed width used c).used h.short h.counted (and_parts _ _ within).1))
-
-    start : Next width part c (placed width used c) → ((p : List ℕ) (u : ℕ) → IsShort width p → Counted width p u → list_all (λ c. not (eqb c 10)) cs ≡ true → Parted width p cs (pieces width u cs)) → Parted width part (c ∷ cs) (pieces width used (c ∷ cs))
-    start h later = rw h.begins (subst (λ xs. Parted width part (c ∷ cs) (10 ∷ (xs ++ pieces width (placed width used c).used cs))) h.is_shown (parted_next width part c cs (pieces width (placed width used c).used cs) short h.full h.some (later (c ∷ []) (placed width used c).used h.short h.counted (and_parts _ _ within).1)))
-
-    by : ((eqb (character_columns c) 0 ≡ true) × (character_columns c ≡ 0)) ⊎ ((eqb (character_columns c) 0 ≡ false) × (character_columns c ≢ 0)) → ((nat_le width used ≡ true) × (width ≤ used)) ⊎ ((nat_le width used ≡ false) × (used < width)) → ((p : List ℕ) (u : ℕ) → IsShort width p → Counted width p u → list_all (λ c. not (eqb c 10)) cs ≡ true → Parted width p cs (pieces width u cs)) → Parted width part (c ∷ cs) (pieces width used (c ∷ cs))
-    by (inl (_, none)) _ later = put (without width wide part used c short counted apart none) later
-    by (inr (_, some)) (inl (_, full)) later = start (next width wide part used c short counted apart (omega (arith, some)) full) later
-    by (inr (_, some)) (inr (_, less)) later = put (behind width wide part used c short counted apart (omega (arith, some)) less) later
+parted width wide (c ∷ cs) part used short counted within =
+    let parts = and_parts (not (eqb c 10)) (list_all (λ d. not (eqb d 10)) cs) within in
+    let apart = not-true (eqb c 10) parts.0 in
+    let now = (placed width used c).used in
+    let put : Put width part c (placed width used c) → Parted width part (c ∷ cs) (pieces width used (c ∷ cs)) = λ h. rw h.begins (parted_put width part c (placed width used c).character cs (pieces width now cs) h.is_shown (parted width wide cs (part ++ (c ∷ [])) now h.short h.counted parts.1)) in
+    elim (eqb_tells (character_columns c) 0) [
+      | inl none ↦ put (without width wide part used c short counted apart none.1)
+      | inr some ↦ elim (leb_tells width used) [
+        | inl full ↦
+            let h = next width wide part used c short counted apart (omega (arith, some.1)) full.1 in
+            rw h.begins (subst (λ xs. Parted width part (c ∷ cs) (10 ∷ (xs ++ pieces width now cs))) h.is_shown (parted_next width part c cs (pieces width now cs) short h.full h.some (parted width wide cs (c ∷ []) now h.short h.counted parts.1)))
+        | inr less ↦ put (behind width wide part used c short counted apart (omega (arith, some.1)) less.1)
+      ]
+    ]
 
 -- a newline ends a piece
 cut_at : (width used : ℕ) (line rest : List ℕ) → pieces width used (line ++ (10 ∷ rest)) ≡ pieces width used line ++ (10 ∷ pieces width 0 rest)

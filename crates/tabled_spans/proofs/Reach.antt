@@ -1,7 +1,6 @@
 -- How far spans reach in a table.
-use Rattle.std.proofs.Common.{◌≡◌, ℕ, ◌<◌, ◌⊎◌, inl, inr, true, false, List, [], ◌∷◌}
+use Rattle.std.proofs.Common.{◌≡◌, ℕ, ◌<◌, true, false, cond, List, [], ◌∷◌, refl}
 use Rattle.std.specs.List.{AllByRecursion, filter}
-use Rattle.std.proofs.lemmas.Bool.{cases_Bool}
 use Rattle.tabled_grid.specs.Entity.{block, inside, names}
 use Rattle.tabled_grid.specs.declared.config.entity.Entity.{Entity}
 use Rattle.tabled_grid.specs.declared.config.position.Position.{Position}
@@ -17,11 +16,10 @@ module _ (axis : Axis) (size : ℕ) (e : Entity) (rows columns : ℕ) (reach : �
 
   kept : (ps : List Position) → AllByRecursion (λ (p : Position). (p.row < rows) × (p.col < columns)) (filter (names e) ps) → AllByRecursion Named (filter (names e) ps)
   kept [] all = tt
-  kept (p ∷ ps) all = either (cases_Bool (names e p)) (kept ps) all
-    where
-      either : (names e p ≡ true) ⊎ (names e p ≡ false) → (AllByRecursion (λ (q : Position). (q.row < rows) × (q.col < columns)) (filter (names e) ps) → AllByRecursion Named (filter (names e) ps)) → AllByRecursion (λ (q : Position). (q.row < rows) × (q.col < columns)) (filter (names e) (p ∷ ps)) → AllByRecursion Named (filter (names e) (p ∷ ps))
-      either (inl t) rest here = let both = rw t at here in rw t ((t, is.each p t both.0.0 both.0.1), rest both.1)
-      either (inr f) rest here = rw f (rest (rw f at here))
+  kept (p ∷ ps) all = elim (names e p) as (λ b. names e p ≡ b → AllByRecursion (λ (q : Position). (q.row < rows) × (q.col < columns)) (cond b (p ∷ filter (names e) ps) (filter (names e) ps)) → AllByRecursion Named (cond b (p ∷ filter (names e) ps) (filter (names e) ps))) [
+    | true ↦ λ t here. ((t, is.each p t here.0.0 here.0.1), kept ps here.1)
+    | false ↦ λ f here. kept ps here
+  ] refl all
 
   pub inside-reach : AllByRecursion Named (inside e rows columns)
   inside-reach = kept (block 0 rows 0 columns) (inside-within e rows columns)

@@ -1,33 +1,20 @@
 -- The places that an entity names rise, row by row.
-use Rattle.std.proofs.Common.{◌≡◌, ℕ, zero, suc, ◌+◌, ◌-◌, ◌<◌, ◌⊎◌, inl, inr, Bool, true, false, List, [], ◌∷◌, ◌++◌, refl, sym, ap, subst, ◌∙◌, map, arith}
-use Rattle.std.specs.Prelude.{T, ◌&&◌}
+use Rattle.std.proofs.Common.{ℕ, zero, suc, ◌+◌, ◌-◌, ◌<◌, inl, inr, Bool, true, false, cond, List, [], ◌∷◌, ◌++◌, refl, sym, subst, map, arith}
+use Rattle.std.specs.Prelude.{T}
 use Rattle.std.specs.FinMap.{is_sorted}
 use Rattle.std.specs.FinMap.Entries.{below_all}
 use Rattle.std.specs.List.{AllByRecursion, filter, flat_map, range_with_len}
-use Rattle.std.specs.Ordering.{is_lt, nat_cmp, ordering_then}
+use Rattle.std.specs.Ordering.{is_lt}
 use Rattle.std.specs.declared.cmp.Ordering.{Ordering}
-use Rattle.std.specs.declared.cmp.Ordering.TheVariants.{Less, Equal}
-use Rattle.std.proofs.lemmas.Bool.{cases_Bool}
-use Rattle.std.proofs.lemmas.Cmp.{by_ranked, ranked}
 use Rattle.tabled_grid.specs.Entity.{inside, names, place, row_places}
 use Rattle.tabled_grid.specs.Spans.{Rectangle, position_cmp, sized}
 use Rattle.tabled_grid.specs.declared.config.entity.Entity.{Entity}
 use Rattle.tabled_grid.specs.declared.config.position.Position.{Position}
+use Rattle.tabled_grid.proofs.Lists.{all-append}
 use Rattle.tabled_grid.proofs.PassedAnchors.{Earlier}
-
-pub both : (a b : Bool) → T a → T b → T (a && b)
-both true b ta tb = tb
-both false b ta tb = absurd ta
-
-number_less : (a b : ℕ) → a < b → nat_cmp a b ≡ Less
-number_less a b h = by_ranked (a < b) (a ≡ b) (b < a) {G = nat_cmp a b ≡ Less} (nat_cmp a b) (ranked a b (nat_cmp a b) refl) (λ e l. e) (λ e l. absurd (omega arith)) (λ e l. absurd (omega arith))
-
-number_equal : (a b : ℕ) → a ≡ b → nat_cmp a b ≡ Equal
-number_equal a b h = by_ranked (a < b) (a ≡ b) (b < a) {G = nat_cmp a b ≡ Equal} (nat_cmp a b) (ranked a b (nat_cmp a b) refl) (λ e l. absurd (omega arith)) (λ e l. e) (λ e l. absurd (omega arith))
-
-earlier_less : (p q : Position) → Earlier p q → position_cmp p q ≡ Less
-earlier_less p q (inl h) = ap (λ (o : Ordering). ordering_then o (nat_cmp p.col q.col)) (number_less _ _ h)
-earlier_less p q (inr h) = ap (λ (o : Ordering). ordering_then o (nat_cmp p.col q.col)) (number_equal _ _ h.0) ∙ number_less _ _ h.1
+use Rattle.tabled_grid.proofs.Shifts.{from_earlier}
+use Rattle.tabled_grid.proofs.SortedEntries.{both}
+use Rattle.tabled_select.proofs.Sifted.{all-filter}
 
 -- each place comes before all that follow
 abbrev Rise : List Position → Type 0
@@ -40,31 +27,18 @@ ones ps = map (λ (p : Position). (p, sized 1 1)) ps
 
 below_ones : (k : Position) (ps : List Position) → AllByRecursion (Earlier k) ps → T (below_all position_cmp k (ones ps))
 below_ones k [] all = tt
-below_ones k (p ∷ ps) all = both _ _ (subst (λ (o : Ordering). T (is_lt o)) (sym (earlier_less k p all.0)) tt) (below_ones k ps all.1)
+below_ones k (p ∷ ps) all = both _ _ (subst (λ (o : Ordering). T (is_lt o)) (sym (from_earlier k p all.0)) tt) (below_ones k ps all.1)
 
 sorted_ones : (ps : List Position) → Rise ps → T (is_sorted position_cmp (ones ps))
 sorted_ones [] rise = tt
 sorted_ones (p ∷ ps) rise = both _ _ (below_ones p ps rise.0) (sorted_ones ps rise.1)
 
-all-append : (P : Position → Type 0) (ps qs : List Position) → AllByRecursion P ps → AllByRecursion P qs → AllByRecursion P (ps ++ qs)
-all-append P [] qs h k = k
-all-append P (p ∷ ps) qs h k = (h.0, all-append P ps qs h.1 k)
-
-all-filter : (P : Position → Type 0) (f : Position → Bool) (ps : List Position) → AllByRecursion P ps → AllByRecursion P (filter f ps)
-all-filter P f [] h = tt
-all-filter P f (p ∷ ps) h = either (cases_Bool (f p)) (all-filter P f ps h.1)
-  where
-    either : (f p ≡ true) ⊎ (f p ≡ false) → AllByRecursion P (filter f ps) → AllByRecursion P (filter f (p ∷ ps))
-    either (inl t) rest = rw t (h.0, rest)
-    either (inr e) rest = rw e rest
-
 rise-filter : (f : Position → Bool) (ps : List Position) → Rise ps → Rise (filter f ps)
 rise-filter f [] rise = tt
-rise-filter f (p ∷ ps) rise = either (cases_Bool (f p)) (rise-filter f ps rise.1)
-  where
-    either : (f p ≡ true) ⊎ (f p ≡ false) → Rise (filter f ps) → Rise (filter f (p ∷ ps))
-    either (inl t) rest = rw t (all-filter (Earlier p) f ps rise.0, rest)
-    either (inr e) rest = rw e rest
+rise-filter f (p ∷ ps) rise = elim (f p) as (λ b. Rise (cond b (p ∷ filter f ps) (filter f ps))) [
+  | true ↦ (all-filter (Earlier p) f ps rise.0, rise-filter f ps rise.1)
+  | false ↦ rise-filter f ps rise.1
+]
 
 rise-append : (ps qs : List Position) → Rise ps → Rise qs → AllByRecursion (λ p. AllByRecursion (Earlier p) qs) ps → Rise (ps ++ qs)
 rise-append [] qs h k across = k
@@ -73,11 +47,7 @@ rise-append (p ∷ ps) qs h k across = (all-append (Earlier p) ps qs h.0 across.
 -- a place before a row's place comes before the rest of the row
 all_row : (p : Position) (i c n : ℕ) → Earlier p (place i c) → AllByRecursion (Earlier p) (map (place i) (range_with_len c n))
 all_row p i c zero h = tt
-all_row p i c (suc n) h = (h, all_row p i (c + 1) n (next h))
-  where
-    next : Earlier p (place i c) → Earlier p (place i (c + 1))
-    next (inl a) = inl a
-    next (inr b) = inr (b.0, omega (arith, b.1))
+all_row p i c (suc n) h = (h, all_row p i (c + 1) n (elim h [ inl above ↦ inl above | inr left ↦ inr (left.0, omega (arith, left.1)) ]))
 
 rise_row : (i c n : ℕ) → Rise (map (place i) (range_with_len c n))
 rise_row i c zero = tt

@@ -22,6 +22,11 @@ pub same_last : (axis : Axis) (p q : Position) → further axis 1 p ≡ further 
 same_last Rows p q e = ap₂ place (omega (arith, ap (λ (x : Position). x.row) e)) (ap (λ (x : Position). x.col) e)
 same_last Columns p q e = ap₂ place (ap (λ (x : Position). x.row) e) (omega (arith, ap (λ (x : Position). x.col) e))
 
+-- n cells from the next place on are n + 1 from this one on
+pub further_back : (axis : Axis) (k n : ℕ) (last p : Position) → further axis 1 last ≡ p → k + 1 ≡ n → further axis k p ≡ further axis n last
+further_back Rows k n last p is e = ap₂ place (omega (arith, e, ap (λ (x : Position). x.row) is)) (sym (ap (λ (x : Position). x.col) is))
+further_back Columns k n last p is e = ap₂ place (sym (ap (λ (x : Position). x.row) is)) (omega (arith, e, ap (λ (x : Position). x.col) is))
+
 module _ (axis : Axis) (g : Grid (List ℕ)) (m : SpanMap) (p : Position) where
   -- where a cell before joins the place, no run begins there
   pub continues : (last : Position) → further axis 1 last ≡ p → Joins axis g m last → RunAt axis g m p 0

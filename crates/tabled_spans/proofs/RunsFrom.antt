@@ -12,10 +12,11 @@ use Rattle.tabled_grid.specs.declared.config.position.Position.{Position}
 use Rattle.tabled_grid.specs.declared.records.axis.Axis.{Axis}
 use Rattle.tabled_grid.proofs.Geometry.{cases_place}
 use Rattle.tabled_grid.proofs.Shifts.{from_earlier}
+use Rattle.tabled_grid.proofs.SortedEntries.{both}
 use Rattle.tabled_grid.proofs.SpanMaps.{tied, untied}
-use Rattle.tabled_spans.specs.RunSteps.{Before, IsOfRun, RunAt, RunsBefore, RunsFrom}
+use Rattle.tabled_spans.specs.RunSteps.{Before, RunAt, RunsFrom}
 use Rattle.tabled_spans.specs.Runs.{IsRun, size_of_run}
-use Rattle.tabled_spans.proofs.RunLists.{all_then, begins_above, begins_inside, both, in_row, one_more, split_last}
+use Rattle.tabled_spans.proofs.RunLists.{all_then, begins_above, begins_inside, in_row, next_row, one_more, split_last}
 use Rattle.tabled_spans.proofs.Runs.{same_run}
 
 -- a place that comes not before the next one of another comes after this
@@ -41,31 +42,14 @@ module _ (axis : Axis) (g : Grid (List ℕ)) (m : SpanMap) where
   pub none_below : (i : ℕ) → g.rows ≤ i → RunsFrom axis g m i 0 []
   none_below i high = record { sorted = tt; from = tt; each = tt; all = λ p n run h. absurd (h (inl (omega (arith, high, begins_above axis g m p n run)))) }
 
-  -- those from the first place on are all
-  pub from_first : (es : List Rectangle) → RunsFrom axis g m 0 0 es → RunsBefore axis g m g.rows 0 es
-  from_first es listed = record {
-    sorted = listed.sorted;
-    before = all_then (λ (e : Rectangle) (run : IsOfRun axis g m e). inl (begins_above axis g m e.0 run.0 run.1)) es listed.each;
-    each = listed.each;
-    all = λ p n run h. listed.all p n run (nowhere p);
-  }
-    where
-      nowhere : (p : Position) → Before 0 0 p → ⊥
-      nowhere p (inl above) = omega (arith, above)
-      nowhere p (inr h) = omega (arith, h.1)
-
   -- those from a row on are those from the end of the row before on
   pub from_end : (i j : ℕ) (es : List Rectangle) → g.columns ≤ j → RunsFrom axis g m (i + 1) 0 es → RunsFrom axis g m i j es
   from_end i j es wide so_far = record {
     sorted = so_far.sorted;
-    from = all_then {Q = λ (e : Rectangle). Before i j e.0 → ⊥} (λ e never h. never (next_row e.0 h)) es so_far.from;
+    from = all_then {Q = λ (e : Rectangle). Before i j e.0 → ⊥} (λ e never h. never (next_row i j e.0 h)) es so_far.from;
     each = so_far.each;
     all = λ p n run never. so_far.all p n run (λ h. never (in_row i j g.columns p wide (begins_inside axis g m p n run) h));
   }
-    where
-      next_row : (p : Position) → Before i j p → Before (i + 1) 0 p
-      next_row p (inl above) = inl (omega arith)
-      next_row p (inr h) = inl (omega (arith, h.0))
 
   module _ (i j : ℕ) (es : List Rectangle) (so_far : RunsFrom axis g m i (j + 1) es) where
     still_from : AllByRecursion (λ (e : Rectangle). Before i j e.0 → ⊥) es
@@ -73,11 +57,7 @@ module _ (axis : Axis) (g : Grid (List ℕ)) (m : SpanMap) where
 
     -- a run that begins from the place on begins after it, where it doesn't begin at it
     begins_after : (p : Position) → p ≢ place i j → (Before i j p → ⊥) → Before i (j + 1) p → ⊥
-    begins_after p other never h = either (split_last i j p h)
-      where
-        either : Before i j p ⊎ (p ≡ place i j) → ⊥
-        either (inl b) = never b
-        either (inr e) = other e
+    begins_after p other never h = elim (split_last i j p h) [ inl b ↦ never b | inr e ↦ other e ]
 
     -- no run begins at the place
     pub none_put : (many : ℕ) → many ≤ 1 → RunAt axis g m (place i j) many → RunsFrom axis g m i j es
@@ -94,12 +74,10 @@ module _ (axis : Axis) (g : Grid (List ℕ)) (m : SpanMap) where
       sorted = both _ _ (below_after i j es so_far.from) so_far.sorted;
       from = (not_itself i j, still_from);
       each = ((many, found.is two, refl), so_far.each);
-      all = λ p n run never. by p n run never (cases_place p (place i j));
-    }
-      where
-        by : (p : Position) (n : ℕ) → IsRun axis g m p n → (Before i j p → ⊥) → (p ≡ place i j) ⊎ (p ≢ place i j) → find position_cmp p ((place i j, size_of_run axis many) ∷ es) ≡ Some (size_of_run axis n)
-        by p n run never (inl e) =
+      all = λ p n run never. elim (cases_place p (place i j)) [
+        | inl e ↦
             let same = same_run axis g m (place i j) many n (found.is two) (subst (λ x. IsRun axis g m x n) e run) in
             ap (λ b. cond b (Some (size_of_run axis many)) (find position_cmp p es)) (subst (λ x. is_eq (position_cmp p x) ≡ true) e (tied p)) ∙ ap (λ k. Some (size_of_run axis k)) same
-        by p n run never (inr other) =
-            ap (λ b. cond b (Some (size_of_run axis many)) (find position_cmp p es)) (untied p (place i j) other) ∙ so_far.all p n run (begins_after p other never)
+        | inr other ↦ ap (λ b. cond b (Some (size_of_run axis many)) (find position_cmp p es)) (untied p (place i j) other) ∙ so_far.all p n run (begins_after p other never)
+      ];
+    }

@@ -1,5 +1,5 @@
 -- What a map has after sizes are set at once, and after one more of them.
-use Rattle.std.proofs.Common.{◌≡◌, ℕ, ◌≤◌, ◌⊎◌, inl, inr, Bool, true, false, cond, List, [], ◌∷◌, Some, None, Option, refl, sym, ap, ap₂, subst, ◌∙◌}
+use Rattle.std.proofs.Common.{◌≡◌, ℕ, ◌≤◌, inl, inr, true, false, cond, List, [], ◌∷◌, Some, None, Option, refl, sym, ap, ap₂, subst, ◌∙◌}
 use Rattle.std.specs.Prelude.{T, ◌==◌, ◌&&◌, if◌then◌else◌}
 use Rattle.std.specs.FinMap as map
 use Rattle.std.specs.FinMap.{find, get, get-insert, get-remove, is_sorted, same_map}
@@ -19,23 +19,14 @@ use Rattle.tabled_grid.specs.declared.config.size.Size.{Size}
 use Rattle.tabled_spans.proofs.SpanChanges.{span-is}
 
 -- what a map has at a place, after a size is set there, or none
-abbrev set_or : Option Size → Option Size → Option Size
+abbrev pub set_or : Option Size → Option Size → Option Size
 set_or None old = old
 set_or (Some size) old = if (size.height == 1) && (size.width == 1) then None else Some size
 
 get-with_size : (m : SpanMap) (p : Position) (size : Size) (q : Position) → get (with_size m p size) q ≡ set_or (cond (eq_by_cmp position_cmp q p) (Some size) None) (get m q)
-get-with_size m p size q = either (cases_Bool ((size.height == 1) && (size.width == 1)))
-  where
-    set : (o : Option Size) (b : Bool) → ((size.height == 1) && (size.width == 1)) ≡ b → cond (eq_by_cmp position_cmp q p) (if b then None else Some size) o ≡ set_or (cond (eq_by_cmp position_cmp q p) (Some size) None) o
-    set o b t = either_place (eq_by_cmp position_cmp q p)
-      where
-        either_place : (c : Bool) → cond c (if b then None else Some size) o ≡ set_or (cond c (Some size) None) o
-        either_place true = ap (λ (x : Bool). if x then None else Some size) (sym t)
-        either_place false = refl
-
-    either : (((size.height == 1) && (size.width == 1)) ≡ true) ⊎ (((size.height == 1) && (size.width == 1)) ≡ false) → get (with_size m p size) q ≡ set_or (cond (eq_by_cmp position_cmp q p) (Some size) None) (get m q)
-    either (inl t) = ap (λ (x : Bool). get (if x then map.remove m p else map.insert m p size) q) t ∙ get-remove positions_total m p q ∙ set (get m q) true t
-    either (inr f) = ap (λ (x : Bool). get (if x then map.remove m p else map.insert m p size) q) f ∙ get-insert positions_total m p size q ∙ set (get m q) false f
+get-with_size m p size q =
+    (elim ((size.height == 1) && (size.width == 1)) as (λ b. get (if b then map.remove m p else map.insert m p size) q ≡ cond (eq_by_cmp position_cmp q p) (if b then None else Some size) (get m q)) [ true ↦ get-remove positions_total m p q | false ↦ get-insert positions_total m p size q ])
+    ∙ (elim (eq_by_cmp position_cmp q p) as (λ b. cond b (if (size.height == 1) && (size.width == 1) then None else Some size) (get m q) ≡ set_or (cond b (Some size) None) (get m q)) [ true ↦ refl | false ↦ refl ])
 
 -- nothing is found at a place below all
 none_below : (a : Position) (es : List Rectangle) → T (below_all position_cmp a es) → find position_cmp a es ≡ None
@@ -46,43 +37,31 @@ none_below a es below = by (find position_cmp a es) refl
     by (Some v) e = let never : false ≡ true = sym (ap is_eq (found_above position_cmp positions_total positions_exact a a es v below e)) ∙ tied a in cc
 
 -- what a map has after sizes are set at once
-get-with_sizes : (es : List Rectangle) (m : SpanMap) (q : Position) → T (is_sorted position_cmp es) → get (with_sizes m es) q ≡ set_or (find position_cmp q es) (get m q)
+pub get-with_sizes : (es : List Rectangle) (m : SpanMap) (q : Position) → T (is_sorted position_cmp es) → get (with_sizes m es) q ≡ set_or (find position_cmp q es) (get m q)
 get-with_sizes [] m q up = refl
-get-with_sizes (e ∷ es) m q up = get-with_sizes es (with_size m e.0 e.1) q (halves _ _ up).1 ∙ either (cases_Bool (eq_by_cmp position_cmp q e.0))
-  where
-    one : (b : Bool) → eq_by_cmp position_cmp q e.0 ≡ b → get (with_size m e.0 e.1) q ≡ set_or (cond b (Some e.1) None) (get m q)
-    one b t = get-with_size m e.0 e.1 q ∙ ap (λ (c : Bool). set_or (cond c (Some e.1) None) (get m q)) t
-
-    found : (b : Bool) → eq_by_cmp position_cmp q e.0 ≡ b → find position_cmp q (e ∷ es) ≡ cond b (Some e.1) (find position_cmp q es)
-    found b t = ap (λ (c : Bool). cond c (Some e.1) (find position_cmp q es)) t
-
-    either : (eq_by_cmp position_cmp q e.0 ≡ true) ⊎ (eq_by_cmp position_cmp q e.0 ≡ false) → set_or (find position_cmp q es) (get (with_size m e.0 e.1) q) ≡ set_or (find position_cmp q (e ∷ es)) (get m q)
-    either (inl t) =
-        let same : e.0 ≡ q = sym (positions_exact q e.0 (equal _ t)) in
-        let none : find position_cmp q es ≡ None = none_below q es (subst (λ (x : Position). T (below_all position_cmp x es)) same (halves _ _ up).0) in
-        ap (λ (o : Option Size). set_or o (get (with_size m e.0 e.1) q)) none ∙ one true t ∙ ap (λ (o : Option Size). set_or o (get m q)) (sym (found true t))
-    either (inr f) = ap (set_or (find position_cmp q es)) (one false f) ∙ ap (λ (o : Option Size). set_or o (get m q)) (sym (found false f))
+get-with_sizes (e ∷ es) m q up =
+    get-with_sizes es (with_size m e.0 e.1) q (halves _ _ up).1
+    ∙ ap (set_or (find position_cmp q es)) (get-with_size m e.0 e.1 q)
+    ∙ (elim (eq_by_cmp position_cmp q e.0) as (λ b. eq_by_cmp position_cmp q e.0 ≡ b → set_or (find position_cmp q es) (set_or (cond b (Some e.1) None) (get m q)) ≡ set_or (cond b (Some e.1) (find position_cmp q es)) (get m q)) [
+      | true ↦ λ t. ap (λ (o : Option Size). set_or o (set_or (Some e.1) (get m q))) (none_below q es (subst (λ (x : Position). T (below_all position_cmp x es)) (sym (positions_exact q e.0 (equal _ t))) (halves _ _ up).0))
+      | false ↦ λ f. refl
+    ]) refl
 
 -- one size more
 pub with_sizes-put : (m : SpanMap) (es : List Rectangle) (a : Position) (size : Size) → T (is_sorted position_cmp es) → with_sizes m (put position_cmp a size es) ≡ with_size (with_sizes m es) a size
 with_sizes-put m es a size up = same_map positions_total positions_exact _ _ (λ q.
     get-with_sizes (put position_cmp a size es) m q (is_sorted-put position_cmp positions_total a size es up)
     ∙ ap (λ (o : Option Size). set_or o (get m q)) (find-put position_cmp positions_total q a size es)
-    ∙ joined (eq_by_cmp position_cmp q a) (find position_cmp q es) (get m q)
+    ∙ (elim (eq_by_cmp position_cmp q a) as (λ b. set_or (cond b (Some size) (find position_cmp q es)) (get m q) ≡ set_or (cond b (Some size) None) (set_or (find position_cmp q es) (get m q))) [ true ↦ refl | false ↦ refl ])
     ∙ ap (set_or (cond (eq_by_cmp position_cmp q a) (Some size) None)) (sym (get-with_sizes es m q up))
     ∙ sym (get-with_size (with_sizes m es) a size q))
-  where
-    joined : (b : Bool) (o old : Option Size) → set_or (cond b (Some size) o) old ≡ set_or (cond b (Some size) None) (set_or o old)
-    joined true o old = refl
-    joined false o old = refl
 
 -- the size at a place, among those that are set
 pub size-set : (m : SpanMap) (es : List Rectangle) (a : Position) (size : Size) → T (is_sorted position_cmp es) → find position_cmp a es ≡ Some size → size_at (with_sizes m es) a ≡ size
-size-set m es a size up found = ap (λ (o : Option Size). unwrap_or o (sized 1 1)) (get-with_sizes es m a up ∙ ap (λ (o : Option Size). set_or o (get m a)) found) ∙ either (cases_Bool ((size.height == 1) && (size.width == 1)))
-  where
-    either : (((size.height == 1) && (size.width == 1)) ≡ true) ⊎ (((size.height == 1) && (size.width == 1)) ≡ false) → unwrap_or (set_or (Some size) (get m a)) (sized 1 1) ≡ size
-    either (inl t) = let parts = and_parts _ _ t in rw t (ap₂ sized (sym (eqb-true _ _ parts.0)) (sym (eqb-true _ _ parts.1)))
-    either (inr f) = rw f refl
+size-set m es a size up found = ap (λ (o : Option Size). unwrap_or o (sized 1 1)) (get-with_sizes es m a up ∙ ap (λ (o : Option Size). set_or o (get m a)) found) ∙ (elim (cases_Bool ((size.height == 1) && (size.width == 1))) [
+  | inl t ↦ let parts = and_parts _ _ t in rw t (ap₂ sized (sym (eqb-true _ _ parts.0)) (sym (eqb-true _ _ parts.1)))
+  | inr f ↦ rw f refl
+])
 
 pub size-unset : (m : SpanMap) (es : List Rectangle) (a : Position) → T (is_sorted position_cmp es) → find position_cmp a es ≡ None → size_at (with_sizes m es) a ≡ size_at m a
 size-unset m es a up missed = ap (λ (o : Option Size). unwrap_or o (sized 1 1)) (get-with_sizes es m a up ∙ ap (λ (o : Option Size). set_or o (get m a)) missed)

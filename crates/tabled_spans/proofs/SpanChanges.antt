@@ -1,27 +1,25 @@
 -- Sizes that are set at rising places, and what spans make of them.
-use Rattle.std.proofs.Common.{◌≡◌, ℕ, ◌+◌, ◌-◌, ◌<◌, ◌≤◌, ◌≢◌, ◌⊎◌, inl, inr, true, false, List, [], ◌∷◌, ◌++◌, refl, sym, ap, subst, ◌∙◌, append_assoc, arith}
-use Rattle.std.specs.Prelude.{T, min}
+use Rattle.std.proofs.Common.{◌≡◌, ℕ, ◌+◌, ◌-◌, ◌<◌, ◌≤◌, ◌≢◌, inl, inr, Bool, true, false, List, [], ◌∷◌, ◌++◌, refl, sym, ap, subst, ◌∙◌, append_assoc, arith}
+use Rattle.std.specs.Prelude.{T, if◌then◌else◌, min}
 use Rattle.std.specs.FinMap.{is_sorted}
 use Rattle.std.specs.FinMap.Entries.{below_all}
-use Rattle.std.specs.List.{list_all}
 use Rattle.std.specs.Ordering.{is_eq}
 use Rattle.std.specs.declared.cmp.Ordering.TheVariants.{Less}
 use Rattle.std.proofs.lemmas.Bool.{cases_Bool}
 use Rattle.std.proofs.lemmas.Cmp.{tied_itself}
 use Rattle.tabled_grid.specs.Covers.{cover_in}
-use Rattle.tabled_grid.specs.Hidden.{is_visible}
 use Rattle.tabled_grid.specs.Spans.{Rectangle, SpanMap, position_cmp, size_at, sized, with_size, with_sizes}
 use Rattle.tabled_grid.specs.declared.config.position.Position.{Position}
 use Rattle.tabled_grid.specs.declared.records.axis.Axis.{Axis}
 use Rattle.tabled_grid.specs.declared.records.axis.Axis.TheVariants.{Rows, Columns}
 use Rattle.tabled_grid.proofs.Merging.{column_span-is, row_span-is}
+use Rattle.tabled_grid.proofs.SortedEntries.{both}
 use Rattle.tabled_grid.proofs.SpanMaps.{halves, less, size_at-with_size-other}
 use Rattle.tabled_grid.proofs.Spans.{positions_total}
 use Rattle.tabled_grid.specs.Axis.{across, count_of, line_of, resized}
 use Rattle.tabled_grid.specs.declared.config.size.Size.{Size}
-use Rattle.tabled_spans.specs.Spanned.{grown_each, stretch, with_span, with_visible_span}
+use Rattle.tabled_spans.specs.Spanned.{are_visible, grown_each, with_span, with_visible_span}
 use Rattle.tabled_spans.specs.SpanSteps.{change_at}
-use Rattle.tabled_spans.proofs.RisingPlaces.{both}
 
 pub with_sizes-append : (m : SpanMap) (xs ys : List Rectangle) → with_sizes m (xs ++ ys) ≡ with_sizes (with_sizes m xs) ys
 with_sizes-append m [] ys = refl
@@ -32,21 +30,18 @@ below_here : (k : Position) (xs : List Rectangle) (p : Position) (s : Size) (res
 below_here k [] p s rest b = less _ (halves _ _ b).0
 below_here k (x ∷ xs) p s rest b = below_here k xs p s rest (halves _ _ b).1
 
-below_set : (k : Position) (xs : List Rectangle) (p : Position) (s t : Size) (rest : List Rectangle) → T (below_all position_cmp k (xs ++ (p, s) ∷ rest)) → T (below_all position_cmp k (xs ++ (p, t) ∷ rest))
-below_set k [] p s t rest b = b
-below_set k (x ∷ xs) p s t rest b = both _ _ (halves _ _ b).0 (below_set k xs p s t rest (halves _ _ b).1)
+-- with another size at one of rising places, or with that place left out, they still rise
+module _ (p : Position) (s t : Size) (rest : List Rectangle) (stays : Bool) where
+  abbrev changed : List Rectangle
+  changed = if stays then (p, t) ∷ [] else []
 
-below_skip : (k : Position) (xs : List Rectangle) (p : Position) (s : Size) (rest : List Rectangle) → T (below_all position_cmp k (xs ++ (p, s) ∷ rest)) → T (below_all position_cmp k (xs ++ rest))
-below_skip k [] p s rest b = (halves _ _ b).1
-below_skip k (x ∷ xs) p s rest b = both _ _ (halves _ _ b).0 (below_skip k xs p s rest (halves _ _ b).1)
+  below_changed : (k : Position) (xs : List Rectangle) → T (below_all position_cmp k (xs ++ (p, s) ∷ rest)) → T (below_all position_cmp k (xs ++ (changed ++ rest)))
+  below_changed k [] b = elim stays as (λ c. T (below_all position_cmp k ((if c then (p, t) ∷ [] else []) ++ rest))) [ true ↦ b | false ↦ (halves _ _ b).1 ]
+  below_changed k (x ∷ xs) b = both _ _ (halves _ _ b).0 (below_changed k xs (halves _ _ b).1)
 
-sorted_set : (xs : List Rectangle) (p : Position) (s t : Size) (rest : List Rectangle) → T (is_sorted position_cmp (xs ++ (p, s) ∷ rest)) → T (is_sorted position_cmp (xs ++ (p, t) ∷ rest))
-sorted_set [] p s t rest up = up
-sorted_set (x ∷ xs) p s t rest up = both _ _ (below_set x.0 xs p s t rest (halves _ _ up).0) (sorted_set xs p s t rest (halves _ _ up).1)
-
-sorted_skip : (xs : List Rectangle) (p : Position) (s : Size) (rest : List Rectangle) → T (is_sorted position_cmp (xs ++ (p, s) ∷ rest)) → T (is_sorted position_cmp (xs ++ rest))
-sorted_skip [] p s rest up = (halves _ _ up).1
-sorted_skip (x ∷ xs) p s rest up = both _ _ (below_skip x.0 xs p s rest (halves _ _ up).0) (sorted_skip xs p s rest (halves _ _ up).1)
+  sorted_changed : (xs : List Rectangle) → T (is_sorted position_cmp (xs ++ (p, s) ∷ rest)) → T (is_sorted position_cmp (xs ++ (changed ++ rest)))
+  sorted_changed [] up = elim stays as (λ c. T (is_sorted position_cmp ((if c then (p, t) ∷ [] else []) ++ rest))) [ true ↦ up | false ↦ (halves _ _ up).1 ]
+  sorted_changed (x ∷ xs) up = both _ _ (below_changed x.0 xs (halves _ _ up).0) (sorted_changed xs (halves _ _ up).1)
 
 -- sizes set at places before do not touch a place
 pub size-before : (m : SpanMap) (xs : List Rectangle) (p : Position) (s : Size) (rest : List Rectangle) → T (is_sorted position_cmp (xs ++ (p, s) ∷ rest)) → size_at (with_sizes m xs) p ≡ size_at m p
@@ -65,19 +60,11 @@ span-is Columns m p many some = column_span-is m p many some
 
 -- the change at a place makes the span there
 pub change-is : (axis : Axis) (m : SpanMap) (p : Position) (many : ℕ) → 1 ≤ many → with_sizes m (change_at axis m p many) ≡ with_visible_span axis m p many
-change-is axis m p many some = either (cases_Bool (list_all (is_visible m) (stretch axis p (line_of axis p) many)))
-  where
-    either : (list_all (is_visible m) (stretch axis p (line_of axis p) many) ≡ true) ⊎ (list_all (is_visible m) (stretch axis p (line_of axis p) many) ≡ false) → with_sizes m (change_at axis m p many) ≡ with_visible_span axis m p many
-    either (inl t) = rw t (sym (span-is axis m p many some))
-    either (inr f) = rw f refl
+change-is axis m p many some = elim (cases_Bool (are_visible axis m p many)) [ inl t ↦ rw t (sym (span-is axis m p many some)) | inr f ↦ rw f refl ]
 
 -- after the change at a place, the next places still rise
 pub sorted-change : (axis : Axis) (m : SpanMap) (p : Position) (many : ℕ) (xs rest : List Rectangle) → T (is_sorted position_cmp (xs ++ (p, sized 1 1) ∷ rest)) → T (is_sorted position_cmp ((xs ++ change_at axis m p many) ++ rest))
-sorted-change axis m p many xs rest up = subst (λ (es : List Rectangle). T (is_sorted position_cmp es)) (sym (append_assoc xs (change_at axis m p many) rest)) (either (cases_Bool (list_all (is_visible m) (stretch axis p (line_of axis p) many))))
-  where
-    either : (list_all (is_visible m) (stretch axis p (line_of axis p) many) ≡ true) ⊎ (list_all (is_visible m) (stretch axis p (line_of axis p) many) ≡ false) → T (is_sorted position_cmp (xs ++ (change_at axis m p many ++ rest)))
-    either (inl t) = rw t (sorted_set xs p (sized 1 1) (resized axis (size_at m p) many) rest up)
-    either (inr f) = rw f (sorted_skip xs p (sized 1 1) rest up)
+sorted-change axis m p many xs rest up = subst (λ (es : List Rectangle). T (is_sorted position_cmp es)) (sym (append_assoc xs (change_at axis m p many) rest)) (sorted_changed p (sized 1 1) (resized axis (size_at m p) many) rest (are_visible axis m p many) xs up)
 
 -- the change at a place, and spans at those that follow
 pub changes-more : (cfg : SpanMap) (xs new : List Rectangle) (p : Position) (rest : List Position) (axis : Axis) (size n many : ℕ) → many ≡ min size (n - line_of axis p) → 1 ≤ many → new ≡ xs ++ change_at axis (with_sizes cfg xs) p many → grown_each axis size n (with_sizes cfg new) rest ≡ grown_each axis size n (with_sizes cfg xs) (p ∷ rest)

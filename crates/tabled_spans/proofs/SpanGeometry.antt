@@ -1,8 +1,8 @@
 -- How merged cells lie after spans.
-use Rattle.std.proofs.Common.{◌≡◌, Option, ℕ, zero, suc, ◌+◌, ◌-◌, ◌<◌, ◌≤◌, ◌⊎◌, inl, inr, true, false, List, Some, None, refl, take, arith}
-use Rattle.std.specs.Prelude.{ℤ, pos, negsuc, min, ◌<ℤ◌}
-use Rattle.std.specs.List.{AllByRecursion, list_all}
-use Rattle.std.proofs.lemmas.Bool.{cases_Bool}
+use Rattle.std.proofs.Common.{◌≡◌, Option, ℕ, suc, ◌+◌, ◌-◌, ◌<◌, ◌≤◌, true, List, Some, None, refl, take, arith}
+use Rattle.std.specs.Prelude.{ℤ, pos, min, ◌<ℤ◌}
+use Rattle.std.specs.List.{AllByRecursion}
+use Rattle.std.proofs.lemmas.Bool.{cond_both}
 use Rattle.tabled_grid.specs.Entity.{inside}
 use Rattle.tabled_grid.specs.Grid.{Grid, map_grid}
 use Rattle.tabled_grid.specs.Midway.{Midway, LieWithin}
@@ -20,22 +20,18 @@ use Rattle.tabled_options.specs.Writes.{DoesFirstWrites}
 use Rattle.tabled_options.proofs.Keeps.{keeps_same_or}
 use Rattle.tabled_options.proofs.Shapes.{shape_texts}
 use Rattle.tabled_grid.specs.Axis.{count_of, in_line, line_of}
-use Rattle.tabled_spans.specs.Spanned.{IsFlat, Spans, SpansFirst, grown, grown_at, grown_each, pulled, pulled_at, span_writes, spanned, stretch, taken, with_span}
+use Rattle.tabled_spans.specs.Spanned.{IsFlat, Spans, SpansFirst, are_visible, back_of, grown, grown_at, grown_each, pulled, pulled_at, span_writes, spanned, taken, with_span}
 use Rattle.tabled_spans.proofs.FreeCells.{all_pass}
 use Rattle.tabled_spans.proofs.SpanChanges.{index_within}
 
 -- a span over visible cells of a table keeps what holds in the middle
-midway_visible : (axis : Axis) (m : SpanMap) (p : Position) (many rows columns : ℕ) → 1 ≤ many → p.row < rows → p.col < columns → line_of axis p + many ≤ count_of axis rows columns → list_all (is_visible m) (stretch axis p (line_of axis p) many) ≡ true → Midway m rows columns → Midway (with_span axis m p many) rows columns
+midway_visible : (axis : Axis) (m : SpanMap) (p : Position) (many rows columns : ℕ) → 1 ≤ many → p.row < rows → p.col < columns → line_of axis p + many ≤ count_of axis rows columns → are_visible axis m p many ≡ true → Midway m rows columns → Midway (with_span axis m p many) rows columns
 midway_visible Columns m p many rows columns some row col fits all mid = midway_widened m p many some rows columns row fits (all_pass (is_visible m) Columns p p.col many all) mid
 midway_visible Rows m p many rows columns some row col fits all mid = midway_heightened m p many some rows columns col fits (all_pass (is_visible m) Rows p p.row many all) mid
 
 -- what a span over visible cells keeps where it is made, it keeps
-grown-keeps : (P : SpanMap → Type 0) (axis : Axis) (size n : ℕ) (m : SpanMap) (p : Position) → (list_all (is_visible m) (stretch axis p (line_of axis p) (min size (n - line_of axis p))) ≡ true → P (with_span axis m p (min size (n - line_of axis p)))) → P m → P (grown_at axis size n m p)
-grown-keeps P axis size n m p made kept = either (cases_Bool (list_all (is_visible m) (stretch axis p (line_of axis p) (min size (n - line_of axis p)))))
-  where
-    either : (list_all (is_visible m) (stretch axis p (line_of axis p) (min size (n - line_of axis p))) ≡ true) ⊎ (list_all (is_visible m) (stretch axis p (line_of axis p) (min size (n - line_of axis p))) ≡ false) → P (grown_at axis size n m p)
-    either (inl t) = rw t (made t)
-    either (inr f) = rw f kept
+grown-keeps : (P : SpanMap → Type 0) (axis : Axis) (size n : ℕ) (m : SpanMap) (p : Position) → (are_visible axis m p (min size (n - line_of axis p)) ≡ true → P (with_span axis m p (min size (n - line_of axis p)))) → P m → P (grown_at axis size n m p)
+grown-keeps P axis size n m p made kept = cond_both (are_visible axis m p (min size (n - line_of axis p))) _ _ P made (λ hidden. kept)
 
 midway_grown : (axis : Axis) (size rows columns : ℕ) → 1 ≤ size → (m : SpanMap) (p : Position) → p.row < rows → p.col < columns → Midway m rows columns → Midway (grown_at axis size (count_of axis rows columns) m p) rows columns
 midway_grown axis size rows columns least m p row col mid =
@@ -107,8 +103,7 @@ flat_spanned axis size e m rows columns fits flat = by_sign size
 
     by_sign : (s : ℤ) → Fits (spanned axis s e rows columns m) rows columns × IsFlat axis (spanned axis s e rows columns m)
     by_sign (pos (suc s)) = flat_dropped_along axis _ rows columns (fold-keeps (λ k. AreFlat axis k rows columns) (grown_at axis (suc s) (count_of axis rows columns)) rows columns (flat_grown axis (suc s) rows columns (omega arith)) (inside e rows columns) m (inside-within e rows columns) start)
-    by_sign (pos zero) = all None
-    by_sign (negsuc s) = all (Some (s + 1))
+    by_sign s = all (back_of s)
 
 module _ {A : Type 0} (text_of : A → List ℕ) (axis : Axis) (size : ℤ) (e : Entity) (P : SpanMap → ℕ → ℕ → Type 0) where
   -- what a span keeps of the merged cells of a table, the option keeps, also where it is refused
@@ -124,5 +119,4 @@ module _ {A : Type 0} (text_of : A → List ℕ) (axis : Axis) (size : ℤ) (e :
 
 pub fits_spanned : (axis : Axis) (size : ℤ) (e : Entity) → pos 0 <ℤ size → (m : SpanMap) (rows columns : ℕ) → Fits m rows columns → Fits (spanned axis size e rows columns m) rows columns
 fits_spanned axis (pos (suc s)) e positive m rows columns fits = fits_grown axis (suc s) e m rows columns (omega arith) fits
-fits_spanned axis (pos zero) e positive m rows columns fits = absurd (omega (arith, positive))
-fits_spanned axis (negsuc s) e positive m rows columns fits = absurd (omega (arith, positive))
+fits_spanned axis _ e positive m rows columns fits = absurd (omega (arith, positive))

@@ -11,13 +11,8 @@ use Rattle.tabled_grid.specs.declared.records.axis.Axis.TheVariants.{Rows, Colum
 use Rattle.tabled_grid.proofs.Geometry.{cases_place}
 use Rattle.tabled_spans.specs.RunSteps.{AreTails, Before, IsTail}
 use Rattle.tabled_spans.specs.Runs.{Joins, further}
-use Rattle.tabled_spans.proofs.RunLists.{in_row, one_more, split_last}
-use Rattle.tabled_spans.proofs.Runs.{further_none, same_last}
-
--- n cells from the next place on are n + 1 from this one on
-further_back : (axis : Axis) (k n : ℕ) (last p : Position) → further axis 1 last ≡ p → k + 1 ≡ n → further axis k p ≡ further axis n last
-further_back Rows k n last p is e = ap₂ place (omega (arith, e, ap (λ (x : Position). x.row) is)) (sym (ap (λ (x : Position). x.col) is))
-further_back Columns k n last p is e = ap₂ place (sym (ap (λ (x : Position). x.row) is)) (omega (arith, e, ap (λ (x : Position). x.col) is))
+use Rattle.tabled_spans.proofs.RunLists.{in_row, next_row, one_more, split_last}
+use Rattle.tabled_spans.proofs.Runs.{further_back, further_none, same_last}
 
 -- the cell after a place along the axis comes not before the next place, row by row
 next_after : (axis : Axis) (p : Position) → Before p.row (p.col + 1) (further axis 1 p) → ⊥
@@ -39,13 +34,12 @@ module _ (axis : Axis) (g : Grid (List ℕ)) (m : SpanMap) where
   pub tail_more : (last p : Position) (many : ℕ) → further axis 1 last ≡ p → Joins axis g m last → IsTail axis g m p many → IsTail axis g m last (many + 1)
   tail_more last p many is j tail = record {
     some = omega arith;
-    joins = λ k h. either k h (cases_lt 0 k);
+    joins = λ k h. elim (cases_lt 0 k) [
+      | inl l ↦ subst (Joins axis g m) (further_back axis (k - 1) k last p is (omega arith)) (tail.joins (k - 1) (omega arith))
+      | inr l ↦ subst (Joins axis g m) (sym (further_none axis last) ∙ ap (λ n. further axis n last) (omega arith)) j
+    ];
     ends = λ e. tail.ends (subst (Joins axis g m) (sym (further_back axis (many - 1) (many + 1 - 1) last p is (omega (arith, tail.some)))) e);
   }
-    where
-      either : (k : ℕ) → k + 1 < many + 1 → (0 < k) ⊎ (k ≤ 0) → Joins axis g m (further axis k last)
-      either k h (inl l) = subst (Joins axis g m) (further_back axis (k - 1) k last p is (omega arith)) (tail.joins (k - 1) (omega arith))
-      either k h (inr l) = subst (Joins axis g m) (sym (further_none axis last) ∙ ap (λ n. further axis n last) (omega arith)) j
 
   -- the first cell of a tail of two joins the next one
   pub tail_joins : (p : Position) (many : ℕ) → IsTail axis g m p many → 2 ≤ many → Joins axis g m p
@@ -72,12 +66,8 @@ module _ (axis : Axis) (g : Grid (List ℕ)) (m : SpanMap) where
   pub tails_end : (i j : ℕ) (lengths : List ℕ) → g.columns ≤ j → AreTails axis g m (i + 1) 0 lengths → AreTails axis g m i j lengths
   tails_end i j lengths wide so_far = record {
     size = so_far.size;
-    each = λ p inside before alone. so_far.each p inside (next_row p before) (λ within h. alone within (in_row i j g.columns (further axis 1 p) wide within.col h));
+    each = λ p inside before alone. so_far.each p inside (next_row i j p before) (λ within h. alone within (in_row i j g.columns (further axis 1 p) wide within.col h));
   }
-    where
-      next_row : (p : Position) → Before i j p → Before (i + 1) 0 p
-      next_row p (inl above) = inl (omega arith)
-      next_row p (inr h) = inl (omega (arith, h.0))
 
   module _ (p : Position) (inside : IsInside g p) (lengths : List ℕ) (so_far : AreTails axis g m p.row (p.col + 1) lengths) where
     -- the tail at the place
@@ -85,18 +75,7 @@ module _ (axis : Axis) (g : Grid (List ℕ)) (m : SpanMap) where
     tail_here = so_far.each p inside (inr (refl, omega arith)) (λ within h. next_after axis p h)
 
     tail_still : (r : Position) → IsInside g r → Before p.row p.col r → (IsInside g (further axis 1 r) → Before p.row p.col (further axis 1 r) → ⊥) → (further axis 1 r ≡ p → ⊥) → IsTail axis g m r (slice_index lengths r.col)
-    tail_still r within before alone other = so_far.each r within (one_more p.row p.col r before) (λ next h. either next (split_last p.row p.col (further axis 1 r) h))
-      where
-        either : IsInside g (further axis 1 r) → Before p.row p.col (further axis 1 r) ⊎ (further axis 1 r ≡ p) → ⊥
-        either next (inl h) = alone next h
-        either next (inr e) = other e
-
-    -- where none comes before the place
-    pub tails_kept : ((last : Position) → further axis 1 last ≡ p → ⊥) → AreTails axis g m p.row p.col lengths
-    tails_kept first = record {
-      size = so_far.size;
-      each = λ r within before alone. tail_still r within before alone (first r);
-    }
+    tail_still r within before alone other = so_far.each r within (one_more p.row p.col r before) (λ next h. elim (split_last p.row p.col (further axis 1 r) h) [ inl b ↦ alone next b | inr e ↦ other e ])
 
     -- the tail at the place before it
     pub tails_set : (last : Position) (many : ℕ) → further axis 1 last ≡ p → IsTail axis g m last many → AreTails axis g m p.row p.col (slice_set lengths last.col many)

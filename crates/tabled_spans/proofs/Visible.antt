@@ -109,12 +109,11 @@ next-past axis e p end k next past = clear-if axis e p end (λ j low high at. om
 
 -- else its rectangle tells
 pub next-tells : (axis : Axis) (e : Rectangle) (p : Position) (end k : ℕ) → IsNext axis e p end k → k < end → line_of (across axis) e.0 ≤ line_of (across axis) p → line_of (across axis) p < line_of (across axis) e.0 + lines_in (across axis) e.1 → is_clear axis p (end - line_of axis p) e ≡ nat_le (lines_in axis e.1) (k - line_of axis e.0)
-next-tells axis e p end k next low top bottom = either (cases_lt (k - line_of axis e.0) (lines_in axis e.1))
-  where
-    either : (k - line_of axis e.0 < lines_in axis e.1) ⊎ (lines_in axis e.1 ≤ k - line_of axis e.0) → is_clear axis p (end - line_of axis p) e ≡ nat_le (lines_in axis e.1) (k - line_of axis e.0)
-    either (inl h) =
-        not_clear axis e p end k next.here low (record { low = next.begin; high = omega (arith, next.begin); top = top; bottom = bottom; other = next.other low })
-        ∙ sym (lt-leb _ _ h)
-    either (inr h) =
-        clear-if axis e p end (λ j here high at. omega (arith, next.least j here at, at.high, at.low))
-        ∙ sym (le-leb _ _ h)
+next-tells axis e p end k next low top bottom = elim (cases_lt (k - line_of axis e.0) (lines_in axis e.1)) [
+  | inl h ↦
+      not_clear axis e p end k next.here low (record { low = next.begin; high = omega (arith, next.begin); top = top; bottom = bottom; other = next.other low })
+      ∙ sym (lt-leb _ _ h)
+  | inr h ↦
+      clear-if axis e p end (λ j here high at. omega (arith, next.least j here at, at.high, at.low))
+      ∙ sym (le-leb _ _ h)
+]

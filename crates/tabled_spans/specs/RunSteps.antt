@@ -21,13 +21,6 @@ Before i j p = (p.row < i) ⊎ ((p.row ≡ i) × (p.col < j))
 abbrev pub IsOfRun : Axis → Grid (List ℕ) → SpanMap → Rectangle → Type 0
 IsOfRun axis g m e = (many : ℕ) × IsRun axis g m e.0 many × (e.1 ≡ size_of_run axis many)
 
--- the anchors and sizes of all runs that begin before a place, row by row
-pub record RunsBefore (axis : Axis) (g : Grid (List ℕ)) (m : SpanMap) (i j : ℕ) (sizes : List Rectangle) : Type 0 where
-  pub sorted : T (is_sorted position_cmp sizes)
-  pub before : AllByRecursion (λ (e : Rectangle). Before i j e.0) sizes
-  pub each : AllByRecursion (IsOfRun axis g m) sizes
-  pub all : (p : Position) (many : ℕ) → IsRun axis g m p many → Before i j p → find position_cmp p sizes ≡ Some (size_of_run axis many)
-
 -- the anchors and sizes of all runs that begin at a place or after it, row by row
 pub record RunsFrom (axis : Axis) (g : Grid (List ℕ)) (m : SpanMap) (i j : ℕ) (sizes : List Rectangle) : Type 0 where
   pub sorted : T (is_sorted position_cmp sizes)

@@ -1,6 +1,6 @@
 -- Spans: how cells next to each other are merged, and what becomes of their texts.
 -- A span of rows goes along the rows, over the cells of a column; a span of columns along the columns.
-use Rattle.std.specs.Prelude.{◌≡◌, ◌<◌, ◌<ℤ◌, ◌+◌, ◌-◌, Bool, ℕ, suc, ℤ, pos, negsuc, min, Option, None, Some, List, [], ◌∷◌, map, ◌++◌, if◌then◌else◌}
+use Rattle.std.specs.Prelude.{◌≡◌, ◌<◌, ◌<ℤ◌, ◌+◌, ◌-◌, ◌⊎◌, Bool, ℕ, suc, ℤ, pos, negsuc, min, Option, None, Some, List, [], ◌∷◌, length, map, ◌++◌, if◌then◌else◌}
 use Rattle.std.specs.List.{AllByRecursion, fold, list_all, range_with_len}
 use Rattle.std.specs.Option.{unwrap_or}
 use Rattle.tabled_grid.specs.Axis.{count_of, in_line, line_of}
@@ -115,6 +115,10 @@ pub record Spans {A : Type 0} (text_of : A → List ℕ) (axis : Axis) (size : �
 -- what it leaves where it is refused: all as it was, or the writes before one of its own, with the merged cells as they were
 abbrev pub SpansFirst : {A : Type 0} → (A → List ℕ) → Axis → ℤ → Entity → Change A SpanMap
 SpansFirst text_of axis size e = SameOrFirstWrites text_of (span_writes axis size e)
+
+-- a span takes no memory on no cell of a table, and one of size 1 takes none on one cell
+abbrev pub SpanTakesNoMemory : ℤ → Entity → ℕ → ℕ → Type 0
+SpanTakesNoMemory size e rows columns = (inside e rows columns ≡ []) ⊎ ((size ≡ pos 1) × (length (inside e rows columns) ≡ 1))
 
 -- no rectangle has more than one line: one column for spans of rows, one row for spans of columns
 abbrev pub IsFlat : Axis → SpanMap → Type 0

@@ -4,9 +4,9 @@ use Rattle.std.specs.FinMap.{get, same_map}
 use Rattle.std.specs.List.{flat_map, range_with_len}
 use Rattle.std.specs.Option.{option_eq}
 use Rattle.std.specs.Str.{bytes_eq}
-use Rattle.std.proofs.lemmas.Bool.{and_from, and_parts, lt-ltb, ltb-true}
+use Rattle.std.proofs.lemmas.Bool.{and_from, and_parts, false≢true, lt-ltb, ltb-true}
 use Rattle.std.proofs.lemmas.Grind.{flat_map-append}
-use Rattle.std.proofs.lemmas.List.{append-nil, append_assoc}
+use Rattle.std.proofs.lemmas.List.{append_assoc}
 use Rattle.std.proofs.lemmas.Option.{none-some, same_Some}
 use Rattle.std.proofs.lemmas.Slice.Eq.{bytes_eq-Decides}
 use Rattle.tabled_grid.specs.Entity.{place}
@@ -18,13 +18,11 @@ use Rattle.tabled_grid.specs.declared.records.axis.Axis.TheVariants.{Rows, Colum
 use Rattle.tabled_grid.proofs.Places.{block-is, places}
 use Rattle.tabled_grid.proofs.Spans.{positions_exact, positions_total}
 use Rattle.tabled_spans.specs.Runs.{IsRun, Joins, MergesRuns, further, size_of_run}
-use Rattle.tabled_spans.proofs.RunLists.{row_done, run_added, run_passed, runs_merged}
+use Rattle.tabled_spans.proofs.RunLists.{runs_merged}
 use Rattle.tabled_spans.proofs.Runs.{continues, further_none, run_at as run_at_end, same_run}
-use Rattle.tabled_spans.specs.RunSteps.{Before, RunAt, RunsBefore}
+use Rattle.tabled_spans.proofs.RunsFrom.{from_end, none_below, none_put, run_put}
+use Rattle.tabled_spans.specs.RunSteps.{RunAt, RunsFrom}
 use Rattle.tabled_steps.specs.MergedRuns.{is_inside, is_joined, joins, run_at, run_from, runs}
-
-true_false : false ≡ true → ⊥
-true_false e = cc
 
 alike_if : (a b : Option (List ℕ)) → a ≡ b → option_eq bytes_eq a b ≡ true
 alike_if None None e = refl
@@ -34,8 +32,8 @@ alike_if (Some x) (Some y) e = (bytes_eq-Decides x y).1 (same_Some x y e)
 
 if_alike : (a b : Option (List ℕ)) → option_eq bytes_eq a b ≡ true → a ≡ b
 if_alike None None t = refl
-if_alike None (Some y) t = absurd (true_false t)
-if_alike (Some x) None t = absurd (true_false t)
+if_alike None (Some y) t = absurd (false≢true t)
+if_alike (Some x) None t = absurd (false≢true t)
 if_alike (Some x) (Some y) t = ap Some ((bytes_eq-Decides x y).0 t)
 
 module _ (axis : Axis) (g : Grid (List ℕ)) (m : SpanMap) where
@@ -68,7 +66,7 @@ module _ (axis : Axis) (g : Grid (List ℕ)) (m : SpanMap) where
       record { inside = inside-joins p inside.0; next_inside = inside-joins (further axis 1 p) inside.1; free = free.0; next_free = free.1; same = if_alike _ _ others.1 }
 
   apart_if : (p : Position) → joins axis g m p ≡ false → Joins axis g m p → ⊥
-  apart_if p f j = true_false (sym f ∙ joins_if p j)
+  apart_if p f j = false≢true (sym f ∙ joins_if p j)
 
   further_next : (x : Axis) (k : ℕ) (p : Position) → further x k (further x 1 p) ≡ further x (suc k) p
   further_next Rows k p = ap₂ place (omega arith) refl
@@ -76,11 +74,7 @@ module _ (axis : Axis) (g : Grid (List ℕ)) (m : SpanMap) where
 
   some_run : (most : ℕ) (p : Position) → 1 ≤ run_from most axis g m p
   some_run zero p = omega arith
-  some_run (suc most) p = by (joins axis g m p) refl
-    where
-      by : (b : Bool) → joins axis g m p ≡ b → 1 ≤ cond (joins axis g m p) (suc (run_from most axis g m (further axis 1 p))) 1
-      by true is = rw is (omega arith)
-      by false is = rw is (omega arith)
+  some_run (suc most) p = elim (joins axis g m p) as (λ b. 1 ≤ cond b (suc (run_from most axis g m (further axis 1 p))) 1) [ true ↦ omega arith | false ↦ omega arith ]
 
   -- each cell of those that are counted joins the next one
   run_joins : (most : ℕ) (p : Position) (k : ℕ) → k + 1 < run_from most axis g m p → Joins axis g m (further axis k p)
@@ -135,7 +129,7 @@ module _ (axis : Axis) (g : Grid (List ℕ)) (m : SpanMap) where
 
   -- what is listed for a place is the run that begins there
   found_at : (p : Position) → is_joined axis g m p ≡ false → RunAt axis g m p (counted p)
-  found_at p alone = run_at_end axis g m p (counted p) (further axis (counted p - 1) p) (some_run (g.rows + g.columns) p) refl (run_joins (g.rows + g.columns) p) (never_ends p) (λ q is j. true_false (sym alone ∙ joined_next axis q p is (joins_if q j)))
+  found_at p alone = run_at_end axis g m p (counted p) (further axis (counted p - 1) p) (some_run (g.rows + g.columns) p) refl (run_joins (g.rows + g.columns) p) (never_ends p) (λ q is j. false≢true (sym alone ∙ joined_next axis q p is (joins_if q j)))
 
   continued : (p : Position) → is_joined axis g m p ≡ true → RunAt axis g m p 0
   continued p t = let last = last_joined axis p t in continues axis g m p last.0 last.1 (if_joins last.0 last.2)
@@ -148,44 +142,35 @@ module _ (axis : Axis) (g : Grid (List ℕ)) (m : SpanMap) where
   one_at zero p f = refl
   one_at (suc most) p f = rw f refl
 
-  one_place : (i j : ℕ) (es : List Rectangle) → RunsBefore axis g m i j es → RunsBefore axis g m i (j + 1) (es ++ run_at axis g m (place i j))
-  one_place i j es so_far = by (joins axis g m p) (is_joined axis g m p) refl refl
+  one_place : (i j : ℕ) (es : List Rectangle) → RunsFrom axis g m i (j + 1) es → RunsFrom axis g m i j (run_at axis g m (place i j) ++ es)
+  one_place i j es so_far = by (joins axis g m (place i j)) (is_joined axis g m (place i j)) refl refl
     where
-      p : Position
-      p = place i j
-
-      by : (b c : Bool) → joins axis g m (place i j) ≡ b → is_joined axis g m (place i j) ≡ c → RunsBefore axis g m i (j + 1) (es ++ run_at axis g m (place i j))
+      by : (b c : Bool) → joins axis g m (place i j) ≡ b → is_joined axis g m (place i j) ≡ c → RunsFrom axis g m i j (run_at axis g m (place i j) ++ es)
       by true false t f =
           let inside = (if_joins (place i j) t).inside in
-          rw (t, f) (run_added axis g m i j es so_far (counted (place i j)) (two_at (g.rows + g.columns) (place i j) (omega (arith, inside.row)) t) (found_at (place i j) f))
-      by true true t f = rw (t, f, append-nil es) (run_passed axis g m i j es so_far 0 (omega arith) (continued (place i j) f))
-      by false true t f = rw (t, append-nil es) (run_passed axis g m i j es so_far 0 (omega arith) (continued (place i j) f))
-      by false false t f = rw (t, append-nil es) (run_passed axis g m i j es so_far (counted (place i j)) (omega (arith, one_at (g.rows + g.columns) (place i j) t)) (found_at (place i j) f))
+          rw (t, f) (run_put axis g m i j es so_far (counted (place i j)) (two_at (g.rows + g.columns) (place i j) (omega (arith, inside.row)) t) (found_at (place i j) f))
+      by true true t f = rw (t, f) (none_put axis g m i j es so_far 0 (omega arith) (continued (place i j) f))
+      by false true t f = rw t (none_put axis g m i j es so_far 0 (omega arith) (continued (place i j) f))
+      by false false t f = rw t (none_put axis g m i j es so_far (counted (place i j)) (omega (arith, one_at (g.rows + g.columns) (place i j) t)) (found_at (place i j) f))
 
   abbrev listed : List Position → List Rectangle
   listed = flat_map (run_at axis g m)
 
-  one_row : (n i j : ℕ) (es : List Rectangle) → j + n ≡ g.columns → RunsBefore axis g m i j es → RunsBefore axis g m i g.columns (es ++ listed (map (place i) (range_with_len j n)))
-  one_row zero i j es e so_far = rw (append-nil es) (subst (λ k. RunsBefore axis g m i k es) (omega (arith, e)) so_far)
-  one_row (suc n) i j es e so_far = rw (← append_assoc es (run_at axis g m (place i j)) (listed (map (place i) (range_with_len (j + 1) n)))) (one_row n i (j + 1) (es ++ run_at axis g m (place i j)) (omega (arith, e)) (one_place i j es so_far))
+  one_row : (n i j : ℕ) (es : List Rectangle) → j + n ≡ g.columns → RunsFrom axis g m i g.columns es → RunsFrom axis g m i j (listed (map (place i) (range_with_len j n)) ++ es)
+  one_row zero i j es e so_far = subst (λ k. RunsFrom axis g m i k es) (omega (arith, e)) so_far
+  one_row (suc n) i j es e so_far =
+      let rest = map (place i) (range_with_len (j + 1) n) in
+      rw (append_assoc (run_at axis g m (place i j)) (listed rest) es) (one_place i j (listed rest ++ es) (one_row n i (j + 1) es (omega (arith, e)) so_far))
 
-  all_rows : (n i : ℕ) (es : List Rectangle) → i + n ≡ g.rows → RunsBefore axis g m i 0 es → RunsBefore axis g m g.rows 0 (es ++ listed (places (range_with_len i n) (range_with_len 0 g.columns)))
-  all_rows zero i es e so_far = rw (append-nil es) (subst (λ k. RunsBefore axis g m k 0 es) (omega (arith, e)) so_far)
-  all_rows (suc n) i es e so_far =
+  all_rows : (n i : ℕ) → i + n ≡ g.rows → RunsFrom axis g m i 0 (listed (places (range_with_len i n) (range_with_len 0 g.columns)))
+  all_rows zero i e = none_below axis g m i (omega (arith, e))
+  all_rows (suc n) i e =
       let first = map (place i) (range_with_len 0 g.columns) in
       let rest = places (range_with_len (i + 1) n) (range_with_len 0 g.columns) in
-      let row = row_done axis g m i g.columns (es ++ listed first) (omega arith) (one_row g.columns i 0 es (omega arith) so_far) in
-      rw (flat_map-append (run_at axis g m) first rest, ← append_assoc es (listed first) (listed rest)) (all_rows n (i + 1) (es ++ listed first) (omega (arith, e)) row)
+      rw (flat_map-append (run_at axis g m) first rest) (one_row g.columns i 0 (listed rest) (omega arith) (from_end axis g m i g.columns (listed rest) (omega arith) (all_rows n (i + 1) (omega (arith, e)))))
 
-  none_yet : RunsBefore axis g m 0 0 []
-  none_yet = record { sorted = tt; before = tt; each = tt; all = λ p many run before. absurd (nowhere p before) }
-    where
-      nowhere : (p : Position) → Before 0 0 p → ⊥
-      nowhere p (inl above) = omega (arith, above)
-      nowhere p (inr h) = omega (arith, h.1)
-
-  runs_listed : RunsBefore axis g m g.rows 0 (runs axis g m)
-  runs_listed = rw (block-is 0 g.rows 0 g.columns g.rows g.columns (omega arith) (omega arith)) (all_rows g.rows 0 [] (omega arith) none_yet)
+  runs_listed : RunsFrom axis g m 0 0 (runs axis g m)
+  runs_listed = rw (block-is 0 g.rows 0 g.columns g.rows g.columns (omega arith) (omega arith)) (all_rows g.rows 0 (omega arith))
 
   -- the map in which the runs are merged is that with their sizes
   pub is_merged : (n : SpanMap) → MergesRuns axis g m n → n ≡ with_sizes m (runs axis g m)

@@ -1,15 +1,19 @@
 -- Columns that are brought to the front of each row, and rows that are kept.
-use Rattle.std.proofs.Common.{◌≡◌, ◌≢◌, ℕ, zero, suc, ◌+◌, ◌<◌, ◌≤◌, Bool, true, false, cond, not, List, [], ◌∷◌, ◌++◌, ◌&&◌, inl, inr, ◌⊎◌, refl, ap, ap₂, sym, ◌∙◌, map, take, drop, set, get_or, length, replicate, arith}
-use Rattle.std.specs.List.{AllByRecursion, AllZip, EachIndex, filter, list_all, swap}
-use Rattle.std.proofs.lemmas.Bool.{cases_eq}
-use Rattle.std.proofs.lemmas.List.{drop_more, drop-drop, drop-set-lt, get_or-drop, get_or-set_same, append-nil, length_push, get_or-set_other, length-map, length-set, length-take, map-append, map-id, take-set, take-set-le, take_more}
+use Rattle.std.proofs.Common.{◌≡◌, ◌≢◌, ℕ, zero, suc, ◌+◌, ◌<◌, ◌≤◌, Bool, true, false, cond, List, [], ◌∷◌, ◌++◌, inl, inr, ◌⊎◌, refl, ap, ap₂, sym, ◌∙◌, map, take, drop, set, get_or, length, replicate, ⊎_elim, arith}
+use Rattle.std.specs.List.{AllZip, EachIndex, filter, swap}
+use Rattle.std.proofs.lemmas.Bool.{cases_Bool, cases_eq}
+use Rattle.std.proofs.lemmas.List.{drop_more, drop-set-lt, get_or-drop, get_or-set_same, append-nil, length_push, get_or-set_other, length-map, length-set, length-take, map-append, map-id, take-set, take-set-le, take_more}
 use Rattle.std.proofs.lemmas.List.Edits.{length-swap, swap_is}
+use Rattle.std.proofs.lemmas.List.Elements.{All-filter, All-map, recursion_from_All}
 use Rattle.std.proofs.lemmas.List.FromFn.{filter_of_map_range_with_len_more}
 use Rattle.std.proofs.lemmas.Simd.{map-map}
 use Rattle.std.proofs.lemmas.Slice.Zip.{AllZip-map}
 use Rattle.std.proofs.Math.Nat.{add-zero}
-use Rattle.tabled_table.specs.Builder.{AreRecords, has_text_in, is_empty_text, only_columns, text_columns}
+use Rattle.tabled_grid.specs.Evenness.{AreWide}
+use Rattle.tabled_table.specs.Builder.{has_text_in, only_columns, row_has_text, text_columns}
 use Rattle.tabled_table.specs.Gathering.{brought_forward}
+use Rattle.tabled_table.proofs.Columns.{even-each}
+use Rattle.tabled_table.proofs.RowByRow.{rest_after}
 
 -- the list with the members of ks in front, and from j on as it was
 pub record Gathered {A : Type 0} (d : A) (columns kept j : ℕ) (ks : List ℕ) (old new : List A) : Type 0 where
@@ -22,11 +26,8 @@ module _ {A : Type 0} (d : A) (columns : ℕ) where
   gathered_next : (kept j k : ℕ) (ks : List ℕ) (old new : List A) → Gathered d columns kept j ks old new → get_or new (j + k) d ≡ get_or old (j + k) d
   gathered_next kept j k ks old new h = sym (get_or-drop j new k d) ∙ ap (λ xs. get_or xs k d) h.rest ∙ get_or-drop j old k d
 
-  gathered_rest : (j : ℕ) (old new : List A) → drop j new ≡ drop j old → drop (j + 1) new ≡ drop (j + 1) old
-  gathered_rest j old new rest = sym (drop-drop 1 j new) ∙ ap (drop 1) rest ∙ drop-drop 1 j old
-
   gathered_skip : (kept j : ℕ) (ks : List ℕ) (old new : List A) → Gathered d columns kept j ks old new → Gathered d columns kept (j + 1) ks old new
-  gathered_skip kept j ks old new h = record { front = h.front; rest = gathered_rest j old new h.rest; long = h.long }
+  gathered_skip kept j ks old new h = record { front = h.front; rest = rest_after old new j h.rest; long = h.long }
 
   -- what a swap brings to the front
   swapped_front : (xs : List A) (kept j : ℕ) → kept ≤ j → j < length xs → get_or (set (set xs kept (get_or xs j d)) j (get_or xs kept d)) kept d ≡ get_or xs j d
@@ -51,22 +52,20 @@ module _ {A : Type 0} (d : A) (columns : ℕ) where
             ∙ take_more twice kept d wide
             ∙ ap₂ (λ xs x. xs ++ x ∷ []) (take-set-le kept once j (get_or new kept d) below ∙ take-set new kept (get_or new j d) ∙ h.front) (swapped_front new kept j below inside ∙ next)
             ∙ sym (map-append (λ k. get_or old k d) ks (j ∷ []));
-        rest = ap (drop (j + 1)) is ∙ drop-set-lt (j + 1) once j (get_or new kept d) (omega arith) ∙ drop-set-lt (j + 1) new kept (get_or new j d) (omega arith) ∙ gathered_rest j old new h.rest;
+        rest = ap (drop (j + 1)) is ∙ drop-set-lt (j + 1) once j (get_or new kept d) (omega arith) ∙ drop-set-lt (j + 1) new kept (get_or new j d) (omega arith) ∙ rest_after old new j h.rest;
         long = length-swap new kept j ∙ h.long;
       }
 
 -- relations of the members of two lists, where those of the second are changed
-AllZip-changed : {A B : Type 0} (R Q : A → B → Type 0) (g : B → B) → ((x : A) (y : B) → R x y → Q x (g y)) → (xs : List A) (ys : List B) → AllZip R xs ys → AllZip Q xs (map g ys)
+AllZip-changed : {A B C : Type 0} (R : A → B → Type 0) (Q : A → C → Type 0) (g : B → C) → ((x : A) (y : B) → R x y → Q x (g y)) → (xs : List A) (ys : List B) → AllZip R xs ys → AllZip Q xs (map g ys)
 AllZip-changed R Q g h [] [] z = tt
 AllZip-changed R Q g h [] (y ∷ ys) z = absurd z
 AllZip-changed R Q g h (x ∷ xs) [] z = absurd z
 AllZip-changed R Q g h (x ∷ xs) (y ∷ ys) z = (h x y z.0, AllZip-changed R Q g h xs ys z.1)
 
-AllZip-weaker : {A B : Type 0} (R Q : A → B → Type 0) → ((x : A) (y : B) → R x y → Q x y) → (xs : List A) (ys : List B) → AllZip R xs ys → AllZip Q xs ys
-AllZip-weaker R Q h [] [] z = tt
-AllZip-weaker R Q h [] (y ∷ ys) z = absurd z
-AllZip-weaker R Q h (x ∷ xs) [] z = absurd z
-AllZip-weaker R Q h (x ∷ xs) (y ∷ ys) z = (h x y z.0, AllZip-weaker R Q h xs ys z.1)
+-- what is the same of each two members
+maps_alike : {A B C : Type 0} (R : A → B → Type 0) (f : A → C) (g : B → C) → ((x : A) (y : B) → R x y → g y ≡ f x) → (xs : List A) (ys : List B) → AllZip R xs ys → map g ys ≡ map f xs
+maps_alike R f g same xs ys z = AllZip-map f xs (map g ys) (AllZip-changed R (λ x y. y ≡ f x) g same xs ys z)
 
 -- as many marks as are taken
 pub few_marks : (m n : ℕ) → length (take m (replicate n false)) ≤ m
@@ -91,37 +90,24 @@ pub record GatheredRows (columns kept j : ℕ) (old new : List (List (List ℕ))
   pub rows : AllZip (Gathered [] columns kept j (text_columns j old)) old new
 
 module _ (columns : ℕ) where
-  pub gathered_rows_none : (old : List (List (List ℕ))) → AreRecords columns old → GatheredRows columns 0 0 old old
+  pub gathered_rows_none : (old : List (List (List ℕ))) → AreWide columns old → GatheredRows columns 0 0 old old
   gathered_rows_none old even = record { count = refl; below = omega arith; rows = each old even }
     where
-      each : (rows : List (List (List ℕ))) → AreRecords columns rows → AllZip (Gathered [] columns 0 0 []) rows rows
+      each : (rows : List (List (List ℕ))) → AreWide columns rows → AllZip (Gathered [] columns 0 0 []) rows rows
       each [] e = tt
       each (row ∷ rows) e = (record { front = refl; rest = refl; long = e.0 }, each rows e.1)
 
   -- the columns from j on still have the texts that they had
   pub gathered_rows_next : (kept j k : ℕ) (old new : List (List (List ℕ))) → GatheredRows columns kept j old new → has_text_in new (j + k) ≡ has_text_in old (j + k)
-  gathered_rows_next kept j k old new h = ap not (each old new h.rows)
-    where
-      each : (xs ys : List (List (List ℕ))) → AllZip (Gathered [] columns kept j (text_columns j old)) xs ys →
-          list_all (λ row. is_empty_text (get_or row (j + k) [])) ys ≡ list_all (λ row. is_empty_text (get_or row (j + k) [])) xs
-      each [] [] z = refl
-      each [] (y ∷ ys) z = absurd z
-      each (x ∷ xs) [] z = absurd z
-      each (x ∷ xs) (y ∷ ys) z = ap₂ (λ a b. is_empty_text a && b) (gathered_next [] columns kept j k _ x y z.0) (each xs ys z.1)
+  gathered_rows_next kept j k old new h = ap row_has_text (maps_alike (Gathered [] columns kept j (text_columns j old)) (λ row. get_or row (j + k) []) (λ row. get_or row (j + k) []) (gathered_next [] columns kept j k (text_columns j old)) old new h.rows)
 
   gathered_columns : (j : ℕ) (old : List (List (List ℕ))) → text_columns (j + 1) old ≡ text_columns j old ++ cond (has_text_in old j) (j ∷ []) []
   gathered_columns j old =
       let more = filter_of_map_range_with_len_more (has_text_in old) (λ k. k) 0 j j (omega arith) in
       rw (map-id, map-id) at more
 
-  pub gathered_rows_even : (kept j : ℕ) (old new : List (List (List ℕ))) → GatheredRows columns kept j old new → AreRecords columns new
-  gathered_rows_even kept j old new h = each old new h.rows
-    where
-      each : (xs ys : List (List (List ℕ))) → AllZip (Gathered [] columns kept j (text_columns j old)) xs ys → AreRecords columns ys
-      each [] [] z = tt
-      each [] (y ∷ ys) z = absurd z
-      each (x ∷ xs) [] z = absurd z
-      each (x ∷ xs) (y ∷ ys) z = (z.0.long, each xs ys z.1)
+  pub gathered_rows_even : (kept j : ℕ) (old new : List (List (List ℕ))) → GatheredRows columns kept j old new → AreWide columns new
+  gathered_rows_even kept j old new h = even-each columns (Gathered [] columns kept j (text_columns j old)) (λ x y g. g.long) old new h.rows
 
   gathered_rows_skip : (kept j : ℕ) (old new : List (List (List ℕ))) → GatheredRows columns kept j old new → has_text_in old j ≡ false → GatheredRows columns kept (j + 1) old new
   gathered_rows_skip kept j old new h none =
@@ -130,7 +116,7 @@ module _ (columns : ℕ) where
       record {
         count = h.count ∙ ap length (sym same);
         below = omega (arith, h.below);
-        rows = rw same (AllZip-weaker (Gathered [] columns kept j ks) (Gathered [] columns kept (j + 1) ks) (λ x y r. gathered_skip [] columns kept j ks x y r) old new h.rows);
+        rows = rw same (rw (map-id new) at (AllZip-changed (Gathered [] columns kept j ks) (Gathered [] columns kept (j + 1) ks) (λ row. row) (gathered_skip [] columns kept j ks) old new h.rows));
       }
 
   gathered_rows_swap : (kept j : ℕ) (old new : List (List (List ℕ))) → j < columns → GatheredRows columns kept j old new → has_text_in old j ≡ true → GatheredRows columns (kept + 1) (j + 1) old (map (λ row. swap row kept j) new)
@@ -167,30 +153,15 @@ module _ (columns : ℕ) where
       map (take kept) new ≡ only_columns (text_columns columns old) old
   gathered_rows_all kept old new h =
       let ks = text_columns columns old in
-      AllZip-map (λ row. map (λ j. get_or row j []) ks) old (map (take kept) new)
-      (AllZip-changed (Gathered [] columns kept columns ks) (λ x y. y ≡ map (λ j. get_or x j []) ks) (take kept) (λ x y r. r.front) old new h.rows)
+      maps_alike (Gathered [] columns kept columns ks) (λ row. map (λ j. get_or row j []) ks) (take kept) (λ x y g. g.front) old new h.rows
 
 -- what a filter keeps, seen through a function
 pub map-filter : {A B : Type 0} (f : A → B) (test : B → Bool) (xs : List A) → map f (filter (λ x. test (f x)) xs) ≡ filter test (map f xs)
 map-filter f test [] = refl
-map-filter {A} {B} f test (x ∷ xs) = each (test (f x)) ∙ ap (λ ys. cond (test (f x)) (f x ∷ ys) ys) (map-filter f test xs)
-  where
-    each : (b : Bool) → map f (cond b (x ∷ filter (λ x. test (f x)) xs) (filter (λ x. test (f x)) xs)) ≡ cond b (f x ∷ map f (filter (λ x. test (f x)) xs)) (map f (filter (λ x. test (f x)) xs))
-    each true = refl
-    each false = refl
-
-all-filter_more : {A : Type 0} (P : A → Type 0) (x : A) (xs : List A) → P x → AllByRecursion P xs → (b : Bool) → AllByRecursion P (cond b (x ∷ xs) xs)
-all-filter_more P x xs p h true = (p, h)
-all-filter_more P x xs p h false = h
-
-pub all-filter : {A : Type 0} (P : A → Type 0) (test : A → Bool) (xs : List A) → AllByRecursion P xs → AllByRecursion P (filter test xs)
-all-filter P test [] h = tt
-all-filter P test (x ∷ xs) h = all-filter_more P x (filter test xs) h.0 (all-filter P test xs h.1) (test x)
+map-filter f test (x ∷ xs) = ⊎_elim (λ passes. rw passes (ap (λ ys. f x ∷ ys) (map-filter f test xs))) (λ fails. rw fails (map-filter f test xs)) (cases_Bool (test (f x)))
 
 -- the kept members of each row, where rows without a text are gone
-pub even-cleaned : (ks : List ℕ) (rows : List (List (List ℕ))) (test : List (List ℕ) → Bool) → AreRecords (length ks) (filter test (only_columns ks rows))
-even-cleaned ks rows test = all-filter (λ row. length row ≡ length ks) test (only_columns ks rows) (each rows)
-  where
-    each : (xs : List (List (List ℕ))) → AreRecords (length ks) (only_columns ks xs)
-    each [] = tt
-    each (x ∷ xs) = (length-map ks (λ j. get_or x j []), each xs)
+pub even-cleaned : (ks : List ℕ) (rows : List (List (List ℕ))) (test : List (List ℕ) → Bool) → AreWide (length ks) (filter test (only_columns ks rows))
+even-cleaned ks rows test =
+    let Wide = λ (row : List (List ℕ)). length row ≡ length ks in
+    recursion_from_All Wide (filter test (only_columns ks rows)) (All-filter test Wide (only_columns ks rows) (All-map Wide (λ row. map (λ j. get_or row j []) ks) rows (λ k d _. length-map ks (λ j. get_or (get_or rows k d) j []))))

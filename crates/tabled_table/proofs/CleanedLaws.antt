@@ -1,72 +1,57 @@
 -- What is left after cleaning.
-use Rattle.std.proofs.Common.{◌≡◌, ℕ, zero, suc, ◌+◌, ◌<◌, ◌≤◌, Bool, true, false, cond, not, ◌&&◌, List, [], ◌∷◌, refl, ap, ap₂, sym, ◌∙◌, subst, map, get_or, length, arith}
-use Rattle.std.specs.List.{AllByRecursion, filter, list_all, range_with_len}
-use Rattle.std.proofs.lemmas.List.{get_or-map, length-map}
-use Rattle.std.proofs.lemmas.List.Elements.{All-get_or, filter_passes, recursion_from_All}
-use Rattle.std.proofs.lemmas.List.FromFn.{fill_by_all, length-range_with_len}
-use Rattle.tabled_table.specs.Builder.{AreRecords, Builder, IsClean, cleaned, columns_with_text, has_text_in, is_empty_text, only_columns, row_has_text}
+use Rattle.std.proofs.Common.{◌≡◌, ℕ, zero, suc, ◌+◌, ◌<◌, Bool, true, cond, not, ◌&&◌, List, [], ◌∷◌, refl, ap, ap₂, sym, ◌∙◌, subst, map, get_or, length, arith}
+use Rattle.std.specs.List.{All, filter, list_all, range_with_len}
+use Rattle.std.proofs.lemmas.Bool.{and_parts, cond_both, not-false}
+use Rattle.std.proofs.lemmas.List.{get_or-map, map-id}
+use Rattle.std.proofs.lemmas.List.Elements.{All-head, All-tail, filter_passes, recursion_from_All}
+use Rattle.std.proofs.lemmas.List.FromFn.{fill_by_all, get_or-range_with_len, length-range_with_len}
+use Rattle.tabled_grid.proofs.Mapped.{maps_agree}
+use Rattle.tabled_table.specs.Builder.{Builder, IsClean, cleaned, column_of, columns_with_text, has_text_in, is_empty_text, only_columns, row_has_text}
 use Rattle.tabled_table.proofs.Cleaned.{even-cleaned}
+use Rattle.tabled_table.proofs.Columns.{map-even}
 
--- a row that has a text at j has a text
-text_at : (row : List (List ℕ)) (j : ℕ) → j < length row → is_empty_text (get_or row j []) ≡ false → list_all is_empty_text row ≡ false
-text_at [] j h e = absurd (omega arith)
-text_at (text ∷ row) zero h e = ap (λ b. b && list_all is_empty_text row) e
-text_at (text ∷ row) (suc j) h e = either (is_empty_text text) (list_all is_empty_text row) (text_at row j (omega arith) e)
-  where
-    either : (a b : Bool) → b ≡ false → (a && b) ≡ false
-    either true b r = r
-    either false b r = refl
+-- a row without a text has none at j
+no_text_at : (row : List (List ℕ)) (j : ℕ) → list_all is_empty_text row ≡ true → is_empty_text (get_or row j []) ≡ true
+no_text_at [] j none = refl
+no_text_at (text ∷ row) zero none = (and_parts (is_empty_text text) (list_all is_empty_text row) none).0
+no_text_at (text ∷ row) (suc j) none = no_text_at row j (and_parts (is_empty_text text) (list_all is_empty_text row) none).1
 
--- one more row, which may be kept
-kept_row : (b : Bool) (row : List (List ℕ)) (rows : List (List (List ℕ))) (j : ℕ) → is_empty_text (get_or row j []) ≡ true → has_text_in rows j ≡ true → has_text_in (cond b (row ∷ rows) rows) j ≡ true
-kept_row true row rows j e some = ap (λ a. not (a && list_all (λ r. is_empty_text (get_or r j [])) rows)) e ∙ some
-kept_row false row rows j e some = some
+-- a column has the texts that it had, where rows without one are gone
+same_texts : (rows : List (List (List ℕ))) (j : ℕ) → list_all is_empty_text (column_of (filter row_has_text rows) j) ≡ list_all is_empty_text (column_of rows j)
+same_texts [] j = refl
+same_texts (row ∷ rows) j =
+    let kept = filter row_has_text rows in
+    cond_both (row_has_text row) (row ∷ kept) kept (λ rs. list_all is_empty_text (column_of rs j) ≡ list_all is_empty_text (column_of (row ∷ rows) j))
+    (λ some. ap (λ b. is_empty_text (get_or row j []) && b) (same_texts rows j))
+    (λ none. same_texts rows j ∙ ap (λ b. b && list_all is_empty_text (column_of rows j)) (sym (no_text_at row j (not-false (list_all is_empty_text row) none))))
 
-kept_more : (a r : Bool) (row : List (List ℕ)) (rows : List (List (List ℕ))) (j : ℕ) → is_empty_text (get_or row j []) ≡ a → (a ≡ false → row_has_text row ≡ true) →
-    (not r ≡ true → has_text_in rows j ≡ true) → not (a && r) ≡ true → has_text_in (cond (row_has_text row) (row ∷ rows) rows) j ≡ true
-kept_more true r row rows j e kept others some = kept_row (row_has_text row) row rows j e (others some)
-kept_more false r row rows j e kept others some =
-    subst (λ (b : Bool). has_text_in (cond b (row ∷ rows) rows) j ≡ true) (sym (kept refl)) (ap (λ a. not (a && list_all (λ r. is_empty_text (get_or r j [])) rows)) e)
-
--- a column that had a text has it still
-column_kept : (ks : List ℕ) (j : ℕ) → j < length ks → (rows : List (List (List ℕ))) → has_text_in rows (get_or ks j 0) ≡ true →
-    has_text_in (filter row_has_text (only_columns ks rows)) j ≡ true
-column_kept ks j h [] some = some
-column_kept ks j h (row ∷ rows) some =
-    let texts = map (λ k. get_or row k []) ks in
-    let is : get_or texts j [] ≡ get_or row (get_or ks j 0) [] = get_or-map (λ k. get_or row k []) ks j 0 [] h in
-    kept_more (is_empty_text (get_or row (get_or ks j 0) [])) (list_all (λ r. is_empty_text (get_or r (get_or ks j 0) [])) rows) texts _ j (ap is_empty_text is)
-    (λ e. ap not (text_at texts j (omega (arith, length-map ks (λ k. get_or row k []))) (ap is_empty_text is ∙ e)))
-    (column_kept ks j h rows) some
+column_of-only_columns : (ks : List ℕ) (rows : List (List (List ℕ))) (j : ℕ) → j < length ks → column_of (only_columns ks rows) j ≡ column_of rows (get_or ks j 0)
+column_of-only_columns ks rows j within =
+    maps_agree (λ texts. get_or texts j []) (λ row. map (λ k. get_or row k []) ks) (λ row. get_or row (get_or ks j 0) []) (λ row. row) (λ row. get_or-map (λ k. get_or row k []) ks j 0 [] within) rows
+    ∙ ap (λ rs. column_of rs (get_or ks j 0)) (map-id rows)
 
 -- where each passes, a filter keeps all
-filter_same : {A : Type 0} (test : A → Bool) (xs : List A) → AllByRecursion (λ x. test x ≡ true) xs → filter test xs ≡ xs
+filter_same : {A : Type 0} (test : A → Bool) (xs : List A) → All (λ x. test x ≡ true) xs → filter test xs ≡ xs
 filter_same test [] h = refl
-filter_same test (x ∷ xs) h = ap (λ b. cond b (x ∷ filter test xs) (filter test xs)) h.0 ∙ ap (λ ys. x ∷ ys) (filter_same test xs h.1)
-
-all-range : (P : ℕ → Type 0) (a n : ℕ) → ((k : ℕ) → a ≤ k → k < a + n → P k) → AllByRecursion P (range_with_len a n)
-all-range P a zero h = tt
-all-range P a (suc n) h = (h a (omega arith) (omega arith), all-range P (a + 1) n (λ k low high. h k (omega arith) (omega arith)))
-
--- all members of each row
-rows_whole : (n : ℕ) (rows : List (List (List ℕ))) → AreRecords n rows → only_columns (range_with_len 0 n) rows ≡ rows
-rows_whole n [] even = refl
-rows_whole n (row ∷ rows) even = ap₂ (λ x xs. x ∷ xs) (sym (fill_by_all (λ k. get_or row k []) row n [] even.0 (λ k h. refl))) (rows_whole n rows even.1)
+filter_same test (x ∷ xs) h = ap (λ b. cond b (x ∷ filter test xs) (filter test xs)) (All-head (λ y. test y ≡ true) x xs h) ∙ ap (λ ys. x ∷ ys) (filter_same test xs (All-tail (λ y. test y ≡ true) x xs h))
 
 columns_kept : (b : Builder) (j : ℕ) → j < length (columns_with_text b) → has_text_in (cleaned b).rows j ≡ true
-columns_kept b j h = column_kept (columns_with_text b) j h b.rows (All-get_or (λ k. has_text_in b.rows k ≡ true) (columns_with_text b) j 0 h (filter_passes (has_text_in b.rows) (range_with_len 0 b.columns)))
+columns_kept b j h =
+    let ks = columns_with_text b in
+    ap not (same_texts (only_columns ks b.rows) j) ∙ ap row_has_text (column_of-only_columns ks b.rows j h) ∙ filter_passes (has_text_in b.rows) (range_with_len 0 b.columns) j 0 h
 
-rows_kept : (b : Builder) → AllByRecursion (λ row. row_has_text row ≡ true) (cleaned b).rows
-rows_kept b = recursion_from_All (λ row. row_has_text row ≡ true) (cleaned b).rows (filter_passes row_has_text (only_columns (columns_with_text b) b.rows))
+rows_kept : (b : Builder) → All (λ row. row_has_text row ≡ true) (cleaned b).rows
+rows_kept b = filter_passes row_has_text (only_columns (columns_with_text b) b.rows)
 
 pub IsClean-cleaned : (b : Builder) → IsClean (cleaned b)
-IsClean-cleaned b = record { rows = rows_kept b; columns = columns_kept b }
+IsClean-cleaned b = record { rows = recursion_from_All (λ row. row_has_text row ≡ true) (cleaned b).rows (rows_kept b); columns = columns_kept b }
 
 pub cleaned-cleaned : (b : Builder) → cleaned (cleaned b) ≡ cleaned b
 cleaned-cleaned b =
     let rows = (cleaned b).rows in
     let n = length (columns_with_text b) in
-    let all : columns_with_text (cleaned b) ≡ range_with_len 0 n = filter_same (has_text_in rows) (range_with_len 0 n) (all-range (λ j. has_text_in rows j ≡ true) 0 n (λ k low high. columns_kept b k (omega arith))) in
-    let whole : only_columns (range_with_len 0 n) rows ≡ rows = rows_whole n rows (even-cleaned (columns_with_text b) b.rows row_has_text) in
+    let count : length (range_with_len 0 n) ≡ n = length-range_with_len 0 n in
+    let all : columns_with_text (cleaned b) ≡ range_with_len 0 n = filter_same (has_text_in rows) (range_with_len 0 n) (λ k d within. subst (λ j. has_text_in rows j ≡ true) (sym (get_or-range_with_len 0 n k d (omega arith))) (columns_kept b (0 + k) (omega arith))) in
+    let whole : only_columns (range_with_len 0 n) rows ≡ rows = map-even n (λ row. map (λ k. get_or row k []) (range_with_len 0 n)) (λ row long. sym (fill_by_all (λ k. get_or row k []) row n [] long (λ k h. refl))) rows (even-cleaned (columns_with_text b) b.rows row_has_text) in
     ap (λ (ks : List ℕ). let c : Builder = record b { columns = length ks; rows = filter row_has_text (only_columns ks rows) } in c) all
-    ∙ ap₂ (λ (m : ℕ) (rs : List (List (List ℕ))). let c : Builder = record b { columns = m; rows = rs } in c) (length-range_with_len 0 n) (ap (filter row_has_text) whole ∙ filter_same row_has_text rows (rows_kept b))
+    ∙ ap₂ (λ (m : ℕ) (rs : List (List (List ℕ))). let c : Builder = record b { columns = m; rows = rs } in c) count (ap (filter row_has_text) whole ∙ filter_same row_has_text rows (rows_kept b))

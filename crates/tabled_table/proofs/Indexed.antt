@@ -1,69 +1,61 @@
 -- A table with an index: its rows are equally long, and turning it twice changes nothing.
-use Rattle.std.proofs.Common.{◌≡◌, ℕ, ◌+◌, ◌-◌, ◌<◌, Bool, true, false, not, List, [], ◌∷◌, Option, None, Some, IfSome, option_map, refl, ap, sym, subst, ◌∙◌, get_or, length, map, arith}
+use Rattle.std.proofs.Common.{◌≡◌, ℕ, ◌+◌, ◌-◌, ◌<◌, Bool, true, false, List, [], ◌∷◌, Option, None, Some, IfSome, option_map, refl, ap, sym, subst, ◌∙◌, get_or, length, map, arith}
 use Rattle.std.specs.Fmt.{decimal}
 use Rattle.std.specs.List.{remove}
+use Rattle.std.proofs.Math.Bool.{not-not}
 use Rattle.std.proofs.lemmas.List.{length-map}
 use Rattle.std.proofs.lemmas.List.Edits.{length-remove}
 use Rattle.std.proofs.lemmas.List.FromFn.{length-map-range_with_len}
+use Rattle.tabled_grid.specs.Bulk.{transposed_rows}
 use Rattle.tabled_grid.specs.Grid.{width_of}
-use Rattle.tabled_table.specs.Builder.{AreRecords}
-use Rattle.tabled_table.specs.Index.{Indexed, IsIndexed, built_rows, columns_as_rows, numbers, transposed_index, with_column_as_index, with_index, with_index_name, with_name_if}
+use Rattle.tabled_grid.proofs.Transposed.{length-transposed, wide-transposed}
+use Rattle.tabled_grid.specs.Evenness.{AreWide}
+use Rattle.tabled_table.specs.Index.{Indexed, IsIndexed, built_rows, numbers, transposed_index, with_column_as_index, with_index, with_index_name, with_name_if}
 use Rattle.tabled_table.proofs.Columns.{even-with_items, even-without}
 use Rattle.tabled_table.proofs.Padded.{length-padded_to}
-use Rattle.tabled_table.proofs.Transposed.{even-columns_as_rows, length-columns_as_rows, columns_as_rows-columns_as_rows}
-
--- rows of one length are as long as the first
-even-width : {A : Type 0} (n : ℕ) (rows : List (List A)) → AreRecords n rows → AreRecords (width_of rows) rows
-even-width n [] even = tt
-even-width {A} n (row ∷ rows) even = subst (λ m. AreRecords m (row ∷ rows)) (sym even.0) even
+use Rattle.tabled_table.proofs.Tables.{even-width}
+use Rattle.tabled_table.proofs.Transposed.{transposed_rows-transposed_rows}
 
 -- the columns with those of the index
 abbrev columns_with : Bool → ℕ → ℕ
 columns_with true n = n + 1
 columns_with false n = n
 
-even-index : (shown : Bool) (x : Indexed) → x.shown ≡ shown → IsIndexed x → AreRecords (columns_with shown (length x.header)) (with_index x)
+even-index : (shown : Bool) (x : Indexed) → x.shown ≡ shown → IsIndexed x → AreWide (columns_with shown (length x.header)) (with_index x)
 even-index true x e h = rw e (even-with_items (length x.header) 0 (x.header ∷ x.body) ([] ∷ x.index) (omega arith) (refl, h.wide))
 even-index false x e h = rw e (refl, h.wide)
 
-even-name : (n : ℕ) (in_header : Bool) (name : List ℕ) (rows : List (List (List ℕ))) → AreRecords n rows → AreRecords n (with_index_name in_header name rows)
+even-name : (n : ℕ) (in_header : Bool) (name : List ℕ) (rows : List (List (List ℕ))) → AreWide n rows → AreWide n (with_index_name in_header name rows)
 even-name n in_header name [] even = tt
 even-name n in_header name ([] ∷ rows) even = even
 even-name n true name ((first ∷ header) ∷ rows) even = even
-even-name n false name ((first ∷ header) ∷ rows) even = (even.0, (length-padded_to (length header + 1) [] (name ∷ []) (omega arith) ∙ omega (arith, even.0), even.1))
+even-name n false name ((first ∷ header) ∷ rows) even = (even.0, (omega (arith, length-padded_to (length header + 1) [] (name ∷ []), even.0), even.1))
 
-even-name_if : (n : ℕ) (in_header : Bool) (name : Option (List ℕ)) (rows : List (List (List ℕ))) → AreRecords n rows → AreRecords n (with_name_if in_header name rows)
+even-name_if : (n : ℕ) (in_header : Bool) (name : Option (List ℕ)) (rows : List (List (List ℕ))) → AreWide n rows → AreWide n (with_name_if in_header name rows)
 even-name_if n in_header None rows even = even
 even-name_if n in_header (Some name) rows even = even-name n in_header name rows even
 
-pub even-rows_of : (x : Indexed) → IsIndexed x → AreRecords (width_of (built_rows x)) (built_rows x)
+pub even-rows_of : (x : Indexed) → IsIndexed x → AreWide (width_of (built_rows x)) (built_rows x)
 even-rows_of x h =
     let columns = columns_with x.shown (length x.header) in
     even-width columns (built_rows x) (even-name_if columns _ x.name (with_index x) (even-index x.shown x refl h))
 
-pub IsIndexed-numbers : (x : Indexed) → x.index ≡ numbers (length x.body) → AreRecords (length x.header) x.body → IsIndexed x
+pub IsIndexed-numbers : (x : Indexed) → x.index ≡ numbers (length x.body) → AreWide (length x.header) x.body → IsIndexed x
 IsIndexed-numbers x is wide = record { tall = sym (ap length is ∙ length-map-range_with_len decimal 0 (length x.body)); wide = wide }
 
 pub IsIndexed-transposed : (x : Indexed) → IsIndexed x → IsIndexed (transposed_index x)
-IsIndexed-transposed x h = record { tall = length-columns_as_rows (length x.header) x.body; wide = subst (λ n. AreRecords n (columns_as_rows (length x.header) x.body)) h.tall (even-columns_as_rows (length x.header) x.body) }
+IsIndexed-transposed x h = record { tall = length-transposed (length x.header) x.body h.wide; wide = subst (λ n. AreWide n (transposed_rows (length x.header) x.body)) h.tall (wide-transposed (length x.header) x.body) }
 
 pub IsIndexed-column : (c : ℕ) (x : Indexed) → c < length x.header → IsIndexed x → IsIndexed (with_column_as_index c x)
 IsIndexed-column c x within h =
     let shorter : length x.header - 1 ≡ length (remove x.header c) = omega (arith, length-remove x.header c within) in
     record {
       tall = length-map x.body (λ row. remove row c) ∙ sym (length-map x.body (λ row. get_or row c []));
-      wide = subst (λ n. AreRecords n (map (λ row. remove row c) x.body)) shorter (even-without (length x.header) c x.body within h.wide);
+      wide = subst (λ n. AreWide n (map (λ row. remove row c) x.body)) shorter (even-without (length x.header) c x.body within h.wide);
     }
-
-not_twice : (b : Bool) → not (not b) ≡ b
-not_twice true = refl
-not_twice false = refl
-
-pub transposed_index-transposed_index : (x : Indexed) → IsIndexed x → transposed_index (transposed_index x) ≡ x
-transposed_index-transposed_index x h =
-    let body : columns_as_rows (length x.index) (columns_as_rows (length x.header) x.body) ≡ x.body = ap (λ n. columns_as_rows n (columns_as_rows (length x.header) x.body)) (sym h.tall) ∙ columns_as_rows-columns_as_rows (length x.header) x.body h.wide in
-    rw (body, not_twice x.is_transposed) refl
 
 pub transposed_twice : (x : Option Indexed) → IfSome x IsIndexed → option_map transposed_index (option_map transposed_index x) ≡ x
 transposed_twice None h = refl
-transposed_twice (Some x) h = ap Some (transposed_index-transposed_index x h)
+transposed_twice (Some x) h =
+    let body : transposed_rows (length x.index) (transposed_rows (length x.header) x.body) ≡ x.body = ap (λ n. transposed_rows n (transposed_rows (length x.header) x.body)) (sym h.tall) ∙ transposed_rows-transposed_rows (length x.header) x.body h.wide in
+    rw (body, not-not x.is_transposed) refl

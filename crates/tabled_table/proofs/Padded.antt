@@ -1,14 +1,11 @@
 -- Lists padded to a length.
-use Rattle.std.proofs.Common.{◌≡◌, ℕ, zero, suc, ◌-◌, ◌<◌, ◌≤◌, List, [], ◌∷◌, ◌++◌, refl, ap, ap₂, sym, ◌∙◌, map, take, set, get_or, replicate, length, arith}
+use Rattle.std.proofs.Common.{◌≡◌, ℕ, suc, ◌-◌, ◌<◌, ◌≤◌, max, List, [], ◌∷◌, ◌++◌, ap, sym, ◌∙◌, map, take, set, get_or, replicate, length, arith}
 use Rattle.std.proofs.lemmas.List.{append-nil, append_assoc, take_all, take-take, take-append-le, length-append, length-map, length-replicate, length-take, length_push, map-set, set-get_or, get_or-map}
-use Rattle.std.proofs.lemmas.List.Elements.{All-from_recursion}
-use Rattle.std.specs.List.{AllByRecursion}
+use Rattle.std.proofs.lemmas.List.Elements.{All-from_recursion, All-replicate, recursion_from_All}
 use Rattle.tabled_grid.proofs.Lists.{all-append, all-map}
-use Rattle.tabled_table.specs.Builder.{AreRecords, padded_to}
-
-all-replicate : {A : Type 0} (P : A → Type 0) (n : ℕ) (x : A) → P x → AllByRecursion P (replicate n x)
-all-replicate P zero x p = tt
-all-replicate P (suc n) x p = (p, all-replicate P n x p)
+use Rattle.tabled_grid.specs.Evenness.{AreWide}
+use Rattle.tabled_table.specs.Builder.{padded_to}
+use Rattle.tabled_table.proofs.Columns.{map-even}
 
 -- one more filler, where the list is too short
 pub padded_to-push : {A : Type 0} (n : ℕ) (filler : A) (xs : List A) → length xs < n → padded_to n filler (xs ++ filler ∷ []) ≡ padded_to n filler xs
@@ -22,8 +19,8 @@ padded_to-long n filler xs long =
     let none : n - length xs ≡ 0 = omega arith in
     rw none (append-nil xs)
 
-pub length-padded_to : {A : Type 0} (n : ℕ) (filler : A) (xs : List A) → length xs ≤ n → length (padded_to n filler xs) ≡ n
-length-padded_to {A} n filler xs short = omega (arith, length-append xs (replicate (n - length xs) filler), length-replicate {A = A} (n - length xs) filler)
+pub length-padded_to : {A : Type 0} (n : ℕ) (filler : A) (xs : List A) → length (padded_to n filler xs) ≡ max n (length xs)
+length-padded_to {A} n filler xs = omega (arith, length-append xs (replicate (n - length xs) filler), length-replicate {A = A} (n - length xs) filler)
 
 -- what was in front stays there
 pub take_front-append : {A : Type 0} (n : ℕ) (xs ys zs : List A) → length ys ≡ n → take n xs ≡ ys → take n (xs ++ zs) ≡ ys
@@ -32,7 +29,7 @@ take_front-append n xs ys zs long front =
     take-append-le n xs zs within ∙ front
 
 -- rows with an old row in front of each, of which one is put longer
-pub fronts_kept : {A C : Type 0} (f : A → List C) (from : ℕ) (old : List (List C)) (new : List A) (i n : ℕ) (d y : A) → AreRecords from old → i < length new →
+pub fronts_kept : {A C : Type 0} (f : A → List C) (from : ℕ) (old : List (List C)) (new : List A) (i n : ℕ) (d y : A) → AreWide from old → i < length new →
     map (take from) (map f new) ≡ old → n ≡ length (f (get_or new i d)) → take n (f y) ≡ f (get_or new i d) → map (take from) (map f (set new i y)) ≡ old
 fronts_kept {A} {C} f from old new i n d y even inside fronts long kept =
     let x = f (get_or new i d) in
@@ -46,22 +43,23 @@ fronts_kept {A} {C} f from old new i n d y even inside fronts long kept =
     rw (map-set f new i y, map-set (take from) (map f new) i (f y), fronts, same) (set-get_or old i [])
 
 -- rows of one length, cut off there
-pub fronts_all : {A : Type 0} (n : ℕ) (rows : List (List A)) → AreRecords n rows → map (take n) rows ≡ rows
-fronts_all n [] even = refl
-fronts_all n (row ∷ rows) even = let long : length row ≤ n = omega (arith, even.0) in ap₂ (λ x xs. x ∷ xs) (take_all n row long) (fronts_all n rows even.1)
+pub fronts_all : {A : Type 0} (n : ℕ) (rows : List (List A)) → AreWide n rows → map (take n) rows ≡ rows
+fronts_all n rows even = map-even n (take n) (λ row long. take_all n row (omega arith)) rows even
 
--- rows of one length, padded to it
-pub padded_all : {A : Type 0} (n : ℕ) (filler : A) (rows : List (List A)) → AreRecords n rows → map (padded_to n filler) rows ≡ rows
-padded_all n filler [] even = refl
-padded_all n filler (row ∷ rows) even = ap₂ (λ x xs. x ∷ xs) (padded_to-long n filler row (omega (arith, even.0))) (padded_all n filler rows even.1)
+-- rows of one length, padded to it or to less
+pub padded_all : {A : Type 0} (from n : ℕ) (filler : A) (rows : List (List A)) → n ≤ from → AreWide from rows → map (padded_to n filler) rows ≡ rows
+padded_all from n filler rows short even = map-even from (padded_to n filler) (λ row long. padded_to-long n filler row (omega arith)) rows even
 
 -- rows of one length, padded to another, all have this
-pub even-padded : {A : Type 0} (from n : ℕ) (filler : A) (rows : List (List A)) → from ≤ n → AreRecords from rows → AreRecords n (map (padded_to n filler) rows)
-even-padded {A} from n filler rows short even = all-map (λ (row : List A). length row ≡ from) (λ (row : List A). length row ≡ n) (padded_to n filler) (λ row e. length-padded_to n filler row (omega arith)) rows even
+pub even-padded : {A : Type 0} (from n : ℕ) (filler : A) (rows : List (List A)) → from ≤ n → AreWide from rows → AreWide n (map (padded_to n filler) rows)
+even-padded {A} from n filler rows short even = all-map (λ (row : List A). length row ≡ from) (λ (row : List A). length row ≡ n) (padded_to n filler) (λ row e. omega (arith, length-padded_to n filler row)) rows even
 
 pub padded_to-nil : {A : Type 0} (n : ℕ) (filler : A) → padded_to n filler [] ≡ replicate n filler
 padded_to-nil n filler = let all : n - 0 ≡ n = omega arith in ap (λ k. replicate k filler) all
 
 -- rows of one length, with more of it after them
-pub even-more : {A : Type 0} (n count : ℕ) (filler : A) (rows : List (List A)) → AreRecords n rows → AreRecords n (padded_to count (replicate n filler) rows)
-even-more {A} n count filler rows even = all-append (λ (row : List A). length row ≡ n) rows (replicate (count - length rows) (replicate n filler)) even (all-replicate (λ (row : List A). length row ≡ n) (count - length rows) (replicate n filler) (length-replicate n filler))
+pub even-more : {A : Type 0} (n count : ℕ) (filler : A) (rows : List (List A)) → AreWide n rows → AreWide n (padded_to count (replicate n filler) rows)
+even-more {A} n count filler rows even =
+    let Wide = λ (row : List A). length row ≡ n in
+    let more = count - length rows in
+    all-append Wide rows (replicate more (replicate n filler)) even (recursion_from_All Wide (replicate more (replicate n filler)) (All-replicate Wide more (replicate n filler) (length-replicate n filler)))

@@ -12,30 +12,18 @@ use Rattle.std.proofs.lemmas.List.{append-nil, get_or-map, length-map, map-id}
 use Rattle.std.proofs.lemmas.List.Elements.{All-from_recursion, recursion_from_All}
 use Rattle.std.proofs.lemmas.List.Sorted.{All-permutation}
 use Rattle.std.proofs.lemmas.Map.Iter.{rest_all, rest_so_far}
-use Rattle.tabled_table.specs.Builder.{AreRecords, row_texts}
+use Rattle.tabled_grid.specs.Evenness.{AreWide}
+use Rattle.tabled_table.specs.Builder.{row_texts}
 use Rattle.tabled_table.specs.Printed.{row_cmp}
 use Rattle.tabled_table.proofs.RowTexts.{texts_of}
 
--- an iterator over a list gave that list
-drained : {X : Type 0} (items it all : List X) → it ≡ all → Drains (TakesFirst (λ (x : X). x)) it items → items ≡ all
-drained {X} items it all is d =
-    sym (rest_so_far (λ (x : X). x) items it d.1.0 d.1.1 ∙ ap₂ (λ xs ys. xs ++ ys) (map-id items) (rest_all (λ (x : X). x) d.1.0 d.0 None refl d.1.2) ∙ append-nil items) ∙ is
-
--- rows of which each has n texts
-even-each : {E : Type 0} (n : ℕ) (R : E → List (List ℕ) → Type 0) → ((e : E) (row : List (List ℕ)) → R e row → length row ≡ n) → (entries : List E) (rows : List (List (List ℕ))) → AllZip R entries rows → AreRecords n rows
-even-each n R h [] [] z = tt
-even-each n R h [] (row ∷ rows) z = absurd z
-even-each n R h (e ∷ entries) [] z = absurd z
-even-each n R h (e ∷ entries) (row ∷ rows) z = (h e row z.0, even-each n R h entries rows z.1)
-
-pub even-texts : {E : Type 0} (n : ℕ) (R : E → List (List ℕ) → Type 0) → ((e : E) (row : List (List ℕ)) → R e row → length row ≡ n) → (entries : List E) (rows texts : List (List (List ℕ))) → AllZip R entries rows → texts ≡ rows → AreRecords n texts
-even-texts n R h entries rows texts z same = subst (λ (ts : List (List (List ℕ))). AreRecords n ts) (sym same) (even-each n R h entries rows z)
-
 -- the rows of the entries that were handed in, all that there are
-pub all-drained : {E : Type 0} (R : E → List (List ℕ) → Type 0) (all items it : List E) (rows texts : List (List (List ℕ))) → it ≡ all → Drains (TakesFirst (λ (x : E). x)) it items → AllZip R items rows → texts ≡ rows → AllZip R all texts
-all-drained {E} R all items it rows texts is d z same = subst (λ (es : List E). AllZip R es texts) (drained items it all is d) (subst (λ (ts : List (List (List ℕ))). AllZip R items ts) (sym same) z)
+pub all-drained : {E : Type 0} (R : E → List (List ℕ) → Type 0) (all items it : List E) (rows : List (List (List ℕ))) → it ≡ all → Drains (TakesFirst (λ (x : E). x)) it items → AllZip R items rows → AllZip R all rows
+all-drained {E} R all items it rows is d each =
+    let gave : it ≡ items = rest_so_far (λ (x : E). x) items it d.1.0 d.1.1 ∙ ap₂ (λ xs ys. xs ++ ys) (map-id items) (rest_all (λ (x : E). x) d.1.0 d.0 None refl d.1.2) ∙ append-nil items in
+    subst (λ (es : List E). AllZip R es rows) (sym gave ∙ is) each
 
-pub even-permutation : (n : ℕ) (xs ys : List (List (List ℕ))) → IsPermutation xs ys → AreRecords n xs → AreRecords n ys
+pub even-permutation : (n : ℕ) (xs ys : List (List (List ℕ))) → IsPermutation xs ys → AreWide n xs → AreWide n ys
 even-permutation n xs ys same even = recursion_from_All (λ (row : List (List ℕ)). length row ≡ n) ys (All-permutation (λ (row : List (List ℕ)). length row ≡ n) xs ys same (All-from_recursion (λ (row : List (List ℕ)). length row ≡ n) xs even))
 
 -- a list in order, seen through a function that keeps the order

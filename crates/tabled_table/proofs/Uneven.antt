@@ -1,40 +1,36 @@
 -- Rows of any lengths, padded to the longest.
-use Rattle.std.proofs.Common.{◌≡◌, ℕ, ◌+◌, ◌-◌, ◌≤◌, max, List, [], ◌∷◌, ◌++◌, refl, ap, ap₂, sym, ◌∙◌, map, replicate, length, arith}
-use Rattle.std.specs.List.{insert}
-use Rattle.std.proofs.lemmas.List.{append_assoc, length-append, length-map, length-replicate, map_push, replicate-append-replicate}
+use Rattle.std.proofs.Common.{◌≡◌, ℕ, ◌+◌, ◌-◌, ◌≤◌, max, List, [], ◌∷◌, ◌++◌, refl, ap, sym, ◌∙◌, map, replicate, length, arith}
+use Rattle.std.proofs.lemmas.List.{append_assoc, length-map, map-id, map_push, replicate-append-replicate}
 use Rattle.std.proofs.lemmas.List.Edits.{insert_end}
-use Rattle.tabled_table.specs.Builder.{AreRecords, Builder, from_uneven, longest, padded_to, with_record}
+use Rattle.tabled_grid.specs.Evenness.{AreWide}
+use Rattle.tabled_grid.proofs.Mapped.{maps_agree}
+use Rattle.tabled_table.specs.Builder.{from_uneven, longest, padded_to, with_record}
 use Rattle.tabled_table.proofs.Padded.{length-padded_to}
 
-pub even-longest : {A : Type 0} (n : ℕ) (filler : A) (rows : List (List A)) → longest rows ≤ n → AreRecords n (map (padded_to n filler) rows)
+pub even-longest : {A : Type 0} (n : ℕ) (filler : A) (rows : List (List A)) → longest rows ≤ n → AreWide n (map (padded_to n filler) rows)
 even-longest n filler [] h = tt
-even-longest n filler (row ∷ rows) h = (length-padded_to n filler row (omega arith), even-longest n filler rows (omega arith))
+even-longest n filler (row ∷ rows) h = (omega (arith, length-padded_to n filler row), even-longest n filler rows (omega arith))
 
-longest-push : {A : Type 0} (rows : List (List A)) (row : List A) → longest (rows ++ row ∷ []) ≡ max (longest rows) (length row)
+pub longest-push : {A : Type 0} (rows : List (List A)) (row : List A) → longest (rows ++ row ∷ []) ≡ max (longest rows) (length row)
 longest-push [] row = omega arith
 longest-push (r ∷ rows) row = ap (max (length r)) (longest-push rows row) ∙ omega arith
 
 -- padded twice
 padded_to-padded_to : {A : Type 0} (n m : ℕ) (filler : A) (xs : List A) → n ≤ m → padded_to m filler (padded_to n filler xs) ≡ padded_to m filler xs
-padded_to-padded_to {A} n m filler xs h =
+padded_to-padded_to n m filler xs h =
     let first = n - length xs in
     let second = m - length (padded_to n filler xs) in
-    let both : first + second ≡ m - length xs = omega (arith, length-append xs (replicate (n - length xs) filler), length-replicate {A = A} (n - length xs) filler) in
+    let both : first + second ≡ m - length xs = omega (arith, length-padded_to n filler xs) in
     append_assoc xs (replicate first filler) (replicate second filler) ∙ ap (λ ys. xs ++ ys) (replicate-append-replicate first second filler ∙ ap (λ k. replicate k filler) both)
 
 all-padded_twice : {A : Type 0} (n m : ℕ) (filler : A) (rows : List (List A)) → n ≤ m → map (padded_to m filler) (map (padded_to n filler) rows) ≡ map (padded_to m filler) rows
-all-padded_twice n m filler [] h = refl
-all-padded_twice n m filler (row ∷ rows) h = ap₂ (λ x xs. x ∷ xs) (padded_to-padded_to n m filler row h) (all-padded_twice n m filler rows h)
+all-padded_twice n m filler rows h = maps_agree (padded_to m filler) (padded_to n filler) (padded_to m filler) (λ row. row) (λ row. padded_to-padded_to n m filler row h) rows ∙ ap (map (padded_to m filler)) (map-id rows)
 
 -- one more record after the others
 pub from_uneven-push : (rows : List (List (List ℕ))) (row : List (List ℕ)) → from_uneven (rows ++ row ∷ []) ≡ with_record (from_uneven rows) (length (from_uneven rows).rows) row
 from_uneven-push rows row =
     let n = longest rows in
     let m = max n (length row) in
-    let columns : longest (rows ++ row ∷ []) ≡ m = longest-push rows row in
-    let twice = all-padded_twice n m [] rows (omega arith) in
-    let count : length (map (padded_to n []) rows) ≡ length (map (padded_to m []) rows) = omega (arith, length-map rows (padded_to {A = List ℕ} n []), length-map rows (padded_to {A = List ℕ} m [])) in
-    let put : insert (map (padded_to m []) (map (padded_to n []) rows)) (length (map (padded_to n []) rows)) (padded_to m [] row) ≡ map (padded_to m []) (rows ++ row ∷ []) =
-    ap₂ (λ rs k. insert rs k (padded_to m [] row)) twice count ∙ insert_end (map (padded_to m []) rows) (padded_to m [] row) ∙ sym (map_push (padded_to m []) rows row) in
-    ap (λ k. let b : Builder = record { columns = k; rows = map (padded_to k []) (rows ++ row ∷ []); empty = [] } in b) columns
-    ∙ ap (λ (rs : List (List (List ℕ))). let b : Builder = record { columns = m; rows = rs; empty = [] } in b) (sym put)
+    let all = map (padded_to m []) rows in
+    let count : length (map (padded_to n []) rows) ≡ length all = length-map rows (padded_to {A = List ℕ} n []) ∙ sym (length-map rows (padded_to {A = List ℕ} m [])) in
+    rw (longest-push rows row, map_push (padded_to m []) rows row, count, all-padded_twice n m [] rows (omega arith), insert_end all (padded_to m [] row)) refl

@@ -80,9 +80,13 @@ filled_at row j = not (is_empty_text (slice_index_or row j []))
 abbrev pub row_has_text : List (List ℕ) → Bool
 row_has_text row = not (list_all is_empty_text row)
 
+-- column j of rows
+abbrev pub column_of : List (List (List ℕ)) → ℕ → List (List ℕ)
+column_of rows j = map (λ row. slice_index_or row j []) rows
+
 -- some row has a text in column j
 abbrev pub has_text_in : List (List (List ℕ)) → ℕ → Bool
-has_text_in rows j = not (list_all (λ row. is_empty_text (slice_index_or row j [])) rows)
+has_text_in rows j = row_has_text (column_of rows j)
 
 -- the columns of n in which some row has a text
 abbrev pub text_columns : ℕ → List (List (List ℕ)) → List ℕ
@@ -118,7 +122,3 @@ table_of b = record { rows = length b.rows; columns = columns_of b.rows; cells =
     columns_of : List (List (List ℕ)) → ℕ
     columns_of [] = 0
     columns_of (row ∷ rows) = b.columns
-
--- each record has n texts
-abbrev pub AreRecords : {A : Type 0} → ℕ → List (List A) → Type 0
-AreRecords {A} n rows = AllByRecursion (λ (row : List A). length row ≡ n) rows

@@ -23,14 +23,10 @@ EachMayBeAsked {U} {R} {T} source turns record_source record_turns items = (it :
 abbrev pub GaveRows : {R S : Type 0} → source.Ghosts R (String Global) S → iterator.Ghosts S (String Global) → List R → List (List (List ℕ)) → Type 0
 GaveRows {R} source turns records rows = AllZip (λ (r : R) row. GaveTexts source turns r (λ texts. texts ≡ row)) records rows
 
--- what is handed in gave records, all that it has, which gave rows, and P holds of these
-abbrev pub GaveRecords : {U R T : Type 0} → source.Ghosts U R T → iterator.Ghosts T R → (List R → List (List (List ℕ)) → Type 0) → U → (List (List (List ℕ)) → Type 0) → Type 0
-GaveRecords {U} {R} {T} source turns gave items P = (it : T) × (records : List R) × (rows : List (List (List ℕ))) × source.into_iter_gives items it × Drains turns.next_gives it records × gave records rows × P rows
-
 -- what is handed in gave records of texts, all that it has, each of these gave its row, and P holds of the rows
 abbrev pub EachGaveTexts : {U R T S : Type 0} → source.Ghosts U R T → iterator.Ghosts T R → source.Ghosts R (String Global) S → iterator.Ghosts S (String Global) → U → (List (List (List ℕ)) → Type 0) → Type 0
-EachGaveTexts source turns record_source record_turns = GaveRecords source turns (GaveRows record_source record_turns)
+EachGaveTexts {U} {R} {T} source turns record_source record_turns items P = (it : T) × (records : List R) × (rows : List (List (List ℕ))) × source.into_iter_gives items it × Drains turns.next_gives it records × GaveRows record_source record_turns records rows × P rows
 
--- what is handed in gave entries, all that it has, each of these prints its row, and P holds of the rows
-abbrev pub GaveEntries : {U E T : Type 0} → source.Ghosts U E T → iterator.Ghosts T E → (E → List (List ℕ) → Type 0) → U → (List (List (List ℕ)) → Type 0) → Type 0
-GaveEntries source turns prints = GaveRecords source turns (AllZip prints)
+-- what is handed in gave entries, all that it has, and each of these prints its row
+abbrev pub GaveEntries : {U E T : Type 0} → source.Ghosts U E T → iterator.Ghosts T E → (E → List (List ℕ) → Type 0) → U → List (List (List ℕ)) → Type 0
+GaveEntries {U} {E} {T} source turns prints items rows = (it : T) × (entries : List E) × source.into_iter_gives items it × Drains turns.next_gives it entries × AllZip prints entries rows

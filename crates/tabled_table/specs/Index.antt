@@ -1,9 +1,11 @@
 -- A table with an index: a header above its body, and a text beside each row of the body.
-use Rattle.std.specs.Prelude.{◌≡◌, ◌+◌, ℕ, Bool, true, false, not, ◌&&◌, if◌then◌else◌, List, [], ◌∷◌, length, map, Option, None, Some, slice_index_or, slice_get, nat_lt}
+use Rattle.std.specs.Prelude.{◌≡◌, ◌+◌, ℕ, Bool, true, false, not, ◌&&◌, if◌then◌else◌, List, [], ◌∷◌, length, map, Option, None, Some, slice_get, nat_lt}
 use Rattle.std.specs.List.{range_with_len, remove}
 use Rattle.std.specs.Fmt.{decimal}
+use Rattle.tabled_grid.specs.Bulk.{transposed_rows}
+use Rattle.tabled_grid.specs.Evenness.{AreWide}
 use Rattle.tabled_grid.specs.Grid.{width_of}
-use Rattle.tabled_table.specs.Builder.{AreRecords, Builder, padded_to, with_items}
+use Rattle.tabled_table.specs.Builder.{Builder, column_of, padded_to, with_items}
 
 -- the header, the index, the body, the index's name, and whether the index is shown and the table transposed
 pub record Indexed : Type 0 where
@@ -17,7 +19,7 @@ pub record Indexed : Type 0 where
 -- the body has a row for each text of the index, and in it a text for each one of the header
 pub record IsIndexed (x : Indexed) : Type 0 where
   pub tall : length x.body ≡ length x.index
-  pub wide : AreRecords (length x.header) x.body
+  pub wide : AreWide (length x.header) x.body
 
 -- the numbers from 0 on as texts
 abbrev pub numbers : ℕ → List (List ℕ)
@@ -32,14 +34,6 @@ abbrev pub indexed_rows : List (List (List ℕ)) → Option Indexed
 indexed_rows [] = None
 indexed_rows (header ∷ body) = Some (numbered (length body) header body)
 
--- column j of rows
-abbrev pub column_of : List (List (List ℕ)) → ℕ → List (List ℕ)
-column_of rows j = map (λ row. slice_index_or row j []) rows
-
--- rows of n columns with their columns as rows
-abbrev pub columns_as_rows : ℕ → List (List (List ℕ)) → List (List (List ℕ))
-columns_as_rows columns rows = map (column_of rows) (range_with_len 0 columns)
-
 -- column c as the index, and its header as the name
 abbrev pub with_column_as_index : ℕ → Indexed → Indexed
 with_column_as_index c x = record x { header = remove x.header c; index = column_of x.body c; body = map (λ (row : List (List ℕ)). remove row c) x.body; name = slice_get x.header c }
@@ -50,7 +44,7 @@ with_column_as_index_if_there c x = if nat_lt c (length x.header) then with_colu
 
 -- header and index swapped, and the body transposed with them
 abbrev pub transposed_index : Indexed → Indexed
-transposed_index x = record x { header = x.index; index = x.header; body = columns_as_rows (length x.header) x.body; is_transposed = not x.is_transposed }
+transposed_index x = record x { header = x.index; index = x.header; body = transposed_rows (length x.header) x.body; is_transposed = not x.is_transposed }
 
 -- the header and the body, where the index is shown with its texts first in their rows
 abbrev pub with_index : Indexed → List (List (List ℕ))

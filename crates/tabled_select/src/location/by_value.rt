@@ -5,8 +5,8 @@ ghost use Rattle.std.specs.Fn.{FnReturnsAtPair};
 ghost use Rattle.tabled_grid.specs.Grid.{map_grid};
 ghost use Rattle.tabled_grid.specs.declared.config.entity.Entity.{Entity};
 ghost use Rattle.tabled_grid.specs.declared.config.position.Position.{Position};
-ghost use Rattle.tabled_select.specs.Algebra.{cells_of, flat};
-ghost use Rattle.tabled_select.specs.Locators.{HeldLast};
+ghost use Rattle.tabled_select.specs.Algebra.{cells_of};
+ghost use Rattle.tabled_select.specs.Locators.{NamedHeldLast};
 
 use crate::object::{EntityOnce, Object, Places, entities};
 use std::alloc::{AllocError, Global};
@@ -59,7 +59,7 @@ where
 {
     type Iter = EntityOnce;
 
-    ghost lists = { λ s g found. (all : List Entity) × (last : List Position) × O.lists s.0 g all × HeldLast (FnReturnsAtPair F.Fn s.1) (map_grid R.Cell.text_of g) (flat all g.rows g.columns) last × (found ≡ cells_of last) };
+    ghost lists = { λ s g found. (all : List Entity) × (last : List Position) × O.lists s.0 g all × NamedHeldLast (FnReturnsAtPair F.Fn s.1) (map_grid R.Cell.text_of g) all last × (found ≡ cells_of last) };
 
     ghost can_list = { λ s. O.can_list s.0 × F.IsAlwaysCallable s.1 };
 
@@ -78,7 +78,7 @@ where
     F: Fn(&str, &str) -> bool,
     requires well { R.is_well_formed records.now }
     requires can { F.IsAlwaysCallable takes.now }
-    ensures { HeldLast (FnReturnsAtPair F.Fn takes.now) (map_grid R.Cell.text_of (R.grid records.now)) (flat entities.items (R.grid records.now).rows (R.grid records.now).columns) (option_to_list result) }
+    ensures { NamedHeldLast (FnReturnsAtPair F.Fn takes.now) (map_grid R.Cell.text_of (R.grid records.now)) entities.items (option_to_list result) }
 {
     let mut rest = Places::new(entities, records.count_rows(), records.count_columns());
     let mut held = rest.next()?;

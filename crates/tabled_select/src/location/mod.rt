@@ -3,9 +3,8 @@
 //! A contract sees a location as the list of the coordinates that it finds in a table.
 
 ghost use Rattle.std.specs.Prelude.{◌≡◌, List, IfOk};
-ghost use Rattle.std.specs.Ordering.{partial_lt};
 ghost use Rattle.tabled_grid.specs.Grid.{Grid};
-ghost use Rattle.tabled_select.specs.Located.{AllOrThose, GoesOver};
+ghost use Rattle.tabled_select.specs.Located.{Finds, FindsUpTo};
 
 mod by_column_name;
 mod by_condition;
@@ -60,7 +59,7 @@ pub trait Location<R: GridStore> {
         requires can { can_locate self.old }
         ensures can { can_locate self.new }
         ensures left { is_left self.old self.new }
-        ensures lists { IfOk result (λ found. (coordinates : List Self.Coordinate) × locates self.old (R.grid records.now) coordinates × GoesOver Self.IntoIter.into_iter_gives Self.IntoIter.IntoIter.can_next Self.IntoIter.IntoIter.next_gives Self.IntoIter.IntoIter.remaining found coordinates) };
+        ensures lists { IfOk result (Finds Self.IntoIter.IntoIterator Self.IntoIter.IntoIter.Iterator (locates self.old (R.grid records.now))) };
     /// Finds the coordinates, in order, and may leave out all that aren't below a limit. `Rows` and `Columns` do,
     /// so that to go over them takes no longer than to count to the limit.
     ///
@@ -77,7 +76,7 @@ pub trait Location<R: GridStore> {
         requires can { can_locate self.old }
         ensures can { can_locate self.new }
         ensures left { is_left self.old self.new }
-        ensures lists { IfOk result (λ found. (coordinates kept : List Self.Coordinate) × locates self.old (R.grid records.now) coordinates × AllOrThose (λ c. partial_lt Self.Coordinate.partial_cmp c limit.now) coordinates kept × GoesOver Self.IntoIter.into_iter_gives Self.IntoIter.IntoIter.can_next Self.IntoIter.IntoIter.next_gives Self.IntoIter.IntoIter.remaining found kept) }
+        ensures lists { IfOk result (FindsUpTo Self.Coordinate.partial_cmp limit.now Self.IntoIter.IntoIterator Self.IntoIter.IntoIter.Iterator (locates self.old (R.grid records.now))) }
     {
         self.locate(alloc, records)
     }

@@ -1,14 +1,11 @@
 //! The walk over texts that locators share.
 
-ghost use Rattle.std.specs.Prelude.{◌≡◌, IfOk, List, map};
+ghost use Rattle.std.specs.Prelude.{◌≡◌, IfOk, map};
 ghost use Rattle.std.specs.Fn.{FnReturnsAt};
-ghost use Rattle.std.specs.List.{filter};
-ghost use Rattle.tabled_grid.specs.Entity.{inside};
 ghost use Rattle.tabled_grid.specs.Grid.{map_grid};
 ghost use Rattle.tabled_grid.specs.declared.config.position.Position.{Position};
 ghost use Rattle.tabled_grid.specs.declared.config.entity.Entity.TheVariants.{Cell, Column};
-ghost use Rattle.tabled_select.specs.Locators.{text_is, text_at};
-ghost use Rattle.tabled_select.specs.Steps.{Filters};
+ghost use Rattle.tabled_select.specs.Locators.{KeptOf, PicksNamed, named_with};
 
 use std::alloc::{AllocError, Global};
 use tabled_grid::config::{Entity, Position};
@@ -89,7 +86,7 @@ where
     R: Records + ExactRecords + PeekableRecords,
     R::Cell: CellText,
     requires well { R.is_well_formed records.now }
-    ensures { IfOk result (λ all. all.items ≡ map K.kept (filter (text_is wanted.now (map_grid R.Cell.text_of (R.grid records.now))) (inside entity (R.grid records.now).rows (R.grid records.now).columns))) }
+    ensures { IfOk result (λ all. all.items ≡ map K.kept (named_with entity wanted.now (map_grid R.Cell.text_of (R.grid records.now)))) }
 {
     search::<K, R, _>(alloc, records, entity, &|text: &str| text == wanted)
 }
@@ -109,7 +106,7 @@ where
     F: Fn(&str) -> bool,
     requires well { R.is_well_formed records.now }
     requires can { F.IsAlwaysCallable says.now }
-    ensures { IfOk result (λ all. (picked : List Position) × Filters (λ p yes. FnReturnsAt F.Fn says.now (text_at (map_grid R.Cell.text_of (R.grid records.now)) p) yes) (inside entity (R.grid records.now).rows (R.grid records.now).columns) picked × (all.items ≡ map K.kept picked)) }
+    ensures { IfOk result (λ all. KeptOf K.kept (PicksNamed entity (FnReturnsAt F.Fn says.now) (map_grid R.Cell.text_of (R.grid records.now))) all.items) }
 {
     let mut found = Vec::new(alloc);
     for pos in entity.iter(records.count_rows(), records.count_columns()) {

@@ -2,7 +2,7 @@
 
 ghost use Rattle.std.specs.Prelude.{◌≡◌, List};
 ghost use Rattle.tabled_grid.specs.declared.config.entity.Entity.{Entity};
-ghost use Rattle.tabled_select.specs.Algebra.{cells_of, difference_of, flat};
+ghost use Rattle.tabled_select.specs.Algebra.{cells_of, named_without};
 
 use crate::object::sieve::SieveIter;
 use crate::object::{Object, entities};
@@ -41,7 +41,7 @@ where
 {
     type Iter = DiffIter<L::Iter>;
 
-    ghost lists = { λ s g entities. (a b : List Entity) × L.lists s.0 g a × R.lists s.1 g b × (entities ≡ cells_of (difference_of (flat a g.rows g.columns) (flat b g.rows g.columns))) };
+    ghost lists = { λ s g entities. (a b : List Entity) × L.lists s.0 g a × R.lists s.1 g b × (entities ≡ cells_of (named_without a b g.rows g.columns)) };
 
     ghost can_list = { λ s. L.can_list s.0 × R.can_list s.1 };
 

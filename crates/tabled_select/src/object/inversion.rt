@@ -2,7 +2,7 @@
 
 ghost use Rattle.std.specs.Prelude.{◌≡◌, List};
 ghost use Rattle.tabled_grid.specs.declared.config.entity.Entity.{Entity};
-ghost use Rattle.tabled_select.specs.Algebra.{cells_of, flat, inversion_of};
+ghost use Rattle.tabled_select.specs.Algebra.{others};
 
 use crate::object::cell::EntityOnce;
 use crate::object::sieve::SieveIter;
@@ -40,7 +40,7 @@ where
 {
     type Iter = InversionIter;
 
-    ghost lists = { λ s g entities. (a : List Entity) × O.lists s g a × (entities ≡ cells_of (inversion_of (flat a g.rows g.columns) g.rows g.columns)) };
+    ghost lists = { λ s g entities. (a : List Entity) × O.lists s g a × (entities ≡ others a g.rows g.columns) };
 
     ghost can_list = { λ s. O.can_list s };
 

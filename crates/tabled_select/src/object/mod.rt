@@ -5,7 +5,7 @@
 ghost use Rattle.std.specs.Prelude.{◌≡◌, List, IfOk};
 ghost use Rattle.tabled_grid.specs.Grid.{Grid};
 ghost use Rattle.tabled_grid.specs.declared.config.entity.Entity.{Entity};
-ghost use Rattle.tabled_select.specs.Listed.{ListsAll};
+ghost use Rattle.tabled_select.specs.Located.{Lists};
 
 mod cell;
 mod columns;
@@ -72,7 +72,7 @@ pub trait Object<R: GridStore> {
     fn cells(&self, alloc: Global, records: &R) -> Result<Self::Iter, AllocError>
         requires well { R.is_well_formed records.now }
         requires can { can_list self.now }
-        ensures lists { IfOk result (λ iter. (entities : List Entity) × lists self.now (R.grid records.now) entities × ListsAll Self.Iter.can_next Self.Iter.next_gives Self.Iter.remaining iter entities) };
+        ensures lists { IfOk result (Lists Self.Iter.Iterator (lists self.now (R.grid records.now))) };
 
     /// The cells of both, each once, in the order of their first places: its own, then the other's.
     ///

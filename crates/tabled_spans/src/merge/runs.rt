@@ -5,7 +5,7 @@ ghost use Rattle.std.specs.Option.{IfSome};
 ghost use Rattle.tabled_grid.specs.Covers.{cover_of};
 ghost use Rattle.tabled_grid.specs.Grid.{IsInside, map_grid};
 ghost use Rattle.tabled_grid.specs.declared.config.position.Position.{Position};
-ghost use Rattle.tabled_spans.specs.RunSteps.{AreTails, RunAt, RunsBefore, StandBelow};
+ghost use Rattle.tabled_spans.specs.RunSteps.{AreTails, RunAt, RunsFrom, StandBelow};
 ghost use Rattle.tabled_spans.specs.Runs.{Joins, further, is_free};
 
 use crate::merge::anchored::{is_anchor, up_to_row};
@@ -28,7 +28,7 @@ where
     R::Cell: CellText,
     requires well { R.is_well_formed records.now }
     requires cover { cover.now ≡ cover_of cfg.now ((R.grid records.now).rows) ((R.grid records.now).columns) }
-    ensures { IfOk result (λ sizes. RunsBefore axis (map_grid R.Cell.text_of (R.grid records.now)) cfg.now ((R.grid records.now).rows) 0 sizes.items) }
+    ensures { IfOk result (λ sizes. RunsFrom axis (map_grid R.Cell.text_of (R.grid records.now)) cfg.now 0 0 sizes.items) }
 {
     let one = Size {
         height: 1,

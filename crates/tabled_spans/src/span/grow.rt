@@ -1,13 +1,13 @@
 //! Spans over visible cells, from a place on.
 
-ghost use Rattle.std.specs.Prelude.{◌≡◌, ◌+◌, ◌<◌, ◌≤◌, ◌++◌, ◌^◌, ℕ, true, IfOk, OnErr, OnOk, T};
+ghost use Rattle.std.specs.Prelude.{◌≡◌, ◌+◌, ◌<◌, ◌≤◌, ◌++◌, ◌^◌, ℕ, pos, true, IfOk, IsOk, OnErr, OnOk, T};
 ghost use Rattle.std.specs.FinMap.{is_sorted};
 ghost use Rattle.std.specs.List.{AllByRecursion};
 ghost use Rattle.tabled_grid.specs.Covers.{cover_in};
 ghost use Rattle.tabled_grid.specs.Entity.{names};
 ghost use Rattle.tabled_grid.specs.Spans.{IsSizeAt, SpanMap, position_cmp, with_sizes};
 ghost use Rattle.tabled_grid.specs.Axis.{across, count_of, line_of, resized};
-ghost use Rattle.tabled_spans.specs.Spanned.{are_visible, grown, grown_on, with_visible_span};
+ghost use Rattle.tabled_spans.specs.Spanned.{SpanTakesNoMemory, are_visible, grown, grown_on, with_visible_span};
 ghost use Rattle.tabled_spans.specs.SpanSteps.{ForEachCovering, IsReach, change_at, cover_changed_at};
 
 use crate::span::along::{resized, size_at};
@@ -154,6 +154,7 @@ fn grow_cell(
     requires { line_of axis pos + many < 2 ^ 64 }
     ensures ok { OnOk result (cfg.new ≡ with_visible_span axis cfg.old pos many) }
     ensures err { OnErr result (cfg.new ≡ cfg.old) }
+    ensures promised { many ≤ 1 → IsOk result }
 {
     if !are_visible(cfg, axis, pos, many) {
         return Ok(());
@@ -161,35 +162,6 @@ fn grow_cell(
     match axis {
         Axis::Rows => cfg.set_row_span(alloc, pos, many),
         Axis::Columns => cfg.set_column_span(alloc, pos, many),
-    }
-}
-
-/// Merges cells from each place on that an entity names in a table (`rows x columns`). Refused for memory, it
-/// changes nothing.
-fn grow_on(
-    alloc: Global,
-    cfg: &mut SpannedConfig,
-    axis: Axis,
-    size: usize,
-    entity: Entity,
-    rows: usize,
-    columns: usize,
-) -> Result<(), AllocError>
-    requires { 1 ≤ size }
-    ensures ok { OnOk result (cfg.new ≡ grown_on axis size entity rows columns cfg.old) }
-    ensures err { OnErr result (cfg.new ≡ cfg.old) }
-{
-    match entity {
-        // One cell needs no map of what is covered.
-        Entity::Cell(row, col) if row < rows && col < columns => {
-            let pos = Position::new(row, col);
-            let left = axis.count_of(rows, columns) - axis.line_of(pos);
-            grow_cell(alloc, cfg, axis, pos, size.min(left))
-        }
-        _ => {
-            let changes = changes(alloc, cfg, axis, size, entity, rows, columns)?;
-            cfg.set_sizes(alloc, &changes)
-        }
     }
 }
 
@@ -207,8 +179,19 @@ pub(super) fn grow(
     requires { 1 ≤ size }
     ensures ok { OnOk result (cfg.new ≡ grown axis size entity rows columns cfg.old) }
     ensures err { OnErr result (cfg.new ≡ cfg.old) }
+    ensures promised { SpanTakesNoMemory (pos size) entity rows columns → IsOk result }
 {
-    grow_on(alloc, cfg, axis, size, entity, rows, columns)?;
+    let mut places = entity.iter(rows, columns);
+    if let Some(pos) = places.next() {
+        if places.next().is_none() {
+            // One cell needs no map of what is covered.
+            let left = axis.count_of(rows, columns) - axis.line_of(pos);
+            grow_cell(alloc, cfg, axis, pos, size.min(left))?;
+        } else {
+            let changes = changes(alloc, cfg, axis, size, entity, rows, columns)?;
+            cfg.set_sizes(alloc, &changes)?;
+        }
+    }
     cfg.drop_hidden();
     Ok(())
 }

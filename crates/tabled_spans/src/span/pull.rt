@@ -1,8 +1,9 @@
 //! Spans back from a place, or over all of a line, visible or not.
 
-ghost use Rattle.std.specs.Prelude.{◌≡◌, ◌+◌, ◌<◌, ◌≤◌, ◌^◌, ℕ, IfOk, OnErr, OnOk, T};
+ghost use Rattle.std.specs.Prelude.{◌≡◌, ◌+◌, ◌<◌, ◌≤◌, ◌^◌, ℕ, [], IfOk, IsOk, OnErr, OnOk, T};
 ghost use Rattle.std.specs.FinMap.{is_sorted};
 ghost use Rattle.std.specs.List.{AllByRecursion};
+ghost use Rattle.tabled_grid.specs.Entity.{inside};
 ghost use Rattle.tabled_grid.specs.Spans.{IsSizeAt, Rectangle, position_cmp, with_sizes};
 ghost use Rattle.tabled_grid.specs.declared.config.position.Position.{Position};
 ghost use Rattle.tabled_grid.specs.Grid.{IsInside};
@@ -149,8 +150,8 @@ where
 /// Pulls the text of each place that an entity names to the first of the cells that a span takes there,
 /// merges these, and drops what is hidden then.
 ///
-/// Refused for memory, it leaves all as it was or the writes before one of its own, and the merged cells as
-/// they were.
+/// Where no cell is named, it takes no memory. Refused for memory, it leaves all as it was or the writes before
+/// one of its own, and the merged cells as they were.
 pub(super) fn pull_each<R>(
     alloc: Global,
     records: &mut R,
@@ -167,9 +168,14 @@ where
     ensures texts { OnOk result (Written R.Cell.text_of (pull_writes_on axis back entity) (R.grid records.old) (R.grid records.new)) }
     ensures spans { OnOk result (cfg.new ≡ pulled axis back entity ((R.grid records.old).rows) ((R.grid records.old).columns) cfg.old) }
     ensures err { OnErr result (SameOrFirstWrites R.Cell.text_of (pull_writes_on axis back entity) (R.grid records.old) cfg.old (R.grid records.new) cfg.new) }
+    ensures promised { inside entity ((R.grid records.old).rows) ((R.grid records.old).columns) ≡ [] → IsOk result }
 {
     let rows = records.count_rows();
     let columns = records.count_columns();
+    if entity.iter(rows, columns).next().is_none() {
+        cfg.drop_hidden();
+        return Ok(());
+    }
 
     // The map is made first: where it is refused, no text was written.
     let spans = pulled(alloc, cfg, axis, back, entity, rows, columns)?;

@@ -1,7 +1,7 @@
 //! A span of columns or of rows.
 
 ghost use Rattle.std.specs.Prelude.{◌≡◌, ◌<ℤ◌, ◌^◌, ℤ, negsuc, pos};
-ghost use Rattle.tabled_spans.specs.Spanned.{Spans, SpansFirst};
+ghost use Rattle.tabled_spans.specs.Spanned.{SpanTakesNoMemory, Spans, SpansFirst};
 ghost use Rattle.std.proofs.Common.{rules};
 
 use crate::span::along::back_of;
@@ -98,8 +98,9 @@ impl<T: Target> fmt::Debug for SpanOn<T> {
 /// Merges cells at each place of the table that the entity names, one after another, and drops what is
 /// hidden then, all at once.
 ///
-/// Refused for memory, a size of 1 or more changes nothing, and one of 0 or below leaves nothing changed, or
-/// the writes before one of its own, with the merged cells as they were.
+/// On no cell of the table, and where a size of 1 takes the span of one cell away, it takes no memory. Refused
+/// for memory, a size of 1 or more changes nothing, and one of 0 or below leaves nothing changed, or the writes
+/// before one of its own, with the merged cells as they were.
 impl<T, R> CellOption<R, SpannedConfig> for SpanOn<T>
 where
     T: Target,
@@ -112,7 +113,7 @@ where
 
     ghost can_change = { λ _. Unit {0} };
 
-    ghost never_refused = { λ _ _ _ _. ⊥ };
+    ghost never_refused = { λ size e g _. SpanTakesNoMemory size e g.rows g.columns };
 
     fn change(
         self,

@@ -1,13 +1,12 @@
 //! Work on the columns of a builder, a cell in each row.
 
-ghost use Rattle.std.specs.Prelude.{◌≡◌, ◌+◌, ◌<◌, ◌≤◌, ◌||◌, false, EachIndex, IfOk, OnOk, OnErr, String, length, map, replicate, take, vec_len, slice_index_or, []};
+ghost use Rattle.std.specs.Prelude.{◌≡◌, ◌+◌, ◌<◌, ◌≤◌, ◌||◌, false, EachIndex, IfOk, OnOk, OnErr, String, length, map, take, vec_len, slice_index_or};
 ghost use Rattle.std.specs.Global.{Global as Heap, Vec};
 ghost use Rattle.std.specs.List.{All, count_by, remove};
 ghost use Rattle.std.specs.String.{string_bytes};
-ghost use Rattle.tabled_table.specs.Builder.{AreRecords, filled_at, has_text_in, only_columns, row_texts, text_columns, with_items};
-ghost use Rattle.tabled_grid.specs.Bulk.{with_items_behind};
+ghost use Rattle.tabled_grid.specs.Evenness.{AreWide};
+ghost use Rattle.tabled_table.specs.Builder.{column_of, filled_at, has_text_in, only_columns, row_texts, text_columns, with_items};
 ghost use Rattle.tabled_table.specs.Gathering.{brought_forward};
-ghost use Rattle.tabled_table.specs.Index.{column_of, columns_as_rows};
 
 use std::alloc::{AllocError, Global};
 use tabled_grid::records::Text;
@@ -98,7 +97,7 @@ fn count_marks(marks: &[bool]) -> usize
 
 /// Brings the columns with a text to the front, and answers how many these are.
 pub(super) fn gather(rows: &mut [Vec<Text<String>>], columns: usize) -> usize
-    requires { AreRecords columns (row_texts rows.old) }
+    requires { AreWide columns (row_texts rows.old) }
     ensures count { result ≡ length (text_columns columns (row_texts rows.old)) }
     ensures front { map (take result) (row_texts rows.new) ≡ only_columns (text_columns columns (row_texts rows.old)) (row_texts rows.old) }
 {
@@ -130,47 +129,4 @@ pub(super) fn take_column(
         column.push(row.remove(j))?;
     }
     Ok(column)
-}
-
-/// Pushes an item to each row.
-fn push_items(rows: &mut [Vec<Text<String>>], items: Vec<Text<String>>) -> Result<(), AllocError>
-    requires { vec_len items ≡ length rows.old }
-    ensures { OnOk result (row_texts rows.new ≡ with_items_behind (row_texts rows.old) (map string_bytes items.items)) }
-{
-    let mut items = items.into_iter();
-    for row in rows.iter_mut() {
-        row.push(items.next().unwrap())?;
-    }
-    Ok(())
-}
-
-/// n rows without cells, with room for some.
-fn empty_rows(
-    alloc: Global,
-    count: usize,
-    room: usize,
-) -> Result<Vec<Vec<Text<String>>>, AllocError>
-    ensures { IfOk result (λ rows. row_texts rows.items ≡ replicate count []) }
-{
-    let mut rows = Vec::with_capacity(alloc, count)?;
-    for _ in 0..count {
-        rows.push(Vec::with_capacity(alloc, room)?)?;
-    }
-    Ok(rows)
-}
-
-/// The columns as rows.
-pub(super) fn transposed(
-    alloc: Global,
-    rows: Vec<Vec<Text<String>>>,
-    columns: usize,
-) -> Result<Vec<Vec<Text<String>>>, AllocError>
-    requires { AreRecords columns (row_texts rows.items) }
-    ensures { IfOk result (λ all. row_texts all.items ≡ columns_as_rows columns (row_texts rows.items)) }
-{
-    let mut all = empty_rows(alloc, columns, rows.len())?;
-    for row in rows {
-        push_items(&mut all, row)?;
-    }
-    Ok(all)
 }

@@ -41,7 +41,8 @@ impl IndexBuilder {
     ghost use Rattle.std.specs.Prelude.{◌≡◌, ◌≤◌, [], IfOk, IfSome, IsOk, None, true, false, length, option_map};
     ghost use Rattle.std.specs.String.{string_bytes};
     ghost use Rattle.tabled_grid.specs.Grid.{map_grid, width_of};
-    ghost use Rattle.tabled_table.specs.Builder.{AreRecords, row_texts, table_of};
+    ghost use Rattle.tabled_grid.specs.Evenness.{AreWide};
+    ghost use Rattle.tabled_table.specs.Builder.{row_texts, table_of};
     ghost use Rattle.tabled_table.specs.Index.{Indexed as Parts, IsIndexed, builder_of, indexed_rows, is_bare, transposed_index, with_column_as_index_if_there};
 
     /// The records of a builder, of which the first is the header, with their numbers as the index.
@@ -61,7 +62,7 @@ impl IndexBuilder {
         alloc: Global,
         mut rows: Vec<Vec<Text<String>>>,
     ) -> Result<Self, AllocError>
-        requires { AreRecords (width_of (row_texts rows.items)) (row_texts rows.items) }
+        requires { AreWide (width_of (row_texts rows.items)) (row_texts rows.items) }
         ensures ok { IfOk result (λ x. x ≡ indexed_rows (row_texts rows.items)) }
         ensures promised { row_texts rows.items ≡ [] → IsOk result }
     {

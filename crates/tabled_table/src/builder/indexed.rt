@@ -8,6 +8,8 @@ ghost use Rattle.tabled_table.specs.Index.{numbers, with_index_name};
 use crate::builder::{columns, rows};
 use std::alloc::{AllocError, Global};
 use std::marker::Model;
+use std::mem;
+use tabled_grid::records::nested_rows::turn_rows;
 use tabled_grid::records::{Blank, Text};
 
 /// A header above a body, and an index beside it.
@@ -38,7 +40,8 @@ impl Indexed {
     ghost use Rattle.std.specs.Prelude.{◌≡◌, ◌<◌, IfOk, false, length, map, option_map, vec_len};
     ghost use Rattle.std.specs.String.{string_bytes};
     ghost use Rattle.tabled_grid.specs.Grid.{width_of};
-    ghost use Rattle.tabled_table.specs.Builder.{AreRecords, row_texts};
+    ghost use Rattle.tabled_grid.specs.Evenness.{AreWide};
+    ghost use Rattle.tabled_table.specs.Builder.{row_texts};
     ghost use Rattle.tabled_table.specs.Index.{IsIndexed, built_rows, is_bare as has_nothing, numbered, transposed_index, with_column_as_index};
 
     /// A header and a body with the numbers of its rows as the index.
@@ -47,7 +50,7 @@ impl Indexed {
         header: Vec<Text<String>>,
         body: Vec<Vec<Text<String>>>,
     ) -> Result<Self, AllocError>
-        requires { AreRecords (vec_len header) (row_texts body.items) }
+        requires { AreWide (vec_len header) (row_texts body.items) }
         ensures { IfOk result (λ x. x ≡ numbered (vec_len body) (map string_bytes header.items) (row_texts body.items)) }
     {
         let index = numbers_below(alloc, body.len())?;
@@ -80,51 +83,23 @@ impl Indexed {
     }
 
     /// Makes a column the index and its header the name.
-    pub(super) fn take_column(self, alloc: Global, column: usize) -> Result<Self, AllocError>
+    pub(super) fn take_column(mut self, alloc: Global, column: usize) -> Result<Self, AllocError>
         requires { column < length self.header }
         ensures { IfOk result (λ x. x ≡ with_column_as_index column self) }
     {
-        let Indexed {
-            mut header,
-            index: _,
-            mut body,
-            name: _,
-            is_shown,
-            is_transposed,
-        } = self;
-        let index = columns::take_column(alloc, &mut body, column)?;
-        let name = Some(header.remove(column));
-        Ok(Indexed {
-            header,
-            index,
-            body,
-            name,
-            is_shown,
-            is_transposed,
-        })
+        self.index = columns::take_column(alloc, &mut self.body, column)?;
+        self.name = Some(self.header.remove(column));
+        Ok(self)
     }
 
     /// Swaps header and index, and transposes the body.
-    pub(super) fn transpose(self, alloc: Global) -> Result<Self, AllocError>
+    pub(super) fn transpose(mut self, alloc: Global) -> Result<Self, AllocError>
         ensures { IfOk result (λ x. x ≡ transposed_index self) }
     {
-        let Indexed {
-            header,
-            index,
-            body,
-            name,
-            is_shown,
-            is_transposed,
-        } = self;
-        let body = columns::transposed(alloc, body, header.len())?;
-        Ok(Indexed {
-            header: index,
-            index: header,
-            body,
-            name,
-            is_shown,
-            is_transposed: !is_transposed,
-        })
+        turn_rows(alloc, &mut self.body, self.header.len())?;
+        mem::swap(&mut self.header, &mut self.index);
+        self.is_transposed = !self.is_transposed;
+        Ok(self)
     }
 
     /// Says whether there is no header, no index and no name.
@@ -137,7 +112,7 @@ impl Indexed {
     /// The rows of the table: the header and the body, with the index and its name.
     pub(super) fn into_rows(self, alloc: Global) -> Result<Vec<Vec<Text<String>>>, AllocError>
         ensures rows { IfOk result (λ rows. row_texts rows.items ≡ built_rows self) }
-        ensures even { IfOk result (λ rows. AreRecords (width_of (row_texts rows.items)) (row_texts rows.items)) }
+        ensures even { IfOk result (λ rows. AreWide (width_of (row_texts rows.items)) (row_texts rows.items)) }
     {
         let Indexed {
             header,

@@ -1,6 +1,6 @@
 //! Builders of maps and sets, with a row an entry.
 
-ghost use Rattle.std.specs.Prelude.{◌≡◌, IfOk, OnOk};
+ghost use Rattle.std.specs.Prelude.{IfOk, OnOk};
 ghost use Rattle.std.specs.List.Sorted.{IsPermutation, IsSorted};
 ghost use Rattle.tabled_table.specs.Builder.{row_texts};
 ghost use Rattle.tabled_table.specs.Given.{GaveEntries, MayBeAsked};
@@ -84,7 +84,7 @@ where
     V: Display + Drop,
     I: IntoIterator<Item = (K, V)>,
     requires { MayBeAsked I.IntoIterator I.IntoIter.Iterator entries }
-    ensures { IfOk result (λ all. GaveEntries I.IntoIterator I.IntoIter.Iterator (PrintsPair K.output V.output) entries (λ rows. row_texts all.items ≡ rows)) }
+    ensures { IfOk result (λ all. GaveEntries I.IntoIterator I.IntoIter.Iterator (PrintsPair K.output V.output) entries (row_texts all.items)) }
 {
     let mut all = Vec::new(alloc);
     for (key, value) in entries {
@@ -102,7 +102,7 @@ where
     K: Display + Drop,
     I: IntoIterator<Item = K>,
     requires { MayBeAsked I.IntoIterator I.IntoIter.Iterator keys }
-    ensures { IfOk result (λ all. GaveEntries I.IntoIterator I.IntoIter.Iterator (PrintsOne K.output) keys (λ rows. row_texts all.items ≡ rows)) }
+    ensures { IfOk result (λ all. GaveEntries I.IntoIterator I.IntoIter.Iterator (PrintsOne K.output) keys (row_texts all.items)) }
 {
     let mut all = Vec::new(alloc);
     for key in keys {

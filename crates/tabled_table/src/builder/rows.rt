@@ -4,7 +4,8 @@ ghost use Rattle.std.specs.Prelude.{◌≡◌, ℕ, ◌<◌, ◌≤◌, IfOk, On
 ghost use Rattle.std.specs.List.{filter};
 ghost use Rattle.std.specs.String.{string_bytes};
 ghost use Rattle.tabled_grid.specs.Grid.{width_of};
-ghost use Rattle.tabled_table.specs.Builder.{AreRecords, longest as longest_of, padded_to, pushed_items, row_has_text, row_texts, with_row_at};
+ghost use Rattle.tabled_grid.specs.Evenness.{AreWide};
+ghost use Rattle.tabled_table.specs.Builder.{longest as longest_of, padded_to, pushed_items, row_has_text, row_texts, with_row_at};
 ghost use Rattle.tabled_table.specs.Given.{GaveTexts, MayBeAsked};
 
 use crate::builder::columns::insert_items;
@@ -55,7 +56,7 @@ pub(super) fn try_pad_each(
     empty: &str,
 ) -> Result<(), AllocError>
     ensures ok { OnOk result (row_texts rows.new ≡ map (padded_to columns empty.now) (row_texts rows.old)) }
-    ensures front { (from : ℕ) → AreRecords from (row_texts rows.old) → map (take from) (row_texts rows.new) ≡ row_texts rows.old }
+    ensures front { (from : ℕ) → AreWide from (row_texts rows.old) → map (take from) (row_texts rows.new) ≡ row_texts rows.old }
 {
     for row in rows.iter_mut() {
         pad(alloc, row, columns, empty)?;
@@ -72,7 +73,7 @@ pub(super) fn truncate_each(rows: &mut [Vec<Text<String>>], columns: usize)
     }
 }
 
-/// Pads rows of one length to another. Refused, it leaves them as they were.
+/// Pads rows of one length to another, if it is longer. Refused, it leaves them as they were.
 pub(super) fn pad_each(
     alloc: Global,
     rows: &mut [Vec<Text<String>>],
@@ -80,10 +81,13 @@ pub(super) fn pad_each(
     columns: usize,
     empty: &str,
 ) -> Result<(), AllocError>
-    requires { AreRecords from (row_texts rows.old) }
+    requires { AreWide from (row_texts rows.old) }
     ensures ok { OnOk result (row_texts rows.new ≡ map (padded_to columns empty.now) (row_texts rows.old)) }
     ensures err { OnErr result (row_texts rows.new ≡ row_texts rows.old) }
 {
+    if columns <= from {
+        return Ok(());
+    }
     let padded = try_pad_each(alloc, rows, columns, empty);
     if padded.is_err() {
         truncate_each(rows, from);
@@ -91,8 +95,8 @@ pub(super) fn pad_each(
     padded
 }
 
-/// Inserts a row that is as long as the others, or longer, where these are padded. Refused, it leaves
-/// them as they were.
+/// Inserts a row. The others, all of one length, are padded to it. Refused, it leaves them as they
+/// were.
 pub(super) fn insert_row(
     alloc: Global,
     rows: &mut Vec<Vec<Text<String>>>,
@@ -102,15 +106,12 @@ pub(super) fn insert_row(
     empty: &str,
 ) -> Result<(), AllocError>
     requires within { i ≤ vec_len rows.old }
-    requires even { AreRecords from (row_texts rows.old.items) }
-    requires long { from ≤ vec_len row }
+    requires even { AreWide from (row_texts rows.old.items) }
     ensures ok { OnOk result (row_texts rows.new.items ≡ with_row_at (vec_len row) empty.now (row_texts rows.old.items) i (map string_bytes row.items)) }
     ensures err { OnErr result (row_texts rows.new.items ≡ row_texts rows.old.items) }
 {
     rows.reserve(1)?;
-    if from < row.len() {
-        pad_each(alloc, rows, from, row.len(), empty)?;
-    }
+    pad_each(alloc, rows, from, row.len(), empty)?;
     rows.insert(i, row).unwrap();
     Ok(())
 }
@@ -135,24 +136,6 @@ fn pad_rows(
     Ok(())
 }
 
-/// Pushes an item to each row, after rows for the surplus items. Refused, it leaves in front what
-/// was there.
-fn try_push_items(
-    alloc: Global,
-    rows: &mut Vec<Vec<Text<String>>>,
-    columns: usize,
-    items: Vec<Text<String>>,
-    empty: &str,
-) -> Result<(), AllocError>
-    requires even { AreRecords columns (row_texts rows.old.items) }
-    requires many { vec_len rows.old ≤ vec_len items }
-    ensures ok { OnOk result (row_texts rows.new.items ≡ pushed_items (vec_len items) columns empty.now (row_texts rows.old.items) (map string_bytes items.items)) }
-    ensures err { OnErr result (take (vec_len rows.old) (row_texts rows.new.items) ≡ row_texts rows.old.items) }
-{
-    pad_rows(alloc, rows, items.len(), columns, empty)?;
-    insert_items(rows, columns, items)
-}
-
 /// Pushes an item to each row, after rows for the surplus items. Refused, it leaves the rows as
 /// they were.
 pub(super) fn push_items(
@@ -162,17 +145,19 @@ pub(super) fn push_items(
     items: Vec<Text<String>>,
     empty: &str,
 ) -> Result<(), AllocError>
-    requires even { AreRecords columns (row_texts rows.old.items) }
+    requires even { AreWide columns (row_texts rows.old.items) }
     requires many { vec_len rows.old ≤ vec_len items }
     ensures ok { OnOk result (row_texts rows.new.items ≡ pushed_items (vec_len items) columns empty.now (row_texts rows.old.items) (map string_bytes items.items)) }
     ensures err { OnErr result (row_texts rows.new.items ≡ row_texts rows.old.items) }
 {
     let count = rows.len();
-    let put = try_push_items(alloc, rows, columns, items, empty);
-    if put.is_err() {
+    if pad_rows(alloc, rows, items.len(), columns, empty).is_err()
+        || insert_items(rows, columns, items).is_err()
+    {
         rows.truncate(count);
+        return Err(AllocError);
     }
-    put
+    Ok(())
 }
 
 /// Whether a row has a text.

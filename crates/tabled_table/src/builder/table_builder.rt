@@ -19,20 +19,22 @@ pub struct Builder {
 
 impl Model for Builder {
     ghost use Rattle.std.specs.String.{string_bytes};
-    ghost use Rattle.tabled_table.specs.Builder.{AreRecords, Builder, row_texts};
+    ghost use Rattle.tabled_grid.specs.Evenness.{AreWide};
+    ghost use Rattle.tabled_table.specs.Builder.{Builder, row_texts};
 
     ghost Value = { Builder };
 
     ghost view = { λ a. record { columns = a.count_columns; rows = row_texts a.rows.items; empty = string_bytes a.empty_text } };
 
-    ghost invariant = { λ a. AreRecords a.count_columns (row_texts a.rows.items) };
+    ghost invariant = { λ a. AreWide a.count_columns (row_texts a.rows.items) };
 }
 
 impl Builder {
     ghost use Rattle.std.specs.FinMap as map;
     ghost use Rattle.std.specs.Prelude.{◌≡◌, ◌<◌, ◌≤◌, [], IfOk, IsOk, OnOk, OnErr, length};
     ghost use Rattle.std.specs.String.{string_bytes};
-    ghost use Rattle.tabled_table.specs.Builder.{AreRecords, builder_with_column, builder_without_column, cleaned, cleared, from_uneven, row_texts, table_of, with_last_column, with_record, without_record};
+    ghost use Rattle.tabled_grid.specs.Evenness.{AreWide};
+    ghost use Rattle.tabled_table.specs.Builder.{builder_with_column, builder_without_column, cleaned, cleared, from_uneven, row_texts, table_of, with_last_column, with_record, without_record};
     ghost use Rattle.tabled_grid.specs.Grid.{map_grid, width_of};
     ghost use Rattle.tabled_table.specs.Index.{indexed_rows};
     ghost use Rattle.tabled_table.specs.Given.{EachGaveTexts, EachMayBeAsked, GaveTexts, MayBeAsked};
@@ -73,7 +75,7 @@ impl Builder {
     ///
     /// Ported from `tabled::builder::Builder::from_vec`.
     pub fn from_vec(alloc: Global, rows: Vec<Vec<Text<String>>>) -> Self
-        requires even { AreRecords (width_of (row_texts rows.items)) (row_texts rows.items) }
+        requires even { AreWide (width_of (row_texts rows.items)) (row_texts rows.items) }
         ensures rows { result ≡ record { columns = width_of (row_texts rows.items); rows = row_texts rows.items; empty = [] } }
     {
         let count_columns = rows::width(&rows);
@@ -118,7 +120,7 @@ impl Builder {
         count_columns: usize,
         rows: Vec<Vec<String>>,
     ) -> Result<Self, AllocError>
-        requires { AreRecords count_columns (row_texts rows.items) }
+        requires { AreWide count_columns (row_texts rows.items) }
         ensures { IfOk result (λ b. b ≡ record { columns = count_columns; rows = row_texts rows.items; empty = [] }) }
     {
         Ok(Builder {
@@ -153,8 +155,8 @@ impl Builder {
     /// Ported from `impl From<tabled::builder::Builder> for Vec<Vec<Text<String>>>`.
     pub fn into_cells(self) -> Vec<Vec<Text<String>>>
         ensures rows { row_texts result.items ≡ self.rows }
-        ensures even { AreRecords (width_of (row_texts result.items)) (row_texts result.items) }
-        ensures wide { AreRecords self.columns self.rows }
+        ensures even { AreWide (width_of (row_texts result.items)) (row_texts result.items) }
+        ensures wide { AreWide self.columns self.rows }
     {
         let Builder {
             rows,
@@ -206,7 +208,7 @@ impl Builder {
     /// Ported from `tabled::builder::Builder::count_columns`.
     pub fn count_columns(&self) -> usize
         ensures count { result ≡ self.now.columns }
-        ensures even { AreRecords self.now.columns self.now.rows }
+        ensures even { AreWide self.now.columns self.now.rows }
     {
         self.count_columns
     }

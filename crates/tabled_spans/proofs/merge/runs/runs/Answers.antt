@@ -2,10 +2,10 @@ use Rattle.std.proofs.Common.{◌≡◌, ◌+◌, ◌-◌, ◌≤◌, ◌∷◌,
 use Rattle.std.proofs.lemmas.List.{reverse-append, take_at}
 use Rattle.tabled_grid.specs.Entity.{place}
 use Rattle.tabled_grid.specs.Grid.{map_grid}
-use Rattle.tabled_spans.specs.RunSteps.{AreTails, RunsBefore, RunsFrom}
+use Rattle.tabled_spans.specs.RunSteps.{AreTails, RunsFrom}
 use Rattle.tabled_spans.specs.Runs.{size_of_run}
 use Rattle.tabled_spans.proofs.Anchored.{stand_higher, stand_none}
-use Rattle.tabled_spans.proofs.RunsFrom.{from_end, from_first, none_below, none_put, run_put}
+use Rattle.tabled_spans.proofs.RunsFrom.{from_end, none_below, none_put, run_put}
 use Rattle.tabled_spans.proofs.Tails.{tails_below, tails_end}
 use Rattle.tabled_spans.proofs.merge.runs.runs.Goals as goal
 
@@ -76,4 +76,4 @@ pub returns : goal.returns
 returns g c =
     let texts = map_grid g.R.Cell.CellText.text_of (g.R.GridStore.grid c.args.records.now) in
     let first : c.loop-i.i ≡ 0 = omega (arith, c.loop-i-test.false) in
-    subst (RunsBefore c.args.axis texts c.args.cfg.now texts.rows 0) (sym c.reverse.ensures.items) (from_first c.args.axis texts c.args.cfg.now _ (subst (λ n. RunsFrom c.args.axis texts c.args.cfg.now n 0 (reverse c.loop-i.sizes.items)) first c.loop-i.invariant.0))
+    subst (RunsFrom c.args.axis texts c.args.cfg.now 0 0) (sym c.reverse.ensures.items) (subst (λ n. RunsFrom c.args.axis texts c.args.cfg.now n 0 (reverse c.loop-i.sizes.items)) first c.loop-i.invariant.0)

@@ -16,22 +16,19 @@ mark_columns-requires-clause-unmarked c i within = unmarked c.min.result 1024 i
 
 pub bring_each_forward-requires-clause-within : goal.bring_each_forward-requires-clause-within
 bring_each_forward-requires-clause-within c =
-    let few : length c.mark_columns.new.marks ≤ c.min.result = rw c.mark_columns.auto.marks (few_marks c.min.result 1024) in
-    All-lens (λ n. c.loop-start.start + length c.mark_columns.new.marks ≤ n) c.args.columns c.loop-start.rows (omega arith) (gathered_rows_even c.args.columns _ _ _ _ c.loop-start.invariant.gathered)
+    All-lens (λ n. c.loop-start.start + length c.mark_columns.new.marks ≤ n) c.args.columns c.loop-start.rows (omega (arith, few_marks c.min.result 1024, c.mark_columns.auto.marks)) (gathered_rows_even c.args.columns _ _ _ _ c.loop-start.invariant.gathered)
 
 pub overflow_add-kept : goal.overflow_add-kept
 overflow_add-kept c =
-    let few : length c.mark_columns.new.marks ≤ c.min.result = rw c.mark_columns.auto.marks (few_marks c.min.result 1024) in
-    omega (arith, c.loop-start.invariant.gathered.below, count_by-le-length (λ mark. mark) c.mark_columns.new.marks)
+    omega (arith, few_marks c.min.result 1024, c.mark_columns.auto.marks, c.loop-start.invariant.gathered.below, count_by-le-length (λ mark. mark) c.mark_columns.new.marks)
 
 pub loop-start-preserved : goal.loop-start-preserved
 loop-start-preserved c =
     let marks = c.mark_columns.new.marks in
-    let few : length marks ≤ c.min.result = rw c.mark_columns.auto.marks (few_marks c.min.result 1024) in
     let gathered = c.loop-start.invariant.gathered in
     rw (c.bring_each_forward.ensures, c.count_marks-kept.ensures, sym (length-filter (λ mark. mark) marks)) (record {
-      gathered = gathered_rows_more c.args.columns marks _ _ _ _ (omega arith) (λ k inside. c.mark_columns.ensures k inside ∙ gathered_rows_next c.args.columns _ _ k _ _ gathered) gathered;
-      within = omega arith;
+      gathered = gathered_rows_more c.args.columns marks _ _ _ _ (omega (arith, few_marks c.min.result 1024, c.mark_columns.auto.marks)) (λ k inside. c.mark_columns.ensures k inside ∙ gathered_rows_next c.args.columns _ _ k _ _ gathered) gathered;
+      within = omega (arith, few_marks c.min.result 1024, c.mark_columns.auto.marks);
     })
 
 pub returns-clause-count : goal.returns-clause-count

@@ -1,13 +1,12 @@
-use Rattle.std.proofs.Common.{◌≡◌, drop, map}
-use Rattle.std.specs.List.{insert}
+use Rattle.std.proofs.Common.{◌≡◌, ◌++◌, drop, map, take}
 use Rattle.std.specs.String.{string_bytes}
 use Rattle.std.specs.Vec.Iter.{into_iter_items}
-use Rattle.tabled_table.proofs.Columns.{PutsItems}
-use Rattle.tabled_table.proofs.RowTexts.{texts_of}
+use Rattle.tabled_table.specs.Builder.{row_texts, with_items}
 use Rattle.tabled_table.proofs.builder.columns.insert_items.Given as goal
 
 abbrev pub invariant-loop-row : goal.invariant-loop-row
 invariant-loop-row l = record {
-  puts : PutsItems texts_of (λ row item. insert row l.j item) (map string_bytes l.fn.items.items) l.initial.rows l.rows l.row-index;
-  left : into_iter_items l.items ≡ drop l.row-index l.fn.items.items;
+  rows : row_texts (take l.row-index l.rows) ++ with_items l.j (row_texts (drop l.row-index l.rows)) (map string_bytes (into_iter_items l.items)) ≡ with_items l.j (row_texts l.initial.rows) (map string_bytes l.fn.items.items);
+  rest : drop l.row-index l.rows ≡ drop l.row-index l.initial.rows;
+  items : into_iter_items l.items ≡ drop l.row-index l.fn.items.items;
 }

@@ -1,7 +1,8 @@
 use Rattle.std.proofs.Common.{◌≡◌, ℕ, arith, get_or, map, refl, set, take}
 use Rattle.std.specs.String.{string_bytes}
 use Rattle.std.proofs.lemmas.List.{length-map}
-use Rattle.tabled_table.specs.Builder.{AreRecords, row_texts}
+use Rattle.tabled_grid.specs.Evenness.{AreWide}
+use Rattle.tabled_table.specs.Builder.{row_texts}
 use Rattle.tabled_table.proofs.RowByRow.{changed_more, changed_all}
 use Rattle.tabled_table.proofs.Padded.{fronts_kept, fronts_all}
 use Rattle.tabled_table.proofs.RowTexts.{texts_of}
@@ -12,7 +13,7 @@ pub loop-row-init : goal.loop-row-init
 loop-row-init c = record { padded = record { is = refl }; front = λ from even. fronts_all from _ even }
 
 -- the rows still have in front what was there
-front : (c : After-pad) (from : ℕ) → AreRecords from (row_texts c.args.rows.now) → map (take from) (row_texts (set c.loop-row.rows c.loop-row.row-index c.pad.new.row)) ≡ row_texts c.args.rows.now
+front : (c : After-pad) (from : ℕ) → AreWide from (row_texts c.args.rows.now) → map (take from) (row_texts (set c.loop-row.rows c.loop-row.row-index c.pad.new.row)) ≡ row_texts c.args.rows.now
 front c from even =
     let row = get_or c.loop-row.rows c.loop-row.row-index c.row-item.result in
     fronts_kept texts_of from _ c.loop-row.rows c.loop-row.row-index _ c.row-item.result c.pad.new.row even (omega arith) (c.loop-row.invariant.front from even) (omega (arith, row.ok.0, length-map row.items string_bytes)) c.pad.ensures.front
@@ -22,7 +23,7 @@ returns-in_err-pad-clause-front c = front (goal.at.returns-in_err-pad-clause-fro
 
 pub loop-row-preserved : goal.loop-row-preserved
 loop-row-preserved c = record {
-  padded = changed_more _ _ _ _ _ c.row-item.result c.pad.new.row (omega arith) (omega arith) c.loop-row.invariant.padded c.in_ok-pad.ensures.ok;
+  padded = changed_more _ _ _ _ _ c.row-item.result c.pad.new.row (omega arith) c.loop-row.invariant.padded c.in_ok-pad.ensures.ok;
   front = front (goal.at.loop-row-preserved c).After-pad;
 }
 

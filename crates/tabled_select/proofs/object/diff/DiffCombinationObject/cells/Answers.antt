@@ -1,5 +1,5 @@
 use Rattle.std.proofs.lemmas.Result.{IfOk-weaker}
-use Rattle.tabled_select.proofs.Shown.{ListsAll-rest}
+use Rattle.tabled_select.proofs.Shown.{GivesAll-rest}
 use Rattle.tabled_select.proofs.object.diff.DiffCombinationObject.cells.Goals as goal
 
 pub returns : goal.returns
@@ -8,7 +8,7 @@ returns g c = record {
       (λ iter e. (
         iter,
         (c.in_ok-lhs.lhs.items, c.in_ok-rhs.rhs.items, rw (← c.self.view_is) c.in_ok-lhs.ensures, rw (← c.self.view_is) c.in_ok-rhs.ensures, rw (c.count_rows-rows.ensures.rows, c.count_columns-columns.ensures.columns) at e),
-        ListsAll-rest _ _ tt,
+        GivesAll-rest _ _ tt,
       ))
       c.new.ensures;
 }

@@ -1,6 +1,6 @@
 use Rattle.std.proofs.Common.{append-nil}
 use Rattle.std.proofs.lemmas.Result.{IfOk-weaker}
-use Rattle.tabled_select.proofs.Shown.{ListsAll-rest}
+use Rattle.tabled_select.proofs.Shown.{GivesAll-rest}
 use Rattle.tabled_select.proofs.object.inversion.InversionCombinationObject.cells.Goals as goal
 
 pub returns : goal.returns
@@ -9,7 +9,7 @@ returns g c = record {
       (λ iter e. (
         iter,
         (c.in_ok-named.named.items, rw (← c.self.view_is) c.in_ok-named.ensures, rw (c.count_rows-rows.ensures.rows, c.count_columns-columns.ensures.columns, c.in_ok-all.ensures.items, append-nil) at e),
-        ListsAll-rest _ _ tt,
+        GivesAll-rest _ _ tt,
       ))
       c.new.ensures;
 }

@@ -2,7 +2,8 @@ use Rattle.std.proofs.Common.{rules, ◌≡◌, sym, subst}
 use Rattle.std.proofs.lemmas.Result.{IfOk-weaker}
 use Rattle.std.specs.Prelude.{IfOk}
 use Rattle.tabled_grid.specs.Grid.{width_of}
-use Rattle.tabled_table.specs.Builder.{AreRecords, row_texts}
+use Rattle.tabled_grid.specs.Evenness.{AreWide}
+use Rattle.tabled_table.specs.Builder.{row_texts}
 use Rattle.tabled_table.specs.Index.{built_rows}
 use Rattle.tabled_table.proofs.Indexed.{even-rows_of}
 use Rattle.tabled_table.proofs.builder.indexed.Indexed.into_rows.Goals as goal
@@ -10,9 +11,9 @@ use Rattle.tabled_table.proofs.builder.indexed.Indexed.into_rows.Goals as goal
 pub returns-in-None-clause-even : goal.returns-in-None-clause-even
 returns-in-None-clause-even c =
     let is : row_texts c.if-is_shown.rows.items ≡ built_rows c.args.self = search rules in
-    subst (λ rows. AreRecords (width_of rows) rows) (sym is) (even-rows_of c.args.self (rw c.self.view_is at c.self.invariant))
+    subst (λ rows. AreWide (width_of rows) rows) (sym is) (even-rows_of c.args.self (rw c.self.view_is at c.self.invariant))
 
 pub returns-clause-even : goal.returns-clause-even
 returns-clause-even c =
     let is : IfOk c.rows_with_name.result (λ rows. row_texts rows.items ≡ built_rows c.args.self) = search rules in
-    IfOk-weaker c.rows_with_name.result _ _ (λ rows e. subst (λ all. AreRecords (width_of all) all) (sym e) (even-rows_of c.args.self (rw c.self.view_is at c.self.invariant))) is
+    IfOk-weaker c.rows_with_name.result _ _ (λ rows e. subst (λ all. AreWide (width_of all) all) (sym e) (even-rows_of c.args.self (rw c.self.view_is at c.self.invariant))) is

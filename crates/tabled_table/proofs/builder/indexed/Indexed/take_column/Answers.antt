@@ -5,8 +5,7 @@ use Rattle.std.specs.String.{string_bytes}
 use Rattle.std.specs.Vec.{with_items}
 use Rattle.std.proofs.lemmas.List.{get_or-map, length-map}
 use Rattle.std.proofs.lemmas.Option.{slice_get-get_or}
-use Rattle.tabled_table.specs.Builder.{row_texts}
-use Rattle.tabled_table.specs.Index.{column_of}
+use Rattle.tabled_table.specs.Builder.{column_of, row_texts}
 use Rattle.tabled_table.proofs.Indexed.{IsIndexed-column}
 use Rattle.tabled_grid.proofs.Lists.{map-remove}
 use Rattle.tabled_table.proofs.RowTexts.{All-lens, rows_written}
@@ -18,18 +17,18 @@ module _ (c : After-remove) where
   headers : map string_bytes c.remove.new.self.items ≡ remove (map string_bytes c.self.inside.header.items) c.args.column
   headers = ap (map string_bytes) c.remove.ensures.items ∙ map-remove string_bytes c.self.inside.header.items c.args.column
 
-  index : map string_bytes c.in_ok-index.index.items ≡ column_of (row_texts c.self.inside.body.items) c.args.column
-  index = c.in_ok-index.ensures.column ∙ ap (λ rows. column_of (row_texts rows) c.args.column) c.deref_mut.ensures.value
+  index : map string_bytes c.in_ok-self-inside.field-0.items ≡ column_of (row_texts c.self.inside.body.items) c.args.column
+  index = c.in_ok-self-inside.ensures.column ∙ ap (λ rows. column_of (row_texts rows) c.args.column) c.deref_mut.ensures.value
 
   rows : row_texts (with_items c.self.inside.body c.take_column.new.rows).items ≡ map (λ row. remove row c.args.column) (row_texts c.self.inside.body.items)
-  rows = rows_written c.self.inside.body c.take_column.new.rows (c.take_column.auto.rows ∙ c.deref_mut.ensures.len) ∙ c.in_ok-index.ensures.rows ∙ ap (λ rows. map (λ row. remove row c.args.column) (row_texts rows)) c.deref_mut.ensures.value
+  rows = rows_written c.self.inside.body c.take_column.new.rows (c.take_column.auto.rows ∙ c.deref_mut.ensures.len) ∙ c.in_ok-self-inside.ensures.rows ∙ ap (λ rows. map (λ row. remove row c.args.column) (row_texts rows)) c.deref_mut.ensures.value
 
 pub take_column-requires : goal.take_column-requires
 take_column-requires c = rw c.deref_mut.ensures.value (All-lens (λ n. c.args.column < n) (length (map string_bytes c.self.inside.header.items)) c.self.inside.body.items (rw (← c.self.view_is) at c.requires) c.self.invariant.wide)
 
-pub invariant_of-result : goal.invariant_of-result
-invariant_of-result c =
-    let taken = (goal.at.invariant_of-result c).After-remove in
+pub invariant_of-self : goal.invariant_of-self
+invariant_of-self c =
+    let taken = (goal.at.invariant_of-self c).After-remove in
     let h = IsIndexed-column c.args.column _ (rw (← c.self.view_is) at c.requires) c.self.invariant in
     rw (headers taken, index taken, rows taken) (record { tall = h.tall; wide = h.wide })
 

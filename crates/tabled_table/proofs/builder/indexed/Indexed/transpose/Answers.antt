@@ -1,14 +1,22 @@
-use Rattle.std.proofs.Common.{◌≡◌, ◌∙◌, ap, map, length}
+use Rattle.std.proofs.Common.{◌≡◌, ◌∙◌, ap, length, map, refl}
 use Rattle.std.specs.String.{string_bytes}
+use Rattle.tabled_grid.specs.Bulk.{transposed_rows}
 use Rattle.tabled_table.specs.Builder.{row_texts}
-use Rattle.tabled_table.specs.Index.{columns_as_rows}
 use Rattle.tabled_table.proofs.Indexed.{IsIndexed-transposed}
-use Rattle.tabled_table.proofs.RowTexts.{vec_len-texts}
+use Rattle.tabled_table.proofs.RowTexts.{vec_len-texts, wide-cells}
+use Rattle.tabled_table.proofs.Transposed.{texts_turned}
 use Rattle.tabled_table.proofs.builder.indexed.Indexed.transpose.Goals as goal
+use Rattle.tabled_table.proofs.builder.indexed.Indexed.transpose.Goals.{In_ok-turn_rows}
 
-pub invariant_of-result : goal.invariant_of-result
-invariant_of-result c =
-    let header = c.self.inside.header in
-    let rows = row_texts c.self.inside.body.items in
-    let body : row_texts c.in_ok-body.body.items ≡ columns_as_rows (length (map string_bytes header.items)) rows = c.in_ok-body.ensures ∙ ap (λ n. columns_as_rows n rows) (c.len.ensures ∙ vec_len-texts header) in
-    rw body (IsIndexed-transposed _ c.self.invariant)
+-- the texts of the rows that were turned
+turned : (c : In_ok-turn_rows) → row_texts c.turn_rows.new.rows.items ≡ transposed_rows (length (map string_bytes c.self.inside.header.items)) (row_texts c.self.inside.body.items)
+turned c = texts_turned c.len.result c.self.inside.body.items c.turn_rows.new.rows.items c.in_ok-turn_rows.ensures.ok ∙ ap (λ n. transposed_rows n (row_texts c.self.inside.body.items)) (c.len.ensures ∙ vec_len-texts c.self.inside.header)
+
+pub turn_rows-requires : goal.turn_rows-requires
+turn_rows-requires c = rw (c.len.ensures ∙ vec_len-texts c.self.inside.header) (wide-cells _ c.self.inside.body.items c.self.invariant.wide)
+
+pub invariant_of-self : goal.invariant_of-self
+invariant_of-self c = rw (c.swap.ensures.x_after, c.swap.ensures.y_after, turned (goal.at.invariant_of-self c).In_ok-turn_rows) (IsIndexed-transposed _ c.self.invariant)
+
+pub returns : goal.returns
+returns c = rw (← c.self.view_is, c.swap.ensures.x_after, c.swap.ensures.y_after, turned (goal.at.returns c).In_ok-turn_rows) refl

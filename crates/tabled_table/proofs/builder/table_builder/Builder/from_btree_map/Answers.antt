@@ -2,11 +2,12 @@ use Rattle.std.proofs.Common.{ap, length}
 use Rattle.std.proofs.lemmas.Result.{IfOk-weaker}
 use Rattle.tabled_table.specs.Builder.{row_texts}
 use Rattle.tabled_table.specs.Printed.{PrintsPair}
-use Rattle.tabled_table.proofs.Printed.{all-drained, even-texts}
+use Rattle.tabled_table.proofs.Columns.{even-each}
+use Rattle.tabled_table.proofs.Printed.{all-drained}
 use Rattle.tabled_table.proofs.builder.table_builder.Builder.from_btree_map.Goals as goal
 
 pub of_rows-requires : goal.of_rows-requires
-of_rows-requires g c = even-texts 2 (PrintsPair g.K.Display.output g.V.Display.output) (λ e row r. ap length r.is) _ _ _ c.in_ok-rows.ensures.5 c.in_ok-rows.ensures.6
+of_rows-requires g c = even-each 2 (PrintsPair g.K.Display.output g.V.Display.output) (λ e row r. ap length r.is) _ _ c.in_ok-rows.ensures.4
 
 pub returns : goal.returns
-returns g c = IfOk-weaker c.of_rows.result _ _ (λ b e. record { rows = row_texts c.in_ok-rows.rows.items; each = all-drained _ c.args.map.entries _ _ _ _ c.in_ok-rows.ensures.3.0 c.in_ok-rows.ensures.4 c.in_ok-rows.ensures.5 c.in_ok-rows.ensures.6; is = e }) c.of_rows.ensures
+returns g c = IfOk-weaker c.of_rows.result _ _ (λ b e. record { rows = row_texts c.in_ok-rows.rows.items; each = all-drained _ c.args.map.entries _ _ _ c.in_ok-rows.ensures.2.0 c.in_ok-rows.ensures.3 c.in_ok-rows.ensures.4; is = e }) c.of_rows.ensures

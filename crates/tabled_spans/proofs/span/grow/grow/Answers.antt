@@ -1,0 +1,11 @@
+use Rattle.std.proofs.Common.{◌≡◌, ◌∙◌, ◌∷◌, arith, sym}
+use Rattle.tabled_grid.specs.Entity.{inside}
+use Rattle.tabled_grid.proofs.Places.{inside-within}
+use Rattle.tabled_spans.proofs.SpanChanges.{index_within}
+use Rattle.tabled_spans.proofs.span.grow.grow.Goals as goal
+
+pub overflow_sub-left : goal.overflow_sub-left
+overflow_sub-left c =
+    let all : inside c.args.entity c.args.rows c.args.columns ≡ c.in-Some.pos ∷ c.next.new.self = sym c.iter-places.ensures ∙ c.in-Some.ensures.steps in
+    let here = (rw all at (inside-within c.args.entity c.args.rows c.args.columns)).0 in
+    omega (arith, index_within c.args.axis c.in-Some.pos c.args.rows c.args.columns here.0 here.1, c.line_of.ensures, c.count_of.ensures)
