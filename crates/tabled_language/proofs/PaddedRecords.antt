@@ -1,12 +1,14 @@
 -- Rows padded to one length, as the cells of a table.
 use Rattle.std.proofs.Common.{◌≡◌, ℕ, List, [], ◌∷◌, ◌++◌, ap, length, map, refl, sym, ◌∙◌, take, drop, arith}
 use Rattle.std.specs.Global.{Vec}
-use Rattle.std.specs.List.{AllByRecursion}
 use Rattle.std.proofs.lemmas.List.{append-nil, drop_all, length-map, take_all}
 use Rattle.std.proofs.lemmas.Simd.{map-map}
 use Rattle.tabled_grid.proofs.Across.{same_grid}
+use Rattle.tabled_grid.specs.Evenness.{AreWide}
 use Rattle.tabled_grid.specs.Grid.{IsEven, grid_of, map_grid, map_items}
-use Rattle.tabled_table.specs.Builder.{AreRecords, longest, padded_to}
+use Rattle.tabled_table.specs.Builder.{longest, padded_to}
+use Rattle.tabled_table.proofs.RowTexts.{wide-map}
+use Rattle.tabled_table.proofs.Tables.{even-width}
 use Rattle.tabled_table.proofs.Uneven.{even-longest}
 use Rattle.tabled_language.specs.Line.{table_from}
 use Rattle.tabled_language.proofs.ScriptChecks.{longest-map}
@@ -16,23 +18,15 @@ pub all_written : {A : Type 0} (old new : List A) (len : ℕ) → len ≡ length
 all_written old new len is same = rw (drop_all (length new) old (omega (arith, same)), append-nil new) (take_all len new (omega (arith, is, same)))
 
 module _ {A : Type 0} (f : A → List ℕ) where
-  wide : (n m : ℕ) (cells : List (List A)) → n ≡ m → AreRecords n (map (map f) cells) → AllByRecursion (λ (row : List A). length row ≡ m) cells
-  wide n m [] same records = tt
-  wide n m (row ∷ cells) same records = (sym (length-map row f) ∙ records.0 ∙ same, wide n m cells same records.1)
-
-  even : (n : ℕ) (cells : List (List A)) → AreRecords n (map (map f) cells) → IsEven (grid_of cells)
-  even n [] records = record { tall = refl; wide = tt }
-  even n (row ∷ cells) records = record { tall = refl; wide = wide n (length row) (row ∷ cells) (sym records.0 ∙ length-map row f) records }
-
   -- cells whose texts are records, each padded to the longest
   pub record HasCells (cells : List (List A)) (records : List (List (List ℕ))) : Type 0 where
     pub padded : map (map f) cells ≡ map (padded_to (longest records) []) records
 
-  are_records : (cells : List (List A)) (records : List (List (List ℕ))) → HasCells cells records → AreRecords (longest records) (map (map f) cells)
+  are_records : (cells : List (List A)) (records : List (List (List ℕ))) → HasCells cells records → AreWide (longest records) (map (map f) cells)
   are_records cells records has = rw has.padded (even-longest (longest records) [] records (omega arith))
 
   pub even_cells : (cells : List (List A)) (records : List (List (List ℕ))) → HasCells cells records → IsEven (grid_of cells)
-  even_cells cells records has = even (longest records) cells (are_records cells records has)
+  even_cells cells records has = record { tall = refl; wide = even-width (longest records) cells (wide-map f (longest records) cells (are_records cells records has)) }
 
   pub table_cells : (cells : List (List A)) (records : List (List (List ℕ))) → HasCells cells records → map_grid f (grid_of cells) ≡ table_from records
   table_cells [] [] has = refl

@@ -6,6 +6,7 @@ use Rattle.std.proofs.lemmas.List.{length-map, map-append, take_more}
 use Rattle.std.specs.Global.{Vec}
 use Rattle.tabled_grid.specs.Grid.{Grid, map_items}
 use Rattle.tabled_grid.specs.Spans.{SpanMap}
+use Rattle.tabled_table.proofs.Uneven.{longest-push}
 use Rattle.tabled_table.specs.Builder.{longest}
 use Rattle.tabled_language.specs.declared.draft.Shape.{Shape}
 use Rattle.tabled_language.specs.declared.fault.Fault.TheVariants.{ShapeDiffers, SpanMisfits}
@@ -16,10 +17,6 @@ use Rattle.tabled_language.specs.Script.{Script, script_or_fault}
 use Rattle.tabled_language.specs.Placed.{IsFirstMisfit, fit_in}
 use Rattle.tabled_language.specs.Verb.{Line}
 use Rattle.tabled_language.proofs.DraftSteps.{all_fits, shape_differs, span_misfits}
-
-pub longest-push : {A : Type 0} (rows : List (List A)) (row : List A) → longest (rows ++ row ∷ []) ≡ max (longest rows) (length row)
-longest-push [] row = omega arith
-longest-push (r ∷ rows) row = ap (max (length r)) (longest-push rows row) ∙ omega arith
 
 pub longest-map : {A B : Type 0} (f : A → B) (rows : List (List A)) → longest (map (map f) rows) ≡ longest rows
 longest-map f [] = refl

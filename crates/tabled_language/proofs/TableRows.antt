@@ -1,12 +1,15 @@
 -- Rows of a table, taken from a list of texts.
 use Rattle.std.proofs.Common.{◌≡◌, ℕ, zero, suc, ◌+◌, ◌*◌, ◌<◌, ◌≤◌, List, [], ◌∷◌, ◌++◌, Bool, true, false, cond, eqb, Ok, Err, refl, sym, ap, ap₂, ◌∙◌, length, get_or, map, take, drop, arith}
-use Rattle.std.specs.List.{AllByRecursion, range_with_len}
+use Rattle.std.specs.List.{range_with_len}
 use Rattle.std.proofs.lemmas.Bool.{eqb-false, le-leb, or_right}
 use Rattle.std.proofs.Math.Nat.{mul-le-mul_right}
 use Rattle.std.proofs.lemmas.List.{drop-drop, drop_more, length-drop, length-map, length-take, map-append, take_more}
 use Rattle.std.proofs.lemmas.List.FromFn.{length-map-range_with_len, map-range_with_len_more}
 use Rattle.tabled_grid.proofs.Across.{same_grid}
+use Rattle.tabled_grid.specs.Evenness.{AreWide}
 use Rattle.tabled_grid.specs.Grid.{Grid, IsEven, grid_of, map_grid, width_of}
+use Rattle.tabled_table.proofs.RowTexts.{wide-map}
+use Rattle.tabled_table.proofs.Tables.{even-width}
 use Rattle.tabled_language.specs.declared.fault.Fault.{Fault}
 use Rattle.tabled_language.specs.declared.fault.Fault.TheVariants.{NumberRange}
 use Rattle.tabled_language.specs.declared.fault.ReadError.{ReadError}
@@ -58,19 +61,11 @@ only_memory texts now i (Faulty fault) is below told = absurd (never (sym told �
 pub row_more : {A : Type 0} (view : A → List ℕ) (texts : List (List ℕ)) (i : ℕ) (row : List A) (x : A) → i < length texts → map view row ≡ take i texts → view x ≡ get_or texts i [] → map view (row ++ x ∷ []) ≡ take (i + 1) texts
 row_more view texts i row x below before is = map-append view row (x ∷ []) ∙ ap₂ (λ (xs : List (List ℕ)) (y : List ℕ). xs ++ y ∷ []) before is ∙ sym (take_more texts i [] below)
 
-row_wide : (columns i : ℕ) (texts : List (List ℕ)) → i * columns + columns ≤ length texts → length (row_at columns texts i) ≡ columns
-row_wide columns i texts fits = omega (arith, length-take columns (drop (i * columns) texts), length-drop (i * columns) texts)
-
-rows_wide : {A : Type 0} (f : A → List ℕ) (columns : ℕ) (texts : List (List ℕ)) (cells : List (List A)) (i n : ℕ) → map (map f) cells ≡ map (row_at columns texts) (range_with_len i n) → (i + n) * columns ≤ length texts → AllByRecursion (λ (row : List A). length row ≡ columns) cells
-rows_wide f columns texts [] i n is fits = tt
-rows_wide f columns texts (row ∷ cells) i zero is fits = absurd (omega (arith, ap length is))
-rows_wide f columns texts (row ∷ cells) i (suc n) is fits =
-    let none : List (List ℕ) = [] in
+rows_wide : (columns : ℕ) (texts : List (List ℕ)) (i n : ℕ) → (i + n) * columns ≤ length texts → AreWide columns (map (row_at columns texts) (range_with_len i n))
+rows_wide columns texts i zero fits = tt
+rows_wide columns texts i (suc n) fits =
     let here : (i + 1) * columns ≤ (i + suc n) * columns = mul-le-mul_right columns (omega arith) in
-    let first : map f row ≡ row_at columns texts i = ap (λ rows. get_or rows 0 none) is in
-    let rest : map (map f) cells ≡ map (row_at columns texts) (range_with_len (i + 1) n) = ap (λ rows. drop 1 rows) is in
-    let bound : (i + 1 + n) * columns ≤ length texts = omega (arith, fits) in
-    (omega (arith, length-map row f, ap length first, row_wide columns i texts (omega (arith, here, fits))), rows_wide f columns texts cells (i + 1) n rest bound)
+    (omega (arith, here, fits, length-take columns (drop (i * columns) texts), length-drop (i * columns) texts), rows_wide columns texts (i + 1) n (omega (arith, fits)))
 
 -- a grid of rows that have these texts
 pub record HasRows {A : Type 0} (f : A → List ℕ) (rows columns : ℕ) (texts : List (List ℕ)) (cells : List (List A)) : Type 0 where
@@ -79,12 +74,12 @@ pub record HasRows {A : Type 0} (f : A → List ℕ) (rows columns : ℕ) (texts
 
 pub has_rows : {A : Type 0} (f : A → List ℕ) (rows columns : ℕ) (texts : List (List ℕ)) (cells : List (List A)) → 0 < rows → rows * columns ≤ length texts → map (map f) cells ≡ (rows_of_texts rows columns texts).cells → HasRows f rows columns texts cells
 has_rows {A} f rows columns texts cells some fits is =
-    let wide = rows_wide f columns texts cells 0 rows is (omega (arith, fits)) in
+    let wide : AreWide columns cells = wide-map f columns cells (rw is (rows_wide columns texts 0 rows (omega (arith, fits)))) in
     let tall : length cells ≡ rows = omega (arith, ap length is, length-map cells (map f), length-map-range_with_len (row_at columns texts) 0 rows) in
     let broad : width_of cells ≡ columns = width cells wide (omega (arith, tall, some)) in
-    record { even = record { tall = refl; wide = rw broad wide }; texts_are = same_grid _ _ _ _ _ _ tall broad is }
+    record { even = record { tall = refl; wide = even-width columns cells wide }; texts_are = same_grid _ _ _ _ _ _ tall broad is }
   where
-    width : (cells : List (List A)) → AllByRecursion (λ (row : List A). length row ≡ columns) cells → 0 < length cells → width_of cells ≡ columns
+    width : (cells : List (List A)) → AreWide columns cells → 0 < length cells → width_of cells ≡ columns
     width [] wide some = absurd (omega (arith, some))
     width (row ∷ cells) wide some = wide.0
 
