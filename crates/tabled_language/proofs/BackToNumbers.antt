@@ -7,14 +7,14 @@ use Rattle.std.specs.Fmt.{decimal}
 use Rattle.std.specs.Str.{IsUtf8, all_ascii_digits}
 use Rattle.std.specs.Str.Parse.{digits_value}
 use Rattle.tabled_language.specs.Word.{number_to, size_of}
-use Rattle.tabled_language.proofs.Numbers.{own, some_if}
+use Rattle.tabled_language.proofs.Numbers.{numerals, some_if}
 
 -- the digits of a number up to a limit are read as the number
 pub number_to-decimal : (largest n : ℕ) → n ≤ largest → n < 2 ^ 64 → number_to largest (decimal n) ≡ Some n
 number_to-decimal largest n most fits =
-    let value : digits_value 10 (decimal n) ≡ n = digits_value-decimal own n fits in
+    let value : digits_value 10 (decimal n) ≡ n = digits_value-decimal numerals n fits in
     let some : 0 < length (decimal n) = decimal_nonempty n fits in
-    sym (some_if (not (eqb (length (decimal n)) 0)) (all_ascii_digits (decimal n)) (leb (digits_value 10 (decimal n)) largest) (digits_value 10 (decimal n)) (grind (arith, nat_tests)) (digits_decimal own n fits) (grind (arith, nat_tests)))
+    sym (some_if (not (eqb (length (decimal n)) 0)) (all_ascii_digits (decimal n)) (leb (digits_value 10 (decimal n)) largest) (digits_value 10 (decimal n)) (grind (arith, nat_tests)) (digits_decimal numerals n fits) (grind (arith, nat_tests)))
     ∙ ap Some value
 
 -- also those of `usize::MAX`

@@ -63,9 +63,6 @@ draft_of-push lines line = same (shape-push 0 (length lines) lines line (omega a
 -- without a fault in a line by itself, the checks of the whole are those of the draft
 
 module _ (lines : List Line) (fine : first_fault fault_of [] lines ≡ None) where
-  table : Grid (List ℕ)
-  table = table_from (draft_of lines).records
-
   pub shape_differs : (fault : ℕ × Fault) → shape_misfit (table_from (draft_of lines).records) (draft_of lines).shape ≡ Some fault → script_or_fault lines ≡ Err fault
   shape_differs fault is = rw (fine, shape_told (table_from (draft_of lines).records) lines fine ∙ is) refl
 

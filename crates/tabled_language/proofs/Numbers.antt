@@ -8,8 +8,8 @@ use Rattle.std.specs.Result.{result_ok}
 use Rattle.tabled_language.specs.Word.{integer_of, number_of, number_to}
 
 -- digits and their value are std's
-pub own : IsNumeralModel (λ ds. all_ascii_digits ds ≡ true) (digits_value 10)
-own = numerals_by_value _ tells_all_ascii_digits
+pub numerals : IsNumeralModel (λ ds. all_ascii_digits ds ≡ true) (digits_value 10)
+numerals = numerals_by_value _ tells_all_ascii_digits
 
 none_unless : (p q r : Bool) (n : ℕ) → (p ≡ true → q ≡ true → r ≡ true → ⊥) → None ≡ cond (p && (q && r)) (Some n) None
 none_unless true true true n h = absurd (h refl refl refl)
@@ -28,13 +28,13 @@ number_to-refused {E} largest text (Err e) high h plain is =
     let least : 0 < length text = grind (arith, nat_tests) in
     let most : digits_value 10 text ≤ largest = grind (arith, nat_tests) in
     let fits : digits_value 10 text < 2 ^ 64 = omega arith in
-    parse_plain own {E = E} 64 text (Err e) h plain (digits, least, fits))
+    parse_plain numerals {E = E} 64 text (Err e) h plain (digits, least, fits))
 
 -- what it reads is the number, if that isn't too large
 pub number_to-read : {E : Type 0} (largest : ℕ) (text : List ℕ) (r : Result ℕ E) (n : ℕ) → ParsesUnsigned 64 10 text r → get_or text 0 0 ≢ 43 → Some n ≡ result_ok r → n ≤ largest → Some n ≡ number_to largest text
 number_to-read {E} largest text (Err e) n h plain is small = cc
 number_to-read {E} largest text (Ok m) n h plain is small =
-    let read = parse_plain own {E = E} 64 text (Ok m) h plain in
+    let read = parse_plain numerals {E = E} 64 text (Ok m) h plain in
     let same : n ≡ m = cc in
     let value : m ≡ digits_value 10 text = read.1 in
     let least : 0 < length text = read.0.1 in
@@ -44,7 +44,7 @@ number_to-read {E} largest text (Ok m) n h plain is small =
 pub number_to-large : {E : Type 0} (largest : ℕ) (text : List ℕ) (r : Result ℕ E) (n : ℕ) → ParsesUnsigned 64 10 text r → get_or text 0 0 ≢ 43 → Some n ≡ result_ok r → largest < n → None ≡ number_to largest text
 number_to-large {E} largest text (Err e) n h plain is high = cc
 number_to-large {E} largest text (Ok m) n h plain is high =
-    let read = parse_plain own {E = E} 64 text (Ok m) h plain in
+    let read = parse_plain numerals {E = E} 64 text (Ok m) h plain in
     let same : n ≡ m = cc in
     let value : m ≡ digits_value 10 text = read.1 in
     none_unless (not (eqb (length text) 0)) (all_ascii_digits text) (leb (digits_value 10 text) largest) (digits_value 10 text) (λ some digits small.

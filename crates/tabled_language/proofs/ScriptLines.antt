@@ -3,7 +3,7 @@ use Rattle.std.specs.Prelude.{codes, map, is_ok}
 use Rattle.std.specs.Str.{bytes_eq}
 use Rattle.std.proofs.lemmas.Slice.Eq.{bytes_eq-Decides}
 use Rattle.std.proofs.Common.{◌≡◌, ◌≢◌, ℕ, Bool, true, false, cond, ◌+◌, ◌<◌, ◌≤◌, List, [], ◌∷◌, ◌++◌, ◌&&◌, eqb, length, Option, Some, None, Result, Ok, Err, refl, sym, ap, ◌∙◌, arith}
-use Rattle.std.proofs.lemmas.Bool.{and_from, and_parts, not-true, or_right}
+use Rattle.std.proofs.lemmas.Bool.{and_from, and_parts, false_from_ne_true, not-true, or_right}
 use Rattle.std.proofs.lemmas.List.{append-nil, append_assoc, length-append, length-map}
 use Rattle.std.proofs.lemmas.List.Splits.{length-slice_split}
 use Rattle.std.proofs.lemmas.List.Sums.{count_by-le-length}
@@ -164,11 +164,7 @@ line_asks-texts in_place line plain = rw plain refl
 
 -- another word isn't this one
 differ : (verb name : List ℕ) → verb ≢ name → bytes_eq verb name ≡ false
-differ verb name other = false_unless (bytes_eq verb name) (λ same. other ((bytes_eq-Decides verb name).0 same))
-  where
-    false_unless : (b : Bool) → (b ≡ true → ⊥) → b ≡ false
-    false_unless true never = absurd (never refl)
-    false_unless false never = refl
+differ verb name other = false_from_ne_true (bytes_eq verb name) (λ same. other ((bytes_eq-Decides verb name).0 same))
 
 -- texts whose verb is none of `row`, `shape` and `span` say a step
 pub meaning_of-step : (texts : List (List ℕ)) (verb : List ℕ) (others : List (List ℕ)) → texts ≡ verb ∷ others → verb ≢ codes "row" → verb ≢ codes "shape" → verb ≢ codes "span" → meaning_of (Some texts) ≡ step_line (whole (behind steps verb) others)
