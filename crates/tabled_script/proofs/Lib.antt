@@ -2,5 +2,4 @@ pub mod Again
 pub mod Changes
 pub mod OutputLines
 pub mod Sent
-pub mod Shown
 pub mod Texts

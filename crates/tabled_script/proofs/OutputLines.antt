@@ -2,18 +2,17 @@
 use Rattle.std.proofs.Common.{◌≡◌, ℕ, ◌+◌, ◌<◌, ◌≤◌, ◌^◌, true, List, [], ◌∷◌, ◌++◌, refl, ap, arith, sym, map, take, get_or, length, codes}
 use Rattle.std.proofs.lemmas.Bool.{and_parts, leb-true, ne_eqb}
 use Rattle.std.proofs.lemmas.Fmt.{digits_decimal}
-use Rattle.std.proofs.lemmas.Str.Parse.{IsNumeralModel, numerals_by_value, tells_all_ascii_digits}
 use Rattle.std.specs.Global.{Vec}
 use Rattle.std.specs.Fmt.{decimal}
 use Rattle.std.specs.List.{flat_map, join_with_byte}
 use Rattle.std.specs.Char.{is_ascii_digit}
 use Rattle.std.specs.Prelude.{nat_le}
 use Rattle.std.specs.Str.{all_ascii_digits}
-use Rattle.std.specs.Str.Parse.{digits_value}
 use Rattle.std.proofs.lemmas.List.{append-nil, append_assoc, take_more}
 use Rattle.std.proofs.lemmas.List.Concat.{flat_map-append}
 use Rattle.std.proofs.lemmas.List.Folds.{flat_map-map}
 use Rattle.tabled_grid.specs.Grid.{grid_of, map_grid, map_items, width_of}
+use Rattle.tabled_language.proofs.Numbers.{numerals}
 use Rattle.tabled_language.specs.Output.{escaped, escaped_byte, line, table_lines}
 
 -- after the first list, each list with the byte before it
@@ -51,9 +50,6 @@ digits_stay (b ∷ bs) all =
     let parts = and_parts (is_ascii_digit b) (all_ascii_digits bs) all in
     rw (digit_stays b parts.0, digits_stay bs parts.1) refl
 
-all_digits : IsNumeralModel (λ ds. all_ascii_digits ds ≡ true) (digits_value 10)
-all_digits = numerals_by_value _ tells_all_ascii_digits
-
 -- a number stands as it is in a word
 pub escaped-decimal : (n : ℕ) → n < 2 ^ 64 → escaped (decimal n) ≡ decimal n
-escaped-decimal n fits = digits_stay (decimal n) (digits_decimal all_digits n fits)
+escaped-decimal n fits = digits_stay (decimal n) (digits_decimal numerals n fits)

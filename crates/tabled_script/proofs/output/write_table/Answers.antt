@@ -10,13 +10,14 @@ use Rattle.std.specs.Str.{IsUtf8}
 use Rattle.std.proofs.lemmas.List.{map-id}
 use Rattle.std.proofs.lemmas.Iterator.Consumers.{YieldsList-end}
 use Rattle.std.proofs.lemmas.Iterator.Adapters.{YieldsList-from_vec}
+use Rattle.tabled_grid.proofs.Lists.{all-append}
 use Rattle.tabled_grid.specs.Grid.{map_items, width_of}
 use Rattle.tabled_language.specs.Lent.{bytes_of}
 use Rattle.tabled_language.specs.declared.lent.LentText.{LentText}
 use Rattle.tabled_language.specs.Output.{line}
 use Rattle.tabled_script.specs.Sent.{Sends}
 use Rattle.tabled_script.proofs.OutputLines.{pushed_last, table_lines-pieces}
-use Rattle.tabled_script.proofs.Texts.{all_and, all_map}
+use Rattle.tabled_script.proofs.Texts.{all_map}
 use Rattle.tabled_script.proofs.Sent.{sends_more, sends_next, sends_none}
 use Rattle.tabled_script.proofs.output.write_table.Goals as goal
 
@@ -56,7 +57,7 @@ loop-row-preserved g c =
     record {
       sends = subst (Sends (contents c.args.writer.now) c.args.held.now (contents c.write_row.new.writer) c.write_row.new.held) path
           (sends_more (contents c.args.writer.now) (contents c.loop-row.writer) (contents c.write_row.new.writer) c.args.held.now c.loop-row.held c.write_row.new.held before (line (codes "row" ∷ map bytes_of c.deref.result.now)) c.loop-row.invariant.sends c.in_ok-write_row.ensures.sends);
-      texts = all_and (λ (r : Vec LentText). AllByRecursion IsUtf8 (map bytes_of r.items)) rows row c.loop-row.invariant.texts (subst (λ ts. AllByRecursion IsUtf8 (map bytes_of ts)) c.deref.ensures.value c.in_ok-write_row.ensures.texts);
+      texts = all-append (λ (r : Vec LentText). AllByRecursion IsUtf8 (map bytes_of r.items)) rows (row ∷ []) c.loop-row.invariant.texts (subst (λ ts. AllByRecursion IsUtf8 (map bytes_of ts)) c.deref.ensures.value c.in_ok-write_row.ensures.texts, tt);
       less = c.in_ok-write_row.ensures.less;
     }
 
