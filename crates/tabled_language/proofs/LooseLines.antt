@@ -11,24 +11,9 @@ IsLoose (SpanLine read) = ⊥
 IsLoose line = Unit {0}
 
 loose_follows : (line before : Line) → IsLoose line → may_follow line before ≡ true
-loose_follows EmptyLine EmptyLine loose = refl
-loose_follows (StepLine step) EmptyLine loose = refl
-loose_follows (FaultyLine fault) EmptyLine loose = refl
-loose_follows EmptyLine (ShapeLine read) loose = refl
-loose_follows (StepLine step) (ShapeLine read) loose = refl
-loose_follows (FaultyLine fault) (ShapeLine read) loose = refl
-loose_follows EmptyLine (RecordLine texts) loose = refl
-loose_follows (StepLine step) (RecordLine texts) loose = refl
-loose_follows (FaultyLine fault) (RecordLine texts) loose = refl
-loose_follows EmptyLine (SpanLine read) loose = refl
-loose_follows (StepLine step) (SpanLine read) loose = refl
-loose_follows (FaultyLine fault) (SpanLine read) loose = refl
-loose_follows EmptyLine (StepLine other) loose = refl
-loose_follows (StepLine step) (StepLine other) loose = refl
-loose_follows (FaultyLine fault) (StepLine other) loose = refl
-loose_follows EmptyLine (FaultyLine other) loose = refl
-loose_follows (StepLine step) (FaultyLine other) loose = refl
-loose_follows (FaultyLine fault) (FaultyLine other) loose = refl
+loose_follows EmptyLine before loose = refl
+loose_follows (StepLine step) before loose = refl
+loose_follows (FaultyLine fault) before loose = refl
 loose_follows (ShapeLine shape) before loose = absurd loose
 loose_follows (RecordLine row) before loose = absurd loose
 loose_follows (SpanLine anchor) before loose = absurd loose

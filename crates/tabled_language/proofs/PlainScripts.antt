@@ -13,7 +13,7 @@ use Rattle.tabled_steps.specs.States.{State}
 use Rattle.tabled_language.specs.declared.fault.Fault.{Fault}
 use Rattle.tabled_language.specs.declared.fault.Fault.TheVariants.{OutOfPlace}
 use Rattle.tabled_language.specs.Faults.{fault_among, fault_of, first_fault, is_in_place, shape_fault, span_fault}
-use Rattle.tabled_language.specs.Line.{anchor_in, says_line, meaning_of, record_in, step_in, table_from}
+use Rattle.tabled_language.specs.Line.{anchor_in, says_line, meaning_of, record_in, shape_in, step_in, table_from}
 use Rattle.tabled_language.specs.Script.{Script, parse, script_or_fault}
 use Rattle.tabled_language.specs.Plain.{begin_a_table, has_either_word, is_step, plain_fault, plain_line_of, plain_meaning_of, plain_parse, plain_script, says_plainly}
 use Rattle.tabled_language.specs.Line.{lines_of, texts_of, words_of}
@@ -98,30 +98,23 @@ quiet : (fault_at : List Line → Line → Option Fault) → ((earlier : List Li
 quiet fault_at none earlier [] plain = refl
 quiet fault_at none earlier (line ∷ lines) plain = rw (none earlier line plain.0, quiet fault_at none (earlier ++ line ∷ []) lines plain.1) refl
 
+no_sizes : (line : Line) → IsPlain line → (shape_in line ≡ None) × (anchor_in line ≡ None)
+no_sizes EmptyLine plain = (refl, refl)
+no_sizes (ShapeLine read) plain = absurd plain
+no_sizes (RecordLine texts) plain = (refl, refl)
+no_sizes (SpanLine read) plain = absurd plain
+no_sizes (StepLine step) plain = (refl, refl)
+no_sizes (FaultyLine fault) plain = (refl, refl)
+
 no_shape : (g : Grid (List ℕ)) (earlier : List Line) (line : Line) → IsPlain line → shape_fault g earlier line ≡ None
-no_shape g earlier EmptyLine plain = refl
-no_shape g earlier (ShapeLine read) plain = absurd plain
-no_shape g earlier (RecordLine texts) plain = refl
-no_shape g earlier (SpanLine read) plain = refl
-no_shape g earlier (StepLine step) plain = refl
-no_shape g earlier (FaultyLine fault) plain = refl
+no_shape g earlier line plain = rw (no_sizes line plain).0 refl
 
 no_span : (g : Grid (List ℕ)) (earlier : List Line) (line : Line) → IsPlain line → span_fault g earlier line ≡ None
-no_span g earlier EmptyLine plain = refl
-no_span g earlier (ShapeLine read) plain = refl
-no_span g earlier (RecordLine texts) plain = refl
-no_span g earlier (SpanLine read) plain = absurd plain
-no_span g earlier (StepLine step) plain = refl
-no_span g earlier (FaultyLine fault) plain = refl
+no_span g earlier line plain = rw (no_sizes line plain).1 refl
 
 no_anchors : (lines : List Line) → AllByRecursion IsPlain lines → filter_map anchor_in lines ≡ []
 no_anchors [] plain = refl
-no_anchors (EmptyLine ∷ lines) plain = no_anchors lines plain.1
-no_anchors (ShapeLine read ∷ lines) plain = absurd plain.0
-no_anchors (RecordLine texts ∷ lines) plain = no_anchors lines plain.1
-no_anchors (SpanLine read ∷ lines) plain = absurd plain.0
-no_anchors (StepLine step ∷ lines) plain = no_anchors lines plain.1
-no_anchors (FaultyLine fault ∷ lines) plain = no_anchors lines plain.1
+no_anchors (line ∷ lines) plain = rw (no_sizes line plain.0).1 (no_anchors lines plain.1)
 
 abbrev scripted : List Line → Option (ℕ × Fault) → SpanMap → Result Script (ℕ × Fault)
 scripted lines None spans = Ok (record { records = filter_map record_in lines; spans = spans; steps = filter_map step_in lines })

@@ -11,7 +11,7 @@ use Rattle.tabled_language.specs.Line.{anchor_in, record_in, shape_in, table_fro
 
 -- a line may stand after an earlier one: the shape comes first, then records, then spans, then steps
 abbrev pub may_follow : Line → Line → Bool
-may_follow line EmptyLine = true
+may_follow (ShapeLine read) EmptyLine = true
 may_follow (ShapeLine read) earlier = false
 may_follow (RecordLine texts) (SpanLine read) = false
 may_follow (RecordLine texts) (StepLine step) = false

@@ -1,6 +1,6 @@
 //! The texts of a line.
 
-ghost use Rattle.std.specs.Prelude.{◌≡◌, map, false, true, IfOk, MatchOption, Some};
+ghost use Rattle.std.specs.Prelude.{◌≡◌, map, false, IfOk, MatchOption, Some};
 ghost use Rattle.std.specs.List.{AllByRecursion};
 ghost use Rattle.std.specs.Option.{option_map};
 ghost use Rattle.tabled_language.specs.Lent.{bytes_of};
@@ -17,7 +17,7 @@ use std::str;
 
 /// Bytes as a text, if they are UTF-8 without a backslash: then the words are their own texts.
 pub(crate) fn plain(bytes: &[u8]) -> Option<&str>
-    ensures { MatchOption result (is_plain bytes.now ≡ false) (λ text. (text.now ≡ bytes.now) × (is_plain bytes.now ≡ true)) }
+    ensures { MatchOption result (is_plain bytes.now ≡ false) (λ text. (text.now ≡ bytes.now) × (has_byte 92 text.now ≡ false)) }
 {
     if bytes.contains(&b'\\') {
         return None;

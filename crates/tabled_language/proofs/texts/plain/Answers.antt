@@ -1,8 +1,8 @@
 use Rattle.std.proofs.Common.{◌≡◌, eqb, false, true, refl, rules}
+use Rattle.std.proofs.lemmas.Bool.{and_right}
 use Rattle.std.specs.List.{list_any}
 use Rattle.std.specs.Str.{is_utf8}
-use Rattle.std.proofs.lemmas.Bool.{and_right}
-use Rattle.tabled_language.proofs.PlainLines.{not_plain, plain_line}
+use Rattle.tabled_language.proofs.PlainLines.{not_plain}
 use Rattle.tabled_language.proofs.texts.plain.Goals as goal
 
 pub returns-then-contains : goal.returns-then-contains
@@ -13,8 +13,8 @@ returns-then-contains c =
 pub returns-in-Ok : goal.returns-in-Ok
 returns-in-Ok c =
     let clean : list_any (λ b. eqb b 92) c.args.bytes.now ≡ false = search rules in
-    let text = (rw c.in-Ok.is at c.from_utf8.ensures.cases) in
-    (text.0, plain_line c.args.bytes.now text.1 clean)
+    let text = rw c.in-Ok.is at c.from_utf8.ensures.cases in
+    (text.0, rw text.0 clean)
 
 pub returns-in-Err : goal.returns-in-Err
 returns-in-Err c = (let none = (rw c.in-Err.is at c.from_utf8.ensures.cases) in not_plain c.args.bytes.now none.0)

@@ -1,8 +1,5 @@
-use Rattle.std.proofs.Common.{◌≢◌, length, map, not, sym, rules}
-use Rattle.std.proofs.lemmas.Bool.{and_parts, not-true}
-use Rattle.std.specs.Str.{is_utf8}
+use Rattle.std.proofs.Common.{◌≢◌, length, map, sym, rules}
 use Rattle.tabled_language.specs.Drafts.{takes}
-use Rattle.tabled_language.specs.Line.{has_byte}
 use Rattle.tabled_language.specs.Lent.{bytes_of}
 use Rattle.tabled_language.specs.Parsing.{draft_in}
 use Rattle.tabled_language.proofs.ScriptLines.{line_asks-texts, line_of-texts, same_line}
@@ -10,12 +7,6 @@ use Rattle.tabled_language.proofs.draft.Draft.read_line.Goals as goal
 
 pub read_plain-requires-clause-no_newline : goal.read_plain-requires-clause-no_newline
 read_plain-requires-clause-no_newline c = rw c.in-Some.ensures.0 c.requires
-
-pub read_plain-requires-clause-no_escape : goal.read_plain-requires-clause-no_escape
-read_plain-requires-clause-no_escape c =
-    let line = c.args.line.now in
-    let clean = and_parts (is_utf8 line) (not (has_byte 92 line)) c.in-Some.ensures.1 in
-    rw c.in-Some.ensures.0 (not-true (has_byte 92 line) clean.1)
 
 pub returns-in-Some : goal.returns-in-Some
 returns-in-Some c = rw c.in-Some.ensures.0 at c.read_plain.ensures
