@@ -4,7 +4,6 @@ use Rattle.std.specs.Prelude.{filter_map}
 use Rattle.std.specs.FinMap.{from_entries}
 use Rattle.std.specs.Option.{option_map, option_or}
 use Rattle.std.proofs.lemmas.List.Elements.{filter_map-append}
-use Rattle.tabled_grid.specs.Grid.{Grid}
 use Rattle.tabled_grid.specs.Spans.{Rectangle}
 use Rattle.tabled_steps.specs.States.{State}
 use Rattle.tabled_language.specs.declared.draft.Shape.{Shape}

@@ -52,10 +52,7 @@ word_read texts now i x new is below told =
 -- where a word is left, only memory can be wanted
 pub only_memory : (texts now : List (List ℕ)) (i : ℕ) (error : ReadError) → now ≡ drop i texts → i < length texts → EndsEarly reads_text now error → error ≡ OutOfMemory
 only_memory texts now i OutOfMemory is below told = refl
-only_memory texts now i (Faulty fault) is below told = absurd (never (sym told ∙ ap first_word (is ∙ drop_more texts i [] below)))
-  where
-    never : {x : List ℕ × List (List ℕ)} → Err fault ≡ Ok x → ⊥
-    never e = cc
+only_memory texts now i (Faulty fault) is below told = cc (sym told ∙ ap first_word (is ∙ drop_more texts i [] below))
 
 -- one text more of a row
 pub row_more : {A : Type 0} (view : A → List ℕ) (texts : List (List ℕ)) (i : ℕ) (row : List A) (x : A) → i < length texts → map view row ≡ take i texts → view x ≡ get_or texts i [] → map view (row ++ x ∷ []) ≡ take (i + 1) texts

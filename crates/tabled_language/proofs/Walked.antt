@@ -4,7 +4,7 @@ use Rattle.std.specs.Prelude.{Some, not}
 use Rattle.std.specs.BTreeMap.{BTreeMap, get}
 use Rattle.std.specs.List.{AllByRecursion, list_any}
 use Rattle.std.specs.Ordering.{is_eq, nat_cmp}
-use Rattle.std.proofs.lemmas.Bool.{and_from, and_right, false_from_ne_true, not_from_false, or_from}
+use Rattle.std.proofs.lemmas.Bool.{and_from, and_right, false_from_ne_true, not_from_false, or_from, true≢false}
 use Rattle.std.proofs.lemmas.Bool.Decides.{nat_tests}
 use Rattle.std.proofs.lemmas.List.{get_or_default, take-append-drop, take_more}
 use Rattle.std.proofs.lemmas.Option.{none-some, same_Some}
@@ -75,10 +75,7 @@ met_place rows columns done m e h high (q, f, is, reach, right, left) = by (list
 
     by : (b : Bool) → list_any (meets e) done ≡ b → has_place rows columns done e ≡ false
     by true t = and_right _ _ (ap not t)
-    by false t = absurd (never (sym met ∙ h.among q f is e t))
-      where
-        never : true ≡ false → ⊥
-        never x = cc
+    by false t = absurd (true≢false (sym met ∙ h.among q f is e t))
 
 -- the map of those that may reach a row, with the anchor put in
 module _ (done : List Rectangle) (m kept new : BTreeMap ℕ Rectangle) (e : Rectangle) (h : IsWalked done m e.0.row) (wide : 1 ≤ e.1.width) (clear : IsClear m e) (left : IsLeft e.0.row m kept) (put : (q : ℕ) → get nat_cmp new q ≡ cond (is_eq (nat_cmp e.0.col q)) (Some e) (get nat_cmp kept q)) where
@@ -165,10 +162,7 @@ pub record HasWalked (rows columns : ℕ) (es : List Rectangle) (k : ℕ) (m : B
 
 -- none has a place after one that has none
 cut_short : (rows columns : ℕ) (done xs ys : List Rectangle) → have_places rows columns done xs ≡ false → have_places rows columns done (xs ++ ys) ≡ false
-cut_short rows columns done [] ys h = absurd (never h)
-  where
-    never : true ≡ false → ⊥
-    never x = cc
+cut_short rows columns done [] ys h = absurd (true≢false h)
 cut_short rows columns done (x ∷ xs) ys h = by (has_place rows columns done x) h (cut_short rows columns (done ++ x ∷ []) xs ys)
   where
     by : (b : Bool) → (b && have_places rows columns (done ++ x ∷ []) xs) ≡ false → (have_places rows columns (done ++ x ∷ []) xs ≡ false → have_places rows columns (done ++ x ∷ []) (xs ++ ys) ≡ false) → (b && have_places rows columns (done ++ x ∷ []) (xs ++ ys)) ≡ false
