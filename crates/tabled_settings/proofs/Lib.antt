@@ -7,7 +7,6 @@ pub mod Duplicated
 pub mod Glued
 pub mod Joins
 pub mod Kept
-pub mod KeptSome
 pub mod LineReads
 pub mod Mapped
 pub mod MirroredParts
@@ -30,11 +29,10 @@ pub mod RowByRow
 pub mod SameCells
 pub mod SplitWorked
 pub mod Sums
-pub mod TakenOnce
 pub mod TextCounts
 pub mod TextsKept
+pub mod ThereAndBack
 pub mod TurnedRectangles
-pub mod TurnedSpans
 pub mod TurnedTwice
 pub mod Turns
 pub mod WritersKeep

@@ -13,7 +13,7 @@ use Rattle.tabled_grid.specs.declared.records.axis.Axis.TheVariants.{Rows, Colum
 use Rattle.tabled_settings.specs.declared.split.Display.{Display}
 use Rattle.tabled_settings.specs.declared.split.Display.TheVariants.{Clean, Retain}
 use Rattle.tabled_settings.specs.declared.split.Split.{Split}
-use Rattle.tabled_settings.specs.Lines.{KeepsSome, line_cells}
+use Rattle.tabled_settings.specs.Lines.{KeepsLines, line_cells}
 use Rattle.tabled_grid.proofs.PiecePlaces.{across_is, fills_cut, line_is, place_is}
 use Rattle.tabled_grid.proofs.PiecesCut.{IsCut, enough_pieces}
 use Rattle.tabled_grid.specs.Axis.{across, count_of, in_line, line_of, place_in}
@@ -107,7 +107,7 @@ module _ {A : Type 0} (text_of : A → List ℕ) (s : Split) (lines width : ℕ)
       unsplit = λ none. absurd (true≢false (sym is_cut ∙ none));
     }
 
-    module _ (new : Grid A) (kept : List ℕ) (e : s.display ≡ Clean) (are : kept ≡ kept_pieces s (oriented s.lines (map_grid text_of g))) (k : KeepsSome s.lines kept mid new) where
+    module _ (new : Grid A) (kept : List ℕ) (e : s.display ≡ Clean) (are : kept ≡ kept_pieces s (oriented s.lines (map_grid text_of g))) (k : KeepsLines s.lines kept mid new) where
       counts : (count_along s.lines new ≡ length kept) × (count_along (across s.lines) new ≡ count_along (across s.lines) mid)
       counts = clean_counts text_of s lines width g can is_blank blank_empty mid cut new kept are e k
 

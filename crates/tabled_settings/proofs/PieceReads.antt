@@ -99,17 +99,19 @@ all_retained s pieces rows retained = filter_all (stays_at s pieces rows) (λ t.
     kept : (d : Display) (k : ℕ) (texts : List (List ℕ)) → d ≡ Retain → stays d k texts ≡ true
     kept d k texts is = rw is refl
 
--- one number more is looked at
-range_more : (a n : ℕ) → range_with_len a (suc n) ≡ range_with_len a n ++ (a + n) ∷ []
-range_more a zero = let same : a + 0 ≡ a = omega arith in rw same refl
-range_more a (suc n) = let same : (a + 1) + n ≡ a + suc n = omega arith in ap (λ ys. a ∷ ys) (range_more (a + 1) n ∙ ap (λ k. range_with_len (a + 1) n ++ k ∷ []) same)
+-- some numbers, and those after them
+pub range_split : (a m n : ℕ) → range_with_len a (m + n) ≡ range_with_len a m ++ range_with_len (a + m) n
+range_split a zero n = let all : 0 + n ≡ n = omega arith in let first : a + 0 ≡ a = omega arith in rw (all, first) refl
+range_split a (suc m) n =
+    let all : suc m + n ≡ suc (m + n) = omega arith in
+    let next : (a + 1) + m ≡ a + suc m = omega arith in
+    ap (range_with_len a) all ∙ ap (λ is. a ∷ is) (range_split (a + 1) m n ∙ ap (λ i. range_with_len (a + 1) m ++ range_with_len i n) next)
 
 pub filter_more : (p : ℕ → Bool) (n m : ℕ) (stays : Bool) → m ≡ n + 1 → p n ≡ stays → filter p (range_with_len 0 m) ≡ filter p (range_with_len 0 n) ++ cond stays (n ∷ []) []
 filter_more p n m stays next e =
-    let one : m ≡ suc n = omega (arith, next) in
     let same : 0 + n ≡ n = omega arith in
-    ap (λ (k : ℕ). filter p (range_with_len 0 k)) one
-    ∙ ap (filter p) (range_more 0 n ∙ ap (λ (k : ℕ). range_with_len 0 n ++ k ∷ []) same)
+    ap (λ (k : ℕ). filter p (range_with_len 0 k)) next
+    ∙ ap (filter p) (range_split 0 n 1 ∙ ap (λ (k : ℕ). range_with_len 0 n ++ k ∷ []) same)
     ∙ filter-append p (range_with_len 0 n) (n ∷ [])
     ∙ ap (λ (b : Bool). filter p (range_with_len 0 n) ++ cond b (n ∷ []) []) e
 

@@ -22,7 +22,7 @@ use Rattle.tabled_settings.specs.declared.cuts.Cut.{Cut}
 use Rattle.tabled_settings.specs.declared.split.Display.{Display}
 use Rattle.tabled_settings.specs.declared.split.Display.TheVariants.{Clean, Retain}
 use Rattle.tabled_settings.specs.declared.split.Split.{Split}
-use Rattle.tabled_settings.specs.Lines.{HasLines, KeepsSome, line_cells}
+use Rattle.tabled_settings.specs.Lines.{HasLines, KeepsLines, line_cells}
 use Rattle.tabled_grid.proofs.PiecesCut.{ComesFrom, IsCut, enough_pieces, some_pieces}
 use Rattle.tabled_grid.proofs.PiecesPut.{inside_of, piece_line, source}
 use Rattle.tabled_settings.specs.PiecePlaces.{kept_pieces}
@@ -116,7 +116,7 @@ module _ {A : Type 0} (text_of : A → List ℕ) (s : Split) (lines width : ℕ)
       ∙ ap (λ (n : ℕ). filter (stays_at s pieces rows) (range_with_len 0 (n * pieces))) long
 
   pub kept_rising : IsStrictlyIncreasing (kept_pieces s (oriented s.lines texts))
-  kept_rising = subst IsStrictlyIncreasing (sym staying_is) (IsStrictlyIncreasing-filter (stays_at s pieces rows) (range_with_len 0 (lines * pieces)) (range_rises (lines * pieces)))
+  kept_rising = subst IsStrictlyIncreasing (sym staying_is) (IsStrictlyIncreasing-filter (stays_at s pieces rows) (range_with_len 0 (lines * pieces)) (range_rises 0 (lines * pieces)))
 
   pub kept_below : (a : ℕ) → a < length (kept_pieces s (oriented s.lines texts)) → get_or (kept_pieces s (oriented s.lines texts)) a 0 < lines * pieces
   kept_below = subst (λ (ts : List ℕ). (a : ℕ) → a < length ts → get_or ts a 0 < lines * pieces) (sym staying_is) (filter_below (stays_at s pieces rows) (lines * pieces))
@@ -245,7 +245,7 @@ module _ {A : Type 0} (text_of : A → List ℕ) (s : Split) (lines width : ℕ)
         let at : get_or (range_with_len 0 (lines * pieces)) a 0 ≡ a = omega (arith, read) in
         (ap (λ (m : ℕ). cell_at mid (place_in s.lines m b)) (sym at), omega (arith, at, below)))
 
-    module _ (new : Grid A) (kept : List ℕ) (are : kept ≡ kept_pieces s (oriented s.lines texts)) (clean : s.display ≡ Clean) (k : KeepsSome s.lines kept mid new) where
+    module _ (new : Grid A) (kept : List ℕ) (are : kept ≡ kept_pieces s (oriented s.lines texts)) (clean : s.display ≡ Clean) (k : KeepsLines s.lines kept mid new) where
       all_kept : kept ≡ filter (stays_at s pieces rows) (range_with_len 0 (lines * pieces))
       all_kept = are ∙ staying_is
 

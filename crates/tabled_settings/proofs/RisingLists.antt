@@ -55,11 +55,11 @@ search_finds xs x k (Ok i) up r here same = let at = found_at xs x i up r in ap 
 search_finds xs x k (Err i) up r here same = absurd (missed_at xs x i k up r here same)
 
 -- a range rises, and so does what a test leaves of the first indexes
-pub range_rises : (n : ℕ) → IsStrictlyIncreasing (range_with_len 0 n)
-range_rises n i h = let few = length-range_with_len 0 n in omega (arith, get_or-range_with_len 0 n i 0 (omega (arith, h, few)), get_or-range_with_len 0 n (i + 1) 0 (omega (arith, h, few)))
+pub range_rises : (a n : ℕ) → IsStrictlyIncreasing (range_with_len a n)
+range_rises a n i h = let few = length-range_with_len a n in omega (arith, get_or-range_with_len a n i 0 (omega (arith, h, few)), get_or-range_with_len a n (i + 1) 0 (omega (arith, h, few)))
 
 pub left_rises : (gone : ℕ → Bool) (n : ℕ) → IsStrictlyIncreasing (left_over gone n)
-left_rises gone n = IsStrictlyIncreasing-filter (λ (i : ℕ). not (gone i)) (range_with_len 0 n) (range_rises n)
+left_rises gone n = IsStrictlyIncreasing-filter (λ (i : ℕ). not (gone i)) (range_with_len 0 n) (range_rises 0 n)
 
 -- an index is no more than what stands there
 pub index_within : (xs : List ℕ) → IsStrictlyIncreasing xs → (k : ℕ) → k < length xs → k ≤ get_or xs k 0
