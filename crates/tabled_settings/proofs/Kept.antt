@@ -8,7 +8,6 @@ use Rattle.std.proofs.lemmas.Bool.{cases_eq}
 use Rattle.std.proofs.lemmas.List.Edits.{Swapped}
 use Rattle.std.proofs.lemmas.List.FromFn.{get_or-range_with_len, length-range_with_len}
 use Rattle.tabled_grid.specs.Along.{along, count_along, first_along}
-use Rattle.tabled_grid.specs.Axis.{count_of}
 use Rattle.tabled_grid.specs.Bounds.{end_index, first_index}
 use Rattle.tabled_grid.specs.Entity.{place}
 use Rattle.tabled_grid.specs.Grid.{Grid, IsEven, IsInside, cell_at}

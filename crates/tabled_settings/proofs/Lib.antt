@@ -1,7 +1,6 @@
 pub mod AlongLines
 pub mod Apart
 pub mod Cleaned
-pub mod CutLines
 pub mod Dropped
 pub mod Duplicated
 pub mod Glued
@@ -14,14 +13,12 @@ pub mod MirroredSpans
 pub mod Named
 pub mod PiecePlaces
 pub mod PieceReads
-pub mod PieceTexts
 pub mod PiecesDone
 pub mod RearrangedFits
 pub mod RemovedSpans
 pub mod Replacing
 pub mod Results
 pub mod Reversed
-pub mod ReversedSpans
 pub mod Rewriting
 pub mod RisingLists
 pub mod Rotated
@@ -35,4 +32,3 @@ pub mod ThereAndBack
 pub mod TurnedRectangles
 pub mod TurnedTwice
 pub mod Turns
-pub mod WritersKeep

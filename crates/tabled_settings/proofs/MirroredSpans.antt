@@ -1,5 +1,5 @@
--- Merged cells when all lines are put into the opposite order, twice.
-use Rattle.std.proofs.Common.{◌≡◌, ℕ, ◌+◌, ◌-◌, ◌<◌, ◌≤◌, ◌⊎◌, arith}
+-- Merged cells when lines are put into the opposite order, once or twice.
+use Rattle.std.proofs.Common.{◌≡◌, ℕ, ◌+◌, ◌-◌, ◌<◌, ◌≤◌, ◌⊎◌, arith, Bool, true, refl, sym, ap, subst, ◌∙◌}
 use Rattle.tabled_grid.specs.Axis.{count_of, in_line, line_of}
 use Rattle.tabled_grid.specs.Places.{Places}
 use Rattle.tabled_grid.specs.Fitting.{Fits}
@@ -12,12 +12,15 @@ use Rattle.tabled_grid.specs.declared.config.size.Size.{Size}
 use Rattle.tabled_carry.specs.Images.{Carries, HasArea, LeadsBack, carried}
 use Rattle.tabled_carry.proofs.Back.{carried_back}
 use Rattle.tabled_settings.specs.Places.{lines_from}
-use Rattle.tabled_settings.specs.Rearranged.{reversed, reversed_index, rotated}
+use Rattle.tabled_settings.specs.Rearranged.{reversed, reversed_index, rotated, carried_if, limit_end, reverses}
 use Rattle.tabled_settings.specs.declared.rotate.Rotate.TheVariants.{Top}
 use Rattle.tabled_settings.proofs.AlongLines.{lies_along}
 use Rattle.tabled_settings.proofs.MirroredParts.{part_mirrored}
 use Rattle.tabled_settings.proofs.Reversed.{index_inside}
 use Rattle.tabled_settings.proofs.ThereAndBack.{lines_lead_back}
+use Rattle.std.proofs.lemmas.Bool.{and_from}
+use borrow.Author.Tests.{le-leb, lt-ltb}
+use Rattle.tabled_grid.specs.declared.config.offset.Offset.{Offset}
 
 -- lines that come from those as far from the other end
 module _ (axis : Axis) (old : ℕ → ℕ) (rows columns : ℕ) (mirrors : (i : ℕ) → i < count_of axis rows columns → old i + i + 1 ≡ count_of axis rows columns) where
@@ -49,3 +52,20 @@ top_twice_spans rows columns = twice Rows (λ i. rows - 1 - i) rows columns (λ 
 pub reversed_twice_spans : (axis : Axis) (rows columns : ℕ) (m : SpanMap) → Fits m rows columns → carried (reversed axis 0 (End 0) rows columns) rows columns (carried (reversed axis 0 (End 0) rows columns) rows columns m) ≡ m
 reversed_twice_spans axis rows columns = let n = count_of axis rows columns in
     twice axis (reversed_index 0 (n - 0) n) rows columns (λ i h. rw (index_inside 0 (n - 0) n i (omega arith) (omega arith) (omega (arith, h))) (omega (arith, h)))
+
+-- there are lines to reverse where the end is past the start and not past the table
+pub reverses_yes : (axis : Axis) (s : ℕ) (limit : Offset) (rows columns e n : ℕ) → n ≡ count_of axis rows columns → e ≡ limit_end limit s n → s < e → e ≤ n → reverses axis s limit rows columns ≡ true
+reverses_yes axis s limit rows columns e n count end some fits =
+    rw (← count) (and_from _ _ (lt-ltb _ _ (subst (λ (x : ℕ). s < x) end some)) (le-leb _ _ (subst (λ (x : ℕ). x ≤ n) end fits)))
+
+-- they are carried along
+pub reversal_carried : (axis : Axis) (s : ℕ) (limit : Offset) (rows columns rows' columns' e n : ℕ) (m k : SpanMap) → rows' ≡ rows → columns' ≡ columns → n ≡ count_of axis rows columns → e ≡ limit_end limit s n → s < e → e ≤ n →
+    k ≡ carried (lines_from axis (reversed_index s e (count_of axis rows' columns')) rows' columns') rows' columns' m → k ≡ carried_if (reverses axis s limit rows columns) (reversed axis s limit rows columns) rows columns m
+reversal_carried axis s limit rows columns rows' columns' e n m k tall wide count at some fits is =
+    let end : e ≡ limit_end limit s (count_of axis rows columns) = at ∙ ap (limit_end limit s) count in
+    let yes = reverses_yes axis s limit rows columns e (count_of axis rows columns) refl end some (subst (λ (x : ℕ). e ≤ x) count fits) in
+    is
+    ∙ ap (λ (r : ℕ). carried (lines_from axis (reversed_index s e (count_of axis r columns')) r columns') r columns' m) tall
+    ∙ ap (λ (c : ℕ). carried (lines_from axis (reversed_index s e (count_of axis rows c)) rows c) rows c m) wide
+    ∙ ap (λ (x : ℕ). carried (lines_from axis (reversed_index s x (count_of axis rows columns)) rows columns) rows columns m) end
+    ∙ sym (ap (λ (b : Bool). carried_if b (reversed axis s limit rows columns) rows columns m) yes)

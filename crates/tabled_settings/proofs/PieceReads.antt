@@ -1,5 +1,5 @@
 -- The pieces of a grid, read by place.
-use Rattle.std.proofs.Common.{◌≡◌, ℕ, zero, suc, ◌+◌, ◌*◌, ◌<◌, Bool, true, false, cond, eqb, List, [], ◌∷◌, ◌++◌, Some, refl, sym, ap, ap₂, ◌∙◌, subst, length, map, get_or, arith}
+use Rattle.std.proofs.Common.{◌≡◌, ℕ, zero, suc, ◌+◌, ◌*◌, ◌<◌, Bool, true, false, cond, eqb, List, [], ◌∷◌, ◌++◌, Some, refl, sym, ap, ap₂, ◌∙◌, subst, length, map, get_or, arith, None}
 use Rattle.std.specs.Prelude.{slice_get}
 use Rattle.std.specs.Int.{div_ceil}
 use Rattle.std.specs.List.{AllByRecursion, filter, range_with_len}
@@ -17,7 +17,7 @@ use Rattle.tabled_grid.specs.Grid.{Grid, IsEven, IsInside, cell_at}
 use Rattle.tabled_grid.specs.declared.config.position.Position.{Position}
 use Rattle.tabled_grid.specs.declared.records.axis.Axis.{Axis}
 use Rattle.tabled_grid.specs.declared.records.axis.Axis.TheVariants.{Rows, Columns}
-use Rattle.tabled_grid.proofs.Transposed.{at-transposed, length-transposed, wide-transposed}
+use Rattle.tabled_grid.proofs.Transposed.{at-transposed, length-transposed, wide-transposed, slice_get-some}
 use Rattle.tabled_grid.specs.declared.records.piece_order.PieceOrder.{PieceOrder}
 use Rattle.tabled_grid.specs.declared.records.piece_order.PieceOrder.TheVariants.{Concat, Zip}
 use Rattle.tabled_settings.specs.declared.split.Split.{Split}
@@ -27,6 +27,8 @@ use Rattle.tabled_settings.specs.declared.split.Display.{Display}
 use Rattle.tabled_settings.specs.declared.split.Display.TheVariants.{Retain}
 use Rattle.tabled_settings.specs.Pieces.{cut_rows, piece, piece_at, staying, stays, stays_at, oriented}
 use Rattle.tabled_settings.proofs.SameCells.{same_cells}
+use Rattle.std.proofs.Math.ListN.{get_or-map}
+use Rattle.tabled_settings.specs.Lines.{line_cells}
 
 -- the rows of a grid, or its columns as rows
 if_some : (n m : ℕ) → 0 < n → cond (eqb n 0) 0 m ≡ m
@@ -176,3 +178,7 @@ pieces_are s g new pieces even new_even some index pieces_is count wide each =
     made_even : (axis : Axis) (h : Grid (List ℕ)) → IsEven h → 0 < h.columns → IsEven (oriented axis h)
     made_even Rows h h_even any = h_even
     made_even Columns h h_even any = turned_even Columns h h_even any
+
+pub at_line : {A : Type 0} (axis : Axis) (g : Grid A) (i j : ℕ) → cell_at g (place_in axis i j) ≡ get_or (line_cells axis g i) j None
+at_line Rows g i j = sym (slice_get-some (get_or g.cells i []) j)
+at_line {A} Columns g i j = sym (get_or-map (λ (row : List A). slice_get row i) g.cells j [])

@@ -81,12 +81,7 @@ module _ (axis : Axis) (rows columns : ℕ) (e : Rectangle) (high : e.0.row + e.
   only p q t holds =
       let h = is_along axis e q holds in
       let d = taken_turned rows columns p q axis t in
-      is_in axis f p (record {
-        first = omega (arith, is.line, d.far, h.to, room.across);
-        last = omega (arith, is.line, is.lines, d.far, h.from, h.to, room.across);
-        from = omega (arith, is.beside, d.line, h.first);
-        to = omega (arith, is.beside, is.wide, d.line, h.last);
-      })
+      is_in axis f p (record { first = omega (arith, is.line, d.far, h.to, room.across); last = omega (arith, is.line, is.lines, d.far, h.from, h.to, room.across); from = omega (arith, is.beside, d.line, h.first); to = omega (arith, is.beside, is.wide, d.line, h.last) })
 
   back : (p : Position) → In (turned (quarter_of axis) rows columns e) p → (q : Position) × In e q × Takes (rotated (quarter_of axis) rows columns) p q
   back p holds =
@@ -96,18 +91,8 @@ module _ (axis : Axis) (rows columns : ℕ) (e : Rectangle) (high : e.0.row + e.
       let beside = across_is axis (line_of (across axis) p) j in
       let q = place_in axis (line_of (across axis) p) j in (
         q,
-        is_in axis e q (record {
-          first = omega (arith, at, is.beside, h.from);
-          last = omega (arith, at, is.beside, is.wide, h.to);
-          from = omega (arith, beside, is.line, is.lines, h.first, h.last, room.across);
-          to = omega (arith, beside, is.line, is.lines, h.first, h.last, room.across);
-        }),
-        takes_turned rows columns p q axis (record {
-          within = omega (arith, is.line, is.lines, h.last, room.across);
-          across_within = omega (arith, is.beside, is.wide, h.to, room.lines);
-          line = sym at;
-          far = omega (arith, beside, is.line, is.lines, h.last, room.across);
-        }),
+        is_in axis e q (record { first = omega (arith, at, is.beside, h.from); last = omega (arith, at, is.beside, is.wide, h.to); from = omega (arith, beside, is.line, is.lines, h.first, h.last, room.across); to = omega (arith, beside, is.line, is.lines, h.first, h.last, room.across) }),
+        takes_turned rows columns p q axis (record { within = omega (arith, is.line, is.lines, h.last, room.across); across_within = omega (arith, is.beside, is.wide, h.to, room.lines); line = sym at; far = omega (arith, beside, is.line, is.lines, h.last, room.across) }),
       )
 
   quarter_carries : Carries (rotated (quarter_of axis) rows columns) e (turned (quarter_of axis) rows columns e)

@@ -1,4 +1,4 @@
-use Rattle.std.proofs.Common.{◌≡◌, ◌≤◌, ◌⊎◌, ◌+◌, ◌∙◌, Some, None, ap, inl, inr, refl, sym, arith}
+use Rattle.std.proofs.Common.{◌≡◌, ◌≤◌, ◌⊎◌, ◌+◌, ◌∙◌, Some, None, ap, inl, inr, sym, arith}
 use Rattle.std.specs.String.{string_bytes}
 use Rattle.tabled_settings.specs.Joined.{as_texts, text_put}
 use Rattle.tabled_settings.proofs.Joins.{fills_more, fills_over}
