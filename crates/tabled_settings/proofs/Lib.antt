@@ -1,6 +1,4 @@
 pub mod AlongLines
-pub mod Apart
-pub mod Cleaned
 pub mod Dropped
 pub mod Duplicated
 pub mod Glued
@@ -10,7 +8,6 @@ pub mod LineReads
 pub mod Mapped
 pub mod MirroredParts
 pub mod MirroredSpans
-pub mod Named
 pub mod PiecePlaces
 pub mod PieceReads
 pub mod PiecesDone
@@ -23,10 +20,8 @@ pub mod Rewriting
 pub mod RisingLists
 pub mod Rotated
 pub mod RowByRow
-pub mod SameCells
 pub mod SplitWorked
 pub mod Sums
-pub mod TextCounts
 pub mod TextsKept
 pub mod ThereAndBack
 pub mod TurnedRectangles
