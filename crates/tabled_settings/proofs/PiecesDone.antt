@@ -1,18 +1,17 @@
 -- The texts of lines that are pieces.
 use Rattle.std.proofs.Common.{◌≡◌, ◌≢◌, ℕ, ◌+◌, ◌-◌, ◌*◌, ◌<◌, ◌≤◌, ◌⊎◌, inl, inr, Bool, true, false, cond, eqb, List, [], Option, None, Some, refl, sym, ap, ap₂, ◌∙◌, subst, length, get_or, arith}
-use Rattle.std.specs.Prelude.{min, nat_lt, ◌&&◌}
+use Rattle.std.specs.Prelude.{min}
 use Rattle.std.specs.Int.{div_ceil}
 use Rattle.std.specs.List.{filter, list_any, range_with_len}
 use Rattle.std.specs.List.Sorted.{IsStrictlyIncreasing}
 use Rattle.std.specs.Option.{option_map, unwrap_or}
-use Rattle.std.proofs.lemmas.Bool.{cases_lt, lt-ltb, ltb-true, ne_eqb}
+use Rattle.std.proofs.lemmas.Bool.{and_parts, cases_lt, lt-ltb, ltb-true, ne_eqb}
 use Rattle.std.proofs.lemmas.Nat.{row_fits}
 use Rattle.std.proofs.lemmas.List.{get_or_default}
 use Rattle.std.proofs.lemmas.List.Folds.{list_any_at, list_any_none}
 use Rattle.std.proofs.lemmas.List.Kept.{IsStrictlyIncreasing-filter}
 use Rattle.std.proofs.lemmas.List.FromFn.{get_or-range_with_len, length-range_with_len}
 use Rattle.std.proofs.lemmas.Option.{unwrap_or-slice_get}
-use mathlib.Core.Bool.{true≢false}
 use Rattle.tabled_grid.specs.Along.{count_along}
 use Rattle.tabled_grid.specs.Grid.{Grid, IsEven, IsInside, cell_at, map_grid}
 use Rattle.tabled_grid.specs.declared.records.axis.Axis.{Axis}
@@ -44,17 +43,12 @@ lines_counted axis g n rows columns n_is rows_are columns_are = n_is ∙ ap₂ (
 -- where there are pieces, there are lines, and they are longer than a piece, which has cells
 pub pieces_need : (s : Split) (g : Grid (List ℕ)) → has_pieces s g.rows g.columns ≡ true → (0 < count_along s.lines g) × (0 < s.index) × (s.index < count_along (across s.lines) g)
 pieces_need s g e =
-    let tests = parts (nat_lt 0 (count_of s.lines g.rows g.columns)) (nat_lt 0 s.index) (nat_lt s.index (count_of (across s.lines) g.rows g.columns)) e in (
-      omega (arith, ltb-true 0 (count_of s.lines g.rows g.columns) tests.0, counted s.lines g),
-      ltb-true 0 s.index tests.1,
-      omega (arith, ltb-true s.index (count_of (across s.lines) g.rows g.columns) tests.2, counted (across s.lines) g),
+    let some = and_parts _ _ e in
+    let narrow = and_parts _ _ some.1 in (
+      omega (arith, ltb-true 0 (count_of s.lines g.rows g.columns) some.0, counted s.lines g),
+      ltb-true 0 s.index narrow.0,
+      omega (arith, ltb-true s.index (count_of (across s.lines) g.rows g.columns) narrow.1, counted (across s.lines) g),
     )
-  where
-    parts : (x y z : Bool) → (x && (y && z)) ≡ true → (x ≡ true) × (y ≡ true) × (z ≡ true)
-    parts true true true e = (refl, refl, refl)
-    parts true true false e = absurd (true≢false (sym e))
-    parts true false z e = absurd (true≢false (sym e))
-    parts false y z e = absurd (true≢false (sym e))
 
 pub past_line : {A : Type 0} (axis : Axis) (g : Grid A) (i j : ℕ) → IsEven g → count_along (across axis) g ≤ j → cell_at g (place_in axis i j) ≡ None
 past_line Rows g i j even h = none_outside g i j even (inr h)

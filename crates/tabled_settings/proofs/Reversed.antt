@@ -2,6 +2,7 @@
 use Rattle.std.proofs.Common.{◌≡◌, ℕ, zero, suc, List, map, ◌+◌, ◌-◌, ◌<◌, ◌≤◌, ◌≢◌, ◌⊎◌, inl, inr, Bool, true, false, cond, refl, sym, add-one, ap, ◌∙◌, subst, arith}
 use Rattle.std.specs.Prelude.{nat_le, nat_lt, ◌&&◌}
 use Rattle.std.specs.List.{swap}
+use Rattle.std.proofs.lemmas.Bool.Decides.{nat_tests}
 use Rattle.std.proofs.lemmas.List.{map-id}
 use Rattle.std.proofs.lemmas.Simd.{map-map}
 use Rattle.std.proofs.lemmas.Bool.{cases_eq, cases_lt, le-leb, le-ltb, lt-leb, lt-ltb}
@@ -94,18 +95,9 @@ ends_of_rows s e (suc k) g even fits within =
 pub index_inside : (s e n i : ℕ) → e ≤ n → s ≤ i → i < e → reversed_index s e n i ≡ s + e - 1 - i
 index_inside s e n i fits h l = rw (le-leb e n fits, le-leb s i h, lt-ltb i e l) refl
 
-not_first : (a c : Bool) (x y : ℕ) → cond (a && (false && c)) x y ≡ y
-not_first true c x y = refl
-not_first false c x y = refl
-
-not_last : (a b : Bool) (x y : ℕ) → cond (a && (b && false)) x y ≡ y
-not_last true true x y = refl
-not_last true false x y = refl
-not_last false b x y = refl
-
 pub index_outside : (s e n i : ℕ) → (i < s) ⊎ (e ≤ i) → reversed_index s e n i ≡ i
-index_outside s e n i (inl less) = rw (lt-leb s i less) (not_first (nat_le e n) (nat_lt i e) _ i)
-index_outside s e n i (inr past) = rw (le-ltb i e past) (not_last (nat_le e n) (nat_le s i) _ i)
+index_outside s e n i (inl less) = grind (arith, nat_tests)
+index_outside s e n i (inr past) = grind (arith, nat_tests)
 
 -- nothing is reversed where there are no lines between the two ends, or where the last one is past them
 pub not_fitting : (s e n i : ℕ) → n < e → reversed_index s e n i ≡ i
