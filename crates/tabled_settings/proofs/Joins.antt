@@ -25,7 +25,7 @@ none_put corner second default a b even row col outside =
     rw (le-leb corner.row a row, le-leb corner.col b col, none_outside second (a - corner.row) (b - corner.col) even outside) refl
 
 -- the cells of the first table keep their places
-place_of : (b : Bool) (p q : Position) → (if b then Some p else None) ≡ Some q → p ≡ q
+pub place_of : (b : Bool) (p q : Position) → (if b then Some p else None) ≡ Some q → p ≡ q
 place_of true p q same = same_Some p q same
 place_of false p q same = absurd (none-some q same)
 

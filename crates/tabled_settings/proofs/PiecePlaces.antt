@@ -26,6 +26,7 @@ use Rattle.tabled_carry.specs.Images.{carried, Takes}
 use Rattle.tabled_settings.specs.Places.{IsTakenOnce, lines_from}
 use Rattle.tabled_settings.specs.Rearranged.{carried_if}
 use Rattle.tabled_settings.proofs.Glued.{piece_index_below, piece_of}
+use Rattle.tabled_settings.proofs.Joins.{place_of}
 use Rattle.tabled_settings.proofs.LineReads.{counted, lines_read}
 use Rattle.tabled_settings.proofs.PiecesDone.{CanBeCut, clean_counts, clean_done, clean_lines, has, pieces_need, retained_done}
 use Rattle.tabled_grid.proofs.PiecesPut.{one_piece, same_place_in}
@@ -120,11 +121,6 @@ module _ {A : Type 0} (text_of : A → List ℕ) (s : Split) (lines width : ℕ)
         unsplit = λ none. absurd (true≢false (sym is_cut ∙ none));
       }
 
--- an old place is that of one new place
-some_is : (b : Bool) (p q : Position) → cond b (Some p) None ≡ Some q → p ≡ q
-some_is true p q e = ap (λ (o : Option Position). unwrap_or o p) e
-some_is false p q e = cc
-
 within_shape : (axis : Axis) (t b m n : ℕ) → t < m → b < n → ((place_in axis t b).row < count_of axis m n) × ((place_in axis t b).col < count_of axis n m)
 within_shape Rows t b m n h k = (h, k)
 within_shape Columns t b m n h k = (k, h)
@@ -174,7 +170,7 @@ module _ (s : Split) (lines width : ℕ) (q : Position) (index : 0 < s.index) (h
   alone p row col e =
       let within = of_shape s.lines p (lines * pieces) s.index row col in
       let same : place_in s.lines (nth_piece s.behavior lines pieces (line_of s.lines p)).0 (index_in_line s.behavior s.index lines pieces (line_of s.lines p) (line_of (across s.lines) p)) ≡ place_in s.lines i j =
-      some_is (nat_lt (index_in_line s.behavior s.index lines pieces (line_of s.lines p) (line_of (across s.lines) p)) width) (place_in s.lines (nth_piece s.behavior lines pieces (line_of s.lines p)).0 (index_in_line s.behavior s.index lines pieces (line_of s.lines p) (line_of (across s.lines) p))) q e
+      place_of (nat_lt (index_in_line s.behavior s.index lines pieces (line_of s.lines p) (line_of (across s.lines) p)) width) (place_in s.lines (nth_piece s.behavior lines pieces (line_of s.lines p)).0 (index_in_line s.behavior s.index lines pieces (line_of s.lines p) (line_of (across s.lines) p))) q e
       ∙ sym (place_is s.lines q) in
       let parts = same_place_in s.lines _ _ _ _ same in
       let numbers = same_from_place (nth_piece s.behavior lines pieces (line_of s.lines p)).1 (line_of (across s.lines) p) (j / s.index) at_cell s.index within.1 cell_in (parts.1 ∙ sym (div-add-mod' j s.index)) in

@@ -1,11 +1,10 @@
 -- The pieces of a grid, read by place.
-use Rattle.std.proofs.Common.{◌≡◌, ℕ, zero, suc, ◌+◌, ◌*◌, ◌<◌, Bool, true, false, cond, eqb, List, [], ◌∷◌, ◌++◌, Some, refl, sym, ap, ap₂, ◌∙◌, subst, length, map, get_or, arith, None}
+use Rattle.std.proofs.Common.{◌≡◌, ℕ, zero, suc, ◌+◌, ◌*◌, ◌<◌, Bool, true, false, cond, List, [], ◌∷◌, ◌++◌, Some, refl, sym, ap, ap₂, ◌∙◌, subst, length, map, get_or, arith, None}
 use Rattle.std.specs.Prelude.{slice_get}
 use Rattle.std.specs.Int.{div_ceil}
 use Rattle.std.specs.List.{AllByRecursion, filter, range_with_len}
 use Rattle.std.specs.Option.{unwrap_or}
 use Rattle.std.proofs.Math.Nat.{zero-div, zero-mod}
-use Rattle.std.proofs.lemmas.Bool.{ne_eqb}
 use Rattle.std.proofs.lemmas.List.{append-nil, get_or-map as get_or-map_within, length-map}
 use Rattle.std.proofs.lemmas.List.Elements.{All-filter, All-from_recursion, filter-append}
 use Rattle.std.proofs.lemmas.List.FromFn.{get_or-map-range_with_len, get_or-range_with_len, length-map-range_with_len, length-range_with_len}
@@ -27,19 +26,17 @@ use Rattle.tabled_settings.specs.declared.split.Display.{Display}
 use Rattle.tabled_settings.specs.declared.split.Display.TheVariants.{Retain}
 use Rattle.tabled_settings.specs.Pieces.{cut_rows, piece, piece_at, staying, stays, stays_at, oriented}
 use Rattle.tabled_settings.proofs.LineReads.{same_cells}
+use Rattle.tabled_settings.proofs.Rotated.{as_wide}
 use Rattle.std.proofs.Math.ListN.{get_or-map}
 use Rattle.tabled_settings.specs.Lines.{line_cells}
 
 -- the rows of a grid, or its columns as rows
-if_some : (n m : ℕ) → 0 < n → cond (eqb n 0) 0 m ≡ m
-if_some n m h = ap (λ (b : Bool). cond b 0 m) (ne_eqb n 0 (λ e. omega (arith, e, h)))
-
 module _ {A : Type 0} where
   pub turned_even : (axis : Axis) (g : Grid A) → IsEven g → 0 < count_along axis g → IsEven (oriented axis g)
   turned_even Rows g even some = even
   turned_even Columns g even some = record {
     tall = length-transposed g.columns g.cells even.wide;
-    wide = subst (λ (n : ℕ). AllByRecursion (λ (row : List A). length row ≡ n) (transposed_rows g.columns g.cells)) (even.tall ∙ sym (if_some g.columns g.rows some)) (wide-transposed g.columns g.cells);
+    wide = subst (λ (n : ℕ). AllByRecursion (λ (row : List A). length row ≡ n) (transposed_rows g.columns g.cells)) (even.tall ∙ sym (as_wide g.columns g.rows some)) (wide-transposed g.columns g.cells);
   }
 
   pub turned_rows : (axis : Axis) (g : Grid A) → (oriented axis g).rows ≡ count_along axis g
@@ -48,11 +45,11 @@ module _ {A : Type 0} where
 
   pub turned_columns : (axis : Axis) (g : Grid A) → 0 < count_along axis g → (oriented axis g).columns ≡ count_along (across axis) g
   turned_columns Rows g some = refl
-  turned_columns Columns g some = if_some g.columns g.rows some
+  turned_columns Columns g some = as_wide g.columns g.rows some
 
   pub turned_count : (axis : Axis) (g : Grid A) → 0 < g.columns → count_along axis (oriented axis g) ≡ g.rows
   turned_count Rows g some = refl
-  turned_count Columns g some = if_some g.columns g.rows some
+  turned_count Columns g some = as_wide g.columns g.rows some
 
   pub turned_across : (axis : Axis) (g : Grid A) → count_along (across axis) (oriented axis g) ≡ g.columns
   turned_across Rows g = refl

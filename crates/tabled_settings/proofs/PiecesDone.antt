@@ -32,6 +32,7 @@ use Rattle.tabled_settings.specs.Pieces.{has_pieces, is_text, piece_at, split, s
 use Rattle.tabled_settings.proofs.LineReads.{counted, none_outside}
 use Rattle.tabled_settings.proofs.PieceReads.{all_retained, at_line, filter_below, filter_some, first_number, length-piece, piece_text, pieces_are, some_inside, turned_cell, turned_columns, turned_even, turned_rows}
 use Rattle.tabled_settings.proofs.RisingLists.{range_rises}
+use Rattle.tabled_settings.proofs.Rotated.{as_wide}
 
 pub map_count : {A B : Type 0} (f : A → B) (axis : Axis) (g : Grid A) → count_along axis (map_grid f g) ≡ count_along axis g
 map_count f Rows g = refl
@@ -248,7 +249,7 @@ module _ {A : Type 0} (text_of : A → List ℕ) (s : Split) (lines width : ℕ)
           clean_shape s.lines (length kept) (omega (arith, few, ap length all_kept)) k.shape
         where
           clean_shape : (axis : Axis) (n : ℕ) → 0 < n → HasLines axis n mid new → (count_along axis new ≡ n) × (count_along (across axis) new ≡ count_along (across axis) mid)
-          clean_shape Rows n h l = (l.rows, l.columns ∙ ap (λ (b : Bool). cond b 0 mid.columns) (ne_eqb n 0 (λ e. omega (arith, e, h))))
+          clean_shape Rows n h l = (l.rows, l.columns ∙ as_wide n mid.columns h)
           clean_shape Columns n h l = (l.columns, l.rows)
 
       below : (a : ℕ) → a < length kept → get_or kept a 0 < lines * pieces
