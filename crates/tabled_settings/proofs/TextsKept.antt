@@ -1,5 +1,6 @@
 -- The texts of the pieces that stay are those of all pieces, and each is kept as often as it was.
-use Rattle.std.proofs.Common.{◌≡◌, ℕ, ◌*◌, ◌<◌, Bool, true, false, cond, eqb, List, [], ◌∷◌, ◌++◌, refl, sym, ap, ◌∙◌, length, map, arith, ◌+◌, ◌≤◌, get_or}
+use Rattle.std.proofs.Common.{◌≡◌, ℕ, ◌*◌, ◌<◌, Bool, true, false, cond, eqb, List, [], ◌∷◌, ◌++◌, refl, sym, ap, ◌∙◌, length, map, arith, ◌+◌, ◌≤◌, get_or, inl, inr}
+use Rattle.std.proofs.lemmas.Bool.{cases_Bool}
 use Rattle.std.specs.Prelude.{◌||◌, count_by}
 use Rattle.std.specs.Int.{div_ceil}
 use Rattle.std.specs.List.{filter, list_any, range_with_len, AllByRecursion, sum_by}
@@ -92,11 +93,10 @@ pub texts_uncut : (s : Split) (g : Grid (List ℕ)) → has_pieces s g.rows g.co
 texts_uncut s g e = ap (λ (b : Bool). texts_in s.lines (cond b (oriented s.lines (cut_rows s (oriented s.lines g))) g)) e
 
 pub no_text_lost : (s : Split) (g : Grid (List ℕ)) → IsEven g → texts_in s.lines (split s g) ≡ texts_in s.lines (split (record s { display = Retain }) g)
-no_text_lost s g even = either (has_pieces s g.rows g.columns) refl
-  where
-    either : (b : Bool) → has_pieces s g.rows g.columns ≡ b → texts_in s.lines (split s g) ≡ texts_in s.lines (split (record s { display = Retain }) g)
-    either false e = texts_uncut s g e ∙ sym (texts_uncut (record s { display = Retain }) g e)
-    either true e = texts_of_pieces s g even e ∙ sym (texts_of_pieces (record s { display = Retain }) g even e)
+no_text_lost s g even = elim (cases_Bool (has_pieces s g.rows g.columns)) [
+  | inl e ↦ texts_of_pieces s g even e ∙ sym (texts_of_pieces (record s { display = Retain }) g even e)
+  | inr e ↦ texts_uncut s g e ∙ sym (texts_uncut (record s { display = Retain }) g e)
+]
 
 -- a sum over all pieces goes over the lines, and in each over its pieces
 by_lines : (o : PieceOrder) (lines pieces : ℕ) (f : ℕ → ℕ) → sum_to (lines * pieces) f ≡ sum_to lines (λ (i : ℕ). sum_to pieces (λ (k : ℕ). f (piece_index o lines pieces i k)))
@@ -136,18 +136,17 @@ abbrev counted_text : (List ℕ → Bool) → List ℕ → ℕ
 counted_text p text = cond (is_text text) (cond (p text) 1 0) 0
 
 pub each_as_often : (s : Split) (g : Grid (List ℕ)) (p : List ℕ → Bool) → IsEven g → count_by p (texts_in s.lines (split s g)) ≡ count_by p (texts_in s.lines g)
-each_as_often s g p even = either (has_pieces s g.rows g.columns) refl
+each_as_often s g p even = elim (cases_Bool (has_pieces s g.rows g.columns)) [
+  | inl e ↦
+      let need = pieces_need s g e in
+      let lines : Grid (List ℕ) = oriented s.lines g in
+      let enough : lines.columns ≤ div_ceil lines.columns s.index * s.index = enough_pieces (div_ceil lines.columns s.index) s.index lines.columns need.1 refl in
+      ap (count_by p) (texts_of_pieces s g even e)
+      ∙ weighs (joined (all_pieces s lines))
+      ∙ pieces_of_lines (counted_text p) refl s (div_ceil lines.columns s.index) lines.columns lines.cells (turned_even s.lines g even need.0).wide enough
+      ∙ sym (weighs (joined lines.cells))
+  | inr e ↦ ap (count_by p) (texts_uncut s g e)
+]
   where
     weighs : (texts : List (List ℕ)) → count_by p (filter is_text texts) ≡ sum_by (counted_text p) texts
     weighs texts = count_by-filter (counted_text p) p is_text (λ text. refl) texts
-
-    either : (b : Bool) → has_pieces s g.rows g.columns ≡ b → count_by p (texts_in s.lines (split s g)) ≡ count_by p (texts_in s.lines g)
-    either false e = ap (count_by p) (texts_uncut s g e)
-    either true e =
-        let need = pieces_need s g e in
-        let lines : Grid (List ℕ) = oriented s.lines g in
-        let enough : lines.columns ≤ div_ceil lines.columns s.index * s.index = enough_pieces (div_ceil lines.columns s.index) s.index lines.columns need.1 refl in
-        ap (count_by p) (texts_of_pieces s g even e)
-        ∙ weighs (joined (all_pieces s lines))
-        ∙ pieces_of_lines (counted_text p) refl s (div_ceil lines.columns s.index) lines.columns lines.cells (turned_even s.lines g even need.0).wide enough
-        ∙ sym (weighs (joined lines.cells))

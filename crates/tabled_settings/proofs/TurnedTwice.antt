@@ -1,6 +1,6 @@
 -- Tables turned twice, and places that are taken once.
-use Rattle.std.proofs.Common.{◌≡◌, ℕ, ◌+◌, ◌-◌, ◌<◌, ◌≤◌, ◌⊎◌, inl, inr, refl, ap, subst, ◌∙◌, arith}
-use Rattle.std.proofs.lemmas.Bool.{cases_lt}
+use Rattle.std.proofs.Common.{◌≡◌, ℕ, ◌-◌, ◌<◌, refl, ap, subst, ◌∙◌, arith}
+use Rattle.std.proofs.lemmas.Bool.Decides.{nat_tests}
 use Rattle.tabled_grid.specs.Axis.{count_of}
 use Rattle.tabled_grid.specs.Entity.{place}
 use Rattle.tabled_grid.specs.Grid.{Grid, IsEven, IsInside, cell_at}
@@ -12,7 +12,6 @@ use Rattle.tabled_settings.specs.declared.rotate.Rotate.TheVariants.{Left, Right
 use Rattle.tabled_grid.specs.Places.{Places, ReadsThrough}
 use Rattle.tabled_settings.specs.Rearranged.{limit_end, reversed, reversed_index, rotated, half_rotated, upside_down}
 use Rattle.tabled_settings.proofs.Rotated.{as_wide, left_leads_back, into_wide}
-use Rattle.tabled_settings.proofs.Reversed.{index_inside, index_outside, not_fitting}
 use Rattle.tabled_settings.proofs.ThereAndBack.{as_it_was, lines_twice, leads_there, lines_once, taken_once}
 use Rattle.tabled_settings.specs.declared.rotate.Rotate.{Rotate}
 use Rattle.tabled_settings.specs.Places.{IsTakenOnce}
@@ -46,30 +45,12 @@ module _ {A : Type 0} (g h l : Grid A) where
 pub top_twice : {A : Type 0} (g h l : Grid A) → IsEven g → ReadsThrough (upside_down g.rows g.columns) g h → ReadsThrough (upside_down h.rows h.columns) h l → l ≡ g
 top_twice g h l even first second = lines_twice Rows (λ i. g.rows - 1 - i) g.rows g.columns (λ i below. (omega (arith, below), omega (arith, below))) g h l even refl refl first (reshaped upside_down g.rows g.columns h l first.rows first.columns second)
 
--- an index that is reversed stays, or is as far from the other end
-reversed_is : (s e n i : ℕ) → (reversed_index s e n i ≡ i) ⊎ (e ≤ n) × (s ≤ i) × (i < e) × (reversed_index s e n i ≡ s + e - 1 - i)
-reversed_is s e n i = at (cases_lt n e) (cases_lt i s) (cases_lt i e)
-  where
-    at : (n < e) ⊎ (e ≤ n) → (i < s) ⊎ (s ≤ i) → (i < e) ⊎ (e ≤ i) → (reversed_index s e n i ≡ i) ⊎ (e ≤ n) × (s ≤ i) × (i < e) × (reversed_index s e n i ≡ s + e - 1 - i)
-    at (inl past) low high = inl (not_fitting s e n i past)
-    at (inr fits) (inl less) high = inl (index_outside s e n i (inl less))
-    at (inr fits) (inr from) (inr past) = inl (index_outside s e n i (inr past))
-    at (inr fits) (inr from) (inl below) = inr (fits, from, below, index_inside s e n i fits from below)
-
--- twice it is the index, and it stays below n
+-- an index that is reversed twice is the index, and it stays below n
 pub reversed_back : (s e n i : ℕ) → reversed_index s e n (reversed_index s e n i) ≡ i
-reversed_back s e n i = elim (reversed_is s e n i) [
-  | inl same ↦ ap (reversed_index s e n) same ∙ same
-  | inr m ↦
-      let back : s + e - 1 - (s + e - 1 - i) ≡ i = omega (arith, m.1, m.2) in
-      ap (reversed_index s e n) m.3 ∙ index_inside s e n (s + e - 1 - i) m.0 (omega (arith, m.1, m.2)) (omega (arith, m.1, m.2)) ∙ back
-]
+reversed_back s e n i = grind (arith, nat_tests)
 
 pub reversed_below : (s e n i : ℕ) → i < n → reversed_index s e n i < n
-reversed_below s e n i h = elim (reversed_is s e n i) [
-  | inl same ↦ omega (arith, same, h)
-  | inr m ↦ omega (arith, m.3, m.1, m.2, m.0)
-]
+reversed_below s e n i h = grind (arith, nat_tests)
 
 pub reversed_twice : {A : Type 0} (axis : Axis) (s : ℕ) (limit : Offset) (g h l : Grid A) → IsEven g → ReadsThrough (reversed axis s limit g.rows g.columns) g h → ReadsThrough (reversed axis s limit h.rows h.columns) h l → l ≡ g
 reversed_twice axis s limit g h l even first second =
