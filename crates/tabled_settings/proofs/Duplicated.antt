@@ -1,15 +1,18 @@
--- The writes of texts that are duplicated.
-use Rattle.std.proofs.Common.{◌≡◌, ◌<◌, ◌≤◌, ◌+◌, ◌%◌, ◌∙◌, ◌++◌, ◌⊎◌, inl, inr, ℕ, zero, suc, List, [], ◌∷◌, get_or, length, take, refl, subst, sym, ap, ap₂, arith}
+-- How many cells entities name in a table, and the writes of texts that are duplicated.
+use Rattle.std.proofs.Common.{◌≡◌, ◌<◌, ◌≤◌, ◌+◌, ◌%◌, ◌∙◌, ◌++◌, ◌⊎◌, inl, inr, ℕ, zero, suc, List, [], ◌∷◌, get_or, length, take, refl, subst, sym, ap, ap₂, arith, ◌-◌, ◌*◌}
 use Rattle.std.specs.List.{AllByRecursion}
 use Rattle.std.proofs.Math.Nat.{mod-eq_of_lt}
 use Rattle.std.proofs.lemmas.Bool.{cases_lt}
 use Rattle.std.proofs.lemmas.List.{get_or-take, length-take-le, nil_from_length, take_all}
-use Rattle.tabled_grid.specs.Entity.{inside}
+use Rattle.tabled_grid.specs.Entity.{inside, block, place}
 use Rattle.tabled_grid.specs.Grid.{Grid, map_grid}
 use Rattle.tabled_grid.specs.declared.config.entity.Entity.{Entity}
 use Rattle.tabled_grid.specs.declared.config.position.Position.{Position}
 use Rattle.tabled_options.specs.Writes.{FirstWrites, Write, with_writes}
+use Rattle.tabled_carry.proofs.Pigeonhole.{length-block}
 use Rattle.tabled_settings.specs.Dups.{Duplicates, DuplicatesFirst, round_from, round_writes, rounds, source_texts}
+use Rattle.tabled_grid.specs.declared.config.entity.Entity.TheVariants.{Cell, Column, Global, Row}
+use Rattle.tabled_grid.proofs.Places.{inside-Cell, inside-Column, inside-Global, inside-Row, inside-no_cell, inside-no_column, inside-no_row, places}
 
 -- the first n of a list that begins with the first n of another
 pub take-append-take : {X : Type 0} (n : ℕ) (xs ys : List X) → take n (take n xs ++ ys) ≡ take n (xs ++ ys)
@@ -76,3 +79,31 @@ module _ {A C : Type 0} (text_of : A → List ℕ) (destination source : Grid A 
 
   pub left_first : 0 < length texts → FirstWrites (round_writes texts g.rows g.columns targets) (map_grid text_of g) (map_grid text_of h) → DuplicatesFirst text_of destination source g c h c
   left_first some first = inr (sources, targets, read.from, read.to, (subst (λ (writes : List Write). FirstWrites writes (map_grid text_of g) (map_grid text_of h)) (some_rounds texts g.rows g.columns targets some ∙ written) first, refl))
+
+block_length : (a b c d n m : ℕ) → b - a ≡ n → d - c ≡ m → length (block a b c d) ≡ n * m
+block_length a b c d n m high far = length-block a b c d ∙ ap₂ (λ (x y : ℕ). x * y) high far
+
+pub most-Global : (r c : ℕ) → length (inside Global r c) ≤ r * c
+most-Global r c = omega (arith, ap length (inside-Global r c), block_length 0 r 0 c r c (omega arith) (omega arith))
+
+pub most-Column : (j r c : ℕ) → length (inside (Column j) r c) ≤ r
+most-Column j r c = by (cases_lt j c)
+  where
+    by : (j < c) ⊎ (c ≤ j) → length (inside (Column j) r c) ≤ r
+    by (inl h) = omega (arith, ap length (inside-Column j r c h), block_length 0 r j (j + 1) r 1 (omega arith) (omega arith))
+    by (inr h) = omega (arith, ap length (inside-no_column j r c h))
+
+pub most-Row : (i r c : ℕ) → length (inside (Row i) r c) ≤ c
+most-Row i r c = by (cases_lt i r)
+  where
+    by : (i < r) ⊎ (r ≤ i) → length (inside (Row i) r c) ≤ c
+    by (inl h) = omega (arith, ap length (inside-Row i r c h), block_length i (i + 1) 0 c 1 c (omega arith) (omega arith))
+    by (inr h) = omega (arith, ap length (inside-no_row i r c h))
+
+pub most-Cell : (i j r c : ℕ) → length (inside (Cell i j) r c) ≤ 1
+most-Cell i j r c = by (cases_lt i r) (cases_lt j c)
+  where
+    by : (i < r) ⊎ (r ≤ i) → (j < c) ⊎ (c ≤ j) → length (inside (Cell i j) r c) ≤ 1
+    by (inl h) (inl k) = omega (arith, ap length (inside-Cell i j r c h k), block_length i (i + 1) j (j + 1) 1 1 (omega arith) (omega arith))
+    by (inr h) k = omega (arith, ap length (inside-no_cell i j r c (inl h)))
+    by (inl h) (inr k) = omega (arith, ap length (inside-no_cell i j r c (inr k)))

@@ -2,7 +2,7 @@
 use Rattle.std.proofs.Common.{◌≡◌, ℕ, ◌+◌, ◌-◌, ◌<◌, ◌≤◌, ◌≢◌, ◌⊎◌, inl, inr, Bool, true, false, cond, eqb, List, [], Option, None, Some, refl, sym, ap, ap₂, ◌∙◌, max, arith}
 use Rattle.std.specs.Prelude.{nat_lt, if◌then◌else◌, ◌&&◌}
 use Rattle.std.specs.Option.{IfSome, option_map, unwrap_or}
-use Rattle.std.proofs.lemmas.Bool.{cases_eq, cases_lt, eqb-true, le-leb, lt-ltb, ltb-true}
+use Rattle.std.proofs.lemmas.Bool.{cases_lt, eqb-true, le-leb, lt-ltb, ltb-true}
 use Rattle.std.proofs.lemmas.Option.{none-some, same_Some}
 use Rattle.tabled_grid.specs.Along.{first_along}
 use Rattle.tabled_grid.specs.Bulk.{AddsColumns, AddsRows}
@@ -13,10 +13,11 @@ use Rattle.tabled_grid.specs.declared.records.axis.Axis.TheVariants.{Rows, Colum
 use Rattle.tabled_grid.proofs.AddedLines.{added_blank, added_even, added_kept}
 use Rattle.tabled_grid.proofs.FirstLines.{IsEven-first, either_way}
 use Rattle.tabled_grid.proofs.Grids.{IsEven-with_cell, cell_at-map_grid, cell_at-map_grid_some, cell_at-with_cell_other, cell_at-with_cell_same}
+use Rattle.tabled_grid.proofs.Squares.{wide_enough}
 use Rattle.tabled_carry.specs.Images.{KeepsPlaces}
+use Rattle.tabled_carry.proofs.Walks.{Before, before-more}
 use Rattle.tabled_settings.specs.Joined.{FillsTo, GrowsTo, HasBlank, JoinsAt, joined_places, text_put}
-use Rattle.tabled_settings.proofs.LineReads.{line_first, lines_read}
-use Rattle.tabled_settings.proofs.SameCells.{none_outside, same_cells}
+use Rattle.tabled_settings.proofs.LineReads.{line_first, lines_read, none_outside, same_cells}
 
 -- outside of the second table no text is put
 pub none_put : (corner : Position) (second : Grid (List ℕ)) (default : List ℕ) (a b : ℕ) → IsEven second → corner.row ≤ a → corner.col ≤ b → (second.rows ≤ a - corner.row) ⊎ (second.columns ≤ b - corner.col) → None ≡ text_put corner second default a b
@@ -24,7 +25,7 @@ none_put corner second default a b even row col outside =
     rw (le-leb corner.row a row, le-leb corner.col b col, none_outside second (a - corner.row) (b - corner.col) even outside) refl
 
 -- the cells of the first table keep their places
-place_of : (b : Bool) (p q : Position) → (if b then Some p else None) ≡ Some q → p ≡ q
+pub place_of : (b : Bool) (p q : Position) → (if b then Some p else None) ≡ Some q → p ≡ q
 place_of true p q same = same_Some p q same
 place_of false p q same = absurd (none-some q same)
 
@@ -33,10 +34,6 @@ joined_keeps corner second rows columns = record {
   stays = λ p h k. record { row = omega arith; col = omega arith; from = rw (lt-ltb p.row rows h, lt-ltb p.col columns k) refl };
   alone = λ p q t. place_of (nat_lt p.row rows && nat_lt p.col columns) p q t.from;
 }
-
-wide_enough : (b : Bool) (c more size : ℕ) → (b ≡ true → size ≡ c) → c + more ≡ size → cond b c (c + more) ≡ size
-wide_enough true c more size none e = sym (none refl)
-wide_enough false c more size none e = e
 
 module _ {A : Type 0} (is_blank : A → Type 0) where
   pub grown_to : (rows columns many more : ℕ) (old grown new : Grid A) → IsEven old → old.rows + many ≡ rows → old.columns + more ≡ columns → (rows ≡ 0 → columns ≡ 0) → AddsRows is_blank many old grown → AddsColumns is_blank more grown new → GrowsTo is_blank rows columns old new
@@ -71,80 +68,33 @@ module _ {A : Type 0} (is_blank : A → Type 0) where
           (cell.0, cell.1, beside a b h (omega (arith, left, broad)) ∙ cell.2)
 
 module _ {A : Type 0} (text_of : A → List ℕ) (want : ℕ → ℕ → Option (List ℕ)) (rows columns : ℕ) where
-  Before : ℕ → ℕ → ℕ → ℕ → Type 0
-  Before i j a b = (a < i) ⊎ ((a ≡ i) × (b < j))
-
-  pub fills_none : (g : Grid A) → IsEven g → FillsTo text_of want rows columns 0 0 g g
-  fills_none g even = record { even = even; rows_are = refl; columns_are = refl; kept = λ a b h k. refl; unwritten = λ a b none. refl; done = λ a b k outside before text is. none a b text before }
-    where
-      none : (a b : ℕ) (text : List ℕ) → (a < 0) ⊎ ((a ≡ 0) × (b < 0)) → cell_at (map_grid text_of g) (place a b) ≡ Some text
-      none a b text (inl less) = absurd (omega (arith, less))
-      none a b text (inr (at, less)) = absurd (omega (arith, less))
-
   module _ (old now : Grid A) (i j : ℕ) (f : FillsTo text_of want rows columns i j old now) where
-    -- other places before which all is done
-    pub fills_at : (m n : ℕ) → ((a b : ℕ) → b < now.columns → (rows ≤ a) ⊎ (columns ≤ b) → (a < m) ⊎ ((a ≡ m) × (b < n)) → (a < i) ⊎ ((a ≡ i) × (b < j))) → FillsTo text_of want rows columns m n old now
-    fills_at m n earlier = record { even = f.even; rows_are = f.rows_are; columns_are = f.columns_are; kept = f.kept; unwritten = f.unwritten; done = λ a b k outside before. f.done a b k outside (earlier a b k outside before) }
-
-    pub fills_some : FillsTo text_of want rows columns 0 0 old now
-    fills_some = fills_at 0 0 none
-      where
-        none : (a b : ℕ) → b < now.columns → (rows ≤ a) ⊎ (columns ≤ b) → (a < 0) ⊎ ((a ≡ 0) × (b < 0)) → (a < i) ⊎ ((a ≡ i) × (b < j))
-        none a b k outside (inl less) = absurd (omega (arith, less))
-        none a b k outside (inr (at, less)) = absurd (omega (arith, less))
-
-    pub fills_row : (next : ℕ) → next ≡ i + 1 → now.columns ≤ j → FillsTo text_of want rows columns next 0 old now
-    fills_row next e all = fills_at next 0 earlier
-      where
-        at_or : (a b : ℕ) → b < now.columns → a < next → (a < i) ⊎ (i ≤ a) → (a < i) ⊎ ((a ≡ i) × (b < j))
-        at_or a b k below (inl less) = inl less
-        at_or a b k below (inr from) = inr (omega (arith, below, from, e), omega (arith, k, all))
-
-        earlier : (a b : ℕ) → b < now.columns → (rows ≤ a) ⊎ (columns ≤ b) → (a < next) ⊎ ((a ≡ next) × (b < 0)) → (a < i) ⊎ ((a ≡ i) × (b < j))
-        earlier a b k outside (inl below) = at_or a b k below (cases_lt a i)
-        earlier a b k outside (inr (at, less)) = absurd (omega (arith, less))
-
-    -- the row begins after the first table, where it is one of its rows
-    pub fills_begun : (start : ℕ) → j ≡ 0 → (i < rows → start ≡ columns) → (rows ≤ i → start ≡ 0) → FillsTo text_of want rows columns i start old now
-    fills_begun start none in_first below_first = fills_at i start earlier
-      where
-        at : (a b : ℕ) → a ≡ i → b < start → (rows ≤ a) ⊎ (columns ≤ b) → (i < rows) ⊎ (rows ≤ i) → (a < i) ⊎ ((a ≡ i) × (b < j))
-        at a b is less outside (inr below) = let start_is = below_first below in absurd (omega (arith, less, start_is))
-        at a b is less (inl low) (inl first) = absurd (omega (arith, low, first, is))
-        at a b is less (inr right) (inl first) = let start_is = in_first first in absurd (omega (arith, less, start_is, right))
-
-        earlier : (a b : ℕ) → b < now.columns → (rows ≤ a) ⊎ (columns ≤ b) → (a < i) ⊎ ((a ≡ i) × (b < start)) → (a < i) ⊎ ((a ≡ i) × (b < j))
-        earlier a b k outside (inl less) = inl less
-        earlier a b k outside (inr (is, less)) = at a b is less outside (cases_lt i rows)
-
     -- one place more, where no text is wanted
-    pub fills_over : (next : ℕ) → next ≡ j + 1 → want i j ≡ None → FillsTo text_of want rows columns i next old now
-    fills_over next e none = record {
+    pub fills_over : want i j ≡ None → FillsTo text_of want rows columns i (j + 1) old now
+    fills_over none = record {
       even = f.even;
       rows_are = f.rows_are;
       columns_are = f.columns_are;
       kept = f.kept;
       unwritten = f.unwritten;
-      done = λ a b k outside before text is. f.done a b k outside (earlier a b text is before) text is;
+      done = λ a b k outside before text is. elim (before-more i j (place a b) before) [
+        | inl earlier ↦ f.done a b k outside earlier text is
+        | inr same ↦ absurd (none-some text (sym none ∙ sym (ap (λ (p : Position). want p.row p.col) same) ∙ is))
+      ];
     }
-      where
-        earlier : (a b : ℕ) (text : List ℕ) → want a b ≡ Some text → (a < i) ⊎ ((a ≡ i) × (b < next)) → (a < i) ⊎ ((a ≡ i) × (b < j))
-        earlier a b text is (inl less) = inl less
-        earlier a b text is (inr (at, below)) = here (cases_eq b j)
-          where
-            here : (b ≡ j) ⊎ (b ≢ j) → (a < i) ⊎ ((a ≡ i) × (b < j))
-            here (inl at_b) = absurd (none-some text (sym none ∙ sym (ap₂ want at at_b) ∙ is))
-            here (inr off) = inr (at, omega (arith, below, off, e))
 
     -- one text more
-    pub fills_more : (new : Grid A) (next : ℕ) (text : List ℕ) → next ≡ j + 1 → i < now.rows → j < now.columns → (rows ≤ i) ⊎ (columns ≤ j) → want i j ≡ Some text → WritesText text_of now new (place i j) text → FillsTo text_of want rows columns i next old new
-    fills_more new next text e row col out wants w = record {
+    pub fills_more : (new : Grid A) (text : List ℕ) → i < now.rows → j < now.columns → (rows ≤ i) ⊎ (columns ≤ j) → want i j ≡ Some text → WritesText text_of now new (place i j) text → FillsTo text_of want rows columns i (j + 1) old new
+    fills_more new text row col out wants w = record {
       even = rw w.is (IsEven-with_cell now (place i j) w.cell f.even);
       rows_are = ap (λ (g : Grid A). g.rows) w.is ∙ f.rows_are;
       columns_are = ap (λ (g : Grid A). g.columns) w.is ∙ f.columns_are;
       kept = λ a b h k. elsewhere a b (apart a b h k out) ∙ f.kept a b h k;
       unwritten = λ a b none. elsewhere a b (unwanted a b none) ∙ f.unwritten a b none;
-      done = λ a b k outside before. done_at a b (omega (arith, k, ap (λ (g : Grid A). g.columns) w.is)) outside before (cases_eq a i) (cases_eq b j);
+      done = λ a b k outside before t is. elim (before-more i j (place a b) before) [
+        | inl earlier ↦ texts a b (later a b earlier) ∙ f.done a b (omega (arith, k, ap (λ (g : Grid A). g.columns) w.is)) outside earlier t is
+        | inr same ↦ ap (cell_at (map_grid text_of new)) same ∙ here ∙ sym (ap (λ (p : Position). want p.row p.col) same) ∙ is
+      ];
     }
       where
         elsewhere : (a b : ℕ) → place a b ≢ place i j → cell_at new (place a b) ≡ cell_at now (place a b)
@@ -157,6 +107,10 @@ module _ {A : Type 0} (text_of : A → List ℕ) (want : ℕ → ℕ → Option 
         apart a b h k (inl low) is = let at = ap (λ (p : Position). p.row) is in absurd (omega (arith, at, h, low))
         apart a b h k (inr right) is = let at = ap (λ (p : Position). p.col) is in absurd (omega (arith, at, k, right))
 
+        later : (a b : ℕ) → Before i j (place a b) → place a b ≢ place i j
+        later a b (inl less) is = let at = ap (λ (p : Position). p.row) is in absurd (omega (arith, at, less))
+        later a b (inr (row, less)) is = let at = ap (λ (p : Position). p.col) is in absurd (omega (arith, at, less))
+
         unwanted : (a b : ℕ) → want a b ≡ None → place a b ≢ place i j
         unwanted a b none is = absurd (none-some text (sym none ∙ ap (λ (p : Position). want p.row p.col) is ∙ wants))
 
@@ -164,15 +118,6 @@ module _ {A : Type 0} (text_of : A → List ℕ) (want : ℕ → ℕ → Option 
         here =
             let inside : IsInside now (place i j) = record { row = row; col = col } in
             cell_at-map_grid_some text_of new (place i j) w.cell (ap (λ (g : Grid A). cell_at g (place i j)) w.is ∙ cell_at-with_cell_same now (place i j) w.cell f.even inside) ∙ ap Some w.has ∙ sym wants
-
-        earlier : (a b : ℕ) → (a ≡ i → b ≢ j) → (a < i) ⊎ ((a ≡ i) × (b < next)) → (a < i) ⊎ ((a ≡ i) × (b < j))
-        earlier a b off (inl less) = inl less
-        earlier a b off (inr (at, below)) = let ne = off at in inr (at, omega (arith, below, ne, e))
-
-        done_at : (a b : ℕ) → b < now.columns → (rows ≤ a) ⊎ (columns ≤ b) → (a < i) ⊎ ((a ≡ i) × (b < next)) → (a ≡ i) ⊎ (a ≢ i) → (b ≡ j) ⊎ (b ≢ j) → (t : List ℕ) → want a b ≡ Some t → cell_at (map_grid text_of new) (place a b) ≡ Some t
-        done_at a b k outside before (inl at_a) (inl at_b) t is = ap₂ (λ (m n : ℕ). cell_at (map_grid text_of new) (place m n)) at_a at_b ∙ here ∙ sym (ap₂ want at_a at_b) ∙ is
-        done_at a b k outside before (inl at_a) (inr off_b) t is = texts a b (λ same. off_b (ap (λ (p : Position). p.col) same)) ∙ f.done a b k outside (earlier a b (λ at. off_b) before) t is
-        done_at a b k outside before (inr off_a) at_b t is = texts a b (λ same. off_a (ap (λ (p : Position). p.row) same)) ∙ f.done a b k outside (earlier a b (λ at. absurd (off_a at)) before) t is
 
 module _ {A : Type 0} (is_blank : A → Type 0) (text_of : A → List ℕ) (corner : Position) (second : Grid (List ℕ)) (default : List ℕ) (rows columns new_rows new_columns : ℕ) (old grown new : Grid A) (rows_are : rows ≡ old.rows) (columns_are : columns ≡ old.columns) where
   stays : (a b : ℕ) → (a < old.rows → b < old.columns → cell_at new (place a b) ≡ cell_at old (place a b)) → IfSome (cond (nat_lt a old.rows && nat_lt b old.columns) (Some (place a b)) None) (λ (q : Position). cell_at new (place a b) ≡ cell_at old q)

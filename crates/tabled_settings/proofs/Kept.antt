@@ -1,10 +1,12 @@
--- Some lines of a grid, brought to the front.
-use Rattle.std.proofs.Common.{◌≡◌, ℕ, ◌+◌, ◌-◌, ◌<◌, ◌≤◌, ◌≢◌, ◌⊎◌, inl, inr, Bool, true, false, cond, eqb, refl, sym, ap, ap₂, ◌∙◌, arith}
+-- The lines of some indexes, brought to the front.
+use Rattle.std.proofs.Common.{◌≡◌, ℕ, ◌+◌, ◌-◌, ◌<◌, ◌≤◌, ◌≢◌, ◌⊎◌, inl, inr, Bool, true, false, cond, eqb, List, refl, sym, ap, ap₂, ◌∙◌, length, get_or, arith}
 use Rattle.std.specs.Prelude.{min}
-use Rattle.std.specs.List.{swap}
+use Rattle.std.specs.List.{range_with_len, swap}
+use Rattle.std.specs.List.Sorted.{IsStrictlyIncreasing}
 use Rattle.std.specs.declared.ops.Bound.{Bound}
-use Rattle.std.proofs.lemmas.Bool.{cases_eq, cases_lt}
+use Rattle.std.proofs.lemmas.Bool.{cases_eq}
 use Rattle.std.proofs.lemmas.List.Edits.{Swapped}
+use Rattle.std.proofs.lemmas.List.FromFn.{get_or-range_with_len, length-range_with_len}
 use Rattle.tabled_grid.specs.Along.{along, count_along, first_along}
 use Rattle.tabled_grid.specs.Bounds.{end_index, first_index}
 use Rattle.tabled_grid.specs.Entity.{place}
@@ -12,34 +14,15 @@ use Rattle.tabled_grid.specs.Grid.{Grid, IsEven, IsInside, cell_at}
 use Rattle.tabled_grid.specs.declared.records.axis.Axis.{Axis}
 use Rattle.tabled_grid.specs.declared.records.axis.Axis.TheVariants.{Rows, Columns}
 use Rattle.tabled_grid.proofs.FirstLines.{IsEven-first}
-use Rattle.tabled_settings.specs.Lines.{BringsLines, HasLines, KeepsLines, line_cells}
+use Rattle.tabled_grid.proofs.PiecesPut.{same_shape, shape_after}
+use Rattle.tabled_settings.specs.Lines.{BringsLines, HasLines, KeepsLines, indexes_in, line_cells}
 use Rattle.tabled_grid.specs.Places.{Places, ReadsThrough}
 use Rattle.tabled_grid.specs.Spans.{SpanMap}
 use Rattle.tabled_carry.specs.Images.{carried}
 use Rattle.tabled_settings.specs.Places.{lines_from}
-use Rattle.tabled_settings.specs.Rearranged.{columns_if, count_in, extracted, part}
-use Rattle.tabled_grid.proofs.PiecesPut.{same_count, same_shape, shape_after}
+use Rattle.tabled_settings.specs.Rearranged.{columns_if, count_in, extracted, kept_lines, part}
 use Rattle.tabled_settings.proofs.LineReads.{line_first, lines_read, lines_swapped, shape_swapped}
-
-module _ {A : Type 0} (axis : Axis) (s : ℕ) where
-  pub brings_none : (g : Grid A) → IsEven g → BringsLines axis s 0 g g
-  brings_none g even = record { shape = same_shape g even; front = λ i h. absurd (omega (arith, h)); behind = λ i h. refl }
-
-  -- one line more
-  module _ (k n : ℕ) (g cur new : Grid A) (b : BringsLines axis s k g cur) (is : new ≡ along axis (λ _ xs. swap xs k (s + k)) cur) (next : n ≡ k + 1) (some : 0 < s) (within : s + k < count_along axis cur) where
-    moved : Swapped (line_cells axis cur) (line_cells axis new) k (s + k)
-    moved = lines_swapped axis cur new k (s + k) b.shape.even (omega (arith, within)) within is
-
-    front_at : (i : ℕ) → i < n → (i ≡ k) ⊎ (i ≢ k) → line_cells axis new i ≡ line_cells axis g (s + i)
-    front_at i h (inl at) = ap (line_cells axis new) at ∙ moved.0 ∙ b.behind (s + k) (omega arith) ∙ ap (λ (m : ℕ). line_cells axis g (s + m)) (sym at)
-    front_at i h (inr off) = moved.2 i off (λ at. absurd (omega (arith, at, h, next, some))) ∙ b.front i (omega (arith, h, off, next))
-
-    pub brings_more : BringsLines axis s n g new
-    brings_more = record {
-      shape = shape_after g cur new b.shape (shape_swapped axis cur new k (s + k) b.shape.even is);
-      front = λ i h. front_at i h (cases_eq i k);
-      behind = λ i h. moved.2 i (λ at. absurd (omega (arith, at, h, next))) (λ at. absurd (omega (arith, at, h, next))) ∙ b.behind i (omega (arith, h, next));
-    }
+use Rattle.tabled_settings.proofs.RisingLists.{index_within, rises}
 
 pub has_lines : {A : Type 0} (axis : Axis) (n : ℕ) (g cur new : Grid A) → n ≤ count_along axis cur → cur.rows ≡ g.rows → cur.columns ≡ g.columns → IsEven cur → new ≡ first_along axis n cur → HasLines axis n g new
 has_lines {A} Rows n g cur new h rows columns even is = record {
@@ -53,29 +36,70 @@ has_lines {A} Columns n g cur new h rows columns even is = record {
   columns = ap (λ (h : Grid A). h.columns) is;
 }
 
--- brought to the front, and the rest cut off
-pub kept_all : {A : Type 0} (axis : Axis) (s e k n : ℕ) (g cur new : Grid A) → BringsLines axis s k g cur → (s ≡ 0) ⊎ (k ≡ n) → n ≡ min e (count_along axis g) - s → new ≡ first_along axis n cur → KeepsLines axis s e g new
-kept_all {A} axis s e k n g cur new b all is cut =
-    let fits : n ≤ count_along axis cur = omega (arith, is, same_count axis g cur b.shape) in
-    record {
-      shape = rw (← is) (has_lines axis n g cur new fits b.shape.rows b.shape.columns b.shape.even cut);
-      kept = λ i h. let below : i < n = omega (arith, h, is) in line_first axis cur new n i b.shape.even below cut ∙ at i below all;
-    }
-  where
-    at : (i : ℕ) → i < n → (s ≡ 0) ⊎ (k ≡ n) → line_cells axis cur i ≡ line_cells axis g (s + i)
-    at i h (inr e) = b.front i (omega (arith, h, e))
-    at i h (inl e) = first i (cases_lt i k)
-      where
-        first : (i : ℕ) → (i < k) ⊎ (k ≤ i) → line_cells axis cur i ≡ line_cells axis g (s + i)
-        first i (inl less) = b.front i less
-        first i (inr more) = b.behind i (omega (arith, more, e)) ∙ ap (line_cells axis g) (omega (arith, e))
-
 pub lines_are : {A : Type 0} (axis : Axis) (n : ℕ) (g new : Grid A) → HasLines axis n g new → count_along axis new ≡ n
 lines_are Rows n g new s = s.rows
 lines_are Columns n g new s = s.columns
 
-pub kept_read : {A : Type 0} (axis : Axis) (s e : ℕ) (g new : Grid A) → KeepsLines axis s e g new → ReadsThrough (lines_from axis (λ i. s + i) new.rows new.columns) g new
-kept_read axis s e g new k = lines_read axis (λ i. s + i) new.rows new.columns g new k.shape.even refl refl (λ i h. k.kept i (omega (arith, h, lines_are axis _ g new k.shape)))
+module _ {A : Type 0} (axis : Axis) (kept : List ℕ) where
+  pub brings_none : (g : Grid A) → IsEven g → BringsLines axis kept 0 g g
+  brings_none g even = record { shape = same_shape g even; front = λ a h. absurd (omega (arith, h)); behind = λ a h past. refl }
+
+  -- one line more
+  module _ (up : IsStrictlyIncreasing kept) (k n i : ℕ) (g cur new : Grid A) (b : BringsLines axis kept k g cur) (here : k < length kept) (at : i ≡ get_or kept k 0) (is : new ≡ along axis (λ _ xs. swap xs k i) cur) (next : n ≡ k + 1) (within : i < count_along axis cur) where
+    low : k ≤ i
+    low = omega (arith, at, index_within kept up k here)
+
+    moved : Swapped (line_cells axis cur) (line_cells axis new) k i
+    moved = lines_swapped axis cur new k i b.shape.even (omega (arith, within, low)) within is
+
+    front_at : (a : ℕ) → a < n → (a ≡ k) ⊎ (a ≢ k) → line_cells axis new a ≡ line_cells axis g (get_or kept a 0)
+    front_at a h (inl same) =
+        ap (line_cells axis new) same ∙ moved.0
+        ∙ b.behind i low (λ c l. omega (arith, at, rises kept up c k l here))
+        ∙ ap (line_cells axis g) (at ∙ ap (λ (m : ℕ). get_or kept m 0) (sym same))
+    front_at a h (inr off) = moved.2 a off (λ same. absurd (omega (arith, same, h, next, off, low))) ∙ b.front a (omega (arith, h, off, next))
+
+    pub brings_more : BringsLines axis kept n g new
+    brings_more = record {
+      shape = shape_after g cur new b.shape (shape_swapped axis cur new k i b.shape.even is);
+      front = λ a h. front_at a h (cases_eq a k);
+      behind = λ a h past.
+          moved.2 a (λ same. absurd (omega (arith, same, h, next))) (λ same. absurd (omega (arith, same, at, past k (omega (arith, next)))))
+          ∙ b.behind a (omega (arith, h, next)) (λ c l. past c (omega (arith, l, next)));
+    }
+
+  -- and the rest cut off
+  pub kept_all : (k : ℕ) (g cur new : Grid A) → BringsLines axis kept k g cur → k ≡ length kept → k ≤ count_along axis cur → new ≡ first_along axis k cur → KeepsLines axis kept g new
+  kept_all k g cur new b all fits cut = record {
+    shape = rw (← all) (has_lines axis k g cur new fits b.shape.rows b.shape.columns b.shape.even cut);
+    each = λ a h. let below : a < k = omega (arith, h, all) in line_first axis cur new k a b.shape.even below cut ∙ b.front a below;
+  }
+
+  -- they are read as they were
+  pub kept_read : (g new : Grid A) → KeepsLines axis kept g new → ReadsThrough (kept_lines axis kept g.rows g.columns) g new
+  kept_read g new k = lines_read axis (λ (i : ℕ). get_or kept i 0) _ _ g new k.shape.even k.shape.rows k.shape.columns (λ a h. k.each a (omega (arith, h, lines_are axis (length kept) g new k.shape)))
+
+-- n lines from an index on
+module _ {A : Type 0} (axis : Axis) (s n : ℕ) where
+  -- they are at the front already, where the index is 0
+  pub front_brought : (k : ℕ) (g cur : Grid A) → k ≤ n → s ≡ 0 → BringsLines axis (range_with_len s n) 0 g cur → BringsLines axis (range_with_len s n) k g cur
+  front_brought k g cur within first b = record {
+    shape = b.shape;
+    front = λ a h.
+        let at : a ≡ get_or (range_with_len s n) a 0 = omega (arith, get_or-range_with_len s n a 0 (omega (arith, h, within)), first) in
+        b.behind a (omega arith) (λ c l. absurd (omega (arith, l))) ∙ ap (line_cells axis g) at;
+    behind = λ a h past. b.behind a (omega arith) (λ c l. absurd (omega (arith, l)));
+  }
+
+  pub range_read : (g new : Grid A) → KeepsLines axis (range_with_len s n) g new → HasLines axis n g new × ReadsThrough (lines_from axis (λ i. s + i) new.rows new.columns) g new
+  range_read g new k =
+      let many = length-range_with_len s n in (
+        (rw many at k.shape),
+        lines_read axis (λ i. s + i) new.rows new.columns g new k.shape.even refl refl
+            (λ i h.
+            let within : i < n = omega (arith, h, many, lines_are axis (length (range_with_len s n)) g new k.shape) in
+            k.each i (omega (arith, within, many)) ∙ ap (line_cells axis g) (get_or-range_with_len s n i 0 within)),
+      )
 
 -- no columns are kept without rows
 columns_left : (b : Bool) (e c s : ℕ) → min e (cond b 0 c) - s ≡ cond b 0 (min e c - s)
@@ -84,20 +108,22 @@ columns_left false e c s = refl
 
 -- rows, and then columns of these
 pub extract_done : {A : Type 0} (in_rows in_columns : Bound ℕ × Bound ℕ) (rs re cs ce : ℕ) (g mid new : Grid A) → rs ≡ first_index in_rows.0 → re ≡ end_index in_rows.1 g.rows → cs ≡ first_index in_columns.0 → ce ≡ end_index in_columns.1 g.columns →
-    KeepsLines Rows rs re g mid → KeepsLines Columns cs ce mid new → ReadsThrough (extracted in_rows in_columns g.rows g.columns) g new
+    KeepsLines Rows (indexes_in rs re g.rows) g mid → KeepsLines Columns (indexes_in cs ce mid.columns) mid new → ReadsThrough (extracted in_rows in_columns g.rows g.columns) g new
 extract_done {A} in_rows in_columns rs re cs ce g mid new first_row end_row first_column end_column rows columns =
-    let tall : mid.rows ≡ count_in in_rows g.rows = rows.shape.rows ∙ ap₂ (λ (e s : ℕ). min e g.rows - s) end_row first_row in
+    let first = range_read Rows rs (min re g.rows - rs) g mid rows in
+    let second = range_read Columns cs (min ce mid.columns - cs) mid new columns in
+    let tall : mid.rows ≡ count_in in_rows g.rows = first.0.rows ∙ ap₂ (λ (e s : ℕ). min e g.rows - s) end_row first_row in
     record {
-      even = columns.shape.even;
-      rows = columns.shape.rows ∙ tall;
-      columns = columns.shape.columns
-          ∙ ap (λ (c : ℕ). min ce c - cs) rows.shape.columns
+      even = second.0.even;
+      rows = second.0.rows ∙ tall;
+      columns = second.0.columns
+          ∙ ap (λ (c : ℕ). min ce c - cs) first.0.columns
           ∙ columns_left (eqb (min re g.rows - rs) 0) ce g.columns cs
-          ∙ ap₂ (λ (n m : ℕ). columns_if n m) (sym rows.shape.rows ∙ tall) (ap₂ (λ (e s : ℕ). min e g.columns - s) end_column first_column);
+          ∙ ap₂ (λ (n m : ℕ). columns_if n m) (sym first.0.rows ∙ tall) (ap₂ (λ (e s : ℕ). min e g.columns - s) end_column first_column);
       moved = λ p inside.
-          let at : IsInside mid (place p.row (cs + p.col)) = record { row = omega (arith, inside.row, columns.shape.rows); col = omega (arith, inside.col, columns.shape.columns) } in
-          (kept_read Columns cs ce mid new columns).moved p inside
-          ∙ (kept_read Rows rs re g mid rows).moved (place p.row (cs + p.col)) at
+          let at : IsInside mid (place p.row (cs + p.col)) = record { row = omega (arith, inside.row, second.0.rows); col = omega (arith, inside.col, second.0.columns) } in
+          second.1.moved p inside
+          ∙ first.1.moved (place p.row (cs + p.col)) at
           ∙ ap₂ (λ (i j : ℕ). cell_at g (place (i + p.row) (j + p.col))) first_row first_column;
     }
 

@@ -1,5 +1,5 @@
--- Merged cells when all lines are put into the opposite order, twice.
-use Rattle.std.proofs.Common.{◌≡◌, ℕ, ◌+◌, ◌-◌, ◌<◌, ◌≤◌, ◌⊎◌, sym, arith}
+-- Merged cells when lines are put into the opposite order, once or twice.
+use Rattle.std.proofs.Common.{◌≡◌, ℕ, ◌+◌, ◌-◌, ◌<◌, ◌≤◌, ◌⊎◌, arith, Bool, true, refl, sym, ap, subst, ◌∙◌}
 use Rattle.tabled_grid.specs.Axis.{count_of, in_line, line_of}
 use Rattle.tabled_grid.specs.Places.{Places}
 use Rattle.tabled_grid.specs.Fitting.{Fits}
@@ -9,14 +9,18 @@ use Rattle.tabled_grid.specs.declared.config.position.Position.{Position}
 use Rattle.tabled_grid.specs.declared.records.axis.Axis.{Axis}
 use Rattle.tabled_grid.specs.declared.records.axis.Axis.TheVariants.{Rows}
 use Rattle.tabled_grid.specs.declared.config.size.Size.{Size}
-use Rattle.tabled_carry.specs.Images.{Carries, HasArea, Takes, carried}
+use Rattle.tabled_carry.specs.Images.{Carries, HasArea, LeadsBack, carried}
 use Rattle.tabled_carry.proofs.Back.{carried_back}
 use Rattle.tabled_settings.specs.Places.{lines_from}
-use Rattle.tabled_settings.specs.Rearranged.{reversed, reversed_index, rotated}
+use Rattle.tabled_settings.specs.Rearranged.{reversed, reversed_index, rotated, carried_if, limit_end, reverses}
 use Rattle.tabled_settings.specs.declared.rotate.Rotate.TheVariants.{Top}
-use Rattle.tabled_settings.proofs.AlongLines.{lies_along, taken, takes}
+use Rattle.tabled_settings.proofs.AlongLines.{lies_along}
 use Rattle.tabled_settings.proofs.MirroredParts.{part_mirrored}
 use Rattle.tabled_settings.proofs.Reversed.{index_inside}
+use Rattle.tabled_settings.proofs.ThereAndBack.{lines_lead_back}
+use Rattle.std.proofs.lemmas.Bool.{and_from}
+use borrow.Author.Tests.{le-leb, lt-ltb}
+use Rattle.tabled_grid.specs.declared.config.offset.Offset.{Offset}
 
 -- lines that come from those as far from the other end
 module _ (axis : Axis) (old : ℕ → ℕ) (rows columns : ℕ) (mirrors : (i : ℕ) → i < count_of axis rows columns → old i + i + 1 ≡ count_of axis rows columns) where
@@ -33,18 +37,14 @@ module _ (axis : Axis) (old : ℕ → ℕ) (rows columns : ℕ) (mirrors : (i : 
       let same : 0 + (n - (line_of axis a + count_of axis s.height s.width)) ≡ n - (line_of axis a + count_of axis s.height s.width) = omega arith in
       (rw same at whole)
 
-  back : (p q : Position) → Takes places p q → Takes places q p
-  back p q t =
-      let d = taken old rows columns p q axis t in
-      let far = mirrors (line_of axis p) d.within in
-      let within : line_of axis q < count_of axis rows columns = omega (arith, d.line, far) in
-      takes old rows columns q p axis (record { within = within; across_within = omega (arith, d.same, d.across_within); line = omega (arith, d.line, far, mirrors (line_of axis q) within); same = sym d.same })
+  leads_back : LeadsBack places places
+  leads_back = lines_lead_back axis old rows columns (λ i h. let far = mirrors i h in let within : old i < count_of axis rows columns = omega (arith, far) in (within, omega (arith, far, mirrors (old i) within)))
 
   moved : (a : Position) (s : Size) → HasArea (a, s) → a.row + s.height ≤ rows → a.col + s.width ≤ columns → (f : Rectangle) × Carries places (a, s) f × HasArea f
   moved a s full high far = ((in_line axis a (count_of axis rows columns - (line_of axis a + count_of axis s.height s.width)), s), lines_carry a s high far, record { height = full.height; width = full.width })
 
   twice : (m : SpanMap) → Fits m rows columns → carried places rows columns (carried places rows columns m) ≡ m
-  twice m fits = carried_back places places (record { to = back; from = λ p q. back q p }) m rows columns fits (record { each = λ a s h. let size = fits.sizes.each a s h in let room = fits.inside a s h in moved a s (record { height = size.height; width = size.width }) room.0 room.1 })
+  twice m fits = carried_back places places leads_back m rows columns fits (record { each = λ a s h. let size = fits.sizes.each a s h in let room = fits.inside a s h in moved a s (record { height = size.height; width = size.width }) room.0 room.1 })
 
 pub top_twice_spans : (rows columns : ℕ) (m : SpanMap) → Fits m rows columns → carried (rotated Top rows columns) rows columns (carried (rotated Top rows columns) rows columns m) ≡ m
 top_twice_spans rows columns = twice Rows (λ i. rows - 1 - i) rows columns (λ i h. omega (arith, h))
@@ -52,3 +52,20 @@ top_twice_spans rows columns = twice Rows (λ i. rows - 1 - i) rows columns (λ 
 pub reversed_twice_spans : (axis : Axis) (rows columns : ℕ) (m : SpanMap) → Fits m rows columns → carried (reversed axis 0 (End 0) rows columns) rows columns (carried (reversed axis 0 (End 0) rows columns) rows columns m) ≡ m
 reversed_twice_spans axis rows columns = let n = count_of axis rows columns in
     twice axis (reversed_index 0 (n - 0) n) rows columns (λ i h. rw (index_inside 0 (n - 0) n i (omega arith) (omega arith) (omega (arith, h))) (omega (arith, h)))
+
+-- there are lines to reverse where the end is past the start and not past the table
+pub reverses_yes : (axis : Axis) (s : ℕ) (limit : Offset) (rows columns e n : ℕ) → n ≡ count_of axis rows columns → e ≡ limit_end limit s n → s < e → e ≤ n → reverses axis s limit rows columns ≡ true
+reverses_yes axis s limit rows columns e n count end some fits =
+    rw (← count) (and_from _ _ (lt-ltb _ _ (subst (λ (x : ℕ). s < x) end some)) (le-leb _ _ (subst (λ (x : ℕ). x ≤ n) end fits)))
+
+-- they are carried along
+pub reversal_carried : (axis : Axis) (s : ℕ) (limit : Offset) (rows columns rows' columns' e n : ℕ) (m k : SpanMap) → rows' ≡ rows → columns' ≡ columns → n ≡ count_of axis rows columns → e ≡ limit_end limit s n → s < e → e ≤ n →
+    k ≡ carried (lines_from axis (reversed_index s e (count_of axis rows' columns')) rows' columns') rows' columns' m → k ≡ carried_if (reverses axis s limit rows columns) (reversed axis s limit rows columns) rows columns m
+reversal_carried axis s limit rows columns rows' columns' e n m k tall wide count at some fits is =
+    let end : e ≡ limit_end limit s (count_of axis rows columns) = at ∙ ap (limit_end limit s) count in
+    let yes = reverses_yes axis s limit rows columns e (count_of axis rows columns) refl end some (subst (λ (x : ℕ). e ≤ x) count fits) in
+    is
+    ∙ ap (λ (r : ℕ). carried (lines_from axis (reversed_index s e (count_of axis r columns')) r columns') r columns' m) tall
+    ∙ ap (λ (c : ℕ). carried (lines_from axis (reversed_index s e (count_of axis rows c)) rows c) rows c m) wide
+    ∙ ap (λ (x : ℕ). carried (lines_from axis (reversed_index s x (count_of axis rows columns)) rows columns) rows columns m) end
+    ∙ sym (ap (λ (b : Bool). carried_if b (reversed axis s limit rows columns) rows columns m) yes)

@@ -1,4 +1,4 @@
--- Where the cells of pieces come from.
+-- Where the cells of pieces come from, and where they go.
 use Rattle.std.proofs.Common.{◌≡◌, ℕ, ◌+◌, ◌*◌, ◌/◌, ◌%◌, ◌<◌, Bool, true, false, cond, Option, None, Some, refl, sym, ap, ap₂, ◌∙◌, subst, List, [], length, get_or, arith}
 use Rattle.std.specs.Prelude.{nat_lt}
 use Rattle.std.specs.Int.{div_ceil}
@@ -13,8 +13,8 @@ use Rattle.tabled_grid.specs.declared.records.axis.Axis.TheVariants.{Rows, Colum
 use Rattle.tabled_settings.specs.declared.split.Display.{Display}
 use Rattle.tabled_settings.specs.declared.split.Display.TheVariants.{Clean, Retain}
 use Rattle.tabled_settings.specs.declared.split.Split.{Split}
-use Rattle.tabled_settings.specs.Lines.{KeepsSome, line_cells}
-use Rattle.tabled_grid.proofs.PiecePlaces.{across_is, fills_cut, line_is, place_is}
+use Rattle.tabled_settings.specs.Lines.{KeepsLines, line_cells}
+use Rattle.tabled_grid.proofs.PiecePlaces.{across_is, fills_cut, line_is, place_is, pieces_take_once}
 use Rattle.tabled_grid.proofs.PiecesCut.{IsCut, enough_pieces}
 use Rattle.tabled_grid.specs.Axis.{across, count_of, in_line, line_of, place_in}
 use Rattle.tabled_grid.specs.Pieces.{cut_places, index_in_line, nth_piece, piece_index}
@@ -22,14 +22,16 @@ use Rattle.tabled_settings.specs.PiecePlaces.{Splits, kept_pieces, same_places, 
 use Rattle.tabled_settings.specs.Pieces.{has_pieces, oriented}
 use Rattle.tabled_grid.specs.Places.{FillsThrough, Places, ReadsThrough}
 use Rattle.tabled_grid.specs.Spans.{SpanMap}
-use Rattle.tabled_carry.specs.Images.{carried}
+use Rattle.tabled_carry.specs.Images.{carried, Takes}
 use Rattle.tabled_settings.specs.Places.{IsTakenOnce, lines_from}
 use Rattle.tabled_settings.specs.Rearranged.{carried_if}
 use Rattle.tabled_settings.proofs.Glued.{piece_index_below, piece_of}
+use Rattle.tabled_settings.proofs.Joins.{place_of}
 use Rattle.tabled_settings.proofs.LineReads.{counted, lines_read}
 use Rattle.tabled_settings.proofs.PiecesDone.{CanBeCut, clean_counts, clean_done, clean_lines, has, pieces_need, retained_done}
 use Rattle.tabled_grid.proofs.PiecesPut.{one_piece, same_place_in}
 use mathlib.Core.Bool.{true≢false}
+use Rattle.tabled_grid.specs.declared.records.piece_order.PieceOrder.{PieceOrder}
 
 -- with pieces
 with_pieces : (b : Bool) (ps qs : Places) → b ≡ true → cond b ps qs ≡ ps
@@ -107,7 +109,7 @@ module _ {A : Type 0} (text_of : A → List ℕ) (s : Split) (lines width : ℕ)
       unsplit = λ none. absurd (true≢false (sym is_cut ∙ none));
     }
 
-    module _ (new : Grid A) (kept : List ℕ) (e : s.display ≡ Clean) (are : kept ≡ kept_pieces s (oriented s.lines (map_grid text_of g))) (k : KeepsSome s.lines kept mid new) where
+    module _ (new : Grid A) (kept : List ℕ) (e : s.display ≡ Clean) (are : kept ≡ kept_pieces s (oriented s.lines (map_grid text_of g))) (k : KeepsLines s.lines kept mid new) where
       counts : (count_along s.lines new ≡ length kept) × (count_along (across s.lines) new ≡ count_along (across s.lines) mid)
       counts = clean_counts text_of s lines width g can is_blank blank_empty mid cut new kept are e k
 
@@ -118,11 +120,6 @@ module _ {A : Type 0} (text_of : A → List ℕ) (s : Split) (lines width : ℕ)
             (thinned_fills is_blank s.lines kept (cut_places s.lines s.behavior s.index lines width) g mid new fills k.shape.even counts.0 counts.1 (clean_lines text_of s lines width g can is_blank blank_empty mid cut new kept are e k));
         unsplit = λ none. absurd (true≢false (sym is_cut ∙ none));
       }
-
--- an old place is that of one new place
-some_is : (b : Bool) (p q : Position) → cond b (Some p) None ≡ Some q → p ≡ q
-some_is true p q e = ap (λ (o : Option Position). unwrap_or o p) e
-some_is false p q e = cc
 
 within_shape : (axis : Axis) (t b m n : ℕ) → t < m → b < n → ((place_in axis t b).row < count_of axis m n) × ((place_in axis t b).col < count_of axis n m)
 within_shape Rows t b m n h k = (h, k)
@@ -173,7 +170,7 @@ module _ (s : Split) (lines width : ℕ) (q : Position) (index : 0 < s.index) (h
   alone p row col e =
       let within = of_shape s.lines p (lines * pieces) s.index row col in
       let same : place_in s.lines (nth_piece s.behavior lines pieces (line_of s.lines p)).0 (index_in_line s.behavior s.index lines pieces (line_of s.lines p) (line_of (across s.lines) p)) ≡ place_in s.lines i j =
-      some_is (nat_lt (index_in_line s.behavior s.index lines pieces (line_of s.lines p) (line_of (across s.lines) p)) width) (place_in s.lines (nth_piece s.behavior lines pieces (line_of s.lines p)).0 (index_in_line s.behavior s.index lines pieces (line_of s.lines p) (line_of (across s.lines) p))) q e
+      place_of (nat_lt (index_in_line s.behavior s.index lines pieces (line_of s.lines p) (line_of (across s.lines) p)) width) (place_in s.lines (nth_piece s.behavior lines pieces (line_of s.lines p)).0 (index_in_line s.behavior s.index lines pieces (line_of s.lines p) (line_of (across s.lines) p))) q e
       ∙ sym (place_is s.lines q) in
       let parts = same_place_in s.lines _ _ _ _ same in
       let numbers = same_from_place (nth_piece s.behavior lines pieces (line_of s.lines p)).1 (line_of (across s.lines) p) (j / s.index) at_cell s.index within.1 cell_in (parts.1 ∙ sym (div-add-mod' j s.index)) in
@@ -210,3 +207,30 @@ split_once s g q retained h k = either (has_pieces s g.rows g.columns) refl
         subst (λ (places : Places). IsTakenOnce places q) (sym (all_shown s.display s.lines (kept_pieces s (oriented s.lines g)) all retained))
         (cut_once s (count_of s.lines g.rows g.columns) (count_of (across s.lines) g.rows g.columns) q some (lines_of s.lines).0 (lines_of s.lines).1)
     either false e = record { to = q; row = h; col = k; takes = refl; alone = λ p at_row at_col is. ap (λ (o : Option Position). unwrap_or o p) is }
+
+-- one that comes to a new place stood in a line
+pub cut_inside : (axis : Axis) (order : PieceOrder) (index lines width : ℕ) (p q : Position) → 0 < lines → 0 < index → index < width → Takes (cut_places axis order index lines width) p q → (line_of axis q < lines) × (line_of (across axis) q < width)
+cut_inside Rows order index lines width p q some any narrow t =
+    let g : Grid ℕ = record { rows = lines; columns = width; cells = [] } in
+    let i = (pieces_take_once Rows order index lines width some any narrow g refl refl).inside p q (record { row = t.row; col = t.col }) t.from in
+    (i.row, i.col)
+cut_inside Columns order index lines width p q some any narrow t =
+    let g : Grid ℕ = record { rows = width; columns = lines; cells = [] } in
+    let i = (pieces_take_once Columns order index lines width some any narrow g refl refl).inside p q (record { row = t.row; col = t.col }) t.from in
+    (i.col, i.row)
+
+module _ (s : Split) (lines width : ℕ) (q to : Position) (line cell nth : ℕ) (index : 0 < s.index) (at : line ≡ line_of s.lines q) (in_line : cell ≡ line_of (across s.lines) q) (h : line < lines) (l : cell < width) (n : nth ≡ piece_index s.behavior lines (div_ceil width s.index) line (cell / s.index)) (is : to ≡ place_in s.lines nth (cell % s.index)) where
+  abbrev once : IsTakenOnce (cut_places s.lines s.behavior s.index lines width) q
+  once = cut_once s lines width q index (omega (arith, at, h)) (omega (arith, in_line, l))
+
+  same : to ≡ (cut_once s lines width q index (omega (arith, at, h)) (omega (arith, in_line, l))).to
+  same =
+      is ∙ ap (λ (t : ℕ). place_in s.lines t (cell % s.index)) n
+      ∙ ap₂ (λ (i j : ℕ). place_in s.lines (piece_index s.behavior lines (div_ceil width s.index) i (j / s.index)) (j % s.index)) at in_line
+      ∙ sym (cut_to s lines width q index (omega (arith, at, h)) (omega (arith, in_line, l)))
+
+  pub cut_takes : Takes (cut_places s.lines s.behavior s.index lines width) to q
+  cut_takes = subst (λ (p : Position). Takes (cut_places s.lines s.behavior s.index lines width) p q) (sym same) (record { row = once.row; col = once.col; from = once.takes })
+
+  pub cut_finds : (p : Position) → Takes (cut_places s.lines s.behavior s.index lines width) p q → to ≡ p
+  cut_finds p t = same ∙ sym (once.alone p t.row t.col t.from)

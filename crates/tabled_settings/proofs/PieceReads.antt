@@ -1,11 +1,10 @@
 -- The pieces of a grid, read by place.
-use Rattle.std.proofs.Common.{◌≡◌, ℕ, zero, suc, ◌+◌, ◌*◌, ◌<◌, Bool, true, false, cond, eqb, List, [], ◌∷◌, ◌++◌, Some, refl, sym, ap, ap₂, ◌∙◌, subst, length, map, get_or, arith}
+use Rattle.std.proofs.Common.{◌≡◌, ℕ, zero, suc, ◌+◌, ◌*◌, ◌<◌, Bool, true, false, cond, List, [], ◌∷◌, ◌++◌, Some, refl, sym, ap, ap₂, ◌∙◌, subst, length, map, get_or, arith, None}
 use Rattle.std.specs.Prelude.{slice_get}
 use Rattle.std.specs.Int.{div_ceil}
 use Rattle.std.specs.List.{AllByRecursion, filter, range_with_len}
 use Rattle.std.specs.Option.{unwrap_or}
 use Rattle.std.proofs.Math.Nat.{zero-div, zero-mod}
-use Rattle.std.proofs.lemmas.Bool.{ne_eqb}
 use Rattle.std.proofs.lemmas.List.{append-nil, get_or-map as get_or-map_within, length-map}
 use Rattle.std.proofs.lemmas.List.Elements.{All-filter, All-from_recursion, filter-append}
 use Rattle.std.proofs.lemmas.List.FromFn.{get_or-map-range_with_len, get_or-range_with_len, length-map-range_with_len, length-range_with_len}
@@ -17,7 +16,7 @@ use Rattle.tabled_grid.specs.Grid.{Grid, IsEven, IsInside, cell_at}
 use Rattle.tabled_grid.specs.declared.config.position.Position.{Position}
 use Rattle.tabled_grid.specs.declared.records.axis.Axis.{Axis}
 use Rattle.tabled_grid.specs.declared.records.axis.Axis.TheVariants.{Rows, Columns}
-use Rattle.tabled_grid.proofs.Transposed.{at-transposed, length-transposed, wide-transposed}
+use Rattle.tabled_grid.proofs.Transposed.{at-transposed, length-transposed, wide-transposed, slice_get-some}
 use Rattle.tabled_grid.specs.declared.records.piece_order.PieceOrder.{PieceOrder}
 use Rattle.tabled_grid.specs.declared.records.piece_order.PieceOrder.TheVariants.{Concat, Zip}
 use Rattle.tabled_settings.specs.declared.split.Split.{Split}
@@ -26,18 +25,18 @@ use Rattle.tabled_grid.specs.Pieces.{nth_piece}
 use Rattle.tabled_settings.specs.declared.split.Display.{Display}
 use Rattle.tabled_settings.specs.declared.split.Display.TheVariants.{Retain}
 use Rattle.tabled_settings.specs.Pieces.{cut_rows, piece, piece_at, staying, stays, stays_at, oriented}
-use Rattle.tabled_settings.proofs.SameCells.{same_cells}
+use Rattle.tabled_settings.proofs.LineReads.{same_cells}
+use Rattle.tabled_settings.proofs.Rotated.{as_wide}
+use Rattle.std.proofs.Math.ListN.{get_or-map}
+use Rattle.tabled_settings.specs.Lines.{line_cells}
 
 -- the rows of a grid, or its columns as rows
-if_some : (n m : ℕ) → 0 < n → cond (eqb n 0) 0 m ≡ m
-if_some n m h = ap (λ (b : Bool). cond b 0 m) (ne_eqb n 0 (λ e. omega (arith, e, h)))
-
 module _ {A : Type 0} where
   pub turned_even : (axis : Axis) (g : Grid A) → IsEven g → 0 < count_along axis g → IsEven (oriented axis g)
   turned_even Rows g even some = even
   turned_even Columns g even some = record {
     tall = length-transposed g.columns g.cells even.wide;
-    wide = subst (λ (n : ℕ). AllByRecursion (λ (row : List A). length row ≡ n) (transposed_rows g.columns g.cells)) (even.tall ∙ sym (if_some g.columns g.rows some)) (wide-transposed g.columns g.cells);
+    wide = subst (λ (n : ℕ). AllByRecursion (λ (row : List A). length row ≡ n) (transposed_rows g.columns g.cells)) (even.tall ∙ sym (as_wide g.columns g.rows some)) (wide-transposed g.columns g.cells);
   }
 
   pub turned_rows : (axis : Axis) (g : Grid A) → (oriented axis g).rows ≡ count_along axis g
@@ -46,11 +45,11 @@ module _ {A : Type 0} where
 
   pub turned_columns : (axis : Axis) (g : Grid A) → 0 < count_along axis g → (oriented axis g).columns ≡ count_along (across axis) g
   turned_columns Rows g some = refl
-  turned_columns Columns g some = if_some g.columns g.rows some
+  turned_columns Columns g some = as_wide g.columns g.rows some
 
   pub turned_count : (axis : Axis) (g : Grid A) → 0 < g.columns → count_along axis (oriented axis g) ≡ g.rows
   turned_count Rows g some = refl
-  turned_count Columns g some = if_some g.columns g.rows some
+  turned_count Columns g some = as_wide g.columns g.rows some
 
   pub turned_across : (axis : Axis) (g : Grid A) → count_along (across axis) (oriented axis g) ≡ g.columns
   turned_across Rows g = refl
@@ -99,17 +98,19 @@ all_retained s pieces rows retained = filter_all (stays_at s pieces rows) (λ t.
     kept : (d : Display) (k : ℕ) (texts : List (List ℕ)) → d ≡ Retain → stays d k texts ≡ true
     kept d k texts is = rw is refl
 
--- one number more is looked at
-range_more : (a n : ℕ) → range_with_len a (suc n) ≡ range_with_len a n ++ (a + n) ∷ []
-range_more a zero = let same : a + 0 ≡ a = omega arith in rw same refl
-range_more a (suc n) = let same : (a + 1) + n ≡ a + suc n = omega arith in ap (λ ys. a ∷ ys) (range_more (a + 1) n ∙ ap (λ k. range_with_len (a + 1) n ++ k ∷ []) same)
+-- some numbers, and those after them
+pub range_split : (a m n : ℕ) → range_with_len a (m + n) ≡ range_with_len a m ++ range_with_len (a + m) n
+range_split a zero n = let all : 0 + n ≡ n = omega arith in let first : a + 0 ≡ a = omega arith in rw (all, first) refl
+range_split a (suc m) n =
+    let all : suc m + n ≡ suc (m + n) = omega arith in
+    let next : (a + 1) + m ≡ a + suc m = omega arith in
+    ap (range_with_len a) all ∙ ap (λ is. a ∷ is) (range_split (a + 1) m n ∙ ap (λ i. range_with_len (a + 1) m ++ range_with_len i n) next)
 
 pub filter_more : (p : ℕ → Bool) (n m : ℕ) (stays : Bool) → m ≡ n + 1 → p n ≡ stays → filter p (range_with_len 0 m) ≡ filter p (range_with_len 0 n) ++ cond stays (n ∷ []) []
 filter_more p n m stays next e =
-    let one : m ≡ suc n = omega (arith, next) in
     let same : 0 + n ≡ n = omega arith in
-    ap (λ (k : ℕ). filter p (range_with_len 0 k)) one
-    ∙ ap (filter p) (range_more 0 n ∙ ap (λ (k : ℕ). range_with_len 0 n ++ k ∷ []) same)
+    ap (λ (k : ℕ). filter p (range_with_len 0 k)) next
+    ∙ ap (filter p) (range_split 0 n 1 ∙ ap (λ (k : ℕ). range_with_len 0 n ++ k ∷ []) same)
     ∙ filter-append p (range_with_len 0 n) (n ∷ [])
     ∙ ap (λ (b : Bool). filter p (range_with_len 0 n) ++ cond b (n ∷ []) []) e
 
@@ -174,3 +175,7 @@ pieces_are s g new pieces even new_even some index pieces_is count wide each =
     made_even : (axis : Axis) (h : Grid (List ℕ)) → IsEven h → 0 < h.columns → IsEven (oriented axis h)
     made_even Rows h h_even any = h_even
     made_even Columns h h_even any = turned_even Columns h h_even any
+
+pub at_line : {A : Type 0} (axis : Axis) (g : Grid A) (i j : ℕ) → cell_at g (place_in axis i j) ≡ get_or (line_cells axis g i) j None
+at_line Rows g i j = sym (slice_get-some (get_or g.cells i []) j)
+at_line {A} Columns g i j = sym (get_or-map (λ (row : List A). slice_get row i) g.cells j [])

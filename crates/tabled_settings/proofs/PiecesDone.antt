@@ -1,18 +1,17 @@
 -- The texts of lines that are pieces.
 use Rattle.std.proofs.Common.{◌≡◌, ◌≢◌, ℕ, ◌+◌, ◌-◌, ◌*◌, ◌<◌, ◌≤◌, ◌⊎◌, inl, inr, Bool, true, false, cond, eqb, List, [], Option, None, Some, refl, sym, ap, ap₂, ◌∙◌, subst, length, get_or, arith}
-use Rattle.std.specs.Prelude.{min, nat_lt, ◌&&◌}
+use Rattle.std.specs.Prelude.{min}
 use Rattle.std.specs.Int.{div_ceil}
 use Rattle.std.specs.List.{filter, list_any, range_with_len}
 use Rattle.std.specs.List.Sorted.{IsStrictlyIncreasing}
 use Rattle.std.specs.Option.{option_map, unwrap_or}
-use Rattle.std.proofs.lemmas.Bool.{cases_lt, lt-ltb, ltb-true, ne_eqb}
+use Rattle.std.proofs.lemmas.Bool.{and_parts, cases_lt, lt-ltb, ltb-true, ne_eqb}
 use Rattle.std.proofs.lemmas.Nat.{row_fits}
 use Rattle.std.proofs.lemmas.List.{get_or_default}
 use Rattle.std.proofs.lemmas.List.Folds.{list_any_at, list_any_none}
 use Rattle.std.proofs.lemmas.List.Kept.{IsStrictlyIncreasing-filter}
 use Rattle.std.proofs.lemmas.List.FromFn.{get_or-range_with_len, length-range_with_len}
 use Rattle.std.proofs.lemmas.Option.{unwrap_or-slice_get}
-use mathlib.Core.Bool.{true≢false}
 use Rattle.tabled_grid.specs.Along.{count_along}
 use Rattle.tabled_grid.specs.Grid.{Grid, IsEven, IsInside, cell_at, map_grid}
 use Rattle.tabled_grid.specs.declared.records.axis.Axis.{Axis}
@@ -22,7 +21,7 @@ use Rattle.tabled_settings.specs.declared.cuts.Cut.{Cut}
 use Rattle.tabled_settings.specs.declared.split.Display.{Display}
 use Rattle.tabled_settings.specs.declared.split.Display.TheVariants.{Clean, Retain}
 use Rattle.tabled_settings.specs.declared.split.Split.{Split}
-use Rattle.tabled_settings.specs.Lines.{HasLines, KeepsSome, line_cells}
+use Rattle.tabled_settings.specs.Lines.{HasLines, KeepsLines, line_cells}
 use Rattle.tabled_grid.proofs.PiecesCut.{ComesFrom, IsCut, enough_pieces, some_pieces}
 use Rattle.tabled_grid.proofs.PiecesPut.{inside_of, piece_line, source}
 use Rattle.tabled_settings.specs.PiecePlaces.{kept_pieces}
@@ -30,11 +29,10 @@ use Rattle.tabled_settings.specs.PieceTexts.{has_text}
 use Rattle.tabled_grid.specs.Axis.{across, count_of, place_in}
 use Rattle.tabled_grid.specs.Pieces.{nth_piece}
 use Rattle.tabled_settings.specs.Pieces.{has_pieces, is_text, piece_at, split, staying, stays, stays_at, oriented}
-use Rattle.tabled_settings.proofs.LineReads.{counted}
-use Rattle.tabled_settings.proofs.PieceReads.{all_retained, filter_below, filter_some, first_number, length-piece, piece_text, pieces_are, some_inside, turned_cell, turned_columns, turned_even, turned_rows}
-use Rattle.tabled_settings.proofs.PieceTexts.{at_line}
+use Rattle.tabled_settings.proofs.LineReads.{counted, none_outside}
+use Rattle.tabled_settings.proofs.PieceReads.{all_retained, at_line, filter_below, filter_some, first_number, length-piece, piece_text, pieces_are, some_inside, turned_cell, turned_columns, turned_even, turned_rows}
 use Rattle.tabled_settings.proofs.RisingLists.{range_rises}
-use Rattle.tabled_settings.proofs.SameCells.{none_outside}
+use Rattle.tabled_settings.proofs.Rotated.{as_wide}
 
 pub map_count : {A B : Type 0} (f : A → B) (axis : Axis) (g : Grid A) → count_along axis (map_grid f g) ≡ count_along axis g
 map_count f Rows g = refl
@@ -46,17 +44,12 @@ lines_counted axis g n rows columns n_is rows_are columns_are = n_is ∙ ap₂ (
 -- where there are pieces, there are lines, and they are longer than a piece, which has cells
 pub pieces_need : (s : Split) (g : Grid (List ℕ)) → has_pieces s g.rows g.columns ≡ true → (0 < count_along s.lines g) × (0 < s.index) × (s.index < count_along (across s.lines) g)
 pieces_need s g e =
-    let tests = parts (nat_lt 0 (count_of s.lines g.rows g.columns)) (nat_lt 0 s.index) (nat_lt s.index (count_of (across s.lines) g.rows g.columns)) e in (
-      omega (arith, ltb-true 0 (count_of s.lines g.rows g.columns) tests.0, counted s.lines g),
-      ltb-true 0 s.index tests.1,
-      omega (arith, ltb-true s.index (count_of (across s.lines) g.rows g.columns) tests.2, counted (across s.lines) g),
+    let some = and_parts _ _ e in
+    let narrow = and_parts _ _ some.1 in (
+      omega (arith, ltb-true 0 (count_of s.lines g.rows g.columns) some.0, counted s.lines g),
+      ltb-true 0 s.index narrow.0,
+      omega (arith, ltb-true s.index (count_of (across s.lines) g.rows g.columns) narrow.1, counted (across s.lines) g),
     )
-  where
-    parts : (x y z : Bool) → (x && (y && z)) ≡ true → (x ≡ true) × (y ≡ true) × (z ≡ true)
-    parts true true true e = (refl, refl, refl)
-    parts true true false e = absurd (true≢false (sym e))
-    parts true false z e = absurd (true≢false (sym e))
-    parts false y z e = absurd (true≢false (sym e))
 
 pub past_line : {A : Type 0} (axis : Axis) (g : Grid A) (i j : ℕ) → IsEven g → count_along (across axis) g ≤ j → cell_at g (place_in axis i j) ≡ None
 past_line Rows g i j even h = none_outside g i j even (inr h)
@@ -116,7 +109,7 @@ module _ {A : Type 0} (text_of : A → List ℕ) (s : Split) (lines width : ℕ)
       ∙ ap (λ (n : ℕ). filter (stays_at s pieces rows) (range_with_len 0 (n * pieces))) long
 
   pub kept_rising : IsStrictlyIncreasing (kept_pieces s (oriented s.lines texts))
-  kept_rising = subst IsStrictlyIncreasing (sym staying_is) (IsStrictlyIncreasing-filter (stays_at s pieces rows) (range_with_len 0 (lines * pieces)) (range_rises (lines * pieces)))
+  kept_rising = subst IsStrictlyIncreasing (sym staying_is) (IsStrictlyIncreasing-filter (stays_at s pieces rows) (range_with_len 0 (lines * pieces)) (range_rises 0 (lines * pieces)))
 
   pub kept_below : (a : ℕ) → a < length (kept_pieces s (oriented s.lines texts)) → get_or (kept_pieces s (oriented s.lines texts)) a 0 < lines * pieces
   kept_below = subst (λ (ts : List ℕ). (a : ℕ) → a < length ts → get_or ts a 0 < lines * pieces) (sym staying_is) (filter_below (stays_at s pieces rows) (lines * pieces))
@@ -245,7 +238,7 @@ module _ {A : Type 0} (text_of : A → List ℕ) (s : Split) (lines width : ℕ)
         let at : get_or (range_with_len 0 (lines * pieces)) a 0 ≡ a = omega (arith, read) in
         (ap (λ (m : ℕ). cell_at mid (place_in s.lines m b)) (sym at), omega (arith, at, below)))
 
-    module _ (new : Grid A) (kept : List ℕ) (are : kept ≡ kept_pieces s (oriented s.lines texts)) (clean : s.display ≡ Clean) (k : KeepsSome s.lines kept mid new) where
+    module _ (new : Grid A) (kept : List ℕ) (are : kept ≡ kept_pieces s (oriented s.lines texts)) (clean : s.display ≡ Clean) (k : KeepsLines s.lines kept mid new) where
       all_kept : kept ≡ filter (stays_at s pieces rows) (range_with_len 0 (lines * pieces))
       all_kept = are ∙ staying_is
 
@@ -256,7 +249,7 @@ module _ {A : Type 0} (text_of : A → List ℕ) (s : Split) (lines width : ℕ)
           clean_shape s.lines (length kept) (omega (arith, few, ap length all_kept)) k.shape
         where
           clean_shape : (axis : Axis) (n : ℕ) → 0 < n → HasLines axis n mid new → (count_along axis new ≡ n) × (count_along (across axis) new ≡ count_along (across axis) mid)
-          clean_shape Rows n h l = (l.rows, l.columns ∙ ap (λ (b : Bool). cond b 0 mid.columns) (ne_eqb n 0 (λ e. omega (arith, e, h))))
+          clean_shape Rows n h l = (l.rows, l.columns ∙ as_wide n mid.columns h)
           clean_shape Columns n h l = (l.columns, l.rows)
 
       below : (a : ℕ) → a < length kept → get_or kept a 0 < lines * pieces

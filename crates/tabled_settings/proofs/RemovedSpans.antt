@@ -1,16 +1,17 @@
--- Merged cells when lines are taken away.
-use Rattle.std.proofs.Common.{◌≡◌, ℕ, Bool, List, sym, ap, ap₂, ◌∙◌, length, arith}
+-- Lines taken away, and merged cells with them.
+use Rattle.std.proofs.Common.{◌≡◌, ℕ, Bool, List, sym, ap, ap₂, subst, ◌∙◌, length, arith}
 use Rattle.tabled_grid.specs.Along.{count_along}
 use Rattle.tabled_grid.specs.Axis.{count_of}
 use Rattle.tabled_grid.specs.Grid.{Grid}
-use Rattle.tabled_grid.specs.Places.{Places}
+use Rattle.tabled_grid.specs.Places.{Places, ReadsThrough}
 use Rattle.tabled_grid.specs.Spans.{SpanMap}
 use Rattle.tabled_grid.specs.declared.records.axis.Axis.{Axis}
 use Rattle.tabled_carry.specs.Images.{carried}
 use Rattle.tabled_select.specs.Located.{TellsLocated, is_located}
-use Rattle.tabled_settings.specs.Lines.{is_marked}
+use Rattle.tabled_settings.specs.Lines.{KeepsLines, is_marked}
 use Rattle.tabled_settings.specs.Rearranged.{kept_lines, left_over, removed}
 use Rattle.tabled_settings.proofs.Dropped.{left_same}
+use Rattle.tabled_settings.proofs.Kept.{kept_read}
 use Rattle.tabled_settings.proofs.LineReads.{counted}
 
 module _ {A : Type 0} (axis : Axis) (found : List ℕ) (marks : List Bool) (g : Grid A) (t : TellsLocated found (count_along axis g) marks) where
@@ -20,6 +21,9 @@ module _ {A : Type 0} (axis : Axis) (found : List ℕ) (marks : List Bool) (g : 
       let many = counted axis g in
       ap (λ (n : ℕ). kept_lines axis (left_over (is_marked marks) n) g.rows g.columns) (t.many ∙ sym many)
       ∙ ap (λ (kept : List ℕ). kept_lines axis kept g.rows g.columns) (left_same (is_marked marks) (is_located found) (count_of axis g.rows g.columns) (λ i h. t.tells i (omega (arith, h, many))))
+
+  pub removed_done : (new : Grid A) → KeepsLines axis (left_over (is_marked marks) (length marks)) g new → ReadsThrough (removed axis found g.rows g.columns) g new
+  removed_done new kept = subst (λ (places : Places). ReadsThrough places g new) marked_removed (kept_read axis (left_over (is_marked marks) (length marks)) g new kept)
 
   -- merged cells go along with them
   pub removed_carried : (rows columns : ℕ) (m k : SpanMap) → rows ≡ g.rows → columns ≡ g.columns → k ≡ carried (kept_lines axis (left_over (is_marked marks) (length marks)) rows columns) rows columns m → k ≡ carried (removed axis found g.rows g.columns) g.rows g.columns m

@@ -1,10 +1,10 @@
 -- Lines in the opposite order, by swaps from both ends.
-use Rattle.std.proofs.Common.{◌≡◌, ℕ, zero, suc, List, map, ◌+◌, ◌-◌, ◌<◌, ◌≤◌, ◌≢◌, ◌⊎◌, inl, inr, Bool, true, false, cond, refl, sym, add-one, ap, ◌∙◌, subst, arith}
-use Rattle.std.specs.Prelude.{nat_le, nat_lt, ◌&&◌}
+use Rattle.std.proofs.Common.{◌≡◌, ℕ, zero, suc, List, map, ◌+◌, ◌-◌, ◌<◌, ◌≤◌, ◌≢◌, ◌⊎◌, inl, inr, refl, sym, add-one, ap, ◌∙◌, subst, arith}
 use Rattle.std.specs.List.{swap}
+use Rattle.std.proofs.lemmas.Bool.Decides.{nat_tests}
 use Rattle.std.proofs.lemmas.List.{map-id}
 use Rattle.std.proofs.lemmas.Simd.{map-map}
-use Rattle.std.proofs.lemmas.Bool.{cases_eq, cases_lt, le-leb, le-ltb, lt-leb, lt-ltb}
+use Rattle.std.proofs.lemmas.Bool.{cases_eq, cases_lt, le-leb, lt-leb, lt-ltb}
 use Rattle.std.proofs.lemmas.List.Edits.{Swapped}
 use Rattle.tabled_grid.specs.Along.{along, count_along}
 use Rattle.tabled_grid.specs.Grid.{Grid, IsEven}
@@ -94,18 +94,9 @@ ends_of_rows s e (suc k) g even fits within =
 pub index_inside : (s e n i : ℕ) → e ≤ n → s ≤ i → i < e → reversed_index s e n i ≡ s + e - 1 - i
 index_inside s e n i fits h l = rw (le-leb e n fits, le-leb s i h, lt-ltb i e l) refl
 
-not_first : (a c : Bool) (x y : ℕ) → cond (a && (false && c)) x y ≡ y
-not_first true c x y = refl
-not_first false c x y = refl
-
-not_last : (a b : Bool) (x y : ℕ) → cond (a && (b && false)) x y ≡ y
-not_last true true x y = refl
-not_last true false x y = refl
-not_last false b x y = refl
-
 pub index_outside : (s e n i : ℕ) → (i < s) ⊎ (e ≤ i) → reversed_index s e n i ≡ i
-index_outside s e n i (inl less) = rw (lt-leb s i less) (not_first (nat_le e n) (nat_lt i e) _ i)
-index_outside s e n i (inr past) = rw (le-ltb i e past) (not_last (nat_le e n) (nat_le s i) _ i)
+index_outside s e n i (inl less) = grind (arith, nat_tests)
+index_outside s e n i (inr past) = grind (arith, nat_tests)
 
 -- nothing is reversed where there are no lines between the two ends, or where the last one is past them
 pub not_fitting : (s e n i : ℕ) → n < e → reversed_index s e n i ≡ i
@@ -120,25 +111,12 @@ module _ {A : Type 0} (axis : Axis) (s e : ℕ) where
       at i (inr from) (inr past) = r.outside i (inr past) ∙ ap (line_cells axis g) (sym (index_outside s e n i (inr past)))
       at i (inr from) (inl below) = r.inside i from below ∙ ap (line_cells axis g) (sym (index_inside s e n i fits from below))
 
-  pub reversed_none : (n : ℕ) (g : Grid A) → IsEven g → (e ≤ s) ⊎ (n < e) → ReadsThrough (lines_from axis (reversed_index s e n) g.rows g.columns) g g
-  reversed_none n g even none = lines_read axis (reversed_index s e n) g.rows g.columns g g even refl refl (λ i h. ap (line_cells axis g) (sym (at i none (cases_lt i s))))
-    where
-      at : (i : ℕ) → (e ≤ s) ⊎ (n < e) → (i < s) ⊎ (s ≤ i) → reversed_index s e n i ≡ i
-      at i (inr past) where_it_is = not_fitting s e n i past
-      at i (inl empty) (inl less) = index_outside s e n i (inl less)
-      at i (inl empty) (inr from) = index_outside s e n i (inr (omega (arith, empty, from)))
-
 -- a whole grid
 pub whole_read : {A : Type 0} (axis : Axis) (n : ℕ) (g new : Grid A) → n ≡ count_along axis g → ReversesLines axis 0 n g new → ReadsThrough (lines_from axis (λ i. n - 1 - i) g.rows g.columns) g new
 whole_read axis n g new is r = lines_read axis (λ i. n - 1 - i) g.rows g.columns g new r.shape.even r.shape.rows r.shape.columns
     (λ i h. let same : 0 + n - 1 - i ≡ n - 1 - i = omega arith in r.inside i (omega arith) (omega (arith, h, is, same_count axis g new r.shape)) ∙ ap (line_cells axis g) same)
 
-module _ {A : Type 0} (axis : Axis) (s : ℕ) (limit : Offset) (n : ℕ) (g : Grid A) (is : n ≡ count_along axis g) where
-  in_table : (new : Grid A) → ReadsThrough (lines_from axis (reversed_index s (limit_end limit s n) n) g.rows g.columns) g new → ReadsThrough (reversed axis s limit g.rows g.columns) g new
-  in_table new = subst (λ (m : ℕ). ReadsThrough (lines_from axis (reversed_index s (limit_end limit s m) m) g.rows g.columns) g new) (is ∙ sym (counted axis g))
-
-  pub reversed_done : (e : ℕ) (new : Grid A) → e ≡ limit_end limit s n → e ≤ n → ReversesLines axis s e g new → ReadsThrough (reversed axis s limit g.rows g.columns) g new
-  reversed_done e new at fits r = in_table new (subst (λ (k : ℕ). ReadsThrough (lines_from axis (reversed_index s k n) g.rows g.columns) g new) at (reversed_read axis s e n g new is fits r))
-
-  pub reversed_not : IsEven g → (limit_end limit s n ≤ s) ⊎ (n < limit_end limit s n) → ReadsThrough (reversed axis s limit g.rows g.columns) g g
-  reversed_not even none = in_table g (reversed_none axis s (limit_end limit s n) n g even none)
+pub reversed_done : {A : Type 0} (axis : Axis) (s : ℕ) (limit : Offset) (n : ℕ) (g : Grid A) → n ≡ count_along axis g → (e : ℕ) (new : Grid A) → e ≡ limit_end limit s n → e ≤ n → ReversesLines axis s e g new → ReadsThrough (reversed axis s limit g.rows g.columns) g new
+reversed_done axis s limit n g is e new at fits r =
+    subst (λ (m : ℕ). ReadsThrough (lines_from axis (reversed_index s (limit_end limit s m) m) g.rows g.columns) g new) (is ∙ sym (counted axis g))
+    (subst (λ (k : ℕ). ReadsThrough (lines_from axis (reversed_index s k n) g.rows g.columns) g new) at (reversed_read axis s e n g new is fits r))

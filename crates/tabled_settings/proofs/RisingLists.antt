@@ -1,65 +1,47 @@
 -- Indexes in lists that rise.
-use Rattle.std.proofs.Common.{◌≡◌, ℕ, Bool, zero, suc, ◌+◌, ◌-◌, ◌<◌, ◌≤◌, ◌⊎◌, inl, inr, List, Some, Result, Ok, Err, sym, ap, subst, ◌∙◌, arith, get_or, length}
+use Rattle.std.proofs.Common.{◌≡◌, ℕ, Bool, zero, suc, ◌+◌, ◌-◌, ◌<◌, ◌≤◌, inl, inr, List, Some, Result, Ok, Err, sym, ap, ◌∙◌, arith, get_or, length}
 use Rattle.std.specs.List.Sorted.{IsBinarySearchResult, IsStrictlyIncreasing}
 use Rattle.std.specs.Prelude.{not}
 use Rattle.std.specs.List.{range_with_len}
 use Rattle.std.specs.Ordering.{nat_cmp}
 use Rattle.std.specs.Result.{result_ok}
-use Rattle.std.proofs.lemmas.Bool.{cases_eq, cases_lt}
+use Rattle.std.proofs.lemmas.Bool.{cases_eq}
 use Rattle.std.proofs.lemmas.List.FromFn.{get_or-range_with_len, length-range_with_len}
-use Rattle.std.proofs.lemmas.List.Kept.{IsStrictlyIncreasing-filter}
+use Rattle.std.proofs.lemmas.List.Kept.{AllPairs-from_increasing, IsStrictlyIncreasing-filter}
 use Rattle.std.proofs.lemmas.List.Sorted.{searched}
 use Rattle.tabled_settings.specs.Rearranged.{left_over}
 
-rises_by : (xs : List ℕ) → IsStrictlyIncreasing xs → (i n : ℕ) → i + n + 1 < length xs → get_or xs i 0 < get_or xs (i + n + 1) 0
-rises_by xs up i zero h = let same : i + 1 ≡ i + 0 + 1 = omega arith in subst (λ (k : ℕ). get_or xs i 0 < get_or xs k 0) same (up i (omega arith))
-rises_by xs up i (suc n) h =
-    let before = rises_by xs up i n (omega arith) in
-    let more = up (i + n + 1) (omega arith) in
-    let same : i + n + 1 + 1 ≡ i + suc n + 1 = omega arith in
-    subst (λ (k : ℕ). get_or xs i 0 < get_or xs k 0) same (omega (arith, before, more))
-
 pub rises : (xs : List ℕ) → IsStrictlyIncreasing xs → (i j : ℕ) → i < j → j < length xs → get_or xs i 0 < get_or xs j 0
-rises xs up i j h k =
-    let same : i + (j - i - 1) + 1 ≡ j = omega arith in
-    subst (λ (k : ℕ). get_or xs i 0 < get_or xs k 0) same (rises_by xs up i (j - i - 1) (omega arith))
+rises xs up i j h k = AllPairs-from_increasing xs up i j 0 h k
 
 pub one_index : (xs : List ℕ) → IsStrictlyIncreasing xs → (i j : ℕ) → i < length xs → j < length xs → get_or xs i 0 ≡ get_or xs j 0 → i ≡ j
-one_index xs up i j h k same = by (cases_lt i j) (cases_lt j i)
-  where
-    by : (i < j) ⊎ (j ≤ i) → (j < i) ⊎ (i ≤ j) → i ≡ j
-    by (inl a) b = absurd (omega (arith, rises xs up i j a k, same))
-    by (inr a) (inl b) = absurd (omega (arith, rises xs up j i b h, same))
-    by (inr a) (inr b) = omega (arith, a, b)
+one_index xs up i j h k same = grind (arith, rises xs up i j, rises xs up j i, same)
 
 never_falls : (xs : List ℕ) → IsStrictlyIncreasing xs → (i j : ℕ) → i ≤ j → j < length xs → get_or xs i 0 ≤ get_or xs j 0
-never_falls xs up i j h k = by (cases_eq i j)
-  where
-    by : (i ≡ j) ⊎ (i ≡ j → ⊥) → get_or xs i 0 ≤ get_or xs j 0
-    by (inl e) = let same = ap (λ (n : ℕ). get_or xs n 0) e in omega (arith, same)
-    by (inr apart) = omega (arith, rises xs up i j (omega (arith, apart)) k)
+never_falls xs up i j h k = elim (cases_eq i j) [
+  | inl e ↦ let same = ap (λ (n : ℕ). get_or xs n 0) e in omega (arith, same)
+  | inr apart ↦ omega (arith, rises xs up i j (omega (arith, apart)) k)
+]
 
 -- what a search finds, and that it finds what is there
 found_at : (xs : List ℕ) (x i : ℕ) → IsStrictlyIncreasing xs → IsBinarySearchResult (λ y. nat_cmp y x) xs (Ok i) → (i < length xs) × (get_or xs i 0 ≡ x)
 found_at xs x i up r = searched xs x (Ok i) r (never_falls xs up)
 
 missed_at : (xs : List ℕ) (x i k : ℕ) → IsStrictlyIncreasing xs → IsBinarySearchResult (λ y. nat_cmp y x) xs (Err i) → k < length xs → get_or xs k 0 ≡ x → ⊥
-missed_at xs x i k up r here same = by (searched xs x (Err i) r (never_falls xs up)) (cases_lt k i)
-  where
-    by : (i ≤ length xs) × ((k : ℕ) → k < i → get_or xs k 0 < x) × ((k : ℕ) → i ≤ k → k < length xs → x < get_or xs k 0) → (k < i) ⊎ (i ≤ k) → ⊥
-    by m (inl low) = omega (arith, m.1 k low, same)
-    by m (inr high) = omega (arith, m.2 k high here, same)
+missed_at xs x i k up r here same =
+    let m : (i ≤ length xs) × ((k : ℕ) → k < i → get_or xs k 0 < x) × ((k : ℕ) → i ≤ k → k < length xs → x < get_or xs k 0) = searched xs x (Err i) r (never_falls xs up) in
+    grind (arith, m.1 k, m.2 k, here, same)
 
 pub search_finds : (xs : List ℕ) (x k : ℕ) (r : Result ℕ ℕ) → IsStrictlyIncreasing xs → IsBinarySearchResult (λ y. nat_cmp y x) xs r → k < length xs → get_or xs k 0 ≡ x → result_ok r ≡ Some k
 search_finds xs x k (Ok i) up r here same = let at = found_at xs x i up r in ap Some (one_index xs up i k at.0 here (at.1 ∙ sym same))
 search_finds xs x k (Err i) up r here same = absurd (missed_at xs x i k up r here same)
 
 -- a range rises, and so does what a test leaves of the first indexes
-pub range_rises : (n : ℕ) → IsStrictlyIncreasing (range_with_len 0 n)
-range_rises n i h = let few = length-range_with_len 0 n in omega (arith, get_or-range_with_len 0 n i 0 (omega (arith, h, few)), get_or-range_with_len 0 n (i + 1) 0 (omega (arith, h, few)))
+pub range_rises : (a n : ℕ) → IsStrictlyIncreasing (range_with_len a n)
+range_rises a n i h = let few = length-range_with_len a n in omega (arith, get_or-range_with_len a n i 0 (omega (arith, h, few)), get_or-range_with_len a n (i + 1) 0 (omega (arith, h, few)))
 
 pub left_rises : (gone : ℕ → Bool) (n : ℕ) → IsStrictlyIncreasing (left_over gone n)
-left_rises gone n = IsStrictlyIncreasing-filter (λ (i : ℕ). not (gone i)) (range_with_len 0 n) (range_rises n)
+left_rises gone n = IsStrictlyIncreasing-filter (λ (i : ℕ). not (gone i)) (range_with_len 0 n) (range_rises 0 n)
 
 -- an index is no more than what stands there
 pub index_within : (xs : List ℕ) → IsStrictlyIncreasing xs → (k : ℕ) → k < length xs → k ≤ get_or xs k 0
@@ -72,10 +54,9 @@ index_within xs up (suc k) h =
 
 -- indexes below a number are no more than this
 pub length_within : (xs : List ℕ) (n : ℕ) → IsStrictlyIncreasing xs → ((k : ℕ) → k < length xs → get_or xs k 0 < n) → length xs ≤ n
-length_within xs n up below = by (cases_eq (length xs) 0)
-  where
-    by : (length xs ≡ 0) ⊎ (length xs ≡ 0 → ⊥) → length xs ≤ n
-    by (inl e) = omega (arith, e)
-    by (inr some) =
-        let last : length xs - 1 < length xs = omega (arith, some) in
-        omega (arith, index_within xs up (length xs - 1) last, below (length xs - 1) last)
+length_within xs n up below = elim (cases_eq (length xs) 0) [
+  | inl e ↦ omega (arith, e)
+  | inr some ↦
+      let last : length xs - 1 < length xs = omega (arith, some) in
+      omega (arith, index_within xs up (length xs - 1) last, below (length xs - 1) last)
+]

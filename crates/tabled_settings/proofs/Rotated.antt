@@ -1,5 +1,5 @@
 -- Tables turned by a quarter, or upside down.
-use Rattle.std.proofs.Common.{◌≡◌, ℕ, ◌-◌, ◌<◌, ◌⊎◌, inl, inr, false, eqb, refl, ap, sym, subst, ◌∙◌, arith}
+use Rattle.std.proofs.Common.{◌≡◌, ℕ, ◌-◌, ◌<◌, ◌⊎◌, inl, inr, false, eqb, refl, ap, sym, subst, ◌∙◌, arith, ◌+◌, Some, ap₂}
 use Rattle.std.proofs.lemmas.Bool.{ne_eqb}
 use Rattle.tabled_grid.specs.Along.{count_along}
 use Rattle.tabled_grid.specs.Bulk.{transposed}
@@ -10,11 +10,15 @@ use Rattle.tabled_grid.specs.declared.records.axis.Axis.TheVariants.{Rows, Colum
 use Rattle.tabled_grid.proofs.Transposed.{at-transposed}
 use Rattle.tabled_settings.specs.Lines.{ReversesLines}
 use Rattle.tabled_settings.specs.declared.rotate.Rotate.{Rotate}
-use Rattle.tabled_settings.specs.declared.rotate.Rotate.TheVariants.{Top, Bottom}
+use Rattle.tabled_settings.specs.declared.rotate.Rotate.TheVariants.{Top, Bottom, Left, Right}
 use Rattle.tabled_grid.specs.Places.{ReadsThrough}
 use Rattle.tabled_settings.specs.Rearranged.{columns_if, rotated, quarter_of, upside_down}
 use Rattle.tabled_settings.specs.Places.{lines_from}
 use Rattle.tabled_settings.proofs.Reversed.{whole_read}
+use Rattle.std.proofs.lemmas.Option.{same_Some}
+use Rattle.tabled_grid.specs.Axis.{across, count_of, line_of}
+use Rattle.tabled_grid.specs.declared.config.position.Position.{Position}
+use Rattle.tabled_carry.specs.Images.{LeadsBack, Takes}
 
 -- there are as many columns as there were rows, where there is a row
 pub as_wide : (c r : ℕ) → 0 < c → columns_if c r ≡ r
@@ -33,8 +37,8 @@ module _ {A : Type 0} where
       record { even = all.even; rows = all.rows; columns = all.columns; moved = λ p inside. all.moved p inside ∙ ap (λ (m : ℕ). cell_at g (place (m - 1 - p.row) p.col)) is }
 
   -- a cell across
-  across : (g over : Grid A) (a b : ℕ) → IsEven g → over ≡ transposed g → cell_at over (place a b) ≡ cell_at g (place b a)
-  across g over a b even is = ap (λ (h : Grid A). cell_at h (place a b)) is ∙ at-transposed g.columns g.cells a b even.wide
+  cell_across : (g over : Grid A) (a b : ℕ) → IsEven g → over ≡ transposed g → cell_at over (place a b) ≡ cell_at g (place b a)
+  cell_across g over a b even is = ap (λ (h : Grid A). cell_at h (place a b)) is ∙ at-transposed g.columns g.cells a b even.wide
 
   pub quarter_done : (axis : Axis) (n : ℕ) (g over new : Grid A) → IsEven g → over ≡ transposed g → n ≡ count_along axis over → ReversesLines axis 0 n over new → ReadsThrough (rotated (quarter_of axis) g.rows g.columns) g new
   quarter_done axis n g over new even is count r = turned axis count (whole_read axis n over new count r)
@@ -46,9 +50,43 @@ module _ {A : Type 0} where
       far = ap (λ (h : Grid A). h.columns) is
 
       turned : (axis : Axis) → n ≡ count_along axis over → ReadsThrough (lines_from axis (λ i. n - 1 - i) over.rows over.columns) over new → ReadsThrough (rotated (quarter_of axis) g.rows g.columns) g new
-      turned Rows tall all = record { even = all.even; rows = all.rows ∙ high; columns = all.columns ∙ far; moved = λ p inside. all.moved p inside ∙ across g over (n - 1 - p.row) p.col even is ∙ ap (λ (m : ℕ). cell_at g (place p.col (m - 1 - p.row))) (tall ∙ high) }
-      turned Columns wide all = record { even = all.even; rows = all.rows ∙ high; columns = all.columns ∙ far; moved = λ p inside. all.moved p inside ∙ across g over p.row (n - 1 - p.col) even is ∙ ap (λ (m : ℕ). cell_at g (place (m - 1 - p.col) p.row)) (wide ∙ far ∙ as_wide g.columns g.rows (omega (arith, inside.row, all.rows, high))) }
+      turned Rows tall all = record { even = all.even; rows = all.rows ∙ high; columns = all.columns ∙ far; moved = λ p inside. all.moved p inside ∙ cell_across g over (n - 1 - p.row) p.col even is ∙ ap (λ (m : ℕ). cell_at g (place p.col (m - 1 - p.row))) (tall ∙ high) }
+      turned Columns wide all = record { even = all.even; rows = all.rows ∙ high; columns = all.columns ∙ far; moved = λ p inside. all.moved p inside ∙ cell_across g over p.row (n - 1 - p.col) even is ∙ ap (λ (m : ℕ). cell_at g (place (m - 1 - p.col) p.row)) (wide ∙ far ∙ as_wide g.columns g.rows (omega (arith, inside.row, all.rows, high))) }
 
   pub top_or_bottom_done : (s : Rotate) (n : ℕ) (g new : Grid A) → (s ≡ Top) ⊎ (s ≡ Bottom) → n ≡ g.rows → ReversesLines Rows 0 n g new → ReadsThrough (rotated s g.rows g.columns) g new
   top_or_bottom_done s n g new (inl e) is r = rw e (upside_down_done n g new is r)
   top_or_bottom_done s n g new (inr e) is r = rw e (upside_down_done n g new is r)
+
+-- a new place takes the cell of an old one, where rows and columns are exchanged and then those along an axis are reversed
+pub record TakesTurned (axis : Axis) (rows columns : ℕ) (p q : Position) : Type 0 where
+  pub within : line_of axis p < count_of (across axis) rows columns
+  pub across_within : line_of (across axis) p < count_of axis rows columns
+  pub line : line_of (across axis) p ≡ line_of axis q
+  pub far : line_of axis p + line_of (across axis) q + 1 ≡ count_of (across axis) rows columns
+
+module _ (rows columns : ℕ) (p q : Position) where
+  pub takes_turned : (axis : Axis) → TakesTurned axis rows columns p q → Takes (rotated (quarter_of axis) rows columns) p q
+  takes_turned Rows t =
+      let col : columns - 1 - p.row ≡ q.col = omega (arith, t.far) in
+      record { row = t.within; col = into_wide columns rows p.col (omega (arith, t.within)) t.across_within; from = ap₂ (λ (i j : ℕ). Some (place i j)) t.line col }
+  takes_turned Columns t =
+      let row : rows - 1 - p.col ≡ q.row = omega (arith, t.far) in
+      record { row = t.across_within; col = into_wide columns rows p.col (omega (arith, t.across_within)) t.within; from = ap₂ (λ (i j : ℕ). Some (place i j)) row t.line }
+
+  pub taken_turned : (axis : Axis) → Takes (rotated (quarter_of axis) rows columns) p q → TakesTurned axis rows columns p q
+  taken_turned Rows t =
+      let is : place p.col (columns - 1 - p.row) ≡ q = same_Some _ _ t.from in
+      let low : p.row < columns = t.row in
+      record { within = low; across_within = out_of_wide columns rows p.col (omega (arith, low)) t.col; line = ap (λ (x : Position). x.row) is; far = omega (arith, low, ap (λ (x : Position). x.col) is) }
+  taken_turned Columns t =
+      let is : place (rows - 1 - p.col) p.row ≡ q = same_Some _ _ t.from in
+      let low : p.row < columns = t.row in
+      let far : p.col < rows = out_of_wide columns rows p.col (omega (arith, low)) t.col in
+      record { within = far; across_within = low; line = ap (λ (x : Position). x.col) is; far = omega (arith, far, ap (λ (x : Position). x.row) is) }
+
+-- a turn to the right leads back from one to the left
+pub left_leads_back : (rows columns : ℕ) → LeadsBack (rotated Left rows columns) (rotated Right columns rows)
+left_leads_back rows columns = record {
+  to = λ p q t. let d = taken_turned rows columns p q Rows t in takes_turned columns rows q p Columns (record { within = omega (arith, d.far); across_within = omega (arith, d.line, d.across_within); line = sym d.line; far = omega (arith, d.far) });
+  from = λ p q t. let d = taken_turned columns rows q p Columns t in takes_turned rows columns p q Rows (record { within = omega (arith, d.far); across_within = omega (arith, d.line, d.across_within); line = sym d.line; far = omega (arith, d.far) });
+}

@@ -1,71 +1,23 @@
--- Where the rectangles of a table go that is turned.
-use Rattle.std.proofs.Common.{◌≡◌, ℕ, ◌+◌, ◌-◌, ◌<◌, ◌≤◌, ◌⊎◌, inl, inr, Some, refl, sym, ap, ap₂, subst, arith}
-use Rattle.std.proofs.lemmas.Option.{same_Some}
+-- Where the rectangles of a table go that is turned, and merged cells turned to the left and back.
+use Rattle.std.proofs.Common.{◌≡◌, ℕ, ◌+◌, ◌-◌, ◌<◌, ◌≤◌, ◌⊎◌, inl, inr, refl, sym, ap, ap₂, subst, arith}
+use Rattle.tabled_grid.specs.Axis.{across, count_of, line_of, place_in}
 use Rattle.tabled_grid.specs.Entity.{place}
 use Rattle.tabled_grid.specs.Midway.{In}
 use Rattle.tabled_grid.specs.declared.config.position.Position.{Position}
-use Rattle.tabled_grid.specs.Spans.{Rectangle, sized}
-use Rattle.tabled_grid.specs.declared.config.size.Size.{Size}
-use Rattle.tabled_grid.specs.declared.records.axis.Axis.TheVariants.{Rows}
-use Rattle.tabled_carry.specs.Images.{Carries, HasArea, Takes}
-use Rattle.tabled_settings.specs.Rearranged.{rotated, upside_down}
+use Rattle.tabled_grid.specs.Spans.{Rectangle, sized, SpanMap}
+use Rattle.tabled_grid.specs.declared.records.axis.Axis.{Axis}
+use Rattle.tabled_grid.specs.declared.records.axis.Axis.TheVariants.{Rows, Columns}
+use Rattle.tabled_grid.proofs.PiecePlaces.{across_is, line_is}
+use Rattle.tabled_carry.specs.Images.{Carries, HasArea, Takes, carried}
+use Rattle.tabled_settings.specs.Rearranged.{quarter_of, rotated, upside_down}
 use Rattle.tabled_settings.specs.declared.rotate.Rotate.{Rotate}
 use Rattle.tabled_settings.specs.declared.rotate.Rotate.TheVariants.{Left, Right, Top, Bottom}
+use Rattle.tabled_settings.proofs.AlongLines.{LiesAlong, is_along, is_in, lies_along}
 use Rattle.tabled_settings.proofs.MirroredSpans.{lines_carry}
-use Rattle.tabled_settings.proofs.Rotated.{into_wide, out_of_wide}
-
-module _ (rows columns : ℕ) (a : Position) (s : Size) (full : HasArea (a, s)) (high : a.row + s.height ≤ rows) (far : a.col + s.width ≤ columns) where
-  wide : 0 < columns
-  wide = omega (arith, full.width, far)
-
-  -- to the left
-  left_carries : Carries (rotated Left rows columns) (a, s) (place (columns - (a.col + s.width)) a.row, sized s.width s.height)
-  left_carries = record { all = all; only = only; from = from }
-    where
-      all : (q : Position) → In (a, s) q → (p : Position) × Takes (rotated Left rows columns) p q
-      all q h =
-          let back : columns - 1 - (columns - 1 - q.col) ≡ q.col = omega (arith, h.right, far) in
-          (place (columns - 1 - q.col) q.row, record { row = omega (arith, wide); col = into_wide columns rows q.row wide (omega (arith, h.bottom, high)); from = ap (λ (j : ℕ). Some (place q.row j)) back })
-
-      only : (p q : Position) → Takes (rotated Left rows columns) p q → In (a, s) q → In (place (columns - (a.col + s.width)) a.row, sized s.width s.height) p
-      only p q t h =
-          let is : place p.col (columns - 1 - p.row) ≡ q = same_Some _ _ t.from in
-          let row : p.col ≡ q.row = ap (λ (x : Position). x.row) is in
-          let col : columns - 1 - p.row ≡ q.col = ap (λ (x : Position). x.col) is in
-          let low : p.row < columns = t.row in
-          record { top = omega (arith, col, low, h.right, far); bottom = omega (arith, col, low, h.left, far); left = omega (arith, row, h.top); right = omega (arith, row, h.bottom) }
-
-      from : (p : Position) → In (place (columns - (a.col + s.width)) a.row, sized s.width s.height) p → (q : Position) × In (a, s) q × Takes (rotated Left rows columns) p q
-      from p h = (
-        place p.col (columns - 1 - p.row),
-        record { top = h.left; bottom = h.right; left = omega (arith, h.bottom, far); right = omega (arith, h.top, far, h.bottom) },
-        record { row = omega (arith, h.bottom, far); col = into_wide columns rows p.col wide (omega (arith, h.right, high)); from = refl },
-      )
-
-  -- to the right
-  right_carries : Carries (rotated Right rows columns) (a, s) (place a.col (rows - (a.row + s.height)), sized s.width s.height)
-  right_carries = record { all = all; only = only; from = from }
-    where
-      all : (q : Position) → In (a, s) q → (p : Position) × Takes (rotated Right rows columns) p q
-      all q h =
-          let back : rows - 1 - (rows - 1 - q.row) ≡ q.row = omega (arith, h.bottom, high) in
-          let low : rows - 1 - q.row < rows = omega (arith, h.bottom, high) in
-          (place q.col (rows - 1 - q.row), record { row = omega (arith, h.right, far); col = into_wide columns rows (rows - 1 - q.row) wide low; from = ap (λ (i : ℕ). Some (place i q.col)) back })
-
-      only : (p q : Position) → Takes (rotated Right rows columns) p q → In (a, s) q → In (place a.col (rows - (a.row + s.height)), sized s.width s.height) p
-      only p q t h =
-          let is : place (rows - 1 - p.col) p.row ≡ q = same_Some _ _ t.from in
-          let row : rows - 1 - p.col ≡ q.row = ap (λ (x : Position). x.row) is in
-          let col : p.row ≡ q.col = ap (λ (x : Position). x.col) is in
-          let low : p.col < rows = out_of_wide columns rows p.col wide t.col in
-          record { top = omega (arith, col, h.left); bottom = omega (arith, col, h.right); left = omega (arith, row, low, h.bottom, high); right = omega (arith, row, low, h.top, high) }
-
-      from : (p : Position) → In (place a.col (rows - (a.row + s.height)), sized s.width s.height) p → (q : Position) × In (a, s) q × Takes (rotated Right rows columns) p q
-      from p h = (
-        place (rows - 1 - p.col) p.row,
-        record { top = omega (arith, h.right, high); bottom = omega (arith, h.left, high, h.right); left = h.top; right = h.bottom },
-        record { row = omega (arith, h.bottom, far); col = into_wide columns rows p.col wide (omega (arith, h.right, high)); from = refl },
-      )
+use Rattle.tabled_settings.proofs.Rotated.{taken_turned, takes_turned, as_wide, left_leads_back}
+use Rattle.tabled_settings.proofs.ThereAndBack.{lines_lead_back}
+use Rattle.tabled_grid.specs.Fitting.{Fits}
+use Rattle.tabled_carry.proofs.Back.{carried_back}
 
 -- the rectangle that one inside the table goes to
 abbrev pub turned : Rotate → ℕ → ℕ → Rectangle → Rectangle
@@ -91,37 +43,82 @@ turned_full Right rows columns e full = record { height = full.width; width = fu
 turned_full Top rows columns e full = record { height = full.height; width = full.width }
 turned_full Bottom rows columns e full = record { height = full.height; width = full.width }
 
+-- by its lines, where rows and columns are exchanged and then those along an axis are reversed
+record IsTurned (axis : Axis) (rows columns : ℕ) (e f : Rectangle) : Type 0 where
+  line : line_of axis f.0 ≡ count_of (across axis) rows columns - (line_of (across axis) e.0 + count_of (across axis) e.1.height e.1.width)
+  beside : line_of (across axis) f.0 ≡ line_of axis e.0
+  lines : count_of axis f.1.height f.1.width ≡ count_of (across axis) e.1.height e.1.width
+  wide : count_of (across axis) f.1.height f.1.width ≡ count_of axis e.1.height e.1.width
+
+is_turned : (axis : Axis) (rows columns : ℕ) (e : Rectangle) → IsTurned axis rows columns e (turned (quarter_of axis) rows columns e)
+is_turned Rows rows columns e = record { line = refl; beside = refl; lines = refl; wide = refl }
+is_turned Columns rows columns e = record { line = refl; beside = refl; lines = refl; wide = refl }
+
+module _ (axis : Axis) (rows columns : ℕ) (e : Rectangle) (high : e.0.row + e.1.height ≤ rows) (far : e.0.col + e.1.width ≤ columns) where
+  abbrev n : ℕ
+  n = count_of (across axis) rows columns
+
+  abbrev f : Rectangle
+  f = turned (quarter_of axis) rows columns e
+
+  room : LiesAlong axis rows columns e
+  room = lies_along axis rows columns e high far
+
+  is : IsTurned axis rows columns e (turned (quarter_of axis) rows columns e)
+  is = is_turned axis rows columns e
+
+  all : (q : Position) → In e q → (p : Position) × Takes (rotated (quarter_of axis) rows columns) p q
+  all q holds =
+      let h = is_along axis e q holds in
+      let i = n - 1 - line_of (across axis) q in
+      let at = line_is axis i (line_of axis q) in
+      let beside = across_is axis i (line_of axis q) in (
+        place_in axis i (line_of axis q),
+        takes_turned rows columns (place_in axis i (line_of axis q)) q axis (record { within = omega (arith, at, h.to, room.across); across_within = omega (arith, beside, h.last, room.lines); line = beside; far = omega (arith, at, h.to, room.across) }),
+      )
+
+  only : (p q : Position) → Takes (rotated (quarter_of axis) rows columns) p q → In e q → In (turned (quarter_of axis) rows columns e) p
+  only p q t holds =
+      let h = is_along axis e q holds in
+      let d = taken_turned rows columns p q axis t in
+      is_in axis f p (record { first = omega (arith, is.line, d.far, h.to, room.across); last = omega (arith, is.line, is.lines, d.far, h.from, h.to, room.across); from = omega (arith, is.beside, d.line, h.first); to = omega (arith, is.beside, is.wide, d.line, h.last) })
+
+  back : (p : Position) → In (turned (quarter_of axis) rows columns e) p → (q : Position) × In e q × Takes (rotated (quarter_of axis) rows columns) p q
+  back p holds =
+      let h = is_along axis f p holds in
+      let j = n - 1 - line_of axis p in
+      let at = line_is axis (line_of (across axis) p) j in
+      let beside = across_is axis (line_of (across axis) p) j in
+      let q = place_in axis (line_of (across axis) p) j in (
+        q,
+        is_in axis e q (record { first = omega (arith, at, is.beside, h.from); last = omega (arith, at, is.beside, is.wide, h.to); from = omega (arith, beside, is.line, is.lines, h.first, h.last, room.across); to = omega (arith, beside, is.line, is.lines, h.first, h.last, room.across) }),
+        takes_turned rows columns p q axis (record { within = omega (arith, is.line, is.lines, h.last, room.across); across_within = omega (arith, is.beside, is.wide, h.to, room.lines); line = sym at; far = omega (arith, beside, is.line, is.lines, h.last, room.across) }),
+      )
+
+  quarter_carries : Carries (rotated (quarter_of axis) rows columns) e (turned (quarter_of axis) rows columns e)
+  quarter_carries = record { all = all; only = only; from = back }
+
 upside_down_carries : (rows columns : ℕ) (e : Rectangle) → e.0.row + e.1.height ≤ rows → e.0.col + e.1.width ≤ columns → Carries (upside_down rows columns) e (turned Top rows columns e)
 upside_down_carries rows columns e high far = lines_carry Rows (λ i. rows - 1 - i) rows columns (λ i h. omega (arith, h)) e.0 e.1 high far
 
-pub turned_carries : (turn : Rotate) (rows columns : ℕ) (e : Rectangle) → HasArea e → e.0.row + e.1.height ≤ rows → e.0.col + e.1.width ≤ columns → Carries (rotated turn rows columns) e (turned turn rows columns e)
-turned_carries Left rows columns e full high far = left_carries rows columns e.0 e.1 full high far
-turned_carries Right rows columns e full high far = right_carries rows columns e.0 e.1 full high far
-turned_carries Top rows columns e full high far = upside_down_carries rows columns e high far
-turned_carries Bottom rows columns e full high far = upside_down_carries rows columns e high far
+pub turned_carries : (turn : Rotate) (rows columns : ℕ) (e : Rectangle) → e.0.row + e.1.height ≤ rows → e.0.col + e.1.width ≤ columns → Carries (rotated turn rows columns) e (turned turn rows columns e)
+turned_carries Left rows columns e high far = quarter_carries Rows rows columns e high far
+turned_carries Right rows columns e high far = quarter_carries Columns rows columns e high far
+turned_carries Top rows columns e high far = upside_down_carries rows columns e high far
+turned_carries Bottom rows columns e high far = upside_down_carries rows columns e high far
 
-pub turned_to : (turn : Rotate) (rows columns : ℕ) (e f : Rectangle) → HasArea e → e.0.row + e.1.height ≤ rows → e.0.col + e.1.width ≤ columns → f ≡ turned turn rows columns e → Carries (rotated turn rows columns) e f
-turned_to turn rows columns e f full high far is = subst (λ (h : Rectangle). Carries (rotated turn rows columns) e h) (sym is) (turned_carries turn rows columns e full high far)
+pub turned_to : (turn : Rotate) (rows columns : ℕ) (e f : Rectangle) → e.0.row + e.1.height ≤ rows → e.0.col + e.1.width ≤ columns → f ≡ turned turn rows columns e → Carries (rotated turn rows columns) e f
+turned_to turn rows columns e f high far is = subst (λ (h : Rectangle). Carries (rotated turn rows columns) e h) (sym is) (turned_carries turn rows columns e high far)
 
 -- a cell that goes to a place is a cell of the table
 upside_down_from : (rows columns : ℕ) (p q : Position) → Takes (upside_down rows columns) p q → (q.row < rows) × (q.col < columns)
 upside_down_from rows columns p q t =
-    let is : place (rows - 1 - p.row) p.col ≡ q = same_Some _ _ t.from in
-    let low : p.row < rows = t.row in
-    let far : p.col < columns = t.col in
-    (omega (arith, low, ap (λ (x : Position). x.row) is), omega (arith, far, ap (λ (x : Position). x.col) is))
+    let back = (lines_lead_back Rows (λ i. rows - 1 - i) rows columns (λ i h. (omega (arith, h), omega (arith, h)))).to p q t in
+    (back.row, back.col)
 
 turned_from : (turn : Rotate) (rows columns : ℕ) (p q : Position) → Takes (rotated turn rows columns) p q → (q.row < rows) × (q.col < columns)
-turned_from Left rows columns p q t =
-    let is : place p.col (columns - 1 - p.row) ≡ q = same_Some _ _ t.from in
-    let low : p.row < columns = t.row in
-    let far : p.col < rows = out_of_wide columns rows p.col (omega (arith, low)) t.col in
-    (omega (arith, far, ap (λ (x : Position). x.row) is), omega (arith, low, ap (λ (x : Position). x.col) is))
-turned_from Right rows columns p q t =
-    let is : place (rows - 1 - p.col) p.row ≡ q = same_Some _ _ t.from in
-    let low : p.row < columns = t.row in
-    let far : p.col < rows = out_of_wide columns rows p.col (omega (arith, low)) t.col in
-    (omega (arith, far, ap (λ (x : Position). x.row) is), omega (arith, low, ap (λ (x : Position). x.col) is))
+turned_from Left rows columns p q t = let d = taken_turned rows columns p q Rows t in (omega (arith, d.line, d.across_within), omega (arith, d.far))
+turned_from Right rows columns p q t = let d = taken_turned rows columns p q Columns t in (omega (arith, d.far), omega (arith, d.line, d.across_within))
 turned_from Top rows columns p q t = upside_down_from rows columns p q t
 turned_from Bottom rows columns p q t = upside_down_from rows columns p q t
 
@@ -133,3 +130,10 @@ turned_inside turn rows columns e f full c =
     let p = c.all q last in
     let at = turned_from turn rows columns p.0 q p.1 in
     (omega (arith, at.0, full.height), omega (arith, at.1, full.width))
+
+-- turned to the left and then to the right, they are as they were
+pub left_then_right_spans : (rows columns : ℕ) → 0 < rows → 0 < columns → (m : SpanMap) → Fits m rows columns → carried (rotated Right columns rows) columns rows (carried (rotated Left rows columns) rows columns m) ≡ m
+left_then_right_spans rows columns tall wide m fits =
+    subst (λ (n : ℕ). carried (rotated Right columns rows) columns n (carried (rotated Left rows columns) rows columns m) ≡ m) (as_wide columns rows wide)
+    (carried_back (rotated Left rows columns) (rotated Right columns rows) (left_leads_back rows columns) m rows columns fits
+    (record { each = λ a s h. let size = fits.sizes.each a s h in let room = fits.inside a s h in (turned Left rows columns (a, s), turned_carries Left rows columns (a, s) room.0 room.1, turned_full Left rows columns (a, s) (record { height = size.height; width = size.width })) }))

@@ -3,7 +3,7 @@
 ghost use Rattle.std.specs.Prelude.{◌≡◌, ◌<◌, ◌≤◌, ◌-◌, ℕ, length, min, slice_index};
 ghost use Rattle.std.specs.List.Sorted.{IsStrictlyIncreasing};
 ghost use Rattle.tabled_grid.specs.Along.{count_along};
-ghost use Rattle.tabled_settings.specs.Lines.{DropsLines, KeepsLines, KeepsSome, ReversesLines, ThinsLines, is_marked};
+ghost use Rattle.tabled_settings.specs.Lines.{BringsLines, KeepsLines, ReversesLines, indexes_in, is_marked};
 ghost use Rattle.tabled_settings.specs.Rearranged.{left_over};
 
 use std::ops::Range;
@@ -49,7 +49,7 @@ where
     R::Cell: Blank,
     requires well { R.is_well_formed records.old }
     ensures well { R.is_well_formed records.new }
-    ensures kept { KeepsLines axis range.start range.end (R.grid records.old) (R.grid records.new) }
+    ensures kept { KeepsLines axis (indexes_in range.start range.end (count_along axis (R.grid records.old))) (R.grid records.old) (R.grid records.new) }
 {
     let kept = count_in(&range, axis.count(records));
     // Lines at the front stay where they are.
@@ -70,7 +70,7 @@ where
     requires rising { IsStrictlyIncreasing kept.now }
     requires within { (k : ℕ) → k < length kept.now → slice_index kept.now k < count_along axis (R.grid records.old) }
     ensures well { R.is_well_formed records.new }
-    ensures kept { KeepsSome axis kept.now (R.grid records.old) (R.grid records.new) }
+    ensures kept { KeepsLines axis kept.now (R.grid records.old) (R.grid records.new) }
 {
     for (k, &line) in kept.iter().enumerate() {
         axis.swap(records, k, line);
@@ -94,7 +94,7 @@ where
     requires well { R.is_well_formed records.old }
     requires many { length gone.now ≡ count_along axis (R.grid records.old) }
     ensures well { R.is_well_formed records.new }
-    ensures dropped { DropsLines axis (is_marked gone.now) (R.grid records.old) (R.grid records.new) }
+    ensures kept { KeepsLines axis (left_over (is_marked gone.now) (length gone.now)) (R.grid records.old) (R.grid records.new) }
 {
     let kept = thin(axis, records, gone);
     records.truncate_lines(axis, kept);
@@ -109,7 +109,8 @@ where
     requires well { R.is_well_formed records.old }
     requires many { length gone.now ≡ count_along axis (R.grid records.old) }
     ensures well { R.is_well_formed records.new }
-    ensures thins { ThinsLines axis (is_marked gone.now) (length gone.now) result (R.grid records.old) (R.grid records.new) }
+    ensures brings { BringsLines axis (left_over (is_marked gone.now) (length gone.now)) result (R.grid records.old) (R.grid records.new) }
+    ensures many { result ≡ length (left_over (is_marked gone.now) (length gone.now)) }
 {
     match axis {
         Axis::Rows => {

@@ -23,7 +23,7 @@ use Rattle.tabled_settings.specs.Joined.{JoinsAt, corner_of, joined_text}
 use Rattle.tabled_grid.specs.Places.{Places}
 use Rattle.tabled_settings.specs.Rearranged.{Rearranges, extracted, removed, reversed, rotated}
 use Rattle.tabled_settings.specs.declared.rotate.Rotate.{Rotate}
-use Rattle.tabled_settings.specs.declared.rotate.Rotate.TheVariants.{Left, Right, Top, Bottom}
+use Rattle.tabled_settings.specs.declared.rotate.Rotate.TheVariants.{Left}
 use Rattle.tabled_spans.specs.Panels.{Panels, cells_along, has_room, with_line_at}
 use Rattle.tabled_steps.specs.Reads.{joined_tables}
 use Rattle.tabled_steps.specs.Selected.{half_open, named_by, selected}
@@ -43,12 +43,7 @@ same_state g h c d = ap₂ state
 
 total-rotated : (rotate : Rotate) (rows columns : ℕ) (p : Position) → (q : Position) × ((rotated rotate rows columns).old_place p ≡ Some q)
 total-rotated Left rows columns p = (_, refl)
-total-rotated Right rows columns p = (_, refl)
-total-rotated Top rows columns p = (_, refl)
-total-rotated Bottom rows columns p = (_, refl)
-
-total-removed : (axis : Axis) (found : List ℕ) (rows columns : ℕ) (p : Position) → (q : Position) × ((removed axis found rows columns).old_place p ≡ Some q)
-total-removed axis found rows columns p = (_, refl)
+total-rotated _ rows columns p = (_, refl)
 
 module _ {A : Type 0} (text_of : A → List ℕ) where
   -- a change for each entity, where one is what a formula says
@@ -136,9 +131,9 @@ module _ {A : Type 0} (text_of : A → List ℕ) where
   after_step is_blank (step.Split how) g c h d does = same_state _ _ _ _ does.0.texts does.1
   after_step is_blank (step.Concat concat) g c h d does = same_state _ _ _ _ (joined_at g c h d is_blank concat.0 concat.1 concat.2 does.0) does.1
   after_step is_blank (step.Extract a b k l) g c h d does = rearranged g c h d (extracted (half_open a b) (half_open k l)) (λ p. (_, refl)) does
-  after_step is_blank (step.RemoveRows a b) g c h d does = rearranged g c h d (removed Rows (indexes (half_open a b) g.rows)) (total-removed Rows _ g.rows g.columns) does
-  after_step is_blank (step.RemoveColumns a b) g c h d does = rearranged g c h d (removed Columns (indexes (half_open a b) g.columns)) (total-removed Columns _ g.rows g.columns) does
-  after_step is_blank (step.RemoveNamed name) g c h d does = rearranged g c h d (removed Columns (columns_with (string_bytes name) (map_grid text_of g))) (total-removed Columns _ g.rows g.columns) does
+  after_step is_blank (step.RemoveRows a b) g c h d does = rearranged g c h d (removed Rows (indexes (half_open a b) g.rows)) (λ p. (_, refl)) does
+  after_step is_blank (step.RemoveColumns a b) g c h d does = rearranged g c h d (removed Columns (indexes (half_open a b) g.columns)) (λ p. (_, refl)) does
+  after_step is_blank (step.RemoveNamed name) g c h d does = rearranged g c h d (removed Columns (columns_with (string_bytes name) (map_grid text_of g))) (λ p. (_, refl)) does
   after_step is_blank (step.Both' _ first _ second) g c h d (m, k, one, other) = after_step is_blank second m k h d other ∙ ap (after second) (after_step is_blank first g c m k one)
 
   -- what steps do, one after another

@@ -118,26 +118,8 @@ after_both [] ys s = refl
 after_both (x ∷ xs) ys s = after_both xs ys (after x s)
 
 after_parts : (x : Step) (s : State) → after_all (parts x) s ≡ after x s
-after_parts (step.Set _ _) s = refl
-after_parts (step.Dup _ _) s = refl
-after_parts (step.Charset _ _) s = refl
-after_parts (step.ColumnSpan _ _) s = refl
-after_parts (step.RowSpan _ _) s = refl
-after_parts (step.HorizontalPanel _) s = refl
-after_parts (step.VerticalPanel _) s = refl
-after_parts (step.Header _) s = refl
-after_parts (step.Footer _) s = refl
-after_parts (step.MergeVertical _) s = refl
-after_parts (step.MergeHorizontal _) s = refl
-after_parts (step.Rotate _) s = refl
-after_parts (step.Reverse _) s = refl
-after_parts (step.Split _) s = refl
-after_parts (step.Concat _) s = refl
-after_parts (step.Extract _ _ _ _) s = refl
-after_parts (step.RemoveRows _ _) s = refl
-after_parts (step.RemoveColumns _ _) s = refl
-after_parts (step.RemoveNamed _) s = refl
 after_parts (step.Both' _ first _ second) s = after_both (parts first) (parts second) s ∙ after_parts second (after_all (parts first) s) ∙ ap (after second) (after_parts first s)
+after_parts _ s = refl
 
 -- steps taken apart lead to what they lead to
 after_flattened : (xs : List Step) (s : State) → after_all (flattened xs) s ≡ after_all xs s

@@ -1,5 +1,5 @@
 -- What options do and leave on an entity depends on the places that it names.
-use Rattle.std.proofs.Common.{◌≡◌, ℕ, zero, suc, ℤ, pos, negsuc, ◌⊎◌, inl, inr, Bool, true, false, cond, None, Option, List, [], refl, sym, ap, subst, ◌∙◌}
+use Rattle.std.proofs.Common.{◌≡◌, ℕ, suc, ℤ, pos, ◌⊎◌, inl, inr, Bool, true, false, cond, None, Option, List, [], refl, sym, ap, subst, ◌∙◌}
 use Rattle.std.specs.FinMap.{get, same_map}
 use Rattle.std.proofs.lemmas.Bool.{cases_Bool}
 use Rattle.tabled_grid.specs.Axis.{count_of}
@@ -16,7 +16,7 @@ use Rattle.tabled_options.specs.Writes.{DoesFirstWrites, DoesWrites, FirstWrites
 use Rattle.tabled_options.proofs.Shapes.{shape_texts}
 use Rattle.tabled_settings.specs.Charsets.{charset_writes, is_set, mapped_writes, recoded}
 use Rattle.tabled_spans.specs.Spanned.{Spans, SpansFirst, back_of, grown_each, pull_writes, pulled_each, span_writes, spanned}
-use Rattle.tabled_steps.proofs.RepresentedChanges.{IsLocal}
+use Rattle.tabled_steps.specs.Groups.{IsLocal}
 
 -- writes on an entity that depend on the places alone that it names, and are none where it names none
 pub record AreLocal (writes : Entity → Grid (List ℕ) → List Write) : Type 0 where
@@ -54,8 +54,7 @@ module _ {A : Type 0} (text_of : A → List ℕ) where
 
 local_span_writes : (axis : Axis) (size : ℤ) → AreLocal (span_writes axis size)
 local_span_writes axis (pos (suc size)) = record { alike = λ e f g same. refl; none = λ e g none. refl }
-local_span_writes axis (pos zero) = record { alike = λ e f g same. ap (λ ps. pull_writes axis None (count_of axis g.rows g.columns) ps g) same; none = λ e g none. ap (λ ps. pull_writes axis None (count_of axis g.rows g.columns) ps g) none }
-local_span_writes axis (negsuc n) = record { alike = λ e f g same. ap (λ ps. pull_writes axis (back_of (negsuc n)) (count_of axis g.rows g.columns) ps g) same; none = λ e g none. ap (λ ps. pull_writes axis (back_of (negsuc n)) (count_of axis g.rows g.columns) ps g) none }
+local_span_writes axis size = record { alike = λ e f g same. ap (λ ps. pull_writes axis (back_of size) (count_of axis g.rows g.columns) ps g) same; none = λ e g none. ap (λ ps. pull_writes axis (back_of size) (count_of axis g.rows g.columns) ps g) none }
 
 -- what is hidden once hidden anchors were dropped was hidden before
 hidden_before : (m : SpanMap) (p : Position) → is_hidden (drop_hidden m) p ≡ true → is_hidden m p ≡ true
@@ -76,13 +75,11 @@ dropped_once m = same_map positions_total positions_exact (drop_hidden (drop_hid
 
 spanned_alike : (axis : Axis) (size : ℤ) (e f : Entity) (rows columns : ℕ) (m : SpanMap) → inside e rows columns ≡ inside f rows columns → spanned axis size e rows columns m ≡ spanned axis size f rows columns m
 spanned_alike axis (pos (suc size)) e f rows columns m same = ap (λ ps. drop_hidden (grown_each axis (suc size) (count_of axis rows columns) m ps)) same
-spanned_alike axis (pos zero) e f rows columns m same = ap (λ ps. drop_hidden (pulled_each axis None (count_of axis rows columns) m ps)) same
-spanned_alike axis (negsuc n) e f rows columns m same = ap (λ ps. drop_hidden (pulled_each axis (back_of (negsuc n)) (count_of axis rows columns) m ps)) same
+spanned_alike axis size e f rows columns m same = ap (λ ps. drop_hidden (pulled_each axis (back_of size) (count_of axis rows columns) m ps)) same
 
 spanned_none : (axis : Axis) (size : ℤ) (e : Entity) (rows columns : ℕ) (m : SpanMap) → inside e rows columns ≡ [] → spanned axis size e rows columns m ≡ drop_hidden m
 spanned_none axis (pos (suc size)) e rows columns m none = ap (λ ps. drop_hidden (grown_each axis (suc size) (count_of axis rows columns) m ps)) none
-spanned_none axis (pos zero) e rows columns m none = ap (λ ps. drop_hidden (pulled_each axis None (count_of axis rows columns) m ps)) none
-spanned_none axis (negsuc n) e rows columns m none = ap (λ ps. drop_hidden (pulled_each axis (back_of (negsuc n)) (count_of axis rows columns) m ps)) none
+spanned_none axis size e rows columns m none = ap (λ ps. drop_hidden (pulled_each axis (back_of size) (count_of axis rows columns) m ps)) none
 
 -- spans
 module _ {A : Type 0} (text_of : A → List ℕ) (axis : Axis) (size : ℤ) where

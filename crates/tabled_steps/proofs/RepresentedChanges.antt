@@ -1,5 +1,6 @@
 -- Changes for entities that stand for others are those for the others.
-use Rattle.std.proofs.Common.{◌≡◌, ℕ, zero, suc, ◌≤◌, ◌⊎◌, inl, inr, List, [], ◌∷◌, ◌++◌, Some, refl, ap, subst, ◌∙◌, replicate, arith}
+use Rattle.std.proofs.Common.{◌≡◌, ℕ, zero, suc, ◌-◌, ◌⊎◌, inl, inr, List, [], ◌∷◌, ◌++◌, Some, refl, ap, subst, ◌∙◌, replicate, arith}
+use Rattle.std.proofs.lemmas.Option.{same_Some}
 use Rattle.std.specs.List.{AllByRecursion}
 use Rattle.tabled_grid.specs.Entity.{inside}
 use Rattle.tabled_grid.specs.Grid.{Grid, map_grid}
@@ -7,21 +8,12 @@ use Rattle.tabled_grid.specs.Spans.{SpanMap}
 use Rattle.tabled_grid.specs.declared.config.entity.Entity.{Entity}
 use Rattle.tabled_grid.specs.declared.config.position.Position.{Position}
 use Rattle.tabled_options.specs.Does.{Change, Each, EachListed, EachListedUntil, EachUntil, Same, SameOr}
-use Rattle.tabled_steps.specs.Groups.{IsGroup, AreRepresentatives, representatives_of, named_places, unrolled}
+use Rattle.tabled_steps.specs.Groups.{AreRepresentatives, IsGroup, IsLocal, representatives_of, named_places, unrolled}
 use Rattle.tabled_steps.specs.Selected.{selected}
 use Rattle.tabled_steps.specs.Steps.{LeavesFirst, Names}
 use Rattle.tabled_steps.specs.declared.groups.Group.{Group}
 use Rattle.tabled_steps.specs.declared.selector.Selector.{Selector}
 use Rattle.tabled_steps.proofs.StepsUntil.{first_refused, later_refused}
-
--- what is done and left on an entity depends on the places alone that it names, the shape stays, and to do it
--- on one that names none once more changes nothing
-pub record IsLocal {A : Type 0} (does leaves : Entity → Change A SpanMap) : Type 0 where
-  pub rows : (e : Entity) (g : Grid A) (c : SpanMap) (h : Grid A) (d : SpanMap) → does e g c h d → h.rows ≡ g.rows
-  pub columns : (e : Entity) (g : Grid A) (c : SpanMap) (h : Grid A) (d : SpanMap) → does e g c h d → h.columns ≡ g.columns
-  pub alike : (e f : Entity) (g : Grid A) (c : SpanMap) (h : Grid A) (d : SpanMap) → inside e g.rows g.columns ≡ inside f g.rows g.columns → does f g c h d → does e g c h d
-  pub again : (e : Entity) (g : Grid A) (c : SpanMap) (h : Grid A) (d : SpanMap) → inside e g.rows g.columns ≡ [] → does e g c h d → does e h d h d
-  pub left_alike : (e f : Entity) (g : Grid A) (c : SpanMap) (h : Grid A) (d : SpanMap) → inside e g.rows g.columns ≡ inside f g.rows g.columns → leaves f g c h d → leaves e g c h d
 
 head_is : {X : Type 0} (x y : X) (xs ys : List X) → x ∷ xs ≡ y ∷ ys → x ≡ y
 head_is x y xs ys e = cc
@@ -56,87 +48,74 @@ module _ {A : Type 0} (does leaves : Entity → Change A SpanMap) (local : IsLoc
   left_at e f g c h d shape same (inl none) = inl none
   left_at e f g c h d shape same (inr left) = inr (local.left_alike e f g c h d (at_shape e f g shape same) left)
 
-  module _ (f : Entity) (representatives : List Entity) (places : List (List Position)) where
-    group_leads : (n : ℕ) (es : List Entity) → named_places rows columns es ≡ replicate (suc n) (inside f rows columns) ++ places → (suc n ≡ 1) ⊎ (inside f rows columns ≡ [])
-        → ((rest : List Entity) → named_places rows columns rest ≡ places → Leads representatives rest) → Leads (f ∷ representatives) es
-    group_leads n [] same one later g c h d shape did = cc
-    group_leads zero (e ∷ es) same one later g c h d shape (m, k, first, rest) =
-        let here = head_is (inside e rows columns) (inside f rows columns) (named_places rows columns es) places same in
-        let after = tail_is (inside e rows columns) (inside f rows columns) (named_places rows columns es) places same in
-        (m, k, local.alike e f g c m k (at_shape e f g shape here) first, later es after m k h d (has_then f g c m k shape first) rest)
-    group_leads (suc n) (e ∷ es) same (inl one) later g c h d shape did = absurd (omega (arith, one))
-    group_leads (suc n) (e ∷ es) same (inr none) later g c h d shape (m, k, first, rest) =
-        let here = head_is (inside e rows columns) (inside f rows columns) (named_places rows columns es) (replicate (suc n) (inside f rows columns) ++ places) same in
-        let after = tail_is (inside e rows columns) (inside f rows columns) (named_places rows columns es) (replicate (suc n) (inside f rows columns) ++ places) same in
-        (m, k, local.alike e f g c m k (at_shape e f g shape here) first, group_leads n es after (inr none) later m k h d (has_then f g c m k shape first) (m, k, local.again f g c m k (none_at f g shape none) first, rest))
+  -- entities stand for others: each for the next of these, and one that names nothing for some more
+  abbrev Stand : List Entity → List Entity → Type 0
+  Stand representatives [] = representatives ≡ []
+  Stand representatives (e ∷ es) = (f : Entity) × (fs : List Entity) × (representatives ≡ f ∷ fs) × (inside e rows columns ≡ inside f rows columns) × (Stand fs es ⊎ ((inside f rows columns ≡ []) × Stand (f ∷ fs) es))
 
-    group_refuses : (n : ℕ) (es : List Entity) → named_places rows columns es ≡ replicate (suc n) (inside f rows columns) ++ places → (suc n ≡ 1) ⊎ (inside f rows columns ≡ [])
-        → ((rest : List Entity) → named_places rows columns rest ≡ places → Refuses representatives rest) → Refuses (f ∷ representatives) es
-    group_refuses n [] same one later g c h d shape until = cc
-    group_refuses n (e ∷ es) same one later g c h d shape (zero, at) = (zero, first_refused does (λ e. SameOr (leaves e)) e es g c h d (refused at.item (by_some at.is) at.grid at.configuration at.before at.left))
-      where
-        by_some : Some f ≡ Some at.item → at.item ≡ f
-        by_some is = cc
+  leads : (representatives es : List Entity) → Stand representatives es → Leads representatives es
+  leads representatives [] none g c h d shape did = rw none at did
+  leads representatives (e ∷ es) (f, fs, are, here, next) g c h d shape did =
+      let all : Each does (f ∷ fs) g c h d = rw are at did in
+      let m = all.0 in
+      let k = all.1 in
+      let kept = has_then f g c m k shape all.2 in (
+        m,
+        k,
+        local.alike e f g c m k (at_shape e f g shape here) all.2,
+        elim next [
+          | inl rest ↦ leads fs es rest m k h d kept all.3
+          | inr rest ↦ leads (f ∷ fs) es rest.1 m k h d kept (m, k, local.again f g c m k (none_at f g shape rest.0) all.2, all.3)
+        ],
+      )
 
-        here : inside e rows columns ≡ inside f rows columns
-        here = head_is (inside e rows columns) (inside f rows columns) (named_places rows columns es) (replicate n (inside f rows columns) ++ places) same
+  refuses : (representatives es : List Entity) → Stand representatives es → Refuses representatives es
+  refuses representatives [] none g c h d shape until = rw none at until
+  refuses representatives (e ∷ es) (f, fs, are, here, next) g c h d shape until = by (rw are at until) (λ m k first left. elim next [
+    | inl rest ↦ refuses fs es rest m k h d (has_then f g c m k shape first) left
+    | inr rest ↦ refuses (f ∷ fs) es rest.1 m k h d (has_then f g c m k shape first) (suc left.0, later_refused does (λ e. SameOr (leaves e)) f fs m k m k left.0 h d (local.again f g c m k (none_at f g shape rest.0) first) left.1)
+  ])
+    where
+      refused : (x : Entity) → Some f ≡ Some x → (m : Grid A) (k : SpanMap) → Same g c m k → SameOr (leaves x) m k h d → SameOr (leaves e) g c h d
+      refused x is m k same left =
+          let at_first : SameOr (leaves f) g c h d = rw (same_Some f x is, ← same.0, ← same.1) left in
+          left_at e f g c h d shape here at_first
 
-        refused : (x : Entity) → x ≡ f → (m : Grid A) (k : SpanMap) → Same g c m k → SameOr (leaves x) m k h d → SameOr (leaves e) g c h d
-        refused x is m k (same_grid, same_spans) left = left_at e f g c h d shape here (subst (λ (y : Entity). SameOr (leaves y) g c h d) is (subst (λ (z : SpanMap). SameOr (leaves x) g z h d) same_spans (subst (λ (z : Grid A). SameOr (leaves x) z k h d) same_grid left)))
-    group_refuses zero (e ∷ es) same one later g c h d shape (suc i, at) =
-        let here = head_is (inside e rows columns) (inside f rows columns) (named_places rows columns es) places same in
-        let after = tail_is (inside e rows columns) (inside f rows columns) (named_places rows columns es) places same in
-        let m = at.before.0 in
-        let k = at.before.1 in
-        let first = at.before.2 in
-        let rest = later es after m k h d (has_then f g c m k shape first) (i, record { item = at.item; is = at.is; grid = at.grid; configuration = at.configuration; before = at.before.3; left = at.left }) in
-        (suc rest.0, later_refused does (λ e. SameOr (leaves e)) e es g c m k rest.0 h d (local.alike e f g c m k (at_shape e f g shape here) first) rest.1)
-    group_refuses (suc n) (e ∷ es) same (inl one) later g c h d shape (suc i, at) = absurd (omega (arith, one))
-    group_refuses (suc n) (e ∷ es) same (inr none) later g c h d shape (suc i, at) =
-        let here = head_is (inside e rows columns) (inside f rows columns) (named_places rows columns es) (replicate (suc n) (inside f rows columns) ++ places) same in
-        let after = tail_is (inside e rows columns) (inside f rows columns) (named_places rows columns es) (replicate (suc n) (inside f rows columns) ++ places) same in
-        let m = at.before.0 in
-        let k = at.before.1 in
-        let first = at.before.2 in
-        let more = later_refused does (λ e. SameOr (leaves e)) f representatives m k m k i h d (local.again f g c m k (none_at f g shape none) first) (record { item = at.item; is = at.is; grid = at.grid; configuration = at.configuration; before = at.before.3; left = at.left }) in
-        let rest = group_refuses n es after (inr none) later m k h d (has_then f g c m k shape first) (suc i, more) in
-        (suc rest.0, later_refused does (λ e. SameOr (leaves e)) e es g c m k rest.0 h d (local.alike e f g c m k (at_shape e f g shape here) first) rest.1)
+      by : EachUntil does (λ e. SameOr (leaves e)) (f ∷ fs) g c h d → ((m : Grid A) (k : SpanMap) → does f g c m k → EachUntil does (λ e. SameOr (leaves e)) fs m k h d → EachUntil does (λ e. SameOr (leaves e)) es m k h d) → EachUntil does (λ e. SameOr (leaves e)) (e ∷ es) g c h d
+      by (zero, at) later = (zero, first_refused does (λ e. SameOr (leaves e)) e es g c h d (refused at.item at.is at.grid at.configuration at.before at.left))
+      by (suc i, at) later =
+          let m = at.before.0 in
+          let k = at.before.1 in
+          let rest = later m k at.before.2 (i, record { item = at.item; is = at.is; grid = at.grid; configuration = at.configuration; before = at.before.3; left = at.left }) in
+          (suc rest.0, later_refused does (λ e. SameOr (leaves e)) e es g c m k rest.0 h d (local.alike e f g c m k (at_shape e f g shape here) at.before.2) rest.1)
+
+  -- a group's entity stands for those of the group
+  stand_group : (f : Entity) (fs : List Entity) (places : List (List Position)) (n : ℕ) (es : List Entity) → named_places rows columns es ≡ replicate (suc n) (inside f rows columns) ++ places → (suc n ≡ 1) ⊎ (inside f rows columns ≡ []) → ((rest : List Entity) → named_places rows columns rest ≡ places → Stand fs rest) → Stand (f ∷ fs) es
+  stand_group f fs places n [] same one later = cc
+  stand_group f fs places zero (e ∷ es) same one later = (f, fs, refl, head_is _ _ _ _ same, inl (later es (tail_is _ _ _ _ same)))
+  stand_group f fs places (suc n) (e ∷ es) same (inl one) later = absurd (omega (arith, one))
+  stand_group f fs places (suc n) (e ∷ es) same (inr none) later = (f, fs, refl, head_is _ _ _ _ same, inr (none, stand_group f fs places n es (tail_is _ _ _ _ same) (inr none) later))
 
   -- a group has a first entity, and more only where they name nothing
   counted : (group : Group) → IsGroup rows columns group → (n : ℕ) × (group.count ≡ suc n) × ((suc n ≡ 1) ⊎ (inside group.entity rows columns ≡ []))
   counted group (inl one) = (0, one, inl refl)
-  counted group (inr (some, none)) = let n = group.count in (pred n, whole n some, inr none)
-    where
-      pred : ℕ → ℕ
-      pred zero = zero
-      pred (suc n) = n
+  counted group (inr (some, none)) = (group.count - 1, omega (arith, some), inr none)
 
-      whole : (n : ℕ) → 1 ≤ n → n ≡ suc (pred n)
-      whole zero h = absurd (omega (arith, h))
-      whole (suc n) h = refl
-
-  leads : (groups : List Group) (es : List Entity) → named_places rows columns es ≡ unrolled rows columns groups → AllByRecursion (IsGroup rows columns) groups → Leads (representatives_of groups) es
-  leads [] [] same each = λ g c h d shape did. did
-  leads [] (e ∷ es) same each = λ g c h d shape did. cc
-  leads (group ∷ groups) es same each =
+  stand : (groups : List Group) (es : List Entity) → named_places rows columns es ≡ unrolled rows columns groups → AllByRecursion (IsGroup rows columns) groups → Stand (representatives_of groups) es
+  stand [] [] same each = refl
+  stand [] (e ∷ es) same each = cc
+  stand (group ∷ groups) es same each =
       let n = counted group each.0 in
-      group_leads group.entity (representatives_of groups) (unrolled rows columns groups) n.0 es (same ∙ ap (λ k. replicate k (inside group.entity rows columns) ++ unrolled rows columns groups) n.1) n.2 (λ rest is. leads groups rest is each.1)
-
-  refuses : (groups : List Group) (es : List Entity) → named_places rows columns es ≡ unrolled rows columns groups → AllByRecursion (IsGroup rows columns) groups → Refuses (representatives_of groups) es
-  refuses [] [] same each = λ g c h d shape until. until
-  refuses [] (e ∷ es) same each = λ g c h d shape until. cc
-  refuses (group ∷ groups) es same each =
-      let n = counted group each.0 in
-      group_refuses group.entity (representatives_of groups) (unrolled rows columns groups) n.0 es (same ∙ ap (λ k. replicate k (inside group.entity rows columns) ++ unrolled rows columns groups) n.1) n.2 (λ rest is. refuses groups rest is each.1)
+      stand_group group.entity (representatives_of groups) (unrolled rows columns groups) n.0 es (same ∙ ap (λ k. replicate k (inside group.entity rows columns) ++ unrolled rows columns groups) n.1) n.2 (λ rest is. stand groups rest is each.1)
 
 module _ {A : Type 0} (text_of : A → List ℕ) (select : Selector) (does leaves : Entity → Change A SpanMap) (local : IsLocal does leaves) (g : Grid A) (c : SpanMap) (h : Grid A) (d : SpanMap) where
   -- a change for each entity that stands for named ones is one for each named entity
   pub represented : EachListed (AreRepresentatives text_of select) does g c h d → EachListed (Names text_of select) does g c h d
   represented (representatives, (groups, grouped, are), each) =
-      (selected (map_grid text_of g) select, refl, leads does leaves local g.rows g.columns groups (selected (map_grid text_of g) select) grouped.same grouped.each g c h d (record { rows_are = refl; columns_are = refl }) (subst (λ es. Each does es g c h d) are each))
+      (selected (map_grid text_of g) select, refl, leads does leaves local g.rows g.columns (representatives_of groups) (selected (map_grid text_of g) select) (stand does leaves local g.rows g.columns groups _ grouped.same grouped.each) g c h d (record { rows_are = refl; columns_are = refl }) (subst (λ es. Each does es g c h d) are each))
 
   -- and so it is where it is refused
   pub represented_refused : SameOr (EachListedUntil (AreRepresentatives text_of select) does (λ e. SameOr (leaves e))) g c h d → LeavesFirst text_of select does leaves g c h d
   represented_refused (inl none) = inl none
   represented_refused (inr (representatives, (groups, grouped, are), until)) =
-      inr (selected (map_grid text_of g) select, refl, refuses does leaves local g.rows g.columns groups (selected (map_grid text_of g) select) grouped.same grouped.each g c h d (record { rows_are = refl; columns_are = refl }) (subst (λ es. EachUntil does (λ e. SameOr (leaves e)) es g c h d) are until))
+      inr (selected (map_grid text_of g) select, refl, refuses does leaves local g.rows g.columns (representatives_of groups) (selected (map_grid text_of g) select) (stand does leaves local g.rows g.columns groups _ grouped.same grouped.each) g c h d (record { rows_are = refl; columns_are = refl }) (subst (λ es. EachUntil does (λ e. SameOr (leaves e)) es g c h d) are until))

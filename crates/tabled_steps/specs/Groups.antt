@@ -8,6 +8,8 @@ use Rattle.tabled_grid.specs.declared.config.entity.Entity.{Entity}
 use Rattle.tabled_grid.specs.declared.config.entity.Entity.TheVariants.{Cell}
 use Rattle.tabled_grid.specs.declared.config.position.Position.{Position}
 use Rattle.tabled_grid.specs.Grid.{Grid, map_grid}
+use Rattle.tabled_grid.specs.Spans.{SpanMap}
+use Rattle.tabled_options.specs.Does.{Change}
 use Rattle.tabled_select.specs.Algebra.{cells_of}
 use Rattle.tabled_select.specs.Steps.{every}
 use Rattle.tabled_steps.specs.declared.groups.Groups.{Groups}
@@ -55,6 +57,15 @@ AreGroupedIn g entities groups = AreGroups g.rows g.columns entities (groups_of 
 -- entities that stand for those that a selector names in a table: one for each group of them
 abbrev pub AreRepresentatives : {A : Type 0} → (A → List ℕ) → Selector → Grid A → List Entity → Type 0
 AreRepresentatives text_of select g representatives = (groups : List Group) × AreGroups g.rows g.columns (selected (map_grid text_of g) select) groups × (representatives ≡ representatives_of groups)
+
+-- what is done and left on an entity depends on the places alone that it names, the shape stays, and to do it
+-- on one that names none once more changes nothing
+pub record IsLocal {A : Type 0} (does leaves : Entity → Change A SpanMap) : Type 0 where
+  pub rows : (e : Entity) (g : Grid A) (c : SpanMap) (h : Grid A) (d : SpanMap) → does e g c h d → h.rows ≡ g.rows
+  pub columns : (e : Entity) (g : Grid A) (c : SpanMap) (h : Grid A) (d : SpanMap) → does e g c h d → h.columns ≡ g.columns
+  pub alike : (e f : Entity) (g : Grid A) (c : SpanMap) (h : Grid A) (d : SpanMap) → inside e g.rows g.columns ≡ inside f g.rows g.columns → does f g c h d → does e g c h d
+  pub again : (e : Entity) (g : Grid A) (c : SpanMap) (h : Grid A) (d : SpanMap) → inside e g.rows g.columns ≡ [] → does e g c h d → does e h d h d
+  pub left_alike : (e f : Entity) (g : Grid A) (c : SpanMap) (h : Grid A) (d : SpanMap) → inside e g.rows g.columns ≡ inside f g.rows g.columns → leaves f g c h d → leaves e g c h d
 
 -- the entities that are left to go over
 abbrev pub entities_left : Entities → List Entity

@@ -1,5 +1,5 @@
 -- What selectors that are data name in a table of texts.
-use Rattle.std.specs.Prelude.{ℕ, ◌-◌, List, [], ◌∷◌, drop}
+use Rattle.std.specs.Prelude.{ℕ, ◌-◌, List, [], ◌∷◌, None, Option, Some, drop}
 use Rattle.std.specs.declared.ops.Bound.{Bound}
 use Rattle.std.specs.declared.ops.Bound.TheVariants.{Excluded, Included}
 use Rattle.std.specs.String.{string_bytes}
@@ -7,6 +7,7 @@ use Rattle.tabled_grid.specs.Grid.{Grid}
 use Rattle.tabled_grid.specs.Entity.{place}
 use Rattle.tabled_grid.specs.Bounds.{indexes}
 use Rattle.tabled_grid.specs.declared.config.entity.Entity.{Entity}
+use Rattle.tabled_grid.specs.declared.config.entity.Entity.TheVariants as entity
 use Rattle.tabled_select.specs.Algebra.{cells_of, difference_of, flat, intersection_of, inversion_of, union_of}
 use Rattle.tabled_select.specs.Locators.{columns_with, places_with}
 use Rattle.tabled_select.specs.Selectors.{before_last, columns_of, everything, frame, if_cells, index_from_last, past_last, rows_of, segment}
@@ -68,6 +69,14 @@ selected g (select.Intersect' _ x _ y) = shared g (selected g x) (selected g y)
 selected g (select.Inverse' _ x) = others g (selected g x)
 selected g (select.Skip' n _ x) = drop n (selected g x)
 selected g (select.StepBy' n _ x) = every n (selected g x)
+
+-- the one entity that a selector names in any table, where that is known without one
+abbrev pub single : Selector → Option Entity
+single select.All = Some entity.Global
+single (select.Cell i j) = Some (entity.Cell i j)
+single (select.Row i) = Some (entity.Row i)
+single (select.Column j) = Some (entity.Column j)
+single _ = None
 
 -- what names entities in a table of texts, in order
 abbrev pub Named : Type 0

@@ -1,6 +1,7 @@
 -- What steps do to the cells and the merged cells of a table, and what they leave where memory is refused.
-use Rattle.std.specs.Prelude.{◌≡◌, ◌⊎◌, ℕ, false, List}
+use Rattle.std.specs.Prelude.{◌≡◌, ◌⊎◌, ℕ, false, IsSomeAnd, List, []}
 use Rattle.std.specs.String.{string_bytes}
+use Rattle.tabled_grid.specs.Entity.{inside}
 use Rattle.tabled_grid.specs.Grid.{Grid, map_grid}
 use Rattle.tabled_grid.specs.Spans.{SpanMap}
 use Rattle.tabled_grid.specs.declared.config.entity.Entity.{Entity}
@@ -9,7 +10,7 @@ use Rattle.tabled_grid.specs.declared.records.axis.Axis.TheVariants.{Rows, Colum
 use Rattle.tabled_options.specs.Does.{AfterNeverRefused, Change, EachListed, EachListedUntil, EachUntilAt, Same, SameOr, Then, ThenLeaves}
 use Rattle.tabled_options.specs.Writes.{DoesFirstWrites, DoesWrites, text_writes}
 use Rattle.tabled_select.specs.Locators.{columns_with}
-use Rattle.tabled_settings.specs.Charsets.{charset_writes}
+use Rattle.tabled_settings.specs.Charsets.{charset_writes, is_set}
 use Rattle.tabled_settings.specs.Dups.{Duplicates, DuplicatesFirst}
 use Rattle.tabled_carry.specs.Images.{carried}
 use Rattle.tabled_settings.specs.Joined.{JoinsAt, corner_of, joined_places}
@@ -24,8 +25,8 @@ use Rattle.tabled_settings.specs.declared.split.Split.{Split}
 use Rattle.tabled_grid.specs.Bounds.{indexes}
 use Rattle.tabled_spans.specs.Panels.{Panels, has_room}
 use Rattle.tabled_spans.specs.Runs.{MergesRuns}
-use Rattle.tabled_spans.specs.Spanned.{Spans, SpansFirst}
-use Rattle.tabled_steps.specs.Selected.{half_open, selected}
+use Rattle.tabled_spans.specs.Spanned.{SpanTakesNoMemory, Spans, SpansFirst}
+use Rattle.tabled_steps.specs.Selected.{half_open, selected, single}
 use Rattle.tabled_steps.specs.declared.selector.Selector.{Selector}
 use Rattle.tabled_steps.specs.declared.step.Step.{Step}
 use Rattle.tabled_steps.specs.declared.step.Step.TheVariants as step
@@ -87,8 +88,12 @@ Leaves is_blank text_of (step.RowSpan size select) = LeavesFirst text_of select 
 Leaves is_blank text_of (step.Both' _ first _ second) = ThenLeaves (Does is_blank text_of first) (Leaves is_blank text_of first) (Leaves is_blank text_of second)
 Leaves is_blank text_of _ = Same
 
--- a step that takes no memory on a table, and so is not refused
+-- a step that takes no memory on a table, and so is not refused: with a selector, on a single entity
 abbrev pub TakesNoMemory : {A : Type 0} → (A → Type 0) → (A → List ℕ) → Step → Grid A → SpanMap → Type 0
+TakesNoMemory is_blank text_of (step.Set select _) g c = IsSomeAnd (single select) (λ e. inside e g.rows g.columns ≡ [])
+TakesNoMemory is_blank text_of (step.Charset charset select) g c = IsSomeAnd (single select) (λ e. (is_set charset ≡ false) ⊎ (inside e g.rows g.columns ≡ []))
+TakesNoMemory is_blank text_of (step.ColumnSpan size select) g c = IsSomeAnd (single select) (λ e. SpanTakesNoMemory size e g.rows g.columns)
+TakesNoMemory is_blank text_of (step.RowSpan size select) g c = IsSomeAnd (single select) (λ e. SpanTakesNoMemory size e g.rows g.columns)
 TakesNoMemory is_blank text_of (step.HorizontalPanel panel) g c = has_room Rows panel.0 g c ≡ false
 TakesNoMemory is_blank text_of (step.VerticalPanel panel) g c = has_room Columns panel.0 g c ≡ false
 TakesNoMemory is_blank text_of (step.Header _) g c = has_room Rows 0 g c ≡ false

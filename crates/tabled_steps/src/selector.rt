@@ -4,7 +4,7 @@ ghost use Rattle.std.specs.Prelude.{◌≡◌, ◌∷◌, [], ℕ, List, IfOk};
 ghost use Rattle.std.specs.Option.{IfSome};
 ghost use Rattle.tabled_grid.specs.Grid.{Grid, map_grid};
 ghost use Rattle.tabled_steps.specs.Groups.{AreGroupedIn, AreRepresentatives};
-ghost use Rattle.tabled_steps.specs.Selected.{selected};
+ghost use Rattle.tabled_steps.specs.Selected.{selected, single};
 
 use crate::groups::{Groups, group_columns, group_rows, group_segment};
 use std::alloc::{AllocError, Global};
@@ -66,7 +66,8 @@ pub enum Selector {
 impl Selector {
     /// The one entity that is named in any table, if it is known without one.
     pub(crate) fn single(&self) -> Option<Entity>
-        ensures { IfSome result (λ entity. (texts : Grid (List ℕ)) → selected texts self.now ≡ entity ∷ []) }
+        ensures single { result ≡ single self.now }
+        ensures selected { IfSome result (λ entity. (texts : Grid (List ℕ)) → selected texts self.now ≡ entity ∷ []) }
     {
         match self {
             Selector::All => Some(Entity::Global),

@@ -4,14 +4,14 @@ ghost use Rattle.std.specs.Prelude.{◌≡◌, IsOk, OnErr, OnOk};
 ghost use Rattle.tabled_steps.specs.Steps.{Does, Leaves, TakesNoMemory};
 ghost use Rattle.std.proofs.Common.{rules};
 
-use crate::representatives::Representatives;
+use crate::representatives::{Representatives, change_each};
 use crate::selector::Selector;
 use std::alloc::{AllocError, Global};
 use tabled_grid::config::{Entity, SpannedConfig};
 use tabled_grid::records::{
     CellText, ExactRecords, PeekableRecords, Records, RecordsMut, Resizable,
 };
-use tabled_options::{Modify, TableOption};
+use tabled_options::TableOption;
 use tabled_select::location::ByColumnName;
 use tabled_select::object::{Columns, Rows};
 use tabled_settings::concat::Concat;
@@ -86,28 +86,18 @@ impl Step {
         ensures promised { TakesNoMemory R.Cell.is_blank R.Cell.text_of self (R.grid records.old) cfg.old → IsOk result }
     {
         match self {
-            Step::Set(select, text) => {
-                Modify::list(Representatives(select), text).change(alloc, records, cfg, dimension)
-            }
+            Step::Set(select, text) => change_each(alloc, records, cfg, select, text),
             Step::Dup(destination, source) => {
                 Dup::new(Representatives(destination), Representatives(source)).change(
                     alloc, records, cfg, dimension,
                 )
             }
-            Step::Charset(charset, select) => {
-                Modify::list(Representatives(select), charset).change(
-                    alloc, records, cfg, dimension,
-                )
-            }
+            Step::Charset(charset, select) => change_each(alloc, records, cfg, select, charset),
             Step::ColumnSpan(size, select) => {
-                Modify::list(Representatives(select), Span::column(size)).change(
-                    alloc, records, cfg, dimension,
-                )
+                change_each(alloc, records, cfg, select, Span::column(size))
             }
             Step::RowSpan(size, select) => {
-                Modify::list(Representatives(select), Span::row(size)).change(
-                    alloc, records, cfg, dimension,
-                )
+                change_each(alloc, records, cfg, select, Span::row(size))
             }
             Step::HorizontalPanel(panel) => panel.change(alloc, records, cfg, dimension),
             Step::VerticalPanel(panel) => panel.change(alloc, records, cfg, dimension),

@@ -1,4 +1,4 @@
-use Rattle.std.proofs.Common.{◌≡◌, ◌≤◌, ◌⊎◌, ◌+◌, ◌∙◌, Some, None, ap, inl, inr, refl, sym, arith}
+use Rattle.std.proofs.Common.{◌≡◌, ◌≤◌, ◌⊎◌, ◌+◌, ◌∙◌, Some, None, ap, inl, inr, sym, arith}
 use Rattle.std.specs.String.{string_bytes}
 use Rattle.tabled_settings.specs.Joined.{as_texts, text_put}
 use Rattle.tabled_settings.proofs.Joins.{fills_more, fills_over}
@@ -15,12 +15,12 @@ loop-j-preserved g c =
           let put : text_put c.args.corner (as_texts c.args.second.now.grid) c.args.default.now c.loop-i.i c.loop-j.j ≡ Some text = sym (rw w.in-Some.is at c.text_at.ensures) ∙ ap Some (sym w.in_ok-from_str.ensures.ok) in
           rw w.records-is (record {
             well = w.set.ensures.well;
-            fills = fills_more _ _ c.args.rows c.args.columns _ _ c.loop-i.i c.loop-j.j i.fills _ (c.loop-j.j + 1) text refl (omega (arith, c.loop-i-test.true, c.count_rows-i-end.ensures.rows, i.fills.rows_are)) (omega (arith, c.loop-j-test.true, c.count_columns-count.ensures.columns, i.fills.columns_are)) outside put w.in_ok-set.ensures.ok;
+            fills = fills_more _ _ c.args.rows c.args.columns _ _ c.loop-i.i c.loop-j.j i.fills _ text (omega (arith, c.loop-i-test.true, c.count_rows-i-end.ensures.rows, i.fills.rows_are)) (omega (arith, c.loop-j-test.true, c.count_columns-count.ensures.columns, i.fills.columns_are)) outside put w.in_ok-set.ensures.ok;
           })
       | in_default w ↦
           let none : text_put c.args.corner (as_texts c.args.second.now.grid) c.args.default.now c.loop-i.i c.loop-j.j ≡ None = sym (rw w.in_default.is at c.text_at.ensures) in
           rw w.records-is (record {
             well = i.well;
-            fills = fills_over _ _ c.args.rows c.args.columns _ _ c.loop-i.i c.loop-j.j i.fills (c.loop-j.j + 1) refl none;
+            fills = fills_over _ _ c.args.rows c.args.columns _ _ c.loop-i.i c.loop-j.j i.fills none;
           })
     ]

@@ -4,8 +4,7 @@ use Rattle.tabled_grid.specs.Places.{Places}
 use Rattle.tabled_carry.specs.Images.{carried}
 use Rattle.tabled_carry.proofs.CarriedFits.{carried-none}
 use Rattle.tabled_settings.specs.Rearranged.{removed}
-use Rattle.tabled_settings.proofs.Dropped.{removed_done}
-use Rattle.tabled_settings.proofs.RemovedSpans.{removed_carried}
+use Rattle.tabled_settings.proofs.RemovedSpans.{removed_carried, removed_done}
 use Rattle.tabled_settings.proofs.disable.remove_located.Goals as goal
 
 pub returns-then-is_empty-clause-ok : goal.returns-then-is_empty-clause-ok
@@ -16,7 +15,7 @@ returns-then-is_empty-clause-ok g c =
     let none = none-listed c.args.cfg.now c.anchors.result.now c.anchors.ensures.anchors c.if-is_empty.ensures in record {
       found = m.0;
       located = m.1;
-      rearranged = (removed_done _ _ _ _ _ told.tells (rw c.deref.ensures.value at c.remove.ensures.dropped), sym (carried-none (removed c.args.axis m.0 grid.rows grid.columns) grid.rows grid.columns c.args.cfg.now none));
+      rearranged = (removed_done _ _ _ _ told _ (rw c.deref.ensures.value at c.remove.ensures.kept), sym (carried-none (removed c.args.axis m.0 grid.rows grid.columns) grid.rows grid.columns c.args.cfg.now none));
     }
 
 pub returns-clause-ok : goal.returns-clause-ok
@@ -26,5 +25,5 @@ returns-clause-ok g c =
     let moved = c.carry_along.ensures.carried ∙ ap (λ (places : Places). carried places c.count_rows-rows.result c.count_columns-columns.result c.args.cfg.now) c.in_ok-left.ensures in record {
       found = m.0;
       located = m.1;
-      rearranged = (removed_done _ _ _ _ _ told.tells (rw c.deref-3.ensures.value at c.remove-2.ensures.dropped), removed_carried _ _ _ _ told _ _ _ _ c.count_rows-rows.ensures.rows c.count_columns-columns.ensures.columns (rw c.deref-2.ensures.value at moved));
+      rearranged = (removed_done _ _ _ _ told _ (rw c.deref-3.ensures.value at c.remove-2.ensures.kept), removed_carried _ _ _ _ told _ _ _ _ c.count_rows-rows.ensures.rows c.count_columns-columns.ensures.columns (rw c.deref-2.ensures.value at moved));
     }

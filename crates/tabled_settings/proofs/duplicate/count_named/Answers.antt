@@ -1,4 +1,4 @@
-use Rattle.tabled_settings.proofs.Named.{most-Cell, most-Column, most-Global, most-Row}
+use Rattle.tabled_settings.proofs.Duplicated.{most-Cell, most-Column, most-Global, most-Row}
 use Rattle.tabled_settings.proofs.duplicate.count_named.Goals as goal
 
 pub returns-in-Global : goal.returns-in-Global

@@ -1,4 +1,4 @@
-use Rattle.tabled_settings.proofs.Cleaned.{cleaned-after_tabs}
+use Rattle.tabled_settings.proofs.Replacing.{cleaned-after_tabs}
 use Rattle.tabled_settings.proofs.laws.clean_is_clean_after_tabs.Goals as goal
 
 pub returns : goal.returns

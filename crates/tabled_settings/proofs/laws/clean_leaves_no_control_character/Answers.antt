@@ -1,4 +1,4 @@
-use Rattle.tabled_settings.proofs.Cleaned.{cleaned-clean}
+use Rattle.tabled_settings.proofs.Replacing.{cleaned-clean}
 use Rattle.tabled_settings.proofs.laws.clean_leaves_no_control_character.Goals as goal
 
 pub returns : goal.returns

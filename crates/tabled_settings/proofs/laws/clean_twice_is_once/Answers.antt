@@ -1,4 +1,4 @@
-use Rattle.tabled_settings.proofs.Cleaned.{clean-same, cleaned-clean}
+use Rattle.tabled_settings.proofs.Replacing.{clean-same, cleaned-clean}
 use Rattle.tabled_settings.proofs.laws.clean_twice_is_once.Goals as goal
 
 pub returns : goal.returns

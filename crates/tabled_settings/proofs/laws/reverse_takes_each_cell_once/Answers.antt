@@ -1,4 +1,4 @@
-use Rattle.tabled_settings.proofs.TakenOnce.{reversed_once}
+use Rattle.tabled_settings.proofs.TurnedTwice.{reversed_once}
 use Rattle.tabled_settings.proofs.laws.reverse_takes_each_cell_once.Goals as goal
 
 pub returns : goal.returns

@@ -1,4 +1,4 @@
-use Rattle.tabled_settings.proofs.TakenOnce.{rotated_once}
+use Rattle.tabled_settings.proofs.TurnedTwice.{rotated_once}
 use Rattle.tabled_settings.proofs.laws.rotate_takes_each_cell_once.Goals as goal
 
 pub returns : goal.returns

@@ -1,4 +1,4 @@
-use Rattle.tabled_settings.proofs.TextCounts.{each_as_often}
+use Rattle.tabled_settings.proofs.TextsKept.{each_as_often}
 use Rattle.tabled_settings.proofs.laws.split_keeps_each_text_as_often.Goals as goal
 
 pub returns : goal.returns

@@ -1,4 +1,5 @@
-use Rattle.tabled_settings.specs.Lines.{BringsLines}
+use Rattle.tabled_grid.specs.Along.{count_along}
+use Rattle.tabled_settings.specs.Lines.{BringsLines, indexes_in}
 use Rattle.tabled_settings.proofs.lines.keep.Given as goal
 
 abbrev pub invariant-loop-k : goal.invariant-loop-k
@@ -6,5 +7,5 @@ invariant-loop-k g l =
     let grid = g.R.GridStore.grid in
     record {
       well : g.R.GridStore.is_well_formed l.records;
-      brings : BringsLines l.axis l.range.start l.k (grid l.fn.records) (grid l.records);
+      brings : BringsLines l.axis (indexes_in l.range.start l.range.end (count_along l.axis (grid l.fn.records))) l.k (grid l.fn.records) (grid l.records);
     }

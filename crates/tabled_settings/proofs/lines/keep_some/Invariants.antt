@@ -1,4 +1,4 @@
-use Rattle.tabled_settings.specs.Lines.{BringsSome}
+use Rattle.tabled_settings.specs.Lines.{BringsLines}
 use Rattle.tabled_settings.proofs.lines.keep_some.Given as goal
 
 abbrev pub invariant-loop-k : goal.invariant-loop-k
@@ -6,5 +6,5 @@ invariant-loop-k g l =
     let grid = g.R.GridStore.grid in
     record {
       well : g.R.GridStore.is_well_formed l.records;
-      brings : BringsSome l.axis l.kept l.k (grid l.fn.records) (grid l.records);
+      brings : BringsLines l.axis l.kept l.k (grid l.fn.records) (grid l.records);
     }

@@ -1,38 +1,56 @@
-use Rattle.std.proofs.Common.{◌≡◌, ℕ, ◌+◌, ◌∙◌, ap, ap₂, arith, length, refl, subst, sym}
+use Rattle.std.proofs.Common.{◌≡◌, ℕ, ◌+◌, ◌∙◌, ap, ap₂, arith, get_or, length, refl, subst, sym}
 use Rattle.tabled_grid.specs.Entity.{place}
 use Rattle.tabled_grid.specs.Resized.{with_cells_swapped}
 use Rattle.tabled_grid.specs.declared.config.position.Position.{Position}
 use Rattle.tabled_grid.specs.declared.records.axis.Axis.TheVariants.{Rows}
 use Rattle.tabled_grid.proofs.PiecesPut.{same_count}
-use Rattle.tabled_settings.specs.Lines.{ThinsLines, is_marked}
-use Rattle.tabled_settings.proofs.Dropped.{left_more_gone, left_more_kept, thinned, thinned-gone, thinned-kept, thinned-none, thinned_rows, thins_gone, thins_kept, thins_none}
+use Rattle.tabled_settings.specs.Lines.{is_marked}
+use Rattle.tabled_settings.specs.Rearranged.{left_over}
+use Rattle.tabled_settings.proofs.Dropped.{left_at, left_more_gone, left_more_kept, thinned, thinned-gone, thinned-kept, thinned-none, thinned_rows}
+use Rattle.tabled_settings.proofs.Kept.{brings_more, brings_none}
+use Rattle.tabled_settings.proofs.RisingLists.{left_rises}
 use Rattle.tabled_settings.proofs.RowByRow.{Underway, underway-all, underway-more, underway-next, underway-none, underway-skip}
 use Rattle.tabled_settings.proofs.lines.thin.Goals as goal
 use Rattle.tabled_settings.proofs.lines.thin.Goals.{then-not-is_marked, else-not-is_marked, then-not-is_marked-2, else-not-is_marked-2}
 
 pub loop-i-init : goal.loop-i-init
-loop-i-init g c = record { well = c.requires.well; thins = thins_none _ _ _ (g.R.GridStore.even _ c.requires.well) }
+loop-i-init g c = record { well = c.requires.well; brings = brings_none _ _ _ (g.R.GridStore.even _ c.requires.well); many = refl; few = omega arith }
 
 pub loop-i-preserved : goal.loop-i-preserved
 loop-i-preserved g c =
     let many = (rw c.in-Rows.is at c.requires.many) in
-    let i = c.loop-i.invariant in
-    let same = same_count Rows (g.R.GridStore.grid c.args.records.now) (g.R.GridStore.grid c.loop-i.records) i.thins.shape in
+    let test = is_marked c.args.gone.now in
+    let n = length c.args.gone.now in
+    let i = c.loop-i.i in
+    let k = c.loop-i.kept in
+    let u = c.loop-i.invariant in
+    let same = same_count Rows (g.R.GridStore.grid c.args.records.now) (g.R.GridStore.grid c.loop-i.records) u.brings.shape in
     elim c.if-not-is_marked.branch [
-      | then-not-is_marked w ↦ rw (w.records-is, w.kept-is) (record {
-        well = w.swap_row.ensures.well;
-        thins = thins_kept Rows (is_marked c.args.gone.now) c.loop-i.i (c.loop-i.i + 1) c.loop-i.kept (c.loop-i.kept + 1) _ _ _ refl refl (sym c.is_marked.ensures ∙ w.if-not-is_marked.true) i.thins w.swap_row.ensures.swapped (omega (arith, same, c.loop-i-test.true, many));
-      })
+      | then-not-is_marked w ↦ (
+          let stays = sym c.is_marked.ensures ∙ w.if-not-is_marked.true in
+          let next = left_at test i n c.loop-i-test.true stays in
+          rw (w.records-is, w.kept-is) (record {
+            well = w.swap_row.ensures.well;
+            brings = brings_more Rows (left_over test n) (left_rises test n) k (k + 1) i _ _ _ u.brings (omega (arith, u.many, next.0)) (sym (ap (λ (k : ℕ). get_or (left_over test n) k 0) u.many ∙ next.1)) w.swap_row.ensures.swapped refl (omega (arith, same, c.loop-i-test.true, many));
+            many = ap (λ (n : ℕ). n + 1) u.many ∙ sym (left_more_kept test i stays);
+            few = omega (arith, u.few);
+          })
+          )
       | else-not-is_marked w ↦ rw (w.records-is, w.kept-is) (record {
-        well = i.well;
-        thins = thins_gone Rows (is_marked c.args.gone.now) c.loop-i.i (c.loop-i.i + 1) c.loop-i.kept _ _ refl (sym c.is_marked.ensures ∙ w.if-not-is_marked.false) i.thins;
+        well = u.well;
+        brings = u.brings;
+        many = u.many ∙ sym (left_more_gone test i (sym c.is_marked.ensures ∙ w.if-not-is_marked.false));
+        few = omega (arith, u.few);
       })
     ]
 
-pub returns-after-loop-i-clause-thins : goal.returns-after-loop-i-clause-thins
-returns-after-loop-i-clause-thins g c =
+pub returns-after-loop-i-clause-brings : goal.returns-after-loop-i-clause-brings
+returns-after-loop-i-clause-brings g c = rw c.in-Rows.is c.loop-i.invariant.brings
+
+pub returns-after-loop-i-clause-many : goal.returns-after-loop-i-clause-many
+returns-after-loop-i-clause-many g c =
     let all : c.loop-i.i ≡ length c.args.gone.now = omega (arith, c.loop-i-test.false, c.loop-i.auto.i-end) in
-    rw c.in-Rows.is (subst (λ (i : ℕ). ThinsLines Rows (is_marked c.args.gone.now) i c.loop-i.kept (g.R.GridStore.grid c.args.records.now) (g.R.GridStore.grid c.loop-i.records)) all c.loop-i.invariant.thins)
+    c.loop-i.invariant.many ∙ ap (λ (i : ℕ). length (left_over (is_marked c.args.gone.now) i)) all
 
 pub loop-row-init : goal.loop-row-init
 loop-row-init g c = record { well = c.requires.well; rows = underway-none (thinned (is_marked c.args.gone.now)) _ _ (g.R.GridStore.even _ c.requires.well) (thinned-none (is_marked c.args.gone.now)) }
@@ -78,11 +96,11 @@ loop-row-preserved g c =
     let all : c.loop-j.j ≡ length c.args.gone.now = omega (arith, c.loop-j-test.false, c.loop-j.auto.j-end) in
     record { well = c.loop-j.invariant.well; rows = underway-next (thinned test) _ c.loop-row.row _ _ (c.loop-row.row + 1) refl (thinned-none test) (subst (λ (j : ℕ). Underway (thinned test) (length c.args.gone.now) c.loop-row.row j (g.R.GridStore.grid c.args.records.now) (g.R.GridStore.grid c.loop-j.records)) all c.loop-j.invariant.rows) }
 
-pub returns-after-loop-row-clause-thins : goal.returns-after-loop-row-clause-thins
-returns-after-loop-row-clause-thins g c =
+pub returns-after-loop-row-clause-brings : goal.returns-after-loop-row-clause-brings
+returns-after-loop-row-clause-brings g c =
     let test = is_marked c.args.gone.now in
     let m = length c.args.gone.now in
     let old = g.R.GridStore.grid c.args.records.now in
     let many = (rw c.in-Columns.is at c.requires.many) in
     let is = underway-all (thinned test) m c.loop-row.row 0 old _ (g.R.GridStore.even _ c.requires.well) (omega (arith, c.loop-row-test.false, c.count_rows-row-end.ensures.rows)) c.loop-row.invariant.rows in
-    rw (is, c.count_kept.ensures, c.in-Columns.is) (thinned_rows test m old (g.R.GridStore.even _ c.requires.well) (omega (arith, many)))
+    rw (is, c.count_kept.ensures, c.in-Columns.is) (thinned_rows test m m old (g.R.GridStore.even _ c.requires.well) (omega arith) (omega (arith, many)))

@@ -1,6 +1,6 @@
 use Rattle.std.proofs.Common.{◌≡◌, ◌≤◌, length}
 use Rattle.tabled_grid.specs.declared.records.axis.Axis.TheVariants.{Rows}
-use Rattle.tabled_settings.specs.Lines.{ThinsLines, is_marked}
+use Rattle.tabled_settings.specs.Lines.{BringsLines, is_marked}
 use Rattle.tabled_settings.specs.Rearranged.{left_over}
 use Rattle.tabled_settings.proofs.Dropped.{thinned}
 use Rattle.tabled_settings.proofs.RowByRow.{Underway}
@@ -11,7 +11,9 @@ invariant-loop-i g l =
     let grid = g.R.GridStore.grid in
     record {
       well : g.R.GridStore.is_well_formed l.records;
-      thins : ThinsLines Rows (is_marked l.gone) l.i l.kept (grid l.fn.records) (grid l.records);
+      brings : BringsLines Rows (left_over (is_marked l.gone) (length l.gone)) l.kept (grid l.fn.records) (grid l.records);
+      many : l.kept ≡ length (left_over (is_marked l.gone) l.i);
+      few : l.kept ≤ l.i;
     }
 
 abbrev pub invariant-loop-row : goal.invariant-loop-row

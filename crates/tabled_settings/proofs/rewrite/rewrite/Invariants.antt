@@ -4,8 +4,7 @@ use Rattle.tabled_grid.specs.Entity.{inside}
 use Rattle.tabled_grid.specs.Grid.{map_grid}
 use Rattle.tabled_grid.specs.declared.config.position.Position.{Position}
 use Rattle.tabled_select.specs.Locators.{text_at}
-use Rattle.tabled_settings.proofs.Apart.{Apart}
-use Rattle.tabled_settings.proofs.Rewriting.{Rewritten}
+use Rattle.tabled_settings.proofs.Rewriting.{Apart, Rewritten}
 use Rattle.tabled_settings.proofs.rewrite.rewrite.Given as goal
 
 abbrev pub invariant-loop-pos : goal.invariant-loop-pos

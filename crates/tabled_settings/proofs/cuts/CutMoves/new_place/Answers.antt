@@ -1,7 +1,7 @@
 use Rattle.std.proofs.Common.{ℕ, ◌/◌, ◌∙◌, ap, arith}
 use Rattle.std.specs.Prelude.{Some}
 use Rattle.tabled_grid.specs.Pieces.{piece_index}
-use Rattle.tabled_settings.proofs.CutLines.{cut_finds, cut_inside, cut_takes}
+use Rattle.tabled_settings.proofs.PiecePlaces.{cut_finds, cut_inside, cut_takes}
 use Rattle.tabled_settings.proofs.cuts.CutMoves.new_place.Goals as goal
 use Rattle.tabled_settings.proofs.cuts.CutMoves.new_place.Goals.{then-line-self-via-then-line-self, then-line-self-via-else-line-self+then-cell-self}
 

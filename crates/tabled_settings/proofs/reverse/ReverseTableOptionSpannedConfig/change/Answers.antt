@@ -1,7 +1,7 @@
 use Rattle.std.proofs.Common.{sym, ◌∙◌}
 use Rattle.tabled_settings.proofs.Reversed.{reversed_done}
 use Rattle.tabled_settings.proofs.LineReads.{counted}
-use Rattle.tabled_settings.proofs.ReversedSpans.{reversal_carried}
+use Rattle.tabled_settings.proofs.MirroredSpans.{reversal_carried}
 use Rattle.tabled_settings.proofs.reverse.ReverseTableOptionSpannedConfig.change.Goals as goal
 
 pub returns-clause-ok : goal.returns-clause-ok

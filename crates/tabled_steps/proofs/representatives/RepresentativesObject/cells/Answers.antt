@@ -13,4 +13,4 @@ pub returns-in-Some : goal.returns-in-Some
 returns-in-Some g c =
     let grid = g.R.GridStore.grid c.args.records.now in
     let one = c.in-Some.entity ∷ [] in
-    record { lists = (one, (map once one, rw (c.in-Some.ensures _) (each_once grid.rows grid.columns one), refl), record { can = tt; ends = tt; gives = rw c.one.ensures (gives_items one) }) }
+    record { lists = (one, (map once one, rw (c.in-Some.ensures.selected _) (each_once grid.rows grid.columns one), refl), record { can = tt; ends = tt; gives = rw c.one.ensures (gives_items one) }) }

@@ -8,66 +8,45 @@ use Rattle.tabled_options.specs.Writes.{text_writes}
 use Rattle.tabled_settings.specs.Charsets.{charset_writes}
 use Rattle.tabled_steps.proofs.LocalChanges.{local_charset, local_spans, local_text, local_writes}
 use Rattle.tabled_steps.proofs.RepresentedPlaces.{duplicated_represented, duplicated_represented_refused}
-use Rattle.tabled_steps.proofs.RepresentedChanges.{represented, represented_refused}
 use Rattle.tabled_steps.proofs.step.Step.+apply.Goals as goal
 
-pub returns-in-Set-clause-ok : goal.returns-in-Set-clause-ok
-returns-in-Set-clause-ok g n c =
-    let text_of = g.R.Cell.CellText.text_of in
-    let local = local_writes text_of (text_writes (string_bytes c.in-Set.text)) (local_text (string_bytes c.in-Set.text)) in
-    rw c.in-Set.is (on_ok_weaker c.change.result (λ did. represented text_of c.in-Set.select _ _ local _ _ _ _ did) (rw c.list.ensures at c.change.ensures.ok))
-
-pub returns-in-Set-clause-err : goal.returns-in-Set-clause-err
-returns-in-Set-clause-err g n c =
-    let text_of = g.R.Cell.CellText.text_of in
-    let local = local_writes text_of (text_writes (string_bytes c.in-Set.text)) (local_text (string_bytes c.in-Set.text)) in
-    rw c.in-Set.is (on_err_weaker c.change.result (λ left. represented_refused text_of c.in-Set.select _ _ local _ _ _ _ left) (rw c.list.ensures at c.change.ensures.err))
+pub change_each-requires-clause-local : goal.change_each-requires-clause-local
+change_each-requires-clause-local g n c = local_writes g.R.Cell.CellText.text_of (text_writes (string_bytes c.in-Set.text)) (local_text (string_bytes c.in-Set.text))
 
 pub returns-in-Dup-clause-ok : goal.returns-in-Dup-clause-ok
-returns-in-Dup-clause-ok g n c = rw c.in-Dup.is (on_ok_weaker c.change-in-Dup.result (λ did. duplicated_represented g.R.Cell.CellText.text_of c.in-Dup.destination c.in-Dup.source _ _ _ _ did) (rw c.new.ensures at c.change-in-Dup.ensures.ok))
+returns-in-Dup-clause-ok g n c = rw c.in-Dup.is (on_ok_weaker c.change.result (λ did. duplicated_represented g.R.Cell.CellText.text_of c.in-Dup.destination c.in-Dup.source _ _ _ _ did) (rw c.new.ensures at c.change.ensures.ok))
 
 pub returns-in-Dup-clause-err : goal.returns-in-Dup-clause-err
-returns-in-Dup-clause-err g n c = rw c.in-Dup.is (on_err_weaker c.change-in-Dup.result (λ left. duplicated_represented_refused g.R.Cell.CellText.text_of c.in-Dup.destination c.in-Dup.source _ _ _ _ left) (rw c.new.ensures at c.change-in-Dup.ensures.err))
+returns-in-Dup-clause-err g n c = rw c.in-Dup.is (on_err_weaker c.change.result (λ left. duplicated_represented_refused g.R.Cell.CellText.text_of c.in-Dup.destination c.in-Dup.source _ _ _ _ left) (rw c.new.ensures at c.change.ensures.err))
 
-pub returns-in-Charset-clause-ok : goal.returns-in-Charset-clause-ok
-returns-in-Charset-clause-ok g n c =
-    let text_of = g.R.Cell.CellText.text_of in
-    let local = local_writes text_of (charset_writes c.in-Charset.charset) (local_charset c.in-Charset.charset) in
-    rw c.in-Charset.is (on_ok_weaker c.change-in-Charset.result (λ did. represented text_of c.in-Charset.select _ _ local _ _ _ _ did) (rw c.list-in-Charset.ensures at c.change-in-Charset.ensures.ok))
+pub change_each-requires-in-Charset-clause-local : goal.change_each-requires-in-Charset-clause-local
+change_each-requires-in-Charset-clause-local g n c = local_writes g.R.Cell.CellText.text_of (charset_writes c.in-Charset.charset) (local_charset c.in-Charset.charset)
 
-pub returns-in-Charset-clause-err : goal.returns-in-Charset-clause-err
-returns-in-Charset-clause-err g n c =
-    let text_of = g.R.Cell.CellText.text_of in
-    let local = local_writes text_of (charset_writes c.in-Charset.charset) (local_charset c.in-Charset.charset) in
-    rw c.in-Charset.is (on_err_weaker c.change-in-Charset.result (λ left. represented_refused text_of c.in-Charset.select _ _ local _ _ _ _ left) (rw c.list-in-Charset.ensures at c.change-in-Charset.ensures.err))
+pub change_each-requires-in-ColumnSpan-clause-local : goal.change_each-requires-in-ColumnSpan-clause-local
+change_each-requires-in-ColumnSpan-clause-local g n c = local_spans g.R.Cell.CellText.text_of Columns c.column.result
+
+pub change_each-requires-in-RowSpan-clause-local : goal.change_each-requires-in-RowSpan-clause-local
+change_each-requires-in-RowSpan-clause-local g n c = local_spans g.R.Cell.CellText.text_of Rows c.row.result
 
 pub returns-in-ColumnSpan-clause-ok : goal.returns-in-ColumnSpan-clause-ok
 returns-in-ColumnSpan-clause-ok g n c =
-    let text_of = g.R.Cell.CellText.text_of in
     let fits : SFits w64 c.in-ColumnSpan.size = search rules in
-    let same = to_z-of_z w64 c.in-ColumnSpan.size fits in
-    rw c.in-ColumnSpan.is (on_ok_weaker c.change-in-ColumnSpan.result (λ did. represented text_of c.in-ColumnSpan.select _ _ (local_spans text_of Columns c.in-ColumnSpan.size) _ _ _ _ did) (rw (c.list-in-ColumnSpan.ensures, c.column.ensures, same) at c.change-in-ColumnSpan.ensures.ok))
+    rw c.in-ColumnSpan.is (rw (c.column.ensures, to_z-of_z w64 c.in-ColumnSpan.size fits) at c.change_each-in-ColumnSpan.ensures.ok)
 
 pub returns-in-ColumnSpan-clause-err : goal.returns-in-ColumnSpan-clause-err
 returns-in-ColumnSpan-clause-err g n c =
-    let text_of = g.R.Cell.CellText.text_of in
     let fits : SFits w64 c.in-ColumnSpan.size = search rules in
-    let same = to_z-of_z w64 c.in-ColumnSpan.size fits in
-    rw c.in-ColumnSpan.is (on_err_weaker c.change-in-ColumnSpan.result (λ left. represented_refused text_of c.in-ColumnSpan.select _ _ (local_spans text_of Columns c.in-ColumnSpan.size) _ _ _ _ left) (rw (c.list-in-ColumnSpan.ensures, c.column.ensures, same) at c.change-in-ColumnSpan.ensures.err))
+    rw c.in-ColumnSpan.is (rw (c.column.ensures, to_z-of_z w64 c.in-ColumnSpan.size fits) at c.change_each-in-ColumnSpan.ensures.err)
 
 pub returns-in-RowSpan-clause-ok : goal.returns-in-RowSpan-clause-ok
 returns-in-RowSpan-clause-ok g n c =
-    let text_of = g.R.Cell.CellText.text_of in
     let fits : SFits w64 c.in-RowSpan.size = search rules in
-    let same = to_z-of_z w64 c.in-RowSpan.size fits in
-    rw c.in-RowSpan.is (on_ok_weaker c.change-in-RowSpan.result (λ did. represented text_of c.in-RowSpan.select _ _ (local_spans text_of Rows c.in-RowSpan.size) _ _ _ _ did) (rw (c.list-in-RowSpan.ensures, c.row.ensures, same) at c.change-in-RowSpan.ensures.ok))
+    rw c.in-RowSpan.is (rw (c.row.ensures, to_z-of_z w64 c.in-RowSpan.size fits) at c.change_each-in-RowSpan.ensures.ok)
 
 pub returns-in-RowSpan-clause-err : goal.returns-in-RowSpan-clause-err
 returns-in-RowSpan-clause-err g n c =
-    let text_of = g.R.Cell.CellText.text_of in
     let fits : SFits w64 c.in-RowSpan.size = search rules in
-    let same = to_z-of_z w64 c.in-RowSpan.size fits in
-    rw c.in-RowSpan.is (on_err_weaker c.change-in-RowSpan.result (λ left. represented_refused text_of c.in-RowSpan.select _ _ (local_spans text_of Rows c.in-RowSpan.size) _ _ _ _ left) (rw (c.list-in-RowSpan.ensures, c.row.ensures, same) at c.change-in-RowSpan.ensures.err))
+    rw c.in-RowSpan.is (rw (c.row.ensures, to_z-of_z w64 c.in-RowSpan.size fits) at c.change_each-in-RowSpan.ensures.err)
 
 pub returns-in-HorizontalPanel-clause-ok : goal.returns-in-HorizontalPanel-clause-ok
 returns-in-HorizontalPanel-clause-ok g n c = rw c.in-HorizontalPanel.is c.change-in-HorizontalPanel.ensures.ok
