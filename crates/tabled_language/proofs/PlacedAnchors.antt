@@ -22,7 +22,7 @@ use Rattle.tabled_grid.proofs.MergedAnchors.{below_more}
 use Rattle.std.proofs.lemmas.Option.{none-some, same_Some}
 use Rattle.std.proofs.lemmas.Cmp.{tied_itself}
 use Rattle.tabled_grid.proofs.PassedAnchors.{meets-from}
-use Rattle.tabled_grid.proofs.SpanMaps.{equal, halves, less}
+use Rattle.tabled_grid.proofs.SpanMaps.{both, equal, halves, less}
 use Rattle.tabled_grid.proofs.Spans.{positions_exact, positions_total}
 use Rattle.tabled_language.specs.Placed.{IsFirstMisfit, fit_in, has_place, have_places}
 use Rattle.tabled_language.specs.Walk.{RowsRise}
@@ -90,10 +90,6 @@ same_meet e f s t same =
 
 T-from : (b : Bool) → b ≡ true → T b
 T-from b h = subst T (sym h) tt
-
-both : (a b : Bool) → T a → T b → T (a && b)
-both true b p q = q
-both false b p q = p
 
 pub sorted-rising : (es : List Rectangle) → rising es ≡ true → T (is_sorted position_cmp es)
 sorted-rising [] h = tt
