@@ -10,7 +10,6 @@ use Rattle.std.specs.List.{range_with_len}
 use Rattle.std.specs.Vec.{vec_len}
 use Rattle.std.specs.Vec.Iter.{into_iter_items, into_iter_len, into_iter_steps}
 use Rattle.std.specs.declared.ops.Range.{Range}
-use Rattle.tabled_grid.specs.declared.config.entity.Entity.{Entity}
 use Rattle.tabled_grid.specs.declared.config.entity.Entity.TheVariants.{Column}
 use Rattle.tabled_grid.specs.declared.config.position.Position.{Position}
 use Rattle.tabled_select.specs.Located.{GivesAll}
@@ -31,10 +30,6 @@ vec-gives v iter items rest len is = record {
   ends = tt;
   gives = (YieldsList-from_vec {s = iter} items (rest ∙ is) (rw (← is) (len ∙ v.ok.0))).runs;
 }
-
--- and so it lists its entities
-pub vec-lists : (v : Vec Entity) (iter : _) (entities : List Entity) → into_iter_items iter ≡ v.items → into_iter_len iter ≡ vec_len v → v.items ≡ entities → GivesAll (λ _. ⊤) (into_iter_steps {X = Entity} {Z = Global}) (λ s. at_most (into_iter_len s)) iter entities
-vec-lists = vec-gives
 
 -- columns by the indexes of places
 pub columns_of-places : (places : List Position) → map (λ (p : Position). Column p.col) places ≡ columns_of (map (λ (p : Position). p.col) places)

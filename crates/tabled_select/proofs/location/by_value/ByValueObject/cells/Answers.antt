@@ -1,6 +1,6 @@
 use Rattle.std.proofs.Common.{rules, option_to_list, refl}
 use Rattle.tabled_select.specs.Algebra.{cells_of}
-use Rattle.tabled_select.proofs.Shown.{shown_are_listed}
+use Rattle.tabled_select.proofs.Shown.{shown_are_given}
 use Rattle.tabled_select.proofs.location.by_value.ByValueObject.cells.Goals as goal
 
 pub returns : goal.returns
@@ -8,6 +8,6 @@ returns g c = record {
   lists = (
     cells_of (option_to_list c.held_last-held.result),
     (c.in_ok-all.all.items, option_to_list c.held_last-held.result, rw (← c.self.view_is) c.in_ok-all.ensures, rw (← c.self.view_is) c.held_last-held.ensures, refl),
-    shown_are_listed _ _ _ _ tt (search rules),
+    shown_are_given _ _ _ _ tt (search rules),
   );
 }

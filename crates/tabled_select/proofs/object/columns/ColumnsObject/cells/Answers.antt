@@ -1,8 +1,8 @@
 use Rattle.std.proofs.Common.{refl}
-use Rattle.tabled_select.proofs.Shown.{shown_are_listed}
+use Rattle.tabled_select.proofs.Shown.{shown_are_given}
 use Rattle.tabled_select.proofs.object.columns.ColumnsObject.cells.Goals as goal
 
 pub returns : goal.returns
 returns g c = record {
-  lists = (_, refl, shown_are_listed _ _ _ _ tt (rw (c.to_range-columns.ensures.start, c.to_range-columns.ensures.end, c.count_columns.ensures.columns, ← c.self.view_is) refl));
+  lists = (_, refl, shown_are_given _ _ _ _ tt (rw (c.to_range-columns.ensures.start, c.to_range-columns.ensures.end, c.count_columns.ensures.columns, ← c.self.view_is) refl));
 }

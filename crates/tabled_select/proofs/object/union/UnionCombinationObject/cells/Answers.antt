@@ -2,7 +2,7 @@ use Rattle.std.proofs.Common.{◌∙◌, ap, refl}
 use Rattle.tabled_select.specs.Algebra.{cells_of, firsts}
 use Rattle.tabled_select.specs.Sets.{marks_of}
 use Rattle.tabled_select.proofs.NamedPlaces.{flat-append}
-use Rattle.tabled_select.proofs.Shown.{shown_are_listed}
+use Rattle.tabled_select.proofs.Shown.{shown_are_given}
 use Rattle.tabled_select.proofs.Uniting.{fresh-all}
 use Rattle.tabled_select.proofs.object.union.UnionCombinationObject.cells.Goals as goal
 
@@ -14,6 +14,6 @@ returns g c =
       lists = (
         _,
         (c.in_ok-all.all.items, c.in_ok-rhs.rhs.items, rw (← c.self.view_is) c.in_ok-all.ensures, rw (← c.self.view_is) c.in_ok-rhs.ensures, refl),
-        shown_are_listed _ _ _ _ tt (ap cells_of (fresh-all (marks_of c.in_ok-seen.seen) _ _ c.in_ok-seen.ensures ∙ all)),
+        shown_are_given _ _ _ _ tt (ap cells_of (fresh-all (marks_of c.in_ok-seen.seen) _ _ c.in_ok-seen.ensures ∙ all)),
       );
     }
