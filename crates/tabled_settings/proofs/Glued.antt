@@ -26,7 +26,8 @@ use Rattle.tabled_grid.specs.Pieces.{nth_piece, piece_index}
 use Rattle.tabled_settings.specs.Pieces.{cut_rows, has_pieces, piece_at, split, staying, oriented}
 use Rattle.tabled_settings.proofs.PieceReads.{all_retained, cut_count, cut_even, cut_text, piece_text, same_by_lines, turned_across, turned_back, turned_cell, turned_columns, turned_count, turned_even, turned_rows}
 use Rattle.tabled_grid.proofs.PiecesCut.{enough_pieces, some_pieces}
-use Rattle.tabled_settings.proofs.LineReads.{counted, same_cells}
+use Rattle.tabled_settings.proofs.LineReads.{counted}
+use Rattle.tabled_settings.proofs.SameCells.{same_cells}
 use Rattle.tabled_grid.proofs.AddedLines.{back_read, front_read}
 
 -- the piece of a line and a number

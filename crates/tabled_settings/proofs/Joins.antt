@@ -17,7 +17,8 @@ use Rattle.tabled_grid.proofs.Squares.{wide_enough}
 use Rattle.tabled_carry.specs.Images.{KeepsPlaces}
 use Rattle.tabled_carry.proofs.Walks.{Before, before-more}
 use Rattle.tabled_settings.specs.Joined.{FillsTo, GrowsTo, HasBlank, JoinsAt, joined_places, text_put}
-use Rattle.tabled_settings.proofs.LineReads.{line_first, lines_read, none_outside, same_cells}
+use Rattle.tabled_settings.proofs.LineReads.{line_first, lines_read}
+use Rattle.tabled_settings.proofs.SameCells.{none_outside, same_cells}
 
 -- outside of the second table no text is put
 pub none_put : (corner : Position) (second : Grid (List ℕ)) (default : List ℕ) (a b : ℕ) → IsEven second → corner.row ≤ a → corner.col ≤ b → (second.rows ≤ a - corner.row) ⊎ (second.columns ≤ b - corner.col) → None ≡ text_put corner second default a b

@@ -20,6 +20,7 @@ pub mod Rewriting
 pub mod RisingLists
 pub mod Rotated
 pub mod RowByRow
+pub mod SameCells
 pub mod SplitWorked
 pub mod Sums
 pub mod TextsKept
@@ -27,3 +28,4 @@ pub mod ThereAndBack
 pub mod TurnedRectangles
 pub mod TurnedTwice
 pub mod Turns
+pub mod WritersKeep

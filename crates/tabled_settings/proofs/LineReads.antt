@@ -1,8 +1,8 @@
--- The rows or the columns of a grid, one after another, and grids with the same cells.
-use Rattle.std.proofs.Common.{◌≡◌, ℕ, ◌<◌, List, [], ◌∷◌, Option, None, Some, refl, sym, ap, ap₂, ◌∙◌, map, take, length, get_or, arith, ◌≤◌, ◌⊎◌, inl, inr}
+-- The rows or the columns of a grid, one after another.
+use Rattle.std.proofs.Common.{◌≡◌, ℕ, ◌<◌, List, [], ◌∷◌, Option, None, Some, refl, sym, ap, ap₂, ◌∙◌, map, take, length, get_or, arith}
 use Rattle.std.specs.Prelude.{slice_get}
 use Rattle.std.specs.List.{AllByRecursion, swap}
-use Rattle.std.proofs.lemmas.List.{get_or-take, length-map, get_or_past}
+use Rattle.std.proofs.lemmas.List.{get_or-take, length-map}
 use Rattle.std.proofs.lemmas.List.Edits.{Swapped, swapped_from_swap}
 use Rattle.std.proofs.Math.ListN.{get_or-map}
 use Rattle.tabled_grid.specs.Along.{along, count_along, first_along}
@@ -12,16 +12,11 @@ use Rattle.tabled_grid.specs.declared.records.axis.Axis.{Axis}
 use Rattle.tabled_grid.specs.declared.records.axis.Axis.TheVariants.{Rows, Columns}
 use Rattle.tabled_grid.proofs.Lists.{map-swap}
 use Rattle.tabled_grid.proofs.Resized.{IsEven-with_rows_swapped, IsEven-with_columns_swapped}
-use Rattle.tabled_grid.proofs.Transposed.{slice_get-some, slice_get-take, same_rows}
+use Rattle.tabled_grid.proofs.Transposed.{slice_get-some, slice_get-take}
 use Rattle.tabled_grid.specs.Places.{IsShapedAs, ReadsThrough}
 use Rattle.tabled_settings.specs.Lines.{line_cells}
 use Rattle.tabled_grid.specs.Axis.{count_of, in_line, line_of}
 use Rattle.tabled_settings.specs.Places.{lines_from}
-use Rattle.std.proofs.lemmas.Bool.{cases_lt}
-use Rattle.std.proofs.lemmas.List.Elements.{All-from_recursion}
-use Rattle.std.proofs.lemmas.Option.{slice_get_past}
-use Rattle.tabled_grid.specs.Entity.{place}
-use Rattle.tabled_grid.proofs.Across.{same_grid}
 
 -- a count of lines, by the rows and columns
 pub counted : {A : Type 0} (axis : Axis) (g : Grid A) → count_of axis g.rows g.columns ≡ count_along axis g
@@ -97,19 +92,3 @@ module _ {A : Type 0} where
     columns = wide;
     moved = λ p inside. cell_of_line axis h p ∙ read_line axis g h p (from (line_of axis p)) (each (line_of axis p) (line_below axis h p inside)) ∙ sym (cell_of_line axis g (in_line axis p (from (line_of axis p))));
   }
-
-pub same_cells : {A : Type 0} (g h : Grid A) → IsEven g → IsEven h → g.rows ≡ h.rows → g.columns ≡ h.columns → ((a b : ℕ) → a < h.rows → b < h.columns → cell_at g (place a b) ≡ cell_at h (place a b)) → g ≡ h
-same_cells g h g_even h_even rows columns each =
-    same_grid g.rows h.rows g.columns h.columns g.cells h.cells rows columns
-    (same_rows h.rows h.columns g.cells h.cells (g_even.tall ∙ rows) h_even.tall (rw columns at g_even.wide) h_even.wide each)
-
--- outside there is none
-pub none_outside : {A : Type 0} (g : Grid A) (a b : ℕ) → IsEven g → (g.rows ≤ a) ⊎ (g.columns ≤ b) → cell_at g (place a b) ≡ None
-none_outside {A} g a b even outside = at (cases_lt a g.rows) outside
-  where
-    at : (a < g.rows) ⊎ (g.rows ≤ a) → (g.rows ≤ a) ⊎ (g.columns ≤ b) → cell_at g (place a b) ≡ None
-    at (inr below) outside = ap (λ (row : List A). slice_get row b) (get_or_past g.cells a [] (omega (arith, even.tall, below)))
-    at (inl above) (inl below) = absurd (omega (arith, above, below))
-    at (inl above) (inr right) =
-        let wide = All-from_recursion _ g.cells even.wide a [] (omega (arith, even.tall, above)) in
-        slice_get_past (get_or g.cells a []) b (omega (arith, wide, right))

@@ -25,7 +25,7 @@ use Rattle.tabled_grid.specs.Pieces.{nth_piece}
 use Rattle.tabled_settings.specs.declared.split.Display.{Display}
 use Rattle.tabled_settings.specs.declared.split.Display.TheVariants.{Retain}
 use Rattle.tabled_settings.specs.Pieces.{cut_rows, piece, piece_at, staying, stays, stays_at, oriented}
-use Rattle.tabled_settings.proofs.LineReads.{same_cells}
+use Rattle.tabled_settings.proofs.SameCells.{same_cells}
 use Rattle.tabled_settings.proofs.Rotated.{as_wide}
 use Rattle.std.proofs.Math.ListN.{get_or-map}
 use Rattle.tabled_settings.specs.Lines.{line_cells}

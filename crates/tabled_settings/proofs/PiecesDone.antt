@@ -29,7 +29,8 @@ use Rattle.tabled_settings.specs.PieceTexts.{has_text}
 use Rattle.tabled_grid.specs.Axis.{across, count_of, place_in}
 use Rattle.tabled_grid.specs.Pieces.{nth_piece}
 use Rattle.tabled_settings.specs.Pieces.{has_pieces, is_text, piece_at, split, staying, stays, stays_at, oriented}
-use Rattle.tabled_settings.proofs.LineReads.{counted, none_outside}
+use Rattle.tabled_settings.proofs.LineReads.{counted}
+use Rattle.tabled_settings.proofs.SameCells.{none_outside}
 use Rattle.tabled_settings.proofs.PieceReads.{all_retained, at_line, filter_below, filter_some, first_number, length-piece, piece_text, pieces_are, some_inside, turned_cell, turned_columns, turned_even, turned_rows}
 use Rattle.tabled_settings.proofs.RisingLists.{range_rises}
 use Rattle.tabled_settings.proofs.Rotated.{as_wide}

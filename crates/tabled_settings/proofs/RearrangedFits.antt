@@ -1,5 +1,5 @@
--- Options keep merged cells inside the table and apart.
-use Rattle.std.proofs.Common.{◌≡◌, ℕ, Bool, true, false, List, ap, refl, [], inl, inr, take}
+-- Rearrangements keep merged cells inside the table and apart.
+use Rattle.std.proofs.Common.{◌≡◌, ℕ, Bool, true, false, List, ap, refl}
 use Rattle.tabled_grid.specs.Grid.{Grid, map_grid}
 use Rattle.tabled_grid.specs.Places.{Places, ReadsThrough}
 use Rattle.tabled_grid.specs.Fitting.{Fits}
@@ -15,10 +15,6 @@ use Rattle.tabled_settings.specs.Pieces.{has_pieces}
 use Rattle.tabled_settings.specs.Rearranged.{Rearranges, Removes, carried_if, removed, reversed, reverses}
 use Rattle.tabled_settings.specs.declared.split.Split.{Split}
 use Rattle.tabled_spans.proofs.PanelGeometry.{same_fits}
-use Rattle.tabled_grid.specs.declared.config.entity.Entity.{Entity}
-use Rattle.tabled_options.proofs.Shapes.{fits_kept, shape_texts}
-use Rattle.tabled_settings.specs.Dups.{Duplicates, DuplicatesFirst, dup_writes}
-use Rattle.tabled_settings.specs.Rewrites.{Asking, Rewrites, RewritesBefore}
 
 -- what is carried along fits the new shape
 pub carried_fit : (places : Places) (rows columns tall wide : ℕ) (c d : SpanMap) → Fits c rows columns → tall ≡ places.rows → wide ≡ places.columns → d ≡ carried places rows columns c → Fits d tall wide
@@ -68,18 +64,3 @@ module _ {A : Type 0} where
     done = λ g c h d fits does. carried_fit (joined_places (corner_of axis g.rows g.columns) second g.rows g.columns) g.rows g.columns h.rows h.columns c d fits does.0.first.rows does.0.first.columns does.1;
     refused = same_fits;
   }
-
-module _ {A : Type 0} (text_of : A → List ℕ) where
-  pub rewrites_keep : {S : Type 0} (asks : Asking S) (first : S) (e : Entity) → OptionKeeps FitsIn (Rewrites text_of asks first e) (RewritesBefore text_of asks first e)
-  rewrites_keep asks first e = fits_kept _ _
-      (record { each = λ g c h d w. shape_texts text_of w.0.writes g h c d w.0.is w.1 })
-      (record { each = λ g c h d w. shape_texts text_of w.0.before.writes g h c d w.0.before.is w.1 })
-
-  pub duplicates_keep : (destination source : Grid A → List Entity → Type 0) → OptionKeeps FitsIn (Duplicates text_of destination source) (DuplicatesFirst text_of destination source)
-  duplicates_keep destination source = fits_kept _ _
-      (record { each = λ g c h d w. shape_texts text_of (dup_writes w.0 w.1 (map_grid text_of g)) g h c d w.4.0 w.4.1 })
-      (record { each = λ g c h d w. left g c h d w })
-    where
-      left : (g : Grid A) (c : SpanMap) (h : Grid A) (d : SpanMap) → DuplicatesFirst text_of destination source g c h d → (h.rows ≡ g.rows) × (h.columns ≡ g.columns) × (d ≡ c)
-      left g c h d (inl (is, same)) = shape_texts text_of [] g h c d (ap (map_grid text_of) is) same
-      left g c h d (inr (sources, targets, from, to, first)) = shape_texts text_of (take first.0.count (dup_writes sources targets (map_grid text_of g))) g h c d first.0.is first.1

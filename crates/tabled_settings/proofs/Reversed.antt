@@ -4,7 +4,7 @@ use Rattle.std.specs.List.{swap}
 use Rattle.std.proofs.lemmas.Bool.Decides.{nat_tests}
 use Rattle.std.proofs.lemmas.List.{map-id}
 use Rattle.std.proofs.lemmas.Simd.{map-map}
-use Rattle.std.proofs.lemmas.Bool.{cases_eq, cases_lt, le-leb, lt-leb, lt-ltb}
+use Rattle.std.proofs.lemmas.Bool.{cases_eq, cases_lt, le-leb, lt-ltb}
 use Rattle.std.proofs.lemmas.List.Edits.{Swapped}
 use Rattle.tabled_grid.specs.Along.{along, count_along}
 use Rattle.tabled_grid.specs.Grid.{Grid, IsEven}
@@ -97,10 +97,6 @@ index_inside s e n i fits h l = rw (le-leb e n fits, le-leb s i h, lt-ltb i e l)
 pub index_outside : (s e n i : ℕ) → (i < s) ⊎ (e ≤ i) → reversed_index s e n i ≡ i
 index_outside s e n i (inl less) = grind (arith, nat_tests)
 index_outside s e n i (inr past) = grind (arith, nat_tests)
-
--- nothing is reversed where there are no lines between the two ends, or where the last one is past them
-pub not_fitting : (s e n i : ℕ) → n < e → reversed_index s e n i ≡ i
-not_fitting s e n i past = rw (lt-leb e n past) refl
 
 module _ {A : Type 0} (axis : Axis) (s e : ℕ) where
   pub reversed_read : (n : ℕ) (g new : Grid A) → n ≡ count_along axis g → e ≤ n → ReversesLines axis s e g new → ReadsThrough (lines_from axis (reversed_index s e n) g.rows g.columns) g new

@@ -11,7 +11,7 @@ use Rattle.tabled_carry.specs.Images.{LeadsBack, Takes}
 use Rattle.tabled_carry.proofs.RectanglesCarried.{takes_one}
 use Rattle.tabled_settings.specs.Places.{IsTakenOnce, lines_from}
 use Rattle.tabled_settings.proofs.AlongLines.{taken, takes}
-use Rattle.tabled_settings.proofs.LineReads.{same_cells}
+use Rattle.tabled_settings.proofs.SameCells.{same_cells}
 
 -- the cell at a place that takes one
 read_at : {A : Type 0} (places : Places) (g h : Grid A) (p q : Position) → ReadsThrough places g h → Takes places p q → cell_at h p ≡ cell_at g q

@@ -1,4 +1,4 @@
-use Rattle.tabled_settings.proofs.RearrangedFits.{duplicates_keep}
+use Rattle.tabled_settings.proofs.WritersKeep.{duplicates_keep}
 use Rattle.tabled_settings.proofs.laws.duplicates_keep_merged_cells_fitting.Goals as goal
 
 pub returns : goal.returns

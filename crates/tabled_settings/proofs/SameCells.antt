@@ -1,0 +1,27 @@
+-- Grids that have the same cells.
+use Rattle.std.proofs.Common.{◌≡◌, ℕ, ◌<◌, ◌≤◌, ◌⊎◌, inl, inr, List, [], None, ap, ◌∙◌, get_or, arith}
+use Rattle.std.specs.Prelude.{slice_get}
+use Rattle.std.proofs.lemmas.Bool.{cases_lt}
+use Rattle.std.proofs.lemmas.List.{get_or_past}
+use Rattle.std.proofs.lemmas.List.Elements.{All-from_recursion}
+use Rattle.std.proofs.lemmas.Option.{slice_get_past}
+use Rattle.tabled_grid.specs.Entity.{place}
+use Rattle.tabled_grid.specs.Grid.{Grid, IsEven, cell_at}
+use Rattle.tabled_grid.proofs.Across.{same_grid}
+use Rattle.tabled_grid.proofs.Transposed.{same_rows}
+
+pub same_cells : {A : Type 0} (g h : Grid A) → IsEven g → IsEven h → g.rows ≡ h.rows → g.columns ≡ h.columns → ((a b : ℕ) → a < h.rows → b < h.columns → cell_at g (place a b) ≡ cell_at h (place a b)) → g ≡ h
+same_cells g h g_even h_even rows columns each =
+    same_grid g.rows h.rows g.columns h.columns g.cells h.cells rows columns
+    (same_rows h.rows h.columns g.cells h.cells (g_even.tall ∙ rows) h_even.tall (rw columns at g_even.wide) h_even.wide each)
+
+-- outside there is none
+pub none_outside : {A : Type 0} (g : Grid A) (a b : ℕ) → IsEven g → (g.rows ≤ a) ⊎ (g.columns ≤ b) → cell_at g (place a b) ≡ None
+none_outside {A} g a b even outside = at (cases_lt a g.rows) outside
+  where
+    at : (a < g.rows) ⊎ (g.rows ≤ a) → (g.rows ≤ a) ⊎ (g.columns ≤ b) → cell_at g (place a b) ≡ None
+    at (inr below) outside = ap (λ (row : List A). slice_get row b) (get_or_past g.cells a [] (omega (arith, even.tall, below)))
+    at (inl above) (inl below) = absurd (omega (arith, above, below))
+    at (inl above) (inr right) =
+        let wide = All-from_recursion _ g.cells even.wide a [] (omega (arith, even.tall, above)) in
+        slice_get_past (get_or g.cells a []) b (omega (arith, wide, right))
