@@ -47,6 +47,7 @@ impl ShortText {
     pub(crate) fn as_str(&self) -> &str
         ensures { result.now ≡ self.now }
     {
+        // That these bytes are UTF-8 is the invariant, and proved, so they aren't tested again.
         unsafe { str::from_utf8_unchecked(&self.bytes[..self.len as usize]) }
     }
 }
