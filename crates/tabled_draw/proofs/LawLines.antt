@@ -1,15 +1,12 @@
 -- A line of a picture, from its left edge to its right one.
-use Rattle.std.proofs.Common.{◌≡◌, ◌≢◌, ◌∙◌, ◌+◌, ◌-◌, ◌<◌, ◌≤◌, ◌⊎◌, ◌++◌, inl, inr, ℕ, Bool, true, false, cond, suc, zero, List, [], ◌∷◌, Option, None, Some, refl, sym, ap, ap₂, subst, arith, get_or, replicate, add-one, add-zero, eqb, append_assoc, append-nil}
-use Rattle.std.specs.Prelude.{◌&&◌}
-use Rattle.std.specs.Option.{unwrap_or}
+use Rattle.std.proofs.Common.{◌≡◌, ◌≢◌, ◌∙◌, ◌+◌, ◌-◌, ◌<◌, ◌≤◌, ◌⊎◌, ◌++◌, inl, inr, ℕ, Bool, true, false, cond, suc, zero, List, [], ◌∷◌, Option, None, Some, refl, sym, ap, ap₂, subst, arith, get_or, replicate, add-one, add-zero, eqb, append_assoc, append-nil, ◌&&◌, unwrap_or, eq-eqb, ne_eqb}
 use Rattle.std.proofs.lemmas.Bool.{and_from, cases_Bool, cases_lt, cond-true, cond-false, false≢true}
 use Rattle.std.proofs.lemmas.List.Sums.{sum_by-append, sum_by-cons}
 use Rattle.std.proofs.lemmas.Option.{same_Some}
 use Rattle.std.proofs.Math.Bool.{and-false}
-use borrow.Author.Tests.{eq-eqb, ne_eqb}
 use Rattle.tabled_draw.proofs.Each.{split-each}
 use Rattle.tabled_draw.proofs.Owned.{LieWell, LiesIn, Owns, owner-both, owner-left, owner-owns, owner-right, owner-some}
-use Rattle.tabled_draw.proofs.LawSizes.{length-sizes, line-least, room-end, room-enough, start-next}
+use Rattle.tabled_draw.proofs.Sizes.{length-sizes, line-least, room-end, room-enough, start-next}
 use Rattle.tabled_draw.specs.Each.{each}
 use Rattle.tabled_draw.specs.Owners.{is_one, owner}
 use Rattle.tabled_draw.specs.Picture.{left, picture_line, shows, shows_in, border_stretch, top}

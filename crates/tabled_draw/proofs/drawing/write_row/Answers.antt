@@ -1,6 +1,6 @@
 use Rattle.std.proofs.Common.{◌≡◌, ◌∙◌, ◌+◌, ◌-◌, ◌<◌, ◌≤◌, ℕ, [], None, add-zero, ap, ap₂, arith, get_or, length, refl, subst, sym}
 use Rattle.std.specs.FinMap.{entries}
-use Rattle.tabled_draw.proofs.LawSizes.{start-next}
+use Rattle.tabled_draw.proofs.Sizes.{start-next}
 use Rattle.tabled_draw.specs.Rests.{bytes_in}
 use Rattle.tabled_draw.proofs.Rows.{all-below, between, end-inside, first-below, in-row, left-in_row, left-next_row, more-below}
 use Rattle.tabled_draw.proofs.Sent.{draws-as, draws-then}

@@ -1,7 +1,5 @@
-use Rattle.std.proofs.Common.{◌≡◌, ◌∙◌, arith, ap, ap₂, get_or, length, refl}
-use Rattle.std.proofs.Math.ListN.{length-set}
-use Rattle.tabled_draw.proofs.LawSizes.{lies-along}
-use Rattle.tabled_draw.proofs.Sizes.{anchor-at, grown-all, grown-more}
+use Rattle.std.proofs.Common.{◌≡◌, ◌∙◌, arith, ap, ap₂, get_or, length, refl, length-set}
+use Rattle.tabled_draw.proofs.Sizes.{lies-along, anchor-at, grown-all, grown-more}
 use Rattle.tabled_draw.specs.Sizes.{grown_sizes}
 use Rattle.tabled_grid.specs.Axis.{line_of, lines_in}
 use Rattle.tabled_grid.specs.Grid.{map_grid}

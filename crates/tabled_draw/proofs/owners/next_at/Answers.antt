@@ -1,6 +1,6 @@
 use Rattle.std.proofs.Common.{◌≡◌, ◌≢◌, ◌∙◌, sym, ap, arith, false}
 use Rattle.std.proofs.lemmas.Bool.{false≢true}
-use Rattle.tabled_draw.proofs.Before.{count-here, count-later, size-here, size-later}
+use Rattle.tabled_draw.proofs.Owned.{count-here, count-later, size-here, size-later}
 use Rattle.tabled_grid.proofs.SpanMaps.{same_place-self, same_place-true}
 use Rattle.tabled_grid.specs.Entity.{same_place}
 use Rattle.tabled_grid.specs.declared.config.position.Position.{Position}

@@ -1,8 +1,7 @@
 use Rattle.std.proofs.Common.{◌≡◌, ◌∙◌, ◌+◌, ◌<◌, None, Some, sym, ap, arith}
 use Rattle.std.proofs.lemmas.List.{get_or_default}
 use Rattle.std.specs.FinMap.{entries}
-use Rattle.tabled_draw.proofs.Before.{count-row}
-use Rattle.tabled_draw.proofs.Owned.{chosen-owner, fits-well, owner-inside, row-first, row-last, row-more}
+use Rattle.tabled_draw.proofs.Owned.{count-row, chosen-owner, fits-well, owner-inside, row-first, row-last, row-more}
 use Rattle.tabled_draw.specs.OwnerRows.{chosen, count_before}
 use Rattle.tabled_draw.specs.Owners.{owner}
 use Rattle.tabled_grid.specs.Entity.{place}

@@ -1,5 +1,5 @@
--- Merged cells that fit a table lie well, and so do those that are kept of any.
-use Rattle.std.proofs.Common.{◌≡◌, ◌∙◌, ℕ, List, sym, ap, subst}
+-- Merged cells that fit a table, and those that are kept of any.
+use Rattle.std.proofs.Common.{◌≡◌, ◌∙◌, ℕ, List, sym, ap, subst, ap₂}
 use Rattle.std.specs.FinMap.{entries, entries-from_sorted, from_sorted}
 use Rattle.tabled_draw.proofs.Owned.{LieWell, fits-well}
 use Rattle.tabled_draw.specs.Overall.{HoldsOfPictures}
@@ -8,6 +8,7 @@ use Rattle.tabled_grid.proofs.Fitting.{anchors-fitting, anchors-of, fitting-fits
 use Rattle.tabled_grid.specs.Fitting.{Fits, fitting, keep_fitting}
 use Rattle.tabled_grid.specs.Grid.{Grid}
 use Rattle.tabled_grid.specs.Spans.{AreAnchors, AreSpanSizes, Rectangle, SpanMap, position_cmp}
+use Rattle.tabled_grid.proofs.SortedAnchors.{anchors-of}
 
 pub kept-well : (m : SpanMap) (rows columns : ℕ) → AreSpanSizes m → LieWell rows columns (fitting rows columns (entries m))
 kept-well m rows columns sizes =
@@ -39,3 +40,16 @@ drawn-kept g m sizes =
     let kept = fitting g.rows g.columns (entries m) in
     let valid : AreAnchors kept = anchors-fitting g.rows g.columns (entries m) (anchors-of m sizes) in
     ap (picture_bytes g) (sym (entries-from_sorted position_cmp kept valid.sorted) ∙ sym (fitting-all (keep_fitting g.rows g.columns m) g.rows g.columns (keep_fitting-fits g.rows g.columns m sizes)))
+
+-- ---- tables that are laid out
+
+module _ (g : Grid (List ℕ)) (m kept : SpanMap) (rows columns : ℕ) (is_rows : rows ≡ g.rows) (is_columns : columns ≡ g.columns) (is : kept ≡ keep_fitting rows columns m) (valid : AreSpanSizes m) where
+  pub fits-of : Fits kept g.rows g.columns
+  fits-of = rw (is, is_rows, is_columns) (keep_fitting-fits g.rows g.columns m valid)
+
+  -- the bytes are those of the merged cells that fit
+  pub bytes-drawn : picture_bytes g (entries kept) ≡ drawn g m
+  unfolding drawn
+  bytes-drawn =
+      ap (λ k. picture_bytes g (entries k)) (is ∙ ap₂ (λ r c. keep_fitting r c m) is_rows is_columns)
+      ∙ ap (picture_bytes g) (entries-from_sorted position_cmp (fitting g.rows g.columns (entries m)) (anchors-fitting g.rows g.columns (entries m) (anchors-of m valid)).sorted)
