@@ -1,8 +1,7 @@
 -- A line of a picture, from its left edge to its right one.
 use Rattle.std.proofs.Common.{◌≡◌, ◌≢◌, ◌∙◌, ◌+◌, ◌-◌, ◌<◌, ◌≤◌, ◌⊎◌, ◌++◌, inl, inr, ℕ, Bool, true, false, cond, suc, zero, List, [], ◌∷◌, Option, None, Some, refl, sym, ap, ap₂, subst, arith, get_or, replicate, add-one, add-zero, eqb, append_assoc, append-nil, ◌&&◌, unwrap_or, eq-eqb, ne_eqb}
-use Rattle.std.proofs.lemmas.Bool.{and_from, cases_Bool, cases_lt, cond-true, cond-false, false≢true}
+use Rattle.std.proofs.lemmas.Bool.{false_from_ne_true, and_from, cases_Bool, cases_lt, cond-true, cond-false, false≢true}
 use Rattle.std.proofs.lemmas.List.Sums.{sum_by-append, sum_by-cons}
-use Rattle.std.proofs.lemmas.Option.{same_Some}
 use Rattle.std.proofs.Math.Bool.{and-false}
 use Rattle.tabled_draw.proofs.Each.{split-each}
 use Rattle.tabled_draw.proofs.Owned.{LieWell, LiesIn, Owns, owner-both, owner-left, owner-owns, owner-right, owner-some}
@@ -120,16 +119,12 @@ module _ (g : Grid (List ℕ)) (es : List Rectangle) (well : LieWell g.rows g.co
 
     -- where no owner is all round an edge
     not-joint : (j : ℕ) → ((o : Rectangle) → up j ≡ Some o → up (j + 1) ≡ Some o → down j ≡ Some o → down (j + 1) ≡ Some o → ⊥) → joint j ≡ false
-    not-joint j never = by (cases_Bool (joint j))
-      where
-        by : (joint j ≡ true) ⊎ (joint j ≡ false) → joint j ≡ false
-        by (inr f) = f
-        by (inl t) =
-            let parts = joint-parts j t in
-            let a = owner-both g.rows g.columns es well u j u (j + 1) parts.0 in
-            let b = owner-both g.rows g.columns es well u j d j parts.1 in
-            let c = owner-both g.rows g.columns es well u j d (j + 1) parts.2 in
-            absurd (never a.0 a.1 a.2 (b.2 ∙ sym b.1 ∙ a.1) (c.2 ∙ sym c.1 ∙ a.1))
+    not-joint j never = false_from_ne_true (joint j) (λ t. (
+        let parts = joint-parts j t in
+        let a = owner-both g.rows g.columns es well u j u (j + 1) parts.0 in
+        let b = owner-both g.rows g.columns es well u j d j parts.1 in
+        let c = owner-both g.rows g.columns es well u j d (j + 1) parts.2 in
+        never a.0 a.1 a.2 (b.2 ∙ sym b.1 ∙ a.1) (c.2 ∙ sym c.1 ∙ a.1)))
 
     stretch-one : (l r size : ℕ) → all_one (up l) (up r) (down l) (down r) ≡ true → border_stretch g es n u d l r size ≡ shows_in g es n l r (up l)
     stretch-one l r size t = cond-true (all_one (up l) (up r) (down l) (down r)) (shows_in g es n l r (up l)) (replicate size (mark l r)) t
@@ -167,19 +162,16 @@ module _ (g : Grid (List ℕ)) (es : List Rectangle) (well : LieWell g.rows g.co
         b : Owns g.rows g.columns es d (j + 1) o
         b = owner-owns g.rows g.columns es well d (j + 1) o f
 
-        ends : o.0.col + o.1.width ≡ j + 1 → (joint (j + 1) ≡ true) ⊎ (joint (j + 1) ≡ false) → joint (j + 1) ≡ false
-        ends last (inr apart) = apart
-        ends last (inl one) =
-            let both = owner-both g.rows g.columns es well u (j + 1) u (j + 1 + 1) (joint-parts (j + 1) one).0 in
-            let same : o ≡ both.0 = same_Some _ _ (sym e ∙ both.1) in
-            let far = owner-owns g.rows g.columns es well u (j + 1 + 1) o (both.2 ∙ ap Some (sym same)) in
-            absurd (omega (arith, far.right))
+        ends : o.0.col + o.1.width ≡ j + 1 → joint (j + 1) ≡ false
+        ends last = not-joint (j + 1) (λ p at next at' next'. (
+            let far = owner-owns g.rows g.columns es well u (j + 1 + 1) o (next ∙ sym at ∙ e) in
+            omega (arith, far.right)))
 
         by : (j + 1 < o.0.col + o.1.width) ⊎ (o.0.col + o.1.width ≤ j + 1) → Reached (j + 1) w
         by (inl more) = inside o e f (a.all u (j + 1 + 1) a.top a.bottom (omega (arith, a.left)) (omega arith)) (b.all d (j + 1 + 1) b.top b.bottom (omega (arith, b.left)) (omega arith)) is
         by (inr last) =
             let same : o.0.col + o.1.width ≡ j + 1 = omega (arith, a.right) in
-            edge (ends same (cases_Bool (joint (j + 1)))) (is ∙ ap (left g es) same)
+            edge (ends same) (is ∙ ap (left g es) same)
 
     columns-part : (j x y : ℕ) → text_width (edge_at j) ≡ x → text_width (column_at j) ≡ y → text_width (part j) ≡ x + y
     columns-part j x y e f = columns-append (edge_at j) (column_at j) ∙ ap₂ (λ x y. x + y) e f
@@ -301,13 +293,9 @@ module _ (g : Grid (List ℕ)) (es : List Rectangle) (well : LieWell g.rows g.co
     pub dashes-stand : (j : ℕ) → j < g.columns → u ≢ d → ((o : Rectangle) → up (j + 1) ≡ Some o → down (j + 1) ≡ Some o → ⊥) → StandsIn (picture_line g es n u d) (left g es j + 1) (replicate (left g es (j + 1) - left g es j - 1) 45)
     dashes-stand j less between never =
         let size = get_or (widths g es) j 0 + 2 in
-        let is : column_at j ≡ replicate size 45 = stretch-apart (j + 1) (j + 1) size (all-not_down (up (j + 1)) (up (j + 1)) (down (j + 1)) (down (j + 1)) (two (cases_Bool (is_one (up (j + 1)) (down (j + 1)))))) ∙ ap (replicate size) (ap₂ (λ x y. cond x 124 (cond y 45 43)) (ne_eqb u d between) (eq-eqb (j + 1) (j + 1) refl)) in
+        let is : column_at j ≡ replicate size 45 = stretch-apart (j + 1) (j + 1) size (all-not_down (up (j + 1)) (up (j + 1)) (down (j + 1)) (down (j + 1)) (false_from_ne_true _ (λ t. (let both = owner-both g.rows g.columns es well u (j + 1) d (j + 1) t in never both.0 both.1 both.2)))) ∙ ap (replicate size) (ap₂ (λ x y. cond x 124 (cond y 45 43)) (ne_eqb u d between) (eq-eqb (j + 1) (j + 1) refl)) in
         let many : size ≡ left g es (j + 1) - left g es j - 1 = omega (arith, left-next j less) in
         subst (StandsIn (picture_line g es n u d) (left g es j + 1)) (is ∙ ap (λ k. replicate k 45) many) (column-stands j less (not-joint j (λ o e e' f f'. never o e' f')))
-      where
-        two : (is_one (up (j + 1)) (down (j + 1)) ≡ true) ⊎ (is_one (up (j + 1)) (down (j + 1)) ≡ false) → is_one (up (j + 1)) (down (j + 1)) ≡ false
-        two (inr f) = f
-        two (inl t) = let both = owner-both g.rows g.columns es well u (j + 1) d (j + 1) t in absurd (never both.0 both.1 both.2)
 
     -- what a cell shows stands at its left edge
     pub cell-stands : (j : ℕ) (o : Rectangle) → j < g.columns → o.0.col ≡ j → up (j + 1) ≡ Some o → down (j + 1) ≡ Some o → StandsIn (picture_line g es n u d) (left g es j + 1) (shows g es n o)
@@ -315,6 +303,5 @@ module _ (g : Grid (List ℕ)) (es : List Rectangle) (well : LieWell g.rows g.co
       where
         begins : (p : Rectangle) → up j ≡ Some p → up (j + 1) ≡ Some p → down j ≡ Some p → down (j + 1) ≡ Some p → ⊥
         begins p a a' b b' =
-            let same : o ≡ p = same_Some _ _ (sym e ∙ a') in
-            let far = owner-owns g.rows g.columns es well u j o (a ∙ ap Some (sym same)) in
+            let far = owner-owns g.rows g.columns es well u j o (a ∙ sym a' ∙ e) in
             omega (arith, far.left)

@@ -149,28 +149,29 @@ module _ (g : Grid (List ℕ)) (es : List Rectangle) where
       by (inl less) go = wider (go less)
       by (inr more) go = here (cases_lt n (top g es (a + h) + 1)) more
 
+  -- what is said of every line
+  pub all-lines : (P : List ℕ → Type 0) → ((n u d : ℕ) → P (picture_line g es n u d)) → AllByRecursion P (picture g es)
+  all-lines P line = by ((g.rows == 0) || (g.columns == 0))
+    where
+      row : (i : ℕ) → AllByRecursion P (lines_of_row g es i)
+      row i = (line (top g es i) i (i + 1), all-each P (λ y. picture_line g es (top g es i + 1 + y) (i + 1) (i + 1) ∷ []) (λ y. (line (top g es i + 1 + y) (i + 1) (i + 1), tt)) (get_or (heights g es) i 0))
+
+      by : (b : Bool) → AllByRecursion P (cond b [] (each g.rows (lines_of_row g es) ++ (picture_line g es (top g es g.rows) g.rows (g.rows + 1) ∷ [])))
+      by true = tt
+      by false = all-append P (each g.rows (lines_of_row g es)) (picture_line g es (top g es g.rows) g.rows (g.rows + 1) ∷ []) (all-each P (lines_of_row g es) row g.rows) (line (top g es g.rows) g.rows (g.rows + 1), tt)
+
 module _ (g : Grid (List ℕ)) (es : List Rectangle) (well : LieWell g.rows g.columns es) where
   pub equally-wide : AreEquallyWide g es
-  equally-wide = by ((g.rows == 0) || (g.columns == 0))
-    where
-      row : (i : ℕ) → AllByRecursion (λ picture_line. text_width picture_line ≡ left g es g.columns + 1) (lines_of_row g es i)
-      row i = (line-wide g es well (top g es i) i (i + 1), all-each (λ picture_line. text_width picture_line ≡ left g es g.columns + 1) (λ y. picture_line g es (top g es i + 1 + y) (i + 1) (i + 1) ∷ []) (λ y. (line-wide g es well (top g es i + 1 + y) (i + 1) (i + 1), tt)) (get_or (heights g es) i 0))
-
-      by : (b : Bool) → AllByRecursion (λ picture_line. text_width picture_line ≡ left g es g.columns + 1) (cond b [] (each g.rows (lines_of_row g es) ++ (picture_line g es (top g es g.rows) g.rows (g.rows + 1) ∷ [])))
-      by true = tt
-      by false = all-append (λ picture_line. text_width picture_line ≡ left g es g.columns + 1) (each g.rows (lines_of_row g es)) (picture_line g es (top g es g.rows) g.rows (g.rows + 1) ∷ []) (all-each (λ picture_line. text_width picture_line ≡ left g es g.columns + 1) (lines_of_row g es) row g.rows) (line-wide g es well (top g es g.rows) g.rows (g.rows + 1), tt)
+  equally-wide = all-lines g es (λ picture_line. text_width picture_line ≡ left g es g.columns + 1) (line-wide g es well)
 
   -- ---- what a cell shows
 
   module _ (p : Position) (it : IsSeen g es p) where
-    inside : IsInside g p
-    inside = it.inside
-
     self : (owner_in es p).0 ≡ p
     self = owner-self es p it.seen
 
     lies : LiesIn g.rows g.columns (owner_in es p)
-    lies = owner-lies g.rows g.columns es well p inside.row inside.col
+    lies = owner-lies g.rows g.columns es well p it.inside.row it.inside.col
 
     row_is : (owner_in es p).0.row ≡ p.row
     row_is = ap (λ (q : Position). q.row) self
@@ -179,23 +180,17 @@ module _ (g : Grid (List ℕ)) (es : List Rectangle) (well : LieWell g.rows g.co
     col_is = ap (λ (q : Position). q.col) self
 
     owns : (r : ℕ) → p.row < r → r ≤ p.row + (owner_in es p).1.height → owner g.rows g.columns es r (p.col + 1) ≡ Some (owner_in es p)
-    owns r above below = (owner-owns g.rows g.columns es well (p.row + 1) (p.col + 1) (owner_in es p) (owner-inside g.rows g.columns es p.row p.col inside.row inside.col)).all r (p.col + 1) (omega (arith, row_is)) (omega (arith, row_is)) (omega (arith, col_is)) (omega (arith, col_is, lies.wide))
+    owns r above below = (owner-owns g.rows g.columns es well (p.row + 1) (p.col + 1) (owner_in es p) (owner-inside g.rows g.columns es p.row p.col it.inside.row it.inside.col)).all r (p.col + 1) (omega (arith, row_is)) (omega (arith, row_is)) (omega (arith, col_is)) (omega (arith, col_is, lies.wide))
 
     shows-stands : (n : ℕ) → top g es p.row < n → n < top g es (p.row + (owner_in es p).1.height) → StandsAt (picture g es) n (left g es p.col + 1) (shows g es n (owner_in es p))
     shows-stands n low high = by (locate g es p.row (owner_in es p).1.height n (omega (arith, row_is, lies.bottom)) low high)
       where
-        low' : 0 < g.rows
-        low' = omega (arith, inside.row)
-
-        far' : 0 < g.columns
-        far' = omega (arith, inside.col)
-
         by : Where g es p.row (owner_in es p).1.height n → StandsAt (picture g es) n (left g es p.col + 1) (shows g es n (owner_in es p))
         by (border r above below is) =
-            let l : IsLine g es n (picture_line g es n r (r + 1)) = subst (λ k. IsLine g es k (picture_line g es k r (r + 1))) is (line-above g es low' far' r (omega (arith, row_is, lies.bottom))) in
-            stands-at g es n (left g es p.col + 1) (picture_line g es n r (r + 1)) (shows g es n (owner_in es p)) l (cell-stands g es well n r (r + 1) p.col (owner_in es p) inside.col col_is (owns r above (omega arith)) (owns (r + 1) (omega arith) (omega arith)))
+            let l : IsLine g es n (picture_line g es n r (r + 1)) = subst (λ k. IsLine g es k (picture_line g es k r (r + 1))) is (line-above g es (omega (arith, it.inside.row)) (omega (arith, it.inside.col)) r (omega (arith, row_is, lies.bottom))) in
+            stands-at g es n (left g es p.col + 1) (picture_line g es n r (r + 1)) (shows g es n (owner_in es p)) l (cell-stands g es well n r (r + 1) p.col (owner_in es p) it.inside.col col_is (owns r above (omega arith)) (owns (r + 1) (omega arith) (omega arith)))
         by (text r above below x y) =
-            stands-at g es n (left g es p.col + 1) (picture_line g es n (r + 1) (r + 1)) (shows g es n (owner_in es p)) (line-in g es low' far' r n (omega (arith, row_is, lies.bottom)) x y) (cell-stands g es well n (r + 1) (r + 1) p.col (owner_in es p) inside.col col_is (owns (r + 1) (omega arith) (omega arith)) (owns (r + 1) (omega arith) (omega arith)))
+            stands-at g es n (left g es p.col + 1) (picture_line g es n (r + 1) (r + 1)) (shows g es n (owner_in es p)) (line-in g es (omega (arith, it.inside.row)) (omega (arith, it.inside.col)) r n (omega (arith, row_is, lies.bottom)) x y) (cell-stands g es well n (r + 1) (r + 1) p.col (owner_in es p) it.inside.col col_is (owns (r + 1) (omega arith) (omega arith)) (owns (r + 1) (omega arith) (omega arith)))
 
     -- its room
     width-enough : (k : ℕ) → text_width (text_line g p k) ≤ room Columns (widths g es) p.col (owner_in es p).1.width
@@ -302,15 +297,8 @@ module _ (g : Grid (List ℕ)) (es : List Rectangle) where
       (all-each IsNoControl part (λ j. all-append IsNoControl (border_stretch g es n u d j (j + 1) 1) (border_stretch g es n u d (j + 1) (j + 1) (get_or (widths g es) j 0 + 2)) (all-stretch n u d j (j + 1) 1) (all-stretch n u d (j + 1) (j + 1) (get_or (widths g es) j 0 + 2))) g.columns)
       (all-stretch n u d g.columns (g.columns + 1) 1)
 
-  all-row : (i : ℕ) → AllByRecursion AreNoControls (lines_of_row g es i)
-  all-row i = (all-line (top g es i) i (i + 1), all-each AreNoControls (λ y. picture_line g es (top g es i + 1 + y) (i + 1) (i + 1) ∷ []) (λ y. (all-line (top g es i + 1 + y) (i + 1) (i + 1), tt)) (get_or (heights g es) i 0))
-
   pub no-controls : AllByRecursion AreNoControls (picture g es)
-  no-controls = by ((g.rows == 0) || (g.columns == 0))
-    where
-      by : (b : Bool) → AllByRecursion AreNoControls (cond b [] (each g.rows (lines_of_row g es) ++ (picture_line g es (top g es g.rows) g.rows (g.rows + 1) ∷ [])))
-      by true = tt
-      by false = all-append AreNoControls (each g.rows (lines_of_row g es)) (picture_line g es (top g es g.rows) g.rows (g.rows + 1) ∷ []) (all-each AreNoControls (lines_of_row g es) all-row g.rows) (all-line (top g es g.rows) g.rows (g.rows + 1), tt)
+  no-controls = all-lines g es AreNoControls all-line
 
 -- ---- where borders stand in a picture
 

@@ -1,7 +1,7 @@
 -- Who owns a place, and which anchors stand before it.
-use Rattle.std.proofs.Common.{◌≡◌, ◌∙◌, ◌+◌, ◌-◌, ◌<◌, ◌≤◌, ◌⊎◌, inl, inr, ℕ, true, false, List, [], ◌∷◌, Option, None, Some, refl, sym, ap, ap₂, subst, arith, length, get_or, ◌≢◌, cond, suc, zero, ◌&&◌, nat_le, nat_lt, T, unwrap_or, leb-true, ltb-true, get_or-set_same, get_or-set_other, length-set, set}
+use Rattle.std.proofs.Common.{◌≡◌, ◌∙◌, ◌+◌, ◌-◌, ◌<◌, ◌≤◌, ◌⊎◌, inl, inr, ℕ, true, false, List, [], ◌∷◌, Option, None, Some, refl, sym, ap, ap₂, subst, arith, length, get_or, ◌≢◌, cond, suc, zero, ◌&&◌, nat_le, nat_lt, T, unwrap_or, get_or-set_same, get_or-set_other, length-set, set}
 use Rattle.std.specs.FinMap.{entries, entries_sorted, get, get-entries, find, is_sorted}
-use Rattle.std.proofs.lemmas.Bool.{and_parts, cases_Bool, false≢true, cond-true, cond-false}
+use Rattle.std.proofs.lemmas.Bool.{false_from_ne_true, cases_Bool, false≢true, cond-true, cond-false}
 use Rattle.std.proofs.lemmas.Option.{none-some, same_Some}
 use Rattle.tabled_draw.specs.OwnerRows.{IsOwnerRow, chosen, is_held_by, count_before, is_before}
 use Rattle.tabled_draw.specs.Owners.{is_one, owner, owner_in}
@@ -17,7 +17,6 @@ use Rattle.tabled_grid.specs.Spans.{SpanMap, size_at, position_cmp, Rectangle, s
 use Rattle.tabled_grid.specs.declared.config.position.Position.{Position}
 use Rattle.std.proofs.lemmas.Bool.Decides.{nat_tests}
 use Rattle.std.proofs.lemmas.Grind.{common_steps}
-use Rattle.std.specs.Ordering.{is_eq}
 use Rattle.tabled_grid.proofs.PassedAnchors.{Earlier, earlier}
 use Rattle.tabled_grid.specs.declared.config.size.Size.{Size}
 
@@ -111,13 +110,7 @@ owner-some rows columns es i j o e = by (cases_Bool ((nat_lt 0 i && nat_le i row
     by : (((nat_lt 0 i && nat_le i rows) && (nat_lt 0 j && nat_le j columns)) ≡ true) ⊎ (((nat_lt 0 i && nat_le i rows) && (nat_lt 0 j && nat_le j columns)) ≡ false) → Inside rows columns es i j o
     by (inr f) = absurd (none-some _ (sym (cond-false _ _ _ f) ∙ e))
     by (inl t) =
-        let parts : (nat_lt 0 i && nat_le i rows ≡ true) × (nat_lt 0 j && nat_le j columns ≡ true) = and_parts _ _ t in
-        let rs : (nat_lt 0 i ≡ true) × (nat_le i rows ≡ true) = and_parts _ _ parts.0 in
-        let cs : (nat_lt 0 j ≡ true) × (nat_le j columns ≡ true) = and_parts _ _ parts.1 in
-        let r0 : 0 < i = ltb-true _ _ rs.0 in
-        let r1 : i ≤ rows = leb-true _ _ rs.1 in
-        let c0 : 0 < j = ltb-true _ _ cs.0 in
-        let c1 : j ≤ columns = leb-true _ _ cs.1 in
+        let within : (0 < i) × (i ≤ rows) × (0 < j) × (j ≤ columns) = grind (arith, nat_tests) in
         record { row = i - 1; col = j - 1; is_row = omega arith; is_col = omega arith; below = omega arith; right = omega arith; is = same_Some _ _ (sym e ∙ cond-true _ _ _ t) }
 
 -- the same with what it holds
@@ -360,17 +353,10 @@ next-later i j (e ∷ es) d up apart = by (cases_before i j e.0) (next-later i j
     p = place i j
 
     other : e.0 ≢ p → find position_cmp p (e ∷ es) ≡ find position_cmp p es
-    other ne = skip (cases_Bool (is_eq (position_cmp p e.0)))
-      where
-        skip : (is_eq (position_cmp p e.0) ≡ true) ⊎ (is_eq (position_cmp p e.0) ≡ false) → find position_cmp p (e ∷ es) ≡ find position_cmp p es
-        skip (inl t) = absurd (ne (sym (positions_exact p e.0 (equal _ t))))
-        skip (inr f) = cond-false _ _ _ f
+    other ne = cond-false _ _ _ (false_from_ne_true _ (λ t. ne (sym (positions_exact p e.0 (equal _ t)))))
 
     not-before : After i j e.0 → Earlier e.0 p → ⊥
-    not-before (inl h) (inl k) = omega (arith, h, k)
-    not-before (inl h) (inr k) = omega (arith, h, k.0)
-    not-before (inr h) (inl k) = omega (arith, h.0, k)
-    not-before (inr h) (inr k) = omega (arith, h.1, k.1)
+    not-before after before = grind arith
 
     none : After i j e.0 → (r : Option Size) → find position_cmp p es ≡ r → r ≡ None
     none after None is = refl

@@ -1,7 +1,7 @@
 -- The lines of a row, and those of all rows.
 use Rattle.std.proofs.Common.{◌≡◌, ◌∙◌, ◌+◌, ◌-◌, ◌<◌, ◌≤◌, ◌≢◌, ◌⊎◌, ◌++◌, inl, inr, ℕ, true, false, cond, List, [], ◌∷◌, Option, Some, None, refl, sym, ap, ap₂, arith, eqb, replicate, get_or, Bool, append-nil, length, add-zero, ◌&&◌, eq-eqb, ne_eqb}
 use Rattle.std.specs.FinMap.{entries}
-use Rattle.std.proofs.lemmas.Bool.{and_from, cases_eq, cond-true, cond-false, cases_Bool, cases_lt}
+use Rattle.std.proofs.lemmas.Bool.{and_from, cases_eq, cond-true, cond-false, cases_lt}
 use Rattle.std.proofs.Math.Bool.{and-false}
 use Rattle.tabled_draw.proofs.Each.{each-same, each-more}
 use Rattle.tabled_draw.proofs.Sizes.{start-next, length-sizes, room-end}
@@ -14,7 +14,7 @@ use Rattle.tabled_draw.specs.Owners.{is_one, owner, owner_in}
 use Rattle.tabled_draw.specs.Picture.{left, picture_line, shows_in, border_stretch, top, with_newlines, lines_of_row, picture}
 use Rattle.tabled_draw.specs.Sizes.{room, text_of_cell, widths, heights}
 use Rattle.tabled_draw.specs.Texts.{text_width, lines_shown}
-use Rattle.tabled_grid.proofs.SpanMaps.{same_place-self, same_place-true}
+use Rattle.tabled_grid.proofs.SpanMaps.{same_place-self, same_place-apart}
 use Rattle.tabled_grid.specs.Entity.{place, same_place}
 use Rattle.tabled_grid.specs.Grid.{Grid}
 use Rattle.tabled_grid.specs.Fitting.{Fits}
@@ -171,15 +171,11 @@ module _ (g : Grid (List ℕ)) (m : SpanMap) (fits : Fits m g.rows g.columns) wh
       by j o less e begin y (inl above) =
           let over : owner g.rows g.columns (entries m) i (j + 1) ≡ Some o = owner-over m g.rows g.columns fits i (j + 1) o e above in
           let one : is_one (owner g.rows g.columns (entries m) i (j + 1)) (owner g.rows g.columns (entries m) (i + 1) (j + 1)) ≡ true = ap₂ is_one over e ∙ same_place-self o.0 in
-          let apart : same_place o.0 (place i j) ≡ false = never (cases_Bool (same_place o.0 (place i j))) in
+          let apart : same_place o.0 (place i j) ≡ false = same_place-apart o.0 (place i j) (λ at. omega (arith, above, ap (λ (q : Position). q.row) at)) in
           let kept : get_or new j [] ≡ get_or cut j [] = is_new j less ∙ ap (λ (x : Option Rectangle). begun g x (place i j) (get_or cut j [])) e ∙ cond-false _ _ _ apart in
           let next : get_or cut j [] ≡ after_line (get_or old j []) = is_cut j less ∙ cond-true _ _ _ (ap₂ (λ (a : Bool) (x : Option Rectangle). a && begins j x) one over ∙ eq-eqb o.0.col j begin) in
           let low : top g (entries m) o.0.row + 1 ≤ n = omega (arith, top-below g (entries m) o.0.row i above (omega (arith, high)), is_n) in
           ap (λ t. get_or (lines_shown t) y []) (kept ∙ next) ∙ cut-next (get_or old j []) (text_of_cell g o.0) (n - top g (entries m) o.0.row - 1) y (was.each j o less over begin) ∙ ap (λ k. get_or (lines_shown (text_of_cell g o.0)) k []) (omega (arith, low))
-        where
-          never : (same_place o.0 (place i j) ≡ true) ⊎ (same_place o.0 (place i j) ≡ false) → same_place o.0 (place i j) ≡ false
-          never (inl t) = absurd (omega (arith, above, ap (λ (q : Position). q.row) (same_place-true o.0 (place i j) t)))
-          never (inr f) = f
 
 -- ---- lines as they are drawn
 

@@ -1,6 +1,6 @@
 -- Columns are as wide, and rows as high, as what they show asks.
 use Rattle.std.proofs.Common.{◌≡◌, ◌∙◌, ◌+◌, ◌-◌, ◌<◌, ◌≤◌, inl, inr, ℕ, suc, zero, List, [], ◌∷◌, refl, sym, ap, subst, arith, length, get_or, add-zero, add_assoc, eqb, ◌≢◌, ◌⊎◌, true, false, cond, take_all, Option, Some, take, ap₂, replicate, max, fold, length-set, set, eq-eqb, eqb-true, unwrap_or}
-use Rattle.std.proofs.lemmas.Bool.{and_from, cond-true, cases_Bool, cond-false, false≢true, cases_lt}
+use Rattle.std.proofs.lemmas.Bool.{and_from, cases_eq, cond-true, cases_Bool, cond-false, false≢true}
 use Rattle.std.proofs.lemmas.List.{get_or-set_same, get_or-set_other, take_more, ext_get_or, get_or-replicate, length-replicate}
 use Rattle.std.proofs.lemmas.List.Sums.{sum_by_more, fold-append}
 use Rattle.tabled_draw.proofs.Each.{get-singles, length-singles}
@@ -12,13 +12,14 @@ use Rattle.tabled_draw.specs.Sizes.{asks, gap, grown_for, own, own_sizes, room, 
 use Rattle.tabled_draw.specs.Texts.{text_width}
 use Rattle.tabled_grid.proofs.Members.{Member}
 use Rattle.tabled_grid.proofs.SpanMaps.{same_place-self}
+use Rattle.tabled_grid.proofs.PiecePlaces.{place_is}
 use Rattle.tabled_grid.specs.Along.{count_along}
 use Rattle.tabled_grid.specs.Axis.{across, line_of, lines_in, place_in}
 use Rattle.tabled_grid.specs.Entity.{same_place, place}
 use Rattle.tabled_grid.specs.Grid.{Grid, cell_at}
 use Rattle.tabled_grid.specs.declared.config.position.Position.{Position}
 use Rattle.tabled_grid.specs.declared.records.axis.Axis.{Axis}
-use Rattle.tabled_grid.specs.declared.records.axis.Axis.TheVariants.{Rows, Columns}
+use Rattle.tabled_grid.specs.declared.records.axis.Axis.TheVariants.{Columns}
 use Rattle.tabled_grid.specs.Spans.{Rectangle, sized, SpanMap}
 use Rattle.std.proofs.lemmas.Bool.Decides.{nat_tests}
 use Rattle.std.proofs.lemmas.Grind.{common_steps}
@@ -106,9 +107,6 @@ enough-set axis s t at (suc k) need some h larger grew = grind (arith, nat_tests
 one_line : (axis : Axis) → lines_in axis (sized 1 1) ≡ 1
 one_line axis = grind (arith, nat_tests)
 
-pub place_is : (axis : Axis) (p : Position) → place_in axis (line_of axis p) (line_of (across axis) p) ≡ p
-place_is axis p = grind (arith, nat_tests)
-
 -- what lies in a table has rows and columns of it
 pub lies-along : {A : Type 0} (axis : Axis) (g : Grid A) (e : Rectangle) → LiesIn g.rows g.columns e → (1 ≤ lines_in axis e.1) × (line_of axis e.0 + lines_in axis e.1 ≤ count_along axis g)
 lies-along axis g e h1 = grind (arith, nat_tests)
@@ -166,8 +164,7 @@ module _ (axis : Axis) (g : Grid (List ℕ)) where
         all e m = let here = lies-along axis g e (well.lies e m) in (here.0, omega (arith, here.1, length-own))
 
         line_below : (a : Axis) → line_of a p < count_along a g
-        line_below Rows = low
-        line_below Columns = far
+        line_below a = grind (arith, nat_tests)
 
         by : Owned es p o → asks axis (text_of_cell g o.0) ≤ room axis (sizes axis g es) (line_of axis o.0) (lines_in axis o.1)
         by (held m h) =
@@ -347,17 +344,15 @@ module _ (axis : Axis) (g : Grid (List ℕ)) (es : List Rectangle) where
     unfolding asked_at p line
     measured-more new is = record {
       long = ap length is ∙ length-set sizes line _ ∙ was.long;
-      each = λ k less. ap (λ (xs : List ℕ). get_or xs k 0) is ∙ by k less (cases_lt k line) (cases_lt line k);
+      each = λ k less. ap (λ (xs : List ℕ). get_or xs k 0) is ∙ by k less (cases_eq k line);
     }
       where
         apart : (k : ℕ) → k < count_along axis g → k ≢ line → get_or (set sizes line (max (get_or sizes line 0) (own axis g es p))) k 0 ≡ largest (count_along (across axis) g) (asked_at i (j + 1) k)
         apart k less ne = get_or-set_other sizes line k _ 0 ne ∙ was.each k less ∙ largest-same (asked_at i j k) (asked_at i (j + 1) k) (count_along (across axis) g) (λ x within. sym (other k x (λ e. ne (in-line axis k x p e).0)))
 
-        by : (k : ℕ) → k < count_along axis g → (k < line) ⊎ (line ≤ k) → (line < k) ⊎ (k ≤ line) → get_or (set sizes line (max (get_or sizes line 0) (own axis g es p))) k 0 ≡ largest (count_along (across axis) g) (asked_at i (j + 1) k)
-        by k less (inl low) _ = apart k less (λ e. omega (arith, e, low))
-        by k less (inr a) (inl high) = apart k less (λ e. omega (arith, e, high))
-        by k less (inr a) (inr b) =
-            let same : k ≡ line = omega (arith, a, b) in
+        by : (k : ℕ) → k < count_along axis g → (k ≡ line) ⊎ (k ≢ line) → get_or (set sizes line (max (get_or sizes line 0) (own axis g es p))) k 0 ≡ largest (count_along (across axis) g) (asked_at i (j + 1) k)
+        by k less (inr ne) = apart k less ne
+        by k less (inl same) =
             let within : line < length sizes = omega (arith, was.long, line-within axis g i j h w) in
             ap (λ z. get_or (set sizes line (max (get_or sizes line 0) (own axis g es p))) z 0) same ∙ get_or-set_same sizes line _ 0 within
             ∙ ap (λ a. max a (own axis g es p)) (was.each line (line-within axis g i j h w)) ∙ sym here ∙ ap (λ z. largest (count_along (across axis) g) (asked_at i (j + 1) z)) (sym same)
