@@ -154,22 +154,16 @@ module _ (g : Grid (List ℕ)) (es : List Rectangle) (well : LieWell g.rows g.co
 
     -- past a column that one owner has above and below
     past : (j w : ℕ) (o : Rectangle) → up (j + 1) ≡ Some o → down (j + 1) ≡ Some o → w ≡ left g es (o.0.col + o.1.width) → Reached (j + 1) w
-    past j w o e f is = by (cases_lt (j + 1) (o.0.col + o.1.width))
+    past j w o e f is = by (owner-owns g.rows g.columns es well u (j + 1) o e) (owner-owns g.rows g.columns es well d (j + 1) o f) (cases_lt (j + 1) (o.0.col + o.1.width))
       where
-        a : Owns g.rows g.columns es u (j + 1) o
-        a = owner-owns g.rows g.columns es well u (j + 1) o e
-
-        b : Owns g.rows g.columns es d (j + 1) o
-        b = owner-owns g.rows g.columns es well d (j + 1) o f
-
         ends : o.0.col + o.1.width ≡ j + 1 → joint (j + 1) ≡ false
         ends last = not-joint (j + 1) (λ p at next at' next'. (
             let far = owner-owns g.rows g.columns es well u (j + 1 + 1) o (next ∙ sym at ∙ e) in
             omega (arith, far.right)))
 
-        by : (j + 1 < o.0.col + o.1.width) ⊎ (o.0.col + o.1.width ≤ j + 1) → Reached (j + 1) w
-        by (inl more) = inside o e f (a.all u (j + 1 + 1) a.top a.bottom (omega (arith, a.left)) (omega arith)) (b.all d (j + 1 + 1) b.top b.bottom (omega (arith, b.left)) (omega arith)) is
-        by (inr last) =
+        by : Owns g.rows g.columns es u (j + 1) o → Owns g.rows g.columns es d (j + 1) o → (j + 1 < o.0.col + o.1.width) ⊎ (o.0.col + o.1.width ≤ j + 1) → Reached (j + 1) w
+        by a b (inl more) = inside o e f (a.all u (j + 1 + 1) a.top a.bottom (omega (arith, a.left)) (omega arith)) (b.all d (j + 1 + 1) b.top b.bottom (omega (arith, b.left)) (omega arith)) is
+        by a b (inr last) =
             let same : o.0.col + o.1.width ≡ j + 1 = omega (arith, a.right) in
             edge (ends same) (is ∙ ap (left g es) same)
 
@@ -191,28 +185,21 @@ module _ (g : Grid (List ℕ)) (es : List Rectangle) (well : LieWell g.rows g.co
             let wide : text_width (part j) ≡ 1 + (get_or (widths g es) j 0 + 2) = columns-part j 1 _ first (border-wide (j + 1) (j + 1) (get_or (widths g es) j 0 + 2) (all-not_down (up (j + 1)) (up (j + 1)) (down (j + 1)) (down (j + 1)) two)) in
             let to = left-next j less in
             edge (all-not_down (up (j + 1)) (up (j + 1 + 1)) (down (j + 1)) (down (j + 1 + 1)) two) (omega (arith, wide, to, is))
-        by (inl one) = begins (owner-both g.rows g.columns es well u (j + 1) d (j + 1) one)
+        by (inl one) =
+            let both = owner-both g.rows g.columns es well u (j + 1) d (j + 1) one in
+            at both.0 both.1 both.2 (owner-owns g.rows g.columns es well u (j + 1) both.0 both.1) (owner-owns g.rows g.columns es well d (j + 1) both.0 both.2) (cases_lt both.0.0.col j)
           where
-            begins : (o : Rectangle) × (up (j + 1) ≡ Some o) × (down (j + 1) ≡ Some o) → Reached (j + 1) (w + text_width (part j))
-            begins (o, e, f) = at (cases_lt o.0.col j)
-              where
-                a : Owns g.rows g.columns es u (j + 1) o
-                a = owner-owns g.rows g.columns es well u (j + 1) o e
-
-                b : Owns g.rows g.columns es d (j + 1) o
-                b = owner-owns g.rows g.columns es well d (j + 1) o f
-
-                at : (o.0.col < j) ⊎ (j ≤ o.0.col) → Reached (j + 1) (w + text_width (part j))
-                at (inl before) =
-                    let x = a.all u j a.top a.bottom before (omega (arith, a.right)) in
-                    let y = b.all d j b.top b.bottom before (omega (arith, b.right)) in
-                    absurd (false≢true (sym apart ∙ joint-from j o x y e f))
-                at (inr here) =
-                    let col : o.0.col ≡ j = omega (arith, a.left) in
-                    let wide : text_width (part j) ≡ 1 + (room Columns (widths g es) o.0.col o.1.width + 2) = columns-part j 1 _ first (ap text_width (column-shows j o e f col) ∙ shows-wide n u (j + 1) o e) in
-                    let to = left-end o a.lies in
-                    let same : left g es o.0.col ≡ left g es j = ap (left g es) col in
-                    past j (w + text_width (part j)) o e f (omega (arith, wide, to, is, same))
+            at : (o : Rectangle) → up (j + 1) ≡ Some o → down (j + 1) ≡ Some o → Owns g.rows g.columns es u (j + 1) o → Owns g.rows g.columns es d (j + 1) o → (o.0.col < j) ⊎ (j ≤ o.0.col) → Reached (j + 1) (w + text_width (part j))
+            at o e f a b (inl before) =
+                let x = a.all u j a.top a.bottom before (omega (arith, a.right)) in
+                let y = b.all d j b.top b.bottom before (omega (arith, b.right)) in
+                absurd (false≢true (sym apart ∙ joint-from j o x y e f))
+            at o e f a b (inr here) =
+                let col : o.0.col ≡ j = omega (arith, a.left) in
+                let wide : text_width (part j) ≡ 1 + (room Columns (widths g es) o.0.col o.1.width + 2) = columns-part j 1 _ first (ap text_width (column-shows j o e f col) ∙ shows-wide n u (j + 1) o e) in
+                let to = left-end o a.lies in
+                let same : left g es o.0.col ≡ left g es j = ap (left g es) col in
+                past j (w + text_width (part j)) o e f (omega (arith, wide, to, is, same))
 
     begun : Reached 0 0
     begun = edge (ap (λ a. all_one a (up (0 + 1)) (down 0) (down (0 + 1))) (owner-left g.rows g.columns es u)) refl

@@ -95,11 +95,8 @@ module _ (g : Grid (List ℕ)) (es : List Rectangle) where
         let whole : picture g es ≡ each r (lines_of_row g es) ++ (lines_of_row g es r ++ (s.rest ++ end)) = picture-is ∙ ap (λ xs. xs ++ end) s.is ∙ append_assoc (each r (lines_of_row g es)) (lines_of_row g es r ++ s.rest) end ∙ ap (λ xs. each r (lines_of_row g es) ++ xs) (append_assoc (lines_of_row g es r) s.rest end) in
         let before : length (each r (lines_of_row g es)) ≡ top g es r = length-rows r (omega arith) in
         let here : length (lines_of_row g es r) ≡ get_or (heights g es) r 0 + 1 = length-row r in
-        let a : length (each r (lines_of_row g es) ++ (lines_of_row g es r ++ (s.rest ++ end))) ≡ length (each r (lines_of_row g es)) + length (lines_of_row g es r ++ (s.rest ++ end)) = length-append (each r (lines_of_row g es)) (lines_of_row g es r ++ (s.rest ++ end)) in
-        let b : length (lines_of_row g es r ++ (s.rest ++ end)) ≡ length (lines_of_row g es r) + length (s.rest ++ end) = length-append (lines_of_row g es r) (s.rest ++ end) in
-        let all : length (picture g es) ≡ length (each r (lines_of_row g es) ++ (lines_of_row g es r ++ (s.rest ++ end))) = ap length whole in
         record {
-          inside = omega arith;
+          inside = omega (arith, ap length whole, length-append (each r (lines_of_row g es)) (lines_of_row g es r ++ (s.rest ++ end)), length-append (lines_of_row g es r) (s.rest ++ end));
           is = ap (λ (xs : List (List ℕ)). get_or xs (top g es r + y) []) whole ∙ ap (λ k. get_or (each r (lines_of_row g es) ++ (lines_of_row g es r ++ (s.rest ++ end))) (k + y) []) (sym before) ∙ get_or-append-add (each r (lines_of_row g es)) (lines_of_row g es r ++ (s.rest ++ end)) y [] ∙ get_or_append_left (lines_of_row g es r) (s.rest ++ end) [] y (omega arith);
         }
 
@@ -137,17 +134,14 @@ module _ (g : Grid (List ℕ)) (es : List Rectangle) where
       wider (border r x y e) = border r x (omega arith) e
       wider (text r x y e f) = text r x (omega arith) e f
 
-      at : (h ≡ 0) ⊎ (h ≢ 0) → top g es (a + h) ≡ n → Where a (suc h) n
-      at (inl none) e = let same : top g es (a + h) ≡ top g es a = ap (top g es) (let z : a + h ≡ a = omega arith in z) in absurd (omega arith)
-      at (inr some) e = border (a + h) (omega arith) (omega arith) e
-
-      here : (n < top g es (a + h) + 1) ⊎ (top g es (a + h) + 1 ≤ n) → top g es (a + h) ≤ n → Where a (suc h) n
-      here (inl same) least = at (cases_eq h 0) (omega arith)
-      here (inr later) least = text (a + h) (omega arith) (omega arith) (omega arith) past
+      here : (h ≡ 0) ⊎ (h ≢ 0) → (top g es (a + h) ≡ n) ⊎ (top g es (a + h) ≢ n) → top g es (a + h) ≤ n → Where a (suc h) n
+      here (inl none) (inl e) least = let same : top g es (a + h) ≡ top g es a = ap (top g es) (let z : a + h ≡ a = omega arith in z) in absurd (omega arith)
+      here (inr some) (inl e) least = border (a + h) (omega arith) (omega arith) e
+      here _ (inr later) least = text (a + h) (omega arith) (omega arith) (omega arith) past
 
       by : (n < top g es (a + h)) ⊎ (top g es (a + h) ≤ n) → (n < top g es (a + h) → Where a h n) → Where a (suc h) n
       by (inl less) go = wider (go less)
-      by (inr more) go = here (cases_lt n (top g es (a + h) + 1)) more
+      by (inr more) go = here (cases_eq h 0) (cases_eq (top g es (a + h)) n) more
 
   -- what is said of every line
   pub all-lines : (P : List ℕ → Type 0) → ((n u d : ℕ) → P (picture_line g es n u d)) → AllByRecursion P (picture g es)
