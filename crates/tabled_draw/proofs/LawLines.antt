@@ -1,10 +1,10 @@
 -- A line of a picture, from its left edge to its right one.
-use Rattle.std.proofs.Common.{◌≡◌, ◌≢◌, ◌∙◌, ◌+◌, ◌-◌, ◌<◌, ◌≤◌, ◌⊎◌, ◌++◌, inl, inr, ℕ, Bool, true, false, cond, suc, zero, List, [], ◌∷◌, Option, None, Some, refl, sym, ap, ap₂, subst, arith, get_or, replicate, add-one, add-zero, eqb, append_assoc, append-nil, ◌&&◌, unwrap_or, eq-eqb, ne_eqb}
+use Rattle.std.proofs.Common.{◌≡◌, ◌≢◌, ◌∙◌, ◌+◌, ◌-◌, ◌<◌, ◌≤◌, ◌⊎◌, ◌++◌, inl, inr, ℕ, Bool, true, false, cond, suc, zero, List, [], ◌∷◌, Option, Some, refl, sym, ap, ap₂, subst, arith, get_or, replicate, add-one, add-zero, eqb, append_assoc, append-nil, ◌&&◌, unwrap_or, eq-eqb, ne_eqb}
 use Rattle.std.proofs.lemmas.Bool.{false_from_ne_true, and_from, cases_Bool, cases_lt, cond-true, cond-false, false≢true}
 use Rattle.std.proofs.lemmas.List.Sums.{sum_by-append, sum_by-cons}
 use Rattle.std.proofs.Math.Bool.{and-false}
 use Rattle.tabled_draw.proofs.Each.{split-each}
-use Rattle.tabled_draw.proofs.Owned.{LieWell, LiesIn, Owns, owner-both, owner-left, owner-owns, owner-right, owner-some}
+use Rattle.tabled_draw.proofs.Owned.{LieWell, LiesIn, Owns, owner-both, owner-left, owner-owns, owner-some}
 use Rattle.tabled_draw.proofs.Sizes.{length-sizes, line-least, room-end, room-enough, start-next}
 use Rattle.tabled_draw.specs.Each.{each}
 use Rattle.tabled_draw.specs.Owners.{is_one, owner}
@@ -51,17 +51,11 @@ all_one a b c d = (is_one a b && is_one a c) && is_one a d
 all-from : (a b c d : Option Rectangle) (o : Rectangle) → a ≡ Some o → b ≡ Some o → c ≡ Some o → d ≡ Some o → all_one a b c d ≡ true
 all-from a b c d o e f h k = and_from _ _ (and_from _ _ (ap₂ is_one e f ∙ same_place-self o.0) (ap₂ is_one e h ∙ same_place-self o.0)) (ap₂ is_one e k ∙ same_place-self o.0)
 
-all-not_right : (a b c d : Option Rectangle) → is_one a b ≡ false → all_one a b c d ≡ false
-all-not_right a b c d f = ap (λ x. (x && is_one a c) && is_one a d) f
-
 all-not_down : (a b c d : Option Rectangle) → is_one a c ≡ false → all_one a b c d ≡ false
 all-not_down a b c d f = ap (λ x. (is_one a b && x) && is_one a d) f ∙ ap (λ x. x && is_one a d) (and-false (is_one a b))
 
 all-parts : (a b c d : Option Rectangle) → all_one a b c d ≡ true → (is_one a b ≡ true) × (is_one a c ≡ true) × (is_one a d ≡ true)
 all-parts a b c d t = grind (arith, nat_tests)
-
-none-one : (a : Option Rectangle) → is_one a None ≡ false
-none-one a = grind (arith, nat_tests)
 
 module _ (g : Grid (List ℕ)) (es : List Rectangle) (well : LieWell g.rows g.columns es) where
   left-next : (j : ℕ) → j < g.columns → left g es (j + 1) ≡ left g es j + (get_or (widths g es) j 0 + 3)
@@ -213,7 +207,7 @@ module _ (g : Grid (List ℕ)) (es : List Rectangle) (well : LieWell g.rows g.co
 
     -- at the right edge of the table no owner reaches over
     apart-last : joint g.columns ≡ false
-    apart-last = all-not_right (up g.columns) (up (g.columns + 1)) (down g.columns) (down (g.columns + 1)) (ap (is_one (up g.columns)) (owner-right g.rows g.columns es u (g.columns + 1) (omega arith)) ∙ none-one (up g.columns))
+    apart-last = not-joint g.columns (λ o at next at' next'. (let far = owner-owns g.rows g.columns es well u (g.columns + 1) o next in omega (arith, far.right, far.lies.right)))
 
     -- where not one owner is all round an edge, a line has come to that edge
     reached-edge : (j : ℕ) → j ≤ g.columns → joint j ≡ false → text_width (each j part) ≡ left g es j
@@ -247,12 +241,9 @@ module _ (g : Grid (List ℕ)) (es : List Rectangle) (well : LieWell g.rows g.co
             record {
               before = each j part;
               after = column_at j ++ (s.rest ++ edge_at g.columns);
-              is = ap (λ xs. xs ++ edge_at g.columns) s.is ∙ regroup (each j part) (edge_at j) (column_at j) s.rest (edge_at g.columns) ∙ ap (λ xs. each j part ++ (xs ++ (column_at j ++ (s.rest ++ edge_at g.columns)))) edge_is;
+              is = ap (λ xs. xs ++ edge_at g.columns) s.is ∙ rw edge_is (simp append_assoc);
               at = reached-edge j h apart;
             }
-          where
-            regroup : (a b c r l : List ℕ) → (a ++ ((b ++ c) ++ r)) ++ l ≡ a ++ (b ++ (c ++ (r ++ l)))
-            regroup a b c r l = simp append_assoc
         by (inr last) =
             let same : g.columns ≡ j = omega arith in
             record {
@@ -269,12 +260,9 @@ module _ (g : Grid (List ℕ)) (es : List Rectangle) (well : LieWell g.rows g.co
         record {
           before = each j part ++ edge_at j;
           after = s.rest ++ edge_at g.columns;
-          is = ap (λ xs. xs ++ edge_at g.columns) s.is ∙ regroup (each j part) (edge_at j) (column_at j) s.rest (edge_at g.columns);
+          is = ap (λ xs. xs ++ edge_at g.columns) s.is ∙ simp append_assoc;
           at = columns-append (each j part) (edge_at j) ∙ ap₂ (λ x y. x + y) (reached-edge j (omega arith) apart) (border-wide j (j + 1) 1 apart);
         }
-      where
-        regroup : (a b c r l : List ℕ) → (a ++ ((b ++ c) ++ r)) ++ l ≡ (a ++ b) ++ (c ++ (r ++ l))
-        regroup a b c r l = simp append_assoc
 
     -- between two owners stand dashes
     pub dashes-stand : (j : ℕ) → j < g.columns → u ≢ d → ((o : Rectangle) → up (j + 1) ≡ Some o → down (j + 1) ≡ Some o → ⊥) → StandsIn (picture_line g es n u d) (left g es j + 1) (replicate (left g es (j + 1) - left g es j - 1) 45)

@@ -48,12 +48,9 @@ stands-part : (row : List ℕ) (columns : ℕ) (a b c : List ℕ) → StandsIn r
 stands-part row columns a b c s = record {
   before = s.before ++ a;
   after = c ++ s.after;
-  is = s.is ∙ regroup s.before a b c s.after;
+  is = s.is ∙ simp append_assoc;
   at = columns-append s.before a ∙ ap (λ n. n + text_width a) s.at;
 }
-  where
-    regroup : (x a b c y : List ℕ) → x ++ ((a ++ (b ++ c)) ++ y) ≡ (x ++ a) ++ (b ++ (c ++ y))
-    regroup x a b c y = simp append_assoc
 
 module _ (g : Grid (List ℕ)) (es : List Rectangle) where
   -- ---- which line of the picture is which

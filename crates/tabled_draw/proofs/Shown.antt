@@ -1,6 +1,6 @@
 -- Texts, line by line, as they are shown.
 use Rattle.std.proofs.Common.{◌≡◌, ◌∙◌, ◌+◌, ◌<◌, ◌≤◌, ◌⊎◌, ◌++◌, inl, inr, ℕ, suc, false, List, [], ◌∷◌, Option, refl, sym, ap, ap₂, arith, length, get_or, add-one, Bor, ◌-◌, append-nil, append_assoc, encode_utf8, ◌==◌, encode_utf8_all, map, max, not, MatchOption, unwrap_or, drop_of_length-le, le-leb, lt-ltb, ne_eqb, IsUtf8}
-use Rattle.std.specs.List.{All, after_first, before_first, fold, position_or_len, slice_split}
+use Rattle.std.specs.List.{after_first, before_first, fold, position_or_len}
 use Rattle.std.proofs.lemmas.Bool.{cases_lt, cond-true}
 use Rattle.std.proofs.lemmas.List.Elements.{All-head, All-tail}
 use Rattle.std.proofs.lemmas.List.Splits.{slice_split_first, slice_split_none}
@@ -45,28 +45,21 @@ plain-bytes (b ∷ bs) all = let h = All-head Plain b bs all in ap₂ (λ x xs. 
 pub plain-line : (bs : List ℕ) → ArePlain bs → shown_line bs ≡ bs
 plain-line bs all = ap (map shown_character) (chars-IsAscii bs (IsAscii-from_all bs (λ k d h. omega (arith, (all k d h).1)))) ∙ map-plain bs all
 
-pub plain-split : (bs : List ℕ) → ArePlain bs → slice_split (λ b. b == 10) bs ≡ bs ∷ []
-plain-split bs all = slice_split_none (λ b. b == 10) bs (λ k d h. ne_eqb (get_or bs k d) 10 (λ e. omega (arith, (all k d h).0, e)))
-
 pub plain-lines : (bs : List ℕ) → ArePlain bs → lines_shown bs ≡ bs ∷ []
-plain-lines bs all = ap (map shown_line) (plain-split bs all) ∙ ap (λ l. l ∷ []) (plain-line bs all)
+plain-lines bs all = ap (map shown_line) (slice_split_none (λ b. b == 10) bs (λ k d h. ne_eqb (get_or bs k d) 10 (λ e. omega (arith, (all k d h).0, e)))) ∙ ap (λ l. l ∷ []) (plain-line bs all)
 
 pub plain-widest : (bs : List ℕ) → ArePlain bs → length bs ≡ widest bs
 plain-widest bs all =
-    let one : text_width bs ≡ length bs = plain-columns bs all in
-    let most : widest bs ≡ text_width bs = ap (λ ls. fold (λ most line. max most (text_width line)) 0 ls) (plain-lines bs all) ∙ (let e : max 0 (text_width bs) ≡ text_width bs = omega arith in e) in
-    sym (most ∙ one)
+    let most : widest bs ≡ max 0 (text_width bs) = ap (λ ls. fold (λ most line. max most (text_width line)) 0 ls) (plain-lines bs all) in
+    omega (arith, most, plain-columns bs all)
 
 -- ---- the first line and the lines after it
-
-none-before : (bs : List ℕ) → position_or_len (λ b. b == 10) bs ≡ length bs → All (λ b. (b == 10) ≡ false) bs
-none-before bs all k d h = fails_before_first (λ b. b == 10) bs k d (omega (arith, all, h))
 
 pub first-found : (bs : List ℕ) → position_or_len (λ b. b == 10) bs < length bs → lines_shown bs ≡ shown_line (before_first (λ b. b == 10) bs) ∷ lines_shown (after_line bs)
 first-found bs h = ap (map shown_line) (slice_split_first (λ b. b == 10) bs 0 h)
 
 pub first-none : (bs : List ℕ) → position_or_len (λ b. b == 10) bs ≡ length bs → lines_shown bs ≡ shown_line bs ∷ []
-first-none bs h = ap (map shown_line) (slice_split_none (λ b. b == 10) bs (none-before bs h))
+first-none bs h = ap (map shown_line) (slice_split_none (λ b. b == 10) bs (λ k d less. fails_before_first (λ b. b == 10) bs k d (omega (arith, h, less))))
 
 pub after-none : (bs : List ℕ) → position_or_len (λ b. b == 10) bs ≡ length bs → after_line bs ≡ []
 after-none bs h = drop_of_length-le bs (omega (arith, h))

@@ -289,11 +289,8 @@ in-line axis k x p h1 = grind (arith, nat_tests)
 pub line-within : (axis : Axis) (g : Grid (List ℕ)) (i j : ℕ) → i < g.rows → j < g.columns → line_of axis (place i j) < count_along axis g
 line-within axis g i j h1 h2 = grind (arith, nat_tests)
 
-pub col-within : (axis : Axis) (g : Grid (List ℕ)) (k x : ℕ) → k < count_along axis g → x < count_along (across axis) g → (place_in axis k x).col < g.columns
-col-within axis g k x h1 h2 = grind (arith, nat_tests)
-
-pub row-within : (axis : Axis) (g : Grid (List ℕ)) (k x : ℕ) → k < count_along axis g → x < count_along (across axis) g → (place_in axis k x).row < g.rows
-row-within axis g k x h1 h2 = grind (arith, nat_tests)
+pub place-within : (axis : Axis) (g : Grid (List ℕ)) (k x : ℕ) → k < count_along axis g → x < count_along (across axis) g → ((place_in axis k x).row < g.rows) × ((place_in axis k x).col < g.columns)
+place-within axis g k x h1 h2 = grind (arith, nat_tests)
 
 -- ---- sizes as they are measured
 
@@ -311,12 +308,12 @@ module _ (axis : Axis) (g : Grid (List ℕ)) (es : List Rectangle) where
 
   pub measured-row : (i j : ℕ) (sizes : List ℕ) → j ≡ g.columns → Measured axis g es i j sizes → Measured axis g es (i + 1) 0 sizes
   unfolding asked_at
-  measured-row i j sizes e was = grind (arith, nat_tests, largest-same, asked_at, before-row, col-within)
+  measured-row i j sizes e was = grind (arith, nat_tests, largest-same, asked_at, before-row, place-within)
 
   pub measured-all : (i : ℕ) (sizes : List ℕ) → i ≡ g.rows → Measured axis g es i 0 sizes → sizes ≡ own_sizes axis g es
   unfolding asked_at
   measured-all i sizes e was = is-each (λ k. largest (count_along (across axis) g) (λ x. own axis g es (place_in axis k x))) (count_along axis g) sizes was.long
-      (λ k h. was.each k h ∙ largest-same (asked_at i 0 k) (λ x. own axis g es (place_in axis k x)) (count_along (across axis) g) (λ x less. cond-true _ _ _ (before-from i 0 (place_in axis k x) (inl (omega (arith, row-within axis g k x h less, e))))))
+      (λ k h. was.each k h ∙ largest-same (asked_at i 0 k) (λ x. own axis g es (place_in axis k x)) (count_along (across axis) g) (λ x less. cond-true _ _ _ (before-from i 0 (place_in axis k x) (inl (omega (arith, (place-within axis g k x h less).0, e))))))
 
   module _ (i j : ℕ) (h : i < g.rows) (w : j < g.columns) (sizes : List ℕ) (was : Measured axis g es i j sizes) where
     pub p : Position
