@@ -72,8 +72,7 @@ module _ (g : Grid (List ℕ)) (es : List Rectangle) (well : LieWell g.rows g.co
       let k = n - top g es o.0.row - 1 in
       let text = get_or lines k [] in
       let wide = room Columns (widths g es) o.0.col o.1.width in
-      let P : Rectangle → Type 0 = λ x. widest (text_of_cell g x.0) ≤ room Columns (widths g es) x.0.col x.1.width in
-      let enough : widest (text_of_cell g o.0) ≤ wide = subst P (sym s.is) (room-enough Columns g es well (place s.row s.col) s.below s.right) in
+      let enough : widest (text_of_cell g o.0) ≤ wide = rw s.is (room-enough Columns g es well (place s.row s.col) s.below s.right) in
       let within : text_width text ≤ widest (text_of_cell g o.0) = line-least lines 0 k in
       let fill = wide - text_width text + 1 in
       let a : text_width ((32 ∷ text) ++ replicate fill 32) ≡ text_width (32 ∷ text) + text_width (replicate fill 32) = columns-append (32 ∷ text) (replicate fill 32) in

@@ -146,12 +146,6 @@ module _ (rows columns : ℕ) (es : List Rectangle) (well : LieWell rows columns
           ∙ owner-inside rows columns es (k - 1) (l - 1) (omega (arith, lies.bottom)) (omega (arith, lies.right))
           ∙ ap Some (owner-shared rows columns es well p (place (k - 1) (l - 1)) (record { top = omega arith; bottom = omega arith; left = omega arith; right = omega arith }))
 
-  pub owner-same : (i j k l : ℕ) (o p : Rectangle) → owner rows columns es i j ≡ Some o → owner rows columns es k l ≡ Some p → is_one (Some o) (Some p) ≡ true → o ≡ p
-  owner-same i j k l o p e f one =
-      let s = owner-some rows columns es i j o e in
-      let t = owner-some rows columns es k l p f in
-      s.is ∙ owner-one rows columns es well (place s.row s.col) (place t.row t.col) s.below s.right t.below t.right (ap (λ (x : Rectangle). x.0) (sym s.is) ∙ same_place-true o.0 p.0 one ∙ ap (λ (x : Rectangle). x.0) t.is) ∙ sym t.is
-
   -- two places that have one owner
   pub owner-both : (i j k l : ℕ) → is_one (owner rows columns es i j) (owner rows columns es k l) ≡ true → (o : Rectangle) × (owner rows columns es i j ≡ Some o) × (owner rows columns es k l ≡ Some o)
   owner-both i j k l one = by (owner rows columns es i j) refl (owner rows columns es k l) refl one
@@ -159,7 +153,11 @@ module _ (rows columns : ℕ) (es : List Rectangle) (well : LieWell rows columns
       by : (a : Option Rectangle) → owner rows columns es i j ≡ a → (b : Option Rectangle) → owner rows columns es k l ≡ b → is_one a b ≡ true → (o : Rectangle) × (owner rows columns es i j ≡ Some o) × (owner rows columns es k l ≡ Some o)
       by None e b f t = absurd (false≢true t)
       by (Some o) e None f t = absurd (false≢true t)
-      by (Some o) e (Some p) f t = (o, e, f ∙ ap Some (sym (owner-same i j k l o p e f t)))
+      by (Some o) e (Some p) f one =
+          let s = owner-some rows columns es i j o e in
+          let t = owner-some rows columns es k l p f in
+          let same : o ≡ p = s.is ∙ owner-one rows columns es well (place s.row s.col) (place t.row t.col) s.below s.right t.below t.right (ap (λ (x : Rectangle). x.0) (sym s.is) ∙ same_place-true o.0 p.0 one ∙ ap (λ (x : Rectangle). x.0) t.is) ∙ sym t.is in
+          (o, e, f ∙ ap Some (sym same))
 
 -- outside the table there is none
 pub owner-outside : (rows columns : ℕ) (es : List Rectangle) (i j : ℕ) → ((o : Rectangle) → Inside rows columns es i j o → ⊥) → owner rows columns es i j ≡ None

@@ -131,8 +131,7 @@ module _ (axis : Axis) (g : Grid (List ℕ)) where
       let inside = all x (inl refl) in
       let first : need ≤ span axis t (line_of axis x.0) (lines_in axis x.1) - gap axis = grown-enough s x inside.0 inside.1 in
       let later : span axis t (line_of axis x.0) (lines_in axis x.1) ≤ span axis (fold (grown_for axis g) t es) (line_of axis x.0) (lines_in axis x.1) = span-larger axis t (fold (grown_for axis g) t es) (fold-larger es t) (line_of axis x.0) (lines_in axis x.1) in
-      let P : Rectangle → Type 0 = λ y. asks axis (text_of_cell g y.0) ≤ span axis (fold (grown_for axis g) t es) (line_of axis y.0) (lines_in axis y.1) - gap axis in
-      subst P (sym same) (omega arith)
+      rw same (omega arith)
   fold-enough (x ∷ es) s all e (inr m) = fold-enough es (grown_for axis g s x) (λ d i. ((all d (inr i)).0, (let inside = (all d (inr i)).1 in omega (arith, (grown-larger s x).long)))) e m
 
   module _ (es : List Rectangle) where
@@ -184,9 +183,7 @@ module _ (axis : Axis) (g : Grid (List ℕ)) where
             let same : get_or (sizes axis g es) (i + 0) 0 ≡ get_or (sizes axis g es) i 0 = ap (λ k. get_or (sizes axis g es) k 0) (add-zero i) in
             let e : room axis (sizes axis g es) i 1 ≡ 0 + (get_or (sizes axis g es) (i + 0) 0 + gap axis) - gap axis = room-span axis (sizes axis g es) i 1 (omega (arith, larger.long, length-own, line_below axis)) in
             let enough : asks axis (text_of_cell g p) ≤ room axis (sizes axis g es) i 1 = omega arith in
-            let P : Rectangle → Type 0 = λ x. asks axis (text_of_cell g x.0) ≤ room axis (sizes axis g es) (line_of axis x.0) (lines_in axis x.1) in
-            let Q : ℕ → Type 0 = λ n. asks axis (text_of_cell g p) ≤ room axis (sizes axis g es) i n in
-            subst P (sym is) (subst Q (sym (one_line axis)) enough)
+            rw (is, one_line axis) enough
 
 -- a line of a text is no wider than the text
 most-least : (lines : List (List ℕ)) (a : ℕ) → a ≤ fold (λ most line. max most (text_width line)) a lines
