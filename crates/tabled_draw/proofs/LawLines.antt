@@ -4,7 +4,7 @@ use Rattle.std.proofs.lemmas.Bool.{false_from_ne_true, and_from, cases_Bool, cas
 use Rattle.std.proofs.lemmas.List.Sums.{sum_by-append, sum_by-cons}
 use Rattle.std.proofs.Math.Bool.{and-false}
 use Rattle.tabled_draw.proofs.Each.{split-each}
-use Rattle.tabled_draw.proofs.Owned.{LieWell, LiesIn, Owns, owner-both, owner-left, owner-owns, owner-some}
+use Rattle.tabled_draw.proofs.Owned.{LieWell, Owns, owner-both, owner-left, owner-owns, owner-some}
 use Rattle.tabled_draw.proofs.Sizes.{length-sizes, line-least, room-end, room-enough, start-next}
 use Rattle.tabled_draw.specs.Each.{each}
 use Rattle.tabled_draw.specs.Owners.{is_one, owner}
@@ -54,16 +54,7 @@ all-from a b c d o e f h k = and_from _ _ (and_from _ _ (ap₂ is_one e f ∙ sa
 all-not_down : (a b c d : Option Rectangle) → is_one a c ≡ false → all_one a b c d ≡ false
 all-not_down a b c d f = ap (λ x. (is_one a b && x) && is_one a d) f ∙ ap (λ x. x && is_one a d) (and-false (is_one a b))
 
-all-parts : (a b c d : Option Rectangle) → all_one a b c d ≡ true → (is_one a b ≡ true) × (is_one a c ≡ true) × (is_one a d ≡ true)
-all-parts a b c d t = grind (arith, nat_tests)
-
 module _ (g : Grid (List ℕ)) (es : List Rectangle) (well : LieWell g.rows g.columns es) where
-  left-next : (j : ℕ) → j < g.columns → left g es (j + 1) ≡ left g es j + (get_or (widths g es) j 0 + 3)
-  left-next j h = start-next Columns g es j h
-
-  left-end : (o : Rectangle) → LiesIn g.rows g.columns o → left g es (o.0.col + o.1.width) ≡ left g es o.0.col + (room Columns (widths g es) o.0.col o.1.width + 3)
-  left-end o lies = room-end Columns (widths g es) o.0.col o.1.width lies.wide (omega (arith, lies.right, length-sizes Columns g es))
-
   -- what an owner shows is as wide as its room, with a blank at both sides
   shows-wide : (n i j : ℕ) (o : Rectangle) → owner g.rows g.columns es i j ≡ Some o → text_width (shows g es n o) ≡ room Columns (widths g es) o.0.col o.1.width + 2
   shows-wide n i j o e =
@@ -108,7 +99,7 @@ module _ (g : Grid (List ℕ)) (es : List Rectangle) (well : LieWell g.rows g.co
     joint-from j o e f e' f' = all-from (up j) (up (j + 1)) (down j) (down (j + 1)) o e e' f f'
 
     joint-parts : (j : ℕ) → joint j ≡ true → (is_one (up j) (up (j + 1)) ≡ true) × (is_one (up j) (down j) ≡ true) × (is_one (up j) (down (j + 1)) ≡ true)
-    joint-parts j t = all-parts (up j) (up (j + 1)) (down j) (down (j + 1)) t
+    joint-parts j t = grind (arith, nat_tests)
 
     -- where no owner is all round an edge
     not-joint : (j : ℕ) → ((o : Rectangle) → up j ≡ Some o → up (j + 1) ≡ Some o → down j ≡ Some o → down (j + 1) ≡ Some o → ⊥) → joint j ≡ false
@@ -176,7 +167,7 @@ module _ (g : Grid (List ℕ)) (es : List Rectangle) (well : LieWell g.rows g.co
         by : (is_one (up (j + 1)) (down (j + 1)) ≡ true) ⊎ (is_one (up (j + 1)) (down (j + 1)) ≡ false) → Reached (j + 1) (w + text_width (part j))
         by (inr two) =
             let wide : text_width (part j) ≡ 1 + (get_or (widths g es) j 0 + 2) = columns-part j 1 _ first (border-wide (j + 1) (j + 1) (get_or (widths g es) j 0 + 2) (all-not_down (up (j + 1)) (up (j + 1)) (down (j + 1)) (down (j + 1)) two)) in
-            let to = left-next j less in
+            let to = start-next Columns g es j less in
             edge (all-not_down (up (j + 1)) (up (j + 1 + 1)) (down (j + 1)) (down (j + 1 + 1)) two) (omega (arith, wide, to, is))
         by (inl one) =
             let both = owner-both g.rows g.columns es well u (j + 1) d (j + 1) one in
@@ -190,15 +181,12 @@ module _ (g : Grid (List ℕ)) (es : List Rectangle) (well : LieWell g.rows g.co
             at o e f a b (inr here) =
                 let col : o.0.col ≡ j = omega (arith, a.left) in
                 let wide : text_width (part j) ≡ 1 + (room Columns (widths g es) o.0.col o.1.width + 2) = columns-part j 1 _ first (ap text_width (column-shows j o e f col) ∙ shows-wide n u (j + 1) o e) in
-                let to = left-end o a.lies in
+                let to = room-end Columns (widths g es) o.0.col o.1.width a.lies.wide (omega (arith, a.lies.right, length-sizes Columns g es)) in
                 let same : left g es o.0.col ≡ left g es j = ap (left g es) col in
                 past j (w + text_width (part j)) o e f (omega (arith, wide, to, is, same))
 
-    begun : Reached 0 0
-    begun = edge (ap (λ a. all_one a (up (0 + 1)) (down 0) (down (0 + 1))) (owner-left g.rows g.columns es u)) refl
-
     reached : (j : ℕ) → j ≤ g.columns → Reached j (text_width (each j part))
-    reached zero h = begun
+    reached zero h = edge (ap (λ a. all_one a (up (0 + 1)) (down 0) (down (0 + 1))) (owner-left g.rows g.columns es u)) refl
     reached (suc j) h =
         let go : Reached j (text_width (each j part)) = reached j (omega arith) in
         let next_one : Reached (j + 1) (text_width (each j part) + text_width (part j)) = more j (text_width (each j part)) (omega arith) go in
@@ -268,7 +256,7 @@ module _ (g : Grid (List ℕ)) (es : List Rectangle) (well : LieWell g.rows g.co
     dashes-stand j less between never =
         let size = get_or (widths g es) j 0 + 2 in
         let is : column_at j ≡ replicate size 45 = stretch-apart (j + 1) (j + 1) size (all-not_down (up (j + 1)) (up (j + 1)) (down (j + 1)) (down (j + 1)) (false_from_ne_true _ (λ t. (let both = owner-both g.rows g.columns es well u (j + 1) d (j + 1) t in never both.0 both.1 both.2)))) ∙ ap (replicate size) (ap₂ (λ x y. cond x 124 (cond y 45 43)) (ne_eqb u d between) (eq-eqb (j + 1) (j + 1) refl)) in
-        let many : size ≡ left g es (j + 1) - left g es j - 1 = omega (arith, left-next j less) in
+        let many : size ≡ left g es (j + 1) - left g es j - 1 = omega (arith, start-next Columns g es j less) in
         subst (StandsIn (picture_line g es n u d) (left g es j + 1)) (is ∙ ap (λ k. replicate k 45) many) (column-stands j less (not-joint j (λ o e e' f f'. never o e' f')))
 
     -- what a cell shows stands at its left edge

@@ -205,9 +205,6 @@ module _ (g : Grid (List ℕ)) (m : SpanMap) (fits : Fits m g.rows g.columns) (e
 pub ended-more : (xs : List (List ℕ)) (x : List ℕ) → with_newlines (xs ++ (x ∷ [])) ≡ with_newlines xs ++ (x ++ (10 ∷ []))
 ended-more xs x = flat_map-append (λ picture_line. picture_line ++ (10 ∷ [])) xs (x ∷ []) ∙ ap (λ ys. with_newlines xs ++ ys) (append-nil (x ++ (10 ∷ [])))
 
-pub ended-both : (xs ys : List (List ℕ)) → with_newlines (xs ++ ys) ≡ with_newlines xs ++ with_newlines ys
-ended-both xs ys = flat_map-append (λ picture_line. picture_line ++ (10 ∷ [])) xs ys
-
 module _ (g : Grid (List ℕ)) (es : List Rectangle) where
   -- the lines of a row up to one of them
   abbrev pub lines_below : ℕ → ℕ → List (List ℕ)
@@ -223,7 +220,7 @@ module _ (g : Grid (List ℕ)) (es : List Rectangle) where
   all-below i y is = ap (λ k. with_newlines (lines_below i k)) is
 
   pub more-rows : (i : ℕ) → with_newlines (each i (lines_of_row g es)) ++ with_newlines (lines_of_row g es i) ≡ with_newlines (each (i + 1) (lines_of_row g es))
-  more-rows i = sym (ended-both (each i (lines_of_row g es)) (lines_of_row g es i)) ∙ ap with_newlines (sym (each-more (lines_of_row g es) i))
+  more-rows i = sym (flat_map-append (λ picture_line. picture_line ++ (10 ∷ [])) (each i (lines_of_row g es)) (lines_of_row g es i)) ∙ ap with_newlines (sym (each-more (lines_of_row g es) i))
 
   pub all-rows : (i : ℕ) → i ≡ g.rows → 0 < g.rows → 0 < g.columns → with_newlines (each i (lines_of_row g es)) ++ (picture_line g es (top g es g.rows) g.rows (g.rows + 1) ++ (10 ∷ [])) ≡ with_newlines (picture g es)
   all-rows i is high wide = grind (arith, nat_tests, ended-more)

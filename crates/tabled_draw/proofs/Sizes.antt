@@ -233,9 +233,6 @@ no-larger g es well axis k = fold-asked axis g k es (own_sizes axis g es) (get_o
 pub fold-more : {A B : Type 0} (f : B → A → B) (a : B) (xs : List A) (k : ℕ) (d : A) → k < length xs → fold f a (take (k + 1) xs) ≡ f (fold f a (take k xs)) (get_or xs k d)
 fold-more f a xs k d h = ap (fold f a) (take_more xs k d h) ∙ fold-append f a (take k xs) (get_or xs k d ∷ [])
 
-pub text-of : (g : Grid (List ℕ)) (p : Position) (text : List ℕ) → cell_at g p ≡ Some text → text ≡ text_of_cell g p
-text-of g p text is = sym (ap (λ (t : Option (List ℕ)). unwrap_or t []) is)
-
 -- what is known of the k-th merged cell
 pub anchor-at : (m : SpanMap) (rows columns : ℕ) → Fits m rows columns → (xs : List Rectangle) → xs ≡ entries m → (k : ℕ) (d : Rectangle) → k < length xs → LiesIn rows columns (get_or xs k d)
 anchor-at m rows columns fits xs is k d h =
@@ -245,7 +242,7 @@ pub grown-more : (axis : Axis) (g : Grid (List ℕ)) (m : SpanMap) (base : List 
     → s ≡ fold (grown_for axis g) base (take k (entries m)) → n ≡ asks axis text → new ≡ grown_sizes axis s (line_of axis (get_or xs k d).0) (lines_in axis (get_or xs k d).1) n
     → new ≡ fold (grown_for axis g) base (take (k + 1) (entries m))
 grown-more axis g m base k d xs is within s text read n new was many grew =
-    grew ∙ ap (grown_sizes axis s (line_of axis (get_or xs k d).0) (lines_in axis (get_or xs k d).1)) (many ∙ ap (asks axis) (text-of g _ text read))
+    grew ∙ ap (grown_sizes axis s (line_of axis (get_or xs k d).0) (lines_in axis (get_or xs k d).1)) (many ∙ ap (asks axis) (sym (ap (λ (t : Option (List ℕ)). unwrap_or t []) read)))
     ∙ ap (λ ws. grown_for axis g ws (get_or xs k d)) was ∙ ap (λ (ys : List Rectangle). grown_for axis g (fold (grown_for axis g) base (take k (entries m))) (get_or ys k d)) is
     ∙ sym (fold-more (grown_for axis g) base (entries m) k d (subst (λ (ys : List Rectangle). k < length ys) is within))
 
