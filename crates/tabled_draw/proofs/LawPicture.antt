@@ -1,6 +1,7 @@
 -- The lines of a picture, and what stands in them.
 use Rattle.std.specs.List.{sum, sum_by, AllByRecursion, list_any}
-use Rattle.std.proofs.Common.{take_all, ◌≡◌, ◌≢◌, ◌∙◌, ◌+◌, ◌-◌, ◌<◌, ◌≤◌, ◌⊎◌, ◌++◌, inl, inr, ℕ, Bool, true, false, cond, suc, zero, List, [], ◌∷◌, Some, refl, sym, ap, ap₂, subst, arith, length, get_or, replicate, add-one, add-zero, append_assoc, length-append, Option, None, map, ◌&&◌, ◌==◌, ◌||◌, not, chars, ne_eqb, eq-eqb, le-leb, lt-ltb}
+use Rattle.std.proofs.Common.{take_all, ◌≡◌, ◌≢◌, ◌∙◌, ◌+◌, ◌-◌, ◌<◌, ◌≤◌, ◌⊎◌, ◌++◌, inl, inr, ℕ, Bool, true, false, cond, suc, zero, List, [], ◌∷◌, Some, refl, sym, ap, ap₂, subst, arith, length, get_or, replicate, add-one, add-zero, append_assoc, length-append, Option, None, map, ◌&&◌, ◌==◌, ◌||◌, not, chars}
+use borrow.Author.Tests.{ne_eqb, eq-eqb, le-leb, lt-ltb}
 use Rattle.std.proofs.lemmas.List.Sums.{sum_by-cons}
 use Rattle.tabled_grid.specs.Entity.{place, same_place}
 use Rattle.std.proofs.lemmas.Bool.{and_from, cases_eq, cases_lt, cond-false, false≢true, eqb-false, ltb-false}

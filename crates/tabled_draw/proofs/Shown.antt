@@ -1,5 +1,6 @@
 -- Texts, line by line, as they are shown.
-use Rattle.std.proofs.Common.{◌≡◌, ◌∙◌, ◌+◌, ◌<◌, ◌≤◌, ◌⊎◌, ◌++◌, inl, inr, ℕ, suc, false, List, [], ◌∷◌, Option, refl, sym, ap, ap₂, arith, length, get_or, add-one, Bor, ◌-◌, append-nil, append_assoc, encode_utf8, ◌==◌, encode_utf8_all, map, max, not, MatchOption, unwrap_or, drop_of_length-le, le-leb, lt-ltb, ne_eqb, IsUtf8}
+use Rattle.std.proofs.Common.{◌≡◌, ◌∙◌, ◌+◌, ◌<◌, ◌≤◌, ◌⊎◌, ◌++◌, inl, inr, ℕ, suc, false, List, [], ◌∷◌, Option, refl, sym, ap, ap₂, arith, length, get_or, add-one, Bor, ◌-◌, append-nil, append_assoc, encode_utf8, ◌==◌, encode_utf8_all, map, max, not, MatchOption, unwrap_or, drop_of_length-le, IsUtf8}
+use borrow.Author.Tests.{le-leb, lt-ltb, ne_eqb}
 use Rattle.std.specs.List.{after_first, before_first, fold, position_or_len}
 use Rattle.std.proofs.lemmas.Bool.{cases_lt, cond-true}
 use Rattle.std.proofs.lemmas.List.Elements.{All-head, All-tail}
