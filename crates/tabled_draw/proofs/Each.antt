@@ -1,4 +1,4 @@
--- Lists of what a function gives of one number after another.
+-- Lists of what a function gives of one number after another, and what is left of the texts in each column.
 use Rattle.std.proofs.Common.{◌≡◌, ◌∙◌, ◌+◌, ◌<◌, ◌≤◌, ◌⊎◌, ◌++◌, inl, inr, ℕ, suc, zero, List, [], ◌∷◌, refl, sym, ap, ap₂, arith, length, get_or, add-one, append_assoc, append-nil, length-append, Bor, set}
 use Rattle.std.specs.List.{AllByRecursion}
 use Rattle.std.proofs.lemmas.Bool.{cases_lt}

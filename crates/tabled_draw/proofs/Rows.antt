@@ -1,4 +1,4 @@
--- The lines of a row, and those of all rows.
+-- A line as it is drawn is the line of the picture; the lines of a row, and those of all rows.
 use Rattle.std.proofs.Common.{◌≡◌, ◌∙◌, ◌+◌, ◌-◌, ◌<◌, ◌≤◌, ◌≢◌, ◌⊎◌, ◌++◌, inl, inr, ℕ, true, false, cond, List, [], ◌∷◌, Option, Some, None, refl, sym, ap, ap₂, arith, eqb, replicate, get_or, Bool, append-nil, length, add-zero, ◌&&◌, eq-eqb, ne_eqb}
 use Rattle.std.specs.FinMap.{entries}
 use Rattle.std.proofs.lemmas.Bool.{and_from, cases_eq, cond-true, cond-false, cases_lt}
@@ -102,8 +102,6 @@ module _ (g : Grid (List ℕ)) (m : SpanMap) (fits : Fits m g.rows g.columns) (e
         (edge-is g (entries m) n u d j mark _ _ _ _ is_mark (over.each j (omega (arith, less))) (over.each (j + 1) (omega (arith, less))) (under.each j (omega (arith, less))) (under.each (j + 1) (omega (arith, less))))
         (column-is j less)))
         (edge-is g (entries m) n u d g.columns mark _ _ _ _ is_mark (over.each g.columns (omega arith)) (over.each (g.columns + 1) (omega arith)) (under.each g.columns (omega arith)) (under.each (g.columns + 1) (omega arith))))
-
--- ---- the lines of a row, and those of all rows
 
 -- the line above a row stands after those above all rows before it
 pub top-below : (g : Grid (List ℕ)) (es : List Rectangle) (r i : ℕ) → r < i → i ≤ g.rows → top g es r + 1 ≤ top g es i

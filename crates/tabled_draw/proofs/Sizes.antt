@@ -195,7 +195,7 @@ line-least [] a k = omega arith
 line-least (x ∷ lines) a zero = omega (arith, most-least lines (max a (text_width x)))
 line-least (x ∷ lines) a (suc k) = line-least lines (max a (text_width x)) k
 
--- ---- rows and columns are no larger than asked, and a picture has as many lines as its rows
+-- ---- rows and columns are no larger than asked
 
 module _ (axis : Axis) (g : Grid (List ℕ)) (k : ℕ) where
   abbrev with_asked : ℕ → Rectangle → ℕ
@@ -252,8 +252,6 @@ grown-all axis g m base s k is all = is ∙ ap (fold (grown_for axis g) base) (t
 pub sizes-is : (axis : Axis) (g : Grid (List ℕ)) (m : SpanMap) (base s : List ℕ) → base ≡ own_sizes axis g (entries m) → s ≡ fold (grown_for axis g) base (entries m) → s ≡ sizes axis g (entries m)
 unfolding sizes
 sizes-is axis g m base s first is = is ∙ ap (λ b. fold (grown_for axis g) b (entries m)) first
-
--- ---- sizes, as texts are asked one after another
 
 -- ---- lists of what a function gives
 
