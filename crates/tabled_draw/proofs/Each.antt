@@ -1,11 +1,12 @@
--- Lists of what a function gives of one number after another.
-use Rattle.std.proofs.Common.{◌≡◌, ◌∙◌, ◌+◌, ◌<◌, ◌≤◌, ◌⊎◌, ◌++◌, inl, inr, ℕ, suc, zero, List, [], ◌∷◌, refl, sym, ap, ap₂, arith, length, get_or, add-one, append_assoc, append-nil, length-append}
+-- Lists of what a function gives of one number after another, and what is left of the texts in each column.
+use Rattle.std.proofs.Common.{◌≡◌, ◌∙◌, ◌+◌, ◌<◌, ◌≤◌, ◌⊎◌, ◌++◌, inl, inr, ℕ, suc, zero, List, [], ◌∷◌, refl, sym, ap, ap₂, arith, length, get_or, add-one, append_assoc, append-nil, length-append, Bor, set}
 use Rattle.std.specs.List.{AllByRecursion}
 use Rattle.std.proofs.lemmas.Bool.{cases_lt}
-use Rattle.std.proofs.lemmas.List.{get_or_append_left, get_or_push}
+use Rattle.std.proofs.lemmas.List.{get_or_append_left, get_or_push, get_or-map, get_or-set_other, get_or-set_same, length-map, map-set}
 use Rattle.tabled_draw.specs.Each.{each}
 use Rattle.tabled_grid.proofs.Lists.{all-append}
 use Rattle.std.proofs.lemmas.Bool.Decides.{nat_tests}
+use Rattle.tabled_draw.specs.Rests.{bytes_in}
 
 pub each-more : {A : Type 0} (f : ℕ → List A) (n : ℕ) → each (n + 1) f ≡ each n f ++ f n
 each-more f n = ap (λ k. each k f) (add-one n)
@@ -39,3 +40,19 @@ split-each {A} f (suc n) j h = by (cases_lt j n) (split-each f n j)
 pub all-each : {A : Type 0} (P : A → Type 0) (f : ℕ → List A) → ((i : ℕ) → AllByRecursion P (f i)) → (k : ℕ) → AllByRecursion P (each k f)
 all-each P f all zero = tt
 all-each P f all (suc k) = all-append P (each k f) (f k) (all-each P f all k) (all k)
+
+-- ---- what is left of the texts in each column
+
+-- a list that is changed from the front on
+pub record Changed (f : ℕ → List ℕ) (old new : List (List ℕ)) (j : ℕ) : Type 0 where
+  pub done : (k : ℕ) → k < j → get_or new k [] ≡ f k
+  pub left : (k : ℕ) → j ≤ k → get_or new k [] ≡ get_or old k []
+
+pub changed-none : (f : ℕ → List ℕ) (old : List (List ℕ)) → Changed f old old 0
+changed-none f old = record { done = λ k h. absurd (omega (arith, h)); left = λ k h. refl }
+
+pub changed-more : (f : ℕ → List ℕ) (old : List (List ℕ)) (rs : List (Bor (List ℕ))) (j : ℕ) (x : Bor (List ℕ)) → Changed f old (bytes_in rs) j → j < length rs → x.now ≡ f j → Changed f old (bytes_in (set rs j x)) (j + 1)
+changed-more f old rs j x was less is = grind (arith, nat_tests, get_or-set_other, map-set, get_or-set_same, length-map)
+
+pub text-in : (rs : List (Bor (List ℕ))) (j : ℕ) (x : Bor (List ℕ)) → j < length rs → x ≡ get_or rs j x → x.now ≡ get_or (bytes_in rs) j []
+text-in rs j x less is = ap (λ (r : Bor (List ℕ)). r.now) is ∙ sym (get_or-map (λ (r : Bor (List ℕ)). r.now) rs j x [] less)

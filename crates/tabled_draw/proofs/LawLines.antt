@@ -1,15 +1,11 @@
 -- A line of a picture, from its left edge to its right one.
-use Rattle.std.proofs.Common.{◌≡◌, ◌≢◌, ◌∙◌, ◌+◌, ◌-◌, ◌<◌, ◌≤◌, ◌⊎◌, ◌++◌, inl, inr, ℕ, Bool, true, false, cond, suc, zero, List, [], ◌∷◌, Option, None, Some, refl, sym, ap, ap₂, subst, arith, get_or, replicate, add-one, add-zero, eqb, append_assoc, append-nil}
-use Rattle.std.specs.Prelude.{◌&&◌}
-use Rattle.std.specs.Option.{unwrap_or}
-use Rattle.std.proofs.lemmas.Bool.{and_from, cases_Bool, cases_lt, cond-true, cond-false, false≢true}
+use Rattle.std.proofs.Common.{◌≡◌, ◌≢◌, ◌∙◌, ◌+◌, ◌-◌, ◌<◌, ◌≤◌, ◌⊎◌, ◌++◌, inl, inr, ℕ, Bool, true, false, cond, suc, zero, List, [], ◌∷◌, Option, Some, refl, sym, ap, ap₂, subst, arith, get_or, replicate, add-one, add-zero, eqb, append_assoc, append-nil, ◌&&◌, unwrap_or, eq-eqb, ne_eqb}
+use Rattle.std.proofs.lemmas.Bool.{false_from_ne_true, and_from, cases_Bool, cases_lt, cond-true, cond-false, false≢true}
 use Rattle.std.proofs.lemmas.List.Sums.{sum_by-append, sum_by-cons}
-use Rattle.std.proofs.lemmas.Option.{same_Some}
 use Rattle.std.proofs.Math.Bool.{and-false}
-use borrow.Author.Tests.{eq-eqb, ne_eqb}
 use Rattle.tabled_draw.proofs.Each.{split-each}
-use Rattle.tabled_draw.proofs.Owned.{LieWell, LiesIn, Owns, owner-both, owner-left, owner-owns, owner-right, owner-some}
-use Rattle.tabled_draw.proofs.LawSizes.{length-sizes, line-least, room-end, room-enough, start-next}
+use Rattle.tabled_draw.proofs.Owned.{LieWell, Owns, owner-both, owner-left, owner-owns, owner-some}
+use Rattle.tabled_draw.proofs.Sizes.{length-sizes, line-least, room-end, room-enough, start-next}
 use Rattle.tabled_draw.specs.Each.{each}
 use Rattle.tabled_draw.specs.Owners.{is_one, owner}
 use Rattle.tabled_draw.specs.Picture.{left, picture_line, shows, shows_in, border_stretch, top}
@@ -55,25 +51,10 @@ all_one a b c d = (is_one a b && is_one a c) && is_one a d
 all-from : (a b c d : Option Rectangle) (o : Rectangle) → a ≡ Some o → b ≡ Some o → c ≡ Some o → d ≡ Some o → all_one a b c d ≡ true
 all-from a b c d o e f h k = and_from _ _ (and_from _ _ (ap₂ is_one e f ∙ same_place-self o.0) (ap₂ is_one e h ∙ same_place-self o.0)) (ap₂ is_one e k ∙ same_place-self o.0)
 
-all-not_right : (a b c d : Option Rectangle) → is_one a b ≡ false → all_one a b c d ≡ false
-all-not_right a b c d f = ap (λ x. (x && is_one a c) && is_one a d) f
-
 all-not_down : (a b c d : Option Rectangle) → is_one a c ≡ false → all_one a b c d ≡ false
 all-not_down a b c d f = ap (λ x. (is_one a b && x) && is_one a d) f ∙ ap (λ x. x && is_one a d) (and-false (is_one a b))
 
-all-parts : (a b c d : Option Rectangle) → all_one a b c d ≡ true → (is_one a b ≡ true) × (is_one a c ≡ true) × (is_one a d ≡ true)
-all-parts a b c d t = grind (arith, nat_tests)
-
-none-one : (a : Option Rectangle) → is_one a None ≡ false
-none-one a = grind (arith, nat_tests)
-
 module _ (g : Grid (List ℕ)) (es : List Rectangle) (well : LieWell g.rows g.columns es) where
-  left-next : (j : ℕ) → j < g.columns → left g es (j + 1) ≡ left g es j + (get_or (widths g es) j 0 + 3)
-  left-next j h = start-next Columns g es j h
-
-  left-end : (o : Rectangle) → LiesIn g.rows g.columns o → left g es (o.0.col + o.1.width) ≡ left g es o.0.col + (room Columns (widths g es) o.0.col o.1.width + 3)
-  left-end o lies = room-end Columns (widths g es) o.0.col o.1.width lies.wide (omega (arith, lies.right, length-sizes Columns g es))
-
   -- what an owner shows is as wide as its room, with a blank at both sides
   shows-wide : (n i j : ℕ) (o : Rectangle) → owner g.rows g.columns es i j ≡ Some o → text_width (shows g es n o) ≡ room Columns (widths g es) o.0.col o.1.width + 2
   shows-wide n i j o e =
@@ -82,8 +63,7 @@ module _ (g : Grid (List ℕ)) (es : List Rectangle) (well : LieWell g.rows g.co
       let k = n - top g es o.0.row - 1 in
       let text = get_or lines k [] in
       let wide = room Columns (widths g es) o.0.col o.1.width in
-      let P : Rectangle → Type 0 = λ x. widest (text_of_cell g x.0) ≤ room Columns (widths g es) x.0.col x.1.width in
-      let enough : widest (text_of_cell g o.0) ≤ wide = subst P (sym s.is) (room-enough Columns g es well (place s.row s.col) s.below s.right) in
+      let enough : widest (text_of_cell g o.0) ≤ wide = rw s.is (room-enough Columns g es well (place s.row s.col) s.below s.right) in
       let within : text_width text ≤ widest (text_of_cell g o.0) = line-least lines 0 k in
       let fill = wide - text_width text + 1 in
       let a : text_width ((32 ∷ text) ++ replicate fill 32) ≡ text_width (32 ∷ text) + text_width (replicate fill 32) = columns-append (32 ∷ text) (replicate fill 32) in
@@ -119,20 +99,16 @@ module _ (g : Grid (List ℕ)) (es : List Rectangle) (well : LieWell g.rows g.co
     joint-from j o e f e' f' = all-from (up j) (up (j + 1)) (down j) (down (j + 1)) o e e' f f'
 
     joint-parts : (j : ℕ) → joint j ≡ true → (is_one (up j) (up (j + 1)) ≡ true) × (is_one (up j) (down j) ≡ true) × (is_one (up j) (down (j + 1)) ≡ true)
-    joint-parts j t = all-parts (up j) (up (j + 1)) (down j) (down (j + 1)) t
+    joint-parts j t = grind (arith, nat_tests)
 
     -- where no owner is all round an edge
     not-joint : (j : ℕ) → ((o : Rectangle) → up j ≡ Some o → up (j + 1) ≡ Some o → down j ≡ Some o → down (j + 1) ≡ Some o → ⊥) → joint j ≡ false
-    not-joint j never = by (cases_Bool (joint j))
-      where
-        by : (joint j ≡ true) ⊎ (joint j ≡ false) → joint j ≡ false
-        by (inr f) = f
-        by (inl t) =
-            let parts = joint-parts j t in
-            let a = owner-both g.rows g.columns es well u j u (j + 1) parts.0 in
-            let b = owner-both g.rows g.columns es well u j d j parts.1 in
-            let c = owner-both g.rows g.columns es well u j d (j + 1) parts.2 in
-            absurd (never a.0 a.1 a.2 (b.2 ∙ sym b.1 ∙ a.1) (c.2 ∙ sym c.1 ∙ a.1))
+    not-joint j never = false_from_ne_true (joint j) (λ t. (
+        let parts = joint-parts j t in
+        let a = owner-both g.rows g.columns es well u j u (j + 1) parts.0 in
+        let b = owner-both g.rows g.columns es well u j d j parts.1 in
+        let c = owner-both g.rows g.columns es well u j d (j + 1) parts.2 in
+        never a.0 a.1 a.2 (b.2 ∙ sym b.1 ∙ a.1) (c.2 ∙ sym c.1 ∙ a.1)))
 
     stretch-one : (l r size : ℕ) → all_one (up l) (up r) (down l) (down r) ≡ true → border_stretch g es n u d l r size ≡ shows_in g es n l r (up l)
     stretch-one l r size t = cond-true (all_one (up l) (up r) (down l) (down r)) (shows_in g es n l r (up l)) (replicate size (mark l r)) t
@@ -162,27 +138,18 @@ module _ (g : Grid (List ℕ)) (es : List Rectangle) (well : LieWell g.rows g.co
 
     -- past a column that one owner has above and below
     past : (j w : ℕ) (o : Rectangle) → up (j + 1) ≡ Some o → down (j + 1) ≡ Some o → w ≡ left g es (o.0.col + o.1.width) → Reached (j + 1) w
-    past j w o e f is = by (cases_lt (j + 1) (o.0.col + o.1.width))
+    past j w o e f is = by (owner-owns g.rows g.columns es well u (j + 1) o e) (owner-owns g.rows g.columns es well d (j + 1) o f) (cases_lt (j + 1) (o.0.col + o.1.width))
       where
-        a : Owns g.rows g.columns es u (j + 1) o
-        a = owner-owns g.rows g.columns es well u (j + 1) o e
+        ends : o.0.col + o.1.width ≡ j + 1 → joint (j + 1) ≡ false
+        ends last = not-joint (j + 1) (λ p at next at' next'. (
+            let far = owner-owns g.rows g.columns es well u (j + 1 + 1) o (next ∙ sym at ∙ e) in
+            omega (arith, far.right)))
 
-        b : Owns g.rows g.columns es d (j + 1) o
-        b = owner-owns g.rows g.columns es well d (j + 1) o f
-
-        ends : o.0.col + o.1.width ≡ j + 1 → (joint (j + 1) ≡ true) ⊎ (joint (j + 1) ≡ false) → joint (j + 1) ≡ false
-        ends last (inr apart) = apart
-        ends last (inl one) =
-            let both = owner-both g.rows g.columns es well u (j + 1) u (j + 1 + 1) (joint-parts (j + 1) one).0 in
-            let same : o ≡ both.0 = same_Some _ _ (sym e ∙ both.1) in
-            let far = owner-owns g.rows g.columns es well u (j + 1 + 1) o (both.2 ∙ ap Some (sym same)) in
-            absurd (omega (arith, far.right))
-
-        by : (j + 1 < o.0.col + o.1.width) ⊎ (o.0.col + o.1.width ≤ j + 1) → Reached (j + 1) w
-        by (inl more) = inside o e f (a.all u (j + 1 + 1) a.top a.bottom (omega (arith, a.left)) (omega arith)) (b.all d (j + 1 + 1) b.top b.bottom (omega (arith, b.left)) (omega arith)) is
-        by (inr last) =
+        by : Owns g.rows g.columns es u (j + 1) o → Owns g.rows g.columns es d (j + 1) o → (j + 1 < o.0.col + o.1.width) ⊎ (o.0.col + o.1.width ≤ j + 1) → Reached (j + 1) w
+        by a b (inl more) = inside o e f (a.all u (j + 1 + 1) a.top a.bottom (omega (arith, a.left)) (omega arith)) (b.all d (j + 1 + 1) b.top b.bottom (omega (arith, b.left)) (omega arith)) is
+        by a b (inr last) =
             let same : o.0.col + o.1.width ≡ j + 1 = omega (arith, a.right) in
-            edge (ends same (cases_Bool (joint (j + 1)))) (is ∙ ap (left g es) same)
+            edge (ends same) (is ∙ ap (left g es) same)
 
     columns-part : (j x y : ℕ) → text_width (edge_at j) ≡ x → text_width (column_at j) ≡ y → text_width (part j) ≡ x + y
     columns-part j x y e f = columns-append (edge_at j) (column_at j) ∙ ap₂ (λ x y. x + y) e f
@@ -200,36 +167,26 @@ module _ (g : Grid (List ℕ)) (es : List Rectangle) (well : LieWell g.rows g.co
         by : (is_one (up (j + 1)) (down (j + 1)) ≡ true) ⊎ (is_one (up (j + 1)) (down (j + 1)) ≡ false) → Reached (j + 1) (w + text_width (part j))
         by (inr two) =
             let wide : text_width (part j) ≡ 1 + (get_or (widths g es) j 0 + 2) = columns-part j 1 _ first (border-wide (j + 1) (j + 1) (get_or (widths g es) j 0 + 2) (all-not_down (up (j + 1)) (up (j + 1)) (down (j + 1)) (down (j + 1)) two)) in
-            let to = left-next j less in
+            let to = start-next Columns g es j less in
             edge (all-not_down (up (j + 1)) (up (j + 1 + 1)) (down (j + 1)) (down (j + 1 + 1)) two) (omega (arith, wide, to, is))
-        by (inl one) = begins (owner-both g.rows g.columns es well u (j + 1) d (j + 1) one)
+        by (inl one) =
+            let both = owner-both g.rows g.columns es well u (j + 1) d (j + 1) one in
+            at both.0 both.1 both.2 (owner-owns g.rows g.columns es well u (j + 1) both.0 both.1) (owner-owns g.rows g.columns es well d (j + 1) both.0 both.2) (cases_lt both.0.0.col j)
           where
-            begins : (o : Rectangle) × (up (j + 1) ≡ Some o) × (down (j + 1) ≡ Some o) → Reached (j + 1) (w + text_width (part j))
-            begins (o, e, f) = at (cases_lt o.0.col j)
-              where
-                a : Owns g.rows g.columns es u (j + 1) o
-                a = owner-owns g.rows g.columns es well u (j + 1) o e
-
-                b : Owns g.rows g.columns es d (j + 1) o
-                b = owner-owns g.rows g.columns es well d (j + 1) o f
-
-                at : (o.0.col < j) ⊎ (j ≤ o.0.col) → Reached (j + 1) (w + text_width (part j))
-                at (inl before) =
-                    let x = a.all u j a.top a.bottom before (omega (arith, a.right)) in
-                    let y = b.all d j b.top b.bottom before (omega (arith, b.right)) in
-                    absurd (false≢true (sym apart ∙ joint-from j o x y e f))
-                at (inr here) =
-                    let col : o.0.col ≡ j = omega (arith, a.left) in
-                    let wide : text_width (part j) ≡ 1 + (room Columns (widths g es) o.0.col o.1.width + 2) = columns-part j 1 _ first (ap text_width (column-shows j o e f col) ∙ shows-wide n u (j + 1) o e) in
-                    let to = left-end o a.lies in
-                    let same : left g es o.0.col ≡ left g es j = ap (left g es) col in
-                    past j (w + text_width (part j)) o e f (omega (arith, wide, to, is, same))
-
-    begun : Reached 0 0
-    begun = edge (ap (λ a. all_one a (up (0 + 1)) (down 0) (down (0 + 1))) (owner-left g.rows g.columns es u)) refl
+            at : (o : Rectangle) → up (j + 1) ≡ Some o → down (j + 1) ≡ Some o → Owns g.rows g.columns es u (j + 1) o → Owns g.rows g.columns es d (j + 1) o → (o.0.col < j) ⊎ (j ≤ o.0.col) → Reached (j + 1) (w + text_width (part j))
+            at o e f a b (inl before) =
+                let x = a.all u j a.top a.bottom before (omega (arith, a.right)) in
+                let y = b.all d j b.top b.bottom before (omega (arith, b.right)) in
+                absurd (false≢true (sym apart ∙ joint-from j o x y e f))
+            at o e f a b (inr here) =
+                let col : o.0.col ≡ j = omega (arith, a.left) in
+                let wide : text_width (part j) ≡ 1 + (room Columns (widths g es) o.0.col o.1.width + 2) = columns-part j 1 _ first (ap text_width (column-shows j o e f col) ∙ shows-wide n u (j + 1) o e) in
+                let to = room-end Columns (widths g es) o.0.col o.1.width a.lies.wide (omega (arith, a.lies.right, length-sizes Columns g es)) in
+                let same : left g es o.0.col ≡ left g es j = ap (left g es) col in
+                past j (w + text_width (part j)) o e f (omega (arith, wide, to, is, same))
 
     reached : (j : ℕ) → j ≤ g.columns → Reached j (text_width (each j part))
-    reached zero h = begun
+    reached zero h = edge (ap (λ a. all_one a (up (0 + 1)) (down 0) (down (0 + 1))) (owner-left g.rows g.columns es u)) refl
     reached (suc j) h =
         let go : Reached j (text_width (each j part)) = reached j (omega arith) in
         let next_one : Reached (j + 1) (text_width (each j part) + text_width (part j)) = more j (text_width (each j part)) (omega arith) go in
@@ -237,7 +194,7 @@ module _ (g : Grid (List ℕ)) (es : List Rectangle) (well : LieWell g.rows g.co
 
     -- at the right edge of the table no owner reaches over
     apart-last : joint g.columns ≡ false
-    apart-last = all-not_right (up g.columns) (up (g.columns + 1)) (down g.columns) (down (g.columns + 1)) (ap (is_one (up g.columns)) (owner-right g.rows g.columns es u (g.columns + 1) (omega arith)) ∙ none-one (up g.columns))
+    apart-last = not-joint g.columns (λ o at next at' next'. (let far = owner-owns g.rows g.columns es well u (g.columns + 1) o next in omega (arith, far.right, far.lies.right)))
 
     -- where not one owner is all round an edge, a line has come to that edge
     reached-edge : (j : ℕ) → j ≤ g.columns → joint j ≡ false → text_width (each j part) ≡ left g es j
@@ -271,12 +228,9 @@ module _ (g : Grid (List ℕ)) (es : List Rectangle) (well : LieWell g.rows g.co
             record {
               before = each j part;
               after = column_at j ++ (s.rest ++ edge_at g.columns);
-              is = ap (λ xs. xs ++ edge_at g.columns) s.is ∙ regroup (each j part) (edge_at j) (column_at j) s.rest (edge_at g.columns) ∙ ap (λ xs. each j part ++ (xs ++ (column_at j ++ (s.rest ++ edge_at g.columns)))) edge_is;
+              is = ap (λ xs. xs ++ edge_at g.columns) s.is ∙ rw edge_is (simp append_assoc);
               at = reached-edge j h apart;
             }
-          where
-            regroup : (a b c r l : List ℕ) → (a ++ ((b ++ c) ++ r)) ++ l ≡ a ++ (b ++ (c ++ (r ++ l)))
-            regroup a b c r l = simp append_assoc
         by (inr last) =
             let same : g.columns ≡ j = omega arith in
             record {
@@ -293,24 +247,17 @@ module _ (g : Grid (List ℕ)) (es : List Rectangle) (well : LieWell g.rows g.co
         record {
           before = each j part ++ edge_at j;
           after = s.rest ++ edge_at g.columns;
-          is = ap (λ xs. xs ++ edge_at g.columns) s.is ∙ regroup (each j part) (edge_at j) (column_at j) s.rest (edge_at g.columns);
+          is = ap (λ xs. xs ++ edge_at g.columns) s.is ∙ simp append_assoc;
           at = columns-append (each j part) (edge_at j) ∙ ap₂ (λ x y. x + y) (reached-edge j (omega arith) apart) (border-wide j (j + 1) 1 apart);
         }
-      where
-        regroup : (a b c r l : List ℕ) → (a ++ ((b ++ c) ++ r)) ++ l ≡ (a ++ b) ++ (c ++ (r ++ l))
-        regroup a b c r l = simp append_assoc
 
     -- between two owners stand dashes
     pub dashes-stand : (j : ℕ) → j < g.columns → u ≢ d → ((o : Rectangle) → up (j + 1) ≡ Some o → down (j + 1) ≡ Some o → ⊥) → StandsIn (picture_line g es n u d) (left g es j + 1) (replicate (left g es (j + 1) - left g es j - 1) 45)
     dashes-stand j less between never =
         let size = get_or (widths g es) j 0 + 2 in
-        let is : column_at j ≡ replicate size 45 = stretch-apart (j + 1) (j + 1) size (all-not_down (up (j + 1)) (up (j + 1)) (down (j + 1)) (down (j + 1)) (two (cases_Bool (is_one (up (j + 1)) (down (j + 1)))))) ∙ ap (replicate size) (ap₂ (λ x y. cond x 124 (cond y 45 43)) (ne_eqb u d between) (eq-eqb (j + 1) (j + 1) refl)) in
-        let many : size ≡ left g es (j + 1) - left g es j - 1 = omega (arith, left-next j less) in
+        let is : column_at j ≡ replicate size 45 = stretch-apart (j + 1) (j + 1) size (all-not_down (up (j + 1)) (up (j + 1)) (down (j + 1)) (down (j + 1)) (false_from_ne_true _ (λ t. (let both = owner-both g.rows g.columns es well u (j + 1) d (j + 1) t in never both.0 both.1 both.2)))) ∙ ap (replicate size) (ap₂ (λ x y. cond x 124 (cond y 45 43)) (ne_eqb u d between) (eq-eqb (j + 1) (j + 1) refl)) in
+        let many : size ≡ left g es (j + 1) - left g es j - 1 = omega (arith, start-next Columns g es j less) in
         subst (StandsIn (picture_line g es n u d) (left g es j + 1)) (is ∙ ap (λ k. replicate k 45) many) (column-stands j less (not-joint j (λ o e e' f f'. never o e' f')))
-      where
-        two : (is_one (up (j + 1)) (down (j + 1)) ≡ true) ⊎ (is_one (up (j + 1)) (down (j + 1)) ≡ false) → is_one (up (j + 1)) (down (j + 1)) ≡ false
-        two (inr f) = f
-        two (inl t) = let both = owner-both g.rows g.columns es well u (j + 1) d (j + 1) t in absurd (never both.0 both.1 both.2)
 
     -- what a cell shows stands at its left edge
     pub cell-stands : (j : ℕ) (o : Rectangle) → j < g.columns → o.0.col ≡ j → up (j + 1) ≡ Some o → down (j + 1) ≡ Some o → StandsIn (picture_line g es n u d) (left g es j + 1) (shows g es n o)
@@ -318,6 +265,5 @@ module _ (g : Grid (List ℕ)) (es : List Rectangle) (well : LieWell g.rows g.co
       where
         begins : (p : Rectangle) → up j ≡ Some p → up (j + 1) ≡ Some p → down j ≡ Some p → down (j + 1) ≡ Some p → ⊥
         begins p a a' b b' =
-            let same : o ≡ p = same_Some _ _ (sym e ∙ a') in
-            let far = owner-owns g.rows g.columns es well u j o (a ∙ ap Some (sym same)) in
+            let far = owner-owns g.rows g.columns es well u j o (a ∙ sym a' ∙ e) in
             omega (arith, far.left)

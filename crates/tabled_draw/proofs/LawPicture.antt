@@ -1,36 +1,36 @@
 -- The lines of a picture, and what stands in them.
-use Rattle.std.proofs.Common.{◌≡◌, ◌≢◌, ◌∙◌, ◌+◌, ◌-◌, ◌<◌, ◌≤◌, ◌⊎◌, ◌++◌, inl, inr, ℕ, Bool, true, false, cond, suc, zero, List, [], ◌∷◌, Some, refl, sym, ap, ap₂, subst, arith, length, get_or, replicate, add-one, add-zero, append_assoc, length-append}
-use Rattle.std.specs.Prelude.{◌&&◌, ◌||◌, ◌==◌, not}
-use Rattle.std.specs.List.{AllByRecursion}
-use Rattle.std.proofs.lemmas.Bool.{and_from, cases_eq, cases_lt, cond-false, false≢true}
+use Rattle.std.specs.List.{sum, sum_by, AllByRecursion, list_any}
+use Rattle.std.proofs.Common.{take_all, ◌≡◌, ◌≢◌, ◌∙◌, ◌+◌, ◌-◌, ◌<◌, ◌≤◌, ◌⊎◌, ◌++◌, inl, inr, ℕ, Bool, true, false, cond, suc, zero, List, [], ◌∷◌, Some, refl, sym, ap, ap₂, subst, arith, length, get_or, replicate, add-one, add-zero, append_assoc, length-append, Option, None, map, ◌&&◌, ◌==◌, ◌||◌, not, chars}
+use borrow.Author.Tests.{ne_eqb, eq-eqb, le-leb, lt-ltb}
+use Rattle.std.proofs.lemmas.List.Sums.{sum_by-cons}
+use Rattle.tabled_grid.specs.Entity.{place, same_place}
+use Rattle.std.proofs.lemmas.Bool.{and_from, cases_eq, cases_lt, cond-false, false≢true, eqb-false, ltb-false}
 use Rattle.std.proofs.lemmas.List.{get_or_append_left, get_or-append-add}
-use borrow.Author.Tests.{ne_eqb}
 use Rattle.tabled_draw.proofs.Each.{all-each, get-singles, length-singles, split-each}
-use Rattle.tabled_draw.proofs.LawLines.{cell-stands, columns-append, columns-blank, line-wide}
-use Rattle.tabled_draw.proofs.Owned.{LieWell, LiesIn, Owned, owned, owner-inside, owner-lies, owner-owns}
+use Rattle.tabled_draw.proofs.LawLines.{cell-stands, columns-append, columns-blank, line-wide, dashes-stand, edge-stands}
+use Rattle.tabled_draw.proofs.Owned.{LieWell, LiesIn, Owned, owned, owner-inside, owner-lies, owner-owns, Inside, Owns, owner-some}
 use Rattle.tabled_draw.proofs.Owned.Owned.{alone, held}
-use Rattle.tabled_draw.proofs.LawSizes.{line-least, room-end, length-sizes, room-enough, start-next}
+use Rattle.tabled_draw.proofs.Sizes.{line-least, room-end, length-sizes, room-enough, start-next}
 use Rattle.tabled_draw.specs.Each.{each}
 use Rattle.tabled_draw.specs.Owners.{owner, owner_in}
-use Rattle.tabled_draw.specs.Picture.{left, picture_line, lines_of_row, picture, shows, top}
+use Rattle.tabled_draw.specs.Picture.{left, picture_line, lines_of_row, picture, shows, top, shows_in, border_stretch}
 use Rattle.tabled_draw.specs.Sizes.{heights, room, text_of_cell, widths}
-use Rattle.tabled_draw.specs.Overall.{AreEquallyWide}
-use Rattle.tabled_draw.specs.Standing.{IsSeen, ShowsTexts, StandsAt, StandsIn, inner_height, inner_width, padded, text_line}
-use Rattle.tabled_draw.specs.Texts.{text_width, lines_shown, widest}
+use Rattle.tabled_draw.specs.Overall.{AreEquallyWide, AreNoControls, IsNoControl}
+use Rattle.tabled_draw.specs.Standing.{IsSeen, ShowsTexts, StandsAt, StandsIn, inner_height, inner_width, padded, text_line, StandBetween, is_amid, is_in_range, is_joined_above, is_joined_around, is_joined_beside}
+use Rattle.tabled_draw.specs.Texts.{text_width, lines_shown, widest, shown_character, shown_line}
 use Rattle.tabled_grid.proofs.Members.{Member, any-from}
-use Rattle.tabled_grid.proofs.SpanMaps.{same_place-apart}
+use Rattle.tabled_grid.proofs.SpanMaps.{same_place-apart, holds-from}
 use Rattle.tabled_grid.proofs.Geometry.{cases_place}
-use Rattle.tabled_grid.proofs.SpanMaps.{holds-from}
 use Rattle.tabled_grid.proofs.Lists.{all-append}
 use Rattle.tabled_grid.specs.Anchors.{is_hidden_in}
-use Rattle.tabled_grid.specs.Entity.{same_place}
 use Rattle.tabled_grid.specs.Grid.{Grid, IsInside}
 use Rattle.tabled_grid.specs.Rectangles.{holds}
 use Rattle.tabled_grid.specs.declared.config.position.Position.{Position}
 use Rattle.tabled_grid.specs.declared.records.axis.Axis.TheVariants.{Columns, Rows}
-use Rattle.tabled_grid.specs.Spans.{Rectangle}
+use Rattle.tabled_grid.specs.Spans.{Rectangle, sized}
 use Rattle.std.proofs.lemmas.Bool.Decides.{nat_tests}
 use Rattle.std.proofs.lemmas.Grind.{common_steps}
+use Rattle.tabled_grid.specs.declared.config.size.Size.{Size}
 
 -- what no other merged cell holds owns itself
 pub owner-self : (es : List Rectangle) (p : Position) → is_hidden_in es p ≡ false → (owner_in es p).0 ≡ p
@@ -49,12 +49,9 @@ stands-part : (row : List ℕ) (columns : ℕ) (a b c : List ℕ) → StandsIn r
 stands-part row columns a b c s = record {
   before = s.before ++ a;
   after = c ++ s.after;
-  is = s.is ∙ regroup s.before a b c s.after;
+  is = s.is ∙ simp append_assoc;
   at = columns-append s.before a ∙ ap (λ n. n + text_width a) s.at;
 }
-  where
-    regroup : (x a b c y : List ℕ) → x ++ ((a ++ (b ++ c)) ++ y) ≡ (x ++ a) ++ (b ++ (c ++ y))
-    regroup x a b c y = simp append_assoc
 
 module _ (g : Grid (List ℕ)) (es : List Rectangle) where
   -- ---- which line of the picture is which
@@ -96,11 +93,8 @@ module _ (g : Grid (List ℕ)) (es : List Rectangle) where
         let whole : picture g es ≡ each r (lines_of_row g es) ++ (lines_of_row g es r ++ (s.rest ++ end)) = picture-is ∙ ap (λ xs. xs ++ end) s.is ∙ append_assoc (each r (lines_of_row g es)) (lines_of_row g es r ++ s.rest) end ∙ ap (λ xs. each r (lines_of_row g es) ++ xs) (append_assoc (lines_of_row g es r) s.rest end) in
         let before : length (each r (lines_of_row g es)) ≡ top g es r = length-rows r (omega arith) in
         let here : length (lines_of_row g es r) ≡ get_or (heights g es) r 0 + 1 = length-row r in
-        let a : length (each r (lines_of_row g es) ++ (lines_of_row g es r ++ (s.rest ++ end))) ≡ length (each r (lines_of_row g es)) + length (lines_of_row g es r ++ (s.rest ++ end)) = length-append (each r (lines_of_row g es)) (lines_of_row g es r ++ (s.rest ++ end)) in
-        let b : length (lines_of_row g es r ++ (s.rest ++ end)) ≡ length (lines_of_row g es r) + length (s.rest ++ end) = length-append (lines_of_row g es r) (s.rest ++ end) in
-        let all : length (picture g es) ≡ length (each r (lines_of_row g es) ++ (lines_of_row g es r ++ (s.rest ++ end))) = ap length whole in
         record {
-          inside = omega arith;
+          inside = omega (arith, ap length whole, length-append (each r (lines_of_row g es)) (lines_of_row g es r ++ (s.rest ++ end)), length-append (lines_of_row g es r) (s.rest ++ end));
           is = ap (λ (xs : List (List ℕ)). get_or xs (top g es r + y) []) whole ∙ ap (λ k. get_or (each r (lines_of_row g es) ++ (lines_of_row g es r ++ (s.rest ++ end))) (k + y) []) (sym before) ∙ get_or-append-add (each r (lines_of_row g es)) (lines_of_row g es r ++ (s.rest ++ end)) y [] ∙ get_or_append_left (lines_of_row g es r) (s.rest ++ end) [] y (omega arith);
         }
 
@@ -138,40 +132,38 @@ module _ (g : Grid (List ℕ)) (es : List Rectangle) where
       wider (border r x y e) = border r x (omega arith) e
       wider (text r x y e f) = text r x (omega arith) e f
 
-      at : (h ≡ 0) ⊎ (h ≢ 0) → top g es (a + h) ≡ n → Where a (suc h) n
-      at (inl none) e = let same : top g es (a + h) ≡ top g es a = ap (top g es) (let z : a + h ≡ a = omega arith in z) in absurd (omega arith)
-      at (inr some) e = border (a + h) (omega arith) (omega arith) e
-
-      here : (n < top g es (a + h) + 1) ⊎ (top g es (a + h) + 1 ≤ n) → top g es (a + h) ≤ n → Where a (suc h) n
-      here (inl same) least = at (cases_eq h 0) (omega arith)
-      here (inr later) least = text (a + h) (omega arith) (omega arith) (omega arith) past
+      here : (h ≡ 0) ⊎ (h ≢ 0) → (top g es (a + h) ≡ n) ⊎ (top g es (a + h) ≢ n) → top g es (a + h) ≤ n → Where a (suc h) n
+      here (inl none) (inl e) least = let same : top g es (a + h) ≡ top g es a = ap (top g es) (let z : a + h ≡ a = omega arith in z) in absurd (omega arith)
+      here (inr some) (inl e) least = border (a + h) (omega arith) (omega arith) e
+      here _ (inr later) least = text (a + h) (omega arith) (omega arith) (omega arith) past
 
       by : (n < top g es (a + h)) ⊎ (top g es (a + h) ≤ n) → (n < top g es (a + h) → Where a h n) → Where a (suc h) n
       by (inl less) go = wider (go less)
-      by (inr more) go = here (cases_lt n (top g es (a + h) + 1)) more
+      by (inr more) go = here (cases_eq h 0) (cases_eq (top g es (a + h)) n) more
+
+  -- what is said of every line
+  pub all-lines : (P : List ℕ → Type 0) → ((n u d : ℕ) → P (picture_line g es n u d)) → AllByRecursion P (picture g es)
+  all-lines P line = by ((g.rows == 0) || (g.columns == 0))
+    where
+      row : (i : ℕ) → AllByRecursion P (lines_of_row g es i)
+      row i = (line (top g es i) i (i + 1), all-each P (λ y. picture_line g es (top g es i + 1 + y) (i + 1) (i + 1) ∷ []) (λ y. (line (top g es i + 1 + y) (i + 1) (i + 1), tt)) (get_or (heights g es) i 0))
+
+      by : (b : Bool) → AllByRecursion P (cond b [] (each g.rows (lines_of_row g es) ++ (picture_line g es (top g es g.rows) g.rows (g.rows + 1) ∷ [])))
+      by true = tt
+      by false = all-append P (each g.rows (lines_of_row g es)) (picture_line g es (top g es g.rows) g.rows (g.rows + 1) ∷ []) (all-each P (lines_of_row g es) row g.rows) (line (top g es g.rows) g.rows (g.rows + 1), tt)
 
 module _ (g : Grid (List ℕ)) (es : List Rectangle) (well : LieWell g.rows g.columns es) where
   pub equally-wide : AreEquallyWide g es
-  equally-wide = by ((g.rows == 0) || (g.columns == 0))
-    where
-      row : (i : ℕ) → AllByRecursion (λ picture_line. text_width picture_line ≡ left g es g.columns + 1) (lines_of_row g es i)
-      row i = (line-wide g es well (top g es i) i (i + 1), all-each (λ picture_line. text_width picture_line ≡ left g es g.columns + 1) (λ y. picture_line g es (top g es i + 1 + y) (i + 1) (i + 1) ∷ []) (λ y. (line-wide g es well (top g es i + 1 + y) (i + 1) (i + 1), tt)) (get_or (heights g es) i 0))
-
-      by : (b : Bool) → AllByRecursion (λ picture_line. text_width picture_line ≡ left g es g.columns + 1) (cond b [] (each g.rows (lines_of_row g es) ++ (picture_line g es (top g es g.rows) g.rows (g.rows + 1) ∷ [])))
-      by true = tt
-      by false = all-append (λ picture_line. text_width picture_line ≡ left g es g.columns + 1) (each g.rows (lines_of_row g es)) (picture_line g es (top g es g.rows) g.rows (g.rows + 1) ∷ []) (all-each (λ picture_line. text_width picture_line ≡ left g es g.columns + 1) (lines_of_row g es) row g.rows) (line-wide g es well (top g es g.rows) g.rows (g.rows + 1), tt)
+  equally-wide = all-lines g es (λ picture_line. text_width picture_line ≡ left g es g.columns + 1) (line-wide g es well)
 
   -- ---- what a cell shows
 
   module _ (p : Position) (it : IsSeen g es p) where
-    inside : IsInside g p
-    inside = it.inside
-
     self : (owner_in es p).0 ≡ p
     self = owner-self es p it.seen
 
     lies : LiesIn g.rows g.columns (owner_in es p)
-    lies = owner-lies g.rows g.columns es well p inside.row inside.col
+    lies = owner-lies g.rows g.columns es well p it.inside.row it.inside.col
 
     row_is : (owner_in es p).0.row ≡ p.row
     row_is = ap (λ (q : Position). q.row) self
@@ -180,23 +172,17 @@ module _ (g : Grid (List ℕ)) (es : List Rectangle) (well : LieWell g.rows g.co
     col_is = ap (λ (q : Position). q.col) self
 
     owns : (r : ℕ) → p.row < r → r ≤ p.row + (owner_in es p).1.height → owner g.rows g.columns es r (p.col + 1) ≡ Some (owner_in es p)
-    owns r above below = (owner-owns g.rows g.columns es well (p.row + 1) (p.col + 1) (owner_in es p) (owner-inside g.rows g.columns es p.row p.col inside.row inside.col)).all r (p.col + 1) (omega (arith, row_is)) (omega (arith, row_is)) (omega (arith, col_is)) (omega (arith, col_is, lies.wide))
+    owns r above below = (owner-owns g.rows g.columns es well (p.row + 1) (p.col + 1) (owner_in es p) (owner-inside g.rows g.columns es p.row p.col it.inside.row it.inside.col)).all r (p.col + 1) (omega (arith, row_is)) (omega (arith, row_is)) (omega (arith, col_is)) (omega (arith, col_is, lies.wide))
 
     shows-stands : (n : ℕ) → top g es p.row < n → n < top g es (p.row + (owner_in es p).1.height) → StandsAt (picture g es) n (left g es p.col + 1) (shows g es n (owner_in es p))
     shows-stands n low high = by (locate g es p.row (owner_in es p).1.height n (omega (arith, row_is, lies.bottom)) low high)
       where
-        low' : 0 < g.rows
-        low' = omega (arith, inside.row)
-
-        far' : 0 < g.columns
-        far' = omega (arith, inside.col)
-
         by : Where g es p.row (owner_in es p).1.height n → StandsAt (picture g es) n (left g es p.col + 1) (shows g es n (owner_in es p))
         by (border r above below is) =
-            let l : IsLine g es n (picture_line g es n r (r + 1)) = subst (λ k. IsLine g es k (picture_line g es k r (r + 1))) is (line-above g es low' far' r (omega (arith, row_is, lies.bottom))) in
-            stands-at g es n (left g es p.col + 1) (picture_line g es n r (r + 1)) (shows g es n (owner_in es p)) l (cell-stands g es well n r (r + 1) p.col (owner_in es p) inside.col col_is (owns r above (omega arith)) (owns (r + 1) (omega arith) (omega arith)))
+            let l : IsLine g es n (picture_line g es n r (r + 1)) = subst (λ k. IsLine g es k (picture_line g es k r (r + 1))) is (line-above g es (omega (arith, it.inside.row)) (omega (arith, it.inside.col)) r (omega (arith, row_is, lies.bottom))) in
+            stands-at g es n (left g es p.col + 1) (picture_line g es n r (r + 1)) (shows g es n (owner_in es p)) l (cell-stands g es well n r (r + 1) p.col (owner_in es p) it.inside.col col_is (owns r above (omega arith)) (owns (r + 1) (omega arith) (omega arith)))
         by (text r above below x y) =
-            stands-at g es n (left g es p.col + 1) (picture_line g es n (r + 1) (r + 1)) (shows g es n (owner_in es p)) (line-in g es low' far' r n (omega (arith, row_is, lies.bottom)) x y) (cell-stands g es well n (r + 1) (r + 1) p.col (owner_in es p) inside.col col_is (owns (r + 1) (omega arith) (omega arith)) (owns (r + 1) (omega arith) (omega arith)))
+            stands-at g es n (left g es p.col + 1) (picture_line g es n (r + 1) (r + 1)) (shows g es n (owner_in es p)) (line-in g es (omega (arith, it.inside.row)) (omega (arith, it.inside.col)) r n (omega (arith, row_is, lies.bottom)) x y) (cell-stands g es well n (r + 1) (r + 1) p.col (owner_in es p) it.inside.col col_is (owns (r + 1) (omega arith) (omega arith)) (owns (r + 1) (omega arith) (omega arith)))
 
     -- its room
     width-enough : (k : ℕ) → text_width (text_line g p k) ≤ room Columns (widths g es) p.col (owner_in es p).1.width
@@ -243,3 +229,120 @@ module _ (g : Grid (List ℕ)) (es : List Rectangle) (well : LieWell g.rows g.co
 
   pub shows-texts : ShowsTexts g es
   shows-texts = record { whole = text-whole; alone = text-alone; high = text-high; wide = text-wide }
+
+-- ---- how many lines there are
+
+sum-ended : (s : List ℕ) → sum_by (λ size. size + 1) s ≡ sum s + length s
+sum-ended [] = refl
+sum-ended (x ∷ s) = omega (arith, sum-ended s, sum_by-cons (λ size. size + 1) x s, sum_by-cons (λ n. n) x s)
+
+pub lines-number : (g : Grid (List ℕ)) (es : List Rectangle) → IsInside g (place 0 0) → length (picture g es) ≡ sum (heights g es) + g.rows + 1
+lines-number g es some =
+    let high : length (heights g es) ≡ g.rows = length-sizes Rows g es in
+    let all : top g es g.rows ≡ sum_by (λ size. size + 1) (heights g es) = ap (sum_by (λ size. size + 1)) (take_all g.rows (heights g es) (omega arith)) in
+    omega (arith, length-picture g es some.row some.col, sum-ended (heights g es))
+
+pub lines-none : (g : Grid (List ℕ)) (es : List Rectangle) → (g.rows ≡ 0) ⊎ (g.columns ≡ 0) → picture g es ≡ []
+lines-none g es none = grind (arith, nat_tests)
+
+-- ---- no character of a picture is a control character
+
+shown-fine : (c : ℕ) → IsNoControl (shown_character c)
+shown-fine c = grind (arith, nat_tests, ltb-false, eqb-false)
+
+all-shown : (cs : List ℕ) → AreNoControls (map shown_character cs)
+all-shown [] = tt
+all-shown (c ∷ cs) = (shown-fine c, all-shown cs)
+
+all-texts : (lines : List (List ℕ)) → AllByRecursion AreNoControls (map shown_line lines)
+all-texts [] = tt
+all-texts (x ∷ lines) = (all-shown (chars x), all-texts lines)
+
+line-fine : (lines : List (List ℕ)) (k : ℕ) → AllByRecursion AreNoControls lines → AreNoControls (get_or lines k [])
+line-fine lines k h1 = grind (arith, common_steps, nat_tests)
+
+all-repeated : (n c : ℕ) → IsNoControl c → AreNoControls (replicate n c)
+all-repeated zero c s = tt
+all-repeated (suc n) c s = (s, all-repeated n c s)
+
+blank-fine : IsNoControl 32
+blank-fine = record { above = omega arith; no_delete = λ e. omega (arith, e); outside = inl (omega arith) }
+
+mark-fine : (b c : Bool) → IsNoControl (cond b 124 (cond c 45 43))
+mark-fine b c = grind (arith, nat_tests)
+
+module _ (g : Grid (List ℕ)) (es : List Rectangle) where
+  all-shows : (n : ℕ) (o : Rectangle) → AreNoControls (shows g es n o)
+  all-shows n o = grind (arith, nat_tests, blank-fine, all-append, line-fine, all-texts, all-repeated)
+
+  all-shows_in : (n l r : ℕ) (a : Option Rectangle) → AreNoControls (shows_in g es n l r a)
+  all-shows_in n l r None = tt
+  all-shows_in n l r (Some o) = grind (arith, nat_tests, all-shows)
+
+  all-stretch : (n u d l r size : ℕ) → AreNoControls (border_stretch g es n u d l r size)
+  all-stretch n u d l r size = grind (arith, common_steps, nat_tests, all-shows_in, all-repeated, mark-fine)
+
+  all-line : (n u d : ℕ) → AreNoControls (picture_line g es n u d)
+  all-line n u d =
+      let part : ℕ → List ℕ = λ j. border_stretch g es n u d j (j + 1) 1 ++ border_stretch g es n u d (j + 1) (j + 1) (get_or (widths g es) j 0 + 2) in
+      all-append IsNoControl (each g.columns part) (border_stretch g es n u d g.columns (g.columns + 1) 1)
+      (all-each IsNoControl part (λ j. all-append IsNoControl (border_stretch g es n u d j (j + 1) 1) (border_stretch g es n u d (j + 1) (j + 1) (get_or (widths g es) j 0 + 2)) (all-stretch n u d j (j + 1) 1) (all-stretch n u d (j + 1) (j + 1) (get_or (widths g es) j 0 + 2))) g.columns)
+      (all-stretch n u d g.columns (g.columns + 1) 1)
+
+  pub no-controls : AllByRecursion AreNoControls (picture g es)
+  no-controls = all-lines g es AreNoControls all-line
+
+-- ---- where borders stand in a picture
+
+among-from : (k at n : ℕ) → at ≤ k → k < at + n → is_in_range k at n ≡ true
+among-from k at n low high = and_from _ _ (le-leb at k low) (lt-ltb k (at + n) high)
+
+amid-from : (k at n : ℕ) → at < k → k < at + n → is_amid k at n ≡ true
+amid-from k at n low high = and_from _ _ (lt-ltb at k low) (lt-ltb k (at + n) high)
+
+module _ (g : Grid (List ℕ)) (es : List Rectangle) (well : LieWell g.rows g.columns es) (some : IsInside g (place 0 0)) where
+  -- an owner is a merged cell, or takes one place
+  merged : (i j : ℕ) (o : Rectangle) → owner g.rows g.columns es i j ≡ Some o → Member o es ⊎ (o.1 ≡ sized 1 1)
+  merged i j o e = by (owned es (place s.row s.col)) s.is
+    where
+      s : Inside g.rows g.columns es i j o
+      s = owner-some g.rows g.columns es i j o e
+
+      by : Owned es (place s.row s.col) (owner_in es (place s.row s.col)) → o ≡ owner_in es (place s.row s.col) → Member o es ⊎ (o.1 ≡ sized 1 1)
+      by (held m h) is = inl (subst (λ (x : Rectangle). Member x es) (sym is) m)
+      by (alone single never) is = inr (ap (λ (x : Rectangle). x.1) (is ∙ single))
+
+  -- no owner has two places, unless a test says so of a merged cell
+  crossed : (test : Rectangle → Bool) (i j k l : ℕ) → list_any test es ≡ false → i + j < k + l → ((o : Rectangle) → Owns g.rows g.columns es i j o → Owns g.rows g.columns es k l o → test o ≡ true)
+      → (o : Rectangle) → owner g.rows g.columns es i j ≡ Some o → owner g.rows g.columns es k l ≡ Some o → ⊥
+  crossed test i j k l clear apart meets o e f = by (merged i j o e) (owner-owns g.rows g.columns es well i j o e) (owner-owns g.rows g.columns es well k l o f)
+    where
+      by : Member o es ⊎ (o.1 ≡ sized 1 1) → Owns g.rows g.columns es i j o → Owns g.rows g.columns es k l o → ⊥
+      by (inl m) a b = false≢true (sym clear ∙ any-from test o es m (meets o a b))
+      by (inr one) a b = let h : o.1.height ≡ 1 = ap (λ (x : Size). x.height) one in let w : o.1.width ≡ 1 = ap (λ (x : Size). x.width) one in omega arith
+
+  beside-stands : (i j n : ℕ) → i < g.rows → j ≤ g.columns → top g es i < n → n < top g es (i + 1) → is_joined_beside es i j ≡ false
+      → StandsAt (picture g es) n (left g es j) (124 ∷ [])
+  beside-stands i j n h k above below clear =
+      stands-at g es n (left g es j) (picture_line g es n (i + 1) (i + 1)) (124 ∷ []) (line-in g es some.row some.col i n h above below)
+      (subst (λ b. StandsIn (picture_line g es n (i + 1) (i + 1)) (left g es j) (cond b 124 43 ∷ [])) (eq-eqb (i + 1) (i + 1) refl) (edge-stands g es well n (i + 1) (i + 1) j k
+      (λ o e e' f f'. crossed (λ (e : Rectangle). is_in_range i e.0.row e.1.height && is_amid j e.0.col e.1.width) (i + 1) j (i + 1) (j + 1) clear (omega arith)
+      (λ o a b. and_from _ _ (among-from i o.0.row o.1.height (omega (arith, a.top)) (omega (arith, a.bottom))) (amid-from j o.0.col o.1.width a.left (omega (arith, b.right)))) o e e')))
+
+  above-stands : (i j : ℕ) → i ≤ g.rows → j < g.columns → is_joined_above es i j ≡ false
+      → StandsAt (picture g es) (top g es i) (left g es j + 1) (replicate (left g es (j + 1) - left g es j - 1) 45)
+  above-stands i j h k clear =
+      stands-at g es (top g es i) (left g es j + 1) (picture_line g es (top g es i) i (i + 1)) (replicate (left g es (j + 1) - left g es j - 1) 45) (line-above g es some.row some.col i h)
+      (dashes-stand g es well (top g es i) i (i + 1) j k (λ same. omega (arith, same)) (crossed (λ (e : Rectangle). is_amid i e.0.row e.1.height && is_in_range j e.0.col e.1.width) i (j + 1) (i + 1) (j + 1) clear (omega arith)
+      (λ o a b. and_from _ _ (amid-from i o.0.row o.1.height a.top (omega (arith, b.bottom))) (among-from j o.0.col o.1.width (omega (arith, a.left)) (omega (arith, a.right))))))
+
+  corner-stands : (i j : ℕ) → i ≤ g.rows → j ≤ g.columns → is_joined_around es i j ≡ false
+      → StandsAt (picture g es) (top g es i) (left g es j) (43 ∷ [])
+  corner-stands i j h k clear =
+      stands-at g es (top g es i) (left g es j) (picture_line g es (top g es i) i (i + 1)) (43 ∷ []) (line-above g es some.row some.col i h)
+      (subst (λ b. StandsIn (picture_line g es (top g es i) i (i + 1)) (left g es j) (cond b 124 43 ∷ [])) (ne_eqb i (i + 1) (λ same. omega (arith, same))) (edge-stands g es well (top g es i) i (i + 1) j k
+      (λ o e e' f f'. crossed (λ (e : Rectangle). is_amid i e.0.row e.1.height && is_amid j e.0.col e.1.width) i j (i + 1) (j + 1) clear (omega arith)
+      (λ o a b. and_from _ _ (amid-from i o.0.row o.1.height a.top (omega (arith, b.bottom))) (amid-from j o.0.col o.1.width a.left (omega (arith, b.right)))) o e f')))
+
+  pub stand-between : StandBetween g es
+  stand-between = record { beside = beside-stands; above = above-stands; corner = corner-stands }

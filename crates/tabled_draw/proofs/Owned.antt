@@ -1,17 +1,12 @@
--- Who owns a place.
-use Rattle.std.proofs.Common.{◌≡◌, ◌∙◌, ◌+◌, ◌-◌, ◌<◌, ◌≤◌, ◌⊎◌, inl, inr, ℕ, true, false, List, [], ◌∷◌, Option, None, Some, refl, sym, ap, ap₂, subst, arith, length, get_or}
-use Rattle.std.specs.FinMap.{entries, entries_sorted, get, get-entries}
-use Rattle.std.specs.Prelude.{◌&&◌, nat_le, nat_lt}
-use Rattle.std.specs.Option.{unwrap_or}
-use borrow.Author.Tests.{leb-true, ltb-true}
-use Rattle.std.proofs.lemmas.Bool.{and_parts, cases_Bool, false≢true, cond-true, cond-false}
+-- Who owns a place, and which anchors stand before it.
+use Rattle.std.proofs.Common.{◌≡◌, ◌∙◌, ◌+◌, ◌-◌, ◌<◌, ◌≤◌, ◌⊎◌, inl, inr, ℕ, true, false, List, [], ◌∷◌, Option, None, Some, refl, sym, ap, ap₂, subst, arith, length, get_or, ◌≢◌, cond, suc, zero, ◌&&◌, nat_le, nat_lt, T, unwrap_or, get_or-set_same, get_or-set_other, length-set, set}
+use Rattle.std.specs.FinMap.{entries, entries_sorted, get, get-entries, find, is_sorted}
+use Rattle.std.proofs.lemmas.Bool.{false_from_ne_true, cases_Bool, false≢true, cond-true, cond-false}
 use Rattle.std.proofs.lemmas.Option.{none-some, same_Some}
-use Rattle.std.proofs.lemmas.List.{get_or-set_same, get_or-set_other}
-use Rattle.std.proofs.Math.ListN.{length-set, set}
-use Rattle.tabled_draw.specs.OwnerRows.{IsOwnerRow, chosen, is_held_by}
+use Rattle.tabled_draw.specs.OwnerRows.{IsOwnerRow, chosen, is_held_by, count_before, is_before}
 use Rattle.tabled_draw.specs.Owners.{is_one, owner, owner_in}
 use Rattle.tabled_grid.proofs.Members.{Member, find-member, sorted-find}
-use Rattle.tabled_grid.proofs.SpanMaps.{holds-true, holds-from, same_place-true, size_at-some, size_at-none, At, at}
+use Rattle.tabled_grid.proofs.SpanMaps.{holds-true, holds-from, same_place-true, size_at-some, size_at-none, At, at, equal, found_above, halves}
 use Rattle.tabled_grid.proofs.SpanMaps.At.{none, some}
 use Rattle.tabled_grid.proofs.Spans.{positions_exact, positions_total}
 use Rattle.tabled_grid.specs.Entity.{place}
@@ -22,6 +17,8 @@ use Rattle.tabled_grid.specs.Spans.{SpanMap, size_at, position_cmp, Rectangle, s
 use Rattle.tabled_grid.specs.declared.config.position.Position.{Position}
 use Rattle.std.proofs.lemmas.Bool.Decides.{nat_tests}
 use Rattle.std.proofs.lemmas.Grind.{common_steps}
+use Rattle.tabled_grid.proofs.PassedAnchors.{Earlier, earlier}
+use Rattle.tabled_grid.specs.declared.config.size.Size.{Size}
 
 -- an anchor lies in a table
 pub record LiesIn (rows columns : ℕ) (o : Rectangle) : Type 0 where
@@ -113,13 +110,7 @@ owner-some rows columns es i j o e = by (cases_Bool ((nat_lt 0 i && nat_le i row
     by : (((nat_lt 0 i && nat_le i rows) && (nat_lt 0 j && nat_le j columns)) ≡ true) ⊎ (((nat_lt 0 i && nat_le i rows) && (nat_lt 0 j && nat_le j columns)) ≡ false) → Inside rows columns es i j o
     by (inr f) = absurd (none-some _ (sym (cond-false _ _ _ f) ∙ e))
     by (inl t) =
-        let parts : (nat_lt 0 i && nat_le i rows ≡ true) × (nat_lt 0 j && nat_le j columns ≡ true) = and_parts _ _ t in
-        let rs : (nat_lt 0 i ≡ true) × (nat_le i rows ≡ true) = and_parts _ _ parts.0 in
-        let cs : (nat_lt 0 j ≡ true) × (nat_le j columns ≡ true) = and_parts _ _ parts.1 in
-        let r0 : 0 < i = ltb-true _ _ rs.0 in
-        let r1 : i ≤ rows = leb-true _ _ rs.1 in
-        let c0 : 0 < j = ltb-true _ _ cs.0 in
-        let c1 : j ≤ columns = leb-true _ _ cs.1 in
+        let within : (0 < i) × (i ≤ rows) × (0 < j) × (j ≤ columns) = grind (arith, nat_tests) in
         record { row = i - 1; col = j - 1; is_row = omega arith; is_col = omega arith; below = omega arith; right = omega arith; is = same_Some _ _ (sym e ∙ cond-true _ _ _ t) }
 
 -- the same with what it holds
@@ -155,12 +146,6 @@ module _ (rows columns : ℕ) (es : List Rectangle) (well : LieWell rows columns
           ∙ owner-inside rows columns es (k - 1) (l - 1) (omega (arith, lies.bottom)) (omega (arith, lies.right))
           ∙ ap Some (owner-shared rows columns es well p (place (k - 1) (l - 1)) (record { top = omega arith; bottom = omega arith; left = omega arith; right = omega arith }))
 
-  pub owner-same : (i j k l : ℕ) (o p : Rectangle) → owner rows columns es i j ≡ Some o → owner rows columns es k l ≡ Some p → is_one (Some o) (Some p) ≡ true → o ≡ p
-  owner-same i j k l o p e f one =
-      let s = owner-some rows columns es i j o e in
-      let t = owner-some rows columns es k l p f in
-      s.is ∙ owner-one rows columns es well (place s.row s.col) (place t.row t.col) s.below s.right t.below t.right (ap (λ (x : Rectangle). x.0) (sym s.is) ∙ same_place-true o.0 p.0 one ∙ ap (λ (x : Rectangle). x.0) t.is) ∙ sym t.is
-
   -- two places that have one owner
   pub owner-both : (i j k l : ℕ) → is_one (owner rows columns es i j) (owner rows columns es k l) ≡ true → (o : Rectangle) × (owner rows columns es i j ≡ Some o) × (owner rows columns es k l ≡ Some o)
   owner-both i j k l one = by (owner rows columns es i j) refl (owner rows columns es k l) refl one
@@ -168,7 +153,11 @@ module _ (rows columns : ℕ) (es : List Rectangle) (well : LieWell rows columns
       by : (a : Option Rectangle) → owner rows columns es i j ≡ a → (b : Option Rectangle) → owner rows columns es k l ≡ b → is_one a b ≡ true → (o : Rectangle) × (owner rows columns es i j ≡ Some o) × (owner rows columns es k l ≡ Some o)
       by None e b f t = absurd (false≢true t)
       by (Some o) e None f t = absurd (false≢true t)
-      by (Some o) e (Some p) f t = (o, e, f ∙ ap Some (sym (owner-same i j k l o p e f t)))
+      by (Some o) e (Some p) f one =
+          let s = owner-some rows columns es i j o e in
+          let t = owner-some rows columns es k l p f in
+          let same : o ≡ p = s.is ∙ owner-one rows columns es well (place s.row s.col) (place t.row t.col) s.below s.right t.below t.right (ap (λ (x : Rectangle). x.0) (sym s.is) ∙ same_place-true o.0 p.0 one ∙ ap (λ (x : Rectangle). x.0) t.is) ∙ sym t.is in
+          (o, e, f ∙ ap Some (sym same))
 
 -- outside the table there is none
 pub owner-outside : (rows columns : ℕ) (es : List Rectangle) (i j : ℕ) → ((o : Rectangle) → Inside rows columns es i j o → ⊥) → owner rows columns es i j ≡ None
@@ -282,3 +271,138 @@ row-outside rows columns m i row never long empty = record { long = long; each =
 -- the owner that a row has of a place
 pub row-at : (rows columns : ℕ) (m : SpanMap) (i j : ℕ) (row : List (Option Rectangle)) → IsOwnerRow rows columns m (i + 1) row → i < rows → j < columns → get_or row (j + 1) None ≡ Some (owner_in (entries m) (place i j))
 row-at rows columns m i j row is h k = is.each (j + 1) (omega arith) ∙ owner-inside rows columns (entries m) i j h k
+
+-- ---- places before others, row by row
+
+-- what the test says
+abbrev pub Before : ℕ → ℕ → Position → Type 0
+Before i j p = (p.row < i) ⊎ ((p.row ≡ i) × (p.col < j))
+
+abbrev pub After : ℕ → ℕ → Position → Type 0
+After i j p = (i < p.row) ⊎ ((p.row ≡ i) × (j ≤ p.col))
+
+pub before-true : (i j : ℕ) (p : Position) → is_before i j p ≡ true → Before i j p
+before-true i j p t = grind (arith, nat_tests)
+
+pub before-from : (i j : ℕ) (p : Position) → Before i j p → is_before i j p ≡ true
+before-from i j p h1 = grind (arith, nat_tests)
+
+pub after-from : (i j : ℕ) (p : Position) → After i j p → is_before i j p ≡ false
+after-from i j p after = grind (arith, nat_tests, before-true)
+
+pub cases_before : (i j : ℕ) (p : Position) → Before i j p ⊎ After i j p
+cases_before i j p = grind (arith, nat_tests)
+
+-- one place more
+pub before-next : (i j : ℕ) (p : Position) → Before i j p → is_before i (j + 1) p ≡ true
+before-next i j p h1 = grind (arith, nat_tests, before-from)
+
+pub after-next : (i j : ℕ) (p : Position) → After i j p → p ≢ place i j → is_before i (j + 1) p ≡ false
+after-next i j p h1 h2 = grind (arith, nat_tests, after-from)
+
+pub here-next : (i j : ℕ) (p : Position) → p ≡ place i j → is_before i (j + 1) p ≡ true
+here-next i j p e = before-from i (j + 1) p (inr (ap (λ (q : Position). q.row) e, omega (arith, ap (λ (q : Position). q.col) e)))
+
+-- the end of a row
+pub before-row : (i columns : ℕ) (p : Position) → p.col < columns → is_before i columns p ≡ is_before (i + 1) 0 p
+before-row i columns p within = grind (arith, nat_tests, before-from, after-from)
+
+pub before-none : (p : Position) → is_before 0 0 p ≡ false
+before-none p = grind (arith, nat_tests, after-from)
+
+-- ---- anchors before a place
+
+module _ (i j : ℕ) where
+  count-before : (e : Rectangle) (es : List Rectangle) → is_before i j e.0 ≡ true → count_before i j (e ∷ es) ≡ suc (count_before i j es)
+  count-before e es t = cond-true _ _ _ t
+
+  count-after : (e : Rectangle) (es : List Rectangle) → is_before i j e.0 ≡ false → count_before i j (e ∷ es) ≡ 0
+  count-after e es f = cond-false _ _ _ f
+
+-- the anchors after one that is at a place stand after it
+none-after : (i j : ℕ) (e : Rectangle) (es : List Rectangle) → T (is_sorted position_cmp (e ∷ es)) → e.0 ≡ place i j → count_before i (j + 1) es ≡ 0
+none-after i j e [] up at = refl
+none-after i j e (f ∷ fs) up at = grind (arith, nat_tests, count-after, after-from)
+
+-- the next anchor is at the place
+pub next-here : (i j : ℕ) (es : List Rectangle) (d : Rectangle) → T (is_sorted position_cmp es) → count_before i j es < length es → (get_or es (count_before i j es) d).0 ≡ place i j → count_before i (j + 1) es ≡ count_before i j es + 1
+next-here i j [] d up within at = absurd (omega (arith, within))
+next-here i j (e ∷ es) d up within at = by (cases_before i j e.0) (next-here i j es d (halves _ _ up).1)
+  where
+    by : Before i j e.0 ⊎ After i j e.0 → (count_before i j es < length es → (get_or es (count_before i j es) d).0 ≡ place i j → count_before i (j + 1) es ≡ count_before i j es + 1) → count_before i (j + 1) (e ∷ es) ≡ count_before i j (e ∷ es) + 1
+    by (inl before) go =
+        let n : count_before i j (e ∷ es) ≡ suc (count_before i j es) = count-before i j e es (before-from i j e.0 before) in
+        let later = go (omega (arith, n, within)) (sym (ap (λ k. (get_or (e ∷ es) k d).0) n) ∙ at) in
+        let next : count_before i (j + 1) (e ∷ es) ≡ suc (count_before i (j + 1) es) = count-before i (j + 1) e es (before-next i j e.0 before) in
+        omega (arith, next, later, n)
+    by (inr after) go =
+        let n : count_before i j (e ∷ es) ≡ 0 = count-after i j e es (after-from i j e.0 after) in
+        let here : e.0 ≡ place i j = sym (ap (λ k. (get_or (e ∷ es) k d).0) n) ∙ at in
+        let next : count_before i (j + 1) (e ∷ es) ≡ suc (count_before i (j + 1) es) = count-before i (j + 1) e es (here-next i j e.0 here) in
+        omega (arith, next, none-after i j e es up here, n)
+
+-- the next anchor is elsewhere, if there is one
+pub next-later : (i j : ℕ) (es : List Rectangle) (d : Rectangle) → T (is_sorted position_cmp es) → (count_before i j es < length es → (get_or es (count_before i j es) d).0 ≢ place i j)
+    → (count_before i (j + 1) es ≡ count_before i j es) × (find position_cmp (place i j) es ≡ None)
+next-later i j [] d up apart = (refl, refl)
+next-later i j (e ∷ es) d up apart = by (cases_before i j e.0) (next-later i j es d (halves _ _ up).1)
+  where
+    p : Position
+    p = place i j
+
+    other : e.0 ≢ p → find position_cmp p (e ∷ es) ≡ find position_cmp p es
+    other ne = cond-false _ _ _ (false_from_ne_true _ (λ t. ne (sym (positions_exact p e.0 (equal _ t)))))
+
+    not-before : After i j e.0 → Earlier e.0 p → ⊥
+    not-before after before = grind arith
+
+    none : After i j e.0 → (r : Option Size) → find position_cmp p es ≡ r → r ≡ None
+    none after None is = refl
+    none after (Some v) is = absurd (not-before after (earlier e.0 p (found_above position_cmp positions_total positions_exact p e.0 es v (halves _ _ up).0 is)))
+
+    by : Before i j e.0 ⊎ After i j e.0 → ((count_before i j es < length es → (get_or es (count_before i j es) d).0 ≢ p) → (count_before i (j + 1) es ≡ count_before i j es) × (find position_cmp p es ≡ None))
+        → (count_before i (j + 1) (e ∷ es) ≡ count_before i j (e ∷ es)) × (find position_cmp p (e ∷ es) ≡ None)
+    by (inl before) go =
+        let n : count_before i j (e ∷ es) ≡ suc (count_before i j es) = count-before i j e es (before-from i j e.0 before) in
+        let later = go (λ h. λ at. apart (omega (arith, n, h)) (ap (λ k. (get_or (e ∷ es) k d).0) n ∙ at)) in
+        let ne : e.0 ≢ p = λ at. false≢true (sym (after-from i j e.0 (inr (ap (λ (q : Position). q.row) at, omega (arith, ap (λ (q : Position). q.col) at)))) ∙ before-from i j e.0 before) in
+        (count-before i (j + 1) e es (before-next i j e.0 before) ∙ ap suc later.0 ∙ sym n, other ne ∙ later.1)
+    by (inr after) go =
+        let n : count_before i j (e ∷ es) ≡ 0 = count-after i j e es (after-from i j e.0 after) in
+        let ne : e.0 ≢ p = λ at. apart (omega (arith, n)) (ap (λ k. (get_or (e ∷ es) k d).0) n ∙ at) in
+        (count-after i (j + 1) e es (after-next i j e.0 after ne) ∙ sym n, other ne ∙ none after (find position_cmp p es) refl)
+
+pub count-row : (i columns : ℕ) (es : List Rectangle) → ((e : Rectangle) → Member e es → e.0.col < columns) → count_before i columns es ≡ count_before (i + 1) 0 es
+count-row i columns [] within = refl
+count-row i columns (e ∷ es) within =
+    ap₂ (λ b n. cond b (suc n) 0) (before-row i columns e.0 (within e (inl refl))) (count-row i columns es (λ f m. within f (inr m)))
+
+pub count-none : (es : List Rectangle) → count_before 0 0 es ≡ 0
+count-none [] = refl
+count-none (e ∷ es) = count-after 0 0 e es (before-none e.0)
+
+-- ---- the same of maps
+
+pub member-at : {A : Type 0} (xs : List A) (k : ℕ) (d : A) → k < length xs → Member (get_or xs k d) xs
+member-at [] k d h = absurd (omega (arith, h))
+member-at (x ∷ xs) zero d h = inl refl
+member-at (x ∷ xs) (suc k) d h = inr (member-at xs k d (omega (arith, h)))
+
+module _ (m : SpanMap) (p : Position) (n : ℕ) (is : n ≡ count_before p.row p.col (entries m)) (xs : List Rectangle) (same : xs ≡ entries m) (d : Rectangle) where
+  pub size-here : n < length xs → (get_or xs n d).0 ≡ p → (get_or xs n d).1 ≡ size_at m p
+  size-here within here = grind (arith, nat_tests, anchor-has, member-at, size_at-some)
+
+  pub count-here : n < length xs → (get_or xs n d).0 ≡ p → n + 1 ≡ count_before p.row (p.col + 1) (entries m)
+  count-here within here =
+      let less : n < length (entries m) = subst (λ (ys : List Rectangle). n < length ys) same within in
+      let next : count_before p.row (p.col + 1) (entries m) ≡ count_before p.row p.col (entries m) + 1 = next-here p.row p.col (entries m) d (entries_sorted m) (omega (arith, is, less)) (ap (λ k. (get_or (entries m) k d).0) (sym is) ∙ ap (λ (ys : List Rectangle). (get_or ys n d).0) (sym same) ∙ here) in
+      omega (arith, is, next)
+
+  later : (n < length xs → (get_or xs n d).0 ≢ p) → (count_before p.row (p.col + 1) (entries m) ≡ count_before p.row p.col (entries m)) × (find position_cmp p (entries m) ≡ None)
+  later apart = next-later p.row p.col (entries m) d (entries_sorted m) (λ h e. apart (subst (λ (ys : List Rectangle). n < length ys) (sym same) (omega (arith, is, h))) (ap (λ (ys : List Rectangle). (get_or ys n d).0) same ∙ ap (λ k. (get_or (entries m) k d).0) is ∙ e))
+
+  pub size-later : (n < length xs → (get_or xs n d).0 ≢ p) → sized 1 1 ≡ size_at m p
+  size-later apart = sym (size_at-none m p (get-entries m p ∙ (later apart).1))
+
+  pub count-later : (n < length xs → (get_or xs n d).0 ≢ p) → n ≡ count_before p.row (p.col + 1) (entries m)
+  count-later apart = is ∙ sym (later apart).0

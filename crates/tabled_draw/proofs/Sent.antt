@@ -1,10 +1,12 @@
--- Bytes that are held, and then sent.
-use Rattle.std.proofs.Common.{◌≡◌, ◌∙◌, ◌++◌, ℕ, List, [], Option, None, Some, append-nil, ap, refl, subst, sym}
-use Rattle.std.specs.Prelude.{encode_utf8_all}
+-- Bytes that are held, and then sent, and cells that are drawn.
+use Rattle.std.proofs.Common.{◌≡◌, ◌∙◌, ◌++◌, ℕ, List, [], Option, None, Some, append-nil, ap, refl, subst, sym, ◌+◌, ◌-◌, ◌<◌, suc, zero, ◌∷◌, ap₂, replicate, encode_utf8_all}
 use Rattle.std.proofs.KnownBytes.{Appends-nil, Appends-trans}
-use Rattle.std.proofs.lemmas.Str.{encodes-append}
+use Rattle.std.proofs.lemmas.Str.{encodes-append, encode_ascii}
 use Rattle.std.specs.Io.KnownBytes.{Appends, append_known}
 use Rattle.tabled_draw.specs.Sent.{Draws, GrowsBy}
+use Rattle.std.proofs.lemmas.List.{replicate-append-replicate}
+use Rattle.tabled_draw.specs.Lines.{cell, first_line}
+use Rattle.tabled_draw.specs.Texts.{text_width}
 
 module _ (a b : Option (List ℕ)) (h i : List ℕ) where
   pub draws-bytes : (bytes cs : List ℕ) → bytes ≡ encode_utf8_all cs → GrowsBy a h b i bytes → Draws a h b i cs
@@ -34,3 +36,21 @@ all-drawn a b c h i j cs bytes none empty is drawn sent =
     subst (λ x. Appends x c bytes) (ap (append_known a) none ∙ append_known-nil a)
     (subst (λ x. Appends (append_known a h) x bytes) (ap (append_known c) empty ∙ append_known-nil c)
     (subst (Appends (append_known a h) (append_known c j)) (append-nil (encode_utf8_all cs) ∙ is) (sends-then a b c h i j (encode_utf8_all cs) [] drawn.sent sent)))
+
+-- ---- bytes and cells that are drawn
+
+encodes : (n c : ℕ) → c < 128 → encode_utf8_all (replicate n c) ≡ replicate n c
+encodes zero c low = refl
+encodes (suc n) c low = ap₂ (λ x y. x ++ y) (encode_ascii c low) (encodes n c low)
+
+pub draws-repeat : (a b : Option (List ℕ)) (h i : List ℕ) (n c : ℕ) → c < 128 → GrowsBy a h b i (replicate n c) → Draws a h b i (replicate n c)
+draws-repeat a b h i n c low = draws-bytes a b h i (replicate n c) (replicate n c) (sym (encodes n c low))
+
+pub draws-byte : (a b : Option (List ℕ)) (h i : List ℕ) (c : ℕ) → c < 128 → GrowsBy a h b i (c ∷ []) → Draws a h b i (c ∷ [])
+draws-byte a b h i = draws-repeat a b h i 1
+
+pub draws-cell : {a b c d e : Option (List ℕ)} {h i j k l : List ℕ} {line : List ℕ} {left : ℕ} (text : List ℕ) (space : ℕ) → line ≡ first_line text → left ≡ space - text_width line
+    → Draws a h b i (32 ∷ []) → Draws b i c j line → Draws c j d k (replicate left 32) → Draws d k e l (32 ∷ []) → Draws a h e l (cell text space)
+draws-cell {left = left} text space is many first second third fourth =
+    draws-as (ap₂ (λ x y. (32 ∷ x) ++ y) is (replicate-append-replicate left 1 32 ∙ ap (λ n. replicate (n + 1) 32) (many ∙ ap (λ x. space - text_width x) is)))
+    (draws-then (draws-then first second) (draws-then third fourth))

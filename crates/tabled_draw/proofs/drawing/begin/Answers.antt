@@ -1,6 +1,5 @@
-use Rattle.std.proofs.Common.{◌≡◌, ◌∙◌, ◌+◌, ◌<◌, [], None, ap, arith, get_or, length, refl}
-use Rattle.std.proofs.Math.ListN.{length-set}
-use Rattle.tabled_draw.proofs.Rests.{changed-more, changed-none, text-in}
+use Rattle.std.proofs.Common.{◌≡◌, ◌∙◌, ◌+◌, ◌<◌, [], None, ap, arith, get_or, length, refl, length-set}
+use Rattle.tabled_draw.proofs.Each.{changed-more, changed-none, text-in}
 use Rattle.tabled_draw.specs.Rests.{bytes_in}
 use Rattle.tabled_draw.specs.Lines.{begun}
 use Rattle.tabled_grid.specs.Entity.{place}

@@ -1,5 +1,5 @@
 use Rattle.std.proofs.Common.{◌≡◌, ◌+◌, None, [], get_or, length}
-use Rattle.tabled_draw.proofs.Rests.{Changed}
+use Rattle.tabled_draw.proofs.Each.{Changed}
 use Rattle.tabled_draw.specs.Rests.{bytes_in}
 use Rattle.tabled_draw.specs.Lines.{begun}
 use Rattle.tabled_grid.specs.Entity.{place}

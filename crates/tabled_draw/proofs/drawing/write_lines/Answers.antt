@@ -1,7 +1,6 @@
 use Rattle.std.proofs.Common.{◌≡◌, ◌∙◌, ◌+◌, ◌++◌, [], ◌∷◌, ap, arith, length, refl, sym}
 use Rattle.std.specs.FinMap.{entries}
-use Rattle.tabled_draw.proofs.Before.{count-none}
-use Rattle.tabled_draw.proofs.Owned.{owner-below, owner-top, row-outside}
+use Rattle.tabled_draw.proofs.Owned.{count-none, owner-below, owner-top, row-outside}
 use Rattle.tabled_draw.specs.Rests.{bytes_in}
 use Rattle.tabled_draw.proofs.Rows.{all-rows, between, end-inside, left-outside, more-rows}
 use Rattle.tabled_draw.proofs.Sent.{draws-as, draws-none, draws-then}

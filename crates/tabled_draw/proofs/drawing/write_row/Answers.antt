@@ -1,6 +1,6 @@
-use Rattle.std.proofs.Common.{◌≡◌, ◌∙◌, ◌+◌, ◌-◌, ◌<◌, ◌≤◌, ℕ, [], None, add-zero, ap, ap₂, arith, get_or, length, refl, subst, sym}
+use Rattle.std.proofs.Common.{◌≡◌, ◌∙◌, ◌+◌, ◌-◌, ◌<◌, ◌≤◌, [], None, add-zero, add_assoc, ap, ap₂, arith, get_or, length, refl, subst, sym}
 use Rattle.std.specs.FinMap.{entries}
-use Rattle.tabled_draw.proofs.LawSizes.{start-next}
+use Rattle.tabled_draw.proofs.Sizes.{start-next}
 use Rattle.tabled_draw.specs.Rests.{bytes_in}
 use Rattle.tabled_draw.proofs.Rows.{all-below, between, end-inside, first-below, in-row, left-in_row, left-next_row, more-below}
 use Rattle.tabled_draw.proofs.Sent.{draws-as, draws-then}
@@ -40,9 +40,6 @@ loop-y-init g c =
           c.in_ok-write_line.ensures.draws;
     }
 
-next : (a y : ℕ) → a + 1 + y + 1 ≡ a + 1 + (y + 1)
-next a y = omega arith
-
 pub loop-y-preserved : goal.loop-y-preserved
 loop-y-preserved g c =
     let t = map_grid g.R.Cell.CellText.text_of (g.R.GridStore.grid c.args.records.now) in
@@ -59,15 +56,12 @@ loop-y-preserved g c =
     let edges = c.args.edges.now in
     record {
       long = c.in_ok-write_line-2.ensures.long ∙ c.loop-y.invariant.long;
-      left = subst (λ k. AreLeft t m (i + 1) k new) (next (top t (entries m) i) y) (left-in_row t m c.requires.fits (i + 1) n old new (omega arith) (omega (arith, within)) low c.loop-y.invariant.left
+      left = subst (λ k. AreLeft t m (i + 1) k new) (add_assoc (top t (entries m) i + 1) y 1) (left-in_row t m c.requires.fits (i + 1) n old new (omega arith) (omega (arith, within)) low c.loop-y.invariant.left
           (λ j less. c.in_ok-write_line-2.ensures.rests j (omega (arith, less, c.loop-y.invariant.long)) ∙ ap₂ (λ a b. left_of j a b (get_or old j [])) (ap (λ row. get_or row (j + 1) None) c.deref-in-loop-y.ensures.value ∙ own.each (j + 1) (omega (arith, less))) (ap (λ row. get_or row (j + 1) None) c.deref-in-loop-y-2.ensures.value ∙ own.each (j + 1) (omega (arith, less)))));
       drawn = draws-as (more-below t (entries m) i y) (draws-then c.loop-y.invariant.drawn (draws-as
           (ap₂ (λ a b. drawn_line (length c.loop-y.rests.items) 124 edges a b old) c.deref-in-loop-y.ensures.value c.deref-in-loop-y-2.ensures.value ∙ in-row t m c.requires.fits edges c.requires.edges i n here old (length c.loop-y.rests.items) within own c.loop-y.invariant.left c.loop-y.invariant.long)
           c.in_ok-write_line-2.ensures.draws));
     }
-
-last : (a h b : ℕ) → b ≡ a + (h + 1) → a + 1 + h ≡ b
-last a h b is = omega (arith, is)
 
 pub returns : goal.returns
 returns g c =
@@ -80,5 +74,5 @@ returns g c =
       here = c.write_owners-after.ensures.here;
       long = c.loop-y.invariant.long;
       draws = draws-as (all-below t (entries m) i c.loop-y._y y) c.loop-y.invariant.drawn;
-      left = subst (λ k. AreLeft t m (i + 1) k (bytes_in c.loop-y.rests.items)) (ap (λ k. top t (entries m) i + 1 + k) y ∙ last (top t (entries m) i) (get_or (heights t (entries m)) i 0) (top t (entries m) (i + 1)) (start-next Rows t (entries m) i c.requires.row)) c.loop-y.invariant.left;
+      left = subst (λ k. AreLeft t m (i + 1) k (bytes_in c.loop-y.rests.items)) (omega (arith, y, start-next Rows t (entries m) i c.requires.row)) c.loop-y.invariant.left;
     }

@@ -1,15 +1,10 @@
-use Rattle.std.proofs.Common.{◌≡◌, ◌∙◌, arith, ap, ap₂, get_or, length, refl}
-use Rattle.std.proofs.Math.ListN.{length-set}
-use Rattle.tabled_draw.proofs.LawSizes.{lies-along}
-use Rattle.tabled_draw.proofs.Sizes.{anchor-at, grown-all, grown-more}
+use Rattle.std.proofs.Common.{◌≡◌, ◌∙◌, arith, ap, ap₂, get_or, length, length-set}
+use Rattle.tabled_draw.proofs.Sizes.{lies-along, anchor-at, grown-all, grown-more}
 use Rattle.tabled_draw.specs.Sizes.{grown_sizes}
 use Rattle.tabled_grid.specs.Axis.{line_of, lines_in}
 use Rattle.tabled_grid.specs.Grid.{map_grid}
 use Rattle.tabled_grid.specs.Spans.{sized}
 use Rattle.tabled_draw.proofs.layout.grow_all.Goals as goal
-
-pub loop-k-init : goal.loop-k-init
-loop-k-init g c = record { long = c.requires.long; grown = refl }
 
 pub get_text-requires-clause-inside : goal.get_text-requires-clause-inside
 get_text-requires-clause-inside g c =

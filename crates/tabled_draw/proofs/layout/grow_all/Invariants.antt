@@ -1,6 +1,5 @@
-use Rattle.std.proofs.Common.{◌≡◌, length, take}
+use Rattle.std.proofs.Common.{◌≡◌, length, take, fold}
 use Rattle.std.specs.FinMap.{entries}
-use Rattle.std.specs.List.{fold}
 use Rattle.tabled_draw.specs.Sizes.{grown_for}
 use Rattle.tabled_grid.specs.Along.{count_along}
 use Rattle.tabled_grid.specs.Grid.{map_grid}

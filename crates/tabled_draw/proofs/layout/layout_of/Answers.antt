@@ -1,7 +1,6 @@
 use Rattle.std.proofs.Common.{◌≡◌, ◌∙◌}
 use Rattle.std.specs.FinMap.{entries}
-use Rattle.tabled_draw.proofs.Laid.{edges-of, none-asked, own-long}
-use Rattle.tabled_draw.proofs.Sizes.{sizes-is}
+use Rattle.tabled_draw.proofs.Sizes.{edges-of, none-asked, own-long, sizes-is}
 use Rattle.tabled_draw.specs.Sizes.{heights, widths}
 use Rattle.tabled_grid.specs.Grid.{map_grid}
 use Rattle.tabled_grid.specs.declared.records.axis.Axis.TheVariants.{Rows, Columns}

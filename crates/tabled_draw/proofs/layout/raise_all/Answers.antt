@@ -1,8 +1,7 @@
 use Rattle.std.proofs.Common.{◌∙◌, arith, sym}
 use Rattle.std.specs.FinMap.{entries}
-use Rattle.tabled_draw.proofs.Before.{count-none}
-use Rattle.tabled_draw.proofs.Measured.{measured-all}
-use Rattle.tabled_draw.proofs.Owned.{owner-top, row-outside}
+use Rattle.tabled_draw.proofs.Owned.{count-none, owner-top, row-outside}
+use Rattle.tabled_draw.proofs.Sizes.{measured-all}
 use Rattle.tabled_grid.specs.Grid.{map_grid}
 use Rattle.tabled_grid.specs.declared.records.axis.Axis.TheVariants.{Rows, Columns}
 use Rattle.tabled_draw.proofs.layout.raise_all.Goals as goal

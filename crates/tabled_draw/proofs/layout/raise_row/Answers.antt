@@ -1,7 +1,7 @@
 use Rattle.std.proofs.Common.{◌≡◌, ◌∙◌, ◌+◌, ◌<◌, None, Some, Option, arith, get_or}
 use Rattle.std.proofs.lemmas.List.{get_or_default}
 use Rattle.std.specs.FinMap.{entries}
-use Rattle.tabled_draw.proofs.Measured.{measured-raised, measured-row}
+use Rattle.tabled_draw.proofs.Sizes.{measured-raised, measured-row}
 use Rattle.tabled_draw.proofs.Owned.{row-at}
 use Rattle.tabled_draw.specs.Owners.{owner_in}
 use Rattle.tabled_grid.specs.Entity.{place}

@@ -1,13 +1,11 @@
-use Rattle.std.proofs.Common.{◌≡◌, ◌∙◌, ◌+◌, ◌-◌, [], ℕ, List, Option, Some, None, ap, eqb, false, true, get_or, lit<, refl, replicate, sym}
+use Rattle.std.proofs.Common.{◌≡◌, ◌∙◌, ◌+◌, ◌-◌, [], ℕ, List, Option, Some, None, ap, eqb, false, true, get_or, lit<, refl, replicate, sym, ne_eqb}
 use Rattle.std.proofs.lemmas.Bool.{cond-true, cond-false}
-use Rattle.tabled_draw.proofs.Cells.{draws-repeat}
-use borrow.Author.Tests.{ne_eqb}
-use Rattle.tabled_draw.proofs.Sent.{draws-as, draws-none}
+use Rattle.tabled_draw.proofs.Sent.{draws-repeat, draws-as, draws-none}
 use Rattle.tabled_draw.specs.Lines.{column}
 use Rattle.tabled_draw.specs.Owners.{is_one}
-use Rattle.tabled_draw.proofs.lines.write_column.Goals as goal
 use Rattle.tabled_draw.proofs.lines.write_column.Goals.{in_default-via-in-Some+else-at-j, in_default-via-in_default}
 use Rattle.tabled_grid.specs.Spans.{Rectangle}
+use Rattle.tabled_draw.proofs.lines.write_column.Goals as goal
 
 pub returns-then-not-is_one-clause-draws : goal.returns-then-not-is_one-clause-draws
 returns-then-not-is_one-clause-draws g c =

@@ -1,10 +1,7 @@
-use Rattle.std.proofs.Common.{◌≡◌, ◌∙◌, ◌+◌, ◌<◌, [], None, ap, arith, get_or, length, lit<, refl, sym}
-use Rattle.std.proofs.Math.ListN.{length-set}
-use Rattle.tabled_draw.proofs.Cells.{draws-byte}
-use Rattle.tabled_draw.proofs.Rests.{changed-more, changed-none, text-in}
+use Rattle.std.proofs.Common.{◌≡◌, ◌∙◌, ◌+◌, ◌<◌, [], None, ap, arith, get_or, length, lit<, refl, sym, length-set}
+use Rattle.tabled_draw.proofs.Sent.{draws-byte, draws-as, draws-none, draws-then}
+use Rattle.tabled_draw.proofs.Each.{changed-more, changed-none, text-in, each-more}
 use Rattle.tabled_draw.specs.Rests.{bytes_in}
-use Rattle.tabled_draw.proofs.Sent.{draws-as, draws-none, draws-then}
-use Rattle.tabled_draw.proofs.Each.{each-more}
 use Rattle.tabled_draw.specs.Each.{each}
 use Rattle.tabled_draw.specs.Lines.{column, drawn_line, edge, left_of, stretches}
 use Rattle.tabled_draw.proofs.lines.write_line.Goals as goal

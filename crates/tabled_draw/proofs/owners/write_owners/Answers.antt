@@ -1,8 +1,7 @@
 use Rattle.std.proofs.Common.{◌≡◌, ◌∙◌, ◌+◌, ◌<◌, None, Some, sym, ap, arith}
 use Rattle.std.proofs.lemmas.List.{get_or_default}
 use Rattle.std.specs.FinMap.{entries}
-use Rattle.tabled_draw.proofs.Before.{count-row}
-use Rattle.tabled_draw.proofs.Owned.{chosen-owner, fits-well, owner-inside, row-first, row-last, row-more}
+use Rattle.tabled_draw.proofs.Owned.{count-row, chosen-owner, fits-well, owner-inside, row-first, row-last, row-more}
 use Rattle.tabled_draw.specs.OwnerRows.{chosen, count_before}
 use Rattle.tabled_draw.specs.Owners.{owner}
 use Rattle.tabled_grid.specs.Entity.{place}
@@ -33,12 +32,9 @@ loop-j-preserved g c =
 
 pub returns-clause-here : goal.returns-clause-here
 returns-clause-here g c =
-    let rows = (g.R.GridStore.grid c.args.records.now).rows in
-    let columns = (g.R.GridStore.grid c.args.records.now).columns in
-    rw c.count_columns-columns.ensures.columns (row-last rows columns c.args.spans.now (c.args.i + 1) (c.loop-j.j + 1) c.loop-j.here.items c.loop-j.invariant.row (omega (arith, c.loop-j-test.false, c.loop-j.auto.j-end, c.count_columns-columns.ensures.columns)))
+    rw c.count_columns-columns.ensures.columns (row-last _ _ c.args.spans.now (c.args.i + 1) (c.loop-j.j + 1) c.loop-j.here.items c.loop-j.invariant.row (omega (arith, c.loop-j-test.false, c.loop-j.auto.j-end, c.count_columns-columns.ensures.columns)))
 
 pub returns-clause-next : goal.returns-clause-next
 returns-clause-next g c =
-    let columns = (g.R.GridStore.grid c.args.records.now).columns in
-    let end : c.loop-j.j ≡ columns = omega (arith, c.loop-j-test.false, c.loop-j.auto.j-end, c.count_columns-columns.ensures.columns) in
-    c.loop-j.invariant.next ∙ ap (λ k. count_before c.args.i k (entries c.args.spans.now)) end ∙ count-row c.args.i columns (entries c.args.spans.now) (λ e m. (let l = (fits-well c.args.spans.now _ columns c.requires.fits).lies e m in omega (arith, l.wide, l.right)))
+    let end : c.loop-j.j ≡ (g.R.GridStore.grid c.args.records.now).columns = omega (arith, c.loop-j-test.false, c.loop-j.auto.j-end, c.count_columns-columns.ensures.columns) in
+    c.loop-j.invariant.next ∙ ap (λ k. count_before c.args.i k (entries c.args.spans.now)) end ∙ count-row c.args.i _ (entries c.args.spans.now) (λ e m. (let l = (fits-well c.args.spans.now _ _ c.requires.fits).lies e m in omega (arith, l.wide, l.right)))

@@ -1,6 +1,4 @@
-use Rattle.std.proofs.Common.{◌≡◌, ◌+◌}
-use Rattle.std.specs.Prelude.{chars, map}
-use Rattle.std.specs.Str.{IsUtf8}
+use Rattle.std.proofs.Common.{◌≡◌, ◌+◌, chars, map, IsUtf8}
 use Rattle.std.specs.Str.Iter.{chars_rest}
 use Rattle.tabled_draw.specs.Texts.{text_width, shown_character}
 use Rattle.tabled_draw.proofs.texts.columns_in.Given as goal

@@ -3,7 +3,7 @@ use Rattle.std.specs.List.{slice_split}
 use Rattle.std.proofs.lemmas.Iterator.Consumers.{count_from_yields_List}
 use Rattle.std.proofs.lemmas.Iterator.Splits.{YieldsList-from_str_split}
 use Rattle.std.proofs.lemmas.List.{length-map}
-use Rattle.tabled_draw.proofs.Plain.{plain-lines}
+use Rattle.tabled_draw.proofs.Shown.{plain-lines}
 use Rattle.tabled_draw.specs.Texts.{shown_line}
 use Rattle.tabled_draw.proofs.texts.count_lines.Goals as goal
 

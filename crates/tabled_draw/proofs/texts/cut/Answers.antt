@@ -1,5 +1,5 @@
 use Rattle.std.proofs.Common.{lit<, refl, sym, ap, ◌∙◌}
-use Rattle.tabled_draw.proofs.Plain.{plain-after, plain-first, split-first}
+use Rattle.tabled_draw.proofs.Shown.{plain-after, plain-first, split-first}
 use Rattle.tabled_draw.specs.Texts.{shown_line}
 use Rattle.tabled_draw.proofs.texts.cut.Goals as goal
 

@@ -1,16 +1,10 @@
-use Rattle.std.proofs.Common.{◌∙◌, refl, ap, lit<}
-use Rattle.std.specs.Prelude.{map, max}
-use Rattle.std.specs.List.{fold}
+use Rattle.std.proofs.Common.{◌∙◌, ap, lit<, map, max, fold}
 use Rattle.std.proofs.lemmas.Iterator.Consumers.{YieldsList-end}
 use Rattle.std.proofs.lemmas.Iterator.Splits.{YieldsList-from_str_split}
 use Rattle.std.specs.Str.Iter.{split_has_more, split_pattern, split_text}
-use Rattle.tabled_draw.proofs.Plain.{plain-widest}
-use Rattle.tabled_draw.proofs.Shown.{widest-more}
+use Rattle.tabled_draw.proofs.Shown.{plain-widest, widest-more}
 use Rattle.tabled_draw.specs.Texts.{text_width, shown_line}
 use Rattle.tabled_draw.proofs.texts.widest.Goals as goal
-
-pub loop-line-init : goal.loop-line-init
-loop-line-init c = record { can = tt; ends = tt; most = refl }
 
 pub loop-line-preserved : goal.loop-line-preserved
 loop-line-preserved c = record {

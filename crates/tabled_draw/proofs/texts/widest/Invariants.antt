@@ -1,6 +1,4 @@
-use Rattle.std.proofs.Common.{◌≡◌}
-use Rattle.std.specs.Prelude.{map, max}
-use Rattle.std.specs.List.{fold}
+use Rattle.std.proofs.Common.{◌≡◌, map, max, fold}
 use Rattle.tabled_draw.specs.Texts.{text_width, shown_line}
 use Rattle.tabled_draw.proofs.texts.widest.Given as goal
 

@@ -1,5 +1,5 @@
 use Rattle.std.proofs.Common.{lit<}
-use Rattle.tabled_draw.proofs.Cells.{draws-byte, draws-cell, draws-repeat}
+use Rattle.tabled_draw.proofs.Sent.{draws-byte, draws-cell, draws-repeat}
 use Rattle.tabled_draw.proofs.texts.write_cell.Goals as goal
 
 pub returns-clause-draws : goal.returns-clause-draws

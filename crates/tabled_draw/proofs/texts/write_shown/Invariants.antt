@@ -1,5 +1,4 @@
-use Rattle.std.proofs.Common.{◌≡◌, ◌-◌}
-use Rattle.std.specs.Str.{IsUtf8}
+use Rattle.std.proofs.Common.{◌≡◌, ◌-◌, IsUtf8}
 use Rattle.std.specs.Str.Iter.{chars_rest}
 use Rattle.tabled_draw.proofs.Shown.{Drawn}
 use Rattle.tabled_draw.specs.Texts.{text_width, shown_line}
