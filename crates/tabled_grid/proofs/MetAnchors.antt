@@ -97,13 +97,14 @@ module _ (by : Rectangle) where
   marks-map t u more (e ∷ es) = ap₂ (λ x xs. x ∷ xs) (more e) (marks-map t u more es)
 
 -- two meet, whichever is named first
-both-turned : (a b : Bool) → (a && b) ≡ (b && a)
+pub both-turned : (a b : Bool) → (a && b) ≡ (b && a)
 both-turned true true = refl
 both-turned true false = refl
 both-turned false true = refl
 both-turned false false = refl
 
-meets-turned : (a b : Rectangle) → meets a b ≡ meets b a
+-- two rectangles share a cell either way
+pub meets-turned : (a b : Rectangle) → meets a b ≡ meets b a
 meets-turned a b = ap₂ (λ x y. x && y)
     (both-turned (nat_lt a.0.row (b.0.row + b.1.height)) (nat_lt b.0.row (a.0.row + a.1.height)))
     (both-turned (nat_lt a.0.col (b.0.col + b.1.width)) (nat_lt b.0.col (a.0.col + a.1.width)))

@@ -30,7 +30,6 @@ mod records_mut;
 mod refusing;
 mod resizable;
 mod target;
-mod turn;
 pub mod vec_records;
 
 pub use axis::Axis;

@@ -17,8 +17,7 @@ use crate::records::grid_store::GridStore;
 use crate::records::peekable_records::PeekableRecords;
 use crate::records::records::Records;
 use crate::records::records_mut::RecordsMut;
-use moves::width;
-pub use moves::{remove_each, reserve_each};
+pub use moves::{remove_each, reserve_each, truncate_each, width};
 use std::alloc::{AllocError, Global};
 pub use turn::turn_rows;
 

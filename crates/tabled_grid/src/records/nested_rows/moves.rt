@@ -14,7 +14,8 @@ use std::alloc::{AllocError, Global};
 use std::mem;
 
 /// The number of cells of the first row.
-pub(crate) fn width<T>(rows: &[Vec<T>]) -> usize
+#[doc(hidden)]
+pub fn width<T>(rows: &[Vec<T>]) -> usize
     ensures { result ≡ width_of (map_items rows.now) }
 {
     match rows.first() {
@@ -126,7 +127,8 @@ pub fn remove_each<T: Drop>(rows: &mut [Vec<T>], j: usize)
 }
 
 /// Keeps the first `count` cells of each row alone.
-pub(crate) fn truncate_each<T: Drop>(rows: &mut [Vec<T>], count: usize)
+#[doc(hidden)]
+pub fn truncate_each<T: Drop>(rows: &mut [Vec<T>], count: usize)
     ensures { map_items rows.new ≡ map (λ (row : List T). take count row) (map_items rows.old) }
 {
     for row in rows.iter_mut() {

@@ -1,6 +1,6 @@
 //! Rows in vectors of their own, made of columns.
 
-ghost use Rattle.std.specs.Prelude.{◌≡◌, ◌+◌, ◌<◌, ◌≤◌, [], ℕ, IfOk, OnErr, OnOk, length, replicate, suc, vec_capacity, vec_len};
+ghost use Rattle.std.specs.Prelude.{◌≡◌, ◌+◌, ◌<◌, ◌≤◌, [], ℕ, IfOk, IsOk, OnErr, OnOk, length, replicate, suc, vec_capacity, vec_len};
 ghost use Rattle.std.specs.List.{All};
 ghost use Rattle.std.specs.Global.{Vec};
 ghost use Rattle.tabled_grid.specs.Bulk.{transposed_rows, with_items_behind};
@@ -14,6 +14,7 @@ use std::mem;
 fn empty_rows<T: Drop>(alloc: Global, count: usize, room: usize) -> Result<Vec<Vec<T>>, AllocError>
     ensures empty { IfOk result (λ rows. map_items rows.items ≡ replicate count []) }
     ensures room { IfOk result (λ rows. All (λ (row : Vec T). vec_len row + room ≤ vec_capacity row) rows.items) }
+    ensures promised { count ≡ 0 → IsOk result }
 {
     let mut rows = Vec::with_capacity(alloc, count)?;
     for _ in 0..count {
@@ -47,6 +48,7 @@ pub fn turn_rows<T: Drop>(
     requires { AreWide columns (map_items rows.old.items) }
     ensures ok { OnOk result (map_items rows.new.items ≡ transposed_rows columns (map_items rows.old.items)) }
     ensures err { OnErr result (rows.new ≡ rows.old) }
+    ensures promised { columns ≡ 0 → IsOk result }
 {
     let turned = empty_rows(alloc, columns, rows.len())?;
     let old = mem::replace(rows, turned);

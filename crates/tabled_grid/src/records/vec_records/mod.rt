@@ -5,6 +5,7 @@ mod moves;
 mod pieces;
 mod resizable;
 mod text;
+mod turn;
 
 ghost use Rattle.std.specs.Prelude.{◌≡◌, ◌<◌, Some, slice_get, IfOk};
 ghost use Rattle.tabled_grid.specs.Flat.{IsFull};

@@ -4,6 +4,7 @@ use super::VecRecords;
 use super::moves::{
     close_up, insert_blanks, push_blanks, remove_run, spread, swap_each, swap_runs,
 };
+use super::turn::turn;
 use crate::config::Position;
 use crate::records::axis::Axis;
 use crate::records::blank::Blank;
@@ -12,7 +13,6 @@ use crate::records::piece_order::PieceOrder;
 use crate::records::pieces::cut_lines;
 use crate::records::records::Records;
 use crate::records::resizable::Resizable;
-use crate::records::turn::turn;
 use std::alloc::{AllocError, Global};
 
 impl<T: Blank> Resizable for VecRecords<T> {

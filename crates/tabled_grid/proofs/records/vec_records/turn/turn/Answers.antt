@@ -1,5 +1,5 @@
 use Rattle.tabled_grid.proofs.Across.{turned_all, turned_once}
-use Rattle.tabled_grid.proofs.records.turn.turn.Goals as goal
+use Rattle.tabled_grid.proofs.records.vec_records.turn.turn.Goals as goal
 
 pub gather-requires-clause-once : goal.gather-requires-clause-once
 gather-requires-clause-once g c = rw (c.count_rows-rows.ensures.rows, c.count_columns-columns.ensures.columns) (turned_once (g.R.GridStore.grid c.args.records.now))
