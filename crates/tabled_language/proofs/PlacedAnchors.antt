@@ -21,12 +21,13 @@ use Rattle.tabled_grid.specs.declared.config.size.Size.{Size}
 use Rattle.tabled_grid.proofs.MergedAnchors.{below_more}
 use Rattle.std.proofs.lemmas.Option.{none-some, same_Some}
 use Rattle.std.proofs.lemmas.Cmp.{tied_itself}
+use Rattle.tabled_grid.proofs.MetAnchors.{meets-turned}
 use Rattle.tabled_grid.proofs.PassedAnchors.{meets-from}
 use Rattle.tabled_grid.proofs.SpanMaps.{both, equal, halves, less}
 use Rattle.tabled_grid.proofs.Spans.{positions_exact, positions_total}
 use Rattle.tabled_language.specs.Placed.{IsFirstMisfit, fit_in, has_place, have_places}
 use Rattle.tabled_language.specs.Walk.{RowsRise}
-use Rattle.tabled_language.proofs.BackToAnchors.{all_found, MeetNone, meet_none, meet_none-push, meets-turned}
+use Rattle.tabled_language.proofs.BackToAnchors.{all_found, MeetNone, meet_none, meet_none-push}
 
 -- each place comes before the next, row by row
 abbrev pub rising : List Rectangle → Bool

@@ -9,12 +9,12 @@ use Rattle.std.proofs.lemmas.Bool.Decides.{nat_tests}
 use Rattle.std.proofs.lemmas.List.{get_or_default, take-append-drop, take_more}
 use Rattle.std.proofs.lemmas.Option.{none-some, same_Some}
 use Rattle.tabled_grid.proofs.Lists.{all-append}
+use Rattle.tabled_grid.proofs.MetAnchors.{meets-turned}
 use Rattle.tabled_grid.proofs.PassedAnchors.{Meets, meets-from, meets-true}
 use Rattle.tabled_grid.specs.Anchors.{lies_inside, meets}
 use Rattle.tabled_grid.specs.Spans.{IsSpanSize, Rectangle}
 use Rattle.tabled_language.specs.Placed.{fit_in, has_place, have_places}
 use Rattle.tabled_language.specs.Walk.{AreBeside, AreKeyed, EndsAbove, IsBeside, IsClear, IsLeft, IsMet, RowsRise}
-use Rattle.tabled_language.proofs.BackToAnchors.{meets-turned}
 use Rattle.tabled_language.proofs.PlacedAnchors.{any-parts, have_places-push}
 
 -- of the rectangles gone through those are kept that may reach a row or a later one

@@ -1,7 +1,8 @@
 -- The words that name cells, in prefix form.
 use Rattle.std.specs.Prelude.{ℕ, zero, suc, [], ◌∷◌, codes, drop}
+use Rattle.tabled_select.specs.Algebra.{others}
 use Rattle.tabled_select.specs.Steps.{every}
-use Rattle.tabled_steps.specs.Selected.{Named, named_by, named_columns, others, shared, united, with_content, without}
+use Rattle.tabled_steps.specs.Selected.{Named, named_by, named_columns, shared, united, with_content, without}
 use Rattle.tabled_steps.specs.declared.selector.Selector.{Selector}
 use Rattle.tabled_steps.specs.declared.selector.Selector.TheVariants as select
 use Rattle.tabled_language.specs.declared.fault.Fault.TheVariants.{SelectorDepth}
@@ -48,7 +49,7 @@ selectors inner =
     ∷ (codes "and", then_reads inner (λ x. then_reads inner (λ y. gives (λ g. united g (x g) (y g)))))
     ∷ (codes "not", then_reads inner (λ x. then_reads inner (λ y. gives (λ g. without g (x g) (y g)))))
     ∷ (codes "intersect", then_reads inner (λ x. then_reads inner (λ y. gives (λ g. shared g (x g) (y g)))))
-    ∷ (codes "inverse", then_reads inner (λ x. gives (λ g. others g (x g))))
+    ∷ (codes "inverse", then_reads inner (λ x. gives (λ g. others (x g) g.rows g.columns)))
     ∷ (codes "skip", then_reads reads_number (λ n. then_reads inner (λ x. gives (λ g. drop n (x g)))))
     ∷ (codes "step", then_reads reads_number (λ n. then_reads inner (λ x. gives (λ g. every n (x g)))))
     ∷ plain_selectors

@@ -1,7 +1,6 @@
 -- What options keep, where their parts keep it.
-use Rattle.std.proofs.Common.{◌≡◌, ℕ, zero, suc, List, [], ◌∷◌, Some, Result, Ok, Err, inl, inr, subst, sym, take}
+use Rattle.std.proofs.Common.{◌≡◌, ℕ, zero, suc, List, [], ◌∷◌, Some, inl, inr, subst, sym, take}
 use Rattle.std.specs.List.{AllByRecursion, slice_get}
-use Rattle.std.specs.Result.{OnOk, OnErr}
 use Rattle.std.proofs.lemmas.List.Elements.{All-from_recursion, All-get_or}
 use Rattle.std.proofs.lemmas.Option.{get_or_from_slice_get, slice_get_within}
 use Rattle.tabled_grid.specs.Grid.{Grid}
@@ -42,11 +41,6 @@ module _ {A C : Type 0} (holds : Grid A → C → Type 0) where
   -- a copy of an option, which may be refused
   pub keeps_copied : (does leaves : Change A C) → OptionKeeps holds does leaves → OptionKeeps holds does (SameOr leaves)
   keeps_copied does leaves keeps = record { done = keeps.done; refused = keeps_same_or leaves keeps.refused }
-
-  -- it holds after an option, whether the option was done or refused
-  pub kept_after : {T E : Type 0} (does leaves : Change A C) (r : Result T E) (g : Grid A) (c : C) (h : Grid A) (d : C) → OptionKeeps holds does leaves → holds g c → OnOk r (does g c h d) → OnErr r (leaves g c h d) → holds h d
-  kept_after does leaves (Ok x) g c h d keeps p done left = keeps.done g c h d p done
-  kept_after does leaves (Err e) g c h d keeps p done left = keeps.refused g c h d p left
 
   module _ {X : Type 0} (does leaves : X → Change A C) where
     pub keeps_each : (items : List X) → AllByRecursion (λ x. OptionKeeps holds (does x) (leaves x)) items → Keeps holds (Each does items)

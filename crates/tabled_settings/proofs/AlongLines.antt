@@ -11,10 +11,6 @@ use Rattle.tabled_grid.specs.declared.records.axis.Axis.TheVariants.{Rows, Colum
 use Rattle.tabled_carry.specs.Images.{Takes}
 use Rattle.tabled_settings.specs.Places.{lines_from}
 
-pub line_is : (axis : Axis) (p : Position) (i : ℕ) → line_of axis (in_line axis p i) ≡ i
-line_is Rows p i = refl
-line_is Columns p i = refl
-
 pub across_is : (axis : Axis) (p : Position) (i : ℕ) → line_of (across axis) (in_line axis p i) ≡ line_of (across axis) p
 across_is Rows p i = refl
 across_is Columns p i = refl

@@ -7,8 +7,9 @@ use Rattle.tabled_grid.specs.declared.config.position.Position.{Position}
 use Rattle.tabled_grid.specs.declared.records.axis.Axis.{Axis}
 use Rattle.tabled_grid.specs.declared.config.size.Size.{Size}
 use Rattle.tabled_carry.specs.Images.{Carries, Takes}
+use Rattle.tabled_spans.proofs.SpanGeometry.{index_moved}
 use Rattle.tabled_settings.specs.Places.{lines_from}
-use Rattle.tabled_settings.proofs.AlongLines.{LiesAlong, across_is, is_along, is_in, lies_along, line_is, taken, takes}
+use Rattle.tabled_settings.proofs.AlongLines.{LiesAlong, across_is, is_along, is_in, lies_along, taken, takes}
 
 -- of n lines those from s up to e come from those as far from the other end, and the others stay
 module _ (old : ℕ → ℕ) (n s e : ℕ) (inside : (i : ℕ) → s ≤ i → i < e → old i ≡ s + e - 1 - i) (outside : (i : ℕ) → i < n → (i < s) ⊎ (e ≤ i) → old i ≡ i) where
@@ -44,9 +45,9 @@ module _ (axis : Axis) (old : ℕ → ℕ) (rows columns s e : ℕ) (inside : (i
           let p = in_line axis q i in (
             p,
             takes old rows columns p q axis (record {
-              within = omega (arith, line_is axis q i, h.first, first, h.last, last, fits);
+              within = omega (arith, index_moved axis q i, h.first, first, h.last, last, fits);
               across_within = omega (arith, across_is axis q i, h.to, room.across);
-              line = ap old (line_is axis q i) ∙ back;
+              line = ap old (index_moved axis q i) ∙ back;
               same = across_is axis q i;
             }),
           )
@@ -57,8 +58,8 @@ module _ (axis : Axis) (old : ℕ → ℕ) (rows columns s e : ℕ) (inside : (i
           let d = taken old rows columns p q axis k in
           elim (comes old (count_of axis rows columns) s e inside outside (line_of axis p) (line_of axis q) d.within d.line).is [
             | inl m ↦ is_in axis (in_line axis a line, t) p (record {
-              first = omega (arith, line_is axis a line, m.2, h.last, last);
-              last = omega (arith, line_is axis a line, m.2, h.first, last);
+              first = omega (arith, index_moved axis a line, m.2, h.last, last);
+              last = omega (arith, index_moved axis a line, m.2, h.first, last);
               from = omega (arith, across_is axis a line, d.same, h.from);
               to = omega (arith, across_is axis a line, d.same, h.to);
             })
@@ -68,19 +69,19 @@ module _ (axis : Axis) (old : ℕ → ℕ) (rows columns s e : ℕ) (inside : (i
       from : (p : Position) → In (in_line axis a line, t) p → (q : Position) × In (a, t) q × Takes (lines_from axis old rows columns) p q
       from p holds =
           let h = is_along axis (in_line axis a line, t) p holds in
-          let at = line_is axis a line in
+          let at = index_moved axis a line in
           let beside = across_is axis a line in
           let back = inside (line_of axis p) (omega (arith, at, h.first)) (omega (arith, at, h.last, last)) in
           let i = old (line_of axis p) in
           let q = in_line axis p i in (
             q,
             is_in axis (a, t) q (record {
-              first = omega (arith, line_is axis p i, at, back, h.last, last);
-              last = omega (arith, line_is axis p i, at, back, h.first, h.last, last);
+              first = omega (arith, index_moved axis p i, at, back, h.last, last);
+              last = omega (arith, index_moved axis p i, at, back, h.first, h.last, last);
               from = omega (arith, across_is axis p i, beside, h.from);
               to = omega (arith, across_is axis p i, beside, h.to);
             }),
-            takes old rows columns p q axis (record { within = omega (arith, at, h.last, last, fits); across_within = omega (arith, beside, h.to, room.across); line = sym (line_is axis p i); same = sym (across_is axis p i) }),
+            takes old rows columns p q axis (record { within = omega (arith, at, h.last, last, fits); across_within = omega (arith, beside, h.to, room.across); line = sym (index_moved axis p i); same = sym (across_is axis p i) }),
           )
 
   -- a rectangle beside it

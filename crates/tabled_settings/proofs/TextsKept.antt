@@ -13,7 +13,7 @@ use Rattle.tabled_grid.specs.Grid.{Grid, IsEven}
 use Rattle.tabled_settings.specs.declared.split.Display.{Display}
 use Rattle.tabled_settings.specs.declared.split.Display.TheVariants.{Clean, Retain}
 use Rattle.tabled_settings.specs.declared.split.Split.{Split}
-use Rattle.tabled_settings.specs.PiecePlaces.{texts_in}
+use Rattle.tabled_settings.specs.PiecePlaces.{texts_along}
 use Rattle.tabled_grid.specs.Axis.{across}
 use Rattle.tabled_grid.specs.Pieces.{nth_piece, piece_index}
 use Rattle.tabled_settings.specs.Pieces.{cut_rows, has_pieces, is_text, piece_at, split, stays, stays_at, oriented, piece}
@@ -77,22 +77,22 @@ module _ (s : Split) (g : Grid (List ℕ)) where
       omega (arith, kept, cut_count s g)
 
 -- the texts of the result, along the lines, are those of all pieces
-pub texts_of_pieces : (s : Split) (g : Grid (List ℕ)) → IsEven g → has_pieces s g.rows g.columns ≡ true → texts_in s.lines (split s g) ≡ filter is_text (joined (all_pieces s (oriented s.lines g)))
+pub texts_of_pieces : (s : Split) (g : Grid (List ℕ)) → IsEven g → has_pieces s g.rows g.columns ≡ true → texts_along s.lines (split s g) ≡ filter is_text (joined (all_pieces s (oriented s.lines g)))
 texts_of_pieces s g even e =
     let need : (0 < count_along s.lines g) × (0 < s.index) × (s.index < count_along (across s.lines) g) = pieces_need s g e in
     let lines_even : IsEven (oriented s.lines g) = turned_even s.lines g even need.0 in
     let tall : 0 < length (oriented s.lines g).cells = omega (arith, lines_even.tall, turned_rows s.lines g, need.0) in
     let wide : (oriented s.lines g).columns ≡ count_along (across s.lines) g = turned_columns s.lines g need.0 in
     let any : 0 < div_ceil (oriented s.lines g).columns s.index = some_pieces (div_ceil (oriented s.lines g).columns s.index) s.index (oriented s.lines g).columns (omega (arith, need.2, wide)) (enough_pieces (div_ceil (oriented s.lines g).columns s.index) s.index (oriented s.lines g).columns need.1 refl) in
-    ap (λ (b : Bool). texts_in s.lines (cond b (oriented s.lines (cut_rows s (oriented s.lines g))) g)) e
+    ap (λ (b : Bool). texts_along s.lines (cond b (oriented s.lines (cut_rows s (oriented s.lines g))) g)) e
     ∙ ap (λ (h : Grid (List ℕ)). filter is_text (joined h.cells)) (turned_back_twice s.lines (cut_rows s (oriented s.lines g)) (cut_even s (oriented s.lines g)) (some_stay s (oriented s.lines g) tall any) need.1)
     ∙ all_texts s (oriented s.lines g)
 
 -- where there are no pieces, the texts are as they were
-pub texts_uncut : (s : Split) (g : Grid (List ℕ)) → has_pieces s g.rows g.columns ≡ false → texts_in s.lines (split s g) ≡ texts_in s.lines g
-texts_uncut s g e = ap (λ (b : Bool). texts_in s.lines (cond b (oriented s.lines (cut_rows s (oriented s.lines g))) g)) e
+pub texts_uncut : (s : Split) (g : Grid (List ℕ)) → has_pieces s g.rows g.columns ≡ false → texts_along s.lines (split s g) ≡ texts_along s.lines g
+texts_uncut s g e = ap (λ (b : Bool). texts_along s.lines (cond b (oriented s.lines (cut_rows s (oriented s.lines g))) g)) e
 
-pub no_text_lost : (s : Split) (g : Grid (List ℕ)) → IsEven g → texts_in s.lines (split s g) ≡ texts_in s.lines (split (record s { display = Retain }) g)
+pub no_text_lost : (s : Split) (g : Grid (List ℕ)) → IsEven g → texts_along s.lines (split s g) ≡ texts_along s.lines (split (record s { display = Retain }) g)
 no_text_lost s g even = elim (cases_Bool (has_pieces s g.rows g.columns)) [
   | inl e ↦ texts_of_pieces s g even e ∙ sym (texts_of_pieces (record s { display = Retain }) g even e)
   | inr e ↦ texts_uncut s g e ∙ sym (texts_uncut (record s { display = Retain }) g e)
@@ -135,7 +135,7 @@ module _ (weight : List ℕ → ℕ) (light : weight [] ≡ 0) where
 abbrev counted_text : (List ℕ → Bool) → List ℕ → ℕ
 counted_text p text = cond (is_text text) (cond (p text) 1 0) 0
 
-pub each_as_often : (s : Split) (g : Grid (List ℕ)) (p : List ℕ → Bool) → IsEven g → count_by p (texts_in s.lines (split s g)) ≡ count_by p (texts_in s.lines g)
+pub each_as_often : (s : Split) (g : Grid (List ℕ)) (p : List ℕ → Bool) → IsEven g → count_by p (texts_along s.lines (split s g)) ≡ count_by p (texts_along s.lines g)
 each_as_often s g p even = elim (cases_Bool (has_pieces s g.rows g.columns)) [
   | inl e ↦
       let need = pieces_need s g e in

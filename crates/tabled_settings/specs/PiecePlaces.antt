@@ -63,8 +63,8 @@ abbrev pub IsGluedBack : Split → Grid (List ℕ) → Grid (List ℕ) → Type 
 IsGluedBack s old new = 0 < old.rows → 0 < old.columns → 0 < s.index → s.display ≡ Retain → glued s old.rows old.columns new ≡ old
 
 -- the texts that aren't empty, row by row or column by column
-abbrev pub texts_in : Axis → Grid (List ℕ) → List (List ℕ)
-texts_in axis g = filter is_text (joined (oriented axis g).cells)
+abbrev pub texts_along : Axis → Grid (List ℕ) → List (List ℕ)
+texts_along axis g = filter is_text (joined (oriented axis g).cells)
 
 -- a table that is split, with all pieces kept
 abbrev pub all_pieces : Split → Grid (List ℕ) → Grid (List ℕ)

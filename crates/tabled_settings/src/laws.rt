@@ -9,7 +9,7 @@ ghost use Rattle.tabled_settings.specs.declared.rotate.Rotate.TheVariants.{Botto
 ghost use Rattle.tabled_settings.specs.declared.split.Display.TheVariants.{Retain};
 ghost use Rattle.tabled_settings.specs.Charsets.{IsCleanByte, clean_text, with_tabs};
 ghost use Rattle.tabled_settings.specs.Orders.{charset_cmp, reverse_cmp};
-ghost use Rattle.tabled_settings.specs.PiecePlaces.{IsGluedBack, all_pieces, split_places, texts_in};
+ghost use Rattle.tabled_settings.specs.PiecePlaces.{IsGluedBack, all_pieces, split_places, texts_along};
 ghost use Rattle.tabled_settings.specs.Pieces.{split};
 ghost use Rattle.tabled_grid.specs.Fitting.{Fits};
 ghost use Rattle.tabled_grid.specs.Spans.{SpanMap};
@@ -113,13 +113,13 @@ pub fn split_is_undone_by_gluing(_split: Split)
 /// A split loses no text: those that aren't empty stand in the new rows, or columns, as often as in all
 /// the pieces, and in their order.
 pub fn split_loses_no_text(_split: Split)
-    ensures kept { (g : Grid (List ℕ)) → IsEven g → texts_in _split.lines (split _split g) ≡ texts_in _split.lines (all_pieces _split g) }
+    ensures kept { (g : Grid (List ℕ)) → IsEven g → texts_along _split.lines (split _split g) ≡ texts_along _split.lines (all_pieces _split g) }
 {}
 
 /// A split keeps each text as often as it stood in the table: of the texts that aren't empty, as many pass
 /// a test after it as before it, whatever the test, the order of the pieces and which of them stay.
 pub fn split_keeps_each_text_as_often(_split: Split)
-    ensures kept { (g : Grid (List ℕ)) (p : List ℕ → Bool) → IsEven g → count_by p (texts_in _split.lines (split _split g)) ≡ count_by p (texts_in _split.lines g) }
+    ensures kept { (g : Grid (List ℕ)) (p : List ℕ → Bool) → IsEven g → count_by p (texts_along _split.lines (split _split g)) ≡ count_by p (texts_along _split.lines g) }
 {}
 
 /// A clean text has no control character but the newline.

@@ -66,7 +66,7 @@ moved : (axis : Axis) (p : Position) (k many rows columns : ℕ) → p.row < row
 moved Rows p k many rows columns row col h = (h, col)
 moved Columns p k many rows columns row col h = (row, h)
 
-index_moved : (axis : Axis) (p : Position) (k : ℕ) → line_of axis (in_line axis p k) ≡ k
+pub index_moved : (axis : Axis) (p : Position) (k : ℕ) → line_of axis (in_line axis p k) ≡ k
 index_moved Rows p k = refl
 index_moved Columns p k = refl
 

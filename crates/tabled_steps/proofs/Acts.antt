@@ -8,7 +8,7 @@ use Rattle.tabled_grid.specs.declared.records.axis.Axis.{Axis}
 use Rattle.tabled_options.specs.Does.{Change, Same, Then, ThenLeaves}
 use Rattle.tabled_settings.specs.Dups.{Duplicates, DuplicatesFirst}
 use Rattle.tabled_settings.specs.Rearranged.{Rearranges, Removes, extracted, removed}
-use Rattle.tabled_steps.specs.Acts.{ActsAs, ListAlike, Makes}
+use Rattle.tabled_steps.specs.Acts.{ActsAs, ListTheSame, Makes}
 use Rattle.tabled_steps.specs.Selected.{half_open}
 use Rattle.tabled_steps.specs.Steps.{Does, Leaves}
 use Rattle.tabled_steps.specs.declared.step.Step.{Step}
@@ -39,7 +39,7 @@ module _ {A C : Type 0} (text_of : A → List ℕ) (destination source other_des
   duplicates_first g c h d (inr (sources, targets, of, on, writes)) = inr (sources, targets, from g sources of, to g targets on, writes)
 
 -- lines that a location finds, and the lines themselves, are taken away alike
-module _ {A : Type 0} (axis : Axis) (locates : Grid A → List ℕ → Type 0) (found : Grid A → List ℕ) (alike : ListAlike locates (λ g lines. lines ≡ found g)) (g : Grid A) (c : SpanMap) (h : Grid A) (d : SpanMap) where
+module _ {A : Type 0} (axis : Axis) (locates : Grid A → List ℕ → Type 0) (found : Grid A → List ℕ) (alike : ListTheSame locates (λ g lines. lines ≡ found g)) (g : Grid A) (c : SpanMap) (h : Grid A) (d : SpanMap) where
   pub finds_removed : Rearranges (removed axis (found g) g.rows g.columns) g c h d → Removes axis locates g c h d
   finds_removed does = record { found = found g; located = (alike g (found g)).1 refl; rearranged = does }
 

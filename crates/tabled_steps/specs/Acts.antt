@@ -46,12 +46,12 @@ abbrev pub InTurn : {A X Y R D : Type 0} → (A → Type 0) → (A → List ℕ)
 InTurn is_blank text_of how next both x y = (p : _) (first : Step) (q : _) (second : Step) → ActsAsOption is_blank text_of first how x → ActsAsOption is_blank text_of second next y → ActsAsOption is_blank text_of (step.Both' p first q second) both (x, y)
 
 -- two relations hold of the same grids and lists
-abbrev pub ListAlike : {A X : Type 0} → (Grid A → List X → Type 0) → (Grid A → List X → Type 0) → Type 0
-ListAlike {A} {X} lists others = (g : Grid A) (items : List X) → (lists g items → others g items) × (others g items → lists g items)
+abbrev pub ListTheSame : {A X : Type 0} → (Grid A → List X → Type 0) → (Grid A → List X → Type 0) → Type 0
+ListTheSame {A} {X} lists others = (g : Grid A) (items : List X) → (lists g items → others g items) × (others g items → lists g items)
 
 -- a kind of step on what two selectors name acts as an option on two objects, where these list that
 abbrev pub ActOnObjects : {A X Y R I J D : Type 0} → (A → Type 0) → (A → List ℕ) → (Selector → Selector → Step) → ObjectOf X R I A → ObjectOf Y R J A → TableOptionOf (X × Y) R SpanMap D A → X × Y → Type 0
-ActOnObjects is_blank text_of step to from how x = (destination source : Selector) → ListAlike (to.lists x.0) (Names text_of destination) → ListAlike (from.lists x.1) (Names text_of source) → ActsAsOption is_blank text_of (step destination source) how x
+ActOnObjects is_blank text_of step to from how x = (destination source : Selector) → ListTheSame (to.lists x.0) (Names text_of destination) → ListTheSame (from.lists x.1) (Names text_of source) → ActsAsOption is_blank text_of (step destination source) how x
 
 -- a kind of step on a range of rows and one of columns acts as an option on two ranges, where these have the same bounds
 abbrev pub ActWithin : {A X Y R D : Type 0} → (A → Type 0) → (A → List ℕ) → (ℕ → ℕ → ℕ → ℕ → Step) → BoundsOf X → BoundsOf Y → TableOptionOf (X × Y) R SpanMap D A → X × Y → Type 0
@@ -68,7 +68,7 @@ IndexesAlong axis a b g found = found ≡ indexes (half_open a b) (count_along a
 
 -- that step acts as an option that takes away lines, where it takes rows, or columns, and its location finds those of the range
 abbrev pub RemovesRange : {A X R I J N : Type 0} → (A → Type 0) → (A → List ℕ) → Axis → Axis → LocationOf X R ℕ I J A → TableOptionOf X R SpanMap N A → X → Type 0
-RemovesRange is_blank text_of axis lines location how x = (a b : ℕ) → lines ≡ axis → ListAlike (location.locates x) (IndexesAlong axis a b) → ActsAsOption is_blank text_of (range_removed axis a b) how x
+RemovesRange is_blank text_of axis lines location how x = (a b : ℕ) → lines ≡ axis → ListTheSame (location.locates x) (IndexesAlong axis a b) → ActsAsOption is_blank text_of (range_removed axis a b) how x
 
 -- these are the columns with a text in the first row
 abbrev pub ColumnsNamed : {A : Type 0} → (A → List ℕ) → List ℕ → Grid A → List ℕ → Type 0
@@ -76,4 +76,4 @@ ColumnsNamed text_of name g found = found ≡ columns_with name (map_grid text_o
 
 -- the same of the step that takes away the columns of a name
 abbrev pub RemovesNamed : {A X R I J N : Type 0} → (A → Type 0) → (A → List ℕ) → Axis → LocationOf X R ℕ I J A → TableOptionOf X R SpanMap N A → X → Type 0
-RemovesNamed is_blank text_of lines location how x = (name : _) → lines ≡ Columns → ListAlike (location.locates x) (ColumnsNamed text_of (string_bytes name)) → ActsAsOption is_blank text_of (step.RemoveNamed name) how x
+RemovesNamed is_blank text_of lines location how x = (name : _) → lines ≡ Columns → ListTheSame (location.locates x) (ColumnsNamed text_of (string_bytes name)) → ActsAsOption is_blank text_of (step.RemoveNamed name) how x

@@ -8,7 +8,7 @@ use Rattle.tabled_grid.specs.Entity.{place}
 use Rattle.tabled_grid.specs.Bounds.{indexes}
 use Rattle.tabled_grid.specs.declared.config.entity.Entity.{Entity}
 use Rattle.tabled_grid.specs.declared.config.entity.Entity.TheVariants as entity
-use Rattle.tabled_select.specs.Algebra.{cells_of, difference_of, flat, intersection_of, inversion_of, union_of}
+use Rattle.tabled_select.specs.Algebra.{cells_of, flat, named_by_both, named_without, others, union_of}
 use Rattle.tabled_select.specs.Locators.{columns_with, places_with}
 use Rattle.tabled_select.specs.Selectors.{before_last, columns_of, everything, frame, if_cells, index_from_last, past_last, rows_of, segment}
 use Rattle.tabled_select.specs.Steps.{every}
@@ -25,15 +25,11 @@ united g x y = cells_of (union_of (flat x g.rows g.columns) (flat y g.rows g.col
 
 -- the cells of the first that aren't of the second
 abbrev pub without : Grid (List ℕ) → List Entity → List Entity → List Entity
-without g x y = cells_of (difference_of (flat x g.rows g.columns) (flat y g.rows g.columns))
+without g x y = cells_of (named_without x y g.rows g.columns)
 
 -- the cells of the first that are of the second, too
 abbrev pub shared : Grid (List ℕ) → List Entity → List Entity → List Entity
-shared g x y = cells_of (intersection_of (flat x g.rows g.columns) (flat y g.rows g.columns))
-
--- the other cells
-abbrev pub others : Grid (List ℕ) → List Entity → List Entity
-others g x = cells_of (inversion_of (flat x g.rows g.columns) g.rows g.columns)
+shared g x y = cells_of (named_by_both x y g.rows g.columns)
 
 -- the cells with a text
 abbrev pub with_content : List ℕ → Grid (List ℕ) → List Entity
@@ -66,7 +62,7 @@ selected g (select.Name text) = named_columns (string_bytes text) g
 selected g (select.And' _ x _ y) = united g (selected g x) (selected g y)
 selected g (select.Not' _ x _ y) = without g (selected g x) (selected g y)
 selected g (select.Intersect' _ x _ y) = shared g (selected g x) (selected g y)
-selected g (select.Inverse' _ x) = others g (selected g x)
+selected g (select.Inverse' _ x) = others (selected g x) g.rows g.columns
 selected g (select.Skip' n _ x) = drop n (selected g x)
 selected g (select.StepBy' n _ x) = every n (selected g x)
 

@@ -1,13 +1,13 @@
 -- The texts of rows that vectors hold, and the lengths of these.
-use Rattle.std.proofs.Common.{◌≡◌, ℕ, List, [], ◌∷◌, String, ap, sym, subst, ◌∙◌, map, length, vec_len}
+use Rattle.std.proofs.Common.{◌≡◌, ℕ, List, [], ◌∷◌, String, ap, sym, subst, ◌∙◌, map, length, refl, take, vec_len}
 use Rattle.std.specs.Global.{Global, Vec}
-use Rattle.std.specs.List.{All, remove}
+use Rattle.std.specs.List.{All, remove, take-map}
 use Rattle.std.specs.String.{string_bytes}
 use Rattle.std.specs.Vec.{with_items}
 use Rattle.std.proofs.lemmas.List.{length-map, with_items_is}
 use Rattle.std.proofs.lemmas.Simd.{map-map}
 use Rattle.tabled_grid.specs.Evenness.{AreWide}
-use Rattle.tabled_grid.specs.Grid.{map_items}
+use Rattle.tabled_grid.specs.Grid.{map_items, width_of}
 use Rattle.tabled_grid.proofs.Lists.{map-remove}
 use Rattle.tabled_grid.proofs.Mapped.{maps_agree}
 use Rattle.tabled_grid.proofs.NestedRows.{each_long}
@@ -24,11 +24,24 @@ row_texts-items rows = sym (map-map (map string_bytes) (λ (row : Vec (String Gl
 pub texts_kept : (old new : List (Vec (String Global))) → map_items new ≡ map_items old → row_texts new ≡ row_texts old
 texts_kept old new e = row_texts-items new ∙ ap (map (map string_bytes)) e ∙ sym (row_texts-items old)
 
+-- rows of which each is changed, whatever its cells are
+module _ (old new : List (Vec (String Global))) (cells : List (String Global) → List (String Global)) (texts : List (List ℕ) → List (List ℕ)) where
+  pub texts_changed : ((row : List (String Global)) → map string_bytes (cells row) ≡ texts (map string_bytes row)) → map_items new ≡ map cells (map_items old) → row_texts new ≡ map texts (row_texts old)
+  texts_changed each changed =
+      row_texts-items new ∙ ap (map (map string_bytes)) changed
+      ∙ maps_agree (map string_bytes) cells texts (map string_bytes) each (map_items old)
+      ∙ ap (map texts) (sym (row_texts-items old))
+
 pub texts_removed : (old new : List (Vec (String Global))) (j : ℕ) → map_items new ≡ map (λ (row : List (String Global)). remove row j) (map_items old) → row_texts new ≡ map (λ (row : List (List ℕ)). remove row j) (row_texts old)
-texts_removed old new j e =
-    row_texts-items new ∙ ap (map (map string_bytes)) e
-    ∙ maps_agree (map string_bytes) (λ row. remove row j) (λ row. remove row j) (map string_bytes) (λ row. map-remove string_bytes row j) (map_items old)
-    ∙ ap (map (λ (row : List (List ℕ)). remove row j)) (sym (row_texts-items old))
+texts_removed old new j = texts_changed old new (λ row. remove row j) (λ row. remove row j) (λ row. map-remove string_bytes row j)
+
+pub texts_taken : (old new : List (Vec (String Global))) (n : ℕ) → map_items new ≡ map (take n) (map_items old) → row_texts new ≡ map (take n) (row_texts old)
+texts_taken old new n = texts_changed old new (take n) (take n) (λ row. sym (take-map string_bytes n row))
+
+-- the first row is as long as its texts are many
+pub width-texts : (rows : List (Vec (String Global))) → width_of (row_texts rows) ≡ width_of (map_items rows)
+width-texts [] = refl
+width-texts (row ∷ rows) = length-map row.items string_bytes
 
 -- rows are as long as those of what a function gives of each member
 pub wide-map : {A B : Type 0} (f : A → B) (n : ℕ) (rows : List (List A)) → AreWide n (map (map f) rows) → AreWide n rows

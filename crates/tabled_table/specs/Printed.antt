@@ -26,7 +26,7 @@ pub record PrintsOne {K : Type 0} (output : K → Option (List ℕ)) (entry : K)
   pub prints_key : Prints output entry key
 
 -- a builder of n columns, with a row an entry in the order of these
-pub record Lists {E : Type 0} (columns : ℕ) (prints : E → List (List ℕ) → Type 0) (entries : List E) (b : Builder) : Type 0 where
+pub record HoldsEntries {E : Type 0} (columns : ℕ) (prints : E → List (List ℕ) → Type 0) (entries : List E) (b : Builder) : Type 0 where
   pub rows : List (List (List ℕ))
   pub each : AllZip prints entries rows
   pub is : b ≡ record { columns = columns; rows = rows; empty = [] }
@@ -36,7 +36,7 @@ abbrev pub row_cmp : List (List ℕ) → List (List ℕ) → Ordering
 row_cmp = slice_cmp (slice_cmp nat_cmp)
 
 -- a builder of n columns, with a row an entry, in ascending order of the rows
-pub record ListsSorted {E : Type 0} (columns : ℕ) (prints : E → List (List ℕ) → Type 0) (entries : List E) (b : Builder) : Type 0 where
+pub record HoldsSortedEntries {E : Type 0} (columns : ℕ) (prints : E → List (List ℕ) → Type 0) (entries : List E) (b : Builder) : Type 0 where
   pub unsorted : List (List (List ℕ))
   pub each : AllZip prints entries unsorted
   pub rows : List (List (List ℕ))

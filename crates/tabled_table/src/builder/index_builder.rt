@@ -141,12 +141,12 @@ impl IndexBuilder {
     /// h2 b d
     /// ```
     ///
-    /// Refused for memory, the builder is dropped.
+    /// Refused for memory, the builder is dropped. Without columns it takes none.
     ///
     /// Ported from `tabled::builder::IndexBuilder::transpose`.
     pub fn transpose(self, alloc: Global) -> Result<Self, AllocError>
         ensures ok { IfOk result (λ x. x ≡ option_map transposed_index self) }
-        ensures promised { self ≡ None → IsOk result }
+        ensures promised { IfSome self (λ x. x.header ≡ []) → IsOk result }
     {
         match self.indexed {
             None => Ok(IndexBuilder { indexed: None }),

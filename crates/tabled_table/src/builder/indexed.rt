@@ -1,6 +1,6 @@
 //! A table's parts where it has an index.
 
-ghost use Rattle.std.specs.Prelude.{◌≡◌, [], ◌∷◌, IfOk, map, vec_len};
+ghost use Rattle.std.specs.Prelude.{◌≡◌, [], ◌∷◌, IfOk, IsOk, map, vec_len};
 ghost use Rattle.std.specs.String.{string_bytes};
 ghost use Rattle.tabled_table.specs.Builder.{row_texts, with_items};
 ghost use Rattle.tabled_table.specs.Index.{numbers, with_index_name};
@@ -9,7 +9,7 @@ use crate::builder::{columns, rows};
 use std::alloc::{AllocError, Global};
 use std::marker::Model;
 use std::mem;
-use tabled_grid::records::nested_rows::turn_rows;
+use tabled_grid::records::nested_rows::{turn_rows, width};
 use tabled_grid::records::{Blank, Text};
 
 /// A header above a body, and an index beside it.
@@ -94,7 +94,8 @@ impl Indexed {
 
     /// Swaps header and index, and transposes the body.
     pub(super) fn transpose(mut self, alloc: Global) -> Result<Self, AllocError>
-        ensures { IfOk result (λ x. x ≡ transposed_index self) }
+        ensures ok { IfOk result (λ x. x ≡ transposed_index self) }
+        ensures promised { self.header ≡ [] → IsOk result }
     {
         turn_rows(alloc, &mut self.body, self.header.len())?;
         mem::swap(&mut self.header, &mut self.index);
@@ -181,7 +182,7 @@ fn rows_with_name(
     ensures { IfOk result (λ named. row_texts named.items ≡ with_index_name in_header (string_bytes name) (row_texts rows.items)) }
 {
     let mut rows = rows;
-    let columns = rows::width(&rows);
+    let columns = width(&rows);
     if columns == 0 {
         return Ok(rows);
     }

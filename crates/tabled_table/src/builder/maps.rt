@@ -4,7 +4,7 @@ ghost use Rattle.std.specs.Prelude.{IfOk, OnOk};
 ghost use Rattle.std.specs.List.Sorted.{IsPermutation, IsSorted};
 ghost use Rattle.tabled_table.specs.Builder.{row_texts};
 ghost use Rattle.tabled_table.specs.Given.{GaveEntries, MayBeAsked};
-ghost use Rattle.tabled_table.specs.Printed.{Lists, ListsSorted, PrintsOne, PrintsPair, row_cmp};
+ghost use Rattle.tabled_table.specs.Printed.{HoldsEntries, HoldsSortedEntries, PrintsOne, PrintsPair, row_cmp};
 
 use crate::builder::Builder;
 use std::alloc::{AllocError, Global};
@@ -22,7 +22,7 @@ impl Builder {
     where
         K: Ord + Display + Drop,
         V: Display + Drop,
-        ensures { IfOk result (λ b. Lists 2 (PrintsPair K.output V.output) map.entries b) }
+        ensures { IfOk result (λ b. HoldsEntries 2 (PrintsPair K.output V.output) map.entries b) }
     {
         let rows = pair_rows(alloc, map)?;
         Builder::of_rows(alloc, 2, rows)
@@ -36,7 +36,7 @@ impl Builder {
     pub fn from_btree_set<K>(alloc: Global, set: BTreeSet<K>) -> Result<Self, AllocError>
     where
         K: Ord + Display + Drop,
-        ensures { IfOk result (λ b. Lists 1 (PrintsOne K.output) set.keys b) }
+        ensures { IfOk result (λ b. HoldsEntries 1 (PrintsOne K.output) set.keys b) }
     {
         let rows = single_rows(alloc, set)?;
         Builder::of_rows(alloc, 1, rows)
@@ -53,7 +53,7 @@ impl Builder {
         K: Eq + Hash + Display + Drop,
         V: Display + Drop,
         S: BuildHasher + Drop,
-        ensures { IfOk result (λ b. ListsSorted 2 (PrintsPair K.output V.output) map.entries b) }
+        ensures { IfOk result (λ b. HoldsSortedEntries 2 (PrintsPair K.output V.output) map.entries b) }
     {
         let mut rows = pair_rows(alloc, map)?;
         sort_rows(&mut rows)?;
@@ -69,7 +69,7 @@ impl Builder {
     where
         K: Eq + Hash + Display + Drop,
         S: BuildHasher + Drop,
-        ensures { IfOk result (λ b. ListsSorted 1 (PrintsOne K.output) set.keys b) }
+        ensures { IfOk result (λ b. HoldsSortedEntries 1 (PrintsOne K.output) set.keys b) }
     {
         let mut rows = single_rows(alloc, set)?;
         sort_rows(&mut rows)?;

@@ -3,7 +3,6 @@
 ghost use Rattle.std.specs.Prelude.{◌≡◌, ℕ, ◌<◌, ◌≤◌, IfOk, OnOk, OnErr, map, replicate, take, vec_len};
 ghost use Rattle.std.specs.List.{filter};
 ghost use Rattle.std.specs.String.{string_bytes};
-ghost use Rattle.tabled_grid.specs.Grid.{width_of};
 ghost use Rattle.tabled_grid.specs.Evenness.{AreWide};
 ghost use Rattle.tabled_table.specs.Builder.{longest as longest_of, padded_to, pushed_items, row_has_text, row_texts, with_row_at};
 ghost use Rattle.tabled_table.specs.Given.{GaveTexts, MayBeAsked};
@@ -11,6 +10,7 @@ ghost use Rattle.tabled_table.specs.Given.{GaveTexts, MayBeAsked};
 use crate::builder::columns::insert_items;
 use std::alloc::{AllocError, Global};
 use tabled_grid::records::Text;
+use tabled_grid::records::nested_rows::truncate_each;
 
 /// The texts that are handed in, for which it first makes some room if it can.
 pub(super) fn collect<R>(
@@ -62,15 +62,6 @@ pub(super) fn try_pad_each(
         pad(alloc, row, columns, empty)?;
     }
     Ok(())
-}
-
-/// Cuts each row off after its first cells.
-pub(super) fn truncate_each(rows: &mut [Vec<Text<String>>], columns: usize)
-    ensures { row_texts rows.new ≡ map (take columns) (row_texts rows.old) }
-{
-    for row in rows.iter_mut() {
-        row.truncate(columns);
-    }
 }
 
 /// Pads rows of one length to another, if it is longer. Refused, it leaves them as they were.
@@ -188,14 +179,4 @@ pub(super) fn longest(rows: &[Vec<Text<String>>]) -> usize
         most = row.len().max(most);
     }
     most
-}
-
-/// The length of the first row.
-pub(super) fn width(rows: &[Vec<Text<String>>]) -> usize
-    ensures { result ≡ width_of (row_texts rows.now) }
-{
-    match rows.first() {
-        None => 0,
-        Some(row) => row.len(),
-    }
 }

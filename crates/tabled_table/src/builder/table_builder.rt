@@ -4,7 +4,7 @@ use crate::builder::{IndexBuilder, columns, rows, texts};
 use crate::table::Table;
 use std::alloc::{AllocError, Global};
 use std::marker::Model;
-use tabled_grid::records::nested_rows::remove_each;
+use tabled_grid::records::nested_rows::{remove_each, truncate_each, width};
 use tabled_grid::records::{Text, VecRecords};
 
 /// Records of texts, all as long as there are declared columns.
@@ -78,7 +78,7 @@ impl Builder {
         requires even { AreWide (width_of (row_texts rows.items)) (row_texts rows.items) }
         ensures rows { result ≡ record { columns = width_of (row_texts rows.items); rows = row_texts rows.items; empty = [] } }
     {
-        let count_columns = rows::width(&rows);
+        let count_columns = width(&rows);
         Builder {
             rows,
             count_columns,
@@ -395,7 +395,7 @@ impl Builder {
         ensures { self.new ≡ cleaned self.old }
     {
         let kept = columns::gather(&mut self.rows, self.count_columns);
-        rows::truncate_each(&mut self.rows, kept);
+        truncate_each(&mut self.rows, kept);
         rows::retain_texts(&mut self.rows);
         self.count_columns = kept;
     }

@@ -3,7 +3,7 @@ use Rattle.std.specs.List.{filter}
 use Rattle.std.specs.Vec.{with_items}
 use Rattle.tabled_table.specs.Builder.{only_columns, row_has_text, row_texts, text_columns}
 use Rattle.tabled_table.proofs.Cleaned.{even-cleaned}
-use Rattle.tabled_table.proofs.RowTexts.{rows_written}
+use Rattle.tabled_table.proofs.RowTexts.{rows_written, texts_taken}
 use Rattle.tabled_table.proofs.builder.table_builder.Builder.clean.Goals as goal
 use Rattle.tabled_table.proofs.builder.table_builder.Builder.clean.Goals.{After-retain_texts}
 
@@ -14,7 +14,7 @@ left c =
     let once = with_items c.self.inside.rows c.gather-kept.new.rows in
     c.retain_texts.ensures
     ∙ ap (filter row_has_text) (rows_written once c.truncate_each.new.rows (c.truncate_each.auto.rows ∙ c.deref_mut-2.ensures.len)
-    ∙ c.truncate_each.ensures
+    ∙ texts_taken _ _ c.gather-kept.result c.truncate_each.ensures
     ∙ ap (λ rows. map (take c.gather-kept.result) (row_texts rows)) c.deref_mut-2.ensures.value
     ∙ ap (map (take c.gather-kept.result)) (rows_written c.self.inside.rows c.gather-kept.new.rows (c.gather-kept.auto.rows ∙ c.deref_mut.ensures.len))
     ∙ c.gather-kept.ensures.front
