@@ -2,9 +2,9 @@
 //! an option that it keeps this, so a caller calls the law, and then changes a table by the option.
 
 ghost use Rattle.tabled_grid.specs.Fitting.{Fits};
+ghost use Rattle.tabled_grid.specs.declared.config.entity.Entity.{Entity};
 ghost use Rattle.tabled_grid.specs.declared.records.axis.Axis.TheVariants.{Columns};
 ghost use Rattle.tabled_options.specs.Does.{OptionKeeps};
-ghost use Rattle.tabled_options.specs.Kept.{KeptBy, KeptOnEach};
 ghost use Rattle.tabled_spans.specs.Spanned.{IsFlat};
 
 use std::alloc::{AllocError, Global};
@@ -88,8 +88,8 @@ where
     R: Records + ExactRecords,
     O: Object<R> + Drop,
     M: CellOption<R, SpannedConfig> + Clone,
-    requires { KeptOnEach ⟦<MergedCellsFit as Property<R::Cell, SpannedConfig>>⟧.holds M.CellOption _option.now }
-    ensures { KeptBy ⟦<MergedCellsFit as Property<R::Cell, SpannedConfig>>⟧.holds ⟦<ModifyList<O, M> as TableOption<R, SpannedConfig, D>>⟧ (_object.now, _option.now) }
+    requires { (e : Entity) → OptionKeeps ⟦<MergedCellsFit as Property<R::Cell, SpannedConfig>>⟧.holds (M.does _option.now e) (M.leaves _option.now e) }
+    ensures { OptionKeeps ⟦<MergedCellsFit as Property<R::Cell, SpannedConfig>>⟧.holds (⟦<ModifyList<O, M> as TableOption<R, SpannedConfig, D>>⟧.does (_object.now, _option.now)) (⟦<ModifyList<O, M> as TableOption<R, SpannedConfig, D>>⟧.leaves (_object.now, _option.now)) }
 {
     modified_keep::<MergedCellsFit, R, SpannedConfig, D, O, M>(_object, _option);
 }
