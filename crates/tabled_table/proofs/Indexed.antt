@@ -31,6 +31,12 @@ even-name n in_header name ([] ∷ rows) even = even
 even-name n true name ((first ∷ header) ∷ rows) even = even
 even-name n false name ((first ∷ header) ∷ rows) even = (even.0, (omega (arith, length-padded_to (length header + 1) [] (name ∷ []), even.0), even.1))
 
+-- without cells a name is left out
+pub unnamed : (in_header : Bool) (name : List ℕ) (rows : List (List (List ℕ))) → width_of rows ≡ 0 → rows ≡ with_index_name in_header name rows
+unnamed in_header name [] none = refl
+unnamed in_header name ([] ∷ rows) none = refl
+unnamed in_header name ((first ∷ header) ∷ rows) none = absurd (omega (arith, none))
+
 even-name_if : (n : ℕ) (in_header : Bool) (name : Option (List ℕ)) (rows : List (List (List ℕ))) → AreWide n rows → AreWide n (with_name_if in_header name rows)
 even-name_if n in_header None rows even = even
 even-name_if n in_header (Some name) rows even = even-name n in_header name rows even

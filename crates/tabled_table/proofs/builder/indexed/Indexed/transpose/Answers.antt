@@ -18,5 +18,5 @@ turn_rows-requires c = rw (c.len.ensures ∙ vec_len-texts c.self.inside.header)
 pub invariant_of-self : goal.invariant_of-self
 invariant_of-self c = rw (c.swap.ensures.x_after, c.swap.ensures.y_after, turned (goal.at.invariant_of-self c).In_ok-turn_rows) (IsIndexed-transposed _ c.self.invariant)
 
-pub returns : goal.returns
-returns c = rw (← c.self.view_is, c.swap.ensures.x_after, c.swap.ensures.y_after, turned (goal.at.returns c).In_ok-turn_rows) refl
+pub returns-clause-ok : goal.returns-clause-ok
+returns-clause-ok c = rw (← c.self.view_is, c.swap.ensures.x_after, c.swap.ensures.y_after, turned (goal.at.returns-clause-ok c).In_ok-turn_rows) refl

@@ -1,0 +1,10 @@
+use Rattle.std.proofs.Common.{◌∙◌, ap, arith, sym}
+use Rattle.tabled_grid.specs.Grid.{map_items, width_of}
+use Rattle.tabled_table.proofs.Indexed.{unnamed}
+use Rattle.tabled_table.proofs.RowTexts.{width-texts}
+use Rattle.tabled_table.proofs.builder.indexed.rows_with_name.Goals as goal
+
+pub returns-then-columns-eq0 : goal.returns-then-columns-eq0
+returns-then-columns-eq0 c =
+    let none = width-texts c.args.rows.items ∙ ap (λ rows. width_of (map_items rows)) (sym c.deref.ensures.value) ∙ sym c.width-columns.ensures in
+    unnamed c.args.in_header _ _ (omega (arith, none, c.if-columns-eq0.true))
