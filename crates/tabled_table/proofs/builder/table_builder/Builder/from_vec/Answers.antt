@@ -6,4 +6,4 @@ pub invariant_of-result : goal.invariant_of-result
 invariant_of-result c = rw (c.width-count_columns.ensures, c.deref.ensures.value, ← width-texts c.args.rows.items) c.requires.even
 
 pub returns : goal.returns
-returns c = rw (c.width-count_columns.ensures, c.deref.ensures.value, ← width-texts c.args.rows.items) refl
+returns c = record { rows = rw (c.width-count_columns.ensures, c.deref.ensures.value, ← width-texts c.args.rows.items, c.new.ensures.bytes) refl }
