@@ -14,6 +14,8 @@ use std::str;
 pub struct ShortText {
     bytes: [u8; 15],
     len: u8,
+    // Takes no room, and aligns this as a text that is lent: whole words are moved, which takes half of the time.
+    _align: [usize; 0],
 }
 
 impl Model for ShortText {
@@ -40,6 +42,7 @@ impl ShortText {
         Some(ShortText {
             bytes,
             len: len as u8,
+            _align: [],
         })
     }
 
