@@ -19,7 +19,8 @@ use Rattle.tabled_grid.specs.Entity.{same_place, place}
 use Rattle.tabled_grid.specs.Grid.{Grid, cell_at}
 use Rattle.tabled_grid.specs.declared.config.position.Position.{Position}
 use Rattle.tabled_grid.specs.declared.records.axis.Axis.{Axis}
-use Rattle.tabled_grid.specs.declared.records.axis.Axis.TheVariants.{Columns}
+use Rattle.tabled_grid.specs.declared.config.size.Size.{Size}
+use Rattle.tabled_grid.specs.declared.records.axis.Axis.TheVariants.{Rows, Columns}
 use Rattle.tabled_grid.specs.Spans.{Rectangle, sized, SpanMap}
 use Rattle.std.proofs.lemmas.Bool.Decides.{nat_tests}
 use Rattle.std.proofs.lemmas.Grind.{common_steps}
@@ -362,3 +363,8 @@ module _ (axis : Axis) (g : Grid (List ℕ)) (es : List Rectangle) where
 
 pub edges-of : (g : Grid (List ℕ)) (m : SpanMap) (ws edges : List ℕ) → ws ≡ widths g (entries m) → length edges ≡ length ws + 1 → ((k : ℕ) → k < length ws + 1 → get_or edges k 0 ≡ start_of Columns ws k) → AreEdges g m edges
 edges-of g m ws edges is long each-is = grind (arith, nat_tests, length-sizes)
+
+-- what a text asks, of rows and of columns
+pub both-asked : (axis : Axis) (s : Size) (text : List ℕ) → s.height ≡ asks Rows text → s.width ≡ asks Columns text → lines_in axis s ≡ asks axis text
+both-asked Rows s text high wide = high
+both-asked Columns s text high wide = wide

@@ -8,7 +8,6 @@ ghost use Rattle.tabled_draw.specs.Measured.{Measured, raised};
 ghost use Rattle.tabled_draw.specs.OwnerRows.{IsOwnerRow};
 ghost use Rattle.tabled_draw.specs.Sizes.{gap, grown_sizes, grown_for, heights, own_sizes, start_of};
 ghost use Rattle.tabled_grid.specs.Along.{count_along};
-ghost use Rattle.tabled_grid.specs.Axis.{line_of};
 ghost use Rattle.tabled_grid.specs.Grid.{IsInside, map_grid};
 ghost use Rattle.tabled_grid.specs.Fitting.{Fits};
 ghost use Rattle.tabled_grid.specs.declared.records.axis.Axis.TheVariants.{Rows, Columns};
@@ -125,34 +124,40 @@ where
 {
     for j in 0..records.count_columns() {
         let pos = Position { row: i, col: j };
-        raise(records, Axis::Columns, here[j + 1], pos, widths)?;
-        raise(records, Axis::Rows, here[j + 1], pos, heights)?;
+        raise(records, here[j + 1], pos, widths, heights)?;
     }
     Ok(())
 }
 
-/// Raises a size to what a text asks, if its owner begins there and lies in no other row, or column.
+/// Raises the sizes of a place's column and row to what a text asks, if its owner begins there: each of which it lies in
+/// no other.
 fn raise<R>(
     records: &R,
-    axis: Axis,
     owner: Option<Rectangle>,
     pos: Position,
-    sizes: &mut Vec<usize>,
+    widths: &mut Vec<usize>,
+    heights: &mut Vec<usize>,
 ) -> Result<(), AllocError>
 where
     R: Records + ExactRecords + PeekableRecords,
     R::Cell: CellText,
     requires well { R.is_well_formed records.now }
     requires inside { IsInside (R.grid records.now) pos }
-    requires line { line_of axis pos < length sizes.old.items }
-    ensures raised { OnOk result (sizes.new.items ≡ raised axis (map_grid R.Cell.text_of (R.grid records.now)) sizes.old.items owner pos) }
+    requires column { pos.col < length widths.old.items }
+    requires row { pos.row < length heights.old.items }
+    ensures widths { OnOk result (widths.new.items ≡ raised Columns (map_grid R.Cell.text_of (R.grid records.now)) widths.old.items owner pos) }
+    ensures heights { OnOk result (heights.new.items ≡ raised Rows (map_grid R.Cell.text_of (R.grid records.now)) heights.old.items owner pos) }
 {
     if let Some((at, size)) = owner
         && at == pos
-        && axis.lines_in(size) == 1
     {
-        let line = axis.line_of(pos);
-        sizes[line] = sizes[line].max(asked(axis, records.get_text(pos))?);
+        let need = asked(records.get_text(pos))?;
+        if size.width == 1 {
+            widths[pos.col] = widths[pos.col].max(need.width);
+        }
+        if size.height == 1 {
+            heights[pos.row] = heights[pos.row].max(need.height);
+        }
     }
     Ok(())
 }
@@ -176,7 +181,7 @@ where
     let anchors = spans.anchors();
     for k in 0..anchors.len() {
         let (at, size) = anchors[k];
-        let need = asked(axis, records.get_text(at))?;
+        let need = axis.lines_in(asked(records.get_text(at))?);
         grow(sizes, axis, axis.line_of(at), axis.lines_in(size), need)?;
     }
     Ok(())

@@ -1,5 +1,5 @@
 use Rattle.std.proofs.Common.{◌≡◌, ◌∙◌, arith, ap, ap₂, get_or, length, length-set}
-use Rattle.tabled_draw.proofs.Sizes.{lies-along, anchor-at, grown-all, grown-more}
+use Rattle.tabled_draw.proofs.Sizes.{both-asked, lies-along, anchor-at, grown-all, grown-more}
 use Rattle.tabled_draw.specs.Sizes.{grown_sizes}
 use Rattle.tabled_grid.specs.Axis.{line_of, lines_in}
 use Rattle.tabled_grid.specs.Grid.{map_grid}
@@ -21,10 +21,10 @@ pub loop-k-preserved : goal.loop-k-preserved
 loop-k-preserved g c =
     let t = map_grid g.R.Cell.CellText.text_of (g.R.GridStore.grid c.args.records.now) in
     let e = get_or c.anchors-anchors.result.now c.loop-k.k (record { row = 0; col = 0 }, sized 0 0) in
-    let grew : c.grow.new.sizes.items ≡ grown_sizes c.args.axis c.loop-k.sizes.items (line_of c.args.axis e.0) (lines_in c.args.axis e.1) c.in_ok-need.need = c.in_ok-grow.ensures.grown ∙ ap₂ (λ a n. grown_sizes c.args.axis c.loop-k.sizes.items a n c.in_ok-need.need) c.line_of.ensures c.lines_in.ensures in
+    let grew : c.grow.new.sizes.items ≡ grown_sizes c.args.axis c.loop-k.sizes.items (line_of c.args.axis e.0) (lines_in c.args.axis e.1) c.lines_in-need.result = c.in_ok-grow.ensures.grown ∙ ap₂ (λ a n. grown_sizes c.args.axis c.loop-k.sizes.items a n c.lines_in-need.result) c.line_of.ensures c.lines_in.ensures in
     record {
       long = ap length grew ∙ length-set c.loop-k.sizes.items _ _ ∙ c.loop-k.invariant.long;
-      grown = grown-more c.args.axis t c.args.spans.now c.args.sizes.now.items c.loop-k.k (record { row = 0; col = 0 }, sized 0 0) c.anchors-anchors.result.now c.anchors-anchors.ensures.anchors c.loop-k-test.true c.loop-k.sizes.items _ c.get_text.ensures c.in_ok-need.need _ c.loop-k.invariant.grown c.in_ok-need.ensures grew;
+      grown = grown-more c.args.axis t c.args.spans.now c.args.sizes.now.items c.loop-k.k (record { row = 0; col = 0 }, sized 0 0) c.anchors-anchors.result.now c.anchors-anchors.ensures.anchors c.loop-k-test.true c.loop-k.sizes.items _ c.get_text.ensures c.lines_in-need.result _ c.loop-k.invariant.grown (c.lines_in-need.ensures ∙ both-asked c.args.axis c.in_ok-asked.field-0 _ c.in_ok-asked.ensures.height c.in_ok-asked.ensures.width) grew;
     }
 
 pub returns : goal.returns

@@ -17,8 +17,8 @@ loop-j-preserved g c =
     let within : c.loop-j.j < t.columns = omega (arith, c.loop-j-test.true, c.count_columns-j-end.ensures.columns) in
     let owned : (x : Option Rectangle) → x ≡ get_or c.args.here.now.items (c.loop-j.j + 1) x → x ≡ Some (owner_in (entries m) (place c.args.i c.loop-j.j)) = λ x is. is ∙ get_or_default c.args.here.now.items (c.loop-j.j + 1) x None (omega (arith, c.requires.here.long, within)) ∙ row-at t.rows t.columns m c.args.i c.loop-j.j c.args.here.now.items c.requires.here c.requires.row within in
     record {
-      widths = measured-raised Columns t (entries m) c.args.i c.loop-j.j c.requires.row within c.loop-j.widths.items c.loop-j.invariant.widths _ _ (owned _ c.index.ensures) c.in_ok-raise.ensures.raised;
-      heights = measured-raised Rows t (entries m) c.args.i c.loop-j.j c.requires.row within c.loop-j.heights.items c.loop-j.invariant.heights _ _ (owned _ c.index-in-loop-j.ensures) c.in_ok-raise-2.ensures.raised;
+      widths = measured-raised Columns t (entries m) c.args.i c.loop-j.j c.requires.row within c.loop-j.widths.items c.loop-j.invariant.widths _ _ (owned _ c.index.ensures) c.in_ok-raise.ensures.widths;
+      heights = measured-raised Rows t (entries m) c.args.i c.loop-j.j c.requires.row within c.loop-j.heights.items c.loop-j.invariant.heights _ _ (owned _ c.index.ensures) c.in_ok-raise.ensures.heights;
     }
 
 pub returns : goal.returns

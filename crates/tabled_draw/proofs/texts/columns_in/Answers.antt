@@ -1,8 +1,9 @@
-use Rattle.std.proofs.Common.{◌≡◌, ◌∙◌, ◌+◌, ◌++◌, ap, zero-add, encode_utf8, false}
+use Rattle.std.proofs.Common.{◌≡◌, ◌∙◌, ◌+◌, ◌++◌, ap, sym, zero-add, encode_utf8, false}
 use Rattle.std.proofs.lemmas.List.{nil_from_length}
 use Rattle.std.proofs.lemmas.Str.{IsUtf8-past_char}
 use Rattle.std.specs.Str.Iter.{chars_rest}
-use Rattle.tabled_draw.proofs.Shown.{counted, counted-end, counted-more}
+use Rattle.tabled_draw.proofs.Shown.{counted, counted-end, counted-more, plain-columns, plain-line}
+use Rattle.tabled_draw.specs.Texts.{text_width}
 use Rattle.unicode_width.specs.Width.{char_width}
 use Rattle.tabled_draw.proofs.texts.columns_in.Goals as goal
 
@@ -31,3 +32,8 @@ pub returns : goal.returns
 returns c =
     let none = nil_from_length _ c.in-None.ensures.steps.0.0 in
     counted-end c.loop-c.columns _ _ none c.loop-c.invariant.same
+
+pub returns-then-is_plain : goal.returns-then-is_plain
+returns-then-is_plain c =
+    let plain = c.is_plain.ensures c.if-is_plain.true in
+    sym (plain-columns c.args.line.now plain) ∙ ap text_width (sym (plain-line c.args.line.now plain))

@@ -1,5 +1,9 @@
-use Rattle.std.proofs.Common.{◌<◌, ℕ, get_or}
+use Rattle.std.proofs.Common.{length}
+use Rattle.tabled_draw.specs.Lines.{ArePlain}
 use Rattle.tabled_draw.proofs.texts.is_plain.Given as goal
 
-abbrev pub invariant-loop-byte : goal.invariant-loop-byte
-invariant-loop-byte l = (k : ℕ) (d : ℕ) → k < l.byte-index → (31 < get_or l.text k d) × (get_or l.text k d < 127)
+abbrev pub invariant-loop-rest : goal.invariant-loop-rest
+invariant-loop-rest l = ArePlain l.rest → ArePlain l.text
+
+abbrev pub decreases-loop-rest : goal.decreases-loop-rest
+decreases-loop-rest l = length l.rest

@@ -40,7 +40,7 @@ returns g c =
 
 pub returns-then-is_plain : goal.returns-then-is_plain
 returns-then-is_plain g c =
-    let plain = c.is_plain.ensures c.if-is_plain.true in
+    let plain = c.requires c.if-is_plain.true in
     let line = plain-line c.args.line.now plain in
     record {
       draws = draws-bytes (g.W.Write.contents c.args.writer.now) (g.W.Write.contents c.write.new.writer) c.args.held.now c.write.new.self c.args.line.now _ (rw line (sym (plain-bytes c.args.line.now plain))) (rw c.as_bytes.ensures.value at c.in_ok-write.ensures.sends);
