@@ -1,28 +1,31 @@
 -- Bytes that are held, and then sent, and cells that are drawn.
-use Rattle.std.proofs.Common.{◌≡◌, ◌∙◌, ◌++◌, ℕ, List, [], Option, None, Some, append-nil, ap, refl, subst, sym, ◌+◌, ◌-◌, ◌<◌, suc, zero, ◌∷◌, ap₂, replicate, encode_utf8_all}
+use Rattle.std.proofs.Common.{◌≡◌, ◌∙◌, ◌++◌, ℕ, true, List, [], Option, None, Some, append-nil, ap, refl, subst, sym, ◌+◌, ◌-◌, ◌<◌, suc, zero, ◌∷◌, ap₂, replicate, encode_utf8_all}
 use Rattle.std.proofs.KnownBytes.{Appends-nil, Appends-trans}
 use Rattle.std.proofs.lemmas.Str.{encodes-append, encode_ascii}
 use Rattle.std.specs.Io.KnownBytes.{Appends, append_known}
-use Rattle.tabled_draw.specs.Sent.{Draws, GrowsBy}
+use Rattle.tabled_draw.specs.Sent.{Draws, GrowsBy, Kept}
 use Rattle.std.proofs.lemmas.List.{replicate-append-replicate}
 use Rattle.tabled_draw.specs.Lines.{cell, first_line}
 use Rattle.tabled_draw.specs.Texts.{text_width}
 
-module _ (a b : Option (List ℕ)) (h i : List ℕ) where
+module _ (a b : Option (List ℕ)) (h i : Kept) where
   pub draws-bytes : (bytes cs : List ℕ) → bytes ≡ encode_utf8_all cs → GrowsBy a h b i bytes → Draws a h b i cs
   draws-bytes bytes cs is sent = record { sent = subst (GrowsBy a h b i) is sent }
 
-pub draws-none : {a : Option (List ℕ)} {h : List ℕ} → Draws a h a h []
-draws-none {a} {h} = record { sent = Appends-nil (append_known a h) }
+pub draws-none : {a : Option (List ℕ)} {h : Kept} → Draws a h a h []
+draws-none {a} {h} = record { sent = λ works. (works, Appends-nil (append_known a h.bytes)) }
 
-pub draws-as : {a b : Option (List ℕ)} {h i xs ys : List ℕ} → xs ≡ ys → Draws a h b i xs → Draws a h b i ys
+pub draws-as : {a b : Option (List ℕ)} {h i : Kept} {xs ys : List ℕ} → xs ≡ ys → Draws a h b i xs → Draws a h b i ys
 draws-as {a} {b} {h} {i} same = subst (Draws a h b i) same
 
 -- some bytes, and then others
-pub sends-then : (a b c : Option (List ℕ)) (h i j xs ys : List ℕ) → GrowsBy a h b i xs → GrowsBy b i c j ys → GrowsBy a h c j (xs ++ ys)
-sends-then a b c h i j = Appends-trans (append_known a h) (append_known b i) (append_known c j)
+pub sends-then : (a b c : Option (List ℕ)) (h i j : Kept) (xs ys : List ℕ) → GrowsBy a h b i xs → GrowsBy b i c j ys → GrowsBy a h c j (xs ++ ys)
+sends-then a b c h i j xs ys first second works =
+    let later = second works in
+    let sooner = first later.0 in
+    (sooner.0, Appends-trans (append_known a h.bytes) (append_known b i.bytes) (append_known c j.bytes) xs ys sooner.1 later.1)
 
-pub draws-then : {a b c : Option (List ℕ)} {h i j xs ys : List ℕ} → Draws a h b i xs → Draws b i c j ys → Draws a h c j (xs ++ ys)
+pub draws-then : {a b c : Option (List ℕ)} {h i j : Kept} {xs ys : List ℕ} → Draws a h b i xs → Draws b i c j ys → Draws a h c j (xs ++ ys)
 draws-then {a} {b} {c} {h} {i} {j} {xs} {ys} first second =
     record { sent = subst (GrowsBy a h c j) (sym (encodes-append xs ys)) (sends-then a b c h i j _ _ first.sent second.sent) }
 
@@ -31,11 +34,11 @@ append_known-nil None = refl
 append_known-nil (Some x) = ap Some (append-nil x)
 
 -- all that was drawn was sent at last
-pub all-drawn : (a b c : Option (List ℕ)) (h i j cs bytes : List ℕ) → h ≡ [] → j ≡ [] → encode_utf8_all cs ≡ bytes → Draws a h b i cs → GrowsBy b i c j [] → Appends a c bytes
-all-drawn a b c h i j cs bytes none empty is drawn sent =
+pub all-drawn : (a b c : Option (List ℕ)) (h i j : Kept) (cs bytes : List ℕ) → h.bytes ≡ [] → j.bytes ≡ [] → encode_utf8_all cs ≡ bytes → Draws a h b i cs → GrowsBy b i c j [] → j.has_worked ≡ true → Appends a c bytes
+all-drawn a b c h i j cs bytes none empty is drawn sent works =
     subst (λ x. Appends x c bytes) (ap (append_known a) none ∙ append_known-nil a)
-    (subst (λ x. Appends (append_known a h) x bytes) (ap (append_known c) empty ∙ append_known-nil c)
-    (subst (Appends (append_known a h) (append_known c j)) (append-nil (encode_utf8_all cs) ∙ is) (sends-then a b c h i j (encode_utf8_all cs) [] drawn.sent sent)))
+    (subst (λ x. Appends (append_known a h.bytes) x bytes) (ap (append_known c) empty ∙ append_known-nil c)
+    (subst (Appends (append_known a h.bytes) (append_known c j.bytes)) (append-nil (encode_utf8_all cs) ∙ is) (sends-then a b c h i j (encode_utf8_all cs) [] drawn.sent sent works).1))
 
 -- ---- bytes and cells that are drawn
 
@@ -43,13 +46,13 @@ encodes : (n c : ℕ) → c < 128 → encode_utf8_all (replicate n c) ≡ replic
 encodes zero c low = refl
 encodes (suc n) c low = ap₂ (λ x y. x ++ y) (encode_ascii c low) (encodes n c low)
 
-pub draws-repeat : (a b : Option (List ℕ)) (h i : List ℕ) (n c : ℕ) → c < 128 → GrowsBy a h b i (replicate n c) → Draws a h b i (replicate n c)
+pub draws-repeat : (a b : Option (List ℕ)) (h i : Kept) (n c : ℕ) → c < 128 → GrowsBy a h b i (replicate n c) → Draws a h b i (replicate n c)
 draws-repeat a b h i n c low = draws-bytes a b h i (replicate n c) (replicate n c) (sym (encodes n c low))
 
-pub draws-byte : (a b : Option (List ℕ)) (h i : List ℕ) (c : ℕ) → c < 128 → GrowsBy a h b i (c ∷ []) → Draws a h b i (c ∷ [])
+pub draws-byte : (a b : Option (List ℕ)) (h i : Kept) (c : ℕ) → c < 128 → GrowsBy a h b i (c ∷ []) → Draws a h b i (c ∷ [])
 draws-byte a b h i = draws-repeat a b h i 1
 
-pub draws-cell : {a b c d e : Option (List ℕ)} {h i j k l : List ℕ} {line : List ℕ} {left : ℕ} (text : List ℕ) (space : ℕ) → line ≡ first_line text → left ≡ space - text_width line
+pub draws-cell : {a b c d e : Option (List ℕ)} {h i j k l : Kept} {line : List ℕ} {left : ℕ} (text : List ℕ) (space : ℕ) → line ≡ first_line text → left ≡ space - text_width line
     → Draws a h b i (32 ∷ []) → Draws b i c j line → Draws c j d k (replicate left 32) → Draws d k e l (32 ∷ []) → Draws a h e l (cell text space)
 draws-cell {left = left} text space is many first second third fourth =
     draws-as (ap₂ (λ x y. (32 ∷ x) ++ y) is (replicate-append-replicate left 1 32 ∙ ap (λ n. replicate (n + 1) 32) (many ∙ ap (λ x. space - text_width x) is)))

@@ -14,7 +14,7 @@ use Rattle.tabled_draw.specs.Texts.{text_width, lines_shown, shown_character, sh
 use Rattle.std.proofs.lemmas.Bool.Decides.{nat_tests}
 use Rattle.std.proofs.lemmas.List.{map-append}
 use Rattle.tabled_draw.proofs.Sent.{draws-as, draws-bytes, draws-none, draws-then}
-use Rattle.tabled_draw.specs.Sent.{Draws, GrowsBy}
+use Rattle.tabled_draw.specs.Sent.{Draws, GrowsBy, Kept}
 use Rattle.std.proofs.lemmas.Grind.{common_steps}
 
 shown-plain : (b : ℕ) → 31 < b → b < 127 → shown_character b ≡ b
@@ -106,22 +106,22 @@ pub widest-more : {A : Type 0} (f : A → List ℕ) (most : ℕ) (xs : List A) (
 widest-more f most xs x is = grind (arith, nat_tests, fold-append, map-append)
 
 -- a line is drawn, up to its last characters
-pub record Drawn (a : Option (List ℕ)) (h : List ℕ) (b : Option (List ℕ)) (i rest all : List ℕ) : Type 0 where
+pub record Drawn (a : Option (List ℕ)) (h : Kept) (b : Option (List ℕ)) (i : Kept) (rest all : List ℕ) : Type 0 where
   pub done : List ℕ
   pub is : all ≡ done ++ rest
   pub drawn : Draws a h b i done
 
-pub drawn-none : (a : Option (List ℕ)) (h rest all : List ℕ) → all ≡ rest → Drawn a h a h rest all
+pub drawn-none : (a : Option (List ℕ)) (h : Kept) (rest all : List ℕ) → all ≡ rest → Drawn a h a h rest all
 drawn-none a h rest all is = record { done = []; is = is; drawn = draws-none }
 
-pub drawn-more : (a b d : Option (List ℕ)) (h i j : List ℕ) (c : ℕ) (bytes whole rest all : List ℕ) → IsUtf8 whole → whole ≡ encode_utf8 c ++ rest → Drawn a h b i (shown_line whole) all → bytes ≡ encode_utf8 (shown_character c) → GrowsBy b i d j bytes → Drawn a h d j (shown_line rest) all
+pub drawn-more : (a b d : Option (List ℕ)) (h i j : Kept) (c : ℕ) (bytes whole rest all : List ℕ) → IsUtf8 whole → whole ≡ encode_utf8 c ++ rest → Drawn a h b i (shown_line whole) all → bytes ≡ encode_utf8 (shown_character c) → GrowsBy b i d j bytes → Drawn a h d j (shown_line rest) all
 drawn-more a b d h i j c bytes whole rest all utf8 is was same sent = record {
   done = was.done ++ (shown_character c ∷ []);
   is = was.is ∙ ap (λ cs. was.done ++ map shown_character cs) (chars_past_char whole rest c utf8 is) ∙ sym (append_assoc was.done (shown_character c ∷ []) (shown_line rest));
   drawn = draws-then was.drawn (draws-bytes b d i j bytes (shown_character c ∷ []) (same ∙ sym (append-nil (encode_utf8 (shown_character c)))) sent);
 }
 
-pub drawn-all : (a b : Option (List ℕ)) (h i rest all : List ℕ) → rest ≡ [] → Drawn a h b i (shown_line rest) all → Draws a h b i all
+pub drawn-all : (a b : Option (List ℕ)) (h i : Kept) (rest all : List ℕ) → rest ≡ [] → Drawn a h b i (shown_line rest) all → Draws a h b i all
 drawn-all a b h i rest all none was = grind (arith, nat_tests, draws-as, chars-nil, append-nil)
 
 pub left-more : (c left more whole rest all : ℕ) (w : Option ℕ) → w ≡ char_width false (shown_character c) → whole ≡ unwrap_or (char_width false (shown_character c)) 0 + rest → left - whole ≡ all → more ≡ left - unwrap_or w 0 → more - rest ≡ all

@@ -3,6 +3,7 @@ use Rattle.std.specs.Prelude.{◌≡◌, ◌+◌, ◌<◌, ℕ, List, [], Option
 use Rattle.std.specs.FinMap.{entries}
 use denote.Ref.{Bor}
 use Rattle.tabled_draw.specs.Picture.{left}
+use Rattle.tabled_draw.specs.Sent.{Kept}
 use Rattle.tabled_draw.specs.Sizes.{heights}
 use Rattle.tabled_grid.specs.Grid.{Grid}
 use Rattle.tabled_grid.specs.Fitting.{Fits}
@@ -14,7 +15,7 @@ pub record AreEdges (g : Grid (List ℕ)) (m : SpanMap) (edges : List ℕ) : Typ
   pub each : (k : ℕ) → k < g.columns + 1 → slice_index_or edges k 0 ≡ left g (entries m) k
 
 -- the layout of a table, and room for two rows of owners and for a text in each column
-pub record IsLaidOut (g : Grid (List ℕ)) (m : SpanMap) (lefts highs : List ℕ) (over under : List (Option Rectangle)) (texts : List (Bor (List ℕ))) (kept : List ℕ) : Type 0 where
+pub record IsLaidOut (g : Grid (List ℕ)) (m : SpanMap) (lefts highs : List ℕ) (over under : List (Option Rectangle)) (texts : List (Bor (List ℕ))) (kept : Kept) : Type 0 where
   pub fits : Fits m g.rows g.columns
   pub edges : AreEdges g m lefts
   pub heights : highs ≡ heights g (entries m)
@@ -22,4 +23,4 @@ pub record IsLaidOut (g : Grid (List ℕ)) (m : SpanMap) (lefts highs : List ℕ
   pub above : length over ≡ g.columns + 2
   pub here : length under ≡ g.columns + 2
   pub rests : length texts ≡ g.columns
-  pub unused : kept ≡ []
+  pub unused : kept.bytes ≡ []

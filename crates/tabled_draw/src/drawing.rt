@@ -112,7 +112,8 @@ where
         write_lines(
             writer, &mut held, records, &spans, &edges, &heights, &mut above, &mut here, &mut rests,
         )?;
-        held.send(writer)?;
+        held.send(writer);
+        held.check()?;
         Ok(())
     }
 }

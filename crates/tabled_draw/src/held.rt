@@ -1,89 +1,109 @@
 //! Bytes that are held until there are many to send.
 
-ghost use Rattle.std.specs.Prelude.{◌≡◌, ◌∷◌, [], IfOk, OnOk, replicate};
+ghost use Rattle.std.specs.Prelude.{◌≡◌, ◌∷◌, [], IfOk, OnOk, replicate, true};
 ghost use Rattle.tabled_draw.specs.Sent.{GrowsBy};
 
 use std::alloc::{AllocError, Global};
 use std::io::{self, Write};
 use std::marker::Model;
+use std::mem;
 
 /// How many bytes are held at most.
 const ROOM: usize = 16_384;
 
-/// Bytes that are held. Their room never grows.
+/// Bytes that are held, and how the writer did so far: once it failed, it gets no more. Their room never grows.
 #[derive(Drop)]
 pub(crate) struct Held {
     bytes: Vec<u8>,
+    outcome: io::Result<()>,
 }
 
 impl Model for Held {
-    ghost use Rattle.std.specs.Prelude.{ℕ, List};
+    ghost use Rattle.std.specs.Result.{is_ok};
+    ghost use Rattle.tabled_draw.specs.Sent.{Kept};
 
-    ghost Value = { List ℕ };
+    ghost Value = { Kept };
 
-    ghost view = { λ a. a.bytes.items };
+    ghost view = { λ a. record { bytes = a.bytes.items; has_worked = is_ok a.outcome } };
 }
 
 impl Held {
     /// Room where nothing is held.
     pub(crate) fn new(alloc: Global) -> Result<Self, AllocError>
-        ensures empty { IfOk result (λ held. held ≡ []) }
+        ensures empty { IfOk result (λ held. held.bytes ≡ []) }
     {
         let bytes = Vec::with_capacity(alloc, ROOM)?;
-        Ok(Held { bytes })
+        Ok(Held {
+            bytes,
+            outcome: Ok(()),
+        })
+    }
+
+    /// Tells how the writer did so far.
+    pub(crate) fn check(&mut self) -> io::Result<()>
+        ensures { OnOk result ((self.old.has_worked ≡ true) × (self.new ≡ self.old)) }
+    {
+        mem::replace(&mut self.outcome, Ok(()))
     }
 
     /// Sends what is held.
-    pub(crate) fn send<W: Write>(&mut self, writer: &mut W) -> io::Result<()>
-        ensures sends { OnOk result (GrowsBy (W.contents writer.old) self.old (W.contents writer.new) self.new []) }
-        ensures empty { OnOk result (self.new ≡ []) }
+    pub(crate) fn send<W: Write>(&mut self, writer: &mut W)
+        ensures sends { GrowsBy (W.contents writer.old) self.old (W.contents writer.new) self.new [] }
+        ensures empty { self.new.bytes ≡ [] }
     {
-        writer.write_all(&self.bytes)?;
+        if self.outcome.is_ok() {
+            self.outcome = writer.write_all(&self.bytes);
+        }
         self.bytes.clear();
-        Ok(())
     }
 
     /// Sends a byte, or holds it.
-    pub(crate) fn push<W: Write>(&mut self, writer: &mut W, byte: u8) -> io::Result<()>
-        ensures sends { OnOk result (GrowsBy (W.contents writer.old) self.old (W.contents writer.new) self.new (byte ∷ [])) }
+    #[inline(always)]
+    pub(crate) fn push<W: Write>(&mut self, writer: &mut W, byte: u8)
+        ensures { GrowsBy (W.contents writer.old) self.old (W.contents writer.new) self.new (byte ∷ []) }
     {
         if self.bytes.len() == self.bytes.capacity() {
-            return self.write(writer, &[byte]);
+            self.send_after(writer, &[byte]);
+            return;
         }
-        self.bytes.push(byte)?;
-        Ok(())
+        self.bytes.push_reserved(byte);
     }
 
     /// Holds bytes, or sends them after what is held, if there is no room.
-    pub(crate) fn write<W: Write>(&mut self, writer: &mut W, bytes: &[u8]) -> io::Result<()>
-        ensures sends { OnOk result (GrowsBy (W.contents writer.old) self.old (W.contents writer.new) self.new bytes.now) }
+    #[inline(always)]
+    pub(crate) fn write<W: Write>(&mut self, writer: &mut W, bytes: &[u8])
+        ensures { GrowsBy (W.contents writer.old) self.old (W.contents writer.new) self.new bytes.now }
     {
         if bytes.len() > self.bytes.capacity() - self.bytes.len() {
-            self.send(writer)?;
-            writer.write_all(bytes)?;
-            return Ok(());
+            self.send_after(writer, bytes);
+            return;
         }
-        self.bytes.extend_from_slice(bytes)?;
-        Ok(())
+        let _ = self.bytes.extend_from_slice(bytes);
+    }
+
+    /// Sends bytes after what is held.
+    #[inline(never)]
+    fn send_after<W: Write>(&mut self, writer: &mut W, bytes: &[u8])
+        ensures { GrowsBy (W.contents writer.old) self.old (W.contents writer.new) self.new bytes.now }
+    {
+        self.send(writer);
+        if self.outcome.is_ok() {
+            self.outcome = writer.write_all(bytes);
+        }
     }
 
     /// Sends a byte many times, or holds it as often.
-    pub(crate) fn repeat<W: Write>(
-        &mut self,
-        writer: &mut W,
-        byte: u8,
-        count: usize,
-    ) -> io::Result<()>
-        ensures sends { OnOk result (GrowsBy (W.contents writer.old) self.old (W.contents writer.new) self.new (replicate count byte)) }
+    #[inline(always)]
+    pub(crate) fn repeat<W: Write>(&mut self, writer: &mut W, byte: u8, count: usize)
+        ensures { GrowsBy (W.contents writer.old) self.old (W.contents writer.new) self.new (replicate count byte) }
     {
         let len = self.bytes.len();
         if count > self.bytes.capacity() - len {
             for _ in 0..count {
-                self.push(writer, byte)?;
+                self.push(writer, byte);
             }
-            return Ok(());
+            return;
         }
-        self.bytes.resize(len + count, byte)?;
-        Ok(())
+        let _ = self.bytes.resize(len + count, byte);
     }
 }

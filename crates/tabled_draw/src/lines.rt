@@ -1,6 +1,6 @@
 //! The lines of a picture.
 
-ghost use Rattle.std.specs.Prelude.{◌≡◌, ◌+◌, ◌<◌, ◌&&◌, IfOk, OnOk, Some, length};
+ghost use Rattle.std.specs.Prelude.{◌≡◌, ◌+◌, ◌<◌, ◌&&◌, OnOk, Some, length};
 ghost use Rattle.tabled_draw.specs.Lines.{EndInside, column, edge, left_of};
 ghost use Rattle.tabled_draw.specs.Owners.{is_one};
 ghost use Rattle.tabled_draw.specs.Rests.{AreCut, line_of_rests};
@@ -41,8 +41,8 @@ pub(crate) fn write_line<'a, W: Write>(
             mark,
             (above[j], above[j + 1]),
             (below[j], below[j + 1]),
-        )?;
-        rests[j] = write_column(writer, held, edges, j, above[j + 1], below[j + 1], rests[j])?;
+        );
+        rests[j] = write_column(writer, held, edges, j, above[j + 1], below[j + 1], rests[j]);
     }
     write_edge(
         writer,
@@ -50,27 +50,27 @@ pub(crate) fn write_line<'a, W: Write>(
         mark,
         (above[columns], above[columns + 1]),
         (below[columns], below[columns + 1]),
-    )?;
-    held.push(writer, b'\n')?;
+    );
+    held.push(writer, b'\n');
+    held.check()?;
     Ok(())
 }
 
 /// Writes what a line has at an edge between columns.
+#[inline(always)]
 fn write_edge<W: Write>(
     writer: &mut W,
     held: &mut Held,
     mark: u8,
     above: (Option<Rectangle>, Option<Rectangle>),
     below: (Option<Rectangle>, Option<Rectangle>),
-) -> io::Result<()>
+)
     requires { mark < 128 }
-    ensures { OnOk result (Draws (W.contents writer.old) held.old (W.contents writer.new) held.new (edge mark above.0 above.1 below.0 below.1)) }
+    ensures { Draws (W.contents writer.old) held.old (W.contents writer.new) held.new (edge mark above.0 above.1 below.0 below.1) }
 {
-    if is_within(above, below) {
-        return Ok(());
+    if !is_within(above, below) {
+        held.push(writer, mark);
     }
-    held.push(writer, mark)?;
-    Ok(())
 }
 
 /// Says whether one owner is all around an edge.
@@ -93,25 +93,25 @@ fn write_column<'a, W: Write>(
     above: Option<Rectangle>,
     below: Option<Rectangle>,
     rest: &'a str,
-) -> io::Result<&'a str>
+) -> &'a str
     requires col { j + 1 < length edges.now }
     requires end { (o : Rectangle) → above ≡ Some o → o.0.col ≡ j → j + o.1.width < length edges.now }
-    ensures draws { OnOk result (Draws (W.contents writer.old) held.old (W.contents writer.new) held.new (column edges.now j above below rest.now)) }
-    ensures rest { IfOk result (λ left. left.now ≡ left_of j above below rest.now) }
+    ensures draws { Draws (W.contents writer.old) held.old (W.contents writer.new) held.new (column edges.now j above below rest.now) }
+    ensures rest { result.now ≡ left_of j above below rest.now }
 {
     if !is_one(above, below) {
         held.repeat(
             writer,
             b'-',
             edges[j + 1].saturating_sub(edges[j]).saturating_sub(1),
-        )?;
-        return Ok(rest);
+        );
+        return rest;
     }
     match above {
         Some((at, Size { width, .. })) if at.col == j => {
             let room = edges[j + width].saturating_sub(edges[j]).saturating_sub(3);
             write_cell(writer, held, rest, room)
         }
-        _ => Ok(rest),
+        _ => rest,
     }
 }

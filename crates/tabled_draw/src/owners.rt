@@ -128,7 +128,7 @@ pub(crate) fn is_one(a: Option<Rectangle>, b: Option<Rectangle>) -> bool
     ensures { result ≡ is_one a b }
 {
     match (a, b) {
-        (Some(a), Some(b)) => a.0.row == b.0.row && a.0.col == b.0.col,
+        (Some(a), Some(b)) => a.0.col == b.0.col && a.0.row == b.0.row,
         _ => false,
     }
 }

@@ -1,6 +1,6 @@
 //! Lines of texts, and how wide they are.
 
-ghost use Rattle.std.specs.Prelude.{◌≡◌, ◌-◌, IfOk, OnOk, IsTrue};
+ghost use Rattle.std.specs.Prelude.{◌≡◌, ◌-◌, IfOk, IsTrue};
 ghost use Rattle.tabled_draw.specs.Sent.{Draws};
 ghost use Rattle.tabled_draw.specs.Lines.{ArePlain, after_line, cell, first_line};
 ghost use Rattle.tabled_draw.specs.Sizes.{asks};
@@ -9,7 +9,7 @@ ghost use Rattle.tabled_grid.specs.declared.records.axis.Axis.TheVariants.{Rows,
 
 use crate::held::Held;
 use std::alloc::AllocError;
-use std::io::{self, Write};
+use std::io::Write;
 use tabled_grid::config::Size;
 use unicode_width::UnicodeWidthChar;
 
@@ -46,12 +46,11 @@ fn is_plain(text: &str) -> bool
 fn are_plain(bytes: &[u8]) -> bool
     ensures { IsTrue result → ArePlain bytes.now }
 {
+    let mut plain = true;
     for byte in bytes {
-        if *byte < b' ' || *byte > b'~' {
-            return false;
-        }
+        plain &= b' ' <= *byte && *byte <= b'~';
     }
-    true
+    plain
 }
 
 /// The columns that a line takes as it is shown. More than `usize::MAX` are a growth refused.
@@ -106,16 +105,16 @@ pub(crate) fn write_cell<'a, W: Write>(
     held: &mut Held,
     text: &'a str,
     room: usize,
-) -> io::Result<&'a str>
-    ensures draws { OnOk result (Draws (W.contents writer.old) held.old (W.contents writer.new) held.new (cell text.now room)) }
-    ensures rest { IfOk result (λ rest. rest.now ≡ after_line text.now) }
+) -> &'a str
+    ensures draws { Draws (W.contents writer.old) held.old (W.contents writer.new) held.new (cell text.now room) }
+    ensures rest { result.now ≡ after_line text.now }
 {
-    held.push(writer, b' ')?;
+    held.push(writer, b' ');
     let (line, is_plain, rest) = cut(text);
-    let left = write_shown(writer, held, line, is_plain, room)?;
-    held.repeat(writer, b' ', left)?;
-    held.push(writer, b' ')?;
-    Ok(rest)
+    let left = write_shown(writer, held, line, is_plain, room);
+    held.repeat(writer, b' ', left);
+    held.push(writer, b' ');
+    rest
 }
 
 /// The first line of a text, whether it is known to be plain, and the lines after it.
@@ -138,21 +137,21 @@ fn write_shown<W: Write>(
     line: &str,
     is_plain: bool,
     room: usize,
-) -> io::Result<usize>
+) -> usize
     requires { IsTrue is_plain → ArePlain line.now }
-    ensures draws { OnOk result (Draws (W.contents writer.old) held.old (W.contents writer.new) held.new (shown_line line.now)) }
-    ensures left { IfOk result (λ left. left ≡ room - text_width (shown_line line.now)) }
+    ensures draws { Draws (W.contents writer.old) held.old (W.contents writer.new) held.new (shown_line line.now) }
+    ensures left { result ≡ room - text_width (shown_line line.now) }
 {
     if is_plain {
-        held.write(writer, line.as_bytes())?;
-        return Ok(room.saturating_sub(line.len()));
+        held.write(writer, line.as_bytes());
+        return room.saturating_sub(line.len());
     }
     let mut left = room;
     for c in line.chars() {
         let c = shown(c);
         let mut bytes = [0; 4];
-        held.write(writer, c.encode_utf8(&mut bytes).as_bytes())?;
+        held.write(writer, c.encode_utf8(&mut bytes).as_bytes());
         left = left.saturating_sub(c.width().unwrap_or(0));
     }
-    Ok(left)
+    left
 }

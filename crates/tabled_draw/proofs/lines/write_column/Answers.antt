@@ -3,7 +3,6 @@ use Rattle.std.proofs.lemmas.Bool.{cond-true, cond-false}
 use Rattle.tabled_draw.proofs.Sent.{draws-repeat, draws-as, draws-none}
 use Rattle.tabled_draw.specs.Lines.{column}
 use Rattle.tabled_draw.specs.Owners.{is_one}
-use Rattle.tabled_draw.proofs.lines.write_column.Goals.{in_default-via-in-Some+else-at-j, in_default-via-in_default}
 use Rattle.tabled_grid.specs.Spans.{Rectangle}
 use Rattle.tabled_draw.proofs.lines.write_column.Goals as goal
 
@@ -11,7 +10,7 @@ pub returns-then-not-is_one-clause-draws : goal.returns-then-not-is_one-clause-d
 returns-then-not-is_one-clause-draws g c =
     let size : c.saturating_sub-then-not-is_one.result ≡ get_or c.args.edges.now (c.args.j + 1) 0 - get_or c.args.edges.now c.args.j 0 - 1 = c.saturating_sub-then-not-is_one.ensures ∙ ap (λ x. x - 1) c.saturating_sub.ensures in
     draws-as (ap (λ n. replicate n 45) size ∙ sym (cond-false _ _ _ (sym c.is_one.ensures ∙ c.if-not-is_one.true)))
-    (draws-repeat _ _ _ _ c.saturating_sub-then-not-is_one.result 45 (lit< tt) c.in_ok-repeat.ensures.sends)
+    (draws-repeat _ _ _ _ c.saturating_sub-then-not-is_one.result 45 (lit< tt) c.repeat.ensures)
 
 nothing : (edges : List ℕ) (j : ℕ) (a b : Option Rectangle) (text : List ℕ) → is_one a b ≡ true → ((o : Rectangle) → a ≡ Some o → eqb o.0.col j ≡ false) → [] ≡ column edges j a b text
 nothing edges j None b text one never = sym (cond-true _ _ _ one)
@@ -19,8 +18,5 @@ nothing edges j (Some o) b text one never = sym (cond-true _ _ _ one ∙ cond-fa
 
 pub returns-in_default-clause-draws : goal.returns-in_default-clause-draws
 returns-in_default-clause-draws g c =
-    let never : (o : Rectangle) → c.args.above ≡ Some o → eqb o.0.col c.args.j ≡ false = λ o e. elim c.in_default.branch [
-      | in_default-via-in-Some+else-at-j w ↦ ne_eqb o.0.col c.args.j (λ at. w.if-at-j.false (let same = sym w.in-Some.is ∙ e in ap (λ (x : Option Rectangle). elim x [ None ↦ 0 | Some y ↦ y.0.col ]) same ∙ at))
-      | in_default-via-in_default w ↦ absurd (w.in_default.not-Some o e)
-    ] in
+    let never : (o : Rectangle) → c.args.above ≡ Some o → eqb o.0.col c.args.j ≡ false = λ o e. ne_eqb o.0.col c.args.j (λ at. c.if-at-j.false (ap (λ (x : Option Rectangle). elim x [ None ↦ 0 | Some y ↦ y.0.col ]) (sym c.in-Some.is ∙ e) ∙ at)) in
     draws-as (nothing c.args.edges.now c.args.j c.args.above c.args.below c.args.rest.now (sym c.is_one.ensures ∙ c.if-not-is_one.false) never) draws-none

@@ -1,7 +1,8 @@
-use Rattle.std.proofs.Common.{◌≡◌, ◌∙◌, ◌+◌, ◌<◌, [], None, ap, arith, get_or, length, lit<, refl, sym, length-set}
+use Rattle.std.proofs.Common.{◌≡◌, ◌∙◌, ◌+◌, ◌<◌, [], None, ap, arith, get_or, length, lit<, refl, subst, sym, length-set}
 use Rattle.tabled_draw.proofs.Sent.{draws-byte, draws-as, draws-none, draws-then}
 use Rattle.tabled_draw.proofs.Each.{changed-more, changed-none, text-in, each-more}
-use Rattle.tabled_draw.specs.Rests.{bytes_in}
+use Rattle.tabled_draw.specs.Rests.{bytes_in, line_of_rests}
+use Rattle.tabled_draw.specs.Sent.{Draws}
 use Rattle.tabled_draw.specs.Each.{each}
 use Rattle.tabled_draw.specs.Lines.{column, drawn_line, edge, left_of, stretches}
 use Rattle.tabled_draw.proofs.lines.write_line.Goals as goal
@@ -22,9 +23,9 @@ loop-j-preserved g c =
     let b = get_or c.args.below.now (j + 1) None in
     record {
       long = length-set c.loop-j.rests.items j _ ∙ c.loop-j.invariant.long;
-      rests = changed-more _ old c.loop-j.rests.items j c.in_ok-rests.field-0 c.loop-j.invariant.rests less (c.in_ok-rests.ensures.rest ∙ ap (left_of j a b) text);
+      rests = changed-more _ old c.loop-j.rests.items j c.write_column.result c.loop-j.invariant.rests less (c.write_column.ensures.rest ∙ ap (left_of j a b) text);
       drawn = draws-as (sym (each-more (stretches c.args.mark c.args.edges.now c.args.above.now c.args.below.now old) j))
-          (draws-then c.loop-j.invariant.drawn (draws-then c.in_ok-write_edge.ensures (draws-as (ap (column c.args.edges.now j a b) text) c.in_ok-rests.ensures.draws)));
+          (draws-then c.loop-j.invariant.drawn (draws-then c.write_edge.ensures (draws-as (ap (column c.args.edges.now j a b) text) c.write_column.ensures.draws)));
     }
 
 pub returns : goal.returns
@@ -34,9 +35,9 @@ returns g c =
     let end : c.loop-j.j ≡ length c.args.rests.now.items = omega (arith, c.loop-j-test.false, c.loop-j.auto.j-end, c.len-columns.ensures) in
     record {
       long = c.loop-j.invariant.long;
-      draws = draws-then (draws-then
+      draws = subst (λ held. Draws (g.W.Write.contents c.args.writer.now) c.args.held.now (g.W.Write.contents c.push.new.writer) held (line_of_rests c.args.mark c.args.edges.now c.args.above.now c.args.below.now c.args.rests.now.items)) (sym c.in_ok-check.ensures.1) (draws-then (draws-then
           (draws-as (ap (λ n. each n (stretches c.args.mark c.args.edges.now c.args.above.now c.args.below.now (bytes_in c.args.rests.now.items))) end) c.loop-j.invariant.drawn)
-          (draws-as (ap (λ n. edge c.args.mark (get_or c.args.above.now n None) (get_or c.args.above.now (n + 1) None) (get_or c.args.below.now n None) (get_or c.args.below.now (n + 1) None)) columns) c.in_ok-write_edge-2.ensures))
-          (draws-byte _ _ _ _ 10 (lit< tt) c.in_ok-push.ensures.sends);
+          (draws-as (ap (λ n. edge c.args.mark (get_or c.args.above.now n None) (get_or c.args.above.now (n + 1) None) (get_or c.args.below.now n None) (get_or c.args.below.now (n + 1) None)) columns) c.write_edge-2.ensures))
+          (draws-byte _ _ _ _ 10 (lit< tt) c.push.ensures));
       rests = λ j h. c.loop-j.invariant.rests.done j (omega (arith, end, h));
     }

@@ -26,7 +26,7 @@ loop-c-preserved g c =
       can = tt;
       ends = tt;
       utf8 = IsUtf8-past_char whole rest c.in-Some.c c.loop-c.invariant.utf8 step;
-      drawn = drawn-more _ _ _ _ _ _ c.in-Some.c _ whole rest _ c.loop-c.invariant.utf8 step c.loop-c.invariant.drawn (c.as_bytes-in-loop-c.ensures.value ∙ c.encode_utf8.ensures.value ∙ ap encode_utf8 c.shown-c.ensures) c.in_ok-write-2.ensures.sends;
+      drawn = drawn-more _ _ _ _ _ _ c.in-Some.c _ whole rest _ c.loop-c.invariant.utf8 step c.loop-c.invariant.drawn (c.as_bytes-in-loop-c.ensures.value ∙ c.encode_utf8.ensures.value ∙ ap encode_utf8 c.shown-c.ensures) c.write-in-loop-c.ensures;
       left = left-more c.in-Some.c c.loop-c.left _ _ _ _ c.width.result (c.width.ensures.value ∙ ap (char_width false) c.shown-c.ensures) (counted c.in-Some.c rest whole c.loop-c.invariant.utf8 step) c.loop-c.invariant.left (c.saturating_sub-left.ensures ∙ ap (λ n. c.loop-c.left - n) c.unwrap_or.ensures);
     }
 
@@ -43,6 +43,6 @@ returns-then-is_plain g c =
     let plain = c.requires c.if-is_plain.true in
     let line = plain-line c.args.line.now plain in
     record {
-      draws = draws-bytes (g.W.Write.contents c.args.writer.now) (g.W.Write.contents c.write.new.writer) c.args.held.now c.write.new.self c.args.line.now _ (rw line (sym (plain-bytes c.args.line.now plain))) (rw c.as_bytes.ensures.value at c.in_ok-write.ensures.sends);
+      draws = draws-bytes (g.W.Write.contents c.args.writer.now) (g.W.Write.contents c.write.new.writer) c.args.held.now c.write.new.self c.args.line.now _ (rw line (sym (plain-bytes c.args.line.now plain))) (rw c.as_bytes.ensures.value at c.write.ensures);
       left = c.saturating_sub.ensures ∙ ap (λ n. c.args.room - n) (sym (plain-columns c.args.line.now plain) ∙ ap text_width (sym line));
     }
