@@ -1,3 +1,4 @@
+pub mod Before
 pub mod Each
 pub mod Example
 pub mod Fitting

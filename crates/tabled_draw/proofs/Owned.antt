@@ -3,6 +3,7 @@ use Rattle.std.proofs.Common.{◌≡◌, ◌∙◌, ◌+◌, ◌-◌, ◌<◌, �
 use Rattle.std.specs.FinMap.{entries, entries_sorted, get, get-entries, find, is_sorted}
 use Rattle.std.proofs.lemmas.Bool.{false_from_ne_true, cases_Bool, false≢true, cond-true, cond-false}
 use Rattle.std.proofs.lemmas.Option.{none-some, same_Some}
+use Rattle.tabled_draw.proofs.Before.{Before, After, after-from, after-next, before-from, before-next, before-none, before-row, cases_before, here-next}
 use Rattle.tabled_draw.specs.OwnerRows.{IsOwnerRow, chosen, is_held_by, count_before, is_before}
 use Rattle.tabled_draw.specs.Owners.{is_one, owner, owner_in}
 use Rattle.tabled_grid.proofs.Members.{Member, find-member, sorted-find}
@@ -271,44 +272,6 @@ row-outside rows columns m i row never long empty = record { long = long; each =
 -- the owner that a row has of a place
 pub row-at : (rows columns : ℕ) (m : SpanMap) (i j : ℕ) (row : List (Option Rectangle)) → IsOwnerRow rows columns m (i + 1) row → i < rows → j < columns → get_or row (j + 1) None ≡ Some (owner_in (entries m) (place i j))
 row-at rows columns m i j row is h k = is.each (j + 1) (omega arith) ∙ owner-inside rows columns (entries m) i j h k
-
--- ---- places before others, row by row
-
--- what the test says
-abbrev pub Before : ℕ → ℕ → Position → Type 0
-Before i j p = (p.row < i) ⊎ ((p.row ≡ i) × (p.col < j))
-
-abbrev pub After : ℕ → ℕ → Position → Type 0
-After i j p = (i < p.row) ⊎ ((p.row ≡ i) × (j ≤ p.col))
-
-pub before-true : (i j : ℕ) (p : Position) → is_before i j p ≡ true → Before i j p
-before-true i j p t = grind (arith, nat_tests)
-
-pub before-from : (i j : ℕ) (p : Position) → Before i j p → is_before i j p ≡ true
-before-from i j p h1 = grind (arith, nat_tests)
-
-pub after-from : (i j : ℕ) (p : Position) → After i j p → is_before i j p ≡ false
-after-from i j p after = grind (arith, nat_tests, before-true)
-
-pub cases_before : (i j : ℕ) (p : Position) → Before i j p ⊎ After i j p
-cases_before i j p = grind (arith, nat_tests)
-
--- one place more
-pub before-next : (i j : ℕ) (p : Position) → Before i j p → is_before i (j + 1) p ≡ true
-before-next i j p h1 = grind (arith, nat_tests, before-from)
-
-pub after-next : (i j : ℕ) (p : Position) → After i j p → p ≢ place i j → is_before i (j + 1) p ≡ false
-after-next i j p h1 h2 = grind (arith, nat_tests, after-from)
-
-pub here-next : (i j : ℕ) (p : Position) → p ≡ place i j → is_before i (j + 1) p ≡ true
-here-next i j p e = before-from i (j + 1) p (inr (ap (λ (q : Position). q.row) e, omega (arith, ap (λ (q : Position). q.col) e)))
-
--- the end of a row
-pub before-row : (i columns : ℕ) (p : Position) → p.col < columns → is_before i columns p ≡ is_before (i + 1) 0 p
-before-row i columns p within = grind (arith, nat_tests, before-from, after-from)
-
-pub before-none : (p : Position) → is_before 0 0 p ≡ false
-before-none p = grind (arith, nat_tests, after-from)
 
 -- ---- anchors before a place
 

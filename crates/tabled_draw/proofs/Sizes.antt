@@ -4,7 +4,8 @@ use Rattle.std.proofs.lemmas.Bool.{and_from, cases_eq, cond-true, cases_Bool, co
 use Rattle.std.proofs.lemmas.List.{get_or-set_same, get_or-set_other, take_more, ext_get_or, get_or-replicate, length-replicate}
 use Rattle.std.proofs.lemmas.List.Sums.{sum_by_more, fold-append}
 use Rattle.tabled_draw.proofs.Each.{get-singles, length-singles}
-use Rattle.tabled_draw.proofs.Owned.{LieWell, LiesIn, Owned, owned, member-at, fits-well, after-next, before-from, before-next, before-none, before-row, cases_before, after-from, here-next}
+use Rattle.tabled_draw.proofs.Before.{after-next, before-from, before-next, before-none, before-row, cases_before, after-from, here-next}
+use Rattle.tabled_draw.proofs.Owned.{LieWell, LiesIn, Owned, owned, member-at, fits-well}
 use Rattle.tabled_draw.proofs.Owned.Owned.{alone, held}
 use Rattle.tabled_draw.specs.Each.{largest, each}
 use Rattle.tabled_draw.specs.Owners.{owner_in}

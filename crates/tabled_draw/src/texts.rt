@@ -70,17 +70,6 @@ fn columns_in(line: &str) -> Result<usize, AllocError>
     Ok(columns)
 }
 
-/// The columns of the widest line of a text.
-fn widest(text: &str) -> Result<usize, AllocError>
-    ensures { IfOk result (λ most. most ≡ widest text.now) }
-{
-    let mut most: usize = 0;
-    for line in text.split('\n') {
-        most = most.max(columns_in(line)?);
-    }
-    Ok(most)
-}
-
 /// The size that a text asks: of its rows as many as it has lines, and of its columns those of its widest line.
 pub(crate) fn asked(text: &str) -> Result<Size, AllocError>
     ensures height { IfOk result (λ asked. asked.height ≡ asks Rows text.now) }
@@ -92,9 +81,22 @@ pub(crate) fn asked(text: &str) -> Result<Size, AllocError>
             width: text.len(),
         });
     }
+    asked_by_lines(text)
+}
+
+/// The same, line by line.
+#[inline(never)]
+fn asked_by_lines(text: &str) -> Result<Size, AllocError>
+    ensures height { IfOk result (λ asked. asked.height ≡ asks Rows text.now) }
+    ensures width { IfOk result (λ asked. asked.width ≡ asks Columns text.now) }
+{
+    let mut width: usize = 0;
+    for line in text.split('\n') {
+        width = width.max(columns_in(line)?);
+    }
     Ok(Size {
         height: text.split('\n').count(),
-        width: widest(text)?,
+        width,
     })
 }
 
