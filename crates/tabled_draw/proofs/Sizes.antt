@@ -25,7 +25,6 @@ use Rattle.tabled_grid.specs.declared.records.axis.Axis.TheVariants.{Rows, Colum
 use Rattle.tabled_grid.specs.Spans.{Rectangle, sized, SpanMap}
 use Rattle.std.proofs.lemmas.Bool.Decides.{nat_tests}
 use Rattle.std.proofs.lemmas.Grind.{common_steps}
-use Rattle.tabled_draw.specs.Picture.{picture}
 use Rattle.tabled_draw.specs.Overall.{AreNoLargerThanAsked, ends_in}
 use Rattle.std.specs.FinMap.{entries}
 use Rattle.tabled_grid.specs.Fitting.{Fits}
