@@ -78,6 +78,7 @@ impl Held {
             self.send_after(writer, bytes);
             return;
         }
+        // There is room, so this asks for no memory.
         let _ = self.bytes.extend_from_slice(bytes);
     }
 
@@ -104,6 +105,7 @@ impl Held {
             }
             return;
         }
+        // The same here.
         let _ = self.bytes.resize(len + count, byte);
     }
 }
