@@ -1,7 +1,6 @@
 //! A store of one's own: texts in one vector, row after row.
 #![tactic(auto)]
 
-mod moves;
 #[cfg(test)]
 mod tests;
 mod text_grid;

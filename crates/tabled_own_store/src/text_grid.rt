@@ -3,12 +3,12 @@
 ghost use Rattle.std.specs.Prelude.{◌≡◌};
 ghost use Rattle.tabled_grid.specs.Flat.{IsFull, flat_grid};
 
-use crate::moves::{
-    close_up, insert_blanks, push_blanks, remove_run, spread, swap_each, swap_runs,
-};
 use std::alloc::{AllocError, Global};
 use std::marker::Model;
 use tabled_grid::config::Position;
+use tabled_grid::records::vec_records::moves::{
+    close_up, insert_blanks, push_blanks, remove_run, spread, swap_each, swap_runs,
+};
 use tabled_grid::records::{
     ExactRecords, GridStore, PeekableRecords, Records, RecordsMut, Resizable,
 };

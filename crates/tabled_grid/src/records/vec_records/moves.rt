@@ -1,4 +1,4 @@
-//! Work on cells that lie row after row in one list.
+//! Work on cells that lie row after row in one list, for `VecRecords` and for a store of one's own.
 
 ghost use Rattle.std.specs.Prelude.{◌≡◌, ◌+◌, ◌-◌, ◌*◌, ◌<◌, ◌≤◌, ◌++◌, List, IfOk, OnErr, OnOk, length, map, take, drop, vec_len};
 ghost use Rattle.std.specs.List.{remove, swap};
@@ -32,7 +32,7 @@ pub(super) fn join<T: Drop>(
 }
 
 /// Inserts n blanks after the last cell, in one growth. Refused, it leaves the cells as they were.
-pub(super) fn push_blanks<T: Blank>(
+pub fn push_blanks<T: Blank>(
     alloc: Global,
     cells: &mut Vec<T>,
     count: usize,
@@ -46,7 +46,7 @@ pub(super) fn push_blanks<T: Blank>(
 }
 
 /// Inserts n blanks before place `at`, in one growth. Refused, it leaves the cells as they were.
-pub(super) fn insert_blanks<T: Blank>(
+pub fn insert_blanks<T: Blank>(
     alloc: Global,
     cells: &mut Vec<T>,
     at: usize,
@@ -62,7 +62,7 @@ pub(super) fn insert_blanks<T: Blank>(
 }
 
 /// Removes n cells from place `at` on.
-pub(super) fn remove_run<T: Drop>(cells: &mut Vec<T>, at: usize, count: usize)
+pub fn remove_run<T: Drop>(cells: &mut Vec<T>, at: usize, count: usize)
     requires { at + count ≤ vec_len cells.old }
     ensures { cells.new.items ≡ take at cells.old.items ++ drop (at + count) cells.old.items }
 {
@@ -98,7 +98,7 @@ fn slide_back<T>(cells: &mut [T], from: usize, count: usize, gap: usize)
 }
 
 /// Brings n of the last cells into each of the rows before them, before place `j`.
-pub(super) fn spread<T: Blank>(cells: &mut [T], rows: usize, columns: usize, j: usize, many: usize)
+pub fn spread<T: Blank>(cells: &mut [T], rows: usize, columns: usize, j: usize, many: usize)
     requires size { length cells.old ≡ rows * columns + rows * many }
     requires within { j ≤ columns }
     requires blanks { AreBlanks T.is_blank (rows * many) (drop (rows * columns) cells.old) }
@@ -113,7 +113,7 @@ pub(super) fn spread<T: Blank>(cells: &mut [T], rows: usize, columns: usize, j: 
 }
 
 /// Brings all cells but the `count` of each row from column `j` on forward, and leaves those after them.
-pub(super) fn close_up<T>(cells: &mut [T], rows: usize, columns: usize, j: usize, count: usize)
+pub fn close_up<T>(cells: &mut [T], rows: usize, columns: usize, j: usize, count: usize)
     requires size { length cells.old ≡ rows * columns }
     requires within { j + count ≤ columns }
     ensures { take (rows * (columns - count)) cells.new ≡ joined (map (λ (row : List T). take j row ++ drop (j + count) row) (chunks rows columns cells.old)) }
@@ -127,7 +127,7 @@ pub(super) fn close_up<T>(cells: &mut [T], rows: usize, columns: usize, j: usize
 }
 
 /// Swaps two runs of `count` cells.
-pub(super) fn swap_runs<T>(cells: &mut [T], first: usize, second: usize, count: usize)
+pub fn swap_runs<T>(cells: &mut [T], first: usize, second: usize, count: usize)
     requires apart { first + count ≤ second }
     requires within { second + count ≤ length cells.old }
     ensures { cells.new ≡ with_runs_swapped cells.old first second count }
@@ -137,7 +137,7 @@ pub(super) fn swap_runs<T>(cells: &mut [T], first: usize, second: usize, count: 
 }
 
 /// Swaps the cells of two columns in each row.
-pub(super) fn swap_each<T>(cells: &mut [T], rows: usize, columns: usize, j: usize, k: usize)
+pub fn swap_each<T>(cells: &mut [T], rows: usize, columns: usize, j: usize, k: usize)
     requires size { length cells.old ≡ rows * columns }
     requires j_within { j < columns }
     requires k_within { k < columns }

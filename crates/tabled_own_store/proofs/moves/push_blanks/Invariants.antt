@@ -1,9 +1,0 @@
-use Rattle.std.proofs.Common.{◌+◌, ◌≤◌, vec_capacity, vec_len}
-use Rattle.tabled_grid.specs.Moves.{AddsBlanks}
-use Rattle.tabled_own_store.proofs.moves.push_blanks.Given as goal
-
-abbrev pub invariant-loop : goal.invariant-loop
-invariant-loop g l = record {
-  room : vec_len l.cells + l.count ≤ vec_capacity l.cells + l.counter;
-  added : AddsBlanks g.T.Blank.is_blank l.fn.cells.items l.cells.items l.counter;
-}

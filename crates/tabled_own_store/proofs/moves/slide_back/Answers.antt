@@ -1,9 +1,0 @@
-use Rattle.std.proofs.Common.{refl, arith}
-use Rattle.tabled_grid.proofs.FlatSlides.{slid_back_by_swap, slid_back_by_turn}
-use Rattle.tabled_own_store.proofs.moves.slide_back.Goals as goal
-
-pub returns-then-count-gap : goal.returns-then-count-gap
-returns-then-count-gap g c = slid_back_by_swap _ _ _ _ _ _ c.if-count-gap.true refl c.swap_runs.ensures
-
-pub returns-else-count-gap : goal.returns-else-count-gap
-returns-else-count-gap g c = slid_back_by_turn _ _ _ _ _ _ _ (omega arith) c.rotate_right.ensures.after refl
