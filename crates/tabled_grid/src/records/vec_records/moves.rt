@@ -31,7 +31,7 @@ pub(super) fn join<T: Drop>(
     Ok(cells)
 }
 
-/// Inserts n blanks after the last cell, in one growth. Refused, it leaves the cells as they were.
+/// Puts `count` blanks after the last cell, in one growth. Refused, it leaves the cells as they were.
 pub fn push_blanks<T: Blank>(
     alloc: Global,
     cells: &mut Vec<T>,
@@ -45,7 +45,7 @@ pub fn push_blanks<T: Blank>(
     Ok(())
 }
 
-/// Inserts n blanks before place `at`, in one growth. Refused, it leaves the cells as they were.
+/// Puts `count` blanks before place `at`, in one growth. Refused, it leaves the cells as they were.
 pub fn insert_blanks<T: Blank>(
     alloc: Global,
     cells: &mut Vec<T>,
@@ -61,7 +61,7 @@ pub fn insert_blanks<T: Blank>(
     Ok(())
 }
 
-/// Removes n cells from place `at` on.
+/// Removes the `count` cells from place `at` on.
 pub fn remove_run<T: Drop>(cells: &mut Vec<T>, at: usize, count: usize)
     requires { at + count ≤ vec_len cells.old }
     ensures { cells.new.items ≡ take at cells.old.items ++ drop (at + count) cells.old.items }
@@ -97,7 +97,8 @@ fn slide_back<T>(cells: &mut [T], from: usize, count: usize, gap: usize)
     }
 }
 
-/// Brings n of the last cells into each of the rows before them, before place `j`.
+/// Makes rows of c cells rows of c + `many`: the blanks behind the last row go into the rows, `many`
+/// into each, before column `j`. It goes over the cells once.
 pub fn spread<T: Blank>(cells: &mut [T], rows: usize, columns: usize, j: usize, many: usize)
     requires size { length cells.old ≡ rows * columns + rows * many }
     requires within { j ≤ columns }
@@ -112,7 +113,8 @@ pub fn spread<T: Blank>(cells: &mut [T], rows: usize, columns: usize, j: usize, 
     }
 }
 
-/// Brings all cells but the `count` of each row from column `j` on forward, and leaves those after them.
+/// Makes rows of c cells rows of c - `count`, without the `count` from column `j` on. What is left out
+/// comes to lie behind the last row. It goes over the cells once.
 pub fn close_up<T>(cells: &mut [T], rows: usize, columns: usize, j: usize, count: usize)
     requires size { length cells.old ≡ rows * columns }
     requires within { j + count ≤ columns }
@@ -126,7 +128,7 @@ pub fn close_up<T>(cells: &mut [T], rows: usize, columns: usize, j: usize, count
     }
 }
 
-/// Swaps two runs of `count` cells.
+/// Exchanges two runs of `count` cells.
 pub fn swap_runs<T>(cells: &mut [T], first: usize, second: usize, count: usize)
     requires apart { first + count ≤ second }
     requires within { second + count ≤ length cells.old }
@@ -136,7 +138,7 @@ pub fn swap_runs<T>(cells: &mut [T], first: usize, second: usize, count: usize)
     front[first..first + count].swap_with_slice(&mut back[..count]);
 }
 
-/// Swaps the cells of two columns in each row.
+/// Exchanges columns `j` and `k`.
 pub fn swap_each<T>(cells: &mut [T], rows: usize, columns: usize, j: usize, k: usize)
     requires size { length cells.old ≡ rows * columns }
     requires j_within { j < columns }
