@@ -87,6 +87,13 @@ module _ {A : Type 0} where
   pub behind_done : (columns : ℕ) (turned : List (List A)) → length turned ≡ columns → with_rows_behind turned (transposed_rows columns []) ≡ turned
   behind_done columns turned tall = behind_none columns turned tall
 
+  pub have_width : (columns : ℕ) (rows : List (List A)) → AreWide columns rows → 0 < length rows → width_of rows ≡ columns
+  have_width columns [] wide some = absurd (omega (arith, some))
+  have_width columns (row ∷ rows) wide some = wide.0
+
+  pub even_rows : (columns : ℕ) (rows : List (List A)) → AreWide columns rows → 0 < length rows → IsEven (grid_of rows)
+  even_rows columns rows wide some = record { tall = refl; wide = subst (λ (n : ℕ). AreWide n rows) (sym (have_width columns rows wide some)) wide }
+
   -- the grid of rows of columns
   pub have_turned : (rows new : List (List A)) → IsEven (grid_of rows) → 0 < width_of rows → new ≡ transposed_rows (width_of rows) rows → HaveGrid new (transposed (grid_of rows))
   have_turned rows new even some is = have_grid (transposed (grid_of rows)) new turned_even (λ e. absurd (omega (arith, e, some))) is

@@ -1,8 +1,8 @@
 //! Rows in vectors of their own, that grow and shrink.
 
 use super::moves::{
-    blank_rows, blanks, insert_blanks, remove_each, swap_cells, swap_each, transpose_square,
-    truncate_each, widen_each,
+    blank_rows, blanks, insert_blanks, remove_each, swap_cells, swap_each, truncate_each,
+    widen_each,
 };
 use super::turn::turn_rows;
 use crate::config::Position;
@@ -92,13 +92,9 @@ impl<T: Blank> Resizable for Vec<Vec<T>> {
     }
 
     fn transpose(&mut self, alloc: Global) -> Result<(), AllocError> {
-        let (rows, columns) = (self.count_rows(), self.count_columns());
+        let columns = self.count_columns();
         if columns == 0 {
             self.clear();
-            return Ok(());
-        }
-        if rows == columns {
-            transpose_square(self);
             return Ok(());
         }
         turn_rows(alloc, self, columns)?;

@@ -7,6 +7,7 @@ ghost use Rattle.tabled_grid.specs.Bulk.{transposed_rows, with_items_behind};
 ghost use Rattle.tabled_grid.specs.Evenness.{AreWide};
 ghost use Rattle.tabled_grid.specs.Grid.{map_items};
 
+use super::moves::transpose_square;
 use std::alloc::{AllocError, Global};
 use std::mem;
 
@@ -38,7 +39,8 @@ fn push_each<T: Drop>(rows: &mut [Vec<T>], items: Vec<T>)
 
 /// Makes rows of columns. Refused, it leaves the rows as they were.
 ///
-/// All memory is taken before the first cell moves, and rows are read in order.
+/// A square needs no memory. Else all memory is taken before the first cell moves, and rows are read in
+/// order.
 #[doc(hidden)]
 pub fn turn_rows<T: Drop>(
     alloc: Global,
@@ -50,6 +52,10 @@ pub fn turn_rows<T: Drop>(
     ensures err { OnErr result (rows.new ≡ rows.old) }
     ensures promised { columns ≡ 0 → IsOk result }
 {
+    if columns > 0 && rows.len() == columns {
+        transpose_square(rows);
+        return Ok(());
+    }
     let turned = empty_rows(alloc, columns, rows.len())?;
     let old = mem::replace(rows, turned);
     for row in old {
