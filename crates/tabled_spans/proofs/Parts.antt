@@ -9,18 +9,9 @@ use Rattle.std.proofs.lemmas.List.Sums.{sum_by-cons, sum_by_push}
 use Rattle.std.proofs.lemmas.List.Splits.{join_with_byte-slice_split}
 use Rattle.tabled_spans.specs.Widths.{AreParts, Begins, IsCut, IsCutLine, Placed, columns_in, character_columns, last_replaced, pieces, placed, shown}
 
-tail_same : {X : Type 0} (x y : X) (xs ys : List X) → x ∷ xs ≡ y ∷ ys → xs ≡ ys
-tail_same x y xs ys e = cc
-
-head_same : {X : Type 0} (x y : X) (xs ys : List X) → x ∷ xs ≡ y ∷ ys → x ≡ y
-head_same x y xs ys e = cc
-
-none_some : {X : Type 0} (x : X) (xs : List X) → [] ≡ x ∷ xs → ⊥
-none_some x xs e = cc
-
 nowhere : (front rest : List ℕ) (c : ℕ) → [] ≡ front ++ (c ∷ rest) → ⊥
-nowhere [] rest c e = none_some c rest e
-nowhere (x ∷ front) rest c e = none_some x _ e
+nowhere [] rest c e = cc
+nowhere (x ∷ front) rest c e = cc
 
 -- no character with a column stands after n columns
 abbrev IsShort : ℕ → List ℕ → Type 0
@@ -28,12 +19,12 @@ IsShort width part = (front rest : List ℕ) (c : ℕ) → part ≡ front ++ (c 
 
 -- a character that is put after others is the last one, or some other is meant
 last_or_before : (cs front rest : List ℕ) (c d : ℕ) → cs ++ (c ∷ []) ≡ front ++ (d ∷ rest) → ((cs ≡ front) × (c ≡ d)) ⊎ ((less : List ℕ) × (cs ≡ front ++ (d ∷ less)))
-last_or_before [] [] rest c d e = inl (refl, head_same c d [] rest e)
-last_or_before [] (x ∷ front) rest c d e = absurd (nowhere front rest d (tail_same c x [] _ e))
-last_or_before (y ∷ cs) [] rest c d e = inr (cs, ap (λ x. x ∷ cs) (head_same y d _ rest e))
+last_or_before [] [] rest c d e = inl (refl, cc)
+last_or_before [] (x ∷ front) rest c d e = absurd (nowhere front rest d (cc))
+last_or_before (y ∷ cs) [] rest c d e = inr (cs, cc)
 last_or_before (y ∷ cs) (x ∷ front) rest c d e =
-    let same : y ≡ x = head_same y x _ _ e in
-    elim (last_or_before cs front rest c d (tail_same y x _ _ e)) [
+    let same : y ≡ x = cc in
+    elim (last_or_before cs front rest c d (cc)) [
       | inl last ↦ inl (ap (λ z. z ∷ cs) same ∙ ap (λ zs. x ∷ zs) last.0, last.1)
       | inr before ↦ inr (before.0, ap (λ z. z ∷ cs) same ∙ ap (λ zs. x ∷ zs) before.1)
     ]
@@ -181,14 +172,14 @@ parted_none width part short = record {
 }
   where
     lone : (before after : List (List ℕ)) (a b : List ℕ) → (part ++ []) ∷ [] ≡ before ++ (a ∷ b ∷ after) → ⊥
-    lone [] after a b is = none_some b after (tail_same _ a [] (b ∷ after) is)
-    lone (x ∷ []) after a b is = none_some a (b ∷ after) (tail_same _ x [] (a ∷ b ∷ after) is)
-    lone (x ∷ y ∷ before) after a b is = none_some y _ (tail_same _ x [] _ is)
+    lone [] after a b is = cc
+    lone (x ∷ []) after a b is = cc
+    lone (x ∷ y ∷ before) after a b is = cc
 
     only : (before after : List (List ℕ)) (front rest : List ℕ) (c : ℕ) → (part ++ []) ∷ [] ≡ before ++ ((front ++ (c ∷ rest)) ∷ after) → 1 ≤ character_columns c → columns_in front < width
-    only [] after front rest c is some = short front rest c (sym (append-nil part) ∙ head_same _ (front ++ (c ∷ rest)) [] after is) some
-    only (x ∷ []) after front rest c is some = absurd (none_some (front ++ (c ∷ rest)) after (tail_same _ x [] _ is))
-    only (x ∷ y ∷ before) after front rest c is some = absurd (none_some y _ (tail_same _ x [] _ is))
+    only [] after front rest c is some = short front rest c (cc (append-nil part)) some
+    only (x ∷ []) after front rest c is some = cc
+    only (x ∷ y ∷ before) after front rest c is some = cc
 
 -- a part is ended, and the next one begins with a character
 parted_next : (width : ℕ) (part : List ℕ) (c : ℕ) (cs new : List ℕ) → IsShort width part → width ≤ columns_in part → 1 ≤ character_columns c → Parted width (c ∷ []) cs new → Parted width part (c ∷ cs) (10 ∷ (shown width (c ∷ []) ++ new))
@@ -208,16 +199,16 @@ parted_next width part c cs new short full some later = record {
     all = (part ++ []) ∷ (c ∷ later.more) ∷ later.others
 
     full_at : (before after : List (List ℕ)) (a b : List ℕ) → all ≡ before ++ (a ∷ b ∷ after) → width ≤ columns_in a
-    full_at [] after a b is = subst (λ p. width ≤ columns_in p) (sym (append-nil part) ∙ head_same _ a _ (b ∷ after) is) full
-    full_at (x ∷ before) after a b is = later.are.full before after a b (tail_same _ x _ _ is)
+    full_at [] after a b is = let same : part ≡ a = cc (append-nil part) in rw (← same) full
+    full_at (x ∷ before) after a b is = later.are.full before after a b (cc)
 
     begins_at : (before after : List (List ℕ)) (a b : List ℕ) → all ≡ before ++ (a ∷ b ∷ after) → Begins b
-    begins_at [] after a b is = (c, later.more, sym (head_same (c ∷ later.more) b later.others after (tail_same _ a _ (b ∷ after) is)), some)
-    begins_at (x ∷ before) after a b is = later.are.begins before after a b (tail_same _ x _ _ is)
+    begins_at [] after a b is = (c, later.more, cc, some)
+    begins_at (x ∷ before) after a b is = later.are.begins before after a b (cc)
 
     short_at : (before after : List (List ℕ)) (front rest : List ℕ) (d : ℕ) → all ≡ before ++ ((front ++ (d ∷ rest)) ∷ after) → 1 ≤ character_columns d → columns_in front < width
-    short_at [] after front rest d is has = short front rest d (sym (append-nil part) ∙ head_same _ (front ++ (d ∷ rest)) _ after is) has
-    short_at (x ∷ before) after front rest d is has = later.are.short before after front rest d (tail_same _ x _ _ is) has
+    short_at [] after front rest d is has = short front rest d (cc (append-nil part)) has
+    short_at (x ∷ before) after front rest d is has = later.are.short before after front rest d (cc) has
 
 -- a character goes to its part
 parted_put : (width : ℕ) (part : List ℕ) (c e : ℕ) (cs new : List ℕ) → shown width (part ++ (c ∷ [])) ≡ shown width part ++ (e ∷ []) → Parted width (part ++ (c ∷ [])) cs new → Parted width part (c ∷ cs) (e ∷ new)

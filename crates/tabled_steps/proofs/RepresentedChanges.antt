@@ -15,12 +15,6 @@ use Rattle.tabled_steps.specs.declared.groups.Group.{Group}
 use Rattle.tabled_steps.specs.declared.selector.Selector.{Selector}
 use Rattle.tabled_steps.proofs.StepsUntil.{first_refused, later_refused}
 
-head_is : {X : Type 0} (x y : X) (xs ys : List X) → x ∷ xs ≡ y ∷ ys → x ≡ y
-head_is x y xs ys e = cc
-
-tail_is : {X : Type 0} (x y : X) (xs ys : List X) → x ∷ xs ≡ y ∷ ys → xs ≡ ys
-tail_is x y xs ys e = cc
-
 module _ {A : Type 0} (does leaves : Entity → Change A SpanMap) (local : IsLocal does leaves) (rows columns : ℕ) where
   -- a grid has this shape
   record Has (g : Grid A) : Type 0 where
@@ -92,9 +86,9 @@ module _ {A : Type 0} (does leaves : Entity → Change A SpanMap) (local : IsLoc
   -- a group's entity stands for those of the group
   stand_group : (f : Entity) (fs : List Entity) (places : List (List Position)) (n : ℕ) (es : List Entity) → named_places rows columns es ≡ replicate (suc n) (inside f rows columns) ++ places → (suc n ≡ 1) ⊎ (inside f rows columns ≡ []) → ((rest : List Entity) → named_places rows columns rest ≡ places → Stand fs rest) → Stand (f ∷ fs) es
   stand_group f fs places n [] same one later = cc
-  stand_group f fs places zero (e ∷ es) same one later = (f, fs, refl, head_is _ _ _ _ same, inl (later es (tail_is _ _ _ _ same)))
+  stand_group f fs places zero (e ∷ es) same one later = (f, fs, refl, (cc), inl (later es (cc)))
   stand_group f fs places (suc n) (e ∷ es) same (inl one) later = absurd (omega (arith, one))
-  stand_group f fs places (suc n) (e ∷ es) same (inr none) later = (f, fs, refl, head_is _ _ _ _ same, inr (none, stand_group f fs places n es (tail_is _ _ _ _ same) (inr none) later))
+  stand_group f fs places (suc n) (e ∷ es) same (inr none) later = (f, fs, refl, (cc), inr (none, stand_group f fs places n es (cc) (inr none) later))
 
   -- a group has a first entity, and more only where they name nothing
   counted : (group : Group) → IsGroup rows columns group → (n : ℕ) × (group.count ≡ suc n) × ((suc n ≡ 1) ⊎ (inside group.entity rows columns ≡ []))
