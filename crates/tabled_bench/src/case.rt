@@ -2,10 +2,11 @@
 
 use crate::spans::Merged;
 use crate::stores::Change;
-use crate::tables::Shape;
+use crate::tables::{Shape, Store};
 use crate::watch::Watch;
 use crate::{builders, selectors, spans, stores, tables};
 use std::alloc::{AllocError, Global};
+use tabled_grid::records::Text;
 
 /// What is timed.
 #[derive(Clone, Copy)]
@@ -102,8 +103,14 @@ impl Case {
             Case::NotFrame => selectors::not_frame(alloc, size, watch),
             Case::And => selectors::and(alloc, size, watch),
             Case::Pairs => selectors::pairs(alloc, size, watch),
-            Case::Flat(call) => stores::flat(alloc, size, call, watch),
-            Case::Nested(call) => stores::nested(alloc, size, call, watch),
+            Case::Flat(call) => {
+                let store = Store::new(alloc, Vec::new(alloc))?;
+                stores::run(alloc, store, size, call, watch)
+            }
+            Case::Nested(call) => {
+                let store: Vec<Vec<Text<String>>> = Vec::new(alloc);
+                stores::run(alloc, store, size, call, watch)
+            }
             Case::Spans(merged, call) => spans::run(alloc, size, merged, call, watch),
             Case::Table(shape, change) => tables::run(alloc, size, shape, change, watch),
         }

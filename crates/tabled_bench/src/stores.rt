@@ -5,7 +5,7 @@
 use crate::watch::Watch;
 use std::alloc::{AllocError, Global};
 use std::mem;
-use tabled_grid::records::{Blank, ExactRecords, Records, Resizable, Text, VecRecords};
+use tabled_grid::records::{Blank, ExactRecords, Records, Resizable};
 
 /// How often each change is made and undone.
 const TIMES: usize = 20;
@@ -30,78 +30,37 @@ pub(crate) enum Change {
     Columns,
 }
 
-/// Does a call on a store of `size x size` blanks in one vector, and counts its rows.
-pub(crate) fn flat(
+/// Does a call on a store of `size x size` blanks, made of an empty store, and counts its rows.
+pub(crate) fn run<R>(
     alloc: Global,
+    mut records: R,
     size: usize,
     call: Call,
     watch: &mut Watch,
-) -> Result<usize, AllocError> {
-    let mut store: VecRecords<Text<String>> = VecRecords::new(alloc, Vec::new(alloc))?;
-    run(alloc, &mut store, size, call, watch)?;
-    let rows = store.count_rows();
-    mem::forget(store);
-    Ok(rows)
-}
-
-/// The same in a vector for each row.
-pub(crate) fn nested(
-    alloc: Global,
-    size: usize,
-    call: Call,
-    watch: &mut Watch,
-) -> Result<usize, AllocError> {
-    let mut store: Vec<Vec<Text<String>>> = Vec::new(alloc);
-    run(alloc, &mut store, size, call, watch)?;
-    let rows = store.count_rows();
-    mem::forget(store);
-    Ok(rows)
-}
-
-/// Makes a store of an empty one, and does a call.
-fn run<R>(
-    alloc: Global,
-    records: &mut R,
-    size: usize,
-    call: Call,
-    watch: &mut Watch,
-) -> Result<(), AllocError>
+) -> Result<usize, AllocError>
 where
-    R: Resizable + Records + ExactRecords,
+    R: Resizable + Records + ExactRecords + Drop,
     R::Cell: Blank,
-    requires { R.is_well_formed records.old }
-    ensures { R.is_well_formed records.new }
+    requires { R.is_well_formed records }
 {
-    push_first_row(alloc, records, size)?;
+    records.push_row(alloc)?;
+    records.push_columns(alloc, size)?;
     match call {
         Call::Growth => {
             watch.start();
-            push_other_rows(alloc, records, size)?;
+            push_other_rows(alloc, &mut records, size)?;
             watch.stop();
         }
         Call::Change(change) => {
-            push_other_rows(alloc, records, size)?;
+            push_other_rows(alloc, &mut records, size)?;
             watch.start();
-            change_often(alloc, records, change)?;
+            change_often(alloc, &mut records, change)?;
             watch.stop();
         }
     }
-    Ok(())
-}
-
-/// Grows a store by a row, and by columns.
-fn push_first_row<R>(alloc: Global, records: &mut R, columns: usize) -> Result<(), AllocError>
-where
-    R: Resizable,
-    R::Cell: Blank,
-    requires { R.is_well_formed records.old }
-    ensures { R.is_well_formed records.new }
-{
-    records.push_row(alloc)?;
-    for _ in 0..columns {
-        records.push_column(alloc)?;
-    }
-    Ok(())
+    let rows = records.count_rows();
+    mem::forget(records);
+    Ok(rows)
 }
 
 /// Grows a store of one row, row by row.
