@@ -69,8 +69,9 @@ place_told lines (FaultyLine fault) sound = loose_place (FaultyLine fault) lines
 pub fault_told : (lines : List Line) (line : Line) → AllByRecursion IsSound lines → fault_of lines line ≡ fault_behind (draft_of lines) line
 fault_told lines line sound = ap (λ b. cond b (words_fault line) (Some OutOfPlace)) (place_told lines line sound)
 
-never : {A P : Type 0} {x : A} → Some x ≡ None → P
-never e = cc
+refused : {P : Type 0} (fault : Fault) (b : Bool) → cond b (Some fault) (Some OutOfPlace) ≡ None → P
+refused fault true e = cc
+refused fault false e = cc
 
 -- a line without a fault is sound
 pub sound_line : (lines : List Line) (line : Line) → fault_of lines line ≡ None → IsSound line
@@ -79,15 +80,12 @@ sound_line lines line fine = by line (is_in_place lines line) fine
     by : (line : Line) (b : Bool) → cond b (words_fault line) (Some OutOfPlace) ≡ None → IsSound line
     by EmptyLine b e = tt
     by (ShapeLine (Ok shape)) b e = tt
-    by (ShapeLine (Err fault)) true e = never e
-    by (ShapeLine (Err fault)) false e = never e
+    by (ShapeLine (Err fault)) b e = refused fault b e
     by (RecordLine texts) b e = tt
     by (SpanLine (Ok anchor)) b e = tt
-    by (SpanLine (Err fault)) true e = never e
-    by (SpanLine (Err fault)) false e = never e
+    by (SpanLine (Err fault)) b e = refused fault b e
     by (StepLine step) b e = tt
-    by (FaultyLine fault) true e = never e
-    by (FaultyLine fault) false e = never e
+    by (FaultyLine fault) b e = refused fault b e
 
 -- what no fault of several lines says of the first one and of the others
 parts_none : (fault_at : List Line → Line → Option Fault) (earlier : List Line) (line : Line) (lines : List Line) → first_fault fault_at earlier (line ∷ lines) ≡ None → (fault_at earlier line ≡ None) × (first_fault fault_at (earlier ++ line ∷ []) lines ≡ None)
@@ -95,7 +93,7 @@ parts_none fault_at earlier line lines none = by (fault_at earlier line) refl
   where
     by : (o : Option Fault) → fault_at earlier line ≡ o → (fault_at earlier line ≡ None) × (first_fault fault_at (earlier ++ line ∷ []) lines ≡ None)
     by None e = (e, rw e at none)
-    by (Some fault) e = never (rw e at none)
+    by (Some fault) e = let has = rw e at none in cc
 
 -- no shape may stand after these lines
 Blocked : List Line → Type 0
@@ -118,7 +116,7 @@ none_behind g (line ∷ lines) earlier blocked fine =
   where
     by : (l : Line) → fault_of earlier l ≡ None → first_fault (shape_fault g) (earlier ++ l ∷ []) lines ≡ None → first_fault (shape_fault g) earlier (l ∷ lines) ≡ None
     by EmptyLine e later = later
-    by (ShapeLine read) e later = never (sym (ap (λ b. cond b (words_fault (ShapeLine read)) (Some OutOfPlace)) (blocked read)) ∙ e)
+    by (ShapeLine read) e later = let out : Some OutOfPlace ≡ None = sym (ap (λ b. cond b (words_fault (ShapeLine read)) (Some OutOfPlace)) (blocked read)) ∙ e in cc
     by (RecordLine texts) e later = later
     by (SpanLine read) e later = later
     by (StepLine step) e later = later
@@ -130,10 +128,6 @@ shape_behind g (line ∷ lines) earlier fine =
     let parts = parts_none fault_of earlier line lines fine in
     by line parts.0 parts.1 (shape_behind g lines (earlier ++ line ∷ []) parts.1 ∙ ap (λ n. shape_misfit g (shape_among n lines)) (length-append earlier (line ∷ [])))
   where
-    refused : (fault : Fault) (b : Bool) → cond b (Some fault) (Some OutOfPlace) ≡ None → ⊥
-    refused fault true e = never e
-    refused fault false e = never e
-
     by : (l : Line) → fault_of earlier l ≡ None → first_fault fault_of (earlier ++ l ∷ []) lines ≡ None → first_fault (shape_fault g) (earlier ++ l ∷ []) lines ≡ shape_misfit g (shape_among (length earlier + 1) lines) → first_fault (shape_fault g) earlier (l ∷ lines) ≡ shape_misfit g (shape_among (length earlier) (l ∷ lines))
     by EmptyLine e others later = later
     by (ShapeLine (Ok shape)) e others later = test ((eqb shape.0 g.rows) && (eqb shape.1 g.columns)) refl
@@ -141,7 +135,7 @@ shape_behind g (line ∷ lines) earlier fine =
         test : (b : Bool) → ((eqb shape.0 g.rows) && (eqb shape.1 g.columns)) ≡ b → first_fault (shape_fault g) earlier (ShapeLine (Ok shape) ∷ lines) ≡ shape_misfit g (shape_among (length earlier) (ShapeLine (Ok shape) ∷ lines))
         test true t = rw t (none_behind g lines (earlier ++ ShapeLine (Ok shape) ∷ []) (blocked_by earlier shape) others)
         test false t = rw t refl
-    by (ShapeLine (Err fault)) e others later = absurd (refused fault (is_in_place earlier (ShapeLine (Err fault))) e)
+    by (ShapeLine (Err fault)) e others later = refused fault (is_in_place earlier (ShapeLine (Err fault))) e
     by (RecordLine texts) e others later = later
     by (SpanLine read) e others later = later
     by (StepLine step) e others later = later

@@ -10,7 +10,6 @@ use Rattle.tabled_grid.specs.Evenness.{AreWide}
 use Rattle.tabled_grid.specs.Grid.{Grid, IsEven, grid_of, map_grid, width_of}
 use Rattle.tabled_table.proofs.RowTexts.{wide-map}
 use Rattle.tabled_table.proofs.Tables.{even-width}
-use Rattle.tabled_language.specs.declared.fault.Fault.{Fault}
 use Rattle.tabled_language.specs.declared.fault.Fault.TheVariants.{NumberRange}
 use Rattle.tabled_language.specs.declared.fault.ReadError.{ReadError}
 use Rattle.tabled_language.specs.declared.fault.ReadError.TheVariants.{Faulty, OutOfMemory}
@@ -84,11 +83,8 @@ abbrev number : Read ℕ → ℕ
 number (Ok counted) = counted.0
 number (Err fault) = 0
 
-never : (fault : Fault) (x : ℕ × List (List ℕ)) → ◌≡◌ {A = Read ℕ} (Err fault) (Ok x) → ⊥
-never fault x e = cc
-
 counted : (b : Bool) (m n : ℕ) (rest left : List (List ℕ)) → eqb m 0 ≡ b → (cond {A = Reading ℕ} b (fails NumberRange) (gives m)).reads rest ≡ Ok (n, left) → 0 < n
-counted true m n rest left none e = absurd (never NumberRange (n, left) e)
+counted true m n rest left none e = let fails : ◌≡◌ {A = Read ℕ} (Err NumberRange) (Ok (n, left)) = e in cc
 counted false m n rest left some e = let same : m ≡ n = ap number e in omega (arith, same, eqb-false m 0 some)
 
 -- a count is at least 1
@@ -96,7 +92,7 @@ pub count_some : (texts left : List (List ℕ)) (n : ℕ) → reads_count.reads 
 count_some texts left n is = by (reads_number.reads texts) refl
   where
     by : (r : Read ℕ) → reads_number.reads texts ≡ r → 0 < n
-    by (Err fault) e = absurd (never fault (n, left) (rw e at is))
+    by (Err fault) e = let fails = rw e at is in cc
     by (Ok (m, rest)) e = counted (eqb m 0) m n rest left refl (rw e at is)
 
 -- a table that was read
