@@ -39,7 +39,7 @@ impl Held {
         })
     }
 
-    /// Takes out how the writer did so far, and leaves that it did well.
+    /// Takes out how the writer did so far. An error that is taken out is no longer kept.
     pub(crate) fn take_outcome(&mut self) -> io::Result<()>
         ensures { OnOk result ((self.old.has_worked ≡ true) × (self.new ≡ self.old)) }
     {

@@ -122,7 +122,7 @@ pub(crate) fn write_cell<'a, W: Write>(
 #[derive(Drop)]
 struct Line<'a> {
     text: &'a str,
-    /// If this is true, each character is one byte, is shown as it is and takes one column.
+    /// Whether each character is known to be one byte, which is shown as it is and takes one column.
     is_plain: bool,
     ghost plain: { IsTrue is_plain → ArePlain text.now },
 }
@@ -140,8 +140,11 @@ fn cut(text: &str) -> (Line<'_>, &str)
         return (line, "");
     }
     let (text, rest) = text.split_once('\n').unwrap_or((text, ""));
-    let is_plain = is_plain(text);
-    (Line { text, is_plain }, rest)
+    let line = Line {
+        text,
+        is_plain: is_plain(text),
+    };
+    (line, rest)
 }
 
 /// Writes a line as it is shown, and gives what it leaves of the room.
@@ -149,9 +152,9 @@ fn write_shown<W: Write>(writer: &mut W, held: &mut Held, line: Line<'_>, room: 
     ensures draws { Draws (W.contents writer.old) held.old (W.contents writer.new) held.new (shown_line line.entry.text.now) }
     ensures left { result ≡ room - text_width (shown_line line.entry.text.now) }
 {
-    let bytes = line.text.as_bytes();
+    let line_bytes = line.text.as_bytes();
     if line.is_plain {
-        held.write(writer, bytes);
+        held.write(writer, line_bytes);
         return room.saturating_sub(line.text.len());
     }
     let mut left = room;

@@ -12,7 +12,7 @@ pub loop-c-init : goal.loop-c-init
 loop-c-init g c = record {
   can = tt;
   ends = tt;
-  utf8 = rw (c.into_iter-c-iterator.ensures.into_iter_gives, c.chars-c-items.ensures.rest, ← c.as_bytes-bytes.ensures.value) c.as_bytes-bytes.ensures.utf8;
+  utf8 = rw (c.into_iter-c-iterator.ensures.into_iter_gives, c.chars-c-items.ensures.rest, ← c.as_bytes-line_bytes.ensures.value) c.as_bytes-line_bytes.ensures.utf8;
   drawn = rw (c.into_iter-c-iterator.ensures.into_iter_gives, c.chars-c-items.ensures.rest) (drawn-none _ _ _ _ refl);
   left = rw (c.into_iter-c-iterator.ensures.into_iter_gives, c.chars-c-items.ensures.rest) refl;
 }
@@ -43,6 +43,6 @@ returns-then-line g c =
     let plain = c.args.line.plain c.if-line.true in
     let line = plain-line c.args.line.text.now plain in
     record {
-      draws = draws-bytes (g.W.Write.contents c.args.writer.now) (g.W.Write.contents c.write.new.writer) c.args.held.now c.write.new.self c.args.line.text.now _ (rw line (sym (plain-bytes c.args.line.text.now plain))) (rw c.as_bytes-bytes.ensures.value at c.write.ensures);
+      draws = draws-bytes (g.W.Write.contents c.args.writer.now) (g.W.Write.contents c.write.new.writer) c.args.held.now c.write.new.self c.args.line.text.now _ (rw line (sym (plain-bytes c.args.line.text.now plain))) (rw c.as_bytes-line_bytes.ensures.value at c.write.ensures);
       left = c.saturating_sub.ensures ∙ ap (λ n. c.args.room - n) (sym (plain-columns c.args.line.text.now plain) ∙ ap text_width (sym line));
     }
