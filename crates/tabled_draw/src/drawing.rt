@@ -113,7 +113,7 @@ where
             writer, &mut held, records, &spans, &edges, &heights, &mut above, &mut here, &mut rests,
         )?;
         held.send(writer);
-        held.check()?;
+        held.take_outcome()?;
         Ok(())
     }
 }

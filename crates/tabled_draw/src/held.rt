@@ -39,8 +39,8 @@ impl Held {
         })
     }
 
-    /// Tells how the writer did so far.
-    pub(crate) fn check(&mut self) -> io::Result<()>
+    /// Takes out how the writer did so far. An error that is taken out is no longer kept.
+    pub(crate) fn take_outcome(&mut self) -> io::Result<()>
         ensures { OnOk result ((self.old.has_worked ≡ true) × (self.new ≡ self.old)) }
     {
         mem::replace(&mut self.outcome, Ok(()))
@@ -105,7 +105,7 @@ impl Held {
             }
             return;
         }
-        // The same here.
+        // There is room here too, so this asks for no memory.
         let _ = self.bytes.resize(len + count, byte);
     }
 }

@@ -129,8 +129,8 @@ where
     Ok(())
 }
 
-/// Raises the sizes of a place's column and row to what a text asks, if its owner begins there: each of which it lies in
-/// no other.
+/// Raises sizes to what the text of a place asks, if its owner begins there: its column's width if the owner is one
+/// column wide, and its row's height if the owner is one row high.
 fn raise<R>(
     records: &R,
     owner: Option<Rectangle>,

@@ -52,7 +52,7 @@ pub(crate) fn write_line<'a, W: Write>(
         (below[columns], below[columns + 1]),
     );
     held.push(writer, b'\n');
-    held.check()?;
+    held.take_outcome()?;
     Ok(())
 }
 

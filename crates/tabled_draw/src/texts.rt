@@ -90,14 +90,13 @@ fn asked_by_lines(text: &str) -> Result<Size, AllocError>
     ensures height { IfOk result (λ asked. asked.height ≡ asks Rows text.now) }
     ensures width { IfOk result (λ asked. asked.width ≡ asks Columns text.now) }
 {
+    let mut height: usize = 0;
     let mut width: usize = 0;
     for line in text.split('\n') {
+        height += 1;
         width = width.max(columns_in(line)?);
     }
-    Ok(Size {
-        height: text.split('\n').count(),
-        width,
-    })
+    Ok(Size { height, width })
 }
 
 /// Writes the first line of a text as it is shown, a blank before it and blanks up to the end of the room and one
@@ -112,44 +111,54 @@ pub(crate) fn write_cell<'a, W: Write>(
     ensures rest { result.now ≡ after_line text.now }
 {
     held.push(writer, b' ');
-    let (line, is_plain, rest) = cut(text);
-    let left = write_shown(writer, held, line, is_plain, room);
+    let (line, rest) = cut(text);
+    let left = write_shown(writer, held, line, room);
     held.repeat(writer, b' ', left);
     held.push(writer, b' ');
     rest
 }
 
-/// The first line of a text, whether it is known to be plain, and the lines after it.
-fn cut(text: &str) -> (&str, bool, &str)
-    ensures line { shown_line result.0.now ≡ first_line text.now }
-    ensures plain { IsTrue result.1 → ArePlain result.0.now }
-    ensures rest { result.2.now ≡ after_line text.now }
+/// A line of a text.
+#[derive(Drop)]
+struct Line<'a> {
+    text: &'a str,
+    /// Whether each character is known to be one byte, which is shown as it is and takes one column.
+    is_plain: bool,
+    ghost plain: { IsTrue is_plain → ArePlain text.now },
+}
+
+/// The first line of a text, and the lines after it.
+fn cut(text: &str) -> (Line<'_>, &str)
+    ensures line { shown_line result.0.text.now ≡ first_line text.now }
+    ensures rest { result.1.now ≡ after_line text.now }
 {
     if is_plain(text) {
-        return (text, true, "");
+        let line = Line {
+            text,
+            is_plain: true,
+        };
+        return (line, "");
     }
-    let (line, rest) = text.split_once('\n').unwrap_or((text, ""));
-    (line, is_plain(line), rest)
+    let (text, rest) = text.split_once('\n').unwrap_or((text, ""));
+    let line = Line {
+        text,
+        is_plain: is_plain(text),
+    };
+    (line, rest)
 }
 
 /// Writes a line as it is shown, and gives what it leaves of the room.
-fn write_shown<W: Write>(
-    writer: &mut W,
-    held: &mut Held,
-    line: &str,
-    is_plain: bool,
-    room: usize,
-) -> usize
-    requires { IsTrue is_plain → ArePlain line.now }
-    ensures draws { Draws (W.contents writer.old) held.old (W.contents writer.new) held.new (shown_line line.now) }
-    ensures left { result ≡ room - text_width (shown_line line.now) }
+fn write_shown<W: Write>(writer: &mut W, held: &mut Held, line: Line<'_>, room: usize) -> usize
+    ensures draws { Draws (W.contents writer.old) held.old (W.contents writer.new) held.new (shown_line line.entry.text.now) }
+    ensures left { result ≡ room - text_width (shown_line line.entry.text.now) }
 {
-    if is_plain {
-        held.write(writer, line.as_bytes());
-        return room.saturating_sub(line.len());
+    let line_bytes = line.text.as_bytes();
+    if line.is_plain {
+        held.write(writer, line_bytes);
+        return room.saturating_sub(line.text.len());
     }
     let mut left = room;
-    for c in line.chars() {
+    for c in line.text.chars() {
         let c = shown(c);
         let mut bytes = [0; 4];
         held.write(writer, c.encode_utf8(&mut bytes).as_bytes());

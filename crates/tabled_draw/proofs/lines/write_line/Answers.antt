@@ -35,7 +35,7 @@ returns g c =
     let end : c.loop-j.j ≡ length c.args.rests.now.items = omega (arith, c.loop-j-test.false, c.loop-j.auto.j-end, c.len-columns.ensures) in
     record {
       long = c.loop-j.invariant.long;
-      draws = subst (λ held. Draws (g.W.Write.contents c.args.writer.now) c.args.held.now (g.W.Write.contents c.push.new.writer) held (line_of_rests c.args.mark c.args.edges.now c.args.above.now c.args.below.now c.args.rests.now.items)) (sym c.in_ok-check.ensures.1) (draws-then (draws-then
+      draws = subst (λ held. Draws (g.W.Write.contents c.args.writer.now) c.args.held.now (g.W.Write.contents c.push.new.writer) held (line_of_rests c.args.mark c.args.edges.now c.args.above.now c.args.below.now c.args.rests.now.items)) (sym c.in_ok-take_outcome.ensures.1) (draws-then (draws-then
           (draws-as (ap (λ n. each n (stretches c.args.mark c.args.edges.now c.args.above.now c.args.below.now (bytes_in c.args.rests.now.items))) end) c.loop-j.invariant.drawn)
           (draws-as (ap (λ n. edge c.args.mark (get_or c.args.above.now n None) (get_or c.args.above.now (n + 1) None) (get_or c.args.below.now n None) (get_or c.args.below.now (n + 1) None)) columns) c.write_edge-2.ensures))
           (draws-byte _ _ _ _ 10 (lit< tt) c.push.ensures));

@@ -12,7 +12,7 @@ pub loop-c-init : goal.loop-c-init
 loop-c-init g c = record {
   can = tt;
   ends = tt;
-  utf8 = rw (c.into_iter-c-iterator.ensures.into_iter_gives, c.chars-c-items.ensures.rest) c.utf8.line;
+  utf8 = rw (c.into_iter-c-iterator.ensures.into_iter_gives, c.chars-c-items.ensures.rest, ← c.as_bytes-line_bytes.ensures.value) c.as_bytes-line_bytes.ensures.utf8;
   drawn = rw (c.into_iter-c-iterator.ensures.into_iter_gives, c.chars-c-items.ensures.rest) (drawn-none _ _ _ _ refl);
   left = rw (c.into_iter-c-iterator.ensures.into_iter_gives, c.chars-c-items.ensures.rest) refl;
 }
@@ -26,7 +26,7 @@ loop-c-preserved g c =
       can = tt;
       ends = tt;
       utf8 = IsUtf8-past_char whole rest c.in-Some.c c.loop-c.invariant.utf8 step;
-      drawn = drawn-more _ _ _ _ _ _ c.in-Some.c _ whole rest _ c.loop-c.invariant.utf8 step c.loop-c.invariant.drawn (c.as_bytes-in-loop-c.ensures.value ∙ c.encode_utf8.ensures.value ∙ ap encode_utf8 c.shown-c.ensures) c.write-in-loop-c.ensures;
+      drawn = drawn-more _ _ _ _ _ _ c.in-Some.c _ whole rest _ c.loop-c.invariant.utf8 step c.loop-c.invariant.drawn (c.as_bytes.ensures.value ∙ c.encode_utf8.ensures.value ∙ ap encode_utf8 c.shown-c.ensures) c.write-in-loop-c.ensures;
       left = left-more c.in-Some.c c.loop-c.left _ _ _ _ c.width.result (c.width.ensures.value ∙ ap (char_width false) c.shown-c.ensures) (counted c.in-Some.c rest whole c.loop-c.invariant.utf8 step) c.loop-c.invariant.left (c.saturating_sub-left.ensures ∙ ap (λ n. c.loop-c.left - n) c.unwrap_or.ensures);
     }
 
@@ -34,15 +34,15 @@ pub returns : goal.returns
 returns g c =
     let none = nil_from_length _ c.in-None.ensures.steps.0.0 in
     record {
-      draws = drawn-all (g.W.Write.contents c.args.writer.now) (g.W.Write.contents c.loop-c.writer) c.args.held.now c.loop-c.held _ (shown_line c.args.line.now) none c.loop-c.invariant.drawn;
+      draws = drawn-all (g.W.Write.contents c.args.writer.now) (g.W.Write.contents c.loop-c.writer) c.args.held.now c.loop-c.held _ (shown_line c.args.line.text.now) none c.loop-c.invariant.drawn;
       left = left-end c.loop-c.left _ _ none c.loop-c.invariant.left;
     }
 
-pub returns-then-is_plain : goal.returns-then-is_plain
-returns-then-is_plain g c =
-    let plain = c.requires c.if-is_plain.true in
-    let line = plain-line c.args.line.now plain in
+pub returns-then-line : goal.returns-then-line
+returns-then-line g c =
+    let plain = c.args.line.plain c.if-line.true in
+    let line = plain-line c.args.line.text.now plain in
     record {
-      draws = draws-bytes (g.W.Write.contents c.args.writer.now) (g.W.Write.contents c.write.new.writer) c.args.held.now c.write.new.self c.args.line.now _ (rw line (sym (plain-bytes c.args.line.now plain))) (rw c.as_bytes.ensures.value at c.write.ensures);
-      left = c.saturating_sub.ensures ∙ ap (λ n. c.args.room - n) (sym (plain-columns c.args.line.now plain) ∙ ap text_width (sym line));
+      draws = draws-bytes (g.W.Write.contents c.args.writer.now) (g.W.Write.contents c.write.new.writer) c.args.held.now c.write.new.self c.args.line.text.now _ (rw line (sym (plain-bytes c.args.line.text.now plain))) (rw c.as_bytes-line_bytes.ensures.value at c.write.ensures);
+      left = c.saturating_sub.ensures ∙ ap (λ n. c.args.room - n) (sym (plain-columns c.args.line.text.now plain) ∙ ap text_width (sym line));
     }

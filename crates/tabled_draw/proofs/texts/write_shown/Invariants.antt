@@ -9,6 +9,6 @@ invariant-loop-c g l = record {
   can : (goal.iterator-loop-c g).can_next l.c-iterator;
   ends : (goal.iterator-loop-c g).is_finite l.c-iterator;
   utf8 : IsUtf8 (chars_rest l.c-iterator);
-  drawn : Drawn (g.W.Write.contents l.initial.writer) l.initial.held (g.W.Write.contents l.writer) l.held (shown_line (chars_rest l.c-iterator)) (shown_line l.fn.line);
-  left : l.left - text_width (shown_line (chars_rest l.c-iterator)) ≡ l.fn.room - text_width (shown_line l.fn.line);
+  drawn : Drawn (g.W.Write.contents l.initial.writer) l.initial.held (g.W.Write.contents l.writer) l.held (shown_line (chars_rest l.c-iterator)) (shown_line l.fn.line.text.now);
+  left : l.left - text_width (shown_line (chars_rest l.c-iterator)) ≡ l.fn.room - text_width (shown_line l.fn.line.text.now);
 }

@@ -8,7 +8,7 @@ use Rattle.tabled_grid.specs.declared.records.axis.Axis.TheVariants.{Rows}
 use Rattle.tabled_draw.proofs.drawing.Drawing.new.Goals as goal
 
 pub layout_of-requires-clause-fits : goal.layout_of-requires-clause-fits
-layout_of-requires-clause-fits g c = fits-of (map_grid g.R.Cell.CellText.text_of (g.R.GridStore.grid c.args.records.now)) c.args.cfg.now c.in_ok-spans.spans _ _ c.count_rows-rows.ensures.rows c.count_columns-columns.ensures.columns c.in_ok-spans.ensures.fitting c.fitting.ensures.sizes
+layout_of-requires-clause-fits g c = fits-of (map_grid g.R.Cell.CellText.text_of (g.R.GridStore.grid c.args.records.now)) _ c.in_ok-spans.spans _ _ c.count_rows-rows.ensures.rows c.count_columns-columns.ensures.columns c.in_ok-spans.ensures.fitting c.fitting.ensures.sizes
 
 pub invariant_of-result : goal.invariant_of-result
 invariant_of-result g c =
@@ -16,7 +16,7 @@ invariant_of-result g c =
     let m = c.in_ok-spans.spans in (
       c.requires.well,
       record {
-        fits = fits-of t c.args.cfg.now m _ _ c.count_rows-rows.ensures.rows c.count_columns-columns.ensures.columns c.in_ok-spans.ensures.fitting c.fitting.ensures.sizes;
+        fits = fits-of t _ m _ _ c.count_rows-rows.ensures.rows c.count_columns-columns.ensures.columns c.in_ok-spans.ensures.fitting c.fitting.ensures.sizes;
         edges = c.in_ok-layout.ensures.edges;
         heights = c.in_ok-layout.ensures.heights;
         tall = ap length c.in_ok-layout.ensures.heights ∙ length-sizes Rows t (entries m);

@@ -10,5 +10,5 @@ returns g c =
     let t = map_grid g.R.Cell.CellText.text_of (g.R.GridStore.grid c.self.inside.records.now) in
     record {
       written = all-drawn (contents c.args.writer.now) (contents c.write_lines.new.writer) (contents c.send.new.writer) c.self.inside.held c.write_lines.new.held c.send.new.self (with_newlines (picture t (entries c.self.inside.spans))) c.args.self
-          c.self.invariant.1.unused c.send.ensures.empty c.self.view_is c.in_ok-write_lines.ensures c.send.ensures.sends c.in_ok-check.ensures.0;
+          c.self.invariant.1.unused c.send.ensures.empty c.self.view_is c.in_ok-write_lines.ensures c.send.ensures.sends c.in_ok-take_outcome.ensures.0;
     }
