@@ -4,8 +4,8 @@ use Rattle.std.proofs.lemmas.List.{take_all}
 use Rattle.std.proofs.lemmas.Option.{none-some}
 use Rattle.std.specs.FinMap.{from_sorted}
 use Rattle.tabled_grid.specs.Spans.{AreAnchors, Rectangle, position_cmp}
-use Rattle.tabled_carry.specs.Images.{Carries, HasArea}
-use Rattle.tabled_carry.proofs.Carrying.{Images, images-anchors, images-make, images-sorted, next-full, next-inside, next-none, next-some, rising-sorted}
+use Rattle.tabled_carry.specs.Images.{Carries}
+use Rattle.tabled_carry.proofs.Carrying.{Images, images-anchors, images-make, images-sorted, next-inside, next-none, next-some, rising-sorted}
 use Rattle.tabled_carry.proofs.InPlace.{underway-none, underway-some}
 use Rattle.tabled_carry.proofs.carry.carry.Goals as goal
 use Rattle.tabled_carry.proofs.carry.carry.Goals.{After-index, After-sort, in-Some, in_default}
@@ -20,11 +20,6 @@ module _ (g : _) (c : After-index g) where
 
   inside : (c.index.result.now.0.row + c.index.result.now.1.height ≤ c.args.rows) × (c.index.result.now.0.col + c.index.result.now.1.width ≤ c.args.columns)
   inside = subst (λ (e : Rectangle). (e.0.row + e.1.height ≤ c.args.rows) × (e.0.col + e.1.width ≤ c.args.columns)) read (next-inside (g.M.Moves.places c.args.moves.now) c.args.anchors.now.items [] c.loop-index.index c.args.rows c.args.columns c.index.result.now c.requires.anchors c.requires.fits here)
-
-pub new_rectangle-requires-clause-full : goal.new_rectangle-requires-clause-full
-new_rectangle-requires-clause-full g c =
-    let before = (goal.at.new_rectangle-requires-clause-full g c).After-index in
-    subst HasArea (read g before) (next-full (g.M.Moves.places c.args.moves.now) c.args.anchors.now.items [] c.loop-index.index c.args.rows c.args.columns c.index.result.now c.requires.anchors c.requires.fits (here g before))
 
 pub new_rectangle-requires-clause-bottom : goal.new_rectangle-requires-clause-bottom
 new_rectangle-requires-clause-bottom g c =

@@ -1,10 +1,9 @@
-use Rattle.std.proofs.Common.{◌≡◌, ap, subst, sym, refl, ◌∙◌}
+use Rattle.std.proofs.Common.{◌≡◌, subst, sym, refl, ◌∙◌}
 use Rattle.std.specs.Option.{IfSome}
 use Rattle.std.specs.Prelude.{IsNone, Option}
 use Rattle.tabled_grid.specs.Fitting.{Fits, keep_fitting}
 use Rattle.tabled_grid.specs.Spans.{SpanMap}
 use Rattle.tabled_grid.proofs.Fitting.{keep_fitting-fits}
-use Rattle.tabled_carry.specs.Images.{image}
 use Rattle.tabled_carry.proofs.carry.carry_along.Goals as goal
 use Rattle.tabled_carry.proofs.carry.carry_along.Goals.{Joined-kept, in-Some, in-None}
 
@@ -17,6 +16,3 @@ fitting_kept g c = elim c.match-kept.branch [
 
 pub carried_fitting-requires : goal.carried_fitting-requires
 carried_fitting-requires g c = subst (λ (m : SpanMap). Fits m c.args.rows c.args.columns) (sym (fitting_kept g (goal.at.carried_fitting-requires g c).Joined-kept)) (keep_fitting-fits c.args.rows c.args.columns c.args.cfg.now c.anchors.ensures.sizes)
-
-pub returns-clause-carried : goal.returns-clause-carried
-returns-clause-carried g c = c.carried_fitting.ensures.image ∙ ap (image (g.M.Moves.places c.args.moves.now)) (fitting_kept g (goal.at.returns-clause-carried g c).Joined-kept)

@@ -1,7 +1,6 @@
 use mathlib.Core.Bool.{true≢false}
 use Rattle.std.proofs.Common.{[], ◌++◌, inl, inr, arith, refl, sym, ap, ◌∙◌}
-use Rattle.std.proofs.lemmas.Bool.{le-ltb, lt-ltb}
-use Rattle.std.proofs.lemmas.List.{length-map, map_push}
+use Rattle.std.proofs.lemmas.List.{map_push}
 use Rattle.std.specs.Global.{Vec}
 use Rattle.std.specs.Iterator.Adapters.{fuse_steps}
 use Rattle.tabled_grid.specs.Grid.{map_items}
@@ -70,18 +69,6 @@ loop-alloc-preserved g c =
       (λ rows given. rw c.in_ok-push.ensures.items (read-row (fuse_steps g.S.IterRows.IntoIter.Iterator.next_gives) g.S.IterColumns.IntoIterator.into_iter_gives cell.can_next cell.next_gives cell.remaining g.S.IntoRecords.shown _ _ _ _ _ _ _ _ _ ran.0 (inv.4 rows given) c.in-Some.ensures.steps c.into_iter-in-loop-alloc.ensures.into_iter_gives ran.1.1 (ran.1.2 tt).1 ran.2.0)),
       rw (c.in_ok-push.ensures.items, map_push (λ (row : Vec g.row.S-Cell.Denot). row.items) c.loop-alloc.buffer.items c.in_ok-collect.field-0) (read-more _ _ _ _ _ _ _ _ _ c.in-Some.row c.in_ok-collect.field-0.items inv.5 (rw inv.0 at c.in-Some.ensures.steps.0) (c.into_iter-in-loop-alloc.result, c.into_iter-in-loop-alloc.ensures.into_iter_gives, rw ran.2.0 (ran.1.0, ran.1.1, λ e. ran.1.2 tt))),
     )
-
-pub returns-clause-ahead : goal.returns-clause-ahead
-returns-clause-ahead g c =
-    let inv = c.loop-alloc.invariant in
-    let long = length-map c.loop-alloc.buffer.items (λ (row : Vec g.row.S-Cell.Denot). row.items) in
-    record {
-      within = omega (arith, inv.3, long, c.loop-alloc.buffer.ok.0);
-      ended = elim c.loop-alloc-test.branch [
-        | else-loop-alloc-test w ↦ rw w.rows-is (inv.0 ∙ sym (le-ltb _ _ (omega (arith, w.loop-alloc-test.false, c.len.ensures, long, c.loop-alloc.buffer.ok.0))))
-        | then-loop-alloc-test+in_default w ↦ rw w.rows-is (w.in_default.ensures.steps.1 ∙ sym (lt-ltb _ _ (omega (arith, w.loop-alloc-test.true, c.len.ensures, long, c.loop-alloc.buffer.ok.0))))
-      ];
-    }
 
 pub returns-clause-buffered : goal.returns-clause-buffered
 returns-clause-buffered g c =

@@ -9,6 +9,3 @@ returns-clause-given c = λ rows is iter same. rw same (record {
   ends = tt;
   gives = rw (is, ← c.self.view_is) (gives-filled (λ (cell : Bor (List ℕ)). cell.now) c.repeat_n-2.result c.self.inside.rows c.self.inside.columns [] c.repeat_n-2.ensures.count (ap repeat_n_count c.repeat_n-2.ensures.item ∙ c.repeat_n.ensures.count) (ap (λ row. (repeat_n_item {T = Bor (List ℕ)} row).now) c.repeat_n-2.ensures.item ∙ ap (λ (cell : Bor (List ℕ)). cell.now) c.repeat_n.ensures.item));
 })
-
-pub returns-clause-asked : goal.returns-clause-asked
-returns-clause-asked c = λ may iter is. ((tt, tt), tt, λ xs t ran k d h it became. (tt, tt))

@@ -14,6 +14,3 @@ returns-clause-given g c = λ rows is iter became. record {
     gives = subst (GivesEach into_iter_steps _ it) (map-id v.items) (gives-vec (λ x. x) _ (λ x. refl) v it from.0 from.1);
   }) c.args.self iter became.0 became.1);
 }
-
-pub returns-clause-asked : goal.returns-clause-asked
-returns-clause-asked g c = λ may iter is. (tt, tt, λ xs t ran k d h it became. (tt, tt))

@@ -14,6 +14,3 @@ returns-clause-given g c = λ rows is iter same. rw same (record {
     gives = rw (← from.0) (gives-slice _ (λ x. refl) it);
   }) (λ s t p. ap length p.0) (λ s t x p. p) (record { records = c.args.self; row = 0 }));
 })
-
-pub returns-clause-asked : goal.returns-clause-asked
-returns-clause-asked g c = λ may iter is. (tt, tt, λ xs t ran k d h it became. (tt, tt))
