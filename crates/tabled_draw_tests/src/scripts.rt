@@ -59,7 +59,7 @@ fn first_wrong(
 
 #[test]
 fn are_drawn_as_they_say(rt: HostRuntime) -> Result<(), Fail> {
-    for (before, cases) in [("", ORIGINALS), ("", ODD), (TABLE, REARRANGED)] {
+    for &(before, cases) in &[("", ORIGINALS), ("", ODD), (TABLE, REARRANGED)] {
         assert_eq!(rt; first_wrong(rt.alloc(), before, cases)?, None);
     }
     Ok(())

@@ -34,7 +34,7 @@ fn changes_tables(rt: HostRuntime) {
 #[test]
 fn changes_what_objects_list(rt: HostRuntime) {
     let alloc = rt.alloc();
-    let cases: [(&[Entity], &str); 6] = [
+    let cases: &[(&[Entity], &str)] = &[
         (&[], "a b / c d /"),
         (&[Entity::Row(1)], "a b / y y /"),
         (&[Entity::Column(1)], "a y / c y /"),
@@ -45,7 +45,7 @@ fn changes_what_objects_list(rt: HostRuntime) {
         ),
         (&[Entity::Global], "y y / y y /"),
     ];
-    for (entities, want) in cases {
+    for &(entities, want) in cases {
         let pair = Modify::list(listed(alloc, entities), (TextRef("x"), TextRef("y")));
         assert!(rt; makes(alloc, pair, want));
         let settings = Settings::new(TextRef("x"), TextRef("y"));

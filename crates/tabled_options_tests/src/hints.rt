@@ -8,7 +8,7 @@ use tabled_testing::Flat;
 
 #[test]
 fn combines_entities(rt: HostRuntime) {
-    let cases = [
+    let cases = &[
         (Entity::Row(1), Entity::Cell(1, 2), Entity::Row(1)),
         (Entity::Row(1), Entity::Cell(2, 1), Entity::Global),
         (Entity::Row(1), Entity::Row(1), Entity::Row(1)),
@@ -22,7 +22,7 @@ fn combines_entities(rt: HostRuntime) {
         (Entity::Global, Entity::Row(1), Entity::Global),
         (Entity::Global, Entity::Global, Entity::Global),
     ];
-    for (a, b, want) in cases {
+    for &(a, b, want) in cases {
         assert_eq!(rt; combine_entity(a, b), want, "{a:?} and {b:?}");
         assert_eq!(rt; combine_entity(b, a), want, "{b:?} and {a:?}");
     }
@@ -42,7 +42,7 @@ fn cell_hint_of<O: CellOption<Flat, Log>>(option: &O) -> Option<Entity> {
 fn hints_at_changes(rt: HostRuntime) {
     let (row, cell) = (Some(Entity::Row(0)), Some(Entity::Cell(0, 0)));
     let other = Some(Entity::Cell(0, 1));
-    for (first, second, third, left, right) in [
+    for &(first, second, third, left, right) in &[
         (None, None, None, None, None),
         (None, row, None, row, row),
         (row, None, None, row, row),
@@ -58,7 +58,7 @@ fn hints_at_changes(rt: HostRuntime) {
 fn pairs_and_vectors_hint(rt: HostRuntime) -> Result<(), Fail> {
     let row = Some(Entity::Row(1));
     let [none, other] = [None, row].map(|hint| Letter::hinting('a', hint));
-    for (first, second, want) in [(none, other, row), (other, none, row), (none, none, None)] {
+    for &(first, second, want) in &[(none, other, row), (other, none, row), (none, none, None)] {
         assert!(rt; hint_of(&(first, second)) == want && cell_hint_of(&(first, second)) == want);
         let list = vec![in rt.alloc(); first, second]?;
         assert!(rt; hint_of(&list) == Some(Entity::Global));

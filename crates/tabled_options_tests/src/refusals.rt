@@ -40,7 +40,7 @@ where
 }
 
 /// What is written where the first, the second and each other letter is refused.
-const TOLD: [&str; 11] = [
+const TOLD: &[&str] = &[
     "!",
     "a!",
     "ab!",
@@ -100,7 +100,7 @@ const PLACES: [Entity; 3] = [Entity::Row(0), Entity::Cell(5, 5), Entity::Global]
 fn lists_stop_at_a_refusal(rt: HostRuntime) -> Result<(), Fail> {
     let alloc = rt.alloc();
     let options = ['a', 'b', 'c'].map(|letter| Letter::new(letter));
-    for (limit, want, want_copies) in [
+    for &(limit, want, want_copies) in &[
         (0, "!", "!"),
         (1, "a!", "a!"),
         (2, "ab!", "aa!"),
@@ -118,7 +118,7 @@ fn lists_stop_at_a_refusal(rt: HostRuntime) -> Result<(), Fail> {
 #[test]
 fn lists_stop_at_a_refused_copy(rt: HostRuntime) {
     let alloc = rt.alloc();
-    for (copies, want) in [(0, "!"), (1, "a!"), (2, "aa!"), (3, "aaa")] {
+    for &(copies, want) in &[(0, "!"), (1, "a!"), (2, "aa!"), (3, "aaa")] {
         let left = Cell::new(copies);
         let counted = CountedCopies::new(Letter::new('a'), &left);
         let listed = Modify::list(listed(alloc, &PLACES), counted);
@@ -178,7 +178,7 @@ fn is_left(
 #[test]
 fn writers_keep_what_they_wrote(rt: HostRuntime) -> Result<(), Fail> {
     let alloc = rt.alloc();
-    for (set, want) in [
+    for &(set, want) in &[
         (1, "a b / c d /!"),
         (2, "x b / c d /!"),
         (3, "x x / c d /!"),
@@ -197,7 +197,7 @@ fn writers_keep_what_they_wrote(rt: HostRuntime) -> Result<(), Fail> {
 fn lists_keep_what_was_written(rt: HostRuntime) {
     let alloc = rt.alloc();
     let entities = [Entity::Row(1), Entity::Cell(0, 5), Entity::Row(0)];
-    for (set, want) in [
+    for &(set, want) in &[
         (1, "a b / c d /!"),
         (2, "a b / x d /!"),
         (3, "a b / x x /!"),
@@ -211,7 +211,7 @@ fn lists_keep_what_was_written(rt: HostRuntime) {
 
 #[test]
 fn options_keep_the_rows_pushed(rt: HostRuntime) {
-    for (growth, want) in [
+    for &(growth, want) in &[
         (1, "a b / c d /!"),
         (2, "a b / c d / _ _ /!"),
         (3, "a b / c d / _ _ / _ _ /!"),

@@ -11,7 +11,7 @@ use tabled_testing::{flat, is_word, merged, spelled_merged, spells};
 #[test]
 fn numbers_tables(rt: HostRuntime) -> Result<(), Fail> {
     let alloc = rt.alloc();
-    for (records, once, twice) in [
+    for &(records, once, twice) in &[
         ("a b / c d /", "1 a b / 2 c d /", "1 1 a b / 2 2 c d /"),
         ("a /", "1 a /", "1 1 a /"),
         ("", "", ""),
@@ -40,7 +40,7 @@ fn refused_at(alloc: Global, set: usize) -> Result<String, AllocError> {
 #[test]
 fn takes_the_column_back_where_it_is_refused(rt: HostRuntime) -> Result<(), Fail> {
     let alloc = rt.alloc();
-    for (set, want) in [
+    for &(set, want) in &[
         (0, "1 a b / 2 c d / 0.1:1x2"),
         (1, "a b / c d / 0.0:1x2"),
         (2, "a b / c d / 0.0:1x2"),

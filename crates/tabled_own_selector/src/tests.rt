@@ -9,7 +9,7 @@ use tabled_testing::{flat, spells};
 #[test]
 fn writes_where_it_lies(rt: HostRuntime) -> Result<(), Fail> {
     let alloc = rt.alloc();
-    for (records, whole, others) in [
+    for &(records, whole, others) in &[
         ("a b c / d e f /", "x b c / d x f /", "a x x / x e x /"),
         (
             "a b / c d / e f /",

@@ -16,7 +16,7 @@ fn is_faulty(alloc: Global, script: &str, line: usize, fault: u8) -> Result<bool
 
 #[test]
 fn each_verb_is_read_and_each_fault_is_named(rt: HostRuntime) -> Result<(), Fail> {
-    for (script, line, fault) in [
+    for &(script, line, fault) in &[
         ("row\ta\tb\nset\tand\trow\t0\tcell\t1\t1\tx\n", 0, 0),
         (
             "dup\tskip\t1\tall\tcontent\ta\n\nclean\tframe\ntabs\t4\tname\tb",
@@ -55,7 +55,7 @@ fn each_verb_is_read_and_each_fault_is_named(rt: HostRuntime) -> Result<(), Fail
 }
 
 /// A line of each verb of a step.
-const STEPS: [&str; 27] = [
+const STEPS: &[&str] = &[
     "set\tall\tx",
     "dup\tall\trow\t0",
     "clean\tall",
@@ -100,13 +100,13 @@ fn is_faulty_within(
 
 #[test]
 fn each_line_may_be_too_long_or_have_a_bad_escape(rt: HostRuntime) -> Result<(), Fail> {
-    for (before, behind, line, fault) in [
+    for &(before, behind, line, fault) in &[
         ("", "", 0, 0),
         ("row\ta\n", "\tx", 2, 2),
         ("\n", "\\q", 2, 4),
         ("", "\n\nrow\ta\n", 3, 6),
     ] {
-        for step in STEPS {
+        for &step in STEPS {
             let faulty = is_faulty_within(rt.alloc(), before, step, behind, line, fault)?;
             assert!(rt; faulty, "{step:?}");
         }
@@ -124,7 +124,7 @@ fn may_be_too_short(alloc: Global, step: &str) -> Result<bool, AllocError> {
 
 #[test]
 fn each_line_may_be_too_short(rt: HostRuntime) -> Result<(), Fail> {
-    for step in STEPS {
+    for &step in STEPS {
         assert!(rt; may_be_too_short(rt.alloc(), step)?, "{step:?}");
     }
     Ok(())
@@ -161,7 +161,7 @@ fn may_be_too_deep(
 
 #[test]
 fn each_selector_may_be_too_deep(rt: HostRuntime) -> Result<(), Fail> {
-    for (step, selector, behind) in [
+    for &(step, selector, behind) in &[
         ("set\t", "and\trow\t0\t", "\tx"),
         ("set\t", "not\trow\t0\t", "\tx"),
         ("dup\tall\t", "intersect\trow\t0\t", ""),
@@ -180,7 +180,7 @@ fn each_selector_may_be_too_deep(rt: HostRuntime) -> Result<(), Fail> {
 }
 
 /// Lines with a word that is unknown (1), missing (2) or no number (3).
-const LINES: [(&str, u8); 87] = [
+const LINES: &[(&str, u8)] = &[
     ("shape\tx\t0", 3),
     ("shape\t0\tx", 3),
     ("shape\t0", 2),
@@ -272,7 +272,7 @@ const LINES: [(&str, u8); 87] = [
 
 #[test]
 fn each_word_may_be_unknown_or_no_number(rt: HostRuntime) -> Result<(), Fail> {
-    for (line, fault) in LINES {
+    for &(line, fault) in LINES {
         assert!(rt; is_faulty(rt.alloc(), line, 1, fault)?, "{line:?}");
     }
     Ok(())

@@ -36,7 +36,7 @@ fn draws(alloc: Global, script: &str, picture: &str) -> bool {
 
 #[test]
 fn draws_what_the_examples_show(rt: HostRuntime) -> Result<(), Fail> {
-    for (cases, outputs) in [(EXAMPLES, 1), (BEFORE, 0)] {
+    for &(cases, outputs) in &[(EXAMPLES, 1), (BEFORE, 0)] {
         for case in cases.split('\u{1e}') {
             let mut parts = case.split('\u{1f}');
             let name = parts.next().unwrap_or("");

@@ -73,8 +73,8 @@ impl Write for Sink {
 fn a_failed_read_is_a_status(rt: HostRuntime) -> Result<(), Fail> {
     let script = b"row\ta\nset\tall\tx\n";
     // The call after the last byte tells the end.
-    for (at_most, calls) in [(1, 17), (5, 5), (16, 2)] {
-        for kind in [
+    for &(at_most, calls) in &[(1, 17), (5, 5), (16, 2)] {
+        for &kind in &[
             ErrorKind::BrokenPipe,
             ErrorKind::OutOfMemory,
             ErrorKind::Interrupted,
@@ -104,7 +104,7 @@ fn a_failed_read_is_a_status(rt: HostRuntime) -> Result<(), Fail> {
 #[test]
 fn what_is_written_is_flushed_or_failed(rt: HostRuntime) -> Result<(), Fail> {
     let alloc = rt.alloc();
-    for (script, status, output) in [
+    for &(script, status, output) in &[
         ("row\ta\n", 0, "shape\t1\t1\nrow\ta\n"),
         ("spin\n", 2, "line 1: fault 1\n"),
         ("", 3, "out of memory\n"),

@@ -35,7 +35,7 @@ pub(crate) fn ends_well(alloc: Global, script: &[u8]) -> bool {
 
 #[test]
 fn answers_scripts(rt: HostRuntime) -> Result<(), Fail> {
-    for (script, output) in [
+    for &(script, output) in &[
         ("", "shape\t0\t0\n"),
         ("\n\n", "shape\t0\t0\n"),
         ("row", "shape\t1\t0\nrow\n"),
@@ -121,7 +121,7 @@ fn answers_scripts(rt: HostRuntime) -> Result<(), Fail> {
 
 #[test]
 fn answers_tables(rt: HostRuntime) -> Result<(), Fail> {
-    for (script, output) in [
+    for &(script, output) in &[
         // Outputs, which give themselves.
         (
             "shape\t2\t2\nrow\ta\tx\nrow\tc\t\nspan\t1\t0\t1\t2\n",
@@ -229,7 +229,7 @@ fn repeated(
 
 #[test]
 fn answers_long_scripts(rt: HostRuntime) -> Result<(), Fail> {
-    for (start, text, times, end, output) in [
+    for &(start, text, times, end, output) in &[
         // Rows that are as long as each other are written as they were read, after their shape.
         ("row", "\t", 255, "\n", "shape\t1\t255\n"),
         ("row", "\t", 256, "\n", "shape\t1\t256\n"),
@@ -276,7 +276,7 @@ fn ends_well_where_a_script_is_cut(rt: HostRuntime) -> Result<(), Fail> {
 
 #[test]
 fn draws_scripts(rt: HostRuntime) -> Result<(), Fail> {
-    for (script, status, picture) in [
+    for &(script, status, picture) in &[
         ("", 0, ""),
         ("row\nrow\n", 0, ""),
         (
@@ -300,7 +300,7 @@ fn draws_scripts(rt: HostRuntime) -> Result<(), Fail> {
 
 #[test]
 fn says_how_it_ended(rt: HostRuntime) -> Result<(), Fail> {
-    for (answered, status, bytes) in [
+    for &(answered, status, bytes) in &[
         (Ok((Ok(()), 0)), 0, ""),
         (Ok((Ok(()), 2)), 2, ""),
         (Ok((Err(io::Error::from(ErrorKind::BrokenPipe)), 0)), 4, ""),

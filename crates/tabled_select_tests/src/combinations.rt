@@ -29,7 +29,7 @@ where
 #[test]
 fn combines_places(rt: HostRuntime) {
     let (first, last) = (Cell::new(0, 0), Cell::new(1, 2));
-    for (a, b, shape, want) in [
+    for &(a, b, shape, want) in &[
         (first, last, (2, 3), ["0:0 1:2", "0:0", ""]),
         (first, first, (2, 3), ["0:0", "", "0:0"]),
         (first, last, (0, 0), ["", "", ""]),
@@ -43,7 +43,7 @@ fn combines_places(rt: HostRuntime) {
 fn combines_rows_and_columns(rt: HostRuntime) {
     let alloc = rt.alloc();
     let (row, column) = (Rows::one(1), Columns::one(1));
-    for (shape, want, turned) in [
+    for &(shape, want, turned) in &[
         (
             (3, 3),
             ["1:0 1:1 1:2 0:1 2:1", "1:0 1:2", "1:1"],
@@ -63,7 +63,7 @@ fn combines_rows_and_columns(rt: HostRuntime) {
 #[test]
 fn inverts(rt: HostRuntime) {
     let alloc = rt.alloc();
-    for (row, shape, want) in [
+    for &(row, shape, want) in &[
         (0, (2, 3), "1:0 1:1 1:2"),
         (2, (2, 1), "0:0 1:0"),
         (0, (0, 0), ""),
@@ -97,7 +97,7 @@ fn listed(alloc: Global, entities: &[Entity]) -> EntityList {
 #[test]
 fn takes_entities_as_they_are(rt: HostRuntime) {
     let alloc = rt.alloc();
-    for (first, second, and, not, both) in [
+    for &(first, second, and, not, both) in &[
         (
             REPEATS.as_slice(),
             LAST.as_slice(),
@@ -156,7 +156,7 @@ fn asks_each_closure_once_an_entity(rt: HostRuntime) {
 fn combines_many_cells(rt: HostRuntime) {
     let alloc = rt.alloc();
     let first = Cell::new(0, 0);
-    for (rows, columns) in [(1, 2_000), (2_000, 1), (40, 50)] {
+    for &(rows, columns) in &[(1, 2_000), (2_000, 1), (40, 50)] {
         let shape = (rows, columns);
         assert!(rt; count(alloc, Segment::all().and(first), shape) == Ok(2_000));
         assert!(rt; count(alloc, Segment::all().not(first), shape) == Ok(1_999));

@@ -68,7 +68,7 @@ fn one(alloc: Global) -> String {
 }
 
 /// Tables, with the columns that have a first `1`, and the cells that are `1`.
-const ONES: [((usize, usize), &str, &str, &str); 9] = [
+const ONES: &[((usize, usize), &str, &str, &str)] = &[
     ((3, 3), "1 2 3 1 2 3 1 2 3", "c0", "0:0 1:0 2:0"),
     ((3, 3), "1 2 3 1 1 3 1 2 1", "c0", "0:0 1:0 1:1 2:0 2:2"),
     (
@@ -98,7 +98,7 @@ const ONES: [((usize, usize), &str, &str, &str); 9] = [
 #[test]
 fn finds_texts(rt: HostRuntime) {
     let alloc = rt.alloc();
-    for (shape, texts, columns, cells) in ONES {
+    for &(shape, texts, columns, cells) in ONES {
         assert!(rt; finds(alloc, Locator::column(one(alloc)), shape, texts, columns));
         assert!(rt; finds(alloc, Locator::content(one(alloc)), shape, texts, cells));
         let by = Locator::by(|text| text == "1");
@@ -109,7 +109,7 @@ fn finds_texts(rt: HostRuntime) {
 #[test]
 fn holds_one_place(rt: HostRuntime) {
     let alloc = rt.alloc();
-    for (shape, texts, longest, first, last) in [
+    for &(shape, texts, longest, first, last) in &[
         ((4, 1), "a ccc bb ddd", "1:0", "0:0", "3:0"),
         ((2, 2), "a b c d", "0:0", "0:0", "1:1"),
         ((1, 3), "a bb ccc", "0:2", "0:0", "0:2"),
@@ -147,7 +147,7 @@ fn asks_for_each_text_once(rt: HostRuntime) {
 #[test]
 fn always_and_never_says_yes(rt: HostRuntime) {
     let alloc = rt.alloc();
-    for (shape, texts, all) in [
+    for &(shape, texts, all) in &[
         ((2, 2), "é \u{20AC} \u{1F633} d", "0:0 0:1 1:0 1:1"),
         ((0, 3), "", ""),
         ((3, 0), "", ""),
@@ -189,12 +189,12 @@ where
 #[test]
 fn locates_rows_and_columns(rt: HostRuntime) {
     let alloc = rt.alloc();
-    let cases: [((usize, usize), &[usize], usize); 3] = [
+    let cases: &[((usize, usize), &[usize], usize)] = &[
         ((2, 2), &[1], 1),
         ((3, 3), &[1, 2], 2),
         ((0, 0), &[], 0),
     ];
-    for (shape, behind, last) in cases {
+    for &(shape, behind, last) in cases {
         assert!(rt; locates(alloc, Rows::new(1..), shape, behind));
         assert!(rt; locates(alloc, Columns::new(1..), shape, behind));
         assert!(rt; locates(alloc, Rows::first(), shape, &[0]));
@@ -222,14 +222,14 @@ where
 #[test]
 fn marks_rows_and_columns_of_any_range(rt: HostRuntime) {
     let alloc = rt.alloc();
-    let cases: [(usize, usize, usize, &[bool]); 5] = [
+    let cases: &[(usize, usize, usize, &[bool])] = &[
         (1, 3, 3, &[false, true, true]),
         (0, usize::MAX, 2, &[true, true]),
         (2, usize::MAX, 4, &[false, false, true, true]),
         (7, usize::MAX, 2, &[false, false]),
         (0, usize::MAX, 0, &[]),
     ];
-    for (start, end, count, want) in cases {
+    for &(start, end, count, want) in cases {
         assert!(rt; marked(alloc, Rows::new(start..end), count, want));
         assert!(rt; marked(alloc, Columns::new(start..end), count, want));
     }
@@ -256,12 +256,12 @@ where
 fn locates_texts(rt: HostRuntime) {
     let alloc = rt.alloc();
     let (first, second) = (Position::new(0, 0), Position::new(0, 1));
-    let cases: [((usize, usize), &[usize], &[Position]); 3] = [
+    let cases: &[((usize, usize), &[usize], &[Position])] = &[
         ((1, 2), &[0, 1], &[first, second]),
         ((1, 1), &[0], &[first]),
         ((3, 0), &[], &[]),
     ];
-    for (shape, columns, places) in cases {
+    for &(shape, columns, places) in cases {
         assert!(rt; locates(alloc, Locator::column(one(alloc)), shape, columns));
         assert!(rt; locates_places(alloc, Locator::content(one(alloc)), shape, places));
         assert!(rt; locates_places(alloc, Locator::by(|_| true), shape, places));

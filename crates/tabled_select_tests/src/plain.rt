@@ -8,7 +8,7 @@ use tabled_select::object::{Cell, Column, Columns, Frame, LastColumnOffset, Row,
 #[test]
 fn names_cells(rt: HostRuntime) {
     let alloc = rt.alloc();
-    for (row, col, shape, want) in [(1, 100, (2, 3), "1:100"), (1, 1, (0, 0), "1:1")] {
+    for &(row, col, shape, want) in &[(1, 100, (2, 3), "1:100"), (1, 1, (0, 0), "1:1")] {
         let cell = Cell::new(row, col);
         assert!(rt; names(alloc, cell, shape, want));
         assert!(rt; names(alloc, Position::from(cell), shape, want));
@@ -19,7 +19,7 @@ fn names_cells(rt: HostRuntime) {
 #[test]
 fn names_ranges(rt: HostRuntime) {
     let alloc = rt.alloc();
-    for (from, to, shape, rows, columns) in [
+    for &(from, to, shape, rows, columns) in &[
         (Unbounded, Unbounded, (2, 3), "r0 r1", "c0 c1 c2"),
         (Unbounded, Unbounded, (2, 0), "r0 r1", ""),
         (Included(1), Unbounded, (2, 3), "r1", "c1 c2"),
@@ -42,7 +42,7 @@ fn names_ranges(rt: HostRuntime) {
         assert!(rt; names(alloc, Rows::new((from, to)), shape, rows));
         assert!(rt; names(alloc, Columns::new((from, to)), shape, columns));
     }
-    for (start, end, rows, columns) in [(1, 5, "r1 r2 r3 r4", "c1 c2 c3 c4"), (3, 1, "", "")] {
+    for &(start, end, rows, columns) in &[(1, 5, "r1 r2 r3 r4", "c1 c2 c3 c4"), (3, 1, "", "")] {
         assert!(rt; names(alloc, Rows::new(start..end), (4, 1), rows));
         assert!(rt; names(alloc, Columns::new(start..end), (4, 1), columns));
     }
@@ -53,7 +53,7 @@ fn names_ranges(rt: HostRuntime) {
 #[test]
 fn names_rows_from_either_end(rt: HostRuntime) {
     let alloc = rt.alloc();
-    for (n, shape, after_first, before_last, after_last) in [
+    for &(n, shape, after_first, before_last, after_last) in &[
         (0, (5, 2), "r0", "r4", "r4"),
         (1, (5, 2), "r1", "r3", "r5"),
         (2, (5, 2), "r2", "r2", "r6"),
@@ -76,7 +76,7 @@ fn names_rows_from_either_end(rt: HostRuntime) {
 #[test]
 fn names_columns_from_either_end(rt: HostRuntime) {
     let alloc = rt.alloc();
-    for (n, shape, after_first, before_last, after_last) in [
+    for &(n, shape, after_first, before_last, after_last) in &[
         (0, (5, 2), "c0", "c1", "c1"),
         (1, (5, 2), "c1", "c0", "c2"),
         (2, (5, 2), "c2", "", "c3"),
@@ -100,7 +100,7 @@ fn names_columns_from_either_end(rt: HostRuntime) {
 #[test]
 fn names_one_row_or_column(rt: HostRuntime) {
     let alloc = rt.alloc();
-    for (shape, first_row, last_row, first_column, last_column) in [
+    for &(shape, first_row, last_row, first_column, last_column) in &[
         ((5, 2), "r0", "r4", "c0", "c1"),
         ((5, 29), "r0", "r4", "c0", "c28"),
         ((100, 2), "r0", "r99", "c0", "c1"),
@@ -119,7 +119,7 @@ fn names_one_row_or_column(rt: HostRuntime) {
 
 #[test]
 fn names_the_frame(rt: HostRuntime) {
-    for (shape, want) in [
+    for &(shape, want) in &[
         ((2, 3), "0:0 0:1 0:2 1:0 1:1 1:2"),
         ((3, 3), "0:0 0:1 0:2 1:0 1:2 2:0 2:1 2:2"),
         ((0, 0), ""),
@@ -138,7 +138,7 @@ fn names_blocks(rt: HostRuntime) {
     let (all, from_1) = ((Unbounded, Unbounded), (Included(1), Unbounded));
     let (from_2, from_3) = ((Included(2), Unbounded), (Included(3), Unbounded));
     let (from_5, one) = ((Included(5), Unbounded), (Included(1), Excluded(2)));
-    for (rows, columns, want) in [
+    for &(rows, columns, want) in &[
         (all, all, "0:0 0:1 0:2 1:0 1:1 1:2"),
         (from_1, all, "1:0 1:1 1:2"),
         (from_2, all, ""),

@@ -7,7 +7,7 @@ use tabled_select::object::{Columns, ObjectIterator, Rows};
 #[test]
 fn skips_and_steps(rt: HostRuntime) {
     let alloc = rt.alloc();
-    for (n, behind, steps) in [
+    for &(n, behind, steps) in &[
         (0, "r1 r2 r3 r4", ""),
         (1, "r2 r3 r4", "r1 r2 r3 r4"),
         (2, "r3 r4", "r1 r3"),
@@ -24,7 +24,7 @@ fn skips_and_steps(rt: HostRuntime) {
 #[test]
 fn skips_and_steps_over_columns_and_places(rt: HostRuntime) {
     let alloc = rt.alloc();
-    for (n, behind, steps, behind_one, one) in [
+    for &(n, behind, steps, behind_one, one) in &[
         (0, "c5 c6 c7 c8 c9", "", "1:5", ""),
         (1, "c6 c7 c8 c9", "c5 c6 c7 c8 c9", "", "1:5"),
         (2, "c7 c8 c9", "c5 c7 c9", "", "1:5"),

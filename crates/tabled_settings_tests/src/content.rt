@@ -73,7 +73,7 @@ fn exclaimed_lines(alloc: Global, text: &str) -> Result<String, AllocError> {
 #[test]
 fn lines_are_asked_for_one_by_one(rt: HostRuntime) {
     let alloc = rt.alloc();
-    for (text, lines) in [
+    for &(text, lines) in &[
         ("p\r\nq\n", "p!\nq! /"),
         ("", "_ /"),
         ("\n", "! /"),
@@ -116,7 +116,7 @@ fn each_writer_writes_some_cells_alone(rt: HostRuntime) {
 #[test]
 fn each_charset_writes_all_cells_or_some(rt: HostRuntime) {
     let (alloc, old) = (rt.alloc(), "a / b /");
-    for (charset, all, some) in [
+    for &(charset, all, some) in &[
         (Charset::new(), "p\tq\r / p\tq\r /", "p\tq\r / p\tq\r /"),
         (Charset::new().clean(), "pq / pq /", "pq / p\tq\r /"),
         (

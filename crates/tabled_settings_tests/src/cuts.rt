@@ -25,7 +25,7 @@ fn ranges_to_the_end_are_kept(rt: HostRuntime) {
 
 #[test]
 fn the_last_column_is_removed(rt: HostRuntime) {
-    for (old, new) in [
+    for &(old, new) in &[
         ("", ""),
         ("/ /", "/ /"),
         ("a /", "/"),
@@ -59,13 +59,13 @@ impl<R: GridStore> Location<R> for Told {
 
 #[test]
 fn told_rows_and_columns_are_removed(rt: HostRuntime) {
-    let cases = [
+    let cases = &[
         (Told(&[0, 2, 0, 9]), "q / s /", "q s /"),
         (Told(&[3, 2, 1]), "p /", "p /"),
         (Told(&[usize::MAX, 1, usize::MAX]), "p / r / s /", "p r s /"),
         (Told(&[]), "p / q / r / s /", "p q r s /"),
     ];
-    for (told, rows, columns) in cases {
+    for &(told, rows, columns) in cases {
         assert!(rt; makes_flat(rt.alloc(), "p / q / r / s /", Remove::row(told), rows));
         assert!(rt; makes_flat(rt.alloc(), "p q r s /", Remove::column(told), columns));
         assert!(rt; makes_nested(rt.alloc(), "p / q / r / s /", Remove::row(told), rows));

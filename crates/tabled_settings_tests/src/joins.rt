@@ -20,7 +20,7 @@ fn join(alloc: Global, axis: Axis, second: &str) -> Result<Concat, AllocError> {
 #[test]
 fn tables_without_cells_are_joined(rt: HostRuntime) -> Result<(), Fail> {
     let alloc = rt.alloc();
-    for (old, axis, second, new) in [
+    for &(old, axis, second, new) in &[
         ("a b /", Axis::Rows, "/", "a b / _ _ /"),
         ("a b /", Axis::Rows, "", "a b /"),
         ("a b /", Axis::Columns, "/ /", "a b / - - /"),
@@ -39,7 +39,7 @@ fn tables_without_cells_are_joined(rt: HostRuntime) -> Result<(), Fail> {
 #[test]
 fn the_default_cell_is_empty(rt: HostRuntime) -> Result<(), Fail> {
     let alloc = rt.alloc();
-    for (axis, second, new) in [
+    for &(axis, second, new) in &[
         (Axis::Rows, "x y /", "a _ / x y /"),
         (Axis::Columns, "x / y /", "a x / _ y /"),
     ] {

@@ -22,7 +22,7 @@ fn rows_and_columns_are_moved(rt: HostRuntime) {
     ] {
         assert!(rt; makes_flat(alloc, old, rotate, new));
     }
-    for (split, new) in [
+    for &(split, new) in &[
         (Split::column(1).zip().clean(), "a / b / c / d /"),
         (Split::row(1).concat().retain(), "a b c d /"),
     ] {
@@ -45,7 +45,7 @@ fn reversed(alloc: Global, reverse: Reverse) -> Result<Vec<Vec<usize>>, AllocErr
 #[test]
 fn numbers_are_reversed(rt: HostRuntime) -> Result<(), Fail> {
     let alloc = rt.alloc();
-    for (reverse, numbers) in [
+    for &(reverse, numbers) in &[
         (Reverse::rows(0), [6, 7, 8, 3, 4, 5, 0, 1, 2]),
         (Reverse::columns(0), [2, 1, 0, 5, 4, 3, 8, 7, 6]),
     ] {

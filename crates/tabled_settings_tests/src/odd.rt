@@ -73,7 +73,7 @@ fn what_lies_past_the_table_changes_nothing(rt: HostRuntime) {
     assert!(rt; makes_flat(alloc, old, last, old));
     let last = Modify::list(Rows::new(MAX..=MAX), TextRef("x"));
     assert!(rt; makes_flat(alloc, old, last, old));
-    for (row, col) in [(2, 0), (0, 2), (2, 2)] {
+    for &(row, col) in &[(2, 0), (0, 2), (2, 2)] {
         let past = Cell::new(row, col);
         assert!(rt; makes_flat(alloc, old, Dup::new(past, Rows::first()), old));
         assert!(rt; makes_flat(alloc, old, Dup::new(Rows::first(), past), old));
@@ -84,13 +84,13 @@ fn what_lies_past_the_table_changes_nothing(rt: HostRuntime) {
 fn ranges_from_or_to_the_end_of_usize_end_at_the_table(rt: HostRuntime) {
     let (alloc, old) = (rt.alloc(), "a b / c d /");
     assert!(rt; makes_flat(alloc, old, Extract::rows(MAX..), ""));
-    for (columns, new) in [(1, "b / d /"), (MAX, "/ /")] {
+    for &(columns, new) in &[(1, "b / d /"), (MAX, "/ /")] {
         let part = Extract::segment(0..9, columns..MAX);
         assert!(rt; makes_nested(alloc, old, part, new));
         let part = Extract::segment(0..9, columns..MAX);
         assert!(rt; makes_refusing(alloc, (1, 1), old, part, new));
     }
-    for (first, new) in [(0, ""), (1, "a b /")] {
+    for &(first, new) in &[(0, ""), (1, "a b /")] {
         let rows = Remove::row(Rows::new(first..MAX));
         assert!(rt; makes_nested(alloc, old, rows, new));
         let rows = Remove::row(Rows::new(first..MAX));
@@ -101,7 +101,7 @@ fn ranges_from_or_to_the_end_of_usize_end_at_the_table(rt: HostRuntime) {
 #[test]
 fn reversals_at_the_end_of_usize_change_nothing(rt: HostRuntime) {
     let alloc = rt.alloc();
-    for (old, reverse) in [
+    for &(old, reverse) in &[
         ("a b c /", Reverse::columns(0).limit(End(MAX))),
         ("a / b / c /", Reverse::rows(1).limit(Start(MAX))),
         ("a / b / c /", Reverse::rows(MAX)),
@@ -113,7 +113,7 @@ fn reversals_at_the_end_of_usize_change_nothing(rt: HostRuntime) {
 
 #[test]
 fn pieces_of_the_greatest_size_change_nothing(rt: HostRuntime) {
-    for old in [
+    for &old in &[
         "",
         "/ /",
         "a /",
@@ -121,7 +121,7 @@ fn pieces_of_the_greatest_size_change_nothing(rt: HostRuntime) {
         "a / b / c /",
         "a b c d e / f g h i j /",
     ] {
-        for split in [
+        for &split in &[
             Split::column(MAX),
             Split::column(MAX).concat(),
             Split::row(MAX),

@@ -11,7 +11,7 @@ use tabled_settings::format::Format;
 use tabled_settings::formatting::Charset;
 
 /// What is left where the first, the second, the third or the fourth write or answer is refused.
-const LEFT: [&str; 4] = ["a b c /!", "a! b c /!", "a! b! c /!", "a! b! c! /"];
+const LEFT: &[&str] = &["a b c /!", "a! b c /!", "a! b! c /!", "a! b! c! /"];
 
 /// The same, wherever the text stands.
 fn exclaimed_at(alloc: Global, text: &str, _: Position) -> Result<String, AllocError> {
@@ -70,7 +70,7 @@ fn answers_are_refused_in_turn(rt: HostRuntime) {
 #[test]
 fn answers_of_lines_are_refused_in_turn(rt: HostRuntime) {
     let alloc = rt.alloc();
-    for (answers, want) in [
+    for &(answers, want) in &[
         (0, "p\nq p\nq /!"),
         (1, "p\nq p\nq /!"),
         (2, "p!\nq! p\nq /!"),

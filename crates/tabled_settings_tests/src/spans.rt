@@ -102,7 +102,7 @@ fn spanned_refusing(
 #[test]
 fn the_least_and_the_greatest_span_end_at_the_table(rt: HostRuntime) {
     let alloc = rt.alloc();
-    for (old, span, entity, new) in [
+    for &(old, span, entity, new) in &[
         ("a b c /", Columns(Least), Cell(0, 2), "c _ _ / 0.0:1x3"),
         ("a b c /", Columns(Greatest), Cell(0, 1), "a b c / 0.1:1x2"),
         ("a b c /", Columns(All), Cell(0, 1), "b _ _ / 0.0:1x3"),
@@ -154,7 +154,7 @@ fn the_least_and_the_greatest_span_end_at_the_table(rt: HostRuntime) {
 fn writes_of_the_least_span_are_refused_in_turn(rt: HostRuntime) {
     let alloc = rt.alloc();
     let least = Columns(Exactly(isize::MIN));
-    for (set, left) in [
+    for &(set, left) in &[
         (1, "a b c /!"),
         (2, "c b c /!"),
         (3, "c _ c /!"),

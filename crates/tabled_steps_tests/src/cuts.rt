@@ -65,7 +65,7 @@ const STAY: &str = "split column 0 zip clean; split column 0 concat clean; split
 #[test]
 fn tables_without_longer_lines_stay(rt: HostRuntime) -> Result<(), Fail> {
     let alloc = rt.alloc();
-    for table in [
+    for &table in &[
         "",
         "/ /",
         "a /",

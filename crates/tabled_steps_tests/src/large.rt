@@ -60,7 +60,7 @@ fn read(alloc: Global, script: &str) -> Result<Result<(usize, usize), (usize, u8
 #[test]
 fn many_lines_are_read(rt: HostRuntime) -> Result<(), Fail> {
     let alloc = rt.alloc();
-    for (line, last, want) in [
+    for &(line, last, want) in &[
         ("row\ta\n", "vmerge\n", Ok((100_000, 1))),
         ("set\tall\tx\n", "", Ok((0, 100_000))),
         ("\n", "row\n", Ok((1, 0))),

@@ -18,7 +18,7 @@ fn count(alloc: Global, words: &str) -> Option<usize> {
 
 #[test]
 fn each_kind_names_its_entities(rt: HostRuntime) {
-    for (words, many) in [
+    for &(words, many) in &[
         ("all", 1),
         ("cell 1 2", 1),
         ("row 1", 1),

@@ -43,7 +43,7 @@ fn after(
 fn inserts_texts(rt: HostRuntime) {
     let alloc = rt.alloc();
     let two = ["a b", "c _"];
-    for (call, words, columns, want) in [
+    for &(call, words, columns, want) in &[
         (Call::PushRecord, "x", 2, "a b /c _ /x - /"),
         (Call::ExtendRecord, "x y z", 3, "a b - /c _ - /x y z /"),
         (Call::InsertRecord(0), "x", 2, "x - /a b /c _ /"),
@@ -57,7 +57,7 @@ fn inserts_texts(rt: HostRuntime) {
     ] {
         assert!(rt; holds(alloc, after(alloc, (&two, "-"), call, words), columns, want));
     }
-    for (call, words, columns, want) in [
+    for &(call, words, columns, want) in &[
         (Call::PushRecord, "x y", 2, "x y /"),
         (Call::PushColumn, "x y", 1, "x /y /"),
         (Call::PushColumn, "", 1, ""),
@@ -65,7 +65,7 @@ fn inserts_texts(rt: HostRuntime) {
     ] {
         assert!(rt; holds(alloc, after(alloc, (&[], "-"), call, words), columns, want));
     }
-    for (call, words, want) in [
+    for &(call, words, want) in &[
         (Call::PushColumn, "x y z", "a x /b y /_ z /"),
         (Call::InsertColumn(0), "p", "p a /_ b /"),
         (Call::InsertColumn(0), "p q r", "p a /q b /"),
@@ -86,7 +86,7 @@ fn inserts_texts(rt: HostRuntime) {
 fn refuses_more_columns_than_a_number_counts(rt: HostRuntime) -> Result<(), Fail> {
     let alloc = rt.alloc();
     let mut full = Builder::with_capacity(alloc, 0, usize::MAX)?;
-    for (call, words) in [
+    for &(call, words) in &[
         (Call::PushRecord, ""),
         (Call::ExtendRecord, "a"),
         (Call::InsertRecord(0), "a"),
@@ -110,7 +110,7 @@ fn cleaned(alloc: Global, records: &[&str]) -> Result<Builder, AllocError> {
 #[test]
 fn cleans(rt: HostRuntime) {
     let alloc = rt.alloc();
-    for (records, columns, want) in [
+    for &(records, columns, want) in &[
         (["_ a", "_ _"], 1, "a /"),
         (["a _ b", "_ _ _"], 2, "a b /"),
         (["a _", "_ b"], 2, "a _ /_ b /"),

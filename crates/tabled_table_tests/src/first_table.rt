@@ -32,7 +32,7 @@ fn builds_the_first_table(rt: HostRuntime) -> Result<(), Fail> {
     let alloc = rt.alloc();
     let table = languages(alloc)?;
     assert_eq!(rt; table.shape(), (3, 3));
-    for (col, text) in [(0, "Go"), (1, "Pike"), (2, "2009")] {
+    for &(col, text) in &[(0, "Go"), (1, "Pike"), (2, "2009")] {
         assert_eq!(rt;
             table.get_records().get(Position::new(2, col)).as_str(),
             text
@@ -44,7 +44,7 @@ fn builds_the_first_table(rt: HostRuntime) -> Result<(), Fail> {
 /// Prices by their names, turned so that each name has a column.
 fn prices(alloc: Global) -> Result<Vec<Vec<String>>, AllocError> {
     let mut prices = BTreeMap::new(alloc);
-    for (name, price) in [("pear", 3), ("apple", 2)] {
+    for &(name, price) in &[("pear", 3), ("apple", 2)] {
         prices.insert(name, price)?;
     }
     let mut builder = Builder::from_btree_map(alloc, prices)?;

@@ -80,7 +80,7 @@ fn indexes_records(rt: HostRuntime) -> Result<(), Fail> {
         "1 value-4 value-5 value-6",
         "2 value-7 value-8 value-9",
     ];
-    for (records, turns, columns, want) in [
+    for &(records, turns, columns, want) in &[
         (
             three.as_slice(),
             [Keep, Keep],
@@ -164,7 +164,7 @@ fn declared(alloc: Global, turns: [Turn; 2]) -> Result<IndexBuilder, AllocError>
 fn indexes_nothing(rt: HostRuntime) -> Result<(), Fail> {
     use Turn::*;
     let alloc = rt.alloc();
-    for turns in [[Name("n"), Keep], [Name("n"), Hide], [Column(0), Transpose]] {
+    for &turns in &[[Name("n"), Keep], [Name("n"), Hide], [Column(0), Transpose]] {
         let made = declared(alloc, turns)?.into_builder(alloc);
         assert!(rt; holds(alloc, made, 0, ""));
         assert!(rt; builds(alloc, declared(alloc, turns)?, 0, "")?);

@@ -7,7 +7,7 @@ use tabled_table::builder::Builder;
 
 pub(crate) fn of_sorted_map(alloc: Global) -> Result<Builder, AllocError> {
     let mut map = BTreeMap::new(alloc);
-    for (key, value) in [(10, "a"), (9, "b")] {
+    for &(key, value) in &[(10, "a"), (9, "b")] {
         map.insert(key, value)?;
     }
     Builder::from_btree_map(alloc, map)
@@ -15,7 +15,7 @@ pub(crate) fn of_sorted_map(alloc: Global) -> Result<Builder, AllocError> {
 
 pub(crate) fn of_hashed_map(alloc: Global) -> Result<Builder, AllocError> {
     let mut map = HashMap::new(alloc);
-    for (key, value) in [(9, "b"), (10, "a")] {
+    for &(key, value) in &[(9, "b"), (10, "a")] {
         map.insert(key, value)?;
     }
     Builder::from_hash_map(alloc, map)

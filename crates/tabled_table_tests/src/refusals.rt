@@ -27,7 +27,7 @@ fn keeps(alloc: Global, call: Call, words: &str) -> Result<bool, AllocError> {
 
 #[test]
 fn keeps_the_builder_at_a_refusal(rt: HostRuntime) {
-    for call in [
+    for &call in &[
         Call::PushRecord,
         Call::ExtendRecord,
         Call::InsertRecord(1),

@@ -39,6 +39,28 @@ pub fn merges(alloc: Global, table: &mut Table) -> Result<(), AllocError> {
     table.with(alloc, Merge::horizontal())
 }
 
+/// A step that writes a text to the rows 1 to 8.
+fn writing(alloc: Global) -> Result<Step, AllocError> {
+    let rows = Box::new(alloc, Selector::Rows(0, 9))?;
+    Ok(Step::Set(Selector::Skip(1, rows), String::from_str(alloc, "x")?))
+}
+
+/// Two steps that are one.
+fn turning_and_cutting(alloc: Global) -> Result<Step, AllocError> {
+    let turning = Box::new(alloc, Step::Rotate(Rotate::Left))?;
+    let cutting = Box::new(alloc, Step::Split(Split::column(2)))?;
+    Ok(Step::Both(turning, cutting))
+}
+
+/// The three steps.
+fn three_steps(alloc: Global) -> Result<Vec<Step>, AllocError> {
+    Ok(vec![in alloc;
+        writing(alloc)?,
+        turning_and_cutting(alloc)?,
+        Step::MergeVertical(Merge::vertical()),
+    ]?)
+}
+
 /// Runs three steps on any store, and says how many of them were done.
 pub fn runs<R>(alloc: Global, records: &mut R, cfg: &mut SpannedConfig) -> Result<usize, AllocError>
 where
@@ -47,16 +69,7 @@ where
     requires { R.is_well_formed records.old }
     ensures { R.is_well_formed records.new }
 {
-    let text = String::from_str(alloc, "x")?;
-    let first = Step::Set(
-        Selector::Skip(1, Box::new(alloc, Selector::Rows(0, 9))?),
-        text,
-    );
-    let both = Step::Both(
-        Box::new(alloc, Step::Rotate(Rotate::Left))?,
-        Box::new(alloc, Step::Split(Split::column(2)))?,
-    );
-    let steps = vec![in alloc; first, both, Step::MergeVertical(Merge::vertical())]?;
+    let steps = three_steps(alloc)?;
     let many = steps.len();
     match run(alloc, records, cfg, steps) {
         Ok(()) => Ok(many),

@@ -19,7 +19,7 @@ fn told(spans: &SpannedConfig, row: usize, col: usize) -> (bool, bool, bool) {
 #[test]
 fn tells_which_cells_are_covered(rt: HostRuntime) -> Result<(), Fail> {
     let spans = merged(rt.alloc(), "1.1:2x3")?;
-    for (row, col, covered) in [
+    for &(row, col, covered) in &[
         (1, 1, (true, false, false)),
         (1, 3, (false, true, false)),
         (2, 1, (false, false, true)),
@@ -46,7 +46,7 @@ fn hidden(alloc: Global, spans: &str) -> Result<[bool; 4], AllocError> {
 
 #[test]
 fn keeps_which_cells_are_hidden(rt: HostRuntime) -> Result<(), Fail> {
-    for (spans, cells) in [
+    for &(spans, cells) in &[
         ("0.0:3x1 0.1:1x9 5.5:2x2", [false, false, true, false]),
         ("0.0:2x2", [false, true, true, true]),
         ("18446744073709551615.18446744073709551615:2x2", [false; 4]),

@@ -30,7 +30,7 @@ fn lists_what_an_entity_names(rt: HostRuntime) {
     let column = [(0, 2), (1, 2)];
     let row = [(1, 0), (1, 1), (1, 2)];
     let cell = [(1, 2)];
-    for (entity, places) in [
+    for &(entity, places) in &[
         (Entity::Global, all.as_slice()),
         (Entity::Column(2), column.as_slice()),
         (Entity::Row(1), row.as_slice()),
@@ -46,7 +46,7 @@ fn lists_what_an_entity_names(rt: HostRuntime) {
 
 #[test]
 fn names_no_place_outside(rt: HostRuntime) {
-    for (entity, rows, columns) in [
+    for &(entity, rows, columns) in &[
         (Entity::Global, 0, 0),
         (Entity::Global, 2, 0),
         (Entity::Global, 0, 3),
@@ -90,7 +90,7 @@ fn compares_places(rt: HostRuntime) {
 
 #[test]
 fn tells_which_places_are_covered(rt: HostRuntime) {
-    for (other, covers) in [
+    for &(other, covers) in &[
         ((0, 0), true),
         ((0, 1), false),
         ((1, 0), false),
@@ -141,7 +141,7 @@ fn ends_of<B: ToBounds>(range: &B) -> (usize, usize) {
 
 #[test]
 fn tells_the_indexes_of_ranges(rt: HostRuntime) {
-    for (ends, want) in [
+    for &(ends, want) in &[
         (ends_of(&(1..3)), (1, 3)),
         (ends_of(&(1..=3)), (1, 4)),
         (ends_of(&(1..)), (1, 5)),
@@ -159,7 +159,7 @@ fn tells_the_indexes_of_ranges(rt: HostRuntime) {
 fn tells_the_indexes_of_ranges_to_the_end_of_usize(rt: HostRuntime) {
     let mut gone_through = 2..=2;
     assert!(rt; gone_through.next() == Some(2));
-    for (ends, want) in [
+    for &(ends, want) in &[
         (ends_of(&gone_through), (2, 2)),
         (ends_of(&(0..=MAX)), (0, MAX)),
         (ends_of(&(..=MAX)), (0, MAX)),

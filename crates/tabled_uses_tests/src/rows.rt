@@ -15,7 +15,7 @@ const ROWS: &str = "[a][b][c]|[d][e][f]|[g][h][i]|";
 
 #[test]
 fn limits(rt: HostRuntime) {
-    for (rows, columns, skip, want) in [
+    for &(rows, columns, skip, want) in &[
         (2, 1, 0, "[a]|[d]|"),
         (MAX, MAX, 5, ""),
         (MAX, MAX, 0, ROWS),
@@ -39,7 +39,7 @@ fn limits(rt: HostRuntime) {
 
 #[test]
 fn skips(rt: HostRuntime) {
-    for (skip, rows, want) in [
+    for &(skip, rows, want) in &[
         (1, 1, "[d][e][f]|"),
         (0, 2, "[a][b][c]|[d][e][f]|"),
         (2, MAX, "[g][h][i]|"),
@@ -63,11 +63,11 @@ fn reads(
 
 #[test]
 fn reads_ahead(rt: HostRuntime) -> Result<(), Fail> {
-    for (rows, want) in [(0, 0), (1, 1), (2, 2), (3, 3), (4, 3), (MAX, 3)] {
+    for &(rows, want) in &[(0, 0), (1, 1), (2, 2), (3, 3), (4, 3), (MAX, 3)] {
         assert!(rt; reads(read_ahead(rt.alloc(), rows), want, ROWS)?, "{rows}");
     }
     let (text, words) = ("a b c\nd\n\ne f", "[a][b][c]|[d]||[e][f]|");
-    for (rows, want) in [(0, 0), (1, 1), (3, 3), (4, 4), (5, 4), (MAX, 4)] {
+    for &(rows, want) in &[(0, 0), (1, 1), (3, 3), (4, 4), (5, 4), (MAX, 4)] {
         let ahead = lines_ahead(rt.alloc(), text, rows);
         assert!(rt; reads(ahead, want, words)?, "{rows}");
     }
@@ -84,7 +84,7 @@ fn lent_blanks(alloc: Global, rows: usize, columns: usize) -> Result<String, All
 
 #[test]
 fn lends_rows(rt: HostRuntime) -> Result<(), Fail> {
-    for (rows, columns, want) in [(0, 0, ""), (2, 0, "||"), (2, 1, "[]|[]|")] {
+    for &(rows, columns, want) in &[(0, 0, ""), (2, 0, "||"), (2, 1, "[]|[]|")] {
         assert!(rt;
             is_word(lent_blanks(rt.alloc(), rows, columns), want),
             "{want:?}"
@@ -102,7 +102,7 @@ fn lends_rows(rt: HostRuntime) -> Result<(), Fail> {
 
 #[test]
 fn has_empty_rows(rt: HostRuntime) {
-    for (shape, want) in [
+    for &(shape, want) in &[
         ((0, 3), "0 x 3: "),
         ((2, 0), "2 x 0: ||"),
         ((2, 3), "2 x 3: [][][]|[][][]|"),
@@ -134,7 +134,7 @@ fn has_a_text_of_either_kind(rt: HostRuntime) -> Result<(), Fail> {
 #[test]
 fn goes_through_rows_made_as_they_are_asked_for(rt: HostRuntime) {
     let text = "a b c\nd\n\ne f";
-    for (skip, limit, want) in [
+    for &(skip, limit, want) in &[
         (0, 9, "[a][b][c]|[d]||[e][f]|"),
         (1, 2, "[d]||"),
         (3, 2, "[e][f]|"),

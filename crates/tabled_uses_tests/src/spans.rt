@@ -40,7 +40,7 @@ fn keeps_spans(rt: HostRuntime) -> Result<(), Fail> {
     let end = Position::new(usize::MAX, usize::MAX);
     let mut spans = SpannedConfig::new(rt.alloc());
     assert!(rt; spans.get_column_span(corner).is_none());
-    for (pos, side, sizes) in [
+    for &(pos, side, sizes) in &[
         (corner, Width(0), (None, None)),
         (corner, Width(3), (None, Some(3))),
         (corner, Height(2), (Some(2), Some(3))),
@@ -82,7 +82,7 @@ const APART: &str = "0.0:2x2 2.0:1x2";
 
 #[test]
 fn drops_all_that_are_hidden_at_once(rt: HostRuntime) -> Result<(), Fail> {
-    for (old, left) in [
+    for &(old, left) in &[
         (CHAIN, "0.0:1x2"),
         (TALL, "0.1:3x1 1.0:1x2"),
         (APART, APART),
@@ -106,7 +106,7 @@ const MAX: usize = usize::MAX;
 #[test]
 fn fits_to_the_last_row_and_column(rt: HostRuntime) -> Result<(), Fail> {
     let far = "18446744073709551615.18446744073709551615:2x2";
-    for (old, rows, columns, fits) in [
+    for &(old, rows, columns, fits) in &[
         (CHAIN, 1, 4, (false, true)),
         (CHAIN, 1, 1, (false, false)),
         (TALL, 3, 4, (false, false)),
@@ -151,7 +151,7 @@ fn keeps_what_lies_inside_and_apart(rt: HostRuntime) -> Result<(), Fail> {
     let far =
         "18446744073709551613.0:2x2 18446744073709551615.0:1x2 18446744073709551615.18446744073709551615:2x2";
     let wide = "0.0:1x18446744073709551615 0.18446744073709551615:1x18446744073709551615";
-    for (old, rows, columns, left) in [
+    for &(old, rows, columns, left) in &[
         (touching, 3, 4, touching),
         (touching, 2, 4, "0.0:2x2 0.2:1x2 1.2:1x2"),
         (outside, 3, 4, "0.0:1x2 1.0:2x1"),
@@ -226,7 +226,7 @@ fn keeps(alloc: Global, call: Call) -> Result<bool, AllocError> {
 // for each N meets each refusal.
 #[test]
 fn keeps_merged_cells_at_a_refusal(rt: HostRuntime) {
-    for call in [
+    for &call in &[
         Call::RowSpan,
         Call::ColumnSpan,
         Call::Sizes,

@@ -43,7 +43,7 @@ fn makes(alloc: Global, script: &str, old: &str, new: &str) -> Result<Option<usi
 
 #[test]
 fn scripts_change_tables(rt: HostRuntime) -> Result<(), Fail> {
-    for (script, new, faulty) in [
+    for &(script, new, faulty) in &[
         (
             "rotate\tleft\nheader\tN\n",
             "N _ / b d / a c / 0.0:1x2",
@@ -61,7 +61,7 @@ fn scripts_change_tables(rt: HostRuntime) -> Result<(), Fail> {
 
 #[test]
 fn scripts_end_with_their_tables(rt: HostRuntime) -> Result<(), Fail> {
-    for (script, want) in [
+    for &(script, want) in &[
         ("row\ta\nrow\tb\tc\n", Ok((2, 2))),
         ("row\ta\\tb\tc\nset\tcolumn\t1\tx\nheader\tN\n", Ok((2, 2))),
         ("row\ta\tb\tc\nrotate\tleft\n", Ok((3, 1))),
@@ -78,7 +78,7 @@ fn scripts_end_with_their_tables(rt: HostRuntime) -> Result<(), Fail> {
 #[test]
 fn words_without_escapes_are_lent(rt: HostRuntime) -> Result<(), Fail> {
     let alloc = rt.alloc();
-    for (script, want) in [
+    for &(script, want) in &[
         ("row\ta\t\tbc\n", "\ta\t\tbc"),
         ("row\ta\t\\\\\tb\n", "\ta\tb"),
         ("row\t\\t\nrow\ta long text with an escape:\\n\n", ""),

@@ -49,7 +49,7 @@ where
 #[test]
 fn pushes_lines_along_either_axis(rt: HostRuntime) -> Result<(), Fail> {
     let alloc = rt.alloc();
-    for (axis, want) in [
+    for &(axis, want) in &[
         (Axis::Rows, "4 x 2\n[a][b]\n[c][d]\n[][]\n[][]"),
         (Axis::Columns, "2 x 4\n[a][b][][]\n[c][d][][]"),
     ] {

@@ -261,7 +261,7 @@ fn keep(alloc: Global, change: Change, lent: bool) -> bool {
 // for each N meets each refusal.
 #[test]
 fn keeps_the_stores_at_a_refusal(rt: HostRuntime) {
-    for (change, lent) in [
+    for &(change, lent) in &[
         (PushRow, true),
         (PushColumn, true),
         (PushRows(2), false),
@@ -284,7 +284,7 @@ fn refuse(alloc: Global, change: Change) -> Result<bool, AllocError> {
 
 #[test]
 fn refuses_cells_past_the_largest_number(rt: HostRuntime) -> Result<(), Fail> {
-    for change in [
+    for &change in &[
         PushRows(usize::MAX),
         PushRows(usize::MAX - 2),
         PushColumns(usize::MAX),
