@@ -45,19 +45,13 @@ where
 {
     records.push_row(alloc)?;
     records.push_columns(alloc, size)?;
-    match call {
-        Call::Growth => {
-            watch.start();
-            push_other_rows(alloc, &mut records, size)?;
-            watch.stop();
-        }
-        Call::Change(change) => {
-            push_other_rows(alloc, &mut records, size)?;
-            watch.start();
-            change_often(alloc, &mut records, change)?;
-            watch.stop();
-        }
+    watch.start();
+    push_other_rows(alloc, &mut records, size)?;
+    if let Call::Change(change) = call {
+        watch.start();
+        change_often(alloc, &mut records, change)?;
     }
+    watch.stop();
     let rows = records.count_rows();
     mem::forget(records);
     Ok(rows)
