@@ -48,6 +48,7 @@ where
     watch.start();
     push_other_rows(alloc, &mut records, size)?;
     if let Call::Change(change) = call {
+        // A change alone is timed.
         watch.start();
         change_often(alloc, &mut records, change)?;
     }
