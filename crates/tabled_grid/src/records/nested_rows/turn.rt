@@ -33,7 +33,9 @@ fn push_each<T: Drop>(rows: &mut [Vec<T>], items: Vec<T>)
 {
     let mut items = items.into_iter();
     for row in rows.iter_mut() {
-        row.push_reserved(items.next().unwrap());
+        // There is one for each row. Unwrapped, it would be copied once more on its way.
+        let Some(item) = items.next() else { return };
+        row.push_reserved(item);
     }
 }
 

@@ -14,7 +14,7 @@ loop-row-preserved g c =
     let same = pushed_next _ _ _ _ i d c.loop-row.invariant.pushed in
     let row = get_or c.loop-row.rows i d in
     record {
-      pushed = pushed_more _ _ _ _ i d c.push_reserved.new.self c.unwrap.result (omega arith) c.push_reserved.ensures.items (rw (rw c.unwrap.ensures at c.next.ensures.items) at c.loop-row.invariant.pushed);
+      pushed = pushed_more _ _ _ _ i d c.push_reserved.new.self c.in-Some.item (omega arith) c.push_reserved.ensures.items (rw c.in-Some.ensures.items at c.loop-row.invariant.pushed);
       left = λ n room. AllWithin-more_set _ _ _ (omega arith) (λ (row : Vec g.row.T.Denot). vec_len row + n ≤ vec_capacity row) (c.loop-row.invariant.left n room) (let free : vec_len row + suc n ≤ vec_capacity row = rw same (room i d (omega arith)) in omega (arith, c.push_reserved.ensures.len, c.push_reserved.ensures.capacity, free));
     }
 
