@@ -1,5 +1,5 @@
 -- What a source that is read ahead gives, told by what the source gave.
-use Rattle.std.proofs.Common.{rules, ◌≡◌, ◌<◌, Bool, true, false, List, [], ◌∷◌, ◌++◌, Option, None, Some, refl, sym, ap, subst, ◌∙◌, length, arith}
+use Rattle.std.proofs.Common.{rules, ◌≡◌, ◌<◌, Bool, true, false, List, [], ◌∷◌, ◌++◌, Option, None, Some, refl, sym, ap, subst, ◌∙◌, length, get_or, drop, arith}
 use Rattle.std.proofs.lemmas.List.{append-nil}
 use Rattle.std.proofs.lemmas.List.Elements.{All-drop, All-from_recursion, All-nil, recursion_from_All}
 use Rattle.std.proofs.Math.Seq.{drop-append_seam}
@@ -38,14 +38,6 @@ module _ {U T R S A B : Type 0} (becomes : U → T → Type 0) (can : T → Type
       let listed = over iter is in
       (listed.can, listed.ends, λ xs t ran. All-from_recursion asked xs (listed-each xs rows iter t listed.gives ran))
 
-abbrev head_of : {B : Type 0} → B → List B → B
-head_of d [] = d
-head_of d (y ∷ ys) = y
-
-abbrev tail_of : {B : Type 0} → List B → List B
-tail_of [] = []
-tail_of (y ∷ ys) = ys
-
 module _ {S U I W A : Type 0} (next_gives : S → Option U → S → Type 0) (becomes : U → I → Type 0) (buffer_of : W → IntoIter (Vec A) Global) (rows_of : W → S) where
   abbrev steps : W → Option (BufIterator I A) → W → Type 0
   steps s r t = GivesBuffered next_gives becomes (record { buffer = buffer_of s; rows = rows_of s }) r (record { buffer = buffer_of t; rows = rows_of t })
@@ -78,8 +70,8 @@ module _ {S U I W A : Type 0} (next_gives : S → Option U → S → Type 0) (be
       let next = drained.1.0 in
       let all : into_iter_items (buffer_of s) ≡ v ∷ vs = holds.items (omega (arith, step.1.1)) in
       let same : v ∷ vs ≡ step.0 ∷ into_iter_items (buffer_of next) = sym all ∙ step.1.0 in
-      let rest = buffered-gave xs ended vs next (record { items = λ h. sym (ap tail_of same); long = omega (arith, step.1.1, holds.long) }) (drained.0, drained.1.2, drained.2) in
-      (rest.0, subst (λ k. DrainsIf next_gives (ended ≡ true) k rest.0) step.2 rest.1, (step.3 ∙ ap (λ (u : Vec A). u.items) (sym (ap (head_of v) same)), rest.2))
+      let rest = buffered-gave xs ended vs next (record { items = λ h. sym (ap (drop 1) same); long = omega (arith, step.1.1, holds.long) }) (drained.0, drained.1.2, drained.2) in
+      (rest.0, subst (λ k. DrainsIf next_gives (ended ≡ true) k rest.0) step.2 rest.1, (step.3 ∙ ap (λ (u : Vec A). u.items) (sym (ap (λ xs. get_or xs 0 v) same)), rest.2))
   buffered-gave (Iterator cells ∷ xs) ended [] s holds drained =
       let step = drained.1.1 in
       let next = drained.1.0 in

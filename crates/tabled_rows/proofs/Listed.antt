@@ -5,7 +5,7 @@ use Rattle.std.specs.Prelude.{replicate}
 use Rattle.std.specs.Slice.Iter.{iter_rest, iter_steps}
 use Rattle.std.specs.declared.iter.RepeatN.{RepeatN}
 use Rattle.std.proofs.lemmas.Option.{get_or_from_slice_get, slice_get_within}
-use Rattle.std.proofs.Common.{Iter, ◌≡◌, ℕ, zero, suc, ◌+◌, ◌<◌, List, [], ◌∷◌, Option, None, Some, refl, sym, ap, ap₂, subst, ◌∙◌, map, length, take, drop, arith}
+use Rattle.std.proofs.Common.{Iter, ◌≡◌, ℕ, zero, suc, ◌+◌, ◌<◌, List, [], ◌∷◌, Option, None, Some, refl, sym, ap, ap₂, subst, ◌∙◌, map, length, take, drop, get_or, arith}
 use Rattle.std.proofs.lemmas.List.{drop_all, drop_more, length-drop, nil_from_length}
 use Rattle.std.specs.Iterator.{Count, Yields, at_most, count_min}
 use Rattle.std.specs.Iterator.Adapters.{repeat_n_count, repeat_n_item, repeat_n_steps, skip_count, skip_source, skip_steps, take_count, take_source, take_steps}
@@ -18,14 +18,6 @@ use Rattle.std.specs.Vec.Iter.{into_iter_items, into_iter_len, into_iter_steps}
 use Rattle.tabled_rows.specs.Listed.{GivesEach, GoesOverEach}
 use Rattle.tabled_rows.specs.Rows.{Shows}
 use Rattle.tabled_rows.specs.Steps.{GivesLimited}
-
-abbrev head : {B : Type 0} → B → List B → B
-head d [] = d
-head d (y ∷ ys) = y
-
-abbrev tail : {B : Type 0} → List B → List B
-tail [] = []
-tail (y ∷ ys) = ys
 
 some_item : {B : Type 0} (y : B) (ys : List B) → y ∷ ys ≡ [] → ⊥
 some_item y ys e = omega (arith, ap length e)
@@ -44,7 +36,7 @@ module _ {S A B : Type 0} (next_gives : S → Option A → S → Type 0) (stands
   gives-by_state J none some [] s j = λ x t p. let o = some s t x [] j p in some_item o.first o.others (sym o.are)
   gives-by_state J none some (y ∷ ys) s j = (
     (λ t p. some_item y ys (none s t _ j p)),
-    λ x t p. let o = some s t x _ j p in (subst (stands_for x) (sym (ap (head y) o.are)) o.stands, gives-by_state J none some ys t (subst (J t) (sym (ap tail o.are)) o.leaves)),
+    λ x t p. let o = some s t x _ j p in (subst (stands_for x) (sym (ap (λ xs. get_or xs 0 y) o.are)) o.stands, gives-by_state J none some ys t (subst (J t) (sym (ap (drop 1) o.are)) o.leaves)),
   )
 
   pub gives-ended : (ys : List B) (s t : S) → GivesEach next_gives stands_for s ys → next_gives s None t → ys ≡ []

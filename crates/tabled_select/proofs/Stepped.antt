@@ -1,5 +1,5 @@
 -- What iterators made of iterators give.
-use Rattle.std.proofs.Common.{rules, ◌≡◌, ℕ, zero, suc, ◌+◌, ◌-◌, ◌*◌, ◌%◌, ◌/◌, ◌<◌, ◌≤◌, inl, inr, List, [], ◌∷◌, ◌++◌, Option, None, Some, refl, sym, ap, ◌∙◌, map, length, arith}
+use Rattle.std.proofs.Common.{rules, ◌≡◌, ℕ, zero, suc, ◌+◌, ◌-◌, ◌*◌, ◌%◌, ◌/◌, ◌<◌, ◌≤◌, inl, inr, List, [], ◌∷◌, ◌++◌, Option, None, Some, refl, sym, ap, ◌∙◌, map, length, get_or, drop, arith}
 use Rattle.std.proofs.iter.Yields.{gives_left}
 use Rattle.std.proofs.Math.Nat.{div-eq_of_lt, div-mul-le_self, mul-mod_left}
 use Rattle.std.proofs.lemmas.Bool.{cases_lt, ne_eqb}
@@ -10,14 +10,6 @@ use Rattle.std.specs.List.{enumerate_from, filter}
 use Rattle.std.specs.Prelude.{◌==◌, IfNone, IfSome, OnSome}
 use Rattle.tabled_select.specs.Steps.{every}
 use Rattle.tabled_select.specs.Walks.{Hops, HopsIfAny, HopsOver, hops_left}
-
-abbrev head : {B : Type 0} → B → List B → B
-head d [] = d
-head d (y ∷ ys) = y
-
-abbrev tail : {B : Type 0} → List B → List B
-tail [] = []
-tail (y ∷ ys) = ys
 
 some_item : {B : Type 0} (y : B) (ys : List B) → y ∷ ys ≡ [] → ⊥
 some_item y ys e = omega (arith, ap length e)
@@ -87,7 +79,7 @@ module _ {S A B : Type 0} (steps : S → Option A → S → Type 0) (v : A → B
       λ x t p.
           let next = at-some all s t x gives p in
           let same = sym next.1 ∙ e in
-          (ap (head y) same, gives-hops ys next.0 t next.2 (ap tail same)),
+          (ap (λ xs. get_or xs 0 y) same, gives-hops ys next.0 t next.2 (ap (drop 1) same)),
     )
 
   -- one whose source is there
