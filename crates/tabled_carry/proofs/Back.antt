@@ -1,14 +1,5 @@
 -- A map of places and one that leads back.
-use Rattle.std.proofs.Common.{◌≡◌, ℕ, Some, ap, subst, ◌∙◌}
-use Rattle.std.specs.FinMap.{get}
-use Rattle.tabled_grid.specs.Midway.{In}
-use Rattle.tabled_grid.specs.Places.{Places}
-use Rattle.tabled_grid.specs.Fitting.{Fits}
-use Rattle.tabled_grid.specs.Spans.{AreSpanSizes, Rectangle, SpanMap}
-use Rattle.tabled_grid.specs.declared.config.position.Position.{Position}
-use Rattle.tabled_grid.specs.declared.config.size.Size.{Size}
-use Rattle.tabled_carry.specs.Images.{Carries, CarriesAll, HasArea, IsImage, LeadsBack, carried, image}
-use Rattle.tabled_grid.proofs.Fitting.{keep_fitting-all}
+use Rattle.tabled_carry.proofs.Common.{◌∙◌, ◌≡◌, AreSpanSizes, Carries, CarriesAll, Fits, HasArea, In, IsImage, LeadsBack, Places, Position, Rectangle, Size, Some, SpanMap, ap, carried, get, image, keep_fitting-all, subst, ℕ}
 use Rattle.tabled_carry.proofs.RectanglesCarried.{carries_one, image_fits, image_is, image_one, takes_one}
 
 module _ (there back : Places) (leads : LeadsBack there back) where

@@ -1,16 +1,6 @@
 -- What is carried along fits the new table.
-use Rattle.std.proofs.Common.{◌≡◌, ℕ, false, List, [], ◌∷◌, Some, refl, sym, ap, subst, ◌∙◌, arith, length}
-use Rattle.std.specs.FinMap.{empty, empty_of_len, len-entries, from_entries, get, entries, entries-from_sorted, from_sorted}
-use Rattle.std.specs.List.{filter}
-use Rattle.tabled_grid.specs.Midway.{In}
-use Rattle.tabled_grid.specs.Places.{Places}
-use Rattle.tabled_grid.specs.Fitting.{Fits, fitting, keep_fitting}
-use Rattle.tabled_grid.specs.Spans.{AreSpanSizes, Rectangle, SpanMap, position_cmp}
-use Rattle.tabled_grid.specs.declared.config.position.Position.{Position}
-use Rattle.tabled_carry.specs.Images.{Carries, HasArea, KeepsPlaces, Takes, carried, images, rectangles}
+use Rattle.tabled_carry.proofs.Common.{[], ◌∙◌, ◌∷◌, ◌≡◌, AreSpanSizes, Carries, Fits, HasArea, In, KeepsPlaces, List, Places, Position, Rectangle, Size, Some, SpanMap, Takes, ap, arith, carried, empty, empty_of_len, entries, entries-from_sorted, false, filter, fitting, from_entries, from_sorted, get, images, keep_fitting, keep_fitting-fits, len-entries, length, position_cmp, rectangles, refl, subst, sym, ℕ}
 use Rattle.tabled_carry.proofs.RectanglesCarried.{carries_one, image_fits, image_is, image_one}
-use Rattle.tabled_grid.proofs.Fitting.{keep_fitting-fits}
-use Rattle.tabled_grid.specs.declared.config.size.Size.{Size}
 
 no_images : (fs : List Rectangle) → filter (λ (f : Rectangle). false) fs ≡ []
 no_images [] = refl

@@ -1,32 +1,8 @@
 -- A list of the images of rectangles, as it grows and once it is sorted.
-use Rattle.std.proofs.Common.{◌≡◌, ℕ, zero, suc, ◌+◌, ◌<◌, ◌≤◌, ◌⊎◌, inl, inr, Bool, true, false, cond, List, [], ◌∷◌, ◌++◌, Some, refl, sym, ap, ap₂, subst, ◌∙◌, add-one, arith, length, get_or, take}
-use Rattle.std.specs.Prelude.{T, ◌&&◌, ◌==◌}
-use Rattle.std.specs.FinMap.{from_sorted, get, get-from_sorted, is_sorted}
-use Rattle.std.specs.FinMap.Entries.{below_all}
-use Rattle.std.specs.List.{AllByRecursion, list_any, sum_by}
-use Rattle.std.specs.List.Sorted.{IsPermutation, IsSortedByKey}
-use Rattle.std.specs.Ordering.{is_lt, ordering_reverse}
-use Rattle.std.specs.declared.cmp.Ordering.{Ordering}
-use Rattle.std.specs.declared.cmp.Ordering.TheVariants.{Less, Equal, Greater}
-use Rattle.std.proofs.lemmas.Bool.{and_from, and_parts, cases_Bool}
-use Rattle.std.proofs.lemmas.List.{take_more}
-use Rattle.std.proofs.lemmas.List.Sorted.{list_any-IsPermutation, sum_by-IsPermutation}
+use Rattle.tabled_carry.proofs.Common.{[], ◌&&◌, ◌++◌, ◌+◌, ◌<◌, ◌==◌, ◌∙◌, ◌∷◌, ◌≡◌, ◌≤◌, ◌⊎◌, AllByRecursion, AreAnchors, Bool, Carries, Earlier, Equal, Fits, Greater, HasArea, In, IsImage, IsPermutation, IsSortedByKey, IsSpanSize, Less, List, Member, Ordering, Places, Position, Rectangle, Size, Some, T, add-one, and_from, and_parts, any-from, any-member, ap, ap₂, arith, below-member, below_all, cases_Bool, cond, earlier, eq-eqb, eqb-true, false, find-member, from_sorted, get, get-from_sorted, get_or, halves, holds-from, image, inl, inr, is_lt, is_sorted, length, list_any, list_any-IsPermutation, member-either, member-left, member-right, ordering_reverse, position_cmp, positions_exact, positions_total, refl, same_place, same_place-self, same_place-true, sized, sorted-find, subst, suc, sum_by, sum_by-IsPermutation, sym, take, take_more, true, zero, ℕ}
 use Rattle.std.proofs.lemmas.List.Sums.{sum_by-append, sum_by-cons}
-use borrow.Author.Tests.{eqb-true, eq-eqb}
-use Rattle.tabled_grid.specs.Entity.{same_place}
-use Rattle.tabled_grid.specs.Midway.{In}
-use Rattle.tabled_grid.specs.Places.{Places}
-use Rattle.tabled_grid.specs.Fitting.{Fits}
-use Rattle.tabled_grid.specs.Spans.{AreAnchors, IsSpanSize, Rectangle, position_cmp, sized}
-use Rattle.tabled_grid.specs.declared.config.position.Position.{Position}
-use Rattle.tabled_grid.specs.declared.config.size.Size.{Size}
-use Rattle.tabled_grid.proofs.PassedAnchors.{Earlier, earlier}
 use Rattle.tabled_grid.proofs.Shifts.{from_earlier}
-use Rattle.tabled_grid.proofs.SpanMaps.{halves, holds-from, same_place-self, same_place-true}
-use Rattle.tabled_grid.proofs.Spans.{positions_exact, positions_total}
-use Rattle.tabled_carry.specs.Images.{Carries, HasArea, IsImage, image}
 use Rattle.tabled_carry.proofs.RectanglesCarried.{carries_more, first_in, image_is, image_one, takes_one, carries_one}
-use Rattle.tabled_grid.proofs.Members.{Member, any-from, any-member, below-member, find-member, member-either, member-left, member-right, sorted-find}
 
 -- how many of an anchor are at a place
 abbrev pub at_place : Position → Rectangle → ℕ

@@ -1,24 +1,6 @@
 -- What fits is what lies inside and shares no cell with another rectangle.
-use Rattle.std.proofs.Common.{◌≡◌, ℕ, ◌⊎◌, inl, inr, Bool, true, false, Some, sym, ap, subst, ◌∙◌}
-use Rattle.std.specs.Prelude.{◌||◌, not}
-use Rattle.std.specs.FinMap.{entries, entries_sorted, get, get-entries, get-from_sorted}
-use Rattle.std.specs.List.{list_all}
-use Rattle.std.proofs.lemmas.Bool.{and_from, and_parts, cases_Bool, not_from_false, or_cases, or_left, or_right}
-use borrow.Author.Tests.{leb-true, le-leb}
-use Rattle.tabled_grid.specs.Anchors.{lies_inside, meets}
-use Rattle.tabled_grid.specs.Entity.{same_place}
-use Rattle.tabled_grid.specs.Fitting.{fits_among, fitting, keep_fitting}
-use Rattle.tabled_grid.specs.Midway.{In}
-use Rattle.tabled_grid.specs.Spans.{AreSpanSizes, Rectangle, SpanMap, position_cmp}
-use Rattle.tabled_grid.specs.declared.config.position.Position.{Position}
-use Rattle.tabled_grid.specs.declared.config.size.Size.{Size}
-use Rattle.tabled_grid.proofs.Fitting.{anchors-fitting, anchors-of}
+use Rattle.tabled_carry.proofs.Common.{◌||◌, ◌∙◌, ◌≡◌, ◌⊎◌, AreSpanSizes, Bool, In, IsFree, Member, Position, Rectangle, Size, Some, SpanMap, all-from, all-member, anchors-fitting, anchors-of, and_from, and_parts, ap, cases_Bool, entries, entries_sorted, false, filter-from, filter-member, find-member, fits_among, fitting, get, get-entries, get-from_sorted, holds-from, holds-true, inl, inr, keep_fitting, le-leb, leb-true, lies_inside, list_all, meets, meets-true, not, not_from_false, or_cases, or_left, or_right, position_cmp, positions_exact, positions_total, same_place, same_place-self, same_place-true, sorted-find, subst, sym, true, ℕ}
 use Rattle.tabled_grid.proofs.FittingAnchors.{shared, sharing}
-use Rattle.tabled_grid.proofs.Members.{Member, all-from, all-member, filter-from, filter-member, find-member, sorted-find}
-use Rattle.tabled_grid.proofs.PassedAnchors.{meets-true}
-use Rattle.tabled_grid.proofs.SpanMaps.{holds-from, holds-true, same_place-self, same_place-true}
-use Rattle.tabled_grid.proofs.Spans.{positions_exact, positions_total}
-use Rattle.tabled_carry.specs.Images.{IsFree}
 
 module _ (m : SpanMap) (rows columns : ℕ) (sizes : AreSpanSizes m) where
   abbrev alone_from : Rectangle → Rectangle → Bool

@@ -1,8 +1,5 @@
 -- A list of rectangles, as their images are written over it.
-use Rattle.std.proofs.Common.{◌≡◌, ℕ, ◌+◌, ◌≤◌, ◌<◌, ◌++◌, [], ◌∷◌, List, arith, get_or, length, set, subst, sym, take, ◌∙◌}
-use Rattle.std.proofs.lemmas.List.{get_or-set_other, length-set, take_more_set}
-use Rattle.tabled_grid.specs.Places.{Places}
-use Rattle.tabled_grid.specs.Spans.{Rectangle}
+use Rattle.tabled_carry.proofs.Common.{[], ◌++◌, ◌+◌, ◌<◌, ◌∙◌, ◌∷◌, ◌≡◌, ◌≤◌, List, Places, Rectangle, arith, get_or, get_or-set_other, length, length-set, set, subst, sym, take, take_more_set, ℕ}
 use Rattle.tabled_carry.proofs.Carrying.{Images}
 
 -- the first ones are looked at, their images stand at the front, and the others are as they were

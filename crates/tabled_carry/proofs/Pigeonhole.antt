@@ -1,12 +1,7 @@
 -- Lists whose members are paired with those of another list, each with one of its own.
-use Rattle.std.proofs.Common.{◌≡◌, ℕ, zero, suc, ◌+◌, ◌*◌, ◌-◌, ◌≤◌, ◌⊎◌, inl, inr, List, [], ◌∷◌, ◌++◌, map, refl, sym, ap, ap₂, subst, ◌∙◌, arith, length}
-use Rattle.std.specs.List.{flat_map, range_with_len}
-use Rattle.std.proofs.lemmas.List.{length-append}
+use Rattle.tabled_carry.proofs.Common.{[], ◌*◌, ◌++◌, ◌+◌, ◌-◌, ◌∙◌, ◌∷◌, ◌≡◌, ◌≤◌, ◌⊎◌, List, Member, Position, ap, ap₂, arith, block, flat_map, flat_map-member, inl, inr, length, length-append, map, map-member, member-either, place, range-member, range_with_len, refl, row_places, subst, suc, sym, zero, ℕ}
 use Rattle.std.proofs.lemmas.List.FromFn.{length-map-range_with_len}
 use Rattle.std.proofs.Math.Nat.{suc-mul, zero-mul}
-use Rattle.tabled_grid.specs.Entity.{block, place, row_places}
-use Rattle.tabled_grid.specs.declared.config.position.Position.{Position}
-use Rattle.tabled_grid.proofs.Members.{Member, flat_map-member, map-member, member-either, range-member}
 
 -- each member stands once
 abbrev pub Once : {A : Type 0} → List A → Type 0

@@ -1,19 +1,6 @@
 -- Merged cells once a row or a column is put in.
-use Rattle.std.proofs.Common.{◌≡◌, ℕ, ◌+◌, ◌≤◌, ◌⊎◌, inl, inr, true, false, cond, List, [], ◌∷◌, Some, refl, arith}
-use Rattle.std.specs.Prelude.{nat_eq, nat_lt}
-use Rattle.std.specs.FinMap.{entries, get}
-use Rattle.std.specs.List.{list_any}
-use Rattle.std.proofs.lemmas.Bool.{cases_Bool, false_from_ne_true}
-use borrow.Author.Tests.{eqb-true, ltb-true}
-use Rattle.tabled_grid.specs.Axis.{line_of}
-use Rattle.tabled_grid.specs.Fitting.{Fits}
-use Rattle.tabled_grid.specs.Shifts.{crosses_line, is_crossed, shifted}
-use Rattle.tabled_grid.specs.Spans.{Rectangle, SpanMap}
-use Rattle.tabled_grid.specs.declared.config.position.Position.{Position}
+use Rattle.tabled_carry.proofs.Common.{[], ◌+◌, ◌∷◌, ◌≡◌, ◌≤◌, ◌⊎◌, Columns, Fits, List, Position, Rectangle, Size, Some, SpanMap, arith, cases_Bool, cond, crosses_line, entries, eqb-true, false, false_from_ne_true, fits_beside, get, inl, inr, is_crossed, line_of, list_any, ltb-true, nat_eq, nat_lt, refl, shifted, true, ℕ}
 use Rattle.tabled_grid.specs.declared.records.axis.Axis.{Axis}
-use Rattle.tabled_grid.specs.declared.records.axis.Axis.TheVariants.{Columns}
-use Rattle.tabled_grid.specs.declared.config.size.Size.{Size}
-use Rattle.tabled_grid.proofs.ShiftedFits.{fits_beside}
 
 none_cross : (axis : Axis) (es : List Rectangle) → list_any (crosses_line axis 0) es ≡ false
 none_cross axis [] = refl

@@ -1,21 +1,5 @@
 -- Rectangles carried along fit the new table, and the map of them is the image.
-use Rattle.std.proofs.Common.{◌≡◌, ℕ, ◌+◌, ◌-◌, ◌<◌, ◌≤◌, ◌⊎◌, inl, inr, Bool, true, false, Option, None, Some, map, refl, sym, ap, ap₂, subst, ◌∙◌, arith}
-use Rattle.std.specs.FinMap.{entries, entries_sorted, get, get-entries, get-from_entries, same_map}
-use Rattle.std.specs.List.{list_all, list_any}
-use Rattle.std.proofs.lemmas.Bool.{and_from, and_parts, cases_lt}
-use Rattle.std.proofs.lemmas.Option.{same_Some}
-use Rattle.tabled_grid.specs.Entity.{block, place, same_place}
-use Rattle.tabled_grid.specs.Midway.{In}
-use Rattle.tabled_grid.specs.Places.{Places}
-use Rattle.tabled_grid.specs.Rectangles.{holds}
-use Rattle.tabled_grid.specs.Fitting.{Fits}
-use Rattle.tabled_grid.specs.Spans.{IsSpanSize, Rectangle, SpanMap, position_cmp, sized}
-use Rattle.tabled_grid.specs.declared.config.position.Position.{Position}
-use Rattle.tabled_grid.specs.declared.config.size.Size.{Size}
-use Rattle.tabled_grid.proofs.SpanMaps.{holds-from, holds-true, same_place-self, same_place-true}
-use Rattle.tabled_grid.proofs.Spans.{positions_exact, positions_total}
-use Rattle.tabled_carry.specs.Images.{Carries, HasArea, IsImage, Takes, alike, carries, cells_in, image, images, old_place_passes, rectangles}
-use Rattle.tabled_grid.proofs.Members.{Member, all-from, all-member, any-from, any-member, block-from, block-member, filter-from, filter-member, find-member, flat_map-from, flat_map-member, map-from, map-member, member-find, sorted-find}
+use Rattle.tabled_carry.proofs.Common.{◌+◌, ◌-◌, ◌<◌, ◌∙◌, ◌≡◌, ◌≤◌, ◌⊎◌, Bool, Carries, Fits, HasArea, In, IsImage, IsSpanSize, Member, None, Option, Places, Position, Rectangle, Size, Some, SpanMap, Takes, alike, all-from, all-member, and_from, and_parts, any-from, any-member, ap, ap₂, arith, block, block-from, block-member, carries, cases_lt, cells_in, entries, entries_sorted, false, filter-from, filter-member, find-member, flat_map-from, flat_map-member, get, get-entries, get-from_entries, holds, holds-from, holds-true, image, images, inl, inr, list_all, list_any, map, map-from, map-member, member-find, old_place_passes, place, position_cmp, positions_exact, positions_total, rectangles, refl, same_Some, same_map, same_place, same_place-self, same_place-true, sized, sorted-find, subst, sym, true, ℕ}
 
 -- the first and the last cell of a rectangle
 abbrev last_of : Rectangle → Position

@@ -1,13 +1,5 @@
 -- Going through the cells of a rectangle, row by row.
-use Rattle.std.proofs.Common.{◌≡◌, ℕ, ◌+◌, ◌*◌, ◌-◌, ◌<◌, ◌≤◌, ◌^◌, ◌⊎◌, inl, inr, sym, ap, ap₂, subst, ◌∙◌, arith, length, max, min}
-use Rattle.std.proofs.lemmas.Bool.{cases_eq}
-use Rattle.tabled_grid.specs.Entity.{place}
-use Rattle.tabled_grid.specs.Midway.{In}
-use Rattle.tabled_grid.specs.Places.{Places}
-use Rattle.tabled_grid.specs.declared.config.position.Position.{Position}
-use Rattle.tabled_grid.specs.Spans.{Rectangle, sized}
-use Rattle.tabled_carry.specs.Corners.{Around, Between}
-use Rattle.tabled_carry.specs.Images.{Carries, HasArea, Takes, cells_in}
+use Rattle.tabled_carry.proofs.Common.{◌*◌, ◌+◌, ◌-◌, ◌<◌, ◌^◌, ◌∙◌, ◌≡◌, ◌≤◌, ◌⊎◌, Around, Between, Carries, HasArea, In, Places, Position, Rectangle, Takes, ap, ap₂, arith, cases_eq, cells_in, inl, inr, length, max, min, place, sized, subst, sym, ℕ}
 use Rattle.tabled_carry.proofs.Pigeonhole.{Once, length-block, once-block, paired}
 use Rattle.tabled_carry.proofs.RectanglesCarried.{cell_from, cell_in, same_cells, takes_one}
 

@@ -1,15 +1,7 @@
 -- Worked rows of carried rectangles.
-use Rattle.std.proofs.Common.{◌≡◌, ℕ, ◌-◌, List, [], ◌∷◌, Some, refl}
-use Rattle.std.specs.Prelude.{length, slice_index_or}
-use Rattle.tabled_grid.specs.Entity.{place}
-use Rattle.tabled_grid.specs.Pieces.{cut_places}
-use Rattle.tabled_grid.specs.Places.{Places}
-use Rattle.tabled_grid.specs.declared.config.position.Position.{Position}
-use Rattle.tabled_grid.specs.declared.records.axis.Axis.TheVariants.{Rows}
+use Rattle.tabled_carry.proofs.Common.{[], ◌-◌, ◌∷◌, ◌≡◌, List, Places, Position, Rectangle, Rows, Some, cut_places, fitting, images, place, refl, sized, slice_index_or, ℕ}
+use Rattle.std.specs.Prelude.{length}
 use Rattle.tabled_grid.specs.declared.records.piece_order.PieceOrder.TheVariants.{Concat, Zip}
-use Rattle.tabled_grid.specs.Fitting.{fitting}
-use Rattle.tabled_grid.specs.Spans.{Rectangle, sized}
-use Rattle.tabled_carry.specs.Images.{images}
 
 -- a turn to the left
 abbrev left : ℕ → ℕ → Places

@@ -1,12 +1,5 @@
 -- Lists of what a function gives of one number after another, and what is left of the texts in each column.
-use Rattle.std.proofs.Common.{◌≡◌, ◌∙◌, ◌+◌, ◌<◌, ◌≤◌, ◌⊎◌, ◌++◌, inl, inr, ℕ, suc, zero, List, [], ◌∷◌, refl, sym, ap, ap₂, arith, length, get_or, add-one, append_assoc, append-nil, length-append, Bor, set}
-use Rattle.std.specs.List.{AllByRecursion}
-use Rattle.std.proofs.lemmas.Bool.{cases_lt}
-use Rattle.std.proofs.lemmas.List.{get_or_append_left, get_or_push, get_or-map, get_or-set_other, get_or-set_same, length-map, map-set}
-use Rattle.tabled_draw.specs.Each.{each}
-use Rattle.tabled_grid.proofs.Lists.{all-append}
-use Rattle.std.proofs.lemmas.Bool.Decides.{nat_tests}
-use Rattle.tabled_draw.specs.Rests.{bytes_in}
+use Rattle.tabled_draw.proofs.Common.{[], ◌++◌, ◌+◌, ◌<◌, ◌∙◌, ◌∷◌, ◌≡◌, ◌≤◌, ◌⊎◌, AllByRecursion, Bor, List, add-one, all-append, ap, append-nil, append_assoc, ap₂, arith, bytes_in, cases_lt, each, get_or, get_or-map, get_or-set_other, get_or-set_same, get_or_append_left, get_or_push, inl, inr, length, length-append, length-map, map-set, nat_tests, refl, set, suc, sym, zero, ℕ}
 
 pub each-more : {A : Type 0} (f : ℕ → List A) (n : ℕ) → each (n + 1) f ≡ each n f ++ f n
 each-more f n = ap (λ k. each k f) (add-one n)

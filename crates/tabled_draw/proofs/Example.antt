@@ -1,13 +1,9 @@
 -- The picture of one table, computed.
-use Rattle.std.proofs.Common.{◌≡◌, ℕ, List, [], ◌∷◌, refl}
+use Rattle.tabled_draw.proofs.Common.{[], ◌∷◌, ◌≡◌, Grid, List, Rectangle, picture, place, refl, sized, with_newlines, ℕ}
 use Rattle.std.specs.Prelude.{codes}
 use Rattle.std.specs.Str.{chars}
 use Rattle.tabled_draw.specs.Owners.{owner}
-use Rattle.tabled_draw.specs.Picture.{with_newlines, picture}
 use Rattle.tabled_draw.specs.Sizes.{sizes}
-use Rattle.tabled_grid.specs.Entity.{place}
-use Rattle.tabled_grid.specs.Grid.{Grid}
-use Rattle.tabled_grid.specs.Spans.{Rectangle, sized}
 use Rattle.unicode_width.specs.Width.{char_width}
 
 abbrev table : Grid (List ℕ)

@@ -1,13 +1,8 @@
 -- Merged cells that fit a table, and those that are kept of any.
-use Rattle.std.proofs.Common.{◌≡◌, ◌∙◌, ℕ, List, sym, ap, subst, ap₂}
-use Rattle.std.specs.FinMap.{entries, entries-from_sorted}
+use Rattle.tabled_draw.proofs.Common.{◌∙◌, ◌≡◌, AreSpanSizes, Fits, Grid, HoldsOfPictures, List, Rectangle, SpanMap, ap, ap₂, entries, entries-from_sorted, fitting, keep_fitting, picture_bytes, position_cmp, subst, sym, ℕ}
 use Rattle.tabled_draw.proofs.Owned.{LieWell, fits-well}
-use Rattle.tabled_draw.specs.Overall.{HoldsOfPictures}
-use Rattle.tabled_draw.specs.Picture.{picture_bytes, drawn}
+use Rattle.tabled_draw.specs.Picture.{drawn}
 use Rattle.tabled_grid.proofs.Fitting.{anchors-fitting, anchors-of, keep_fitting-all, keep_fitting-fits}
-use Rattle.tabled_grid.specs.Fitting.{Fits, fitting, keep_fitting}
-use Rattle.tabled_grid.specs.Grid.{Grid}
-use Rattle.tabled_grid.specs.Spans.{AreSpanSizes, Rectangle, SpanMap, position_cmp}
 use Rattle.tabled_grid.proofs.SortedAnchors.{anchors-of}
 
 -- the merged cells that are kept are those that fit

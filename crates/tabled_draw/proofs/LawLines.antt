@@ -1,25 +1,10 @@
 -- A line of a picture, from its left edge to its right one.
-use Rattle.std.proofs.Common.{◌≡◌, ◌≢◌, ◌∙◌, ◌+◌, ◌-◌, ◌<◌, ◌≤◌, ◌⊎◌, ◌++◌, inl, inr, ℕ, Bool, true, false, cond, suc, zero, List, [], ◌∷◌, Option, Some, refl, sym, ap, ap₂, subst, arith, get_or, replicate, add-one, add-zero, eqb, append_assoc, append-nil, ◌&&◌, unwrap_or, eq-eqb, ne_eqb}
-use Rattle.std.proofs.lemmas.Bool.{false_from_ne_true, and_from, cases_Bool, cases_lt, cond-true, cond-false, false≢true}
-use Rattle.std.proofs.lemmas.List.Sums.{sum_by-append, sum_by-cons}
-use Rattle.std.proofs.Math.Bool.{and-false}
+use Rattle.tabled_draw.proofs.Common.{[], ◌&&◌, ◌++◌, ◌+◌, ◌-◌, ◌<◌, ◌∙◌, ◌∷◌, ◌≡◌, ◌≢◌, ◌≤◌, ◌⊎◌, Bool, Columns, Grid, List, Option, Rectangle, Some, StandsIn, add-one, add-zero, and-false, and_from, ap, append-nil, append_assoc, ap₂, arith, border_stretch, cases_Bool, cases_lt, common_steps, cond, cond-false, cond-true, each, eq-eqb, eqb, false, false_from_ne_true, false≢true, get_or, inl, inr, is_one, left, lines_shown, nat_tests, ne_eqb, picture_line, place, refl, replicate, room, same_place-self, shows, shows_in, subst, suc, sum_by-append, sum_by-cons, sym, text_of_cell, text_width, top, true, unwrap_or, widest, widths, zero, ℕ}
 use Rattle.tabled_draw.proofs.Each.{split-each}
 use Rattle.tabled_draw.proofs.Owned.{LieWell, Owns, owner-both, owner-left, owner-owns, owner-some}
 use Rattle.tabled_draw.proofs.Sizes.{length-sizes, line-least, room-end, room-enough, start-next}
-use Rattle.tabled_draw.specs.Each.{each}
-use Rattle.tabled_draw.specs.Owners.{is_one, owner}
-use Rattle.tabled_draw.specs.Picture.{left, picture_line, shows, shows_in, border_stretch, top}
-use Rattle.tabled_draw.specs.Sizes.{room, text_of_cell, widths}
-use Rattle.tabled_draw.specs.Standing.{StandsIn}
-use Rattle.tabled_draw.specs.Texts.{text_width, lines_shown, widest}
-use Rattle.tabled_grid.proofs.SpanMaps.{same_place-self}
-use Rattle.tabled_grid.specs.Entity.{place}
-use Rattle.tabled_grid.specs.Grid.{Grid}
-use Rattle.tabled_grid.specs.declared.records.axis.Axis.TheVariants.{Columns}
-use Rattle.tabled_grid.specs.Spans.{Rectangle}
+use Rattle.tabled_draw.specs.Owners.{owner}
 use Rattle.unicode_width.specs.Width.{char_width}
-use Rattle.std.proofs.lemmas.Bool.Decides.{nat_tests}
-use Rattle.std.proofs.lemmas.Grind.{common_steps}
 
 -- ---- the columns of characters
 

@@ -1,36 +1,14 @@
 -- The lines of a picture, and what stands in them.
-use Rattle.std.specs.List.{sum, sum_by, AllByRecursion, list_any}
-use Rattle.std.proofs.Common.{take_all, ◌≡◌, ◌≢◌, ◌∙◌, ◌+◌, ◌-◌, ◌<◌, ◌≤◌, ◌⊎◌, ◌++◌, inl, inr, ℕ, Bool, true, false, cond, suc, zero, List, [], ◌∷◌, Some, refl, sym, ap, ap₂, subst, arith, length, get_or, replicate, add-one, add-zero, append_assoc, length-append, Option, None, map, ◌&&◌, ◌==◌, ◌||◌, not, chars}
-use borrow.Author.Tests.{ne_eqb, eq-eqb, le-leb, lt-ltb}
-use Rattle.std.proofs.lemmas.List.Sums.{sum_by-cons}
-use Rattle.tabled_grid.specs.Entity.{place, same_place}
-use Rattle.std.proofs.lemmas.Bool.{and_from, cases_eq, cases_lt, cond-false, false≢true, eqb-false, ltb-false}
-use Rattle.std.proofs.lemmas.List.{get_or_append_left, get_or-append-add}
+use Rattle.tabled_draw.proofs.Common.{[], ◌&&◌, ◌++◌, ◌+◌, ◌-◌, ◌<◌, ◌==◌, ◌||◌, ◌∙◌, ◌∷◌, ◌≡◌, ◌≢◌, ◌≤◌, ◌⊎◌, AllByRecursion, AreEquallyWide, AreNoControls, Bool, Columns, Grid, IsInside, IsNoControl, IsSeen, List, Member, None, Option, Position, Rectangle, Rows, ShowsTexts, Size, Some, StandBetween, StandsAt, StandsIn, add-one, add-zero, all-append, and_from, any-from, ap, append_assoc, ap₂, arith, border_stretch, cases_eq, cases_lt, common_steps, cond, cond-false, each, eqb-false, false, false≢true, get_or, get_or-append-add, get_or_append_left, heights, holds, holds-from, inl, inner_height, inner_width, inr, is_amid, is_hidden_in, is_in_range, is_joined_above, is_joined_around, is_joined_beside, le-leb, left, length, length-append, lines_of_row, lines_shown, list_any, lt-ltb, ltb-false, map, nat_tests, not, owner_in, padded, picture, picture_line, place, refl, replicate, room, same_place, same_place-apart, shown_character, shown_line, shows, shows_in, sized, subst, suc, sum, sum_by, sum_by-cons, sym, take_all, text_line, text_of_cell, text_width, top, true, widest, widths, zero, ℕ}
+use Rattle.std.proofs.Common.{chars}
+use borrow.Author.Tests.{ne_eqb, eq-eqb}
 use Rattle.tabled_draw.proofs.Each.{all-each, get-singles, length-singles, split-each}
 use Rattle.tabled_draw.proofs.LawLines.{cell-stands, columns-append, columns-blank, line-wide, dashes-stand, edge-stands}
 use Rattle.tabled_draw.proofs.Owned.{LieWell, LiesIn, Owned, owned, owner-inside, owner-lies, owner-owns, Inside, Owns, owner-some}
 use Rattle.tabled_draw.proofs.Owned.Owned.{alone, held}
 use Rattle.tabled_draw.proofs.Sizes.{line-least, room-end, length-sizes, room-enough, start-next}
-use Rattle.tabled_draw.specs.Each.{each}
-use Rattle.tabled_draw.specs.Owners.{owner, owner_in}
-use Rattle.tabled_draw.specs.Picture.{left, picture_line, lines_of_row, picture, shows, top, shows_in, border_stretch}
-use Rattle.tabled_draw.specs.Sizes.{heights, room, text_of_cell, widths}
-use Rattle.tabled_draw.specs.Overall.{AreEquallyWide, AreNoControls, IsNoControl}
-use Rattle.tabled_draw.specs.Standing.{IsSeen, ShowsTexts, StandsAt, StandsIn, inner_height, inner_width, padded, text_line, StandBetween, is_amid, is_in_range, is_joined_above, is_joined_around, is_joined_beside}
-use Rattle.tabled_draw.specs.Texts.{text_width, lines_shown, widest, shown_character, shown_line}
-use Rattle.tabled_grid.proofs.Members.{Member, any-from}
-use Rattle.tabled_grid.proofs.SpanMaps.{same_place-apart, holds-from}
+use Rattle.tabled_draw.specs.Owners.{owner}
 use Rattle.tabled_grid.proofs.Geometry.{cases_place}
-use Rattle.tabled_grid.proofs.Lists.{all-append}
-use Rattle.tabled_grid.specs.Anchors.{is_hidden_in}
-use Rattle.tabled_grid.specs.Grid.{Grid, IsInside}
-use Rattle.tabled_grid.specs.Rectangles.{holds}
-use Rattle.tabled_grid.specs.declared.config.position.Position.{Position}
-use Rattle.tabled_grid.specs.declared.records.axis.Axis.TheVariants.{Columns, Rows}
-use Rattle.tabled_grid.specs.Spans.{Rectangle, sized}
-use Rattle.std.proofs.lemmas.Bool.Decides.{nat_tests}
-use Rattle.std.proofs.lemmas.Grind.{common_steps}
-use Rattle.tabled_grid.specs.declared.config.size.Size.{Size}
 
 -- what no other merged cell holds owns itself
 pub owner-self : (es : List Rectangle) (p : Position) → is_hidden_in es p ≡ false → (owner_in es p).0 ≡ p

@@ -1,4 +1,5 @@
 pub mod Before
+pub mod Common
 pub mod Each
 pub mod Example
 pub mod Fitting

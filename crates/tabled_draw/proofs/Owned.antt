@@ -1,25 +1,11 @@
 -- Who owns a place, and which anchors stand before it.
-use Rattle.std.proofs.Common.{◌≡◌, ◌∙◌, ◌+◌, ◌-◌, ◌<◌, ◌≤◌, ◌⊎◌, inl, inr, ℕ, true, false, List, [], ◌∷◌, Option, None, Some, refl, sym, ap, ap₂, subst, arith, length, get_or, ◌≢◌, cond, suc, zero, ◌&&◌, nat_le, nat_lt, T, unwrap_or, get_or-set_same, get_or-set_other, length-set, set}
-use Rattle.std.specs.FinMap.{entries, entries_sorted, get, get-entries, find, is_sorted}
-use Rattle.std.proofs.lemmas.Bool.{false_from_ne_true, cases_Bool, false≢true, cond-true, cond-false}
-use Rattle.std.proofs.lemmas.Option.{none-some, same_Some}
+use Rattle.tabled_draw.proofs.Common.{[], ◌&&◌, ◌+◌, ◌-◌, ◌<◌, ◌∙◌, ◌∷◌, ◌≡◌, ◌≢◌, ◌≤◌, ◌⊎◌, At, Fits, In, IsOwnerRow, List, Member, None, Option, Position, Rectangle, Size, Some, SpanMap, T, ap, ap₂, arith, at, cases_Bool, chosen, common_steps, cond, cond-false, cond-true, count_before, entries, entries_sorted, equal, false, false_from_ne_true, false≢true, find, find-member, found_above, get, get-entries, get_or, halves, holds, holds-from, holds-true, inl, inr, is_before, is_held_by, is_one, is_sorted, length, length-set, nat_le, nat_lt, nat_tests, none-some, owner_in, place, position_cmp, refl, same_Some, same_place-true, set, size_at, size_at-none, size_at-some, sized, sorted-find, subst, suc, sym, true, unwrap_or, zero, ℕ}
+use Rattle.std.proofs.Common.{get_or-set_same, get_or-set_other}
 use Rattle.tabled_draw.proofs.Before.{Before, After, after-from, after-next, before-from, before-next, before-none, before-row, cases_before, here-next}
-use Rattle.tabled_draw.specs.OwnerRows.{IsOwnerRow, chosen, is_held_by, count_before, is_before}
-use Rattle.tabled_draw.specs.Owners.{is_one, owner, owner_in}
-use Rattle.tabled_grid.proofs.Members.{Member, find-member, sorted-find}
-use Rattle.tabled_grid.proofs.SpanMaps.{holds-true, holds-from, same_place-true, size_at-some, size_at-none, At, at, equal, found_above, halves}
+use Rattle.tabled_draw.specs.Owners.{owner}
 use Rattle.tabled_grid.proofs.SpanMaps.At.{none, some}
 use Rattle.tabled_grid.proofs.Spans.{positions_exact, positions_total}
-use Rattle.tabled_grid.specs.Entity.{place}
-use Rattle.tabled_grid.specs.Midway.{In}
-use Rattle.tabled_grid.specs.Rectangles.{holds}
-use Rattle.tabled_grid.specs.Fitting.{Fits}
-use Rattle.tabled_grid.specs.Spans.{SpanMap, size_at, position_cmp, Rectangle, sized}
-use Rattle.tabled_grid.specs.declared.config.position.Position.{Position}
-use Rattle.std.proofs.lemmas.Bool.Decides.{nat_tests}
-use Rattle.std.proofs.lemmas.Grind.{common_steps}
 use Rattle.tabled_grid.proofs.PassedAnchors.{Earlier, earlier}
-use Rattle.tabled_grid.specs.declared.config.size.Size.{Size}
 
 -- an anchor lies in a table
 pub record LiesIn (rows columns : ℕ) (o : Rectangle) : Type 0 where

@@ -1,29 +1,12 @@
 -- A line as it is drawn is the line of the picture; the lines of a row, and those of all rows.
-use Rattle.std.proofs.Common.{◌≡◌, ◌∙◌, ◌+◌, ◌-◌, ◌<◌, ◌≤◌, ◌≢◌, ◌⊎◌, ◌++◌, inl, inr, ℕ, true, false, cond, List, [], ◌∷◌, Option, Some, None, refl, sym, ap, ap₂, arith, eqb, replicate, get_or, Bool, append-nil, length, add-zero, ◌&&◌, eq-eqb, ne_eqb}
-use Rattle.std.specs.FinMap.{entries}
-use Rattle.std.proofs.lemmas.Bool.{and_from, cases_eq, cond-true, cond-false, cases_lt}
-use Rattle.std.proofs.Math.Bool.{and-false}
+use Rattle.tabled_draw.proofs.Common.{[], ◌&&◌, ◌++◌, ◌+◌, ◌-◌, ◌<◌, ◌∙◌, ◌∷◌, ◌≡◌, ◌≢◌, ◌≤◌, ◌⊎◌, AreEdges, AreLeft, Bool, Columns, EndInside, Fits, Grid, IsOwnerRow, List, None, Option, Position, Rectangle, Rows, Some, SpanMap, add-zero, after_line, and-false, and_from, ap, append-nil, ap₂, arith, begins, begun, border_stretch, cases_eq, cases_lt, column, cond, cond-false, cond-true, each, edge, entries, eq-eqb, eqb, false, first_line, get_or, heights, inl, inr, is_one, left, left_of, length, lines_of_row, lines_shown, nat_tests, ne_eqb, owner_in, picture, picture_line, place, refl, replicate, room, same_place, same_place-apart, same_place-self, shows_in, stretches, sym, text_inside, text_of_cell, text_width, top, true, widths, with_newlines, ℕ}
 use Rattle.tabled_draw.proofs.Each.{each-same, each-more}
 use Rattle.tabled_draw.proofs.Sizes.{start-next, length-sizes, room-end}
 use Rattle.tabled_draw.proofs.Owned.{Owns, fits-well, owner-inside, owner-owns, owner-some}
-use Rattle.tabled_draw.specs.Each.{each}
-use Rattle.tabled_draw.specs.Laid.{AreEdges}
-use Rattle.tabled_draw.specs.Lines.{column, drawn_line, edge, first_line, text_inside, stretches, AreLeft, EndInside, after_line, begins, begun, left_of}
-use Rattle.tabled_draw.specs.OwnerRows.{IsOwnerRow}
-use Rattle.tabled_draw.specs.Owners.{is_one, owner, owner_in}
-use Rattle.tabled_draw.specs.Picture.{left, picture_line, shows_in, border_stretch, top, with_newlines, lines_of_row, picture}
-use Rattle.tabled_draw.specs.Sizes.{room, text_of_cell, widths, heights}
-use Rattle.tabled_draw.specs.Texts.{text_width, lines_shown}
-use Rattle.tabled_grid.proofs.SpanMaps.{same_place-self, same_place-apart}
-use Rattle.tabled_grid.specs.Entity.{place, same_place}
-use Rattle.tabled_grid.specs.Grid.{Grid}
-use Rattle.tabled_grid.specs.Fitting.{Fits}
-use Rattle.tabled_grid.specs.Spans.{Rectangle, SpanMap}
-use Rattle.tabled_grid.specs.declared.records.axis.Axis.TheVariants.{Columns, Rows}
-use Rattle.std.proofs.lemmas.Bool.Decides.{nat_tests}
+use Rattle.tabled_draw.specs.Lines.{drawn_line}
+use Rattle.tabled_draw.specs.Owners.{owner}
 use Rattle.std.proofs.lemmas.List.Concat.{flat_map-append}
 use Rattle.tabled_draw.proofs.Shown.{next-line}
-use Rattle.tabled_grid.specs.declared.config.position.Position.{Position}
 
 one-self : (a b : Option Rectangle) → is_one a b ≡ true → is_one a a ≡ true
 one-self a b h1 = grind (arith, nat_tests, same_place-self)

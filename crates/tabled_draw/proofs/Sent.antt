@@ -1,12 +1,7 @@
 -- Bytes that are held, and then sent, and cells that are drawn.
-use Rattle.std.proofs.Common.{◌≡◌, ◌∙◌, ◌++◌, ℕ, true, List, [], Option, None, Some, append-nil, ap, refl, subst, sym, ◌+◌, ◌-◌, ◌<◌, suc, zero, ◌∷◌, ap₂, replicate, encode_utf8_all}
+use Rattle.tabled_draw.proofs.Common.{[], ◌++◌, ◌+◌, ◌-◌, ◌<◌, ◌∙◌, ◌∷◌, ◌≡◌, Draws, GrowsBy, Kept, List, None, Option, Some, ap, append-nil, ap₂, cell, encode_ascii, encode_utf8_all, encodes-append, first_line, refl, replicate, replicate-append-replicate, subst, suc, sym, text_width, true, zero, ℕ}
 use Rattle.std.proofs.KnownBytes.{Appends-nil, Appends-trans}
-use Rattle.std.proofs.lemmas.Str.{encodes-append, encode_ascii}
 use Rattle.std.specs.Io.KnownBytes.{Appends, append_known}
-use Rattle.tabled_draw.specs.Sent.{Draws, GrowsBy, Kept}
-use Rattle.std.proofs.lemmas.List.{replicate-append-replicate}
-use Rattle.tabled_draw.specs.Lines.{cell, first_line}
-use Rattle.tabled_draw.specs.Texts.{text_width}
 
 module _ (a b : Option (List ℕ)) (h i : Kept) where
   pub draws-bytes : (bytes cs : List ℕ) → bytes ≡ encode_utf8_all cs → GrowsBy a h b i bytes → Draws a h b i cs

@@ -1,21 +1,11 @@
 -- Texts, line by line, as they are shown.
-use Rattle.std.proofs.Common.{◌≡◌, ◌∙◌, ◌+◌, ◌<◌, ◌≤◌, ◌⊎◌, ◌++◌, inl, inr, ℕ, suc, false, List, [], ◌∷◌, Option, refl, sym, ap, ap₂, arith, length, get_or, add-one, Bor, ◌-◌, append-nil, append_assoc, encode_utf8, ◌==◌, encode_utf8_all, map, max, not, MatchOption, unwrap_or, drop_of_length-le, IsUtf8}
-use borrow.Author.Tests.{le-leb, lt-ltb, ne_eqb}
-use Rattle.std.specs.List.{after_first, before_first, fold, position_or_len}
-use Rattle.std.proofs.lemmas.Bool.{cases_lt, cond-true}
+use Rattle.tabled_draw.proofs.Common.{[], ◌++◌, ◌+◌, ◌-◌, ◌<◌, ◌==◌, ◌∙◌, ◌∷◌, ◌≡◌, ◌≤◌, ◌⊎◌, ArePlain, Bor, Draws, GrowsBy, IsUtf8, Kept, List, MatchOption, Option, add-one, after_first, after_line, ap, append-nil, append_assoc, ap₂, arith, before_first, cases_lt, chars-IsAscii, chars-nil, chars_past_char, common_steps, cond-true, drop_of_length-le, encode_ascii, encode_utf8, encode_utf8_all, fails_before_first, false, first_line, fold-append, get_or, inl, inr, le-leb, length, lines_shown, lt-ltb, map, map-append, max, nat_tests, not, position_or_len, position_or_len_is, prefix_len-le-length, refl, shown_character, shown_line, slice_split_first, slice_split_none, suc, sum_by-cons, sym, text_width, unwrap_or, widest, ℕ}
+use borrow.Author.Tests.{ne_eqb}
+use Rattle.std.specs.List.{fold}
 use Rattle.std.proofs.lemmas.List.Elements.{All-head, All-tail}
-use Rattle.std.proofs.lemmas.List.Splits.{slice_split_first, slice_split_none}
-use Rattle.std.proofs.lemmas.List.Sums.{fails_before_first, position_or_len_is, prefix_len-le-length, sum_by-cons, fold-append}
-use Rattle.std.proofs.lemmas.Str.{chars-IsAscii, chars-nil, encode_ascii, chars_past_char}
 use Rattle.std.proofs.lemmas.Str.Ascii.{IsAscii-from_all}
 use Rattle.unicode_width.specs.Width.{char_width}
-use Rattle.tabled_draw.specs.Lines.{ArePlain, after_line, first_line}
-use Rattle.tabled_draw.specs.Texts.{text_width, lines_shown, shown_character, shown_line, widest}
-use Rattle.std.proofs.lemmas.Bool.Decides.{nat_tests}
-use Rattle.std.proofs.lemmas.List.{map-append}
 use Rattle.tabled_draw.proofs.Sent.{draws-as, draws-bytes, draws-none, draws-then}
-use Rattle.tabled_draw.specs.Sent.{Draws, GrowsBy, Kept}
-use Rattle.std.proofs.lemmas.Grind.{common_steps}
 
 shown-plain : (b : ℕ) → 31 < b → b < 127 → shown_character b ≡ b
 shown-plain b low high = grind (arith, nat_tests)

@@ -1,36 +1,12 @@
 -- Columns are as wide, and rows as high, as what they show asks.
-use Rattle.std.proofs.Common.{◌≡◌, ◌∙◌, ◌+◌, ◌-◌, ◌<◌, ◌≤◌, inl, inr, ℕ, suc, zero, List, [], ◌∷◌, refl, sym, ap, subst, arith, length, get_or, add-zero, add_assoc, eqb, ◌≢◌, ◌⊎◌, true, false, cond, take_all, Option, Some, take, ap₂, replicate, max, fold, length-set, set, eq-eqb, eqb-true, unwrap_or}
-use Rattle.std.proofs.lemmas.Bool.{and_from, cases_eq, cond-true, cases_Bool, cond-false, false≢true}
-use Rattle.std.proofs.lemmas.List.{get_or-set_same, get_or-set_other, take_more, ext_get_or, get_or-replicate, length-replicate}
-use Rattle.std.proofs.lemmas.List.Sums.{sum_by_more, fold-append}
+use Rattle.tabled_draw.proofs.Common.{[], ◌+◌, ◌-◌, ◌<◌, ◌∙◌, ◌∷◌, ◌≡◌, ◌≢◌, ◌≤◌, ◌⊎◌, AreEdges, AreNoLargerThanAsked, Columns, Fits, Grid, List, Measured, Member, Option, Position, Rectangle, Rows, Size, Some, SpanMap, across, add-zero, add_assoc, and_from, ap, ap₂, arith, asks, cases_Bool, cases_eq, cell_at, common_steps, cond, cond-false, cond-true, count_along, each, ends_in, entries, eq-eqb, eqb, eqb-true, ext_get_or, false, false≢true, fold, fold-append, gap, get_or, get_or-replicate, get_or-set_other, get_or-set_same, grown_for, grown_sizes, inl, inr, is_before, largest, length, length-replicate, length-set, line_of, lines_in, max, nat_tests, own, own_sizes, owner_in, place, place_in, raised, refl, replicate, room, same_place, same_place-self, set, sized, start_of, subst, suc, sum_by_more, sym, take, take_all, take_more, text_of_cell, text_width, true, unwrap_or, widths, zero, ℕ}
 use Rattle.tabled_draw.proofs.Each.{get-singles, length-singles}
 use Rattle.tabled_draw.proofs.Before.{after-next, before-from, before-next, before-none, before-row, cases_before, after-from, here-next}
 use Rattle.tabled_draw.proofs.Owned.{LieWell, LiesIn, Owned, owned, member-at, fits-well}
 use Rattle.tabled_draw.proofs.Owned.Owned.{alone, held}
-use Rattle.tabled_draw.specs.Each.{largest, each}
-use Rattle.tabled_draw.specs.Owners.{owner_in}
-use Rattle.tabled_draw.specs.Sizes.{asks, gap, grown_for, own, own_sizes, room, sizes, start_of, text_of_cell, grown_sizes, widths}
-use Rattle.tabled_draw.specs.Texts.{text_width}
-use Rattle.tabled_grid.proofs.Members.{Member}
-use Rattle.tabled_grid.proofs.SpanMaps.{same_place-self}
+use Rattle.tabled_draw.specs.Sizes.{sizes}
 use Rattle.tabled_grid.proofs.PiecePlaces.{place_is}
-use Rattle.tabled_grid.specs.Along.{count_along}
-use Rattle.tabled_grid.specs.Axis.{across, line_of, lines_in, place_in}
-use Rattle.tabled_grid.specs.Entity.{same_place, place}
-use Rattle.tabled_grid.specs.Grid.{Grid, cell_at}
-use Rattle.tabled_grid.specs.declared.config.position.Position.{Position}
 use Rattle.tabled_grid.specs.declared.records.axis.Axis.{Axis}
-use Rattle.tabled_grid.specs.declared.config.size.Size.{Size}
-use Rattle.tabled_grid.specs.declared.records.axis.Axis.TheVariants.{Rows, Columns}
-use Rattle.tabled_grid.specs.Spans.{Rectangle, sized, SpanMap}
-use Rattle.std.proofs.lemmas.Bool.Decides.{nat_tests}
-use Rattle.std.proofs.lemmas.Grind.{common_steps}
-use Rattle.tabled_draw.specs.Overall.{AreNoLargerThanAsked, ends_in}
-use Rattle.std.specs.FinMap.{entries}
-use Rattle.tabled_grid.specs.Fitting.{Fits}
-use Rattle.tabled_draw.specs.Laid.{AreEdges}
-use Rattle.tabled_draw.specs.Measured.{Measured, raised}
-use Rattle.tabled_draw.specs.OwnerRows.{is_before}
 
 largest-least : (f : ℕ → ℕ) (n i : ℕ) → i < n → f i ≤ largest n f
 largest-least f zero i h = absurd (omega arith)

@@ -1,14 +1,6 @@
 -- Rows that become columns, by their places.
-use Rattle.std.proofs.Common.{◌≡◌, ℕ, ◌<◌, false, cond, eqb, List, Some, refl, sym, ap, ap₂, ◌∙◌, subst, length, arith}
-use Rattle.std.specs.List.{AllByRecursion}
-use Rattle.std.specs.Option.{unwrap_or}
+use Rattle.tabled_grid.proofs.Common.{◌<◌, ◌∙◌, ◌≡◌, AllByRecursion, FillsThrough, Grid, IsEven, IsInside, List, Position, Some, TakesOnce, ap, ap₂, arith, cond, eqb, false, length, ne_eqb, place, refl, subst, sym, transposed, transposed_rows, turned_places, unwrap_or, ℕ}
 use Rattle.std.specs.Prelude.{Option}
-use Rattle.std.proofs.lemmas.Bool.{ne_eqb}
-use Rattle.tabled_grid.specs.Bulk.{transposed, transposed_rows, turned_places}
-use Rattle.tabled_grid.specs.Entity.{place}
-use Rattle.tabled_grid.specs.Grid.{Grid, IsEven, IsInside}
-use Rattle.tabled_grid.specs.Places.{FillsThrough, TakesOnce}
-use Rattle.tabled_grid.specs.declared.config.position.Position.{Position}
 use Rattle.tabled_grid.proofs.Transposed.{at-transposed, length-transposed, same_rows, wide-transposed}
 
 abbrev grid : {A : Type 0} → ℕ → ℕ → List (List A) → Grid A

@@ -1,15 +1,5 @@
 -- Columns of blanks added after the last column, and taken away again.
-use Rattle.std.proofs.Common.{◌≡◌, ℕ, suc, ◌+◌, List, [], ◌∷◌, ◌++◌, Bool, true, false, cond, eqb, refl, sym, ap, ap₂, ◌∙◌, map, take, length, arith}
-use Rattle.std.specs.List.{AllByRecursion, AllZip, insert, zip}
-use Rattle.std.proofs.lemmas.Bool.{eqb-true}
-use Rattle.std.proofs.lemmas.List.{append-nil, append_assoc, length-append, nil_from_length, take_at}
-use Rattle.std.proofs.lemmas.List.Edits.{insert_end}
-use Rattle.tabled_grid.specs.Along.{first_along}
-use Rattle.tabled_grid.specs.Bulk.{AddsColumns}
-use Rattle.tabled_grid.specs.Grid.{Grid, IsEven}
-use Rattle.tabled_grid.specs.Moves.{AddsBlanks}
-use Rattle.tabled_grid.specs.Resized.{InsertsColumn}
-use Rattle.tabled_grid.specs.declared.records.axis.Axis.TheVariants.{Columns}
+use Rattle.tabled_grid.proofs.Common.{[], ◌++◌, ◌+◌, ◌∙◌, ◌∷◌, ◌≡◌, AddsBlanks, AddsColumns, AllByRecursion, AllZip, Bool, Columns, Grid, InsertsColumn, IsEven, List, ap, append-nil, append_assoc, ap₂, arith, cond, eqb, eqb-true, false, first_along, insert, insert_end, length, length-append, map, nil_from_length, refl, suc, sym, take, take_at, true, zip, ℕ}
 use Rattle.tabled_grid.proofs.Blanks.{blanks-push}
 use Rattle.tabled_grid.proofs.Resized.{wide_if}
 

@@ -1,20 +1,7 @@
 -- Lines of blanks after the last line.
-use Rattle.std.proofs.Common.{◌≡◌, ℕ, zero, suc, ◌+◌, ◌-◌, ◌<◌, ◌≤◌, Bool, List, [], ◌∷◌, ◌++◌, Some, refl, ap, ◌∙◌, cond, length, get_or, arith}
-use Rattle.std.specs.Prelude.{slice_get}
-use Rattle.std.specs.List.{AllByRecursion, AllZip}
-use Rattle.std.proofs.lemmas.Bool.{ne_eqb}
-use Rattle.std.proofs.lemmas.List.{get_or_append_left, get_or-append_right}
-use Rattle.std.proofs.lemmas.List.Elements.{All-from_recursion}
-use Rattle.tabled_grid.specs.AddedLines.{AddsLines}
-use Rattle.tabled_grid.specs.Along.{count_along, first_along}
-use Rattle.tabled_grid.specs.Entity.{place}
-use Rattle.tabled_grid.specs.Grid.{Grid, IsEmptyWithoutRows, IsEven, cell_at}
-use Rattle.tabled_grid.specs.Moves.{AddsBlanks}
-use Rattle.tabled_grid.specs.declared.records.axis.Axis.{Axis}
-use Rattle.tabled_grid.specs.declared.records.axis.Axis.TheVariants.{Rows, Columns}
+use Rattle.tabled_grid.proofs.Common.{[], ◌++◌, ◌+◌, ◌-◌, ◌<◌, ◌∙◌, ◌∷◌, ◌≡◌, ◌≤◌, AddsBlanks, AddsLines, All-from_recursion, AllByRecursion, AllZip, Axis, Bool, Columns, Grid, IsEmptyWithoutRows, IsEven, List, Rows, Some, across, ap, arith, cell_at, cond, count_along, first_along, get_or, get_or-append_right, get_or_append_left, length, ne_eqb, place, place_in, refl, slice_get, suc, zero, ℕ}
 use Rattle.tabled_grid.proofs.AddedColumns.{IsEven-adds_columns, columns_taken_back}
 use Rattle.tabled_grid.proofs.AddedRows.{IsEven-adds_rows, rows_taken_back}
-use Rattle.tabled_grid.specs.Axis.{across, place_in}
 
 -- a list read after another one
 pub front_read : {A : Type 0} (xs ys : List A) (j : ℕ) → j < length xs → slice_get (xs ++ ys) j ≡ slice_get xs j

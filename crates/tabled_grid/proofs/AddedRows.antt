@@ -1,16 +1,6 @@
 -- Rows of blanks added below the last row, and taken away again.
-use Rattle.std.proofs.Common.{◌≡◌, ℕ, ◌+◌, List, [], ◌∷◌, ◌++◌, eqb, refl, sym, ap, ap₂, ◌∙◌, subst, length, arith}
-use Rattle.std.specs.List.{AllByRecursion, insert}
-use Rattle.std.proofs.lemmas.Bool.{eqb-true}
-use Rattle.std.proofs.lemmas.List.{append-nil, append_assoc, length-append, length_push, take_at}
-use Rattle.std.proofs.lemmas.List.Edits.{insert_end}
-use Rattle.tabled_grid.specs.Along.{first_along}
-use Rattle.tabled_grid.specs.Bulk.{AddsRows}
-use Rattle.tabled_grid.specs.Grid.{Grid, IsEmptyWithoutRows, IsEven}
-use Rattle.tabled_grid.specs.Resized.{AreBlanks, InsertsRow, with_row}
-use Rattle.tabled_grid.specs.declared.records.axis.Axis.TheVariants.{Rows}
+use Rattle.tabled_grid.proofs.Common.{[], ◌++◌, ◌+◌, ◌∙◌, ◌∷◌, ◌≡◌, AddsRows, AllByRecursion, AreBlanks, Grid, InsertsRow, IsEmptyWithoutRows, IsEven, List, Rows, all-append, ap, append-nil, append_assoc, ap₂, arith, eqb, eqb-true, first_along, insert, insert_end, length, length-append, length_push, refl, subst, sym, take_at, with_row, ℕ}
 use Rattle.tabled_grid.proofs.FirstLines.{either_way}
-use Rattle.tabled_grid.proofs.Lists.{all-append}
 
 abbrev grid : {A : Type 0} → ℕ → ℕ → List (List A) → Grid A
 grid rows columns cells = record { rows = rows; columns = columns; cells = cells }

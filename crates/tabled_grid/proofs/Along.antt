@@ -1,6 +1,5 @@
 -- Changes of each of several lists.
-use Rattle.std.proofs.Common.{◌≡◌, ℕ, List, [], ◌∷◌, refl, ap, ap₂, map, length}
-use Rattle.std.specs.List.{AllByRecursion}
+use Rattle.tabled_grid.proofs.Common.{[], ◌∷◌, ◌≡◌, AllByRecursion, List, ap, ap₂, length, map, refl, ℕ}
 
 -- changes that agree on lists so long agree on lists of such lists
 pub each_agrees : {A : Type 0} (n : ℕ) (f k : List A → List A) → ((xs : List A) → length xs ≡ n → f xs ≡ k xs) → (rows : List (List A)) → AllByRecursion (λ (row : List A). length row ≡ n) rows → map f rows ≡ map k rows

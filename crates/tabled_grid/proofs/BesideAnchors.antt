@@ -1,16 +1,5 @@
 -- Anchors that stand beside a rectangle are passed over.
-use Rattle.std.proofs.Common.{◌≡◌, ℕ, zero, suc, ◌+◌, ◌<◌, ◌≤◌, ◌⊎◌, inl, inr, Bool, true, false, cond, List, [], ◌∷◌, Err, refl, sym, ap, ap₂, subst, ◌∙◌, arith, length, get_or, take, map}
-use Rattle.std.specs.Prelude.{T, not}
-use Rattle.std.specs.FinMap.{is_sorted}
-use Rattle.std.specs.FinMap.Entries.{below_all}
-use Rattle.std.specs.List.{list_all}
-use Rattle.std.specs.List.Sorted.{IsBinarySearchResult}
-use Rattle.std.specs.declared.cmp.Ordering.TheVariants.{Equal, Less}
-use Rattle.std.proofs.lemmas.Bool.{and_from, cases_lt, false_from_ne_true, not_from_false}
-use Rattle.tabled_grid.specs.Anchors.{meets, unless_held}
-use Rattle.tabled_grid.specs.Rectangles.{holds}
-use Rattle.tabled_grid.specs.Spans.{Rectangle, position_cmp, sized}
-use Rattle.tabled_grid.specs.declared.config.position.Position.{Position}
+use Rattle.tabled_grid.proofs.Common.{[], ◌+◌, ◌<◌, ◌∙◌, ◌∷◌, ◌≡◌, ◌≤◌, ◌⊎◌, Bool, Equal, Err, IsBinarySearchResult, Less, List, Position, Rectangle, T, and_from, ap, ap₂, arith, below_all, cases_lt, cond, false, false_from_ne_true, get_or, holds, inl, inr, is_sorted, length, list_all, map, meets, not, not_from_false, position_cmp, refl, sized, subst, suc, sym, take, true, unless_held, zero, ℕ}
 use Rattle.tabled_grid.proofs.Geometry.{In}
 use Rattle.tabled_grid.proofs.PassedAnchors.{Earlier, earlier, meets-true}
 use Rattle.tabled_grid.proofs.SortedEntries.{below_at, searchable}

@@ -1,10 +1,5 @@
 -- Rows and columns of blanks.
-use Rattle.std.proofs.Common.{◌≡◌, ℕ, suc, ◌+◌, ◌≤◌, List, [], ◌∷◌, ◌++◌, refl, ap, ap₂, ◌∙◌, map, length}
-use Rattle.std.specs.List.{AllZip, insert, zip}
-use Rattle.std.proofs.lemmas.List.{length_push}
-use Rattle.tabled_grid.specs.Grid.{Grid, IsEven}
-use Rattle.tabled_grid.specs.Resized.{AreBlanks, InsertsBlank, InsertsRow, InsertsColumn}
-use Rattle.tabled_grid.proofs.Lists.{all-append}
+use Rattle.tabled_grid.proofs.Common.{[], ◌++◌, ◌+◌, ◌∙◌, ◌∷◌, ◌≡◌, ◌≤◌, AllZip, AreBlanks, Grid, InsertsBlank, InsertsColumn, InsertsRow, IsEven, List, all-append, ap, ap₂, insert, length, length_push, map, refl, suc, zip, ℕ}
 use Rattle.tabled_grid.proofs.Resized.{IsEven-with_row, IsEven-with_column}
 
 -- one blank more

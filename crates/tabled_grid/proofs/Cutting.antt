@@ -1,16 +1,5 @@
 -- Lines cut in a store that grows to all new lines.
-use Rattle.std.proofs.Common.{◌≡◌, ℕ, ◌+◌, ◌-◌, ◌*◌, ◌<◌, ◌≤◌, refl, ◌∙◌, arith}
-use Rattle.std.specs.Int.{div_ceil}
-use Rattle.std.proofs.lemmas.Nat.{row_fits}
-use Rattle.tabled_grid.specs.AddedLines.{AddsLines}
-use Rattle.tabled_grid.specs.Along.{count_along, first_along}
-use Rattle.tabled_grid.specs.Grid.{Grid, IsEven, IsInside}
-use Rattle.tabled_grid.specs.Axis.{across, place_in}
-use Rattle.tabled_grid.specs.Pieces.{cut_places, nth_piece}
-use Rattle.tabled_grid.specs.Places.{FillsThrough}
-use Rattle.tabled_grid.specs.Resized.{with_cells_swapped}
-use Rattle.tabled_grid.specs.declared.records.axis.Axis.{Axis}
-use Rattle.tabled_grid.specs.declared.records.piece_order.PieceOrder.{PieceOrder}
+use Rattle.tabled_grid.proofs.Common.{◌*◌, ◌+◌, ◌-◌, ◌<◌, ◌∙◌, ◌≡◌, ◌≤◌, AddsLines, Axis, FillsThrough, Grid, IsEven, IsInside, PieceOrder, across, arith, count_along, cut_places, div_ceil, first_along, nth_piece, place_in, refl, row_fits, with_cells_swapped, ℕ}
 use Rattle.tabled_grid.proofs.PiecePlaces.{cut_fills}
 use Rattle.tabled_grid.proofs.PiecesCut.{cut_done, enough_pieces, more_lines, some_pieces, tall_even, tall_lines, tall_width}
 use Rattle.tabled_grid.proofs.PiecesPut.{MovesPieces, piece_number, place_is_in, puts_all, puts_more, puts_none, puts_piece, same_across, same_count, source, source_in}

@@ -1,6 +1,5 @@
 -- Cells of a square swapped across the diagonal, row by row.
-use Rattle.std.proofs.Common.{◌≡◌, ℕ, ◌+◌, ◌<◌, ◌≤◌, ◌≢◌, ◌⊎◌, inl, inr, refl, ◌∙◌, arith}
-use Rattle.std.proofs.lemmas.Bool.{cases_eq, cases_lt}
+use Rattle.tabled_grid.proofs.Common.{◌+◌, ◌<◌, ◌∙◌, ◌≡◌, ◌≢◌, ◌≤◌, ◌⊎◌, arith, cases_eq, cases_lt, inl, inr, refl, ℕ}
 use Rattle.tabled_grid.proofs.SwappedCells.{Swaps}
 
 -- of a square, the cells before a place of its upper half, row by row, have changed places with those across the diagonal

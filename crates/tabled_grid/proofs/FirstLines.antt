@@ -1,14 +1,6 @@
 -- The first lines of a grid.
-use Rattle.std.proofs.Common.{◌≡◌, ℕ, zero, suc, ◌-◌, ◌≤◌, Bool, true, false, cond, eqb, List, refl, sym, ap₂, ◌∙◌, map, take, length, arith}
-use Rattle.std.specs.List.{remove}
-use Rattle.std.proofs.lemmas.Bool.{eqb-true, ne_eqb}
-use Rattle.std.proofs.lemmas.List.{append-nil, map-id, take_all, drop_all, take-take, length-map, length-take, length-take-le, nil_from_length}
-use Rattle.tabled_grid.specs.Along.{count_along, first_along, without_line}
-use Rattle.tabled_grid.specs.Grid.{Grid, IsEmptyWithoutRows, IsEven}
-use Rattle.tabled_grid.specs.declared.records.axis.Axis.{Axis}
-use Rattle.tabled_grid.specs.declared.records.axis.Axis.TheVariants.{Rows, Columns}
+use Rattle.tabled_grid.proofs.Common.{◌-◌, ◌∙◌, ◌≡◌, ◌≤◌, Axis, Bool, Columns, Grid, IsEmptyWithoutRows, IsEven, List, Rows, all-map, all-take, append-nil, ap₂, arith, cond, count_along, drop_all, eqb, eqb-true, false, first_along, length, length-map, length-take, length-take-le, map, map-id, ne_eqb, nil_from_length, refl, remove, suc, sym, take, take-take, take_all, true, without_line, zero, ℕ}
 use Rattle.tabled_grid.proofs.Along.{each_after, each_agrees, each_same}
-use Rattle.tabled_grid.proofs.Lists.{all-map, all-take}
 use Rattle.tabled_grid.proofs.Resized.{wide_if}
 
 -- without the last of its first ones

@@ -1,23 +1,10 @@
 -- What is left once the rectangles that do not fit have gone.
-use Rattle.std.proofs.Common.{◌≡◌, ℕ, ◌+◌, ◌≤◌, ◌⊎◌, inl, inr, true, false, List, Option, None, Some, refl, sym, ap, subst, ◌∙◌}
-use Rattle.std.specs.Prelude.{◌||◌, not}
-use Rattle.std.specs.FinMap.{entries, from_sorted, get, get-from_sorted, same_map}
-use Rattle.std.specs.List.{list_all}
-use Rattle.std.proofs.lemmas.List.Elements.{All-filter, All-from_recursion, recursion_from_All}
-use Rattle.std.proofs.lemmas.Bool.{and_from, and_parts, cases_Bool, or_cases, or_left, or_right, not_from_false}
-use borrow.Author.Tests.{leb-true, le-leb}
-use Rattle.tabled_grid.specs.Anchors.{lies_inside, meets}
-use Rattle.tabled_grid.specs.Entity.{same_place}
-use Rattle.tabled_grid.specs.Rectangles.{holds}
-use Rattle.tabled_grid.specs.Fitting.{Fits, fits_among, fitting, keep_fitting}
-use Rattle.tabled_grid.specs.Spans.{AreAnchors, AreSpanSizes, IsSpanSize, Rectangle, SpanMap, position_cmp}
-use Rattle.tabled_grid.specs.declared.config.position.Position.{Position}
+use Rattle.tabled_grid.proofs.Common.{◌+◌, ◌||◌, ◌∙◌, ◌≡◌, ◌≤◌, ◌⊎◌, All-filter, All-from_recursion, AreAnchors, AreSpanSizes, Fits, IsSpanSize, List, None, Option, Position, Rectangle, Size, Some, SpanMap, and_from, and_parts, ap, cases_Bool, entries, false, fits_among, fitting, from_sorted, get, get-from_sorted, holds, inl, inr, keep_fitting, le-leb, leb-true, lies_inside, list_all, meets, not, not_from_false, or_cases, or_left, or_right, position_cmp, recursion_from_All, refl, same_map, same_place, subst, sym, true, ℕ}
 use Rattle.tabled_grid.proofs.FittingAnchors.{shared, sharing}
 pub use Rattle.tabled_grid.proofs.SortedAnchors.{anchors-of, from-entries}
 use Rattle.tabled_grid.proofs.PassedAnchors.{meets-true}
 use Rattle.tabled_grid.proofs.SpanMaps.{same_place-self, same_place-true}
 use Rattle.tabled_grid.proofs.Spans.{positions_exact, positions_total, span_sizes}
-use Rattle.tabled_grid.specs.declared.config.size.Size.{Size}
 use Rattle.tabled_grid.proofs.Members.{Member, all-from, all-member, filter-from, filter-member, find-member, sorted-filter, sorted-find}
 
 pub anchors-fitting : (rows columns : ℕ) (es : List Rectangle) → AreAnchors es → AreAnchors (fitting rows columns es)

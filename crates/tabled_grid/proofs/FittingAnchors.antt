@@ -1,25 +1,6 @@
 -- A sorted list of anchors lies well just where its map fits.
-use Rattle.std.proofs.Common.{◌≡◌, ℕ, ◌+◌, ◌≤◌, ◌⊎◌, inl, inr, Bool, true, false, cond, List, [], ◌∷◌, Some, refl, sym, ap, ap₂, subst, ◌∙◌, arith, max}
-use Rattle.std.specs.Prelude.{T, not}
-use Rattle.std.specs.Bool.{Decides}
-use Rattle.std.specs.FinMap.{find, from_sorted, get, get-from_sorted, is_sorted}
-use Rattle.std.specs.FinMap.Entries.{below_all}
-use Rattle.std.specs.List.{AllByRecursion, list_all}
-use Rattle.std.specs.Ordering.{is_eq, is_lt, ordering_reverse}
-use Rattle.std.specs.declared.cmp.Ordering.{Ordering}
-use Rattle.std.specs.declared.cmp.Ordering.TheVariants.{Less, Equal, Greater}
-use Rattle.std.proofs.lemmas.Bool.{and_from, and_parts, cases_Bool, not_from_false, false_from_ne_true}
-use Rattle.std.proofs.lemmas.Cmp.{tied_itself}
-use Rattle.std.proofs.lemmas.Option.{none-some, same_Some}
-use borrow.Author.Tests.{leb-true, le-leb}
-use Rattle.tabled_grid.specs.Entity.{place}
-use Rattle.tabled_grid.specs.Spans.{AreAnchors, IsSpanSize, Rectangle, position_cmp}
-use Rattle.tabled_grid.specs.declared.config.position.Position.{Position}
+use Rattle.tabled_grid.proofs.Common.{[], ◌+◌, ◌∙◌, ◌∷◌, ◌≡◌, ◌≤◌, ◌⊎◌, AllByRecursion, AreAnchors, Bool, Decides, Equal, Fits, Greater, IsSpanSize, Less, List, Ordering, Position, Rectangle, Size, Some, T, and_from, and_parts, ap, ap₂, arith, below_all, cases_Bool, cond, false, false_from_ne_true, find, from_sorted, get, get-from_sorted, holds, inl, inr, is_eq, is_lt, is_sorted, le-leb, leb-true, lie_well, lies_inside, list_all, max, meets, none-some, not, not_from_false, ordering_reverse, place, position_cmp, refl, same_Some, subst, sym, tied_itself, true, ℕ}
 use Rattle.tabled_grid.proofs.Spans.{positions_exact, positions_total, span_sizes}
-use Rattle.tabled_grid.specs.Anchors.{lie_well, lies_inside, meets}
-use Rattle.tabled_grid.specs.Rectangles.{holds}
-use Rattle.tabled_grid.specs.Fitting.{Fits}
-use Rattle.tabled_grid.specs.declared.config.size.Size.{Size}
 use Rattle.tabled_grid.proofs.Geometry.{In}
 use Rattle.tabled_grid.proofs.SpanMaps.{equal, found_above, halves, holds-from, holds-true, less}
 use Rattle.tabled_grid.proofs.Members.{all-member, find-member}

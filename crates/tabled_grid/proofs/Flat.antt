@@ -1,9 +1,5 @@
 -- Rows cut out of one list of cells, and joined again.
-use Rattle.std.proofs.Common.{◌≡◌, ℕ, zero, suc, ◌*◌, List, [], ◌∷◌, ◌++◌, refl, sym, ap, ◌∙◌, length, take, drop, arith}
-use Rattle.std.proofs.lemmas.List.{length-append, length-drop, take-append-drop, take_at, drop_at, nil_from_length}
-use Rattle.tabled_grid.specs.Grid.{Grid, IsEven}
-use Rattle.tabled_grid.specs.Evenness.{AreWide}
-use Rattle.tabled_grid.specs.Flat.{IsFull, chunks, flat_grid, joined}
+use Rattle.tabled_grid.proofs.Common.{[], ◌*◌, ◌++◌, ◌∙◌, ◌∷◌, ◌≡◌, AreWide, Grid, IsEven, IsFull, List, ap, arith, chunks, drop, drop_at, flat_grid, joined, length, length-append, length-drop, nil_from_length, refl, suc, sym, take, take-append-drop, take_at, zero, ℕ}
 
 module _ {A : Type 0} where
   pub joined-chunks : (r c : ℕ) (xs : List A) → length xs ≡ r * c → joined (chunks r c xs) ≡ xs

@@ -1,17 +1,7 @@
 -- A cell of joined rows, by its row and its column.
-use Rattle.std.proofs.Common.{◌≡◌, ℕ, zero, suc, ◌+◌, ◌*◌, ◌-◌, ◌<◌, ◌≤◌, List, [], ◌∷◌, ◌++◌, Some, refl, sym, ap, ◌∙◌, length, get_or, set, arith}
-use Rattle.std.specs.Prelude.{slice_get}
-use Rattle.std.specs.List.{swap}
-use Rattle.std.proofs.lemmas.List.{set-append_left, set-append_right}
-use Rattle.std.proofs.lemmas.List.Edits.{swap_is}
-use Rattle.std.proofs.lemmas.Nat.{mul-add-lt}
-use Rattle.tabled_grid.specs.declared.config.position.Position.{Position}
-use Rattle.tabled_grid.specs.Grid.{Grid, IsEven, IsInside, cell_at, with_cell}
-use Rattle.tabled_grid.specs.Resized.{with_cells_swapped}
+use Rattle.tabled_grid.proofs.Common.{[], ◌*◌, ◌++◌, ◌+◌, ◌-◌, ◌<◌, ◌∙◌, ◌∷◌, ◌≡◌, ◌≤◌, AreWide, Grid, IsEven, IsInside, List, Position, Some, ap, arith, cell_at, get_or, joined, length, mul-add-lt, refl, set, set-append_left, set-append_right, slice_get, suc, swap, swap_is, sym, with_cell, with_cells_swapped, zero, ℕ}
 use Rattle.tabled_grid.proofs.Grids.{IsEven-with_cell}
 use Rattle.tabled_grid.proofs.Swaps.{at}
-use Rattle.tabled_grid.specs.Flat.{joined}
-use Rattle.tabled_grid.specs.Evenness.{AreWide}
 use Rattle.tabled_grid.proofs.Flat.{length-grid}
 
 module _ {A : Type 0} where

@@ -1,21 +1,9 @@
 -- Columns of joined rows swapped and removed, one row after another.
-use Rattle.std.proofs.Common.{◌≡◌, ℕ, zero, suc, ◌+◌, ◌*◌, ◌-◌, ◌<◌, ◌≤◌, List, [], ◌∷◌, ◌++◌, refl, sym, ap, ap₂, ◌∙◌, length, take, drop, map, get_or, set, arith}
-use Rattle.std.specs.List.{swap}
-use Rattle.std.proofs.lemmas.List.{append_assoc, append-nil, length-append, length-drop, length-map, length-take-le, length-set, get_or-set_same, set-set, drop-drop, drop_more, drop_all, take_all, map_more, take-append-drop, take_at}
-use Rattle.std.proofs.lemmas.List.Edits.{swap_is, map_over_more, length-swap}
-use Rattle.std.proofs.lemmas.List.Elements.{All-from_recursion}
-use Rattle.std.proofs.lemmas.Option.{get_or_from_slice_get}
-use Rattle.std.proofs.Math.Nat.{add-mul}
-use Rattle.std.proofs.lemmas.Nat.{mul-add-lt}
-use Rattle.tabled_grid.proofs.Lists.{all-append, all-take, all-drop, all-set, all-map}
+use Rattle.tabled_grid.proofs.Common.{[], ◌*◌, ◌++◌, ◌+◌, ◌-◌, ◌<◌, ◌∙◌, ◌∷◌, ◌≡◌, ◌≤◌, All-from_recursion, AreWide, List, Slid, add-mul, all-append, all-drop, all-map, all-set, all-take, ap, append-nil, append_assoc, ap₂, arith, chunks, drop, drop-drop, drop_all, drop_more, get_or, get_or-set_same, get_or_from_slice_get, joined, length, length-append, length-drop, length-map, length-set, length-swap, length-take-le, length_permutation, map, map_more, map_over_more, mul-add-lt, refl, set, set-set, suc, swap, swap_is, sym, take, take-append-drop, take_all, take_at, zero, ℕ}
 use Rattle.tabled_grid.proofs.Swaps.{at}
-use Rattle.tabled_grid.specs.Flat.{chunks, joined}
-use Rattle.tabled_grid.specs.Moves.{Slid}
-use Rattle.tabled_grid.specs.Evenness.{AreWide}
 use Rattle.tabled_grid.proofs.Flat.{joined-chunks, length-joined}
 use Rattle.tabled_grid.proofs.FlatCells.{set-joined, slice_get-joined}
 use Rattle.tabled_grid.proofs.FlatRows.{joined-append}
-use Rattle.std.proofs.lemmas.List.Sorted.{length_permutation}
 
 module _ {A : Type 0} where
   pub row_long : (c : ℕ) (rows : List (List A)) (i : ℕ) → AreWide c rows → i < length rows → length (get_or rows i []) ≡ c

@@ -1,17 +1,6 @@
 -- Rows in one list of cells, cut into pieces that fill them.
-use Rattle.std.proofs.Common.{◌≡◌, ℕ, ◌+◌, ◌*◌, ◌/◌, ◌%◌, ◌<◌, ◌≤◌, min, List, refl, sym, ap, ◌∙◌, length, arith}
-use Rattle.std.specs.Prelude.{slice_get}
-use Rattle.std.specs.Int.{div_ceil}
-use Rattle.std.proofs.Math.Nat.{div-le_self, mul-le-mul_right}
-use Rattle.std.proofs.lemmas.Nat.{div-add-mod', div_below, mod_below, row_fits}
-use Rattle.tabled_grid.specs.Entity.{place}
-use Rattle.tabled_grid.specs.Flat.{IsFull, flat_grid}
-use Rattle.tabled_grid.specs.Grid.{cell_at}
-use Rattle.tabled_grid.specs.Pieces.{cut_places}
-use Rattle.tabled_grid.specs.Places.{FillsThrough}
-use Rattle.tabled_grid.specs.declared.records.axis.Axis.TheVariants.{Rows}
-use Rattle.tabled_grid.specs.declared.records.piece_order.PieceOrder.TheVariants.{Zip}
-use Rattle.tabled_grid.specs.Evenness.{is_even}
+use Rattle.tabled_grid.proofs.Common.{◌*◌, ◌+◌, ◌/◌, ◌<◌, ◌∙◌, ◌≡◌, ◌≤◌, FillsThrough, IsFull, List, Rows, Zip, ap, arith, cell_at, cut_places, div-add-mod', div-le_self, div_below, div_ceil, flat_grid, is_even, length, min, mod_below, mul-le-mul_right, place, refl, row_fits, slice_get, sym, ℕ}
+use Rattle.std.proofs.Common.{◌%◌}
 use Rattle.tabled_grid.proofs.FlatCells.{cell-joined}
 use Rattle.tabled_grid.proofs.FlatStore.{cells_are}
 use Rattle.tabled_grid.proofs.PiecePlaces.{cut_fills}

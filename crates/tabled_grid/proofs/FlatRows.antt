@@ -1,14 +1,6 @@
 -- Rows of joined rows inserted, swapped and removed.
-use Rattle.std.proofs.Common.{◌≡◌, ℕ, zero, suc, ◌+◌, ◌*◌, ◌<◌, ◌≢◌, List, [], ◌∷◌, ◌++◌, refl, sym, ap, ap₂, ◌∙◌, length, take, drop, get_or, set, arith}
-use Rattle.std.specs.List.{insert, remove, swap}
-use Rattle.std.proofs.lemmas.List.{length-take-le, length-set, take_all, drop_all, take_at, drop_at, take-append-drop, drop_more, set_split, set_at, set-append_left, set_comm, drop-drop}
+use Rattle.tabled_grid.proofs.Common.{[], ◌*◌, ◌++◌, ◌+◌, ◌<◌, ◌∙◌, ◌∷◌, ◌≡◌, ◌≢◌, AreWide, List, all-take, ap, ap₂, arith, drop, drop-drop, drop_all, drop_at, drop_more, get_or, insert, joined, length, length-set, length-take-le, refl, remove, set, set-append_left, set_at, set_comm, set_split, suc, swap, swap_is, sym, take, take-append-add, take-append-drop, take_all, take_at, with_runs_swapped, zero, ℕ}
 use Rattle.std.proofs.lemmas.List.Concat.{flat_map-append}
-use Rattle.std.proofs.lemmas.List.Edits.{swap_is}
-use Rattle.std.proofs.Math.Seq.{take-append-add}
-use Rattle.tabled_grid.proofs.Lists.{all-take}
-use Rattle.tabled_grid.specs.Flat.{joined}
-use Rattle.tabled_grid.specs.Moves.{with_runs_swapped}
-use Rattle.tabled_grid.specs.Evenness.{AreWide}
 
 -- a swap is the same either way round
 pub swap-turned : {A : Type 0} (xs : List A) (i k : ℕ) → i ≢ k → swap xs k i ≡ swap xs i k

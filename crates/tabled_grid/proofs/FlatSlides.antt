@@ -1,10 +1,5 @@
 -- Runs of items that trade places with a gap.
-use Rattle.std.proofs.Common.{◌≡◌, ℕ, ◌+◌, ◌-◌, List, ◌++◌, sym, ap, ap₂, ◌∙◌, subst, length, take, drop, arith, IsPermutation, ◌<◌}
-use Rattle.std.specs.List.{AllByRecursion}
-use Rattle.std.proofs.lemmas.List.{append_assoc, length-append, length-drop, length-take-le, take-append-drop, take_at, drop_at}
-use Rattle.std.proofs.lemmas.List.Elements.{All-from_recursion, recursion_from_All}
-use Rattle.std.proofs.lemmas.List.Sorted.{All-permutation, IsPermutation-append_comm, IsPermutation-refl}
-use Rattle.tabled_grid.specs.Moves.{Slid, SlidBack, with_runs_swapped}
+use Rattle.tabled_grid.proofs.Common.{◌++◌, ◌+◌, ◌-◌, ◌<◌, ◌∙◌, ◌≡◌, All-from_recursion, All-permutation, AllByRecursion, IsPermutation, IsPermutation-append_comm, IsPermutation-refl, List, Slid, SlidBack, ap, append_assoc, ap₂, arith, drop, drop_at, length, length-append, length-drop, length-take-le, recursion_from_All, subst, sym, take, take-append-drop, take_at, with_runs_swapped, ℕ}
 
 module _ {A : Type 0} where
   -- what holds of each item of a gap holds of each that moved

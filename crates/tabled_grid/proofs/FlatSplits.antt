@@ -1,9 +1,5 @@
 -- Joined rows taken apart again.
-use Rattle.std.specs.Global.{Vec}
-use Rattle.std.proofs.Common.{◌≡◌, ℕ, suc, ◌+◌, ◌*◌, ◌-◌, ◌<◌, List, [], ◌∷◌, ◌++◌, sym, ap, ap₂, ◌∙◌, length, take, drop, arith}
-use Rattle.std.proofs.lemmas.List.{append_assoc, length-drop, map_push}
-use Rattle.tabled_grid.specs.Grid.{map_items}
-use Rattle.tabled_grid.specs.Flat.{chunks}
+use Rattle.tabled_grid.proofs.Common.{[], ◌*◌, ◌++◌, ◌+◌, ◌-◌, ◌<◌, ◌∙◌, ◌∷◌, ◌≡◌, List, Vec, ap, append_assoc, ap₂, arith, chunks, drop, length, length-drop, map_items, map_push, suc, sym, take, ℕ}
 
 -- one row more was taken off
 module _ {A : Type 0} (r c i : ℕ) (left : List A) (h : i < r) where

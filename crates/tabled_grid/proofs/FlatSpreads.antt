@@ -1,17 +1,8 @@
 -- Columns of blanks inserted into joined rows, one row after another from the last.
-use Rattle.std.proofs.Common.{◌≡◌, ℕ, ◌+◌, ◌*◌, ◌-◌, ◌<◌, ◌≤◌, List, [], ◌∷◌, ◌++◌, refl, sym, ap, ap₂, ◌∙◌, length, take, drop, get_or, arith}
-use Rattle.std.proofs.Math.Nat.{add-mul}
-use Rattle.std.specs.List.{AllByRecursion, AllZip}
-use Rattle.std.proofs.lemmas.List.{append_assoc, append-nil, length-append, length-drop, length-take-le, drop_all, drop_more, nil_from_length, take-append-drop, take_all, take_more}
-use Rattle.tabled_grid.specs.Resized.{AreBlanks}
-use Rattle.tabled_grid.proofs.Lists.{all-drop, all-take}
-use Rattle.tabled_grid.specs.Flat.{chunks, joined}
-use Rattle.tabled_grid.specs.Moves.{InsertsBlanks, PutsBlanks, SlidBack}
-use Rattle.tabled_grid.specs.Evenness.{AreWide, length-chunks}
+use Rattle.tabled_grid.proofs.Common.{[], ◌*◌, ◌++◌, ◌+◌, ◌-◌, ◌<◌, ◌∙◌, ◌∷◌, ◌≡◌, ◌≤◌, AllByRecursion, AllZip, AreBlanks, AreWide, InsertsBlanks, List, PutsBlanks, SlidBack, add-mul, all-drop, all-take, ap, append-nil, append_assoc, ap₂, arith, chunks, drop, drop_all, drop_more, get_or, joined, length, length-append, length-chunks, length-drop, length-take-le, length_permutation, nil_from_length, refl, sym, take, take-append-drop, take_all, take_more, ℕ}
 use Rattle.tabled_grid.proofs.Flat.{joined-chunks, length-joined}
 use Rattle.tabled_grid.proofs.FlatColumns.{joined-push, row_long}
 use Rattle.tabled_grid.proofs.FlatSlides.{all-moved}
-use Rattle.std.proofs.lemmas.List.Sorted.{length_permutation}
 
 module _ {A : Type 0} (is_blank : A → Type 0) (c j many : ℕ) where
   -- the rows from the m-th on have their blanks at j, and those of the m rows before lie between both

@@ -1,27 +1,11 @@
 -- What one list of cells shows of its grid, cell by cell.
-use Rattle.std.proofs.Common.{◌≡◌, ℕ, suc, ◌+◌, ◌*◌, ◌-◌, ◌<◌, ◌≤◌, ◌≢◌, List, [], ◌∷◌, ◌++◌, Some, ◌⊎◌, inl, inr, refl, sym, ap, ap₂, ◌∙◌, false, eqb, min, max, length, map, take, drop, set, arith}
-use Rattle.std.specs.Prelude.{slice_get}
-use Rattle.std.specs.List.{swap}
-use Rattle.std.proofs.lemmas.Bool.{ne_eqb, cases_lt}
-use Rattle.std.proofs.lemmas.List.{append-nil, drop_all, drop_at, take_all, take_at}
-use Rattle.std.proofs.lemmas.Nat.{mul-add-lt}
-use Rattle.std.proofs.lemmas.Option.{slice_get-get_or}
-use Rattle.tabled_grid.specs.declared.config.position.Position.{Position}
-use Rattle.tabled_grid.specs.Grid.{IsEven, IsInside, cell_at, with_cell}
-use Rattle.tabled_grid.specs.Resized.{AreBlanks, InsertsBlank, InsertsColumn, InsertsRow, with_cells_swapped, with_column, with_columns_swapped, with_row, with_rows_swapped, without_column, without_row}
+use Rattle.tabled_grid.proofs.Common.{[], ◌*◌, ◌++◌, ◌+◌, ◌-◌, ◌<◌, ◌∙◌, ◌∷◌, ◌≡◌, ◌≢◌, ◌≤◌, ◌⊎◌, AddsBlanks, AddsColumns, AddsRows, AreBlanks, Columns, InsertsBlank, InsertsBlanks, InsertsColumn, InsertsRow, IsEven, IsFull, IsInside, List, Position, PutsBlanks, Rows, Some, all-zip-map, ap, append-nil, ap₂, arith, cases_lt, cell_at, chunks, drop, drop_all, drop_at, eqb, false, first_along, flat_grid, inl, inr, is_even, joined, length, length-chunks, map, max, min, mul-add-lt, ne_eqb, refl, set, slice_get, slice_get-get_or, suc, swap, sym, take, take_all, take_at, with_cell, with_cells_swapped, with_column, with_columns_swapped, with_row, with_rows_swapped, with_runs_swapped, without_column, without_row, ℕ}
 use Rattle.tabled_grid.proofs.Blanks.{blank_column}
 use Rattle.tabled_grid.proofs.FirstLines.{IsEven-first}
 use Rattle.tabled_grid.proofs.Grids.{IsEven-with_cell}
 use Rattle.tabled_grid.proofs.Resized.{IsEven-with_cells_swapped, IsEven-with_column, IsEven-with_columns_swapped, IsEven-with_row, IsEven-with_rows_swapped, IsEven-without_column, IsEven-without_row}
-use Rattle.tabled_grid.specs.Along.{first_along}
-use Rattle.tabled_grid.specs.declared.records.axis.Axis.TheVariants.{Columns, Rows}
-use Rattle.tabled_grid.specs.Flat.{IsFull, chunks, flat_grid, joined}
-use Rattle.tabled_grid.specs.Bulk.{AddsColumns, AddsRows}
 use Rattle.tabled_grid.proofs.AddedColumns.{IsEven-adds_columns}
 use Rattle.tabled_grid.proofs.AddedRows.{IsEven-adds_rows}
-use Rattle.tabled_grid.proofs.Lists.{all-zip-map}
-use Rattle.tabled_grid.specs.Moves.{AddsBlanks, InsertsBlanks, PutsBlanks, with_runs_swapped}
-use Rattle.tabled_grid.specs.Evenness.{is_even, length-chunks}
 use Rattle.tabled_grid.proofs.Flat.{full_of, joined-chunks, view_of}
 use Rattle.tabled_grid.proofs.FlatCells.{cell-joined, written-joined, swapped-joined}
 use Rattle.tabled_grid.proofs.FlatColumns.{shorter-last}

@@ -1,11 +1,6 @@
 -- Rectangles given by a size at each place, and what holds in the middle of a span option.
-use Rattle.std.proofs.Common.{◌≡◌, ℕ, ◌+◌, ◌<◌, ◌≤◌, ◌≢◌, ◌⊎◌, inl, inr, sym, ap, ap₂, subst, ◌∙◌, arith}
-use Rattle.std.proofs.lemmas.Bool.{cases_eq, cases_lt}
-use Rattle.tabled_grid.specs.Entity.{place}
-use Rattle.tabled_grid.specs.declared.config.position.Position.{Position}
+use Rattle.tabled_grid.proofs.Common.{◌+◌, ◌<◌, ◌∙◌, ◌≡◌, ◌≢◌, ◌≤◌, ◌⊎◌, Position, Rectangle, Size, ap, ap₂, arith, cases_eq, cases_lt, inl, inr, place, sized, subst, sym, ℕ}
 pub use Rattle.tabled_grid.specs.Midway.{Flat, Hooked, In, Narrow, Sizes, LieWithin}
-use Rattle.tabled_grid.specs.Spans.{Rectangle, sized}
-use Rattle.tabled_grid.specs.declared.config.size.Size.{Size}
 
 -- no rectangle is empty
 pub record Full (s : Sizes) : Type 0 where

@@ -1,16 +1,5 @@
 -- Grids with another cell at a place, and the grids of texts.
-use Rattle.std.proofs.Common.{◌≡◌, ℕ, zero, suc, ◌<◌, ◌≢◌, List, [], ◌∷◌, ◌⊎◌, inl, inr, refl, sym, ap, ap₂, ◌∙◌, map, length, get_or, set, Some, arith}
-use Rattle.std.specs.Prelude.{slice_get}
-use Rattle.std.specs.List.{AllByRecursion}
-use Rattle.std.specs.Option.{option_map}
-use Rattle.std.proofs.lemmas.List.{map-set, length-set, length-map, get_or-set_same, get_or-set_other}
-use Rattle.std.proofs.lemmas.List.Elements.{All-from_recursion}
-use Rattle.std.proofs.lemmas.Option.{slice_get-map, slice_get-get_or}
-use Rattle.std.proofs.lemmas.Bool.{cases_eq}
-use Rattle.std.proofs.Math.ListN.{get_or-map}
-use Rattle.tabled_grid.specs.declared.config.position.Position.{Position}
-use Rattle.tabled_grid.specs.Grid.{Grid, IsEven, IsInside, map_grid, cell_at, with_cell, WritesText}
-use Rattle.tabled_grid.specs.Entity.{place}
+use Rattle.tabled_grid.proofs.Common.{[], ◌<◌, ◌∙◌, ◌∷◌, ◌≡◌, ◌≢◌, ◌⊎◌, All-from_recursion, AllByRecursion, Grid, IsEven, IsInside, List, Position, Some, WritesText, ap, ap₂, arith, cases_eq, cell_at, get_or, get_or-map, get_or-set_other, get_or-set_same, inl, inr, length, length-map, length-set, map, map-set, map_grid, option_map, place, refl, set, slice_get, slice_get-get_or, slice_get-map, suc, sym, with_cell, zero, ℕ}
 
 -- what f gives of a grid with another cell
 pub map_grid-with_cell : {A B : Type 0} (f : A → B) (g : Grid A) (p : Position) (x : A) → map_grid f (with_cell g p x) ≡ with_cell (map_grid f g) p (f x)

@@ -1,23 +1,6 @@
 -- How many anchors hide a place, and how that follows the map.
-use Rattle.std.proofs.Common.{◌≡◌, ℕ, ◌+◌, ◌*◌, ◌<◌, ◌≤◌, ◌≢◌, ◌⊎◌, inl, inr, Bool, true, false, cond, List, [], ◌∷◌, Some, None, Option, refl, sym, ap, ap₂, subst, ◌∙◌, length, take, get_or, replicate, arith}
-use Rattle.std.specs.Prelude.{T, ◌||◌, ◌^◌, nat_lt, not}
-use Rattle.std.specs.FinMap.{entries, entries-from_sorted, entries_sorted, find, from_sorted, get, get-entries, get-from_sorted, is_sorted, same_map}
-use Rattle.std.specs.FinMap.Entries.{below_all, find-where_key, is_sorted-where_key, where_key}
-use Rattle.std.specs.List.{AllByRecursion, count_by, list_any}
-use Rattle.std.specs.Option.{unwrap_or}
-use Rattle.std.specs.declared.cmp.Ordering.TheVariants.{Equal, Less}
-use Rattle.std.specs.Ordering.{eq_by_cmp, is_eq}
-use Rattle.std.proofs.lemmas.Bool.{cases_Bool, cases_lt, false_from_ne_true}
-use Rattle.std.proofs.lemmas.Cmp.{tied_itself}
+use Rattle.tabled_grid.proofs.Common.{[], ◌*◌, ◌+◌, ◌<◌, ◌^◌, ◌||◌, ◌∙◌, ◌∷◌, ◌≡◌, ◌≢◌, ◌≤◌, ◌⊎◌, AllByRecursion, Bool, Equal, IsNumbered, Less, List, None, Option, Position, Rectangle, Size, Some, SpanMap, Stepped, Steps, T, ap, ap₂, arith, below_all, beyond, cases_Bool, cases_lt, cond, count_by, entries, entries-from_sorted, entries_sorted, eq_by_cmp, false, false_from_ne_true, find, find-where_key, from_sorted, get, get-entries, get-from_sorted, get_or, hiders_in, hiders_of, hides, inl, inr, is_eq, is_hidden, is_sorted, is_sorted-where_key, length, list_any, lt-ltb, mul-le-mul_right, nat_lt, not, place, position_cmp, refl, replicate, same_map, size_at, sized, subst, sym, table, take, tied_itself, true, unwrap_or, where_key, with_size, ℕ}
 use Rattle.std.proofs.lemmas.List.Sums.{count_by_more_no, count_by_more_yes, sum_by-cons, sum_by-take-le}
-use Rattle.std.proofs.Math.Nat.{mul-le-mul_right}
-use borrow.Author.Tests.{lt-ltb}
-use Rattle.tabled_grid.specs.Covers.{IsNumbered, Stepped, Steps, beyond, hiders_in, hiders_of, hides, table}
-use Rattle.tabled_grid.specs.Entity.{place}
-use Rattle.tabled_grid.specs.Hidden.{is_hidden}
-use Rattle.tabled_grid.specs.Spans.{Rectangle, SpanMap, position_cmp, size_at, sized, with_size}
-use Rattle.tabled_grid.specs.declared.config.position.Position.{Position}
-use Rattle.tabled_grid.specs.declared.config.size.Size.{Size}
 use Rattle.tabled_grid.proofs.PassedAnchors.{Earlier, earlier}
 use Rattle.tabled_grid.proofs.Spans.{positions_exact, positions_total}
 use Rattle.tabled_grid.proofs.SpanMaps.{equal, found_above, halves, less, size_at-with_size, with_size-other}

@@ -5,6 +5,7 @@ pub mod AddedRows
 pub mod Along
 pub mod BesideAnchors
 pub mod Blanks
+pub mod Common
 pub mod Cutting
 pub mod Diagonal
 pub mod FirstLines

@@ -1,12 +1,6 @@
 -- What a function gives of each cell of a grid whose rows and columns were changed.
-use Rattle.std.proofs.Common.{◌≡◌, ℕ, List, [], ◌∷◌, Option, None, Some, refl, sym, ap, ap₂, ◌∙◌, map, length, replicate}
-use Rattle.std.specs.List.{AllByRecursion, insert, remove, swap, zip}
-use Rattle.std.specs.Option.{option_map}
-use Rattle.tabled_grid.specs.declared.config.position.Position.{Position}
-use Rattle.tabled_grid.specs.Grid.{Grid, cell_at, map_grid}
-use Rattle.tabled_grid.specs.Resized.{AreBlanks, InsertsRow, InsertsColumn, with_row, with_column, with_rows_swapped, with_columns_swapped, with_cell_if, with_cells_swapped, without_row, without_column}
+use Rattle.tabled_grid.proofs.Common.{[], ◌∙◌, ◌∷◌, ◌≡◌, AllByRecursion, AreBlanks, Grid, InsertsColumn, InsertsRow, List, None, Option, Position, Some, ap, ap₂, cell_at, insert, length, map, map-insert, map-remove, map-swap, map_grid, option_map, refl, remove, replicate, swap, sym, with_cell_if, with_cells_swapped, with_column, with_columns_swapped, with_row, with_rows_swapped, without_column, without_row, zip, ℕ}
 use Rattle.tabled_grid.proofs.Grids.{cell_at-map_grid, map_grid-with_cell}
-use Rattle.tabled_grid.proofs.Lists.{map-insert, map-remove, map-swap}
 
 -- two maps, one after the other, that agree at each member with two others
 pub maps_agree : {A B C D : Type 0} (f : B → D) (g : A → B) (k : C → D) (h : A → C) → ((x : A) → f (g x) ≡ k (h x)) → (xs : List A) → map f (map g xs) ≡ map k (map h xs)

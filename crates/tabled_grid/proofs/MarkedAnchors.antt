@@ -1,18 +1,6 @@
 -- Anchors that are marked where another holds them, from the last to the first, and what is left of them.
-use Rattle.std.proofs.Common.{◌≡◌, ℕ, suc, ◌+◌, ◌<◌, inl, inr, Bool, true, false, cond, List, [], ◌∷◌, ◌++◌, refl, sym, ap, ap₂, subst, ◌∙◌, arith, length, get_or, take, drop, map, append_assoc}
-use Rattle.std.specs.Prelude.{T, ◌&&◌, ◌||◌, nat_lt, not}
-use Rattle.std.specs.FinMap.{is_sorted}
-use Rattle.std.specs.FinMap.Entries.{below_all}
-use Rattle.std.specs.List.{AllByRecursion, filter}
-use Rattle.std.specs.Ordering.{is_lt}
-use Rattle.std.proofs.lemmas.Bool.{false_from_ne_true}
-use Rattle.std.proofs.lemmas.List.{drop_at, drop_more, get_or_append_left, get_or-take, length-take, take_at, take_more}
-use borrow.Author.Tests.{lt-ltb}
-use Rattle.tabled_grid.specs.Spans.{IsSpanSize, Rectangle, position_cmp, sized}
-use Rattle.tabled_grid.specs.declared.config.position.Position.{Position}
-use Rattle.tabled_grid.specs.Anchors.{dropped, is_hidden_in, marked, unless_held}
-use Rattle.tabled_grid.specs.Rectangles.{holds}
-use Rattle.tabled_grid.specs.Entity.{same_place}
+use Rattle.tabled_grid.proofs.Common.{[], ◌&&◌, ◌++◌, ◌+◌, ◌<◌, ◌||◌, ◌∙◌, ◌∷◌, ◌≡◌, AllByRecursion, Bool, IsSpanSize, List, Position, Rectangle, T, ap, ap₂, arith, below_all, cond, drop, drop_at, drop_more, dropped, false, false_from_ne_true, filter, get_or, get_or-take, get_or_append_left, holds, inl, inr, is_hidden_in, is_lt, is_sorted, length, length-take, lt-ltb, map, marked, nat_lt, not, position_cmp, refl, same_place, sized, subst, suc, sym, take, take_at, take_more, true, unless_held, ℕ}
+use Rattle.std.proofs.Common.{append_assoc}
 use Rattle.tabled_grid.proofs.Geometry.{In}
 use Rattle.tabled_grid.proofs.SpanMaps.{both, halves, holds-true, less, same_place-self}
 use Rattle.tabled_grid.proofs.PassedAnchors.{Earlier, earlier, places_apart}

@@ -1,18 +1,5 @@
 -- What stands in a list.
-use Rattle.std.proofs.Common.{◌≡◌, ℕ, zero, suc, ◌+◌, ◌-◌, ◌<◌, ◌≤◌, ◌⊎◌, inl, inr, Bool, true, false, cond, List, [], ◌∷◌, ◌++◌, map, Some, refl, sym, ap, ap₂, subst, ◌∙◌, arith}
-use Rattle.std.specs.Prelude.{T}
-use Rattle.std.specs.FinMap.{IsAntisymmetric, find, is_sorted}
-use Rattle.std.specs.FinMap.Entries.{below_all}
-use Rattle.std.specs.List.{filter, flat_map, list_all, list_any, range_with_len}
-use Rattle.std.specs.Cmp.{IsTotalOrder}
-use Rattle.std.specs.Ordering.{is_eq, is_lt, ordering_reverse}
-use Rattle.std.specs.declared.cmp.Ordering.{Ordering}
-use Rattle.std.specs.declared.cmp.Ordering.TheVariants.{Less, Greater}
-use Rattle.std.proofs.lemmas.Bool.{and_from, and_parts, cases_Bool, cases_eq, or_cases, or_left, or_right}
-use Rattle.std.proofs.lemmas.Cmp.{tied_itself}
-use Rattle.std.proofs.lemmas.Option.{none-some, same_Some}
-use Rattle.tabled_grid.specs.Entity.{block, place, row_places}
-use Rattle.tabled_grid.specs.declared.config.position.Position.{Position}
+use Rattle.tabled_grid.proofs.Common.{[], ◌++◌, ◌+◌, ◌-◌, ◌<◌, ◌∙◌, ◌∷◌, ◌≡◌, ◌≤◌, ◌⊎◌, Bool, Greater, IsAntisymmetric, IsTotalOrder, Less, List, Ordering, Position, Some, T, and_from, and_parts, ap, ap₂, arith, below_all, block, cases_Bool, cases_eq, cond, false, filter, find, flat_map, inl, inr, is_eq, is_lt, is_sorted, list_all, list_any, map, none-some, or_cases, or_left, or_right, ordering_reverse, place, range_with_len, refl, row_places, same_Some, subst, suc, sym, tied_itself, true, zero, ℕ}
 use Rattle.tabled_grid.proofs.SpanMaps.{both, equal, halves, less}
 
 abbrev pub Member : {A : Type 0} → A → List A → Type 0

@@ -1,24 +1,8 @@
 -- Sorted anchors and sorted sizes, merged from the front.
-use Rattle.std.proofs.Common.{◌≡◌, ◌<◌, ◌≤◌, ◌+◌, ℕ, length, drop, get_or, ◌⊎◌, arith, inl, inr, Bool, true, false, cond, List, [], ◌∷◌, ◌++◌, refl, sym, ap, subst, ◌∙◌}
-use Rattle.std.specs.Prelude.{T, not, ◌&&◌, ◌==◌}
-use Rattle.std.specs.declared.cmp.Ordering.{Ordering}
-use Rattle.std.specs.declared.cmp.Ordering.TheVariants.{Less, Equal, Greater}
-use Rattle.std.specs.Ordering.{eq_by_cmp, is_eq, is_lt, ordering_reverse}
-use Rattle.std.specs.FinMap.{from_sorted, is_sorted}
-use Rattle.std.specs.FinMap.Entries.{below_all, by_order, put, where_key}
-use Rattle.std.specs.List.{AllByRecursion}
-use Rattle.std.proofs.lemmas.Bool.{cases_Bool, cases_lt, and_from}
-use Rattle.std.proofs.lemmas.List.{append_assoc, drop_more}
-use Rattle.std.proofs.Math.ListN.{drop_of_length-le}
-use Rattle.std.proofs.Math.Seq.{drop-cons}
-use borrow.Author.Tests.{eq-eqb}
+use Rattle.tabled_grid.proofs.Common.{[], ◌&&◌, ◌++◌, ◌+◌, ◌<◌, ◌==◌, ◌∙◌, ◌∷◌, ◌≡◌, ◌≤◌, ◌⊎◌, AllByRecursion, AreAnchors, Bool, Equal, Greater, IsSizeAt, IsSpanSize, Less, List, Ordering, Position, Rectangle, Size, T, anchor_of, and_from, ap, append_assoc, arith, below_all, by_order, cases_Bool, cases_lt, cond, drop, drop-cons, drop_more, drop_of_length-le, eq-eqb, eq_by_cmp, false, from_sorted, get_or, inl, inr, is_eq, is_lt, is_sorted, length, not, ordering_reverse, position_cmp, put, refl, subst, sym, true, where_key, with_size, with_size_in, with_sizes, with_sizes_in, without_first_at, ℕ}
 use Rattle.tabled_grid.proofs.Spans.{Makes, positions_exact, positions_total, with_anchor, without_anchor}
 use Rattle.tabled_grid.proofs.SortedEntries.{above, is_less}
 use Rattle.tabled_grid.proofs.SpanMaps.{both, halves, less}
-use Rattle.tabled_grid.specs.Anchors.{anchor_of, with_size_in, with_sizes_in, without_first_at}
-use Rattle.tabled_grid.specs.Spans.{AreAnchors, IsSizeAt, IsSpanSize, Rectangle, position_cmp, with_size, with_sizes}
-use Rattle.tabled_grid.specs.declared.config.position.Position.{Position}
-use Rattle.tabled_grid.specs.declared.config.size.Size.{Size}
 
 is_one : Rectangle → Bool
 is_one c = (c.1.height == 1) && (c.1.width == 1)

@@ -1,21 +1,8 @@
 -- Anchors that are marked where another's rectangle meets theirs, from the first to the last, and what is left without them.
-use Rattle.std.proofs.Common.{◌≡◌, ℕ, zero, suc, ◌+◌, ◌-◌, ◌<◌, ◌≤◌, Bool, true, false, cond, List, [], ◌∷◌, ◌++◌, refl, sym, ap, ap₂, subst, ◌∙◌, arith, length, get_or, take, drop, set, map, replicate, append_assoc, length-append}
-use Rattle.std.specs.Prelude.{T, ◌&&◌, ◌||◌, nat_lt, not}
-use Rattle.std.specs.FinMap.{is_sorted}
-use Rattle.std.specs.FinMap.Entries.{below_all}
-use Rattle.std.specs.List.{filter, list_all, list_any}
-use Rattle.std.specs.declared.cmp.Ordering.TheVariants.{Less}
-use Rattle.std.proofs.lemmas.Bool.{and_parts, and_right, not-true, or_right}
-use Rattle.std.proofs.lemmas.List.{append-nil, drop-drop, drop-set-lt, drop_all, drop_at, drop_more, get_or_default, length-drop, length-replicate, length-take, take-append-drop, take_all, take_at, take_more, take_more_set}
-use Rattle.std.proofs.lemmas.List.Elements.{filter_more}
+use Rattle.tabled_grid.proofs.Common.{[], ◌&&◌, ◌++◌, ◌+◌, ◌-◌, ◌<◌, ◌||◌, ◌∙◌, ◌∷◌, ◌≡◌, ◌≤◌, Bool, Less, List, Position, Rectangle, T, and_parts, and_right, ap, append-nil, ap₂, arith, below_all, cond, drop, drop-drop, drop-set-lt, drop_all, drop_at, drop_more, false, filter, filter_more, fits_among, get_or, get_or_default, is_sorted, length, length-drop, length-replicate, length-take, lies_inside, list_all, list_any, map, meets, nat_lt, not, not-true, or_right, position_cmp, refl, replicate, same_place, set, subst, suc, sym, take, take-add, take-append-drop, take_all, take_at, take_more, take_more_set, true, with_met, zero, ℕ}
+use Rattle.std.proofs.Common.{append_assoc, length-append}
 use Rattle.std.proofs.lemmas.List.Folds.{list_all-append, list_any_more}
-use Rattle.std.proofs.Math.Seq.{take-add}
 use borrow.Rule.Slice.PartMut.{post_of, put_mid}
-use Rattle.tabled_grid.specs.Anchors.{lies_inside, meets}
-use Rattle.tabled_grid.specs.Entity.{same_place}
-use Rattle.tabled_grid.specs.Fitting.{fits_among, with_met}
-use Rattle.tabled_grid.specs.Spans.{Rectangle, position_cmp}
-use Rattle.tabled_grid.specs.declared.config.position.Position.{Position}
 use Rattle.tabled_grid.proofs.BesideAnchors.{before}
 use Rattle.tabled_grid.proofs.PassedAnchors.{all_after, apart_over, places_apart, sorted_drop}
 use Rattle.tabled_grid.proofs.SpanMaps.{halves, less, same_place-self}

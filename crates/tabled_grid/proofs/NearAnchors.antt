@@ -1,17 +1,6 @@
 -- Anchors left of a rectangle, of which the nearest in a row stands for the others.
-use Rattle.std.proofs.Common.{◌≡◌, ℕ, zero, suc, ◌+◌, ◌-◌, ◌<◌, ◌≤◌, ◌⊎◌, inl, inr, Bool, true, false, List, [], ◌∷◌, refl, sym, ap, subst, ◌∙◌, arith, length, get_or, take, drop}
-use Rattle.std.specs.Prelude.{T, not}
-use Rattle.std.specs.FinMap.{is_sorted}
-use Rattle.std.specs.FinMap.Entries.{below_all}
-use Rattle.std.specs.List.{AllByRecursion, list_all}
-use Rattle.std.specs.declared.cmp.Ordering.TheVariants.{Less}
-use Rattle.std.proofs.lemmas.Bool.{and_from, and_parts, cases_lt, false_from_ne_true, not_from_false}
-use Rattle.std.proofs.lemmas.List.{drop-drop, drop_more}
-use Rattle.tabled_grid.specs.Anchors.{lie_well, lies_inside, meets}
+use Rattle.tabled_grid.proofs.Common.{[], ◌+◌, ◌-◌, ◌<◌, ◌∙◌, ◌∷◌, ◌≡◌, ◌≤◌, ◌⊎◌, AllByRecursion, AreAnchors, Bool, IsSpanSize, Less, List, Position, Rectangle, T, all-drop, and_from, and_parts, ap, arith, below_all, cases_lt, drop, drop-drop, drop_more, false, false_from_ne_true, get_or, inl, inr, is_sorted, length, lie_well, lies_inside, list_all, meets, not, not_from_false, position_cmp, refl, subst, suc, sym, take, true, zero, ℕ}
 use Rattle.tabled_grid.specs.Apart.{AreApart}
-use Rattle.tabled_grid.specs.Spans.{AreAnchors, IsSpanSize, Rectangle, position_cmp}
-use Rattle.tabled_grid.specs.declared.config.position.Position.{Position}
-use Rattle.tabled_grid.proofs.Lists.{all-drop}
 use Rattle.tabled_grid.proofs.PassedAnchors.{Earlier, all_after, apart_sorted, earlier, meets-from, meets-true, sorted_drop}
 use Rattle.tabled_grid.proofs.SpanMaps.{halves, less}
 

@@ -1,21 +1,7 @@
 -- Rows that vectors hold, as a grid of their own.
-use Rattle.std.specs.Global.{Vec}
-use Rattle.std.proofs.Common.{◌≡◌, false, eqb, ℕ, suc, ◌+◌, ◌<◌, ◌≤◌, List, [], ◌∷◌, ◌++◌, Some, refl, sym, ap, ◌∙◌, subst, length, map, take, get_or, set, arith}
-use Rattle.std.specs.Prelude.{slice_get, vec_len}
-use Rattle.std.specs.List.{All, AllByRecursion, AllZip}
-use Rattle.std.specs.Vec.{with_item}
-use Rattle.std.proofs.lemmas.Bool.{ne_eqb}
-use Rattle.std.proofs.lemmas.List.{map-set, length-append, length-map, get_or-map as get_or-map_within}
-use Rattle.std.proofs.lemmas.List.Elements.{All-from_recursion}
-use Rattle.std.proofs.lemmas.Option.{slice_get_read}
-use Rattle.std.proofs.Math.ListN.{get_or-map}
-use Rattle.tabled_grid.specs.declared.config.position.Position.{Position}
-use Rattle.tabled_grid.specs.Grid.{Grid, IsEmptyWithoutRows, IsEven, IsInside, cell_at, grid_of, map_items, width_of, with_cell}
-use Rattle.tabled_grid.specs.Evenness.{no_columns}
-use Rattle.tabled_grid.specs.Along.{first_along}
-use Rattle.tabled_grid.specs.Bulk.{AddsColumns, AddsRows}
-use Rattle.tabled_grid.specs.Resized.{AreBlanks, InsertsBlank, InsertsColumn}
-use Rattle.tabled_grid.specs.declared.records.axis.Axis.TheVariants.{Columns, Rows}
+use Rattle.tabled_grid.proofs.Common.{[], ◌++◌, ◌+◌, ◌<◌, ◌∙◌, ◌∷◌, ◌≡◌, ◌≤◌, AddsColumns, AddsRows, All, All-from_recursion, AllByRecursion, AllZip, AreBlanks, Columns, Grid, InsertsBlank, InsertsColumn, IsEmptyWithoutRows, IsEven, IsInside, List, Position, Rows, Some, Vec, ap, arith, cell_at, eqb, false, first_along, get_or, get_or-map, grid_of, length, length-append, length-map, map, map-set, map_items, ne_eqb, no_columns, refl, set, slice_get, slice_get_read, subst, suc, sym, take, width_of, with_cell, with_item, ℕ}
+use Rattle.std.specs.Prelude.{vec_len}
+use Rattle.std.proofs.lemmas.List.{get_or-map as get_or-map_within}
 use Rattle.tabled_grid.proofs.AddedColumns.{AddsEach, each_tall}
 use Rattle.tabled_grid.proofs.AddedRows.{IsEven-adds_rows}
 use Rattle.tabled_grid.proofs.FirstLines.{IsEven-first, rowless-first}

@@ -1,22 +1,7 @@
 -- Going through sorted anchors from one on, and stopping once they are past its rectangle.
-use Rattle.std.proofs.Common.{◌≡◌, ℕ, zero, suc, ◌+◌, ◌-◌, ◌<◌, ◌≤◌, ◌⊎◌, inl, inr, Bool, true, false, cond, List, [], ◌∷◌, ◌++◌, refl, sym, ap, ap₂, subst, ◌∙◌, arith, length, get_or, take, drop, set, map, append_assoc}
-use Rattle.std.specs.Prelude.{T, ◌&&◌, ◌==◌, nat_le, not}
-use Rattle.std.specs.FinMap.{is_sorted}
-use Rattle.std.specs.List.{list_all}
-use Rattle.std.specs.Ordering.{MatchOrdering, nat_cmp, ordering_then}
-use Rattle.std.specs.declared.cmp.Ordering.{Ordering}
-use Rattle.std.specs.declared.cmp.Ordering.TheVariants.{Less, Equal, Greater}
-use Rattle.std.proofs.lemmas.Bool.{and_from, and_parts, false_from_ne_true, or_cases}
-use Rattle.std.proofs.lemmas.Cmp.{ranked}
-use Rattle.std.proofs.lemmas.List.{append-nil, drop-drop, drop-set-lt, get_or_default, take_more, take_more_set, drop_more, get_or-drop, map-append, map_more, take-append-drop, take_all, length-drop}
-use Rattle.std.proofs.Math.Seq.{take-add}
-use Rattle.std.proofs.lemmas.Grind.{drop_more_same}
-use borrow.Author.Tests.{eqb-true, leb-true, lt-ltb, ltb-true}
-use Rattle.tabled_grid.specs.Spans.{Rectangle, position_cmp, sized}
-use Rattle.tabled_grid.specs.declared.config.position.Position.{Position}
-use Rattle.tabled_grid.specs.Anchors.{is_past, meets, unless_held}
-use Rattle.tabled_grid.specs.Entity.{same_place}
-use Rattle.tabled_grid.specs.Rectangles.{holds}
+use Rattle.tabled_grid.proofs.Common.{[], ◌&&◌, ◌++◌, ◌+◌, ◌-◌, ◌<◌, ◌==◌, ◌∙◌, ◌∷◌, ◌≡◌, ◌≤◌, ◌⊎◌, Bool, Equal, Greater, Less, List, MatchOrdering, Ordering, Position, Rectangle, T, and_from, and_parts, ap, append-nil, ap₂, arith, cond, drop, drop-drop, drop-set-lt, drop_more, drop_more_same, false, false_from_ne_true, get_or, get_or-drop, get_or_default, holds, inl, inr, is_past, is_sorted, leb-true, length, length-drop, list_all, lt-ltb, ltb-true, map, map-append, map_more, meets, nat_cmp, nat_le, not, or_cases, ordering_then, position_cmp, ranked, refl, same_place, set, sized, subst, suc, sym, take, take-add, take-append-drop, take_all, take_more, take_more_set, true, unless_held, zero, ℕ}
+use Rattle.std.proofs.Common.{append_assoc}
+use borrow.Author.Tests.{eqb-true}
 use Rattle.tabled_grid.proofs.Geometry.{In}
 use Rattle.tabled_grid.proofs.SpanMaps.{holds-true, halves, less, same_place-apart}
 

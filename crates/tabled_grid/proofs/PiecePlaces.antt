@@ -1,20 +1,6 @@
 -- Where the cells of pieces come from, by their places.
-use Rattle.std.proofs.Common.{◌≡◌, ℕ, ◌*◌, ◌<◌, Bool, true, false, cond, Option, None, Some, refl, sym, ap, ap₂, ◌∙◌, arith, ◌≤◌}
-use Rattle.std.specs.Prelude.{nat_lt}
-use Rattle.std.specs.Int.{div_ceil}
-use Rattle.std.specs.Option.{IfSome, unwrap_or}
-use Rattle.std.proofs.lemmas.Grind.{div_ceil_times}
-use Rattle.std.proofs.lemmas.Nat.{row_fits}
-use Rattle.std.proofs.lemmas.Bool.{le-ltb, lt-ltb, ltb-false, ltb-true}
-use Rattle.tabled_grid.specs.Along.{count_along}
-use Rattle.tabled_grid.specs.Grid.{Grid, IsInside, cell_at}
-use Rattle.tabled_grid.specs.Axis.{across, count_of, line_of, place_in}
-use Rattle.tabled_grid.specs.Pieces.{cut_places, index_in_line, nth_piece}
-use Rattle.tabled_grid.specs.Places.{FillsThrough, TakesOnce, Within}
-use Rattle.tabled_grid.specs.declared.config.position.Position.{Position}
-use Rattle.tabled_grid.specs.declared.records.axis.Axis.{Axis}
-use Rattle.tabled_grid.specs.declared.records.axis.Axis.TheVariants.{Rows, Columns}
-use Rattle.tabled_grid.specs.declared.records.piece_order.PieceOrder.{PieceOrder}
+use Rattle.tabled_grid.proofs.Common.{◌*◌, ◌<◌, ◌∙◌, ◌≡◌, ◌≤◌, Axis, Bool, Columns, FillsThrough, Grid, IfSome, IsInside, None, Option, PieceOrder, Position, Rows, Some, TakesOnce, Within, across, ap, ap₂, arith, cell_at, cond, count_along, count_of, cut_places, div_ceil, div_ceil_times, false, index_in_line, le-ltb, line_of, ltb-false, nat_lt, nth_piece, place_in, refl, row_fits, sym, true, unwrap_or, ℕ}
+use Rattle.std.proofs.lemmas.Bool.{lt-ltb, ltb-true}
 use Rattle.tabled_grid.proofs.PiecesCut.{ComesFrom, IsCut, enough_pieces, more_lines, some_pieces}
 use Rattle.tabled_grid.proofs.PiecesPut.{inside_of, piece_line, piece_number, source, source_apart}
 

@@ -1,22 +1,6 @@
 -- Lines grown, moved and shortened are the pieces of the old lines.
-use Rattle.std.proofs.Common.{◌≡◌, ℕ, zero, suc, ◌+◌, ◌*◌, ◌<◌, ◌≤◌, Bool, Some, List, [], ◌∷◌, map, take, refl, sym, ap, ◌∙◌, subst, cond, get_or, arith}
-use Rattle.std.specs.Prelude.{slice_get}
-use Rattle.std.specs.Int.{div_ceil}
-use Rattle.std.proofs.lemmas.Bool.{ne_eqb}
-use Rattle.std.proofs.lemmas.Grind.{div_ceil_times}
-use Rattle.std.proofs.lemmas.List.{get_or-take}
-use Rattle.std.proofs.lemmas.Nat.{row_fits}
-use Rattle.std.proofs.Math.Nat.{mul-le-mul_right}
-use Rattle.tabled_grid.specs.AddedLines.{AddsLines}
-use Rattle.tabled_grid.specs.Along.{count_along, first_along}
-use Rattle.tabled_grid.specs.Grid.{Grid, IsEven, cell_at}
-use Rattle.tabled_grid.specs.declared.config.position.Position.{Position}
-use Rattle.tabled_grid.specs.declared.records.axis.Axis.{Axis}
-use Rattle.tabled_grid.specs.declared.records.axis.Axis.TheVariants.{Rows, Columns}
-use Rattle.tabled_grid.specs.declared.records.piece_order.PieceOrder.{PieceOrder}
+use Rattle.tabled_grid.proofs.Common.{[], ◌*◌, ◌+◌, ◌<◌, ◌∙◌, ◌∷◌, ◌≡◌, ◌≤◌, AddsLines, Axis, Bool, Columns, Grid, IsEven, List, PieceOrder, Position, Rows, Some, across, ap, arith, cell_at, cond, count_along, div_ceil, div_ceil_times, first_along, get_or, get_or-take, map, mul-le-mul_right, ne_eqb, nth_piece, place_in, refl, row_fits, slice_get, subst, suc, sym, take, zero, ℕ}
 use Rattle.tabled_grid.proofs.FirstLines.{IsEven-first}
-use Rattle.tabled_grid.specs.Axis.{across, place_in}
-use Rattle.tabled_grid.specs.Pieces.{nth_piece}
 use Rattle.tabled_grid.proofs.AddedLines.{added_across, added_blank, added_count, added_even, added_kept}
 use Rattle.tabled_grid.proofs.PiecesPut.{PutsPieces, piece_line, piece_number, same_across, same_count, source}
 use Rattle.tabled_grid.proofs.Transposed.{slice_get-take}

@@ -1,24 +1,7 @@
 -- Cells swapped to the fronts of the lines that become pieces.
-use Rattle.std.proofs.Common.{◌≡◌, ℕ, ◌+◌, ◌*◌, ◌<◌, ◌≤◌, ◌≢◌, ◌⊎◌, inl, inr, [], Option, None, Some, refl, sym, ap, ap₂, ◌∙◌, get_or, length, arith}
-use Rattle.std.specs.Prelude.{slice_get}
-use Rattle.std.proofs.lemmas.Bool.{cases_eq, cases_lt}
-use Rattle.std.proofs.lemmas.List.Elements.{All-from_recursion}
-use Rattle.std.proofs.lemmas.Option.{slice_get_cases}
-use Rattle.std.proofs.lemmas.Nat.{div-add-mod', div_below, mod_below, row_fits, same_from_place}
-use Rattle.std.proofs.Math.Nat.{div-le_self, mod-le}
-use Rattle.tabled_grid.specs.Along.{count_along}
-use Rattle.tabled_grid.specs.Grid.{Grid, IsEven, IsInside, cell_at}
-use Rattle.tabled_grid.specs.Resized.{with_cell_if, with_cells_swapped}
-use Rattle.tabled_grid.specs.declared.config.position.Position.{Position}
-use Rattle.tabled_grid.specs.declared.records.axis.Axis.{Axis}
-use Rattle.tabled_grid.specs.declared.records.axis.Axis.TheVariants.{Rows, Columns}
+use Rattle.tabled_grid.proofs.Common.{[], ◌*◌, ◌+◌, ◌<◌, ◌∙◌, ◌≡◌, ◌≢◌, ◌≤◌, ◌⊎◌, All-from_recursion, Axis, Columns, Concat, Grid, IsEven, IsInside, IsPiece, IsShapedAs, None, Option, PieceOrder, Position, Rows, Some, Zip, across, ap, ap₂, arith, cases_eq, cases_lt, cell_at, count_along, div-add-mod', div-le_self, div_below, get_or, inl, inr, length, mod-le, mod_below, nth_piece, piece_index, place_in, refl, row_fits, same_from_place, slice_get, slice_get_cases, sym, with_cell_if, with_cells_swapped, ℕ}
 use Rattle.tabled_grid.proofs.Grids.{cell_at-with_cell_other, cell_at-with_cell_same}
 use Rattle.tabled_grid.proofs.Resized.{IsEven-with_cell_if, IsEven-with_cells_swapped}
-use Rattle.tabled_grid.specs.declared.records.piece_order.PieceOrder.{PieceOrder}
-use Rattle.tabled_grid.specs.declared.records.piece_order.PieceOrder.TheVariants.{Concat, Zip}
-use Rattle.tabled_grid.specs.Axis.{across, place_in}
-use Rattle.tabled_grid.specs.Places.{IsShapedAs}
-use Rattle.tabled_grid.specs.Pieces.{IsPiece, nth_piece, piece_index}
 
 -- the place where a cell of the t-th piece comes from
 abbrev pub source : Axis → PieceOrder → ℕ → ℕ → ℕ → ℕ → ℕ → Position

@@ -1,16 +1,9 @@
 -- The places that an entity names, as blocks of places.
-use Rattle.std.proofs.Common.{◌≡◌, ℕ, zero, suc, ◌+◌, ◌-◌, ◌<◌, ◌≤◌, Bool, true, false, cond, List, [], ◌∷◌, ◌++◌, ◌⊎◌, inl, inr, refl, sym, ap, ap₂, ◌∙◌, map, drop, length, get_or, arith}
-use Rattle.std.specs.Prelude.{◌==◌, ◌&&◌}
-use Rattle.std.specs.List.{flat_map, filter, range_with_len, All, AllByRecursion}
-use Rattle.std.proofs.lemmas.Bool.{ne_eqb, eq-eqb}
-use Rattle.std.proofs.lemmas.List.{drop_at, drop_more, get_or_append_left, length-append}
-use Rattle.std.proofs.lemmas.List.Elements.{filter-append, filter_agree, All-nil, All-append, All-map, All-filter, recursion_from_All}
+use Rattle.tabled_grid.proofs.Common.{[], ◌&&◌, ◌++◌, ◌+◌, ◌-◌, ◌<◌, ◌==◌, ◌∙◌, ◌∷◌, ◌≡◌, ◌≤◌, ◌⊎◌, All, All-append, All-filter, All-map, All-nil, AllByRecursion, Bool, List, Position, ap, ap₂, arith, block, cond, drop, drop_at, drop_more, false, filter, filter-append, filter_agree, flat_map, get_or, get_or_append_left, inl, inr, inside, length, length-append, map, names, ne_eqb, place, range_with_len, recursion_from_All, refl, row_places, sub_self, suc, sym, true, zero, ℕ}
+use Rattle.std.proofs.lemmas.Bool.{eq-eqb}
 use Rattle.std.proofs.lemmas.List.FromFn.{length-range_with_len, get_or-range_with_len, length-map-range_with_len, get_or-map-range_with_len}
-use Rattle.std.proofs.Math.Nat.{sub_self}
-use Rattle.tabled_grid.specs.declared.config.position.Position.{Position}
 use Rattle.tabled_grid.specs.declared.config.entity.Entity.{Entity}
 use Rattle.tabled_grid.specs.declared.config.entity.Entity.TheVariants.{Global, Column, Row, Cell}
-use Rattle.tabled_grid.specs.Entity.{place, row_places, block, names, inside}
 
 -- a filter that keeps all
 filter_true : {X : Type 0} (xs : List X) → filter (λ (x : X). true) xs ≡ xs

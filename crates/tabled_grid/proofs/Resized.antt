@@ -1,15 +1,6 @@
 -- Grids with rows and columns inserted, swapped and removed.
-use Rattle.std.proofs.Common.{◌≡◌, ℕ, ◌+◌, ◌-◌, ◌<◌, ◌≤◌, List, [], Option, None, Some, refl, ap, ◌∙◌, Bool, true, false, cond, eqb, map, length, arith}
-use Rattle.std.specs.List.{AllByRecursion, insert, remove, zip}
-use Rattle.std.proofs.lemmas.Bool.{eqb-true}
-use Rattle.std.proofs.lemmas.List.{length-map, nil_from_length}
-use Rattle.std.proofs.lemmas.List.Edits.{length-insert, length-remove, length-swap}
-use Rattle.std.proofs.lemmas.Slice.Zip.{length-zip}
-use Rattle.tabled_grid.specs.declared.config.position.Position.{Position}
-use Rattle.tabled_grid.specs.Grid.{Grid, IsEmptyWithoutRows, IsEven, cell_at}
-use Rattle.tabled_grid.specs.Resized.{with_row, with_column, with_rows_swapped, with_columns_swapped, with_cell_if, with_cells_swapped, without_row, without_column}
+use Rattle.tabled_grid.proofs.Common.{[], ◌+◌, ◌-◌, ◌<◌, ◌∙◌, ◌≡◌, ◌≤◌, AllByRecursion, Bool, Grid, IsEmptyWithoutRows, IsEven, List, None, Option, Position, Some, all-insert, all-map, all-remove, all-swap, all-zip, ap, arith, cell_at, cond, eqb, eqb-true, false, insert, length, length-insert, length-map, length-remove, length-swap, length-zip, map, nil_from_length, refl, remove, true, with_cell_if, with_cells_swapped, with_column, with_columns_swapped, with_row, with_rows_swapped, without_column, without_row, zip, ℕ}
 use Rattle.tabled_grid.proofs.Grids.{IsEven-with_cell}
-use Rattle.tabled_grid.proofs.Lists.{all-insert, all-remove, all-swap, all-zip, all-map}
 
 -- a row is so long
 abbrev IsWide : {A : Type 0} → ℕ → List A → Type 0

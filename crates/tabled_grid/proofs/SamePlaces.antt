@@ -1,11 +1,5 @@
 -- An exchange of equal places changes nothing.
-use Rattle.std.proofs.Common.{◌≡◌, ℕ, List, [], ◌∷◌, Option, None, Some, refl, sym, ap, ap₂, ◌∙◌, map, get_or, set}
-use Rattle.std.specs.List.{swap}
-use Rattle.std.proofs.lemmas.List.{set-get_or, set-set}
-use Rattle.std.proofs.lemmas.Option.{get_or_from_slice_get}
-use Rattle.tabled_grid.specs.declared.config.position.Position.{Position}
-use Rattle.tabled_grid.specs.Grid.{Grid, cell_at}
-use Rattle.tabled_grid.specs.Resized.{with_rows_swapped, with_columns_swapped, with_cell_if, with_cells_swapped}
+use Rattle.tabled_grid.proofs.Common.{[], ◌∙◌, ◌∷◌, ◌≡◌, Grid, List, None, Option, Position, Some, ap, ap₂, cell_at, get_or, get_or_from_slice_get, map, refl, set, set-get_or, set-set, swap, sym, with_cell_if, with_cells_swapped, with_columns_swapped, with_rows_swapped, ℕ}
 
 swap_same : {A : Type 0} (xs : List A) (i : ℕ) → swap xs i i ≡ xs
 swap_same [] i = refl

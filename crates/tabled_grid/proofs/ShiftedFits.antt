@@ -1,21 +1,5 @@
 -- How rectangles lie once a line is put in that none of them crosses.
-use Rattle.std.proofs.Common.{◌≡◌, ℕ, ◌+◌, ◌-◌, ◌<◌, ◌≤◌, ◌≢◌, ◌⊎◌, inl, inr, true, false, cond, List, [], ◌∷◌, None, Some, Option, refl, sym, ap, ap₂, subst, ◌∙◌, arith}
-use Rattle.std.specs.FinMap.{entries, entries_sorted, find, get, get-entries, get-from_sorted}
-use Rattle.std.specs.Ordering.{is_eq}
-use Rattle.std.proofs.lemmas.Bool.{and_from, cases_lt}
-use Rattle.std.proofs.lemmas.Option.{none-some, same_Some}
-use borrow.Author.Tests.{lt-ltb}
-use Rattle.tabled_grid.specs.Entity.{place}
-use Rattle.tabled_grid.specs.Midway.{In}
-use Rattle.tabled_grid.specs.Rectangles.{holds}
-use Rattle.tabled_grid.specs.Fitting.{Fits}
-use Rattle.tabled_grid.specs.Axis.{line_of, lines_in, next_line}
-use Rattle.tabled_grid.specs.Shifts.{crosses_line, is_crossed, shifted, shifted_in, shifted_place}
-use Rattle.tabled_grid.specs.Spans.{AreSpanSizes, Rectangle, SpanMap, position_cmp}
-use Rattle.tabled_grid.specs.declared.config.position.Position.{Position}
-use Rattle.tabled_grid.specs.declared.records.axis.Axis.{Axis}
-use Rattle.tabled_grid.specs.declared.records.axis.Axis.TheVariants.{Rows, Columns}
-use Rattle.tabled_grid.specs.declared.config.size.Size.{Size}
+use Rattle.tabled_grid.proofs.Common.{[], ◌+◌, ◌-◌, ◌<◌, ◌∙◌, ◌∷◌, ◌≡◌, ◌≢◌, ◌≤◌, ◌⊎◌, AreSpanSizes, Axis, Columns, Fits, In, List, None, Option, Position, Rectangle, Rows, Size, Some, SpanMap, and_from, ap, ap₂, arith, cases_lt, cond, crosses_line, entries, entries_sorted, false, find, get, get-entries, get-from_sorted, holds, inl, inr, is_crossed, is_eq, line_of, lines_in, lt-ltb, next_line, none-some, place, position_cmp, refl, same_Some, shifted, shifted_in, shifted_place, subst, sym, true, ℕ}
 use Rattle.tabled_grid.proofs.Geometry.{cases_place}
 use Rattle.tabled_grid.proofs.Shifts.{Comes, comes, moves, sorted_shifted, stays}
 use Rattle.tabled_grid.proofs.SpanMaps.{found-any, holds-from, holds-true, tied, untied}

@@ -1,23 +1,7 @@
 -- Anchors when a line is put in: one after another in a list, and in the map that it makes.
-use Rattle.std.proofs.Common.{◌≡◌, ℕ, zero, suc, ◌+◌, ◌^◌, ◌<◌, ◌≤◌, inl, inr, ◌⊎◌, Bool, true, false, List, [], ◌∷◌, None, Some, Option, refl, sym, ap, ap₂, arith, length, get_or, set, map}
-use Rattle.std.specs.Prelude.{T, nat_lt}
-use Rattle.std.specs.declared.cmp.Ordering.{Ordering}
-use Rattle.std.specs.declared.cmp.Ordering.TheVariants.{Less, Equal, Greater}
-use Rattle.std.specs.FinMap.{is_sorted}
-use Rattle.std.specs.FinMap.Entries.{below_all}
-use Rattle.std.specs.List.{AllByRecursion, filter}
-use Rattle.std.specs.Option.{is_some, unwrap_or}
-use Rattle.std.specs.Ordering.{MatchOrdering, nat_cmp, ordering_then}
-use Rattle.std.proofs.lemmas.Bool.{cases_Bool}
-use Rattle.std.proofs.lemmas.Cmp.{ranked}
-use Rattle.std.proofs.lemmas.Option.{none-some, same_Some}
-use borrow.Author.Tests.{ltb-true, ltb-false}
-use Rattle.tabled_grid.specs.Axis.{line_of, next_line}
-use Rattle.tabled_grid.specs.Shifts.{shifted_in, shifted_place}
-use Rattle.tabled_grid.specs.Spans.{AreAnchors, IsSpanSize, Rectangle, position_cmp}
-use Rattle.tabled_grid.specs.declared.config.position.Position.{Position}
-use Rattle.tabled_grid.specs.declared.records.axis.Axis.{Axis}
-use Rattle.tabled_grid.specs.declared.records.axis.Axis.TheVariants.{Rows, Columns}
+use Rattle.tabled_grid.proofs.Common.{[], ◌+◌, ◌<◌, ◌∷◌, ◌≡◌, ◌≤◌, ◌⊎◌, AllByRecursion, AreAnchors, Axis, Bool, Columns, Equal, Greater, IsSpanSize, Less, List, MatchOrdering, None, Option, Ordering, Position, Rectangle, Rows, Some, T, ap, ap₂, arith, below_all, cases_Bool, false, filter, get_or, inl, inr, is_some, is_sorted, length, line_of, ltb-true, map, nat_cmp, nat_lt, next_line, none-some, ordering_then, position_cmp, ranked, refl, same_Some, set, shifted_in, shifted_place, suc, sym, true, unwrap_or, zero, ℕ}
+use Rattle.std.proofs.Common.{◌^◌}
+use borrow.Author.Tests.{ltb-false}
 use Rattle.tabled_grid.proofs.PassedAnchors.{Earlier, earlier}
 use Rattle.tabled_grid.proofs.SortedEntries.{is_less}
 use Rattle.tabled_grid.proofs.SpanMaps.{both, halves, less}

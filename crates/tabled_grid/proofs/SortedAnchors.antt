@@ -1,18 +1,6 @@
 -- Sorted lists of anchors, and the maps that they make.
-use Rattle.std.proofs.Common.{◌≡◌, inl, inr, Bool, true, List, [], ◌∷◌, refl, sym, ap, ◌∙◌, cond, length, None}
-use Rattle.std.specs.Prelude.{T, ◌&&◌, ◌==◌, not}
-use Rattle.std.specs.FinMap.{entries, entries-from_sorted, entries_sorted, get-entries, from_sorted, get, get-from_sorted, is_sorted, same_map}
-use Rattle.std.specs.FinMap.Entries.{find-where_key, is_sorted-where_key}
-use Rattle.std.specs.List.{AllByRecursion, list_any}
-use Rattle.std.proofs.lemmas.List.Elements.{All-filter, All-from_recursion, recursion_from_All}
-use Rattle.std.proofs.lemmas.List.{nil_from_length}
+use Rattle.tabled_grid.proofs.Common.{[], ◌&&◌, ◌==◌, ◌∙◌, ◌∷◌, ◌≡◌, All-filter, All-from_recursion, AllByRecursion, AreAnchors, AreSpanSizes, Bool, IsSpanSize, List, None, Position, Rectangle, SpanMap, T, ap, cond, drop_hidden, dropped, entries, entries-from_sorted, entries_sorted, find-where_key, from_sorted, get, get-entries, get-from_sorted, holds, inl, inr, is_hidden, is_hidden_in, is_sorted, is_sorted-where_key, length, list_any, nil_from_length, not, position_cmp, recursion_from_All, refl, same_map, same_place, sym, true}
 use borrow.Author.Tests.{eqb-true}
-use Rattle.tabled_grid.specs.Anchors.{dropped, is_hidden_in}
-use Rattle.tabled_grid.specs.Rectangles.{holds}
-use Rattle.tabled_grid.specs.Hidden.{drop_hidden, is_hidden}
-use Rattle.tabled_grid.specs.Entity.{same_place}
-use Rattle.tabled_grid.specs.Spans.{AreAnchors, AreSpanSizes, IsSpanSize, Rectangle, SpanMap, position_cmp}
-use Rattle.tabled_grid.specs.declared.config.position.Position.{Position}
 use Rattle.tabled_grid.proofs.Members.{Member, sorted-find}
 use Rattle.tabled_grid.proofs.SpanMaps.{get-drop_hidden}
 use Rattle.tabled_grid.proofs.Spans.{positions_exact, positions_total}

@@ -1,17 +1,6 @@
 -- Entries whose keys rise: what a binary search finds in them, what an edit leaves, and the maps that they make.
-use Rattle.std.proofs.Common.{◌≡◌, ℕ, zero, suc, ◌<◌, ◌≤◌, Bool, true, false, cond, List, [], ◌∷◌, Some, None, Result, Ok, Err, refl, sym, ap, subst, ◌∙◌, ◌⊎◌, inl, inr, length, get_or, set, arith, add-one}
-use Rattle.std.specs.Prelude.{T, MatchResult, ◌&&◌, not}
-use Rattle.std.specs.List.{AllWithin, insert, remove}
-use Rattle.std.specs.List.Sorted.{IsBinarySearchResult, IsNonDecreasingBy, IsSearchInRange}
-use Rattle.std.specs.declared.cmp.Ordering.{Ordering}
-use Rattle.std.specs.declared.cmp.Ordering.TheVariants.{Less, Equal, Greater}
-use Rattle.std.specs.Ordering.{eq_by_cmp, is_lt, is_eq, ordering_reverse, ordering_index}
-use Rattle.std.specs.Cmp.{IsTotalOrder, alike_right, eq_by_cmp_equiv}
+use Rattle.tabled_grid.proofs.Common.{[], ◌&&◌, ◌<◌, ◌∙◌, ◌∷◌, ◌≡◌, ◌≤◌, ◌⊎◌, AllWithin, Bool, Equal, Err, Greater, IsAntisymmetric, IsBinarySearchResult, IsNonDecreasingBy, IsSearchInRange, IsTotalOrder, Less, List, MatchResult, None, Ok, Ordering, Result, Some, T, add-one, alike_right, ap, arith, below_all, by_order, cases_lt, cond, entries-from_sorted, entries-insert, eq_by_cmp, eq_by_cmp_equiv, false, find, find-where_key, from_sorted, get-from_sorted, get-remove, get_or, inl, inr, insert, is_eq, is_lt, is_sorted, length, not, ordering_index, ordering_reverse, put, refl, remove, same_entries_map, same_map, searchable_from_sorted, set, subst, suc, sym, true, where_key, zero, ℕ}
 use Rattle.std.specs.FinMap as map
-use Rattle.std.specs.FinMap.{IsAntisymmetric, find, is_sorted, from_sorted, get-from_sorted, get-remove, entries-from_sorted, entries-insert, same_entries_map, same_map}
-use Rattle.std.specs.FinMap.Entries.{below_all, by_order, put, where_key, find-where_key}
-use Rattle.std.proofs.lemmas.Bool.{cases_lt}
-use Rattle.std.proofs.lemmas.List.Sorted.{searchable_from_sorted}
 
 -- the two halves of a test, and a test of them
 pub halves : (a b : Bool) → T (a && b) → T a × T b

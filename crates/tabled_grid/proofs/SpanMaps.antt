@@ -1,28 +1,9 @@
 -- What maps of spans have at each place, after each change.
-use Rattle.std.proofs.Common.{◌≡◌, ◌<◌, ◌≤◌, ◌≢◌, ◌⊎◌, inl, inr, Bool, true, false, cond, List, [], ◌∷◌, Some, None, Option, refl, sym, ap, ap₂, subst, ◌∙◌, arith}
-use Rattle.std.specs.Prelude.{T, not, ◌&&◌, ◌==◌}
-use Rattle.std.specs.declared.cmp.Ordering.{Ordering}
-use Rattle.std.specs.declared.cmp.Ordering.TheVariants.{Less, Equal, Greater}
-use Rattle.std.specs.Cmp.{IsTotalOrder}
-use Rattle.std.specs.Ordering.{eq_by_cmp, is_eq, ordering_reverse}
+use Rattle.tabled_grid.proofs.Common.{[], ◌&&◌, ◌<◌, ◌==◌, ◌∙◌, ◌∷◌, ◌≡◌, ◌≢◌, ◌≤◌, ◌⊎◌, AreSpanSizes, Bool, Equal, Greater, IsAntisymmetric, IsSpanSize, IsTotalOrder, Less, List, None, Option, Ordering, Position, Rectangle, Size, Some, SpanMap, T, and_from, and_parts, ap, ap₂, arith, below_all, cases_Bool, cases_lt, cond, cond-false, cond-true, drop_hidden, entries, entries_sorted, eq-eqb, eq_by_cmp, false, false≢true, find, get, get-entries, get-insert, get-remove, get-retain_keys, holds, inl, inr, is_eq, is_hidden, is_sorted, is_visible, le-leb, leb-true, list_any, lt-ltb, ltb-true, none-some, not, not_from_false, not_from_true, or_cases, or_left, or_right, ordering_reverse, place, position_cmp, refl, same_Some, same_place, size_at, sized, subst, sym, tied_itself, true, unwrap_or, with_size}
 use Rattle.std.specs.FinMap as map
-use Rattle.std.specs.FinMap.{IsAntisymmetric, find, get, get-entries, get-insert, get-remove, get-retain_keys, is_sorted, entries, entries_sorted}
-use Rattle.std.specs.FinMap.Entries.{below_all}
-use Rattle.std.specs.List.{list_any}
-use Rattle.std.specs.Option.{unwrap_or}
-use Rattle.std.proofs.lemmas.Bool.{and_parts, and_from, or_cases, or_left, or_right, cases_Bool, cases_lt, not_from_true, not_from_false, cond-true, cond-false, false≢true}
-use Rattle.std.proofs.lemmas.Cmp.{tied_itself}
-use Rattle.std.proofs.lemmas.Option.{none-some, same_Some}
-use borrow.Author.Tests.{leb-true, ltb-true, le-leb, lt-ltb, eqb-true, eq-eqb}
-use Rattle.tabled_grid.specs.Spans.{AreSpanSizes, IsSpanSize, Rectangle, SpanMap, position_cmp, size_at, sized, with_size}
-use Rattle.tabled_grid.specs.Entity.{place}
-use Rattle.tabled_grid.specs.declared.config.position.Position.{Position}
+use borrow.Author.Tests.{eqb-true}
 pub use Rattle.tabled_grid.proofs.SortedEntries.{both, halves, less}
 use Rattle.tabled_grid.proofs.Spans.{positions_exact, positions_total}
-use Rattle.tabled_grid.specs.Rectangles.{holds}
-use Rattle.tabled_grid.specs.Hidden.{drop_hidden, is_hidden, is_visible}
-use Rattle.tabled_grid.specs.Entity.{same_place}
-use Rattle.tabled_grid.specs.declared.config.size.Size.{Size}
 use Rattle.tabled_grid.proofs.Geometry.{Full, In, Visible, cases_place}
 
 pub equal : (o : Ordering) → is_eq o ≡ true → o ≡ Equal

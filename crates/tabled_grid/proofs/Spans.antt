@@ -1,21 +1,7 @@
 -- The order of places, and lists of anchors after an edit.
-use Rattle.std.proofs.Common.{◌≡◌, ℕ, ◌<◌, ◌≤◌, Bool, true, false, cond, List, [], ◌∷◌, Some, Err, sym, ap, subst, ◌∙◌, length, set}
-use Rattle.std.specs.Prelude.{T, not}
-use Rattle.std.specs.declared.cmp.Ordering.TheVariants.{Equal}
-use Rattle.std.specs.Cmp.{IsTotalOrder}
+use Rattle.tabled_grid.proofs.Common.{[], ◌<◌, ◌∙◌, ◌∷◌, ◌≡◌, ◌≤◌, AllByRecursion, AreAnchors, AreSpanSizes, Bool, Equal, Err, HoldsAt, IsAntisymmetric, IsBinarySearchResult, IsSpanSize, IsTotalOrder, List, Position, Rectangle, Size, Some, SpanMap, T, all-insert, all-remove, all-set, ap, cond, eq_by_cmp, false, find, from_sorted, get-from_sorted, insert, is_eq, is_sorted, is_sorted-put, is_sorted-where_key, length, nat_cmp, nat_cmp_total, none-some, not, on_total, position_cmp, put, remove, same_Some, set, subst, sym, then_total, true, where_key, ℕ}
 use Rattle.std.specs.FinMap as map
-use Rattle.std.specs.FinMap.{IsAntisymmetric, find, from_sorted, get-from_sorted, is_sorted}
-use Rattle.std.specs.FinMap.Entries.{is_sorted-put, is_sorted-where_key, put, where_key}
-use Rattle.std.specs.List.{AllByRecursion, HoldsAt, insert, remove}
-use Rattle.std.specs.List.Sorted.{IsBinarySearchResult}
-use Rattle.std.specs.Ordering.{eq_by_cmp, is_eq, nat_cmp}
-use Rattle.std.proofs.lemmas.Cmp.{on_total, then_total, nat_cmp_total}
-use Rattle.std.proofs.lemmas.Option.{none-some, same_Some}
 use Rattle.std.proofs.lemmas.Map.Lookups.{exact_pairs, exact_unsigned}
-use Rattle.tabled_grid.specs.declared.config.position.Position.{Position}
-use Rattle.tabled_grid.specs.Spans.{AreAnchors, AreSpanSizes, IsSpanSize, Rectangle, SpanMap, position_cmp}
-use Rattle.tabled_grid.specs.declared.config.size.Size.{Size}
-use Rattle.tabled_grid.proofs.Lists.{all-insert, all-remove, all-set}
 use Rattle.tabled_grid.proofs.SortedEntries.{map_put, map_without, put_found, put_missed, searchable, without_found, without_missed}
 
 -- places that compare alike are one

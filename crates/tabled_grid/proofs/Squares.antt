@@ -1,13 +1,5 @@
 -- Squares transposed in place, and grids padded to one.
-use Rattle.std.proofs.Common.{◌≡◌, ℕ, ◌+◌, ◌<◌, ◌≤◌, Bool, true, false, cond, eqb, List, Option, None, Some, refl, sym, ap, ◌∙◌, subst, length, arith}
-use Rattle.std.specs.List.{AllByRecursion}
-use Rattle.std.proofs.lemmas.Bool.{eqb-true, ne_eqb}
-use Rattle.tabled_grid.specs.declared.config.position.Position.{Position}
-use Rattle.tabled_grid.specs.Along.{first_along}
-use Rattle.tabled_grid.specs.Bulk.{AddsColumns, AddsRows, cell_in, transposed, transposed_rows}
-use Rattle.tabled_grid.specs.Grid.{Grid, IsEmptyWithoutRows, IsEven, IsInside}
-use Rattle.tabled_grid.specs.Resized.{with_cells_swapped}
-use Rattle.tabled_grid.specs.declared.records.axis.Axis.TheVariants.{Rows, Columns}
+use Rattle.tabled_grid.proofs.Common.{◌+◌, ◌<◌, ◌∙◌, ◌≡◌, ◌≤◌, AddsColumns, AddsRows, AllByRecursion, Bool, Columns, Grid, IsEmptyWithoutRows, IsEven, IsInside, List, None, Option, Position, Rows, Some, ap, arith, cell_in, cond, eqb, eqb-true, false, first_along, length, ne_eqb, refl, subst, sym, transposed, transposed_rows, true, with_cells_swapped, ℕ}
 use Rattle.tabled_grid.proofs.Across.{same_grid}
 use Rattle.tabled_grid.proofs.AddedColumns.{IsEven-adds_columns}
 use Rattle.tabled_grid.proofs.AddedRows.{IsEven-adds_rows}

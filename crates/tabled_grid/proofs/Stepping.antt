@@ -1,13 +1,7 @@
 -- Which cells of a table a step over rows and columns reaches.
-use Rattle.std.proofs.Common.{◌≡◌, ℕ, ◌+◌, ◌<◌, ◌≤◌, ◌⊎◌, inl, inr, true, false, List, refl, sym, ap, ap₂, subst, ◌∙◌, ◌≢◌, get_or, set, min, max, arith}
-use Rattle.std.specs.Prelude.{◌-◌, ◌*◌, ◌%◌, ◌^◌, ◌↔◌, ◌||◌, ◌&&◌, nat_lt}
-use Rattle.std.proofs.lemmas.Bool.{and_parts, and_from, cases_eq, cases_lt, or_cases, or_left, or_right, false_from_ne_true, false≢true, not_from_true, not_from_false}
-use Rattle.std.specs.Cmp.{both_ways}
-use borrow.Author.Tests.{leb-true, ltb-true, le-leb, lt-ltb, eqb-true, eq-eqb}
-use Rattle.tabled_grid.specs.Covers.{Steps, beyond, hides, in_run}
-use Rattle.tabled_grid.specs.Entity.{place, same_place}
-use Rattle.tabled_grid.specs.declared.config.position.Position.{Position}
-use Rattle.tabled_grid.specs.Spans.{Rectangle}
+use Rattle.tabled_grid.proofs.Common.{◌%◌, ◌&&◌, ◌+◌, ◌<◌, ◌^◌, ◌||◌, ◌↔◌, ◌∙◌, ◌≡◌, ◌≢◌, ◌≤◌, ◌⊎◌, List, Position, Rectangle, Steps, and_from, and_parts, ap, ap₂, arith, beyond, both_ways, cases_eq, cases_lt, eq-eqb, false, false_from_ne_true, false≢true, get_or, hides, in_run, inl, inr, le-leb, leb-true, lt-ltb, ltb-true, max, min, nat_lt, not_from_false, not_from_true, or_cases, or_left, or_right, place, refl, same_place, set, subst, sym, true, ℕ}
+use Rattle.std.specs.Prelude.{◌-◌, ◌*◌}
+use borrow.Author.Tests.{eqb-true}
 use Rattle.tabled_grid.proofs.Geometry.{In}
 use Rattle.tabled_grid.proofs.SpanMaps.{holds-from, holds-true, same_place-apart, same_place-true, same_place-self}
 use Rattle.tabled_grid.proofs.Tables.{steps_joined, steps_nowhere, steps_one, steps_same}

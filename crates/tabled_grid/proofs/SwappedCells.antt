@@ -1,11 +1,5 @@
 -- Two cells swapped, by place.
-use Rattle.std.proofs.Common.{◌≡◌, ℕ, ◌<◌, ◌≢◌, List, [], Some, refl, sym, ap, ◌∙◌, subst, length, get_or, arith}
-use Rattle.std.proofs.lemmas.List.{get_or-set_same, get_or-set_other}
-use Rattle.std.proofs.lemmas.List.Elements.{All-from_recursion}
-use Rattle.std.proofs.lemmas.Option.{slice_get-get_or}
-use Rattle.tabled_grid.specs.declared.config.position.Position.{Position}
-use Rattle.tabled_grid.specs.Grid.{Grid, IsEven, IsInside, cell_at, map_grid, with_cell}
-use Rattle.tabled_grid.specs.Resized.{with_cells_swapped}
+use Rattle.tabled_grid.proofs.Common.{[], ◌<◌, ◌∙◌, ◌≡◌, ◌≢◌, All-from_recursion, Grid, IsEven, IsInside, List, Position, Some, ap, arith, cell_at, get_or, get_or-set_other, get_or-set_same, length, map_grid, refl, slice_get-get_or, subst, sym, with_cell, with_cells_swapped, ℕ}
 use Rattle.tabled_grid.proofs.Grids.{IsEven-map_grid, IsEven-with_cell}
 use Rattle.tabled_grid.proofs.Mapped.{map_grid-with_cells_swapped}
 

@@ -1,14 +1,7 @@
 -- What is left after two cells were exchanged.
-use Rattle.std.specs.Global.{Vec}
-use Rattle.std.proofs.Common.{◌≡◌, ℕ, zero, suc, ◌<◌, ◌≢◌, List, [], ◌∷◌, Some, refl, sym, ap, ◌∙◌, length, get_or, set, arith}
-use Rattle.std.specs.Prelude.{slice_get, vec_len}
-use Rattle.std.specs.List.{swap}
-use Rattle.std.proofs.lemmas.List.{get_or-set_same, get_or-set_other, set-set, set_comm, map-set, length-map, get_or-map}
-use Rattle.std.proofs.lemmas.List.Edits.{swap_is}
-use Rattle.std.proofs.lemmas.Option.{slice_get_read}
-use Rattle.tabled_grid.specs.declared.config.position.Position.{Position}
-use Rattle.tabled_grid.specs.Grid.{cell_at, grid_of, map_items}
-use Rattle.tabled_grid.specs.Resized.{with_cells_swapped}
+use Rattle.tabled_grid.proofs.Common.{[], ◌<◌, ◌∙◌, ◌∷◌, ◌≡◌, ◌≢◌, List, Position, Some, Vec, ap, arith, cell_at, get_or, get_or-set_other, get_or-set_same, grid_of, length, length-map, map-set, map_items, refl, set, set-set, set_comm, slice_get, slice_get_read, suc, swap, swap_is, sym, with_cells_swapped, zero, ℕ}
+use Rattle.std.specs.Prelude.{vec_len}
+use Rattle.std.proofs.lemmas.List.{get_or-map}
 
 -- the member at a place
 pub record At {A : Type 0} (xs : List A) (i : ℕ) : Type 0 where

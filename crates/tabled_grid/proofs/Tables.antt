@@ -1,12 +1,5 @@
 -- Numbers for the places of a shape, and how they are stepped.
-use Rattle.std.proofs.Common.{◌≡◌, ℕ, zero, suc, ◌+◌, ◌*◌, ◌-◌, ◌<◌, ◌≤◌, ◌⊎◌, inl, inr, Bool, true, false, cond, List, [], ◌∷◌, ◌++◌, refl, sym, ap, ap₂, subst, ◌∙◌, length, map, get_or, set, replicate, arith}
-use Rattle.std.specs.Prelude.{◌%◌, ◌^◌, ◌||◌}
-use Rattle.std.specs.List.{range_with_len}
-use Rattle.std.proofs.lemmas.Bool.{cases_Bool, or_right}
-use Rattle.std.proofs.lemmas.List.{get_or_append_left, replicate-append-replicate, map-append, set-append_left, set-append_right}
-use Rattle.tabled_grid.specs.Covers.{Stepped, Steps, table}
-use Rattle.tabled_grid.specs.Entity.{place, same_place}
-use Rattle.tabled_grid.specs.declared.config.position.Position.{Position}
+use Rattle.tabled_grid.proofs.Common.{[], ◌%◌, ◌*◌, ◌++◌, ◌+◌, ◌-◌, ◌<◌, ◌^◌, ◌||◌, ◌∙◌, ◌∷◌, ◌≡◌, ◌≤◌, ◌⊎◌, Bool, List, Position, Stepped, Steps, ap, ap₂, arith, cases_Bool, cond, false, get_or, get_or_append_left, inl, inr, length, map, map-append, or_right, place, range_with_len, refl, replicate, replicate-append-replicate, same_place, set, set-append_left, set-append_right, subst, suc, sym, table, true, zero, ℕ}
 use Rattle.tabled_grid.proofs.Places.{block-is, places}
 use Rattle.tabled_grid.proofs.SpanMaps.{same_place-apart, same_place-self}
 

@@ -1,21 +1,7 @@
 -- Cells moved from one grid to another one of blanks, through a map of places.
-use Rattle.std.proofs.Common.{◌≡◌, ℕ, zero, suc, ◌+◌, ◌*◌, ◌<◌, ◌≤◌, ◌≢◌, ◌⊎◌, inl, inr, List, [], ◌∷◌, Option, None, Some, refl, sym, ap, ap₂, ◌∙◌, subst, drop, length, get_or, arith}
-use Rattle.std.specs.List.{AllByRecursion}
-use Rattle.std.specs.Option.{IfSome}
-use Rattle.std.proofs.lemmas.Bool.{cases_eq, cases_lt}
-use Rattle.std.proofs.lemmas.List.{length-drop, length-take-le}
-use Rattle.std.proofs.lemmas.List.Elements.{All-from_recursion}
-use Rattle.tabled_grid.specs.Bulk.{Exchanges}
-use Rattle.tabled_grid.specs.Entity.{place}
-use Rattle.tabled_grid.specs.Flat.{chunks}
-use Rattle.tabled_grid.specs.Grid.{Grid, IsEven, IsInside, cell_at, grid_of, width_of}
-use Rattle.tabled_grid.specs.Places.{FillsThrough, Places, TakesOnce, Within}
-use Rattle.tabled_grid.specs.Resized.{AreBlanks}
-use Rattle.tabled_grid.specs.declared.config.position.Position.{Position}
+use Rattle.tabled_grid.proofs.Common.{[], ◌*◌, ◌+◌, ◌<◌, ◌∙◌, ◌∷◌, ◌≡◌, ◌≢◌, ◌≤◌, ◌⊎◌, All-from_recursion, AllByRecursion, AreBlanks, Exchanges, FillsThrough, Grid, IfSome, IsEven, IsInside, List, None, Option, Places, Position, Some, TakesOnce, Within, all-drop, all-take, ap, ap₂, arith, cases_eq, cases_lt, cell_at, chunks, drop, get_or, grid_of, inl, inr, length, length-drop, length-take-le, none-some, place, refl, same_Some, subst, suc, sym, width_of, zero, ℕ}
 use Rattle.tabled_grid.proofs.AddedLines.{blank_at}
-use Rattle.std.proofs.lemmas.Option.{none-some, same_Some}
 use Rattle.tabled_grid.proofs.AddedRows.{wide_blanks}
-use Rattle.tabled_grid.proofs.Lists.{all-drop, all-take}
 use Rattle.tabled_grid.proofs.Grids.{IsEven-with_cell, cell_at-with_cell_other, cell_at-with_cell_same}
 
 abbrev Before : ℕ → ℕ → Position → Type 0

@@ -1,16 +1,6 @@
 -- Rows as columns, and grids by their cells.
-use Rattle.std.proofs.Common.{◌≡◌, ℕ, Bool, false, cond, eqb, zero, suc, ◌+◌, ◌<◌, ◌≤◌, List, [], ◌∷◌, Option, None, Some, refl, sym, ap, ap₂, ◌∙◌, map, length, take, replicate, get_or, subst, arith}
-use Rattle.std.specs.Prelude.{slice_get}
-use Rattle.std.specs.List.{AllByRecursion, zip}
-use Rattle.std.proofs.lemmas.Bool.{ne_eqb}
-use Rattle.std.proofs.lemmas.List.{get_or-map as get_or-map_within, get_or-take, get_or_append_left, length-map, length-replicate, length-take-le, nil_from_length}
-use Rattle.std.proofs.lemmas.Slice.Zip.{length-zip}
-use Rattle.std.proofs.Math.ListN.{get_or-map}
-use Rattle.tabled_grid.specs.Grid.{Grid, IsEven}
-use Rattle.tabled_grid.proofs.Lists.{all-map, all-take}
-use Rattle.tabled_grid.specs.Along.{first_along}
-use Rattle.tabled_grid.specs.Bulk.{AddsColumns, AddsRows, cell_in, transposed, transposed_rows}
-use Rattle.tabled_grid.specs.declared.records.axis.Axis.TheVariants.{Rows, Columns}
+use Rattle.tabled_grid.proofs.Common.{[], ◌+◌, ◌<◌, ◌∙◌, ◌∷◌, ◌≡◌, ◌≤◌, AddsColumns, AddsRows, AllByRecursion, Bool, Columns, Grid, IsEven, List, None, Option, Rows, Some, all-map, all-take, ap, ap₂, arith, cell_in, cond, eqb, false, first_along, get_or, get_or-map, get_or-take, get_or_append_left, length, length-map, length-replicate, length-take-le, length-zip, map, ne_eqb, nil_from_length, refl, replicate, slice_get, subst, suc, sym, take, transposed, transposed_rows, zero, zip, ℕ}
+use Rattle.std.proofs.lemmas.List.{get_or-map as get_or-map_within}
 use Rattle.tabled_grid.proofs.AddedColumns.{IsEven-adds_columns, columns_front}
 use Rattle.tabled_grid.proofs.AddedRows.{IsEven-adds_rows}
 

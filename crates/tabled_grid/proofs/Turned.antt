@@ -1,15 +1,7 @@
 -- Rows made of columns, by items that are pushed to all rows at once.
-use Rattle.std.specs.Global.{Vec}
-use Rattle.std.proofs.Common.{◌≡◌, ◌==◌, if◌then◌else◌, Bool, cond, subst, ℕ, zero, suc, ◌+◌, ◌<◌, ◌≤◌, List, [], ◌∷◌, ◌++◌, refl, sym, ap, ap₂, ◌∙◌, map, length, take, drop, get_or, set, replicate, arith}
-use Rattle.std.specs.List.{zip}
-use Rattle.std.proofs.lemmas.Bool.{ne_eqb}
-use Rattle.std.proofs.lemmas.List.{append_assoc, append-nil, drop-drop, drop-set-lt, drop_all, drop_more, length-map, length-replicate, length-set, map-set, take_all, take_more_set}
-use Rattle.std.proofs.Math.ListN.{get_or-map}
-use Rattle.tabled_grid.specs.Bulk.{transposed, transposed_rows, with_items_behind}
-use Rattle.tabled_grid.specs.Evenness.{AreWide}
-use Rattle.tabled_grid.specs.Grid.{IsEven, grid_of, map_items, width_of}
+use Rattle.tabled_grid.proofs.Common.{[], ◌++◌, ◌+◌, ◌<◌, ◌∙◌, ◌∷◌, ◌≡◌, ◌≤◌, AreWide, Bool, IsEven, List, Vec, ap, append-nil, append_assoc, ap₂, arith, cond, drop, drop-drop, drop-set-lt, drop_all, drop_more, first_left, get_or, get_or-map, grid_of, if◌then◌else◌, length, length-map, length-replicate, length-set, map, map-set, map_items, ne_eqb, refl, replicate, set, subst, suc, sym, take, take_all, take_more_set, transposed, transposed_rows, width_of, with_items_behind, zero, zip, ℕ}
+use Rattle.std.proofs.Common.{◌==◌}
 use Rattle.tabled_grid.proofs.NestedRows.{HaveGrid, have_grid}
-use Rattle.tabled_grid.proofs.RowByRow.{first_left}
 use Rattle.tabled_grid.proofs.Transposed.{length-transposed, wide-transposed}
 
 -- each row with a row of others behind it

@@ -1,12 +1,5 @@
 -- Why a reading ends early, by why its parts do.
-use Rattle.std.proofs.Common.{◌≡◌, ℕ, List, Result, Ok, refl}
-use Rattle.std.proofs.lemmas.Bool.{or_right}
-use Rattle.std.proofs.lemmas.Result.{err_from_is_err_and}
-use Rattle.std.specs.Result.{IsErrAnd}
-use Rattle.tabled_language.specs.declared.fault.ReadError.{ReadError}
-use Rattle.tabled_language.specs.declared.fault.ReadError.TheVariants.{Faulty, OutOfMemory}
-use Rattle.tabled_language.specs.Parsing.{EndsEarly, Reads}
-use Rattle.tabled_language.specs.Words.{Reading, then_reads}
+use Rattle.tabled_language.proofs.Common.{◌≡◌, EndsEarly, Faulty, IsErrAnd, List, Ok, OutOfMemory, ReadError, Reading, Reads, Result, err_from_is_err_and, or_right, refl, then_reads, ℕ}
 
 -- the first of two readings ends early
 pub ends_first : {A B : Type 0} (first : Reading A) (next : A → Reading B) (texts : List (List ℕ)) (error : ReadError) → EndsEarly first texts error → EndsEarly (then_reads first next) texts error

@@ -1,18 +1,6 @@
 -- Lines that are written are read as what they say.
-use Rattle.std.proofs.Common.{◌≡◌, ◌≢◌, ℕ, ◌<◌, ◌≤◌, ◌⊎◌, inl, inr, ◌^◌, ◌&&◌, false, cond, eqb, ne_eqb, List, [], ◌∷◌, ◌++◌, length, map, codes, Ok, refl, ap, ◌∙◌, arith}
-use Rattle.std.specs.Fmt.{decimal}
-use Rattle.std.specs.List.{AllByRecursion}
-use Rattle.std.specs.Str.{IsUtf8, chars, is_utf8}
-use Rattle.std.proofs.lemmas.Bool.{and_left, and_right}
-use Rattle.std.proofs.lemmas.Str.{IsUtf8-from_is_utf8}
-use Rattle.tabled_grid.specs.Spans.{IsSpanSize, Rectangle, sized}
-use Rattle.tabled_language.specs.Line.{says_line}
-use Rattle.tabled_grid.specs.Entity.{place}
-use Rattle.tabled_language.specs.declared.fault.Fault.TheVariants.{NumberRange}
-use Rattle.tabled_language.specs.Sizes.{reads_anchor, reads_shape, reads_width}
-use Rattle.tabled_language.specs.Output.{tab_separated}
-use Rattle.tabled_language.specs.Verb.{Line, ShapeLine, RecordLine, SpanLine}
-use Rattle.tabled_language.specs.Words.{Reading, fails, gives, reads_extent, reads_size, then_reads, whole}
+use Rattle.tabled_language.proofs.Common.{[], ◌&&◌, ◌++◌, ◌<◌, ◌^◌, ◌∙◌, ◌∷◌, ◌≡◌, ◌≢◌, ◌≤◌, ◌⊎◌, AllByRecursion, IsSpanSize, IsUtf8, IsUtf8-from_is_utf8, Line, List, NumberRange, Ok, Reading, RecordLine, Rectangle, ShapeLine, SpanLine, and_left, and_right, ap, arith, codes, cond, decimal, eqb, fails, false, gives, inl, inr, length, map, ne_eqb, place, reads_anchor, reads_extent, reads_shape, reads_size, reads_width, refl, says_line, sized, tab_separated, then_reads, whole, ℕ}
+use Rattle.std.specs.Str.{chars, is_utf8}
 use Rattle.tabled_language.proofs.BackToNumbers.{decimal-utf8, size_of-decimal}
 use Rattle.tabled_language.proofs.BackToTexts.{texts_of-joined}
 use Rattle.tabled_language.proofs.ScriptLines.{line_of-texts}

@@ -1,12 +1,6 @@
 -- What is written of a number is read as that number.
-use Rattle.std.proofs.Common.{◌≡◌, ℕ, ◌<◌, ◌≤◌, ◌^◌, ◌-◌, not, eqb, leb, length, Some, arith, ap, sym, ◌∙◌}
-use Rattle.std.proofs.lemmas.Bool.Decides.{nat_tests}
+use Rattle.tabled_language.proofs.Common.{◌-◌, ◌<◌, ◌^◌, ◌∙◌, ◌≡◌, ◌≤◌, IsUtf8, IsUtf8-from_ascii, Some, all_ascii_digits, ap, arith, decimal, digits_value, eqb, leb, length, nat_tests, not, number_to, size_of, sym, ℕ}
 use Rattle.std.proofs.lemmas.Fmt.{IsAscii-decimal, decimal_nonempty, digits_decimal, digits_value-decimal}
-use Rattle.std.proofs.lemmas.Str.{IsUtf8-from_ascii}
-use Rattle.std.specs.Fmt.{decimal}
-use Rattle.std.specs.Str.{IsUtf8, all_ascii_digits}
-use Rattle.std.specs.Str.Parse.{digits_value}
-use Rattle.tabled_language.specs.Word.{number_to, size_of}
 use Rattle.tabled_language.proofs.Numbers.{numerals, some_if}
 
 -- the digits of a number up to a limit are read as the number

@@ -1,16 +1,5 @@
 -- What is written of texts is read as these texts.
-use Rattle.std.proofs.Common.{◌≡◌, ℕ, Bool, true, false, cond, eqb, eq-eqb, codes, List, [], ◌∷◌, ◌++◌, map, Some, refl, sym, ap, ◌∙◌}
-use Rattle.std.specs.List.{AllByRecursion, flat_map, join_with_byte, slice_split}
-use Rattle.std.specs.Str.{IsUtf8}
-use Rattle.std.proofs.lemmas.Bool.{eqb-true}
-use Rattle.std.proofs.lemmas.List.{append_assoc}
-use Rattle.std.proofs.lemmas.List.Elements.{All-from_recursion}
-use Rattle.std.proofs.lemmas.List.Splits.{slice_split_at, slice_split_none}
-use Rattle.std.proofs.lemmas.Str.{is_utf8-from_IsUtf8}
-use Rattle.tabled_grid.proofs.Lists.{all-append}
-use Rattle.tabled_language.specs.Line.{lines_of, texts_of, words_of}
-use Rattle.tabled_language.specs.Output.{escaped, escaped_byte, tab_separated, line}
-use Rattle.tabled_language.specs.Word.{before, text_of_word, unescaped}
+use Rattle.tabled_language.proofs.Common.{[], ◌++◌, ◌∙◌, ◌∷◌, ◌≡◌, All-from_recursion, AllByRecursion, Bool, IsUtf8, List, Some, all-append, ap, append_assoc, before, codes, cond, eq-eqb, eqb, eqb-true, escaped, escaped_byte, false, flat_map, is_utf8-from_IsUtf8, join_with_byte, line, lines_of, map, refl, slice_split, slice_split_at, slice_split_none, sym, tab_separated, text_of_word, texts_of, true, unescaped, words_of, ℕ}
 use Rattle.tabled_language.proofs.Escapes.{unescaped-plain}
 
 -- a byte stands nowhere in a list

@@ -1,13 +1,6 @@
 -- Of the rectangles that may reach a row, those that end above are taken away until one decides.
-use Rattle.std.proofs.Common.{◌≡◌, ℕ, ◌+◌, ◌<◌, ◌≤◌, ◌⊎◌, inl, inr, Bool, true, false, cond, refl, sym, ap, subst, ◌∙◌, arith}
-use Rattle.std.specs.Prelude.{Option, None, Some, MatchBool, is_some, nat_le}
-use Rattle.std.specs.BTreeMap.{BTreeMap, get}
-use Rattle.std.specs.Ordering.{is_eq, nat_cmp}
-use Rattle.std.proofs.lemmas.Bool.{cases_lt, leb-false, leb-true}
-use Rattle.std.proofs.lemmas.Bool.Decides.{nat_tests}
-use Rattle.std.proofs.lemmas.Option.{none-some, same_Some}
-use Rattle.tabled_language.specs.Walk.{AreBeside, AreKeyed, EndsAbove, IsBeside, IsClear, IsLastBefore, IsLeft, IsMet, NoneBefore}
-use Rattle.tabled_grid.specs.Spans.{Rectangle}
+use Rattle.tabled_language.proofs.Common.{◌+◌, ◌<◌, ◌∙◌, ◌≡◌, ◌≤◌, ◌⊎◌, AreBeside, AreKeyed, BTreeMap, Bool, EndsAbove, IsBeside, IsClear, IsLastBefore, IsLeft, IsMet, MatchBool, NoneBefore, Rectangle, ap, arith, cases_lt, cond, false, get, inl, inr, is_eq, is_some, leb-false, leb-true, nat_cmp, nat_le, nat_tests, none-some, refl, same_Some, subst, sym, true, ℕ}
+use Rattle.std.specs.Prelude.{Option, None, Some}
 
 module _ (old m : BTreeMap ℕ Rectangle) (e : Rectangle) (keyed : AreKeyed old) (beside : AreBeside e.0.row old) (left : IsLeft e.0.row old m) where
   past : (q : ℕ) (f : Rectangle) → get nat_cmp m q ≡ Some f → e.0.col + e.1.width ≤ q → EndsAbove e.0.row f ⊎ IsBeside e f

@@ -1,11 +1,5 @@
 -- Selectors that hold others.
-use Rattle.std.proofs.Common.{◌≡◌, ℕ, suc, List, Result, Ok, Err, subst, sym}
-use Rattle.tabled_language.specs.declared.fault.ReadError.{ReadError}
-use Rattle.tabled_language.specs.declared.fault.ReadError.TheVariants.{Faulty, OutOfMemory}
-use Rattle.tabled_language.specs.Parsing.{Reads}
-use Rattle.tabled_language.specs.Selectors.{reads_selector, selectors}
-use Rattle.tabled_language.specs.Words.{Reading, behind, first_word, kept, reads_word, then_reads}
-use Rattle.tabled_steps.specs.Selected.{Named}
+use Rattle.tabled_language.proofs.Common.{◌≡◌, Err, Faulty, List, Named, Ok, OutOfMemory, ReadError, Reading, Reads, Result, behind, first_word, kept, reads_selector, reads_word, selectors, subst, suc, sym, then_reads, ℕ}
 
 -- what is read after a word is what is read from it on
 pub read_behind : {A X : Type 0} (view : X → A) (next : List ℕ → Reading A) (word : List ℕ) (texts left : List (List ℕ)) (r : Result X ReadError) (new : List (List ℕ)) → first_word texts ≡ Ok (word, left) → Reads view (next word) left r new → Reads view (then_reads reads_word next) texts r new

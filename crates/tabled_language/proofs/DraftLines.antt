@@ -1,20 +1,6 @@
 -- A draft tells of its lines what a fault asks.
-use Rattle.std.proofs.Common.{◌≡◌, ℕ, ◌+◌, ◌&&◌, Bool, true, false, cond, eqb, length, List, [], ◌∷◌, ◌++◌, Option, None, Some, Result, Ok, Err, refl, sym, ap, ◌∙◌}
-use Rattle.std.specs.Prelude.{filter_map}
-use Rattle.std.specs.List.{AllByRecursion}
-use Rattle.std.specs.Option.{is_none}
-use Rattle.std.proofs.lemmas.Bool.{and_right}
-use Rattle.std.proofs.lemmas.List.{length-append}
-use Rattle.std.proofs.lemmas.List.Folds.{list_all-append}
-use Rattle.tabled_grid.specs.Grid.{Grid}
-use Rattle.tabled_grid.specs.Spans.{Rectangle}
-use Rattle.tabled_language.specs.declared.fault.Fault.{Fault}
-use Rattle.tabled_language.specs.declared.fault.Fault.TheVariants.{OutOfPlace}
-use Rattle.tabled_language.specs.Drafts.{draft_of, fault_behind, is_nil, shape_among, shape_misfit, takes}
-use Rattle.tabled_language.specs.Faults.{fault_of, first_fault, is_in_place, may_follow, shape_fault, words_fault}
-use Rattle.tabled_language.specs.Line.{anchor_in, record_in, step_in}
+use Rattle.tabled_language.proofs.Common.{[], ◌&&◌, ◌++◌, ◌+◌, ◌∙◌, ◌∷◌, ◌≡◌, AllByRecursion, Bool, EmptyLine, Err, Fault, FaultyLine, Grid, Line, List, None, Ok, Option, OutOfPlace, RecordLine, Rectangle, Result, ShapeLine, Some, SpanLine, StepLine, anchor_in, and_right, ap, cond, draft_of, eqb, false, fault_behind, fault_of, filter_map, first_fault, is_in_place, is_nil, is_none, length, length-append, list_all-append, may_follow, record_in, refl, shape_among, shape_fault, shape_misfit, step_in, sym, takes, true, words_fault, ℕ}
 use Rattle.tabled_language.proofs.LooseLines.{loose_place}
-use Rattle.tabled_language.specs.Verb.{Line, EmptyLine, ShapeLine, RecordLine, SpanLine, StepLine, FaultyLine}
 
 -- a line has no fault in its words
 abbrev pub IsSound : Line → Type 0

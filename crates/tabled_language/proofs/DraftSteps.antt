@@ -1,20 +1,5 @@
 -- A draft line by line, and what it says at the end.
-use Rattle.std.proofs.Common.{◌≡◌, ℕ, ◌+◌, length, get_or, List, [], ◌∷◌, ◌++◌, map, Option, true, None, Some, Ok, Err, refl, ap, ◌∙◌, arith}
-use Rattle.std.specs.Prelude.{filter_map}
-use Rattle.std.specs.FinMap.{from_entries}
-use Rattle.std.specs.Option.{option_map, option_or}
-use Rattle.std.proofs.lemmas.List.Elements.{filter_map-append}
-use Rattle.tabled_grid.specs.Spans.{Rectangle}
-use Rattle.tabled_steps.specs.States.{State}
-use Rattle.tabled_language.specs.declared.draft.Shape.{Shape}
-use Rattle.tabled_language.specs.declared.fault.Fault.{Fault}
-use Rattle.tabled_language.specs.declared.fault.Fault.TheVariants.{SpanMisfits}
-use Rattle.tabled_language.specs.Drafts.{Draft, anchor_lines, draft_of, shape_among, shape_at, shape_misfit, with_line}
-use Rattle.tabled_language.specs.Faults.{fault_of, first_fault}
-use Rattle.tabled_language.specs.Line.{anchor_in, record_in, shape_in, step_in, table_from}
-use Rattle.tabled_language.specs.Script.{script_or_fault}
-use Rattle.tabled_language.specs.Placed.{IsFirstMisfit, fit_in}
-use Rattle.tabled_language.specs.Verb.{Line}
+use Rattle.tabled_language.proofs.Common.{[], ◌++◌, ◌+◌, ◌∙◌, ◌∷◌, ◌≡◌, Draft, Err, Fault, IsFirstMisfit, Line, List, None, Ok, Option, Rectangle, Shape, Some, SpanMisfits, State, anchor_in, anchor_lines, ap, arith, draft_of, fault_of, filter_map, filter_map-append, first_fault, fit_in, from_entries, get_or, length, map, option_map, option_or, record_in, refl, script_or_fault, shape_among, shape_at, shape_in, shape_misfit, step_in, table_from, true, with_line, ℕ}
 use Rattle.tabled_language.proofs.DraftLines.{shape_told}
 use Rattle.tabled_language.proofs.Misfits.{first_misfit_line, no_misfit}
 

@@ -1,10 +1,5 @@
 -- Escapes undone byte by byte.
-use Rattle.std.proofs.Common.{◌≡◌, ℕ, Bool, false, cond, eqb, List, [], ◌∷◌, ◌++◌, Option, Some, None, refl, sym, ap, ◌∙◌}
-use Rattle.std.proofs.lemmas.Bool.{or_parts}
-use Rattle.std.proofs.lemmas.List.{append_assoc}
-use Rattle.std.specs.List.{list_any}
-use Rattle.std.specs.Option.{option_map, option_and_then}
-use Rattle.tabled_language.specs.Word.{before, escape, unescaped}
+use Rattle.tabled_language.proofs.Common.{[], ◌++◌, ◌∙◌, ◌∷◌, ◌≡◌, Bool, List, None, Option, Some, ap, append_assoc, before, cond, eqb, escape, false, list_any, option_and_then, option_map, or_parts, refl, sym, unescaped, ℕ}
 
 -- bytes before a text, where there is one
 abbrev pub all_before : List ℕ → Option (List ℕ) → Option (List ℕ)

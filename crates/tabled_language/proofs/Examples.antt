@@ -1,14 +1,9 @@
 -- Scripts with shapes and spans, read.
-use Rattle.std.proofs.Common.{◌≡◌, ℕ, List, [], ◌∷◌, codes, Ok, Err, refl, ap, ◌∙◌}
-use Rattle.std.specs.FinMap.{entries, entries-from_sorted, from_entries}
+use Rattle.tabled_language.proofs.Common.{[], ◌∙◌, ◌∷◌, ◌≡◌, Err, List, Ok, Rectangle, ap, codes, entries, entries-from_sorted, from_entries, parse, place, position_cmp, print, refl, sized, start, ℕ}
 use Rattle.std.specs.Str.{chars, is_utf8}
 use Rattle.std.specs.Fmt.{digits}
-use Rattle.tabled_grid.specs.Entity.{place}
-use Rattle.tabled_language.specs.Script.{parse, start}
 use Rattle.tabled_language.specs.declared.fault.Fault.TheVariants as fault
-use Rattle.tabled_language.specs.Output.{print}
 use Rattle.tabled_language.proofs.BackToAnchors.{sorted_map}
-use Rattle.tabled_grid.specs.Spans.{Rectangle, position_cmp, sized}
 
 -- a shape without columns, and one of nothing
 no_columns : parse (codes "shape\t2\t0\nrow\nrow\n") ≡ Ok (record { records = [] ∷ [] ∷ []; spans = from_entries []; steps = [] })

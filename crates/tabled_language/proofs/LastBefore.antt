@@ -1,15 +1,8 @@
 -- The last entry of a map before a key.
-use Rattle.std.proofs.Common.{◌≡◌, ℕ, ◌<◌, List, [], ◌∷◌, ◌++◌, refl, sym, ap, subst, ◌∙◌}
-use Rattle.std.specs.Prelude.{Option, None, Some, is_some}
-use Rattle.std.specs.BTreeMap.{BTreeMap, get}
+use Rattle.tabled_language.proofs.Common.{[], ◌++◌, ◌<◌, ◌∙◌, ◌∷◌, ◌≡◌, BTreeMap, Excluded, Less, List, MatchOrdering, Ordering, Rectangle, ap, false≢true, get, is_lt, is_some, lt-ltb, nat_cmp, ranked, refl, subst, sym, ℕ}
+use Rattle.std.specs.Prelude.{Option, None, Some}
 use Rattle.std.specs.BTreeMap.Range.{IsRangeOf}
-use Rattle.std.specs.Ordering.{MatchOrdering, is_lt, nat_cmp}
-use Rattle.std.specs.declared.cmp.Ordering.{Ordering}
-use Rattle.std.specs.declared.cmp.Ordering.TheVariants.{Less}
-use Rattle.std.specs.declared.ops.Bound.TheVariants.{Excluded, Unbounded}
-use Rattle.std.proofs.lemmas.Bool.{false≢true, lt-ltb}
-use Rattle.std.proofs.lemmas.Cmp.{ranked}
-use Rattle.tabled_grid.specs.Spans.{Rectangle}
+use Rattle.std.specs.declared.ops.Bound.TheVariants.{Unbounded}
 
 before : (q n : ℕ) → q < n → nat_cmp q n ≡ Less
 before q n below = rw (lt-ltb q n below) refl

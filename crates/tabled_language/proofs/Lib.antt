@@ -5,6 +5,7 @@ pub mod BackToNumbers
 pub mod BackToRecords
 pub mod BackToTexts
 pub mod Cleared
+pub mod Common
 pub mod DeeperSelectors
 pub mod DraftLines
 pub mod DraftSteps

@@ -1,7 +1,5 @@
 -- Lines that may stand anywhere.
-use Rattle.std.proofs.Common.{◌≡◌, true, List, [], ◌∷◌, refl}
-use Rattle.tabled_language.specs.Faults.{is_in_place, may_follow}
-use Rattle.tabled_language.specs.Verb.{Line, EmptyLine, ShapeLine, RecordLine, SpanLine, StepLine, FaultyLine}
+use Rattle.tabled_language.proofs.Common.{[], ◌∷◌, ◌≡◌, EmptyLine, FaultyLine, Line, List, RecordLine, ShapeLine, SpanLine, StepLine, is_in_place, may_follow, refl, true}
 
 -- a line says no shape, no record and no span
 abbrev pub IsLoose : Line → Type 0

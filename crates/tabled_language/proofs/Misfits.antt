@@ -1,18 +1,5 @@
 -- The first faulty span among lines is the first misfit among their anchors.
-use Rattle.std.proofs.Common.{◌≡◌, ℕ, zero, suc, ◌+◌, ◌<◌, true, false, length, get_or, take, List, [], ◌∷◌, ◌++◌, Option, None, Some, refl, sym, ap, ap₂, subst, ◌∙◌, arith}
-use Rattle.std.specs.Prelude.{filter_map}
-use Rattle.std.proofs.lemmas.Bool.{and_parts}
-use Rattle.std.proofs.lemmas.List.{append-nil, append_assoc, length-append}
-use Rattle.std.proofs.lemmas.List.Elements.{filter_map-append}
-use Rattle.tabled_grid.specs.Grid.{Grid}
-use Rattle.tabled_grid.specs.Spans.{Rectangle}
-use Rattle.tabled_language.specs.declared.fault.Fault.{Fault}
-use Rattle.tabled_language.specs.declared.fault.Fault.TheVariants.{SpanMisfits}
-use Rattle.tabled_language.specs.Drafts.{anchor_lines}
-use Rattle.tabled_language.specs.Faults.{first_fault, span_fault, unless_it}
-use Rattle.tabled_language.specs.Line.{anchor_in}
-use Rattle.tabled_language.specs.Placed.{IsFirstMisfit, fit_in, has_place, have_places}
-use Rattle.tabled_language.specs.Verb.{Line}
+use Rattle.tabled_language.proofs.Common.{[], ◌++◌, ◌+◌, ◌<◌, ◌∙◌, ◌∷◌, ◌≡◌, Fault, Grid, IsFirstMisfit, Line, List, None, Option, Rectangle, Some, SpanMisfits, anchor_in, anchor_lines, and_parts, ap, append-nil, append_assoc, ap₂, arith, false, filter_map, filter_map-append, first_fault, fit_in, get_or, has_place, have_places, length, length-append, refl, span_fault, subst, suc, sym, take, true, unless_it, zero, ℕ}
 
 -- what first_fault says of the first line, and of the others
 abbrev step : ℕ → Option Fault → Option (ℕ × Fault) → Option (ℕ × Fault)

@@ -1,11 +1,6 @@
 -- What `parse` reads of a text without a sign, in the words of `number_of`.
-use Rattle.std.proofs.Common.{◌≡◌, ◌≢◌, ℕ, ◌<◌, ◌≤◌, ◌^◌, Bool, true, false, cond, ◌&&◌, not, eqb, leb, List, Some, None, Result, Ok, Err, [], ◌∷◌, length, get_or, arith, ne_eqb, refl, ap, ◌∙◌}
-use Rattle.std.proofs.lemmas.Bool.Decides.{nat_tests}
+use Rattle.tabled_language.proofs.Common.{[], ◌&&◌, ◌<◌, ◌^◌, ◌∙◌, ◌∷◌, ◌≡◌, ◌≢◌, ◌≤◌, Bool, Err, List, None, Ok, ParsesUnsigned, Result, Some, all_ascii_digits, ap, arith, cond, digits_value, eqb, false, get_or, integer_of, leb, length, nat_tests, ne_eqb, not, number_of, number_to, refl, result_ok, true, ℕ}
 use Rattle.std.proofs.lemmas.Str.Parse.{IsNumeralModel, numerals_by_value, tells_all_ascii_digits, parse_plain}
-use Rattle.std.specs.Str.{all_ascii_digits}
-use Rattle.std.specs.Str.Parse.{ParsesUnsigned, digits_value}
-use Rattle.std.specs.Result.{result_ok}
-use Rattle.tabled_language.specs.Word.{integer_of, number_of, number_to}
 
 -- digits and their value are std's
 pub numerals : IsNumeralModel (λ ds. all_ascii_digits ds ≡ true) (digits_value 10)

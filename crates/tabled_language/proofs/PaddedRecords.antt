@@ -1,16 +1,5 @@
 -- Rows padded to one length, as the cells of a table.
-use Rattle.std.proofs.Common.{◌≡◌, ℕ, List, [], ◌∷◌, ◌++◌, ap, length, map, refl, sym, ◌∙◌, take, drop, arith}
-use Rattle.std.specs.Global.{Vec}
-use Rattle.std.proofs.lemmas.List.{append-nil, drop_all, length-map, take_all}
-use Rattle.std.proofs.lemmas.Simd.{map-map}
-use Rattle.tabled_grid.proofs.Across.{same_grid}
-use Rattle.tabled_grid.specs.Evenness.{AreWide}
-use Rattle.tabled_grid.specs.Grid.{IsEven, grid_of, map_grid, map_items}
-use Rattle.tabled_table.specs.Builder.{longest, padded_to}
-use Rattle.tabled_table.proofs.RowTexts.{wide-map}
-use Rattle.tabled_table.proofs.Tables.{even-width}
-use Rattle.tabled_table.proofs.Uneven.{even-longest}
-use Rattle.tabled_language.specs.Line.{table_from}
+use Rattle.tabled_language.proofs.Common.{[], ◌++◌, ◌∙◌, ◌∷◌, ◌≡◌, AreWide, IsEven, List, Vec, ap, append-nil, arith, drop, drop_all, even-longest, even-width, grid_of, length, length-map, longest, map, map-map, map_grid, map_items, padded_to, refl, same_grid, sym, table_from, take, take_all, wide-map, ℕ}
 use Rattle.tabled_language.proofs.ScriptChecks.{longest-map}
 
 -- a list that was written over whole

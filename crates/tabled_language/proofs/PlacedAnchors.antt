@@ -1,32 +1,11 @@
 -- Anchors have places in any order, or in none.
-use Rattle.std.proofs.Common.{◌≡◌, ℕ, suc, ◌+◌, ◌≤◌, ◌<◌, ◌⊎◌, inl, inr, ◌&&◌, Bool, true, false, cond, not, length, get_or, take, List, [], ◌∷◌, ◌++◌, Some, refl, sym, ap, subst, ◌∙◌, arith}
-use Rattle.std.specs.Prelude.{T, Option, None, is_some}
+use Rattle.tabled_language.proofs.Common.{[], ◌&&◌, ◌++◌, ◌+◌, ◌<◌, ◌∙◌, ◌∷◌, ◌≡◌, ◌≤◌, ◌⊎◌, All-from_recursion, All-permutation, AllByRecursion, AreAnchors, Bool, Equal, Greater, IsFirstMisfit, IsPermutation-sym, IsSpanSize, Less, List, Ordering, Position, Rectangle, RowsRise, Size, Some, T, and_from, and_parts, ap, append-nil, append_assoc, arith, below_all, both, cases_Bool, cases_lt, cond, equal, false, false_from_ne_true, false≢true, find, fit_in, from_entries, from_sorted, get-from_entries, get-from_sorted, get_or, halves, has_place, have_places, inl, inr, is_eq, is_lt, is_some, is_sorted, length, less, lies_inside, list_all, list_any, lt-ltb, meets, meets-from, meets-turned, none-some, not, not-true, not_from_false, or_from, or_parts, ordering_reverse, position_cmp, positions_exact, positions_total, recursion_from_All, refl, same_Some, same_map, subst, suc, sym, take, take_more, tied_itself, true, true≢false, ℕ}
+use Rattle.std.specs.Prelude.{Option, None}
 use Rattle.std.proofs.Math.Numerals.{add-one}
-use Rattle.std.specs.FinMap.{find, from_entries, from_sorted, get-from_entries, get-from_sorted, is_sorted, same_map}
-use Rattle.std.specs.FinMap.Entries.{below_all}
-use Rattle.std.specs.List.{AllByRecursion, IsDistinct, list_all, list_any}
+use Rattle.std.specs.List.{IsDistinct}
 use Rattle.std.specs.List.Sorted.{IsPermutation, IsSortedByKey}
-use Rattle.std.specs.Ordering.{is_eq, is_lt, ordering_reverse}
-use Rattle.std.specs.declared.cmp.Ordering.{Ordering}
-use Rattle.std.specs.declared.cmp.Ordering.TheVariants.{Less, Equal, Greater}
-use Rattle.std.proofs.lemmas.Bool.{cases_Bool, cases_lt, lt-ltb, and_from, and_parts, not-true, not_from_false, or_parts, or_from, false_from_ne_true, false≢true, true≢false}
-use Rattle.std.proofs.lemmas.List.{append-nil, append_assoc, take_more}
-use Rattle.std.proofs.lemmas.List.Elements.{All-from_recursion, recursion_from_All}
-use Rattle.std.proofs.lemmas.List.Sorted.{All-permutation, IsPermutation-sym}
 use Rattle.std.proofs.lemmas.Map.Keys.{IsDistinct-IsPermutation}
-use Rattle.tabled_grid.specs.Anchors.{lies_inside, meets}
-use Rattle.tabled_grid.specs.Spans.{AreAnchors, IsSpanSize, Rectangle, position_cmp}
-use Rattle.tabled_grid.specs.declared.config.position.Position.{Position}
-use Rattle.tabled_grid.specs.declared.config.size.Size.{Size}
 use Rattle.tabled_grid.proofs.MergedAnchors.{below_more}
-use Rattle.std.proofs.lemmas.Option.{none-some, same_Some}
-use Rattle.std.proofs.lemmas.Cmp.{tied_itself}
-use Rattle.tabled_grid.proofs.MetAnchors.{meets-turned}
-use Rattle.tabled_grid.proofs.PassedAnchors.{meets-from}
-use Rattle.tabled_grid.proofs.SpanMaps.{both, equal, halves, less}
-use Rattle.tabled_grid.proofs.Spans.{positions_exact, positions_total}
-use Rattle.tabled_language.specs.Placed.{IsFirstMisfit, fit_in, has_place, have_places}
-use Rattle.tabled_language.specs.Walk.{RowsRise}
 use Rattle.tabled_language.proofs.BackToAnchors.{all_found, MeetNone, meet_none, meet_none-push}
 
 -- each place comes before the next, row by row

@@ -1,13 +1,6 @@
 -- Lines without a backslash, whose words are their own texts.
-use Rattle.std.proofs.Common.{◌≡◌, ℕ, zero, suc, ◌+◌, ◌<◌, ◌≤◌, ◌⊎◌, inl, inr, Bool, true, false, eqb, leb, List, [], ◌∷◌, length, drop, Some, refl, sym, subst, arith}
-use Rattle.std.proofs.lemmas.Bool.Decides.{leb_tells}
-use Rattle.std.proofs.lemmas.List.{length-drop}
-use Rattle.std.proofs.lemmas.Str.{IsCharBoundary-after_ascii, IsCharBoundary-before_ascii, IsUtf8-drop, IsUtf8-from_is_utf8, IsUtf8-take, is_utf8-from_IsUtf8}
-use Rattle.std.specs.List.{AllByRecursion, position_or_len}
-use Rattle.std.specs.Str.{IsUtf8, is_utf8}
-use Rattle.tabled_language.specs.Line.{has_byte, is_plain, texts_of, words_of}
-use Rattle.tabled_language.specs.Word.{text_of_word}
-use Rattle.tabled_language.proofs.OwnWords.{LackEach, parts_lack}
+use Rattle.tabled_language.proofs.Common.{[], ◌+◌, ◌<◌, ◌∷◌, ◌≡◌, ◌≤◌, ◌⊎◌, AllByRecursion, Bool, IsCharBoundary-after_ascii, IsCharBoundary-before_ascii, IsUtf8, IsUtf8-drop, IsUtf8-from_is_utf8, IsUtf8-take, LackEach, List, Some, arith, drop, eqb, false, has_byte, inl, inr, is_plain, is_utf8-from_IsUtf8, leb, leb_tells, length, length-drop, parts_lack, position_or_len, refl, subst, suc, sym, text_of_word, texts_of, true, words_of, zero, ℕ}
+use Rattle.std.specs.Str.{is_utf8}
 use Rattle.tabled_language.proofs.Separated.{ascii_at_place, one_part, part_and_others}
 use Rattle.tabled_language.proofs.Escapes.{unescaped-clean}
 

@@ -1,25 +1,7 @@
 -- Scripts without the words of tables mean what their records and steps say.
-use Rattle.std.proofs.Common.{◌≡◌, ℕ, Bool, true, false, cond, ◌||◌, not, List, [], ◌∷◌, ◌++◌, codes, map, Option, None, Some, Result, Ok, Err, refl, sym, ap, ap₂, ◌∙◌}
-use Rattle.std.specs.Prelude.{filter_map}
-use Rattle.std.specs.FinMap.{empty, from_entries}
-use Rattle.std.specs.List.{AllByRecursion, list_any}
-use Rattle.std.specs.Option.{option_or}
-use Rattle.std.specs.Str.{bytes_eq}
-use Rattle.std.proofs.lemmas.Bool.{or_parts}
-use Rattle.tabled_grid.proofs.Lists.{all-append}
-use Rattle.tabled_grid.specs.Grid.{Grid}
-use Rattle.tabled_grid.specs.Spans.{Rectangle, SpanMap}
-use Rattle.tabled_steps.specs.States.{State}
-use Rattle.tabled_language.specs.declared.fault.Fault.{Fault}
-use Rattle.tabled_language.specs.declared.fault.Fault.TheVariants.{OutOfPlace}
-use Rattle.tabled_language.specs.Faults.{fault_among, fault_of, first_fault, is_in_place, shape_fault, span_fault}
-use Rattle.tabled_language.specs.Line.{anchor_in, says_line, meaning_of, record_in, shape_in, step_in, table_from}
-use Rattle.tabled_language.specs.Script.{Script, parse, script_or_fault}
+use Rattle.tabled_language.proofs.Common.{[], ◌++◌, ◌||◌, ◌∙◌, ◌∷◌, ◌≡◌, AllByRecursion, Bool, EmptyLine, Err, Fault, FaultyLine, Grid, Line, List, None, Ok, Option, OutOfPlace, RecordLine, Rectangle, Result, Script, ShapeLine, Some, SpanLine, SpanMap, State, StepLine, all-append, anchor_in, ap, ap₂, behind, bytes_eq, codes, cond, empty, false, fault_among, fault_of, filter_map, first_fault, from_entries, is_in_place, lines_of, list_any, map, meaning_of, not, option_or, or_parts, parse, record_in, refl, says, says_line, script_or_fault, shape_fault, shape_in, span_fault, step_in, step_line, steps, sym, table_from, texts_of, true, whole, words_of, ℕ}
 use Rattle.tabled_language.specs.Plain.{begin_a_table, has_either_word, is_step, plain_fault, plain_line_of, plain_meaning_of, plain_parse, plain_script, says_plainly}
-use Rattle.tabled_language.specs.Line.{lines_of, texts_of, words_of}
-use Rattle.tabled_language.specs.Verb.{Line, EmptyLine, RecordLine, ShapeLine, SpanLine, StepLine, FaultyLine, says, step_line, steps}
 use Rattle.tabled_language.proofs.LooseLines.{loose_place}
-use Rattle.tabled_language.specs.Words.{behind, whole}
 
 -- a line says no shape and no span
 abbrev IsPlain : Line → Type 0

@@ -1,19 +1,5 @@
 -- Lines without faults: a shape, records, and spans.
-use Rattle.std.proofs.Common.{◌≡◌, ℕ, true, false, eq-eqb, map-id, List, [], ◌∷◌, ◌++◌, map, Option, None, Some, Ok, refl, ap, ap₂, ◌∙◌}
-use Rattle.std.specs.Prelude.{filter_map}
-use Rattle.std.specs.List.{list_any}
-use Rattle.std.proofs.lemmas.Bool.{and_from, and_parts, not_from_false}
-use Rattle.std.proofs.lemmas.List.{append-nil}
-use Rattle.std.proofs.lemmas.List.Elements.{filter_map-append}
-use Rattle.std.proofs.lemmas.List.Folds.{list_all-append}
-use Rattle.tabled_grid.specs.Anchors.{lie_well, lies_inside, meets}
-use Rattle.tabled_grid.specs.Grid.{Grid}
-use Rattle.tabled_grid.specs.Spans.{Rectangle}
-use Rattle.tabled_language.specs.declared.fault.Fault.{Fault}
-use Rattle.tabled_language.specs.Faults.{fault_of, first_fault, is_in_place, may_follow, shape_fault, span_fault}
-use Rattle.tabled_language.specs.Line.{anchor_in, record_in, step_in}
-use Rattle.tabled_language.specs.Placed.{has_place}
-use Rattle.tabled_language.specs.Verb.{Line, EmptyLine, ShapeLine, RecordLine, SpanLine}
+use Rattle.tabled_language.proofs.Common.{[], ◌++◌, ◌∙◌, ◌∷◌, ◌≡◌, EmptyLine, Fault, Grid, Line, List, None, Ok, Option, RecordLine, Rectangle, ShapeLine, Some, SpanLine, anchor_in, and_from, and_parts, ap, append-nil, ap₂, eq-eqb, false, fault_of, filter_map, filter_map-append, first_fault, has_place, is_in_place, lie_well, lies_inside, list_all-append, list_any, map, map-id, may_follow, meets, not_from_false, record_in, refl, shape_fault, span_fault, step_in, true, ℕ}
 use Rattle.tabled_language.proofs.LooseLines.{loose_place}
 use Rattle.tabled_language.proofs.BackToAnchors.{MeetNone, meet_none-push}
 

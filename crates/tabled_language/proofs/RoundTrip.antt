@@ -1,20 +1,6 @@
 -- What is written of a table is read as that table.
-use Rattle.std.proofs.Common.{◌≡◌, ℕ, ◌<◌, ◌^◌, List, [], ◌∷◌, ◌++◌, map, codes, true, None, Ok, refl, sym, ap, ap₂, ◌∙◌, arith}
-use Rattle.std.specs.FinMap.{entries, from_entries}
-use Rattle.std.specs.Prelude.{filter_map}
-use Rattle.std.specs.List.{AllByRecursion, flat_map}
-use Rattle.std.specs.Str.{IsUtf8}
-use Rattle.std.proofs.lemmas.List.{append-nil, append_assoc}
-use Rattle.tabled_grid.specs.Anchors.{lie_well}
-use Rattle.tabled_grid.specs.Grid.{Grid}
-use Rattle.tabled_grid.specs.Spans.{Rectangle, SpanMap}
-use Rattle.tabled_steps.specs.States.{State}
-use Rattle.tabled_language.specs.Faults.{fault_among, first_fault, shape_fault, span_fault}
-use Rattle.tabled_language.specs.Line.{says_line, lines_of, record_in, table_from}
-use Rattle.tabled_language.specs.Script.{Script, parse, script_of, script_or_fault}
-use Rattle.tabled_language.specs.Output.{tab_separated, line, print, span_line}
+use Rattle.tabled_language.proofs.Common.{[], ◌++◌, ◌<◌, ◌^◌, ◌∙◌, ◌∷◌, ◌≡◌, AllByRecursion, Grid, IsUtf8, Line, List, None, Ok, RecordLine, Rectangle, Script, SpanMap, State, ap, append-nil, append_assoc, ap₂, arith, codes, entries, fault_among, filter_map, first_fault, flat_map, from_entries, lie_well, line, lines_of, map, parse, print, record_in, refl, says_line, script_of, script_or_fault, shape_fault, span_fault, span_line, sym, tab_separated, table_from, true, ℕ}
 use Rattle.tabled_language.specs.RoundTrip.{IsTable, ReadsBack}
-use Rattle.tabled_language.specs.Verb.{Line, RecordLine}
 use Rattle.tabled_language.proofs.BackToAnchors.{IsSpanIn, entries_well, from_entries-entries, meet_none, spans_in}
 use Rattle.tabled_language.proofs.BackToLines.{IsSmall, all_back, row_back, shape_back, shape_words, span_back, span_words}
 use Rattle.tabled_language.proofs.BackToRecords.{table_from-even}

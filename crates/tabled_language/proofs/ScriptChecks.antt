@@ -1,21 +1,5 @@
 -- The checks of a whole draft.
-use Rattle.std.proofs.Common.{◌≡◌, ℕ, ◌+◌, ◌<◌, List, [], ◌∷◌, ◌++◌, length, map, max, get_or, take, Option, Some, None, Ok, Err, true, refl, sym, ap, ap₂, subst, ◌∙◌}
-use Rattle.std.specs.FinMap.{from_entries}
-use Rattle.std.specs.Option.{option_map}
-use Rattle.std.proofs.lemmas.List.{length-map, map-append, take_more}
-use Rattle.std.specs.Global.{Vec}
-use Rattle.tabled_grid.specs.Grid.{Grid, map_items}
-use Rattle.tabled_grid.specs.Spans.{SpanMap}
-use Rattle.tabled_table.proofs.Uneven.{longest-push}
-use Rattle.tabled_table.specs.Builder.{longest}
-use Rattle.tabled_language.specs.declared.draft.Shape.{Shape}
-use Rattle.tabled_language.specs.declared.fault.Fault.TheVariants.{ShapeDiffers, SpanMisfits}
-use Rattle.tabled_language.specs.Drafts.{Draft, draft_of, shape_misfit}
-use Rattle.tabled_language.specs.Faults.{fault_of, first_fault}
-use Rattle.tabled_language.specs.Line.{table_from}
-use Rattle.tabled_language.specs.Script.{Script, script_or_fault}
-use Rattle.tabled_language.specs.Placed.{IsFirstMisfit, fit_in}
-use Rattle.tabled_language.specs.Verb.{Line}
+use Rattle.tabled_language.proofs.Common.{[], ◌++◌, ◌+◌, ◌<◌, ◌∙◌, ◌∷◌, ◌≡◌, Draft, Err, Grid, IsFirstMisfit, Line, List, None, Ok, Option, Script, Shape, ShapeDiffers, Some, SpanMap, SpanMisfits, Vec, ap, ap₂, draft_of, fault_of, first_fault, fit_in, from_entries, get_or, length, length-map, longest, longest-push, map, map-append, map_items, max, option_map, refl, script_or_fault, shape_misfit, subst, sym, table_from, take, take_more, true, ℕ}
 use Rattle.tabled_language.proofs.DraftSteps.{all_fits, shape_differs, span_misfits}
 
 pub longest-map : {A B : Type 0} (f : A → B) (rows : List (List A)) → longest (map (map f) rows) ≡ longest rows

@@ -1,35 +1,11 @@
 -- A script read line by line into a draft.
-use Rattle.std.specs.Prelude.{codes, map, is_ok}
-use Rattle.std.specs.Str.{bytes_eq}
+use Rattle.tabled_language.proofs.Common.{[], ◌&&◌, ◌++◌, ◌+◌, ◌<◌, ◌∙◌, ◌∷◌, ◌≡◌, ◌≢◌, ◌≤◌, AllByRecursion, Bool, Draft, Err, Fault, Faulty, IsUtf8-from_is_utf8, LackEach, Line, LineEnds, List, None, Ok, Option, OutOfMemory, OutOfPlace, ReadError, ReadsLine, ReadsScript, RecordLine, Rectangle, Result, ScriptEnds, ShapeLine, Some, SpanLine, State, all-append, anchor_in, and_from, and_parts, ap, append-nil, append_assoc, arith, behind, bytes_eq, cond, count_by-le-length, draft_of, eqb, false, false_from_ne_true, fault_behind, fault_of, first_fault, is_in_place, is_ok, is_plain, keeping_asks, length, length-append, length-map, length-slice_split, lines_of, meaning_of, none-some, not-true, or_right, parts_lack_separator, reads_anchor, reads_shape, refl, remove, says_line, script_or_fault, slice_index_or, step_line, steps, sym, takes, texts_of, true, whole, with_line, words_fault, words_of, ℕ}
+use Rattle.std.specs.Prelude.{codes, map}
 use Rattle.std.proofs.lemmas.Slice.Eq.{bytes_eq-Decides}
-use Rattle.std.proofs.Common.{◌≡◌, ◌≢◌, ℕ, Bool, true, false, cond, ◌+◌, ◌<◌, ◌≤◌, List, [], ◌∷◌, ◌++◌, ◌&&◌, eqb, length, Option, Some, None, Result, Ok, Err, refl, sym, ap, ◌∙◌, arith}
-use Rattle.std.proofs.lemmas.Bool.{and_from, and_parts, false_from_ne_true, not-true, or_right}
-use Rattle.std.proofs.lemmas.List.{append-nil, append_assoc, length-append, length-map}
-use Rattle.std.proofs.lemmas.List.Splits.{length-slice_split}
-use Rattle.std.proofs.lemmas.List.Sums.{count_by-le-length}
-use Rattle.std.proofs.lemmas.Option.{none-some}
-use Rattle.std.proofs.lemmas.Str.{IsUtf8-from_is_utf8}
-use Rattle.std.specs.List.{AllByRecursion, remove, slice_index_or}
-use Rattle.tabled_grid.proofs.Lists.{all-append}
-use Rattle.tabled_language.specs.declared.fault.Fault.{Fault}
-use Rattle.tabled_language.specs.declared.fault.Fault.TheVariants.{OutOfPlace}
-use Rattle.tabled_language.specs.declared.fault.ReadError.{ReadError}
-use Rattle.tabled_language.specs.declared.fault.ReadError.TheVariants.{Faulty, OutOfMemory}
-use Rattle.tabled_language.specs.Drafts.{Draft, draft_of, fault_behind, takes, with_line}
-use Rattle.tabled_language.specs.Faults.{fault_of, first_fault, is_in_place, words_fault}
-use Rattle.tabled_language.specs.Line.{anchor_in, is_plain, says_line, lines_of, meaning_of, texts_of, words_of}
 use Rattle.tabled_language.specs.Memory.{line_asks, lines_ask, words_ask}
-use Rattle.tabled_language.specs.Script.{script_or_fault}
-use Rattle.tabled_language.specs.Parsing.{LineEnds, ReadsLine, ReadsScript, ScriptEnds}
-use Rattle.tabled_language.specs.Sizes.{reads_anchor, reads_shape}
-use Rattle.tabled_language.specs.Verb.{Line, RecordLine, ShapeLine, SpanLine, step_line, steps}
-use Rattle.tabled_language.specs.Words.{behind, keeping_asks, whole}
-use Rattle.tabled_steps.specs.States.{State}
 use Rattle.tabled_language.proofs.DraftLines.{IsSound, fault_told, place_told, sound_line}
 use Rattle.tabled_language.proofs.DraftSteps.{draft_of-push}
-use Rattle.tabled_language.proofs.OwnWords.{LackEach, parts_lack_separator}
 use Rattle.tabled_language.proofs.PlainLines.{texts_of-plain}
-use Rattle.tabled_grid.specs.Spans.{Rectangle}
 
 -- of all lines a number was read into a draft, and the rest is left
 pub record HasRead (all rest : List (List ℕ)) (number : ℕ) (draft : Draft) : Type 0 where

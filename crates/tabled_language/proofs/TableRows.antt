@@ -1,21 +1,6 @@
 -- Rows of a table, taken from a list of texts.
-use Rattle.std.proofs.Common.{◌≡◌, ℕ, zero, suc, ◌+◌, ◌*◌, ◌<◌, ◌≤◌, List, [], ◌∷◌, ◌++◌, Bool, true, false, cond, eqb, Ok, Err, refl, sym, ap, ap₂, ◌∙◌, length, get_or, map, take, drop, arith}
-use Rattle.std.specs.List.{range_with_len}
-use Rattle.std.proofs.lemmas.Bool.{eqb-false, le-leb, or_right}
-use Rattle.std.proofs.Math.Nat.{mul-le-mul_right}
-use Rattle.std.proofs.lemmas.List.{drop-drop, drop_more, length-drop, length-map, length-take, map-append, take_more}
-use Rattle.std.proofs.lemmas.List.FromFn.{length-map-range_with_len, map-range_with_len_more}
-use Rattle.tabled_grid.proofs.Across.{same_grid}
-use Rattle.tabled_grid.specs.Evenness.{AreWide}
-use Rattle.tabled_grid.specs.Grid.{Grid, IsEven, grid_of, map_grid, width_of}
-use Rattle.tabled_table.proofs.RowTexts.{wide-map}
-use Rattle.tabled_table.proofs.Tables.{even-width}
-use Rattle.tabled_language.specs.declared.fault.Fault.TheVariants.{NumberRange}
-use Rattle.tabled_language.specs.declared.fault.ReadError.{ReadError}
-use Rattle.tabled_language.specs.declared.fault.ReadError.TheVariants.{Faulty, OutOfMemory}
-use Rattle.tabled_language.specs.Parsing.{EndsEarly}
-use Rattle.tabled_language.specs.Verb.{reads_rows, reads_table, rows_of_texts}
-use Rattle.tabled_language.specs.Words.{Read, Reading, fails, first_word, gives, reads_count, reads_number, reads_text}
+use Rattle.tabled_language.proofs.Common.{[], ◌*◌, ◌++◌, ◌+◌, ◌<◌, ◌∙◌, ◌∷◌, ◌≡◌, ◌≤◌, AreWide, Bool, EndsEarly, Err, Faulty, Grid, IsEven, List, NumberRange, Ok, OutOfMemory, Read, ReadError, Reading, ap, ap₂, arith, cond, drop, drop-drop, drop_more, eqb, eqb-false, even-width, fails, false, first_word, get_or, gives, grid_of, le-leb, length, length-drop, length-map, length-map-range_with_len, map, map-append, map-range_with_len_more, map_grid, mul-le-mul_right, or_right, range_with_len, reads_count, reads_number, reads_rows, reads_table, reads_text, refl, rows_of_texts, same_grid, suc, sym, take, take_more, true, wide-map, width_of, zero, ℕ}
+use Rattle.std.proofs.lemmas.List.{length-take}
 
 abbrev row_at : ℕ → List (List ℕ) → ℕ → List (List ℕ)
 row_at columns texts i = take columns (drop (i * columns) texts)

@@ -1,13 +1,8 @@
 -- Bytes that are a text.
-use Rattle.std.specs.Global.{Vec, Global}
+use Rattle.tabled_language.proofs.Common.{◌≡◌, Bool, Err, Global, IsOk, IsUtf8, IsUtf8-from_is_utf8, IsUtf8-string_bytes, List, None, Ok, Result, Some, Vec, ap, cond, false, if_utf8, is_utf8-from_IsUtf8, option_map, refl, result_ok, string_bytes, string_vec, subst, true, ℕ}
 use Rattle.std.specs.Prelude.{String}
-use Rattle.std.proofs.Common.{◌≡◌, ℕ, Bool, List, true, false, cond, Some, None, Result, Ok, Err, refl, ap, subst}
-use Rattle.std.proofs.lemmas.Str.{IsUtf8-from_is_utf8, is_utf8-from_IsUtf8, IsUtf8-string_bytes}
-use Rattle.std.specs.Option.{option_map}
-use Rattle.std.specs.Result.{IfOk, IsOk, result_ok}
-use Rattle.std.specs.Str.{IsUtf8, is_utf8}
-use Rattle.std.specs.String.{string_bytes, string_vec}
-use Rattle.tabled_language.specs.Word.{if_utf8}
+use Rattle.std.specs.Result.{IfOk}
+use Rattle.std.specs.Str.{is_utf8}
 
 -- bytes that are a text
 pub text_lent : (bytes text : List ℕ) → text ≡ bytes → IsUtf8 bytes → Some text ≡ if_utf8 bytes

@@ -1,20 +1,6 @@
 -- A walk over rectangles row by row.
-use Rattle.std.proofs.Common.{◌≡◌, ℕ, zero, suc, ◌+◌, ◌<◌, ◌≤◌, ◌⊎◌, inl, inr, ◌&&◌, Bool, true, false, cond, length, get_or, take, drop, List, [], ◌∷◌, ◌++◌, refl, sym, ap, subst, ◌∙◌, arith}
+use Rattle.tabled_language.proofs.Common.{[], ◌&&◌, ◌++◌, ◌+◌, ◌<◌, ◌∙◌, ◌∷◌, ◌≡◌, ◌≤◌, ◌⊎◌, AllByRecursion, AreBeside, AreKeyed, BTreeMap, Bool, EndsAbove, IsBeside, IsClear, IsLeft, IsMet, IsSpanSize, List, Meets, Rectangle, RowsRise, all-append, and_from, and_right, ap, arith, cond, drop, false, false_from_ne_true, fit_in, get, get_or, get_or_default, has_place, have_places, inl, inr, is_eq, length, lies_inside, list_any, meets, meets-from, meets-true, meets-turned, nat_cmp, nat_tests, none-some, not_from_false, or_from, refl, same_Some, subst, suc, sym, take, take-append-drop, take_more, true, true≢false, zero, ℕ}
 use Rattle.std.specs.Prelude.{Some, not}
-use Rattle.std.specs.BTreeMap.{BTreeMap, get}
-use Rattle.std.specs.List.{AllByRecursion, list_any}
-use Rattle.std.specs.Ordering.{is_eq, nat_cmp}
-use Rattle.std.proofs.lemmas.Bool.{and_from, and_right, false_from_ne_true, not_from_false, or_from, true≢false}
-use Rattle.std.proofs.lemmas.Bool.Decides.{nat_tests}
-use Rattle.std.proofs.lemmas.List.{get_or_default, take-append-drop, take_more}
-use Rattle.std.proofs.lemmas.Option.{none-some, same_Some}
-use Rattle.tabled_grid.proofs.Lists.{all-append}
-use Rattle.tabled_grid.proofs.MetAnchors.{meets-turned}
-use Rattle.tabled_grid.proofs.PassedAnchors.{Meets, meets-from, meets-true}
-use Rattle.tabled_grid.specs.Anchors.{lies_inside, meets}
-use Rattle.tabled_grid.specs.Spans.{IsSpanSize, Rectangle}
-use Rattle.tabled_language.specs.Placed.{fit_in, has_place, have_places}
-use Rattle.tabled_language.specs.Walk.{AreBeside, AreKeyed, EndsAbove, IsBeside, IsClear, IsLeft, IsMet, RowsRise}
 use Rattle.tabled_language.proofs.PlacedAnchors.{any-parts, have_places-push}
 
 -- of the rectangles gone through those are kept that may reach a row or a later one

@@ -1,7 +1,5 @@
 -- Copies of lists.
-use Rattle.std.proofs.Common.{List, [], ◌∷◌}
-use Rattle.std.specs.List.{AllByRecursion, AllZip}
-use Rattle.tabled_options.specs.Does.{CopiesAlike}
+use Rattle.tabled_options.proofs.Common.{[], ◌∷◌, AllByRecursion, AllZip, CopiesAlike, List}
 
 -- where copies of each item are like it, copies of all are like them
 pub zip_alike : {X : Type 0} (is_clone is_like : X → X → Type 0) (xs ys : List X) → AllByRecursion (CopiesAlike is_clone is_like) xs → AllZip is_clone xs ys → AllZip is_like xs ys

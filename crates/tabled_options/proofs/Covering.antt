@@ -1,12 +1,7 @@
 -- Entities that cover others.
-use Rattle.std.proofs.Common.{◌≡◌, ◌∙◌, Bool, true, false, ◌+◌, refl, ap, sym, arith}
-use Rattle.std.proofs.lemmas.Bool.{false≢true}
+use Rattle.tabled_options.proofs.Common.{◌+◌, ◌∙◌, ◌≡◌, Bool, Covers, Entity, IsCombined, ap, arith, false, false≢true, if◌then◌else◌, names_all_of, place, refl, sym, true}
 use Rattle.std.proofs.lemmas.Bool.Decides.{nat_tests}
-use Rattle.std.specs.Prelude.{if◌then◌else◌}
-use Rattle.tabled_grid.specs.Entity.{place}
-use Rattle.tabled_grid.specs.declared.config.entity.Entity.{Entity}
 use Rattle.tabled_grid.specs.declared.config.entity.Entity.TheVariants.{Global, Column, Row, Cell}
-use Rattle.tabled_options.specs.Hints.{Covers, IsCombined, names_all_of}
 
 -- what the test finds, covers
 pub covers_means : (a b : Entity) → names_all_of a b ≡ true → Covers a b

@@ -1,10 +1,7 @@
 -- What options keep, where their parts keep it.
-use Rattle.std.proofs.Common.{◌≡◌, ℕ, zero, suc, List, [], ◌∷◌, Some, inl, inr, subst, sym, take}
-use Rattle.std.specs.List.{AllByRecursion, slice_get}
-use Rattle.std.proofs.lemmas.List.Elements.{All-from_recursion, All-get_or}
-use Rattle.std.proofs.lemmas.Option.{get_or_from_slice_get, slice_get_within}
-use Rattle.tabled_grid.specs.Grid.{Grid}
-use Rattle.tabled_options.specs.Does.{Change, Each, EachListed, EachListedUntil, EachUntil, Keeps, OptionKeeps, Same, SameOr, Then, ThenLeaves}
+use Rattle.tabled_options.proofs.Common.{[], ◌∷◌, ◌≡◌, All-from_recursion, AllByRecursion, Change, Each, EachListed, EachListedUntil, EachUntil, Grid, Keeps, List, OptionKeeps, Same, SameOr, Some, Then, ThenLeaves, get_or_from_slice_get, inl, inr, slice_get, subst, suc, sym, take, zero, ℕ}
+use Rattle.std.proofs.lemmas.List.Elements.{All-get_or}
+use Rattle.std.proofs.lemmas.Option.{slice_get_within}
 
 -- what holds of everything holds of all members
 all_of : {X : Type 0} (P : X → Type 0) (xs : List X) → ((x : X) → P x) → AllByRecursion P xs

@@ -1,3 +1,4 @@
+pub mod Common
 pub mod Copied
 pub mod Covering
 pub mod Keeps

@@ -1,5 +1,5 @@
 -- Results.
-use Rattle.std.proofs.Common.{Result, Ok, Err}
+use Rattle.tabled_options.proofs.Common.{Err, Ok, Result}
 use Rattle.std.specs.Result.{OnErr}
 
 -- what holds anyhow holds at an error

@@ -1,11 +1,6 @@
 -- What keeps the shape of a table, and so its merged cells inside and apart.
-use Rattle.std.proofs.Common.{◌≡◌, ℕ, List, [], ◌∷◌, refl, ap, ◌∙◌, take}
-use Rattle.tabled_grid.specs.Grid.{Grid, map_grid, with_cell}
-use Rattle.tabled_grid.specs.Fitting.{Fits}
-use Rattle.tabled_grid.specs.Spans.{SpanMap}
-use Rattle.tabled_options.specs.Does.{Change, OptionKeeps}
+use Rattle.tabled_options.proofs.Common.{[], ◌∙◌, ◌∷◌, ◌≡◌, Change, DoesFirstWrites, DoesWrites, Fits, Grid, List, OptionKeeps, SpanMap, Write, ap, map_grid, refl, take, with_cell, with_writes, ℕ}
 use Rattle.tabled_options.specs.Shapes.{KeepsShape}
-use Rattle.tabled_options.specs.Writes.{DoesFirstWrites, DoesWrites, Write, with_writes}
 
 pub fits_kept : {A : Type 0} (does leaves : Change A SpanMap) → KeepsShape does → KeepsShape leaves → OptionKeeps (λ (g : Grid A) (c : SpanMap). Fits c g.rows g.columns) does leaves
 fits_kept does leaves done refused = record {

@@ -1,6 +1,5 @@
 -- Iterators that give all items of a list, one turn further.
-use Rattle.std.proofs.Common.{◌≡◌, List, [], ◌∷◌, Option, Some, None, refl, ap, sym}
-use Rattle.std.specs.Iterator.{AlwaysYields}
+use Rattle.tabled_options.proofs.Common.{[], ◌∷◌, ◌≡◌, AlwaysYields, List, None, Option, Some, ap, refl, sym}
 
 -- what is left after a turn
 pub record Turned {S A : Type 0} (steps : S → Option A → S → Type 0) (all : List A) (x : A) (t : S) : Type 0 where

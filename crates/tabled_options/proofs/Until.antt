@@ -1,7 +1,5 @@
 -- What is left where the change for one of several items is refused.
-use Rattle.std.proofs.Common.{zero, suc, List, ◌∷◌, refl}
-use Rattle.tabled_grid.specs.Grid.{Grid}
-use Rattle.tabled_options.specs.Does.{Change, EachUntil}
+use Rattle.tabled_options.proofs.Common.{◌∷◌, Change, EachUntil, Grid, List, refl, suc, zero}
 
 module _ {A C X : Type 0} (does leaves : X → Change A C) (x : X) (xs : List X) (g : Grid A) (c : C) where
   -- the first one is refused

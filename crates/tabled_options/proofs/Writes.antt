@@ -1,10 +1,6 @@
 -- Texts written to cells, one more or a part more at a time.
-use Rattle.std.proofs.Common.{◌≡◌, ◌+◌, ℕ, suc, List, ◌∷◌, ◌++◌, length, take, refl, arith}
-use Rattle.std.proofs.Math.Seq.{take-append-add}
+use Rattle.tabled_options.proofs.Common.{◌++◌, ◌+◌, ◌∷◌, ◌≡◌, FirstWrites, Grid, List, Write, arith, length, length-append, refl, suc, take, take-append-add, take-append-le, with_cell, with_writes, ℕ}
 use Rattle.std.proofs.lemmas.Grind.{fold-append}
-use Rattle.std.proofs.lemmas.List.{length-append, take-append-le}
-use Rattle.tabled_grid.specs.Grid.{Grid, with_cell}
-use Rattle.tabled_options.specs.Writes.{FirstWrites, Write, with_writes}
 
 -- no write is the first of them
 pub some-none : (w : Write) (writes : List Write) (g : Grid (List ℕ)) → FirstWrites (w ∷ writes) g g

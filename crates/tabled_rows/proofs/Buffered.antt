@@ -1,19 +1,5 @@
 -- What iterators over buffered rows give.
-use Rattle.std.proofs.Common.{rules, ◌≡◌, ℕ, zero, suc, ◌<◌, ◌≤◌, true, false, List, [], ◌∷◌, ◌++◌, Option, None, Some, refl, sym, ap, ap₂, subst, ◌∙◌, map, length, take, arith}
-use Rattle.std.proofs.lemmas.List.{nil_from_length}
-use Rattle.std.specs.Global.{Global, Vec}
-use Rattle.std.specs.Iterator.{Count, IsFinite, Yields}
-use Rattle.std.specs.Iterator.Adapters.{fuse_done, fuse_source, fuse_steps}
-use Rattle.std.specs.declared.iter.Fuse.{Fuse}
-use Rattle.std.specs.Vec.{vec_len}
-use Rattle.std.specs.Vec.Iter.{into_iter_items, into_iter_len, into_iter_steps}
-use Rattle.std.specs.declared.vec.IntoIter.{IntoIter}
-use Rattle.tabled_grid.specs.Grid.{map_items}
-use Rattle.tabled_rows.specs.Listed.{GivesEach, GoesOverEach}
-use Rattle.tabled_rows.specs.Rows.{Shows, all_shown}
-use Rattle.tabled_rows.specs.Steps.{BufferedWalk, Comes, GivesBuffered, can_come, still_to_come}
-use Rattle.tabled_rows.specs.declared.records.buf_records.BufIterator.{BufIterator}
-use Rattle.tabled_rows.specs.declared.records.buf_records.BufIterator.TheVariants.{Buffered, Iterator}
+use Rattle.tabled_rows.proofs.Common.{[], ◌++◌, ◌<◌, ◌∙◌, ◌∷◌, ◌≡◌, ◌≤◌, BufIterator, Buffered, BufferedWalk, Comes, Count, Fuse, GivesBuffered, GivesEach, Global, GoesOverEach, IntoIter, IsFinite, Iterator, List, None, Option, Shows, Some, Vec, Yields, all_shown, ap, ap₂, arith, can_come, false, fuse_done, fuse_source, fuse_steps, into_iter_items, into_iter_len, into_iter_steps, length, map, map_items, nil_from_length, refl, rules, still_to_come, subst, suc, sym, take, true, vec_len, zero, ℕ}
 use Rattle.tabled_rows.proofs.Listed.{Went, gives-by_state, gives-ended, gives-vec, gives-went}
 
 module _ {I A B : Type 0} (cell_gives : I → Option A → I → Type 0) (shown : A → B) where

@@ -1,17 +1,6 @@
 -- What adapters give, told by what the iterators inside them gave.
-use Rattle.std.proofs.Common.{rules, ◌≡◌, ℕ, ◌+◌, ◌<◌, ◌≤◌, Bool, true, false, List, [], ◌∷◌, ◌++◌, Option, None, Some, refl, sym, ap, subst, ◌∙◌, length, drop, arith}
-use Rattle.std.specs.Prelude.{◌&&◌, ltb}
-use Rattle.std.proofs.lemmas.Bool.{and_parts, ltb-true}
-use Rattle.std.proofs.lemmas.List.{drop_all}
-use Rattle.std.proofs.lemmas.List.Elements.{All-drop, All-from_recursion, recursion_from_All}
-use Rattle.std.proofs.Math.Seq.{drop-append_seam}
-use Rattle.std.specs.Iterator.{DrainsIf, HoldsAlong, Yields}
-use Rattle.std.specs.Iterator.Adapters.{skip_count, skip_source, skip_steps, take_count, take_source, take_steps}
-use Rattle.std.specs.List.{All, AllByRecursion, AllZip}
-use Rattle.std.specs.declared.iter.Skip.{Skip}
-use Rattle.std.specs.declared.iter.Take.{Take}
-use Rattle.tabled_rows.specs.Gave.{LimitsRow}
-use Rattle.tabled_rows.specs.Steps.{GivesLimited}
+use Rattle.tabled_rows.proofs.Common.{[], ◌&&◌, ◌++◌, ◌+◌, ◌<◌, ◌∙◌, ◌∷◌, ◌≡◌, ◌≤◌, All, All-drop, All-from_recursion, AllByRecursion, AllZip, Bool, DrainsIf, GivesLimited, HoldsAlong, LimitsRow, List, None, Option, Skip, Some, Take, Yields, and_parts, ap, arith, drop, drop-append_seam, drop_all, false, length, ltb, recursion_from_All, refl, rules, skip_count, skip_source, skip_steps, subst, sym, take_count, take_source, take_steps, true, ℕ}
+use Rattle.std.proofs.lemmas.Bool.{ltb-true}
 
 module _ {S A : Type 0} (next_gives : S → Option A → S → Type 0) where
   not_ended : false ≡ true → (t : S) → (u : S) × next_gives t None u

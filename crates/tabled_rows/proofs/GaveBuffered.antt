@@ -1,21 +1,5 @@
 -- What a source that is read ahead gives, told by what the source gave.
-use Rattle.std.proofs.Common.{rules, ◌≡◌, ◌<◌, Bool, true, false, List, [], ◌∷◌, ◌++◌, Option, None, Some, refl, sym, ap, subst, ◌∙◌, length, get_or, drop, arith}
-use Rattle.std.proofs.lemmas.List.{append-nil}
-use Rattle.std.proofs.lemmas.List.Elements.{All-drop, All-from_recursion, All-nil, recursion_from_All}
-use Rattle.std.proofs.Math.Seq.{drop-append_seam}
-use Rattle.std.specs.Global.{Global, Vec}
-use Rattle.std.specs.Iterator.{Count, DrainsIf, HoldsAlong, Yields}
-use Rattle.std.specs.Iterator.Adapters.{fuse_done, fuse_source, fuse_steps}
-use Rattle.std.specs.List.{All, AllByRecursion, AllZip}
-use Rattle.std.specs.Vec.Iter.{into_iter_items, into_iter_len}
-use Rattle.std.specs.declared.iter.Fuse.{Fuse}
-use Rattle.std.specs.declared.vec.IntoIter.{IntoIter}
-use Rattle.tabled_grid.specs.Grid.{map_items}
-use Rattle.tabled_rows.specs.Gave.{EachSourceMayBeAsked, FollowsBuffer, Gave, HasCome, SourceMayBeAsked}
-use Rattle.tabled_rows.specs.Listed.{GivesEach, GoesOverEach}
-use Rattle.tabled_rows.specs.Steps.{GivesBuffered}
-use Rattle.tabled_rows.specs.declared.records.buf_records.BufIterator.{BufIterator}
-use Rattle.tabled_rows.specs.declared.records.buf_records.BufIterator.TheVariants.{Buffered, Iterator}
+use Rattle.tabled_rows.proofs.Common.{[], ◌++◌, ◌<◌, ◌∙◌, ◌∷◌, ◌≡◌, All, All-drop, All-from_recursion, All-nil, AllByRecursion, AllZip, Bool, BufIterator, Buffered, Count, DrainsIf, EachSourceMayBeAsked, FollowsBuffer, Fuse, Gave, GivesBuffered, GivesEach, Global, GoesOverEach, HasCome, HoldsAlong, IntoIter, Iterator, List, None, Option, Some, SourceMayBeAsked, Vec, Yields, ap, append-nil, arith, drop, drop-append_seam, false, fuse_done, fuse_source, fuse_steps, get_or, into_iter_items, into_iter_len, length, map_items, recursion_from_All, refl, rules, subst, sym, true}
 use Rattle.tabled_rows.proofs.Gave.{ran-append, so_far}
 use Rattle.tabled_rows.proofs.Listed.{gives-went}
 

@@ -1,23 +1,10 @@
 -- What iterators made of iterators give.
 use denote.Ref.{Bor}
-use Rattle.std.specs.List.{slice_get}
-use Rattle.std.specs.Prelude.{replicate}
+use Rattle.tabled_rows.proofs.Common.{[], ◌+◌, ◌<◌, ◌∙◌, ◌∷◌, ◌≡◌, Count, GivesEach, GivesLimited, GoesOverEach, IntoIter, Iter, List, None, Option, Shows, Skip, Some, Take, Yields, ap, ap₂, arith, at_most, count_min, drop, drop_all, drop_more, get_or, get_or_from_slice_get, into_iter_items, into_iter_len, into_iter_steps, length, length-drop, map, nil_from_length, refl, repeat_n_count, repeat_n_item, repeat_n_steps, replicate, skip_count, skip_source, skip_steps, slice_get, subst, suc, sym, take, take_count, take_source, take_steps, vec_len, zero, ℕ}
 use Rattle.std.specs.Slice.Iter.{iter_rest, iter_steps}
 use Rattle.std.specs.declared.iter.RepeatN.{RepeatN}
-use Rattle.std.proofs.lemmas.Option.{get_or_from_slice_get, slice_get_within}
-use Rattle.std.proofs.Common.{Iter, ◌≡◌, ℕ, zero, suc, ◌+◌, ◌<◌, List, [], ◌∷◌, Option, None, Some, refl, sym, ap, ap₂, subst, ◌∙◌, map, length, take, drop, get_or, arith}
-use Rattle.std.proofs.lemmas.List.{drop_all, drop_more, length-drop, nil_from_length}
-use Rattle.std.specs.Iterator.{Count, Yields, at_most, count_min}
-use Rattle.std.specs.Iterator.Adapters.{repeat_n_count, repeat_n_item, repeat_n_steps, skip_count, skip_source, skip_steps, take_count, take_source, take_steps}
-use Rattle.std.specs.declared.iter.Skip.{Skip}
-use Rattle.std.specs.declared.iter.Take.{Take}
-use Rattle.std.specs.declared.vec.IntoIter.{IntoIter}
+use Rattle.std.proofs.lemmas.Option.{slice_get_within}
 use Rattle.std.specs.declared.vec.Vec.{Vec}
-use Rattle.std.specs.Vec.{vec_len}
-use Rattle.std.specs.Vec.Iter.{into_iter_items, into_iter_len, into_iter_steps}
-use Rattle.tabled_rows.specs.Listed.{GivesEach, GoesOverEach}
-use Rattle.tabled_rows.specs.Rows.{Shows}
-use Rattle.tabled_rows.specs.Steps.{GivesLimited}
 
 some_item : {B : Type 0} (y : B) (ys : List B) → y ∷ ys ≡ [] → ⊥
 some_item y ys e = omega (arith, ap length e)

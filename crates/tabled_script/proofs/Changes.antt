@@ -1,7 +1,5 @@
 -- Steps as changes of a state.
-use Rattle.std.proofs.Common.{◌≡◌, List, [], ◌∷◌, map, refl}
-use Rattle.tabled_script.specs.Answer.{changed}
-use Rattle.tabled_steps.specs.States.{State, after, after_all}
+use Rattle.tabled_script.proofs.Common.{[], ◌∷◌, ◌≡◌, List, State, after, after_all, changed, map, refl}
 use Rattle.tabled_steps.specs.declared.step.Step.{Step}
 
 -- what steps do is what each does, one after another

@@ -1,5 +1,6 @@
 pub mod Again
 pub mod Changes
+pub mod Common
 pub mod OutputLines
 pub mod Sent
 pub mod Texts

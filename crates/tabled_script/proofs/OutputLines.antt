@@ -1,19 +1,9 @@
 -- Lines of words, piece by piece.
-use Rattle.std.proofs.Common.{◌≡◌, ℕ, ◌+◌, ◌<◌, ◌≤◌, ◌^◌, true, List, [], ◌∷◌, ◌++◌, refl, ap, arith, sym, map, take, get_or, length, codes}
-use Rattle.std.proofs.lemmas.Bool.{and_parts, leb-true, ne_eqb}
-use Rattle.std.proofs.lemmas.Fmt.{digits_decimal}
-use Rattle.std.specs.Global.{Vec}
-use Rattle.std.specs.Fmt.{decimal}
-use Rattle.std.specs.List.{flat_map, join_with_byte}
+use Rattle.tabled_script.proofs.Common.{[], ◌++◌, ◌+◌, ◌<◌, ◌^◌, ◌∷◌, ◌≡◌, ◌≤◌, List, Vec, all_ascii_digits, and_parts, ap, arith, codes, decimal, digits_decimal, escaped, escaped_byte, flat_map, flat_map-append, get_or, grid_of, join_with_byte, leb-true, length, line, map, map_grid, map_items, nat_le, ne_eqb, refl, sym, table_lines, take, take_more, true, width_of, ℕ}
 use Rattle.std.specs.Char.{is_ascii_digit}
-use Rattle.std.specs.Prelude.{nat_le}
-use Rattle.std.specs.Str.{all_ascii_digits}
-use Rattle.std.proofs.lemmas.List.{append-nil, append_assoc, take_more}
-use Rattle.std.proofs.lemmas.List.Concat.{flat_map-append}
+use Rattle.std.proofs.lemmas.List.{append-nil, append_assoc}
 use Rattle.std.proofs.lemmas.List.Folds.{flat_map-map}
-use Rattle.tabled_grid.specs.Grid.{grid_of, map_grid, map_items, width_of}
 use Rattle.tabled_language.proofs.Numbers.{numerals}
-use Rattle.tabled_language.specs.Output.{escaped, escaped_byte, line, table_lines}
 
 -- after the first list, each list with the byte before it
 pub join_with_byte-cons : (c : ℕ) (xs : List ℕ) (xss : List (List ℕ)) → join_with_byte c (xs ∷ xss) ≡ xs ++ flat_map (λ ys. c ∷ ys) xss

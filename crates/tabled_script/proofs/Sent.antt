@@ -1,8 +1,6 @@
 -- Bytes that are held, and then written.
-use Rattle.std.proofs.Common.{◌≡◌, ℕ, List, [], ◌++◌, Option, append-nil, append_assoc, ap, refl, subst, sym, ◌∙◌}
+use Rattle.tabled_script.proofs.Common.{[], ◌++◌, ◌∙◌, ◌≡◌, Appends, List, Option, Sends, ap, append-nil, append_assoc, refl, subst, sym, ℕ}
 use Rattle.std.proofs.KnownBytes.{Appends-nil, Appends-trans}
-use Rattle.std.specs.Io.KnownBytes.{Appends}
-use Rattle.tabled_script.specs.Sent.{Sends}
 
 -- bytes that are held
 pub sends_none : (a : Option (List ℕ)) (held left bytes : List ℕ) → left ≡ held ++ bytes → Sends a held a left bytes

@@ -1,8 +1,6 @@
 -- What answers of a closure keep.
-use Rattle.std.proofs.Common.{◌≡◌, ◌∙◌, Bool, true, false, List, [], ◌∷◌, refl, sym, subst, length, arith}
-use Rattle.std.specs.List.{filter, items_where_true}
+use Rattle.tabled_select.proofs.Common.{[], ◌∙◌, ◌∷◌, ◌≡◌, Bool, Filters, List, arith, false, filter, items_where_true, length, refl, subst, sym, true}
 use Rattle.std.specs.List.Retain.{IsFiltered, ReturnsInTurn}
-use Rattle.tabled_select.specs.Steps.{Filters}
 
 module _ {X P : Type 0} (R : P → X → Bool → P → Type 0) (answers : X → Bool → Type 0) (p : P) (says : (x : X) (b : Bool) (q : P) → R p x b q → (q ≡ p) × answers x b) where
   kept : (bs : List Bool) (xs : List X) (q : P) → length bs ≡ length xs → ReturnsInTurn R p bs xs q → Filters answers xs (items_where_true bs xs)

@@ -1,14 +1,5 @@
 -- What isn't in a list is in its inversion.
-use Rattle.std.proofs.Common.{◌≡◌, ℕ, ◌+◌, ◌-◌, Bool, true, false, cond, List, [], ◌∷◌, ◌++◌, refl, sym, ap, ap₂, ◌∙◌, arith}
-use Rattle.std.specs.Prelude.{◌&&◌, ◌||◌, not}
-use Rattle.std.specs.List.{AllByRecursion, filter, list_any}
-use Rattle.tabled_grid.specs.Entity.{block, inside, names}
-use Rattle.tabled_grid.specs.declared.config.position.Position.{Position}
-use Rattle.tabled_grid.specs.declared.config.entity.Entity.{Entity}
-use Rattle.tabled_grid.specs.declared.config.entity.Entity.TheVariants.{Cell, Global}
-use Rattle.tabled_grid.proofs.Places.{inside-Cell, inside-Global, inside-within}
-use Rattle.tabled_select.specs.Algebra.{cells_of, difference_of, flat, intersection_of, inversion_of, is_among}
-use Rattle.tabled_grid.specs.Entity.{same_place}
+use Rattle.tabled_select.proofs.Common.{[], ◌&&◌, ◌++◌, ◌+◌, ◌-◌, ◌||◌, ◌∙◌, ◌∷◌, ◌≡◌, AllByRecursion, Bool, Cell, Entity, Global, List, Position, ap, ap₂, arith, block, cells_of, cond, difference_of, false, filter, flat, inside, inside-Cell, inside-Global, inside-within, intersection_of, inversion_of, is_among, list_any, names, not, refl, same_place, sym, true, ℕ}
 use Rattle.tabled_select.proofs.MarkedPlaces.{and_false, is-same, same_place-turned}
 use Rattle.tabled_select.proofs.NamedPlaces.{IsWithin, flat-within}
 use Rattle.tabled_select.proofs.Sifted.{all-filter, filter-agree_within, list_any-filter}

@@ -1,3 +1,4 @@
+pub mod Common
 pub mod Filtered
 pub mod Inverted
 pub mod Located

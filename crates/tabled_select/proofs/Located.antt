@@ -1,19 +1,9 @@
 -- Ranges and vectors as what is gone over.
-use Rattle.std.proofs.Common.{◌≡◌, ◌∙◌, ℕ, ◌-◌, List, [], ◌∷◌, map, refl, ap}
-use Rattle.std.proofs.lemmas.Iterator.{YieldsList-from_range}
-use Rattle.std.proofs.lemmas.Iterator.Adapters.{YieldsList-from_vec}
-use Rattle.std.proofs.iter.Yields.{nat_range_steps}
+use Rattle.tabled_select.proofs.Common.{[], ◌-◌, ◌∙◌, ◌∷◌, ◌≡◌, Column, GivesAll, List, Position, Vec, YieldsList-from_range, YieldsList-from_vec, ap, at_most, columns_of, into_iter_items, into_iter_len, into_iter_steps, map, nat_range_steps, range_with_len, refl, ℕ}
 use Rattle.std.specs.Bool.{⊤}
-use Rattle.std.specs.Global.{Global, Vec}
-use Rattle.std.specs.Iterator.{at_most}
-use Rattle.std.specs.List.{range_with_len}
+use Rattle.std.specs.Global.{Global}
 use Rattle.std.specs.Vec.{vec_len}
-use Rattle.std.specs.Vec.Iter.{into_iter_items, into_iter_len, into_iter_steps}
 use Rattle.std.specs.declared.ops.Range.{Range}
-use Rattle.tabled_grid.specs.declared.config.entity.Entity.TheVariants.{Column}
-use Rattle.tabled_grid.specs.declared.config.position.Position.{Position}
-use Rattle.tabled_select.specs.Located.{GivesAll}
-use Rattle.tabled_select.specs.Selectors.{columns_of}
 
 -- a range gives its indexes
 pub range-gives : (gap : Range ℕ → ℕ) (range : Range ℕ) (a b : ℕ) → range.start ≡ a → range.end ≡ b → GivesAll (λ _. ⊤) nat_range_steps (λ s. at_most (gap s)) range (range_with_len a (b - a))

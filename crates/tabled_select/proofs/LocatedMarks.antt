@@ -1,13 +1,7 @@
 -- Ranges that are cut at a limit, and marks of what is located.
-use Rattle.std.proofs.Common.{◌≡◌, ◌∙◌, ℕ, zero, suc, ◌+◌, ◌-◌, ◌<◌, ◌≤◌, Bool, true, false, List, [], ◌∷◌, inl, inr, refl, sym, ap, arith}
-use Rattle.std.specs.Prelude.{◌==◌, ◌||◌, Some, min, replicate}
-use Rattle.std.specs.List.{filter, range_with_len}
+use Rattle.tabled_select.proofs.Common.{[], ◌+◌, ◌-◌, ◌<◌, ◌==◌, ◌||◌, ◌∙◌, ◌∷◌, ◌≡◌, ◌≤◌, AllOrThose, Bool, Equal, Greater, Less, List, Some, TellsLocated, ap, arith, cases_eq, cases_lt, false, filter, get_or-replicate, inl, inr, is_located, is_lt, length-replicate, min, nat_cmp, ne_eqb, range_with_len, refl, replicate, suc, sym, true, zero, ℕ}
 use Rattle.std.specs.Cmp.{nat_cmp_is}
-use Rattle.std.specs.Ordering.{is_lt, nat_cmp, partial_lt}
-use Rattle.std.specs.declared.cmp.Ordering.TheVariants.{Equal, Greater, Less}
-use Rattle.std.proofs.lemmas.Bool.{cases_eq, cases_lt, ne_eqb}
-use Rattle.std.proofs.lemmas.List.{get_or-replicate, length-replicate}
-use Rattle.tabled_select.specs.Located.{AllOrThose, TellsLocated, is_located}
+use Rattle.std.specs.Ordering.{partial_lt}
 
 -- an index is below a limit
 abbrev pub below : ℕ → ℕ → Bool

@@ -1,19 +1,8 @@
 -- What one more mark changes.
-use Rattle.std.proofs.Common.{◌≡◌, ℕ, ◌+◌, ◌*◌, ◌<◌, Bool, true, false, List, [], ◌∷◌, refl, sym, ap, ap₂, ◌∙◌, inl, inr, length, mul_comm, get_or, set, arith}
-use Rattle.std.specs.Prelude.{◌==◌, ◌&&◌, ◌||◌, if◌then◌else◌, not, replicate, Option, Some, None}
-use Rattle.std.specs.List.{AllByRecursion, filter}
-use Rattle.std.specs.Option.{IsSome, unwrap_or}
+use Rattle.tabled_select.proofs.Common.{[], ◌&&◌, ◌*◌, ◌+◌, ◌<◌, ◌==◌, ◌||◌, ◌∙◌, ◌∷◌, ◌≡◌, AllByRecursion, Bool, Entity, HasRoom, List, Marks, MarksAll, Position, SetsMark, Some, and_parts, ap, ap₂, arith, cases_eq, cases_lt, eq-eqb, eqb-true, false, filter, filter_agree, flat, get_or, get_or-replicate, get_or-set_other, get_or-set_same, has, if◌then◌else◌, inl, inr, is_among, le-ltb, length, length-replicate, length-set, lt-ltb, mark_at, mark_index, mul-add-lt, mul_comm, ne_eqb, not, passes, place, refl, replicate, same_from_place, same_place, set, sifted, sym, true, unwrap_or, ℕ}
+use Rattle.std.specs.Prelude.{Option, None}
+use Rattle.std.specs.Option.{IsSome}
 use Rattle.std.proofs.Math.Bool.{or-false, or-true}
-use Rattle.std.proofs.lemmas.Bool.{and_parts, eqb-true, lt-ltb, le-ltb, eq-eqb, ne_eqb, cases_eq, cases_lt}
-use Rattle.std.proofs.lemmas.List.{get_or-replicate, get_or-set_same, get_or-set_other, length-replicate, length-set}
-use Rattle.std.proofs.lemmas.List.Elements.{filter_agree}
-use Rattle.std.proofs.lemmas.Nat.{mul-add-lt, same_from_place}
-use Rattle.tabled_grid.specs.Entity.{place}
-use Rattle.tabled_grid.specs.declared.config.position.Position.{Position}
-use Rattle.tabled_grid.specs.declared.config.entity.Entity.{Entity}
-use Rattle.tabled_grid.specs.Entity.{same_place}
-use Rattle.tabled_select.specs.Algebra.{flat, is_among, sifted}
-use Rattle.tabled_select.specs.Marks.{HasRoom, Marks, MarksAll, SetsMark, has, mark_at, mark_index, passes}
 use Rattle.tabled_select.proofs.NamedPlaces.{IsWithin, flat-within}
 
 same-false : (p q : Position) → ((p.row ≡ q.row) × (p.col ≡ q.col) → ⊥) → same_place p q ≡ false

@@ -1,13 +1,5 @@
 -- The places that entities name in a table.
-use Rattle.std.proofs.Common.{◌≡◌, ℕ, ◌<◌, List, [], ◌∷◌, ◌++◌, refl, sym, ap, ◌∙◌}
-use Rattle.std.proofs.lemmas.List.{append_assoc}
-use Rattle.std.specs.List.{AllByRecursion}
-use Rattle.tabled_grid.specs.Entity.{inside}
-use Rattle.tabled_grid.specs.declared.config.position.Position.{Position}
-use Rattle.tabled_grid.specs.declared.config.entity.Entity.{Entity}
-use Rattle.tabled_grid.proofs.Lists.{all-append}
-use Rattle.tabled_grid.proofs.Places.{inside-within}
-use Rattle.tabled_select.specs.Algebra.{flat}
+use Rattle.tabled_select.proofs.Common.{[], ◌++◌, ◌<◌, ◌∙◌, ◌∷◌, ◌≡◌, AllByRecursion, Entity, List, Position, all-append, ap, append_assoc, flat, inside, inside-within, refl, sym, ℕ}
 
 -- a place lies in a table
 abbrev pub IsWithin : ℕ → ℕ → Position → Type 0

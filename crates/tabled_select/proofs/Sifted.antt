@@ -1,7 +1,5 @@
 -- Lists sifted by tests.
-use Rattle.std.proofs.Common.{◌≡◌, Bool, true, false, cond, List, [], ◌∷◌, refl, ap, ◌∙◌, length, arith}
-use Rattle.std.specs.Prelude.{◌&&◌, ◌||◌}
-use Rattle.std.specs.List.{AllByRecursion, filter, list_any}
+use Rattle.tabled_select.proofs.Common.{[], ◌&&◌, ◌||◌, ◌∙◌, ◌∷◌, ◌≡◌, AllByRecursion, Bool, List, ap, arith, cond, false, filter, length, list_any, refl, true}
 
 module _ {X : Type 0} where
   -- a test that all pass

@@ -1,15 +1,7 @@
 -- What iterators made of iterators give.
-use Rattle.std.proofs.Common.{rules, ◌≡◌, ℕ, zero, suc, ◌+◌, ◌-◌, ◌*◌, ◌%◌, ◌/◌, ◌<◌, ◌≤◌, inl, inr, List, [], ◌∷◌, ◌++◌, Option, None, Some, refl, sym, ap, ◌∙◌, map, length, get_or, drop, arith}
-use Rattle.std.proofs.iter.Yields.{gives_left}
-use Rattle.std.proofs.Math.Nat.{div-eq_of_lt, div-mul-le_self, mul-mod_left}
-use Rattle.std.proofs.lemmas.Bool.{cases_lt, ne_eqb}
-use Rattle.std.proofs.lemmas.List.{append-nil, length-map}
-use Rattle.std.proofs.lemmas.Nat.{le-div, mod-mul-add}
-use Rattle.std.specs.Iterator.{AlwaysYields, Count, IsFinite, MakesProgress, size}
-use Rattle.std.specs.List.{enumerate_from, filter}
-use Rattle.std.specs.Prelude.{◌==◌, IfNone, IfSome, OnSome}
-use Rattle.tabled_select.specs.Steps.{every}
-use Rattle.tabled_select.specs.Walks.{Hops, HopsIfAny, HopsOver, hops_left}
+use Rattle.tabled_select.proofs.Common.{[], ◌%◌, ◌*◌, ◌++◌, ◌+◌, ◌-◌, ◌/◌, ◌<◌, ◌==◌, ◌∙◌, ◌∷◌, ◌≡◌, ◌≤◌, AlwaysYields, Count, Hops, HopsIfAny, HopsOver, IfNone, IfSome, IsFinite, List, MakesProgress, None, OnSome, Option, ap, arith, cases_lt, div-eq_of_lt, div-mul-le_self, drop, enumerate_from, every, filter, get_or, gives_left, hops_left, inl, inr, le-div, length, length-map, map, mod-mul-add, mul-mod_left, ne_eqb, refl, rules, size, suc, sym, zero, ℕ}
+use Rattle.std.proofs.Common.{Some}
+use Rattle.std.proofs.lemmas.List.{append-nil}
 
 some_item : {B : Type 0} (y : B) (ys : List B) → y ∷ ys ≡ [] → ⊥
 some_item y ys e = omega (arith, ap length e)

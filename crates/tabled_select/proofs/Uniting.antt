@@ -1,14 +1,5 @@
 -- The first places of a list that aren't marked.
-use Rattle.std.proofs.Common.{◌≡◌, Bool, true, false, cond, List, ◌∷◌, refl, sym, ap, ◌∙◌}
-use Rattle.std.specs.Prelude.{◌&&◌, ◌||◌, not}
-use Rattle.std.specs.List.{filter}
-use Rattle.std.proofs.lemmas.List.Elements.{filter_agree}
-use Rattle.tabled_grid.specs.declared.config.position.Position.{Position}
-use Rattle.tabled_grid.specs.declared.config.entity.Entity.{Entity}
-use Rattle.tabled_grid.specs.declared.config.entity.Entity.TheVariants.{Cell}
-use Rattle.tabled_select.specs.Algebra.{cells_of, firsts}
-use Rattle.tabled_grid.specs.Entity.{same_place}
-use Rattle.tabled_select.specs.Marks.{Marks, MarksAll, SetsMark, has, passes}
+use Rattle.tabled_select.proofs.Common.{◌&&◌, ◌||◌, ◌∙◌, ◌∷◌, ◌≡◌, Bool, Cell, Entity, List, Marks, MarksAll, Position, SetsMark, ap, cells_of, cond, false, filter, filter_agree, firsts, has, not, passes, refl, same_place, sym, true}
 use Rattle.tabled_select.proofs.MarkedPlaces.{has-marked, none-marked, same_place-turned}
 use Rattle.tabled_select.proofs.Sifted.{filter_all, filter-filter}
 

@@ -1,13 +1,5 @@
 -- Walks over blocks and over the edge of a table.
-use Rattle.std.proofs.Common.{◌≡◌, ℕ, zero, suc, ◌+◌, ◌-◌, ◌<◌, ◌≤◌, true, [], ◌∷◌, refl, sym, ap, ◌∙◌, drop, arith}
-use Rattle.std.specs.List.{filter}
-use Rattle.std.proofs.lemmas.Bool.{ne_eqb}
-use Rattle.tabled_grid.proofs.Places.{block-no_columns, block-no_rows, drop-place, drop-row, last_in_row, inside-Global}
-use Rattle.tabled_grid.specs.Entity.{block, place}
-use Rattle.tabled_grid.specs.declared.config.entity.Entity.TheVariants.{Cell}
-use Rattle.tabled_select.specs.Algebra.{cells_of}
-use Rattle.tabled_select.specs.Selectors.{frame, on_edge}
-use Rattle.tabled_select.specs.Walks.{FrameWalk, Sector, frame_left, sector_left}
+use Rattle.tabled_select.proofs.Common.{[], ◌+◌, ◌-◌, ◌<◌, ◌∙◌, ◌∷◌, ◌≡◌, ◌≤◌, Cell, FrameWalk, Sector, ap, arith, block, block-no_columns, block-no_rows, cells_of, drop, drop-place, drop-row, filter, frame, frame_left, inside-Global, last_in_row, ne_eqb, on_edge, place, refl, sector_left, suc, sym, true, zero, ℕ}
 
 -- one place of a block after another
 pub sector-next : (s : Sector) → s.row < s.end_row → s.first_col ≤ s.col → s.col < s.end_col → cells_of (sector_left s) ≡ Cell s.row s.col ∷ cells_of (sector_left (record s { col = s.col + 1 }))

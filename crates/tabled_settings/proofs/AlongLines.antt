@@ -1,15 +1,5 @@
 -- Places and rectangles by their lines, and by where they are in them.
-use Rattle.std.proofs.Common.{◌≡◌, ℕ, ◌+◌, ◌<◌, ◌≤◌, Some, refl, ap, ap₂}
-use Rattle.std.proofs.lemmas.Option.{same_Some}
-use Rattle.tabled_grid.specs.Axis.{across, count_of, in_line, line_of}
-use Rattle.tabled_grid.specs.Entity.{place}
-use Rattle.tabled_grid.specs.Midway.{In}
-use Rattle.tabled_grid.specs.Spans.{Rectangle}
-use Rattle.tabled_grid.specs.declared.config.position.Position.{Position}
-use Rattle.tabled_grid.specs.declared.records.axis.Axis.{Axis}
-use Rattle.tabled_grid.specs.declared.records.axis.Axis.TheVariants.{Rows, Columns}
-use Rattle.tabled_carry.specs.Images.{Takes}
-use Rattle.tabled_settings.specs.Places.{lines_from}
+use Rattle.tabled_settings.proofs.Common.{◌+◌, ◌<◌, ◌≡◌, ◌≤◌, Axis, Columns, In, Position, Rectangle, Rows, Some, Takes, across, ap, ap₂, count_of, in_line, line_of, lines_from, place, refl, same_Some, ℕ}
 
 pub across_is : (axis : Axis) (p : Position) (i : ℕ) → line_of (across axis) (in_line axis p i) ≡ line_of (across axis) p
 across_is Rows p i = refl

@@ -1,15 +1,6 @@
 -- The indexes that are left, and rows of which these come to the front.
-use Rattle.std.proofs.Common.{◌≡◌, ℕ, zero, suc, map, subst, add-one, ◌+◌, ◌-◌, ◌<◌, ◌≤◌, ◌⊎◌, inl, inr, Bool, true, false, cond, List, [], ◌∷◌, ◌++◌, refl, sym, ap, ap₂, ◌∙◌, length, get_or, arith}
-use Rattle.std.specs.Prelude.{not}
-use Rattle.std.specs.List.{filter, range_with_len, swap}
-use Rattle.std.proofs.lemmas.Bool.{cases_Bool}
-use Rattle.std.proofs.lemmas.List.{append-nil, get_or_at, length-append, length_push, map-id}
-use Rattle.std.proofs.lemmas.List.Elements.{filter-append}
-use Rattle.std.proofs.lemmas.Simd.{map-map}
-use Rattle.tabled_grid.specs.Grid.{Grid, IsEven}
-use Rattle.tabled_grid.specs.declared.records.axis.Axis.TheVariants.{Columns}
-use Rattle.tabled_settings.specs.Lines.{BringsLines}
-use Rattle.tabled_settings.specs.Rearranged.{left_over}
+use Rattle.tabled_settings.proofs.Common.{[], ◌++◌, ◌+◌, ◌-◌, ◌<◌, ◌∙◌, ◌∷◌, ◌≡◌, ◌≤◌, ◌⊎◌, Bool, BringsLines, Columns, Grid, IsEven, List, add-one, ap, ap₂, arith, cases_Bool, cond, false, filter, filter-append, get_or, get_or_at, inl, inr, left_over, length, length-append, length_push, map, map-id, map-map, not, range_with_len, refl, subst, suc, swap, sym, true, zero, ℕ}
+use Rattle.std.proofs.lemmas.List.{append-nil}
 use Rattle.tabled_settings.proofs.Kept.{brings_more, brings_none}
 use Rattle.tabled_settings.proofs.PieceReads.{filter_alike, filter_below, filter_more, range_split}
 use Rattle.tabled_settings.proofs.RisingLists.{left_rises, length_within}

@@ -1,18 +1,6 @@
 -- How many cells entities name in a table, and the writes of texts that are duplicated.
-use Rattle.std.proofs.Common.{◌≡◌, ◌<◌, ◌≤◌, ◌+◌, ◌%◌, ◌∙◌, ◌++◌, ◌⊎◌, inl, inr, ℕ, zero, suc, List, [], ◌∷◌, get_or, length, take, refl, subst, sym, ap, ap₂, arith, ◌-◌, ◌*◌}
-use Rattle.std.specs.List.{AllByRecursion}
-use Rattle.std.proofs.Math.Nat.{mod-eq_of_lt}
-use Rattle.std.proofs.lemmas.Bool.{cases_lt}
-use Rattle.std.proofs.lemmas.List.{get_or-take, length-take-le, nil_from_length, take_all}
-use Rattle.tabled_grid.specs.Entity.{inside, block, place}
-use Rattle.tabled_grid.specs.Grid.{Grid, map_grid}
-use Rattle.tabled_grid.specs.declared.config.entity.Entity.{Entity}
-use Rattle.tabled_grid.specs.declared.config.position.Position.{Position}
-use Rattle.tabled_options.specs.Writes.{FirstWrites, Write, with_writes}
+use Rattle.tabled_settings.proofs.Common.{[], ◌%◌, ◌*◌, ◌++◌, ◌+◌, ◌-◌, ◌<◌, ◌∙◌, ◌∷◌, ◌≡◌, ◌≤◌, ◌⊎◌, AllByRecursion, Cell, Column, Duplicates, DuplicatesFirst, Entity, FirstWrites, Global, Grid, List, Position, Row, Write, ap, ap₂, arith, block, cases_lt, get_or, get_or-take, inl, inr, inside, inside-Cell, inside-Column, inside-Global, inside-Row, inside-no_cell, inside-no_column, inside-no_row, length, length-take-le, map_grid, mod-eq_of_lt, nil_from_length, place, places, refl, round_from, round_writes, rounds, source_texts, subst, suc, sym, take, take_all, with_writes, zero, ℕ}
 use Rattle.tabled_carry.proofs.Pigeonhole.{length-block}
-use Rattle.tabled_settings.specs.Dups.{Duplicates, DuplicatesFirst, round_from, round_writes, rounds, source_texts}
-use Rattle.tabled_grid.specs.declared.config.entity.Entity.TheVariants.{Cell, Column, Global, Row}
-use Rattle.tabled_grid.proofs.Places.{inside-Cell, inside-Column, inside-Global, inside-Row, inside-no_cell, inside-no_column, inside-no_row, places}
 
 -- the first n of a list that begins with the first n of another
 pub take-append-take : {X : Type 0} (n : ℕ) (xs ys : List X) → take n (take n xs ++ ys) ≡ take n (xs ++ ys)

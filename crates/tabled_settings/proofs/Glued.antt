@@ -1,34 +1,8 @@
 -- Pieces that are all kept, glued together.
-use Rattle.std.proofs.Common.{◌≡◌, ℕ, zero, suc, ◌+◌, ◌-◌, ◌*◌, ◌/◌, ◌%◌, ◌<◌, ◌≤◌, Bool, true, false, cond, List, [], ◌++◌, Some, refl, sym, ap, ap₂, ◌∙◌, length, map, get_or, arith}
-use Rattle.std.specs.Prelude.{slice_get, nat_lt}
-use Rattle.std.specs.Int.{div_ceil}
-use Rattle.std.specs.List.{AllByRecursion, flat_map, range_with_len}
-use Rattle.std.proofs.lemmas.Bool.{lt-ltb, ltb-true, ltb-false}
-use Rattle.std.proofs.lemmas.List.{length-append, length-take-le}
-use Rattle.std.proofs.lemmas.Grind.{div_ceil_times}
-use Rattle.std.proofs.lemmas.List.Elements.{All-from_recursion}
-use Rattle.std.proofs.lemmas.List.FromFn.{get_or-map-range_with_len, get_or-range_with_len, length-map-range_with_len, length-range_with_len}
-use Rattle.std.proofs.lemmas.Nat.{div-add-mod', div-mul-add, div_below, mod-mul-add, mod_below, row_fits}
-use Rattle.std.proofs.lemmas.Option.{slice_get-get_or}
-use Rattle.tabled_grid.specs.Along.{count_along}
-use Rattle.tabled_grid.specs.Entity.{place}
-use Rattle.tabled_grid.specs.Grid.{Grid, IsEven, cell_at}
-use Rattle.tabled_grid.specs.declared.records.axis.Axis.{Axis}
-use Rattle.tabled_grid.specs.declared.records.axis.Axis.TheVariants.{Rows, Columns}
-use Rattle.tabled_grid.proofs.Transposed.{slice_get-take}
-use Rattle.tabled_grid.specs.declared.records.piece_order.PieceOrder.{PieceOrder}
-use Rattle.tabled_grid.specs.declared.records.piece_order.PieceOrder.TheVariants.{Concat, Zip}
-use Rattle.tabled_settings.specs.declared.split.Display.TheVariants.{Retain}
-use Rattle.tabled_settings.specs.declared.split.Split.{Split}
-use Rattle.tabled_settings.specs.PiecePlaces.{glue_rows, glued, glued_line}
-use Rattle.tabled_grid.specs.Axis.{across}
-use Rattle.tabled_grid.specs.Pieces.{nth_piece, piece_index}
-use Rattle.tabled_settings.specs.Pieces.{cut_rows, has_pieces, piece_at, split, staying, oriented}
+use Rattle.tabled_settings.proofs.Common.{[], ◌%◌, ◌*◌, ◌++◌, ◌+◌, ◌-◌, ◌/◌, ◌<◌, ◌∙◌, ◌≡◌, ◌≤◌, All-from_recursion, AllByRecursion, Axis, Bool, Columns, Concat, Grid, IsEven, List, PieceOrder, Retain, Rows, Some, Split, Zip, across, ap, ap₂, arith, back_read, cell_at, cond, count_along, cut_rows, div-add-mod', div-mul-add, div_below, div_ceil, div_ceil_times, enough_pieces, false, flat_map, front_read, get_or, get_or-map-range_with_len, get_or-range_with_len, glue_rows, glued, glued_line, has_pieces, length, length-append, length-map-range_with_len, length-range_with_len, length-take-le, lt-ltb, ltb-false, ltb-true, map, mod-mul-add, mod_below, nat_lt, nth_piece, oriented, piece_at, piece_index, place, range_with_len, refl, row_fits, slice_get, slice_get-get_or, slice_get-take, some_pieces, split, staying, suc, sym, true, zero, ℕ}
 use Rattle.tabled_settings.proofs.PieceReads.{all_retained, cut_count, cut_even, cut_text, piece_text, same_by_lines, turned_across, turned_back, turned_cell, turned_columns, turned_count, turned_even, turned_rows}
-use Rattle.tabled_grid.proofs.PiecesCut.{enough_pieces, some_pieces}
 use Rattle.tabled_settings.proofs.LineReads.{counted}
 use Rattle.tabled_settings.proofs.SameCells.{same_cells}
-use Rattle.tabled_grid.proofs.AddedLines.{back_read, front_read}
 
 -- the piece of a line and a number
 pub piece_of : (o : PieceOrder) (lines pieces i k : ℕ) → i < lines → k < pieces → nth_piece o lines pieces (piece_index o lines pieces i k) ≡ (i, k)

@@ -1,22 +1,7 @@
 -- Two tables joined: growth, texts, and the way back.
-use Rattle.std.proofs.Common.{◌≡◌, ℕ, ◌+◌, ◌-◌, ◌<◌, ◌≤◌, ◌≢◌, ◌⊎◌, inl, inr, Bool, true, false, cond, eqb, List, [], Option, None, Some, refl, sym, ap, ap₂, ◌∙◌, max, arith}
-use Rattle.std.specs.Prelude.{nat_lt, if◌then◌else◌, ◌&&◌}
-use Rattle.std.specs.Option.{IfSome, option_map, unwrap_or}
-use Rattle.std.proofs.lemmas.Bool.{cases_lt, eqb-true, le-leb, lt-ltb, ltb-true}
-use Rattle.std.proofs.lemmas.Option.{none-some, same_Some}
-use Rattle.tabled_grid.specs.Along.{first_along}
-use Rattle.tabled_grid.specs.Bulk.{AddsColumns, AddsRows}
-use Rattle.tabled_grid.specs.Entity.{place}
-use Rattle.tabled_grid.specs.Grid.{Grid, IsEmptyWithoutRows, IsEven, IsInside, WritesText, cell_at, map_grid}
-use Rattle.tabled_grid.specs.declared.config.position.Position.{Position}
-use Rattle.tabled_grid.specs.declared.records.axis.Axis.TheVariants.{Rows, Columns}
-use Rattle.tabled_grid.proofs.AddedLines.{added_blank, added_even, added_kept}
-use Rattle.tabled_grid.proofs.FirstLines.{IsEven-first, either_way}
-use Rattle.tabled_grid.proofs.Grids.{IsEven-with_cell, cell_at-map_grid, cell_at-map_grid_some, cell_at-with_cell_other, cell_at-with_cell_same}
+use Rattle.tabled_settings.proofs.Common.{[], ◌&&◌, ◌+◌, ◌-◌, ◌<◌, ◌∙◌, ◌≡◌, ◌≢◌, ◌≤◌, ◌⊎◌, AddsColumns, AddsRows, Bool, Columns, FillsTo, Grid, GrowsTo, HasBlank, IfSome, IsEmptyWithoutRows, IsEven, IsEven-first, IsEven-with_cell, IsInside, JoinsAt, KeepsPlaces, List, None, Option, Position, Rows, Some, WritesText, added_blank, added_even, added_kept, ap, ap₂, arith, cases_lt, cell_at, cell_at-map_grid, cell_at-map_grid_some, cell_at-with_cell_other, cell_at-with_cell_same, cond, either_way, eqb, eqb-true, false, first_along, if◌then◌else◌, inl, inr, joined_places, le-leb, lt-ltb, ltb-true, map_grid, max, nat_lt, none-some, option_map, place, refl, same_Some, sym, text_put, true, unwrap_or, ℕ}
 use Rattle.tabled_grid.proofs.Squares.{wide_enough}
-use Rattle.tabled_carry.specs.Images.{KeepsPlaces}
 use Rattle.tabled_carry.proofs.Walks.{Before, before-more}
-use Rattle.tabled_settings.specs.Joined.{FillsTo, GrowsTo, HasBlank, JoinsAt, joined_places, text_put}
 use Rattle.tabled_settings.proofs.LineReads.{line_first, lines_read}
 use Rattle.tabled_settings.proofs.SameCells.{none_outside, same_cells}
 

@@ -1,26 +1,6 @@
 -- The lines of some indexes, brought to the front.
-use Rattle.std.proofs.Common.{◌≡◌, ℕ, ◌+◌, ◌-◌, ◌<◌, ◌≤◌, ◌≢◌, ◌⊎◌, inl, inr, Bool, true, false, cond, eqb, List, refl, sym, ap, ap₂, ◌∙◌, length, get_or, arith}
-use Rattle.std.specs.Prelude.{min}
-use Rattle.std.specs.List.{range_with_len, swap}
-use Rattle.std.specs.List.Sorted.{IsStrictlyIncreasing}
+use Rattle.tabled_settings.proofs.Common.{◌+◌, ◌-◌, ◌<◌, ◌∙◌, ◌≡◌, ◌≢◌, ◌≤◌, ◌⊎◌, Axis, Bool, BringsLines, Columns, Grid, HasLines, IsEven, IsEven-first, IsInside, IsStrictlyIncreasing, KeepsLines, List, Places, ReadsThrough, Rows, SpanMap, Swapped, along, ap, ap₂, arith, carried, cases_eq, cell_at, columns_if, cond, count_along, count_in, end_index, eqb, extracted, false, first_along, first_index, get_or, get_or-range_with_len, indexes_in, inl, inr, kept_lines, length, length-range_with_len, line_cells, lines_from, min, part, place, range_with_len, refl, same_shape, shape_after, swap, sym, true, ℕ}
 use Rattle.std.specs.declared.ops.Bound.{Bound}
-use Rattle.std.proofs.lemmas.Bool.{cases_eq}
-use Rattle.std.proofs.lemmas.List.Edits.{Swapped}
-use Rattle.std.proofs.lemmas.List.FromFn.{get_or-range_with_len, length-range_with_len}
-use Rattle.tabled_grid.specs.Along.{along, count_along, first_along}
-use Rattle.tabled_grid.specs.Bounds.{end_index, first_index}
-use Rattle.tabled_grid.specs.Entity.{place}
-use Rattle.tabled_grid.specs.Grid.{Grid, IsEven, IsInside, cell_at}
-use Rattle.tabled_grid.specs.declared.records.axis.Axis.{Axis}
-use Rattle.tabled_grid.specs.declared.records.axis.Axis.TheVariants.{Rows, Columns}
-use Rattle.tabled_grid.proofs.FirstLines.{IsEven-first}
-use Rattle.tabled_grid.proofs.PiecesPut.{same_shape, shape_after}
-use Rattle.tabled_settings.specs.Lines.{BringsLines, HasLines, KeepsLines, indexes_in, line_cells}
-use Rattle.tabled_grid.specs.Places.{Places, ReadsThrough}
-use Rattle.tabled_grid.specs.Spans.{SpanMap}
-use Rattle.tabled_carry.specs.Images.{carried}
-use Rattle.tabled_settings.specs.Places.{lines_from}
-use Rattle.tabled_settings.specs.Rearranged.{columns_if, count_in, extracted, kept_lines, part}
 use Rattle.tabled_settings.proofs.LineReads.{line_first, lines_read, lines_swapped, shape_swapped}
 use Rattle.tabled_settings.proofs.RisingLists.{index_within, rises}
 

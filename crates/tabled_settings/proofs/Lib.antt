@@ -1,4 +1,5 @@
 pub mod AlongLines
+pub mod Common
 pub mod Dropped
 pub mod Duplicated
 pub mod Glued

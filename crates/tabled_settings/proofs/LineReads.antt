@@ -1,22 +1,6 @@
 -- The rows or the columns of a grid, one after another.
-use Rattle.std.proofs.Common.{◌≡◌, ℕ, ◌<◌, List, [], ◌∷◌, Option, None, Some, refl, sym, ap, ap₂, ◌∙◌, map, take, length, get_or, arith}
-use Rattle.std.specs.Prelude.{slice_get}
-use Rattle.std.specs.List.{AllByRecursion, swap}
-use Rattle.std.proofs.lemmas.List.{get_or-take, length-map}
-use Rattle.std.proofs.lemmas.List.Edits.{Swapped, swapped_from_swap}
+use Rattle.tabled_settings.proofs.Common.{[], ◌<◌, ◌∙◌, ◌∷◌, ◌≡◌, AllByRecursion, Axis, Columns, Grid, IsEven, IsEven-with_columns_swapped, IsEven-with_rows_swapped, IsInside, IsShapedAs, List, None, Option, Position, ReadsThrough, Rows, Some, Swapped, along, ap, ap₂, arith, cell_at, count_along, count_of, first_along, get_or, get_or-take, in_line, length, length-map, line_cells, line_of, lines_from, map, map-swap, refl, slice_get, slice_get-some, slice_get-take, swap, swapped_from_swap, sym, take, ℕ}
 use Rattle.std.proofs.Math.ListN.{get_or-map}
-use Rattle.tabled_grid.specs.Along.{along, count_along, first_along}
-use Rattle.tabled_grid.specs.Grid.{Grid, IsEven, IsInside, cell_at}
-use Rattle.tabled_grid.specs.declared.config.position.Position.{Position}
-use Rattle.tabled_grid.specs.declared.records.axis.Axis.{Axis}
-use Rattle.tabled_grid.specs.declared.records.axis.Axis.TheVariants.{Rows, Columns}
-use Rattle.tabled_grid.proofs.Lists.{map-swap}
-use Rattle.tabled_grid.proofs.Resized.{IsEven-with_rows_swapped, IsEven-with_columns_swapped}
-use Rattle.tabled_grid.proofs.Transposed.{slice_get-some, slice_get-take}
-use Rattle.tabled_grid.specs.Places.{IsShapedAs, ReadsThrough}
-use Rattle.tabled_settings.specs.Lines.{line_cells}
-use Rattle.tabled_grid.specs.Axis.{count_of, in_line, line_of}
-use Rattle.tabled_settings.specs.Places.{lines_from}
 
 -- a count of lines, by the rows and columns
 pub counted : {A : Type 0} (axis : Axis) (g : Grid A) → count_of axis g.rows g.columns ≡ count_along axis g

@@ -1,16 +1,5 @@
 -- Answers that are made of the old text alone.
-use Rattle.std.proofs.Common.{◌≡◌, ◌∙◌, ◌⊎◌, inl, inr, ℕ, Bool, true, false, Option, List, [], ◌∷◌, map, take, refl, ap, ap₂, sym}
-use Rattle.std.proofs.lemmas.Bool.{false≢true}
-use Rattle.std.proofs.lemmas.List.{length-map}
-use Rattle.std.specs.List.{take-map}
-use Rattle.tabled_grid.specs.Entity.{inside}
-use Rattle.tabled_grid.specs.Grid.{Grid}
-use Rattle.tabled_grid.specs.declared.config.entity.Entity.{Entity}
-use Rattle.tabled_grid.specs.declared.config.position.Position.{Position}
-use Rattle.tabled_select.specs.Locators.{text_at}
-use Rattle.tabled_settings.specs.Charsets.{charset_writes, is_set, mapped_writes, recoded}
-use Rattle.tabled_options.specs.Writes.{FirstWrites, Write, with_writes}
-use Rattle.tabled_settings.specs.Rewrites.{AnswersInTurn, Asking, RewritesAt, RewritesUntil}
+use Rattle.tabled_settings.proofs.Common.{[], ◌∙◌, ◌∷◌, ◌≡◌, ◌⊎◌, AnswersInTurn, Asking, Bool, Entity, FirstWrites, Grid, List, Option, Position, RewritesAt, RewritesUntil, Write, ap, ap₂, charset_writes, false, false≢true, inl, inr, inside, is_set, length-map, map, mapped_writes, recoded, refl, sym, take, take-map, text_at, true, with_writes, ℕ}
 
 module _ {S : Type 0} (asks : Asking S) (s : S) (f : List ℕ → List ℕ) (says : (p : Position) (old new : List ℕ) (t : S) → asks s p old new t → (t ≡ s) × (new ≡ f old)) (g : Grid (List ℕ)) where
   writes-are : (writes : List Write) (last : S) → AnswersInTurn asks s g writes last → writes ≡ mapped_writes f g (map (λ (w : Write). w.place) writes)

@@ -1,14 +1,6 @@
 -- Merged cells in and beside a part of the lines that is put into the opposite order.
-use Rattle.std.proofs.Common.{◌≡◌, ℕ, ◌+◌, ◌-◌, ◌<◌, ◌≤◌, ◌⊎◌, inl, inr, refl, sym, ap, ◌∙◌, arith}
-use Rattle.std.proofs.lemmas.Bool.{cases_lt}
-use Rattle.tabled_grid.specs.Axis.{count_of, in_line, line_of}
-use Rattle.tabled_grid.specs.Midway.{In}
-use Rattle.tabled_grid.specs.declared.config.position.Position.{Position}
-use Rattle.tabled_grid.specs.declared.records.axis.Axis.{Axis}
-use Rattle.tabled_grid.specs.declared.config.size.Size.{Size}
-use Rattle.tabled_carry.specs.Images.{Carries, Takes}
+use Rattle.tabled_settings.proofs.Common.{◌+◌, ◌-◌, ◌<◌, ◌∙◌, ◌≡◌, ◌≤◌, ◌⊎◌, Axis, Carries, In, Position, Size, Takes, ap, arith, cases_lt, count_of, in_line, inl, inr, line_of, lines_from, refl, sym, ℕ}
 use Rattle.tabled_spans.proofs.SpanGeometry.{index_moved}
-use Rattle.tabled_settings.specs.Places.{lines_from}
 use Rattle.tabled_settings.proofs.AlongLines.{LiesAlong, across_is, is_along, is_in, lies_along, taken, takes}
 
 -- of n lines those from s up to e come from those as far from the other end, and the others stay

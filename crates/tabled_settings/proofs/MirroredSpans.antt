@@ -1,26 +1,11 @@
 -- Merged cells when lines are put into the opposite order, once or twice.
-use Rattle.std.proofs.Common.{◌≡◌, ℕ, ◌+◌, ◌-◌, ◌<◌, ◌≤◌, ◌⊎◌, arith, Bool, true, refl, sym, ap, subst, ◌∙◌}
-use Rattle.tabled_grid.specs.Axis.{count_of, in_line, line_of}
-use Rattle.tabled_grid.specs.Places.{Places}
-use Rattle.tabled_grid.specs.Fitting.{Fits}
-use Rattle.tabled_grid.specs.Spans.{Rectangle, SpanMap}
+use Rattle.tabled_settings.proofs.Common.{◌+◌, ◌-◌, ◌<◌, ◌∙◌, ◌≡◌, ◌≤◌, ◌⊎◌, Axis, Bool, Carries, Fits, HasArea, LeadsBack, Offset, Places, Position, Rectangle, Rows, Size, SpanMap, Top, and_from, ap, arith, carried, carried_back, carried_if, count_of, in_line, limit_end, line_of, lines_from, refl, reversed, reversed_index, reverses, rotated, subst, sym, true, ℕ}
 use Rattle.tabled_grid.specs.declared.config.offset.Offset.TheVariants.{End}
-use Rattle.tabled_grid.specs.declared.config.position.Position.{Position}
-use Rattle.tabled_grid.specs.declared.records.axis.Axis.{Axis}
-use Rattle.tabled_grid.specs.declared.records.axis.Axis.TheVariants.{Rows}
-use Rattle.tabled_grid.specs.declared.config.size.Size.{Size}
-use Rattle.tabled_carry.specs.Images.{Carries, HasArea, LeadsBack, carried}
-use Rattle.tabled_carry.proofs.Back.{carried_back}
-use Rattle.tabled_settings.specs.Places.{lines_from}
-use Rattle.tabled_settings.specs.Rearranged.{reversed, reversed_index, rotated, carried_if, limit_end, reverses}
-use Rattle.tabled_settings.specs.declared.rotate.Rotate.TheVariants.{Top}
 use Rattle.tabled_settings.proofs.AlongLines.{lies_along}
 use Rattle.tabled_settings.proofs.MirroredParts.{part_mirrored}
 use Rattle.tabled_settings.proofs.Reversed.{index_inside}
 use Rattle.tabled_settings.proofs.ThereAndBack.{lines_lead_back}
-use Rattle.std.proofs.lemmas.Bool.{and_from}
 use borrow.Author.Tests.{le-leb, lt-ltb}
-use Rattle.tabled_grid.specs.declared.config.offset.Offset.{Offset}
 
 -- lines that come from those as far from the other end
 module _ (axis : Axis) (old : ℕ → ℕ) (rows columns : ℕ) (mirrors : (i : ℕ) → i < count_of axis rows columns → old i + i + 1 ≡ count_of axis rows columns) where

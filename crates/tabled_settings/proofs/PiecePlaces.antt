@@ -1,37 +1,9 @@
 -- Where the cells of pieces come from, and where they go.
-use Rattle.std.proofs.Common.{◌≡◌, ℕ, ◌+◌, ◌*◌, ◌/◌, ◌%◌, ◌<◌, Bool, true, false, cond, Option, None, Some, refl, sym, ap, ap₂, ◌∙◌, subst, List, [], length, get_or, arith}
-use Rattle.std.specs.Prelude.{nat_lt}
-use Rattle.std.specs.Int.{div_ceil}
-use Rattle.std.specs.Option.{IfSome, unwrap_or}
-use Rattle.std.proofs.lemmas.Bool.{lt-ltb}
-use Rattle.std.proofs.lemmas.Nat.{div-add-mod', div_below, mod_below, same_from_place}
-use Rattle.tabled_grid.specs.Along.{count_along}
-use Rattle.tabled_grid.specs.Grid.{Grid, IsEven, IsInside, cell_at, map_grid}
-use Rattle.tabled_grid.specs.declared.config.position.Position.{Position}
-use Rattle.tabled_grid.specs.declared.records.axis.Axis.{Axis}
-use Rattle.tabled_grid.specs.declared.records.axis.Axis.TheVariants.{Rows, Columns}
-use Rattle.tabled_settings.specs.declared.split.Display.{Display}
-use Rattle.tabled_settings.specs.declared.split.Display.TheVariants.{Clean, Retain}
-use Rattle.tabled_settings.specs.declared.split.Split.{Split}
-use Rattle.tabled_settings.specs.Lines.{KeepsLines, line_cells}
-use Rattle.tabled_grid.proofs.PiecePlaces.{across_is, fills_cut, line_is, place_is, pieces_take_once}
-use Rattle.tabled_grid.proofs.PiecesCut.{IsCut, enough_pieces}
-use Rattle.tabled_grid.specs.Axis.{across, count_of, in_line, line_of, place_in}
-use Rattle.tabled_grid.specs.Pieces.{cut_places, index_in_line, nth_piece, piece_index}
-use Rattle.tabled_settings.specs.PiecePlaces.{Splits, kept_pieces, same_places, shown_lines, split_places, thinned}
-use Rattle.tabled_settings.specs.Pieces.{has_pieces, oriented}
-use Rattle.tabled_grid.specs.Places.{FillsThrough, Places, ReadsThrough}
-use Rattle.tabled_grid.specs.Spans.{SpanMap}
-use Rattle.tabled_carry.specs.Images.{carried, Takes}
-use Rattle.tabled_settings.specs.Places.{IsTakenOnce, lines_from}
-use Rattle.tabled_settings.specs.Rearranged.{carried_if}
+use Rattle.tabled_settings.proofs.Common.{[], ◌%◌, ◌*◌, ◌+◌, ◌/◌, ◌<◌, ◌∙◌, ◌≡◌, Axis, Bool, Clean, Columns, Display, FillsThrough, Grid, IfSome, IsCut, IsEven, IsInside, IsTakenOnce, KeepsLines, List, None, Option, PieceOrder, Places, Position, ReadsThrough, Retain, Rows, Some, SpanMap, Split, Splits, Takes, across, across_is, ap, ap₂, arith, carried, carried_if, cell_at, cond, count_along, count_of, cut_places, div-add-mod', div_below, div_ceil, enough_pieces, false, fills_cut, get_or, has_pieces, in_line, index_in_line, kept_pieces, length, line_cells, line_is, line_of, lines_from, lt-ltb, map_grid, mod_below, nat_lt, nth_piece, one_piece, oriented, piece_index, pieces_take_once, place_in, place_is, refl, same_from_place, same_place_in, same_places, shown_lines, split_places, subst, sym, thinned, true, true≢false, unwrap_or, ℕ}
 use Rattle.tabled_settings.proofs.Glued.{piece_index_below, piece_of}
 use Rattle.tabled_settings.proofs.Joins.{place_of}
 use Rattle.tabled_settings.proofs.LineReads.{counted, lines_read}
 use Rattle.tabled_settings.proofs.PiecesDone.{CanBeCut, clean_counts, clean_done, clean_lines, has, pieces_need, retained_done}
-use Rattle.tabled_grid.proofs.PiecesPut.{one_piece, same_place_in}
-use mathlib.Core.Bool.{true≢false}
-use Rattle.tabled_grid.specs.declared.records.piece_order.PieceOrder.{PieceOrder}
 
 -- with pieces
 with_pieces : (b : Bool) (ps qs : Places) → b ≡ true → cond b ps qs ≡ ps

@@ -1,34 +1,9 @@
 -- The pieces of a grid, read by place.
-use Rattle.std.proofs.Common.{◌≡◌, ℕ, zero, suc, ◌+◌, ◌*◌, ◌<◌, Bool, true, false, cond, List, [], ◌∷◌, ◌++◌, Some, refl, sym, ap, ap₂, ◌∙◌, subst, length, map, get_or, arith, None}
-use Rattle.std.specs.Prelude.{slice_get}
-use Rattle.std.specs.Int.{div_ceil}
-use Rattle.std.specs.List.{AllByRecursion, filter, range_with_len}
-use Rattle.std.specs.Option.{unwrap_or}
-use Rattle.std.proofs.Math.Nat.{zero-div, zero-mod}
-use Rattle.std.proofs.lemmas.List.{append-nil, get_or-map as get_or-map_within, length-map}
-use Rattle.std.proofs.lemmas.List.Elements.{All-filter, All-from_recursion, filter-append}
-use Rattle.std.proofs.lemmas.List.FromFn.{get_or-map-range_with_len, get_or-range_with_len, length-map-range_with_len, length-range_with_len}
-use Rattle.std.proofs.lemmas.Option.{slice_get-get_or, unwrap_or-slice_get}
-use Rattle.tabled_grid.specs.Along.{count_along}
-use Rattle.tabled_grid.specs.Bulk.{transposed_rows}
-use Rattle.tabled_grid.specs.Entity.{place}
-use Rattle.tabled_grid.specs.Grid.{Grid, IsEven, IsInside, cell_at}
-use Rattle.tabled_grid.specs.declared.config.position.Position.{Position}
-use Rattle.tabled_grid.specs.declared.records.axis.Axis.{Axis}
-use Rattle.tabled_grid.specs.declared.records.axis.Axis.TheVariants.{Rows, Columns}
-use Rattle.tabled_grid.proofs.Transposed.{at-transposed, length-transposed, wide-transposed, slice_get-some}
-use Rattle.tabled_grid.specs.declared.records.piece_order.PieceOrder.{PieceOrder}
-use Rattle.tabled_grid.specs.declared.records.piece_order.PieceOrder.TheVariants.{Concat, Zip}
-use Rattle.tabled_settings.specs.declared.split.Split.{Split}
-use Rattle.tabled_grid.specs.Axis.{across, place_in}
-use Rattle.tabled_grid.specs.Pieces.{nth_piece}
-use Rattle.tabled_settings.specs.declared.split.Display.{Display}
-use Rattle.tabled_settings.specs.declared.split.Display.TheVariants.{Retain}
-use Rattle.tabled_settings.specs.Pieces.{cut_rows, piece, piece_at, staying, stays, stays_at, oriented}
+use Rattle.tabled_settings.proofs.Common.{[], ◌*◌, ◌++◌, ◌+◌, ◌<◌, ◌∙◌, ◌∷◌, ◌≡◌, All-filter, All-from_recursion, AllByRecursion, Axis, Bool, Columns, Concat, Display, Grid, IsEven, IsInside, List, None, PieceOrder, Position, Retain, Rows, Some, Split, Zip, across, ap, ap₂, arith, at-transposed, cell_at, cond, count_along, cut_rows, div_ceil, false, filter, filter-append, get_or, get_or-map as get_or-map_within, get_or-map-range_with_len, get_or-range_with_len, length, length-map, length-map-range_with_len, length-range_with_len, length-transposed, line_cells, map, nth_piece, oriented, piece, piece_at, place, place_in, range_with_len, refl, slice_get, slice_get-get_or, slice_get-some, staying, stays, stays_at, subst, suc, sym, transposed_rows, true, unwrap_or, unwrap_or-slice_get, wide-transposed, zero, zero-div, zero-mod, ℕ}
+use Rattle.std.proofs.lemmas.List.{append-nil}
 use Rattle.tabled_settings.proofs.SameCells.{same_cells}
 use Rattle.tabled_settings.proofs.Rotated.{as_wide}
 use Rattle.std.proofs.Math.ListN.{get_or-map}
-use Rattle.tabled_settings.specs.Lines.{line_cells}
 
 -- the rows of a grid, or its columns as rows
 module _ {A : Type 0} where

@@ -1,34 +1,7 @@
 -- The texts of lines that are pieces.
-use Rattle.std.proofs.Common.{◌≡◌, ◌≢◌, ℕ, ◌+◌, ◌-◌, ◌*◌, ◌<◌, ◌≤◌, ◌⊎◌, inl, inr, Bool, true, false, cond, eqb, List, [], Option, None, Some, refl, sym, ap, ap₂, ◌∙◌, subst, length, get_or, arith}
-use Rattle.std.specs.Prelude.{min}
-use Rattle.std.specs.Int.{div_ceil}
-use Rattle.std.specs.List.{filter, list_any, range_with_len}
-use Rattle.std.specs.List.Sorted.{IsStrictlyIncreasing}
-use Rattle.std.specs.Option.{option_map, unwrap_or}
-use Rattle.std.proofs.lemmas.Bool.{and_parts, cases_lt, lt-ltb, ltb-true, ne_eqb}
-use Rattle.std.proofs.lemmas.Nat.{row_fits}
-use Rattle.std.proofs.lemmas.List.{get_or_default}
+use Rattle.tabled_settings.proofs.Common.{[], ◌*◌, ◌+◌, ◌-◌, ◌<◌, ◌∙◌, ◌≡◌, ◌≢◌, ◌≤◌, ◌⊎◌, Axis, Bool, Clean, Columns, ComesFrom, Display, Grid, HasLines, IsCut, IsEven, IsEven-map_grid, IsInside, IsStrictlyIncreasing, IsStrictlyIncreasing-filter, KeepsLines, List, None, Option, Retain, Rows, Some, Split, across, and_parts, ap, ap₂, arith, cases_lt, cell_at, cell_at-map_grid, cell_at-map_grid_some, cond, count_along, count_of, div_ceil, enough_pieces, eqb, false, filter, get_or, get_or-range_with_len, get_or_default, has_pieces, has_text, inl, inr, inside_of, is_text, kept_pieces, length, length-range_with_len, line_cells, list_any, lt-ltb, ltb-true, map_grid, min, ne_eqb, nth_piece, option_map, oriented, piece_at, piece_line, place_in, range_with_len, refl, row_fits, some_pieces, source, split, staying, stays, stays_at, subst, sym, true, unwrap_or, unwrap_or-slice_get, ℕ}
 use Rattle.std.proofs.lemmas.List.Folds.{list_any_at, list_any_none}
-use Rattle.std.proofs.lemmas.List.Kept.{IsStrictlyIncreasing-filter}
-use Rattle.std.proofs.lemmas.List.FromFn.{get_or-range_with_len, length-range_with_len}
-use Rattle.std.proofs.lemmas.Option.{unwrap_or-slice_get}
-use Rattle.tabled_grid.specs.Along.{count_along}
-use Rattle.tabled_grid.specs.Grid.{Grid, IsEven, IsInside, cell_at, map_grid}
-use Rattle.tabled_grid.specs.declared.records.axis.Axis.{Axis}
-use Rattle.tabled_grid.specs.declared.records.axis.Axis.TheVariants.{Rows, Columns}
-use Rattle.tabled_grid.proofs.Grids.{IsEven-map_grid, cell_at-map_grid, cell_at-map_grid_some}
 use Rattle.tabled_settings.specs.declared.cuts.Cut.{Cut}
-use Rattle.tabled_settings.specs.declared.split.Display.{Display}
-use Rattle.tabled_settings.specs.declared.split.Display.TheVariants.{Clean, Retain}
-use Rattle.tabled_settings.specs.declared.split.Split.{Split}
-use Rattle.tabled_settings.specs.Lines.{HasLines, KeepsLines, line_cells}
-use Rattle.tabled_grid.proofs.PiecesCut.{ComesFrom, IsCut, enough_pieces, some_pieces}
-use Rattle.tabled_grid.proofs.PiecesPut.{inside_of, piece_line, source}
-use Rattle.tabled_settings.specs.PiecePlaces.{kept_pieces}
-use Rattle.tabled_settings.specs.PieceTexts.{has_text}
-use Rattle.tabled_grid.specs.Axis.{across, count_of, place_in}
-use Rattle.tabled_grid.specs.Pieces.{nth_piece}
-use Rattle.tabled_settings.specs.Pieces.{has_pieces, is_text, piece_at, split, staying, stays, stays_at, oriented}
 use Rattle.tabled_settings.proofs.LineReads.{counted}
 use Rattle.tabled_settings.proofs.SameCells.{none_outside}
 use Rattle.tabled_settings.proofs.PieceReads.{all_retained, at_line, filter_below, filter_some, first_number, length-piece, piece_text, pieces_are, some_inside, turned_cell, turned_columns, turned_even, turned_rows}

@@ -1,19 +1,5 @@
 -- Rearrangements keep merged cells inside the table and apart.
-use Rattle.std.proofs.Common.{◌≡◌, ℕ, Bool, true, false, List, ap, refl}
-use Rattle.tabled_grid.specs.Grid.{Grid, map_grid}
-use Rattle.tabled_grid.specs.Places.{Places, ReadsThrough}
-use Rattle.tabled_grid.specs.Fitting.{Fits}
-use Rattle.tabled_grid.specs.Spans.{SpanMap}
-use Rattle.tabled_grid.specs.declared.config.offset.Offset.{Offset}
-use Rattle.tabled_grid.specs.declared.records.axis.Axis.{Axis}
-use Rattle.tabled_carry.proofs.CarriedFits.{carried-fits}
-use Rattle.tabled_carry.specs.Images.{carried}
-use Rattle.tabled_options.specs.Does.{OptionKeeps, Same}
-use Rattle.tabled_settings.specs.Joined.{JoinsAt, corner_of, joined_places}
-use Rattle.tabled_settings.specs.PiecePlaces.{Splits, split_places}
-use Rattle.tabled_settings.specs.Pieces.{has_pieces}
-use Rattle.tabled_settings.specs.Rearranged.{Rearranges, Removes, carried_if, removed, reversed, reverses}
-use Rattle.tabled_settings.specs.declared.split.Split.{Split}
+use Rattle.tabled_settings.proofs.Common.{◌≡◌, Axis, Bool, Fits, Grid, JoinsAt, List, Offset, OptionKeeps, Places, ReadsThrough, Rearranges, Removes, Same, SpanMap, Split, Splits, ap, carried, carried-fits, carried_if, corner_of, false, has_pieces, joined_places, map_grid, refl, removed, reversed, reverses, split_places, true, ℕ}
 use Rattle.tabled_spans.proofs.PanelGeometry.{same_fits}
 
 -- what is carried along fits the new shape

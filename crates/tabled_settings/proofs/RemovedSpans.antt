@@ -1,15 +1,5 @@
 -- Lines taken away, and merged cells with them.
-use Rattle.std.proofs.Common.{◌≡◌, ℕ, Bool, List, sym, ap, ap₂, subst, ◌∙◌, length, arith}
-use Rattle.tabled_grid.specs.Along.{count_along}
-use Rattle.tabled_grid.specs.Axis.{count_of}
-use Rattle.tabled_grid.specs.Grid.{Grid}
-use Rattle.tabled_grid.specs.Places.{Places, ReadsThrough}
-use Rattle.tabled_grid.specs.Spans.{SpanMap}
-use Rattle.tabled_grid.specs.declared.records.axis.Axis.{Axis}
-use Rattle.tabled_carry.specs.Images.{carried}
-use Rattle.tabled_select.specs.Located.{TellsLocated, is_located}
-use Rattle.tabled_settings.specs.Lines.{KeepsLines, is_marked}
-use Rattle.tabled_settings.specs.Rearranged.{kept_lines, left_over, removed}
+use Rattle.tabled_settings.proofs.Common.{◌∙◌, ◌≡◌, Axis, Bool, Grid, KeepsLines, List, Places, ReadsThrough, SpanMap, TellsLocated, ap, ap₂, arith, carried, count_along, count_of, is_located, is_marked, kept_lines, left_over, length, removed, subst, sym, ℕ}
 use Rattle.tabled_settings.proofs.Dropped.{left_same}
 use Rattle.tabled_settings.proofs.Kept.{kept_read}
 use Rattle.tabled_settings.proofs.LineReads.{counted}

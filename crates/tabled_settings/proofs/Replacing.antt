@@ -1,13 +1,5 @@
 -- Characters replaced, byte by byte, and cleaned.
-use Rattle.std.proofs.Common.{◌≡◌, ◌∙◌, ◌≤◌, ℕ, ◌+◌, ◌/◌, ◌%◌, Bool, true, false, cond, List, [], ◌∷◌, ◌++◌, Option, None, Some, append-nil, refl, sym, arith, encode_utf8, ltb, replicate, inl, inr, zero, suc, ap}
-use Rattle.std.proofs.lemmas.Bool.{and_parts, false≢true, le-ltb, ltb-false, ltb-true, ne_eqb, eqb-true}
-use Rattle.std.proofs.lemmas.Grind.{flat_map-append}
-use Rattle.std.proofs.lemmas.List.{append_assoc}
-use Rattle.std.proofs.lemmas.Str.{encode_ascii}
-use Rattle.std.specs.List.{AllByRecursion, flat_map, list_all}
-use Rattle.std.specs.Prelude.{◌==◌, ◌&&◌, not}
-use Rattle.tabled_settings.specs.Charsets.{byte_stays, recoded, replaced, IsCleanByte, clean_text, with_tabs}
-use Rattle.tabled_grid.proofs.Lists.{all-append}
+use Rattle.tabled_settings.proofs.Common.{[], ◌%◌, ◌&&◌, ◌++◌, ◌+◌, ◌/◌, ◌==◌, ◌∙◌, ◌∷◌, ◌≡◌, ◌≤◌, AllByRecursion, Bool, IsCleanByte, List, None, Option, Some, all-append, and_parts, ap, append-nil, append_assoc, arith, byte_stays, clean_text, cond, encode_ascii, encode_utf8, eqb-true, false, false≢true, flat_map, flat_map-append, inl, inr, le-ltb, list_all, ltb, ltb-false, ltb-true, ne_eqb, not, recoded, refl, replaced, replicate, suc, sym, true, with_tabs, zero, ℕ}
 
 -- a byte of a character that isn't ASCII stays
 stays_high : (cleans : Bool) (b : ℕ) → 128 ≤ b → byte_stays cleans b ≡ true

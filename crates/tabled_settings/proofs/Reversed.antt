@@ -1,21 +1,5 @@
 -- Lines in the opposite order, by swaps from both ends.
-use Rattle.std.proofs.Common.{◌≡◌, ℕ, zero, suc, List, map, ◌+◌, ◌-◌, ◌<◌, ◌≤◌, ◌≢◌, ◌⊎◌, inl, inr, refl, sym, add-one, ap, ◌∙◌, subst, arith}
-use Rattle.std.specs.List.{swap}
-use Rattle.std.proofs.lemmas.Bool.Decides.{nat_tests}
-use Rattle.std.proofs.lemmas.List.{map-id}
-use Rattle.std.proofs.lemmas.Simd.{map-map}
-use Rattle.std.proofs.lemmas.Bool.{cases_eq, cases_lt, le-leb, lt-ltb}
-use Rattle.std.proofs.lemmas.List.Edits.{Swapped}
-use Rattle.tabled_grid.specs.Along.{along, count_along}
-use Rattle.tabled_grid.specs.Grid.{Grid, IsEven}
-use Rattle.tabled_grid.specs.declared.config.offset.Offset.{Offset}
-use Rattle.tabled_grid.specs.declared.records.axis.Axis.{Axis}
-use Rattle.tabled_grid.specs.declared.records.axis.Axis.TheVariants.{Columns}
-use Rattle.tabled_settings.specs.Lines.{ReversesEnds, ReversesLines, line_cells}
-use Rattle.tabled_grid.specs.Places.{ReadsThrough}
-use Rattle.tabled_settings.specs.Places.{lines_from}
-use Rattle.tabled_settings.specs.Rearranged.{limit_end, reversed, reversed_index}
-use Rattle.tabled_grid.proofs.PiecesPut.{same_count, same_shape, shape_after}
+use Rattle.tabled_settings.proofs.Common.{◌+◌, ◌-◌, ◌<◌, ◌∙◌, ◌≡◌, ◌≢◌, ◌≤◌, ◌⊎◌, Axis, Columns, Grid, IsEven, List, Offset, ReadsThrough, ReversesEnds, ReversesLines, Swapped, add-one, along, ap, arith, cases_eq, cases_lt, count_along, inl, inr, le-leb, limit_end, line_cells, lines_from, lt-ltb, map, map-id, map-map, nat_tests, refl, reversed, reversed_index, same_count, same_shape, shape_after, subst, suc, swap, sym, zero, ℕ}
 use Rattle.tabled_settings.proofs.LineReads.{counted, lines_read, lines_swapped, shape_swapped}
 
 module _ {A : Type 0} (axis : Axis) (s e : ℕ) where

@@ -1,21 +1,6 @@
 -- Writes in turn, one more at a time, to places apart.
-use Rattle.std.proofs.Common.{◌≡◌, ◌≢◌, ◌∙◌, ℕ, zero, suc, List, [], ◌∷◌, ◌++◌, get_or, length, map, set, take, refl, ap, subst, sym, append-nil, arith, ◌+◌, ◌-◌, ◌<◌, Bool, true, false, cond}
+use Rattle.tabled_settings.proofs.Common.{[], ◌++◌, ◌+◌, ◌-◌, ◌<◌, ◌∙◌, ◌∷◌, ◌≡◌, ◌≢◌, AllByRecursion, AnswersInTurn, Asking, Bool, Entity, FoldsTo, Grid, List, Position, RewritesAt, RewritesUntil, Write, all-append, ap, append-nil, arith, block, cell_at-with_cell_other, cond, false, filter, fold-append, get_or, inside, length, length-append, map, map-append, names, place, places, range_with_len, refl, set, set-get_or, slice_get, subst, suc, sym, take, text_at, true, unwrap_or, with_cell, with_writes, zero, ℕ}
 use Rattle.std.proofs.Math.Seq.{take-append_seam}
-use Rattle.std.proofs.lemmas.List.{length-append, map-append, set-get_or}
-use Rattle.std.proofs.lemmas.Grind.{fold-append}
-use Rattle.std.specs.List.{AllByRecursion, FoldsTo, filter, range_with_len}
-use Rattle.std.specs.Option.{unwrap_or}
-use Rattle.std.specs.Prelude.{slice_get}
-use Rattle.tabled_grid.proofs.Grids.{cell_at-with_cell_other}
-use Rattle.tabled_grid.specs.Grid.{Grid, with_cell}
-use Rattle.tabled_grid.specs.declared.config.position.Position.{Position}
-use Rattle.tabled_select.specs.Locators.{text_at}
-use Rattle.tabled_options.specs.Writes.{Write, with_writes}
-use Rattle.tabled_settings.specs.Rewrites.{AnswersInTurn, Asking, RewritesAt, RewritesUntil}
-use Rattle.tabled_grid.specs.Entity.{block, inside, names, place}
-use Rattle.tabled_grid.specs.declared.config.entity.Entity.{Entity}
-use Rattle.tabled_grid.proofs.Lists.{all-append}
-use Rattle.tabled_grid.proofs.Places.{places}
 use Rattle.tabled_select.proofs.Sifted.{all-filter}
 
 -- one step more

@@ -1,15 +1,7 @@
 -- Indexes in lists that rise.
-use Rattle.std.proofs.Common.{◌≡◌, ℕ, Bool, zero, suc, ◌+◌, ◌-◌, ◌<◌, ◌≤◌, inl, inr, List, Some, Result, Ok, Err, sym, ap, ◌∙◌, arith, get_or, length}
-use Rattle.std.specs.List.Sorted.{IsBinarySearchResult, IsStrictlyIncreasing}
-use Rattle.std.specs.Prelude.{not}
-use Rattle.std.specs.List.{range_with_len}
-use Rattle.std.specs.Ordering.{nat_cmp}
+use Rattle.tabled_settings.proofs.Common.{◌+◌, ◌-◌, ◌<◌, ◌∙◌, ◌≡◌, ◌≤◌, AllPairs-from_increasing, Bool, Err, IsBinarySearchResult, IsStrictlyIncreasing, IsStrictlyIncreasing-filter, List, Ok, Result, Some, ap, arith, cases_eq, get_or, get_or-range_with_len, inl, inr, left_over, length, length-range_with_len, nat_cmp, not, range_with_len, suc, sym, zero, ℕ}
 use Rattle.std.specs.Result.{result_ok}
-use Rattle.std.proofs.lemmas.Bool.{cases_eq}
-use Rattle.std.proofs.lemmas.List.FromFn.{get_or-range_with_len, length-range_with_len}
-use Rattle.std.proofs.lemmas.List.Kept.{AllPairs-from_increasing, IsStrictlyIncreasing-filter}
 use Rattle.std.proofs.lemmas.List.Sorted.{searched}
-use Rattle.tabled_settings.specs.Rearranged.{left_over}
 
 pub rises : (xs : List ℕ) → IsStrictlyIncreasing xs → (i j : ℕ) → i < j → j < length xs → get_or xs i 0 < get_or xs j 0
 rises xs up i j h k = AllPairs-from_increasing xs up i j 0 h k

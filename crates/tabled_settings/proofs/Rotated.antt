@@ -1,24 +1,6 @@
 -- Tables turned by a quarter, or upside down.
-use Rattle.std.proofs.Common.{◌≡◌, ℕ, ◌-◌, ◌<◌, ◌⊎◌, inl, inr, false, eqb, refl, ap, sym, subst, ◌∙◌, arith, ◌+◌, Some, ap₂}
-use Rattle.std.proofs.lemmas.Bool.{ne_eqb}
-use Rattle.tabled_grid.specs.Along.{count_along}
-use Rattle.tabled_grid.specs.Bulk.{transposed}
-use Rattle.tabled_grid.specs.Entity.{place}
-use Rattle.tabled_grid.specs.Grid.{Grid, IsEven, cell_at}
-use Rattle.tabled_grid.specs.declared.records.axis.Axis.{Axis}
-use Rattle.tabled_grid.specs.declared.records.axis.Axis.TheVariants.{Rows, Columns}
-use Rattle.tabled_grid.proofs.Transposed.{at-transposed}
-use Rattle.tabled_settings.specs.Lines.{ReversesLines}
-use Rattle.tabled_settings.specs.declared.rotate.Rotate.{Rotate}
-use Rattle.tabled_settings.specs.declared.rotate.Rotate.TheVariants.{Top, Bottom, Left, Right}
-use Rattle.tabled_grid.specs.Places.{ReadsThrough}
-use Rattle.tabled_settings.specs.Rearranged.{columns_if, rotated, quarter_of, upside_down}
-use Rattle.tabled_settings.specs.Places.{lines_from}
+use Rattle.tabled_settings.proofs.Common.{◌+◌, ◌-◌, ◌<◌, ◌∙◌, ◌≡◌, ◌⊎◌, Axis, Bottom, Columns, Grid, IsEven, LeadsBack, Left, Position, ReadsThrough, ReversesLines, Right, Rotate, Rows, Some, Takes, Top, across, ap, ap₂, arith, at-transposed, cell_at, columns_if, count_along, count_of, eqb, false, inl, inr, line_of, lines_from, ne_eqb, place, quarter_of, refl, rotated, same_Some, subst, sym, transposed, upside_down, ℕ}
 use Rattle.tabled_settings.proofs.Reversed.{whole_read}
-use Rattle.std.proofs.lemmas.Option.{same_Some}
-use Rattle.tabled_grid.specs.Axis.{across, count_of, line_of}
-use Rattle.tabled_grid.specs.declared.config.position.Position.{Position}
-use Rattle.tabled_carry.specs.Images.{LeadsBack, Takes}
 
 -- there are as many columns as there were rows, where there is a row
 pub as_wide : (c r : ℕ) → 0 < c → columns_if c r ≡ r

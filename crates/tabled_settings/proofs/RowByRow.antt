@@ -1,14 +1,5 @@
 -- The cells of all rows, swapped row by row.
-use Rattle.std.proofs.Common.{◌≡◌, ℕ, ◌+◌, ◌<◌, ◌≤◌, ◌≢◌, ◌⊎◌, inl, inr, List, [], ap, arith, get_or, length, map, refl, set, subst, sym, ◌∙◌}
-use Rattle.std.specs.List.{swap}
-use Rattle.std.proofs.lemmas.Bool.{cases_eq}
-use Rattle.std.proofs.lemmas.List.{ext_get_or, get_or-map, get_or-set_other, get_or-set_same, length-map}
-use Rattle.std.proofs.lemmas.List.Elements.{All-from_recursion}
-use Rattle.tabled_grid.specs.Entity.{place}
-use Rattle.tabled_grid.specs.Grid.{Grid, IsEven, grid_of}
-use Rattle.tabled_grid.specs.Resized.{with_cells_swapped}
-use Rattle.tabled_grid.proofs.Across.{same_grid}
-use Rattle.tabled_grid.proofs.Resized.{IsEven-with_cells_swapped}
+use Rattle.tabled_settings.proofs.Common.{[], ◌+◌, ◌<◌, ◌∙◌, ◌≡◌, ◌≢◌, ◌≤◌, ◌⊎◌, All-from_recursion, Grid, IsEven, IsEven-with_cells_swapped, List, ap, arith, cases_eq, ext_get_or, get_or, get_or-map, get_or-set_other, get_or-set_same, grid_of, inl, inr, length, length-map, map, place, refl, same_grid, set, subst, swap, sym, with_cells_swapped, ℕ}
 use Rattle.tabled_grid.proofs.Swaps.{at, swapped_in_row}
 
 -- two cells of a row, swapped

@@ -1,14 +1,5 @@
 -- Grids that have the same cells.
-use Rattle.std.proofs.Common.{◌≡◌, ℕ, ◌<◌, ◌≤◌, ◌⊎◌, inl, inr, List, [], None, ap, ◌∙◌, get_or, arith}
-use Rattle.std.specs.Prelude.{slice_get}
-use Rattle.std.proofs.lemmas.Bool.{cases_lt}
-use Rattle.std.proofs.lemmas.List.{get_or_past}
-use Rattle.std.proofs.lemmas.List.Elements.{All-from_recursion}
-use Rattle.std.proofs.lemmas.Option.{slice_get_past}
-use Rattle.tabled_grid.specs.Entity.{place}
-use Rattle.tabled_grid.specs.Grid.{Grid, IsEven, cell_at}
-use Rattle.tabled_grid.proofs.Across.{same_grid}
-use Rattle.tabled_grid.proofs.Transposed.{same_rows}
+use Rattle.tabled_settings.proofs.Common.{[], ◌<◌, ◌∙◌, ◌≡◌, ◌≤◌, ◌⊎◌, All-from_recursion, Grid, IsEven, List, None, ap, arith, cases_lt, cell_at, get_or, get_or_past, inl, inr, place, same_grid, same_rows, slice_get, slice_get_past, ℕ}
 
 pub same_cells : {A : Type 0} (g h : Grid A) → IsEven g → IsEven h → g.rows ≡ h.rows → g.columns ≡ h.columns → ((a b : ℕ) → a < h.rows → b < h.columns → cell_at g (place a b) ≡ cell_at h (place a b)) → g ≡ h
 same_cells g h g_even h_even rows columns each =

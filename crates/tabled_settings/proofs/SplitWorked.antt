@@ -1,12 +1,5 @@
 -- Worked splits, by evaluation. A text is the list of one number, an empty text the empty list.
-use Rattle.std.proofs.Common.{◌≡◌, ℕ, List, [], ◌∷◌, refl}
-use Rattle.tabled_grid.specs.Grid.{Grid, grid_of}
-use Rattle.tabled_grid.specs.declared.records.axis.Axis.TheVariants.{Rows, Columns}
-use Rattle.tabled_grid.specs.declared.records.piece_order.PieceOrder.TheVariants.{Concat, Zip}
-use Rattle.tabled_settings.specs.declared.split.Display.TheVariants.{Clean, Retain}
-use Rattle.tabled_settings.specs.declared.split.Split.{Split}
-use Rattle.tabled_settings.specs.PiecePlaces.{glued}
-use Rattle.tabled_settings.specs.Pieces.{split}
+use Rattle.tabled_settings.proofs.Common.{[], ◌∷◌, ◌≡◌, Clean, Columns, Concat, Grid, List, Retain, Rows, Split, Zip, glued, grid_of, refl, split, ℕ}
 
 abbrev t : ℕ → List ℕ
 t n = n ∷ []

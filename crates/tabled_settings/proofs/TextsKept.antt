@@ -1,28 +1,9 @@
 -- The texts of the pieces that stay are those of all pieces, and each is kept as often as it was.
-use Rattle.std.proofs.Common.{◌≡◌, ℕ, ◌*◌, ◌<◌, Bool, true, false, cond, eqb, List, [], ◌∷◌, ◌++◌, refl, sym, ap, ◌∙◌, length, map, arith, ◌+◌, ◌≤◌, get_or, inl, inr}
-use Rattle.std.proofs.lemmas.Bool.{cases_Bool}
-use Rattle.std.specs.Prelude.{◌||◌, count_by}
-use Rattle.std.specs.Int.{div_ceil}
-use Rattle.std.specs.List.{filter, list_any, range_with_len, AllByRecursion, sum_by}
-use Rattle.std.proofs.lemmas.List.Elements.{filter-append, All-from_recursion}
-use Rattle.std.proofs.lemmas.Nat.{row_fits}
-use mathlib.Core.Bool.{true≢false}
-use Rattle.tabled_grid.specs.Along.{count_along}
-use Rattle.tabled_grid.specs.Flat.{joined}
-use Rattle.tabled_grid.specs.Grid.{Grid, IsEven}
-use Rattle.tabled_settings.specs.declared.split.Display.{Display}
-use Rattle.tabled_settings.specs.declared.split.Display.TheVariants.{Clean, Retain}
-use Rattle.tabled_settings.specs.declared.split.Split.{Split}
-use Rattle.tabled_settings.specs.PiecePlaces.{texts_along}
-use Rattle.tabled_grid.specs.Axis.{across}
-use Rattle.tabled_grid.specs.Pieces.{nth_piece, piece_index}
-use Rattle.tabled_settings.specs.Pieces.{cut_rows, has_pieces, is_text, piece_at, split, stays, stays_at, oriented, piece}
+use Rattle.tabled_settings.proofs.Common.{[], ◌*◌, ◌++◌, ◌+◌, ◌<◌, ◌||◌, ◌∙◌, ◌∷◌, ◌≡◌, ◌≤◌, All-from_recursion, AllByRecursion, Bool, Clean, Concat, Display, Grid, IsEven, List, PieceOrder, Retain, Split, Zip, across, ap, arith, cases_Bool, cond, count_along, cut_rows, div_ceil, enough_pieces, eqb, false, filter, filter-append, get_or, has_pieces, inl, inr, is_text, joined, length, list_any, map, nth_piece, oriented, piece, piece_at, piece_index, range_with_len, refl, row_fits, some_pieces, split, stays, stays_at, sum_by, sym, texts_along, true, true≢false, ℕ}
+use Rattle.std.specs.Prelude.{count_by}
 use Rattle.tabled_settings.proofs.Glued.{turned_back_twice, piece_of}
 use Rattle.tabled_settings.proofs.PieceReads.{cut_count, cut_even, filter_some, first_number, turned_columns, turned_even, turned_rows}
-use Rattle.tabled_grid.proofs.PiecesCut.{enough_pieces, some_pieces}
 use Rattle.tabled_settings.proofs.PiecesDone.{pieces_need}
-use Rattle.tabled_grid.specs.declared.records.piece_order.PieceOrder.{PieceOrder}
-use Rattle.tabled_grid.specs.declared.records.piece_order.PieceOrder.TheVariants.{Concat, Zip}
 use Rattle.tabled_settings.proofs.Sums.{count_by-filter, sum_by-joined, sum_by-places, sum_by-range, sum_to, sum_to-alike, sum_to-blocks, sum_to-swap}
 
 no_texts : (xs : List (List ℕ)) → list_any is_text xs ≡ false → filter is_text xs ≡ []

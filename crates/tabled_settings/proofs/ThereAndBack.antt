@@ -1,15 +1,5 @@
 -- Maps of places with one that leads back.
-use Rattle.std.proofs.Common.{◌≡◌, ℕ, ◌<◌, Option, refl, sym, ap, subst, ◌∙◌, arith}
-use Rattle.std.specs.Option.{IfSome}
-use Rattle.tabled_grid.specs.Axis.{count_of, in_line, line_of}
-use Rattle.tabled_grid.specs.Entity.{place}
-use Rattle.tabled_grid.specs.Grid.{Grid, IsEven, cell_at}
-use Rattle.tabled_grid.specs.Places.{Places, ReadsThrough}
-use Rattle.tabled_grid.specs.declared.config.position.Position.{Position}
-use Rattle.tabled_grid.specs.declared.records.axis.Axis.{Axis}
-use Rattle.tabled_carry.specs.Images.{LeadsBack, Takes}
-use Rattle.tabled_carry.proofs.RectanglesCarried.{takes_one}
-use Rattle.tabled_settings.specs.Places.{IsTakenOnce, lines_from}
+use Rattle.tabled_settings.proofs.Common.{◌<◌, ◌∙◌, ◌≡◌, Axis, Grid, IfSome, IsEven, IsTakenOnce, LeadsBack, Option, Places, Position, ReadsThrough, Takes, ap, arith, cell_at, count_of, in_line, line_of, lines_from, place, refl, subst, sym, takes_one, ℕ}
 use Rattle.tabled_settings.proofs.AlongLines.{taken, takes}
 use Rattle.tabled_settings.proofs.SameCells.{same_cells}
 

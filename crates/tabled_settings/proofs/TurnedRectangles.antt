@@ -1,23 +1,9 @@
 -- Where the rectangles of a table go that is turned, and merged cells turned to the left and back.
-use Rattle.std.proofs.Common.{◌≡◌, ℕ, ◌+◌, ◌-◌, ◌<◌, ◌≤◌, ◌⊎◌, inl, inr, refl, sym, ap, ap₂, subst, arith}
-use Rattle.tabled_grid.specs.Axis.{across, count_of, line_of, place_in}
-use Rattle.tabled_grid.specs.Entity.{place}
-use Rattle.tabled_grid.specs.Midway.{In}
-use Rattle.tabled_grid.specs.declared.config.position.Position.{Position}
-use Rattle.tabled_grid.specs.Spans.{Rectangle, sized, SpanMap}
-use Rattle.tabled_grid.specs.declared.records.axis.Axis.{Axis}
-use Rattle.tabled_grid.specs.declared.records.axis.Axis.TheVariants.{Rows, Columns}
-use Rattle.tabled_grid.proofs.PiecePlaces.{across_is, line_is}
-use Rattle.tabled_carry.specs.Images.{Carries, HasArea, Takes, carried}
-use Rattle.tabled_settings.specs.Rearranged.{quarter_of, rotated, upside_down}
-use Rattle.tabled_settings.specs.declared.rotate.Rotate.{Rotate}
-use Rattle.tabled_settings.specs.declared.rotate.Rotate.TheVariants.{Left, Right, Top, Bottom}
+use Rattle.tabled_settings.proofs.Common.{◌+◌, ◌-◌, ◌<◌, ◌≡◌, ◌≤◌, ◌⊎◌, Axis, Bottom, Carries, Columns, Fits, HasArea, In, Left, Position, Rectangle, Right, Rotate, Rows, SpanMap, Takes, Top, across, across_is, ap, ap₂, arith, carried, carried_back, count_of, inl, inr, line_is, line_of, place, place_in, quarter_of, refl, rotated, sized, subst, sym, upside_down, ℕ}
 use Rattle.tabled_settings.proofs.AlongLines.{LiesAlong, is_along, is_in, lies_along}
 use Rattle.tabled_settings.proofs.MirroredSpans.{lines_carry}
 use Rattle.tabled_settings.proofs.Rotated.{taken_turned, takes_turned, as_wide, left_leads_back}
 use Rattle.tabled_settings.proofs.ThereAndBack.{lines_lead_back}
-use Rattle.tabled_grid.specs.Fitting.{Fits}
-use Rattle.tabled_carry.proofs.Back.{carried_back}
 
 -- the rectangle that one inside the table goes to
 abbrev pub turned : Rotate → ℕ → ℕ → Rectangle → Rectangle

@@ -1,20 +1,7 @@
 -- Tables turned twice, and places that are taken once.
-use Rattle.std.proofs.Common.{◌≡◌, ℕ, ◌-◌, ◌<◌, refl, ap, subst, ◌∙◌, arith}
-use Rattle.std.proofs.lemmas.Bool.Decides.{nat_tests}
-use Rattle.tabled_grid.specs.Axis.{count_of}
-use Rattle.tabled_grid.specs.Entity.{place}
-use Rattle.tabled_grid.specs.Grid.{Grid, IsEven, IsInside, cell_at}
-use Rattle.tabled_grid.specs.declared.config.offset.Offset.{Offset}
-use Rattle.tabled_grid.specs.declared.config.position.Position.{Position}
-use Rattle.tabled_grid.specs.declared.records.axis.Axis.{Axis}
-use Rattle.tabled_grid.specs.declared.records.axis.Axis.TheVariants.{Rows}
-use Rattle.tabled_settings.specs.declared.rotate.Rotate.TheVariants.{Left, Right, Top, Bottom}
-use Rattle.tabled_grid.specs.Places.{Places, ReadsThrough}
-use Rattle.tabled_settings.specs.Rearranged.{limit_end, reversed, reversed_index, rotated, half_rotated, upside_down}
+use Rattle.tabled_settings.proofs.Common.{◌-◌, ◌<◌, ◌∙◌, ◌≡◌, Axis, Bottom, Grid, IsEven, IsInside, IsTakenOnce, Left, Offset, Places, Position, ReadsThrough, Right, Rotate, Rows, Top, ap, arith, cell_at, count_of, half_rotated, limit_end, nat_tests, place, refl, reversed, reversed_index, rotated, subst, upside_down, ℕ}
 use Rattle.tabled_settings.proofs.Rotated.{as_wide, left_leads_back, into_wide}
 use Rattle.tabled_settings.proofs.ThereAndBack.{as_it_was, lines_twice, leads_there, lines_once, taken_once}
-use Rattle.tabled_settings.specs.declared.rotate.Rotate.{Rotate}
-use Rattle.tabled_settings.specs.Places.{IsTakenOnce}
 
 -- read in the shape that a grid has
 reshaped : {A : Type 0} (places : ℕ → ℕ → Places) (r c : ℕ) (h l : Grid A) → h.rows ≡ r → h.columns ≡ c → ReadsThrough (places h.rows h.columns) h l → ReadsThrough (places r c) h l

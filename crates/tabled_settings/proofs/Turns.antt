@@ -1,6 +1,5 @@
 -- Iterators whose items are seen as those of a list, one turn further.
-use Rattle.std.proofs.Common.{◌≡◌, List, [], ◌∷◌, Option, Some, None, refl, ap, sym}
-use Rattle.std.specs.Iterator.{AlwaysYields}
+use Rattle.tabled_settings.proofs.Common.{[], ◌∷◌, ◌≡◌, AlwaysYields, List, None, Option, Some, ap, refl, sym}
 
 -- what is left after a turn
 pub record Turned {S A B : Type 0} (steps : S → Option A → S → Type 0) (view : A → B) (all : List B) (x : A) (t : S) : Type 0 where

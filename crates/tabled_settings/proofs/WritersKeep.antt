@@ -1,13 +1,5 @@
 -- Options that write texts keep merged cells inside the table and apart.
-use Rattle.std.proofs.Common.{◌≡◌, ℕ, List, [], inl, inr, ap, take}
-use Rattle.tabled_grid.specs.Grid.{Grid, map_grid}
-use Rattle.tabled_grid.specs.Fitting.{Fits}
-use Rattle.tabled_grid.specs.Spans.{SpanMap}
-use Rattle.tabled_grid.specs.declared.config.entity.Entity.{Entity}
-use Rattle.tabled_options.specs.Does.{OptionKeeps}
-use Rattle.tabled_options.proofs.Shapes.{fits_kept, shape_texts}
-use Rattle.tabled_settings.specs.Dups.{Duplicates, DuplicatesFirst, dup_writes}
-use Rattle.tabled_settings.specs.Rewrites.{Asking, Rewrites, RewritesBefore}
+use Rattle.tabled_settings.proofs.Common.{[], ◌≡◌, Asking, Duplicates, DuplicatesFirst, Entity, Fits, Grid, List, OptionKeeps, Rewrites, RewritesBefore, SpanMap, ap, dup_writes, fits_kept, inl, inr, map_grid, shape_texts, take, ℕ}
 
 module _ {A : Type 0} (text_of : A → List ℕ) where
   abbrev FitsIn : Grid A → SpanMap → Type 0

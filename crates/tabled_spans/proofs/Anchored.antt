@@ -1,22 +1,7 @@
 -- What a search of the anchors tells.
-use Rattle.std.proofs.Common.{◌≡◌, ◌⊎◌, ℕ, zero, suc, ◌-◌, ◌<◌, ◌≤◌, Bool, true, false, cond, List, [], ◌∷◌, Some, None, Result, Ok, Err, refl, arith, inl, inr, length, get_or, take, drop, ap, sym, subst, ◌∙◌}
-use Rattle.std.specs.Prelude.{T, ◌==◌, ◌&&◌, MatchResult, not}
-use Rattle.std.specs.FinMap.{entries, entries_sorted, find, get, get-entries, is_sorted}
-use Rattle.std.specs.FinMap.Entries.{below_all}
-use Rattle.std.specs.List.{AllByRecursion}
-use Rattle.std.specs.List.Sorted.{IsBinarySearchResult, IsSearchInRange}
-use Rattle.std.specs.Ordering.{is_eq}
+use Rattle.tabled_spans.proofs.Common.{[], ◌&&◌, ◌-◌, ◌<◌, ◌==◌, ◌∙◌, ◌∷◌, ◌≡◌, ◌≤◌, ◌⊎◌, AllByRecursion, AreSpanSizes, Bool, Earlier, Err, IsBinarySearchResult, IsSearchInRange, List, MatchResult, None, Ok, Position, Rectangle, Result, Size, Some, SpanMap, StandBelow, T, ap, arith, below_all, below_at, both, cases_Bool, cond, drop, drop_all, earlier, entries, entries_sorted, equal, false, find, get, get-entries, get_or, inl, inr, is_eq, is_sorted, length, ne_eqb, not, position_cmp, positions_exact, positions_total, refl, searched, size_at, sized, subst, suc, sym, take, true, zero, ℕ}
 use Rattle.std.specs.Result.{is_ok}
-use Rattle.std.proofs.lemmas.Bool.{cases_Bool, ne_eqb}
-use Rattle.std.proofs.lemmas.List.{drop_all}
-use Rattle.tabled_grid.specs.declared.config.position.Position.{Position}
-use Rattle.tabled_grid.specs.Spans.{AreSpanSizes, Rectangle, SpanMap, position_cmp, size_at, sized}
-use Rattle.tabled_grid.specs.declared.config.size.Size.{Size}
-use Rattle.tabled_grid.proofs.PassedAnchors.{Earlier, earlier}
-use Rattle.tabled_grid.proofs.SortedEntries.{below_at, both, halves, searched}
-use Rattle.tabled_grid.proofs.SpanMaps.{equal}
-use Rattle.tabled_grid.proofs.Spans.{positions_exact, positions_total}
-use Rattle.tabled_spans.specs.RunSteps.{StandBelow}
+use Rattle.tabled_grid.proofs.SortedEntries.{halves}
 use Rattle.tabled_spans.proofs.RunLists.{all_then}
 
 -- an anchor in another row isn't found

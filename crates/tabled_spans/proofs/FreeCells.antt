@@ -1,11 +1,5 @@
 -- Tests of the cells that a span goes over, one after another.
-use Rattle.std.proofs.Common.{◌≡◌, ℕ, zero, suc, ◌+◌, ◌-◌, ◌<◌, ◌≤◌, inl, inr, Bool, true, false, refl, sym, ap, subst, ◌∙◌, arith}
-use Rattle.std.specs.List.{list_all}
-use Rattle.std.proofs.lemmas.Bool.{and_parts, cases_eq, false_from_ne_true, false≢true}
-use Rattle.tabled_grid.specs.declared.config.position.Position.{Position}
-use Rattle.tabled_grid.specs.declared.records.axis.Axis.{Axis}
-use Rattle.tabled_grid.specs.Axis.{in_line}
-use Rattle.tabled_spans.specs.Spanned.{stretch}
+use Rattle.tabled_spans.proofs.Common.{◌+◌, ◌-◌, ◌<◌, ◌∙◌, ◌≡◌, ◌≤◌, Axis, Bool, Position, and_parts, ap, arith, cases_eq, false, false_from_ne_true, false≢true, in_line, inl, inr, list_all, refl, stretch, subst, suc, sym, true, zero, ℕ}
 
 -- where all pass a test, each does
 pub all_pass : (test : Position → Bool) (axis : Axis) (p : Position) (first many : ℕ) → list_all test (stretch axis p first many) ≡ true → (k : ℕ) → first ≤ k → k < first + many → test (in_line axis p k) ≡ true

@@ -1,4 +1,5 @@
 pub mod Anchored
+pub mod Common
 pub mod FreeCells
 pub mod MergeGeometry
 pub mod MergeTwice

@@ -1,20 +1,5 @@
 -- Rectangles lie well after runs are merged where they did before, and a second merge finds no runs.
-use Rattle.std.proofs.Common.{◌≡◌, ℕ, ◌+◌, ◌-◌, ◌<◌, ◌≤◌, ◌⊎◌, inl, inr, true, List, Some, sym, ap, ap₂, subst, ◌∙◌, arith}
-use Rattle.std.specs.FinMap.{get}
-use Rattle.std.proofs.lemmas.Bool.{and_parts, cases_lt}
-use Rattle.std.proofs.lemmas.Option.{same_Some}
-use borrow.Author.Tests.{eqb-true}
-use Rattle.tabled_grid.specs.Entity.{place}
-use Rattle.tabled_grid.specs.Grid.{Grid, IsInside}
-use Rattle.tabled_grid.specs.Midway.{In}
-use Rattle.tabled_grid.specs.Fitting.{Fits}
-use Rattle.tabled_grid.specs.Spans.{IsSpanSize, SpanMap, size_at}
-use Rattle.tabled_grid.specs.declared.config.position.Position.{Position}
-use Rattle.tabled_grid.specs.declared.records.axis.Axis.{Axis}
-use Rattle.tabled_grid.specs.declared.records.axis.Axis.TheVariants.{Rows, Columns}
-use Rattle.tabled_grid.specs.declared.config.size.Size.{Size}
-use Rattle.tabled_grid.proofs.SpanMaps.{holds-from, holds-true, size_at-some, visible}
-use Rattle.tabled_spans.specs.Runs.{IsRun, MergesRuns, further, is_free, size_of_run}
+use Rattle.tabled_spans.proofs.Common.{◌+◌, ◌-◌, ◌<◌, ◌∙◌, ◌≡◌, ◌≤◌, ◌⊎◌, Axis, Columns, Fits, Grid, In, IsInside, IsRun, IsSpanSize, List, MergesRuns, Position, Rows, Size, Some, SpanMap, and_parts, ap, ap₂, arith, cases_lt, eqb-true, further, get, holds-from, holds-true, inl, inr, is_free, place, same_Some, size_at, size_at-some, size_of_run, subst, sym, true, visible, ℕ}
 use Rattle.tabled_spans.proofs.Runs.{further_more, further_none}
 
 -- a place of a run's rectangle is n cells from its first

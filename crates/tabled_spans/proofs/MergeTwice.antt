@@ -1,23 +1,6 @@
 -- A second merge finds no runs, and a merge of a map without rectangles finds those of equal texts.
-use Rattle.std.proofs.Common.{◌≡◌, ℕ, zero, suc, ◌+◌, ◌-◌, ◌<◌, ◌≤◌, ◌≢◌, ◌⊎◌, inl, inr, true, List, Some, refl, sym, ap, ap₂, subst, ◌∙◌, arith}
+use Rattle.tabled_spans.proofs.Common.{◌+◌, ◌-◌, ◌<◌, ◌∙◌, ◌≡◌, ◌≢◌, ◌≤◌, ◌⊎◌, Axis, Columns, Grid, In, IsInside, IsRun, Joins, List, MergesRuns, Position, Rows, Size, Some, SpanMap, and_from, and_parts, ap, ap₂, arith, cases_lt, cell_at, eq-eqb, eqb-true, false_from_ne_true, false≢true, further, get, get-empty, hidden-from, hidden_by, inl, inr, is_free, is_hidden, is_visible, none-some, not_from_false, not_from_true, place, position_cmp, positions_exact, positions_total, refl, same_Some, same_map, size_at, size_at-some, size_of_run, sized, subst, suc, sym, true, unwrap_or, zero, ℕ}
 use Rattle.std.specs.FinMap as map
-use Rattle.std.specs.FinMap.{get, get-empty, same_map}
-use Rattle.std.specs.Option.{unwrap_or}
-use Rattle.std.proofs.lemmas.Bool.{and_from, and_parts, cases_lt, eq-eqb, false_from_ne_true, false≢true, not_from_false, not_from_true}
-use Rattle.std.proofs.lemmas.Option.{none-some, same_Some}
-use borrow.Author.Tests.{eqb-true}
-use Rattle.tabled_grid.specs.Entity.{place}
-use Rattle.tabled_grid.specs.Grid.{Grid, IsInside, cell_at}
-use Rattle.tabled_grid.specs.Midway.{In}
-use Rattle.tabled_grid.specs.Hidden.{is_hidden, is_visible}
-use Rattle.tabled_grid.specs.Spans.{SpanMap, position_cmp, size_at, sized}
-use Rattle.tabled_grid.specs.declared.config.position.Position.{Position}
-use Rattle.tabled_grid.specs.declared.records.axis.Axis.{Axis}
-use Rattle.tabled_grid.specs.declared.records.axis.Axis.TheVariants.{Rows, Columns}
-use Rattle.tabled_grid.specs.declared.config.size.Size.{Size}
-use Rattle.tabled_grid.proofs.SpanMaps.{hidden-from, hidden_by, size_at-some}
-use Rattle.tabled_grid.proofs.Spans.{positions_exact, positions_total}
-use Rattle.tabled_spans.specs.Runs.{IsRun, Joins, MergesRuns, further, is_free, size_of_run}
 use Rattle.tabled_spans.proofs.MergeGeometry.{run_cell}
 use Rattle.tabled_spans.proofs.Runs.{further_back, further_none, same_run}
 

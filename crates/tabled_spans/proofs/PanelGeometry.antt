@@ -1,26 +1,6 @@
 -- Rectangles lie well after a panel where they did before it.
-use Rattle.std.proofs.Common.{◌≡◌, ℕ, ◌+◌, ◌<◌, ◌≤◌, ◌⊎◌, inl, inr, false, cond, List, None, Some, sym, ap, ap₂, subst, ◌∙◌, arith}
-use Rattle.std.specs.Prelude.{nat_eq}
-use Rattle.std.specs.FinMap.{get, get-remove, same_map}
-use Rattle.std.proofs.lemmas.Bool.{and_parts, cases_Bool, cases_lt, cond-true, false_from_ne_true, not-true}
-use borrow.Author.Tests.{eqb-true, leb-true, ltb-true}
-use Rattle.tabled_grid.specs.Axis.{across, place_in}
-use Rattle.tabled_grid.specs.Along.{count_along}
-use Rattle.tabled_grid.specs.Grid.{Grid}
-use Rattle.tabled_grid.specs.Midway.{In}
-use Rattle.tabled_grid.specs.Fitting.{Fits}
-use Rattle.tabled_grid.specs.Shifts.{is_crossed, shifted}
-use Rattle.tabled_grid.specs.Spans.{SpanMap, sized, with_size}
-use Rattle.tabled_grid.specs.declared.config.position.Position.{Position}
-use Rattle.tabled_grid.specs.declared.records.axis.Axis.{Axis}
-use Rattle.tabled_grid.specs.declared.records.axis.Axis.TheVariants.{Rows, Columns}
-use Rattle.tabled_grid.specs.declared.config.size.Size.{Size}
-use Rattle.tabled_grid.proofs.Geometry.{cases_place}
-use Rattle.tabled_grid.proofs.Merging.{fits_with}
-use Rattle.tabled_grid.proofs.ShiftedFits.{fits_below, fits_beside, line_is_free}
-use Rattle.tabled_grid.proofs.SpanMaps.{tied, with_size-other}
-use Rattle.tabled_grid.proofs.Spans.{positions_exact, positions_total}
-use Rattle.tabled_spans.specs.Panels.{Panels, has_room, with_line_at, with_panel}
+use Rattle.tabled_spans.proofs.Common.{◌+◌, ◌<◌, ◌∙◌, ◌≡◌, ◌≤◌, ◌⊎◌, Axis, Columns, Fits, Grid, In, List, None, Panels, Position, Rows, Size, Some, SpanMap, across, and_parts, ap, ap₂, arith, cases_Bool, cases_lt, cases_place, cond, cond-true, count_along, eqb-true, false, false_from_ne_true, fits_below, fits_beside, fits_with, get, get-remove, has_room, inl, inr, is_crossed, leb-true, line_is_free, nat_eq, not-true, place_in, positions_exact, positions_total, same_map, shifted, sized, subst, sym, tied, with_line_at, with_panel, with_size, with_size-other, ℕ}
+use borrow.Author.Tests.{ltb-true}
 use Rattle.tabled_spans.proofs.PanelMaps.{no_anchor}
 
 -- the size of one cell where there is no anchor changes nothing

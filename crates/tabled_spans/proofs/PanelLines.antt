@@ -1,21 +1,8 @@
 -- A line put in, with a text in its first cell, and the way back.
-use Rattle.std.proofs.Common.{◌≡◌, ℕ, zero, suc, ◌+◌, ◌-◌, ◌≤◌, true, false, cond, List, [], ◌∷◌, refl, sym, ap, ap₂, ◌∙◌, arith, length, get_or, set, map}
-use Rattle.std.specs.Prelude.{◌&&◌, nat_eq, not, replicate}
-use Rattle.std.specs.List.{AllByRecursion, insert, remove, zip}
-use Rattle.std.proofs.lemmas.Bool.{false_from_ne_true, false≢true}
-use borrow.Author.Tests.{eqb-true, le-leb, lt-ltb}
-use Rattle.tabled_grid.specs.Axis.{across, place_in}
-use Rattle.tabled_grid.specs.Along.{count_along, without_line}
-use Rattle.tabled_grid.specs.Entity.{place}
-use Rattle.tabled_grid.specs.Grid.{Grid, IsEmptyWithoutRows, IsEven, WritesText, with_cell}
-use Rattle.tabled_grid.specs.Resized.{AreBlanks, with_column, with_row, without_column, without_row}
-use Rattle.tabled_grid.specs.Shifts.{is_crossed, shifted}
-use Rattle.tabled_grid.specs.Spans.{SpanMap}
-use Rattle.tabled_grid.specs.declared.records.axis.Axis.{Axis}
-use Rattle.tabled_grid.specs.declared.records.axis.Axis.TheVariants.{Rows, Columns}
+use Rattle.tabled_spans.proofs.Common.{[], ◌&&◌, ◌+◌, ◌-◌, ◌∙◌, ◌∷◌, ◌≡◌, ◌≤◌, AllByRecursion, AreBlanks, Axis, Columns, Grid, IsEmptyWithoutRows, IsEven, List, Panels, PutsIn, Rows, SpanMap, WritesText, across, ap, ap₂, arith, cond, count_along, eqb-true, false, false_from_ne_true, false≢true, get_or, has_room, insert, is_crossed, length, lt-ltb, map, nat_eq, not, place, place_in, refl, remove, set, shifted, suc, sym, true, with_cell, with_column, with_row, with_span, without_column, without_line, without_row, zero, zip, ℕ}
+use Rattle.std.specs.Prelude.{replicate}
+use borrow.Author.Tests.{le-leb}
 use Rattle.tabled_spans.specs.PanelSteps.{InsertsLine}
-use Rattle.tabled_spans.specs.Panels.{Panels, PutsIn, has_room}
-use Rattle.tabled_spans.specs.Spanned.{with_span}
 use Rattle.tabled_spans.proofs.PanelMaps.{panel_merged}
 
 module _ {X : Type 0} where

@@ -1,19 +1,5 @@
 -- The map with a panel.
-use Rattle.std.proofs.Common.{◌≡◌, ℕ, ◌≤◌, None, refl, ap, ◌∙◌, arith}
-use Rattle.std.specs.FinMap.{get}
-use Rattle.tabled_grid.specs.Axis.{across, line_of, place_in}
-use Rattle.tabled_grid.specs.Shifts.{shifted}
-use Rattle.tabled_grid.specs.Spans.{SpanMap, size_at, sized, with_size}
-use Rattle.tabled_grid.specs.declared.config.position.Position.{Position}
-use Rattle.tabled_grid.specs.declared.records.axis.Axis.{Axis}
-use Rattle.tabled_grid.specs.declared.records.axis.Axis.TheVariants.{Rows, Columns}
-use Rattle.tabled_grid.specs.declared.config.size.Size.{Size}
-use Rattle.tabled_grid.proofs.Merging.{column_span-is, row_span-is}
-use Rattle.tabled_grid.proofs.ShiftedFits.{came}
-use Rattle.tabled_grid.proofs.Shifts.{Comes, moves, stays}
-use Rattle.tabled_grid.proofs.SpanMaps.{at, none, size_at-none, some}
-use Rattle.tabled_spans.specs.Panels.{with_panel}
-use Rattle.tabled_spans.specs.Spanned.{with_span}
+use Rattle.tabled_spans.proofs.Common.{◌∙◌, ◌≡◌, ◌≤◌, Axis, Columns, Comes, None, Position, Rows, Size, SpanMap, across, ap, arith, at, came, column_span-is, get, line_of, moves, none, place_in, refl, row_span-is, shifted, size_at, size_at-none, sized, some, stays, with_panel, with_size, with_span, ℕ}
 
 starts : (axis : Axis) (line : ℕ) → line_of axis (place_in axis line 0) ≡ line
 starts Rows line = refl

@@ -1,13 +1,9 @@
 -- A text that is cut character by character is parted.
-use Rattle.std.proofs.Common.{◌≡◌, ◌∙◌, ℕ, ◌+◌, ◌<◌, ◌≤◌, ◌⊎◌, inl, inr, true, false, cond, List, [], ◌∷◌, ◌++◌, refl, sym, ap, subst, append_assoc, map, arith}
-use Rattle.std.specs.Prelude.{nat_le, eqb, not}
-use Rattle.std.specs.List.{concat, join_with_byte, list_all, slice_split}
-use Rattle.std.proofs.lemmas.Bool.{and_parts, cases_Bool, eq-eqb, eqb-false, le-leb, lt-leb, ne_eqb, not-true}
+use Rattle.tabled_spans.proofs.Common.{[], ◌++◌, ◌+◌, ◌<◌, ◌∙◌, ◌∷◌, ◌≡◌, ◌≤◌, ◌⊎◌, AreParts, Begins, IsCut, IsCutLine, List, Placed, and_parts, ap, append_assoc, arith, cases_Bool, character_columns, columns_in, concat, cond, eq-eqb, eqb, eqb-false, false, inl, inr, join_with_byte, last_replaced, le-leb, list_all, lt-leb, map, nat_le, ne_eqb, not, not-true, pieces, placed, refl, shown, slice_split, subst, sym, true, ℕ}
 use Rattle.std.proofs.lemmas.Bool.Decides.{eqb_tells, leb_tells}
 use Rattle.std.proofs.lemmas.List.{append-nil}
 use Rattle.std.proofs.lemmas.List.Sums.{sum_by-cons, sum_by_push}
 use Rattle.std.proofs.lemmas.List.Splits.{join_with_byte-slice_split}
-use Rattle.tabled_spans.specs.Widths.{AreParts, Begins, IsCut, IsCutLine, Placed, columns_in, character_columns, last_replaced, pieces, placed, shown}
 
 nowhere : (front rest : List ℕ) (c : ℕ) → [] ≡ front ++ (c ∷ rest) → ⊥
 nowhere [] rest c e = cc

@@ -1,13 +1,5 @@
 -- How far spans reach in a table.
-use Rattle.std.proofs.Common.{◌≡◌, ℕ, ◌<◌, true, false, cond, List, [], ◌∷◌, refl}
-use Rattle.std.specs.List.{AllByRecursion, filter}
-use Rattle.tabled_grid.specs.Entity.{block, inside, names}
-use Rattle.tabled_grid.specs.declared.config.entity.Entity.{Entity}
-use Rattle.tabled_grid.specs.declared.config.position.Position.{Position}
-use Rattle.tabled_grid.specs.declared.records.axis.Axis.{Axis}
-use Rattle.tabled_grid.proofs.Places.{inside-within}
-use Rattle.tabled_grid.specs.Axis.{count_of}
-use Rattle.tabled_spans.specs.SpanSteps.{InReach, IsReach}
+use Rattle.tabled_spans.proofs.Common.{[], ◌<◌, ◌∷◌, ◌≡◌, AllByRecursion, Axis, Entity, InReach, IsReach, List, Position, block, cond, count_of, false, filter, inside, inside-within, names, refl, true, ℕ}
 
 -- each place that an entity names is in its reach, and named
 module _ (axis : Axis) (size : ℕ) (e : Entity) (rows columns : ℕ) (reach : ℕ × ℕ) (is : IsReach axis size e rows columns reach) where

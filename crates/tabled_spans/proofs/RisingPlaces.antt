@@ -1,19 +1,5 @@
 -- The places that an entity names rise, row by row.
-use Rattle.std.proofs.Common.{ℕ, zero, suc, ◌+◌, ◌-◌, ◌<◌, inl, inr, Bool, true, false, cond, List, [], ◌∷◌, ◌++◌, refl, sym, subst, map, arith}
-use Rattle.std.specs.Prelude.{T}
-use Rattle.std.specs.FinMap.{is_sorted}
-use Rattle.std.specs.FinMap.Entries.{below_all}
-use Rattle.std.specs.List.{AllByRecursion, filter, flat_map, range_with_len}
-use Rattle.std.specs.Ordering.{is_lt}
-use Rattle.std.specs.declared.cmp.Ordering.{Ordering}
-use Rattle.tabled_grid.specs.Entity.{inside, names, place, row_places}
-use Rattle.tabled_grid.specs.Spans.{Rectangle, position_cmp, sized}
-use Rattle.tabled_grid.specs.declared.config.entity.Entity.{Entity}
-use Rattle.tabled_grid.specs.declared.config.position.Position.{Position}
-use Rattle.tabled_grid.proofs.Lists.{all-append}
-use Rattle.tabled_grid.proofs.PassedAnchors.{Earlier}
-use Rattle.tabled_grid.proofs.Shifts.{from_earlier}
-use Rattle.tabled_grid.proofs.SortedEntries.{both}
+use Rattle.tabled_spans.proofs.Common.{[], ◌++◌, ◌+◌, ◌-◌, ◌<◌, ◌∷◌, AllByRecursion, Bool, Earlier, Entity, List, Ordering, Position, Rectangle, T, all-append, arith, below_all, both, cond, false, filter, flat_map, from_earlier, inl, inr, inside, is_lt, is_sorted, map, names, place, position_cmp, range_with_len, refl, row_places, sized, subst, suc, sym, true, zero, ℕ}
 use Rattle.tabled_select.proofs.Sifted.{all-filter}
 
 -- each place comes before all that follow

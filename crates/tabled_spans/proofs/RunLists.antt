@@ -1,21 +1,5 @@
 -- The order of places, row by row, and the map in which runs that are listed are rectangles.
-use Rattle.std.proofs.Common.{◌≡◌, ℕ, ◌+◌, ◌<◌, ◌≤◌, ◌⊎◌, inl, inr, false, cond, List, [], ◌∷◌, None, Some, Option, refl, sym, ap, ap₂, subst, ◌∙◌, arith}
-use Rattle.std.specs.Prelude.{◌&&◌, ◌==◌, if◌then◌else◌}
-use Rattle.std.specs.FinMap.{find, get}
-use Rattle.std.specs.List.{AllByRecursion}
-use Rattle.std.proofs.lemmas.Bool.{and_left, cases_lt, ne_eqb}
-use Rattle.std.proofs.lemmas.Option.{none-some}
-use Rattle.tabled_grid.specs.Entity.{place}
-use Rattle.tabled_grid.specs.Grid.{Grid}
-use Rattle.tabled_grid.specs.Spans.{Rectangle, SpanMap, position_cmp, with_sizes}
-use Rattle.tabled_grid.specs.declared.config.position.Position.{Position}
-use Rattle.tabled_grid.specs.declared.records.axis.Axis.{Axis}
-use Rattle.tabled_grid.specs.declared.records.axis.Axis.TheVariants.{Rows, Columns}
-use Rattle.tabled_grid.specs.declared.config.size.Size.{Size}
-use Rattle.tabled_grid.proofs.Geometry.{cases_place}
-use Rattle.tabled_grid.proofs.SpanMaps.{untied}
-use Rattle.tabled_spans.specs.RunSteps.{Before, IsOfRun, RunsFrom}
-use Rattle.tabled_spans.specs.Runs.{IsRun, MergesRuns, size_of_run}
+use Rattle.tabled_spans.proofs.Common.{[], ◌&&◌, ◌+◌, ◌<◌, ◌==◌, ◌∙◌, ◌∷◌, ◌≡◌, ◌≤◌, ◌⊎◌, AllByRecursion, Axis, Before, Columns, Grid, IsOfRun, IsRun, List, MergesRuns, None, Option, Position, Rectangle, Rows, RunsFrom, Size, Some, SpanMap, and_left, ap, ap₂, arith, cases_lt, cases_place, cond, false, find, get, if◌then◌else◌, inl, inr, ne_eqb, none-some, place, position_cmp, refl, size_of_run, subst, sym, untied, with_sizes, ℕ}
 use Rattle.tabled_spans.proofs.Runs.{further_none}
 use Rattle.tabled_spans.proofs.SetSizes.{get-with_sizes, set_or}
 

@@ -1,14 +1,5 @@
 -- Runs of equal neighbours: where they begin and end.
-use Rattle.std.proofs.Common.{◌≡◌, ℕ, ◌+◌, ◌-◌, ◌<◌, ◌≤◌, ◌⊎◌, inl, inr, List, refl, sym, ap, ap₂, subst, ◌∙◌, arith}
-use Rattle.std.proofs.lemmas.Bool.{cases_lt}
-use Rattle.tabled_grid.specs.Entity.{place}
-use Rattle.tabled_grid.specs.Grid.{Grid}
-use Rattle.tabled_grid.specs.Spans.{SpanMap}
-use Rattle.tabled_grid.specs.declared.config.position.Position.{Position}
-use Rattle.tabled_grid.specs.declared.records.axis.Axis.{Axis}
-use Rattle.tabled_grid.specs.declared.records.axis.Axis.TheVariants.{Rows, Columns}
-use Rattle.tabled_spans.specs.RunSteps.{RunAt}
-use Rattle.tabled_spans.specs.Runs.{IsRun, Joins, further}
+use Rattle.tabled_spans.proofs.Common.{◌+◌, ◌-◌, ◌<◌, ◌∙◌, ◌≡◌, ◌≤◌, ◌⊎◌, Axis, Columns, Grid, IsRun, Joins, List, Position, Rows, RunAt, SpanMap, ap, ap₂, arith, cases_lt, further, inl, inr, place, refl, subst, sym, ℕ}
 
 pub further_none : (axis : Axis) (p : Position) → further axis 0 p ≡ p
 further_none Rows p = ap₂ place (omega arith) refl

@@ -1,21 +1,6 @@
 -- Lists of the runs from a place on, row by row.
-use Rattle.std.proofs.Common.{◌≡◌, ℕ, ◌+◌, ◌<◌, ◌≤◌, ◌≢◌, ◌⊎◌, inl, inr, true, cond, List, [], ◌∷◌, Some, refl, ap, subst, ◌∙◌, T, arith}
-use Rattle.std.specs.FinMap.{find}
-use Rattle.std.specs.FinMap.Entries.{below_all}
-use Rattle.std.specs.List.{AllByRecursion}
-use Rattle.std.specs.Ordering.{is_eq}
-use Rattle.std.proofs.lemmas.Bool.{cases_lt}
-use Rattle.tabled_grid.specs.Entity.{place}
-use Rattle.tabled_grid.specs.Grid.{Grid}
-use Rattle.tabled_grid.specs.Spans.{Rectangle, SpanMap, position_cmp}
-use Rattle.tabled_grid.specs.declared.config.position.Position.{Position}
-use Rattle.tabled_grid.specs.declared.records.axis.Axis.{Axis}
-use Rattle.tabled_grid.proofs.Geometry.{cases_place}
-use Rattle.tabled_grid.proofs.Shifts.{from_earlier}
-use Rattle.tabled_grid.proofs.SortedEntries.{both}
-use Rattle.tabled_grid.proofs.SpanMaps.{tied, untied}
-use Rattle.tabled_spans.specs.RunSteps.{Before, RunAt, RunsFrom}
-use Rattle.tabled_spans.specs.Runs.{IsRun, size_of_run}
+use Rattle.tabled_spans.proofs.Common.{[], ◌+◌, ◌<◌, ◌∙◌, ◌∷◌, ◌≡◌, ◌≢◌, ◌≤◌, ◌⊎◌, AllByRecursion, Axis, Before, Grid, IsRun, List, Position, Rectangle, RunAt, RunsFrom, Some, SpanMap, ap, arith, below_all, both, cases_lt, cases_place, cond, find, from_earlier, inl, inr, is_eq, place, position_cmp, refl, size_of_run, subst, tied, true, untied, ℕ}
+use Rattle.std.proofs.Common.{T}
 use Rattle.tabled_spans.proofs.RunLists.{all_then, begins_above, begins_inside, in_row, next_row, one_more, split_last}
 use Rattle.tabled_spans.proofs.Runs.{same_run}
 

@@ -1,21 +1,6 @@
 -- What a map has after sizes are set at once, and after one more of them.
-use Rattle.std.proofs.Common.{◌≡◌, ℕ, ◌≤◌, inl, inr, true, false, cond, List, [], ◌∷◌, Some, None, Option, refl, sym, ap, ap₂, subst, ◌∙◌}
-use Rattle.std.specs.Prelude.{T, ◌==◌, ◌&&◌, if◌then◌else◌}
+use Rattle.tabled_spans.proofs.Common.{[], ◌&&◌, ◌==◌, ◌∙◌, ◌∷◌, ◌≡◌, ◌≤◌, Axis, List, None, Option, Position, Rectangle, Size, Some, SpanMap, T, and_parts, ap, ap₂, below_all, cases_Bool, cond, eq_by_cmp, eqb-true, equal, false, find, find-put, found_above, get, get-insert, get-remove, halves, if◌then◌else◌, inl, inr, is_eq, is_sorted, is_sorted-put, position_cmp, positions_exact, positions_total, put, refl, resized, same_map, size_at, sized, subst, sym, tied, true, unwrap_or, with_size, with_sizes, with_span, ℕ}
 use Rattle.std.specs.FinMap as map
-use Rattle.std.specs.FinMap.{find, get, get-insert, get-remove, is_sorted, same_map}
-use Rattle.std.specs.FinMap.Entries.{below_all, find-put, is_sorted-put, put}
-use Rattle.std.specs.Option.{unwrap_or}
-use Rattle.std.specs.Ordering.{eq_by_cmp, is_eq}
-use Rattle.std.proofs.lemmas.Bool.{and_parts, cases_Bool}
-use borrow.Author.Tests.{eqb-true}
-use Rattle.tabled_grid.specs.Spans.{Rectangle, SpanMap, position_cmp, size_at, sized, with_size, with_sizes}
-use Rattle.tabled_grid.specs.declared.config.position.Position.{Position}
-use Rattle.tabled_grid.specs.declared.records.axis.Axis.{Axis}
-use Rattle.tabled_grid.proofs.SpanMaps.{equal, found_above, halves, tied}
-use Rattle.tabled_grid.proofs.Spans.{positions_exact, positions_total}
-use Rattle.tabled_spans.specs.Spanned.{with_span}
-use Rattle.tabled_grid.specs.Axis.{resized}
-use Rattle.tabled_grid.specs.declared.config.size.Size.{Size}
 use Rattle.tabled_spans.proofs.SpanChanges.{span-is}
 
 -- what a map has at a place, after a size is set there, or none

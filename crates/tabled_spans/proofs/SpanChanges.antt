@@ -1,25 +1,5 @@
 -- Sizes that are set at rising places, and what spans make of them.
-use Rattle.std.proofs.Common.{◌≡◌, ℕ, ◌+◌, ◌-◌, ◌<◌, ◌≤◌, ◌≢◌, inl, inr, Bool, true, false, List, [], ◌∷◌, ◌++◌, refl, sym, ap, subst, ◌∙◌, append_assoc, arith}
-use Rattle.std.specs.Prelude.{T, if◌then◌else◌, min}
-use Rattle.std.specs.FinMap.{is_sorted}
-use Rattle.std.specs.FinMap.Entries.{below_all}
-use Rattle.std.specs.Ordering.{is_eq}
-use Rattle.std.specs.declared.cmp.Ordering.TheVariants.{Less}
-use Rattle.std.proofs.lemmas.Bool.{cases_Bool}
-use Rattle.std.proofs.lemmas.Cmp.{tied_itself}
-use Rattle.tabled_grid.specs.Covers.{cover_in}
-use Rattle.tabled_grid.specs.Spans.{Rectangle, SpanMap, position_cmp, size_at, sized, with_size, with_sizes}
-use Rattle.tabled_grid.specs.declared.config.position.Position.{Position}
-use Rattle.tabled_grid.specs.declared.records.axis.Axis.{Axis}
-use Rattle.tabled_grid.specs.declared.records.axis.Axis.TheVariants.{Rows, Columns}
-use Rattle.tabled_grid.proofs.Merging.{column_span-is, row_span-is}
-use Rattle.tabled_grid.proofs.SortedEntries.{both}
-use Rattle.tabled_grid.proofs.SpanMaps.{halves, less, size_at-with_size-other}
-use Rattle.tabled_grid.proofs.Spans.{positions_total}
-use Rattle.tabled_grid.specs.Axis.{across, count_of, line_of, resized}
-use Rattle.tabled_grid.specs.declared.config.size.Size.{Size}
-use Rattle.tabled_spans.specs.Spanned.{are_visible, grown_each, with_span, with_visible_span}
-use Rattle.tabled_spans.specs.SpanSteps.{change_at}
+use Rattle.tabled_spans.proofs.Common.{[], ◌++◌, ◌+◌, ◌-◌, ◌<◌, ◌∙◌, ◌∷◌, ◌≡◌, ◌≢◌, ◌≤◌, Axis, Bool, Columns, Less, List, Position, Rectangle, Rows, Size, SpanMap, T, across, ap, append_assoc, are_visible, arith, below_all, both, cases_Bool, change_at, column_span-is, count_of, cover_in, false, grown_each, halves, if◌then◌else◌, inl, inr, is_eq, is_sorted, less, line_of, min, position_cmp, positions_total, refl, resized, row_span-is, size_at, size_at-with_size-other, sized, subst, sym, tied_itself, true, with_size, with_sizes, with_span, with_visible_span, ℕ}
 
 pub with_sizes-append : (m : SpanMap) (xs ys : List Rectangle) → with_sizes m (xs ++ ys) ≡ with_sizes (with_sizes m xs) ys
 with_sizes-append m [] ys = refl

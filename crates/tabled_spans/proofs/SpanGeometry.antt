@@ -1,26 +1,7 @@
 -- How merged cells lie after spans.
-use Rattle.std.proofs.Common.{◌≡◌, Option, ℕ, suc, ◌+◌, ◌-◌, ◌<◌, ◌≤◌, true, List, Some, None, refl, take, arith}
-use Rattle.std.specs.Prelude.{ℤ, pos, min, ◌<ℤ◌}
-use Rattle.std.specs.List.{AllByRecursion}
-use Rattle.std.proofs.lemmas.Bool.{cond_both}
-use Rattle.tabled_grid.specs.Entity.{inside}
-use Rattle.tabled_grid.specs.Grid.{Grid, map_grid}
-use Rattle.tabled_grid.specs.Midway.{Midway, LieWithin}
-use Rattle.tabled_grid.specs.Hidden.{drop_hidden, is_visible}
-use Rattle.tabled_grid.specs.Fitting.{Fits}
-use Rattle.tabled_grid.specs.Spans.{AreSpanSizes, SpanMap, size_at}
-use Rattle.tabled_grid.specs.declared.config.entity.Entity.{Entity}
-use Rattle.tabled_grid.specs.declared.config.position.Position.{Position}
-use Rattle.tabled_grid.specs.declared.records.axis.Axis.{Axis}
-use Rattle.tabled_grid.specs.declared.records.axis.Axis.TheVariants.{Rows, Columns}
-use Rattle.tabled_grid.proofs.Merging.{fits_dropped, flat_column_span, flat_dropped, fold-keeps, midway, midway_flat, midway_heightened, midway_narrow, midway_widened, narrow_dropped, narrow_row_span, sizes_heightened, sizes_widened, within_high, within_wide}
-use Rattle.tabled_grid.proofs.Places.{inside-within}
-use Rattle.tabled_options.specs.Does.{OptionKeeps}
-use Rattle.tabled_options.specs.Writes.{DoesFirstWrites}
+use Rattle.tabled_spans.proofs.Common.{◌+◌, ◌-◌, ◌<ℤ◌, ◌<◌, ◌≡◌, ◌≤◌, AllByRecursion, AreSpanSizes, Axis, Columns, DoesFirstWrites, Entity, Fits, Grid, IsFlat, LieWithin, List, Midway, None, Option, OptionKeeps, Position, Rows, Some, SpanMap, Spans, SpansFirst, are_visible, arith, back_of, cond_both, count_of, drop_hidden, fits_dropped, flat_column_span, flat_dropped, fold-keeps, grown, grown_at, grown_each, in_line, inside, inside-within, is_visible, line_of, map_grid, midway, midway_flat, midway_heightened, midway_narrow, midway_widened, min, narrow_dropped, narrow_row_span, pos, pulled, pulled_at, refl, size_at, sizes_heightened, sizes_widened, span_writes, spanned, suc, take, taken, true, with_span, within_high, within_wide, ℕ, ℤ}
 use Rattle.tabled_options.proofs.Keeps.{keeps_same_or}
 use Rattle.tabled_options.proofs.Shapes.{shape_texts}
-use Rattle.tabled_grid.specs.Axis.{count_of, in_line, line_of}
-use Rattle.tabled_spans.specs.Spanned.{IsFlat, Spans, SpansFirst, are_visible, back_of, grown, grown_at, grown_each, pulled, pulled_at, span_writes, spanned, taken, with_span}
 use Rattle.tabled_spans.proofs.FreeCells.{all_pass}
 use Rattle.tabled_spans.proofs.SpanChanges.{index_within}
 

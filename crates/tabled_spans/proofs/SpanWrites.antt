@@ -1,13 +1,6 @@
 -- Writes of spans, one after another.
-use Rattle.std.proofs.Common.{◌≡◌, ℕ, suc, ◌+◌, ◌-◌, ◌<◌, List, [], ◌∷◌, ◌++◌, Some, Option, refl, sym, ap, ap₂, subst, ◌∙◌, arith}
-use Rattle.std.specs.Option.{unwrap_or}
-use Rattle.tabled_grid.specs.Grid.{Grid, cell_at, with_cell}
-use Rattle.tabled_grid.specs.declared.config.position.Position.{Position}
-use Rattle.tabled_grid.specs.declared.records.axis.Axis.{Axis}
-use Rattle.tabled_options.specs.Writes.{FirstWrites, Write, with_writes}
+use Rattle.tabled_spans.proofs.Common.{[], ◌++◌, ◌+◌, ◌-◌, ◌<◌, ◌∙◌, ◌∷◌, ◌≡◌, Axis, FirstWrites, Grid, List, Option, Position, Some, Write, ap, ap₂, arith, cell_at, count_of, emptying, in_line, line_of, pull_writes, pulling, refl, subst, suc, sym, taken, unwrap_or, with_cell, with_writes, ℕ}
 use Rattle.tabled_options.proofs.Writes.{some-first, some-later, some-next, some-none, writes-append}
-use Rattle.tabled_grid.specs.Axis.{count_of, in_line, line_of}
-use Rattle.tabled_spans.specs.Spanned.{emptying, pull_writes, pulling, taken}
 
 -- with some of all writes done, the rest leads where all lead, and where its first lead
 pub record Continues (all : List Write) (old : Grid (List ℕ)) (rest : List Write) (new : Grid (List ℕ)) : Type 0 where

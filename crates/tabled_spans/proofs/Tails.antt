@@ -1,16 +1,5 @@
 -- Tails of runs: the lengths that are carried from each cell to the one before it.
-use Rattle.std.proofs.Common.{◌≡◌, ℕ, ◌+◌, ◌-◌, ◌<◌, ◌≤◌, ◌≢◌, ◌⊎◌, inl, inr, List, length, replicate, slice_index, slice_set, refl, sym, ap, ap₂, subst, ◌∙◌, arith}
-use Rattle.std.proofs.lemmas.Bool.{cases_lt}
-use Rattle.std.proofs.lemmas.List.{get_or-replicate, get_or-set_other, get_or-set_same, length-replicate, length-set}
-use Rattle.tabled_grid.specs.Entity.{place}
-use Rattle.tabled_grid.specs.Grid.{Grid, IsInside}
-use Rattle.tabled_grid.specs.Spans.{SpanMap}
-use Rattle.tabled_grid.specs.declared.config.position.Position.{Position}
-use Rattle.tabled_grid.specs.declared.records.axis.Axis.{Axis}
-use Rattle.tabled_grid.specs.declared.records.axis.Axis.TheVariants.{Rows, Columns}
-use Rattle.tabled_grid.proofs.Geometry.{cases_place}
-use Rattle.tabled_spans.specs.RunSteps.{AreTails, Before, IsTail}
-use Rattle.tabled_spans.specs.Runs.{Joins, further}
+use Rattle.tabled_spans.proofs.Common.{◌+◌, ◌-◌, ◌<◌, ◌∙◌, ◌≡◌, ◌≢◌, ◌≤◌, ◌⊎◌, AreTails, Axis, Before, Columns, Grid, IsInside, IsTail, Joins, List, Position, Rows, SpanMap, ap, ap₂, arith, cases_lt, cases_place, further, get_or-replicate, get_or-set_other, get_or-set_same, inl, inr, length, length-replicate, length-set, place, refl, replicate, slice_index, slice_set, subst, sym, ℕ}
 use Rattle.tabled_spans.proofs.RunLists.{in_row, next_row, one_more, split_last}
 use Rattle.tabled_spans.proofs.Runs.{further_back, further_none, same_last}
 

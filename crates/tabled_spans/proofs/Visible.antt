@@ -1,21 +1,7 @@
 -- Which cells anchors hide, asked of one anchor after another.
-use Rattle.std.proofs.Common.{◌≡◌, ℕ, zero, suc, ◌+◌, ◌-◌, ◌^◌, ◌<◌, ◌≤◌, ◌⊎◌, inl, inr, Bool, true, false, List, [], ◌∷◌, refl, sym, ap, ap₂, ◌∙◌, arith}
-use Rattle.std.specs.Prelude.{◌==◌, ◌&&◌, ◌||◌, max, min, nat_le, not}
+use Rattle.tabled_spans.proofs.Common.{[], ◌&&◌, ◌+◌, ◌-◌, ◌<◌, ◌==◌, ◌^◌, ◌||◌, ◌∙◌, ◌∷◌, ◌≡◌, ◌≤◌, ◌⊎◌, Axis, Bool, Columns, List, Position, Rectangle, Rows, SpanMap, across, and_from, ap, ap₂, are_visible, arith, cases_eq, cases_lt, entries, eq-eqb, false, false_from_ne_true, hides, holds-from, in_line, inl, inr, is_clear, le-leb, line_of, lines_in, list_all, list_any, lt-leb, max, min, nat_le, ne_eqb, not, not_from_false, not_from_true, place, refl, same_place-apart, stretch, suc, sym, true, zero, ℕ}
 use Rattle.std.specs.Int.{from_bool}
-use Rattle.std.specs.FinMap.{entries}
-use Rattle.std.specs.List.{list_all, list_any}
-use Rattle.std.proofs.lemmas.Bool.{and_from, cases_eq, cases_lt, eq-eqb, false_from_ne_true, le-leb, lt-leb, ne_eqb, not_from_false, not_from_true}
-use Rattle.tabled_grid.specs.Covers.{hides}
-use Rattle.tabled_grid.specs.Entity.{place}
-use Rattle.tabled_grid.specs.Spans.{Rectangle, SpanMap}
-use Rattle.tabled_grid.specs.declared.config.position.Position.{Position}
-use Rattle.tabled_grid.specs.declared.records.axis.Axis.{Axis}
-use Rattle.tabled_grid.specs.declared.records.axis.Axis.TheVariants.{Rows, Columns}
-use Rattle.tabled_grid.specs.Axis.{across, in_line, line_of, lines_in}
 use Rattle.tabled_grid.proofs.Stepping.{hides-true}
-use Rattle.tabled_grid.proofs.SpanMaps.{holds-from, same_place-apart}
-use Rattle.tabled_spans.specs.Spanned.{are_visible, stretch}
-use Rattle.tabled_spans.specs.SpanSteps.{is_clear}
 use Rattle.tabled_spans.proofs.FreeCells.{one_fails}
 
 four : (a b c d : Bool) → (not (a || b) && (c && d)) ≡ ((not a && c) && (not b && d))

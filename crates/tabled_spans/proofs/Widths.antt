@@ -1,9 +1,5 @@
 -- Texts cut into pieces, character by character.
-use Rattle.std.proofs.Common.{◌≡◌, ◌∙◌, ℕ, Bool, true, false, cond, List, [], ◌∷◌, ◌++◌, refl, sym, ap, append_assoc, encode_utf8}
-use Rattle.std.specs.Prelude.{chars, encode_utf8_all}
-use Rattle.std.specs.Str.{IsUtf8}
-use Rattle.std.proofs.lemmas.Str.{chars_past_char}
-use Rattle.tabled_spans.specs.Widths.{pieces, placed}
+use Rattle.tabled_spans.proofs.Common.{[], ◌++◌, ◌∙◌, ◌∷◌, ◌≡◌, Bool, IsUtf8, List, ap, append_assoc, chars, chars_past_char, cond, encode_utf8, encode_utf8_all, false, pieces, placed, refl, sym, true, ℕ}
 
 -- what is pushed before a character
 pub record Pushed (begins : Bool) (out mid : List ℕ) : Type 0 where

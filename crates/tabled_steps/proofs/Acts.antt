@@ -1,17 +1,7 @@
 -- A step does and leaves what its option does and leaves.
-use Rattle.std.proofs.Common.{◌≡◌, inl, inr, refl, List, ℕ}
+use Rattle.tabled_steps.proofs.Common.{◌≡◌, Axis, Change, Does, Duplicates, DuplicatesFirst, Entity, Grid, Leaves, List, Rearranges, Removes, Same, SpanMap, Step, Then, ThenLeaves, extracted, half_open, inl, inr, refl, removed, ℕ}
 use Rattle.std.specs.declared.ops.Bound.{Bound}
-use Rattle.tabled_grid.specs.Grid.{Grid}
-use Rattle.tabled_grid.specs.Spans.{SpanMap}
-use Rattle.tabled_grid.specs.declared.config.entity.Entity.{Entity}
-use Rattle.tabled_grid.specs.declared.records.axis.Axis.{Axis}
-use Rattle.tabled_options.specs.Does.{Change, Same, Then, ThenLeaves}
-use Rattle.tabled_settings.specs.Dups.{Duplicates, DuplicatesFirst}
-use Rattle.tabled_settings.specs.Rearranged.{Rearranges, Removes, extracted, removed}
 use Rattle.tabled_steps.specs.Acts.{ActsAs, ListTheSame, Makes}
-use Rattle.tabled_steps.specs.Selected.{half_open}
-use Rattle.tabled_steps.specs.Steps.{Does, Leaves}
-use Rattle.tabled_steps.specs.declared.step.Step.{Step}
 use Rattle.tabled_steps.specs.declared.step.Step.TheVariants as step
 
 pub acts : {A : Type 0} (is_blank : A → Type 0) (text_of : A → List ℕ) (step : Step) → ActsAs is_blank text_of step (Does is_blank text_of step) (Leaves is_blank text_of step)

@@ -1,36 +1,8 @@
 -- What a step does to a store is what its formula makes of the store's texts and merged cells.
-use Rattle.std.proofs.Common.{◌≡◌, ℕ, ◌<◌, ◌≤◌, ◌⊎◌, inl, inr, true, false, cond, List, [], ◌∷◌, Some, refl, ap, ap₂, ◌∙◌, map, arith}
-use Rattle.std.specs.Prelude.{nat_lt, ◌&&◌}
-use Rattle.std.specs.List.{fold}
-use Rattle.std.specs.Option.{unwrap_or}
-use Rattle.std.specs.String.{string_bytes}
-use Rattle.std.proofs.lemmas.Bool.{cases_Bool, cases_lt, le-ltb, lt-ltb}
-use Rattle.tabled_grid.specs.Bounds.{indexes}
-use Rattle.tabled_grid.specs.Entity.{place}
-use Rattle.tabled_grid.specs.Grid.{Grid, cell_at, map_grid}
-use Rattle.tabled_grid.specs.Spans.{SpanMap}
-use Rattle.tabled_grid.specs.declared.config.entity.Entity.{Entity}
-use Rattle.tabled_grid.specs.declared.config.position.Position.{Position}
-use Rattle.tabled_grid.specs.declared.records.axis.Axis.{Axis}
-use Rattle.tabled_grid.specs.declared.records.axis.Axis.TheVariants.{Rows, Columns}
-use Rattle.tabled_grid.proofs.Grids.{IsEven-map_grid}
+use Rattle.tabled_steps.proofs.Common.{[], ◌&&◌, ◌<◌, ◌∙◌, ◌∷◌, ◌≡◌, ◌≤◌, ◌⊎◌, Axis, Change, Columns, Does, Duplicates, Each, EachListed, Entity, Grid, IsEven-map_grid, JoinsAt, List, Merges, Names, Panels, Places, Position, Rearranges, Rows, Selector, Some, SpanMap, State, Step, Write, after, after_all, ap, ap₂, arith, cases_Bool, cases_lt, cell_at, cells_along, columns_with, cond, corner_of, dup_writes, duplicate, extracted, false, fold, half_open, has_room, indexes, inl, inr, joined_tables, joined_text, le-ltb, lt-ltb, map, map_grid, merge, named_by, nat_lt, on_each, place, put_panel, rearrange, recode, refl, removed, reversed, rotated, rounds, selected, set, source_texts, span, state_of, string_bytes, true, unwrap_or, with_line_at, with_writes, ℕ}
 use Rattle.tabled_grid.proofs.Mapped.{map_grid-with_column, map_grid-with_row}
-use Rattle.tabled_options.specs.Does.{Change, Each, EachListed}
-use Rattle.tabled_select.specs.Locators.{columns_with}
-use Rattle.tabled_options.specs.Writes.{Write, with_writes}
-use Rattle.tabled_settings.specs.Dups.{Duplicates, dup_writes, rounds, source_texts}
-use Rattle.tabled_settings.specs.Joined.{JoinsAt, corner_of, joined_text}
-use Rattle.tabled_grid.specs.Places.{Places}
-use Rattle.tabled_settings.specs.Rearranged.{Rearranges, extracted, removed, reversed, rotated}
 use Rattle.tabled_settings.specs.declared.rotate.Rotate.{Rotate}
 use Rattle.tabled_settings.specs.declared.rotate.Rotate.TheVariants.{Left}
-use Rattle.tabled_spans.specs.Panels.{Panels, cells_along, has_room, with_line_at}
-use Rattle.tabled_steps.specs.Reads.{joined_tables}
-use Rattle.tabled_steps.specs.Selected.{half_open, named_by, selected}
-use Rattle.tabled_steps.specs.States.{State, after, after_all, duplicate, merge, on_each, put_panel, rearrange, recode, set, span, state_of}
-use Rattle.tabled_steps.specs.Steps.{Does, Merges, Names}
-use Rattle.tabled_steps.specs.declared.selector.Selector.{Selector}
-use Rattle.tabled_steps.specs.declared.step.Step.{Step}
 use Rattle.tabled_steps.specs.declared.step.Step.TheVariants as step
 use Rattle.tabled_steps.proofs.MergedRuns.{is_merged}
 use Rattle.tabled_steps.proofs.TextReads.{is_table_of, read_through, text_from, some_text, text_known}

@@ -1,37 +1,9 @@
 -- Steps leave as many texts in each row as there are columns.
-use Rattle.std.proofs.Common.{◌≡◌, ◌⊎◌, inl, inr, ℕ, ◌+◌, ◌-◌, ◌<◌, true, false, cond, max, List, [], ◌∷◌, ◌++◌, refl, ap, ◌∙◌, length, replicate, sym, arith}
-use Rattle.std.specs.Prelude.{nat_lt, ◌&&◌}
-use Rattle.std.specs.List.{fold}
-use Rattle.std.specs.Option.{option_and_then, unwrap_or}
-use Rattle.std.specs.String.{string_bytes}
-use Rattle.std.proofs.lemmas.Bool.{and_parts, cases_Bool, leb-true, ltb-true}
-use Rattle.std.proofs.lemmas.List.{length-replicate}
-use Rattle.tabled_grid.specs.Bounds.{indexes}
-use Rattle.tabled_grid.specs.Grid.{Grid, IsEven, cell_at, with_cell}
-use Rattle.tabled_grid.specs.declared.config.entity.Entity.{Entity}
-use Rattle.tabled_grid.specs.declared.config.position.Position.{Position}
-use Rattle.tabled_grid.specs.declared.records.axis.Axis.{Axis}
-use Rattle.tabled_grid.specs.declared.records.axis.Axis.TheVariants.{Rows, Columns}
-use Rattle.tabled_grid.proofs.Grids.{IsEven-with_cell}
+use Rattle.tabled_steps.proofs.Common.{[], ◌&&◌, ◌++◌, ◌+◌, ◌-◌, ◌<◌, ◌∙◌, ◌∷◌, ◌≡◌, ◌⊎◌, Axis, Columns, Entity, Grid, IsEven, IsEven-with_cell, IsUndoneMidway, List, Places, Position, Rows, Selector, State, Step, Write, after, after_all, and_parts, ap, arith, cases_Bool, cell_at, charset_writes, columns_with, cond, corner_of, cut_rows, dup_writes, extracted, false, flattened, fold, half_open, has_pieces, has_room, indexes, inl, inr, joined_tables, joined_text, leb-true, length, length-replicate, ltb-true, max, named_by, nat_lt, on_each, option_and_then, oriented, parts, put_panel, read, rearrange, refl, removed, replicate, reversed, rotated, selected, span_writes, split, string_bytes, sym, text_at, text_writes, true, unwrap_or, with_cell, with_writes, ℕ}
 use Rattle.tabled_grid.proofs.Resized.{IsEven-with_column, IsEven-with_row}
-use Rattle.tabled_options.specs.Writes.{Write, text_writes, with_writes}
-use Rattle.tabled_select.specs.Locators.{columns_with, text_at}
-use Rattle.tabled_settings.specs.Charsets.{charset_writes}
-use Rattle.tabled_settings.specs.Joined.{corner_of, joined_text}
-use Rattle.tabled_grid.specs.Places.{Places}
-use Rattle.tabled_settings.specs.Rearranged.{extracted, removed, reversed, rotated}
-use Rattle.tabled_settings.specs.Dups.{dup_writes}
-use Rattle.tabled_settings.specs.Pieces.{cut_rows, has_pieces, split, oriented}
 use Rattle.tabled_settings.specs.declared.split.Split.{Split}
 use Rattle.tabled_settings.proofs.Glued.{split_glued}
 use Rattle.tabled_settings.proofs.PieceReads.{cut_even, turned_even}
-use Rattle.tabled_spans.specs.Panels.{has_room}
-use Rattle.tabled_spans.specs.Spanned.{span_writes}
-use Rattle.tabled_steps.specs.Reads.{joined_tables, read}
-use Rattle.tabled_steps.specs.Selected.{half_open, named_by, selected}
-use Rattle.tabled_steps.specs.States.{IsUndoneMidway, State, after, after_all, flattened, on_each, parts, put_panel, rearrange}
-use Rattle.tabled_steps.specs.declared.selector.Selector.{Selector}
-use Rattle.tabled_steps.specs.declared.step.Step.{Step}
 use Rattle.tabled_steps.specs.declared.step.Step.TheVariants as step
 use Rattle.tabled_steps.proofs.TextReads.{IsEven-table_of}
 

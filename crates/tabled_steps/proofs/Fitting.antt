@@ -1,32 +1,12 @@
 -- Steps that keep merged cells inside the table and apart.
-use Rattle.std.proofs.Common.{ℕ, List, [], ◌∷◌}
-use Rattle.std.specs.List.{AllByRecursion}
-use Rattle.std.specs.String.{string_bytes}
-use Rattle.tabled_grid.specs.Grid.{Grid, map_grid}
-use Rattle.tabled_grid.specs.Fitting.{Fits}
-use Rattle.tabled_grid.specs.Spans.{SpanMap}
-use Rattle.tabled_grid.specs.declared.config.entity.Entity.{Entity}
-use Rattle.tabled_grid.specs.declared.records.axis.Axis.{Axis}
-use Rattle.tabled_grid.specs.declared.records.axis.Axis.TheVariants.{Rows, Columns}
-use Rattle.tabled_options.specs.Does.{Change, Each, EachListed, EachUntil, OptionKeeps, Same}
+use Rattle.tabled_steps.proofs.Common.{[], ◌∷◌, AllByRecursion, Axis, Change, Columns, Does, Each, EachListed, EachUntil, Entity, Fits, Grid, Leaves, LeavesFirst, List, Merges, Names, OptionKeeps, Panels, Refused, Rows, Same, Selector, SpanMap, Step, charset_writes, columns_with, extracted, half_open, indexes, map_grid, removed, rotated, string_bytes, text_writes, writes_keep, ℕ}
 use Rattle.tabled_options.proofs.Keeps.{keeps_all, keeps_copied, keeps_in_order, keeps_listed}
-use Rattle.tabled_options.proofs.Shapes.{writes_keep}
-use Rattle.tabled_options.specs.Writes.{text_writes}
-use Rattle.tabled_settings.specs.Charsets.{charset_writes}
-use Rattle.tabled_grid.specs.Bounds.{indexes}
-use Rattle.tabled_select.specs.Locators.{columns_with}
 use Rattle.tabled_settings.proofs.RearrangedFits.{join_keeps, rearranged_keeps, reversal_keeps, split_keeps}
-use Rattle.tabled_settings.specs.Rearranged.{extracted, removed, rotated}
-use Rattle.tabled_steps.specs.Selected.{half_open}
 use Rattle.tabled_settings.proofs.WritersKeep.{duplicates_keep}
-use Rattle.tabled_spans.specs.Panels.{Panels}
 use Rattle.tabled_spans.proofs.MergeGeometry.{fits_merged}
 use Rattle.tabled_spans.proofs.PanelGeometry.{panels_fit, same_fits}
 use Rattle.tabled_spans.proofs.SpanGeometry.{fits_spanned, option_keeps}
 use Rattle.tabled_steps.specs.Fitting.{KeepsCellsFitting}
-use Rattle.tabled_steps.specs.Steps.{Does, Leaves, LeavesFirst, Merges, Names, Refused}
-use Rattle.tabled_steps.specs.declared.selector.Selector.{Selector}
-use Rattle.tabled_steps.specs.declared.step.Step.{Step}
 use Rattle.tabled_steps.specs.declared.step.Step.TheVariants as step
 
 module _ {A : Type 0} (is_blank : A → Type 0) (text_of : A → List ℕ) where

@@ -1,7 +1,6 @@
 -- Lists that are gone over from the front.
-use Rattle.std.proofs.Common.{List, [], ◌∷◌, ap, arith, length, subst, sym}
-use Rattle.std.specs.Iterator.{AlwaysYields, YieldsFirst}
-use Rattle.tabled_grid.specs.declared.config.entity.Entity.{Entity}
+use Rattle.tabled_steps.proofs.Common.{[], ◌∷◌, AlwaysYields, Entity, List, ap, arith, length, subst, sym}
+use Rattle.std.specs.Iterator.{YieldsFirst}
 
 abbrev head : Entity → List Entity → Entity
 head other [] = other

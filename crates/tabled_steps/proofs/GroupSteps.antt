@@ -1,18 +1,6 @@
 -- Counted of entities, of which some are passed over.
-use Rattle.std.proofs.Common.{◌≡◌, ℕ, zero, suc, ◌+◌, ◌-◌, ◌*◌, ◌/◌, ◌%◌, ◌<◌, ◌≤◌, ◌⊎◌, inl, inr, List, [], ◌∷◌, ◌++◌, refl, sym, subst, ap, ap₂, ◌∙◌, map, drop, arith, replicate, append-nil}
-use Rattle.std.proofs.Math.Nat.{div-mul-le_self, mod-eq-sub-div-mul, mod-lt, suc-mul}
-use Rattle.std.proofs.lemmas.Bool.{cases_lt}
-use Rattle.std.proofs.lemmas.Grind.{flat_map-append}
-use Rattle.std.proofs.lemmas.List.{append_assoc, drop-map}
-use Rattle.std.specs.List.{AllByRecursion}
-use Rattle.tabled_grid.specs.Entity.{inside}
-use Rattle.tabled_grid.specs.declared.config.entity.Entity.{Entity}
-use Rattle.tabled_grid.specs.declared.config.position.Position.{Position}
-use Rattle.tabled_grid.proofs.Lists.{all-append}
-use Rattle.tabled_select.proofs.Stepped.{every-from, every_from}
-use Rattle.tabled_select.specs.Steps.{every}
-use Rattle.tabled_steps.specs.Groups.{AreGroups, IsGroup, Skips, StepsBy, named_places, once, unrolled}
-use Rattle.tabled_steps.specs.declared.groups.Group.{Group}
+use Rattle.tabled_steps.proofs.Common.{[], ◌%◌, ◌*◌, ◌++◌, ◌+◌, ◌-◌, ◌/◌, ◌<◌, ◌∙◌, ◌∷◌, ◌≡◌, ◌≤◌, ◌⊎◌, AllByRecursion, AreGroups, Entity, Group, IsGroup, List, Position, Skips, StepsBy, all-append, ap, append_assoc, ap₂, arith, cases_lt, div-mul-le_self, drop, drop-map, every, every-from, every_from, flat_map-append, inl, inr, inside, map, mod-eq-sub-div-mul, mod-lt, named_places, once, refl, replicate, subst, suc, suc-mul, sym, unrolled, zero, ℕ}
+use Rattle.std.proofs.Common.{append-nil}
 use Rattle.tabled_steps.proofs.Outside.{each_once}
 
 every_from-map : {A B : Type 0} (f : A → B) (n k : ℕ) (xs : List A) → every_from n k (map f xs) ≡ map f (every_from n k xs)

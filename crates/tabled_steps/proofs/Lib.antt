@@ -1,5 +1,6 @@
 pub mod Acts
 pub mod AfterSteps
+pub mod Common
 pub mod EvenStates
 pub mod Fitting
 pub mod GoneOver

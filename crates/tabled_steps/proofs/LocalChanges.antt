@@ -1,22 +1,6 @@
 -- What options do and leave on an entity depends on the places that it names.
-use Rattle.std.proofs.Common.{◌≡◌, ℕ, suc, ℤ, pos, ◌⊎◌, inl, inr, Bool, true, false, cond, None, Option, List, [], refl, sym, ap, subst, ◌∙◌}
-use Rattle.std.specs.FinMap.{get, same_map}
-use Rattle.std.proofs.lemmas.Bool.{cases_Bool}
-use Rattle.tabled_grid.specs.Axis.{count_of}
-use Rattle.tabled_grid.specs.Entity.{inside}
-use Rattle.tabled_grid.specs.Grid.{Grid, map_grid}
-use Rattle.tabled_grid.specs.Hidden.{drop_hidden, is_hidden, is_visible}
-use Rattle.tabled_grid.specs.Spans.{SpanMap}
-use Rattle.tabled_grid.specs.declared.config.entity.Entity.{Entity}
-use Rattle.tabled_grid.specs.declared.config.position.Position.{Position}
-use Rattle.tabled_grid.specs.declared.records.axis.Axis.{Axis}
-use Rattle.tabled_grid.proofs.SpanMaps.{get-drop_hidden, hidden-from, hidden_by, kept}
-use Rattle.tabled_grid.proofs.Spans.{positions_exact, positions_total}
-use Rattle.tabled_options.specs.Writes.{DoesFirstWrites, DoesWrites, FirstWrites, Write, at_each, text_writes, with_writes}
-use Rattle.tabled_options.proofs.Shapes.{shape_texts}
-use Rattle.tabled_settings.specs.Charsets.{charset_writes, is_set, mapped_writes, recoded}
-use Rattle.tabled_spans.specs.Spanned.{Spans, SpansFirst, back_of, grown_each, pull_writes, pulled_each, span_writes, spanned}
-use Rattle.tabled_steps.specs.Groups.{IsLocal}
+use Rattle.tabled_steps.proofs.Common.{[], ◌∙◌, ◌≡◌, ◌⊎◌, Axis, Bool, DoesFirstWrites, DoesWrites, Entity, FirstWrites, Grid, IsLocal, List, None, Option, Position, SpanMap, Spans, SpansFirst, Write, ap, at_each, back_of, cases_Bool, charset_writes, cond, count_of, drop_hidden, false, get, grown_each, hidden-from, hidden_by, inl, inr, inside, is_hidden, is_set, is_visible, map_grid, mapped_writes, pos, positions_exact, positions_total, pull_writes, pulled_each, recoded, refl, same_map, shape_texts, span_writes, spanned, subst, suc, sym, text_writes, true, with_writes, ℕ, ℤ}
+use Rattle.tabled_grid.proofs.SpanMaps.{get-drop_hidden, kept}
 
 -- writes on an entity that depend on the places alone that it names, and are none where it names none
 pub record AreLocal (writes : Entity → Grid (List ℕ) → List Write) : Type 0 where

@@ -1,27 +1,10 @@
 -- The runs that are listed are those that are merged.
-use Rattle.std.proofs.Common.{◌≡◌, ℕ, zero, suc, ◌+◌, ◌-◌, ◌<◌, ◌≤◌, ◌⊎◌, inl, inr, Bool, true, false, cond, List, ◌++◌, None, Some, Option, refl, sym, ap, ap₂, subst, ◌∙◌, map, arith}
-use Rattle.std.specs.FinMap.{get, same_map}
-use Rattle.std.specs.List.{flat_map, range_with_len}
-use Rattle.std.specs.Option.{option_eq}
+use Rattle.tabled_steps.proofs.Common.{◌++◌, ◌+◌, ◌-◌, ◌<◌, ◌∙◌, ◌≡◌, ◌≤◌, ◌⊎◌, Axis, Bool, Columns, Grid, IsInside, IsRun, Joins, List, MergesRuns, None, Option, Position, Rectangle, Rows, RunAt, RunsFrom, Some, SpanMap, and_from, and_parts, ap, append_assoc, ap₂, arith, block-is, cond, false, false≢true, flat_map, flat_map-append, further, get, inl, inr, lt-ltb, ltb-true, map, none-some, option_eq, place, places, positions_exact, positions_total, range_with_len, refl, same_Some, same_map, size_of_run, subst, suc, sym, true, with_sizes, zero, ℕ}
 use Rattle.std.specs.Str.{bytes_eq}
-use Rattle.std.proofs.lemmas.Bool.{and_from, and_parts, false≢true, lt-ltb, ltb-true}
-use Rattle.std.proofs.lemmas.Grind.{flat_map-append}
-use Rattle.std.proofs.lemmas.List.{append_assoc}
-use Rattle.std.proofs.lemmas.Option.{none-some, same_Some}
 use Rattle.std.proofs.lemmas.Slice.Eq.{bytes_eq-Decides}
-use Rattle.tabled_grid.specs.Entity.{place}
-use Rattle.tabled_grid.specs.Grid.{Grid, IsInside}
-use Rattle.tabled_grid.specs.Spans.{Rectangle, SpanMap, with_sizes}
-use Rattle.tabled_grid.specs.declared.config.position.Position.{Position}
-use Rattle.tabled_grid.specs.declared.records.axis.Axis.{Axis}
-use Rattle.tabled_grid.specs.declared.records.axis.Axis.TheVariants.{Rows, Columns}
-use Rattle.tabled_grid.proofs.Places.{block-is, places}
-use Rattle.tabled_grid.proofs.Spans.{positions_exact, positions_total}
-use Rattle.tabled_spans.specs.Runs.{IsRun, Joins, MergesRuns, further, size_of_run}
 use Rattle.tabled_spans.proofs.RunLists.{runs_merged}
 use Rattle.tabled_spans.proofs.Runs.{continues, further_none, run_at as run_at_end, same_run}
 use Rattle.tabled_spans.proofs.RunsFrom.{from_end, none_below, none_put, run_put}
-use Rattle.tabled_spans.specs.RunSteps.{RunAt, RunsFrom}
 use Rattle.tabled_steps.specs.MergedRuns.{is_inside, is_joined, joins, run_at, run_from, runs}
 
 alike_if : (a b : Option (List ℕ)) → a ≡ b → option_eq bytes_eq a b ≡ true

@@ -1,19 +1,5 @@
 -- Groups of the rows, the columns or the cells of a range.
-use Rattle.std.proofs.Common.{◌≡◌, ℕ, zero, suc, ◌+◌, ◌-◌, ◌*◌, ◌^◌, ◌<◌, ◌≤◌, ◌⊎◌, inl, inr, List, [], ◌∷◌, ◌++◌, refl, sym, ap, ap₂, subst, ◌∙◌, map, max, min, length, length-append, arith, replicate}
-use Rattle.std.proofs.Math.Nat.{suc-mul}
-use Rattle.std.proofs.lemmas.Bool.{cases_lt, ne_eqb}
-use Rattle.std.proofs.lemmas.Grind.{flat_map-append}
-use Rattle.std.proofs.lemmas.List.{append-nil, append_assoc, map-append}
-use Rattle.std.specs.List.{AllByRecursion, flat_map, range_with_len}
-use Rattle.tabled_grid.specs.Entity.{block, inside, place, row_places}
-use Rattle.tabled_grid.specs.declared.config.entity.Entity.{Entity}
-use Rattle.tabled_grid.specs.declared.config.entity.Entity.TheVariants.{Cell, Column, Row}
-use Rattle.tabled_grid.specs.declared.config.position.Position.{Position}
-use Rattle.tabled_grid.proofs.Lists.{all-append}
-use Rattle.tabled_grid.proofs.Places.{inside-no_cell, inside-no_column, inside-no_row}
-use Rattle.tabled_select.specs.Algebra.{cells_of}
-use Rattle.tabled_steps.specs.Groups.{AreGroups, IsGroup, representatives_of, named_places, once, row_groups, groups_outside, segment_cells, segment_groups}
-use Rattle.tabled_steps.specs.declared.groups.Group.{Group}
+use Rattle.tabled_steps.proofs.Common.{[], ◌*◌, ◌++◌, ◌+◌, ◌-◌, ◌<◌, ◌^◌, ◌∙◌, ◌∷◌, ◌≡◌, ◌≤◌, ◌⊎◌, AllByRecursion, AreGroups, Cell, Column, Entity, Group, IsGroup, List, Position, Row, all-append, ap, append-nil, append_assoc, ap₂, arith, block, cases_lt, cells_of, flat_map, flat_map-append, groups_outside, inl, inr, inside, inside-no_cell, inside-no_column, inside-no_row, length, length-append, map, map-append, max, min, named_places, ne_eqb, once, place, range_with_len, refl, replicate, representatives_of, row_groups, row_places, segment_cells, segment_groups, subst, suc, suc-mul, sym, zero, ℕ}
 
 pub range_split : (a m n : ℕ) → range_with_len a (m + n) ≡ range_with_len a m ++ range_with_len (a + m) n
 range_split a zero n =

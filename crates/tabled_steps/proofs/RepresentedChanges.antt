@@ -1,18 +1,5 @@
 -- Changes for entities that stand for others are those for the others.
-use Rattle.std.proofs.Common.{◌≡◌, ℕ, zero, suc, ◌-◌, ◌⊎◌, inl, inr, List, [], ◌∷◌, ◌++◌, Some, refl, ap, subst, ◌∙◌, replicate, arith}
-use Rattle.std.proofs.lemmas.Option.{same_Some}
-use Rattle.std.specs.List.{AllByRecursion}
-use Rattle.tabled_grid.specs.Entity.{inside}
-use Rattle.tabled_grid.specs.Grid.{Grid, map_grid}
-use Rattle.tabled_grid.specs.Spans.{SpanMap}
-use Rattle.tabled_grid.specs.declared.config.entity.Entity.{Entity}
-use Rattle.tabled_grid.specs.declared.config.position.Position.{Position}
-use Rattle.tabled_options.specs.Does.{Change, Each, EachListed, EachListedUntil, EachUntil, Same, SameOr}
-use Rattle.tabled_steps.specs.Groups.{AreRepresentatives, IsGroup, IsLocal, representatives_of, named_places, unrolled}
-use Rattle.tabled_steps.specs.Selected.{selected}
-use Rattle.tabled_steps.specs.Steps.{LeavesFirst, Names}
-use Rattle.tabled_steps.specs.declared.groups.Group.{Group}
-use Rattle.tabled_steps.specs.declared.selector.Selector.{Selector}
+use Rattle.tabled_steps.proofs.Common.{[], ◌++◌, ◌-◌, ◌∙◌, ◌∷◌, ◌≡◌, ◌⊎◌, AllByRecursion, AreRepresentatives, Change, Each, EachListed, EachListedUntil, EachUntil, Entity, Grid, Group, IsGroup, IsLocal, LeavesFirst, List, Names, Position, Same, SameOr, Selector, Some, SpanMap, ap, arith, inl, inr, inside, map_grid, named_places, refl, replicate, representatives_of, same_Some, selected, subst, suc, unrolled, zero, ℕ}
 use Rattle.tabled_steps.proofs.StepsUntil.{first_refused, later_refused}
 
 module _ {A : Type 0} (does leaves : Entity → Change A SpanMap) (local : IsLocal does leaves) (rows columns : ℕ) where

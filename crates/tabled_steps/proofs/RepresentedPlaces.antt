@@ -1,22 +1,5 @@
 -- The places that entities name in a table, and those of what stands for them.
-use Rattle.std.proofs.Common.{◌≡◌, ℕ, zero, suc, inl, inr, List, [], ◌∷◌, ◌++◌, refl, sym, ap, ap₂, subst, ◌∙◌, map, replicate}
-use Rattle.std.proofs.lemmas.Grind.{flat_map-append}
-use Rattle.std.proofs.lemmas.List.{append-nil}
-use Rattle.std.specs.List.{AllByRecursion, flat_map}
-use Rattle.tabled_grid.specs.Entity.{inside}
-use Rattle.tabled_grid.specs.Grid.{Grid, map_grid}
-use Rattle.tabled_grid.specs.Spans.{SpanMap}
-use Rattle.tabled_grid.specs.declared.config.entity.Entity.{Entity}
-use Rattle.tabled_grid.specs.declared.config.position.Position.{Position}
-use Rattle.tabled_options.specs.Writes.{FirstWrites, with_writes}
-use Rattle.tabled_select.specs.Algebra.{cells_of, flat}
-use Rattle.tabled_select.specs.Locators.{text_at}
-use Rattle.tabled_settings.specs.Dups.{Duplicates, DuplicatesFirst, dup_writes, round_from, round_writes, rounds, source_texts}
-use Rattle.tabled_steps.specs.Groups.{AreGroups, IsGroup, AreRepresentatives, representatives_of, named_places, unrolled}
-use Rattle.tabled_steps.specs.Selected.{selected}
-use Rattle.tabled_steps.specs.Steps.{Names}
-use Rattle.tabled_steps.specs.declared.groups.Group.{Group}
-use Rattle.tabled_steps.specs.declared.selector.Selector.{Selector}
+use Rattle.tabled_steps.proofs.Common.{[], ◌++◌, ◌∙◌, ◌∷◌, ◌≡◌, AllByRecursion, AreGroups, AreRepresentatives, Duplicates, DuplicatesFirst, Entity, FirstWrites, Grid, Group, IsGroup, List, Names, Position, Selector, SpanMap, ap, append-nil, ap₂, cells_of, dup_writes, flat, flat_map, flat_map-append, inl, inr, inside, map, map_grid, named_places, refl, replicate, representatives_of, round_from, round_writes, rounds, selected, source_texts, subst, suc, sym, text_at, unrolled, with_writes, zero, ℕ}
 
 -- what is made of the places that each entity names, and is nothing where it names none
 module _ {X : Type 0} (make : List Position → List X) (nothing : make [] ≡ []) (rows columns : ℕ) where

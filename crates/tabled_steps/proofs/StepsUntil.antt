@@ -1,7 +1,5 @@
 -- The first of several steps is refused, or is done and a later one is refused.
-use Rattle.std.proofs.Common.{◌≡◌, ℕ, zero, suc, List, [], ◌∷◌, refl, length, arith}
-use Rattle.tabled_grid.specs.Grid.{Grid}
-use Rattle.tabled_options.specs.Does.{Change, EachUntilAt}
+use Rattle.tabled_steps.proofs.Common.{[], ◌∷◌, ◌≡◌, Change, EachUntilAt, Grid, List, arith, length, refl, suc, zero, ℕ}
 
 module _ {A C X : Type 0} (does leaves : X → Change A C) (x : X) (xs : List X) (g : Grid A) (c : C) where
   pub first_refused : (h : Grid A) (d : C) → leaves x g c h d → EachUntilAt does leaves (x ∷ xs) zero g c h d

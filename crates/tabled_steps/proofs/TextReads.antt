@@ -1,18 +1,6 @@
 -- Grids whose texts are known place by place.
-use Rattle.std.proofs.Common.{◌≡◌, ℕ, ◌<◌, List, [], ◌∷◌, Some, Option, refl, sym, ap, ◌∙◌, map, length, get_or, arith}
-use Rattle.std.specs.Prelude.{slice_get}
-use Rattle.std.specs.List.{AllByRecursion, range_with_len}
-use Rattle.std.specs.Option.{IfSome, option_and_then, option_map, unwrap_or}
-use Rattle.std.proofs.lemmas.List.Elements.{All-from_recursion}
-use Rattle.std.proofs.lemmas.List.FromFn.{get_or-map-range_with_len, length-map-range_with_len}
-use Rattle.std.proofs.lemmas.Option.{slice_get-get_or}
-use Rattle.tabled_grid.specs.Entity.{place}
-use Rattle.tabled_grid.specs.Grid.{Grid, IsEven, IsInside, cell_at, map_grid}
-use Rattle.tabled_grid.specs.declared.config.position.Position.{Position}
-use Rattle.tabled_grid.proofs.Grids.{IsEven-map_grid, cell_at-map_grid}
-use Rattle.tabled_grid.specs.Places.{Places, ReadsThrough}
+use Rattle.tabled_steps.proofs.Common.{[], ◌<◌, ◌∙◌, ◌∷◌, ◌≡◌, All-from_recursion, AllByRecursion, Grid, IfSome, IsEven, IsEven-map_grid, IsInside, List, Option, Places, Position, ReadsThrough, Some, ap, arith, cell_at, cell_at-map_grid, get_or, get_or-map-range_with_len, length, length-map-range_with_len, map, map_grid, option_and_then, option_map, place, range_with_len, read, refl, slice_get, slice_get-get_or, sym, texts_by_place, unwrap_or, ℕ}
 use Rattle.tabled_settings.proofs.SameCells.{same_cells}
-use Rattle.tabled_steps.specs.Reads.{read, texts_by_place}
 
 abbrev row : ℕ → (Position → List ℕ) → ℕ → List (List ℕ)
 row columns text i = map (λ (j : ℕ). text (place i j)) (range_with_len 0 columns)

@@ -1,19 +1,7 @@
 -- Columns that are brought to the front of each row, and rows that are kept.
-use Rattle.std.proofs.Common.{◌≡◌, ◌≢◌, ℕ, zero, suc, ◌+◌, ◌<◌, ◌≤◌, Bool, true, false, cond, List, [], ◌∷◌, ◌++◌, inl, inr, ◌⊎◌, refl, ap, ap₂, sym, ◌∙◌, map, take, drop, set, get_or, length, replicate, ⊎_elim, arith}
-use Rattle.std.specs.List.{AllZip, EachIndex, filter, swap}
-use Rattle.std.proofs.lemmas.Bool.{cases_Bool, cases_eq}
-use Rattle.std.proofs.lemmas.List.{drop_more, drop-set-lt, get_or-drop, get_or-set_same, append-nil, length_push, get_or-set_other, length-map, length-set, length-take, map-append, map-id, take-set, take-set-le, take_more}
-use Rattle.std.proofs.lemmas.List.Edits.{length-swap, swap_is}
-use Rattle.std.proofs.lemmas.List.Elements.{All-filter, All-map, recursion_from_All}
-use Rattle.std.proofs.lemmas.List.FromFn.{filter_of_map_range_with_len_more}
+use Rattle.tabled_table.proofs.Common.{[], ⊎_elim, ◌++◌, ◌+◌, ◌<◌, ◌∙◌, ◌∷◌, ◌≡◌, ◌≢◌, ◌≤◌, ◌⊎◌, All-filter, All-map, AllZip, AllZip-map, AreWide, Bool, EachIndex, List, ap, append-nil, ap₂, arith, brought_forward, cases_Bool, cases_eq, cond, drop, drop-set-lt, drop_more, even-each, false, filter, filter_of_map_range_with_len_more, get_or, get_or-drop, get_or-set_other, get_or-set_same, has_text_in, inl, inr, length, length-map, length-set, length-swap, length-take, length_push, map, map-append, map-id, only_columns, recursion_from_All, refl, replicate, rest_after, row_has_text, set, suc, swap, swap_is, sym, take, take-set, take-set-le, take_more, text_columns, true, zero, ℕ}
 use Rattle.std.proofs.lemmas.Simd.{map-map}
-use Rattle.std.proofs.lemmas.Slice.Zip.{AllZip-map}
 use Rattle.std.proofs.Math.Nat.{add-zero}
-use Rattle.tabled_grid.specs.Evenness.{AreWide}
-use Rattle.tabled_table.specs.Builder.{has_text_in, only_columns, row_has_text, text_columns}
-use Rattle.tabled_table.specs.Gathering.{brought_forward}
-use Rattle.tabled_table.proofs.Columns.{even-each}
-use Rattle.tabled_table.proofs.RowByRow.{rest_after}
 
 -- the list with the members of ks in front, and from j on as it was
 pub record Gathered {A : Type 0} (d : A) (columns kept j : ℕ) (ks : List ℕ) (old new : List A) : Type 0 where

@@ -1,14 +1,6 @@
 -- What is left after cleaning.
-use Rattle.std.proofs.Common.{◌≡◌, ℕ, zero, suc, ◌+◌, ◌<◌, Bool, true, cond, not, ◌&&◌, List, [], ◌∷◌, refl, ap, ap₂, sym, ◌∙◌, subst, map, get_or, length, arith}
-use Rattle.std.specs.List.{All, filter, list_all, range_with_len}
-use Rattle.std.proofs.lemmas.Bool.{and_parts, cond_both, not-false}
-use Rattle.std.proofs.lemmas.List.{get_or-map, map-id}
-use Rattle.std.proofs.lemmas.List.Elements.{All-head, All-tail, filter_passes, recursion_from_All}
-use Rattle.std.proofs.lemmas.List.FromFn.{fill_by_all, get_or-range_with_len, length-range_with_len}
-use Rattle.tabled_grid.proofs.Mapped.{maps_agree}
-use Rattle.tabled_table.specs.Builder.{Builder, IsClean, cleaned, column_of, columns_with_text, has_text_in, is_empty_text, only_columns, row_has_text}
+use Rattle.tabled_table.proofs.Common.{[], ◌&&◌, ◌+◌, ◌<◌, ◌∙◌, ◌∷◌, ◌≡◌, All, All-head, All-tail, Bool, Builder, IsClean, List, and_parts, ap, ap₂, arith, cleaned, column_of, columns_with_text, cond, cond_both, fill_by_all, filter, filter_passes, get_or, get_or-map, get_or-range_with_len, has_text_in, is_empty_text, length, length-range_with_len, list_all, map, map-even, map-id, maps_agree, not, not-false, only_columns, range_with_len, recursion_from_All, refl, row_has_text, subst, suc, sym, true, zero, ℕ}
 use Rattle.tabled_table.proofs.Cleaned.{even-cleaned}
-use Rattle.tabled_table.proofs.Columns.{map-even}
 
 -- a row without a text has none at j
 no_text_at : (row : List (List ℕ)) (j : ℕ) → list_all is_empty_text row ≡ true → is_empty_text (get_or row j []) ≡ true

@@ -1,17 +1,6 @@
 -- A table with an index: its rows are equally long, and turning it twice changes nothing.
-use Rattle.std.proofs.Common.{◌≡◌, ℕ, ◌+◌, ◌-◌, ◌<◌, Bool, true, false, List, [], ◌∷◌, Option, None, Some, IfSome, option_map, refl, ap, sym, subst, ◌∙◌, get_or, length, map, arith}
-use Rattle.std.specs.Fmt.{decimal}
-use Rattle.std.specs.List.{remove}
+use Rattle.tabled_table.proofs.Common.{[], ◌+◌, ◌-◌, ◌<◌, ◌∙◌, ◌∷◌, ◌≡◌, AreWide, Bool, IfSome, Indexed, IsIndexed, List, None, Option, Some, ap, arith, built_rows, decimal, even-with_items, even-without, false, get_or, length, length-map, length-map-range_with_len, length-remove, length-transposed, map, numbers, option_map, refl, remove, subst, sym, transposed_index, transposed_rows, true, wide-transposed, width_of, with_column_as_index, with_index, with_index_name, with_name_if, ℕ}
 use Rattle.std.proofs.Math.Bool.{not-not}
-use Rattle.std.proofs.lemmas.List.{length-map}
-use Rattle.std.proofs.lemmas.List.Edits.{length-remove}
-use Rattle.std.proofs.lemmas.List.FromFn.{length-map-range_with_len}
-use Rattle.tabled_grid.specs.Bulk.{transposed_rows}
-use Rattle.tabled_grid.specs.Grid.{width_of}
-use Rattle.tabled_grid.proofs.Transposed.{length-transposed, wide-transposed}
-use Rattle.tabled_grid.specs.Evenness.{AreWide}
-use Rattle.tabled_table.specs.Index.{Indexed, IsIndexed, built_rows, numbers, transposed_index, with_column_as_index, with_index, with_index_name, with_name_if}
-use Rattle.tabled_table.proofs.Columns.{even-with_items, even-without}
 use Rattle.tabled_table.proofs.Padded.{length-padded_to}
 use Rattle.tabled_table.proofs.Tables.{even-width}
 use Rattle.tabled_table.proofs.Transposed.{transposed_rows-transposed_rows}

@@ -1,6 +1,7 @@
 pub mod Cleaned
 pub mod CleanedLaws
 pub mod Columns
+pub mod Common
 pub mod Indexed
 pub mod Padded
 pub mod Printed

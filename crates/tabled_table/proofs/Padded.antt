@@ -1,11 +1,5 @@
 -- Lists padded to a length.
-use Rattle.std.proofs.Common.{◌≡◌, ℕ, suc, ◌-◌, ◌<◌, ◌≤◌, max, List, [], ◌∷◌, ◌++◌, ap, sym, ◌∙◌, map, take, set, get_or, replicate, length, arith}
-use Rattle.std.proofs.lemmas.List.{append-nil, append_assoc, take_all, take-take, take-append-le, length-append, length-map, length-replicate, length-take, length_push, map-set, set-get_or, get_or-map}
-use Rattle.std.proofs.lemmas.List.Elements.{All-from_recursion, All-replicate, recursion_from_All}
-use Rattle.tabled_grid.proofs.Lists.{all-append, all-map}
-use Rattle.tabled_grid.specs.Evenness.{AreWide}
-use Rattle.tabled_table.specs.Builder.{padded_to}
-use Rattle.tabled_table.proofs.Columns.{map-even}
+use Rattle.tabled_table.proofs.Common.{[], ◌++◌, ◌-◌, ◌<◌, ◌∙◌, ◌∷◌, ◌≡◌, ◌≤◌, All-from_recursion, All-replicate, AreWide, List, all-append, all-map, ap, append-nil, append_assoc, arith, get_or, get_or-map, length, length-append, length-map, length-replicate, length-take, length_push, map, map-even, map-set, max, padded_to, recursion_from_All, replicate, set, set-get_or, suc, sym, take, take-append-le, take-take, take_all, ℕ}
 
 -- one more filler, where the list is too short
 pub padded_to-push : {A : Type 0} (n : ℕ) (filler : A) (xs : List A) → length xs < n → padded_to n filler (xs ++ filler ∷ []) ≡ padded_to n filler xs

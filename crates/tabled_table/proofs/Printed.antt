@@ -1,21 +1,10 @@
 -- Rows of the texts that entries print, and rows in order.
-use Rattle.std.proofs.Common.{◌≡◌, ℕ, ◌+◌, ◌<◌, Bool, List, [], ◌∷◌, ◌++◌, None, String, refl, ap, ap₂, subst, sym, ◌∙◌, map, get_or, length, arith}
-use Rattle.std.specs.Global.{Global, Vec}
+use Rattle.tabled_table.proofs.Common.{[], ◌++◌, ◌+◌, ◌<◌, ◌∙◌, ◌∷◌, ◌≡◌, All-from_recursion, All-permutation, AllZip, AreWide, Bool, Global, List, None, String, Vec, ap, append-nil, ap₂, arith, get_or, get_or-map, is_lt, length, length-map, map, map-id, ordering_then, recursion_from_All, refl, row_cmp, row_texts, string_bytes, string_cmp, subst, sym, texts_of, ℕ}
 use Rattle.std.specs.Cmp.Lexicographic.{slice_cmp}
 use Rattle.std.specs.Iterator.{Drains}
-use Rattle.std.specs.List.{AllZip}
 use Rattle.std.specs.List.Sorted.{IsPermutation, IsSorted, IsSortedBy}
 use Rattle.std.specs.Map.Iter.{TakesFirst}
-use Rattle.std.specs.Ordering.{is_lt, ordering_then}
-use Rattle.std.specs.String.{string_bytes, string_cmp}
-use Rattle.std.proofs.lemmas.List.{append-nil, get_or-map, length-map, map-id}
-use Rattle.std.proofs.lemmas.List.Elements.{All-from_recursion, recursion_from_All}
-use Rattle.std.proofs.lemmas.List.Sorted.{All-permutation}
 use Rattle.std.proofs.lemmas.Map.Iter.{rest_all, rest_so_far}
-use Rattle.tabled_grid.specs.Evenness.{AreWide}
-use Rattle.tabled_table.specs.Builder.{row_texts}
-use Rattle.tabled_table.specs.Printed.{row_cmp}
-use Rattle.tabled_table.proofs.RowTexts.{texts_of}
 
 -- the rows of the entries that were handed in, all that there are
 pub all-drained : {E : Type 0} (R : E → List (List ℕ) → Type 0) (all items it : List E) (rows : List (List (List ℕ))) → it ≡ all → Drains (TakesFirst (λ (x : E). x)) it items → AllZip R items rows → AllZip R all rows

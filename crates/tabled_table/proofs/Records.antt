@@ -1,9 +1,5 @@
 -- A builder with one record more.
-use Rattle.std.proofs.Common.{◌≡◌, ℕ, ◌+◌, ◌-◌, ◌≤◌, max, List, ◌++◌, refl, ap, ap₂, ◌∙◌, map, replicate, length, arith}
-use Rattle.std.specs.List.{insert}
-use Rattle.tabled_grid.specs.Evenness.{AreWide}
-use Rattle.tabled_table.specs.Builder.{Builder, padded_to, with_items, with_last_column, with_record}
-use Rattle.tabled_grid.proofs.Lists.{all-insert}
+use Rattle.tabled_table.proofs.Common.{◌++◌, ◌+◌, ◌-◌, ◌∙◌, ◌≡◌, ◌≤◌, AreWide, Builder, List, all-insert, ap, ap₂, arith, insert, length, map, max, padded_to, refl, replicate, with_items, with_last_column, with_record, ℕ}
 use Rattle.tabled_table.proofs.Padded.{length-padded_to, even-padded}
 
 padded_to-longest : {A : Type 0} (columns : ℕ) (filler : A) (given : List A) → padded_to columns filler given ≡ padded_to (max columns (length given)) filler given

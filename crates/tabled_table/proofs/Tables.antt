@@ -1,12 +1,5 @@
 -- The grid that equally long rows make.
-use Rattle.std.proofs.Common.{◌≡◌, ℕ, List, [], ◌∷◌, String, refl, subst, sym, ◌∙◌, length}
-use Rattle.std.specs.Global.{Global, Vec}
-use Rattle.std.specs.String.{string_bytes}
-use Rattle.std.proofs.lemmas.List.{length-map}
-use Rattle.tabled_grid.specs.Evenness.{AreWide}
-use Rattle.tabled_grid.specs.Grid.{IsEven, grid_of, map_grid, map_items, width_of}
-use Rattle.tabled_table.specs.Builder.{Builder, row_texts, table_of}
-use Rattle.tabled_table.proofs.RowTexts.{row_texts-items, texts_of, wide-cells}
+use Rattle.tabled_table.proofs.Common.{[], ◌∙◌, ◌∷◌, ◌≡◌, AreWide, Builder, Global, IsEven, List, String, Vec, grid_of, length, length-map, map_grid, map_items, refl, row_texts, row_texts-items, string_bytes, subst, sym, table_of, texts_of, wide-cells, width_of, ℕ}
 
 -- rows of one length are as long as the first
 pub even-width : {A : Type 0} (n : ℕ) (rows : List (List A)) → AreWide n rows → AreWide (width_of rows) rows

@@ -1,14 +1,5 @@
 -- Rows turned into columns: what a function gives of each member, and turned twice.
-use Rattle.std.proofs.Common.{◌≡◌, ℕ, zero, suc, List, [], ◌∷◌, String, refl, ap, sym, subst, ◌∙◌, map, replicate, length}
-use Rattle.std.specs.Global.{Global, Vec}
-use Rattle.std.specs.List.{zip}
-use Rattle.std.specs.String.{string_bytes}
-use Rattle.tabled_grid.specs.Bulk.{transposed_rows}
-use Rattle.tabled_grid.specs.Evenness.{AreWide}
-use Rattle.tabled_grid.specs.Grid.{map_items}
-use Rattle.tabled_grid.proofs.Transposed.{at-transposed, length-transposed, same_rows, wide-transposed}
-use Rattle.tabled_table.specs.Builder.{row_texts}
-use Rattle.tabled_table.proofs.RowTexts.{row_texts-items}
+use Rattle.tabled_table.proofs.Common.{[], ◌∙◌, ◌∷◌, ◌≡◌, AreWide, Global, List, String, Vec, ap, at-transposed, length, length-transposed, map, map_items, refl, replicate, row_texts, row_texts-items, same_rows, string_bytes, subst, suc, sym, transposed_rows, wide-transposed, zero, zip, ℕ}
 
 module _ {A B : Type 0} (f : A → B) where
   map-none : (n : ℕ) → map (map f) (replicate n []) ≡ replicate n []

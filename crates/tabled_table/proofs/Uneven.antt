@@ -1,10 +1,5 @@
 -- Rows of any lengths, padded to the longest.
-use Rattle.std.proofs.Common.{◌≡◌, ℕ, ◌+◌, ◌-◌, ◌≤◌, max, List, [], ◌∷◌, ◌++◌, refl, ap, sym, ◌∙◌, map, replicate, length, arith}
-use Rattle.std.proofs.lemmas.List.{append_assoc, length-map, map-id, map_push, replicate-append-replicate}
-use Rattle.std.proofs.lemmas.List.Edits.{insert_end}
-use Rattle.tabled_grid.specs.Evenness.{AreWide}
-use Rattle.tabled_grid.proofs.Mapped.{maps_agree}
-use Rattle.tabled_table.specs.Builder.{from_uneven, longest, padded_to, with_record}
+use Rattle.tabled_table.proofs.Common.{[], ◌++◌, ◌+◌, ◌-◌, ◌∙◌, ◌∷◌, ◌≡◌, ◌≤◌, AreWide, List, ap, append_assoc, arith, from_uneven, insert_end, length, length-map, longest, map, map-id, map_push, maps_agree, max, padded_to, refl, replicate, replicate-append-replicate, sym, with_record, ℕ}
 use Rattle.tabled_table.proofs.Padded.{length-padded_to}
 
 pub even-longest : {A : Type 0} (n : ℕ) (filler : A) (rows : List (List A)) → longest rows ≤ n → AreWide n (map (padded_to n filler) rows)

@@ -1,9 +1,4 @@
-use Rattle.std.proofs.Common.{◌≡◌, ap, subst, sym, ◌∙◌}
-use Rattle.std.specs.FinMap.{from_sorted}
-use Rattle.tabled_grid.specs.Fitting.{Fits}
-use Rattle.tabled_grid.specs.Spans.{SpanMap, position_cmp}
-use Rattle.tabled_grid.proofs.Fitting.{anchors-of, from-entries}
-use Rattle.tabled_carry.specs.Images.{image}
+use Rattle.tabled_carry.proofs.Common.{◌∙◌, ◌≡◌, Fits, SpanMap, anchors-of, ap, from-entries, from_sorted, image, position_cmp, subst, sym}
 use Rattle.tabled_carry.proofs.carry.carried_fitting.Goals as goal
 
 pub carry-requires-clause-anchors : goal.carry-requires-clause-anchors

@@ -1,14 +1,9 @@
-use Rattle.std.proofs.Common.{◌≡◌, ◌+◌, ◌<◌, ◌≤◌, List, [], subst, ap, sym, ◌∙◌, arith, ℕ, ◌++◌, drop, get_or, length, take}
+use Rattle.tabled_carry.proofs.Common.{[], ◌++◌, ◌+◌, ◌<◌, ◌∙◌, ◌≡◌, ◌≤◌, AreAnchors, Carries, List, Rectangle, ap, arith, drop, from_sorted, get_or, length, none-some, position_cmp, subst, sym, take, take_all, ℕ}
 use Rattle.std.proofs.Math.Seq.{take-append_seam}
-use Rattle.std.proofs.lemmas.List.{take_all}
-use Rattle.std.proofs.lemmas.Option.{none-some}
-use Rattle.std.specs.FinMap.{from_sorted}
-use Rattle.tabled_grid.specs.Spans.{AreAnchors, Rectangle, position_cmp}
-use Rattle.tabled_carry.specs.Images.{Carries}
 use Rattle.tabled_carry.proofs.Carrying.{Images, images-anchors, images-make, images-sorted, next-inside, next-none, next-some, rising-sorted}
 use Rattle.tabled_carry.proofs.InPlace.{underway-none, underway-some}
 use Rattle.tabled_carry.proofs.carry.carry.Goals as goal
-use Rattle.tabled_carry.proofs.carry.carry.Goals.{After-index, After-sort, in-Some, in_default}
+use Rattle.tabled_carry.proofs.carry.carry.Goals.{After-index, After-sort}
 
 module _ (g : _) (c : After-index g) where
   here : c.loop-index.index < length c.args.anchors.now.items
@@ -39,8 +34,8 @@ loop-index-preserved g c =
     let u = c.loop-index.invariant in
     let front = take c.loop-index.count c.loop-index.anchors.items in
     elim c.match-new_rectangle.branch [
-      | in-Some w ↦ rw (w.anchors-is, w.count-is) (underway-some places c.args.anchors.now.items c.loop-index.anchors.items c.loop-index.count c.loop-index.index u (here g before) w.in-Some.image (next-some places c.args.anchors.now.items front c.loop-index.index c.args.rows c.args.columns e c.requires.anchors c.requires.fits (here g before) w.in-Some.image u.images (subst (λ (d : Rectangle). Carries places d w.in-Some.image) (sym (read g before)) w.in-Some.ensures.carries) w.in-Some.ensures.full))
-      | in_default w ↦ rw (w.anchors-is, w.count-is) (underway-none places c.args.anchors.now.items c.loop-index.anchors.items c.loop-index.count c.loop-index.index u (here g before) (next-none places c.args.anchors.now.items front c.loop-index.index c.args.rows c.args.columns e c.requires.anchors c.requires.fits (here g before) u.images (λ f carries full. none-some f (w.in_default.ensures.finds f (subst (λ (d : Rectangle). Carries places d f) (read g before) carries) full))))
+      | goal.in-Some w ↦ rw (w.anchors-is, w.count-is) (underway-some places c.args.anchors.now.items c.loop-index.anchors.items c.loop-index.count c.loop-index.index u (here g before) w.in-Some.image (next-some places c.args.anchors.now.items front c.loop-index.index c.args.rows c.args.columns e c.requires.anchors c.requires.fits (here g before) w.in-Some.image u.images (subst (λ (d : Rectangle). Carries places d w.in-Some.image) (sym (read g before)) w.in-Some.ensures.carries) w.in-Some.ensures.full))
+      | goal.in_default w ↦ rw (w.anchors-is, w.count-is) (underway-none places c.args.anchors.now.items c.loop-index.anchors.items c.loop-index.count c.loop-index.index u (here g before) (next-none places c.args.anchors.now.items front c.loop-index.index c.args.rows c.args.columns e c.requires.anchors c.requires.fits (here g before) u.images (λ f carries full. none-some f (w.in_default.ensures.finds f (subst (λ (d : Rectangle). Carries places d f) (read g before) carries) full))))
     ]
 
 -- the vector holds what its items were sorted to

@@ -1,17 +1,13 @@
-use Rattle.std.proofs.Common.{◌≡◌, subst, sym, refl, ◌∙◌}
-use Rattle.std.specs.Option.{IfSome}
-use Rattle.std.specs.Prelude.{IsNone, Option}
-use Rattle.tabled_grid.specs.Fitting.{Fits, keep_fitting}
-use Rattle.tabled_grid.specs.Spans.{SpanMap}
-use Rattle.tabled_grid.proofs.Fitting.{keep_fitting-fits}
+use Rattle.tabled_carry.proofs.Common.{◌∙◌, ◌≡◌, Fits, IfSome, IsNone, SpanMap, keep_fitting, keep_fitting-fits, refl, subst, sym}
+use Rattle.std.specs.Prelude.{Option}
 use Rattle.tabled_carry.proofs.carry.carry_along.Goals as goal
-use Rattle.tabled_carry.proofs.carry.carry_along.Goals.{Joined-kept, in-Some, in-None}
+use Rattle.tabled_carry.proofs.carry.carry_along.Goals.{Joined-kept}
 
 -- what fits is what is kept
 fitting_kept : (g : _) (c : Joined-kept g) → c.match-kept.fitting ≡ keep_fitting c.args.rows c.args.columns c.args.cfg.now
 fitting_kept g c = elim c.match-kept.branch [
-  | in-Some w ↦ w.fitting-is ∙ subst (λ (o : Option SpanMap). IfSome o (λ kept. kept ≡ keep_fitting c.args.rows c.args.columns c.args.cfg.now)) w.in-Some.is c.requires.kept
-  | in-None w ↦ w.fitting-is ∙ w.replace-fitting.ensures.value ∙ sym (c.requires.same (subst (λ (o : Option SpanMap). IsNone o) (sym w.in-None.is) refl))
+  | goal.in-Some w ↦ w.fitting-is ∙ subst (λ (o : Option SpanMap). IfSome o (λ kept. kept ≡ keep_fitting c.args.rows c.args.columns c.args.cfg.now)) w.in-Some.is c.requires.kept
+  | goal.in-None w ↦ w.fitting-is ∙ w.replace-fitting.ensures.value ∙ sym (c.requires.same (subst (λ (o : Option SpanMap). IsNone o) (sym w.in-None.is) refl))
 ]
 
 pub carried_fitting-requires : goal.carried_fitting-requires

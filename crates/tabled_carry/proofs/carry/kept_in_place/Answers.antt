@@ -1,4 +1,4 @@
-use Rattle.tabled_grid.proofs.Fitting.{keep_fitting-all}
+use Rattle.tabled_carry.proofs.Common.{keep_fitting-all}
 use Rattle.tabled_carry.proofs.carry.kept_in_place.Goals as goal
 
 pub returns-then-fits-clause-same : goal.returns-then-fits-clause-same

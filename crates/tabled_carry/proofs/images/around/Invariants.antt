@@ -1,9 +1,4 @@
-use Rattle.std.proofs.Common.{◌≡◌, ◌<◌}
-use Rattle.std.specs.Option.{IfSome}
-use Rattle.std.specs.Prelude.{IsNone}
-use Rattle.tabled_grid.specs.Midway.{In}
-use Rattle.tabled_grid.specs.declared.config.position.Position.{Position}
-use Rattle.tabled_carry.specs.Corners.{Around}
+use Rattle.tabled_carry.proofs.Common.{◌<◌, ◌≡◌, Around, IfSome, In, IsNone, Position}
 use Rattle.tabled_carry.proofs.Walks.{Before}
 use Rattle.tabled_carry.proofs.images.around.Given as goal
 

@@ -1,4 +1,4 @@
-use Rattle.std.proofs.Common.{Some, refl, sym, ap, ◌∙◌}
+use Rattle.tabled_carry.proofs.Common.{◌∙◌, Some, ap, refl, sym}
 use Rattle.tabled_carry.proofs.Walks.{between-carries, between-one, carried-many}
 use Rattle.tabled_carry.proofs.images.image_of.Goals as goal
 

@@ -1,5 +1,4 @@
-use Rattle.tabled_grid.proofs.Fitting.{keep_fitting-fits}
-use Rattle.tabled_grid.specs.Fitting.{keep_fitting}
+use Rattle.tabled_carry.proofs.Common.{keep_fitting, keep_fitting-fits}
 use Rattle.tabled_carry.proofs.RectanglesCarried.{image_is}
 use Rattle.tabled_carry.proofs.laws.carried_rectangles_are_the_images.Goals as goal
 

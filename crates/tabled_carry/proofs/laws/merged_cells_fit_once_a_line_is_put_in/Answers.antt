@@ -1,4 +1,4 @@
-use Rattle.tabled_grid.proofs.ShiftedFits.{fits_below}
+use Rattle.tabled_carry.proofs.Common.{fits_below}
 use Rattle.tabled_carry.proofs.PutIn.{fits_beside_rows, none_crosses_the_first}
 use Rattle.tabled_carry.proofs.laws.merged_cells_fit_once_a_line_is_put_in.Goals as goal
 

@@ -1,5 +1,4 @@
-use Rattle.std.proofs.Common.{◌≡◌, ◌≤◌, ◌<◌, length}
-use Rattle.std.specs.List.Sorted.{IsPermutation}
+use Rattle.tabled_carry.proofs.Common.{◌<◌, ◌≡◌, ◌≤◌, IsPermutation, length}
 use Rattle.tabled_carry.proofs.sort.reverse_descending_rows.Given as goal
 
 abbrev pub invariant-loop-end : goal.invariant-loop-end

@@ -1,6 +1,4 @@
-use Rattle.std.proofs.Common.{rules}
-use Rattle.std.proofs.lemmas.List.Sorted.{IsPermutation-trans, answers_always}
-use Rattle.tabled_grid.specs.Spans.{Rectangle}
+use Rattle.tabled_carry.proofs.Common.{IsPermutation-trans, Rectangle, answers_always, rules}
 use Rattle.tabled_carry.proofs.sort.sort.Goals as goal
 
 pub returns-clause-permutation : goal.returns-clause-permutation

@@ -1,9 +1,5 @@
-use Rattle.std.proofs.Common.{◌≡◌, ◌∙◌, ◌+◌, ◌<◌, [], None, ap, arith, get_or, length, refl, length-set}
+use Rattle.tabled_draw.proofs.Common.{[], ◌+◌, ◌<◌, ◌∙◌, ◌≡◌, None, ap, arith, begun, bytes_in, get_or, length, length-set, map_grid, place, refl}
 use Rattle.tabled_draw.proofs.Each.{changed-more, changed-none, text-in}
-use Rattle.tabled_draw.specs.Rests.{bytes_in}
-use Rattle.tabled_draw.specs.Lines.{begun}
-use Rattle.tabled_grid.specs.Entity.{place}
-use Rattle.tabled_grid.specs.Grid.{map_grid}
 use Rattle.tabled_draw.proofs.drawing.begin.Goals as goal
 
 pub loop-j-init : goal.loop-j-init

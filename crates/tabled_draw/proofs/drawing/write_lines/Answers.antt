@@ -1,12 +1,7 @@
-use Rattle.std.proofs.Common.{◌≡◌, ◌∙◌, ◌+◌, ◌++◌, [], ◌∷◌, ap, arith, length, refl, sym}
-use Rattle.std.specs.FinMap.{entries}
+use Rattle.tabled_draw.proofs.Common.{[], ◌++◌, ◌+◌, ◌∙◌, ◌∷◌, ◌≡◌, IsOwnerRow, ap, arith, bytes_in, entries, length, map_grid, picture_line, refl, sym, top}
 use Rattle.tabled_draw.proofs.Owned.{count-none, owner-below, owner-top, row-outside}
-use Rattle.tabled_draw.specs.Rests.{bytes_in}
 use Rattle.tabled_draw.proofs.Rows.{all-rows, between, end-inside, left-outside, more-rows}
 use Rattle.tabled_draw.proofs.Sent.{draws-as, draws-none, draws-then}
-use Rattle.tabled_draw.specs.OwnerRows.{IsOwnerRow}
-use Rattle.tabled_draw.specs.Picture.{picture_line, top}
-use Rattle.tabled_grid.specs.Grid.{map_grid}
 use Rattle.tabled_draw.proofs.drawing.write_lines.Goals as goal
 
 pub loop-i-init : goal.loop-i-init

@@ -1,12 +1,4 @@
-use Rattle.std.proofs.Common.{◌≡◌, ◌+◌, length}
-use Rattle.std.specs.FinMap.{entries}
-use Rattle.tabled_draw.specs.Rests.{bytes_in}
-use Rattle.tabled_draw.specs.Each.{each}
-use Rattle.tabled_draw.specs.Lines.{AreLeft}
-use Rattle.tabled_draw.specs.OwnerRows.{IsOwnerRow, count_before}
-use Rattle.tabled_draw.specs.Picture.{with_newlines, lines_of_row, top}
-use Rattle.tabled_draw.specs.Sent.{Draws}
-use Rattle.tabled_grid.specs.Grid.{map_grid}
+use Rattle.tabled_draw.proofs.Common.{◌+◌, ◌≡◌, AreLeft, Draws, IsOwnerRow, bytes_in, count_before, each, entries, length, lines_of_row, map_grid, top, with_newlines}
 use Rattle.tabled_draw.proofs.drawing.write_lines.Given as goal
 
 abbrev pub invariant-loop-i : goal.invariant-loop-i

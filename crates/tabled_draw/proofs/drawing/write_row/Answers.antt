@@ -1,16 +1,8 @@
-use Rattle.std.proofs.Common.{◌≡◌, ◌∙◌, ◌+◌, ◌-◌, ◌<◌, ◌≤◌, [], None, add-zero, add_assoc, ap, ap₂, arith, get_or, length, refl, subst, sym}
-use Rattle.std.specs.FinMap.{entries}
+use Rattle.tabled_draw.proofs.Common.{[], ◌+◌, ◌-◌, ◌<◌, ◌∙◌, ◌≡◌, ◌≤◌, AreLeft, IsOwnerRow, None, Rows, add-zero, add_assoc, ap, ap₂, arith, begun, bytes_in, entries, get_or, heights, left_of, length, map_grid, place, refl, subst, sym, top}
 use Rattle.tabled_draw.proofs.Sizes.{start-next}
-use Rattle.tabled_draw.specs.Rests.{bytes_in}
 use Rattle.tabled_draw.proofs.Rows.{all-below, between, end-inside, first-below, in-row, left-in_row, left-next_row, more-below}
 use Rattle.tabled_draw.proofs.Sent.{draws-as, draws-then}
-use Rattle.tabled_draw.specs.Lines.{AreLeft, begun, drawn_line, left_of}
-use Rattle.tabled_draw.specs.OwnerRows.{IsOwnerRow}
-use Rattle.tabled_draw.specs.Picture.{top}
-use Rattle.tabled_draw.specs.Sizes.{heights}
-use Rattle.tabled_grid.specs.Entity.{place}
-use Rattle.tabled_grid.specs.Grid.{map_grid}
-use Rattle.tabled_grid.specs.declared.records.axis.Axis.TheVariants.{Rows}
+use Rattle.tabled_draw.specs.Lines.{drawn_line}
 use Rattle.tabled_draw.proofs.drawing.write_row.Goals as goal
 
 pub write_line-requires-clause-inside : goal.write_line-requires-clause-inside

@@ -1,11 +1,5 @@
-use Rattle.std.proofs.Common.{◌≡◌, ◌+◌, length}
-use Rattle.std.specs.FinMap.{entries}
-use Rattle.tabled_draw.specs.Rests.{bytes_in}
+use Rattle.tabled_draw.proofs.Common.{◌+◌, ◌≡◌, AreLeft, Draws, bytes_in, entries, length, map_grid, top, with_newlines}
 use Rattle.tabled_draw.proofs.Rows.{lines_below}
-use Rattle.tabled_draw.specs.Lines.{AreLeft}
-use Rattle.tabled_draw.specs.Picture.{with_newlines, top}
-use Rattle.tabled_draw.specs.Sent.{Draws}
-use Rattle.tabled_grid.specs.Grid.{map_grid}
 use Rattle.tabled_draw.proofs.drawing.write_row.Given as goal
 
 abbrev pub invariant-loop-y : goal.invariant-loop-y

@@ -1,6 +1,4 @@
-use Rattle.std.proofs.Common.{◌≡◌, ◌+◌, ◌<◌, ℕ, get_or, length}
-use Rattle.tabled_draw.specs.Sizes.{start_of}
-use Rattle.tabled_grid.specs.declared.records.axis.Axis.TheVariants.{Columns}
+use Rattle.tabled_draw.proofs.Common.{◌+◌, ◌<◌, ◌≡◌, Columns, get_or, length, start_of, ℕ}
 use Rattle.tabled_draw.proofs.layout.edges.Given as goal
 
 abbrev pub invariant-loop-k : goal.invariant-loop-k

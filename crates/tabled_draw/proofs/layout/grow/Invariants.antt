@@ -1,5 +1,4 @@
-use Rattle.std.proofs.Common.{◌≡◌, ◌+◌}
-use Rattle.tabled_draw.specs.Sizes.{start_of}
+use Rattle.tabled_draw.proofs.Common.{◌+◌, ◌≡◌, start_of}
 use Rattle.tabled_draw.proofs.layout.grow.Given as goal
 
 abbrev pub invariant-loop-k : goal.invariant-loop-k

@@ -1,9 +1,5 @@
-use Rattle.std.proofs.Common.{◌≡◌, ◌∙◌, arith, ap, ap₂, get_or, length, length-set}
+use Rattle.tabled_draw.proofs.Common.{◌∙◌, ◌≡◌, ap, ap₂, arith, get_or, grown_sizes, length, length-set, line_of, lines_in, map_grid, sized}
 use Rattle.tabled_draw.proofs.Sizes.{both-asked, lies-along, anchor-at, grown-all, grown-more}
-use Rattle.tabled_draw.specs.Sizes.{grown_sizes}
-use Rattle.tabled_grid.specs.Axis.{line_of, lines_in}
-use Rattle.tabled_grid.specs.Grid.{map_grid}
-use Rattle.tabled_grid.specs.Spans.{sized}
 use Rattle.tabled_draw.proofs.layout.grow_all.Goals as goal
 
 pub get_text-requires-clause-inside : goal.get_text-requires-clause-inside

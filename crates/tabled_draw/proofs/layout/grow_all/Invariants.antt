@@ -1,8 +1,4 @@
-use Rattle.std.proofs.Common.{◌≡◌, length, take, fold}
-use Rattle.std.specs.FinMap.{entries}
-use Rattle.tabled_draw.specs.Sizes.{grown_for}
-use Rattle.tabled_grid.specs.Along.{count_along}
-use Rattle.tabled_grid.specs.Grid.{map_grid}
+use Rattle.tabled_draw.proofs.Common.{◌≡◌, count_along, entries, fold, grown_for, length, map_grid, take}
 use Rattle.tabled_draw.proofs.layout.grow_all.Given as goal
 
 abbrev pub invariant-loop-k : goal.invariant-loop-k

@@ -1,9 +1,5 @@
-use Rattle.std.proofs.Common.{◌≡◌, ◌∙◌}
-use Rattle.std.specs.FinMap.{entries}
+use Rattle.tabled_draw.proofs.Common.{◌∙◌, ◌≡◌, Columns, Rows, entries, heights, map_grid, widths}
 use Rattle.tabled_draw.proofs.Sizes.{edges-of, none-asked, own-long, sizes-is}
-use Rattle.tabled_draw.specs.Sizes.{heights, widths}
-use Rattle.tabled_grid.specs.Grid.{map_grid}
-use Rattle.tabled_grid.specs.declared.records.axis.Axis.TheVariants.{Rows, Columns}
 use Rattle.tabled_draw.proofs.layout.layout_of.Goals as goal
 
 pub raise_all-requires-clause-widths : goal.raise_all-requires-clause-widths

@@ -1,9 +1,5 @@
-use Rattle.std.proofs.Common.{◌≡◌, ◌∙◌, ◌+◌, ◌-◌, [], ℕ, List, Option, Some, None, ap, eqb, false, true, get_or, lit<, refl, replicate, sym, ne_eqb}
-use Rattle.std.proofs.lemmas.Bool.{cond-true, cond-false}
+use Rattle.tabled_draw.proofs.Common.{[], ◌+◌, ◌-◌, ◌∙◌, ◌≡◌, List, None, Option, Rectangle, Some, ap, column, cond-false, cond-true, eqb, false, get_or, is_one, lit<, ne_eqb, refl, replicate, sym, true, ℕ}
 use Rattle.tabled_draw.proofs.Sent.{draws-repeat, draws-as, draws-none}
-use Rattle.tabled_draw.specs.Lines.{column}
-use Rattle.tabled_draw.specs.Owners.{is_one}
-use Rattle.tabled_grid.specs.Spans.{Rectangle}
 use Rattle.tabled_draw.proofs.lines.write_column.Goals as goal
 
 pub returns-then-not-is_one-clause-draws : goal.returns-then-not-is_one-clause-draws

@@ -1,10 +1,7 @@
-use Rattle.std.proofs.Common.{◌≡◌, ◌∙◌, ◌+◌, ◌<◌, [], None, ap, arith, get_or, length, lit<, refl, subst, sym, length-set}
+use Rattle.tabled_draw.proofs.Common.{[], ◌+◌, ◌<◌, ◌∙◌, ◌≡◌, Draws, None, ap, arith, bytes_in, column, each, edge, get_or, left_of, length, length-set, line_of_rests, lit<, refl, stretches, subst, sym}
 use Rattle.tabled_draw.proofs.Sent.{draws-byte, draws-as, draws-none, draws-then}
 use Rattle.tabled_draw.proofs.Each.{changed-more, changed-none, text-in, each-more}
-use Rattle.tabled_draw.specs.Rests.{bytes_in, line_of_rests}
-use Rattle.tabled_draw.specs.Sent.{Draws}
-use Rattle.tabled_draw.specs.Each.{each}
-use Rattle.tabled_draw.specs.Lines.{column, drawn_line, edge, left_of, stretches}
+use Rattle.tabled_draw.specs.Lines.{drawn_line}
 use Rattle.tabled_draw.proofs.lines.write_line.Goals as goal
 
 pub write_column-requires-clause-end : goal.write_column-requires-clause-end

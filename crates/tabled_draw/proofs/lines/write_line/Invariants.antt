@@ -1,9 +1,5 @@
-use Rattle.std.proofs.Common.{◌≡◌, ◌+◌, None, [], get_or, length}
+use Rattle.tabled_draw.proofs.Common.{[], ◌+◌, ◌≡◌, Draws, None, bytes_in, each, get_or, left_of, length, stretches}
 use Rattle.tabled_draw.proofs.Each.{Changed}
-use Rattle.tabled_draw.specs.Rests.{bytes_in}
-use Rattle.tabled_draw.specs.Each.{each}
-use Rattle.tabled_draw.specs.Lines.{left_of, stretches}
-use Rattle.tabled_draw.specs.Sent.{Draws}
 use Rattle.tabled_draw.proofs.lines.write_line.Given as goal
 
 abbrev pub invariant-loop-j : goal.invariant-loop-j

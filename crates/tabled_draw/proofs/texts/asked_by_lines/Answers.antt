@@ -1,13 +1,7 @@
-use Rattle.std.proofs.Common.{◌∙◌, ◌==◌, ◌∷◌, [], ap, arith, length-append, lit<, map, max, fold, sym}
+use Rattle.tabled_draw.proofs.Common.{[], ◌==◌, ◌∙◌, ◌∷◌, ap, arith, count_by-le-length, fold, length-append, length-map, length-slice_split, lit<, map, max, shown_line, slice_split, split_has_more, split_pattern, split_text, sym, text_width}
 use Rattle.std.proofs.lemmas.Iterator.Consumers.{YieldsList-end, YieldsList-turn}
 use Rattle.std.proofs.lemmas.Iterator.Splits.{YieldsList-from_str_split}
-use Rattle.std.proofs.lemmas.List.{length-map}
-use Rattle.std.proofs.lemmas.List.Splits.{length-slice_split}
-use Rattle.std.proofs.lemmas.List.Sums.{count_by-le-length}
-use Rattle.std.specs.List.{slice_split}
-use Rattle.std.specs.Str.Iter.{split_has_more, split_pattern, split_text}
 use Rattle.tabled_draw.proofs.Shown.{widest-more}
-use Rattle.tabled_draw.specs.Texts.{text_width, shown_line}
 use Rattle.tabled_draw.proofs.texts.asked_by_lines.Goals as goal
 
 pub overflow_add-height : goal.overflow_add-height

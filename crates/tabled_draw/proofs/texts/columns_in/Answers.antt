@@ -1,9 +1,5 @@
-use Rattle.std.proofs.Common.{◌≡◌, ◌∙◌, ◌+◌, ◌++◌, ap, sym, zero-add, encode_utf8, false}
-use Rattle.std.proofs.lemmas.List.{nil_from_length}
-use Rattle.std.proofs.lemmas.Str.{IsUtf8-past_char}
-use Rattle.std.specs.Str.Iter.{chars_rest}
+use Rattle.tabled_draw.proofs.Common.{◌++◌, ◌+◌, ◌∙◌, ◌≡◌, IsUtf8-past_char, ap, chars_rest, encode_utf8, false, nil_from_length, sym, text_width, zero-add}
 use Rattle.tabled_draw.proofs.Shown.{counted, counted-end, counted-more, plain-columns, plain-line}
-use Rattle.tabled_draw.specs.Texts.{text_width}
 use Rattle.unicode_width.specs.Width.{char_width}
 use Rattle.tabled_draw.proofs.texts.columns_in.Goals as goal
 

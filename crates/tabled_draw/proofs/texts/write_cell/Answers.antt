@@ -1,4 +1,4 @@
-use Rattle.std.proofs.Common.{lit<}
+use Rattle.tabled_draw.proofs.Common.{lit<}
 use Rattle.tabled_draw.proofs.Sent.{draws-byte, draws-cell, draws-repeat}
 use Rattle.tabled_draw.proofs.texts.write_cell.Goals as goal
 

@@ -1,10 +1,6 @@
-use Rattle.std.proofs.Common.{◌≡◌, ◌∙◌, ◌-◌, ◌++◌, ap, refl, sym, encode_utf8, false}
-use Rattle.std.proofs.lemmas.List.{nil_from_length}
-use Rattle.std.proofs.lemmas.Str.{IsUtf8-past_char}
-use Rattle.std.specs.Str.Iter.{chars_rest}
+use Rattle.tabled_draw.proofs.Common.{◌++◌, ◌-◌, ◌∙◌, ◌≡◌, IsUtf8-past_char, ap, chars_rest, encode_utf8, false, nil_from_length, refl, shown_line, sym, text_width}
 use Rattle.tabled_draw.proofs.Shown.{plain-bytes, plain-columns, plain-line, counted, drawn-all, drawn-more, drawn-none, left-end, left-more}
 use Rattle.tabled_draw.proofs.Sent.{draws-bytes}
-use Rattle.tabled_draw.specs.Texts.{text_width, shown_line}
 use Rattle.unicode_width.specs.Width.{char_width}
 use Rattle.tabled_draw.proofs.texts.write_shown.Goals as goal
 

@@ -1,7 +1,5 @@
-use Rattle.std.proofs.Common.{◌≡◌, ◌-◌, IsUtf8}
-use Rattle.std.specs.Str.Iter.{chars_rest}
+use Rattle.tabled_draw.proofs.Common.{◌-◌, ◌≡◌, IsUtf8, chars_rest, shown_line, text_width}
 use Rattle.tabled_draw.proofs.Shown.{Drawn}
-use Rattle.tabled_draw.specs.Texts.{text_width, shown_line}
 use Rattle.tabled_draw.proofs.texts.write_shown.Given as goal
 
 abbrev pub invariant-loop-c : goal.invariant-loop-c

@@ -1,4 +1,4 @@
-use Rattle.std.proofs.Common.{◌≡◌, length, max, rules}
+use Rattle.tabled_language.proofs.Common.{◌≡◌, length, max, rules}
 use Rattle.tabled_language.proofs.ScriptChecks.{longest-more}
 use Rattle.tabled_language.proofs.padding.longest.Goals as goal
 

@@ -1,6 +1,4 @@
-use Rattle.std.proofs.Common.{◌≡◌, take}
-use Rattle.tabled_grid.specs.Grid.{map_items}
-use Rattle.tabled_table.specs.Builder.{longest}
+use Rattle.tabled_language.proofs.Common.{◌≡◌, longest, map_items, take}
 use Rattle.tabled_language.proofs.padding.longest.Given as goal
 
 abbrev pub invariant-loop-record : goal.invariant-loop-record

@@ -1,7 +1,5 @@
-use Rattle.std.proofs.Common.{◌∙◌, [], arith, map}
-use Rattle.std.proofs.lemmas.List.{length-map, map_push}
+use Rattle.tabled_language.proofs.Common.{[], ◌∙◌, arith, bytes_of, length-map, map, map_push}
 use Rattle.tabled_table.proofs.Padded.{padded_to-push}
-use Rattle.tabled_language.specs.Lent.{bytes_of}
 use Rattle.tabled_language.proofs.padding.pad.Goals as goal
 
 pub loop-row-preserved : goal.loop-row-preserved

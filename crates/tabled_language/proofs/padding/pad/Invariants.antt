@@ -1,6 +1,4 @@
-use Rattle.std.proofs.Common.{◌≡◌, ◌-◌, [], vec_len}
-use Rattle.tabled_table.specs.Builder.{padded_to}
-use Rattle.tabled_language.specs.Lent.{texts_in_row}
+use Rattle.tabled_language.proofs.Common.{[], ◌-◌, ◌≡◌, padded_to, texts_in_row, vec_len}
 use Rattle.tabled_language.proofs.padding.pad.Given as goal
 
 abbrev pub invariant-loop-row : goal.invariant-loop-row

@@ -1,5 +1,4 @@
-use Rattle.std.proofs.Common.{arith, refl}
-use Rattle.tabled_table.proofs.RowByRow.{changed_more, changed_all}
+use Rattle.tabled_language.proofs.Common.{arith, changed_all, changed_more, refl}
 use Rattle.tabled_language.proofs.padding.pad_each.Goals as goal
 
 pub loop-record-init : goal.loop-record-init

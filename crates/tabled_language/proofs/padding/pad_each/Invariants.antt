@@ -1,7 +1,4 @@
-use Rattle.std.proofs.Common.{[]}
-use Rattle.tabled_table.specs.Builder.{padded_to}
-use Rattle.tabled_table.proofs.RowByRow.{ChangedBy}
-use Rattle.tabled_language.specs.Lent.{texts_in_row}
+use Rattle.tabled_language.proofs.Common.{[], ChangedBy, padded_to, texts_in_row}
 use Rattle.tabled_language.proofs.padding.pad_each.Given as goal
 
 abbrev pub invariant-loop-record : goal.invariant-loop-record

@@ -1,6 +1,4 @@
-use Rattle.std.proofs.Common.{◌≡◌, arith, length, map}
-use Rattle.tabled_grid.specs.Grid.{map_items}
-use Rattle.tabled_language.specs.Lent.{bytes_of}
+use Rattle.tabled_language.proofs.Common.{◌≡◌, arith, bytes_of, length, map, map_items}
 use Rattle.tabled_language.proofs.PaddedRecords.{all_written, even_cells, has_cells, table_cells}
 use Rattle.tabled_language.proofs.padding.padded.Goals as goal
 

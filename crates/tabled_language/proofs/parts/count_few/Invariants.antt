@@ -1,5 +1,4 @@
-use Rattle.std.proofs.Common.{◌≡◌, eqb, take}
-use Rattle.std.specs.List.{count_by}
+use Rattle.tabled_language.proofs.Common.{◌≡◌, count_by, eqb, take}
 use Rattle.tabled_language.proofs.parts.count_few.Given as goal
 
 abbrev pub invariant-loop-byte : goal.invariant-loop-byte

@@ -1,5 +1,4 @@
-use Rattle.std.proofs.Common.{ℕ, ◌==◌, arith}
-use Rattle.std.proofs.lemmas.List.Splits.{length-slice_split}
+use Rattle.tabled_language.proofs.Common.{◌==◌, arith, length-slice_split, ℕ}
 use Rattle.tabled_language.proofs.parts.count_parts.Goals as goal
 
 pub returns : goal.returns

@@ -1,5 +1,4 @@
-use Rattle.std.proofs.Common.{◌≡◌, ◌+◌, eqb, length}
-use Rattle.std.specs.List.{count_by}
+use Rattle.tabled_language.proofs.Common.{◌+◌, ◌≡◌, count_by, eqb, length}
 use Rattle.tabled_language.proofs.parts.count_parts.Given as goal
 
 abbrev pub invariant-loop-rest : goal.invariant-loop-rest

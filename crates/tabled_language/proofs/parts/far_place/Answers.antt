@@ -1,5 +1,4 @@
-use Rattle.std.proofs.Common.{◌+◌, ◌-◌, ◌%◌, length, length-take, ap, ◌∙◌, arith}
-use Rattle.std.proofs.lemmas.List.{length-drop, take_rest}
+use Rattle.tabled_language.proofs.Common.{◌%◌, ◌+◌, ◌-◌, ◌∙◌, ap, arith, length, length-drop, length-take, take_rest}
 use Rattle.tabled_language.proofs.Separated.{behind_first, within_first}
 use Rattle.tabled_language.proofs.parts.far_place.Goals as goal
 

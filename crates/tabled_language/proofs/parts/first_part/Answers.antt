@@ -1,6 +1,4 @@
-use Rattle.std.proofs.Common.{ℕ, List, ◌+◌, ◌∷◌, eqb, take, sym, ap, ◌∙◌, arith}
-use Rattle.std.proofs.lemmas.List.{take_rest}
-use Rattle.std.specs.List.{slice_split}
+use Rattle.tabled_language.proofs.Common.{◌+◌, ◌∙◌, ◌∷◌, List, ap, arith, eqb, slice_split, sym, take, take_rest, ℕ}
 use Rattle.tabled_language.proofs.Separated.{one_part, part_and_others}
 use Rattle.tabled_language.proofs.parts.first_part.Goals as goal
 

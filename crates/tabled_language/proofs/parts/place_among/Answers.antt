@@ -1,6 +1,4 @@
-use Rattle.std.proofs.Common.{◌≡◌, ◌≢◌, ◌⊎◌, inl, inr, eqb, false, true, get_or, length, arith}
-use Rattle.std.proofs.lemmas.Bool.Decides.{eqb_tells, nat_tests}
-use Rattle.std.proofs.lemmas.List.Sums.{position_or_len_is}
+use Rattle.tabled_language.proofs.Common.{◌≡◌, ◌≢◌, ◌⊎◌, arith, eqb, eqb_tells, false, get_or, inl, inr, length, nat_tests, position_or_len_is, true}
 use Rattle.tabled_language.proofs.parts.place_among.Goals as goal
 
 pub returns-then-byte-at : goal.returns-then-byte-at

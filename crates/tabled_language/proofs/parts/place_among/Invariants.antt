@@ -1,4 +1,4 @@
-use Rattle.std.proofs.Common.{ℕ, ◌≡◌, ◌<◌, eqb, false, get_or}
+use Rattle.tabled_language.proofs.Common.{◌<◌, ◌≡◌, eqb, false, get_or, ℕ}
 use Rattle.tabled_language.proofs.parts.place_among.Given as goal
 
 abbrev pub invariant-loop-i : goal.invariant-loop-i

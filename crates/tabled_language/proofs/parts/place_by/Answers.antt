@@ -1,6 +1,4 @@
-use Rattle.std.proofs.Common.{◌≡◌, ◌+◌, ◌-◌, drop, eqb, length-take, ap, ◌∙◌, arith}
-use Rattle.std.proofs.lemmas.List.{drop-drop, length-drop}
-use Rattle.std.specs.List.{position_or_len}
+use Rattle.tabled_language.proofs.Common.{◌+◌, ◌-◌, ◌∙◌, ◌≡◌, ap, arith, drop, drop-drop, eqb, length-drop, length-take, position_or_len}
 use Rattle.tabled_language.proofs.Separated.{behind_first, within_first}
 use Rattle.tabled_language.proofs.parts.place_by.Goals as goal
 

@@ -1,5 +1,4 @@
-use Rattle.std.proofs.Common.{◌≡◌, ◌+◌, ◌-◌, ◌≤◌, drop, eqb, length}
-use Rattle.std.specs.List.{position_or_len}
+use Rattle.tabled_language.proofs.Common.{◌+◌, ◌-◌, ◌≡◌, ◌≤◌, drop, eqb, length, position_or_len}
 use Rattle.tabled_language.proofs.parts.place_by.Given as goal
 
 abbrev pub invariant-loop-passed : goal.invariant-loop-passed

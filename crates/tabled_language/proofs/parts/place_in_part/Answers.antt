@@ -1,4 +1,4 @@
-use Rattle.std.proofs.Common.{sym, ◌∙◌}
+use Rattle.tabled_language.proofs.Common.{◌∙◌, sym}
 use Rattle.tabled_language.proofs.Separated.{nowhere_if_none}
 use Rattle.tabled_language.proofs.parts.place_in_part.Goals as goal
 

@@ -1,6 +1,4 @@
-use Rattle.std.proofs.Common.{ℕ, ◌≡◌, List, [], arith, rules}
-use Rattle.tabled_language.specs.Parsing.{draft_in}
-use Rattle.tabled_language.proofs.OwnWords.{parts_lack}
+use Rattle.tabled_language.proofs.Common.{[], ◌≡◌, List, arith, draft_in, parts_lack, rules, ℕ}
 use Rattle.tabled_language.proofs.ScriptLines.{has_read-counts, has_read-end, has_read-more, has_read-start, script_ends}
 use Rattle.tabled_language.proofs.script.read_plain_lines.Goals as goal
 

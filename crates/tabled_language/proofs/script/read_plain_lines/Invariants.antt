@@ -1,6 +1,4 @@
-use Rattle.tabled_language.specs.Line.{lines_of}
-use Rattle.tabled_language.specs.Parsing.{draft_in}
-use Rattle.tabled_language.proofs.OwnWords.{LackEach}
+use Rattle.tabled_language.proofs.Common.{LackEach, draft_in, lines_of}
 use Rattle.tabled_language.proofs.ScriptLines.{HasRead}
 use Rattle.tabled_language.proofs.script.read_plain_lines.Given as goal
 

@@ -1,4 +1,4 @@
-use Rattle.std.proofs.Common.{◌≡◌, ◌+◌, arith}
+use Rattle.tabled_language.proofs.Common.{◌+◌, ◌≡◌, arith}
 use Rattle.tabled_language.proofs.PlacedAnchors.{misfit_found}
 use Rattle.tabled_language.proofs.spans.first_misfit.Goals as goal
 

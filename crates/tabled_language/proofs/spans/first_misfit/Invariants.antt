@@ -1,5 +1,4 @@
-use Rattle.std.proofs.Common.{false, true, ◌≡◌, ◌-◌, ◌<◌, ◌≤◌, length, take}
-use Rattle.tabled_language.specs.Placed.{fit_in}
+use Rattle.tabled_language.proofs.Common.{◌-◌, ◌<◌, ◌≡◌, ◌≤◌, false, fit_in, length, take, true}
 use Rattle.tabled_language.proofs.spans.first_misfit.Given as goal
 
 abbrev pub invariant-loop-failing : goal.invariant-loop-failing

@@ -1,9 +1,5 @@
-use Rattle.std.proofs.Common.{◌≡◌, ◌++◌, IfOk, rules, sym, ap, subst, ◌∙◌}
-use Rattle.std.proofs.lemmas.List.Sorted.{answers_always}
-use Rattle.std.proofs.lemmas.Result.{IfOk-weaker}
-use Rattle.tabled_language.specs.Placed.{fit_in}
+use Rattle.tabled_language.proofs.Common.{◌++◌, ◌∙◌, ◌≡◌, IfOk, IfOk-weaker, Rectangle, answers_always, ap, fit_in, rules, subst, sym}
 use Rattle.tabled_language.proofs.PlacedAnchors.{InOrder, in_order, map_of_sorted, rows_rise, sorted_sizes, told}
-use Rattle.tabled_grid.specs.Spans.{Rectangle}
 use Rattle.tabled_language.proofs.spans.fit.Goals as goal
 
 pub have_places-requires : goal.have_places-requires

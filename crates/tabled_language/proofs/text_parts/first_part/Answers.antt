@@ -1,5 +1,4 @@
-use Rattle.std.proofs.Common.{◌≡◌, take, ap, ◌∙◌, arith}
-use Rattle.std.proofs.lemmas.Str.{IsCharBoundary-after_ascii, IsCharBoundary-before_ascii}
+use Rattle.tabled_language.proofs.Common.{◌∙◌, ◌≡◌, IsCharBoundary-after_ascii, IsCharBoundary-before_ascii, ap, arith, take}
 use Rattle.tabled_language.proofs.Separated.{ascii_at_place, one_part, part_and_others}
 use Rattle.tabled_language.proofs.text_parts.first_part.Goals as goal
 

@@ -1,6 +1,4 @@
-use Rattle.std.proofs.Common.{arith, rules}
-use Rattle.std.proofs.lemmas.Grind.{common_steps}
-use Rattle.tabled_language.proofs.OwnWords.{parts_lack, parts_lack_separator}
+use Rattle.tabled_language.proofs.Common.{arith, common_steps, parts_lack, parts_lack_separator, rules}
 use Rattle.tabled_language.proofs.texts.escaped_texts.Goals as goal
 
 pub loop-word-init : goal.loop-word-init

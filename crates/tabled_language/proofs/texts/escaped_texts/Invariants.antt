@@ -1,8 +1,4 @@
-use Rattle.std.proofs.Common.{◌≡◌, ◌++◌, List, ℕ, map}
-use Rattle.std.specs.Option.{option_map}
-use Rattle.tabled_language.specs.Lent.{bytes_of}
-use Rattle.tabled_language.specs.Line.{texts_of, words_of}
-use Rattle.tabled_language.proofs.OwnWords.{LackEach}
+use Rattle.tabled_language.proofs.Common.{◌++◌, ◌≡◌, LackEach, List, bytes_of, map, option_map, texts_of, words_of, ℕ}
 use Rattle.tabled_language.proofs.texts.escaped_texts.Given as goal
 
 abbrev pub invariant-loop-word : goal.invariant-loop-word

@@ -1,6 +1,4 @@
-use Rattle.std.proofs.Common.{◌≡◌, eqb, false, true, refl, rules}
-use Rattle.std.proofs.lemmas.Bool.{and_right}
-use Rattle.std.specs.List.{list_any}
+use Rattle.tabled_language.proofs.Common.{◌≡◌, and_right, eqb, false, list_any, refl, rules, true}
 use Rattle.std.specs.Str.{is_utf8}
 use Rattle.tabled_language.proofs.PlainLines.{not_plain}
 use Rattle.tabled_language.proofs.texts.plain.Goals as goal

@@ -1,12 +1,6 @@
-use Rattle.std.proofs.Common.{◌≡◌, ◌<◌, ℕ, List, false, get_or, length, sym, take, ◌∙◌}
-use Rattle.std.proofs.lemmas.Bool.{and_left}
-use Rattle.std.proofs.lemmas.List.{get_or_default}
-use Rattle.std.specs.BTreeMap.{BTreeMap}
-use Rattle.tabled_language.specs.Placed.{has_place}
+use Rattle.tabled_language.proofs.Common.{◌<◌, ◌∙◌, ◌≡◌, BTreeMap, List, Rectangle, and_left, false, get_or, get_or_default, has_place, length, sized, sym, take, ℕ}
 use Rattle.tabled_language.proofs.Walked.{HasWalked, IsWalked, has_walked-more, has_walked-stop, met_place, size_at, walked-here}
 use Rattle.tabled_language.proofs.walk.have_places.Goals as goal
-use Rattle.tabled_language.proofs.walk.have_places.Goals.{then-not-is_inside-via-then-not-is_inside, then-not-is_inside-via-else-not-is_inside+then-not-is_clear}
-use Rattle.tabled_grid.specs.Spans.{Rectangle, sized}
 
 -- what stands for an anchor after the last
 abbrev beyond : Rectangle
@@ -36,10 +30,10 @@ returns-then-not-is_inside c =
     let within = c.loop-anchor-test.true in
     let e = at es k in
     elim c.then-not-is_inside.branch [
-      | then-not-is_inside-via-then-not-is_inside w ↦
+      | goal.then-not-is_inside-via-then-not-is_inside w ↦
           let outside : has_place c.args.rows c.args.columns (take k es) e ≡ false = and_left _ _ (sym c.is_inside.ensures ∙ w.if-not-is_inside.true) in
           sym (has_walked-stop c.args.rows c.args.columns es k e within (at-is es k within) outside)
-      | then-not-is_inside-via-else-not-is_inside+then-not-is_clear w ↦
+      | goal.then-not-is_inside-via-else-not-is_inside+then-not-is_clear w ↦
           let here = walked c.args.rows c.args.columns es k c.loop-anchor.reaching c.loop-anchor.invariant within in
           sym (has_walked-stop c.args.rows c.args.columns es k e within (at-is es k within) (met_place c.args.rows c.args.columns (take k es) c.loop-anchor.reaching e here (size_at es k beyond within c.requires.sizes).height w.if-not-is_clear.ensures.clear))
     ]

@@ -1,5 +1,4 @@
-use Rattle.std.proofs.Common.{◌+◌, ◌∙◌}
-use Rattle.std.specs.BTreeMap.{btree_map_len}
+use Rattle.tabled_language.proofs.Common.{◌+◌, ◌∙◌, btree_map_len}
 use Rattle.tabled_language.proofs.Cleared.{clear-last, clear-none, ends_above, last_here, left-less, reaches, smaller}
 use Rattle.tabled_language.proofs.walk.is_clear.Goals as goal
 

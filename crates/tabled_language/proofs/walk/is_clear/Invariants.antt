@@ -1,5 +1,4 @@
-use Rattle.std.specs.BTreeMap.{btree_map_len}
-use Rattle.tabled_language.specs.Walk.{IsLeft}
+use Rattle.tabled_language.proofs.Common.{IsLeft, btree_map_len}
 use Rattle.tabled_language.proofs.walk.is_clear.Given as goal
 
 abbrev pub invariant-loop-near : goal.invariant-loop-near

@@ -1,5 +1,4 @@
-use Rattle.std.proofs.Common.{◌≡◌, None, sym, ◌∙◌}
-use Rattle.tabled_language.specs.Word.{number_of}
+use Rattle.tabled_language.proofs.Common.{◌∙◌, ◌≡◌, None, number_of, sym}
 use Rattle.tabled_language.proofs.Numbers.{integer_of-plain}
 use Rattle.tabled_language.proofs.word.integer_of.Goals as goal
 

@@ -1,7 +1,5 @@
-use Rattle.std.proofs.Common.{◌≡◌, ◌∙◌, eqb, false, rules}
-use Rattle.std.specs.List.{list_any}
+use Rattle.tabled_language.proofs.Common.{◌∙◌, ◌≡◌, eqb, false, list_any, own_word, rules}
 use Rattle.tabled_language.proofs.Escapes.{unescaped-clean}
-use Rattle.tabled_language.proofs.OwnWords.{own_word}
 use Rattle.tabled_language.proofs.Utf8.{no_text, text_lent}
 use Rattle.tabled_language.proofs.word.lent_text.Goals as goal
 

@@ -1,4 +1,4 @@
-use Rattle.std.proofs.Common.{rules, ◌≢◌, sym, ◌∙◌, get_or}
+use Rattle.tabled_language.proofs.Common.{◌∙◌, ◌≢◌, get_or, rules, sym}
 use Rattle.tabled_language.proofs.Numbers.{number_to-large, number_to-refused, number_to-read}
 use Rattle.tabled_language.proofs.word.number_to.Goals as goal
 

@@ -1,5 +1,4 @@
-use Rattle.std.proofs.Common.{◌≡◌, Some, sym}
-use Rattle.tabled_language.specs.Word.{unescaped}
+use Rattle.tabled_language.proofs.Common.{◌≡◌, Some, sym, unescaped}
 use Rattle.tabled_language.proofs.Utf8.{if_utf8-made}
 use Rattle.tabled_language.proofs.word.text_of_word.Goals as goal
 

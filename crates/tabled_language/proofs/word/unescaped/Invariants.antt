@@ -1,5 +1,4 @@
-use Rattle.std.proofs.Common.{◌≡◌, drop}
-use Rattle.tabled_language.specs.Word.{unescaped}
+use Rattle.tabled_language.proofs.Common.{◌≡◌, drop, unescaped}
 use Rattle.tabled_language.proofs.Escapes.{all_before, pending}
 use Rattle.tabled_language.proofs.word.unescaped.Given as goal
 

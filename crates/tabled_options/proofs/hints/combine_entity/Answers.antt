@@ -1,5 +1,4 @@
-use Rattle.std.proofs.Common.{◌∙◌, true, false, refl, sym}
-use Rattle.tabled_options.specs.Hints.{names_all_of}
+use Rattle.tabled_options.proofs.Common.{◌∙◌, false, names_all_of, refl, sym, true}
 use Rattle.tabled_options.proofs.Covering.{combined_means}
 use Rattle.tabled_options.proofs.hints.combine_entity.Goals as goal
 

@@ -1,4 +1,4 @@
-use Rattle.tabled_options.specs.Writes.{text_writes}
+use Rattle.tabled_options.proofs.Common.{text_writes}
 use Rattle.tabled_options.proofs.Shapes.{writes_keep}
 use Rattle.tabled_options.proofs.laws.lent_texts_keep_merged_cells_fitting.Goals as goal
 

@@ -1,4 +1,4 @@
-use Rattle.tabled_options.specs.Does.{EachListed, EachListedUntil, SameOr}
+use Rattle.tabled_options.proofs.Common.{EachListed, EachListedUntil, SameOr}
 use Rattle.tabled_options.proofs.Keeps.{keeps_copied, keeps_listed}
 use Rattle.tabled_options.proofs.laws.modified_keep.Goals as goal
 

@@ -1,4 +1,4 @@
-use Rattle.tabled_options.specs.Does.{SameOr}
+use Rattle.tabled_options.proofs.Common.{SameOr}
 use Rattle.tabled_options.proofs.Keeps.{keeps_all, keeps_all_copied}
 use Rattle.tabled_options.proofs.laws.slices_keep.Goals as goal
 

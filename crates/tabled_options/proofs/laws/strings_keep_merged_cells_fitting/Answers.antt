@@ -1,5 +1,5 @@
 use Rattle.std.specs.String.{string_bytes}
-use Rattle.tabled_options.specs.Writes.{text_writes}
+use Rattle.tabled_options.proofs.Common.{text_writes}
 use Rattle.tabled_options.proofs.Shapes.{writes_keep}
 use Rattle.tabled_options.proofs.laws.strings_keep_merged_cells_fitting.Goals as goal
 

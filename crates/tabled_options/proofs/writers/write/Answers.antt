@@ -1,9 +1,5 @@
-use Rattle.std.proofs.Common.{rules, ◌≡◌, ◌∷◌, ◌∙◌, ap, arith, length, refl, subst, sym}
+use Rattle.tabled_options.proofs.Common.{◌∙◌, ◌∷◌, ◌≡◌, FirstWrites, ap, arith, at_each, inside, inside-within, length, map_grid, refl, rules, subst, sym, with_cell, with_writes}
 use Rattle.std.proofs.lemmas.Result.{on_err_weaker, on_ok_weaker}
-use Rattle.tabled_grid.specs.Entity.{inside}
-use Rattle.tabled_grid.specs.Grid.{map_grid, with_cell}
-use Rattle.tabled_options.specs.Writes.{FirstWrites, at_each, with_writes}
-use Rattle.tabled_grid.proofs.Places.{inside-within}
 use Rattle.tabled_options.proofs.Results.{on_err}
 use Rattle.tabled_options.proofs.Writes.{some-next, some-none}
 use Rattle.tabled_options.proofs.writers.write.Goals as goal

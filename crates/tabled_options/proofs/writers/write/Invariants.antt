@@ -1,9 +1,5 @@
-use Rattle.std.proofs.Common.{◌≡◌, ◌<◌, ◌∷◌, ℕ, List, []}
-use Rattle.std.specs.List.{AllByRecursion}
-use Rattle.tabled_grid.specs.Entity.{inside}
-use Rattle.tabled_grid.specs.Grid.{Grid, map_grid}
+use Rattle.tabled_options.proofs.Common.{[], ◌<◌, ◌∷◌, ◌≡◌, AllByRecursion, FirstWrites, Grid, List, at_each, inside, map_grid, with_writes, ℕ}
 use Rattle.tabled_grid.specs.declared.config.position.Position.{Position}
-use Rattle.tabled_options.specs.Writes.{FirstWrites, at_each, with_writes}
 use Rattle.tabled_options.proofs.writers.write.Given as goal
 
 abbrev pub invariant-loop-next : goal.invariant-loop-next

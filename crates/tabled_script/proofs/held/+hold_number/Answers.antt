@@ -1,6 +1,4 @@
-use Rattle.std.proofs.Common.{◌≡◌, ◌+◌, ◌≤◌, ◌<◌, ◌/◌, ◌%◌, ◌^◌, ℕ, [], ◌∷◌, ◌++◌, append_assoc, ap, arith, length, length-append, sym, ◌∙◌}
-use Rattle.std.proofs.lemmas.Fmt.{decimal_digit, decimal_step}
-use Rattle.std.specs.Fmt.{decimal}
+use Rattle.tabled_script.proofs.Common.{[], ◌%◌, ◌++◌, ◌+◌, ◌/◌, ◌<◌, ◌^◌, ◌∙◌, ◌∷◌, ◌≡◌, ◌≤◌, ap, append_assoc, arith, decimal, decimal_digit, decimal_step, length, length-append, sym, ℕ}
 use Rattle.tabled_script.proofs.held.+hold_number.Goals as goal
 
 -- a number of two digits or more has one digit more than its tenth

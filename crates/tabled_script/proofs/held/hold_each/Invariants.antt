@@ -1,5 +1,4 @@
-use Rattle.std.proofs.Common.{◌≡◌, ◌+◌, ◌*◌, ◌≤◌, ◌++◌, length, take}
-use Rattle.tabled_language.specs.Output.{escaped}
+use Rattle.tabled_script.proofs.Common.{◌*◌, ◌++◌, ◌+◌, ◌≡◌, ◌≤◌, escaped, length, take}
 use Rattle.tabled_script.proofs.held.hold_each.Given as goal
 
 abbrev pub invariant-loop-byte : goal.invariant-loop-byte

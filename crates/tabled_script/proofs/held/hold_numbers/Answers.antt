@@ -1,9 +1,4 @@
-use Rattle.std.proofs.Common.{◌≡◌, ℕ, ◌<◌, ◌≤◌, ◌^◌, [], ◌∷◌, ◌++◌, append_assoc, ap, arith, length, slice_index_or, sym, ◌∙◌}
-use Rattle.std.proofs.lemmas.Fmt.{length-decimal-le}
-use Rattle.std.proofs.lemmas.Grind.{common_steps}
-use Rattle.std.proofs.lemmas.List.{get_or_default}
-use Rattle.std.specs.Fmt.{decimal}
-use Rattle.tabled_language.specs.Output.{escaped}
+use Rattle.tabled_script.proofs.Common.{[], ◌++◌, ◌<◌, ◌^◌, ◌∙◌, ◌∷◌, ◌≡◌, ◌≤◌, ap, append_assoc, arith, common_steps, decimal, escaped, get_or_default, length, length-decimal-le, slice_index_or, sym, ℕ}
 use Rattle.tabled_script.proofs.OutputLines.{escaped-decimal, line-pieces, pushed_more}
 use Rattle.tabled_script.proofs.held.hold_numbers.Goals as goal
 

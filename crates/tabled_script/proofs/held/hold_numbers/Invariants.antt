@@ -1,8 +1,4 @@
-use Rattle.std.proofs.Common.{◌≡◌, ◌+◌, ◌*◌, ◌<◌, ◌∷◌, ◌++◌, length, take}
-use Rattle.std.specs.Fmt.{decimal}
-use Rattle.std.specs.List.{flat_map}
-use Rattle.tabled_language.specs.Output.{escaped}
-use Rattle.tabled_script.specs.declared.held.TheConstants.{ROOM}
+use Rattle.tabled_script.proofs.Common.{◌*◌, ◌++◌, ◌+◌, ◌<◌, ◌∷◌, ◌≡◌, ROOM, decimal, escaped, flat_map, length, take}
 use Rattle.tabled_script.proofs.held.hold_numbers.Given as goal
 
 abbrev pub invariant-loop-number : goal.invariant-loop-number

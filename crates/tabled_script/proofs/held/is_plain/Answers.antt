@@ -1,7 +1,4 @@
-use Rattle.std.proofs.Common.{◌≡◌, ◌++◌, ap, ap₂, rules, sym, ◌∙◌}
-use Rattle.std.proofs.lemmas.List.{take-append-drop}
-use Rattle.std.proofs.lemmas.List.Concat.{flat_map-append}
-use Rattle.tabled_language.specs.Output.{escaped, escaped_byte}
+use Rattle.tabled_script.proofs.Common.{◌++◌, ◌∙◌, ◌≡◌, ap, ap₂, escaped, escaped_byte, flat_map-append, rules, sym, take-append-drop}
 use Rattle.tabled_script.proofs.held.is_plain.Goals as goal
 
 pub loop-rest-preserved : goal.loop-rest-preserved

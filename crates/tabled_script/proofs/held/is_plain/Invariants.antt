@@ -1,5 +1,4 @@
-use Rattle.std.proofs.Common.{◌≡◌, length}
-use Rattle.tabled_language.specs.Output.{escaped}
+use Rattle.tabled_script.proofs.Common.{◌≡◌, escaped, length}
 use Rattle.tabled_script.proofs.held.is_plain.Given as goal
 
 abbrev pub invariant-loop-rest : goal.invariant-loop-rest

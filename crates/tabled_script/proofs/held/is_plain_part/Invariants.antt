@@ -1,5 +1,4 @@
-use Rattle.std.proofs.Common.{◌≡◌, drop}
-use Rattle.tabled_language.specs.Output.{escaped}
+use Rattle.tabled_script.proofs.Common.{◌≡◌, drop, escaped}
 use Rattle.tabled_script.proofs.held.is_plain_part.Given as goal
 
 abbrev pub invariant-loop-byte : goal.invariant-loop-byte

@@ -1,4 +1,4 @@
-use Rattle.std.proofs.Common.{[], append-nil, sym}
+use Rattle.tabled_script.proofs.Common.{[], append-nil, sym}
 use Rattle.tabled_script.proofs.Sent.{sends_none}
 use Rattle.tabled_script.proofs.held.send.Goals as goal
 

@@ -1,4 +1,4 @@
-use Rattle.std.proofs.Common.{refl}
+use Rattle.tabled_script.proofs.Common.{refl}
 use Rattle.tabled_script.proofs.held.write_held.Goals as goal
 
 pub returns-clause-sends : goal.returns-clause-sends

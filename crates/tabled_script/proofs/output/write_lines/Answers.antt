@@ -1,8 +1,4 @@
-use Rattle.std.proofs.Common.{◌≡◌, List, [], ◌∷◌, Result, Ok, Err, arith, length, refl}
-use Rattle.std.specs.Result.{OnOk}
-use Rattle.tabled_grid.proofs.Grids.{IsEven-map_grid}
-use Rattle.tabled_grid.specs.Grid.{grid_of, map_items, width_of}
-use Rattle.tabled_language.specs.Lent.{bytes_of}
+use Rattle.tabled_script.proofs.Common.{[], ◌∷◌, ◌≡◌, Err, IsEven-map_grid, List, Ok, OnOk, Result, arith, bytes_of, grid_of, length, map_items, refl, width_of}
 use Rattle.tabled_script.proofs.output.write_lines.Goals as goal
 
 -- what holds anyhow holds at a value

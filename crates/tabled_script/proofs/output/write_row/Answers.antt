@@ -1,11 +1,4 @@
-use Rattle.std.proofs.Common.{arith, [], ◌∷◌, ◌++◌, ap, codes, map, refl, subst, sym, take, ◌∙◌}
-use Rattle.std.proofs.lemmas.List.{take_all}
-use Rattle.std.proofs.lemmas.Result.{on_ok_weaker}
-use Rattle.std.specs.List.{AllByRecursion, flat_map}
-use Rattle.std.specs.Str.{IsUtf8}
-use Rattle.tabled_language.specs.Lent.{bytes_of}
-use Rattle.tabled_language.specs.Output.{escaped, line}
-use Rattle.tabled_script.specs.Sent.{Sends}
+use Rattle.tabled_script.proofs.Common.{[], ◌++◌, ◌∙◌, ◌∷◌, AllByRecursion, IsUtf8, Sends, ap, arith, bytes_of, codes, escaped, flat_map, line, map, on_ok_weaker, refl, subst, sym, take, take_all}
 use Rattle.tabled_script.proofs.OutputLines.{line-pieces, pushed_more}
 use Rattle.tabled_script.proofs.Texts.{all_map, all_more}
 use Rattle.tabled_script.proofs.Sent.{sends_more, sends_next, sends_none, sends_pushed}

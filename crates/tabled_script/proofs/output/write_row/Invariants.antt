@@ -1,10 +1,4 @@
-use Rattle.std.proofs.Common.{◌*◌, ◌<◌, ◌∷◌, ◌++◌, codes, length, take}
-use Rattle.std.specs.List.{AllByRecursion, flat_map}
-use Rattle.std.specs.Str.{IsUtf8}
-use Rattle.tabled_language.specs.Lent.{bytes_of}
-use Rattle.tabled_language.specs.Output.{escaped}
-use Rattle.tabled_script.specs.Sent.{Sends}
-use Rattle.tabled_script.specs.declared.held.TheConstants.{PART}
+use Rattle.tabled_script.proofs.Common.{◌*◌, ◌++◌, ◌<◌, ◌∷◌, AllByRecursion, IsUtf8, PART, Sends, bytes_of, codes, escaped, flat_map, length, take}
 use Rattle.tabled_script.proofs.output.write_row.Given as goal
 
 abbrev pub invariant-loop-text : goal.invariant-loop-text

@@ -1,11 +1,6 @@
-use Rattle.std.proofs.Common.{arith, ◌+◌, [], get_or, refl, subst, take, ◌∙◌}
-use Rattle.std.proofs.lemmas.List.{get_or_default, take_all}
-use Rattle.std.specs.List.{flat_map}
-use Rattle.tabled_language.specs.Output.{span_line}
-use Rattle.tabled_script.specs.Sent.{Sends}
+use Rattle.tabled_script.proofs.Common.{[], ◌+◌, ◌∙◌, Sends, arith, flat_map, get_or, get_or_default, refl, sized, span_line, subst, take, take_all}
 use Rattle.tabled_script.proofs.OutputLines.{pushed_more}
 use Rattle.tabled_script.proofs.Sent.{sends_next}
-use Rattle.tabled_grid.specs.Spans.{sized}
 use Rattle.tabled_script.proofs.output.write_spans.Goals as goal
 
 pub loop-pos-preserved : goal.loop-pos-preserved

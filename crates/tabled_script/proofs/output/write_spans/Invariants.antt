@@ -1,8 +1,4 @@
-use Rattle.std.proofs.Common.{◌<◌, length, take}
-use Rattle.std.specs.List.{flat_map}
-use Rattle.tabled_language.specs.Output.{span_line}
-use Rattle.tabled_script.specs.Sent.{Sends}
-use Rattle.tabled_script.specs.declared.held.TheConstants.{PART}
+use Rattle.tabled_script.proofs.Common.{◌<◌, PART, Sends, flat_map, length, span_line, take}
 use Rattle.tabled_script.proofs.output.write_spans.Given as goal
 
 abbrev pub invariant-loop-pos : goal.invariant-loop-pos

@@ -1,21 +1,8 @@
-use Rattle.std.proofs.Common.{◌≡◌, ◌∙◌, ℕ, List, [], ◌∷◌, ◌++◌, Option, None, append-nil, ap, codes, length, map, refl, subst, sym}
-use Rattle.std.specs.Global.{Global, Vec}
+use Rattle.tabled_script.proofs.Common.{[], ◌++◌, ◌∙◌, ◌∷◌, ◌≡◌, AllByRecursion, Global, IsUtf8, LentText, List, None, Option, Sends, Vec, YieldsList-from_vec, all-append, ap, append-nil, bytes_of, codes, decimal, flat_map, into_iter_items, into_iter_len, into_iter_steps, length, line, map, map-id, map_items, refl, subst, sym, width_of, ℕ}
 use Rattle.std.specs.Iterator.{Yields}
 use Rattle.std.specs.Vec.{vec_len}
-use Rattle.std.specs.Vec.Iter.{into_iter_items, into_iter_len, into_iter_steps}
 use Rattle.std.specs.declared.vec.IntoIter.{IntoIter}
-use Rattle.std.specs.Fmt.{decimal}
-use Rattle.std.specs.List.{AllByRecursion, flat_map}
-use Rattle.std.specs.Str.{IsUtf8}
-use Rattle.std.proofs.lemmas.List.{map-id}
 use Rattle.std.proofs.lemmas.Iterator.Consumers.{YieldsList-end}
-use Rattle.std.proofs.lemmas.Iterator.Adapters.{YieldsList-from_vec}
-use Rattle.tabled_grid.proofs.Lists.{all-append}
-use Rattle.tabled_grid.specs.Grid.{map_items, width_of}
-use Rattle.tabled_language.specs.Lent.{bytes_of}
-use Rattle.tabled_language.specs.declared.lent.LentText.{LentText}
-use Rattle.tabled_language.specs.Output.{line}
-use Rattle.tabled_script.specs.Sent.{Sends}
 use Rattle.tabled_script.proofs.OutputLines.{pushed_last, table_lines-pieces}
 use Rattle.tabled_script.proofs.Texts.{all_map}
 use Rattle.tabled_script.proofs.Sent.{sends_more, sends_next, sends_none}

@@ -1,14 +1,4 @@
-use Rattle.std.proofs.Common.{◌<◌, ◌∷◌, ◌++◌, [], map, codes, length}
-use Rattle.std.specs.Fmt.{decimal}
-use Rattle.std.specs.Global.{Vec}
-use Rattle.std.specs.List.{AllByRecursion, flat_map}
-use Rattle.std.specs.Str.{IsUtf8}
-use Rattle.tabled_grid.specs.Grid.{map_items, width_of}
-use Rattle.tabled_language.specs.Lent.{bytes_of}
-use Rattle.tabled_language.specs.declared.lent.LentText.{LentText}
-use Rattle.tabled_language.specs.Output.{line}
-use Rattle.tabled_script.specs.Sent.{Sends}
-use Rattle.tabled_script.specs.declared.held.TheConstants.{PART}
+use Rattle.tabled_script.proofs.Common.{[], ◌++◌, ◌<◌, ◌∷◌, AllByRecursion, IsUtf8, LentText, PART, Sends, Vec, bytes_of, codes, decimal, flat_map, length, line, map, map_items, width_of}
 use Rattle.tabled_script.proofs.output.write_table.Given as goal
 
 abbrev pub invariant-loop-row : goal.invariant-loop-row

@@ -1,8 +1,4 @@
-use Rattle.std.proofs.Common.{arith, ◌≡◌, ◌∷◌, ◌++◌, append_assoc, ap, refl, sym, ◌∙◌}
-use Rattle.std.proofs.lemmas.List.{take-append-drop}
-use Rattle.std.proofs.lemmas.List.Concat.{flat_map-append}
-use Rattle.std.proofs.lemmas.Result.{on_ok_weaker}
-use Rattle.tabled_language.specs.Output.{escaped, escaped_byte}
+use Rattle.tabled_script.proofs.Common.{◌++◌, ◌∙◌, ◌∷◌, ◌≡◌, ap, append_assoc, arith, escaped, escaped_byte, flat_map-append, on_ok_weaker, refl, sym, take-append-drop}
 use Rattle.tabled_script.proofs.Sent.{sends_next}
 use Rattle.tabled_script.proofs.output.write_word.Goals as goal
 

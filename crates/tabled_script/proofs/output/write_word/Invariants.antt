@@ -1,7 +1,4 @@
-use Rattle.std.proofs.Common.{◌≡◌, ◌≤◌, ◌*◌, ℕ, List, ◌∷◌, ◌++◌, length}
-use Rattle.tabled_language.specs.Output.{escaped}
-use Rattle.tabled_script.specs.Sent.{Sends}
-use Rattle.tabled_script.specs.declared.held.TheConstants.{PART}
+use Rattle.tabled_script.proofs.Common.{◌*◌, ◌++◌, ◌∷◌, ◌≡◌, ◌≤◌, List, PART, Sends, escaped, length, ℕ}
 use Rattle.tabled_script.proofs.output.write_word.Given as goal
 
 abbrev pub invariant-loop-rest : goal.invariant-loop-rest

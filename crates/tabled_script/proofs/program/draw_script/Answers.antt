@@ -1,4 +1,4 @@
-use Rattle.std.proofs.lemmas.Option.{IfSome_then}
+use Rattle.tabled_script.proofs.Common.{IfSome_then}
 use Rattle.tabled_script.proofs.program.draw_script.Goals as goal
 
 pub returns-clause-done : goal.returns-clause-done

@@ -1,10 +1,5 @@
-use Rattle.std.proofs.Common.{◌≡◌, subst}
-use Rattle.std.proofs.lemmas.Option.{IfSome_then}
-use Rattle.tabled_language.specs.Script.{Script}
-use Rattle.tabled_language.specs.RoundTrip.{IsTable}
+use Rattle.tabled_script.proofs.Common.{◌≡◌, FitsAtEnd, IfSome_then, IsTable, Script, ended, subst}
 use Rattle.tabled_script.proofs.Again.{gives_again}
-use Rattle.tabled_script.specs.Again.{FitsAtEnd}
-use Rattle.tabled_script.specs.Answer.{ended}
 use Rattle.tabled_script.proofs.program.run_script.Goals as goal
 
 pub returns-clause-done : goal.returns-clause-done

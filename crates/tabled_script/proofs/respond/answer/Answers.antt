@@ -1,6 +1,4 @@
-use Rattle.std.proofs.Common.{inl, refl}
-use Rattle.std.proofs.lemmas.Result.{on_ok_weaker}
-use Rattle.tabled_language.specs.Parsing.{script_in}
+use Rattle.tabled_script.proofs.Common.{inl, on_ok_weaker, refl, script_in}
 use Rattle.tabled_script.proofs.respond.answer.Goals as goal
 
 pub returns-in_ok-show-in-Ok-clause-answered : goal.returns-in_ok-show-in-Ok-clause-answered

@@ -1,7 +1,4 @@
-use Rattle.std.proofs.Common.{◌≡◌, ℕ, ◌++◌, ◌⊎◌, inl, inr, Option, Result, Ok, Err, IfOk, IsOk, MatchResult, List, ap, subst, sym, arith, ◌∙◌}
-use Rattle.std.proofs.lemmas.Option.{IfSome_then}
-use Rattle.std.specs.Result.{OnOk}
-use Rattle.tabled_script.specs.Answer.{Faults, ShowsTable}
+use Rattle.tabled_script.proofs.Common.{◌++◌, ◌∙◌, ◌≡◌, ◌⊎◌, Err, Faults, IfOk, IfSome_then, IsOk, List, MatchResult, Ok, OnOk, Option, Result, ShowsTable, ap, arith, inl, inr, subst, sym, ℕ}
 use Rattle.tabled_script.proofs.respond.respond.Goals as goal
 
 -- the status of what was answered

@@ -1,13 +1,5 @@
-use Rattle.std.proofs.Common.{◌≡◌, ◌∙◌, Result, Ok, Err, IfOk, ap, refl}
-use Rattle.std.specs.Io.KnownBytes.{Appends}
-use Rattle.std.specs.Result.{OnOk}
-use Rattle.tabled_grid.specs.Grid.{grid_of, map_items}
-use Rattle.tabled_steps.specs.States.{State, after_all, state_of}
-use Rattle.tabled_language.specs.Lent.{bytes_of}
-use Rattle.tabled_language.specs.Script.{start}
-use Rattle.tabled_language.specs.Parsing.{script_in}
+use Rattle.tabled_script.proofs.Common.{◌∙◌, ◌≡◌, Appends, Err, IfOk, Ok, OnOk, Result, State, after_all, ap, bytes_of, ended, grid_of, map_items, refl, script_in, start, state_of}
 use Rattle.tabled_script.proofs.Changes.{after_all-changed}
-use Rattle.tabled_script.specs.Answer.{ended}
 use Rattle.tabled_script.proofs.respond.show.Goals as goal
 
 -- two facts of a state that was written, of the state that it is

@@ -1,5 +1,4 @@
-use Rattle.std.proofs.Common.{refl}
-use Rattle.tabled_select.specs.Algebra.{cells_of, flat, inversion_of}
+use Rattle.tabled_select.proofs.Common.{cells_of, flat, inversion_of, refl}
 use Rattle.tabled_select.proofs.Inverted.{listed-by_difference, listed-by_intersection}
 use Rattle.tabled_select.proofs.laws.not_is_intersect_with_inverse.Goals as goal
 

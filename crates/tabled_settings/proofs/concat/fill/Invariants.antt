@@ -1,4 +1,4 @@
-use Rattle.tabled_settings.specs.Joined.{FillsTo, as_texts, text_put}
+use Rattle.tabled_settings.proofs.Common.{FillsTo, as_texts, text_put}
 use Rattle.tabled_settings.proofs.concat.fill.Given as goal
 
 abbrev pub invariant-loop-i : goal.invariant-loop-i

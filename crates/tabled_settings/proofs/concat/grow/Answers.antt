@@ -1,4 +1,4 @@
-use Rattle.std.proofs.Common.{arith}
+use Rattle.tabled_settings.proofs.Common.{arith}
 use Rattle.tabled_settings.proofs.Joins.{grown_to}
 use Rattle.tabled_settings.proofs.concat.grow.Goals as goal
 

@@ -1,6 +1,5 @@
-use Rattle.std.proofs.Common.{refl, arith}
+use Rattle.tabled_settings.proofs.Common.{arith, map_grid, refl}
 use Rattle.std.specs.String.{string_bytes}
-use Rattle.tabled_grid.specs.Grid.{map_grid}
 use Rattle.tabled_settings.proofs.Joins.{join_done, join_undone}
 use Rattle.tabled_settings.proofs.concat.join.Goals as goal
 

@@ -1,16 +1,14 @@
-use Rattle.std.proofs.Common.{inl, inr, arith}
+use Rattle.tabled_settings.proofs.Common.{IsEven-map_grid, arith, inl, inr}
 use Rattle.std.specs.String.{string_bytes}
 use Rattle.tabled_grid.specs.Evenness.{is_even_grid}
-use Rattle.tabled_grid.proofs.Grids.{IsEven-map_grid}
 use Rattle.tabled_settings.proofs.Joins.{none_put}
 use Rattle.tabled_settings.proofs.concat.text_at.Goals as goal
-use Rattle.tabled_settings.proofs.concat.text_at.Goals.{then-pos-count_rows-via-then-pos-count_rows, then-pos-count_rows-via-else-pos-count_rows+then-pos-count_columns}
 
 pub returns-then-pos-count_rows : goal.returns-then-pos-count_rows
 returns-then-pos-count_rows c =
     let even = IsEven-map_grid string_bytes c.args.second.now.grid (is_even_grid c.args.second.now) in
     none_put c.args.corner _ c.args.default.now c.args.row c.args.col even (omega (arith, c.if-row-corner.false)) (omega (arith, c.if-col-corner.false))
     (elim c.then-pos-count_rows.branch [
-      | then-pos-count_rows-via-then-pos-count_rows w ↦ inl (omega (arith, w.if-pos-count_rows.true, c.count_rows.ensures.rows))
-      | then-pos-count_rows-via-else-pos-count_rows+then-pos-count_columns w ↦ inr (omega (arith, w.if-pos-count_columns.true, w.count_columns.ensures.columns))
+      | goal.then-pos-count_rows-via-then-pos-count_rows w ↦ inl (omega (arith, w.if-pos-count_rows.true, c.count_rows.ensures.rows))
+      | goal.then-pos-count_rows-via-else-pos-count_rows+then-pos-count_columns w ↦ inr (omega (arith, w.if-pos-count_columns.true, w.count_columns.ensures.columns))
     ])

@@ -1,9 +1,5 @@
-use Rattle.std.proofs.Common.{◌∙◌, ap, sym}
+use Rattle.tabled_settings.proofs.Common.{◌∙◌, Places, ap, carried, carried-none, removed, sym}
 use Rattle.tabled_grid.proofs.SortedAnchors.{none-listed}
-use Rattle.tabled_grid.specs.Places.{Places}
-use Rattle.tabled_carry.specs.Images.{carried}
-use Rattle.tabled_carry.proofs.CarriedFits.{carried-none}
-use Rattle.tabled_settings.specs.Rearranged.{removed}
 use Rattle.tabled_settings.proofs.RemovedSpans.{removed_carried, removed_done}
 use Rattle.tabled_settings.proofs.disable.remove_located.Goals as goal
 

@@ -1,7 +1,4 @@
-use Rattle.std.proofs.Common.{arith, ◌≡◌, ◌∙◌, [], append-nil, map, refl, string_bytes, sym}
-use Rattle.std.proofs.lemmas.Grind.{common_steps}
-use Rattle.std.proofs.lemmas.List.{append_assoc, length-map, map-append, nil_from_length, take_all}
-use Rattle.std.specs.Vec.Iter.{into_iter_items}
+use Rattle.tabled_settings.proofs.Common.{[], ◌∙◌, ◌≡◌, append-nil, append_assoc, arith, common_steps, into_iter_items, length-map, map, map-append, nil_from_length, refl, string_bytes, sym, take_all}
 use Rattle.tabled_settings.proofs.Duplicated.{take-append-take}
 use Rattle.tabled_settings.proofs.duplicate.first_texts.Goals as goal
 

@@ -1,7 +1,4 @@
-use Rattle.std.proofs.Common.{◌≡◌, ◌≤◌, ◌++◌, length, map, string_bytes, take}
-use Rattle.std.specs.Vec.Iter.{into_iter_items}
-use Rattle.tabled_grid.specs.Grid.{map_grid}
-use Rattle.tabled_settings.specs.Dups.{source_texts}
+use Rattle.tabled_settings.proofs.Common.{◌++◌, ◌≡◌, ◌≤◌, into_iter_items, length, map, map_grid, source_texts, string_bytes, take}
 use Rattle.tabled_settings.proofs.duplicate.first_texts.Given as goal
 
 abbrev pub invariant-loop-entity : goal.invariant-loop-entity

@@ -1,5 +1,4 @@
-use Rattle.std.proofs.Common.{◌%◌, ◌∙◌, ℕ, ap, arith, sym}
-use Rattle.std.proofs.Math.Nat.{mod-eq_of_lt, mod_self}
+use Rattle.tabled_settings.proofs.Common.{◌%◌, ◌∙◌, ap, arith, mod-eq_of_lt, mod_self, sym, ℕ}
 use Rattle.tabled_settings.proofs.duplicate.index_after.Goals as goal
 
 pub returns-then-next-count-clause-next : goal.returns-then-next-count-clause-next

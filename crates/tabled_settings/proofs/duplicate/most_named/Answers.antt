@@ -1,12 +1,5 @@
-use Rattle.std.proofs.Common.{arith, ◌≡◌, ◌⊎◌, inl, inr, ◌<◌, ◌≤◌, ◌+◌, ℕ, List, length, get_or}
-use Rattle.std.proofs.lemmas.Bool.{cases_lt}
-use Rattle.std.proofs.lemmas.List.{get_or_default}
-use Rattle.std.proofs.lemmas.List.Elements.{recursion_from_All}
-use Rattle.tabled_grid.specs.Entity.{inside}
-use Rattle.tabled_grid.specs.declared.config.entity.Entity.{Entity}
-use Rattle.tabled_grid.specs.declared.config.entity.Entity.TheVariants.{Global}
+use Rattle.tabled_settings.proofs.Common.{◌+◌, ◌<◌, ◌≡◌, ◌≤◌, ◌⊎◌, Entity, Global, List, arith, cases_lt, get_or, get_or_default, inl, inr, inside, length, recursion_from_All, ℕ}
 use Rattle.tabled_settings.proofs.duplicate.most_named.Goals as goal
-use Rattle.tabled_settings.proofs.duplicate.most_named.Goals.{then-many-most, else-many-most}
 
 -- a bound on the counts of the first entities, and one on that of the next
 more : (entities : List Entity) (rows columns i most greater : ℕ) → ((k : ℕ) → k < i → length (inside (get_or entities k Global) rows columns) ≤ most) → most ≤ greater → length (inside (get_or entities i Global) rows columns) ≤ greater →
@@ -23,8 +16,8 @@ pub loop-entity-preserved : goal.loop-entity-preserved
 loop-entity-preserved c =
     let kept = more c.args.entities.now c.args.rows c.args.columns c.loop-entity.entity-index c.loop-entity.most c.if-many-most.most c.loop-entity.invariant in
     elim c.if-many-most.branch [
-      | then-many-most w ↦ kept (omega (arith, w.if-many-most.true, w.most-is)) (omega (arith, w.most-is, c.count_named-many.ensures))
-      | else-many-most w ↦ kept (omega (arith, w.most-is)) (omega (arith, w.if-many-most.false, w.most-is, c.count_named-many.ensures))
+      | goal.then-many-most w ↦ kept (omega (arith, w.if-many-most.true, w.most-is)) (omega (arith, w.most-is, c.count_named-many.ensures))
+      | goal.else-many-most w ↦ kept (omega (arith, w.most-is)) (omega (arith, w.if-many-most.false, w.most-is, c.count_named-many.ensures))
     ]
 
 pub returns : goal.returns

@@ -1,6 +1,4 @@
-use Rattle.std.proofs.Common.{ℕ, ◌<◌, ◌≤◌, get_or, length}
-use Rattle.tabled_grid.specs.Entity.{inside}
-use Rattle.tabled_grid.specs.declared.config.entity.Entity.TheVariants.{Global}
+use Rattle.tabled_settings.proofs.Common.{◌<◌, ◌≤◌, Global, get_or, inside, length, ℕ}
 use Rattle.tabled_settings.proofs.duplicate.most_named.Given as goal
 
 abbrev pub invariant-loop-entity : goal.invariant-loop-entity

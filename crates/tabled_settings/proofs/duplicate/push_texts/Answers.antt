@@ -1,7 +1,4 @@
-use Rattle.std.proofs.Common.{◌≡◌, ◌∙◌, append-nil, arith, map, refl, string_bytes, sym}
-use Rattle.std.proofs.lemmas.List.{append_assoc, length-append, length-map, map-append, take_all}
-use Rattle.tabled_grid.specs.Entity.{inside}
-use Rattle.tabled_grid.proofs.Places.{inside-within}
+use Rattle.tabled_settings.proofs.Common.{◌∙◌, ◌≡◌, append-nil, append_assoc, arith, inside, inside-within, length-append, length-map, map, map-append, refl, string_bytes, sym, take_all}
 use Rattle.tabled_settings.proofs.duplicate.push_texts.Goals as goal
 
 pub loop-pos-init : goal.loop-pos-init

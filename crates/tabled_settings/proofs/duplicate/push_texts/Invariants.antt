@@ -1,9 +1,4 @@
-use Rattle.std.proofs.Common.{◌≡◌, ◌<◌, ◌≤◌, ◌++◌, length, map, string_bytes, take}
-use Rattle.std.specs.List.{AllByRecursion}
-use Rattle.tabled_grid.specs.Entity.{inside}
-use Rattle.tabled_grid.specs.Grid.{map_grid}
-use Rattle.tabled_grid.specs.declared.config.position.Position.{Position}
-use Rattle.tabled_select.specs.Locators.{text_at}
+use Rattle.tabled_settings.proofs.Common.{◌++◌, ◌<◌, ◌≡◌, ◌≤◌, AllByRecursion, Position, inside, length, map, map_grid, string_bytes, take, text_at}
 use Rattle.tabled_settings.proofs.duplicate.push_texts.Given as goal
 
 abbrev pub invariant-loop-pos : goal.invariant-loop-pos

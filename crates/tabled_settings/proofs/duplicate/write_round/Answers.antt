@@ -1,11 +1,4 @@
-use Rattle.std.proofs.Common.{◌≡◌, ◌∙◌, ℕ, ◌+◌, ◌%◌, [], get_or, map, length, string_bytes, refl, sym, ap, ap₂}
-use Rattle.std.proofs.Math.Nat.{mod-add-mod, zero-mod}
-use Rattle.std.proofs.lemmas.List.{get_or-map, length-map}
-use Rattle.tabled_grid.specs.Entity.{inside}
-use Rattle.tabled_grid.specs.Grid.{map_grid, with_cell}
-use Rattle.tabled_grid.proofs.Places.{inside-within}
-use Rattle.tabled_options.proofs.Results.{on_err}
-use Rattle.tabled_options.proofs.Writes.{some-next, some-none}
+use Rattle.tabled_settings.proofs.Common.{[], ◌%◌, ◌+◌, ◌∙◌, ◌≡◌, ap, ap₂, get_or, get_or-map, inside, inside-within, length, length-map, map, map_grid, mod-add-mod, on_err, refl, some-next, some-none, string_bytes, sym, with_cell, zero-mod, ℕ}
 use Rattle.tabled_settings.proofs.duplicate.write_round.Goals as goal
 
 pub loop-pos-init : goal.loop-pos-init

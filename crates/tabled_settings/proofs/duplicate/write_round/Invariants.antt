@@ -1,10 +1,4 @@
-use Rattle.std.proofs.Common.{◌≡◌, ◌<◌, ◌%◌, ℕ, List, length, map, string_bytes}
-use Rattle.std.specs.List.{AllByRecursion}
-use Rattle.tabled_grid.specs.Entity.{inside}
-use Rattle.tabled_grid.specs.Grid.{Grid, map_grid}
-use Rattle.tabled_grid.specs.declared.config.position.Position.{Position}
-use Rattle.tabled_settings.specs.Dups.{round_from}
-use Rattle.tabled_options.specs.Writes.{FirstWrites, with_writes}
+use Rattle.tabled_settings.proofs.Common.{◌%◌, ◌<◌, ◌≡◌, AllByRecursion, FirstWrites, Grid, List, Position, inside, length, map, map_grid, round_from, string_bytes, with_writes, ℕ}
 use Rattle.tabled_settings.proofs.duplicate.write_round.Given as goal
 
 abbrev pub invariant-loop-pos : goal.invariant-loop-pos

@@ -1,11 +1,4 @@
-use Rattle.std.proofs.Common.{◌∙◌, map, string_bytes, sym, ap, ap₂, subst}
-use Rattle.std.specs.Vec.Iter.{into_iter_items}
-use Rattle.tabled_grid.specs.Entity.{inside}
-use Rattle.tabled_grid.specs.Grid.{map_grid}
-use Rattle.tabled_settings.specs.Dups.{round_from, round_writes}
-use Rattle.tabled_options.specs.Writes.{FirstWrites, with_writes}
-use Rattle.tabled_options.proofs.Results.{on_err}
-use Rattle.tabled_options.proofs.Writes.{some-first, some-later, writes-append}
+use Rattle.tabled_settings.proofs.Common.{◌∙◌, FirstWrites, ap, ap₂, inside, into_iter_items, map, map_grid, on_err, round_from, round_writes, some-first, some-later, string_bytes, subst, sym, with_writes, writes-append}
 use Rattle.tabled_settings.proofs.duplicate.write_rounds.Goals as goal
 
 pub loop-entity-preserved : goal.loop-entity-preserved

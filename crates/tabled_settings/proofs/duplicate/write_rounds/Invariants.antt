@@ -1,8 +1,4 @@
-use Rattle.std.proofs.Common.{◌≡◌, ℕ, List, length, map, string_bytes}
-use Rattle.std.specs.Vec.Iter.{into_iter_items}
-use Rattle.tabled_grid.specs.Grid.{Grid, map_grid}
-use Rattle.tabled_settings.specs.Dups.{round_writes}
-use Rattle.tabled_options.specs.Writes.{FirstWrites, with_writes}
+use Rattle.tabled_settings.proofs.Common.{◌≡◌, FirstWrites, Grid, List, into_iter_items, length, map, map_grid, round_writes, string_bytes, with_writes, ℕ}
 use Rattle.tabled_settings.proofs.duplicate.write_rounds.Given as goal
 
 abbrev pub invariant-loop-entity : goal.invariant-loop-entity

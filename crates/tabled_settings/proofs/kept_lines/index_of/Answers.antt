@@ -1,4 +1,4 @@
-use Rattle.std.proofs.Common.{◌∙◌, Some, ap, sym}
+use Rattle.tabled_settings.proofs.Common.{◌∙◌, Some, ap, sym}
 use Rattle.tabled_settings.proofs.RisingLists.{one_index, search_finds}
 use Rattle.tabled_settings.proofs.kept_lines.index_of.Goals as goal
 

@@ -1,6 +1,4 @@
-use Rattle.std.proofs.Common.{◌≡◌}
-use Rattle.tabled_settings.specs.Lines.{is_marked}
-use Rattle.tabled_settings.specs.Rearranged.{left_over}
+use Rattle.tabled_settings.proofs.Common.{◌≡◌, is_marked, left_over}
 use Rattle.tabled_settings.proofs.kept_lines.unmarked.Given as goal
 
 abbrev pub invariant-loop-index : goal.invariant-loop-index

@@ -1,6 +1,4 @@
-use Rattle.tabled_grid.specs.declared.config.entity.Entity.TheVariants.{Global}
-use Rattle.tabled_settings.specs.Charsets.{charset_writes}
-use Rattle.tabled_options.proofs.Shapes.{writes_keep}
+use Rattle.tabled_settings.proofs.Common.{Global, charset_writes, writes_keep}
 use Rattle.tabled_settings.proofs.laws.charsets_keep_merged_cells_fitting.Goals as goal
 
 pub returns : goal.returns

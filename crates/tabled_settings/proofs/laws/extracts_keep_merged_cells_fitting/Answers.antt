@@ -1,5 +1,5 @@
 use Rattle.tabled_settings.proofs.RearrangedFits.{rearranged_keeps}
-use Rattle.tabled_settings.specs.Rearranged.{extracted}
+use Rattle.tabled_settings.proofs.Common.{extracted}
 use Rattle.tabled_settings.proofs.laws.extracts_keep_merged_cells_fitting.Goals as goal
 
 pub returns : goal.returns

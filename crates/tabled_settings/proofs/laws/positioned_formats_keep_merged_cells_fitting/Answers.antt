@@ -1,4 +1,4 @@
-use Rattle.tabled_grid.specs.declared.config.entity.Entity.TheVariants.{Global}
+use Rattle.tabled_settings.proofs.Common.{Global}
 use Rattle.tabled_settings.proofs.WritersKeep.{rewrites_keep}
 use Rattle.tabled_settings.proofs.laws.positioned_formats_keep_merged_cells_fitting.Goals as goal
 

@@ -1,5 +1,5 @@
 use Rattle.tabled_settings.proofs.RearrangedFits.{rearranged_keeps}
-use Rattle.tabled_settings.specs.Rearranged.{rotated}
+use Rattle.tabled_settings.proofs.Common.{rotated}
 use Rattle.tabled_settings.proofs.laws.rotations_keep_merged_cells_fitting.Goals as goal
 
 pub returns : goal.returns

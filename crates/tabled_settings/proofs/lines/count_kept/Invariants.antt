@@ -1,6 +1,4 @@
-use Rattle.std.proofs.Common.{◌≡◌, ◌≤◌, length}
-use Rattle.tabled_settings.specs.Lines.{is_marked}
-use Rattle.tabled_settings.specs.Rearranged.{left_over}
+use Rattle.tabled_settings.proofs.Common.{◌≡◌, ◌≤◌, is_marked, left_over, length}
 use Rattle.tabled_settings.proofs.lines.count_kept.Given as goal
 
 abbrev pub invariant-loop-i : goal.invariant-loop-i

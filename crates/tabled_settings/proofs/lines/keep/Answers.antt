@@ -1,13 +1,8 @@
-use Rattle.std.proofs.Common.{◌≡◌, ◌≤◌, ◌<◌, ◌+◌, ◌-◌, ℕ, min, refl, subst, sym, arith}
-use Rattle.std.specs.List.{range_with_len}
-use Rattle.std.proofs.lemmas.List.FromFn.{get_or-range_with_len, length-range_with_len}
-use Rattle.tabled_grid.specs.Along.{count_along}
-use Rattle.tabled_grid.proofs.PiecesPut.{same_count}
-use Rattle.tabled_settings.specs.Lines.{BringsLines}
+use Rattle.tabled_settings.proofs.Common.{◌+◌, ◌-◌, ◌<◌, ◌≡◌, ◌≤◌, BringsLines, arith, count_along, get_or-range_with_len, length-range_with_len, range_with_len, refl, same_count, subst, sym, ℕ}
+use Rattle.std.proofs.Common.{min}
 use Rattle.tabled_settings.proofs.Kept.{brings_more, brings_none, front_brought, kept_all}
 use Rattle.tabled_settings.proofs.RisingLists.{range_rises}
 use Rattle.tabled_settings.proofs.lines.keep.Goals as goal
-use Rattle.tabled_settings.proofs.lines.keep.Goals.{then-range-gt0, else-range-gt0}
 
 pub loop-k-init : goal.loop-k-init
 loop-k-init g c = record { well = c.requires.well; brings = brings_none _ _ _ (g.R.GridStore.even _ c.requires.well) }
@@ -18,7 +13,7 @@ loop-k-preserved g c =
     let n = min c.args.range.end (count_along c.args.axis (g.R.GridStore.grid c.args.records.now)) - s in
     let i = c.loop-k.invariant in
     let same = same_count c.args.axis (g.R.GridStore.grid c.args.records.now) (g.R.GridStore.grid c.loop-k.records) i.brings.shape in
-    let few : c.if-range-gt0.moved ≤ c.count_in-kept.result = elim c.if-range-gt0.branch [ then-range-gt0 w ↦ omega (arith, w.moved-is) | else-range-gt0 w ↦ omega (arith, w.moved-is) ] in
+    let few : c.if-range-gt0.moved ≤ c.count_in-kept.result = elim c.if-range-gt0.branch [ goal.then-range-gt0 w ↦ omega (arith, w.moved-is) | goal.else-range-gt0 w ↦ omega (arith, w.moved-is) ] in
     let here : c.loop-k.k < n = omega (arith, few, c.loop-k-test.true, c.count_in-kept.ensures, c.count.ensures.count) in
     record {
       well = c.swap.ensures.well;
@@ -35,10 +30,10 @@ returns-clause-kept g c =
     let m = c.count_in-kept.result in
     let many : m ≡ n = omega (arith, c.count_in-kept.ensures, c.count.ensures.count) in
     let brought : BringsLines c.args.axis (range_with_len s n) m old cur = elim c.if-range-gt0.branch [
-      | then-range-gt0 w ↦
+      | goal.then-range-gt0 w ↦
           let all : c.loop-k.k ≡ m = omega (arith, w.moved-is, c.loop-k-test.false, c.loop-k.auto.k-end) in
           subst (λ (k : ℕ). BringsLines c.args.axis (range_with_len s n) k old cur) all b
-      | else-range-gt0 w ↦
+      | goal.else-range-gt0 w ↦
           let none : c.loop-k.k ≡ 0 = omega (arith, w.moved-is, c.loop-k-test.false, c.loop-k.auto.k-end) in
           front_brought c.args.axis s n m old cur (omega (arith, many)) (omega (arith, w.if-range-gt0.false)) (subst (λ (k : ℕ). BringsLines c.args.axis (range_with_len s n) k old cur) none b)
     ] in

@@ -1,5 +1,4 @@
-use Rattle.tabled_grid.specs.Along.{count_along}
-use Rattle.tabled_settings.specs.Lines.{BringsLines, indexes_in}
+use Rattle.tabled_settings.proofs.Common.{BringsLines, count_along, indexes_in}
 use Rattle.tabled_settings.proofs.lines.keep.Given as goal
 
 abbrev pub invariant-loop-k : goal.invariant-loop-k

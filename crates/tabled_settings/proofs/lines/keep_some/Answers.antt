@@ -1,7 +1,6 @@
-use Rattle.std.proofs.Common.{◌≡◌, ◌+◌, length, get_or, refl, arith}
+use Rattle.tabled_settings.proofs.Common.{◌+◌, ◌≡◌, arith, get_or, length, refl, same_count}
 use Rattle.tabled_settings.proofs.Kept.{brings_more, brings_none, kept_all}
 use Rattle.tabled_settings.proofs.RisingLists.{index_within, length_within}
-use Rattle.tabled_grid.proofs.PiecesPut.{same_count}
 use Rattle.tabled_settings.proofs.lines.keep_some.Goals as goal
 
 pub loop-k-init : goal.loop-k-init

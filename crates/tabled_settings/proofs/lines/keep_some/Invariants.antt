@@ -1,4 +1,4 @@
-use Rattle.tabled_settings.specs.Lines.{BringsLines}
+use Rattle.tabled_settings.proofs.Common.{BringsLines}
 use Rattle.tabled_settings.proofs.lines.keep_some.Given as goal
 
 abbrev pub invariant-loop-k : goal.invariant-loop-k

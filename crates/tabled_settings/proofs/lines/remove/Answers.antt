@@ -1,8 +1,4 @@
-use Rattle.std.proofs.Common.{◌≤◌, arith, length}
-use Rattle.tabled_grid.specs.Along.{count_along}
-use Rattle.tabled_grid.proofs.PiecesPut.{same_count}
-use Rattle.tabled_settings.specs.Lines.{is_marked}
-use Rattle.tabled_settings.specs.Rearranged.{left_over}
+use Rattle.tabled_settings.proofs.Common.{◌≤◌, arith, count_along, is_marked, left_over, length, same_count}
 use Rattle.tabled_settings.proofs.Dropped.{left_few}
 use Rattle.tabled_settings.proofs.Kept.{kept_all}
 use Rattle.tabled_settings.proofs.lines.remove.Goals as goal

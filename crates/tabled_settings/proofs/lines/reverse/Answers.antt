@@ -1,9 +1,4 @@
-use Rattle.std.proofs.Common.{◌≡◌, ◌≤◌, ℕ, subst, ◌+◌, ◌-◌, ◌/◌, ◌∙◌, ap₂, arith, refl}
-use Rattle.tabled_grid.specs.Entity.{place}
-use Rattle.tabled_grid.specs.Resized.{with_cells_swapped}
-use Rattle.tabled_grid.specs.declared.config.position.Position.{Position}
-use Rattle.tabled_grid.specs.declared.records.axis.Axis.TheVariants.{Rows, Columns}
-use Rattle.tabled_grid.proofs.PiecesPut.{same_count}
+use Rattle.tabled_settings.proofs.Common.{◌+◌, ◌-◌, ◌/◌, ◌∙◌, ◌≡◌, ◌≤◌, Columns, Position, Rows, ap₂, arith, place, refl, same_count, subst, with_cells_swapped, ℕ}
 use Rattle.tabled_settings.proofs.Reversed.{ends, ends_all, ends_more, ends_next, ends_none, ends_of_rows, ends_start}
 use Rattle.tabled_settings.proofs.RowByRow.{Underway, underway-all, underway-more, underway-next, underway-none}
 use Rattle.tabled_settings.proofs.lines.reverse.Goals as goal

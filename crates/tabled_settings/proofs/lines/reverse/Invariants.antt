@@ -1,5 +1,4 @@
-use Rattle.tabled_grid.specs.declared.records.axis.Axis.TheVariants.{Rows}
-use Rattle.tabled_settings.specs.Lines.{ReversesEnds}
+use Rattle.tabled_settings.proofs.Common.{ReversesEnds, Rows}
 use Rattle.tabled_settings.proofs.Reversed.{ends}
 use Rattle.tabled_settings.proofs.RowByRow.{Underway}
 use Rattle.tabled_settings.proofs.lines.reverse.Given as goal

@@ -1,17 +1,9 @@
-use Rattle.std.proofs.Common.{◌≡◌, ℕ, ◌+◌, ◌∙◌, ap, ap₂, arith, get_or, length, refl, subst, sym}
-use Rattle.tabled_grid.specs.Entity.{place}
-use Rattle.tabled_grid.specs.Resized.{with_cells_swapped}
-use Rattle.tabled_grid.specs.declared.config.position.Position.{Position}
-use Rattle.tabled_grid.specs.declared.records.axis.Axis.TheVariants.{Rows}
-use Rattle.tabled_grid.proofs.PiecesPut.{same_count}
-use Rattle.tabled_settings.specs.Lines.{is_marked}
-use Rattle.tabled_settings.specs.Rearranged.{left_over}
+use Rattle.tabled_settings.proofs.Common.{◌+◌, ◌∙◌, ◌≡◌, Position, Rows, ap, ap₂, arith, get_or, is_marked, left_over, length, place, refl, same_count, subst, sym, with_cells_swapped, ℕ}
 use Rattle.tabled_settings.proofs.Dropped.{left_at, left_more_gone, left_more_kept, thinned, thinned-gone, thinned-kept, thinned-none, thinned_rows}
 use Rattle.tabled_settings.proofs.Kept.{brings_more, brings_none}
 use Rattle.tabled_settings.proofs.RisingLists.{left_rises}
 use Rattle.tabled_settings.proofs.RowByRow.{Underway, underway-all, underway-more, underway-next, underway-none, underway-skip}
 use Rattle.tabled_settings.proofs.lines.thin.Goals as goal
-use Rattle.tabled_settings.proofs.lines.thin.Goals.{then-not-is_marked, else-not-is_marked, then-not-is_marked-2, else-not-is_marked-2}
 
 pub loop-i-init : goal.loop-i-init
 loop-i-init g c = record { well = c.requires.well; brings = brings_none _ _ _ (g.R.GridStore.even _ c.requires.well); many = refl; few = omega arith }
@@ -26,7 +18,7 @@ loop-i-preserved g c =
     let u = c.loop-i.invariant in
     let same = same_count Rows (g.R.GridStore.grid c.args.records.now) (g.R.GridStore.grid c.loop-i.records) u.brings.shape in
     elim c.if-not-is_marked.branch [
-      | then-not-is_marked w ↦ (
+      | goal.then-not-is_marked w ↦ (
           let stays = sym c.is_marked.ensures ∙ w.if-not-is_marked.true in
           let next = left_at test i n c.loop-i-test.true stays in
           rw (w.records-is, w.kept-is) (record {
@@ -36,7 +28,7 @@ loop-i-preserved g c =
             few = omega (arith, u.few);
           })
           )
-      | else-not-is_marked w ↦ rw (w.records-is, w.kept-is) (record {
+      | goal.else-not-is_marked w ↦ rw (w.records-is, w.kept-is) (record {
         well = u.well;
         brings = u.brings;
         many = u.many ∙ sym (left_more_gone test i (sym c.is_marked.ensures ∙ w.if-not-is_marked.false));
@@ -68,7 +60,7 @@ loop-j-preserved g c =
     let u = c.loop-j.invariant in
     let cur = g.R.GridStore.grid c.loop-j.records in
     elim c.if-not-is_marked-2.branch [
-      | then-not-is_marked-2 w ↦ (
+      | goal.then-not-is_marked-2 w ↦ (
           let stays = sym c.is_marked-in-loop-j.ensures ∙ w.if-not-is_marked-2.true in
           let left : w.new.result ≡ place i k = ap₂ place w.new.ensures.row w.new.ensures.col in
           let right : w.new-then-not-is_marked-2.result ≡ place i j = ap₂ place w.new-then-not-is_marked-2.ensures.row w.new-then-not-is_marked-2.ensures.col in
@@ -79,7 +71,7 @@ loop-j-preserved g c =
             few = omega (arith, u.few);
           })
           )
-      | else-not-is_marked-2 w ↦ (
+      | goal.else-not-is_marked-2 w ↦ (
           let gone = sym c.is_marked-in-loop-j.ensures ∙ w.if-not-is_marked-2.false in
           rw (w.records-is, w.kept-is) (record {
             well = u.well;

@@ -1,7 +1,4 @@
-use Rattle.std.proofs.Common.{◌≡◌, ◌≤◌, length}
-use Rattle.tabled_grid.specs.declared.records.axis.Axis.TheVariants.{Rows}
-use Rattle.tabled_settings.specs.Lines.{BringsLines, is_marked}
-use Rattle.tabled_settings.specs.Rearranged.{left_over}
+use Rattle.tabled_settings.proofs.Common.{◌≡◌, ◌≤◌, BringsLines, Rows, is_marked, left_over, length}
 use Rattle.tabled_settings.proofs.Dropped.{thinned}
 use Rattle.tabled_settings.proofs.RowByRow.{Underway}
 use Rattle.tabled_settings.proofs.lines.thin.Given as goal

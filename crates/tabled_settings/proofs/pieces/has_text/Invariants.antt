@@ -1,7 +1,4 @@
-use Rattle.std.proofs.Common.{◌≡◌, ℕ, ◌<◌, ◌≤◌, false}
-use Rattle.tabled_grid.specs.Axis.{place_in}
-use Rattle.tabled_grid.specs.Grid.{map_grid}
-use Rattle.tabled_settings.specs.PieceTexts.{has_text}
+use Rattle.tabled_settings.proofs.Common.{◌<◌, ◌≡◌, ◌≤◌, false, has_text, map_grid, place_in, ℕ}
 use Rattle.tabled_settings.proofs.pieces.has_text.Given as goal
 
 abbrev pub invariant-loop-cell : goal.invariant-loop-cell

@@ -1,15 +1,13 @@
-use Rattle.std.proofs.Common.{◌≡◌, ℕ, ◌+◌, ◌*◌, ◌∙◌, ap, arith, refl, sym}
-use Rattle.std.specs.Int.{div_ceil}
+use Rattle.tabled_settings.proofs.Common.{◌*◌, ◌+◌, ◌∙◌, ◌≡◌, ap, arith, div_ceil, refl, sym, ℕ}
 use Rattle.tabled_settings.proofs.PieceReads.{filter_push, filter_skip}
 use Rattle.tabled_settings.proofs.PiecesDone.{can_be_cut, staying_is}
 use Rattle.tabled_settings.proofs.pieces.kept_pieces.Goals as goal
-use Rattle.tabled_settings.proofs.pieces.kept_pieces.Goals.{then-stays+in_ok-push, else-stays}
 
 pub loop-nth-preserved : goal.loop-nth-preserved
 loop-nth-preserved g c =
     elim c.if-stays.branch [
-      | then-stays+in_ok-push w ↦ rw w.kept-is (filter_push _ c.loop-nth.nth (c.loop-nth.nth + 1) _ _ refl (sym c.stays.ensures ∙ w.if-stays.true) c.loop-nth.invariant w.in_ok-push.ensures.items)
-      | else-stays w ↦ rw w.kept-is (filter_skip _ c.loop-nth.nth (c.loop-nth.nth + 1) _ refl (sym c.stays.ensures ∙ w.if-stays.false) c.loop-nth.invariant)
+      | goal.then-stays+in_ok-push w ↦ rw w.kept-is (filter_push _ c.loop-nth.nth (c.loop-nth.nth + 1) _ _ refl (sym c.stays.ensures ∙ w.if-stays.true) c.loop-nth.invariant w.in_ok-push.ensures.items)
+      | goal.else-stays w ↦ rw w.kept-is (filter_skip _ c.loop-nth.nth (c.loop-nth.nth + 1) _ refl (sym c.stays.ensures ∙ w.if-stays.false) c.loop-nth.invariant)
     ]
 
 pub returns : goal.returns

@@ -1,8 +1,4 @@
-use Rattle.std.proofs.Common.{◌≡◌}
-use Rattle.std.specs.Int.{div_ceil}
-use Rattle.std.specs.List.{filter, range_with_len}
-use Rattle.tabled_grid.specs.Grid.{map_grid}
-use Rattle.tabled_settings.specs.Pieces.{stays_at, oriented}
+use Rattle.tabled_settings.proofs.Common.{◌≡◌, div_ceil, filter, map_grid, oriented, range_with_len, stays_at}
 use Rattle.tabled_settings.proofs.pieces.kept_pieces.Given as goal
 
 abbrev pub invariant-loop-nth : goal.invariant-loop-nth

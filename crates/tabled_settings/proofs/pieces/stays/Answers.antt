@@ -1,4 +1,4 @@
-use Rattle.std.proofs.Common.{◌∙◌, eq-eqb, sym}
+use Rattle.tabled_settings.proofs.Common.{◌∙◌, eq-eqb, sym}
 use Rattle.tabled_settings.proofs.PiecesDone.{can_be_cut, first_stays, others_stay}
 use Rattle.tabled_settings.proofs.pieces.stays.Goals as goal
 

@@ -1,10 +1,5 @@
-use Rattle.std.proofs.Common.{◌≡◌, ◌∙◌, [], ◌∷◌, refl}
-use Rattle.std.proofs.lemmas.List.{append_assoc}
-use Rattle.tabled_grid.specs.Entity.{inside}
-use Rattle.tabled_grid.specs.Grid.{map_grid}
-use Rattle.tabled_grid.proofs.Places.{inside-within}
+use Rattle.tabled_settings.proofs.Common.{[], ◌∙◌, ◌∷◌, ◌≡◌, append_assoc, inside, inside-within, map_grid, on_err, refl}
 use Rattle.tabled_settings.proofs.Rewriting.{inside-apart, rewritten-all, rewritten-kept, rewritten-more, rewritten-none, rewritten-until, same-texts, untouched}
-use Rattle.tabled_options.proofs.Results.{on_err}
 use Rattle.tabled_settings.proofs.rewrite.rewrite.Goals as goal
 
 pub loop-pos-init : goal.loop-pos-init

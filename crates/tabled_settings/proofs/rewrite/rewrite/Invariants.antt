@@ -1,9 +1,4 @@
-use Rattle.std.proofs.Common.{◌≡◌, ◌<◌, ◌++◌}
-use Rattle.std.specs.List.{AllByRecursion}
-use Rattle.tabled_grid.specs.Entity.{inside}
-use Rattle.tabled_grid.specs.Grid.{map_grid}
-use Rattle.tabled_grid.specs.declared.config.position.Position.{Position}
-use Rattle.tabled_select.specs.Locators.{text_at}
+use Rattle.tabled_settings.proofs.Common.{◌++◌, ◌<◌, ◌≡◌, AllByRecursion, Position, inside, map_grid, text_at}
 use Rattle.tabled_settings.proofs.Rewriting.{Apart, Rewritten}
 use Rattle.tabled_settings.proofs.rewrite.rewrite.Given as goal
 

@@ -1,4 +1,4 @@
-use Rattle.tabled_grid.specs.declared.records.axis.Axis.TheVariants.{Rows}
+use Rattle.tabled_spans.proofs.Common.{Rows}
 use Rattle.tabled_spans.proofs.PanelGeometry.{panels_fit, same_fits}
 use Rattle.tabled_spans.proofs.laws.footers_keep_merged_cells_fitting.Goals as goal
 

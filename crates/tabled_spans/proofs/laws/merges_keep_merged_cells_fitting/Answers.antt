@@ -1,5 +1,4 @@
-use Rattle.tabled_grid.specs.Grid.{map_grid}
-use Rattle.tabled_grid.specs.declared.records.axis.Axis.TheVariants.{Columns, Rows}
+use Rattle.tabled_spans.proofs.Common.{Columns, Rows, map_grid}
 use Rattle.tabled_spans.proofs.MergeGeometry.{fits_merged}
 use Rattle.tabled_spans.proofs.PanelGeometry.{same_fits}
 use Rattle.tabled_spans.proofs.laws.merges_keep_merged_cells_fitting.Goals as goal

@@ -1,6 +1,4 @@
-use Rattle.tabled_grid.specs.Fitting.{Fits}
-use Rattle.tabled_grid.specs.declared.records.axis.Axis.TheVariants.{Rows, Columns}
-use Rattle.tabled_spans.specs.Spanned.{IsFlat}
+use Rattle.tabled_spans.proofs.Common.{Columns, Fits, IsFlat, Rows}
 use Rattle.tabled_spans.proofs.SpanGeometry.{flat_spanned, option_keeps}
 use Rattle.tabled_spans.proofs.laws.spans_along_lines_fit.Goals as goal
 

@@ -1,5 +1,4 @@
-use Rattle.tabled_grid.specs.Fitting.{Fits}
-use Rattle.tabled_grid.specs.declared.records.axis.Axis.TheVariants.{Rows, Columns}
+use Rattle.tabled_spans.proofs.Common.{Columns, Fits, Rows}
 use Rattle.tabled_spans.proofs.SpanGeometry.{fits_spanned, option_keeps}
 use Rattle.tabled_spans.proofs.laws.spans_of_size_1_or_more_fit.Goals as goal
 

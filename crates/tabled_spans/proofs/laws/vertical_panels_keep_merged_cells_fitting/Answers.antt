@@ -1,4 +1,4 @@
-use Rattle.tabled_grid.specs.declared.records.axis.Axis.TheVariants.{Columns}
+use Rattle.tabled_spans.proofs.Common.{Columns}
 use Rattle.tabled_spans.proofs.PanelGeometry.{panels_fit, same_fits}
 use Rattle.tabled_spans.proofs.laws.vertical_panels_keep_merged_cells_fitting.Goals as goal
 

@@ -1,7 +1,4 @@
-use Rattle.std.proofs.Common.{◌≡◌, ◌∙◌, ap, sym, subst}
-use Rattle.tabled_grid.specs.Grid.{map_grid}
-use Rattle.tabled_grid.specs.Spans.{with_sizes}
-use Rattle.tabled_spans.specs.Runs.{MergesRuns}
+use Rattle.tabled_spans.proofs.Common.{◌∙◌, ◌≡◌, MergesRuns, ap, map_grid, subst, sym, with_sizes}
 use Rattle.tabled_spans.proofs.RunLists.{runs_merged}
 use Rattle.tabled_spans.proofs.merge.merge_runs.Goals as goal
 

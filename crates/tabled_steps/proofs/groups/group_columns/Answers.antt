@@ -1,13 +1,5 @@
-use Rattle.std.proofs.Common.{◌≡◌, ◌-◌, ◌≤◌, ◌^◌, ◌++◌, inr, ℕ, map, max, min, ap, ap₂, sym, subst, ◌∙◌, arith}
-use Rattle.std.specs.declared.ops.Bound.TheVariants.{Excluded, Included}
-use Rattle.std.specs.declared.ops.Range.{Range}
-use Rattle.std.specs.List.{range_with_len}
-use Rattle.tabled_grid.specs.Bounds.{indexes}
-use Rattle.tabled_grid.specs.declared.config.entity.Entity.TheVariants.{Column}
-use Rattle.tabled_select.specs.Selectors.{columns_of}
-use Rattle.std.proofs.lemmas.Result.{IfOk-weaker}
+use Rattle.tabled_steps.proofs.Common.{◌++◌, ◌-◌, ◌^◌, ◌∙◌, ◌≡◌, ◌≤◌, AreGroups, Column, Excluded, IfOk-weaker, Included, Range, ap, ap₂, arith, columns_of, groups_outside, indexes, inr, map, max, min, once, range_with_len, subst, sym, ℕ}
 use Rattle.tabled_steps.proofs.Outside.{grouped-columns}
-use Rattle.tabled_steps.specs.Groups.{AreGroups, once, groups_outside}
 use Rattle.tabled_steps.proofs.groups.group_columns.Goals as goal
 
 pub returns : goal.returns

@@ -1,13 +1,5 @@
-use Rattle.std.proofs.Common.{◌≡◌, ◌-◌, ◌≤◌, ◌^◌, ◌++◌, inl, ℕ, map, max, min, ap, ap₂, sym, subst, ◌∙◌, arith}
-use Rattle.std.specs.declared.ops.Bound.TheVariants.{Excluded, Included}
-use Rattle.std.specs.declared.ops.Range.{Range}
-use Rattle.std.specs.List.{range_with_len}
-use Rattle.tabled_grid.specs.Bounds.{indexes}
-use Rattle.tabled_grid.specs.declared.config.entity.Entity.TheVariants.{Row}
-use Rattle.tabled_select.specs.Selectors.{rows_of}
-use Rattle.std.proofs.lemmas.Result.{IfOk-weaker}
+use Rattle.tabled_steps.proofs.Common.{◌++◌, ◌-◌, ◌^◌, ◌∙◌, ◌≡◌, ◌≤◌, AreGroups, Excluded, IfOk-weaker, Included, Range, Row, ap, ap₂, arith, groups_outside, indexes, inl, map, max, min, once, range_with_len, rows_of, subst, sym, ℕ}
 use Rattle.tabled_steps.proofs.Outside.{grouped-rows}
-use Rattle.tabled_steps.specs.Groups.{AreGroups, once, groups_outside}
 use Rattle.tabled_steps.proofs.groups.group_rows.Goals as goal
 
 pub returns : goal.returns

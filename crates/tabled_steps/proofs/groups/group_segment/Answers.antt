@@ -1,11 +1,6 @@
-use Rattle.std.proofs.Common.{◌-◌, ◌≤◌, ◌^◌, inl, inr, ℕ, map, min, ap, sym, subst, ◌∙◌, arith}
-use Rattle.std.specs.declared.ops.Range.{Range}
-use Rattle.tabled_grid.specs.Entity.{block}
-use Rattle.tabled_select.specs.Algebra.{cells_of}
+use Rattle.tabled_steps.proofs.Common.{◌-◌, ◌^◌, ◌∙◌, ◌≤◌, AreGroups, Range, ap, arith, block, cells_of, inl, inr, map, min, once, segment_cells, subst, sym, ℕ}
 use Rattle.tabled_steps.proofs.Outside.{each_once, segment_at}
-use Rattle.tabled_steps.specs.Groups.{AreGroups, once, segment_cells}
 use Rattle.tabled_steps.proofs.groups.group_segment.Goals as goal
-use Rattle.tabled_steps.proofs.groups.group_segment.Goals.{then-columns-within, else-columns-within}
 
 pub returns-then-columns-all_columns : goal.returns-then-columns-all_columns
 returns-then-columns-all_columns g c =
@@ -21,7 +16,7 @@ returns g c =
     let within = c.min-within.ensures ∙ ap (min c.args.columns.1) c.count_columns-all_columns.ensures.columns in
     segment_at grid.rows grid.columns (inl low) c.args.rows c.args.columns c.if-columns-within.rows_within c.min-within.result c.in_ok-segment_parts.field-0.items within
     (elim c.if-columns-within.branch [
-      | then-columns-within w ↦ inl (w.if-columns-within.true, w.rows_within-is ∙ w.min-rows_within.ensures ∙ ap (min c.args.rows.1) counted)
-      | else-columns-within w ↦ inr (w.if-columns-within.false, w.rows_within-is)
+      | goal.then-columns-within w ↦ inl (w.if-columns-within.true, w.rows_within-is ∙ w.min-rows_within.ensures ∙ ap (min c.args.rows.1) counted)
+      | goal.else-columns-within w ↦ inr (w.if-columns-within.false, w.rows_within-is)
     ])
     c.in_ok-segment_parts.ensures

@@ -1,5 +1,4 @@
-use Rattle.std.proofs.Common.{◌≡◌, ◌-◌, arith}
-use Rattle.std.proofs.lemmas.Result.{on_ok_weaker}
+use Rattle.tabled_steps.proofs.Common.{◌-◌, ◌≡◌, arith, on_ok_weaker}
 use Rattle.tabled_steps.proofs.Outside.{row_end, row_more}
 use Rattle.tabled_steps.proofs.groups.push_row.Goals as goal
 

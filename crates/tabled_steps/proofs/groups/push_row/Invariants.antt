@@ -1,8 +1,4 @@
-use Rattle.std.proofs.Common.{◌≡◌, ◌≤◌, max, ◌++◌, ◌-◌, map}
-use Rattle.std.specs.List.{range_with_len}
-use Rattle.tabled_grid.specs.Entity.{place}
-use Rattle.tabled_select.specs.Algebra.{cells_of}
-use Rattle.tabled_steps.specs.Groups.{once}
+use Rattle.tabled_steps.proofs.Common.{◌++◌, ◌-◌, ◌≡◌, ◌≤◌, cells_of, map, max, once, place, range_with_len}
 use Rattle.tabled_steps.proofs.groups.push_row.Given as goal
 
 abbrev pub invariant-loop-j : goal.invariant-loop-j

@@ -1,6 +1,4 @@
-use Rattle.std.proofs.Common.{◌≡◌, ◌++◌, length}
-use Rattle.std.specs.Vec.Iter.{into_iter_items, into_iter_len}
-use Rattle.tabled_steps.specs.Groups.{representatives_of}
+use Rattle.tabled_steps.proofs.Common.{◌++◌, ◌≡◌, into_iter_items, into_iter_len, length, representatives_of}
 use Rattle.tabled_steps.proofs.groups.representatives.Given as goal
 
 abbrev pub invariant-loop-group : goal.invariant-loop-group

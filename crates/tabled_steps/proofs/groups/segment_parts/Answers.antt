@@ -1,6 +1,5 @@
-use Rattle.std.proofs.Common.{◌≡◌, ◌-◌, ◌*◌, ◌∙◌, ap, ap₂, arith}
+use Rattle.tabled_steps.proofs.Common.{◌*◌, ◌-◌, ◌∙◌, ◌≡◌, ap, ap₂, arith, row_groups}
 use Rattle.tabled_steps.proofs.Outside.{rows_end, rows_more}
-use Rattle.tabled_steps.specs.Groups.{row_groups}
 use Rattle.tabled_steps.proofs.groups.segment_parts.Goals as goal
 
 pub loop-i-preserved : goal.loop-i-preserved

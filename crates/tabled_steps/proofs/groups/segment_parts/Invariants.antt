@@ -1,6 +1,4 @@
-use Rattle.std.proofs.Common.{◌≡◌, ◌≤◌, max, ◌-◌}
-use Rattle.std.specs.List.{flat_map, range_with_len}
-use Rattle.tabled_steps.specs.Groups.{row_groups}
+use Rattle.tabled_steps.proofs.Common.{◌-◌, ◌≡◌, ◌≤◌, flat_map, max, range_with_len, row_groups}
 use Rattle.tabled_steps.proofs.groups.segment_parts.Given as goal
 
 abbrev pub invariant-loop-i : goal.invariant-loop-i

@@ -1,5 +1,4 @@
-use Rattle.std.proofs.Common.{◌-◌, ◌≤◌, ◌∙◌, ap, sym, refl, arith, rules, length, drop}
-use Rattle.tabled_steps.specs.declared.groups.Group.{Group}
+use Rattle.tabled_steps.proofs.Common.{◌-◌, ◌∙◌, ◌≤◌, Group, ap, arith, drop, length, refl, rules, sym}
 use Rattle.tabled_steps.proofs.GroupSteps.{drop-into, drop-past, passed-into, passed-past, skipped}
 use Rattle.tabled_steps.proofs.StepsUntil.{none_left}
 use Rattle.tabled_steps.proofs.groups.skip_counted.Goals as goal

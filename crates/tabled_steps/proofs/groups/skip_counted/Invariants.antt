@@ -1,5 +1,4 @@
-use Rattle.std.proofs.Common.{◌≡◌, drop, length}
-use Rattle.std.specs.Vec.Iter.{into_iter_items, into_iter_len}
+use Rattle.tabled_steps.proofs.Common.{◌≡◌, drop, into_iter_items, into_iter_len, length}
 use Rattle.tabled_steps.proofs.GroupSteps.{PassedGroups}
 use Rattle.tabled_steps.proofs.groups.skip_counted.Given as goal
 

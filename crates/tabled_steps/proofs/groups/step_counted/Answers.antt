@@ -1,8 +1,4 @@
-use Rattle.std.proofs.Common.{◌≡◌, suc, ◌+◌, ◌-◌, ◌/◌, ◌%◌, ◌<◌, ◌≤◌, ◌∙◌, ap, sym, refl, subst, arith, rules, length}
-use Rattle.std.proofs.Math.Nat.{div-le_self}
-use Rattle.tabled_steps.specs.Groups.{StepsBy}
-use Rattle.tabled_steps.specs.declared.groups.Group.{Group}
-use Rattle.tabled_select.proofs.Stepped.{every_from}
+use Rattle.tabled_steps.proofs.Common.{◌%◌, ◌+◌, ◌-◌, ◌/◌, ◌<◌, ◌∙◌, ◌≡◌, ◌≤◌, Group, StepsBy, ap, arith, div-le_self, every_from, length, refl, rules, subst, suc, sym}
 use Rattle.tabled_steps.proofs.GroupSteps.{every_from-past, passed-into, passed-past, step-into, stepped}
 use Rattle.tabled_steps.proofs.StepsUntil.{none_left}
 use Rattle.tabled_steps.proofs.groups.step_counted.Goals as goal

@@ -1,6 +1,4 @@
-use Rattle.std.proofs.Common.{◌≡◌, ◌-◌, length}
-use Rattle.std.specs.Vec.Iter.{into_iter_items, into_iter_len}
-use Rattle.tabled_select.proofs.Stepped.{every_from}
+use Rattle.tabled_steps.proofs.Common.{◌-◌, ◌≡◌, every_from, into_iter_items, into_iter_len, length}
 use Rattle.tabled_steps.proofs.GroupSteps.{PassedGroups}
 use Rattle.tabled_steps.proofs.groups.step_counted.Given as goal
 

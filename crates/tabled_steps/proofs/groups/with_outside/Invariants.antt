@@ -1,6 +1,4 @@
-use Rattle.std.proofs.Common.{◌≡◌, ◌++◌, length, map}
-use Rattle.std.specs.Vec.Iter.{into_iter_items, into_iter_len}
-use Rattle.tabled_steps.specs.Groups.{once}
+use Rattle.tabled_steps.proofs.Common.{◌++◌, ◌≡◌, into_iter_items, into_iter_len, length, map, once}
 use Rattle.tabled_steps.proofs.groups.with_outside.Given as goal
 
 abbrev pub invariant-loop-entity : goal.invariant-loop-entity

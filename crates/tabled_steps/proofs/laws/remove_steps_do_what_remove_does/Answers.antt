@@ -1,10 +1,4 @@
-use Rattle.std.specs.String.{string_bytes}
-use Rattle.tabled_grid.specs.Along.{count_along}
-use Rattle.tabled_grid.specs.Bounds.{indexes}
-use Rattle.tabled_grid.specs.Grid.{map_grid}
-use Rattle.tabled_grid.specs.declared.records.axis.Axis.TheVariants.{Columns, Rows}
-use Rattle.tabled_select.specs.Locators.{columns_with}
-use Rattle.tabled_steps.specs.Selected.{half_open}
+use Rattle.tabled_steps.proofs.Common.{Columns, Rows, columns_with, count_along, half_open, indexes, map_grid, string_bytes}
 use Rattle.tabled_steps.proofs.Acts.{finds_removed, removed_found}
 use Rattle.tabled_steps.proofs.laws.remove_steps_do_what_remove_does.Goals as goal
 

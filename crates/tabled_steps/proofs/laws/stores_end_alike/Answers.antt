@@ -1,6 +1,5 @@
-use Rattle.std.proofs.Common.{◌∙◌, ap, sym}
+use Rattle.tabled_steps.proofs.Common.{◌∙◌, after_all, ap, sym}
 use Rattle.tabled_steps.proofs.AfterSteps.{after_each}
-use Rattle.tabled_steps.specs.States.{after_all}
 use Rattle.tabled_steps.proofs.laws.stores_end_alike.Goals as goal
 
 pub returns : goal.returns

@@ -1,9 +1,6 @@
-use Rattle.std.proofs.Common.{◌≡◌, inr, [], ◌∷◌, refl, sym}
-use Rattle.std.proofs.lemmas.Result.{on_err_weaker, on_ok_weaker}
-use Rattle.tabled_grid.specs.Grid.{map_grid}
+use Rattle.tabled_steps.proofs.Common.{[], ◌∷◌, ◌≡◌, inr, map_grid, on_err_weaker, on_ok_weaker, refl, selected, sym}
 use Rattle.tabled_steps.proofs.RepresentedChanges.{represented, represented_refused}
 use Rattle.tabled_steps.proofs.StepsUntil.{first_refused}
-use Rattle.tabled_steps.specs.Selected.{selected}
 use Rattle.tabled_steps.proofs.representatives.change_each.Goals as goal
 
 pub returns-in-Some-clause-ok : goal.returns-in-Some-clause-ok

@@ -1,12 +1,8 @@
-use Rattle.std.proofs.Common.{◌≡◌, ◌+◌, ◌∙◌, suc, refl, sym, ap, arith, rules, length, take}
-use Rattle.std.proofs.lemmas.Bool.{false≢true}
-use Rattle.tabled_grid.proofs.Grids.{IsEven-map_grid}
+use Rattle.tabled_steps.proofs.Common.{◌+◌, ◌∙◌, ◌≡◌, IsEven-map_grid, Refused, after_all, ap, arith, false≢true, length, refl, rules, state_of, suc, sym, take}
 use Rattle.tabled_steps.proofs.AfterSteps.{after_each}
 use Rattle.tabled_steps.proofs.EvenStates.{undone_midway}
 use Rattle.tabled_steps.proofs.Fitting.{steps_keep}
 use Rattle.tabled_steps.proofs.StepsUntil.{first_refused, later_refused, none_left}
-use Rattle.tabled_steps.specs.States.{after_all, state_of}
-use Rattle.tabled_steps.specs.Steps.{Refused}
 use Rattle.tabled_steps.proofs.steps.run.Goals as goal
 
 pub loop-step-preserved : goal.loop-step-preserved

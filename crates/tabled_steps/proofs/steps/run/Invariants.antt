@@ -1,7 +1,4 @@
-use Rattle.std.proofs.Common.{◌≡◌, ◌+◌, ℕ, length}
-use Rattle.std.specs.Vec.Iter.{into_iter_items, into_iter_len}
-use Rattle.tabled_options.specs.Does.{Each, EachUntilAt}
-use Rattle.tabled_steps.specs.Steps.{Does, Refused}
+use Rattle.tabled_steps.proofs.Common.{◌+◌, ◌≡◌, Does, Each, EachUntilAt, Refused, into_iter_items, into_iter_len, length, ℕ}
 use Rattle.tabled_steps.proofs.steps.run.Given as goal
 
 abbrev pub invariant-loop-step : goal.invariant-loop-step

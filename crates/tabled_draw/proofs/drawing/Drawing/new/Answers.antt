@@ -1,10 +1,6 @@
-use Rattle.std.proofs.Common.{◌∙◌, ap, length}
-use Rattle.std.proofs.lemmas.List.{length-replicate}
-use Rattle.std.specs.FinMap.{entries}
+use Rattle.tabled_draw.proofs.Common.{◌∙◌, Rows, ap, entries, length, length-replicate, map_grid}
 use Rattle.tabled_draw.proofs.Fitting.{bytes-drawn, fits-of}
 use Rattle.tabled_draw.proofs.Sizes.{length-sizes}
-use Rattle.tabled_grid.specs.Grid.{map_grid}
-use Rattle.tabled_grid.specs.declared.records.axis.Axis.TheVariants.{Rows}
 use Rattle.tabled_draw.proofs.drawing.Drawing.new.Goals as goal
 
 pub layout_of-requires-clause-fits : goal.layout_of-requires-clause-fits

@@ -1,7 +1,5 @@
-use Rattle.std.specs.FinMap.{entries}
+use Rattle.tabled_draw.proofs.Common.{entries, map_grid, picture, with_newlines}
 use Rattle.tabled_draw.proofs.Sent.{all-drawn}
-use Rattle.tabled_draw.specs.Picture.{with_newlines, picture}
-use Rattle.tabled_grid.specs.Grid.{map_grid}
 use Rattle.tabled_draw.proofs.drawing.Drawing.write.Goals as goal
 
 pub returns : goal.returns

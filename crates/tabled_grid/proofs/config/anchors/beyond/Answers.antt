@@ -1,8 +1,4 @@
-use Rattle.std.proofs.Common.{◌≡◌, ap₂, subst, arith, get_or}
-use Rattle.std.specs.declared.cmp.Ordering.TheVariants.{Less}
-use Rattle.tabled_grid.specs.Entity.{place}
-use Rattle.tabled_grid.specs.Spans.{position_cmp}
-use Rattle.tabled_grid.specs.declared.config.position.Position.{Position}
+use Rattle.tabled_grid.proofs.Common.{◌≡◌, Less, Position, ap₂, arith, get_or, place, position_cmp, subst}
 use Rattle.tabled_grid.proofs.NearAnchors.{near_passed}
 use Rattle.tabled_grid.proofs.SpanMaps.{halves}
 use Rattle.tabled_grid.proofs.config.anchors.beyond.Goals as goal

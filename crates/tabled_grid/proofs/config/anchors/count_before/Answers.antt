@@ -1,5 +1,5 @@
 use Rattle.tabled_grid.proofs.BesideAnchors.{before_found, before_missed}
-use Rattle.tabled_grid.specs.Spans.{Rectangle}
+use Rattle.tabled_grid.proofs.Common.{Rectangle}
 use Rattle.tabled_grid.proofs.config.anchors.count_before.Goals as goal
 
 pub returns-in-Ok-clause-before : goal.returns-in-Ok-clause-before

@@ -1,5 +1,4 @@
-use Rattle.std.proofs.Common.{rules}
-use Rattle.std.proofs.lemmas.List.Elements.{filter_from_retain}
+use Rattle.tabled_grid.proofs.Common.{filter_from_retain, rules}
 use Rattle.tabled_grid.proofs.MarkedAnchors.{has_size}
 use Rattle.tabled_grid.proofs.config.anchors.drop_empty.Goals as goal
 

@@ -1,6 +1,4 @@
-use Rattle.std.proofs.Common.{◌≡◌, ◌∙◌, ap, sym, drop, length}
-use Rattle.std.specs.List.{filter}
-use Rattle.std.proofs.lemmas.List.{take_at}
+use Rattle.tabled_grid.proofs.Common.{◌∙◌, ◌≡◌, ap, drop, filter, length, sym, take_at}
 use Rattle.tabled_grid.proofs.MarkedAnchors.{has_size, length_marked, sized_marked}
 use Rattle.tabled_grid.proofs.config.anchors.drop_hidden.Goals as goal
 

@@ -1,4 +1,5 @@
-use Rattle.std.proofs.Common.{◌∙◌, sym, arith, length-set}
+use Rattle.tabled_grid.proofs.Common.{◌∙◌, arith, sym}
+use Rattle.std.proofs.Common.{length-set}
 use Rattle.tabled_grid.proofs.PassedAnchors.{hidden_held, hidden_over, hidden_past, sorted_after}
 use Rattle.tabled_grid.proofs.config.anchors.hide.Goals as goal
 

@@ -1,5 +1,4 @@
-use Rattle.std.proofs.Common.{◌≡◌, ◌-◌, ◌≤◌, length}
-use Rattle.tabled_grid.specs.Anchors.{unless_held}
+use Rattle.tabled_grid.proofs.Common.{◌-◌, ◌≡◌, ◌≤◌, length, unless_held}
 use Rattle.tabled_grid.proofs.PassedAnchors.{ChangedTo}
 use Rattle.tabled_grid.proofs.config.anchors.hide.Given as goal
 

@@ -1,4 +1,4 @@
-use Rattle.std.proofs.Common.{◌∙◌, sym, arith}
+use Rattle.tabled_grid.proofs.Common.{◌∙◌, arith, sym}
 use Rattle.tabled_grid.proofs.NearAnchors.{anchors_after, apart_after}
 use Rattle.tabled_grid.proofs.PassedAnchors.{apart_over, apart_past}
 use Rattle.tabled_grid.proofs.config.anchors.is_apart.Goals as goal

@@ -1,6 +1,5 @@
-use Rattle.std.proofs.Common.{◌≡◌, ◌+◌, ◌-◌, ◌<◌, ◌∷◌, ◌∙◌, T, ap, sym, subst, arith, drop, get_or, length}
-use Rattle.std.specs.FinMap.{is_sorted}
-use Rattle.tabled_grid.specs.Spans.{Rectangle, position_cmp, sized}
+use Rattle.tabled_grid.proofs.Common.{◌+◌, ◌-◌, ◌<◌, ◌∙◌, ◌∷◌, ◌≡◌, Rectangle, ap, arith, drop, get_or, is_sorted, length, position_cmp, sized, subst, sym}
+use Rattle.std.proofs.Common.{T}
 use Rattle.tabled_grid.proofs.MarkedAnchors.{marked_from, sorted_mark}
 use Rattle.tabled_grid.proofs.PassedAnchors.{sorted_drop}
 use Rattle.tabled_grid.proofs.config.anchors.mark_hidden.Goals as goal

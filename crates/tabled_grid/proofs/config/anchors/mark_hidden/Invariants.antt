@@ -1,4 +1,4 @@
-use Rattle.std.proofs.Common.{◌≡◌}
+use Rattle.tabled_grid.proofs.Common.{◌≡◌}
 use Rattle.tabled_grid.proofs.MarkedAnchors.{marked_from}
 use Rattle.tabled_grid.proofs.config.anchors.mark_hidden.Given as goal
 

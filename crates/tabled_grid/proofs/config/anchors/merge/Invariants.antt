@@ -1,4 +1,4 @@
-use Rattle.std.proofs.Common.{◌≤◌, ◌-◌, drop, length}
+use Rattle.tabled_grid.proofs.Common.{◌-◌, ◌≤◌, drop, length}
 use Rattle.tabled_grid.proofs.MergedAnchors.{IsMerged}
 use Rattle.tabled_grid.proofs.config.anchors.merge.Given as goal
 

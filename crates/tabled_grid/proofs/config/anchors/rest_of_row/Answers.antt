@@ -1,9 +1,4 @@
-use Rattle.std.proofs.Common.{◌≡◌, ◌+◌, ◌≤◌, ◌∙◌, ap₂, sym, subst, arith, get_or}
-use Rattle.std.proofs.lemmas.Bool.{ltb-false}
-use Rattle.std.specs.declared.cmp.Ordering.TheVariants.{Less}
-use Rattle.tabled_grid.specs.Entity.{place}
-use Rattle.tabled_grid.specs.Spans.{position_cmp}
-use Rattle.tabled_grid.specs.declared.config.position.Position.{Position}
+use Rattle.tabled_grid.proofs.Common.{◌+◌, ◌∙◌, ◌≡◌, ◌≤◌, Less, Position, ap₂, arith, get_or, ltb-false, place, position_cmp, subst, sym}
 use Rattle.tabled_grid.proofs.BesideAnchors.{apart_beyond}
 use Rattle.tabled_grid.proofs.SpanMaps.{halves}
 use Rattle.tabled_grid.proofs.config.anchors.rest_of_row.Goals as goal

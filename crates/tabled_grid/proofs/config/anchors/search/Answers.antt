@@ -1,6 +1,4 @@
-use Rattle.std.proofs.Common.{rules}
-use Rattle.std.proofs.lemmas.List.Sorted.{answers_always}
-use Rattle.tabled_grid.specs.Spans.{Rectangle}
+use Rattle.tabled_grid.proofs.Common.{Rectangle, answers_always, rules}
 use Rattle.tabled_grid.proofs.config.anchors.search.Goals as goal
 
 pub returns-clause-found : goal.returns-clause-found

@@ -1,14 +1,8 @@
-use Rattle.std.proofs.Common.{◌≡◌, ◌∷◌, ◌++◌, [], ◌∙◌, Global, T, Vec, cond, sym, ap, subst, get_or}
-use Rattle.std.specs.Prelude.{◌&&◌, not}
-use Rattle.std.specs.FinMap.{is_sorted}
-use Rattle.std.proofs.lemmas.Bool.{and_from, and_left, and_right, cond-false, cond-true, not_from_false, not_from_true}
-use Rattle.std.proofs.lemmas.List.{drop_more}
-use Rattle.tabled_grid.specs.Anchors.{lies_inside}
-use Rattle.tabled_grid.specs.Spans.{Rectangle, position_cmp, sized}
+use Rattle.tabled_grid.proofs.Common.{[], ◌&&◌, ◌++◌, ◌∙◌, ◌∷◌, ◌≡◌, Global, Rectangle, and_from, and_left, and_right, ap, cond, cond-false, cond-true, drop_more, get_or, is_sorted, lies_inside, not, not_from_false, not_from_true, position_cmp, sized, subst, sym}
+use Rattle.std.proofs.Common.{T, Vec}
 use Rattle.tabled_grid.proofs.MetAnchors.{kept-more, kept-none}
 use Rattle.tabled_grid.proofs.PassedAnchors.{all_after, sorted_drop}
 use Rattle.tabled_grid.proofs.config.fitting.fitting.Goals as goal
-use Rattle.tabled_grid.proofs.config.fitting.fitting.Goals.{then-alone+then-not-is_met+then-is_inside+in_ok-push, else-alone, else-alone-via-then-alone+then-not-is_met+else-is_inside, else-alone-via-then-alone+else-not-is_met, else-alone-via-else-alone}
 
 pub loop-i-init : goal.loop-i-init
 loop-i-init c = rw c.new-kept.ensures.items (kept-none c.args.rows c.args.columns c.args.anchors.now c.in_ok-marks.marks.items (c.in_ok-marks.ensures.items_if_clones_equal (λ y h. h)))
@@ -30,11 +24,11 @@ loop-i-preserved c =
     let inside = lies_inside c.args.rows c.args.columns e in
     let kept = c.loop-i.kept.items in
     let newer : c.if-alone.kept.items ≡ cond ((alone && not met) && inside) (kept ++ e ∷ []) kept = elim c.if-alone.branch [
-      | then-alone+then-not-is_met+then-is_inside+in_ok-push w ↦ ap (λ (v : Vec Rectangle Global). v.items) w.kept-is ∙ w.in_ok-push.ensures.items ∙ sym (cond-true ((alone && not met) && inside) (kept ++ e ∷ []) kept (and_from (alone && not met) inside (and_from alone (not met) w.if-alone.true (not_from_false met w.if-not-is_met.true)) (sym w.is_inside.ensures ∙ w.if-is_inside.true)))
-      | else-alone w ↦ ap (λ (v : Vec Rectangle Global). v.items) w.kept-is ∙ sym (cond-false ((alone && not met) && inside) (kept ++ e ∷ []) kept (elim w.else-alone.branch [
-        | else-alone-via-then-alone+then-not-is_met+else-is_inside v ↦ and_right (alone && not met) inside (sym v.is_inside.ensures ∙ v.if-is_inside.false)
-        | else-alone-via-then-alone+else-not-is_met v ↦ and_left (alone && not met) inside (and_right alone (not met) (not_from_true met v.if-not-is_met.false))
-        | else-alone-via-else-alone v ↦ and_left (alone && not met) inside (and_left alone (not met) v.if-alone.false)
+      | goal.then-alone+then-not-is_met+then-is_inside+in_ok-push w ↦ ap (λ (v : Vec Rectangle Global). v.items) w.kept-is ∙ w.in_ok-push.ensures.items ∙ sym (cond-true ((alone && not met) && inside) (kept ++ e ∷ []) kept (and_from (alone && not met) inside (and_from alone (not met) w.if-alone.true (not_from_false met w.if-not-is_met.true)) (sym w.is_inside.ensures ∙ w.if-is_inside.true)))
+      | goal.else-alone w ↦ ap (λ (v : Vec Rectangle Global). v.items) w.kept-is ∙ sym (cond-false ((alone && not met) && inside) (kept ++ e ∷ []) kept (elim w.else-alone.branch [
+        | goal.else-alone-via-then-alone+then-not-is_met+else-is_inside v ↦ and_right (alone && not met) inside (sym v.is_inside.ensures ∙ v.if-is_inside.false)
+        | goal.else-alone-via-then-alone+else-not-is_met v ↦ and_left (alone && not met) inside (and_right alone (not met) (not_from_true met v.if-not-is_met.false))
+        | goal.else-alone-via-else-alone v ↦ and_left (alone && not met) inside (and_left alone (not met) v.if-alone.false)
       ]))
     ] in
     kept-more c.args.rows c.args.columns es c.loop-i.i d c.loop-i-test.true kept c.loop-i.marks.items c.loop-i.invariant c.requires c.deref_mut.result.now c.mark_met-alone.new.marks _ c.loop-i.marks.len c.if-alone.kept.items alone met _

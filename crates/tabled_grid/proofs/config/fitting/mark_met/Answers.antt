@@ -1,4 +1,5 @@
-use Rattle.std.proofs.Common.{◌∙◌, sym, arith, length-set}
+use Rattle.tabled_grid.proofs.Common.{◌∙◌, arith, sym}
+use Rattle.std.proofs.Common.{length-set}
 use Rattle.tabled_grid.proofs.MetAnchors.{walked-all, walked-met, walked-out}
 use Rattle.tabled_grid.proofs.PassedAnchors.{apart_past, apart_sorted}
 use Rattle.tabled_grid.proofs.config.fitting.mark_met.Goals as goal

@@ -1,4 +1,4 @@
-use Rattle.std.proofs.Common.{◌-◌, length}
+use Rattle.tabled_grid.proofs.Common.{◌-◌, length}
 use Rattle.tabled_grid.proofs.MetAnchors.{Walked}
 use Rattle.tabled_grid.proofs.config.fitting.mark_met.Given as goal
 

@@ -1,4 +1,4 @@
-use Rattle.std.proofs.Common.{refl}
+use Rattle.tabled_grid.proofs.Common.{refl}
 use Rattle.tabled_grid.proofs.Stepping.{run_done, run_more, run_starts}
 use Rattle.tabled_grid.proofs.config.hiders.step_run.Goals as goal
 

@@ -1,5 +1,4 @@
-use Rattle.std.proofs.Common.{◌≡◌, ◌∙◌, ap, sym, drop, length, map, rules}
-use Rattle.std.proofs.lemmas.List.{length-map, take_at}
+use Rattle.tabled_grid.proofs.Common.{◌∙◌, ◌≡◌, ap, drop, length, length-map, map, rules, sym, take_at}
 use Rattle.std.proofs.lemmas.Fn.{filter_same}
 use Rattle.tabled_grid.proofs.Shifts.{has_place, moved_one_by_one, shifted_or_kept}
 use Rattle.tabled_grid.proofs.config.shifts.shift.Goals as goal

@@ -1,9 +1,4 @@
-use Rattle.std.proofs.Common.{◌≡◌, ◌+◌, ◌<◌, ◌∙◌, ap, refl, arith, get_or, length, set, suc}
-use Rattle.std.specs.Option.{unwrap_or}
-use Rattle.tabled_grid.specs.Entity.{place}
-use Rattle.tabled_grid.specs.Shifts.{shifted_place}
-use Rattle.tabled_grid.specs.declared.config.position.Position.{Position}
-use Rattle.tabled_grid.specs.Spans.{Rectangle, sized}
+use Rattle.tabled_grid.proofs.Common.{◌+◌, ◌<◌, ◌∙◌, ◌≡◌, Position, Rectangle, ap, arith, get_or, length, place, refl, set, shifted_place, sized, suc, unwrap_or}
 use Rattle.tabled_grid.proofs.Shifts.{all_changed, first_changed, length_first_changed, one_more_changed, shifted_or_kept}
 use Rattle.tabled_grid.proofs.config.shifts.shift_each.Goals as goal
 

@@ -1,4 +1,4 @@
-use Rattle.std.proofs.Common.{◌≡◌}
+use Rattle.tabled_grid.proofs.Common.{◌≡◌}
 use Rattle.tabled_grid.proofs.Shifts.{first_changed, shifted_or_kept}
 use Rattle.tabled_grid.proofs.config.shifts.shift_each.Given as goal
 

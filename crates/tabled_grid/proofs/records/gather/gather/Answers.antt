@@ -1,9 +1,6 @@
-use Rattle.std.proofs.Common.{◌+◌, ◌∙◌, sym, refl, arith}
-use Rattle.tabled_grid.specs.Entity.{place}
-use Rattle.tabled_grid.specs.Places.{Within}
+use Rattle.tabled_grid.proofs.Common.{◌+◌, ◌∙◌, Within, arith, place, refl, sym}
 use Rattle.tabled_grid.proofs.Through.{through_cell, through_gap, through_none}
 use Rattle.tabled_grid.proofs.records.gather.gather.Goals as goal
-use Rattle.tabled_grid.proofs.records.gather.gather.Goals.{in-Some, in_default}
 
 pub loop-row-init : goal.loop-row-init
 loop-row-init g c = record {
@@ -20,12 +17,12 @@ loop-col-preserved g c =
     let i = c.loop-col.invariant in
     let here : Within places (place c.loop-row.row c.loop-col.col) = record { row = omega (arith, c.requires.rows, c.loop-row-test.true); col = omega (arith, c.requires.columns, c.loop-col-test.true) } in
     elim c.match-old_place.branch [
-      | in-Some w ↦ rw (w.records-is, w.gathered-is) (record {
+      | goal.in-Some w ↦ rw (w.records-is, w.gathered-is) (record {
         well = w.exchange.ensures.well;
         other = w.exchange.ensures.other_well;
         moves = through_cell g.R.Cell.Blank.is_blank places (grid c.args.records.now) c.loop-row.row c.loop-col.col (c.loop-col.col + 1) refl (grid c.loop-col.records) (grid c.loop-col.gathered) i.moves w.in-Some.from c.requires.once here (sym c.old_place.ensures ∙ w.in-Some.is) _ _ w.exchange.ensures.exchanged;
       })
-      | in_default w ↦ rw (w.records-is, w.gathered-is) (record {
+      | goal.in_default w ↦ rw (w.records-is, w.gathered-is) (record {
         well = i.well;
         other = i.other;
         moves = through_gap g.R.Cell.Blank.is_blank places (grid c.args.records.now) c.loop-row.row c.loop-col.col (c.loop-col.col + 1) refl (grid c.loop-col.records) (grid c.loop-col.gathered) i.moves (sym c.old_place.ensures ∙ w.in_default.is);

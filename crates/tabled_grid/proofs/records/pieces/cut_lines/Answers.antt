@@ -1,6 +1,4 @@
-use Rattle.std.proofs.Common.{◌≡◌, arith}
-use Rattle.tabled_grid.specs.Along.{count_along}
-use Rattle.tabled_grid.specs.Axis.{across}
+use Rattle.tabled_grid.proofs.Common.{◌≡◌, across, arith, count_along}
 use Rattle.tabled_grid.proofs.PiecePlaces.{pieces_take_once}
 use Rattle.tabled_grid.proofs.records.pieces.cut_lines.Goals as goal
 

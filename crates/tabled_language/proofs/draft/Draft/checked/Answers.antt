@@ -1,9 +1,4 @@
-use Rattle.std.proofs.Common.{rules}
-use Rattle.std.proofs.lemmas.List.{length-map}
-use Rattle.tabled_language.specs.Lent.{bytes_of}
-use Rattle.tabled_grid.specs.Grid.{map_items}
-use Rattle.tabled_language.specs.Drafts.{Draft}
-use Rattle.tabled_language.specs.Parsing.{draft_in}
+use Rattle.tabled_language.proofs.Common.{Draft, bytes_of, draft_in, length-map, map_items, rules}
 use Rattle.tabled_language.proofs.ScriptChecks.{HasShape, checked_all, checked_shape, checked_span, has_shape}
 use Rattle.tabled_language.proofs.draft.Draft.checked.Goals as goal
 

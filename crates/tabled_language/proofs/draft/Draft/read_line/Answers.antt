@@ -1,7 +1,4 @@
-use Rattle.std.proofs.Common.{◌≢◌, length, map, sym, rules}
-use Rattle.tabled_language.specs.Drafts.{takes}
-use Rattle.tabled_language.specs.Lent.{bytes_of}
-use Rattle.tabled_language.specs.Parsing.{draft_in}
+use Rattle.tabled_language.proofs.Common.{◌≢◌, bytes_of, draft_in, length, map, rules, sym, takes}
 use Rattle.tabled_language.proofs.ScriptLines.{line_asks-texts, line_of-texts, same_line}
 use Rattle.tabled_language.proofs.draft.Draft.read_line.Goals as goal
 

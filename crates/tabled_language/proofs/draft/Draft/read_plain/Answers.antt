@@ -1,8 +1,4 @@
-use Rattle.std.proofs.Common.{◌≡◌, ◌≢◌, length, Some, rules}
-use Rattle.tabled_language.specs.Drafts.{takes}
-use Rattle.tabled_language.specs.Line.{says_line, meaning_of, words_of}
-use Rattle.tabled_language.specs.Parsing.{draft_in}
-use Rattle.tabled_language.proofs.OwnWords.{line_of_own_words}
+use Rattle.tabled_language.proofs.Common.{◌≡◌, ◌≢◌, Some, draft_in, length, line_of_own_words, meaning_of, rules, says_line, takes, words_of}
 use Rattle.tabled_language.proofs.PlainLines.{plain_line, texts_of-plain}
 use Rattle.tabled_language.proofs.ScriptLines.{line_asks-plain, line_of-texts, same_line}
 use Rattle.tabled_language.proofs.draft.Draft.read_plain.Goals as goal

@@ -1,8 +1,4 @@
-use Rattle.std.proofs.Common.{ℕ, List, ap₂, ◌≡◌, ◌≢◌, ◌∷◌, length, map, refl, sym, ap, ◌∙◌, rules}
-use Rattle.tabled_language.specs.Lent.{bytes_of}
-use Rattle.tabled_language.specs.Parsing.{draft_in}
-use Rattle.tabled_language.specs.Verb.{step_line, steps}
-use Rattle.tabled_language.specs.Words.{behind, keeping_asks, whole}
+use Rattle.tabled_language.proofs.Common.{◌∙◌, ◌∷◌, ◌≡◌, ◌≢◌, List, ap, ap₂, behind, bytes_of, draft_in, keeping_asks, length, map, refl, rules, step_line, steps, sym, whole, ℕ}
 use Rattle.tabled_language.proofs.ScriptLines.{asks_anyway, first_removed, meaning_of-step, same_line}
 use Rattle.tabled_language.proofs.draft.Draft.read_texts.Goals as goal
 

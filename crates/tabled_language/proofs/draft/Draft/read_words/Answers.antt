@@ -1,7 +1,4 @@
-use Rattle.std.proofs.Common.{◌≡◌, ◌∷◌, sym, ap, ◌∙◌}
-use Rattle.tabled_language.specs.Drafts.{takes}
-use Rattle.tabled_language.specs.Line.{words_of}
-use Rattle.tabled_language.specs.Parsing.{draft_in}
+use Rattle.tabled_language.proofs.Common.{◌∙◌, ◌∷◌, ◌≡◌, ap, draft_in, sym, takes, words_of}
 use Rattle.tabled_language.proofs.ScriptLines.{meaning_of-step, same_line, words_ask-step}
 use Rattle.tabled_language.proofs.draft.Draft.read_words.Goals as goal
 

@@ -1,6 +1,4 @@
-use Rattle.std.proofs.Common.{◌∙◌, ap, arith, get_or, subst}
-use Rattle.std.proofs.lemmas.List.{get_or_read}
-use Rattle.tabled_language.specs.Placed.{IsFirstMisfit, NumberedAnchors}
+use Rattle.tabled_language.proofs.Common.{◌∙◌, IsFirstMisfit, NumberedAnchors, ap, arith, get_or, get_or_read, subst}
 use Rattle.tabled_language.proofs.spans.SpanLines.merged.Goals as goal
 
 pub returns-in-Err-clause-answer : goal.returns-in-Err-clause-answer

@@ -1,6 +1,5 @@
-use Rattle.std.proofs.Common.{◌≡◌, ◌-◌, suc, arith}
+use Rattle.tabled_language.proofs.Common.{◌-◌, ◌≡◌, arith, named_by, suc}
 use Rattle.tabled_language.proofs.DeeperSelectors.{read_deeper}
-use Rattle.tabled_steps.specs.Selected.{named_by}
 use Rattle.tabled_language.proofs.words.Words.+nested.Goals as goal
 
 pub selector-returns : goal.selector-returns

@@ -1,4 +1,4 @@
-use Rattle.std.proofs.Common.{◌+◌, ◌*◌}
+use Rattle.tabled_language.proofs.Common.{◌*◌, ◌+◌}
 use Rattle.tabled_language.proofs.words.Words.+nested.Given as goal
 
 abbrev pub decreases-selector : goal.decreases-selector

@@ -1,9 +1,5 @@
-use Rattle.tabled_language.specs.Selectors.{reads_cells}
-use Rattle.tabled_language.specs.Verb.{reads_dup}
-use Rattle.tabled_language.specs.Words.{gives, then_reads}
+use Rattle.tabled_language.proofs.Common.{after, duplicate, gives, named_by, reads_cells, reads_dup, then_reads}
 use Rattle.tabled_language.proofs.Asking.{ends_first, ends_later, handed_on}
-use Rattle.tabled_steps.specs.Selected.{named_by}
-use Rattle.tabled_steps.specs.States.{after, duplicate}
 use Rattle.tabled_language.proofs.words.Words.dup.Goals as goal
 
 pub returns-in_err-source : goal.returns-in_err-source

@@ -1,6 +1,4 @@
-use Rattle.std.proofs.Common.{◌<◌, length, arith}
-use Rattle.std.proofs.lemmas.Result.{err_from_is_err_and}
-use Rattle.std.specs.String.{string_bytes}
+use Rattle.tabled_language.proofs.Common.{◌<◌, arith, err_from_is_err_and, length, string_bytes}
 use Rattle.tabled_language.proofs.TableRows.{only_memory, row_more, word_read}
 use Rattle.tabled_language.proofs.words.Words.row.Goals as goal
 

@@ -1,5 +1,4 @@
-use Rattle.std.proofs.Common.{◌≡◌, map, take, drop}
-use Rattle.std.specs.String.{string_bytes}
+use Rattle.tabled_language.proofs.Common.{◌≡◌, drop, map, string_bytes, take}
 use Rattle.tabled_language.proofs.words.Words.row.Given as goal
 
 abbrev pub invariant-loop : goal.invariant-loop

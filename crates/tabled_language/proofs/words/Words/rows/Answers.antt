@@ -1,8 +1,5 @@
-use Rattle.std.proofs.Common.{◌∷◌, [], map, take, drop, ◌∙◌, ap, Vec, String}
-use Rattle.std.specs.Global.{Global}
-use Rattle.std.specs.String.{string_bytes}
-use Rattle.std.proofs.lemmas.List.{map-append}
-use Rattle.tabled_grid.specs.Grid.{map_items}
+use Rattle.tabled_language.proofs.Common.{[], ◌∙◌, ◌∷◌, Global, String, ap, drop, map, map-append, map_items, string_bytes, take}
+use Rattle.std.proofs.Common.{Vec}
 use Rattle.tabled_language.proofs.TableRows.{left_more, row_left, rows_more}
 use Rattle.tabled_language.proofs.words.Words.rows.Goals as goal
 

@@ -1,7 +1,4 @@
-use Rattle.std.proofs.Common.{◌≡◌, ◌*◌, map, take, drop, ℕ}
-use Rattle.std.specs.List.{range_with_len}
-use Rattle.std.specs.String.{string_bytes}
-use Rattle.tabled_grid.specs.Grid.{map_items}
+use Rattle.tabled_language.proofs.Common.{◌*◌, ◌≡◌, drop, map, map_items, range_with_len, string_bytes, take, ℕ}
 use Rattle.tabled_language.proofs.words.Words.rows.Given as goal
 
 abbrev pub invariant-loop : goal.invariant-loop

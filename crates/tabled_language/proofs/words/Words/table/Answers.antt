@@ -1,8 +1,4 @@
-use Rattle.std.proofs.Common.{◌<◌, ◌≤◌, ◌*◌, ◌∙◌, ap, length, arith}
-use Rattle.std.specs.String.{string_bytes}
-use Rattle.tabled_grid.specs.Grid.{map_grid, map_items}
-use Rattle.tabled_language.specs.declared.fault.ReadError.TheVariants.{OutOfMemory}
-use Rattle.tabled_language.specs.Verb.{reads_table}
+use Rattle.tabled_language.proofs.Common.{◌*◌, ◌<◌, ◌∙◌, ◌≤◌, OutOfMemory, ap, arith, length, map_grid, map_items, reads_table, string_bytes}
 use Rattle.tabled_language.proofs.Asking.{handed_on}
 use Rattle.tabled_language.proofs.TableRows.{count_some, has_rows, table_asks, table_read}
 use Rattle.tabled_language.proofs.words.Words.table.Goals as goal

@@ -1,4 +1,4 @@
-use Rattle.std.proofs.Common.{rules, inl, inr, refl, ap}
+use Rattle.tabled_options.proofs.Common.{ap, inl, inr, refl, rules}
 use Rattle.tabled_options.proofs.Results.{on_err}
 use Rattle.tabled_options.proofs.Until.{until_first, until_next}
 use Rattle.tabled_options.proofs.Turns.{turn, last_at}

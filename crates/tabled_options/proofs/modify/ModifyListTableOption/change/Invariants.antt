@@ -1,7 +1,4 @@
-use Rattle.std.proofs.Common.{List}
-use Rattle.std.specs.Iterator.{AlwaysYields}
-use Rattle.tabled_grid.specs.declared.config.entity.Entity.{Entity}
-use Rattle.tabled_options.specs.Does.{Each, EachUntil, SameOr}
+use Rattle.tabled_options.proofs.Common.{AlwaysYields, Each, EachUntil, Entity, List, SameOr}
 use Rattle.tabled_options.proofs.modify.ModifyListTableOption.change.Given as goal
 
 abbrev pub invariant-loop-entity : goal.invariant-loop-entity

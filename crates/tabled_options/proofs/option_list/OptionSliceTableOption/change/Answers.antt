@@ -1,5 +1,4 @@
-use Rattle.std.proofs.Common.{inl, inr, refl}
-use Rattle.std.proofs.lemmas.List.{drop_more}
+use Rattle.tabled_options.proofs.Common.{drop_more, inl, inr, refl}
 use Rattle.tabled_options.proofs.Results.{on_err}
 use Rattle.tabled_options.proofs.Until.{until_first, until_next}
 use Rattle.tabled_options.proofs.option_list.OptionSliceTableOption.change.Goals as goal

@@ -1,6 +1,4 @@
-use Rattle.std.proofs.Common.{drop}
-use Rattle.std.specs.List.{AllByRecursion}
-use Rattle.tabled_options.specs.Does.{CopiesAlike, Each, EachUntil, SameOr}
+use Rattle.tabled_options.proofs.Common.{AllByRecursion, CopiesAlike, Each, EachUntil, SameOr, drop}
 use Rattle.tabled_options.proofs.option_list.OptionSliceTableOption.change.Given as goal
 
 abbrev pub invariant-loop-option : goal.invariant-loop-option

@@ -1,7 +1,4 @@
-use Rattle.std.proofs.Common.{length}
-use Rattle.std.specs.List.{AllByRecursion}
-use Rattle.std.specs.Vec.Iter.{into_iter_items}
-use Rattle.tabled_options.specs.Does.{Each, EachUntil, NeverRefused}
+use Rattle.tabled_options.proofs.Common.{AllByRecursion, Each, EachUntil, NeverRefused, into_iter_items, length}
 use Rattle.tabled_options.proofs.option_list.VecTableOption.change.Given as goal
 
 abbrev pub invariant-loop-option : goal.invariant-loop-option

@@ -1,5 +1,4 @@
-use Rattle.std.proofs.Common.{◌≡◌, ◌∙◌, ◌∷◌, true, false, refl, sym}
-use Rattle.tabled_select.specs.Algebra.{flat}
+use Rattle.tabled_select.proofs.Common.{◌∙◌, ◌∷◌, ◌≡◌, false, flat, refl, sym, true}
 use Rattle.tabled_select.proofs.NamedPlaces.{flat-within}
 use Rattle.tabled_select.proofs.location.by_value.held_last.Goals as goal
 

@@ -1,10 +1,4 @@
-use Rattle.std.proofs.Common.{[], ◌∷◌}
-use Rattle.std.specs.Fn.{FnReturnsAtPair}
-use Rattle.std.specs.List.{AllByRecursion, FoldsTo}
-use Rattle.tabled_grid.specs.Grid.{map_grid}
-use Rattle.tabled_grid.specs.declared.config.position.Position.{Position}
-use Rattle.tabled_select.specs.Algebra.{flat}
-use Rattle.tabled_select.specs.Locators.{HeldLast, HoldsNext}
+use Rattle.tabled_select.proofs.Common.{[], ◌∷◌, AllByRecursion, FnReturnsAtPair, FoldsTo, HeldLast, HoldsNext, Position, flat, map_grid}
 use Rattle.tabled_select.proofs.NamedPlaces.{IsWithin}
 use Rattle.tabled_select.proofs.location.by_value.held_last.Given as goal
 

@@ -1,6 +1,4 @@
-use Rattle.std.proofs.Common.{List, sym, subst}
-use Rattle.std.proofs.lemmas.Iterator.{items_from_collect}
-use Rattle.std.proofs.lemmas.Result.{IfOk-weaker}
+use Rattle.tabled_select.proofs.Common.{IfOk-weaker, List, items_from_collect, subst, sym}
 use Rattle.tabled_select.proofs.location.found.coordinates.Goals as goal
 
 pub returns-clause-lists : goal.returns-clause-lists

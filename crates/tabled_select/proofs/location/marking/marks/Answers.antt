@@ -1,6 +1,5 @@
-use Rattle.std.proofs.Common.{◌≡◌, ◌∙◌, map-id, subst, sym}
-use Rattle.std.proofs.lemmas.Iterator.{items_from_drains}
-use Rattle.tabled_select.specs.Located.{TellsLocated}
+use Rattle.tabled_select.proofs.Common.{◌∙◌, ◌≡◌, TellsLocated, items_from_drains, subst, sym}
+use Rattle.std.proofs.Common.{map-id}
 use Rattle.tabled_select.proofs.LocatedMarks.{all-told, none-told}
 use Rattle.tabled_select.proofs.location.marking.marks.Goals as goal
 

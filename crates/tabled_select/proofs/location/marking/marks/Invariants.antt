@@ -1,4 +1,4 @@
-use Rattle.tabled_select.specs.Located.{TellsLocated}
+use Rattle.tabled_select.proofs.Common.{TellsLocated}
 use Rattle.tabled_select.proofs.location.marking.marks.Given as goal
 
 abbrev pub invariant-loop-index : goal.invariant-loop-index

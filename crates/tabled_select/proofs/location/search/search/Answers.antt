@@ -1,6 +1,4 @@
-use Rattle.std.proofs.Common.{◌∙◌, [], ◌∷◌, true, false, refl, sym, append-nil}
-use Rattle.std.proofs.lemmas.List.{append_assoc}
-use Rattle.tabled_grid.proofs.Places.{inside-within}
+use Rattle.tabled_select.proofs.Common.{[], ◌∙◌, ◌∷◌, append-nil, append_assoc, false, inside-within, refl, sym, true}
 use Rattle.tabled_select.proofs.location.search.search.Goals as goal
 
 pub loop-pos-init : goal.loop-pos-init

@@ -1,11 +1,4 @@
-use Rattle.std.proofs.Common.{◌≡◌, ◌<◌, ◌++◌, Bool, List, map}
-use Rattle.std.specs.Fn.{FnReturnsAt}
-use Rattle.std.specs.List.{AllByRecursion}
-use Rattle.tabled_grid.specs.Entity.{inside}
-use Rattle.tabled_grid.specs.Grid.{map_grid}
-use Rattle.tabled_grid.specs.declared.config.position.Position.{Position}
-use Rattle.tabled_select.specs.Locators.{text_at}
-use Rattle.tabled_select.specs.Steps.{Filters}
+use Rattle.tabled_select.proofs.Common.{◌++◌, ◌<◌, ◌≡◌, AllByRecursion, Bool, Filters, FnReturnsAt, List, Position, inside, map, map_grid, text_at}
 use Rattle.tabled_select.proofs.location.search.search.Given as goal
 
 abbrev pub invariant-loop-pos : goal.invariant-loop-pos

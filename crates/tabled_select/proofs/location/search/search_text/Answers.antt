@@ -1,7 +1,4 @@
-use Rattle.std.proofs.Common.{rules, ◌∙◌, ap, map}
-use Rattle.std.proofs.lemmas.Result.{IfOk-weaker}
-use Rattle.tabled_select.specs.Locators.{text_is}
-use Rattle.tabled_grid.specs.Grid.{map_grid}
+use Rattle.tabled_select.proofs.Common.{◌∙◌, IfOk-weaker, ap, map, map_grid, rules, text_is}
 use Rattle.tabled_select.proofs.Filtered.{Filters-is}
 use Rattle.tabled_select.proofs.location.search.search_text.Goals as goal
 

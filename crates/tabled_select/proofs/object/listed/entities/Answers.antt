@@ -1,7 +1,4 @@
-use Rattle.std.proofs.Common.{List, sym, subst}
-use Rattle.std.proofs.lemmas.Iterator.{items_from_collect}
-use Rattle.std.proofs.lemmas.Result.{IfOk-weaker}
-use Rattle.tabled_grid.specs.declared.config.entity.Entity.{Entity}
+use Rattle.tabled_select.proofs.Common.{Entity, IfOk-weaker, List, items_from_collect, subst, sym}
 use Rattle.tabled_select.proofs.object.listed.entities.Goals as goal
 
 pub returns : goal.returns

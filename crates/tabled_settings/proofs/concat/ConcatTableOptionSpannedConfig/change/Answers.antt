@@ -1,13 +1,6 @@
-use Rattle.std.proofs.Common.{◌≡◌, IsNone, Option, ap₂, refl, rules, sym, subst, ◌∙◌}
-use Rattle.std.specs.Option.{IfSome}
-use Rattle.tabled_grid.specs.Fitting.{keep_fitting}
-use Rattle.tabled_grid.specs.Spans.{SpanMap}
-use Rattle.tabled_carry.specs.Images.{carried}
-use Rattle.tabled_carry.proofs.CarriedFits.{carried-stays}
-use Rattle.tabled_settings.specs.Joined.{corner_of, joined_places}
+use Rattle.tabled_settings.proofs.Common.{◌∙◌, ◌≡◌, IfSome, IsNone, Option, SpanMap, ap₂, carried, carried-stays, corner_of, joined_places, keep_fitting, refl, rules, subst, sym}
 use Rattle.tabled_settings.proofs.Joins.{joined_keeps}
 use Rattle.tabled_settings.proofs.concat.ConcatTableOptionSpannedConfig.change.Goals as goal
-use Rattle.tabled_settings.proofs.concat.ConcatTableOptionSpannedConfig.change.Goals.{in-Some, in_default}
 
 pub returns-clause-ok : goal.returns-clause-ok
 returns-clause-ok g c =
@@ -17,7 +10,7 @@ returns-clause-ok g c =
     let kept = ap₂ (λ rows columns. keep_fitting rows columns c.args.cfg.now) c.count_rows-rows.ensures.rows c.count_columns-columns.ensures.columns in (
       search rules,
       elim c.match-spans-2.branch [
-        | in-Some w ↦ w.cfg-is ∙ subst (λ (o : Option SpanMap). IfSome o (λ spans. spans ≡ keep_fitting c.count_rows-rows.result c.count_columns-columns.result c.args.cfg.now)) w.in-Some.is c.in_ok-spans.ensures.kept ∙ kept ∙ sym stays
-        | in_default w ↦ w.cfg-is ∙ sym (c.in_ok-spans.ensures.same (subst (λ (o : Option SpanMap). IsNone o) (sym w.in_default.is) refl)) ∙ kept ∙ sym stays
+        | goal.in-Some w ↦ w.cfg-is ∙ subst (λ (o : Option SpanMap). IfSome o (λ spans. spans ≡ keep_fitting c.count_rows-rows.result c.count_columns-columns.result c.args.cfg.now)) w.in-Some.is c.in_ok-spans.ensures.kept ∙ kept ∙ sym stays
+        | goal.in_default w ↦ w.cfg-is ∙ sym (c.in_ok-spans.ensures.same (subst (λ (o : Option SpanMap). IsNone o) (sym w.in_default.is) refl)) ∙ kept ∙ sym stays
       ],
     )

@@ -1,9 +1,7 @@
-use Rattle.std.proofs.Common.{ℕ, ◌/◌, ◌∙◌, ap, arith}
+use Rattle.tabled_settings.proofs.Common.{◌/◌, ◌∙◌, ap, arith, piece_index, ℕ}
 use Rattle.std.specs.Prelude.{Some}
-use Rattle.tabled_grid.specs.Pieces.{piece_index}
 use Rattle.tabled_settings.proofs.PiecePlaces.{cut_finds, cut_inside, cut_takes}
 use Rattle.tabled_settings.proofs.cuts.CutMoves.new_place.Goals as goal
-use Rattle.tabled_settings.proofs.cuts.CutMoves.new_place.Goals.{then-line-self-via-then-line-self, then-line-self-via-else-line-self+then-cell-self}
 
 pub returns-then-line-self-clause-finds : goal.returns-then-line-self-clause-finds
 returns-then-line-self-clause-finds c = λ p takes.
@@ -12,8 +10,8 @@ returns-then-line-self-clause-finds c = λ p takes.
     let line = c.line_of-line.ensures in
     let cell = rw c.across.ensures at c.line_of-cell.ensures in
     elim c.then-line-self.branch [
-      | then-line-self-via-then-line-self w ↦ absurd (omega (arith, w.if-line-self.true, line, inside.0))
-      | then-line-self-via-else-line-self+then-cell-self w ↦ absurd (omega (arith, w.if-cell-self.true, cell, inside.1))
+      | goal.then-line-self-via-then-line-self w ↦ absurd (omega (arith, w.if-line-self.true, line, inside.0))
+      | goal.then-line-self-via-else-line-self+then-cell-self w ↦ absurd (omega (arith, w.if-cell-self.true, cell, inside.1))
     ]
 
 pub returns-clause-takes : goal.returns-clause-takes

@@ -1,7 +1,4 @@
-use Rattle.std.proofs.Common.{arith, rules, ◌≡◌, ◌<◌, [], length, map, refl, string_bytes}
-use Rattle.std.proofs.lemmas.Grind.{common_steps}
-use Rattle.std.proofs.lemmas.List.{length-map, nil_from_length}
-use Rattle.std.proofs.lemmas.Result.{on_err_weaker, on_ok_weaker}
+use Rattle.tabled_settings.proofs.Common.{[], ◌<◌, ◌≡◌, arith, common_steps, length, length-map, map, nil_from_length, on_err_weaker, on_ok_weaker, refl, rules, string_bytes}
 use Rattle.tabled_settings.proofs.Duplicated.{IsRead, left_all, left_first, none_left}
 use Rattle.tabled_settings.proofs.duplicate.DupTableOption.change.Goals as goal
 use Rattle.tabled_settings.proofs.duplicate.DupTableOption.change.Goals.{After-is_empty, After-write_rounds}

@@ -1,5 +1,4 @@
-use Rattle.std.proofs.Common.{◌∙◌, ap}
-use Rattle.tabled_grid.specs.Bounds.{end_index}
+use Rattle.tabled_settings.proofs.Common.{◌∙◌, ap, end_index}
 use Rattle.tabled_settings.proofs.Kept.{extract_carried, extract_done}
 use Rattle.tabled_settings.proofs.extract.ExtractTableOptionSpannedConfig.change.Goals as goal
 

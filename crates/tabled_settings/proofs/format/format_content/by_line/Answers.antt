@@ -1,9 +1,5 @@
-use Rattle.std.proofs.Common.{rules, arith, of_calls, ◌∙◌, [], ◌∷◌, string_bytes, append-nil, refl, sym}
+use Rattle.tabled_settings.proofs.Common.{[], ◌∙◌, ◌∷◌, append-nil, append_assoc, arith, encode_ascii, lines, lines_steps, of_calls, refl, rules, string_bytes, sym}
 use Rattle.std.proofs.lemmas.Iterator.Splits.{YieldsList-from_lines}
-use Rattle.std.proofs.lemmas.List.{append_assoc}
-use Rattle.std.proofs.lemmas.Str.{encode_ascii}
-use Rattle.std.specs.Str.Iter.{lines_steps}
-use Rattle.std.specs.Str.Lines.{lines}
 use Rattle.tabled_settings.proofs.Turns.{last_at, turn}
 use Rattle.tabled_settings.proofs.format.format_content.by_line.Goals as goal
 

@@ -1,9 +1,4 @@
-use Rattle.std.proofs.Common.{◌≡◌, ◌++◌, ℕ, List, ◌∷◌, string_bytes}
-use Rattle.std.specs.Iterator.{AlwaysYields}
-use Rattle.std.specs.List.{flat_map}
-use Rattle.std.specs.Str.Iter.{lines_steps}
-use Rattle.std.specs.Str.Lines.{lines}
-use Rattle.tabled_settings.specs.Contents.{Asked, AskedInTurn, joined_lines}
+use Rattle.tabled_settings.proofs.Common.{◌++◌, ◌∷◌, ◌≡◌, AlwaysYields, Asked, AskedInTurn, List, flat_map, joined_lines, lines, lines_steps, string_bytes, ℕ}
 use Rattle.tabled_settings.proofs.format.format_content.by_line.Given as goal
 
 abbrev pub invariant-loop-line : goal.invariant-loop-line

@@ -1,6 +1,4 @@
-use Rattle.std.proofs.Common.{arith, ◌≡◌, suc, ◌-◌}
-use Rattle.std.proofs.lemmas.List.{append_assoc}
-use Rattle.std.proofs.lemmas.Str.{encode_ascii}
+use Rattle.tabled_settings.proofs.Common.{◌-◌, ◌≡◌, append_assoc, arith, encode_ascii, suc}
 use Rattle.tabled_settings.proofs.formatting.charset.push_spaces.Goals as goal
 
 pub loop-left-preserved : goal.loop-left-preserved

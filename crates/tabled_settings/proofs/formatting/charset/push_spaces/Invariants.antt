@@ -1,4 +1,4 @@
-use Rattle.std.proofs.Common.{◌≡◌, ◌++◌, replicate, string_bytes}
+use Rattle.tabled_settings.proofs.Common.{◌++◌, ◌≡◌, replicate, string_bytes}
 use Rattle.tabled_settings.proofs.formatting.charset.push_spaces.Given as goal
 
 abbrev pub invariant-loop-left : goal.invariant-loop-left

@@ -1,7 +1,4 @@
-use Rattle.std.proofs.Common.{rules, ◌≡◌, true}
-use Rattle.std.proofs.lemmas.Result.{on_err_weaker, on_ok_weaker}
-use Rattle.tabled_grid.specs.Grid.{map_grid}
-use Rattle.tabled_settings.specs.Charsets.{is_set}
+use Rattle.tabled_settings.proofs.Common.{◌≡◌, is_set, map_grid, on_err_weaker, on_ok_weaker, rules, true}
 use Rattle.tabled_settings.proofs.Mapped.{charset-all, charset-until, not_unset}
 use Rattle.tabled_settings.proofs.formatting.charset.recode.Goals as goal
 

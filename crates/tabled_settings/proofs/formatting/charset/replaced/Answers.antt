@@ -1,6 +1,4 @@
-use Rattle.std.proofs.Common.{[], append-nil, refl}
-use Rattle.std.proofs.lemmas.Bool.{ne_eqb}
-use Rattle.std.proofs.lemmas.List.{nil_from_length}
+use Rattle.tabled_settings.proofs.Common.{[], append-nil, ne_eqb, nil_from_length, refl}
 use Rattle.tabled_settings.proofs.Replacing.{replaced-more}
 use Rattle.tabled_settings.proofs.formatting.charset.replaced.Goals as goal
 

@@ -1,6 +1,5 @@
-use Rattle.std.proofs.Common.{◌≡◌, ◌++◌, flat_map, string_bytes}
-use Rattle.std.specs.Str.Iter.{chars_rest}
-use Rattle.tabled_settings.specs.Charsets.{replaced}
+use Rattle.tabled_settings.proofs.Common.{◌++◌, ◌≡◌, chars_rest, replaced, string_bytes}
+use Rattle.std.proofs.Common.{flat_map}
 use Rattle.tabled_settings.proofs.formatting.charset.replaced.Given as goal
 
 abbrev pub invariant-loop-c : goal.invariant-loop-c

@@ -1,4 +1,4 @@
-use Rattle.tabled_settings.specs.Lines.{is_marked}
+use Rattle.tabled_settings.proofs.Common.{is_marked}
 use Rattle.std.specs.Prelude.{length}
 use Rattle.tabled_settings.proofs.RisingLists.{left_rises}
 use Rattle.tabled_settings.proofs.kept_lines.Kept.unmarked.Goals as goal

@@ -1,22 +1,15 @@
-use Rattle.std.proofs.Common.{◌≡◌, ℕ, ◌+◌, ◌-◌, ◌≤◌, ◌⊎◌, inl, inr, Some, ap, ap₂, arith, subst, sym, ◌∙◌}
-use Rattle.tabled_grid.specs.Axis.{count_of, in_line, line_of}
-use Rattle.tabled_grid.specs.declared.config.position.Position.{Position}
-use Rattle.tabled_carry.specs.Images.{Carries}
-use Rattle.tabled_carry.proofs.RectanglesCarried.{carries_one}
-use Rattle.tabled_settings.specs.Places.{lines_from}
-use Rattle.tabled_settings.specs.Rearranged.{reversed_index}
+use Rattle.tabled_settings.proofs.Common.{◌+◌, ◌-◌, ◌∙◌, ◌≡◌, ◌≤◌, ◌⊎◌, Carries, Position, Some, ap, ap₂, arith, carries_one, count_of, in_line, inl, inr, line_of, lines_from, reversed_index, subst, sym, ℕ}
 use Rattle.tabled_settings.proofs.MirroredParts.{part_mirrored, part_stays}
 use Rattle.tabled_settings.proofs.Reversed.{index_inside, index_outside}
 use Rattle.tabled_settings.proofs.reverse.MirrorMovesRectangles.new_rectangle.Goals as goal
-use Rattle.tabled_settings.proofs.reverse.MirrorMovesRectangles.new_rectangle.Goals.{then-past-self-via-then-past-self, then-past-self-via-else-past-self+then-self-line}
 
 pub returns-then-past-self-clause-carries : goal.returns-then-past-self-clause-carries
 returns-then-past-self-clause-carries c =
     let t = c.args.self.now in
     let n = count_of t.axis t.rows t.columns in
     let beside : (line_of t.axis c.args.of.0 + count_of t.axis c.args.of.1.height c.args.of.1.width ≤ t.start) ⊎ (t.end ≤ line_of t.axis c.args.of.0) = elim c.then-past-self.branch [
-      | then-past-self-via-then-past-self w ↦ inl (omega (arith, w.if-past-self.true, c.line_of-line.ensures, c.count_of.ensures))
-      | then-past-self-via-else-past-self+then-self-line w ↦ inr (omega (arith, w.if-self-line.true, c.line_of-line.ensures))
+      | goal.then-past-self-via-then-past-self w ↦ inl (omega (arith, w.if-past-self.true, c.line_of-line.ensures, c.count_of.ensures))
+      | goal.then-past-self-via-else-past-self+then-self-line w ↦ inr (omega (arith, w.if-self-line.true, c.line_of-line.ensures))
     ] in
     part_stays t.axis (reversed_index t.start t.end n) t.rows t.columns t.start t.end (λ i low below. index_inside t.start t.end n i (omega (arith, c.if-self-count.false, c.count_of-count.ensures)) low below) (λ i within. index_outside t.start t.end n i) c.args.of.0 c.args.of.1 (omega (arith, c.if-first-height.false)) (omega (arith, c.if-first-width.false)) beside
 

@@ -1,4 +1,4 @@
-use Rattle.std.proofs.Common.{sym, ◌∙◌}
+use Rattle.tabled_settings.proofs.Common.{◌∙◌, sym}
 use Rattle.tabled_settings.proofs.Reversed.{reversed_done}
 use Rattle.tabled_settings.proofs.LineReads.{counted}
 use Rattle.tabled_settings.proofs.MirroredSpans.{reversal_carried}

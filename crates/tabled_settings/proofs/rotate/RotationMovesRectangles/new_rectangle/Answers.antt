@@ -1,17 +1,13 @@
-use Rattle.std.proofs.Common.{Some, ap, arith}
-use Rattle.tabled_carry.proofs.RectanglesCarried.{carries_one}
-use Rattle.tabled_settings.specs.declared.rotate.Rotate.TheVariants.{Left, Right}
+use Rattle.tabled_settings.proofs.Common.{Left, Right, Some, ap, arith, carries_one, sized}
 use Rattle.tabled_settings.proofs.TurnedRectangles.{turned_inside, turned_left, turned_over, turned_right, turned_to}
 use Rattle.tabled_settings.proofs.rotate.RotationMovesRectangles.new_rectangle.Goals as goal
-use Rattle.tabled_settings.proofs.rotate.RotationMovesRectangles.new_rectangle.Goals.{then-bottom-self-via-then-bottom-self, then-bottom-self-via-else-bottom-self+then-right-self}
-use Rattle.tabled_grid.specs.Spans.{sized}
 
 pub returns-then-bottom-self-clause-finds : goal.returns-then-bottom-self-clause-finds
 returns-then-bottom-self-clause-finds c = λ f carries whole.
     let inside = turned_inside c.args.self.now.rotate c.args.self.now.rows c.args.self.now.columns c.args.of f c.requires.full carries in
     let never : ⊥ = elim c.then-bottom-self.branch [
-      | then-bottom-self-via-then-bottom-self w ↦ omega (arith, inside.0, w.if-bottom-self.true)
-      | then-bottom-self-via-else-bottom-self+then-right-self w ↦ omega (arith, inside.1, w.if-right-self.true)
+      | goal.then-bottom-self-via-then-bottom-self w ↦ omega (arith, inside.0, w.if-bottom-self.true)
+      | goal.then-bottom-self-via-else-bottom-self+then-right-self w ↦ omega (arith, inside.1, w.if-right-self.true)
     ] in
     absurd never
 

@@ -1,7 +1,4 @@
-use Rattle.std.proofs.Common.{ℕ, ◌*◌, ◌<◌, List, length, get_or, subst, sym, arith}
-use Rattle.std.specs.Int.{div_ceil}
-use Rattle.std.specs.List.Sorted.{IsStrictlyIncreasing}
-use Rattle.tabled_grid.specs.Axis.{across}
+use Rattle.tabled_settings.proofs.Common.{◌*◌, ◌<◌, IsStrictlyIncreasing, List, across, arith, div_ceil, get_or, length, subst, sym, ℕ}
 use Rattle.tabled_settings.proofs.PiecePlaces.{clean_places, clean_splits, retained_places, retained_splits, spans_carried}
 use Rattle.tabled_settings.proofs.PiecesDone.{CanBeCut, kept_below, kept_rising, lines_counted}
 use Rattle.tabled_settings.proofs.split.SplitTableOptionSpannedConfig.change.Goals as goal

@@ -1,13 +1,12 @@
-use Rattle.std.proofs.Common.{◌∙◌, arith}
+use Rattle.tabled_spans.proofs.Common.{◌∙◌, arith}
 use Rattle.tabled_spans.proofs.Anchored.{anchor_found, none_left, none_past}
 use Rattle.tabled_spans.proofs.merge.anchored.is_anchor.Goals as goal
-use Rattle.tabled_spans.proofs.merge.anchored.is_anchor.Goals.{then-many-eq0-via-then-many-eq0, then-many-eq0-via-else-many-eq0+then-anchors-many}
 
 pub returns-then-many-eq0 : goal.returns-then-many-eq0
 returns-then-many-eq0 c =
     elim c.then-many-eq0.branch [
-      | then-many-eq0-via-then-many-eq0 w ↦ none_left c.args.cfg.now c.args.pos c.args.many c.requires w.if-many-eq0.true
-      | then-many-eq0-via-else-many-eq0+then-anchors-many w ↦ none_past c.args.cfg.now c.args.pos c.args.many c.requires _ (omega (arith, w.if-many-eq0.false)) (rw c.anchors-anchors.ensures.anchors at w.if-anchors-many.true)
+      | goal.then-many-eq0-via-then-many-eq0 w ↦ none_left c.args.cfg.now c.args.pos c.args.many c.requires w.if-many-eq0.true
+      | goal.then-many-eq0-via-else-many-eq0+then-anchors-many w ↦ none_past c.args.cfg.now c.args.pos c.args.many c.requires _ (omega (arith, w.if-many-eq0.false)) (rw c.anchors-anchors.ensures.anchors at w.if-anchors-many.true)
     ]
 
 pub returns : goal.returns

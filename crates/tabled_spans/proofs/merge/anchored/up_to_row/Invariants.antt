@@ -1,4 +1,4 @@
-use Rattle.tabled_spans.specs.RunSteps.{StandBelow}
+use Rattle.tabled_spans.proofs.Common.{StandBelow}
 use Rattle.tabled_spans.proofs.merge.anchored.up_to_row.Given as goal
 
 abbrev pub invariant-loop-many : goal.invariant-loop-many

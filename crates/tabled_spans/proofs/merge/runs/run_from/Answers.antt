@@ -1,6 +1,4 @@
-use Rattle.std.proofs.Common.{◌+◌, ◌<◌, ◌^◌, arith, slice_index}
-use Rattle.std.proofs.lemmas.Bool.{ltb-true}
-use Rattle.tabled_grid.specs.Grid.{IsInside, map_grid}
+use Rattle.tabled_spans.proofs.Common.{◌+◌, ◌<◌, ◌^◌, IsInside, arith, ltb-true, map_grid, slice_index}
 use Rattle.tabled_spans.proofs.Tails.{tail_alone, tail_fits, tail_here, tail_joins, tail_more, tails_set}
 use Rattle.tabled_spans.proofs.merge.runs.run_from.Goals as goal
 

@@ -1,9 +1,4 @@
-use Rattle.std.proofs.Common.{◌≡◌, ◌+◌, ◌-◌, ◌≤◌, ◌∷◌, ◌++◌, [], ◌∙◌, ap, drop, length, replicate, reverse, rules, subst, sym, arith}
-use Rattle.std.proofs.lemmas.List.{reverse-append, take_at}
-use Rattle.tabled_grid.specs.Entity.{place}
-use Rattle.tabled_grid.specs.Grid.{map_grid}
-use Rattle.tabled_spans.specs.RunSteps.{AreTails, RunsFrom}
-use Rattle.tabled_spans.specs.Runs.{size_of_run}
+use Rattle.tabled_spans.proofs.Common.{[], ◌++◌, ◌+◌, ◌-◌, ◌∙◌, ◌∷◌, ◌≡◌, ◌≤◌, AreTails, RunsFrom, ap, arith, drop, length, map_grid, place, replicate, reverse, reverse-append, rules, size_of_run, subst, sym, take_at}
 use Rattle.tabled_spans.proofs.Anchored.{stand_higher, stand_none}
 use Rattle.tabled_spans.proofs.RunsFrom.{from_end, none_below, none_put, run_put}
 use Rattle.tabled_spans.proofs.Tails.{tails_below, tails_end}

@@ -1,6 +1,4 @@
-use Rattle.std.proofs.Common.{ℕ, ◌<◌, reverse}
-use Rattle.tabled_grid.specs.Grid.{map_grid}
-use Rattle.tabled_spans.specs.RunSteps.{AreTails, RunsFrom, StandBelow}
+use Rattle.tabled_spans.proofs.Common.{◌<◌, AreTails, RunsFrom, StandBelow, map_grid, reverse, ℕ}
 use Rattle.tabled_spans.proofs.merge.runs.runs.Given as goal
 
 abbrev pub invariant-loop-i : goal.invariant-loop-i

@@ -1,15 +1,7 @@
-use Rattle.std.proofs.Common.{◌≡◌, ◌∙◌, ◌++◌, ap, refl, sym, append-nil, encode_utf8}
-use Rattle.std.proofs.lemmas.Bool.{false≢true}
-use Rattle.std.proofs.lemmas.List.{nil_from_length}
-use Rattle.std.proofs.lemmas.Str.{IsUtf8-past_char, chars-nil}
-use Rattle.std.specs.Prelude.{chars, encode_utf8_all}
-use Rattle.std.specs.Str.Iter.{chars_rest}
-use Rattle.std.specs.String.{string_bytes}
-use Rattle.tabled_spans.specs.Widths.{pieces, placed}
+use Rattle.tabled_spans.proofs.Common.{◌++◌, ◌∙◌, ◌≡◌, IsUtf8-past_char, ap, append-nil, chars, chars-nil, chars_rest, encode_utf8, encode_utf8_all, false≢true, nil_from_length, pieces, placed, refl, string_bytes, sym}
 use Rattle.tabled_spans.proofs.Parts.{text_is_cut}
 use Rattle.tabled_spans.proofs.Widths.{Pushed, piece_more}
 use Rattle.tabled_spans.proofs.panel.width.cut_text.Goals as goal
-use Rattle.tabled_spans.proofs.panel.width.cut_text.Goals.{then-begins+in_ok-push, else-begins}
 
 pub loop-c-init : goal.loop-c-init
 loop-c-init c =
@@ -27,8 +19,8 @@ loop-c-preserved c =
     let rest = chars_rest c.next.new.self in
     let step : whole ≡ encode_utf8 c.in-Some.c ++ rest = c.in-Some.ensures.steps.0 in
     let pushed : Pushed (placed c.args.width c.loop-c.used c.in-Some.c).begins (string_bytes c.loop-c.out) (string_bytes c.if-begins.out) = elim c.if-begins.branch [
-      | then-begins+in_ok-push w ↦ record { newline = λ e. ap string_bytes w.out-is ∙ w.in_ok-push.ensures.bytes; none = λ e. absurd (false≢true (sym e ∙ sym c.place-begins.ensures.begins ∙ w.if-begins.true)) }
-      | else-begins w ↦ record { newline = λ e. absurd (false≢true (sym w.if-begins.false ∙ c.place-begins.ensures.begins ∙ e)); none = λ e. ap string_bytes w.out-is }
+      | goal.then-begins+in_ok-push w ↦ record { newline = λ e. ap string_bytes w.out-is ∙ w.in_ok-push.ensures.bytes; none = λ e. absurd (false≢true (sym e ∙ sym c.place-begins.ensures.begins ∙ w.if-begins.true)) }
+      | goal.else-begins w ↦ record { newline = λ e. absurd (false≢true (sym w.if-begins.false ∙ c.place-begins.ensures.begins ∙ e)); none = λ e. ap string_bytes w.out-is }
     ] in
     record {
       can = tt;

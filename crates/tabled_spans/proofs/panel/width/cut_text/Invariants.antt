@@ -1,8 +1,5 @@
-use Rattle.std.proofs.Common.{◌≡◌, ◌++◌, string_bytes}
-use Rattle.std.specs.Prelude.{chars, encode_utf8_all}
-use Rattle.std.specs.Str.{IsUtf8}
-use Rattle.std.specs.Str.Iter.{chars_rest}
-use Rattle.tabled_spans.specs.Widths.{pieces}
+use Rattle.tabled_spans.proofs.Common.{◌++◌, ◌≡◌, IsUtf8, chars, chars_rest, encode_utf8_all, pieces}
+use Rattle.std.proofs.Common.{string_bytes}
 use Rattle.tabled_spans.proofs.panel.width.cut_text.Given as goal
 
 abbrev pub invariant-loop-c : goal.invariant-loop-c

@@ -1,8 +1,4 @@
-use Rattle.std.proofs.Common.{ℕ, ◌≤◌}
-use Rattle.tabled_grid.specs.Axis.{resized}
-use Rattle.tabled_grid.specs.declared.records.axis.Axis.{Axis}
-use Rattle.tabled_grid.specs.declared.records.axis.Axis.TheVariants.{Rows, Columns}
-use Rattle.tabled_grid.specs.declared.config.size.Size.{Size}
+use Rattle.tabled_spans.proofs.Common.{◌≤◌, Axis, Columns, Rows, Size, resized, ℕ}
 use Rattle.tabled_spans.proofs.span.along.resized.Goals as goal
 
 full : (axis : Axis) (size : Size) (many : ℕ) → 1 ≤ size.height → 1 ≤ size.width → 1 ≤ many → (1 ≤ (resized axis size many).height) × (1 ≤ (resized axis size many).width)

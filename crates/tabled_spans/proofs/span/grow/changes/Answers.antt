@@ -1,9 +1,4 @@
-use Rattle.std.proofs.Common.{rules, ◌≡◌, ◌++◌, ◌-◌, ◌≤◌, ◌∙◌, ◌∷◌, refl, ap, arith}
-use Rattle.std.specs.Prelude.{T, min}
-use Rattle.std.specs.FinMap.{is_sorted}
-use Rattle.tabled_grid.specs.Covers.{Cover}
-use Rattle.tabled_grid.specs.Spans.{position_cmp, size_at, sized, with_sizes}
-use Rattle.tabled_grid.specs.Axis.{count_of, line_of}
+use Rattle.tabled_spans.proofs.Common.{◌++◌, ◌-◌, ◌∙◌, ◌∷◌, ◌≡◌, ◌≤◌, Cover, T, ap, arith, count_of, is_sorted, line_of, min, position_cmp, refl, rules, size_at, sized, with_sizes}
 use Rattle.tabled_spans.proofs.Reach.{inside-reach}
 use Rattle.tabled_spans.proofs.RisingPlaces.{ones, sorted_inside}
 use Rattle.tabled_spans.proofs.SpanChanges.{changes-more, cover-change, line_within, reach_end, size-before, sorted-change}

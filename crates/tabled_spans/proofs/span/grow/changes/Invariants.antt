@@ -1,14 +1,4 @@
-use Rattle.std.proofs.Common.{◌≡◌, true, ◌++◌, length}
-use Rattle.std.specs.Prelude.{T}
-use Rattle.std.specs.FinMap.{is_sorted}
-use Rattle.std.specs.List.{AllByRecursion}
-use Rattle.tabled_grid.specs.Covers.{cover_in}
-use Rattle.tabled_grid.specs.Entity.{inside, names}
-use Rattle.tabled_grid.specs.Spans.{IsSizeAt, position_cmp, with_sizes}
-use Rattle.tabled_grid.specs.declared.config.position.Position.{Position}
-use Rattle.tabled_grid.specs.Axis.{across, count_of}
-use Rattle.tabled_spans.specs.Spanned.{grown_each}
-use Rattle.tabled_spans.specs.SpanSteps.{InReach}
+use Rattle.tabled_spans.proofs.Common.{◌++◌, ◌≡◌, AllByRecursion, InReach, IsSizeAt, Position, T, across, count_of, cover_in, grown_each, inside, is_sorted, length, names, position_cmp, true, with_sizes}
 use Rattle.tabled_spans.proofs.RisingPlaces.{ones}
 use Rattle.tabled_spans.proofs.span.grow.changes.Given as goal
 

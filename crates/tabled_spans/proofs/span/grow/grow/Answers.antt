@@ -1,6 +1,4 @@
-use Rattle.std.proofs.Common.{◌≡◌, ◌∙◌, ◌∷◌, arith, sym}
-use Rattle.tabled_grid.specs.Entity.{inside}
-use Rattle.tabled_grid.proofs.Places.{inside-within}
+use Rattle.tabled_spans.proofs.Common.{◌∙◌, ◌∷◌, ◌≡◌, arith, inside, inside-within, sym}
 use Rattle.tabled_spans.proofs.SpanChanges.{index_within}
 use Rattle.tabled_spans.proofs.span.grow.grow.Goals as goal
 

@@ -1,7 +1,4 @@
-use Rattle.std.proofs.Common.{◌≡◌, ◌+◌, ◌-◌, ◌∙◌, ap, sym, false, true, arith}
-use Rattle.std.specs.Prelude.{not}
-use Rattle.tabled_grid.specs.Hidden.{is_hidden, is_visible}
-use Rattle.tabled_grid.specs.Axis.{in_line, line_of}
+use Rattle.tabled_spans.proofs.Common.{◌+◌, ◌-◌, ◌∙◌, ◌≡◌, ap, arith, false, in_line, is_hidden, is_visible, line_of, not, sym, true}
 use Rattle.tabled_spans.proofs.FreeCells.{one_fails, one_passes}
 use Rattle.tabled_spans.proofs.span.grow.is_free.Goals as goal
 

@@ -1,5 +1,4 @@
-use Rattle.std.proofs.Common.{◌∙◌, refl}
-use Rattle.tabled_grid.proofs.Places.{inside-within}
+use Rattle.tabled_spans.proofs.Common.{◌∙◌, inside-within, refl}
 use Rattle.tabled_spans.proofs.span.pull.changes.Goals as goal
 
 pub loop-pos-init : goal.loop-pos-init

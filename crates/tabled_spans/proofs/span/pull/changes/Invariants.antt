@@ -1,12 +1,4 @@
-use Rattle.std.proofs.Common.{◌≡◌, ◌<◌}
-use Rattle.std.specs.Prelude.{T}
-use Rattle.std.specs.FinMap.{is_sorted}
-use Rattle.std.specs.List.{AllByRecursion}
-use Rattle.tabled_grid.specs.Entity.{inside}
-use Rattle.tabled_grid.specs.Spans.{IsSizeAt, position_cmp, with_sizes}
-use Rattle.tabled_grid.specs.declared.config.position.Position.{Position}
-use Rattle.tabled_grid.specs.Axis.{count_of}
-use Rattle.tabled_spans.specs.Spanned.{pulled_each}
+use Rattle.tabled_spans.proofs.Common.{◌<◌, ◌≡◌, AllByRecursion, IsSizeAt, Position, T, count_of, inside, is_sorted, position_cmp, pulled_each, with_sizes}
 use Rattle.tabled_spans.proofs.span.pull.changes.Given as goal
 
 abbrev pub invariant-loop-pos : goal.invariant-loop-pos

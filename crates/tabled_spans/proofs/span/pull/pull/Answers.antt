@@ -1,8 +1,4 @@
-use Rattle.std.proofs.Common.{rules, ◌+◌, arith}
-use Rattle.std.specs.String.{string_bytes}
-use Rattle.tabled_grid.specs.Grid.{map_grid}
-use Rattle.tabled_options.proofs.Results.{on_err}
-use Rattle.tabled_spans.specs.Spanned.{pulling}
+use Rattle.tabled_spans.proofs.Common.{◌+◌, arith, map_grid, on_err, pulling, rules, string_bytes}
 use Rattle.tabled_spans.proofs.SpanWrites.{pull-more, pull-refused, pull-start}
 use Rattle.tabled_spans.proofs.span.pull.pull.Goals as goal
 

@@ -1,6 +1,4 @@
-use Rattle.std.proofs.Common.{◌≡◌, ◌-◌}
-use Rattle.tabled_grid.specs.Grid.{map_grid}
-use Rattle.tabled_spans.specs.Spanned.{emptying, pulling}
+use Rattle.tabled_spans.proofs.Common.{◌-◌, ◌≡◌, emptying, map_grid, pulling}
 use Rattle.tabled_spans.proofs.SpanWrites.{Continues}
 use Rattle.tabled_spans.proofs.span.pull.pull.Given as goal
 

@@ -1,9 +1,4 @@
-use Rattle.std.proofs.Common.{◌≡◌, ◌∙◌, refl}
-use Rattle.tabled_grid.specs.Grid.{map_grid}
-use Rattle.tabled_grid.proofs.Places.{inside-within}
-use Rattle.tabled_options.proofs.Results.{on_err}
-use Rattle.tabled_grid.specs.Axis.{count_of, line_of}
-use Rattle.tabled_spans.specs.Spanned.{pull_writes_on, taken}
+use Rattle.tabled_spans.proofs.Common.{◌∙◌, ◌≡◌, count_of, inside-within, line_of, map_grid, on_err, pull_writes_on, refl, taken}
 use Rattle.tabled_spans.proofs.SpanWrites.{cells_is, continues-start, pulled-first, pulled-here}
 use Rattle.tabled_spans.proofs.span.pull.pull_texts.Goals as goal
 

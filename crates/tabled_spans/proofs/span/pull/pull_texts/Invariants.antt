@@ -1,9 +1,4 @@
-use Rattle.std.proofs.Common.{◌≡◌, ◌<◌}
-use Rattle.std.specs.List.{AllByRecursion}
-use Rattle.tabled_grid.specs.Grid.{map_grid}
-use Rattle.tabled_grid.specs.declared.config.position.Position.{Position}
-use Rattle.tabled_grid.specs.Axis.{count_of}
-use Rattle.tabled_spans.specs.Spanned.{pull_writes, pull_writes_on}
+use Rattle.tabled_spans.proofs.Common.{◌<◌, ◌≡◌, AllByRecursion, Position, count_of, map_grid, pull_writes, pull_writes_on}
 use Rattle.tabled_spans.proofs.SpanWrites.{Continues}
 use Rattle.tabled_spans.proofs.span.pull.pull_texts.Given as goal
 

@@ -1,8 +1,4 @@
-use Rattle.std.proofs.Common.{◌∙◌, Ok, Err, Some, ap, sym}
-use Rattle.std.specs.FinMap.Entries.{put}
-use Rattle.tabled_grid.specs.Spans.{Rectangle, position_cmp}
-use Rattle.tabled_grid.proofs.SortedEntries.{put_found, put_missed, searchable, searched}
-use Rattle.tabled_grid.proofs.Spans.{positions_exact, positions_total}
+use Rattle.tabled_spans.proofs.Common.{◌∙◌, Err, Ok, Rectangle, Some, ap, position_cmp, positions_exact, positions_total, put, put_found, put_missed, searchable, searched, sym}
 use Rattle.tabled_spans.proofs.SetSizes.{span-put, size-set, size-unset, sorted-put}
 use Rattle.tabled_spans.proofs.span.pull.put_span.Goals as goal
 

@@ -1,7 +1,4 @@
-use Rattle.std.proofs.Common.{◌≡◌, ◌+◌, ◌-◌, ap, sym, ◌∙◌, arith}
-use Rattle.std.specs.List.{list_all}
-use Rattle.tabled_grid.specs.Axis.{line_of}
-use Rattle.tabled_spans.specs.SpanSteps.{is_clear}
+use Rattle.tabled_spans.proofs.Common.{◌+◌, ◌-◌, ◌∙◌, ◌≡◌, ap, arith, is_clear, line_of, list_all, sym}
 use Rattle.tabled_spans.proofs.Visible.{visible-clear}
 use Rattle.tabled_spans.proofs.span.visible.are_visible.Goals as goal
 

@@ -1,15 +1,13 @@
-use Rattle.std.proofs.Common.{sym, ◌∙◌, arith}
-use Rattle.std.proofs.lemmas.Bool.{le-leb}
+use Rattle.tabled_spans.proofs.Common.{◌∙◌, arith, le-leb, sym}
 use Rattle.tabled_spans.proofs.Visible.{clear-if, next-is, next-past, next-tells}
 use Rattle.tabled_spans.proofs.span.visible.is_clear.Goals as goal
-use Rattle.tabled_spans.proofs.span.visible.is_clear.Goals.{then-line-top-via-then-line-top, then-line-top-via-else-line-top+then-line-top-2}
 
 pub returns-then-line-top : goal.returns-then-line-top
 returns-then-line-top c =
     let a = c.across-across.ensures in
     elim c.then-line-top.branch [
-      | then-line-top-via-then-line-top w ↦ sym (clear-if c.args.axis c.args.anchor c.args.pos c.args.end (λ k low high at. omega (arith, at.top, (rw a at c.line_of-line.ensures), (rw a at c.line_of-top.ensures), w.if-line-top.true)))
-      | then-line-top-via-else-line-top+then-line-top-2 w ↦ sym (clear-if c.args.axis c.args.anchor c.args.pos c.args.end (λ k low high at. omega (arith, at.bottom, (rw a at c.line_of-line.ensures), (rw a at c.line_of-top.ensures), w.if-line-top.false, w.if-line-top-2.true, (rw a at w.lines_in.ensures))))
+      | goal.then-line-top-via-then-line-top w ↦ sym (clear-if c.args.axis c.args.anchor c.args.pos c.args.end (λ k low high at. omega (arith, at.top, (rw a at c.line_of-line.ensures), (rw a at c.line_of-top.ensures), w.if-line-top.true)))
+      | goal.then-line-top-via-else-line-top+then-line-top-2 w ↦ sym (clear-if c.args.axis c.args.anchor c.args.pos c.args.end (λ k low high at. omega (arith, at.bottom, (rw a at c.line_of-line.ensures), (rw a at c.line_of-top.ensures), w.if-line-top.false, w.if-line-top-2.true, (rw a at w.lines_in.ensures))))
     ]
 
 pub returns-then-k-end : goal.returns-then-k-end

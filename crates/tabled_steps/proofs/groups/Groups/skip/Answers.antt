@@ -1,4 +1,4 @@
-use Rattle.std.proofs.Common.{◌∙◌, ap, drop}
+use Rattle.tabled_steps.proofs.Common.{◌∙◌, ap, drop}
 use Rattle.tabled_steps.proofs.GroupSteps.{once-skipped}
 use Rattle.tabled_steps.proofs.groups.Groups.skip.Goals as goal
 

@@ -1,5 +1,4 @@
-use Rattle.std.proofs.Common.{◌∙◌, ap}
-use Rattle.tabled_select.specs.Steps.{every}
+use Rattle.tabled_steps.proofs.Common.{◌∙◌, ap, every}
 use Rattle.tabled_steps.proofs.GroupSteps.{once-stepped}
 use Rattle.tabled_steps.proofs.groups.Groups.step_by.Goals as goal
 

@@ -1,7 +1,6 @@
-use Rattle.std.proofs.Common.{[], ◌∷◌, map, refl}
+use Rattle.tabled_steps.proofs.Common.{[], ◌∷◌, map, once, refl}
 use Rattle.tabled_steps.proofs.GoneOver.{gives_items}
 use Rattle.tabled_steps.proofs.Outside.{each_once}
-use Rattle.tabled_steps.specs.Groups.{once}
 use Rattle.tabled_steps.proofs.representatives.RepresentativesObject.cells.Goals as goal
 
 pub returns-in_ok-representatives-in-None : goal.returns-in_ok-representatives-in-None

@@ -1,7 +1,4 @@
-use Rattle.std.proofs.Common.{◌≡◌, ◌∙◌, List, Result, IfOk, ap}
-use Rattle.std.proofs.lemmas.Result.{IfOk-weaker}
-use Rattle.tabled_grid.specs.declared.config.entity.Entity.{Entity}
-use Rattle.tabled_select.specs.Algebra.{cells_of, difference_of, flat, intersection_of, inversion_of, union_of}
+use Rattle.tabled_steps.proofs.Common.{◌∙◌, ◌≡◌, Entity, IfOk, IfOk-weaker, List, Result, ap, cells_of, difference_of, flat, intersection_of, inversion_of, union_of}
 use Rattle.tabled_steps.proofs.Outside.{each_once}
 use Rattle.tabled_steps.proofs.RepresentedPlaces.{cells_alike}
 use Rattle.tabled_steps.proofs.selector.Selector.+listing.Goals as goal

@@ -1,4 +1,4 @@
-use Rattle.std.proofs.Common.{refl}
+use Rattle.tabled_steps.proofs.Common.{refl}
 use Rattle.tabled_select.proofs.Located.{vec-gives}
 use Rattle.tabled_steps.proofs.selector.SelectorObject.cells.Goals as goal
 

@@ -1,11 +1,6 @@
-use Rattle.std.proofs.Common.{inr, rules, w64}
+use Rattle.tabled_steps.proofs.Common.{Columns, IfErr-weaker, Rows, charset_writes, inr, on_err_weaker, on_ok_weaker, rules, string_bytes, text_writes, w64}
 use Rattle.std.proofs.lemmas.Int.{to_z-of_z}
 use mir.Val.{SFits}
-use Rattle.std.proofs.lemmas.Result.{IfErr-weaker, on_err_weaker, on_ok_weaker}
-use Rattle.std.specs.String.{string_bytes}
-use Rattle.tabled_grid.specs.declared.records.axis.Axis.TheVariants.{Columns, Rows}
-use Rattle.tabled_options.specs.Writes.{text_writes}
-use Rattle.tabled_settings.specs.Charsets.{charset_writes}
 use Rattle.tabled_steps.proofs.LocalChanges.{local_charset, local_spans, local_text, local_writes}
 use Rattle.tabled_steps.proofs.RepresentedPlaces.{duplicated_represented, duplicated_represented_refused}
 use Rattle.tabled_steps.proofs.step.Step.+apply.Goals as goal

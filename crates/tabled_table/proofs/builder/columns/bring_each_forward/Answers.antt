@@ -1,8 +1,4 @@
-use Rattle.std.proofs.Common.{◌∙◌, ap, arith, get_or, map, vec_len}
-use Rattle.std.specs.String.{string_bytes}
-use Rattle.std.proofs.lemmas.List.{with_items_is}
-use Rattle.tabled_table.specs.Gathering.{brought_forward}
-use Rattle.tabled_table.proofs.RowByRow.{changed_all, changed_more, rest_more, rest_next}
+use Rattle.tabled_table.proofs.Common.{◌∙◌, ap, arith, brought_forward, changed_all, changed_more, get_or, map, rest_more, rest_next, string_bytes, vec_len, with_items_is}
 use Rattle.tabled_table.proofs.builder.columns.bring_each_forward.Goals as goal
 
 pub bring_forward-requires-clause-within : goal.bring_forward-requires-clause-within

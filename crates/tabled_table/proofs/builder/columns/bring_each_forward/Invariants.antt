@@ -1,7 +1,4 @@
-use Rattle.std.proofs.Common.{◌≡◌, ℕ, List, drop}
-use Rattle.tabled_table.specs.Gathering.{brought_forward}
-use Rattle.tabled_table.proofs.RowByRow.{ChangedBy}
-use Rattle.tabled_table.proofs.RowTexts.{texts_of}
+use Rattle.tabled_table.proofs.Common.{◌≡◌, ChangedBy, List, brought_forward, drop, texts_of, ℕ}
 use Rattle.tabled_table.proofs.builder.columns.bring_each_forward.Given as goal
 
 abbrev pub invariant-loop-row : goal.invariant-loop-row

@@ -1,6 +1,4 @@
-use Rattle.std.proofs.Common.{◌≡◌, ◌+◌, ◌≤◌, drop, map}
-use Rattle.std.specs.String.{string_bytes}
-use Rattle.tabled_table.specs.Gathering.{brought_forward}
+use Rattle.tabled_table.proofs.Common.{◌+◌, ◌≡◌, ◌≤◌, brought_forward, drop, map, string_bytes}
 use Rattle.tabled_table.proofs.builder.columns.bring_forward.Given as goal
 
 abbrev pub invariant-loop-i : goal.invariant-loop-i

@@ -1,6 +1,5 @@
-use Rattle.std.proofs.Common.{◌+◌, ◌≤◌, ◌≡◌, ◌∙◌, arith, false, length, replicate, sym, take}
+use Rattle.tabled_table.proofs.Common.{◌+◌, ◌∙◌, ◌≡◌, ◌≤◌, All-lens, arith, false, length, replicate, sym, take}
 use Rattle.std.proofs.lemmas.List.Sums.{count_by-le-length, length-filter}
-use Rattle.tabled_table.proofs.RowTexts.{All-lens}
 use Rattle.tabled_table.proofs.Cleaned.{few_marks, unmarked, gathered_rows_none, gathered_rows_next, gathered_rows_even, gathered_rows_more, gathered_rows_all}
 use Rattle.tabled_table.proofs.builder.columns.gather.Goals as goal
 

@@ -1,5 +1,4 @@
-use Rattle.std.proofs.Common.{◌-◌, ◌≤◌}
-use Rattle.tabled_table.specs.Builder.{row_texts}
+use Rattle.tabled_table.proofs.Common.{◌-◌, ◌≤◌, row_texts}
 use Rattle.tabled_table.proofs.Cleaned.{GatheredRows}
 use Rattle.tabled_table.proofs.builder.columns.gather.Given as goal
 

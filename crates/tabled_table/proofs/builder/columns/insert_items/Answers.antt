@@ -1,13 +1,4 @@
-use Rattle.std.proofs.Common.{◌≡◌, ◌+◌, ◌∷◌, ◌∙◌, ap, arith, drop, get_or, map, refl, sym}
-use Rattle.std.specs.String.{string_bytes}
-use Rattle.std.specs.Vec.Iter.{into_iter_items}
-use Rattle.std.proofs.lemmas.List.{drop-drop}
-use Rattle.tabled_grid.proofs.Lists.{map-insert}
-use Rattle.tabled_grid.proofs.RowByRow.{same_lens}
-use Rattle.tabled_options.proofs.Results.{on_err}
-use Rattle.tabled_table.specs.Builder.{row_texts, with_items}
-use Rattle.tabled_table.proofs.RowByRow.{all_done, one_more, rest_more, rest_next}
-use Rattle.tabled_table.proofs.RowTexts.{texts_kept, texts_of}
+use Rattle.tabled_table.proofs.Common.{◌+◌, ◌∙◌, ◌∷◌, ◌≡◌, all_done, ap, arith, drop, drop-drop, get_or, into_iter_items, map, map-insert, on_err, one_more, refl, rest_more, rest_next, row_texts, same_lens, string_bytes, sym, texts_kept, texts_of, with_items}
 use Rattle.tabled_table.proofs.builder.columns.insert_items.Goals as goal
 
 pub insert-requires : goal.insert-requires

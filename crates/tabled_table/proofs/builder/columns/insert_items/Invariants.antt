@@ -1,7 +1,4 @@
-use Rattle.std.proofs.Common.{◌≡◌, ◌++◌, drop, map, take}
-use Rattle.std.specs.String.{string_bytes}
-use Rattle.std.specs.Vec.Iter.{into_iter_items}
-use Rattle.tabled_table.specs.Builder.{row_texts, with_items}
+use Rattle.tabled_table.proofs.Common.{◌++◌, ◌≡◌, drop, into_iter_items, map, row_texts, string_bytes, take, with_items}
 use Rattle.tabled_table.proofs.builder.columns.insert_items.Given as goal
 
 abbrev pub invariant-loop-row : goal.invariant-loop-row

@@ -1,6 +1,4 @@
-use Rattle.std.proofs.Common.{◌≡◌, ◌+◌, ◌||◌, false, drop, get_or}
-use Rattle.std.specs.List.{EachIndex}
-use Rattle.tabled_table.specs.Builder.{has_text_in, row_texts}
+use Rattle.tabled_table.proofs.Common.{◌+◌, ◌||◌, ◌≡◌, EachIndex, drop, false, get_or, has_text_in, row_texts}
 use Rattle.tabled_table.proofs.builder.columns.mark_columns.Given as goal
 
 abbrev pub invariant-loop-row : goal.invariant-loop-row

@@ -1,6 +1,4 @@
-use Rattle.std.proofs.Common.{◌≡◌, ◌+◌, ◌<◌, ◌≤◌, ◌||◌, ℕ, [], false, get_or, map, not}
-use Rattle.std.specs.String.{string_bytes}
-use Rattle.tabled_table.specs.Builder.{is_empty_text}
+use Rattle.tabled_table.proofs.Common.{[], ◌+◌, ◌<◌, ◌||◌, ◌≡◌, ◌≤◌, false, get_or, is_empty_text, map, not, string_bytes, ℕ}
 use Rattle.tabled_table.proofs.builder.columns.mark_row.Given as goal
 
 abbrev pub invariant-loop-i : goal.invariant-loop-i

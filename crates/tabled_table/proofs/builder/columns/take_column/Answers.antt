@@ -1,11 +1,4 @@
-use Rattle.std.proofs.Common.{◌≡◌, ℕ, ◌+◌, ◌<◌, List, [], ◌∷◌, ◌++◌, String, ◌∙◌, ap, ap₂, arith, get_or, length, map, sym, take, vec_len}
-use Rattle.std.specs.Global.{Global, Vec}
-use Rattle.std.specs.String.{string_bytes}
-use Rattle.std.proofs.lemmas.List.{get_or-map, length-map, map_more, map_push, take_all}
-use Rattle.tabled_grid.proofs.Lists.{map-remove}
-use Rattle.tabled_table.specs.Builder.{column_of, row_texts}
-use Rattle.tabled_table.proofs.RowByRow.{changed_all, changed_more, rest_more, rest_next}
-use Rattle.tabled_table.proofs.RowTexts.{texts_of}
+use Rattle.tabled_table.proofs.Common.{[], ◌++◌, ◌+◌, ◌<◌, ◌∙◌, ◌∷◌, ◌≡◌, Global, List, String, Vec, ap, ap₂, arith, changed_all, changed_more, column_of, get_or, get_or-map, length, length-map, map, map-remove, map_more, map_push, rest_more, rest_next, row_texts, string_bytes, sym, take, take_all, texts_of, vec_len, ℕ}
 use Rattle.tabled_table.proofs.builder.columns.take_column.Goals as goal
 
 -- the text that is taken out of the next row belongs to the column

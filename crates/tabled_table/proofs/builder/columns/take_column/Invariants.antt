@@ -1,9 +1,4 @@
-use Rattle.std.proofs.Common.{◌≡◌, ℕ, List, drop, map, take}
-use Rattle.std.specs.List.{remove}
-use Rattle.std.specs.String.{string_bytes}
-use Rattle.tabled_table.specs.Builder.{column_of, row_texts}
-use Rattle.tabled_table.proofs.RowByRow.{ChangedBy}
-use Rattle.tabled_table.proofs.RowTexts.{texts_of}
+use Rattle.tabled_table.proofs.Common.{◌≡◌, ChangedBy, List, column_of, drop, map, remove, row_texts, string_bytes, take, texts_of, ℕ}
 use Rattle.tabled_table.proofs.builder.columns.take_column.Given as goal
 
 abbrev pub invariant-loop-row : goal.invariant-loop-row

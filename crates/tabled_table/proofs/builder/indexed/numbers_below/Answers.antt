@@ -1,8 +1,4 @@
-use Rattle.std.proofs.Common.{◌∷◌, ◌++◌, ◌∙◌, [], ap, arith, sym}
-use Rattle.std.specs.Fmt.{decimal}
-use Rattle.std.specs.String.{string_bytes}
-use Rattle.std.proofs.lemmas.List.{map_push}
-use Rattle.std.proofs.lemmas.List.FromFn.{map-range_with_len_more}
+use Rattle.tabled_table.proofs.Common.{[], ◌++◌, ◌∙◌, ◌∷◌, ap, arith, decimal, map-range_with_len_more, map_push, string_bytes, sym}
 use Rattle.tabled_table.proofs.builder.indexed.numbers_below.Goals as goal
 
 pub loop-i-preserved : goal.loop-i-preserved

@@ -1,6 +1,4 @@
-use Rattle.std.proofs.Common.{◌≡◌, map}
-use Rattle.std.specs.String.{string_bytes}
-use Rattle.tabled_table.specs.Index.{numbers}
+use Rattle.tabled_table.proofs.Common.{◌≡◌, map, numbers, string_bytes}
 use Rattle.tabled_table.proofs.builder.indexed.numbers_below.Given as goal
 
 abbrev pub invariant-loop-i : goal.invariant-loop-i

@@ -1,7 +1,5 @@
-use Rattle.std.proofs.Common.{◌∙◌, ap, arith, sym}
-use Rattle.tabled_grid.specs.Grid.{map_items, width_of}
+use Rattle.tabled_table.proofs.Common.{◌∙◌, ap, arith, map_items, sym, width-texts, width_of}
 use Rattle.tabled_table.proofs.Indexed.{unnamed}
-use Rattle.tabled_table.proofs.RowTexts.{width-texts}
 use Rattle.tabled_table.proofs.builder.indexed.rows_with_name.Goals as goal
 
 pub returns-then-columns-eq0 : goal.returns-then-columns-eq0

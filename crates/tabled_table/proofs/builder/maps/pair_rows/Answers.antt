@@ -1,8 +1,4 @@
-use Rattle.std.proofs.Common.{refl}
-use Rattle.std.specs.String.{string_bytes}
-use Rattle.std.proofs.lemmas.List.{map_push}
-use Rattle.std.proofs.lemmas.Slice.Zip.{all_zipped_more}
-use Rattle.tabled_table.proofs.RowTexts.{texts_of}
+use Rattle.tabled_table.proofs.Common.{all_zipped_more, map_push, refl, string_bytes, texts_of}
 use Rattle.tabled_table.proofs.builder.maps.pair_rows.Goals as goal
 
 pub loop-key-preserved : goal.loop-key-preserved

@@ -1,6 +1,4 @@
-use Rattle.std.specs.List.{AllZip}
-use Rattle.tabled_table.specs.Builder.{row_texts}
-use Rattle.tabled_table.specs.Printed.{PrintsPair}
+use Rattle.tabled_table.proofs.Common.{AllZip, PrintsPair, row_texts}
 use Rattle.tabled_table.proofs.builder.maps.pair_rows.Given as goal
 
 abbrev pub invariant-loop-key : goal.invariant-loop-key

@@ -1,6 +1,4 @@
-use Rattle.std.specs.List.{AllZip}
-use Rattle.tabled_table.specs.Builder.{row_texts}
-use Rattle.tabled_table.specs.Printed.{PrintsOne}
+use Rattle.tabled_table.proofs.Common.{AllZip, PrintsOne, row_texts}
 use Rattle.tabled_table.proofs.builder.maps.single_rows.Given as goal
 
 abbrev pub invariant-loop-key : goal.invariant-loop-key

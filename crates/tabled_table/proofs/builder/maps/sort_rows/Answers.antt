@@ -1,7 +1,5 @@
-use Rattle.std.proofs.lemmas.List.Sorted.{IsPermutation-map}
-use Rattle.std.proofs.lemmas.Result.{on_ok_weaker}
+use Rattle.tabled_table.proofs.Common.{IsPermutation-map, on_ok_weaker, texts_of}
 use Rattle.tabled_table.proofs.Printed.{sorted_rows}
-use Rattle.tabled_table.proofs.RowTexts.{texts_of}
 use Rattle.tabled_table.proofs.builder.maps.sort_rows.Goals as goal
 
 pub returns-clause-same : goal.returns-clause-same

@@ -1,4 +1,4 @@
-use Rattle.std.proofs.Common.{◌≡◌}
+use Rattle.tabled_table.proofs.Common.{◌≡◌}
 use Rattle.tabled_table.proofs.builder.rows.collect.Given as goal
 
 abbrev pub invariant-loop-text : goal.invariant-loop-text

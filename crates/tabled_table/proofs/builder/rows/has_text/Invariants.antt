@@ -1,7 +1,4 @@
-use Rattle.std.proofs.Common.{◌≡◌, drop, map}
-use Rattle.std.specs.List.{list_all}
-use Rattle.std.specs.String.{string_bytes}
-use Rattle.tabled_table.specs.Builder.{is_empty_text}
+use Rattle.tabled_table.proofs.Common.{◌≡◌, drop, is_empty_text, list_all, map, string_bytes}
 use Rattle.tabled_table.proofs.builder.rows.has_text.Given as goal
 
 abbrev pub invariant-loop-cell : goal.invariant-loop-cell

@@ -1,9 +1,4 @@
-use Rattle.std.proofs.Common.{◌∙◌, ap, map, vec_len}
-use Rattle.std.specs.List.{insert}
-use Rattle.std.specs.String.{string_bytes}
-use Rattle.tabled_grid.proofs.Lists.{map-insert}
-use Rattle.tabled_table.specs.Builder.{padded_to, row_texts}
-use Rattle.tabled_table.proofs.RowTexts.{rows_written, texts_of}
+use Rattle.tabled_table.proofs.Common.{◌∙◌, ap, insert, map, map-insert, padded_to, row_texts, rows_written, string_bytes, texts_of, vec_len}
 use Rattle.tabled_table.proofs.builder.rows.insert_row.Goals as goal
 
 pub returns-clause-ok : goal.returns-clause-ok

@@ -1,5 +1,4 @@
-use Rattle.std.proofs.Common.{◌≡◌, max, drop}
-use Rattle.tabled_table.specs.Builder.{longest, row_texts}
+use Rattle.tabled_table.proofs.Common.{◌≡◌, drop, longest, max, row_texts}
 use Rattle.tabled_table.proofs.builder.rows.longest.Given as goal
 
 abbrev pub invariant-loop-row : goal.invariant-loop-row

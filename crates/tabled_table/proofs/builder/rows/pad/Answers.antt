@@ -1,6 +1,4 @@
-use Rattle.std.proofs.Common.{◌∙◌, arith, map}
-use Rattle.std.specs.String.{string_bytes}
-use Rattle.std.proofs.lemmas.List.{length-map, map_push}
+use Rattle.tabled_table.proofs.Common.{◌∙◌, arith, length-map, map, map_push, string_bytes}
 use Rattle.tabled_table.proofs.Padded.{padded_to-push, take_front-append}
 use Rattle.tabled_table.proofs.builder.rows.pad.Goals as goal
 

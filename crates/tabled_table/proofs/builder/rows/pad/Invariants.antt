@@ -1,6 +1,4 @@
-use Rattle.std.proofs.Common.{◌≡◌, ◌-◌, map, take, vec_len}
-use Rattle.std.specs.String.{string_bytes}
-use Rattle.tabled_table.specs.Builder.{padded_to}
+use Rattle.tabled_table.proofs.Common.{◌-◌, ◌≡◌, map, padded_to, string_bytes, take, vec_len}
 use Rattle.tabled_table.proofs.builder.rows.pad.Given as goal
 
 abbrev pub invariant-loop-alloc : goal.invariant-loop-alloc

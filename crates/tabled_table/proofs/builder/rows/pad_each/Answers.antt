@@ -1,7 +1,5 @@
-use Rattle.std.proofs.Common.{◌∙◌, arith, sym}
-use Rattle.tabled_options.proofs.Results.{on_err}
+use Rattle.tabled_table.proofs.Common.{◌∙◌, arith, on_err, sym, texts_taken}
 use Rattle.tabled_table.proofs.Padded.{padded_all}
-use Rattle.tabled_table.proofs.RowTexts.{texts_taken}
 use Rattle.tabled_table.proofs.builder.rows.pad_each.Goals as goal
 
 pub returns-then-columns-from-clause-ok : goal.returns-then-columns-from-clause-ok

@@ -1,8 +1,5 @@
-use Rattle.std.proofs.Common.{◌∙◌, arith, replicate}
-use Rattle.std.proofs.lemmas.List.{length-map, map_push}
-use Rattle.tabled_table.specs.Builder.{row_texts}
+use Rattle.tabled_table.proofs.Common.{◌∙◌, arith, length-map, map_push, replicate, row_texts, texts_of}
 use Rattle.tabled_table.proofs.Padded.{padded_to-nil, padded_to-push, take_front-append}
-use Rattle.tabled_table.proofs.RowTexts.{texts_of}
 use Rattle.tabled_table.proofs.builder.rows.pad_rows.Goals as goal
 
 pub loop-alloc-preserved : goal.loop-alloc-preserved

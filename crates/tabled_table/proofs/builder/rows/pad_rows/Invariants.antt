@@ -1,5 +1,4 @@
-use Rattle.std.proofs.Common.{◌≡◌, ◌-◌, replicate, take, vec_len}
-use Rattle.tabled_table.specs.Builder.{padded_to, row_texts}
+use Rattle.tabled_table.proofs.Common.{◌-◌, ◌≡◌, padded_to, replicate, row_texts, take, vec_len}
 use Rattle.tabled_table.proofs.builder.rows.pad_rows.Given as goal
 
 abbrev pub invariant-loop-alloc : goal.invariant-loop-alloc

@@ -1,10 +1,6 @@
-use Rattle.std.proofs.Common.{◌≡◌, ◌≤◌, ◌∙◌, ap, arith, replicate, rules, sym, take, vec_len}
-use Rattle.std.proofs.lemmas.List.{take-map}
-use Rattle.tabled_table.specs.Builder.{padded_to, row_texts}
+use Rattle.tabled_table.proofs.Common.{◌∙◌, ◌≡◌, ◌≤◌, All-lens, ap, arith, padded_to, replicate, row_texts, rows_written, rules, sym, take, take-map, texts_of, vec_len}
 use Rattle.tabled_table.proofs.Padded.{even-more}
-use Rattle.tabled_table.proofs.RowTexts.{All-lens, rows_written, texts_of}
 use Rattle.tabled_table.proofs.builder.rows.push_items.Goals as goal
-use Rattle.tabled_table.proofs.builder.rows.push_items.Goals.{then-is_err-via-then-is_err, then-is_err-via-else-is_err+then-is_err-2}
 
 pub insert_items-requires-clause-within : goal.insert_items-requires-clause-within
 insert_items-requires-clause-within c =
@@ -17,8 +13,8 @@ returns-then-is_err-clause-err c =
     let rows = c.then-is_err.rows.items in
     let front : take (vec_len c.args.rows.now) (row_texts rows) ≡ row_texts c.args.rows.now.items =
     elim c.then-is_err.branch [
-      | then-is_err-via-then-is_err w ↦ rw w.rows-is c.pad_rows.ensures.front
-      | then-is_err-via-else-is_err+then-is_err-2 w ↦
+      | goal.then-is_err-via-then-is_err w ↦ rw w.rows-is c.pad_rows.ensures.front
+      | goal.then-is_err-via-else-is_err+then-is_err-2 w ↦
           let kept : row_texts w.insert_items.new.rows ≡ row_texts w.deref_mut.result.now = search rules in
           rw (w.rows-is, rows_written c.pad_rows.new.rows w.insert_items.new.rows (w.insert_items.auto.rows ∙ w.deref_mut.ensures.len), kept, w.deref_mut.ensures.value) c.pad_rows.ensures.front
     ] in

@@ -1,10 +1,5 @@
-use Rattle.std.proofs.Common.{◌≡◌, ◌∙◌, String, ap, not, rules}
-use Rattle.std.specs.Global.{Global, Vec}
-use Rattle.std.specs.List.{filter, list_all}
-use Rattle.std.proofs.lemmas.List.Elements.{filter_from_retain}
-use Rattle.tabled_table.specs.Builder.{is_empty_text, row_texts}
+use Rattle.tabled_table.proofs.Common.{◌∙◌, ◌≡◌, Global, String, Vec, ap, filter, filter_from_retain, is_empty_text, list_all, not, row_texts, rules, texts_of}
 use Rattle.tabled_table.proofs.Cleaned.{map-filter}
-use Rattle.tabled_table.proofs.RowTexts.{texts_of}
 use Rattle.tabled_table.proofs.builder.rows.retain_texts.Goals as goal
 
 pub returns : goal.returns

@@ -1,11 +1,5 @@
-use Rattle.std.proofs.Common.{◌≡◌, ℕ, arith, get_or, map, refl, set, take}
-use Rattle.std.specs.String.{string_bytes}
-use Rattle.std.proofs.lemmas.List.{length-map}
-use Rattle.tabled_grid.specs.Evenness.{AreWide}
-use Rattle.tabled_table.specs.Builder.{row_texts}
-use Rattle.tabled_table.proofs.RowByRow.{changed_more, changed_all}
+use Rattle.tabled_table.proofs.Common.{◌≡◌, AreWide, arith, changed_all, changed_more, get_or, length-map, map, refl, row_texts, set, string_bytes, take, texts_of, ℕ}
 use Rattle.tabled_table.proofs.Padded.{fronts_kept, fronts_all}
-use Rattle.tabled_table.proofs.RowTexts.{texts_of}
 use Rattle.tabled_table.proofs.builder.rows.try_pad_each.Goals as goal
 use Rattle.tabled_table.proofs.builder.rows.try_pad_each.Goals.{After-pad}
 

@@ -1,8 +1,4 @@
-use Rattle.std.proofs.Common.{◌≡◌, ℕ, map, take}
-use Rattle.tabled_grid.specs.Evenness.{AreWide}
-use Rattle.tabled_table.specs.Builder.{padded_to, row_texts}
-use Rattle.tabled_table.proofs.RowByRow.{ChangedBy}
-use Rattle.tabled_table.proofs.RowTexts.{texts_of}
+use Rattle.tabled_table.proofs.Common.{◌≡◌, AreWide, ChangedBy, map, padded_to, row_texts, take, texts_of, ℕ}
 use Rattle.tabled_table.proofs.builder.rows.try_pad_each.Given as goal
 
 abbrev pub invariant-loop-row : goal.invariant-loop-row

@@ -1,6 +1,4 @@
-use Rattle.std.proofs.Common.{◌≡◌, ◌++◌}
-use Rattle.std.specs.Vec.Iter.{into_iter_items}
-use Rattle.tabled_table.specs.Builder.{row_texts}
+use Rattle.tabled_table.proofs.Common.{◌++◌, ◌≡◌, into_iter_items, row_texts}
 use Rattle.tabled_table.proofs.builder.texts.cell_rows.Given as goal
 
 abbrev pub invariant-loop-row : goal.invariant-loop-row

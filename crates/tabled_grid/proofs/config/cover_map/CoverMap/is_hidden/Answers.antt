@@ -1,7 +1,5 @@
-use Rattle.std.proofs.Common.{◌≡◌, ◌+◌, ◌*◌, ◌<◌, ◌≤◌, ◌∙◌, ap, ap₂, get_or, subst, sym, arith}
-use Rattle.std.specs.Prelude.{◌-◌, nat_lt}
-use Rattle.tabled_grid.specs.Covers.{Cover, beyond, hiders_of}
-use Rattle.tabled_grid.specs.Entity.{place}
+use Rattle.tabled_grid.proofs.Common.{◌*◌, ◌+◌, ◌<◌, ◌∙◌, ◌≡◌, ◌≤◌, Cover, ap, ap₂, arith, beyond, get_or, hiders_of, nat_lt, place, subst, sym}
+use Rattle.std.specs.Prelude.{◌-◌}
 use Rattle.tabled_grid.proofs.Hiders.{hidden-counts}
 use Rattle.tabled_grid.proofs.Tables.{get-table}
 use Rattle.tabled_grid.proofs.config.cover_map.CoverMap.is_hidden.Goals as goal

@@ -1,11 +1,4 @@
-use Rattle.std.proofs.Common.{rules, ◌≡◌, ◌∙◌, ap, subst, sym, arith, ℕ, List}
-use Rattle.std.specs.FinMap.{entries_sorted, is_sorted}
-use Rattle.std.specs.Prelude.{T}
-use Rattle.std.specs.Vec.{with_items}
-use Rattle.std.proofs.lemmas.Grind.{common_steps}
-use Rattle.std.proofs.lemmas.List.{take_all}
-use Rattle.tabled_grid.specs.Covers.{beyond, hiders_in, table}
-use Rattle.tabled_grid.specs.Spans.{position_cmp}
+use Rattle.tabled_grid.proofs.Common.{◌∙◌, ◌≡◌, List, T, ap, arith, beyond, common_steps, entries_sorted, hiders_in, is_sorted, position_cmp, rules, subst, sym, table, take_all, with_items, ℕ}
 use Rattle.tabled_grid.proofs.Hiders.{hiders-more, hiders-none}
 use Rattle.tabled_grid.proofs.config.cover_map.CoverMap.of_block.Goals as goal
 

@@ -1,5 +1,4 @@
-use Rattle.std.proofs.Common.{◌≡◌, take}
-use Rattle.tabled_grid.specs.Covers.{beyond, hiders_in, table}
+use Rattle.tabled_grid.proofs.Common.{◌≡◌, beyond, hiders_in, table, take}
 use Rattle.tabled_grid.proofs.config.cover_map.CoverMap.of_block.Given as goal
 
 abbrev pub invariant-loop-k : goal.invariant-loop-k

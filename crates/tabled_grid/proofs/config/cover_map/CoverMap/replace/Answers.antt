@@ -1,7 +1,4 @@
-use Rattle.std.proofs.Common.{◌≡◌, ◌∙◌, ap, arith, ℕ, List}
-use Rattle.std.specs.Vec.{with_items}
-use Rattle.std.proofs.lemmas.Grind.{common_steps}
-use Rattle.tabled_grid.specs.Covers.{Cover, beyond, hiders_of, table}
+use Rattle.tabled_grid.proofs.Common.{◌∙◌, ◌≡◌, Cover, List, ap, arith, beyond, common_steps, hiders_of, table, with_items, ℕ}
 use Rattle.tabled_grid.proofs.config.cover_map.CoverMap.replace.Goals as goal
 
 pub returns-clause-cover : goal.returns-clause-cover

@@ -1,7 +1,6 @@
-use Rattle.std.proofs.Common.{◌∙◌, sym, inl, inr}
+use Rattle.tabled_grid.proofs.Common.{◌∙◌, inl, inr, sym}
 use Rattle.tabled_grid.proofs.Places.{inside-Global, inside-Column, inside-Row, inside-Cell, inside-no_column, inside-no_row, inside-no_cell}
 use Rattle.tabled_grid.proofs.config.entity.Entity.iter.Goals as goal
-use Rattle.tabled_grid.proofs.config.entity.Entity.iter.Goals.{in_default-via-in-Column+else-col-count_columns, in_default-via-in-Row+else-row-count_rows, in_default-via-in-Cell+then-row-count_rows-2+else-col-count_columns-2, in_default-via-in-Cell+else-row-count_rows-2}
 
 pub returns-in-Global : goal.returns-in-Global
 returns-in-Global c = rw c.in-Global.is (c.block.ensures ∙ sym (inside-Global c.args.count_rows c.args.count_columns))
@@ -17,8 +16,8 @@ returns-in-Cell c = rw c.in-Cell.is (c.block-in-Cell.ensures ∙ sym (inside-Cel
 
 pub returns-in_default : goal.returns-in_default
 returns-in_default c = c.block-in_default.ensures ∙ elim c.in_default.branch [
-  | in_default-via-in-Column+else-col-count_columns w ↦ rw w.in-Column.is (sym (inside-no_column _ _ _ w.if-col-count_columns.false))
-  | in_default-via-in-Row+else-row-count_rows w ↦ rw w.in-Row.is (sym (inside-no_row _ _ _ w.if-row-count_rows.false))
-  | in_default-via-in-Cell+then-row-count_rows-2+else-col-count_columns-2 w ↦ rw w.in-Cell.is (sym (inside-no_cell _ _ _ _ (inr w.if-col-count_columns-2.false)))
-  | in_default-via-in-Cell+else-row-count_rows-2 w ↦ rw w.in-Cell.is (sym (inside-no_cell _ _ _ _ (inl w.if-row-count_rows-2.false)))
+  | goal.in_default-via-in-Column+else-col-count_columns w ↦ rw w.in-Column.is (sym (inside-no_column _ _ _ w.if-col-count_columns.false))
+  | goal.in_default-via-in-Row+else-row-count_rows w ↦ rw w.in-Row.is (sym (inside-no_row _ _ _ w.if-row-count_rows.false))
+  | goal.in_default-via-in-Cell+then-row-count_rows-2+else-col-count_columns-2 w ↦ rw w.in-Cell.is (sym (inside-no_cell _ _ _ _ (inr w.if-col-count_columns-2.false)))
+  | goal.in_default-via-in-Cell+else-row-count_rows-2 w ↦ rw w.in-Cell.is (sym (inside-no_cell _ _ _ _ (inl w.if-row-count_rows-2.false)))
 ]

@@ -1,4 +1,4 @@
-use Rattle.std.proofs.Common.{rules, ap, length}
+use Rattle.tabled_grid.proofs.Common.{ap, length, rules}
 use Rattle.tabled_grid.proofs.Places.{first_in_row, last_in_row}
 use Rattle.tabled_grid.proofs.config.entity.EntityIteratorIterator.next.Goals as goal
 

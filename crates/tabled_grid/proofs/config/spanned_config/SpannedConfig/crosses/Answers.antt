@@ -1,8 +1,4 @@
-use Rattle.std.proofs.Common.{ap, sym}
-use Rattle.std.specs.FinMap.{entries-from_sorted}
-use Rattle.std.specs.List.{list_any}
-use Rattle.tabled_grid.specs.Shifts.{crosses_line}
-use Rattle.tabled_grid.specs.Spans.{position_cmp}
+use Rattle.tabled_grid.proofs.Common.{ap, crosses_line, entries-from_sorted, list_any, position_cmp, sym}
 use Rattle.tabled_grid.proofs.config.spanned_config.SpannedConfig.crosses.Goals as goal
 
 pub returns-clause-crosses : goal.returns-clause-crosses

@@ -1,5 +1,4 @@
-use Rattle.std.proofs.Common.{refl, sym}
-use Rattle.std.specs.FinMap.{from_sorted}
+use Rattle.tabled_grid.proofs.Common.{from_sorted, refl, sym}
 use Rattle.tabled_grid.proofs.SortedAnchors.{anchors_dropped, dropped_is}
 use Rattle.tabled_grid.proofs.config.spanned_config.SpannedConfig.drop_hidden.Goals as goal
 

@@ -1,9 +1,4 @@
-use Rattle.std.proofs.Common.{subst}
-use Rattle.std.specs.FinMap.{entries}
-use Rattle.std.specs.Bool.{Decides}
-use Rattle.tabled_grid.specs.Anchors.{lie_well}
-use Rattle.tabled_grid.specs.Fitting.{Fits}
-use Rattle.tabled_grid.specs.Spans.{SpanMap}
+use Rattle.tabled_grid.proofs.Common.{Decides, Fits, SpanMap, entries, lie_well, subst}
 use Rattle.tabled_grid.proofs.FittingAnchors.{fits_decided}
 use Rattle.tabled_grid.proofs.SortedAnchors.{anchors-of, from-entries}
 use Rattle.tabled_grid.proofs.config.spanned_config.SpannedConfig.fits.Goals as goal

@@ -1,4 +1,4 @@
-use Rattle.std.specs.FinMap.{entries}
+use Rattle.tabled_grid.proofs.Common.{entries}
 use Rattle.tabled_grid.proofs.Fitting.{anchors-fitting}
 use Rattle.tabled_grid.proofs.SortedAnchors.{anchors-of}
 use Rattle.tabled_grid.proofs.config.spanned_config.SpannedConfig.fitting.Goals as goal

@@ -1,5 +1,4 @@
-use Rattle.std.specs.FinMap.{entries-from_sorted}
-use Rattle.tabled_grid.specs.Spans.{position_cmp}
+use Rattle.tabled_grid.proofs.Common.{entries-from_sorted, position_cmp}
 use Rattle.tabled_grid.proofs.config.spanned_config.SpannedConfig.get_row_spans.Goals as goal
 
 pub returns-clause-spans : goal.returns-clause-spans

@@ -1,7 +1,4 @@
-use Rattle.std.proofs.Common.{Err}
-use Rattle.std.proofs.lemmas.Bool.{false≢true}
-use Rattle.std.specs.FinMap.{get-from_sorted}
-use Rattle.tabled_grid.specs.Spans.{position_cmp}
+use Rattle.tabled_grid.proofs.Common.{Err, false≢true, get-from_sorted, position_cmp}
 use Rattle.tabled_grid.proofs.SortedEntries.{searched}
 use Rattle.tabled_grid.proofs.Spans.{insert_anchor, positions_exact, positions_total, set_anchor}
 use Rattle.tabled_grid.proofs.config.spanned_config.SpannedConfig.insert.Goals as goal

@@ -1,6 +1,4 @@
-use Rattle.std.proofs.Common.{sym}
-use Rattle.std.specs.FinMap.{entries-from_sorted}
-use Rattle.tabled_grid.specs.Spans.{position_cmp}
+use Rattle.tabled_grid.proofs.Common.{entries-from_sorted, position_cmp, sym}
 use Rattle.tabled_grid.proofs.config.spanned_config.SpannedConfig.into_anchors.Goals as goal
 
 pub returns-clause-anchors : goal.returns-clause-anchors

@@ -1,8 +1,4 @@
-use Rattle.std.proofs.Common.{ap, sym}
-use Rattle.std.specs.FinMap.{entries-from_sorted}
-use Rattle.std.specs.List.{list_any}
-use Rattle.tabled_grid.specs.Rectangles.{reaches_across}
-use Rattle.tabled_grid.specs.Spans.{Rectangle, position_cmp}
+use Rattle.tabled_grid.proofs.Common.{Rectangle, ap, entries-from_sorted, list_any, position_cmp, reaches_across, sym}
 use Rattle.tabled_grid.proofs.config.spanned_config.SpannedConfig.is_cell_covered_by_column_span.Goals as goal
 
 pub returns-clause-covered : goal.returns-clause-covered

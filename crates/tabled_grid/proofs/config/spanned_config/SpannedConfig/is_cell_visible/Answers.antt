@@ -1,6 +1,4 @@
-use Rattle.std.proofs.Common.{ap, refl, sym}
-use Rattle.std.specs.Prelude.{not}
-use Rattle.std.specs.FinMap.{from_sorted}
+use Rattle.tabled_grid.proofs.Common.{ap, from_sorted, not, refl, sym}
 use Rattle.tabled_grid.proofs.SortedAnchors.{hidden_is}
 use Rattle.tabled_grid.proofs.config.spanned_config.SpannedConfig.is_cell_visible.Goals as goal
 

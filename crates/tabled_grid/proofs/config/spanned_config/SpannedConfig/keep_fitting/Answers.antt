@@ -1,4 +1,4 @@
-use Rattle.std.proofs.Common.{sym}
+use Rattle.tabled_grid.proofs.Common.{sym}
 use Rattle.tabled_grid.proofs.Fitting.{keep_fitting-all, keep_fitting-fits}
 use Rattle.tabled_grid.proofs.config.spanned_config.SpannedConfig.keep_fitting.Goals as goal
 

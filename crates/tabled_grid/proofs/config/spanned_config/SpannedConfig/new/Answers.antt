@@ -1,6 +1,4 @@
-use Rattle.std.proofs.Common.{[], ap, length, ◌∙◌}
-use Rattle.std.specs.FinMap.{empty_of_len, entries-from_sorted, len-entries}
-use Rattle.tabled_grid.specs.Spans.{position_cmp}
+use Rattle.tabled_grid.proofs.Common.{[], ◌∙◌, ap, empty_of_len, entries-from_sorted, len-entries, length, position_cmp}
 use Rattle.tabled_grid.proofs.config.spanned_config.SpannedConfig.new.Goals as goal
 
 pub returns-clause-empty : goal.returns-clause-empty

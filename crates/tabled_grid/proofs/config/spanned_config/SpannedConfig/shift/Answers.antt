@@ -1,7 +1,4 @@
-use Rattle.std.proofs.Common.{ap, sym}
-use Rattle.std.specs.FinMap.{entries-from_sorted, from_sorted}
-use Rattle.tabled_grid.specs.Shifts.{shifted_in}
-use Rattle.tabled_grid.specs.Spans.{position_cmp}
+use Rattle.tabled_grid.proofs.Common.{ap, entries-from_sorted, from_sorted, position_cmp, shifted_in, sym}
 use Rattle.tabled_grid.proofs.Shifts.{anchors_shifted}
 use Rattle.tabled_grid.proofs.config.spanned_config.SpannedConfig.shift.Goals as goal
 

@@ -1,6 +1,4 @@
-use Rattle.std.proofs.Common.{Ok, Err, refl, ap}
-use Rattle.std.specs.FinMap.{get-from_sorted}
-use Rattle.tabled_grid.specs.Spans.{position_cmp}
+use Rattle.tabled_grid.proofs.Common.{Err, Ok, ap, get-from_sorted, position_cmp, refl}
 use Rattle.tabled_grid.proofs.SortedEntries.{searched}
 use Rattle.tabled_grid.proofs.Spans.{positions_exact, positions_total}
 use Rattle.tabled_grid.proofs.config.spanned_config.SpannedConfig.size.Goals as goal

@@ -1,4 +1,4 @@
-use Rattle.tabled_grid.specs.Grid.{grid_of, map_items}
+use Rattle.tabled_grid.proofs.Common.{grid_of, map_items}
 use Rattle.tabled_grid.proofs.Grids.{cell_at-map_grid_some}
 use Rattle.tabled_grid.proofs.NestedRows.{row_holds, row_cell}
 use Rattle.tabled_grid.proofs.records.nested_rows.VecVecPeekableRecords.get_text.Goals as goal

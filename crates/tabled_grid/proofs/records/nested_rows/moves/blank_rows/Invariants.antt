@@ -1,7 +1,4 @@
-use Rattle.std.proofs.Common.{◌≡◌, length}
-use Rattle.std.specs.List.{AllByRecursion}
-use Rattle.tabled_grid.specs.Grid.{map_items}
-use Rattle.tabled_grid.specs.Resized.{AreBlanks}
+use Rattle.tabled_grid.proofs.Common.{◌≡◌, AllByRecursion, AreBlanks, length, map_items}
 use Rattle.tabled_grid.proofs.records.nested_rows.moves.blank_rows.Given as goal
 
 abbrev pub invariant-loop : goal.invariant-loop

@@ -1,4 +1,4 @@
-use Rattle.tabled_grid.specs.Resized.{AreBlanks}
+use Rattle.tabled_grid.proofs.Common.{AreBlanks}
 use Rattle.tabled_grid.proofs.records.nested_rows.moves.blanks.Given as goal
 
 abbrev pub invariant-loop : goal.invariant-loop

@@ -1,5 +1,4 @@
-use Rattle.std.proofs.Common.{◌+◌, ◌≤◌, vec_capacity, vec_len}
-use Rattle.tabled_grid.specs.Moves.{AddsBlanks}
+use Rattle.tabled_grid.proofs.Common.{◌+◌, ◌≤◌, AddsBlanks, vec_capacity, vec_len}
 use Rattle.tabled_grid.proofs.records.nested_rows.moves.fill.Given as goal
 
 abbrev pub invariant-loop : goal.invariant-loop

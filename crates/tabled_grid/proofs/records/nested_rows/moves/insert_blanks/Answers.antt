@@ -1,5 +1,4 @@
-use Rattle.std.proofs.Common.{arith}
-use Rattle.tabled_grid.proofs.RowByRow.{changed_next, changed_more, changed_all, same_lens}
+use Rattle.tabled_grid.proofs.Common.{arith, changed_all, changed_more, changed_next, same_lens}
 use Rattle.tabled_grid.proofs.records.nested_rows.moves.insert_blanks.Goals as goal
 
 pub insert-requires : goal.insert-requires

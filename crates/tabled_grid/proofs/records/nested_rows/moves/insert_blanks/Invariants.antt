@@ -1,5 +1,4 @@
-use Rattle.tabled_grid.specs.Resized.{InsertsBlank}
-use Rattle.tabled_grid.proofs.RowByRow.{Changed}
+use Rattle.tabled_grid.proofs.Common.{Changed, InsertsBlank}
 use Rattle.tabled_grid.proofs.records.nested_rows.moves.insert_blanks.Given as goal
 
 abbrev pub invariant-loop-row : goal.invariant-loop-row

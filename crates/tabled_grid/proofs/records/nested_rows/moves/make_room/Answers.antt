@@ -1,7 +1,4 @@
-use Rattle.std.proofs.Common.{◌+◌, ◌≤◌, ◌∙◌, arith, vec_len, vec_capacity}
-use Rattle.std.specs.Global.{Vec}
-use Rattle.std.proofs.lemmas.List.Elements.{AllWithin-more_set}
-use Rattle.tabled_grid.proofs.RowByRow.{same_cells}
+use Rattle.tabled_grid.proofs.Common.{◌+◌, ◌∙◌, ◌≤◌, AllWithin-more_set, Vec, arith, same_cells, vec_capacity, vec_len}
 use Rattle.tabled_grid.proofs.records.nested_rows.moves.make_room.Goals as goal
 
 pub returns-in_err-reserve-clause-cells : goal.returns-in_err-reserve-clause-cells

@@ -1,7 +1,4 @@
-use Rattle.std.proofs.Common.{◌≡◌, ◌+◌, ◌≤◌, vec_capacity, vec_len}
-use Rattle.std.specs.Global.{Vec}
-use Rattle.std.specs.List.{AllWithin}
-use Rattle.tabled_grid.specs.Grid.{map_items}
+use Rattle.tabled_grid.proofs.Common.{◌+◌, ◌≡◌, ◌≤◌, AllWithin, Vec, map_items, vec_capacity, vec_len}
 use Rattle.tabled_grid.proofs.records.nested_rows.moves.make_room.Given as goal
 
 abbrev pub invariant-loop-row : goal.invariant-loop-row

@@ -1,6 +1,4 @@
-use Rattle.std.proofs.Common.{◌≡◌}
-use Rattle.std.specs.List.{remove}
-use Rattle.tabled_grid.proofs.RowByRow.{Changed}
+use Rattle.tabled_grid.proofs.Common.{◌≡◌, Changed, remove}
 use Rattle.tabled_grid.proofs.records.nested_rows.moves.remove_each.Given as goal
 
 abbrev pub invariant-loop-row : goal.invariant-loop-row

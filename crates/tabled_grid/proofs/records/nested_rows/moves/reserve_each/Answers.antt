@@ -1,4 +1,4 @@
-use Rattle.std.proofs.Common.{arith}
+use Rattle.tabled_grid.proofs.Common.{arith}
 use Rattle.tabled_grid.proofs.records.nested_rows.moves.reserve_each.Goals as goal
 
 pub returns-clause-room : goal.returns-clause-room

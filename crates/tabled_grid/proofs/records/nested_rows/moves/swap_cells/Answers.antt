@@ -1,5 +1,4 @@
-use Rattle.std.proofs.Common.{◌≡◌, refl, sym, get_or, set}
-use Rattle.std.proofs.lemmas.List.{get_or-set_other}
+use Rattle.tabled_grid.proofs.Common.{◌≡◌, get_or, get_or-set_other, refl, set, sym}
 use Rattle.tabled_grid.proofs.Swaps.{exchanged_in_row, exchanged_in_rows}
 use Rattle.tabled_grid.proofs.records.nested_rows.moves.swap_cells.Goals as goal
 

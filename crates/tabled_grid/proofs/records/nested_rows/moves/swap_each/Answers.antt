@@ -1,6 +1,4 @@
-use Rattle.std.proofs.Common.{arith}
-use Rattle.std.proofs.lemmas.Slice.Zip.{AllZip-map}
-use Rattle.tabled_grid.proofs.RowByRow.{changed_next, changed_more, changed_all}
+use Rattle.tabled_grid.proofs.Common.{AllZip-map, arith, changed_all, changed_more, changed_next}
 use Rattle.tabled_grid.proofs.records.nested_rows.moves.swap_each.Goals as goal
 
 pub swap-requires-clause-i_in_bounds : goal.swap-requires-clause-i_in_bounds

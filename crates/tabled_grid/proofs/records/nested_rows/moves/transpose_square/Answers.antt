@@ -1,8 +1,5 @@
-use Rattle.std.proofs.Common.{◌+◌, ◌<◌, refl, arith}
-use Rattle.std.proofs.lemmas.List.{length-map}
-use Rattle.tabled_grid.specs.Grid.{grid_of, map_items}
+use Rattle.tabled_grid.proofs.Common.{◌+◌, ◌<◌, arith, grid_of, length-map, map_items, no_columns, refl}
 use Rattle.tabled_grid.proofs.Diagonal.{half_begun, half_none, half_row}
-use Rattle.tabled_grid.specs.Evenness.{no_columns}
 use Rattle.tabled_grid.proofs.NestedRows.{each_long, have_grid}
 use Rattle.tabled_grid.proofs.Resized.{IsEven-with_cells_swapped}
 use Rattle.tabled_grid.proofs.Squares.{square_swapped, turned_more, turned_square}

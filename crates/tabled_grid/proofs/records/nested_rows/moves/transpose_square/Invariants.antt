@@ -1,6 +1,5 @@
-use Rattle.tabled_grid.specs.Bulk.{cell_in}
+use Rattle.tabled_grid.proofs.Common.{cell_in, grid_of, map_items}
 use Rattle.tabled_grid.proofs.Diagonal.{HalfTransposed}
-use Rattle.tabled_grid.specs.Grid.{grid_of, map_items}
 use Rattle.tabled_grid.proofs.Squares.{Square}
 use Rattle.tabled_grid.proofs.records.nested_rows.moves.transpose_square.Given as goal
 

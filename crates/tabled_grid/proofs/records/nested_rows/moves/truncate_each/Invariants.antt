@@ -1,5 +1,4 @@
-use Rattle.std.proofs.Common.{◌≡◌, take}
-use Rattle.tabled_grid.proofs.RowByRow.{Changed}
+use Rattle.tabled_grid.proofs.Common.{◌≡◌, Changed, take}
 use Rattle.tabled_grid.proofs.records.nested_rows.moves.truncate_each.Given as goal
 
 abbrev pub invariant-loop-row : goal.invariant-loop-row

@@ -1,5 +1,4 @@
-use Rattle.std.proofs.Common.{arith}
-use Rattle.tabled_grid.proofs.RowByRow.{changed_next, changed_more, changed_all}
+use Rattle.tabled_grid.proofs.Common.{arith, changed_all, changed_more, changed_next}
 use Rattle.tabled_grid.proofs.records.nested_rows.moves.widen_each.Goals as goal
 
 pub fill-requires : goal.fill-requires

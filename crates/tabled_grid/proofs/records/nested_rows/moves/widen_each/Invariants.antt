@@ -1,6 +1,4 @@
-use Rattle.std.proofs.Common.{List}
-use Rattle.tabled_grid.specs.Moves.{AddsBlanks}
-use Rattle.tabled_grid.proofs.RowByRow.{Changed}
+use Rattle.tabled_grid.proofs.Common.{AddsBlanks, Changed, List}
 use Rattle.tabled_grid.proofs.records.nested_rows.moves.widen_each.Given as goal
 
 abbrev pub invariant-loop-row : goal.invariant-loop-row

@@ -1,7 +1,4 @@
-use Rattle.std.proofs.Common.{◌≡◌, ◌+◌, ◌≤◌, [], replicate, vec_capacity, vec_len}
-use Rattle.std.specs.Global.{Vec}
-use Rattle.std.specs.List.{All}
-use Rattle.tabled_grid.specs.Grid.{map_items}
+use Rattle.tabled_grid.proofs.Common.{[], ◌+◌, ◌≡◌, ◌≤◌, All, Vec, map_items, replicate, vec_capacity, vec_len}
 use Rattle.tabled_grid.proofs.records.nested_rows.turn.empty_rows.Given as goal
 
 abbrev pub invariant-loop : goal.invariant-loop

@@ -1,6 +1,4 @@
-use Rattle.std.proofs.Common.{◌+◌, ◌≤◌, arith, get_or, suc, vec_capacity, vec_len}
-use Rattle.std.specs.Global.{Vec}
-use Rattle.std.proofs.lemmas.List.Elements.{AllWithin-more_set}
+use Rattle.tabled_grid.proofs.Common.{◌+◌, ◌≤◌, AllWithin-more_set, Vec, arith, get_or, suc, vec_capacity, vec_len}
 use Rattle.tabled_grid.proofs.Turned.{pushed_more, pushed_next}
 use Rattle.tabled_grid.proofs.records.nested_rows.turn.push_each.Goals as goal
 

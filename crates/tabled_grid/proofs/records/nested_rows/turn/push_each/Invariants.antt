@@ -1,7 +1,4 @@
-use Rattle.std.proofs.Common.{ℕ, suc, ◌+◌, ◌≤◌, vec_capacity, vec_len}
-use Rattle.std.specs.Global.{Vec}
-use Rattle.std.specs.List.{All, AllWithin}
-use Rattle.std.specs.Vec.Iter.{into_iter_items}
+use Rattle.tabled_grid.proofs.Common.{◌+◌, ◌≤◌, All, AllWithin, Vec, into_iter_items, suc, vec_capacity, vec_len, ℕ}
 use Rattle.tabled_grid.proofs.Turned.{PushedTo}
 use Rattle.tabled_grid.proofs.records.nested_rows.turn.push_each.Given as goal
 

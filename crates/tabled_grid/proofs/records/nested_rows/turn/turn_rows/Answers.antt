@@ -1,8 +1,4 @@
-use Rattle.std.proofs.Common.{◌≡◌, ◌<◌, ◌∙◌, [], ap, arith, length, sym}
-use Rattle.std.specs.Vec.Iter.{into_iter_items}
-use Rattle.std.proofs.lemmas.List.{length-map, nil_from_length, with_items_is}
-use Rattle.tabled_grid.specs.Bulk.{transposed_rows, with_items_behind}
-use Rattle.tabled_grid.specs.Grid.{map_items}
+use Rattle.tabled_grid.proofs.Common.{[], ◌<◌, ◌∙◌, ◌≡◌, ap, arith, into_iter_items, length, length-map, map_items, nil_from_length, sym, transposed_rows, with_items_behind, with_items_is}
 use Rattle.tabled_grid.proofs.Turned.{length-empty_rows, behind_done, behind_more, behind_begun, have_width, even_rows, with_rows_behind}
 use Rattle.tabled_grid.proofs.records.nested_rows.turn.turn_rows.Goals as goal
 

@@ -1,10 +1,4 @@
-use Rattle.std.proofs.Common.{◌≡◌, ◌+◌, ◌≤◌, length, vec_capacity, vec_len}
-use Rattle.std.specs.Global.{Vec}
-use Rattle.std.specs.List.{All}
-use Rattle.std.specs.Vec.Iter.{into_iter_items}
-use Rattle.tabled_grid.specs.Bulk.{transposed_rows}
-use Rattle.tabled_grid.specs.Evenness.{AreWide}
-use Rattle.tabled_grid.specs.Grid.{map_items}
+use Rattle.tabled_grid.proofs.Common.{◌+◌, ◌≡◌, ◌≤◌, All, AreWide, Vec, into_iter_items, length, map_items, transposed_rows, vec_capacity, vec_len}
 use Rattle.tabled_grid.proofs.Turned.{with_rows_behind}
 use Rattle.tabled_grid.proofs.records.nested_rows.turn.turn_rows.Given as goal
 

@@ -1,4 +1,4 @@
-use Rattle.tabled_grid.specs.declared.records.piece_order.PieceOrder.TheVariants.{Concat, Zip}
+use Rattle.tabled_grid.proofs.Common.{Concat, Zip}
 use Rattle.tabled_grid.proofs.PiecesPut.{is_piece}
 use Rattle.tabled_grid.proofs.records.piece_order.PieceOrder.nth_piece.Goals as goal
 

@@ -1,5 +1,4 @@
-use Rattle.std.proofs.Common.{◌*◌, ◌<◌, arith}
-use Rattle.std.specs.Int.{div_ceil}
+use Rattle.tabled_grid.proofs.Common.{◌*◌, ◌<◌, arith, div_ceil}
 use Rattle.tabled_grid.proofs.PiecePlaces.{lines_of, starts_inside}
 use Rattle.tabled_grid.proofs.records.pieces.CutRearrange.old_place.Goals as goal
 

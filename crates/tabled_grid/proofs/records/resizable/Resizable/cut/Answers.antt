@@ -1,5 +1,4 @@
-use Rattle.std.proofs.Common.{◌-◌, ◌∙◌, ap, refl, arith}
-use Rattle.tabled_grid.specs.Along.{first_along}
+use Rattle.tabled_grid.proofs.Common.{◌-◌, ◌∙◌, ap, arith, first_along, refl}
 use Rattle.tabled_grid.proofs.AddedLines.{added_undone}
 use Rattle.tabled_grid.proofs.Cutting.{Sizes, all_moved, cell_moved, from_inside, none_moved, number_fits, piece_moved, to_inside}
 use Rattle.tabled_grid.proofs.records.resizable.Resizable.cut.Goals as goal

@@ -1,4 +1,4 @@
-use Rattle.std.proofs.Common.{◌≤◌, ◌+◌, ◌-◌, ◌*◌}
+use Rattle.tabled_grid.proofs.Common.{◌*◌, ◌+◌, ◌-◌, ◌≤◌}
 use Rattle.tabled_grid.proofs.Cutting.{MovesGrown, Sizes}
 use Rattle.tabled_grid.proofs.records.resizable.Resizable.cut.Given as goal
 

@@ -1,6 +1,4 @@
-use Rattle.std.proofs.Common.{ℕ, ◌+◌, ◌∙◌, ap, refl}
-use Rattle.tabled_grid.specs.Along.{first_along}
-use Rattle.tabled_grid.specs.declared.records.axis.Axis.TheVariants.{Columns}
+use Rattle.tabled_grid.proofs.Common.{◌+◌, ◌∙◌, Columns, ap, first_along, refl, ℕ}
 use Rattle.tabled_grid.proofs.AddedColumns.{columns_added_more, columns_added_none, columns_taken_back}
 use Rattle.tabled_grid.proofs.records.resizable.Resizable.push_columns.Goals as goal
 

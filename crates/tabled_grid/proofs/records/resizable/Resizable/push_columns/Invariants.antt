@@ -1,4 +1,4 @@
-use Rattle.tabled_grid.specs.Bulk.{AddsColumns}
+use Rattle.tabled_grid.proofs.Common.{AddsColumns}
 use Rattle.tabled_grid.proofs.records.resizable.Resizable.push_columns.Given as goal
 
 abbrev pub invariant-loop : goal.invariant-loop

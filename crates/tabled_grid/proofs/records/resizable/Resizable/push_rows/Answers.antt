@@ -1,6 +1,4 @@
-use Rattle.std.proofs.Common.{ℕ, ◌+◌, ◌∙◌, ap, refl}
-use Rattle.tabled_grid.specs.Along.{first_along}
-use Rattle.tabled_grid.specs.declared.records.axis.Axis.TheVariants.{Rows}
+use Rattle.tabled_grid.proofs.Common.{◌+◌, ◌∙◌, Rows, ap, first_along, refl, ℕ}
 use Rattle.tabled_grid.proofs.AddedRows.{rows_added_more, rows_added_none, rows_taken_back}
 use Rattle.tabled_grid.proofs.records.resizable.Resizable.push_rows.Goals as goal
 

@@ -1,4 +1,4 @@
-use Rattle.tabled_grid.specs.Bulk.{AddsRows}
+use Rattle.tabled_grid.proofs.Common.{AddsRows}
 use Rattle.tabled_grid.proofs.records.resizable.Resizable.push_rows.Given as goal
 
 abbrev pub invariant-loop : goal.invariant-loop

@@ -1,4 +1,4 @@
-use Rattle.std.proofs.Common.{◌≡◌, ◌+◌, ◌-◌, refl, arith}
+use Rattle.tabled_grid.proofs.Common.{◌+◌, ◌-◌, ◌≡◌, arith, refl}
 use Rattle.tabled_grid.proofs.Squares.{square_begins, square_cut, square_made, square_more, square_swapped, turned_more}
 use Rattle.tabled_grid.proofs.Diagonal.{half_begun, half_row}
 use Rattle.tabled_grid.proofs.Transposed.{transposed_none}

@@ -1,6 +1,5 @@
-use Rattle.std.proofs.Common.{◌-◌, arith}
+use Rattle.tabled_grid.proofs.Common.{◌-◌, Columns, arith}
 use Rattle.tabled_grid.proofs.FirstLines.{first_all, first_step}
-use Rattle.tabled_grid.specs.declared.records.axis.Axis.TheVariants.{Columns}
 use Rattle.tabled_grid.proofs.records.resizable.Resizable.truncate_columns.Goals as goal
 
 pub loop-left-init : goal.loop-left-init

@@ -1,6 +1,4 @@
-use Rattle.std.proofs.Common.{◌≡◌, ◌≤◌}
-use Rattle.tabled_grid.specs.Along.{first_along}
-use Rattle.tabled_grid.specs.declared.records.axis.Axis.TheVariants.{Columns}
+use Rattle.tabled_grid.proofs.Common.{◌≡◌, ◌≤◌, Columns, first_along}
 use Rattle.tabled_grid.proofs.records.resizable.Resizable.truncate_columns.Given as goal
 
 abbrev pub invariant-loop-left : goal.invariant-loop-left

@@ -1,6 +1,5 @@
-use Rattle.std.proofs.Common.{◌-◌, arith}
+use Rattle.tabled_grid.proofs.Common.{◌-◌, Rows, arith}
 use Rattle.tabled_grid.proofs.FirstLines.{first_all, first_step}
-use Rattle.tabled_grid.specs.declared.records.axis.Axis.TheVariants.{Rows}
 use Rattle.tabled_grid.proofs.records.resizable.Resizable.truncate_rows.Goals as goal
 
 pub loop-left-init : goal.loop-left-init

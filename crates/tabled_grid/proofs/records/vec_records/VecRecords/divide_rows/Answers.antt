@@ -1,4 +1,4 @@
-use Rattle.std.proofs.Common.{refl}
+use Rattle.tabled_grid.proofs.Common.{refl}
 use Rattle.tabled_grid.proofs.FlatPieces.{rows_divided}
 use Rattle.tabled_grid.proofs.records.vec_records.VecRecords.divide_rows.Goals as goal
 

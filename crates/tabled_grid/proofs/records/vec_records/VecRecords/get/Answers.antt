@@ -1,5 +1,4 @@
-use Rattle.std.proofs.Common.{refl}
-use Rattle.std.proofs.lemmas.Option.{slice_get_read}
+use Rattle.tabled_grid.proofs.Common.{refl, slice_get_read}
 use Rattle.tabled_grid.proofs.FlatStore.{cell_read, cell_within}
 use Rattle.tabled_grid.proofs.records.vec_records.VecRecords.get.Goals as goal
 

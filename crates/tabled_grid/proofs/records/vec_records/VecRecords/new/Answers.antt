@@ -1,7 +1,4 @@
-use Rattle.std.proofs.Common.{◌∙◌, sym}
-use Rattle.std.proofs.lemmas.List.{length-map}
-use Rattle.tabled_grid.specs.Evenness.{no_columns}
-use Rattle.tabled_grid.specs.Grid.{grid_of, map_items}
+use Rattle.tabled_grid.proofs.Common.{◌∙◌, grid_of, length-map, map_items, no_columns, sym}
 use Rattle.tabled_grid.proofs.Flat.{full_of, view_of}
 use Rattle.tabled_grid.proofs.records.vec_records.VecRecords.new.Goals as goal
 

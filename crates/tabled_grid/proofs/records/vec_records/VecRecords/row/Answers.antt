@@ -1,4 +1,4 @@
-use Rattle.std.proofs.Common.{refl, arith}
+use Rattle.tabled_grid.proofs.Common.{arith, refl}
 use Rattle.tabled_grid.proofs.FlatStore.{row_read}
 use Rattle.tabled_grid.proofs.records.vec_records.VecRecords.row.Goals as goal
 

@@ -1,4 +1,4 @@
-use Rattle.std.proofs.Common.{refl}
+use Rattle.tabled_grid.proofs.Common.{refl}
 use Rattle.tabled_grid.proofs.FlatStore.{cell_written}
 use Rattle.tabled_grid.proofs.records.vec_records.VecRecords.write.Goals as goal
 

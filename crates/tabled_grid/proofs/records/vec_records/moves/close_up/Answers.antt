@@ -1,6 +1,4 @@
-use Rattle.std.proofs.Common.{◌≡◌, ◌*◌, ◌-◌, length, ap, refl, arith}
-use Rattle.tabled_grid.specs.Flat.{chunks}
-use Rattle.tabled_grid.specs.Evenness.{length-chunks, wide-chunks}
+use Rattle.tabled_grid.proofs.Common.{◌*◌, ◌-◌, ◌≡◌, ap, arith, chunks, length, length-chunks, refl, wide-chunks}
 use Rattle.tabled_grid.proofs.FlatColumns.{closed_none, closed_more, closed_all}
 use Rattle.tabled_grid.proofs.records.vec_records.moves.close_up.Goals as goal
 

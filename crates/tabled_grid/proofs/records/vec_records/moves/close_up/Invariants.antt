@@ -1,4 +1,4 @@
-use Rattle.tabled_grid.specs.Flat.{chunks}
+use Rattle.tabled_grid.proofs.Common.{chunks}
 use Rattle.tabled_grid.proofs.FlatColumns.{ClosedUp}
 use Rattle.tabled_grid.proofs.records.vec_records.moves.close_up.Given as goal
 

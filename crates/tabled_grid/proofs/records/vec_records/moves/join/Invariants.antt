@@ -1,6 +1,4 @@
-use Rattle.std.proofs.Common.{◌≡◌}
-use Rattle.tabled_grid.specs.Grid.{map_items}
-use Rattle.tabled_grid.specs.Flat.{joined}
+use Rattle.tabled_grid.proofs.Common.{◌≡◌, joined, map_items}
 use Rattle.tabled_grid.proofs.records.vec_records.moves.join.Given as goal
 
 abbrev pub invariant-loop-row : goal.invariant-loop-row

@@ -1,4 +1,4 @@
-use Rattle.std.proofs.Common.{refl, arith}
+use Rattle.tabled_grid.proofs.Common.{arith, refl}
 use Rattle.tabled_grid.proofs.FlatSlides.{slid_back_by_swap, slid_back_by_turn}
 use Rattle.tabled_grid.proofs.records.vec_records.moves.slide_back.Goals as goal
 

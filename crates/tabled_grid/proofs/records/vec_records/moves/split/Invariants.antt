@@ -1,7 +1,4 @@
-use Rattle.std.proofs.Common.{◌≡◌, ◌-◌, ◌*◌, ◌++◌, length}
-use Rattle.std.specs.Vec.Iter.{into_iter_items}
-use Rattle.tabled_grid.specs.Grid.{map_items}
-use Rattle.tabled_grid.specs.Flat.{chunks}
+use Rattle.tabled_grid.proofs.Common.{◌*◌, ◌++◌, ◌-◌, ◌≡◌, chunks, into_iter_items, length, map_items}
 use Rattle.tabled_grid.proofs.records.vec_records.moves.split.Given as goal
 
 abbrev pub invariant-loop : goal.invariant-loop

@@ -1,7 +1,4 @@
-use Rattle.std.proofs.Common.{◌≡◌, ◌*◌, ◌-◌, ◌+◌, length, take, ap, refl, arith}
-use Rattle.std.proofs.lemmas.List.{length-take-le}
-use Rattle.tabled_grid.specs.Flat.{chunks}
-use Rattle.tabled_grid.specs.Evenness.{length-chunks, wide-chunks}
+use Rattle.tabled_grid.proofs.Common.{◌*◌, ◌+◌, ◌-◌, ◌≡◌, ap, arith, chunks, length, length-chunks, length-take-le, refl, take, wide-chunks}
 use Rattle.tabled_grid.proofs.FlatSpreads.{spread_none, spread_more, spread_all}
 use Rattle.tabled_grid.proofs.records.vec_records.moves.spread.Goals as goal
 

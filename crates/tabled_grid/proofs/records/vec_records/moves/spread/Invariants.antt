@@ -1,5 +1,4 @@
-use Rattle.std.proofs.Common.{◌-◌, ◌*◌, take}
-use Rattle.tabled_grid.specs.Flat.{chunks}
+use Rattle.tabled_grid.proofs.Common.{◌*◌, ◌-◌, chunks, take}
 use Rattle.tabled_grid.proofs.FlatSpreads.{Spread}
 use Rattle.tabled_grid.proofs.records.vec_records.moves.spread.Given as goal
 

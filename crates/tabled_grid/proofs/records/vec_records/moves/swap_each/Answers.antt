@@ -1,6 +1,4 @@
-use Rattle.std.proofs.Common.{List, ◌∙◌, refl, arith}
-use Rattle.std.specs.List.{swap}
-use Rattle.tabled_grid.specs.Evenness.{length-chunks, wide-chunks}
+use Rattle.tabled_grid.proofs.Common.{◌∙◌, List, arith, length-chunks, refl, swap, wide-chunks}
 use Rattle.tabled_grid.proofs.FlatColumns.{swapped_none, swapped_more, swapped_all}
 use Rattle.tabled_grid.proofs.records.vec_records.moves.swap_each.Goals as goal
 

@@ -1,6 +1,4 @@
-use Rattle.std.proofs.Common.{◌≡◌}
-use Rattle.std.specs.List.{swap}
-use Rattle.tabled_grid.specs.Flat.{chunks, joined}
+use Rattle.tabled_grid.proofs.Common.{◌≡◌, chunks, joined, swap}
 use Rattle.tabled_grid.proofs.FlatColumns.{changed}
 use Rattle.tabled_grid.proofs.records.vec_records.moves.swap_each.Given as goal
 

@@ -1,5 +1,4 @@
-use Rattle.std.proofs.Common.{◌≡◌, ◌++◌, length}
-use Rattle.std.specs.Vec.Iter.{into_iter_items}
+use Rattle.tabled_grid.proofs.Common.{◌++◌, ◌≡◌, into_iter_items, length}
 use Rattle.tabled_grid.proofs.records.vec_records.moves.take_row.Given as goal
 
 abbrev pub invariant-loop : goal.invariant-loop

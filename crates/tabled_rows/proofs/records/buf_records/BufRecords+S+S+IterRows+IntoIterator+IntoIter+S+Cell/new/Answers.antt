@@ -1,15 +1,8 @@
 use mathlib.Core.Bool.{true≢false}
-use Rattle.std.proofs.Common.{[], ◌++◌, inl, inr, arith, refl, sym, ap, ◌∙◌}
-use Rattle.std.proofs.lemmas.List.{map_push}
-use Rattle.std.specs.Global.{Vec}
-use Rattle.std.specs.Iterator.Adapters.{fuse_steps}
-use Rattle.tabled_grid.specs.Grid.{map_items}
-use Rattle.tabled_rows.specs.Gave.{EachSourceMayBeAsked, SourceMayBeAsked}
-use Rattle.tabled_rows.specs.Rows.{Shows, all_shown}
+use Rattle.tabled_rows.proofs.Common.{[], ◌++◌, ◌∙◌, EachSourceMayBeAsked, Shows, SourceMayBeAsked, Vec, all_shown, ap, arith, fuse_steps, inl, inr, map_items, map_push, refl, sym}
 use Rattle.tabled_rows.proofs.Buffered.{first-read, gives-fuse, gives-fused, gives-unread, read-row}
 use Rattle.tabled_rows.proofs.GaveBuffered.{listed-asked, next-asked, none-asked, none-came, others-asked, others-came, read-more}
 use Rattle.tabled_rows.proofs.Listed.{gives-ended}
-use Rattle.tabled_rows.proofs.records.buf_records.BufRecords+S+S+IterRows+IntoIterator+IntoIter+S+Cell.new.Goals.{else-loop-alloc-test, then-loop-alloc-test+in_default}
 use Rattle.tabled_rows.proofs.records.buf_records.BufRecords+S+S+IterRows+IntoIterator+IntoIter+S+Cell.new.Goals as goal
 
 pub loop-alloc-init : goal.loop-alloc-init
@@ -78,8 +71,8 @@ returns-clause-buffered g c =
     λ rows given.
     let ahead = inv.4 rows given in
     first-read steps g.S.IterColumns.IntoIterator.into_iter_gives cell.can_next cell.next_gives cell.remaining g.S.IntoRecords.shown c.args.n _ _ rows ahead (omega (arith, inv.3, c.loop-alloc.buffer.ok.0)) (elim c.loop-alloc-test.branch [
-      | else-loop-alloc-test w ↦ λ h. absurd (omega (arith, w.loop-alloc-test.false, c.len.ensures, c.loop-alloc.buffer.ok.0))
-      | then-loop-alloc-test+in_default w ↦ λ h. gives-ended steps _ ahead.others _ _ ahead.gives w.in_default.ensures.steps
+      | goal.else-loop-alloc-test w ↦ λ h. absurd (omega (arith, w.loop-alloc-test.false, c.len.ensures, c.loop-alloc.buffer.ok.0))
+      | goal.then-loop-alloc-test+in_default w ↦ λ h. gives-ended steps _ ahead.others _ _ ahead.gives w.in_default.ensures.steps
     ])
 
 pub returns-clause-same : goal.returns-clause-same
@@ -90,7 +83,7 @@ returns-clause-same g c =
     λ rows given.
     let ahead = inv.4 rows given in
     elim c.loop-alloc-test.branch [
-      | else-loop-alloc-test w ↦ (
+      | goal.else-loop-alloc-test w ↦ (
         ahead.others,
         rw w.rows-is (record {
           can = λ on. inv.1;
@@ -99,7 +92,7 @@ returns-clause-same g c =
         }),
         ahead.are,
       )
-      | then-loop-alloc-test+in_default w ↦ (
+      | goal.then-loop-alloc-test+in_default w ↦ (
         [],
         rw w.rows-is (record {
           can = λ on. absurd (true≢false (sym w.in_default.ensures.steps.1 ∙ on));
@@ -114,8 +107,8 @@ pub returns-clause-asked : goal.returns-clause-asked
 returns-clause-asked g c =
     let inv = c.loop-alloc.invariant in
     elim c.loop-alloc-test.branch [
-      | else-loop-alloc-test w ↦ rw w.rows-is ((λ on. inv.1), rw inv.0 inv.2, others-asked _ _ _ _ _ _ _ _ inv.5 inv.0)
-      | then-loop-alloc-test+in_default w ↦
+      | goal.else-loop-alloc-test w ↦ rw w.rows-is ((λ on. inv.1), rw inv.0 inv.2, others-asked _ _ _ _ _ _ _ _ inv.5 inv.0)
+      | goal.then-loop-alloc-test+in_default w ↦
           let over = w.in_default.ensures.steps.1 in
           rw w.rows-is ((λ on. absurd (true≢false (sym over ∙ on))), rw over tt, none-asked g.S.IterRows.IntoIterator.into_iter_gives g.S.IterRows.IntoIter.Iterator.next_gives (SourceMayBeAsked g.S.IterColumns.IntoIterator.into_iter_gives g.S.IterColumns.IntoIter.Iterator.can_next g.S.IterColumns.IntoIter.Iterator.remaining) g.S.IterColumns.IntoIterator.into_iter_gives g.S.IterColumns.IntoIter.Iterator.next_gives (g.S.IntoRecords.may_give c.args.records) _ over)
     ]
@@ -126,7 +119,7 @@ returns-clause-came g c =
       inv.5.read,
       inv.5.gave,
       elim c.loop-alloc-test.branch [
-        | else-loop-alloc-test w ↦ rw w.rows-is (others-came _ _ _ _ _ _ _ _ inv.5 inv.0)
-        | then-loop-alloc-test+in_default w ↦ rw w.rows-is (none-came _ _ _ _ _ _ c.loop-alloc.rows _ _ inv.5 inv.0 w.in_default.ensures.steps)
+        | goal.else-loop-alloc-test w ↦ rw w.rows-is (others-came _ _ _ _ _ _ _ _ inv.5 inv.0)
+        | goal.then-loop-alloc-test+in_default w ↦ rw w.rows-is (none-came _ _ _ _ _ _ c.loop-alloc.rows _ _ inv.5 inv.0 w.in_default.ensures.steps)
       ],
     )

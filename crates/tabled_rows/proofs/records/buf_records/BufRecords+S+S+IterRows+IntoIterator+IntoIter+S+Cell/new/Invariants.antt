@@ -1,9 +1,5 @@
-use Rattle.std.proofs.Common.{◌≡◌, List, ◌-◌, ◌≤◌, false}
-use Rattle.std.specs.Iterator.{IsFinite}
-use Rattle.std.specs.Iterator.Adapters.{fuse_done, fuse_source, fuse_steps}
+use Rattle.tabled_rows.proofs.Common.{◌-◌, ◌≡◌, ◌≤◌, IsFinite, List, SourceMayBeAsked, false, fuse_done, fuse_source, fuse_steps, map_items}
 use Rattle.std.specs.Prelude.{vec_len}
-use Rattle.tabled_grid.specs.Grid.{map_items}
-use Rattle.tabled_rows.specs.Gave.{SourceMayBeAsked}
 use Rattle.tabled_rows.proofs.Buffered.{IsReadAhead}
 use Rattle.tabled_rows.proofs.GaveBuffered.{WasRead}
 use Rattle.tabled_rows.proofs.records.buf_records.BufRecords+S+S+IterRows+IntoIterator+IntoIter+S+Cell.new.Given as goal

@@ -1,9 +1,5 @@
-use Rattle.std.proofs.Common.{◌≡◌, ◌∙◌}
-use Rattle.std.specs.Iterator.Adapters.{fuse_steps}
+use Rattle.tabled_rows.proofs.Common.{◌∙◌, ◌≡◌, BufIterator, SourceMayBeAsked, can_come, fuse_steps, still_to_come}
 use Rattle.tabled_rows.specs.declared.records.buf_records.BufRecordsIter.{BufRecordsIter}
-use Rattle.tabled_rows.specs.Gave.{SourceMayBeAsked}
-use Rattle.tabled_rows.specs.Steps.{can_come, still_to_come}
-use Rattle.tabled_rows.specs.declared.records.buf_records.BufIterator.{BufIterator}
 use Rattle.tabled_rows.proofs.Buffered.{gives-buffered}
 use Rattle.tabled_rows.proofs.GaveBuffered.{buffered-along, buffered-gave}
 use Rattle.tabled_rows.proofs.records.buf_records.BufRecordsIntoIterCellIntoRecords.iter_rows.Goals as goal

@@ -1,5 +1,4 @@
-use Rattle.std.proofs.Common.{[], ℕ, List, Bor, ap, ◌∙◌}
-use Rattle.std.specs.Iterator.Adapters.{repeat_n_count, repeat_n_item}
+use Rattle.tabled_rows.proofs.Common.{[], ◌∙◌, Bor, List, ap, repeat_n_count, repeat_n_item, ℕ}
 use Rattle.tabled_rows.proofs.Listed.{gives-filled}
 use Rattle.tabled_rows.proofs.records.empty_records.EmptyRecordsIntoRecords.iter_rows.Goals as goal
 

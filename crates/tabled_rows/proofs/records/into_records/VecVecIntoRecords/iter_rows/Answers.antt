@@ -1,6 +1,4 @@
-use Rattle.std.proofs.Common.{refl, subst, map-id}
-use Rattle.std.specs.Vec.Iter.{into_iter_steps}
-use Rattle.tabled_rows.specs.Listed.{GivesEach}
+use Rattle.tabled_rows.proofs.Common.{GivesEach, into_iter_steps, map-id, refl, subst}
 use Rattle.tabled_rows.proofs.Listed.{gives-vec}
 use Rattle.tabled_rows.proofs.records.into_records.VecVecIntoRecords.iter_rows.Goals as goal
 

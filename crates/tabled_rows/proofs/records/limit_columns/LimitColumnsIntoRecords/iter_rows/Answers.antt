@@ -1,10 +1,5 @@
-use Rattle.std.proofs.Common.{◌≡◌, refl}
-use Rattle.std.specs.Iterator.{at_most, count_min}
-use Rattle.std.specs.Iterator.Adapters.{take_count, take_source}
-use Rattle.std.specs.declared.iter.Take.{Take}
-use Rattle.tabled_rows.specs.Rows.{Shows}
+use Rattle.tabled_rows.proofs.Common.{◌≡◌, Shows, SourceMayBeAsked, Take, at_most, count_min, refl, take_count, take_source}
 use Rattle.tabled_rows.specs.declared.records.limit_columns.LimitColumnsIter.{LimitColumnsIter}
-use Rattle.tabled_rows.specs.Gave.{SourceMayBeAsked}
 use Rattle.tabled_rows.proofs.Gave.{limited-along, limited-gave}
 use Rattle.tabled_rows.proofs.Listed.{gives-limited}
 use Rattle.tabled_rows.proofs.records.limit_columns.LimitColumnsIntoRecords.iter_rows.Goals as goal

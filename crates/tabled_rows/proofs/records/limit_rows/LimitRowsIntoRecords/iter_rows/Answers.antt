@@ -1,5 +1,4 @@
-use Rattle.std.specs.Iterator.Adapters.{take_steps}
-use Rattle.tabled_rows.specs.Gave.{SourceMayBeAsked}
+use Rattle.tabled_rows.proofs.Common.{SourceMayBeAsked, take_steps}
 use Rattle.tabled_rows.proofs.Gave.{taken-along, taken-gave}
 use Rattle.tabled_rows.proofs.Listed.{gives-inside, gives-take}
 use Rattle.tabled_rows.specs.declared.records.limit_rows.LimitRowsIter.{LimitRowsIter}

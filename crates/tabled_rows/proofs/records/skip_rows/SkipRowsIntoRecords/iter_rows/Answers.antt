@@ -1,7 +1,4 @@
-use Rattle.std.proofs.Common.{◌≡◌, ◌∙◌, true, ap, drop, subst}
-use Rattle.std.specs.Iterator.{DrainsIf}
-use Rattle.std.specs.Iterator.Adapters.{skip_count, skip_source, skip_steps}
-use Rattle.tabled_rows.specs.Gave.{SourceMayBeAsked}
+use Rattle.tabled_rows.proofs.Common.{◌∙◌, ◌≡◌, DrainsIf, SourceMayBeAsked, ap, drop, skip_count, skip_source, skip_steps, subst, true}
 use Rattle.tabled_rows.proofs.Gave.{skipped-along, skipped-gave}
 use Rattle.tabled_rows.proofs.Listed.{gives-inside, gives-skip}
 use Rattle.tabled_rows.specs.declared.records.skip_rows.SkipRowsIter.{SkipRowsIter}

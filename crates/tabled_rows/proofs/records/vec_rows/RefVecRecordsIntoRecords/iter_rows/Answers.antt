@@ -1,5 +1,4 @@
-use Rattle.std.proofs.Common.{drop, length, ap, refl}
-use Rattle.std.specs.Iterator.{YieldsFirstRef}
+use Rattle.tabled_rows.proofs.Common.{YieldsFirstRef, ap, drop, length, refl}
 use Rattle.tabled_rows.specs.declared.records.vec_rows.VecRows.{VecRows}
 use Rattle.tabled_rows.proofs.Listed.{gives-shown, gives-slice}
 use Rattle.tabled_rows.proofs.records.vec_rows.RefVecRecordsIntoRecords.iter_rows.Goals as goal

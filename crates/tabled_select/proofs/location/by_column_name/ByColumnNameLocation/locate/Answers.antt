@@ -1,5 +1,4 @@
-use Rattle.std.proofs.Common.{refl}
-use Rattle.std.proofs.lemmas.Result.{IfOk-weaker}
+use Rattle.tabled_select.proofs.Common.{IfOk-weaker, refl}
 use Rattle.tabled_select.proofs.Located.{vec-gives}
 use Rattle.tabled_select.proofs.location.by_column_name.ByColumnNameLocation.locate.Goals as goal
 

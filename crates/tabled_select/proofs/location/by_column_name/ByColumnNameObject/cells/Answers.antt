@@ -1,4 +1,4 @@
-use Rattle.std.proofs.Common.{◌∙◌, refl}
+use Rattle.tabled_select.proofs.Common.{◌∙◌, refl}
 use Rattle.tabled_select.proofs.Located.{columns_of-places, vec-gives}
 use Rattle.tabled_select.proofs.location.by_column_name.ByColumnNameObject.cells.Goals as goal
 

@@ -1,5 +1,4 @@
-use Rattle.std.proofs.lemmas.List.{map-id}
-use Rattle.std.proofs.lemmas.Result.{IfOk-weaker}
+use Rattle.tabled_select.proofs.Common.{IfOk-weaker, map-id}
 use Rattle.tabled_select.proofs.Located.{vec-gives}
 use Rattle.tabled_select.proofs.location.by_condition.ByConditionLocation.locate.Goals as goal
 

@@ -1,4 +1,4 @@
-use Rattle.std.proofs.Common.{refl}
+use Rattle.tabled_select.proofs.Common.{refl}
 use Rattle.tabled_select.proofs.Located.{vec-gives}
 use Rattle.tabled_select.proofs.location.by_content.ByContentObject.cells.Goals as goal
 

@@ -1,6 +1,4 @@
-use Rattle.std.proofs.Common.{rules, option_to_list, refl}
-use Rattle.tabled_select.specs.Algebra.{cells_of}
-use Rattle.tabled_select.proofs.Shown.{shown_are_given}
+use Rattle.tabled_select.proofs.Common.{cells_of, option_to_list, refl, rules, shown_are_given}
 use Rattle.tabled_select.proofs.location.by_value.ByValueObject.cells.Goals as goal
 
 pub returns : goal.returns

@@ -1,4 +1,4 @@
-use Rattle.std.proofs.Common.{refl}
+use Rattle.tabled_select.proofs.Common.{refl}
 use Rattle.tabled_select.proofs.Located.{range-gives}
 use Rattle.tabled_select.proofs.location.columns.ColumnsLocation.locate.Goals as goal
 

@@ -1,4 +1,4 @@
-use Rattle.std.proofs.Common.{inr, refl}
+use Rattle.tabled_select.proofs.Common.{inr, refl}
 use Rattle.tabled_select.proofs.Located.{range-gives}
 use Rattle.tabled_select.proofs.LocatedMarks.{range-cut}
 use Rattle.tabled_select.proofs.location.columns.ColumnsLocation.locate_below.Goals as goal

@@ -1,4 +1,4 @@
-use Rattle.std.proofs.Common.{rules, refl}
+use Rattle.tabled_select.proofs.Common.{refl, rules}
 use Rattle.tabled_select.proofs.Located.{vec-gives}
 use Rattle.tabled_select.proofs.object.entity_list.EntityListObject.cells.Goals as goal
 

@@ -1,12 +1,11 @@
-use Rattle.std.proofs.Common.{rules, ap, arith, length}
+use Rattle.tabled_select.proofs.Common.{ap, arith, length, rules}
 use Rattle.tabled_select.proofs.Walks.{frame-jump, frame-next, frame-next_row, frame-no_columns, frame-past}
 use Rattle.tabled_select.proofs.object.frame.FrameIterIterator.next.Goals as goal
-use Rattle.tabled_select.proofs.object.frame.FrameIterIterator.next.Goals.{then-self-via-then-self, then-self-via-else-self+then-self-eq0}
 
 pub returns-then-self-clause-steps : goal.returns-then-self-clause-steps
 returns-then-self-clause-steps c = elim c.then-self.branch [
-  | then-self-via-then-self w ↦ let none = frame-past c.self.view_is w.if-self.true in (none, none)
-  | then-self-via-else-self+then-self-eq0 w ↦ let none = frame-no_columns c.self.view_is w.if-self-eq0.true in (none, none)
+  | goal.then-self-via-then-self w ↦ let none = frame-past c.self.view_is w.if-self.true in (none, none)
+  | goal.then-self-via-else-self+then-self-eq0 w ↦ let none = frame-no_columns c.self.view_is w.if-self-eq0.true in (none, none)
 ]
 
 pub returns-then-self-last_col-clause-steps : goal.returns-then-self-last_col-clause-steps

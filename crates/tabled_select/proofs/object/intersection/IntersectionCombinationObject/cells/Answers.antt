@@ -1,5 +1,4 @@
-use Rattle.std.proofs.lemmas.Result.{IfOk-weaker}
-use Rattle.tabled_select.proofs.Shown.{GivesAll-rest}
+use Rattle.tabled_select.proofs.Common.{GivesAll-rest, IfOk-weaker}
 use Rattle.tabled_select.proofs.object.intersection.IntersectionCombinationObject.cells.Goals as goal
 
 pub returns : goal.returns

@@ -1,6 +1,4 @@
-use Rattle.std.proofs.Common.{append-nil}
-use Rattle.std.proofs.lemmas.Result.{IfOk-weaker}
-use Rattle.tabled_select.proofs.Shown.{GivesAll-rest}
+use Rattle.tabled_select.proofs.Common.{GivesAll-rest, IfOk-weaker, append-nil}
 use Rattle.tabled_select.proofs.object.inversion.InversionCombinationObject.cells.Goals as goal
 
 pub returns : goal.returns

@@ -1,4 +1,4 @@
-use Rattle.std.proofs.Common.{rules}
+use Rattle.tabled_select.proofs.Common.{rules}
 use Rattle.tabled_select.proofs.Filtered.{Filters-from_IsFiltered}
 use Rattle.tabled_select.proofs.object.iterator.filter.keep.Goals as goal
 

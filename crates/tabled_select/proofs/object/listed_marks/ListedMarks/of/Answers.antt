@@ -1,4 +1,4 @@
-use Rattle.std.proofs.Common.{◌∙◌}
+use Rattle.tabled_select.proofs.Common.{◌∙◌}
 use Rattle.tabled_select.proofs.MarkedPlaces.{given-first, given-last, given-next}
 use Rattle.tabled_select.proofs.object.listed_marks.ListedMarks.of.Goals as goal
 

@@ -1,8 +1,4 @@
-use Rattle.std.proofs.Common.{◌≡◌}
-use Rattle.std.specs.Prelude.{Some, if◌then◌else◌}
-use Rattle.tabled_grid.specs.declared.config.position.Position.{Position}
-use Rattle.tabled_select.specs.Algebra.{flat, is_among}
-use Rattle.tabled_select.specs.Sets.{few_marks}
+use Rattle.tabled_select.proofs.Common.{◌≡◌, Position, Some, few_marks, flat, if◌then◌else◌, is_among}
 use Rattle.tabled_select.proofs.MarkedPlaces.{given}
 use Rattle.tabled_select.proofs.object.listed_marks.ListedMarks.of.Given as goal
 

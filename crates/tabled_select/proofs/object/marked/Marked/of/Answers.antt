@@ -1,5 +1,4 @@
-use Rattle.std.proofs.Common.{◌∙◌}
-use Rattle.tabled_select.specs.Sets.{all_marks}
+use Rattle.tabled_select.proofs.Common.{◌∙◌, all_marks}
 use Rattle.tabled_select.proofs.MarkedPlaces.{marked-first, marked-last, marked-next, room-kept}
 use Rattle.tabled_select.proofs.object.marked.Marked.of.Goals as goal
 

@@ -1,11 +1,5 @@
-use Rattle.std.proofs.Common.{◌≡◌}
-use Rattle.std.specs.Prelude.{◌||◌, List}
-use Rattle.std.specs.List.{AllByRecursion}
-use Rattle.tabled_grid.specs.declared.config.entity.Entity.{Entity}
-use Rattle.tabled_grid.specs.declared.config.position.Position.{Position}
-use Rattle.tabled_select.specs.Algebra.{flat, is_among}
-use Rattle.tabled_select.specs.Marks.{HasRoom, has}
-use Rattle.tabled_select.specs.Sets.{all_marks}
+use Rattle.tabled_select.proofs.Common.{◌||◌, ◌≡◌, AllByRecursion, Entity, HasRoom, Position, all_marks, flat, has, is_among}
+use Rattle.std.specs.Prelude.{List}
 use Rattle.tabled_select.proofs.object.marked.Marked.of.Given as goal
 
 abbrev pub invariant-loop-pos : goal.invariant-loop-pos

@@ -1,6 +1,4 @@
-use Rattle.std.proofs.Common.{◌≡◌, ◌++◌, length}
-use Rattle.std.specs.Vec.Iter.{into_iter_items}
-use Rattle.tabled_select.specs.Algebra.{flat}
+use Rattle.tabled_select.proofs.Common.{◌++◌, ◌≡◌, flat, into_iter_items, length}
 use Rattle.tabled_select.proofs.object.places.PlacesIterator.next.Given as goal
 
 abbrev pub invariant-loop-pos : goal.invariant-loop-pos

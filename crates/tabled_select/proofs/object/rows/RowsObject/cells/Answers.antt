@@ -1,5 +1,4 @@
-use Rattle.std.proofs.Common.{refl}
-use Rattle.tabled_select.proofs.Shown.{shown_are_given}
+use Rattle.tabled_select.proofs.Common.{refl, shown_are_given}
 use Rattle.tabled_select.proofs.object.rows.RowsObject.cells.Goals as goal
 
 pub returns : goal.returns

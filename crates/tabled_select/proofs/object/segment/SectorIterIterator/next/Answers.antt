@@ -1,4 +1,4 @@
-use Rattle.std.proofs.Common.{rules, ap, length}
+use Rattle.tabled_select.proofs.Common.{ap, length, rules}
 use Rattle.tabled_select.proofs.Walks.{sector-next, sector-next_row}
 use Rattle.tabled_select.proofs.object.segment.SectorIterIterator.next.Goals as goal
 

@@ -1,6 +1,4 @@
-use Rattle.std.proofs.Common.{refl, ap}
-use Rattle.tabled_select.specs.Algebra.{cells_of}
-use Rattle.tabled_select.proofs.Shown.{shown_are_given}
+use Rattle.tabled_select.proofs.Common.{ap, cells_of, refl, shown_are_given}
 use Rattle.tabled_select.proofs.object.segment.SegmentObject.cells.Goals as goal
 
 pub returns : goal.returns

@@ -1,6 +1,4 @@
-use Rattle.std.proofs.Common.{ap}
-use Rattle.tabled_select.specs.Algebra.{cells_of}
-use Rattle.tabled_select.specs.Sets.{marks_of}
+use Rattle.tabled_select.proofs.Common.{ap, cells_of, marks_of}
 use Rattle.tabled_select.proofs.MarkedPlaces.{passes-sifted}
 use Rattle.tabled_select.proofs.object.sieve.SieveIter.new.Goals as goal
 

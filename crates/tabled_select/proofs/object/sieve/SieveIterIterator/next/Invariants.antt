@@ -1,8 +1,4 @@
-use Rattle.std.proofs.Common.{◌≡◌, length}
-use Rattle.std.specs.List.{AllByRecursion, filter}
-use Rattle.tabled_select.specs.Algebra.{cells_of}
-use Rattle.tabled_select.specs.Marks.{passes}
-use Rattle.tabled_select.specs.Sets.{covers, marks_of}
+use Rattle.tabled_select.proofs.Common.{◌≡◌, AllByRecursion, cells_of, covers, filter, length, marks_of, passes}
 use Rattle.tabled_select.proofs.object.sieve.SieveIterIterator.next.Given as goal
 
 abbrev pub invariant-loop-pos : goal.invariant-loop-pos

@@ -1,8 +1,5 @@
-use Rattle.std.proofs.Common.{◌∙◌, ap, refl}
-use Rattle.tabled_select.specs.Algebra.{cells_of, firsts}
-use Rattle.tabled_select.specs.Sets.{marks_of}
+use Rattle.tabled_select.proofs.Common.{◌∙◌, ap, cells_of, firsts, marks_of, refl, shown_are_given}
 use Rattle.tabled_select.proofs.NamedPlaces.{flat-append}
-use Rattle.tabled_select.proofs.Shown.{shown_are_given}
 use Rattle.tabled_select.proofs.Uniting.{fresh-all}
 use Rattle.tabled_select.proofs.object.union.UnionCombinationObject.cells.Goals as goal
 

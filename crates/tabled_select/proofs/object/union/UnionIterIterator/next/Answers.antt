@@ -1,5 +1,4 @@
-use Rattle.std.proofs.Common.{rules, ap, length}
-use Rattle.tabled_select.specs.Sets.{marks_of}
+use Rattle.tabled_select.proofs.Common.{ap, length, marks_of, rules}
 use Rattle.tabled_select.proofs.MarkedPlaces.{room-kept}
 use Rattle.tabled_select.proofs.Uniting.{fresh-new, fresh-seen}
 use Rattle.tabled_select.proofs.object.union.UnionIterIterator.next.Goals as goal

@@ -1,8 +1,4 @@
-use Rattle.std.proofs.Common.{◌≡◌, false, length}
-use Rattle.std.specs.List.{AllByRecursion, filter}
-use Rattle.tabled_select.specs.Algebra.{cells_of, firsts}
-use Rattle.tabled_select.specs.Marks.{HasRoom, passes}
-use Rattle.tabled_select.specs.Sets.{marks_of}
+use Rattle.tabled_select.proofs.Common.{◌≡◌, AllByRecursion, HasRoom, cells_of, false, filter, firsts, length, marks_of, passes}
 use Rattle.tabled_select.proofs.object.union.UnionIterIterator.next.Given as goal
 
 abbrev pub invariant-loop-pos : goal.invariant-loop-pos

@@ -1,7 +1,5 @@
-use Rattle.std.proofs.Common.{◌≡◌, true, String, string_bytes, refl}
+use Rattle.tabled_settings.proofs.Common.{◌≡◌, AnswersContent, Asked, AskedByLine, IfOk-weaker, String, refl, string_bytes, true}
 use Rattle.std.specs.Global.{Global}
-use Rattle.std.proofs.lemmas.Result.{IfOk-weaker}
-use Rattle.tabled_settings.specs.Contents.{AnswersContent, Asked, AskedByLine}
 use Rattle.tabled_settings.proofs.Results.{if_ok}
 use Rattle.tabled_settings.proofs.format.format_content.FormatContentAnswers.answer.Goals as goal
 

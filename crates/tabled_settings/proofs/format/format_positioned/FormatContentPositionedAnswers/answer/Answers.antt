@@ -1,6 +1,5 @@
-use Rattle.std.proofs.Common.{refl, String, string_bytes}
+use Rattle.tabled_settings.proofs.Common.{AskedAt, String, refl, string_bytes}
 use Rattle.std.specs.Global.{Global}
-use Rattle.tabled_settings.specs.Contents.{AskedAt}
 use Rattle.tabled_settings.proofs.Results.{if_ok}
 use Rattle.tabled_settings.proofs.format.format_positioned.FormatContentPositionedAnswers.answer.Goals as goal
 

@@ -1,4 +1,4 @@
-use Rattle.std.proofs.Common.{◌∙◌, refl, sym}
+use Rattle.tabled_settings.proofs.Common.{◌∙◌, refl, sym}
 use Rattle.tabled_settings.proofs.Replacing.{recoded-same}
 use Rattle.tabled_settings.proofs.formatting.charset.CharsetAnswers.keeps.Goals as goal
 

@@ -1,10 +1,4 @@
-use Rattle.std.proofs.Common.{◌≡◌, ◌≤◌, ◌∙◌, refl, ap, sym, arith}
-use Rattle.std.specs.String.{string_bytes}
-use Rattle.tabled_grid.specs.Along.{count_along, without_line}
-use Rattle.tabled_grid.specs.Axis.{across, place_in}
-use Rattle.tabled_grid.specs.Grid.{WritesText}
-use Rattle.tabled_grid.specs.Shifts.{shifted}
-use Rattle.tabled_spans.specs.Spanned.{with_span}
+use Rattle.tabled_spans.proofs.Common.{◌∙◌, ◌≡◌, ◌≤◌, WritesText, across, ap, arith, count_along, place_in, refl, shifted, string_bytes, sym, with_span, without_line}
 use Rattle.tabled_spans.proofs.PanelLines.{panelled, undone}
 use Rattle.tabled_spans.proofs.panel.panel_on.PanelOnTableOptionSpannedConfig.change.Goals as goal
 

@@ -1,10 +1,4 @@
-use Rattle.std.proofs.Common.{rules, ◌≡◌, sym, subst}
-use Rattle.std.proofs.lemmas.Result.{IfOk-weaker}
-use Rattle.std.specs.Prelude.{IfOk}
-use Rattle.tabled_grid.specs.Grid.{width_of}
-use Rattle.tabled_grid.specs.Evenness.{AreWide}
-use Rattle.tabled_table.specs.Builder.{row_texts}
-use Rattle.tabled_table.specs.Index.{built_rows}
+use Rattle.tabled_table.proofs.Common.{◌≡◌, AreWide, IfOk, IfOk-weaker, built_rows, row_texts, rules, subst, sym, width_of}
 use Rattle.tabled_table.proofs.Indexed.{even-rows_of}
 use Rattle.tabled_table.proofs.builder.indexed.Indexed.into_rows.Goals as goal
 

@@ -1,7 +1,5 @@
-use Rattle.std.proofs.Common.{◌∙◌, ap}
-use Rattle.tabled_table.specs.Index.{numbers}
+use Rattle.tabled_table.proofs.Common.{◌∙◌, ap, numbers, vec_len-rows, vec_len-texts}
 use Rattle.tabled_table.proofs.Indexed.{IsIndexed-numbers}
-use Rattle.tabled_table.proofs.RowTexts.{vec_len-texts, vec_len-rows}
 use Rattle.tabled_table.proofs.builder.indexed.Indexed.new.Goals as goal
 
 pub invariant_of-result : goal.invariant_of-result

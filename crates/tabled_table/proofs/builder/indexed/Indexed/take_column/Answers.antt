@@ -1,14 +1,6 @@
-use Rattle.std.proofs.Common.{◌≡◌, ◌<◌, ◌∙◌, Some, ap, length, map, refl, sym}
-use Rattle.std.specs.List.{remove}
-use Rattle.std.specs.Prelude.{slice_get}
-use Rattle.std.specs.String.{string_bytes}
+use Rattle.tabled_table.proofs.Common.{◌<◌, ◌∙◌, ◌≡◌, All-lens, Some, ap, column_of, get_or-map, length, length-map, map, map-remove, refl, remove, row_texts, rows_written, slice_get, slice_get-get_or, string_bytes, sym}
 use Rattle.std.specs.Vec.{with_items}
-use Rattle.std.proofs.lemmas.List.{get_or-map, length-map}
-use Rattle.std.proofs.lemmas.Option.{slice_get-get_or}
-use Rattle.tabled_table.specs.Builder.{column_of, row_texts}
 use Rattle.tabled_table.proofs.Indexed.{IsIndexed-column}
-use Rattle.tabled_grid.proofs.Lists.{map-remove}
-use Rattle.tabled_table.proofs.RowTexts.{All-lens, rows_written}
 use Rattle.tabled_table.proofs.builder.indexed.Indexed.take_column.Goals as goal
 use Rattle.tabled_table.proofs.builder.indexed.Indexed.take_column.Goals.{After-remove}
 

@@ -1,9 +1,5 @@
-use Rattle.std.proofs.Common.{◌≡◌, ◌∙◌, ap, length, map, refl}
-use Rattle.std.specs.String.{string_bytes}
-use Rattle.tabled_grid.specs.Bulk.{transposed_rows}
-use Rattle.tabled_table.specs.Builder.{row_texts}
+use Rattle.tabled_table.proofs.Common.{◌∙◌, ◌≡◌, ap, length, map, refl, row_texts, string_bytes, transposed_rows, vec_len-texts, wide-cells}
 use Rattle.tabled_table.proofs.Indexed.{IsIndexed-transposed}
-use Rattle.tabled_table.proofs.RowTexts.{vec_len-texts, wide-cells}
 use Rattle.tabled_table.proofs.Transposed.{texts_turned}
 use Rattle.tabled_table.proofs.builder.indexed.Indexed.transpose.Goals as goal
 use Rattle.tabled_table.proofs.builder.indexed.Indexed.transpose.Goals.{In_ok-turn_rows}

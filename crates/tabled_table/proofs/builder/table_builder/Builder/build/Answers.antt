@@ -1,6 +1,4 @@
-use Rattle.std.proofs.Common.{◌∙◌, ap, refl}
-use Rattle.std.specs.String.{string_bytes}
-use Rattle.tabled_grid.specs.Grid.{map_grid}
+use Rattle.tabled_table.proofs.Common.{◌∙◌, ap, map_grid, refl, string_bytes}
 use Rattle.tabled_table.proofs.Tables.{IsEven-rows, map_grid-rows}
 use Rattle.tabled_table.proofs.builder.table_builder.Builder.build.Goals as goal
 

@@ -1,9 +1,6 @@
-use Rattle.std.proofs.Common.{◌≡◌, ◌∙◌, ap, map, refl, take}
-use Rattle.std.specs.List.{filter}
+use Rattle.tabled_table.proofs.Common.{◌∙◌, ◌≡◌, ap, filter, map, only_columns, refl, row_has_text, row_texts, rows_written, take, text_columns, texts_taken}
 use Rattle.std.specs.Vec.{with_items}
-use Rattle.tabled_table.specs.Builder.{only_columns, row_has_text, row_texts, text_columns}
 use Rattle.tabled_table.proofs.Cleaned.{even-cleaned}
-use Rattle.tabled_table.proofs.RowTexts.{rows_written, texts_taken}
 use Rattle.tabled_table.proofs.builder.table_builder.Builder.clean.Goals as goal
 use Rattle.tabled_table.proofs.builder.table_builder.Builder.clean.Goals.{After-retain_texts}
 

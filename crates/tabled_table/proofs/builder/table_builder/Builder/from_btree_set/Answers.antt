@@ -1,8 +1,4 @@
-use Rattle.std.proofs.Common.{ap, length}
-use Rattle.std.proofs.lemmas.Result.{IfOk-weaker}
-use Rattle.tabled_table.specs.Builder.{row_texts}
-use Rattle.tabled_table.specs.Printed.{PrintsOne}
-use Rattle.tabled_table.proofs.Columns.{even-each}
+use Rattle.tabled_table.proofs.Common.{IfOk-weaker, PrintsOne, ap, even-each, length, row_texts}
 use Rattle.tabled_table.proofs.Printed.{all-drained}
 use Rattle.tabled_table.proofs.builder.table_builder.Builder.from_btree_set.Goals as goal
 

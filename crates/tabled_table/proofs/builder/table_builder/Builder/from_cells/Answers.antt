@@ -1,6 +1,4 @@
-use Rattle.std.proofs.Common.{◌≡◌, ◌∙◌, [], ap, map, arith}
-use Rattle.tabled_table.specs.Builder.{longest, padded_to, row_texts}
-use Rattle.tabled_table.proofs.RowTexts.{rows_written}
+use Rattle.tabled_table.proofs.Common.{[], ◌∙◌, ◌≡◌, ap, arith, longest, map, padded_to, row_texts, rows_written}
 use Rattle.tabled_table.proofs.Uneven.{even-longest}
 use Rattle.tabled_table.proofs.builder.table_builder.Builder.from_cells.Goals as goal
 

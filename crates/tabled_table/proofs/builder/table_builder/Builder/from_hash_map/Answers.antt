@@ -1,8 +1,4 @@
-use Rattle.std.proofs.Common.{ap, length}
-use Rattle.std.proofs.lemmas.Result.{IfOk-weaker}
-use Rattle.tabled_table.specs.Builder.{row_texts}
-use Rattle.tabled_table.specs.Printed.{PrintsPair}
-use Rattle.tabled_table.proofs.Columns.{even-each}
+use Rattle.tabled_table.proofs.Common.{IfOk-weaker, PrintsPair, ap, even-each, length, row_texts}
 use Rattle.tabled_table.proofs.Printed.{all-drained, even-permutation}
 use Rattle.tabled_table.proofs.builder.table_builder.Builder.from_hash_map.Goals as goal
 

@@ -1,10 +1,5 @@
-use Rattle.std.proofs.Common.{[], ◌∷◌, ◌++◌, Some, ◌∙◌, ap, length, map, refl, sym}
+use Rattle.tabled_table.proofs.Common.{[], ◌++◌, ◌∙◌, ◌∷◌, All-pop, Builder, MayBeAsked, Some, all_zipped_more, ap, length, map, refl, string_bytes, sym, with_record}
 use Rattle.std.proofs.iter.Next.{Yields-more}
-use Rattle.std.proofs.lemmas.List.Elements.{All-pop}
-use Rattle.std.proofs.lemmas.Slice.Zip.{all_zipped_more}
-use Rattle.std.specs.String.{string_bytes}
-use Rattle.tabled_table.specs.Builder.{Builder, with_record}
-use Rattle.tabled_table.specs.Given.{MayBeAsked}
 use Rattle.tabled_table.proofs.Uneven.{from_uneven-push}
 use Rattle.tabled_table.proofs.builder.table_builder.Builder.from_rows.Goals as goal
 

@@ -1,6 +1,4 @@
-use Rattle.std.proofs.Common.{◌≡◌, ℕ, List}
-use Rattle.tabled_table.specs.Builder.{from_uneven}
-use Rattle.tabled_table.specs.Given.{GaveRows}
+use Rattle.tabled_table.proofs.Common.{◌≡◌, GaveRows, List, from_uneven, ℕ}
 use Rattle.tabled_table.proofs.builder.table_builder.Builder.from_rows.Given as goal
 
 abbrev pub invariant-loop-row : goal.invariant-loop-row

@@ -1,5 +1,4 @@
-use Rattle.std.proofs.Common.{refl}
-use Rattle.tabled_table.proofs.RowTexts.{width-texts}
+use Rattle.tabled_table.proofs.Common.{refl, width-texts}
 use Rattle.tabled_table.proofs.builder.table_builder.Builder.from_vec.Goals as goal
 
 pub invariant_of-result : goal.invariant_of-result

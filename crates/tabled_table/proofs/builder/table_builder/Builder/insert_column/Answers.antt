@@ -1,9 +1,4 @@
-use Rattle.std.proofs.Common.{◌≡◌, ◌≤◌, ◌∙◌, ◌+◌, arith, ap, ap₂, refl, map, sym, length, take}
-use Rattle.std.specs.String.{string_bytes}
-use Rattle.std.proofs.lemmas.List.{take-map}
-use Rattle.tabled_table.specs.Builder.{padded_to, row_texts, with_items}
-use Rattle.tabled_table.proofs.Columns.{even-with_items}
-use Rattle.tabled_table.proofs.RowTexts.{All-lens, rows_written, vec_len-rows}
+use Rattle.tabled_table.proofs.Common.{◌+◌, ◌∙◌, ◌≡◌, ◌≤◌, All-lens, ap, ap₂, arith, even-with_items, length, map, padded_to, refl, row_texts, rows_written, string_bytes, sym, take, take-map, vec_len-rows, with_items}
 use Rattle.tabled_table.proofs.builder.table_builder.Builder.insert_column.Goals as goal
 
 pub insert_items-requires-clause-within : goal.insert_items-requires-clause-within

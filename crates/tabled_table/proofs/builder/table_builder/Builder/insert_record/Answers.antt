@@ -1,8 +1,5 @@
-use Rattle.std.proofs.Common.{◌≡◌, ◌≤◌, ◌∙◌, arith, ap₂, map, sym, length, vec_len}
-use Rattle.std.specs.String.{string_bytes}
-use Rattle.tabled_table.specs.Builder.{padded_to}
+use Rattle.tabled_table.proofs.Common.{◌∙◌, ◌≡◌, ◌≤◌, ap₂, arith, length, map, padded_to, string_bytes, sym, vec_len, vec_len-texts}
 use Rattle.tabled_table.proofs.Records.{with_record-padded, even-with_record, padded-long}
-use Rattle.tabled_table.proofs.RowTexts.{vec_len-texts}
 use Rattle.tabled_table.proofs.builder.table_builder.Builder.insert_record.Goals as goal
 
 pub invariant_of-self-2 : goal.invariant_of-self-2

@@ -1,10 +1,6 @@
-use Rattle.std.proofs.Common.{◌≡◌, ◌∙◌, ◌+◌, arith, ap, ap₂, map, length}
-use Rattle.std.specs.String.{string_bytes}
-use Rattle.tabled_table.specs.Builder.{padded_to, row_texts}
-use Rattle.tabled_table.proofs.Columns.{even-with_items}
+use Rattle.tabled_table.proofs.Common.{◌+◌, ◌∙◌, ◌≡◌, ap, ap₂, arith, even-with_items, length, map, padded_to, row_texts, string_bytes, vec_len-rows, vec_len-texts}
 use Rattle.tabled_table.proofs.Padded.{even-more}
 use Rattle.tabled_table.proofs.Records.{with_last_column-padded}
-use Rattle.tabled_table.proofs.RowTexts.{vec_len-rows, vec_len-texts}
 use Rattle.tabled_table.proofs.builder.table_builder.Builder.push_column.Goals as goal
 
 pub invariant_of-self-2 : goal.invariant_of-self-2

@@ -1,10 +1,5 @@
-use Rattle.std.proofs.Common.{◌≡◌, ◌<◌, ◌∙◌, ℕ, List, ap, map, refl}
-use Rattle.std.specs.List.{remove}
+use Rattle.tabled_table.proofs.Common.{◌<◌, ◌∙◌, ◌≡◌, All-lens, List, ap, even-without, map, refl, remove, row_texts, texts_removed, with_items_is, ℕ}
 use Rattle.std.specs.Vec.{with_items}
-use Rattle.std.proofs.lemmas.List.{with_items_is}
-use Rattle.tabled_table.specs.Builder.{row_texts}
-use Rattle.tabled_table.proofs.Columns.{even-without}
-use Rattle.tabled_table.proofs.RowTexts.{All-lens, texts_removed}
 use Rattle.tabled_table.proofs.builder.table_builder.Builder.remove_column.Goals as goal
 
 pub remove_each-requires : goal.remove_each-requires

@@ -1,6 +1,4 @@
-use Rattle.std.proofs.Common.{refl}
-use Rattle.tabled_grid.proofs.Lists.{all-remove, map-remove}
-use Rattle.tabled_table.proofs.RowTexts.{texts_of}
+use Rattle.tabled_table.proofs.Common.{all-remove, map-remove, refl, texts_of}
 use Rattle.tabled_table.proofs.builder.table_builder.Builder.remove_record.Goals as goal
 
 pub invariant_of-self : goal.invariant_of-self

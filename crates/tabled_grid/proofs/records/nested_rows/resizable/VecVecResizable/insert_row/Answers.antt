@@ -1,7 +1,4 @@
-use Rattle.std.proofs.Common.{◌∙◌, ap}
-use Rattle.tabled_grid.specs.Grid.{grid_of, map_items}
-use Rattle.tabled_grid.specs.Resized.{with_row}
-use Rattle.tabled_grid.proofs.Lists.{map-insert}
+use Rattle.tabled_grid.proofs.Common.{◌∙◌, ap, grid_of, map-insert, map_items, with_row}
 use Rattle.tabled_grid.proofs.NestedRows.{HaveGrid, have_grid}
 use Rattle.tabled_grid.proofs.Resized.{IsEven-with_row, rowless-with_row}
 use Rattle.tabled_grid.proofs.records.nested_rows.resizable.VecVecResizable.insert_row.Goals as goal

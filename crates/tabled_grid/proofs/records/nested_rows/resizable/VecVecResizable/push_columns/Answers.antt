@@ -1,6 +1,4 @@
-use Rattle.std.proofs.Common.{◌≡◌, arith}
-use Rattle.std.proofs.lemmas.Grind.{common_steps}
-use Rattle.std.specs.Vec.{with_items}
+use Rattle.tabled_grid.proofs.Common.{◌≡◌, arith, common_steps, with_items}
 use Rattle.tabled_grid.proofs.AddedColumns.{IsEven-adds_columns}
 use Rattle.tabled_grid.proofs.NestedRows.{columns_added}
 use Rattle.tabled_grid.proofs.records.nested_rows.resizable.VecVecResizable.push_columns.Goals as goal

@@ -1,6 +1,4 @@
-use Rattle.std.proofs.Common.{◌∙◌, ap}
-use Rattle.std.proofs.lemmas.List.{length-map, map-append}
-use Rattle.tabled_grid.specs.Grid.{map_items}
+use Rattle.tabled_grid.proofs.Common.{◌∙◌, ap, length-map, map-append, map_items}
 use Rattle.tabled_grid.proofs.NestedRows.{rows_added, rows_added_even}
 use Rattle.tabled_grid.proofs.records.nested_rows.resizable.VecVecResizable.push_rows.Goals as goal
 

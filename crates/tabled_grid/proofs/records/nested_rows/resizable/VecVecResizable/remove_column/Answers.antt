@@ -1,9 +1,4 @@
-use Rattle.std.proofs.Common.{◌≡◌, ◌<◌, arith}
-use Rattle.std.proofs.lemmas.Grind.{common_steps}
-use Rattle.std.specs.Vec.{with_items}
-use Rattle.tabled_grid.specs.Grid.{grid_of, map_items}
-use Rattle.tabled_grid.specs.Resized.{without_column}
-use Rattle.tabled_grid.specs.Evenness.{no_columns}
+use Rattle.tabled_grid.proofs.Common.{◌<◌, ◌≡◌, arith, common_steps, grid_of, map_items, no_columns, with_items, without_column}
 use Rattle.tabled_grid.proofs.NestedRows.{HaveGrid, each_long, have_grid}
 use Rattle.tabled_grid.proofs.Resized.{IsEven-without_column, rowless-without_column}
 use Rattle.tabled_grid.proofs.records.nested_rows.resizable.VecVecResizable.remove_column.Goals as goal

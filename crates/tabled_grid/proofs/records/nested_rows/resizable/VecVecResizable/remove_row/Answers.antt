@@ -1,7 +1,4 @@
-use Rattle.std.proofs.Common.{◌∙◌, ap}
-use Rattle.tabled_grid.specs.Grid.{grid_of, map_items}
-use Rattle.tabled_grid.specs.Resized.{without_row}
-use Rattle.tabled_grid.proofs.Lists.{map-remove}
+use Rattle.tabled_grid.proofs.Common.{◌∙◌, ap, grid_of, map-remove, map_items, without_row}
 use Rattle.tabled_grid.proofs.NestedRows.{HaveGrid, have_grid}
 use Rattle.tabled_grid.proofs.Resized.{IsEven-without_row, rowless-without_row}
 use Rattle.tabled_grid.proofs.records.nested_rows.resizable.VecVecResizable.remove_row.Goals as goal

@@ -1,10 +1,4 @@
-use Rattle.std.proofs.Common.{◌≡◌, ◌∙◌, ap, arith}
-use Rattle.std.proofs.lemmas.Grind.{common_steps}
-use Rattle.std.specs.Vec.{with_items}
-use Rattle.tabled_grid.specs.Grid.{grid_of, map_items}
-use Rattle.tabled_grid.specs.Resized.{with_rows_swapped}
-use Rattle.tabled_grid.proofs.Lists.{map-swap}
-use Rattle.tabled_grid.specs.Evenness.{no_columns}
+use Rattle.tabled_grid.proofs.Common.{◌∙◌, ◌≡◌, ap, arith, common_steps, grid_of, map-swap, map_items, no_columns, with_items, with_rows_swapped}
 use Rattle.tabled_grid.proofs.NestedRows.{HaveGrid, have_grid}
 use Rattle.tabled_grid.proofs.Resized.{IsEven-with_rows_swapped}
 use Rattle.tabled_grid.proofs.records.nested_rows.resizable.VecVecResizable.swap_row.Goals as goal

@@ -1,4 +1,4 @@
-use Rattle.std.proofs.Common.{arith}
+use Rattle.tabled_grid.proofs.Common.{arith}
 use Rattle.tabled_grid.proofs.Turned.{have_turned}
 use Rattle.tabled_grid.proofs.records.nested_rows.resizable.VecVecResizable.transpose.Goals as goal
 

@@ -1,9 +1,4 @@
-use Rattle.std.proofs.Common.{◌≡◌, arith}
-use Rattle.std.proofs.lemmas.Grind.{common_steps}
-use Rattle.std.specs.Vec.{with_items}
-use Rattle.tabled_grid.specs.Along.{first_along}
-use Rattle.tabled_grid.specs.Grid.{grid_of, map_items}
-use Rattle.tabled_grid.specs.declared.records.axis.Axis.TheVariants.{Columns}
+use Rattle.tabled_grid.proofs.Common.{◌≡◌, Columns, arith, common_steps, first_along, grid_of, map_items, with_items}
 use Rattle.tabled_grid.proofs.NestedRows.{HaveGrid, columns_cut}
 use Rattle.tabled_grid.proofs.records.nested_rows.resizable.VecVecResizable.truncate_columns.Goals as goal
 

@@ -1,8 +1,4 @@
-use Rattle.std.proofs.Common.{◌∙◌, sym, ap}
-use Rattle.std.proofs.lemmas.List.{take-map}
-use Rattle.tabled_grid.specs.Along.{first_along}
-use Rattle.tabled_grid.specs.Grid.{grid_of, map_items}
-use Rattle.tabled_grid.specs.declared.records.axis.Axis.TheVariants.{Rows}
+use Rattle.tabled_grid.proofs.Common.{◌∙◌, Rows, ap, first_along, grid_of, map_items, sym, take-map}
 use Rattle.tabled_grid.proofs.NestedRows.{HaveGrid, rows_cut}
 use Rattle.tabled_grid.proofs.records.nested_rows.resizable.VecVecResizable.truncate_rows.Goals as goal
 

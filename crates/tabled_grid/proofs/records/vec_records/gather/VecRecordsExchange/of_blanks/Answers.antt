@@ -1,5 +1,4 @@
-use Rattle.std.proofs.Common.{arith}
-use Rattle.std.proofs.lemmas.Grind.{common_steps}
+use Rattle.tabled_grid.proofs.Common.{arith, common_steps}
 use Rattle.tabled_grid.proofs.Through.{blank_chunks}
 use Rattle.tabled_grid.proofs.records.vec_records.gather.VecRecordsExchange.of_blanks.Goals as goal
 

@@ -1,4 +1,4 @@
-use Rattle.std.proofs.Common.{◌≡◌, ◌+◌, rules}
+use Rattle.tabled_grid.proofs.Common.{◌+◌, ◌≡◌, rules}
 use Rattle.tabled_grid.proofs.FlatStore.{row_inserted, row_inserted_full}
 use Rattle.tabled_grid.proofs.records.vec_records.resizable.VecRecordsResizable.insert_row.Goals as goal
 

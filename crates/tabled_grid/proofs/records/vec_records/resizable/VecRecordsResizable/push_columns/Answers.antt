@@ -1,6 +1,4 @@
-use Rattle.std.proofs.Common.{rules, ◌≡◌, ◌+◌, arith}
-use Rattle.std.proofs.lemmas.Grind.{common_steps}
-use Rattle.std.specs.Vec.{with_items}
+use Rattle.tabled_grid.proofs.Common.{◌+◌, ◌≡◌, arith, common_steps, rules, with_items}
 use Rattle.tabled_grid.proofs.AddedColumns.{columns_added_none}
 use Rattle.tabled_grid.proofs.FlatStore.{columns_put, full_put}
 use Rattle.tabled_grid.proofs.records.vec_records.resizable.VecRecordsResizable.push_columns.Goals as goal

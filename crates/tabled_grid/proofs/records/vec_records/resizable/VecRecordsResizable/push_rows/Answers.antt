@@ -1,4 +1,4 @@
-use Rattle.std.proofs.Common.{rules, ◌≡◌, ◌+◌, ◌*◌}
+use Rattle.tabled_grid.proofs.Common.{◌*◌, ◌+◌, ◌≡◌, rules}
 use Rattle.tabled_grid.proofs.FlatStore.{rows_put, rows_put_full}
 use Rattle.tabled_grid.proofs.records.vec_records.resizable.VecRecordsResizable.push_rows.Goals as goal
 

@@ -1,6 +1,4 @@
-use Rattle.std.proofs.Common.{◌≡◌, ◌*◌, ◌-◌, ◌∙◌, ap, take, arith}
-use Rattle.std.proofs.lemmas.Grind.{common_steps}
-use Rattle.std.specs.Vec.{with_items}
+use Rattle.tabled_grid.proofs.Common.{◌*◌, ◌-◌, ◌∙◌, ◌≡◌, ap, arith, common_steps, take, with_items}
 use Rattle.tabled_grid.proofs.FlatStore.{column_removed}
 use Rattle.tabled_grid.proofs.records.vec_records.resizable.VecRecordsResizable.remove_column.Goals as goal
 

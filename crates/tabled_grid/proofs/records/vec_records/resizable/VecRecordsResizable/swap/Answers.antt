@@ -1,4 +1,4 @@
-use Rattle.std.proofs.Common.{refl}
+use Rattle.tabled_grid.proofs.Common.{refl}
 use Rattle.tabled_grid.proofs.FlatStore.{cells_swapped}
 use Rattle.tabled_grid.proofs.records.vec_records.resizable.VecRecordsResizable.swap.Goals as goal
 

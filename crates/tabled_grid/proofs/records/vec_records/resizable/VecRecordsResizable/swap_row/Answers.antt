@@ -1,6 +1,4 @@
-use Rattle.std.proofs.Common.{◌≡◌, ◌∙◌, arith}
-use Rattle.std.proofs.lemmas.Grind.{common_steps}
-use Rattle.std.specs.Vec.{with_items}
+use Rattle.tabled_grid.proofs.Common.{◌∙◌, ◌≡◌, arith, common_steps, with_items}
 use Rattle.tabled_grid.proofs.FlatStore.{rows_swapped}
 use Rattle.tabled_grid.proofs.records.vec_records.resizable.VecRecordsResizable.swap_row.Goals as goal
 

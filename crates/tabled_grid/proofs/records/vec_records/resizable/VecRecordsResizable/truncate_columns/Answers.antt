@@ -1,9 +1,5 @@
-use Rattle.std.proofs.Common.{◌≡◌, ◌≤◌, ◌*◌, ◌-◌, ℕ, ◌∙◌, ap, take, arith}
-use Rattle.std.proofs.lemmas.Grind.{common_steps}
-use Rattle.std.specs.Vec.{with_items}
+use Rattle.tabled_grid.proofs.Common.{◌*◌, ◌-◌, ◌∙◌, ◌≡◌, ◌≤◌, Columns, ap, arith, common_steps, is_even, take, with_items, ℕ}
 use Rattle.tabled_grid.proofs.FirstLines.{first_all}
-use Rattle.tabled_grid.specs.Evenness.{is_even}
-use Rattle.tabled_grid.specs.declared.records.axis.Axis.TheVariants.{Columns}
 use Rattle.tabled_grid.proofs.FlatStore.{columns_cut}
 use Rattle.tabled_grid.proofs.records.vec_records.resizable.VecRecordsResizable.truncate_columns.Goals as goal
 

@@ -1,5 +1,4 @@
-use Rattle.std.proofs.Common.{refl}
-use Rattle.std.proofs.lemmas.Iterator.Adapters.{YieldsList-from_skip}
+use Rattle.tabled_select.proofs.Common.{YieldsList-from_skip, refl}
 use Rattle.tabled_select.proofs.object.iterator.skip.SkipObjectObject.cells.Goals as goal
 
 pub returns : goal.returns

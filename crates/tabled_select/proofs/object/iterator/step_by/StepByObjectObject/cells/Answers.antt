@@ -1,5 +1,4 @@
-use Rattle.std.proofs.Common.{[], refl, arith}
-use Rattle.tabled_select.specs.Steps.{every}
+use Rattle.tabled_select.proofs.Common.{[], arith, every, refl}
 use Rattle.tabled_select.proofs.Stepped.{every-none, every_from-fresh, gives-hops, gives-if_any, some_none}
 use Rattle.tabled_select.proofs.object.iterator.step_by.StepByObjectObject.cells.Goals as goal
 
