@@ -2,6 +2,7 @@
 #![tactic(auto)]
 
 pub mod carried;
+pub mod flat;
 pub mod geometry;
 pub mod language;
 pub mod options;

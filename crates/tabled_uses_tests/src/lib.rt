@@ -6,6 +6,8 @@ mod covers;
 #[cfg(test)]
 mod fitting;
 #[cfg(test)]
+mod flat;
+#[cfg(test)]
 mod places;
 #[cfg(test)]
 mod rows;
