@@ -3,7 +3,5 @@
 
 pub mod laws;
 mod row_numbers;
-#[cfg(test)]
-mod tests;
 
 pub use row_numbers::RowNumbers;

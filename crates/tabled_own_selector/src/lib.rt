@@ -2,7 +2,5 @@
 #![tactic(auto)]
 
 mod diagonal;
-#[cfg(test)]
-mod tests;
 
 pub use diagonal::{Diagonal, DiagonalIter};

@@ -1,8 +1,6 @@
 //! A store of one's own: texts in one vector, row after row.
 #![tactic(auto)]
 
-#[cfg(test)]
-mod tests;
 mod text_grid;
 
 pub use text_grid::TextGrid;

@@ -1,10 +1,10 @@
 //! Row numbers, put into tables, and refused.
 
-use crate::RowNumbers;
 use std::alloc::{AllocError, Global};
 use std::test::Fail;
 use tabled_grid::records::Refusing;
 use tabled_options::TableOption;
+use tabled_own_option::RowNumbers;
 use tabled_table::{Settings, Table};
 use tabled_testing::{flat, is_word, merged, spelled_merged, spells};
 

@@ -1,10 +1,10 @@
 //! Steps and options on the store.
 
-use crate::TextGrid;
 use std::alloc::{AllocError, Global};
 use std::test::Fail;
 use tabled_grid::config::SpannedConfig;
 use tabled_options::{Settings, TableOption};
+use tabled_own_store::TextGrid;
 use tabled_select::object::Rows;
 use tabled_settings::panel::Panel;
 use tabled_settings::reverse::Reverse;

@@ -1,7 +1,7 @@
 //! The diagonal of tables, where they are changed.
 
-use crate::Diagonal;
 use std::test::Fail;
+use tabled_own_selector::Diagonal;
 use tabled_select::object::Object;
 use tabled_table::{Table, TextRef};
 use tabled_testing::{flat, spells};
