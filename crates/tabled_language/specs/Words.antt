@@ -34,6 +34,10 @@ then_reads {A} {B} first next = record { reads = λ texts. go (first.reads texts
     later (Ok read) = (next read.0).asks read.1
     later (Err fault) = false
 
+-- what is read twice
+abbrev pub reads_two : {A : Type 0} → Reading A → Reading (A × A)
+reads_two reading = then_reads reading (λ first. then_reads reading (λ second. gives (first, second)))
+
 -- a reading whose value is put in memory: this is asked for once it is read
 abbrev pub kept : {A : Type 0} → Reading A → Reading A
 kept reading = record { reads = reading.reads; asks = λ texts. reading.asks texts || is_ok (reading.reads texts) }

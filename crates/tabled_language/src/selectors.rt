@@ -10,8 +10,8 @@ const LARGEST_DEPTH: usize = 64;
 
 impl<'a> Words<'a> {
     ghost use Rattle.tabled_language.specs.Parsing.{Reads};
-    ghost use Rattle.tabled_language.specs.Selectors.{plain_selectors, reads_cells, reads_selector, selectors};
-    ghost use Rattle.tabled_language.specs.Words.{behind, kept};
+    ghost use Rattle.tabled_language.specs.Selectors.{holding_selectors, plain_selectors, range_selectors, reads_cells, reads_selector, selectors};
+    ghost use Rattle.tabled_language.specs.Words.{behind, kept, reads_two};
     ghost use Rattle.tabled_steps.specs.Selected.{named_by};
 
     /// A selector that may hold others.
@@ -42,6 +42,16 @@ impl<'a> Words<'a> {
         Ok(Box::new(alloc, select)?)
     }
 
+    /// Two of them.
+    #[cycle(nested)]
+    fn two_inner(&mut self, alloc: Global, depth: usize) -> Read<(Box<Selector>, Box<Selector>)>
+        ensures { Reads (λ two. (named_by two.0.value, named_by two.1.value)) (reads_two (kept (reads_selector depth))) self.old result self.new }
+    {
+        let first = self.inner(alloc, depth)?;
+        let second = self.inner(alloc, depth)?;
+        Ok((first, second))
+    }
+
     /// What is after the word of a selector, where others are held to a depth.
     #[cycle(nested)]
     fn selector_behind(&mut self, alloc: Global, depth: usize, word: &str) -> Read<Selector>
@@ -51,55 +61,38 @@ impl<'a> Words<'a> {
         match word {
             "all" => Ok(Selector::All),
             "cell" => {
-                let row = self.number()?;
-                let column = self.number()?;
+                let (row, column) = self.two_numbers()?;
                 Ok(Selector::Cell(row, column))
             }
-            "row" => {
-                let row = self.number()?;
-                Ok(Selector::Row(row))
-            }
-            "column" => {
-                let column = self.number()?;
-                Ok(Selector::Column(column))
-            }
-            "content" => {
-                let text = self.text(alloc)?;
-                Ok(Selector::Content(text))
-            }
-            "name" => {
-                let text = self.text(alloc)?;
-                Ok(Selector::Name(text))
-            }
+            "row" => Ok(Selector::Row(self.number()?)),
+            "column" => Ok(Selector::Column(self.number()?)),
+            "content" => Ok(Selector::Content(self.text(alloc)?)),
+            "name" => Ok(Selector::Name(self.text(alloc)?)),
+            _ => self.holding_selector(alloc, depth, word),
+        }
+    }
+
+    /// What is after the word of a further selector, where others are held to a depth.
+    #[cycle(nested)]
+    fn holding_selector(&mut self, alloc: Global, depth: usize, word: &str) -> Read<Selector>
+        ensures { Reads named_by (behind (holding_selectors (kept (reads_selector depth))) word.now) self.old result self.new }
+    {
+        match word {
             "and" => {
-                let x = self.inner(alloc, depth)?;
-                let y = self.inner(alloc, depth)?;
+                let (x, y) = self.two_inner(alloc, depth)?;
                 Ok(Selector::And(x, y))
             }
             "not" => {
-                let x = self.inner(alloc, depth)?;
-                let y = self.inner(alloc, depth)?;
+                let (x, y) = self.two_inner(alloc, depth)?;
                 Ok(Selector::Not(x, y))
             }
             "intersect" => {
-                let x = self.inner(alloc, depth)?;
-                let y = self.inner(alloc, depth)?;
+                let (x, y) = self.two_inner(alloc, depth)?;
                 Ok(Selector::Intersect(x, y))
             }
-            "inverse" => {
-                let x = self.inner(alloc, depth)?;
-                Ok(Selector::Inverse(x))
-            }
-            "skip" => {
-                let n = self.number()?;
-                let x = self.inner(alloc, depth)?;
-                Ok(Selector::Skip(n, x))
-            }
-            "step" => {
-                let n = self.number()?;
-                let x = self.inner(alloc, depth)?;
-                Ok(Selector::StepBy(n, x))
-            }
+            "inverse" => Ok(Selector::Inverse(self.inner(alloc, depth)?)),
+            "skip" => Ok(Selector::Skip(self.number()?, self.inner(alloc, depth)?)),
+            "step" => Ok(Selector::StepBy(self.number()?, self.inner(alloc, depth)?)),
             _ => self.plain_selector(word),
         }
     }
@@ -113,38 +106,31 @@ impl<'a> Words<'a> {
             "last-row" => Ok(Selector::LastRow),
             "first-column" => Ok(Selector::FirstColumn),
             "last-column" => Ok(Selector::LastColumn),
+            "last-row-minus" => Ok(Selector::LastRowMinus(self.number()?)),
+            "last-row-plus" => Ok(Selector::LastRowPlus(self.number()?)),
+            "last-column-minus" => Ok(Selector::LastColumnMinus(self.number()?)),
+            "last-column-plus" => Ok(Selector::LastColumnPlus(self.number()?)),
+            _ => self.range_selector(word),
+        }
+    }
+
+    /// What is after the word of a range or of the frame.
+    fn range_selector(&mut self, word: &str) -> Read<Selector>
+        ensures { Reads named_by (behind range_selectors word.now) self.old result self.new }
+    {
+        match word {
             "frame" => Ok(Selector::Frame),
-            "last-row-minus" => {
-                let n = self.number()?;
-                Ok(Selector::LastRowMinus(n))
-            }
-            "last-row-plus" => {
-                let n = self.number()?;
-                Ok(Selector::LastRowPlus(n))
-            }
-            "last-column-minus" => {
-                let n = self.number()?;
-                Ok(Selector::LastColumnMinus(n))
-            }
-            "last-column-plus" => {
-                let n = self.number()?;
-                Ok(Selector::LastColumnPlus(n))
-            }
             "rows" => {
-                let start = self.number()?;
-                let end = self.number()?;
+                let (start, end) = self.two_numbers()?;
                 Ok(Selector::Rows(start, end))
             }
             "columns" => {
-                let start = self.number()?;
-                let end = self.number()?;
+                let (start, end) = self.two_numbers()?;
                 Ok(Selector::Columns(start, end))
             }
             "segment" => {
-                let first_row = self.number()?;
-                let end_row = self.number()?;
-                let first_column = self.number()?;
-                let end_column = self.number()?;
+                let (first_row, end_row) = self.two_numbers()?;
+                let (first_column, end_column) = self.two_numbers()?;
                 Ok(Selector::Segment(first_row, end_row, first_column, end_column))
             }
             _ => Err(ReadError::Faulty(Fault::UnknownWord)),

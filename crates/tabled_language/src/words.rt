@@ -39,7 +39,7 @@ impl<'a> Words<'a> {
     ghost use Rattle.std.specs.String.{string_bytes};
     ghost use Rattle.tabled_language.specs.Lent.{bytes_of};
     ghost use Rattle.tabled_language.specs.Parsing.{Reads};
-    ghost use Rattle.tabled_language.specs.Words.{reads_count, reads_extent, reads_integer, reads_number, reads_size, reads_text, reads_word};
+    ghost use Rattle.tabled_language.specs.Words.{reads_count, reads_extent, reads_integer, reads_number, reads_size, reads_text, reads_two, reads_word};
     ghost use Rattle.tabled_language.specs.declared.fault.ReadError.TheVariants.{OutOfMemory};
 
     /// The words of a line without escapes.
@@ -91,6 +91,14 @@ impl<'a> Words<'a> {
             Some(number) => Ok(number),
             None => Err(ReadError::Faulty(Fault::NumberRange)),
         }
+    }
+
+    pub(crate) fn two_numbers(&mut self) -> Read<(usize, usize)>
+        ensures { Reads (λ two. two) (reads_two reads_number) self.old result self.new }
+    {
+        let first = self.number()?;
+        let second = self.number()?;
+        Ok((first, second))
     }
 
     pub(crate) fn integer(&mut self) -> Read<isize>
