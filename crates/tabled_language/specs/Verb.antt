@@ -22,7 +22,7 @@ use Rattle.tabled_language.specs.declared.fault.Fault.{Fault}
 use Rattle.tabled_language.specs.declared.fault.Fault.TheVariants.{WordCount}
 use Rattle.tabled_language.specs.Selectors.{reads_cells}
 use Rattle.tabled_language.specs.Sizes.{reads_anchor, reads_shape}
-use Rattle.tabled_language.specs.Words.{Choices, Reading, behind, gives, kept, then_reads, reads_count, reads_integer, reads_number, reads_one_of, reads_text, whole}
+use Rattle.tabled_language.specs.Words.{Choices, Reading, behind, gives, kept, then_reads, reads_count, reads_integer, reads_number, reads_one_of, reads_text, reads_two, whole}
 
 -- what a line says: nothing, a table's shape, a record, an anchor, what it makes of a table's state, or a fault.
 -- A shape and an anchor stand with the fault of their words: the line may be out of place before these are read
@@ -132,13 +132,13 @@ reads_reverse = then_reads reads_lines (λ axis. then_reads reads_number (λ sta
 
 -- a range of rows and one of columns
 abbrev pub reads_extract : Reading (State → State)
-reads_extract = then_reads reads_number (λ a. then_reads reads_number (λ b. then_reads reads_number (λ c. then_reads reads_number (λ d. gives (rearrange (extracted (half_open a b) (half_open c d)))))))
+reads_extract = then_reads (reads_two reads_number) (λ rows. then_reads (reads_two reads_number) (λ columns. gives (rearrange (extracted (half_open rows.0 rows.1) (half_open columns.0 columns.1)))))
 
 -- what `remove` takes away: rows or columns of a range, or columns with a name
 abbrev pub removals : Choices (State → State)
 removals =
-    (codes "rows", then_reads reads_number (λ a. then_reads reads_number (λ b. gives (remove_range Rows a b))))
-    ∷ (codes "columns", then_reads reads_number (λ a. then_reads reads_number (λ b. gives (remove_range Columns a b))))
+    (codes "rows", then_reads (reads_two reads_number) (λ two. gives (remove_range Rows two.0 two.1)))
+    ∷ (codes "columns", then_reads (reads_two reads_number) (λ two. gives (remove_range Columns two.0 two.1)))
     ∷ (codes "named", then_reads reads_text (λ name. gives (remove_named name)))
     ∷ []
 

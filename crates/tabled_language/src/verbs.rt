@@ -148,10 +148,8 @@ impl<'a> Words<'a> {
     fn extract(&mut self) -> Read<Step>
         ensures { Reads after reads_extract self.old result self.new }
     {
-        let first_row = self.number()?;
-        let end_row = self.number()?;
-        let first_column = self.number()?;
-        let end_column = self.number()?;
+        let (first_row, end_row) = self.two_numbers()?;
+        let (first_column, end_column) = self.two_numbers()?;
         Ok(Step::Extract(first_row, end_row, first_column, end_column))
     }
 
@@ -167,19 +165,14 @@ impl<'a> Words<'a> {
     {
         match (word.len(), word) {
             (4, "rows") => {
-                let start = self.number()?;
-                let end = self.number()?;
+                let (start, end) = self.two_numbers()?;
                 Ok(Step::RemoveRows(start, end))
             }
             (7, "columns") => {
-                let start = self.number()?;
-                let end = self.number()?;
+                let (start, end) = self.two_numbers()?;
                 Ok(Step::RemoveColumns(start, end))
             }
-            (5, "named") => {
-                let name = self.text(alloc)?;
-                Ok(Step::RemoveNamed(name))
-            }
+            (5, "named") => Ok(Step::RemoveNamed(self.text(alloc)?)),
             _ => Err(ReadError::Faulty(Fault::UnknownWord)),
         }
     }
