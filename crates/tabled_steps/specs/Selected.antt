@@ -39,37 +39,32 @@ with_content text g = cells_of (places_with text g)
 abbrev pub named_columns : List ℕ → Grid (List ℕ) → List Entity
 named_columns text g = columns_of (columns_with text g)
 
--- the entities that a simple selector, which holds no other, names in a table of texts, in order; of others none
-abbrev pub selected_simply : Grid (List ℕ) → Selector → List Entity
-selected_simply g select.All = everything
-selected_simply g (select.Cell i j) = cells_of (place i j ∷ [])
-selected_simply g (select.Row i) = rows_of (i ∷ [])
-selected_simply g (select.Column j) = columns_of (j ∷ [])
-selected_simply g select.FirstRow = if_cells g.rows g.columns (rows_of (0 ∷ []))
-selected_simply g select.LastRow = if_cells g.rows g.columns (rows_of ((g.rows - 1) ∷ []))
-selected_simply g select.FirstColumn = if_cells g.rows g.columns (columns_of (0 ∷ []))
-selected_simply g select.LastColumn = if_cells g.rows g.columns (columns_of ((g.columns - 1) ∷ []))
-selected_simply g (select.LastRowMinus n) = if_cells g.rows g.columns (rows_of (index_from_last (before_last n) g.rows))
-selected_simply g (select.LastRowPlus n) = if_cells g.rows g.columns (rows_of (index_from_last (past_last n) g.rows))
-selected_simply g (select.LastColumnMinus n) = columns_of (index_from_last (before_last n) g.columns)
-selected_simply g (select.LastColumnPlus n) = columns_of (index_from_last (past_last n) g.columns)
-selected_simply g (select.Rows a b) = rows_of (indexes (half_open a b) g.rows)
-selected_simply g (select.Columns a b) = columns_of (indexes (half_open a b) g.columns)
-selected_simply g (select.Segment a b c d) = cells_of (segment (half_open a b) (half_open c d) g.rows g.columns)
-selected_simply g select.Frame = cells_of (frame g.rows g.columns)
-selected_simply g (select.Content text) = with_content (string_bytes text) g
-selected_simply g (select.Name text) = named_columns (string_bytes text) g
-selected_simply g _ = []
-
--- the entities that a selector names
+-- the entities that a selector names in a table of texts, in order
 abbrev pub selected : Grid (List ℕ) → Selector → List Entity
+selected g select.All = everything
+selected g (select.Cell i j) = cells_of (place i j ∷ [])
+selected g (select.Row i) = rows_of (i ∷ [])
+selected g (select.Column j) = columns_of (j ∷ [])
+selected g select.FirstRow = if_cells g.rows g.columns (rows_of (0 ∷ []))
+selected g select.LastRow = if_cells g.rows g.columns (rows_of ((g.rows - 1) ∷ []))
+selected g select.FirstColumn = if_cells g.rows g.columns (columns_of (0 ∷ []))
+selected g select.LastColumn = if_cells g.rows g.columns (columns_of ((g.columns - 1) ∷ []))
+selected g (select.LastRowMinus n) = if_cells g.rows g.columns (rows_of (index_from_last (before_last n) g.rows))
+selected g (select.LastRowPlus n) = if_cells g.rows g.columns (rows_of (index_from_last (past_last n) g.rows))
+selected g (select.LastColumnMinus n) = columns_of (index_from_last (before_last n) g.columns)
+selected g (select.LastColumnPlus n) = columns_of (index_from_last (past_last n) g.columns)
+selected g (select.Rows a b) = rows_of (indexes (half_open a b) g.rows)
+selected g (select.Columns a b) = columns_of (indexes (half_open a b) g.columns)
+selected g (select.Segment a b c d) = cells_of (segment (half_open a b) (half_open c d) g.rows g.columns)
+selected g select.Frame = cells_of (frame g.rows g.columns)
+selected g (select.Content text) = with_content (string_bytes text) g
+selected g (select.Name text) = named_columns (string_bytes text) g
 selected g (select.And' _ x _ y) = united g (selected g x) (selected g y)
 selected g (select.Not' _ x _ y) = without g (selected g x) (selected g y)
 selected g (select.Intersect' _ x _ y) = shared g (selected g x) (selected g y)
 selected g (select.Inverse' _ x) = others (selected g x) g.rows g.columns
 selected g (select.Skip' n _ x) = drop n (selected g x)
 selected g (select.StepBy' n _ x) = every n (selected g x)
-selected g select = selected_simply g select
 
 -- the one entity that a selector names in any table, where that is known without one
 abbrev pub single : Selector → Option Entity

@@ -51,24 +51,6 @@ JoinsTables is_blank text_of axis second default g c h d = JoinsAt is_blank text
 abbrev pub Merges : {A : Type 0} → (A → List ℕ) → Axis → Change A SpanMap
 Merges text_of axis g c h d = (h ≡ g) × MergesRuns axis (map_grid text_of g) c d
 
--- what a step does that has no selector and is no pair of steps; any other does nothing
-abbrev pub DoesWhole : {A : Type 0} → (A → Type 0) → (A → List ℕ) → Step → Change A SpanMap
-DoesWhole is_blank text_of (step.HorizontalPanel panel) = Panels is_blank text_of Rows panel.0 panel.1
-DoesWhole is_blank text_of (step.VerticalPanel panel) = Panels is_blank text_of Columns panel.0 panel.1
-DoesWhole is_blank text_of (step.Header text) = Panels is_blank text_of Rows 0 text
-DoesWhole is_blank text_of (step.Footer text) = λ g. Panels is_blank text_of Rows g.rows text g
-DoesWhole is_blank text_of (step.MergeVertical _) = Merges text_of Rows
-DoesWhole is_blank text_of (step.MergeHorizontal _) = Merges text_of Columns
-DoesWhole is_blank text_of (step.Rotate rotate) = λ g. Rearranges (rotated rotate g.rows g.columns) g
-DoesWhole is_blank text_of (step.Reverse reverse) = Reverses reverse
-DoesWhole is_blank text_of (step.Split split) = Cuts is_blank text_of split
-DoesWhole is_blank text_of (step.Concat concat) = JoinsTables is_blank text_of concat.0 concat.1 concat.2
-DoesWhole is_blank text_of (step.Extract a b c d) = λ g. Rearranges (extracted (half_open a b) (half_open c d) g.rows g.columns) g
-DoesWhole is_blank text_of (step.RemoveRows a b) = λ g. Rearranges (removed Rows (indexes (half_open a b) g.rows) g.rows g.columns) g
-DoesWhole is_blank text_of (step.RemoveColumns a b) = λ g. Rearranges (removed Columns (indexes (half_open a b) g.columns) g.rows g.columns) g
-DoesWhole is_blank text_of (step.RemoveNamed name) = λ g. Rearranges (removed Columns (columns_with (string_bytes name) (map_grid text_of g)) g.rows g.columns) g
-DoesWhole is_blank text_of _ = Same
-
 -- what a step does
 abbrev pub Does : {A : Type 0} → (A → Type 0) → (A → List ℕ) → Step → Change A SpanMap
 Does is_blank text_of (step.Set select text) = EachListed (Names text_of select) (λ e. DoesWrites text_of (text_writes (string_bytes text) e))
@@ -76,8 +58,21 @@ Does is_blank text_of (step.Dup destination source) = Duplicates text_of (Names 
 Does is_blank text_of (step.Charset charset select) = EachListed (Names text_of select) (λ e. DoesWrites text_of (charset_writes charset e))
 Does is_blank text_of (step.ColumnSpan size select) = EachListed (Names text_of select) (Spans text_of Columns size)
 Does is_blank text_of (step.RowSpan size select) = EachListed (Names text_of select) (Spans text_of Rows size)
+Does is_blank text_of (step.HorizontalPanel panel) = Panels is_blank text_of Rows panel.0 panel.1
+Does is_blank text_of (step.VerticalPanel panel) = Panels is_blank text_of Columns panel.0 panel.1
+Does is_blank text_of (step.Header text) = Panels is_blank text_of Rows 0 text
+Does is_blank text_of (step.Footer text) = λ g. Panels is_blank text_of Rows g.rows text g
+Does is_blank text_of (step.MergeVertical _) = Merges text_of Rows
+Does is_blank text_of (step.MergeHorizontal _) = Merges text_of Columns
+Does is_blank text_of (step.Rotate rotate) = λ g. Rearranges (rotated rotate g.rows g.columns) g
+Does is_blank text_of (step.Reverse reverse) = Reverses reverse
+Does is_blank text_of (step.Split split) = Cuts is_blank text_of split
+Does is_blank text_of (step.Concat concat) = JoinsTables is_blank text_of concat.0 concat.1 concat.2
+Does is_blank text_of (step.Extract a b c d) = λ g. Rearranges (extracted (half_open a b) (half_open c d) g.rows g.columns) g
+Does is_blank text_of (step.RemoveRows a b) = λ g. Rearranges (removed Rows (indexes (half_open a b) g.rows) g.rows g.columns) g
+Does is_blank text_of (step.RemoveColumns a b) = λ g. Rearranges (removed Columns (indexes (half_open a b) g.columns) g.rows g.columns) g
+Does is_blank text_of (step.RemoveNamed name) = λ g. Rearranges (removed Columns (columns_with (string_bytes name) (map_grid text_of g)) g.rows g.columns) g
 Does is_blank text_of (step.Both' _ first _ second) = Then (Does is_blank text_of first) (Does is_blank text_of second)
-Does is_blank text_of step = DoesWhole is_blank text_of step
 
 -- nothing, or the changes for the entities that a selector names before one, and what the refused change for that one leaves
 abbrev pub LeavesFirst : {A : Type 0} → (A → List ℕ) → Selector → (Entity → Change A SpanMap) → (Entity → Change A SpanMap) → Change A SpanMap

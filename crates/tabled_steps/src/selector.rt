@@ -4,7 +4,7 @@ ghost use Rattle.std.specs.Prelude.{◌≡◌, ◌∷◌, [], ℕ, List, IfOk};
 ghost use Rattle.std.specs.Option.{IfSome};
 ghost use Rattle.tabled_grid.specs.Grid.{Grid, map_grid};
 ghost use Rattle.tabled_steps.specs.Groups.{AreGroupedIn, AreRepresentatives};
-ghost use Rattle.tabled_steps.specs.Selected.{selected, selected_simply, single};
+ghost use Rattle.tabled_steps.specs.Selected.{selected, single};
 
 use crate::groups::{Groups, group_columns, group_rows, group_segment};
 use std::alloc::{AllocError, Global};
@@ -127,6 +127,28 @@ impl Selector {
         ensures { IfOk result (λ all. all.items ≡ selected (map_grid R.Cell.text_of (R.grid records.now)) self.now) }
     {
         match self {
+            Selector::All => entities(alloc, &Segment::all(), records),
+            Selector::Cell(i, j) => entities(alloc, &Cell::new(*i, *j), records),
+            Selector::Row(i) => entities(alloc, &Row::from(*i), records),
+            Selector::Column(j) => entities(alloc, &Column::from(*j), records),
+            Selector::FirstRow => entities(alloc, &FirstRow, records),
+            Selector::LastRow => entities(alloc, &LastRow, records),
+            Selector::FirstColumn => entities(alloc, &FirstColumn, records),
+            Selector::LastColumn => entities(alloc, &LastColumn, records),
+            Selector::LastRowMinus(n) => entities(alloc, &(LastRow - *n), records),
+            Selector::LastRowPlus(n) => entities(alloc, &(LastRow + *n), records),
+            Selector::LastColumnMinus(n) => entities(alloc, &(LastColumn - *n), records),
+            Selector::LastColumnPlus(n) => entities(alloc, &(LastColumn + *n), records),
+            Selector::Rows(a, b) => entities(alloc, &Rows::new(*a..*b), records),
+            Selector::Columns(a, b) => entities(alloc, &Columns::new(*a..*b), records),
+            Selector::Segment(a, b, c, d) => entities(
+                alloc,
+                &Segment::new(*a..*b, *c..*d),
+                records,
+            ),
+            Selector::Frame => entities(alloc, &Frame, records),
+            Selector::Content(text) => { entities(alloc, &ByContent::new(text.clone()?), records) }
+            Selector::Name(text) => entities(alloc, &ByColumnName::new(text.clone()?), records),
             Selector::And(x, y) => {
                 let lhs = EntityList(x.representatives(alloc, records)?);
                 let rhs = EntityList(y.representatives(alloc, records)?);
@@ -154,42 +176,6 @@ impl Selector {
                 let listed = EntityList(x.list(alloc, records)?);
                 entities(alloc, &listed.step_by(*n), records)
             }
-            _ => self.list_simple(alloc, records),
-        }
-    }
-
-    /// The entities that a simple selector, which holds no other, names in a store, in order; of others none.
-    fn list_simple<R>(&self, alloc: Global, records: &R) -> Result<Vec<Entity>, AllocError>
-    where
-        R: Records + ExactRecords + PeekableRecords,
-        R::Cell: CellText,
-        requires well { R.is_well_formed records.now }
-        ensures { IfOk result (λ all. all.items ≡ selected_simply (map_grid R.Cell.text_of (R.grid records.now)) self.now) }
-    {
-        match self {
-            Selector::All => entities(alloc, &Segment::all(), records),
-            Selector::Cell(i, j) => entities(alloc, &Cell::new(*i, *j), records),
-            Selector::Row(i) => entities(alloc, &Row::from(*i), records),
-            Selector::Column(j) => entities(alloc, &Column::from(*j), records),
-            Selector::FirstRow => entities(alloc, &FirstRow, records),
-            Selector::LastRow => entities(alloc, &LastRow, records),
-            Selector::FirstColumn => entities(alloc, &FirstColumn, records),
-            Selector::LastColumn => entities(alloc, &LastColumn, records),
-            Selector::LastRowMinus(n) => entities(alloc, &(LastRow - *n), records),
-            Selector::LastRowPlus(n) => entities(alloc, &(LastRow + *n), records),
-            Selector::LastColumnMinus(n) => entities(alloc, &(LastColumn - *n), records),
-            Selector::LastColumnPlus(n) => entities(alloc, &(LastColumn + *n), records),
-            Selector::Rows(a, b) => entities(alloc, &Rows::new(*a..*b), records),
-            Selector::Columns(a, b) => entities(alloc, &Columns::new(*a..*b), records),
-            Selector::Segment(a, b, c, d) => entities(
-                alloc,
-                &Segment::new(*a..*b, *c..*d),
-                records,
-            ),
-            Selector::Frame => entities(alloc, &Frame, records),
-            Selector::Content(text) => { entities(alloc, &ByContent::new(text.clone()?), records) }
-            Selector::Name(text) => entities(alloc, &ByColumnName::new(text.clone()?), records),
-            _ => Ok(Vec::new(alloc)),
         }
     }
 }

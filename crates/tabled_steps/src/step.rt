@@ -1,8 +1,7 @@
 //! Steps as data.
 
 ghost use Rattle.std.specs.Prelude.{◌≡◌, IsOk, OnErr, OnOk};
-ghost use Rattle.tabled_options.specs.Does.{Same};
-ghost use Rattle.tabled_steps.specs.Steps.{Does, DoesWhole, Leaves, TakesNoMemory};
+ghost use Rattle.tabled_steps.specs.Steps.{Does, Leaves, TakesNoMemory};
 ghost use Rattle.std.proofs.Common.{rules};
 
 use crate::representatives::{Representatives, change_each};
@@ -100,32 +99,6 @@ impl Step {
             Step::RowSpan(size, select) => {
                 change_each(alloc, records, cfg, select, Span::row(size))
             }
-            Step::Both(first, second) => {
-                Box::into_inner(first).apply(alloc, records, cfg, dimension)?;
-                Box::into_inner(second).apply(alloc, records, cfg, dimension)
-            }
-            _ => self.apply_whole(alloc, records, cfg, dimension),
-        }
-    }
-
-    /// Does a step that has no selector and is no pair of steps; any other does nothing.
-    fn apply_whole<R, D>(
-        self,
-        alloc: Global,
-        records: &mut R,
-        cfg: &mut SpannedConfig,
-        dimension: &mut D,
-    ) -> Result<(), AllocError>
-    where
-        R: Records + ExactRecords + PeekableRecords + RecordsMut<String> + Resizable,
-        R::Cell: CellText,
-        requires well { R.is_well_formed records.old }
-        ensures well { R.is_well_formed records.new }
-        ensures ok { OnOk result (DoesWhole R.Cell.is_blank R.Cell.text_of self (R.grid records.old) cfg.old (R.grid records.new) cfg.new) }
-        ensures err { OnErr result (Same (R.grid records.old) cfg.old (R.grid records.new) cfg.new) }
-        ensures promised { TakesNoMemory R.Cell.is_blank R.Cell.text_of self (R.grid records.old) cfg.old → IsOk result }
-    {
-        match self {
             Step::HorizontalPanel(panel) => panel.change(alloc, records, cfg, dimension),
             Step::VerticalPanel(panel) => panel.change(alloc, records, cfg, dimension),
             Step::Header(header) => header.change(alloc, records, cfg, dimension),
@@ -148,7 +121,10 @@ impl Step {
             Step::RemoveNamed(name) => {
                 Remove::column(ByColumnName::new(name)).change(alloc, records, cfg, dimension)
             }
-            _ => Ok(()),
+            Step::Both(first, second) => {
+                Box::into_inner(first).apply(alloc, records, cfg, dimension)?;
+                Box::into_inner(second).apply(alloc, records, cfg, dimension)
+            }
         }
     }
 }

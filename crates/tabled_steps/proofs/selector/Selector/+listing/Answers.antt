@@ -18,7 +18,7 @@ list-returns-in_ok-representatives-in-And-2 g t c =
     let left = rw c.deref.ensures at c.in_ok-representatives-in-And.ensures in
     let right = rw c.deref-in-And.ensures at c.in_ok-representatives-in-And-2.ensures in
     let alike = cells_alike g.R.Cell.CellText.text_of c.in-And.x.value c.in-And.y.value grid union_of _ _ in
-    with_ok c.entities-in-And.result _ c.entities-in-And.ensures (λ all named. rw c.in-And.is (alike _ _ all.items left right (named.2 ∙ ap (λ (s : _). s.0.0.items) c.and.ensures) (named.3 ∙ ap (λ (s : _). s.1.0.items) c.and.ensures) named.4))
+    with_ok c.entities-in-And-2.result _ c.entities-in-And-2.ensures (λ all named. rw c.in-And.is (alike _ _ all.items left right (named.2 ∙ ap (λ (s : _). s.0.0.items) c.and.ensures) (named.3 ∙ ap (λ (s : _). s.1.0.items) c.and.ensures) named.4))
 
 pub list-returns-in_ok-representatives-in-Not-2 : goal.list-returns-in_ok-representatives-in-Not-2
 list-returns-in_ok-representatives-in-Not-2 g t c =

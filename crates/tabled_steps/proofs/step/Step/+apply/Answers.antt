@@ -43,6 +43,30 @@ returns-in-RowSpan-clause-err g n c =
     let fits : SFits w64 c.in-RowSpan.size = search rules in
     rw c.in-RowSpan.is (rw (c.row.ensures, to_z-of_z w64 c.in-RowSpan.size fits) at c.change_each-in-RowSpan.ensures.err)
 
+pub returns-in-HorizontalPanel-clause-ok : goal.returns-in-HorizontalPanel-clause-ok
+returns-in-HorizontalPanel-clause-ok g n c = rw c.in-HorizontalPanel.is c.change-in-HorizontalPanel.ensures.ok
+
+pub returns-in-VerticalPanel-clause-ok : goal.returns-in-VerticalPanel-clause-ok
+returns-in-VerticalPanel-clause-ok g n c = rw c.in-VerticalPanel.is c.change-in-VerticalPanel.ensures.ok
+
+pub returns-in-Header-clause-ok : goal.returns-in-Header-clause-ok
+returns-in-Header-clause-ok g n c = rw c.in-Header.is c.change-in-Header.ensures.ok
+
+pub returns-in-Footer-clause-ok : goal.returns-in-Footer-clause-ok
+returns-in-Footer-clause-ok g n c = rw c.in-Footer.is c.change-in-Footer.ensures.ok
+
+pub returns-in-RemoveRows-clause-ok : goal.returns-in-RemoveRows-clause-ok
+returns-in-RemoveRows-clause-ok g n c =
+    rw c.in-RemoveRows.is (on_ok_weaker c.change-in-RemoveRows.result (λ d. rw (← d.located) d.rearranged) (rw (c.row-in-RemoveRows.ensures, c.new-in-RemoveRows.ensures) at c.change-in-RemoveRows.ensures.ok))
+
+pub returns-in-RemoveColumns-clause-ok : goal.returns-in-RemoveColumns-clause-ok
+returns-in-RemoveColumns-clause-ok g n c =
+    rw c.in-RemoveColumns.is (on_ok_weaker c.change-in-RemoveColumns.result (λ d. rw (← d.located) d.rearranged) (rw (c.column-in-RemoveColumns.ensures, c.new-in-RemoveColumns.ensures) at c.change-in-RemoveColumns.ensures.ok))
+
+pub returns-in-RemoveNamed-clause-ok : goal.returns-in-RemoveNamed-clause-ok
+returns-in-RemoveNamed-clause-ok g n c =
+    rw c.in-RemoveNamed.is (on_ok_weaker c.change-in-RemoveNamed.result (λ d. rw (← d.located) d.rearranged) (rw (c.column-in-RemoveNamed.ensures, c.new-in-RemoveNamed.ensures) at c.change-in-RemoveNamed.ensures.ok))
+
 pub returns-in_ok-apply-in-Both-clause-ok : goal.returns-in_ok-apply-in-Both-clause-ok
 returns-in_ok-apply-in-Both-clause-ok g n c =
     let first = rw c.into_inner.ensures at c.in_ok-apply-in-Both.ensures.ok in
