@@ -49,8 +49,7 @@ where
         let rows = records.count_rows();
         let columns = records.count_columns();
         let mut all = entities(alloc, &self.lhs, records)?;
-        let mut rhs = entities(alloc, &self.rhs, records)?;
-        all.append(&mut rhs)?;
+        all.extend(self.rhs.cells(alloc, records)?)?;
         let named = count_named(&all, rows, columns);
         let seen = PlaceSet::room_for(alloc, &all, rows, columns, named)?;
         Ok(UnionIter {
