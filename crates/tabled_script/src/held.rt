@@ -13,7 +13,7 @@ use tabled_grid::records::CellText;
 use tabled_language::LentText;
 
 /// How many bytes are held before they are written.
-pub(crate) const PART: usize = 8_192;
+pub(crate) const PART: usize = 4_096;
 
 /// Room for the bytes that are held, fewer than two parts have, and for those of a further part, all escaped.
 pub(crate) const ROOM: usize = 4 * PART;

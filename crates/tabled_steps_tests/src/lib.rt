@@ -1,23 +1,9 @@
-//! Tests of steps and of the options that they do, each a line of words.
+//! Tests of settings, of steps and of pictures.
 #![tactic(auto)]
 
 #[cfg(test)]
-mod case;
+mod draw;
 #[cfg(test)]
-mod cuts;
+mod settings;
 #[cfg(test)]
-mod joins;
-#[cfg(test)]
-mod large;
-#[cfg(test)]
-mod panels;
-#[cfg(test)]
-mod selectors;
-#[cfg(test)]
-mod spans;
-#[cfg(test)]
-mod turns;
-#[cfg(test)]
-mod worded;
-#[cfg(test)]
-mod writers;
+mod steps;

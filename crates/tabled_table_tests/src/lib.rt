@@ -1,15 +1,9 @@
-//! Tests of builders and of the tables that they make.
+//! Tests of selectors, of options and of tables.
 #![tactic(auto)]
 
 #[cfg(test)]
-mod builders;
+mod options;
 #[cfg(test)]
-mod call;
+mod select;
 #[cfg(test)]
-mod first_table;
-#[cfg(test)]
-mod indexes;
-#[cfg(test)]
-mod maps;
-#[cfg(test)]
-mod refusals;
+mod table;

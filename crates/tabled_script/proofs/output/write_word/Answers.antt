@@ -8,7 +8,7 @@ loop-rest-preserved g c =
     let i = c.loop-rest.invariant.sends in
     let part = c.split_at.result.0.now in
     let others = c.split_at.result.1.now in
-    let whole : part ++ others ≡ c.loop-rest.rest.now = rw (c.split_at.ensures.front, c.split_at.ensures.back) (take-append-drop 8_192 c.loop-rest.rest.now) in
+    let whole : part ++ others ≡ c.loop-rest.rest.now = rw (c.split_at.ensures.front, c.split_at.ensures.back) (take-append-drop 4_096 c.loop-rest.rest.now) in
     record {
       sends = (
         i.0 ++ escaped part,

@@ -1,0 +1,9 @@
+//! Tests of pictures, by public calls alone.
+
+mod calls;
+mod misfits;
+mod odd;
+mod originals;
+mod rearranged;
+mod scripts;
+mod writers;

@@ -1,0 +1,10 @@
+//! Tests of the public calls of `tabled_settings` and `tabled_spans`.
+
+mod content;
+mod cuts;
+mod joins;
+mod moves;
+mod odd;
+mod refused_writers;
+mod spans;
+mod tables;

@@ -1,0 +1,12 @@
+//! Tests of steps and of the options that they do, each a line of words.
+
+mod case;
+mod cuts;
+mod joins;
+mod large;
+mod panels;
+mod selectors;
+mod spans;
+mod turns;
+mod worded;
+mod writers;

@@ -1,0 +1,8 @@
+//! Tests of builders and of the tables that they make.
+
+mod builders;
+mod call;
+mod first_table;
+mod indexes;
+mod maps;
+mod refusals;
