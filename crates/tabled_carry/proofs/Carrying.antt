@@ -1,5 +1,5 @@
 -- A list of the images of rectangles, as it grows and once it is sorted.
-use Rattle.tabled_carry.proofs.Common.{[], ◌&&◌, ◌++◌, ◌+◌, ◌<◌, ◌==◌, ◌∙◌, ◌∷◌, ◌≡◌, ◌≤◌, ◌⊎◌, AllByRecursion, AreAnchors, Bool, Carries, Earlier, Equal, Fits, Greater, HasArea, In, IsImage, IsPermutation, IsSortedByKey, IsSpanSize, Less, List, Member, Ordering, Places, Position, Rectangle, Size, Some, T, add-one, and_from, and_parts, any-from, any-member, ap, ap₂, arith, below-member, below_all, cases_Bool, cond, earlier, eq-eqb, eqb-true, false, find-member, from_sorted, get, get-from_sorted, get_or, halves, holds-from, image, inl, inr, is_lt, is_sorted, length, list_any, list_any-IsPermutation, member-either, member-left, member-right, ordering_reverse, position_cmp, positions_exact, positions_total, refl, same_place, same_place-self, same_place-true, sized, sorted-find, subst, suc, sum_by, sum_by-IsPermutation, sym, take, take_more, true, zero, ℕ}
+use Rattle.tabled_carry.proofs.Common.{[], ◌&&◌, ◌++◌, ◌+◌, ◌<◌, ◌==◌, ◌∙◌, ◌∷◌, ◌≡◌, ◌≤◌, ◌⊎◌, AllByRecursion, AreAnchors, Bool, Carries, Earlier, Equal, Fits, Greater, HasArea, In, IsImage, IsPermutation, IsSortedByKey, IsSpanSize, Less, List, Member, Ordering, Places, Position, Rectangle, Size, Some, T, add-one, and_from, and_parts, any-from, any-member, ap, ap₂, arith, below-member, below_all, cases_Bool, common_steps, cond, earlier, eq-eqb, eqb-true, false, find-member, from_sorted, get, get-from_sorted, get_or, halves, holds-from, image, inl, inr, is_lt, is_sorted, length, list_any, list_any-IsPermutation, member-either, member-left, member-right, ordering_reverse, position_cmp, positions_exact, positions_total, refl, same_place, same_place-self, same_place-true, sized, sorted-find, subst, suc, sum_by, sum_by-IsPermutation, sym, take, take_more, true, zero, ℕ}
 use Rattle.std.proofs.lemmas.List.Sums.{sum_by-append, sum_by-cons}
 use Rattle.tabled_grid.proofs.Shifts.{from_earlier}
 use Rattle.tabled_carry.proofs.RectanglesCarried.{carries_more, first_in, image_is, image_one, takes_one, carries_one}
@@ -188,11 +188,7 @@ front-before e (suc i) (f ∷ es) d up here (inl same) =
 front-before e (suc i) (f ∷ es) d up here (inr m) = front-before e i es d (halves _ _ up).1 (omega arith) m
 
 never_before : (p q : Position) → position_cmp p q ≡ Less → p ≡ q → ⊥
-never_before p q h same = by (earlier p q h)
-  where
-    by : Earlier p q → ⊥
-    by (inl a) = omega (arith, a, ap (λ (x : Position). x.row) same)
-    by (inr a) = omega (arith, a.1, ap (λ (x : Position). x.col) same)
+never_before p q h same = grind (arith, common_steps, earlier)
 
 -- the next rectangle of a list
 module _ (places : Places) (es xs : List Rectangle) (i rows columns : ℕ) (d : Rectangle) (valid : AreAnchors es) (fits : Fits (from_sorted es) rows columns) (here : i < length es) where

@@ -1,6 +1,7 @@
 -- The names that most proofs cite, passed on from one place. Declares nothing.
 pub use Rattle.std.proofs.Common.{◌^◌}
 pub use Rattle.std.proofs.lemmas.Bool.{true≢false}
+pub use Rattle.std.proofs.lemmas.Grind.{common_steps}
 pub use Rattle.std.proofs.lemmas.List.Sorted.{IsPermutation-put_mid, IsPermutation-trans, list_any-IsPermutation, sum_by-IsPermutation}
 pub use Rattle.std.specs.FinMap.{empty, from_entries, get-from_entries}
 pub use Rattle.std.specs.List.{sum_by}
@@ -8,7 +9,7 @@ pub use Rattle.std.specs.List.Sorted.{IsPermutation, IsSortedByKey}
 pub use Rattle.std.specs.Prelude.{IsNone, slice_index_or}
 pub use Rattle.tabled_carry.specs.Corners.{Around, Between}
 pub use Rattle.tabled_carry.specs.Images.{Carries, CarriesAll, HasArea, IsFree, IsImage, KeepsPlaces, LeadsBack, Takes, alike, carried, carries, cells_in, image, images, old_place_passes, rectangles}
-pub use Rattle.tabled_grid.proofs.Common.{[], ◌&&◌, ◌*◌, ◌++◌, ◌+◌, ◌-◌, ◌<◌, ◌==◌, ◌||◌, ◌∙◌, ◌∷◌, ◌≡◌, ◌≤◌, ◌⊎◌, AllByRecursion, AreAnchors, AreSpanSizes, Bool, Equal, Fits, Greater, IfSome, In, IsSpanSize, Less, List, None, Option, Ordering, Places, Rectangle, Some, SpanMap, T, add-one, and_from, and_parts, answers_always, ap, ap₂, arith, below_all, block, cases_Bool, cases_eq, cases_lt, cond, crosses_line, cut_places, drop, empty_of_len, entries, entries-from_sorted, entries_sorted, eq-eqb, false, false_from_ne_true, filter, fits_among, fitting, flat_map, from_sorted, get, get-entries, get-from_sorted, get_or, get_or-set_other, holds, inl, inr, is_crossed, is_lt, is_sorted, keep_fitting, le-leb, leb-true, len-entries, length, length-append, length-set, lies_inside, line_of, list_all, list_any, ltb-true, map, max, meets, min, nat_eq, nat_lt, none-some, not, not_from_false, or_cases, or_left, or_right, ordering_reverse, place, position_cmp, range_with_len, refl, row_places, rules, same_Some, same_map, same_place, set, shifted, sized, subst, suc, sym, take, take_all, take_more, take_more_set, true, zero, ℕ}
+pub use Rattle.tabled_grid.proofs.Common.{[], ◌&&◌, ◌*◌, ◌++◌, ◌+◌, ◌-◌, ◌<◌, ◌==◌, ◌||◌, ◌∙◌, ◌∷◌, ◌≡◌, ◌≤◌, ◌⊎◌, AllByRecursion, AreAnchors, AreSpanSizes, Bool, Equal, Fits, Greater, IfSome, In, IsSpanSize, Less, List, None, Option, Ordering, Places, Rectangle, Some, SpanMap, T, add-one, and_from, and_parts, answers_always, ap, ap₂, arith, below_all, block, cases_Bool, cases_lt, cond, crosses_line, cut_places, drop, empty_of_len, entries, entries-from_sorted, entries_sorted, eq-eqb, false, false_from_ne_true, filter, fits_among, fitting, flat_map, from_sorted, get, get-entries, get-from_sorted, get_or, get_or-set_other, holds, inl, inr, is_crossed, is_lt, is_sorted, keep_fitting, le-leb, leb-true, len-entries, length, length-append, length-set, lies_inside, line_of, list_all, list_any, ltb-true, map, max, meets, min, nat_eq, nat_lt, none-some, not, not_from_false, or_cases, or_left, or_right, ordering_reverse, place, position_cmp, range_with_len, refl, row_places, rules, same_Some, same_map, same_place, set, shifted, sized, subst, suc, sym, take, take_all, take_more, true, zero, ℕ}
 pub use Rattle.tabled_grid.proofs.Fitting.{anchors-fitting, anchors-of, from-entries, keep_fitting-all, keep_fitting-fits}
 pub use Rattle.tabled_grid.proofs.Members.{Member, all-from, all-member, any-from, any-member, below-member, block-from, block-member, filter-from, filter-member, find-member, flat_map-from, flat_map-member, map-from, map-member, member-either, member-find, member-left, member-right, range-member, sorted-find}
 pub use Rattle.tabled_grid.proofs.PassedAnchors.{Earlier, earlier, meets-true}

@@ -1,5 +1,5 @@
 -- A list of rectangles, as their images are written over it.
-use Rattle.tabled_carry.proofs.Common.{[], ◌++◌, ◌+◌, ◌<◌, ◌∙◌, ◌∷◌, ◌≡◌, ◌≤◌, List, Places, Rectangle, arith, get_or, get_or-set_other, length, length-set, set, subst, sym, take, take_more_set, ℕ}
+use Rattle.tabled_carry.proofs.Common.{[], ◌++◌, ◌+◌, ◌<◌, ◌∷◌, ◌≡◌, ◌≤◌, List, Places, Rectangle, arith, common_steps, get_or, get_or-set_other, length, length-set, set, take, ℕ}
 use Rattle.tabled_carry.proofs.Carrying.{Images}
 
 -- the first ones are looked at, their images stand at the front, and the others are as they were
@@ -12,12 +12,7 @@ pub record Underway (places : Places) (old new : List Rectangle) (count index : 
 module _ (places : Places) (old new : List Rectangle) (count index : ℕ) (u : Underway places old new count index) (here : index < length old) where
   -- an image is written
   pub underway-some : (f : Rectangle) → Images places (take (index + 1) old) (take count new ++ f ∷ []) → Underway places old (set new count f) (count + 1) (index + 1)
-  underway-some f is = record {
-    images = subst (λ (xs : List Rectangle). Images places (take (index + 1) old) xs) (sym (take_more_set new count f (omega (arith, here, u.many, u.front)))) is;
-    rest = λ k d below. get_or-set_other new count k f d (λ same. omega (arith, same, below, u.front)) ∙ u.rest k d (omega (arith, below));
-    many = length-set new count f ∙ u.many;
-    front = omega (arith, u.front);
-  }
+  underway-some f is = grind (arith, common_steps, get_or-set_other, length-set)
 
   -- there is none
   pub underway-none : Images places (take (index + 1) old) (take count new) → Underway places old new count (index + 1)

@@ -1,5 +1,5 @@
 -- Rectangles carried along fit the new table, and the map of them is the image.
-use Rattle.tabled_carry.proofs.Common.{◌+◌, ◌-◌, ◌<◌, ◌∙◌, ◌≡◌, ◌≤◌, ◌⊎◌, Bool, Carries, Fits, HasArea, In, IsImage, IsSpanSize, Member, None, Option, Places, Position, Rectangle, Size, Some, SpanMap, Takes, alike, all-from, all-member, and_from, and_parts, any-from, any-member, ap, ap₂, arith, block, block-from, block-member, carries, cases_lt, cells_in, entries, entries_sorted, false, filter-from, filter-member, find-member, flat_map-from, flat_map-member, get, get-entries, get-from_entries, holds, holds-from, holds-true, image, images, inl, inr, list_all, list_any, map, map-from, map-member, member-find, old_place_passes, place, position_cmp, positions_exact, positions_total, rectangles, refl, same_Some, same_map, same_place, same_place-self, same_place-true, sized, sorted-find, subst, sym, true, ℕ}
+use Rattle.tabled_carry.proofs.Common.{◌+◌, ◌-◌, ◌<◌, ◌∙◌, ◌≡◌, ◌≤◌, ◌⊎◌, Bool, Carries, Fits, HasArea, In, IsImage, IsSpanSize, Member, None, Option, Places, Position, Rectangle, Size, Some, SpanMap, Takes, alike, all-from, all-member, and_from, and_parts, any-from, any-member, ap, ap₂, arith, block, block-from, block-member, carries, cases_lt, cells_in, common_steps, entries, entries_sorted, false, filter-from, filter-member, find-member, flat_map-from, flat_map-member, get, get-entries, get-from_entries, holds, holds-from, holds-true, image, images, inl, inr, list_all, list_any, map, map-from, map-member, member-find, old_place_passes, place, position_cmp, positions_exact, positions_total, rectangles, refl, same_Some, same_map, same_place, same_place-self, same_place-true, sized, sorted-find, subst, sym, true, ℕ}
 
 -- the first and the last cell of a rectangle
 abbrev last_of : Rectangle → Position
@@ -186,16 +186,7 @@ module _ (places : Places) where
 
   -- the rectangles inside a table
   rectangle-member : (f : Rectangle) → Member f (rectangles places.rows places.columns) → HasArea f × (f.0.row + f.1.height ≤ places.rows) × (f.0.col + f.1.width ≤ places.columns)
-  rectangle-member f m =
-      let p = flat_map-member (λ (p : Position). map (λ (last : Position). (p, sized (last.row + 1) (last.col + 1))) (block 0 (places.rows - p.row) 0 (places.columns - p.col))) f (block 0 places.rows 0 places.columns) m in
-      let q = map-member (λ (last : Position). (p.0, sized (last.row + 1) (last.col + 1))) f (block 0 (places.rows - p.0.row) 0 (places.columns - p.0.col)) p.2 in
-      let b = block-member 0 places.rows 0 places.columns p.0 p.1 in
-      let l = block-member 0 (places.rows - p.0.row) 0 (places.columns - p.0.col) q.0 q.1 in
-      let row : f.0.row ≡ p.0.row = ap (λ (e : Rectangle). e.0.row) q.2 in
-      let col : f.0.col ≡ p.0.col = ap (λ (e : Rectangle). e.0.col) q.2 in
-      let height : f.1.height ≡ q.0.row + 1 = ap (λ (e : Rectangle). e.1.height) q.2 in
-      let width : f.1.width ≡ q.0.col + 1 = ap (λ (e : Rectangle). e.1.width) q.2 in
-      (record { height = omega (arith, height); width = omega (arith, width) }, omega (arith, row, height, l.bottom, b.bottom), omega (arith, col, width, l.right, b.right))
+  rectangle-member f m = grind (arith, common_steps, flat_map-member, map-member, block-member)
 
   rectangle-from : (f : Rectangle) → HasArea f → f.0.row + f.1.height ≤ places.rows → f.0.col + f.1.width ≤ places.columns → Member f (rectangles places.rows places.columns)
   rectangle-from f full tall wide =

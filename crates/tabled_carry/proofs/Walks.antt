@@ -1,5 +1,5 @@
 -- Going through the cells of a rectangle, row by row.
-use Rattle.tabled_carry.proofs.Common.{◌*◌, ◌+◌, ◌-◌, ◌<◌, ◌^◌, ◌∙◌, ◌≡◌, ◌≤◌, ◌⊎◌, Around, Between, Carries, HasArea, In, Places, Position, Rectangle, Takes, ap, ap₂, arith, cases_eq, cells_in, inl, inr, length, max, min, place, sized, subst, sym, ℕ}
+use Rattle.tabled_carry.proofs.Common.{◌*◌, ◌+◌, ◌-◌, ◌<◌, ◌^◌, ◌∙◌, ◌≡◌, ◌≤◌, ◌⊎◌, Around, Between, Carries, HasArea, In, Places, Position, Rectangle, Takes, ap, ap₂, arith, cells_in, common_steps, inl, inr, length, max, min, place, sized, subst, sym, ℕ}
 use Rattle.tabled_carry.proofs.Pigeonhole.{Once, length-block, once-block, paired}
 use Rattle.tabled_carry.proofs.RectanglesCarried.{cell_from, cell_in, same_cells, takes_one}
 
@@ -10,18 +10,10 @@ Before i j p = (p.row < i) ⊎ ((p.row ≡ i) × (p.col < j))
 -- one column further
 pub before-more : (i j : ℕ) (p : Position) → Before i (j + 1) p → Before i j p ⊎ (p ≡ place i j)
 before-more i j p (inl h) = inl (inl h)
-before-more i j p (inr h) = by (cases_eq p.col j)
-  where
-    by : (p.col ≡ j) ⊎ (p.col ≡ j → ⊥) → Before i j p ⊎ (p ≡ place i j)
-    by (inl e) = inr (ap₂ place h.0 e)
-    by (inr apart) = inl (inr (h.0, omega (arith, h.1, apart)))
+before-more i j p (inr h) = grind (arith, common_steps)
 
 pub walked : (e : Rectangle) (i j : ℕ) (q : Position) → place i j ≡ q → (r : Position) → In e r × Before i (j + 1) r → (In e r × Before i j r) ⊎ (r ≡ q)
-walked e i j q at r h = by (before-more i j r h.1)
-  where
-    by : Before i j r ⊎ (r ≡ place i j) → (In e r × Before i j r) ⊎ (r ≡ q)
-    by (inl b) = inl (h.0, b)
-    by (inr same) = inr (same ∙ at)
+walked e i j q at r h = grind (arith, common_steps, before-more)
 
 -- no cell comes before the first one
 none_before : (e : Rectangle) (i j : ℕ) → i ≡ e.0.row → j ≡ e.0.col → (r : Position) → In e r → Before i j r → ⊥
@@ -29,11 +21,7 @@ none_before e i j row col r h (inl b) = omega (arith, h.top, row, b)
 none_before e i j row col r h (inr b) = omega (arith, h.left, col, b.1)
 
 pub first_walked : (e : Rectangle) (i j : ℕ) (q : Position) → place i j ≡ q → (i ≡ e.0.row) × (j ≡ e.0.col) → (r : Position) → In e r × Before i (j + 1) r → r ≡ q
-first_walked e i j q at first r h = by (walked e i j q at r h)
-  where
-    by : (In e r × Before i j r) ⊎ (r ≡ q) → r ≡ q
-    by (inl b) = absurd (none_before e i j first.0 first.1 r b.0 b.1)
-    by (inr same) = same
+first_walked e i j q at first r h = grind (arith, common_steps, walked, none_before)
 
 once-cells : (f : Rectangle) → Once (cells_in f)
 once-cells f = once-block f.0.row (f.0.row + f.1.height) f.0.col (f.0.col + f.1.width)

@@ -1,6 +1,5 @@
 -- Rows that become columns, by their places.
-use Rattle.tabled_grid.proofs.Common.{◌<◌, ◌∙◌, ◌≡◌, AllByRecursion, FillsThrough, Grid, IsEven, IsInside, List, Position, Some, TakesOnce, ap, ap₂, arith, cond, eqb, false, length, ne_eqb, place, refl, subst, sym, transposed, transposed_rows, turned_places, unwrap_or, ℕ}
-use Rattle.std.specs.Prelude.{Option}
+use Rattle.tabled_grid.proofs.Common.{◌<◌, ◌∙◌, ◌≡◌, AllByRecursion, FillsThrough, Grid, IsEven, List, TakesOnce, ap, arith, common_steps, cond, eqb, false, length, ne_eqb, place, refl, subst, sym, transposed, transposed_rows, turned_places, ℕ}
 use Rattle.tabled_grid.proofs.Transposed.{at-transposed, length-transposed, same_rows, wide-transposed}
 
 abbrev grid : {A : Type 0} → ℕ → ℕ → List (List A) → Grid A
@@ -11,13 +10,7 @@ same_grid r s c d xs ys e f g = rw (e, f, g) refl
 
 module _ {A : Type 0} (old : Grid A) where
   pub turned_once : TakesOnce (turned_places old.rows old.columns) old
-  turned_once = record {
-    inside = λ p q w is. subst (IsInside old) (same p q is) (record { row = w.col; col = w.row });
-    apart = λ p r q w v is also. let e = same p q is ∙ sym (same r q also) in ap₂ place (ap (λ (x : Position). x.col) e) (ap (λ (x : Position). x.row) e);
-  }
-    where
-      same : (p q : Position) → Some (place p.col p.row) ≡ Some q → place p.col p.row ≡ q
-      same p q is = ap (λ (o : Option Position). unwrap_or o q) is
+  turned_once = grind (arith, common_steps)
 
   pub turned_all : (is_blank : A → Type 0) (new : Grid A) → IsEven old → 0 < old.columns → FillsThrough is_blank (turned_places old.rows old.columns) old new → new ≡ transposed old
   turned_all is_blank new even some fills =

@@ -1,5 +1,5 @@
 -- Columns of blanks added after the last column, and taken away again.
-use Rattle.tabled_grid.proofs.Common.{[], ◌++◌, ◌+◌, ◌∙◌, ◌∷◌, ◌≡◌, AddsBlanks, AddsColumns, AllByRecursion, AllZip, Bool, Columns, Grid, InsertsColumn, IsEven, List, ap, append-nil, append_assoc, ap₂, arith, cond, eqb, eqb-true, false, first_along, insert, insert_end, length, length-append, map, nil_from_length, refl, suc, sym, take, take_at, true, zip, ℕ}
+use Rattle.tabled_grid.proofs.Common.{[], ◌++◌, ◌+◌, ◌∙◌, ◌∷◌, ◌≡◌, AddsBlanks, AddsColumns, AllByRecursion, AllZip, Bool, Columns, Grid, InsertsColumn, IsEven, List, ap, append-nil, append_assoc, ap₂, arith, common_steps, cond, eqb, eqb-true, false, first_along, insert, insert_end, length, length-append, map, nil_from_length, refl, suc, sym, take, take_at, true, zip, ℕ}
 use Rattle.tabled_grid.proofs.Blanks.{blanks-push}
 use Rattle.tabled_grid.proofs.Resized.{wide_if}
 
@@ -84,5 +84,4 @@ module _ {A : Type 0} (is_blank : A → Type 0) where
   columns_front k old cur even a = fronts k old.columns old.cells cur.cells a.each even.wide
 
   pub columns_taken_back : (k : ℕ) (old cur new : Grid A) → IsEven old → AddsColumns is_blank k old cur → new ≡ first_along Columns old.columns cur → new ≡ old
-  columns_taken_back k old cur new even a cut =
-      cut ∙ ap₂ (λ (r : ℕ) (cells : List (List A)). let h : Grid A = record { rows = r; columns = old.columns; cells = cells } in h) a.rows (columns_front k old cur even a)
+  columns_taken_back k old cur new even a cut = grind (arith, common_steps, columns_front)

@@ -1,5 +1,5 @@
 -- Lines of blanks after the last line.
-use Rattle.tabled_grid.proofs.Common.{[], ◌++◌, ◌+◌, ◌-◌, ◌<◌, ◌∙◌, ◌∷◌, ◌≡◌, ◌≤◌, AddsBlanks, AddsLines, All-from_recursion, AllByRecursion, AllZip, Axis, Bool, Columns, Grid, IsEmptyWithoutRows, IsEven, List, Rows, Some, across, ap, arith, cell_at, cond, count_along, first_along, get_or, get_or-append_right, get_or_append_left, length, ne_eqb, place, place_in, refl, slice_get, suc, zero, ℕ}
+use Rattle.tabled_grid.proofs.Common.{[], ◌++◌, ◌+◌, ◌-◌, ◌<◌, ◌∙◌, ◌∷◌, ◌≡◌, ◌≤◌, AddsBlanks, AddsLines, All-from_recursion, AllByRecursion, AllZip, Axis, Bool, Columns, Grid, IsEmptyWithoutRows, IsEven, List, Rows, Some, across, ap, arith, cell_at, common_steps, cond, count_along, first_along, get_or, get_or-append_right, get_or_append_left, length, ne_eqb, place, place_in, refl, slice_get, suc, zero, ℕ}
 use Rattle.tabled_grid.proofs.AddedColumns.{IsEven-adds_columns, columns_taken_back}
 use Rattle.tabled_grid.proofs.AddedRows.{IsEven-adds_rows, rows_taken_back}
 
@@ -49,12 +49,7 @@ module _ {A : Type 0} (is_blank : A → Type 0) where
         ap (λ (row : List A). slice_get row i) put.is ∙ front_read (get_or old.cells j []) put.cells i (omega (arith, wide_at j k, h))
 
     pub added_blank : (axis : Axis) (i j : ℕ) → AddsLines is_blank axis many old new → count_along axis old ≤ i → i < count_along axis old + many → j < count_along (across axis) old → (c : A) × is_blank c × (cell_at new (place_in axis i j) ≡ Some c)
-    added_blank Rows i j a h l k =
-        let row = All-from_recursion _ a.added a.blanks (i - old.rows) [] (omega (arith, a.many_are, h, l)) in
-        let cell = blank_at (get_or a.added (i - old.rows) []) j row.blank (omega (arith, row.many, k)) in
-        let n : ℕ = old.rows in
-        let read : get_or (old.cells ++ a.added) i [] ≡ get_or a.added (i - n) [] = get_or-append_right old.cells a.added n i [] even.tall h in
-        (cell.0, cell.1, ap (λ (g : Grid A). cell_at g (place i j)) a.is ∙ ap (λ (r : List A). slice_get r j) read ∙ cell.2)
+    added_blank Rows i j a h l k = grind (arith, common_steps, All-from_recursion, blank_at, get_or-append_right)
     added_blank Columns i j a h l k =
         let put = each_at many j old.cells new.cells a.each (omega (arith, even.tall, k)) in
         let wide = wide_at j k in

@@ -1,5 +1,5 @@
 -- Anchors that stand beside a rectangle are passed over.
-use Rattle.tabled_grid.proofs.Common.{[], ◌+◌, ◌<◌, ◌∙◌, ◌∷◌, ◌≡◌, ◌≤◌, ◌⊎◌, Bool, Equal, Err, IsBinarySearchResult, Less, List, Position, Rectangle, T, and_from, ap, ap₂, arith, below_all, cases_lt, cond, false, false_from_ne_true, get_or, holds, inl, inr, is_sorted, length, list_all, map, meets, not, not_from_false, position_cmp, refl, sized, subst, suc, sym, take, true, unless_held, zero, ℕ}
+use Rattle.tabled_grid.proofs.Common.{[], ◌+◌, ◌<◌, ◌∷◌, ◌≡◌, ◌≤◌, ◌⊎◌, Bool, Equal, Err, IsBinarySearchResult, Less, List, Position, Rectangle, T, and_from, ap, ap₂, arith, below_all, cases_lt, common_steps, cond, false, false_from_ne_true, get_or, holds, inl, inr, is_sorted, length, list_all, map, meets, not, not_from_false, position_cmp, refl, sized, subst, suc, take, true, unless_held, zero, ℕ}
 use Rattle.tabled_grid.proofs.Geometry.{In}
 use Rattle.tabled_grid.proofs.PassedAnchors.{Earlier, earlier, meets-true}
 use Rattle.tabled_grid.proofs.SortedEntries.{below_at, searchable}
@@ -34,27 +34,8 @@ reaches_next by pos row r is = record { here = λ h. absurd (omega arith); next 
 
 module _ (by : Rectangle) (pos : Position) (row : ℕ) (reaches : Reaches by pos row) (out : holds by pos ≡ false) where
   out_of : (p : Position) → Earlier pos p → (p.row < row) ⊎ ((p.row ≡ row) × (p.col < by.0.col)) → (pos.col < by.0.col) ⊎ (by.0.col ≤ pos.col) → In by p → ⊥
-  out_of p after until (inl l) h = by_order after until
-    where
-      by_order : Earlier pos p → (p.row < row) ⊎ ((p.row ≡ row) × (p.col < by.0.col)) → ⊥
-      by_order (inl a) (inl u) = omega (arith, reaches.here l)
-      by_order (inl a) (inr u) = omega (arith, h.left, u.1)
-      by_order (inr a) (inl u) = omega (arith, a.0, reaches.here l)
-      by_order (inr a) (inr u) = omega (arith, h.left, u.1)
-  out_of p after until (inr r) h = by_order after until
-    where
-      same_row : pos.row ≡ p.row → pos.col < p.col → ⊥
-      same_row e l =
-          let inside : holds by pos ≡ true = holds-from by pos (record { top = omega (arith, h.top); bottom = omega (arith, h.bottom); left = r; right = omega (arith, h.right) }) in
-          never (sym out ∙ inside)
-        where
-          never : false ≡ true → ⊥
-          never e = cc
-
-      by_order : Earlier pos p → (p.row < row) ⊎ ((p.row ≡ row) × (p.col < by.0.col)) → ⊥
-      by_order (inl a) (inl u) = omega (arith, reaches.next r)
-      by_order (inl a) (inr u) = omega (arith, h.left, u.1)
-      by_order (inr a) u = same_row a.0 a.1
+  out_of p after until (inl l) h = grind (arith, common_steps)
+  out_of p after until (inr r) h = grind (arith, common_steps, holds-from)
 
   pub passed_over : (es : List Rectangle) (i : ℕ) → T (below_all position_cmp pos es) → ((j : ℕ) (d : Rectangle) → j < i → position_cmp (get_or es j d).0 (record { row = row; col = by.0.col }) ≡ Less) → i ≤ length es → map (unless_held by) (take i es) ≡ take i es
   passed_over [] zero below until within = refl

@@ -1,13 +1,10 @@
 -- Rows and columns of blanks.
-use Rattle.tabled_grid.proofs.Common.{[], ◌++◌, ◌+◌, ◌∙◌, ◌∷◌, ◌≡◌, ◌≤◌, AllZip, AreBlanks, Grid, InsertsBlank, InsertsColumn, InsertsRow, IsEven, List, all-append, ap, ap₂, insert, length, length_push, map, refl, suc, zip, ℕ}
+use Rattle.tabled_grid.proofs.Common.{[], ◌++◌, ◌+◌, ◌∷◌, ◌≡◌, ◌≤◌, AllZip, AreBlanks, Grid, InsertsBlank, InsertsColumn, InsertsRow, IsEven, List, all-append, ap, ap₂, arith, common_steps, insert, length, length_push, map, refl, suc, zip, ℕ}
 use Rattle.tabled_grid.proofs.Resized.{IsEven-with_row, IsEven-with_column}
 
 -- one blank more
 pub blanks-push : {A : Type 0} (is_blank : A → Type 0) (count : ℕ) (cells : List A) (cell : A) → AreBlanks is_blank count cells → is_blank cell → AreBlanks is_blank (count + 1) (cells ++ cell ∷ [])
-blanks-push is_blank count cells cell h b = record {
-  blank = all-append is_blank cells (cell ∷ []) h.blank (b, tt);
-  many = length_push cells cell ∙ ap (λ n. n + 1) h.many;
-}
+blanks-push is_blank count cells cell h b = grind (arith, common_steps, all-append, length_push)
 
 module _ {A : Type 0} (is_blank : A → Type 0) where
   pub IsEven-inserts_row : (old new : Grid A) (i : ℕ) → i ≤ old.rows → InsertsRow is_blank old new i → IsEven old → IsEven new

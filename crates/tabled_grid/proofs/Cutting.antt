@@ -1,5 +1,5 @@
 -- Lines cut in a store that grows to all new lines.
-use Rattle.tabled_grid.proofs.Common.{◌*◌, ◌+◌, ◌-◌, ◌<◌, ◌∙◌, ◌≡◌, ◌≤◌, AddsLines, Axis, FillsThrough, Grid, IsEven, IsInside, PieceOrder, across, arith, count_along, cut_places, div_ceil, first_along, nth_piece, place_in, refl, row_fits, with_cells_swapped, ℕ}
+use Rattle.tabled_grid.proofs.Common.{◌*◌, ◌+◌, ◌-◌, ◌<◌, ◌≡◌, ◌≤◌, AddsLines, Axis, FillsThrough, Grid, IsEven, IsInside, PieceOrder, across, arith, common_steps, count_along, cut_places, div_ceil, first_along, nth_piece, place_in, refl, row_fits, with_cells_swapped, ℕ}
 use Rattle.tabled_grid.proofs.PiecePlaces.{cut_fills}
 use Rattle.tabled_grid.proofs.PiecesCut.{cut_done, enough_pieces, more_lines, some_pieces, tall_even, tall_lines, tall_width}
 use Rattle.tabled_grid.proofs.PiecesPut.{MovesPieces, piece_number, place_is_in, puts_all, puts_more, puts_none, puts_piece, same_across, same_count, source, source_in}
@@ -41,9 +41,7 @@ module _ {A : Type 0} (is_blank : A → Type 0) (axis : Axis) (order : PieceOrde
   Moved t b new = MovesGrown is_blank axis order index lines pieces (broad - width) (all - lines) t b g new
 
   pub number_fits : (t b : ℕ) → t < all → b < index → (nth_piece order lines pieces t).1 * index + b < pieces * index
-  number_fits t b h k =
-      let number : ℕ = (nth_piece order lines pieces t).1 in
-      omega (arith, row_fits number index pieces index (piece_number order lines pieces t z.some any (omega (arith, h, z.all_is))) (omega arith), k)
+  number_fits t b h k = grind (arith, common_steps, row_fits, piece_number, any)
 
   pub none_moved : (wide tall : Grid A) → AddsLines is_blank (across axis) (broad - width) g wide → AddsLines is_blank axis (all - lines) wide tall → Moved all 0 tall
   none_moved wide tall widened grown = record {
@@ -61,14 +59,10 @@ module _ {A : Type 0} (is_blank : A → Type 0) (axis : Axis) (order : PieceOrde
 
   module _ (t n b : ℕ) (cur : Grid A) (e : n ≡ t + 1) (t_in : t < all) (b_in : b < index) (m : Moved n b cur) where
     count : count_along axis cur ≡ lines * pieces
-    count =
-        same_count axis m.tall cur m.moves.shape
-        ∙ tall_lines is_blank axis order index lines width pieces (broad - width) (all - lines) g m.wide m.tall z.even z.lines_are z.width_is z.some (omega (arith, z.narrow)) more_is many_is m.widened m.grown
+    count = grind (arith, common_steps, same_count, tall_lines, more_is, many_is)
 
     wide : count_along (across axis) cur ≡ pieces * index
-    wide =
-        same_across axis m.tall cur m.moves.shape
-        ∙ tall_width is_blank axis order index lines width pieces (broad - width) (all - lines) g m.wide m.tall z.even z.lines_are z.width_is z.some (omega (arith, z.narrow)) more_is many_is m.widened m.grown
+    wide = grind (arith, common_steps, same_across, tall_width, more_is, many_is)
 
     pub from_inside : IsInside cur (source axis order index lines pieces t b)
     from_inside = source_in axis order index lines pieces z.some any t n b (b + 1) m.tall cur _ e refl (omega (arith, t_in, z.all_is)) b_in m.moves count wide refl

@@ -1,5 +1,5 @@
 -- The first lines of a grid.
-use Rattle.tabled_grid.proofs.Common.{◌-◌, ◌∙◌, ◌≡◌, ◌≤◌, Axis, Bool, Columns, Grid, IsEmptyWithoutRows, IsEven, List, Rows, all-map, all-take, append-nil, ap₂, arith, cond, count_along, drop_all, eqb, eqb-true, false, first_along, length, length-map, length-take, length-take-le, map, map-id, ne_eqb, nil_from_length, refl, remove, suc, sym, take, take-take, take_all, true, without_line, zero, ℕ}
+use Rattle.tabled_grid.proofs.Common.{◌-◌, ◌∙◌, ◌≡◌, ◌≤◌, Axis, Bool, Columns, Grid, IsEmptyWithoutRows, IsEven, List, Rows, all-map, all-take, append-nil, ap₂, arith, common_steps, cond, count_along, drop_all, eqb, eqb-true, false, first_along, length, length-map, length-take, length-take-le, map, map-id, ne_eqb, nil_from_length, refl, remove, rules, suc, sym, take, take-take, take_all, true, without_line, zero, ℕ}
 use Rattle.tabled_grid.proofs.Along.{each_after, each_agrees, each_same}
 use Rattle.tabled_grid.proofs.Resized.{wide_if}
 
@@ -10,11 +10,7 @@ remove_last m xs = rw (take-take m (suc m) xs (omega arith), drop_all (suc m) (t
 -- how many columns there are once a row is gone
 columns_left : (m columns : ℕ) → cond (eqb (suc m) 1) 0 (cond (eqb (suc m) 0) 0 columns) ≡ cond (eqb m 0) 0 columns
 columns_left zero columns = refl
-columns_left (suc m) columns =
-    let a : eqb (suc (suc m)) 1 ≡ false = ne_eqb _ _ (λ e. omega arith) in
-    let b : eqb (suc (suc m)) 0 ≡ false = ne_eqb _ _ (λ e. omega arith) in
-    let c : eqb (suc m) 0 ≡ false = ne_eqb _ _ (λ e. omega arith) in
-    rw (a, b, c) refl
+columns_left (suc m) columns = grind (arith, common_steps, ne_eqb)
 
 -- none without rows
 pub either_way : (b : Bool) (columns : ℕ) → (b ≡ true → columns ≡ 0) → cond b 0 columns ≡ columns
@@ -31,24 +27,14 @@ module _ {A : Type 0} where
 
   -- one line fewer
   first_fewer : (axis : Axis) (m : ℕ) (g : Grid A) → without_line axis m (first_along axis (suc m) g) ≡ first_along axis m g
-  first_fewer Rows m g =
-      let fewer : suc m - 1 ≡ m = omega arith in
-      rw (remove_last m g.cells, columns_left m g.columns, fewer) refl
-  first_fewer Columns m g =
-      let fewer : suc m - 1 ≡ m = omega arith in
-      ap₂ (λ (n : ℕ) (rows : List (List A)). let h : Grid A = record { rows = g.rows; columns = n; cells = rows } in h) fewer
-      (each_after (λ (row : List A). remove row m) (take (suc m)) g.cells ∙ each_same (λ (row : List A). remove (take (suc m) row) m) (take m) (remove_last m) g.cells)
+  first_fewer Rows m g = grind (arith, common_steps, remove_last, columns_left)
+  first_fewer Columns m g = search (rules, each_after, each_same, remove_last)
 
   pub first_step : (axis : Axis) (left m : ℕ) (cur new g : Grid A) → cur ≡ first_along axis left g → new ≡ without_line axis m cur → left ≡ suc m → new ≡ first_along axis m g
   first_step axis left m cur new g is removed e = removed ∙ rw (is, e) (first_fewer axis m g)
 
   pub IsEven-first : (axis : Axis) (n : ℕ) (g : Grid A) → n ≤ count_along axis g → IsEven g → IsEven (first_along axis n g)
-  IsEven-first Rows n g h even =
-      let long : length (take n g.cells) ≡ n = length-take-le n g.cells (omega (arith, even.tall, h)) in
-      record {
-        tall = long;
-        wide = wide_if (eqb n 0) 0 g.columns (take n g.cells) (λ e. nil_from_length _ (omega (arith, long, eqb-true n 0 e))) (all-take (λ (row : List A). length row ≡ g.columns) n g.cells even.wide);
-      }
+  IsEven-first Rows n g h even = grind (arith, common_steps, length-take-le, wide_if, nil_from_length, eqb-true, all-take)
   IsEven-first Columns n g h even = record {
     tall = length-map g.cells _ ∙ even.tall;
     wide = all-map (λ (row : List A). length row ≡ g.columns) (λ (row : List A). length row ≡ n) _ (λ row w. length-take-le n row (omega (arith, w, h))) g.cells even.wide;

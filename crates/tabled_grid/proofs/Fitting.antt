@@ -1,5 +1,5 @@
 -- What is left once the rectangles that do not fit have gone.
-use Rattle.tabled_grid.proofs.Common.{◌+◌, ◌||◌, ◌∙◌, ◌≡◌, ◌≤◌, ◌⊎◌, All-filter, All-from_recursion, AreAnchors, AreSpanSizes, Fits, IsSpanSize, List, None, Option, Position, Rectangle, Size, Some, SpanMap, and_from, and_parts, ap, cases_Bool, entries, false, fits_among, fitting, from_sorted, get, get-from_sorted, holds, inl, inr, keep_fitting, le-leb, leb-true, lies_inside, list_all, meets, not, not_from_false, or_cases, or_left, or_right, position_cmp, recursion_from_All, refl, same_map, same_place, subst, sym, true, ℕ}
+use Rattle.tabled_grid.proofs.Common.{◌+◌, ◌||◌, ◌∙◌, ◌≡◌, ◌≤◌, ◌⊎◌, All-filter, All-from_recursion, AreAnchors, AreSpanSizes, Fits, List, None, Option, Position, Rectangle, Size, Some, SpanMap, and_from, and_parts, ap, cases_Bool, entries, false, fits_among, fitting, from_sorted, get, get-from_sorted, holds, inl, inr, keep_fitting, le-leb, leb-true, lies_inside, list_all, meets, not, not_from_false, or_cases, or_left, or_right, position_cmp, recursion_from_All, refl, rules, same_map, same_place, subst, sym, true, ℕ}
 use Rattle.tabled_grid.proofs.FittingAnchors.{shared, sharing}
 pub use Rattle.tabled_grid.proofs.SortedAnchors.{anchors-of, from-entries}
 use Rattle.tabled_grid.proofs.PassedAnchors.{meets-true}
@@ -8,10 +8,7 @@ use Rattle.tabled_grid.proofs.Spans.{positions_exact, positions_total, span_size
 use Rattle.tabled_grid.proofs.Members.{Member, all-from, all-member, filter-from, filter-member, find-member, sorted-filter, sorted-find}
 
 pub anchors-fitting : (rows columns : ℕ) (es : List Rectangle) → AreAnchors es → AreAnchors (fitting rows columns es)
-anchors-fitting rows columns es valid = record {
-  sorted = sorted-filter position_cmp positions_total positions_exact (fits_among rows columns es) es valid.sorted;
-  sizes = recursion_from_All _ _ (All-filter (fits_among rows columns es) (λ (e : Rectangle). IsSpanSize e.1) es (All-from_recursion _ _ valid.sizes));
-}
+anchors-fitting rows columns es valid = search (rules, sorted-filter, positions_total, positions_exact, recursion_from_All, All-filter, All-from_recursion)
 
 -- those that are left fit
 pub fitting-fits : (rows columns : ℕ) (es : List Rectangle) → AreAnchors es → Fits (from_sorted (fitting rows columns es)) rows columns

@@ -1,5 +1,5 @@
 -- A sorted list of anchors lies well just where its map fits.
-use Rattle.tabled_grid.proofs.Common.{[], ◌+◌, ◌∙◌, ◌∷◌, ◌≡◌, ◌≤◌, ◌⊎◌, AllByRecursion, AreAnchors, Bool, Decides, Equal, Fits, Greater, IsSpanSize, Less, List, Ordering, Position, Rectangle, Size, Some, T, and_from, and_parts, ap, ap₂, arith, below_all, cases_Bool, cond, false, false_from_ne_true, find, from_sorted, get, get-from_sorted, holds, inl, inr, is_eq, is_lt, is_sorted, le-leb, leb-true, lie_well, lies_inside, list_all, max, meets, none-some, not, not_from_false, ordering_reverse, place, position_cmp, refl, same_Some, subst, sym, tied_itself, true, ℕ}
+use Rattle.tabled_grid.proofs.Common.{[], ◌+◌, ◌∙◌, ◌∷◌, ◌≡◌, ◌≤◌, AllByRecursion, AreAnchors, Bool, Decides, Equal, Fits, Greater, IsSpanSize, Less, List, Ordering, Position, Rectangle, Size, Some, T, and_from, and_parts, ap, ap₂, arith, below_all, cases_Bool, common_steps, cond, false, false_from_ne_true, find, from_sorted, get, get-from_sorted, holds, is_eq, is_lt, is_sorted, le-leb, leb-true, lie_well, lies_inside, list_all, max, meets, none-some, not, not_from_false, ordering_reverse, place, position_cmp, refl, same_Some, subst, sym, tied_itself, true, ℕ}
 use Rattle.tabled_grid.proofs.Spans.{positions_exact, positions_total, span_sizes}
 use Rattle.tabled_grid.proofs.Geometry.{In}
 use Rattle.tabled_grid.proofs.SpanMaps.{equal, found_above, halves, holds-from, holds-true, less}
@@ -12,11 +12,7 @@ data Found (e : Rectangle) (es : List Rectangle) (k : Position) (v : Size) : Typ
   later : find position_cmp k es ≡ Some v → Found e es k v
 
 found : (e : Rectangle) (es : List Rectangle) (k : Position) (v : Size) → find position_cmp k (e ∷ es) ≡ Some v → Found e es k v
-found e es k v is = either (cases_Bool (is_eq (position_cmp k e.0)))
-  where
-    either : (is_eq (position_cmp k e.0) ≡ true) ⊎ (is_eq (position_cmp k e.0) ≡ false) → Found e es k v
-    either (inl t) = first (positions_exact k e.0 (equal _ t)) (sym (same_Some _ _ (sym (ap (λ c. cond c (Some e.1) (find position_cmp k es)) t) ∙ is)))
-    either (inr f) = later (subst (λ b. cond b (Some e.1) (find position_cmp k es) ≡ Some v) f is)
+found e es k v is = grind (arith, common_steps, cases_Bool, positions_exact, equal, same_Some)
 
 never_both : (o : Ordering) → o ≡ Less → o ≡ Greater → ⊥
 never_both o a b = cc
@@ -52,10 +48,7 @@ well_inside rows columns (e ∷ es) a s well ha = by (found e es a s ha) (well_i
 
 -- two rectangles with a common cell meet
 pub sharing : (a b : Position) (s t : Size) (p : Position) → holds (a, s) p ≡ true → holds (b, t) p ≡ true → meets (a, s) (b, t) ≡ true
-sharing a b s t p ia ib =
-    let h = holds-true (a, s) p ia in
-    let k = holds-true (b, t) p ib in
-    meets-from (a, s) (b, t) (record { above = omega (arith, h.top, k.bottom); below = omega (arith, k.top, h.bottom); left = omega (arith, h.left, k.right); right = omega (arith, k.left, h.right) })
+sharing a b s t p ia ib = grind (arith, common_steps, holds-true, meets-from, above)
 
 pub fits_well : (rows columns : ℕ) (es : List Rectangle) → AreAnchors es → lie_well rows columns es ≡ true → Fits (from_sorted es) rows columns
 fits_well rows columns es valid well = record { sizes = span_sizes es valid; inside = inside; apart = λ a b s t p ha hb ia ib. apart a b s t p (finds a s ha) (finds b t hb) ia ib (position_cmp a b) refl }

@@ -1,5 +1,5 @@
 -- Rows cut out of one list of cells, and joined again.
-use Rattle.tabled_grid.proofs.Common.{[], ◌*◌, ◌++◌, ◌∙◌, ◌∷◌, ◌≡◌, AreWide, Grid, IsEven, IsFull, List, ap, arith, chunks, drop, drop_at, flat_grid, joined, length, length-append, length-drop, nil_from_length, refl, suc, sym, take, take-append-drop, take_at, zero, ℕ}
+use Rattle.tabled_grid.proofs.Common.{[], ◌*◌, ◌++◌, ◌∙◌, ◌∷◌, ◌≡◌, AreWide, Grid, IsEven, IsFull, List, ap, arith, chunks, common_steps, drop, drop_at, flat_grid, joined, length, length-append, length-drop, nil_from_length, refl, suc, sym, take, take-append-drop, take_at, zero, ℕ}
 
 module _ {A : Type 0} where
   pub joined-chunks : (r c : ℕ) (xs : List A) → length xs ≡ r * c → joined (chunks r c xs) ≡ xs
@@ -24,7 +24,4 @@ module _ {A : Type 0} where
   view_of g r c cells even e f is = rw (e, f, is, chunks-joined g.rows g.columns g.cells even.tall even.wide) refl
 
   pub full_of : (g : Grid A) (r c : ℕ) (cells : List A) → IsEven g → r ≡ g.rows → c ≡ g.columns → cells ≡ joined g.cells → (g.rows ≡ 0 → g.columns ≡ 0) → IsFull r c cells
-  full_of g r c cells even e f is rowless = record {
-    full = rw (e, f, is) (length-grid g even);
-    rowless = rw (e, f) rowless;
-  }
+  full_of g r c cells even e f is rowless = grind (arith, common_steps, length-grid)

@@ -1,5 +1,5 @@
 -- A cell of joined rows, by its row and its column.
-use Rattle.tabled_grid.proofs.Common.{[], ◌*◌, ◌++◌, ◌+◌, ◌-◌, ◌<◌, ◌∙◌, ◌∷◌, ◌≡◌, ◌≤◌, AreWide, Grid, IsEven, IsInside, List, Position, Some, ap, arith, cell_at, get_or, joined, length, mul-add-lt, refl, set, set-append_left, set-append_right, slice_get, suc, swap, swap_is, sym, with_cell, with_cells_swapped, zero, ℕ}
+use Rattle.tabled_grid.proofs.Common.{[], ◌*◌, ◌++◌, ◌+◌, ◌-◌, ◌<◌, ◌∙◌, ◌∷◌, ◌≡◌, ◌≤◌, AreWide, Grid, IsEven, IsInside, List, Position, Some, ap, arith, cell_at, common_steps, get_or, joined, length, mul-add-lt, refl, set, set-append_left, set-append_right, slice_get, suc, swap, swap_is, sym, with_cell, with_cells_swapped, zero, ℕ}
 use Rattle.tabled_grid.proofs.Grids.{IsEven-with_cell}
 use Rattle.tabled_grid.proofs.Swaps.{at}
 use Rattle.tabled_grid.proofs.Flat.{length-grid}
@@ -17,17 +17,13 @@ module _ {A : Type 0} where
 
   pub slice_get-joined : (c : ℕ) (rows : List (List A)) (i j n : ℕ) → AreWide c rows → i < length rows → j < c → n ≡ i * c + j → slice_get (joined rows) n ≡ slice_get (get_or rows i []) j
   slice_get-joined c [] i j n w h k e = absurd (omega (arith, h))
-  slice_get-joined c (row ∷ rows) zero j n w h k e =
-      let same : n ≡ j = omega (arith, e) in
-      rw same (slice_get-left row (joined rows) j (omega (arith, k, w.0)))
+  slice_get-joined c (row ∷ rows) zero j n w h k e = grind (arith, common_steps, slice_get-left)
   slice_get-joined c (row ∷ rows) (suc i) j n w h k e =
       slice_get-right row (joined rows) (i * c + j) n (omega (arith, e, w.0)) ∙ slice_get-joined c rows i j (i * c + j) w.1 (omega (arith, h)) k refl
 
   pub set-joined : (c : ℕ) (rows : List (List A)) (i j n : ℕ) (x : A) → AreWide c rows → i < length rows → j < c → n ≡ i * c + j → set (joined rows) n x ≡ joined (set rows i (set (get_or rows i []) j x))
   set-joined c [] i j n x w h k e = absurd (omega (arith, h))
-  set-joined c (row ∷ rows) zero j n x w h k e =
-      let same : n ≡ j = omega (arith, e) in
-      rw same (set-append_left row (joined rows) j x (omega (arith, k, w.0)))
+  set-joined c (row ∷ rows) zero j n x w h k e = grind (arith, common_steps, set-append_left)
   set-joined c (row ∷ rows) (suc i) j n x w h k e =
       let later : c ≤ n = omega (arith, e) in
       let rest : n - c ≡ i * c + j = omega (arith, e) in

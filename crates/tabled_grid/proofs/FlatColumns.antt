@@ -1,5 +1,5 @@
 -- Columns of joined rows swapped and removed, one row after another.
-use Rattle.tabled_grid.proofs.Common.{[], ◌*◌, ◌++◌, ◌+◌, ◌-◌, ◌<◌, ◌∙◌, ◌∷◌, ◌≡◌, ◌≤◌, All-from_recursion, AreWide, List, Slid, add-mul, all-append, all-drop, all-map, all-set, all-take, ap, append-nil, append_assoc, ap₂, arith, chunks, drop, drop-drop, drop_all, drop_more, get_or, get_or-set_same, get_or_from_slice_get, joined, length, length-append, length-drop, length-map, length-set, length-swap, length-take-le, length_permutation, map, map_more, map_over_more, mul-add-lt, refl, set, set-set, suc, swap, swap_is, sym, take, take-append-drop, take_all, take_at, zero, ℕ}
+use Rattle.tabled_grid.proofs.Common.{[], ◌*◌, ◌++◌, ◌+◌, ◌-◌, ◌<◌, ◌∙◌, ◌∷◌, ◌≡◌, ◌≤◌, All-from_recursion, AreWide, List, Slid, add-mul, all-append, all-drop, all-map, all-set, all-take, ap, append-nil, append_assoc, ap₂, arith, chunks, common_steps, drop, drop-drop, drop_all, drop_more, get_or, get_or-set_same, get_or_from_slice_get, joined, length, length-append, length-drop, length-map, length-set, length-swap, length-take-le, length_permutation, map, map_more, map_over_more, mul-add-lt, refl, set, set-set, suc, swap, swap_is, sym, take, take-append-drop, take_all, take_at, zero, ℕ}
 use Rattle.tabled_grid.proofs.Swaps.{at}
 use Rattle.tabled_grid.proofs.Flat.{joined-chunks, length-joined}
 use Rattle.tabled_grid.proofs.FlatCells.{set-joined, slice_get-joined}
@@ -116,9 +116,7 @@ module _ {A : Type 0} where
         }
 
     pub closed_all : (i : ℕ) (rows : List (List A)) (cells : List A) (m : ℕ) → AreWide c rows → j + n ≤ c → length rows ≡ i → ClosedUp rows i cells → m ≡ i * (c - n) → take m cells ≡ joined (map shorter rows)
-    closed_all i rows cells m w within h closed e =
-        ap (take m) closed.is ∙ take_at _ (closed.gap ++ joined (drop i rows)) m (length-shorter rows i w within (omega (arith, h)) ∙ sym e)
-        ∙ ap (λ zs. joined (map shorter zs)) (take_all i rows (omega (arith, h)))
+    closed_all i rows cells m w within h closed e = grind (arith, common_steps, take_at, length-shorter, take_all)
 
     -- where these are the last ones, the first ones stay
     pub shorter-last : (rows : List (List A)) → AreWide c rows → c ≡ j + n → map shorter rows ≡ map (λ (row : List A). take j row) rows

@@ -1,5 +1,5 @@
 -- Rows in one list of cells, cut into pieces that fill them.
-use Rattle.tabled_grid.proofs.Common.{◌*◌, ◌+◌, ◌/◌, ◌<◌, ◌∙◌, ◌≡◌, ◌≤◌, FillsThrough, IsFull, List, Rows, Zip, ap, arith, cell_at, cut_places, div-add-mod', div-le_self, div_below, div_ceil, flat_grid, is_even, length, min, mod_below, mul-le-mul_right, place, refl, row_fits, slice_get, sym, ℕ}
+use Rattle.tabled_grid.proofs.Common.{◌*◌, ◌+◌, ◌/◌, ◌<◌, ◌∙◌, ◌≡◌, ◌≤◌, FillsThrough, IsFull, List, Rows, Zip, ap, arith, cell_at, common_steps, cut_places, div-add-mod', div-le_self, div_below, div_ceil, flat_grid, is_even, length, mod_below, mul-le-mul_right, place, refl, row_fits, slice_get, sym, ℕ}
 use Rattle.std.proofs.Common.{◌%◌}
 use Rattle.tabled_grid.proofs.FlatCells.{cell-joined}
 use Rattle.tabled_grid.proofs.FlatStore.{cells_are}
@@ -14,10 +14,7 @@ module _ {A : Type 0} (r c n : ℕ) (xs : List A) (h : IsFull r c xs) (some : 0 
   fills = omega (arith, div-add-mod' c n, whole)
 
   count : div_ceil c n ≡ c / n
-  count = ap (λ (m : ℕ). c / n + min 1 m) whole ∙ last
-    where
-      last : c / n + min 1 0 ≡ c / n
-      last = omega arith
+  count = grind (arith, common_steps)
 
   any : 0 < c / n
   any = some_pieces (c / n) n c (omega (arith, narrow)) (omega (arith, fills))

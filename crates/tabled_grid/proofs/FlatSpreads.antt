@@ -1,5 +1,5 @@
 -- Columns of blanks inserted into joined rows, one row after another from the last.
-use Rattle.tabled_grid.proofs.Common.{[], ◌*◌, ◌++◌, ◌+◌, ◌-◌, ◌<◌, ◌∙◌, ◌∷◌, ◌≡◌, ◌≤◌, AllByRecursion, AllZip, AreBlanks, AreWide, InsertsBlanks, List, PutsBlanks, SlidBack, add-mul, all-drop, all-take, ap, append-nil, append_assoc, ap₂, arith, chunks, drop, drop_all, drop_more, get_or, joined, length, length-append, length-chunks, length-drop, length-take-le, length_permutation, nil_from_length, refl, sym, take, take-append-drop, take_all, take_more, ℕ}
+use Rattle.tabled_grid.proofs.Common.{[], ◌*◌, ◌++◌, ◌+◌, ◌-◌, ◌<◌, ◌∙◌, ◌∷◌, ◌≡◌, ◌≤◌, AllByRecursion, AllZip, AreBlanks, AreWide, InsertsBlanks, List, PutsBlanks, SlidBack, add-mul, all-drop, all-take, ap, append-nil, append_assoc, ap₂, arith, chunks, common_steps, drop, drop_all, drop_more, get_or, joined, length, length-append, length-chunks, length-drop, length-take-le, length_permutation, nil_from_length, refl, sym, take, take-append-drop, take_all, take_more, ℕ}
 use Rattle.tabled_grid.proofs.Flat.{joined-chunks, length-joined}
 use Rattle.tabled_grid.proofs.FlatColumns.{joined-push, row_long}
 use Rattle.tabled_grid.proofs.FlatSlides.{all-moved}
@@ -68,11 +68,4 @@ module _ {A : Type 0} (is_blank : A → Type 0) (c j many : ℕ) where
       }
 
   pub spread_all : (rows : List (List A)) (m : ℕ) (cells : List A) → m ≡ 0 → Spread rows m cells → PutsBlanks is_blank rows cells j many
-  spread_all rows m cells e s =
-      let empty : s.gap ≡ [] = nil_from_length s.gap (s.room ∙ ap (λ (n : ℕ). n * many) e ∙ omega arith) in
-      let all : drop m rows ≡ rows = ap (λ n. drop n rows) e in
-      record {
-        wide = s.wide;
-        each = rw all at s.each;
-        is = s.is ∙ ap₂ (λ n us. joined (take n rows) ++ (us ++ joined s.wide)) e empty;
-      }
+  spread_all rows m cells e s = grind (arith, common_steps, nil_from_length)

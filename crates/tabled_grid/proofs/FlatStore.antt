@@ -1,5 +1,5 @@
 -- What one list of cells shows of its grid, cell by cell.
-use Rattle.tabled_grid.proofs.Common.{[], ◌*◌, ◌++◌, ◌+◌, ◌-◌, ◌<◌, ◌∙◌, ◌∷◌, ◌≡◌, ◌≢◌, ◌≤◌, ◌⊎◌, AddsBlanks, AddsColumns, AddsRows, AreBlanks, Columns, InsertsBlank, InsertsBlanks, InsertsColumn, InsertsRow, IsEven, IsFull, IsInside, List, Position, PutsBlanks, Rows, Some, all-zip-map, ap, append-nil, ap₂, arith, cases_lt, cell_at, chunks, drop, drop_all, drop_at, eqb, false, first_along, flat_grid, inl, inr, is_even, joined, length, length-chunks, map, max, min, mul-add-lt, ne_eqb, refl, set, slice_get, slice_get-get_or, suc, swap, sym, take, take_all, take_at, with_cell, with_cells_swapped, with_column, with_columns_swapped, with_row, with_rows_swapped, with_runs_swapped, without_column, without_row, ℕ}
+use Rattle.tabled_grid.proofs.Common.{[], ◌*◌, ◌++◌, ◌+◌, ◌-◌, ◌<◌, ◌∙◌, ◌∷◌, ◌≡◌, ◌≢◌, ◌≤◌, AddsBlanks, AddsColumns, AddsRows, AreBlanks, Columns, InsertsBlank, InsertsBlanks, InsertsColumn, InsertsRow, IsEven, IsFull, IsInside, List, Position, PutsBlanks, Rows, Some, all-zip-map, ap, append-nil, ap₂, arith, cases_lt, cell_at, chunks, common_steps, drop, drop_all, drop_at, eqb, false, first_along, flat_grid, is_even, joined, length, length-chunks, map, max, min, mul-add-lt, ne_eqb, refl, rules, set, slice_get, slice_get-get_or, suc, swap, sym, take, take_all, take_at, with_cell, with_cells_swapped, with_column, with_columns_swapped, with_row, with_rows_swapped, with_runs_swapped, without_column, without_row, ℕ}
 use Rattle.tabled_grid.proofs.Blanks.{blank_column}
 use Rattle.tabled_grid.proofs.FirstLines.{IsEven-first}
 use Rattle.tabled_grid.proofs.Grids.{IsEven-with_cell}
@@ -23,11 +23,7 @@ module _ {A : Type 0} (is_blank : A → Type 0) where
       only (x ∷ (y ∷ xs)) b e = absurd (omega (arith, b.many))
 
   last_blanks : (c many : ℕ) (old new : List A) → length old ≡ c → InsertsBlanks is_blank old new c many → AddsBlanks is_blank old new many
-  last_blanks c many old new long put = record {
-    cells = put.cells;
-    blanks = put.blanks;
-    is = put.is ∙ ap₂ (λ us vs. us ++ (put.cells ++ vs)) (take_all c old (omega (arith, long))) (drop_all c old (omega (arith, long))) ∙ ap (λ us. old ++ us) (append-nil put.cells);
-  }
+  last_blanks c many old new long put = grind (arith, common_steps, take_all, drop_all, append-nil)
 
 module _ {A : Type 0} (r c : ℕ) (xs : List A) (h : IsFull r c xs) where
   pub cells_are : xs ≡ joined (flat_grid r c xs).cells
@@ -86,19 +82,7 @@ module _ {A : Type 0} (r c : ℕ) (xs : List A) (h : IsFull r c xs) where
       (is ∙ ap (λ ys. with_runs_swapped ys (i * c) (k * c) c) cells_are ∙ joined-swap c (flat_grid r c xs).cells i k (is_even r c xs h).wide before (omega (arith, row_count, within)))
 
   pub rows_swapped : (i k first second : ℕ) (new : List A) → i < r → k < r → i ≢ k → first ≡ min i k → second ≡ max i k → new ≡ with_runs_swapped xs (first * c) (second * c) c → flat_grid r c new ≡ with_rows_swapped (flat_grid r c xs) i k
-  rows_swapped i k first second new i_in k_in apart e f is = either (cases_lt i k)
-    where
-      either : (i < k) ⊎ (k ≤ i) → flat_grid r c new ≡ with_rows_swapped (flat_grid r c xs) i k
-      either (inl before) =
-          let low : first ≡ i = omega (arith, e, before) in
-          let high : second ≡ k = omega (arith, f, before) in
-          rows_in_order i k new before k_in (is ∙ ap₂ (λ m n. with_runs_swapped xs (m * c) (n * c) c) low high)
-      either (inr after) =
-          let low : first ≡ k = omega (arith, e, after) in
-          let high : second ≡ i = omega (arith, f, after) in
-          let before : k < i = omega (arith, after, apart) in
-          rows_in_order k i new before i_in (is ∙ ap₂ (λ m n. with_runs_swapped xs (m * c) (n * c) c) low high)
-          ∙ rw (swap-turned (flat_grid r c xs).cells i k apart) refl
+  rows_swapped i k first second new i_in k_in apart e f is = search (rules, cases_lt, rows_in_order, swap-turned)
 
   pub rows_cut : (n : ℕ) (new : List A) → n ≤ r → n ≢ 0 → new ≡ take (n * c) xs → flat_grid n c new ≡ first_along Rows n (flat_grid r c xs)
   rows_cut n new within some is =

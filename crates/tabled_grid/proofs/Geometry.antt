@@ -1,5 +1,5 @@
 -- Rectangles given by a size at each place, and what holds in the middle of a span option.
-use Rattle.tabled_grid.proofs.Common.{◌+◌, ◌<◌, ◌∙◌, ◌≡◌, ◌≢◌, ◌≤◌, ◌⊎◌, Position, Rectangle, Size, ap, ap₂, arith, cases_eq, cases_lt, inl, inr, place, sized, subst, sym, ℕ}
+use Rattle.tabled_grid.proofs.Common.{◌+◌, ◌<◌, ◌∙◌, ◌≡◌, ◌≢◌, ◌≤◌, ◌⊎◌, Position, Rectangle, Size, ap, arith, cases_eq, cases_lt, common_steps, inl, inr, place, sized, subst, sym, ℕ}
 pub use Rattle.tabled_grid.specs.Midway.{Flat, Hooked, In, Narrow, Sizes, LieWithin}
 
 -- no rectangle is empty
@@ -17,12 +17,7 @@ pub record Widened (s t : Sizes) (p : Position) (w : ℕ) : Type 0 where
   pub others : (q : Position) → q ≢ p → t q ≡ s q
 
 pub cases_place : (a b : Position) → (a ≡ b) ⊎ (a ≢ b)
-cases_place a b = by_row (cases_eq a.row b.row) (cases_eq a.col b.col)
-  where
-    by_row : (a.row ≡ b.row) ⊎ (a.row ≡ b.row → ⊥) → (a.col ≡ b.col) ⊎ (a.col ≡ b.col → ⊥) → (a ≡ b) ⊎ (a ≢ b)
-    by_row (inl e) (inl f) = inl (ap₂ place e f)
-    by_row (inr n) c = inr (λ e. n (ap (λ (x : Position). x.row) e))
-    by_row (inl e) (inr n) = inr (λ e. n (ap (λ (x : Position). x.col) e))
+cases_place a b = grind (arith, common_steps, cases_eq)
 
 module _ (s : Sizes) (p : Position) (w : ℕ) (full : Full s) (hooked : Hooked s) (visible : (k : ℕ) → p.col ≤ k → k < p.col + w → Visible s (place p.row k)) where
   -- another rectangle that meets the widened one begins in it: not above it
@@ -120,34 +115,14 @@ visible_flipped s p visible a h = ap flip (visible (flip a) (In-flip _ (flip p) 
 
 -- where all heights are 1, rectangles are hooked
 pub hooked_flat : (s : Sizes) → Full s → Flat s → Hooked s
-hooked_flat s full flat = record { hook = λ a b p ha hb. by_col a b p ha hb (cases_lt b.col a.col) }
-  where
-    by_col : (a b p : Position) → In (a, s a) p → In (b, s b) p → (b.col < a.col) ⊎ (a.col ≤ b.col) → In (a, s a) b ⊎ In (b, s b) a
-    by_col a b p ha hb (inl left) = inr (record { top = omega (arith, ha.top, ha.bottom, hb.top, hb.bottom, flat.height a, flat.height b); bottom = omega (arith, ha.top, ha.bottom, hb.top, hb.bottom, flat.height a, flat.height b); left = omega arith; right = omega (arith, ha.left, hb.right) })
-    by_col a b p ha hb (inr right) = inl (record { top = omega (arith, ha.top, ha.bottom, hb.top, hb.bottom, flat.height a, flat.height b); bottom = omega (arith, ha.top, ha.bottom, hb.top, hb.bottom, flat.height a, flat.height b); left = omega arith; right = omega (arith, hb.left, ha.right) })
+hooked_flat s full flat = grind (arith, common_steps, cases_lt)
 
 -- a width that fits keeps rectangles inside
 pub within_widened : (s t : Sizes) (p : Position) (w rows columns : ℕ) → Widened s t p w → 1 ≤ w → p.row < rows → p.col + w ≤ columns → LieWithin s rows columns → LieWithin t rows columns
-within_widened s t p w rows columns is positive inside fits within = record { tall = λ a. tall a (cases_place a p); wide = λ a. wide a (cases_place a p) }
-  where
-    height : (1 < (s p).height) ⊎ ((s p).height ≤ 1) → p.row + (s p).height ≤ rows
-    height (inl more) = within.tall p (inl more)
-    height (inr one) = omega arith
-
-    tall : (a : Position) → (a ≡ p) ⊎ (a ≢ p) → (1 < (t a).height) ⊎ (1 < (t a).width) → a.row + (t a).height ≤ rows
-    tall a (inl e) h = subst (λ (x : Position). x.row + (t x).height ≤ rows) (sym e) (rw is.here (height (cases_lt 1 (s p).height)))
-    tall a (inr n) h = rw (is.others a n) (within.tall a (rw (is.others a n) at h))
-
-    wide : (a : Position) → (a ≡ p) ⊎ (a ≢ p) → (1 < (t a).height) ⊎ (1 < (t a).width) → a.col + (t a).width ≤ columns
-    wide a (inl e) h = subst (λ (x : Position). x.col + (t x).width ≤ columns) (sym e) (rw is.here fits)
-    wide a (inr n) h = rw (is.others a n) (within.wide a (rw (is.others a n) at h))
+within_widened s t p w rows columns is positive inside fits within = grind (arith, common_steps, cases_place, cases_lt)
 
 pub flat_widened : (s t : Sizes) (p : Position) (w : ℕ) → Widened s t p w → Flat s → Flat t
-flat_widened s t p w is flat = record { height = λ a. height a (cases_place a p) }
-  where
-    height : (a : Position) → (a ≡ p) ⊎ (a ≢ p) → (t a).height ≡ 1
-    height a (inl e) = subst (λ (x : Position). (t x).height ≡ 1) (sym e) (rw is.here (flat.height p))
-    height a (inr n) = rw (is.others a n) (flat.height a)
+flat_widened s t p w is flat = grind (arith, common_steps, cases_place)
 
 pub narrow_flipped : (s : Sizes) → Narrow s → Flat (flipped s)
 narrow_flipped s narrow = record { height = λ a. narrow.width (flip a) }

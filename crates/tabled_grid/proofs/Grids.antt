@@ -1,14 +1,9 @@
 -- Grids with another cell at a place, and the grids of texts.
-use Rattle.tabled_grid.proofs.Common.{[], ◌<◌, ◌∙◌, ◌∷◌, ◌≡◌, ◌≢◌, ◌⊎◌, All-from_recursion, AllByRecursion, Grid, IsEven, IsInside, List, Position, Some, WritesText, ap, ap₂, arith, cases_eq, cell_at, get_or, get_or-map, get_or-set_other, get_or-set_same, inl, inr, length, length-map, length-set, map, map-set, map_grid, option_map, place, refl, set, slice_get, slice_get-get_or, slice_get-map, suc, sym, with_cell, zero, ℕ}
+use Rattle.tabled_grid.proofs.Common.{[], ◌<◌, ◌∙◌, ◌∷◌, ◌≡◌, ◌≢◌, All-from_recursion, AllByRecursion, Grid, IsEven, IsInside, List, Position, Some, WritesText, ap, arith, cases_eq, cell_at, common_steps, get_or, get_or-map, get_or-set_other, get_or-set_same, length, length-map, length-set, map, map-set, map_grid, option_map, place, refl, set, slice_get, slice_get-get_or, slice_get-map, suc, with_cell, zero, ℕ}
 
 -- what f gives of a grid with another cell
 pub map_grid-with_cell : {A B : Type 0} (f : A → B) (g : Grid A) (p : Position) (x : A) → map_grid f (with_cell g p x) ≡ with_cell (map_grid f g) p (f x)
-map_grid-with_cell {A} {B} f g p x =
-    let row : List A = get_or g.cells p.row [] in
-    let cells : map (map f) (set g.cells p.row (set row p.col x)) ≡ set (map (map f) g.cells) p.row (set (get_or (map (map f) g.cells) p.row []) p.col (f x)) =
-    map-set (map f) g.cells p.row (set row p.col x)
-    ∙ ap (set (map (map f) g.cells) p.row) (map-set f row p.col x ∙ ap (λ ys. set ys p.col (f x)) (sym (get_or-map (map f) g.cells p.row []))) in
-    ap (λ (ys : List (List B)). let h : Grid B = record { rows = g.rows; columns = g.columns; cells = ys } in h) cells
+map_grid-with_cell {A} {B} f g p x = grind (arith, common_steps, map-set, get_or-map)
 
 -- a list of rows that are all as long, with another cell
 wide-set : {A : Type 0} (n : ℕ) (rows : List (List A)) (i j : ℕ) (x : A) → AllByRecursion (λ (row : List A). length row ≡ n) rows → AllByRecursion (λ (row : List A). length row ≡ n) (set rows i (set (get_or rows i []) j x))
@@ -17,10 +12,7 @@ wide-set n (row ∷ rows) zero j x a = (length-set row j x ∙ a.0, a.1)
 wide-set n (row ∷ rows) (suc i) j x a = (a.0, wide-set n rows i j x a.1)
 
 pub IsEven-with_cell : {A : Type 0} (g : Grid A) (p : Position) (x : A) → IsEven g → IsEven (with_cell g p x)
-IsEven-with_cell g p x h = record {
-  tall = length-set g.cells p.row _ ∙ h.tall;
-  wide = wide-set g.columns g.cells p.row p.col x h.wide;
-}
+IsEven-with_cell g p x h = grind (arith, common_steps, length-set, wide-set)
 
 wide-map : {A B : Type 0} (f : A → B) (n : ℕ) (rows : List (List A)) → AllByRecursion (λ (row : List A). length row ≡ n) rows → AllByRecursion (λ (row : List B). length row ≡ n) (map (map f) rows)
 wide-map f n [] a = tt
@@ -53,20 +45,10 @@ row-set_same (row ∷ rows) (suc i) j k x h = row-set_same rows i j k x h
 
 -- the cell that was put at a place, and the cells at the others
 pub cell_at-with_cell_same : {A : Type 0} (g : Grid A) (p : Position) (x : A) → IsEven g → IsInside g p → cell_at (with_cell g p x) p ≡ Some x
-cell_at-with_cell_same g p x h i =
-    let below : p.row < length g.cells = omega (arith, h.tall, i.row) in
-    let wide : length (get_or g.cells p.row []) ≡ g.columns = All-from_recursion _ _ h.wide p.row [] below in
-    ap (λ row. slice_get row p.col) (get_or-set_same g.cells p.row (set (get_or g.cells p.row []) p.col x) [] below)
-    ∙ slice_get-set_same (get_or g.cells p.row []) p.col x (omega (arith, wide, i.col))
+cell_at-with_cell_same g p x h i = grind (arith, common_steps, All-from_recursion, get_or-set_same, slice_get-set_same)
 
 pub cell_at-with_cell_other : {A : Type 0} (g : Grid A) (p q : Position) (x : A) → q ≢ p → cell_at (with_cell g p x) q ≡ cell_at g q
-cell_at-with_cell_other g p q x h = other (cases_eq q.row p.row)
-  where
-    other : (q.row ≡ p.row) ⊎ (q.row ≢ p.row) → cell_at (with_cell g p x) q ≡ cell_at g q
-    other (inl e) =
-        let ne : q.col ≢ p.col = λ k. h (ap₂ place e k) in
-        rw e (row-set_same g.cells p.row p.col q.col x ne)
-    other (inr ne) = ap (λ row. slice_get row q.col) (get_or-set_other g.cells p.row q.row (set (get_or g.cells p.row []) p.col x) [] ne)
+cell_at-with_cell_other g p q x h = grind (arith, common_steps, cases_eq, row-set_same, get_or-set_other)
 
 -- a text is written where a cell with that text is
 pub texts_written : {A : Type 0} (text_of : A → List ℕ) (old new : Grid A) (p : Position) (text : List ℕ) → WritesText text_of old new p text → map_grid text_of new ≡ with_cell (map_grid text_of old) p text

@@ -1,10 +1,10 @@
 -- How many anchors hide a place, and how that follows the map.
-use Rattle.tabled_grid.proofs.Common.{[], ◌*◌, ◌+◌, ◌<◌, ◌^◌, ◌||◌, ◌∙◌, ◌∷◌, ◌≡◌, ◌≢◌, ◌≤◌, ◌⊎◌, AllByRecursion, Bool, Equal, IsNumbered, Less, List, None, Option, Position, Rectangle, Size, Some, SpanMap, Stepped, Steps, T, ap, ap₂, arith, below_all, beyond, cases_Bool, cases_lt, cond, count_by, entries, entries-from_sorted, entries_sorted, eq_by_cmp, false, false_from_ne_true, find, find-where_key, from_sorted, get, get-entries, get-from_sorted, get_or, hiders_in, hiders_of, hides, inl, inr, is_eq, is_hidden, is_sorted, is_sorted-where_key, length, list_any, lt-ltb, mul-le-mul_right, nat_lt, not, place, position_cmp, refl, replicate, same_map, size_at, sized, subst, sym, table, take, tied_itself, true, unwrap_or, where_key, with_size, ℕ}
+use Rattle.tabled_grid.proofs.Common.{[], ◌*◌, ◌+◌, ◌<◌, ◌^◌, ◌||◌, ◌∙◌, ◌∷◌, ◌≡◌, ◌≢◌, ◌≤◌, ◌⊎◌, AllByRecursion, Bool, IsNumbered, List, None, Option, Position, Rectangle, Size, Some, SpanMap, Stepped, Steps, T, ap, ap₂, arith, below_all, beyond, cases_Bool, cases_lt, common_steps, cond, count_by, entries, entries-from_sorted, entries_sorted, eq_by_cmp, false, false_from_ne_true, find, find-where_key, from_sorted, get, get-entries, get-from_sorted, get_or, hiders_in, hiders_of, hides, inl, inr, is_hidden, is_sorted, is_sorted-where_key, length, list_any, lt-ltb, mul-le-mul_right, nat_lt, not, place, position_cmp, refl, replicate, rules, same_map, size_at, sized, subst, sym, table, take, tied_itself, true, unwrap_or, where_key, with_size, ℕ}
 use Rattle.std.proofs.lemmas.List.Sums.{count_by_more_no, count_by_more_yes, sum_by-cons, sum_by-take-le}
 use Rattle.tabled_grid.proofs.PassedAnchors.{Earlier, earlier}
 use Rattle.tabled_grid.proofs.Spans.{positions_exact, positions_total}
 use Rattle.tabled_grid.proofs.SpanMaps.{equal, found_above, halves, less, size_at-with_size, with_size-other}
-use Rattle.tabled_grid.proofs.Stepping.{Hides, hides-true}
+use Rattle.tabled_grid.proofs.Stepping.{hides-true}
 use Rattle.tabled_grid.proofs.Tables.{table-zero}
 
 module _ {X : Type 0} (test : X → Bool) where
@@ -31,24 +31,12 @@ abbrev code : ℕ → Position → ℕ
 code columns p = p.row * columns + p.col
 
 code-less : (columns : ℕ) (p q : Position) → Earlier p q → p.col < columns → code columns p < code columns q
-code-less columns p q (inl above) h =
-    let rows : (p.row + 1) * columns ≤ q.row * columns = mul-le-mul_right columns (omega arith) in
-    omega (arith, rows)
-code-less columns p q (inr beside) h =
-    let row : p.row * columns ≡ q.row * columns = ap (λ n. n * columns) beside.0 in
-    omega (arith, row, beside.1)
+code-less columns p q (inl above) h = search (rules, mul-le-mul_right)
+code-less columns p q (inr beside) h = grind (arith, common_steps)
 
 -- what hides a place comes before it
 hider-before : (columns : ℕ) (p : Position) (e : Rectangle) → p.col < columns → hides p e ≡ true → (e.0.col < columns) × (code columns e.0 < code columns p)
-hider-before columns p e h t = by (hides-true e p t)
-  where
-    earlier_than : Hides e p → (e.0.row < p.row) ⊎ (p.row ≤ e.0.row) → (e.0.col < p.col) ⊎ (p.col ≤ e.0.col) → Earlier e.0 p
-    earlier_than at (inl l) c = inl l
-    earlier_than at (inr l) (inl k) = inr (omega (arith, at.holds.top), k)
-    earlier_than at (inr l) (inr k) = absurd (at.other (ap₂ place (omega (arith, at.holds.top)) (omega (arith, at.holds.left))))
-
-    by : Hides e p → (e.0.col < columns) × (code columns e.0 < code columns p)
-    by at = let inside : e.0.col < columns = omega (arith, at.holds.left) in (inside, code-less columns e.0 p (earlier_than at (cases_lt e.0.row p.row) (cases_lt e.0.col p.col)) inside)
+hider-before columns p e h t = grind (arith, common_steps, hides-true, code-less, cases_lt)
 
 -- those that hide a place, if they begin from place k on, are at most the places from there up to it
 few : (columns k : ℕ) (p : Position) (es : List Rectangle) → T (is_sorted position_cmp es) → p.col < columns → k ≤ code columns p → AllByRecursion (λ (e : Rectangle). hides p e ≡ true → k ≤ code columns e.0) es → hiders_in es p + k ≤ code columns p
@@ -91,25 +79,11 @@ rest-same m n a same = sym (entries-from_sorted position_cmp (rest n a) (up n)) 
     found k q = get-from_sorted position_cmp (rest k a) q (up k) ∙ find-where_key position_cmp (λ x. not (eq_by_cmp position_cmp a x)) q (λ x t. ap (λ y. not (eq_by_cmp position_cmp a y)) (sym (positions_exact q x t))) (entries k) ∙ ap (λ v. cond (not (eq_by_cmp position_cmp a q)) v None) (sym (get-entries k q))
 
     each : (q : Position) → get (from_sorted {R = position_cmp} (rest n a)) q ≡ get (from_sorted {R = position_cmp} (rest m a)) q
-    each q = found n q ∙ by (cases_Bool (eq_by_cmp position_cmp a q)) ∙ sym (found m q)
-      where
-        by : (eq_by_cmp position_cmp a q ≡ true) ⊎ (eq_by_cmp position_cmp a q ≡ false) → cond (not (eq_by_cmp position_cmp a q)) (get n q) None ≡ cond (not (eq_by_cmp position_cmp a q)) (get m q) None
-        by (inl t) = rw t refl
-        by (inr f) = ap (λ v. cond (not (eq_by_cmp position_cmp a q)) v None) (same q (λ e. absurd (both (sym f ∙ ap (λ x. eq_by_cmp position_cmp a x) e ∙ ap is_eq (tied_itself positions_total a)))))
-          where
-            both : false ≡ true → ⊥
-            both e = cc
+    each q = grind (arith, common_steps, found, cases_Bool, tied_itself, positions_total)
 
 -- nothing is found at a place below all
 none_below : (a : Position) (es : List Rectangle) → T (below_all position_cmp a es) → find position_cmp a es ≡ None
-none_below a es below = by (find position_cmp a es) refl
-  where
-    by : (s : Option Size) → find position_cmp a es ≡ s → s ≡ None
-    by None e = refl
-    by (Some v) e = absurd (never (sym (tied_itself positions_total a) ∙ found_above position_cmp positions_total positions_exact a a es v below e))
-      where
-        never : Equal ≡ Less → ⊥
-        never e = cc
+none_below a es below = grind (arith, common_steps, tied_itself, positions_total, found_above, positions_exact)
 
 -- a place of one cell is none that an entry may have for nothing
 counts-apart : (test : Rectangle → Bool) (a : Position) (es : List Rectangle) → test (a, sized 1 1) ≡ false → T (is_sorted position_cmp es) → count_by test es ≡ count_by test (where_key position_cmp (λ q. not (eq_by_cmp position_cmp a q)) es) + cond (test (a, unwrap_or (find position_cmp a es) (sized 1 1))) 1 0
@@ -180,10 +154,7 @@ module _ (m : SpanMap) (a : Position) (old new : Size) (first : Position) (rows 
       was i j = hiders-apart m a (at i j) ∙ ap (λ size. hiders_in (rest m a) (at i j) + cond (hides (at i j) (a, size)) 1 0) has
 
   given : Stepped (λ p. hides (beyond first p) (a, new)) 1 rows columns (λ p. hiders_in (rest m a) (beyond first p)) (λ p. hiders_of (with_size m a new) (beyond first p))
-  given = record {
-    here = λ i j h k t. omega (arith, hiders-with m a (at i j) new, one-if (hides (at i j) (a, new)) t, few_of (with_size m a new) i j h k);
-    others = λ i j h k t. omega (arith, hiders-with m a (at i j) new, none-if (hides (at i j) (a, new)) t);
-  }
+  given = search (rules, hiders-with, one-if, few_of, none-if)
 
   -- a rectangle is taken away, and another given
   pub hiders-replaced : (xs ys zs : List ℕ) → Steps xs ys (λ p. hides (beyond first p) (a, old)) 18446744073709551615 rows columns → Steps ys zs (λ p. hides (beyond first p) (a, new)) 1 rows columns → xs ≡ table (λ p. hiders_of m (beyond first p)) rows columns → zs ≡ table (λ p. hiders_of (with_size m a new) (beyond first p)) rows columns

@@ -1,5 +1,7 @@
 -- Lists whose members all have a property, and lists edited before or after a map.
-use Rattle.std.proofs.Common.{◌≡◌, ℕ, zero, suc, List, [], ◌∷◌, ◌++◌, refl, sym, ap, ap₂, ◌∙◌, map, take, drop, get_or, set}
+use Rattle.std.proofs.lemmas.Grind.{common_steps}
+use Rattle.std.proofs.Common.{arith}
+use Rattle.std.proofs.Common.{◌≡◌, ℕ, zero, suc, List, [], ◌∷◌, ◌++◌, refl, sym, ap₂, ◌∙◌, map, take, drop, get_or, set}
 use Rattle.std.proofs.lemmas.List.{map-append, map-set, take-map, drop-map}
 use Rattle.std.proofs.Math.ListN.{get_or-map}
 use Rattle.std.specs.List.{AllByRecursion, AllZip, insert, remove, swap, zip}
@@ -58,10 +60,7 @@ all-zip-map P R S f (x ∷ xs) (y ∷ ys) a h = (f x y a.0 h.0, all-zip-map P R 
 module _ {A B : Type 0} (f : A → B) where
   pub map-swap : (xs : List A) (i j : ℕ) → map f (swap xs i j) ≡ swap (map f xs) i j
   map-swap [] i j = refl
-  map-swap (x ∷ xs) i j =
-      let all : List A = x ∷ xs in
-      map-set f (set all i (get_or all j x)) j (get_or all i x)
-      ∙ ap₂ (λ ys y. set ys j y) (map-set f all i (get_or all j x) ∙ ap (set (map f all) i) (sym (get_or-map f all j x))) (sym (get_or-map f all i x))
+  map-swap (x ∷ xs) i j = grind (arith, common_steps, map-set, get_or-map)
 
   pub map-insert : (xs : List A) (i : ℕ) (x : A) → map f (insert xs i x) ≡ insert (map f xs) i (f x)
   map-insert xs i x = map-append f (take i xs) (x ∷ drop i xs) ∙ ap₂ (λ ys zs. ys ++ f x ∷ zs) (sym (take-map f i xs)) (sym (drop-map f i xs))

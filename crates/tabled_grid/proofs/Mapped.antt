@@ -1,5 +1,5 @@
 -- What a function gives of each cell of a grid whose rows and columns were changed.
-use Rattle.tabled_grid.proofs.Common.{[], ◌∙◌, ◌∷◌, ◌≡◌, AllByRecursion, AreBlanks, Grid, InsertsColumn, InsertsRow, List, None, Option, Position, Some, ap, ap₂, cell_at, insert, length, map, map-insert, map-remove, map-swap, map_grid, option_map, refl, remove, replicate, swap, sym, with_cell_if, with_cells_swapped, with_column, with_columns_swapped, with_row, with_rows_swapped, without_column, without_row, zip, ℕ}
+use Rattle.tabled_grid.proofs.Common.{[], ◌∙◌, ◌∷◌, ◌≡◌, AllByRecursion, AreBlanks, Grid, InsertsColumn, InsertsRow, List, None, Option, Position, Some, ap, ap₂, insert, length, map, map-insert, map-remove, map-swap, map_grid, option_map, refl, remove, replicate, rules, swap, with_cell_if, with_cells_swapped, with_column, with_columns_swapped, with_row, with_rows_swapped, without_column, without_row, zip, ℕ}
 use Rattle.tabled_grid.proofs.Grids.{cell_at-map_grid, map_grid-with_cell}
 
 -- two maps, one after the other, that agree at each member with two others
@@ -31,11 +31,7 @@ module _ {A B : Type 0} (f : A → B) where
   map_grid-with_cell_if g p (Some x) = map_grid-with_cell f g p x
 
   pub map_grid-with_cells_swapped : (g : Grid A) (p q : Position) → map_grid f (with_cells_swapped g p q) ≡ with_cells_swapped (map_grid f g) p q
-  map_grid-with_cells_swapped g p q =
-      map_grid-with_cell_if (with_cell_if g p (cell_at g q)) q (cell_at g p)
-      ∙ ap₂ (λ (h : Grid B) (cell : Option B). with_cell_if h q cell)
-      (map_grid-with_cell_if g p (cell_at g q) ∙ ap (with_cell_if (map_grid f g) p) (sym (cell_at-map_grid f g q)))
-      (sym (cell_at-map_grid f g p))
+  map_grid-with_cells_swapped g p q = search (rules, map_grid-with_cell_if, cell_at-map_grid)
 
   pub map_grid-without_row : (g : Grid A) (i : ℕ) → map_grid f (without_row g i) ≡ without_row (map_grid f g) i
   map_grid-without_row g i = rw (map-remove (map f) g.cells i) refl

@@ -1,5 +1,5 @@
 -- Anchors that are marked where another holds them, from the last to the first, and what is left of them.
-use Rattle.tabled_grid.proofs.Common.{[], ◌&&◌, ◌++◌, ◌+◌, ◌<◌, ◌||◌, ◌∙◌, ◌∷◌, ◌≡◌, AllByRecursion, Bool, IsSpanSize, List, Position, Rectangle, T, ap, ap₂, arith, below_all, cond, drop, drop_at, drop_more, dropped, false, false_from_ne_true, filter, get_or, get_or-take, get_or_append_left, holds, inl, inr, is_hidden_in, is_lt, is_sorted, length, length-take, lt-ltb, map, marked, nat_lt, not, position_cmp, refl, same_place, sized, subst, suc, sym, take, take_at, take_more, true, unless_held, ℕ}
+use Rattle.tabled_grid.proofs.Common.{[], ◌&&◌, ◌++◌, ◌+◌, ◌<◌, ◌||◌, ◌∙◌, ◌∷◌, ◌≡◌, AllByRecursion, Bool, IsSpanSize, List, Position, Rectangle, T, ap, ap₂, arith, below_all, common_steps, cond, drop, drop_at, drop_more, dropped, false, false_from_ne_true, filter, get_or, get_or-take, get_or_append_left, holds, inl, inr, is_hidden_in, is_lt, is_sorted, length, length-take, lt-ltb, map, marked, nat_lt, not, position_cmp, refl, same_place, sized, subst, suc, sym, take, take_at, take_more, true, unless_held, ℕ}
 use Rattle.std.proofs.Common.{append_assoc}
 use Rattle.tabled_grid.proofs.Geometry.{In}
 use Rattle.tabled_grid.proofs.SpanMaps.{both, halves, holds-true, less, same_place-self}
@@ -7,11 +7,7 @@ use Rattle.tabled_grid.proofs.PassedAnchors.{Earlier, earlier, places_apart}
 
 -- a mark keeps the place
 place_kept : (by e : Rectangle) → (unless_held by e).0 ≡ e.0
-place_kept by e = either (holds by e.0)
-  where
-    either : (b : Bool) → (cond b (e.0, sized 0 0) e).0 ≡ e.0
-    either true = refl
-    either false = refl
+place_kept by e = grind (arith, common_steps)
 
 below_held : (x : Position) (by : Rectangle) (es : List Rectangle) → T (below_all position_cmp x es) → T (below_all position_cmp x (map (unless_held by) es))
 below_held x by [] h = tt
@@ -41,15 +37,10 @@ module _ (old : List Rectangle) (i : ℕ) (here : i < length old) where
   at_mark d = get_or_append_left (take (i + 1) old) (marked (drop (i + 1) old)) d i (omega (arith, front)) ∙ get_or-take (i + 1) old i d (omega arith)
 
   pub sorted_mark : (d : Rectangle) → ((n : ℕ) → T (is_sorted position_cmp (drop n old))) → T (is_sorted position_cmp (get_or (marked_from old (i + 1)) i d ∷ drop (i + 1) (marked_from old (i + 1))))
-  sorted_mark d up =
-      let whole = subst (λ es. T (is_sorted position_cmp es)) (drop_more old i d here) (up i) in
-      let rest = both _ _ (below_marked (get_or old i d).0 (drop (i + 1) old) (halves _ _ whole).0) (sorted_marked (drop (i + 1) old) (halves _ _ whole).1) in
-      rw (at_mark d, drop_at (take (i + 1) old) (marked (drop (i + 1) old)) (i + 1) front) rest
+  sorted_mark d up = grind (arith, common_steps, drop_more, both, below_marked, halves, sorted_marked, at_mark, drop_at, front)
 
   pub mark_more : (d : Rectangle) → take (i + 1) (marked_from old (i + 1)) ++ map (unless_held (get_or (marked_from old (i + 1)) i d)) (drop (i + 1) (marked_from old (i + 1))) ≡ marked_from old i
-  mark_more d =
-      rw (at_mark d, drop_at (take (i + 1) old) (marked (drop (i + 1) old)) (i + 1) front, take_at (take (i + 1) old) (marked (drop (i + 1) old)) (i + 1) front, take_more old i d here, append_assoc)
-      (ap (λ es. take i old ++ marked es) (sym (drop_more old i d here)))
+  mark_more d = grind (arith, common_steps, at_mark, drop_at, front, take_at, take_more, append_assoc, drop_more)
 
 -- what has a size is left of the marked
 abbrev pub has_size : Rectangle → Bool

@@ -1,5 +1,5 @@
 -- What stands in a list.
-use Rattle.tabled_grid.proofs.Common.{[], ◌++◌, ◌+◌, ◌-◌, ◌<◌, ◌∙◌, ◌∷◌, ◌≡◌, ◌≤◌, ◌⊎◌, Bool, Greater, IsAntisymmetric, IsTotalOrder, Less, List, Ordering, Position, Some, T, and_from, and_parts, ap, ap₂, arith, below_all, block, cases_Bool, cases_eq, cond, false, filter, find, flat_map, inl, inr, is_eq, is_lt, is_sorted, list_all, list_any, map, none-some, or_cases, or_left, or_right, ordering_reverse, place, range_with_len, refl, row_places, same_Some, subst, suc, sym, tied_itself, true, zero, ℕ}
+use Rattle.tabled_grid.proofs.Common.{[], ◌++◌, ◌+◌, ◌-◌, ◌<◌, ◌∙◌, ◌∷◌, ◌≡◌, ◌≤◌, ◌⊎◌, Bool, Greater, IsAntisymmetric, IsTotalOrder, Less, List, Ordering, Position, Some, T, and_from, and_parts, ap, ap₂, arith, below_all, block, cases_Bool, cases_eq, common_steps, cond, false, filter, find, flat_map, inl, inr, is_eq, is_lt, is_sorted, list_all, list_any, map, none-some, or_cases, or_left, or_right, ordering_reverse, place, range_with_len, refl, row_places, same_Some, subst, suc, sym, tied_itself, true, zero, ℕ}
 use Rattle.tabled_grid.proofs.SpanMaps.{both, equal, halves, less}
 
 abbrev pub Member : {A : Type 0} → A → List A → Type 0
@@ -121,14 +121,7 @@ pub record InBlock (a b c d : ℕ) (p : Position) : Type 0 where
   pub right : p.col < d
 
 pub block-member : (a b c d : ℕ) (p : Position) → Member p (block a b c d) → InBlock a b c d p
-block-member a b c d p m =
-    let in_row = flat_map-member (row_places c d) p (range_with_len a (b - a)) m in
-    let i = range-member in_row.0 a (b - a) in_row.1 in
-    let in_col = map-member (place in_row.0) p (range_with_len c (d - c)) in_row.2 in
-    let j = range-member in_col.0 c (d - c) in_col.1 in
-    let row : p.row ≡ in_row.0 = ap (λ (x : Position). x.row) in_col.2 in
-    let col : p.col ≡ in_col.0 = ap (λ (x : Position). x.col) in_col.2 in
-    record { top = omega (arith, row, i.0); bottom = omega (arith, row, i.1, i.0); left = omega (arith, col, j.0); right = omega (arith, col, j.1, j.0) }
+block-member a b c d p m = grind (arith, common_steps, flat_map-member, range-member, map-member)
 
 pub block-from : (a b c d : ℕ) (p : Position) → InBlock a b c d p → Member p (block a b c d)
 block-from a b c d p h =
@@ -166,9 +159,7 @@ module _ {K X : Type 0} (R : K → K → Ordering) (o : IsTotalOrder R) (exact :
   -- in a sorted list each key has one value
   pub sorted-find : (es : List (K × X)) (k : K) (v : X) → T (is_sorted R es) → Member (k, v) es → find R k es ≡ Some v
   sorted-find [] k v up none = absurd none
-  sorted-find (e ∷ es) k v up (inl same) =
-      let tied : is_eq (R k e.0) ≡ true = ap (λ (y : K × X). is_eq (R k y.0)) (sym same) ∙ ap is_eq (tied_itself o k) in
-      ap (λ c. cond c (Some e.1) (find R k es)) tied ∙ ap (λ (y : K × X). Some y.1) (sym same)
+  sorted-find (e ∷ es) k v up (inl same) = grind (arith, common_steps, tied_itself)
   sorted-find (e ∷ es) k v up (inr m) =
       let above : R k e.0 ≡ Greater = o.antisymm k e.0 ∙ ap ordering_reverse (below-member e.0 es k v (halves _ _ up).0 m) in
       ap (λ r. cond (is_eq r) (Some e.1) (find R k es)) above ∙ sorted-find es k v (halves _ _ up).1 m

@@ -1,5 +1,5 @@
 -- Sorted anchors and sorted sizes, merged from the front.
-use Rattle.tabled_grid.proofs.Common.{[], ◌&&◌, ◌++◌, ◌+◌, ◌<◌, ◌==◌, ◌∙◌, ◌∷◌, ◌≡◌, ◌≤◌, ◌⊎◌, AllByRecursion, AreAnchors, Bool, Equal, Greater, IsSizeAt, IsSpanSize, Less, List, Ordering, Position, Rectangle, Size, T, anchor_of, and_from, ap, append_assoc, arith, below_all, by_order, cases_Bool, cases_lt, cond, drop, drop-cons, drop_more, drop_of_length-le, eq-eqb, eq_by_cmp, false, from_sorted, get_or, inl, inr, is_eq, is_lt, is_sorted, length, not, ordering_reverse, position_cmp, put, refl, subst, sym, true, where_key, with_size, with_size_in, with_sizes, with_sizes_in, without_first_at, ℕ}
+use Rattle.tabled_grid.proofs.Common.{[], ◌&&◌, ◌++◌, ◌+◌, ◌<◌, ◌==◌, ◌∙◌, ◌∷◌, ◌≡◌, ◌≤◌, ◌⊎◌, AllByRecursion, AreAnchors, Bool, Equal, Greater, IsSizeAt, IsSpanSize, Less, List, Ordering, Position, Rectangle, Size, T, anchor_of, and_from, ap, append_assoc, arith, below_all, by_order, cases_Bool, cases_lt, common_steps, cond, drop, drop-cons, drop_more, drop_of_length-le, eq_by_cmp, false, from_sorted, get_or, inl, inr, is_eq, is_lt, is_sorted, length, not, ordering_reverse, position_cmp, put, refl, subst, sym, true, where_key, with_size, with_size_in, with_sizes, with_sizes_in, without_first_at, ℕ}
 use Rattle.tabled_grid.proofs.Spans.{Makes, positions_exact, positions_total, with_anchor, without_anchor}
 use Rattle.tabled_grid.proofs.SortedEntries.{above, is_less}
 use Rattle.tabled_grid.proofs.SpanMaps.{both, halves, less}
@@ -136,13 +136,7 @@ begun anchors sizes up rising = record { sorted = up; sizes_sorted = rising; is 
 module _ (merged all_anchors all_sizes : List Rectangle) where
   -- an anchor before the next size
   pub anchor_passed : (e c : Rectangle) (es cs : List Rectangle) → position_cmp e.0 c.0 ≡ Less → IsMerged merged (e ∷ es) (c ∷ cs) all_anchors all_sizes → IsMerged (merged ++ (e ∷ [])) es (c ∷ cs) all_anchors all_sizes
-  anchor_passed e c es cs first m =
-      let later : Below e.0 (c ∷ cs) = both _ _ (is_less _ first) (below_more e.0 c.0 cs first (halves _ _ m.sizes_sorted).0) in
-      record {
-        sorted = (halves _ _ m.sorted).1;
-        sizes_sorted = m.sizes_sorted;
-        is = append_assoc merged (e ∷ []) _ ∙ ap (λ xs. merged ++ xs) (sym (first_stays e es (c ∷ cs) later)) ∙ m.is;
-      }
+  anchor_passed e c es cs first m = grind (arith, common_steps, both, is_less, below_more, halves, append_assoc, first_stays)
 
   -- a size, where no anchor left is before it
   pub size_passed : (c : Rectangle) (es cs : List Rectangle) → T (starts_from c.0 es) → IsMerged merged es (c ∷ cs) all_anchors all_sizes → IsMerged (merged ++ anchor_of c) (without_first_at c.0 es) cs all_anchors all_sizes
@@ -166,9 +160,7 @@ span_size c size other = record { height = size.height; width = size.width; merg
     either : (1 < c.1.height) ⊎ (c.1.height ≤ 1) → (1 < c.1.width) ⊎ (c.1.width ≤ 1) → (1 < c.1.height) ⊎ (1 < c.1.width)
     either (inl h) w = inl h
     either (inr h) (inl w) = inr w
-    either (inr h) (inr w) =
-        let one : ((c.1.height == 1) && (c.1.width == 1)) ≡ true = and_from _ _ (eq-eqb c.1.height 1 (omega (arith, size.height))) (eq-eqb c.1.width 1 (omega (arith, size.width))) in
-        let never : false ≡ true = sym other ∙ one in cc
+    either (inr h) (inr w) = grind (arith, common_steps, and_from)
 
 sizes_put : (p : Position) (size : Size) (es : List Rectangle) → IsSpanSize size → AllByRecursion HasSize es → AllByRecursion HasSize (put position_cmp p size es)
 sizes_put p size [] ok all = (ok, tt)
@@ -201,10 +193,7 @@ with_sizes_make es (c ∷ sizes) valid all =
 -- the same at two places of the lists
 module _ (merged anchors sizes : List Rectangle) (next k : ℕ) (d : Rectangle) where
   pub anchor_step : next < length anchors → k < length sizes → is_lt (position_cmp (get_or anchors next d).0 (get_or sizes k d).0) ≡ true → IsMerged merged (drop next anchors) (drop k sizes) anchors sizes → IsMerged (merged ++ (get_or anchors next d ∷ [])) (drop (next + 1) anchors) (drop k sizes) anchors sizes
-  anchor_step within here first m =
-      rw (drop_more sizes k d here)
-      (anchor_passed merged anchors sizes (get_or anchors next d) (get_or sizes k d) (drop (next + 1) anchors) (drop (k + 1) sizes) (less _ (subst T (sym first) tt))
-      (rw (← drop_more sizes k d here, ← drop_more anchors next d within) m))
+  anchor_step within here first m = grind (arith, common_steps, drop_more, anchor_passed, less)
 
   pub size_step : (rest : List Rectangle) → k < length sizes → T (starts_from (get_or sizes k d).0 (drop next anchors)) → rest ≡ without_first_at (get_or sizes k d).0 (drop next anchors) → IsMerged merged (drop next anchors) (drop k sizes) anchors sizes → IsMerged (merged ++ anchor_of (get_or sizes k d)) rest (drop (k + 1) sizes) anchors sizes
   size_step rest here from is m = rw is (size_passed merged anchors sizes (get_or sizes k d) (drop next anchors) (drop (k + 1) sizes) from (rw (← drop_more sizes k d here) m))

@@ -1,6 +1,6 @@
 -- How rectangles lie while spans are set, and once hidden anchors are dropped. What is said of columns is
 -- said of rows with rows and columns exchanged.
-use Rattle.tabled_grid.proofs.Common.{[], ◌+◌, ◌<◌, ◌∙◌, ◌∷◌, ◌≡◌, ◌≢◌, ◌≤◌, ◌⊎◌, AllByRecursion, AreSpanSizes, Fits, IsSpanSize, List, Midway, None, Position, Size, Some, SpanMap, ap, arith, drop_hidden, false, false_from_ne_true, fold, get, holds, inl, inr, is_visible, nat_eq, place, refl, size_at, sized, subst, sym, true, with_column_span, with_row_span, with_size, ℕ}
+use Rattle.tabled_grid.proofs.Common.{[], ◌+◌, ◌<◌, ◌∙◌, ◌∷◌, ◌≡◌, ◌≢◌, ◌≤◌, ◌⊎◌, AllByRecursion, AreSpanSizes, Fits, IsSpanSize, List, Midway, None, Position, Size, Some, SpanMap, arith, common_steps, drop_hidden, false, false_from_ne_true, fold, get, holds, inl, inr, is_visible, nat_eq, place, refl, rules, size_at, sized, subst, sym, true, with_column_span, with_row_span, with_size, ℕ}
 use borrow.Author.Tests.{eqb-true}
 use Rattle.tabled_grid.proofs.Geometry.{Flat, Hooked, In, Narrow, Widened, LieWithin, cases_place, flat_flipped, flat_widened, flip, flip_size, flipped, full_flipped, hooked_flat, hooked_flipped, hooked_widened, narrow_flipped, visible_flipped, within_flipped, within_widened}
 use Rattle.tabled_grid.proofs.SpanMaps.{At, at, full, holds-from, holds-true, kept, kept_or_one, none, size_at-none, size_at-some, size_at-with_size, size_at-with_size-other, sizes-drop_hidden, sizes-with_size, some, visible, with_size-other}
@@ -82,10 +82,7 @@ module _ (m : SpanMap) (p : Position) (w : ℕ) (some_width : 1 ≤ w) where
   widened = rw (column_span-is m p w some_width) (record { here = size_at-with_size m p (sized (size_at m p).height w); others = λ q n. size_at-with_size-other m p (sized (size_at m p).height w) q n })
 
   heightened : Widened (flipped (size_at m)) (flipped (size_at (with_row_span m p w))) (flip p) w
-  heightened = rw (row_span-is m p w some_width) (record {
-    here = ap flip_size (size_at-with_size m p (sized w (size_at m p).width));
-    others = λ q n. ap flip_size (size_at-with_size-other m p (sized w (size_at m p).width) (flip q) (λ e. n (ap flip e)));
-  })
+  heightened = grind (arith, common_steps, row_span-is, flip_size, size_at-with_size, size_at-with_size-other, flip)
 
   pub sizes_widened : AreSpanSizes m → AreSpanSizes (with_column_span m p w)
   sizes_widened sizes = rw (column_span-is m p w some_width) (sizes-with_size m p (sized (size_at m p).height w) ((full m sizes).height p) some_width sizes)
@@ -102,11 +99,7 @@ module _ (m : SpanMap) (p : Position) (w : ℕ) (some_width : 1 ≤ w) where
 
     -- a width over visible cells
     pub midway_widened : p.row < rows → p.col + w ≤ columns → ((k : ℕ) → p.col ≤ k → k < p.col + w → is_visible m (place p.row k) ≡ true) → Midway m rows columns → Midway (with_column_span m p w) rows columns
-    midway_widened row fits all mid = record {
-      sizes = sizes_widened mid.sizes;
-      hooked = hooked_widened (size_at m) p w (full m mid.sizes) mid.hooked (λ k low high. visible m (place p.row k) (all k low high)) _ widened;
-      within = within_wide row fits mid.within;
-    }
+    midway_widened row fits all mid = search (rules, sizes_widened, hooked_widened, full, visible, widened, within_wide)
 
     -- a height over visible cells
     pub midway_heightened : p.col < columns → p.row + w ≤ rows → ((k : ℕ) → p.row ≤ k → k < p.row + w → is_visible m (place k p.col) ≡ true) → Midway m rows columns → Midway (with_row_span m p w) rows columns
@@ -136,18 +129,10 @@ pub narrow_row_span : (m : SpanMap) (p : Position) (h : ℕ) → 1 ≤ h → Nar
 narrow_row_span m p h k narrow = flat_flipped _ (flat_widened (flipped (size_at m)) _ (flip p) h (heightened m p h k) (narrow_flipped (size_at m) narrow))
 
 pub flat_dropped : (m : SpanMap) → Flat (size_at m) → Flat (size_at (drop_hidden m))
-flat_dropped m flat = record { height = λ a. by a (kept_or_one m a) }
-  where
-    by : (a : Position) → (size_at (drop_hidden m) a ≡ size_at m a) ⊎ (size_at (drop_hidden m) a ≡ sized 1 1) → (size_at (drop_hidden m) a).height ≡ 1
-    by a (inl same) = ap (λ (s : Size). s.height) same ∙ flat.height a
-    by a (inr one) = ap (λ (s : Size). s.height) one
+flat_dropped m flat = grind (arith, common_steps, kept_or_one)
 
 pub narrow_dropped : (m : SpanMap) → Narrow (size_at m) → Narrow (size_at (drop_hidden m))
-narrow_dropped m narrow = record { width = λ a. by a (kept_or_one m a) }
-  where
-    by : (a : Position) → (size_at (drop_hidden m) a ≡ size_at m a) ⊎ (size_at (drop_hidden m) a ≡ sized 1 1) → (size_at (drop_hidden m) a).width ≡ 1
-    by a (inl same) = ap (λ (s : Size). s.width) same ∙ narrow.width a
-    by a (inr one) = ap (λ (s : Size). s.width) one
+narrow_dropped m narrow = grind (arith, common_steps, kept_or_one)
 
 -- a rectangle that shares no cell with another's, and lies inside, is set beside rectangles that fit
 pub fits_with : (m : SpanMap) (p : Position) (size : Size) (rows columns : ℕ) → IsSpanSize size → p.row + size.height ≤ rows → p.col + size.width ≤ columns → ((a q : Position) (s : Size) → get m a ≡ Some s → In (a, s) q → In (p, size) q → a ≡ p) → Fits m rows columns → Fits (with_size m p size) rows columns

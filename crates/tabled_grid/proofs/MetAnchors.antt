@@ -1,8 +1,8 @@
 -- Anchors that are marked where another's rectangle meets theirs, from the first to the last, and what is left without them.
-use Rattle.tabled_grid.proofs.Common.{[], ◌&&◌, ◌++◌, ◌+◌, ◌-◌, ◌<◌, ◌||◌, ◌∙◌, ◌∷◌, ◌≡◌, ◌≤◌, Bool, Less, List, Position, Rectangle, T, and_parts, and_right, ap, append-nil, ap₂, arith, below_all, cond, drop, drop-drop, drop-set-lt, drop_all, drop_at, drop_more, false, filter, filter_more, fits_among, get_or, get_or_default, is_sorted, length, length-drop, length-replicate, length-take, lies_inside, list_all, list_any, map, meets, nat_lt, not, not-true, or_right, position_cmp, refl, replicate, same_place, set, subst, suc, sym, take, take-add, take-append-drop, take_all, take_at, take_more, take_more_set, true, with_met, zero, ℕ}
+use Rattle.tabled_grid.proofs.Common.{[], ◌&&◌, ◌++◌, ◌+◌, ◌-◌, ◌<◌, ◌||◌, ◌∙◌, ◌∷◌, ◌≡◌, ◌≤◌, Bool, Less, List, Position, Rectangle, T, and_parts, and_right, ap, append-nil, ap₂, arith, below_all, common_steps, cond, drop, drop-drop, drop-set-lt, drop_all, drop_at, drop_more, false, filter, filter_more, fits_among, get_or, get_or_default, is_sorted, length, length-drop, length-replicate, length-take, lies_inside, list_all, list_any, map, meets, not, not-true, or_right, position_cmp, refl, replicate, same_place, set, subst, suc, sym, take, take-add, take-append-drop, take_all, take_at, take_more, take_more_set, true, with_met, zero, ℕ}
 use Rattle.std.proofs.Common.{append_assoc, length-append}
 use Rattle.std.proofs.lemmas.List.Folds.{list_all-append, list_any_more}
-use borrow.Rule.Slice.PartMut.{post_of, put_mid}
+use borrow.Rule.Slice.PartMut.{put_mid}
 use Rattle.tabled_grid.proofs.BesideAnchors.{before}
 use Rattle.tabled_grid.proofs.PassedAnchors.{all_after, apart_over, places_apart, sorted_drop}
 use Rattle.tabled_grid.proofs.SpanMaps.{halves, less, same_place-self}
@@ -32,17 +32,7 @@ module _ (by : Rectangle) where
     at_mark here walked = let within : k < length marks = omega (arith, walked.long) in ap₂ (with_met by) (drop_more es k d here) (drop_more marks k false within)
 
     pub walked-met : k < length es → meets by (get_or es k d) ≡ true → length (set marks k true) ≡ length marks → Walked es old k marks alone → Walked es old (k + 1) (set marks k true) false
-    walked-met here met same walked =
-        let within : k < length marks = omega (arith, walked.long) in
-        record {
-          long = same ∙ walked.long;
-          marked = ap₂ (λ xs ys. xs ++ with_met by (drop (k + 1) es) ys) (take_more_set marks k true within) (drop-set-lt (k + 1) marks k true (omega arith))
-              ∙ append_assoc (take k marks) (true ∷ []) (with_met by (drop (k + 1) es) (drop (k + 1) marks))
-              ∙ ap (λ m. take k marks ++ m ∷ with_met by (drop (k + 1) es) (drop (k + 1) marks)) (sym (or_right (get_or marks k false) _ met))
-              ∙ ap (λ xs. take k marks ++ xs) (sym (at_mark here walked))
-              ∙ walked.marked;
-          all = sym (and_right alone (list_all (λ (e : Rectangle). not (meets by e)) (drop k es)) (ap (list_all (λ (e : Rectangle). not (meets by e))) (drop_more es k d here) ∙ ap (λ b. not b && list_all (λ (e : Rectangle). not (meets by e)) (drop (k + 1) es)) met)) ∙ walked.all;
-        }
+    walked-met here met same walked = grind (arith, common_steps, take_more_set, drop-set-lt, append_assoc, or_right, at_mark, and_right, drop_more)
 
     pub walked-out : (n : ℕ) → k < length es → meets by (get_or es k d) ≡ false → list_all (λ (e : Rectangle). not (meets by e)) (take n (take (length es - (k + 1)) (drop (k + 1) es))) ≡ true → Walked es old k marks alone → Walked es old (k + (1 + n)) marks alone
     walked-out n here out free walked =
@@ -92,19 +82,11 @@ both-turned false false = refl
 
 -- two rectangles share a cell either way
 pub meets-turned : (a b : Rectangle) → meets a b ≡ meets b a
-meets-turned a b = ap₂ (λ x y. x && y)
-    (both-turned (nat_lt a.0.row (b.0.row + b.1.height)) (nat_lt b.0.row (a.0.row + a.1.height)))
-    (both-turned (nat_lt a.0.col (b.0.col + b.1.width)) (nat_lt b.0.col (a.0.col + a.1.width)))
+meets-turned a b = grind (arith, common_steps, both-turned)
 
 -- the marks from an index on are written anew, as a slice of a vector
 marks-written : (i len : ℕ) (old new rest : List Bool) → i < length old → len ≡ length old → length new ≡ length old - (i + 1) → (length (take len (put_mid (i + 1) (length old - (i + 1)) old new ++ rest)) ≡ length old) × (drop (i + 1) (take len (put_mid (i + 1) (length old - (i + 1)) old new ++ rest)) ≡ new)
-marks-written i len old new rest here full long =
-    let none : post_of (i + 1) (length old - (i + 1)) old ≡ [] = drop_all (length old - (i + 1)) (drop (i + 1) old) (omega (arith, length-drop (i + 1) old)) in
-    let whole : put_mid (i + 1) (length old - (i + 1)) old new ≡ take (i + 1) old ++ new = ap (λ xs. take (i + 1) old ++ (new ++ xs)) none ∙ ap (λ xs. take (i + 1) old ++ xs) (append-nil new) in
-    let front : length (take (i + 1) old) ≡ i + 1 = omega (arith, length-take (i + 1) old) in
-    let all : length (take (i + 1) old ++ new) ≡ length old = length-append (take (i + 1) old) new ∙ omega (arith, front, long) in
-    let is : take len (put_mid (i + 1) (length old - (i + 1)) old new ++ rest) ≡ take (i + 1) old ++ new = ap (λ xs. take len (xs ++ rest)) whole ∙ take_at (take (i + 1) old ++ new) rest len (all ∙ sym full) in
-    (ap length is ∙ all, ap (drop (i + 1)) is ∙ drop_at (take (i + 1) old) new (i + 1) front)
+marks-written i len old new rest here full long = grind (arith, common_steps, drop_all, length-drop, append-nil, length-take, length-append, take_at, drop_at)
 
 -- of a rectangle and another one of a list: they are one, or share no cell
 abbrev clear : Rectangle → Rectangle → Bool

@@ -1,5 +1,5 @@
 -- Anchors left of a rectangle, of which the nearest in a row stands for the others.
-use Rattle.tabled_grid.proofs.Common.{[], ◌+◌, ◌-◌, ◌<◌, ◌∙◌, ◌∷◌, ◌≡◌, ◌≤◌, ◌⊎◌, AllByRecursion, AreAnchors, Bool, IsSpanSize, Less, List, Position, Rectangle, T, all-drop, and_from, and_parts, ap, arith, below_all, cases_lt, drop, drop-drop, drop_more, false, false_from_ne_true, get_or, inl, inr, is_sorted, length, lie_well, lies_inside, list_all, meets, not, not_from_false, position_cmp, refl, subst, suc, sym, take, true, zero, ℕ}
+use Rattle.tabled_grid.proofs.Common.{[], ◌+◌, ◌-◌, ◌<◌, ◌∙◌, ◌∷◌, ◌≡◌, ◌≤◌, AllByRecursion, AreAnchors, Bool, IsSpanSize, Less, List, Position, Rectangle, T, all-drop, and_from, and_parts, ap, arith, below_all, cases_lt, common_steps, drop, drop-drop, drop_more, false, false_from_ne_true, get_or, inl, inr, is_sorted, length, lie_well, lies_inside, list_all, meets, not, not_from_false, position_cmp, refl, subst, suc, sym, take, true, zero, ℕ}
 use Rattle.tabled_grid.specs.Apart.{AreApart}
 use Rattle.tabled_grid.proofs.PassedAnchors.{Earlier, all_after, apart_sorted, earlier, meets-from, meets-true, sorted_drop}
 use Rattle.tabled_grid.proofs.SpanMaps.{halves, less}
@@ -37,11 +37,7 @@ ill_drop rows columns n es ill = false_from_ne_true _ (λ well. never _ (well_dr
 
 -- of two that are apart in one row, the first ends before the second
 ends_before : (e f : Rectangle) → 1 ≤ e.1.height → 1 ≤ f.1.height → e.0.row ≡ f.0.row → e.0.col < f.0.col → meets e f ≡ false → e.0.col + e.1.width ≤ f.0.col
-ends_before e f tall high same before apart = by (cases_lt f.0.col (e.0.col + e.1.width))
-  where
-    by : (f.0.col < e.0.col + e.1.width) ⊎ (e.0.col + e.1.width ≤ f.0.col) → e.0.col + e.1.width ≤ f.0.col
-    by (inl h) = never _ (meets-from e f (record { above = omega arith; below = omega arith; left = omega arith; right = h })) apart
-    by (inr h) = h
+ends_before e f tall high same before apart = grind (arith, common_steps, cases_lt, never, meets-from)
 
 -- where anchors stand from a place to a rectangle in one row, all but the last of them are apart from it
 pub near_passed : (from : Rectangle) (pos : Position) (es : List Rectangle) (i n : ℕ) → n ≤ i - 1 → T (is_sorted position_cmp es) → AllByRecursion (λ (e : Rectangle). IsSpanSize e.1) es → AreApart es → T (below_all position_cmp pos es) →
@@ -69,9 +65,7 @@ near_passed from pos (e ∷ f ∷ es) i (suc n) some up sizes apart below until 
 
 -- the anchors after one, as a slice of those from an earlier index on
 after_in : (es : List Rectangle) (first k : ℕ) → first ≤ k → drop ((k + 1) - first) (drop first es) ≡ take (length es - (k + 1)) (drop (k + 1) es)
-after_in es first k low =
-    let whole : first + ((k + 1) - first) ≡ k + 1 = omega arith in
-    drop-drop ((k + 1) - first) first es ∙ ap (λ n. drop n es) whole ∙ sym (all_after es k)
+after_in es first k low = grind (arith, common_steps, drop-drop, all_after)
 
 pub apart_after : (es : List Rectangle) (first k : ℕ) → first ≤ k → AreApart (drop first es) → AreApart (take (length es - (k + 1)) (drop (k + 1) es))
 apart_after es first k low apart = subst AreApart (after_in es first k low) (apart_drop ((k + 1) - first) (drop first es) apart)

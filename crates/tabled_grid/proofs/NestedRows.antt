@@ -1,5 +1,5 @@
 -- Rows that vectors hold, as a grid of their own.
-use Rattle.tabled_grid.proofs.Common.{[], ◌++◌, ◌+◌, ◌<◌, ◌∙◌, ◌∷◌, ◌≡◌, ◌≤◌, AddsColumns, AddsRows, All, All-from_recursion, AllByRecursion, AllZip, AreBlanks, Columns, Grid, InsertsBlank, InsertsColumn, IsEmptyWithoutRows, IsEven, IsInside, List, Position, Rows, Some, Vec, ap, arith, cell_at, eqb, false, first_along, get_or, get_or-map, grid_of, length, length-append, length-map, map, map-set, map_items, ne_eqb, no_columns, refl, set, slice_get, slice_get_read, subst, suc, sym, take, width_of, with_cell, with_item, ℕ}
+use Rattle.tabled_grid.proofs.Common.{[], ◌++◌, ◌+◌, ◌<◌, ◌∙◌, ◌∷◌, ◌≡◌, ◌≤◌, AddsColumns, AddsRows, All, All-from_recursion, AllByRecursion, AllZip, AreBlanks, Columns, Grid, InsertsBlank, InsertsColumn, IsEmptyWithoutRows, IsEven, IsInside, List, Position, Rows, Some, Vec, ap, arith, cell_at, common_steps, first_along, get_or, get_or-map, grid_of, length, length-append, length-map, map, map-set, map_items, ne_eqb, no_columns, refl, set, slice_get, slice_get_read, subst, sym, take, width_of, with_cell, with_item, ℕ}
 use Rattle.std.specs.Prelude.{vec_len}
 use Rattle.std.proofs.lemmas.List.{get_or-map as get_or-map_within}
 use Rattle.tabled_grid.proofs.AddedColumns.{AddsEach, each_tall}
@@ -54,13 +54,7 @@ module _ {A : Type 0} where
     columns_added [] [] a = record { rows = refl; columns = refl; each = tt }
     columns_added [] (wide ∷ new) a = absurd a
     columns_added (row ∷ old) [] a = absurd a
-    columns_added (row ∷ old) (wide ∷ new) a =
-        let some : eqb (suc (length old)) 0 ≡ false = ne_eqb _ _ (λ e. omega arith) in
-        record {
-          rows = each_tall is_blank many (row ∷ old) (wide ∷ new) a;
-          columns = rw some (ap length a.0.is ∙ length-append row a.0.cells ∙ ap (λ (n : ℕ). length row + n) a.0.blanks.many);
-          each = a;
-        }
+    columns_added (row ∷ old) (wide ∷ new) a = grind (arith, common_steps, ne_eqb, each_tall, length-append)
 
     -- n rows of blanks below the last one
     module _ (old added new : List (List A)) (even : IsEven (grid_of old)) (tall : length added ≡ many) (blanks : AllByRecursion (AreBlanks is_blank (width_of old)) added) (is : new ≡ old ++ added) where
@@ -83,9 +77,7 @@ module _ {A : Type 0} (rows : List (Vec A)) (p : Position) (row : Vec A) (even :
 
   -- the place is inside the row
   pub row_holds : p.col < vec_len row
-  row_holds =
-      let wide : length (get_or (map_items rows) p.row []) ≡ width_of (map_items rows) = All-from_recursion _ _ even.wide p.row [] inside.row in
-      omega (arith, row.ok.0, inside.col, rw row_items at wide)
+  row_holds = grind (arith, common_steps, All-from_recursion, row_items)
 
   pub row_cell : (x : A) → x ≡ get_or row.items p.col x → cell_at (grid_of (map_items rows)) p ≡ Some x
   row_cell x e = ap (λ ys. slice_get ys p.col) row_items ∙ slice_get_read row.items (vec_len row) p.col x row.ok.0 row_holds e

@@ -1,8 +1,6 @@
 -- Going through sorted anchors from one on, and stopping once they are past its rectangle.
-use Rattle.tabled_grid.proofs.Common.{[], ◌&&◌, ◌++◌, ◌+◌, ◌-◌, ◌<◌, ◌==◌, ◌∙◌, ◌∷◌, ◌≡◌, ◌≤◌, ◌⊎◌, Bool, Equal, Greater, Less, List, MatchOrdering, Ordering, Position, Rectangle, T, and_from, and_parts, ap, append-nil, ap₂, arith, cond, drop, drop-drop, drop-set-lt, drop_more, drop_more_same, false, false_from_ne_true, get_or, get_or-drop, get_or_default, holds, inl, inr, is_past, is_sorted, leb-true, length, length-drop, list_all, lt-ltb, ltb-true, map, map-append, map_more, meets, nat_cmp, nat_le, not, or_cases, ordering_then, position_cmp, ranked, refl, same_place, set, sized, subst, suc, sym, take, take-add, take-append-drop, take_all, take_more, take_more_set, true, unless_held, zero, ℕ}
+use Rattle.tabled_grid.proofs.Common.{[], ◌&&◌, ◌++◌, ◌+◌, ◌-◌, ◌<◌, ◌∙◌, ◌∷◌, ◌≡◌, ◌≤◌, ◌⊎◌, Bool, Less, List, Position, Rectangle, T, and_from, and_parts, ap, append-nil, ap₂, arith, common_steps, cond, drop, drop-drop, drop-set-lt, drop_more, drop_more_same, false, false_from_ne_true, get_or, get_or-drop, get_or_default, holds, inl, inr, is_past, is_sorted, length, length-drop, list_all, lt-ltb, map, map-append, map_more, meets, not, or_cases, position_cmp, ranked, refl, same_place, set, sized, subst, suc, sym, take, take-add, take-append-drop, take_all, take_more, take_more_set, true, unless_held, zero, ℕ}
 use Rattle.std.proofs.Common.{append_assoc}
-use borrow.Author.Tests.{eqb-true}
-use Rattle.tabled_grid.proofs.Geometry.{In}
 use Rattle.tabled_grid.proofs.SpanMaps.{holds-true, halves, less, same_place-apart}
 
 -- the first comes before the second, row by row
@@ -10,15 +8,7 @@ abbrev pub Earlier : Position → Position → Type 0
 Earlier p q = (p.row < q.row) ⊎ ((p.row ≡ q.row) × (p.col < q.col))
 
 pub earlier : (p q : Position) → position_cmp p q ≡ Less → Earlier p q
-earlier p q h = by_row (nat_cmp p.row q.row) (ranked p.row q.row (nat_cmp p.row q.row) refl) h
-  where
-    col : MatchOrdering (nat_cmp p.col q.col) (p.col < q.col) (p.col ≡ q.col) (q.col < p.col) → nat_cmp p.col q.col ≡ Less → p.col < q.col
-    col m e = subst (λ (o : Ordering). MatchOrdering o (p.col < q.col) (p.col ≡ q.col) (q.col < p.col)) e m
-
-    by_row : (o : Ordering) → MatchOrdering o (p.row < q.row) (p.row ≡ q.row) (q.row < p.row) → ordering_then o (nat_cmp p.col q.col) ≡ Less → Earlier p q
-    by_row Less m e = inl m
-    by_row Equal m e = inr (m, col (ranked p.col q.col (nat_cmp p.col q.col) refl) e)
-    by_row Greater m e = cc
+earlier p q h = grind (arith, common_steps, ranked)
 
 pub later_apart : (p q : Position) → Earlier p q → p ≡ q → ⊥
 later_apart p q (inl l) same = omega (arith, ap (λ (x : Position). x.row) same)
@@ -33,31 +23,14 @@ pub record IsPast (a : Rectangle) (p : Position) : Type 0 where
   pub below : (a.0.row + a.1.height ≤ p.row) ⊎ ((a.0.row + a.1.height ≡ p.row + 1) × (a.0.col + a.1.width ≤ p.col))
 
 pub past-true : (a : Rectangle) (p : Position) → is_past a p ≡ true → IsPast a p
-past-true a p t = let parts = and_parts _ _ t in record { after = leb-true _ _ parts.0; below = either (or_cases _ _ parts.1) }
-  where
-    either : (nat_le (a.0.row + a.1.height) p.row ≡ true) ⊎ (((a.0.row + a.1.height == p.row + 1) && nat_le (a.0.col + a.1.width) p.col) ≡ true) → (a.0.row + a.1.height ≤ p.row) ⊎ ((a.0.row + a.1.height ≡ p.row + 1) × (a.0.col + a.1.width ≤ p.col))
-    either (inl b) = inl (leb-true _ _ b)
-    either (inr b) = let ends = and_parts _ _ b in inr (eqb-true _ _ ends.0, leb-true _ _ ends.1)
+past-true a p t = grind (arith, common_steps, and_parts, or_cases)
 
 -- past a rectangle, and so is what comes later
 pub past_later : (a : Rectangle) (p q : Position) → IsPast a p → Earlier p q → IsPast a q
-past_later a p q past later = by past.below later
-  where
-    after : a.0.row ≤ p.row
-    after = past.after
-
-    by : (a.0.row + a.1.height ≤ p.row) ⊎ ((a.0.row + a.1.height ≡ p.row + 1) × (a.0.col + a.1.width ≤ p.col)) → Earlier p q → IsPast a q
-    by (inl b) (inl l) = record { after = omega (arith, past.after); below = inl (omega arith) }
-    by (inl b) (inr l) = record { after = omega (arith, past.after); below = inl (omega arith) }
-    by (inr b) (inl l) = record { after = omega (arith, past.after); below = inl (omega arith) }
-    by (inr b) (inr l) = record { after = omega (arith, past.after); below = inr (omega arith, omega arith) }
+past_later a p q past later = grind (arith, common_steps)
 
 pub past_out : (a : Rectangle) (p : Position) → IsPast a p → holds a p ≡ false
-past_out a p past = false_from_ne_true _ (λ t. out past.below (holds-true a p t))
-  where
-    out : (a.0.row + a.1.height ≤ p.row) ⊎ ((a.0.row + a.1.height ≡ p.row + 1) × (a.0.col + a.1.width ≤ p.col)) → In a p → ⊥
-    out (inl b) h = omega (arith, h.bottom)
-    out (inr b) h = omega (arith, h.right)
+past_out a p past = grind (arith, common_steps, false_from_ne_true, holds-true)
 
 -- two rectangles share a cell
 pub record Meets (a b : Rectangle) : Type 0 where
@@ -67,20 +40,13 @@ pub record Meets (a b : Rectangle) : Type 0 where
   pub right : b.0.col < a.0.col + a.1.width
 
 pub meets-true : (a b : Rectangle) → meets a b ≡ true → Meets a b
-meets-true a b t =
-    let rows = and_parts _ _ (and_parts _ _ t).0 in
-    let columns = and_parts _ _ (and_parts _ _ t).1 in
-    record { above = ltb-true _ _ rows.0; below = ltb-true _ _ rows.1; left = ltb-true _ _ columns.0; right = ltb-true _ _ columns.1 }
+meets-true a b t = grind (arith, common_steps, and_parts)
 
 pub meets-from : (a b : Rectangle) → Meets a b → meets a b ≡ true
 meets-from a b m = and_from _ _ (and_from _ _ (lt-ltb _ _ m.above) (lt-ltb _ _ m.below)) (and_from _ _ (lt-ltb _ _ m.left) (lt-ltb _ _ m.right))
 
 pub past_apart : (a b : Rectangle) → IsPast a b.0 → meets a b ≡ false
-past_apart a b past = false_from_ne_true _ (λ t. out past.below (meets-true a b t))
-  where
-    out : (a.0.row + a.1.height ≤ b.0.row) ⊎ ((a.0.row + a.1.height ≡ b.0.row + 1) × (a.0.col + a.1.width ≤ b.0.col)) → Meets a b → ⊥
-    out (inl b) h = omega (arith, h.below)
-    out (inr b) h = omega (arith, h.right)
+past_apart a b past = grind (arith, common_steps, false_from_ne_true, meets-true)
 
 -- a list in order whose first is past an anchor's rectangle
 past_first : (a e f : Rectangle) (es : List Rectangle) → T (is_sorted position_cmp (e ∷ f ∷ es)) → IsPast a e.0 → IsPast a f.0
@@ -107,17 +73,11 @@ module _ {A : Type 0} (f : A → A) (old : List A) (first : ℕ) where
     pub left : drop k new ≡ drop k old
 
   pub changed_start : ChangedTo old first
-  changed_start = record { done = sym (ap (λ n. take first old ++ map f (take n (drop first old))) (none first) ∙ append-nil _); left = refl }
-    where
-      none : (n : ℕ) → n - n ≡ 0
-      none n = omega arith
+  changed_start = grind (arith, common_steps, append-nil)
 
   -- the rest of the members from first on
   rest_is : (k : ℕ) → first ≤ k → drop (k - first) (drop first old) ≡ drop k old
-  rest_is k low = drop-drop (k - first) first old ∙ ap (λ n. drop n old) (whole k low)
-    where
-      whole : (n : ℕ) → first ≤ n → first + (n - first) ≡ n
-      whole n l = omega arith
+  rest_is k low = grind (arith, common_steps, drop-drop)
 
   pub changed_more : (new newer : List A) (k : ℕ) (e : A) → first ≤ k → k < length old → get_or old k e ≡ e → ChangedTo new k → take (k + 1) newer ≡ take k new ++ f e ∷ [] → drop (k + 1) newer ≡ drop (k + 1) old → ChangedTo newer (k + 1)
   changed_more new newer k e low here is changed taken left =
@@ -148,25 +108,17 @@ module _ {A : Type 0} (f : A → A) (old : List A) (first : ℕ) where
 
 -- a member of the rest that is as it was
 left_item : {A : Type 0} (old new : List A) (k : ℕ) (d : A) → drop k new ≡ drop k old → get_or old k d ≡ get_or new k d
-left_item old new k d left =
-    let at : k + 0 ≡ k = omega arith in
-    sym (get_or-drop k old 0 d ∙ ap (λ n. get_or old n d) at) ∙ ap (λ xs. get_or xs 0 d) (sym left) ∙ get_or-drop k new 0 d ∙ ap (λ n. get_or new n d) at
+left_item old new k d left = grind (arith, common_steps, get_or-drop)
 
 module _ (by : Rectangle) (old new : List Rectangle) (first k : ℕ) (d : Rectangle) (low : first ≤ k) (here : k < length new) (same : length new ≡ length old) (changed : ChangedTo (unless_held by) old first new k) where
   is_item : get_or old k (get_or new k d) ≡ get_or new k d
   is_item = left_item old new k (get_or new k d) changed.left ∙ get_or_default new k (get_or new k d) d here
 
   pub hidden_held : holds by (get_or new k d).0 ≡ true → ChangedTo (unless_held by) old first (set new k ((get_or new k d).0, sized 0 0)) (k + 1)
-  hidden_held held =
-      let v : Rectangle = ((get_or new k d).0, sized 0 0) in
-      changed_more (unless_held by) old first new (set new k v) k (get_or new k d) low (omega arith) is_item changed
-      (take_more_set new k v here ∙ ap (λ b. take k new ++ cond b ((get_or new k d).0, sized 0 0) (get_or new k d) ∷ []) (sym held))
-      (drop-set-lt (k + 1) new k v (omega arith) ∙ drop_more_same new old k changed.left)
+  hidden_held held = grind (arith, common_steps, changed_more, is_item, take_more_set, drop-set-lt, drop_more_same)
 
   pub hidden_other : holds by (get_or new k d).0 ≡ false → ChangedTo (unless_held by) old first new (k + 1)
-  hidden_other out = changed_more (unless_held by) old first new new k (get_or new k d) low (omega arith) is_item changed
-      (take_more new k d here ∙ ap (λ b. take k new ++ cond b ((get_or new k d).0, sized 0 0) (get_or new k d) ∷ []) (sym out))
-      (drop_more_same new old k changed.left)
+  hidden_other out = grind (arith, common_steps, changed_more, is_item, take_more, drop_more_same)
 
   -- the anchors after it, as a slice of those that are gone through
   after_is : take (length new - (k + 1)) (drop (k + 1) new) ≡ drop (k + 1) new

@@ -1,5 +1,5 @@
 -- Where the cells of pieces come from, by their places.
-use Rattle.tabled_grid.proofs.Common.{◌*◌, ◌<◌, ◌∙◌, ◌≡◌, ◌≤◌, Axis, Bool, Columns, FillsThrough, Grid, IfSome, IsInside, None, Option, PieceOrder, Position, Rows, Some, TakesOnce, Within, across, ap, ap₂, arith, cell_at, cond, count_along, count_of, cut_places, div_ceil, div_ceil_times, false, index_in_line, le-ltb, line_of, ltb-false, nat_lt, nth_piece, place_in, refl, row_fits, sym, true, unwrap_or, ℕ}
+use Rattle.tabled_grid.proofs.Common.{◌*◌, ◌<◌, ◌∙◌, ◌≡◌, ◌≤◌, Axis, Bool, Columns, FillsThrough, Grid, IfSome, IsInside, None, Option, PieceOrder, Position, Rows, Some, TakesOnce, Within, across, ap, ap₂, arith, cell_at, common_steps, cond, count_along, count_of, cut_places, div_ceil, div_ceil_times, false, index_in_line, le-ltb, line_of, ltb-false, nat_lt, nth_piece, place_in, refl, row_fits, true, unwrap_or, ℕ}
 use Rattle.std.proofs.lemmas.Bool.{lt-ltb, ltb-true}
 use Rattle.tabled_grid.proofs.PiecesCut.{ComesFrom, IsCut, enough_pieces, more_lines, some_pieces}
 use Rattle.tabled_grid.proofs.PiecesPut.{inside_of, piece_line, piece_number, source, source_apart}
@@ -48,31 +48,7 @@ none_if false q e = refl
 module _ {A : Type 0} (is_blank : A → Type 0) (axis : Axis) (order : PieceOrder) (index lines width : ℕ) (g h : Grid A) where
   -- all pieces, in their places
   pub cut_fills : IsCut is_blank axis order index lines width g h → FillsThrough is_blank (cut_places axis order index lines width) g h
-  cut_fills cut =
-      let shape = shape_of axis h (lines * div_ceil width index) index cut.count cut.wide in
-      record { reads = record { even = cut.even; rows = shape.0; columns = shape.1; moved = λ p inside. moved p inside }; blanks = λ p inside none. blank p inside none }
-    where
-      comes : (p : Position) → IsInside h p →
-          ComesFrom is_blank g h (source axis order index lines (div_ceil width index) (line_of axis p) (line_of (across axis) p)) (place_in axis (line_of axis p) (line_of (across axis) p)) (index_in_line order index lines (div_ceil width index) (line_of axis p) (line_of (across axis) p)) width
-      comes p inside =
-          let within = line_inside axis h p inside in
-          cut.cells (line_of axis p) (line_of (across axis) p) (omega (arith, within.0, cut.count)) (omega (arith, within.1, cut.wide))
-
-      moved : (p : Position) → IsInside h p → IfSome ((cut_places axis order index lines width).old_place p) (λ (q : Position). cell_at h p ≡ cell_at g q)
-      moved p inside =
-          let t : ℕ = line_of axis p in
-          let b : ℕ = line_of (across axis) p in
-          if_some (λ (q : Position). cell_at h p ≡ cell_at g q) (nat_lt (index_in_line order index lines (div_ceil width index) t b) width) (place_in axis (nth_piece order lines (div_ceil width index) t).0 (index_in_line order index lines (div_ceil width index) t b))
-          (λ e. ap (cell_at h) (sym (place_is axis p)) ∙ (comes p inside).cell (ltb-true (index_in_line order index lines (div_ceil width index) t b) width e))
-
-      blank : (p : Position) → IsInside h p → (cut_places axis order index lines width).old_place p ≡ None → (cell : A) × is_blank cell × (cell_at h p ≡ Some cell)
-      blank p inside none =
-          let t : ℕ = line_of axis p in
-          let b : ℕ = line_of (across axis) p in
-          let past : nat_lt (index_in_line order index lines (div_ceil width index) t b) width ≡ false =
-          none_if (nat_lt (index_in_line order index lines (div_ceil width index) t b) width) (place_in axis (nth_piece order lines (div_ceil width index) t).0 (index_in_line order index lines (div_ceil width index) t b)) none in
-          let c = (comes p inside).blank (ltb-false (index_in_line order index lines (div_ceil width index) t b) width past) in
-          (c.0, c.1, ap (cell_at h) (sym (place_is axis p)) ∙ c.2)
+  cut_fills cut = grind (arith, common_steps, shape_of, source, line_inside, if_some, place_is, ltb-true, none_if, ltb-false)
 
   -- and back
   pub fills_cut : FillsThrough is_blank (cut_places axis order index lines width) g h → IsCut is_blank axis order index lines width g h
@@ -115,30 +91,13 @@ module _ (axis : Axis) (order : PieceOrder) (index lines width : ℕ) (some : 0 
   some_is false p q e = cc
 
   pub lines_of : (p : Position) → Within (cut_places axis order index lines width) p → (line_of axis p < lines * div_ceil width index) × (line_of (across axis) p < index)
-  lines_of p w = each axis w.row w.col
-    where
-      each : (a : Axis) → p.row < count_of a (lines * div_ceil width index) index → p.col < count_of a index (lines * div_ceil width index) → (line_of a p < lines * div_ceil width index) × (line_of (across a) p < index)
-      each Rows row col = (row, col)
-      each Columns row col = (col, row)
+  lines_of p w = grind (arith, common_steps)
 
   found : (p q : Position) → (cut_places axis order index lines width).old_place p ≡ Some q → (index_in_line order index lines (div_ceil width index) (line_of axis p) (line_of (across axis) p) < width) × (source axis order index lines (div_ceil width index) (line_of axis p) (line_of (across axis) p) ≡ q)
-  found p q is =
-      let both = some_is (nat_lt (index_in_line order index lines (div_ceil width index) (line_of axis p) (line_of (across axis) p)) width) (source axis order index lines (div_ceil width index) (line_of axis p) (line_of (across axis) p)) q is in
-      (ltb-true (index_in_line order index lines (div_ceil width index) (line_of axis p) (line_of (across axis) p)) width both.0, both.1)
+  found p q is = grind (arith, common_steps, some_is, source, ltb-true)
 
   pub pieces_take_once : {A : Type 0} (g : Grid A) → lines ≡ count_along axis g → width ≡ count_along (across axis) g → TakesOnce (cut_places axis order index lines width) g
-  pieces_take_once {A} g lines_are width_is = record { inside = λ p q w is. inside p q w is; apart = λ p r q w v is also. apart p r q w v is also }
-    where
-      inside : (p q : Position) → Within (cut_places axis order index lines width) p → (cut_places axis order index lines width).old_place p ≡ Some q → IsInside g q
-      inside p q w is =
-          let f = found p q is in
-          rw (← f.1) (inside_of axis g (nth_piece order lines (div_ceil width index) (line_of axis p)).0 (index_in_line order index lines (div_ceil width index) (line_of axis p) (line_of (across axis) p))
-          (omega (arith, piece_line order lines (div_ceil width index) (line_of axis p) some any (lines_of p w).0, lines_are)) (omega (arith, f.0, width_is)))
-
-      apart : (p r q : Position) → Within (cut_places axis order index lines width) p → Within (cut_places axis order index lines width) r → (cut_places axis order index lines width).old_place p ≡ Some q → (cut_places axis order index lines width).old_place r ≡ Some q → p ≡ r
-      apart p r q w v is also =
-          let same = source_apart axis order index lines (div_ceil width index) some any (line_of axis p) (line_of (across axis) p) (line_of axis r) (line_of (across axis) r) (lines_of p w).1 (lines_of r v).1 ((found p q is).1 ∙ sym (found r q also).1) in
-          sym (place_is axis p) ∙ ap₂ (λ (i j : ℕ). place_in axis i j) same.0 same.1 ∙ place_is axis r
+  pieces_take_once {A} g lines_are width_is = grind (arith, common_steps, found, inside_of, piece_line, any, lines_of, source_apart, place_is)
 
   -- a piece begins inside its line
   pub starts_inside : (t : ℕ) → t < lines * div_ceil width index → (nth_piece order lines (div_ceil width index) t).1 * index < width

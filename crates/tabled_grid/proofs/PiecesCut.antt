@@ -1,5 +1,5 @@
 -- Lines grown, moved and shortened are the pieces of the old lines.
-use Rattle.tabled_grid.proofs.Common.{[], ◌*◌, ◌+◌, ◌<◌, ◌∙◌, ◌∷◌, ◌≡◌, ◌≤◌, AddsLines, Axis, Bool, Columns, Grid, IsEven, List, PieceOrder, Position, Rows, Some, across, ap, arith, cell_at, cond, count_along, div_ceil, div_ceil_times, first_along, get_or, get_or-take, map, mul-le-mul_right, ne_eqb, nth_piece, place_in, refl, row_fits, slice_get, subst, suc, sym, take, zero, ℕ}
+use Rattle.tabled_grid.proofs.Common.{[], ◌*◌, ◌+◌, ◌<◌, ◌∙◌, ◌∷◌, ◌≡◌, ◌≤◌, AddsLines, Axis, Bool, Columns, Grid, IsEven, List, PieceOrder, Position, Rows, Some, across, ap, arith, cell_at, common_steps, cond, count_along, div_ceil, div_ceil_times, first_along, get_or, get_or-take, map, mul-le-mul_right, ne_eqb, nth_piece, place_in, refl, row_fits, slice_get, suc, sym, take, zero, ℕ}
 use Rattle.tabled_grid.proofs.FirstLines.{IsEven-first}
 use Rattle.tabled_grid.proofs.AddedLines.{added_across, added_blank, added_count, added_even, added_kept}
 use Rattle.tabled_grid.proofs.PiecesPut.{PutsPieces, piece_line, piece_number, same_across, same_count, source}
@@ -81,9 +81,7 @@ module _ {A : Type 0} where
     tall_width = added_across is_blank many wide tall wide_even axis grown ∙ wide_width
 
     old_cell : (i j : ℕ) → i < lines → j < width → cell_at wide (place_in axis i j) ≡ cell_at g (place_in axis i j)
-    old_cell i j h k =
-        let read : cell_at wide (place_in (across axis) j i) ≡ cell_at g (place_in (across axis) j i) = added_kept is_blank more g wide even (across axis) j i widened (omega (arith, k, width_is)) (rw (across_twice axis) (omega (arith, h, lines_are))) in
-        (rw (place_across axis i j) at read)
+    old_cell i j h k = grind (arith, common_steps, added_kept, across_twice, place_across)
 
     blank_cell : (i j : ℕ) → i < lines → width ≤ j → j < pieces * index → (c : A) × is_blank c × (cell_at wide (place_in axis i j) ≡ Some c)
     blank_cell i j h k l =
@@ -122,9 +120,4 @@ module _ {A : Type 0} where
           }
 
       pub cut_done : pieces ≡ div_ceil width index → IsCut is_blank axis order index lines width g new
-      cut_done e = record {
-        even = new_even;
-        count = new_count ∙ ap (λ (n : ℕ). lines * n) e;
-        wide = first_count (across axis) put new index is;
-        cells = λ t b h k. subst (λ (n : ℕ). ComesFrom is_blank g new (source axis order index lines n t b) (place_in axis t b) ((nth_piece order lines n t).1 * index + b) width) e (new_comes t b (rw e h) k);
-      }
+      cut_done e = grind (arith, common_steps, new_even, new_count, first_count, source, new_comes)

@@ -1,5 +1,5 @@
 -- Cells swapped to the fronts of the lines that become pieces.
-use Rattle.tabled_grid.proofs.Common.{[], ◌*◌, ◌+◌, ◌<◌, ◌∙◌, ◌≡◌, ◌≢◌, ◌≤◌, ◌⊎◌, All-from_recursion, Axis, Columns, Concat, Grid, IsEven, IsInside, IsPiece, IsShapedAs, None, Option, PieceOrder, Position, Rows, Some, Zip, across, ap, ap₂, arith, cases_eq, cases_lt, cell_at, count_along, div-add-mod', div-le_self, div_below, get_or, inl, inr, length, mod-le, mod_below, nth_piece, piece_index, place_in, refl, row_fits, same_from_place, slice_get, slice_get_cases, sym, with_cell_if, with_cells_swapped, ℕ}
+use Rattle.tabled_grid.proofs.Common.{◌*◌, ◌+◌, ◌<◌, ◌∙◌, ◌≡◌, ◌≢◌, ◌≤◌, ◌⊎◌, All-from_recursion, Axis, Columns, Concat, Grid, IsEven, IsInside, IsPiece, IsShapedAs, None, Option, PieceOrder, Position, Rows, Some, Zip, across, ap, ap₂, arith, cases_eq, cases_lt, cell_at, common_steps, count_along, div-add-mod', div-le_self, div_below, inl, inr, mod-le, mod_below, nth_piece, place_in, refl, row_fits, rules, same_from_place, slice_get_cases, sym, with_cell_if, with_cells_swapped, ℕ}
 use Rattle.tabled_grid.proofs.Grids.{cell_at-with_cell_other, cell_at-with_cell_same}
 use Rattle.tabled_grid.proofs.Resized.{IsEven-with_cell_if, IsEven-with_cells_swapped}
 
@@ -53,11 +53,7 @@ piece_number Concat lines pieces t h k l = div_below t lines pieces h (omega (ar
 
 -- the piece that comes t-th has t pieces before it
 pub is_piece : (o : PieceOrder) (lines pieces t : ℕ) → 0 < lines → 0 < pieces → t < lines * pieces → IsPiece o lines pieces t (nth_piece o lines pieces t).0 (nth_piece o lines pieces t).1
-is_piece o lines pieces t some any h = record { line = piece_line o lines pieces t some any h; number = piece_number o lines pieces t some any h; before = before o }
-  where
-    before : (o : PieceOrder) → piece_index o lines pieces (nth_piece o lines pieces t).0 (nth_piece o lines pieces t).1 ≡ t
-    before Zip = div-add-mod' t pieces
-    before Concat = div-add-mod' t lines
+is_piece o lines pieces t some any h = grind (arith, common_steps, piece_line, piece_number, div-add-mod')
 
 piece_before : (o : PieceOrder) (lines pieces t : ℕ) → (nth_piece o lines pieces t).0 ≤ t
 piece_before Zip lines pieces t = div-le_self t pieces
@@ -84,11 +80,7 @@ module _ {A : Type 0} (g new : Grid A) (p q : Position) (even : IsEven g) (at_p 
   not_some x e = cc
 
   some_at : cell_at g p ≡ None → ⊥
-  some_at none = either (slice_get_cases (get_or g.cells p.row []) p.col).1
-    where
-      either : ((x : A) × (p.col < length (get_or g.cells p.row [])) × (slice_get (get_or g.cells p.row []) p.col ≡ Some x) × (get_or (get_or g.cells p.row []) p.col x ≡ x)) ⊎ ((length (get_or g.cells p.row []) ≤ p.col) × (slice_get (get_or g.cells p.row []) p.col ≡ None)) → ⊥
-      either (inl is) = not_some is.0 (sym none ∙ is.2)
-      either (inr past) = let wide = All-from_recursion _ g.cells even.wide p.row [] (omega (arith, even.tall, at_p.row)) in absurd (omega (arith, wide, past.0, at_p.col))
+  some_at none = grind (arith, common_steps, slice_get_cases, not_some, All-from_recursion)
 
   set_else : (o : Option A) (h : Grid A) (s r : Position) → r ≢ s → cell_at (with_cell_if h s o) r ≡ cell_at h r
   set_else None h s r apart = refl
@@ -109,27 +101,11 @@ module _ (axis : Axis) (order : PieceOrder) (index : ℕ) (lines pieces : ℕ) (
 
   module _ {A : Type 0} where
     pub puts_none : (t : ℕ) (g : Grid A) → IsEven g → lines * pieces ≤ t → MovesPieces axis order index lines pieces t 0 g g
-    puts_none t g even all = record { shape = same_shape g even; done = λ u j h k m. none u j h m; left = λ u j h k m. refl }
-      where
-        none : (u j : ℕ) → u < lines * pieces → (t ≤ u) ⊎ ((u + 1 ≡ t) × (j < 0)) → cell_at g (place_in axis u j) ≡ cell_at g (source axis order index lines pieces u j)
-        none u j h (inl more) = absurd (omega (arith, more, h, all))
-        none u j h (inr m) = absurd (omega (arith, m.1))
+    puts_none t g even all = grind (arith, common_steps, same_shape)
 
     -- a piece is whole
     pub puts_piece : (t n b : ℕ) (g cur : Grid A) → n ≡ t + 1 → index ≤ b → MovesPieces axis order index lines pieces n b g cur → MovesPieces axis order index lines pieces t 0 g cur
-    puts_piece t n b g cur next whole p = record { shape = p.shape; done = λ u j h k m. p.done u j h k (earlier u j k m); left = λ u j h k m. p.left u j h k (later u j m) }
-      where
-        at_or : (u j : ℕ) → j < index → (u < n) ⊎ (n ≤ u) → t ≤ u → (n ≤ u) ⊎ ((u + 1 ≡ n) × (j < b))
-        at_or u j k (inr more) h = inl more
-        at_or u j k (inl less) h = inr (omega (arith, less, h, next), omega (arith, k, whole))
-
-        earlier : (u j : ℕ) → j < index → (t ≤ u) ⊎ ((u + 1 ≡ t) × (j < 0)) → (n ≤ u) ⊎ ((u + 1 ≡ n) × (j < b))
-        earlier u j k (inl more) = at_or u j k (cases_lt u n) more
-        earlier u j k (inr m) = absurd (omega (arith, m.1))
-
-        later : (u j : ℕ) → (u + 1 < t) ⊎ ((u + 1 ≡ t) × (0 ≤ j)) → (u + 1 < n) ⊎ ((u + 1 ≡ n) × (b ≤ j))
-        later u j (inl less) = inl (omega (arith, less, next))
-        later u j (inr m) = inl (omega (arith, m.0, next))
+    puts_piece t n b g cur next whole p = grind (arith, common_steps, cases_lt)
 
     pub puts_all : (t : ℕ) (g cur : Grid A) → t ≤ 0 → MovesPieces axis order index lines pieces t 0 g cur → PutsPieces axis order index lines pieces g cur
     puts_all t g cur none p = record { shape = p.shape; done = λ u j h k. p.done u j h k (inl (omega (arith, none))) }
@@ -141,8 +117,7 @@ module _ (axis : Axis) (order : PieceOrder) (index : ℕ) (lines pieces : ℕ) (
       line_in = omega (arith, piece_before order lines pieces t, within)
 
       pub source_in : IsInside cur (source axis order index lines pieces t b)
-      source_in = inside_of axis cur _ _ (omega (arith, line_in, count))
-          (omega (arith, wide, row_fits (nth_piece order lines pieces t).1 index pieces index (piece_number order lines pieces t some_lines some_pieces within) (omega arith), b_in))
+      source_in = grind (arith, common_steps, inside_of, line_in, row_fits, piece_number)
 
       pub place_is_in : IsInside cur (place_in axis t b)
       place_is_in = inside_of axis cur t b (omega (arith, within, count)) (omega (arith, wide, b_in, row_fits 0 index pieces index some_pieces (omega arith)))
@@ -155,47 +130,15 @@ module _ (axis : Axis) (order : PieceOrder) (index : ℕ) (lines pieces : ℕ) (
 
       done_in : (u j : ℕ) → u < lines * pieces → j < index → u ≡ t → (j ≡ b) ⊎ (j ≢ b) → j < next → cell_at new (place_in axis u j) ≡ cell_at g (source axis order index lines pieces u j)
       done_in u j h k at (inl same) less = rw (at, same) (there ∙ p.left t b within b_in (inr (sym after, omega arith)))
-      done_in u j h k at (inr off) less =
-          else (place_in axis u j)
-          (λ same. let m = same_place_in axis _ _ _ _ same in absurd (omega (arith, m.1, less, off, e)))
-          (λ same. off (same_place_in axis _ _ _ _ same).1)
-          ∙ p.done u j h k (inr (omega (arith, at, after), omega (arith, less, off, e)))
+      done_in u j h k at (inr off) less = grind (arith, common_steps, else, same_place_in)
 
       done_at : (u j : ℕ) → u < lines * pieces → j < index → (n ≤ u) ⊎ ((u + 1 ≡ n) × (j < next)) → cell_at new (place_in axis u j) ≡ cell_at g (source axis order index lines pieces u j)
-      done_at u j h k (inl more) =
-          else (place_in axis u j)
-          (λ same. let m = same_place_in axis _ _ _ _ same in absurd (omega (arith, m.0, more, after, piece_before order lines pieces t)))
-          (λ same. let m = same_place_in axis _ _ _ _ same in absurd (omega (arith, m.0, more, after)))
-          ∙ p.done u j h k (inl more)
+      done_at u j h k (inl more) = grind (arith, common_steps, else, same_place_in, piece_before)
       done_at u j h k (inr m) = done_in u j h k (omega (arith, m.0, after)) (cases_eq j b) m.1
 
       left_at : (u j : ℕ) → u < lines * pieces → j < index → (u + 1 < n) ⊎ ((u + 1 ≡ n) × (next ≤ j)) → cell_at new (source axis order index lines pieces u j) ≡ cell_at g (source axis order index lines pieces u j)
-      left_at u j h k (inl less) =
-          else (source axis order index lines pieces u j)
-          (λ same. let m = source_apart u j t b k b_in same in absurd (omega (arith, m.0, less, after)))
-          (λ same. let m = same_place_in axis _ _ _ _ same in absurd (omega (arith, m.0, less, after, piece_before order lines pieces u)))
-          ∙ p.left u j h k (inl less)
-      left_at u j h k (inr m) =
-          else (source axis order index lines pieces u j)
-          (λ same. let m2 = source_apart u j t b k b_in same in absurd (omega (arith, m2.1, m.1, e)))
-          (λ same. let m2 = same_place_in axis _ _ _ _ same in absurd (omega (arith, m2.1, m.1, e)))
-          ∙ p.left u j h k (inr (m.0, omega (arith, m.1, e)))
+      left_at u j h k (inl less) = grind (arith, common_steps, else, source_apart, same_place_in, piece_before)
+      left_at u j h k (inr m) = grind (arith, common_steps, else, source_apart, same_place_in)
 
       pub puts_more : MovesPieces axis order index lines pieces n next g new
-      puts_more = record {
-        shape = shape_after g cur new p.shape (record { even = rw is (IsEven-with_cells_swapped cur _ _ p.shape.even); rows = ap (λ (h : Grid A). h.rows) is ∙ rows_kept; columns = ap (λ (h : Grid A). h.columns) is ∙ columns_kept });
-        done = done_at;
-        left = left_at;
-      }
-        where
-          rows_if : (o1 o2 : Option A) (q r : Position) → (with_cell_if (with_cell_if cur q o1) r o2).rows ≡ cur.rows
-          rows_if None None q r = refl
-          rows_if None (Some y) q r = refl
-          rows_if (Some x) None q r = refl
-          rows_if (Some x) (Some y) q r = refl
-
-          rows_kept : (with_cells_swapped cur (source axis order index lines pieces t b) (place_in axis t b)).rows ≡ cur.rows
-          rows_kept = rows_if (cell_at cur (place_in axis t b)) (cell_at cur (source axis order index lines pieces t b)) (source axis order index lines pieces t b) (place_in axis t b)
-
-          columns_kept : (with_cells_swapped cur (source axis order index lines pieces t b) (place_in axis t b)).columns ≡ cur.columns
-          columns_kept = refl
+      puts_more = search (rules, shape_after, IsEven-with_cells_swapped, done_at, left_at)

@@ -1,5 +1,5 @@
 -- The places that an entity names, as blocks of places.
-use Rattle.tabled_grid.proofs.Common.{[], ◌&&◌, ◌++◌, ◌+◌, ◌-◌, ◌<◌, ◌==◌, ◌∙◌, ◌∷◌, ◌≡◌, ◌≤◌, ◌⊎◌, All, All-append, All-filter, All-map, All-nil, AllByRecursion, Bool, List, Position, ap, ap₂, arith, block, cond, drop, drop_at, drop_more, false, filter, filter-append, filter_agree, flat_map, get_or, get_or_append_left, inl, inr, inside, length, length-append, map, names, ne_eqb, place, range_with_len, recursion_from_All, refl, row_places, sub_self, suc, sym, true, zero, ℕ}
+use Rattle.tabled_grid.proofs.Common.{[], ◌&&◌, ◌++◌, ◌+◌, ◌-◌, ◌<◌, ◌==◌, ◌∙◌, ◌∷◌, ◌≡◌, ◌≤◌, ◌⊎◌, All, All-append, All-filter, All-map, All-nil, AllByRecursion, Bool, List, Position, ap, arith, block, common_steps, cond, drop, drop_at, drop_more, false, filter, filter-append, filter_agree, flat_map, get_or, get_or_append_left, inl, inr, inside, length, length-append, map, names, ne_eqb, place, range_with_len, recursion_from_All, refl, row_places, sub_self, suc, sym, true, zero, ℕ}
 use Rattle.std.proofs.lemmas.Bool.{eq-eqb}
 use Rattle.std.proofs.lemmas.List.FromFn.{length-range_with_len, get_or-range_with_len, length-map-range_with_len, get_or-map-range_with_len}
 use Rattle.tabled_grid.specs.declared.config.entity.Entity.{Entity}
@@ -55,9 +55,7 @@ filter-below j a (suc n) h = rw (ne_eqb a j (λ e. omega arith)) (filter-below j
 -- one of the n numbers from a on is the k-th, counted from 0
 filter-at : (j a n k : ℕ) → a + k ≡ j → k < n → filter (λ i. i == j) (range_with_len a n) ≡ j ∷ []
 filter-at j a zero k e l = absurd (omega arith)
-filter-at j a (suc n) zero e l =
-    let same : a ≡ j = omega arith in
-    rw (eq-eqb a j same, filter-below j (a + 1) n (omega arith)) (ap (λ i. i ∷ []) same)
+filter-at j a (suc n) zero e l = grind (arith, common_steps, eq-eqb, filter-below)
 filter-at j a (suc n) (suc k) e l = rw (ne_eqb a j (λ h. omega arith)) (filter-at j (a + 1) n k (omega arith) (omega arith))
 
 pub filter-here : (j n : ℕ) → j < n → filter (λ i. i == j) (range_with_len 0 n) ≡ j ∷ []
@@ -79,9 +77,7 @@ block-no_columns a b c d h = block-is a b c d (b - a) 0 refl (omega arith) ∙ f
 
 -- the first row, and the others
 pub block-more : (a b c d : ℕ) → a < b → block a b c d ≡ row_places c d a ++ block (a + 1) b c d
-block-more a b c d h =
-    let e : b - a ≡ suc (b - (a + 1)) = omega arith in
-    rw e refl
+block-more a b c d h = grind (arith, common_steps)
 
 -- the rows past the first
 pub drop-row : (a b c d : ℕ) → a < b → drop (d - c) (block a b c d) ≡ block (a + 1) b c d
@@ -99,9 +95,7 @@ drop-place a b c d j h k l =
 
 -- the place p comes first of what is left, and the rest of its row next
 pub first_in_row : (a b c d j : ℕ) (left : List Position) (p : Position) → drop (j - c) (block a b c d) ≡ left → p.row ≡ a → p.col ≡ j → a < b → c ≤ j → j < d → left ≡ p ∷ drop (j + 1 - c) (block a b c d)
-first_in_row a b c d j left p e r s h k l =
-    let same : place a j ≡ p = ap₂ place (sym r) (sym s) in
-    sym e ∙ drop-place a b c d j h k l ∙ ap (λ q. q ∷ drop (j + 1 - c) (block a b c d)) same
+first_in_row a b c d j left p e r s h k l = grind (arith, common_steps, drop-place)
 
 -- the last of a row: the next row comes next
 pub last_in_row : (a b c d j : ℕ) (left : List Position) (p : Position) → drop (j - c) (block a b c d) ≡ left → p.row ≡ a → p.col ≡ j → a < b → c ≤ j → j + 1 ≡ d → left ≡ p ∷ drop (c - c) (block (a + 1) b c d)

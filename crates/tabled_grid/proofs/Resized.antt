@@ -1,5 +1,5 @@
 -- Grids with rows and columns inserted, swapped and removed.
-use Rattle.tabled_grid.proofs.Common.{[], ◌+◌, ◌-◌, ◌<◌, ◌∙◌, ◌≡◌, ◌≤◌, AllByRecursion, Bool, Grid, IsEmptyWithoutRows, IsEven, List, None, Option, Position, Some, all-insert, all-map, all-remove, all-swap, all-zip, ap, arith, cell_at, cond, eqb, eqb-true, false, insert, length, length-insert, length-map, length-remove, length-swap, length-zip, map, nil_from_length, refl, remove, true, with_cell_if, with_cells_swapped, with_column, with_columns_swapped, with_row, with_rows_swapped, without_column, without_row, zip, ℕ}
+use Rattle.tabled_grid.proofs.Common.{[], ◌+◌, ◌-◌, ◌<◌, ◌∙◌, ◌≡◌, ◌≤◌, AllByRecursion, Bool, Grid, IsEmptyWithoutRows, IsEven, List, None, Option, Position, Some, all-insert, all-map, all-remove, all-swap, all-zip, arith, cell_at, common_steps, cond, eqb, eqb-true, false, insert, length, length-insert, length-map, length-remove, length-swap, length-zip, map, nil_from_length, refl, rules, true, with_cell_if, with_cells_swapped, with_column, with_columns_swapped, with_row, with_rows_swapped, without_column, without_row, zip, ℕ}
 use Rattle.tabled_grid.proofs.Grids.{IsEven-with_cell}
 
 -- a row is so long
@@ -8,19 +8,13 @@ IsWide n row = length row ≡ n
 
 module _ {A : Type 0} (g : Grid A) (even : IsEven g) where
   pub IsEven-with_row : (i : ℕ) (row : List A) → i ≤ g.rows → length row ≡ g.columns → IsEven (with_row g i row)
-  IsEven-with_row i row h w = record {
-    tall = length-insert g.cells i row (omega (arith, even.tall)) ∙ ap (λ n. n + 1) even.tall;
-    wide = all-insert (IsWide g.columns) g.cells i row even.wide w;
-  }
+  IsEven-with_row i row h w = grind (arith, common_steps, length-insert, all-insert)
 
   pub IsEven-with_rows_swapped : (i k : ℕ) → IsEven (with_rows_swapped g i k)
   IsEven-with_rows_swapped i k = record { tall = length-swap g.cells i k ∙ even.tall; wide = all-swap (IsWide g.columns) g.cells i k even.wide }
 
   pub IsEven-with_columns_swapped : (j k : ℕ) → IsEven (with_columns_swapped g j k)
-  IsEven-with_columns_swapped j k = record {
-    tall = length-map g.cells _ ∙ even.tall;
-    wide = all-map (IsWide g.columns) (IsWide g.columns) _ (λ row w. length-swap row j k ∙ w) g.cells even.wide;
-  }
+  IsEven-with_columns_swapped j k = search (rules, length-map, all-map, length-swap)
 
   pub IsEven-without_column : (j : ℕ) → j < g.columns → IsEven (without_column g j)
   IsEven-without_column j h = record {
@@ -35,14 +29,7 @@ wide_if false n m rows none a = a
 
 module _ {A : Type 0} where
   pub IsEven-without_row : (g : Grid A) (i : ℕ) → i < g.rows → IsEven g → IsEven (without_row g i)
-  IsEven-without_row g i h even =
-      let tall : length (remove g.cells i) ≡ g.rows - 1 = omega (arith, length-remove g.cells i (omega (arith, even.tall)), even.tall) in
-      record {
-        tall = tall;
-        wide = wide_if (eqb g.rows 1) 0 g.columns (remove g.cells i)
-            (λ e. nil_from_length (remove g.cells i) (omega (arith, tall, eqb-true g.rows 1 e)))
-            (all-remove (IsWide g.columns) g.cells i even.wide);
-      }
+  IsEven-without_row g i h even = grind (arith, common_steps, length-remove, wide_if, nil_from_length, eqb-true, all-remove)
 
   pub IsEven-with_column : (g : Grid A) (j : ℕ) (column : List A) → j ≤ g.columns → length column ≡ g.rows → IsEven g → IsEven (with_column g j column)
   IsEven-with_column g j column h tall even =

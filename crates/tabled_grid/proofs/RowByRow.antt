@@ -1,4 +1,5 @@
 -- Rows of vectors that a loop changes one after another.
+use Rattle.std.proofs.lemmas.Grind.{common_steps}
 use Rattle.std.specs.Global.{Vec}
 use Rattle.std.proofs.Common.{◌≡◌, ℕ, ◌+◌, ◌<◌, ◌≤◌, List, refl, sym, ap, ◌∙◌, length, take, drop, get_or, set, arith}
 use Rattle.std.specs.Prelude.{vec_len}
@@ -27,11 +28,7 @@ module _ {A : Type 0} (R : List A → List A → Type 0) where
   changed_next old new i d h = sym (first_left new i d) ∙ ap (λ rows. get_or rows 0 d) h.rest ∙ first_left old i d
 
   pub changed_more : (old new : List (Vec A)) (i : ℕ) (d row : Vec A) → i < length old → Changed R old new i → R (get_or old i d).items row.items → Changed R old (set new i row) (i + 1)
-  changed_more old new i d row h c r = record {
-    done = rw (take_more old i d h, take_more_set new i row (omega arith), map_push (λ (v : Vec A). v.items) (take i old), map_push (λ (v : Vec A). v.items) (take i new)) (all_zipped_more R _ _ _ _ c.done r);
-    rest = drop-set-lt (i + 1) new i row (omega arith) ∙ sym (drop-drop 1 i new) ∙ ap (drop 1) c.rest ∙ drop-drop 1 i old;
-    same = length-set new i row ∙ c.same;
-  }
+  changed_more old new i d row h c r = grind (arith, common_steps, take_more, take_more_set, map_push, all_zipped_more, drop-set-lt, drop-drop, length-set)
 
   pub changed_all : (old new : List (Vec A)) (i : ℕ) → length old ≤ i → Changed R old new i → AllZip R (map_items old) (map_items new)
   changed_all old new i h c = rw (take_all i old h, take_all i new (omega arith)) at c.done

@@ -1,7 +1,5 @@
 -- Anchors when a line is put in: one after another in a list, and in the map that it makes.
-use Rattle.tabled_grid.proofs.Common.{[], ◌+◌, ◌<◌, ◌∷◌, ◌≡◌, ◌≤◌, ◌⊎◌, AllByRecursion, AreAnchors, Axis, Bool, Columns, Equal, Greater, IsSpanSize, Less, List, MatchOrdering, None, Option, Ordering, Position, Rectangle, Rows, Some, T, ap, ap₂, arith, below_all, cases_Bool, false, filter, get_or, inl, inr, is_some, is_sorted, length, line_of, ltb-true, map, nat_cmp, nat_lt, next_line, none-some, ordering_then, position_cmp, ranked, refl, same_Some, set, shifted_in, shifted_place, suc, sym, true, unwrap_or, zero, ℕ}
-use Rattle.std.proofs.Common.{◌^◌}
-use borrow.Author.Tests.{ltb-false}
+use Rattle.tabled_grid.proofs.Common.{[], ◌<◌, ◌∷◌, ◌≡◌, ◌≤◌, AllByRecursion, AreAnchors, Axis, Bool, Columns, IsSpanSize, Less, List, None, Option, Position, Rectangle, Rows, Some, T, ap, ap₂, arith, below_all, cases_Bool, common_steps, filter, get_or, inl, inr, is_some, is_sorted, length, line_of, map, next_line, none-some, position_cmp, ranked, refl, same_Some, set, shifted_in, shifted_place, suc, unwrap_or, zero, ℕ}
 use Rattle.tabled_grid.proofs.PassedAnchors.{Earlier, earlier}
 use Rattle.tabled_grid.proofs.SortedEntries.{is_less}
 use Rattle.tabled_grid.proofs.SpanMaps.{both, halves, less}
@@ -51,12 +49,7 @@ module _ (axis : Axis) (from : ℕ) where
       either (Some p) is rest = rw is (ap₂ (λ (x : Rectangle) xs. x ∷ xs) (ap (λ s. (unwrap_or s e.0, e.1)) is) rest)
 
   pub comes : (p q : Position) → shifted_place axis from p ≡ Some q → Comes axis from p q
-  comes p q is = either (cases_Bool (nat_lt (line_of axis p) from)) (cases_Bool (nat_lt (line_of axis p + 1) (2 ^ 64)))
-    where
-      either : (nat_lt (line_of axis p) from ≡ true) ⊎ (nat_lt (line_of axis p) from ≡ false) → (nat_lt (line_of axis p + 1) (2 ^ 64) ≡ true) ⊎ (nat_lt (line_of axis p + 1) (2 ^ 64) ≡ false) → Comes axis from p q
-      either (inl t) c = stays (ltb-true _ _ t) (sym (same_Some p q (rw t at is)))
-      either (inr f) (inl t) = moves (ltb-false _ _ f) (sym (same_Some (next_line axis p) q (rw (f, t) at is)))
-      either (inr f) (inr g) = absurd (none-some q (rw (f, g) at is))
+  comes p q is = grind (arith, common_steps, cases_Bool, same_Some, none-some)
 
 -- places keep their order
 next_later : (axis : Axis) (from : ℕ) (p q p' q' : Position) → Earlier p q → Comes axis from p p' → Comes axis from q q' → Earlier p' q'
@@ -75,19 +68,7 @@ next_later Columns from p q p' q' (inl e) (moves a is) (moves b js) = rw (is, js
 next_later Columns from p q p' q' (inr e) (moves a is) (moves b js) = rw (is, js) (inr (e.0, omega arith))
 
 pub from_earlier : (p q : Position) → Earlier p q → position_cmp p q ≡ Less
-from_earlier p q e = by_row (nat_cmp p.row q.row) refl (ranked p.row q.row (nat_cmp p.row q.row) refl) e
-  where
-    by_col : (p.row ≡ q.row) → p.col < q.col → (o : Ordering) → MatchOrdering o (p.col < q.col) (p.col ≡ q.col) (q.col < p.col) → o ≡ Less
-    by_col same e Less m = refl
-    by_col same e Equal m = absurd (omega arith)
-    by_col same e Greater m = absurd (omega arith)
-
-    by_row : (o : Ordering) → nat_cmp p.row q.row ≡ o → MatchOrdering o (p.row < q.row) (p.row ≡ q.row) (q.row < p.row) → Earlier p q → ordering_then o (nat_cmp p.col q.col) ≡ Less
-    by_row Less is m e = refl
-    by_row Equal is m (inl e) = absurd (omega arith)
-    by_row Equal is m (inr e) = by_col m e.1 (nat_cmp p.col q.col) (ranked p.col q.col (nat_cmp p.col q.col) refl)
-    by_row Greater is m (inl e) = absurd (omega arith)
-    by_row Greater is m (inr e) = absurd (omega arith)
+from_earlier p q e = grind (arith, common_steps, ranked)
 
 module _ (axis : Axis) (from : ℕ) where
   below_shifted : (x y : Position) (es : List Rectangle) → shifted_place axis from x ≡ Some y → T (below_all position_cmp x es) → T (below_all position_cmp y (shifted_in axis from es))

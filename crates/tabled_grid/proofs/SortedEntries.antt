@@ -1,5 +1,5 @@
 -- Entries whose keys rise: what a binary search finds in them, what an edit leaves, and the maps that they make.
-use Rattle.tabled_grid.proofs.Common.{[], ◌&&◌, ◌<◌, ◌∙◌, ◌∷◌, ◌≡◌, ◌≤◌, ◌⊎◌, AllWithin, Bool, Equal, Err, Greater, IsAntisymmetric, IsBinarySearchResult, IsNonDecreasingBy, IsSearchInRange, IsTotalOrder, Less, List, MatchResult, None, Ok, Ordering, Result, Some, T, add-one, alike_right, ap, arith, below_all, by_order, cases_lt, cond, entries-from_sorted, entries-insert, eq_by_cmp, eq_by_cmp_equiv, false, find, find-where_key, from_sorted, get-from_sorted, get-remove, get_or, inl, inr, insert, is_eq, is_lt, is_sorted, length, not, ordering_index, ordering_reverse, put, refl, remove, same_entries_map, same_map, searchable_from_sorted, set, subst, suc, sym, true, where_key, zero, ℕ}
+use Rattle.tabled_grid.proofs.Common.{[], ◌&&◌, ◌<◌, ◌∙◌, ◌∷◌, ◌≡◌, ◌≤◌, ◌⊎◌, AllWithin, Bool, Equal, Err, Greater, IsAntisymmetric, IsBinarySearchResult, IsNonDecreasingBy, IsSearchInRange, IsTotalOrder, Less, List, MatchResult, None, Ok, Ordering, Result, Some, T, add-one, alike_right, ap, arith, below_all, by_order, cases_lt, common_steps, cond, entries-from_sorted, entries-insert, eq_by_cmp, eq_by_cmp_equiv, false, find, find-where_key, from_sorted, get-from_sorted, get-remove, get_or, inl, inr, insert, is_eq, is_lt, is_sorted, length, not, ordering_index, ordering_reverse, put, refl, remove, same_entries_map, same_map, searchable_from_sorted, set, subst, suc, sym, true, where_key, zero, ℕ}
 use Rattle.std.specs.FinMap as map
 
 -- the two halves of a test, and a test of them
@@ -78,8 +78,7 @@ module _ {K X : Type 0} (R : K → K → Ordering) where
     -- what an insert leaves at the entry that has a key
     pub put_found : (es : List (K × X)) (k : K) (v : X) (i : ℕ) (d : K × X) → T (is_sorted R es) → i < length es → R (get_or es i d).0 k ≡ Equal → put R k v es ≡ set es i (k, v)
     put_found [] k v i d up within same = absurd (omega arith)
-    put_found (e ∷ es) k v zero d up within same =
-        ap (λ r. by_order r ((k, v) ∷ e ∷ es) ((e.0, v) ∷ es) (e ∷ put R k v es)) (o.antisymm k e.0 ∙ ap ordering_reverse same) ∙ ap (λ x. (x, v) ∷ es) (exact _ _ same)
+    put_found (e ∷ es) k v zero d up within same = grind (arith, common_steps)
     put_found (e ∷ es) k v (suc i) d up within same =
         let below : R e.0 k ≡ Less = subst (λ x. R e.0 x ≡ Less) (exact _ _ same) (below_at e.0 es i d (halves _ _ up).0 (omega arith)) in
         ap (λ r. by_order r ((k, v) ∷ e ∷ es) ((e.0, v) ∷ es) (e ∷ put R k v es)) (above o e.0 k below)
@@ -98,9 +97,7 @@ module _ {K X : Type 0} (R : K → K → Ordering) where
     -- the other entries than that which has a key
     pub without_found : (es : List (K × X)) (k : K) (i : ℕ) (d : K × X) → T (is_sorted R es) → i < length es → R (get_or es i d).0 k ≡ Equal → where_key R (λ x. not (eq_by_cmp R k x)) es ≡ remove es i
     without_found [] k i d up within same = absurd (omega arith)
-    without_found (e ∷ es) k zero d up within same =
-        let rest : where_key R (λ x. not (eq_by_cmp R k x)) es ≡ es = kept _ es (λ j d h. ap (λ r. not (is_eq r)) (subst (λ x. R x (get_or es j d).0 ≡ Less) (exact _ _ same) (below_at e.0 es j d (halves _ _ up).0 h))) in
-        ap (λ r. cond (not (is_eq r)) (e ∷ where_key R (λ x. not (eq_by_cmp R k x)) es) (where_key R (λ x. not (eq_by_cmp R k x)) es)) (o.antisymm k e.0 ∙ ap ordering_reverse same) ∙ rest
+    without_found (e ∷ es) k zero d up within same = grind (arith, common_steps, kept, below_at, halves)
     without_found (e ∷ es) k (suc i) d up within same =
         let below : R e.0 k ≡ Less = subst (λ x. R e.0 x ≡ Less) (exact _ _ same) (below_at e.0 es i d (halves _ _ up).0 (omega arith)) in
         ap (λ r. cond (not (is_eq r)) (e ∷ where_key R (λ x. not (eq_by_cmp R k x)) es) (where_key R (λ x. not (eq_by_cmp R k x)) es)) (above o e.0 k below)

@@ -1,5 +1,5 @@
 -- What maps of spans have at each place, after each change.
-use Rattle.tabled_grid.proofs.Common.{[], ◌&&◌, ◌<◌, ◌==◌, ◌∙◌, ◌∷◌, ◌≡◌, ◌≢◌, ◌≤◌, ◌⊎◌, AreSpanSizes, Bool, Equal, Greater, IsAntisymmetric, IsSpanSize, IsTotalOrder, Less, List, None, Option, Ordering, Position, Rectangle, Size, Some, SpanMap, T, and_from, and_parts, ap, ap₂, arith, below_all, cases_Bool, cases_lt, cond, cond-false, cond-true, drop_hidden, entries, entries_sorted, eq-eqb, eq_by_cmp, false, false≢true, find, get, get-entries, get-insert, get-remove, get-retain_keys, holds, inl, inr, is_eq, is_hidden, is_sorted, is_visible, le-leb, leb-true, list_any, lt-ltb, ltb-true, none-some, not, not_from_false, not_from_true, or_cases, or_left, or_right, ordering_reverse, place, position_cmp, refl, same_Some, same_place, size_at, sized, subst, sym, tied_itself, true, unwrap_or, with_size}
+use Rattle.tabled_grid.proofs.Common.{[], ◌&&◌, ◌<◌, ◌==◌, ◌∙◌, ◌∷◌, ◌≡◌, ◌≢◌, ◌≤◌, ◌⊎◌, AreSpanSizes, Bool, Equal, Greater, IsAntisymmetric, IsSpanSize, IsTotalOrder, Less, List, None, Option, Ordering, Position, Rectangle, Size, Some, SpanMap, T, and_from, and_parts, ap, ap₂, arith, below_all, cases_Bool, cases_lt, common_steps, cond, cond-false, cond-true, drop_hidden, entries, entries_sorted, eq-eqb, eq_by_cmp, false, false≢true, find, get, get-entries, get-insert, get-remove, get-retain_keys, holds, inl, inr, is_eq, is_hidden, is_sorted, is_visible, le-leb, list_any, lt-ltb, none-some, not, not_from_false, not_from_true, or_cases, or_left, or_right, ordering_reverse, place, position_cmp, refl, same_Some, same_place, size_at, sized, subst, sym, tied_itself, true, unwrap_or, with_size}
 use Rattle.std.specs.FinMap as map
 use borrow.Author.Tests.{eqb-true}
 pub use Rattle.tabled_grid.proofs.SortedEntries.{both, halves, less}
@@ -52,10 +52,7 @@ module _ {K X : Type 0} (R : K → K → Ordering) (o : IsTotalOrder R) (exact :
 
 -- the test of a rectangle says what it says
 pub holds-true : (e : Rectangle) (p : Position) → holds e p ≡ true → In e p
-holds-true e p t =
-    let rows = and_parts _ _ (and_parts _ _ t).0 in
-    let columns = and_parts _ _ (and_parts _ _ t).1 in
-    record { top = leb-true _ _ rows.0; bottom = ltb-true _ _ rows.1; left = leb-true _ _ columns.0; right = ltb-true _ _ columns.1 }
+holds-true e p t = grind (arith, common_steps, and_parts)
 
 pub holds-from : (e : Rectangle) (p : Position) → In e p → holds e p ≡ true
 holds-from e p i = and_from _ _ (and_from _ _ (le-leb _ _ i.top) (lt-ltb _ _ i.bottom)) (and_from _ _ (le-leb _ _ i.left) (lt-ltb _ _ i.right))
@@ -67,11 +64,7 @@ pub same_place-self : (a : Position) → same_place a a ≡ true
 same_place-self a = and_from _ _ (eq-eqb a.row a.row refl) (eq-eqb a.col a.col refl)
 
 pub same_place-apart : (a b : Position) → a ≢ b → same_place a b ≡ false
-same_place-apart a b apart = either (cases_Bool (same_place a b))
-  where
-    either : (same_place a b ≡ true) ⊎ (same_place a b ≡ false) → same_place a b ≡ false
-    either (inl t) = absurd (apart (same_place-true a b t))
-    either (inr f) = f
+same_place-apart a b apart = grind (arith, common_steps, cases_Bool, same_place-true)
 
 -- another anchor whose rectangle holds a place
 pub record HiddenBy (m : SpanMap) (p : Position) : Type 0 where
@@ -135,25 +128,13 @@ visible m p shown a holds = by_anchor (at m a) (cases_place a p)
 
 -- all sizes are those of more than one cell: no rectangle is empty
 pub full : (m : SpanMap) → AreSpanSizes m → Full (size_at m)
-full m sizes = record { height = λ a. height a (at m a); width = λ a. width a (at m a) }
-  where
-    height : (a : Position) → At m a → 1 ≤ (size_at m a).height
-    height a (none e) = rw (size_at-none m a e) (omega arith)
-    height a (some size e) = rw (size_at-some m a size e) (sizes.each a size e).height
-
-    width : (a : Position) → At m a → 1 ≤ (size_at m a).width
-    width a (none e) = rw (size_at-none m a e) (omega arith)
-    width a (some size e) = rw (size_at-some m a size e) (sizes.each a size e).width
+full m sizes = grind (arith, common_steps, at, size_at-none, size_at-some)
 
 pub tied : (p : Position) → eq_by_cmp position_cmp p p ≡ true
 tied p = ap is_eq (tied_itself positions_total p)
 
 pub untied : (q p : Position) → q ≢ p → eq_by_cmp position_cmp q p ≡ false
-untied q p n = either (cases_Bool (eq_by_cmp position_cmp q p))
-  where
-    either : (eq_by_cmp position_cmp q p ≡ true) ⊎ (eq_by_cmp position_cmp q p ≡ false) → eq_by_cmp position_cmp q p ≡ false
-    either (inl t) = absurd (n (positions_exact q p (equal _ t)))
-    either (inr f) = f
+untied q p n = grind (arith, common_steps, cases_Bool, positions_exact, equal)
 
 -- what the map has at the place whose size was set, and elsewhere
 module _ (m : SpanMap) (p : Position) (size : Size) where
@@ -213,19 +194,11 @@ pub record Kept (m : SpanMap) (a : Position) (size : Size) : Type 0 where
   pub shown : is_visible m a ≡ true
 
 pub kept : (m : SpanMap) (a : Position) (size : Size) → get (drop_hidden m) a ≡ Some size → Kept m a size
-kept m a size has = either (cases_Bool (is_visible m a)) (sym (get-drop_hidden m a) ∙ has)
-  where
-    either : (is_visible m a ≡ true) ⊎ (is_visible m a ≡ false) → cond (is_visible m a) (get m a) None ≡ Some size → Kept m a size
-    either (inl t) e = record { had = rw t at e; shown = t }
-    either (inr f) e = absurd (none-some size (rw f at e))
+kept m a size has = grind (arith, common_steps, cases_Bool, get-drop_hidden, at, none-some)
 
 pub sizes-drop_hidden : (m : SpanMap) → AreSpanSizes m → AreSpanSizes (drop_hidden m)
 sizes-drop_hidden m sizes = record { each = λ a size has. sizes.each a size (kept m a size has).had }
 
 -- after hidden anchors are dropped a place has the size that it had, or that of one cell
 pub kept_or_one : (m : SpanMap) (a : Position) → (size_at (drop_hidden m) a ≡ size_at m a) ⊎ (size_at (drop_hidden m) a ≡ sized 1 1)
-kept_or_one m a = either (cases_Bool (is_visible m a))
-  where
-    either : (is_visible m a ≡ true) ⊎ (is_visible m a ≡ false) → (size_at (drop_hidden m) a ≡ size_at m a) ⊎ (size_at (drop_hidden m) a ≡ sized 1 1)
-    either (inl t) = inl (ap (λ (s : Option Size). unwrap_or s (sized 1 1)) (get-drop_hidden m a ∙ ap (λ b. cond b (get m a) None) t))
-    either (inr f) = inr (ap (λ (s : Option Size). unwrap_or s (sized 1 1)) (get-drop_hidden m a ∙ ap (λ b. cond b (get m a) None) f))
+kept_or_one m a = grind (arith, common_steps, cases_Bool, get-drop_hidden)

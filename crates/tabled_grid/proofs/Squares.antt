@@ -1,5 +1,5 @@
 -- Squares transposed in place, and grids padded to one.
-use Rattle.tabled_grid.proofs.Common.{◌+◌, ◌<◌, ◌∙◌, ◌≡◌, ◌≤◌, AddsColumns, AddsRows, AllByRecursion, Bool, Columns, Grid, IsEmptyWithoutRows, IsEven, IsInside, List, None, Option, Position, Rows, Some, ap, arith, cell_in, cond, eqb, eqb-true, false, first_along, length, ne_eqb, refl, subst, sym, transposed, transposed_rows, true, with_cells_swapped, ℕ}
+use Rattle.tabled_grid.proofs.Common.{◌+◌, ◌<◌, ◌∙◌, ◌≡◌, ◌≤◌, AddsColumns, AddsRows, AllByRecursion, Bool, Columns, Grid, IsEmptyWithoutRows, IsEven, IsInside, List, None, Option, Position, Rows, Some, ap, arith, cell_in, common_steps, cond, eqb, eqb-true, false, first_along, length, ne_eqb, refl, subst, sym, transposed, transposed_rows, true, with_cells_swapped, ℕ}
 use Rattle.tabled_grid.proofs.Across.{same_grid}
 use Rattle.tabled_grid.proofs.AddedColumns.{IsEven-adds_columns}
 use Rattle.tabled_grid.proofs.AddedRows.{IsEven-adds_rows}
@@ -30,11 +30,7 @@ module _ {A : Type 0} (old cur new : Grid A) (size i j : ℕ) where
 
 -- a square stays one
 pub square_swapped : {A : Type 0} (cur new : Grid A) (size : ℕ) (p q : Position) → Square size cur → new ≡ with_cells_swapped cur p q → Square size new
-square_swapped {A} cur new size p q s is = record {
-  even = rw is (IsEven-with_cells_swapped cur p q s.even);
-  rows = ap (λ (h : Grid A). h.rows) is ∙ s.rows;
-  columns = ap (λ (h : Grid A). h.columns) is ∙ s.columns;
-}
+square_swapped {A} cur new size p q s is = grind (arith, common_steps, IsEven-with_cells_swapped)
 
 -- a square all of whose pairs have changed places
 pub turned_square : {A : Type 0} (old new : Grid A) (size i : ℕ) → 0 < size → size ≤ i → Square size old → Square size new → HalfTransposed (cell_in old) (cell_in new) size i i → new ≡ transposed old

@@ -1,7 +1,6 @@
 -- Which cells of a table a step over rows and columns reaches.
-use Rattle.tabled_grid.proofs.Common.{◌%◌, ◌&&◌, ◌+◌, ◌<◌, ◌^◌, ◌||◌, ◌↔◌, ◌∙◌, ◌≡◌, ◌≢◌, ◌≤◌, ◌⊎◌, List, Position, Rectangle, Steps, and_from, and_parts, ap, ap₂, arith, beyond, both_ways, cases_eq, cases_lt, eq-eqb, false, false_from_ne_true, false≢true, get_or, hides, in_run, inl, inr, le-leb, leb-true, lt-ltb, ltb-true, max, min, nat_lt, not_from_false, not_from_true, or_cases, or_left, or_right, place, refl, same_place, set, subst, sym, true, ℕ}
+use Rattle.tabled_grid.proofs.Common.{◌%◌, ◌&&◌, ◌+◌, ◌<◌, ◌^◌, ◌||◌, ◌↔◌, ◌≡◌, ◌≢◌, ◌≤◌, ◌⊎◌, List, Position, Rectangle, Steps, and_from, and_parts, ap, ap₂, arith, beyond, both_ways, cases_eq, cases_lt, common_steps, eq-eqb, false, false_from_ne_true, false≢true, get_or, hides, in_run, inl, inr, le-leb, lt-ltb, ltb-true, max, min, nat_lt, not_from_false, not_from_true, or_cases, or_left, or_right, place, refl, same_place, set, sym, true, ℕ}
 use Rattle.std.specs.Prelude.{◌-◌, ◌*◌}
-use borrow.Author.Tests.{eqb-true}
 use Rattle.tabled_grid.proofs.Geometry.{In}
 use Rattle.tabled_grid.proofs.SpanMaps.{holds-from, holds-true, same_place-apart, same_place-true, same_place-self}
 use Rattle.tabled_grid.proofs.Tables.{steps_joined, steps_nowhere, steps_one, steps_same}
@@ -12,10 +11,7 @@ record InRun (i : ℕ) (run : ℕ × ℕ) (p : Position) : Type 0 where
   right : p.col < run.1
 
 in_run-true : (i : ℕ) (run : ℕ × ℕ) (p : Position) → in_run i run p ≡ true → InRun i run p
-in_run-true i run p t =
-    let parts = and_parts _ _ t in
-    let columns = and_parts _ _ parts.1 in
-    record { row = eqb-true _ _ parts.0; left = leb-true _ _ columns.0; right = ltb-true _ _ columns.1 }
+in_run-true i run p t = grind (arith, common_steps, and_parts)
 
 in_run-from : (i : ℕ) (run : ℕ × ℕ) (p : Position) → InRun i run p → in_run i run p ≡ true
 in_run-from i run p h = and_from _ _ (eq-eqb _ _ h.row) (and_from _ _ (le-leb _ _ h.left) (lt-ltb _ _ h.right))
@@ -26,20 +22,7 @@ no_run i run p h = false_from_ne_true _ (λ t. let at = in_run-true i run p t in
 
 -- one column more
 run_next : (i first j : ℕ) (p : Position) → first ≤ j → in_run i (first, j + 1) p ≡ (in_run i (first, j) p || same_place (place i j) p)
-run_next i first j p h = both_ways _ _ to (λ t. from (or_cases _ _ t))
-  where
-    to : in_run i (first, j + 1) p ≡ true → (in_run i (first, j) p || same_place (place i j) p) ≡ true
-    to t = either (in_run-true i (first, j + 1) p t) (cases_lt p.col j)
-      where
-        either : InRun i (first, j + 1) p → (p.col < j) ⊎ (j ≤ p.col) → (in_run i (first, j) p || same_place (place i j) p) ≡ true
-        either at (inl l) = or_left _ _ (in_run-from i (first, j) p (record { row = at.row; left = at.left; right = l }))
-        either at (inr l) = or_right _ _ (and_from _ _ (eq-eqb _ _ (sym at.row)) (eq-eqb _ _ (omega (arith, at.right))))
-
-    from : (in_run i (first, j) p ≡ true) ⊎ (same_place (place i j) p ≡ true) → in_run i (first, j + 1) p ≡ true
-    from (inl t) = let at = in_run-true i (first, j) p t in in_run-from i (first, j + 1) p (record { row = at.row; left = at.left; right = omega (arith, at.right) })
-    from (inr s) =
-        let same = same_place-true (place i j) p s in
-        in_run-from i (first, j + 1) p (record { row = sym (ap (λ (q : Position). q.row) same); left = omega (arith, ap (λ (q : Position). q.col) same); right = omega (arith, ap (λ (q : Position). q.col) same) })
+run_next i first j p h = grind (arith, common_steps, or_cases, in_run-true, cases_lt, or_left, in_run-from, or_right, and_from, same_place-true)
 
 -- a row that is stepped up to a column
 pub record RunTo (old new : List ℕ) (i : ℕ) (run : ℕ × ℕ) (j step rows columns : ℕ) : Type 0 where
@@ -60,13 +43,7 @@ run_more old xs i j k d x run step rows columns so from below row end e value = 
 
 -- all of a run
 pub run_done : (old xs : List ℕ) (i j : ℕ) (run : ℕ × ℕ) (step rows columns : ℕ) → RunTo old xs i run j step rows columns → run.1 ≤ j → (run.0 ≤ run.1 → j ≤ run.1) → Steps old xs (in_run i run) step rows columns
-run_done old xs i j run step rows columns so past near = either (cases_lt run.1 run.0)
-  where
-    either : (run.1 < run.0) ⊎ (run.0 ≤ run.1) → Steps old xs (in_run i run) step rows columns
-    either (inl h) = steps_same old xs (in_run i (run.0, j)) (in_run i run) step rows columns (λ r c u v. no_run i (run.0, j) (place r c) (omega (arith, so.empty h)) ∙ sym (no_run i run (place r c) (omega arith))) so.steps
-    either (inr h) =
-        let end : j ≡ run.1 = omega (arith, near h) in
-        steps_same old xs (in_run i (run.0, j)) (in_run i run) step rows columns (λ r c u v. ap (λ n. in_run i (run.0, n) (place r c)) end) so.steps
+run_done old xs i j run step rows columns so past near = grind (arith, common_steps, cases_lt, steps_same, no_run)
 
 -- an anchor's rectangle, cut at a block, and the rows of it that are stepped
 pub record EachTo (old new : List ℕ) (first : Position) (anchor : Rectangle) (i step rows columns : ℕ) : Type 0 where
@@ -78,20 +55,13 @@ pub record Hides (anchor : Rectangle) (p : Position) : Type 0 where
   pub other : anchor.0 ≢ p
 
 pub hides-true : (anchor : Rectangle) (p : Position) → hides p anchor ≡ true → Hides anchor p
-hides-true anchor p t =
-    let parts = and_parts _ _ t in
-    record { holds = holds-true anchor p parts.0; other = λ e. false≢true (sym (not_from_true _ (subst (λ (x : Position). same_place anchor.0 x ≡ true) e (same_place-self anchor.0))) ∙ parts.1) }
+hides-true anchor p t = grind (arith, common_steps, and_parts, holds-true, false≢true, not_from_true, same_place-self)
 
 hides-from : (anchor : Rectangle) (p : Position) → Hides anchor p → hides p anchor ≡ true
 hides-from anchor p h = and_from _ _ (holds-from anchor p h.holds) (not_from_false _ (same_place-apart anchor.0 p h.other))
 
 pub each_starts : (xs : List ℕ) (first : Position) (anchor : Rectangle) (i step rows columns : ℕ) → i + first.row ≤ max anchor.0.row first.row → EachTo xs xs first anchor i step rows columns
-each_starts xs first anchor i step rows columns low = record {
-  steps = steps_nowhere xs _ step rows columns (λ r c h k. false_from_ne_true _ (λ t.
-      let parts = and_parts _ _ t in
-      let at = hides-true anchor (beyond first (place r c)) parts.0 in
-      omega (arith, at.holds.top, ltb-true _ _ parts.1)));
-}
+each_starts xs first anchor i step rows columns low = grind (arith, common_steps, steps_nowhere, false_from_ne_true, and_parts, hides-true)
 
 -- where the first of an anchor's columns is another's place
 abbrev pub Begins : Position → Rectangle → ℕ → ℕ → ℕ → Type 0
@@ -130,11 +100,7 @@ pub each_done : (old xs : List ℕ) (first : Position) (anchor : Rectangle) (i s
 each_done old xs first anchor i step rows columns so past = steps_same old xs _ _ step rows columns (λ r c h k. both_ways _ _ (λ t. (and_parts _ _ t).0) (λ t. and_from _ _ t (lt-ltb _ _ (past r h (hides-true anchor (beyond first (place r c)) t).holds.bottom)))) so.steps
 
 pub begins_after : (first : Position) (anchor : Rectangle) (i left columns : ℕ) → first.col + columns < 2 ^ 64 → first.row + i ≡ anchor.0.row → left ≡ min (anchor.0.col + 1) 18446744073709551615 - first.col → Begins first anchor i left columns
-begins_after first anchor i left columns fits row is = λ j h. (λ l. (omega arith, λ e f. omega arith), λ b. by (cases_eq (first.col + j) anchor.0.col) b h)
-  where
-    by : {j : ℕ} → (first.col + j ≡ anchor.0.col) ⊎ (first.col + j ≡ anchor.0.col → ⊥) → (anchor.0.col ≤ first.col + j) × (first.row + i ≡ anchor.0.row → first.col + j ≡ anchor.0.col → ⊥) → j < columns → left ≤ j
-    by (inl e) b h = absurd (b.1 row e)
-    by (inr n) b h = omega (arith, b.0, n)
+begins_after first anchor i left columns fits row is = grind (arith, common_steps, cases_eq)
 
 pub begins_at : (first : Position) (anchor : Rectangle) (i left columns : ℕ) → (first.row + i ≡ anchor.0.row → ⊥) → left ≡ anchor.0.col - first.col → Begins first anchor i left columns
 begins_at first anchor i left columns apart is = λ j h. (λ l. (omega arith, λ e f. apart e), λ b. omega (arith, b.0))

@@ -1,5 +1,5 @@
 -- Two cells swapped, by place.
-use Rattle.tabled_grid.proofs.Common.{[], ◌<◌, ◌∙◌, ◌≡◌, ◌≢◌, All-from_recursion, Grid, IsEven, IsInside, List, Position, Some, ap, arith, cell_at, get_or, get_or-set_other, get_or-set_same, length, map_grid, refl, slice_get-get_or, subst, sym, with_cell, with_cells_swapped, ℕ}
+use Rattle.tabled_grid.proofs.Common.{[], ◌<◌, ◌∙◌, ◌≡◌, ◌≢◌, All-from_recursion, Grid, IsEven, IsInside, List, Position, Some, ap, arith, cell_at, common_steps, get_or, get_or-set_other, get_or-set_same, length, map_grid, slice_get-get_or, subst, sym, with_cell, with_cells_swapped, ℕ}
 use Rattle.tabled_grid.proofs.Grids.{IsEven-map_grid, IsEven-with_cell}
 use Rattle.tabled_grid.proofs.Mapped.{map_grid-with_cells_swapped}
 
@@ -37,21 +37,7 @@ module _ {B : Type 0} (d : B) (g : Grid B) (p : Position) (x : B) (even : IsEven
 -- two cells of different rows swapped
 entries_swapped : {B : Type 0} (d : B) (g : Grid B) (p q : Position) → IsEven g → IsInside g p → IsInside g q → p.row ≢ q.row →
     Swaps (entry d g.cells) (entry d (with_cells_swapped g p q).cells) p.row p.col q.row q.col
-entries_swapped {B} d g p q even at_p at_q apart =
-    let x : B = entry d g.cells q.row q.col in
-    let y : B = entry d g.cells p.row p.col in
-    let half : Grid B = with_cell g p x in
-    let half_even : IsEven half = IsEven-with_cell g p x even in
-    let half_q : IsInside half q = record { row = at_q.row; col = at_q.col } in
-    let is : with_cells_swapped g p q ≡ with_cell half q y = rw (has_entry d g q d even at_q, has_entry d g p d even at_p) refl in
-    let cells : (a b : ℕ) → entry d (with_cells_swapped g p q).cells a b ≡ entry d (with_cell half q y).cells a b = λ a b. ap (λ (h : Grid B). entry d h.cells a b) is in
-    record {
-      here = cells p.row p.col ∙ entry_other d half q y half_even half_q p.row p.col apart ∙ entry_same d g p x even at_p;
-      there = cells q.row q.col ∙ entry_same d half q y half_even half_q;
-      in_here = λ b h. cells p.row b ∙ entry_other d half q y half_even half_q p.row b apart ∙ entry_in_row d g p x even at_p b h;
-      in_there = λ b h. cells q.row b ∙ entry_in_row d half q y half_even half_q b h ∙ entry_other d g p x even at_p q.row b (λ e. apart (sym e));
-      elsewhere = λ a b h k. cells a b ∙ entry_other d half q y half_even half_q a b k ∙ entry_other d g p x even at_p a b h;
-    }
+entries_swapped {B} d g p q even at_p at_q apart = grind (arith, common_steps, IsEven-with_cell, has_entry, entry_other, entry_same, entry_in_row)
 
 -- what f gives of two cells that are swapped, where there is d outside
 pub views_swapped : {A B : Type 0} (f : A → B) (d : B) (g new : Grid A) (p q : Position) → IsEven g → IsInside g p → IsInside g q → p.row ≢ q.row → new ≡ with_cells_swapped g p q →

@@ -1,5 +1,5 @@
 -- What is left after two cells were exchanged.
-use Rattle.tabled_grid.proofs.Common.{[], ◌<◌, ◌∙◌, ◌∷◌, ◌≡◌, ◌≢◌, List, Position, Some, Vec, ap, arith, cell_at, get_or, get_or-set_other, get_or-set_same, grid_of, length, length-map, map-set, map_items, refl, set, set-set, set_comm, slice_get, slice_get_read, suc, swap, swap_is, sym, with_cells_swapped, zero, ℕ}
+use Rattle.tabled_grid.proofs.Common.{[], ◌<◌, ◌∙◌, ◌∷◌, ◌≡◌, ◌≢◌, List, Position, Some, Vec, ap, arith, cell_at, common_steps, get_or, get_or-set_other, get_or-set_same, grid_of, length, length-map, map-set, map_items, refl, set, set-set, set_comm, slice_get, slice_get_read, suc, swap, swap_is, sym, with_cells_swapped, zero, ℕ}
 use Rattle.std.specs.Prelude.{vec_len}
 use Rattle.std.proofs.lemmas.List.{get_or-map}
 
@@ -28,30 +28,17 @@ swapped_in_row {A} rows p q e h i j =
 -- two cells of different rows
 pub swapped_in_rows : {A : Type 0} (rows : List (List A)) (p q : Position) (a b : A) → p.row ≢ q.row → cell_at (grid_of rows) p ≡ Some a → cell_at (grid_of rows) q ≡ Some b →
     set (set rows q.row (set (get_or rows q.row []) q.col a)) p.row (set (get_or rows p.row []) p.col b) ≡ (with_cells_swapped (grid_of rows) p q).cells
-swapped_in_rows rows p q a b apart is_a is_b =
-    let other : get_or (set rows p.row (set (get_or rows p.row []) p.col b)) q.row [] ≡ get_or rows q.row [] = get_or-set_other rows p.row q.row _ [] (λ e. apart (sym e)) in
-    rw (is_a, is_b, other) (set_comm rows q.row p.row _ _ (λ e. apart (sym e)))
+swapped_in_rows rows p q a b apart is_a is_b = grind (arith, common_steps, get_or-set_other, set_comm)
 
 -- the same where vectors hold the rows
 module _ {A : Type 0} (rows : List (Vec A)) (p q : Position) (p_row : p.row < length rows) (q_row : q.row < length rows) where
   pub exchanged_in_row : (d row : Vec A) → p.row ≡ q.row → p.col < vec_len (get_or rows p.row d) → q.col < vec_len (get_or rows p.row d) → row.items ≡ swap (get_or rows p.row d).items p.col q.col →
       map_items (set rows p.row row) ≡ (with_cells_swapped (grid_of (map_items rows)) p q).cells
-  exchanged_in_row d row e i j is =
-      let old : get_or (map_items rows) p.row [] ≡ (get_or rows p.row d).items = get_or-map (λ (v : Vec A). v.items) rows p.row d [] p_row in
-      map-set (λ (v : Vec A). v.items) rows p.row row ∙ ap (set (map_items rows) p.row) is
-      ∙ (rw (← old) (swapped_in_row (map_items rows) p q e (omega (arith, length-map rows (λ (v : Vec A). v.items))) (rw (old, ← (get_or rows p.row d).ok.0) i) (rw (old, ← (get_or rows p.row d).ok.0) j)))
+  exchanged_in_row d row e i j is = grind (arith, common_steps, get_or-map, map-set, swapped_in_row, length-map)
 
   -- the row of p is taken out meanwhile
   pub exchanged_in_rows : (d e none one other : Vec A) (a b : A) → p.row ≢ q.row → p.col < vec_len (get_or rows p.row d) → q.col < vec_len (get_or rows q.row e) →
       a ≡ get_or (get_or rows p.row d).items p.col a → b ≡ get_or (get_or rows q.row e).items q.col b →
       one.items ≡ set (get_or rows p.row d).items p.col b → other.items ≡ set (get_or rows q.row e).items q.col a →
       map_items (set (set (set rows p.row none) q.row other) p.row one) ≡ (with_cells_swapped (grid_of (map_items rows)) p q).cells
-  exchanged_in_rows d e none one other a b apart i j is_a is_b is_one is_other =
-      let one_is : get_or (map_items rows) p.row [] ≡ (get_or rows p.row d).items = get_or-map (λ (v : Vec A). v.items) rows p.row d [] p_row in
-      let other_is : get_or (map_items rows) q.row [] ≡ (get_or rows q.row e).items = get_or-map (λ (v : Vec A). v.items) rows q.row e [] q_row in
-      let at_p : cell_at (grid_of (map_items rows)) p ≡ Some a = rw one_is (slice_get_read _ _ p.col a (get_or rows p.row d).ok.0 i is_a) in
-      let at_q : cell_at (grid_of (map_items rows)) q ≡ Some b = rw other_is (slice_get_read _ _ q.col b (get_or rows q.row e).ok.0 j is_b) in
-      let taken : set (set (set rows p.row none) q.row other) p.row one ≡ set (set rows q.row other) p.row one = ap (λ (vs : List (Vec A)). set vs p.row one) (set_comm rows p.row q.row none other apart) ∙ set-set (set rows q.row other) p.row none one in
-      ap map_items taken ∙ map-set (λ (v : Vec A). v.items) (set rows q.row other) p.row one
-      ∙ ap (λ (ws : List (List A)). set ws p.row one.items) (map-set (λ (v : Vec A). v.items) rows q.row other)
-      ∙ rw (is_one, is_other, ← one_is, ← other_is) (swapped_in_rows (map_items rows) p q a b apart at_p at_q)
+  exchanged_in_rows d e none one other a b apart i j is_a is_b is_one is_other = grind (arith, common_steps, get_or-map, slice_get_read, set_comm, set-set, map-set, swapped_in_rows)

@@ -1,5 +1,5 @@
 -- Numbers for the places of a shape, and how they are stepped.
-use Rattle.tabled_grid.proofs.Common.{[], ◌%◌, ◌*◌, ◌++◌, ◌+◌, ◌-◌, ◌<◌, ◌^◌, ◌||◌, ◌∙◌, ◌∷◌, ◌≡◌, ◌≤◌, ◌⊎◌, Bool, List, Position, Stepped, Steps, ap, ap₂, arith, cases_Bool, cond, false, get_or, get_or_append_left, inl, inr, length, map, map-append, or_right, place, range_with_len, refl, replicate, replicate-append-replicate, same_place, set, set-append_left, set-append_right, subst, suc, sym, table, true, zero, ℕ}
+use Rattle.tabled_grid.proofs.Common.{[], ◌%◌, ◌*◌, ◌++◌, ◌+◌, ◌-◌, ◌<◌, ◌^◌, ◌||◌, ◌∙◌, ◌∷◌, ◌≡◌, ◌≤◌, ◌⊎◌, Bool, List, Position, Stepped, Steps, ap, ap₂, arith, cases_Bool, common_steps, cond, false, get_or, get_or_append_left, inl, inr, length, map, map-append, or_right, place, range_with_len, refl, replicate, replicate-append-replicate, same_place, set, set-append_left, set-append_right, subst, suc, sym, table, true, zero, ℕ}
 use Rattle.tabled_grid.proofs.Places.{block-is, places}
 use Rattle.tabled_grid.proofs.SpanMaps.{same_place-apart, same_place-self}
 
@@ -65,9 +65,7 @@ set-rows f g a (suc n) m (suc i) j k x h l e is others =
     (set-rows f g (a + 1) n m i j (k - m) x (omega arith) l rest (subst (λ r. g (place r j) ≡ x) (omega arith) is) (λ r c u v w apart. others r c (omega arith) (omega arith) w (λ same. apart (omega (arith, same.0), same.1))))
 
 get_or-past : (xs ys : List ℕ) (d n : ℕ) → get_or (xs ++ ys) (length xs + n) d ≡ get_or ys n d
-get_or-past [] ys d n =
-    let none : 0 + n ≡ n = omega arith in
-    ap (λ k. get_or ys k d) none
+get_or-past [] ys d n = grind (arith, common_steps)
 get_or-past (x ∷ xs) ys d n =
     let more : suc (length xs) + n ≡ suc (length xs + n) = omega arith in
     ap (λ k. get_or (x ∷ (xs ++ ys)) k d) more ∙ get_or-past xs ys d n
@@ -106,9 +104,7 @@ table-zero rows columns count e = table-is (λ p. 0) rows columns ∙ zeros 0 ro
     zero_row i c (suc m) = ap (λ xs. 0 ∷ xs) (zero_row i (c + 1) m)
 
     zeros : (a n : ℕ) → rows_of (λ p. 0) a n columns ≡ replicate (n * columns) 0
-    zeros a zero =
-        let none : 0 ≡ 0 * columns = omega arith in
-        ap (λ k. replicate k 0) none
+    zeros a zero = grind (arith, common_steps)
     zeros a (suc n) = ap₂ (λ xs ys. xs ++ ys) (zero_row a 0 columns) (zeros (a + 1) n) ∙ replicate-append-replicate columns (n * columns) 0 ∙ (let all : columns + n * columns ≡ suc n * columns = omega arith in ap (λ k. replicate k 0) all)
 
 -- a list that is stepped nowhere

@@ -1,5 +1,5 @@
 -- Cells moved from one grid to another one of blanks, through a map of places.
-use Rattle.tabled_grid.proofs.Common.{[], ◌*◌, ◌+◌, ◌<◌, ◌∙◌, ◌∷◌, ◌≡◌, ◌≢◌, ◌≤◌, ◌⊎◌, All-from_recursion, AllByRecursion, AreBlanks, Exchanges, FillsThrough, Grid, IfSome, IsEven, IsInside, List, None, Option, Places, Position, Some, TakesOnce, Within, all-drop, all-take, ap, ap₂, arith, cases_eq, cases_lt, cell_at, chunks, drop, get_or, grid_of, inl, inr, length, length-drop, length-take-le, none-some, place, refl, same_Some, subst, suc, sym, width_of, zero, ℕ}
+use Rattle.tabled_grid.proofs.Common.{[], ◌*◌, ◌+◌, ◌<◌, ◌∙◌, ◌∷◌, ◌≡◌, ◌≢◌, ◌≤◌, ◌⊎◌, All-from_recursion, AllByRecursion, AreBlanks, Exchanges, FillsThrough, Grid, IfSome, IsEven, IsInside, List, None, Option, Places, Position, Some, TakesOnce, Within, all-drop, all-take, ap, arith, cases_eq, cases_lt, cell_at, chunks, common_steps, drop, grid_of, inl, inr, length, length-drop, length-take-le, none-some, place, refl, same_Some, subst, suc, sym, width_of, zero, ℕ}
 use Rattle.tabled_grid.proofs.AddedLines.{blank_at}
 use Rattle.tabled_grid.proofs.AddedRows.{wide_blanks}
 use Rattle.tabled_grid.proofs.Grids.{IsEven-with_cell, cell_at-with_cell_other, cell_at-with_cell_same}
@@ -27,20 +27,11 @@ if_some None P h = tt
 if_some (Some q) P h = h q refl
 
 same_or : (p : Position) (i j : ℕ) → (p ≡ place i j) ⊎ (p ≢ place i j)
-same_or p i j = either (cases_eq p.row i) (cases_eq p.col j)
-  where
-    either : (p.row ≡ i) ⊎ (p.row ≢ i) → (p.col ≡ j) ⊎ (p.col ≢ j) → (p ≡ place i j) ⊎ (p ≢ place i j)
-    either (inl row) (inl col) = inl (ap₂ place row col)
-    either (inr off) col = inr (λ same. off (ap (λ (p : Position). p.row) same))
-    either (inl row) (inr off) = inr (λ same. off (ap (λ (p : Position). p.col) same))
+same_or p i j = grind (arith, common_steps, cases_eq)
 
 earlier : (p : Position) (i j next : ℕ) → next ≡ j + 1 → Before i next p → p ≢ place i j → Before i j p
 earlier p i j next e (inl less) off = inl less
-earlier p i j next e (inr (at, below)) off = either (cases_eq p.col j)
-  where
-    either : (p.col ≡ j) ⊎ (p.col ≢ j) → Before i j p
-    either (inl same) = absurd (off (ap₂ place at same))
-    either (inr apart) = inr (at, omega (arith, below, apart, e))
+earlier p i j next e (inr (at, below)) off = grind (arith, common_steps, cases_eq)
 
 later : (p : Position) (i j next : ℕ) → next ≡ j + 1 → NotBefore i next p → NotBefore i j p
 later p i j next e (inl more) = inl more
@@ -60,9 +51,7 @@ blank_chunks is_blank (suc r) c xs long all = (
 
 -- a cell of rows of blanks
 pub blank_cell : {A : Type 0} (is_blank : A → Type 0) (columns : ℕ) (g : Grid A) (p : Position) → IsEven g → AllByRecursion (AreBlanks is_blank columns) g.cells → p.row < g.rows → p.col < columns → (c : A) × is_blank c × (cell_at g p ≡ Some c)
-blank_cell is_blank columns g p even blanks row col =
-    let cells = All-from_recursion _ g.cells blanks p.row [] (omega (arith, even.tall, row)) in
-    blank_at is_blank (get_or g.cells p.row []) p.col cells.blank (omega (arith, cells.many, col))
+blank_cell is_blank columns g p even blanks row col = grind (arith, common_steps, All-from_recursion, blank_at)
 
 module _ {A : Type 0} (is_blank : A → Type 0) (places : Places) (old : Grid A) where
   pub through_none : (columns : ℕ) (new : Grid A) → IsEven old → IsEven new → new.rows ≡ places.rows → new.columns ≡ columns → columns ≡ places.columns → AllByRecursion (AreBlanks is_blank columns) new.cells → MovesThrough is_blank places 0 0 old old new
@@ -85,21 +74,7 @@ module _ {A : Type 0} (is_blank : A → Type 0) (places : Places) (old : Grid A)
   module _ (i j next : ℕ) (e : next ≡ j + 1) (now new : Grid A) (m : MovesThrough is_blank places i j old now new) where
     -- no cell comes to a place
     pub through_gap : places.old_place (place i j) ≡ None → MovesThrough is_blank places i next old now new
-    through_gap gap = record {
-      now_even = m.now_even;
-      now_rows = m.now_rows;
-      now_columns = m.now_columns;
-      even = m.even;
-      rows = m.rows;
-      columns = m.columns;
-      done = λ p q w before is. m.done p q w (earlier p i j next e before (λ same. none-some q (sym (ap places.old_place same ∙ gap) ∙ is))) is;
-      left = λ p q w after is. m.left p q w (later p i j next e after) is;
-      blank = λ p w which. m.blank p w (wider p which);
-    }
-      where
-        wider : (p : Position) → NotBefore i next p ⊎ (places.old_place p ≡ None) → NotBefore i j p ⊎ (places.old_place p ≡ None)
-        wider p (inl after) = inl (later p i j next e after)
-        wider p (inr none) = inr none
+    through_gap gap = grind (arith, common_steps, earlier, none-some, later)
 
     -- a cell comes to its place
     module _ (from : Position) (t : TakesOnce places old) (here : Within places (place i j)) (takes : places.old_place (place i j) ≡ Some from) where
@@ -149,45 +124,11 @@ module _ {A : Type 0} (is_blank : A → Type 0) (places : Places) (old : Grid A)
 
   -- one row more
   pub through_row : (i j next : ℕ) (now new : Grid A) → next ≡ i + 1 → places.columns ≤ j → MovesThrough is_blank places i j old now new → MovesThrough is_blank places next 0 old now new
-  through_row i j next now new e all m = record {
-    now_even = m.now_even;
-    now_rows = m.now_rows;
-    now_columns = m.now_columns;
-    even = m.even;
-    rows = m.rows;
-    columns = m.columns;
-    done = λ p q w before is. m.done p q w (sooner p w before (cases_lt p.row i)) is;
-    left = λ p q w after is. m.left p q w (past p after) is;
-    blank = λ p w which. m.blank p w (wider p which);
-  }
-    where
-      sooner : (p : Position) → Within places p → Before next 0 p → (p.row < i) ⊎ (i ≤ p.row) → Before i j p
-      sooner p w before (inl less) = inl less
-      sooner p w (inl below) (inr from) = inr (omega (arith, below, from, e), omega (arith, w.col, all))
-      sooner p w (inr (at, less)) (inr from) = absurd (omega (arith, less))
-
-      past : (p : Position) → NotBefore next 0 p → NotBefore i j p
-      past p (inl more) = inl (omega (arith, more, e))
-      past p (inr (at, from)) = inl (omega (arith, at, e))
-
-      wider : (p : Position) → NotBefore next 0 p ⊎ (places.old_place p ≡ None) → NotBefore i j p ⊎ (places.old_place p ≡ None)
-      wider p (inl after) = inl (past p after)
-      wider p (inr none) = inr none
+  through_row i j next now new e all m = grind (arith, common_steps, cases_lt)
 
   -- all rows
   pub through_all : (i : ℕ) (now new : Grid A) → places.rows ≤ i → MovesThrough is_blank places i 0 old now new → FillsThrough is_blank places old new
-  through_all i now new all m = record {
-    reads = record {
-      even = m.even;
-      rows = m.rows;
-      columns = m.columns;
-      moved = λ p inside. if_some (places.old_place p) (λ (q : Position). cell_at new p ≡ cell_at old q) (λ q is. m.done p q (within p inside) (inl (omega (arith, inside.row, m.rows, all))) is);
-    };
-    blanks = λ p inside none. m.blank p (within p inside) (inr none);
-  }
-    where
-      within : (p : Position) → IsInside new p → Within places p
-      within p inside = record { row = omega (arith, inside.row, m.rows); col = omega (arith, inside.col, m.columns) }
+  through_all i now new all m = grind (arith, common_steps, if_some)
 
 -- rows of blanks are a grid
 pub blank_rows : {A : Type 0} (is_blank : A → Type 0) (columns : ℕ) (cells : List (List A)) → 0 < length cells → AllByRecursion (AreBlanks is_blank columns) cells → IsEven (grid_of cells) × (width_of cells ≡ columns)

@@ -1,5 +1,5 @@
 -- Rows as columns, and grids by their cells.
-use Rattle.tabled_grid.proofs.Common.{[], ◌+◌, ◌<◌, ◌∙◌, ◌∷◌, ◌≡◌, ◌≤◌, AddsColumns, AddsRows, AllByRecursion, Bool, Columns, Grid, IsEven, List, None, Option, Rows, Some, all-map, all-take, ap, ap₂, arith, cell_in, cond, eqb, false, first_along, get_or, get_or-map, get_or-take, get_or_append_left, length, length-map, length-replicate, length-take-le, length-zip, map, ne_eqb, nil_from_length, refl, replicate, slice_get, subst, suc, sym, take, transposed, transposed_rows, zero, zip, ℕ}
+use Rattle.tabled_grid.proofs.Common.{[], ◌+◌, ◌<◌, ◌∙◌, ◌∷◌, ◌≡◌, ◌≤◌, AddsColumns, AddsRows, AllByRecursion, Columns, Grid, IsEven, List, None, Rows, Some, all-map, all-take, ap, ap₂, arith, cell_in, common_steps, first_along, get_or, get_or-map, get_or-take, get_or_append_left, length, length-map, length-replicate, length-take-le, length-zip, map, ne_eqb, nil_from_length, refl, replicate, slice_get, subst, suc, sym, take, transposed, transposed_rows, zero, zip, ℕ}
 use Rattle.std.proofs.lemmas.List.{get_or-map as get_or-map_within}
 use Rattle.tabled_grid.proofs.AddedColumns.{IsEven-adds_columns, columns_front}
 use Rattle.tabled_grid.proofs.AddedRows.{IsEven-adds_rows}
@@ -43,9 +43,7 @@ none_at A (suc c) (suc a) = none_at A c a
 
 module _ {A : Type 0} where
   pub cell_in-is : (g : Grid A) (a b : ℕ) → cell_in g a b ≡ slice_get (get_or g.cells a []) b
-  cell_in-is g a b =
-      let none : Option A = None in
-      ap (λ (row : List (Option A)). get_or row b none) (get_or-map (map Some) g.cells a []) ∙ slice_get-some (get_or g.cells a []) b
+  cell_in-is g a b = grind (arith, common_steps, get_or-map, slice_get-some)
 
   -- the same of rows that are as long
   pub same_rows : (n r : ℕ) (xs ys : List (List A)) → length xs ≡ n → length ys ≡ n → AllByRecursion (λ (row : List A). length row ≡ r) xs → AllByRecursion (λ (row : List A). length row ≡ r) ys →
@@ -132,10 +130,7 @@ module _ {A : Type 0} where
         ∙ sym (at-transposed g.columns g.cells a b even.wide))
 
     pub transposed_some : (front new : Grid A) (r c : ℕ) → r ≡ g.rows → c ≡ g.columns → 0 < c → front ≡ first_along Rows c square → new ≡ first_along Columns r front → new ≡ transposed g
-    transposed_some front new r c er ec some is cut =
-        let more : eqb g.columns 0 ≡ false = ne_eqb g.columns 0 (λ e. omega (arith, e, ec, some)) in
-        cut ∙ ap (first_along Columns r) is ∙ ap₂ (λ (i j : ℕ). first_along Columns i (first_along Rows j square)) er ec
-        ∙ ap₂ (λ (columns : ℕ) (cells : List (List A)). let h : Grid A = record { rows = g.columns; columns = columns; cells = cells } in h) (sym (ap (λ (b : Bool). cond b 0 g.rows) more)) cells_turned
+    transposed_some front new r c er ec some is cut = grind (arith, common_steps, ne_eqb, cells_turned)
 
 -- without columns there are no rows once they are columns
 pub transposed_none : {A : Type 0} (g new : Grid A) → IsEven g → g.columns ≡ 0 → new ≡ first_along Rows 0 g → new ≡ transposed g

@@ -1,5 +1,5 @@
 -- Rows made of columns, by items that are pushed to all rows at once.
-use Rattle.tabled_grid.proofs.Common.{[], ◌++◌, ◌+◌, ◌<◌, ◌∙◌, ◌∷◌, ◌≡◌, ◌≤◌, AreWide, Bool, IsEven, List, Vec, ap, append-nil, append_assoc, ap₂, arith, cond, drop, drop-drop, drop-set-lt, drop_all, drop_more, first_left, get_or, get_or-map, grid_of, if◌then◌else◌, length, length-map, length-replicate, length-set, map, map-set, map_items, ne_eqb, refl, replicate, set, subst, suc, sym, take, take_all, take_more_set, transposed, transposed_rows, width_of, with_items_behind, zero, zip, ℕ}
+use Rattle.tabled_grid.proofs.Common.{[], ◌++◌, ◌+◌, ◌<◌, ◌∙◌, ◌∷◌, ◌≡◌, ◌≤◌, AreWide, Bool, IsEven, List, Vec, ap, append-nil, append_assoc, ap₂, arith, common_steps, cond, drop, drop-drop, drop-set-lt, drop_all, drop_more, first_left, get_or, get_or-map, grid_of, if◌then◌else◌, length, length-map, length-replicate, length-set, map, map-set, map_items, ne_eqb, refl, replicate, set, subst, suc, sym, take, take_all, take_more_set, transposed, transposed_rows, width_of, with_items_behind, zero, zip, ℕ}
 use Rattle.std.proofs.Common.{◌==◌}
 use Rattle.tabled_grid.proofs.NestedRows.{HaveGrid, have_grid}
 use Rattle.tabled_grid.proofs.Transposed.{length-transposed, wide-transposed}
@@ -25,11 +25,7 @@ module _ {A : Type 0} where
 
   item_put : (rows : List (List A)) (i : ℕ) (d row : List A) (item : A) (left : List A) → i < length rows → row ≡ get_or rows i d ++ item ∷ [] →
       take i rows ++ with_items_behind (drop i rows) (item ∷ left) ≡ take (i + 1) (set rows i row) ++ with_items_behind (drop (i + 1) (set rows i row)) left
-  item_put rows i d row item left inside is =
-      ap (λ rs. take i rows ++ with_items_behind rs (item ∷ left)) (drop_more rows i d inside)
-      ∙ ap (λ r. take i rows ++ r ∷ with_items_behind (drop (i + 1) rows) left) (sym is)
-      ∙ sym (append_assoc (take i rows) (row ∷ []) (with_items_behind (drop (i + 1) rows) left))
-      ∙ ap₂ (λ front rest. front ++ with_items_behind rest left) (sym (take_more_set rows i row inside)) (sym (drop-set-lt (i + 1) rows i row (omega arith)))
+  item_put rows i d row item left inside is = grind (arith, common_steps, drop_more, append_assoc, take_more_set, drop-set-lt)
 
   pub pushed_more : (old new : List (Vec A)) (items left : List A) (i : ℕ) (d row : Vec A) (item : A) → i < length old → row.items ≡ (get_or new i d).items ++ item ∷ [] → PushedTo old new items (item ∷ left) i → PushedTo old (set new i row) items left (i + 1)
   pushed_more old new items left i d row item inside is h = record {
@@ -42,11 +38,7 @@ module _ {A : Type 0} where
   }
 
   pub pushed_all : (old new : List (Vec A)) (items left : List A) (i : ℕ) → length old ≤ i → PushedTo old new items left i → map_items new ≡ with_items_behind (map_items old) items
-  pushed_all old new items left i past h =
-      let within : length (map_items new) ≤ i = omega (arith, length-map new (λ (v : Vec A). v.items), h.same) in
-      sym (h.is
-      ∙ ap₂ (λ front rest. front ++ with_items_behind rest left) (take_all i (map_items new) within) (drop_all i (map_items new) within)
-      ∙ append-nil (map_items new))
+  pushed_all old new items left i past h = grind (arith, common_steps, length-map, take_all, drop_all, append-nil)
 
   none_behind : (n : ℕ) (rows : List (List A)) → length rows ≡ n → with_rows_behind (replicate n []) rows ≡ rows
   none_behind zero [] e = refl

@@ -1,5 +1,5 @@
 -- What iterators over buffered rows give.
-use Rattle.tabled_rows.proofs.Common.{[], ◌++◌, ◌<◌, ◌∙◌, ◌∷◌, ◌≡◌, ◌≤◌, BufIterator, Buffered, BufferedWalk, Comes, Count, Fuse, GivesBuffered, GivesEach, Global, GoesOverEach, IntoIter, IsFinite, Iterator, List, None, Option, Shows, Some, Vec, Yields, all_shown, ap, ap₂, arith, can_come, false, fuse_done, fuse_source, fuse_steps, into_iter_items, into_iter_len, into_iter_steps, length, map, map_items, nil_from_length, refl, rules, still_to_come, subst, suc, sym, take, true, vec_len, zero, ℕ}
+use Rattle.tabled_rows.proofs.Common.{[], ◌++◌, ◌<◌, ◌∙◌, ◌∷◌, ◌≡◌, ◌≤◌, BufIterator, Buffered, BufferedWalk, Comes, Count, Fuse, GivesBuffered, GivesEach, Global, GoesOverEach, IntoIter, IsFinite, Iterator, List, None, Option, Shows, Some, Vec, Yields, all_shown, ap, ap₂, arith, can_come, common_steps, false, fuse_done, fuse_source, fuse_steps, into_iter_items, into_iter_len, into_iter_steps, length, map, map_items, nil_from_length, refl, still_to_come, subst, suc, sym, take, true, vec_len, zero, ℕ}
 use Rattle.tabled_rows.proofs.Listed.{Went, gives-by_state, gives-ended, gives-vec, gives-went}
 
 module _ {I A B : Type 0} (cell_gives : I → Option A → I → Type 0) (shown : A → B) where
@@ -46,32 +46,10 @@ module _ {S U I W A B : Type 0} (next_gives : S → Option U → S → Type 0) (
   steps s r t = GivesBuffered next_gives becomes (walk_of s) r (walk_of t)
 
   buffered-ended : (s t : W) (rows : List (List B)) → IsLeft s rows → steps s None t → rows ≡ []
-  buffered-ended s t rows j p =
-      let empty : j.buffer ≡ [] = nil_from_length j.buffer (sym j.long ∙ p.0) in
-      j.are ∙ ap (λ vs. all_shown shown (map_items vs) ++ j.others) empty ∙ gives-ended next_gives gives-row j.others _ _ j.gives p.2
+  buffered-ended s t rows j p = grind (arith, common_steps, gives-ended)
 
   buffered-went : (s t : W) (x : BufIterator I A) (rows : List (List B)) → IsLeft s rows → steps s (Some x) t → Went gives-buffered_row IsLeft rows x t
-  buffered-went s t (Buffered cells) rows j p =
-      let all : into_iter_items (buffer_of s) ≡ j.buffer = j.buffered (omega (arith, p.1.1)) in
-      let are : j.buffer ≡ p.0 ∷ into_iter_items (buffer_of t) = sym all ∙ p.1.0 in
-      record {
-        first = map shown p.0.items;
-        others = all_shown shown (map_items (into_iter_items (buffer_of t))) ++ j.others;
-        are = j.are ∙ ap (λ vs. all_shown shown (map_items vs) ++ j.others) are;
-        stands = λ it same. rw same (record {
-          can = tt;
-          ends = tt;
-          gives = gives-come cell_gives shown _ (Buffered cells) (gives-vec shown (Shows shown) (λ x. refl) p.0 cells p.3 p.4);
-        });
-        leaves = record {
-          buffer = into_iter_items (buffer_of t);
-          others = j.others;
-          buffered = λ h. refl;
-          long = omega (arith, j.long, p.1.1, ap length are);
-          gives = subst (λ left. GivesEach next_gives gives-row left j.others) (sym p.2) j.gives;
-          are = refl;
-        };
-      }
+  buffered-went s t (Buffered cells) rows j p = grind (arith, common_steps, gives-come, gives-vec)
   buffered-went s t (Iterator cells) rows j p =
       let empty : j.buffer ≡ [] = nil_from_length j.buffer (sym j.long ∙ p.1) in
       let next = gives-went next_gives gives-row j.others _ _ p.0 j.gives p.3 in
@@ -128,14 +106,7 @@ module _ {S U I A B : Type 0} (next_gives : S → Option U → S → Type 0) (be
 
   -- one more row is read
   pub read-row : (s t : S) (buffer : List (Vec A)) (rows : List (List B)) (row : U) (iter left end : I) (cells : Vec A) (xs : List A) → IsReadAhead s buffer rows → next_gives s (Some row) t → becomes row iter → Yields cell_gives iter xs left → cell_gives left None end → cells.items ≡ xs → IsReadAhead t (buffer ++ cells ∷ []) rows
-  read-row s t buffer rows row iter left end cells xs j p b y e items =
-      let next = gives-went next_gives gives-unread j.others s t row j.gives p in
-      let whole : map shown cells.items ≡ next.first = ap (map shown) items ∙ drained xs next.first iter left end (next.stands iter b).gives y e in
-      record {
-        others = next.others;
-        gives = next.leaves;
-        are = j.are ∙ ap (λ ys. all_shown shown (map_items buffer) ++ ys) (next.are ∙ ap (λ r. r ∷ next.others) (sym whole)) ∙ one-more buffer cells next.others;
-      }
+  read-row s t buffer rows row iter left end cells xs j p b y e items = grind (arith, common_steps, gives-went, drained, one-more)
 
   -- a row that may be read
   pub can-read : (s t : S) (buffer : List (Vec A)) (rows : List (List B)) (row : U) (iter : I) → IsReadAhead s buffer rows → next_gives s (Some row) t → becomes row iter → can iter × IsFinite (remaining iter)
@@ -168,6 +139,4 @@ gives-fuse next_gives stands_for ys s on g = gives-by_state (fuse_steps next_giv
 
 -- once it has ended, it gives nothing
 pub gives-fused : {S A B : Type 0} (next_gives : S → Option A → S → Type 0) (stands_for : A → B → Type 0) (s : Fuse S) → fuse_done s ≡ true → GivesEach (fuse_steps next_gives) stands_for s []
-gives-fused next_gives stands_for s done x t p =
-    let none = rw done at p.0 in
-    absurd (search rules)
+gives-fused next_gives stands_for s done x t p = grind (arith, common_steps)

@@ -1,5 +1,5 @@
 -- What adapters give, told by what the iterators inside them gave.
-use Rattle.tabled_rows.proofs.Common.{[], ◌&&◌, ◌++◌, ◌+◌, ◌<◌, ◌∙◌, ◌∷◌, ◌≡◌, ◌≤◌, All, All-drop, All-from_recursion, AllByRecursion, AllZip, Bool, DrainsIf, GivesLimited, HoldsAlong, LimitsRow, List, None, Option, Skip, Some, Take, Yields, and_parts, ap, arith, drop, drop-append_seam, drop_all, false, length, ltb, recursion_from_All, refl, rules, skip_count, skip_source, skip_steps, subst, sym, take_count, take_source, take_steps, true, ℕ}
+use Rattle.tabled_rows.proofs.Common.{[], ◌&&◌, ◌++◌, ◌+◌, ◌∙◌, ◌∷◌, ◌≡◌, ◌≤◌, All, All-drop, All-from_recursion, AllByRecursion, AllZip, Bool, DrainsIf, GivesLimited, HoldsAlong, LimitsRow, List, None, Option, Skip, Some, Take, Yields, ap, arith, common_steps, drop, drop-append_seam, drop_all, false, length, ltb, recursion_from_All, refl, rules, skip_count, skip_source, skip_steps, subst, sym, take_count, take_source, take_steps, true, ℕ}
 use Rattle.std.proofs.lemmas.Bool.{ltb-true}
 
 module _ {S A : Type 0} (next_gives : S → Option A → S → Type 0) where
@@ -26,20 +26,7 @@ module _ {S A W : Type 0} (next_gives : S → Option A → S → Type 0) (inside
       ((take_source (inside ran.0), ran.1.0, rest.0), omega (arith, ran.1.1, rest.1))
 
   pub taken-gave : (xs : List A) (ended : Bool) (s : W) → DrainsIf takes (ended ≡ true) s xs → DrainsIf next_gives ((ended && ltb (length xs) (take_count (inside s))) ≡ true) (take_source (inside s)) xs × (length xs ≤ take_count (inside s))
-  taken-gave xs ended s drained =
-      let t = drained.0 in
-      let ran = taken xs s t drained.1 in (
-        (
-          take_source (inside t),
-          ran.0,
-          λ e.
-              let both = and_parts ended (ltb (length xs) (take_count (inside s))) e in
-              let less : length xs < take_count (inside s) = ltb-true _ _ both.1 in
-              let last = drained.2 both.0 in
-              (take_source (inside last.0), last.1 (omega (arith, less, ran.1))),
-        ),
-        omega (arith, ran.1),
-      )
+  taken-gave xs ended s drained = grind (arith, common_steps, taken, ltb-true)
 
   pub taken-along : (P : A → Type 0) (s : W) → HoldsAlong next_gives (take_source (inside s)) (All P) → HoldsAlong takes s (All P)
   taken-along P s along = λ xs t ran. along xs (take_source (inside t)) (taken xs s t ran).0
@@ -63,11 +50,7 @@ module _ {S A W : Type 0} (next_gives : S → Option A → S → Type 0) (inside
 
   pub skipped-gave : (xs : List A) (ended : Bool) (s : W) → DrainsIf skips (ended ≡ true) s xs → (all : List A) × DrainsIf next_gives (ended ≡ true) (skip_source (inside s)) all × (xs ≡ drop (skip_count (inside s)) all)
   skipped-gave [] false s drained = ([], so_far next_gives [] _ _ refl, sym (drop_all (skip_count (inside s)) [] (omega arith)))
-  skipped-gave [] true s drained =
-      let last = drained.2 refl in
-      let step = subst (λ w. skip_steps next_gives (inside w) None (inside last.0)) (sym drained.1) last.1 in
-      let passed = step.1 in
-      (passed.0, (passed.1.0, passed.1.1, λ e. (skip_source (inside last.0), passed.1.2)), sym (drop_all (skip_count (inside s)) passed.0 passed.2))
+  skipped-gave [] true s drained = grind (arith, common_steps)
   skipped-gave (x ∷ xs) ended s drained =
       let t = drained.0 in
       let first = drained.1.0 in

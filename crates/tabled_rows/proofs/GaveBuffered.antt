@@ -1,5 +1,5 @@
 -- What a source that is read ahead gives, told by what the source gave.
-use Rattle.tabled_rows.proofs.Common.{[], ◌++◌, ◌<◌, ◌∙◌, ◌∷◌, ◌≡◌, All, All-drop, All-from_recursion, All-nil, AllByRecursion, AllZip, Bool, BufIterator, Buffered, Count, DrainsIf, EachSourceMayBeAsked, FollowsBuffer, Fuse, Gave, GivesBuffered, GivesEach, Global, GoesOverEach, HasCome, HoldsAlong, IntoIter, Iterator, List, None, Option, Some, SourceMayBeAsked, Vec, Yields, ap, append-nil, arith, drop, drop-append_seam, false, fuse_done, fuse_source, fuse_steps, get_or, into_iter_items, into_iter_len, length, map_items, recursion_from_All, refl, rules, subst, sym, true}
+use Rattle.tabled_rows.proofs.Common.{[], ◌++◌, ◌<◌, ◌∙◌, ◌∷◌, ◌≡◌, All, All-drop, All-from_recursion, All-nil, AllByRecursion, AllZip, Bool, BufIterator, Buffered, Count, DrainsIf, EachSourceMayBeAsked, FollowsBuffer, Fuse, Gave, GivesBuffered, GivesEach, Global, GoesOverEach, HasCome, HoldsAlong, IntoIter, Iterator, List, None, Option, Some, SourceMayBeAsked, Vec, Yields, ap, append-nil, arith, common_steps, drop, drop-append_seam, false, fuse_done, fuse_source, fuse_steps, get_or, into_iter_items, into_iter_len, length, map_items, recursion_from_All, refl, rules, subst, sym, true}
 use Rattle.tabled_rows.proofs.Gave.{ran-append, so_far}
 use Rattle.tabled_rows.proofs.Listed.{gives-went}
 
@@ -32,21 +32,8 @@ module _ {S U I W A : Type 0} (next_gives : S → Option U → S → Type 0) (be
     pub long : into_iter_len (buffer_of walk) ≡ length buffer
 
   pub buffered-gave : (xs : List (BufIterator I A)) (ended : Bool) (buffer : List (Vec A)) (s : W) → Holds buffer s → DrainsIf steps (ended ≡ true) s xs → (others : List U) × DrainsIf next_gives (ended ≡ true) (rows_of s) others × FollowsBuffer becomes (map_items buffer) others xs ended
-  buffered-gave [] ended [] s holds drained = (
-    [],
-    (
-      rows_of s,
-      refl,
-      λ e.
-          let last = drained.2 e in
-          (rows_of last.0, subst (λ w. next_gives (rows_of w) None (rows_of last.0)) (sym drained.1) last.1.2),
-    ),
-    tt,
-  )
-  buffered-gave [] true (v ∷ vs) s holds drained =
-      let last = drained.2 refl in
-      let none : into_iter_len (buffer_of s) ≡ 0 = ap (λ w. into_iter_len (buffer_of w)) drained.1 ∙ last.1.0 in
-      absurd (omega (arith, none, holds.long))
+  buffered-gave [] ended [] s holds drained = grind (arith, common_steps)
+  buffered-gave [] true (v ∷ vs) s holds drained = grind (arith, common_steps)
   buffered-gave [] false (v ∷ vs) s holds drained = ([], so_far next_gives [] _ _ refl, (refl, refl))
   buffered-gave (Buffered cells ∷ xs) ended [] s holds drained = let step = drained.1.1 in absurd (omega (arith, step.1.1, holds.long))
   buffered-gave (Buffered cells ∷ xs) ended (v ∷ vs) s holds drained =
@@ -91,9 +78,7 @@ module _ {S A : Type 0} (next_gives : S → Option A → S → Type 0) where
       ((fuse_source ran.0, rw on at ran.1.0, rest.0), rest.1)
 
   pub fuse-gave : (xs : List A) (ended : Bool) (s : Fuse S) → fuse_done s ≡ false → DrainsIf (fuse_steps next_gives) (ended ≡ true) s xs → DrainsIf next_gives (ended ≡ true) (fuse_source s) xs
-  fuse-gave xs ended s on drained =
-      let ran = fuse-ran xs s drained.0 on drained.1 in
-      (fuse_source drained.0, ran.0, λ e. let last = drained.2 e in (fuse_source last.0, rw ran.1 at last.1.0))
+  fuse-gave xs ended s on drained = grind (arith, common_steps, fuse-ran)
 
   pub fused-gave : (xs : List A) (s t : Fuse S) → fuse_done s ≡ true → Yields (fuse_steps next_gives) s xs t → xs ≡ []
   fused-gave [] s t done ran = refl
@@ -152,10 +137,7 @@ module _ {U T R I A : Type 0} (becomes : U → T → Type 0) (next_gives : T →
 
   -- nothing comes after them where the source has ended
   pub none-came : (left done : Fuse T) (buffer : List (List A)) (was : Read (fuse_source left) buffer) → fuse_done left ≡ false → fuse_steps next_gives left None done → (others : List R) (ended : Bool) → DrainsIf (fuse_steps next_gives) (ended ≡ true) done others → may_give (was.read ++ others) ended
-  none-came left done buffer was on step others ended drained =
-      let none = fused-gave next_gives others done drained.0 step.1 drained.1 in
-      let all : was.read ++ others ≡ was.read = ap (λ xs. was.read ++ xs) none ∙ append-nil was.read in
-      rw all (was.came was.read ended (was.start, was.is, (fuse_source left, was.ran, λ e. (fuse_source done, rw on at step.0))))
+  none-came left done buffer was on step others ended drained = grind (arith, common_steps, fused-gave, append-nil)
 
   pub none-asked : (done : Fuse T) → fuse_done done ≡ true → HoldsAlong (fuse_steps next_gives) done (All asked)
   none-asked done over = λ xs t ran. rw (fused-gave next_gives xs done t over ran) (All-nil asked)

@@ -1,6 +1,6 @@
 -- What iterators made of iterators give.
 use denote.Ref.{Bor}
-use Rattle.tabled_rows.proofs.Common.{[], ◌+◌, ◌<◌, ◌∙◌, ◌∷◌, ◌≡◌, Count, GivesEach, GivesLimited, GoesOverEach, IntoIter, Iter, List, None, Option, Shows, Skip, Some, Take, Yields, ap, ap₂, arith, at_most, count_min, drop, drop_all, drop_more, get_or, get_or_from_slice_get, into_iter_items, into_iter_len, into_iter_steps, length, length-drop, map, nil_from_length, refl, repeat_n_count, repeat_n_item, repeat_n_steps, replicate, skip_count, skip_source, skip_steps, slice_get, subst, suc, sym, take, take_count, take_source, take_steps, vec_len, zero, ℕ}
+use Rattle.tabled_rows.proofs.Common.{[], ◌+◌, ◌<◌, ◌∙◌, ◌∷◌, ◌≡◌, Count, GivesEach, GivesLimited, GoesOverEach, IntoIter, Iter, List, None, Option, Shows, Skip, Some, Take, Yields, ap, ap₂, arith, at_most, common_steps, count_min, drop, drop_all, drop_more, get_or, get_or_from_slice_get, into_iter_items, into_iter_len, into_iter_steps, length, length-drop, map, nil_from_length, refl, repeat_n_count, repeat_n_item, repeat_n_steps, replicate, skip_count, skip_source, skip_steps, slice_get, subst, suc, sym, take, take_count, take_source, take_steps, vec_len, zero, ℕ}
 use Rattle.std.specs.Slice.Iter.{iter_rest, iter_steps}
 use Rattle.std.specs.declared.iter.RepeatN.{RepeatN}
 use Rattle.std.proofs.lemmas.Option.{slice_get_within}
@@ -98,13 +98,7 @@ module _ {S U T W A B : Type 0} (next_gives : S → Option U → S → Type 0) (
   gives-limited_row row cells = GoesOverEach (λ s r. r ≡ s) (λ s. can (take_source s)) (λ s r t. take_steps cell_gives s r t) (λ s. count_min (at_most (take_count s)) (remaining (take_source s))) shows row cells
 
   limited_row : (n : ℕ) (row : U) (limited : Take T) (xs : List B) → gives-row row xs → becomes row (take_source limited) → take_count limited ≡ n → gives-limited_row limited (take n xs)
-  limited_row n row limited xs over source long it same =
-      let all = over _ source in
-      rw same (record {
-        can = all.can;
-        ends = tt;
-        gives = rw (← long) (gives-take cell_gives shows xs limited all.gives);
-      })
+  limited_row n row limited xs over source long it same = grind (arith, common_steps, gives-take)
 
   pub gives-limited : (n : ℕ) (all : List (List B)) (w : W) → GivesEach next_gives gives-row (rows_of w) all → limit_of w ≡ n → GivesEach (λ s r t. GivesLimited next_gives becomes (limit_of s) (rows_of s) r (rows_of t) × (limit_of t ≡ limit_of s)) gives-limited_row w (map (take n) all)
   gives-limited n all w g is = gives-by_state (λ s r t. GivesLimited next_gives becomes (limit_of s) (rows_of s) r (rows_of t) × (limit_of t ≡ limit_of s)) gives-limited_row (λ u zs. (rest : List (List B)) × GivesEach next_gives gives-row (rows_of u) rest × (limit_of u ≡ n) × (zs ≡ map (take n) rest))
@@ -177,11 +171,7 @@ module _ {A B : Type 0} (shown : A → B) where
   filled_row row it same n x many is = rw (same, ← many) (gives-repeat (λ u v. v ≡ u) (Shows shown) x row (λ y like. ap shown like ∙ is))
 
   pub gives-filled : (s : RepeatN (RepeatN A)) (rows columns : ℕ) (x : B) → repeat_n_count s ≡ rows → repeat_n_count (repeat_n_item s) ≡ columns → shown (repeat_n_item (repeat_n_item s)) ≡ x → GivesEach (repeat_n_steps row-clones) gives-cells s (replicate rows (replicate columns x))
-  gives-filled s rows columns x tall wide is = rw (← tall) (gives-repeat row-clones gives-cells (replicate columns x) s (λ row like it same. record {
-    can = tt;
-    ends = tt;
-    gives = filled_row row it same columns x (like.1 ∙ wide) (ap shown like.0 ∙ is);
-  }))
+  gives-filled s rows columns x tall wide is = grind (arith, common_steps, gives-repeat, filled_row)
 
 -- the item at a place, and those past it
 pub drop-get : {A : Type 0} (xs : List A) (i : ℕ) (x : A) → slice_get xs i ≡ Some x → drop i xs ≡ x ∷ drop (i + 1) xs
