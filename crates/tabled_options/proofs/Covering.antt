@@ -1,5 +1,5 @@
 -- Entities that cover others.
-use Rattle.tabled_options.proofs.Common.{◌+◌, ◌∙◌, ◌≡◌, Bool, Covers, Entity, IsCombined, ap, arith, false, false≢true, if◌then◌else◌, names_all_of, place, refl, sym, true}
+use Rattle.tabled_options.proofs.Common.{◌+◌, ◌≡◌, Bool, Covers, Entity, IsCombined, ap, arith, common_steps, false, if◌then◌else◌, names_all_of, place, refl, true}
 use Rattle.std.proofs.lemmas.Bool.Decides.{nat_tests}
 use Rattle.tabled_grid.specs.declared.config.entity.Entity.TheVariants.{Global, Column, Row, Cell}
 
@@ -45,24 +45,6 @@ alike a b s t = grind (arith, nat_tests)
 
 -- what two entities combine to, by the two tests
 pub combined_means : (a b : Entity) (s t : Bool) → names_all_of a b ≡ s → names_all_of b a ≡ t → IsCombined a b (if s then a else (if t then b else Global))
-combined_means a b true t e f = record {
-  covers_first = λ p n. n;
-  covers_second = covers_means a b e;
-  is_first = λ h. refl;
-  is_second = λ h. alike a b e (covers_from b a h);
-  is_all = λ no _. absurd (no (covers_means a b e));
-}
-combined_means a b false true e f = record {
-  covers_first = covers_means b a f;
-  covers_second = λ p n. n;
-  is_first = λ h. absurd (false≢true (sym e ∙ covers_from a b h));
-  is_second = λ h. refl;
-  is_all = λ _ no. absurd (no (covers_means b a f));
-}
-combined_means a b false false e f = record {
-  covers_first = λ p n. refl;
-  covers_second = λ p n. refl;
-  is_first = λ h. absurd (false≢true (sym e ∙ covers_from a b h));
-  is_second = λ h. absurd (false≢true (sym f ∙ covers_from b a h));
-  is_all = λ _ _. refl;
-}
+combined_means a b true t e f = grind (arith, common_steps, covers_means, alike, covers_from)
+combined_means a b false true e f = grind (arith, common_steps, covers_means, covers_from)
+combined_means a b false false e f = grind (arith, common_steps, covers_from)

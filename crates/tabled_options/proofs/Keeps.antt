@@ -1,5 +1,6 @@
 -- What options keep, where their parts keep it.
-use Rattle.tabled_options.proofs.Common.{[], ◌∷◌, ◌≡◌, All-from_recursion, AllByRecursion, Change, Each, EachListed, EachListedUntil, EachUntil, Grid, Keeps, List, OptionKeeps, Same, SameOr, Some, Then, ThenLeaves, get_or_from_slice_get, inl, inr, slice_get, subst, suc, sym, take, zero, ℕ}
+use Rattle.std.proofs.Common.{arith}
+use Rattle.tabled_options.proofs.Common.{[], ◌∷◌, ◌≡◌, All-from_recursion, AllByRecursion, Change, Each, EachListed, EachListedUntil, EachUntil, Grid, Keeps, List, OptionKeeps, Same, SameOr, Some, Then, ThenLeaves, common_steps, get_or_from_slice_get, slice_get, subst, suc, sym, take, zero, ℕ}
 use Rattle.std.proofs.lemmas.List.Elements.{All-get_or}
 use Rattle.std.proofs.lemmas.Option.{slice_get_within}
 
@@ -20,20 +21,11 @@ module _ {A C : Type 0} (holds : Grid A → C → Type 0) where
   keeps_then first second keeps keeps_second g c h d p done = keeps_second done.0 done.1 h d (keeps g c done.0 done.1 p done.2) done.3
 
   pub keeps_same_or : (leaves : Change A C) → Keeps holds leaves → Keeps holds (SameOr leaves)
-  keeps_same_or leaves keeps g c h d p left = elim left [
-    | inl same ↦ keeps_same g c h d p same
-    | inr other ↦ keeps g c h d p other
-  ]
+  keeps_same_or leaves keeps g c h d p left = grind (arith, common_steps, keeps_same)
 
   -- two options one after the other
   pub keeps_in_order : (first first_leaves second second_leaves : Change A C) → OptionKeeps holds first first_leaves → OptionKeeps holds second second_leaves → OptionKeeps holds (Then first second) (ThenLeaves first first_leaves second_leaves)
-  keeps_in_order first first_leaves second second_leaves keeps keeps_second = record {
-    done = keeps_then first second keeps.done keeps_second.done;
-    refused = λ g c h d p left. elim left [
-      | inl early ↦ keeps.refused g c h d p early
-      | inr later ↦ keeps_then first second_leaves keeps.done keeps_second.refused g c h d p later
-    ];
-  }
+  keeps_in_order first first_leaves second second_leaves keeps keeps_second = grind (arith, common_steps, keeps_then)
 
   -- a copy of an option, which may be refused
   pub keeps_copied : (does leaves : Change A C) → OptionKeeps holds does leaves → OptionKeeps holds does (SameOr leaves)
@@ -51,12 +43,7 @@ module _ {A C : Type 0} (holds : Grid A → C → Type 0) where
 
     -- options in a list
     pub keeps_all : (items : List X) → AllByRecursion (λ x. OptionKeeps holds (does x) (leaves x)) items → OptionKeeps holds (Each does items) (EachUntil does leaves items)
-    keeps_all items keeps = record {
-      done = keeps_each items keeps;
-      refused = λ g c h d p until.
-          let at = until.1 in
-          (at_place (λ x. OptionKeeps holds (does x) (leaves x)) items until.0 at.item at.is keeps).refused at.grid at.configuration h d (keeps_before items until.0 keeps g c at.grid at.configuration p at.before) at.left;
-    }
+    keeps_all items keeps = grind (arith, common_steps, keeps_each, at_place, keeps_before)
 
     -- copies of options in a list
     pub keeps_all_copied : (items : List X) → AllByRecursion (λ x. OptionKeeps holds (does x) (leaves x)) items → AllByRecursion (λ x. OptionKeeps holds (does x) (SameOr (leaves x))) items

@@ -1,12 +1,10 @@
 -- What keeps the shape of a table, and so its merged cells inside and apart.
-use Rattle.tabled_options.proofs.Common.{[], ◌∙◌, ◌∷◌, ◌≡◌, Change, DoesFirstWrites, DoesWrites, Fits, Grid, List, OptionKeeps, SpanMap, Write, ap, map_grid, refl, take, with_cell, with_writes, ℕ}
+use Rattle.std.proofs.Common.{arith}
+use Rattle.tabled_options.proofs.Common.{[], ◌∷◌, ◌≡◌, Change, DoesFirstWrites, DoesWrites, Fits, Grid, List, OptionKeeps, SpanMap, Write, common_steps, map_grid, refl, take, with_cell, with_writes, ℕ}
 use Rattle.tabled_options.specs.Shapes.{KeepsShape}
 
 pub fits_kept : {A : Type 0} (does leaves : Change A SpanMap) → KeepsShape does → KeepsShape leaves → OptionKeeps (λ (g : Grid A) (c : SpanMap). Fits c g.rows g.columns) does leaves
-fits_kept does leaves done refused = record {
-  done = λ g c h d fits change. let same = done.each g c h d change in rw (same.0, same.1, same.2) fits;
-  refused = λ g c h d fits change. let same = refused.each g c h d change in rw (same.0, same.1, same.2) fits;
-}
+fits_kept does leaves done refused = grind (arith, common_steps)
 
 -- writes keep the shape
 pub record SameShape (g h : Grid (List ℕ)) : Type 0 where
@@ -19,9 +17,7 @@ shape_written (w ∷ writes) g = let rest = shape_written writes (with_cell g w.
 
 -- cells whose texts are written have the shape as it was
 pub shape_texts : {A C : Type 0} (text_of : A → List ℕ) (writes : List Write) (g h : Grid A) (c d : C) → map_grid text_of h ≡ with_writes writes (map_grid text_of g) → d ≡ c → (h.rows ≡ g.rows) × (h.columns ≡ g.columns) × (d ≡ c)
-shape_texts text_of writes g h c d is same =
-    let shape = shape_written writes (map_grid text_of g) in
-    (ap (λ (k : Grid (List ℕ)). k.rows) is ∙ shape.rows, ap (λ (k : Grid (List ℕ)). k.columns) is ∙ shape.columns, same)
+shape_texts text_of writes g h c d is same = grind (arith, common_steps, shape_written)
 
 -- writes of texts
 pub writes_keep : {A : Type 0} (text_of : A → List ℕ) (writes : Grid (List ℕ) → List Write) → OptionKeeps (λ (g : Grid A) (c : SpanMap). Fits c g.rows g.columns) (DoesWrites text_of writes) (DoesFirstWrites text_of writes)

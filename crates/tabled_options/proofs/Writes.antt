@@ -1,5 +1,5 @@
 -- Texts written to cells, one more or a part more at a time.
-use Rattle.tabled_options.proofs.Common.{◌++◌, ◌+◌, ◌∷◌, ◌≡◌, FirstWrites, Grid, List, Write, arith, length, length-append, refl, suc, take, take-append-add, take-append-le, with_cell, with_writes, ℕ}
+use Rattle.tabled_options.proofs.Common.{◌++◌, ◌+◌, ◌∷◌, ◌≡◌, FirstWrites, Grid, List, Write, arith, common_steps, length, length-append, refl, suc, take, take-append-add, take-append-le, with_cell, with_writes, ℕ}
 use Rattle.std.proofs.lemmas.Grind.{fold-append}
 
 -- no write is the first of them
@@ -16,11 +16,7 @@ writes-append a b g = fold-append (λ (x : Grid (List ℕ)) (w : Write). with_ce
 
 -- some of the first writes
 pub some-first : (a b : List Write) (g h : Grid (List ℕ)) → FirstWrites a g h → FirstWrites (a ++ b) g h
-some-first a b g h s = record {
-  count = s.count;
-  within = rw (length-append a b) (omega (arith, s.within));
-  is = rw (take-append-le s.count a b (omega (arith, s.within))) s.is;
-}
+some-first a b g h s = grind (arith, common_steps, length-append, take-append-le)
 
 -- all first writes, and some of the others
 pub some-later : (a b : List Write) (g h : Grid (List ℕ)) → FirstWrites b (with_writes a g) h → FirstWrites (a ++ b) g h

@@ -1,6 +1,7 @@
 -- The names that most proofs cite, passed on from one place. Declares nothing.
 pub use Rattle.std.proofs.Common.{◌^◌, append_assoc, encode_utf8, reverse, slice_index, slice_set}
 pub use Rattle.std.proofs.lemmas.Bool.{cond_both, eqb-false, le-leb, lt-leb, ltb-true}
+pub use Rattle.std.proofs.lemmas.Grind.{common_steps}
 pub use Rattle.std.proofs.lemmas.List.{reverse-append}
 pub use Rattle.std.proofs.lemmas.Str.{IsUtf8-past_char, chars-nil, chars_past_char}
 pub use Rattle.std.specs.FinMap.{get-empty}
@@ -10,7 +11,7 @@ pub use Rattle.std.specs.Prelude.{◌<ℤ◌, chars, encode_utf8_all, eqb, max, 
 pub use Rattle.std.specs.Str.{IsUtf8}
 pub use Rattle.std.specs.Str.Iter.{chars_rest}
 pub use Rattle.std.specs.String.{string_bytes}
-pub use Rattle.tabled_grid.proofs.Common.{[], ◌&&◌, ◌++◌, ◌+◌, ◌-◌, ◌<◌, ◌==◌, ◌||◌, ◌∙◌, ◌∷◌, ◌≡◌, ◌≢◌, ◌≤◌, ◌⊎◌, AllByRecursion, AreBlanks, AreSpanSizes, Bool, Cover, Err, Fits, Grid, In, IsBinarySearchResult, IsEmptyWithoutRows, IsEven, IsInside, IsSearchInRange, IsSizeAt, IsSpanSize, Less, List, MatchResult, Midway, None, Ok, Option, Ordering, Rectangle, Result, Some, SpanMap, T, WritesText, across, all-append, and_from, and_left, and_parts, ap, ap₂, arith, below_all, block, cases_Bool, cases_eq, cases_lt, cell_at, cond, cond-true, count_along, count_of, drop, drop_all, drop_hidden, entries, entries_sorted, eq_by_cmp, false, false_from_ne_true, false≢true, filter, find, flat_map, get, get-entries, get-insert, get-remove, get_or, get_or-set_other, get_or-set_same, hides, inl, inr, insert, inside, is_crossed, is_eq, is_hidden, is_lt, is_sorted, is_sorted-put, is_visible, leb-true, length, length-replicate, length-set, line_of, lines_in, list_all, list_any, lt-ltb, map, map_grid, names, nat_eq, nat_le, ne_eqb, nil_from_length, none-some, not, not-true, not_from_false, not_from_true, place, place_in, position_cmp, put, range_with_len, refl, remove, replicate, row_places, rules, same_Some, same_map, set, shifted, size_at, sized, subst, suc, sym, take, take_at, tied_itself, true, unwrap_or, with_cell, with_column, with_row, with_size, with_sizes, without_column, without_line, without_row, zero, zip, ℕ}
+pub use Rattle.tabled_grid.proofs.Common.{[], ◌&&◌, ◌++◌, ◌+◌, ◌-◌, ◌<◌, ◌==◌, ◌||◌, ◌∙◌, ◌∷◌, ◌≡◌, ◌≢◌, ◌≤◌, ◌⊎◌, AllByRecursion, AreBlanks, AreSpanSizes, Bool, Cover, Err, Fits, Grid, In, IsBinarySearchResult, IsEmptyWithoutRows, IsEven, IsInside, IsSearchInRange, IsSizeAt, IsSpanSize, Less, List, MatchResult, Midway, None, Ok, Option, Ordering, Rectangle, Result, Some, SpanMap, T, WritesText, across, all-append, and_from, and_left, and_parts, ap, ap₂, arith, below_all, block, cases_Bool, cases_eq, cases_lt, cell_at, cond, cond-true, count_along, count_of, drop, drop_all, drop_hidden, entries, entries_sorted, eq_by_cmp, false, false_from_ne_true, false≢true, filter, find, flat_map, get, get-entries, get-insert, get-remove, get_or, get_or-set_other, get_or-set_same, hides, inl, inr, insert, inside, is_crossed, is_eq, is_hidden, is_lt, is_sorted, is_sorted-put, is_visible, leb-true, length, length-replicate, length-set, line_of, lines_in, list_all, list_any, lt-ltb, map, map_grid, names, nat_eq, nat_le, ne_eqb, nil_from_length, none-some, not, not-true, not_from_false, not_from_true, place, place_in, position_cmp, put, range_with_len, refl, remove, replicate, row_places, rules, same_Some, same_map, set, shifted, size_at, sized, subst, suc, sym, take, take_at, tied_itself, true, unwrap_or, with_cell, with_column, with_row, with_size, with_sizes, without_column, without_line, zero, zip, ℕ}
 pub use Rattle.tabled_grid.proofs.Geometry.{cases_place}
 pub use Rattle.tabled_grid.proofs.Merging.{column_span-is, fits_dropped, fits_with, flat_column_span, flat_dropped, fold-keeps, midway, midway_flat, midway_heightened, midway_narrow, midway_widened, narrow_dropped, narrow_row_span, row_span-is, sizes_heightened, sizes_widened, within_high, within_wide}
 pub use Rattle.tabled_grid.proofs.PassedAnchors.{Earlier, earlier}

@@ -1,5 +1,5 @@
 -- Tests of the cells that a span goes over, one after another.
-use Rattle.tabled_spans.proofs.Common.{◌+◌, ◌-◌, ◌<◌, ◌∙◌, ◌≡◌, ◌≤◌, Axis, Bool, Position, and_parts, ap, arith, cases_eq, false, false_from_ne_true, false≢true, in_line, inl, inr, list_all, refl, stretch, subst, suc, sym, true, zero, ℕ}
+use Rattle.tabled_spans.proofs.Common.{◌+◌, ◌-◌, ◌<◌, ◌∙◌, ◌≡◌, ◌≤◌, Axis, Bool, Position, and_parts, arith, cases_eq, common_steps, false, false_from_ne_true, false≢true, in_line, inl, inr, list_all, stretch, subst, suc, sym, true, zero, ℕ}
 
 -- where all pass a test, each does
 pub all_pass : (test : Position → Bool) (axis : Axis) (p : Position) (first many : ℕ) → list_all test (stretch axis p first many) ≡ true → (k : ℕ) → first ≤ k → k < first + many → test (in_line axis p k) ≡ true
@@ -14,6 +14,4 @@ one_fails test axis p first many k low high fails = false_from_ne_true (list_all
 
 -- after one that passes, the others decide
 pub one_passes : (test : Position → Bool) (axis : Axis) (p : Position) (k end : ℕ) → k < end → test (in_line axis p k) ≡ true → list_all test (stretch axis p k (end - k)) ≡ list_all test (stretch axis p (k + 1) (end - (k + 1)))
-one_passes test axis p k end h passes =
-    let one : end - k ≡ suc (end - (k + 1)) = omega arith in
-    ap (λ n. list_all test (stretch axis p k n)) one ∙ rw passes refl
+one_passes test axis p k end h passes = grind (arith, common_steps)

@@ -1,5 +1,5 @@
 -- A second merge finds no runs, and a merge of a map without rectangles finds those of equal texts.
-use Rattle.tabled_spans.proofs.Common.{◌+◌, ◌-◌, ◌<◌, ◌∙◌, ◌≡◌, ◌≢◌, ◌≤◌, ◌⊎◌, Axis, Columns, Grid, In, IsInside, IsRun, Joins, List, MergesRuns, Position, Rows, Size, Some, SpanMap, and_from, and_parts, ap, ap₂, arith, cases_lt, cell_at, eq-eqb, eqb-true, false_from_ne_true, false≢true, further, get, get-empty, hidden-from, hidden_by, inl, inr, is_free, is_hidden, is_visible, none-some, not_from_false, not_from_true, place, position_cmp, positions_exact, positions_total, refl, same_Some, same_map, size_at, size_at-some, size_of_run, sized, subst, suc, sym, true, unwrap_or, zero, ℕ}
+use Rattle.tabled_spans.proofs.Common.{◌+◌, ◌-◌, ◌<◌, ◌∙◌, ◌≡◌, ◌≢◌, ◌≤◌, ◌⊎◌, Axis, Columns, Grid, In, IsInside, IsRun, Joins, List, MergesRuns, Position, Rows, Size, Some, SpanMap, and_from, and_parts, ap, ap₂, arith, cases_lt, cell_at, common_steps, eq-eqb, eqb-true, false_from_ne_true, false≢true, further, get, get-empty, hidden-from, hidden_by, inl, inr, is_free, is_hidden, is_visible, none-some, not_from_false, not_from_true, place, position_cmp, positions_exact, positions_total, refl, same_Some, same_map, size_at, size_at-some, size_of_run, sized, subst, suc, sym, true, unwrap_or, zero, ℕ}
 use Rattle.std.specs.FinMap as map
 use Rattle.tabled_spans.proofs.MergeGeometry.{run_cell}
 use Rattle.tabled_spans.proofs.Runs.{further_back, further_none, same_run}
@@ -16,11 +16,7 @@ not_one Columns many h e = omega (arith, h, ap (λ (s : Size). s.width) e)
 
 module _ (axis : Axis) (g : Grid (List ℕ)) (m : SpanMap) where
   place_bound : (q : Position) (k : ℕ) → Joins axis g m (further axis k q) → q.row + q.col + k + 1 < g.rows + g.columns
-  place_bound q k j = by axis j.next_inside
-    where
-      by : (x : Axis) → IsInside g (further x 1 (further x k q)) → q.row + q.col + k + 1 < g.rows + g.columns
-      by Rows h = omega (arith, h.row, h.col)
-      by Columns h = omega (arith, h.row, h.col)
+  place_bound q k j = grind (arith, common_steps)
 
   -- a cell that joins the next one is in a run: from the run's first cell on
   onward : (fuel : ℕ) (p q : Position) (k d : ℕ) → g.rows + g.columns ≤ q.row + q.col + k + fuel → 1 ≤ k → d < k → further axis d q ≡ p → ((i : ℕ) → i < k → Joins axis g m (further axis i q)) → ((r : Position) → further axis 1 r ≡ q → Joins axis g m r → ⊥) → ((a : Position) (many i : ℕ) → IsRun axis g m a many → i < many → further axis i a ≡ p → ⊥) → ⊥
@@ -69,10 +65,7 @@ module _ (axis : Axis) (g : Grid (List ℕ)) (m : SpanMap) where
     was_visible p shown = not_from_false (is_hidden m p) (false_from_ne_true (is_hidden m p) (λ hidden. false≢true (sym (not_from_true _ (hidden_still p hidden)) ∙ shown)))
 
     was_free : (p : Position) → is_free n p ≡ true → is_free m p ≡ true
-    was_free p free = free_by m p (was_visible p (and_parts _ _ free).0) (elim (merged.each p) [
-      | inl run ↦ absurd (not_one axis run.0 run.1.some (sym (size_at-some n p (size_of_run axis run.0) run.2) ∙ free_size n p free))
-      | inr old ↦ ap (λ o. unwrap_or o (sized 1 1)) (sym old.1) ∙ free_size n p free
-    ])
+    was_free p free = grind (arith, common_steps, free_by, was_visible, not_one, size_at-some, free_size)
 
     was_joined : (p : Position) → Joins axis g n p → Joins axis g m p
     was_joined p j = record { inside = j.inside; next_inside = j.next_inside; free = was_free p j.free; next_free = was_free (further axis 1 p) j.next_free; same = j.same }

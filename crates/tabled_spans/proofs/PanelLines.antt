@@ -1,7 +1,6 @@
 -- A line put in, with a text in its first cell, and the way back.
-use Rattle.tabled_spans.proofs.Common.{[], ◌&&◌, ◌+◌, ◌-◌, ◌∙◌, ◌∷◌, ◌≡◌, ◌≤◌, AllByRecursion, AreBlanks, Axis, Columns, Grid, IsEmptyWithoutRows, IsEven, List, Panels, PutsIn, Rows, SpanMap, WritesText, across, ap, ap₂, arith, cond, count_along, eqb-true, false, false_from_ne_true, false≢true, get_or, has_room, insert, is_crossed, length, lt-ltb, map, nat_eq, not, place, place_in, refl, remove, set, shifted, suc, sym, true, with_cell, with_column, with_row, with_span, without_column, without_line, without_row, zero, zip, ℕ}
+use Rattle.tabled_spans.proofs.Common.{[], ◌+◌, ◌-◌, ◌∙◌, ◌∷◌, ◌≡◌, ◌≤◌, AllByRecursion, AreBlanks, Axis, Columns, Grid, IsEmptyWithoutRows, IsEven, List, Panels, PutsIn, Rows, SpanMap, WritesText, across, ap, ap₂, arith, common_steps, cond, count_along, eqb-true, false, false_from_ne_true, get_or, insert, is_crossed, length, lt-ltb, map, nat_eq, place, place_in, refl, remove, set, shifted, suc, with_cell, with_column, with_row, with_span, without_column, without_line, zero, zip, ℕ}
 use Rattle.std.specs.Prelude.{replicate}
-use borrow.Author.Tests.{le-leb}
 use Rattle.tabled_spans.specs.PanelSteps.{InsertsLine}
 use Rattle.tabled_spans.proofs.PanelMaps.{panel_merged}
 
@@ -38,12 +37,7 @@ module _ {A : Type 0} where
 
   -- a line that is put in and removed leaves what was there
   pub undone : (is_blank : A → Type 0) (axis : Axis) (line : ℕ) (old mid : Grid A) → IsEven old → IsEmptyWithoutRows old → line ≤ count_along axis old → 1 ≤ count_along (across axis) old → InsertsLine is_blank axis old mid line → without_line axis line mid ≡ old
-  undone is_blank Rows line old mid even none within cells inserts = ap (λ h. without_row h line) inserts.is ∙ back
-    where
-      back : without_row (with_row old line inserts.row) line ≡ old
-      back =
-          ap₂ (λ n cs. let g : Grid A = record { rows = n; columns = cond (nat_eq (old.rows + 1) 1) 0 old.columns; cells = cs } in g) (omega arith) (removed_inserted old.cells line inserts.row (omega (arith, even.tall)))
-          ∙ ap (λ b. let g : Grid A = record { rows = old.rows; columns = cond b 0 old.columns; cells = old.cells } in g) (no_rows old none cells)
+  undone is_blank Rows line old mid even none within cells inserts = grind (arith, common_steps, removed_inserted, no_rows)
   undone is_blank Columns line old mid even none within cells inserts = ap (λ h. without_column h line) inserts.is ∙ back
     where
       back : without_column (with_column old line inserts.column) line ≡ old
@@ -61,18 +55,7 @@ module _ {A : Type 0} (is_blank : A → Type 0) (text_of : A → List ℕ) (empt
   module _ (line : ℕ) (text : List ℕ) (old mid new : Grid A) (even : IsEven old) where
     by_row : line ≤ old.rows → 1 ≤ old.columns → (row : List A) → AreBlanks is_blank old.columns row → mid ≡ with_row old line row → WritesText text_of mid new (place line 0) text → PutsIn is_blank text_of Rows line text old new
     by_row within some [] blanks is writes = absurd (omega (arith, blanks.many))
-    by_row within some (x ∷ row) blanks is writes = record {
-      cells = writes.cell ∷ row;
-      texts = ap₂ (λ (t : List ℕ) ts. t ∷ ts) writes.has (no_texts row (old.columns - 1) blanks.blank.1 (omega (arith, blanks.many)));
-      blanks = blanks.blank.1;
-      is = writes.is ∙ ap (λ h. with_cell h (place line 0) writes.cell) is ∙ ap (λ cs. let g : Grid A = record { rows = old.rows + 1; columns = old.columns; cells = cs } in g) put;
-    }
-      where
-        high : line ≤ length old.cells
-        high = omega (arith, even.tall)
-
-        put : set (insert old.cells line (x ∷ row)) line (set (get_or (insert old.cells line (x ∷ row)) line []) 0 writes.cell) ≡ insert old.cells line (writes.cell ∷ row)
-        put = ap (λ (r : List A). set (insert old.cells line (x ∷ row)) line (set r 0 writes.cell)) (got_inserted old.cells line (x ∷ row) [] high) ∙ set_inserted old.cells line (x ∷ row) (writes.cell ∷ row) high
+    by_row within some (x ∷ row) blanks is writes = grind (arith, common_steps, no_texts, got_inserted, set_inserted)
 
     by_column : line ≤ old.columns → 1 ≤ old.rows → (column : List A) → AreBlanks is_blank old.rows column → mid ≡ with_column old line column → WritesText text_of mid new (place 0 line) text → PutsIn is_blank text_of Columns line text old new
     by_column within some [] blanks is writes = absurd (omega (arith, blanks.many))
@@ -93,11 +76,4 @@ module _ {A : Type 0} (is_blank : A → Type 0) (text_of : A → List ℕ) (empt
 
   -- a panel is put in and merged
   pub panelled : (axis : Axis) (line : ℕ) (text : List ℕ) (old mid new : Grid A) (m n : SpanMap) → IsEven old → line ≤ count_along axis old → 1 ≤ count_along (across axis) old → is_crossed axis line m ≡ false → InsertsLine is_blank axis old mid line → WritesText text_of mid new (place_in axis line 0) text → n ≡ with_span (across axis) (shifted axis line m) (place_in axis line 0) (count_along (across axis) old) → Panels is_blank text_of axis line text old m new n
-  panelled axis line text old mid new m n even within some free inserts writes merged = record {
-    puts = λ _. put_in axis line text old mid new even within some inserts writes;
-    merges = λ _. merged ∙ panel_merged axis line (count_along (across axis) old) m some;
-    leaves = λ none. absurd (false≢true (sym none ∙ room));
-  }
-    where
-      room : has_room axis line old m ≡ true
-      room = ap₂ (λ a b. a && b) (le-leb line (count_along axis old) within) (ap₂ (λ a b. a && b) (lt-ltb 0 (count_along (across axis) old) some) (ap not free))
+  panelled axis line text old mid new m n even within some free inserts writes merged = grind (arith, common_steps, put_in, panel_merged, lt-ltb)

@@ -1,5 +1,5 @@
 -- A text that is cut character by character is parted.
-use Rattle.tabled_spans.proofs.Common.{[], ◌++◌, ◌+◌, ◌<◌, ◌∙◌, ◌∷◌, ◌≡◌, ◌≤◌, ◌⊎◌, AreParts, Begins, IsCut, IsCutLine, List, Placed, and_parts, ap, append_assoc, arith, cases_Bool, character_columns, columns_in, concat, cond, eq-eqb, eqb, eqb-false, false, inl, inr, join_with_byte, last_replaced, le-leb, list_all, lt-leb, map, nat_le, ne_eqb, not, not-true, pieces, placed, refl, shown, slice_split, subst, sym, true, ℕ}
+use Rattle.tabled_spans.proofs.Common.{[], ◌++◌, ◌+◌, ◌<◌, ◌∙◌, ◌∷◌, ◌≡◌, ◌≤◌, ◌⊎◌, AreParts, Begins, IsCut, IsCutLine, List, Placed, and_parts, ap, append_assoc, arith, cases_Bool, character_columns, columns_in, common_steps, concat, cond, eq-eqb, eqb, eqb-false, false, inl, inr, join_with_byte, last_replaced, le-leb, list_all, lt-leb, map, nat_le, ne_eqb, not, not-true, pieces, placed, refl, shown, slice_split, subst, sym, true, ℕ}
 use Rattle.std.proofs.lemmas.Bool.Decides.{eqb_tells, leb_tells}
 use Rattle.std.proofs.lemmas.List.{append-nil}
 use Rattle.std.proofs.lemmas.List.Sums.{sum_by-cons, sum_by_push}
@@ -26,10 +26,7 @@ last_or_before (y ∷ cs) (x ∷ front) rest c d e =
     ]
 
 short_more : (width : ℕ) (part : List ℕ) (c : ℕ) → IsShort width part → (1 ≤ character_columns c → columns_in part < width) → IsShort width (part ++ (c ∷ []))
-short_more width part c short here front rest d is some = elim (last_or_before part front rest c d is) [
-  | inl last ↦ subst (λ cs. columns_in cs < width) last.0 (here (subst (λ e. 1 ≤ character_columns e) (sym last.1) some))
-  | inr before ↦ short front before.0 d before.1 some
-]
+short_more width part c short here front rest d is some = grind (arith, common_steps, last_or_before)
 
 -- a character without columns goes after what is replaced
 replaced_on : (cs : List ℕ) (c : ℕ) → character_columns c ≡ 0 → 1 ≤ columns_in cs → last_replaced (cs ++ (c ∷ [])) ≡ last_replaced cs ++ (c ∷ [])
@@ -123,29 +120,7 @@ module _ (width : ℕ) (wide : 1 ≤ width) (part : List ℕ) (used c : ℕ) (sh
   alone = short_more width [] c (λ front rest d is. absurd (nowhere front rest d is)) (λ _. omega (arith, wide))
 
   next : 1 ≤ character_columns c → width ≤ used → Next width part c (placed width used c)
-  next some full = by (leb_tells (0 + character_columns c) width)
-    where
-      by : ((nat_le (0 + character_columns c) width ≡ true) × (0 + character_columns c ≤ width)) ⊎ ((nat_le (0 + character_columns c) width ≡ false) × (width < 0 + character_columns c)) → Next width part c (placed width used c)
-      by (inl (t, room)) =
-          let is : placed width used c ≡ record { begins = true; character = c; used = 0 + character_columns c } = rw (within, ne_eqb (character_columns c) 0 (λ e. omega (arith, e, some)), le-leb _ _ full, t) refl in
-          subst (Next width part c) (sym is) (record {
-            begins = refl;
-            full = omega (arith, full, counted.most);
-            some = some;
-            short = alone;
-            counted = record { most = omega (arith, one); all = λ _. omega (arith, one) };
-            is_shown = shown_whole width (c ∷ []) (omega (arith, one, room));
-          })
-      by (inr (f, over)) =
-          let is : placed width used c ≡ record { begins = true; character = 0xFFFD; used = width } = rw (within, ne_eqb (character_columns c) 0 (λ e. omega (arith, e, some)), le-leb _ _ full, f) refl in
-          subst (Next width part c) (sym is) (record {
-            begins = refl;
-            full = omega (arith, full, counted.most);
-            some = some;
-            short = alone;
-            counted = record { most = omega (arith, one, over); all = λ h. absurd (omega (arith, h)) };
-            is_shown = shown_cut width (c ∷ []) (omega (arith, one, over)) ∙ replaced_last [] c some;
-          })
+  next some full = grind (arith, common_steps, leb_tells, le-leb, alone, one, shown_whole, shown_cut, replaced_last)
 
 -- the rest of a line, whose first characters are already in a part
 record Parted (width : ℕ) (part cs new : List ℕ) : Type 0 where
@@ -208,12 +183,7 @@ parted_next width part c cs new short full some later = record {
 
 -- a character goes to its part
 parted_put : (width : ℕ) (part : List ℕ) (c e : ℕ) (cs new : List ℕ) → shown width (part ++ (c ∷ [])) ≡ shown width part ++ (e ∷ []) → Parted width (part ++ (c ∷ [])) cs new → Parted width part (c ∷ cs) (e ∷ new)
-parted_put width part c e cs new is later = record {
-  more = c ∷ later.more;
-  others = later.others;
-  are = subst (λ xs. AreParts width xs ((part ++ (c ∷ later.more)) ∷ later.others)) (append_assoc part (c ∷ []) cs) (subst (λ p. AreParts width ((part ++ (c ∷ [])) ++ cs) (p ∷ later.others)) (append_assoc part (c ∷ []) later.more) later.are);
-  is_shown = ap (λ p. join_with_byte 10 (map (shown width) (p ∷ later.others))) (sym (append_assoc part (c ∷ []) later.more)) ∙ later.is_shown ∙ ap (λ xs. xs ++ new) is ∙ append_assoc (shown width part) (e ∷ []) new;
-}
+parted_put width part c e cs new is later = grind (arith, common_steps, append_assoc)
 
 parted : (width : ℕ) → 1 ≤ width → (cs part : List ℕ) (used : ℕ) → IsShort width part → Counted width part used → list_all (λ c. not (eqb c 10)) cs ≡ true → Parted width part cs (pieces width used cs)
 parted width wide [] part used short counted within = parted_none width part short

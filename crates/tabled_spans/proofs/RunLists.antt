@@ -1,5 +1,5 @@
 -- The order of places, row by row, and the map in which runs that are listed are rectangles.
-use Rattle.tabled_spans.proofs.Common.{[], ◌&&◌, ◌+◌, ◌<◌, ◌==◌, ◌∙◌, ◌∷◌, ◌≡◌, ◌≤◌, ◌⊎◌, AllByRecursion, Axis, Before, Columns, Grid, IsOfRun, IsRun, List, MergesRuns, None, Option, Position, Rectangle, Rows, RunsFrom, Size, Some, SpanMap, and_left, ap, ap₂, arith, cases_lt, cases_place, cond, false, find, get, if◌then◌else◌, inl, inr, ne_eqb, none-some, place, position_cmp, refl, size_of_run, subst, sym, untied, with_sizes, ℕ}
+use Rattle.tabled_spans.proofs.Common.{[], ◌&&◌, ◌+◌, ◌<◌, ◌==◌, ◌∙◌, ◌∷◌, ◌≡◌, ◌≤◌, ◌⊎◌, AllByRecursion, Axis, Before, Columns, Grid, IsOfRun, IsRun, List, MergesRuns, Position, Rectangle, Rows, RunsFrom, Size, Some, SpanMap, and_left, ap, ap₂, arith, cases_lt, cases_place, common_steps, cond, false, find, inl, inr, ne_eqb, none-some, place, position_cmp, size_of_run, subst, sym, untied, with_sizes, ℕ}
 use Rattle.tabled_spans.proofs.Runs.{further_none}
 use Rattle.tabled_spans.proofs.SetSizes.{get-with_sizes, set_or}
 
@@ -49,16 +49,4 @@ module _ (axis : Axis) (g : Grid (List ℕ)) (m : SpanMap) where
   ]
 
   pub runs_merged : (es : List Rectangle) → RunsFrom axis g m 0 0 es → MergesRuns axis g m (with_sizes m es)
-  runs_merged es listed = record { each = λ p. by p (find position_cmp p es) refl }
-    where
-      listed_of : (p : Position) (many : ℕ) → IsRun axis g m p many → find position_cmp p es ≡ Some (size_of_run axis many)
-      listed_of p many run = listed.all p many run (none_before p)
-
-      has : (p : Position) (o : Option Size) → find position_cmp p es ≡ o → get (with_sizes m es) p ≡ set_or o (get m p)
-      has p o is = get-with_sizes es m p listed.sorted ∙ ap (λ (found : Option Size). set_or found (get m p)) is
-
-      by : (p : Position) (o : Option Size) → find position_cmp p es ≡ o → ((many : ℕ) × IsRun axis g m p many × (get (with_sizes m es) p ≡ Some (size_of_run axis many))) ⊎ (((many : ℕ) → IsRun axis g m p many → ⊥) × (get (with_sizes m es) p ≡ get m p))
-      by p None is = inr (λ many run. none-some (size_of_run axis many) (sym is ∙ listed_of p many run), has p None is)
-      by p (Some s) is =
-          let it = entry_of es listed.each p s is in
-          inl (it.0, it.1, has p (Some (size_of_run axis it.0)) (listed_of p it.0 it.1) ∙ ap (λ b. if b then None else Some (size_of_run axis it.0)) (not_one axis it.0 it.1.some))
+  runs_merged es listed = grind (arith, common_steps, none_before, set_or, get-with_sizes, none-some, entry_of, not_one)

@@ -1,5 +1,5 @@
 -- Runs of equal neighbours: where they begin and end.
-use Rattle.tabled_spans.proofs.Common.{◌+◌, ◌-◌, ◌<◌, ◌∙◌, ◌≡◌, ◌≤◌, ◌⊎◌, Axis, Columns, Grid, IsRun, Joins, List, Position, Rows, RunAt, SpanMap, ap, ap₂, arith, cases_lt, further, inl, inr, place, refl, subst, sym, ℕ}
+use Rattle.tabled_spans.proofs.Common.{◌+◌, ◌-◌, ◌<◌, ◌≡◌, ◌≤◌, Axis, Columns, Grid, IsRun, Joins, List, Position, Rows, RunAt, SpanMap, ap, ap₂, arith, common_steps, further, place, refl, sym, ℕ}
 
 pub further_none : (axis : Axis) (p : Position) → further axis 0 p ≡ p
 further_none Rows p = ap₂ place (omega arith) refl
@@ -25,16 +25,8 @@ module _ (axis : Axis) (g : Grid (List ℕ)) (m : SpanMap) (p : Position) where
 
   -- what was found by going on as far as cells join
   pub run_at : (many : ℕ) (last : Position) → 1 ≤ many → last ≡ further axis (many - 1) p → ((k : ℕ) → k + 1 < many → Joins axis g m (further axis k p)) → (Joins axis g m last → ⊥) → ((q : Position) → further axis 1 q ≡ p → Joins axis g m q → ⊥) → RunAt axis g m p many
-  run_at many last some is joins ends begins = record {
-    is = λ two. record { some = two; joins = joins; ends = λ j. ends (subst (Joins axis g m) (sym is) j); begins = begins };
-    none = λ one n run. ends (subst (Joins axis g m) (ap (λ k. further axis k p) (omega arith) ∙ sym is) (run.joins 0 (omega (arith, run.some))));
-  }
+  run_at many last some is joins ends begins = grind (arith, common_steps)
 
 -- a run is as long as any other that begins at the same place
 pub same_run : (axis : Axis) (g : Grid (List ℕ)) (m : SpanMap) (p : Position) (a b : ℕ) → IsRun axis g m p a → IsRun axis g m p b → a ≡ b
-same_run axis g m p a b first second = either (cases_lt a b) (cases_lt b a)
-  where
-    either : (a < b) ⊎ (b ≤ a) → (b < a) ⊎ (a ≤ b) → a ≡ b
-    either (inl l) c = absurd (first.ends (second.joins (a - 1) (omega (arith, first.some))))
-    either (inr l) (inl k) = absurd (second.ends (first.joins (b - 1) (omega (arith, second.some))))
-    either (inr l) (inr k) = omega arith
+same_run axis g m p a b first second = grind (arith, common_steps)

@@ -1,18 +1,12 @@
 -- Lists of the runs from a place on, row by row.
-use Rattle.tabled_spans.proofs.Common.{[], ◌+◌, ◌<◌, ◌∙◌, ◌∷◌, ◌≡◌, ◌≢◌, ◌≤◌, ◌⊎◌, AllByRecursion, Axis, Before, Grid, IsRun, List, Position, Rectangle, RunAt, RunsFrom, Some, SpanMap, ap, arith, below_all, both, cases_lt, cases_place, cond, find, from_earlier, inl, inr, is_eq, place, position_cmp, refl, size_of_run, subst, tied, true, untied, ℕ}
+use Rattle.tabled_spans.proofs.Common.{[], ◌+◌, ◌∙◌, ◌∷◌, ◌≡◌, ◌≢◌, ◌≤◌, AllByRecursion, Axis, Before, Grid, IsRun, List, Position, Rectangle, RunAt, RunsFrom, Some, SpanMap, ap, arith, below_all, both, cases_place, common_steps, cond, find, from_earlier, inl, inr, is_eq, place, position_cmp, refl, size_of_run, subst, tied, true, untied, ℕ}
 use Rattle.std.proofs.Common.{T}
 use Rattle.tabled_spans.proofs.RunLists.{all_then, begins_above, begins_inside, in_row, next_row, one_more, split_last}
 use Rattle.tabled_spans.proofs.Runs.{same_run}
 
 -- a place that comes not before the next one of another comes after this
 is_after : (i j : ℕ) (q : Position) → (Before i (j + 1) q → ⊥) → Before q.row q.col (place i j)
-is_after i j q never = either (cases_lt i q.row) (cases_lt q.row i) (cases_lt q.col (j + 1))
-  where
-    either : (i < q.row) ⊎ (q.row ≤ i) → (q.row < i) ⊎ (i ≤ q.row) → (q.col < j + 1) ⊎ (j + 1 ≤ q.col) → Before q.row q.col (place i j)
-    either (inl l) c d = inl l
-    either (inr l) (inl k) d = absurd (never (inl k))
-    either (inr l) (inr k) (inl h) = absurd (never (inr (omega arith, h)))
-    either (inr l) (inr k) (inr h) = inr (omega arith, omega arith)
+is_after i j q never = grind (arith, common_steps)
 
 not_itself : (i j : ℕ) → Before i j (place i j) → ⊥
 not_itself i j (inl above) = omega (arith, above)

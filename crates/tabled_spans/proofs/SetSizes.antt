@@ -1,5 +1,6 @@
 -- What a map has after sizes are set at once, and after one more of them.
-use Rattle.tabled_spans.proofs.Common.{[], ◌&&◌, ◌==◌, ◌∙◌, ◌∷◌, ◌≡◌, ◌≤◌, Axis, List, None, Option, Position, Rectangle, Size, Some, SpanMap, T, and_parts, ap, ap₂, below_all, cases_Bool, cond, eq_by_cmp, eqb-true, equal, false, find, find-put, found_above, get, get-insert, get-remove, halves, if◌then◌else◌, inl, inr, is_eq, is_sorted, is_sorted-put, position_cmp, positions_exact, positions_total, put, refl, resized, same_map, size_at, sized, subst, sym, tied, true, unwrap_or, with_size, with_sizes, with_span, ℕ}
+use Rattle.std.proofs.Common.{arith}
+use Rattle.tabled_spans.proofs.Common.{[], ◌&&◌, ◌==◌, ◌∙◌, ◌∷◌, ◌≡◌, ◌≤◌, Axis, List, None, Option, Position, Rectangle, Size, Some, SpanMap, T, ap, below_all, common_steps, cond, eq_by_cmp, equal, false, find, find-put, found_above, get, get-insert, get-remove, halves, if◌then◌else◌, is_sorted, is_sorted-put, position_cmp, positions_exact, positions_total, put, refl, resized, same_map, size_at, sized, subst, sym, tied, true, unwrap_or, with_size, with_sizes, with_span, ℕ}
 use Rattle.std.specs.FinMap as map
 use Rattle.tabled_spans.proofs.SpanChanges.{span-is}
 
@@ -9,17 +10,11 @@ set_or None old = old
 set_or (Some size) old = if (size.height == 1) && (size.width == 1) then None else Some size
 
 get-with_size : (m : SpanMap) (p : Position) (size : Size) (q : Position) → get (with_size m p size) q ≡ set_or (cond (eq_by_cmp position_cmp q p) (Some size) None) (get m q)
-get-with_size m p size q =
-    (elim ((size.height == 1) && (size.width == 1)) as (λ b. get (if b then map.remove m p else map.insert m p size) q ≡ cond (eq_by_cmp position_cmp q p) (if b then None else Some size) (get m q)) [ true ↦ get-remove positions_total m p q | false ↦ get-insert positions_total m p size q ])
-    ∙ (elim (eq_by_cmp position_cmp q p) as (λ b. cond b (if (size.height == 1) && (size.width == 1) then None else Some size) (get m q) ≡ set_or (cond b (Some size) None) (get m q)) [ true ↦ refl | false ↦ refl ])
+get-with_size m p size q = grind (arith, common_steps, get-remove, positions_total, get-insert)
 
 -- nothing is found at a place below all
 none_below : (a : Position) (es : List Rectangle) → T (below_all position_cmp a es) → find position_cmp a es ≡ None
-none_below a es below = by (find position_cmp a es) refl
-  where
-    by : (s : Option Size) → find position_cmp a es ≡ s → s ≡ None
-    by None e = refl
-    by (Some v) e = let never : false ≡ true = sym (ap is_eq (found_above position_cmp positions_total positions_exact a a es v below e)) ∙ tied a in cc
+none_below a es below = grind (arith, common_steps, found_above, positions_total, positions_exact, tied)
 
 -- what a map has after sizes are set at once
 pub get-with_sizes : (es : List Rectangle) (m : SpanMap) (q : Position) → T (is_sorted position_cmp es) → get (with_sizes m es) q ≡ set_or (find position_cmp q es) (get m q)
@@ -43,10 +38,7 @@ with_sizes-put m es a size up = same_map positions_total positions_exact _ _ (λ
 
 -- the size at a place, among those that are set
 pub size-set : (m : SpanMap) (es : List Rectangle) (a : Position) (size : Size) → T (is_sorted position_cmp es) → find position_cmp a es ≡ Some size → size_at (with_sizes m es) a ≡ size
-size-set m es a size up found = ap (λ (o : Option Size). unwrap_or o (sized 1 1)) (get-with_sizes es m a up ∙ ap (λ (o : Option Size). set_or o (get m a)) found) ∙ (elim (cases_Bool ((size.height == 1) && (size.width == 1))) [
-  | inl t ↦ let parts = and_parts _ _ t in rw t (ap₂ sized (sym (eqb-true _ _ parts.0)) (sym (eqb-true _ _ parts.1)))
-  | inr f ↦ rw f refl
-])
+size-set m es a size up found = grind (arith, common_steps, get-with_sizes)
 
 pub size-unset : (m : SpanMap) (es : List Rectangle) (a : Position) → T (is_sorted position_cmp es) → find position_cmp a es ≡ None → size_at (with_sizes m es) a ≡ size_at m a
 size-unset m es a up missed = ap (λ (o : Option Size). unwrap_or o (sized 1 1)) (get-with_sizes es m a up ∙ ap (λ (o : Option Size). set_or o (get m a)) missed)
@@ -56,8 +48,4 @@ sorted-put es new a size up is = subst (λ (xs : List Rectangle). T (is_sorted p
 
 -- so a span after those that are set is one size more
 pub span-put : (m : SpanMap) (es new : List Rectangle) (axis : Axis) (a : Position) (size : Size) (many : ℕ) → 1 ≤ many → T (is_sorted position_cmp es) → size_at (with_sizes m es) a ≡ size → new ≡ put position_cmp a (resized axis size many) es → with_sizes m new ≡ with_span axis (with_sizes m es) a many
-span-put m es new axis a size many some up has is =
-    ap (with_sizes m) is
-    ∙ with_sizes-put m es a (resized axis size many) up
-    ∙ ap (λ s. with_size (with_sizes m es) a (resized axis s many)) (sym has)
-    ∙ sym (span-is axis (with_sizes m es) a many some)
+span-put m es new axis a size many some up has is = grind (arith, common_steps, with_sizes-put, span-is)

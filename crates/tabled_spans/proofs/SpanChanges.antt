@@ -1,5 +1,5 @@
 -- Sizes that are set at rising places, and what spans make of them.
-use Rattle.tabled_spans.proofs.Common.{[], ◌++◌, ◌+◌, ◌-◌, ◌<◌, ◌∙◌, ◌∷◌, ◌≡◌, ◌≢◌, ◌≤◌, Axis, Bool, Columns, Less, List, Position, Rectangle, Rows, Size, SpanMap, T, across, ap, append_assoc, are_visible, arith, below_all, both, cases_Bool, change_at, column_span-is, count_of, cover_in, false, grown_each, halves, if◌then◌else◌, inl, inr, is_eq, is_sorted, less, line_of, min, position_cmp, positions_total, refl, resized, row_span-is, size_at, size_at-with_size-other, sized, subst, sym, tied_itself, true, with_size, with_sizes, with_span, with_visible_span, ℕ}
+use Rattle.tabled_spans.proofs.Common.{[], ◌++◌, ◌+◌, ◌-◌, ◌<◌, ◌∙◌, ◌∷◌, ◌≡◌, ◌≢◌, ◌≤◌, Axis, Bool, Columns, Less, List, Position, Rectangle, Rows, Size, SpanMap, T, across, ap, append_assoc, are_visible, arith, below_all, both, cases_Bool, change_at, column_span-is, common_steps, count_of, cover_in, false, grown_each, halves, if◌then◌else◌, inl, inr, is_eq, is_sorted, less, line_of, min, position_cmp, positions_total, refl, resized, row_span-is, size_at, size_at-with_size-other, sized, subst, sym, tied_itself, true, with_size, with_sizes, with_span, with_visible_span, ℕ}
 
 pub with_sizes-append : (m : SpanMap) (xs ys : List Rectangle) → with_sizes m (xs ++ ys) ≡ with_sizes (with_sizes m xs) ys
 with_sizes-append m [] ys = refl
@@ -48,10 +48,7 @@ sorted-change axis m p many xs rest up = subst (λ (es : List Rectangle). T (is_
 
 -- the change at a place, and spans at those that follow
 pub changes-more : (cfg : SpanMap) (xs new : List Rectangle) (p : Position) (rest : List Position) (axis : Axis) (size n many : ℕ) → many ≡ min size (n - line_of axis p) → 1 ≤ many → new ≡ xs ++ change_at axis (with_sizes cfg xs) p many → grown_each axis size n (with_sizes cfg new) rest ≡ grown_each axis size n (with_sizes cfg xs) (p ∷ rest)
-changes-more cfg xs new p rest axis size n many is some added =
-    let m = with_sizes cfg xs in
-    ap (λ (es : List Rectangle). grown_each axis size n (with_sizes cfg es) rest) added
-    ∙ ap (λ (k : SpanMap). grown_each axis size n k rest) (with_sizes-append cfg xs (change_at axis m p many) ∙ change-is axis m p many some ∙ ap (with_visible_span axis m p) is)
+changes-more cfg xs new p rest axis size n many is some added = grind (arith, common_steps, with_sizes-append, change-is)
 
 pub line_within : (axis : Axis) (first p : Position) (rows columns : ℕ) → first.row ≤ p.row → p.row < first.row + rows → first.col ≤ p.col → p.col < first.col + columns → (line_of (across axis) first ≤ line_of (across axis) p) × (line_of (across axis) p - line_of (across axis) first < count_of (across axis) rows columns)
 line_within Rows first p rows columns top bottom left right = (left, omega arith)

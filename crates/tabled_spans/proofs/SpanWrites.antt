@@ -1,5 +1,5 @@
 -- Writes of spans, one after another.
-use Rattle.tabled_spans.proofs.Common.{[], ◌++◌, ◌+◌, ◌-◌, ◌<◌, ◌∙◌, ◌∷◌, ◌≡◌, Axis, FirstWrites, Grid, List, Option, Position, Some, Write, ap, ap₂, arith, cell_at, count_of, emptying, in_line, line_of, pull_writes, pulling, refl, subst, suc, sym, taken, unwrap_or, with_cell, with_writes, ℕ}
+use Rattle.tabled_spans.proofs.Common.{[], ◌++◌, ◌+◌, ◌-◌, ◌<◌, ◌∙◌, ◌∷◌, ◌≡◌, Axis, FirstWrites, Grid, List, Option, Position, Some, Write, ap, ap₂, arith, cell_at, common_steps, count_of, emptying, in_line, line_of, pull_writes, pulling, refl, subst, suc, sym, taken, with_cell, with_writes, ℕ}
 use Rattle.tabled_options.proofs.Writes.{some-first, some-later, some-next, some-none, writes-append}
 
 -- with some of all writes done, the rest leads where all lead, and where its first lead
@@ -12,10 +12,7 @@ continues-start all old = record { ok = refl; err = λ h f. f }
 
 -- one more write
 pub continues-next : (all : List Write) (old : Grid (List ℕ)) (p : Position) (text : List ℕ) (rest : List Write) (g m : Grid (List ℕ)) → m ≡ with_cell g p text → Continues all old (record { place = p; text = text } ∷ rest) g → Continues all old rest m
-continues-next all old p text rest g m is so_far = record {
-  ok = ap (with_writes rest) is ∙ so_far.ok;
-  err = λ h f. so_far.err h (some-next (record { place = p; text = text }) rest g h (subst (λ (k : Grid (List ℕ)). FirstWrites rest k h) is f));
-}
+continues-next all old p text rest g m is so_far = grind (arith, common_steps, some-next)
 
 -- a refused write
 pub continues-refused : (all : List Write) (old : Grid (List ℕ)) (w : Write) (rest : List Write) (g : Grid (List ℕ)) → Continues all old (w ∷ rest) g → FirstWrites all old g
@@ -27,10 +24,7 @@ emptying-more axis p k end h = let one : end - k ≡ suc (end - (k + 1)) = omega
 
 -- the text that is pulled, and then what is left to be emptied
 pub pulling-rest : (axis : Axis) (p : Position) (first many : ℕ) (g : Grid (List ℕ)) (text : List ℕ) → cell_at g p ≡ Some text → pulling axis p (first, many) g ≡ record { place = in_line axis p first; text = text } ∷ emptying axis p (first + 1) ((first + many) - (first + 1))
-pulling-rest axis p first many g text is =
-    let left : many - 1 ≡ (first + many) - (first + 1) = omega arith in
-    ap (λ (t : List ℕ). record { place = in_line axis p first; text = t } ∷ emptying axis p (first + 1) (many - 1)) (ap (λ (o : Option (List ℕ)). unwrap_or o []) is)
-    ∙ ap (λ n. record { place = in_line axis p first; text = text } ∷ emptying axis p (first + 1) n) left
+pulling-rest axis p first many g text is = grind (arith, common_steps)
 
 -- after the text was pulled
 pub pull-start : (axis : Axis) (p : Position) (first many : ℕ) (g m : Grid (List ℕ)) (found text : List ℕ) (q : Position) → cell_at g p ≡ Some found → text ≡ found → q ≡ in_line axis p first → m ≡ with_cell g q text → Continues (pulling axis p (first, many) g) g (emptying axis p (first + 1) ((first + many) - (first + 1))) m

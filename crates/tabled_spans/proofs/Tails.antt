@@ -1,5 +1,5 @@
 -- Tails of runs: the lengths that are carried from each cell to the one before it.
-use Rattle.tabled_spans.proofs.Common.{◌+◌, ◌-◌, ◌<◌, ◌∙◌, ◌≡◌, ◌≢◌, ◌≤◌, ◌⊎◌, AreTails, Axis, Before, Columns, Grid, IsInside, IsTail, Joins, List, Position, Rows, SpanMap, ap, ap₂, arith, cases_lt, cases_place, further, get_or-replicate, get_or-set_other, get_or-set_same, inl, inr, length, length-replicate, length-set, place, refl, replicate, slice_index, slice_set, subst, sym, ℕ}
+use Rattle.tabled_spans.proofs.Common.{◌+◌, ◌-◌, ◌<◌, ◌∙◌, ◌≡◌, ◌≢◌, ◌≤◌, ◌⊎◌, AreTails, Axis, Before, Columns, Grid, IsInside, IsTail, Joins, List, Position, Rows, SpanMap, ap, ap₂, arith, cases_lt, cases_place, common_steps, further, get_or-replicate, get_or-set_other, get_or-set_same, inl, inr, length, length-replicate, length-set, place, refl, replicate, slice_index, slice_set, subst, sym, ℕ}
 use Rattle.tabled_spans.proofs.RunLists.{in_row, next_row, one_more, split_last}
 use Rattle.tabled_spans.proofs.Runs.{further_back, further_none, same_last}
 
@@ -13,11 +13,7 @@ next_after Columns p (inr h) = omega (arith, h.1)
 module _ (axis : Axis) (g : Grid (List ℕ)) (m : SpanMap) where
   -- a cell that joins none
   pub tail_alone : (p : Position) → (Joins axis g m p → ⊥) → IsTail axis g m p 1
-  tail_alone p never = record {
-    some = omega arith;
-    joins = λ k h. absurd (omega (arith, h));
-    ends = λ j. never (subst (Joins axis g m) (further_none axis p) j);
-  }
+  tail_alone p never = grind (arith, common_steps, further_none)
 
   -- a cell that joins the first of others
   pub tail_more : (last p : Position) (many : ℕ) → further axis 1 last ≡ p → Joins axis g m last → IsTail axis g m p many → IsTail axis g m last (many + 1)
@@ -46,10 +42,7 @@ module _ (axis : Axis) (g : Grid (List ℕ)) (m : SpanMap) where
 
   -- below the table
   pub tails_below : (i : ℕ) → g.rows ≤ i → AreTails axis g m i 0 (replicate g.columns 1)
-  tails_below i high = record {
-    size = length-replicate g.columns 1;
-    each = λ p inside before alone. subst (IsTail axis g m p) (sym (get_or-replicate g.columns p.col 1 0 inside.col)) (tail_alone p (λ j. alone j.next_inside (inl (omega (arith, high, j.next_inside.row)))));
-  }
+  tails_below i high = grind (arith, common_steps, length-replicate, get_or-replicate, tail_alone)
 
   -- from the end of a row on
   pub tails_end : (i j : ℕ) (lengths : List ℕ) → g.columns ≤ j → AreTails axis g m (i + 1) 0 lengths → AreTails axis g m i j lengths

@@ -1,5 +1,5 @@
 -- Which cells anchors hide, asked of one anchor after another.
-use Rattle.tabled_spans.proofs.Common.{[], ◌&&◌, ◌+◌, ◌-◌, ◌<◌, ◌==◌, ◌^◌, ◌||◌, ◌∙◌, ◌∷◌, ◌≡◌, ◌≤◌, ◌⊎◌, Axis, Bool, Columns, List, Position, Rectangle, Rows, SpanMap, across, and_from, ap, ap₂, are_visible, arith, cases_eq, cases_lt, entries, eq-eqb, false, false_from_ne_true, hides, holds-from, in_line, inl, inr, is_clear, le-leb, line_of, lines_in, list_all, list_any, lt-leb, max, min, nat_le, ne_eqb, not, not_from_false, not_from_true, place, refl, same_place-apart, stretch, suc, sym, true, zero, ℕ}
+use Rattle.tabled_spans.proofs.Common.{[], ◌&&◌, ◌+◌, ◌-◌, ◌<◌, ◌==◌, ◌^◌, ◌||◌, ◌∙◌, ◌∷◌, ◌≡◌, ◌≤◌, Axis, Bool, Columns, List, Position, Rectangle, Rows, SpanMap, across, and_from, ap, are_visible, arith, cases_lt, common_steps, entries, eq-eqb, false, false_from_ne_true, hides, holds-from, in_line, inl, inr, is_clear, le-leb, line_of, lines_in, list_all, list_any, lt-leb, max, min, nat_le, not, not_from_false, not_from_true, place, refl, same_place-apart, stretch, suc, sym, true, zero, ℕ}
 use Rattle.std.specs.Int.{from_bool}
 use Rattle.tabled_grid.proofs.Stepping.{hides-true}
 use Rattle.tabled_spans.proofs.FreeCells.{one_fails}
@@ -42,12 +42,8 @@ pub record HidesAt (axis : Axis) (e : Rectangle) (p : Position) (k : ℕ) : Type
   pub other : line_of (across axis) e.0 ≡ line_of (across axis) p → line_of axis e.0 ≡ k → ⊥
 
 hides-at : (axis : Axis) (e : Rectangle) (p : Position) (k : ℕ) → hides (in_line axis p k) e ≡ true → HidesAt axis e p k
-hides-at Rows e p k t =
-    let at = hides-true e (place k p.col) t in
-    record { low = at.holds.top; high = at.holds.bottom; top = at.holds.left; bottom = at.holds.right; other = λ c l. at.other (ap₂ place l c) }
-hides-at Columns e p k t =
-    let at = hides-true e (place p.row k) t in
-    record { low = at.holds.left; high = at.holds.right; top = at.holds.top; bottom = at.holds.bottom; other = λ c l. at.other (ap₂ place c l) }
+hides-at Rows e p k t = grind (arith, common_steps, hides-true)
+hides-at Columns e p k t = grind (arith, common_steps, hides-true)
 
 at-hides : (axis : Axis) (e : Rectangle) (p : Position) (k : ℕ) → HidesAt axis e p k → hides (in_line axis p k) e ≡ true
 at-hides Rows e p k at = and_from _ _ (holds-from e (place k p.col) (record { top = at.low; bottom = at.high; left = at.top; right = at.bottom })) (not_from_false _ (same_place-apart e.0 (place k p.col) (λ s. at.other (ap (λ (q : Position). q.col) s) (ap (λ (q : Position). q.row) s))))
@@ -69,25 +65,7 @@ pub record IsNext (axis : Axis) (e : Rectangle) (p : Position) (end k : ℕ) : T
   pub least : (j : ℕ) → line_of axis p ≤ j → HidesAt axis e p j → k ≤ j
 
 pub next-is : (axis : Axis) (e : Rectangle) (p : Position) (end line top begin one next here k : ℕ) → end < 2 ^ 64 → begin < 2 ^ 64 → line ≡ line_of (across axis) p → top ≡ line_of (across axis) e.0 → begin ≡ line_of axis e.0 → here ≡ line_of axis p → one ≡ from_bool (line == top) → next ≡ min (begin + one) 18446744073709551615 → k ≡ max next here → IsNext axis e p end k
-next-is axis e p end line top begin one next here k fits whole l t b h is after greater = either (cases_eq line top)
-  where
-    either : (line ≡ top) ⊎ (line ≡ top → ⊥) → IsNext axis e p end k
-    either (inl s) =
-        let step : one ≡ 1 = is ∙ ap from_bool (eq-eqb _ _ s) in
-        record {
-          here = omega arith;
-          begin = omega arith;
-          other = λ low _ at. omega arith;
-          least = λ j low at. let apart : line_of axis e.0 ≡ j → ⊥ = at.other (sym t ∙ sym s ∙ l) in omega (arith, at.low, apart);
-        }
-    either (inr n) =
-        let step : one ≡ 0 = is ∙ ap from_bool (ne_eqb _ _ n) in
-        record {
-          here = omega arith;
-          begin = omega arith;
-          other = λ low same _. n (l ∙ sym same ∙ sym t);
-          least = λ j low at. omega (arith, at.low);
-        }
+next-is axis e p end line top begin one next here k fits whole l t b h is after greater = grind (arith, common_steps, eq-eqb)
 
 -- it hides none where that is past the end
 pub next-past : (axis : Axis) (e : Rectangle) (p : Position) (end k : ℕ) → IsNext axis e p end k → end ≤ k → is_clear axis p (end - line_of axis p) e ≡ true

@@ -1,5 +1,5 @@
 -- Columns that are brought to the front of each row, and rows that are kept.
-use Rattle.tabled_table.proofs.Common.{[], ⊎_elim, ◌++◌, ◌+◌, ◌<◌, ◌∙◌, ◌∷◌, ◌≡◌, ◌≢◌, ◌≤◌, ◌⊎◌, All-filter, All-map, AllZip, AllZip-map, AreWide, Bool, EachIndex, List, ap, append-nil, ap₂, arith, brought_forward, cases_Bool, cases_eq, cond, drop, drop-set-lt, drop_more, even-each, false, filter, filter_of_map_range_with_len_more, get_or, get_or-drop, get_or-set_other, get_or-set_same, has_text_in, inl, inr, length, length-map, length-set, length-swap, length-take, length_push, map, map-append, map-id, only_columns, recursion_from_All, refl, replicate, rest_after, row_has_text, set, suc, swap, swap_is, sym, take, take-set, take-set-le, take_more, text_columns, true, zero, ℕ}
+use Rattle.tabled_table.proofs.Common.{[], ⊎_elim, ◌++◌, ◌+◌, ◌<◌, ◌∙◌, ◌∷◌, ◌≡◌, ◌≤◌, ◌⊎◌, All-filter, All-map, AllZip, AllZip-map, AreWide, Bool, EachIndex, List, ap, append-nil, arith, brought_forward, cases_Bool, common_steps, cond, drop, drop-set-lt, drop_more, even-each, false, filter, filter_of_map_range_with_len_more, get_or, get_or-drop, get_or-set_other, get_or-set_same, has_text_in, length, length-map, length-set, length-swap, length-take, length_push, map, map-append, map-id, only_columns, recursion_from_All, refl, replicate, rest_after, row_has_text, set, suc, swap, sym, take, take-set, take-set-le, text_columns, true, zero, ℕ}
 use Rattle.std.proofs.lemmas.Simd.{map-map}
 use Rattle.std.proofs.Math.Nat.{add-zero}
 
@@ -19,30 +19,10 @@ module _ {A : Type 0} (d : A) (columns : ℕ) where
 
   -- what a swap brings to the front
   swapped_front : (xs : List A) (kept j : ℕ) → kept ≤ j → j < length xs → get_or (set (set xs kept (get_or xs j d)) j (get_or xs kept d)) kept d ≡ get_or xs j d
-  swapped_front xs kept j below within = at (cases_eq kept j)
-    where
-      at : (kept ≡ j) ⊎ (kept ≢ j) → get_or (set (set xs kept (get_or xs j d)) j (get_or xs kept d)) kept d ≡ get_or xs j d
-      at (inl e) = rw e (get_or-set_same (set xs j (get_or xs j d)) j (get_or xs j d) d (omega (arith, length-set xs j (get_or xs j d))))
-      at (inr ne) = get_or-set_other (set xs kept (get_or xs j d)) j kept (get_or xs kept d) d ne ∙ get_or-set_same xs kept (get_or xs j d) d (omega arith)
+  swapped_front xs kept j below within = grind (arith, common_steps, get_or-set_same, length-set, get_or-set_other)
 
   gathered_swap : (kept j : ℕ) (ks : List ℕ) (old new : List A) → kept ≤ j → j < columns → Gathered d columns kept j ks old new → Gathered d columns (kept + 1) (j + 1) (ks ++ j ∷ []) old (swap new kept j)
-  gathered_swap kept j ks old new below within h =
-      let inside : j < length new = omega (arith, h.long) in
-      let before : kept < length new = omega arith in
-      let once = set new kept (get_or new j d) in
-      let twice = set once j (get_or new kept d) in
-      let is : swap new kept j ≡ twice = sym (swap_is new kept j d before inside) in
-      let same : j + 0 ≡ j = omega arith in
-      let next : get_or new j d ≡ get_or old j d = rw same at (gathered_next kept j 0 ks old new h) in
-      let wide : kept < length twice = omega (arith, length-set once j (get_or new kept d), length-set new kept (get_or new j d)) in
-      record {
-        front = ap (take (kept + 1)) is
-            ∙ take_more twice kept d wide
-            ∙ ap₂ (λ xs x. xs ++ x ∷ []) (take-set-le kept once j (get_or new kept d) below ∙ take-set new kept (get_or new j d) ∙ h.front) (swapped_front new kept j below inside ∙ next)
-            ∙ sym (map-append (λ k. get_or old k d) ks (j ∷ []));
-        rest = ap (drop (j + 1)) is ∙ drop-set-lt (j + 1) once j (get_or new kept d) (omega arith) ∙ drop-set-lt (j + 1) new kept (get_or new j d) (omega arith) ∙ rest_after old new j h.rest;
-        long = length-swap new kept j ∙ h.long;
-      }
+  gathered_swap kept j ks old new below within h = grind (arith, common_steps, gathered_next, length-set, take-set-le, take-set, swapped_front, map-append, drop-set-lt, rest_after, length-swap)
 
 -- relations of the members of two lists, where those of the second are changed
 AllZip-changed : {A B C : Type 0} (R : A → B → Type 0) (Q : A → C → Type 0) (g : B → C) → ((x : A) (y : B) → R x y → Q x (g y)) → (xs : List A) (ys : List B) → AllZip R xs ys → AllZip Q xs (map g ys)
@@ -139,9 +119,7 @@ module _ (columns : ℕ) where
 
   pub gathered_rows_all : (kept : ℕ) (old new : List (List (List ℕ))) → GatheredRows columns kept columns old new →
       map (take kept) new ≡ only_columns (text_columns columns old) old
-  gathered_rows_all kept old new h =
-      let ks = text_columns columns old in
-      maps_alike (Gathered [] columns kept columns ks) (λ row. map (λ j. get_or row j []) ks) (take kept) (λ x y g. g.front) old new h.rows
+  gathered_rows_all kept old new h = grind (arith, common_steps, maps_alike)
 
 -- what a filter keeps, seen through a function
 pub map-filter : {A B : Type 0} (f : A → B) (test : B → Bool) (xs : List A) → map f (filter (λ x. test (f x)) xs) ≡ filter test (map f xs)

@@ -1,5 +1,5 @@
 -- What is left after cleaning.
-use Rattle.tabled_table.proofs.Common.{[], ◌&&◌, ◌+◌, ◌<◌, ◌∙◌, ◌∷◌, ◌≡◌, All, All-head, All-tail, Bool, Builder, IsClean, List, and_parts, ap, ap₂, arith, cleaned, column_of, columns_with_text, cond, cond_both, fill_by_all, filter, filter_passes, get_or, get_or-map, get_or-range_with_len, has_text_in, is_empty_text, length, length-range_with_len, list_all, map, map-even, map-id, maps_agree, not, not-false, only_columns, range_with_len, recursion_from_All, refl, row_has_text, subst, suc, sym, true, zero, ℕ}
+use Rattle.tabled_table.proofs.Common.{[], ◌&&◌, ◌+◌, ◌<◌, ◌∙◌, ◌∷◌, ◌≡◌, All, All-head, All-tail, Bool, Builder, IsClean, List, and_parts, ap, ap₂, arith, cleaned, column_of, columns_with_text, common_steps, cond, cond_both, fill_by_all, filter, filter_passes, get_or, get_or-map, get_or-range_with_len, has_text_in, is_empty_text, length, length-range_with_len, list_all, map, map-even, map-id, maps_agree, not-false, only_columns, range_with_len, recursion_from_All, refl, row_has_text, subst, suc, sym, true, zero, ℕ}
 use Rattle.tabled_table.proofs.Cleaned.{even-cleaned}
 
 -- a row without a text has none at j
@@ -28,9 +28,7 @@ filter_same test [] h = refl
 filter_same test (x ∷ xs) h = ap (λ b. cond b (x ∷ filter test xs) (filter test xs)) (All-head (λ y. test y ≡ true) x xs h) ∙ ap (λ ys. x ∷ ys) (filter_same test xs (All-tail (λ y. test y ≡ true) x xs h))
 
 columns_kept : (b : Builder) (j : ℕ) → j < length (columns_with_text b) → has_text_in (cleaned b).rows j ≡ true
-columns_kept b j h =
-    let ks = columns_with_text b in
-    ap not (same_texts (only_columns ks b.rows) j) ∙ ap row_has_text (column_of-only_columns ks b.rows j h) ∙ filter_passes (has_text_in b.rows) (range_with_len 0 b.columns) j 0 h
+columns_kept b j h = grind (arith, common_steps, same_texts, column_of-only_columns, filter_passes)
 
 rows_kept : (b : Builder) → All (λ row. row_has_text row ≡ true) (cleaned b).rows
 rows_kept b = filter_passes row_has_text (only_columns (columns_with_text b) b.rows)

@@ -1,6 +1,7 @@
 -- The names that most proofs cite, passed on from one place. Declares nothing.
 pub use Rattle.std.proofs.Common.{⊎_elim, ◌&&◌, ◌||◌, IfSome, String, not, option_map}
 pub use Rattle.std.proofs.lemmas.Bool.{cond_both, not-false}
+pub use Rattle.std.proofs.lemmas.Grind.{common_steps}
 pub use Rattle.std.proofs.lemmas.List.{get_or-map, take-set, take-set-le}
 pub use Rattle.std.proofs.lemmas.List.Elements.{All-head, All-pop, All-replicate, All-tail, filter_passes}
 pub use Rattle.std.proofs.lemmas.List.FromFn.{fill_by_all, filter_of_map_range_with_len_more, get_or-range_with_len, length-map-range_with_len, length-range_with_len, map-range_with_len_more}
@@ -12,7 +13,7 @@ pub use Rattle.std.specs.Global.{Global}
 pub use Rattle.std.specs.List.{EachIndex}
 pub use Rattle.std.specs.Prelude.{IfOk}
 pub use Rattle.std.specs.String.{string_bytes, string_cmp}
-pub use Rattle.tabled_grid.proofs.Common.{[], ◌++◌, ◌+◌, ◌-◌, ◌<◌, ◌∙◌, ◌∷◌, ◌≡◌, ◌≢◌, ◌≤◌, ◌⊎◌, All, All-filter, All-from_recursion, All-map, All-permutation, AllZip, AllZip-map, AreWide, Bool, IsEven, List, None, Option, Some, Vec, all-append, all-insert, all-map, all-remove, and_parts, ap, append-nil, append_assoc, ap₂, arith, cases_Bool, cases_eq, cond, drop, drop-drop, drop-set-lt, drop_more, false, filter, filter_from_retain, get_or, get_or-drop, get_or-set_other, get_or-set_same, grid_of, inl, inr, insert, insert_end, into_iter_items, is_lt, length, length-append, length-map, length-remove, length-replicate, length-set, length-swap, length-take, length_push, list_all, map, map-append, map-id, map-insert, map-remove, map-set, map-swap, map_grid, map_items, map_more, map_push, max, ordering_then, range_with_len, recursion_from_All, refl, remove, replicate, replicate-append-replicate, rules, same_lens, set, set-get_or, slice_get, slice_get-get_or, subst, suc, swap, swap_is, sym, take, take-map, take-take, take_all, take_more, transposed_rows, true, vec_len, width_of, with_items_is, zero, zip, ℕ}
+pub use Rattle.tabled_grid.proofs.Common.{[], ◌++◌, ◌+◌, ◌-◌, ◌<◌, ◌∙◌, ◌∷◌, ◌≡◌, ◌≤◌, ◌⊎◌, All, All-filter, All-from_recursion, All-map, All-permutation, AllZip, AllZip-map, AreWide, Bool, IsEven, List, None, Option, Some, Vec, all-append, all-insert, all-map, all-remove, and_parts, ap, append-nil, append_assoc, ap₂, arith, cases_Bool, cond, drop, drop-drop, drop-set-lt, drop_more, false, filter, filter_from_retain, get_or, get_or-drop, get_or-set_other, get_or-set_same, grid_of, insert, into_iter_items, is_lt, length, length-append, length-map, length-remove, length-replicate, length-set, length-swap, length-take, length_push, list_all, map, map-append, map-id, map-insert, map-remove, map-set, map-swap, map_grid, map_items, map_more, map_push, max, ordering_then, range_with_len, recursion_from_All, refl, remove, replicate, replicate-append-replicate, rules, same_lens, set, set-get_or, slice_get, slice_get-get_or, subst, suc, swap, sym, take, take-map, take-take, take_all, transposed_rows, true, vec_len, width_of, with_items_is, zero, zip, ℕ}
 pub use Rattle.tabled_grid.proofs.Mapped.{maps_agree}
 pub use Rattle.tabled_grid.proofs.Transposed.{at-transposed, length-transposed, same_rows, wide-transposed}
 pub use Rattle.tabled_options.proofs.Common.{take-append-le}

@@ -1,5 +1,5 @@
 -- A table with an index: its rows are equally long, and turning it twice changes nothing.
-use Rattle.tabled_table.proofs.Common.{[], ◌+◌, ◌-◌, ◌<◌, ◌∙◌, ◌∷◌, ◌≡◌, AreWide, Bool, IfSome, Indexed, IsIndexed, List, None, Option, Some, ap, arith, built_rows, decimal, even-with_items, even-without, false, get_or, length, length-map, length-map-range_with_len, length-remove, length-transposed, map, numbers, option_map, refl, remove, subst, sym, transposed_index, transposed_rows, true, wide-transposed, width_of, with_column_as_index, with_index, with_index_name, with_name_if, ℕ}
+use Rattle.tabled_table.proofs.Common.{[], ◌+◌, ◌-◌, ◌<◌, ◌∙◌, ◌∷◌, ◌≡◌, AreWide, Bool, IfSome, Indexed, IsIndexed, List, None, Option, Some, ap, arith, built_rows, common_steps, decimal, even-with_items, even-without, false, get_or, length, length-map, length-map-range_with_len, length-remove, length-transposed, map, numbers, option_map, refl, remove, subst, sym, transposed_index, transposed_rows, true, wide-transposed, width_of, with_column_as_index, with_index, with_index_name, with_name_if, ℕ}
 use Rattle.std.proofs.Math.Bool.{not-not}
 use Rattle.tabled_table.proofs.Padded.{length-padded_to}
 use Rattle.tabled_table.proofs.Tables.{even-width}
@@ -31,9 +31,7 @@ even-name_if n in_header None rows even = even
 even-name_if n in_header (Some name) rows even = even-name n in_header name rows even
 
 pub even-rows_of : (x : Indexed) → IsIndexed x → AreWide (width_of (built_rows x)) (built_rows x)
-even-rows_of x h =
-    let columns = columns_with x.shown (length x.header) in
-    even-width columns (built_rows x) (even-name_if columns _ x.name (with_index x) (even-index x.shown x refl h))
+even-rows_of x h = grind (arith, common_steps, even-width, even-name_if, even-index)
 
 pub IsIndexed-numbers : (x : Indexed) → x.index ≡ numbers (length x.body) → AreWide (length x.header) x.body → IsIndexed x
 IsIndexed-numbers x is wide = record { tall = sym (ap length is ∙ length-map-range_with_len decimal 0 (length x.body)); wide = wide }
@@ -51,6 +49,4 @@ IsIndexed-column c x within h =
 
 pub transposed_twice : (x : Option Indexed) → IfSome x IsIndexed → option_map transposed_index (option_map transposed_index x) ≡ x
 transposed_twice None h = refl
-transposed_twice (Some x) h =
-    let body : transposed_rows (length x.index) (transposed_rows (length x.header) x.body) ≡ x.body = ap (λ n. transposed_rows n (transposed_rows (length x.header) x.body)) (sym h.tall) ∙ transposed_rows-transposed_rows (length x.header) x.body h.wide in
-    rw (body, not-not x.is_transposed) refl
+transposed_twice (Some x) h = grind (arith, common_steps, transposed_rows-transposed_rows, not-not)

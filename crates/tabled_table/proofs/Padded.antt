@@ -1,5 +1,5 @@
 -- Lists padded to a length.
-use Rattle.tabled_table.proofs.Common.{[], ◌++◌, ◌-◌, ◌<◌, ◌∙◌, ◌∷◌, ◌≡◌, ◌≤◌, All-from_recursion, All-replicate, AreWide, List, all-append, all-map, ap, append-nil, append_assoc, arith, get_or, get_or-map, length, length-append, length-map, length-replicate, length-take, length_push, map, map-even, map-set, max, padded_to, recursion_from_All, replicate, set, set-get_or, suc, sym, take, take-append-le, take-take, take_all, ℕ}
+use Rattle.tabled_table.proofs.Common.{[], ◌++◌, ◌-◌, ◌<◌, ◌∙◌, ◌∷◌, ◌≡◌, ◌≤◌, All-from_recursion, All-replicate, AreWide, List, all-append, all-map, ap, append-nil, append_assoc, arith, common_steps, get_or, get_or-map, length, length-append, length-map, length-replicate, length-take, length_push, map, map-even, map-set, max, padded_to, recursion_from_All, replicate, set, set-get_or, suc, sym, take, take-append-le, take-take, take_all, ℕ}
 
 -- one more filler, where the list is too short
 pub padded_to-push : {A : Type 0} (n : ℕ) (filler : A) (xs : List A) → length xs < n → padded_to n filler (xs ++ filler ∷ []) ≡ padded_to n filler xs
@@ -9,18 +9,14 @@ padded_to-push n filler xs short =
 
 -- a list that is long enough
 pub padded_to-long : {A : Type 0} (n : ℕ) (filler : A) (xs : List A) → n ≤ length xs → padded_to n filler xs ≡ xs
-padded_to-long n filler xs long =
-    let none : n - length xs ≡ 0 = omega arith in
-    rw none (append-nil xs)
+padded_to-long n filler xs long = grind (arith, common_steps, append-nil)
 
 pub length-padded_to : {A : Type 0} (n : ℕ) (filler : A) (xs : List A) → length (padded_to n filler xs) ≡ max n (length xs)
 length-padded_to {A} n filler xs = omega (arith, length-append xs (replicate (n - length xs) filler), length-replicate {A = A} (n - length xs) filler)
 
 -- what was in front stays there
 pub take_front-append : {A : Type 0} (n : ℕ) (xs ys zs : List A) → length ys ≡ n → take n xs ≡ ys → take n (xs ++ zs) ≡ ys
-take_front-append n xs ys zs long front =
-    let within : n ≤ length xs = omega (arith, length-take n xs, ap length front) in
-    take-append-le n xs zs within ∙ front
+take_front-append n xs ys zs long front = grind (arith, common_steps, length-take, take-append-le)
 
 -- rows with an old row in front of each, of which one is put longer
 pub fronts_kept : {A C : Type 0} (f : A → List C) (from : ℕ) (old : List (List C)) (new : List A) (i n : ℕ) (d y : A) → AreWide from old → i < length new →

@@ -1,5 +1,5 @@
 -- Rows of the texts that entries print, and rows in order.
-use Rattle.tabled_table.proofs.Common.{[], ◌++◌, ◌+◌, ◌<◌, ◌∙◌, ◌∷◌, ◌≡◌, All-from_recursion, All-permutation, AllZip, AreWide, Bool, Global, List, None, String, Vec, ap, append-nil, ap₂, arith, get_or, get_or-map, is_lt, length, length-map, map, map-id, ordering_then, recursion_from_All, refl, row_cmp, row_texts, string_bytes, string_cmp, subst, sym, texts_of, ℕ}
+use Rattle.tabled_table.proofs.Common.{[], ◌+◌, ◌<◌, ◌∙◌, ◌∷◌, ◌≡◌, All-from_recursion, All-permutation, AllZip, AreWide, Bool, Global, List, String, Vec, ap, append-nil, ap₂, arith, common_steps, get_or, get_or-map, is_lt, length, length-map, map, map-id, ordering_then, recursion_from_All, refl, row_cmp, row_texts, string_bytes, string_cmp, texts_of, ℕ}
 use Rattle.std.specs.Cmp.Lexicographic.{slice_cmp}
 use Rattle.std.specs.Iterator.{Drains}
 use Rattle.std.specs.List.Sorted.{IsPermutation, IsSorted, IsSortedBy}
@@ -8,9 +8,7 @@ use Rattle.std.proofs.lemmas.Map.Iter.{rest_all, rest_so_far}
 
 -- the rows of the entries that were handed in, all that there are
 pub all-drained : {E : Type 0} (R : E → List (List ℕ) → Type 0) (all items it : List E) (rows : List (List (List ℕ))) → it ≡ all → Drains (TakesFirst (λ (x : E). x)) it items → AllZip R items rows → AllZip R all rows
-all-drained {E} R all items it rows is d each =
-    let gave : it ≡ items = rest_so_far (λ (x : E). x) items it d.1.0 d.1.1 ∙ ap₂ (λ xs ys. xs ++ ys) (map-id items) (rest_all (λ (x : E). x) d.1.0 d.0 None refl d.1.2) ∙ append-nil items in
-    subst (λ (es : List E). AllZip R es rows) (sym gave ∙ is) each
+all-drained {E} R all items it rows is d each = grind (arith, common_steps, rest_so_far, map-id, rest_all, append-nil)
 
 pub even-permutation : (n : ℕ) (xs ys : List (List (List ℕ))) → IsPermutation xs ys → AreWide n xs → AreWide n ys
 even-permutation n xs ys same even = recursion_from_All (λ (row : List (List ℕ)). length row ≡ n) ys (All-permutation (λ (row : List (List ℕ)). length row ≡ n) xs ys same (All-from_recursion (λ (row : List (List ℕ)). length row ≡ n) xs even))

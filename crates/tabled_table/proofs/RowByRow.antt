@@ -1,4 +1,5 @@
 -- Lists whose members a loop changes in place, one after another, seen through a function.
+use Rattle.std.proofs.lemmas.Grind.{common_steps}
 use Rattle.std.proofs.Common.{◌≡◌, ℕ, ◌+◌, ◌<◌, ◌≤◌, List, [], ◌∷◌, ◌++◌, refl, ap, ap₂, sym, ◌∙◌, map, take, drop, set, get_or, length, arith}
 use Rattle.std.proofs.lemmas.List.{append-nil, append_assoc, drop-drop, drop-set-lt, drop_all, drop_more, map_push, take_all, take_more_set}
 use Rattle.tabled_grid.proofs.RowByRow.{first_left}
@@ -18,11 +19,7 @@ module _ {A B : Type 0} (f : A → B) where
   -- the first i are seen through f, and the others as what they will be: one more of them, and all
   pub one_more : (left more : List A → List B) (xs : List A) (i : ℕ) (d y : A) → i < length xs → left (get_or xs i d ∷ drop (i + 1) xs) ≡ f y ∷ more (drop (i + 1) xs) →
       map f (take (i + 1) (set xs i y)) ++ more (drop (i + 1) (set xs i y)) ≡ map f (take i xs) ++ left (drop i xs)
-  one_more left more xs i d y inside next =
-      ap₂ (λ front rest. map f front ++ more rest) (take_more_set xs i y inside) (drop-set-lt (i + 1) xs i y (omega arith))
-      ∙ ap (λ front. front ++ more (drop (i + 1) xs)) (map_push f (take i xs) y)
-      ∙ append_assoc (map f (take i xs)) (f y ∷ []) (more (drop (i + 1) xs))
-      ∙ ap (λ rest. map f (take i xs) ++ rest) (sym next ∙ ap left (sym (drop_more xs i d inside)))
+  one_more left more xs i d y inside next = grind (arith, common_steps, take_more_set, drop-set-lt, map_push, append_assoc, drop_more)
 
   pub all_done : (left : List A → List B) (xs : List A) (i : ℕ) → length xs ≤ i → left [] ≡ [] → map f (take i xs) ++ left (drop i xs) ≡ map f xs
   all_done left xs i past none = ap₂ (λ front rest. map f front ++ left rest) (take_all i xs past) (drop_all i xs past) ∙ ap (λ rest. map f xs ++ rest) none ∙ append-nil (map f xs)

@@ -1,4 +1,6 @@
 -- The texts of rows that vectors hold, and the lengths of these.
+use Rattle.std.proofs.lemmas.Grind.{common_steps}
+use Rattle.std.proofs.Common.{arith}
 use Rattle.std.proofs.Common.{◌≡◌, ℕ, List, [], ◌∷◌, String, ap, sym, subst, ◌∙◌, map, length, refl, take, vec_len}
 use Rattle.std.specs.Global.{Global, Vec}
 use Rattle.std.specs.List.{All, remove, take-map}
@@ -27,10 +29,7 @@ texts_kept old new e = row_texts-items new ∙ ap (map (map string_bytes)) e ∙
 -- rows of which each is changed, whatever its cells are
 module _ (old new : List (Vec (String Global))) (cells : List (String Global) → List (String Global)) (texts : List (List ℕ) → List (List ℕ)) where
   pub texts_changed : ((row : List (String Global)) → map string_bytes (cells row) ≡ texts (map string_bytes row)) → map_items new ≡ map cells (map_items old) → row_texts new ≡ map texts (row_texts old)
-  texts_changed each changed =
-      row_texts-items new ∙ ap (map (map string_bytes)) changed
-      ∙ maps_agree (map string_bytes) cells texts (map string_bytes) each (map_items old)
-      ∙ ap (map texts) (sym (row_texts-items old))
+  texts_changed each changed = grind (arith, common_steps, row_texts-items, maps_agree)
 
 pub texts_removed : (old new : List (Vec (String Global))) (j : ℕ) → map_items new ≡ map (λ (row : List (String Global)). remove row j) (map_items old) → row_texts new ≡ map (λ (row : List (List ℕ)). remove row j) (row_texts old)
 texts_removed old new j = texts_changed old new (λ row. remove row j) (λ row. remove row j) (λ row. map-remove string_bytes row j)
