@@ -1,11 +1,11 @@
 -- The names that most proofs cite, passed on from one place. Declares nothing.
-pub use Rattle.std.proofs.Common.{◌&&◌, ◌==◌, ◌||◌, Bor, IsUtf8, MatchOption, T, add-zero, add_assoc, append-nil, append_assoc, drop_of_length-le, encode_utf8, encode_utf8_all, eq-eqb, eqb-true, fold, length-append, length-set, lit<, nat_le, nat_lt, ne_eqb, not, take_all, unwrap_or, zero-add}
+pub use Rattle.std.proofs.Common.{◌&&◌, ◌==◌, ◌||◌, Bor, IsUtf8, MatchOption, T, add-zero, add_assoc, append-nil, append_assoc, drop_of_length-le, encode_utf8, encode_utf8_all, eq-eqb, eqb-true, fold, length-append, length-set, lit<, nat_le, nat_lt, ne_eqb, not, take_all, unwrap_or}
 pub use Rattle.std.proofs.Math.Bool.{and-false}
 pub use Rattle.std.proofs.lemmas.Bool.{eqb-false}
 pub use Rattle.std.proofs.lemmas.Bool.Decides.{nat_tests}
 pub use Rattle.std.proofs.lemmas.List.{ext_get_or, get_or-append-add, get_or-map, get_or-replicate, get_or_push}
-pub use Rattle.std.proofs.lemmas.List.Splits.{length-slice_split, slice_split_first, slice_split_none}
-pub use Rattle.std.proofs.lemmas.List.Sums.{count_by-le-length, fails_before_first, fold-append, position_or_len_is, prefix_len-le-length, sum_by-append, sum_by-cons, sum_by_more}
+pub use Rattle.std.proofs.lemmas.List.Splits.{slice_split_first, slice_split_none}
+pub use Rattle.std.proofs.lemmas.List.Sums.{fails_before_first, fold-append, position_or_len_is, prefix_len-le-length, sum_by-append, sum_by-cons, sum_by_more}
 pub use Rattle.std.proofs.lemmas.Str.{IsUtf8-past_char, chars-IsAscii, chars-nil, chars_past_char, encode_ascii, encodes-append}
 pub use Rattle.std.specs.List.{after_first, before_first, position_or_len, slice_split, sum, sum_by}
 pub use Rattle.std.specs.Str.Iter.{chars_rest, split_has_more, split_pattern, split_text}
@@ -24,7 +24,7 @@ pub use Rattle.tabled_draw.specs.Standing.{IsSeen, ShowsTexts, StandBetween, Sta
 pub use Rattle.tabled_draw.specs.Texts.{lines_shown, shown_character, shown_line, text_width, widest}
 pub use Rattle.tabled_grid.proofs.Common.{[], ◌++◌, ◌+◌, ◌-◌, ◌<◌, ◌∙◌, ◌∷◌, ◌≡◌, ◌≢◌, ◌≤◌, ◌⊎◌, AllByRecursion, AreSpanSizes, Bool, Fits, Grid, In, IsInside, List, None, Option, Rectangle, Some, SpanMap, across, add-one, all-append, and_from, ap, ap₂, arith, cases_Bool, cases_eq, cases_lt, cell_at, common_steps, cond, cond-false, cond-true, count_along, entries, entries-from_sorted, entries_sorted, eqb, false, false_from_ne_true, false≢true, find, fitting, get, get-entries, get_or, get_or-set_other, get_or-set_same, get_or_append_left, get_or_default, holds, inl, inr, is_hidden_in, is_sorted, keep_fitting, le-leb, length, length-map, length-replicate, line_of, lines_in, list_any, lt-ltb, ltb-false, map, map-append, map-set, map_grid, max, nil_from_length, none-some, place, place_in, position_cmp, refl, replicate, replicate-append-replicate, same_Some, same_place, set, size_at, sized, subst, suc, sym, take, take_more, true, zero, ℕ}
 pub use Rattle.tabled_grid.proofs.Members.{Member, any-from, find-member, sorted-find}
-pub use Rattle.tabled_grid.proofs.SpanMaps.{At, at, equal, found_above, halves, holds-from, holds-true, same_place-apart, same_place-self, same_place-true, size_at-none, size_at-some}
+pub use Rattle.tabled_grid.proofs.SpanMaps.{at, equal, found_above, halves, holds-from, holds-true, same_place-apart, same_place-self, same_place-true, size_at-none, size_at-some}
 pub use Rattle.tabled_grid.specs.declared.config.position.Position.{Position}
 pub use Rattle.tabled_grid.specs.declared.config.size.Size.{Size}
 pub use Rattle.tabled_grid.specs.declared.records.axis.Axis.TheVariants.{Columns, Rows}

@@ -1,4 +1,6 @@
 -- Merged cells that fit a table, and those that are kept of any.
+use Rattle.std.proofs.Common.{arith}
+use Rattle.std.proofs.lemmas.Grind.{common_steps}
 use Rattle.tabled_draw.proofs.Common.{◌∙◌, ◌≡◌, AreSpanSizes, Fits, Grid, HoldsOfPictures, List, Rectangle, SpanMap, ap, ap₂, entries, entries-from_sorted, fitting, keep_fitting, picture_bytes, position_cmp, subst, sym, ℕ}
 use Rattle.tabled_draw.proofs.Owned.{LieWell, fits-well}
 use Rattle.tabled_draw.specs.Picture.{drawn}
@@ -14,10 +16,7 @@ kept-well m rows columns sizes = subst (λ (es : List Rectangle). LieWell rows c
 
 -- what holds where merged cells of a list lie well
 pub holds : (Says : Grid (List ℕ) → List Rectangle → Type 0) → ((g : Grid (List ℕ)) (es : List Rectangle) → LieWell g.rows g.columns es → Says g es) → HoldsOfPictures Says
-holds Says each = record {
-  where_all_fit = λ g m fits. each g (entries m) (fits-well m g.rows g.columns fits);
-  of_drawn = λ g m sizes. each g (fitting g.rows g.columns (entries m)) (kept-well m g.rows g.columns sizes);
-}
+holds Says each = grind (arith, common_steps, fits-well, kept-well)
 
 -- ---- what is drawn
 

@@ -88,12 +88,7 @@ module _ (g : Grid (List ℕ)) (es : List Rectangle) (well : LieWell g.rows g.co
 
     -- where no owner is all round an edge
     not-joint : (j : ℕ) → ((o : Rectangle) → up j ≡ Some o → up (j + 1) ≡ Some o → down j ≡ Some o → down (j + 1) ≡ Some o → ⊥) → joint j ≡ false
-    not-joint j never = false_from_ne_true (joint j) (λ t. (
-        let parts = joint-parts j t in
-        let a = owner-both g.rows g.columns es well u j u (j + 1) parts.0 in
-        let b = owner-both g.rows g.columns es well u j d j parts.1 in
-        let c = owner-both g.rows g.columns es well u j d (j + 1) parts.2 in
-        never a.0 a.1 a.2 (b.2 ∙ sym b.1 ∙ a.1) (c.2 ∙ sym c.1 ∙ a.1)))
+    not-joint j never = grind (arith, common_steps, joint-parts, owner-both)
 
     stretch-one : (l r size : ℕ) → all_one (up l) (up r) (down l) (down r) ≡ true → border_stretch g es n u d l r size ≡ shows_in g es n l r (up l)
     stretch-one l r size t = cond-true (all_one (up l) (up r) (down l) (down r)) (shows_in g es n l r (up l)) (replicate size (mark l r)) t
@@ -183,11 +178,7 @@ module _ (g : Grid (List ℕ)) (es : List Rectangle) (well : LieWell g.rows g.co
 
     -- where not one owner is all round an edge, a line has come to that edge
     reached-edge : (j : ℕ) → j ≤ g.columns → joint j ≡ false → text_width (each j part) ≡ left g es j
-    reached-edge j h apart = by (reached j h)
-      where
-        by : Reached j (text_width (each j part)) → text_width (each j part) ≡ left g es j
-        by (edge _ is) = is
-        by (inside o e f e' f' _) = absurd (false≢true (sym apart ∙ joint-from j o e f e' f'))
+    reached-edge j h apart = grind (arith, common_steps, reached, joint-from)
 
     pub line-wide : text_width (picture_line g es n u d) ≡ left g es g.columns + 1
     line-wide = columns-append (each g.columns part) (edge_at g.columns) ∙ ap₂ (λ x y. x + y) (reached-edge g.columns (omega arith) apart-last) (border-wide g.columns (g.columns + 1) 1 apart-last)

@@ -170,9 +170,7 @@ module _ (g : Grid (List ℕ)) (es : List Rectangle) (well : LieWell g.rows g.co
         omega arith
 
     width-inner : inner_width g es p ≡ room Columns (widths g es) p.col (owner_in es p).1.width + 2
-    width-inner =
-        let end : left g es (p.col + (owner_in es p).1.width) ≡ left g es p.col + (room Columns (widths g es) p.col (owner_in es p).1.width + 3) = room-end Columns (widths g es) p.col (owner_in es p).1.width lies.wide (omega (arith, lies.right, col_is, length-sizes Columns g es)) in
-        omega arith
+    width-inner = grind (arith, common_steps, room-end, lies, col_is, length-sizes)
 
     text-wide : (k : ℕ) → text_width (text_line g p k) + 2 ≤ inner_width g es p
     text-wide k = omega (arith, width-enough k, width-inner)
@@ -185,12 +183,7 @@ module _ (g : Grid (List ℕ)) (es : List Rectangle) (well : LieWell g.rows g.co
 
     -- what it shows, in other words
     shows-is : (k : ℕ) → shows g es (top g es p.row + 1 + k) (owner_in es p) ≡ padded (inner_width g es p) (text_line g p k)
-    shows-is k = ap (λ (q : Position). 32 ∷ get_or (lines_shown (text_of_cell g q)) (top g es p.row + 1 + k - top g es q.row - 1) [] ++ replicate (room Columns (widths g es) q.col (owner_in es p).1.width - text_width (get_or (lines_shown (text_of_cell g q)) (top g es p.row + 1 + k - top g es q.row - 1) []) + 1) 32) self
-        ∙ ap (λ i. 32 ∷ text_line g p i ++ replicate (room Columns (widths g es) p.col (owner_in es p).1.width - text_width (text_line g p i) + 1) 32) (let z : top g es p.row + 1 + k - top g es p.row - 1 ≡ k = omega arith in z)
-        ∙ ap (λ i. 32 ∷ text_line g p k ++ replicate i 32) fill
-      where
-        fill : room Columns (widths g es) p.col (owner_in es p).1.width - text_width (text_line g p k) + 1 ≡ inner_width g es p - text_width (text_line g p k) - 1
-        fill = omega (arith, width-enough k, width-inner)
+    shows-is k = grind (arith, common_steps, self, width-enough, width-inner)
 
     text-alone : (k : ℕ) → k < inner_height g es p → StandsAt (picture g es) (top g es p.row + 1 + k) (left g es p.col + 1) (padded (inner_width g es p) (text_line g p k))
     text-alone k less = subst (λ t. StandsAt (picture g es) (top g es p.row + 1 + k) (left g es p.col + 1) t) (shows-is k) (shows-stands (top g es p.row + 1 + k) (omega arith) (omega arith))

@@ -1,5 +1,6 @@
 -- A line as it is drawn is the line of the picture; the lines of a row, and those of all rows.
-use Rattle.tabled_draw.proofs.Common.{[], ◌&&◌, ◌++◌, ◌+◌, ◌-◌, ◌<◌, ◌∙◌, ◌∷◌, ◌≡◌, ◌≢◌, ◌≤◌, ◌⊎◌, AreEdges, AreLeft, Bool, Columns, EndInside, Fits, Grid, IsOwnerRow, List, None, Option, Position, Rectangle, Rows, Some, SpanMap, add-zero, after_line, and-false, and_from, ap, append-nil, ap₂, arith, begins, begun, border_stretch, cases_eq, cases_lt, column, cond, cond-false, cond-true, each, edge, entries, eq-eqb, eqb, false, first_line, get_or, heights, inl, inr, is_one, left, left_of, length, lines_of_row, lines_shown, nat_tests, ne_eqb, owner_in, picture, picture_line, place, refl, replicate, room, same_place, same_place-apart, same_place-self, shows_in, stretches, sym, text_inside, text_of_cell, text_width, top, true, widths, with_newlines, ℕ}
+use Rattle.std.proofs.lemmas.Grind.{common_steps}
+use Rattle.tabled_draw.proofs.Common.{[], ◌&&◌, ◌++◌, ◌+◌, ◌-◌, ◌<◌, ◌∙◌, ◌∷◌, ◌≡◌, ◌≢◌, ◌≤◌, ◌⊎◌, AreEdges, AreLeft, Bool, EndInside, Fits, Grid, IsOwnerRow, List, None, Option, Position, Rectangle, Rows, Some, SpanMap, add-zero, after_line, and-false, ap, append-nil, ap₂, arith, begins, begun, border_stretch, cases_eq, cases_lt, column, cond, cond-false, cond-true, each, edge, entries, eq-eqb, eqb, false, first_line, get_or, heights, inl, inr, is_one, left, left_of, length, lines_of_row, lines_shown, nat_tests, ne_eqb, owner_in, picture, picture_line, place, refl, replicate, room, same_place, same_place-apart, same_place-self, shows_in, stretches, sym, text_inside, text_of_cell, top, true, widths, with_newlines, ℕ}
 use Rattle.tabled_draw.proofs.Each.{each-same, each-more}
 use Rattle.tabled_draw.proofs.Sizes.{start-next, length-sizes, room-end}
 use Rattle.tabled_draw.proofs.Owned.{Owns, fits-well, owner-inside, owner-owns, owner-some}
@@ -52,15 +53,8 @@ module _ (g : Grid (List ℕ)) (m : SpanMap) (fits : Fits m g.rows g.columns) (e
       there = owner-owns g.rows g.columns (entries m) (fits-well m g.rows g.columns fits) u (j + 1) o (sym e)
 
       by : (o.0.col ≡ j) ⊎ (o.0.col ≢ j) → text_inside edges j (Some o) (get_or texts j []) ≡ shows_in g (entries m) n (j + 1) (j + 1) (Some o)
-      by (inl at) =
-          let both : (eqb (j + 1) (j + 1) && eqb (j + 1) (o.0.col + 1)) ≡ true = and_from _ _ (eq-eqb (j + 1) (j + 1) refl) (eq-eqb (j + 1) (o.0.col + 1) (ap (λ k. k + 1) (sym at))) in
-          let shown : first_line (get_or texts j []) ≡ get_or (lines_shown (text_of_cell g o.0)) (n - top g (entries m) o.0.row - 1) [] = next j o less (sym e) at one in
-          let space : get_or edges (j + o.1.width) 0 - get_or edges j 0 - 3 ≡ room Columns (widths g (entries m)) o.0.col o.1.width =
-          ap₂ (λ x y. x - y - 3) (laid.each (j + o.1.width) (omega (arith, there.lies.right, at)) ∙ ap (λ k. left g (entries m) (k + o.1.width)) (sym at)) (laid.each j (omega (arith, less)) ∙ ap (left g (entries m)) (sym at)) in
-          cond-true _ _ _ (eq-eqb o.0.col j at) ∙ ap₂ (λ x y. 32 ∷ x ++ replicate (y - text_width x + 1) 32) shown space ∙ sym (cond-true _ _ _ both)
-      by (inr apart) =
-          let other : (eqb (j + 1) (j + 1) && eqb (j + 1) (o.0.col + 1)) ≡ false = ap (λ b. eqb (j + 1) (j + 1) && b) (ne_eqb (j + 1) (o.0.col + 1) (λ same. apart (omega (arith, same)))) ∙ and-false (eqb (j + 1) (j + 1)) in
-          cond-false _ _ _ (ne_eqb o.0.col j apart) ∙ sym (cond-false _ _ _ other)
+      by (inl at) = grind (arith, common_steps, eq-eqb, there, cond-true)
+      by (inr apart) = grind (arith, common_steps, and-false, cond-false)
 
   size-is : (j : ℕ) → j < g.columns → get_or edges (j + 1) 0 - get_or edges j 0 - 1 ≡ get_or (widths g (entries m)) j 0 + 2
   size-is j less = grind (arith, nat_tests, start-next)

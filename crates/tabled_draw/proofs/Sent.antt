@@ -1,4 +1,6 @@
 -- Bytes that are held, and then sent, and cells that are drawn.
+use Rattle.std.proofs.Common.{arith}
+use Rattle.std.proofs.lemmas.Grind.{common_steps}
 use Rattle.tabled_draw.proofs.Common.{[], ◌++◌, ◌+◌, ◌-◌, ◌<◌, ◌∙◌, ◌∷◌, ◌≡◌, Draws, GrowsBy, Kept, List, None, Option, Some, ap, append-nil, ap₂, cell, encode_ascii, encode_utf8_all, encodes-append, first_line, refl, replicate, replicate-append-replicate, subst, suc, sym, text_width, true, zero, ℕ}
 use Rattle.std.proofs.KnownBytes.{Appends-nil, Appends-trans}
 use Rattle.std.specs.Io.KnownBytes.{Appends, append_known}
@@ -15,14 +17,10 @@ draws-as {a} {b} {h} {i} same = subst (Draws a h b i) same
 
 -- some bytes, and then others
 pub sends-then : (a b c : Option (List ℕ)) (h i j : Kept) (xs ys : List ℕ) → GrowsBy a h b i xs → GrowsBy b i c j ys → GrowsBy a h c j (xs ++ ys)
-sends-then a b c h i j xs ys first second works =
-    let later = second works in
-    let sooner = first later.0 in
-    (sooner.0, Appends-trans (append_known a h.bytes) (append_known b i.bytes) (append_known c j.bytes) xs ys sooner.1 later.1)
+sends-then a b c h i j xs ys first second works = grind (arith, common_steps, Appends-trans)
 
 pub draws-then : {a b c : Option (List ℕ)} {h i j : Kept} {xs ys : List ℕ} → Draws a h b i xs → Draws b i c j ys → Draws a h c j (xs ++ ys)
-draws-then {a} {b} {c} {h} {i} {j} {xs} {ys} first second =
-    record { sent = subst (GrowsBy a h c j) (sym (encodes-append xs ys)) (sends-then a b c h i j _ _ first.sent second.sent) }
+draws-then {a} {b} {c} {h} {i} {j} {xs} {ys} first second = grind (arith, common_steps, encodes-append, sends-then)
 
 append_known-nil : (a : Option (List ℕ)) → append_known a [] ≡ a
 append_known-nil None = refl
@@ -30,10 +28,7 @@ append_known-nil (Some x) = ap Some (append-nil x)
 
 -- all that was drawn was sent at last
 pub all-drawn : (a b c : Option (List ℕ)) (h i j : Kept) (cs bytes : List ℕ) → h.bytes ≡ [] → j.bytes ≡ [] → encode_utf8_all cs ≡ bytes → Draws a h b i cs → GrowsBy b i c j [] → j.has_worked ≡ true → Appends a c bytes
-all-drawn a b c h i j cs bytes none empty is drawn sent works =
-    subst (λ x. Appends x c bytes) (ap (append_known a) none ∙ append_known-nil a)
-    (subst (λ x. Appends (append_known a h.bytes) x bytes) (ap (append_known c) empty ∙ append_known-nil c)
-    (subst (Appends (append_known a h.bytes) (append_known c j.bytes)) (append-nil (encode_utf8_all cs) ∙ is) (sends-then a b c h i j (encode_utf8_all cs) [] drawn.sent sent works).1))
+all-drawn a b c h i j cs bytes none empty is drawn sent works = grind (arith, common_steps, append_known-nil, append-nil, sends-then)
 
 -- ---- bytes and cells that are drawn
 

@@ -1,5 +1,5 @@
 -- Texts, line by line, as they are shown.
-use Rattle.tabled_draw.proofs.Common.{[], ◌++◌, ◌+◌, ◌-◌, ◌<◌, ◌==◌, ◌∙◌, ◌∷◌, ◌≡◌, ◌≤◌, ◌⊎◌, ArePlain, Bor, Draws, GrowsBy, IsUtf8, Kept, List, MatchOption, Option, add-one, after_first, after_line, ap, append-nil, append_assoc, ap₂, arith, before_first, cases_lt, chars-IsAscii, chars-nil, chars_past_char, common_steps, cond-true, drop_of_length-le, encode_ascii, encode_utf8, encode_utf8_all, fails_before_first, false, first_line, fold-append, get_or, inl, inr, le-leb, length, lines_shown, lt-ltb, map, map-append, max, nat_tests, not, position_or_len, position_or_len_is, prefix_len-le-length, refl, shown_character, shown_line, slice_split_first, slice_split_none, suc, sum_by-cons, sym, text_width, unwrap_or, widest, ℕ}
+use Rattle.tabled_draw.proofs.Common.{[], ◌++◌, ◌+◌, ◌-◌, ◌<◌, ◌==◌, ◌∙◌, ◌∷◌, ◌≡◌, ArePlain, Bor, Draws, GrowsBy, IsUtf8, Kept, List, MatchOption, Option, add-one, after_first, after_line, ap, append-nil, append_assoc, ap₂, arith, before_first, chars-IsAscii, chars-nil, chars_past_char, common_steps, cond-true, drop_of_length-le, encode_ascii, encode_utf8, encode_utf8_all, fails_before_first, false, first_line, fold-append, get_or, le-leb, length, lines_shown, lt-ltb, map, map-append, max, nat_tests, position_or_len, position_or_len_is, prefix_len-le-length, refl, shown_character, shown_line, slice_split_first, slice_split_none, suc, sum_by-cons, sym, text_width, unwrap_or, widest, ℕ}
 use borrow.Author.Tests.{ne_eqb}
 use Rattle.std.specs.List.{fold}
 use Rattle.std.proofs.lemmas.List.Elements.{All-head, All-tail}
@@ -40,9 +40,7 @@ pub plain-lines : (bs : List ℕ) → ArePlain bs → lines_shown bs ≡ bs ∷ 
 plain-lines bs all = ap (map shown_line) (slice_split_none (λ b. b == 10) bs (λ k d h. ne_eqb (get_or bs k d) 10 (λ e. omega (arith, (all k d h).0, e)))) ∙ ap (λ l. l ∷ []) (plain-line bs all)
 
 pub plain-widest : (bs : List ℕ) → ArePlain bs → length bs ≡ widest bs
-plain-widest bs all =
-    let most : widest bs ≡ max 0 (text_width bs) = ap (λ ls. fold (λ most line. max most (text_width line)) 0 ls) (plain-lines bs all) in
-    omega (arith, most, plain-columns bs all)
+plain-widest bs all = grind (arith, common_steps, plain-lines, plain-columns)
 
 -- ---- the first line and the lines after it
 
@@ -60,13 +58,7 @@ nothing y = grind (arith, nat_tests, chars-nil)
 
 -- the lines of what is left are the next ones
 pub next-line : (bs : List ℕ) (y : ℕ) → get_or (lines_shown (after_line bs)) y [] ≡ get_or (lines_shown bs) (y + 1) []
-next-line bs y = by (cases_lt (position_or_len (λ b. b == 10) bs) (length bs))
-  where
-    by : (position_or_len (λ b. b == 10) bs < length bs) ⊎ (length bs ≤ position_or_len (λ b. b == 10) bs) → get_or (lines_shown (after_line bs)) y [] ≡ get_or (lines_shown bs) (y + 1) []
-    by (inl h) = sym (ap₂ (λ ls k. get_or ls k []) (first-found bs h) (add-one y))
-    by (inr h) =
-        let all : position_or_len (λ b. b == 10) bs ≡ length bs = omega (arith, h, prefix_len-le-length (λ b. not (b == 10)) bs) in
-        ap (λ t. get_or (lines_shown t) y []) (after-none bs all) ∙ nothing y ∙ sym (ap₂ (λ ls k. get_or ls k []) (first-none bs all) (add-one y))
+next-line bs y = grind (arith, common_steps, first-found, add-one, prefix_len-le-length, after-none, nothing, first-none)
 
 pub plain-after : (bs : List ℕ) → ArePlain bs → after_line bs ≡ []
 plain-after bs all = after-none bs (position_or_len_is (λ b. b == 10) bs (length bs) 0 (omega arith) (λ k h. ne_eqb (get_or bs k 0) 10 (λ e. omega (arith, (all k 0 h).0, e))) (λ h. absurd (omega (arith, h))))

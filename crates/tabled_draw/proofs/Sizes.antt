@@ -1,5 +1,5 @@
 -- Columns are as wide, and rows as high, as what they show asks.
-use Rattle.tabled_draw.proofs.Common.{[], ◌+◌, ◌-◌, ◌<◌, ◌∙◌, ◌∷◌, ◌≡◌, ◌≢◌, ◌≤◌, ◌⊎◌, AreEdges, AreNoLargerThanAsked, Columns, Fits, Grid, List, Measured, Member, Option, Position, Rectangle, Rows, Size, Some, SpanMap, across, add-zero, add_assoc, and_from, ap, ap₂, arith, asks, cases_Bool, cases_eq, cell_at, common_steps, cond, cond-false, cond-true, count_along, each, ends_in, entries, eq-eqb, eqb, eqb-true, ext_get_or, false, false≢true, fold, fold-append, gap, get_or, get_or-replicate, get_or-set_other, get_or-set_same, grown_for, grown_sizes, inl, inr, is_before, largest, length, length-replicate, length-set, line_of, lines_in, max, nat_tests, own, own_sizes, owner_in, place, place_in, raised, refl, replicate, room, same_place, same_place-self, set, sized, start_of, subst, suc, sum_by_more, sym, take, take_all, take_more, text_of_cell, text_width, true, unwrap_or, widths, zero, ℕ}
+use Rattle.tabled_draw.proofs.Common.{[], ◌+◌, ◌-◌, ◌<◌, ◌∙◌, ◌∷◌, ◌≡◌, ◌≢◌, ◌≤◌, ◌⊎◌, AreEdges, AreNoLargerThanAsked, Columns, Fits, Grid, List, Measured, Member, Option, Position, Rectangle, Rows, Size, Some, SpanMap, across, add-zero, add_assoc, and_from, ap, ap₂, arith, asks, cases_Bool, cases_eq, cell_at, common_steps, cond, cond-false, cond-true, count_along, each, ends_in, entries, eq-eqb, eqb, eqb-true, ext_get_or, false, false≢true, fold, fold-append, gap, get_or, get_or-replicate, get_or-set_other, get_or-set_same, grown_for, grown_sizes, inl, inr, is_before, largest, length, length-replicate, length-set, line_of, lines_in, max, nat_tests, own, own_sizes, owner_in, place, place_in, raised, refl, replicate, room, same_place, same_place-self, set, sized, start_of, subst, suc, sum_by_more, sym, take, take_all, take_more, text_of_cell, text_width, true, widths, zero, ℕ}
 use Rattle.tabled_draw.proofs.Each.{get-singles, length-singles}
 use Rattle.tabled_draw.proofs.Before.{after-next, before-from, before-next, before-none, before-row, cases_before, after-from, here-next}
 use Rattle.tabled_draw.proofs.Owned.{LieWell, LiesIn, Owned, owned, member-at, fits-well}
@@ -143,10 +143,7 @@ module _ (axis : Axis) (g : Grid (List ℕ)) where
         line_below a = grind (arith, nat_tests)
 
         by : Owned es p o → asks axis (text_of_cell g o.0) ≤ room axis (sizes axis g es) (line_of axis o.0) (lines_in axis o.1)
-        by (held m h) =
-            let enough = fold-enough es base all o m in
-            let e : room axis (sizes axis g es) (line_of axis o.0) (lines_in axis o.1) ≡ span axis (sizes axis g es) (line_of axis o.0) (lines_in axis o.1) - gap axis = room-span axis (sizes axis g es) (line_of axis o.0) (lines_in axis o.1) (omega (arith, (all o m).1, larger.long)) in
-            omega (arith, enough)
+        by (held m h) = grind (arith, common_steps, fold-enough, base, all, o, span, room-span, larger)
         by (alone is never) =
             let one : lines_in axis o.1 ≡ 1 = ap (λ (x : Rectangle). lines_in axis x.1) is ∙ one_line axis in
             let asked : own axis g es p ≡ asks axis (text_of_cell g p) = cond-true _ _ _ (and_from _ _ (ap (λ (x : Rectangle). same_place x.0 p) is ∙ same_place-self p) (ap (λ n. eqb n 1) one)) in
@@ -218,10 +215,7 @@ anchor-at m rows columns fits xs is k d h =
 pub grown-more : (axis : Axis) (g : Grid (List ℕ)) (m : SpanMap) (base : List ℕ) (k : ℕ) (d : Rectangle) (xs : List Rectangle) → xs ≡ entries m → k < length xs → (s : List ℕ) (text : List ℕ) → cell_at g (get_or xs k d).0 ≡ Some text → (n : ℕ) (new : List ℕ)
     → s ≡ fold (grown_for axis g) base (take k (entries m)) → n ≡ asks axis text → new ≡ grown_sizes axis s (line_of axis (get_or xs k d).0) (lines_in axis (get_or xs k d).1) n
     → new ≡ fold (grown_for axis g) base (take (k + 1) (entries m))
-grown-more axis g m base k d xs is within s text read n new was many grew =
-    grew ∙ ap (grown_sizes axis s (line_of axis (get_or xs k d).0) (lines_in axis (get_or xs k d).1)) (many ∙ ap (asks axis) (sym (ap (λ (t : Option (List ℕ)). unwrap_or t []) read)))
-    ∙ ap (λ ws. grown_for axis g ws (get_or xs k d)) was ∙ ap (λ (ys : List Rectangle). grown_for axis g (fold (grown_for axis g) base (take k (entries m))) (get_or ys k d)) is
-    ∙ sym (fold-more (grown_for axis g) base (entries m) k d (subst (λ (ys : List Rectangle). k < length ys) is within))
+grown-more axis g m base k d xs is within s text read n new was many grew = grind (arith, common_steps, fold-more)
 
 pub grown-all : (axis : Axis) (g : Grid (List ℕ)) (m : SpanMap) (base s : List ℕ) (k : ℕ) → s ≡ fold (grown_for axis g) base (take k (entries m)) → length (entries m) ≤ k → s ≡ fold (grown_for axis g) base (entries m)
 grown-all axis g m base s k is all = is ∙ ap (fold (grown_for axis g) base) (take_all k (entries m) all)

@@ -1,5 +1,5 @@
 use Rattle.tabled_draw.proofs.Common.{◌∙◌, ◌≡◌, ap, ap₂, arith, get_or, grown_sizes, length, length-set, line_of, lines_in, map_grid, sized}
-use Rattle.tabled_draw.proofs.Sizes.{both-asked, lies-along, anchor-at, grown-all, grown-more}
+use Rattle.tabled_draw.proofs.Sizes.{both-asked, lies-along, anchor-at, grown-more}
 use Rattle.tabled_draw.proofs.layout.grow_all.Goals as goal
 
 pub get_text-requires-clause-inside : goal.get_text-requires-clause-inside
@@ -21,12 +21,4 @@ loop-k-preserved g c =
     record {
       long = ap length grew ∙ length-set c.loop-k.sizes.items _ _ ∙ c.loop-k.invariant.long;
       grown = grown-more c.args.axis t c.args.spans.now c.args.sizes.now.items c.loop-k.k (record { row = 0; col = 0 }, sized 0 0) c.anchors-anchors.result.now c.anchors-anchors.ensures.anchors c.loop-k-test.true c.loop-k.sizes.items _ c.get_text.ensures c.lines_in-need.result _ c.loop-k.invariant.grown (c.lines_in-need.ensures ∙ both-asked c.args.axis c.in_ok-asked.field-0 _ c.in_ok-asked.ensures.height c.in_ok-asked.ensures.width) grew;
-    }
-
-pub returns : goal.returns
-returns g c =
-    let t = map_grid g.R.Cell.CellText.text_of (g.R.GridStore.grid c.args.records.now) in
-    record {
-      long = c.loop-k.invariant.long;
-      grown = grown-all c.args.axis t c.args.spans.now c.args.sizes.now.items c.loop-k.sizes.items c.loop-k.k c.loop-k.invariant.grown (rw (← c.anchors-anchors.ensures.anchors) c.loop-k-test.false);
     }

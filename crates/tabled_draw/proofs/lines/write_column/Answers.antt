@@ -1,5 +1,5 @@
-use Rattle.tabled_draw.proofs.Common.{[], ◌+◌, ◌-◌, ◌∙◌, ◌≡◌, List, None, Option, Rectangle, Some, ap, column, cond-false, cond-true, eqb, false, get_or, is_one, lit<, ne_eqb, refl, replicate, sym, true, ℕ}
-use Rattle.tabled_draw.proofs.Sent.{draws-repeat, draws-as, draws-none}
+use Rattle.tabled_draw.proofs.Common.{[], ◌+◌, ◌-◌, ◌∙◌, ◌≡◌, List, None, Option, Rectangle, Some, ap, column, cond-false, cond-true, eqb, false, get_or, is_one, lit<, refl, replicate, sym, true, ℕ}
+use Rattle.tabled_draw.proofs.Sent.{draws-repeat, draws-as}
 use Rattle.tabled_draw.proofs.lines.write_column.Goals as goal
 
 pub returns-then-not-is_one-clause-draws : goal.returns-then-not-is_one-clause-draws
@@ -11,8 +11,3 @@ returns-then-not-is_one-clause-draws g c =
 nothing : (edges : List ℕ) (j : ℕ) (a b : Option Rectangle) (text : List ℕ) → is_one a b ≡ true → ((o : Rectangle) → a ≡ Some o → eqb o.0.col j ≡ false) → [] ≡ column edges j a b text
 nothing edges j None b text one never = sym (cond-true _ _ _ one)
 nothing edges j (Some o) b text one never = sym (cond-true _ _ _ one ∙ cond-false _ _ _ (never o refl))
-
-pub returns-in_default-clause-draws : goal.returns-in_default-clause-draws
-returns-in_default-clause-draws g c =
-    let never : (o : Rectangle) → c.args.above ≡ Some o → eqb o.0.col c.args.j ≡ false = λ o e. ne_eqb o.0.col c.args.j (λ at. c.if-at-j.false (ap (λ (x : Option Rectangle). elim x [ None ↦ 0 | Some y ↦ y.0.col ]) (sym c.in-Some.is ∙ e) ∙ at)) in
-    draws-as (nothing c.args.edges.now c.args.j c.args.above c.args.below c.args.rest.now (sym c.is_one.ensures ∙ c.if-not-is_one.false) never) draws-none

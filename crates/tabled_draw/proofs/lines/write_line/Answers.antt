@@ -1,14 +1,8 @@
-use Rattle.tabled_draw.proofs.Common.{[], ◌+◌, ◌<◌, ◌∙◌, ◌≡◌, Draws, None, ap, arith, bytes_in, column, each, edge, get_or, left_of, length, length-set, line_of_rests, lit<, refl, stretches, subst, sym}
-use Rattle.tabled_draw.proofs.Sent.{draws-byte, draws-as, draws-none, draws-then}
-use Rattle.tabled_draw.proofs.Each.{changed-more, changed-none, text-in, each-more}
+use Rattle.tabled_draw.proofs.Common.{[], ◌+◌, ◌<◌, ◌∙◌, ◌≡◌, Draws, None, ap, arith, bytes_in, column, each, edge, get_or, left_of, length, length-set, line_of_rests, lit<, stretches, subst, sym}
+use Rattle.tabled_draw.proofs.Sent.{draws-byte, draws-as, draws-then}
+use Rattle.tabled_draw.proofs.Each.{changed-more, text-in, each-more}
 use Rattle.tabled_draw.specs.Lines.{drawn_line}
 use Rattle.tabled_draw.proofs.lines.write_line.Goals as goal
-
-pub write_column-requires-clause-end : goal.write_column-requires-clause-end
-write_column-requires-clause-end g c = λ o e at. omega (arith, c.requires.inside.each c.loop-j.j o (omega (arith, c.loop-j-test.true, c.len-columns.ensures)) e at, c.requires.edges)
-
-pub loop-j-init : goal.loop-j-init
-loop-j-init g c = record { long = refl; rests = changed-none _ _; drawn = draws-none }
 
 pub loop-j-preserved : goal.loop-j-preserved
 loop-j-preserved g c =

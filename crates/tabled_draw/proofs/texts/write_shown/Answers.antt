@@ -1,17 +1,8 @@
-use Rattle.tabled_draw.proofs.Common.{◌++◌, ◌-◌, ◌∙◌, ◌≡◌, IsUtf8-past_char, ap, chars_rest, encode_utf8, false, nil_from_length, refl, shown_line, sym, text_width}
-use Rattle.tabled_draw.proofs.Shown.{plain-bytes, plain-columns, plain-line, counted, drawn-all, drawn-more, drawn-none, left-end, left-more}
+use Rattle.tabled_draw.proofs.Common.{◌++◌, ◌-◌, ◌∙◌, ◌≡◌, IsUtf8-past_char, ap, chars_rest, encode_utf8, false, nil_from_length, shown_line, sym, text_width}
+use Rattle.tabled_draw.proofs.Shown.{plain-bytes, plain-columns, plain-line, counted, drawn-all, drawn-more, left-end, left-more}
 use Rattle.tabled_draw.proofs.Sent.{draws-bytes}
 use Rattle.unicode_width.specs.Width.{char_width}
 use Rattle.tabled_draw.proofs.texts.write_shown.Goals as goal
-
-pub loop-c-init : goal.loop-c-init
-loop-c-init g c = record {
-  can = tt;
-  ends = tt;
-  utf8 = rw (c.into_iter-c-iterator.ensures.into_iter_gives, c.chars-c-items.ensures.rest, ← c.as_bytes-line_bytes.ensures.value) c.as_bytes-line_bytes.ensures.utf8;
-  drawn = rw (c.into_iter-c-iterator.ensures.into_iter_gives, c.chars-c-items.ensures.rest) (drawn-none _ _ _ _ refl);
-  left = rw (c.into_iter-c-iterator.ensures.into_iter_gives, c.chars-c-items.ensures.rest) refl;
-}
 
 pub loop-c-preserved : goal.loop-c-preserved
 loop-c-preserved g c =
