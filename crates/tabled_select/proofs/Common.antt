@@ -3,6 +3,7 @@ pub use Rattle.std.proofs.Common.{◌%◌, append-nil, mul_comm, option_to_list}
 pub use Rattle.std.proofs.Math.Nat.{div-eq_of_lt, div-mul-le_self, mul-mod_left}
 pub use Rattle.std.proofs.iter.Yields.{gives_left, nat_range_steps}
 pub use Rattle.std.proofs.lemmas.Bool.{eq-eqb, lt-ltb}
+pub use Rattle.std.proofs.lemmas.Grind.{common_steps}
 pub use Rattle.std.proofs.lemmas.Iterator.{YieldsList-from_range, items_from_collect, items_from_drains}
 pub use Rattle.std.proofs.lemmas.Iterator.Adapters.{YieldsList-from_skip, YieldsList-from_vec}
 pub use Rattle.std.proofs.lemmas.List.{get_or-replicate}
@@ -13,7 +14,7 @@ pub use Rattle.std.specs.Iterator.{AlwaysYields, Count, IsFinite, MakesProgress,
 pub use Rattle.std.specs.List.{FoldsTo, enumerate_from, items_where_true}
 pub use Rattle.std.specs.Prelude.{IfNone, IfSome, OnSome, Some, if◌then◌else◌, min, replicate}
 pub use Rattle.std.specs.Vec.Iter.{into_iter_len, into_iter_steps}
-pub use Rattle.tabled_grid.proofs.Common.{[], ◌&&◌, ◌*◌, ◌++◌, ◌+◌, ◌-◌, ◌/◌, ◌<◌, ◌==◌, ◌||◌, ◌∙◌, ◌∷◌, ◌≡◌, ◌≤◌, AllByRecursion, Bool, Equal, Greater, Less, List, None, Option, Vec, all-append, and_parts, ap, append_assoc, ap₂, arith, block, cases_eq, cases_lt, cond, drop, eqb-true, false, filter, filter_agree, get_or, get_or-set_other, get_or-set_same, inl, inr, inside, into_iter_items, is_lt, le-ltb, length, length-map, length-replicate, length-set, list_any, map, map-id, map_grid, mul-add-lt, names, nat_cmp, ne_eqb, not, place, range_with_len, refl, rules, same_from_place, same_place, set, sub_self, subst, suc, sym, true, unwrap_or, zero, ℕ}
+pub use Rattle.tabled_grid.proofs.Common.{[], ◌&&◌, ◌*◌, ◌++◌, ◌+◌, ◌-◌, ◌/◌, ◌<◌, ◌==◌, ◌||◌, ◌∙◌, ◌∷◌, ◌≡◌, ◌≤◌, AllByRecursion, Bool, Less, List, None, Option, Vec, all-append, ap, append_assoc, ap₂, arith, block, cases_eq, cases_lt, cond, drop, eqb-true, false, filter, filter_agree, get_or, get_or-set_other, get_or-set_same, inl, inr, inside, into_iter_items, is_lt, le-ltb, length, length-map, length-replicate, length-set, list_any, map, map-id, map_grid, mul-add-lt, names, nat_cmp, ne_eqb, not, place, range_with_len, refl, rules, same_from_place, same_place, set, sub_self, subst, suc, sym, true, unwrap_or, zero, ℕ}
 pub use Rattle.tabled_grid.proofs.Places.{block-no_columns, block-no_rows, drop-place, drop-row, inside-Cell, inside-Global, inside-within, last_in_row}
 pub use Rattle.tabled_grid.specs.declared.config.entity.Entity.{Entity}
 pub use Rattle.tabled_grid.specs.declared.config.entity.Entity.TheVariants.{Cell, Column, Global}

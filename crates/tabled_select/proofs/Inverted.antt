@@ -1,5 +1,5 @@
 -- What isn't in a list is in its inversion.
-use Rattle.tabled_select.proofs.Common.{[], ◌&&◌, ◌++◌, ◌+◌, ◌-◌, ◌||◌, ◌∙◌, ◌∷◌, ◌≡◌, AllByRecursion, Bool, Cell, Entity, Global, List, Position, ap, ap₂, arith, block, cells_of, cond, difference_of, false, filter, flat, inside, inside-Cell, inside-Global, inside-within, intersection_of, inversion_of, is_among, list_any, names, not, refl, same_place, sym, true, ℕ}
+use Rattle.tabled_select.proofs.Common.{[], ◌&&◌, ◌++◌, ◌+◌, ◌-◌, ◌||◌, ◌∙◌, ◌∷◌, ◌≡◌, AllByRecursion, Bool, Cell, Entity, Global, List, Position, ap, ap₂, arith, block, cells_of, common_steps, cond, difference_of, false, filter, flat, inside, inside-Cell, inside-Global, inside-within, intersection_of, inversion_of, is_among, list_any, names, not, refl, same_place, sym, true, ℕ}
 use Rattle.tabled_select.proofs.MarkedPlaces.{and_false, is-same, same_place-turned}
 use Rattle.tabled_select.proofs.NamedPlaces.{IsWithin, flat-within}
 use Rattle.tabled_select.proofs.Sifted.{all-filter, filter-agree_within, list_any-filter}
@@ -30,9 +30,7 @@ is_among-all p rows columns w =
 module _ (test : Position → Bool) (p : Position) where
   more : (q : Position) (one b : Bool) (left all : List Position) → same_place p q ≡ one → test q ≡ b → is_among left p ≡ (is_among all p && test p) → is_among (cond b (q ∷ left) left) p ≡ ((one || is_among all p) && test p)
   more q true true left all e t h = rw (e, is-same p q e, t) refl
-  more q true false left all e t h =
-      let not_kept : test p ≡ false = ap test (is-same p q e) ∙ t in
-      h ∙ rw not_kept (and_false (is_among all p))
+  more q true false left all e t h = grind (arith, common_steps, is-same, and_false)
   more q false true left all e t h = rw e h
   more q false false left all e t h = h
 
@@ -43,9 +41,7 @@ module _ (test : Position → Bool) (p : Position) where
 
 -- a place of the table is in the inversion if it isn't in the list
 is_among-inversion : (ps : List Position) (p : Position) (rows columns : ℕ) → IsWithin rows columns p → is_among (inversion_of ps rows columns) p ≡ not (is_among ps p)
-is_among-inversion ps p rows columns w =
-    is_among-filter (λ q. not (is_among ps q)) p (inside Global rows columns)
-    ∙ ap (λ b. b && not (is_among ps p)) (is_among-all p rows columns w)
+is_among-inversion ps p rows columns w = grind (arith, common_steps, is_among-filter, is_among-all)
 
 agrees : (ps : List Position) (rows columns : ℕ) (qs : List Position) → AllByRecursion (IsWithin rows columns) qs → AllByRecursion (λ q. not (is_among ps q) ≡ is_among (inversion_of ps rows columns) q) qs
 agrees ps rows columns [] a = tt

@@ -1,5 +1,5 @@
 -- Ranges that are cut at a limit, and marks of what is located.
-use Rattle.tabled_select.proofs.Common.{[], ◌+◌, ◌-◌, ◌<◌, ◌==◌, ◌||◌, ◌∙◌, ◌∷◌, ◌≡◌, ◌≤◌, AllOrThose, Bool, Equal, Greater, Less, List, Some, TellsLocated, ap, arith, cases_eq, cases_lt, false, filter, get_or-replicate, inl, inr, is_located, is_lt, length-replicate, min, nat_cmp, ne_eqb, range_with_len, refl, replicate, suc, sym, true, zero, ℕ}
+use Rattle.tabled_select.proofs.Common.{[], ◌+◌, ◌-◌, ◌<◌, ◌==◌, ◌||◌, ◌∷◌, ◌≡◌, ◌≤◌, AllOrThose, Bool, Less, List, Some, TellsLocated, ap, arith, cases_lt, common_steps, false, filter, get_or-replicate, inl, inr, is_located, is_lt, length-replicate, min, nat_cmp, ne_eqb, range_with_len, refl, replicate, suc, sym, true, zero, ℕ}
 use Rattle.std.specs.Cmp.{nat_cmp_is}
 use Rattle.std.specs.Ordering.{partial_lt}
 
@@ -11,10 +11,7 @@ below-true : (i limit : ℕ) → i < limit → below limit i ≡ true
 below-true i limit h = ap is_lt (sym (nat_cmp_is i limit Less h))
 
 below-false : (i limit : ℕ) → limit ≤ i → below limit i ≡ false
-below-false i limit h = elim (cases_eq i limit) [
-  | inl e ↦ ap is_lt (sym (nat_cmp_is i limit Equal e))
-  | inr d ↦ let past : limit < i = omega (arith, h, d) in ap is_lt (sym (nat_cmp_is i limit Greater past))
-]
+below-false i limit h = grind (arith, common_steps)
 
 cut-from : (n a limit : ℕ) → range_with_len a (min (a + n) limit - a) ≡ filter (below limit) (range_with_len a n)
 cut-from zero a limit = let none : min (a + 0) limit - a ≡ 0 = omega arith in rw none refl
@@ -32,10 +29,7 @@ range-cut a e limit = let same : min (a + (e - a)) limit - a ≡ min e limit - a
 
 -- nothing is marked where nothing is located
 pub none-told : (count : ℕ) → TellsLocated [] count (replicate count false)
-none-told count = record {
-  many = length-replicate count false;
-  tells = λ i h. get_or-replicate count i false false h;
-}
+none-told count = grind (arith, common_steps, length-replicate, get_or-replicate)
 
 located-below : (found : List ℕ) (count i : ℕ) → i < count → is_located (filter (below count) found) i ≡ is_located found i
 located-below [] count i h = refl
@@ -47,7 +41,4 @@ located-below (x ∷ found) count i h = elim (cases_lt x count) [
 -- what isn't below the count may be left out
 pub all-told : (found kept : List ℕ) (count : ℕ) (marks : List Bool) → AllOrThose (below count) found kept → TellsLocated kept count marks → TellsLocated found count marks
 all-told found kept count marks (inl e) told = rw e at told
-all-told found kept count marks (inr e) told = record {
-  many = told.many;
-  tells = λ i h. told.tells i h ∙ rw e (located-below found count i h);
-}
+all-told found kept count marks (inr e) told = grind (arith, common_steps, located-below)

@@ -1,24 +1,18 @@
 -- What one more mark changes.
-use Rattle.tabled_select.proofs.Common.{[], ◌&&◌, ◌*◌, ◌+◌, ◌<◌, ◌==◌, ◌||◌, ◌∙◌, ◌∷◌, ◌≡◌, AllByRecursion, Bool, Entity, HasRoom, List, Marks, MarksAll, Position, SetsMark, Some, and_parts, ap, ap₂, arith, cases_eq, cases_lt, eq-eqb, eqb-true, false, filter, filter_agree, flat, get_or, get_or-replicate, get_or-set_other, get_or-set_same, has, if◌then◌else◌, inl, inr, is_among, le-ltb, length, length-replicate, length-set, lt-ltb, mark_at, mark_index, mul-add-lt, mul_comm, ne_eqb, not, passes, place, refl, replicate, same_from_place, same_place, set, sifted, sym, true, unwrap_or, ℕ}
+use Rattle.tabled_select.proofs.Common.{[], ◌&&◌, ◌*◌, ◌+◌, ◌<◌, ◌==◌, ◌||◌, ◌∙◌, ◌∷◌, ◌≡◌, AllByRecursion, Bool, Entity, HasRoom, List, Marks, MarksAll, Position, SetsMark, Some, ap, ap₂, arith, cases_eq, cases_lt, common_steps, eq-eqb, eqb-true, false, filter, filter_agree, flat, get_or, get_or-replicate, get_or-set_other, get_or-set_same, has, if◌then◌else◌, inl, inr, is_among, le-ltb, length, length-replicate, length-set, lt-ltb, mark_at, mark_index, mul-add-lt, mul_comm, not, passes, place, refl, replicate, same_from_place, same_place, set, sifted, sym, true, unwrap_or, ℕ}
 use Rattle.std.specs.Prelude.{Option, None}
 use Rattle.std.specs.Option.{IsSome}
 use Rattle.std.proofs.Math.Bool.{or-false, or-true}
 use Rattle.tabled_select.proofs.NamedPlaces.{IsWithin, flat-within}
 
 same-false : (p q : Position) → ((p.row ≡ q.row) × (p.col ≡ q.col) → ⊥) → same_place p q ≡ false
-same-false p q h = elim (cases_eq p.row q.row) [
-  | inl e ↦ rw (eq-eqb p.row q.row e) (ne_eqb p.col q.col (λ f. h (e, f)))
-  | inr d ↦ rw (ne_eqb p.row q.row d) refl
-]
+same-false p q h = grind (arith, common_steps, eq-eqb)
 
 same-true : (p q : Position) → p.row ≡ q.row → p.col ≡ q.col → same_place p q ≡ true
 same-true p q e f = rw (eq-eqb p.row q.row e, eq-eqb p.col q.col f) refl
 
 eqb-turned : (m n : ℕ) → (m == n) ≡ (n == m)
-eqb-turned m n = elim (cases_eq m n) [
-  | inl e ↦ rw (eq-eqb m n e, eq-eqb n m (sym e)) refl
-  | inr d ↦ rw (ne_eqb m n d, ne_eqb n m (λ e. d (sym e))) refl
-]
+eqb-turned m n = grind (arith, common_steps, eq-eqb)
 
 pub same_place-turned : (p q : Position) → same_place p q ≡ same_place q p
 same_place-turned p q = ap₂ (λ b c. b && c) (eqb-turned p.row q.row) (eqb-turned p.col q.col)
@@ -63,9 +57,7 @@ pub none-marked : (s : Marks) (room : List Position) → MarksAll s room false �
 none-marked s room none p = none.just p ∙ and_false (is_among room p)
 
 pub is-same : (p q : Position) → same_place p q ≡ true → p ≡ q
-is-same p q e =
-    let parts = and_parts (p.row == q.row) (p.col == q.col) e in
-    ap₂ place (eqb-true p.row q.row parts.0) (eqb-true p.col q.col parts.1)
+is-same p q e = grind (arith, common_steps, eqb-true)
 
 -- ---- marks of all places of a table
 
@@ -74,13 +66,7 @@ mark-inside : (columns : ℕ) (marks : List Bool) (p : Position) → p.col < col
 mark-inside columns marks p h k = rw (lt-ltb p.col columns h, lt-ltb (mark_index columns p) (length marks) k) refl
 
 mark-outside : (columns : ℕ) (marks : List Bool) (p : Position) → ((p.col < columns) × (mark_index columns p < length marks) → ⊥) → mark_at columns marks p ≡ None
-mark-outside columns marks p h = elim (cases_lt p.col columns) [
-  | inl k ↦ elim (cases_lt (mark_index columns p) (length marks)) [
-    | inl l ↦ absurd (h (k, l))
-    | inr l ↦ rw (lt-ltb p.col columns k, le-ltb (mark_index columns p) (length marks) l) refl
-  ]
-  | inr k ↦ rw (le-ltb p.col columns k) refl
-]
+mark-outside columns marks p h = grind (arith, common_steps, lt-ltb, le-ltb)
 
 -- one more mark
 pub sets-mark : (columns : ℕ) (marks : List Bool) (p : Position) (i : ℕ) → (p.col < columns) × (mark_index columns p < length marks) → i ≡ mark_index columns p → SetsMark (mark_at columns marks) (mark_at columns (set marks i true)) p true
@@ -101,13 +87,7 @@ sets-mark columns marks p i at e = rw e (λ q. elim (cases_lt q.col columns) [
 ])
 
 unmarked : (columns n : ℕ) (p : Position) → has (mark_at columns (replicate n false)) p ≡ false
-unmarked columns n p = elim (cases_lt p.col columns) [
-  | inl h ↦ elim (cases_lt (mark_index columns p) n) [
-    | inl k ↦ rw (mark-inside columns (replicate n false) p h (rw length-replicate k)) (get_or-replicate n (mark_index columns p) false false k)
-    | inr k ↦ rw (mark-outside columns (replicate n false) p (λ j. let l = rw length-replicate at j.1 in omega arith)) refl
-  ]
-  | inr h ↦ rw (mark-outside columns (replicate n false) p (λ j. let l = j.0 in omega arith)) refl
-]
+unmarked columns n p = grind (arith, common_steps, mark-inside, length-replicate, get_or-replicate, mark-outside)
 
 room-inside : (columns n : ℕ) (p : Position) → p.col < columns → mark_index columns p < n → HasRoom (mark_at columns (replicate n false)) p
 room-inside columns n p h k = rw (mark-inside columns (replicate n false) p h (rw length-replicate k)) refl
@@ -135,10 +115,7 @@ marked-next old new q left rest all e sets h p = ap (λ b. is_among rest p || b)
 
 -- all of them are
 pub marked-last : (s : Marks) (left all : List Position) → left ≡ [] → AllByRecursion (HasRoom s) all → ((p : Position) → (is_among left p || has s p) ≡ is_among all p) → MarksAll s all true
-marked-last s left all e room h = record {
-  room = room;
-  just = λ p. (rw e at (h p)) ∙ sym (and_true (is_among all p));
-}
+marked-last s left all e room h = grind (arith, common_steps, and_true)
 
 -- ---- room made for one place after another
 
@@ -157,24 +134,14 @@ given-now false true mark m = refl
 given-now false false mark m = refl
 
 pub given-next : (old new : Marks) (q : Position) (left rest all : List Position) (mark : Bool) → left ≡ q ∷ rest → SetsMark old new q mark → ((p : Position) → (if is_among left p then Some mark else old p) ≡ given all mark p) → (p : Position) → (if is_among rest p then Some mark else new p) ≡ given all mark p
-given-next old new q left rest all mark e sets h p =
-    ap (λ m. if is_among rest p then Some mark else m) (sets p)
-    ∙ given-now (same_place q p) (is_among rest p) mark (old p)
-    ∙ ap (λ b. if (b || is_among rest p) then Some mark else old p) (same_place-turned q p)
-    ∙ (rw e at (h p))
+given-next old new q left rest all mark e sets h p = grind (arith, common_steps, given-now, same_place-turned)
 
 has-given : (b mark : Bool) → unwrap_or (if b then Some mark else None) false ≡ (b && mark)
 has-given true mark = refl
 has-given false mark = refl
 
 pub given-last : (s : Marks) (left all : List Position) (mark : Bool) → left ≡ [] → ((p : Position) → (if is_among left p then Some mark else s p) ≡ given all mark p) → MarksAll s all mark
-given-last s left all mark e h = record {
-  room = all-among (HasRoom s) all (λ p among. rw (h-at p, among) refl);
-  just = λ p. ap (λ m. unwrap_or m false) (h-at p) ∙ has-given (is_among all p) mark;
-}
-  where
-    h-at : (p : Position) → s p ≡ given all mark p
-    h-at p = rw e at (h p)
+given-last s left all mark e h = grind (arith, common_steps, all-among, has-given)
 
 -- ---- what passes
 

@@ -1,5 +1,5 @@
 -- What iterators made of iterators give.
-use Rattle.tabled_select.proofs.Common.{[], ◌%◌, ◌*◌, ◌++◌, ◌+◌, ◌-◌, ◌/◌, ◌<◌, ◌==◌, ◌∙◌, ◌∷◌, ◌≡◌, ◌≤◌, AlwaysYields, Count, Hops, HopsIfAny, HopsOver, IfNone, IfSome, IsFinite, List, MakesProgress, None, OnSome, Option, ap, arith, cases_lt, div-eq_of_lt, div-mul-le_self, drop, enumerate_from, every, filter, get_or, gives_left, hops_left, inl, inr, le-div, length, length-map, map, mod-mul-add, mul-mod_left, ne_eqb, refl, rules, size, suc, sym, zero, ℕ}
+use Rattle.tabled_select.proofs.Common.{[], ◌%◌, ◌*◌, ◌++◌, ◌+◌, ◌-◌, ◌/◌, ◌<◌, ◌==◌, ◌∙◌, ◌∷◌, ◌≡◌, ◌≤◌, AlwaysYields, Count, Hops, HopsIfAny, HopsOver, IfNone, IfSome, IsFinite, List, MakesProgress, None, OnSome, Option, ap, arith, common_steps, div-eq_of_lt, div-mul-le_self, drop, enumerate_from, every, filter, get_or, gives_left, hops_left, le-div, length, length-map, map, mod-mul-add, mul-mod_left, ne_eqb, refl, rules, size, suc, sym, zero, ℕ}
 use Rattle.std.proofs.Common.{Some}
 use Rattle.std.proofs.lemmas.List.{append-nil}
 
@@ -49,19 +49,11 @@ module _ {S A B : Type 0} (steps : S → Option A → S → Type 0) (v : A → B
   module _ (gap : ℕ) where
     -- what came where no more comes
     at-none : (all : List B) (s t : S × ℕ) → AlwaysYields steps v s.0 all → HopsOver steps gap s None t → every_from gap s.1 all ≡ []
-    at-none all s t gives p =
-        let left = gives_left steps v p.0.0 all _ _ gives p.0.1.1 in
-        let whole : all ≡ map v p.0.0 = left.1 ∙ ap (λ ys. map v p.0.0 ++ ys) (ended left.0 _ _ left.2 p.0.1.2) ∙ append-nil _ in
-        every_from-few gap s.1 all (omega (arith, ap length whole, length-map p.0.0 v, p.0.2))
+    at-none all s t gives p = grind (arith, common_steps, gives_left, ended, append-nil, every_from-few, length-map)
 
     -- what is left where one more comes
     at-some : (all : List B) (s t : S × ℕ) (x : A) → AlwaysYields steps v s.0 all → HopsOver steps gap s (Some x) t → (rest : List B) × (every_from gap s.1 all ≡ v x ∷ every_from gap t.1 rest) × AlwaysYields steps v t.0 rest
-    at-some all s t x gives p =
-        let left = gives_left steps v p.0.0 all _ _ gives p.0.1.1 in
-        let next = went left.0 _ _ x left.2 p.0.1.2 in
-        let whole : all ≡ map v p.0.0 ++ v x ∷ next.0 = left.1 ∙ ap (λ ys. map v p.0.0 ++ ys) next.1 in
-        let long : length (map v p.0.0) ≡ s.1 = omega (arith, length-map p.0.0 v, p.0.2) in
-        (next.0, ap (every_from gap s.1) whole ∙ every_from-past gap s.1 (map v p.0.0) (v x) next.0 long ∙ ap (λ k. v x ∷ every_from gap k next.0) (sym p.1), next.2)
+    at-some all s t x gives p = grind (arith, common_steps, gives_left, went, length-map, every_from-past)
 
     -- an iterator that passes over gaps gives every so-manieth of what its source gives
     pub gives-hops : (ys all : List B) (s : S × ℕ) → AlwaysYields steps v s.0 all → every_from gap s.1 all ≡ ys → AlwaysYields (HopsOver steps gap) v s ys
@@ -103,22 +95,9 @@ every_from-fresh (suc n) gap all e =
 
 -- past a gap fewer are left
 pub hops-fewer : (gap ahead m n : ℕ) → m + ahead < n → (m - gap + gap) / (gap + 1) < (n - ahead + gap) / (gap + 1)
-hops-fewer gap ahead m n h = elim (cases_lt m gap) [
-  | inl few ↦
-      let none : (m - gap + gap) / (gap + 1) ≡ 0 = div-eq_of_lt (omega arith) in
-      let some : 1 ≤ (n - ahead + gap) / (gap + 1) = le-div 1 (n - ahead + gap) (gap + 1) (omega arith) (omega arith) in
-      omega arith
-  | inr many ↦
-      let below : (m - gap + gap) / (gap + 1) * (gap + 1) ≤ m - gap + gap = div-mul-le_self (m - gap + gap) (gap + 1) in
-      let more : (m - gap + gap) / (gap + 1) + 1 ≤ (n - ahead + gap) / (gap + 1) = le-div ((m - gap + gap) / (gap + 1) + 1) (n - ahead + gap) (gap + 1) (omega arith) (omega arith) in
-      omega arith
-]
+hops-fewer gap ahead m n h = grind (arith, common_steps, div-eq_of_lt, le-div, div-mul-le_self)
 
 -- a call that passes over what is ahead makes progress
 pub hops-progress : {S A : Type 0} (can : S → Type 0) (left : S → Count) (old : Hops S) (s t : S) (r : Option A) → old.source ≡ Some s → (IsFinite (left s) → OnSome r (can t × IsFinite (left t) × (size (left t) + old.ahead < size (left s)))) → OnSome r (can t) → (IsFinite (left s) → IfNone r (IsFinite (left t))) → MakesProgress (λ h. IfSome h.source can) (λ h. hops_left left h.source h.ahead h.gap) old r (record { source = Some t; ahead = old.gap; gap = old.gap })
 hops-progress can left old s t None e p k f = rw e (record { on = λ _. tt; keeps = tt; rests = f })
-hops-progress can left old s t (Some x) e p k f = rw e (record {
-  on = λ finite. let more = p finite in (more.0, more.1, hops-fewer old.gap old.ahead (size (left t)) (size (left s)) more.2);
-  keeps = k;
-  rests = λ _. tt;
-})
+hops-progress can left old s t (Some x) e p k f = grind (arith, common_steps, hops-fewer)

@@ -1,5 +1,6 @@
 -- The first places of a list that aren't marked.
-use Rattle.tabled_select.proofs.Common.{◌&&◌, ◌||◌, ◌∙◌, ◌∷◌, ◌≡◌, Bool, Cell, Entity, List, Marks, MarksAll, Position, SetsMark, ap, cells_of, cond, false, filter, filter_agree, firsts, has, not, passes, refl, same_place, sym, true}
+use Rattle.std.proofs.Common.{arith}
+use Rattle.tabled_select.proofs.Common.{◌&&◌, ◌||◌, ◌∷◌, ◌≡◌, Bool, Cell, Entity, List, Marks, MarksAll, Position, SetsMark, ap, cells_of, common_steps, cond, false, filter, firsts, has, not, passes, refl, same_place, true}
 use Rattle.tabled_select.proofs.MarkedPlaces.{has-marked, none-marked, same_place-turned}
 use Rattle.tabled_select.proofs.Sifted.{filter_all, filter-filter}
 
@@ -18,9 +19,7 @@ other-unmarked false c = refl
 module _ (old new : Marks) (p : Position) (sets : SetsMark old new p true) where
   -- once a place is marked it is left out of the others
   fresh-others : (ps : List Position) → filter (passes false old) (filter (λ q. not (same_place p q)) ps) ≡ filter (passes false new) ps
-  fresh-others ps =
-      filter-filter (passes false old) (λ q. not (same_place p q)) ps
-      ∙ filter_agree (λ q. not (same_place p q) && not (has old q)) (passes false new) (λ q. other-unmarked (same_place p q) (has old q) ∙ ap (λ b. not (b || has old q)) (same_place-turned p q) ∙ ap not (sym (has-marked old new p q sets))) ps
+  fresh-others ps = grind (arith, common_steps, filter-filter, other-unmarked, same_place-turned, has-marked)
 
   -- a place comes if it isn't marked, and is marked from then on
   fresh-next : (ps : List Position) → fresh old (p ∷ ps) ≡ cond (not (has old p)) (p ∷ fresh new ps) (fresh new ps)
@@ -28,17 +27,8 @@ module _ (old new : Marks) (p : Position) (sets : SetsMark old new p true) where
 
   -- a place that is new comes now
   pub fresh-new : (left ps : List Position) (all : List Entity) → left ≡ p ∷ ps → cells_of (fresh old left) ≡ all → has old p ≡ false → all ≡ Cell p.row p.col ∷ cells_of (fresh new ps)
-  fresh-new left ps all steps same is_new =
-      sym same
-      ∙ ap (λ qs. cells_of (fresh old qs)) steps
-      ∙ ap cells_of (fresh-next ps)
-      ∙ rw is_new refl
+  fresh-new left ps all steps same is_new = grind (arith, common_steps, fresh-next)
 
   -- a place that was marked is passed over
   pub fresh-seen : (left ps : List Position) (all : List Entity) → left ≡ p ∷ ps → cells_of (fresh old left) ≡ all → has old p ≡ true → cells_of (fresh new ps) ≡ all
-  fresh-seen left ps all steps same is_old = sym (
-      sym same
-      ∙ ap (λ qs. cells_of (fresh old qs)) steps
-      ∙ ap cells_of (fresh-next ps)
-      ∙ rw is_old refl
-      )
+  fresh-seen left ps all steps same is_old = grind (arith, common_steps, fresh-next)

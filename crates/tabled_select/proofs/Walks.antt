@@ -1,5 +1,5 @@
 -- Walks over blocks and over the edge of a table.
-use Rattle.tabled_select.proofs.Common.{[], ◌+◌, ◌-◌, ◌<◌, ◌∙◌, ◌∷◌, ◌≡◌, ◌≤◌, Cell, FrameWalk, Sector, ap, arith, block, block-no_columns, block-no_rows, cells_of, drop, drop-place, drop-row, filter, frame, frame_left, inside-Global, last_in_row, ne_eqb, on_edge, place, refl, sector_left, suc, sym, true, zero, ℕ}
+use Rattle.tabled_select.proofs.Common.{[], ◌+◌, ◌-◌, ◌<◌, ◌∙◌, ◌∷◌, ◌≡◌, ◌≤◌, Cell, FrameWalk, Sector, ap, arith, block, block-no_columns, block-no_rows, cells_of, common_steps, drop, drop-place, drop-row, filter, frame, frame_left, inside-Global, last_in_row, ne_eqb, on_edge, place, refl, sector_left, suc, sym, true, zero, ℕ}
 
 -- one place of a block after another
 pub sector-next : (s : Sector) → s.row < s.end_row → s.first_col ≤ s.col → s.col < s.end_col → cells_of (sector_left s) ≡ Cell s.row s.col ∷ cells_of (sector_left (record s { col = s.col + 1 }))
@@ -28,9 +28,7 @@ edge-kept i r c j h k e = ap (filter (on_edge r c)) (drop-first i r c j h k) ∙
 
 -- the inner places of a row are passed over
 jump : (i r c j n : ℕ) → 0 < i → i + 1 < r → 0 < j → j + n + 1 ≡ c → filter (on_edge r c) (drop j (block i r 0 c)) ≡ filter (on_edge r c) (drop (c - 1) (block i r 0 c))
-jump i r c j zero h k l e =
-    let last : j ≡ c - 1 = omega arith in
-    ap (λ n. filter (on_edge r c) (drop n (block i r 0 c))) last
+jump i r c j zero h k l e = grind (arith, common_steps)
 jump i r c j (suc n) h k l e =
     ap (filter (on_edge r c)) (drop-first i r c j (omega arith) (omega arith))
     ∙ rw (ne_eqb i 0 (λ x. omega arith), ne_eqb i (r - 1) (λ x. omega arith), ne_eqb j 0 (λ x. omega arith), ne_eqb j (c - 1) (λ x. omega arith)) (jump i r c (j + 1) n h k (omega arith) (omega arith))

@@ -15,11 +15,6 @@ loop-pos-init g c =
       rest = λ last folds. rw all (last, rw c.into_iter-pos-iterator.ensures.into_iter_gives at folds, refl);
     }
 
-pub get_text-requires-clause-inside : goal.get_text-requires-clause-inside
-get_text-requires-clause-inside g c =
-    let here = (rw c.in-Some.ensures.steps at c.loop-pos.invariant.within).0 in
-    record { row = here.0; col = here.1 }
-
 pub loop-pos-preserved-then-takes : goal.loop-pos-preserved-then-takes
 loop-pos-preserved-then-takes g c =
     let within = rw c.in-Some.ensures.steps at c.loop-pos.invariant.within in

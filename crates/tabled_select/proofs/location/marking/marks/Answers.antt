@@ -1,17 +1,7 @@
 use Rattle.tabled_select.proofs.Common.{◌∙◌, ◌≡◌, TellsLocated, items_from_drains, subst, sym}
 use Rattle.std.proofs.Common.{map-id}
-use Rattle.tabled_select.proofs.LocatedMarks.{all-told, none-told}
+use Rattle.tabled_select.proofs.LocatedMarks.{all-told}
 use Rattle.tabled_select.proofs.location.marking.marks.Goals as goal
-
-pub loop-index-init : goal.loop-index-init
-loop-index-init g c =
-    let listed = c.in_ok-found.ensures.lists in
-    let over = listed.4 _ c.into_iter-index-iterator.ensures.into_iter_gives in
-    record {
-      can = over.can;
-      ends = over.ends;
-      told = rw (c.in_ok-marks.ensures.items_if_clones_equal (λ y e. e)) (none-told c.args.count);
-    }
 
 pub returns-clause-marks : goal.returns-clause-marks
 returns-clause-marks g c =

@@ -12,11 +12,6 @@ loop-pos-init g c =
       rest = λ picked picks. (picked, (rw all at picks), rw c.new-found.ensures.items refl);
     }
 
-pub get_text-requires-clause-inside : goal.get_text-requires-clause-inside
-get_text-requires-clause-inside g c =
-    let here = (rw c.in-Some.ensures.steps at c.loop-pos.invariant.within).0 in
-    record { row = here.0; col = here.1 }
-
 pub loop-pos-preserved-in-Continue-1 : goal.loop-pos-preserved-in-Continue-1
 loop-pos-preserved-in-Continue-1 g c =
     record {
