@@ -198,9 +198,6 @@ module _ (places : Places) (es xs : List Rectangle) (i rows columns : ℕ) (d : 
   next : Rectangle
   next = get_or es i d
 
-  pub next-full : HasArea (get_or es i d)
-  next-full = let size = fits.sizes.each (get_or es i d).0 (get_or es i d).1 (got (get_or es i d) (at-member es i d here)) in record { height = size.height; width = size.width }
-
   pub next-inside : ((get_or es i d).0.row + (get_or es i d).1.height ≤ rows) × ((get_or es i d).0.col + (get_or es i d).1.width ≤ columns)
   next-inside = fits.inside (get_or es i d).0 (get_or es i d).1 (got (get_or es i d) (at-member es i d here))
 

@@ -59,10 +59,6 @@ once-append (x ∷ xs) ys a b apart = (λ m. by (member-either x xs ys m), once-
     by (inl m) = a.0 m
     by (inr m) = apart x (inl refl) m
 
-once-range : (a n : ℕ) → Once (range_with_len a n)
-once-range a zero = tt
-once-range a (suc n) = (λ m. let h = range-member a (a + 1) n m in omega (arith, h.0), once-range (a + 1) n)
-
 once-row : (i a n : ℕ) → Once (map (place i) (range_with_len a n))
 once-row i a zero = tt
 once-row i a (suc n) = (λ m. let f = map-member (place i) (place i a) (range_with_len (a + 1) n) m in let h = range-member f.0 (a + 1) n f.1 in omega (arith, h.0, ap (λ (p : Position). p.col) f.2), once-row i (a + 1) n)

@@ -36,10 +36,6 @@ module _ (places : Places) (e : Rectangle) where
       let all = paired (λ q p. Takes places p q) (λ q r p. takes_one places p q r) (cells_in e) (cells_in f) (once-cells e) (λ q m. let t = to q (cell_in places e q m) in (t.0, cell_from places f t.0 t.1, t.2)) in
       (all.0, λ few p h. let t = all.1 few p (cell_from places f p h) in (t.0, cell_in places e t.0 t.1, t.2))
 
-  -- fewer cells
-  pub around-fewer : (some fewer : Position → Type 0) (first last : Position) → ((q : Position) → fewer q → some q) → Around places e some first last → Around places e fewer first last
-  around-fewer some fewer first last to a = record { each = λ q h. a.each q (to q h); least = a.least; order = a.order; row = a.row; col = a.col }
-
   -- one cell more, and its place
   pub around-more : (some more : Position → Type 0) (first last q p : Position) → ((r : Position) → more r → some r ⊎ (r ≡ q)) → Takes places p q → ((m : Position) → Takes places m q → m ≡ p) → In e q → p.row + 1 < 2 ^ 64 → p.col + 1 < 2 ^ 64 → Around places e some first last →
       Around places e more (place (min first.row p.row) (min first.col p.col)) (place (max last.row p.row) (max last.col p.col))

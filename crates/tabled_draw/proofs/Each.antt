@@ -41,9 +41,6 @@ pub record Changed (f : ℕ → List ℕ) (old new : List (List ℕ)) (j : ℕ) 
   pub done : (k : ℕ) → k < j → get_or new k [] ≡ f k
   pub left : (k : ℕ) → j ≤ k → get_or new k [] ≡ get_or old k []
 
-pub changed-none : (f : ℕ → List ℕ) (old : List (List ℕ)) → Changed f old old 0
-changed-none f old = record { done = λ k h. absurd (omega (arith, h)); left = λ k h. refl }
-
 pub changed-more : (f : ℕ → List ℕ) (old : List (List ℕ)) (rs : List (Bor (List ℕ))) (j : ℕ) (x : Bor (List ℕ)) → Changed f old (bytes_in rs) j → j < length rs → x.now ≡ f j → Changed f old (bytes_in (set rs j x)) (j + 1)
 changed-more f old rs j x was less is = grind (arith, nat_tests, get_or-set_other, map-set, get_or-set_same, length-map)
 

@@ -1,9 +1,9 @@
 -- Bytes that are held, and then sent, and cells that are drawn.
 use Rattle.std.proofs.Common.{arith}
 use Rattle.std.proofs.lemmas.Grind.{common_steps}
-use Rattle.tabled_draw.proofs.Common.{[], ◌++◌, ◌+◌, ◌-◌, ◌<◌, ◌∙◌, ◌∷◌, ◌≡◌, Draws, GrowsBy, Kept, List, None, Option, Some, ap, append-nil, ap₂, cell, encode_ascii, encode_utf8_all, encodes-append, first_line, refl, replicate, replicate-append-replicate, subst, suc, sym, text_width, true, zero, ℕ}
+use Rattle.tabled_draw.proofs.Common.{[], ◌++◌, ◌+◌, ◌-◌, ◌<◌, ◌∙◌, ◌∷◌, ◌≡◌, Draws, GrowsBy, Kept, List, Option, ap, ap₂, cell, encode_ascii, encode_utf8_all, encodes-append, first_line, refl, replicate, replicate-append-replicate, subst, suc, sym, text_width, zero, ℕ}
 use Rattle.std.proofs.KnownBytes.{Appends-nil, Appends-trans}
-use Rattle.std.specs.Io.KnownBytes.{Appends, append_known}
+use Rattle.std.specs.Io.KnownBytes.{append_known}
 
 module _ (a b : Option (List ℕ)) (h i : Kept) where
   pub draws-bytes : (bytes cs : List ℕ) → bytes ≡ encode_utf8_all cs → GrowsBy a h b i bytes → Draws a h b i cs
@@ -21,14 +21,6 @@ sends-then a b c h i j xs ys first second works = grind (arith, common_steps, Ap
 
 pub draws-then : {a b c : Option (List ℕ)} {h i j : Kept} {xs ys : List ℕ} → Draws a h b i xs → Draws b i c j ys → Draws a h c j (xs ++ ys)
 draws-then {a} {b} {c} {h} {i} {j} {xs} {ys} first second = grind (arith, common_steps, encodes-append, sends-then)
-
-append_known-nil : (a : Option (List ℕ)) → append_known a [] ≡ a
-append_known-nil None = refl
-append_known-nil (Some x) = ap Some (append-nil x)
-
--- all that was drawn was sent at last
-pub all-drawn : (a b c : Option (List ℕ)) (h i j : Kept) (cs bytes : List ℕ) → h.bytes ≡ [] → j.bytes ≡ [] → encode_utf8_all cs ≡ bytes → Draws a h b i cs → GrowsBy b i c j [] → j.has_worked ≡ true → Appends a c bytes
-all-drawn a b c h i j cs bytes none empty is drawn sent works = grind (arith, common_steps, append_known-nil, append-nil, sends-then)
 
 -- ---- bytes and cells that are drawn
 

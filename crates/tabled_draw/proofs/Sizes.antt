@@ -1,5 +1,5 @@
 -- Columns are as wide, and rows as high, as what they show asks.
-use Rattle.tabled_draw.proofs.Common.{[], ◌+◌, ◌-◌, ◌<◌, ◌∙◌, ◌∷◌, ◌≡◌, ◌≢◌, ◌≤◌, ◌⊎◌, AreEdges, AreNoLargerThanAsked, Columns, Fits, Grid, List, Measured, Member, Option, Position, Rectangle, Rows, Size, Some, SpanMap, across, add-zero, add_assoc, and_from, ap, ap₂, arith, asks, cases_Bool, cases_eq, cell_at, common_steps, cond, cond-false, cond-true, count_along, each, ends_in, entries, eq-eqb, eqb, eqb-true, ext_get_or, false, false≢true, fold, fold-append, gap, get_or, get_or-replicate, get_or-set_other, get_or-set_same, grown_for, grown_sizes, inl, inr, is_before, largest, length, length-replicate, length-set, line_of, lines_in, max, nat_tests, own, own_sizes, owner_in, place, place_in, raised, refl, replicate, room, same_place, same_place-self, set, sized, start_of, subst, suc, sum_by_more, sym, take, take_all, take_more, text_of_cell, text_width, true, widths, zero, ℕ}
+use Rattle.tabled_draw.proofs.Common.{[], ◌+◌, ◌-◌, ◌<◌, ◌∙◌, ◌∷◌, ◌≡◌, ◌≢◌, ◌≤◌, ◌⊎◌, AreEdges, AreNoLargerThanAsked, Columns, Fits, Grid, List, Measured, Member, Option, Position, Rectangle, Rows, Size, Some, SpanMap, across, add-zero, add_assoc, and_from, ap, ap₂, arith, asks, cases_Bool, cases_eq, cell_at, common_steps, cond, cond-false, cond-true, count_along, each, ends_in, entries, eq-eqb, eqb, eqb-true, ext_get_or, false, false≢true, fold, fold-append, gap, get_or, get_or-replicate, get_or-set_other, get_or-set_same, grown_for, grown_sizes, inl, inr, is_before, largest, length, length-replicate, length-set, line_of, lines_in, max, nat_tests, own, own_sizes, owner_in, place, place_in, raised, refl, replicate, room, same_place, same_place-self, set, sized, start_of, subst, suc, sum_by_more, sym, take, take_more, text_of_cell, text_width, true, widths, zero, ℕ}
 use Rattle.tabled_draw.proofs.Each.{get-singles, length-singles}
 use Rattle.tabled_draw.proofs.Before.{after-next, before-from, before-next, before-none, before-row, cases_before, after-from, here-next}
 use Rattle.tabled_draw.proofs.Owned.{LieWell, LiesIn, Owned, owned, member-at, fits-well}
@@ -216,9 +216,6 @@ pub grown-more : (axis : Axis) (g : Grid (List ℕ)) (m : SpanMap) (base : List 
     → s ≡ fold (grown_for axis g) base (take k (entries m)) → n ≡ asks axis text → new ≡ grown_sizes axis s (line_of axis (get_or xs k d).0) (lines_in axis (get_or xs k d).1) n
     → new ≡ fold (grown_for axis g) base (take (k + 1) (entries m))
 grown-more axis g m base k d xs is within s text read n new was many grew = grind (arith, common_steps, fold-more)
-
-pub grown-all : (axis : Axis) (g : Grid (List ℕ)) (m : SpanMap) (base s : List ℕ) (k : ℕ) → s ≡ fold (grown_for axis g) base (take k (entries m)) → length (entries m) ≤ k → s ≡ fold (grown_for axis g) base (entries m)
-grown-all axis g m base s k is all = is ∙ ap (fold (grown_for axis g) base) (take_all k (entries m) all)
 
 pub sizes-is : (axis : Axis) (g : Grid (List ℕ)) (m : SpanMap) (base s : List ℕ) → base ≡ own_sizes axis g (entries m) → s ≡ fold (grown_for axis g) base (entries m) → s ≡ sizes axis g (entries m)
 unfolding sizes

@@ -1,5 +1,5 @@
 -- Rows in one list of cells, cut into pieces that fill them.
-use Rattle.tabled_grid.proofs.Common.{◌*◌, ◌+◌, ◌/◌, ◌<◌, ◌∙◌, ◌≡◌, ◌≤◌, FillsThrough, IsFull, List, Rows, Zip, ap, arith, cell_at, common_steps, cut_places, div-add-mod', div-le_self, div_below, div_ceil, flat_grid, is_even, length, mod_below, mul-le-mul_right, place, refl, row_fits, slice_get, sym, ℕ}
+use Rattle.tabled_grid.proofs.Common.{◌*◌, ◌+◌, ◌/◌, ◌<◌, ◌∙◌, ◌≡◌, ◌≤◌, FillsThrough, IsFull, List, Rows, Zip, ap, arith, cell_at, common_steps, cut_places, div-add-mod', div_below, div_ceil, flat_grid, is_even, mod_below, place, refl, row_fits, slice_get, sym, ℕ}
 use Rattle.std.proofs.Common.{◌%◌}
 use Rattle.tabled_grid.proofs.FlatCells.{cell-joined}
 use Rattle.tabled_grid.proofs.FlatStore.{cells_are}
@@ -18,9 +18,6 @@ module _ {A : Type 0} (r c n : ℕ) (xs : List A) (h : IsFull r c xs) (some : 0 
 
   any : 0 < c / n
   any = some_pieces (c / n) n c (omega (arith, narrow)) (omega (arith, fills))
-
-  pub rows_fit : r * (c / n) ≤ length xs
-  rows_fit = omega (arith, h.full, mul-le-mul_right {m = c / n} {n = c} r (div-le_self c n))
 
   pub divided_full : (m : ℕ) → m ≡ r * (c / n) → IsFull m n xs
   divided_full m e = record { full = h.full ∙ ap (λ (w : ℕ). r * w) (sym fills) ∙ split ∙ ap (λ (w : ℕ). w * n) (sym e); rowless = λ none. absurd (omega (arith, none, e, more_lines r (c / n) any, some)) }

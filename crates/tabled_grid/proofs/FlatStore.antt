@@ -164,7 +164,3 @@ module _ {A : Type 0} (r c : ℕ) (xs : List A) (h : IsFull r c xs) where
 
       pub full_put : IsFull r n new
       full_put = full_of (record { rows = r; columns = n; cells = puts.wide }) r n new even refl refl puts.is (λ (z : r ≡ 0). absurd (some z))
-
-  -- without rows there are no columns to put
-  pub columns_put_none : (is_blank : A → Type 0) (many : ℕ) → r ≡ 0 → AddsColumns is_blank many (flat_grid r c xs) (flat_grid r c xs)
-  columns_put_none is_blank many e = rw e (record { rows = refl; columns = refl; each = tt })

@@ -1,5 +1,5 @@
 -- What a function gives of each cell of a grid whose rows and columns were changed.
-use Rattle.tabled_grid.proofs.Common.{[], ◌∙◌, ◌∷◌, ◌≡◌, AllByRecursion, AreBlanks, Grid, InsertsColumn, InsertsRow, List, None, Option, Position, Some, ap, ap₂, insert, length, map, map-insert, map-remove, map-swap, map_grid, option_map, refl, remove, replicate, rules, swap, with_cell_if, with_cells_swapped, with_column, with_columns_swapped, with_row, with_rows_swapped, without_column, without_row, zip, ℕ}
+use Rattle.tabled_grid.proofs.Common.{[], ◌∙◌, ◌∷◌, ◌≡◌, AllByRecursion, AreBlanks, Grid, InsertsColumn, InsertsRow, List, None, Option, Position, Some, ap, ap₂, insert, length, map, map-insert, map_grid, option_map, refl, replicate, rules, with_cell_if, with_cells_swapped, with_column, with_row, zip, ℕ}
 use Rattle.tabled_grid.proofs.Grids.{cell_at-map_grid, map_grid-with_cell}
 
 -- two maps, one after the other, that agree at each member with two others
@@ -20,24 +20,12 @@ module _ {A B : Type 0} (f : A → B) where
   pub map_grid-with_column : (g : Grid A) (j : ℕ) (column : List A) → map_grid f (with_column g j column) ≡ with_column (map_grid f g) j (map f column)
   map_grid-with_column g j column = rw (column_put j g.cells column) refl
 
-  pub map_grid-with_rows_swapped : (g : Grid A) (i k : ℕ) → map_grid f (with_rows_swapped g i k) ≡ with_rows_swapped (map_grid f g) i k
-  map_grid-with_rows_swapped g i k = rw (map-swap (map f) g.cells i k) refl
-
-  pub map_grid-with_columns_swapped : (g : Grid A) (j k : ℕ) → map_grid f (with_columns_swapped g j k) ≡ with_columns_swapped (map_grid f g) j k
-  map_grid-with_columns_swapped g j k = rw (maps_agree (map f) (λ row. swap row j k) (λ row. swap row j k) (map f) (λ row. map-swap f row j k) g.cells) refl
-
   map_grid-with_cell_if : (g : Grid A) (p : Position) (cell : Option A) → map_grid f (with_cell_if g p cell) ≡ with_cell_if (map_grid f g) p (option_map f cell)
   map_grid-with_cell_if g p None = refl
   map_grid-with_cell_if g p (Some x) = map_grid-with_cell f g p x
 
   pub map_grid-with_cells_swapped : (g : Grid A) (p q : Position) → map_grid f (with_cells_swapped g p q) ≡ with_cells_swapped (map_grid f g) p q
   map_grid-with_cells_swapped g p q = search (rules, map_grid-with_cell_if, cell_at-map_grid)
-
-  pub map_grid-without_row : (g : Grid A) (i : ℕ) → map_grid f (without_row g i) ≡ without_row (map_grid f g) i
-  map_grid-without_row g i = rw (map-remove (map f) g.cells i) refl
-
-  pub map_grid-without_column : (g : Grid A) (j : ℕ) → map_grid f (without_column g j) ≡ without_column (map_grid f g) j
-  map_grid-without_column g j = rw (maps_agree (map f) (λ row. remove row j) (λ row. remove row j) (map f) (λ row. map-remove f row j) g.cells) refl
 
 -- rows and columns of blanks are seen as empty texts
 module _ {A : Type 0} (text_of : A → List ℕ) (is_blank : A → Type 0) (empty : (x : A) → is_blank x → text_of x ≡ []) where

@@ -1,6 +1,5 @@
 -- Anchors that are marked where another holds them, from the last to the first, and what is left of them.
-use Rattle.tabled_grid.proofs.Common.{[], ◌&&◌, ◌++◌, ◌+◌, ◌<◌, ◌||◌, ◌∙◌, ◌∷◌, ◌≡◌, AllByRecursion, Bool, IsSpanSize, List, Position, Rectangle, T, ap, ap₂, arith, below_all, common_steps, cond, drop, drop_at, drop_more, dropped, false, false_from_ne_true, filter, get_or, get_or-take, get_or_append_left, holds, inl, inr, is_hidden_in, is_lt, is_sorted, length, length-take, lt-ltb, map, marked, nat_lt, not, position_cmp, refl, same_place, sized, subst, suc, sym, take, take_at, take_more, true, unless_held, ℕ}
-use Rattle.std.proofs.Common.{append_assoc}
+use Rattle.tabled_grid.proofs.Common.{[], ◌&&◌, ◌++◌, ◌+◌, ◌<◌, ◌||◌, ◌∙◌, ◌∷◌, ◌≡◌, AllByRecursion, Bool, IsSpanSize, List, Position, Rectangle, T, ap, ap₂, arith, below_all, common_steps, cond, drop, drop_at, drop_more, dropped, false, false_from_ne_true, filter, get_or, get_or-take, get_or_append_left, holds, inl, inr, is_hidden_in, is_lt, is_sorted, length, length-take, lt-ltb, map, marked, nat_lt, not, position_cmp, refl, same_place, sized, subst, suc, sym, take, true, unless_held, ℕ}
 use Rattle.tabled_grid.proofs.Geometry.{In}
 use Rattle.tabled_grid.proofs.SpanMaps.{both, halves, holds-true, less, same_place-self}
 use Rattle.tabled_grid.proofs.PassedAnchors.{Earlier, earlier, places_apart}
@@ -38,9 +37,6 @@ module _ (old : List Rectangle) (i : ℕ) (here : i < length old) where
 
   pub sorted_mark : (d : Rectangle) → ((n : ℕ) → T (is_sorted position_cmp (drop n old))) → T (is_sorted position_cmp (get_or (marked_from old (i + 1)) i d ∷ drop (i + 1) (marked_from old (i + 1))))
   sorted_mark d up = grind (arith, common_steps, drop_more, both, below_marked, halves, sorted_marked, at_mark, drop_at, front)
-
-  pub mark_more : (d : Rectangle) → take (i + 1) (marked_from old (i + 1)) ++ map (unless_held (get_or (marked_from old (i + 1)) i d)) (drop (i + 1) (marked_from old (i + 1))) ≡ marked_from old i
-  mark_more d = grind (arith, common_steps, at_mark, drop_at, front, take_at, take_more, append_assoc, drop_more)
 
 -- what has a size is left of the marked
 abbrev pub has_size : Rectangle → Bool

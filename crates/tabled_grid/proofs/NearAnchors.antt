@@ -85,9 +85,6 @@ module _ (rows columns : ℕ) (es : List Rectangle) (i : ℕ) (d : Rectangle) (h
   from_here : lie_well rows columns (drop i es) ≡ lie_well rows columns (get_or es i d ∷ drop (i + 1) es)
   from_here = ap (lie_well rows columns) (drop_more es i d here)
 
-  pub well_more : lies_inside rows columns (get_or es i d) ≡ true → list_all (λ (f : Rectangle). not (meets (get_or es i d) f)) (drop (i + 1) es) ≡ true → lie_well rows columns (drop (i + 1) es) ≡ true → lie_well rows columns (drop i es) ≡ true
-  well_more inside apart rest = from_here ∙ and_from _ _ inside (and_from _ _ apart rest)
-
   pub ill_outside : lies_inside rows columns (get_or es i d) ≡ false → lie_well rows columns es ≡ false
   ill_outside out = ill_drop rows columns i es (false_from_ne_true _ (λ t. never _ (and_parts _ _ (sym from_here ∙ t)).0 out))
 

@@ -1,5 +1,5 @@
 -- Going through sorted anchors from one on, and stopping once they are past its rectangle.
-use Rattle.tabled_grid.proofs.Common.{[], ◌&&◌, ◌++◌, ◌+◌, ◌-◌, ◌<◌, ◌∙◌, ◌∷◌, ◌≡◌, ◌≤◌, ◌⊎◌, Bool, Less, List, Position, Rectangle, T, and_from, and_parts, ap, append-nil, ap₂, arith, common_steps, cond, drop, drop-drop, drop-set-lt, drop_more, drop_more_same, false, false_from_ne_true, get_or, get_or-drop, get_or_default, holds, inl, inr, is_past, is_sorted, length, length-drop, list_all, lt-ltb, map, map-append, map_more, meets, not, or_cases, position_cmp, ranked, refl, same_place, set, sized, subst, suc, sym, take, take-add, take-append-drop, take_all, take_more, take_more_set, true, unless_held, zero, ℕ}
+use Rattle.tabled_grid.proofs.Common.{[], ◌&&◌, ◌++◌, ◌+◌, ◌-◌, ◌<◌, ◌∙◌, ◌∷◌, ◌≡◌, ◌≤◌, ◌⊎◌, Bool, Less, List, Position, Rectangle, T, and_from, and_parts, ap, ap₂, arith, common_steps, cond, drop, drop-drop, drop-set-lt, drop_more, drop_more_same, false, false_from_ne_true, get_or, get_or-drop, get_or_default, holds, inl, inr, is_past, is_sorted, length, length-drop, list_all, lt-ltb, map, map-append, map_more, meets, not, or_cases, position_cmp, ranked, refl, same_place, set, sized, subst, suc, sym, take, take-add, take-append-drop, take_all, take_more, take_more_set, true, unless_held, zero, ℕ}
 use Rattle.std.proofs.Common.{append_assoc}
 use Rattle.tabled_grid.proofs.SpanMaps.{holds-true, halves, less, same_place-apart}
 
@@ -71,9 +71,6 @@ module _ {A : Type 0} (f : A → A) (old : List A) (first : ℕ) where
   pub record ChangedTo (new : List A) (k : ℕ) : Type 0 where
     pub done : take k new ≡ take first old ++ map f (take (k - first) (drop first old))
     pub left : drop k new ≡ drop k old
-
-  pub changed_start : ChangedTo old first
-  changed_start = grind (arith, common_steps, append-nil)
 
   -- the rest of the members from first on
   rest_is : (k : ℕ) → first ≤ k → drop (k - first) (drop first old) ≡ drop k old

@@ -1,7 +1,7 @@
 -- Rows of vectors that a loop changes one after another.
 use Rattle.std.proofs.lemmas.Grind.{common_steps}
 use Rattle.std.specs.Global.{Vec}
-use Rattle.std.proofs.Common.{◌≡◌, ℕ, ◌+◌, ◌<◌, ◌≤◌, List, refl, sym, ap, ◌∙◌, length, take, drop, get_or, set, arith}
+use Rattle.std.proofs.Common.{◌≡◌, ℕ, ◌+◌, ◌<◌, ◌≤◌, List, sym, ap, ◌∙◌, length, take, drop, get_or, set, arith}
 use Rattle.std.specs.Prelude.{vec_len}
 use Rattle.std.specs.List.{AllZip}
 use Rattle.std.proofs.lemmas.List.{map_push, map-set, set-get_or, take_more, take_more_set, drop-set-lt, take_all, length-set, get_or-drop, drop-drop}
@@ -20,9 +20,6 @@ pub first_left : {X : Type 0} (xs : List X) (i : ℕ) (d : X) → get_or (drop i
 first_left xs i d = let same : i + 0 ≡ i = omega arith in get_or-drop i xs 0 d ∙ ap (λ n. get_or xs n d) same
 
 module _ {A : Type 0} (R : List A → List A → Type 0) where
-  pub changed_none : (rows : List (Vec A)) → Changed R rows rows 0
-  changed_none rows = record { done = tt; rest = refl; same = refl }
-
   -- the next row is still as it was
   pub changed_next : (old new : List (Vec A)) (i : ℕ) (d : Vec A) → Changed R old new i → get_or new i d ≡ get_or old i d
   changed_next old new i d h = sym (first_left new i d) ∙ ap (λ rows. get_or rows 0 d) h.rest ∙ first_left old i d

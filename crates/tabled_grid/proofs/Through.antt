@@ -1,5 +1,5 @@
 -- Cells moved from one grid to another one of blanks, through a map of places.
-use Rattle.tabled_grid.proofs.Common.{[], ◌*◌, ◌+◌, ◌<◌, ◌∙◌, ◌∷◌, ◌≡◌, ◌≢◌, ◌≤◌, ◌⊎◌, All-from_recursion, AllByRecursion, AreBlanks, Exchanges, FillsThrough, Grid, IfSome, IsEven, IsInside, List, None, Option, Places, Position, Some, TakesOnce, Within, all-drop, all-take, ap, arith, cases_eq, cases_lt, cell_at, chunks, common_steps, drop, grid_of, inl, inr, length, length-drop, length-take-le, none-some, place, refl, same_Some, subst, suc, sym, width_of, zero, ℕ}
+use Rattle.tabled_grid.proofs.Common.{[], ◌*◌, ◌+◌, ◌<◌, ◌∙◌, ◌∷◌, ◌≡◌, ◌≢◌, ◌≤◌, ◌⊎◌, All-from_recursion, AllByRecursion, AreBlanks, Exchanges, Grid, IfSome, IsEven, IsInside, List, None, Option, Places, Position, Some, TakesOnce, Within, all-drop, all-take, ap, arith, cases_eq, cell_at, chunks, common_steps, drop, grid_of, inl, inr, length, length-drop, length-take-le, none-some, place, refl, same_Some, subst, suc, sym, width_of, zero, ℕ}
 use Rattle.tabled_grid.proofs.AddedLines.{blank_at}
 use Rattle.tabled_grid.proofs.AddedRows.{wide_blanks}
 use Rattle.tabled_grid.proofs.Grids.{IsEven-with_cell, cell_at-with_cell_other, cell_at-with_cell_same}
@@ -121,14 +121,6 @@ module _ {A : Type 0} (is_blank : A → Type 0) (places : Places) (old : Grid A)
           blank : (p : Position) → Within places p → NotBefore i next p ⊎ (places.old_place p ≡ None) → (c : A) × is_blank c × (cell_at new_new p ≡ Some c)
           blank p w (inl after) = let c = m.blank p w (inl (later p i j next e after)) in (c.0, c.1, kept p (off_place p i j next e after) ∙ c.2)
           blank p w (inr none) = let c = m.blank p w (inr none) in (c.0, c.1, kept p (λ same. none-some from (sym none ∙ ap places.old_place same ∙ takes)) ∙ c.2)
-
-  -- one row more
-  pub through_row : (i j next : ℕ) (now new : Grid A) → next ≡ i + 1 → places.columns ≤ j → MovesThrough is_blank places i j old now new → MovesThrough is_blank places next 0 old now new
-  through_row i j next now new e all m = grind (arith, common_steps, cases_lt)
-
-  -- all rows
-  pub through_all : (i : ℕ) (now new : Grid A) → places.rows ≤ i → MovesThrough is_blank places i 0 old now new → FillsThrough is_blank places old new
-  through_all i now new all m = grind (arith, common_steps, if_some)
 
 -- rows of blanks are a grid
 pub blank_rows : {A : Type 0} (is_blank : A → Type 0) (columns : ℕ) (cells : List (List A)) → 0 < length cells → AllByRecursion (AreBlanks is_blank columns) cells → IsEven (grid_of cells) × (width_of cells ≡ columns)

@@ -1,5 +1,5 @@
 -- Rows made of columns, by items that are pushed to all rows at once.
-use Rattle.tabled_grid.proofs.Common.{[], ◌++◌, ◌+◌, ◌<◌, ◌∙◌, ◌∷◌, ◌≡◌, ◌≤◌, AreWide, Bool, IsEven, List, Vec, ap, append-nil, append_assoc, ap₂, arith, common_steps, cond, drop, drop-drop, drop-set-lt, drop_all, drop_more, first_left, get_or, get_or-map, grid_of, if◌then◌else◌, length, length-map, length-replicate, length-set, map, map-set, map_items, ne_eqb, refl, replicate, set, subst, suc, sym, take, take_all, take_more_set, transposed, transposed_rows, width_of, with_items_behind, zero, zip, ℕ}
+use Rattle.tabled_grid.proofs.Common.{[], ◌++◌, ◌+◌, ◌<◌, ◌∙◌, ◌∷◌, ◌≡◌, AreWide, Bool, IsEven, List, Vec, ap, append-nil, append_assoc, ap₂, arith, common_steps, cond, drop, drop-drop, drop-set-lt, drop_more, first_left, get_or, get_or-map, grid_of, if◌then◌else◌, length, length-map, length-replicate, length-set, map, map-set, map_items, ne_eqb, refl, replicate, set, subst, suc, sym, take, take_more_set, transposed, transposed_rows, width_of, with_items_behind, zero, zip, ℕ}
 use Rattle.std.proofs.Common.{◌==◌}
 use Rattle.tabled_grid.proofs.NestedRows.{HaveGrid, have_grid}
 use Rattle.tabled_grid.proofs.Transposed.{length-transposed, wide-transposed}
@@ -16,9 +16,6 @@ pub record PushedTo {A : Type 0} (old new : List (Vec A)) (items left : List A) 
   pub many : length left + i ≡ length old
 
 module _ {A : Type 0} where
-  pub pushed_none : (rows : List (Vec A)) (items : List A) → length items ≡ length rows → PushedTo rows rows items items 0
-  pushed_none rows items many = record { is = refl; rest = refl; same = refl; many = omega (arith, many) }
-
   -- the next row is still as it was
   pub pushed_next : (old new : List (Vec A)) (items left : List A) (i : ℕ) (d : Vec A) → PushedTo old new items left i → get_or new i d ≡ get_or old i d
   pushed_next old new items left i d h = sym (first_left new i d) ∙ ap (λ rows. get_or rows 0 d) h.rest ∙ first_left old i d
@@ -36,9 +33,6 @@ module _ {A : Type 0} where
     same = length-set new i row ∙ h.same;
     many = omega (arith, h.many);
   }
-
-  pub pushed_all : (old new : List (Vec A)) (items left : List A) (i : ℕ) → length old ≤ i → PushedTo old new items left i → map_items new ≡ with_items_behind (map_items old) items
-  pushed_all old new items left i past h = grind (arith, common_steps, length-map, take_all, drop_all, append-nil)
 
   none_behind : (n : ℕ) (rows : List (List A)) → length rows ≡ n → with_rows_behind (replicate n []) rows ≡ rows
   none_behind zero [] e = refl

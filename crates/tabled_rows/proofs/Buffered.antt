@@ -1,5 +1,5 @@
 -- What iterators over buffered rows give.
-use Rattle.tabled_rows.proofs.Common.{[], ◌++◌, ◌<◌, ◌∙◌, ◌∷◌, ◌≡◌, ◌≤◌, BufIterator, Buffered, BufferedWalk, Comes, Count, Fuse, GivesBuffered, GivesEach, Global, GoesOverEach, IntoIter, IsFinite, Iterator, List, None, Option, Shows, Some, Vec, Yields, all_shown, ap, ap₂, arith, can_come, common_steps, false, fuse_done, fuse_source, fuse_steps, into_iter_items, into_iter_len, into_iter_steps, length, map, map_items, nil_from_length, refl, still_to_come, subst, suc, sym, take, true, vec_len, zero, ℕ}
+use Rattle.tabled_rows.proofs.Common.{[], ◌++◌, ◌<◌, ◌∙◌, ◌∷◌, ◌≡◌, ◌≤◌, BufIterator, Buffered, BufferedWalk, Comes, Count, Fuse, GivesBuffered, GivesEach, Global, GoesOverEach, IntoIter, Iterator, List, None, Option, Shows, Some, Vec, Yields, all_shown, ap, ap₂, arith, can_come, common_steps, false, fuse_done, fuse_source, fuse_steps, into_iter_items, into_iter_len, into_iter_steps, length, map, map_items, nil_from_length, refl, still_to_come, subst, suc, sym, take, true, vec_len, zero, ℕ}
 use Rattle.tabled_rows.proofs.Listed.{Went, gives-by_state, gives-ended, gives-vec, gives-went}
 
 module _ {I A B : Type 0} (cell_gives : I → Option A → I → Type 0) (shown : A → B) where
@@ -107,10 +107,6 @@ module _ {S U I A B : Type 0} (next_gives : S → Option U → S → Type 0) (be
   -- one more row is read
   pub read-row : (s t : S) (buffer : List (Vec A)) (rows : List (List B)) (row : U) (iter left end : I) (cells : Vec A) (xs : List A) → IsReadAhead s buffer rows → next_gives s (Some row) t → becomes row iter → Yields cell_gives iter xs left → cell_gives left None end → cells.items ≡ xs → IsReadAhead t (buffer ++ cells ∷ []) rows
   read-row s t buffer rows row iter left end cells xs j p b y e items = grind (arith, common_steps, gives-went, drained, one-more)
-
-  -- a row that may be read
-  pub can-read : (s t : S) (buffer : List (Vec A)) (rows : List (List B)) (row : U) (iter : I) → IsReadAhead s buffer rows → next_gives s (Some row) t → becomes row iter → can iter × IsFinite (remaining iter)
-  can-read s t buffer rows row iter j p b = let lists = (gives-went next_gives gives-unread j.others s t row j.gives p).stands iter b in (lists.can, lists.ends)
 
   firsts : (n : ℕ) (buffer : List (Vec A)) (others : List (List B)) → length buffer ≤ n → (length buffer < n → others ≡ []) → all_shown shown (map_items buffer) ≡ take n (all_shown shown (map_items buffer) ++ others)
   firsts zero [] others h e = refl

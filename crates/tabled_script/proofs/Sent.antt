@@ -6,10 +6,6 @@ use Rattle.std.proofs.KnownBytes.{Appends-nil, Appends-trans}
 pub sends_none : (a : Option (List ℕ)) (held left bytes : List ℕ) → left ≡ held ++ bytes → Sends a held a left bytes
 sends_none a held left bytes is = ([], Appends-nil a, sym is)
 
--- all that is held, written
-pub sends_held : (a b : Option (List ℕ)) (held : List ℕ) → Appends a b held → Sends a held b [] []
-sends_held a b held wrote = (held, wrote, refl)
-
 -- some bytes, and then others
 pub sends_more : (a b c : Option (List ℕ)) (h i j xs ys : List ℕ) → Sends a h b i xs → Sends b i c j ys → Sends a h c j (xs ++ ys)
 sends_more a b c h i j xs ys first second =
@@ -23,7 +19,3 @@ sends_pushed a b h i j xs ys first pushed = sends_more a b b h i j xs ys first (
 pub sends_next : (a b c : Option (List ℕ)) (h i j k xs ys zs : List ℕ) → Sends a h b i xs → j ≡ i ++ ys → Sends b j c k [] → xs ++ ys ≡ zs → Sends a h c k zs
 sends_next a b c h i j k xs ys zs first pushed sent is =
     subst (Sends a h c k) (append-nil (xs ++ ys) ∙ is) (sends_more a b c h j k (xs ++ ys) [] (sends_pushed a b h i j xs ys first pushed) sent)
-
--- what was left is written at last
-pub sent_all : (a b c : Option (List ℕ)) (left bytes : List ℕ) → Sends a [] b left bytes → Appends b c left → Appends a c bytes
-sent_all a b c left bytes sent last = subst (Appends a c) (sym sent.2) (Appends-trans a b c sent.0 left sent.1 last)

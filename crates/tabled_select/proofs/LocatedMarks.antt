@@ -1,5 +1,5 @@
 -- Ranges that are cut at a limit, and marks of what is located.
-use Rattle.tabled_select.proofs.Common.{[], ◌+◌, ◌-◌, ◌<◌, ◌==◌, ◌||◌, ◌∷◌, ◌≡◌, ◌≤◌, AllOrThose, Bool, Less, List, Some, TellsLocated, ap, arith, cases_lt, common_steps, false, filter, get_or-replicate, inl, inr, is_located, is_lt, length-replicate, min, nat_cmp, ne_eqb, range_with_len, refl, replicate, suc, sym, true, zero, ℕ}
+use Rattle.tabled_select.proofs.Common.{[], ◌+◌, ◌-◌, ◌<◌, ◌==◌, ◌||◌, ◌∷◌, ◌≡◌, ◌≤◌, AllOrThose, Bool, Less, List, Some, TellsLocated, ap, arith, cases_lt, common_steps, false, filter, inl, inr, is_located, is_lt, min, nat_cmp, ne_eqb, range_with_len, refl, suc, sym, true, zero, ℕ}
 use Rattle.std.specs.Cmp.{nat_cmp_is}
 use Rattle.std.specs.Ordering.{partial_lt}
 
@@ -26,10 +26,6 @@ cut-from (suc n) a limit = elim (cases_lt a limit) [
 -- a range whose end is cut at a limit has the indexes below it
 pub range-cut : (a e limit : ℕ) → range_with_len a (min e limit - a) ≡ filter (below limit) (range_with_len a (e - a))
 range-cut a e limit = let same : min (a + (e - a)) limit - a ≡ min e limit - a = omega arith in rw same at (cut-from (e - a) a limit)
-
--- nothing is marked where nothing is located
-pub none-told : (count : ℕ) → TellsLocated [] count (replicate count false)
-none-told count = grind (arith, common_steps, length-replicate, get_or-replicate)
 
 located-below : (found : List ℕ) (count i : ℕ) → i < count → is_located (filter (below count) found) i ≡ is_located found i
 located-below [] count i h = refl

@@ -2,7 +2,7 @@
 use Rattle.tabled_select.proofs.Common.{[], ◌&&◌, ◌*◌, ◌+◌, ◌<◌, ◌==◌, ◌||◌, ◌∙◌, ◌∷◌, ◌≡◌, AllByRecursion, Bool, Entity, HasRoom, List, Marks, MarksAll, Position, SetsMark, Some, ap, ap₂, arith, cases_eq, cases_lt, common_steps, eq-eqb, eqb-true, false, filter, filter_agree, flat, get_or, get_or-replicate, get_or-set_other, get_or-set_same, has, if◌then◌else◌, inl, inr, is_among, le-ltb, length, length-replicate, length-set, lt-ltb, mark_at, mark_index, mul-add-lt, mul_comm, not, passes, place, refl, replicate, same_from_place, same_place, set, sifted, sym, true, unwrap_or, ℕ}
 use Rattle.std.specs.Prelude.{Option, None}
 use Rattle.std.specs.Option.{IsSome}
-use Rattle.std.proofs.Math.Bool.{or-false, or-true}
+use Rattle.std.proofs.Math.Bool.{or-true}
 use Rattle.tabled_select.proofs.NamedPlaces.{IsWithin, flat-within}
 
 same-false : (p q : Position) → ((p.row ≡ q.row) × (p.col ≡ q.col) → ⊥) → same_place p q ≡ false
@@ -105,36 +105,15 @@ marks-none rows columns n e entities = record {
 
 -- ---- marks set one after another
 
--- all places are still to be marked
-pub marked-first : (s : Marks) (left all : List Position) → left ≡ all → ((p : Position) → has s p ≡ (is_among all p && false)) → (p : Position) → (is_among left p || has s p) ≡ is_among all p
-marked-first s left all e h p = rw (e, h p, and_false (is_among all p)) (or-false (is_among all p))
-
 -- one more of them is marked
 pub marked-next : (old new : Marks) (q : Position) (left rest all : List Position) → left ≡ q ∷ rest → SetsMark old new q true → ((p : Position) → (is_among left p || has old p) ≡ is_among all p) → (p : Position) → (is_among rest p || has new p) ≡ is_among all p
 marked-next old new q left rest all e sets h p = ap (λ b. is_among rest p || b) (has-marked old new q p sets) ∙ or_move (same_place p q) (is_among rest p) (has old p) ∙ (rw e at (h p))
-
--- all of them are
-pub marked-last : (s : Marks) (left all : List Position) → left ≡ [] → AllByRecursion (HasRoom s) all → ((p : Position) → (is_among left p || has s p) ≡ is_among all p) → MarksAll s all true
-marked-last s left all e room h = grind (arith, common_steps, and_true)
 
 -- ---- room made for one place after another
 
 -- the mark of each place that is among some
 abbrev pub given : List Position → Bool → Marks
 given all mark p = if is_among all p then Some mark else None
-
--- those that have none yet get theirs
-pub given-first : (s : Marks) (left all : List Position) (mark : Bool) → left ≡ all → ((p : Position) → s p ≡ None) → (p : Position) → (if is_among left p then Some mark else s p) ≡ given all mark p
-given-first s left all mark e h p = rw (e, h p) refl
-
-given-now : (b c mark : Bool) (m : Option Bool) → (if c then Some mark else (if b then Some mark else m)) ≡ (if (b || c) then Some mark else m)
-given-now true true mark m = refl
-given-now true false mark m = refl
-given-now false true mark m = refl
-given-now false false mark m = refl
-
-pub given-next : (old new : Marks) (q : Position) (left rest all : List Position) (mark : Bool) → left ≡ q ∷ rest → SetsMark old new q mark → ((p : Position) → (if is_among left p then Some mark else old p) ≡ given all mark p) → (p : Position) → (if is_among rest p then Some mark else new p) ≡ given all mark p
-given-next old new q left rest all mark e sets h p = grind (arith, common_steps, given-now, same_place-turned)
 
 has-given : (b mark : Bool) → unwrap_or (if b then Some mark else None) false ≡ (b && mark)
 has-given true mark = refl
