@@ -1,5 +1,7 @@
 -- Places and rectangles by their lines, and by where they are in them.
-use Rattle.tabled_settings.proofs.Common.{◌+◌, ◌<◌, ◌≡◌, ◌≤◌, Axis, Columns, In, Position, Rectangle, Rows, Some, Takes, across, ap, ap₂, count_of, in_line, line_of, lines_from, place, refl, same_Some, ℕ}
+use Rattle.std.proofs.Common.{arith}
+use Rattle.std.proofs.lemmas.Grind.{common_steps}
+use Rattle.tabled_settings.proofs.Common.{◌+◌, ◌<◌, ◌≡◌, ◌≤◌, Axis, Columns, In, Position, Rectangle, Rows, Some, Takes, across, ap₂, count_of, in_line, line_of, lines_from, place, refl, ℕ}
 
 pub across_is : (axis : Axis) (p : Position) (i : ℕ) → line_of (across axis) (in_line axis p i) ≡ line_of (across axis) p
 across_is Rows p i = refl
@@ -42,9 +44,5 @@ module _ (old : ℕ → ℕ) (rows columns : ℕ) (p q : Position) where
   takes Columns t = record { row = t.across_within; col = t.within; from = ap₂ (λ (i j : ℕ). Some (place i j)) t.same t.line }
 
   pub taken : (axis : Axis) → Takes (lines_from axis old rows columns) p q → TakesAlong axis old rows columns p q
-  taken Rows t =
-      let is : place (old p.row) p.col ≡ q = same_Some _ _ t.from in
-      record { within = t.row; across_within = t.col; line = ap (λ (x : Position). x.row) is; same = ap (λ (x : Position). x.col) is }
-  taken Columns t =
-      let is : place p.row (old p.col) ≡ q = same_Some _ _ t.from in
-      record { within = t.col; across_within = t.row; line = ap (λ (x : Position). x.col) is; same = ap (λ (x : Position). x.row) is }
+  taken Rows t = grind (arith, common_steps)
+  taken Columns t = grind (arith, common_steps)

@@ -1,4 +1,5 @@
 -- How many cells entities name in a table, and the writes of texts that are duplicated.
+use Rattle.std.proofs.lemmas.Grind.{common_steps}
 use Rattle.tabled_settings.proofs.Common.{[], ◌%◌, ◌*◌, ◌++◌, ◌+◌, ◌-◌, ◌<◌, ◌∙◌, ◌∷◌, ◌≡◌, ◌≤◌, ◌⊎◌, AllByRecursion, Cell, Column, Duplicates, DuplicatesFirst, Entity, FirstWrites, Global, Grid, List, Position, Row, Write, ap, ap₂, arith, block, cases_lt, get_or, get_or-take, inl, inr, inside, inside-Cell, inside-Column, inside-Global, inside-Row, inside-no_cell, inside-no_column, inside-no_row, length, length-take-le, map_grid, mod-eq_of_lt, nil_from_length, place, places, refl, round_from, round_writes, rounds, source_texts, subst, suc, sym, take, take_all, with_writes, zero, ℕ}
 use Rattle.tabled_carry.proofs.Pigeonhole.{length-block}
 
@@ -75,23 +76,10 @@ pub most-Global : (r c : ℕ) → length (inside Global r c) ≤ r * c
 most-Global r c = omega (arith, ap length (inside-Global r c), block_length 0 r 0 c r c (omega arith) (omega arith))
 
 pub most-Column : (j r c : ℕ) → length (inside (Column j) r c) ≤ r
-most-Column j r c = by (cases_lt j c)
-  where
-    by : (j < c) ⊎ (c ≤ j) → length (inside (Column j) r c) ≤ r
-    by (inl h) = omega (arith, ap length (inside-Column j r c h), block_length 0 r j (j + 1) r 1 (omega arith) (omega arith))
-    by (inr h) = omega (arith, ap length (inside-no_column j r c h))
+most-Column j r c = grind (arith, common_steps, inside-Column, block_length, inside-no_column)
 
 pub most-Row : (i r c : ℕ) → length (inside (Row i) r c) ≤ c
-most-Row i r c = by (cases_lt i r)
-  where
-    by : (i < r) ⊎ (r ≤ i) → length (inside (Row i) r c) ≤ c
-    by (inl h) = omega (arith, ap length (inside-Row i r c h), block_length i (i + 1) 0 c 1 c (omega arith) (omega arith))
-    by (inr h) = omega (arith, ap length (inside-no_row i r c h))
+most-Row i r c = grind (arith, common_steps, inside-Row, block_length, inside-no_row)
 
 pub most-Cell : (i j r c : ℕ) → length (inside (Cell i j) r c) ≤ 1
-most-Cell i j r c = by (cases_lt i r) (cases_lt j c)
-  where
-    by : (i < r) ⊎ (r ≤ i) → (j < c) ⊎ (c ≤ j) → length (inside (Cell i j) r c) ≤ 1
-    by (inl h) (inl k) = omega (arith, ap length (inside-Cell i j r c h k), block_length i (i + 1) j (j + 1) 1 1 (omega arith) (omega arith))
-    by (inr h) k = omega (arith, ap length (inside-no_cell i j r c (inl h)))
-    by (inl h) (inr k) = omega (arith, ap length (inside-no_cell i j r c (inr k)))
+most-Cell i j r c = grind (arith, common_steps, inside-Cell, block_length, inside-no_cell)

@@ -1,5 +1,6 @@
 -- Pieces that are all kept, glued together.
-use Rattle.tabled_settings.proofs.Common.{[], ◌%◌, ◌*◌, ◌++◌, ◌+◌, ◌-◌, ◌/◌, ◌<◌, ◌∙◌, ◌≡◌, ◌≤◌, All-from_recursion, AllByRecursion, Axis, Bool, Columns, Concat, Grid, IsEven, List, PieceOrder, Retain, Rows, Some, Split, Zip, across, ap, ap₂, arith, back_read, cell_at, cond, count_along, cut_rows, div-add-mod', div-mul-add, div_below, div_ceil, div_ceil_times, enough_pieces, false, flat_map, front_read, get_or, get_or-map-range_with_len, get_or-range_with_len, glue_rows, glued, glued_line, has_pieces, length, length-append, length-map-range_with_len, length-range_with_len, length-take-le, lt-ltb, ltb-false, ltb-true, map, mod-mul-add, mod_below, nat_lt, nth_piece, oriented, piece_at, piece_index, place, range_with_len, refl, row_fits, slice_get, slice_get-get_or, slice_get-take, some_pieces, split, staying, suc, sym, true, zero, ℕ}
+use Rattle.std.proofs.lemmas.Grind.{common_steps}
+use Rattle.tabled_settings.proofs.Common.{[], ◌%◌, ◌*◌, ◌+◌, ◌-◌, ◌/◌, ◌<◌, ◌∙◌, ◌≡◌, ◌≤◌, All-from_recursion, AllByRecursion, Axis, Bool, Columns, Concat, Grid, IsEven, List, PieceOrder, Retain, Rows, Some, Split, Zip, across, ap, ap₂, arith, back_read, cell_at, cond, count_along, cut_rows, div-add-mod', div-mul-add, div_below, div_ceil, enough_pieces, false, flat_map, front_read, get_or, get_or-map-range_with_len, get_or-range_with_len, glue_rows, glued, glued_line, has_pieces, length, length-append, length-map-range_with_len, length-range_with_len, length-take-le, lt-ltb, ltb-false, ltb-true, map, mod-mul-add, mod_below, nat_lt, nth_piece, oriented, piece_at, piece_index, place, range_with_len, refl, row_fits, slice_get, slice_get-get_or, slice_get-take, some_pieces, split, staying, suc, sym, true, zero, ℕ}
 use Rattle.tabled_settings.proofs.PieceReads.{all_retained, cut_count, cut_even, cut_text, piece_text, same_by_lines, turned_across, turned_back, turned_cell, turned_columns, turned_count, turned_even, turned_rows}
 use Rattle.tabled_settings.proofs.LineReads.{counted}
 use Rattle.tabled_settings.proofs.SameCells.{same_cells}
@@ -21,13 +22,7 @@ module _ {A : Type 0} (f : ℕ → List A) (n : ℕ) where
 
   pub block_read : (a m k b : ℕ) → k < m → b < n → ((k : ℕ) → k < a + m → length (f k) ≡ n) → slice_get (flat_map f (range_with_len a m)) (k * n + b) ≡ slice_get (f (a + k)) b
   block_read a zero k b h l wide = absurd (omega (arith, h))
-  block_read a (suc m) zero b h l wide =
-      let here : length (f a) ≡ n = wide a (omega arith) in
-      let at : 0 * n + b ≡ b = omega arith in
-      let same : a ≡ a + 0 = omega arith in
-      ap (slice_get (f a ++ flat_map f (range_with_len (a + 1) m))) at
-      ∙ front_read (f a) (flat_map f (range_with_len (a + 1) m)) b (omega (arith, here, l))
-      ∙ ap (λ (k : ℕ). slice_get (f k) b) same
+  block_read a (suc m) zero b h l wide = grind (arith, common_steps, front_read)
   block_read a (suc m) (suc k) b h l wide =
       let here : length (f a) ≡ n = wide a (omega arith) in
       let at : suc k * n + b - length (f a) ≡ k * n + b = omega (arith, here) in
@@ -76,14 +71,7 @@ module _ {A : Type 0} (s : Split) (lines width pieces n : ℕ) (g h : Grid A) (e
   made_even = record { tall = length-map-range_with_len (glued_line s.behavior lines pieces width h.cells) 0 lines; wide = all_long 0 lines (omega arith) }
 
   pub rows_glued : glue_rows s lines width h ≡ g
-  rows_glued =
-      ap (λ (p : ℕ). remade p) (sym pieces_is)
-      ∙ same_cells made g made_even even lines_are width_is (λ a b l m.
-      ap (λ (row : List A). slice_get row b) (get_or-map-range_with_len (glued_line s.behavior lines pieces width h.cells) 0 lines a a [] (omega (arith, l, lines_are)) (omega arith))
-      ∙ read a b (omega (arith, l, lines_are)) (omega (arith, m, width_is)))
-    where
-      remade : ℕ → Grid A
-      remade p = record { rows = lines; columns = width; cells = map (glued_line s.behavior lines p width h.cells) (range_with_len 0 lines) }
+  rows_glued = grind (arith, common_steps, same_cells, made_even, get_or-map-range_with_len, read)
 
 turned_twice : {A : Type 0} (axis : Axis) (g : Grid A) → IsEven g → 0 < count_along axis g → 0 < count_along (across axis) g → oriented axis (oriented axis g) ≡ g
 turned_twice Rows g even some any = refl
@@ -99,14 +87,7 @@ turned_back_twice Rows c c_even k l = turned_twice Rows c c_even k l
 turned_back_twice Columns c c_even k l = turned_twice Columns c c_even l k
 
 pub one_piece_each : (pieces n width : ℕ) → 0 < width → width ≤ n → pieces ≡ div_ceil width n → pieces ≡ 1
-one_piece_each pieces n width some h e =
-    let bounds : (width ≤ div_ceil width n * n) × (div_ceil width n * n < width + n) = div_ceil_times width n (omega (arith, some, h)) in
-    one pieces (rw e bounds.0) (rw e bounds.1)
-  where
-    one : (p : ℕ) → width ≤ p * n → p * n < width + n → p ≡ 1
-    one zero l m = absurd (omega (arith, l, some))
-    one (suc zero) l m = refl
-    one (suc (suc p)) l m = absurd (omega (arith, l, m, h))
+one_piece_each pieces n width some h e = grind (arith, common_steps)
 
 index_of_one : (o : PieceOrder) (lines i : ℕ) → piece_index o lines 1 i 0 ≡ i
 index_of_one Zip lines i = omega arith
@@ -145,8 +126,7 @@ module _ (s : Split) (g : Grid (List ℕ)) (even : IsEven g) (retained : s.displ
       even_index i k = ap (λ (n : ℕ). piece_index s.behavior n pieces i k) even.tall
 
   pub cut_glued : (h : Grid (List ℕ)) → h ≡ cut_rows s g → glue_rows s g.rows g.columns h ≡ g
-  cut_glued h is =
-      rw is (rows_glued s g.rows g.columns pieces s.index g (cut_rows s g) even (cut_even s g) refl refl refl index enough (cut_count s g ∙ count) refl cut_cell)
+  cut_glued h is = grind (arith, common_steps, rows_glued, cut_even, enough, cut_count, count, cut_cell)
 
 -- a grid whose rows are no longer than a piece
 uncut_glued : (s : Split) (g : Grid (List ℕ)) → IsEven g → 0 < g.columns → g.columns ≤ s.index → glue_rows s g.rows g.columns g ≡ g

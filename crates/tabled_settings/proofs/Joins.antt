@@ -1,4 +1,5 @@
 -- Two tables joined: growth, texts, and the way back.
+use Rattle.std.proofs.lemmas.Grind.{common_steps}
 use Rattle.tabled_settings.proofs.Common.{[], ◌&&◌, ◌+◌, ◌-◌, ◌<◌, ◌∙◌, ◌≡◌, ◌≢◌, ◌≤◌, ◌⊎◌, AddsColumns, AddsRows, Bool, Columns, FillsTo, Grid, GrowsTo, HasBlank, IfSome, IsEmptyWithoutRows, IsEven, IsEven-first, IsEven-with_cell, IsInside, JoinsAt, KeepsPlaces, List, None, Option, Position, Rows, Some, WritesText, added_blank, added_even, added_kept, ap, ap₂, arith, cases_lt, cell_at, cell_at-map_grid, cell_at-map_grid_some, cell_at-with_cell_other, cell_at-with_cell_same, cond, either_way, eqb, eqb-true, false, first_along, if◌then◌else◌, inl, inr, joined_places, le-leb, lt-ltb, ltb-true, map_grid, max, nat_lt, none-some, option_map, place, refl, same_Some, sym, text_put, true, unwrap_or, ℕ}
 use Rattle.tabled_grid.proofs.Squares.{wide_enough}
 use Rattle.tabled_carry.proofs.Walks.{Before, before-more}
@@ -7,8 +8,7 @@ use Rattle.tabled_settings.proofs.SameCells.{none_outside, same_cells}
 
 -- outside of the second table no text is put
 pub none_put : (corner : Position) (second : Grid (List ℕ)) (default : List ℕ) (a b : ℕ) → IsEven second → corner.row ≤ a → corner.col ≤ b → (second.rows ≤ a - corner.row) ⊎ (second.columns ≤ b - corner.col) → None ≡ text_put corner second default a b
-none_put corner second default a b even row col outside =
-    rw (le-leb corner.row a row, le-leb corner.col b col, none_outside second (a - corner.row) (b - corner.col) even outside) refl
+none_put corner second default a b even row col outside = grind (arith, common_steps, le-leb, none_outside)
 
 -- the cells of the first table keep their places
 pub place_of : (b : Bool) (p q : Position) → (if b then Some p else None) ≡ Some q → p ≡ q
@@ -16,10 +16,7 @@ place_of true p q same = same_Some p q same
 place_of false p q same = absurd (none-some q same)
 
 pub joined_keeps : {A : Type 0} (corner : Position) (second : Grid A) (rows columns : ℕ) → KeepsPlaces (joined_places corner second rows columns) rows columns
-joined_keeps corner second rows columns = record {
-  stays = λ p h k. record { row = omega arith; col = omega arith; from = rw (lt-ltb p.row rows h, lt-ltb p.col columns k) refl };
-  alone = λ p q t. place_of (nat_lt p.row rows && nat_lt p.col columns) p q t.from;
-}
+joined_keeps corner second rows columns = grind (arith, common_steps, lt-ltb, place_of)
 
 module _ {A : Type 0} (is_blank : A → Type 0) where
   pub grown_to : (rows columns many more : ℕ) (old grown new : Grid A) → IsEven old → old.rows + many ≡ rows → old.columns + more ≡ columns → (rows ≡ 0 → columns ≡ 0) → AddsRows is_blank many old grown → AddsColumns is_blank more grown new → GrowsTo is_blank rows columns old new
@@ -107,12 +104,7 @@ module _ {A : Type 0} (text_of : A → List ℕ) (want : ℕ → ℕ → Option 
 
 module _ {A : Type 0} (is_blank : A → Type 0) (text_of : A → List ℕ) (corner : Position) (second : Grid (List ℕ)) (default : List ℕ) (rows columns new_rows new_columns : ℕ) (old grown new : Grid A) (rows_are : rows ≡ old.rows) (columns_are : columns ≡ old.columns) where
   stays : (a b : ℕ) → (a < old.rows → b < old.columns → cell_at new (place a b) ≡ cell_at old (place a b)) → IfSome (cond (nat_lt a old.rows && nat_lt b old.columns) (Some (place a b)) None) (λ (q : Position). cell_at new (place a b) ≡ cell_at old q)
-  stays a b same = either (nat_lt a old.rows) (nat_lt b old.columns) refl refl
-    where
-      either : (x y : Bool) → nat_lt a old.rows ≡ x → nat_lt b old.columns ≡ y → IfSome (cond (x && y) (Some (place a b)) None) (λ (q : Position). cell_at new (place a b) ≡ cell_at old q)
-      either true true h k = same (ltb-true a old.rows h) (ltb-true b old.columns k)
-      either true false h k = tt
-      either false y h k = tt
+  stays a b same = grind (arith, common_steps, ltb-true)
 
   pub join_done : (i : ℕ) → ((cell : A) → is_blank cell → text_of cell ≡ []) → new_rows ≡ max old.rows (corner.row + second.rows) → new_columns ≡ max old.columns (corner.col + second.columns) → i ≡ grown.rows → GrowsTo is_blank new_rows new_columns old grown → FillsTo text_of (text_put corner second default) rows columns i 0 grown new → JoinsAt is_blank text_of corner second default old new
   join_done i empty tall wide all g f = record {

@@ -1,4 +1,5 @@
 -- The lines of some indexes, brought to the front.
+use Rattle.std.proofs.lemmas.Grind.{common_steps}
 use Rattle.tabled_settings.proofs.Common.{◌+◌, ◌-◌, ◌<◌, ◌∙◌, ◌≡◌, ◌≢◌, ◌≤◌, ◌⊎◌, Axis, Bool, BringsLines, Columns, Grid, HasLines, IsEven, IsEven-first, IsInside, IsStrictlyIncreasing, KeepsLines, List, Places, ReadsThrough, Rows, SpanMap, Swapped, along, ap, ap₂, arith, carried, cases_eq, cell_at, columns_if, cond, count_along, count_in, end_index, eqb, extracted, false, first_along, first_index, get_or, get_or-range_with_len, indexes_in, inl, inr, kept_lines, length, length-range_with_len, line_cells, lines_from, min, part, place, range_with_len, refl, same_shape, shape_after, swap, sym, true, ℕ}
 use Rattle.std.specs.declared.ops.Bound.{Bound}
 use Rattle.tabled_settings.proofs.LineReads.{line_first, lines_read, lines_swapped, shape_swapped}
@@ -63,13 +64,7 @@ module _ {A : Type 0} (axis : Axis) (kept : List ℕ) where
 module _ {A : Type 0} (axis : Axis) (s n : ℕ) where
   -- they are at the front already, where the index is 0
   pub front_brought : (k : ℕ) (g cur : Grid A) → k ≤ n → s ≡ 0 → BringsLines axis (range_with_len s n) 0 g cur → BringsLines axis (range_with_len s n) k g cur
-  front_brought k g cur within first b = record {
-    shape = b.shape;
-    front = λ a h.
-        let at : a ≡ get_or (range_with_len s n) a 0 = omega (arith, get_or-range_with_len s n a 0 (omega (arith, h, within)), first) in
-        b.behind a (omega arith) (λ c l. absurd (omega (arith, l))) ∙ ap (line_cells axis g) at;
-    behind = λ a h past. b.behind a (omega arith) (λ c l. absurd (omega (arith, l)));
-  }
+  front_brought k g cur within first b = grind (arith, common_steps, get_or-range_with_len)
 
   pub range_read : (g new : Grid A) → KeepsLines axis (range_with_len s n) g new → HasLines axis n g new × ReadsThrough (lines_from axis (λ i. s + i) new.rows new.columns) g new
   range_read g new k =

@@ -1,5 +1,6 @@
 -- The rows or the columns of a grid, one after another.
-use Rattle.tabled_settings.proofs.Common.{[], ◌<◌, ◌∙◌, ◌∷◌, ◌≡◌, AllByRecursion, Axis, Columns, Grid, IsEven, IsEven-with_columns_swapped, IsEven-with_rows_swapped, IsInside, IsShapedAs, List, None, Option, Position, ReadsThrough, Rows, Some, Swapped, along, ap, ap₂, arith, cell_at, count_along, count_of, first_along, get_or, get_or-take, in_line, length, length-map, line_cells, line_of, lines_from, map, map-swap, refl, slice_get, slice_get-some, slice_get-take, swap, swapped_from_swap, sym, take, ℕ}
+use Rattle.std.proofs.lemmas.Grind.{common_steps}
+use Rattle.tabled_settings.proofs.Common.{[], ◌<◌, ◌∙◌, ◌∷◌, ◌≡◌, AllByRecursion, Axis, Columns, Grid, IsEven, IsEven-with_columns_swapped, IsEven-with_rows_swapped, IsInside, IsShapedAs, List, None, Option, Position, ReadsThrough, Rows, Some, Swapped, along, ap, ap₂, arith, cell_at, count_along, count_of, first_along, get_or, get_or-take, in_line, length, length-map, line_cells, line_of, lines_from, map, map-swap, refl, slice_get, slice_get-some, slice_get-take, swap, swapped_from_swap, sym, ℕ}
 use Rattle.std.proofs.Math.ListN.{get_or-map}
 
 -- a count of lines, by the rows and columns
@@ -28,9 +29,7 @@ module _ {A : Type 0} where
   column_swapped c j k m n rows wide same = maps_agree_on (λ (row : List A). length row ≡ c) (λ (row : List A). slice_get row m) (λ (row : List A). swap row j k) (λ (row : List A). slice_get row n) same rows wide
 
   pub lines_swapped : (axis : Axis) (g new : Grid A) (i k : ℕ) → IsEven g → i < count_along axis g → k < count_along axis g → new ≡ along axis (λ _ xs. swap xs i k) g → Swapped (line_cells axis g) (line_cells axis new) i k
-  lines_swapped Rows g new i k even h l is =
-      let moved = swapped_from_swap g.cells new.cells i k [] (omega (arith, even.tall, h)) (omega (arith, even.tall, l)) (ap (λ (h : Grid A). h.cells) is) in
-      (ap (map Some) moved.0, ap (map Some) moved.1, λ m a b. ap (map Some) (moved.2 m a b))
+  lines_swapped Rows g new i k even h l is = grind (arith, common_steps, swapped_from_swap)
   lines_swapped Columns g new j k even h l is =
       let cells : (m : ℕ) → line_cells Columns new m ≡ line_cells Columns (along Columns (λ _ xs. swap xs j k) g) m = λ m. ap (λ (h : Grid A). line_cells Columns h m) is in
       let slots : (row : List A) → length row ≡ g.columns → Swapped (slice_get row) (slice_get (swap row j k)) j k = λ row long. slots_swapped row j k (omega (arith, long, h)) (omega (arith, long, l)) in (
@@ -46,9 +45,7 @@ module _ {A : Type 0} where
   -- the first lines are as they were
   pub line_first : (axis : Axis) (g new : Grid A) (n i : ℕ) → IsEven g → i < n → new ≡ first_along axis n g → line_cells axis new i ≡ line_cells axis g i
   line_first Rows g new n i even h is = ap (λ (h : Grid A). line_cells Rows h i) is ∙ ap (map Some) (get_or-take n g.cells i [] h)
-  line_first Columns g new n i even h is =
-      ap (λ (h : Grid A). line_cells Columns h i) is
-      ∙ maps_agree_on (λ (row : List A). length row ≡ g.columns) (λ (row : List A). slice_get row i) (λ (row : List A). take n row) (λ (row : List A). slice_get row i) (λ row long. slice_get-take n row i h) g.cells even.wide
+  line_first Columns g new n i even h is = grind (arith, common_steps, maps_agree_on, slice_get-take)
 
   -- a cell as one of its line
   abbrev cell_in_line : Axis → Grid A → Position → Option A

@@ -1,5 +1,6 @@
 -- Merged cells in and beside a part of the lines that is put into the opposite order.
-use Rattle.tabled_settings.proofs.Common.{◌+◌, ◌-◌, ◌<◌, ◌∙◌, ◌≡◌, ◌≤◌, ◌⊎◌, Axis, Carries, In, Position, Size, Takes, ap, arith, cases_lt, count_of, in_line, inl, inr, line_of, lines_from, refl, sym, ℕ}
+use Rattle.std.proofs.lemmas.Grind.{common_steps}
+use Rattle.tabled_settings.proofs.Common.{◌+◌, ◌-◌, ◌<◌, ◌∙◌, ◌≡◌, ◌≤◌, ◌⊎◌, Axis, Carries, In, Position, Size, Takes, ap, arith, count_of, in_line, inl, inr, line_of, lines_from, refl, sym, ℕ}
 use Rattle.tabled_spans.proofs.SpanGeometry.{index_moved}
 use Rattle.tabled_settings.proofs.AlongLines.{LiesAlong, across_is, is_along, is_in, lies_along, taken, takes}
 
@@ -10,12 +11,7 @@ module _ (old : ℕ → ℕ) (n s e : ℕ) (inside : (i : ℕ) → s ≤ i → i
     is : (s ≤ i) × (i < e) × (i + from + 1 ≡ s + e) ⊎ ((i < s) ⊎ (e ≤ i)) × (i ≡ from)
 
   comes : (i from : ℕ) → i < n → old i ≡ from → Comes i from
-  comes i from within is = by (cases_lt i s) (cases_lt i e)
-    where
-      by : (i < s) ⊎ (s ≤ i) → (i < e) ⊎ (e ≤ i) → Comes i from
-      by (inl before) other = record { is = inr (inl before, sym (outside i within (inl before)) ∙ is) }
-      by (inr after) (inr past) = record { is = inr (inr past, sym (outside i within (inr past)) ∙ is) }
-      by (inr after) (inl below) = record { is = inl (after, below, omega (arith, inside i after below, is, after, below)) }
+  comes i from within is = grind (arith, common_steps)
 
 module _ (axis : Axis) (old : ℕ → ℕ) (rows columns s e : ℕ) (inside : (i : ℕ) → s ≤ i → i < e → old i ≡ s + e - 1 - i) (outside : (i : ℕ) → i < count_of axis rows columns → (i < s) ⊎ (e ≤ i) → old i ≡ i)
     (a : Position) (t : Size) (high : a.row + t.height ≤ rows) (far : a.col + t.width ≤ columns) where

@@ -1,11 +1,11 @@
 -- Merged cells when lines are put into the opposite order, once or twice.
-use Rattle.tabled_settings.proofs.Common.{◌+◌, ◌-◌, ◌<◌, ◌∙◌, ◌≡◌, ◌≤◌, ◌⊎◌, Axis, Bool, Carries, Fits, HasArea, LeadsBack, Offset, Places, Position, Rectangle, Rows, Size, SpanMap, Top, and_from, ap, arith, carried, carried_back, carried_if, count_of, in_line, limit_end, line_of, lines_from, refl, reversed, reversed_index, reverses, rotated, subst, sym, true, ℕ}
+use Rattle.std.proofs.lemmas.Grind.{common_steps}
+use Rattle.tabled_settings.proofs.Common.{◌+◌, ◌-◌, ◌<◌, ◌∙◌, ◌≡◌, ◌≤◌, ◌⊎◌, Axis, Bool, Carries, Fits, HasArea, LeadsBack, Offset, Places, Position, Rectangle, Rows, Size, SpanMap, Top, ap, arith, carried, carried_back, carried_if, count_of, in_line, limit_end, line_of, lines_from, refl, reversed, reversed_index, reverses, rotated, subst, sym, true, ℕ}
 use Rattle.tabled_grid.specs.declared.config.offset.Offset.TheVariants.{End}
 use Rattle.tabled_settings.proofs.AlongLines.{lies_along}
 use Rattle.tabled_settings.proofs.MirroredParts.{part_mirrored}
 use Rattle.tabled_settings.proofs.Reversed.{index_inside}
 use Rattle.tabled_settings.proofs.ThereAndBack.{lines_lead_back}
-use borrow.Author.Tests.{le-leb, lt-ltb}
 
 -- lines that come from those as far from the other end
 module _ (axis : Axis) (old : ℕ → ℕ) (rows columns : ℕ) (mirrors : (i : ℕ) → i < count_of axis rows columns → old i + i + 1 ≡ count_of axis rows columns) where
@@ -40,8 +40,7 @@ reversed_twice_spans axis rows columns = let n = count_of axis rows columns in
 
 -- there are lines to reverse where the end is past the start and not past the table
 pub reverses_yes : (axis : Axis) (s : ℕ) (limit : Offset) (rows columns e n : ℕ) → n ≡ count_of axis rows columns → e ≡ limit_end limit s n → s < e → e ≤ n → reverses axis s limit rows columns ≡ true
-reverses_yes axis s limit rows columns e n count end some fits =
-    rw (← count) (and_from _ _ (lt-ltb _ _ (subst (λ (x : ℕ). s < x) end some)) (le-leb _ _ (subst (λ (x : ℕ). x ≤ n) end fits)))
+reverses_yes axis s limit rows columns e n count end some fits = grind (arith, common_steps)
 
 -- they are carried along
 pub reversal_carried : (axis : Axis) (s : ℕ) (limit : Offset) (rows columns rows' columns' e n : ℕ) (m k : SpanMap) → rows' ≡ rows → columns' ≡ columns → n ≡ count_of axis rows columns → e ≡ limit_end limit s n → s < e → e ≤ n →

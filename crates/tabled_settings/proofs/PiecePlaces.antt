@@ -1,4 +1,5 @@
 -- Where the cells of pieces come from, and where they go.
+use Rattle.std.proofs.lemmas.Grind.{common_steps}
 use Rattle.tabled_settings.proofs.Common.{[], ◌%◌, ◌*◌, ◌+◌, ◌/◌, ◌<◌, ◌∙◌, ◌≡◌, Axis, Bool, Clean, Columns, Display, FillsThrough, Grid, IfSome, IsCut, IsEven, IsInside, IsTakenOnce, KeepsLines, List, None, Option, PieceOrder, Places, Position, ReadsThrough, Retain, Rows, Some, SpanMap, Split, Splits, Takes, across, across_is, ap, ap₂, arith, carried, carried_if, cell_at, cond, count_along, count_of, cut_places, div-add-mod', div_below, div_ceil, enough_pieces, false, fills_cut, get_or, has_pieces, in_line, index_in_line, kept_pieces, length, line_cells, line_is, line_of, lines_from, lt-ltb, map_grid, mod_below, nat_lt, nth_piece, one_piece, oriented, piece_index, pieces_take_once, place_in, place_is, refl, same_from_place, same_place_in, same_places, shown_lines, split_places, subst, sym, thinned, true, true≢false, unwrap_or, ℕ}
 use Rattle.tabled_settings.proofs.Glued.{piece_index_below, piece_of}
 use Rattle.tabled_settings.proofs.Joins.{place_of}
@@ -57,18 +58,12 @@ module _ {A : Type 0} (text_of : A → List ℕ) (s : Split) (lines width : ℕ)
   retained_places e = all_places ∙ sym (with_pieces (has_pieces s g.rows g.columns) _ (same_places g.rows g.columns) is_cut ∙ all_shown s.display s.lines _ _ e)
 
   pub clean_places : (kept : List ℕ) → s.display ≡ Clean → kept ≡ kept_pieces s (oriented s.lines (map_grid text_of g)) → thinned s.lines kept (cut_places s.lines s.behavior s.index lines width) ≡ split_places s (map_grid text_of g)
-  clean_places kept e are =
-      ap₂ (λ (ts : List ℕ) (places : Places). thinned s.lines ts places) are all_places
-      ∙ sym (with_pieces (has_pieces s g.rows g.columns) _ (same_places g.rows g.columns) is_cut ∙ some_shown s.display s.lines _ _ e)
+  clean_places kept e are = grind (arith, common_steps, all_places, with_pieces, is_cut, some_shown)
 
   -- merged cells go along
   pub spans_carried : (places : Places) (rows columns : ℕ) (c d : SpanMap) → places ≡ split_places s (map_grid text_of g) → rows ≡ g.rows → columns ≡ g.columns → d ≡ carried places rows columns c →
       d ≡ carried_if (has_pieces s g.rows g.columns) (split_places s (map_grid text_of g)) g.rows g.columns c
-  spans_carried places rows columns c d same tall wide is =
-      is
-      ∙ ap (λ (places : Places). carried places rows columns c) same
-      ∙ ap₂ (λ (m n : ℕ). carried (split_places s (map_grid text_of g)) m n c) tall wide
-      ∙ ap (λ (b : Bool). carried_if b (split_places s (map_grid text_of g)) g.rows g.columns c) (sym is_cut)
+  spans_carried places rows columns c d same tall wide is = grind (arith, common_steps, is_cut)
 
   module _ (is_blank : A → Type 0) (blank_empty : (c : A) → is_blank c → text_of c ≡ []) (mid : Grid A) (fills : FillsThrough is_blank (cut_places s.lines s.behavior s.index lines width) g mid) where
     cut : IsCut is_blank s.lines s.behavior s.index lines width g mid
@@ -133,10 +128,7 @@ module _ (s : Split) (lines width : ℕ) (q : Position) (index : 0 < s.index) (h
   index_is = ap (λ (r : ℕ × ℕ). r.1 * s.index + at_cell) of_piece ∙ div-add-mod' j s.index
 
   takes : cond (nat_lt (index_in_line s.behavior s.index lines pieces (line_of s.lines (place_in s.lines at_piece at_cell)) (line_of (across s.lines) (place_in s.lines at_piece at_cell))) width) (Some (place_in s.lines (nth_piece s.behavior lines pieces (line_of s.lines (place_in s.lines at_piece at_cell))).0 (index_in_line s.behavior s.index lines pieces (line_of s.lines (place_in s.lines at_piece at_cell)) (line_of (across s.lines) (place_in s.lines at_piece at_cell))))) None ≡ Some q
-  takes =
-      rw (line_is s.lines at_piece at_cell, across_is s.lines at_piece at_cell)
-      (ap₂ (λ (b : Bool) (p : Position). cond b (Some p) None) (lt-ltb (index_in_line s.behavior s.index lines pieces at_piece at_cell) width (omega (arith, index_is, l)))
-      (ap₂ (λ (a b : ℕ). place_in s.lines a b) (ap (λ (r : ℕ × ℕ). r.0) of_piece) index_is ∙ place_is s.lines q))
+  takes = grind (arith, common_steps, line_is, across_is, lt-ltb, index_is, of_piece, place_is)
 
   alone : (p : Position) → p.row < count_of s.lines (lines * pieces) s.index → p.col < count_of s.lines s.index (lines * pieces) → (cut_places s.lines s.behavior s.index lines width).old_place p ≡ Some q → p ≡ place_in s.lines at_piece at_cell
   alone p row col e =

@@ -1,5 +1,6 @@
 -- The pieces of a grid, read by place.
-use Rattle.tabled_settings.proofs.Common.{[], ◌*◌, ◌++◌, ◌+◌, ◌<◌, ◌∙◌, ◌∷◌, ◌≡◌, All-filter, All-from_recursion, AllByRecursion, Axis, Bool, Columns, Concat, Display, Grid, IsEven, IsInside, List, None, PieceOrder, Position, Retain, Rows, Some, Split, Zip, across, ap, ap₂, arith, at-transposed, cell_at, cond, count_along, cut_rows, div_ceil, false, filter, filter-append, get_or, get_or-map as get_or-map_within, get_or-map-range_with_len, get_or-range_with_len, length, length-map, length-map-range_with_len, length-range_with_len, length-transposed, line_cells, map, nth_piece, oriented, piece, piece_at, place, place_in, range_with_len, refl, slice_get, slice_get-get_or, slice_get-some, staying, stays, stays_at, subst, suc, sym, transposed_rows, true, unwrap_or, unwrap_or-slice_get, wide-transposed, zero, zero-div, zero-mod, ℕ}
+use Rattle.std.proofs.lemmas.Grind.{common_steps}
+use Rattle.tabled_settings.proofs.Common.{[], ◌*◌, ◌++◌, ◌+◌, ◌<◌, ◌∙◌, ◌∷◌, ◌≡◌, All-filter, All-from_recursion, AllByRecursion, Axis, Bool, Columns, Concat, Grid, IsEven, IsInside, List, None, PieceOrder, Position, Retain, Rows, Some, Split, Zip, across, ap, ap₂, arith, at-transposed, cell_at, cond, count_along, cut_rows, div_ceil, false, filter, filter-append, get_or, get_or-map as get_or-map_within, get_or-map-range_with_len, get_or-range_with_len, length, length-map, length-map-range_with_len, length-range_with_len, length-transposed, line_cells, map, nth_piece, oriented, piece, piece_at, place, place_in, range_with_len, refl, slice_get, slice_get-get_or, slice_get-some, staying, stays, subst, suc, sym, transposed_rows, true, unwrap_or, unwrap_or-slice_get, wide-transposed, zero, zero-div, zero-mod, ℕ}
 use Rattle.std.proofs.lemmas.List.{append-nil}
 use Rattle.tabled_settings.proofs.SameCells.{same_cells}
 use Rattle.tabled_settings.proofs.Rotated.{as_wide}
@@ -44,9 +45,7 @@ module _ {A : Type 0} where
   same_by_lines Columns g h g_even h_even columns rows each = same_cells g h g_even h_even rows columns (λ a b l k. each b a k l)
 
   pub some_inside : (g : Grid A) (p : Position) (d : A) → IsEven g → IsInside g p → cell_at g p ≡ Some (unwrap_or (cell_at g p) d)
-  some_inside g p d even inside =
-      let wide = All-from_recursion _ g.cells even.wide p.row [] (omega (arith, even.tall, inside.row)) in
-      slice_get-get_or (get_or g.cells p.row []) p.col d (omega (arith, wide, inside.col)) ∙ ap Some (sym (unwrap_or-slice_get (get_or g.cells p.row []) p.col d))
+  some_inside g p d even inside = grind (arith, common_steps, All-from_recursion, slice_get-get_or, unwrap_or-slice_get)
 
 pub filter_all : (p : ℕ → Bool) → ((x : ℕ) → p x ≡ true) → (xs : List ℕ) → filter p xs ≡ xs
 filter_all p h [] = refl
@@ -68,10 +67,7 @@ filter_some p (suc n) h e = rw e (omega arith)
 
 -- all pieces stay where they are retained
 pub all_retained : (s : Split) (pieces : ℕ) (rows : List (List (List ℕ))) → s.display ≡ Retain → staying s pieces rows ≡ range_with_len 0 (length rows * pieces)
-all_retained s pieces rows retained = filter_all (stays_at s pieces rows) (λ t. kept s.display (nth_piece s.behavior (length rows) pieces t).1 (piece_at s pieces rows t) retained) (range_with_len 0 (length rows * pieces))
-  where
-    kept : (d : Display) (k : ℕ) (texts : List (List ℕ)) → d ≡ Retain → stays d k texts ≡ true
-    kept d k texts is = rw is refl
+all_retained s pieces rows retained = grind (arith, common_steps, filter_all)
 
 -- some numbers, and those after them
 pub range_split : (a m n : ℕ) → range_with_len a (m + n) ≡ range_with_len a m ++ range_with_len (a + m) n
@@ -82,12 +78,7 @@ range_split a (suc m) n =
     ap (range_with_len a) all ∙ ap (λ is. a ∷ is) (range_split (a + 1) m n ∙ ap (λ i. range_with_len (a + 1) m ++ range_with_len i n) next)
 
 pub filter_more : (p : ℕ → Bool) (n m : ℕ) (stays : Bool) → m ≡ n + 1 → p n ≡ stays → filter p (range_with_len 0 m) ≡ filter p (range_with_len 0 n) ++ cond stays (n ∷ []) []
-filter_more p n m stays next e =
-    let same : 0 + n ≡ n = omega arith in
-    ap (λ (k : ℕ). filter p (range_with_len 0 k)) next
-    ∙ ap (filter p) (range_split 0 n 1 ∙ ap (λ (k : ℕ). range_with_len 0 n ++ k ∷ []) same)
-    ∙ filter-append p (range_with_len 0 n) (n ∷ [])
-    ∙ ap (λ (b : Bool). filter p (range_with_len 0 n) ++ cond b (n ∷ []) []) e
+filter_more p n m stays next e = grind (arith, common_steps, range_split, filter-append)
 
 pub filter_push : (p : ℕ → Bool) (n m : ℕ) (xs ys : List ℕ) → m ≡ n + 1 → p n ≡ true → xs ≡ filter p (range_with_len 0 n) → ys ≡ xs ++ n ∷ [] → ys ≡ filter p (range_with_len 0 m)
 filter_push p n m xs ys next e are is = is ∙ ap (λ (zs : List ℕ). zs ++ n ∷ []) are ∙ sym (filter_more p n m true next e)
@@ -123,11 +114,7 @@ module _ (s : Split) (g : Grid (List ℕ)) where
   cut_count = length-map (staying s count g.cells) (piece_at s count g.cells)
 
   pub cut_text : (a b : ℕ) → a < length (staying s count g.cells) → b < s.index → cell_at (cut_rows s g) (place a b) ≡ Some (get_or (piece_at s count g.cells (get_or (staying s count g.cells) a 0)) b [])
-  cut_text a b h k =
-      let none : List ℕ = [] in
-      let t : ℕ = get_or (staying s count g.cells) a 0 in
-      ap (λ (row : List (List ℕ)). slice_get row b) (get_or-map_within (piece_at s count g.cells) (staying s count g.cells) a 0 [] h)
-      ∙ slice_get-get_or (piece_at s count g.cells t) b none (omega (arith, k, length-piece s.index (nth_piece s.behavior (length g.cells) count t).1 (get_or g.cells (nth_piece s.behavior (length g.cells) count t).0 [])))
+  cut_text a b h k = grind (arith, common_steps, get_or-map_within, slice_get-get_or, length-piece)
 
 -- a grid whose lines are the pieces that stay is the grid of these pieces
 pub pieces_are : (s : Split) (g new : Grid (List ℕ)) (pieces : ℕ) → IsEven g → IsEven new → 0 < count_along s.lines g → 0 < s.index → pieces ≡ div_ceil (count_along (across s.lines) g) s.index →

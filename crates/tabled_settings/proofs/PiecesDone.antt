@@ -1,5 +1,6 @@
 -- The texts of lines that are pieces.
-use Rattle.tabled_settings.proofs.Common.{[], ◌*◌, ◌+◌, ◌-◌, ◌<◌, ◌∙◌, ◌≡◌, ◌≢◌, ◌≤◌, ◌⊎◌, Axis, Bool, Clean, Columns, ComesFrom, Display, Grid, HasLines, IsCut, IsEven, IsEven-map_grid, IsInside, IsStrictlyIncreasing, IsStrictlyIncreasing-filter, KeepsLines, List, None, Option, Retain, Rows, Some, Split, across, and_parts, ap, ap₂, arith, cases_lt, cell_at, cell_at-map_grid, cell_at-map_grid_some, cond, count_along, count_of, div_ceil, enough_pieces, eqb, false, filter, get_or, get_or-range_with_len, get_or_default, has_pieces, has_text, inl, inr, inside_of, is_text, kept_pieces, length, length-range_with_len, line_cells, list_any, lt-ltb, ltb-true, map_grid, min, ne_eqb, nth_piece, option_map, oriented, piece_at, piece_line, place_in, range_with_len, refl, row_fits, some_pieces, source, split, staying, stays, stays_at, subst, sym, true, unwrap_or, unwrap_or-slice_get, ℕ}
+use Rattle.std.proofs.lemmas.Grind.{common_steps}
+use Rattle.tabled_settings.proofs.Common.{[], ◌*◌, ◌+◌, ◌-◌, ◌<◌, ◌∙◌, ◌≡◌, ◌≢◌, ◌≤◌, ◌⊎◌, Axis, Bool, Clean, Columns, ComesFrom, Display, Grid, IsCut, IsEven, IsEven-map_grid, IsInside, IsStrictlyIncreasing, IsStrictlyIncreasing-filter, KeepsLines, List, None, Option, Retain, Rows, Some, Split, across, ap, ap₂, arith, cases_lt, cell_at, cell_at-map_grid, cell_at-map_grid_some, cond, count_along, count_of, div_ceil, enough_pieces, eqb, false, filter, get_or, get_or-range_with_len, get_or_default, has_pieces, has_text, inl, inr, inside_of, is_text, kept_pieces, length, length-range_with_len, line_cells, list_any, lt-ltb, ltb-true, map_grid, min, ne_eqb, nth_piece, option_map, oriented, piece_at, piece_line, place_in, range_with_len, refl, some_pieces, source, split, staying, stays, stays_at, subst, sym, true, unwrap_or, unwrap_or-slice_get, ℕ}
 use Rattle.std.proofs.lemmas.List.Folds.{list_any_at, list_any_none}
 use Rattle.tabled_settings.specs.declared.cuts.Cut.{Cut}
 use Rattle.tabled_settings.proofs.LineReads.{counted}
@@ -17,13 +18,7 @@ lines_counted axis g n rows columns n_is rows_are columns_are = n_is ∙ ap₂ (
 
 -- where there are pieces, there are lines, and they are longer than a piece, which has cells
 pub pieces_need : (s : Split) (g : Grid (List ℕ)) → has_pieces s g.rows g.columns ≡ true → (0 < count_along s.lines g) × (0 < s.index) × (s.index < count_along (across s.lines) g)
-pieces_need s g e =
-    let some = and_parts _ _ e in
-    let narrow = and_parts _ _ some.1 in (
-      omega (arith, ltb-true 0 (count_of s.lines g.rows g.columns) some.0, counted s.lines g),
-      ltb-true 0 s.index narrow.0,
-      omega (arith, ltb-true s.index (count_of (across s.lines) g.rows g.columns) narrow.1, counted (across s.lines) g),
-    )
+pieces_need s g e = grind (arith, common_steps, ltb-true, counted)
 
 pub past_line : {A : Type 0} (axis : Axis) (g : Grid A) (i j : ℕ) → IsEven g → count_along (across axis) g ≤ j → cell_at g (place_in axis i j) ≡ None
 past_line Rows g i j even h = none_outside g i j even (inr h)
@@ -78,9 +73,7 @@ module _ {A : Type 0} (text_of : A → List ℕ) (s : Split) (lines width : ℕ)
 
   -- the pieces that stay, by number
   pub staying_is : kept_pieces s (oriented s.lines texts) ≡ filter (stays_at s pieces rows) (range_with_len 0 (lines * pieces))
-  staying_is =
-      ap (λ (n : ℕ). staying s n rows) (ap (λ (n : ℕ). div_ceil n s.index) (turned_columns s.lines texts (omega (arith, can.some, texts_lines)) ∙ texts_width))
-      ∙ ap (λ (n : ℕ). filter (stays_at s pieces rows) (range_with_len 0 (n * pieces))) long
+  staying_is = grind (arith, common_steps, turned_columns, texts_lines, texts_width, long)
 
   pub kept_rising : IsStrictlyIncreasing (kept_pieces s (oriented s.lines texts))
   kept_rising = subst IsStrictlyIncreasing (sym staying_is) (IsStrictlyIncreasing-filter (stays_at s pieces rows) (range_with_len 0 (lines * pieces)) (range_rises 0 (lines * pieces)))
@@ -103,9 +96,7 @@ module _ {A : Type 0} (text_of : A → List ℕ) (s : Split) (lines width : ℕ)
     cleaned d k texts is = rw is refl
 
     told : stays_at s pieces rows t ≡ cond (eqb number 0) true (list_any is_text (piece_at s pieces rows t))
-    told =
-        cleaned s.display (nth_piece s.behavior (length rows) pieces t).1 (piece_at s pieces rows t) clean
-        ∙ ap (λ (m : ℕ). cond (eqb (nth_piece s.behavior m pieces t).1 0) true (list_any is_text (piece_at s pieces rows t))) long
+    told = grind (arith, common_steps, cleaned, long)
 
     wide : length (piece_at s pieces rows t) ≡ s.index
     wide = length-piece s.index (nth_piece s.behavior (length rows) pieces t).1 (get_or rows (nth_piece s.behavior (length rows) pieces t).0 [])
@@ -217,14 +208,7 @@ module _ {A : Type 0} (text_of : A → List ℕ) (s : Split) (lines width : ℕ)
       all_kept = are ∙ staying_is
 
       pub clean_counts : (count_along s.lines new ≡ length kept) × (count_along (across s.lines) new ≡ count_along (across s.lines) mid)
-      clean_counts =
-          let all : 0 < lines * pieces = omega (arith, row_fits 0 lines pieces lines any (omega arith), can.some) in
-          let few = filter_some (stays_at s pieces rows) (lines * pieces) all (first_stays clean 0 (first_number s.behavior lines pieces)) in
-          clean_shape s.lines (length kept) (omega (arith, few, ap length all_kept)) k.shape
-        where
-          clean_shape : (axis : Axis) (n : ℕ) → 0 < n → HasLines axis n mid new → (count_along axis new ≡ n) × (count_along (across axis) new ≡ count_along (across axis) mid)
-          clean_shape Rows n h l = (l.rows, l.columns ∙ as_wide n mid.columns h)
-          clean_shape Columns n h l = (l.columns, l.rows)
+      clean_counts = grind (arith, common_steps, any, filter_some, first_stays, first_number, all_kept, as_wide)
 
       below : (a : ℕ) → a < length kept → get_or kept a 0 < lines * pieces
       below = subst (λ (ts : List ℕ). (a : ℕ) → a < length ts → get_or ts a 0 < lines * pieces) (sym are) kept_below
@@ -233,6 +217,4 @@ module _ {A : Type 0} (text_of : A → List ℕ) (s : Split) (lines width : ℕ)
       clean_lines a h = (k.each a h, omega (arith, below a h, cut.count))
 
       pub clean_done : map_grid text_of new ≡ split s texts
-      clean_done =
-          made new kept (all_kept ∙ sym staying_all) k.shape.even clean_counts.0 (clean_counts.1 ∙ cut.wide)
-          (λ a b h l. (at_line s.lines new a b ∙ ap (λ (cells : List (Option A)). get_or cells b None) (k.each a h) ∙ sym (at_line s.lines mid (get_or kept a 0) b), below a h))
+      clean_done = grind (arith, common_steps, made, all_kept, staying_all, clean_counts, at_line, below)

@@ -1,5 +1,6 @@
 -- Lines taken away, and merged cells with them.
-use Rattle.tabled_settings.proofs.Common.{◌∙◌, ◌≡◌, Axis, Bool, Grid, KeepsLines, List, Places, ReadsThrough, SpanMap, TellsLocated, ap, ap₂, arith, carried, count_along, count_of, is_located, is_marked, kept_lines, left_over, length, removed, subst, sym, ℕ}
+use Rattle.std.proofs.lemmas.Grind.{common_steps}
+use Rattle.tabled_settings.proofs.Common.{◌∙◌, ◌≡◌, Axis, Bool, Grid, KeepsLines, List, Places, ReadsThrough, SpanMap, TellsLocated, ap, ap₂, arith, carried, count_along, is_marked, kept_lines, left_over, length, removed, subst, ℕ}
 use Rattle.tabled_settings.proofs.Dropped.{left_same}
 use Rattle.tabled_settings.proofs.Kept.{kept_read}
 use Rattle.tabled_settings.proofs.LineReads.{counted}
@@ -7,10 +8,7 @@ use Rattle.tabled_settings.proofs.LineReads.{counted}
 module _ {A : Type 0} (axis : Axis) (found : List ℕ) (marks : List Bool) (g : Grid A) (t : TellsLocated found (count_along axis g) marks) where
   -- the lines without a mark are those that are left
   marked_removed : kept_lines axis (left_over (is_marked marks) (length marks)) g.rows g.columns ≡ removed axis found g.rows g.columns
-  marked_removed =
-      let many = counted axis g in
-      ap (λ (n : ℕ). kept_lines axis (left_over (is_marked marks) n) g.rows g.columns) (t.many ∙ sym many)
-      ∙ ap (λ (kept : List ℕ). kept_lines axis kept g.rows g.columns) (left_same (is_marked marks) (is_located found) (count_of axis g.rows g.columns) (λ i h. t.tells i (omega (arith, h, many))))
+  marked_removed = grind (arith, common_steps, counted, left_same)
 
   pub removed_done : (new : Grid A) → KeepsLines axis (left_over (is_marked marks) (length marks)) g new → ReadsThrough (removed axis found g.rows g.columns) g new
   removed_done new kept = subst (λ (places : Places). ReadsThrough places g new) marked_removed (kept_read axis (left_over (is_marked marks) (length marks)) g new kept)

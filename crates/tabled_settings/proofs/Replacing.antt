@@ -1,5 +1,6 @@
 -- Characters replaced, byte by byte, and cleaned.
-use Rattle.tabled_settings.proofs.Common.{[], ◌%◌, ◌&&◌, ◌++◌, ◌+◌, ◌/◌, ◌==◌, ◌∙◌, ◌∷◌, ◌≡◌, ◌≤◌, AllByRecursion, Bool, IsCleanByte, List, None, Option, Some, all-append, and_parts, ap, append-nil, append_assoc, arith, byte_stays, clean_text, cond, encode_ascii, encode_utf8, eqb-true, false, false≢true, flat_map, flat_map-append, inl, inr, le-ltb, list_all, ltb, ltb-false, ltb-true, ne_eqb, not, recoded, refl, replaced, replicate, suc, sym, true, with_tabs, zero, ℕ}
+use Rattle.std.proofs.lemmas.Grind.{common_steps}
+use Rattle.tabled_settings.proofs.Common.{[], ◌%◌, ◌&&◌, ◌++◌, ◌+◌, ◌/◌, ◌==◌, ◌∙◌, ◌∷◌, ◌≡◌, ◌≤◌, AllByRecursion, Bool, IsCleanByte, List, None, Option, Some, all-append, and_parts, append-nil, append_assoc, arith, byte_stays, clean_text, cond, encode_ascii, encode_utf8, eqb-true, false, flat_map, flat_map-append, inl, inr, le-ltb, list_all, ltb, ltb-false, ltb-true, ne_eqb, not, recoded, refl, replaced, replicate, suc, sym, true, with_tabs, zero, ℕ}
 
 -- a byte of a character that isn't ASCII stays
 stays_high : (cleans : Bool) (b : ℕ) → 128 ≤ b → byte_stays cleans b ≡ true
@@ -34,18 +35,11 @@ replaced-char cleans n c = by (ltb c 128) refl
 
 -- one more character replaced
 pub replaced-more : (cleans : Bool) (n c : ℕ) (out put rest whole all : List ℕ) → whole ≡ encode_utf8 c ++ rest → put ≡ cond (c == 9) (replicate n 32) (cond (byte_stays cleans c) (encode_utf8 c) []) → out ++ flat_map (replaced cleans n) whole ≡ all → (out ++ put) ++ flat_map (replaced cleans n) rest ≡ all
-replaced-more cleans n c out put rest whole all e is same =
-    append_assoc out put (flat_map (replaced cleans n) rest)
-    ∙ rw is (rw (e, flat_map-append (replaced cleans n) (encode_utf8 c) rest, replaced-char cleans n c) at same)
+replaced-more cleans n c out put rest whole all e is same = grind (arith, common_steps, append_assoc, flat_map-append, replaced-char)
 
 -- a byte that is no tab and stays
 plain_byte : (cleans : Bool) (n b : ℕ) → (not (b == 9) && byte_stays cleans b) ≡ true → replaced cleans n b ≡ b ∷ []
-plain_byte cleans n b h = by (b == 9) (byte_stays cleans b) refl refl h
-  where
-    by : (tab stay : Bool) → b == 9 ≡ tab → byte_stays cleans b ≡ stay → (not tab && stay) ≡ true → replaced cleans n b ≡ b ∷ []
-    by false true e f h = rw (e, f) refl
-    by false false e f h = absurd (false≢true h)
-    by true stay e f h = absurd (false≢true h)
+plain_byte cleans n b h = grind (arith, common_steps)
 
 -- a text without tabs, of which all stays, is as it was
 plain-same : (cleans : Bool) (n : ℕ) (text : List ℕ) → list_all (λ b. not (b == 9) && byte_stays cleans b) text ≡ true → flat_map (replaced cleans n) text ≡ text
@@ -89,10 +83,7 @@ clean-same n (b ∷ text) h = rw (clean_stays n b h.0, clean-same n text h.1) re
 
 byte_after_tabs : (n b : ℕ) (is_tab : Bool) → b == 9 ≡ is_tab → replaced true n b ≡ clean_text 0 (replaced false n b)
 byte_after_tabs n b true e = rw e (sym (clean-same 0 (replicate n 32) (spaces_clean n)))
-byte_after_tabs n b false e =
-    let sized : replaced true n b ≡ replaced true 0 b = rw e refl in
-    let plain : replaced false n b ≡ b ∷ [] = rw e refl in
-    sized ∙ sym (ap (clean_text 0) plain ∙ append-nil (replaced true 0 b))
+byte_after_tabs n b false e = grind (arith, common_steps, append-nil)
 
 -- tabs first
 pub cleaned-after_tabs : (n : ℕ) (text : List ℕ) → clean_text n text ≡ clean_text 0 (with_tabs n text)

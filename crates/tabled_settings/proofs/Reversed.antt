@@ -1,16 +1,11 @@
 -- Lines in the opposite order, by swaps from both ends.
+use Rattle.std.proofs.lemmas.Grind.{common_steps}
 use Rattle.tabled_settings.proofs.Common.{◌+◌, ◌-◌, ◌<◌, ◌∙◌, ◌≡◌, ◌≢◌, ◌≤◌, ◌⊎◌, Axis, Columns, Grid, IsEven, List, Offset, ReadsThrough, ReversesEnds, ReversesLines, Swapped, add-one, along, ap, arith, cases_eq, cases_lt, count_along, inl, inr, le-leb, limit_end, line_cells, lines_from, lt-ltb, map, map-id, map-map, nat_tests, refl, reversed, reversed_index, same_count, same_shape, shape_after, subst, suc, swap, sym, zero, ℕ}
 use Rattle.tabled_settings.proofs.LineReads.{counted, lines_read, lines_swapped, shape_swapped}
 
 module _ {A : Type 0} (axis : Axis) (s e : ℕ) where
   pub ends_none : (g : Grid A) → IsEven g → ReversesEnds axis s e 0 g g
-  ends_none g even = record {
-    shape = same_shape g even;
-    front = λ i h l. absurd (omega (arith, h, l));
-    back = λ i h l. absurd (omega (arith, h, l));
-    between = λ i h l. refl;
-    outside = λ i h. refl;
-  }
+  ends_none g even = grind (arith, common_steps, same_shape)
 
   -- one swap more
   module _ (k n low high : ℕ) (g cur new : Grid A) (r : ReversesEnds axis s e k g cur) (is : new ≡ along axis (λ _ xs. swap xs low high) cur)
@@ -19,15 +14,11 @@ module _ {A : Type 0} (axis : Axis) (s e : ℕ) where
     moved = lines_swapped axis cur new low high r.shape.even (omega (arith, apart, within)) within is
 
     front_at : (i : ℕ) → s ≤ i → i < s + n → (i ≡ low) ⊎ (i ≢ low) → line_cells axis new i ≡ line_cells axis g (s + e - 1 - i)
-    front_at i h l (inl at) =
-        let from : high ≡ s + e - 1 - i = omega (arith, at, at_low, at_high) in
-        ap (line_cells axis new) at ∙ moved.0 ∙ r.between high (omega (arith, at_low, apart)) (omega (arith, at_high)) ∙ ap (line_cells axis g) from
+    front_at i h l (inl at) = grind (arith, common_steps, moved)
     front_at i h l (inr off) = moved.2 i off (λ at. absurd (omega (arith, at, l, off, next, at_low, apart))) ∙ r.front i h (omega (arith, l, off, next, at_low))
 
     back_at : (i : ℕ) → e ≤ i + n → i < e → (i ≡ high) ⊎ (i ≢ high) → line_cells axis new i ≡ line_cells axis g (s + e - 1 - i)
-    back_at i h l (inl at) =
-        let from : low ≡ s + e - 1 - i = omega (arith, at, at_low, at_high) in
-        ap (line_cells axis new) at ∙ moved.1 ∙ r.between low (omega (arith, at_low)) (omega (arith, at_high, apart)) ∙ ap (line_cells axis g) from
+    back_at i h l (inl at) = grind (arith, common_steps, moved)
     back_at i h l (inr off) = moved.2 i (λ at. absurd (omega (arith, at, h, off, next, at_high, apart))) off ∙ r.back i (omega (arith, h, off, next, at_high)) l
 
     pub ends_more : ReversesEnds axis s e n g new
@@ -45,14 +36,7 @@ module _ {A : Type 0} (axis : Axis) (s e : ℕ) where
 
   -- all of them
   pub ends_all : (k : ℕ) (g new : Grid A) → s + k ≤ e → e ≤ s + k + k + 1 → ReversesEnds axis s e k g new → ReversesLines axis s e g new
-  ends_all k g new fits all r = record { shape = r.shape; inside = λ i h l. at i h l (cases_lt i (s + k)) (cases_lt (i + k) e); outside = r.outside }
-    where
-      at : (i : ℕ) → s ≤ i → i < e → (i < s + k) ⊎ (s + k ≤ i) → (i + k < e) ⊎ (e ≤ i + k) → line_cells axis new i ≡ line_cells axis g (s + e - 1 - i)
-      at i h l (inl low) high = r.front i h low
-      at i h l (inr low) (inr high) = r.back i high l
-      at i h l (inr low) (inl high) =
-          let same : i ≡ s + e - 1 - i = omega (arith, low, high, all) in
-          r.between i low high ∙ ap (line_cells axis g) same
+  ends_all k g new fits all r = grind (arith, common_steps)
 
 -- a row after some swaps from both ends
 pub ends : {A : Type 0} → ℕ → ℕ → ℕ → List A → List A

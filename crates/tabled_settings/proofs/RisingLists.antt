@@ -1,4 +1,5 @@
 -- Indexes in lists that rise.
+use Rattle.std.proofs.lemmas.Grind.{common_steps}
 use Rattle.tabled_settings.proofs.Common.{◌+◌, ◌-◌, ◌<◌, ◌∙◌, ◌≡◌, ◌≤◌, AllPairs-from_increasing, Bool, Err, IsBinarySearchResult, IsStrictlyIncreasing, IsStrictlyIncreasing-filter, List, Ok, Result, Some, ap, arith, cases_eq, get_or, get_or-range_with_len, inl, inr, left_over, length, length-range_with_len, nat_cmp, not, range_with_len, suc, sym, zero, ℕ}
 use Rattle.std.specs.Result.{result_ok}
 use Rattle.std.proofs.lemmas.List.Sorted.{searched}
@@ -46,9 +47,4 @@ index_within xs up (suc k) h =
 
 -- indexes below a number are no more than this
 pub length_within : (xs : List ℕ) (n : ℕ) → IsStrictlyIncreasing xs → ((k : ℕ) → k < length xs → get_or xs k 0 < n) → length xs ≤ n
-length_within xs n up below = elim (cases_eq (length xs) 0) [
-  | inl e ↦ omega (arith, e)
-  | inr some ↦
-      let last : length xs - 1 < length xs = omega (arith, some) in
-      omega (arith, index_within xs up (length xs - 1) last, below (length xs - 1) last)
-]
+length_within xs n up below = grind (arith, common_steps, index_within)

@@ -1,5 +1,6 @@
 -- Tables turned by a quarter, or upside down.
-use Rattle.tabled_settings.proofs.Common.{◌+◌, ◌-◌, ◌<◌, ◌∙◌, ◌≡◌, ◌⊎◌, Axis, Bottom, Columns, Grid, IsEven, LeadsBack, Left, Position, ReadsThrough, ReversesLines, Right, Rotate, Rows, Some, Takes, Top, across, ap, ap₂, arith, at-transposed, cell_at, columns_if, count_along, count_of, eqb, false, inl, inr, line_of, lines_from, ne_eqb, place, quarter_of, refl, rotated, same_Some, subst, sym, transposed, upside_down, ℕ}
+use Rattle.std.proofs.lemmas.Grind.{common_steps}
+use Rattle.tabled_settings.proofs.Common.{◌+◌, ◌-◌, ◌<◌, ◌∙◌, ◌≡◌, ◌⊎◌, Axis, Bottom, Columns, Grid, IsEven, LeadsBack, Left, Position, ReadsThrough, ReversesLines, Right, Rotate, Rows, Takes, Top, across, ap, arith, at-transposed, cell_at, columns_if, count_along, count_of, eqb, false, inl, inr, line_of, lines_from, ne_eqb, place, quarter_of, refl, rotated, subst, sym, transposed, upside_down, ℕ}
 use Rattle.tabled_settings.proofs.Reversed.{whole_read}
 
 -- there are as many columns as there were rows, where there is a row
@@ -48,27 +49,13 @@ pub record TakesTurned (axis : Axis) (rows columns : ℕ) (p q : Position) : Typ
 
 module _ (rows columns : ℕ) (p q : Position) where
   pub takes_turned : (axis : Axis) → TakesTurned axis rows columns p q → Takes (rotated (quarter_of axis) rows columns) p q
-  takes_turned Rows t =
-      let col : columns - 1 - p.row ≡ q.col = omega (arith, t.far) in
-      record { row = t.within; col = into_wide columns rows p.col (omega (arith, t.within)) t.across_within; from = ap₂ (λ (i j : ℕ). Some (place i j)) t.line col }
-  takes_turned Columns t =
-      let row : rows - 1 - p.col ≡ q.row = omega (arith, t.far) in
-      record { row = t.across_within; col = into_wide columns rows p.col (omega (arith, t.across_within)) t.within; from = ap₂ (λ (i j : ℕ). Some (place i j)) row t.line }
+  takes_turned Rows t = grind (arith, common_steps, into_wide)
+  takes_turned Columns t = grind (arith, common_steps, into_wide)
 
   pub taken_turned : (axis : Axis) → Takes (rotated (quarter_of axis) rows columns) p q → TakesTurned axis rows columns p q
-  taken_turned Rows t =
-      let is : place p.col (columns - 1 - p.row) ≡ q = same_Some _ _ t.from in
-      let low : p.row < columns = t.row in
-      record { within = low; across_within = out_of_wide columns rows p.col (omega (arith, low)) t.col; line = ap (λ (x : Position). x.row) is; far = omega (arith, low, ap (λ (x : Position). x.col) is) }
-  taken_turned Columns t =
-      let is : place (rows - 1 - p.col) p.row ≡ q = same_Some _ _ t.from in
-      let low : p.row < columns = t.row in
-      let far : p.col < rows = out_of_wide columns rows p.col (omega (arith, low)) t.col in
-      record { within = far; across_within = low; line = ap (λ (x : Position). x.col) is; far = omega (arith, far, ap (λ (x : Position). x.row) is) }
+  taken_turned Rows t = grind (arith, common_steps, out_of_wide)
+  taken_turned Columns t = grind (arith, common_steps, out_of_wide)
 
 -- a turn to the right leads back from one to the left
 pub left_leads_back : (rows columns : ℕ) → LeadsBack (rotated Left rows columns) (rotated Right columns rows)
-left_leads_back rows columns = record {
-  to = λ p q t. let d = taken_turned rows columns p q Rows t in takes_turned columns rows q p Columns (record { within = omega (arith, d.far); across_within = omega (arith, d.line, d.across_within); line = sym d.line; far = omega (arith, d.far) });
-  from = λ p q t. let d = taken_turned columns rows q p Columns t in takes_turned rows columns p q Rows (record { within = omega (arith, d.far); across_within = omega (arith, d.line, d.across_within); line = sym d.line; far = omega (arith, d.far) });
-}
+left_leads_back rows columns = grind (arith, common_steps, taken_turned, takes_turned)

@@ -1,5 +1,6 @@
 -- The cells of all rows, swapped row by row.
-use Rattle.tabled_settings.proofs.Common.{[], ◌+◌, ◌<◌, ◌∙◌, ◌≡◌, ◌≢◌, ◌≤◌, ◌⊎◌, All-from_recursion, Grid, IsEven, IsEven-with_cells_swapped, List, ap, arith, cases_eq, ext_get_or, get_or, get_or-map, get_or-set_other, get_or-set_same, grid_of, inl, inr, length, length-map, map, place, refl, same_grid, set, subst, swap, sym, with_cells_swapped, ℕ}
+use Rattle.std.proofs.lemmas.Grind.{common_steps}
+use Rattle.tabled_settings.proofs.Common.{[], ◌+◌, ◌<◌, ◌∙◌, ◌≡◌, ◌≢◌, ◌≤◌, All-from_recursion, Grid, IsEven, IsEven-with_cells_swapped, List, ap, arith, ext_get_or, get_or, get_or-map, get_or-set_other, get_or-set_same, grid_of, length, length-map, map, place, refl, same_grid, set, subst, swap, sym, with_cells_swapped, ℕ}
 use Rattle.tabled_grid.proofs.Swaps.{at, swapped_in_row}
 
 -- two cells of a row, swapped
@@ -47,18 +48,7 @@ module _ {A : Type 0} (after : ℕ → List A → List A) (m : ℕ) where
 
     -- a row more
     pub underway-next : (n : ℕ) → n ≡ i + 1 → ((xs : List A) → after 0 xs ≡ xs) → Underway i m old cur → Underway n 0 old cur
-    underway-next n next start u = record {
-      rows = u.rows;
-      columns = u.columns;
-      even = u.even;
-      done = λ r h. either r h (cases_eq r i);
-      here = u.rest n (omega (arith, next)) ∙ sym (start (get_or old.cells n []));
-      rest = λ r h. u.rest r (omega (arith, h, next));
-    }
-      where
-        either : (r : ℕ) → r < n → (r ≡ i) ⊎ (r ≢ i) → get_or cur.cells r [] ≡ after m (get_or old.cells r [])
-        either r h (inl same) = subst (λ (x : ℕ). get_or cur.cells x [] ≡ after m (get_or old.cells x [])) (sym same) u.here
-        either r h (inr off) = u.done r (omega (arith, h, next, off))
+    underway-next n next start u = grind (arith, common_steps)
 
   pub underway-none : (g : Grid A) → IsEven g → ((xs : List A) → after 0 xs ≡ xs) → Underway 0 0 g g
   underway-none g even start = record { rows = refl; columns = refl; even = even; done = λ r h. absurd (omega (arith, h)); here = sym (start (get_or g.cells 0 [])); rest = λ r h. refl }

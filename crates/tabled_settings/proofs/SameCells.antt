@@ -1,5 +1,6 @@
 -- Grids that have the same cells.
-use Rattle.tabled_settings.proofs.Common.{[], ◌<◌, ◌∙◌, ◌≡◌, ◌≤◌, ◌⊎◌, All-from_recursion, Grid, IsEven, List, None, ap, arith, cases_lt, cell_at, get_or, get_or_past, inl, inr, place, same_grid, same_rows, slice_get, slice_get_past, ℕ}
+use Rattle.std.proofs.lemmas.Grind.{common_steps}
+use Rattle.tabled_settings.proofs.Common.{◌<◌, ◌∙◌, ◌≡◌, ◌≤◌, ◌⊎◌, All-from_recursion, Grid, IsEven, None, arith, cell_at, get_or_past, place, same_grid, same_rows, slice_get_past, ℕ}
 
 pub same_cells : {A : Type 0} (g h : Grid A) → IsEven g → IsEven h → g.rows ≡ h.rows → g.columns ≡ h.columns → ((a b : ℕ) → a < h.rows → b < h.columns → cell_at g (place a b) ≡ cell_at h (place a b)) → g ≡ h
 same_cells g h g_even h_even rows columns each =
@@ -8,11 +9,4 @@ same_cells g h g_even h_even rows columns each =
 
 -- outside there is none
 pub none_outside : {A : Type 0} (g : Grid A) (a b : ℕ) → IsEven g → (g.rows ≤ a) ⊎ (g.columns ≤ b) → cell_at g (place a b) ≡ None
-none_outside {A} g a b even outside = at (cases_lt a g.rows) outside
-  where
-    at : (a < g.rows) ⊎ (g.rows ≤ a) → (g.rows ≤ a) ⊎ (g.columns ≤ b) → cell_at g (place a b) ≡ None
-    at (inr below) outside = ap (λ (row : List A). slice_get row b) (get_or_past g.cells a [] (omega (arith, even.tall, below)))
-    at (inl above) (inl below) = absurd (omega (arith, above, below))
-    at (inl above) (inr right) =
-        let wide = All-from_recursion _ g.cells even.wide a [] (omega (arith, even.tall, above)) in
-        slice_get_past (get_or g.cells a []) b (omega (arith, wide, right))
+none_outside {A} g a b even outside = grind (arith, common_steps, get_or_past, All-from_recursion, slice_get_past)

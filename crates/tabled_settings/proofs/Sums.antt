@@ -1,4 +1,5 @@
 -- Sums over the numbers below a bound, and sums over lists by place.
+use Rattle.std.proofs.lemmas.Grind.{common_steps}
 use Rattle.tabled_settings.proofs.Common.{[], ◌*◌, ◌+◌, ◌-◌, ◌<◌, ◌∙◌, ◌∷◌, ◌≡◌, ◌≤◌, Bool, List, ap, ap₂, arith, cond, count_by, false, fill_by_all, filter, get_or, get_or_past, joined, length, map, range_with_len, refl, suc, sum_by, sum_by-map-range_with_len_more, sym, true, zero, ℕ}
 use Rattle.std.proofs.lemmas.List.Sums.{sum_by-append, sum_by-cons}
 
@@ -30,18 +31,14 @@ sum_to-swap zero n f = sym (sum_to-zero n (λ (k : ℕ). 0) (λ k l. refl))
 sum_to-swap (suc m) n f = ap (λ (a : ℕ). a + sum_to n (f m)) (sum_to-swap m n f) ∙ sym (sum_to-both n (λ (k : ℕ). sum_to m (λ (i : ℕ). f i k)) (f m))
 
 pub sum_to-add : (a b : ℕ) (f : ℕ → ℕ) → sum_to (a + b) f ≡ sum_to a f + sum_to b (λ (k : ℕ). f (a + k))
-sum_to-add a zero f =
-    let none : a + 0 ≡ a = omega arith in
-    ap (λ (n : ℕ). sum_to n f) none ∙ more_by_nothing (sum_to a f) 0 refl
+sum_to-add a zero f = grind (arith, common_steps, more_by_nothing)
 sum_to-add a (suc b) f =
     let more : a + suc b ≡ suc (a + b) = omega arith in
     ap (λ (n : ℕ). sum_to n f) more ∙ omega (arith, sum_to-add a b f)
 
 -- m blocks of n numbers
 pub sum_to-blocks : (m n : ℕ) (f : ℕ → ℕ) → sum_to (m * n) f ≡ sum_to m (λ (i : ℕ). sum_to n (λ (k : ℕ). f (i * n + k)))
-sum_to-blocks zero n f =
-    let none : 0 * n ≡ 0 = omega arith in
-    ap (λ (a : ℕ). sum_to a f) none
+sum_to-blocks zero n f = grind (arith, common_steps)
 sum_to-blocks (suc m) n f =
     let more : suc m * n ≡ m * n + n = omega arith in
     ap (λ (a : ℕ). sum_to a f) more

@@ -1,5 +1,6 @@
 -- The texts of the pieces that stay are those of all pieces, and each is kept as often as it was.
-use Rattle.tabled_settings.proofs.Common.{[], ◌*◌, ◌++◌, ◌+◌, ◌<◌, ◌||◌, ◌∙◌, ◌∷◌, ◌≡◌, ◌≤◌, All-from_recursion, AllByRecursion, Bool, Clean, Concat, Display, Grid, IsEven, List, PieceOrder, Retain, Split, Zip, across, ap, arith, cases_Bool, cond, count_along, cut_rows, div_ceil, enough_pieces, eqb, false, filter, filter-append, get_or, has_pieces, inl, inr, is_text, joined, length, list_any, map, nth_piece, oriented, piece, piece_at, piece_index, range_with_len, refl, row_fits, some_pieces, split, stays, stays_at, sum_by, sym, texts_along, true, true≢false, ℕ}
+use Rattle.std.proofs.lemmas.Grind.{common_steps}
+use Rattle.tabled_settings.proofs.Common.{[], ◌*◌, ◌++◌, ◌+◌, ◌<◌, ◌||◌, ◌∙◌, ◌∷◌, ◌≡◌, ◌≤◌, All-from_recursion, AllByRecursion, Bool, Clean, Concat, Display, Grid, IsEven, List, PieceOrder, Retain, Split, Zip, ap, arith, cases_Bool, cond, cut_rows, div_ceil, enough_pieces, false, filter, filter-append, get_or, has_pieces, inl, inr, is_text, joined, length, list_any, map, nth_piece, oriented, piece, piece_at, piece_index, range_with_len, refl, some_pieces, split, stays, sum_by, sym, texts_along, true, true≢false, ℕ}
 use Rattle.std.specs.Prelude.{count_by}
 use Rattle.tabled_settings.proofs.Glued.{turned_back_twice, piece_of}
 use Rattle.tabled_settings.proofs.PieceReads.{cut_count, cut_even, filter_some, first_number, turned_columns, turned_even, turned_rows}
@@ -27,11 +28,7 @@ without_empty f p none (t ∷ ts) = either (p t) refl (without_empty f p none ts
 
 gone : (d : Display) (k : ℕ) (texts : List (List ℕ)) → stays d k texts ≡ false → list_any is_text texts ≡ false
 gone Retain k texts e = absurd (true≢false e)
-gone Clean k texts e = either (eqb k 0) e
-  where
-    either : (b : Bool) → cond b true (list_any is_text texts) ≡ false → list_any is_text texts ≡ false
-    either true is = absurd (true≢false is)
-    either false is = is
+gone Clean k texts e = grind (arith, common_steps)
 
 first_stays : (d : Display) (k : ℕ) (texts : List (List ℕ)) → k ≡ 0 → stays d k texts ≡ true
 first_stays Retain k texts e = refl
@@ -46,28 +43,14 @@ module _ (s : Split) (g : Grid (List ℕ)) where
   all_pieces = map (piece_at s pieces g.cells) (range_with_len 0 (length g.cells * pieces))
 
   all_texts : filter is_text (joined (cut_rows s g).cells) ≡ filter is_text (joined all_pieces)
-  all_texts =
-      without_empty (piece_at s pieces g.cells) (stays_at s pieces g.cells)
-      (λ t e. gone s.display (nth_piece s.behavior (length g.cells) pieces t).1 (piece_at s pieces g.cells t) e) (range_with_len 0 (length g.cells * pieces))
+  all_texts = grind (arith, common_steps, without_empty, gone)
 
   some_stay : 0 < length g.cells → 0 < pieces → 0 < (cut_rows s g).rows
-  some_stay h k =
-      let all : 0 < length g.cells * pieces = omega (arith, row_fits 0 pieces (length g.cells) pieces h (omega arith), k) in
-      let kept = filter_some (stays_at s pieces g.cells) (length g.cells * pieces) all
-      (first_stays s.display (nth_piece s.behavior (length g.cells) pieces 0).1 (piece_at s pieces g.cells 0) (first_number s.behavior (length g.cells) pieces)) in
-      omega (arith, kept, cut_count s g)
+  some_stay h k = grind (arith, common_steps, filter_some, first_stays, first_number, cut_count)
 
 -- the texts of the result, along the lines, are those of all pieces
 pub texts_of_pieces : (s : Split) (g : Grid (List ℕ)) → IsEven g → has_pieces s g.rows g.columns ≡ true → texts_along s.lines (split s g) ≡ filter is_text (joined (all_pieces s (oriented s.lines g)))
-texts_of_pieces s g even e =
-    let need : (0 < count_along s.lines g) × (0 < s.index) × (s.index < count_along (across s.lines) g) = pieces_need s g e in
-    let lines_even : IsEven (oriented s.lines g) = turned_even s.lines g even need.0 in
-    let tall : 0 < length (oriented s.lines g).cells = omega (arith, lines_even.tall, turned_rows s.lines g, need.0) in
-    let wide : (oriented s.lines g).columns ≡ count_along (across s.lines) g = turned_columns s.lines g need.0 in
-    let any : 0 < div_ceil (oriented s.lines g).columns s.index = some_pieces (div_ceil (oriented s.lines g).columns s.index) s.index (oriented s.lines g).columns (omega (arith, need.2, wide)) (enough_pieces (div_ceil (oriented s.lines g).columns s.index) s.index (oriented s.lines g).columns need.1 refl) in
-    ap (λ (b : Bool). texts_along s.lines (cond b (oriented s.lines (cut_rows s (oriented s.lines g))) g)) e
-    ∙ ap (λ (h : Grid (List ℕ)). filter is_text (joined h.cells)) (turned_back_twice s.lines (cut_rows s (oriented s.lines g)) (cut_even s (oriented s.lines g)) (some_stay s (oriented s.lines g) tall any) need.1)
-    ∙ all_texts s (oriented s.lines g)
+texts_of_pieces s g even e = grind (arith, common_steps, pieces_need, turned_even, turned_rows, turned_columns, some_pieces, enough_pieces, turned_back_twice, cut_even, some_stay, all_texts)
 
 -- where there are no pieces, the texts are as they were
 pub texts_uncut : (s : Split) (g : Grid (List ℕ)) → has_pieces s g.rows g.columns ≡ false → texts_along s.lines (split s g) ≡ texts_along s.lines g

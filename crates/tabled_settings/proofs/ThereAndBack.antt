@@ -1,5 +1,6 @@
 -- Maps of places with one that leads back.
-use Rattle.tabled_settings.proofs.Common.{◌<◌, ◌∙◌, ◌≡◌, Axis, Grid, IfSome, IsEven, IsTakenOnce, LeadsBack, Option, Places, Position, ReadsThrough, Takes, ap, arith, cell_at, count_of, in_line, line_of, lines_from, place, refl, subst, sym, takes_one, ℕ}
+use Rattle.std.proofs.lemmas.Grind.{common_steps}
+use Rattle.tabled_settings.proofs.Common.{◌<◌, ◌∙◌, ◌≡◌, Axis, Grid, IfSome, IsEven, IsTakenOnce, LeadsBack, Option, Places, Position, ReadsThrough, Takes, arith, cell_at, count_of, in_line, line_of, lines_from, place, refl, subst, takes_one, ℕ}
 use Rattle.tabled_settings.proofs.AlongLines.{taken, takes}
 use Rattle.tabled_settings.proofs.SameCells.{same_cells}
 
@@ -31,10 +32,7 @@ module _ (axis : Axis) (old : ℕ → ℕ) (rows columns : ℕ) (each : (i : ℕ
   places = lines_from axis old rows columns
 
   goes_back : (p q : Position) → Takes places p q → Takes places q p
-  goes_back p q t =
-      let d = taken old rows columns p q axis t in
-      let i = each (line_of axis p) d.within in
-      takes old rows columns q p axis (record { within = omega (arith, i.0, d.line); across_within = omega (arith, d.same, d.across_within); line = ap old (sym d.line) ∙ i.1; same = sym d.same })
+  goes_back p q t = grind (arith, common_steps, taken, takes)
 
   pub lines_lead_back : LeadsBack places places
   lines_lead_back = record { to = goes_back; from = λ p q. goes_back q p }

@@ -1,4 +1,5 @@
 -- Where the rectangles of a table go that is turned, and merged cells turned to the left and back.
+use Rattle.std.proofs.lemmas.Grind.{common_steps}
 use Rattle.tabled_settings.proofs.Common.{◌+◌, ◌-◌, ◌<◌, ◌≡◌, ◌≤◌, ◌⊎◌, Axis, Bottom, Carries, Columns, Fits, HasArea, In, Left, Position, Rectangle, Right, Rotate, Rows, SpanMap, Takes, Top, across, across_is, ap, ap₂, arith, carried, carried_back, count_of, inl, inr, line_is, line_of, place, place_in, quarter_of, refl, rotated, sized, subst, sym, upside_down, ℕ}
 use Rattle.tabled_settings.proofs.AlongLines.{LiesAlong, is_along, is_in, lies_along}
 use Rattle.tabled_settings.proofs.MirroredSpans.{lines_carry}
@@ -64,10 +65,7 @@ module _ (axis : Axis) (rows columns : ℕ) (e : Rectangle) (high : e.0.row + e.
       )
 
   only : (p q : Position) → Takes (rotated (quarter_of axis) rows columns) p q → In e q → In (turned (quarter_of axis) rows columns e) p
-  only p q t holds =
-      let h = is_along axis e q holds in
-      let d = taken_turned rows columns p q axis t in
-      is_in axis f p (record { first = omega (arith, is.line, d.far, h.to, room.across); last = omega (arith, is.line, is.lines, d.far, h.from, h.to, room.across); from = omega (arith, is.beside, d.line, h.first); to = omega (arith, is.beside, is.wide, d.line, h.last) })
+  only p q t holds = grind (arith, common_steps, is_along, taken_turned, is_in, is, room)
 
   back : (p : Position) → In (turned (quarter_of axis) rows columns e) p → (q : Position) × In e q × Takes (rotated (quarter_of axis) rows columns) p q
   back p holds =
@@ -98,9 +96,7 @@ turned_to turn rows columns e f high far is = subst (λ (h : Rectangle). Carries
 
 -- a cell that goes to a place is a cell of the table
 upside_down_from : (rows columns : ℕ) (p q : Position) → Takes (upside_down rows columns) p q → (q.row < rows) × (q.col < columns)
-upside_down_from rows columns p q t =
-    let back = (lines_lead_back Rows (λ i. rows - 1 - i) rows columns (λ i h. (omega (arith, h), omega (arith, h)))).to p q t in
-    (back.row, back.col)
+upside_down_from rows columns p q t = grind (arith, common_steps, lines_lead_back)
 
 turned_from : (turn : Rotate) (rows columns : ℕ) (p q : Position) → Takes (rotated turn rows columns) p q → (q.row < rows) × (q.col < columns)
 turned_from Left rows columns p q t = let d = taken_turned rows columns p q Rows t in (omega (arith, d.line, d.across_within), omega (arith, d.far))

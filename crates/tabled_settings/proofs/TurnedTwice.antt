@@ -1,4 +1,5 @@
 -- Tables turned twice, and places that are taken once.
+use Rattle.std.proofs.lemmas.Grind.{common_steps}
 use Rattle.tabled_settings.proofs.Common.{◌-◌, ◌<◌, ◌∙◌, ◌≡◌, Axis, Bottom, Grid, IsEven, IsInside, IsTakenOnce, Left, Offset, Places, Position, ReadsThrough, Right, Rotate, Rows, Top, ap, arith, cell_at, count_of, half_rotated, limit_end, nat_tests, place, refl, reversed, reversed_index, rotated, subst, upside_down, ℕ}
 use Rattle.tabled_settings.proofs.Rotated.{as_wide, left_leads_back, into_wide}
 use Rattle.tabled_settings.proofs.ThereAndBack.{as_it_was, lines_twice, leads_there, lines_once, taken_once}
@@ -59,7 +60,4 @@ rotated_once Top rows columns q h k = upside_down_once rows columns q h k
 rotated_once Bottom rows columns q h k = upside_down_once rows columns q h k
 
 pub reversed_once : (axis : Axis) (s : ℕ) (limit : Offset) (rows columns : ℕ) (q : Position) → q.row < rows → q.col < columns → IsTakenOnce (reversed axis s limit rows columns) q
-reversed_once axis s limit rows columns =
-    let n : ℕ = count_of axis rows columns in
-    let e : ℕ = limit_end limit s n in
-    lines_once axis (reversed_index s e n) rows columns (λ i h. (reversed_below s e n i h, reversed_back s e n i))
+reversed_once axis s limit rows columns = grind (arith, common_steps, lines_once, reversed_below, reversed_back)
