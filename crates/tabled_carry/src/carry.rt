@@ -85,7 +85,6 @@ fn carry<M: MovesRectangles>(moves: &M, anchors: &mut Vec<Rectangle>, rows: usiz
     ensures anchors { AreAnchors anchors.new.items }
     ensures image { from_sorted anchors.new.items ≡ image (M.places moves.now) (from_sorted anchors.old.items) }
 {
-    let _size = (rows, columns);
     let mut count = 0;
     for index in 0..anchors.len() {
         if let Some(image) = moves.new_rectangle(anchors[index]) {

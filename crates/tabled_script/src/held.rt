@@ -13,10 +13,14 @@ use tabled_grid::records::CellText;
 use tabled_language::LentText;
 
 /// How many bytes are held before they are written.
-pub(crate) const PART: usize = 4_096;
+pub(crate) const PART: usize = 8_192;
 
-/// Room for the bytes that are held, fewer than two parts have, and for those of a further part, all escaped.
-pub(crate) const ROOM: usize = 4 * PART;
+/// How many bytes of a text are escaped at once.
+pub(crate) const PIECE: usize = 1_024;
+
+/// Room for a part and a piece, and for a further piece, all escaped.
+// All room is cleared at the start, so it is little more than a part.
+pub(crate) const ROOM: usize = PART + 3 * PIECE;
 
 /// Bytes that are held. A contract sees it as their list.
 // To put bytes in their places takes a third of the time of adding them to a vector, which asks each time whether
@@ -133,13 +137,13 @@ fn hold_number(held: &mut Held, number: usize)
     hold_byte(held, b'0' + (number % 10) as u8);
 }
 
-/// Holds a tab, and the word that stands for a text, where the text and what is held are less than a part. Says
-/// whether it did.
+/// Holds a tab, and the word that stands for a text, where the text and what is held are less than a part, and what
+/// has to be escaped is no more than a piece. Says whether it did.
 // It only says yes or no: a result of writing would be made, and looked at, for each text.
 pub(crate) fn hold_word(held: &mut Held, text: &LentText) -> bool
     ensures word { IsTrue result → held.new ≡ held.old ++ 9 ∷ escaped (bytes_of text.now) }
     ensures text { IsTrue result → IsUtf8 (bytes_of text.now) }
-    ensures less { IsTrue result → length held.new < 2 * PART }
+    ensures less { IsTrue result → length held.new < PART + PIECE }
     ensures unheld { IsFalse result → held.new ≡ held.old }
 {
     match text.as_word() {
@@ -152,7 +156,7 @@ pub(crate) fn hold_word(held: &mut Held, text: &LentText) -> bool
         }
         None => {
             let bytes = text.text().as_bytes();
-            if PART <= held.len + bytes.len() {
+            if PIECE < bytes.len() || PART <= held.len + bytes.len() {
                 return false;
             }
             hold_byte(held, b'\t');

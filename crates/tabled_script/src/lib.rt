@@ -1,21 +1,13 @@
 //! The script program: tables made and changed by the lines of a script.
 #![tactic(auto)]
 
-#[cfg(test)]
-mod faults;
 mod form;
-#[cfg(test)]
-mod gallery;
 mod held;
 pub mod laws;
 mod output;
 mod picture;
 mod program;
 mod respond;
-#[cfg(test)]
-mod streams;
-#[cfg(test)]
-mod tests;
 mod watched;
 
 pub use program::{draw_script, run_script};

@@ -3,7 +3,7 @@
 ghost use Rattle.std.specs.FinMap.{entries};
 ghost use Rattle.std.specs.Io.KnownBytes.{Appends};
 ghost use Rattle.std.specs.List.{AllByRecursion, flat_map};
-ghost use Rattle.std.specs.Prelude.{◌≡◌, ◌<◌, ◌≤◌, ◌*◌, [], ◌∷◌, ◌++◌, codes, length, map, OnOk};
+ghost use Rattle.std.specs.Prelude.{◌≡◌, ◌<◌, ◌≤◌, ◌+◌, [], ◌∷◌, ◌++◌, codes, length, map, OnOk};
 ghost use Rattle.std.specs.Str.{IsUtf8};
 ghost use Rattle.tabled_grid.specs.Grid.{IsEven, grid_of, map_items, width_of};
 ghost use Rattle.tabled_language.specs.Lent.{bytes_of};
@@ -14,7 +14,9 @@ ghost use Rattle.tabled_script.specs.InMemory.{state_in, texts_in};
 ghost use Rattle.tabled_script.specs.Sent.{Sends};
 
 use crate::form::Form;
-use crate::held::{Held, PART, hold_byte, hold_bytes, hold_escaped, hold_numbers, hold_word, send};
+use crate::held::{
+    Held, PART, PIECE, hold_byte, hold_bytes, hold_escaped, hold_numbers, hold_word, send,
+};
 use std::alloc::{AllocError, Global};
 use std::io::{self, Write};
 use tabled_grid::config::SpannedConfig;
@@ -102,16 +104,16 @@ fn write_row<W: Write>(writer: &mut W, held: &mut Held, texts: &[LentText]) -> i
 
 /// Writes, or holds, a tab, and the word that stands for a text.
 fn write_word<W: Write>(writer: &mut W, held: &mut Held, text: &str) -> io::Result<()>
-    requires { length held.old < 2 * PART }
+    requires { length held.old < PART + PIECE }
     ensures sends { OnOk result (Sends (W.contents writer.old) held.old (W.contents writer.new) held.new (9 ∷ escaped text.now)) }
     ensures less { OnOk result (length held.new < PART) }
 {
     hold_byte(held, b'\t');
     let mut rest = text.as_bytes();
     // No more is held than there is room for.
-    while rest.len() > PART {
-        let (part, others) = rest.split_at(PART);
-        hold_escaped(held, part);
+    while rest.len() > PIECE {
+        let (piece, others) = rest.split_at(PIECE);
+        hold_escaped(held, piece);
         send(writer, held)?;
         rest = others;
     }

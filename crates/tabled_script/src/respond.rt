@@ -116,10 +116,7 @@ fn fault_line(alloc: Global, fault: (usize, Fault)) -> Result<String, AllocError
 }
 
 /// The status of what was answered. Where memory ran out, that is written.
-pub(crate) fn finish<W: Write>(
-    writer: &mut W,
-    answered: Result<(io::Result<()>, u8), AllocError>,
-) -> u8
+fn finish<W: Write>(writer: &mut W, answered: Result<(io::Result<()>, u8), AllocError>) -> u8
     ensures { Finishes answered result (W.contents writer.old) (W.contents writer.new) }
 {
     let (written, status) = match answered {

@@ -1,8 +1,10 @@
-//! Tests of settings, of steps and of pictures.
+//! Tests of settings, of steps, of pictures and of scripts.
 #![tactic(auto)]
 
 #[cfg(test)]
 mod draw;
+#[cfg(test)]
+mod script;
 #[cfg(test)]
 mod settings;
 #[cfg(test)]

@@ -6,15 +6,15 @@ pub loop-rest-preserved : goal.loop-rest-preserved
 loop-rest-preserved g c =
     let contents = g.W.Write.contents in
     let i = c.loop-rest.invariant.sends in
-    let part = c.split_at.result.0.now in
+    let piece = c.split_at.result.0.now in
     let others = c.split_at.result.1.now in
-    let whole : part ++ others ≡ c.loop-rest.rest.now = rw (c.split_at.ensures.front, c.split_at.ensures.back) (take-append-drop 4_096 c.loop-rest.rest.now) in
+    let whole : piece ++ others ≡ c.loop-rest.rest.now = rw (c.split_at.ensures.front, c.split_at.ensures.back) (take-append-drop 1_024 c.loop-rest.rest.now) in
     record {
       sends = (
-        i.0 ++ escaped part,
+        i.0 ++ escaped piece,
         sends_next (contents c.args.writer.now) (contents c.loop-rest.writer) (contents c.send.new.writer) c.args.held.now c.loop-rest.held c.hold_escaped.new.held c.send.new.held
-            i.0 (escaped part) (i.0 ++ escaped part) i.1 c.hold_escaped.ensures.bytes c.in_ok-send.ensures.sends refl,
-        append_assoc i.0 (escaped part) (escaped others) ∙ ap (λ bytes. i.0 ++ bytes) (sym (flat_map-append escaped_byte part others) ∙ ap escaped whole) ∙ i.2,
+            i.0 (escaped piece) (i.0 ++ escaped piece) i.1 c.hold_escaped.ensures.bytes c.in_ok-send.ensures.sends refl,
+        append_assoc i.0 (escaped piece) (escaped others) ∙ ap (λ bytes. i.0 ++ bytes) (sym (flat_map-append escaped_byte piece others) ∙ ap escaped whole) ∙ i.2,
       );
       less = omega (arith, c.in_ok-send.ensures.less);
     }

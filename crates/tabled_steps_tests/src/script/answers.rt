@@ -1,10 +1,8 @@
 //! Scripts run over readers and writers in memory.
 
-use crate::respond::finish;
-use crate::{draw_script, run_script};
 use std::alloc::{AllocError, Global};
-use std::io::{self, ErrorKind};
 use std::test::Fail;
+use tabled_script::{draw_script, run_script};
 
 /// The status for a script, and what was written.
 pub(crate) fn answer(alloc: Global, script: &[u8]) -> (u8, Vec<u8>) {
@@ -294,21 +292,6 @@ fn draws_scripts(rt: HostRuntime) -> Result<(), Fail> {
             "{script:?}"
         );
         assert_eq!(rt; written.as_slice(), picture.as_bytes());
-    }
-    Ok(())
-}
-
-#[test]
-fn says_how_it_ended(rt: HostRuntime) -> Result<(), Fail> {
-    for &(answered, status, bytes) in &[
-        (Ok((Ok(()), 0)), 0, ""),
-        (Ok((Ok(()), 2)), 2, ""),
-        (Ok((Err(io::Error::from(ErrorKind::BrokenPipe)), 0)), 4, ""),
-        (Err(AllocError), 3, "out of memory\n"),
-    ] {
-        let mut written = Vec::new(rt.alloc());
-        assert_eq!(rt; finish(&mut written, answered), status);
-        assert_eq!(rt; written.as_slice(), bytes.as_bytes());
     }
     Ok(())
 }

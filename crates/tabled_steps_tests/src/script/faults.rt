@@ -1,6 +1,6 @@
 //! What the program reads, and each fault of each of its words.
 
-use crate::tests::{answer, gives};
+use super::answers::{answer, gives};
 use std::alloc::{AllocError, Global};
 use std::test::Fail;
 

@@ -2,11 +2,11 @@
 
 mod cases;
 
-use crate::draw_script;
-use crate::tests::{ends_well, gives};
+use super::answers::{ends_well, gives};
 use cases::{BEFORE, EXAMPLES};
 use std::alloc::Global;
 use std::test::Fail;
+use tabled_script::draw_script;
 
 #[test]
 fn prints_what_the_examples_show(rt: HostRuntime) -> Result<(), Fail> {

@@ -1,0 +1,6 @@
+//! Tests of scripts, by public calls alone.
+
+mod answers;
+mod faults;
+mod gallery;
+mod streams;
