@@ -138,7 +138,7 @@ fn hold_number(held: &mut Held, number: usize)
 }
 
 /// Holds a tab, and the word that stands for a text, where the text and what is held are less than a part, and what
-/// has to be escaped is no more than a piece. Says whether it did.
+/// has to be escaped is less than a piece. Says whether it did.
 // It only says yes or no: a result of writing would be made, and looked at, for each text.
 pub(crate) fn hold_word(held: &mut Held, text: &LentText) -> bool
     ensures word { IsTrue result → held.new ≡ held.old ++ 9 ∷ escaped (bytes_of text.now) }
@@ -156,7 +156,7 @@ pub(crate) fn hold_word(held: &mut Held, text: &LentText) -> bool
         }
         None => {
             let bytes = text.text().as_bytes();
-            if PIECE < bytes.len() || PART <= held.len + bytes.len() {
+            if PIECE <= bytes.len() || PART <= held.len + bytes.len() {
                 return false;
             }
             hold_byte(held, b'\t');
