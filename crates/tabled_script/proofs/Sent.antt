@@ -1,5 +1,5 @@
 -- Bytes that are held, and then written.
-use Rattle.tabled_script.proofs.Common.{[], ◌++◌, ◌∙◌, ◌≡◌, Appends, List, Option, Sends, ap, append-nil, append_assoc, refl, subst, sym, ℕ}
+use Rattle.tabled_script.proofs.Common.{[], ◌++◌, ◌∙◌, ◌≡◌, List, Option, Sends, ap, append-nil, append_assoc, subst, sym, ℕ}
 use Rattle.std.proofs.KnownBytes.{Appends-nil, Appends-trans}
 
 -- bytes that are held
