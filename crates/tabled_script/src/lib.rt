@@ -8,6 +8,10 @@ mod output;
 mod picture;
 mod program;
 mod respond;
+#[cfg(test)]
+mod streams;
+#[cfg(test)]
+mod tests;
 mod watched;
 
 pub use program::{draw_script, run_script};

@@ -116,7 +116,10 @@ fn fault_line(alloc: Global, fault: (usize, Fault)) -> Result<String, AllocError
 }
 
 /// The status of what was answered. Where memory ran out, that is written.
-fn finish<W: Write>(writer: &mut W, answered: Result<(io::Result<()>, u8), AllocError>) -> u8
+pub(crate) fn finish<W: Write>(
+    writer: &mut W,
+    answered: Result<(io::Result<()>, u8), AllocError>,
+) -> u8
     ensures { Finishes answered result (W.contents writer.old) (W.contents writer.new) }
 {
     let (written, status) = match answered {

@@ -3,4 +3,3 @@
 mod answers;
 mod faults;
 mod gallery;
-mod streams;

@@ -1,8 +1,10 @@
 //! Scripts run over readers and writers that give and take little, fail, or are interrupted.
 
+use crate::respond::finish;
+use crate::run_script;
+use std::alloc::AllocError;
 use std::io::{self, ErrorKind, Read, Write};
 use std::test::Fail;
-use tabled_script::run_script;
 
 /// Counts calls down, and fails at one of them.
 #[derive(Drop, Clone, Copy)]
@@ -105,6 +107,7 @@ fn what_is_written_is_flushed_or_failed(rt: HostRuntime) -> Result<(), Fail> {
     for &(script, status, output) in &[
         ("row\ta\n", 0, "shape\t1\t1\nrow\ta\n"),
         ("spin\n", 2, "line 1: fault 1\n"),
+        ("", 3, "out of memory\n"),
     ] {
         for at_most in [1, 5, 64] {
             // n writes, and to flush.
@@ -117,8 +120,12 @@ fn what_is_written_is_flushed_or_failed(rt: HostRuntime) -> Result<(), Fail> {
                         held: Vec::new(alloc),
                         flushed: Vec::new(alloc),
                     };
-                    let mut reader = script.as_bytes();
-                    let answered = run_script(alloc, &mut reader, &mut writer);
+                    let answered = if status == 3 {
+                        finish(&mut writer, Err(AllocError))
+                    } else {
+                        let mut reader = script.as_bytes();
+                        run_script(alloc, &mut reader, &mut writer)
+                    };
                     let is_written = kind == ErrorKind::Interrupted && before + 1 < calls;
                     if is_written || before >= calls {
                         assert_eq!(rt;
