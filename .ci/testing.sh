@@ -7,52 +7,41 @@ trap 'chmod -R u+w "$room"; rm -rf "$room"' EXIT
 chmod 755 "$room"
 mkdir "$room/elsewhere"
 
-# What is said beside the answer of an unproved run and of a proof, and of a fault.
-unproved='*runs unproved*--prove*about * minutes*'
-proving='*proving and building*about * minutes*'
-explained='tabled_script: ./tabled_script --explain *'
 failed_call='*reading or writing failed'
-
 table=$'shape\t1\t2\nrow\ta\tx'
-run='"$1" <<< "row	a	b
-set	cell	0	1	x"'
+run='"$1" set cell 0 1 x <<< "row	a	b"'
 
 tell() {
-    local name=$1 what=$2
-    if [ -z "$what" ]; then
+    if [ -z "$2" ]; then
         passed=$((passed + 1))
-        echo "tabled_script: $name ... ok"
+        echo "tabled_script: $1 ... ok"
     else
         failed=$((failed + 1))
-        echo "tabled_script: $name ... FAILED: $what"
+        echo "tabled_script: $1 ... FAILED: $2"
     fi
 }
 
-# Runs a command in a shell, and asks for its status and for what it writes; may do so beside others.
-begin() {
-    local name=$1 want=$2 output=$3 message=$4 shell=$5 got what='' said
-    said=$(mktemp -d -p "$room")
-    bash -c "$shell" -- "$wrapper" "$checkout" < /dev/null > "$said/out" 2> "$said/err"
-    got=$?
-    [ "$got" = "$want" ] && [ "$(< "$said/out")" = "$output" ] && [[ $(< "$said/err") == $message ]] ||
-        what="status $got for $want, and it wrote:"$'\n'$(tail -n 5 "$said/out" "$said/err" | cut -c 1-300)
-    printf '%s\n%s' "$name" "$what" > "$said/found"
-}
-
-# Tells what the tests that were begun since then found.
-end() {
-    local it name
-    wait
-    for it in "$room"/*/found; do
-        name=$(head -n 1 "$it")
-        tell "$name" "$(tail -n +2 "$it")"
-        rm "$it"
-    done
-}
-
+# Runs a command in a shell, and asks for its status and for what it writes.
 ends_with() {
-    begin "$@"
-    end
+    local name=$1 want=$2 output=$3 message=$4 shell=$5 got what=''
+    bash -c "$shell" -- "$wrapper" "$checkout" < /dev/null > "$room/out" 2> "$room/err"
+    got=$?
+    [ "$got" = "$want" ] && [ "$(< "$room/out")" = "$output" ] && [[ $(< "$room/err") == $message ]] ||
+        what="status $got for $want, and it wrote:"$'\n'$(tail -n 5 "$room/out" "$room/err" | cut -c 1-300)
+    tell "$name" "$what"
+}
+
+# Lays a program into a checkout's bin/, as one of its sources or of a checksum, by a kit.
+lay() {
+    mkdir -p "$checkout/bin"
+    cp -- "$1" "$checkout/bin/tabled_script"
+    chmod 755 "$checkout/bin/tabled_script"
+    printf '%s: %s\n' sources "${2-$(sources)}" kit "$(rt version)" sha256 "$(sha256sum < "$1" | cut -c 1-64)" > "$checkout/bin/README.md"
+}
+
+# The checksum of the checkout's sources, as the wrapper takes it.
+sources() {
+    bash -c 'eval "$(sed "/^top=/d; /^case /,\$d" "$1")"; top=$2; find_sources; checksum "$top"' -- "$wrapper" "$checkout"
 }
 
 # Closes with how many passed and failed.

@@ -135,7 +135,7 @@ def page(module, modules, exports, files):
     first, _ = module.sources[0]
     imported = imports_block(module)
     out = [f"# `{module.path()}`", "", *module_words(first.text), ""]
-    out += [QUOTED % (module.link("../DEFINITIONS.md"), ", and [Imports](#imports) their paths" * bool(imported)), "REFUSED", ""]
+    out += [QUOTED % (module.link("../DEFINITIONS.md"), ", and [Imports](#imports) their paths" * bool(imported)), ""]
     inner = [it for it in modules if it.name and it.name[:-1] == module.name]
     if inner:
         out += ["Modules: " + ", ".join(f"[`{it.name[-1]}`]({module.link(it.file())})" for it in inner) + ".", ""]
@@ -148,8 +148,7 @@ def page(module, modules, exports, files):
             out += [*told(part, exports.imports(f"{module.path()}::{part.name}")), ""]
     out += imported
     text = "\n".join(out)
-    said = REFUSED + "\n" if re.search(r"\brefused\b", text.replace("never_refused", ""), re.I) else ""
-    return re.sub(r"\n{3,}", "\n\n", text.replace("REFUSED\n", said)).rstrip() + "\n"
+    return re.sub(r"\n{3,}", "\n\n", text).rstrip() + "\n"
 
 
 def index(crates, exports, files):

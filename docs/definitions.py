@@ -4,7 +4,6 @@ import re
 import sys
 
 from contracts import parts_of, public_names, sources_of
-from phrases import REFUSED
 
 DEFINED = re.compile(r"(?:(?:abbrev|unfoldable|opaque) )?pub (?:(?:data|record|abbrev) )?([^\s:({]+)")
 USED = re.compile(r"^\s*(?:ghost )?use Rattle\.(\w+)\.specs\.([\w.]+?)(?:\.\{([^}]*)\}| as (\w+))?;?$", re.M)
@@ -128,7 +127,7 @@ def page(top, crates):
     out += ["These are the definitions that public clauses rest on, directly or through others of them; all others are left"]
     out += ["out. The line above each says it in words. The heading above some is their path, by which a contract imports"]
     out += ["them: `ghost use Rattle.tabled_grid.specs.Axis.{across};`. A definition says what is meant, and the code gets"]
-    out += ["there in its own way. `docs/make` makes this page from `crates/*/specs/`. " + REFUSED]
+    out += ["there in its own way. `docs/make` makes this page from `crates/*/specs/`."]
     last = None
     for (crate, name), (about, found, _) in specs.items():
         kept = [it for it in found if ((crate, name), it.name) in used]

@@ -113,6 +113,14 @@ def shown(it):
     return "\n".join([*map(shortened, lines_of(it.script)), "", "gives", "", given])
 
 
+def styles(top, *names):
+    """The pictures of examples/styles beside one another, under their names."""
+    pictures = [[it, "", *lines_of(text_of(top / f"examples/styles/{it}.picture"))] for it in names]
+    widths = [max(map(len, it)) for it in pictures]
+    rows = zip_longest(*pictures, fillvalue="")
+    return fenced(["    ".join(f"{line:<{width}}" for line, width in zip(row, widths)).rstrip() for row in rows])
+
+
 def makers(top):
     """What stands for a line of a page that names a script, by the line's first word."""
     made = examples(top)
@@ -121,6 +129,7 @@ def makers(top):
         "printed": lambda it: indented(made[it].output),
         "drawn": lambda it: fenced(lines_of(made[it].picture)),
         "shown": lambda it: shown(made[it]),
+        "styles": lambda *names: styles(top, *names),
     }
 
 

@@ -7,6 +7,7 @@ import textwrap
 
 LEFT, WIDTH = 32, 116  # columns of what is written, and of a line
 SPECS, FAULTS = "crates/tabled_language/specs", "crates/tabled_language/src/fault.rt"
+STYLES = "crates/tabled_draw/src/style.rt"
 
 
 def plain(text):
@@ -74,6 +75,23 @@ def selectors(top, prose):
     return "\n".join(line(written, meaning.rstrip(".")) for written, _, meaning in lines)
 
 
+def ways(prose):
+    """What words of other tools are here."""
+    return "\n".join(line(*it) for it in table_of(re.search(r"^### Fault 1: .*?(?=^###)", prose, re.M | re.S)[0]))
+
+
+def styles(top):
+    """The names of styles."""
+    names = re.search(r"NAMES: .*?= \[(.*?)\];", (top / STYLES).read_text(), re.S)[1]
+    return textwrap.fill(" ".join(re.findall(r'"(\w+)"', names)), WIDTH, initial_indent=" " * LEFT, subsequent_indent=" " * LEFT)
+
+
+def words(top):
+    """The words that mean something."""
+    names = set(re.findall(r'codes "([a-z-]+)"', "".join((top / SPECS / it).read_text() for it in ("Verb.antt", "Selectors.antt"))))
+    return textwrap.fill(" ".join(sorted(names)), WIDTH, initial_indent="  ", subsequent_indent="  ", break_on_hyphens=False)
+
+
 def faults(top, prose):
     meanings = re.findall(r"/// (.*)\.\n    \w+ = (\d)", (top / FAULTS).read_text())
     stop_where_other("faults", re.findall(r"^### Fault (\d): ", prose, re.M), [number for _, number in meanings])
@@ -88,5 +106,8 @@ def page(top):
         "selectors": lambda: selectors(top, prose),
         "statuses": lambda: "\n".join(line(*it) for it in table_of(under(prose, "Statuses"))),
         "faults": lambda: faults(top, prose),
+        "styles": lambda: styles(top),
+        "ways": lambda: ways(prose),
+        "words": lambda: words(top),
     }
     return re.sub(r"^said:(\w+)$", lambda it: makers[it[1]](), (top / "docs/pages/HELP.txt").read_text(), flags=re.M)

@@ -3,19 +3,27 @@
     script:NAME, printed:NAME   a script of examples/, and what it prints
     drawn:NAME                  its picture
     shown:NAME                  its steps, its table before them, and its picture
-    whole:PATH                  a file, or the files of a folder
+    styles:STYLE ..             the pictures of examples/styles, beside one another
+    whole:PATH                  a file
     code:PATH NAME ..           functions of a file, with the `use` lines that they need
-    listed:CRATE                a crate's line of crates.txt
-    own:CRATE NAME              the lines of crates.txt of a program that is made one's own, under a name
+    tree:CRATE                  a crate's files, and what each is about
+    part:PATH TRAIT             what a file says of a type as a trait
+    definition:PATH NAME        a definition of a file of specs/
+    own:CRATE NAME              the lines that make a program one's own, under a name
+    added:CRATE NAME OF         the lines that put a crate below it, where it is made of the program OF
+    taken:CRATE ..              the lines that take crates, with all that these use
     crates:all                  a table of the crates, and what each uses
     files:all                   the files of the crates without tests, and what each is about
+Where a line names a file of crates/ and what does something there, as in - `NAME/src/x.rt`: `f`, `g`, these have to be there.
 """
 
 import re
+from functools import cache
 
 import gallery
 from contracts import function_text, items, module_words, parts_of, public_names, sources_of, used_by
-from phrases import DIFFERS, OF_THIS_PROJECT, REFUSED
+from definitions import definitions_of
+from phrases import DIFFERS, OF_THIS_PROJECT
 
 
 def crates_of(top):
@@ -28,6 +36,7 @@ def libraries(top):
     return [name for name in crates_of(top) if (top / "crates" / name / "src/lib.rt").is_file()]
 
 
+@cache
 def methods_of(top):
     """The methods of each trait of the repository: whoever calls one needs the trait's name."""
     methods = {}
@@ -48,12 +57,42 @@ def rust(text):
 
 
 def whole(top, path):
-    """A file of code, of specs/ or of proofs/, or the files of a folder with their paths in it."""
-    if (top / path).is_dir():
-        files = sorted(it for it in (top / path).rglob("*") if it.is_file())
-        return "\n\n".join(f"`{it.relative_to(top / path)}`:\n\n{whole(top, it.relative_to(top))}" for it in files)
+    """A file of code, of specs/ or of proofs/."""
     text = (top / path).read_text()
     return rust(text) if str(path).endswith(".rt") else fenced("text", text)
+
+
+def about(file):
+    """What a file of a crate is about: its first words, or of specs/Lib.antt and the like the files that it names."""
+    text = file.read_text()
+    if file.suffix == ".rt":
+        return first_paragraph(text)
+    return " ".join(text.split("\n")).strip() if file.name == "Lib.antt" else text.partition("\n")[0].removeprefix("-- ") * text.startswith("-- ")
+
+
+def tree(top, crate):
+    """The files of a crate but its wrong edits, and what each is about."""
+    folder, crates = top / "crates" / crate, crates_of(top)
+    files = [it for part in ("src", "specs", "proofs") for it in sorted((folder / part).rglob("*")) if it.is_file()]
+    named = [("a line of crates.txt", " ".join([f"{crate}:", *crates[crate]]))]
+    named += [(str(it.relative_to(folder)), about(it)) for it in files]
+    return fenced("text", "\n".join(f"{name:<24} {said}".rstrip() for name, said in named))
+
+
+def part(top, path, trait):
+    """What a file says of a type as a trait."""
+    for it in items((top / path).read_text()):
+        if it.kind == "impl" and re.search(rf"\b{trait}\b.* for ", it.head):
+            return rust(it.whole)
+    raise SystemExit(f"docs/make: no {trait} in {path} where a page names it")
+
+
+def definition(top, path, name):
+    """A definition of a file of specs/, under the words that say it."""
+    for it in definitions_of(top / path)[1]:
+        if it.name == name:
+            return fenced("text", f"-- {it.words}\n{it.text()}")
+    raise SystemExit(f"docs/make: no {name} in {path} where a page names it")
 
 
 def code(top, path, *names):
@@ -76,18 +115,46 @@ def below(top, crate):
     return [name for name in crates if name in needed - {crate}]
 
 
+PREFIX = "tabled_"
+
+
+def taken(crates):
+    """The line that takes crates from this folder."""
+    names = [it.removeprefix(PREFIX) for it in crates]
+    listed = "{" + ",".join(names) + "}" if len(names) > 1 else names[0]
+    return f'tar -C "$FEHAKIMU" --exclude=out -c crates/{PREFIX}{listed} | tar -x'
+
+
+def listed(crates, lines):
+    """The lines of crates.txt for crates."""
+    return [f"{it}: {' '.join(lines[it])}".rstrip() for it in crates]
+
+
 def own(top, crate, name):
     """The lines that make the program of a crate one's own, under a name."""
-    crates, libraries = crates_of(top), [it for it in below(top, crate) if it in crates_of(top)]
-    prefix = "tabled_"
-    listed = ",".join(it.removeprefix(prefix) for it in libraries)
-    lines = [f'tar -C "$FEHAKIMU" --exclude=out -c crates/{prefix}{{{listed}}} | tar -x']
-    lines += [f"mkdir -p crates/{name}/src", f'cp "$FEHAKIMU"/crates/{crate}/src/main.rt crates/{name}/src']
-    lines += ["cat > crates.txt << END"]
-    lines += [f"{it}: {' '.join(crates[it])}".rstrip() for it in libraries]
-    lines += [f"{name}: {' '.join(crates[crate])}", "END"]
+    crates = crates_of(top)
+    libraries = [it for it in below(top, crate) if it in crates]
+    lines = [taken(libraries), f"mkdir -p crates/{name}/src", f'cp "$FEHAKIMU"/crates/{crate}/src/main.rt crates/{name}/src']
+    lines += ["cat > crates.txt << END", *listed([*libraries, name], {**crates, name: crates[crate]}), "END"]
     lines += [f"cd crates/{name}", f'rt try < "$FEHAKIMU"/crates/{crate}/stdin']
-    return "\n".join(["```sh", *lines, "```"])
+    return fenced("sh", "\n".join(lines))
+
+
+def added(top, crate, name, of):
+    """The lines that put a crate below the program that `own` makes of another one, where all that it uses is there."""
+    crates = crates_of(top)
+    lines = ["cd ../..", taken([crate]), f"sed -i '/^{name}:/d' crates.txt"]
+    lines += ["cat >> crates.txt << END", *listed([crate, name], {**crates, name: [crate, *crates[of]]}), "END"]
+    lines += [f"cd crates/{name}", f'rt try < "$FEHAKIMU"/crates/{of}/stdin']
+    return fenced("sh", "\n".join(lines))
+
+
+def all_taken(top, *wanted):
+    """The lines that take crates, with all of the repository that these use."""
+    crates = crates_of(top)
+    needed = {*wanted}.union(*(below(top, it) for it in wanted))
+    found = [it for it in crates if it in needed]
+    return fenced("sh", "\n".join([taken(found), "cat > crates.txt << END", *listed(found, crates), "END"]))
 
 
 def root_of(top, crate):
@@ -112,7 +179,14 @@ def crate_table(top, _):
     for crate in crates:
         uses = ", ".join(f"`{it}`" for it in nearest(crates, crate)) or "-"
         lines.append(f"| `{crate}` | {first_paragraph(root_of(top, crate).read_text())} | {uses} |")
-    return "\n".join([*lines, "", REFUSED])
+    return "\n".join(lines)
+
+
+def specs_line(folder):
+    """What a crate's files of definitions are about."""
+    told = [(it.stem, about(it).rstrip(".")) for it in sorted(folder.glob("*.antt")) if it.name != "Lib.antt"]
+    if told:
+        yield "- specs/: " + "; ".join(f"`{name}`: {said[0].lower()}{said[1:]}" for name, said in told) + "."
 
 
 def file_list(top, _):
@@ -121,12 +195,22 @@ def file_list(top, _):
         if crate.endswith("_tests"):
             continue
         root = root_of(top, crate)
-        lines += [f"**{crate}**", ""]
-        for file in sorted(root.parent.rglob("*.rt")):
-            if file != root:
-                lines.append(f"- `{file.relative_to(root.parent)}`: {first_paragraph(file.read_text())}")
-        lines.append("")
+        files = [it for it in sorted(root.parent.rglob("*.rt")) if it != root]
+        if files:
+            lines += [f"**{crate}**", ""]
+            lines += [f"- `{it.relative_to(root.parent)}`: {first_paragraph(it.read_text())}" for it in files]
+            lines += [*specs_line(top / "crates" / crate / "specs"), ""]
     return "\n".join(it for i, it in enumerate(lines) if it or (i and lines[i - 1])).strip()
+
+
+def stop_at_missing(top, prose):
+    """Stops where a line names a file of crates/, or what does something there, that isn't there."""
+    for path, named in re.findall(r"^ *- `(\w+/src/[\w/]+\.rt)`: (.*)$", prose, re.M):
+        file = top / "crates" / path
+        text = file.read_text() if file.is_file() else ""
+        for name in re.findall(r"`(\w+)`", named):
+            if not re.search(rf"\b(fn|struct|enum|trait|type) {name}\b", text):
+                raise SystemExit(f"docs/make: no {name} in {path} where a page names it")
 
 
 def quoted(top, prose):
@@ -134,12 +218,17 @@ def quoted(top, prose):
     makers = {
         "whole": lambda path: whole(top, path),
         "code": lambda *words: code(top, *words),
-        "listed": lambda crate: f"    {crate}: {' '.join(crates_of(top)[crate])}",
+        "tree": lambda crate: tree(top, crate),
+        "part": lambda *words: part(top, *words),
+        "definition": lambda *words: definition(top, *words),
         "own": lambda *words: own(top, *words),
+        "added": lambda *words: added(top, *words),
+        "taken": lambda *words: all_taken(top, *words),
         "crates": lambda word: crate_table(top, word),
         "files": lambda word: file_list(top, word),
         **gallery.makers(top),
     }
+    stop_at_missing(top, prose)
     line = re.compile(rf"^({'|'.join(makers)}):(\S.*)$", re.M)
     return line.sub(lambda it: makers[it[1]](*it[2].split()), prose)
 
@@ -179,8 +268,7 @@ def introduced(prose, is_own):
     """The prose of docs/calling, with a line before its list."""
     before, dash, listed = prose.strip().partition("\n\n- ")
     said = OF_THIS_PROJECT if is_own else DIFFERS
-    refused = [REFUSED] if re.search(r"\brefus", prose, re.I) else []
-    return " ".join([before, *refused, said]) + dash + listed
+    return " ".join([before, said]) + dash + listed
 
 
 def calling(top, crate):

@@ -1,27 +1,33 @@
 -- The names that most proofs cite, passed on from one place. Declares nothing.
-pub use Rattle.std.proofs.Common.{◌&&◌, ◌==◌, ◌||◌, Bor, IsUtf8, MatchOption, T, add-zero, add_assoc, append-nil, append_assoc, drop_of_length-le, encode_utf8, encode_utf8_all, eq-eqb, eqb-true, fold, length-append, length-set, lit<, nat_le, nat_lt, ne_eqb, not, take_all, unwrap_or}
+pub use Rattle.std.proofs.Common.{◌%◌, ◌&&◌, ◌*◌, ◌/◌, ◌==◌, ◌||◌, Bor, IsUtf8, MatchOption, T, add-zero, add_assoc, append-nil, append_assoc, drop_of_length-le, encode_utf8, encode_utf8_all, eq-eqb, eqb-true, fold, length-append, length-set, lit<, nat_le, nat_lt, ne_eqb, not, take_all, unwrap_or}
 pub use Rattle.std.proofs.Math.Bool.{and-false}
 pub use Rattle.std.proofs.lemmas.Bool.{eqb-false}
 pub use Rattle.std.proofs.lemmas.Bool.Decides.{nat_tests}
-pub use Rattle.std.proofs.lemmas.List.{ext_get_or, get_or-append-add, get_or-map, get_or-replicate, get_or_push}
+pub use Rattle.std.proofs.lemmas.List.{ext_get_or, get_or-append-add, get_or-map, get_or-replicate, get_or_past, get_or_push}
 pub use Rattle.std.proofs.lemmas.List.Splits.{slice_split_first, slice_split_none}
 pub use Rattle.std.proofs.lemmas.List.Sums.{fails_before_first, fold-append, position_or_len_is, prefix_len-le-length, sum_by-append, sum_by-cons, sum_by_more}
 pub use Rattle.std.proofs.lemmas.Str.{IsUtf8-past_char, chars-IsAscii, chars-nil, chars_past_char, encode_ascii, encodes-append}
 pub use Rattle.std.specs.List.{after_first, before_first, position_or_len, slice_split, sum, sum_by}
 pub use Rattle.std.specs.Str.Iter.{chars_rest, split_has_more, split_pattern, split_text}
-pub use Rattle.tabled_draw.specs.Each.{each, largest}
+pub use Rattle.tabled_draw.specs.Alignments.{aligned, alignment_in, indent}
+pub use Rattle.tabled_draw.specs.Borders.{Arms, are_none, arms, border, corner, corner_if, differ, is_drawn, line_size, lines_around, mark, size_if, unmerged_arms}
+pub use Rattle.tabled_draw.specs.Each.{by_number, each, is_in_range, largest, total}
 pub use Rattle.tabled_draw.specs.Laid.{AreEdges}
-pub use Rattle.tabled_draw.specs.Lines.{AreLeft, ArePlain, EndInside, after_line, begins, begun, cell, column, edge, first_line, left_of, stretches, text_inside}
+pub use Rattle.tabled_draw.specs.Lines.{AreLeft, ArePlain, AreUnmerged, EndInside, IsLine, after_line, begins, begun, cell, column, column_if, edge, edge_before, first_line, left_if, left_inside, left_of, level, marked, stretches, text_inside, unmerged_corner, unmerged_stretch}
+pub use Rattle.tabled_draw.specs.Marks.{IsFine, IsFineMark, IsNoControl}
 pub use Rattle.tabled_draw.specs.Measured.{Measured, raised}
-pub use Rattle.tabled_draw.specs.Overall.{AreEquallyWide, AreNoControls, AreNoLargerThanAsked, HoldsOfPictures, IsNoControl, ends_in}
+pub use Rattle.tabled_draw.specs.Overall.{AreEquallyWide, AreNoControls, AreNoLargerThanAsked, HoldsOfPictures, drawn_lines, lacking, most_asked, takes}
 pub use Rattle.tabled_draw.specs.OwnerRows.{IsOwnerRow, chosen, count_before, is_before, is_held_by}
-pub use Rattle.tabled_draw.specs.Owners.{is_one, owner_in}
-pub use Rattle.tabled_draw.specs.Picture.{border_stretch, left, lines_of_row, picture, picture_bytes, picture_line, shows, shows_in, top, with_newlines}
-pub use Rattle.tabled_draw.specs.Rests.{bytes_in, line_of_rests}
+pub use Rattle.tabled_draw.specs.Owners.{owner_in}
+pub use Rattle.tabled_draw.specs.Picture.{border_line, column_between, edge_between, left, lines_of_row, picture, picture_bytes, picture_line, shows, shows_in, top, with_newlines}
+pub use Rattle.tabled_draw.specs.Rests.{IsCutAt, border_of_rests, bytes_in, line_of_rests}
 pub use Rattle.tabled_draw.specs.Sent.{Draws, GrowsBy, Kept}
-pub use Rattle.tabled_draw.specs.Sizes.{asks, gap, grown_for, grown_sizes, heights, own, own_sizes, room, start_of, text_of_cell, widths}
-pub use Rattle.tabled_draw.specs.Standing.{IsSeen, ShowsTexts, StandBetween, StandsAt, StandsIn, inner_height, inner_width, is_amid, is_in_range, is_joined_above, is_joined_around, is_joined_beside, padded, text_line}
+pub use Rattle.tabled_draw.specs.Sizes.{asks, grown_for, grown_sizes, heights, in_order, least, own, own_sizes, pad, room, share, start_of, text_of_cell, widths}
+pub use Rattle.tabled_draw.specs.Standing.{IsSeen, ShowsTexts, StandBetween, StandsAt, StandsFramed, StandsIn, indent_of, inner_height, inner_left, inner_line, inner_top, inner_width, is_amid, is_joined_above, is_joined_around, is_joined_beside, meeting, text_line}
 pub use Rattle.tabled_draw.specs.Texts.{lines_shown, shown_character, shown_line, text_width, widest}
+pub use Rattle.tabled_draw.specs.declared.alignment.Alignment.{Alignment}
+pub use Rattle.tabled_draw.specs.declared.style.Style.{Style}
+pub use Rattle.tabled_draw.specs.declared.style.TheConstants.Style.{ASCII}
 pub use Rattle.tabled_grid.proofs.Common.{[], ◌++◌, ◌+◌, ◌-◌, ◌<◌, ◌∙◌, ◌∷◌, ◌≡◌, ◌≢◌, ◌≤◌, ◌⊎◌, AllByRecursion, AreSpanSizes, Bool, Fits, Grid, In, IsInside, List, None, Option, Rectangle, Some, SpanMap, across, add-one, all-append, and_from, ap, ap₂, arith, cases_Bool, cases_eq, cases_lt, cell_at, common_steps, cond, cond-false, cond-true, count_along, entries, entries-from_sorted, entries_sorted, eqb, false, false_from_ne_true, false≢true, find, fitting, get, get-entries, get_or, get_or-set_other, get_or-set_same, get_or_append_left, get_or_default, holds, inl, inr, is_hidden_in, is_sorted, keep_fitting, le-leb, length, length-map, length-replicate, line_of, lines_in, list_any, lt-ltb, ltb-false, map, map-set, map_grid, max, nil_from_length, none-some, place, place_in, position_cmp, refl, replicate, replicate-append-replicate, same_Some, same_place, set, size_at, sized, subst, suc, sym, take, take_more, true, zero, ℕ}
 pub use Rattle.tabled_grid.proofs.Members.{Member, any-from, find-member, sorted-find}
 pub use Rattle.tabled_grid.proofs.SpanMaps.{at, equal, found_above, halves, holds-from, holds-true, same_place-apart, same_place-self, same_place-true, size_at-none, size_at-some}

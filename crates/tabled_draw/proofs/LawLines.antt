@@ -1,127 +1,227 @@
 -- A line of a picture, from its left edge to its right one.
-use Rattle.tabled_draw.proofs.Common.{[], ◌&&◌, ◌++◌, ◌+◌, ◌-◌, ◌<◌, ◌∙◌, ◌∷◌, ◌≡◌, ◌≢◌, ◌≤◌, ◌⊎◌, Bool, Columns, Grid, List, Option, Rectangle, Some, StandsIn, add-one, add-zero, and-false, and_from, ap, append-nil, append_assoc, ap₂, arith, border_stretch, cases_Bool, cases_lt, common_steps, cond, cond-false, cond-true, each, eq-eqb, eqb, false, false_from_ne_true, false≢true, get_or, inl, inr, is_one, left, lines_shown, nat_tests, ne_eqb, picture_line, place, refl, replicate, room, same_place-self, shows, shows_in, subst, suc, sum_by-append, sum_by-cons, sym, text_of_cell, text_width, top, true, unwrap_or, widest, widths, zero, ℕ}
-use Rattle.tabled_draw.proofs.Each.{split-each}
-use Rattle.tabled_draw.proofs.Owned.{LieWell, Owns, owner-both, owner-left, owner-owns, owner-some}
-use Rattle.tabled_draw.proofs.Sizes.{length-sizes, line-least, room-end, room-enough, start-next}
+use Rattle.tabled_draw.proofs.Common.{Alignment, AllByRecursion, Arms, Bool, Columns, Grid, IsFine, IsFineMark, List, None, Option, Rectangle, Rows, Some, StandsIn, Style, [], add-one, add-zero, aligned, alignment_in, ap, append-nil, append_assoc, ap₂, are_none, arith, arms, border, cases_Bool, cases_lt, column_between, cond, cond-false, cond-true, differ, each, edge_between, eq-eqb, eqb, false, false_from_ne_true, false≢true, get_or, indent, inl, inr, left, length, length-replicate, lines_shown, mark, ne_eqb, none-some, picture_line, place, refl, replicate, room, shows, shows_in, subst, suc, sym, text_of_cell, text_width, top, true, widest, widths, zero, ℕ, ◌++◌, ◌+◌, ◌-◌, ◌<◌, ◌∙◌, ◌∷◌, ◌≡◌, ◌≢◌, ◌≤◌, ◌⊎◌}
+use Rattle.std.proofs.lemmas.Bool.{true_from_ne_false}
+use Rattle.tabled_draw.specs.Borders.{number}
+use Rattle.tabled_draw.proofs.Arms.{differ-self, none-one, none-parts}
+use Rattle.tabled_draw.specs.declared.alignment.Alignment.TheVariants.{Left, Center, Right}
+use Rattle.tabled_draw.proofs.Each.{each-more, split-each}
+use Rattle.tabled_draw.proofs.Owned.{LieWell, Owns, owner-both, owner-inside, owner-left, owner-owns, owner-some}
+use Rattle.tabled_draw.proofs.Shares.{room-end}
+use Rattle.tabled_draw.proofs.Sizes.{line-least, room-enough, start-next}
 use Rattle.tabled_draw.specs.Owners.{owner}
-use Rattle.unicode_width.specs.Width.{char_width}
+use Rattle.tabled_draw.proofs.Widths.{IsPlain, all-marks, columns-after_blanks, columns-append, columns-blanks, columns-nil, columns-replicate, plain-after_blanks, plain-append, plain-blanks, plain-marks, plain-nil}
+use Rattle.unicode_width.proofs.Computing.{unicode_width}
 
--- ---- the columns of characters
+-- ---- the characters of a style
 
-columns-cons : (c : ℕ) (cs : List ℕ) → text_width (c ∷ cs) ≡ unwrap_or (char_width false c) 0 + text_width cs
-columns-cons c cs = sum_by-cons (λ d. unwrap_or (char_width false d) 0) c cs
+blank-fine : IsFineMark 32
+unfolding unicode_width
+blank-fine = record { wide = refl; plain = record { above = omega arith; no_delete = λ e. omega (arith, e); outside = inl (omega arith) } }
 
-pub columns-append : (xs ys : List ℕ) → text_width (xs ++ ys) ≡ text_width xs + text_width ys
-columns-append xs ys = sum_by-append (λ d. unwrap_or (char_width false d) 0) xs ys
+fine-of : (cs : List ℕ) → AllByRecursion IsFineMark cs → (k : ℕ) → IsFineMark (get_or cs k 32)
+fine-of [] all k = blank-fine
+fine-of (c ∷ cs) all zero = all.0
+fine-of (c ∷ cs) all (suc k) = fine-of cs all.1 k
 
-columns-replicate : (n c : ℕ) → char_width false c ≡ Some 1 → text_width (replicate n c) ≡ n
-columns-replicate n c h1 = grind (arith, common_steps, nat_tests, columns-cons)
+pub level-fine : (style : Style) → IsFine style → IsFineMark style.horizontal
+level-fine style fine = fine.0
 
-blank-one : char_width false 32 ≡ Some 1
-unfolding char_width
-blank-one = refl
+pub mark-fine : (style : Style) → IsFine style → (is_row : Bool) (a : Arms) → IsFineMark (mark style is_row a)
+mark-fine style fine true a = fine.1.0
+mark-fine style fine false a = fine-of style.corners fine.1.1 (number a)
 
-mark-one : (b c : Bool) → char_width false (cond b 124 (cond c 45 43)) ≡ Some 1
-unfolding char_width
-mark-one b c = grind (arith, nat_tests)
+-- ---- a line of text, aligned
 
-pub columns-blank : (cs : List ℕ) → text_width (32 ∷ cs) ≡ 1 + text_width cs
-columns-blank cs = columns-cons 32 cs ∙ ap (λ x. x + text_width cs) (ap (λ x. unwrap_or x 0) blank-one)
+indent-within : (alignment : Alignment) (free : ℕ) → indent alignment free ≤ free
+indent-within Left free = omega arith
+indent-within Center free = omega arith
+indent-within Right free = omega arith
 
--- ---- owners all round
+pub aligned-wide : (alignment : Alignment) (space : ℕ) (line : List ℕ) → text_width line ≤ space → text_width (aligned alignment space line) ≡ space + 2
+aligned-wide alignment space line within =
+    let free = space - text_width line in
+    let before = indent alignment free in
+    let less : before ≤ free = indent-within alignment free in
+    let a : text_width (replicate (before + 1) 32 ++ (line ++ replicate (free - before + 1) 32)) ≡ before + 1 + text_width (line ++ replicate (free - before + 1) 32) = columns-after_blanks (before + 1) (line ++ replicate (free - before + 1) 32) in
+    let b : text_width (line ++ replicate (free - before + 1) 32) ≡ text_width line + text_width (replicate (free - before + 1) 32) = columns-append line (replicate (free - before + 1) 32) (plain-blanks (free - before + 1)) in
+    let d : text_width (replicate (free - before + 1) 32) ≡ free - before + 1 = columns-blanks (free - before + 1) in
+    a ∙ sum (text_width (line ++ replicate (free - before + 1) 32)) (text_width line) (text_width (replicate (free - before + 1) 32)) before within b d less
+  where
+    sum : (y l z before : ℕ) → l ≤ space → y ≡ l + z → z ≡ space - l - before + 1 → before ≤ space - l → before + 1 + y ≡ space + 2
+    sum y l z before within b d less = omega arith
 
-abbrev all_one : Option Rectangle → Option Rectangle → Option Rectangle → Option Rectangle → Bool
-all_one a b c d = (is_one a b && is_one a c) && is_one a d
+pub aligned-plain : (alignment : Alignment) (space : ℕ) (line : List ℕ) → IsPlain (aligned alignment space line)
+aligned-plain alignment space line =
+    let free = space - text_width line in
+    let before = indent alignment free in
+    plain-after_blanks before (line ++ replicate (free - before + 1) 32)
 
-all-from : (a b c d : Option Rectangle) (o : Rectangle) → a ≡ Some o → b ≡ Some o → c ≡ Some o → d ≡ Some o → all_one a b c d ≡ true
-all-from a b c d o e f h k = and_from _ _ (and_from _ _ (ap₂ is_one e f ∙ same_place-self o.0) (ap₂ is_one e h ∙ same_place-self o.0)) (ap₂ is_one e k ∙ same_place-self o.0)
+-- ---- which lines there are
 
-all-not_down : (a b c d : Option Rectangle) → is_one a c ≡ false → all_one a b c d ≡ false
-all-not_down a b c d f = ap (λ x. (is_one a b && x) && is_one a d) f ∙ ap (λ x. x && is_one a d) (and-false (is_one a b))
+-- row u, or the line between the rows u and d, which count from 1
+pub record IsLineOf (rows u d : ℕ) : Type 0 where
+  pub some : 0 < rows
+  pub low : 0 < d
+  pub high : u ≤ rows
+  pub next : (d ≡ u) ⊎ (d ≡ u + 1)
 
-module _ (g : Grid (List ℕ)) (es : List Rectangle) (well : LieWell g.rows g.columns es) where
+-- a line with characters of borders right before and right behind some others
+pub record Framed (row : List ℕ) (columns before behind : ℕ) (text : List ℕ) : Type 0 where
+  pub first : List ℕ
+  pub last : List ℕ
+  pub first_long : length first ≡ before
+  pub last_long : length last ≡ behind
+  pub first_marks : AllByRecursion IsFineMark first
+  pub last_marks : AllByRecursion IsFineMark last
+  pub stands : StandsIn row columns (first ++ (text ++ last))
+
+module _ (style : Style) (aligns : List Alignment) (g : Grid (List ℕ)) (es : List Rectangle) (fine : IsFine style) (well : LieWell g.rows g.columns es) where
   -- what an owner shows is as wide as its room, with a blank at both sides
-  shows-wide : (n i j : ℕ) (o : Rectangle) → owner g.rows g.columns es i j ≡ Some o → text_width (shows g es n o) ≡ room Columns (widths g es) o.0.col o.1.width + 2
+  shows-wide : (n i j : ℕ) (o : Rectangle) → owner g.rows g.columns es i j ≡ Some o → text_width (shows style aligns g es n o) ≡ room Columns (border Columns style g) (widths style g es) o.0.col o.1.width + 2
   shows-wide n i j o e =
       let s = owner-some g.rows g.columns es i j o e in
       let lines = lines_shown (text_of_cell g o.0) in
-      let k = n - top g es o.0.row - 1 in
+      let k = n - top style g es o.0.row - border Rows style g o.0.row in
       let text = get_or lines k [] in
-      let wide = room Columns (widths g es) o.0.col o.1.width in
-      let enough : widest (text_of_cell g o.0) ≤ wide = rw s.is (room-enough Columns g es well (place s.row s.col) s.below s.right) in
+      let wide = room Columns (border Columns style g) (widths style g es) o.0.col o.1.width in
+      let enough : widest (text_of_cell g o.0) ≤ wide = rw s.is (room-enough Columns style g es well (place s.row s.col) s.below s.right) in
       let within : text_width text ≤ widest (text_of_cell g o.0) = line-least lines 0 k in
-      let fill = wide - text_width text + 1 in
-      let a : text_width ((32 ∷ text) ++ replicate fill 32) ≡ text_width (32 ∷ text) + text_width (replicate fill 32) = columns-append (32 ∷ text) (replicate fill 32) in
-      a ∙ ap₂ (λ x y. x + y) (columns-blank text) (columns-replicate fill 32 blank-one) ∙ sum wide (text_width text) (omega arith)
-    where
-      sum : (w c : ℕ) → c ≤ w → 1 + c + (w - c + 1) ≡ w + 2
-      sum w c h = omega arith
+      aligned-wide (alignment_in aligns o.0.col) wide text (omega arith)
 
-  module _ (n u d : ℕ) where
+  module _ (n u d : ℕ) (line : IsLineOf g.rows u d) where
     abbrev up : ℕ → Option Rectangle
     up j = owner g.rows g.columns es u j
 
     abbrev down : ℕ → Option Rectangle
     down j = owner g.rows g.columns es d j
 
-    -- one owner all round the edge before a column
-    abbrev joint : ℕ → Bool
-    joint j = all_one (up j) (up (j + 1)) (down j) (down (j + 1))
+    abbrev meeting_at : ℕ → Arms
+    meeting_at j = arms (up j) (up (j + 1)) (down j) (down (j + 1))
 
-    abbrev mark : ℕ → ℕ → ℕ
-    mark l r = cond (eqb u d) 124 (cond (eqb l r) 45 43)
+    -- no arm at the edge before a column
+    abbrev joint : ℕ → Bool
+    joint j = are_none (meeting_at j)
+
+    abbrev mark_at : ℕ → ℕ
+    mark_at j = mark style (eqb u d) (meeting_at j)
 
     abbrev edge_at : ℕ → List ℕ
-    edge_at j = border_stretch g es n u d j (j + 1) 1
+    edge_at j = edge_between style g es u d j
 
     abbrev column_at : ℕ → List ℕ
-    column_at j = border_stretch g es n u d (j + 1) (j + 1) (get_or (widths g es) j 0 + 2)
+    column_at j = column_between style aligns g es n u d j
 
     abbrev part : ℕ → List ℕ
     part j = edge_at j ++ column_at j
 
+    -- in a column of the table one of the two places has an owner
+    some-one : (k : ℕ) → 0 < k → k ≤ g.columns → up k ≡ None → down k ≡ None → ⊥
+    some-one k low high none none' = by (cases_lt 0 u)
+      where
+        inside : (i : ℕ) → 0 < i → i ≤ g.rows → owner g.rows g.columns es i k ≡ None → ⊥
+        inside i some least is =
+            let row : i ≡ i - 1 + 1 = omega (arith, some) in
+            let col : k ≡ k - 1 + 1 = omega (arith, low) in
+            none-some _ (sym is ∙ ap₂ (owner g.rows g.columns es) row col ∙ owner-inside g.rows g.columns es (i - 1) (k - 1) (omega (arith, some, least)) (omega (arith, low, high)))
+
+        by_next : u ≤ 0 → (d ≡ u) ⊎ (d ≡ u + 1) → ⊥
+        by_next first (inl same) = omega (arith, first, same, line.low)
+        by_next first (inr more) = inside d line.low (omega (arith, first, more, line.some)) none'
+
+        by : (0 < u) ⊎ (u ≤ 0) → ⊥
+        by (inl less) = inside u less line.high none
+        by (inr first) = by_next first line.next
+
     joint-from : (j : ℕ) (o : Rectangle) → up j ≡ Some o → down j ≡ Some o → up (j + 1) ≡ Some o → down (j + 1) ≡ Some o → joint j ≡ true
-    joint-from j o e f e' f' = all-from (up j) (up (j + 1)) (down j) (down (j + 1)) o e e' f f'
+    joint-from j o e f e' f' = none-one (up j) (up (j + 1)) (down j) (down (j + 1)) o e e' f f'
 
-    joint-parts : (j : ℕ) → joint j ≡ true → (is_one (up j) (up (j + 1)) ≡ true) × (is_one (up j) (down j) ≡ true) × (is_one (up j) (down (j + 1)) ≡ true)
-    joint-parts j t = grind (arith, nat_tests)
+    -- one owner is all round where no arm is
+    one-round : (j : ℕ) → j ≤ g.columns → 0 < g.columns → joint j ≡ true → (o : Rectangle) × (up j ≡ Some o) × (up (j + 1) ≡ Some o) × (down j ≡ Some o) × (down (j + 1) ≡ Some o)
+    one-round j high wide t =
+        let parts = none-parts (meeting_at j) t in
+        let a = owner-both g.rows g.columns es well u j u (j + 1) parts.0 (λ x y. some-two x y parts) in
+        let b = owner-both g.rows g.columns es well u j d j parts.3 (λ x y. none-some a.0 (sym x ∙ a.1)) in
+        let c = owner-both g.rows g.columns es well d j d (j + 1) parts.2 (λ x y. none-some b.0 (sym x ∙ b.2)) in
+        let ab : Some a.0 ≡ Some b.0 = sym a.1 ∙ b.1 in
+        let bc : Some b.0 ≡ Some c.0 = sym b.2 ∙ c.1 in
+        (a.0, a.1, a.2, b.2 ∙ sym ab, c.2 ∙ sym bc ∙ sym ab)
+      where
+        below : (k : ℕ) → differ (up k) (down k) ≡ false → up k ≡ None → down k ≡ None
+        below k same none = by (down k) (sym (ap (λ a. differ a (down k)) none) ∙ same)
+          where
+            by : (b : Option Rectangle) → differ None b ≡ false → b ≡ None
+            by None h = refl
+            by (Some q) h = absurd (false≢true (sym h))
 
-    -- where no owner is all round an edge
-    not-joint : (j : ℕ) → ((o : Rectangle) → up j ≡ Some o → up (j + 1) ≡ Some o → down j ≡ Some o → down (j + 1) ≡ Some o → ⊥) → joint j ≡ false
-    not-joint j never = grind (arith, common_steps, joint-parts, owner-both)
+        some-two : up j ≡ None → up (j + 1) ≡ None → ((differ (up j) (up (j + 1)) ≡ false) × (differ (up (j + 1)) (down (j + 1)) ≡ false) × (differ (down j) (down (j + 1)) ≡ false) × (differ (up j) (down j) ≡ false)) → ⊥
+        some-two x y parts = by (cases_lt j g.columns)
+          where
+            by : (j < g.columns) ⊎ (g.columns ≤ j) → ⊥
+            by (inl less) = some-one (j + 1) (omega arith) (omega (arith, less)) y (below (j + 1) parts.1 y)
+            by (inr end) = some-one j (omega (arith, end, wide)) high x (below j parts.3 x)
 
-    stretch-one : (l r size : ℕ) → all_one (up l) (up r) (down l) (down r) ≡ true → border_stretch g es n u d l r size ≡ shows_in g es n l r (up l)
-    stretch-one l r size t = cond-true (all_one (up l) (up r) (down l) (down r)) (shows_in g es n l r (up l)) (replicate size (mark l r)) t
-
-    stretch-apart : (l r size : ℕ) → all_one (up l) (up r) (down l) (down r) ≡ false → border_stretch g es n u d l r size ≡ replicate size (mark l r)
-    stretch-apart l r size f = cond-false (all_one (up l) (up r) (down l) (down r)) (shows_in g es n l r (up l)) (replicate size (mark l r)) f
-
-    border-wide : (l r size : ℕ) → all_one (up l) (up r) (down l) (down r) ≡ false → text_width (border_stretch g es n u d l r size) ≡ size
-    border-wide l r size f = ap text_width (stretch-apart l r size f) ∙ columns-replicate size (mark l r) (mark-one (eqb u d) (eqb l r))
+    -- where no owner is all round an edge, an arm is
+    not-joint : (j : ℕ) → j ≤ g.columns → 0 < g.columns → ((o : Rectangle) → up j ≡ Some o → up (j + 1) ≡ Some o → down j ≡ Some o → down (j + 1) ≡ Some o → ⊥) → joint j ≡ false
+    not-joint j high wide never = false_from_ne_true (joint j) (λ t. (let one = one-round j high wide t in never one.0 one.1 one.2 one.3 one.4))
 
     edge-none : (j : ℕ) → joint j ≡ true → edge_at j ≡ []
-    edge-none j t = grind (arith, nat_tests, stretch-one)
+    edge-none j t = cond-true (joint j) [] (replicate (border Columns style g j) (mark_at j)) t
 
-    column-one : (j : ℕ) (o : Rectangle) → up (j + 1) ≡ Some o → down (j + 1) ≡ Some o → column_at j ≡ cond (eqb (j + 1) (j + 1) && eqb (j + 1) (o.0.col + 1)) (shows g es n o) []
-    column-one j o e f = stretch-one (j + 1) (j + 1) (get_or (widths g es) j 0 + 2) (all-from (up (j + 1)) (up (j + 1)) (down (j + 1)) (down (j + 1)) o e e f f) ∙ ap (shows_in g es n (j + 1) (j + 1)) e
+    edge-is : (j : ℕ) → joint j ≡ false → edge_at j ≡ replicate (border Columns style g j) (mark_at j)
+    edge-is j f = cond-false (joint j) [] (replicate (border Columns style g j) (mark_at j)) f
 
-    column-shows : (j : ℕ) (o : Rectangle) → up (j + 1) ≡ Some o → down (j + 1) ≡ Some o → o.0.col ≡ j → column_at j ≡ shows g es n o
-    column-shows j o e f first = column-one j o e f ∙ cond-true _ (shows g es n o) [] (and_from _ _ (eq-eqb (j + 1) (j + 1) refl) (eq-eqb (j + 1) (o.0.col + 1) (ap (λ k. k + 1) (sym first))))
+    edge-wide : (j : ℕ) → joint j ≡ false → text_width (edge_at j) ≡ border Columns style g j
+    edge-wide j f = ap text_width (edge-is j f) ∙ columns-replicate (border Columns style g j) (mark_at j) (mark-fine style fine (eqb u d) (meeting_at j))
+
+    edge-plain : (j : ℕ) → IsPlain (edge_at j)
+    edge-plain j = by (joint j)
+      where
+        by : (b : Bool) → IsPlain (cond b [] (replicate (border Columns style g j) (mark_at j)))
+        by true = plain-nil
+        by false = plain-marks (replicate (border Columns style g j) (mark_at j)) (all-marks (border Columns style g j) (mark_at j) (mark-fine style fine (eqb u d) (meeting_at j)))
+
+    column-plain : (j : ℕ) → IsPlain (column_at j)
+    column-plain j = by (differ (up (j + 1)) (down (j + 1)))
+      where
+        shown : (b : Bool) (o : Rectangle) → IsPlain (cond b (shows style aligns g es n o) [])
+        shown true o = aligned-plain (alignment_in aligns o.0.col) (room Columns (border Columns style g) (widths style g es) o.0.col o.1.width) (get_or (lines_shown (text_of_cell g o.0)) (n - top style g es o.0.row - border Rows style g o.0.row) [])
+        shown false o = plain-nil
+
+        inside : (p : Option Rectangle) → IsPlain (shows_in style aligns g es n j p)
+        inside None = plain-nil
+        inside (Some o) = shown (eqb o.0.col j) o
+
+        by : (b : Bool) → IsPlain (cond b (replicate (get_or (widths style g es) j 0 + 2) style.horizontal) (shows_in style aligns g es n j (up (j + 1))))
+        by true = plain-marks (replicate (get_or (widths style g es) j 0 + 2) style.horizontal) (all-marks (get_or (widths style g es) j 0 + 2) style.horizontal (level-fine style fine))
+        by false = inside (up (j + 1))
+
+    part-plain : (j : ℕ) → IsPlain (part j)
+    part-plain j = plain-append (edge_at j) (column_at j) (edge-plain j) (column-plain j)
+
+    -- a border between two owners
+    column-apart : (j : ℕ) → differ (up (j + 1)) (down (j + 1)) ≡ true → column_at j ≡ replicate (get_or (widths style g es) j 0 + 2) style.horizontal
+    column-apart j t = cond-true (differ (up (j + 1)) (down (j + 1))) (replicate (get_or (widths style g es) j 0 + 2) style.horizontal) (shows_in style aligns g es n j (up (j + 1))) t
+
+    column-one : (j : ℕ) (o : Rectangle) → up (j + 1) ≡ Some o → down (j + 1) ≡ Some o → column_at j ≡ cond (eqb o.0.col j) (shows style aligns g es n o) []
+    column-one j o e f = cond-false (differ (up (j + 1)) (down (j + 1))) (replicate (get_or (widths style g es) j 0 + 2) style.horizontal) (shows_in style aligns g es n j (up (j + 1))) (ap₂ differ e f ∙ differ-self (Some o)) ∙ ap (shows_in style aligns g es n j) e
+
+    column-shows : (j : ℕ) (o : Rectangle) → up (j + 1) ≡ Some o → down (j + 1) ≡ Some o → o.0.col ≡ j → column_at j ≡ shows style aligns g es n o
+    column-shows j o e f first = column-one j o e f ∙ cond-true _ (shows style aligns g es n o) [] (eq-eqb o.0.col j first)
 
     column-none : (j : ℕ) (o : Rectangle) → up (j + 1) ≡ Some o → down (j + 1) ≡ Some o → o.0.col ≢ j → column_at j ≡ []
-    column-none j o e f later = column-one j o e f ∙ cond-false _ (shows g es n o) [] (ap (λ b. eqb (j + 1) (j + 1) && b) (ne_eqb (j + 1) (o.0.col + 1) (λ same. later (omega (arith, same)))) ∙ and-false (eqb (j + 1) (j + 1)))
+    column-none j o e f later = column-one j o e f ∙ cond-false _ (shows style aligns g es n o) [] (ne_eqb o.0.col j later)
 
     -- how far a line has come: to an edge, or to the right edge of what it shows
     data Reached (j w : ℕ) : Type 0 where
-      edge : joint j ≡ false → w ≡ left g es j → Reached j w
-      inside : (o : Rectangle) → up j ≡ Some o → down j ≡ Some o → up (j + 1) ≡ Some o → down (j + 1) ≡ Some o → w ≡ left g es (o.0.col + o.1.width) → Reached j w
+      edge : joint j ≡ false → w ≡ left style g es j → Reached j w
+      inside : (o : Rectangle) → up j ≡ Some o → down j ≡ Some o → up (j + 1) ≡ Some o → down (j + 1) ≡ Some o → w ≡ left style g es (o.0.col + o.1.width) → Reached j w
 
     -- past a column that one owner has above and below
-    past : (j w : ℕ) (o : Rectangle) → up (j + 1) ≡ Some o → down (j + 1) ≡ Some o → w ≡ left g es (o.0.col + o.1.width) → Reached (j + 1) w
+    past : (j w : ℕ) (o : Rectangle) → up (j + 1) ≡ Some o → down (j + 1) ≡ Some o → w ≡ left style g es (o.0.col + o.1.width) → Reached (j + 1) w
     past j w o e f is = by (owner-owns g.rows g.columns es well u (j + 1) o e) (owner-owns g.rows g.columns es well d (j + 1) o f) (cases_lt (j + 1) (o.0.col + o.1.width))
       where
-        ends : o.0.col + o.1.width ≡ j + 1 → joint (j + 1) ≡ false
-        ends last = not-joint (j + 1) (λ p at next at' next'. (
+        ends : o.0.col + o.1.width ≡ j + 1 → j + 1 ≤ g.columns → joint (j + 1) ≡ false
+        ends last within = not-joint (j + 1) within (omega (arith, within)) (λ p at next at' next'. (
             let far = owner-owns g.rows g.columns es well u (j + 1 + 1) o (next ∙ sym at ∙ e) in
             omega (arith, far.right)))
 
@@ -129,28 +229,28 @@ module _ (g : Grid (List ℕ)) (es : List Rectangle) (well : LieWell g.rows g.co
         by a b (inl more) = inside o e f (a.all u (j + 1 + 1) a.top a.bottom (omega (arith, a.left)) (omega arith)) (b.all d (j + 1 + 1) b.top b.bottom (omega (arith, b.left)) (omega arith)) is
         by a b (inr last) =
             let same : o.0.col + o.1.width ≡ j + 1 = omega (arith, a.right) in
-            edge (ends same) (is ∙ ap (left g es) same)
+            edge (ends same (omega (arith, a.lies.right, same))) (is ∙ ap (left style g es) same)
 
     columns-part : (j x y : ℕ) → text_width (edge_at j) ≡ x → text_width (column_at j) ≡ y → text_width (part j) ≡ x + y
-    columns-part j x y e f = columns-append (edge_at j) (column_at j) ∙ ap₂ (λ x y. x + y) e f
+    columns-part j x y e f = columns-append (edge_at j) (column_at j) (column-plain j) ∙ ap₂ (λ x y. x + y) e f
 
     more : (j w : ℕ) → j < g.columns → Reached j w → Reached (j + 1) (w + text_width (part j))
     more j w less (inside o e f e' f' is) =
         let a = owner-owns g.rows g.columns es well u j o e in
-        let none : text_width (part j) ≡ 0 = columns-part j 0 0 (ap text_width (edge-none j (joint-from j o e f e' f'))) (ap text_width (column-none j o e' f' (λ same. omega (arith, a.left, same)))) in
+        let none : text_width (part j) ≡ 0 = columns-part j 0 0 (ap text_width (edge-none j (joint-from j o e f e' f')) ∙ columns-nil) (ap text_width (column-none j o e' f' (λ same. omega (arith, a.left, same))) ∙ columns-nil) in
         past j (w + text_width (part j)) o e' f' (ap (λ x. w + x) none ∙ add-zero w ∙ is)
-    more j w less (edge apart is) = by (cases_Bool (is_one (up (j + 1)) (down (j + 1))))
+    more j w less (edge apart is) = by (cases_Bool (differ (up (j + 1)) (down (j + 1))))
       where
-        first : text_width (edge_at j) ≡ 1
-        first = border-wide j (j + 1) 1 apart
+        first : text_width (edge_at j) ≡ border Columns style g j
+        first = edge-wide j apart
 
-        by : (is_one (up (j + 1)) (down (j + 1)) ≡ true) ⊎ (is_one (up (j + 1)) (down (j + 1)) ≡ false) → Reached (j + 1) (w + text_width (part j))
-        by (inr two) =
-            let wide : text_width (part j) ≡ 1 + (get_or (widths g es) j 0 + 2) = columns-part j 1 _ first (border-wide (j + 1) (j + 1) (get_or (widths g es) j 0 + 2) (all-not_down (up (j + 1)) (up (j + 1)) (down (j + 1)) (down (j + 1)) two)) in
-            let to = start-next Columns g es j less in
-            edge (all-not_down (up (j + 1)) (up (j + 1 + 1)) (down (j + 1)) (down (j + 1 + 1)) two) (omega (arith, wide, to, is))
-        by (inl one) =
-            let both = owner-both g.rows g.columns es well u (j + 1) d (j + 1) one in
+        by : (differ (up (j + 1)) (down (j + 1)) ≡ true) ⊎ (differ (up (j + 1)) (down (j + 1)) ≡ false) → Reached (j + 1) (w + text_width (part j))
+        by (inl two) =
+            let wide : text_width (part j) ≡ border Columns style g j + (get_or (widths style g es) j 0 + 2) = columns-part j (border Columns style g j) (get_or (widths style g es) j 0 + 2) first (ap text_width (column-apart j two) ∙ columns-replicate (get_or (widths style g es) j 0 + 2) style.horizontal (level-fine style fine)) in
+            let to : left style g es (j + 1) ≡ left style g es j + (border Columns style g j + get_or (widths style g es) j 0 + 2) = start-next Columns style g es j in
+            edge (not-joint (j + 1) (omega (arith, less)) (omega (arith, less)) (λ o e e' f f'. false≢true (sym (ap₂ differ e f ∙ differ-self (Some o)) ∙ two))) (omega (arith, wide, to, is))
+        by (inr one) =
+            let both = owner-both g.rows g.columns es well u (j + 1) d (j + 1) one (some-one (j + 1) (omega arith) (omega (arith, less))) in
             at both.0 both.1 both.2 (owner-owns g.rows g.columns es well u (j + 1) both.0 both.1) (owner-owns g.rows g.columns es well d (j + 1) both.0 both.2) (cases_lt both.0.0.col j)
           where
             at : (o : Rectangle) → up (j + 1) ≡ Some o → down (j + 1) ≡ Some o → Owns g.rows g.columns es u (j + 1) o → Owns g.rows g.columns es d (j + 1) o → (o.0.col < j) ⊎ (j ≤ o.0.col) → Reached (j + 1) (w + text_width (part j))
@@ -160,86 +260,146 @@ module _ (g : Grid (List ℕ)) (es : List Rectangle) (well : LieWell g.rows g.co
                 absurd (false≢true (sym apart ∙ joint-from j o x y e f))
             at o e f a b (inr here) =
                 let col : o.0.col ≡ j = omega (arith, a.left) in
-                let wide : text_width (part j) ≡ 1 + (room Columns (widths g es) o.0.col o.1.width + 2) = columns-part j 1 _ first (ap text_width (column-shows j o e f col) ∙ shows-wide n u (j + 1) o e) in
-                let to = room-end Columns (widths g es) o.0.col o.1.width a.lies.wide (omega (arith, a.lies.right, length-sizes Columns g es)) in
-                let same : left g es o.0.col ≡ left g es j = ap (left g es) col in
-                past j (w + text_width (part j)) o e f (omega (arith, wide, to, is, same))
+                let wide : text_width (part j) ≡ border Columns style g j + (room Columns (border Columns style g) (widths style g es) o.0.col o.1.width + 2) = columns-part j (border Columns style g j) _ first (ap text_width (column-shows j o e f col) ∙ shows-wide n u (j + 1) o e) in
+                let to : left style g es (o.0.col + o.1.width) ≡ left style g es o.0.col + (border Columns style g o.0.col + room Columns (border Columns style g) (widths style g es) o.0.col o.1.width + 2) = room-end Columns (border Columns style g) (widths style g es) o.0.col o.1.width a.lies.wide in
+                let same : left style g es o.0.col ≡ left style g es j = ap (left style g es) col in
+                let line : border Columns style g o.0.col ≡ border Columns style g j = ap (border Columns style g) col in
+                past j (w + text_width (part j)) o e f (omega (arith, wide, to, is, same, line))
 
-    reached : (j : ℕ) → j ≤ g.columns → Reached j (text_width (each j part))
-    reached zero h = edge (ap (λ a. all_one a (up (0 + 1)) (down 0) (down (0 + 1))) (owner-left g.rows g.columns es u)) refl
-    reached (suc j) h =
-        let go : Reached j (text_width (each j part)) = reached j (omega arith) in
-        let next_one : Reached (j + 1) (text_width (each j part) + text_width (part j)) = more j (text_width (each j part)) (omega arith) go in
-        subst (λ k. Reached k (text_width (each j part ++ part j))) (add-one j) (subst (λ w. Reached (j + 1) w) (sym (columns-append (each j part) (part j))) next_one)
+    module _ (wide : 0 < g.columns) where
+      reached : (j : ℕ) → j ≤ g.columns → Reached j (text_width (each j part))
+      reached zero h = edge (not-joint 0 (omega arith) wide (λ o e. absurd (none-some o (sym (owner-left g.rows g.columns es u) ∙ e)))) columns-nil
+      reached (suc j) h =
+          let go : Reached j (text_width (each j part)) = reached j (omega arith) in
+          let next_one : Reached (j + 1) (text_width (each j part) + text_width (part j)) = more j (text_width (each j part)) (omega arith) go in
+          subst (λ k. Reached k (text_width (each j part ++ part j))) (add-one j) (subst (λ w. Reached (j + 1) w) (sym (columns-append (each j part) (part j) (part-plain j))) next_one)
 
-    -- at the right edge of the table no owner reaches over
-    apart-last : joint g.columns ≡ false
-    apart-last = not-joint g.columns (λ o at next at' next'. (let far = owner-owns g.rows g.columns es well u (g.columns + 1) o next in omega (arith, far.right, far.lies.right)))
+      -- at the right edge of the table no owner reaches over
+      apart-last : joint g.columns ≡ false
+      apart-last = not-joint g.columns (omega arith) wide (λ o at next at' next'. (let far = owner-owns g.rows g.columns es well u (g.columns + 1) o next in omega (arith, far.right, far.lies.right)))
 
-    -- where not one owner is all round an edge, a line has come to that edge
-    reached-edge : (j : ℕ) → j ≤ g.columns → joint j ≡ false → text_width (each j part) ≡ left g es j
-    reached-edge j h apart = grind (arith, common_steps, reached, joint-from)
+      -- where an arm is at an edge, a line has come to that edge
+      reached-edge : (j : ℕ) → j ≤ g.columns → joint j ≡ false → text_width (each j part) ≡ left style g es j
+      reached-edge j h apart = by (reached j h)
+        where
+          by : Reached j (text_width (each j part)) → text_width (each j part) ≡ left style g es j
+          by (edge _ is) = is
+          by (inside o e f e' f' is) = absurd (false≢true (sym apart ∙ joint-from j o e f e' f'))
 
-    pub line-wide : text_width (picture_line g es n u d) ≡ left g es g.columns + 1
-    line-wide = columns-append (each g.columns part) (edge_at g.columns) ∙ ap₂ (λ x y. x + y) (reached-edge g.columns (omega arith) apart-last) (border-wide g.columns (g.columns + 1) 1 apart-last)
+      pub line-wide : text_width (picture_line style aligns g es n u d) ≡ left style g es g.columns + border Columns style g g.columns
+      line-wide = columns-append (each g.columns part) (edge_at g.columns) (edge-plain g.columns) ∙ ap₂ (λ x y. x + y) (reached-edge g.columns (omega arith) apart-last) (edge-wide g.columns apart-last)
 
-    -- ---- what stands in a line
+      -- ---- what stands in a line
 
-    abbrev pub mark_of : ℕ
-    mark_of = cond (eqb u d) 124 43
+      -- an edge stands where no owner is all round it
+      pub edge-stands : (j : ℕ) → j ≤ g.columns → border Columns style g j ≡ 1 → ((o : Rectangle) → up j ≡ Some o → up (j + 1) ≡ Some o → down j ≡ Some o → down (j + 1) ≡ Some o → ⊥) → StandsIn (picture_line style aligns g es n u d) (left style g es j) (mark style (eqb u d) (meeting_at j) ∷ [])
+      edge-stands j h drawn never = by (cases_lt j g.columns)
+        where
+          apart : joint j ≡ false
+          apart = not-joint j h wide never
 
-    -- an edge stands where no owner is all round it
-    pub edge-stands : (j : ℕ) → j ≤ g.columns → ((o : Rectangle) → up j ≡ Some o → up (j + 1) ≡ Some o → down j ≡ Some o → down (j + 1) ≡ Some o → ⊥) → StandsIn (picture_line g es n u d) (left g es j) (mark_of ∷ [])
-    edge-stands j h never = by (cases_lt j g.columns)
-      where
-        apart : joint j ≡ false
-        apart = not-joint j never
+          edge_is : edge_at j ≡ mark_at j ∷ []
+          edge_is = edge-is j apart ∙ ap (λ k. replicate k (mark_at j)) drawn
 
-        edge_is : edge_at j ≡ mark_of ∷ []
-        edge_is = stretch-apart j (j + 1) 1 apart ∙ ap (λ b. cond (eqb u d) 124 (cond b 45 43) ∷ []) (ne_eqb j (j + 1) (λ e. omega (arith, e)))
+          by : (j < g.columns) ⊎ (g.columns ≤ j) → StandsIn (picture_line style aligns g es n u d) (left style g es j) (mark_at j ∷ [])
+          by (inl less) =
+              let s = split-each part g.columns j less in
+              record {
+                before = each j part;
+                after = column_at j ++ (s.rest ++ edge_at g.columns);
+                is = ap (λ xs. xs ++ edge_at g.columns) s.is ∙ rw edge_is (simp append_assoc);
+                at = reached-edge j h apart;
+              }
+          by (inr last) =
+              let same : g.columns ≡ j = omega arith in
+              record {
+                before = each j part;
+                after = [];
+                is = ap (λ k. each k part ++ edge_at k) same ∙ ap (λ xs. each j part ++ xs) (edge_is ∙ sym (append-nil (mark_at j ∷ [])));
+                at = reached-edge j h apart;
+              }
 
-        by : (j < g.columns) ⊎ (g.columns ≤ j) → StandsIn (picture_line g es n u d) (left g es j) (mark_of ∷ [])
-        by (inl less) =
-            let s = split-each part g.columns j less in
-            record {
+      -- between two owners stands a level border
+      pub level-stands : (j : ℕ) → j < g.columns → ((o : Rectangle) → up (j + 1) ≡ Some o → down (j + 1) ≡ Some o → ⊥) → StandsIn (picture_line style aligns g es n u d) (left style g es j + border Columns style g j) (replicate (left style g es (j + 1) - left style g es j - border Columns style g j) style.horizontal)
+      level-stands j less never =
+          let size = get_or (widths style g es) j 0 + 2 in
+          let two : differ (up (j + 1)) (down (j + 1)) ≡ true = true_from_ne_false (differ (up (j + 1)) (down (j + 1))) (λ f. (let both = owner-both g.rows g.columns es well u (j + 1) d (j + 1) f (some-one (j + 1) (omega arith) (omega (arith, less))) in never both.0 both.1 both.2)) in
+          let is : column_at j ≡ replicate size style.horizontal = column-apart j two in
+          let to : left style g es (j + 1) ≡ left style g es j + (border Columns style g j + get_or (widths style g es) j 0 + 2) = start-next Columns style g es j in
+          let many : size ≡ left style g es (j + 1) - left style g es j - border Columns style g j = omega (arith, to) in
+          let apart : joint j ≡ false = not-joint j (omega (arith, less)) wide (λ o e e' f f'. never o e' f') in
+          let s = split-each part g.columns j less in
+          let stands : StandsIn (picture_line style aligns g es n u d) (left style g es j + border Columns style g j) (column_at j) = record {
+            before = each j part ++ edge_at j;
+            after = s.rest ++ edge_at g.columns;
+            is = ap (λ xs. xs ++ edge_at g.columns) s.is ∙ simp append_assoc;
+            at = columns-append (each j part) (edge_at j) (edge-plain j) ∙ ap₂ (λ x y. x + y) (reached-edge j (omega (arith, less)) apart) (edge-wide j apart);
+          } in
+          subst (StandsIn (picture_line style aligns g es n u d) (left style g es j + border Columns style g j)) (is ∙ ap (λ k. replicate k style.horizontal) many) stands
+
+      -- what a cell shows stands between the edges at its left and at its right
+      pub cell-framed : (j : ℕ) (o : Rectangle) → j < g.columns → o.0.col ≡ j → up (j + 1) ≡ Some o → down (j + 1) ≡ Some o → Framed (picture_line style aligns g es n u d) (left style g es j) (border Columns style g j) (border Columns style g (j + o.1.width)) (shows style aligns g es n o)
+      cell-framed j o less first e f = by (cases_lt end g.columns)
+        where
+          end : ℕ
+          end = j + o.1.width
+
+          a : Owns g.rows g.columns es u (j + 1) o
+          a = owner-owns g.rows g.columns es well u (j + 1) o e
+
+          b : Owns g.rows g.columns es d (j + 1) o
+          b = owner-owns g.rows g.columns es well d (j + 1) o f
+
+          high : j + o.1.width ≤ g.columns
+          high = omega (arith, a.lies.right, first)
+
+          over : (k : ℕ) → j < k → k ≤ j + o.1.width → up k ≡ Some o
+          over k low within = a.all u k a.top a.bottom (omega (arith, low, first)) (omega (arith, within, first))
+
+          under : (k : ℕ) → j < k → k ≤ j + o.1.width → down k ≡ Some o
+          under k low within = b.all d k b.top b.bottom (omega (arith, low, first)) (omega (arith, within, first))
+
+          begins : joint j ≡ false
+          begins = not-joint j (omega (arith, less)) wide (λ p x x' y y'. (let far = owner-owns g.rows g.columns es well u j o (x ∙ sym x' ∙ e) in omega (arith, far.left, first)))
+
+          ends : joint (j + o.1.width) ≡ false
+          ends = not-joint (j + o.1.width) high wide (λ p x x' y y'. (let far = owner-owns g.rows g.columns es well u (j + o.1.width + 1) o (x' ∙ sym x ∙ over (j + o.1.width) (omega (arith, a.lies.wide)) (omega arith)) in omega (arith, far.right, first)))
+
+          -- in its other columns stands nothing
+          nothing : (k : ℕ) → k < o.1.width → each (j + 1 + k) part ≡ each (j + 1) part
+          nothing zero within = ap (λ i. each i part) (add-zero (j + 1))
+          nothing (suc k) within =
+              let i = j + 1 + k in
+              let none : part i ≡ [] = ap₂ (λ x y. x ++ y)
+              (edge-none i (joint-from i o (over i (omega arith) (omega (arith, within))) (under i (omega arith) (omega (arith, within))) (over (i + 1) (omega arith) (omega (arith, within))) (under (i + 1) (omega arith) (omega (arith, within)))))
+              (column-none i o (over (i + 1) (omega arith) (omega (arith, within))) (under (i + 1) (omega arith) (omega (arith, within))) (λ same. omega (arith, same, first))) in
+              ap (λ x. each x part) (let s : j + 1 + suc k ≡ i + 1 = omega arith in s) ∙ each-more part i ∙ ap (λ x. each i part ++ x) none ∙ append-nil (each i part) ∙ nothing k (omega (arith, within))
+
+          before_end : each (j + o.1.width) part ≡ each j part ++ (edge_at j ++ shows style aligns g es n o)
+          before_end =
+              ap (λ x. each x part) (let s : j + o.1.width ≡ j + 1 + (o.1.width - 1) = omega (arith, a.lies.wide) in s) ∙ nothing (o.1.width - 1) (omega (arith, a.lies.wide))
+              ∙ each-more part j ∙ ap (λ x. each j part ++ (edge_at j ++ x)) (column-shows j o e f first)
+
+          framed : (after : List ℕ) → picture_line style aligns g es n u d ≡ each (j + o.1.width) part ++ (edge_at (j + o.1.width) ++ after) → Framed (picture_line style aligns g es n u d) (left style g es j) (border Columns style g j) (border Columns style g (j + o.1.width)) (shows style aligns g es n o)
+          framed after is = record {
+            first = edge_at j;
+            last = edge_at (j + o.1.width);
+            first_long = ap length (edge-is j begins) ∙ length-replicate (border Columns style g j) (mark_at j);
+            last_long = ap length (edge-is (j + o.1.width) ends) ∙ length-replicate (border Columns style g (j + o.1.width)) (mark_at (j + o.1.width));
+            first_marks = subst (AllByRecursion IsFineMark) (sym (edge-is j begins)) (all-marks (border Columns style g j) (mark_at j) (mark-fine style fine (eqb u d) (meeting_at j)));
+            last_marks = subst (AllByRecursion IsFineMark) (sym (edge-is (j + o.1.width) ends)) (all-marks (border Columns style g (j + o.1.width)) (mark_at (j + o.1.width)) (mark-fine style fine (eqb u d) (meeting_at (j + o.1.width))));
+            stands = record {
               before = each j part;
-              after = column_at j ++ (s.rest ++ edge_at g.columns);
-              is = ap (λ xs. xs ++ edge_at g.columns) s.is ∙ rw edge_is (simp append_assoc);
-              at = reached-edge j h apart;
-            }
-        by (inr last) =
-            let same : g.columns ≡ j = omega arith in
-            record {
-              before = each j part;
-              after = [];
-              is = ap (λ k. each k part ++ edge_at k) same ∙ ap (λ xs. each j part ++ xs) (edge_is ∙ sym (append-nil (mark_of ∷ [])));
-              at = reached-edge j h apart;
-            }
+              after = after;
+              is = is ∙ ap (λ x. x ++ (edge_at (j + o.1.width) ++ after)) before_end ∙ simp append_assoc;
+              at = reached-edge j (omega (arith, less)) begins;
+            };
+          }
 
-    -- after an edge that stands comes its column
-    column-stands : (j : ℕ) → j < g.columns → joint j ≡ false → StandsIn (picture_line g es n u d) (left g es j + 1) (column_at j)
-    column-stands j less apart =
-        let s = split-each part g.columns j less in
-        record {
-          before = each j part ++ edge_at j;
-          after = s.rest ++ edge_at g.columns;
-          is = ap (λ xs. xs ++ edge_at g.columns) s.is ∙ simp append_assoc;
-          at = columns-append (each j part) (edge_at j) ∙ ap₂ (λ x y. x + y) (reached-edge j (omega arith) apart) (border-wide j (j + 1) 1 apart);
-        }
-
-    -- between two owners stand dashes
-    pub dashes-stand : (j : ℕ) → j < g.columns → u ≢ d → ((o : Rectangle) → up (j + 1) ≡ Some o → down (j + 1) ≡ Some o → ⊥) → StandsIn (picture_line g es n u d) (left g es j + 1) (replicate (left g es (j + 1) - left g es j - 1) 45)
-    dashes-stand j less between never =
-        let size = get_or (widths g es) j 0 + 2 in
-        let is : column_at j ≡ replicate size 45 = stretch-apart (j + 1) (j + 1) size (all-not_down (up (j + 1)) (up (j + 1)) (down (j + 1)) (down (j + 1)) (false_from_ne_true _ (λ t. (let both = owner-both g.rows g.columns es well u (j + 1) d (j + 1) t in never both.0 both.1 both.2)))) ∙ ap (replicate size) (ap₂ (λ x y. cond x 124 (cond y 45 43)) (ne_eqb u d between) (eq-eqb (j + 1) (j + 1) refl)) in
-        let many : size ≡ left g es (j + 1) - left g es j - 1 = omega (arith, start-next Columns g es j less) in
-        subst (StandsIn (picture_line g es n u d) (left g es j + 1)) (is ∙ ap (λ k. replicate k 45) many) (column-stands j less (not-joint j (λ o e e' f f'. never o e' f')))
-
-    -- what a cell shows stands at its left edge
-    pub cell-stands : (j : ℕ) (o : Rectangle) → j < g.columns → o.0.col ≡ j → up (j + 1) ≡ Some o → down (j + 1) ≡ Some o → StandsIn (picture_line g es n u d) (left g es j + 1) (shows g es n o)
-    cell-stands j o less first e f = subst (StandsIn (picture_line g es n u d) (left g es j + 1)) (column-shows j o e f first) (column-stands j less (not-joint j begins))
-      where
-        begins : (p : Rectangle) → up j ≡ Some p → up (j + 1) ≡ Some p → down j ≡ Some p → down (j + 1) ≡ Some p → ⊥
-        begins p a a' b b' =
-            let far = owner-owns g.rows g.columns es well u j o (a ∙ sym a' ∙ e) in
-            omega (arith, far.left)
+          by : (end < g.columns) ⊎ (g.columns ≤ end) → Framed (picture_line style aligns g es n u d) (left style g es j) (border Columns style g j) (border Columns style g (j + o.1.width)) (shows style aligns g es n o)
+          by (inl within) =
+              let s = split-each part g.columns (j + o.1.width) within in
+              framed (column_at (j + o.1.width) ++ (s.rest ++ edge_at g.columns)) (ap (λ xs. xs ++ edge_at g.columns) s.is ∙ simp append_assoc)
+          by (inr last) =
+              let same : g.columns ≡ j + o.1.width = omega (arith, high, last) in
+              framed [] (ap (λ k. each k part ++ edge_at k) same ∙ ap (λ xs. each (j + o.1.width) part ++ xs) (sym (append-nil (edge_at (j + o.1.width)))))

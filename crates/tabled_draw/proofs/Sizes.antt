@@ -1,6 +1,9 @@
 -- Columns are as wide, and rows as high, as what they show asks.
-use Rattle.tabled_draw.proofs.Common.{[], ◌+◌, ◌-◌, ◌<◌, ◌∙◌, ◌∷◌, ◌≡◌, ◌≢◌, ◌≤◌, ◌⊎◌, AreEdges, AreNoLargerThanAsked, Columns, Fits, Grid, List, Measured, Member, Option, Position, Rectangle, Rows, Size, Some, SpanMap, across, add-zero, add_assoc, and_from, ap, ap₂, arith, asks, cases_Bool, cases_eq, cell_at, common_steps, cond, cond-false, cond-true, count_along, each, ends_in, entries, eq-eqb, eqb, eqb-true, ext_get_or, false, false≢true, fold, fold-append, gap, get_or, get_or-replicate, get_or-set_other, get_or-set_same, grown_for, grown_sizes, inl, inr, is_before, largest, length, length-replicate, length-set, line_of, lines_in, max, nat_tests, own, own_sizes, owner_in, place, place_in, raised, refl, replicate, room, same_place, same_place-self, set, sized, start_of, subst, suc, sum_by_more, sym, take, take_more, text_of_cell, text_width, true, widths, zero, ℕ}
+use Rattle.tabled_draw.proofs.Common.{[], Alignment, Style, border, line_size, pad, ◌+◌, ◌-◌, ◌<◌, ◌∙◌, ◌∷◌, ◌≡◌, ◌≢◌, ◌≤◌, ◌⊎◌, ASCII, AllByRecursion, AreEdges, AreNoLargerThanAsked, Columns, Fits, Grid, List, Measured, Member, Option, Position, Rectangle, Rows, Size, Some, SpanMap, across, and_from, ap, ap₂, arith, asks, by_number, cases_Bool, cases_eq, cases_lt, cell_at, cond, cond-false, cond-true, count_along, each, entries, eqb, ext_get_or, false, fold, fold-append, get_or, get_or-replicate, get_or-set_other, get_or-set_same, get_or_past, grown_for, in_order, grown_sizes, inl, inr, is_before, lacking, largest, least, length, length-replicate, length-set, line_of, lines_in, map_grid, max, most_asked, nat_tests, own, own_sizes, owner_in, place, place_in, raised, refl, replicate, room, same_place, same_place-self, set, share, sized, start_of, subst, suc, sym, take, take_more, takes, text_of_cell, text_width, true, unwrap_or, widths, zero, ℕ}
 use Rattle.tabled_draw.proofs.Each.{get-singles, length-singles}
+use Rattle.tabled_draw.proofs.Order.{all-of, member-ordered, ordered-member}
+use Rattle.tabled_draw.proofs.Widths.{columns-nil}
+use Rattle.tabled_draw.proofs.Shares.{Larger, get-grown, grown-enough, grown-larger, larger-trans, room-larger, room-one, room-span, room-without, share-low, share-outside, span, span-larger, start-more}
 use Rattle.tabled_draw.proofs.Before.{after-next, before-from, before-next, before-none, before-row, cases_before, after-from, here-next}
 use Rattle.tabled_draw.proofs.Owned.{LieWell, LiesIn, Owned, owned, member-at, fits-well}
 use Rattle.tabled_draw.proofs.Owned.Owned.{alone, held}
@@ -12,73 +15,6 @@ largest-least : (f : ℕ → ℕ) (n i : ℕ) → i < n → f i ≤ largest n f
 largest-least f zero i h = absurd (omega arith)
 largest-least f (suc n) i h = grind (arith, nat_tests, largest-least f n i)
 
--- ---- starts and rooms
-
-module _ (axis : Axis) where
-  -- n sizes from one on, with a gap after each
-  pub span : List ℕ → ℕ → ℕ → ℕ
-  span s at zero = 0
-  span s at (suc n) = span s at n + (get_or s (at + n) 0 + gap axis)
-
-  pub start-more : (s : List ℕ) (k : ℕ) → k < length s → start_of axis s (k + 1) ≡ start_of axis s k + (get_or s k 0 + gap axis)
-  start-more s k h = sum_by_more (λ x. x + gap axis) s k 0 h
-
-  pub start-span : (s : List ℕ) (at n : ℕ) → at + n ≤ length s → start_of axis s (at + n) ≡ start_of axis s at + span s at n
-  unfolding span
-  start-span s at zero h = ap (start_of axis s) (add-zero at) ∙ sym (add-zero (start_of axis s at))
-  start-span s at (suc n) h =
-      let go : start_of axis s (at + n) ≡ start_of axis s at + span s at n = start-span s at n (omega arith) in
-      let more : start_of axis s (at + n + 1) ≡ start_of axis s (at + n) + (get_or s (at + n) 0 + gap axis) = start-more s (at + n) (omega arith) in
-      let same : at + suc n ≡ at + n + 1 = omega arith in
-      ap (start_of axis s) same ∙ more ∙ ap (λ x. x + (get_or s (at + n) 0 + gap axis)) go ∙ add_assoc (start_of axis s at) (span s at n) (get_or s (at + n) 0 + gap axis)
-
-  pub room-span : (s : List ℕ) (at n : ℕ) → at + n ≤ length s → room axis s at n ≡ span s at n - gap axis
-  room-span s at n h = let e : start_of axis s (at + n) ≡ start_of axis s at + span s at n = start-span s at n h in omega arith
-
-  span-some : (s : List ℕ) (at n : ℕ) → 1 ≤ n → gap axis ≤ span s at n
-  unfolding span
-  span-some s at n h1 = grind (arith, nat_tests)
-
-  -- a room is no smaller than its last size
-  pub room-last : (s : List ℕ) (at n : ℕ) → 1 ≤ n → at + n ≤ length s → get_or s (at + n - 1) 0 ≤ room axis s at n
-  unfolding span
-  room-last s at zero some inside = absurd (omega arith)
-  room-last s at (suc k) some inside =
-      let r : room axis s at (suc k) ≡ span s at k + (get_or s (at + k) 0 + gap axis) - gap axis = room-span s at (suc k) inside in
-      let last : get_or s (at + suc k - 1) 0 ≡ get_or s (at + k) 0 = ap (λ i. get_or s i 0) (let e : at + suc k - 1 ≡ at + k = omega arith in e) in
-      omega arith
-
-  -- where a room ends
-  pub room-end : (s : List ℕ) (at n : ℕ) → 1 ≤ n → at + n ≤ length s → start_of axis s (at + n) ≡ start_of axis s at + (room axis s at n + gap axis)
-  room-end s at n some inside =
-      let a : start_of axis s (at + n) ≡ start_of axis s at + span s at n = start-span s at n inside in
-      let b : room axis s at n ≡ span s at n - gap axis = room-span s at n inside in
-      let c : gap axis ≤ span s at n = span-some s at n some in
-      omega arith
-
--- ---- sizes that grow
-
-pub record Larger (s t : List ℕ) : Type 0 where
-  pub long : length t ≡ length s
-  pub each : (k : ℕ) → get_or s k 0 ≤ get_or t k 0
-
-larger-trans : (s t u : List ℕ) → Larger s t → Larger t u → Larger s u
-larger-trans s t u a b = record { long = b.long ∙ a.long; each = λ k. omega (arith, a.each k, b.each k) }
-
-span-larger : (axis : Axis) (s t : List ℕ) → Larger s t → (at n : ℕ) → span axis s at n ≤ span axis t at n
-unfolding span
-span-larger axis s t l at zero = omega arith
-span-larger axis s t l at (suc n) = omega (arith, span-larger axis s t l at n, l.each (at + n))
-
-get_or-set : (s : List ℕ) (i v k : ℕ) → get_or s i 0 ≤ v → get_or s k 0 ≤ get_or (set s i v) k 0
-get_or-set s i v k h1 = grind (arith, common_steps, nat_tests)
-
--- the last of n sizes has grown by what they lack
-enough-set : (axis : Axis) (s t : List ℕ) (at n need : ℕ) → 1 ≤ n → at + n ≤ length s → Larger s t → get_or t (at + n - 1) 0 ≡ get_or s (at + n - 1) 0 + (need - room axis s at n) → need ≤ span axis t at n - gap axis
-unfolding span
-enough-set axis s t at zero need some h larger grew = absurd (omega arith)
-enough-set axis s t at (suc k) need some h larger grew = grind (arith, nat_tests, span-larger, room-span)
-
 -- ---- by axis
 
 one_line : (axis : Axis) → lines_in axis (sized 1 1) ≡ 1
@@ -88,43 +24,67 @@ one_line axis = grind (arith, nat_tests)
 pub lies-along : {A : Type 0} (axis : Axis) (g : Grid A) (e : Rectangle) → LiesIn g.rows g.columns e → (1 ≤ lines_in axis e.1) × (line_of axis e.0 + lines_in axis e.1 ≤ count_along axis g)
 lies-along axis g e h1 = grind (arith, nat_tests)
 
-module _ (axis : Axis) (g : Grid (List ℕ)) where
-  pub grown-larger : (s : List ℕ) (e : Rectangle) → Larger s (grown_for axis g s e)
-  grown-larger s e = record { long = length-set s (line_of axis e.0 + lines_in axis e.1 - 1) _; each = λ k. get_or-set s (line_of axis e.0 + lines_in axis e.1 - 1) _ k (omega arith) }
+own-size : Axis → Grid (List ℕ) → List Rectangle → ℕ → ℕ
+own-size axis g es k = max (least axis) (largest (count_along (across axis) g) (λ i. own axis g es (place_in axis k i)))
 
-  grown-enough : (s : List ℕ) (e : Rectangle) → 1 ≤ lines_in axis e.1 → line_of axis e.0 + lines_in axis e.1 ≤ length s → asks axis (text_of_cell g e.0) ≤ span axis (grown_for axis g s e) (line_of axis e.0) (lines_in axis e.1) - gap axis
-  grown-enough s e some h = grind (arith, nat_tests, enough-set, grown-larger, get_or-set_same)
+pub length-own : (axis : Axis) (g : Grid (List ℕ)) (es : List Rectangle) → length (own_sizes axis g es) ≡ count_along axis g
+unfolding own-size
+length-own axis g es = length-singles (own-size axis g es) (count_along axis g)
 
-  fold-larger : (es : List Rectangle) (s : List ℕ) → Larger s (fold (grown_for axis g) s es)
+module _ (axis : Axis) (style : Style) (g : Grid (List ℕ)) where
+  larger-for : (s : List ℕ) (e : Rectangle) → Larger s (grown_for axis style g s e)
+  larger-for s e = grown-larger axis (border axis style g) s (line_of axis e.0) (lines_in axis e.1) (asks axis (text_of_cell g e.0))
+
+  fold-larger : (es : List Rectangle) (s : List ℕ) → Larger s (fold (grown_for axis style g) s es)
   fold-larger [] s = record { long = refl; each = λ k. omega arith }
-  fold-larger (e ∷ es) s = larger-trans s (grown_for axis g s e) (fold (grown_for axis g) (grown_for axis g s e) es) (grown-larger s e) (fold-larger es (grown_for axis g s e))
+  fold-larger (e ∷ es) s = larger-trans s (grown_for axis style g s e) (fold (grown_for axis style g) (grown_for axis style g s e) es) (larger-for s e) (fold-larger es (grown_for axis style g s e))
 
-  fold-enough : (es : List Rectangle) (s : List ℕ) → ((e : Rectangle) → Member e es → (1 ≤ lines_in axis e.1) × (line_of axis e.0 + lines_in axis e.1 ≤ length s))
-      → (e : Rectangle) → Member e es → asks axis (text_of_cell g e.0) ≤ span axis (fold (grown_for axis g) s es) (line_of axis e.0) (lines_in axis e.1) - gap axis
+  -- these take rows or columns of some sizes
+  LieAmong : List ℕ → List Rectangle → Type 0
+  LieAmong s es = (e : Rectangle) → Member e es → (1 ≤ lines_in axis e.1) × (line_of axis e.0 + lines_in axis e.1 ≤ length s)
+
+  lie-later : (s : List ℕ) (x : Rectangle) (es : List Rectangle) → LieAmong s (x ∷ es) → LieAmong (grown_for axis style g s x) es
+  unfolding LieAmong
+  lie-later s x es all e m = ((all e (inr m)).0, (let inside = (all e (inr m)).1 in omega (arith, (larger-for s x).long)))
+
+  fold-enough : (es : List Rectangle) (s : List ℕ) → LieAmong s es
+      → (e : Rectangle) → Member e es → asks axis (text_of_cell g e.0) ≤ span axis (border axis style g) (fold (grown_for axis style g) s es) (line_of axis e.0) (lines_in axis e.1) - border axis style g (line_of axis e.0) - pad axis
+  unfolding LieAmong
   fold-enough [] s all e m = absurd m
   fold-enough (x ∷ es) s all e (inl same) =
       let need = asks axis (text_of_cell g x.0) in
-      let t = grown_for axis g s x in
+      let t = grown_for axis style g s x in
       let inside = all x (inl refl) in
-      let first : need ≤ span axis t (line_of axis x.0) (lines_in axis x.1) - gap axis = grown-enough s x inside.0 inside.1 in
-      let later : span axis t (line_of axis x.0) (lines_in axis x.1) ≤ span axis (fold (grown_for axis g) t es) (line_of axis x.0) (lines_in axis x.1) = span-larger axis t (fold (grown_for axis g) t es) (fold-larger es t) (line_of axis x.0) (lines_in axis x.1) in
+      let first : need ≤ span axis (border axis style g) t (line_of axis x.0) (lines_in axis x.1) - border axis style g (line_of axis x.0) - pad axis = grown-enough axis (border axis style g) s (line_of axis x.0) (lines_in axis x.1) need inside.0 inside.1 in
+      let later : span axis (border axis style g) t (line_of axis x.0) (lines_in axis x.1) ≤ span axis (border axis style g) (fold (grown_for axis style g) t es) (line_of axis x.0) (lines_in axis x.1) = span-larger axis (border axis style g) t (fold (grown_for axis style g) t es) (fold-larger es t) (line_of axis x.0) (lines_in axis x.1) in
       rw same (omega arith)
-  fold-enough (x ∷ es) s all e (inr m) = fold-enough es (grown_for axis g s x) (λ d i. ((all d (inr i)).0, (let inside = (all d (inr i)).1 in omega (arith, (grown-larger s x).long)))) e m
+  fold-enough (x ∷ es) s all e (inr m) = fold-enough es (grown_for axis style g s x) (lie-later s x es all) e m
 
   module _ (es : List Rectangle) where
-    pub length-own : length (own_sizes axis g es) ≡ count_along axis g
-    length-own = length-singles (λ k. largest (count_along (across axis) g) (λ i. own axis g es (place_in axis k i))) (count_along axis g)
-
-    pub length-sizes : length (sizes axis g es) ≡ count_along axis g
+    pub length-sizes : length (sizes axis style g es) ≡ count_along axis g
     unfolding sizes
-    length-sizes = (fold-larger es (own_sizes axis g es)).long ∙ length-own
+    length-sizes = (fold-larger (in_order axis g es) (own_sizes axis g es)).long ∙ length-own axis g es
 
-    pub start-next : (k : ℕ) → k < count_along axis g → start_of axis (sizes axis g es) (k + 1) ≡ start_of axis (sizes axis g es) k + (get_or (sizes axis g es) k 0 + gap axis)
-    start-next k h = start-more axis (sizes axis g es) k (omega (arith, length-sizes))
+    -- what stands in order stands in the list
+    pub from-order : (e : Rectangle) → Member e (in_order axis g es) → Member e es
+    from-order e m = ordered-member (λ (x : Rectangle). line_of axis x.0) (count_along axis g) es e (ordered-member (λ (x : Rectangle). lines_in axis x.1) (count_along axis g + 1) (by_number (λ (x : Rectangle). line_of axis x.0) (count_along axis g) es) e m)
+
+    -- and the other way round, where it lies in the table
+    in-order : LieWell g.rows g.columns es → (e : Rectangle) → Member e es → Member e (in_order axis g es)
+    in-order well e m =
+        let here = lies-along axis g e (well.lies e m) in
+        member-ordered (λ (x : Rectangle). lines_in axis x.1) (count_along axis g + 1) (by_number (λ (x : Rectangle). line_of axis x.0) (count_along axis g) es) e (member-ordered (λ (x : Rectangle). line_of axis x.0) (count_along axis g) es e m (omega (arith, here.0, here.1))) (omega (arith, here.0, here.1))
+
+    lie-among : LieWell g.rows g.columns es → LieAmong (own_sizes axis g es) (in_order axis g es)
+    unfolding LieAmong
+    lie-among well e m = let here = lies-along axis g e (well.lies e (from-order e m)) in (here.0, omega (arith, here.1, length-own axis g es))
+
+    pub start-next : (k : ℕ) → start_of axis (border axis style g) (sizes axis style g es) (k + 1) ≡ start_of axis (border axis style g) (sizes axis style g es) k + (border axis style g k + get_or (sizes axis style g es) k 0 + pad axis)
+    start-next k = start-more axis (border axis style g) (sizes axis style g es) k
 
     -- each owner has as much room as its text asks
-    pub room-enough : LieWell g.rows g.columns es → (p : Position) → p.row < g.rows → p.col < g.columns → asks axis (text_of_cell g (owner_in es p).0) ≤ room axis (sizes axis g es) (line_of axis (owner_in es p).0) (lines_in axis (owner_in es p).1)
-    unfolding sizes span
+    pub room-enough : LieWell g.rows g.columns es → (p : Position) → p.row < g.rows → p.col < g.columns → asks axis (text_of_cell g (owner_in es p).0) ≤ room axis (border axis style g) (sizes axis style g es) (line_of axis (owner_in es p).0) (lines_in axis (owner_in es p).1)
+    unfolding sizes own-size
     room-enough well p low far = by (owned es p)
       where
         o : Rectangle
@@ -133,17 +93,17 @@ module _ (axis : Axis) (g : Grid (List ℕ)) where
         base : List ℕ
         base = own_sizes axis g es
 
-        larger : Larger base (sizes axis g es)
-        larger = fold-larger es base
-
-        all : (e : Rectangle) → Member e es → (1 ≤ lines_in axis e.1) × (line_of axis e.0 + lines_in axis e.1 ≤ length base)
-        all e m = let here = lies-along axis g e (well.lies e m) in (here.0, omega (arith, here.1, length-own))
+        larger : Larger base (sizes axis style g es)
+        larger = fold-larger (in_order axis g es) base
 
         line_below : (a : Axis) → line_of a p < count_along a g
         line_below a = grind (arith, nat_tests)
 
-        by : Owned es p o → asks axis (text_of_cell g o.0) ≤ room axis (sizes axis g es) (line_of axis o.0) (lines_in axis o.1)
-        by (held m h) = grind (arith, common_steps, fold-enough, base, all, o, span, room-span, larger)
+        by : Owned es p o → asks axis (text_of_cell g o.0) ≤ room axis (border axis style g) (sizes axis style g es) (line_of axis o.0) (lines_in axis o.1)
+        by (held m h) =
+            let enough : asks axis (text_of_cell g o.0) ≤ span axis (border axis style g) (sizes axis style g es) (line_of axis o.0) (lines_in axis o.1) - border axis style g (line_of axis o.0) - pad axis = fold-enough (in_order axis g es) base (lie-among well) o (in-order well o m) in
+            let r : room axis (border axis style g) (sizes axis style g es) (line_of axis o.0) (lines_in axis o.1) ≡ span axis (border axis style g) (sizes axis style g es) (line_of axis o.0) (lines_in axis o.1) - border axis style g (line_of axis o.0) - pad axis = room-span axis (border axis style g) (sizes axis style g es) (line_of axis o.0) (lines_in axis o.1) in
+            omega arith
         by (alone is never) =
             let one : lines_in axis o.1 ≡ 1 = ap (λ (x : Rectangle). lines_in axis x.1) is ∙ one_line axis in
             let asked : own axis g es p ≡ asks axis (text_of_cell g p) = cond-true _ _ _ (and_from _ _ (ap (λ (x : Rectangle). same_place x.0 p) is ∙ same_place-self p) (ap (λ n. eqb n 1) one)) in
@@ -152,12 +112,92 @@ module _ (axis : Axis) (g : Grid (List ℕ)) where
             let there : own axis g es (place_in axis i j) ≡ own axis g es p = ap (own axis g es) (place_is axis p) in
             let f : ℕ → ℕ = λ k. own axis g es (place_in axis i k) in
             let least : own axis g es (place_in axis i j) ≤ largest (count_along (across axis) g) f = largest-least f (count_along (across axis) g) j (line_below (across axis)) in
-            let at : get_or base i 0 ≡ largest (count_along (across axis) g) f = get-singles (λ k. largest (count_along (across axis) g) (λ i. own axis g es (place_in axis k i))) (count_along axis g) i 0 (line_below axis) in
-            let more : get_or base i 0 ≤ get_or (sizes axis g es) i 0 = larger.each i in
-            let same : get_or (sizes axis g es) (i + 0) 0 ≡ get_or (sizes axis g es) i 0 = ap (λ k. get_or (sizes axis g es) k 0) (add-zero i) in
-            let e : room axis (sizes axis g es) i 1 ≡ 0 + (get_or (sizes axis g es) (i + 0) 0 + gap axis) - gap axis = room-span axis (sizes axis g es) i 1 (omega (arith, larger.long, length-own, line_below axis)) in
-            let enough : asks axis (text_of_cell g p) ≤ room axis (sizes axis g es) i 1 = omega arith in
+            let at : get_or base i 0 ≡ own-size axis g es i = get-singles (own-size axis g es) (count_along axis g) i 0 (line_below axis) in
+            let more : get_or base i 0 ≤ get_or (sizes axis style g es) i 0 = larger.each i in
+            let e : room axis (border axis style g) (sizes axis style g es) i 1 ≡ get_or (sizes axis style g es) i 0 = room-one axis (border axis style g) (sizes axis style g es) i in
+            let enough : asks axis (text_of_cell g p) ≤ room axis (border axis style g) (sizes axis style g es) i 1 = omega arith in
             rw (is, one_line axis) enough
+
+    -- ---- rows and columns are no larger than asked
+
+    module _ (k : ℕ) where
+      most : ℕ → Rectangle → ℕ
+      most m e = cond (takes axis k e) (max m (lacking axis style g es k e)) m
+
+      most-first : (xs : List Rectangle) (m : ℕ) → m ≤ fold most m xs
+      unfolding most
+      most-first [] m = omega arith
+      most-first (x ∷ xs) m = omega (arith, most-first xs (most m x), grown m x)
+        where
+          grown : (m : ℕ) (x : Rectangle) → m ≤ most m x
+          grown m x = grind arith
+
+      most-each : (xs : List Rectangle) (m : ℕ) (e : Rectangle) → Member e xs → takes axis k e ≡ true → lacking axis style g es k e ≤ fold most m xs
+      unfolding most
+      most-each [] m e none t = absurd none
+      most-each (x ∷ xs) m e (inl same) t =
+          let here : most m e ≡ max m (lacking axis style g es k e) = cond-true _ _ _ t in
+          let first : most m e ≤ fold most (most m e) xs = most-first xs (most m e) in
+          let low : lacking axis style g es k e ≤ fold most (most m e) xs = omega arith in
+          subst (λ y. lacking axis style g es k e ≤ fold most (most m y) xs) same low
+      most-each (x ∷ xs) m e (inr later) t = most-each xs (most m x) e later t
+
+      -- a size that grows for a merged cell is no larger than what is lacking beside the others
+      grown-low : (s : List ℕ) (e : Rectangle) (much : ℕ) → Larger (own_sizes axis g es) s → 1 ≤ lines_in axis e.1 → line_of axis e.0 + lines_in axis e.1 ≤ length s → (takes axis k e ≡ true → lacking axis style g es k e ≤ much) → get_or s k 0 ≤ much → get_or (grown_for axis style g s e) k 0 ≤ much
+      grown-low s e much larger some inside enough low = by (cases_lt k (length s)) (cases_Bool (takes axis k e))
+        where
+          at : ℕ
+          at = line_of axis e.0
+
+          n : ℕ
+          n = lines_in axis e.1
+
+          need : ℕ
+          need = asks axis (text_of_cell g e.0)
+
+          lack : ℕ
+          lack = need - room axis (border axis style g) s (line_of axis e.0) (lines_in axis e.1)
+
+          ranged : takes axis k e ≡ true → (line_of axis e.0 ≤ k) × (k < line_of axis e.0 + lines_in axis e.1)
+          ranged t = grind (arith, nat_tests)
+
+          taken : k < length s → takes axis k e ≡ true → get_or s k 0 + share (asks axis (text_of_cell g e.0) - room axis (border axis style g) s (line_of axis e.0) (lines_in axis e.1)) (line_of axis e.0) (lines_in axis e.1) k ≤ much
+          taken less t =
+              let base = own_sizes axis g es in
+              let within = ranged t in
+              let shared : share (need - room axis (border axis style g) s (line_of axis e.0) (lines_in axis e.1)) (line_of axis e.0) (lines_in axis e.1) k ≤ need - room axis (border axis style g) s (line_of axis e.0) (lines_in axis e.1) = share-low (need - room axis (border axis style g) s (line_of axis e.0) (lines_in axis e.1)) (line_of axis e.0) (lines_in axis e.1) k some in
+              let without : room axis (border axis style g) s (line_of axis e.0) (lines_in axis e.1) ≡ room axis (border axis style g) (set s k 0) (line_of axis e.0) (lines_in axis e.1) + get_or s k 0 = room-without axis (border axis style g) s k (line_of axis e.0) (lines_in axis e.1) less within.0 within.1 in
+              let more : room axis (border axis style g) (set base k 0) (line_of axis e.0) (lines_in axis e.1) ≤ room axis (border axis style g) (set s k 0) (line_of axis e.0) (lines_in axis e.1) = room-larger axis (border axis style g) base k s larger (line_of axis e.0) (lines_in axis e.1) in
+              let most : asks axis (text_of_cell g e.0) - room axis (border axis style g) (set base k 0) (line_of axis e.0) (lines_in axis e.1) ≤ much = enough t in
+              omega arith
+
+          by : (k < length s) ⊎ (length s ≤ k) → (takes axis k e ≡ true) ⊎ (takes axis k e ≡ false) → get_or (grown_for axis style g s e) k 0 ≤ much
+          by (inl less) (inl t) = rw (get-grown axis (border axis style g) s (line_of axis e.0) (lines_in axis e.1) (asks axis (text_of_cell g e.0)) k less) (taken less t)
+          by (inl less) (inr f) =
+              let now : get_or (grown_for axis style g s e) k 0 ≡ get_or s k 0 + share (asks axis (text_of_cell g e.0) - room axis (border axis style g) s (line_of axis e.0) (lines_in axis e.1)) (line_of axis e.0) (lines_in axis e.1) k = get-grown axis (border axis style g) s (line_of axis e.0) (lines_in axis e.1) (asks axis (text_of_cell g e.0)) k less in
+              let none : share (asks axis (text_of_cell g e.0) - room axis (border axis style g) s (line_of axis e.0) (lines_in axis e.1)) (line_of axis e.0) (lines_in axis e.1) k ≡ 0 = share-outside (asks axis (text_of_cell g e.0) - room axis (border axis style g) s (line_of axis e.0) (lines_in axis e.1)) (line_of axis e.0) (lines_in axis e.1) k f in
+              omega arith
+          by (inr past) _ =
+              let none : get_or (grown_for axis style g s e) k 0 ≡ 0 = get_or_past (grown_for axis style g s e) k 0 (omega (arith, (larger-for s e).long, past)) in
+              omega arith
+
+      fold-low : (xs : List Rectangle) (s : List ℕ) (much : ℕ) → Larger (own_sizes axis g es) s → LieAmong s xs → ((e : Rectangle) → Member e xs → takes axis k e ≡ true → lacking axis style g es k e ≤ much) → get_or s k 0 ≤ much → get_or (fold (grown_for axis style g) s xs) k 0 ≤ much
+      unfolding LieAmong
+      fold-low [] s much larger all enough low = low
+      fold-low (e ∷ xs) s much larger all enough low =
+          let here = all e (inl refl) in
+          fold-low xs (grown_for axis style g s e) much (larger-trans (own_sizes axis g es) s (grown_for axis style g s e) larger (larger-for s e)) (lie-later s e xs all) (λ d i. enough d (inr i))
+          (grown-low s e much larger here.0 here.1 (enough e (inl refl)) low)
+
+      low-sizes : LieWell g.rows g.columns es → get_or (sizes axis style g es) k 0 ≤ most_asked axis style g es k
+      unfolding sizes most
+      low-sizes well =
+          let own = get_or (own_sizes axis g es) k 0 in
+          fold-low (in_order axis g es) (own_sizes axis g es) (most_asked axis style g es k) (record { long = refl; each = λ i. omega arith }) (lie-among well)
+          (λ e m. most-each es own e (from-order e m)) (most-first es own)
+
+pub no-larger : (style : Style) (aligns : List Alignment) (g : Grid (List ℕ)) (es : List Rectangle) → LieWell g.rows g.columns es → AreNoLargerThanAsked style aligns g es
+no-larger style aligns g es well axis k = low-sizes axis style g es k well
 
 -- a line of a text is no wider than the text
 most-least : (lines : List (List ℕ)) (a : ℕ) → a ≤ fold (λ most line. max most (text_width line)) a lines
@@ -165,41 +205,9 @@ most-least [] a = omega arith
 most-least (x ∷ lines) a = omega (arith, most-least lines (max a (text_width x)))
 
 pub line-least : (lines : List (List ℕ)) (a k : ℕ) → text_width (get_or lines k []) ≤ fold (λ most line. max most (text_width line)) a lines
-line-least [] a k = omega arith
+line-least [] a k = omega (arith, columns-nil)
 line-least (x ∷ lines) a zero = omega (arith, most-least lines (max a (text_width x)))
 line-least (x ∷ lines) a (suc k) = line-least lines (max a (text_width x)) k
-
--- ---- rows and columns are no larger than asked
-
-module _ (axis : Axis) (g : Grid (List ℕ)) (k : ℕ) where
-  abbrev with_asked : ℕ → Rectangle → ℕ
-  with_asked most e = cond (ends_in axis k e) (max most (asks axis (text_of_cell g e.0))) most
-
-  grown-asked : (s : List ℕ) (e : Rectangle) (most : ℕ) → 1 ≤ lines_in axis e.1 → line_of axis e.0 + lines_in axis e.1 ≤ length s → get_or s k 0 ≤ most → get_or (grown_for axis g s e) k 0 ≤ with_asked most e
-  grown-asked s e most some inside low = by (cases_Bool (ends_in axis k e))
-    where
-      by : (ends_in axis k e ≡ true) ⊎ (ends_in axis k e ≡ false) → get_or (grown_for axis g s e) k 0 ≤ with_asked most e
-      by (inl t) =
-          let ends : line_of axis e.0 + lines_in axis e.1 ≡ k + 1 = eqb-true _ _ t in
-          let same : line_of axis e.0 + lines_in axis e.1 - 1 ≡ k = omega arith in
-          let old : get_or s (line_of axis e.0 + lines_in axis e.1 - 1) 0 ≡ get_or s k 0 = ap (λ i. get_or s i 0) same in
-          let now : get_or (grown_for axis g s e) k 0 ≡ get_or s (line_of axis e.0 + lines_in axis e.1 - 1) 0 + (asks axis (text_of_cell g e.0) - room axis s (line_of axis e.0) (lines_in axis e.1)) = ap (λ i. get_or (grown_for axis g s e) i 0) (sym same) ∙ get_or-set_same s (line_of axis e.0 + lines_in axis e.1 - 1) _ 0 (omega arith) in
-          let much = room-last axis s (line_of axis e.0) (lines_in axis e.1) some inside in
-          subst (λ x. get_or (grown_for axis g s e) k 0 ≤ x) (sym (cond-true (ends_in axis k e) (max most (asks axis (text_of_cell g e.0))) most t)) (omega arith)
-      by (inr f) =
-          let other : k ≢ line_of axis e.0 + lines_in axis e.1 - 1 = λ is. false≢true (sym f ∙ eq-eqb (line_of axis e.0 + lines_in axis e.1) (k + 1) (omega (arith, is))) in
-          let now : get_or (grown_for axis g s e) k 0 ≡ get_or s k 0 = get_or-set_other s (line_of axis e.0 + lines_in axis e.1 - 1) k _ 0 other in
-          subst (λ x. get_or (grown_for axis g s e) k 0 ≤ x) (sym (cond-false (ends_in axis k e) (max most (asks axis (text_of_cell g e.0))) most f)) (omega arith)
-
-  fold-asked : (es : List Rectangle) (s : List ℕ) (most : ℕ) → ((e : Rectangle) → Member e es → (1 ≤ lines_in axis e.1) × (line_of axis e.0 + lines_in axis e.1 ≤ length s)) → get_or s k 0 ≤ most → get_or (fold (grown_for axis g) s es) k 0 ≤ fold with_asked most es
-  fold-asked [] s most all low = low
-  fold-asked (e ∷ es) s most all low =
-      let here = all e (inl refl) in
-      fold-asked es (grown_for axis g s e) (with_asked most e) (λ d i. ((all d (inr i)).0, (let inside = (all d (inr i)).1 in omega (arith, (grown-larger axis g s e).long)))) (grown-asked s e most here.0 here.1 low)
-
-pub no-larger : (g : Grid (List ℕ)) (es : List Rectangle) → LieWell g.rows g.columns es → AreNoLargerThanAsked g es
-unfolding sizes
-no-larger g es well axis k = fold-asked axis g k es (own_sizes axis g es) (get_or (own_sizes axis g es) k 0) (λ e i. (let here = lies-along axis g e (well.lies e i) in (here.0, omega (arith, here.1, length-own axis g es)))) (omega arith)
 
 -- ---- sizes that grow, one merged cell after another
 
@@ -207,19 +215,37 @@ no-larger g es well axis k = fold-asked axis g k es (own_sizes axis g es) (get_o
 pub fold-more : {A B : Type 0} (f : B → A → B) (a : B) (xs : List A) (k : ℕ) (d : A) → k < length xs → fold f a (take (k + 1) xs) ≡ f (fold f a (take k xs)) (get_or xs k d)
 fold-more f a xs k d h = ap (fold f a) (take_more xs k d h) ∙ fold-append f a (take k xs) (get_or xs k d ∷ [])
 
--- what is known of the k-th merged cell
-pub anchor-at : (m : SpanMap) (rows columns : ℕ) → Fits m rows columns → (xs : List Rectangle) → xs ≡ entries m → (k : ℕ) (d : Rectangle) → k < length xs → LiesIn rows columns (get_or xs k d)
-anchor-at m rows columns fits xs is k d h =
-    rw is ((fits-well m rows columns fits).lies (get_or (entries m) k d) (member-at (entries m) k d (subst (λ (ys : List Rectangle). k < length ys) is h)))
+-- what is known of a merged cell of those that fit
+pub anchor-at : (m : SpanMap) (rows columns : ℕ) → Fits m rows columns → (k : ℕ) (d : Rectangle) → k < length (entries m) → LiesIn rows columns (get_or (entries m) k d)
+anchor-at m rows columns fits k d h = (fits-well m rows columns fits).lies (get_or (entries m) k d) (member-at (entries m) k d h)
 
-pub grown-more : (axis : Axis) (g : Grid (List ℕ)) (m : SpanMap) (base : List ℕ) (k : ℕ) (d : Rectangle) (xs : List Rectangle) → xs ≡ entries m → k < length xs → (s : List ℕ) (text : List ℕ) → cell_at g (get_or xs k d).0 ≡ Some text → (n : ℕ) (new : List ℕ)
-    → s ≡ fold (grown_for axis g) base (take k (entries m)) → n ≡ asks axis text → new ≡ grown_sizes axis s (line_of axis (get_or xs k d).0) (lines_in axis (get_or xs k d).1) n
-    → new ≡ fold (grown_for axis g) base (take (k + 1) (entries m))
-grown-more axis g m base k d xs is within s text read n new was many grew = grind (arith, common_steps, fold-more)
+-- they stand in order where they are put so by what each takes
+pub order-is : (axis : Axis) (g : Grid (List ℕ)) (m : SpanMap) (xs order : List Rectangle) → Fits m g.rows g.columns → xs ≡ entries m
+    → ((k n : ℕ) → AllByRecursion (λ (e : Rectangle). (lines_in axis e.1 < k) × (line_of axis e.0 < n)) xs → order ≡ by_number (λ (e : Rectangle). lines_in axis e.1) k (by_number (λ (e : Rectangle). line_of axis e.0) n xs))
+    → order ≡ in_order axis g (entries m)
+order-is axis g m xs order fits is put =
+    put (count_along axis g + 1) (count_along axis g) (rw is (all-of (λ (e : Rectangle). (lines_in axis e.1 < count_along axis g + 1) × (line_of axis e.0 < count_along axis g)) (entries m) (λ e among. below (lies-along axis g e ((fits-well m g.rows g.columns fits).lies e among)))))
+    ∙ ap (in_order axis g) is
+  where
+    below : {n at : ℕ} → (1 ≤ n) × (at + n ≤ count_along axis g) → (n < count_along axis g + 1) × (at < count_along axis g)
+    below h = (omega (arith, h.0, h.1), omega (arith, h.0, h.1))
 
-pub sizes-is : (axis : Axis) (g : Grid (List ℕ)) (m : SpanMap) (base s : List ℕ) → base ≡ own_sizes axis g (entries m) → s ≡ fold (grown_for axis g) base (entries m) → s ≡ sizes axis g (entries m)
+-- and of one of them in order
+pub ordered-at : (axis : Axis) (g : Grid (List ℕ)) (m : SpanMap) (rows columns : ℕ) → Fits m rows columns → (xs : List Rectangle) → xs ≡ in_order axis g (entries m) → (k : ℕ) (e : Rectangle) → k < length xs → e ≡ get_or xs k e → LiesIn rows columns e
+ordered-at axis g m rows columns fits xs is k e h at =
+    let among : Member e (in_order axis g (entries m)) = subst (λ (ys : List Rectangle). Member e ys) is (subst (λ (x : Rectangle). Member x xs) (sym at) (member-at xs k e h)) in
+    (fits-well m rows columns fits).lies e (from-order axis ASCII g (entries m) e among)
+
+pub grown-more : (axis : Axis) (style : Style) (g : Grid (List ℕ)) (base : List ℕ) (k : ℕ) (e : Rectangle) (xs : List Rectangle) → k < length xs → e ≡ get_or xs k e → (s : List ℕ) (text : List ℕ) → cell_at g e.0 ≡ Some text → (n : ℕ) (new : List ℕ)
+    → s ≡ fold (grown_for axis style g) base (take k xs) → n ≡ asks axis text → new ≡ grown_sizes axis (border axis style g) s (line_of axis e.0) (lines_in axis e.1) n
+    → new ≡ fold (grown_for axis style g) base (take (k + 1) xs)
+grown-more axis style g base k e xs within at s text read n new was many grew =
+    grew ∙ ap (grown_sizes axis (border axis style g) s (line_of axis e.0) (lines_in axis e.1)) (many ∙ ap (asks axis) (sym (ap (λ (o : Option (List ℕ)). unwrap_or o []) read)))
+    ∙ ap₂ (grown_for axis style g) was at ∙ sym (fold-more (grown_for axis style g) base xs k e within)
+
+pub sizes-is : (axis : Axis) (style : Style) (g : Grid (List ℕ)) (m : SpanMap) (base s : List ℕ) → base ≡ own_sizes axis g (entries m) → s ≡ fold (grown_for axis style g) base (in_order axis g (entries m)) → s ≡ sizes axis style g (entries m)
 unfolding sizes
-sizes-is axis g m base s first is = is ∙ ap (λ b. fold (grown_for axis g) b (entries m)) first
+sizes-is axis style g m base s first is = is ∙ ap (λ b. fold (grown_for axis style g) b (in_order axis g (entries m))) first
 
 -- ---- lists of what a function gives
 
@@ -231,6 +257,12 @@ is-each f n xs long same = ext_get_or 0 xs (each n (λ j. f j ∷ [])) (long ∙
 pub largest-same : (f h : ℕ → ℕ) (n : ℕ) → ((k : ℕ) → k < n → f k ≡ h k) → largest n f ≡ largest n h
 largest-same f h zero same = refl
 largest-same f h (suc n) same = ap₂ max (largest-same f h n (λ k less. same k (omega (arith, less)))) (same n (omega arith))
+
+max-zero : (n : ℕ) → max n 0 ≡ n
+max-zero n = omega arith
+
+max-max : (a b c : ℕ) → max (max a b) c ≡ max a (max b c)
+max-max a b c = omega arith
 
 largest-zero : (n : ℕ) → largest n (λ k. 0) ≡ 0
 largest-zero zero = refl
@@ -259,11 +291,11 @@ module _ (axis : Axis) (g : Grid (List ℕ)) (es : List Rectangle) where
   asked_at : ℕ → ℕ → ℕ → ℕ → ℕ
   asked_at i j k x = cond (is_before i j (place_in axis k x)) (own axis g es (place_in axis k x)) 0
 
-  pub measured-none : (sizes : List ℕ) → sizes ≡ replicate (count_along axis g) 0 → Measured axis g es 0 0 sizes
+  pub measured-none : (sizes : List ℕ) → sizes ≡ replicate (count_along axis g) (least axis) → Measured axis g es 0 0 sizes
   unfolding asked_at
   measured-none sizes is = record {
-    long = ap length is ∙ length-replicate (count_along axis g) 0;
-    each = λ k h. ap (λ (xs : List ℕ). get_or xs k 0) is ∙ get_or-replicate (count_along axis g) k 0 0 h ∙ sym (largest-same (asked_at 0 0 k) (λ x. 0) (count_along (across axis) g) (λ x less. cond-false _ _ _ (before-none (place_in axis k x))) ∙ largest-zero (count_along (across axis) g));
+    long = ap length is ∙ length-replicate (count_along axis g) (least axis);
+    each = λ k h. ap (λ (xs : List ℕ). get_or xs k 0) is ∙ get_or-replicate (count_along axis g) k (least axis) 0 h ∙ sym (ap (max (least axis)) (largest-same (asked_at 0 0 k) (λ x. 0) (count_along (across axis) g) (λ x less. cond-false _ _ _ (before-none (place_in axis k x))) ∙ largest-zero (count_along (across axis) g)) ∙ max-zero (least axis));
   }
 
   pub measured-row : (i j : ℕ) (sizes : List ℕ) → j ≡ g.columns → Measured axis g es i j sizes → Measured axis g es (i + 1) 0 sizes
@@ -271,9 +303,9 @@ module _ (axis : Axis) (g : Grid (List ℕ)) (es : List Rectangle) where
   measured-row i j sizes e was = grind (arith, nat_tests, largest-same, asked_at, before-row, place-within)
 
   pub measured-all : (i : ℕ) (sizes : List ℕ) → i ≡ g.rows → Measured axis g es i 0 sizes → sizes ≡ own_sizes axis g es
-  unfolding asked_at
-  measured-all i sizes e was = is-each (λ k. largest (count_along (across axis) g) (λ x. own axis g es (place_in axis k x))) (count_along axis g) sizes was.long
-      (λ k h. was.each k h ∙ largest-same (asked_at i 0 k) (λ x. own axis g es (place_in axis k x)) (count_along (across axis) g) (λ x less. cond-true _ _ _ (before-from i 0 (place_in axis k x) (inl (omega (arith, (place-within axis g k x h less).0, e))))))
+  unfolding asked_at own-size
+  measured-all i sizes e was = is-each (own-size axis g es) (count_along axis g) sizes was.long
+      (λ k h. was.each k h ∙ ap (max (least axis)) (largest-same (asked_at i 0 k) (λ x. own axis g es (place_in axis k x)) (count_along (across axis) g) (λ x less. cond-true _ _ _ (before-from i 0 (place_in axis k x) (inl (omega (arith, (place-within axis g k x h less).0, e)))))))
 
   module _ (i j : ℕ) (h : i < g.rows) (w : j < g.columns) (sizes : List ℕ) (was : Measured axis g es i j sizes) where
     pub p : Position
@@ -304,15 +336,15 @@ module _ (axis : Axis) (g : Grid (List ℕ)) (es : List Rectangle) where
       each = λ k less. ap (λ (xs : List ℕ). get_or xs k 0) is ∙ by k less (cases_eq k line);
     }
       where
-        apart : (k : ℕ) → k < count_along axis g → k ≢ line → get_or (set sizes line (max (get_or sizes line 0) (own axis g es p))) k 0 ≡ largest (count_along (across axis) g) (asked_at i (j + 1) k)
-        apart k less ne = get_or-set_other sizes line k _ 0 ne ∙ was.each k less ∙ largest-same (asked_at i j k) (asked_at i (j + 1) k) (count_along (across axis) g) (λ x within. sym (other k x (λ e. ne (in-line axis k x p e).0)))
+        apart : (k : ℕ) → k < count_along axis g → k ≢ line → get_or (set sizes line (max (get_or sizes line 0) (own axis g es p))) k 0 ≡ max (least axis) (largest (count_along (across axis) g) (asked_at i (j + 1) k))
+        apart k less ne = get_or-set_other sizes line k _ 0 ne ∙ was.each k less ∙ ap (max (least axis)) (largest-same (asked_at i j k) (asked_at i (j + 1) k) (count_along (across axis) g) (λ x within. sym (other k x (λ e. ne (in-line axis k x p e).0))))
 
-        by : (k : ℕ) → k < count_along axis g → (k ≡ line) ⊎ (k ≢ line) → get_or (set sizes line (max (get_or sizes line 0) (own axis g es p))) k 0 ≡ largest (count_along (across axis) g) (asked_at i (j + 1) k)
+        by : (k : ℕ) → k < count_along axis g → (k ≡ line) ⊎ (k ≢ line) → get_or (set sizes line (max (get_or sizes line 0) (own axis g es p))) k 0 ≡ max (least axis) (largest (count_along (across axis) g) (asked_at i (j + 1) k))
         by k less (inr ne) = apart k less ne
         by k less (inl same) =
             let within : line < length sizes = omega (arith, was.long, line-within axis g i j h w) in
             ap (λ z. get_or (set sizes line (max (get_or sizes line 0) (own axis g es p))) z 0) same ∙ get_or-set_same sizes line _ 0 within
-            ∙ ap (λ a. max a (own axis g es p)) (was.each line (line-within axis g i j h w)) ∙ sym here ∙ ap (λ z. largest (count_along (across axis) g) (asked_at i (j + 1) z)) (sym same)
+            ∙ ap (λ a. max a (own axis g es p)) (was.each line (line-within axis g i j h w)) ∙ max-max (least axis) (largest (count_along (across axis) g) (asked_at i j line)) (own axis g es p) ∙ ap (max (least axis)) (sym here) ∙ ap (λ z. max (least axis) (largest (count_along (across axis) g) (asked_at i (j + 1) z))) (sym same)
 
     -- the same, by the owner of the place
     pub measured-raised : (new : List ℕ) (o : Option Rectangle) → o ≡ Some (owner_in es (place i j)) → new ≡ raised axis g sizes o (place i j) → Measured axis g es i (j + 1) new
@@ -322,14 +354,24 @@ module _ (axis : Axis) (g : Grid (List ℕ)) (es : List Rectangle) where
 -- ---- tables that are laid out
 
 module _ (axis : Axis) (g : Grid (List ℕ)) (es : List Rectangle) where
-  pub none-asked : (n : ℕ) (s : List ℕ) → n ≡ count_along axis g → s ≡ replicate n 0 → Measured axis g es 0 0 s
-  none-asked n s same is = measured-none axis g es s (is ∙ ap (λ k. replicate k 0) same)
+  pub none-asked : (n : ℕ) (s : List ℕ) → n ≡ count_along axis g → s ≡ replicate n (least axis) → Measured axis g es 0 0 s
+  none-asked n s same is = measured-none axis g es s (is ∙ ap (λ k. replicate k (least axis)) same)
 
   pub own-long : (s : List ℕ) → s ≡ own_sizes axis g es → length s ≡ count_along axis g
   own-long s is = ap length is ∙ length-own axis g es
 
-pub edges-of : (g : Grid (List ℕ)) (m : SpanMap) (ws edges : List ℕ) → ws ≡ widths g (entries m) → length edges ≡ length ws + 1 → ((k : ℕ) → k < length ws + 1 → get_or edges k 0 ≡ start_of Columns ws k) → AreEdges g m edges
-edges-of g m ws edges is long each-is = grind (arith, nat_tests, length-sizes)
+pub edges-of : (style : Style) (g : Grid (List ℕ)) (m : SpanMap) (ws edges : List ℕ) → ws ≡ widths style g (entries m) → length edges ≡ length ws + 1 → ((k : ℕ) → k < length ws + 1 → get_or edges k 0 ≡ start_of Columns (line_size style.columns (length ws)) ws k) → AreEdges style g m edges
+edges-of style g m ws edges is long each-is =
+    let many : length ws ≡ g.columns = ap length is ∙ length-sizes Columns style g (entries m) in
+    record {
+      long = long ∙ ap (λ n. n + 1) many;
+      each = λ k h. each-is k (omega (arith, h, many)) ∙ ap₂ (λ n (s : List ℕ). start_of Columns (line_size style.columns n) s k) many is;
+    }
+
+-- a table of what a function makes of cells is as large
+pub count-map : {A B : Type 0} (axis : Axis) (f : A → B) (g : Grid A) → count_along axis (map_grid f g) ≡ count_along axis g
+count-map Rows f g = refl
+count-map Columns f g = refl
 
 -- what a text asks, of rows and of columns
 pub both-asked : (axis : Axis) (s : Size) (text : List ℕ) → s.height ≡ asks Rows text → s.width ≡ asks Columns text → lines_in axis s ≡ asks axis text

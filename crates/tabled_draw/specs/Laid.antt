@@ -5,20 +5,21 @@ use denote.Ref.{Bor}
 use Rattle.tabled_draw.specs.Picture.{left}
 use Rattle.tabled_draw.specs.Sent.{Kept}
 use Rattle.tabled_draw.specs.Sizes.{heights}
+use Rattle.tabled_draw.specs.declared.style.Style.{Style}
 use Rattle.tabled_grid.specs.Grid.{Grid}
 use Rattle.tabled_grid.specs.Fitting.{Fits}
 use Rattle.tabled_grid.specs.Spans.{Rectangle, SpanMap}
 
 -- the left edge of each column, and the last edge
-pub record AreEdges (g : Grid (List ℕ)) (m : SpanMap) (edges : List ℕ) : Type 0 where
+pub record AreEdges (style : Style) (g : Grid (List ℕ)) (m : SpanMap) (edges : List ℕ) : Type 0 where
   pub long : length edges ≡ g.columns + 1
-  pub each : (k : ℕ) → k < g.columns + 1 → slice_index_or edges k 0 ≡ left g (entries m) k
+  pub each : (k : ℕ) → k < g.columns + 1 → slice_index_or edges k 0 ≡ left style g (entries m) k
 
 -- the layout of a table, and room for two rows of owners and for a text in each column
-pub record IsLaidOut (g : Grid (List ℕ)) (m : SpanMap) (lefts highs : List ℕ) (over under : List (Option Rectangle)) (texts : List (Bor (List ℕ))) (kept : Kept) : Type 0 where
+pub record IsLaidOut (style : Style) (g : Grid (List ℕ)) (m : SpanMap) (lefts highs : List ℕ) (over under : List (Option Rectangle)) (texts : List (Bor (List ℕ))) (kept : Kept) : Type 0 where
   pub fits : Fits m g.rows g.columns
-  pub edges : AreEdges g m lefts
-  pub heights : highs ≡ heights g (entries m)
+  pub edges : AreEdges style g m lefts
+  pub heights : highs ≡ heights style g (entries m)
   pub tall : length highs ≡ g.rows
   pub above : length over ≡ g.columns + 2
   pub here : length under ≡ g.columns + 2

@@ -1,6 +1,9 @@
+pub mod Alignments
+pub mod Borders
 pub mod Each
 pub mod Laid
 pub mod Lines
+pub mod Marks
 pub mod Measured
 pub mod Overall
 pub mod OwnerRows
@@ -10,4 +13,5 @@ pub mod Rests
 pub mod Sent
 pub mod Sizes
 pub mod Standing
+pub mod Styles
 pub mod Texts

@@ -1,49 +1,56 @@
 -- What is said of pictures as a whole.
-use Rattle.std.specs.Prelude.{◌≡◌, ◌≢◌, ◌⊎◌, ◌+◌, ◌<◌, ◌≤◌, ◌==◌, if◌then◌else◌, ℕ, Bool, List, max, slice_index_or}
+use Rattle.std.specs.Prelude.{◌≡◌, ◌+◌, ◌-◌, ◌≤◌, if◌then◌else◌, ℕ, Bool, List, max, slice_index_or, slice_set}
 use Rattle.std.specs.FinMap.{entries}
 use Rattle.std.specs.List.{AllByRecursion, fold}
-use Rattle.tabled_draw.specs.Picture.{drawn, left, picture}
-use Rattle.tabled_draw.specs.Sizes.{asks, own_sizes, sizes, text_of_cell}
+use Rattle.tabled_draw.specs.Marks.{IsFine, IsNoControl}
+use Rattle.tabled_draw.specs.Picture.{left, picture}
+use Rattle.tabled_draw.specs.Sizes.{asks, own_sizes, room, sizes, text_of_cell}
+use Rattle.tabled_draw.specs.Each.{is_in_range, total}
+use Rattle.tabled_draw.specs.Borders.{border}
 use Rattle.tabled_draw.specs.Texts.{text_width}
+use Rattle.tabled_draw.specs.declared.alignment.Alignment.{Alignment}
+use Rattle.tabled_draw.specs.declared.style.Style.{Style}
+use Rattle.tabled_grid.specs.declared.records.axis.Axis.TheVariants.{Rows, Columns}
 use Rattle.tabled_grid.specs.Axis.{line_of, lines_in}
 use Rattle.tabled_grid.specs.Fitting.{Fits, fitting}
 use Rattle.tabled_grid.specs.Grid.{Grid}
 use Rattle.tabled_grid.specs.Spans.{AreSpanSizes, Rectangle, SpanMap}
 use Rattle.tabled_grid.specs.declared.records.axis.Axis.{Axis}
 
--- what is said of tables and merged cells holds where these fit their table, and so always of those that are drawn
-pub record HoldsOfPictures (Says : Grid (List ℕ) → List Rectangle → Type 0) : Type 0 where
-  pub where_all_fit : (g : Grid (List ℕ)) (m : SpanMap) → Fits m g.rows g.columns → Says g (entries m)
-  pub of_drawn : (g : Grid (List ℕ)) (m : SpanMap) → AreSpanSizes m → Says g (fitting g.rows g.columns (entries m))
+-- what is said of looks, tables and merged cells holds where these fit their table, and so always of those that are drawn
+pub record HoldsOfPictures (Says : Style → List Alignment → Grid (List ℕ) → List Rectangle → Type 0) : Type 0 where
+  pub where_all_fit : (style : Style) (aligns : List Alignment) (g : Grid (List ℕ)) (m : SpanMap) → Fits m g.rows g.columns → Says style aligns g (entries m)
+  pub of_drawn : (style : Style) (aligns : List Alignment) (g : Grid (List ℕ)) (m : SpanMap) → AreSpanSizes m → Says style aligns g (fitting g.rows g.columns (entries m))
 
--- where the texts of two tables are equal, and their merged cells, so are the bytes of their pictures
-abbrev pub AreDrawnAlike : Grid (List ℕ) → Grid (List ℕ) → Type 0
-AreDrawnAlike g h = (m n : SpanMap) → g ≡ h → m ≡ n → drawn g m ≡ drawn h n
-
--- a character that is no control character
-pub record IsNoControl (c : ℕ) : Type 0 where
-  pub above : 0x20 ≤ c
-  pub no_delete : c ≢ 0x7F
-  pub outside : (c < 0x80) ⊎ (0x9F < c)
-
--- nor is one of a line
+-- no character of a line is a control character
 abbrev pub AreNoControls : List ℕ → Type 0
 AreNoControls line = AllByRecursion IsNoControl line
 
--- each line takes as many columns as there are before the table's right edge, and one for that edge
-abbrev pub AreEquallyWide : Grid (List ℕ) → List Rectangle → Type 0
-AreEquallyWide g es = AllByRecursion (λ line. text_width line ≡ left g es g.columns + 1) (picture g es)
+-- each line takes as many columns as there are before the table's right edge, and one for that edge if it is drawn
+abbrev pub AreEquallyWide : Style → List Alignment → Grid (List ℕ) → List Rectangle → Type 0
+AreEquallyWide style aligns g es = IsFine style → AllByRecursion (λ line. text_width line ≡ left style g es g.columns + border Columns style g g.columns) (picture style aligns g es)
 
--- a merged cell ends in a row, or in a column
-abbrev pub ends_in : Axis → ℕ → Rectangle → Bool
-ends_in axis k e = line_of axis e.0 + lines_in axis e.1 == k + 1
+-- the number of lines that are drawn around the rows of a table
+abbrev pub drawn_lines : Style → Grid (List ℕ) → ℕ
+drawn_lines style g = total (g.rows + 1) (border Rows style g)
 
--- the most that is asked of a row or column: by texts that are seen in no other, and by those of merged cells that end in it
-abbrev pub most_asked : Axis → Grid (List ℕ) → List Rectangle → ℕ → ℕ
-most_asked axis g es k =
+-- a merged cell takes a row, or a column
+abbrev pub takes : Axis → ℕ → Rectangle → Bool
+takes axis k e = is_in_range k (line_of axis e.0) (lines_in axis e.1)
+
+-- what is lacking of a row or column for the text of a merged cell, where the others are as large as their own texts ask
+abbrev pub lacking : Axis → Style → Grid (List ℕ) → List Rectangle → ℕ → Rectangle → ℕ
+lacking axis style g es k e =
+    let others = slice_set (own_sizes axis g es) k 0 in
+    asks axis (text_of_cell g e.0) - room axis (border axis style g) others (line_of axis e.0) (lines_in axis e.1)
+
+-- the most that is asked of a row or column: by texts that are seen in no other, and beside the others by a merged cell
+-- that takes it
+abbrev pub most_asked : Axis → Style → Grid (List ℕ) → List Rectangle → ℕ → ℕ
+most_asked axis style g es k =
     let own = slice_index_or (own_sizes axis g es) k 0 in
-    fold (λ most e. if ends_in axis k e then max most (asks axis (text_of_cell g e.0)) else most) own es
+    fold (λ most e. if takes axis k e then max most (lacking axis style g es k e) else most) own es
 
 -- no row is higher, and no column wider
-abbrev pub AreNoLargerThanAsked : Grid (List ℕ) → List Rectangle → Type 0
-AreNoLargerThanAsked g es = (axis : Axis) (k : ℕ) → slice_index_or (sizes axis g es) k 0 ≤ most_asked axis g es k
+abbrev pub AreNoLargerThanAsked : Style → List Alignment → Grid (List ℕ) → List Rectangle → Type 0
+AreNoLargerThanAsked style aligns g es = (axis : Axis) (k : ℕ) → slice_index_or (sizes axis style g es) k 0 ≤ most_asked axis style g es k

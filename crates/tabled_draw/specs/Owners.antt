@@ -1,6 +1,6 @@
 -- The owners of places: the merged cells that hold them, or the places themselves.
-use Rattle.std.specs.Prelude.{◌-◌, ◌&&◌, if◌then◌else◌, ℕ, Bool, false, List, [], ◌∷◌, Option, None, Some, nat_le, nat_lt}
-use Rattle.tabled_grid.specs.Entity.{place, same_place}
+use Rattle.std.specs.Prelude.{◌-◌, ◌&&◌, if◌then◌else◌, ℕ, List, [], ◌∷◌, Option, None, Some, nat_le, nat_lt}
+use Rattle.tabled_grid.specs.Entity.{place}
 use Rattle.tabled_grid.specs.Rectangles.{holds}
 use Rattle.tabled_grid.specs.declared.config.position.Position.{Position}
 use Rattle.tabled_grid.specs.Spans.{Rectangle, sized}
@@ -16,9 +16,3 @@ owner rows columns es i j =
     if (nat_lt 0 i && nat_le i rows) && (nat_lt 0 j && nat_le j columns)
     then Some (owner_in es (place (i - 1) (j - 1)))
     else None
-
--- two owners are one: none is no other's
-abbrev pub is_one : Option Rectangle → Option Rectangle → Bool
-is_one None q = false
-is_one (Some p) None = false
-is_one (Some p) (Some q) = same_place p.0 q.0

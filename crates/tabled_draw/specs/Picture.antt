@@ -1,78 +1,96 @@
 -- The picture of a table: its lines, each a list of characters.
-use Rattle.std.specs.Prelude.{◌+◌, ◌-◌, ◌==◌, ◌&&◌, ◌||◌, ◌++◌, if◌then◌else◌, ℕ, List, [], ◌∷◌, Option, None, Some, encode_utf8_all, replicate, slice_index_or}
+use Rattle.std.specs.Prelude.{◌+◌, ◌-◌, ◌==◌, ◌||◌, ◌++◌, if◌then◌else◌, ℕ, List, [], ◌∷◌, Option, None, Some, encode_utf8_all, replicate, slice_index_or}
 use Rattle.std.specs.FinMap.{entries}
 use Rattle.std.specs.List.{flat_map}
+use Rattle.tabled_draw.specs.Alignments.{aligned, alignment_in}
+use Rattle.tabled_draw.specs.Borders.{are_none, arms, border, differ, mark}
 use Rattle.tabled_draw.specs.Each.{each}
-use Rattle.tabled_draw.specs.Owners.{is_one, owner}
+use Rattle.tabled_draw.specs.Owners.{owner}
 use Rattle.tabled_draw.specs.Sizes.{heights, room, start_of, text_of_cell, widths}
-use Rattle.tabled_draw.specs.Texts.{text_width, lines_shown}
+use Rattle.tabled_draw.specs.Texts.{lines_shown}
+use Rattle.tabled_draw.specs.declared.alignment.Alignment.{Alignment}
+use Rattle.tabled_draw.specs.declared.style.Style.{Style}
+use Rattle.tabled_draw.specs.declared.style.TheConstants.Style.{ASCII}
 use Rattle.tabled_grid.specs.Fitting.{fitting}
 use Rattle.tabled_grid.specs.Grid.{Grid}
 use Rattle.tabled_grid.specs.Spans.{Rectangle, SpanMap}
 use Rattle.tabled_grid.specs.declared.records.axis.Axis.TheVariants.{Rows, Columns}
 
--- the number of the line above a row
-abbrev pub top : Grid (List ℕ) → List Rectangle → ℕ → ℕ
-top g es i = start_of Rows (heights g es) i
+-- the number of lines before the line above a row
+abbrev pub top : Style → Grid (List ℕ) → List Rectangle → ℕ → ℕ
+top style g es i = start_of Rows (border Rows style g) (heights style g es) i
 
 -- the number of characters before a column's left edge, where each is one column wide
-abbrev pub left : Grid (List ℕ) → List Rectangle → ℕ → ℕ
-left g es j = start_of Columns (widths g es) j
+abbrev pub left : Style → Grid (List ℕ) → List Rectangle → ℕ → ℕ
+left style g es j = start_of Columns (border Columns style g) (widths style g es) j
 
--- what a cell shows in the n-th line of the picture: a blank, its line of text, and blanks up to its right edge
-abbrev pub shows : Grid (List ℕ) → List Rectangle → ℕ → Rectangle → List ℕ
-shows g es n o =
-    let picture_line = slice_index_or (lines_shown (text_of_cell g o.0)) (n - top g es o.0.row - 1) [] in
-    32 ∷ picture_line ++ replicate (room Columns (widths g es) o.0.col o.1.width - text_width picture_line + 1) 32
+-- what a cell shows in the n-th line of the picture: its line of text, aligned in its room
+abbrev pub shows : Style → List Alignment → Grid (List ℕ) → List Rectangle → ℕ → Rectangle → List ℕ
+shows style aligns g es n o =
+    aligned (alignment_in aligns o.0.col) (room Columns (border Columns style g) (widths style g es) o.0.col o.1.width) (slice_index_or (lines_shown (text_of_cell g o.0)) (n - top style g es o.0.row - border Rows style g o.0.row) [])
 
--- the same between the columns l and r, if that is in the cell's first column: elsewhere nothing
-abbrev pub shows_in : Grid (List ℕ) → List Rectangle → ℕ → ℕ → ℕ → Option Rectangle → List ℕ
-shows_in g es n l r None = []
-shows_in g es n l r (Some o) = if (l == r) && (l == o.0.col + 1) then shows g es n o else []
+-- the same in a column, if the cell begins there: elsewhere nothing
+abbrev pub shows_in : Style → List Alignment → Grid (List ℕ) → List Rectangle → ℕ → ℕ → Option Rectangle → List ℕ
+shows_in style aligns g es n j None = []
+shows_in style aligns g es n j (Some o) = if o.0.col == j then shows style aligns g es n o else []
 
--- a stretch of the n-th line, in row u or between the rows u and d, and in column l or between the columns l and r:
--- what the one owner there shows, else a border of a size
-abbrev pub border_stretch : Grid (List ℕ) → List Rectangle → ℕ → ℕ → ℕ → ℕ → ℕ → ℕ → List ℕ
-border_stretch g es n u d l r size =
+-- at the left edge of a column, in row u or between the rows u and d, which count from 1: nothing where no arm meets
+abbrev pub edge_between : Style → Grid (List ℕ) → List Rectangle → ℕ → ℕ → ℕ → List ℕ
+edge_between style g es u d j =
     let at = owner g.rows g.columns es in
-    if (is_one (at u l) (at u r) && is_one (at u l) (at d l)) && is_one (at u l) (at d r)
-    then shows_in g es n l r (at u l)
-    else replicate size (if u == d then 124 else if l == r then 45 else 43)
+    let meeting = arms (at u j) (at u (j + 1)) (at d j) (at d (j + 1)) in
+    if are_none meeting then [] else replicate (border Columns style g j) (mark style (u == d) meeting)
+
+-- in a column: a border between two owners, else what the one owner shows
+abbrev pub column_between : Style → List Alignment → Grid (List ℕ) → List Rectangle → ℕ → ℕ → ℕ → ℕ → List ℕ
+column_between style aligns g es n u d j =
+    let at = owner g.rows g.columns es in
+    if differ (at u (j + 1)) (at d (j + 1))
+    then replicate (slice_index_or (widths style g es) j 0 + 2) style.horizontal
+    else shows_in style aligns g es n j (at u (j + 1))
 
 -- the n-th line of the picture, in row u or between the rows u and d
-abbrev pub picture_line : Grid (List ℕ) → List Rectangle → ℕ → ℕ → ℕ → List ℕ
-picture_line g es n u d =
-    each g.columns (λ j. border_stretch g es n u d j (j + 1) 1 ++ border_stretch g es n u d (j + 1) (j + 1) (slice_index_or (widths g es) j 0 + 2))
-    ++ border_stretch g es n u d g.columns (g.columns + 1) 1
+abbrev pub picture_line : Style → List Alignment → Grid (List ℕ) → List Rectangle → ℕ → ℕ → ℕ → List ℕ
+picture_line style aligns g es n u d =
+    each g.columns (λ j. edge_between style g es u d j ++ column_between style aligns g es n u d j)
+    ++ edge_between style g es u d g.columns
+
+-- the line above a row, or below the last one, if it is drawn
+abbrev pub border_line : Style → List Alignment → Grid (List ℕ) → List Rectangle → ℕ → List (List ℕ)
+border_line style aligns g es i = replicate (border Rows style g i) (picture_line style aligns g es (top style g es i) i (i + 1))
 
 -- the line above a row, and the lines in it
-abbrev pub lines_of_row : Grid (List ℕ) → List Rectangle → ℕ → List (List ℕ)
-lines_of_row g es i =
-    picture_line g es (top g es i) i (i + 1)
-    ∷ each (slice_index_or (heights g es) i 0) (λ y. picture_line g es (top g es i + 1 + y) (i + 1) (i + 1) ∷ [])
+abbrev pub lines_of_row : Style → List Alignment → Grid (List ℕ) → List Rectangle → ℕ → List (List ℕ)
+lines_of_row style aligns g es i =
+    border_line style aligns g es i
+    ++ each (slice_index_or (heights style g es) i 0) (λ y. picture_line style aligns g es (top style g es i + border Rows style g i + y) (i + 1) (i + 1) ∷ [])
 
 -- the lines of the picture, of which a table without cells has none
-abbrev pub picture : Grid (List ℕ) → List Rectangle → List (List ℕ)
-picture g es =
+abbrev pub picture : Style → List Alignment → Grid (List ℕ) → List Rectangle → List (List ℕ)
+picture style aligns g es =
     if (g.rows == 0) || (g.columns == 0) then []
-    else each g.rows (lines_of_row g es) ++ (picture_line g es (top g es g.rows) g.rows (g.rows + 1) ∷ [])
+    else each g.rows (lines_of_row style aligns g es) ++ border_line style aligns g es g.rows
 
 -- lines, with a newline after each
 abbrev pub with_newlines : List (List ℕ) → List ℕ
 with_newlines lines = flat_map (λ picture_line. picture_line ++ (10 ∷ [])) lines
 
 -- the characters of the lines of a row, each line with a newline
-abbrev pub row_text : Grid (List ℕ) → SpanMap → ℕ → List ℕ
-row_text g m i = with_newlines (lines_of_row g (entries m) i)
+abbrev pub row_text : Style → List Alignment → Grid (List ℕ) → SpanMap → ℕ → List ℕ
+row_text style aligns g m i = with_newlines (lines_of_row style aligns g (entries m) i)
 
 -- the characters of a picture, each line with a newline
-abbrev pub picture_text : Grid (List ℕ) → SpanMap → List ℕ
-picture_text g m = with_newlines (picture g (entries m))
+abbrev pub picture_text : Style → List Alignment → Grid (List ℕ) → SpanMap → List ℕ
+picture_text style aligns g m = with_newlines (picture style aligns g (entries m))
 
 -- the bytes of the picture of a table with merged cells
-abbrev pub picture_bytes : Grid (List ℕ) → List Rectangle → List ℕ
-picture_bytes g es = encode_utf8_all (with_newlines (picture g es))
+abbrev pub picture_bytes : Style → List Alignment → Grid (List ℕ) → List Rectangle → List ℕ
+picture_bytes style aligns g es = encode_utf8_all (with_newlines (picture style aligns g es))
 
 -- the bytes of the picture of a table with those of its merged cells that fit it
-unfoldable pub drawn : Grid (List ℕ) → SpanMap → List ℕ
-drawn g m = picture_bytes g (fitting g.rows g.columns (entries m))
+unfoldable pub drawn_with : Style → List Alignment → Grid (List ℕ) → SpanMap → List ℕ
+drawn_with style aligns g m = picture_bytes style aligns g (fitting g.rows g.columns (entries m))
+
+-- the same in the look that the original crate has by default
+abbrev pub drawn : Grid (List ℕ) → SpanMap → List ℕ
+drawn g m = drawn_with ASCII [] g m

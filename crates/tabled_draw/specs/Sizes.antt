@@ -1,9 +1,11 @@
 -- The widths of columns and the heights of rows, said once for both.
-use Rattle.std.specs.Prelude.{◌+◌, ◌-◌, ◌==◌, ◌&&◌, if◌then◌else◌, ℕ, List, [], ◌∷◌, length, slice_index_or, slice_set, take}
-use Rattle.std.specs.List.{fold, sum_by}
+use Rattle.std.specs.Prelude.{◌+◌, ◌-◌, ◌/◌, ◌%◌, ◌==◌, ◌&&◌, if◌then◌else◌, ℕ, List, [], ◌∷◌, length, max, slice_index_or}
+use Rattle.std.specs.List.{fold}
 use Rattle.std.specs.Option.{unwrap_or}
-use Rattle.tabled_draw.specs.Each.{each, largest}
+use Rattle.tabled_draw.specs.Each.{by_number, each, is_in_range, largest, total}
 use Rattle.tabled_draw.specs.Owners.{owner_in}
+use Rattle.tabled_draw.specs.Borders.{border}
+use Rattle.tabled_draw.specs.declared.style.Style.{Style}
 use Rattle.tabled_draw.specs.Texts.{lines_shown, widest}
 use Rattle.tabled_grid.specs.Along.{count_along}
 use Rattle.tabled_grid.specs.Axis.{across, line_of, lines_in, place_in}
@@ -14,10 +16,15 @@ use Rattle.tabled_grid.specs.declared.records.axis.Axis.{Axis}
 use Rattle.tabled_grid.specs.declared.records.axis.Axis.TheVariants.{Rows, Columns}
 use Rattle.tabled_grid.specs.Spans.{Rectangle}
 
--- what stands after each column, two blanks and an edge, and after each row, a line
-abbrev pub gap : Axis → ℕ
-gap Rows = 1
-gap Columns = 3
+-- what stands beside a text: a blank before it and one after it, and nothing above and below
+abbrev pub pad : Axis → ℕ
+pad Rows = 0
+pad Columns = 2
+
+-- the least size: a row is a line high, a column may have no room but its blanks
+abbrev pub least : Axis → ℕ
+least Rows = 1
+least Columns = 0
 
 -- the text at a place
 abbrev pub text_of_cell : Grid (List ℕ) → Position → List ℕ
@@ -28,23 +35,27 @@ abbrev pub asks : Axis → List ℕ → ℕ
 asks Rows text = length (lines_shown text)
 asks Columns text = widest text
 
--- where the k-th of some sizes begins, with a gap after each
-abbrev pub start_of : Axis → List ℕ → ℕ → ℕ
-start_of axis sizes k = sum_by (λ size. size + gap axis) (take k sizes)
+-- where the k-th of some sizes begins with the line before it, where lines have sizes, too
+abbrev pub start_of : Axis → (ℕ → ℕ) → List ℕ → ℕ → ℕ
+start_of axis lines sizes k = total k (λ i. lines i + slice_index_or sizes i 0 + pad axis)
 
--- the room in n sizes from one on, with the gaps between them
-abbrev pub room : Axis → List ℕ → ℕ → ℕ → ℕ
-room axis sizes at n = start_of axis sizes (at + n) - start_of axis sizes at - gap axis
+-- the room in n sizes from one on, with the lines between them
+abbrev pub room : Axis → (ℕ → ℕ) → List ℕ → ℕ → ℕ → ℕ
+room axis lines sizes at n = start_of axis lines sizes (at + n) - start_of axis lines sizes at - lines at - pad axis
 
--- the sizes, of which the last of n from one on has grown by what they lack
-abbrev pub grown_sizes : Axis → List ℕ → ℕ → ℕ → ℕ → List ℕ
-grown_sizes axis sizes at n need =
-    let last = at + n - 1 in
-    slice_set sizes last (slice_index_or sizes last 0 + (need - room axis sizes at n))
+-- what the k-th size gets of what n from one on lack: they share it alike, and the first of them gets the rest
+abbrev pub share : ℕ → ℕ → ℕ → ℕ → ℕ
+share lack at n k = if is_in_range k at n then lack / n + (if k == at then lack % n else 0) else 0
+
+-- the sizes, of which n from one on have grown by what they lack
+abbrev pub grown_sizes : Axis → (ℕ → ℕ) → List ℕ → ℕ → ℕ → ℕ → List ℕ
+grown_sizes axis lines sizes at n need =
+    let lack = need - room axis lines sizes at n in
+    each (length sizes) (λ k. (slice_index_or sizes k 0 + share lack at n k) ∷ [])
 
 -- the sizes, grown by what the text of a merged cell asks
-abbrev pub grown_for : Axis → Grid (List ℕ) → List ℕ → Rectangle → List ℕ
-grown_for axis g sizes e = grown_sizes axis sizes (line_of axis e.0) (lines_in axis e.1) (asks axis (text_of_cell g e.0))
+abbrev pub grown_for : Axis → Style → Grid (List ℕ) → List ℕ → Rectangle → List ℕ
+grown_for axis style g sizes e = grown_sizes axis (border axis style g) sizes (line_of axis e.0) (lines_in axis e.1) (asks axis (text_of_cell g e.0))
 
 -- what the text at a place asks of its row or column, if its owner begins there and lies in no other
 abbrev pub own_of : Axis → Grid (List ℕ) → Rectangle → Position → ℕ
@@ -56,16 +67,21 @@ own axis g es p = own_of axis g (owner_in es p) p
 
 -- the most that is asked of each row or column by texts that are seen in no other
 abbrev pub own_sizes : Axis → Grid (List ℕ) → List Rectangle → List ℕ
-own_sizes axis g es = each (count_along axis g) (λ k. largest (count_along (across axis) g) (λ i. own axis g es (place_in axis k i)) ∷ [])
+own_sizes axis g es = each (count_along axis g) (λ k. max (least axis) (largest (count_along (across axis) g) (λ i. own axis g es (place_in axis k i))) ∷ [])
+
+-- the merged cells in the order in which rows or columns grow for them: those that take the fewest come first, of these
+-- those that begin first
+abbrev pub in_order : Axis → Grid (List ℕ) → List Rectangle → List Rectangle
+in_order axis g es = by_number (λ e. lines_in axis e.1) (count_along axis g + 1) (by_number (λ e. line_of axis e.0) (count_along axis g) es)
 
 -- the heights of rows or the widths of columns: these, grown by one merged cell after another
-unfoldable pub sizes : Axis → Grid (List ℕ) → List Rectangle → List ℕ
-sizes axis g es = fold (grown_for axis g) (own_sizes axis g es) es
+unfoldable pub sizes : Axis → Style → Grid (List ℕ) → List Rectangle → List ℕ
+sizes axis style g es = fold (grown_for axis style g) (own_sizes axis g es) (in_order axis g es)
 
 -- the widths of columns
-abbrev pub widths : Grid (List ℕ) → List Rectangle → List ℕ
-widths g es = sizes Columns g es
+abbrev pub widths : Style → Grid (List ℕ) → List Rectangle → List ℕ
+widths style g es = sizes Columns style g es
 
 -- the heights of rows
-abbrev pub heights : Grid (List ℕ) → List Rectangle → List ℕ
-heights g es = sizes Rows g es
+abbrev pub heights : Style → Grid (List ℕ) → List Rectangle → List ℕ
+heights style g es = sizes Rows style g es

@@ -1,10 +1,18 @@
 -- What stands where in a picture: its lines, and the columns of a line, are counted from 0.
-use Rattle.std.specs.Prelude.{◌≡◌, ◌+◌, ◌-◌, ◌<◌, ◌≤◌, ◌&&◌, ◌++◌, ℕ, Bool, false, List, [], ◌∷◌, length, nat_le, nat_lt, replicate, slice_index_or}
-use Rattle.std.specs.List.{list_any}
+use Rattle.std.specs.Prelude.{◌≡◌, ◌+◌, ◌-◌, ◌<◌, ◌≤◌, ◌&&◌, ◌++◌, ℕ, Bool, false, List, [], ◌∷◌, length, nat_lt, not, replicate, slice_index_or}
+use Rattle.std.specs.List.{AllByRecursion, list_any}
+use Rattle.tabled_draw.specs.Alignments.{aligned, alignment_in, indent}
+use Rattle.tabled_draw.specs.Borders.{Arms, are_one, border, corner}
+use Rattle.tabled_draw.specs.Each.{is_in_range}
+use Rattle.tabled_draw.specs.Marks.{IsFine, IsFineMark}
 use Rattle.tabled_draw.specs.Owners.{owner_in}
 use Rattle.tabled_draw.specs.Picture.{left, picture, top}
 use Rattle.tabled_draw.specs.Sizes.{text_of_cell}
 use Rattle.tabled_draw.specs.Texts.{text_width, lines_shown}
+use Rattle.tabled_draw.specs.declared.alignment.Alignment.{Alignment}
+use Rattle.tabled_draw.specs.declared.style.Style.{Style}
+use Rattle.tabled_draw.specs.declared.style.TheConstants.Style.{ASCII}
+use Rattle.tabled_grid.specs.declared.records.axis.Axis.TheVariants.{Rows, Columns}
 use Rattle.tabled_grid.specs.Anchors.{is_hidden_in}
 use Rattle.tabled_grid.specs.Entity.{place}
 use Rattle.tabled_grid.specs.Grid.{Grid, IsInside}
@@ -31,36 +39,66 @@ pub record IsSeen (g : Grid (List ℕ)) (es : List Rectangle) (p : Position) : T
   pub seen : is_hidden_in es p ≡ false
 
 -- the number of lines between a cell's upper and lower border
-abbrev pub inner_height : Grid (List ℕ) → List Rectangle → Position → ℕ
-inner_height g es p = top g es (p.row + (owner_in es p).1.height) - top g es p.row - 1
+abbrev pub inner_height : Style → Grid (List ℕ) → List Rectangle → Position → ℕ
+inner_height style g es p = top style g es (p.row + (owner_in es p).1.height) - top style g es p.row - border Rows style g p.row
 
 -- the number of columns between a cell's left and right border
-abbrev pub inner_width : Grid (List ℕ) → List Rectangle → Position → ℕ
-inner_width g es p = left g es (p.col + (owner_in es p).1.width) - left g es p.col - 1
+abbrev pub inner_width : Style → Grid (List ℕ) → List Rectangle → Position → ℕ
+inner_width style g es p = left style g es (p.col + (owner_in es p).1.width) - left style g es p.col - border Columns style g p.col
+
+-- the line below the line above a cell, or that line itself where it is not drawn
+abbrev pub inner_top : Style → Grid (List ℕ) → List Rectangle → Position → ℕ
+inner_top style g es p = top style g es p.row + border Rows style g p.row
+
+-- the number of columns before those that are inside a cell's borders
+abbrev pub inner_left : Style → Grid (List ℕ) → List Rectangle → Position → ℕ
+inner_left style g es p = left style g es p.col + border Columns style g p.col
 
 -- the k-th line of a cell's text, without characters where the text has fewer lines
 abbrev pub text_line : Grid (List ℕ) → Position → ℕ → List ℕ
 text_line g p k = slice_index_or (lines_shown (text_of_cell g p)) k []
 
--- a line with one blank before it, and blanks after it up to some columns
-abbrev pub padded : ℕ → List ℕ → List ℕ
-padded columns line = 32 ∷ line ++ replicate (columns - text_width line - 1) 32
+-- how many columns stand between a blank after a cell's left border and a line of its text
+abbrev pub indent_of : Style → List Alignment → Grid (List ℕ) → List Rectangle → Position → ℕ → ℕ
+indent_of style aligns g es p k = indent (alignment_in aligns p.col) (inner_width style g es p - 2 - text_width (text_line g p k))
 
--- Each line of the text of each cell that is seen stands whole, two columns after the cell's left border; between its
--- borders stands nothing but its text and blanks; and there is room for all lines, with a blank at both sides.
-pub record ShowsTexts (g : Grid (List ℕ)) (es : List Rectangle) : Type 0 where
+-- what stands between a cell's borders in one of its lines: a line of its text, with blanks before and behind it
+abbrev pub inner_line : Style → List Alignment → Grid (List ℕ) → List Rectangle → Position → ℕ → List ℕ
+inner_line style aligns g es p k = aligned (alignment_in aligns p.col) (inner_width style g es p - 2) (text_line g p k)
+
+-- characters stand in the n-th line of a picture, after some columns, with some characters of borders right before and
+-- right behind them
+pub record StandsFramed (lines : List (List ℕ)) (n columns before behind : ℕ) (text : List ℕ) : Type 0 where
+  pub first : List ℕ
+  pub last : List ℕ
+  pub first_long : length first ≡ before
+  pub last_long : length last ≡ behind
+  pub first_marks : AllByRecursion IsFineMark first
+  pub last_marks : AllByRecursion IsFineMark last
+  pub stands : StandsAt lines n columns (first ++ (text ++ last))
+
+-- Each line of the text of each cell that is seen stands whole, where its alignment puts it; between its borders stands
+-- nothing but its text and blanks, also no character without width; and there is room for all lines, with a blank at
+-- both sides.
+pub record ShowsTexts (style : Style) (aligns : List Alignment) (g : Grid (List ℕ)) (es : List Rectangle) : Type 0 where
   pub whole : (p : Position) → IsSeen g es p → (k : ℕ) → k < length (lines_shown (text_of_cell g p))
-      → StandsAt (picture g es) (top g es p.row + 1 + k) (left g es p.col + 2) (text_line g p k)
-  pub alone : (p : Position) → IsSeen g es p → (k : ℕ) → k < inner_height g es p
-      → StandsAt (picture g es) (top g es p.row + 1 + k) (left g es p.col + 1) (padded (inner_width g es p) (text_line g p k))
-  pub high : (p : Position) → IsSeen g es p → length (lines_shown (text_of_cell g p)) ≤ inner_height g es p
-  pub wide : (p : Position) → IsSeen g es p → (k : ℕ) → text_width (text_line g p k) + 2 ≤ inner_width g es p
+      → StandsAt (picture style aligns g es) (inner_top style g es p + k) (inner_left style g es p + 1 + indent_of style aligns g es p k) (text_line g p k)
+  pub alone : (p : Position) → IsSeen g es p → (k : ℕ) → k < inner_height style g es p
+      → StandsFramed (picture style aligns g es) (inner_top style g es p + k) (left style g es p.col) (border Columns style g p.col) (border Columns style g (p.col + (owner_in es p).1.width)) (inner_line style aligns g es p k)
+  pub high : (p : Position) → IsSeen g es p → length (lines_shown (text_of_cell g p)) ≤ inner_height style g es p
+  pub wide : (p : Position) → IsSeen g es p → (k : ℕ) → text_width (text_line g p k) + 2 ≤ inner_width style g es p
+
+-- so are texts shown in a style whose characters are one column wide
+abbrev pub ShowsAllTexts : Style → List Alignment → Grid (List ℕ) → List Rectangle → Type 0
+ShowsAllTexts style aligns g es = IsFine style → ShowsTexts style aligns g es
+
+-- two tables of a shape have one text wherever no merged cell hides it
+pub record AreSeenAlike (g h : Grid (List ℕ)) (es : List Rectangle) : Type 0 where
+  pub rows : g.rows ≡ h.rows
+  pub columns : g.columns ≡ h.columns
+  pub texts : (p : Position) → IsSeen g es p → text_of_cell g p ≡ text_of_cell h p
 
 -- ---- borders
-
--- k is one of the n numbers from one on
-abbrev pub is_in_range : ℕ → ℕ → ℕ → Bool
-is_in_range k at n = nat_le at k && nat_lt k (at + n)
 
 -- k is one of the n numbers from one on, but not the first
 abbrev pub is_amid : ℕ → ℕ → ℕ → Bool
@@ -78,17 +116,51 @@ is_joined_above es i j = list_any (λ (e : Rectangle). is_amid i e.0.row e.1.hei
 abbrev pub is_joined_around : List Rectangle → ℕ → ℕ → Bool
 is_joined_around es i j = list_any (λ (e : Rectangle). is_amid i e.0.row e.1.height && is_amid j e.0.col e.1.width) es
 
--- Unless one merged cell lies at both sides, `|` stands at each left edge of a column in each line of a row, and dashes
--- at each upper edge of a row, as wide as the column; and `+` at each corner, unless one lies all round it.
--- The edge after the last column, and the one below the last row, are such edges, too.
-pub record StandBetween (g : Grid (List ℕ)) (es : List Rectangle) : Type 0 where
-  pub beside : (i j n : ℕ) → i < g.rows → j ≤ g.columns → top g es i < n → n < top g es (i + 1) → is_joined_beside es i j ≡ false
-      → StandsAt (picture g es) n (left g es j) (124 ∷ [])
-  pub above : (i j : ℕ) → i ≤ g.rows → j < g.columns → is_joined_above es i j ≡ false
-      → StandsAt (picture g es) (top g es i) (left g es j + 1) (replicate (left g es (j + 1) - left g es j - 1) 45)
-  pub corner : (i j : ℕ) → i ≤ g.rows → j ≤ g.columns → is_joined_around es i j ≡ false
-      → StandsAt (picture g es) (top g es i) (left g es j) (43 ∷ [])
+-- the arms that meet at the upper left corner of row i and column j: there is one wherever a border is that ends there
+abbrev pub meeting : Grid (List ℕ) → List Rectangle → ℕ → ℕ → Arms
+meeting g es i j = record {
+  up = nat_lt 0 i && not (is_joined_beside es (i - 1) j);
+  right = nat_lt j g.columns && not (is_joined_above es i j);
+  down = nat_lt i g.rows && not (is_joined_beside es i j);
+  left = nat_lt 0 j && not (is_joined_above es i (j - 1));
+}
 
--- so stand the borders of a table with a cell
-abbrev pub HasBorders : Grid (List ℕ) → List Rectangle → Type 0
-HasBorders g es = IsInside g (place 0 0) → StandBetween g es
+-- Unless one merged cell lies at both sides, the style's upright border stands at each left edge of a column in each
+-- line of a row, and its level one at each upper edge of a row, as wide as the column; and at each corner, unless one
+-- lies all round it, the character whose arms are the borders that meet there. So is it where the lines are drawn.
+-- The edge after the last column, and the one below the last row, are such edges, too.
+pub record StandBetween (style : Style) (aligns : List Alignment) (g : Grid (List ℕ)) (es : List Rectangle) : Type 0 where
+  pub beside : (i j n : ℕ) → i < g.rows → j ≤ g.columns → border Columns style g j ≡ 1 → top style g es i + border Rows style g i ≤ n → n < top style g es (i + 1) → is_joined_beside es i j ≡ false
+      → StandsAt (picture style aligns g es) n (left style g es j) (style.vertical ∷ [])
+  pub above : (i j : ℕ) → i ≤ g.rows → j < g.columns → border Rows style g i ≡ 1 → is_joined_above es i j ≡ false
+      → StandsAt (picture style aligns g es) (top style g es i) (left style g es j + border Columns style g j) (replicate (left style g es (j + 1) - left style g es j - border Columns style g j) style.horizontal)
+  pub around : (i j : ℕ) → i ≤ g.rows → j ≤ g.columns → border Rows style g i ≡ 1 → border Columns style g j ≡ 1 → is_joined_around es i j ≡ false
+      → StandsAt (picture style aligns g es) (top style g es i) (left style g es j) (corner style (meeting g es i j) ∷ [])
+
+-- No border ends at a corner: where one arm is, there is another. An arm along a border is met by that of the next corner.
+pub record AreMet (g : Grid (List ℕ)) (es : List Rectangle) : Type 0 where
+  pub none_alone : (i j : ℕ) → i ≤ g.rows → j ≤ g.columns → are_one (meeting g es i j) ≡ false
+  pub to_right : (i j : ℕ) → j < g.columns → (meeting g es i j).right ≡ (meeting g es i (j + 1)).left
+  pub down : (i j : ℕ) → i < g.rows → (meeting g es i j).down ≡ (meeting g es (i + 1) j).up
+
+-- so do the borders of a table with a cell
+abbrev pub GoOn : Style → List Alignment → Grid (List ℕ) → List Rectangle → Type 0
+GoOn style aligns g es = IsInside g (place 0 0) → AreMet g es
+
+-- Where one merged cell does not lie at both sides: `|` at an edge of a row, dashes at an edge of a column, and `+` at a
+-- corner, one line and one column wide.
+pub record StandPlain (g : Grid (List ℕ)) (es : List Rectangle) : Type 0 where
+  pub beside : (i j n : ℕ) → i < g.rows → j ≤ g.columns → top ASCII g es i < n → n < top ASCII g es (i + 1) → is_joined_beside es i j ≡ false
+      → StandsAt (picture ASCII [] g es) n (left ASCII g es j) (124 ∷ [])
+  pub above : (i j : ℕ) → i ≤ g.rows → j < g.columns → is_joined_above es i j ≡ false
+      → StandsAt (picture ASCII [] g es) (top ASCII g es i) (left ASCII g es j + 1) (replicate (left ASCII g es (j + 1) - left ASCII g es j - 1) 45)
+  pub around : (i j : ℕ) → i ≤ g.rows → j ≤ g.columns → is_joined_around es i j ≡ false
+      → StandsAt (picture ASCII [] g es) (top ASCII g es i) (left ASCII g es j) (43 ∷ [])
+
+-- so stand the borders of a table with a cell in the look that the original crate has by default
+abbrev pub HasPlainBorders : Style → List Alignment → Grid (List ℕ) → List Rectangle → Type 0
+HasPlainBorders style aligns g es = IsInside g (place 0 0) → StandPlain g es
+
+-- so stand the borders of a table with a cell, in a style whose characters are one column wide
+abbrev pub HasBorders : Style → List Alignment → Grid (List ℕ) → List Rectangle → Type 0
+HasBorders style aligns g es = IsFine style → IsInside g (place 0 0) → StandBetween style aligns g es

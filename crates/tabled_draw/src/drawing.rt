@@ -1,21 +1,26 @@
 //! Tables that are laid out.
 
-ghost use Rattle.std.specs.Prelude.{◌≡◌, ◌+◌, ◌<◌, IfOk, OnOk, length, slice_index_or};
+ghost use Rattle.std.specs.Prelude.{◌≡◌, ◌+◌, ◌<◌, IfOk, IsTrue, OnOk, length, slice_index_or};
 ghost use Rattle.std.specs.FinMap.{entries};
+ghost use Rattle.tabled_draw.specs.Borders.{is_drawn};
 ghost use Rattle.tabled_draw.specs.Laid.{AreEdges, IsLaidOut};
-ghost use Rattle.tabled_draw.specs.Lines.{begun};
+ghost use Rattle.tabled_draw.specs.Lines.{AreUnmerged, EndInside, begun};
 ghost use Rattle.tabled_draw.specs.OwnerRows.{IsOwnerRow, count_before};
-ghost use Rattle.tabled_draw.specs.Picture.{drawn, picture_text, row_text};
-ghost use Rattle.tabled_draw.specs.Rests.{AreBegun, AreLeftAbove};
+ghost use Rattle.tabled_draw.specs.Picture.{drawn, drawn_with, picture_text, row_text};
+ghost use Rattle.tabled_draw.specs.Rests.{AreBegun, AreCutIf, AreLeftAbove, border_of_rests};
 ghost use Rattle.tabled_draw.specs.Sent.{Draws};
 ghost use Rattle.tabled_draw.specs.Sizes.{heights};
 ghost use Rattle.tabled_grid.specs.Grid.{IsInside, map_grid};
 ghost use Rattle.tabled_grid.specs.Fitting.{Fits};
+ghost use Rattle.tabled_grid.specs.Spans.{AreSpanSizes};
 
+use crate::borders::is_drawn;
 use crate::held::Held;
 use crate::layout::{Layout, layout_of};
-use crate::lines::write_line;
+use crate::lines::{write_border_line, write_row_line, write_unmerged_line};
+use crate::look::Look;
 use crate::owners::{clear, write_owners};
+use crate::style::Style;
 use std::alloc::{AllocError, Global};
 use std::io::{self, Write};
 use std::marker::Model;
@@ -35,6 +40,7 @@ where
 {
     records: &'a R,
     spans: SpannedConfig,
+    look: Look<'a>,
     layout: Layout,
     /// What is left of the text that begins in each column.
     rests: Vec<&'a str>,
@@ -54,9 +60,9 @@ where
 
     ghost Value = { List ℕ };
 
-    ghost view = { λ a. picture_bytes (map_grid R.Cell.text_of (R.grid a.records.now)) (entries a.spans) };
+    ghost view = { λ a. picture_bytes a.look.style a.look.alignments.now (map_grid R.Cell.text_of (R.grid a.records.now)) (entries a.spans) };
 
-    ghost invariant = { λ a. R.is_well_formed a.records.now × IsLaidOut (map_grid R.Cell.text_of (R.grid a.records.now)) a.spans a.layout.edges.items a.layout.heights.items a.layout.above.items a.layout.here.items a.rests.items a.held };
+    ghost invariant = { λ a. R.is_well_formed a.records.now × IsLaidOut a.look.style (map_grid R.Cell.text_of (R.grid a.records.now)) a.spans a.layout.edges.items a.layout.heights.items a.layout.above.items a.layout.here.items a.rests.items a.held };
 }
 
 impl<'a, R> Drawing<'a, R>
@@ -66,23 +72,39 @@ where
 {
     ghost use Rattle.std.specs.Io.KnownBytes.{Appends};
 
+    /// Lays out a table (`r x c`) in the look that `tabled` has by default, as `with_look` does.
+    pub fn new(alloc: Global, records: &'a R, cfg: &SpannedConfig) -> Result<Self, AllocError>
+        requires well { R.is_well_formed records.now }
+        ensures drawn { IfOk result (λ drawing. drawing ≡ drawn (map_grid R.Cell.text_of (R.grid records.now)) cfg.now) }
+        ensures sizes { AreSpanSizes cfg.now }
+    {
+        Drawing::with_look(alloc, records, cfg, &Look::new(Style::ascii()))
+    }
+
     /// Lays out a table (`r x c`), with those of its merged cells that lie inside and share no cell with another one.
     ///
     /// This asks for all the memory that drawing takes, which grows with the table and not with its picture. Refused
     /// for memory, or where the widths or heights come to more than `usize::MAX`, it leaves the table as it is.
-    pub fn new(alloc: Global, records: &'a R, cfg: &SpannedConfig) -> Result<Self, AllocError>
+    pub fn with_look(
+        alloc: Global,
+        records: &'a R,
+        cfg: &SpannedConfig,
+        look: &Look<'a>,
+    ) -> Result<Self, AllocError>
         requires well { R.is_well_formed records.now }
-        ensures drawn { IfOk result (λ drawing. drawing ≡ drawn (map_grid R.Cell.text_of (R.grid records.now)) cfg.now) }
+        ensures drawn { IfOk result (λ drawing. drawing ≡ drawn_with look.now.style look.now.alignments.now (map_grid R.Cell.text_of (R.grid records.now)) cfg.now) }
+        ensures sizes { AreSpanSizes cfg.now }
     {
         let rows = records.count_rows();
         let columns = records.count_columns();
         let spans = cfg.fitting(alloc, rows, columns)?;
-        let layout = layout_of(alloc, records, &spans)?;
+        let layout = layout_of(alloc, records, &spans, &look.style)?;
         let rests = vec![in alloc; ""; columns]?;
         let held = Held::new(alloc)?;
         Ok(Drawing {
             records,
             spans,
+            look: *look,
             layout,
             rests,
             held,
@@ -96,6 +118,7 @@ where
         let Drawing {
             records,
             spans,
+            look,
             layout,
             mut rests,
             mut held,
@@ -110,7 +133,8 @@ where
             return Ok(());
         }
         write_lines(
-            writer, &mut held, records, &spans, &edges, &heights, &mut above, &mut here, &mut rests,
+            writer, &mut held, records, &spans, &look, &edges, &heights, &mut above, &mut here,
+            &mut rests,
         )?;
         held.send(writer);
         held.take_outcome()?;
@@ -124,6 +148,7 @@ fn write_lines<'a, W, R>(
     held: &mut Held,
     records: &'a R,
     spans: &SpannedConfig,
+    look: &Look<'_>,
     edges: &[usize],
     heights: &[usize],
     above: &mut Vec<Option<Rectangle>>,
@@ -135,21 +160,35 @@ where
     R: Records + ExactRecords + PeekableRecords,
     R::Cell: CellText,
     requires well { R.is_well_formed records.now }
-    requires laid { IsLaidOut (map_grid R.Cell.text_of (R.grid records.now)) spans.now edges.now heights.now above.old.items here.old.items rests.old.items held.old }
+    requires laid { IsLaidOut look.now.style (map_grid R.Cell.text_of (R.grid records.now)) spans.now edges.now heights.now above.old.items here.old.items rests.old.items held.old }
     requires high { 0 < (R.grid records.now).rows }
     requires wide { 0 < (R.grid records.now).columns }
-    ensures { OnOk result (Draws (W.contents writer.old) held.old (W.contents writer.new) held.new (picture_text (map_grid R.Cell.text_of (R.grid records.now)) spans.now)) }
+    ensures { OnOk result (Draws (W.contents writer.old) held.old (W.contents writer.new) held.new (picture_text look.now.style look.now.alignments.now (map_grid R.Cell.text_of (R.grid records.now)) spans.now)) }
 {
     clear(above);
     let mut next = 0;
-    for i in 0..heights.len() {
+    let rows = heights.len();
+    for i in 0..rows {
         next = write_row(
-            writer, held, records, spans, edges, i, heights[i], next, above, here, rests,
+            writer, held, records, spans, look, edges, rows, i, heights[i], next, above, here,
+            rests,
         )?;
         mem::swap(above, here);
     }
     clear(here);
-    write_line(writer, held, b'+', edges, above, here, rests)?;
+    let is_unmerged = spans.anchors().is_empty();
+    write_border(
+        writer,
+        held,
+        look,
+        edges,
+        rows,
+        rows,
+        is_unmerged,
+        above,
+        here,
+        rests,
+    )?;
     Ok(())
 }
 
@@ -160,7 +199,9 @@ fn write_row<'a, W, R>(
     held: &mut Held,
     records: &'a R,
     spans: &SpannedConfig,
+    look: &Look<'_>,
     edges: &[usize],
+    rows: usize,
     i: usize,
     height: usize,
     next: usize,
@@ -174,27 +215,74 @@ where
     R::Cell: CellText,
     requires well { R.is_well_formed records.now }
     requires fits { Fits spans.now ((R.grid records.now).rows) ((R.grid records.now).columns) }
-    requires edges { AreEdges (map_grid R.Cell.text_of (R.grid records.now)) spans.now edges.now }
+    requires edges { AreEdges look.now.style (map_grid R.Cell.text_of (R.grid records.now)) spans.now edges.now }
+    requires rows { rows ≡ (R.grid records.now).rows }
     requires row { i < (R.grid records.now).rows }
-    requires height { height ≡ slice_index_or (heights (map_grid R.Cell.text_of (R.grid records.now)) (entries spans.now)) i 0 }
+    requires wide { 0 < (R.grid records.now).columns }
+    requires height { height ≡ slice_index_or (heights look.now.style (map_grid R.Cell.text_of (R.grid records.now)) (entries spans.now)) i 0 }
     requires next { next ≡ count_before i 0 (entries spans.now) }
     requires above { IsOwnerRow ((R.grid records.now).rows) ((R.grid records.now).columns) spans.now i above.now.items }
     requires here { length here.old.items ≡ (R.grid records.now).columns + 2 }
     requires long { length rests.old.items ≡ (R.grid records.now).columns }
-    requires left { AreLeftAbove (map_grid R.Cell.text_of (R.grid records.now)) spans.now i rests.old.items }
+    requires left { AreLeftAbove look.now.style (map_grid R.Cell.text_of (R.grid records.now)) spans.now i rests.old.items }
     ensures next { IfOk result (λ next. next ≡ count_before (i + 1) 0 (entries spans.now)) }
     ensures here { OnOk result (IsOwnerRow ((R.grid records.now).rows) ((R.grid records.now).columns) spans.now (i + 1) here.new.items) }
     ensures long { OnOk result (length rests.new.items ≡ (R.grid records.now).columns) }
-    ensures draws { OnOk result (Draws (W.contents writer.old) held.old (W.contents writer.new) held.new (row_text (map_grid R.Cell.text_of (R.grid records.now)) spans.now i)) }
-    ensures left { OnOk result (AreLeftAbove (map_grid R.Cell.text_of (R.grid records.now)) spans.now (i + 1) rests.new.items) }
+    ensures draws { OnOk result (Draws (W.contents writer.old) held.old (W.contents writer.new) held.new (row_text look.now.style look.now.alignments.now (map_grid R.Cell.text_of (R.grid records.now)) spans.now i)) }
+    ensures left { OnOk result (AreLeftAbove look.now.style (map_grid R.Cell.text_of (R.grid records.now)) spans.now (i + 1) rests.new.items) }
 {
     let after = write_owners(records, spans, next, i, above, here);
-    write_line(writer, held, b'+', edges, above, here, rests)?;
+    let is_unmerged = spans.anchors().is_empty();
+    write_border(
+        writer,
+        held,
+        look,
+        edges,
+        rows,
+        i,
+        is_unmerged,
+        above,
+        here,
+        rests,
+    )?;
     begin(records, i, here, rests);
     for _y in 0..height {
-        write_line(writer, held, b'|', edges, here, here, rests)?;
+        write_row_line(writer, held, look, edges, here, rests)?;
     }
     Ok(after)
+}
+
+/// Writes the line above a row, or below the last one, if it is drawn. It may be known that no cells are merged.
+fn write_border<'a, W: Write>(
+    writer: &mut W,
+    held: &mut Held,
+    look: &Look<'_>,
+    edges: &[usize],
+    rows: usize,
+    i: usize,
+    is_unmerged: bool,
+    above: &[Option<Rectangle>],
+    below: &[Option<Rectangle>],
+    rests: &mut Vec<&'a str>,
+) -> io::Result<()>
+    requires above { length above.now ≡ length rests.old.items + 2 }
+    requires below { length below.now ≡ length rests.old.items + 2 }
+    requires edges { length edges.now ≡ length rests.old.items + 1 }
+    requires inside { EndInside (length rests.old.items) above.now }
+    requires unmerged { IsTrue is_unmerged → AreUnmerged rows (length rests.old.items) i above.now below.now }
+    ensures long { length rests.new.items ≡ length rests.old.items }
+    ensures draws { OnOk result (Draws (W.contents writer.old) held.old (W.contents writer.new) held.new (border_of_rests look.now.style look.now.alignments.now rows i edges.now above.now below.now rests.old.items)) }
+    ensures rests { OnOk result (AreCutIf (is_drawn look.now.style.rows rows i) above.now below.now rests.old.items rests.new.items) }
+{
+    if !is_drawn(look.style.rows, rows, i) {
+        return Ok(());
+    }
+    if is_unmerged {
+        write_unmerged_line(writer, held, look, edges, rests.len(), rows, i)?;
+        return Ok(());
+    }
+    write_border_line(writer, held, look, edges, above, below, rests)?;
+    Ok(())
 }
 
 /// Sets the texts whose cells begin in a row.

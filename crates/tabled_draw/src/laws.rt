@@ -1,67 +1,98 @@
 //! Laws of pictures. Each is the contract of a function that does nothing.
 
-ghost use Rattle.std.specs.Prelude.{◌≡◌, ◌+◌, ◌⊎◌, ℕ, List, [], length};
+ghost use Rattle.std.specs.Prelude.{◌≡◌, ◌+◌, ◌⊎◌, ℕ, List, [], length, map};
 ghost use Rattle.std.specs.FinMap.{entries};
 ghost use Rattle.std.specs.List.{AllByRecursion, sum};
-ghost use Rattle.tabled_draw.specs.Overall.{AreDrawnAlike, AreEquallyWide, AreNoControls, AreNoLargerThanAsked, HoldsOfPictures};
-ghost use Rattle.tabled_draw.specs.Picture.{picture_bytes, drawn, picture};
+ghost use Rattle.tabled_draw.specs.Marks.{IsFine};
+ghost use Rattle.tabled_draw.specs.Overall.{AreEquallyWide, AreNoControls, AreNoLargerThanAsked, HoldsOfPictures, drawn_lines};
+ghost use Rattle.tabled_draw.specs.Picture.{drawn_with, picture, picture_bytes};
 ghost use Rattle.tabled_draw.specs.Sizes.{heights};
-ghost use Rattle.tabled_draw.specs.Standing.{HasBorders, ShowsTexts};
+ghost use Rattle.tabled_draw.specs.Standing.{AreSeenAlike, GoOn, HasBorders, HasPlainBorders, ShowsAllTexts};
+ghost use Rattle.tabled_draw.specs.Styles.{styles};
+ghost use Rattle.tabled_draw.specs.declared.alignment.Alignment.{Alignment};
+ghost use Rattle.tabled_draw.specs.declared.style.Style.{Style};
+ghost use Rattle.tabled_draw.specs.declared.style.TheConstants.Style.{ASCII, ASCII_ROUNDED, BLANK, DOTS, EMPTY, EXTENDED, MARKDOWN, MODERN, NAMES, PSQL, RE_STRUCTURED_TEXT, ROUNDED, SHARP};
 ghost use Rattle.tabled_grid.specs.Entity.{place};
-ghost use Rattle.tabled_grid.specs.Fitting.{Fits, keep_fitting};
-ghost use Rattle.tabled_grid.specs.Grid.{Grid, IsInside, map_grid};
+ghost use Rattle.tabled_grid.specs.Fitting.{Fits, fitting, keep_fitting};
+ghost use Rattle.tabled_grid.specs.Grid.{Grid, IsInside};
 ghost use Rattle.tabled_grid.specs.Spans.{AreSpanSizes, Rectangle, SpanMap};
-
-use tabled_grid::records::{CellText, Records};
 
 /// All lines of a picture are equally wide.
 pub fn lines_are_equally_wide()
     ensures { HoldsOfPictures AreEquallyWide }
 {}
 
-/// A picture has a line for each line of a row, one above each row, and one below the last row; that of a
-/// table without cells has none.
+/// A picture has a line for each line of a row, and one for each line around the rows that is drawn; that of a table
+/// without cells has none.
 pub fn pictures_have_as_many_lines()
-    ensures some { (g : Grid (List ℕ)) (es : List Rectangle) → IsInside g (place 0 0) → length (picture g es) ≡ sum (heights g es) + g.rows + 1 }
-    ensures none { (g : Grid (List ℕ)) (es : List Rectangle) → (g.rows ≡ 0) ⊎ (g.columns ≡ 0) → picture g es ≡ [] }
+    ensures some { (style : Style) (aligns : List Alignment) (g : Grid (List ℕ)) (es : List Rectangle) → IsInside g (place 0 0) → length (picture style aligns g es) ≡ sum (heights style g es) + drawn_lines style g }
+    ensures none { (style : Style) (aligns : List Alignment) (g : Grid (List ℕ)) (es : List Rectangle) → (g.rows ≡ 0) ⊎ (g.columns ≡ 0) → picture style aligns g es ≡ [] }
 {}
 
-/// No column is wider, and no row higher, than the most that is asked of it: by a text that is seen in no
-/// other, or by that of a merged cell that ends in it.
+/// The characters of each style are one column wide, join no others, and are no control characters.
+pub fn styles_are_fine()
+    ensures ascii { IsFine ASCII }
+    ensures modern { IsFine MODERN }
+    ensures rounded { IsFine ROUNDED }
+    ensures sharp { IsFine SHARP }
+    ensures extended { IsFine EXTENDED }
+    ensures psql { IsFine PSQL }
+    ensures markdown { IsFine MARKDOWN }
+    ensures re_structured_text { IsFine RE_STRUCTURED_TEXT }
+    ensures dots { IsFine DOTS }
+    ensures ascii_rounded { IsFine ASCII_ROUNDED }
+    ensures blank { IsFine BLANK }
+    ensures empty { IsFine EMPTY }
+{}
+
+/// Each name of `Style::NAMES` has a style, and no other text has one.
+pub fn styles_have_names()
+    ensures { map (λ name. name.now) NAMES ≡ map (λ style. style.0) styles }
+{}
+
+/// No column is wider, and no row higher, than the most that is asked of it: by a text that is seen in no other, or by
+/// the text of a merged cell that takes it, beside the room of the others as their own texts ask. A row is a line high.
 pub fn rows_and_columns_are_no_larger_than_asked()
     ensures { HoldsOfPictures AreNoLargerThanAsked }
 {}
 
 /// No control character stands in a line of a picture: no text ends a line or sends an escape sequence.
 pub fn no_control_character_is_drawn()
-    ensures { (g : Grid (List ℕ)) (es : List Rectangle) → AllByRecursion AreNoControls (picture g es) }
+    ensures { (style : Style) (aligns : List Alignment) (g : Grid (List ℕ)) (es : List Rectangle) → IsFine style → AllByRecursion AreNoControls (picture style aligns g es) }
 {}
 
-/// Each line of the text of each cell that no merged cell hides stands whole at the cell's place, with
-/// nothing but blanks around it up to the cell's borders: no text is overwritten or cut.
+/// Each line of the text of each cell that no merged cell hides stands whole at the cell's place, with nothing but
+/// blanks around it up to the cell's borders, also nothing without width: no text is overwritten or cut.
 pub fn texts_stand_whole()
-    ensures { HoldsOfPictures ShowsTexts }
+    ensures { HoldsOfPictures ShowsAllTexts }
 {}
 
-/// Borders stand between cells, merged or not, and round the table: `|` at an edge of a row, unless a merged
-/// cell lies at both sides of it, dashes at an edge of a column likewise, and `+` at each corner, unless a
-/// merged cell lies all round it. What stands there if one does, `texts_stand_whole` says.
+/// Borders stand between cells, merged or not, and round the table, wherever the style draws them: an upright one at an
+/// edge of a row, unless a merged cell lies at both sides of it, a level one at an edge of a column likewise, and at
+/// each corner the character that has an arm for each border that ends there and no other arm, unless a merged cell lies
+/// all round it. What stands there if one does, `texts_stand_whole` says.
 pub fn borders_are_those_of_the_owners()
     ensures { HoldsOfPictures HasBorders }
 {}
 
-/// Where all merged cells fit their table, the picture is that with all; where some don't, that without these.
-pub fn misfits_leave_no_trace()
-    ensures all { (g : Grid (List ℕ)) (m : SpanMap) → Fits m g.rows g.columns → drawn g m ≡ picture_bytes g (entries m) }
-    ensures some { (g : Grid (List ℕ)) (m : SpanMap) → AreSpanSizes m → drawn g m ≡ drawn g (keep_fitting g.rows g.columns m) }
+/// No border ends at a corner: where a corner has one arm, it has another. An arm to the next corner is met by an arm of
+/// that corner, and `borders_are_those_of_the_owners` says that a border stands between the two.
+pub fn borders_go_on()
+    ensures { HoldsOfPictures GoOn }
 {}
 
-/// Two stores with equal texts, of whatever cells, have equal pictures where merged cells are equal, too.
-pub fn equal_texts_have_equal_pictures<R, S>(_records: &R, _others: &S)
-where
-    R: Records,
-    R::Cell: CellText,
-    S: Records,
-    S::Cell: CellText,
-    ensures { AreDrawnAlike (map_grid R.Cell.text_of (R.grid _records.now)) (map_grid S.Cell.text_of (S.grid _others.now)) }
+/// In the look that `tabled` has by default all lines are drawn, and borders are `|`, dashes and `+`.
+pub fn borders_are_plain_by_default()
+    ensures { HoldsOfPictures HasPlainBorders }
+{}
+
+/// Of two tables of a shape whose texts differ only where merged cells hide them, the pictures are the same.
+pub fn hidden_texts_do_not_matter()
+    ensures { (style : Style) (aligns : List Alignment) (g h : Grid (List ℕ)) (m : SpanMap) → AreSpanSizes m → AreSeenAlike g h (fitting g.rows g.columns (entries m)) → drawn_with style aligns g m ≡ drawn_with style aligns h m }
+{}
+
+/// Where all merged cells fit their table, the picture is that with all; where some don't, that without these.
+pub fn misfits_leave_no_trace()
+    ensures all { (style : Style) (aligns : List Alignment) (g : Grid (List ℕ)) (m : SpanMap) → Fits m g.rows g.columns → drawn_with style aligns g m ≡ picture_bytes style aligns g (entries m) }
+    ensures some { (style : Style) (aligns : List Alignment) (g : Grid (List ℕ)) (m : SpanMap) → AreSpanSizes m → drawn_with style aligns g m ≡ drawn_with style aligns g (keep_fitting g.rows g.columns m) }
 {}

@@ -1,14 +1,22 @@
 //! Pictures of tables.
 #![tactic(auto)]
 
+mod alignment;
+mod borders;
 mod drawing;
+mod growth;
 mod held;
 pub mod laws;
 mod layout;
 mod lines;
+mod look;
 mod owners;
 mod pictures;
+mod style;
 mod texts;
 
+pub use alignment::Alignment;
 pub use drawing::Drawing;
-pub use pictures::{draw, picture};
+pub use look::Look;
+pub use pictures::{draw, draw_with, picture, picture_with};
+pub use style::{Lines, Style};

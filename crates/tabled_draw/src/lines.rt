@@ -1,116 +1,289 @@
 //! The lines of a picture.
 
-ghost use Rattle.std.specs.Prelude.{◌≡◌, ◌+◌, ◌<◌, ◌&&◌, OnOk, Some, length};
-ghost use Rattle.tabled_draw.specs.Lines.{EndInside, column, edge, left_of};
-ghost use Rattle.tabled_draw.specs.Owners.{is_one};
-ghost use Rattle.tabled_draw.specs.Rests.{AreCut, line_of_rests};
+ghost use Rattle.std.specs.Prelude.{◌≡◌, ◌+◌, ◌<◌, [], OnOk, Some, false, length, slice_index_or, true};
+ghost use Rattle.tabled_draw.specs.Borders.{differ};
+ghost use Rattle.tabled_draw.specs.Lines.{EndInside, column_if, edge, left_inside, level, marked, text_inside, unmerged_line};
+ghost use Rattle.tabled_draw.specs.Rests.{AreCut, IsCutAt, bytes_in, line_of_rests};
 ghost use Rattle.tabled_draw.specs.Sent.{Draws};
 ghost use Rattle.tabled_grid.specs.Spans.{Rectangle};
 
+use crate::alignment::alignment_in;
+use crate::borders::{corner, differ, is_drawn, is_drawn_after, size_if};
 use crate::held::Held;
-use crate::owners::is_one;
+use crate::look::Look;
 use crate::texts::write_cell;
 use std::io::{self, Write};
 use tabled_grid::config::{Rectangle, Size};
 
-/// Writes a line, in a row or between two: its marks at edges, and what its columns have. Where a cell's text begins,
-/// the lines of it that are left are cut by one.
-pub(crate) fn write_line<'a, W: Write>(
+/// Writes a line of a row: borders between its owners, and their texts. Of each text that begins here, the lines that
+/// are left are cut by one.
+pub(crate) fn write_row_line<'a, W: Write>(
     writer: &mut W,
     held: &mut Held,
-    mark: u8,
+    look: &Look<'_>,
     edges: &[usize],
-    above: &[Option<Rectangle>],
-    below: &[Option<Rectangle>],
+    owners: &[Option<Rectangle>],
     rests: &mut Vec<&'a str>,
 ) -> io::Result<()>
-    requires mark { mark < 128 }
-    requires above { length above.now ≡ length rests.old.items + 2 }
-    requires below { length below.now ≡ length rests.old.items + 2 }
+    requires owners { length owners.now ≡ length rests.old.items + 2 }
     requires edges { length edges.now ≡ length rests.old.items + 1 }
-    requires inside { EndInside (length rests.old.items) above.now }
+    requires inside { EndInside (length rests.old.items) owners.now }
     ensures long { length rests.new.items ≡ length rests.old.items }
-    ensures draws { OnOk result (Draws (W.contents writer.old) held.old (W.contents writer.new) held.new (line_of_rests mark edges.now above.now below.now rests.old.items)) }
-    ensures rests { OnOk result (AreCut above.now below.now rests.old.items rests.new.items) }
+    ensures draws { OnOk result (Draws (W.contents writer.old) held.old (W.contents writer.new) held.new (line_of_rests look.now.style look.now.alignments.now true edges.now owners.now owners.now rests.old.items)) }
+    ensures rests { OnOk result (AreCut owners.now owners.now rests.old.items rests.new.items) }
 {
+    let lines = look.style.columns;
     let columns = rests.len();
+    let mut drawn = is_drawn(lines, columns, 0);
     for j in 0..columns {
-        write_edge(
-            writer,
-            held,
-            mark,
-            (above[j], above[j + 1]),
-            (below[j], below[j + 1]),
-        );
-        rests[j] = write_column(writer, held, edges, j, above[j + 1], below[j + 1], rests[j]);
+        let owner = owners[j + 1];
+        write_upright(writer, held, look, drawn, owners[j], owner);
+        rests[j] = write_inside(writer, held, look, drawn, edges, j, owner, rests[j]);
+        drawn = is_drawn_after(lines, j);
     }
-    write_edge(
+    let drawn = is_drawn(lines, columns, columns);
+    write_upright(
         writer,
         held,
-        mark,
-        (above[columns], above[columns + 1]),
-        (below[columns], below[columns + 1]),
+        look,
+        drawn,
+        owners[columns],
+        owners[columns + 1],
     );
     held.push(writer, b'\n');
     held.take_outcome()?;
     Ok(())
 }
 
-/// Writes what a line has at an edge between columns.
-#[inline(always)]
-fn write_edge<W: Write>(
+/// Writes the line between two rows, or an outer one: a border between the owners above and below, and the texts of
+/// those that are one. Of each text that begins here, the lines that are left are cut by one.
+pub(crate) fn write_border_line<'a, W: Write>(
     writer: &mut W,
     held: &mut Held,
-    mark: u8,
-    above: (Option<Rectangle>, Option<Rectangle>),
-    below: (Option<Rectangle>, Option<Rectangle>),
-)
-    requires { mark < 128 }
-    ensures { Draws (W.contents writer.old) held.old (W.contents writer.new) held.new (edge mark above.0 above.1 below.0 below.1) }
+    look: &Look<'_>,
+    edges: &[usize],
+    above: &[Option<Rectangle>],
+    below: &[Option<Rectangle>],
+    rests: &mut Vec<&'a str>,
+) -> io::Result<()>
+    requires above { length above.now ≡ length rests.old.items + 2 }
+    requires below { length below.now ≡ length rests.old.items + 2 }
+    requires edges { length edges.now ≡ length rests.old.items + 1 }
+    requires inside { EndInside (length rests.old.items) above.now }
+    ensures long { length rests.new.items ≡ length rests.old.items }
+    ensures draws { OnOk result (Draws (W.contents writer.old) held.old (W.contents writer.new) held.new (line_of_rests look.now.style look.now.alignments.now false edges.now above.now below.now rests.old.items)) }
+    ensures rests { OnOk result (AreCut above.now below.now rests.old.items rests.new.items) }
 {
-    if !is_within(above, below) {
-        held.push(writer, mark);
+    let lines = look.style.columns;
+    let columns = rests.len();
+    let mut drawn = is_drawn(lines, columns, 0);
+    let mut left = differ(above[0], below[0]);
+    for j in 0..columns {
+        let over = above[j + 1];
+        let under = below[j + 1];
+        let right = differ(over, under);
+        write_corner(
+            writer,
+            held,
+            look,
+            drawn,
+            (above[j], over),
+            (below[j], under),
+            (left, right),
+        );
+        write_column(writer, held, look, drawn, right, edges, j, over, rests);
+        drawn = is_drawn_after(lines, j);
+        left = right;
+    }
+    let drawn = is_drawn(lines, columns, columns);
+    let right = differ(above[columns + 1], below[columns + 1]);
+    write_corner(
+        writer,
+        held,
+        look,
+        drawn,
+        (above[columns], above[columns + 1]),
+        (below[columns], below[columns + 1]),
+        (left, right),
+    );
+    held.push(writer, b'\n');
+    held.take_outcome()?;
+    Ok(())
+}
+
+/// Writes the line above row i of a table without merged cells, or below its last row.
+pub(crate) fn write_unmerged_line<W: Write>(
+    writer: &mut W,
+    held: &mut Held,
+    look: &Look<'_>,
+    edges: &[usize],
+    columns: usize,
+    rows: usize,
+    i: usize,
+) -> io::Result<()>
+    requires edges { length edges.now ≡ columns + 1 }
+    ensures draws { OnOk result (Draws (W.contents writer.old) held.old (W.contents writer.new) held.new (unmerged_line look.now.style rows columns i edges.now)) }
+{
+    let lines = look.style.columns;
+    let up = 0 < i;
+    let down = i < rows;
+    let inner = corner(&look.style, up, true, down, true);
+    let mut mark = corner(&look.style, up, true, down, false);
+    let mut drawn = is_drawn(lines, columns, 0);
+    for j in 0..columns {
+        write_mark(writer, held, drawn, mark);
+        write_level(writer, held, look, drawn, edges, j);
+        mark = inner;
+        drawn = is_drawn_after(lines, j);
+    }
+    let last = corner(&look.style, up, false, down, 0 < columns);
+    write_mark(writer, held, is_drawn(lines, columns, columns), last);
+    held.push(writer, b'\n');
+    held.take_outcome()?;
+    Ok(())
+}
+
+/// Writes a character, if there is one and its line is drawn.
+#[inline(always)]
+fn write_mark<W: Write>(writer: &mut W, held: &mut Held, drawn: bool, mark: Option<char>)
+    ensures { Draws (W.contents writer.old) held.old (W.contents writer.new) held.new (marked drawn mark) }
+{
+    if drawn && let Some(mark) = mark {
+        held.draw(writer, mark);
     }
 }
 
-/// Says whether one owner is all around an edge.
-fn is_within(
-    above: (Option<Rectangle>, Option<Rectangle>),
-    below: (Option<Rectangle>, Option<Rectangle>),
-) -> bool
-    ensures { result ≡ (is_one above.0 above.1 && is_one above.0 below.0) && is_one above.0 below.1 }
-{
-    let first = above.0;
-    is_one(first, above.1) && is_one(first, below.0) && is_one(first, below.1)
-}
-
-/// Writes what a line has in a column, and gives what is left there of a text.
-fn write_column<'a, W: Write>(
+/// Writes the border between two places of a row, if there is one and its line is drawn.
+#[inline(always)]
+fn write_upright<W: Write>(
     writer: &mut W,
     held: &mut Held,
+    look: &Look<'_>,
+    drawn: bool,
+    before: Option<Rectangle>,
+    after: Option<Rectangle>,
+)
+    ensures { Draws (W.contents writer.old) held.old (W.contents writer.new) held.new (edge look.now.style true drawn before after before after) }
+{
+    if drawn && differ(before, after) {
+        held.draw(writer, look.style.vertical);
+    }
+}
+
+/// Writes the corner where four places meet, if it has an arm and its line is drawn. It is known whether there are
+/// borders at its left and its right side.
+#[inline(always)]
+fn write_corner<W: Write>(
+    writer: &mut W,
+    held: &mut Held,
+    look: &Look<'_>,
+    drawn: bool,
+    above: (Option<Rectangle>, Option<Rectangle>),
+    below: (Option<Rectangle>, Option<Rectangle>),
+    beside: (bool, bool),
+)
+    requires left { beside.0 ≡ differ above.0 below.0 }
+    requires right { beside.1 ≡ differ above.1 below.1 }
+    ensures { Draws (W.contents writer.old) held.old (W.contents writer.new) held.new (edge look.now.style false drawn above.0 above.1 below.0 below.1) }
+{
+    if !drawn {
+        return;
+    }
+    let up = differ(above.0, above.1);
+    let down = differ(below.0, below.1);
+    let corner = corner(&look.style, up, beside.1, down, beside.0);
+    write_mark(writer, held, drawn, corner);
+}
+
+/// Writes a border in a column, if the owners above and below are apart, else what their one shows.
+#[inline(always)]
+fn write_column<W: Write>(
+    writer: &mut W,
+    held: &mut Held,
+    look: &Look<'_>,
+    drawn: bool,
+    apart: bool,
     edges: &[usize],
     j: usize,
-    above: Option<Rectangle>,
-    below: Option<Rectangle>,
+    owner: Option<Rectangle>,
+    rests: &mut Vec<&str>,
+)
+    requires end { (o : Rectangle) → owner ≡ Some o → o.0.col ≡ j → j + o.1.width < length edges.now }
+    requires col { j + 1 < length edges.now }
+    requires rest { j < length rests.old.items }
+    ensures draws { Draws (W.contents writer.old) held.old (W.contents writer.new) held.new (column_if look.now.style look.now.alignments.now drawn apart edges.now j owner (slice_index_or (bytes_in rests.old.items) j [])) }
+    ensures rests { IsCutAt j apart owner rests.old.items rests.new.items }
+{
+    if apart {
+        write_level(writer, held, look, drawn, edges, j);
+    } else {
+        write_crossing(writer, held, look, drawn, edges, j, owner, rests);
+    }
+}
+
+/// Writes the border in a column, as wide as its inside.
+#[inline(always)]
+fn write_level<W: Write>(
+    writer: &mut W,
+    held: &mut Held,
+    look: &Look<'_>,
+    drawn: bool,
+    edges: &[usize],
+    j: usize,
+)
+    requires col { j + 1 < length edges.now }
+    ensures { Draws (W.contents writer.old) held.old (W.contents writer.new) held.new (level look.now.style drawn edges.now j) }
+{
+    let inside = edges[j + 1]
+        .saturating_sub(edges[j])
+        .saturating_sub(size_if(drawn));
+    held.draw_many(writer, look.style.horizontal, inside);
+}
+
+/// Writes what an owner that lies above and below shows in a column.
+#[inline(never)]
+fn write_crossing<W: Write>(
+    writer: &mut W,
+    held: &mut Held,
+    look: &Look<'_>,
+    drawn: bool,
+    edges: &[usize],
+    j: usize,
+    owner: Option<Rectangle>,
+    rests: &mut Vec<&str>,
+)
+    requires end { (o : Rectangle) → owner ≡ Some o → o.0.col ≡ j → j + o.1.width < length edges.now }
+    requires col { j < length edges.now }
+    requires rest { j < length rests.old.items }
+    ensures draws { Draws (W.contents writer.old) held.old (W.contents writer.new) held.new (text_inside look.now.alignments.now drawn edges.now j owner (slice_index_or (bytes_in rests.old.items) j [])) }
+    ensures rests { IsCutAt j false owner rests.old.items rests.new.items }
+{
+    rests[j] = write_inside(writer, held, look, drawn, edges, j, owner, rests[j]);
+}
+
+/// Writes what the owner of a column shows in it, and gives what is left there of a text.
+#[inline(always)]
+fn write_inside<'a, W: Write>(
+    writer: &mut W,
+    held: &mut Held,
+    look: &Look<'_>,
+    drawn: bool,
+    edges: &[usize],
+    j: usize,
+    owner: Option<Rectangle>,
     rest: &'a str,
 ) -> &'a str
-    requires col { j + 1 < length edges.now }
-    requires end { (o : Rectangle) → above ≡ Some o → o.0.col ≡ j → j + o.1.width < length edges.now }
-    ensures draws { Draws (W.contents writer.old) held.old (W.contents writer.new) held.new (column edges.now j above below rest.now) }
-    ensures rest { result.now ≡ left_of j above below rest.now }
+    requires end { (o : Rectangle) → owner ≡ Some o → o.0.col ≡ j → j + o.1.width < length edges.now }
+    requires col { j < length edges.now }
+    ensures draws { Draws (W.contents writer.old) held.old (W.contents writer.new) held.new (text_inside look.now.alignments.now drawn edges.now j owner rest.now) }
+    ensures rest { result.now ≡ left_inside j owner rest.now }
 {
-    if !is_one(above, below) {
-        held.repeat(
-            writer,
-            b'-',
-            edges[j + 1].saturating_sub(edges[j]).saturating_sub(1),
-        );
-        return rest;
-    }
-    match above {
+    match owner {
         Some((at, Size { width, .. })) if at.col == j => {
-            let room = edges[j + width].saturating_sub(edges[j]).saturating_sub(3);
-            write_cell(writer, held, rest, room)
+            let room = edges[j + width]
+                .saturating_sub(edges[j])
+                .saturating_sub(size_if(drawn) + 2);
+            write_cell(writer, held, alignment_in(look.alignments, j), rest, room)
         }
         _ => rest,
     }

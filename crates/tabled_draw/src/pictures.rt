@@ -3,10 +3,13 @@
 ghost use Rattle.std.specs.Prelude.{◌≡◌, IfOk, OnOk};
 ghost use Rattle.std.specs.Io.KnownBytes.{Appends};
 ghost use Rattle.std.specs.String.{string_bytes};
-ghost use Rattle.tabled_draw.specs.Picture.{drawn};
+ghost use Rattle.tabled_draw.specs.Picture.{drawn, drawn_with};
 ghost use Rattle.tabled_grid.specs.Grid.{map_grid};
+ghost use Rattle.tabled_grid.specs.Spans.{AreSpanSizes};
 
 use crate::drawing::Drawing;
+use crate::look::Look;
+use crate::style::Style;
 use std::alloc::{AllocError, Global};
 use std::io::{self, Write};
 use tabled_grid::config::SpannedConfig;
@@ -26,8 +29,31 @@ where
     R::Cell: CellText,
     requires well { R.is_well_formed records.now }
     ensures drawn { OnOk result (Appends (W.contents writer.old) (W.contents writer.new) (drawn (map_grid R.Cell.text_of (R.grid records.now)) cfg.now)) }
+    ensures sizes { AreSpanSizes cfg.now }
 {
     let drawing = Drawing::new(alloc, records, cfg)?;
+    drawing.write(writer)
+}
+
+/// Writes the picture of a table in a look, as `draw` writes it in that of `tabled`.
+///
+/// Of this project.
+pub fn draw_with<W, R>(
+    alloc: Global,
+    writer: &mut W,
+    records: &R,
+    cfg: &SpannedConfig,
+    look: &Look<'_>,
+) -> io::Result<()>
+where
+    W: Write,
+    R: Records + ExactRecords + PeekableRecords,
+    R::Cell: CellText,
+    requires well { R.is_well_formed records.now }
+    ensures drawn { OnOk result (Appends (W.contents writer.old) (W.contents writer.new) (drawn_with look.now.style look.now.alignments.now (map_grid R.Cell.text_of (R.grid records.now)) cfg.now)) }
+    ensures sizes { AreSpanSizes cfg.now }
+{
+    let drawing = Drawing::with_look(alloc, records, cfg, look)?;
     drawing.write(writer)
 }
 
@@ -40,8 +66,28 @@ where
     R::Cell: CellText,
     requires well { R.is_well_formed records.now }
     ensures drawn { IfOk result (λ picture. string_bytes picture ≡ drawn (map_grid R.Cell.text_of (R.grid records.now)) cfg.now) }
+    ensures sizes { AreSpanSizes cfg.now }
 {
-    let drawing = Drawing::new(alloc, records, cfg)?;
+    picture_with(alloc, records, cfg, &Look::new(Style::ascii()))
+}
+
+/// The picture of a table in a look as a text, as `draw_with` writes it. It may be refused for memory.
+///
+/// Of this project.
+pub fn picture_with<R>(
+    alloc: Global,
+    records: &R,
+    cfg: &SpannedConfig,
+    look: &Look<'_>,
+) -> Result<String, AllocError>
+where
+    R: Records + ExactRecords + PeekableRecords,
+    R::Cell: CellText,
+    requires well { R.is_well_formed records.now }
+    ensures drawn { IfOk result (λ picture. string_bytes picture ≡ drawn_with look.now.style look.now.alignments.now (map_grid R.Cell.text_of (R.grid records.now)) cfg.now) }
+    ensures sizes { AreSpanSizes cfg.now }
+{
+    let drawing = Drawing::with_look(alloc, records, cfg, look)?;
     let mut bytes = Vec::new(alloc);
     if drawing.write(&mut bytes).is_err() {
         return Err(AllocError);

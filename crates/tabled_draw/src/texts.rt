@@ -1,17 +1,17 @@
 //! Lines of texts, and how wide they are.
 
-ghost use Rattle.std.specs.Prelude.{◌≡◌, ◌-◌, IfOk, IsTrue};
+ghost use Rattle.std.specs.Prelude.{◌≡◌, ◌-◌, IsTrue};
 ghost use Rattle.tabled_draw.specs.Sent.{Draws};
-ghost use Rattle.tabled_draw.specs.Lines.{ArePlain, after_line, cell, first_line};
+ghost use Rattle.tabled_draw.specs.Lines.{ArePlain, IsLine, after_line, cell, first_line};
 ghost use Rattle.tabled_draw.specs.Sizes.{asks};
 ghost use Rattle.tabled_draw.specs.Texts.{text_width, shown_character, shown_line, widest};
 ghost use Rattle.tabled_grid.specs.declared.records.axis.Axis.TheVariants.{Rows, Columns};
 
+use crate::alignment::{Alignment, indent};
 use crate::held::Held;
-use std::alloc::AllocError;
 use std::io::Write;
 use tabled_grid::config::Size;
-use unicode_width::UnicodeWidthChar;
+use unicode_width::UnicodeWidthStr;
 
 /// The character that is shown for one: for a control character another one, which can be seen.
 fn shown(c: char) -> char
@@ -53,67 +53,61 @@ fn are_plain(bytes: &[u8]) -> bool
     plain
 }
 
-/// The columns that a line takes as it is shown. More than `usize::MAX` are a growth refused.
-fn columns_in(line: &str) -> Result<usize, AllocError>
-    ensures { IfOk result (λ columns. columns ≡ text_width (shown_line line.now)) }
+/// The columns that a line takes as it is shown. A control character takes one, as what is shown for it does.
+fn columns_in(line: &str) -> usize
+    ensures { IsLine line.now → result ≡ text_width (shown_line line.now) }
 {
-    if is_plain(line) {
-        return Ok(line.len());
-    }
-    let mut columns: usize = 0;
-    for c in line.chars() {
-        let Some(more) = columns.checked_add(shown(c).width().unwrap_or(0)) else {
-            return Err(AllocError);
-        };
-        columns = more;
-    }
-    Ok(columns)
+    line.width()
 }
 
 /// The size that a text asks: of its rows as many as it has lines, and of its columns those of its widest line.
-pub(crate) fn asked(text: &str) -> Result<Size, AllocError>
-    ensures height { IfOk result (λ asked. asked.height ≡ asks Rows text.now) }
-    ensures width { IfOk result (λ asked. asked.width ≡ asks Columns text.now) }
+pub(crate) fn asked(text: &str) -> Size
+    ensures height { result.height ≡ asks Rows text.now }
+    ensures width { result.width ≡ asks Columns text.now }
 {
     if is_plain(text) {
-        return Ok(Size {
+        return Size {
             height: 1,
             width: text.len(),
-        });
+        };
     }
     asked_by_lines(text)
 }
 
 /// The same, line by line.
 #[inline(never)]
-fn asked_by_lines(text: &str) -> Result<Size, AllocError>
-    ensures height { IfOk result (λ asked. asked.height ≡ asks Rows text.now) }
-    ensures width { IfOk result (λ asked. asked.width ≡ asks Columns text.now) }
+fn asked_by_lines(text: &str) -> Size
+    ensures height { result.height ≡ asks Rows text.now }
+    ensures width { result.width ≡ asks Columns text.now }
 {
     let mut height: usize = 0;
     let mut width: usize = 0;
     for line in text.split('\n') {
         height += 1;
-        width = width.max(columns_in(line)?);
+        width = width.max(columns_in(line));
     }
-    Ok(Size { height, width })
+    Size { height, width }
 }
 
-/// Writes the first line of a text as it is shown, a blank before it and blanks up to the end of the room and one
-/// more after it. Gives the lines after it.
+/// Writes the first line of a text as it is shown and aligned in a room, with one blank more at both sides. Gives the
+/// lines after it.
 pub(crate) fn write_cell<'a, W: Write>(
     writer: &mut W,
     held: &mut Held,
+    alignment: Alignment,
     text: &'a str,
     room: usize,
 ) -> &'a str
-    ensures draws { Draws (W.contents writer.old) held.old (W.contents writer.new) held.new (cell text.now room) }
+    ensures draws { Draws (W.contents writer.old) held.old (W.contents writer.new) held.new (cell alignment text.now room) }
     ensures rest { result.now ≡ after_line text.now }
 {
-    held.push(writer, b' ');
     let (line, rest) = cut(text);
-    let left = write_shown(writer, held, line, room);
-    held.repeat(writer, b' ', left);
+    let free = free_beside(&line, room);
+    let before = indent(alignment, free);
+    held.push(writer, b' ');
+    held.repeat(writer, b' ', before);
+    write_shown(writer, held, line);
+    held.repeat(writer, b' ', free.saturating_sub(before));
     held.push(writer, b' ');
     rest
 }
@@ -130,6 +124,7 @@ struct Line<'a> {
 /// The first line of a text, and the lines after it.
 fn cut(text: &str) -> (Line<'_>, &str)
     ensures line { shown_line result.0.text.now ≡ first_line text.now }
+    ensures whole { IsLine result.0.text.now }
     ensures rest { result.1.now ≡ after_line text.now }
 {
     if is_plain(text) {
@@ -147,22 +142,29 @@ fn cut(text: &str) -> (Line<'_>, &str)
     (line, rest)
 }
 
-/// Writes a line as it is shown, and gives what it leaves of the room.
-fn write_shown<W: Write>(writer: &mut W, held: &mut Held, line: Line<'_>, room: usize) -> usize
-    ensures draws { Draws (W.contents writer.old) held.old (W.contents writer.new) held.new (shown_line line.entry.text.now) }
-    ensures left { result ≡ room - text_width (shown_line line.entry.text.now) }
+/// What a line leaves of a room.
+fn free_beside(line: &Line<'_>, room: usize) -> usize
+    requires { IsLine line.now.text.now }
+    ensures { result ≡ room - text_width (shown_line line.now.text.now) }
+{
+    if line.is_plain {
+        return room.saturating_sub(line.text.len());
+    }
+    room.saturating_sub(columns_in(line.text))
+}
+
+/// Writes a line as it is shown.
+fn write_shown<W: Write>(writer: &mut W, held: &mut Held, line: Line<'_>)
+    ensures { Draws (W.contents writer.old) held.old (W.contents writer.new) held.new (shown_line line.entry.text.now) }
 {
     let line_bytes = line.text.as_bytes();
     if line.is_plain {
         held.write(writer, line_bytes);
-        return room.saturating_sub(line.text.len());
+        return;
     }
-    let mut left = room;
     for c in line.text.chars() {
         let c = shown(c);
         let mut bytes = [0; 4];
         held.write(writer, c.encode_utf8(&mut bytes).as_bytes());
-        left = left.saturating_sub(c.width().unwrap_or(0));
     }
-    left
 }

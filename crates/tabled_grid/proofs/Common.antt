@@ -6,7 +6,7 @@ pub use Rattle.std.proofs.Math.Seq.{drop-cons, take-add, take-append-add}
 pub use Rattle.std.proofs.lemmas.Bool.{and_from, and_left, and_parts, and_right, cases_Bool, cases_eq, cases_lt, cond-false, cond-true, eqb-true, false_from_ne_true, false≢true, le-ltb, ltb-false, ne_eqb, not-true, not_from_false, not_from_true, or_cases, or_left, or_right}
 pub use Rattle.std.proofs.lemmas.Cmp.{nat_cmp_total, on_total, ranked, then_total, tied_itself}
 pub use Rattle.std.proofs.lemmas.Grind.{common_steps, div_ceil_times, drop_more_same}
-pub use Rattle.std.proofs.lemmas.List.{append-nil, append_assoc, drop-drop, drop-set-lt, drop_all, drop_at, drop_more, get_or-append_right, get_or-drop, get_or-set_other, get_or-set_same, get_or-take, get_or_append_left, get_or_default, length-append, length-drop, length-map, length-replicate, length-set, length-take, length-take-le, length_push, map-append, map-id, map-set, map_more, map_push, nil_from_length, replicate-append-replicate, set-append_left, set-append_right, set-get_or, set-set, set_at, set_comm, set_split, take-append-drop, take-map, take-take, take_all, take_at, take_more, take_more_set, with_items_is}
+pub use Rattle.std.proofs.lemmas.List.{append-nil, append_assoc, drop-drop, drop-set-lt, drop_all, drop_at, drop_more, get_or-append_right, get_or-drop, get_or-set_other, get_or-set_same, get_or-take, get_or_append_left, get_or_default, length-append, length-drop, length-map, length-replicate, length-set, length-take, length-take-le, length_push, map-append, map-id, map-set, map_more, map_push, nil_from_length, replicate-append-replicate, set-append_left, set-append_right, set-get_or, set-set, set_at, set_comm, set_split, take-append-drop, take-map, take-replicate, take-take, take_all, take_at, take_more, take_more_set, with_items_is}
 pub use Rattle.std.proofs.lemmas.List.Edits.{insert_end, length-insert, length-remove, length-swap, map_over_more, swap_is}
 pub use Rattle.std.proofs.lemmas.List.Elements.{All-append, All-filter, All-from_recursion, All-map, All-nil, AllWithin-more_set, filter-append, filter_agree, filter_from_retain, filter_more, recursion_from_All}
 pub use Rattle.std.proofs.lemmas.List.Sorted.{All-permutation, IsPermutation-append_comm, IsPermutation-refl, answers_always, length_permutation, searchable_from_sorted}
@@ -35,9 +35,11 @@ pub use Rattle.tabled_grid.specs.Along.{count_along, first_along, without_line}
 pub use Rattle.tabled_grid.specs.Anchors.{anchor_of, dropped, is_hidden_in, is_past, lie_well, lies_inside, marked, meets, unless_held, with_size_in, with_sizes_in, without_first_at}
 pub use Rattle.tabled_grid.specs.Axis.{across, count_of, line_of, lines_in, next_line, place_in}
 pub use Rattle.tabled_grid.specs.Bulk.{AddsColumns, AddsRows, Exchanges, cell_in, transposed, transposed_rows, turned_places, with_items_behind}
+pub use Rattle.tabled_grid.specs.CellCounts.{CountsBlock, IsFew, IsMany, counts_of}
 pub use Rattle.tabled_grid.specs.Covers.{Cover, IsNumbered, Stepped, Steps, beyond, hiders_in, hiders_of, hides, in_run, table}
 pub use Rattle.tabled_grid.specs.Entity.{block, inside, names, place, row_places, same_place}
-pub use Rattle.tabled_grid.specs.Evenness.{AreWide, is_even, length-chunks, no_columns, wide-chunks}
+pub use Rattle.tabled_grid.proofs.Evenness.{is_even}
+pub use Rattle.tabled_grid.specs.Evenness.{AreWide, length-chunks, no_columns, wide-chunks}
 pub use Rattle.tabled_grid.specs.Fitting.{Fits, fits_among, fitting, keep_fitting, with_met}
 pub use Rattle.tabled_grid.specs.Flat.{IsFull, chunks, flat_grid, joined}
 pub use Rattle.tabled_grid.specs.Grid.{Grid, IsEmptyWithoutRows, IsEven, IsInside, WritesText, cell_at, grid_of, map_grid, map_items, width_of, with_cell}

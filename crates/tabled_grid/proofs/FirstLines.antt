@@ -1,5 +1,5 @@
 -- The first lines of a grid.
-use Rattle.tabled_grid.proofs.Common.{◌-◌, ◌∙◌, ◌≡◌, ◌≤◌, Axis, Bool, Columns, Grid, IsEmptyWithoutRows, IsEven, List, Rows, all-map, all-take, append-nil, ap₂, arith, common_steps, cond, count_along, drop_all, eqb, eqb-true, false, first_along, length, length-map, length-take, length-take-le, map, map-id, ne_eqb, nil_from_length, refl, remove, rules, suc, sym, take, take-take, take_all, true, without_line, zero, ℕ}
+use Rattle.tabled_grid.proofs.Common.{◌∙◌, ◌≡◌, ◌≤◌, Axis, Bool, Columns, Grid, IsEmptyWithoutRows, IsEven, List, Rows, all-map, all-take, append-nil, ap₂, arith, common_steps, cond, count_along, drop_all, eqb, eqb-true, false, first_along, length, length-map, length-take, length-take-le, map, map-id, ne_eqb, nil_from_length, refl, remove, rules, suc, sym, take, take-take, take_all, true, without_line, zero, ℕ}
 use Rattle.tabled_grid.proofs.Along.{each_after, each_agrees, each_same}
 use Rattle.tabled_grid.proofs.Resized.{wide_if}
 

@@ -1,5 +1,5 @@
 -- Grids with another cell at a place, and the grids of texts.
-use Rattle.tabled_grid.proofs.Common.{[], ◌<◌, ◌∙◌, ◌∷◌, ◌≡◌, ◌≢◌, All-from_recursion, AllByRecursion, Grid, IsEven, IsInside, List, Position, Some, WritesText, ap, arith, cases_eq, cell_at, common_steps, get_or, get_or-map, get_or-set_other, get_or-set_same, length, length-map, length-set, map, map-set, map_grid, option_map, place, refl, set, slice_get, slice_get-get_or, slice_get-map, suc, with_cell, zero, ℕ}
+use Rattle.tabled_grid.proofs.Common.{[], ◌<◌, ◌∙◌, ◌∷◌, ◌≡◌, ◌≢◌, All-from_recursion, AllByRecursion, Grid, IsEven, IsInside, List, Position, Some, WritesText, ap, arith, cases_eq, cell_at, common_steps, get_or, get_or-map, get_or-set_other, get_or-set_same, length, length-map, length-set, map, map-set, map_grid, option_map, refl, set, slice_get, slice_get-get_or, slice_get-map, suc, with_cell, zero, ℕ}
 
 -- what f gives of a grid with another cell
 pub map_grid-with_cell : {A B : Type 0} (f : A → B) (g : Grid A) (p : Position) (x : A) → map_grid f (with_cell g p x) ≡ with_cell (map_grid f g) p (f x)

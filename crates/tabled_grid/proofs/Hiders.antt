@@ -1,5 +1,6 @@
 -- How many anchors hide a place, and how that follows the map.
-use Rattle.tabled_grid.proofs.Common.{[], ◌*◌, ◌+◌, ◌<◌, ◌^◌, ◌||◌, ◌∙◌, ◌∷◌, ◌≡◌, ◌≢◌, ◌≤◌, ◌⊎◌, AllByRecursion, Bool, IsNumbered, List, None, Option, Position, Rectangle, Size, Some, SpanMap, Stepped, Steps, T, ap, ap₂, arith, below_all, beyond, cases_Bool, cases_lt, common_steps, cond, count_by, entries, entries-from_sorted, entries_sorted, eq_by_cmp, false, false_from_ne_true, find, find-where_key, from_sorted, get, get-entries, get-from_sorted, get_or, hiders_in, hiders_of, hides, inl, inr, is_hidden, is_sorted, is_sorted-where_key, length, list_any, lt-ltb, mul-le-mul_right, nat_lt, not, place, position_cmp, refl, replicate, rules, same_map, size_at, sized, subst, sym, table, take, tied_itself, true, unwrap_or, where_key, with_size, ℕ}
+use Rattle.tabled_grid.proofs.Common.{[], ◌*◌, ◌+◌, ◌<◌, ◌||◌, ◌∙◌, ◌∷◌, ◌-◌, ◌%◌, ◌≡◌, ◌≢◌, ◌≤◌, ◌⊎◌, AllByRecursion, Bool, IsNumbered, List, None, Option, Position, Rectangle, Size, Some, SpanMap, Stepped, Steps, T, ap, ap₂, arith, below_all, beyond, cases_Bool, cases_lt, common_steps, cond, count_by, entries, entries-from_sorted, entries_sorted, eq_by_cmp, false, false_from_ne_true, find, find-where_key, from_sorted, get, get-entries, get-from_sorted, get_or, hiders_in, hiders_of, hides, inl, inr, is_hidden, is_sorted, is_sorted-where_key, length, list_any, lt-ltb, mul-le-mul_right, nat_lt, not, place, position_cmp, refl, replicate, rules, same_map, size_at, sized, subst, sym, table, take, tied_itself, true, unwrap_or, where_key, with_size, ℕ}
+use Rattle.std.proofs.Math.Nat.{add-mod_right, mod-eq_of_lt}
 use Rattle.std.proofs.lemmas.List.Sums.{count_by_more_no, count_by_more_yes, sum_by-cons, sum_by-take-le}
 use Rattle.tabled_grid.proofs.PassedAnchors.{Earlier, earlier}
 use Rattle.tabled_grid.proofs.Spans.{positions_exact, positions_total}
@@ -57,9 +58,9 @@ from_start : (columns : ℕ) (p : Position) (es : List Rectangle) → AllByRecur
 from_start columns p [] = tt
 from_start columns p (e ∷ es) = ((λ t. omega arith), from_start columns p es)
 
--- so their number fits a word where that of the shape's cells does
-pub hiders-fit : (rows columns : ℕ) (p : Position) (es : List Rectangle) → T (is_sorted position_cmp es) → p.row < rows → p.col < columns → rows * columns < 2 ^ 64 → hiders_in es p < 2 ^ 64
-hiders-fit rows columns p es up row col fits =
+-- so their number is below a limit where that of the shape's cells is
+pub hiders-fit : (limit rows columns : ℕ) (p : Position) (es : List Rectangle) → T (is_sorted position_cmp es) → p.row < rows → p.col < columns → rows * columns < limit → hiders_in es p < limit
+hiders-fit limit rows columns p es up row col fits =
     let before : hiders_in es p + 0 ≤ code columns p = few columns 0 p es up col (omega arith) (from_start columns p es) in
     let inside : (p.row + 1) * columns ≤ rows * columns = mul-le-mul_right columns (omega arith) in
     omega (arith, before, inside)
@@ -137,36 +138,53 @@ one-if b t = ap number t
 none-if : (b : Bool) → b ≡ false → number b ≡ 0
 none-if b t = ap number t
 
-module _ (m : SpanMap) (a : Position) (old new : Size) (first : Position) (rows columns : ℕ) (has : size_at m a ≡ old) (fits : IsNumbered first rows columns) where
+-- one less, and one more, counted round a limit that isn't reached
+one-less : (n k limit : ℕ) → n ≡ k + 1 → n < limit → (n + (limit - 1)) % limit ≡ k
+one-less n k limit is below =
+    let round : n + (limit - 1) ≡ k + limit = omega (arith, is) in
+    ap (λ i. i % limit) round ∙ add-mod_right k limit ∙ mod-eq_of_lt (omega (arith, is))
+
+one_more-is : (n k limit : ℕ) → n ≡ k + 1 → n < limit → (k + 1) % limit ≡ n
+one_more-is n k limit is below = ap (λ i. i % limit) (sym is) ∙ mod-eq_of_lt below
+
+module _ (m : SpanMap) (a : Position) (old new : Size) (first : Position) (rows columns : ℕ) (limit : ℕ) (has : size_at m a ≡ old) (fits : IsNumbered limit first rows columns) where
   abbrev at : ℕ → ℕ → Position
   at i j = beyond first (place i j)
 
-  few_of : (n : SpanMap) (i j : ℕ) → i < rows → j < columns → hiders_of n (at i j) < 2 ^ 64
-  few_of n i j h k = hiders-fit (first.row + rows) (first.col + columns) (at i j) (entries n) (entries_sorted n) (omega arith) (omega arith) fits.cells
+  few_of : (n : SpanMap) (i j : ℕ) → i < rows → j < columns → hiders_of n (at i j) < limit
+  few_of n i j h k = hiders-fit limit (first.row + rows) (first.col + columns) (at i j) (entries n) (entries_sorted n) (omega arith) (omega arith) fits.cells
 
-  taken : Stepped (λ p. hides (beyond first p) (a, old)) 18446744073709551615 rows columns (λ p. hiders_of m (beyond first p)) (λ p. hiders_in (rest m a) (beyond first p))
+  taken : Stepped (λ p. hides (beyond first p) (a, old)) (limit - 1) limit rows columns (λ p. hiders_of m (beyond first p)) (λ p. hiders_in (rest m a) (beyond first p))
   taken = record {
-    here = λ i j h k t. omega (arith, was i j, one-if (hides (at i j) (a, old)) t, few_of m i j h k);
+    here = λ i j h k t. sym (one-less _ _ limit (was i j ∙ ap (λ n. hiders_in (rest m a) (at i j) + n) (one-if (hides (at i j) (a, old)) t)) (few_of m i j h k));
     others = λ i j h k t. omega (arith, was i j, none-if (hides (at i j) (a, old)) t);
   }
     where
       was : (i j : ℕ) → hiders_of m (at i j) ≡ hiders_in (rest m a) (at i j) + cond (hides (at i j) (a, old)) 1 0
       was i j = hiders-apart m a (at i j) ∙ ap (λ size. hiders_in (rest m a) (at i j) + cond (hides (at i j) (a, size)) 1 0) has
 
-  given : Stepped (λ p. hides (beyond first p) (a, new)) 1 rows columns (λ p. hiders_in (rest m a) (beyond first p)) (λ p. hiders_of (with_size m a new) (beyond first p))
-  given = search (rules, hiders-with, one-if, few_of, none-if)
+  given : Stepped (λ p. hides (beyond first p) (a, new)) 1 limit rows columns (λ p. hiders_in (rest m a) (beyond first p)) (λ p. hiders_of (with_size m a new) (beyond first p))
+  given = record {
+    here = λ i j h k t. sym (one_more-is _ _ limit (is i j ∙ ap (λ n. hiders_in (rest m a) (at i j) + n) (one-if (hides (at i j) (a, new)) t)) (few_of (with_size m a new) i j h k));
+    others = λ i j h k t. omega (arith, is i j, none-if (hides (at i j) (a, new)) t);
+  }
+    where
+      is : (i j : ℕ) → hiders_of (with_size m a new) (at i j) ≡ hiders_in (rest m a) (at i j) + cond (hides (at i j) (a, new)) 1 0
+      is i j = hiders-with m a (at i j) new
 
   -- a rectangle is taken away, and another given
-  pub hiders-replaced : (xs ys zs : List ℕ) → Steps xs ys (λ p. hides (beyond first p) (a, old)) 18446744073709551615 rows columns → Steps ys zs (λ p. hides (beyond first p) (a, new)) 1 rows columns → xs ≡ table (λ p. hiders_of m (beyond first p)) rows columns → zs ≡ table (λ p. hiders_of (with_size m a new) (beyond first p)) rows columns
+  pub hiders-replaced : (xs ys zs : List ℕ) → Steps xs ys (λ p. hides (beyond first p) (a, old)) (limit - 1) limit rows columns → Steps ys zs (λ p. hides (beyond first p) (a, new)) 1 limit rows columns → xs ≡ table (λ p. hiders_of m (beyond first p)) rows columns → zs ≡ table (λ p. hiders_of (with_size m a new) (beyond first p)) rows columns
   hiders-replaced xs ys zs back on is = on.is (λ p. hiders_in (rest m a) (beyond first p)) (λ p. hiders_of (with_size m a new) (beyond first p)) given (back.is (λ p. hiders_of m (beyond first p)) (λ p. hiders_in (rest m a) (beyond first p)) taken is)
 
 -- one anchor of a sorted list more
-pub hiders-more : (es : List Rectangle) (n : ℕ) (d : Rectangle) (xs ys : List ℕ) (first : Position) (rows columns : ℕ) → T (is_sorted position_cmp es) → n < length es → IsNumbered first rows columns → Steps xs ys (λ p. hides (beyond first p) (get_or es n d)) 1 rows columns → xs ≡ table (λ p. hiders_in (take n es) (beyond first p)) rows columns → ys ≡ table (λ p. hiders_in (take (n + 1) es) (beyond first p)) rows columns
-hiders-more es n d xs ys first rows columns up here fits steps is = steps.is (λ p. hiders_in (take n es) (beyond first p)) (λ p. hiders_in (take (n + 1) es) (beyond first p)) (record {
-  here = λ i j h k t. omega (arith, count_by_more_yes (hides (beyond first (place i j))) es n d here t, sum_by-take-le (λ e. cond (hides (beyond first (place i j)) e) 1 0) es (n + 1), hiders-fit (first.row + rows) (first.col + columns) (beyond first (place i j)) es up (omega arith) (omega arith) fits.cells);
+pub hiders-more : (es : List Rectangle) (n : ℕ) (d : Rectangle) (xs ys : List ℕ) (first : Position) (step limit rows columns : ℕ) → T (is_sorted position_cmp es) → n < length es → IsNumbered limit first rows columns → step ≡ 1 → Steps xs ys (λ p. hides (beyond first p) (get_or es n d)) step limit rows columns → xs ≡ table (λ p. hiders_in (take n es) (beyond first p)) rows columns → ys ≡ table (λ p. hiders_in (take (n + 1) es) (beyond first p)) rows columns
+hiders-more es n d xs ys first step limit rows columns up here fits one steps is = steps.is (λ p. hiders_in (take n es) (beyond first p)) (λ p. hiders_in (take (n + 1) es) (beyond first p)) (record {
+  here = λ i j h k t. sym (ap (λ s. (hiders_in (take n es) (beyond first (place i j)) + s) % limit) one ∙ one_more-is _ _ limit
+      (omega (arith, count_by_more_yes (hides (beyond first (place i j))) es n d here t))
+      (omega (arith, sum_by-take-le (λ e. cond (hides (beyond first (place i j)) e) 1 0) es (n + 1), hiders-fit limit (first.row + rows) (first.col + columns) (beyond first (place i j)) es up (omega arith) (omega arith) fits.cells)));
   others = λ i j h k t. count_by_more_no (hides (beyond first (place i j))) es n d here t;
 }) is
 
 -- no anchor hides a place yet
-pub hiders-none : (first : Position) (rows columns count : ℕ) (xs : List ℕ) → count ≡ rows * columns → xs ≡ replicate count 0 → xs ≡ table (λ p. hiders_in [] (beyond first p)) rows columns
-hiders-none first rows columns count xs e is = is ∙ sym (table-zero rows columns count (sym e))
+pub hiders-none : (first : Position) (rows columns : ℕ) (xs : List ℕ) → xs ≡ replicate (rows * columns) 0 → xs ≡ table (λ p. hiders_in [] (beyond first p)) rows columns
+hiders-none first rows columns xs is = is ∙ sym (table-zero rows columns (rows * columns) refl)

@@ -6,8 +6,10 @@ pub mod Along
 pub mod BesideAnchors
 pub mod Blanks
 pub mod Common
+pub mod CoverCounts
 pub mod Cutting
 pub mod Diagonal
+pub mod Evenness
 pub mod FirstLines
 pub mod Fitting
 pub mod FittingAnchors

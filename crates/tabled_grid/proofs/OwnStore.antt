@@ -17,7 +17,7 @@ pub use Rattle.tabled_grid.proofs.Resized.{rowless-with_column, rowless-without_
 pub use Rattle.tabled_grid.proofs.NestedRows.{each_long, row_cell, row_holds, row_written}
 pub use Rattle.tabled_grid.proofs.RowByRow.{Changed, changed_all, changed_more, changed_next, same_cells, same_lens}
 -- all cells in one list: rows cut out of it, and a cell by its place
-pub use Rattle.tabled_grid.specs.Evenness.{is_even}
+pub use Rattle.tabled_grid.proofs.Evenness.{is_even}
 pub use Rattle.tabled_grid.proofs.Flat.{chunks-joined, full_of, joined-chunks, length-joined, view_of}
 pub use Rattle.tabled_grid.proofs.FlatStore.{cell_read, cell_within, cell_written}
 -- lists of which each member has a property

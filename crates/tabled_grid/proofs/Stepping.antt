@@ -25,29 +25,29 @@ run_next : (i first j : ℕ) (p : Position) → first ≤ j → in_run i (first,
 run_next i first j p h = grind (arith, common_steps, or_cases, in_run-true, cases_lt, or_left, in_run-from, or_right, and_from, same_place-true)
 
 -- a row that is stepped up to a column
-pub record RunTo (old new : List ℕ) (i : ℕ) (run : ℕ × ℕ) (j step rows columns : ℕ) : Type 0 where
-  pub steps : Steps old new (in_run i (run.0, j)) step rows columns
+pub record RunTo (old new : List ℕ) (i : ℕ) (run : ℕ × ℕ) (j step limit rows columns : ℕ) : Type 0 where
+  pub steps : Steps old new (in_run i (run.0, j)) step limit rows columns
   pub empty : run.1 < run.0 → j ≡ run.0
 
-pub run_starts : (xs : List ℕ) (i : ℕ) (run : ℕ × ℕ) (step rows columns : ℕ) → RunTo xs xs i run run.0 step rows columns
-run_starts xs i run step rows columns = record { steps = steps_nowhere xs _ step rows columns (λ r c h k. no_run i (run.0, run.0) (place r c) (omega arith)); empty = λ h. refl }
+pub run_starts : (xs : List ℕ) (i : ℕ) (run : ℕ × ℕ) (step limit rows columns : ℕ) → RunTo xs xs i run run.0 step limit rows columns
+run_starts xs i run step limit rows columns = record { steps = steps_nowhere xs _ step limit rows columns (λ r c h k. no_run i (run.0, run.0) (place r c) (omega arith)); empty = λ h. refl }
 
-pub run_more : (old xs : List ℕ) (i j k d x : ℕ) (run : ℕ × ℕ) (step rows columns : ℕ) → RunTo old xs i run j step rows columns → run.0 ≤ j → j < run.1 → i < rows → run.1 ≤ columns → k ≡ i * columns + j → x ≡ (get_or xs k d + step) % 2 ^ 64 → RunTo old (set xs k x) i run (j + 1) step rows columns
-run_more old xs i j k d x run step rows columns so from below row end e value = record {
-  steps = steps_joined old xs (set xs k x) (in_run i (run.0, j)) (same_place (place i j)) (in_run i (run.0, j + 1)) step rows columns
+pub run_more : (old xs : List ℕ) (i j k d x : ℕ) (run : ℕ × ℕ) (step limit rows columns : ℕ) → RunTo old xs i run j step limit rows columns → run.0 ≤ j → j < run.1 → i < rows → run.1 ≤ columns → k ≡ i * columns + j → x ≡ (get_or xs k d + step) % limit → RunTo old (set xs k x) i run (j + 1) step limit rows columns
+run_more old xs i j k d x run step limit rows columns so from below row end e value = record {
+  steps = steps_joined old xs (set xs k x) (in_run i (run.0, j)) (same_place (place i j)) (in_run i (run.0, j + 1)) step limit rows columns
       (λ r c h l. run_next i run.0 j (place r c) from)
       (λ r c h l t s. let at = in_run-true i (run.0, j) (place r c) t in omega (arith, at.right, ap (λ (q : Position). q.col) (same_place-true (place i j) (place r c) s)))
-      so.steps (steps_one xs i j k d x step rows columns row (omega arith) e value);
+      so.steps (steps_one xs i j k d x step limit rows columns row (omega arith) e value);
   empty = λ h. absurd (omega arith);
 }
 
 -- all of a run
-pub run_done : (old xs : List ℕ) (i j : ℕ) (run : ℕ × ℕ) (step rows columns : ℕ) → RunTo old xs i run j step rows columns → run.1 ≤ j → (run.0 ≤ run.1 → j ≤ run.1) → Steps old xs (in_run i run) step rows columns
-run_done old xs i j run step rows columns so past near = grind (arith, common_steps, cases_lt, steps_same, no_run)
+pub run_done : (old xs : List ℕ) (i j : ℕ) (run : ℕ × ℕ) (step limit rows columns : ℕ) → RunTo old xs i run j step limit rows columns → run.1 ≤ j → (run.0 ≤ run.1 → j ≤ run.1) → Steps old xs (in_run i run) step limit rows columns
+run_done old xs i j run step limit rows columns so past near = grind (arith, common_steps, cases_lt, steps_same, no_run)
 
 -- an anchor's rectangle, cut at a block, and the rows of it that are stepped
-pub record EachTo (old new : List ℕ) (first : Position) (anchor : Rectangle) (i step rows columns : ℕ) : Type 0 where
-  pub steps : Steps old new (λ p. hides (beyond first p) anchor && nat_lt p.row i) step rows columns
+pub record EachTo (old new : List ℕ) (first : Position) (anchor : Rectangle) (i step limit rows columns : ℕ) : Type 0 where
+  pub steps : Steps old new (λ p. hides (beyond first p) anchor && nat_lt p.row i) step limit rows columns
 
 -- what it is for an anchor to hide a place
 pub record Hides (anchor : Rectangle) (p : Position) : Type 0 where
@@ -60,17 +60,17 @@ hides-true anchor p t = grind (arith, common_steps, and_parts, holds-true, false
 hides-from : (anchor : Rectangle) (p : Position) → Hides anchor p → hides p anchor ≡ true
 hides-from anchor p h = and_from _ _ (holds-from anchor p h.holds) (not_from_false _ (same_place-apart anchor.0 p h.other))
 
-pub each_starts : (xs : List ℕ) (first : Position) (anchor : Rectangle) (i step rows columns : ℕ) → i + first.row ≤ max anchor.0.row first.row → EachTo xs xs first anchor i step rows columns
-each_starts xs first anchor i step rows columns low = grind (arith, common_steps, steps_nowhere, false_from_ne_true, and_parts, hides-true)
+pub each_starts : (xs : List ℕ) (first : Position) (anchor : Rectangle) (i step limit rows columns : ℕ) → i + first.row ≤ max anchor.0.row first.row → EachTo xs xs first anchor i step limit rows columns
+each_starts xs first anchor i step limit rows columns low = grind (arith, common_steps, steps_nowhere, false_from_ne_true, and_parts, hides-true)
 
 -- where the first of an anchor's columns is another's place
 abbrev pub Begins : Position → Rectangle → ℕ → ℕ → ℕ → Type 0
 Begins first anchor i left columns = (j : ℕ) → j < columns → (left ≤ j) ↔ ((anchor.0.col ≤ first.col + j) × (first.row + i ≡ anchor.0.row → first.col + j ≡ anchor.0.col → ⊥))
 
 -- one row more
-pub each_more : (old xs ys : List ℕ) (first : Position) (anchor : Rectangle) (i left right step rows columns : ℕ) → EachTo old xs first anchor i step rows columns → Steps xs ys (in_run i (left, right)) step rows columns → anchor.0.row ≤ first.row + i → first.row + i < anchor.0.row + anchor.1.height → Begins first anchor i left columns → ((j : ℕ) → j < columns → (j < right) ↔ (first.col + j < anchor.0.col + anchor.1.width)) → EachTo old ys first anchor (i + 1) step rows columns
-each_more old xs ys first anchor i left right step rows columns so run low high begins end = record {
-  steps = steps_joined old xs ys (λ p. hides (beyond first p) anchor && nat_lt p.row i) (in_run i (left, right)) (λ p. hides (beyond first p) anchor && nat_lt p.row (i + 1)) step rows columns
+pub each_more : (old xs ys : List ℕ) (first : Position) (anchor : Rectangle) (i left right step limit rows columns : ℕ) → EachTo old xs first anchor i step limit rows columns → Steps xs ys (in_run i (left, right)) step limit rows columns → anchor.0.row ≤ first.row + i → first.row + i < anchor.0.row + anchor.1.height → Begins first anchor i left columns → ((j : ℕ) → j < columns → (j < right) ↔ (first.col + j < anchor.0.col + anchor.1.width)) → EachTo old ys first anchor (i + 1) step limit rows columns
+each_more old xs ys first anchor i left right step limit rows columns so run low high begins end = record {
+  steps = steps_joined old xs ys (λ p. hides (beyond first p) anchor && nat_lt p.row i) (in_run i (left, right)) (λ p. hides (beyond first p) anchor && nat_lt p.row (i + 1)) step limit rows columns
       (λ r c h k. both_ways _ _ (to r c k) (λ t. from r c k (or_cases _ _ t)))
       (λ r c h k t s. let at = in_run-true i (left, right) (place r c) s in omega (arith, at.row, ltb-true r i (and_parts (hides (beyond first (place r c)) anchor) (nat_lt r i) t).1))
       so.steps run;
@@ -96,8 +96,8 @@ each_more old xs ys first anchor i left right step rows columns so run low high 
         })) (lt-ltb _ _ (omega (arith, at.row)))
 
 -- all rows of the block that the rectangle has
-pub each_done : (old xs : List ℕ) (first : Position) (anchor : Rectangle) (i step rows columns : ℕ) → EachTo old xs first anchor i step rows columns → ((r : ℕ) → r < rows → first.row + r < anchor.0.row + anchor.1.height → r < i) → Steps old xs (λ p. hides (beyond first p) anchor) step rows columns
-each_done old xs first anchor i step rows columns so past = steps_same old xs _ _ step rows columns (λ r c h k. both_ways _ _ (λ t. (and_parts _ _ t).0) (λ t. and_from _ _ t (lt-ltb _ _ (past r h (hides-true anchor (beyond first (place r c)) t).holds.bottom)))) so.steps
+pub each_done : (old xs : List ℕ) (first : Position) (anchor : Rectangle) (i step limit rows columns : ℕ) → EachTo old xs first anchor i step limit rows columns → ((r : ℕ) → r < rows → first.row + r < anchor.0.row + anchor.1.height → r < i) → Steps old xs (λ p. hides (beyond first p) anchor) step limit rows columns
+each_done old xs first anchor i step limit rows columns so past = steps_same old xs _ _ step limit rows columns (λ r c h k. both_ways _ _ (λ t. (and_parts _ _ t).0) (λ t. and_from _ _ t (lt-ltb _ _ (past r h (hides-true anchor (beyond first (place r c)) t).holds.bottom)))) so.steps
 
 pub begins_after : (first : Position) (anchor : Rectangle) (i left columns : ℕ) → first.col + columns < 2 ^ 64 → first.row + i ≡ anchor.0.row → left ≡ min (anchor.0.col + 1) 18446744073709551615 - first.col → Begins first anchor i left columns
 begins_after first anchor i left columns fits row is = grind (arith, common_steps, cases_eq)

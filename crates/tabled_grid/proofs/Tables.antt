@@ -1,5 +1,5 @@
 -- Numbers for the places of a shape, and how they are stepped.
-use Rattle.tabled_grid.proofs.Common.{[], ◌%◌, ◌*◌, ◌++◌, ◌+◌, ◌-◌, ◌<◌, ◌^◌, ◌||◌, ◌∙◌, ◌∷◌, ◌≡◌, ◌≤◌, ◌⊎◌, Bool, List, Position, Stepped, Steps, ap, ap₂, arith, cases_Bool, common_steps, cond, false, get_or, get_or_append_left, inl, inr, length, map, map-append, or_right, place, range_with_len, refl, replicate, replicate-append-replicate, same_place, set, set-append_left, set-append_right, subst, suc, sym, table, true, zero, ℕ}
+use Rattle.tabled_grid.proofs.Common.{[], ◌%◌, ◌*◌, ◌++◌, ◌+◌, ◌-◌, ◌<◌, ◌||◌, ◌∙◌, ◌∷◌, ◌≡◌, ◌≤◌, ◌⊎◌, Bool, List, Position, Stepped, Steps, ap, ap₂, arith, cases_Bool, common_steps, cond, false, get_or, get_or_append_left, inl, inr, length, map, map-append, or_right, place, range_with_len, refl, replicate, replicate-append-replicate, same_place, set, set-append_left, set-append_right, subst, suc, sym, table, true, zero, ℕ}
 use Rattle.tabled_grid.proofs.Places.{block-is, places}
 use Rattle.tabled_grid.proofs.SpanMaps.{same_place-apart, same_place-self}
 
@@ -108,18 +108,18 @@ table-zero rows columns count e = table-is (λ p. 0) rows columns ∙ zeros 0 ro
     zeros a (suc n) = ap₂ (λ xs ys. xs ++ ys) (zero_row a 0 columns) (zeros (a + 1) n) ∙ replicate-append-replicate columns (n * columns) 0 ∙ (let all : columns + n * columns ≡ suc n * columns = omega arith in ap (λ k. replicate k 0) all)
 
 -- a list that is stepped nowhere
-pub steps_nowhere : (xs : List ℕ) (test : Position → Bool) (step rows columns : ℕ) → ((i j : ℕ) → i < rows → j < columns → test (place i j) ≡ false) → Steps xs xs test step rows columns
-steps_nowhere xs test step rows columns none = record { is = λ f g stepped is. is ∙ table-agree f g rows columns (λ i j h k. sym (stepped.others i j h k (none i j h k))) }
+pub steps_nowhere : (xs : List ℕ) (test : Position → Bool) (step limit rows columns : ℕ) → ((i j : ℕ) → i < rows → j < columns → test (place i j) ≡ false) → Steps xs xs test step limit rows columns
+steps_nowhere xs test step limit rows columns none = record { is = λ f g stepped is. is ∙ table-agree f g rows columns (λ i j h k. sym (stepped.others i j h k (none i j h k))) }
 
 -- at the places that pass another test, which says the same inside the shape
-pub steps_same : (xs ys : List ℕ) (test other : Position → Bool) (step rows columns : ℕ) → ((i j : ℕ) → i < rows → j < columns → test (place i j) ≡ other (place i j)) → Steps xs ys test step rows columns → Steps xs ys other step rows columns
-steps_same xs ys test other step rows columns same steps = record { is = λ f g stepped is. steps.is f g (record { here = λ i j h k t. stepped.here i j h k (sym (same i j h k) ∙ t); others = λ i j h k t. stepped.others i j h k (sym (same i j h k) ∙ t) }) is }
+pub steps_same : (xs ys : List ℕ) (test other : Position → Bool) (step limit rows columns : ℕ) → ((i j : ℕ) → i < rows → j < columns → test (place i j) ≡ other (place i j)) → Steps xs ys test step limit rows columns → Steps xs ys other step limit rows columns
+steps_same xs ys test other step limit rows columns same steps = record { is = λ f g stepped is. steps.is f g (record { here = λ i j h k t. stepped.here i j h k (sym (same i j h k) ∙ t); others = λ i j h k t. stepped.others i j h k (sym (same i j h k) ∙ t) }) is }
 
 -- one set of places after another that has none of them
-module _ (first second all : Position → Bool) (step rows columns : ℕ)
+module _ (first second all : Position → Bool) (step limit rows columns : ℕ)
     (covers : (i j : ℕ) → i < rows → j < columns → all (place i j) ≡ (first (place i j) || second (place i j)))
     (apart : (i j : ℕ) → i < rows → j < columns → first (place i j) ≡ true → second (place i j) ≡ true → ⊥)
-    (f g : Position → ℕ) (stepped : Stepped all step rows columns f g) where
+    (f g : Position → ℕ) (stepped : Stepped all step limit rows columns f g) where
   between : Position → ℕ
   between p = cond (second p) (f p) (g p)
 
@@ -127,13 +127,13 @@ module _ (first second all : Position → Bool) (step rows columns : ℕ)
   unfolding between
   at i j b e = ap (λ (c : Bool). cond c (f (place i j)) (g (place i j))) e
 
-  step_first : Stepped first step rows columns f between
+  step_first : Stepped first step limit rows columns f between
   step_first = record {
     here = λ i j h k t. by_here i j h k t (cases_Bool (second (place i j)));
     others = λ i j h k t. by_others i j h k t (cases_Bool (second (place i j)));
   }
     where
-      by_here : (i j : ℕ) → i < rows → j < columns → first (place i j) ≡ true → (second (place i j) ≡ true) ⊎ (second (place i j) ≡ false) → between (place i j) ≡ (f (place i j) + step) % 2 ^ 64
+      by_here : (i j : ℕ) → i < rows → j < columns → first (place i j) ≡ true → (second (place i j) ≡ true) ⊎ (second (place i j) ≡ false) → between (place i j) ≡ (f (place i j) + step) % limit
       by_here i j h k t (inl s) = absurd (apart i j h k t s)
       by_here i j h k t (inr n) = at i j false n ∙ stepped.here i j h k (covers i j h k ∙ ap₂ (λ a b. a || b) t n)
 
@@ -141,26 +141,26 @@ module _ (first second all : Position → Bool) (step rows columns : ℕ)
       by_others i j h k t (inl s) = at i j true s
       by_others i j h k t (inr n) = at i j false n ∙ stepped.others i j h k (covers i j h k ∙ ap₂ (λ a b. a || b) t n)
 
-  step_second : Stepped second step rows columns between g
+  step_second : Stepped second step limit rows columns between g
   step_second = record {
-    here = λ i j h k t. stepped.here i j h k (covers i j h k ∙ or_right (first (place i j)) (second (place i j)) t) ∙ ap (λ n. (n + step) % 2 ^ 64) (sym (at i j true t));
+    here = λ i j h k t. stepped.here i j h k (covers i j h k ∙ or_right (first (place i j)) (second (place i j)) t) ∙ ap (λ n. (n + step) % limit) (sym (at i j true t));
     others = λ i j h k t. sym (at i j false t);
   }
 
-pub steps_joined : (xs ys zs : List ℕ) (first second all : Position → Bool) (step rows columns : ℕ) →
+pub steps_joined : (xs ys zs : List ℕ) (first second all : Position → Bool) (step limit rows columns : ℕ) →
     ((i j : ℕ) → i < rows → j < columns → all (place i j) ≡ (first (place i j) || second (place i j))) →
     ((i j : ℕ) → i < rows → j < columns → first (place i j) ≡ true → second (place i j) ≡ true → ⊥) →
-    Steps xs ys first step rows columns → Steps ys zs second step rows columns → Steps xs zs all step rows columns
-steps_joined xs ys zs first second all step rows columns covers apart one two = record {
+    Steps xs ys first step limit rows columns → Steps ys zs second step limit rows columns → Steps xs zs all step limit rows columns
+steps_joined xs ys zs first second all step limit rows columns covers apart one two = record {
   is = λ f g stepped is.
-      two.is (between first second all step rows columns covers apart f g stepped) g (step_second first second all step rows columns covers apart f g stepped)
-      (one.is f (between first second all step rows columns covers apart f g stepped) (step_first first second all step rows columns covers apart f g stepped) is);
+      two.is (between first second all step limit rows columns covers apart f g stepped) g (step_second first second all step limit rows columns covers apart f g stepped)
+      (one.is f (between first second all step limit rows columns covers apart f g stepped) (step_first first second all step limit rows columns covers apart f g stepped) is);
 }
 
 -- one place
-pub steps_one : (xs : List ℕ) (i j k d x step rows columns : ℕ) → i < rows → j < columns → k ≡ i * columns + j → x ≡ (get_or xs k d + step) % 2 ^ 64 → Steps xs (set xs k x) (same_place (place i j)) step rows columns
-steps_one xs i j k d x step rows columns h l e value = record {
+pub steps_one : (xs : List ℕ) (i j k d x step limit rows columns : ℕ) → i < rows → j < columns → k ≡ i * columns + j → x ≡ (get_or xs k d + step) % limit → Steps xs (set xs k x) (same_place (place i j)) step limit rows columns
+steps_one xs i j k d x step limit rows columns h l e value = record {
   is = λ f g stepped is.
-      let here : g (place i j) ≡ x = stepped.here i j h l (same_place-self (place i j)) ∙ ap (λ n. (n + step) % 2 ^ 64) (sym (ap (λ ys. get_or ys k d) is ∙ get-table f rows columns i j k d h l e)) ∙ sym value in
+      let here : g (place i j) ≡ x = stepped.here i j h l (same_place-self (place i j)) ∙ ap (λ n. (n + step) % limit) (sym (ap (λ ys. get_or ys k d) is ∙ get-table f rows columns i j k d h l e)) ∙ sym value in
       ap (λ ys. set ys k x) is ∙ set-table f g rows columns i j k x h l e here (λ r c u v apart. sym (stepped.others r c u v (same_place-apart (place i j) (place r c) (λ same. apart (ap (λ (p : Position). p.row) (sym same), ap (λ (p : Position). p.col) (sym same))))));
 }

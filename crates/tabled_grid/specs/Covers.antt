@@ -42,21 +42,21 @@ cover_in m first rows columns = record { first = first; rows = rows; columns = c
 abbrev pub cover_of : SpanMap → ℕ → ℕ → Cover
 cover_of m = cover_in m (place 0 0)
 
--- the cells of a table up to the last one of a block have a number each
-pub record IsNumbered (first : Position) (rows columns : ℕ) : Type 0 where
+-- the cells of a table up to the last one of a block have a number each below a limit
+pub record IsNumbered (limit : ℕ) (first : Position) (rows columns : ℕ) : Type 0 where
   pub bottom : first.row + rows < 2 ^ 64
   pub right : first.col + columns < 2 ^ 64
-  pub cells : (first.row + rows) * (first.col + columns) < 2 ^ 64
+  pub cells : (first.row + rows) * (first.col + columns) < limit
 
 -- the place is in a row, between two columns
 abbrev pub in_run : ℕ → ℕ × ℕ → Position → Bool
 in_run i run p = (p.row == i) && (nat_le run.0 p.col && nat_lt p.col run.1)
 
--- numbers for the places of a shape differ by a step, round the end of a word, at those that pass a test, and are the same at the others
-pub record Stepped (test : Position → Bool) (step rows columns : ℕ) (f g : Position → ℕ) : Type 0 where
-  pub here : (i j : ℕ) → i < rows → j < columns → test (place i j) ≡ true → g (place i j) ≡ (f (place i j) + step) % 2 ^ 64
+-- numbers for the places of a shape differ by a step, round a limit, at those that pass a test, and are the same at the others
+pub record Stepped (test : Position → Bool) (step limit rows columns : ℕ) (f g : Position → ℕ) : Type 0 where
+  pub here : (i j : ℕ) → i < rows → j < columns → test (place i j) ≡ true → g (place i j) ≡ (f (place i j) + step) % limit
   pub others : (i j : ℕ) → i < rows → j < columns → test (place i j) ≡ false → g (place i j) ≡ f (place i j)
 
 -- a list is stepped at the places of a shape that pass a test
-pub record Steps (old new : List ℕ) (test : Position → Bool) (step rows columns : ℕ) : Type 0 where
-  pub is : (f g : Position → ℕ) → Stepped test step rows columns f g → old ≡ table f rows columns → new ≡ table g rows columns
+pub record Steps (old new : List ℕ) (test : Position → Bool) (step limit rows columns : ℕ) : Type 0 where
+  pub is : (f g : Position → ℕ) → Stepped test step limit rows columns f g → old ≡ table f rows columns → new ≡ table g rows columns

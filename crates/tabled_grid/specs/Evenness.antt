@@ -35,10 +35,6 @@ module _ {A : Type 0} where
   wide-chunks zero c xs h = tt
   wide-chunks (suc r) c xs h = (length-take-le c xs (omega (arith, h)), wide-chunks r c (drop c xs) (omega (arith, h, length-drop c xs)))
 
-  -- a list of all cells is an even grid
-  pub is_even : (r c : ℕ) (xs : List A) → IsFull r c xs → IsEven (flat_grid r c xs)
-  is_even r c xs h = record { tall = length-chunks r c xs; wide = wide-chunks r c xs h.full }
-
   -- rows of n cells each, as an equation
   pub wide-equation : (r c : ℕ) (rows : List (List A)) → length rows ≡ r → AreWide c rows → map length rows ≡ replicate r c
   wide-equation zero c [] h w = refl

@@ -5,6 +5,7 @@ pub mod Apart
 pub mod Axis
 pub mod Bounds
 pub mod Bulk
+pub mod CellCounts
 pub mod Covers
 pub mod Entity
 pub mod Evenness

@@ -3,21 +3,21 @@ use Rattle.std.specs.Prelude.{ℕ, zero, suc, [], ◌∷◌, codes, drop}
 use Rattle.tabled_select.specs.Algebra.{others}
 use Rattle.tabled_select.specs.Steps.{every}
 use Rattle.tabled_steps.specs.Selected.{Named, named_by, named_columns, shared, united, with_content, without}
-use Rattle.tabled_steps.specs.declared.selector.Selector.{Selector}
-use Rattle.tabled_steps.specs.declared.selector.Selector.TheVariants as select
+use Rattle.tabled_steps.specs.declared.select.Select.{Select}
+use Rattle.tabled_steps.specs.declared.select.Select.TheVariants as select
 use Rattle.tabled_language.specs.declared.fault.Fault.TheVariants.{SelectorDepth}
 use Rattle.tabled_language.specs.Words.{Choices, Reading, behind, fails, gives, kept, reads_number, reads_text, reads_two, reads_word, then_reads}
 
 -- a selector with one number
-abbrev pub with_number : (ℕ → Selector) → Reading Named
+abbrev pub with_number : (ℕ → Select) → Reading Named
 with_number make = then_reads reads_number (λ n. gives (named_by (make n)))
 
 -- a selector with two numbers
-abbrev pub with_two_numbers : (ℕ → ℕ → Selector) → Reading Named
+abbrev pub with_two_numbers : (ℕ → ℕ → Select) → Reading Named
 with_two_numbers make = then_reads (reads_two reads_number) (λ two. gives (named_by (make two.0 two.1)))
 
 -- a selector with four numbers
-abbrev pub with_four_numbers : (ℕ → ℕ → ℕ → ℕ → Selector) → Reading Named
+abbrev pub with_four_numbers : (ℕ → ℕ → ℕ → ℕ → Select) → Reading Named
 with_four_numbers make = then_reads (reads_two reads_number) (λ rows. then_reads (reads_two reads_number) (λ columns. gives (named_by (make rows.0 rows.1 columns.0 columns.1))))
 
 -- the words of ranges and of the frame

@@ -3,7 +3,7 @@
 use crate::fault::{Fault, ReadError};
 use crate::words::{Read, Words};
 use std::alloc::Global;
-use tabled_steps::Selector;
+use tabled_steps::Select;
 
 /// How many selectors stand in each other at most.
 const LARGEST_DEPTH: usize = 64;
@@ -15,7 +15,7 @@ impl<'a> Words<'a> {
     ghost use Rattle.tabled_steps.specs.Selected.{named_by};
 
     /// A selector that may hold others.
-    pub(crate) fn cells(&mut self, alloc: Global) -> Read<Selector>
+    pub(crate) fn cells(&mut self, alloc: Global) -> Read<Select>
         ensures { Reads named_by reads_cells self.old result self.new }
     {
         self.selector(alloc, LARGEST_DEPTH)
@@ -23,7 +23,7 @@ impl<'a> Words<'a> {
 
     /// A selector that holds others to a depth.
     #[cycle(nested)]
-    fn selector(&mut self, alloc: Global, depth: usize) -> Read<Selector>
+    fn selector(&mut self, alloc: Global, depth: usize) -> Read<Select>
         ensures { Reads named_by (reads_selector depth) self.old result self.new }
     {
         let word = self.word()?;
@@ -35,7 +35,7 @@ impl<'a> Words<'a> {
 
     /// A selector that another one holds, in a place of its own.
     #[cycle(nested)]
-    fn inner(&mut self, alloc: Global, depth: usize) -> Read<Box<Selector>>
+    fn inner(&mut self, alloc: Global, depth: usize) -> Read<Box<Select>>
         ensures { Reads (λ place. named_by place.value) (kept (reads_selector depth)) self.old result self.new }
     {
         let select = self.selector(alloc, depth)?;
@@ -44,7 +44,7 @@ impl<'a> Words<'a> {
 
     /// Two of them.
     #[cycle(nested)]
-    fn two_inner(&mut self, alloc: Global, depth: usize) -> Read<(Box<Selector>, Box<Selector>)>
+    fn two_inner(&mut self, alloc: Global, depth: usize) -> Read<(Box<Select>, Box<Select>)>
         ensures { Reads (λ two. (named_by two.0.value, named_by two.1.value)) (reads_two (kept (reads_selector depth))) self.old result self.new }
     {
         let first = self.inner(alloc, depth)?;
@@ -54,84 +54,84 @@ impl<'a> Words<'a> {
 
     /// What is after the word of a selector, where others are held to a depth.
     #[cycle(nested)]
-    fn selector_behind(&mut self, alloc: Global, depth: usize, word: &str) -> Read<Selector>
+    fn selector_behind(&mut self, alloc: Global, depth: usize, word: &str) -> Read<Select>
         ensures { Reads named_by (behind (selectors (kept (reads_selector depth))) word.now) self.old result self.new }
     {
         // What most scripts say comes first.
         match word {
-            "all" => Ok(Selector::All),
+            "all" => Ok(Select::All),
             "cell" => {
                 let (row, column) = self.two_numbers()?;
-                Ok(Selector::Cell(row, column))
+                Ok(Select::Cell(row, column))
             }
-            "row" => Ok(Selector::Row(self.number()?)),
-            "column" => Ok(Selector::Column(self.number()?)),
-            "content" => Ok(Selector::Content(self.text(alloc)?)),
-            "name" => Ok(Selector::Name(self.text(alloc)?)),
+            "row" => Ok(Select::Row(self.number()?)),
+            "column" => Ok(Select::Column(self.number()?)),
+            "content" => Ok(Select::Content(self.text(alloc)?)),
+            "name" => Ok(Select::Name(self.text(alloc)?)),
             _ => self.holding_selector(alloc, depth, word),
         }
     }
 
     /// What is after the word of a further selector, where others are held to a depth.
     #[cycle(nested)]
-    fn holding_selector(&mut self, alloc: Global, depth: usize, word: &str) -> Read<Selector>
+    fn holding_selector(&mut self, alloc: Global, depth: usize, word: &str) -> Read<Select>
         ensures { Reads named_by (behind (holding_selectors (kept (reads_selector depth))) word.now) self.old result self.new }
     {
         match word {
             "and" => {
                 let (x, y) = self.two_inner(alloc, depth)?;
-                Ok(Selector::And(x, y))
+                Ok(Select::And(x, y))
             }
             "not" => {
                 let (x, y) = self.two_inner(alloc, depth)?;
-                Ok(Selector::Not(x, y))
+                Ok(Select::Not(x, y))
             }
             "intersect" => {
                 let (x, y) = self.two_inner(alloc, depth)?;
-                Ok(Selector::Intersect(x, y))
+                Ok(Select::Intersect(x, y))
             }
-            "inverse" => Ok(Selector::Inverse(self.inner(alloc, depth)?)),
-            "skip" => Ok(Selector::Skip(self.number()?, self.inner(alloc, depth)?)),
-            "step" => Ok(Selector::StepBy(self.number()?, self.inner(alloc, depth)?)),
+            "inverse" => Ok(Select::Inverse(self.inner(alloc, depth)?)),
+            "skip" => Ok(Select::Skip(self.number()?, self.inner(alloc, depth)?)),
+            "step" => Ok(Select::StepBy(self.number()?, self.inner(alloc, depth)?)),
             _ => self.plain_selector(word),
         }
     }
 
     /// What is after the word of a further selector that holds no other and no text.
-    fn plain_selector(&mut self, word: &str) -> Read<Selector>
+    fn plain_selector(&mut self, word: &str) -> Read<Select>
         ensures { Reads named_by (behind plain_selectors word.now) self.old result self.new }
     {
         match word {
-            "first-row" => Ok(Selector::FirstRow),
-            "last-row" => Ok(Selector::LastRow),
-            "first-column" => Ok(Selector::FirstColumn),
-            "last-column" => Ok(Selector::LastColumn),
-            "last-row-minus" => Ok(Selector::LastRowMinus(self.number()?)),
-            "last-row-plus" => Ok(Selector::LastRowPlus(self.number()?)),
-            "last-column-minus" => Ok(Selector::LastColumnMinus(self.number()?)),
-            "last-column-plus" => Ok(Selector::LastColumnPlus(self.number()?)),
+            "first-row" => Ok(Select::FirstRow),
+            "last-row" => Ok(Select::LastRow),
+            "first-column" => Ok(Select::FirstColumn),
+            "last-column" => Ok(Select::LastColumn),
+            "last-row-minus" => Ok(Select::LastRowMinus(self.number()?)),
+            "last-row-plus" => Ok(Select::LastRowPlus(self.number()?)),
+            "last-column-minus" => Ok(Select::LastColumnMinus(self.number()?)),
+            "last-column-plus" => Ok(Select::LastColumnPlus(self.number()?)),
             _ => self.range_selector(word),
         }
     }
 
     /// What is after the word of a range or of the frame.
-    fn range_selector(&mut self, word: &str) -> Read<Selector>
+    fn range_selector(&mut self, word: &str) -> Read<Select>
         ensures { Reads named_by (behind range_selectors word.now) self.old result self.new }
     {
         match word {
-            "frame" => Ok(Selector::Frame),
+            "frame" => Ok(Select::Frame),
             "rows" => {
                 let (start, end) = self.two_numbers()?;
-                Ok(Selector::Rows(start, end))
+                Ok(Select::Rows(start, end))
             }
             "columns" => {
                 let (start, end) = self.two_numbers()?;
-                Ok(Selector::Columns(start, end))
+                Ok(Select::Columns(start, end))
             }
             "segment" => {
                 let (first_row, end_row) = self.two_numbers()?;
                 let (first_column, end_column) = self.two_numbers()?;
-                Ok(Selector::Segment(first_row, end_row, first_column, end_column))
+                Ok(Select::Segment(first_row, end_row, first_column, end_column))
             }
             _ => Err(ReadError::Faulty(Fault::UnknownWord)),
         }

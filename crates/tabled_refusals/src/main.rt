@@ -7,7 +7,6 @@
 
 mod call;
 mod case;
-mod left;
 
 use case::{Case, Outcome};
 use std::process::ExitCode;

@@ -1,4 +1,5 @@
 pub mod Again
 pub mod Answer
+pub mod Asked
 pub mod InMemory
 pub mod Sent

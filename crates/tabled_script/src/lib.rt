@@ -1,18 +1,31 @@
 //! The script program: tables made and changed by the lines of a script.
 #![tactic(auto)]
 
+mod arguments;
+mod checked;
+mod file;
 mod form;
 mod held;
 pub mod laws;
 mod output;
 mod picture;
 mod program;
+mod refusal;
+mod request;
 mod respond;
+mod source;
 #[cfg(test)]
 mod streams;
+mod telling;
 #[cfg(test)]
 mod tests;
+mod values;
 mod watched;
 
-pub use program::{draw_script, run_script};
-pub use tabled_steps::{Selector, Step, run};
+pub use arguments::Arguments;
+pub use form::Form;
+pub use program::{answer, draw_script, run_script};
+pub use refusal::Refusal;
+pub use request::{CsvFile, Request};
+pub use source::{Unread, read_whole};
+pub use tabled_steps::{Select, Step, run};

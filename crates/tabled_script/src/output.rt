@@ -3,7 +3,7 @@
 ghost use Rattle.std.specs.FinMap.{entries};
 ghost use Rattle.std.specs.Io.KnownBytes.{Appends};
 ghost use Rattle.std.specs.List.{AllByRecursion, flat_map};
-ghost use Rattle.std.specs.Prelude.{◌≡◌, ◌<◌, ◌≤◌, ◌+◌, [], ◌∷◌, ◌++◌, codes, length, map, OnOk};
+ghost use Rattle.std.specs.Prelude.{◌≡◌, ◌<◌, ◌≤◌, ◌+◌, [], ◌∷◌, ◌++◌, codes, length, map, IfOk, OnErr, OnOk};
 ghost use Rattle.std.specs.Str.{IsUtf8};
 ghost use Rattle.tabled_grid.specs.Grid.{IsEven, grid_of, map_items, width_of};
 ghost use Rattle.tabled_language.specs.Lent.{bytes_of};
@@ -13,7 +13,6 @@ ghost use Rattle.tabled_script.specs.Answer.{IsTableIfFitting};
 ghost use Rattle.tabled_script.specs.InMemory.{state_in, texts_in};
 ghost use Rattle.tabled_script.specs.Sent.{Sends};
 
-use crate::form::Form;
 use crate::held::{
     Held, PART, PIECE, hold_byte, hold_bytes, hold_escaped, hold_numbers, hold_word, send,
 };
@@ -23,26 +22,21 @@ use tabled_grid::config::SpannedConfig;
 use tabled_grid::records::{CellText, ExactRecords, Records};
 use tabled_language::LentText;
 
-/// The lines of a table: its shape, its rows, and then its merged cells.
-pub(crate) struct Lines;
-
-impl Form for Lines {
-    ghost use Rattle.tabled_language.specs.Output.{print};
-    ghost use Rattle.tabled_script.specs.Answer.{IsTableIfFitting};
-
-    ghost bytes = { print };
-
-    ghost known = { IsTableIfFitting };
-
-    fn write<W: Write>(
-        alloc: Global,
-        records: Vec<Vec<LentText>>,
-        spans: &SpannedConfig,
-        writer: &mut W,
-    ) -> Result<io::Result<()>, AllocError> {
-        let mut held = Held::new(alloc)?;
-        Ok(write_lines(writer, &mut held, records, spans))
-    }
+/// Writes the lines of a table: its shape, its rows, and then its merged cells. It flushes the writer. All memory is
+/// asked for before the first byte: refused, nothing is written.
+pub(crate) fn write_script<W: Write>(
+    alloc: Global,
+    records: Vec<Vec<LentText>>,
+    spans: &SpannedConfig,
+    writer: &mut W,
+) -> Result<io::Result<()>, AllocError>
+    requires { IsEven (grid_of (map_items records.items)) }
+    ensures written { IfOk result (λ written. OnOk written (Appends (W.contents writer.old) (W.contents writer.new) (print (state_in records.entry.items spans.now)))) }
+    ensures known { IfOk result (λ written. OnOk written (IsTableIfFitting (state_in records.entry.items spans.now))) }
+    ensures refused { OnErr result (W.contents writer.new ≡ W.contents writer.old) }
+{
+    let mut held = Held::new(alloc)?;
+    Ok(write_lines(writer, &mut held, records, spans))
 }
 
 /// Writes the lines of a table in parts, and flushes the writer.
@@ -103,7 +97,7 @@ fn write_row<W: Write>(writer: &mut W, held: &mut Held, texts: &[LentText]) -> i
 }
 
 /// Writes, or holds, a tab, and the word that stands for a text.
-fn write_word<W: Write>(writer: &mut W, held: &mut Held, text: &str) -> io::Result<()>
+pub(crate) fn write_word<W: Write>(writer: &mut W, held: &mut Held, text: &str) -> io::Result<()>
     requires { length held.old < PART + PIECE }
     ensures sends { OnOk result (Sends (W.contents writer.old) held.old (W.contents writer.new) held.new (9 ∷ escaped text.now)) }
     ensures less { OnOk result (length held.new < PART) }

@@ -1,17 +1,22 @@
 //! The programs: a script read, and the table that it makes written as a script, or drawn.
 
-ghost use Rattle.std.specs.Prelude.{◌≡◌, ◌⊎◌, ℕ, Ok, Err, IfSome};
+ghost use Rattle.std.specs.Prelude.{◌≡◌, ◌-◌, ◌⊎◌, ℕ, Ok, Err, IfSome, List, length};
 ghost use Rattle.std.specs.Io.KnownBytes.{Appends};
+ghost use Rattle.tabled_grid.specs.Spans.{AreSpanSizes};
 ghost use Rattle.tabled_script.specs.Again.{FitsAtEnd, GivesAgain};
-ghost use Rattle.tabled_script.specs.Answer.{fault_line, memory_line, output_of, picture_of};
+ghost use Rattle.tabled_script.specs.Answer.{ended, fault_line, known_as, memory_line, output_of, picture_of, shown_as};
+ghost use Rattle.tabled_script.specs.Asked.{FileFaults, StandBefore, whole_script};
 ghost use Rattle.tabled_language.specs.Script.{Script as Meaning, parse};
 ghost use Rattle.tabled_language.specs.declared.fault.Fault.{Fault};
 
-use crate::output::Lines;
-use crate::picture::Picture;
-use crate::respond::respond;
-use std::alloc::Global;
-use std::io::{Read, Write};
+use crate::file::{lines_of, refuse_file, tell_file_fault};
+use crate::form::Form;
+use crate::request::Request;
+use crate::respond::{finish, respond};
+use std::alloc::{AllocError, Global};
+use std::io::{self, Read, Write};
+use tabled_csv::ReadError;
+use tabled_draw::Style;
 
 /// Runs the script that a reader has, and answers a status.
 ///
@@ -33,7 +38,15 @@ pub fn run_script<R: Read, W: Write>(alloc: Global, reader: &mut R, writer: &mut
         (fault : ℕ × Fault) × (parse input ≡ Err fault) × Appends (W.contents writer.old) (W.contents writer.new) (fault_line fault)) }
     ensures memory { result ≡ 3 → Appends (W.contents writer.old) (W.contents writer.new) memory_line }
 {
-    respond::<Lines, R, W>(alloc, reader, writer)
+    respond(
+        alloc,
+        &Request::new(alloc, Form::Script),
+        Vec::new(alloc),
+        0,
+        reader,
+        writer,
+        &mut io::sink(),
+    )
 }
 
 /// Draws the table that a script makes: reads as `run_script` does, writes the table's picture in the
@@ -45,9 +58,66 @@ pub fn draw_script<R: Read, W: Write>(alloc: Global, reader: &mut R, writer: &mu
     ensures known { (result ≡ 0) ⊎ ((result ≡ 2) ⊎ ((result ≡ 3) ⊎ (result ≡ 4))) }
     ensures done { result ≡ 0 → IfSome (R.remaining reader.old) (λ input.
         (script : Meaning) × (parse input ≡ Ok script) × Appends (W.contents writer.old) (W.contents writer.new) (picture_of script)) }
+    ensures sizes { result ≡ 0 → IfSome (R.remaining reader.old) (λ input.
+        (script : Meaning) → parse input ≡ Ok script → AreSpanSizes (ended script).spans) }
     ensures faulty { result ≡ 2 → IfSome (R.remaining reader.old) (λ input.
         (fault : ℕ × Fault) × (parse input ≡ Err fault) × Appends (W.contents writer.old) (W.contents writer.new) (fault_line fault)) }
     ensures memory { result ≡ 3 → Appends (W.contents writer.old) (W.contents writer.new) memory_line }
 {
-    respond::<Picture, R, W>(alloc, reader, writer)
+    respond(
+        alloc,
+        &Request::new(alloc, Form::Picture(Style::ascii(), Vec::new(alloc))),
+        Vec::new(alloc),
+        0,
+        reader,
+        writer,
+        &mut io::sink(),
+    )
+}
+
+/// Answers a request: takes the rows of its file as records before those of the script that a reader has, does the
+/// script's steps and then those of the request, writes the table in the form that is asked for, and answers a status
+/// as `run_script` does. What is read means what a script means that begins with a `row` line for each row.
+///
+/// - 0: the table was written.
+/// - 2: `line N: fault K` was written, for the first faulty line: the script's own lines are counted, and behind them
+///   those of the request's steps. Or `csv line N: fault K`, for the file: 1 where a quote is not closed, 2 for
+///   something behind a closing one, 3 for what isn't UTF-8.
+/// - 3, 4: as those of `run_script`.
+///
+/// What is told beside the answer goes to `errors`, in a line each; where that can't be written, or memory runs out, the
+/// answer is the same. Where faults are told, that is `line N: fault K:`, or `step N: fault K:` for a step of the
+/// request, with the words of the line, or the file's name, line and fault. Where steps are checked, `names nothing in
+/// the table:` with the words of each step with a selector that names no cell of the table before it, or whose range
+/// lies outside.
+///
+/// Of this project.
+pub fn answer<R: Read, W: Write, E: Write>(
+    alloc: Global,
+    request: &Request,
+    reader: &mut R,
+    writer: &mut W,
+    errors: &mut E,
+) -> u8
+    ensures known { (result ≡ 0) ⊎ ((result ≡ 2) ⊎ ((result ≡ 3) ⊎ (result ≡ 4))) }
+    ensures done { result ≡ 0 → IfSome (R.remaining reader.old) (λ input.
+        (rows : List (List (List ℕ))) × StandBefore request.now.file rows
+        × (script : Meaning) × (parse (whole_script rows input request.now.steps.items) ≡ Ok script)
+        × Appends (W.contents writer.old) (W.contents writer.new) (shown_as request.now.form script) × known_as request.now.form (ended script)) }
+    ensures faulty { result ≡ 2 → FileFaults request.now.file (W.contents writer.old) (W.contents writer.new) ⊎ IfSome (R.remaining reader.old) (λ input.
+        (rows : List (List (List ℕ))) × StandBefore request.now.file rows
+        × (fault : ℕ × Fault) × (parse (whole_script rows input request.now.steps.items) ≡ Err fault)
+        × Appends (W.contents writer.old) (W.contents writer.new) (fault_line (fault.0 - length rows, fault.1))) }
+    ensures memory { result ≡ 3 → Appends (W.contents writer.old) (W.contents writer.new) memory_line }
+{
+    match lines_of(alloc, &request.file) {
+        Ok((lines, many)) => respond(alloc, request, lines, many, reader, writer, errors),
+        Err(ReadError::OutOfMemory) => finish(writer, Err(AllocError)),
+        Err(ReadError::Faulty { line, fault }) => {
+            if request.tells_faults {
+                tell_file_fault(alloc, &request.file, line, fault, errors);
+            }
+            refuse_file(alloc, line, fault, writer)
+        }
+    }
 }

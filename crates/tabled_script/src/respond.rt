@@ -1,84 +1,106 @@
 //! A script read, and what answers it written: its table in a form, its first fault, or that memory ran out.
 
 ghost use Rattle.std.specs.Io.KnownBytes.{Appends};
-ghost use Rattle.std.specs.Prelude.{◌≡◌, ◌⊎◌, ℕ, Ok, Err, IfOk, IfSome, OnErr, OnOk};
+ghost use Rattle.std.specs.Prelude.{◌≡◌, ◌++◌, ◌⊎◌, ℕ, Ok, Err, IfOk, IfSome, OnErr, OnOk};
 ghost use Rattle.std.specs.String.{string_bytes};
+ghost use Rattle.tabled_grid.specs.Grid.{IsEven, grid_of, map_items};
 ghost use Rattle.tabled_language.specs.Script.{parse};
 ghost use Rattle.tabled_language.specs.declared.fault.Fault.{Fault};
-ghost use Rattle.tabled_script.specs.Answer.{Answers, Faults, Finishes, ShowsState, ShowsTable, ended, fault_line, memory_line};
-ghost use Rattle.tabled_script.specs.InMemory.{said_by};
+ghost use Rattle.tabled_script.specs.Answer.{Answers, Faults, Finishes, ShowsState, ShowsTable, ended, fault_line, known_as, memory_line, written_as};
+ghost use Rattle.tabled_script.specs.InMemory.{said_by, state_in};
+ghost use Rattle.tabled_steps.specs.States.{after_all};
 
-use crate::form::Form;
-use crate::watched::Watched;
+use crate::checked::run_checked;
+use crate::request::Request;
+use crate::source::{Source, Unread, read_whole};
+use crate::telling::tell_fault;
 use std::alloc::{AllocError, Global};
 use std::io::{self, Read, Write};
-use tabled_language::{Fault, Script, padded, parse};
-use tabled_steps::run;
+use tabled_grid::config::SpannedConfig;
+use tabled_language::{Fault, LentText, Script, padded, parse};
+use tabled_steps::{Step, run};
 
 /// The table was written.
 const DONE: u8 = 0;
 
 /// A line is faulty, and its number and fault were written.
-const FAULTY: u8 = 2;
+pub(crate) const FAULTY: u8 = 2;
 
 /// Memory ran out, and that was written.
 const OUT_OF_MEMORY: u8 = 3;
 
 /// Reading or writing failed.
-const FAILED: u8 = 4;
+pub(crate) const FAILED: u8 = 4;
 
 /// The line that is written where memory ran out.
 const MEMORY_LINE: &[u8] = b"out of memory\n";
 
-/// Runs the script that a reader has, writes the table that it ends with in a form, and answers a status.
-pub(crate) fn respond<F: Form, R: Read, W: Write>(
+/// Runs the script that a reader has, behind some lines and before those of a request, writes the table that it ends
+/// with in the form that is asked for, and answers a status. Lines are counted without those before.
+pub(crate) fn respond<R: Read, W: Write, E: Write>(
     alloc: Global,
+    request: &Request,
+    before: Vec<u8>,
+    skipped: usize,
     reader: &mut R,
     writer: &mut W,
+    errors: &mut E,
 ) -> u8
     ensures known { (result ≡ 0) ⊎ ((result ≡ 2) ⊎ ((result ≡ 3) ⊎ (result ≡ 4))) }
-    ensures done { result ≡ 0 → IfSome (R.remaining reader.old) (λ input. ShowsTable F.bytes F.known input (W.contents writer.old) (W.contents writer.new)) }
-    ensures faulty { result ≡ 2 → IfSome (R.remaining reader.old) (λ input. Faults input (W.contents writer.old) (W.contents writer.new)) }
+    ensures done { result ≡ 0 → IfSome (R.remaining reader.old) (λ input. ShowsTable (written_as request.now.form) (known_as request.now.form) (before.items ++ (input ++ request.now.steps.items)) (W.contents writer.old) (W.contents writer.new)) }
+    ensures faulty { result ≡ 2 → IfSome (R.remaining reader.old) (λ input. Faults skipped (before.items ++ (input ++ request.now.steps.items)) (W.contents writer.old) (W.contents writer.new)) }
     ensures memory { result ≡ 3 → Appends (W.contents writer.old) (W.contents writer.new) memory_line }
 {
-    let mut input = Vec::new(alloc);
-    let mut watched = Watched {
-        reader,
-        has_failed: false,
-    };
-    if let Err(_) = watched.read_to_end(&mut input) {
-        if watched.has_failed {
-            return FAILED;
+    match read_whole(before, reader, &request.steps) {
+        Ok(whole) => {
+            let source = Source {
+                bytes: &whole,
+                before: skipped,
+                behind: request.steps.len(),
+            };
+            let answered = reply(alloc, request, source, writer, errors);
+            finish(writer, answered)
         }
-        return finish(writer, Err(AllocError));
+        Err(Unread::Failed) => FAILED,
+        Err(Unread::OutOfMemory) => finish(writer, Err(AllocError)),
     }
-    let answered = answer::<F, W>(alloc, &input, writer);
-    finish(writer, answered)
 }
 
 /// Writes what answers a script, and answers whether it was written, and the status that it has then. Refused,
 /// it has written nothing.
-fn answer<F: Form, W: Write>(
+fn reply<W: Write, E: Write>(
     alloc: Global,
-    input: &[u8],
+    request: &Request,
+    source: Source,
     writer: &mut W,
+    errors: &mut E,
 ) -> Result<(io::Result<()>, u8), AllocError>
-    ensures answered { IfOk result (λ answered. OnOk answered.0 (Answers F.bytes F.known input.now (W.contents writer.old) (W.contents writer.new) answered.1)) }
+    ensures answered { IfOk result (λ answered. OnOk answered.0 (Answers (written_as request.now.form) (known_as request.now.form) source.entry.before source.entry.bytes.now (W.contents writer.old) (W.contents writer.new) answered.1)) }
     ensures refused { OnErr result (W.contents writer.new ≡ W.contents writer.old) }
 {
-    match parse(alloc, input)? {
-        Ok(script) => Ok((show::<F, W>(alloc, script, writer)?, DONE)),
-        Err(fault) => Ok((say(alloc, fault, writer)?, FAULTY)),
+    match parse(alloc, source.bytes)? {
+        Ok(script) => Ok((show(alloc, request, source, script, writer, errors)?, DONE)),
+        Err(fault) => {
+            let counted = (fault.0.saturating_sub(source.before), fault.1);
+            let said = say(alloc, counted, writer)?;
+            if request.tells_faults {
+                tell_fault(alloc, source, fault, errors);
+            }
+            Ok((said, FAULTY))
+        }
     }
 }
 
 /// Writes the table of a script's records and merged cells after its steps.
-fn show<F: Form, W: Write>(
+fn show<W: Write, E: Write>(
     alloc: Global,
+    request: &Request,
+    source: Source,
     script: Script,
     writer: &mut W,
+    errors: &mut E,
 ) -> Result<io::Result<()>, AllocError>
-    ensures shown { IfOk result (λ written. OnOk written (ShowsState F.bytes F.known (ended (said_by script.entry)) (W.contents writer.old) (W.contents writer.new))) }
+    ensures shown { IfOk result (λ written. OnOk written (ShowsState (written_as request.now.form) (known_as request.now.form) (ended (said_by script.entry)) (W.contents writer.old) (W.contents writer.new))) }
     ensures refused { OnErr result (W.contents writer.new ≡ W.contents writer.old) }
 {
     let Script {
@@ -87,8 +109,37 @@ fn show<F: Form, W: Write>(
         steps,
     } = script;
     let mut records = padded(records)?;
-    match run(alloc, &mut records, &mut spans, steps) {
-        Ok(()) => F::write(alloc, records, &spans, writer),
+    run_steps(
+        alloc,
+        request,
+        source,
+        &mut records,
+        &mut spans,
+        steps,
+        errors,
+    )?;
+    request.form.write(alloc, records, &spans, writer)
+}
+
+/// Does steps, one after another, and tells what is asked for.
+fn run_steps<E: Write>(
+    alloc: Global,
+    request: &Request,
+    source: Source,
+    records: &mut Vec<Vec<LentText>>,
+    spans: &mut SpannedConfig,
+    steps: Vec<Step>,
+    errors: &mut E,
+) -> Result<(), AllocError>
+    requires { IsEven (grid_of (map_items records.old.items)) }
+    ensures well { IsEven (grid_of (map_items records.new.items)) }
+    ensures state { OnOk result (state_in records.new.items spans.new ≡ after_all steps.items (state_in records.old.items spans.old)) }
+{
+    if request.checks_steps {
+        return run_checked(alloc, records, spans, steps, source, errors);
+    }
+    match run(alloc, records, spans, steps) {
+        Ok(()) => Ok(()),
         Err((_, error)) => Err(error),
     }
 }
@@ -133,7 +184,7 @@ pub(crate) fn finish<W: Write>(
 }
 
 /// Writes bytes, and flushes the writer.
-fn write_whole<W: Write>(writer: &mut W, bytes: &[u8]) -> io::Result<()>
+pub(crate) fn write_whole<W: Write>(writer: &mut W, bytes: &[u8]) -> io::Result<()>
     ensures { OnOk result (Appends (W.contents writer.old) (W.contents writer.new) bytes.now) }
 {
     writer.write_all(bytes)?;

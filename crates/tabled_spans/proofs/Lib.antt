@@ -17,5 +17,4 @@ pub mod SpanChanges
 pub mod SpanGeometry
 pub mod SpanWrites
 pub mod Tails
-pub mod Visible
 pub mod Widths

@@ -1,7 +1,6 @@
 -- What a map has after sizes are set at once, and after one more of them.
 use Rattle.std.proofs.Common.{arith}
 use Rattle.tabled_spans.proofs.Common.{[], ◌&&◌, ◌==◌, ◌∙◌, ◌∷◌, ◌≡◌, ◌≤◌, Axis, List, None, Option, Position, Rectangle, Size, Some, SpanMap, T, ap, below_all, common_steps, cond, eq_by_cmp, equal, false, find, find-put, found_above, get, get-insert, get-remove, halves, if◌then◌else◌, is_sorted, is_sorted-put, position_cmp, positions_exact, positions_total, put, refl, resized, same_map, size_at, sized, subst, sym, tied, true, unwrap_or, with_size, with_sizes, with_span, ℕ}
-use Rattle.std.specs.FinMap as map
 use Rattle.tabled_spans.proofs.SpanChanges.{span-is}
 
 -- what a map has at a place, after a size is set there, or none

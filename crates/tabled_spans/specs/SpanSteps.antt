@@ -1,18 +1,13 @@
 -- What a span over visible cells changes at one place after another.
-use Rattle.std.specs.Prelude.{◌≡◌, ◌+◌, ◌-◌, ◌<◌, ◌≤◌, ℕ, Bool, true, min, not, List, [], ◌∷◌, if◌then◌else◌}
-use Rattle.std.specs.List.{list_all}
-use Rattle.tabled_grid.specs.Covers.{Cover, cover_in, hides}
+use Rattle.std.specs.Prelude.{◌≡◌, ◌+◌, ◌-◌, ◌<◌, ◌≤◌, ℕ, true, min, List, [], ◌∷◌, if◌then◌else◌}
+use Rattle.tabled_grid.specs.Covers.{Cover, cover_in}
 use Rattle.tabled_grid.specs.Entity.{names}
 use Rattle.tabled_grid.specs.Spans.{Rectangle, SpanMap, size_at, with_sizes}
 use Rattle.tabled_grid.specs.declared.config.entity.Entity.{Entity}
 use Rattle.tabled_grid.specs.declared.config.position.Position.{Position}
 use Rattle.tabled_grid.specs.declared.records.axis.Axis.{Axis}
 use Rattle.tabled_grid.specs.Axis.{count_of, line_of, resized}
-use Rattle.tabled_spans.specs.Spanned.{are_visible, stretch}
-
--- the rectangle of an anchor hides none of n cells, from a place on
-abbrev pub is_clear : Axis → Position → ℕ → Rectangle → Bool
-is_clear axis p many e = list_all (λ (q : Position). not (hides q e)) (stretch axis p (line_of axis p) many)
+use Rattle.tabled_spans.specs.Spanned.{are_visible}
 
 -- the new size at a place, if n cells from there on are all visible
 abbrev pub change_at : Axis → SpanMap → Position → ℕ → List Rectangle

@@ -1,5 +1,5 @@
 -- What a step does to a store is what its formula makes of the store's texts and merged cells.
-use Rattle.tabled_steps.proofs.Common.{[], ◌&&◌, ◌<◌, ◌∙◌, ◌∷◌, ◌≡◌, ◌≤◌, ◌⊎◌, Axis, Change, Columns, Does, Duplicates, Each, EachListed, Entity, Grid, IsEven-map_grid, JoinsAt, List, Merges, Names, Panels, Places, Position, Rearranges, Rows, Selector, Some, SpanMap, State, Step, Write, after, after_all, ap, ap₂, arith, cases_Bool, cases_lt, cell_at, cells_along, columns_with, cond, corner_of, dup_writes, duplicate, extracted, false, fold, half_open, has_room, indexes, inl, inr, joined_tables, joined_text, le-ltb, lt-ltb, map, map_grid, merge, named_by, nat_lt, on_each, place, put_panel, rearrange, recode, refl, removed, reversed, rotated, rounds, selected, set, source_texts, span, state_of, string_bytes, true, unwrap_or, with_line_at, with_writes, ℕ}
+use Rattle.tabled_steps.proofs.Common.{[], ◌&&◌, ◌<◌, ◌∙◌, ◌∷◌, ◌≡◌, ◌≤◌, ◌⊎◌, Axis, Change, Columns, Does, Duplicates, Each, EachListed, Entity, Grid, IsEven-map_grid, JoinsAt, List, Merges, Names, Panels, Places, Position, Rearranges, Rows, Select, Some, SpanMap, State, Step, Write, after, after_all, ap, ap₂, arith, cases_Bool, cases_lt, cell_at, cells_along, columns_with, cond, corner_of, dup_writes, duplicate, extracted, false, fold, half_open, has_room, indexes, inl, inr, joined_tables, joined_text, le-ltb, lt-ltb, map, map_grid, merge, named_by, nat_lt, on_each, place, put_panel, rearrange, recode, refl, removed, reversed, rotated, rounds, selected, set, source_texts, span, state_of, string_bytes, true, unwrap_or, with_line_at, with_writes, ℕ}
 use Rattle.tabled_grid.proofs.Mapped.{map_grid-with_column, map_grid-with_row}
 use Rattle.tabled_settings.specs.declared.rotate.Rotate.{Rotate}
 use Rattle.tabled_settings.specs.declared.rotate.Rotate.TheVariants.{Left}
@@ -25,13 +25,13 @@ module _ {A : Type 0} (text_of : A → List ℕ) where
   each_is does change one [] g c h d same = same_state _ _ _ _ (ap (map_grid text_of) same.0) same.1
   each_is does change one (e ∷ es) g c h d (m, k, first, rest) = each_is does change one es m k h d rest ∙ ap (λ (s : State). fold change s es) (one e g c m k first)
 
-  listed_is : (select : Selector) (does : Entity → Change A SpanMap) (change : State → Entity → State)
+  listed_is : (select : Select) (does : Entity → Change A SpanMap) (change : State → Entity → State)
       → ((e : Entity) (g : Grid A) (c : SpanMap) (h : Grid A) (d : SpanMap) → does e g c h d → state_of text_of h d ≡ change (state_of text_of g c) e)
       → (g : Grid A) (c : SpanMap) (h : Grid A) (d : SpanMap) → EachListed (Names text_of select) does g c h d → state_of text_of h d ≡ on_each change (named_by select) (state_of text_of g c)
   listed_is select does change one g c h d (es, are, each) = each_is does change one es g c h d each ∙ ap (fold change (state_of text_of g c)) are
 
   module _ (g : Grid A) (c : SpanMap) (h : Grid A) (d : SpanMap) where
-    duplicated : (destination source : Selector) → Duplicates text_of (Names text_of destination) (Names text_of source) g c h d → state_of text_of h d ≡ duplicate (named_by destination) (named_by source) (state_of text_of g c)
+    duplicated : (destination source : Select) → Duplicates text_of (Names text_of destination) (Names text_of source) g c h d → state_of text_of h d ≡ duplicate (named_by destination) (named_by source) (state_of text_of g c)
     duplicated destination source (sources, targets, named, aimed, does) =
         let texts : Grid (List ℕ) = map_grid text_of g in
         same_state _ _ _ _ (does.0 ∙ ap (λ (ws : List Write). with_writes ws texts) (ap (rounds (source_texts texts sources) g.rows g.columns) aimed ∙ ap (λ (es : List Entity). dup_writes es (selected texts destination) texts) named)) does.1

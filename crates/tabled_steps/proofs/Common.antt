@@ -33,6 +33,6 @@ pub use Rattle.tabled_steps.specs.Selected.{half_open, named_by, selected}
 pub use Rattle.tabled_steps.specs.States.{IsUndoneMidway, State, after, after_all, duplicate, flattened, merge, on_each, parts, put_panel, rearrange, recode, set, span, state_of}
 pub use Rattle.tabled_steps.specs.Steps.{Does, Leaves, LeavesFirst, Merges, Names, Refused}
 pub use Rattle.tabled_steps.specs.declared.groups.Group.{Group}
-pub use Rattle.tabled_steps.specs.declared.selector.Selector.{Selector}
+pub use Rattle.tabled_steps.specs.declared.select.Select.{Select}
 pub use Rattle.tabled_steps.specs.declared.step.Step.{Step}
 pub use Rattle.tabled_table.proofs.Common.{length-map-range_with_len, on_ok_weaker, string_bytes}

@@ -1,5 +1,5 @@
 -- Steps leave as many texts in each row as there are columns.
-use Rattle.tabled_steps.proofs.Common.{[], ◌&&◌, ◌++◌, ◌+◌, ◌-◌, ◌<◌, ◌∙◌, ◌∷◌, ◌≡◌, ◌⊎◌, Axis, Columns, Entity, Grid, IsEven, IsEven-with_cell, IsUndoneMidway, List, Places, Position, Rows, Selector, State, Step, Write, after, after_all, and_parts, ap, arith, cases_Bool, cell_at, charset_writes, columns_with, cond, corner_of, cut_rows, dup_writes, extracted, false, flattened, fold, half_open, has_pieces, has_room, indexes, inl, inr, joined_tables, joined_text, leb-true, length, length-replicate, ltb-true, max, named_by, nat_lt, on_each, option_and_then, oriented, parts, put_panel, read, rearrange, refl, removed, replicate, reversed, rotated, selected, span_writes, split, string_bytes, sym, text_at, text_writes, true, unwrap_or, with_cell, with_writes, ℕ}
+use Rattle.tabled_steps.proofs.Common.{[], ◌&&◌, ◌++◌, ◌+◌, ◌-◌, ◌<◌, ◌∙◌, ◌∷◌, ◌≡◌, ◌⊎◌, Axis, Columns, Entity, Grid, IsEven, IsEven-with_cell, IsUndoneMidway, List, Places, Position, Rows, Select, State, Step, Write, after, after_all, and_parts, ap, arith, cases_Bool, cell_at, charset_writes, columns_with, cond, corner_of, cut_rows, dup_writes, extracted, false, flattened, fold, half_open, has_pieces, has_room, indexes, inl, inr, joined_tables, joined_text, leb-true, length, length-replicate, ltb-true, max, named_by, nat_lt, on_each, option_and_then, oriented, parts, put_panel, read, rearrange, refl, removed, replicate, reversed, rotated, selected, span_writes, split, string_bytes, text_at, text_writes, true, unwrap_or, with_cell, with_writes, ℕ}
 use Rattle.tabled_grid.proofs.Resized.{IsEven-with_column, IsEven-with_row}
 use Rattle.tabled_settings.specs.declared.split.Split.{Split}
 use Rattle.tabled_settings.proofs.Glued.{split_glued}
@@ -19,7 +19,7 @@ even_each : (change : State → Entity → State) → ((e : Entity) → Keeps (�
 even_each change keeps [] s even = even
 even_each change keeps (e ∷ es) s even = even_each change keeps es (change s e) (keeps e s even)
 
-even_on_each : (change : State → Entity → State) (select : Selector) → ((e : Entity) → Keeps (λ s. change s e)) → Keeps (on_each change (named_by select))
+even_on_each : (change : State → Entity → State) (select : Select) → ((e : Entity) → Keeps (λ s. change s e)) → Keeps (on_each change (named_by select))
 even_on_each change select keeps s = even_each change keeps (selected s.texts select) s
 
 even_panel : (axis : Axis) (line : ℕ) (text : List ℕ) → Keeps (put_panel axis line text)
@@ -94,17 +94,17 @@ after_parts (step.Both' _ first _ second) s = after_both (parts first) (parts se
 after_parts _ s = refl
 
 -- steps taken apart lead to what they lead to
-after_flattened : (xs : List Step) (s : State) → after_all (flattened xs) s ≡ after_all xs s
+pub after_flattened : (xs : List Step) (s : State) → after_all (flattened xs) s ≡ after_all xs s
 after_flattened [] s = refl
 after_flattened (x ∷ xs) s = after_both (parts x) (flattened xs) s ∙ after_flattened xs (after_all (parts x) s) ∙ ap (after_all xs) (after_parts x s)
 
 -- the pieces that a split makes are glued together, whatever steps come before it and after it
-pub undone_midway : (xs first rest : List Step) (how : Split) (old new : State) → IsEven old.texts → flattened xs ≡ first ++ step.Split how ∷ rest → new ≡ after_all xs old → IsUndoneMidway how (after_all first old) rest new
+pub undone_midway : (xs first rest : List Step) (how : Split) (old new : State) → IsEven old.texts → xs ≡ first ++ step.Split how ∷ rest → new ≡ after_all xs old → IsUndoneMidway how (after_all first old) rest new
 undone_midway xs first rest how old new even are is = record {
   split = after (step.Split how) (after_all first old);
   is = refl;
   undone = record {
     glued = λ retained index rows columns. split_glued how (after_all first old).texts (after (step.Split how) (after_all first old)).texts (even_after_all first old even) retained rows columns index refl;
   };
-  leads = is ∙ sym (after_flattened xs old) ∙ ap (λ ys. after_all ys old) are ∙ after_both first (step.Split how ∷ rest) old;
+  leads = is ∙ ap (λ ys. after_all ys old) are ∙ after_both first (step.Split how ∷ rest) old;
 }

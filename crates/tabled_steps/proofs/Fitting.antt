@@ -1,5 +1,5 @@
 -- Steps that keep merged cells inside the table and apart.
-use Rattle.tabled_steps.proofs.Common.{[], ◌∷◌, AllByRecursion, Axis, Change, Columns, Does, Each, EachListed, EachUntil, Entity, Fits, Grid, Leaves, LeavesFirst, List, Merges, Names, OptionKeeps, Panels, Refused, Rows, Same, Selector, SpanMap, Step, charset_writes, columns_with, extracted, half_open, indexes, map_grid, removed, rotated, string_bytes, text_writes, writes_keep, ℕ}
+use Rattle.tabled_steps.proofs.Common.{[], ◌∷◌, AllByRecursion, Axis, Change, Columns, Does, Each, EachListed, EachUntil, Entity, Fits, Grid, Leaves, LeavesFirst, List, Merges, Names, OptionKeeps, Panels, Refused, Rows, Same, Select, SpanMap, Step, charset_writes, columns_with, extracted, half_open, indexes, map_grid, removed, rotated, string_bytes, text_writes, writes_keep, ℕ}
 use Rattle.tabled_options.proofs.Keeps.{keeps_all, keeps_copied, keeps_in_order, keeps_listed}
 use Rattle.tabled_settings.proofs.RearrangedFits.{join_keeps, rearranged_keeps, reversal_keeps, split_keeps}
 use Rattle.tabled_settings.proofs.WritersKeep.{duplicates_keep}
@@ -14,7 +14,7 @@ module _ {A : Type 0} (is_blank : A → Type 0) (text_of : A → List ℕ) where
   fitting g c = Fits c g.rows g.columns
 
   -- an option on each entity that a selector names
-  on_entities : (select : Selector) (does leaves : Entity → Change A SpanMap) → ((e : Entity) → OptionKeeps fitting (does e) (leaves e)) → OptionKeeps fitting (EachListed (Names text_of select) does) (LeavesFirst text_of select does leaves)
+  on_entities : (select : Select) (does leaves : Entity → Change A SpanMap) → ((e : Entity) → OptionKeeps fitting (does e) (leaves e)) → OptionKeeps fitting (EachListed (Names text_of select) does) (LeavesFirst text_of select does leaves)
   on_entities select does leaves keeps = keeps_copied fitting _ _ (keeps_listed fitting does _ (Names text_of select) (λ e. keeps_copied fitting (does e) (leaves e) (keeps e)))
 
   panels : (axis : Axis) (line : Grid A → ℕ) (text : List ℕ) → OptionKeeps fitting (λ g. Panels is_blank text_of axis (line g) text g) Same

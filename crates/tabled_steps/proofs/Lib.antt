@@ -7,7 +7,9 @@ pub mod GoneOver
 pub mod GroupSteps
 pub mod LocalChanges
 pub mod MergedRuns
+pub mod NamesNone
 pub mod Outside
+pub mod RefusedParts
 pub mod RepresentedChanges
 pub mod RepresentedPlaces
 pub mod StepsUntil

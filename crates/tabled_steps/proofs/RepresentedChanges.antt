@@ -1,5 +1,5 @@
 -- Changes for entities that stand for others are those for the others.
-use Rattle.tabled_steps.proofs.Common.{[], ◌++◌, ◌-◌, ◌∙◌, ◌∷◌, ◌≡◌, ◌⊎◌, AllByRecursion, AreRepresentatives, Change, Each, EachListed, EachListedUntil, EachUntil, Entity, Grid, Group, IsGroup, IsLocal, LeavesFirst, List, Names, Position, Same, SameOr, Selector, Some, SpanMap, ap, arith, inl, inr, inside, map_grid, named_places, refl, replicate, representatives_of, same_Some, selected, subst, suc, unrolled, zero, ℕ}
+use Rattle.tabled_steps.proofs.Common.{[], ◌++◌, ◌-◌, ◌∙◌, ◌∷◌, ◌≡◌, ◌⊎◌, AllByRecursion, AreRepresentatives, Change, Each, EachListed, EachListedUntil, EachUntil, Entity, Grid, Group, IsGroup, IsLocal, LeavesFirst, List, Names, Position, Same, SameOr, Select, Some, SpanMap, ap, arith, inl, inr, inside, map_grid, named_places, refl, replicate, representatives_of, same_Some, selected, subst, suc, unrolled, zero, ℕ}
 use Rattle.tabled_steps.proofs.StepsUntil.{first_refused, later_refused}
 
 module _ {A : Type 0} (does leaves : Entity → Change A SpanMap) (local : IsLocal does leaves) (rows columns : ℕ) where
@@ -89,7 +89,7 @@ module _ {A : Type 0} (does leaves : Entity → Change A SpanMap) (local : IsLoc
       let n = counted group each.0 in
       stand_group group.entity (representatives_of groups) (unrolled rows columns groups) n.0 es (same ∙ ap (λ k. replicate k (inside group.entity rows columns) ++ unrolled rows columns groups) n.1) n.2 (λ rest is. stand groups rest is each.1)
 
-module _ {A : Type 0} (text_of : A → List ℕ) (select : Selector) (does leaves : Entity → Change A SpanMap) (local : IsLocal does leaves) (g : Grid A) (c : SpanMap) (h : Grid A) (d : SpanMap) where
+module _ {A : Type 0} (text_of : A → List ℕ) (select : Select) (does leaves : Entity → Change A SpanMap) (local : IsLocal does leaves) (g : Grid A) (c : SpanMap) (h : Grid A) (d : SpanMap) where
   -- a change for each entity that stands for named ones is one for each named entity
   pub represented : EachListed (AreRepresentatives text_of select) does g c h d → EachListed (Names text_of select) does g c h d
   represented (representatives, (groups, grouped, are), each) =

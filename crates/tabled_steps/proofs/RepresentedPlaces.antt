@@ -1,5 +1,5 @@
 -- The places that entities name in a table, and those of what stands for them.
-use Rattle.tabled_steps.proofs.Common.{[], ◌++◌, ◌∙◌, ◌∷◌, ◌≡◌, AllByRecursion, AreGroups, AreRepresentatives, Duplicates, DuplicatesFirst, Entity, FirstWrites, Grid, Group, IsGroup, List, Names, Position, Selector, SpanMap, ap, append-nil, ap₂, cells_of, dup_writes, flat, flat_map, flat_map-append, inl, inr, inside, map, map_grid, named_places, refl, replicate, representatives_of, round_from, round_writes, rounds, selected, source_texts, subst, suc, sym, text_at, unrolled, with_writes, zero, ℕ}
+use Rattle.tabled_steps.proofs.Common.{[], ◌++◌, ◌∙◌, ◌∷◌, ◌≡◌, AllByRecursion, AreGroups, AreRepresentatives, Duplicates, DuplicatesFirst, Entity, FirstWrites, Grid, Group, IsGroup, List, Names, Position, Select, SpanMap, ap, append-nil, ap₂, cells_of, dup_writes, flat, flat_map, flat_map-append, inl, inr, inside, map, map_grid, named_places, refl, replicate, representatives_of, round_from, round_writes, rounds, selected, source_texts, subst, suc, sym, text_at, unrolled, with_writes, zero, ℕ}
 
 -- what is made of the places that each entity names, and is nothing where it names none
 module _ {X : Type 0} (make : List Position → List X) (nothing : make [] ≡ []) (rows columns : ℕ) where
@@ -32,11 +32,11 @@ pub flat-alike : (rows columns : ℕ) (es : List Entity) (groups : List Group) (
 flat-alike rows columns es groups representatives are grouped = ap (λ fs. flat fs rows columns) are ∙ made-alike (λ ps. ps) refl rows columns es groups grouped
 
 -- what stands for the entities that a selector names has their places
-pub flat-represented : {A : Type 0} (text_of : A → List ℕ) (select : Selector) (g : Grid A) (all : List Entity) → AreRepresentatives text_of select g all → flat all g.rows g.columns ≡ flat (selected (map_grid text_of g) select) g.rows g.columns
+pub flat-represented : {A : Type 0} (text_of : A → List ℕ) (select : Select) (g : Grid A) (all : List Entity) → AreRepresentatives text_of select g all → flat all g.rows g.columns ≡ flat (selected (map_grid text_of g) select) g.rows g.columns
 flat-represented text_of select g all (groups, grouped, are) = flat-alike g.rows g.columns (selected (map_grid text_of g) select) groups all are grouped
 
 -- cells that are made of the places of what stands for two selections are made of those of what they name
-pub cells_alike : {A : Type 0} (text_of : A → List ℕ) (x y : Selector) (g : Grid A) (make : List Position → List Position → List Position) (lhs rhs a b items : List Entity)
+pub cells_alike : {A : Type 0} (text_of : A → List ℕ) (x y : Select) (g : Grid A) (make : List Position → List Position → List Position) (lhs rhs a b items : List Entity)
     → AreRepresentatives text_of x g lhs → AreRepresentatives text_of y g rhs → a ≡ lhs → b ≡ rhs → items ≡ cells_of (make (flat a g.rows g.columns) (flat b g.rows g.columns))
     → items ≡ cells_of (make (flat (selected (map_grid text_of g) x) g.rows g.columns) (flat (selected (map_grid text_of g) y) g.rows g.columns))
 cells_alike text_of x y g make lhs rhs a b items first second left right is =
@@ -45,7 +45,7 @@ cells_alike text_of x y g make lhs rhs a b items first second left right is =
     (ap (λ es. flat es g.rows g.columns) left ∙ flat-represented text_of x g lhs first)
     (ap (λ es. flat es g.rows g.columns) right ∙ flat-represented text_of y g rhs second)
 
-module _ {A : Type 0} (text_of : A → List ℕ) (destination source : Selector) (g : Grid A) (c : SpanMap) (h : Grid A) (d : SpanMap) where
+module _ {A : Type 0} (text_of : A → List ℕ) (destination source : Select) (g : Grid A) (c : SpanMap) (h : Grid A) (d : SpanMap) where
   abbrev texts : Grid (List ℕ)
   texts = map_grid text_of g
 

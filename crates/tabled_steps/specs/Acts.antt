@@ -16,7 +16,7 @@ use Rattle.tabled_select.specs.declared.location.Location.{Ghosts as LocationOf}
 use Rattle.tabled_select.specs.declared.object.Object.{Ghosts as ObjectOf}
 use Rattle.tabled_steps.specs.Selected.{half_open}
 use Rattle.tabled_steps.specs.Steps.{Does, Leaves, Names}
-use Rattle.tabled_steps.specs.declared.selector.Selector.{Selector}
+use Rattle.tabled_steps.specs.declared.select.Select.{Select}
 use Rattle.tabled_steps.specs.declared.step.Step.{Step}
 use Rattle.tabled_steps.specs.declared.step.Step.TheVariants as step
 
@@ -38,8 +38,8 @@ abbrev pub ActAs : {A X R D : Type 0} → (A → Type 0) → (A → List ℕ) �
 ActAs {A} {X} is_blank text_of step how = (x : X) → ActsAsOption is_blank text_of (step x) how x
 
 -- the same of a kind of option on each entity that a selector lists
-abbrev pub ActOnListed : {A X R I : Type 0} → (A → Type 0) → (A → List ℕ) → ObjectOf Selector R I A → (X → Selector → Step) → CellOptionOf X R SpanMap A → Type 0
-ActOnListed {A} {X} is_blank text_of object step how = (x : X) (select : Selector) → ActsAs is_blank text_of (step x select) (EachListed (object.lists select) (how.does x)) (SameOr (EachListedUntil (object.lists select) (how.does x) (λ e. SameOr (how.leaves x e))))
+abbrev pub ActOnListed : {A X R I : Type 0} → (A → Type 0) → (A → List ℕ) → ObjectOf Select R I A → (X → Select → Step) → CellOptionOf X R SpanMap A → Type 0
+ActOnListed {A} {X} is_blank text_of object step how = (x : X) (select : Select) → ActsAs is_blank text_of (step x select) (EachListed (object.lists select) (how.does x)) (SameOr (EachListedUntil (object.lists select) (how.does x) (λ e. SameOr (how.leaves x e))))
 
 -- two steps in one act as two options one after the other, where each of the steps acts as its option
 abbrev pub InTurn : {A X Y R D : Type 0} → (A → Type 0) → (A → List ℕ) → TableOptionOf X R SpanMap D A → TableOptionOf Y R SpanMap D A → TableOptionOf (X × Y) R SpanMap D A → X → Y → Type 0
@@ -50,8 +50,8 @@ abbrev pub ListTheSame : {A X : Type 0} → (Grid A → List X → Type 0) → (
 ListTheSame {A} {X} lists others = (g : Grid A) (items : List X) → (lists g items → others g items) × (others g items → lists g items)
 
 -- a kind of step on what two selectors name acts as an option on two objects, where these list that
-abbrev pub ActOnObjects : {A X Y R I J D : Type 0} → (A → Type 0) → (A → List ℕ) → (Selector → Selector → Step) → ObjectOf X R I A → ObjectOf Y R J A → TableOptionOf (X × Y) R SpanMap D A → X × Y → Type 0
-ActOnObjects is_blank text_of step to from how x = (destination source : Selector) → ListTheSame (to.lists x.0) (Names text_of destination) → ListTheSame (from.lists x.1) (Names text_of source) → ActsAsOption is_blank text_of (step destination source) how x
+abbrev pub ActOnObjects : {A X Y R I J D : Type 0} → (A → Type 0) → (A → List ℕ) → (Select → Select → Step) → ObjectOf X R I A → ObjectOf Y R J A → TableOptionOf (X × Y) R SpanMap D A → X × Y → Type 0
+ActOnObjects is_blank text_of step to from how x = (destination source : Select) → ListTheSame (to.lists x.0) (Names text_of destination) → ListTheSame (from.lists x.1) (Names text_of source) → ActsAsOption is_blank text_of (step destination source) how x
 
 -- a kind of step on a range of rows and one of columns acts as an option on two ranges, where these have the same bounds
 abbrev pub ActWithin : {A X Y R D : Type 0} → (A → Type 0) → (A → List ℕ) → (ℕ → ℕ → ℕ → ℕ → Step) → BoundsOf X → BoundsOf Y → TableOptionOf (X × Y) R SpanMap D A → X × Y → Type 0

@@ -15,7 +15,7 @@ use Rattle.tabled_select.specs.Steps.{every}
 use Rattle.tabled_steps.specs.declared.groups.Groups.{Groups}
 use Rattle.tabled_steps.specs.declared.groups.Groups.TheVariants.{Each, Counted}
 use Rattle.tabled_steps.specs.declared.groups.Group.{Group}
-use Rattle.tabled_steps.specs.declared.selector.Selector.{Selector}
+use Rattle.tabled_steps.specs.declared.select.Select.{Select}
 use Rattle.tabled_steps.specs.declared.representatives.Entities.{Entities}
 use Rattle.tabled_steps.specs.declared.representatives.Entities.TheVariants as from
 use Rattle.tabled_steps.specs.Selected.{selected}
@@ -55,7 +55,7 @@ abbrev pub AreGroupedIn : {A : Type 0} → Grid A → List Entity → Groups →
 AreGroupedIn g entities groups = AreGroups g.rows g.columns entities (groups_of groups)
 
 -- entities that stand for those that a selector names in a table: one for each group of them
-abbrev pub AreRepresentatives : {A : Type 0} → (A → List ℕ) → Selector → Grid A → List Entity → Type 0
+abbrev pub AreRepresentatives : {A : Type 0} → (A → List ℕ) → Select → Grid A → List Entity → Type 0
 AreRepresentatives text_of select g representatives = (groups : List Group) × AreGroups g.rows g.columns (selected (map_grid text_of g) select) groups × (representatives ≡ representatives_of groups)
 
 -- what is done and left on an entity depends on the places alone that it names, the shape stays, and to do it

@@ -1,6 +1,7 @@
 pub mod Acts
 pub mod Fitting
 pub mod MergedRuns
+pub mod Naming
 pub mod Groups
 pub mod Reads
 pub mod Selected

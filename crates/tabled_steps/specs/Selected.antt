@@ -12,8 +12,8 @@ use Rattle.tabled_select.specs.Algebra.{cells_of, flat, named_by_both, named_wit
 use Rattle.tabled_select.specs.Locators.{columns_with, places_with}
 use Rattle.tabled_select.specs.Selectors.{before_last, columns_of, everything, frame, if_cells, index_from_last, past_last, rows_of, segment}
 use Rattle.tabled_select.specs.Steps.{every}
-use Rattle.tabled_steps.specs.declared.selector.Selector.{Selector}
-use Rattle.tabled_steps.specs.declared.selector.Selector.TheVariants as select
+use Rattle.tabled_steps.specs.declared.select.Select.{Select}
+use Rattle.tabled_steps.specs.declared.select.Select.TheVariants as select
 
 -- the bounds of a range that has its start and lacks its end
 abbrev pub half_open : ℕ → ℕ → Bound ℕ × Bound ℕ
@@ -40,7 +40,7 @@ abbrev pub named_columns : List ℕ → Grid (List ℕ) → List Entity
 named_columns text g = columns_of (columns_with text g)
 
 -- the entities that a selector names in a table of texts, in order
-abbrev pub selected : Grid (List ℕ) → Selector → List Entity
+abbrev pub selected : Grid (List ℕ) → Select → List Entity
 selected g select.All = everything
 selected g (select.Cell i j) = cells_of (place i j ∷ [])
 selected g (select.Row i) = rows_of (i ∷ [])
@@ -67,7 +67,7 @@ selected g (select.Skip' n _ x) = drop n (selected g x)
 selected g (select.StepBy' n _ x) = every n (selected g x)
 
 -- the one entity that a selector names in any table, where that is known without one
-abbrev pub single : Selector → Option Entity
+abbrev pub single : Select → Option Entity
 single select.All = Some entity.Global
 single (select.Cell i j) = Some (entity.Cell i j)
 single (select.Row i) = Some (entity.Row i)
@@ -79,5 +79,5 @@ abbrev pub Named : Type 0
 Named = Grid (List ℕ) → List Entity
 
 -- what a selector names
-abbrev pub named_by : Selector → Named
+abbrev pub named_by : Select → Named
 named_by select g = selected g select

@@ -1,5 +1,5 @@
 -- The texts of a table and its merged cells, and what steps make of them.
-use Rattle.std.specs.Prelude.{◌≡◌, ◌<◌, ℕ, ◌-◌, ℤ, if◌then◌else◌, Bool, List, [], ◌∷◌, ◌++◌, replicate, Option, take}
+use Rattle.std.specs.Prelude.{◌≡◌, ◌<◌, ◌≤◌, ℕ, suc, ◌-◌, ℤ, if◌then◌else◌, Bool, List, [], ◌∷◌, ◌++◌, length, replicate, Option, take}
 use Rattle.std.specs.List.{fold}
 use Rattle.std.specs.String.{string_bytes}
 use Rattle.tabled_grid.specs.Bounds.{indexes}
@@ -8,7 +8,7 @@ use Rattle.tabled_grid.specs.Spans.{SpanMap, with_sizes}
 use Rattle.tabled_grid.specs.declared.config.entity.Entity.{Entity}
 use Rattle.tabled_grid.specs.declared.records.axis.Axis.{Axis}
 use Rattle.tabled_grid.specs.declared.records.axis.Axis.TheVariants.{Rows, Columns}
-use Rattle.tabled_options.specs.Does.{Change, Each}
+use Rattle.tabled_options.specs.Does.{Change, Each, EachUntilAt}
 use Rattle.tabled_options.specs.Writes.{text_writes, with_writes}
 use Rattle.tabled_select.specs.Locators.{columns_with}
 use Rattle.tabled_settings.specs.Charsets.{charset_writes}
@@ -27,6 +27,7 @@ use Rattle.tabled_spans.specs.Spanned.{span_writes, spanned}
 use Rattle.tabled_steps.specs.MergedRuns.{runs}
 use Rattle.tabled_steps.specs.Reads.{joined_tables, read}
 use Rattle.tabled_steps.specs.Selected.{Named, half_open, named_by}
+use Rattle.tabled_steps.specs.Steps.{Does, Leaves}
 use Rattle.tabled_steps.specs.declared.step.Step.{Step}
 use Rattle.tabled_steps.specs.declared.step.Step.TheVariants as step
 
@@ -152,12 +153,16 @@ pub record IsUndoneMidway (how : Split) (old : State) (rest : List Step) (new : 
 
 -- each split among steps that lead from a state to another is undone by gluing where it is made
 abbrev pub AreUndone : List Step → State → State → Type 0
-AreUndone steps old new = (first rest : List Step) (split : Split) → flattened steps ≡ first ++ step.Split split ∷ rest → IsUndoneMidway split (after_all first old) rest new
+AreUndone steps old new = (first rest : List Step) (split : Split) → steps ≡ first ++ step.Split split ∷ rest → IsUndoneMidway split (after_all first old) rest new
 
 -- the same of the tables before the steps and after them
 abbrev pub SplitsAreUndone : {A : Type 0} → (A → List ℕ) → List Step → Change A SpanMap
-SplitsAreUndone text_of steps g c h d = AreUndone steps (state_of text_of g c) (state_of text_of h d)
+SplitsAreUndone text_of steps g c h d = AreUndone (flattened steps) (state_of text_of g c) (state_of text_of h d)
 
--- the same of the steps before step k
-abbrev pub SplitsAreUndoneBefore : ℕ → List Step → State → Type 0
-SplitsAreUndoneBefore k steps old = AreUndone (take k steps) old (after_all (take k steps) old)
+-- step k is refused in one of its parts, the parts before that one are done, and each split among these is undone by gluing where it is made
+pub record SplitsAreUndoneBefore {A : Type 0} (is_blank : A → Type 0) (text_of : A → List ℕ) (steps : List Step) (k : ℕ) (g : Grid A) (c : SpanMap) (h : Grid A) (d : SpanMap) : Type 0 where
+  pub part : ℕ
+  pub not_before : length (flattened (take k steps)) ≤ part
+  pub within : part < length (flattened (take (suc k) steps))
+  pub refused : EachUntilAt (Does is_blank text_of) (Leaves is_blank text_of) (flattened steps) part g c h d
+  pub undone : AreUndone (take part (flattened steps)) (state_of text_of g c) (state_of text_of refused.grid refused.configuration)

@@ -27,12 +27,12 @@ use Rattle.tabled_spans.specs.Panels.{Panels, has_room}
 use Rattle.tabled_spans.specs.Runs.{MergesRuns}
 use Rattle.tabled_spans.specs.Spanned.{SpanTakesNoMemory, Spans, SpansFirst}
 use Rattle.tabled_steps.specs.Selected.{half_open, selected, single}
-use Rattle.tabled_steps.specs.declared.selector.Selector.{Selector}
+use Rattle.tabled_steps.specs.declared.select.Select.{Select}
 use Rattle.tabled_steps.specs.declared.step.Step.{Step}
 use Rattle.tabled_steps.specs.declared.step.Step.TheVariants as step
 
 -- these are the entities that a selector names in a table
-abbrev pub Names : {A : Type 0} → (A → List ℕ) → Selector → Grid A → List Entity → Type 0
+abbrev pub Names : {A : Type 0} → (A → List ℕ) → Select → Grid A → List Entity → Type 0
 Names text_of select g entities = entities ≡ selected (map_grid text_of g) select
 
 -- lines in the opposite order, and the merged cells carried along where there are some
@@ -75,7 +75,7 @@ Does is_blank text_of (step.RemoveNamed name) = λ g. Rearranges (removed Column
 Does is_blank text_of (step.Both' _ first _ second) = Then (Does is_blank text_of first) (Does is_blank text_of second)
 
 -- nothing, or the changes for the entities that a selector names before one, and what the refused change for that one leaves
-abbrev pub LeavesFirst : {A : Type 0} → (A → List ℕ) → Selector → (Entity → Change A SpanMap) → (Entity → Change A SpanMap) → Change A SpanMap
+abbrev pub LeavesFirst : {A : Type 0} → (A → List ℕ) → Select → (Entity → Change A SpanMap) → (Entity → Change A SpanMap) → Change A SpanMap
 LeavesFirst text_of select does leaves = SameOr (EachListedUntil (Names text_of select) does (λ e. SameOr (leaves e)))
 
 -- what a refused step leaves

@@ -16,7 +16,7 @@ ghost use Rattle.tabled_steps.specs.Steps.{Does};
 ghost use Rattle.tabled_steps.specs.declared.step.Step.{Step};
 ghost use Rattle.tabled_steps.specs.declared.step.Step.TheVariants as step;
 
-use crate::selector::Selector;
+use crate::select::Select;
 use crate::step::Step;
 use tabled_grid::config::{SpannedConfig, ToBounds};
 use tabled_grid::records::{
@@ -81,10 +81,10 @@ pub fn steps_do_what_cell_options_do<R>()
 where
     R: Records + ExactRecords + PeekableRecords + RecordsMut<String> + Resizable,
     R::Cell: CellText,
-    ensures set { ActOnListed R.Cell.is_blank R.Cell.text_of ⟦<Selector as Object<R>>⟧ (λ text to. step.Set to text) ⟦<String as CellOption<R, SpannedConfig>>⟧ }
-    ensures charset { ActOnListed R.Cell.is_blank R.Cell.text_of ⟦<Selector as Object<R>>⟧ step.Charset ⟦<Charset as CellOption<R, SpannedConfig>>⟧ }
-    ensures column_span { ActOnListed R.Cell.is_blank R.Cell.text_of ⟦<Selector as Object<R>>⟧ step.ColumnSpan ⟦<ColumnSpan as CellOption<R, SpannedConfig>>⟧ }
-    ensures row_span { ActOnListed R.Cell.is_blank R.Cell.text_of ⟦<Selector as Object<R>>⟧ step.RowSpan ⟦<RowSpan as CellOption<R, SpannedConfig>>⟧ }
+    ensures set { ActOnListed R.Cell.is_blank R.Cell.text_of ⟦<Select as Object<R>>⟧ (λ text to. step.Set to text) ⟦<String as CellOption<R, SpannedConfig>>⟧ }
+    ensures charset { ActOnListed R.Cell.is_blank R.Cell.text_of ⟦<Select as Object<R>>⟧ step.Charset ⟦<Charset as CellOption<R, SpannedConfig>>⟧ }
+    ensures column_span { ActOnListed R.Cell.is_blank R.Cell.text_of ⟦<Select as Object<R>>⟧ step.ColumnSpan ⟦<ColumnSpan as CellOption<R, SpannedConfig>>⟧ }
+    ensures row_span { ActOnListed R.Cell.is_blank R.Cell.text_of ⟦<Select as Object<R>>⟧ step.RowSpan ⟦<RowSpan as CellOption<R, SpannedConfig>>⟧ }
 {}
 
 /// A step around an option on tables does, and refused leaves, what the option does and leaves.

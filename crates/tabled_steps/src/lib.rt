@@ -3,11 +3,12 @@
 
 mod groups;
 pub mod laws;
+mod naming;
 mod representatives;
-mod selector;
+mod select;
 mod step;
 mod steps;
 
-pub use selector::Selector;
+pub use select::Select;
 pub use step::Step;
 pub use steps::run;

@@ -6,7 +6,7 @@ ghost use Rattle.tabled_steps.specs.Groups.{AreRepresentatives, IsLocal};
 ghost use Rattle.tabled_steps.specs.Selected.{single};
 ghost use Rattle.tabled_steps.specs.Steps.{LeavesFirst, Names};
 
-use crate::selector::Selector;
+use crate::select::Select;
 use std::alloc::{AllocError, Global};
 use std::marker::Model;
 use std::vec;
@@ -24,7 +24,7 @@ pub(crate) fn change_each<M, R>(
     alloc: Global,
     records: &mut R,
     cfg: &mut SpannedConfig,
-    select: Selector,
+    select: Select,
     option: M,
 ) -> Result<(), AllocError>
 where
@@ -48,7 +48,7 @@ where
 
 /// Names for each group of entities that a selector names the one that stands for it.
 #[derive(Debug, Drop)]
-pub(crate) struct Representatives(pub(crate) Selector);
+pub(crate) struct Representatives(pub(crate) Select);
 
 impl<R> Object<R> for Representatives
 where

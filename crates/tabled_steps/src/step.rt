@@ -5,7 +5,7 @@ ghost use Rattle.tabled_steps.specs.Steps.{Does, Leaves, TakesNoMemory};
 ghost use Rattle.std.proofs.Common.{rules};
 
 use crate::representatives::{Representatives, change_each};
-use crate::selector::Selector;
+use crate::select::Select;
 use std::alloc::{AllocError, Global};
 use tabled_grid::config::{Entity, SpannedConfig};
 use tabled_grid::records::{
@@ -35,15 +35,15 @@ use tabled_spans::span::Span;
 #[derive(Drop)]
 pub enum Step {
     /// Writes a text to cells.
-    Set(Selector, String),
+    Set(Select, String),
     /// Writes to the first cells the texts of the second ones.
-    Dup(Selector, Selector),
+    Dup(Select, Select),
     /// Replaces tabs in the texts of cells, or takes control characters out, as the charset says.
-    Charset(Charset, Selector),
+    Charset(Charset, Select),
     /// Merges cells along rows, by a span's size.
-    ColumnSpan(isize, Selector),
+    ColumnSpan(isize, Select),
     /// Merges cells along columns, by a span's size.
-    RowSpan(isize, Selector),
+    RowSpan(isize, Select),
     HorizontalPanel(HorizontalPanel),
     VerticalPanel(VerticalPanel),
     Header(Header),

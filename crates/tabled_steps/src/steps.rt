@@ -5,7 +5,7 @@ ghost use Rattle.std.specs.List.{AllByRecursion};
 ghost use Rattle.tabled_carry.specs.PutIn.{FitsGrid};
 ghost use Rattle.tabled_options.specs.Does.{Each};
 ghost use Rattle.tabled_steps.specs.Fitting.{KeepsCellsFitting};
-ghost use Rattle.tabled_steps.specs.States.{Becomes, SplitsAreUndone, SplitsAreUndoneBefore, after_all, state_of};
+ghost use Rattle.tabled_steps.specs.States.{Becomes, SplitsAreUndone, SplitsAreUndoneBefore, after_all};
 ghost use Rattle.tabled_steps.specs.Steps.{Does, RefusedAt};
 
 use crate::step::Step;
@@ -25,8 +25,9 @@ use tabled_options::TableOption;
 ///   leaves. No step is refused that takes no memory.
 /// - Where no step is a span of size 0 or below, merged cells that lay inside the table and apart do so after
 ///   it, done or refused: cells that move carry theirs along.
-/// - Where a step that is done, or a part of one, is a split that keeps all pieces, and these have a cell, the
-///   table before it, if it has a row and a column, is its pieces, glued together.
+/// - Where a step, or a part of one, is done and is a split that keeps all pieces, and these have a cell, the
+///   table before it, if it has a row and a column, is its pieces, glued together; so also before a refused
+///   step or part, and the formulas lead from there to the table that this found.
 ///
 /// Of this project.
 pub fn run<R>(
@@ -46,7 +47,7 @@ where
     ensures err { IfErr result (λ e. RefusedAt R.Cell.is_blank R.Cell.text_of steps.items e.0 (R.grid records.old) cfg.old (R.grid records.new) cfg.new) }
     ensures fitting { AllByRecursion KeepsCellsFitting steps.items → FitsGrid cfg.old (R.grid records.old) → FitsGrid cfg.new (R.grid records.new) }
     ensures glued { OnOk result (SplitsAreUndone R.Cell.text_of steps.items (R.grid records.old) cfg.old (R.grid records.new) cfg.new) }
-    ensures glued_before { IfErr result (λ e. SplitsAreUndoneBefore e.0 steps.items (state_of R.Cell.text_of (R.grid records.old) cfg.old)) }
+    ensures glued_before { IfErr result (λ e. SplitsAreUndoneBefore R.Cell.is_blank R.Cell.text_of steps.items e.0 (R.grid records.old) cfg.old (R.grid records.new) cfg.new) }
 {
     let mut index = 0;
     for step in steps {

@@ -28,7 +28,7 @@ use tabled_spans::laws::{
     horizontal_panels_keep_merged_cells_fitting, merges_keep_merged_cells_fitting,
     spans_along_lines_fit, spans_of_size_1_or_more_fit, vertical_panels_keep_merged_cells_fitting,
 };
-use tabled_steps::{Selector, Step, run};
+use tabled_steps::{Select, Step, run};
 
 /// Runs steps that all keep merged cells fitting, and says how many of them were done.
 pub fn runs_fitting_steps<R>(
@@ -47,8 +47,8 @@ where
     let text = String::from_str(alloc, "x")?;
     let title = String::from_str(alloc, "Report")?;
     let steps = vec![in alloc;
-        Step::Set(Selector::FirstRow, text),
-        Step::ColumnSpan(2, Selector::All),
+        Step::Set(Select::FirstRow, text),
+        Step::ColumnSpan(2, Select::All),
         Step::Header(Panel::header(title)),
         Step::MergeVertical(Merge::vertical()),
         Step::Rotate(Rotate::Left),

@@ -2,11 +2,13 @@
 #![tactic(auto)]
 
 pub mod carried;
+pub mod csv;
 pub mod flat;
 pub mod geometry;
 pub mod language;
 pub mod options;
 pub mod own_store;
+pub mod pictures;
 pub mod refusing;
 pub mod rows;
 pub mod select;

@@ -6,7 +6,7 @@ use tabled_grid::records::{Text, VecRecords};
 use tabled_select::object::{
     Cell, Column, Columns, Frame, Object, ObjectIterator, Row, Rows, Segment, entities,
 };
-use tabled_steps::Selector;
+use tabled_steps::Select;
 use tabled_table::{Table, TextRef};
 
 /// A store of texts, as a table has it.
@@ -57,6 +57,7 @@ pub fn lists_columns(alloc: Global, store: &Store) -> Result<usize, AllocError> 
 pub fn lists_blocks(alloc: Global, store: &Store) -> Result<usize, AllocError> {
     count(alloc, &Segment::all(), store)?;
     count(alloc, &Segment::new(1.., ..2), store)?;
+    count(alloc, &Select::Frame, store)?;
     count(alloc, &Frame, store)
 }
 
@@ -86,15 +87,6 @@ pub fn lists_steps(alloc: Global, store: &Store) -> Result<usize, AllocError> {
         &steps.filter(|_| true).and(Cell::new(0, 0)).skip(1),
         store,
     )
-}
-
-/// How many entities a selector names that is data.
-pub fn lists_selected(
-    alloc: Global,
-    select: &Selector,
-    store: &Store,
-) -> Result<usize, AllocError> {
-    count(alloc, select, store)
 }
 
 /// Goes over the entities of an object one after another.

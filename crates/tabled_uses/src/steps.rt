@@ -9,7 +9,7 @@ use tabled_settings::merge::Merge;
 use tabled_settings::rotate::Rotate;
 use tabled_settings::span::Span;
 use tabled_settings::split::Split;
-use tabled_steps::{Selector, Step, run};
+use tabled_steps::{Select, Step, run};
 use tabled_table::{Table, TextRef};
 
 /// Spans cells of a table.
@@ -41,8 +41,8 @@ pub fn merges(alloc: Global, table: &mut Table) -> Result<(), AllocError> {
 
 /// A step that writes a text to the rows 1 to 8.
 fn writing(alloc: Global) -> Result<Step, AllocError> {
-    let rows = Box::new(alloc, Selector::Rows(0, 9))?;
-    Ok(Step::Set(Selector::Skip(1, rows), String::from_str(alloc, "x")?))
+    let rows = Box::new(alloc, Select::Rows(0, 9))?;
+    Ok(Step::Set(Select::Skip(1, rows), String::from_str(alloc, "x")?))
 }
 
 /// Two steps that are one.
@@ -75,4 +75,14 @@ where
         Ok(()) => Ok(many),
         Err((done, _)) => Ok(done),
     }
+}
+
+/// Says whether a step names nothing in a store, so that to do it is of no use.
+pub fn is_idle<R>(alloc: Global, records: &R, step: &Step) -> Result<bool, AllocError>
+where
+    R: Records + ExactRecords + PeekableRecords,
+    R::Cell: CellText,
+    requires { R.is_well_formed records.now }
+{
+    step.names_nothing(alloc, records)
 }

@@ -3,12 +3,11 @@
 ghost use Rattle.std.specs.Prelude.{◌≡◌, ◌+◌, ◌<◌, IfOk, OnErr, OnOk, length};
 ghost use Rattle.tabled_grid.specs.Grid.{IsEmptyWithoutRows, IsEven, IsInside, grid_of, map_items};
 
-use crate::spelling::Spelling;
 use std::alloc::{AllocError, Global};
 use tabled_grid::config::Position;
 use tabled_grid::records::{
-    Axis, Blank, CellText, ExactRecords, PeekableRecords, PieceOrder, Records, RecordsMut,
-    Resizable, Text, VecRecords,
+    Axis, Blank, CellText, ExactRecords, PieceOrder, Records, RecordsMut, Resizable, Text,
+    VecRecords,
 };
 
 /// A cell of a text.
@@ -48,27 +47,6 @@ pub fn read<T>(records: &VecRecords<T>, pos: Position) -> Option<(&[T], &T)> {
         return Some((records.row(pos.row), records.get(pos)));
     }
     None
-}
-
-/// The shape of a store, and then a line for each row, with each text in brackets.
-pub fn spelled<R>(alloc: Global, records: &R) -> Result<String, AllocError>
-where
-    R: Records + ExactRecords + PeekableRecords,
-    R::Cell: CellText,
-    requires { R.is_well_formed records.now }
-{
-    let rows = records.count_rows();
-    let columns = records.count_columns();
-    let shape = format!(in alloc; "{rows} x {columns}")?;
-    let mut spelling = Spelling::new(alloc);
-    spelling.push(shape.as_str());
-    for row in 0..rows {
-        spelling.push("\n");
-        for col in 0..columns {
-            spelling.push_cell(records.get_text(Position::new(row, col)));
-        }
-    }
-    spelling.end()
 }
 
 /// A change of a store, at places that are cut down to its shape.

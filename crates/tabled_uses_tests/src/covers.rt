@@ -57,9 +57,14 @@ fn keeps_which_cells_are_hidden(rt: HostRuntime) -> Result<(), Fail> {
 }
 
 #[test]
-fn refuses_a_block_past_the_largest_number(rt: HostRuntime) {
-    let none = SpannedConfig::new(rt.alloc());
-    assert!(rt; CoverMap::new(rt.alloc(), &none, usize::MAX, 2).is_err());
+fn refuses_a_large_block_past_the_largest_number(rt: HostRuntime) -> Result<(), Fail> {
+    let spans = merged(rt.alloc(), "18446744073709551613.18446744073709551613:2x2")?;
+    let last = Position::new(usize::MAX - 1, usize::MAX - 1);
+    let before = Position::new(usize::MAX - 9, usize::MAX - 9);
+    assert!(rt; CoverMap::of_block(rt.alloc(), &spans, last, 1, 1)?.is_hidden(last));
+    assert!(rt; CoverMap::of_block(rt.alloc(), &spans, before, 3, 3).is_err());
+    assert!(rt; CoverMap::new(rt.alloc(), &spans, usize::MAX, 2).is_err());
+    Ok(())
 }
 
 /// An anchor: its row and column, and the height and the width of its rectangle.

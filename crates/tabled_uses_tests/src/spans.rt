@@ -57,11 +57,33 @@ fn keeps_spans(rt: HostRuntime) -> Result<(), Fail> {
 
 #[test]
 fn lists_widths_and_heights(rt: HostRuntime) -> Result<(), Fail> {
-    let spans = merged(rt.alloc(), "0.0:2x3 1.4:1x2 2.0:2x1")?;
-    let widths = [(Position::new(0, 0), 3), (Position::new(1, 4), 2)];
-    assert!(rt; spans.get_column_spans(rt.alloc())?.as_slice() == widths.as_slice());
-    let heights = [(Position::new(0, 0), 2), (Position::new(2, 0), 2)];
-    assert!(rt; spans.get_row_spans(rt.alloc())?.as_slice() == heights.as_slice());
+    let corner = Position::new(0, 0);
+    let beside = Position::new(1, 4);
+    let below = Position::new(2, 0);
+    let cases: &[(&str, &[(Position, usize)], &[(Position, usize)])] = &[
+        ("", &[], &[]),
+        ("2.0:3x1", &[], &[(below, 3)]),
+        ("1.4:1x18446744073709551615", &[(beside, MAX)], &[]),
+        // By their places, and those that became a cell again are none.
+        ("2.0:2x2 0.0:1x3", &[(corner, 3), (below, 2)], &[(below, 2)]),
+        ("0.0:2x2 0.0:1x2 1.4:2x2 1.4:1x1", &[(corner, 2)], &[]),
+        (
+            "0.0:2x3 1.4:1x2 2.0:2x1",
+            &[(corner, 3), (beside, 2)],
+            &[(corner, 2), (below, 2)],
+        ),
+    ];
+    for &(old, widths, heights) in cases {
+        let spans = merged(rt.alloc(), old)?;
+        assert!(rt;
+            spans.get_column_spans(rt.alloc())?.as_slice() == widths,
+            "{old}"
+        );
+        assert!(rt;
+            spans.get_row_spans(rt.alloc())?.as_slice() == heights,
+            "{old}"
+        );
+    }
     Ok(())
 }
 
@@ -189,8 +211,12 @@ enum Call {
     ColumnSpan,
     Sizes,
     Copy,
+    Fitting,
     KeepFitting,
+    Widths,
+    Heights,
     Cover,
+    CoverBlock,
 }
 
 fn make(alloc: Global, spans: &mut SpannedConfig, call: Call) -> Result<(), AllocError> {
@@ -207,9 +233,25 @@ fn make(alloc: Global, spans: &mut SpannedConfig, call: Call) -> Result<(), Allo
             spans.copy(alloc)?;
             Ok(())
         }
+        Call::Fitting => {
+            spans.fitting(alloc, 1, 2)?;
+            Ok(())
+        }
         Call::KeepFitting => spans.keep_fitting(alloc, 1, 2),
+        Call::Widths => {
+            spans.get_column_spans(alloc)?;
+            Ok(())
+        }
+        Call::Heights => {
+            spans.get_row_spans(alloc)?;
+            Ok(())
+        }
         Call::Cover => {
-            CoverMap::new(alloc, spans, 3, 3)?;
+            CoverMap::new(alloc, spans, 4, 4)?;
+            Ok(())
+        }
+        Call::CoverBlock => {
+            CoverMap::of_block(alloc, spans, Position::new(1, 0), 4, 4)?;
             Ok(())
         }
     }
@@ -222,8 +264,7 @@ fn keeps(alloc: Global, call: Call) -> Result<bool, AllocError> {
     Ok(make(alloc, &mut spans, call).is_ok() || is_spelled(alloc, &spans, old)?)
 }
 
-// With ample memory nothing is refused. `rt try --test --fail-alloc N` refuses the allocation N, so that a run
-// for each N meets each refusal.
+// With ample memory nothing is refused. `.ci/test_refusals` runs this and refuses each allocation in turn.
 #[test]
 fn keeps_merged_cells_at_a_refusal(rt: HostRuntime) {
     for &call in &[
@@ -231,8 +272,12 @@ fn keeps_merged_cells_at_a_refusal(rt: HostRuntime) {
         Call::ColumnSpan,
         Call::Sizes,
         Call::Copy,
+        Call::Fitting,
         Call::KeepFitting,
+        Call::Widths,
+        Call::Heights,
         Call::Cover,
+        Call::CoverBlock,
     ] {
         // Where the merged cells themselves are refused, there is nothing to compare.
         assert!(rt; keeps(rt.alloc(), call) != Ok(false));

@@ -7,8 +7,8 @@ use tabled_grid::records::{
     Axis, CellText, ExactRecords, PeekableRecords, Records, RecordsMut, Refusing, Resizable,
     VecRecords,
 };
-use tabled_testing::is_word;
-use tabled_uses::stores::{spelled, two_rows};
+use tabled_testing::{is_word, spelled};
+use tabled_uses::stores::two_rows;
 
 /// What a store is after a lent text is written to its first cell.
 fn written<R>(alloc: Global, mut records: R) -> Result<String, AllocError>
@@ -26,7 +26,7 @@ where
 #[test]
 fn writes_lent_texts(rt: HostRuntime) -> Result<(), Fail> {
     let alloc = rt.alloc();
-    let want = "2 x 2\n[x][b]\n[c][d]";
+    let want = "x b / c d /";
     let flat = VecRecords::new(alloc, two_rows(alloc)?)?;
     assert!(rt; is_word(written(alloc, flat), want));
     assert!(rt; is_word(written(alloc, two_rows(alloc)?), want));
@@ -50,8 +50,8 @@ where
 fn pushes_lines_along_either_axis(rt: HostRuntime) -> Result<(), Fail> {
     let alloc = rt.alloc();
     for &(axis, want) in &[
-        (Axis::Rows, "4 x 2\n[a][b]\n[c][d]\n[][]\n[][]"),
-        (Axis::Columns, "2 x 4\n[a][b][][]\n[c][d][][]"),
+        (Axis::Rows, "a b / c d / _ _ / _ _ /"),
+        (Axis::Columns, "a b _ _ / c d _ _ /"),
     ] {
         let flat = VecRecords::new(alloc, two_rows(alloc)?)?;
         assert!(rt; is_word(pushed(alloc, flat, axis), want));

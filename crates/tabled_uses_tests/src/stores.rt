@@ -9,11 +9,10 @@ use tabled_grid::records::{
     Blank, CellText, ExactRecords, PeekableRecords, PieceOrder, Records, RecordsMut, Resizable,
     Text, VecRecords,
 };
-use tabled_testing::{flat, is_word, nested};
+use tabled_testing::{flat, nested, spelled, spells};
 use tabled_uses::stores::Change::{self, *};
 use tabled_uses::stores::{
     cell, change_lent, fruits, make_change, make_lent_change, push_and_remove_row, read, shape,
-    spelled,
 };
 
 const TWO_ROWS: &str = "a b / c d /";
@@ -88,35 +87,41 @@ const CHANGES: &[(&str, &[Change], &str)] = &[
     (
         TWO_ROWS,
         &[RemoveColumn(0), RemoveRow(0), PushColumn],
-        "1 x 2\n[d][]",
+        "d _ /",
     ),
-    (TWO_ROWS, &[RemoveRow(1), RemoveRow(0), PushColumn], "0 x 0"),
-    (TWO_ROWS, &[RemoveRow(0), RemoveRow(0), PushRow], "1 x 0\n"),
+    (TWO_ROWS, &[RemoveRow(1), RemoveRow(0)], ""),
+    // Without rows there are no columns.
+    (
+        TWO_ROWS,
+        &[RemoveRow(1), RemoveRow(0), PushColumn, PushRow],
+        "/",
+    ),
+    (TWO_ROWS, &[RemoveRow(0), RemoveRow(0), PushRow], "/"),
     (
         TWO_ROWS,
         &[RemoveColumn(1), RemoveColumn(0), PushRow],
-        "3 x 0\n\n\n",
+        "/ / /",
     ),
     (
         TWO_ROWS,
         &[RemoveColumn(1), RemoveColumn(0), PushColumn],
-        "2 x 1\n[]\n[]",
+        "_ / _ /",
     ),
     (
         TWO_ROWS,
         &[RemoveColumn(1), RemoveColumn(0), PushRow, PushColumn],
-        "3 x 1\n[]\n[]\n[]",
+        "_ / _ / _ /",
     ),
-    ("a b c /", &[RemoveRow(0), PushRow], "1 x 0\n"),
+    ("a b c /", &[RemoveRow(0), PushRow], "/"),
     (
         TWO_ROWS,
         &[PushRow, InsertRow(1), PushColumn],
-        "4 x 3\n[a][b][]\n[][][]\n[c][d][]\n[][][]",
+        "a b _ / _ _ _ / c d _ / _ _ _ /",
     ),
     (
         TWO_ROWS,
         &[PushColumns(2), Set(0, 0), Transpose],
-        "4 x 2\n[00][c]\n[b][d]\n[][]\n[][]",
+        "00 c / b d / _ _ / _ _ /",
     ),
     (
         TWO_ROWS,
@@ -125,28 +130,28 @@ const CHANGES: &[(&str, &[Change], &str)] = &[
             PushColumn,
             CutRows(PieceOrder::Zip),
         ],
-        "8 x 1\n[a]\n[]\n[c]\n[]\n[b]\n[]\n[d]\n[]",
+        "a / _ / c / _ / b / _ / d / _ /",
     ),
     (
         TWO_ROWS,
         &[SwapRow(1, 1), SwapColumn(0, 0), Swap((1, 0), (1, 0))],
-        "2 x 2\n[a][b]\n[c][d]",
+        "a b / c d /",
     ),
-    ("a / b /", &[SwapRow(1, 1)], "2 x 1\n[a]\n[b]"),
+    ("a / b /", &[SwapRow(1, 1)], "a / b /"),
     (
         TWO_ROWS,
         &[SwapRow(0, 1), SwapColumn(1, 0), Set(1, 1)],
-        "2 x 2\n[d][c]\n[b][11]",
+        "d c / b 11 /",
     ),
     (
         TWO_ROWS,
         &[Swap((0, 1), (1, 0)), Swap((1, 1), (1, 0)), PushRow],
-        "3 x 2\n[a][c]\n[d][b]\n[][]",
+        "a c / d b / _ _ /",
     ),
     (
         TWO_ROWS,
         &[InsertColumn(1), InsertRow(0), SwapColumn(0, 2)],
-        "3 x 3\n[][][]\n[b][][a]\n[d][][c]",
+        "_ _ _ / b _ a / d _ c /",
     ),
 ];
 
@@ -257,8 +262,7 @@ fn keep(alloc: Global, change: Change, lent: bool) -> bool {
     }
 }
 
-// With ample memory nothing is refused. `rt try --test --fail-alloc N` refuses the allocation N, so that a run
-// for each N meets each refusal.
+// With ample memory nothing is refused. `.ci/test_refusals` runs this and refuses each allocation in turn.
 #[test]
 fn keeps_the_stores_at_a_refusal(rt: HostRuntime) {
     for &(change, lent) in &[
@@ -317,8 +321,7 @@ fn length_at(records: &VecRecords<Text<String>>, pos: Position, text: &str) -> O
 #[test]
 fn reads_and_writes(rt: HostRuntime) -> Result<(), Fail> {
     let table = fruits(rt.alloc())?;
-    let words = "3 x 2\n[Fruit][Count]\n[Apple][3]\n[Pear][5]";
-    assert!(rt; is_word(spelled(rt.alloc(), &table), words));
+    assert!(rt; spells(rt.alloc(), &table, "Fruit Count / Apple 3 / Pear 5 /"));
     assert!(rt; length_at(&table, Position::new(1, 0), "Apple") == Some(2));
     assert!(rt; read(&table, Position::new(3, 0)).is_none());
     Ok(())

@@ -1,15 +1,36 @@
 //! Work on the numbers of anchors that hide each cell of a block, row by row.
 
-ghost use Rattle.std.specs.Prelude.{◌≡◌, ◌+◌, ◌*◌, ◌-◌, ◌^◌, ◌<◌, ◌≤◌, length, max, min};
-ghost use Rattle.tabled_grid.specs.Covers.{IsNumbered, Steps, beyond, hiders_of, hides, in_run, table};
-ghost use Rattle.tabled_grid.specs.Spans.{SpanMap, size_at, with_size};
+ghost use Rattle.std.specs.Prelude.{◌≡◌, ◌+◌, ◌*◌, ◌-◌, ◌^◌, ◌<◌, ◌≤◌, T, length, map, max, min, replicate};
+ghost use Rattle.std.specs.FinMap.{is_sorted};
+ghost use Rattle.tabled_grid.specs.Covers.{IsNumbered, Steps, beyond, hiders_in, hiders_of, hides, in_run, table};
+ghost use Rattle.tabled_grid.specs.Spans.{SpanMap, position_cmp, size_at, with_size};
 
+use crate::config::count::Count;
 use crate::config::position::Position;
 use crate::config::size::{Rectangle, Size};
 
+/// Counts for each cell of a block, from none on, the anchors that hide it.
+pub(super) fn count_each<N: Count>(
+    hiders: &mut [N],
+    anchors: &[Rectangle],
+    first: Position,
+    rows: usize,
+    columns: usize,
+)
+    requires none { map N.value hiders.old ≡ replicate (rows * columns) 0 }
+    requires sorted { T (is_sorted position_cmp anchors.now) }
+    requires fits { IsNumbered N.limit first rows columns }
+    ensures size { length hiders.new ≡ rows * columns }
+    ensures counted { map N.value hiders.new ≡ table (λ p. hiders_in anchors.now (beyond first p)) rows columns }
+{
+    for k in 0..anchors.len() {
+        step_each(hiders, first, rows, columns, anchors[k], N::one());
+    }
+}
+
 /// Follows a map whose size at a place becomes another.
-pub(super) fn follow(
-    hiders: &mut [usize],
+pub(super) fn follow<N: Count>(
+    hiders: &mut [N],
     first: Position,
     rows: usize,
     columns: usize,
@@ -18,27 +39,27 @@ pub(super) fn follow(
     new: Size,
 )
     requires size { length hiders.old ≡ rows * columns }
-    requires fits { IsNumbered first rows columns }
+    requires fits { IsNumbered N.limit first rows columns }
     ensures size { length hiders.new ≡ rows * columns }
-    ensures map { (m : SpanMap) → size_at m pos ≡ old → hiders.old ≡ table (λ p. hiders_of m (beyond first p)) rows columns → hiders.new ≡ table (λ p. hiders_of (with_size m pos new) (beyond first p)) rows columns }
+    ensures map { (m : SpanMap) → size_at m pos ≡ old → map N.value hiders.old ≡ table (λ p. hiders_of m (beyond first p)) rows columns → map N.value hiders.new ≡ table (λ p. hiders_of (with_size m pos new) (beyond first p)) rows columns }
 {
-    step_each(hiders, first, rows, columns, (pos, old), usize::MAX);
-    step_each(hiders, first, rows, columns, (pos, new), 1);
+    step_each(hiders, first, rows, columns, (pos, old), N::greatest());
+    step_each(hiders, first, rows, columns, (pos, new), N::one());
 }
 
-/// Steps the number of each cell of a block that an anchor hides, round the end of `usize`.
-pub(super) fn step_each(
-    hiders: &mut [usize],
+/// Steps the number of each cell of a block that an anchor hides, round the limit.
+pub(super) fn step_each<N: Count>(
+    hiders: &mut [N],
     first: Position,
     rows: usize,
     columns: usize,
     anchor: Rectangle,
-    step: usize,
+    step: N,
 )
     requires size { length hiders.old ≡ rows * columns }
-    requires fits { IsNumbered first rows columns }
+    requires fits { IsNumbered N.limit first rows columns }
     ensures size { length hiders.new ≡ rows * columns }
-    ensures steps { Steps hiders.old hiders.new (λ p. hides (beyond first p) anchor) step rows columns }
+    ensures steps { Steps (map N.value hiders.old) (map N.value hiders.new) (λ p. hides (beyond first p) anchor) (N.value step) N.limit rows columns }
 {
     let (at, size) = anchor;
     let top = at.row.saturating_sub(first.row);
@@ -56,22 +77,23 @@ pub(super) fn step_each(
 }
 
 /// Steps the numbers of one row, from a column on and up to another.
-fn step_run(
-    hiders: &mut [usize],
+fn step_run<N: Count>(
+    hiders: &mut [N],
     rows: usize,
     columns: usize,
     i: usize,
     run: (usize, usize),
-    step: usize,
+    step: N,
 )
     requires size { length hiders.old ≡ rows * columns }
     requires row { i < rows }
     requires end { run.1 ≤ columns }
     ensures size { length hiders.new ≡ rows * columns }
-    ensures steps { Steps hiders.old hiders.new (in_run i run) step rows columns }
+    ensures steps { Steps (map N.value hiders.old) (map N.value hiders.new) (in_run i run) (N.value step) N.limit rows columns }
 {
     for j in run.0..run.1 {
         let k = i * columns + j;
-        hiders[k] = hiders[k].wrapping_add(step);
+        let hider = &mut hiders[k];
+        *hider = hider.plus(step);
     }
 }

@@ -2,6 +2,7 @@
 
 mod anchors;
 mod bounds;
+mod count;
 mod cover_map;
 mod entity;
 mod fitting;

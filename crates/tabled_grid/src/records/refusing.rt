@@ -1,10 +1,13 @@
 //! A store that refuses one growth and one write.
 
 ghost use Rattle.std.specs.Prelude.{◌≡◌, ◌-◌, ◌<◌, ◌≤◌, IsErr, OnErr, OnOk};
+ghost use Rattle.tabled_grid.specs.Along.{count_along, first_along};
 ghost use Rattle.tabled_grid.specs.Grid.{IsInside, WritesText, map_grid, with_cell};
 ghost use Rattle.tabled_grid.specs.Resized.{InsertsColumn, InsertsRow, with_cells_swapped, with_columns_swapped, with_rows_swapped, without_column, without_row};
+ghost use Rattle.tabled_grid.specs.declared.records.axis.Axis.TheVariants.{Columns, Rows};
 
 use crate::config::Position;
+use crate::records::axis::Axis;
 use crate::records::blank::Blank;
 use crate::records::cell_text::CellText;
 use crate::records::exact_records::ExactRecords;
@@ -21,10 +24,11 @@ use std::alloc::{AllocError, Global};
 /// midst of it, without a machine that is out of memory: each growth and each write in turn.
 ///
 /// A growth is a call of `push_row`, `push_column`, `insert_row` or `insert_column`, and a write a call of
-/// `set`. The calls that remove or swap (`remove_row`, `remove_column`, `swap`, `swap_row`, `swap_column`)
-/// count as neither, and leave both numbers as they are. The calls for many lines (`push_rows`,
-/// `push_columns`, `transpose`, `cut`) are left to the default bodies of `Resizable`, also where the store
-/// around which it stands has its own, so that each line is a growth of its own.
+/// `set`. The calls that remove, swap or cut off (`remove_row`, `remove_column`, `swap`, `swap_row`,
+/// `swap_column`, `truncate_rows`, `truncate_columns`, `truncate_lines`) count as neither, and leave both
+/// numbers as they are. The other calls for many lines (`push_rows`, `push_columns`, `push_lines`, `transpose`,
+/// `cut`) are left to the default bodies of `Resizable`, also where the store around which it stands has its own,
+/// so that each line is a growth of its own.
 /// What is not refused goes to that store, whose grid is the meaning of both.
 ///
 /// Of this project.
@@ -254,6 +258,59 @@ where
         ensures set { self.new.set ≡ self.old.set }
     {
         self.store.swap_column(j, k);
+    }
+
+    /// Keeps the first `count` rows alone. Counted as nothing.
+    fn truncate_rows(&mut self, count: usize)
+    where
+        Self: Records + ExactRecords + GridStore<Cell = S::Cell>,
+        requires well { S.is_well_formed self.old.store }
+        requires within { count ≤ (S.grid self.old.store).rows }
+        ensures well { S.is_well_formed self.new.store }
+        ensures first { S.grid self.new.store ≡ first_along Rows count (S.grid self.old.store) }
+        ensures growth { self.new.growth ≡ self.old.growth }
+        ensures set { self.new.set ≡ self.old.set }
+    {
+        let mut left = self.count_rows();
+        while left > count {
+            left -= 1;
+            self.remove_row(left);
+        }
+    }
+
+    /// Keeps the first `count` columns alone. Counted as nothing.
+    fn truncate_columns(&mut self, count: usize)
+    where
+        Self: Records + ExactRecords + GridStore<Cell = S::Cell>,
+        requires well { S.is_well_formed self.old.store }
+        requires within { count ≤ (S.grid self.old.store).columns }
+        ensures well { S.is_well_formed self.new.store }
+        ensures first { S.grid self.new.store ≡ first_along Columns count (S.grid self.old.store) }
+        ensures growth { self.new.growth ≡ self.old.growth }
+        ensures set { self.new.set ≡ self.old.set }
+    {
+        let mut left = self.count_columns();
+        while left > count {
+            left -= 1;
+            self.remove_column(left);
+        }
+    }
+
+    /// Keeps the first `count` rows, or columns, alone. Counted as nothing.
+    fn truncate_lines(&mut self, axis: Axis, count: usize)
+    where
+        Self: Records + ExactRecords + GridStore<Cell = S::Cell>,
+        requires well { S.is_well_formed self.old.store }
+        requires within { count ≤ count_along axis (S.grid self.old.store) }
+        ensures well { S.is_well_formed self.new.store }
+        ensures first { S.grid self.new.store ≡ first_along axis count (S.grid self.old.store) }
+        ensures growth { self.new.growth ≡ self.old.growth }
+        ensures set { self.new.set ≡ self.old.set }
+    {
+        match axis {
+            Axis::Rows => self.truncate_rows(count),
+            Axis::Columns => self.truncate_columns(count),
+        }
     }
 
     ghost rowless = { λ s. S.rowless s.store };

@@ -11,9 +11,8 @@ ghost use Rattle.tabled_spans.specs.Spanned.{SpanTakesNoMemory, are_visible, gro
 ghost use Rattle.tabled_spans.specs.SpanSteps.{ForEachCovering, IsReach, change_at, cover_changed_at};
 
 use crate::span::along::{resized, size_at};
-use crate::span::visible::are_visible;
 use std::alloc::{AllocError, Global};
-use tabled_grid::config::{CoverMap, Entity, Position, Rectangle, SpannedConfig};
+use tabled_grid::config::{CoverMap, Entity, Position, Rectangle, Size, SpannedConfig};
 use tabled_grid::records::Axis;
 
 /// Says whether n cells are all visible, from a place on.
@@ -144,19 +143,32 @@ fn changes(
 }
 
 /// Merges n cells from a place on, if they are all visible. Refused for memory, it changes nothing.
-fn grow_cell(
+fn grow_one(
     alloc: Global,
     cfg: &mut SpannedConfig,
     axis: Axis,
     pos: Position,
     many: usize,
 ) -> Result<(), AllocError>
-    requires { line_of axis pos + many < 2 ^ 64 }
+    requires some { 1 ≤ many }
+    requires row { pos.row + 1 < 2 ^ 64 }
+    requires col { pos.col + 1 < 2 ^ 64 }
+    requires end { line_of axis pos + many < 2 ^ 64 }
     ensures ok { OnOk result (cfg.new ≡ with_visible_span axis cfg.old pos many) }
     ensures err { OnErr result (cfg.new ≡ cfg.old) }
     ensures promised { many ≤ 1 → IsOk result }
 {
-    if !are_visible(cfg, axis, pos, many) {
+    let block = resized(
+        axis,
+        Size {
+            height: 1,
+            width: 1,
+        },
+        many,
+    );
+    let cover = CoverMap::of_block(alloc, cfg, pos, block.height, block.width)?;
+    let mut hint = axis.line_of(pos);
+    if !is_free(&cover, axis, pos, many, &mut hint) {
         return Ok(());
     }
     match axis {
@@ -184,9 +196,9 @@ pub(super) fn grow(
     let mut places = entity.iter(rows, columns);
     if let Some(pos) = places.next() {
         if places.next().is_none() {
-            // One cell needs no map of what is covered.
+            // One size is set at once, without a list of changes.
             let left = axis.count_of(rows, columns) - axis.line_of(pos);
-            grow_cell(alloc, cfg, axis, pos, size.min(left))?;
+            grow_one(alloc, cfg, axis, pos, size.min(left))?;
         } else {
             let changes = changes(alloc, cfg, axis, size, entity, rows, columns)?;
             cfg.set_sizes(alloc, &changes)?;

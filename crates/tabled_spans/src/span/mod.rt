@@ -7,7 +7,6 @@ mod grow;
 mod property;
 mod pull;
 mod span_on;
-mod visible;
 
 pub use property::{ColumnSpansFit, RowSpansFit};
 pub use span_on::{ColumnSpan, RowSpan, SpanOn};

@@ -6,4 +6,5 @@ mod odd;
 mod originals;
 mod rearranged;
 mod scripts;
+mod styles;
 mod writers;

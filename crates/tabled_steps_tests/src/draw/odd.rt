@@ -4,7 +4,7 @@ use super::scripts::drawn;
 use std::alloc::{AllocError, Global};
 use std::test::Fail;
 
-/// Wide characters, such that take no column, control characters, lines, and how columns and rows grow.
+/// Wide characters, such that take no column, emoji of several, control characters, lines, and how columns and rows grow.
 pub(crate) const ODD: &str = "row\t漢字\ta
 row\tb\t漢
 =
@@ -22,6 +22,15 @@ row\tab\tc
 +----+----+
 | ab | c  |
 +----+----+
+
+row\t\u{26a0}\u{fe0f}\t\u{1f469}\u{1f3fb}\u{200d}\u{1f52c}
+row\tabc\t\u{1f1e9}\u{1f1ea}!
+=
++-----+-----+
+| \u{26a0}\u{fe0f}  | \u{1f469}\u{1f3fb}\u{200d}\u{1f52c}  |
++-----+-----+
+| abc | \u{1f1e9}\u{1f1ea}! |
++-----+-----+
 
 row\t\u{1b}[31mred\t\\t\u{0}\r\u{7f}
 row\t\u{1f}\u{80}\u{9f}\u{a0}\t漢
@@ -48,11 +57,25 @@ row\tA title above
 row\t1\t2
 span\t0\t0\t1\t2
 =
-+---+-----------+
++-------+-------+
 | A title above |
-+---+-----------+
-| 1 | 2         |
-+---+-----------+
++-------+-------+
+| 1     | 2     |
++-------+-------+
+
+row\tseventeen letters
+row\t9 letters\t\tx
+row\t1\t2\t3
+span\t0\t0\t1\t3
+span\t1\t0\t1\t2
+=
++-------+------+----+
+| seventeen letters |
++-------+------+----+
+| 9 letters    | x  |
++-------+------+----+
+| 1     | 2    | 3  |
++-------+------+----+
 
 row\t漢字漢字\t\tx
 row\ty\tabcdefgh
@@ -60,13 +83,13 @@ row\t1\t2\t3
 span\t0\t0\t1\t2
 span\t1\t1\t1\t2
 =
-+---+------+---+
-| 漢字漢字 | x |
-+---+------+---+
-| y | abcdefgh |
-+---+------+---+
-| 1 | 2    | 3 |
-+---+------+---+
++-----+-----+----+
+| 漢字漢字  | x  |
++-----+-----+----+
+| y   | abcdefgh |
++-----+-----+----+
+| 1   | 2   | 3  |
++-----+-----+----+
 
 row\ta\\nb\\nc\\nd\\ne\t1
 row\t\t2
@@ -74,9 +97,9 @@ span\t0\t0\t2\t1
 =
 +---+---+
 | a | 1 |
-+ b +---+
-| c | 2 |
-| d |   |
+| b |   |
++ c +---+
+| d | 2 |
 | e |   |
 +---+---+
 
@@ -93,12 +116,29 @@ span\t0\t0\t2\t2
 | 1 | 2 | 3 |
 +---+---+---+
 
+row\t0\t1\t2
+row\t1\t2\t3
+row\t4\t5\t6
+rspan\t100\tcell\t0\t0
+rspan\t2\tcell\t1\t1
+rspan\t-1\tcell\t2\t2
+=
++---+---+---+
+| 0 | 1 | 2 |
++   +---+---+
+|   | 2 | 6 |
++   +   +   +
+|   |   |   |
++---+---+---+
+
 row\ta\tb
 row\tc\td
 span\t0\t0\t2\t2
 =
 +--+--+
-+ a   +
+| a   |
++     +
+|     |
 +--+--+
 
 row\tx

@@ -5,20 +5,29 @@ use super::originals::ORIGINALS;
 use super::rearranged::{REARRANGED, TABLE};
 use std::alloc::{AllocError, Global};
 use std::test::Fail;
-use tabled_draw::picture;
+use tabled_draw::{Look, picture_with};
 use tabled_language::{Script, padded, parse};
 use tabled_steps::run;
 
 /// The picture of the table that a script makes, and none of a faulty script.
 pub(crate) fn drawn(alloc: Global, script: &str) -> Result<Option<String>, AllocError> {
+    drawn_in(alloc, script, &Look::default())
+}
+
+/// The same in a look.
+pub(crate) fn drawn_in(
+    alloc: Global,
+    script: &str,
+    look: &Look<'_>,
+) -> Result<Option<String>, AllocError> {
     match parse(alloc, script.as_bytes())? {
-        Ok(script) => Ok(Some(drawn_after(alloc, script)?)),
+        Ok(script) => Ok(Some(drawn_after(alloc, script, look)?)),
         Err(_) => Ok(None),
     }
 }
 
 /// The picture of a script's table after its steps.
-fn drawn_after(alloc: Global, script: Script) -> Result<String, AllocError> {
+fn drawn_after(alloc: Global, script: Script, look: &Look<'_>) -> Result<String, AllocError> {
     let Script {
         records,
         mut spans,
@@ -26,7 +35,7 @@ fn drawn_after(alloc: Global, script: Script) -> Result<String, AllocError> {
     } = script;
     let mut records = padded(records)?;
     match run(alloc, &mut records, &mut spans, steps) {
-        Ok(()) => picture(alloc, &records, &spans),
+        Ok(()) => picture_with(alloc, &records, &spans, look),
         Err((_, error)) => Err(error),
     }
 }

@@ -1,5 +1,6 @@
 //! Tests of scripts, by public calls alone.
 
 mod answers;
+mod arguments;
 mod faults;
 mod gallery;

@@ -7,7 +7,8 @@ use tabled_grid::config::{Position, SpannedConfig};
 use tabled_grid::records::{Text, VecRecords};
 use tabled_options::{Modify, Settings, TextRef};
 use tabled_select::location::Locator;
-use tabled_select::object::Rows;
+use tabled_select::object::{Columns, Rows};
+use tabled_settings::duplicate::Dup;
 use tabled_settings::format::Format;
 use tabled_settings::formatting::Charset;
 use tabled_testing::is_word;
@@ -38,6 +39,8 @@ fn copies_write_where_the_first_ones_do(rt: HostRuntime) -> Result<(), Fail> {
     assert!(rt; makes_flat(alloc, "a b / c a /", copy, "x b / c x /"));
     let first = content.with(TextRef("x"));
     assert!(rt; makes_flat(alloc, "a b / c a /", first, "x b / c x /"));
+    let listed = Locator::content(String::from_str(alloc, "a")?);
+    assert!(rt; makes_flat(alloc, "a a /", Modify::list(listed, TextRef("b")), "b b /"));
     let column = Modify::new(Locator::column(String::from_str(alloc, "a")?));
     let copy = column.clone()?.with(TextRef("x"));
     assert!(rt; makes_flat(alloc, "a b / c a /", copy, "x b / x a /"));
@@ -111,6 +114,8 @@ fn each_writer_writes_some_cells_alone(rt: HostRuntime) {
     assert!(rt; makes_flat(alloc, old, lines, new));
     let positioned = Modify::list(Rows::first(), Format::positioned(exclaimed_at));
     assert!(rt; makes_flat(alloc, old, positioned, new));
+    let duplicate = Dup::new(Columns::last(), Rows::first());
+    assert!(rt; makes_flat(alloc, "1 2 3 / 4 5 6 /", duplicate, "1 2 1 / 4 5 2 /"));
 }
 
 #[test]

@@ -6,7 +6,7 @@ use super::tables::{makes_flat, makes_nested, makes_refusing};
 use std::alloc::{AllocError, Global};
 use tabled_grid::records::GridStore;
 use tabled_select::location::Location;
-use tabled_select::object::Columns;
+use tabled_select::object::{Column, Columns};
 use tabled_settings::disable::Remove;
 use tabled_settings::extract::Extract;
 
@@ -24,7 +24,7 @@ fn ranges_to_the_end_are_kept(rt: HostRuntime) {
 }
 
 #[test]
-fn the_last_column_is_removed(rt: HostRuntime) {
+fn one_column_is_removed(rt: HostRuntime) {
     for &(old, new) in &[
         ("", ""),
         ("/ /", "/ /"),
@@ -37,6 +37,8 @@ fn the_last_column_is_removed(rt: HostRuntime) {
         let last = Remove::column(Columns::last());
         assert!(rt; makes_refusing(rt.alloc(), (1, 1), old, last, new), "{old}");
     }
+    let second = Remove::column(Column::from(1));
+    assert!(rt; makes_flat(rt.alloc(), "a b c / d e f /", second, "a c / d f /"));
 }
 
 /// Indexes that are told, whatever the table.

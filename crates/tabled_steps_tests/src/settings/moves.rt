@@ -7,6 +7,7 @@ use tabled_grid::config::Offset::{End, Start};
 use tabled_grid::config::SpannedConfig;
 use tabled_grid::records::VecRecords;
 use tabled_options::TableOption;
+use tabled_settings::extract::Extract;
 use tabled_settings::reverse::Reverse;
 use tabled_settings::rotate::Rotate;
 use tabled_settings::split::Split;
@@ -28,6 +29,11 @@ fn rows_and_columns_are_moved(rt: HostRuntime) {
     ] {
         assert!(rt; makes_flat(alloc, old, split, new));
     }
+    // Each three rows are joined and cut at five.
+    let wide = "a b c d e / f g h i j /";
+    let pieces = Split::column(2).zip().retain();
+    let joined = (Split::row(1).concat().retain(), Split::column(6).retain());
+    assert!(rt; makes_flat(alloc, wide, (pieces, joined, Extract::columns(..5)), wide));
 }
 
 /// The numbers from 0 to 8 in three rows, after a reversal.
@@ -48,6 +54,10 @@ fn numbers_are_reversed(rt: HostRuntime) -> Result<(), Fail> {
     for &(reverse, numbers) in &[
         (Reverse::rows(0), [6, 7, 8, 3, 4, 5, 0, 1, 2]),
         (Reverse::columns(0), [2, 1, 0, 5, 4, 3, 8, 7, 6]),
+        (
+            Reverse::columns(0).limit(End(1)),
+            [1, 0, 2, 4, 3, 5, 7, 6, 8],
+        ),
     ] {
         let made = reversed(alloc, reverse)?.into_iter().flatten();
         assert!(rt; made.collect::<Vec<_>>(alloc)?.as_slice() == numbers.as_slice());

@@ -166,8 +166,13 @@ fn writes_of_the_least_span_are_refused_in_turn(rt: HostRuntime) {
 }
 
 #[test]
-fn a_text_of_the_greatest_width_stays(rt: HostRuntime) -> Result<(), Fail> {
+fn panels_have_their_texts(rt: HostRuntime) -> Result<(), Fail> {
     let alloc = rt.alloc();
+    let footer = Panel::footer(String::from_str(alloc, "end")?);
+    assert!(rt; makes_flat(alloc, "a b /", footer, "a b / end _ / 1.0:1x2"));
+    let row = Panel::horizontal(1, String::from_str(alloc, "mid")?);
+    assert!(rt; makes_flat(alloc, "a b / c d /", row, "a b / mid _ / c d / 1.0:1x2"));
+    // The greatest width cuts no text.
     let text = String::from_str(alloc, "123456789")?;
     let panel = Panel::vertical(0, text).width(alloc, usize::MAX)?;
     assert!(rt; makes_flat(alloc, "a /", panel, "123456789 a /"));

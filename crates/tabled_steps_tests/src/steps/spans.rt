@@ -44,6 +44,7 @@ fn spans_go_over_visible_cells(rt: HostRuntime) {
 const OVER_ALL: &[&str] = &[
     "a b c / | cspan -1 row 0 | b c _ / 0.0:1x2",
     "a b c / | cspan 0 row 0 | _ _ _ / 0.0:1x3",
+    "a b c / | cspan -0 cell 0 1 | b _ _ / 0.0:1x3",
     "a / b / c / | rspan -1 column 0 | b / c / _ / 0.0:2x1",
     "a / b / c / | rspan 0 cell 1 0 | set !0 | set b / b / c / !0 | set b / _ / c / !0 | b / _ / _ / 0.0:3x1",
     "0 1 2 / 1 2 3 / 4 5 6 / | cspan 100 cell 0 0; cspan 2 cell 1 1; cspan -1 cell 2 1 | 0 1 2 / 1 2 3 / 5 _ 6 / 0.0:1x3 1.1:1x2 2.0:1x2",

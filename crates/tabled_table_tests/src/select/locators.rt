@@ -3,57 +3,29 @@
 use super::named::words;
 use std::alloc::{AllocError, Global};
 use std::cell::Cell;
-use tabled_grid::config::{Entity, Position};
-use tabled_grid::records::{ExactRecords, Records, RecordsMut, Resizable, Text, VecRecords};
+use tabled_grid::config::Position;
 use tabled_rows::records::EmptyRecords;
 use tabled_select::location::{Location, Locator, coordinates, marks};
 use tabled_select::object::{Columns, Object, Rows, Segment, entities};
-
-type Store = VecRecords<Text<String>>;
-
-/// Writes a text to a cell, if the table reaches so far.
-fn write(alloc: Global, store: &mut Store, pos: Position, text: &str) -> Result<(), AllocError> {
-    if pos.row < store.count_rows() && pos.col < store.count_columns() {
-        store.set(alloc, pos, String::from_str(alloc, text)?)?;
-    }
-    Ok(())
-}
-
-/// A table of a shape, with these words row by row.
-fn table(alloc: Global, shape: (usize, usize), texts: &str) -> Result<Store, AllocError> {
-    let (rows, columns) = shape;
-    let mut store = VecRecords::new(alloc, Vec::new(alloc))?;
-    store.push_rows(alloc, rows)?;
-    store.push_columns(alloc, columns)?;
-    let mut texts = texts.split_whitespace();
-    for pos in Entity::Global.iter(rows, columns) {
-        write(alloc, &mut store, pos, texts.next().unwrap_or(""))?;
-    }
-    Ok(store)
-}
+use tabled_testing::{Flat, flat};
 
 /// The words of the entities that an object names in a table of texts.
-fn named_in<O>(
-    alloc: Global,
-    object: O,
-    shape: (usize, usize),
-    texts: &str,
-) -> Result<String, AllocError>
+fn named_in<O>(alloc: Global, object: O, table: &str) -> Result<String, AllocError>
 where
-    O: Object<Store> + Drop,
+    O: Object<Flat> + Drop,
     requires { O.can_list object }
 {
-    let table = table(alloc, shape, texts)?;
+    let table = flat(alloc, table)?;
     words(alloc, entities(alloc, &object, &table)?)
 }
 
 /// Whether these are the words of the entities that an object names in a table of texts.
-fn finds<O>(alloc: Global, object: O, shape: (usize, usize), texts: &str, want: &str) -> bool
+fn finds<O>(alloc: Global, object: O, table: &str, want: &str) -> bool
 where
-    O: Object<Store> + Drop,
+    O: Object<Flat> + Drop,
     requires { O.can_list object }
 {
-    match named_in(alloc, object, shape, texts) {
+    match named_in(alloc, object, table) {
         Ok(words) => words.as_str() == want,
         Err(_) => false,
     }
@@ -68,59 +40,56 @@ fn one(alloc: Global) -> String {
 }
 
 /// Tables, with the columns that have a first `1`, and the cells that are `1`.
-const ONES: &[((usize, usize), &str, &str, &str)] = &[
-    ((3, 3), "1 2 3 1 2 3 1 2 3", "c0", "0:0 1:0 2:0"),
-    ((3, 3), "1 2 3 1 1 3 1 2 1", "c0", "0:0 1:0 1:1 2:0 2:2"),
+const ONES: &[(&str, &str, &str)] = &[
+    ("1 2 3 / 1 2 3 / 1 2 3 /", "c0", "0:0 1:0 2:0"),
+    ("1 2 3 / 1 1 3 / 1 2 1 /", "c0", "0:0 1:0 1:1 2:0 2:2"),
     (
-        (3, 3),
-        "1 1 3 1 1 3 1 1 1",
+        "1 1 3 / 1 1 3 / 1 1 1 /",
         "c0 c1",
         "0:0 0:1 1:0 1:1 2:0 2:1 2:2",
     ),
     (
-        (3, 3),
-        "1 1 1 1 1 3 1 1 1",
+        "1 1 1 / 1 1 3 / 1 1 1 /",
         "c0 c1 c2",
         "0:0 0:1 0:2 1:0 1:1 2:0 2:1 2:2",
     ),
     (
-        (3, 3),
-        "0 1 1 1 1 3 1 1 1",
+        "0 1 1 / 1 1 3 / 1 1 1 /",
         "c1 c2",
         "0:1 0:2 1:0 1:1 2:0 2:1 2:2",
     ),
-    ((3, 3), "0 0 0 1 1 3 1 1 1", "", "1:0 1:1 2:0 2:1 2:2"),
-    ((1, 3), "11 01 10", "", ""),
-    ((0, 0), "", "", ""),
-    ((3, 0), "", "", ""),
+    ("0 0 0 / 1 1 3 / 1 1 1 /", "", "1:0 1:1 2:0 2:1 2:2"),
+    ("11 01 10 /", "", ""),
+    ("", "", ""),
+    ("/ / /", "", ""),
 ];
 
 #[test]
 fn finds_texts(rt: HostRuntime) {
     let alloc = rt.alloc();
-    for &(shape, texts, columns, cells) in ONES {
-        assert!(rt; finds(alloc, Locator::column(one(alloc)), shape, texts, columns));
-        assert!(rt; finds(alloc, Locator::content(one(alloc)), shape, texts, cells));
+    for &(table, columns, cells) in ONES {
+        assert!(rt; finds(alloc, Locator::column(one(alloc)), table, columns));
+        assert!(rt; finds(alloc, Locator::content(one(alloc)), table, cells));
         let by = Locator::by(|text| text == "1");
-        assert!(rt; finds(alloc, by, shape, texts, cells));
+        assert!(rt; finds(alloc, by, table, cells));
     }
 }
 
 #[test]
 fn holds_one_place(rt: HostRuntime) {
     let alloc = rt.alloc();
-    for &(shape, texts, longest, first, last) in &[
-        ((4, 1), "a ccc bb ddd", "1:0", "0:0", "3:0"),
-        ((2, 2), "a b c d", "0:0", "0:0", "1:1"),
-        ((1, 3), "a bb ccc", "0:2", "0:0", "0:2"),
-        ((3, 0), "", "", "", ""),
+    for &(table, longest, first, last) in &[
+        ("a / ccc / bb / ddd /", "1:0", "0:0", "3:0"),
+        ("a b / c d /", "0:0", "0:0", "1:1"),
+        ("a bb ccc /", "0:2", "0:0", "0:2"),
+        ("/ / /", "", "", ""),
     ] {
         let longer = Locator::value(Segment::all(), |text, held| text.len() > held.len());
-        assert!(rt; finds(alloc, longer, shape, texts, longest));
+        assert!(rt; finds(alloc, longer, table, longest));
         let never = Locator::value(Segment::all(), |_, _| false);
-        assert!(rt; finds(alloc, never, shape, texts, first));
+        assert!(rt; finds(alloc, never, table, first));
         let always = Locator::value(Segment::all(), |_, _| true);
-        assert!(rt; finds(alloc, always, shape, texts, last));
+        assert!(rt; finds(alloc, always, table, last));
     }
 }
 
@@ -133,54 +102,50 @@ fn is_odd(asked: &Cell<u8>) -> bool {
 #[test]
 fn asks_for_each_text_once(rt: HostRuntime) {
     let alloc = rt.alloc();
-    let texts = "a b c d e f";
+    let table = "a b c / d e f /";
     let asked = Cell::new(0);
     let odd = Locator::by(|_| is_odd(&asked));
-    assert!(rt; finds(alloc, odd, (2, 3), texts, "0:0 0:2 1:1"));
+    assert!(rt; finds(alloc, odd, table, "0:0 0:2 1:1"));
     assert!(rt; asked.get() == 6);
     let asked = Cell::new(0);
     let odd = Locator::value(Segment::all(), |_, _| is_odd(&asked));
-    assert!(rt; finds(alloc, odd, (2, 3), texts, "1:2"));
+    assert!(rt; finds(alloc, odd, table, "1:2"));
     assert!(rt; asked.get() == 5);
 }
 
 #[test]
 fn always_and_never_says_yes(rt: HostRuntime) {
     let alloc = rt.alloc();
-    for &(shape, texts, all) in &[
-        ((2, 2), "é \u{20AC} \u{1F633} d", "0:0 0:1 1:0 1:1"),
-        ((0, 3), "", ""),
-        ((3, 0), "", ""),
+    for &(table, all) in &[
+        ("é \u{20AC} / \u{1F633} d /", "0:0 0:1 1:0 1:1"),
+        ("", ""),
+        ("/ / /", ""),
     ] {
-        assert!(rt; finds(alloc, Locator::by(|_| true), shape, texts, all));
-        assert!(rt; finds(alloc, Locator::by(|_| false), shape, texts, ""));
+        assert!(rt; finds(alloc, Locator::by(|_| true), table, all));
+        assert!(rt; finds(alloc, Locator::by(|_| false), table, ""));
     }
 }
 
-/// What a location finds in a table of a shape, whose every text is `1`.
-fn located<L>(
-    alloc: Global,
-    mut location: L,
-    shape: (usize, usize),
-) -> Result<Vec<L::Coordinate>, AllocError>
+/// What a location finds in a table.
+fn located<L>(alloc: Global, mut location: L, table: &str) -> Result<Vec<L::Coordinate>, AllocError>
 where
-    L: Location<Store> + Drop,
+    L: Location<Flat> + Drop,
     L::Coordinate: Drop,
     <L::IntoIter as IntoIterator>::IntoIter: Drop,
     requires { L.can_locate location }
 {
-    let table = table(alloc, shape, "1 1 1 1 1 1")?;
+    let table = flat(alloc, table)?;
     coordinates(alloc, &mut location, &table)
 }
 
-/// Whether a location finds these rows or columns in a table of a shape.
-fn locates<L>(alloc: Global, location: L, shape: (usize, usize), want: &[usize]) -> bool
+/// Whether a location finds these rows or columns in a table.
+fn locates<L>(alloc: Global, location: L, table: &str, want: &[usize]) -> bool
 where
-    L: Location<Store, Coordinate = usize> + Drop,
+    L: Location<Flat, Coordinate = usize> + Drop,
     <L::IntoIter as IntoIterator>::IntoIter: Drop,
     requires { L.can_locate location }
 {
-    match located(alloc, location, shape) {
+    match located(alloc, location, table) {
         Ok(found) => found.as_slice() == want,
         Err(_) => false,
     }
@@ -189,20 +154,20 @@ where
 #[test]
 fn locates_rows_and_columns(rt: HostRuntime) {
     let alloc = rt.alloc();
-    let cases: &[((usize, usize), &[usize], usize)] = &[
-        ((2, 2), &[1], 1),
-        ((3, 3), &[1, 2], 2),
-        ((0, 0), &[], 0),
+    let cases: &[(&str, &[usize], usize)] = &[
+        ("1 1 / 1 1 /", &[1], 1),
+        ("1 1 1 / 1 1 1 / 1 1 1 /", &[1, 2], 2),
+        ("", &[], 0),
     ];
-    for &(shape, behind, last) in cases {
-        assert!(rt; locates(alloc, Rows::new(1..), shape, behind));
-        assert!(rt; locates(alloc, Columns::new(1..), shape, behind));
-        assert!(rt; locates(alloc, Rows::first(), shape, &[0]));
-        assert!(rt; locates(alloc, Columns::first(), shape, &[0]));
-        assert!(rt; locates(alloc, Rows::last(), shape, &[last]));
-        assert!(rt; locates(alloc, Columns::last(), shape, &[last]));
-        assert!(rt; locates(alloc, Rows::one(7), shape, &[7]));
-        assert!(rt; locates(alloc, Columns::one(7), shape, &[7]));
+    for &(table, behind, last) in cases {
+        assert!(rt; locates(alloc, Rows::new(1..), table, behind));
+        assert!(rt; locates(alloc, Columns::new(1..), table, behind));
+        assert!(rt; locates(alloc, Rows::first(), table, &[0]));
+        assert!(rt; locates(alloc, Columns::first(), table, &[0]));
+        assert!(rt; locates(alloc, Rows::last(), table, &[last]));
+        assert!(rt; locates(alloc, Columns::last(), table, &[last]));
+        assert!(rt; locates(alloc, Rows::one(7), table, &[7]));
+        assert!(rt; locates(alloc, Columns::one(7), table, &[7]));
     }
 }
 
@@ -239,14 +204,14 @@ fn marks_rows_and_columns_of_any_range(rt: HostRuntime) {
     assert!(rt; marked(alloc, Columns::one(usize::MAX), 2, &[false, false]));
 }
 
-/// Whether a location finds these places in a table of a shape.
-fn locates_places<L>(alloc: Global, location: L, shape: (usize, usize), want: &[Position]) -> bool
+/// Whether a location finds these places in a table.
+fn locates_places<L>(alloc: Global, location: L, table: &str, want: &[Position]) -> bool
 where
-    L: Location<Store, Coordinate = Position> + Drop,
+    L: Location<Flat, Coordinate = Position> + Drop,
     <L::IntoIter as IntoIterator>::IntoIter: Drop,
     requires { L.can_locate location }
 {
-    match located(alloc, location, shape) {
+    match located(alloc, location, table) {
         Ok(found) => found.as_slice() == want,
         Err(_) => false,
     }
@@ -256,14 +221,14 @@ where
 fn locates_texts(rt: HostRuntime) {
     let alloc = rt.alloc();
     let (first, second) = (Position::new(0, 0), Position::new(0, 1));
-    let cases: &[((usize, usize), &[usize], &[Position])] = &[
-        ((1, 2), &[0, 1], &[first, second]),
-        ((1, 1), &[0], &[first]),
-        ((3, 0), &[], &[]),
+    let cases: &[(&str, &[usize], &[Position])] = &[
+        ("1 1 /", &[0, 1], &[first, second]),
+        ("1 /", &[0], &[first]),
+        ("/ / /", &[], &[]),
     ];
-    for &(shape, columns, places) in cases {
-        assert!(rt; locates(alloc, Locator::column(one(alloc)), shape, columns));
-        assert!(rt; locates_places(alloc, Locator::content(one(alloc)), shape, places));
-        assert!(rt; locates_places(alloc, Locator::by(|_| true), shape, places));
+    for &(table, columns, places) in cases {
+        assert!(rt; locates(alloc, Locator::column(one(alloc)), table, columns));
+        assert!(rt; locates_places(alloc, Locator::content(one(alloc)), table, places));
+        assert!(rt; locates_places(alloc, Locator::by(|_| true), table, places));
     }
 }

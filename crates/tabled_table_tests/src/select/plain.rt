@@ -22,6 +22,10 @@ fn names_ranges(rt: HostRuntime) {
     for &(from, to, shape, rows, columns) in &[
         (Unbounded, Unbounded, (2, 3), "r0 r1", "c0 c1 c2"),
         (Unbounded, Unbounded, (2, 0), "r0 r1", ""),
+        (Unbounded, Unbounded, (0, 0), "", ""),
+        (Unbounded, Unbounded, (0, 3), "", ""),
+        (Included(2), Unbounded, (0, 0), "", ""),
+        (Included(3), Unbounded, (0, 0), "", ""),
         (Included(1), Unbounded, (2, 3), "r1", "c1 c2"),
         (Included(2), Unbounded, (2, 3), "", "c2"),
         (Included(2), Excluded(3), (2, 3), "r2", "c2"),
@@ -89,6 +93,7 @@ fn names_columns_from_either_end(rt: HostRuntime) {
         (0, (5, 29), "c0", "c28", "c28"),
         (1, (0, 0), "c1", "", ""),
         (1, (2, 0), "c1", "", ""),
+        (1, (5, 0), "c1", "", ""),
         (1, (0, 5), "c1", "", ""),
     ] {
         assert!(rt; names(alloc, Columns::first() + n, shape, after_first));
@@ -124,6 +129,7 @@ fn names_the_frame(rt: HostRuntime) {
         ((3, 3), "0:0 0:1 0:2 1:0 1:2 2:0 2:1 2:2"),
         ((0, 0), ""),
         ((2, 0), ""),
+        ((0, 2), ""),
         ((1, 1), "0:0"),
         ((1, 3), "0:0 0:1 0:2"),
         ((3, 1), "0:0 1:0 2:0"),

@@ -1,11 +1,9 @@
 //! Builders, call by call.
 
-use super::call::{Call, builder, holds, texts};
+use super::call::{Call, builder, builds, holds, texts};
 use std::alloc::{AllocError, Global};
 use std::test::Fail;
-use tabled_grid::config::Position;
 use tabled_grid::records::Text;
-use tabled_table::Table;
 use tabled_table::builder::Builder;
 
 /// Records padded with `-`.
@@ -44,31 +42,31 @@ fn inserts_texts(rt: HostRuntime) {
     let alloc = rt.alloc();
     let two = ["a b", "c _"];
     for &(call, words, columns, want) in &[
-        (Call::PushRecord, "x", 2, "a b /c _ /x - /"),
-        (Call::ExtendRecord, "x y z", 3, "a b - /c _ - /x y z /"),
-        (Call::InsertRecord(0), "x", 2, "x - /a b /c _ /"),
-        (Call::InsertRecord(1), "x y z", 3, "a b - /x y z /c _ - /"),
-        (Call::InsertRecord(2), "", 2, "a b /c _ /- - /"),
-        (Call::PushColumn, "x y z", 3, "a b x /c _ y /- - z /"),
-        (Call::PushColumn, "x", 3, "a b x /c _ - /"),
-        (Call::InsertColumn(0), "x", 3, "x a b /- c _ /"),
-        (Call::InsertColumn(1), "x y z", 3, "a x b /c y _ /"),
-        (Call::InsertColumn(2), "", 3, "a b - /c _ - /"),
+        (Call::PushRecord, "x", 2, "a b / c _ / x - /"),
+        (Call::ExtendRecord, "x y z", 3, "a b - / c _ - / x y z /"),
+        (Call::InsertRecord(0), "x", 2, "x - / a b / c _ /"),
+        (Call::InsertRecord(1), "x y z", 3, "a b - / x y z / c _ - /"),
+        (Call::InsertRecord(2), "", 2, "a b / c _ / - - /"),
+        (Call::PushColumn, "x y z", 3, "a b x / c _ y / - - z /"),
+        (Call::PushColumn, "x", 3, "a b x / c _ - /"),
+        (Call::InsertColumn(0), "x", 3, "x a b / - c _ /"),
+        (Call::InsertColumn(1), "x y z", 3, "a x b / c y _ /"),
+        (Call::InsertColumn(2), "", 3, "a b - / c _ - /"),
     ] {
         assert!(rt; holds(alloc, after(alloc, (&two, "-"), call, words), columns, want));
     }
     for &(call, words, columns, want) in &[
         (Call::PushRecord, "x y", 2, "x y /"),
-        (Call::PushColumn, "x y", 1, "x /y /"),
+        (Call::PushColumn, "x y", 1, "x / y /"),
         (Call::PushColumn, "", 1, ""),
         (Call::InsertColumn(0), "x y", 1, ""),
     ] {
         assert!(rt; holds(alloc, after(alloc, (&[], "-"), call, words), columns, want));
     }
     for &(call, words, want) in &[
-        (Call::PushColumn, "x y z", "a x /b y /_ z /"),
-        (Call::InsertColumn(0), "p", "p a /_ b /"),
-        (Call::InsertColumn(0), "p q r", "p a /q b /"),
+        (Call::PushColumn, "x y z", "a x / b y / _ z /"),
+        (Call::InsertColumn(0), "p", "p a / _ b /"),
+        (Call::InsertColumn(0), "p q r", "p a / q b /"),
     ] {
         assert!(rt; holds(alloc, after(alloc, (&["a", "b"], ""), call, words), 2, want));
     }
@@ -77,7 +75,7 @@ fn inserts_texts(rt: HostRuntime) {
             alloc,
             padded_twice(alloc),
             3,
-            "_ _ _ /a b - /c - - /d e f /"
+            "_ _ _ / a b - / c - - / d e f /"
         )
     );
 }
@@ -113,7 +111,7 @@ fn cleans(rt: HostRuntime) {
     for &(records, columns, want) in &[
         (["_ a", "_ _"], 1, "a /"),
         (["a _ b", "_ _ _"], 2, "a b /"),
-        (["a _", "_ b"], 2, "a _ /_ b /"),
+        (["a _", "_ b"], 2, "a _ / _ b /"),
         (["a -", "_ _"], 2, "a - /"),
         (["_ _", "_ _"], 0, ""),
     ] {
@@ -169,54 +167,26 @@ fn makes_builders(rt: HostRuntime) {
     let alloc = rt.alloc();
     assert!(rt; holds(alloc, cut(alloc), 2, "d f /"));
     assert!(rt; holds(alloc, cleared(alloc), 0, ""));
-    assert!(rt; holds(alloc, of_strings(alloc), 2, "a b /c _ /_ _ /"));
-    assert!(rt; holds(alloc, of_rows(alloc), 2, "a b /c _ /_ _ /"));
-    assert!(rt; holds(alloc, of_cells(alloc), 1, "a /_ /"));
+    assert!(rt; holds(alloc, of_strings(alloc), 2, "a b / c _ / _ _ /"));
+    assert!(rt; holds(alloc, of_rows(alloc), 2, "a b / c _ / _ _ /"));
+    assert!(rt; holds(alloc, of_cells(alloc), 1, "a / _ /"));
     assert!(rt; holds(alloc, Ok(Builder::from_vec(alloc, Vec::new(alloc))), 0, ""));
-}
-
-/// Whether a table holds a text at a place, and no span there.
-fn shows(table: &Table, pos: Position, text: &str) -> bool {
-    let inside = pos.row < table.count_rows() && pos.col < table.count_columns();
-    let spans = table.get_config();
-    inside
-        && table.get_records().get(pos).as_str() == text
-        && spans.get_column_span(pos).is_none()
-        && spans.get_row_span(pos).is_none()
-}
-
-/// Whether a builder makes a table of these rows, without spans.
-fn builds(alloc: Global, builder: Builder, rows: &[[&str; 3]]) -> Result<bool, AllocError> {
-    let table = builder.build(alloc)?;
-    let mut same = table.shape() == (rows.len(), 3);
-    for (row, texts) in rows.iter().enumerate() {
-        for (col, text) in texts.iter().enumerate() {
-            same = same && shows(&table, Position::new(row, col), *text);
-        }
-    }
-    Ok(same)
-}
-
-/// A builder of these records.
-fn of_records(alloc: Global, records: &[[&str; 3]]) -> Result<Builder, AllocError> {
-    let mut builder = Builder::new(alloc);
-    for record in records {
-        let mut texts = Vec::new(alloc);
-        for text in record {
-            texts.push(String::from_str(alloc, *text)?)?;
-        }
-        builder.push_record(alloc, texts)?;
-    }
-    Ok(builder)
 }
 
 #[test]
 fn builds_tables(rt: HostRuntime) -> Result<(), Fail> {
     let alloc = rt.alloc();
-    let languages = [["C", "Dennis Ritchie", "1972"], ["Go", "Rob Pike", "2009"]];
-    assert!(rt; builds(alloc, of_records(alloc, &languages)?, &languages)?);
-    let filled = [["a", "b", "-"], ["c", "-", "-"], ["d", "e", "f"]];
-    assert!(rt; builds(alloc, padded(alloc)?, &filled)?);
+    let languages = builder(alloc, &["C Dennis_Ritchie 1972", "Go Rob_Pike 2009"])?;
+    let rows = "C Dennis_Ritchie 1972 / Go Rob_Pike 2009 /";
+    assert!(rt; builds(alloc, languages.build(alloc), 3, rows));
+    assert!(rt;
+        builds(
+            alloc,
+            padded(alloc)?.build(alloc),
+            3,
+            "a b - / c - - / d e f /"
+        )
+    );
     let declared = Builder::with_capacity(alloc, 2, 3)?;
     assert_eq!(rt; declared.build(alloc)?.shape(), (0, 0));
     Ok(())

@@ -1,7 +1,9 @@
 //! Calls that builders are made by, and what a builder holds, as words.
 
 use std::alloc::{AllocError, Global};
+use tabled_table::Table;
 use tabled_table::builder::Builder;
+use tabled_testing::{is_word, push_word, spelled_merged};
 
 /// Texts written as words, where `_` is an empty one.
 pub(crate) fn texts(alloc: Global, words: &str) -> Result<Vec<String>, AllocError> {
@@ -51,17 +53,19 @@ impl Call {
     }
 }
 
-/// The records of a builder, each as words and a slash.
+/// Spells the records of a builder.
 pub(crate) fn spelled(alloc: Global, builder: Builder) -> Result<String, AllocError> {
-    let mut spelled = String::new(alloc);
+    let mut words = String::new(alloc);
     for row in &builder.into_strings(alloc)? {
         for text in row {
-            spelled.push_str(if text.is_empty() { "_" } else { text.as_str() })?;
-            spelled.push(' ')?;
+            push_word(
+                &mut words,
+                if text.is_empty() { "_" } else { text.as_str() },
+            )?;
         }
-        spelled.push('/')?;
+        push_word(&mut words, "/")?;
     }
-    Ok(spelled)
+    Ok(words)
 }
 
 /// Whether a builder was made, declares n columns, and holds these records.
@@ -74,9 +78,19 @@ pub(crate) fn holds(
     let Ok(builder) = made else {
         return false;
     };
-    let same_width = builder.count_columns() == columns;
-    match spelled(alloc, builder) {
-        Ok(spelled) => same_width && spelled.as_str() == want,
-        Err(_) => false,
-    }
+    builder.count_columns() == columns && is_word(spelled(alloc, builder), want)
+}
+
+/// Whether a table was made, has n columns, and is spelled so, with nothing merged.
+pub(crate) fn builds(
+    alloc: Global,
+    made: Result<Table, AllocError>,
+    columns: usize,
+    want: &str,
+) -> bool {
+    let Ok(table) = made else {
+        return false;
+    };
+    let words = spelled_merged(alloc, table.get_records(), table.get_config());
+    table.count_columns() == columns && is_word(words, want)
 }

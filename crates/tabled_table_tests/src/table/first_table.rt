@@ -1,5 +1,6 @@
 //! A table of languages, made and changed.
 
+use super::call::texts;
 use std::alloc::{AllocError, Global};
 use std::collections::BTreeMap;
 use std::test::Fail;
@@ -11,20 +12,12 @@ use tabled_table::{Table, TextRef};
 fn languages(alloc: Global) -> Result<Table, AllocError> {
     let mut builder = Builder::new(alloc);
     for record in ["Name Designer Year", "C Ritchie 1972", "Go Pike"] {
-        builder.push_record(alloc, words(alloc, record)?)?;
+        builder.push_record(alloc, texts(alloc, record)?)?;
     }
     let mut table = builder.build(alloc)?;
     let corner = Rows::last().intersect(Columns::last());
     table.modify(alloc, corner, TextRef("2009"))?;
     Ok(table)
-}
-
-fn words(alloc: Global, text: &str) -> Result<Vec<String>, AllocError> {
-    let mut words = Vec::new(alloc);
-    for word in text.split_whitespace() {
-        words.push(String::from_str(alloc, word)?)?;
-    }
-    Ok(words)
 }
 
 #[test]
@@ -48,7 +41,7 @@ fn prices(alloc: Global) -> Result<Vec<Vec<String>>, AllocError> {
         prices.insert(name, price)?;
     }
     let mut builder = Builder::from_btree_map(alloc, prices)?;
-    builder.insert_record(alloc, 0, words(alloc, "fruit price")?)?;
+    builder.insert_record(alloc, 0, texts(alloc, "fruit price")?)?;
     let turned = builder.index(alloc)?.column(alloc, 0)?.transpose(alloc)?;
     turned.into_builder(alloc)?.into_strings(alloc)
 }
@@ -59,8 +52,7 @@ fn turns_a_table_by_its_index(rt: HostRuntime) -> Result<(), Fail> {
     let prices = prices(alloc)?;
     assert_eq!(rt; prices.len(), 2);
     for (row, want) in prices.iter().zip(["fruit apple pear", "price 2 3"]) {
-        let words = words(alloc, want)?;
-        assert_eq!(rt; *row, words);
+        assert_eq!(rt; *row, texts(alloc, want)?);
     }
     Ok(())
 }

@@ -45,9 +45,9 @@ fn of_empty_map(alloc: Global) -> Result<Builder, AllocError> {
 #[test]
 fn lists_maps_and_sets(rt: HostRuntime) {
     let alloc = rt.alloc();
-    assert!(rt; holds(alloc, of_sorted_map(alloc), 2, "9 b /10 a /"));
-    assert!(rt; holds(alloc, of_hashed_map(alloc), 2, "10 a /9 b /"));
-    assert!(rt; holds(alloc, of_sorted_set(alloc), 1, "9 /10 /"));
-    assert!(rt; holds(alloc, of_hashed_set(alloc), 1, "10 /9 /"));
+    assert!(rt; holds(alloc, of_sorted_map(alloc), 2, "9 b / 10 a /"));
+    assert!(rt; holds(alloc, of_hashed_map(alloc), 2, "10 a / 9 b /"));
+    assert!(rt; holds(alloc, of_sorted_set(alloc), 1, "9 / 10 /"));
+    assert!(rt; holds(alloc, of_hashed_set(alloc), 1, "10 / 9 /"));
     assert!(rt; holds(alloc, of_empty_map(alloc), 2, ""));
 }

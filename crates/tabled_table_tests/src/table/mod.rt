@@ -2,6 +2,7 @@
 
 mod builders;
 mod call;
+mod csv;
 mod first_table;
 mod indexes;
 mod maps;

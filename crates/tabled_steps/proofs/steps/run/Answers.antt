@@ -1,7 +1,8 @@
-use Rattle.tabled_steps.proofs.Common.{◌+◌, ◌∙◌, ◌≡◌, IsEven-map_grid, Refused, after_all, ap, arith, false≢true, length, refl, rules, state_of, suc, sym, take}
+use Rattle.tabled_steps.proofs.Common.{◌+◌, ◌∙◌, ◌≡◌, IsEven-map_grid, Refused, ap, arith, false≢true, flattened, length, refl, rules, state_of, suc, sym}
 use Rattle.tabled_steps.proofs.AfterSteps.{after_each}
-use Rattle.tabled_steps.proofs.EvenStates.{undone_midway}
+use Rattle.tabled_steps.proofs.EvenStates.{after_flattened, undone_midway}
 use Rattle.tabled_steps.proofs.Fitting.{steps_keep}
+use Rattle.tabled_steps.proofs.RefusedParts.{undone_before}
 use Rattle.tabled_steps.proofs.StepsUntil.{first_refused, later_refused, none_left}
 use Rattle.tabled_steps.proofs.steps.run.Goals as goal
 
@@ -36,11 +37,8 @@ returns-in-Err-clause-fitting g c = λ all fits. (steps_keep g.R.Cell.Blank.is_b
 
 pub returns-in-Err-clause-glued_before : goal.returns-in-Err-clause-glued_before
 returns-in-Err-clause-glued_before g c =
-    let text_of = g.R.Cell.CellText.text_of in
     let grid = g.R.GridStore.grid in
-    let old = state_of text_of (grid c.args.records.now) c.args.cfg.now in
-    let even = IsEven-map_grid text_of (grid c.args.records.now) (g.R.GridStore.even _ c.requires.well) in
-    λ first rest split are. let done = take c.loop-step.index c.args.steps.items in undone_midway done first rest split old (after_all done old) even are refl
+    undone_before g.R.Cell.Blank.is_blank g.R.Cell.CellText.text_of c.args.steps.items c.loop-step.index (grid c.args.records.now) c.args.cfg.now (grid c.change.new.records) c.change.new.cfg (g.R.GridStore.even _ c.requires.well) (returns-in-Err-clause-err g c)
 
 pub returns-clause-ok : goal.returns-clause-ok
 returns-clause-ok g c =
@@ -57,5 +55,7 @@ pub returns-clause-glued : goal.returns-clause-glued
 returns-clause-glued g c =
     let text_of = g.R.Cell.CellText.text_of in
     let grid = g.R.GridStore.grid in
+    let items = c.args.steps.items in
+    let old = state_of text_of (grid c.args.records.now) c.args.cfg.now in
     let even = IsEven-map_grid text_of (grid c.args.records.now) (g.R.GridStore.even _ c.requires.well) in
-    λ first rest split are. undone_midway c.args.steps.items first rest split (state_of text_of (grid c.args.records.now) c.args.cfg.now) (state_of text_of (grid c.loop-step.records) c.loop-step.cfg) even are (returns-clause-state g c)
+    λ first rest split are. undone_midway (flattened items) first rest split old (state_of text_of (grid c.loop-step.records) c.loop-step.cfg) even are (returns-clause-state g c ∙ sym (after_flattened items old))

@@ -1,12 +1,21 @@
-use Rattle.tabled_grid.proofs.Common.{refl}
-use Rattle.tabled_grid.proofs.Stepping.{run_done, run_more, run_starts}
+use Rattle.tabled_grid.proofs.Common.{◌*◌, ◌+◌, ◌∙◌, ◌≡◌, ap, get_or, get_or-map, map, map-set, refl, subst, sym}
+use Rattle.std.specs.Prelude.{◌%◌}
+use Rattle.tabled_grid.proofs.Stepping.{RunTo, run_done, run_more, run_starts}
 use Rattle.tabled_grid.proofs.config.hiders.step_run.Goals as goal
 
 pub loop-j-init : goal.loop-j-init
-loop-j-init c = run_starts c.args.hiders.now c.args.i c.args.run c.args.step c.args.rows c.args.columns
+loop-j-init g c = run_starts (map g.N.Count.value c.args.hiders.now) c.args.i c.args.run (g.N.Count.value c.args.step) g.N.Count.limit c.args.rows c.args.columns
 
 pub loop-j-preserved : goal.loop-j-preserved
-loop-j-preserved c = run_more c.args.hiders.now c.loop-j.hiders c.args.i c.loop-j.j _ 0 _ c.args.run c.args.step c.args.rows c.args.columns c.loop-j.invariant c.loop-j.auto.j c.loop-j-test.true c.requires.row c.requires.end refl refl
+loop-j-preserved g c =
+    let value = g.N.Count.value in
+    let k = c.args.i * c.args.columns + c.loop-j.j in
+    let v = c.index-hiders-k.result in
+    let read : value (get_or c.loop-j.hiders k v) ≡ get_or (map value c.loop-j.hiders) k (value v) = sym (get_or-map value c.loop-j.hiders k v) in
+    let sum : value c.plus.result ≡ (get_or (map value c.loop-j.hiders) k (value v) + value c.args.step) % g.N.Count.limit = c.plus.ensures ∙ ap (λ n. (n + value c.args.step) % g.N.Count.limit) read in
+    subst (λ xs. RunTo (map value c.args.hiders.now) xs c.args.i c.args.run (c.loop-j.j + 1) (value c.args.step) g.N.Count.limit c.args.rows c.args.columns)
+    (sym (map-set value c.loop-j.hiders k c.plus.result))
+    (run_more (map value c.args.hiders.now) (map value c.loop-j.hiders) c.args.i c.loop-j.j k (value c.index-hiders-k.result) (value c.plus.result) c.args.run (value c.args.step) g.N.Count.limit c.args.rows c.args.columns c.loop-j.invariant c.loop-j.auto.j c.loop-j-test.true c.requires.row c.requires.end refl sum)
 
 pub returns-clause-steps : goal.returns-clause-steps
-returns-clause-steps c = run_done c.args.hiders.now c.loop-j.hiders c.args.i c.loop-j.j c.args.run c.args.step c.args.rows c.args.columns c.loop-j.invariant c.loop-j-test.false c.loop-j.auto.j-end
+returns-clause-steps g c = run_done (map g.N.Count.value c.args.hiders.now) (map g.N.Count.value c.loop-j.hiders) c.args.i c.loop-j.j c.args.run (g.N.Count.value c.args.step) g.N.Count.limit c.args.rows c.args.columns c.loop-j.invariant c.loop-j-test.false c.loop-j.auto.j-end

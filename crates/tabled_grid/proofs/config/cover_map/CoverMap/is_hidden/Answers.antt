@@ -1,26 +1,51 @@
-use Rattle.tabled_grid.proofs.Common.{◌*◌, ◌+◌, ◌<◌, ◌∙◌, ◌≡◌, ◌≤◌, Cover, ap, ap₂, arith, beyond, get_or, hiders_of, nat_lt, place, subst, sym}
-use Rattle.std.specs.Prelude.{◌-◌}
-use Rattle.tabled_grid.proofs.Hiders.{hidden-counts}
-use Rattle.tabled_grid.proofs.Tables.{get-table}
+use Rattle.tabled_grid.proofs.Common.{◌*◌, ◌∙◌, Cover, CountsBlock, IsFew, IsMany, ap, arith, counts_of, get_or, get_or-take, nat_lt, subst, sym}
+use Rattle.tabled_grid.proofs.CoverCounts.{InBlock, hidden-in, number_in, number_within}
 use Rattle.tabled_grid.proofs.config.cover_map.CoverMap.is_hidden.Goals as goal
 
-pub returns : goal.returns
-returns c = record {
-  hidden = λ m first rows columns is.
-      let pos = c.args.pos in
-      let a = c.self.inside in
-      let i = pos.row - a.first.row in
-      let j = pos.col - a.first.col in
-      let at = i * a.columns + j in
-      let same = c.self.view_is ∙ is in
-      let begin : a.first ≡ first = ap (λ (k : Cover). k.first) same in
-      let tall : a.rows ≡ rows = ap (λ (k : Cover). k.rows) same in
-      let wide : a.columns ≡ columns = ap (λ (k : Cover). k.columns) same in
-      let top : a.first.row ≤ pos.row = subst (λ (k : Cover). k.first.row ≤ pos.row) (sym c.self.view_is) c.requires.top in
-      let bottom : pos.row < a.first.row + a.rows = subst (λ (k : Cover). pos.row < k.first.row + k.rows) (sym c.self.view_is) c.requires.bottom in
-      let left : a.first.col ≤ pos.col = subst (λ (k : Cover). k.first.col ≤ pos.col) (sym c.self.view_is) c.requires.left in
-      let right : pos.col < a.first.col + a.columns = subst (λ (k : Cover). pos.col < k.first.col + k.columns) (sym c.self.view_is) c.requires.right in
-      let here : beyond first (place i j) ≡ pos = rw (← begin) (ap₂ place (omega (arith, top)) (omega (arith, left))) in
-      let value = c.index.ensures ∙ ap (λ xs. get_or xs at c.index.result.now) (ap (λ (k : Cover). k.hiders) same) ∙ get-table (λ p. hiders_of m (beyond first p)) rows columns i j at c.index.result.now (omega (arith, tall, top, bottom)) (omega (arith, wide, left, right)) (ap (λ n. i * n + j) wide) ∙ ap (hiders_of m) here in
-      ap (nat_lt 0) value ∙ sym (hidden-counts m pos);
-}
+pub offset_bounds-counts-k : goal.offset_bounds-counts-k
+offset_bounds-counts-k c =
+    let a = c.self.inside in
+    let k : Cover = record { first = a.first; rows = a.rows; columns = a.columns; hiders = counts_of (a.rows * a.columns) a.counts } in
+    let here : InBlock k c.args.pos = subst (λ cover. InBlock cover c.args.pos) (sym c.self.view_is) (record { top = c.requires.top; bottom = c.requires.bottom; left = c.requires.left; right = c.requires.right }) in
+    let few : IsFew c.in-Few.counts a.first a.rows a.columns = (subst (λ k. CountsBlock k c.self.inside.first c.self.inside.rows c.self.inside.columns) c.in-Few.is c.self.invariant.counts) in
+    omega (arith, number_within k c.args.pos here, few.few)
+
+pub bounds-counts-k : goal.bounds-counts-k
+bounds-counts-k c =
+    let a = c.self.inside in
+    let k : Cover = record { first = a.first; rows = a.rows; columns = a.columns; hiders = counts_of (a.rows * a.columns) a.counts } in
+    let here : InBlock k c.args.pos = subst (λ cover. InBlock cover c.args.pos) (sym c.self.view_is) (record { top = c.requires.top; bottom = c.requires.bottom; left = c.requires.left; right = c.requires.right }) in
+    let few : IsFew c.in-Few.counts a.first a.rows a.columns = (subst (λ k. CountsBlock k c.self.inside.first c.self.inside.rows c.self.inside.columns) c.in-Few.is c.self.invariant.counts) in
+    omega (arith, number_within k c.args.pos here, few.few)
+
+pub index-requires : goal.index-requires
+index-requires c =
+    let a = c.self.inside in
+    let k : Cover = record { first = a.first; rows = a.rows; columns = a.columns; hiders = counts_of (a.rows * a.columns) a.counts } in
+    let here : InBlock k c.args.pos = subst (λ cover. InBlock cover c.args.pos) (sym c.self.view_is) (record { top = c.requires.top; bottom = c.requires.bottom; left = c.requires.left; right = c.requires.right }) in
+    let many : IsMany c.in-Many.counts.items a.first a.rows a.columns = (subst (λ k. CountsBlock k c.self.inside.first c.self.inside.rows c.self.inside.columns) c.in-Many.is c.self.invariant.counts) in
+    omega (arith, number_within k c.args.pos here, many.size, c.in-Many.counts.ok)
+
+pub returns-in-Few : goal.returns-in-Few
+returns-in-Few c =
+    let a = c.self.inside in
+    let k : Cover = record { first = a.first; rows = a.rows; columns = a.columns; hiders = counts_of (a.rows * a.columns) a.counts } in
+    let here : InBlock k c.args.pos = subst (λ cover. InBlock cover c.args.pos) (sym c.self.view_is) (record { top = c.requires.top; bottom = c.requires.bottom; left = c.requires.left; right = c.requires.right }) in
+    record {
+      hidden = λ m first rows columns is.
+          sym (ap (nat_lt 0) (get_or-take (a.rows * a.columns) c.in-Few.counts (number_in k c.args.pos) 0 (number_within k c.args.pos here)))
+          ∙ ap (λ counts. nat_lt 0 (get_or (counts_of (a.rows * a.columns) counts) (number_in k c.args.pos) 0)) (sym c.in-Few.is)
+          ∙ hidden-in k m first rows columns c.args.pos 0 (c.self.view_is ∙ is) here;
+    }
+
+pub returns-in-Many : goal.returns-in-Many
+returns-in-Many c =
+    let a = c.self.inside in
+    let k : Cover = record { first = a.first; rows = a.rows; columns = a.columns; hiders = counts_of (a.rows * a.columns) a.counts } in
+    let here : InBlock k c.args.pos = subst (λ cover. InBlock cover c.args.pos) (sym c.self.view_is) (record { top = c.requires.top; bottom = c.requires.bottom; left = c.requires.left; right = c.requires.right }) in
+    record {
+      hidden = λ m first rows columns is.
+          ap (nat_lt 0) c.index.ensures
+          ∙ ap (λ counts. nat_lt 0 (get_or (counts_of (a.rows * a.columns) counts) (number_in k c.args.pos) c.index.result.now)) (sym c.in-Many.is)
+          ∙ hidden-in k m first rows columns c.args.pos c.index.result.now (c.self.view_is ∙ is) here;
+    }

@@ -1,0 +1,15 @@
+pub mod Common
+pub mod Ends
+pub mod DoubledQuotes
+pub mod Unique
+pub mod Records
+pub mod Lines
+pub mod Closings
+pub mod Progress
+pub mod Fielding
+pub mod Fronts
+pub mod Writes
+pub mod Written
+pub mod Blocks
+pub mod Stores
+pub mod Utf8Parts

@@ -1,0 +1,130 @@
+//! CSV, read.
+
+ghost use Rattle.std.specs.Prelude.{◌≡◌, ◌≤◌, [], IfErr, IfOk, IsOk, IsTrue, IsUtf8, MatchResult, OnErr, length};
+ghost use Rattle.std.specs.List.{AllByRecursion};
+ghost use Rattle.tabled_csv.specs.Grammar.{IsSeparator, IsCsv, IsLines, behind_mark};
+ghost use Rattle.tabled_csv.specs.Reading.{AtFault, LinesFault, NoRows, RecordAt, RecordFault, UnreadAt};
+ghost use Rattle.tabled_csv.specs.Faults.{IsFault, line_at};
+ghost use Rattle.tabled_csv.specs.Texts.{AreLentOrQuote, rows_of, texts_of};
+
+use crate::fault::{ReadError, Unread};
+use crate::field::{Field, read_field};
+use crate::separator::Separator;
+use crate::stop::{Stop, begins_with_mark, behind_line_end};
+use std::alloc::Global;
+use std::str;
+
+/// The record at the front of bytes, and the bytes behind its line. There is room for some fields from the start.
+fn record<'a>(
+    alloc: Global,
+    separator: u8,
+    is_text: bool,
+    room: usize,
+    bytes: &'a [u8],
+) -> Result<(Vec<Field<'a>>, &'a [u8]), Unread>
+    requires separator { IsSeparator separator }
+    requires text { IsTrue is_text → IsUtf8 bytes.now }
+    ensures lent { IfOk result (λ read. AreLentOrQuote read.0) }
+    ensures read { MatchResult result (λ read. RecordAt separator bytes.now (texts_of read.0) read.1.now) (UnreadAt (RecordFault separator bytes.now)) }
+{
+    let mut row = Vec::with_capacity(alloc, room)?;
+    let mut rest = bytes;
+    'fields: loop {
+        let (text, stop, after) = read_field(alloc, separator, is_text, rest)?;
+        row.push(text)?;
+        match stop {
+            Stop::Separator => rest = after,
+            Stop::Line => return Ok((row, after)),
+            Stop::End => return Ok((row, after)),
+        }
+    }
+}
+
+/// The rows of lines.
+fn lines<'a>(
+    alloc: Global,
+    separator: u8,
+    is_text: bool,
+    bytes: &'a [u8],
+) -> Result<Vec<Vec<Field<'a>>>, Unread>
+    requires separator { IsSeparator separator }
+    requires text { IsTrue is_text → IsUtf8 bytes.now }
+    ensures lent { IfOk result (λ rows. AllByRecursion AreLentOrQuote rows.items) }
+    ensures err { OnErr result (IsLines separator bytes.now [] → ⊥) }
+    ensures read { MatchResult result (λ rows. IsLines separator bytes.now (rows_of rows.items)) (UnreadAt (LinesFault separator bytes.now)) }
+{
+    let mut rows = Vec::new(alloc);
+    let mut room = 0;
+    let mut rest = bytes;
+    'lines: while !rest.is_empty() {
+        match behind_line_end(rest) {
+            Some(after) => rest = after,
+            None => {
+                let (row, after) = record(alloc, separator, is_text, room, rest)?;
+                // Most records have as many fields as the one before.
+                room = row.len();
+                rows.push(row)?;
+                rest = after;
+            }
+        }
+    }
+    Ok(rows)
+}
+
+/// Bytes behind a byte order mark, if they begin with one.
+fn behind_mark(bytes: &[u8]) -> &[u8]
+    ensures { result.now ≡ behind_mark bytes.now }
+{
+    if begins_with_mark(bytes) {
+        return &bytes[3..];
+    }
+    bytes
+}
+
+/// In which line of bytes so many of them are left.
+fn line_at(bytes: &[u8], left: usize) -> usize
+    requires { left ≤ length bytes.now }
+    ensures { result ≡ line_at bytes.now left }
+{
+    1 + bytes[..bytes.len() - left]
+        .iter()
+        .filter(|b| **b == b'\n')
+        .count()
+}
+
+/// The rows of texts that bytes mean as CSV.
+///
+/// A record is the fields of a line, parted by the separator; a line ends with a line feed, a carriage return before
+/// it or not, and the last one may have no end. A blank line is no record. A field is plain, or stands between quotes
+/// with each quote in it doubled. A byte order mark in front is passed over. Rows may differ in length.
+///
+/// A text is lent, unless a quote is doubled in it.
+///
+/// Of this project.
+pub fn read<'a>(
+    alloc: Global,
+    separator: Separator,
+    bytes: &'a [u8],
+) -> Result<Vec<Vec<Field<'a>>>, ReadError>
+    ensures rows { IfOk result (λ rows. IsCsv separator bytes.now (rows_of rows.items)) }
+    ensures lent { IfOk result (λ rows. AllByRecursion AreLentOrQuote rows.items) }
+
+    // Bytes that mean no row take no memory.
+    ensures promised { IsCsv separator bytes.now [] → IsOk result }
+
+    // Where there is a fault, no rows are the meaning of these bytes.
+    ensures none { IfErr result (AtFault (λ line fault. NoRows separator bytes.now)) }
+    ensures fault { IfErr result (AtFault (IsFault separator bytes.now)) }
+{
+    let text = behind_mark(bytes);
+    // To test all bytes at once takes less than to test those of each field.
+    let is_text = str::from_utf8(text).is_ok();
+    match lines(alloc, separator.byte(), is_text, text) {
+        Ok(rows) => Ok(rows),
+        Err(Unread::Faulty(fault, left)) => {
+            let line = line_at(text, left);
+            Err(ReadError::Faulty { line, fault })
+        }
+        Err(Unread::OutOfMemory) => Err(ReadError::OutOfMemory),
+    }
+}

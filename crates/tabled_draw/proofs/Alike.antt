@@ -1,0 +1,147 @@
+-- Tables whose texts differ only where merged cells hide them have one picture.
+use Rattle.tabled_draw.proofs.Common.{Alignment, AreSpanSizes, Columns, Grid, In, List, Member, None, Option, Position, Rectangle, Rows, Some, SpanMap, Style, [], across, aligned, alignment_in, ap, ap₂, are_none, arith, arms, asks, border, border_line, by_number, cases_Bool, column_between, cond, cond-false, count_along, differ, each, edge_between, encode_utf8_all, entries, eqb, false, false_from_ne_true, false≢true, fitting, fold, get_or, grown_for, grown_sizes, heights, holds, holds-true, in_order, inl, inr, is_hidden_in, largest, least, line_of, line_size, lines_around, lines_in, lines_of_row, lines_shown, mark, max, not, own, own_sizes, owner_in, picture, picture_bytes, picture_line, place, place_in, refl, replicate, room, same_place, same_place-self, same_place-true, shows, shows_in, start_of, subst, sym, text_of_cell, top, true, widths, with_newlines, ℕ, ◌&&◌, ◌++◌, ◌+◌, ◌-◌, ◌<◌, ◌==◌, ◌||◌, ◌∙◌, ◌∷◌, ◌≡◌, ◌⊎◌}
+use Rattle.std.proofs.lemmas.Bool.{and_parts}
+use Rattle.tabled_draw.proofs.Each.{each-same}
+use Rattle.tabled_draw.proofs.Fitting.{kept-well}
+use Rattle.tabled_draw.proofs.Owned.{LieWell, LiesIn, Owned, member-owner, owned, owner-lies, owner-some}
+use Rattle.tabled_draw.proofs.Owned.Owned.{alone, held}
+use Rattle.tabled_draw.proofs.Sizes.{from-order, largest-same, place-within}
+use Rattle.tabled_draw.specs.Owners.{owner}
+use Rattle.tabled_draw.specs.Picture.{drawn_with}
+use Rattle.tabled_draw.specs.Sizes.{sizes}
+use Rattle.tabled_draw.specs.Standing.{AreSeenAlike}
+use Rattle.tabled_grid.proofs.Members.{any-member}
+use Rattle.tabled_grid.specs.declared.records.axis.Axis.{Axis}
+
+module _ (style : Style) (aligns : List Alignment) (g h : Grid (List ℕ)) (es : List Rectangle) (well : LieWell g.rows g.columns es) (alike : AreSeenAlike g h es) where
+  -- ---- texts that are seen
+
+  -- nothing hides the place where an owner begins
+  owner-seen : (p : Position) → p.row < g.rows → p.col < g.columns → is_hidden_in es (owner_in es p).0 ≡ false
+  owner-seen p low far = false_from_ne_true _ (λ t. by (any-member (λ (e : Rectangle). holds e (owner_in es p).0 && not (same_place e.0 (owner_in es p).0)) es t))
+    where
+      lies : LiesIn g.rows g.columns (owner_in es p)
+      lies = owner-lies g.rows g.columns es well p low far
+
+      here : In (owner_in es p) (owner_in es p).0
+      here = record { top = omega arith; bottom = omega (arith, lies.high); left = omega arith; right = omega (arith, lies.wide) }
+
+      begins : (e : Rectangle) → Member e es → In e (owner_in es p).0 → Owned es p (owner_in es p) → e.0 ≡ (owner_in es p).0
+      begins e m inside (held n k) = ap (λ (x : Rectangle). x.0) (well.apart e (owner_in es p) (owner_in es p).0 m n inside here)
+      begins e m inside (alone is never) = absurd (never e m (subst (λ (x : Rectangle). In e x.0) is inside))
+
+      by : (e : Rectangle) × Member e es × ((holds e (owner_in es p).0 && not (same_place e.0 (owner_in es p).0)) ≡ true) → ⊥
+      by found =
+          let e = found.0 in
+          let parts = and_parts (holds e (owner_in es p).0) (not (same_place e.0 (owner_in es p).0)) found.2 in
+          let same : e.0 ≡ (owner_in es p).0 = begins e found.1 (holds-true e (owner_in es p).0 parts.0) (owned es p) in
+          false≢true (sym (ap (λ q. not (same_place q (owner_in es p).0)) same ∙ ap not (same_place-self (owner_in es p).0)) ∙ parts.1)
+
+  owner-text : (p : Position) → p.row < g.rows → p.col < g.columns → text_of_cell g (owner_in es p).0 ≡ text_of_cell h (owner_in es p).0
+  owner-text p low far =
+      let lies : LiesIn g.rows g.columns (owner_in es p) = owner-lies g.rows g.columns es well p low far in
+      alike.texts (owner_in es p).0 (record { inside = record { row = omega (arith, lies.bottom, lies.high); col = omega (arith, lies.right, lies.wide) }; seen = owner-seen p low far })
+
+  member-text : (e : Rectangle) → Member e es → text_of_cell g e.0 ≡ text_of_cell h e.0
+  member-text e m =
+      let lies : LiesIn g.rows g.columns e = well.lies e m in
+      subst (λ (x : Rectangle). text_of_cell g x.0 ≡ text_of_cell h x.0) (member-owner g.rows g.columns es well e e.0 m (record { top = omega arith; bottom = omega (arith, lies.high); left = omega arith; right = omega (arith, lies.wide) }))
+      (owner-text e.0 (omega (arith, lies.bottom, lies.high)) (omega (arith, lies.right, lies.wide)))
+
+  -- ---- sizes
+
+  count-alike : (axis : Axis) → count_along axis g ≡ count_along axis h
+  count-alike Rows = alike.rows
+  count-alike Columns = alike.columns
+
+  own-alike : (axis : Axis) (p : Position) → p.row < g.rows → p.col < g.columns → own axis g es p ≡ own axis h es p
+  own-alike axis p low far = by (cases_Bool (same_place (owner_in es p).0 p))
+    where
+      by : (same_place (owner_in es p).0 p ≡ true) ⊎ (same_place (owner_in es p).0 p ≡ false) → own axis g es p ≡ own axis h es p
+      by (inl t) = ap (λ x. cond (same_place (owner_in es p).0 p && (lines_in axis (owner_in es p).1 == 1)) (asks axis x) 0) (subst (λ q. text_of_cell g q ≡ text_of_cell h q) (same_place-true (owner_in es p).0 p t) (owner-text p low far))
+      by (inr f) = cond-false _ _ _ (ap (λ b. b && (lines_in axis (owner_in es p).1 == 1)) f) ∙ sym (cond-false _ _ _ (ap (λ b. b && (lines_in axis (owner_in es p).1 == 1)) f))
+
+  own_sizes-alike : (axis : Axis) → own_sizes axis g es ≡ own_sizes axis h es
+  own_sizes-alike axis =
+      let of_line : Grid (List ℕ) → ℕ → List ℕ = λ t k. max (least axis) (largest (count_along (across axis) t) (λ i. own axis t es (place_in axis k i))) ∷ [] in
+      each-same (of_line g) (of_line h) (count_along axis g) (λ k less. ap (λ n. max (least axis) n ∷ [])
+      (largest-same (λ i. own axis g es (place_in axis k i)) (λ i. own axis h es (place_in axis k i)) (count_along (across axis) g) (λ i within. (let inside = place-within axis g k i less within in own-alike axis (place_in axis k i) inside.0 inside.1))
+      ∙ ap (λ n. largest n (λ i. own axis h es (place_in axis k i))) (count-alike (across axis))))
+      ∙ ap (λ n. each n (of_line h)) (count-alike axis)
+
+  grown-alike : (axis : Axis) (s : List ℕ) (e : Rectangle) → Member e es → grown_for axis style g s e ≡ grown_for axis style h s e
+  grown-alike axis s e m = ap₂ (λ n text. grown_sizes axis (line_size (lines_around axis style) n) s (line_of axis e.0) (lines_in axis e.1) (asks axis text)) (count-alike axis) (member-text e m)
+
+  fold-alike : (axis : Axis) (xs : List Rectangle) (s : List ℕ) → ((e : Rectangle) → Member e xs → Member e es) → fold (grown_for axis style g) s xs ≡ fold (grown_for axis style h) s xs
+  fold-alike axis [] s among = refl
+  fold-alike axis (e ∷ xs) s among = ap (λ t. fold (grown_for axis style g) t xs) (grown-alike axis s e (among e (inl refl))) ∙ fold-alike axis xs (grown_for axis style h s e) (λ x m. among x (inr m))
+
+  order-alike : (axis : Axis) → in_order axis g es ≡ in_order axis h es
+  order-alike axis = ap (λ n. by_number (λ (e : Rectangle). lines_in axis e.1) (n + 1) (by_number (λ (e : Rectangle). line_of axis e.0) n es)) (count-alike axis)
+
+  sizes-alike : (axis : Axis) → sizes axis style g es ≡ sizes axis style h es
+  unfolding sizes
+  sizes-alike axis = fold-alike axis (in_order axis g es) (own_sizes axis g es) (from-order axis style g es) ∙ ap₂ (fold (grown_for axis style h)) (own_sizes-alike axis) (order-alike axis)
+
+  border-alike : (axis : Axis) (k : ℕ) → border axis style g k ≡ border axis style h k
+  border-alike axis k = ap (λ n. line_size (lines_around axis style) n k) (count-alike axis)
+
+  start-alike : (axis : Axis) (k : ℕ) → start_of axis (border axis style g) (sizes axis style g es) k ≡ start_of axis (border axis style h) (sizes axis style h es) k
+  start-alike axis k = ap₂ (λ n s. start_of axis (line_size (lines_around axis style) n) s k) (count-alike axis) (sizes-alike axis)
+
+  -- ---- lines
+
+  owner-alike : (i j : ℕ) → owner g.rows g.columns es i j ≡ owner h.rows h.columns es i j
+  owner-alike i j = ap₂ (λ r c. owner r c es i j) alike.rows alike.columns
+
+  shows-alike : (n : ℕ) (o : Rectangle) → text_of_cell g o.0 ≡ text_of_cell h o.0 → shows style aligns g es n o ≡ shows style aligns h es n o
+  shows-alike n o text = ap₂ (aligned (alignment_in aligns o.0.col))
+      (ap₂ (λ k s. room Columns (line_size style.columns k) s o.0.col o.1.width) alike.columns (sizes-alike Columns))
+      (ap₂ (λ t k. get_or (lines_shown t) k []) text (ap₂ (λ a b. n - a - b) (start-alike Rows o.0.row) (border-alike Rows o.0.row)))
+
+  shows_in-alike : (n i j : ℕ) → shows_in style aligns g es n j (owner g.rows g.columns es i (j + 1)) ≡ shows_in style aligns h es n j (owner g.rows g.columns es i (j + 1))
+  shows_in-alike n i j = by (owner g.rows g.columns es i (j + 1)) refl
+    where
+      by : (a : Option Rectangle) → owner g.rows g.columns es i (j + 1) ≡ a → shows_in style aligns g es n j a ≡ shows_in style aligns h es n j a
+      by None e = refl
+      by (Some o) e =
+          let s = owner-some g.rows g.columns es i (j + 1) o e in
+          let text : text_of_cell g o.0 ≡ text_of_cell h o.0 = subst (λ (x : Rectangle). text_of_cell g x.0 ≡ text_of_cell h x.0) (sym s.is) (owner-text (place s.row s.col) s.below s.right) in
+          ap (λ x. cond (eqb o.0.col j) x []) (shows-alike n o text)
+
+  edge-alike : (u d j : ℕ) → edge_between style g es u d j ≡ edge_between style h es u d j
+  edge-alike u d j = ap₂ (λ r c. cond (are_none (arms (owner r c es u j) (owner r c es u (j + 1)) (owner r c es d j) (owner r c es d (j + 1)))) []
+      (replicate (line_size style.columns c j) (mark style (eqb u d) (arms (owner r c es u j) (owner r c es u (j + 1)) (owner r c es d j) (owner r c es d (j + 1)))))) alike.rows alike.columns
+
+  column-alike : (n u d j : ℕ) → column_between style aligns g es n u d j ≡ column_between style aligns h es n u d j
+  column-alike n u d j =
+      ap₂ (λ s x. cond (differ (owner g.rows g.columns es u (j + 1)) (owner g.rows g.columns es d (j + 1))) (replicate (get_or s j 0 + 2) style.horizontal) x) (sizes-alike Columns) (shows_in-alike n u j)
+      ∙ ap₂ (λ a b. cond (differ a b) (replicate (get_or (widths style h es) j 0 + 2) style.horizontal) (shows_in style aligns h es n j a)) (owner-alike u (j + 1)) (owner-alike d (j + 1))
+
+  line-alike : (n u d : ℕ) → picture_line style aligns g es n u d ≡ picture_line style aligns h es n u d
+  line-alike n u d =
+      let part : Grid (List ℕ) → ℕ → List ℕ = λ t j. edge_between style t es u d j ++ column_between style aligns t es n u d j in
+      ap₂ (λ x y. x ++ y)
+      (each-same (part g) (part h) g.columns (λ j less. ap₂ (λ x y. x ++ y) (edge-alike u d j) (column-alike n u d j)) ∙ ap (λ c. each c (part h)) alike.columns)
+      (edge-alike u d g.columns ∙ ap (edge_between style h es u d) alike.columns)
+
+  border_line-alike : (i : ℕ) → border_line style aligns g es i ≡ border_line style aligns h es i
+  border_line-alike i = ap₂ replicate (border-alike Rows i) (line-alike (top style g es i) i (i + 1) ∙ ap (λ n. picture_line style aligns h es n i (i + 1)) (start-alike Rows i))
+
+  row-alike : (i : ℕ) → lines_of_row style aligns g es i ≡ lines_of_row style aligns h es i
+  row-alike i =
+      let line : Grid (List ℕ) → ℕ → List (List ℕ) = λ t y. picture_line style aligns t es (top style t es i + border Rows style t i + y) (i + 1) (i + 1) ∷ [] in
+      ap₂ (λ x y. x ++ y) (border_line-alike i)
+      (each-same (line g) (line h) (get_or (heights style g es) i 0) (λ y less. ap (λ x. x ∷ []) (line-alike (top style g es i + border Rows style g i + y) (i + 1) (i + 1) ∙ ap₂ (λ a b. picture_line style aligns h es (a + b + y) (i + 1) (i + 1)) (start-alike Rows i) (border-alike Rows i)))
+      ∙ ap (λ s. each (get_or s i 0) (line h)) (sizes-alike Rows))
+
+  pub picture-alike : picture style aligns g es ≡ picture style aligns h es
+  picture-alike =
+      ap (cond ((g.rows == 0) || (g.columns == 0)) []) (ap₂ (λ x y. x ++ y) (each-same (lines_of_row style aligns g es) (lines_of_row style aligns h es) g.rows (λ i less. row-alike i)) (border_line-alike g.rows))
+      ∙ ap₂ (λ r c. cond ((r == 0) || (c == 0)) [] (each r (lines_of_row style aligns h es) ++ border_line style aligns h es r)) alike.rows alike.columns
+
+pub drawn-alike : (style : Style) (aligns : List Alignment) (g h : Grid (List ℕ)) (m : SpanMap) → AreSpanSizes m → AreSeenAlike g h (fitting g.rows g.columns (entries m)) → drawn_with style aligns g m ≡ drawn_with style aligns h m
+unfolding drawn_with
+drawn-alike style aligns g h m sized alike =
+    ap (λ lines. encode_utf8_all (with_newlines lines)) (picture-alike style aligns g h (fitting g.rows g.columns (entries m)) (kept-well m g.rows g.columns sized) alike)
+    ∙ ap₂ (λ r c. picture_bytes style aligns h (fitting r c (entries m))) alike.rows alike.columns

@@ -1,0 +1,47 @@
+-- Lines of tables without merged cells.
+use Rattle.tabled_draw.proofs.Common.{ASCII, Alignment, AreUnmerged, Bool, Bor, Fits, Grid, IsInside, IsOwnerRow, List, None, Option, Rectangle, SpanMap, Style, [], ap, ap₂, are_none, arith, arms, corner, replicate, size_if, border_of_rests, bytes_in, column, cond, cond-false, cond-true, differ, each, edge, edge_before, entries, eqb-true, false, get_or, inl, inr, is_drawn, left_of, length, level, lt-ltb, mark, marked, meeting, nat_lt, nil_from_length, not, place, refl, stretches, sym, text_inside, true, unmerged_arms, unmerged_corner, unmerged_stretch, ℕ, ◌&&◌, ◌++◌, ◌+◌, ◌-◌, ◌<◌, ◌==◌, ◌∙◌, ◌∷◌, ◌≡◌, ◌≤◌, ◌⊎◌}
+use Rattle.tabled_draw.proofs.Arms.{marked-corner, same-arms}
+use Rattle.tabled_draw.proofs.Each.{each-same}
+use Rattle.tabled_draw.proofs.LawPicture.{arms-meet}
+use Rattle.tabled_draw.proofs.Owned.{fits-well}
+use Rattle.tabled_draw.specs.Borders.{Arms}
+use Rattle.tabled_draw.specs.Lines.{drawn_line, unmerged_line}
+use Rattle.tabled_draw.specs.Owners.{owner}
+
+with-true : (b : Bool) → b && true ≡ b
+with-true true = refl
+with-true false = refl
+
+pub none-left : (xs ys : List Rectangle) (b : Bool) → xs ≡ ys → b ≡ (length xs == 0) → b ≡ true → ys ≡ []
+none-left xs ys b is empty t = sym is ∙ nil_from_length xs (eqb-true (length xs) 0 (sym empty ∙ t))
+
+-- where no cells are merged, the arms are those of the table alone
+pub unmerged-rows : (g : Grid (List ℕ)) (m : SpanMap) (i rows columns : ℕ) (above below : List (Option Rectangle)) → rows ≡ g.rows → columns ≡ g.columns → Fits m g.rows g.columns → 0 < g.rows → 0 < g.columns → entries m ≡ [] → i ≤ g.rows
+    → IsOwnerRow g.rows g.columns m i above → IsOwnerRow g.rows g.columns m (i + 1) below → AreUnmerged rows columns i above below
+unmerged-rows g m i rows columns above below same_rows same_columns fits high wide none within over under = record { each = λ j less. by j (omega (arith, less, same_columns)) }
+  where
+    by : (j : ℕ) → j ≤ g.columns → arms (get_or above j None) (get_or above (j + 1) None) (get_or below j None) (get_or below (j + 1) None) ≡ unmerged_arms rows columns i j
+    by j less =
+        let first : arms (get_or above j None) (get_or above (j + 1) None) (get_or below j None) (get_or below (j + 1) None) ≡ arms (owner g.rows g.columns (entries m) i j) (owner g.rows g.columns (entries m) i (j + 1)) (owner g.rows g.columns (entries m) (i + 1) j) (owner g.rows g.columns (entries m) (i + 1) (j + 1)) =
+        rw (over.each j (omega (arith, less)), over.each (j + 1) (omega (arith, less)), under.each j (omega (arith, less)), under.each (j + 1) (omega (arith, less))) refl in
+        first
+        ∙ arms-meet ASCII [] g (entries m) (fits-well m g.rows g.columns fits) (record { row = high; col = wide }) i j within less
+        ∙ ap (λ es. meeting g es i j) none
+        ∙ same-arms _ _ _ _ _ _ _ _ (with-true (nat_lt 0 i)) (with-true (nat_lt j g.columns) ∙ ap (nat_lt j) (sym same_columns)) (with-true (nat_lt i g.rows) ∙ ap (nat_lt i) (sym same_rows)) (with-true (nat_lt 0 j))
+
+module _ (rows columns i : ℕ) (above below : List (Option Rectangle)) (unmerged : AreUnmerged rows columns i above below) where
+  apart : (j : ℕ) → j < columns → differ (get_or above (j + 1) None) (get_or below (j + 1) None) ≡ true
+  apart j less = ap (λ (x : Arms). x.right) (unmerged.each j (omega (arith, less))) ∙ lt-ltb j columns less
+
+  -- a border lies above each column, so no text is cut
+  pub left-unmerged : (j : ℕ) (text : List ℕ) → j < columns → text ≡ left_of j (get_or above (j + 1) None) (get_or below (j + 1) None) text
+  left-unmerged j text less = sym (cond-true _ _ _ (apart j less))
+
+  pub unmerged-is : (style : Style) (aligns : List Alignment) (edges : List ℕ) (texts : List (List ℕ)) → unmerged_line style rows columns i edges ≡ drawn_line style aligns columns false edges above below texts
+  unfolding drawn_line unmerged_line
+  unmerged-is style aligns edges texts = ap (λ x. x ++ (10 ∷ [])) (ap₂ (λ x y. x ++ y)
+      (each-same (unmerged_stretch style rows columns i edges) (stretches style aligns columns false edges above below texts) columns (λ j less. ap₂ (λ x y. x ++ y) (corner-is j (omega (arith, less))) (sym (cond-true _ _ _ (apart j less)))))
+      (corner-is columns (omega arith)))
+    where
+      corner-is : (j : ℕ) → j ≤ columns → unmerged_corner style rows columns i j ≡ edge_before style columns false above below j
+      corner-is j less = sym (marked-corner style (is_drawn style.columns columns j) (unmerged_arms rows columns i j)) ∙ ap (λ (x : Arms). cond (are_none x) [] (replicate (size_if (is_drawn style.columns columns j)) (corner style x))) (sym (unmerged.each j less))

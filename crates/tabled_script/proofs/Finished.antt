@@ -1,0 +1,24 @@
+-- What was answered, by the status that it ends with.
+use Rattle.tabled_script.proofs.Common.{◌≡◌, ◌⊎◌, Err, IfOk, IsOk, MatchResult, Ok, OnOk, Result, arith, inl, inr, ℕ}
+
+-- the status of what was answered
+abbrev pub Finished : {U E A : Type 0} → ℕ → Result (Result U E × ℕ) A → Type 0 → Type 0 → Type 0
+Finished status answered same memory = (status ≡ 4) ⊎ MatchResult answered (λ a. IsOk a.0 × (status ≡ a.1) × same) (λ _. (status ≡ 3) × memory)
+
+-- what was answered: a table or a fault
+abbrev pub Answered : {U E A : Type 0} → Result (Result U E × ℕ) A → Type 0 → Type 0 → Type 0
+Answered answered shows faults = IfOk answered (λ a. OnOk a.0 (((a.1 ≡ 0) × shows) ⊎ ((a.1 ≡ 2) × faults)))
+
+pub shown : {U E A : Type 0} (status : ℕ) (answered : Result (Result U E × ℕ) A) (same memory shows faults : Type 0) → Finished status answered same memory → Answered answered shows faults → status ≡ 0 → shows × same
+shown status answered same memory shows faults (inl failed) means zero = absurd (omega (arith, failed, zero))
+shown status (Ok (Ok u, n)) same memory shows faults (inr done) (inl shows_it) zero = (shows_it.1, done.2)
+shown status (Ok (Ok u, n)) same memory shows faults (inr done) (inr fault) zero = absurd (omega (arith, done.1, fault.0, zero))
+shown status (Ok (Err e, n)) same memory shows faults (inr done) means zero = cc (done.0)
+shown status (Err e) same memory shows faults (inr done) means zero = absurd (omega (arith, done.0, zero))
+
+pub faulty : {U E A : Type 0} (status : ℕ) (answered : Result (Result U E × ℕ) A) (same memory shows faults : Type 0) → Finished status answered same memory → Answered answered shows faults → status ≡ 2 → faults × same
+faulty status answered same memory shows faults (inl failed) means two = absurd (omega (arith, failed, two))
+faulty status (Ok (Ok u, n)) same memory shows faults (inr done) (inl shows_it) two = absurd (omega (arith, done.1, shows_it.0, two))
+faulty status (Ok (Ok u, n)) same memory shows faults (inr done) (inr fault) two = (fault.1, done.2)
+faulty status (Ok (Err e, n)) same memory shows faults (inr done) means two = cc (done.0)
+faulty status (Err e) same memory shows faults (inr done) means two = absurd (omega (arith, done.0, two))

@@ -1,0 +1,85 @@
+//! Scripts behind the rows of a file.
+
+ghost use Rattle.std.specs.Io.KnownBytes.{Appends};
+ghost use Rattle.std.specs.List.{flat_map};
+ghost use Rattle.std.specs.Prelude.{◌≡◌, ◌⊎◌, ℕ, IfErr, IfOk, List, length};
+ghost use Rattle.std.specs.String.{string_bytes};
+ghost use Rattle.tabled_csv.specs.Reading.{AtFault};
+ghost use Rattle.tabled_script.specs.Answer.{memory_line};
+ghost use Rattle.tabled_script.specs.Asked.{IsFaulty, StandBefore, file_fault_line, file_fault_number, row_line};
+
+use crate::request::CsvFile;
+use crate::respond::{FAILED, FAULTY, finish, write_whole};
+use crate::values::row_lines;
+use std::alloc::{AllocError, Global};
+use std::io::Write;
+use tabled_csv::{Fault, ReadError, read};
+
+/// The rows of a file as lines of a script, and how many they are. Without a file there are none.
+pub(crate) fn lines_of(alloc: Global, file: &Option<CsvFile>) -> Result<(Vec<u8>, usize), ReadError>
+    ensures lines { IfOk result (λ lines. (rows : List (List (List ℕ))) × StandBefore file.now rows × (lines.0.items ≡ flat_map row_line rows) × (lines.1 ≡ length rows)) }
+    ensures fault { IfErr result (AtFault (IsFaulty file.now)) }
+{
+    match file {
+        None => Ok((Vec::new(alloc), 0)),
+        Some(file) => {
+            let rows = read(alloc, file.separator, &file.bytes)?;
+            match row_lines(alloc, &rows) {
+                Ok(lines) => Ok((lines, rows.len())),
+                Err(_) => Err(ReadError::OutOfMemory),
+            }
+        }
+    }
+}
+
+/// Writes the line that names a faulty line of a file and its fault, and answers a status.
+pub(crate) fn refuse_file<W: Write>(alloc: Global, line: usize, fault: Fault, writer: &mut W) -> u8
+    ensures known { (result ≡ 2) ⊎ ((result ≡ 3) ⊎ (result ≡ 4)) }
+    ensures faulty { result ≡ 2 → Appends (W.contents writer.old) (W.contents writer.new) (file_fault_line line fault) }
+    ensures memory { result ≡ 3 → Appends (W.contents writer.old) (W.contents writer.new) memory_line }
+{
+    match fault_line(alloc, line, fault) {
+        Ok(line) => match write_whole(writer, line.as_bytes()) {
+            Ok(()) => FAULTY,
+            Err(_) => FAILED,
+        },
+        Err(refused) => finish(writer, Err(refused)),
+    }
+}
+
+/// The line that names a faulty line of a file and its fault.
+fn fault_line(alloc: Global, line: usize, fault: Fault) -> Result<String, AllocError>
+    ensures { IfOk result (λ text. string_bytes text ≡ file_fault_line line fault) }
+{
+    let number = number_of(fault);
+    format!(in alloc; "csv line {line}: fault {number}\n")
+}
+
+/// The number that stands for what is wrong with a file.
+fn number_of(fault: Fault) -> u8
+    ensures { result ≡ file_fault_number fault }
+{
+    match fault {
+        Fault::UnclosedQuote => 1,
+        Fault::BehindQuote => 2,
+        Fault::NotUtf8 => 3,
+    }
+}
+
+/// Tells the first faulty line of a file and what is wrong with it.
+pub(crate) fn tell_file_fault<E: Write>(
+    alloc: Global,
+    file: &Option<CsvFile>,
+    line: usize,
+    fault: Fault,
+    errors: &mut E,
+) {
+    let name = match file {
+        Some(file) => file.name.as_str(),
+        None => "",
+    };
+    if let Ok(note) = format!(in alloc; "{name}: line {line}: {fault}\n") {
+        // Where it can't be told, the answer is the same.
+        let _ = errors.write_all(note.as_bytes());
+    }
+}

@@ -1,0 +1,188 @@
+//! What the program's arguments ask for, and what is told beside its answer.
+
+use std::alloc::Global;
+use std::test::Fail;
+use tabled_script::{Arguments, Refusal, Request, answer};
+
+/// What arguments ask for, which stand apart by bars, with the bytes of a file.
+fn request(alloc: Global, arguments: &str, file: &str) -> Result<Request, Refusal> {
+    let mut taken = Arguments::new(alloc);
+    for argument in arguments.split('|') {
+        if !arguments.is_empty() {
+            taken.take(alloc, argument)?;
+        }
+    }
+    let mut request = taken.into_request(alloc)?;
+    if let Some(asked) = &mut request.file {
+        asked.bytes.extend_from_slice(file.as_bytes())?;
+    }
+    Ok(request)
+}
+
+#[test]
+fn arguments_ask_for_steps_and_forms(rt: HostRuntime) -> Result<(), Fail> {
+    let alloc = rt.alloc();
+    for &(arguments, file, script, status, output, told) in &[
+        ("", "", "row\ta\n", 0, "shape\t1\t1\nrow\ta\n", ""),
+        (
+            "set|cell|0|0|b c",
+            "",
+            "row\ta\n",
+            0,
+            "shape\t1\t1\nrow\tb c\n",
+            "",
+        ),
+        (
+            "row|x|then|then|row|then",
+            "",
+            "row\ta",
+            0,
+            "shape\t3\t1\nrow\ta\nrow\tx\nrow\t\n",
+            "",
+        ),
+        (
+            "set|all|\t\n\\",
+            "",
+            "row\ta",
+            0,
+            "shape\t1\t1\nrow\t\\t\\n\\\\\n",
+            "",
+        ),
+        (
+            "--draw|header|--draw",
+            "",
+            "row\ta",
+            0,
+            "+--------+\n| --draw |\n+--------+\n| a      |\n+--------+\n",
+            "",
+        ),
+        // Faults are told with the words of their lines, if that is asked for.
+        ("vmreg", "", "row\ta", 2, "line 2: fault 1\n", ""),
+        (
+            "--tell|vmerge|then|vmreg|a b",
+            "",
+            "row\ta\n",
+            2,
+            "line 4: fault 1\n",
+            "step 2: fault 1: 'vmreg' 'a b'\n",
+        ),
+        (
+            "--tell|vmerge",
+            "",
+            "\nset\tcel\t\u{1b}\u{e4}\r",
+            2,
+            "line 2: fault 1\n",
+            "line 2: fault 1: 'set' 'cel' '\\u{1b}\u{e4}\\r'\n",
+        ),
+        // Each kind of step that may name nothing, and one that names something.
+        (
+            "--check|remove|rows|1|9|then|remove|columns|9|10|then|remove|named|b|then|extract|0|1|1|1",
+            "",
+            "row\ta\n\nset\tcell\t1\t0\tx\nset\tall\ta\ndup\tall\tcontent\tx\ndup\trow\t2\tall\nclean\tcolumn\t1\ntabs\t1\tnot\tall\tall\ncspan\t2\tlast-row-plus\t1\nrspan\t2\tskip\t1\tframe\nremove\tnamed\tb\nheader\th\n",
+            0,
+            "shape\t1\t0\nrow\n",
+            "line 3: names nothing in the table: 'set' 'cell' '1' '0' 'x'\n\
+             line 5: names nothing in the table: 'dup' 'all' 'content' 'x'\n\
+             line 6: names nothing in the table: 'dup' 'row' '2' 'all'\n\
+             line 7: names nothing in the table: 'clean' 'column' '1'\n\
+             line 8: names nothing in the table: 'tabs' '1' 'not' 'all' 'all'\n\
+             line 9: names nothing in the table: 'cspan' '2' 'last-row-plus' '1'\n\
+             line 10: names nothing in the table: 'rspan' '2' 'skip' '1' 'frame'\n\
+             line 11: names nothing in the table: 'remove' 'named' 'b'\n\
+             step 2: names nothing in the table: 'remove' 'columns' '9' '10'\n\
+             step 3: names nothing in the table: 'remove' 'named' 'b'\n\
+             step 4: names nothing in the table: 'extract' '0' '1' '1' '1'\n",
+        ),
+        // Rows of a file stand before those of a script, whose lines keep their numbers.
+        (
+            "--csv|f|--tell",
+            "a,\"b\tc\"\n1\n",
+            "row\tx\nspin\n",
+            2,
+            "line 2: fault 1\n",
+            "line 2: fault 1: 'spin'\n",
+        ),
+        (
+            "--csv|f|--to|csv|row|x|y|then|rotate|top",
+            "a,\"b\t\"\"c\"\r\n\n1\n",
+            "",
+            0,
+            "x,y\n1,\na,\"b\t\"\"c\"\n",
+            "",
+        ),
+        (
+            "--csv|f|--separator|;|--style|sharp|--align|r",
+            "a;b,c\n12;\n",
+            "",
+            0,
+            "┌────┬─────┐\n│  a │ b,c │\n├────┼─────┤\n│ 12 │     │\n└────┴─────┘\n",
+            "",
+        ),
+        (
+            "--csv|f|--tell",
+            "a\n\"b",
+            "spin",
+            2,
+            "csv line 2: fault 1\n",
+            "f: line 2: a quote is not closed\n",
+        ),
+        (
+            "--csv|f|--separator|tab",
+            "a\"\t\"b\"c",
+            "",
+            2,
+            "csv line 1: fault 2\n",
+            "",
+        ),
+    ] {
+        let asked = match request(alloc, arguments, file) {
+            Ok(asked) => asked,
+            Err(_) => return Err(Fail::from("refused")),
+        };
+        let mut reader = script.as_bytes();
+        let mut written = Vec::new(alloc);
+        let mut errors = Vec::new(alloc);
+        let got = answer(alloc, &asked, &mut reader, &mut written, &mut errors);
+        assert_eq!(rt; got, status, "{arguments}");
+        assert_eq!(rt; written.as_slice(), output.as_bytes(), "{arguments}");
+        assert_eq!(rt; errors.as_slice(), told.as_bytes(), "{arguments}");
+    }
+    Ok(())
+}
+
+#[test]
+fn what_cannot_be_asked_is_refused(rt: HostRuntime) -> Result<(), Fail> {
+    let alloc = rt.alloc();
+    for &(arguments, told) in &[
+        ("--spin", "there is no option --spin: --help lists them\n"),
+        ("--check|--csv", "the last option lacks its value\n"),
+        (
+            "--style|Modern",
+            "there is no style Modern: ascii modern rounded sharp extended psql markdown re_structured_text dots ascii_rounded blank empty\n",
+        ),
+        (
+            "--align|lx",
+            "columns are aligned by letters l, c and r, not by lx\n",
+        ),
+        (
+            "--separator|\"",
+            "\" is no separator: one character of ASCII, but no quote, or tab\n",
+        ),
+        (
+            "--separator|::",
+            ":: is no separator: one character of ASCII, but no quote, or tab\n",
+        ),
+        ("--to|tsv", "a table is written --to csv, and not to tsv\n"),
+    ] {
+        let mut written = Vec::new(alloc);
+        let mut errors = Vec::new(alloc);
+        let status = match request(alloc, arguments, "") {
+            Ok(_) => 0,
+            Err(refusal) => refusal.tell(alloc, &mut written, &mut errors),
+        };
+        assert_eq!(rt; status, 1, "{arguments}");
+        assert_eq!(rt; errors.as_slice(), told.as_bytes());
+        assert!(rt; written.is_empty());
+    }
+    Ok(())
+}
