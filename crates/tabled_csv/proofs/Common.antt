@@ -9,8 +9,8 @@ pub use Rattle.std.proofs.KnownBytes.{Appends-nil, Appends-trans}
 pub use Rattle.tabled_csv.specs.Grammar.{IsSeparator, begins_with, ends_with, is_outside, IsPlain, doubled, quoted, IsForm, IsField, IsRecord, IsLine, IsLineEnd, IsLines, begins_with_mark, behind_mark, IsCsv}
 pub use Rattle.tabled_csv.specs.Writing.{is_special, holds_special, is_none, field_of, others_of, first_is_quoted, record_of, lines_of, csv_of, AreRows, AreTexts, HaveFields}
 pub use Rattle.std.proofs.lemmas.List.{drop_more, get_or-drop, length-append, length-drop, length-take, map-append, take_more, take-append-drop, take_all}
-pub use Rattle.tabled_csv.specs.Texts.{AreLentOrQuote, IsLentOrQuotes, rows_by, rows_of, text_of, texts_by, texts_of}
-pub use Rattle.tabled_csv.specs.declared.field.Field.{Field}
+pub use Rattle.tabled_csv.specs.Texts.{rows_by, rows_of, text_of, texts_by, texts_of}
+pub use Rattle.std.specs.Borrow.{Bor}
 pub use Rattle.std.specs.Global.{Vec}
 pub use Rattle.std.proofs.Common.{drop_of_length-le, eq-eqb}
 pub use Rattle.std.proofs.lemmas.List.{take_rest}

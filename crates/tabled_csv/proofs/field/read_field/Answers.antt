@@ -8,7 +8,7 @@ text_in-requires c is =
     let p = c.plain_field-stop.result in
     plain-utf8 c.args.separator c.requires.separator c.args.bytes.now p.0.now p.1 p.2.now c.plain_field-stop.ensures (c.requires.text is)
 
-pub returns-in-None-clause-read : goal.returns-in-None-clause-read
-returns-in-None-clause-read c =
+pub returns-in-None : goal.returns-in-None
+returns-in-None c =
     let p = c.plain_field-stop.result in
     (p.0.now, p.1, p.2.now, plain-form c.args.separator c.args.bytes.now p.0.now p.1 p.2.now c.plain_field-stop.ensures, c.in-None.ensures, refl)
