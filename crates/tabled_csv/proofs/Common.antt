@@ -1,6 +1,6 @@
 -- The names that most proofs cite, passed on from one place. Declares nothing.
 pub use Rattle.std.specs.Prelude.{IsTrue, OnErr, slice_get}
-pub use Rattle.std.proofs.Common.{if◌then◌else◌, [], ◌&&◌, ◌+◌, ◌++◌, ◌-◌, ◌<◌, ◌==◌, ◌||◌, ◌∙◌, ◌∷◌, ◌≡◌, ◌≢◌, ◌≤◌, ◌⊎◌, Bool, List, None, Option, Some, ap, append-nil, append_assoc, arith, cond, drop, eqb, eqb-true, false, get_or, inl, inr, length, map, ne_eqb, not, refl, rules, subst, sym, take, true, IsUtf8, IfOk, MatchOption, MatchResult, Ok, Err, OnOk, Result, option_map, string_bytes, zero, suc, ℕ}
+pub use Rattle.std.proofs.Common.{if◌then◌else◌, [], ◌%◌, ◌&&◌, ◌*◌, ◌+◌, ◌^◌, ap₂, ◌++◌, ◌-◌, ◌<◌, ◌==◌, ◌||◌, ◌∙◌, ◌∷◌, ◌≡◌, ◌≢◌, ◌≤◌, ◌⊎◌, Bool, List, None, Option, Some, ap, append-nil, append_assoc, arith, cond, drop, eqb, eqb-true, false, get_or, inl, inr, length, map, ne_eqb, not, refl, rules, subst, sym, take, true, IsUtf8, IfOk, MatchOption, MatchResult, Ok, Err, OnOk, Result, option_map, string_bytes, zero, suc, ℕ}
 pub use Rattle.std.proofs.lemmas.Bool.{and_left, and_right, cases_Bool, or_from, or_parts, cond-true, cond-false, true≢false}
 pub use Rattle.std.proofs.lemmas.Grind.{common_steps}
 pub use Rattle.std.specs.List.{AllByRecursion, list_any}

@@ -1,6 +1,7 @@
 //! Fields.
 
-ghost use Rattle.std.specs.Prelude.{◌≡◌, ◌∷◌, false, IsTrue, IsUtf8, MatchOption, MatchResult};
+ghost use Rattle.std.specs.Prelude.{◌≡◌, ◌∷◌, false, IsTrue, IsUtf8, MatchResult};
+ghost use Rattle.std.specs.Bool.{MatchBool};
 ghost use Rattle.tabled_csv.specs.Grammar.{IsSeparator, begins_with};
 ghost use Rattle.tabled_csv.specs.Fields.{FieldAt, PlainAt};
 ghost use Rattle.tabled_csv.specs.Faults.{FaultAt};
@@ -13,19 +14,13 @@ use crate::room::Spare;
 use crate::stop::{Stop, begins_with, stop_at, without_return};
 use std::str;
 
-/// The text that bytes are, if they are UTF-8. Where that is known they aren't tested again.
+/// Whether bytes are UTF-8. Where that is known they aren't tested again.
 #[inline(always)]
-fn text_in(is_text: bool, bytes: &[u8]) -> Option<&str>
+fn is_utf8(is_text: bool, bytes: &[u8]) -> bool
     requires { IsTrue is_text → IsUtf8 bytes.now }
-    ensures { MatchOption result (IsUtf8 bytes.now → ⊥) (λ text. (text.now ≡ bytes.now) × IsUtf8 bytes.now) }
+    ensures { MatchBool result (IsUtf8 bytes.now) (IsUtf8 bytes.now → ⊥) }
 {
-    if is_text {
-        return Some(unsafe { str::from_utf8_unchecked(bytes) });
-    }
-    match str::from_utf8(bytes) {
-        Ok(text) => Some(text),
-        Err(_) => None,
-    }
+    is_text || str::from_utf8(bytes).is_ok()
 }
 
 /// The plain field at the front of bytes that don't begin with a quote, what is behind it, and the bytes after this.
@@ -59,10 +54,10 @@ pub(crate) fn read_field<'a>(
         return quoted_field(separator, is_text, bytes, &bytes[1..], spare);
     }
     let (field, stop, after) = plain_field(separator, bytes);
-    match text_in(is_text, field) {
-        Some(text) => Ok((text, stop, after)),
-        None => Err(Unread::Faulty(Fault::NotUtf8, bytes.len())),
+    if !is_utf8(is_text, field) {
+        return Err(Unread::Faulty(Fault::NotUtf8, bytes.len()));
     }
+    Ok((unsafe { str::from_utf8_unchecked(field) }, stop, after))
 }
 
 /// The same, of bytes that begin with a quote.
@@ -93,8 +88,8 @@ fn quoted_field<'a>(
         };
         return Ok((text, stop, after));
     }
-    match text_in(is_text, inner) {
-        Some(text) => Ok((text, stop, after)),
-        None => Err(Unread::Faulty(Fault::NotUtf8, bytes.len())),
+    if !is_utf8(is_text, inner) {
+        return Err(Unread::Faulty(Fault::NotUtf8, bytes.len()));
     }
+    Ok((unsafe { str::from_utf8_unchecked(inner) }, stop, after))
 }

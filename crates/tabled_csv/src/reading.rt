@@ -119,7 +119,13 @@ pub fn read<'a>(
     let text = behind_mark(bytes);
     // To test all bytes at once takes less than to test those of each field.
     let is_text = str::from_utf8(text).is_ok();
-    match lines(alloc, separator.byte(), is_text, text, &mut Spare::new(room)) {
+    match lines(
+        alloc,
+        separator.byte(),
+        is_text,
+        text,
+        &mut Spare::new(room),
+    ) {
         Ok(rows) => Ok(rows),
         Err(Unread::Faulty(fault, left)) => {
             let line = line_at(text, left);

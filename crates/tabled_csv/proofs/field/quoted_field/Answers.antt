@@ -32,34 +32,8 @@ returns-in_default-from_utf8 c =
       refl,
     )
 
-pub text_in-requires : goal.text_in-requires
-text_in-requires c is = inner-utf8 c.args.bytes.now c.args.behind.now c.in-Some.closing c.requires.behind c.in-Some.ensures (c.requires.text is)
-
-pub returns-in-Some-text_in : goal.returns-in-Some-text_in
-returns-in-Some-text_in c =
-    let by = c.in-Some.ensures in
-    let stop = c.in-Some-stop_at.stop in
-    let after = c.in-Some-stop_at.after.now in
-    let read = c.in-Some-text_in.ensures in
-    let is : c.in-Some-text_in.text.now ≡ by.text = read.0 ∙ by.same c.if-closing.false in
-    record {
-      utf8 = subst IsUtf8 (sym read.0) read.1;
-      at = subst (λ (text : List ℕ). FormAt c.args.separator c.args.bytes.now text stop after) (sym is)
-          (form c.args.separator c.args.bytes.now c.args.behind.now c.in-Some.closing by stop after c.requires.behind c.in-Some-stop_at.ensures);
-    }
-
-pub returns-in-None : goal.returns-in-None
-returns-in-None c =
-    let by = c.in-Some.ensures in
-    let stop = c.in-Some-stop_at.stop in
-    let after = c.in-Some-stop_at.after.now in (
-      by.text,
-      stop,
-      after,
-      form c.args.separator c.args.bytes.now c.args.behind.now c.in-Some.closing by stop after c.requires.behind c.in-Some-stop_at.ensures,
-      (λ valid. c.in-None.ensures (subst IsUtf8 (sym (by.same c.if-closing.false)) valid)),
-      refl,
-    )
+pub is_utf8-requires : goal.is_utf8-requires
+is_utf8-requires c is = inner-utf8 c.args.bytes.now c.args.behind.now c.in-Some.closing c.requires.behind c.in-Some.ensures (c.requires.text is)
 
 pub returns-then-closing : goal.returns-then-closing
 returns-then-closing c =
@@ -71,5 +45,30 @@ returns-then-closing c =
     record {
       utf8 = subst IsUtf8 (sym read.0) read.1;
       at = subst (λ (text : List ℕ). FormAt c.args.separator c.args.bytes.now text stop after) (sym is)
+          (form c.args.separator c.args.bytes.now c.args.behind.now c.in-Some.closing by stop after c.requires.behind c.in-Some-stop_at.ensures);
+    }
+
+pub returns-then-not-is_utf8 : goal.returns-then-not-is_utf8
+returns-then-not-is_utf8 c =
+    let by = c.in-Some.ensures in
+    let stop = c.in-Some-stop_at.stop in
+    let after = c.in-Some-stop_at.after.now in (
+      by.text,
+      stop,
+      after,
+      form c.args.separator c.args.bytes.now c.args.behind.now c.in-Some.closing by stop after c.requires.behind c.in-Some-stop_at.ensures,
+      (λ valid. c.if-not-is_utf8.ensures (subst IsUtf8 (sym (by.same c.if-closing.false)) valid)),
+      refl,
+    )
+
+pub returns : goal.returns
+returns c =
+    let by = c.in-Some.ensures in
+    let stop = c.in-Some-stop_at.stop in
+    let after = c.in-Some-stop_at.after.now in
+    let whole = c.from_utf8_unchecked.ensures in
+    record {
+      utf8 = subst IsUtf8 (sym whole) c.if-not-is_utf8.ensures;
+      at = subst (λ (text : List ℕ). FormAt c.args.separator c.args.bytes.now text stop after) (sym (whole ∙ by.same c.if-closing.false))
           (form c.args.separator c.args.bytes.now c.args.behind.now c.in-Some.closing by stop after c.requires.behind c.in-Some-stop_at.ensures);
     }
