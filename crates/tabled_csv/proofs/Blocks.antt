@@ -1,7 +1,7 @@
 -- The first byte that ends a plain field, sought block by block.
 use Rattle.std.proofs.Math.Seq.{take-add}
 use Rattle.std.proofs.lemmas.List.{get_or-take, take-take}
-use Rattle.tabled_csv.proofs.Common.{◌+◌, ◌<◌, ◌∙◌, ◌≡◌, List, ap, arith, drop, false, get_or, get_or-drop, is_outside, length, length-drop, length-take, list_any, list_any-append, or_from, sym, take, ℕ}
+use Rattle.tabled_csv.proofs.Common.{◌+◌, ◌<◌, ◌∙◌, ◌≡◌, List, ap, arith, drop, false, get_or-drop, is_outside, length-drop, length-take, list_any, list_any-append, or_from, sym, take, ℕ}
 use Rattle.tabled_csv.specs.Fields.{IsFirstOutside}
 
 module _ (s : ℕ) (bytes : List ℕ) (a : ℕ) (clean : list_any (is_outside s) (take a bytes) ≡ false) where

@@ -1,6 +1,5 @@
 -- The search for a closing quote.
-use Rattle.std.proofs.lemmas.Bool.{or_left, or_right}
-use Rattle.tabled_csv.proofs.Common.{list_any, list_any-append, ◌≡◌, ◌≤◌, ◌<◌, ◌+◌, ◌==◌, ◌++◌, ◌∷◌, ◌∙◌, [], ℕ, List, Option, None, Some, Bool, false, true, refl, sym, ap, arith, append_assoc, begins_with, cond, doubled, drop, drop_of_length-le, eqb-true, drop_more, get_or, length, length-drop, ne_eqb, take, take_more, take-append-drop}
+use Rattle.tabled_csv.proofs.Common.{◌≡◌, ◌≤◌, ◌<◌, ◌+◌, ◌==◌, ◌++◌, ◌∷◌, ◌∙◌, [], ℕ, List, Option, None, Some, Bool, false, true, refl, sym, ap, arith, append_assoc, begins_with, cond, doubled, drop, drop_of_length-le, eqb-true, drop_more, get_or, length, length-drop, ne_eqb, take, take_more, take-append-drop}
 use Rattle.tabled_csv.proofs.DoubledQuotes.{doubled-append}
 use Rattle.tabled_csv.proofs.Unique.{onto_text, quoted-is, quoted-plain, quoted_at}
 use Rattle.tabled_csv.specs.Fields.{ClosedBy, NeverCloses}
@@ -12,7 +11,6 @@ pub record Passed (bytes : List ℕ) (place : ℕ) (has_doubled : Bool) : Type 0
   pub inner : take place bytes ≡ doubled text
   pub goes_on : quoted_at bytes ≡ onto_text text (quoted_at (drop place bytes))
   pub same : has_doubled ≡ false → take place bytes ≡ text
-  pub holds : has_doubled ≡ true → list_any (λ b. b == 34) text ≡ true
 
 onto-nothing : (q : Option (List ℕ × List ℕ)) → q ≡ onto_text [] q
 onto-nothing None = refl
@@ -23,7 +21,7 @@ onto-twice xs ys None = refl
 onto-twice xs ys (Some q) = ap (λ (l : List ℕ). Some (l, q.1)) (sym (append_assoc xs ys q.0))
 
 pub passed-none : (bytes : List ℕ) → Passed bytes 0 false
-passed-none bytes = record { inside = omega arith; text = []; inner = refl; goes_on = onto-nothing (quoted_at bytes); same = λ e. refl; holds = λ e. cc }
+passed-none bytes = record { inside = omega arith; text = []; inner = refl; goes_on = onto-nothing (quoted_at bytes); same = λ e. refl }
 
 module _ (bytes : List ℕ) (place : ℕ) (has_doubled : Bool) (p : Passed bytes place has_doubled) (inside : place < length bytes) where
   -- a byte that is no quote
@@ -40,7 +38,6 @@ module _ (bytes : List ℕ) (place : ℕ) (has_doubled : Bool) (p : Passed bytes
         goes_on = p.goes_on ∙ ap (λ (l : List ℕ). onto_text p.text (quoted_at l)) (drop_more bytes place 0 inside)
             ∙ ap (onto_text p.text) (quoted-plain b (drop (place + 1) bytes) no_quote) ∙ onto-twice p.text (b ∷ []) (quoted_at (drop (place + 1) bytes));
         same = λ e. more ∙ ap (λ (l : List ℕ). l ++ (b ∷ [])) (p.same e);
-        holds = λ e. list_any-append (λ x. x == 34) p.text (b ∷ []) ∙ or_left (list_any (λ x. x == 34) p.text) (list_any (λ x. x == 34) (b ∷ [])) (p.holds e);
       }
 
   module _ (quote : get_or bytes place 0 ≡ 34) where
@@ -71,7 +68,6 @@ module _ (bytes : List ℕ) (place : ℕ) (has_doubled : Bool) (p : Passed bytes
           goes_on = p.goes_on ∙ ap (λ (l : List ℕ). onto_text p.text (quoted_at l)) (at-quote ∙ ap (λ (l : List ℕ). 34 ∷ l) behind)
               ∙ onto-twice p.text (34 ∷ []) (quoted_at (drop (place + 2) bytes));
           same = λ e. cc;
-          holds = λ e. list_any-append (λ x. x == 34) p.text (34 ∷ []) ∙ or_right (list_any (λ x. x == 34) p.text) (list_any (λ x. x == 34) (34 ∷ [])) refl;
         }
       where
         head-is : {a b : ℕ} {xs ys : List ℕ} → a ∷ xs ≡ b ∷ ys → a ≡ b
@@ -88,7 +84,6 @@ module _ (bytes : List ℕ) (place : ℕ) (has_doubled : Bool) (p : Passed bytes
         single = single;
       };
       same = p.same;
-      holds = p.holds;
     }
 
 -- at the end of the bytes

@@ -11,5 +11,6 @@ pub mod Fronts
 pub mod Writes
 pub mod Written
 pub mod Blocks
+pub mod Marks
 pub mod Stores
 pub mod Utf8Parts

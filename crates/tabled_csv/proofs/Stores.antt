@@ -1,8 +1,7 @@
 -- The rows of an even store.
 use Rattle.tabled_grid.proofs.Grids.{IsEven-map_grid}
 use Rattle.tabled_grid.specs.Grid.{Grid, IsEven, IsInside, map_grid}
-use Rattle.tabled_grid.specs.declared.config.position.Position.{Position}
-use Rattle.tabled_csv.proofs.Common.{[], ◌<◌, ◌∙◌, ◌∷◌, ◌≡◌, AllByRecursion, HaveFields, List, arith, false, get_or, is_none, length, refl, suc, zero, ℕ}
+use Rattle.tabled_csv.proofs.Common.{[], ◌<◌, ◌∷◌, ◌≡◌, AllByRecursion, HaveFields, List, arith, false, get_or, is_none, length, refl, suc, zero, ℕ}
 
 wide-at : {A : Type 0} (n : ℕ) (rows : List (List A)) (i : ℕ) → AllByRecursion (λ (row : List A). length row ≡ n) rows → i < length rows → length (get_or rows i []) ≡ n
 wide-at n [] i all inside = absurd (omega arith)

@@ -1,5 +1,5 @@
 -- A field at the front of bytes, and what is behind it.
-use Rattle.std.specs.Prelude.{◌==◌, true, ◌≡◌, ◌<◌, ◌+◌, ℕ, List, [], ◌∷◌, ◌++◌, ◌⊎◌, length, take, drop, IsUtf8, false, slice_index}
+use Rattle.std.specs.Prelude.{true, ◌≡◌, ◌<◌, ◌+◌, ℕ, List, [], ◌∷◌, ◌++◌, ◌⊎◌, length, take, drop, IsUtf8, false, slice_index}
 use Rattle.std.specs.List.{list_any}
 use Rattle.tabled_csv.specs.Grammar.{IsForm, IsPlain, IsLineEnd, begins_with, doubled, ends_with, is_outside}
 use Rattle.tabled_csv.specs.declared.quoted.Closing.{Closing}
@@ -74,4 +74,3 @@ pub record ClosedBy (bytes : List ℕ) (closing : Closing) : Type 0 where
   pub inner : take closing.place bytes ≡ doubled text
   pub closes : ClosesAt bytes text (drop (closing.place + 1) bytes)
   pub same : closing.has_doubled ≡ false → take closing.place bytes ≡ text
-  pub holds : closing.has_doubled ≡ true → list_any (λ b. b == 34) text ≡ true

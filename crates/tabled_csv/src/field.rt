@@ -1,69 +1,26 @@
 //! Fields.
 
-ghost use Rattle.std.specs.Prelude.{◌≡◌, ◌∷◌, [], false, IfOk, IsTrue, IsUtf8, MatchOption, MatchResult};
+ghost use Rattle.std.specs.Prelude.{◌≡◌, ◌∷◌, false, IsTrue, IsUtf8, MatchResult};
+ghost use Rattle.std.specs.Bool.{MatchBool};
 ghost use Rattle.tabled_csv.specs.Grammar.{IsSeparator, begins_with};
 ghost use Rattle.tabled_csv.specs.Fields.{FieldAt, PlainAt};
 ghost use Rattle.tabled_csv.specs.Faults.{FaultAt};
 ghost use Rattle.tabled_csv.specs.Reading.{UnreadAt};
-ghost use Rattle.tabled_csv.specs.Texts.{IsLentOrQuotes, text_of};
 
 use crate::fault::{Fault, Unread};
 use crate::outside::first_outside;
-use crate::quoted::{find_closing, undoubled};
+use crate::quoted::find_closing;
+use crate::room::Spare;
 use crate::stop::{Stop, begins_with, stop_at, without_return};
-use std::alloc::{AllocError, Global};
 use std::str;
-use tabled_grid::records::{Blank, CellText, FromText};
 
-/// A text that the bytes lend that were read, or one of its own. It is a cell.
-///
-/// Of this project.
-#[derive(Drop)]
-pub enum Field<'a> {
-    Lent(&'a str),
-    Own(Box<String>),
-}
-
-impl<'a> Blank for Field<'a> {
-    ghost is_blank = { λ field. text_of field ≡ [] };
-
-    fn blank(_alloc: Global) -> Self {
-        Field::Lent("")
-    }
-}
-
-impl<'a> CellText for Field<'a> {
-    ghost text_of = { text_of };
-
-    ghost blank_is_empty = { λ field h. h };
-
-    fn text(&self) -> &str {
-        match self {
-            Field::Lent(text) => text,
-            Field::Own(text) => text.as_str(),
-        }
-    }
-}
-
-impl<'a> FromText for Field<'a> {
-    fn from_string(alloc: Global, text: String) -> Result<Self, AllocError> {
-        Ok(Field::Own(Box::new(alloc, text)?))
-    }
-}
-
-/// The text that bytes are, if they are UTF-8. Where that is known they aren't tested again.
+/// Whether bytes are UTF-8. Where that is known they aren't tested again.
 #[inline(always)]
-fn text_in(is_text: bool, bytes: &[u8]) -> Option<&str>
+fn is_utf8(is_text: bool, bytes: &[u8]) -> bool
     requires { IsTrue is_text → IsUtf8 bytes.now }
-    ensures { MatchOption result (IsUtf8 bytes.now → ⊥) (λ text. (text.now ≡ bytes.now) × IsUtf8 bytes.now) }
+    ensures { MatchBool result (IsUtf8 bytes.now) (IsUtf8 bytes.now → ⊥) }
 {
-    if is_text {
-        return Some(unsafe { str::from_utf8_unchecked(bytes) });
-    }
-    match str::from_utf8(bytes) {
-        Ok(text) => Some(text),
-        Err(_) => None,
-    }
+    is_text || str::from_utf8(bytes).is_ok()
 }
 
 /// The plain field at the front of bytes that don't begin with a quote, what is behind it, and the bytes after this.
@@ -84,40 +41,38 @@ fn plain_field(separator: u8, bytes: &[u8]) -> (&[u8], Stop, &[u8])
 /// The field at the front of bytes, what is behind it, and the bytes after this.
 #[inline(always)]
 pub(crate) fn read_field<'a>(
-    alloc: Global,
     separator: u8,
     is_text: bool,
     bytes: &'a [u8],
-) -> Result<(Field<'a>, Stop, &'a [u8]), Unread>
+    spare: &mut Spare<'a>,
+) -> Result<(&'a str, Stop, &'a [u8]), Unread>
     requires separator { IsSeparator separator }
     requires text { IsTrue is_text → IsUtf8 bytes.now }
-    ensures lent { IfOk result (λ read. IsLentOrQuotes read.0) }
-    ensures read { MatchResult result (λ read. FieldAt separator bytes.now (text_of read.0) read.1 read.2.now) (UnreadAt (FaultAt separator bytes.now)) }
+    ensures { MatchResult result (λ read. FieldAt separator bytes.now read.0.now read.1 read.2.now) (UnreadAt (FaultAt separator bytes.now)) }
 {
     if begins_with(b'"', bytes) {
-        return quoted_field(alloc, separator, is_text, bytes, &bytes[1..]);
+        return quoted_field(separator, is_text, bytes, &bytes[1..], spare);
     }
     let (field, stop, after) = plain_field(separator, bytes);
-    match text_in(is_text, field) {
-        Some(text) => Ok((Field::Lent(text), stop, after)),
-        None => Err(Unread::Faulty(Fault::NotUtf8, bytes.len())),
+    if !is_utf8(is_text, field) {
+        return Err(Unread::Faulty(Fault::NotUtf8, bytes.len()));
     }
+    Ok((unsafe { str::from_utf8_unchecked(field) }, stop, after))
 }
 
 /// The same, of bytes that begin with a quote.
 #[inline(never)]
 fn quoted_field<'a>(
-    alloc: Global,
     separator: u8,
     is_text: bool,
     bytes: &'a [u8],
     behind: &'a [u8],
-) -> Result<(Field<'a>, Stop, &'a [u8]), Unread>
+    spare: &mut Spare<'a>,
+) -> Result<(&'a str, Stop, &'a [u8]), Unread>
     requires separator { IsSeparator separator }
     requires behind { bytes.now ≡ 34 ∷ behind.now }
     requires text { IsTrue is_text → IsUtf8 bytes.now }
-    ensures lent { IfOk result (λ read. IsLentOrQuotes read.0) }
-    ensures read { MatchResult result (λ read. FieldAt separator bytes.now (text_of read.0) read.1 read.2.now) (UnreadAt (FaultAt separator bytes.now)) }
+    ensures { MatchResult result (λ read. FieldAt separator bytes.now read.0.now read.1 read.2.now) (UnreadAt (FaultAt separator bytes.now)) }
 {
     let Some(closing) = find_closing(behind) else {
         return Err(Unread::Faulty(Fault::UnclosedQuote, bytes.len()));
@@ -128,13 +83,13 @@ fn quoted_field<'a>(
     };
     let inner = &behind[..closing.place];
     if closing.has_doubled {
-        let Ok(text) = String::from_utf8(undoubled(alloc, inner)?) else {
+        let Ok(text) = str::from_utf8(spare.undoubled(inner)?) else {
             return Err(Unread::Faulty(Fault::NotUtf8, bytes.len()));
         };
-        return Ok((Field::Own(Box::new(alloc, text)?), stop, after));
+        return Ok((text, stop, after));
     }
-    match text_in(is_text, inner) {
-        Some(text) => Ok((Field::Lent(text), stop, after)),
-        None => Err(Unread::Faulty(Fault::NotUtf8, bytes.len())),
+    if !is_utf8(is_text, inner) {
+        return Err(Unread::Faulty(Fault::NotUtf8, bytes.len()));
     }
+    Ok((unsafe { str::from_utf8_unchecked(inner) }, stop, after))
 }

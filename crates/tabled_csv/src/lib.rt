@@ -8,13 +8,14 @@ mod outside;
 mod quoted;
 mod quoting;
 mod reading;
+mod room;
 mod rows;
 mod separator;
 mod stop;
 mod writing;
 
 pub use fault::{Fault, ReadError, WriteError};
-pub use field::Field;
 pub use reading::read;
+pub use room::Room;
 pub use separator::Separator;
 pub use writing::{write, write_records};

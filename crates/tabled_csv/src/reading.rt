@@ -1,14 +1,14 @@
 //! CSV, read.
 
 ghost use Rattle.std.specs.Prelude.{◌≡◌, ◌≤◌, [], IfErr, IfOk, IsOk, IsTrue, IsUtf8, MatchResult, OnErr, length};
-ghost use Rattle.std.specs.List.{AllByRecursion};
 ghost use Rattle.tabled_csv.specs.Grammar.{IsSeparator, IsCsv, IsLines, behind_mark};
 ghost use Rattle.tabled_csv.specs.Reading.{AtFault, LinesFault, NoRows, RecordAt, RecordFault, UnreadAt};
 ghost use Rattle.tabled_csv.specs.Faults.{IsFault, line_at};
-ghost use Rattle.tabled_csv.specs.Texts.{AreLentOrQuote, rows_of, texts_of};
+ghost use Rattle.tabled_csv.specs.Texts.{rows_of, texts_of};
 
 use crate::fault::{ReadError, Unread};
-use crate::field::{Field, read_field};
+use crate::field::read_field;
+use crate::room::{Room, Spare};
 use crate::separator::Separator;
 use crate::stop::{Stop, begins_with_mark, behind_line_end};
 use std::alloc::Global;
@@ -21,16 +21,16 @@ fn record<'a>(
     is_text: bool,
     room: usize,
     bytes: &'a [u8],
-) -> Result<(Vec<Field<'a>>, &'a [u8]), Unread>
+    spare: &mut Spare<'a>,
+) -> Result<(Vec<&'a str>, &'a [u8]), Unread>
     requires separator { IsSeparator separator }
     requires text { IsTrue is_text → IsUtf8 bytes.now }
-    ensures lent { IfOk result (λ read. AreLentOrQuote read.0) }
-    ensures read { MatchResult result (λ read. RecordAt separator bytes.now (texts_of read.0) read.1.now) (UnreadAt (RecordFault separator bytes.now)) }
+    ensures { MatchResult result (λ read. RecordAt separator bytes.now (texts_of read.0) read.1.now) (UnreadAt (RecordFault separator bytes.now)) }
 {
     let mut row = Vec::with_capacity(alloc, room)?;
     let mut rest = bytes;
     'fields: loop {
-        let (text, stop, after) = read_field(alloc, separator, is_text, rest)?;
+        let (text, stop, after) = read_field(separator, is_text, rest, spare)?;
         row.push(text)?;
         match stop {
             Stop::Separator => rest = after,
@@ -46,10 +46,10 @@ fn lines<'a>(
     separator: u8,
     is_text: bool,
     bytes: &'a [u8],
-) -> Result<Vec<Vec<Field<'a>>>, Unread>
+    spare: &mut Spare<'a>,
+) -> Result<Vec<Vec<&'a str>>, Unread>
     requires separator { IsSeparator separator }
     requires text { IsTrue is_text → IsUtf8 bytes.now }
-    ensures lent { IfOk result (λ rows. AllByRecursion AreLentOrQuote rows.items) }
     ensures err { OnErr result (IsLines separator bytes.now [] → ⊥) }
     ensures read { MatchResult result (λ rows. IsLines separator bytes.now (rows_of rows.items)) (UnreadAt (LinesFault separator bytes.now)) }
 {
@@ -60,7 +60,7 @@ fn lines<'a>(
         match behind_line_end(rest) {
             Some(after) => rest = after,
             None => {
-                let (row, after) = record(alloc, separator, is_text, room, rest)?;
+                let (row, after) = record(alloc, separator, is_text, room, rest, spare)?;
                 // Most records have as many fields as the one before.
                 room = row.len();
                 rows.push(row)?;
@@ -98,16 +98,16 @@ fn line_at(bytes: &[u8], left: usize) -> usize
 /// it or not, and the last one may have no end. A blank line is no record. A field is plain, or stands between quotes
 /// with each quote in it doubled. A byte order mark in front is passed over. Rows may differ in length.
 ///
-/// A text is lent, unless a quote is doubled in it.
+/// The texts are lent, by the bytes or, where a quote is doubled in one, by the room.
 ///
 /// Of this project.
 pub fn read<'a>(
     alloc: Global,
     separator: Separator,
     bytes: &'a [u8],
-) -> Result<Vec<Vec<Field<'a>>>, ReadError>
+    room: &'a mut Room,
+) -> Result<Vec<Vec<&'a str>>, ReadError>
     ensures rows { IfOk result (λ rows. IsCsv separator bytes.now (rows_of rows.items)) }
-    ensures lent { IfOk result (λ rows. AllByRecursion AreLentOrQuote rows.items) }
 
     // Bytes that mean no row take no memory.
     ensures promised { IsCsv separator bytes.now [] → IsOk result }
@@ -119,7 +119,13 @@ pub fn read<'a>(
     let text = behind_mark(bytes);
     // To test all bytes at once takes less than to test those of each field.
     let is_text = str::from_utf8(text).is_ok();
-    match lines(alloc, separator.byte(), is_text, text) {
+    match lines(
+        alloc,
+        separator.byte(),
+        is_text,
+        text,
+        &mut Spare::new(room),
+    ) {
         Ok(rows) => Ok(rows),
         Err(Unread::Faulty(fault, left)) => {
             let line = line_at(text, left);

@@ -13,7 +13,7 @@ use crate::respond::{FAILED, FAULTY, finish, write_whole};
 use crate::values::row_lines;
 use std::alloc::{AllocError, Global};
 use std::io::Write;
-use tabled_csv::{Fault, ReadError, read};
+use tabled_csv::{Fault, ReadError, Room, read};
 
 /// The rows of a file as lines of a script, and how many they are. Without a file there are none.
 pub(crate) fn lines_of(alloc: Global, file: &Option<CsvFile>) -> Result<(Vec<u8>, usize), ReadError>
@@ -23,7 +23,8 @@ pub(crate) fn lines_of(alloc: Global, file: &Option<CsvFile>) -> Result<(Vec<u8>
     match file {
         None => Ok((Vec::new(alloc), 0)),
         Some(file) => {
-            let rows = read(alloc, file.separator, &file.bytes)?;
+            let mut room = Room::new(alloc)?;
+            let rows = read(alloc, file.separator, &file.bytes, &mut room)?;
             match row_lines(alloc, &rows) {
                 Ok(lines) => Ok((lines, rows.len())),
                 Err(_) => Err(ReadError::OutOfMemory),

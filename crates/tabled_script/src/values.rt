@@ -15,8 +15,7 @@ use crate::held::{Held, PART, hold_byte, hold_bytes, send};
 use crate::output::write_word;
 use std::alloc::{AllocError, Global};
 use std::io::{self, Write};
-use tabled_csv::{Field, Separator, WriteError, write_records};
-use tabled_grid::records::CellText;
+use tabled_csv::{Separator, WriteError, write_records};
 use tabled_language::LentText;
 
 /// Writes the texts of a table as CSV, and flushes the writer. All memory is asked for before the first byte: refused,
@@ -39,7 +38,7 @@ pub(crate) fn write_values<W: Write>(
 }
 
 /// The rows of CSV as lines of a script.
-pub(crate) fn row_lines(alloc: Global, rows: &[Vec<Field>]) -> Result<Vec<u8>, AllocError>
+pub(crate) fn row_lines(alloc: Global, rows: &[Vec<&str>]) -> Result<Vec<u8>, AllocError>
     ensures { IfOk result (λ lines. lines.items ≡ flat_map row_line (rows_of rows.now)) }
 {
     let mut held = Held::new(alloc)?;
@@ -54,14 +53,14 @@ pub(crate) fn row_lines(alloc: Global, rows: &[Vec<Field>]) -> Result<Vec<u8>, A
 }
 
 /// Writes, or holds, the line of a row's texts.
-fn hold_row<W: Write>(writer: &mut W, held: &mut Held, texts: &[Field]) -> io::Result<()>
+fn hold_row<W: Write>(writer: &mut W, held: &mut Held, texts: &[&str]) -> io::Result<()>
     requires { length held.old < PART }
     ensures sends { OnOk result (Sends (W.contents writer.old) held.old (W.contents writer.new) held.new (row_line (map text_of texts.now))) }
     ensures less { OnOk result (length held.new < PART) }
 {
     hold_bytes(held, b"row");
     for text in texts {
-        write_word(writer, held, text.text())?;
+        write_word(writer, held, text)?;
     }
     hold_byte(held, b'\n');
     send(writer, held)

@@ -1,15 +1,15 @@
 //! Tables read from CSV.
 
 use std::alloc::{AllocError, Global};
-use tabled_csv::{Field, ReadError, Separator, read};
+use tabled_csv::{ReadError, Room, Separator, read};
 use tabled_draw::picture;
-use tabled_grid::records::CellText;
 use tabled_table::builder::Builder;
 
 /// The picture of the table that CSV means, its short records padded.
 pub fn drawn(alloc: Global, csv: &[u8]) -> Result<String, ReadError> {
+    let mut room = Room::new(alloc)?;
     let mut rows = Builder::new(alloc);
-    for row in read(alloc, Separator::comma(), csv)? {
+    for row in read(alloc, Separator::comma(), csv, &mut room)? {
         rows.push_record(alloc, texts(alloc, &row)?)?;
     }
     let table = rows.build(alloc)?;
@@ -17,8 +17,8 @@ pub fn drawn(alloc: Global, csv: &[u8]) -> Result<String, ReadError> {
 }
 
 /// The texts of a row.
-fn texts(alloc: Global, row: &[Field]) -> Result<Vec<String>, AllocError> {
+fn texts(alloc: Global, row: &[&str]) -> Result<Vec<String>, AllocError> {
     row.iter()
-        .map(|field: &Field| String::from_str(alloc, field.text()))
+        .map(|text: &&str| String::from_str(alloc, text))
         .try_collect(alloc)
 }

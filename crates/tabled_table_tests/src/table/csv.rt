@@ -3,19 +3,20 @@
 use std::alloc::Global;
 use std::io::{self, Write};
 use std::test::Fail;
-use tabled_csv::{Field, ReadError, Separator, WriteError, read, write, write_records};
-use tabled_grid::records::{CellText, VecRecords};
+use tabled_csv::{ReadError, Room, Separator, WriteError, read, write, write_records};
+use tabled_grid::records::VecRecords;
 
 /// What bytes are read as: rows with `|` behind each field and `/` behind each row, or the error.
 fn shown(alloc: Global, separator: Separator, bytes: &[u8]) -> Result<String, Fail> {
-    let rows = match read(alloc, separator, bytes) {
+    let mut room = Room::new(alloc)?;
+    let rows = match read(alloc, separator, bytes, &mut room) {
         Ok(rows) => rows,
         Err(error) => return Ok(format!(in alloc; "{error}")?),
     };
     let mut shown = String::new(alloc);
     for row in &rows {
-        for field in row {
-            shown.push_str(field.text())?;
+        for text in row {
+            shown.push_str(text)?;
             shown.push('|')?;
         }
         shown.push('/')?;
@@ -59,6 +60,26 @@ fn reads(rt: HostRuntime) -> Result<(), Fail> {
     Ok(())
 }
 
+/// Texts with quotes that take more room than its first parts have.
+#[test]
+fn reads_many_quotes(rt: HostRuntime) -> Result<(), Fail> {
+    let mut bytes = Vec::new(rt.alloc());
+    for _ in 0..6000 {
+        bytes.extend_from_slice(b"\"a\"\"b\"\n")?;
+    }
+    let mut room = Room::new(rt.alloc())?;
+    let Ok(rows) = read(rt.alloc(), Separator::comma(), &bytes, &mut room) else {
+        return Err(Fail::from("no rows"));
+    };
+    assert_eq!(rt; rows.len(), 6000);
+    for row in &rows {
+        for text in row {
+            assert_eq!(rt; *text, "a\"b");
+        }
+    }
+    Ok(())
+}
+
 #[test]
 fn writes(rt: HostRuntime) -> Result<(), Fail> {
     let alloc = rt.alloc();
@@ -73,7 +94,8 @@ fn writes(rt: HostRuntime) -> Result<(), Fail> {
         ("a\"\"b,abcdefgh;\n", "\"a\"\"\"\"b\";\"abcdefgh;\"\n"),
         ("\"\u{FEFF}a\"\n\"\u{FEFF}\"", "\"\u{FEFF}a\"\n\u{FEFF}\n"),
     ] {
-        let Ok(rows) = read(alloc, Separator::comma(), bytes.as_bytes()) else {
+        let mut room = Room::new(alloc)?;
+        let Ok(rows) = read(alloc, Separator::comma(), bytes.as_bytes(), &mut room) else {
             return Err(Fail::from("no rows"));
         };
         let mut out = Vec::new(alloc);
@@ -121,7 +143,7 @@ impl Write for Narrow {
 /// Writes a store of one row into little room, and says how that ended and how many bytes were taken. Where the
 /// store is refused, there is nothing to say.
 fn narrowed(alloc: Global, room: usize) -> Option<(bool, usize)> {
-    let row = vec![in alloc; Field::Lent("a"), Field::Lent("b,")].ok()?;
+    let row = vec![in alloc; "a", "b,"].ok()?;
     let rows = vec![in alloc; row].ok()?;
     let records = VecRecords::new(alloc, rows).ok()?;
     let mut writer = Narrow { room, taken: 0 };
@@ -146,7 +168,10 @@ fn tells_a_failing_writer(rt: HostRuntime) {
 #[test]
 fn reads_or_is_refused(rt: HostRuntime) {
     for bytes in ["a,b\n", "\"a\"\"b\"\n\"c\"\"\"\n"] {
-        match read(rt.alloc(), Separator::comma(), bytes.as_bytes()) {
+        let Ok(mut room) = Room::new(rt.alloc()) else {
+            return;
+        };
+        match read(rt.alloc(), Separator::comma(), bytes.as_bytes(), &mut room) {
             Ok(rows) => assert!(rt; !rows.is_empty()),
             Err(error) => assert!(rt; error == ReadError::OutOfMemory),
         }

@@ -1,4 +1,4 @@
-use Rattle.tabled_csv.proofs.Common.{eqb, list_any, ◌∷◌, ◌+◌, ◌-◌, ◌∙◌, ◌≡◌, IsUtf8, IsUtf8-string_bytes, List, Vec, ap, drop, length, refl, string_bytes, subst, sym, take, take_rest, ℕ}
+use Rattle.tabled_csv.proofs.Common.{◌∷◌, ◌+◌, ◌-◌, ◌∙◌, ◌≡◌, IsUtf8, List, drop, length, refl, subst, sym, take, take_rest, ℕ}
 use Rattle.tabled_csv.proofs.Fielding.{behind-fault, quoted-form}
 use Rattle.tabled_csv.specs.Fields.{ClosedBy, ClosesAt, FormAt, StopsQuoted}
 use Rattle.tabled_csv.specs.declared.quoted.Closing.{Closing}
@@ -13,43 +13,43 @@ form : (s : ℕ) (bytes behind : List ℕ) (closing : Closing) (by : ClosedBy be
     → StopsQuoted s (take (length behind - (closing.place + 1)) (drop (closing.place + 1) behind)) stop after → FormAt s bytes by.text stop after
 form s bytes behind closing by stop after begins stops = quoted-form s bytes behind begins by.text _ stop after (closes behind closing by) stops
 
-pub returns-in_default-stop_at-clause-read : goal.returns-in_default-stop_at-clause-read
-returns-in_default-stop_at-clause-read c =
+pub returns-in_default-stop_at : goal.returns-in_default-stop_at
+returns-in_default-stop_at c =
     behind-fault c.args.separator c.args.bytes.now c.args.behind.now c.in-Some.ensures.text _ c.requires.behind
     (closes c.args.behind.now c.in-Some.closing c.in-Some.ensures) c.in_default-stop_at.ensures
 
-pub returns-in_default-from_utf8-clause-read : goal.returns-in_default-from_utf8-clause-read
-returns-in_default-from_utf8-clause-read c =
+pub returns-in_default-from_utf8 : goal.returns-in_default-from_utf8
+returns-in_default-from_utf8 c =
     let by = c.in-Some.ensures in
     let stop = c.in-Some-stop_at.stop in
     let after = c.in-Some-stop_at.after.now in
-    let is : c.in_ok-undoubled.field-0.items ≡ by.text = c.in_ok-undoubled.ensures by.text by.inner in (
+    let is : c.in_ok-undoubled.field-0.now ≡ by.text = c.in_ok-undoubled.ensures by.text by.inner in (
       by.text,
       stop,
       after,
       form c.args.separator c.args.bytes.now c.args.behind.now c.in-Some.closing by stop after c.requires.behind c.in-Some-stop_at.ensures,
-      (λ valid. cc (c.in_default-from_utf8.ensures.succeeds (subst IsUtf8 (sym is) valid))),
+      (λ valid. c.in_default-from_utf8.ensures.cases.0 (subst IsUtf8 (sym is) valid)),
       refl,
     )
 
-pub text_in-requires : goal.text_in-requires
-text_in-requires c is = inner-utf8 c.args.bytes.now c.args.behind.now c.in-Some.closing c.requires.behind c.in-Some.ensures (c.requires.text is)
+pub is_utf8-requires : goal.is_utf8-requires
+is_utf8-requires c is = inner-utf8 c.args.bytes.now c.args.behind.now c.in-Some.closing c.requires.behind c.in-Some.ensures (c.requires.text is)
 
-pub returns-in-Some-text_in-clause-read : goal.returns-in-Some-text_in-clause-read
-returns-in-Some-text_in-clause-read c =
+pub returns-then-closing : goal.returns-then-closing
+returns-then-closing c =
     let by = c.in-Some.ensures in
     let stop = c.in-Some-stop_at.stop in
     let after = c.in-Some-stop_at.after.now in
-    let read = c.in-Some-text_in.ensures in
-    let is : c.in-Some-text_in.text.now ≡ by.text = read.0 ∙ by.same c.if-closing.false in
+    let read = c.in-Ok.ensures.cases in
+    let is : c.in-Ok.text.now ≡ by.text = read.0 ∙ c.in_ok-undoubled.ensures by.text by.inner in
     record {
       utf8 = subst IsUtf8 (sym read.0) read.1;
       at = subst (λ (text : List ℕ). FormAt c.args.separator c.args.bytes.now text stop after) (sym is)
           (form c.args.separator c.args.bytes.now c.args.behind.now c.in-Some.closing by stop after c.requires.behind c.in-Some-stop_at.ensures);
     }
 
-pub returns-in-None-clause-read : goal.returns-in-None-clause-read
-returns-in-None-clause-read c =
+pub returns-then-not-is_utf8 : goal.returns-then-not-is_utf8
+returns-then-not-is_utf8 c =
     let by = c.in-Some.ensures in
     let stop = c.in-Some-stop_at.stop in
     let after = c.in-Some-stop_at.after.now in (
@@ -57,26 +57,18 @@ returns-in-None-clause-read c =
       stop,
       after,
       form c.args.separator c.args.bytes.now c.args.behind.now c.in-Some.closing by stop after c.requires.behind c.in-Some-stop_at.ensures,
-      (λ valid. c.in-None.ensures (subst IsUtf8 (sym (by.same c.if-closing.false)) valid)),
+      (λ valid. c.if-not-is_utf8.ensures (subst IsUtf8 (sym (by.same c.if-closing.false)) valid)),
       refl,
     )
 
-pub returns-then-closing-clause-read : goal.returns-then-closing-clause-read
-returns-then-closing-clause-read c =
+pub returns : goal.returns
+returns c =
     let by = c.in-Some.ensures in
     let stop = c.in-Some-stop_at.stop in
     let after = c.in-Some-stop_at.after.now in
-    let is : string_bytes c.in_ok-new.field-0.value ≡ by.text =
-    ap string_bytes c.in_ok-new.ensures.ok ∙ ap (λ (v : Vec ℕ). v.items) c.in-Ok.ensures.ok ∙ c.in_ok-undoubled.ensures by.text by.inner in
+    let whole = c.from_utf8_unchecked.ensures in
     record {
-      utf8 = IsUtf8-string_bytes c.in_ok-new.field-0.value;
-      at = subst (λ (text : List ℕ). FormAt c.args.separator c.args.bytes.now text stop after) (sym is)
+      utf8 = subst IsUtf8 (sym whole) c.if-not-is_utf8.ensures;
+      at = subst (λ (text : List ℕ). FormAt c.args.separator c.args.bytes.now text stop after) (sym (whole ∙ by.same c.if-closing.false))
           (form c.args.separator c.args.bytes.now c.args.behind.now c.in-Some.closing by stop after c.requires.behind c.in-Some-stop_at.ensures);
     }
-
-pub returns-then-closing-clause-lent : goal.returns-then-closing-clause-lent
-returns-then-closing-clause-lent c =
-    let by = c.in-Some.ensures in
-    let is : string_bytes c.in_ok-new.field-0.value ≡ by.text =
-    ap string_bytes c.in_ok-new.ensures.ok ∙ ap (λ (v : Vec ℕ). v.items) c.in-Ok.ensures.ok ∙ c.in_ok-undoubled.ensures by.text by.inner in
-    ap (list_any (λ b. eqb b 34)) is ∙ by.holds c.if-closing.true

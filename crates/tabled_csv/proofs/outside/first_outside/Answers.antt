@@ -5,7 +5,7 @@ use Rattle.tabled_csv.proofs.outside.first_outside.Goals as goal
 pub returns-in-Some : goal.returns-in-Some
 returns-in-Some c =
     let passed = c.loop-passed.passed in
-    first-behind c.args.separator c.args.bytes.now passed c.loop-passed.invariant.clean (passed + 8 - passed) c.in-Some.place c.in-Some.ensures
+    first-behind c.args.separator c.args.bytes.now passed c.loop-passed.invariant.clean (passed + 16 - passed) c.in-Some.place c.in-Some.ensures
 
 pub loop-passed-preserved : goal.loop-passed-preserved
 loop-passed-preserved c =
@@ -13,7 +13,7 @@ loop-passed-preserved c =
     let s = c.args.separator in
     let bytes = c.args.bytes.now in
     record {
-      clean = subst (λ (k : ℕ). list_any (is_outside s) (take k bytes) ≡ false) (omega arith) (clean-behind s bytes passed c.loop-passed.invariant.clean (passed + 8 - passed) c.in_default.ensures);
+      clean = subst (λ (k : ℕ). list_any (is_outside s) (take k bytes) ≡ false) (omega arith) (clean-behind s bytes passed c.loop-passed.invariant.clean (passed + 16 - passed) c.in_default.ensures);
       within = omega arith;
     }
 

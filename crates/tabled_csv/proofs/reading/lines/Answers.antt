@@ -1,13 +1,13 @@
-use Rattle.tabled_csv.proofs.Common.{AreLentOrQuote, [], ◌++◌, ◌<◌, ◌∙◌, ◌∷◌, ◌≡◌, ap, err_from_is_err_and, length, map-append, rows_of, texts_of}
+use Rattle.tabled_csv.proofs.Common.{[], ◌++◌, ◌<◌, ◌∙◌, ◌∷◌, ◌≡◌, ap, err_from_is_err_and, length, map-append, rows_of, texts_of}
 use Rattle.tabled_csv.proofs.Lines.{behind-blank, lines-at, some-rows}
 use Rattle.tabled_csv.proofs.Progress.{blank-read, faulty-at, filled-at, no-bytes, no-row-read, not-read, record-shorter, row-read, rows-read, some-bytes}
 use Rattle.tabled_csv.specs.Reading.{LinesFault, RecordFault}
-use Rattle.tabled_csv.proofs.Writes.{all-append, any-err}
+use Rattle.tabled_csv.proofs.Writes.{any-err}
 use Rattle.tabled_csv.proofs.Utf8Parts.{after-blank, after-record}
 use Rattle.tabled_csv.proofs.reading.lines.Goals as goal
 
 pub lines-preserved-in-Some : goal.lines-preserved-in-Some
-lines-preserved-in-Some c = record { blank = λ none. behind-blank c.args.separator c.in-Some.after.now c.in-Some.ensures (c.lines.invariant.blank none); text = λ is. after-blank c.lines.rest.now c.in-Some.after.now c.in-Some.ensures (c.lines.invariant.text is); lent = c.lines.invariant.lent; read = blank-read c.args.separator c.requires.separator c.args.bytes.now c.lines.rest.now (rows_of c.lines.rows.items) c.lines.invariant.read c.in-Some.after.now c.in-Some.ensures }
+lines-preserved-in-Some c = record { blank = λ none. behind-blank c.args.separator c.in-Some.after.now c.in-Some.ensures (c.lines.invariant.blank none); text = λ is. after-blank c.lines.rest.now c.in-Some.after.now c.in-Some.ensures (c.lines.invariant.text is); read = blank-read c.args.separator c.requires.separator c.args.bytes.now c.lines.rest.now (rows_of c.lines.rows.items) c.lines.invariant.read c.in-Some.after.now c.in-Some.ensures }
 
 pub returns-in_err-row-in-None-clause-read : goal.returns-in_err-row-in-None-clause-read
 returns-in_err-row-in-None-clause-read c =
@@ -18,7 +18,7 @@ returns-in_err-row-in-None-clause-read c =
     (faulty-at (RecordFault s rest) (LinesFault s c.args.bytes.now) c.in_err-row-in-None.field-0.0
     (not-read s c.requires.separator c.args.bytes.now rest (rows_of c.lines.rows.items) c.lines.invariant.read
     (filled-at rest (some-bytes rest c.lines-test.ensures) c.in-None.ensures))
-    c.in_err-row-in-None.ensures.read)
+    c.in_err-row-in-None.ensures)
 
 pub returns-in_err-row-in-None-clause-err : goal.returns-in_err-row-in-None-clause-err
 returns-in_err-row-in-None-clause-err c =
@@ -34,7 +34,7 @@ pub lines-smaller : goal.lines-smaller
 lines-smaller c =
     let rest = c.lines.rest.now in
     let shorter : length c.in_ok-row-in-None.after.now < length rest =
-    record-shorter c.args.separator c.requires.separator rest (texts_of c.in_ok-row-in-None.row) c.in_ok-row-in-None.after.now (some-bytes rest c.lines-test.ensures) c.in_ok-row-in-None.ensures.read in
+    record-shorter c.args.separator c.requires.separator rest (texts_of c.in_ok-row-in-None.row) c.in_ok-row-in-None.after.now (some-bytes rest c.lines-test.ensures) c.in_ok-row-in-None.ensures in
     shorter
 
 pub lines-preserved : goal.lines-preserved
@@ -47,10 +47,9 @@ lines-preserved c =
     record {
       read = rw all
           (row-read c.args.separator c.requires.separator c.args.bytes.now rest rows c.lines.invariant.read row c.in_ok-row-in-None.after.now
-          (filled-at rest (some-bytes rest c.lines-test.ensures) c.in-None.ensures) c.in_ok-row-in-None.ensures.read);
+          (filled-at rest (some-bytes rest c.lines-test.ensures) c.in-None.ensures) c.in_ok-row-in-None.ensures);
       blank = λ none. absurd (some-rows c.args.separator (filled-at rest (some-bytes rest c.lines-test.ensures) c.in-None.ensures) (c.lines.invariant.blank none));
-      text = λ is. after-record c.args.separator c.requires.separator rest row c.in_ok-row-in-None.after.now c.in_ok-row-in-None.ensures.read (c.lines.invariant.text is);
-      lent = rw c.in_ok-push-in-None.ensures.items (all-append AreLentOrQuote c.lines.rows.items (c.in_ok-row-in-None.row ∷ []) c.lines.invariant.lent (c.in_ok-row-in-None.ensures.lent, tt));
+      text = λ is. after-record c.args.separator c.requires.separator rest row c.in_ok-row-in-None.after.now c.in_ok-row-in-None.ensures (c.lines.invariant.text is);
     }
 
 pub returns-clause-read : goal.returns-clause-read
@@ -59,7 +58,6 @@ returns-clause-read c = rows-read c.args.separator c.requires.separator c.args.b
 pub lines-init : goal.lines-init
 lines-init c = record {
   read = rw c.new-rows.ensures.items (no-row-read c.args.separator c.args.bytes.now);
-  lent = rw c.new-rows.ensures.items tt;
   blank = λ none. none;
   text = c.requires.text;
 }

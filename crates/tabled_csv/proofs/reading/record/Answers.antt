@@ -1,20 +1,18 @@
-use Rattle.tabled_csv.proofs.Common.{IsLentOrQuotes, [], ◌++◌, ◌∙◌, ◌∷◌, ◌≡◌, List, ap, err_from_is_err_and, map, map-append, text_of}
+use Rattle.tabled_csv.proofs.Common.{[], Bor, ℕ, ◌++◌, ◌∙◌, ◌∷◌, ◌≡◌, List, ap, err_from_is_err_and, map, map-append, text_of}
 use Rattle.tabled_csv.proofs.Progress.{faulty-at, field-read, no-field-read, none-read}
 use Rattle.tabled_csv.specs.Faults.{FaultAt}
 use Rattle.tabled_csv.specs.Reading.{RecordFault}
-use Rattle.tabled_csv.specs.declared.field.Field.{Field}
-use Rattle.tabled_csv.proofs.Writes.{all-append}
 use Rattle.tabled_csv.proofs.Utf8Parts.{after-field}
 use Rattle.tabled_csv.specs.declared.stop.Stop.TheVariants.{Separator}
 use Rattle.tabled_csv.proofs.reading.record.Goals as goal
 
-pub returns-in_err-text-clause-read : goal.returns-in_err-text-clause-read
-returns-in_err-text-clause-read c =
+pub returns-in_err-text : goal.returns-in_err-text
+returns-in_err-text c =
     let p = err_from_is_err_and c.from_residual-in_err-text.result c.from_residual-in_err-text.ensures.1 in
     let s = c.args.separator in
     rw (p.1, p.2)
     (faulty-at (FaultAt s c.fields.rest.now) (RecordFault s c.args.bytes.now) c.in_err-text.field-0.0
-    (none-read s c.args.bytes.now c.fields.rest.now (map text_of c.fields.row.items) c.fields.invariant.read c.requires.separator) c.in_err-text.ensures.read)
+    (none-read s c.args.bytes.now c.fields.rest.now (map text_of c.fields.row.items) c.fields.invariant.read c.requires.separator) c.in_err-text.ensures)
 
 pub fields-preserved : goal.fields-preserved
 fields-preserved c =
@@ -23,16 +21,14 @@ fields-preserved c =
     let text = text_of c.in_ok-text.text in
     let after = c.in_ok-text.after.now in
     let all : map text_of c.push.new.self.items ≡ texts ++ (text ∷ []) =
-    ap (λ (fs : List Field). map text_of fs) c.in_ok-push.ensures.items ∙ map-append text_of c.fields.row.items (c.in_ok-text.text ∷ []) in
+    ap (λ (fs : List (Bor (List ℕ))). map text_of fs) c.in_ok-push.ensures.items ∙ map-append text_of c.fields.row.items (c.in_ok-text.text ∷ []) in
     record {
-      read = rw all (field-read s c.args.bytes.now c.fields.rest.now texts c.fields.invariant.read c.requires.separator text after (rw c.in-Separator.is at c.in_ok-text.ensures.read));
-      text = λ is. after-field s c.requires.separator c.fields.rest.now text Separator after (rw c.in-Separator.is at c.in_ok-text.ensures.read).at (c.fields.invariant.text is);
-      lent = rw c.in_ok-push.ensures.items (all-append IsLentOrQuotes c.fields.row.items (c.in_ok-text.text ∷ []) c.fields.invariant.lent (c.in_ok-text.ensures.lent, tt));
+      read = rw all (field-read s c.args.bytes.now c.fields.rest.now texts c.fields.invariant.read c.requires.separator text after (rw c.in-Separator.is at c.in_ok-text.ensures));
+      text = λ is. after-field s c.requires.separator c.fields.rest.now text Separator after (rw c.in-Separator.is at c.in_ok-text.ensures).at (c.fields.invariant.text is);
     }
 
 pub fields-init : goal.fields-init
 fields-init c = record {
   read = rw c.in_ok-row.ensures.items (no-field-read c.args.separator c.args.bytes.now);
-  lent = rw c.in_ok-row.ensures.items tt;
   text = c.requires.text;
 }

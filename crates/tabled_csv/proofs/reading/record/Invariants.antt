@@ -1,4 +1,4 @@
-use Rattle.tabled_csv.proofs.Common.{AllByRecursion, IsTrue, IsUtf8, IsLentOrQuotes, length, map, text_of}
+use Rattle.tabled_csv.proofs.Common.{IsTrue, IsUtf8, length, map, text_of}
 use Rattle.tabled_csv.proofs.Progress.{FieldsRead}
 use Rattle.tabled_csv.proofs.reading.record.Given as goal
 
@@ -6,7 +6,6 @@ abbrev pub invariant-fields : goal.invariant-fields
 invariant-fields l = record {
   read : FieldsRead l.separator l.bytes (map text_of l.row.items) l.rest;
   text : IsTrue l.is_text → IsUtf8 l.rest;
-  lent : AllByRecursion IsLentOrQuotes l.row.items;
 }
 
 abbrev pub decreases-fields : goal.decreases-fields

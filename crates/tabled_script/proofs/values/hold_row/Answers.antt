@@ -19,8 +19,8 @@ loop-text-preserved g c =
     let before = codes "row" ++ flat_map word (take i texts) in
     let more = pushed_more word (codes "row") before texts i c.text-item.result c.loop-text-test.true c.text-item.is refl in
     record {
-      sends = subst (Sends (contents c.args.writer.now) c.args.held.now (contents c.write_word.new.writer) c.write_word.new.held) (ap (λ bytes. before ++ 9 ∷ escaped bytes) c.text.ensures ∙ more)
-          (sends_more (contents c.args.writer.now) (contents c.loop-text.writer) (contents c.write_word.new.writer) c.args.held.now c.loop-text.held c.write_word.new.held before (9 ∷ escaped c.text.result.now) c.loop-text.invariant.sends c.in_ok-write_word.ensures.sends);
+      sends = subst (Sends (contents c.args.writer.now) c.args.held.now (contents c.write_word.new.writer) c.write_word.new.held) more
+          (sends_more (contents c.args.writer.now) (contents c.loop-text.writer) (contents c.write_word.new.writer) c.args.held.now c.loop-text.held c.write_word.new.held before (9 ∷ escaped (text_of c.text-item.result)) c.loop-text.invariant.sends c.in_ok-write_word.ensures.sends);
       less = omega (arith, c.in_ok-write_word.ensures.less);
     }
 

@@ -1,0 +1,110 @@
+//! Memory for texts in which quotes are doubled.
+
+ghost use Rattle.std.specs.Prelude.{◌≡◌, ◌≤◌, ℕ, List, IfOk, OnOk, length, take};
+ghost use Rattle.tabled_csv.specs.Grammar.{doubled};
+
+use std::alloc::{AllocError, Global};
+use std::marker::Model;
+use std::mem;
+
+/// How many bytes the first part has at least. Each other one has twice as many as the one before.
+const FIRST: usize = 4096;
+
+/// How many parts there are: together they are longer than any memory.
+const PARTS: usize = 64;
+
+/// Memory for the texts that don't stand in what is read as they are, since a quote is doubled in them. It has none
+/// for them before there is one, and then at most some three times what they take.
+///
+/// Of this project.
+#[derive(Drop)]
+pub struct Room {
+    parts: Vec<Vec<u8>>,
+}
+
+impl Room {
+    /// Room that has no memory for texts yet.
+    pub fn new(alloc: Global) -> Result<Self, AllocError> {
+        let mut parts = Vec::with_capacity(alloc, PARTS)?;
+        for _ in 0..PARTS {
+            parts.push(Vec::new(alloc))?;
+        }
+        Ok(Room { parts })
+    }
+}
+
+/// What is left of a room. A contract sees how many bytes can be had with no more memory.
+#[derive(Drop)]
+pub(crate) struct Spare<'a> {
+    bytes: &'a mut [u8],
+    parts: &'a mut [Vec<u8>],
+    next: usize,
+}
+
+impl<'a> Model for Spare<'a> {
+    ghost use Rattle.std.specs.Prelude.{ℕ, length};
+
+    ghost Value = { ℕ };
+
+    ghost view = { λ s. length s.bytes.now };
+}
+
+impl<'a> Spare<'a> {
+    /// All of a room.
+    pub(crate) fn new(room: &'a mut Room) -> Self {
+        Spare {
+            bytes: &mut [],
+            parts: room.parts.as_mut_slice(),
+            next: FIRST,
+        }
+    }
+
+    /// Sees to it that so many bytes can be had.
+    fn hold(&mut self, len: usize) -> Result<(), AllocError>
+        ensures { OnOk result (len ≤ self.new) }
+    {
+        if len <= self.bytes.len() {
+            return Ok(());
+        }
+        let Some((part, parts)) = mem::take(&mut self.parts).split_first_mut() else {
+            return Err(AllocError);
+        };
+        self.parts = parts;
+        part.resize(len.max(self.next), 0)?;
+        self.bytes = part.as_mut_slice();
+        self.next = self.next.saturating_mul(2);
+        Ok(())
+    }
+
+    /// Bytes with one quote for two.
+    pub(crate) fn undoubled(&mut self, bytes: &[u8]) -> Result<&'a [u8], AllocError>
+        ensures { IfOk result (λ found. (text : List ℕ) → bytes.now ≡ doubled text → found.now ≡ text) }
+    {
+        self.hold(bytes.len())?;
+        let room = mem::take(&mut self.bytes);
+        let len = undouble(bytes, room);
+        let (text, left) = room.split_at_mut(len);
+        self.bytes = left;
+        Ok(text)
+    }
+}
+
+/// Writes bytes with one quote for two to the front of a room, and says how many they are.
+fn undouble(bytes: &[u8], room: &mut [u8]) -> usize
+    requires { length bytes.now ≤ length room.old }
+    ensures inside { result ≤ length room.new }
+    ensures text { (text : List ℕ) → bytes.now ≡ doubled text → take result room.new ≡ text }
+{
+    let mut len = 0;
+    let mut is_second = false;
+    for byte in bytes {
+        if is_second {
+            is_second = false;
+        } else {
+            room[len] = *byte;
+            len += 1;
+            is_second = *byte == b'"';
+        }
+    }
+    len
+}
