@@ -13,11 +13,11 @@ pub use Rattle.tabled_draw.specs.Alignments.{aligned, alignment_in, indent}
 pub use Rattle.tabled_draw.specs.Borders.{Arms, are_none, arms, border, corner, corner_if, differ, is_drawn, line_size, lines_around, mark, size_if, unmerged_arms}
 pub use Rattle.tabled_draw.specs.Each.{by_number, each, is_in_range, largest, total}
 pub use Rattle.tabled_draw.specs.Laid.{AreEdges}
-pub use Rattle.tabled_draw.specs.Lines.{AreLeft, ArePlain, AreUnmerged, EndInside, IsLine, after_line, begins, begun, cell, column, column_if, edge, edge_before, first_line, left_if, left_inside, left_of, level, marked, stretches, text_inside, unmerged_corner, unmerged_stretch}
+pub use Rattle.tabled_draw.specs.Lines.{AreLeft, ArePlain, AreUnmerged, EndInside, IsBetween, IsLine, after_line, begins, begun, cell, column, column_if, edge, edge_before, first_line, left_if, left_inside, left_of, level, line_between, marked, stretches, text_inside, unmerged_corner, unmerged_stretch}
 pub use Rattle.tabled_draw.specs.Marks.{IsFine, IsFineMark, IsNoControl}
 pub use Rattle.tabled_draw.specs.Measured.{Measured, raised}
 pub use Rattle.tabled_draw.specs.Overall.{AreEquallyWide, AreNoControls, AreNoLargerThanAsked, HoldsOfPictures, drawn_lines, lacking, most_asked, takes}
-pub use Rattle.tabled_draw.specs.OwnerRows.{IsOwnerRow, chosen, count_before, is_before, is_held_by}
+pub use Rattle.tabled_draw.specs.OwnerRows.{BeginHere, IsOwnerRow, begins_at, chosen, count_before, is_before, is_held_by}
 pub use Rattle.tabled_draw.specs.Owners.{owner_in}
 pub use Rattle.tabled_draw.specs.Picture.{border_line, column_between, edge_between, left, lines_of_row, picture, picture_bytes, picture_line, shows, shows_in, top, with_newlines}
 pub use Rattle.tabled_draw.specs.Rests.{IsCutAt, border_of_rests, bytes_in, line_of_rests}

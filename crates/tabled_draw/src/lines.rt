@@ -1,8 +1,8 @@
 //! The lines of a picture.
 
-ghost use Rattle.std.specs.Prelude.{◌≡◌, ◌+◌, ◌<◌, [], OnOk, Some, false, length, slice_index_or, true};
+ghost use Rattle.std.specs.Prelude.{◌≡◌, ◌+◌, ◌<◌, [], IfOk, OnOk, Some, false, length, slice_index_or, true};
 ghost use Rattle.tabled_draw.specs.Borders.{differ};
-ghost use Rattle.tabled_draw.specs.Lines.{EndInside, column_if, edge, left_inside, level, marked, text_inside, unmerged_line};
+ghost use Rattle.tabled_draw.specs.Lines.{EndInside, IsBetween, column_if, edge, left_inside, level, marked, text_inside, unmerged_line};
 ghost use Rattle.tabled_draw.specs.Rests.{AreCut, IsCutAt, bytes_in, line_of_rests};
 ghost use Rattle.tabled_draw.specs.Sent.{Draws};
 ghost use Rattle.tabled_grid.specs.Spans.{Rectangle};
@@ -12,6 +12,7 @@ use crate::borders::{corner, differ, is_drawn, is_drawn_after, size_if};
 use crate::held::Held;
 use crate::look::Look;
 use crate::texts::write_cell;
+use std::alloc::{AllocError, Global};
 use std::io::{self, Write};
 use tabled_grid::config::{Rectangle, Size};
 
@@ -112,7 +113,7 @@ pub(crate) fn write_border_line<'a, W: Write>(
 }
 
 /// Writes the line above row i of a table without merged cells, or below its last row.
-pub(crate) fn write_unmerged_line<W: Write>(
+fn write_unmerged_line<W: Write>(
     writer: &mut W,
     held: &mut Held,
     look: &Look<'_>,
@@ -139,6 +140,60 @@ pub(crate) fn write_unmerged_line<W: Write>(
     let last = corner(&look.style, up, false, down, 0 < columns);
     write_mark(writer, held, is_drawn(lines, columns, columns), last);
     held.push(writer, b'\n');
+    held.take_outcome()?;
+    Ok(())
+}
+
+/// The bytes of the line between two rows without merged cells. There are none where it is drawn once at most, or takes
+/// far more memory than the cells do.
+pub(crate) fn line_between(
+    alloc: Global,
+    held: &mut Held,
+    look: &Look<'_>,
+    edges: &[usize],
+    rows: usize,
+    columns: usize,
+) -> Result<Vec<u8>, AllocError>
+    requires edges { length edges.now ≡ columns + 1 }
+    requires none { held.old.bytes ≡ [] }
+    ensures none { OnOk result (held.new.bytes ≡ []) }
+    ensures between { IfOk result (λ line. IsBetween look.now.style columns edges.now line.items) }
+{
+    let mut line = Vec::new(alloc);
+    if rows < 3 || !look.style.rows.inner || rows.saturating_mul(columns) < edges[columns] / 8 {
+        return Ok(line);
+    }
+    if write_unmerged_line(&mut line, held, look, edges, columns, 2, 1).is_err() {
+        return Err(AllocError);
+    }
+    held.send(&mut line);
+    if held.take_outcome().is_err() {
+        return Err(AllocError);
+    }
+    Ok(line)
+}
+
+/// Writes the line above row i of a table, or below its last row, at which no merged cell lies. Its bytes may be known,
+/// if it is between two rows.
+pub(crate) fn write_known_line<W: Write>(
+    writer: &mut W,
+    held: &mut Held,
+    look: &Look<'_>,
+    edges: &[usize],
+    between: &[u8],
+    columns: usize,
+    rows: usize,
+    i: usize,
+) -> io::Result<()>
+    requires edges { length edges.now ≡ columns + 1 }
+    requires between { IsBetween look.now.style columns edges.now between.now }
+    ensures draws { OnOk result (Draws (W.contents writer.old) held.old (W.contents writer.new) held.new (unmerged_line look.now.style rows columns i edges.now)) }
+{
+    if between.is_empty() || i == 0 || rows <= i {
+        write_unmerged_line(writer, held, look, edges, columns, rows, i)?;
+        return Ok(());
+    }
+    held.write(writer, between);
     held.take_outcome()?;
     Ok(())
 }
