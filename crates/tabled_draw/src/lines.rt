@@ -1,6 +1,6 @@
 //! The lines of a picture.
 
-ghost use Rattle.std.specs.Prelude.{◌≡◌, ◌+◌, ◌<◌, [], IfOk, OnOk, Some, false, length, slice_index_or, true};
+ghost use Rattle.std.specs.Prelude.{◌≡◌, ◌+◌, ◌<◌, [], IfOk, OnOk, Some, encode_utf8, false, length, slice_index_or, true};
 ghost use Rattle.tabled_draw.specs.Borders.{differ};
 ghost use Rattle.tabled_draw.specs.Lines.{EndInside, IsBetween, column_if, edge, left_inside, level, marked, text_inside, unmerged_line};
 ghost use Rattle.tabled_draw.specs.Rests.{AreCut, IsCutAt, bytes_in, line_of_rests};
@@ -35,10 +35,12 @@ pub(crate) fn write_row_line<'a, W: Write>(
 {
     let lines = look.style.columns;
     let columns = rests.len();
+    let mut room = [0; 4];
+    let upright = look.style.vertical.encode_utf8(&mut room).as_bytes();
     let mut drawn = is_drawn(lines, columns, 0);
     for j in 0..columns {
         let owner = owners[j + 1];
-        write_upright(writer, held, look, drawn, owners[j], owner);
+        write_upright(writer, held, look, upright, drawn, owners[j], owner);
         rests[j] = write_inside(writer, held, look, drawn, edges, j, owner, rests[j]);
         drawn = is_drawn_after(lines, j);
     }
@@ -47,6 +49,7 @@ pub(crate) fn write_row_line<'a, W: Write>(
         writer,
         held,
         look,
+        upright,
         drawn,
         owners[columns],
         owners[columns + 1],
@@ -208,20 +211,22 @@ fn write_mark<W: Write>(writer: &mut W, held: &mut Held, drawn: bool, mark: Opti
     }
 }
 
-/// Writes the border between two places of a row, if there is one and its line is drawn.
+/// Writes the border between two places of a row, if there is one and its line is drawn. Its bytes are known.
 #[inline(always)]
 fn write_upright<W: Write>(
     writer: &mut W,
     held: &mut Held,
     look: &Look<'_>,
+    upright: &[u8],
     drawn: bool,
     before: Option<Rectangle>,
     after: Option<Rectangle>,
 )
+    requires { upright.now ≡ encode_utf8 look.now.style.vertical }
     ensures { Draws (W.contents writer.old) held.old (W.contents writer.new) held.new (edge look.now.style true drawn before after before after) }
 {
     if drawn && differ(before, after) {
-        held.draw(writer, look.style.vertical);
+        held.draw_known(writer, look.style.vertical, upright);
     }
 }
 
