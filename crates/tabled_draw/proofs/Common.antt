@@ -21,7 +21,7 @@ pub use Rattle.tabled_draw.specs.OwnerRows.{BeginHere, IsOwnerRow, begins_at, ch
 pub use Rattle.tabled_draw.specs.Owners.{owner_in}
 pub use Rattle.tabled_draw.specs.Picture.{border_line, column_between, edge_between, left, lines_of_row, picture, picture_bytes, picture_line, shows, shows_in, top, with_newlines}
 pub use Rattle.tabled_draw.specs.Rests.{IsCutAt, border_of_rests, bytes_in, line_of_rests}
-pub use Rattle.tabled_draw.specs.Sent.{Draws, GrowsBy, Kept}
+pub use Rattle.tabled_draw.specs.Sent.{Draws}
 pub use Rattle.tabled_draw.specs.Sizes.{asks, grown_for, grown_sizes, heights, in_order, own, own_sizes, pad, room, share, start_of, text_of_cell, widths}
 pub use Rattle.tabled_draw.specs.Standing.{IsSeen, ShowsTexts, StandBetween, StandsAt, StandsFramed, StandsIn, indent_of, inner_height, inner_left, inner_line, inner_top, inner_width, is_amid, is_joined_above, is_joined_around, is_joined_beside, meeting, text_line}
 pub use Rattle.tabled_draw.specs.Texts.{lines_shown, shown_character, shown_line, text_width, widest}
@@ -34,3 +34,4 @@ pub use Rattle.tabled_grid.proofs.SpanMaps.{at, equal, found_above, halves, hold
 pub use Rattle.tabled_grid.specs.declared.config.position.Position.{Position}
 pub use Rattle.tabled_grid.specs.declared.config.size.Size.{Size}
 pub use Rattle.tabled_grid.specs.declared.records.axis.Axis.TheVariants.{Columns, Rows}
+pub use Rattle.tabled_held.specs.Sent.{GrowsBy, Kept}

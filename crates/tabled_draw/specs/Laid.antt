@@ -4,12 +4,12 @@ use Rattle.std.specs.FinMap.{entries}
 use denote.Ref.{Bor}
 use Rattle.tabled_draw.specs.Lines.{IsBetween}
 use Rattle.tabled_draw.specs.Picture.{left}
-use Rattle.tabled_draw.specs.Sent.{Kept}
 use Rattle.tabled_draw.specs.Sizes.{heights}
 use Rattle.tabled_draw.specs.declared.style.Style.{Style}
 use Rattle.tabled_grid.specs.Grid.{Grid}
 use Rattle.tabled_grid.specs.Fitting.{Fits}
 use Rattle.tabled_grid.specs.Spans.{Rectangle, SpanMap}
+use Rattle.tabled_held.specs.Sent.{Kept}
 
 -- the left edge of each column, and the last edge
 pub record AreEdges (style : Style) (g : Grid (List ℕ)) (m : SpanMap) (edges : List ℕ) : Type 0 where

@@ -15,7 +15,6 @@ ghost use Rattle.tabled_grid.specs.Fitting.{Fits};
 ghost use Rattle.tabled_grid.specs.Spans.{AreSpanSizes};
 
 use crate::borders::is_drawn;
-use crate::held::Held;
 use crate::layout::{Layout, layout_of};
 use crate::lines::{line_between, write_border_line, write_known_line, write_row_line};
 use crate::look::Look;
@@ -27,6 +26,7 @@ use std::marker::Model;
 use std::mem;
 use tabled_grid::config::{Position, Rectangle, SpannedConfig};
 use tabled_grid::records::{CellText, ExactRecords, PeekableRecords, Records};
+use tabled_held::Held;
 
 /// A table that is laid out, with all the memory that drawing it takes. A contract sees it as the bytes of its
 /// picture.

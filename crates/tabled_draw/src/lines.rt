@@ -9,12 +9,13 @@ ghost use Rattle.tabled_grid.specs.Spans.{Rectangle};
 
 use crate::alignment::alignment_in;
 use crate::borders::{corner, differ, is_drawn, is_drawn_after, size_if};
-use crate::held::Held;
 use crate::look::Look;
+use crate::marks::{draw, draw_known, draw_many};
 use crate::texts::write_cell;
 use std::alloc::{AllocError, Global};
 use std::io::{self, Write};
 use tabled_grid::config::{Rectangle, Size};
+use tabled_held::Held;
 
 /// Writes a line of a row: borders between its owners, and their texts. Of each text that begins here, the lines that
 /// are left are cut by one.
@@ -207,7 +208,7 @@ fn write_mark<W: Write>(writer: &mut W, held: &mut Held, drawn: bool, mark: Opti
     ensures { Draws (W.contents writer.old) held.old (W.contents writer.new) held.new (marked drawn mark) }
 {
     if drawn && let Some(mark) = mark {
-        held.draw(writer, mark);
+        draw(writer, held, mark);
     }
 }
 
@@ -226,7 +227,7 @@ fn write_upright<W: Write>(
     ensures { Draws (W.contents writer.old) held.old (W.contents writer.new) held.new (edge look.now.style true drawn before after before after) }
 {
     if drawn && differ(before, after) {
-        held.draw_known(writer, look.style.vertical, upright);
+        draw_known(writer, held, look.style.vertical, upright);
     }
 }
 
@@ -297,7 +298,7 @@ fn write_level<W: Write>(
     let inside = edges[j + 1]
         .saturating_sub(edges[j])
         .saturating_sub(size_if(drawn));
-    held.draw_many(writer, look.style.horizontal, inside);
+    draw_many(writer, held, look.style.horizontal, inside);
 }
 
 /// Writes what an owner that lies above and below shows in a column.
