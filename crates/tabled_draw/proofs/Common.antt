@@ -13,16 +13,16 @@ pub use Rattle.tabled_draw.specs.Alignments.{aligned, alignment_in, indent}
 pub use Rattle.tabled_draw.specs.Borders.{Arms, are_none, arms, border, corner, corner_if, differ, is_drawn, line_size, lines_around, mark, size_if, unmerged_arms}
 pub use Rattle.tabled_draw.specs.Each.{by_number, each, is_in_range, largest, total}
 pub use Rattle.tabled_draw.specs.Laid.{AreEdges}
-pub use Rattle.tabled_draw.specs.Lines.{AreLeft, ArePlain, AreUnmerged, EndInside, IsLine, after_line, begins, begun, cell, column, column_if, edge, edge_before, first_line, left_if, left_inside, left_of, level, marked, stretches, text_inside, unmerged_corner, unmerged_stretch}
+pub use Rattle.tabled_draw.specs.Lines.{AreLeft, ArePlain, AreUnmerged, EndInside, IsBetween, IsLine, after_line, begins, begun, cell, column, column_if, edge, edge_before, first_line, left_if, left_inside, left_of, level, line_between, marked, stretches, text_inside, unmerged_corner, unmerged_stretch}
 pub use Rattle.tabled_draw.specs.Marks.{IsFine, IsFineMark, IsNoControl}
 pub use Rattle.tabled_draw.specs.Measured.{Measured, raised}
 pub use Rattle.tabled_draw.specs.Overall.{AreEquallyWide, AreNoControls, AreNoLargerThanAsked, HoldsOfPictures, drawn_lines, lacking, most_asked, takes}
-pub use Rattle.tabled_draw.specs.OwnerRows.{IsOwnerRow, chosen, count_before, is_before, is_held_by}
+pub use Rattle.tabled_draw.specs.OwnerRows.{BeginHere, IsOwnerRow, begins_at, chosen, count_before, is_before, is_held_by}
 pub use Rattle.tabled_draw.specs.Owners.{owner_in}
 pub use Rattle.tabled_draw.specs.Picture.{border_line, column_between, edge_between, left, lines_of_row, picture, picture_bytes, picture_line, shows, shows_in, top, with_newlines}
 pub use Rattle.tabled_draw.specs.Rests.{IsCutAt, border_of_rests, bytes_in, line_of_rests}
-pub use Rattle.tabled_draw.specs.Sent.{Draws, GrowsBy, Kept}
-pub use Rattle.tabled_draw.specs.Sizes.{asks, grown_for, grown_sizes, heights, in_order, least, own, own_sizes, pad, room, share, start_of, text_of_cell, widths}
+pub use Rattle.tabled_draw.specs.Sent.{Draws}
+pub use Rattle.tabled_draw.specs.Sizes.{asks, grown_for, grown_sizes, heights, in_order, own, own_sizes, pad, room, share, start_of, text_of_cell, widths}
 pub use Rattle.tabled_draw.specs.Standing.{IsSeen, ShowsTexts, StandBetween, StandsAt, StandsFramed, StandsIn, indent_of, inner_height, inner_left, inner_line, inner_top, inner_width, is_amid, is_joined_above, is_joined_around, is_joined_beside, meeting, text_line}
 pub use Rattle.tabled_draw.specs.Texts.{lines_shown, shown_character, shown_line, text_width, widest}
 pub use Rattle.tabled_draw.specs.declared.alignment.Alignment.{Alignment}
@@ -34,3 +34,4 @@ pub use Rattle.tabled_grid.proofs.SpanMaps.{at, equal, found_above, halves, hold
 pub use Rattle.tabled_grid.specs.declared.config.position.Position.{Position}
 pub use Rattle.tabled_grid.specs.declared.config.size.Size.{Size}
 pub use Rattle.tabled_grid.specs.declared.records.axis.Axis.TheVariants.{Columns, Rows}
+pub use Rattle.tabled_held.specs.Sent.{GrowsBy, Kept}

@@ -1,4 +1,5 @@
 pub mod Alike
+pub mod Apart
 pub mod Arms
 pub mod Before
 pub mod Common

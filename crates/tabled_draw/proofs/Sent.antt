@@ -1,43 +1,26 @@
 -- Bytes that are held, and then sent, and cells that are drawn.
 use Rattle.std.proofs.Common.{arith}
-use Rattle.std.proofs.lemmas.Grind.{common_steps}
-use Rattle.tabled_draw.proofs.Common.{[], ◌++◌, ◌+◌, ◌-◌, ◌<◌, ◌∙◌, ◌∷◌, ◌≡◌, Alignment, Draws, GrowsBy, Kept, List, None, Option, Some, aligned, ap, append-nil, ap₂, cell, encode_ascii, encode_utf8, encode_utf8_all, encodes-append, first_line, indent, refl, replicate, replicate-append-replicate, subst, suc, sym, text_width, true, zero, ℕ}
-use Rattle.std.proofs.KnownBytes.{Appends-nil, Appends-trans}
-use Rattle.std.specs.Io.KnownBytes.{Appends, append_known}
+use Rattle.tabled_draw.proofs.Common.{[], ◌++◌, ◌+◌, ◌-◌, ◌<◌, ◌∙◌, ◌∷◌, ◌≡◌, Alignment, Draws, GrowsBy, Kept, List, Option, aligned, ap, append-nil, ap₂, cell, encode_ascii, encode_utf8, encode_utf8_all, encodes-append, first_line, indent, refl, replicate, replicate-append-replicate, subst, suc, sym, text_width, true, zero, ℕ}
+use Rattle.std.specs.Io.KnownBytes.{Appends}
+use Rattle.tabled_held.proofs.SentBytes.{all-sent, sends-as, sends-none, sends-then}
 
 module _ (a b : Option (List ℕ)) (h i : Kept) where
   pub draws-bytes : (bytes cs : List ℕ) → bytes ≡ encode_utf8_all cs → GrowsBy a h b i bytes → Draws a h b i cs
   draws-bytes bytes cs is sent = record { sent = subst (GrowsBy a h b i) is sent }
 
 pub draws-none : {a : Option (List ℕ)} {h : Kept} → Draws a h a h []
-draws-none {a} {h} = record { sent = λ works. (works, Appends-nil (append_known a h.bytes)) }
+draws-none = record { sent = sends-none }
 
 pub draws-as : {a b : Option (List ℕ)} {h i : Kept} {xs ys : List ℕ} → xs ≡ ys → Draws a h b i xs → Draws a h b i ys
 draws-as {a} {b} {h} {i} same = subst (Draws a h b i) same
 
-pub grows-as : (a b : Option (List ℕ)) (h i : Kept) {xs ys : List ℕ} → xs ≡ ys → GrowsBy a h b i xs → GrowsBy a h b i ys
-grows-as a b h i same = subst (GrowsBy a h b i) same
-
--- some bytes, and then others
-pub sends-then : (a b c : Option (List ℕ)) (h i j : Kept) (xs ys : List ℕ) → GrowsBy a h b i xs → GrowsBy b i c j ys → GrowsBy a h c j (xs ++ ys)
-sends-then a b c h i j xs ys first second works = grind (arith, common_steps, Appends-trans)
-
+-- some characters, and then others
 pub draws-then : {a b c : Option (List ℕ)} {h i j : Kept} {xs ys : List ℕ} → Draws a h b i xs → Draws b i c j ys → Draws a h c j (xs ++ ys)
-draws-then {a} {b} {c} {h} {i} {j} {xs} {ys} first second = grind (arith, common_steps, encodes-append, sends-then)
-
-nothing-held : (a : Option (List ℕ)) (bytes : List ℕ) → bytes ≡ [] → append_known a bytes ≡ a
-nothing-held None bytes none = refl
-nothing-held (Some xs) bytes none = ap Some (ap (λ b. xs ++ b) none ∙ append-nil xs)
+draws-then {a} {b} {c} {h} {i} {j} {xs} {ys} first second = record { sent = sends-as (sym (encodes-append xs ys)) (sends-then first.sent second.sent) }
 
 -- what was drawn where nothing was held is written, once all is sent
 pub sent-all : (a b c : Option (List ℕ)) (h i j : Kept) (cs : List ℕ) → h.bytes ≡ [] → Draws a h b i cs → GrowsBy b i c j [] → j.bytes ≡ [] → j.has_worked ≡ true → Appends a c (encode_utf8_all cs)
-sent-all a b c h i j cs none drawn sent left works =
-    let second = sent works in
-    let first = drawn.sent second.0 in
-    subst (λ bs. Appends a c bs) (append-nil (encode_utf8_all cs))
-    (subst (λ x. Appends x c (encode_utf8_all cs ++ [])) (nothing-held a h.bytes none)
-    (subst (λ y. Appends (append_known a h.bytes) y (encode_utf8_all cs ++ [])) (nothing-held c j.bytes left)
-    (Appends-trans (append_known a h.bytes) (append_known b i.bytes) (append_known c j.bytes) (encode_utf8_all cs) [] first.1 second.1)))
+sent-all a b c h i j cs none drawn sent left works = all-sent a c h j (encode_utf8_all cs) (sends-as (append-nil (encode_utf8_all cs)) (sends-then drawn.sent sent)) none left works
 
 -- ---- bytes and cells that are drawn
 

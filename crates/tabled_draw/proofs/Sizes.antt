@@ -1,5 +1,5 @@
 -- Columns are as wide, and rows as high, as what they show asks.
-use Rattle.tabled_draw.proofs.Common.{[], Alignment, Style, border, line_size, pad, ◌+◌, ◌-◌, ◌<◌, ◌∙◌, ◌∷◌, ◌≡◌, ◌≢◌, ◌≤◌, ◌⊎◌, ASCII, AllByRecursion, AreEdges, AreNoLargerThanAsked, Columns, Fits, Grid, List, Measured, Member, Option, Position, Rectangle, Rows, Size, Some, SpanMap, across, and_from, ap, ap₂, arith, asks, by_number, cases_Bool, cases_eq, cases_lt, cell_at, cond, cond-false, cond-true, count_along, each, entries, eqb, ext_get_or, false, fold, fold-append, get_or, get_or-replicate, get_or-set_other, get_or-set_same, get_or_past, grown_for, in_order, grown_sizes, inl, inr, is_before, lacking, largest, least, length, length-replicate, length-set, line_of, lines_in, map_grid, max, most_asked, nat_tests, own, own_sizes, owner_in, place, place_in, raised, refl, replicate, room, same_place, same_place-self, set, share, sized, start_of, subst, suc, sym, take, take_more, takes, text_of_cell, text_width, true, unwrap_or, widths, zero, ℕ}
+use Rattle.tabled_draw.proofs.Common.{[], Alignment, Style, border, line_size, pad, ◌+◌, ◌-◌, ◌<◌, ◌∙◌, ◌∷◌, ◌≡◌, ◌≢◌, ◌≤◌, ◌⊎◌, ASCII, AllByRecursion, AreEdges, AreNoLargerThanAsked, Columns, Fits, Grid, List, Measured, Member, Option, Position, Rectangle, Rows, Size, Some, SpanMap, across, and_from, ap, ap₂, arith, asks, by_number, cases_Bool, cases_eq, cases_lt, cell_at, cond, cond-false, cond-true, count_along, each, entries, eqb, ext_get_or, false, fold, fold-append, get_or, get_or-replicate, get_or-set_other, get_or-set_same, get_or_past, grown_for, in_order, grown_sizes, inl, inr, is_before, lacking, largest, length, length-replicate, length-set, line_of, lines_in, map_grid, max, most_asked, nat_tests, own, own_sizes, owner_in, place, place_in, raised, refl, replicate, room, same_place, same_place-self, set, share, sized, start_of, subst, suc, sym, take, take_more, takes, text_of_cell, text_width, true, unwrap_or, widths, zero, ℕ}
 use Rattle.tabled_draw.proofs.Each.{get-singles, length-singles}
 use Rattle.tabled_draw.proofs.Order.{all-of, member-ordered, ordered-member}
 use Rattle.tabled_draw.proofs.Widths.{columns-nil}
@@ -25,7 +25,7 @@ pub lies-along : {A : Type 0} (axis : Axis) (g : Grid A) (e : Rectangle) → Lie
 lies-along axis g e h1 = grind (arith, nat_tests)
 
 own-size : Axis → Grid (List ℕ) → List Rectangle → ℕ → ℕ
-own-size axis g es k = max (least axis) (largest (count_along (across axis) g) (λ i. own axis g es (place_in axis k i)))
+own-size axis g es k = largest (count_along (across axis) g) (λ i. own axis g es (place_in axis k i))
 
 pub length-own : (axis : Axis) (g : Grid (List ℕ)) (es : List Rectangle) → length (own_sizes axis g es) ≡ count_along axis g
 unfolding own-size
@@ -258,12 +258,6 @@ pub largest-same : (f h : ℕ → ℕ) (n : ℕ) → ((k : ℕ) → k < n → f 
 largest-same f h zero same = refl
 largest-same f h (suc n) same = ap₂ max (largest-same f h n (λ k less. same k (omega (arith, less)))) (same n (omega arith))
 
-max-zero : (n : ℕ) → max n 0 ≡ n
-max-zero n = omega arith
-
-max-max : (a b c : ℕ) → max (max a b) c ≡ max a (max b c)
-max-max a b c = omega arith
-
 largest-zero : (n : ℕ) → largest n (λ k. 0) ≡ 0
 largest-zero zero = refl
 largest-zero (suc n) = ap (λ a. max a 0) (largest-zero n)
@@ -291,11 +285,11 @@ module _ (axis : Axis) (g : Grid (List ℕ)) (es : List Rectangle) where
   asked_at : ℕ → ℕ → ℕ → ℕ → ℕ
   asked_at i j k x = cond (is_before i j (place_in axis k x)) (own axis g es (place_in axis k x)) 0
 
-  pub measured-none : (sizes : List ℕ) → sizes ≡ replicate (count_along axis g) (least axis) → Measured axis g es 0 0 sizes
+  pub measured-none : (sizes : List ℕ) → sizes ≡ replicate (count_along axis g) 0 → Measured axis g es 0 0 sizes
   unfolding asked_at
   measured-none sizes is = record {
-    long = ap length is ∙ length-replicate (count_along axis g) (least axis);
-    each = λ k h. ap (λ (xs : List ℕ). get_or xs k 0) is ∙ get_or-replicate (count_along axis g) k (least axis) 0 h ∙ sym (ap (max (least axis)) (largest-same (asked_at 0 0 k) (λ x. 0) (count_along (across axis) g) (λ x less. cond-false _ _ _ (before-none (place_in axis k x))) ∙ largest-zero (count_along (across axis) g)) ∙ max-zero (least axis));
+    long = ap length is ∙ length-replicate (count_along axis g) 0;
+    each = λ k h. ap (λ (xs : List ℕ). get_or xs k 0) is ∙ get_or-replicate (count_along axis g) k 0 0 h ∙ sym (largest-same (asked_at 0 0 k) (λ x. 0) (count_along (across axis) g) (λ x less. cond-false _ _ _ (before-none (place_in axis k x))) ∙ largest-zero (count_along (across axis) g));
   }
 
   pub measured-row : (i j : ℕ) (sizes : List ℕ) → j ≡ g.columns → Measured axis g es i j sizes → Measured axis g es (i + 1) 0 sizes
@@ -305,7 +299,7 @@ module _ (axis : Axis) (g : Grid (List ℕ)) (es : List Rectangle) where
   pub measured-all : (i : ℕ) (sizes : List ℕ) → i ≡ g.rows → Measured axis g es i 0 sizes → sizes ≡ own_sizes axis g es
   unfolding asked_at own-size
   measured-all i sizes e was = is-each (own-size axis g es) (count_along axis g) sizes was.long
-      (λ k h. was.each k h ∙ ap (max (least axis)) (largest-same (asked_at i 0 k) (λ x. own axis g es (place_in axis k x)) (count_along (across axis) g) (λ x less. cond-true _ _ _ (before-from i 0 (place_in axis k x) (inl (omega (arith, (place-within axis g k x h less).0, e)))))))
+      (λ k h. was.each k h ∙ (largest-same (asked_at i 0 k) (λ x. own axis g es (place_in axis k x)) (count_along (across axis) g) (λ x less. cond-true _ _ _ (before-from i 0 (place_in axis k x) (inl (omega (arith, (place-within axis g k x h less).0, e)))))))
 
   module _ (i j : ℕ) (h : i < g.rows) (w : j < g.columns) (sizes : List ℕ) (was : Measured axis g es i j sizes) where
     pub p : Position
@@ -336,15 +330,15 @@ module _ (axis : Axis) (g : Grid (List ℕ)) (es : List Rectangle) where
       each = λ k less. ap (λ (xs : List ℕ). get_or xs k 0) is ∙ by k less (cases_eq k line);
     }
       where
-        apart : (k : ℕ) → k < count_along axis g → k ≢ line → get_or (set sizes line (max (get_or sizes line 0) (own axis g es p))) k 0 ≡ max (least axis) (largest (count_along (across axis) g) (asked_at i (j + 1) k))
-        apart k less ne = get_or-set_other sizes line k _ 0 ne ∙ was.each k less ∙ ap (max (least axis)) (largest-same (asked_at i j k) (asked_at i (j + 1) k) (count_along (across axis) g) (λ x within. sym (other k x (λ e. ne (in-line axis k x p e).0))))
+        apart : (k : ℕ) → k < count_along axis g → k ≢ line → get_or (set sizes line (max (get_or sizes line 0) (own axis g es p))) k 0 ≡ largest (count_along (across axis) g) (asked_at i (j + 1) k)
+        apart k less ne = get_or-set_other sizes line k _ 0 ne ∙ was.each k less ∙ (largest-same (asked_at i j k) (asked_at i (j + 1) k) (count_along (across axis) g) (λ x within. sym (other k x (λ e. ne (in-line axis k x p e).0))))
 
-        by : (k : ℕ) → k < count_along axis g → (k ≡ line) ⊎ (k ≢ line) → get_or (set sizes line (max (get_or sizes line 0) (own axis g es p))) k 0 ≡ max (least axis) (largest (count_along (across axis) g) (asked_at i (j + 1) k))
+        by : (k : ℕ) → k < count_along axis g → (k ≡ line) ⊎ (k ≢ line) → get_or (set sizes line (max (get_or sizes line 0) (own axis g es p))) k 0 ≡ largest (count_along (across axis) g) (asked_at i (j + 1) k)
         by k less (inr ne) = apart k less ne
         by k less (inl same) =
             let within : line < length sizes = omega (arith, was.long, line-within axis g i j h w) in
             ap (λ z. get_or (set sizes line (max (get_or sizes line 0) (own axis g es p))) z 0) same ∙ get_or-set_same sizes line _ 0 within
-            ∙ ap (λ a. max a (own axis g es p)) (was.each line (line-within axis g i j h w)) ∙ max-max (least axis) (largest (count_along (across axis) g) (asked_at i j line)) (own axis g es p) ∙ ap (max (least axis)) (sym here) ∙ ap (λ z. max (least axis) (largest (count_along (across axis) g) (asked_at i (j + 1) z))) (sym same)
+            ∙ ap (λ a. max a (own axis g es p)) (was.each line (line-within axis g i j h w)) ∙ sym here ∙ ap (λ z. largest (count_along (across axis) g) (asked_at i (j + 1) z)) (sym same)
 
     -- the same, by the owner of the place
     pub measured-raised : (new : List ℕ) (o : Option Rectangle) → o ≡ Some (owner_in es (place i j)) → new ≡ raised axis g sizes o (place i j) → Measured axis g es i (j + 1) new
@@ -354,8 +348,8 @@ module _ (axis : Axis) (g : Grid (List ℕ)) (es : List Rectangle) where
 -- ---- tables that are laid out
 
 module _ (axis : Axis) (g : Grid (List ℕ)) (es : List Rectangle) where
-  pub none-asked : (n : ℕ) (s : List ℕ) → n ≡ count_along axis g → s ≡ replicate n (least axis) → Measured axis g es 0 0 s
-  none-asked n s same is = measured-none axis g es s (is ∙ ap (λ k. replicate k (least axis)) same)
+  pub none-asked : (n : ℕ) (s : List ℕ) → n ≡ count_along axis g → s ≡ replicate n 0 → Measured axis g es 0 0 s
+  none-asked n s same is = measured-none axis g es s (is ∙ ap (λ k. replicate k 0) same)
 
   pub own-long : (s : List ℕ) → s ≡ own_sizes axis g es → length s ≡ count_along axis g
   own-long s is = ap length is ∙ length-own axis g es

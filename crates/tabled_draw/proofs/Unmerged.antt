@@ -1,5 +1,5 @@
 -- Lines of tables without merged cells.
-use Rattle.tabled_draw.proofs.Common.{ASCII, Alignment, AreUnmerged, Bool, Bor, Fits, Grid, IsInside, IsOwnerRow, List, None, Option, Rectangle, SpanMap, Style, [], ap, ap₂, are_none, arith, arms, corner, replicate, size_if, border_of_rests, bytes_in, column, cond, cond-false, cond-true, differ, each, edge, edge_before, entries, eqb-true, false, get_or, inl, inr, is_drawn, left_of, length, level, lt-ltb, mark, marked, meeting, nat_lt, nil_from_length, not, place, refl, stretches, sym, text_inside, true, unmerged_arms, unmerged_corner, unmerged_stretch, ℕ, ◌&&◌, ◌++◌, ◌+◌, ◌-◌, ◌<◌, ◌==◌, ◌∙◌, ◌∷◌, ◌≡◌, ◌≤◌, ◌⊎◌}
+use Rattle.tabled_draw.proofs.Common.{ASCII, Alignment, AreUnmerged, Bool, Fits, Grid, IsOwnerRow, List, None, Option, Rectangle, SpanMap, Style, [], ap, ap₂, are_none, arith, arms, corner, replicate, size_if, cond, cond-true, corner_if, differ, edge_before, entries, eqb-true, false, get_or, is_drawn, left_of, length, level, line_between, lt-ltb, marked, meeting, nat_lt, nil_from_length, refl, stretches, sym, true, unmerged_arms, unmerged_corner, unmerged_stretch, ℕ, ◌&&◌, ◌++◌, ◌+◌, ◌<◌, ◌==◌, ◌∙◌, ◌∷◌, ◌≡◌, ◌≤◌}
 use Rattle.tabled_draw.proofs.Arms.{marked-corner, same-arms}
 use Rattle.tabled_draw.proofs.Each.{each-same}
 use Rattle.tabled_draw.proofs.LawPicture.{arms-meet}
@@ -14,6 +14,16 @@ with-true false = refl
 
 pub none-left : (xs ys : List Rectangle) (b : Bool) → xs ≡ ys → b ≡ (length xs == 0) → b ≡ true → ys ≡ []
 none-left xs ys b is empty t = sym is ∙ nil_from_length xs (eqb-true (length xs) 0 (sym empty ∙ t))
+
+-- all lines between two rows are alike
+pub between-is : (style : Style) (rows columns i : ℕ) (edges : List ℕ) → 0 < i → i < rows → line_between style columns edges ≡ unmerged_line style rows columns i edges
+unfolding unmerged_line
+between-is style rows columns i edges some within = ap (λ x. x ++ (10 ∷ [])) (ap₂ (λ x y. x ++ y)
+    (each-same (unmerged_stretch style 2 columns 1 edges) (unmerged_stretch style rows columns i edges) columns (λ j less. ap (λ x. x ++ level style (is_drawn style.columns columns j) edges j) (corner-is j)))
+    (corner-is columns))
+  where
+    corner-is : (j : ℕ) → unmerged_corner style 2 columns 1 j ≡ unmerged_corner style rows columns i j
+    corner-is j = ap (λ x. marked (is_drawn style.columns columns j) (corner_if style x)) (same-arms _ _ _ _ _ _ _ _ (sym (lt-ltb 0 i some)) refl (sym (lt-ltb i rows within)) refl)
 
 -- where no cells are merged, the arms are those of the table alone
 pub unmerged-rows : (g : Grid (List ℕ)) (m : SpanMap) (i rows columns : ℕ) (above below : List (Option Rectangle)) → rows ≡ g.rows → columns ≡ g.columns → Fits m g.rows g.columns → 0 < g.rows → 0 < g.columns → entries m ≡ [] → i ≤ g.rows

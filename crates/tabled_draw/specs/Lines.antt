@@ -1,5 +1,5 @@
 -- Lines of a picture, by what is known as they are written.
-use Rattle.std.specs.Prelude.{◌≡◌, ◌≢◌, ◌+◌, ◌-◌, ◌<◌, ◌≤◌, ◌==◌, ◌++◌, if◌then◌else◌, ℕ, Bool, false, List, [], ◌∷◌, Option, None, Some, replicate, slice_index_or}
+use Rattle.std.specs.Prelude.{◌≡◌, ◌≢◌, ◌+◌, ◌-◌, ◌<◌, ◌≤◌, ◌==◌, ◌++◌, if◌then◌else◌, ℕ, Bool, false, List, [], ◌∷◌, Option, None, Some, encode_utf8_all, replicate, slice_index_or}
 use Rattle.std.specs.FinMap.{entries}
 use Rattle.std.specs.List.{All, after_first}
 use Rattle.tabled_draw.specs.Alignments.{aligned, alignment_in}
@@ -109,6 +109,14 @@ unmerged_stretch style rows columns i edges j = unmerged_corner style rows colum
 -- the line above row i where no cells are merged
 unfoldable pub unmerged_line : Style → ℕ → ℕ → ℕ → List ℕ → List ℕ
 unmerged_line style rows columns i edges = (each columns (unmerged_stretch style rows columns i edges) ++ unmerged_corner style rows columns i columns) ++ (10 ∷ [])
+
+-- the line between two rows where no cells are merged: all such lines of a table are alike
+abbrev pub line_between : Style → ℕ → List ℕ → List ℕ
+line_between style columns edges = unmerged_line style 2 columns 1 edges
+
+-- bytes, if there are any, are those of that line
+pub record IsBetween (style : Style) (columns : ℕ) (edges bytes : List ℕ) : Type 0 where
+  pub is : bytes ≢ [] → bytes ≡ encode_utf8_all (line_between style columns edges)
 
 -- the rows above and below a line have no merged cell
 pub record AreUnmerged (rows columns i : ℕ) (above below : List (Option Rectangle)) : Type 0 where

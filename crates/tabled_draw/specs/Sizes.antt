@@ -1,5 +1,5 @@
 -- The widths of columns and the heights of rows, said once for both.
-use Rattle.std.specs.Prelude.{◌+◌, ◌-◌, ◌/◌, ◌%◌, ◌==◌, ◌&&◌, if◌then◌else◌, ℕ, List, [], ◌∷◌, length, max, slice_index_or}
+use Rattle.std.specs.Prelude.{◌+◌, ◌-◌, ◌/◌, ◌%◌, ◌==◌, ◌&&◌, if◌then◌else◌, ℕ, List, [], ◌∷◌, length, slice_index_or}
 use Rattle.std.specs.List.{fold}
 use Rattle.std.specs.Option.{unwrap_or}
 use Rattle.tabled_draw.specs.Each.{by_number, each, is_in_range, largest, total}
@@ -20,11 +20,6 @@ use Rattle.tabled_grid.specs.Spans.{Rectangle}
 abbrev pub pad : Axis → ℕ
 pad Rows = 0
 pad Columns = 2
-
--- the least size: a row is a line high, a column may have no room but its blanks
-abbrev pub least : Axis → ℕ
-least Rows = 1
-least Columns = 0
 
 -- the text at a place
 abbrev pub text_of_cell : Grid (List ℕ) → Position → List ℕ
@@ -65,9 +60,9 @@ own_of axis g o p = if same_place o.0 p && (lines_in axis o.1 == 1) then asks ax
 abbrev pub own : Axis → Grid (List ℕ) → List Rectangle → Position → ℕ
 own axis g es p = own_of axis g (owner_in es p) p
 
--- the most that is asked of each row or column by texts that are seen in no other
+-- the most that is asked of each row or column by texts that are seen in no other: nothing where there is no such text
 abbrev pub own_sizes : Axis → Grid (List ℕ) → List Rectangle → List ℕ
-own_sizes axis g es = each (count_along axis g) (λ k. max (least axis) (largest (count_along (across axis) g) (λ i. own axis g es (place_in axis k i))) ∷ [])
+own_sizes axis g es = each (count_along axis g) (λ k. largest (count_along (across axis) g) (λ i. own axis g es (place_in axis k i)) ∷ [])
 
 -- the merged cells in the order in which rows or columns grow for them: those that take the fewest come first, of these
 -- those that begin first

@@ -4,7 +4,7 @@ ghost use Rattle.std.specs.Prelude.{◌≡◌, ◌+◌, ◌<◌, IfOk, IsTrue, O
 ghost use Rattle.std.specs.FinMap.{entries};
 ghost use Rattle.tabled_draw.specs.Borders.{is_drawn};
 ghost use Rattle.tabled_draw.specs.Laid.{AreEdges, IsLaidOut};
-ghost use Rattle.tabled_draw.specs.Lines.{AreUnmerged, EndInside, begun};
+ghost use Rattle.tabled_draw.specs.Lines.{AreUnmerged, EndInside, IsBetween, begun};
 ghost use Rattle.tabled_draw.specs.OwnerRows.{IsOwnerRow, count_before};
 ghost use Rattle.tabled_draw.specs.Picture.{drawn, drawn_with, picture_text, row_text};
 ghost use Rattle.tabled_draw.specs.Rests.{AreBegun, AreCutIf, AreLeftAbove, border_of_rests};
@@ -15,11 +15,10 @@ ghost use Rattle.tabled_grid.specs.Fitting.{Fits};
 ghost use Rattle.tabled_grid.specs.Spans.{AreSpanSizes};
 
 use crate::borders::is_drawn;
-use crate::held::Held;
 use crate::layout::{Layout, layout_of};
-use crate::lines::{write_border_line, write_row_line, write_unmerged_line};
+use crate::lines::{line_between, write_border_line, write_known_line, write_row_line};
 use crate::look::Look;
-use crate::owners::{clear, write_owners};
+use crate::owners::{are_unmerged, clear, write_owners};
 use crate::style::Style;
 use std::alloc::{AllocError, Global};
 use std::io::{self, Write};
@@ -27,6 +26,7 @@ use std::marker::Model;
 use std::mem;
 use tabled_grid::config::{Position, Rectangle, SpannedConfig};
 use tabled_grid::records::{CellText, ExactRecords, PeekableRecords, Records};
+use tabled_held::Held;
 
 /// A table that is laid out, with all the memory that drawing it takes. A contract sees it as the bytes of its
 /// picture.
@@ -44,6 +44,8 @@ where
     layout: Layout,
     /// What is left of the text that begins in each column.
     rests: Vec<&'a str>,
+    /// The line between two rows without merged cells, if its bytes are kept.
+    between: Vec<u8>,
     held: Held,
 }
 
@@ -62,7 +64,7 @@ where
 
     ghost view = { λ a. picture_bytes a.look.style a.look.alignments.now (map_grid R.Cell.text_of (R.grid a.records.now)) (entries a.spans) };
 
-    ghost invariant = { λ a. R.is_well_formed a.records.now × IsLaidOut a.look.style (map_grid R.Cell.text_of (R.grid a.records.now)) a.spans a.layout.edges.items a.layout.heights.items a.layout.above.items a.layout.here.items a.rests.items a.held };
+    ghost invariant = { λ a. R.is_well_formed a.records.now × IsLaidOut a.look.style (map_grid R.Cell.text_of (R.grid a.records.now)) a.spans a.layout.edges.items a.layout.heights.items a.layout.above.items a.layout.here.items a.rests.items a.between.items a.held };
 }
 
 impl<'a, R> Drawing<'a, R>
@@ -100,13 +102,15 @@ where
         let spans = cfg.fitting(alloc, rows, columns)?;
         let layout = layout_of(alloc, records, &spans, &look.style)?;
         let rests = vec![in alloc; ""; columns]?;
-        let held = Held::new(alloc)?;
+        let mut held = Held::new(alloc)?;
+        let between = line_between(alloc, &mut held, look, &layout.edges, rows, columns)?;
         Ok(Drawing {
             records,
             spans,
             look: *look,
             layout,
             rests,
+            between,
             held,
         })
     }
@@ -121,6 +125,7 @@ where
             look,
             layout,
             mut rests,
+            between,
             mut held,
         } = self;
         let Layout {
@@ -133,8 +138,8 @@ where
             return Ok(());
         }
         write_lines(
-            writer, &mut held, records, &spans, &look, &edges, &heights, &mut above, &mut here,
-            &mut rests,
+            writer, &mut held, records, &spans, &look, &edges, &between, &heights, &mut above,
+            &mut here, &mut rests,
         )?;
         held.send(writer);
         held.take_outcome()?;
@@ -150,6 +155,7 @@ fn write_lines<'a, W, R>(
     spans: &SpannedConfig,
     look: &Look<'_>,
     edges: &[usize],
+    between: &[u8],
     heights: &[usize],
     above: &mut Vec<Option<Rectangle>>,
     here: &mut Vec<Option<Rectangle>>,
@@ -160,7 +166,7 @@ where
     R: Records + ExactRecords + PeekableRecords,
     R::Cell: CellText,
     requires well { R.is_well_formed records.now }
-    requires laid { IsLaidOut look.now.style (map_grid R.Cell.text_of (R.grid records.now)) spans.now edges.now heights.now above.old.items here.old.items rests.old.items held.old }
+    requires laid { IsLaidOut look.now.style (map_grid R.Cell.text_of (R.grid records.now)) spans.now edges.now heights.now above.old.items here.old.items rests.old.items between.now held.old }
     requires high { 0 < (R.grid records.now).rows }
     requires wide { 0 < (R.grid records.now).columns }
     ensures { OnOk result (Draws (W.contents writer.old) held.old (W.contents writer.new) held.new (picture_text look.now.style look.now.alignments.now (map_grid R.Cell.text_of (R.grid records.now)) spans.now)) }
@@ -170,8 +176,8 @@ where
     let rows = heights.len();
     for i in 0..rows {
         next = write_row(
-            writer, held, records, spans, look, edges, rows, i, heights[i], next, above, here,
-            rests,
+            writer, held, records, spans, look, edges, between, rows, i, heights[i], next, above,
+            here, rests,
         )?;
         mem::swap(above, here);
     }
@@ -182,6 +188,7 @@ where
         held,
         look,
         edges,
+        between,
         rows,
         rows,
         is_unmerged,
@@ -201,6 +208,7 @@ fn write_row<'a, W, R>(
     spans: &SpannedConfig,
     look: &Look<'_>,
     edges: &[usize],
+    between: &[u8],
     rows: usize,
     i: usize,
     height: usize,
@@ -216,6 +224,7 @@ where
     requires well { R.is_well_formed records.now }
     requires fits { Fits spans.now ((R.grid records.now).rows) ((R.grid records.now).columns) }
     requires edges { AreEdges look.now.style (map_grid R.Cell.text_of (R.grid records.now)) spans.now edges.now }
+    requires between { IsBetween look.now.style ((R.grid records.now).columns) edges.now between.now }
     requires rows { rows ≡ (R.grid records.now).rows }
     requires row { i < (R.grid records.now).rows }
     requires wide { 0 < (R.grid records.now).columns }
@@ -232,12 +241,13 @@ where
     ensures left { OnOk result (AreLeftAbove look.now.style (map_grid R.Cell.text_of (R.grid records.now)) spans.now (i + 1) rests.new.items) }
 {
     let after = write_owners(records, spans, next, i, above, here);
-    let is_unmerged = spans.anchors().is_empty();
+    let is_unmerged = are_unmerged(spans, above, here, i);
     write_border(
         writer,
         held,
         look,
         edges,
+        between,
         rows,
         i,
         is_unmerged,
@@ -258,6 +268,7 @@ fn write_border<'a, W: Write>(
     held: &mut Held,
     look: &Look<'_>,
     edges: &[usize],
+    between: &[u8],
     rows: usize,
     i: usize,
     is_unmerged: bool,
@@ -268,6 +279,7 @@ fn write_border<'a, W: Write>(
     requires above { length above.now ≡ length rests.old.items + 2 }
     requires below { length below.now ≡ length rests.old.items + 2 }
     requires edges { length edges.now ≡ length rests.old.items + 1 }
+    requires between { IsBetween look.now.style (length rests.old.items) edges.now between.now }
     requires inside { EndInside (length rests.old.items) above.now }
     requires unmerged { IsTrue is_unmerged → AreUnmerged rows (length rests.old.items) i above.now below.now }
     ensures long { length rests.new.items ≡ length rests.old.items }
@@ -278,7 +290,7 @@ fn write_border<'a, W: Write>(
         return Ok(());
     }
     if is_unmerged {
-        write_unmerged_line(writer, held, look, edges, rests.len(), rows, i)?;
+        write_known_line(writer, held, look, edges, between, rests.len(), rows, i)?;
         return Ok(());
     }
     write_border_line(writer, held, look, edges, above, below, rests)?;

@@ -51,7 +51,7 @@ pub fn styles_have_names()
 {}
 
 /// No column is wider, and no row higher, than the most that is asked of it: by a text that is seen in no other, or by
-/// the text of a merged cell that takes it, beside the room of the others as their own texts ask. A row is a line high.
+/// the text of a merged cell that takes it, beside the room of the others as their own texts ask.
 pub fn rows_and_columns_are_no_larger_than_asked()
     ensures { HoldsOfPictures AreNoLargerThanAsked }
 {}

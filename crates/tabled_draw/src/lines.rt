@@ -1,19 +1,21 @@
 //! The lines of a picture.
 
-ghost use Rattle.std.specs.Prelude.{◌≡◌, ◌+◌, ◌<◌, [], OnOk, Some, false, length, slice_index_or, true};
+ghost use Rattle.std.specs.Prelude.{◌≡◌, ◌+◌, ◌<◌, [], IfOk, OnOk, Some, encode_utf8, false, length, slice_index_or, true};
 ghost use Rattle.tabled_draw.specs.Borders.{differ};
-ghost use Rattle.tabled_draw.specs.Lines.{EndInside, column_if, edge, left_inside, level, marked, text_inside, unmerged_line};
+ghost use Rattle.tabled_draw.specs.Lines.{EndInside, IsBetween, column_if, edge, left_inside, level, marked, text_inside, unmerged_line};
 ghost use Rattle.tabled_draw.specs.Rests.{AreCut, IsCutAt, bytes_in, line_of_rests};
 ghost use Rattle.tabled_draw.specs.Sent.{Draws};
 ghost use Rattle.tabled_grid.specs.Spans.{Rectangle};
 
 use crate::alignment::alignment_in;
 use crate::borders::{corner, differ, is_drawn, is_drawn_after, size_if};
-use crate::held::Held;
 use crate::look::Look;
+use crate::marks::{draw, draw_known, draw_many};
 use crate::texts::write_cell;
+use std::alloc::{AllocError, Global};
 use std::io::{self, Write};
 use tabled_grid::config::{Rectangle, Size};
+use tabled_held::Held;
 
 /// Writes a line of a row: borders between its owners, and their texts. Of each text that begins here, the lines that
 /// are left are cut by one.
@@ -34,10 +36,12 @@ pub(crate) fn write_row_line<'a, W: Write>(
 {
     let lines = look.style.columns;
     let columns = rests.len();
+    let mut room = [0; 4];
+    let upright = look.style.vertical.encode_utf8(&mut room).as_bytes();
     let mut drawn = is_drawn(lines, columns, 0);
     for j in 0..columns {
         let owner = owners[j + 1];
-        write_upright(writer, held, look, drawn, owners[j], owner);
+        write_upright(writer, held, look, upright, drawn, owners[j], owner);
         rests[j] = write_inside(writer, held, look, drawn, edges, j, owner, rests[j]);
         drawn = is_drawn_after(lines, j);
     }
@@ -46,6 +50,7 @@ pub(crate) fn write_row_line<'a, W: Write>(
         writer,
         held,
         look,
+        upright,
         drawn,
         owners[columns],
         owners[columns + 1],
@@ -112,7 +117,7 @@ pub(crate) fn write_border_line<'a, W: Write>(
 }
 
 /// Writes the line above row i of a table without merged cells, or below its last row.
-pub(crate) fn write_unmerged_line<W: Write>(
+fn write_unmerged_line<W: Write>(
     writer: &mut W,
     held: &mut Held,
     look: &Look<'_>,
@@ -143,30 +148,86 @@ pub(crate) fn write_unmerged_line<W: Write>(
     Ok(())
 }
 
+/// The bytes of the line between two rows without merged cells. There are none where it is drawn once at most, or takes
+/// far more memory than the cells do.
+pub(crate) fn line_between(
+    alloc: Global,
+    held: &mut Held,
+    look: &Look<'_>,
+    edges: &[usize],
+    rows: usize,
+    columns: usize,
+) -> Result<Vec<u8>, AllocError>
+    requires edges { length edges.now ≡ columns + 1 }
+    requires none { held.old.bytes ≡ [] }
+    ensures none { OnOk result (held.new.bytes ≡ []) }
+    ensures between { IfOk result (λ line. IsBetween look.now.style columns edges.now line.items) }
+{
+    let mut line = Vec::new(alloc);
+    if rows < 3 || !look.style.rows.inner || rows.saturating_mul(columns) < edges[columns] / 8 {
+        return Ok(line);
+    }
+    if write_unmerged_line(&mut line, held, look, edges, columns, 2, 1).is_err() {
+        return Err(AllocError);
+    }
+    held.send(&mut line);
+    if held.take_outcome().is_err() {
+        return Err(AllocError);
+    }
+    Ok(line)
+}
+
+/// Writes the line above row i of a table, or below its last row, at which no merged cell lies. Its bytes may be known,
+/// if it is between two rows.
+pub(crate) fn write_known_line<W: Write>(
+    writer: &mut W,
+    held: &mut Held,
+    look: &Look<'_>,
+    edges: &[usize],
+    between: &[u8],
+    columns: usize,
+    rows: usize,
+    i: usize,
+) -> io::Result<()>
+    requires edges { length edges.now ≡ columns + 1 }
+    requires between { IsBetween look.now.style columns edges.now between.now }
+    ensures draws { OnOk result (Draws (W.contents writer.old) held.old (W.contents writer.new) held.new (unmerged_line look.now.style rows columns i edges.now)) }
+{
+    if between.is_empty() || i == 0 || rows <= i {
+        write_unmerged_line(writer, held, look, edges, columns, rows, i)?;
+        return Ok(());
+    }
+    held.write(writer, between);
+    held.take_outcome()?;
+    Ok(())
+}
+
 /// Writes a character, if there is one and its line is drawn.
 #[inline(always)]
 fn write_mark<W: Write>(writer: &mut W, held: &mut Held, drawn: bool, mark: Option<char>)
     ensures { Draws (W.contents writer.old) held.old (W.contents writer.new) held.new (marked drawn mark) }
 {
     if drawn && let Some(mark) = mark {
-        held.draw(writer, mark);
+        draw(writer, held, mark);
     }
 }
 
-/// Writes the border between two places of a row, if there is one and its line is drawn.
+/// Writes the border between two places of a row, if there is one and its line is drawn. Its bytes are known.
 #[inline(always)]
 fn write_upright<W: Write>(
     writer: &mut W,
     held: &mut Held,
     look: &Look<'_>,
+    upright: &[u8],
     drawn: bool,
     before: Option<Rectangle>,
     after: Option<Rectangle>,
 )
+    requires { upright.now ≡ encode_utf8 look.now.style.vertical }
     ensures { Draws (W.contents writer.old) held.old (W.contents writer.new) held.new (edge look.now.style true drawn before after before after) }
 {
     if drawn && differ(before, after) {
-        held.draw(writer, look.style.vertical);
+        draw_known(writer, held, look.style.vertical, upright);
     }
 }
 
@@ -237,7 +298,7 @@ fn write_level<W: Write>(
     let inside = edges[j + 1]
         .saturating_sub(edges[j])
         .saturating_sub(size_if(drawn));
-    held.draw_many(writer, look.style.horizontal, inside);
+    draw_many(writer, held, look.style.horizontal, inside);
 }
 
 /// Writes what an owner that lies above and below shows in a column.

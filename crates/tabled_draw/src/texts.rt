@@ -8,9 +8,9 @@ ghost use Rattle.tabled_draw.specs.Texts.{text_width, shown_character, shown_lin
 ghost use Rattle.tabled_grid.specs.declared.records.axis.Axis.TheVariants.{Rows, Columns};
 
 use crate::alignment::{Alignment, indent};
-use crate::held::Held;
 use std::io::Write;
 use tabled_grid::config::Size;
+use tabled_held::Held;
 use unicode_width::UnicodeWidthStr;
 
 /// The character that is shown for one: for a control character another one, which can be seen.

@@ -1,6 +1,6 @@
 //! Bytes that are held until there are many to send.
 
-ghost use Rattle.std.specs.Prelude.{◌≡◌, ◌∷◌, [], IfOk, OnOk, true};
+ghost use Rattle.std.specs.Prelude.{◌≡◌, ◌∷◌, [], IfOk, OnOk, replicate, true};
 ghost use Rattle.tabled_held.specs.Sent.{GrowsBy};
 
 use std::alloc::{AllocError, Global};
@@ -91,5 +91,24 @@ impl Held {
         if self.outcome.is_ok() {
             self.outcome = writer.write_all(bytes);
         }
+    }
+
+    /// Sends a byte many times, or holds it as often.
+    #[inline(always)]
+    pub fn repeat<W: Write>(&mut self, writer: &mut W, byte: u8, count: usize)
+        ensures { GrowsBy (W.contents writer.old) self.old (W.contents writer.new) self.new (replicate count byte) }
+    {
+        if count == 0 {
+            return;
+        }
+        let len = self.bytes.len();
+        if count > self.bytes.capacity() - len {
+            for _ in 0..count {
+                self.push(writer, byte);
+            }
+            return;
+        }
+        // There is room here too, so this asks for no memory.
+        let _ = self.bytes.resize(len + count, byte);
     }
 }

@@ -1,4 +1,4 @@
-use Rattle.tabled_draw.proofs.Common.{◌+◌, ◌∙◌, ◌≡◌, AreUnmerged, Draws, IsOwnerRow, ap, ap₂, arith, border_line, border_of_rests, bytes_in, entries, length, map_grid, refl, subst, sym, top, with_newlines}
+use Rattle.tabled_draw.proofs.Common.{◌+◌, ◌∙◌, ◌≡◌, AreUnmerged, Draws, IsBetween, IsOwnerRow, ap, ap₂, arith, border_line, border_of_rests, bytes_in, entries, length, map_grid, refl, subst, sym, top, with_newlines}
 use Rattle.tabled_draw.proofs.Owned.{count-none, owner-below, owner-top, row-outside}
 use Rattle.tabled_draw.proofs.Rows.{all-rows, border-text, end-inside, left-outside, more-rows}
 use Rattle.tabled_draw.proofs.Sent.{draws-as, draws-none, draws-then}
@@ -32,6 +32,9 @@ loop-i-preserved g c =
 
 pub write_border-requires-clause-inside : goal.write_border-requires-clause-inside
 write_border-requires-clause-inside g c = rw (c.loop-i.invariant.long, c.deref.ensures.value) (end-inside c.args.spans.now _ _ c.loop-i.i c.loop-i.above.items c.requires.laid.fits c.loop-i.invariant.above)
+
+pub write_border-requires-clause-between : goal.write_border-requires-clause-between
+write_border-requires-clause-between g c = subst (λ n. IsBetween c.args.look.now.style n c.args.edges.now c.args.between.now) (sym c.loop-i.invariant.long) c.requires.laid.between
 
 pub write_border-requires-clause-unmerged : goal.write_border-requires-clause-unmerged
 write_border-requires-clause-unmerged g c =

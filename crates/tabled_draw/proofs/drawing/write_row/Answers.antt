@@ -1,20 +1,24 @@
-use Rattle.tabled_draw.proofs.Common.{[], ◌+◌, ◌-◌, ◌<◌, ◌∙◌, ◌≡◌, ◌≤◌, AreLeft, IsOwnerRow, None, Rows, add-zero, add_assoc, ap, ap₂, arith, begun, border, bytes_in, cond, entries, get_or, heights, is_drawn, left_of, length, map_grid, place, refl, size_if, subst, sym, top, true}
+use Rattle.tabled_draw.proofs.Common.{[], ◌+◌, ◌-◌, ◌<◌, ◌∙◌, ◌≡◌, ◌≤◌, AreLeft, AreUnmerged, IsBetween, IsOwnerRow, None, Rows, add-zero, add_assoc, ap, ap₂, arith, begun, border, bytes_in, cond, entries, get_or, heights, is_drawn, left_of, length, map_grid, place, refl, size_if, subst, sym, top, true}
 use Rattle.tabled_draw.proofs.Sizes.{start-next}
 use Rattle.tabled_draw.proofs.Rows.{all-below, border-text, end-inside, first-below, in-row, left-in_row, left-next_row, more-below}
 use Rattle.tabled_draw.proofs.Sent.{draws-as, draws-then}
-use Rattle.tabled_draw.proofs.Unmerged.{none-left, unmerged-rows}
 use Rattle.tabled_draw.specs.Lines.{drawn_line}
 use Rattle.tabled_draw.proofs.drawing.write_row.Goals as goal
 
 pub write_border-requires-clause-inside : goal.write_border-requires-clause-inside
-write_border-requires-clause-inside g c = rw (c.requires.long, c.deref.ensures.value) (end-inside c.args.spans.now _ _ c.args.i c.args.above.now.items c.requires.fits c.requires.above)
+write_border-requires-clause-inside g c = rw (c.requires.long, c.deref-3.ensures.value) (end-inside c.args.spans.now _ _ c.args.i c.args.above.now.items c.requires.fits c.requires.above)
 
 pub write_border-requires-clause-unmerged : goal.write_border-requires-clause-unmerged
 write_border-requires-clause-unmerged g c =
     let t = map_grid g.R.Cell.CellText.text_of (g.R.GridStore.grid c.args.records.now) in
-    let m = c.args.spans.now in
-    λ empty. unmerged-rows t m c.args.i c.args.rows (length c.args.rests.now.items) c.deref.result.now c.deref-2.result.now c.requires.rows c.requires.long c.requires.fits (omega (arith, c.requires.row)) c.requires.wide
-    (none-left _ _ _ c.anchors.ensures.anchors c.is_empty-is_unmerged.ensures empty) (omega (arith, c.requires.row)) (rw c.deref.ensures.value c.requires.above) (rw c.deref-2.ensures.value c.write_owners-after.ensures.here)
+    λ unmerged. subst (λ a. AreUnmerged c.args.rows (length c.args.rests.now.items) c.args.i a c.deref-4.result.now) (c.deref.ensures.value ∙ sym c.deref-3.ensures.value)
+    (subst (λ b. AreUnmerged c.args.rows (length c.args.rests.now.items) c.args.i c.deref.result.now b) (c.deref-2.ensures.value ∙ sym c.deref-4.ensures.value)
+    (subst (λ n. AreUnmerged n (length c.args.rests.now.items) c.args.i c.deref.result.now c.deref-2.result.now) (sym c.requires.rows)
+    (subst (λ n. AreUnmerged t.rows n c.args.i c.deref.result.now c.deref-2.result.now) (sym c.requires.long)
+    (c.are_unmerged-is_unmerged.ensures unmerged t c.requires.row c.requires.wide c.requires.fits (rw c.deref.ensures.value c.requires.above) (rw c.deref-2.ensures.value c.write_owners-after.ensures.here)))))
+
+pub write_border-requires-clause-between : goal.write_border-requires-clause-between
+write_border-requires-clause-between g c = subst (λ n. IsBetween c.args.look.now.style n c.args.edges.now c.args.between.now) (sym c.requires.long) c.requires.between
 
 pub write_row_line-requires-clause-inside : goal.write_row_line-requires-clause-inside
 write_row_line-requires-clause-inside g c = rw (c.loop-y.invariant.long, c.deref-in-loop-y.ensures.value) (end-inside c.args.spans.now _ _ (c.args.i + 1) c.write_owners-after.new.here.items c.requires.fits c.write_owners-after.ensures.here)
@@ -31,16 +35,16 @@ loop-y-init g c =
     let new = bytes_in c.begin.new.rests.items in
     let drawn = is_drawn style.rows c.args.rows i in
     let size : border Rows style t i ≡ size_if drawn = ap (λ n. size_if (is_drawn style.rows n i)) (sym c.requires.rows) in
-    let over : IsOwnerRow t.rows t.columns m i c.deref.result.now = rw c.deref.ensures.value c.requires.above in
-    let under : IsOwnerRow t.rows t.columns m (i + 1) c.deref-2.result.now = rw c.deref-2.ensures.value c.write_owners-after.ensures.here in
-    let again : IsOwnerRow t.rows t.columns m (i + 1) c.deref-3.result.now = rw c.deref-3.ensures.value c.write_owners-after.ensures.here in
+    let over : IsOwnerRow t.rows t.columns m i c.deref-3.result.now = rw c.deref-3.ensures.value c.requires.above in
+    let under : IsOwnerRow t.rows t.columns m (i + 1) c.deref-4.result.now = rw c.deref-4.ensures.value c.write_owners-after.ensures.here in
+    let again : IsOwnerRow t.rows t.columns m (i + 1) c.deref-5.result.now = rw c.deref-5.ensures.value c.write_owners-after.ensures.here in
     record {
       long = c.begin.ensures.long;
       left = subst (λ n. AreLeft style t m (i + 1) n new) (ap (λ k. top style t (entries m) i + k) (sym size) ∙ sym (add-zero (top style t (entries m) i + border Rows style t i))) (left-next_row style t m c.requires.fits drawn i (top style t (entries m) i) old cut new c.requires.row refl size c.requires.left
           (λ j less. c.in_ok-write_border.ensures.rests j (omega (arith, less, c.requires.long)) ∙ ap₂ (λ a b. cond drawn (left_of j a b (get_or old j [])) (get_or old j [])) (over.each (j + 1) (omega (arith, less))) (under.each (j + 1) (omega (arith, less))))
           (λ j less. c.begin.ensures.begun j less ∙ ap (λ a. begun t a (place i j) (get_or cut j [])) (again.each (j + 1) (omega (arith, less)))));
       drawn = draws-as
-          (border-text style aligns t m c.requires.fits c.args.edges.now c.requires.edges i (top style t (entries m) i) c.args.rows c.deref.result.now c.deref-2.result.now c.args.rests.now.items c.requires.rows refl over under c.requires.left c.requires.long ∙ first-below style aligns t (entries m) i)
+          (border-text style aligns t m c.requires.fits c.args.edges.now c.requires.edges i (top style t (entries m) i) c.args.rows c.deref-3.result.now c.deref-4.result.now c.args.rests.now.items c.requires.rows refl over under c.requires.left c.requires.long ∙ first-below style aligns t (entries m) i)
           c.in_ok-write_border.ensures.draws;
     }
 

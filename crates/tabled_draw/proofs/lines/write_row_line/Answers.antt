@@ -5,6 +5,11 @@ use Rattle.tabled_draw.proofs.Sent.{draws-as, draws-byte, draws-then}
 use Rattle.tabled_draw.specs.Lines.{drawn_line}
 use Rattle.tabled_draw.proofs.lines.write_row_line.Goals as goal
 
+pub write_inside-requires-clause-end : goal.write_inside-requires-clause-end
+write_inside-requires-clause-end g c = λ o owned begins.
+    let less : c.loop-j.j < length c.args.rests.now.items = omega (arith, c.loop-j-test.true, c.len-columns.ensures) in
+    omega (arith, c.requires.inside.each c.loop-j.j o less owned begins, c.requires.edges)
+
 pub loop-j-preserved : goal.loop-j-preserved
 loop-j-preserved g c =
     let j = c.loop-j.j in

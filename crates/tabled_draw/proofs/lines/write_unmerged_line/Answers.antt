@@ -1,4 +1,4 @@
-use Rattle.tabled_draw.proofs.Common.{[], ◌+◌, ◌<◌, ◌≤◌, ◌∙◌, ◌≡◌, Arms, Bool, Draws, ap, ap₂, arith, corner_if, each, is_drawn, level, lit<, lt-ltb, marked, nat_lt, refl, subst, sym, unmerged_arms, unmerged_stretch, true, false, ℕ}
+use Rattle.tabled_draw.proofs.Common.{◌+◌, ◌∙◌, ◌≡◌, Draws, ap, ap₂, arith, corner_if, each, is_drawn, level, lit<, lt-ltb, marked, nat_lt, refl, subst, sym, unmerged_arms, unmerged_stretch, false}
 use Rattle.std.proofs.Common.{le-ltb}
 use Rattle.tabled_draw.proofs.Arms.{same-arms}
 use Rattle.tabled_draw.proofs.Each.{each-more}
