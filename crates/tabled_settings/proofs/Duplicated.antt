@@ -1,6 +1,6 @@
 -- How many cells entities name in a table, and the writes of texts that are duplicated.
 use Rattle.std.proofs.lemmas.Grind.{common_steps}
-use Rattle.tabled_settings.proofs.Common.{[], ◌%◌, ◌*◌, ◌++◌, ◌+◌, ◌-◌, ◌<◌, ◌∙◌, ◌∷◌, ◌≡◌, ◌≤◌, ◌⊎◌, AllByRecursion, Cell, Column, Duplicates, DuplicatesFirst, Entity, FirstWrites, Global, Grid, List, Position, Row, Write, ap, ap₂, arith, block, cases_lt, get_or, get_or-take, inl, inr, inside, inside-Cell, inside-Column, inside-Global, inside-Row, inside-no_cell, inside-no_column, inside-no_row, length, length-take-le, map_grid, mod-eq_of_lt, nil_from_length, place, places, refl, round_from, round_writes, rounds, source_texts, subst, suc, sym, take, take_all, with_writes, zero, ℕ}
+use Rattle.tabled_settings.proofs.Common.{[], ◌%◌, ◌*◌, ◌++◌, ◌+◌, ◌-◌, ◌<◌, ◌∙◌, ◌∷◌, ◌≡◌, ◌≤◌, ◌⊎◌, AllByRecursion, Cell, Column, Duplicates, DuplicatesFirst, Entity, FirstWrites, Global, Grid, List, Position, Row, Write, ap, ap₂, arith, block, cases_lt, get_or, get_or-take, inl, inr, inside, inside-Cell, inside-Column, inside-Global, inside-Row, inside-no_cell, inside-no_column, inside-no_row, length, length-take-le, map_grid, mod-eq_of_lt, nil_from_length, places, refl, round_from, round_writes, rounds, source_texts, subst, suc, sym, take, take_all, with_writes, zero, ℕ}
 use Rattle.tabled_carry.proofs.Pigeonhole.{length-block}
 
 -- the first n of a list that begins with the first n of another

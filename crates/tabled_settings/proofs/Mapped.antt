@@ -1,5 +1,5 @@
 -- Answers that are made of the old text alone.
-use Rattle.tabled_settings.proofs.Common.{[], ◌∙◌, ◌∷◌, ◌≡◌, ◌⊎◌, AnswersInTurn, Asking, Bool, Entity, FirstWrites, Grid, List, Option, Position, RewritesAt, RewritesUntil, Write, ap, ap₂, charset_writes, false, false≢true, inl, inr, inside, is_set, length-map, map, mapped_writes, recoded, refl, sym, take, take-map, text_at, true, with_writes, ℕ}
+use Rattle.tabled_settings.proofs.Common.{[], ◌∙◌, ◌∷◌, ◌≡◌, ◌⊎◌, AnswersInTurn, Asking, Bool, Entity, FirstWrites, Grid, List, Option, Position, RewritesAt, RewritesUntil, Write, ap, ap₂, charset_writes, false, false≢true, inl, inr, inside, is_set, length-map, map, mapped_writes, recoded, refl, sym, take, take-map, text_at, true, with_writes, wrap_writes, wrapped, ℕ}
 
 module _ {S : Type 0} (asks : Asking S) (s : S) (f : List ℕ → List ℕ) (says : (p : Position) (old new : List ℕ) (t : S) → asks s p old new t → (t ≡ s) × (new ≡ f old)) (g : Grid (List ℕ)) where
   writes-are : (writes : List Write) (last : S) → AnswersInTurn asks s g writes last → writes ≡ mapped_writes f g (map (λ (w : Write). w.place) writes)
@@ -29,3 +29,13 @@ charset-until s e g h set r = rw set (mapped-until RecodedAsks s (recoded s) (λ
 pub not_unset : {Q : Type 0} (s : Bool × Option ℕ) → is_set s ≡ true → (is_set s ≡ false) ⊎ Q → Q
 not_unset s set (inl unset) = absurd (false≢true (sym unset ∙ set))
 not_unset s set (inr q) = q
+
+-- what is asked of a wrap
+abbrev pub WrappedAsks : Asking (ℕ × Bool)
+WrappedAsks s p old new t = (t ≡ s) × (new ≡ wrapped s old)
+
+pub wrap-all : (s : ℕ × Bool) (e : Entity) (g h : Grid (List ℕ)) → RewritesAt WrappedAsks s (inside e g.rows g.columns) g h → h ≡ with_writes (wrap_writes s e g) g
+wrap-all s e g h r = mapped-all WrappedAsks s (wrapped s) (λ p old new t a. a) g (inside e g.rows g.columns) h r
+
+pub wrap-until : (s : ℕ × Bool) (e : Entity) (g h : Grid (List ℕ)) → RewritesUntil WrappedAsks s (inside e g.rows g.columns) g h → FirstWrites (wrap_writes s e g) g h
+wrap-until s e g h r = mapped-until WrappedAsks s (wrapped s) (λ p old new t a. a) g (inside e g.rows g.columns) h r

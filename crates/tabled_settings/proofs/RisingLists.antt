@@ -1,6 +1,6 @@
 -- Indexes in lists that rise.
 use Rattle.std.proofs.lemmas.Grind.{common_steps}
-use Rattle.tabled_settings.proofs.Common.{◌+◌, ◌-◌, ◌<◌, ◌∙◌, ◌≡◌, ◌≤◌, AllPairs-from_increasing, Bool, Err, IsBinarySearchResult, IsStrictlyIncreasing, IsStrictlyIncreasing-filter, List, Ok, Result, Some, ap, arith, cases_eq, get_or, get_or-range_with_len, inl, inr, left_over, length, length-range_with_len, nat_cmp, not, range_with_len, suc, sym, zero, ℕ}
+use Rattle.tabled_settings.proofs.Common.{◌+◌, ◌<◌, ◌∙◌, ◌≡◌, ◌≤◌, AllPairs-from_increasing, Bool, Err, IsBinarySearchResult, IsStrictlyIncreasing, IsStrictlyIncreasing-filter, List, Ok, Result, Some, ap, arith, cases_eq, get_or, get_or-range_with_len, inl, inr, left_over, length, length-range_with_len, nat_cmp, not, range_with_len, suc, sym, zero, ℕ}
 use Rattle.std.specs.Result.{result_ok}
 use Rattle.std.proofs.lemmas.List.Sorted.{searched}
 

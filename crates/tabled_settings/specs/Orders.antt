@@ -31,3 +31,7 @@ reverse_cmp a b = ordering_then (axis_cmp a.axis b.axis) (ordering_then (nat_cmp
 -- by whether they clean, those that don't first, and then by the tab size, unset first
 abbrev pub charset_cmp : Bool × Option ℕ → Bool × Option ℕ → Ordering
 charset_cmp a b = ordering_then (bool_cmp a.0 b.0) (option_cmp nat_cmp a.1 b.1)
+
+-- by the width, and then by whether they keep words, those that don't first
+abbrev pub wrap_cmp : ℕ × Bool → ℕ × Bool → Ordering
+wrap_cmp a b = ordering_then (nat_cmp a.0 b.0) (bool_cmp a.1 b.1)

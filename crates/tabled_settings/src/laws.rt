@@ -1,6 +1,6 @@
 //! Laws of what options do. Each is the contract of a function that does nothing.
 
-ghost use Rattle.std.specs.Prelude.{◌≡◌, ◌<◌, ℕ, Bool, List, count_by};
+ghost use Rattle.std.specs.Prelude.{◌≡◌, ◌<◌, ◌≤◌, ℕ, Bool, List, count_by, true};
 ghost use Rattle.std.specs.List.{AllByRecursion};
 ghost use Rattle.tabled_grid.specs.Grid.{Grid, IsEven};
 ghost use Rattle.tabled_grid.specs.declared.records.axis.Axis.{Axis};
@@ -8,7 +8,8 @@ ghost use Rattle.tabled_options.specs.Shapes.{FitsAfter, FitsAfterEach};
 ghost use Rattle.tabled_settings.specs.declared.rotate.Rotate.TheVariants.{Bottom, Left, Right, Top};
 ghost use Rattle.tabled_settings.specs.declared.split.Display.TheVariants.{Retain};
 ghost use Rattle.tabled_settings.specs.Charsets.{IsCleanByte, clean_text, with_tabs};
-ghost use Rattle.tabled_settings.specs.Orders.{charset_cmp, reverse_cmp};
+ghost use Rattle.tabled_settings.specs.Orders.{charset_cmp, reverse_cmp, wrap_cmp};
+ghost use Rattle.tabled_settings.specs.Wraps.{IsWrapped, KeepsWords, wrapped_characters};
 ghost use Rattle.tabled_settings.specs.PiecePlaces.{IsGluedBack, all_pieces, split_places, texts_along};
 ghost use Rattle.tabled_settings.specs.Pieces.{split};
 ghost use Rattle.tabled_grid.specs.Fitting.{Fits};
@@ -25,6 +26,7 @@ use crate::formatting::Charset;
 use crate::reverse::Reverse;
 use crate::rotate::Rotate;
 use crate::split::Split;
+use crate::width::Wrap;
 use std::alloc::{AllocError, Global};
 use tabled_grid::config::{Position, SpannedConfig, ToBounds};
 use tabled_grid::records::{
@@ -230,4 +232,32 @@ where
     R: Records + ExactRecords + Resizable + RecordsMut<String>,
     R::Cell: CellText,
     ensures table { let how = ⟦<Concat as TableOption<R, SpannedConfig, D>>⟧ in FitsAfter (how.does _concat.now) (how.leaves _concat.now) }
+{}
+
+/// A text that is wrapped to one column or more, between words or anywhere, has no line of more columns; what is
+/// neither a blank nor a newline stands there whole and in order, each character fitted; and it is wrapped line by
+/// line, where a line that fits is as it was.
+pub fn wrapped_texts_are_narrow_and_whole()
+    ensures wrapped { (width : ℕ) (keeps_words : Bool) (text : List ℕ) → 1 ≤ width → IsWrapped width text (wrapped_characters width keeps_words text) }
+{}
+
+/// A text that is wrapped between words has the words of the text in order: each that fits in a line as it was,
+/// and the others in parts.
+pub fn wraps_keep_words()
+    ensures words { (width : ℕ) (text : List ℕ) → KeepsWords width text (wrapped_characters width true text) }
+{}
+
+/// Wraps are ordered by their width, and then by whether they keep words, those that don't first.
+pub fn wraps_in_order(_a: Wrap, _b: Wrap)
+    ensures order { ⟦<Wrap as Ord>⟧.cmp _a _b ≡ wrap_cmp _a _b }
+{}
+
+/// A wrap keeps merged cells inside the table and apart, on each entity and on the table, also where it is
+/// refused.
+pub fn wraps_keep_merged_cells_fitting<R, D>(_wrap: &Wrap)
+where
+    R: Records + ExactRecords + PeekableRecords + RecordsMut<String>,
+    R::Cell: CellText,
+    ensures cells { let how = ⟦<Wrap as CellOption<R, SpannedConfig>>⟧ in FitsAfterEach (how.does _wrap.now) (how.leaves _wrap.now) }
+    ensures table { let how = ⟦<Wrap as TableOption<R, SpannedConfig, D>>⟧ in FitsAfter (how.does _wrap.now) (how.leaves _wrap.now) }
 {}

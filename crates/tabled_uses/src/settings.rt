@@ -13,6 +13,7 @@ use tabled_settings::formatting::Charset;
 use tabled_settings::reverse::Reverse;
 use tabled_settings::rotate::Rotate;
 use tabled_settings::split::Split;
+use tabled_settings::width::Width;
 use tabled_table::{Table, TextRef};
 
 pub fn writes_what_is_found(alloc: Global, table: &mut Table) -> Result<(), AllocError> {
@@ -39,6 +40,12 @@ pub fn writes_anew(alloc: Global, table: &mut Table) -> Result<(), AllocError> {
     table.modify(alloc, Rows::first(), Format::content(marked).multiline())?;
     table.modify(alloc, Columns::first(), Charset::new().clean().tab_size(2))?;
     table.with(alloc, Dup::new(Columns::last(), Rows::first()))
+}
+
+/// Cuts the lines of the first column anywhere, and then those of all columns between words.
+pub fn wraps(alloc: Global, table: &mut Table, width: usize) -> Result<(), AllocError> {
+    table.modify(alloc, Columns::first(), Width::wrap(width))?;
+    table.with(alloc, Width::wrap(width).keep_words(true))
 }
 
 pub fn turns_and_cuts(alloc: Global, table: &mut Table) -> Result<(), AllocError> {

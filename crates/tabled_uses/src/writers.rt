@@ -19,7 +19,9 @@ use tabled_settings::formatting::Charset;
 use tabled_settings::laws::{
     charsets_keep_merged_cells_fitting, duplicates_keep_merged_cells_fitting,
     formats_keep_merged_cells_fitting, positioned_formats_keep_merged_cells_fitting,
+    wraps_keep_merged_cells_fitting,
 };
+use tabled_settings::width::Width;
 use tabled_spans::laws::spans_fit_midway;
 
 fn marked(alloc: Global, text: &str) -> Result<String, AllocError> {
@@ -56,6 +58,26 @@ where
     let charset = Charset::new().clean();
     charsets_keep_merged_cells_fitting::<R, ()>(&charset);
     changes(alloc, records, cfg, &mut (), charset)
+}
+
+/// Cuts the lines of every text to n columns, between words.
+pub fn wraps_all<R>(
+    alloc: Global,
+    records: &mut R,
+    cfg: &mut SpannedConfig,
+    width: usize,
+) -> Result<(), AllocError>
+where
+    R: Records + ExactRecords + PeekableRecords + RecordsMut<String>,
+    R::Cell: CellText,
+    requires well { R.is_well_formed records.old }
+    requires fits { Fits cfg.old ((R.grid records.old).rows) ((R.grid records.old).columns) }
+    ensures well { R.is_well_formed records.new }
+    ensures fits { Fits cfg.new ((R.grid records.new).rows) ((R.grid records.new).columns) }
+{
+    let wrap = Width::wrap(width).keep_words(true);
+    wraps_keep_merged_cells_fitting::<R, ()>(&wrap);
+    changes(alloc, records, cfg, &mut (), wrap)
 }
 
 /// In the middle of an entity, after one more span of columns, merged cells lie inside the table, and of two

@@ -8,3 +8,4 @@ mod odd;
 mod refused_writers;
 mod spans;
 mod tables;
+mod widths;

@@ -1,4 +1,4 @@
-use Rattle.tabled_settings.proofs.Common.{◌+◌, ◌∙◌, ◌≡◌, ◌≤◌, ◌⊎◌, None, Some, ap, arith, as_texts, inl, inr, sym, text_put}
+use Rattle.tabled_settings.proofs.Common.{◌∙◌, ◌≡◌, ◌≤◌, ◌⊎◌, None, Some, ap, arith, as_texts, inl, inr, sym, text_put}
 use Rattle.std.specs.String.{string_bytes}
 use Rattle.tabled_settings.proofs.Joins.{fills_more, fills_over}
 use Rattle.tabled_settings.proofs.concat.fill.Goals as goal

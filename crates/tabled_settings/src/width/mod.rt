@@ -1,0 +1,24 @@
+//! Options for the widths of texts.
+
+ghost use Rattle.std.specs.Prelude.{◌≡◌, false};
+
+mod wrap;
+
+pub use wrap::Wrap;
+
+/// Changes the widths of texts.
+///
+/// Ported from `tabled::settings::Width`.
+#[derive(Debug)]
+pub struct Width;
+
+impl Width {
+    /// Cuts lines into lines of at most n columns, anywhere.
+    ///
+    /// Ported from `tabled::settings::Width::wrap`.
+    pub fn wrap(width: usize) -> Wrap
+        ensures { result ≡ (width, false) }
+    {
+        Wrap::new(width)
+    }
+}
