@@ -20,7 +20,7 @@ pub use Rattle.tabled_grid.proofs.Shifts.{Comes, from_earlier, moves, stays}
 pub use Rattle.tabled_grid.proofs.SortedEntries.{below_at, both, put_found, put_missed, searchable, searched}
 pub use Rattle.tabled_grid.proofs.SpanMaps.{at, equal, found_above, halves, hidden-from, hidden_by, holds-from, holds-true, less, none, size_at-none, size_at-some, size_at-with_size-other, some, tied, untied, visible, with_size-other}
 pub use Rattle.tabled_grid.proofs.Spans.{positions_exact, positions_total}
-pub use Rattle.tabled_grid.specs.Axis.{in_line, resized}
+pub use Rattle.tabled_grid.specs.Axis.{in_line, lines_in, resized}
 pub use Rattle.tabled_grid.specs.Covers.{cover_in}
 pub use Rattle.tabled_grid.specs.Midway.{LieWithin}
 pub use Rattle.tabled_grid.specs.declared.config.entity.Entity.{Entity}
@@ -32,8 +32,8 @@ pub use Rattle.tabled_options.proofs.Common.{DoesFirstWrites, FirstWrites, Optio
 pub use Rattle.tabled_options.proofs.Results.{on_err}
 pub use Rattle.tabled_select.proofs.Common.{append-nil, eq-eqb, get_or-replicate, if◌then◌else◌, inside-within, min}
 pub use Rattle.tabled_spans.specs.Panels.{Panels, PutsIn, has_room, with_line_at, with_panel}
-pub use Rattle.tabled_spans.specs.RunSteps.{AreTails, Before, IsOfRun, IsTail, RunAt, RunsFrom, StandBelow}
-pub use Rattle.tabled_spans.specs.Runs.{IsRun, Joins, MergesRuns, further, is_free, size_of_run}
+pub use Rattle.tabled_spans.specs.RunSteps.{AreInBlock, AreTails, Before, IsOfRun, IsTail, RunAt, RunsFrom, StandBelow}
+pub use Rattle.tabled_spans.specs.Runs.{IsNamed, IsRun, Joins, MergesRuns, NamesNoNeighbours, further, is_free, size_of_run}
 pub use Rattle.tabled_spans.specs.SpanSteps.{InReach, IsReach, change_at}
 pub use Rattle.tabled_spans.specs.Spanned.{IsFlat, Spans, SpansFirst, are_visible, back_of, emptying, grown, grown_at, grown_each, pull_writes, pull_writes_on, pulled, pulled_at, pulled_each, pulling, span_writes, spanned, stretch, taken, with_span, with_visible_span}
 pub use Rattle.tabled_spans.specs.Widths.{AreParts, Begins, IsCut, IsCutLine, Placed, character_columns, columns_in, last_replaced, pieces, placed, shown}

@@ -1,8 +1,10 @@
 pub mod Anchored
+pub mod Blocks
 pub mod Common
 pub mod FreeCells
 pub mod MergeGeometry
 pub mod MergeTwice
+pub mod NoNeighbours
 pub mod PanelGeometry
 pub mod PanelLines
 pub mod PanelMaps

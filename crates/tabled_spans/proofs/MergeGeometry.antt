@@ -1,5 +1,5 @@
 -- Rectangles lie well after runs are merged where they did before, and a second merge finds no runs.
-use Rattle.tabled_spans.proofs.Common.{◌+◌, ◌-◌, ◌<◌, ◌∙◌, ◌≡◌, ◌≤◌, ◌⊎◌, Axis, Columns, Fits, Grid, In, IsInside, IsRun, IsSpanSize, List, MergesRuns, Position, Rows, Size, Some, SpanMap, and_parts, ap, ap₂, arith, cases_lt, eqb-true, further, get, holds-from, holds-true, inl, inr, is_free, place, same_Some, size_at, size_at-some, size_of_run, subst, sym, true, visible, ℕ}
+use Rattle.tabled_spans.proofs.Common.{◌+◌, ◌-◌, ◌<◌, ◌∙◌, ◌≡◌, ◌≤◌, ◌⊎◌, Axis, Columns, Entity, Fits, Grid, In, IsInside, IsRun, IsSpanSize, List, MergesRuns, Position, Rows, Size, Some, SpanMap, and_parts, ap, ap₂, arith, cases_lt, eqb-true, further, get, holds-from, holds-true, inl, inr, is_free, place, same_Some, size_at, size_at-some, size_of_run, subst, sym, true, visible, ℕ}
 use Rattle.tabled_spans.proofs.Runs.{further_more, further_none}
 
 -- a place of a run's rectangle is n cells from its first
@@ -15,30 +15,30 @@ size_is_more : (axis : Axis) (many : ℕ) → 2 ≤ many → IsSpanSize (size_of
 size_is_more Rows many h = record { height = omega arith; width = omega arith; merges = inl h }
 size_is_more Columns many h = record { height = omega arith; width = omega arith; merges = inr h }
 
-module _ (axis : Axis) (g : Grid (List ℕ)) (m : SpanMap) where
+module _ (axis : Axis) (entity : Entity) (g : Grid (List ℕ)) (m : SpanMap) where
   pub record FreeCell (p : Position) : Type 0 where
     pub inside : IsInside g p
     pub free : is_free m p ≡ true
 
   -- each cell of a run is visible and no anchor
-  pub run_cell : (a : Position) (many k : ℕ) → IsRun axis g m a many → k < many → FreeCell (further axis k a)
+  pub run_cell : (a : Position) (many k : ℕ) → IsRun axis entity g m a many → k < many → FreeCell (further axis k a)
   run_cell a many k run h = elim (cases_lt (k + 1) many) [
-    | inl l ↦ let j = run.joins k l in record { inside = j.inside; free = j.free }
+    | inl l ↦ let j = run.joins k l in record { inside = j.here.inside; free = j.free }
     | inr l ↦
         let some : 2 ≤ many = run.some in
         let j = run.joins (k - 1) (omega (arith, some)) in
         let is : further axis 1 (further axis (k - 1) a) ≡ further axis k a = further_more axis (k - 1) k a (omega (arith, some)) in
-        subst FreeCell is (record { inside = j.next_inside; free = j.next_free })
+        subst FreeCell is (record { inside = j.next.inside; free = j.next_free })
   ]
 
   -- no run begins inside of another
-  ahead : (a b : Position) (many n k l : ℕ) → IsRun axis g m a many → IsRun axis g m b n → l < n → k < l → further axis k a ≡ further axis l b → ⊥
+  ahead : (a b : Position) (many n k l : ℕ) → IsRun axis entity g m a many → IsRun axis entity g m b n → l < n → k < l → further axis k a ≡ further axis l b → ⊥
   ahead a b many n k l first second within before e =
       let at : a ≡ further axis (l - k) b = further_back axis a b k l e (omega arith) in
       let step : further axis 1 (further axis (l - k - 1) b) ≡ further axis (l - k) b = further_more axis (l - k - 1) (l - k) b (omega arith) in
       first.begins (further axis (l - k - 1) b) (step ∙ sym at) (second.joins (l - k - 1) (omega arith))
 
-  same_first : (a b p : Position) (many n : ℕ) → IsRun axis g m a many → IsRun axis g m b n → In (a, size_of_run axis many) p → In (b, size_of_run axis n) p → a ≡ b
+  same_first : (a b p : Position) (many n : ℕ) → IsRun axis entity g m a many → IsRun axis entity g m b n → In (a, size_of_run axis many) p → In (b, size_of_run axis n) p → a ≡ b
   same_first a b p many n first second ha hb = by (cell_of axis a p many ha) (cell_of axis b p n hb)
     where
       by : (k : ℕ) × (k < many) × (p ≡ further axis k a) → (l : ℕ) × (l < n) × (p ≡ further axis l b) → a ≡ b
@@ -50,7 +50,7 @@ module _ (axis : Axis) (g : Grid (List ℕ)) (m : SpanMap) where
           either (inr x) (inr y) = further_back axis a b k l (sym is ∙ js) y ∙ ap (λ d. further axis d b) (omega arith) ∙ further_none axis b
 
   -- an old rectangle holds no cell of a run
-  no_old : (rows columns : ℕ) (a b p : Position) (many : ℕ) (t : Size) → Fits m rows columns → IsRun axis g m a many → get m b ≡ Some t → In (a, size_of_run axis many) p → In (b, t) p → ⊥
+  no_old : (rows columns : ℕ) (a b p : Position) (many : ℕ) (t : Size) → Fits m rows columns → IsRun axis entity g m a many → get m b ≡ Some t → In (a, size_of_run axis many) p → In (b, t) p → ⊥
   no_old rows columns a b p many t fits run has ha hb =
       let at = cell_of axis a p many ha in
       let parts = and_parts _ _ (subst (λ x. is_free m x ≡ true) (sym at.2) (run_cell a many at.0 run at.1).free) in
@@ -62,17 +62,17 @@ module _ (axis : Axis) (g : Grid (List ℕ)) (m : SpanMap) where
       one : (s : Size) → IsSpanSize s → s.height ≡ 1 → s.width ≡ 1 → ⊥
       one s is e f = elim is.merges [ inl h ↦ omega (arith, h, e) | inr h ↦ omega (arith, h, f) ]
 
-  run_inside : (a : Position) (many : ℕ) → IsRun axis g m a many → (a.row + (size_of_run axis many).height ≤ g.rows) × (a.col + (size_of_run axis many).width ≤ g.columns)
+  run_inside : (a : Position) (many : ℕ) → IsRun axis entity g m a many → (a.row + (size_of_run axis many).height ≤ g.rows) × (a.col + (size_of_run axis many).width ≤ g.columns)
   run_inside a many run = by axis (run_cell a many (many - 1) run (omega (arith, run.some))).inside
     where
       by : (x : Axis) → IsInside g (further x (many - 1) a) → (a.row + (size_of_run x many).height ≤ g.rows) × (a.col + (size_of_run x many).width ≤ g.columns)
       by Rows h = (omega (arith, h.row, run.some), omega (arith, h.col))
       by Columns h = (omega (arith, h.row), omega (arith, h.col, run.some))
 
-  module _ (n : SpanMap) (merged : MergesRuns axis g m n) (fits : Fits m g.rows g.columns) where
+  module _ (n : SpanMap) (merged : MergesRuns axis entity g m n) (fits : Fits m g.rows g.columns) where
     -- an anchor is that of a run, or an old one
     data Anchored (a : Position) (s : Size) : Type 0 where
-      of_run : (many : ℕ) → IsRun axis g m a many → s ≡ size_of_run axis many → Anchored a s
+      of_run : (many : ℕ) → IsRun axis entity g m a many → s ≡ size_of_run axis many → Anchored a s
       of_old : get m a ≡ Some s → Anchored a s
 
     anchor : (a : Position) (s : Size) → get n a ≡ Some s → Anchored a s

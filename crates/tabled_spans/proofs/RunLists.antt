@@ -1,5 +1,5 @@
 -- The order of places, row by row, and the map in which runs that are listed are rectangles.
-use Rattle.tabled_spans.proofs.Common.{[], ◌&&◌, ◌+◌, ◌<◌, ◌==◌, ◌∙◌, ◌∷◌, ◌≡◌, ◌≤◌, ◌⊎◌, AllByRecursion, Axis, Before, Columns, Grid, IsOfRun, IsRun, List, MergesRuns, Position, Rectangle, Rows, RunsFrom, Size, Some, SpanMap, and_left, ap, ap₂, arith, cases_lt, cases_place, common_steps, cond, false, find, inl, inr, ne_eqb, none-some, place, position_cmp, size_of_run, subst, sym, untied, with_sizes, ℕ}
+use Rattle.tabled_spans.proofs.Common.{[], ◌&&◌, ◌+◌, ◌<◌, ◌==◌, ◌∙◌, ◌∷◌, ◌≡◌, ◌≤◌, ◌⊎◌, AllByRecursion, Axis, Before, Columns, Entity, Grid, IsNamed, IsOfRun, IsRun, IsSizeAt, List, MergesRuns, Position, Rectangle, Rows, RunsFrom, Size, Some, SpanMap, and_left, ap, ap₂, arith, cases_lt, cases_place, common_steps, cond, false, find, inl, inr, ne_eqb, none-some, place, position_cmp, size_of_run, subst, sym, untied, with_sizes, ℕ}
 use Rattle.tabled_spans.proofs.Runs.{further_none}
 use Rattle.tabled_spans.proofs.SetSizes.{get-with_sizes, set_or}
 
@@ -21,32 +21,37 @@ split_last i j p (inl above) = inl (inl above)
 split_last i j p (inr (same, left)) = elim (cases_lt p.col j) [ inl l ↦ inl (inr (same, l)) | inr l ↦ inr (ap₂ place same (omega arith)) ]
 
 -- a place that comes before the next row comes before the end of this one
-pub in_row : (i j columns : ℕ) (p : Position) → columns ≤ j → p.col < columns → Before (i + 1) 0 p → Before i j p
-in_row i j columns p wide inside (inr h) = absurd (omega (arith, h.1))
-in_row i j columns p wide inside (inl above) = elim (cases_lt p.row i) [ inl l ↦ inl l | inr l ↦ inr (omega arith, omega arith) ]
+pub in_row : (i j left : ℕ) (p : Position) → left ≤ p.col → p.col < j → Before (i + 1) left p → Before i j p
+in_row i j left p from inside (inr h) = absurd (omega (arith, h.1, from))
+in_row i j left p from inside (inl above) = elim (cases_lt p.row i) [ inl l ↦ inl l | inr l ↦ inr (omega arith, inside) ]
 
-pub next_row : (i j : ℕ) (p : Position) → Before i j p → Before (i + 1) 0 p
-next_row i j p (inl above) = inl (omega arith)
-next_row i j p (inr h) = inl (omega (arith, h.0))
+pub next_row : (i j left : ℕ) (p : Position) → Before i j p → Before (i + 1) left p
+next_row i j left p (inl above) = inl (omega arith)
+next_row i j left p (inr h) = inl (omega (arith, h.0))
 
 not_one : (axis : Axis) (many : ℕ) → 2 ≤ many → (((size_of_run axis many).height == 1) && ((size_of_run axis many).width == 1)) ≡ false
 not_one Rows many two = and_left _ _ (ne_eqb many 1 (λ e. omega (arith, e, two)))
 not_one Columns many two = ne_eqb many 1 (λ e. omega (arith, e, two))
 
-module _ (axis : Axis) (g : Grid (List ℕ)) (m : SpanMap) where
-  -- a run begins inside the table
-  pub begins_inside : (p : Position) (n : ℕ) → IsRun axis g m p n → p.col < g.columns
-  begins_inside p n run = (subst (λ (x : Position). x.col < g.columns) (further_none axis p) (run.joins 0 (omega (arith, run.some))).inside.col)
+module _ (axis : Axis) (entity : Entity) (g : Grid (List ℕ)) (m : SpanMap) where
+  -- a run begins at a cell that is named
+  pub begins_named : (p : Position) (n : ℕ) → IsRun axis entity g m p n → IsNamed entity g p
+  begins_named p n run = subst (IsNamed entity g) (further_none axis p) (run.joins 0 (omega (arith, run.some))).here
 
-  pub begins_above : (p : Position) (n : ℕ) → IsRun axis g m p n → p.row < g.rows
-  begins_above p n run = (subst (λ (x : Position). x.row < g.rows) (further_none axis p) (run.joins 0 (omega (arith, run.some))).inside.row)
+  -- its size is that of a cell or more
+  of_run : (x : Axis) (anchor : Rectangle) (many : ℕ) → 2 ≤ many → anchor.1 ≡ size_of_run x many → IsSizeAt anchor
+  of_run Rows anchor many some is = record { height = rw is (omega (arith, some)); width = rw is (omega arith) }
+  of_run Columns anchor many some is = record { height = rw is (omega arith); width = rw is (omega (arith, some)) }
 
-  entry_of : (es : List Rectangle) → AllByRecursion (IsOfRun axis g m) es → (p : Position) (s : Size) → find position_cmp p es ≡ Some s → (many : ℕ) × IsRun axis g m p many
+  pub sizes_full : (es : List Rectangle) → AllByRecursion (IsOfRun axis entity g m) es → AllByRecursion IsSizeAt es
+  sizes_full es each = all_then {Q = IsSizeAt} (λ anchor it. of_run axis anchor it.0 it.1.some it.2) es each
+
+  entry_of : (es : List Rectangle) → AllByRecursion (IsOfRun axis entity g m) es → (p : Position) (s : Size) → find position_cmp p es ≡ Some s → (many : ℕ) × IsRun axis entity g m p many
   entry_of [] each p s is = absurd (none-some s is)
   entry_of (e ∷ es) each p s is = elim (cases_place p e.0) [
-    | inl same ↦ (each.0.0, subst (λ x. IsRun axis g m x each.0.0) (sym same) each.0.1)
+    | inl same ↦ (each.0.0, subst (λ x. IsRun axis entity g m x each.0.0) (sym same) each.0.1)
     | inr other ↦ entry_of es each.1 p s (sym (ap (λ b. cond b (Some e.1) (find position_cmp p es)) (untied p e.0 other)) ∙ is)
   ]
 
-  pub runs_merged : (es : List Rectangle) → RunsFrom axis g m 0 0 es → MergesRuns axis g m (with_sizes m es)
+  pub runs_merged : (es : List Rectangle) → RunsFrom axis entity g m 0 0 es → MergesRuns axis entity g m (with_sizes m es)
   runs_merged es listed = grind (arith, common_steps, none_before, set_or, get-with_sizes, none-some, entry_of, not_one)

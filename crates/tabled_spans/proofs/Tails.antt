@@ -1,5 +1,5 @@
 -- Tails of runs: the lengths that are carried from each cell to the one before it.
-use Rattle.tabled_spans.proofs.Common.{◌+◌, ◌-◌, ◌<◌, ◌∙◌, ◌≡◌, ◌≢◌, ◌≤◌, ◌⊎◌, AreTails, Axis, Before, Columns, Grid, IsInside, IsTail, Joins, List, Position, Rows, SpanMap, ap, ap₂, arith, cases_lt, cases_place, common_steps, further, get_or-replicate, get_or-set_other, get_or-set_same, inl, inr, length, length-replicate, length-set, place, refl, replicate, slice_index, slice_set, subst, sym, ℕ}
+use Rattle.tabled_spans.proofs.Common.{◌+◌, ◌-◌, ◌<◌, ◌∙◌, ◌≡◌, ◌≢◌, ◌≤◌, ◌⊎◌, AreInBlock, AreTails, Axis, Before, Columns, Entity, Grid, In, IsInside, IsTail, Joins, List, Position, Rectangle, Rows, SpanMap, ap, ap₂, arith, cases_lt, cases_place, common_steps, further, get_or-replicate, get_or-set_other, get_or-set_same, inl, inr, length, length-replicate, length-set, line_of, place, refl, replicate, slice_index, slice_set, subst, sym, ℕ}
 use Rattle.tabled_spans.proofs.RunLists.{in_row, next_row, one_more, split_last}
 use Rattle.tabled_spans.proofs.Runs.{further_back, further_none, same_last}
 
@@ -10,29 +10,29 @@ next_after Rows p (inr h) = omega (arith, h.0)
 next_after Columns p (inl h) = omega (arith, h)
 next_after Columns p (inr h) = omega (arith, h.1)
 
-module _ (axis : Axis) (g : Grid (List ℕ)) (m : SpanMap) where
+module _ (axis : Axis) (entity : Entity) (g : Grid (List ℕ)) (m : SpanMap) where
   -- a cell that joins none
-  pub tail_alone : (p : Position) → (Joins axis g m p → ⊥) → IsTail axis g m p 1
+  pub tail_alone : (p : Position) → (Joins axis entity g m p → ⊥) → IsTail axis entity g m p 1
   tail_alone p never = grind (arith, common_steps, further_none)
 
   -- a cell that joins the first of others
-  pub tail_more : (last p : Position) (many : ℕ) → further axis 1 last ≡ p → Joins axis g m last → IsTail axis g m p many → IsTail axis g m last (many + 1)
+  pub tail_more : (last p : Position) (many : ℕ) → further axis 1 last ≡ p → Joins axis entity g m last → IsTail axis entity g m p many → IsTail axis entity g m last (many + 1)
   tail_more last p many is j tail = record {
     some = omega arith;
     joins = λ k h. elim (cases_lt 0 k) [
-      | inl l ↦ subst (Joins axis g m) (further_back axis (k - 1) k last p is (omega arith)) (tail.joins (k - 1) (omega arith))
-      | inr l ↦ subst (Joins axis g m) (sym (further_none axis last) ∙ ap (λ n. further axis n last) (omega arith)) j
+      | inl l ↦ subst (Joins axis entity g m) (further_back axis (k - 1) k last p is (omega arith)) (tail.joins (k - 1) (omega arith))
+      | inr l ↦ subst (Joins axis entity g m) (sym (further_none axis last) ∙ ap (λ n. further axis n last) (omega arith)) j
     ];
-    ends = λ e. tail.ends (subst (Joins axis g m) (sym (further_back axis (many - 1) (many + 1 - 1) last p is (omega (arith, tail.some)))) e);
+    ends = λ e. tail.ends (subst (Joins axis entity g m) (sym (further_back axis (many - 1) (many + 1 - 1) last p is (omega (arith, tail.some)))) e);
   }
 
   -- the first cell of a tail of two joins the next one
-  pub tail_joins : (p : Position) (many : ℕ) → IsTail axis g m p many → 2 ≤ many → Joins axis g m p
-  tail_joins p many tail two = subst (Joins axis g m) (further_none axis p) (tail.joins 0 (omega arith))
+  pub tail_joins : (p : Position) (many : ℕ) → IsTail axis entity g m p many → 2 ≤ many → Joins axis entity g m p
+  tail_joins p many tail two = subst (Joins axis entity g m) (further_none axis p) (tail.joins 0 (omega arith))
 
   -- with one cell before it, a tail is no longer than a line
-  pub tail_fits : (last p : Position) (many bound : ℕ) → further axis 1 last ≡ p → IsInside g p → IsTail axis g m p many → g.rows < bound → g.columns < bound → many + 1 < bound
-  tail_fits last p many bound is inside tail high wide = either axis is (cases_lt 1 many) (λ two. (tail.joins (many - 2) (omega arith)).next_inside)
+  pub tail_fits : (last p : Position) (many bound : ℕ) → further axis 1 last ≡ p → IsInside g p → IsTail axis entity g m p many → g.rows < bound → g.columns < bound → many + 1 < bound
+  tail_fits last p many bound is inside tail high wide = either axis is (cases_lt 1 many) (λ two. (tail.joins (many - 2) (omega arith)).next.inside)
     where
       either : (x : Axis) → further x 1 last ≡ p → (1 < many) ⊎ (many ≤ 1) → (1 < many → IsInside g (further x 1 (further x (many - 2) p))) → many + 1 < bound
       either Rows e (inl two) within = let there = (within two).row in omega (arith, there, high, two, ap (λ (y : Position). y.row) e)
@@ -40,48 +40,57 @@ module _ (axis : Axis) (g : Grid (List ℕ)) (m : SpanMap) where
       either Columns e (inl two) within = let there = (within two).col in omega (arith, there, wide, two, ap (λ (y : Position). y.col) e)
       either Columns e (inr one) within = omega (arith, wide, one, inside.col, ap (λ (y : Position). y.col) e)
 
-  -- below the table
-  pub tails_below : (i : ℕ) → g.rows ≤ i → AreTails axis g m i 0 (replicate g.columns 1)
-  tails_below i high = grind (arith, common_steps, length-replicate, get_or-replicate, tail_alone)
-
-  -- from the end of a row on
-  pub tails_end : (i j : ℕ) (lengths : List ℕ) → g.columns ≤ j → AreTails axis g m (i + 1) 0 lengths → AreTails axis g m i j lengths
-  tails_end i j lengths wide so_far = record {
-    size = so_far.size;
-    each = λ p inside before alone. so_far.each p inside (next_row i j p before) (λ within h. alone within (in_row i j g.columns (further axis 1 p) wide within.col h));
-  }
-
-  module _ (p : Position) (inside : IsInside g p) (lengths : List ℕ) (so_far : AreTails axis g m p.row (p.col + 1) lengths) where
-    -- the tail at the place
-    pub tail_here : IsTail axis g m p (slice_index lengths p.col)
-    tail_here = so_far.each p inside (inr (refl, omega arith)) (λ within h. next_after axis p h)
-
-    tail_still : (r : Position) → IsInside g r → Before p.row p.col r → (IsInside g (further axis 1 r) → Before p.row p.col (further axis 1 r) → ⊥) → (further axis 1 r ≡ p → ⊥) → IsTail axis g m r (slice_index lengths r.col)
-    tail_still r within before alone other = so_far.each r within (one_more p.row p.col r before) (λ next h. elim (split_last p.row p.col (further axis 1 r) h) [ inl b ↦ alone next b | inr e ↦ other e ])
-
-    -- the tail at the place before it
-    pub tails_set : (last : Position) (many : ℕ) → further axis 1 last ≡ p → IsTail axis g m last many → AreTails axis g m p.row p.col (slice_set lengths last.col many)
-    tails_set last many is tail = record {
-      size = length-set lengths last.col many ∙ so_far.size;
-      each = λ r within before alone. by r within before alone (cases_place r last);
+  module _ (block : Rectangle) (is : AreInBlock entity g block) where
+    -- below the block
+    pub tails_below : (i j : ℕ) → block.0.row + block.1.height ≤ i → AreTails axis entity g m block i j (replicate block.1.width 1)
+    tails_below i j high = record {
+      size = length-replicate block.1.width 1;
+      each = λ p inside before alone. subst (IsTail axis entity g m p) (sym (get_or-replicate block.1.width (p.col - block.0.col) 1 0 (omega (arith, inside.left, inside.right)))) (tail_alone p (λ j. let next = (is (further axis 1 p)).0 j.next in alone next (inl (omega (arith, next.bottom, high)))));
     }
-      where
-        in_columns : (x : Axis) → further x 1 last ≡ p → last.col < length lengths
-        in_columns Rows e = omega (arith, ap (λ (y : Position). y.col) e, inside.col, so_far.size)
-        in_columns Columns e = omega (arith, ap (λ (y : Position). y.col) e, inside.col, so_far.size)
 
-        same_column : (x : Axis) (r : Position) → further x 1 last ≡ p → Before p.row p.col r → r.col ≡ last.col → (IsInside g (further x 1 r) → Before p.row p.col (further x 1 r) → ⊥) → further x 1 r ≡ p
-        same_column Rows r e (inl above) same alone = either (cases_lt (r.row + 1) p.row)
-          where
-            either : (r.row + 1 < p.row) ⊎ (p.row ≤ r.row + 1) → further Rows 1 r ≡ p
-            either (inl l) = absurd (alone (record { row = omega (arith, inside.row); col = omega (arith, same, ap (λ (y : Position). y.col) e, inside.col) }) (inl l))
-            either (inr l) = ap₂ place (omega (arith, above)) (same ∙ ap (λ (y : Position). y.col) e)
-        same_column Rows r e (inr h) same alone = absurd (omega (arith, h.1, same, ap (λ (y : Position). y.col) e))
-        same_column Columns r e (inl above) same alone = absurd (alone (record { row = omega (arith, above, inside.row); col = omega (arith, same, ap (λ (y : Position). y.col) e, inside.col) }) (inl above))
-        same_column Columns r e (inr h) same alone = ap₂ place h.0 (omega (arith, same, ap (λ (y : Position). y.col) e))
+    -- the cell before one of the block's first line isn't in the block
+    pub in_front : (x : Axis) (p q : Position) → line_of x p ≡ line_of x block.0 → further x 1 q ≡ p → In block q → ⊥
+    in_front Rows p q first e within = omega (arith, first, ap (λ (y : Position). y.row) e, within.top)
+    in_front Columns p q first e within = omega (arith, first, ap (λ (y : Position). y.col) e, within.left)
 
-        by : (r : Position) → IsInside g r → Before p.row p.col r → (IsInside g (further axis 1 r) → Before p.row p.col (further axis 1 r) → ⊥) → (r ≡ last) ⊎ (r ≢ last) → IsTail axis g m r (slice_index (slice_set lengths last.col many) r.col)
-        by r within before alone (inl e) = subst (λ (x : Position). IsTail axis g m x (slice_index (slice_set lengths last.col many) x.col)) (sym e) (subst (IsTail axis g m last) (sym (get_or-set_same lengths last.col many 0 (in_columns axis is))) tail)
-        by r within before alone (inr other) =
-            let apart : further axis 1 r ≢ p = λ e. other (same_last axis r last (e ∙ sym is)) in
-            subst (IsTail axis g m r) (sym (get_or-set_other lengths last.col r.col many 0 (λ same. apart (same_column axis r is before same alone)))) (tail_still r within before alone apart)
+    -- from the end of a row on
+    pub tails_end : (i j : ℕ) (lengths : List ℕ) → block.0.col + block.1.width ≤ j → AreTails axis entity g m block (i + 1) block.0.col lengths → AreTails axis entity g m block i j lengths
+    tails_end i j lengths wide so_far = record {
+      size = so_far.size;
+      each = λ p inside before alone. so_far.each p inside (next_row i j block.0.col p before) (λ within h. alone within (in_row i j block.0.col (further axis 1 p) within.left (omega (arith, within.right, wide)) h));
+    }
+
+    module _ (p : Position) (inside : In block p) (lengths : List ℕ) (so_far : AreTails axis entity g m block p.row (p.col + 1) lengths) where
+      -- the tail at the place
+      pub tail_here : IsTail axis entity g m p (slice_index lengths (p.col - block.0.col))
+      tail_here = so_far.each p inside (inr (refl, omega arith)) (λ within h. next_after axis p h)
+
+      tail_still : (r : Position) → In block r → Before p.row p.col r → (In block (further axis 1 r) → Before p.row p.col (further axis 1 r) → ⊥) → (further axis 1 r ≡ p → ⊥) → IsTail axis entity g m r (slice_index lengths (r.col - block.0.col))
+      tail_still r within before alone other = so_far.each r within (one_more p.row p.col r before) (λ next h. elim (split_last p.row p.col (further axis 1 r) h) [ inl b ↦ alone next b | inr e ↦ other e ])
+
+      -- where no place of the block is before it
+      pub tails_first : line_of axis p ≡ line_of axis block.0 → AreTails axis entity g m block p.row p.col lengths
+      tails_first first = record { size = so_far.size; each = λ r within before alone. tail_still r within before alone (λ e. in_front axis p r first e within) }
+
+      -- the tail at the place before it
+      pub tails_set : (last : Position) (many : ℕ) → further axis 1 last ≡ p → In block last → IsTail axis entity g m last many → AreTails axis entity g m block p.row p.col (slice_set lengths (last.col - block.0.col) many)
+      tails_set last many is here tail = record {
+        size = length-set lengths (last.col - block.0.col) many ∙ so_far.size;
+        each = λ r within before alone. by r within before alone (cases_place r last);
+      }
+        where
+          same_column : (x : Axis) (r : Position) → further x 1 last ≡ p → In block r → Before p.row p.col r → r.col - block.0.col ≡ last.col - block.0.col → (In block (further x 1 r) → Before p.row p.col (further x 1 r) → ⊥) → further x 1 r ≡ p
+          same_column Rows r e within (inl above) same alone = either (cases_lt (r.row + 1) p.row)
+            where
+              either : (r.row + 1 < p.row) ⊎ (p.row ≤ r.row + 1) → further Rows 1 r ≡ p
+              either (inl l) = absurd (alone (record { top = omega (arith, within.top); bottom = omega (arith, l, inside.bottom); left = within.left; right = within.right }) (inl l))
+              either (inr l) = ap₂ place (omega (arith, above)) (omega (arith, same, within.left, here.left, ap (λ (y : Position). y.col) e))
+          same_column Rows r e within (inr h) same alone = absurd (omega (arith, h.1, same, within.left, here.left, ap (λ (y : Position). y.col) e))
+          same_column Columns r e within (inl above) same alone = absurd (alone (record { top = within.top; bottom = within.bottom; left = omega (arith, within.left); right = omega (arith, same, within.left, here.left, ap (λ (y : Position). y.col) e, inside.right) }) (inl above))
+          same_column Columns r e within (inr h) same alone = ap₂ place h.0 (omega (arith, same, within.left, here.left, ap (λ (y : Position). y.col) e))
+
+          by : (r : Position) → In block r → Before p.row p.col r → (In block (further axis 1 r) → Before p.row p.col (further axis 1 r) → ⊥) → (r ≡ last) ⊎ (r ≢ last) → IsTail axis entity g m r (slice_index (slice_set lengths (last.col - block.0.col) many) (r.col - block.0.col))
+          by r within before alone (inl e) = subst (λ (x : Position). IsTail axis entity g m x (slice_index (slice_set lengths (last.col - block.0.col) many) (x.col - block.0.col))) (sym e) (subst (IsTail axis entity g m last) (sym (get_or-set_same lengths (last.col - block.0.col) many 0 (omega (arith, here.left, here.right, so_far.size)))) tail)
+          by r within before alone (inr other) =
+              let apart : further axis 1 r ≢ p = λ e. other (same_last axis r last (e ∙ sym is)) in
+              subst (IsTail axis entity g m r) (sym (get_or-set_other lengths (last.col - block.0.col) (r.col - block.0.col) many 0 (λ same. apart (same_column axis r is within before same alone)))) (tail_still r within before alone apart)

@@ -2,13 +2,16 @@
 
 ghost use Rattle.std.specs.FinMap as map;
 ghost use Rattle.std.specs.Prelude.{List, pos, ℕ, ◌<ℤ◌, ◌≡◌, ◌≤◌};
-ghost use Rattle.tabled_grid.specs.Grid.{Grid, IsInside};
+ghost use Rattle.tabled_grid.specs.Grid.{Grid};
 ghost use Rattle.tabled_grid.specs.Spans.{SpanMap};
+ghost use Rattle.tabled_grid.specs.declared.config.entity.Entity.{Entity};
+ghost use Rattle.tabled_grid.specs.declared.config.entity.Entity.TheVariants.{Cell, Column, Row};
 ghost use Rattle.tabled_grid.specs.declared.config.position.Position.{Position};
 ghost use Rattle.tabled_grid.specs.declared.records.axis.Axis.{Axis};
+ghost use Rattle.tabled_grid.specs.declared.records.axis.Axis.TheVariants.{Columns, Rows};
 ghost use Rattle.tabled_options.specs.Kept.{KeptOnEach};
 ghost use Rattle.tabled_options.specs.Shapes.{FitsAfterEach};
-ghost use Rattle.tabled_spans.specs.Runs.{JoinsIfEqual, MergedIsRun, MergesRuns, RunIsMerged, further};
+ghost use Rattle.tabled_spans.specs.Runs.{IsNamed, JoinsIfEqual, MergedIsRun, MergesRuns, NamesNoNeighbours, RunIsMerged, further};
 ghost use Rattle.tabled_grid.specs.declared.config.size.Size.{Size};
 ghost use Rattle.tabled_spans.specs.Keeping.{KeepsFitting};
 ghost use Rattle.tabled_spans.specs.Spanned.{KeepsMidway};
@@ -92,15 +95,36 @@ where
     ensures horizontal { KeepsFitting ⟦<MergeDuplicatesHorizontal as TableOption<R, SpannedConfig, D>>⟧ _horizontal.now }
 {}
 
-/// Runs that are merged once are merged: a second merge along the same axis changes nothing.
-pub fn merged_twice_is_merged_once()
-    ensures { (axis : Axis) (g : Grid (List ℕ)) (m n k : SpanMap) → MergesRuns axis g m n → MergesRuns axis g n k → k ≡ n }
+/// So do they on each entity.
+pub fn merges_on_entities_keep_merged_cells_fitting<R>(
+    _vertical: MergeDuplicatesVertical,
+    _horizontal: MergeDuplicatesHorizontal,
+)
+where
+    R: Records + ExactRecords + PeekableRecords,
+    R::Cell: CellText,
+    ensures vertical { let how = ⟦<MergeDuplicatesVertical as CellOption<R, SpannedConfig>>⟧ in FitsAfterEach (how.does _vertical) (how.leaves _vertical) }
+    ensures horizontal { let how = ⟦<MergeDuplicatesHorizontal as CellOption<R, SpannedConfig>>⟧ in FitsAfterEach (how.does _horizontal) (how.leaves _horizontal) }
 {}
 
-/// Without merged cells, a vertical merge makes exactly the longest runs of two or more equal texts in a
-/// column one merged cell each. Rows alike.
+/// Where an entity names no two neighbours along an axis, a merge along it changes nothing: a vertical one on a
+/// row or a cell, and a horizontal one on a column or a cell.
+pub fn merges_without_neighbours_change_nothing()
+    ensures same { (axis : Axis) (e : Entity) (g : Grid (List ℕ)) (m n : SpanMap) → NamesNoNeighbours axis e g → MergesRuns axis e g m n → n ≡ m }
+    ensures row { (i : ℕ) (g : Grid (List ℕ)) → NamesNoNeighbours Rows (Row i) g }
+    ensures column { (j : ℕ) (g : Grid (List ℕ)) → NamesNoNeighbours Columns (Column j) g }
+    ensures cell { (axis : Axis) (i j : ℕ) (g : Grid (List ℕ)) → NamesNoNeighbours axis (Cell i j) g }
+{}
+
+/// Runs that are merged once are merged: a second merge of the same entity along the same axis changes nothing.
+pub fn merged_twice_is_merged_once()
+    ensures { (axis : Axis) (e : Entity) (g : Grid (List ℕ)) (m n k : SpanMap) → MergesRuns axis e g m n → MergesRuns axis e g n k → k ≡ n }
+{}
+
+/// Without merged cells, a vertical merge of an entity makes exactly the longest runs of two or more equal texts
+/// among its cells in a column one merged cell each. Rows alike.
 pub fn exactly_the_runs_are_merged()
-    ensures merged { (axis : Axis) (g : Grid (List ℕ)) (n : SpanMap) (p : Position) (many : ℕ) → MergesRuns axis g map.empty n → RunIsMerged axis g n p many }
-    ensures no_others { (axis : Axis) (g : Grid (List ℕ)) (n : SpanMap) (p : Position) (size : Size) → MergesRuns axis g map.empty n → MergedIsRun axis g n p size }
-    ensures joined { (axis : Axis) (g : Grid (List ℕ)) (p : Position) → IsInside g p → IsInside g (further axis 1 p) → JoinsIfEqual axis g p }
+    ensures merged { (axis : Axis) (e : Entity) (g : Grid (List ℕ)) (n : SpanMap) (p : Position) (many : ℕ) → MergesRuns axis e g map.empty n → RunIsMerged axis e g n p many }
+    ensures no_others { (axis : Axis) (e : Entity) (g : Grid (List ℕ)) (n : SpanMap) (p : Position) (size : Size) → MergesRuns axis e g map.empty n → MergedIsRun axis e g n p size }
+    ensures joined { (axis : Axis) (e : Entity) (g : Grid (List ℕ)) (p : Position) → IsNamed e g p → IsNamed e g (further axis 1 p) → JoinsIfEqual axis e g p }
 {}

@@ -1,20 +1,23 @@
 //! Equal neighbours made one cell.
 
-ghost use Rattle.std.specs.Prelude.{◌≡◌, OnErr, OnOk};
+ghost use Rattle.std.specs.Prelude.{◌≡◌, IsOk, OnErr, OnOk};
 ghost use Rattle.tabled_grid.specs.Grid.{map_grid};
+ghost use Rattle.tabled_grid.specs.declared.config.entity.Entity.TheVariants.{Global};
 ghost use Rattle.tabled_grid.specs.declared.records.axis.Axis.TheVariants.{Columns, Rows};
 ghost use Rattle.tabled_options.specs.Does.{Same};
-ghost use Rattle.tabled_spans.specs.Runs.{MergesRuns};
+ghost use Rattle.tabled_spans.specs.Runs.{MergesRuns, NamesNoNeighbours};
 ghost use Rattle.std.proofs.Common.{rules};
 
 mod anchored;
+mod block;
 mod runs;
 
+use crate::merge::block::{block_of, has_neighbours};
 use crate::merge::runs::runs;
 use std::alloc::{AllocError, Global};
 use tabled_grid::config::{CoverMap, Entity, SpannedConfig};
 use tabled_grid::records::{Axis, CellText, ExactRecords, PeekableRecords, Records};
-use tabled_options::TableOption;
+use tabled_options::{CellOption, TableOption};
 
 /// Makes equal neighbours one cell.
 ///
@@ -30,8 +33,10 @@ use tabled_options::TableOption;
 /// +---+---+      +---+---+
 /// ```
 ///
-/// It goes over all columns, or all rows: no call merges those of one alone. To merge cells of one's choice,
-/// give the first of them a size, as by `table.modify(alloc, (0, 1), Span::row(2))`.
+/// As a table option it goes over all columns, or all rows. As a cell option, which is of this project, it joins
+/// the runs among the cells that an entity names: `table.modify(alloc, Columns::first(), Merge::vertical())`
+/// those of the first column. To merge cells of one's choice, give the first of them a size, as by
+/// `table.modify(alloc, (0, 1), Span::row(2))`.
 ///
 /// Ported from `tabled::settings::Merge`.
 #[derive(Debug)]
@@ -59,7 +64,7 @@ impl Merge {
 /// Refused for memory, it leaves the table as it was.
 ///
 /// Ported from `tabled::settings::merge::MergeDuplicatesVertical`.
-#[derive(Debug, Drop)]
+#[derive(Clone, Copy, Debug)]
 pub struct MergeDuplicatesVertical;
 
 impl<R, D> TableOption<R, SpannedConfig, D> for MergeDuplicatesVertical
@@ -67,7 +72,7 @@ where
     R: Records + ExactRecords + PeekableRecords,
     R::Cell: CellText,
 {
-    ghost does = { λ _ g c h d. (h ≡ g) × MergesRuns Rows (map_grid R.Cell.text_of g) c d };
+    ghost does = { λ _ g c h d. (h ≡ g) × MergesRuns Rows Global (map_grid R.Cell.text_of g) c d };
 
     ghost leaves = { λ _. Same };
 
@@ -82,7 +87,43 @@ where
         cfg: &mut SpannedConfig,
         _dimension: &mut D,
     ) -> Result<(), AllocError> {
-        merge_runs(alloc, records, cfg, Axis::Rows)
+        merge_runs(alloc, records, cfg, Axis::Rows, Entity::Global)
+    }
+
+    fn hint_change(&self) -> Option<Entity> {
+        Some(Entity::Global)
+    }
+
+    ghost acts_like = { Prim.search rules };
+}
+
+/// Joins the runs among the cells of the table that the entity names: those of a column, or of each column. On a
+/// row and on a cell it changes nothing, and takes no memory.
+///
+/// Refused for memory, it leaves the table as it was.
+///
+/// Of this project.
+impl<R> CellOption<R, SpannedConfig> for MergeDuplicatesVertical
+where
+    R: Records + ExactRecords + PeekableRecords,
+    R::Cell: CellText,
+{
+    ghost does = { λ _ e g c h d. (h ≡ g) × MergesRuns Rows e (map_grid R.Cell.text_of g) c d };
+
+    ghost leaves = { λ _ _. Same };
+
+    ghost can_change = { λ _. Unit {0} };
+
+    ghost never_refused = { λ _ e g _. NamesNoNeighbours Rows e g };
+
+    fn change(
+        self,
+        alloc: Global,
+        records: &mut R,
+        cfg: &mut SpannedConfig,
+        entity: Entity,
+    ) -> Result<(), AllocError> {
+        merge_runs(alloc, records, cfg, Axis::Rows, entity)
     }
 
     fn hint_change(&self) -> Option<Entity> {
@@ -98,7 +139,7 @@ where
 /// Refused for memory, it leaves the table as it was.
 ///
 /// Ported from `tabled::settings::merge::MergeDuplicatesHorizontal`.
-#[derive(Debug, Drop)]
+#[derive(Clone, Copy, Debug)]
 pub struct MergeDuplicatesHorizontal;
 
 impl<R, D> TableOption<R, SpannedConfig, D> for MergeDuplicatesHorizontal
@@ -106,7 +147,7 @@ where
     R: Records + ExactRecords + PeekableRecords,
     R::Cell: CellText,
 {
-    ghost does = { λ _ g c h d. (h ≡ g) × MergesRuns Columns (map_grid R.Cell.text_of g) c d };
+    ghost does = { λ _ g c h d. (h ≡ g) × MergesRuns Columns Global (map_grid R.Cell.text_of g) c d };
 
     ghost leaves = { λ _. Same };
 
@@ -121,7 +162,7 @@ where
         cfg: &mut SpannedConfig,
         _dimension: &mut D,
     ) -> Result<(), AllocError> {
-        merge_runs(alloc, records, cfg, Axis::Columns)
+        merge_runs(alloc, records, cfg, Axis::Columns, Entity::Global)
     }
 
     fn hint_change(&self) -> Option<Entity> {
@@ -131,22 +172,67 @@ where
     ghost acts_like = { Prim.search rules };
 }
 
-/// Makes each run along an axis one merged cell. Refused, it leaves the map as it was.
+/// Joins the runs among the cells of the table that the entity names: those of a row, or of each row. On a column
+/// and on a cell it changes nothing, and takes no memory.
+///
+/// Refused for memory, it leaves the table as it was.
+///
+/// Of this project.
+impl<R> CellOption<R, SpannedConfig> for MergeDuplicatesHorizontal
+where
+    R: Records + ExactRecords + PeekableRecords,
+    R::Cell: CellText,
+{
+    ghost does = { λ _ e g c h d. (h ≡ g) × MergesRuns Columns e (map_grid R.Cell.text_of g) c d };
+
+    ghost leaves = { λ _ _. Same };
+
+    ghost can_change = { λ _. Unit {0} };
+
+    ghost never_refused = { λ _ e g _. NamesNoNeighbours Columns e g };
+
+    fn change(
+        self,
+        alloc: Global,
+        records: &mut R,
+        cfg: &mut SpannedConfig,
+        entity: Entity,
+    ) -> Result<(), AllocError> {
+        merge_runs(alloc, records, cfg, Axis::Columns, entity)
+    }
+
+    fn hint_change(&self) -> Option<Entity> {
+        Some(Entity::Global)
+    }
+
+    ghost acts_like = { Prim.search rules };
+}
+
+/// Makes each run along an axis, among the cells that an entity names, one merged cell.
+///
+/// Where it names no two neighbours, this takes no memory. Refused, it leaves the map as it was.
 fn merge_runs<R>(
     alloc: Global,
     records: &R,
     cfg: &mut SpannedConfig,
     axis: Axis,
+    entity: Entity,
 ) -> Result<(), AllocError>
 where
     R: Records + ExactRecords + PeekableRecords,
     R::Cell: CellText,
     requires { R.is_well_formed records.now }
-    ensures ok { OnOk result (MergesRuns axis (map_grid R.Cell.text_of (R.grid records.now)) cfg.old cfg.new) }
+    ensures ok { OnOk result (MergesRuns axis entity (map_grid R.Cell.text_of (R.grid records.now)) cfg.old cfg.new) }
     ensures err { OnErr result (cfg.new ≡ cfg.old) }
+    ensures promised { NamesNoNeighbours axis entity (R.grid records.now) → IsOk result }
 {
-    let cover = CoverMap::new(alloc, cfg, records.count_rows(), records.count_columns())?;
-    let sizes = runs(alloc, records, cfg, &cover, axis)?;
+    let block = block_of(entity, records.count_rows(), records.count_columns());
+    let (first, size) = block;
+    if !has_neighbours(axis, size) {
+        return Ok(());
+    }
+    let cover = CoverMap::of_block(alloc, cfg, first, size.height, size.width)?;
+    let sizes = runs(alloc, records, cfg, &cover, axis, block)?;
     cfg.set_sizes(alloc, &sizes)?;
     Ok(())
 }

@@ -1,19 +1,22 @@
-//! Runs of equal neighbours along an axis.
+//! Runs of equal neighbours along an axis, among the cells of a block.
 
-ghost use Rattle.std.specs.Prelude.{◌≡◌, ◌↔◌, ◌+◌, ◌<◌, IfOk, IsNone, IsTrue, true};
+ghost use Rattle.std.specs.Prelude.{◌≡◌, ◌↔◌, ◌+◌, ◌<◌, ◌≤◌, ◌^◌, IfOk, IsNone, IsTrue, length, true};
 ghost use Rattle.std.specs.Option.{IfSome};
-ghost use Rattle.tabled_grid.specs.Covers.{cover_of};
+ghost use Rattle.tabled_grid.specs.Axis.{line_of};
+ghost use Rattle.tabled_grid.specs.Covers.{cover_in};
 ghost use Rattle.tabled_grid.specs.Grid.{IsInside, map_grid};
+ghost use Rattle.tabled_grid.specs.Midway.{In};
+ghost use Rattle.tabled_grid.specs.declared.config.entity.Entity.{Entity};
 ghost use Rattle.tabled_grid.specs.declared.config.position.Position.{Position};
-ghost use Rattle.tabled_spans.specs.RunSteps.{AreTails, RunAt, RunsFrom, StandBelow};
-ghost use Rattle.tabled_spans.specs.Runs.{Joins, further, is_free};
+ghost use Rattle.tabled_spans.specs.RunSteps.{AreInBlock, AreTails, RunAt, RunsFrom, StandBelow, block_in};
+ghost use Rattle.tabled_spans.specs.Runs.{IsNamed, Joins, further, is_free};
 
 use crate::merge::anchored::{is_anchor, up_to_row};
 use std::alloc::{AllocError, Global};
 use tabled_grid::config::{CoverMap, Position, Rectangle, Size, SpannedConfig};
 use tabled_grid::records::{Axis, CellText, ExactRecords, PeekableRecords, Records};
 
-/// The first cell of each run and the size of the run, row by row.
+/// The first cell of each run among the cells of a block and the size of the run, row by row.
 ///
 /// It goes back from the last cell, so that a run's length is known at its first cell.
 pub(super) fn runs<R>(
@@ -22,26 +25,31 @@ pub(super) fn runs<R>(
     cfg: &SpannedConfig,
     cover: &CoverMap,
     axis: Axis,
+    block: Rectangle,
 ) -> Result<Vec<Rectangle>, AllocError>
 where
     R: Records + ExactRecords + PeekableRecords,
     R::Cell: CellText,
     requires well { R.is_well_formed records.now }
-    requires cover { cover.now ≡ cover_of cfg.now ((R.grid records.now).rows) ((R.grid records.now).columns) }
-    ensures { IfOk result (λ sizes. RunsFrom axis (map_grid R.Cell.text_of (R.grid records.now)) cfg.now 0 0 sizes.items) }
+    requires block { (e : Entity) × AreInBlock e (map_grid R.Cell.text_of (R.grid records.now)) block }
+    requires bottom { block.0.row + block.1.height < 2 ^ 64 }
+    requires right { block.0.col + block.1.width < 2 ^ 64 }
+    requires cover { cover.now ≡ cover_in cfg.now block.0 block.1.height block.1.width }
+    ensures { IfOk result (λ sizes. (e : Entity) → AreInBlock e (map_grid R.Cell.text_of (R.grid records.now)) block → RunsFrom axis e (map_grid R.Cell.text_of (R.grid records.now)) cfg.now 0 0 sizes.items) }
 {
+    let (first, size) = block;
     let one = Size {
         height: 1,
         width: 1,
     };
     let mut sizes = Vec::new(alloc);
-    let mut lengths = vec![in alloc; 1; records.count_columns()]?;
+    let mut lengths = vec![in alloc; 1; size.width]?;
     let mut ahead = cfg.anchors().len();
-    for i in (0..records.count_rows()).rev() {
+    for i in (first.row..first.row + size.height).rev() {
         ahead = up_to_row(cfg, i, ahead);
-        for j in (0..records.count_columns()).rev() {
+        for j in (first.col..first.col + size.width).rev() {
             let pos = Position { row: i, col: j };
-            let many = run_from(records, cfg, cover, ahead, axis, &mut lengths, pos);
+            let many = run_from(records, cfg, cover, ahead, axis, block, &mut lengths, pos);
             if many > 1 {
                 sizes.push((pos, axis.resized(one, many)))?;
             }
@@ -51,16 +59,17 @@ where
     Ok(sizes)
 }
 
-/// How many cells the run has that begins at a cell; 0 or 1 where none begins.
+/// How many cells the run has that begins at a cell of a block; 0 or 1 where none begins.
 ///
-/// `lengths` has, for the next cell of each column that the walk comes to, how many cells join one another
-/// from there on. All anchors but the first `ahead` stand in rows that the walk has left.
+/// `lengths` has, for the next cell of each of the block's columns that the walk comes to, how many cells join
+/// one another from there on. All anchors but the first `ahead` stand in rows that the walk has left.
 fn run_from<R>(
     records: &R,
     cfg: &SpannedConfig,
     cover: &CoverMap,
     ahead: usize,
     axis: Axis,
+    block: Rectangle,
     lengths: &mut [usize],
     pos: Position,
 ) -> usize
@@ -68,28 +77,32 @@ where
     R: Records + ExactRecords + PeekableRecords,
     R::Cell: CellText,
     requires well { R.is_well_formed records.now }
-    requires cover { cover.now ≡ cover_of cfg.now ((R.grid records.now).rows) ((R.grid records.now).columns) }
-    requires inside { IsInside (R.grid records.now) pos }
+    requires block { (e : Entity) × AreInBlock e (map_grid R.Cell.text_of (R.grid records.now)) block }
+    requires cover { cover.now ≡ cover_in cfg.now block.0 block.1.height block.1.width }
+    requires inside { In block pos }
     requires ahead { StandBelow cfg.now pos.row ahead }
-    requires lengths { AreTails axis (map_grid R.Cell.text_of (R.grid records.now)) cfg.now pos.row (pos.col + 1) lengths.old }
-    ensures run { RunAt axis (map_grid R.Cell.text_of (R.grid records.now)) cfg.now pos result }
-    ensures lengths { AreTails axis (map_grid R.Cell.text_of (R.grid records.now)) cfg.now pos.row pos.col lengths.new }
+    requires width { length lengths.old ≡ block.1.width }
+    requires lengths { (e : Entity) → AreInBlock e (map_grid R.Cell.text_of (R.grid records.now)) block → AreTails axis e (map_grid R.Cell.text_of (R.grid records.now)) cfg.now block pos.row (pos.col + 1) lengths.old }
+    ensures run { (e : Entity) → AreInBlock e (map_grid R.Cell.text_of (R.grid records.now)) block → RunAt axis e (map_grid R.Cell.text_of (R.grid records.now)) cfg.now pos result }
+    ensures lengths { (e : Entity) → AreInBlock e (map_grid R.Cell.text_of (R.grid records.now)) block → AreTails axis e (map_grid R.Cell.text_of (R.grid records.now)) cfg.now block pos.row pos.col lengths.new }
 {
     // Counts tell that a length is still a `usize`.
     let _ = (records.count_rows(), records.count_columns());
-    let many = lengths[pos.col];
-    let Some(last) = before(axis, pos) else {
+    let (first, _) = block;
+    let many = lengths[pos.col - first.col];
+    let Some(last) = before(axis, block, pos) else {
         return many;
     };
     if joins(records, cfg, cover, ahead, axis, last, pos, many > 1) {
-        lengths[last.col] = many + 1;
+        lengths[last.col - first.col] = many + 1;
         return 0;
     }
-    lengths[last.col] = 1;
+    lengths[last.col - first.col] = 1;
     many
 }
 
-/// Says whether a cell joins the next one along an axis: both are visible and no anchors, and have equal texts.
+/// Says whether a cell of a covered block joins the next one along an axis: both are visible and no anchors,
+/// and have equal texts.
 ///
 /// Of a next one that is known to be `free`, only its text is asked.
 fn joins<R>(
@@ -106,34 +119,39 @@ where
     R: Records + ExactRecords + PeekableRecords,
     R::Cell: CellText,
     requires well { R.is_well_formed records.now }
-    requires cover { cover.now ≡ cover_of cfg.now ((R.grid records.now).rows) ((R.grid records.now).columns) }
+    requires cover { cover.now ≡ cover_in cfg.now cover.now.first cover.now.rows cover.now.columns }
+    requires here { In (block_in cover.now) pos }
+    requires there { In (block_in cover.now) next }
     requires inside { IsInside (R.grid records.now) next }
     requires next { further axis 1 pos ≡ next }
     requires ahead { StandBelow cfg.now next.row ahead }
     requires free { IsTrue free → is_free cfg.now next ≡ true }
-    ensures { IsTrue result ↔ Joins axis (map_grid R.Cell.text_of (R.grid records.now)) cfg.now pos }
+    ensures { (e : Entity) → IsNamed e (map_grid R.Cell.text_of (R.grid records.now)) pos → IsNamed e (map_grid R.Cell.text_of (R.grid records.now)) next → (IsTrue result ↔ Joins axis e (map_grid R.Cell.text_of (R.grid records.now)) cfg.now pos) }
 {
     records.get_text(pos) == records.get_text(next)
         && (free || is_free(cfg, cover, ahead, next))
         && is_free(cfg, cover, ahead, pos)
 }
 
-/// Says whether a cell is visible and no anchor.
+/// Says whether a cell of a covered block is visible and no anchor.
 fn is_free(cfg: &SpannedConfig, cover: &CoverMap, ahead: usize, pos: Position) -> bool
-    requires row { pos.row < cover.now.rows }
-    requires col { pos.col < cover.now.columns }
-    requires cover { cover.now ≡ cover_of cfg.now cover.now.rows cover.now.columns }
+    requires here { In (block_in cover.now) pos }
+    requires cover { cover.now ≡ cover_in cfg.now cover.now.first cover.now.rows cover.now.columns }
     requires ahead { StandBelow cfg.now pos.row ahead }
     ensures { result ≡ is_free cfg.now pos }
 {
     !cover.is_hidden(pos) && !is_anchor(cfg, ahead, pos)
 }
 
-/// The place before another along an axis, if it isn't the first.
-fn before(axis: Axis, pos: Position) -> Option<Position>
-    ensures some { IfSome result (λ last. further axis 1 last ≡ pos) }
-    ensures none { IsNone result → (last : Position) → further axis 1 last ≡ pos → ⊥ }
+/// The place before another along an axis, if it is in the block, too.
+fn before(axis: Axis, block: Rectangle, pos: Position) -> Option<Position>
+    requires { In block pos }
+    ensures some { IfSome result (λ last. (further axis 1 last ≡ pos) × In block last) }
+    ensures none { IsNone result → line_of axis pos ≡ line_of axis block.0 }
 {
-    let line = axis.line_of(pos).checked_sub(1)?;
-    Some(axis.in_line(pos, line))
+    let line = axis.line_of(pos);
+    if line == axis.line_of(block.0) {
+        return None;
+    }
+    Some(axis.in_line(pos, line - 1))
 }

@@ -1,0 +1,51 @@
+//! Which block of a table's cells an entity names.
+
+ghost use Rattle.std.specs.Prelude.{◌≡◌, ◌↔◌, ◌+◌, ◌≤◌, IsTrue, List, ℕ};
+ghost use Rattle.tabled_grid.specs.Axis.{across, lines_in};
+ghost use Rattle.tabled_grid.specs.Grid.{Grid};
+ghost use Rattle.tabled_spans.specs.RunSteps.{AreInBlock, column_named, lines_named, row_named};
+
+use tabled_grid::config::{Entity, Position, Rectangle, Size};
+use tabled_grid::records::Axis;
+
+/// The cells of a table (`rows x columns`) that an entity names, as a block of them.
+pub(super) fn block_of(entity: Entity, rows: usize, columns: usize) -> Rectangle
+    ensures cells { (g : Grid (List ℕ)) → g.rows ≡ rows → g.columns ≡ columns → AreInBlock entity g result }
+    ensures bottom { result.0.row + result.1.height ≤ rows }
+    ensures right { result.0.col + result.1.width ≤ columns }
+{
+    let (row, col) = indexes_of(entity);
+    let (top, height) = lines_named(row, rows);
+    let (left, width) = lines_named(col, columns);
+    (Position::new(top, left), Size { height, width })
+}
+
+/// The row and the column that an entity names, each if it is one alone.
+fn indexes_of(entity: Entity) -> (Option<usize>, Option<usize>)
+    ensures { result ≡ (row_named entity, column_named entity) }
+{
+    match entity {
+        Entity::Global => (None, None),
+        Entity::Column(col) => (None, Some(col)),
+        Entity::Row(row) => (Some(row), None),
+        Entity::Cell(row, col) => (Some(row), Some(col)),
+    }
+}
+
+/// The first of `count` lines that are named by an index, or without one, and how many are.
+fn lines_named(index: Option<usize>, count: usize) -> (usize, usize)
+    ensures { result ≡ lines_named index count }
+{
+    match index {
+        None => (0, count),
+        Some(line) if line < count => (line, 1),
+        Some(_) => (count, 0),
+    }
+}
+
+/// Says whether a block has a cell and the next one along an axis.
+pub(super) fn has_neighbours(axis: Axis, size: Size) -> bool
+    ensures { IsTrue result ↔ ((2 ≤ lines_in axis size) × (1 ≤ lines_in (across axis) size)) }
+{
+    axis.lines_in(size) > 1 && axis.across().lines_in(size) > 0
+}
