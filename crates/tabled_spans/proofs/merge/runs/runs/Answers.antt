@@ -23,8 +23,7 @@ loop-j-init g c =
     let block = c.args.block in
     let i = c.loop-i.i - 1 in
     let j = block.0.col + block.1.width in
-    let back : c.loop-i.i ≡ i + 1 = omega (arith, c.loop-i-test.true) in
-    (
+    let back : c.loop-i.i ≡ i + 1 = omega (arith, c.loop-i-test.true) in (
       λ e is. let held = c.loop-i.invariant.0 e is in (
         from_end c.args.axis e texts c.args.cfg.now block (λ p. (is p).0) i j _ (omega arith) (subst (λ n. RunsFrom c.args.axis e texts c.args.cfg.now n block.0.col (reverse c.loop-i.sizes.items)) back held.0),
         tails_end c.args.axis e texts c.args.cfg.now block is i j _ (omega arith) (subst (λ n. AreTails c.args.axis e texts c.args.cfg.now block n block.0.col c.loop-i.lengths.items) back held.1),
@@ -49,7 +48,7 @@ loop-i-preserved g c =
 
 pub loop-j-preserved-in-Continue-branch-2 : goal.loop-j-preserved-in-Continue-branch-2
 loop-j-preserved-in-Continue-branch-2 g c = (
-      λ e is.
+  λ e is.
       let texts = map_grid g.R.Cell.CellText.text_of (g.R.GridStore.grid c.args.records.now) in
       let block = c.args.block in
       let i = c.loop-i.i - 1 in
@@ -68,12 +67,12 @@ loop-j-preserved-in-Continue-branch-2 g c = (
         subst (RunsFrom c.args.axis e texts c.args.cfg.now i j) (sym first) (run_put c.args.axis e texts c.args.cfg.now i j _ so_far many (omega (arith, c.if-many-gt1.true)) (c.run_from-many.ensures.run e is)),
         subst (AreTails c.args.axis e texts c.args.cfg.now block i j) (sym (take_at new (drop (length new) c.loop-j.lengths.items) c.loop-j.lengths.len long)) tails,
       ),
-      omega (arith, c.loop-j-test.true),
-    )
+  omega (arith, c.loop-j-test.true),
+)
 
 pub loop-j-preserved : goal.loop-j-preserved
 loop-j-preserved g c = (
-      λ e is.
+  λ e is.
       let texts = map_grid g.R.Cell.CellText.text_of (g.R.GridStore.grid c.args.records.now) in
       let block = c.args.block in
       let i = c.loop-i.i - 1 in
@@ -88,8 +87,8 @@ loop-j-preserved g c = (
         none_put c.args.axis e texts c.args.cfg.now i j _ so_far c.run_from-many.result (omega (arith, c.if-many-gt1.false)) (c.run_from-many.ensures.run e is),
         subst (AreTails c.args.axis e texts c.args.cfg.now block i j) (sym (take_at new (drop (length new) c.loop-j.lengths.items) c.loop-j.lengths.len long)) tails,
       ),
-      omega (arith, c.loop-j-test.true),
-    )
+  omega (arith, c.loop-j-test.true),
+)
 
 pub returns : goal.returns
 returns g c = λ e is.
