@@ -1,7 +1,7 @@
 -- The field at the front of bytes.
-use Rattle.tabled_csv.proofs.Common.{eqb-true, ne_eqb, ◌≡◌, ◌≤◌, ◌<◌, ◌+◌, ◌-◌, ◌++◌, ◌∷◌, ◌∙◌, [], ℕ, List, Option, None, Some, false, true, refl, sym, ap, subst, arith, append_assoc, begins_with, doubled, drop, drop_more, ends_with, eq-eqb, get_or, inl, inr, is_outside, length, length-append, list_any, list_any-append, or_parts, quoted, take, take-append-drop, take_rest, IsSeparator, IsUtf8}
+use Rattle.tabled_csv.proofs.Common.{eqb-true, ne_eqb, ◌≡◌, ◌≤◌, ◌<◌, ◌+◌, ◌-◌, ◌++◌, ◌∷◌, ◌∙◌, [], ℕ, List, false, true, refl, sym, ap, subst, arith, append_assoc, begins_with, doubled, drop, drop_more, ends_with, eq-eqb, get_or, inl, inr, is_outside, length, length-append, list_any, list_any-append, or_parts, quoted, take, take-append-drop, take_rest, IsSeparator, IsUtf8}
 use Rattle.tabled_csv.proofs.Ends.{ends_with-append}
-use Rattle.tabled_csv.proofs.Unique.{Front, form-unique, quoted-is, quoted_at, stop-quote}
+use Rattle.tabled_csv.proofs.Unique.{form-unique, stop-quote, tail-unique}
 use Rattle.tabled_csv.specs.Fields.{BlankAt, ClosesAt, EndsLine, FormAt, NeverCloses, NoFieldAt, NoStop, PlainAt, Stops, StopsQuoted}
 use Rattle.tabled_csv.specs.Faults.{FaultAt}
 use Rattle.tabled_csv.specs.declared.fault.Fault.{Fault}
@@ -82,23 +82,13 @@ module _ (s : ℕ) (bytes behind : List ℕ) (begins : bytes ≡ 34 ∷ behind) 
   pub nothing-behind : IsSeparator s → (text rest : List ℕ) → ClosesAt behind text rest → NoStop s rest → NoFieldAt s bytes
   nothing-behind sep text rest c none text2 stop after f =
       let q = form-quoted sep text2 stop after f.at in
-      let one : quoted_at behind ≡ Some (text, rest) = ap quoted_at c.parts ∙ quoted-is text rest c.single in
-      let two : quoted_at behind ≡ Some (text2, q.0) = ap quoted_at q.1.parts ∙ quoted-is text2 q.0 q.1.single in
-      none stop after (subst (λ (l : List ℕ). StopsQuoted s l stop after) (ap rest-in (sym two ∙ one)) q.2)
-    where
-      rest-in : Option (List ℕ × List ℕ) → List ℕ
-      rest-in None = []
-      rest-in (Some p) = p.1
+      none stop after (subst (λ (l : List ℕ). StopsQuoted s l stop after) (tail-unique behind text2 q.0 text rest q.1 c) q.2)
 
 -- ---- a field that isn't UTF-8
 
 pub not-utf8 : (s : ℕ) → IsSeparator s → (bytes text : List ℕ) (stop : Stop) (after : List ℕ) → FormAt s bytes text stop after → (IsUtf8 text → ⊥) → NoFieldAt s bytes
 not-utf8 s sep bytes text stop after f bad text2 stop2 after2 g =
-    bad (subst IsUtf8 (ap text-in (form-unique s sep bytes text2 text stop2 stop after2 after g.at f)) g.utf8)
-  where
-    text-in : Option Front → List ℕ
-    text-in None = []
-    text-in (Some q) = q.0
+    bad (subst IsUtf8 (form-unique s sep bytes text2 text stop2 stop after2 after g.at f).0 g.utf8)
 
 -- ---- plain fields
 

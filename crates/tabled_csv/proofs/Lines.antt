@@ -1,7 +1,7 @@
 -- Lines, one after another.
-use Rattle.tabled_csv.proofs.Common.{◌≡◌, ◌++◌, ◌∷◌, ◌∙◌, [], ℕ, List, Option, None, Some, refl, sym, ap, subst, arith, append-nil, append_assoc, inl, inr, IsForm, IsLine, IsLineEnd, IsLines, IsRecord, IsSeparator, quoted}
+use Rattle.tabled_csv.proofs.Common.{doubled, ◌≡◌, ◌++◌, ◌∷◌, ◌∙◌, [], ℕ, List, refl, sym, ap, subst, arith, append-nil, append_assoc, inl, inr, IsForm, IsLine, IsLineEnd, IsLines, IsRecord, IsSeparator}
 use Rattle.tabled_csv.proofs.Records.{Ends, record-at, record-from, record-unique}
-use Rattle.tabled_csv.proofs.Unique.{Front, form-unique}
+use Rattle.tabled_csv.proofs.Unique.{form-unique}
 use Rattle.tabled_csv.specs.Fields.{BlankAt, FormAt, Stops}
 use Rattle.tabled_csv.specs.Reading.{NoRecordAt, RecordAt}
 use Rattle.tabled_csv.specs.declared.stop.Stop.{Stop}
@@ -38,43 +38,37 @@ blank-field s bytes after (inr e) = record {
   stops = (13 ∷ 10 ∷ [], inl refl, e);
 }
 
-abbrev text-in : Option Front → List ℕ
-text-in None = []
-text-in (Some q) = q.0
-
-abbrev stop-in : Option Front → Stop
-stop-in None = End
-stop-in (Some q) = q.1
+-- nor does one begin with a quote
+pub quote-filled : (bytes rest : List ℕ) → bytes ≡ 34 ∷ rest → FilledAt bytes
+quote-filled bytes rest e = record { some = λ none. cc; filled = λ after b. go after b }
+  where
+    go : (after : List ℕ) → BlankAt bytes after → ⊥
+    go after (inl b) =
+        let same : 34 ∷ rest ≡ 10 ∷ after = sym e ∙ b in
+        let x : ◌≡◌ {A = ℕ} 34 10 = cc in
+        omega arith
+    go after (inr b) =
+        let same : 34 ∷ rest ≡ 13 ∷ 10 ∷ after = sym e ∙ b in
+        let x : ◌≡◌ {A = ℕ} 34 13 = cc in
+        omega arith
 
 -- bytes that begin with a field of some bytes
 some-field : (s : ℕ) → IsSeparator s → (bytes line tail text after after2 : List ℕ) (b : ℕ) (stop : Stop) → bytes ≡ (b ∷ line) ++ tail → IsForm s (b ∷ line) text
     → Stops s (b ∷ line) tail stop after → BlankAt bytes after2 → ⊥
 some-field s sep bytes line tail text after after2 b stop is (inl plain) stops empty =
     let f : FormAt s bytes text stop after = record { field = b ∷ line; tail = tail; parts = is; form = inl plain; stops = stops } in
-    let e : text ≡ [] = ap text-in (form-unique s sep bytes text [] stop Line after after2 f (blank-field s bytes after2 empty)) in
+    let e : text ≡ [] = (form-unique s sep bytes text [] stop Line after after2 f (blank-field s bytes after2 empty)).0 in
     let none : b ∷ line ≡ [] = plain.1 ∙ e in
     cc
-some-field s sep bytes line tail text after after2 b stop is (inr between) stops (inl e) = absurd (differ (sym is ∙ e) between)
-  where
-    differ : (b ∷ line) ++ tail ≡ 10 ∷ after2 → b ∷ line ≡ quoted text → ⊥
-    differ e f =
-        let x : b ≡ 10 = cc in
-        let y : b ≡ 34 = cc in
-        omega arith
-some-field s sep bytes line tail text after after2 b stop is (inr between) stops (inr e) = absurd (differ (sym is ∙ e) between)
-  where
-    differ : (b ∷ line) ++ tail ≡ 13 ∷ 10 ∷ after2 → b ∷ line ≡ quoted text → ⊥
-    differ e f =
-        let x : b ≡ 13 = cc in
-        let y : b ≡ 34 = cc in
-        omega arith
+some-field s sep bytes line tail text after after2 b stop is (inr between) stops empty =
+    (quote-filled bytes ((doubled text ++ (34 ∷ [])) ++ tail) (is ∙ ap (λ (l : List ℕ). l ++ tail) between)).filled after2 empty
 
 -- a field with a separator behind it
 pub part-field : (s : ℕ) → IsSeparator s → (bytes field tail text after after2 : List ℕ) → bytes ≡ field ++ tail → IsForm s field text
     → Stops s field tail Separator after → BlankAt bytes after2 → ⊥
 part-field s sep bytes field tail text after after2 is form stops empty =
     let f : FormAt s bytes text Separator after = record { field = field; tail = tail; parts = is; form = form; stops = stops } in
-    let e : Separator ≡ Line = ap stop-in (form-unique s sep bytes text [] Separator Line after after2 f (blank-field s bytes after2 empty)) in
+    let e : Separator ≡ Line = (form-unique s sep bytes text [] Separator Line after after2 f (blank-field s bytes after2 empty)).1 in
     cc
 
 pub record-filled : (s : ℕ) → IsSeparator s → (bytes line tail after : List ℕ) (b : ℕ) (row : List (List ℕ)) → bytes ≡ (b ∷ line) ++ tail → IsRecord s (b ∷ line) row → Ends s (b ∷ line) tail after

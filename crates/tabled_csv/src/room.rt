@@ -10,11 +10,11 @@ use std::mem;
 /// How many bytes the first part has at least. Each other one has twice as many as the one before.
 const FIRST: usize = 4096;
 
-/// How many parts there are: together they are longer than any memory.
+/// How many parts there are: all of them together would be longer than any memory.
 const PARTS: usize = 64;
 
-/// Memory for the texts that don't stand in what is read as they are, since a quote is doubled in them. It has none
-/// for them before there is one, and then at most some three times what they take.
+/// Memory for texts that don't stand in what is read as they are, since a quote is doubled in them. It is lent to them,
+/// and is asked for as they are read, in parts that are each twice as long as the one before.
 ///
 /// Of this project.
 #[derive(Drop)]
@@ -23,7 +23,10 @@ pub struct Room {
 }
 
 impl Room {
-    /// Room that has no memory for texts yet.
+    /// Room that has no memory for texts yet, but for a list of its parts, which are empty. Refused where there is none
+    /// for this list.
+    ///
+    /// Of this project.
     pub fn new(alloc: Global) -> Result<Self, AllocError> {
         let mut parts = Vec::with_capacity(alloc, PARTS)?;
         for _ in 0..PARTS {
