@@ -4,6 +4,43 @@ use Rattle.std.specs.Str.{bytes_eq}
 use Rattle.tabled_draw.specs.declared.style.Style.{Style}
 use Rattle.tabled_draw.specs.declared.style.TheConstants.Style.{ASCII, ASCII_ROUNDED, BLANK, DOTS, EMPTY, EXTENDED, MARKDOWN, MODERN, PSQL, RE_STRUCTURED_TEXT, ROUNDED, SHARP}
 
+-- the styles, as the contracts of other crates call them
+abbrev pub ascii : Style
+ascii = ASCII
+
+abbrev pub modern : Style
+modern = MODERN
+
+abbrev pub rounded : Style
+rounded = ROUNDED
+
+abbrev pub sharp : Style
+sharp = SHARP
+
+abbrev pub extended : Style
+extended = EXTENDED
+
+abbrev pub psql : Style
+psql = PSQL
+
+abbrev pub markdown : Style
+markdown = MARKDOWN
+
+abbrev pub re_structured_text : Style
+re_structured_text = RE_STRUCTURED_TEXT
+
+abbrev pub dots : Style
+dots = DOTS
+
+abbrev pub ascii_rounded : Style
+ascii_rounded = ASCII_ROUNDED
+
+abbrev pub blank : Style
+blank = BLANK
+
+abbrev pub empty : Style
+empty = EMPTY
+
 -- names, and the style of each
 abbrev pub styles : List (List ℕ × Style)
 styles =
