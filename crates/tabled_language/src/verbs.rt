@@ -9,6 +9,7 @@ use tabled_settings::formatting::Charset;
 use tabled_settings::merge::Merge;
 use tabled_settings::reverse::Reverse;
 use tabled_settings::split::Split;
+use tabled_settings::width::Width;
 use tabled_spans::panel::{Footer, Header, HorizontalPanel, VerticalPanel};
 use tabled_steps::Step;
 use tabled_table::Table;
@@ -19,7 +20,7 @@ impl<'a> Words<'a> {
     ghost use Rattle.tabled_grid.specs.Grid.{map_grid};
     ghost use Rattle.tabled_grid.specs.declared.records.axis.Axis.TheVariants.{Columns, Rows};
     ghost use Rattle.tabled_language.specs.Parsing.{Reads, TakesWords, cell_texts};
-    ghost use Rattle.tabled_language.specs.Verb.{reads_clean, reads_concat, reads_cut_panel, reads_dup, reads_extract, reads_footer, reads_header, reads_panel, reads_reverse, reads_set, reads_span, reads_split, reads_table, reads_tabs, reads_turn, removals, rows_of_texts, steps};
+    ghost use Rattle.tabled_language.specs.Verb.{reads_clean, reads_concat, reads_cut_panel, reads_dup, reads_extract, reads_footer, reads_header, reads_merge, reads_panel, reads_reverse, reads_set, reads_span, reads_split, reads_table, reads_tabs, reads_turn, reads_wrap, removals, rows_of_texts, steps};
     ghost use Rattle.tabled_language.specs.Words.{behind, reads_one_of};
     ghost use Rattle.tabled_steps.specs.States.{after};
 
@@ -33,6 +34,7 @@ impl<'a> Words<'a> {
             (3, "dup") => self.dup(alloc),
             (5, "clean") => self.clean(alloc),
             (4, "tabs") => self.tabs(alloc),
+            (4, "wrap") => self.wrap(alloc),
             (5, "cspan") => self.span(alloc, Axis::Columns),
             (5, "rspan") => self.span(alloc, Axis::Rows),
             (6, "rotate") => self.turn(),
@@ -41,6 +43,7 @@ impl<'a> Words<'a> {
             (6, "concat") => self.concat(alloc),
             (7, "extract") => self.extract(),
             (5, "split") => self.split(),
+            (5, "merge") => self.merge(alloc),
             (6, "header") => self.header(alloc),
             (6, "footer") => self.footer(alloc),
             (6, "hpanel") => self.panel(alloc, Axis::Rows),
@@ -83,6 +86,14 @@ impl<'a> Words<'a> {
         Ok(Step::Charset(Charset::new().tab_size(size), select))
     }
 
+    fn wrap(&mut self, alloc: Global) -> Read<Step>
+        ensures { Reads after reads_wrap self.old result self.new }
+    {
+        let width = self.number()?;
+        let select = self.cells(alloc)?;
+        Ok(Step::Wrap(Width::wrap(width).keep_words(true), select))
+    }
+
     fn span(&mut self, alloc: Global, axis: Axis) -> Read<Step>
         ensures { Reads after (reads_span axis) self.old result self.new }
     {
@@ -92,6 +103,14 @@ impl<'a> Words<'a> {
             Axis::Rows => Step::RowSpan(size, select),
             Axis::Columns => Step::ColumnSpan(size, select),
         })
+    }
+
+    fn merge(&mut self, alloc: Global) -> Read<Step>
+        ensures { Reads after reads_merge self.old result self.new }
+    {
+        let axis = self.side()?;
+        let select = self.cells(alloc)?;
+        Ok(Step::Merge(axis, select))
     }
 
     fn header(&mut self, alloc: Global) -> Read<Step>

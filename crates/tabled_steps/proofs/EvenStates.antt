@@ -1,5 +1,5 @@
 -- Steps leave as many texts in each row as there are columns.
-use Rattle.tabled_steps.proofs.Common.{[], ◌&&◌, ◌++◌, ◌+◌, ◌-◌, ◌<◌, ◌∙◌, ◌∷◌, ◌≡◌, ◌⊎◌, Axis, Columns, Entity, Grid, IsEven, IsEven-with_cell, IsUndoneMidway, List, Places, Position, Rows, Select, State, Step, Write, after, after_all, and_parts, ap, arith, cases_Bool, cell_at, charset_writes, columns_with, cond, corner_of, cut_rows, dup_writes, extracted, false, flattened, fold, half_open, has_pieces, has_room, indexes, inl, inr, joined_tables, joined_text, leb-true, length, length-replicate, ltb-true, max, named_by, nat_lt, on_each, option_and_then, oriented, parts, put_panel, read, rearrange, refl, removed, replicate, reversed, rotated, selected, span_writes, split, string_bytes, text_at, text_writes, true, unwrap_or, with_cell, with_writes, ℕ}
+use Rattle.tabled_steps.proofs.Common.{[], ◌&&◌, ◌++◌, ◌+◌, ◌-◌, ◌<◌, ◌∙◌, ◌∷◌, ◌≡◌, ◌⊎◌, Axis, Columns, Entity, Grid, IsEven, IsEven-with_cell, IsUndoneMidway, List, Places, Position, Rows, Select, State, Step, Write, after, after_all, and_parts, ap, arith, cases_Bool, cell_at, charset_writes, wrap_writes, columns_with, cond, corner_of, cut_rows, dup_writes, extracted, false, flattened, fold, half_open, has_pieces, has_room, indexes, inl, inr, joined_tables, joined_text, leb-true, length, length-replicate, ltb-true, max, named_by, nat_lt, on_each, option_and_then, oriented, parts, put_panel, read, rearrange, refl, removed, replicate, reversed, rotated, selected, span_writes, split, string_bytes, text_at, text_writes, true, unwrap_or, with_cell, with_writes, ℕ}
 use Rattle.tabled_grid.proofs.Resized.{IsEven-with_column, IsEven-with_row}
 use Rattle.tabled_settings.specs.declared.split.Split.{Split}
 use Rattle.tabled_settings.proofs.Glued.{split_glued}
@@ -63,6 +63,7 @@ pub even_after : (x : Step) → Keeps (after x)
 even_after (step.Set text_select text) = even_on_each _ text_select (λ e s. even_writes (text_writes (string_bytes text) e s.texts) s.texts)
 even_after (step.Dup destination source) = λ s. even_writes (dup_writes (selected s.texts source) (selected s.texts destination) s.texts) s.texts
 even_after (step.Charset charset select) = even_on_each _ select (λ e s. even_writes (charset_writes charset e s.texts) s.texts)
+even_after (step.Wrap how select) = even_on_each _ select (λ e s. even_writes (wrap_writes how e s.texts) s.texts)
 even_after (step.ColumnSpan size select) = even_on_each _ select (λ e s. even_writes (span_writes Columns size e s.texts) s.texts)
 even_after (step.RowSpan size select) = even_on_each _ select (λ e s. even_writes (span_writes Rows size e s.texts) s.texts)
 even_after (step.HorizontalPanel panel) = even_panel Rows panel.0 panel.1
@@ -71,6 +72,7 @@ even_after (step.Header text) = even_panel Rows 0 text
 even_after (step.Footer text) = λ s. even_panel Rows s.texts.rows text s
 even_after (step.MergeVertical _) = λ s even. even
 even_after (step.MergeHorizontal _) = λ s even. even
+even_after (step.Merge axis select) = even_on_each _ select (λ e s even. even)
 even_after (step.Rotate rotate) = even_rearranged (rotated rotate)
 even_after (step.Reverse how) = λ s even. even_read (reversed how.axis how.start how.limit s.texts.rows s.texts.columns) s
 even_after (step.Split how) = λ s. even_split how s.texts

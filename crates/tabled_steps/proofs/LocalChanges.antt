@@ -1,5 +1,5 @@
 -- What options do and leave on an entity depends on the places that it names.
-use Rattle.tabled_steps.proofs.Common.{[], ◌∙◌, ◌≡◌, ◌⊎◌, Axis, Bool, DoesFirstWrites, DoesWrites, Entity, FirstWrites, Grid, IsLocal, List, None, Option, Position, SpanMap, Spans, SpansFirst, Write, ap, at_each, back_of, cases_Bool, charset_writes, cond, count_of, drop_hidden, false, get, grown_each, hidden-from, hidden_by, inl, inr, inside, is_hidden, is_set, is_visible, map_grid, mapped_writes, pos, positions_exact, positions_total, pull_writes, pulled_each, recoded, refl, same_map, shape_texts, span_writes, spanned, subst, suc, sym, text_writes, true, with_writes, ℕ, ℤ}
+use Rattle.tabled_steps.proofs.Common.{[], ◌∙◌, ◌≡◌, ◌⊎◌, Axis, Bool, DoesFirstWrites, DoesWrites, Entity, FirstWrites, Grid, IsLocal, List, None, Option, Position, SpanMap, Spans, SpansFirst, Write, ap, at_each, back_of, cases_Bool, charset_writes, cond, count_of, drop_hidden, false, get, grown_each, hidden-from, hidden_by, inl, inr, inside, is_hidden, is_set, is_visible, map_grid, mapped_writes, pos, positions_exact, positions_total, pull_writes, pulled_each, recoded, refl, same_map, shape_texts, span_writes, spanned, subst, suc, sym, text_writes, true, with_writes, wrap_writes, wrapped, ℕ, ℤ}
 use Rattle.tabled_grid.proofs.SpanMaps.{get-drop_hidden, kept}
 
 -- writes on an entity that depend on the places alone that it names, and are none where it names none
@@ -19,6 +19,9 @@ local_charset charset = record {
     either : (g : Grid (List ℕ)) (b : Bool) → cond b (mapped_writes (recoded charset) g []) [] ≡ []
     either g true = refl
     either g false = refl
+
+pub local_wrap : (how : ℕ × Bool) → AreLocal (wrap_writes how)
+local_wrap how = record { alike = λ e f g same. ap (mapped_writes (wrapped how) g) same; none = λ e g none. ap (mapped_writes (wrapped how) g) none }
 
 module _ {A : Type 0} (text_of : A → List ℕ) where
   -- writes of texts

@@ -6,12 +6,14 @@ use Rattle.tabled_grid.specs.Bounds.{indexes}
 use Rattle.tabled_grid.specs.Grid.{Grid, map_grid}
 use Rattle.tabled_grid.specs.Spans.{SpanMap, with_sizes}
 use Rattle.tabled_grid.specs.declared.config.entity.Entity.{Entity}
+use Rattle.tabled_grid.specs.declared.config.entity.Entity.TheVariants.{Global}
 use Rattle.tabled_grid.specs.declared.records.axis.Axis.{Axis}
 use Rattle.tabled_grid.specs.declared.records.axis.Axis.TheVariants.{Rows, Columns}
 use Rattle.tabled_options.specs.Does.{Change, Each, EachUntilAt}
 use Rattle.tabled_options.specs.Writes.{text_writes, with_writes}
 use Rattle.tabled_select.specs.Locators.{columns_with}
 use Rattle.tabled_settings.specs.Charsets.{charset_writes}
+use Rattle.tabled_settings.specs.Wraps.{wrap_writes}
 use Rattle.tabled_settings.specs.Dups.{dup_writes}
 use Rattle.tabled_carry.specs.Images.{carried}
 use Rattle.tabled_settings.specs.Joined.{corner_of, joined_places}
@@ -48,6 +50,10 @@ set text s e = record s { texts = with_writes (text_writes text e s.texts) s.tex
 abbrev pub recode : Bool × Option ℕ → State → Entity → State
 recode charset s e = record s { texts = with_writes (charset_writes charset e s.texts) s.texts }
 
+-- the texts that an entity names, wrapped
+abbrev pub wrap : ℕ × Bool → State → Entity → State
+wrap how s e = record s { texts = with_writes (wrap_writes how e s.texts) s.texts }
+
 -- a span of a size on an entity
 abbrev pub span : Axis → ℤ → State → Entity → State
 span axis size s e = record { texts = with_writes (span_writes axis size e s.texts) s.texts; spans = spanned axis size e s.texts.rows s.texts.columns s.spans }
@@ -64,9 +70,13 @@ duplicate destination source s = record s { texts = with_writes (dup_writes (sou
 abbrev pub put_panel : Axis → ℕ → List ℕ → State → State
 put_panel axis line text s = if has_room axis line s.texts s.spans then record { texts = with_line_at axis line (text ∷ replicate (cells_along axis s.texts - 1) []) s.texts; spans = with_panel axis line (cells_along axis s.texts) s.spans } else s
 
--- a rectangle for each run of equal neighbours
-abbrev pub merge : Axis → State → State
-merge axis s = record s { spans = with_sizes s.spans (runs axis s.texts s.spans) }
+-- a rectangle for each run of equal neighbours among the cells of an entity
+abbrev pub merge : Axis → State → Entity → State
+merge axis s e = record s { spans = with_sizes s.spans (runs axis e s.texts s.spans) }
+
+-- the same of all cells
+abbrev pub merge_all : Axis → State → State
+merge_all axis s = merge axis s Global
 
 -- the texts, read through a map of places, and the merged cells, carried along
 abbrev pub rearrange : (ℕ → ℕ → Places) → State → State
@@ -99,14 +109,16 @@ abbrev pub after : Step → State → State
 after (step.Set select text) = on_each (set (string_bytes text)) (named_by select)
 after (step.Dup destination source) = duplicate (named_by destination) (named_by source)
 after (step.Charset charset select) = on_each (recode charset) (named_by select)
+after (step.Wrap how select) = on_each (wrap how) (named_by select)
 after (step.ColumnSpan size select) = on_each (span Columns size) (named_by select)
 after (step.RowSpan size select) = on_each (span Rows size) (named_by select)
 after (step.HorizontalPanel panel) = put_panel Rows panel.0 panel.1
 after (step.VerticalPanel panel) = put_panel Columns panel.0 panel.1
 after (step.Header text) = put_panel Rows 0 text
 after (step.Footer text) = λ s. put_panel Rows s.texts.rows text s
-after (step.MergeVertical _) = merge Rows
-after (step.MergeHorizontal _) = merge Columns
+after (step.MergeVertical _) = merge_all Rows
+after (step.MergeHorizontal _) = merge_all Columns
+after (step.Merge axis select) = on_each (merge axis) (named_by select)
 after (step.Rotate rotate) = rearrange (rotated rotate)
 after (step.Reverse how) = reverse how
 after (step.Split how) = cut_lines how

@@ -52,8 +52,10 @@ impl Step {
                 source.names_none(alloc, records)
             }
             Step::Charset(_, select) => select.names_none(alloc, records),
+            Step::Wrap(_, select) => select.names_none(alloc, records),
             Step::ColumnSpan(_, select) => select.names_none(alloc, records),
             Step::RowSpan(_, select) => select.names_none(alloc, records),
+            Step::Merge(_, select) => select.names_none(alloc, records),
             Step::Extract(a, b, c, d) => {
                 Select::Segment(*a, *b, *c, *d).names_none(alloc, records)
             }

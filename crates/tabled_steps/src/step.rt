@@ -9,7 +9,7 @@ use crate::select::Select;
 use std::alloc::{AllocError, Global};
 use tabled_grid::config::{Entity, SpannedConfig};
 use tabled_grid::records::{
-    CellText, ExactRecords, PeekableRecords, Records, RecordsMut, Resizable,
+    Axis, CellText, ExactRecords, PeekableRecords, Records, RecordsMut, Resizable,
 };
 use tabled_options::TableOption;
 use tabled_select::location::ByColumnName;
@@ -22,7 +22,8 @@ use tabled_settings::formatting::Charset;
 use tabled_settings::reverse::Reverse;
 use tabled_settings::rotate::Rotate;
 use tabled_settings::split::Split;
-use tabled_spans::merge::{MergeDuplicatesHorizontal, MergeDuplicatesVertical};
+use tabled_settings::width::Wrap;
+use tabled_spans::merge::{Merge, MergeDuplicatesHorizontal, MergeDuplicatesVertical};
 use tabled_spans::panel::{Footer, Header, HorizontalPanel, VerticalPanel};
 use tabled_spans::span::Span;
 
@@ -40,6 +41,8 @@ pub enum Step {
     Dup(Select, Select),
     /// Replaces tabs in the texts of cells, or takes control characters out, as the charset says.
     Charset(Charset, Select),
+    /// Cuts the lines of texts to a width, as the wrap says.
+    Wrap(Wrap, Select),
     /// Merges cells along rows, by a span's size.
     ColumnSpan(isize, Select),
     /// Merges cells along columns, by a span's size.
@@ -52,6 +55,8 @@ pub enum Step {
     MergeVertical(MergeDuplicatesVertical),
     /// Merges equal neighbours in rows.
     MergeHorizontal(MergeDuplicatesHorizontal),
+    /// Merges equal neighbours among the cells of each entity: in its columns, along its rows, or the other way round.
+    Merge(Axis, Select),
     Rotate(Rotate),
     Reverse(Reverse),
     Split(Split),
@@ -93,6 +98,7 @@ impl Step {
                 )
             }
             Step::Charset(charset, select) => change_each(alloc, records, cfg, select, charset),
+            Step::Wrap(wrap, select) => change_each(alloc, records, cfg, select, wrap),
             Step::ColumnSpan(size, select) => {
                 change_each(alloc, records, cfg, select, Span::column(size))
             }
@@ -105,6 +111,10 @@ impl Step {
             Step::Footer(footer) => footer.change(alloc, records, cfg, dimension),
             Step::MergeVertical(merge) => merge.change(alloc, records, cfg, dimension),
             Step::MergeHorizontal(merge) => merge.change(alloc, records, cfg, dimension),
+            Step::Merge(axis, select) => match axis {
+                Axis::Rows => change_each(alloc, records, cfg, select, Merge::vertical()),
+                Axis::Columns => change_each(alloc, records, cfg, select, Merge::horizontal()),
+            },
             Step::Rotate(rotate) => rotate.change(alloc, records, cfg, dimension),
             Step::Reverse(reverse) => reverse.change(alloc, records, cfg, dimension),
             Step::Split(split) => split.change(alloc, records, cfg, dimension),

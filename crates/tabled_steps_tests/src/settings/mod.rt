@@ -3,6 +3,7 @@
 mod content;
 mod cuts;
 mod joins;
+mod merges;
 mod moves;
 mod odd;
 mod refused_writers;

@@ -12,10 +12,10 @@ use tabled_testing::flat;
 /// Each kind of step, of which only the last ones take many rows or columns away.
 ///
 /// What spans and merges merge is taken apart again, so that the steps after them carry little.
-const STEPS: &str = "set all x; dup last-column first-column; clean all; tabs 2 all; \
+const STEPS: &str = "set all x; dup last-column first-column; clean all; tabs 2 all; wrap 9 all; \
     hpanel 1 P; vpanel 0 P; vpanelw 3 1 xy; header N; footer N; \
     cspan -1 row 7; rspan -1 row 8; cspan 2 all; cspan 1 all; rspan 2 all; rspan 1 all; \
-    hmerge; cspan 1 all; vmerge; rspan 1 all; \
+    hmerge; cspan 1 all; vmerge; rspan 1 all; merge vertical column 0; rspan 1 column 0; \
     reverse rows 0 end 0; reverse columns 1 start 2; \
     rotate top; rotate bottom; rotate left; rotate right; \
     split column 2 zip clean; split row 2 concat retain; \

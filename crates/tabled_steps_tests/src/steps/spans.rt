@@ -92,6 +92,21 @@ const MERGES: &[&str] = &[
     "a / a / a / a / a / 2.0:1x2 | vmerge | in place | a / a / a / a / a / 0.0:2x1 2.0:1x2 3.0:2x1 meeting",
     "a a / a a / a a / a a / 2.0:1x2 | vmerge | in place | a a / a a / a a / a a / 0.0:2x1 0.1:2x1 2.0:1x2",
     "a a a / 0.0:1x2 | hmerge | in place | a a a / 0.0:1x2",
+    // Of an entity, the runs among its cells: of a column the vertical ones, of a row the horizontal ones.
+    "a a / a a / a b / | merge vertical column 0 | in place | a a / a a / a b / 0.0:3x1",
+    "a a / a a / a b / | merge horizontal row 1 | in place | a a / a a / a b / 1.0:1x2",
+    "a a / a a / a b / | merge vertical all | in place | a a / a a / a b / 0.0:3x1 0.1:2x1",
+    "a a / a a / a b / | merge horizontal all | in place | a a / a a / a b / 0.0:1x2 1.0:1x2",
+    "a a a / a a a / | merge vertical columns 1 3 | in place | a a a / a a a / 0.1:2x1 0.2:2x1",
+    "a a / b b / | merge horizontal name a | in place | a a / b b /",
+    "a a / a a / a a / | merge horizontal rows 0 9; merge vertical all | in place | a a / a a / a a / 0.0:1x2 1.0:1x2 2.0:1x2",
+    "a / a / a / a / | merge vertical column 0; merge vertical column 0 | in place | a / a / a / a / 0.0:4x1",
+    // The other pairings, and what lies outside.
+    "a a / a a / | merge vertical rows 0 2; merge horizontal columns 0 2; merge vertical frame; merge horizontal cell 0 0 | in place | a a / a a /",
+    "a a / a a / | merge vertical column 2; merge horizontal row 10000 | in place | a a / a a /",
+    // Anchors and hidden cells end a run.
+    "a a / a a / a a / a a / 2.0:1x2 | merge vertical column 1 | in place | a a / a a / a a / a a / 0.1:2x1 2.0:1x2",
+    "a a a a / b b b b / 0.1:2x1 | merge horizontal row 0; merge horizontal row 1 | in place | a a a a / b b b b / 0.1:2x1 0.2:1x2 1.2:1x2",
     // Without cells.
     " | vmerge; hmerge | in place | ",
     "a / | vmerge; hmerge | in place | a /",

@@ -19,6 +19,8 @@ const CASES: &[&str] = &[
     "a\u{7} b c\u{7} / | clean all | set !0 | set a b c\u{7} / !0 | a b c /",
     "a b / | set all p\\tq; clean all | set !0 | set p\tq b / !0 | set p\tq p\tq / !1 | set pq p\tq / !1 | pq pq /",
     "a b / | set all p\\tq; tabs 0 all | set !0 | set p\tq b / !0 | set p\tq p\tq / !1 | set pq p\tq / !1 | pq pq /",
+    "abcde b / | wrap 3 all | set !0 | abc\nde b /",
+    "abcde b / | wrap 5 all; wrap 0 column 1 | abcde _ /",
     // Steps after one another, of which some are one.
     "a b / c d / |  | in place | a b / c d /",
     "a b / c d / | rotate top; split column 9 zip clean | in place | c d / a b /",
