@@ -17,7 +17,7 @@ use Rattle.tabled_settings.specs.declared.split.Display.{Display}
 use Rattle.tabled_settings.specs.declared.split.Display.TheVariants as display
 use Rattle.tabled_spans.specs.Widths as widths
 use Rattle.tabled_steps.specs.Selected.{half_open}
-use Rattle.tabled_steps.specs.States.{State, cut_lines, duplicate, join, merge, on_each, put_panel, rearrange, recode, remove_named, remove_range, reverse, set, span}
+use Rattle.tabled_steps.specs.States.{State, cut_lines, duplicate, join, merge, merge_all, on_each, put_panel, rearrange, recode, remove_named, remove_range, reverse, set, span}
 use Rattle.tabled_language.specs.declared.fault.Fault.{Fault}
 use Rattle.tabled_language.specs.declared.fault.Fault.TheVariants.{WordCount}
 use Rattle.tabled_language.specs.Selectors.{reads_cells}
@@ -106,6 +106,10 @@ reads_tabs = then_reads reads_number (λ n. then_reads reads_cells (λ named. gi
 abbrev pub reads_span : Axis → Reading (State → State)
 reads_span axis = then_reads reads_integer (λ size. then_reads reads_cells (λ named. gives (on_each (span axis size) named)))
 
+-- `vertical` or `horizontal`, and a selector of cells whose equal neighbours are merged
+abbrev pub reads_merge : Reading (State → State)
+reads_merge = then_reads reads_side (λ axis. then_reads reads_cells (λ named. gives (on_each (merge axis) named)))
+
 -- the text of a row above all others
 abbrev pub reads_header : Reading (State → State)
 reads_header = then_reads reads_text (λ text. gives (put_panel Rows 0 text))
@@ -159,8 +163,9 @@ steps =
     ∷ (codes "tabs", reads_tabs)
     ∷ (codes "cspan", reads_span Columns)
     ∷ (codes "rspan", reads_span Rows)
-    ∷ (codes "vmerge", gives (merge Rows))
-    ∷ (codes "hmerge", gives (merge Columns))
+    ∷ (codes "vmerge", gives (merge_all Rows))
+    ∷ (codes "hmerge", gives (merge_all Columns))
+    ∷ (codes "merge", reads_merge)
     ∷ (codes "header", reads_header)
     ∷ (codes "footer", reads_footer)
     ∷ (codes "hpanel", reads_panel Rows)

@@ -19,7 +19,7 @@ impl<'a> Words<'a> {
     ghost use Rattle.tabled_grid.specs.Grid.{map_grid};
     ghost use Rattle.tabled_grid.specs.declared.records.axis.Axis.TheVariants.{Columns, Rows};
     ghost use Rattle.tabled_language.specs.Parsing.{Reads, TakesWords, cell_texts};
-    ghost use Rattle.tabled_language.specs.Verb.{reads_clean, reads_concat, reads_cut_panel, reads_dup, reads_extract, reads_footer, reads_header, reads_panel, reads_reverse, reads_set, reads_span, reads_split, reads_table, reads_tabs, reads_turn, removals, rows_of_texts, steps};
+    ghost use Rattle.tabled_language.specs.Verb.{reads_clean, reads_concat, reads_cut_panel, reads_dup, reads_extract, reads_footer, reads_header, reads_merge, reads_panel, reads_reverse, reads_set, reads_span, reads_split, reads_table, reads_tabs, reads_turn, removals, rows_of_texts, steps};
     ghost use Rattle.tabled_language.specs.Words.{behind, reads_one_of};
     ghost use Rattle.tabled_steps.specs.States.{after};
 
@@ -41,6 +41,7 @@ impl<'a> Words<'a> {
             (6, "concat") => self.concat(alloc),
             (7, "extract") => self.extract(),
             (5, "split") => self.split(),
+            (5, "merge") => self.merge(alloc),
             (6, "header") => self.header(alloc),
             (6, "footer") => self.footer(alloc),
             (6, "hpanel") => self.panel(alloc, Axis::Rows),
@@ -92,6 +93,14 @@ impl<'a> Words<'a> {
             Axis::Rows => Step::RowSpan(size, select),
             Axis::Columns => Step::ColumnSpan(size, select),
         })
+    }
+
+    fn merge(&mut self, alloc: Global) -> Read<Step>
+        ensures { Reads after reads_merge self.old result self.new }
+    {
+        let axis = self.side()?;
+        let select = self.cells(alloc)?;
+        Ok(Step::Merge(axis, select))
     }
 
     fn header(&mut self, alloc: Global) -> Read<Step>

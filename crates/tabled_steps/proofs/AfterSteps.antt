@@ -1,6 +1,7 @@
 -- What a step does to a store is what its formula makes of the store's texts and merged cells.
 use Rattle.tabled_steps.proofs.Common.{[], ◌&&◌, ◌<◌, ◌∙◌, ◌∷◌, ◌≡◌, ◌≤◌, ◌⊎◌, Axis, Change, Columns, Does, Duplicates, Each, EachListed, Entity, Grid, IsEven-map_grid, JoinsAt, List, Merges, Names, Panels, Places, Position, Rearranges, Rows, Select, Some, SpanMap, State, Step, Write, after, after_all, ap, ap₂, arith, cases_Bool, cases_lt, cell_at, cells_along, columns_with, cond, corner_of, dup_writes, duplicate, extracted, false, fold, half_open, has_room, indexes, inl, inr, joined_tables, joined_text, le-ltb, lt-ltb, map, map_grid, merge, named_by, nat_lt, on_each, place, put_panel, rearrange, recode, refl, removed, reversed, rotated, rounds, selected, set, source_texts, span, state_of, string_bytes, true, unwrap_or, with_line_at, with_writes, ℕ}
 use Rattle.tabled_grid.proofs.Mapped.{map_grid-with_column, map_grid-with_row}
+use Rattle.tabled_grid.specs.declared.config.entity.Entity.TheVariants.{Global}
 use Rattle.tabled_settings.specs.declared.rotate.Rotate.{Rotate}
 use Rattle.tabled_settings.specs.declared.rotate.Rotate.TheVariants.{Left}
 use Rattle.tabled_steps.specs.declared.step.Step.TheVariants as step
@@ -64,8 +65,8 @@ module _ {A : Type 0} (text_of : A → List ℕ) where
             let same = panel.leaves crossed in
             rw (room axis line, crossed) (same_state _ _ _ _ (ap (map_grid text_of) same.0) same.1)
 
-    merged : (axis : Axis) → Merges text_of axis g c h d → state_of text_of h d ≡ merge axis (state_of text_of g c)
-    merged axis (cells, runs) = same_state _ _ _ _ (ap (map_grid text_of) cells) (is_merged axis (map_grid text_of g) c d runs)
+    merged : (axis : Axis) (e : Entity) → Merges text_of axis e g c h d → state_of text_of h d ≡ merge axis (state_of text_of g c) e
+    merged axis e (cells, runs) = same_state _ _ _ _ (ap (map_grid text_of) cells) (is_merged axis e (map_grid text_of g) c d runs)
 
     joined_at : (is_blank : A → Type 0) (axis : Axis) (second : Grid (List ℕ)) (default : List ℕ) → JoinsAt is_blank text_of (corner_of axis g.rows g.columns) second default g h → map_grid text_of h ≡ joined_tables axis second default (map_grid text_of g)
     joined_at is_blank axis second default joins = is_table_of text_of h _ _ (λ (p : Position). text p.row p.col) joins.first.even joins.first.rows joins.first.columns (λ a b k l. at a b (omega (arith, joins.first.rows, k)) (omega (arith, joins.first.columns, l)) (cases_lt a g.rows) (cases_lt b g.columns))
@@ -96,8 +97,9 @@ module _ {A : Type 0} (text_of : A → List ℕ) where
   after_step is_blank (step.VerticalPanel panel) g c h d does = panelled g c h d is_blank Columns panel.0 panel.1 does
   after_step is_blank (step.Header text) g c h d does = panelled g c h d is_blank Rows 0 text does
   after_step is_blank (step.Footer text) g c h d does = panelled g c h d is_blank Rows g.rows text does
-  after_step is_blank (step.MergeVertical _) g c h d does = merged g c h d Rows does
-  after_step is_blank (step.MergeHorizontal _) g c h d does = merged g c h d Columns does
+  after_step is_blank (step.MergeVertical _) g c h d does = merged g c h d Rows Global does
+  after_step is_blank (step.MergeHorizontal _) g c h d does = merged g c h d Columns Global does
+  after_step is_blank (step.Merge axis select) g c h d does = listed_is select _ (merge axis) (λ e g c h d w. merged g c h d axis e w) g c h d does
   after_step is_blank (step.Rotate rotate) g c h d does = rearranged g c h d (rotated rotate) (total-rotated rotate g.rows g.columns) does
   after_step is_blank (step.Reverse how) g c h d does = same_state _ _ _ _ (read_through text_of g h (reversed how.axis how.start how.limit g.rows g.columns) (λ p. (_, refl)) does.0) does.1
   after_step is_blank (step.Split how) g c h d does = same_state _ _ _ _ does.0.texts does.1

@@ -71,6 +71,7 @@ even_after (step.Header text) = even_panel Rows 0 text
 even_after (step.Footer text) = λ s. even_panel Rows s.texts.rows text s
 even_after (step.MergeVertical _) = λ s even. even
 even_after (step.MergeHorizontal _) = λ s even. even
+even_after (step.Merge axis select) = even_on_each _ select (λ e s even. even)
 even_after (step.Rotate rotate) = even_rearranged (rotated rotate)
 even_after (step.Reverse how) = λ s even. even_read (reversed how.axis how.start how.limit s.texts.rows s.texts.columns) s
 even_after (step.Split how) = λ s. even_split how s.texts

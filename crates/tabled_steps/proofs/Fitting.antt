@@ -1,5 +1,6 @@
 -- Steps that keep merged cells inside the table and apart.
 use Rattle.tabled_steps.proofs.Common.{[], ◌∷◌, AllByRecursion, Axis, Change, Columns, Does, Each, EachListed, EachUntil, Entity, Fits, Grid, Leaves, LeavesFirst, List, Merges, Names, OptionKeeps, Panels, Refused, Rows, Same, Select, SpanMap, Step, charset_writes, columns_with, extracted, half_open, indexes, map_grid, removed, rotated, string_bytes, text_writes, writes_keep, ℕ}
+use Rattle.tabled_grid.specs.declared.config.entity.Entity.TheVariants.{Global}
 use Rattle.tabled_options.proofs.Keeps.{keeps_all, keeps_copied, keeps_in_order, keeps_listed}
 use Rattle.tabled_settings.proofs.RearrangedFits.{join_keeps, rearranged_keeps, reversal_keeps, split_keeps}
 use Rattle.tabled_settings.proofs.WritersKeep.{duplicates_keep}
@@ -20,8 +21,8 @@ module _ {A : Type 0} (is_blank : A → Type 0) (text_of : A → List ℕ) where
   panels : (axis : Axis) (line : Grid A → ℕ) (text : List ℕ) → OptionKeeps fitting (λ g. Panels is_blank text_of axis (line g) text g) Same
   panels axis line text = record { done = λ g m h n fits does. panels_fit is_blank text_of axis (line g) text g m h n fits does; refused = same_fits }
 
-  merges : (axis : Axis) → OptionKeeps fitting (Merges text_of axis) Same
-  merges axis = record { done = λ g m h n fits does. rw does.0 (fits_merged axis (map_grid text_of g) m n does.1 fits); refused = same_fits }
+  merges : (axis : Axis) (e : Entity) → OptionKeeps fitting (Merges text_of axis e) Same
+  merges axis e = record { done = λ g m h n fits does. rw does.0 (fits_merged axis e (map_grid text_of g) m n does.1 fits); refused = same_fits }
 
   pub step_keeps : (s : Step) → KeepsCellsFitting s → OptionKeeps fitting (Does is_blank text_of s) (Leaves is_blank text_of s)
   step_keeps (step.Set select text) _ = on_entities select _ _ (λ e. writes_keep text_of (text_writes (string_bytes text) e))
@@ -33,8 +34,9 @@ module _ {A : Type 0} (is_blank : A → Type 0) (text_of : A → List ℕ) where
   step_keeps (step.VerticalPanel panel) _ = panels Columns (λ g. panel.0) panel.1
   step_keeps (step.Header text) _ = panels Rows (λ g. 0) text
   step_keeps (step.Footer text) _ = panels Rows (λ g. g.rows) text
-  step_keeps (step.MergeVertical _) _ = merges Rows
-  step_keeps (step.MergeHorizontal _) _ = merges Columns
+  step_keeps (step.MergeVertical _) _ = merges Rows Global
+  step_keeps (step.MergeHorizontal _) _ = merges Columns Global
+  step_keeps (step.Merge axis select) _ = on_entities select _ _ (merges axis)
   step_keeps (step.Rotate rotate) _ = rearranged_keeps (λ g. rotated rotate g.rows g.columns)
   step_keeps (step.Reverse how) _ = reversal_keeps how.axis how.start how.limit
   step_keeps (step.Split how) _ = split_keeps is_blank text_of how

@@ -6,6 +6,7 @@ pub mod Fitting
 pub mod GoneOver
 pub mod GroupSteps
 pub mod LocalChanges
+pub mod LocalMerges
 pub mod MergedRuns
 pub mod NamesNone
 pub mod Outside

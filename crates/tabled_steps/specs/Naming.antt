@@ -19,6 +19,7 @@ names_nothing (step.Dup destination source) g = names_none destination g || name
 names_nothing (step.Charset charset select) g = names_none select g
 names_nothing (step.ColumnSpan size select) g = names_none select g
 names_nothing (step.RowSpan size select) g = names_none select g
+names_nothing (step.Merge axis select) g = names_none select g
 names_nothing (step.Extract a b c d) g = names_none (select.Segment a b c d) g
 names_nothing (step.RemoveRows a b) g = names_none (select.Rows a b) g
 names_nothing (step.RemoveColumns a b) g = names_none (select.Columns a b) g

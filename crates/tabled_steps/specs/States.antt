@@ -6,6 +6,7 @@ use Rattle.tabled_grid.specs.Bounds.{indexes}
 use Rattle.tabled_grid.specs.Grid.{Grid, map_grid}
 use Rattle.tabled_grid.specs.Spans.{SpanMap, with_sizes}
 use Rattle.tabled_grid.specs.declared.config.entity.Entity.{Entity}
+use Rattle.tabled_grid.specs.declared.config.entity.Entity.TheVariants.{Global}
 use Rattle.tabled_grid.specs.declared.records.axis.Axis.{Axis}
 use Rattle.tabled_grid.specs.declared.records.axis.Axis.TheVariants.{Rows, Columns}
 use Rattle.tabled_options.specs.Does.{Change, Each, EachUntilAt}
@@ -64,9 +65,13 @@ duplicate destination source s = record s { texts = with_writes (dup_writes (sou
 abbrev pub put_panel : Axis → ℕ → List ℕ → State → State
 put_panel axis line text s = if has_room axis line s.texts s.spans then record { texts = with_line_at axis line (text ∷ replicate (cells_along axis s.texts - 1) []) s.texts; spans = with_panel axis line (cells_along axis s.texts) s.spans } else s
 
--- a rectangle for each run of equal neighbours
-abbrev pub merge : Axis → State → State
-merge axis s = record s { spans = with_sizes s.spans (runs axis s.texts s.spans) }
+-- a rectangle for each run of equal neighbours among the cells of an entity
+abbrev pub merge : Axis → State → Entity → State
+merge axis s e = record s { spans = with_sizes s.spans (runs axis e s.texts s.spans) }
+
+-- the same of all cells
+abbrev pub merge_all : Axis → State → State
+merge_all axis s = merge axis s Global
 
 -- the texts, read through a map of places, and the merged cells, carried along
 abbrev pub rearrange : (ℕ → ℕ → Places) → State → State
@@ -105,8 +110,9 @@ after (step.HorizontalPanel panel) = put_panel Rows panel.0 panel.1
 after (step.VerticalPanel panel) = put_panel Columns panel.0 panel.1
 after (step.Header text) = put_panel Rows 0 text
 after (step.Footer text) = λ s. put_panel Rows s.texts.rows text s
-after (step.MergeVertical _) = merge Rows
-after (step.MergeHorizontal _) = merge Columns
+after (step.MergeVertical _) = merge_all Rows
+after (step.MergeHorizontal _) = merge_all Columns
+after (step.Merge axis select) = on_each (merge axis) (named_by select)
 after (step.Rotate rotate) = rearrange (rotated rotate)
 after (step.Reverse how) = reverse how
 after (step.Split how) = cut_lines how

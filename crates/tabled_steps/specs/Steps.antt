@@ -5,6 +5,7 @@ use Rattle.tabled_grid.specs.Entity.{inside}
 use Rattle.tabled_grid.specs.Grid.{Grid, map_grid}
 use Rattle.tabled_grid.specs.Spans.{SpanMap}
 use Rattle.tabled_grid.specs.declared.config.entity.Entity.{Entity}
+use Rattle.tabled_grid.specs.declared.config.entity.Entity.TheVariants.{Global}
 use Rattle.tabled_grid.specs.declared.records.axis.Axis.{Axis}
 use Rattle.tabled_grid.specs.declared.records.axis.Axis.TheVariants.{Rows, Columns}
 use Rattle.tabled_options.specs.Does.{AfterNeverRefused, Change, EachListed, EachListedUntil, EachUntilAt, Same, SameOr, Then, ThenLeaves}
@@ -24,7 +25,7 @@ use Rattle.tabled_settings.specs.declared.rotate.Rotate.TheVariants.{Bottom, Top
 use Rattle.tabled_settings.specs.declared.split.Split.{Split}
 use Rattle.tabled_grid.specs.Bounds.{indexes}
 use Rattle.tabled_spans.specs.Panels.{Panels, has_room}
-use Rattle.tabled_spans.specs.Runs.{MergesRuns}
+use Rattle.tabled_spans.specs.Runs.{MergesRuns, NamesNoNeighbours}
 use Rattle.tabled_spans.specs.Spanned.{SpanTakesNoMemory, Spans, SpansFirst}
 use Rattle.tabled_steps.specs.Selected.{half_open, selected, single}
 use Rattle.tabled_steps.specs.declared.select.Select.{Select}
@@ -47,9 +48,9 @@ Cuts is_blank text_of s g c h d = Splits is_blank text_of s g h × (d ≡ carrie
 abbrev pub JoinsTables : {A : Type 0} → (A → Type 0) → (A → List ℕ) → Axis → Grid (List ℕ) → List ℕ → Change A SpanMap
 JoinsTables is_blank text_of axis second default g c h d = JoinsAt is_blank text_of (corner_of axis g.rows g.columns) second default g h × (d ≡ carried (joined_places (corner_of axis g.rows g.columns) second g.rows g.columns) g.rows g.columns c)
 
--- runs of equal neighbours are merged, and cells stay
-abbrev pub Merges : {A : Type 0} → (A → List ℕ) → Axis → Change A SpanMap
-Merges text_of axis g c h d = (h ≡ g) × MergesRuns axis (map_grid text_of g) c d
+-- runs of equal neighbours among the cells of an entity are merged, and cells stay
+abbrev pub Merges : {A : Type 0} → (A → List ℕ) → Axis → Entity → Change A SpanMap
+Merges text_of axis e g c h d = (h ≡ g) × MergesRuns axis e (map_grid text_of g) c d
 
 -- what a step does
 abbrev pub Does : {A : Type 0} → (A → Type 0) → (A → List ℕ) → Step → Change A SpanMap
@@ -62,8 +63,9 @@ Does is_blank text_of (step.HorizontalPanel panel) = Panels is_blank text_of Row
 Does is_blank text_of (step.VerticalPanel panel) = Panels is_blank text_of Columns panel.0 panel.1
 Does is_blank text_of (step.Header text) = Panels is_blank text_of Rows 0 text
 Does is_blank text_of (step.Footer text) = λ g. Panels is_blank text_of Rows g.rows text g
-Does is_blank text_of (step.MergeVertical _) = Merges text_of Rows
-Does is_blank text_of (step.MergeHorizontal _) = Merges text_of Columns
+Does is_blank text_of (step.MergeVertical _) = Merges text_of Rows Global
+Does is_blank text_of (step.MergeHorizontal _) = Merges text_of Columns Global
+Does is_blank text_of (step.Merge axis select) = EachListed (Names text_of select) (Merges text_of axis)
 Does is_blank text_of (step.Rotate rotate) = λ g. Rearranges (rotated rotate g.rows g.columns) g
 Does is_blank text_of (step.Reverse reverse) = Reverses reverse
 Does is_blank text_of (step.Split split) = Cuts is_blank text_of split
@@ -85,6 +87,7 @@ Leaves is_blank text_of (step.Dup destination source) = DuplicatesFirst text_of 
 Leaves is_blank text_of (step.Charset charset select) = LeavesFirst text_of select (λ e. DoesWrites text_of (charset_writes charset e)) (λ e. DoesFirstWrites text_of (charset_writes charset e))
 Leaves is_blank text_of (step.ColumnSpan size select) = LeavesFirst text_of select (Spans text_of Columns size) (SpansFirst text_of Columns size)
 Leaves is_blank text_of (step.RowSpan size select) = LeavesFirst text_of select (Spans text_of Rows size) (SpansFirst text_of Rows size)
+Leaves is_blank text_of (step.Merge axis select) = LeavesFirst text_of select (Merges text_of axis) (λ _. Same)
 Leaves is_blank text_of (step.Both' _ first _ second) = ThenLeaves (Does is_blank text_of first) (Leaves is_blank text_of first) (Leaves is_blank text_of second)
 Leaves is_blank text_of _ = Same
 
@@ -94,6 +97,7 @@ TakesNoMemory is_blank text_of (step.Set select _) g c = IsSomeAnd (single selec
 TakesNoMemory is_blank text_of (step.Charset charset select) g c = IsSomeAnd (single select) (λ e. (is_set charset ≡ false) ⊎ (inside e g.rows g.columns ≡ []))
 TakesNoMemory is_blank text_of (step.ColumnSpan size select) g c = IsSomeAnd (single select) (λ e. SpanTakesNoMemory size e g.rows g.columns)
 TakesNoMemory is_blank text_of (step.RowSpan size select) g c = IsSomeAnd (single select) (λ e. SpanTakesNoMemory size e g.rows g.columns)
+TakesNoMemory is_blank text_of (step.Merge axis select) g c = IsSomeAnd (single select) (λ e. NamesNoNeighbours axis e g)
 TakesNoMemory is_blank text_of (step.HorizontalPanel panel) g c = has_room Rows panel.0 g c ≡ false
 TakesNoMemory is_blank text_of (step.VerticalPanel panel) g c = has_room Columns panel.0 g c ≡ false
 TakesNoMemory is_blank text_of (step.Header _) g c = has_room Rows 0 g c ≡ false

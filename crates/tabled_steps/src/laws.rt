@@ -3,6 +3,7 @@
 ghost use Rattle.std.specs.Prelude.{List, ℕ};
 ghost use Rattle.tabled_grid.specs.Grid.{Grid, IsEven};
 ghost use Rattle.tabled_grid.specs.Spans.{SpanMap, with_sizes};
+ghost use Rattle.tabled_grid.specs.declared.config.entity.Entity.{Entity};
 ghost use Rattle.tabled_grid.specs.declared.records.axis.Axis.{Axis};
 ghost use Rattle.tabled_grid.specs.declared.records.axis.Axis.TheVariants.{Columns, Rows};
 ghost use Rattle.tabled_options.specs.Does.{Each};
@@ -53,9 +54,10 @@ pub fn formulas_keep_tables_even()
 {}
 
 /// The runs that the formula of a merge lists are the longest ones of two or more cells next to each other
-/// that are visible and no anchors, and have equal texts: in the map with their sizes exactly they are merged.
+/// that an entity names, are visible and no anchors, and have equal texts: in the map with their sizes exactly
+/// they are merged.
 pub fn listed_runs_are_the_longest_ones()
-    ensures merges { (axis : Axis) (g : Grid (List ℕ)) (m : SpanMap) → MergesRuns axis g m (with_sizes m (runs axis g m)) }
+    ensures merges { (axis : Axis) (e : Entity) (g : Grid (List ℕ)) (m : SpanMap) → MergesRuns axis e g m (with_sizes m (runs axis e g m)) }
 {}
 
 /// Two stores, of whatever kind, with equal texts and merged cells have equal ones after the same steps.
@@ -85,6 +87,8 @@ where
     ensures charset { ActOnListed R.Cell.is_blank R.Cell.text_of ⟦<Select as Object<R>>⟧ step.Charset ⟦<Charset as CellOption<R, SpannedConfig>>⟧ }
     ensures column_span { ActOnListed R.Cell.is_blank R.Cell.text_of ⟦<Select as Object<R>>⟧ step.ColumnSpan ⟦<ColumnSpan as CellOption<R, SpannedConfig>>⟧ }
     ensures row_span { ActOnListed R.Cell.is_blank R.Cell.text_of ⟦<Select as Object<R>>⟧ step.RowSpan ⟦<RowSpan as CellOption<R, SpannedConfig>>⟧ }
+    ensures merge_vertical { ActOnListed R.Cell.is_blank R.Cell.text_of ⟦<Select as Object<R>>⟧ (λ _ to. step.Merge Rows to) ⟦<MergeDuplicatesVertical as CellOption<R, SpannedConfig>>⟧ }
+    ensures merge_horizontal { ActOnListed R.Cell.is_blank R.Cell.text_of ⟦<Select as Object<R>>⟧ (λ _ to. step.Merge Columns to) ⟦<MergeDuplicatesHorizontal as CellOption<R, SpannedConfig>>⟧ }
 {}
 
 /// A step around an option on tables does, and refused leaves, what the option does and leaves.

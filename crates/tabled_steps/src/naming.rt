@@ -54,6 +54,7 @@ impl Step {
             Step::Charset(_, select) => select.names_none(alloc, records),
             Step::ColumnSpan(_, select) => select.names_none(alloc, records),
             Step::RowSpan(_, select) => select.names_none(alloc, records),
+            Step::Merge(_, select) => select.names_none(alloc, records),
             Step::Extract(a, b, c, d) => {
                 Select::Segment(*a, *b, *c, *d).names_none(alloc, records)
             }

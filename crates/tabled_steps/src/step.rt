@@ -9,7 +9,7 @@ use crate::select::Select;
 use std::alloc::{AllocError, Global};
 use tabled_grid::config::{Entity, SpannedConfig};
 use tabled_grid::records::{
-    CellText, ExactRecords, PeekableRecords, Records, RecordsMut, Resizable,
+    Axis, CellText, ExactRecords, PeekableRecords, Records, RecordsMut, Resizable,
 };
 use tabled_options::TableOption;
 use tabled_select::location::ByColumnName;
@@ -22,7 +22,7 @@ use tabled_settings::formatting::Charset;
 use tabled_settings::reverse::Reverse;
 use tabled_settings::rotate::Rotate;
 use tabled_settings::split::Split;
-use tabled_spans::merge::{MergeDuplicatesHorizontal, MergeDuplicatesVertical};
+use tabled_spans::merge::{Merge, MergeDuplicatesHorizontal, MergeDuplicatesVertical};
 use tabled_spans::panel::{Footer, Header, HorizontalPanel, VerticalPanel};
 use tabled_spans::span::Span;
 
@@ -52,6 +52,8 @@ pub enum Step {
     MergeVertical(MergeDuplicatesVertical),
     /// Merges equal neighbours in rows.
     MergeHorizontal(MergeDuplicatesHorizontal),
+    /// Merges equal neighbours among the cells of each entity: in its columns, along its rows, or the other way round.
+    Merge(Axis, Select),
     Rotate(Rotate),
     Reverse(Reverse),
     Split(Split),
@@ -105,6 +107,10 @@ impl Step {
             Step::Footer(footer) => footer.change(alloc, records, cfg, dimension),
             Step::MergeVertical(merge) => merge.change(alloc, records, cfg, dimension),
             Step::MergeHorizontal(merge) => merge.change(alloc, records, cfg, dimension),
+            Step::Merge(axis, select) => match axis {
+                Axis::Rows => change_each(alloc, records, cfg, select, Merge::vertical()),
+                Axis::Columns => change_each(alloc, records, cfg, select, Merge::horizontal()),
+            },
             Step::Rotate(rotate) => rotate.change(alloc, records, cfg, dimension),
             Step::Reverse(reverse) => reverse.change(alloc, records, cfg, dimension),
             Step::Split(split) => split.change(alloc, records, cfg, dimension),

@@ -1,3 +1,4 @@
+use Rattle.tabled_grid.specs.declared.records.axis.Axis.TheVariants.{Columns, Rows}
 use Rattle.tabled_steps.specs.declared.step.Step.TheVariants as step
 use Rattle.tabled_steps.proofs.Acts.{acts}
 use Rattle.tabled_steps.proofs.laws.steps_do_what_cell_options_do.Goals as goal
@@ -10,4 +11,6 @@ returns g c =
       charset = λ charset select. acts g.R.Cell.Blank.is_blank text_of (step.Charset charset select);
       column_span = λ size select. acts g.R.Cell.Blank.is_blank text_of (step.ColumnSpan size select);
       row_span = λ size select. acts g.R.Cell.Blank.is_blank text_of (step.RowSpan size select);
+      merge_vertical = λ _ select. acts g.R.Cell.Blank.is_blank text_of (step.Merge Rows select);
+      merge_horizontal = λ _ select. acts g.R.Cell.Blank.is_blank text_of (step.Merge Columns select);
     }

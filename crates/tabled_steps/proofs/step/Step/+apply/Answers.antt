@@ -2,6 +2,7 @@ use Rattle.tabled_steps.proofs.Common.{Columns, IfErr-weaker, Rows, charset_writ
 use Rattle.std.proofs.lemmas.Int.{to_z-of_z}
 use mir.Val.{SFits}
 use Rattle.tabled_steps.proofs.LocalChanges.{local_charset, local_spans, local_text, local_writes}
+use Rattle.tabled_steps.proofs.LocalMerges.{local_merges}
 use Rattle.tabled_steps.proofs.RepresentedPlaces.{duplicated_represented, duplicated_represented_refused}
 use Rattle.tabled_steps.proofs.step.Step.+apply.Goals as goal
 
@@ -42,6 +43,30 @@ pub returns-in-RowSpan-clause-err : goal.returns-in-RowSpan-clause-err
 returns-in-RowSpan-clause-err g n c =
     let fits : SFits w64 c.in-RowSpan.size = search rules in
     rw c.in-RowSpan.is (rw (c.row.ensures, to_z-of_z w64 c.in-RowSpan.size fits) at c.change_each-in-RowSpan.ensures.err)
+
+pub change_each-requires-in-Rows-clause-local : goal.change_each-requires-in-Rows-clause-local
+change_each-requires-in-Rows-clause-local g n c = local_merges g.R.Cell.CellText.text_of Rows
+
+pub change_each-requires-in-Columns-clause-local : goal.change_each-requires-in-Columns-clause-local
+change_each-requires-in-Columns-clause-local g n c = local_merges g.R.Cell.CellText.text_of Columns
+
+pub returns-in-Rows-clause-ok : goal.returns-in-Rows-clause-ok
+returns-in-Rows-clause-ok g n c = rw (c.in-Merge.is, c.in-Rows.is) c.change_each-in-Rows.ensures.ok
+
+pub returns-in-Rows-clause-err : goal.returns-in-Rows-clause-err
+returns-in-Rows-clause-err g n c = rw (c.in-Merge.is, c.in-Rows.is) c.change_each-in-Rows.ensures.err
+
+pub returns-in-Rows-clause-promised : goal.returns-in-Rows-clause-promised
+returns-in-Rows-clause-promised g n c = rw (c.in-Merge.is, c.in-Rows.is) c.change_each-in-Rows.ensures.promised
+
+pub returns-in-Columns-clause-ok : goal.returns-in-Columns-clause-ok
+returns-in-Columns-clause-ok g n c = rw (c.in-Merge.is, c.in-Columns.is) c.change_each-in-Columns.ensures.ok
+
+pub returns-in-Columns-clause-err : goal.returns-in-Columns-clause-err
+returns-in-Columns-clause-err g n c = rw (c.in-Merge.is, c.in-Columns.is) c.change_each-in-Columns.ensures.err
+
+pub returns-in-Columns-clause-promised : goal.returns-in-Columns-clause-promised
+returns-in-Columns-clause-promised g n c = rw (c.in-Merge.is, c.in-Columns.is) c.change_each-in-Columns.ensures.promised
 
 pub returns-in-HorizontalPanel-clause-ok : goal.returns-in-HorizontalPanel-clause-ok
 returns-in-HorizontalPanel-clause-ok g n c = rw c.in-HorizontalPanel.is c.change-in-HorizontalPanel.ensures.ok
