@@ -33,8 +33,12 @@ pub fn puts_panels_in(alloc: Global, table: &mut Table) -> Result<(), AllocError
     table.with(alloc, side.width(alloc, 2)?)
 }
 
-/// Merges cells of equal texts.
+/// Merges cells of equal texts: in the first column, in the last row, and then in all.
 pub fn merges(alloc: Global, table: &mut Table) -> Result<(), AllocError> {
+    use tabled_select::object::{Columns, Rows};
+
+    table.modify(alloc, Columns::first(), Merge::vertical())?;
+    table.modify(alloc, Rows::last(), Merge::horizontal())?;
     table.with(alloc, Merge::vertical())?;
     table.with(alloc, Merge::horizontal())
 }
