@@ -1,4 +1,4 @@
-use Rattle.tabled_script.proofs.Common.{[], ◌++◌, ◌∙◌, ◌∷◌, Sends, ap, arith, codes, escaped, flat_map, line, map, on_ok_weaker, refl, subst, sym, take, take_all}
+use Rattle.tabled_script.proofs.Common.{[], ◌++◌, ◌∙◌, ◌∷◌, Sends, ap, arith, codes, escaped, flat_map, get_or_default, line, map, on_ok_weaker, refl, slice_index_or, subst, sym, take, take_all}
 use Rattle.tabled_csv.specs.Texts.{text_of}
 use Rattle.tabled_script.proofs.OutputLines.{line-pieces, pushed_more}
 use Rattle.tabled_script.proofs.Sent.{sends_more, sends_next, sends_none}
@@ -17,10 +17,9 @@ loop-text-preserved g c =
     let texts = c.args.texts.now in
     let i = c.loop-text.text-index in
     let before = codes "row" ++ flat_map word (take i texts) in
-    let more = pushed_more word (codes "row") before texts i c.text-item.result c.loop-text-test.true c.text-item.is refl in
     record {
-      sends = subst (Sends (contents c.args.writer.now) c.args.held.now (contents c.write_word.new.writer) c.write_word.new.held) more
-          (sends_more (contents c.args.writer.now) (contents c.loop-text.writer) (contents c.write_word.new.writer) c.args.held.now c.loop-text.held c.write_word.new.held before (9 ∷ escaped (text_of c.text-item.result)) c.loop-text.invariant.sends c.in_ok-write_word.ensures.sends);
+      sends = subst (Sends (contents c.args.writer.now) c.args.held.now (contents c.write_word.new.writer) c.write_word.new.held) (pushed_more word (codes "row") before texts i (slice_index_or texts i _) c.loop-text-test.true (get_or_default texts i _ _ c.loop-text-test.true) refl)
+          (sends_more (contents c.args.writer.now) (contents c.loop-text.writer) (contents c.write_word.new.writer) c.args.held.now c.loop-text.held c.write_word.new.held before (9 ∷ escaped (text_of (slice_index_or texts i _))) c.loop-text.invariant.sends c.in_ok-write_word.ensures.sends);
       less = omega (arith, c.in_ok-write_word.ensures.less);
     }
 
