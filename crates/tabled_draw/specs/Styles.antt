@@ -8,36 +8,47 @@ use Rattle.tabled_draw.specs.declared.style.TheConstants.Style.{ASCII, ASCII_ROU
 abbrev pub ascii : Style
 ascii = ASCII
 
+-- boxes of thin lines
 abbrev pub modern : Style
 modern = MODERN
 
+-- the same with round corners, and one line between rows, below the first
 abbrev pub rounded : Style
 rounded = ROUNDED
 
+-- the same with sharp corners
 abbrev pub sharp : Style
 sharp = SHARP
 
+-- boxes of double lines
 abbrev pub extended : Style
 extended = EXTENDED
 
+-- as psql writes tables
 abbrev pub psql : Style
 psql = PSQL
 
+-- as Markdown has tables
 abbrev pub markdown : Style
 markdown = MARKDOWN
 
+-- as reStructuredText has tables
 abbrev pub re_structured_text : Style
 re_structured_text = RE_STRUCTURED_TEXT
 
+-- lines of dots and colons
 abbrev pub dots : Style
 dots = DOTS
 
+-- ASCII, with round corners
 abbrev pub ascii_rounded : Style
 ascii_rounded = ASCII_ROUNDED
 
+-- a blank between columns, and no other lines
 abbrev pub blank : Style
 blank = BLANK
 
+-- no lines
 abbrev pub empty : Style
 empty = EMPTY
 
