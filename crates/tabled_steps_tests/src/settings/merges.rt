@@ -44,7 +44,13 @@ where
 {
     match axis {
         Rows => TableOption::change(Merge::vertical(), alloc, &mut records, &mut cfg, &mut ())?,
-        Columns => TableOption::change(Merge::horizontal(), alloc, &mut records, &mut cfg, &mut ())?,
+        Columns => TableOption::change(
+            Merge::horizontal(),
+            alloc,
+            &mut records,
+            &mut cfg,
+            &mut (),
+        )?,
     }
     spelled_merged(alloc, &records, &cfg)
 }
@@ -53,11 +59,36 @@ where
 fn merges_join_the_runs_of_an_entity(rt: HostRuntime) -> Result<(), Fail> {
     let alloc = rt.alloc();
     for &(old, axis, entity, new) in &[
-        ("a a / a a / b a /", Rows, Column(0), "a a / a a / b a / 0.0:2x1"),
-        ("a a / a a / b a /", Rows, Column(1), "a a / a a / b a / 0.1:3x1"),
-        ("a a / a a / b a /", Columns, Row(1), "a a / a a / b a / 1.0:1x2"),
-        ("a a / a a / b a /", Rows, Entity::Global, "a a / a a / b a / 0.0:2x1 0.1:3x1"),
-        ("a a / a a / b a /", Columns, Entity::Global, "a a / a a / b a / 0.0:1x2 1.0:1x2"),
+        (
+            "a a / a a / b a /",
+            Rows,
+            Column(0),
+            "a a / a a / b a / 0.0:2x1",
+        ),
+        (
+            "a a / a a / b a /",
+            Rows,
+            Column(1),
+            "a a / a a / b a / 0.1:3x1",
+        ),
+        (
+            "a a / a a / b a /",
+            Columns,
+            Row(1),
+            "a a / a a / b a / 1.0:1x2",
+        ),
+        (
+            "a a / a a / b a /",
+            Rows,
+            Entity::Global,
+            "a a / a a / b a / 0.0:2x1 0.1:3x1",
+        ),
+        (
+            "a a / a a / b a /",
+            Columns,
+            Entity::Global,
+            "a a / a a / b a / 0.0:1x2 1.0:1x2",
+        ),
         // The other pairings, and what lies outside.
         ("a a / a a /", Rows, Row(0), "a a / a a /"),
         ("a a / a a /", Columns, Column(0), "a a / a a /"),
@@ -67,13 +98,37 @@ fn merges_join_the_runs_of_an_entity(rt: HostRuntime) -> Result<(), Fail> {
         ("a a / a a /", Columns, Row(usize::MAX), "a a / a a /"),
         ("", Rows, Column(0), ""),
         // Hidden cells and anchors end a run, also those that reach in from beside it.
-        ("a a / a a / a a / a a / 2.0:1x2", Rows, Column(1), "a a / a a / a a / a a / 0.1:2x1 2.0:1x2"),
-        ("a a / a a / a a / a a / 2.0:1x2", Rows, Column(0), "a a / a a / a a / a a / 0.0:2x1 2.0:1x2"),
-        ("a a a a / a b b b / 0.1:2x1", Columns, Row(1), "a a a a / a b b b / 0.1:2x1 1.2:1x2"),
+        (
+            "a a / a a / a a / a a / 2.0:1x2",
+            Rows,
+            Column(1),
+            "a a / a a / a a / a a / 0.1:2x1 2.0:1x2",
+        ),
+        (
+            "a a / a a / a a / a a / 2.0:1x2",
+            Rows,
+            Column(0),
+            "a a / a a / a a / a a / 0.0:2x1 2.0:1x2",
+        ),
+        (
+            "a a a a / a b b b / 0.1:2x1",
+            Columns,
+            Row(1),
+            "a a a a / a b b b / 0.1:2x1 1.2:1x2",
+        ),
     ] {
         let made = on_entity(alloc, flat(alloc, old)?, merged(alloc, old)?, axis, entity)?;
-        let in_rows = on_entity(alloc, nested(alloc, old)?, merged(alloc, old)?, axis, entity)?;
-        assert!(rt; made.as_str() == new && in_rows.as_str() == new, "{old}: {made}");
+        let in_rows = on_entity(
+            alloc,
+            nested(alloc, old)?,
+            merged(alloc, old)?,
+            axis,
+            entity,
+        )?;
+        assert!(rt;
+            made.as_str() == new && in_rows.as_str() == new,
+            "{old}: {made}"
+        );
     }
     Ok(())
 }
@@ -90,7 +145,13 @@ fn a_merge_on_a_table_is_that_of_all_cells(rt: HostRuntime) -> Result<(), Fail> 
     ] {
         for &axis in &[Rows, Columns] {
             let one = on_table(alloc, flat(alloc, old)?, merged(alloc, old)?, axis)?;
-            let other = on_entity(alloc, flat(alloc, old)?, merged(alloc, old)?, axis, Entity::Global)?;
+            let other = on_entity(
+                alloc,
+                flat(alloc, old)?,
+                merged(alloc, old)?,
+                axis,
+                Entity::Global,
+            )?;
             assert!(rt; one.as_str() == other.as_str(), "{old}");
         }
     }
