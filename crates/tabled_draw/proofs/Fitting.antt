@@ -6,7 +6,7 @@ use Rattle.tabled_grid.proofs.Fitting.{anchors-fitting, anchors-of, keep_fitting
 use Rattle.tabled_grid.proofs.SortedAnchors.{anchors-of}
 
 -- the merged cells that are kept are those that fit
-kept-entries : (m : SpanMap) (rows columns : ℕ) → AreSpanSizes m → entries (keep_fitting rows columns m) ≡ fitting rows columns (entries m)
+pub kept-entries : (m : SpanMap) (rows columns : ℕ) → AreSpanSizes m → entries (keep_fitting rows columns m) ≡ fitting rows columns (entries m)
 kept-entries m rows columns sizes = entries-from_sorted position_cmp (fitting rows columns (entries m)) (anchors-fitting rows columns (entries m) (anchors-of m sizes)).sorted
 
 pub kept-well : (m : SpanMap) (rows columns : ℕ) → AreSpanSizes m → LieWell rows columns (fitting rows columns (entries m))

@@ -11,6 +11,7 @@ pub mod LawLines
 pub mod LawPicture
 pub mod Order
 pub mod Owned
+pub mod PictureWidths
 pub mod Replaced
 pub mod Rows
 pub mod Sent

@@ -15,3 +15,4 @@ pub mod Sizes
 pub mod Standing
 pub mod Styles
 pub mod Texts
+pub mod Width

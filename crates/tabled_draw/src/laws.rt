@@ -17,6 +17,8 @@ ghost use Rattle.tabled_grid.specs.Fitting.{Fits, fitting, keep_fitting};
 ghost use Rattle.tabled_grid.specs.Grid.{Grid, IsInside};
 ghost use Rattle.tabled_grid.specs.Spans.{AreSpanSizes, Rectangle, SpanMap};
 
+pub use crate::width::lines_take_the_width_of_their_picture;
+
 /// All lines of a picture are equally wide.
 pub fn lines_are_equally_wide()
     ensures { HoldsOfPictures AreEquallyWide }

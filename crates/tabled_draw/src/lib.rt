@@ -14,9 +14,11 @@ mod owners;
 mod pictures;
 mod style;
 mod texts;
+mod width;
 
 pub use alignment::Alignment;
 pub use drawing::Drawing;
 pub use look::Look;
 pub use pictures::{draw, draw_with, picture, picture_with};
 pub use style::{Lines, Style};
+pub use width::picture_width;

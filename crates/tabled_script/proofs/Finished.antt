@@ -22,3 +22,15 @@ faulty status (Ok (Ok u, n)) same memory shows faults (inr done) (inl shows_it) 
 faulty status (Ok (Ok u, n)) same memory shows faults (inr done) (inr fault) two = (fault.1, done.2)
 faulty status (Ok (Err e, n)) same memory shows faults (inr done) means two = cc (done.0)
 faulty status (Err e) same memory shows faults (inr done) means two = absurd (omega (arith, done.0, two))
+
+-- what answers a table answers its script
+pub of_script : {U E A : Type 0} (answered : Result (Result U E × ℕ) A) (state undrawn table faults : Type 0) → (state → table) → IfOk answered (λ a. OnOk a.0 (((a.1 ≡ 0) × state) ⊎ ((a.1 ≡ 2) × undrawn))) → Answered answered table (undrawn ⊎ faults)
+of_script (Ok (Ok u, n)) state undrawn table faults said (inl done) = inl (done.0, said done.1)
+of_script (Ok (Ok u, n)) state undrawn table faults said (inr none) = inr (none.0, inl none.1)
+of_script (Ok (Err e, n)) state undrawn table faults said means = tt
+of_script (Err e) state undrawn table faults said means = tt
+
+-- two facts of what was written, as one
+pub on_ok_both : {T E : Type 0} (r : Result T E) (P Q R : Type 0) → (P → Q → R) → OnOk r P → OnOk r Q → OnOk r R
+on_ok_both (Ok x) P Q R f p q = f p q
+on_ok_both (Err e) P Q R f p q = tt

@@ -3,6 +3,7 @@ pub mod Alone
 pub mod Changes
 pub mod Common
 pub mod Finished
+pub mod Narrowed
 pub mod OutputLines
 pub mod Sent
 pub mod Texts

@@ -12,6 +12,7 @@ use Rattle.tabled_language.specs.Script.{Script, parse, start}
 use Rattle.tabled_language.specs.declared.fault.Fault.{Fault}
 use Rattle.tabled_language.specs.Output.{print}
 use Rattle.tabled_language.specs.RoundTrip.{IsTable}
+use Rattle.tabled_script.specs.Narrow.{IsNarrowPicture}
 use Rattle.tabled_script.specs.declared.form.Form.{Form}
 use Rattle.tabled_script.specs.declared.form.Form.TheVariants as form
 use Rattle.tabled_steps.specs.States.{State}
@@ -32,15 +33,19 @@ output_of script = print (ended script)
 abbrev pub picture_of : Script → List ℕ
 picture_of script = drawn (ended script).texts (ended script).spans
 
--- what a state is written as
-abbrev pub written_as : Form → State → List ℕ
-written_as form.Script s = print s
-written_as (form.Picture style alignments) s = drawn_with style alignments.items s.texts s.spans
-written_as (form.Csv separator) s = csv_of separator s.texts.cells
+-- a state is written as these bytes
+abbrev pub IsWrittenAs : Form → State → List ℕ → Type 0
+IsWrittenAs form.Script s bytes = bytes ≡ print s
+IsWrittenAs (form.Picture style alignments) s bytes = bytes ≡ drawn_with style alignments.items s.texts s.spans
+IsWrittenAs (form.NarrowPicture width style alignments) s bytes = IsNarrowPicture width style alignments.items s.texts s.spans bytes
+IsWrittenAs (form.Csv separator) s bytes = bytes ≡ csv_of separator s.texts.cells
 
--- what a script is shown as: the state that it ends with
-abbrev pub shown_as : Form → Script → List ℕ
-shown_as how script = written_as how (ended script)
+-- nothing was written, since no picture is as narrow as is asked for
+abbrev pub LeavesUndrawn : Form → Option (List ℕ) → Option (List ℕ) → Type 0
+LeavesUndrawn form.Script old new = ⊥
+LeavesUndrawn (form.Picture style alignments) old new = ⊥
+LeavesUndrawn (form.NarrowPicture width style alignments) old new = new ≡ old
+LeavesUndrawn (form.Csv separator) old new = ⊥
 
 -- `line N: fault K`
 abbrev pub fault_line : ℕ × Fault → List ℕ
@@ -54,27 +59,28 @@ memory_line = codes "out of memory" ++ 10 ∷ []
 abbrev pub IsTableIfFitting : State → Type 0
 IsTableIfFitting s = Fits s.spans s.texts.rows s.texts.columns → IsTable s
 
--- a state was written as these bytes, and this is known of it
-abbrev pub ShowsState : (State → List ℕ) → (State → Type 0) → State → Option (List ℕ) → Option (List ℕ) → Type 0
-ShowsState bytes known s old new = Appends old new (bytes s) × known s
-
--- the table that a script ends with was written as these bytes, and this is known of it
-abbrev pub ShowsTable : (State → List ℕ) → (State → Type 0) → List ℕ → Option (List ℕ) → Option (List ℕ) → Type 0
-ShowsTable bytes known input old new = (script : Script) × (parse input ≡ Ok script) × Appends old new (bytes (ended script)) × known (ended script)
-
 -- what is known of a state that was written
 abbrev pub known_as : Form → State → Type 0
 known_as form.Script s = IsTableIfFitting s
 known_as (form.Picture style alignments) s = AreSpanSizes s.spans
+known_as (form.NarrowPicture width style alignments) s = AreSpanSizes s.spans
 known_as (form.Csv separator) s = Unit {0}
+
+-- a state was written in a form, and what is known of it then
+abbrev pub ShowsState : Form → State → Option (List ℕ) → Option (List ℕ) → Type 0
+ShowsState how s old new = (bytes : List ℕ) × IsWrittenAs how s bytes × Appends old new bytes × known_as how s
+
+-- the table that a script ends with was written in a form, and what is known of it then
+abbrev pub ShowsTable : Form → List ℕ → Option (List ℕ) → Option (List ℕ) → Type 0
+ShowsTable how input old new = (script : Script) × (parse input ≡ Ok script) × ShowsState how (ended script) old new
 
 -- the line of a script's first fault was written, counted without n lines before
 abbrev pub Faults : ℕ → List ℕ → Option (List ℕ) → Option (List ℕ) → Type 0
 Faults n input old new = (fault : ℕ × Fault) × (parse input ≡ Err fault) × Appends old new (fault_line (fault.0 - n, fault.1))
 
--- a status says what was written for a script: 0 the table that it ends with, 2 the line of its first fault
-abbrev pub Answers : (State → List ℕ) → (State → Type 0) → ℕ → List ℕ → Option (List ℕ) → Option (List ℕ) → ℕ → Type 0
-Answers bytes known n input old new status = ((status ≡ 0) × ShowsTable bytes known input old new) ⊎ ((status ≡ 2) × Faults n input old new)
+-- a status says what was written for a script: 0 the table that it ends with, 2 the line of its first fault, or nothing for want of width
+abbrev pub Answers : Form → ℕ → List ℕ → Option (List ℕ) → Option (List ℕ) → ℕ → Type 0
+Answers how n input old new status = ((status ≡ 0) × ShowsTable how input old new) ⊎ ((status ≡ 2) × (LeavesUndrawn how old new ⊎ Faults n input old new))
 
 -- what comes of an answer: 4 where writing failed; its own status, and nothing more is written; or 3 where memory ran out, and this was written
 abbrev pub Finishes : {U E A : Type 0} → Result (Result U E × ℕ) A → ℕ → Option (List ℕ) → Option (List ℕ) → Type 0

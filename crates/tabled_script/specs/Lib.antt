@@ -2,4 +2,5 @@ pub mod Again
 pub mod Answer
 pub mod Asked
 pub mod InMemory
+pub mod Narrow
 pub mod Sent

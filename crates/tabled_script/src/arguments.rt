@@ -15,6 +15,7 @@ enum Next {
     /// The value of the option before it.
     Style,
     Alignments,
+    Width,
     File,
     Separator,
     Form,
@@ -41,6 +42,7 @@ pub struct Arguments {
     written: Written,
     style: Style,
     alignments: Vec<Alignment>,
+    width: Option<usize>,
     file: Option<String>,
     separator: Separator,
     steps: Vec<u8>,
@@ -56,6 +58,7 @@ impl Arguments {
             written: Written::Script,
             style: Style::ascii(),
             alignments: Vec::new(alloc),
+            width: None,
             file: None,
             separator: Separator::comma(),
             steps: Vec::new(alloc),
@@ -83,6 +86,12 @@ impl Arguments {
                     self.alignments.push(alignment)?;
                 }
             }
+            Next::Width => {
+                let Ok(width) = argument.parse::<usize>() else {
+                    return Err(Refusal::NoWidth(String::from_str(alloc, argument)?));
+                };
+                self.width = Some(width);
+            }
             Next::File => self.file = Some(String::from_str(alloc, argument)?),
             Next::Separator => {
                 let Some(separator) = separator_of(argument) else {
@@ -108,6 +117,7 @@ impl Arguments {
             written,
             style,
             alignments,
+            width,
             file,
             separator,
             steps,
@@ -116,14 +126,22 @@ impl Arguments {
         } = self;
         match next {
             Next::Option | Next::Verb | Next::Word => {}
-            Next::Style | Next::Alignments | Next::File | Next::Separator | Next::Form => {
+            Next::Style
+            | Next::Alignments
+            | Next::Width
+            | Next::File
+            | Next::Separator
+            | Next::Form => {
                 return Err(Refusal::NoValue);
             }
         }
         Ok(Request {
             form: match written {
                 Written::Script => Form::Script,
-                Written::Picture => Form::Picture(style, alignments),
+                Written::Picture => match width {
+                    Some(width) => Form::NarrowPicture(width, style, alignments),
+                    None => Form::Picture(style, alignments),
+                },
                 Written::Csv => Form::Csv(separator),
             },
             file: match file {
@@ -153,6 +171,7 @@ impl Arguments {
                 self.written = Written::Picture;
                 self.next = Next::Alignments;
             }
+            "--width" => self.next = Next::Width,
             "--csv" => self.next = Next::File,
             "--separator" => self.next = Next::Separator,
             "--to" => self.next = Next::Form,

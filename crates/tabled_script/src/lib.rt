@@ -7,6 +7,8 @@ mod file;
 mod form;
 mod held;
 pub mod laws;
+mod limits;
+mod narrow;
 mod output;
 mod picture;
 mod program;

@@ -1,14 +1,17 @@
 //! The picture of a table.
 
 ghost use Rattle.std.specs.Io.KnownBytes.{Appends};
-ghost use Rattle.std.specs.Prelude.{◌≡◌, IfOk, OnErr, OnOk};
+ghost use Rattle.std.specs.Prelude.{◌≡◌, IfNone, IfOk, IfSome, OnErr, OnOk};
 ghost use Rattle.tabled_draw.specs.Picture.{drawn_with};
 ghost use Rattle.tabled_grid.specs.Grid.{IsEven, grid_of, map_items};
 ghost use Rattle.tabled_grid.specs.Spans.{AreSpanSizes};
 ghost use Rattle.tabled_script.specs.InMemory.{texts_in};
+ghost use Rattle.tabled_script.specs.Narrow.{WritesNarrowPicture};
 
+use crate::narrow::narrow;
 use std::alloc::{AllocError, Global};
 use std::io::{self, Write};
+use tabled_draw::laws::lines_take_the_width_of_their_picture;
 use tabled_draw::{Alignment, Drawing, Look, Style};
 use tabled_grid::config::SpannedConfig;
 use tabled_language::LentText;
@@ -31,6 +34,32 @@ pub(crate) fn write_picture<W: Write>(
     let look = Look::new(style).align(alignments);
     let drawing = Drawing::with_look(alloc, &records, spans, &look)?;
     Ok(write_drawing(drawing, writer))
+}
+
+/// The same with a picture of at most n columns, between whose words texts are wrapped where that is needed. None where
+/// no picture is that narrow: then nothing is written.
+pub(crate) fn write_narrow_picture<W: Write>(
+    alloc: Global,
+    mut records: Vec<Vec<LentText>>,
+    spans: &SpannedConfig,
+    style: Style,
+    alignments: &[Alignment],
+    width: usize,
+    writer: &mut W,
+) -> Result<Option<io::Result<()>>, AllocError>
+    requires { IsEven (grid_of (map_items records.items)) }
+    ensures written { IfOk result (λ done. IfSome done (λ written. OnOk written (WritesNarrowPicture width style alignments.now (texts_in records.entry.items) spans.now (W.contents writer.old) (W.contents writer.new)))) }
+    ensures left { IfOk result (λ done. IfNone done (W.contents writer.new ≡ W.contents writer.old)) }
+    ensures refused { OnErr result (W.contents writer.new ≡ W.contents writer.old) }
+    ensures sizes { AreSpanSizes spans.now }
+{
+    let fits = narrow(alloc, &mut records, spans, &style, width)?;
+    if !fits {
+        return Ok(None);
+    }
+    lines_take_the_width_of_their_picture();
+    let written = write_picture(alloc, records, spans, style, alignments, writer)?;
+    Ok(Some(written))
 }
 
 /// Writes a picture, and flushes the writer.

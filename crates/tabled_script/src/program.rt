@@ -4,7 +4,7 @@ ghost use Rattle.std.specs.Prelude.{◌≡◌, ◌-◌, ◌⊎◌, ℕ, Ok, Err,
 ghost use Rattle.std.specs.Io.KnownBytes.{Appends};
 ghost use Rattle.tabled_grid.specs.Spans.{AreSpanSizes};
 ghost use Rattle.tabled_script.specs.Again.{FitsAtEnd, GivesAgain};
-ghost use Rattle.tabled_script.specs.Answer.{ended, fault_line, known_as, memory_line, output_of, picture_of, shown_as};
+ghost use Rattle.tabled_script.specs.Answer.{LeavesUndrawn, ShowsState, ended, fault_line, memory_line, output_of, picture_of};
 ghost use Rattle.tabled_script.specs.Asked.{FileFaults, StandBefore, whole_script};
 ghost use Rattle.tabled_language.specs.Script.{Script as Meaning, parse};
 ghost use Rattle.tabled_language.specs.declared.fault.Fault.{Fault};
@@ -82,14 +82,15 @@ pub fn draw_script<R: Read, W: Write>(alloc: Global, reader: &mut R, writer: &mu
 /// - 0: the table was written.
 /// - 2: `line N: fault K` was written, for the first faulty line: the script's own lines are counted, and behind them
 ///   those of the request's steps. Or `csv line N: fault K`, for the file: 1 where a quote is not closed, 2 for
-///   something behind a closing one, 3 for what isn't UTF-8.
+///   something behind a closing one, 3 for what isn't UTF-8. Or nothing was written, since no picture is as narrow as is
+///   asked for.
 /// - 3, 4: as those of `run_script`.
 ///
 /// What is told beside the answer goes to `errors`, in a line each; where that can't be written, or memory runs out, the
 /// answer is the same. Where faults are told, that is `line N: fault K:`, or `step N: fault K:` for a step of the
 /// request, with the words of the line, or the file's name, line and fault. Where steps are checked, `names nothing in
 /// the table:` with the words of each step with a selector that names no cell of the table before it, or whose range
-/// lies outside.
+/// lies outside. Where no picture is as narrow as is asked for, that is told.
 ///
 /// Of this project.
 pub fn answer<R: Read, W: Write, E: Write>(
@@ -103,11 +104,11 @@ pub fn answer<R: Read, W: Write, E: Write>(
     ensures done { result ≡ 0 → IfSome (R.remaining reader.old) (λ input.
         (rows : List (List (List ℕ))) × StandBefore request.now.file rows
         × (script : Meaning) × (parse (whole_script rows input request.now.steps.items) ≡ Ok script)
-        × Appends (W.contents writer.old) (W.contents writer.new) (shown_as request.now.form script) × known_as request.now.form (ended script)) }
+        × ShowsState request.now.form (ended script) (W.contents writer.old) (W.contents writer.new)) }
     ensures faulty { result ≡ 2 → FileFaults request.now.file (W.contents writer.old) (W.contents writer.new) ⊎ IfSome (R.remaining reader.old) (λ input.
-        (rows : List (List (List ℕ))) × StandBefore request.now.file rows
+        LeavesUndrawn request.now.form (W.contents writer.old) (W.contents writer.new) ⊎ ((rows : List (List (List ℕ))) × StandBefore request.now.file rows
         × (fault : ℕ × Fault) × (parse (whole_script rows input request.now.steps.items) ≡ Err fault)
-        × Appends (W.contents writer.old) (W.contents writer.new) (fault_line (fault.0 - length rows, fault.1))) }
+        × Appends (W.contents writer.old) (W.contents writer.new) (fault_line (fault.0 - length rows, fault.1)))) }
     ensures memory { result ≡ 3 → Appends (W.contents writer.old) (W.contents writer.new) memory_line }
 {
     match lines_of(alloc, &request.file) {

@@ -20,6 +20,8 @@ pub enum Refusal {
     NoStyle(String),
     NoAlignment(String),
     NoSeparator(String),
+    /// This is no number of columns.
+    NoWidth(String),
     /// A table can't be written as this.
     NoForm(String),
     /// An argument isn't UTF-8.
@@ -69,6 +71,7 @@ impl Refusal {
                     "{name} is no separator: one character of ASCII, but no quote, or tab\n"
                 )
             }
+            Refusal::NoWidth(number) => { format!(in alloc; "{number} is no number of columns\n") }
             Refusal::NoForm(name) => {
                 format!(in alloc; "a table is written --to csv, and not to {name}\n")
             }

@@ -6,7 +6,7 @@ ghost use Rattle.std.specs.String.{string_bytes};
 ghost use Rattle.tabled_grid.specs.Grid.{IsEven, grid_of, map_items};
 ghost use Rattle.tabled_language.specs.Script.{parse};
 ghost use Rattle.tabled_language.specs.declared.fault.Fault.{Fault};
-ghost use Rattle.tabled_script.specs.Answer.{Answers, Faults, Finishes, ShowsState, ShowsTable, ended, fault_line, known_as, memory_line, written_as};
+ghost use Rattle.tabled_script.specs.Answer.{Answers, Faults, Finishes, LeavesUndrawn, ShowsState, ShowsTable, ended, fault_line, memory_line};
 ghost use Rattle.tabled_script.specs.InMemory.{said_by, state_in};
 ghost use Rattle.tabled_steps.specs.States.{after_all};
 
@@ -23,7 +23,7 @@ use tabled_steps::{Step, run};
 /// The table was written.
 const DONE: u8 = 0;
 
-/// A line is faulty, and its number and fault were written.
+/// A line is faulty, and its number and fault were written; or no picture is as narrow as is asked for.
 pub(crate) const FAULTY: u8 = 2;
 
 /// Memory ran out, and that was written.
@@ -34,6 +34,9 @@ pub(crate) const FAILED: u8 = 4;
 
 /// The line that is written where memory ran out.
 const MEMORY_LINE: &[u8] = b"out of memory\n";
+
+/// The line that is told where no picture is as narrow as is asked for.
+const WIDTH_LINE: &[u8] = b"no picture of the table is that narrow\n";
 
 /// Runs the script that a reader has, behind some lines and before those of a request, writes the table that it ends
 /// with in the form that is asked for, and answers a status. Lines are counted without those before.
@@ -47,8 +50,8 @@ pub(crate) fn respond<R: Read, W: Write, E: Write>(
     errors: &mut E,
 ) -> u8
     ensures known { (result ≡ 0) ⊎ ((result ≡ 2) ⊎ ((result ≡ 3) ⊎ (result ≡ 4))) }
-    ensures done { result ≡ 0 → IfSome (R.remaining reader.old) (λ input. ShowsTable (written_as request.now.form) (known_as request.now.form) (before.items ++ (input ++ request.now.steps.items)) (W.contents writer.old) (W.contents writer.new)) }
-    ensures faulty { result ≡ 2 → IfSome (R.remaining reader.old) (λ input. Faults skipped (before.items ++ (input ++ request.now.steps.items)) (W.contents writer.old) (W.contents writer.new)) }
+    ensures done { result ≡ 0 → IfSome (R.remaining reader.old) (λ input. ShowsTable request.now.form (before.items ++ (input ++ request.now.steps.items)) (W.contents writer.old) (W.contents writer.new)) }
+    ensures faulty { result ≡ 2 → IfSome (R.remaining reader.old) (λ input. LeavesUndrawn request.now.form (W.contents writer.old) (W.contents writer.new) ⊎ Faults skipped (before.items ++ (input ++ request.now.steps.items)) (W.contents writer.old) (W.contents writer.new)) }
     ensures memory { result ≡ 3 → Appends (W.contents writer.old) (W.contents writer.new) memory_line }
 {
     match read_whole(before, reader, &request.steps) {
@@ -75,11 +78,11 @@ fn reply<W: Write, E: Write>(
     writer: &mut W,
     errors: &mut E,
 ) -> Result<(io::Result<()>, u8), AllocError>
-    ensures answered { IfOk result (λ answered. OnOk answered.0 (Answers (written_as request.now.form) (known_as request.now.form) source.entry.before source.entry.bytes.now (W.contents writer.old) (W.contents writer.new) answered.1)) }
+    ensures answered { IfOk result (λ answered. OnOk answered.0 (Answers request.now.form source.entry.before source.entry.bytes.now (W.contents writer.old) (W.contents writer.new) answered.1)) }
     ensures refused { OnErr result (W.contents writer.new ≡ W.contents writer.old) }
 {
     match parse(alloc, source.bytes)? {
-        Ok(script) => Ok((show(alloc, request, source, script, writer, errors)?, DONE)),
+        Ok(script) => show(alloc, request, source, script, writer, errors),
         Err(fault) => {
             let counted = (fault.0.saturating_sub(source.before), fault.1);
             let said = say(alloc, counted, writer)?;
@@ -91,7 +94,8 @@ fn reply<W: Write, E: Write>(
     }
 }
 
-/// Writes the table of a script's records and merged cells after its steps.
+/// Writes the table of a script's records and merged cells after its steps, and answers a status. Where no picture is
+/// as narrow as is asked for, that is told.
 fn show<W: Write, E: Write>(
     alloc: Global,
     request: &Request,
@@ -99,8 +103,8 @@ fn show<W: Write, E: Write>(
     script: Script,
     writer: &mut W,
     errors: &mut E,
-) -> Result<io::Result<()>, AllocError>
-    ensures shown { IfOk result (λ written. OnOk written (ShowsState (written_as request.now.form) (known_as request.now.form) (ended (said_by script.entry)) (W.contents writer.old) (W.contents writer.new))) }
+) -> Result<(io::Result<()>, u8), AllocError>
+    ensures shown { IfOk result (λ answered. OnOk answered.0 (((answered.1 ≡ 0) × ShowsState request.now.form (ended (said_by script.entry)) (W.contents writer.old) (W.contents writer.new)) ⊎ ((answered.1 ≡ 2) × LeavesUndrawn request.now.form (W.contents writer.old) (W.contents writer.new)))) }
     ensures refused { OnErr result (W.contents writer.new ≡ W.contents writer.old) }
 {
     let Script {
@@ -118,7 +122,14 @@ fn show<W: Write, E: Write>(
         steps,
         errors,
     )?;
-    request.form.write(alloc, records, &spans, writer)
+    match request.form.write(alloc, records, &spans, writer)? {
+        Some(written) => Ok((written, DONE)),
+        None => {
+            // The status says it, too.
+            let _ = errors.write_all(WIDTH_LINE);
+            Ok((Ok(()), FAULTY))
+        }
+    }
 }
 
 /// Does steps, one after another, and tells what is asked for.

@@ -56,6 +56,40 @@ fn arguments_ask_for_steps_and_forms(rt: HostRuntime) -> Result<(), Fail> {
             "+--------+\n| --draw |\n+--------+\n| a      |\n+--------+\n",
             "",
         ),
+        // Lines are cut where a picture is wider than is asked for: between words, or in words, if that isn't enough.
+        (
+            "--draw|--width|14|row|aa bbb|x",
+            "",
+            "",
+            0,
+            "+--------+---+\n| aa bbb | x |\n+--------+---+\n",
+            "",
+        ),
+        (
+            "--draw|--width|11|row|aa bbb|x",
+            "",
+            "",
+            0,
+            "+-----+---+\n| aa  | x |\n| bbb |   |\n+-----+---+\n",
+            "",
+        ),
+        (
+            "--width|8|--draw|row|abcdef",
+            "",
+            "",
+            0,
+            "+------+\n| abcd |\n| ef   |\n+------+\n",
+            "",
+        ),
+        (
+            "--draw|--width|8|row|a|x",
+            "",
+            "",
+            2,
+            "",
+            "no picture of the table is that narrow\n",
+        ),
+        ("--width|1|row|a b", "", "", 0, "shape\t1\t1\nrow\ta b\n", ""),
         // Faults are told with the words of their lines, if that is asked for.
         ("vmreg", "", "row\ta", 2, "line 2: fault 1\n", ""),
         (

@@ -1,4 +1,4 @@
-use Rattle.tabled_script.proofs.Common.{◌++◌, ◌∙◌, Appends, IfSome_then, List, ap, inr, subst, sym, ℕ}
+use Rattle.tabled_script.proofs.Common.{◌++◌, ◌∙◌, Appends, IfSome_then, List, ap, inl, inr, subst, sym, ℕ}
 use Rattle.std.specs.Prelude.{◌-◌}
 use Rattle.tabled_language.specs.Script.{parse}
 use Rattle.tabled_script.specs.Answer.{fault_line}
@@ -8,16 +8,19 @@ pub returns-in-Ok-clause-done : goal.returns-in-Ok-clause-done
 returns-in-Ok-clause-done g c = λ zero.
     let lines = c.in-Ok.ensures.lines in
     IfSome_then (g.R.Read.remaining c.args.reader.now) (c.respond.ensures.done zero)
-    (λ input shown. (lines.0, lines.1, shown.0, ap (λ (bytes : List ℕ). parse (bytes ++ (input ++ c.args.request.now.steps.items))) (sym lines.2) ∙ shown.1, shown.2, shown.3))
+    (λ input shown. (lines.0, lines.1, shown.0, ap (λ (bytes : List ℕ). parse (bytes ++ (input ++ c.args.request.now.steps.items))) (sym lines.2) ∙ shown.1, shown.2))
 
 pub returns-in-Ok-clause-faulty : goal.returns-in-Ok-clause-faulty
 returns-in-Ok-clause-faulty g c = λ two.
     let lines = c.in-Ok.ensures.lines in
     inr (IfSome_then (g.R.Read.remaining c.args.reader.now) (c.respond.ensures.faulty two)
-    (λ input told. (
-      lines.0,
-      lines.1,
-      told.0,
-      ap (λ (bytes : List ℕ). parse (bytes ++ (input ++ c.args.request.now.steps.items))) (sym lines.2) ∙ told.1,
-      subst (λ n. Appends (g.W.Write.contents c.args.writer.now) (g.W.Write.contents c.respond.new.writer) (fault_line (told.0.0 - n, told.0.1))) lines.3 told.2,
-    )))
+    (λ input told. elim told [
+      | inl undrawn ↦ inl undrawn
+      | inr fault ↦ inr (
+        lines.0,
+        lines.1,
+        fault.0,
+        ap (λ (bytes : List ℕ). parse (bytes ++ (input ++ c.args.request.now.steps.items))) (sym lines.2) ∙ fault.1,
+        subst (λ n. Appends (g.W.Write.contents c.args.writer.now) (g.W.Write.contents c.respond.new.writer) (fault_line (fault.0.0 - n, fault.0.1))) lines.3 fault.2,
+      )
+    ]))

@@ -1,11 +1,11 @@
-use Rattle.tabled_script.proofs.Common.{◌++◌, ◌∙◌, Faults, IfSome_then, List, Option, ShowsTable, ap, subst, sym, ℕ}
+use Rattle.tabled_script.proofs.Common.{◌++◌, ◌∙◌, ◌⊎◌, Faults, IfSome_then, List, Option, ShowsTable, ap, subst, sym, ℕ}
 use Rattle.tabled_script.proofs.Finished.{faulty, shown}
-use Rattle.tabled_script.specs.Answer.{known_as, written_as}
+use Rattle.tabled_script.specs.Answer.{LeavesUndrawn}
 use Rattle.tabled_script.proofs.respond.respond.Goals as goal
 
 pub returns-in-Ok-clause-done : goal.returns-in-Ok-clause-done
 returns-in-Ok-clause-done g c = λ zero.
-    let Said = λ (bytes : List ℕ) (new : Option (List ℕ)). ShowsTable (written_as c.args.request.now.form) (known_as c.args.request.now.form) bytes (g.W.Write.contents c.args.writer.now) new in
+    let Said = λ (bytes : List ℕ) (new : Option (List ℕ)). ShowsTable c.args.request.now.form bytes (g.W.Write.contents c.args.writer.now) new in
     let both = shown c.finish.result c.reply-answered.result _ _ _ _ c.finish.ensures c.reply-answered.ensures.answered zero in
     let said : Said c.in-Ok.whole.items (g.W.Write.contents c.finish.new.writer) =
     subst (λ new. Said c.in-Ok.whole.items new) (sym both.1) (subst (λ bytes. Said bytes (g.W.Write.contents c.reply-answered.new.writer)) c.deref-in-Ok.ensures.value both.0) in
@@ -14,7 +14,7 @@ returns-in-Ok-clause-done g c = λ zero.
 
 pub returns-in-Ok-clause-faulty : goal.returns-in-Ok-clause-faulty
 returns-in-Ok-clause-faulty g c = λ two.
-    let Said = λ (bytes : List ℕ) (new : Option (List ℕ)). Faults c.args.skipped bytes (g.W.Write.contents c.args.writer.now) new in
+    let Said = λ (bytes : List ℕ) (new : Option (List ℕ)). LeavesUndrawn c.args.request.now.form (g.W.Write.contents c.args.writer.now) new ⊎ Faults c.args.skipped bytes (g.W.Write.contents c.args.writer.now) new in
     let both = faulty c.finish.result c.reply-answered.result _ _ _ _ c.finish.ensures c.reply-answered.ensures.answered two in
     let said : Said c.in-Ok.whole.items (g.W.Write.contents c.finish.new.writer) =
     subst (λ new. Said c.in-Ok.whole.items new) (sym both.1) (subst (λ bytes. Said bytes (g.W.Write.contents c.reply-answered.new.writer)) c.deref-in-Ok.ensures.value both.0) in
