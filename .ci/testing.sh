@@ -36,12 +36,12 @@ lay() {
     mkdir -p "$checkout/bin"
     cp -- "$1" "$checkout/bin/tabled_script"
     chmod 755 "$checkout/bin/tabled_script"
-    printf '%s: %s\n' sources "${2-$(sources)}" kit "$(rt version)" sha256 "$(sha256sum < "$1" | cut -c 1-64)" > "$checkout/bin/README.md"
+    printf '%s: %s\n' sources "${2-$(sum_of sources)}" kit "$(rt version)" sha256 "$(sha256sum < "$1" | cut -c 1-64)" > "$checkout/bin/README.md"
 }
 
-# The checksum of the checkout's sources, as the wrapper takes it.
-sources() {
-    bash -c 'eval "$(sed "/^top=/d; /^case /,\$d" "$1")"; top=$2; find_sources; checksum "$top"' -- "$wrapper" "$checkout"
+# The checksum of the checkout's sources, or of what is proved of them, too, as the wrapper takes it.
+sum_of() {
+    bash -c 'eval "$(sed "/top=/d; /^case /,\$d" "$1")"; top=$2; find_sources; declare -n folders=$3; checksum "$top" "${folders[@]}"' -- "$wrapper" "$checkout" "$1"
 }
 
 # Closes with how many passed and failed.

@@ -12,19 +12,20 @@ use Rattle.tabled_draw.specs.declared.style.Style.{Style}
 use Rattle.tabled_grid.specs.Fitting.{fitting}
 use Rattle.tabled_grid.specs.Grid.{Grid}
 use Rattle.tabled_grid.specs.Spans.{SpanMap}
-use Rattle.tabled_grid.specs.declared.config.entity.Entity.TheVariants.{Column}
+use Rattle.tabled_grid.specs.declared.config.entity.Entity.TheVariants.{Cell}
 use Rattle.tabled_options.specs.Writes.{with_writes}
+use Rattle.tabled_script.specs.declared.cuts.Cut.{Cut}
 use Rattle.tabled_settings.specs.Wraps.{wrap_writes}
 
--- the texts of the columns from the j-th on, each wrapped between words to the width of its column
-abbrev pub wrapped_from : ℕ → List ℕ → Grid (List ℕ) → Grid (List ℕ)
-wrapped_from j [] g = g
-wrapped_from j (width ∷ widths) g = wrapped_from (j + 1) widths (with_writes (wrap_writes (width, true) (Column j) g) g)
+-- texts wrapped between words, one after another: each of a cell, and to a width
+abbrev pub wrapped_each : List Cut → Grid (List ℕ) → Grid (List ℕ)
+wrapped_each [] g = g
+wrapped_each (cut ∷ cuts) g = wrapped_each cuts (with_writes (wrap_writes (cut.width, true) (Cell cut.at.row cut.at.col) g) g)
 
--- the texts of a table as a picture of at most n columns has them: as they are where that is as wide, else those of each column wrapped to some width
+-- the texts of a table as a picture of at most n columns has them: as they are where that is as wide, else some of them wrapped
 pub record AreNarrowed (n : ℕ) (style : Style) (m : SpanMap) (old new : Grid (List ℕ)) : Type 0 where
-  pub widths : List ℕ
-  pub wrapped : new ≡ wrapped_from 0 widths old
+  pub cuts : List Cut
+  pub wrapped : new ≡ wrapped_each cuts old
   pub same : picture_width style old m ≤ n → new ≡ old
   pub fits : picture_width style new m ≤ n
 

@@ -3,6 +3,7 @@
 
 mod arguments;
 mod checked;
+mod cuts;
 mod file;
 mod form;
 mod held;

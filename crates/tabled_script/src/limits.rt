@@ -1,18 +1,15 @@
-//! How wide the texts of columns may be, so that a picture is as wide as is asked for.
+//! How wide the columns of a table may be, so that a picture is as wide as is asked for.
 
 use std::alloc::{AllocError, Global};
-use tabled_draw::{Lines, Style};
-use tabled_grid::records::CellText;
-use tabled_language::LentText;
-use unicode_width::UnicodeWidthStr;
+use tabled_draw::Lines;
 
-/// What the texts of a column ask.
+/// What the texts of a column, or one text, ask.
 #[derive(Clone, Copy)]
-struct Asked {
+pub(crate) struct Asked {
     /// The columns of the widest line.
-    line: usize,
+    pub(crate) line: usize,
     /// The columns of the longest word.
-    word: usize,
+    pub(crate) word: usize,
 }
 
 /// How columns share a width.
@@ -24,75 +21,47 @@ enum Share {
     Parts,
 }
 
-/// The width to which the texts of each column are wrapped, so that a picture has n columns: the widest columns become
-/// equally wide, first down to their longest words, and then further. Texts of the others may be of any width.
+/// The width of each column, so that a picture has n columns: the widest ones become equally wide, first down to their
+/// longest words, and then further.
 pub(crate) fn limits(
     alloc: Global,
-    records: &[Vec<LentText>],
-    style: &Style,
+    asked: &[Asked],
+    lines: Lines,
     width: usize,
 ) -> Result<Vec<usize>, AllocError> {
-    let asked = asked_by(alloc, records)?;
-    let room = width.saturating_sub(taken_around(style.columns, asked.len()));
-    let share = if taken(&asked, Share::Words, 0) <= room {
+    let room = width.saturating_sub(taken_around(lines, asked.len()));
+    let share = if taken(asked, Share::Words, 0) <= room {
         Share::Words
     } else {
         Share::Parts
     };
-    let level = level(&asked, share, room);
+    let level = level(asked, share, room);
     let mut limits = Vec::new(alloc);
-    for column in &asked {
-        limits.push(limit(*column, share, level))?;
+    for column in asked {
+        limits.push(shared(*column, share, level))?;
     }
     Ok(limits)
 }
 
-/// What the texts of each column ask.
-fn asked_by(alloc: Global, records: &[Vec<LentText>]) -> Result<Vec<Asked>, AllocError> {
-    let columns = match records.first() {
-        Some(row) => row.len(),
-        None => 0,
-    };
-    let mut asked = vec![in alloc; Asked { line: 0, word: 0 }; columns]?;
-    for row in records {
-        for (j, text) in row.iter().enumerate() {
-            if let Some(column) = asked.get_mut(j) {
-                *column = with_text(*column, text.text());
-            }
-        }
-    }
-    Ok(asked)
-}
-
-/// What a column asks that has one text more.
-fn with_text(column: Asked, text: &str) -> Asked {
-    let mut asked = column;
-    for line in text.split('\n') {
-        asked.line = asked.line.max(line.width());
-        for word in line.split(' ') {
-            asked.word = asked.word.max(word.width());
-        }
-    }
-    asked
-}
-
 /// The columns that borders take, and the blanks beside the texts of n columns.
 fn taken_around(lines: Lines, columns: usize) -> usize {
-    let mut taken = columns.saturating_mul(2);
-    for k in 0..columns {
-        let is_drawn = match k {
-            0 => lines.first,
-            1 => lines.second || lines.inner,
-            _ => lines.inner,
-        };
-        if is_drawn {
-            taken = taken.saturating_add(1);
-        }
+    let mut taken = if lines.first { 3 } else { 2 };
+    for k in 1..columns {
+        taken = taken.saturating_add(taken_between(lines, k));
     }
     if lines.last || (columns == 1 && lines.second) {
         taken = taken.saturating_add(1);
     }
     taken
+}
+
+/// What stands between the texts of the k-th column, counted from 1, and the next one.
+pub(crate) fn taken_between(lines: Lines, k: usize) -> usize {
+    if lines.inner || (k == 1 && lines.second) {
+        3
+    } else {
+        2
+    }
 }
 
 /// The highest level, at most a room, at which columns don't take more than that.
@@ -124,15 +93,5 @@ fn shared(column: Asked, share: Share, level: usize) -> usize {
     match share {
         Share::Words => column.line.min(level.max(column.word)),
         Share::Parts => column.word.min(level),
-    }
-}
-
-/// The width to which texts are wrapped at a level, at least 1; any width where all of them fit.
-fn limit(column: Asked, share: Share, level: usize) -> usize {
-    let width = shared(column, share, level);
-    if column.line <= width {
-        usize::MAX
-    } else {
-        width.max(1)
     }
 }

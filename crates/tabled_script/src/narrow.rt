@@ -4,9 +4,9 @@ ghost use Rattle.std.specs.Prelude.{◌≡◌, ◌≤◌, IfOk, IsTrue, OnOk};
 ghost use Rattle.tabled_grid.specs.Grid.{IsEven, grid_of, map_items};
 ghost use Rattle.tabled_grid.specs.Spans.{AreSpanSizes};
 ghost use Rattle.tabled_script.specs.InMemory.{texts_in};
-ghost use Rattle.tabled_script.specs.Narrow.{AreNarrowed, wrapped_from};
+ghost use Rattle.tabled_script.specs.Narrow.{AreNarrowed, wrapped_each};
 
-use crate::limits::limits;
+use crate::cuts::{Cut, cuts};
 use std::alloc::{AllocError, Global};
 use tabled_draw::{Style, picture_width};
 use tabled_grid::config::{Entity, SpannedConfig};
@@ -14,8 +14,7 @@ use tabled_language::LentText;
 use tabled_options::CellOption;
 use tabled_settings::width::Width;
 
-/// Wraps the texts of a table, those of its widest columns first, so that its picture has at most n columns, and says
-/// whether it has.
+/// Wraps the texts of a table that don't fit, so that its picture has at most n columns, and says whether it has.
 pub(crate) fn narrow(
     alloc: Global,
     records: &mut Vec<Vec<LentText>>,
@@ -32,25 +31,30 @@ pub(crate) fn narrow(
     if before <= width {
         return Ok(true);
     }
-    let limits = limits(alloc, records, style, width)?;
-    wrap_columns(alloc, records, &limits)?;
+    let cuts = cuts(alloc, records, spans, style, width)?;
+    wrap_each(alloc, records, cuts)?;
     let after = picture_width(alloc, records, spans, style)?;
     Ok(after <= width)
 }
 
-/// Wraps the texts of each column to a width.
-fn wrap_columns(
+/// Wraps texts, one after another.
+fn wrap_each(
     alloc: Global,
     records: &mut Vec<Vec<LentText>>,
-    widths: &[usize],
+    cuts: Vec<Cut>,
 ) -> Result<(), AllocError>
     requires { IsEven (grid_of (map_items records.old.items)) }
     ensures even { IsEven (grid_of (map_items records.new.items)) }
-    ensures wrapped { OnOk result (texts_in records.new.items ≡ wrapped_from 0 widths.now (texts_in records.old.items)) }
+    ensures wrapped { OnOk result (texts_in records.new.items ≡ wrapped_each cuts.items (texts_in records.old.items)) }
 {
-    for (j, width) in widths.iter().enumerate() {
-        let wrap = Width::wrap(*width).keep_words(true);
-        wrap.change(alloc, records, &mut (), Entity::Column(j))?;
+    for cut in cuts {
+        let wrap = Width::wrap(cut.width).keep_words(true);
+        wrap.change(
+            alloc,
+            records,
+            &mut (),
+            Entity::Cell(cut.at.row, cut.at.col),
+        )?;
     }
     Ok(())
 }
