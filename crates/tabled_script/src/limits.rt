@@ -45,7 +45,7 @@ pub(crate) fn limits(
 
 /// The columns that borders take, and the blanks beside the texts of n columns.
 fn taken_around(lines: Lines, columns: usize) -> usize {
-    let mut taken = if lines.first { 3 } else { 2 };
+    let mut taken: usize = if lines.first { 3 } else { 2 };
     for k in 1..columns {
         taken = taken.saturating_add(taken_between(lines, k));
     }
