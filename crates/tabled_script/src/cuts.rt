@@ -6,7 +6,7 @@ use tabled_draw::{Lines, Style};
 use tabled_grid::config::{CoverMap, Position, SpannedConfig};
 use tabled_grid::records::CellText;
 use tabled_language::LentText;
-use unicode_width::UnicodeWidthStr;
+use unicode_width::{UnicodeWidthChar, UnicodeWidthStr};
 
 /// A text whose lines are cut to a width.
 #[derive(Clone, Copy)]
@@ -86,10 +86,19 @@ fn asked_at(records: &[Vec<LentText>], at: Position) -> Asked {
     for line in cell.text().split('\n') {
         asked.line = asked.line.max(line.width());
         for word in line.split(' ') {
-            asked.word = asked.word.max(word.width());
+            asked.word = asked.word.max(wide(word));
         }
     }
     asked
+}
+
+/// The columns of a word as `Width::wrap` counts them, character by character.
+fn wide(word: &str) -> usize {
+    let mut columns: usize = 0;
+    for c in word.chars() {
+        columns = columns.saturating_add(c.width().unwrap_or(1));
+    }
+    columns
 }
 
 /// Raises what a column asks to what a text does.

@@ -89,6 +89,31 @@ fn arguments_ask_for_steps_and_forms(rt: HostRuntime) -> Result<(), Fail> {
             "",
             "no picture of the table is that narrow\n",
         ),
+        // A merged cell has the room of its columns, and a text that it hides counts for nothing.
+        (
+            "--draw|--width|14|row|a|b b b b b|then|header|x y z",
+            "",
+            "",
+            0,
+            "+---+-------+\n| x y z     |\n+---+-------+\n| a | b b b |\n|   | b b   |\n+---+-------+\n",
+            "",
+        ),
+        (
+            "--draw|--width|13|row|a|hidden text|b b b b|then|cspan|2|cell|0|0",
+            "",
+            "",
+            0,
+            "+--+--+-----+\n| a   | b b |\n|     | b b |\n+--+--+-----+\n",
+            "",
+        ),
+        (
+            "--draw|--width|11|row|漢字漢字|x",
+            "",
+            "",
+            0,
+            "+----+---+\n| 漢 | x |\n| 字 |   |\n| 漢 |   |\n| 字 |   |\n+----+---+\n",
+            "",
+        ),
         ("--width|1|row|a b", "", "", 0, "shape\t1\t1\nrow\ta b\n", ""),
         // Faults are told with the words of their lines, if that is asked for.
         ("vmreg", "", "row\ta", 2, "line 2: fault 1\n", ""),
