@@ -9,6 +9,7 @@
     tree:CRATE                  a crate's files, and what each is about
     part:PATH TRAIT             what a file says of a type as a trait
     definition:PATH NAME        a definition of a file of specs/
+    answer:PATH NAME            an answer of a file of proofs/
     own:CRATE NAME              the lines that make a program one's own, under a name
     added:CRATE NAME OF         the lines that put a crate below it, where it is made of the program OF
     taken:CRATE ..              the lines that take crates, with all that these use
@@ -93,6 +94,14 @@ def definition(top, path, name):
         if it.name == name:
             return fenced("text", f"-- {it.words}\n{it.text()}")
     raise SystemExit(f"docs/make: no {name} in {path} where a page names it")
+
+
+def answer(top, path, name):
+    """An answer of a file of proofs/."""
+    found = re.search(rf"^(?:[a-z]+ )*pub {name} :.*?(?=\n\n|\Z)", (top / path).read_text(), re.M | re.S)
+    if not found:
+        raise SystemExit(f"docs/make: no {name} in {path} where a page names it")
+    return fenced("text", found[0])
 
 
 def code(top, path, *names):
@@ -210,6 +219,7 @@ def quoted(top, prose):
         "tree": lambda crate: tree(top, crate),
         "part": lambda *words: part(top, *words),
         "definition": lambda *words: definition(top, *words),
+        "answer": lambda *words: answer(top, *words),
         "own": lambda *words: own(top, *words),
         "added": lambda *words: added(top, *words),
         "taken": lambda *words: all_taken(top, *words),
