@@ -3,7 +3,7 @@
 import re
 import sys
 
-from contracts import CLAUSE_LINE, needed_imports
+from contracts import CLAUSE_LINE, ghost_uses, needed_imports
 
 DEFINED = re.compile(r"(?:(?:abbrev|unfoldable|opaque) )?pub (?:(?:data|record|abbrev) )?([^\s:({]+)")
 IMPORTED = re.compile(r"ghost use Rattle\.(\w+)\.specs\.(\w+)$")
@@ -60,7 +60,7 @@ def words_of(told):
     found = {}
     for text, lines in told:
         clauses = "\n".join(it for it in lines if CLAUSE_LINE.match(it))
-        for _, path, brace, names in needed_imports(text, clauses, {}):
+        for _, path, brace, names in needed_imports(ghost_uses(text), clauses, {}):
             place = IMPORTED.match(path)
             if brace and place and place[1] != "std":
                 found.setdefault((place[1], place[2]), set()).update(names)

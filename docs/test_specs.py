@@ -21,7 +21,10 @@ a ⊏ b = a < b
 SOURCE = """\
 ghost use Rattle.std.specs.Prelude.{◌≡◌};
 ghost use Rattle.low.specs.Low.{Grid, ◌⊏◌ as ◌⊐◌, unused};
-ghost use Rattle.high.specs.High.{grows};
+
+impl Grid {
+    ghost use Rattle.high.specs.High.{grows};
+}
 """
 LINES = ["fn grow(g: Grid)", "  requires: a ⊐ b", "  ensures: grows g.old g.new ≡ Unit {0}"]
 
