@@ -197,8 +197,8 @@ def specs_line(top, crate, *names):
     for name in names:
         file = top / "crates" / crate / "specs" / f"{name}.antt"
         said = first_sentence(file)
-        told.append(f"`{name}`: {said[0].lower()}{said[1:]}")
-    return f"- **{crate}**. " + "; ".join(told) + "."
+        told.append(f"`{name}` ({said[0].lower()}{said[1:]})")
+    return f"- {crate}: " + ", ".join(told)
 
 
 def stop_at_missing(top, prose):
