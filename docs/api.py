@@ -7,11 +7,11 @@ from contracts import (
     first_sentence, imports_of_clauses, imports_of_types, module_words, owner_of, parts_of, public_names, sources_of,
 )
 from exports import Exports
-from phrases import REFUSED
 
 # Those of two stand for all.
 ALIKE = re.compile(r"tuples/(three|four|five|six|seven|eight|nine|ten)\.rt$")
-QUOTED = "`docs/make` makes this page from `src/`. [Definitions](%s) has the words of the clauses%s."
+QUOTED = "`docs/make` makes this page from `src/`."
+IMPORTED = " [Imports](#imports) say where the words of the clauses stand."
 
 
 class Module:
@@ -135,7 +135,7 @@ def page(module, modules, exports, files):
     first, _ = module.sources[0]
     imported = imports_block(module)
     out = [f"# `{module.path()}`", "", *module_words(first.text), ""]
-    out += [QUOTED % (module.link("../DEFINITIONS.md"), ", and [Imports](#imports) their paths" * bool(imported)), ""]
+    out += [QUOTED + IMPORTED * bool(imported), ""]
     inner = [it for it in modules if it.name and it.name[:-1] == module.name]
     if inner:
         out += ["Modules: " + ", ".join(f"[`{it.name[-1]}`]({module.link(it.file())})" for it in inner) + ".", ""]
@@ -154,7 +154,7 @@ def page(module, modules, exports, files):
 def index(crates, exports, files):
     """docs/api/README.md: what is alike in all, and each public name with its page."""
     out = ["# Index of public names", ""]
-    out += ["Each name leads to its page, which has its whole words, its contract and the paths to import. " + REFUSED, "", *SAID_ONCE]
+    out += ["Each name leads to its page, which has its whole words, its contract and the paths to import. [README](../../README.md) says what *refused* means.", "", *SAID_ONCE]
     for modules in crates:
         out += ["", f"## `{modules[0].crate}`"]
         for module in modules:
@@ -191,7 +191,9 @@ What is alike in all is said here, and left out of the pages:
 - What the pages say of tuples of 2 options holds of those of 3 to 10: first the first part, then the others in turn.
 - A clause sees `x: &mut T` as `x.old` before the call and `x.new` after it, and `x: &T` as `x.now`.
 - `IfOk result f`: where the result is `Ok v`, f holds of v. `OnOk result p`: where it is `Ok`, p holds. `IfErr`,
-  `OnErr`, `IfSome` and the like, alike.""".splitlines()
+  `OnErr`, `IfSome` and the like, alike.
+- `Rattle.tabled_grid.specs.Grid` is the file crates/tabled_grid/specs/Grid.antt
+  ([ARCHITECTURE](../ARCHITECTURE.md#words-of-contracts)).""".splitlines()
 
 
 def pages(top, crates):

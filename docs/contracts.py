@@ -334,6 +334,11 @@ def used_by(text, quoted, methods):
     return [laid_out(path, brace, names) if brace else f"{path};" for _, path, brace, names in needed]
 
 
+def ghost_uses(text):
+    """The `ghost use` lines of a file, also those inside of its items."""
+    return "\n".join(re.findall(r"^ *(ghost use [^;]*;)", text, re.M))
+
+
 CLAUSE_LINE = re.compile(r"\s*(requires|ensures|ghost)\b")
 
 
@@ -342,9 +347,8 @@ def imports_of_clauses(told):
     found = {}
     for text, part in told:
         clauses = "\n".join(it for it in part.lines if CLAUSE_LINE.match(it))
-        for kind, path, brace, names in needed_imports(text, clauses, {}):
-            if kind == "ghost use":
-                found.setdefault((path, brace), set()).update(names)
+        for _, path, brace, names in needed_imports(ghost_uses(text), clauses, {}):
+            found.setdefault((path, brace), set()).update(names)
     return [laid_out(path, brace, sorted(names)) if brace else f"{path};" for (path, brace), names in sorted(found.items())]
 
 

@@ -1,4 +1,4 @@
-"""The scripts of examples/ with what they print and their pictures: as tables of cases for tests, and for docs/SCRIPT.md.
+"""The scripts of examples/ with what they print and their pictures: as tables of cases for tests, and for pages.
 
 NAME.script prints NAME.table, and `--draw` draws it as NAME.picture. NAME.before.picture has the table before the steps.
 """
@@ -134,6 +134,6 @@ def makers(top):
 
 
 def unshown(top, prose):
-    """The scripts of the gallery that a page doesn't show."""
+    """The scripts of the gallery that pages don't show."""
     named = set(re.findall(r"^(?:shown|script):(\S+)$", prose, re.M))
     return [it.stem for it in top.glob("examples/gallery/*.script") if it.stem not in named]

@@ -68,7 +68,7 @@ def verbs(top, prose):
 
 
 def selectors(top, prose):
-    lines = [it for it in under(prose, "Selectors").split("\n") if it.startswith("**")]
+    lines = re.findall(r"^- (\*\*.*)", under(prose, "Selectors"), re.M)
     lines = [plain(it).partition(": ") for it in lines]
     wanted = words_of_choices(top, "Selectors.antt", "range_selectors", "plain_selectors", "holding_selectors", "selectors")
     stop_where_other("selectors", [it.split()[0] for it, _, _ in lines], wanted)

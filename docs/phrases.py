@@ -1,6 +1,5 @@
 """What stands on many pages that are made."""
 
-REFUSED = "*Refused* means that memory was asked for and not given."
 # What stands before the list of a CALLING.md: the first where the original crate has a like.
 DIFFERS = "What differs from the original crate at a call:"
 OF_THIS_PROJECT = "The original crate has no like."

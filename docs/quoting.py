@@ -9,11 +9,12 @@
     tree:CRATE                  a crate's files, and what each is about
     part:PATH TRAIT             what a file says of a type as a trait
     definition:PATH NAME        a definition of a file of specs/
+    answer:PATH NAME            an answer of a file of proofs/
     own:CRATE NAME              the lines that make a program one's own, under a name
     added:CRATE NAME OF         the lines that put a crate below it, where it is made of the program OF
     taken:CRATE ..              the lines that take crates, with all that these use
     crates:all                  a table of the crates, and what each uses
-    files:all                   the files of the crates without tests, and what each is about
+    specs:CRATE FILE ..         a line of files of a crate's specs/, and what each is about
 Where a line names a file of crates/ and what does something there, as in - `NAME/src/x.rt`: `f`, `g`, these have to be there.
 """
 
@@ -22,8 +23,8 @@ from functools import cache
 
 import gallery
 from contracts import function_text, items, module_words, parts_of, public_names, sources_of, used_by
-from definitions import definitions_of
 from phrases import DIFFERS, OF_THIS_PROJECT
+from specs import definitions_of, first_sentence, places
 
 
 def crates_of(top):
@@ -89,10 +90,18 @@ def part(top, path, trait):
 
 def definition(top, path, name):
     """A definition of a file of specs/, under the words that say it."""
-    for it in definitions_of(top / path)[1]:
+    for it in definitions_of(top / path):
         if it.name == name:
             return fenced("text", f"-- {it.words}\n{it.text()}")
     raise SystemExit(f"docs/make: no {name} in {path} where a page names it")
+
+
+def answer(top, path, name):
+    """An answer of a file of proofs/."""
+    found = re.search(rf"^(?:[a-z]+ )*pub {name} :.*?(?=\n\n|\Z)", (top / path).read_text(), re.M | re.S)
+    if not found:
+        raise SystemExit(f"docs/make: no {name} in {path} where a page names it")
+    return fenced("text", found[0])
 
 
 def code(top, path, *names):
@@ -182,25 +191,14 @@ def crate_table(top, _):
     return "\n".join(lines)
 
 
-def specs_line(folder):
-    """What a crate's files of definitions are about."""
-    told = [(it.stem, about(it).rstrip(".")) for it in sorted(folder.glob("*.antt")) if it.name != "Lib.antt"]
-    if told:
-        yield "- specs/: " + "; ".join(f"`{name}`: {said[0].lower()}{said[1:]}" for name, said in told) + "."
-
-
-def file_list(top, _):
-    lines = []
-    for crate in crates_of(top):
-        if crate.endswith("_tests"):
-            continue
-        root = root_of(top, crate)
-        files = [it for it in sorted(root.parent.rglob("*.rt")) if it != root]
-        if files:
-            lines += [f"**{crate}**", ""]
-            lines += [f"- `{it.relative_to(root.parent)}`: {first_paragraph(it.read_text())}" for it in files]
-            lines += [*specs_line(top / "crates" / crate / "specs"), ""]
-    return "\n".join(it for i, it in enumerate(lines) if it or (i and lines[i - 1])).strip()
+def specs_line(top, crate, *names):
+    """A line of files of a crate's specs/, and what each is about."""
+    told = []
+    for name in names:
+        file = top / "crates" / crate / "specs" / f"{name}.antt"
+        said = first_sentence(file)
+        told.append(f"`{name}` ({said[0].lower()}{said[1:]})")
+    return f"- {crate}: " + ", ".join(told)
 
 
 def stop_at_missing(top, prose):
@@ -221,11 +219,12 @@ def quoted(top, prose):
         "tree": lambda crate: tree(top, crate),
         "part": lambda *words: part(top, *words),
         "definition": lambda *words: definition(top, *words),
+        "answer": lambda *words: answer(top, *words),
         "own": lambda *words: own(top, *words),
         "added": lambda *words: added(top, *words),
         "taken": lambda *words: all_taken(top, *words),
         "crates": lambda word: crate_table(top, word),
-        "files": lambda word: file_list(top, word),
+        "specs": lambda *words: specs_line(top, *words),
         **gallery.makers(top),
     }
     stop_at_missing(top, prose)
@@ -241,13 +240,15 @@ def shortened(line):
     return re.sub(r"\bself(\.(old|now))?\b", "S", line)
 
 
-def selected(parts, name):
-    """The lines of a name: what it is, its members for `TRAIT::MEMBER`, or what a type means for `TYPE as TRAIT`."""
-    for part in parts:
+def selected(told, name):
+    """The lines of a name, with the text of its source: what it is, a member for `TRAIT::MEMBER`, or what a type means
+    for `TYPE as TRAIT`.
+    """
+    for text, part in told:
         if part.name == name:
-            return part.lines
+            return text, part.lines
         if part.kind == "trait" and name.startswith(part.name + "::"):
-            return member(part, name)
+            return text, member(part, name)
     raise SystemExit(f"docs/make: no {name} where docs/calling names it")
 
 
@@ -277,13 +278,14 @@ def calling(top, crate):
     caller, *names = (top / "docs/calling" / f"{crate}.calls").read_text().splitlines()
     sources = sources_of(top / "crates" / crate / "src")
     public = public_names(sources)
-    parts = [part for source in sources for part in parts_of(source.text, public)]
+    told = [(source.text, part) for source in sources for part in parts_of(source.text, public)]
     is_own = "Ported from" not in "".join(source.text for source in sources)
     out = [f"# Calling `{crate}`", "", *module_words(sources[0].text), "", quoted(top, introduced(prose, is_own)), ""]
     out += ["## A caller", "", f"From `{caller.split()[0]}`, where it is proved:", "", code(top, *caller.split()), ""]
     out += ["## Contracts", "", "These are quoted from `src/`: `S` is what `self` is, or points to, at the call, and `S'`"]
-    out += [f"at the return. [docs/api](../../docs/api/README.md#{crate}) has all calls and the paths to import,"]
-    out += ["[DEFINITIONS](../../docs/DEFINITIONS.md) the words.", ""]
-    lines = [it for name in names for it in selected(parts, name)]
-    lines = [it for it in lines if not it.lstrip().startswith("//")]
-    return "\n".join([*out, "```text", *map(shortened, lines), "```"]) + "\n"
+    out += [f"at the return. [docs/api](../../docs/api/README.md#{crate}) has all calls and the paths to import.", ""]
+    chosen = [selected(told, name) for name in names]
+    lines = [it for _, lines in chosen for it in lines if not it.lstrip().startswith("//")]
+    out += ["```text", *map(shortened, lines), "```"]
+    words = [*places(crate, crates_of(top), chosen)]
+    return "\n".join([*out, *["", "Their words stand in", "", *words] * bool(words)]) + "\n"
