@@ -7,7 +7,7 @@ ghost use Rattle.tabled_grid.specs.Grid.{map_grid};
 
 use std::alloc::{AllocError, Global};
 use std::io::{self, Write};
-use tabled_draw::{Alignment, Drawing, Look, Style, draw_with, picture_with};
+use tabled_draw::{Alignment, Drawing, Look, Style, draw_with, picture_width, picture_with};
 use tabled_grid::config::SpannedConfig;
 use tabled_grid::records::{CellText, ExactRecords, PeekableRecords, Records};
 use tabled_table::Table;
@@ -29,6 +29,17 @@ pub fn in_a_style<W: Write>(
         table.get_config(),
         &look,
     )
+}
+
+/// Says whether a table's picture in a style is no wider than a page.
+pub fn fits_page(
+    alloc: Global,
+    table: &Table,
+    style: &Style,
+    columns: usize,
+) -> Result<bool, AllocError> {
+    let width = picture_width(alloc, table.get_records(), table.get_config(), style)?;
+    Ok(width <= columns)
 }
 
 /// Writes a table twice, where all memory is asked for before the first byte.

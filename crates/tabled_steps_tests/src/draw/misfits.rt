@@ -2,7 +2,7 @@
 
 use super::scripts::has_lines;
 use std::test::Fail;
-use tabled_draw::picture;
+use tabled_draw::{Style, picture, picture_width};
 use tabled_grid::config::SpannedConfig;
 use tabled_grid::records::Refusing;
 use tabled_options::TableOption;
@@ -34,8 +34,11 @@ fn merged_cells_that_do_not_fit_are_left_out(rt: HostRuntime) -> Result<(), Fail
         ),
     ] {
         let cfg = merged(alloc, rectangles)?;
-        let in_one = picture(alloc, &flat(alloc, "a b c / d e f /")?, &cfg)?;
+        let records = flat(alloc, "a b c / d e f /")?;
+        let in_one = picture(alloc, &records, &cfg)?;
         assert!(rt; has_lines(in_one.as_str(), lines), "{rectangles}");
+        let width = picture_width(alloc, &records, &cfg, &Style::ascii())?;
+        assert_eq!(rt; Some(width), lines.find('\n'), "{rectangles}");
         let in_rows = picture(alloc, &nested(alloc, "a b c / d e f /")?, &cfg)?;
         assert!(rt; has_lines(in_rows.as_str(), lines), "{rectangles}");
     }
