@@ -7,6 +7,7 @@ them as ours does, and the comparison goes on after them. Else what differs is s
 
 import unicodedata
 
+from added import SAID, is_too_deep
 from carried import spans_after
 from printed import ORDER
 
@@ -22,6 +23,12 @@ class State:
         self.texts = [line[1:] for line in lines if line[0] == b"row"]
         spans = [tuple(map(int, line[1:])) for line in lines if line[0] == b"span"]
         self.spans = {(i, j): (height, width) for i, j, height, width in spans}
+
+    def copied(self):
+        """The same with merged cells of its own."""
+        other = object.__new__(State)
+        other.rows, other.columns, other.texts, other.spans = self.rows, self.columns, self.texts, dict(self.spans)
+        return other
 
     def transposed(self):
         """The same with rows and columns exchanged, for what is said of rows."""
@@ -138,6 +145,14 @@ def named(before, words, one, other):
     return found
 
 
+def other_lines(before, words, ours, theirs, run):
+    """What may stand for a step in the original's program, each with its departure's name; None for most."""
+    for departure in REWRITTEN:
+        yield departure.__name__, departure(before, words, ours, theirs)
+    for word in SAID:
+        yield word.__name__, word(before, words, run)
+
+
 def is_step(line):
     return line and line.split(b"\t")[0] not in ORDER
 
@@ -145,18 +160,19 @@ def is_step(line):
 def step_departures(before, line, ours, run):
     """The names of a step's departures, or None; the line that stands for it; whether that says all."""
     names, step = [], line.split(b"\t")
-    for _ in range(len(REWRITTEN) + 1):
+    for _ in range(len(REWRITTEN) + len(SAID) + 1):
         theirs = run(line)
         if theirs == ours:
             return names, line, True
         words = line.split(b"\t")
-        for departure in REWRITTEN:
-            other = departure(before, words, ours, theirs)
-            if other is not None and departure.__name__ not in names:
-                names.append(departure.__name__)
+        for name, other in other_lines(before, words, ours, theirs, run):
+            if other is not None and name not in names:
+                names.append(name)
                 line = other
                 break
         else:
+            if is_too_deep(before, words, run):
+                return [*names, is_too_deep.__name__], line, False
             more = named(before, step, State(ours[1]), State(theirs[1])) if theirs[0] == 0 else None
             return (None if more is None else names + more), line, False
     return None, line, False

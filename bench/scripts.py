@@ -10,6 +10,8 @@ PLAIN = [b"", b"a", b"x y", b" ", b"row", b"set", b"all", b"cell", b"0", b"\r", 
          "\u200b".encode(), "\ufeff".encode()]
 ESCAPED = [b"\\t", b"\\n", b"\\\\", b"a\\tb", b"\\\\n", b"\\\\\\t", b"\\n\\n", b"a\\nb", "é\\té".encode()]
 BAD_ESCAPES = [b"\\", b"\\x", b"a\\", b"\\\\\\", b"\\T", b"\\\r", b"\\ ", "\\é".encode()]
+# Words of a text, with blanks between: two blanks come often.
+WRAPPED = [b"a", b"bc", b"def", b"", b"", "漢字".encode(), "e\u0301".encode(), b"\\n", b"\\t", b"\r"]
 # Cut off, unfinished after an escape, too long, a surrogate, beyond the last character.
 BAD_TEXTS = [b"\xff", b"\x80", b"a\xc3", b"\xc3\\t\xa9", b"\xc0\xaf", b"\xed\xa0\x80",
              b"\xf4\x90\x80\x80", b"\xe6\xbc", b"\xf0\x9f\x98", b"\xe9"]
@@ -17,7 +19,7 @@ UNKNOWN_WORDS = [b"spin", b"", b"Row", b"row ", b" row", b"row\r", b"SET", b"set
                  "é".encode(), b"first", b"first-row-plus", b"last", b"segments", b"step-by", b"panel", b"zip "]
 KNOWN_WORDS = [b"row", b"set", b"cell", b"all", b"column", b"rows", b"columns", b"start", b"end", b"left", b"zip",
                b"concat", b"clean", b"retain", b"vertical", b"horizontal", b"named", b"name", b"frame", b"and", b"step",
-               b"tabs", b"shape", b"span"]
+               b"tabs", b"shape", b"span", b"wrap", b"merge"]
 GOOD_NUMBERS = [b"00", b"01", b"0003", b"0000000000000000000000000000001", b"10000", b"9999", b"0000010000"]
 BAD_NUMBERS = [b"", b"+0", b"-0", b"+1", b"-1", b"+", b"-", b"--1", b"10001", b"010001", b"99999", b"4294967296",
                b"18446744073709551615", b"18446744073709551616", b"18446744073709551617", b"9" * 40, b"1x", b"x", b"1 ",
@@ -48,7 +50,8 @@ class Scripts:
         self.seed = seed
         self.steps = [self.set, self.dup, self.clean, self.tabs, self.cspan, self.rspan, self.cspan, self.rspan,
                       self.hpanel, self.vpanel, self.vpanelw, self.header, self.footer, self.vmerge, self.hmerge,
-                      self.rotate, self.reverse, self.split, self.split, self.extract, self.remove, self.concat]
+                      self.rotate, self.reverse, self.split, self.split, self.extract, self.remove, self.concat,
+                      self.wrap, self.merge, self.merge]
 
     def one_of(self, things):
         return things[int(self.random.random() * len(things))]
@@ -64,6 +67,8 @@ class Scripts:
             return self.one_of(BAD_ESCAPES + BAD_TEXTS)
         if self.below(3) > 0:
             return self.one_of(SHORT)
+        if self.below(2) == 0:
+            return b" ".join(self.one_of(WRAPPED) for _ in range(1 + self.below(5)))
         return b"".join(self.one_of(self.one_of([PLAIN, PLAIN, ESCAPED])) for _ in range(self.one_of([1, 1, 1, 0, 3])))
 
     def number(self):
@@ -151,6 +156,18 @@ class Scripts:
 
     def tabs(self):
         return [b"tabs", b"%d" % self.below(4), *self.selector()]
+
+    def many_cells(self):
+        """A selector, which often names many cells side by side."""
+        lines = [b"rows", b"0", self.number()], [b"columns", b"0", self.number()]
+        return self.one_of([[b"all"], *lines]) if self.below(2) == 0 else self.selector()
+
+    def wrap(self):
+        width = self.number() if self.below(3) == 0 else b"%d" % self.below(4)
+        return [b"wrap", width, *self.many_cells()]
+
+    def merge(self):
+        return [b"merge", self.word(b"vertical", b"horizontal"), *self.many_cells()]
 
     def cspan(self):
         return [b"cspan", self.size(), *self.selector()]

@@ -10,15 +10,20 @@ TEXTS = ["ab", "ab", "a\\tb"]  # of the rows, round and round: equal neighbours,
 def steps_on(rows, columns):
     """A step of each verb on a table, at most half of which it takes away."""
     row, column = (min(count // 2, LARGEST_NUMBER) for count in (rows, columns))
+    last_row, last_column = (min(count, LARGEST_NUMBER) for count in (rows, columns))
     return [
         "set all x",
         "dup all row 0",
         "clean all",
         "tabs 2 all",
+        *(f"wrap {width} all" for width in (1, 2)),
         "cspan 2 column 0",
         "rspan 2 row 0",
         "vmerge",
         "hmerge",
+        *(f"merge {side} all" for side in ("vertical", "horizontal")),
+        f"merge vertical columns 0 {last_column}",
+        f"merge horizontal rows 0 {last_row}",
         "header x",
         "footer x",
         f"hpanel {row} x",

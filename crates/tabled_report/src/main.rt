@@ -1,24 +1,26 @@
-//! Prints a report of sales.
+//! Draws a report of sales.
 //!
-//! A line of the input has a region, a month, the units that were sold and their price, with tabs between them.
-//! The first line names these columns and a fifth one, which the program fills in. In the output a cell that is
-//! merged with the one above it is `^`, and one that is merged with the one left of it is `<`.
+//! A line of the input has a customer, an item, the units that were sold and their price, with tabs between them.
+//! The first line names these columns and a fifth one, which the program fills in. However long the names are, the
+//! picture has at most 60 columns, unless a number is wider than the word above it.
 #![tactic(auto)]
-
-ghost use Rattle.std.specs.Prelude.{◌<◌};
 
 mod sale;
 
 use sale::{Sale, total};
 use std::alloc::{AllocError, Global};
 use std::io;
-use tabled_grid::config::Position;
-use tabled_select::object::Rows;
+use tabled_draw::{Alignment, Look, Style, draw_with};
+use tabled_select::object::{Columns, Rows};
 use tabled_settings::format::Format;
 use tabled_settings::merge::Merge;
 use tabled_settings::panel::Panel;
+use tabled_settings::width::Width;
 use tabled_table::Table;
 use tabled_table::builder::Builder;
+
+/// How many columns of a picture a name takes at most.
+const NAME_WIDTH: usize = 14;
 
 fn main(rt: HostRuntime) -> io::Result<()> {
     let alloc = rt.alloc();
@@ -36,17 +38,14 @@ fn main(rt: HostRuntime) -> io::Result<()> {
     records.push_record(alloc, cells(alloc, last_line.as_str())?)?;
 
     let report = report(alloc, records)?;
-    let (rows, columns) = report.shape();
-    for row in 0..rows {
-        let mut separator = "";
-        for col in 0..columns {
-            let text = shown(&report, Position::new(row, col));
-            print!(rt; "{separator}{text}")?;
-            separator = "\t";
-        }
-        println!(rt)?;
-    }
-    Ok(())
+    let alignments = [Alignment::left(), Alignment::left(), Alignment::right()];
+    draw_with(
+        alloc,
+        &mut io::writer(&rt),
+        report.get_records(),
+        report.get_config(),
+        &Look::new(Style::modern()).align(&alignments),
+    )
 }
 
 /// The cells of a line.
@@ -56,31 +55,19 @@ fn cells(alloc: Global, line: &str) -> Result<Vec<String>, AllocError> {
         .try_collect(alloc)
 }
 
-/// A table with the names of its columns in upper case, equal neighbours in a column merged, and a title.
+/// A table with the names of its columns in upper case, customers and items in short lines, each customer's name in
+/// one cell, and a title, which stays on a line. Equal numbers stay apart.
 fn report(alloc: Global, records: Builder) -> Result<Table, AllocError> {
     let mut table = records.build(alloc)?;
     table.modify(alloc, Rows::first(), Format::content(in_upper_case))?;
-    table.with(alloc, Merge::vertical())?;
-    let title = String::from_str(alloc, "Sales by region")?;
+    table.modify(alloc, Columns::first(), Merge::vertical())?;
+    let short_lines = Width::wrap(NAME_WIDTH).keep_words(true);
+    table.modify(alloc, Columns::new(..2), short_lines)?;
+    let title = String::from_str(alloc, "Sales by customer, with what they come to")?;
     table.with(alloc, Panel::header(title))?;
     Ok(table)
 }
 
 fn in_upper_case(alloc: Global, text: &str) -> Result<String, AllocError> {
     text.to_uppercase(alloc)
-}
-
-/// What is printed for a cell: its text, or a mark where it is merged with the one above it or left of it.
-fn shown(table: &Table, pos: Position) -> &str
-    requires row { pos.row < table.now.cells.rows }
-    requires column { pos.col < table.now.cells.columns }
-{
-    let merged = table.get_config();
-    if merged.is_cell_visible(pos) {
-        table.get_records().get(pos).as_str()
-    } else if merged.is_cell_covered_by_row_span(pos) {
-        "^"
-    } else {
-        "<"
-    }
 }
