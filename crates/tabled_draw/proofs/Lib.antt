@@ -4,6 +4,7 @@ pub mod Arms
 pub mod Before
 pub mod Common
 pub mod Each
+pub mod Escapes
 pub mod Example
 pub mod Fine
 pub mod Fitting
@@ -17,6 +18,7 @@ pub mod Rows
 pub mod Sent
 pub mod Shares
 pub mod Shown
+pub mod Singly
 pub mod Sizes
 pub mod Unmerged
 pub mod Widths

@@ -1,8 +1,9 @@
 //! Laws of pictures. Each is the contract of a function that does nothing.
 
-ghost use Rattle.std.specs.Prelude.{◌≡◌, ◌+◌, ◌⊎◌, ℕ, List, [], length, map};
+ghost use Rattle.std.specs.Prelude.{◌≡◌, ◌+◌, ◌⊎◌, ℕ, List, Some, [], length, map};
 ghost use Rattle.std.specs.FinMap.{entries};
 ghost use Rattle.std.specs.List.{AllByRecursion, sum};
+ghost use Rattle.tabled_draw.specs.Markdown.{escaped, read_cell};
 ghost use Rattle.tabled_draw.specs.Marks.{IsFine};
 ghost use Rattle.tabled_draw.specs.Overall.{AreEquallyWide, AreNoControls, AreNoLargerThanAsked, HoldsOfPictures, drawn_lines};
 ghost use Rattle.tabled_draw.specs.Picture.{drawn_with, picture, picture_bytes};
@@ -97,4 +98,10 @@ pub fn hidden_texts_do_not_matter()
 pub fn misfits_leave_no_trace()
     ensures all { (style : Style) (aligns : List Alignment) (g : Grid (List ℕ)) (m : SpanMap) → Fits m g.rows g.columns → drawn_with style aligns g m ≡ picture_bytes style aligns g (entries m) }
     ensures some { (style : Style) (aligns : List Alignment) (g : Grid (List ℕ)) (m : SpanMap) → AreSpanSizes m → drawn_with style aligns g m ≡ drawn_with style aligns g (keep_fitting g.rows g.columns m) }
+{}
+
+/// Any text is read back from what a cell of Markdown has of it: its bars and newlines end no cell, and a backslash or a
+/// `<br>` of its own is none of those that were put in.
+pub fn texts_of_markdown_are_read_back()
+    ensures { (text : List ℕ) → read_cell (escaped text) ≡ Some text }
 {}
