@@ -4,7 +4,7 @@ use Rattle.std.proofs.Common.{le-ltb, ltb, ltb-true}
 use Rattle.std.specs.Char.{is_ascii_punctuation}
 use Rattle.std.specs.List.{flat_map}
 use Rattle.std.specs.Prelude.{codes}
-use Rattle.tabled_draw.proofs.Common.{[], ◌%◌, ◌++◌, ◌+◌, ◌/◌, ◌<◌, ◌==◌, ◌||◌, ◌∙◌, ◌∷◌, ◌≡◌, ◌≢◌, ◌≤◌, AllByRecursion, Bool, List, Some, ap, append_assoc, arith, common_steps, cond, encode_ascii, encode_utf8, eqb, eqb-true, false, false≢true, ltb-false, ne_eqb, refl, sym, true, ℕ}
+use Rattle.tabled_draw.proofs.Common.{[], ◌%◌, ◌++◌, ◌+◌, ◌/◌, ◌<◌, ◌||◌, ◌∙◌, ◌∷◌, ◌≡◌, ◌≢◌, ◌≤◌, AllByRecursion, Bool, List, Some, ap, append_assoc, arith, common_steps, cond, encode_ascii, encode_utf8, eqb, eqb-true, false, false≢true, ltb-false, ne_eqb, refl, sym, true, ℕ}
 use Rattle.tabled_draw.specs.Markdown.{before, escaped, escaped_byte, needs_backslash, read_cell}
 
 -- ---- what is written

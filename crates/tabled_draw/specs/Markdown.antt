@@ -57,8 +57,8 @@ markdown aligns g m = drawn_with MARKDOWN aligns (apart g m) map.empty
 abbrev pub before : ℕ → Option (List ℕ) → Option (List ℕ)
 before b text = option_map (λ bs. b ∷ bs) text
 
--- the text of the bytes of a cell behind the first n: a mark behind a backslash is itself, `<br>` is a newline, and so is
--- none where a bar or a newline ends the cell, or where other HTML begins
+-- the text of the bytes of a cell behind the first n: a mark of ASCII behind a backslash is itself, and `<br>` is a newline;
+-- there is none where a bar or a newline ends the cell, or other HTML begins
 abbrev pub read_behind : ℕ → List ℕ → Option (List ℕ)
 read_behind n [] = Some []
 read_behind (suc n) (b ∷ bs) = read_behind n bs

@@ -1,9 +1,7 @@
 use Rattle.std.specs.String.{string_bytes}
-use Rattle.tabled_draw.proofs.Common.{[], ◌+◌, ◌∙◌, ◌∷◌, ◌≡◌, ap, arith, each, entries, map, map_grid, subst, sym}
+use Rattle.tabled_draw.proofs.Common.{[], ◌∙◌, ◌∷◌, ◌≡◌, ap, arith, each, entries, map_grid}
 use Rattle.tabled_draw.proofs.Singly.{row-more, wide-more}
 use Rattle.tabled_draw.specs.Markdown.{row_apart}
-use Rattle.tabled_grid.specs.Evenness.{AreWide}
-use Rattle.tabled_grid.specs.Grid.{map_items}
 use Rattle.tabled_draw.proofs.markdown.all_texts.Goals as goal
 
 pub loop-i-preserved : goal.loop-i-preserved
