@@ -6,7 +6,7 @@ use Rattle.std.specs.List.{flat_map}
 use Rattle.std.specs.Option.{option_map}
 use Rattle.std.specs.Str.{bytes_eq}
 use Rattle.tabled_draw.specs.Each.{each}
-use Rattle.tabled_draw.specs.Picture.{drawn_with}
+use Rattle.tabled_draw.specs.Picture.{drawn_with, picture}
 use Rattle.tabled_draw.specs.Sizes.{text_of_cell}
 use Rattle.tabled_draw.specs.declared.alignment.Alignment.{Alignment}
 use Rattle.tabled_draw.specs.declared.style.TheConstants.Style.{MARKDOWN}
@@ -46,6 +46,10 @@ rows_apart g es = each g.rows (λ i. row_apart g es i ∷ [])
 -- a table as Markdown has it, where the merged cells that fit it hide cells
 abbrev pub apart : Grid (List ℕ) → SpanMap → Grid (List ℕ)
 apart g m = grid_of (rows_apart g (fitting g.rows g.columns (map.entries m)))
+
+-- the lines of a table as Markdown
+abbrev pub markdown_lines : List Alignment → Grid (List ℕ) → SpanMap → List (List ℕ)
+markdown_lines aligns g m = picture MARKDOWN aligns (apart g m) []
 
 -- the bytes of a table as Markdown
 unfoldable pub markdown : List Alignment → Grid (List ℕ) → SpanMap → List ℕ
