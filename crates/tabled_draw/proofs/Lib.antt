@@ -4,11 +4,13 @@ pub mod Arms
 pub mod Before
 pub mod Common
 pub mod Each
+pub mod Escapes
 pub mod Example
 pub mod Fine
 pub mod Fitting
 pub mod LawLines
 pub mod LawPicture
+pub mod OneLine
 pub mod Order
 pub mod Owned
 pub mod PictureWidths
@@ -17,6 +19,7 @@ pub mod Rows
 pub mod Sent
 pub mod Shares
 pub mod Shown
+pub mod Singly
 pub mod Sizes
 pub mod Unmerged
 pub mod Widths

@@ -1,5 +1,5 @@
 -- The width of a picture is where its last edge ends.
-use Rattle.tabled_draw.proofs.Common.{◌+◌, ◌∙◌, ◌≡◌, AreSpanSizes, Columns, Grid, List, SpanMap, Style, ap, ap₂, entries, fitting, keep_fitting, left, line_size, ℕ}
+use Rattle.tabled_draw.proofs.Common.{◌+◌, ◌∙◌, ◌≡◌, AreSpanSizes, Grid, List, SpanMap, Style, ap, ap₂, entries, fitting, keep_fitting, left, line_size, ℕ}
 use Rattle.tabled_draw.proofs.Fitting.{kept-entries}
 use Rattle.tabled_draw.specs.Width.{picture_width}
 

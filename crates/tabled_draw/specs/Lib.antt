@@ -3,6 +3,7 @@ pub mod Borders
 pub mod Each
 pub mod Laid
 pub mod Lines
+pub mod Markdown
 pub mod Marks
 pub mod Measured
 pub mod Overall

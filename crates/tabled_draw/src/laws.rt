@@ -1,11 +1,12 @@
 //! Laws of pictures. Each is the contract of a function that does nothing.
 
-ghost use Rattle.std.specs.Prelude.{◌≡◌, ◌+◌, ◌⊎◌, ℕ, List, [], length, map};
+ghost use Rattle.std.specs.Prelude.{◌≡◌, ◌+◌, ◌⊎◌, ℕ, List, Some, [], encode_utf8_all, length, map};
 ghost use Rattle.std.specs.FinMap.{entries};
 ghost use Rattle.std.specs.List.{AllByRecursion, sum};
+ghost use Rattle.tabled_draw.specs.Markdown.{escaped, markdown, markdown_lines, read_cell};
 ghost use Rattle.tabled_draw.specs.Marks.{IsFine};
 ghost use Rattle.tabled_draw.specs.Overall.{AreEquallyWide, AreNoControls, AreNoLargerThanAsked, HoldsOfPictures, drawn_lines};
-ghost use Rattle.tabled_draw.specs.Picture.{drawn_with, picture, picture_bytes};
+ghost use Rattle.tabled_draw.specs.Picture.{drawn_with, picture, picture_bytes, with_newlines};
 ghost use Rattle.tabled_draw.specs.Sizes.{heights};
 ghost use Rattle.tabled_draw.specs.Standing.{AreSeenAlike, GoOn, HasBorders, HasPlainBorders, ShowsAllTexts};
 ghost use Rattle.tabled_draw.specs.Styles.{styles};
@@ -97,4 +98,16 @@ pub fn hidden_texts_do_not_matter()
 pub fn misfits_leave_no_trace()
     ensures all { (style : Style) (aligns : List Alignment) (g : Grid (List ℕ)) (m : SpanMap) → Fits m g.rows g.columns → drawn_with style aligns g m ≡ picture_bytes style aligns g (entries m) }
     ensures some { (style : Style) (aligns : List Alignment) (g : Grid (List ℕ)) (m : SpanMap) → AreSpanSizes m → drawn_with style aligns g m ≡ drawn_with style aligns g (keep_fitting g.rows g.columns m) }
+{}
+
+/// Any text is read back from what a cell of Markdown has of it: its bars and newlines end no cell, and a backslash or a
+/// `<br>` of its own is none of those that were put in.
+pub fn texts_of_markdown_are_read_back()
+    ensures { (text : List ℕ) → read_cell (escaped text) ≡ Some text }
+{}
+
+/// Markdown has a line for each row, whatever stands in its texts, and one below the first row.
+pub fn rows_are_lines_of_markdown()
+    ensures lines { (aligns : List Alignment) (g : Grid (List ℕ)) (m : SpanMap) → markdown aligns g m ≡ encode_utf8_all (with_newlines (markdown_lines aligns g m)) }
+    ensures rows { (aligns : List Alignment) (g : Grid (List ℕ)) (m : SpanMap) → IsInside g (place 0 0) → length (markdown_lines aligns g m) ≡ g.rows + 1 }
 {}
