@@ -4,6 +4,7 @@ use Rattle.std.specs.Fmt.{decimal}
 use Rattle.std.specs.Io.KnownBytes.{Appends}
 use Rattle.std.specs.List.{fold}
 use Rattle.tabled_csv.specs.Writing.{csv_of}
+use Rattle.tabled_draw.specs.Markdown.{markdown}
 use Rattle.tabled_draw.specs.Picture.{drawn, drawn_with}
 use Rattle.tabled_grid.specs.Spans.{AreSpanSizes}
 use Rattle.tabled_grid.specs.Fitting.{Fits}
@@ -38,6 +39,7 @@ abbrev pub IsWrittenAs : Form → State → List ℕ → Type 0
 IsWrittenAs form.Script s bytes = bytes ≡ print s
 IsWrittenAs (form.Picture style alignments) s bytes = bytes ≡ drawn_with style alignments.items s.texts s.spans
 IsWrittenAs (form.NarrowPicture width style alignments) s bytes = IsNarrowPicture width style alignments.items s.texts s.spans bytes
+IsWrittenAs (form.Markdown alignments) s bytes = bytes ≡ markdown alignments.items s.texts s.spans
 IsWrittenAs (form.Csv separator) s bytes = bytes ≡ csv_of separator s.texts.cells
 
 -- nothing was written, since no picture is as narrow as is asked for
@@ -45,6 +47,7 @@ abbrev pub LeavesUndrawn : Form → Option (List ℕ) → Option (List ℕ) → 
 LeavesUndrawn form.Script old new = ⊥
 LeavesUndrawn (form.Picture style alignments) old new = ⊥
 LeavesUndrawn (form.NarrowPicture width style alignments) old new = new ≡ old
+LeavesUndrawn (form.Markdown alignments) old new = ⊥
 LeavesUndrawn (form.Csv separator) old new = ⊥
 
 -- `line N: fault K`
@@ -64,6 +67,7 @@ abbrev pub known_as : Form → State → Type 0
 known_as form.Script s = IsTableIfFitting s
 known_as (form.Picture style alignments) s = AreSpanSizes s.spans
 known_as (form.NarrowPicture width style alignments) s = AreSpanSizes s.spans
+known_as (form.Markdown alignments) s = AreSpanSizes s.spans
 known_as (form.Csv separator) s = Unit {0}
 
 -- a state was written in a form, and what is known of it then

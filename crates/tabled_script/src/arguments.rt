@@ -33,6 +33,13 @@ enum Written {
     Csv,
 }
 
+/// What a picture is drawn in.
+#[derive(Clone, Copy)]
+enum Drawn {
+    Style(Style),
+    Markdown,
+}
+
 /// The arguments that were taken so far.
 ///
 /// Of this project.
@@ -40,7 +47,7 @@ enum Written {
 pub struct Arguments {
     next: Next,
     written: Written,
-    style: Style,
+    drawn: Drawn,
     alignments: Vec<Alignment>,
     width: Option<usize>,
     file: Option<String>,
@@ -56,7 +63,7 @@ impl Arguments {
         Arguments {
             next: Next::Option,
             written: Written::Script,
-            style: Style::ascii(),
+            drawn: Drawn::Style(Style::ascii()),
             alignments: Vec::new(alloc),
             width: None,
             file: None,
@@ -76,7 +83,11 @@ impl Arguments {
                 let Some(style) = Style::named(argument) else {
                     return Err(Refusal::NoStyle(String::from_str(alloc, argument)?));
                 };
-                self.style = style;
+                // As Markdown a table has to be escaped, and not only drawn.
+                self.drawn = match argument {
+                    "markdown" => Drawn::Markdown,
+                    _ => Drawn::Style(style),
+                };
             }
             Next::Alignments => {
                 for letter in argument.chars() {
@@ -115,7 +126,7 @@ impl Arguments {
         let Arguments {
             next,
             written,
-            style,
+            drawn,
             alignments,
             width,
             file,
@@ -138,9 +149,12 @@ impl Arguments {
         Ok(Request {
             form: match written {
                 Written::Script => Form::Script,
-                Written::Picture => match width {
-                    Some(width) => Form::NarrowPicture(width, style, alignments),
-                    None => Form::Picture(style, alignments),
+                Written::Picture => match (drawn, width) {
+                    (Drawn::Style(style), Some(width)) => {
+                        Form::NarrowPicture(width, style, alignments)
+                    }
+                    (Drawn::Style(style), None) => Form::Picture(style, alignments),
+                    (Drawn::Markdown, _) => Form::Markdown(alignments),
                 },
                 Written::Csv => Form::Csv(separator),
             },

@@ -6,7 +6,7 @@ ghost use Rattle.tabled_script.specs.Answer.{LeavesUndrawn, ShowsState};
 ghost use Rattle.tabled_script.specs.InMemory.{state_in};
 
 use crate::output::write_script;
-use crate::picture::{write_narrow_picture, write_picture};
+use crate::picture::{write_markdown, write_narrow_picture, write_picture};
 use crate::values::write_values;
 use std::alloc::{AllocError, Global};
 use std::io::{self, Write};
@@ -28,6 +28,8 @@ pub enum Form {
     /// The same of at most n columns: where that is needed, the lines of texts are cut between words, those of the widest
     /// columns first, and where no word is short enough, in words.
     NarrowPicture(usize, Style, Vec<Alignment>),
+    /// Markdown, in which each row takes one line: texts are escaped, and of merged cells the first has the text.
+    Markdown(Vec<Alignment>),
     /// The texts of its cells as CSV, those of hidden cells, too.
     Csv(Separator),
 }
@@ -55,6 +57,9 @@ impl Form {
             Form::NarrowPicture(width, style, alignments) => {
                 write_narrow_picture(alloc, records, spans, *style, alignments, *width, writer)
             }
+            Form::Markdown(alignments) => Ok(Some(write_markdown(
+                alloc, records, spans, alignments, writer,
+            )?)),
             Form::Csv(separator) => { Ok(Some(write_values(alloc, records, *separator, writer)?)) }
         }
     }

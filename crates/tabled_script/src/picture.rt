@@ -1,7 +1,8 @@
-//! The picture of a table.
+//! The picture of a table, and a table as Markdown.
 
 ghost use Rattle.std.specs.Io.KnownBytes.{Appends};
 ghost use Rattle.std.specs.Prelude.{◌≡◌, IfNone, IfOk, IfSome, OnErr, OnOk};
+ghost use Rattle.tabled_draw.specs.Markdown.{markdown};
 ghost use Rattle.tabled_draw.specs.Picture.{drawn_with};
 ghost use Rattle.tabled_grid.specs.Grid.{IsEven, grid_of, map_items};
 ghost use Rattle.tabled_grid.specs.Spans.{AreSpanSizes};
@@ -12,8 +13,9 @@ use crate::narrow::narrow;
 use std::alloc::{AllocError, Global};
 use std::io::{self, Write};
 use tabled_draw::laws::lines_take_the_width_of_their_picture;
-use tabled_draw::{Alignment, Drawing, Look, Style};
+use tabled_draw::{Alignment, Drawing, Look, Style, markdown_texts};
 use tabled_grid::config::SpannedConfig;
+use tabled_grid::records::{CellText, ExactRecords, PeekableRecords, Records};
 use tabled_language::LentText;
 
 /// Writes the picture of a table with those of its merged cells that fit, and flushes the writer. All memory is
@@ -62,8 +64,32 @@ pub(crate) fn write_narrow_picture<W: Write>(
     Ok(Some(written))
 }
 
+/// Writes a table as Markdown, and flushes the writer. All memory is asked for before the first byte: refused, nothing
+/// is written.
+pub(crate) fn write_markdown<W: Write>(
+    alloc: Global,
+    records: Vec<Vec<LentText>>,
+    spans: &SpannedConfig,
+    alignments: &[Alignment],
+    writer: &mut W,
+) -> Result<io::Result<()>, AllocError>
+    requires { IsEven (grid_of (map_items records.items)) }
+    ensures written { IfOk result (λ written. OnOk written (Appends (W.contents writer.old) (W.contents writer.new) (markdown alignments.now (texts_in records.entry.items) spans.now))) }
+    ensures refused { OnErr result (W.contents writer.new ≡ W.contents writer.old) }
+    ensures sizes { AreSpanSizes spans.now }
+{
+    let texts = markdown_texts(alloc, &records, spans)?;
+    let look = Look::new(Style::markdown()).align(alignments);
+    let drawing = Drawing::with_look(alloc, &texts, &SpannedConfig::new(alloc), &look)?;
+    Ok(write_drawing(drawing, writer))
+}
+
 /// Writes a picture, and flushes the writer.
-fn write_drawing<W: Write>(drawing: Drawing<Vec<Vec<LentText>>>, writer: &mut W) -> io::Result<()>
+fn write_drawing<R, W>(drawing: Drawing<R>, writer: &mut W) -> io::Result<()>
+where
+    R: Records + ExactRecords + PeekableRecords,
+    R::Cell: CellText,
+    W: Write,
     ensures { OnOk result (Appends (W.contents writer.old) (W.contents writer.new) drawing.entry) }
 {
     drawing.write(writer)?;

@@ -1,13 +1,17 @@
 //! Calls of pictures: tables in a style, with numbers to the right.
 
-ghost use Rattle.std.specs.Prelude.{◌≡◌, [], IfOk};
+ghost use Rattle.std.specs.Prelude.{◌≡◌, [], IfOk, OnOk};
+ghost use Rattle.std.specs.Io.KnownBytes.{Appends};
 ghost use Rattle.std.specs.String.{string_bytes};
+ghost use Rattle.tabled_draw.specs.Markdown.{markdown};
 ghost use Rattle.tabled_draw.specs.Picture.{drawn_with};
 ghost use Rattle.tabled_grid.specs.Grid.{map_grid};
 
 use std::alloc::{AllocError, Global};
 use std::io::{self, Write};
-use tabled_draw::{Alignment, Drawing, Look, Style, draw_with, picture_width, picture_with};
+use tabled_draw::{
+    Alignment, Drawing, Look, Style, draw_markdown, draw_with, picture_width, picture_with,
+};
 use tabled_grid::config::SpannedConfig;
 use tabled_grid::records::{CellText, ExactRecords, PeekableRecords, Records};
 use tabled_table::Table;
@@ -50,6 +54,23 @@ pub fn twice<W: Write>(alloc: Global, writer: &mut W, table: &Table) -> io::Resu
     let second = Drawing::new(alloc, table.get_records(), table.get_config())?;
     first.write(writer)?;
     second.write(writer)
+}
+
+/// Writes a table as Markdown, with all texts to the left.
+pub fn as_markdown<W, R>(
+    alloc: Global,
+    writer: &mut W,
+    records: &R,
+    cfg: &SpannedConfig,
+) -> io::Result<()>
+where
+    W: Write,
+    R: Records + ExactRecords + PeekableRecords,
+    R::Cell: CellText,
+    requires well { R.is_well_formed records.now }
+    ensures written { OnOk result (Appends (W.contents writer.old) (W.contents writer.new) (markdown [] (map_grid R.Cell.text_of (R.grid records.now)) cfg.now)) }
+{
+    draw_markdown(alloc, writer, records, cfg, &[])
 }
 
 /// A picture in a style, with all texts to the left.

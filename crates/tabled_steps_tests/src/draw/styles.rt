@@ -284,7 +284,7 @@ fn alignment(letter: Option<char>, before: Alignment) -> Alignment {
 }
 
 /// The alignments that letters name, of which the last one counts for the columns behind it.
-fn alignments(letters: &str) -> [Alignment; 3] {
+pub(crate) fn alignments(letters: &str) -> [Alignment; 3] {
     let mut letters = letters.chars();
     let first = alignment(letters.next(), Alignment::left());
     let second = alignment(letters.next(), first);

@@ -114,7 +114,31 @@ fn arguments_ask_for_steps_and_forms(rt: HostRuntime) -> Result<(), Fail> {
             "+----+---+\n| 漢 | x |\n| 字 |   |\n| 漢 |   |\n| 字 |   |\n+----+---+\n",
             "",
         ),
-        ("--width|1|row|a b", "", "", 0, "shape\t1\t1\nrow\ta b\n", ""),
+        (
+            "--width|1|row|a b",
+            "",
+            "",
+            0,
+            "shape\t1\t1\nrow\ta b\n",
+            "",
+        ),
+        // Markdown is escaped, and of no width.
+        (
+            "--width|9|--style|markdown|--align|lr|set|cell|1|0|<br>",
+            "",
+            "row\ta|b\tx\\ny\nrow\t1\t2\nspan\t1\t0\t1\t2\n",
+            0,
+            "| a\\|b  | x<br>y |\n|-------|--------|\n| \\<br> |        |\n",
+            "",
+        ),
+        (
+            "--style|markdown|--style|ascii|row|a",
+            "",
+            "",
+            0,
+            "+---+\n| a |\n+---+\n",
+            "",
+        ),
         // Faults are told with the words of their lines, if that is asked for.
         ("vmreg", "", "row\ta", 2, "line 2: fault 1\n", ""),
         (
