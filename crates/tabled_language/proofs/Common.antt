@@ -2,7 +2,7 @@
 pub use Rattle.std.proofs.Common.{◌==◌, codes, leb, length-take, map-id, ne_eqb}
 pub use Rattle.std.proofs.lemmas.Bool.{leb-false, or_from, or_parts, true≢false}
 pub use Rattle.std.proofs.lemmas.Bool.Decides.{eqb_tells, leb_tells}
-pub use Rattle.std.proofs.lemmas.List.{get_or_read, take_rest}
+pub use Rattle.std.proofs.lemmas.List.{take_rest}
 pub use Rattle.std.proofs.lemmas.List.Elements.{All-from_get_or, filter_map-append}
 pub use Rattle.std.proofs.lemmas.List.Folds.{list_all-append, prefix_len-append}
 pub use Rattle.std.proofs.lemmas.List.Sorted.{IsPermutation-sym}
@@ -31,8 +31,8 @@ pub use Rattle.tabled_language.specs.Faults.{fault_among, fault_of, first_fault,
 pub use Rattle.tabled_language.specs.Lent.{bytes_of, texts_in_row}
 pub use Rattle.tabled_language.specs.Line.{anchor_in, has_byte, is_plain, lines_of, meaning_of, record_in, says_line, shape_in, step_in, table_from, texts_of, words_of}
 pub use Rattle.tabled_language.specs.Output.{IsOwnWord, escaped, escaped_byte, line, print, span_line, tab_separated}
-pub use Rattle.tabled_language.specs.Parsing.{EndsEarly, LineEnds, Reads, ReadsLine, ReadsScript, ScriptEnds, draft_in}
-pub use Rattle.tabled_language.specs.Placed.{IsFirstMisfit, NumberedAnchors, fit_in, has_place, have_places}
+pub use Rattle.tabled_language.specs.Parsing.{DraftMeans, EndsDraft, EndsEarly, EndsScript, LineEnds, Reads, ReadsLine, ReadsScript, draft_in, in_line}
+pub use Rattle.tabled_language.specs.Placed.{EndsMerge, IsFirstMisfit, fit_in, has_place, have_places}
 pub use Rattle.tabled_language.specs.Script.{Script, parse, script_of, script_or_fault, start}
 pub use Rattle.tabled_language.specs.Selectors.{reads_cells, reads_selector, selectors}
 pub use Rattle.tabled_language.specs.Sizes.{reads_anchor, reads_shape, reads_width}
@@ -43,6 +43,7 @@ pub use Rattle.tabled_language.specs.Words.{Read, Reading, behind, fails, first_
 pub use Rattle.tabled_language.specs.declared.draft.Shape.{Shape}
 pub use Rattle.tabled_language.specs.declared.fault.Fault.{Fault}
 pub use Rattle.tabled_language.specs.declared.fault.Fault.TheVariants.{NumberRange, OutOfPlace, ShapeDiffers, SpanMisfits}
+pub use Rattle.tabled_language.specs.declared.fault.ParseError.{ParseError}
 pub use Rattle.tabled_language.specs.declared.fault.ReadError.{ReadError}
 pub use Rattle.tabled_language.specs.declared.fault.ReadError.TheVariants.{Faulty, OutOfMemory}
 pub use Rattle.tabled_select.proofs.Common.{◌%◌, IfOk-weaker, lt-ltb}

@@ -1,5 +1,9 @@
 -- The checks of a whole draft.
-use Rattle.tabled_language.proofs.Common.{[], ◌++◌, ◌+◌, ◌<◌, ◌∙◌, ◌∷◌, ◌≡◌, Draft, Err, Grid, IsFirstMisfit, Line, List, None, Ok, Option, Script, Shape, ShapeDiffers, Some, SpanMap, SpanMisfits, Vec, ap, ap₂, draft_of, fault_of, first_fault, fit_in, from_entries, get_or, length, length-map, longest, longest-push, map, map-append, map_items, max, option_map, refl, script_or_fault, shape_misfit, subst, sym, table_from, take, take_more, true, ℕ}
+use Rattle.tabled_language.proofs.Common.{[], ◌++◌, ◌+◌, ◌<◌, ◌∙◌, ◌∷◌, ◌≡◌, Draft, DraftMeans, EndsDraft, EndsMerge, EndsScript, Err, Fault, Grid, IfOk, IsFirstMisfit, Line, List, None, Ok, Option, ParseError, ReadsScript, Result, Script, Shape, ShapeDiffers, Some, SpanMap, SpanMisfits, Vec, ap, ap₂, draft_of, fault_of, first_fault, fit_in, from_entries, get_or, length, length-map, lines_of, longest, longest-push, map, map-append, map_items, max, option_map, parse, refl, says_line, script_or_fault, shape_misfit, subst, sym, table_from, take, take_more, true, ℕ}
+use Rattle.std.specs.Prelude.{IfErr, MatchResult}
+use Rattle.tabled_language.specs.Parsing.{IsScript, script_in}
+use Rattle.tabled_language.specs.declared.fault.ParseError.TheVariants as parse_error
+use Rattle.tabled_language.specs.declared.script.Script.{Script as Scripted}
 use Rattle.tabled_language.proofs.DraftSteps.{all_fits, shape_differs, span_misfits}
 
 pub longest-map : {A B : Type 0} (f : A → B) (rows : List (List A)) → longest (map (map f) rows) ≡ longest rows
@@ -49,6 +53,27 @@ module _ (lines : List Line) (fine : first_fault fault_of [] lines ≡ None) (d 
     where
       scripted : Draft → SpanMap → Script
       scripted f k = record { records = f.records; spans = k; steps = f.steps }
+
+-- why anchors aren't merged is why a draft becomes no script
+pub draft_ends : (d : Draft) (rows columns : ℕ) → HasShape d.records rows columns → (said : Option ℕ) → option_map (λ n. (n, ShapeDiffers)) said ≡ shape_misfit (record { rows = rows; columns = columns; cells = [] }) d.shape → said ≡ None → (error : ParseError) → EndsMerge rows columns (record { anchors = d.anchors; numbers = d.lines }) error → EndsDraft d error
+draft_ends d rows columns shape said told none (parse_error.Faulty line fault) (is, i, misfit, number) =
+    λ lines fine drafted. checked_span lines fine d drafted rows columns shape said told i line none misfit number ∙ ap (λ (f : Fault). Err (line, f)) (sym is)
+draft_ends d rows columns shape said told none parse_error.OutOfMemory some = some
+
+-- a script that was read means what its draft does
+pub read_means : {input : List ℕ} {d : Draft} {meant : Result Script (ℕ × Fault)} → ReadsScript input d → DraftMeans d meant → parse input ≡ meant
+read_means {input} read means = means (map says_line (lines_of input)) read.faultless read.is
+
+-- what its draft becomes answers it
+pub answers_script : {input : List ℕ} {d : Draft} (r : Result Scripted ParseError) → ReadsScript input d → MatchResult r (λ s. DraftMeans d (Ok (script_in s.records.items s.spans s.steps.items))) (EndsDraft d) → IfOk r (IsScript (parse input))
+answers_script (Ok s) read means = read_means read means
+answers_script (Err error) read ended = tt
+
+-- so does why it becomes none
+pub answers_end : {input : List ℕ} {d : Draft} (r : Result Scripted ParseError) → ReadsScript input d → MatchResult r (λ s. DraftMeans d (Ok (script_in s.records.items s.spans s.steps.items))) (EndsDraft d) → IfErr r (EndsScript input)
+answers_end (Ok s) read means = tt
+answers_end (Err (parse_error.Faulty line fault)) read ended = read_means read ended
+answers_end (Err parse_error.OutOfMemory) read some = read.asks some
 
 -- one record more
 pub longest-more : {A : Type 0} (rows : List (Vec A)) (i old new : ℕ) (row : Vec A) → i < length rows → row ≡ get_or rows i row → old ≡ longest (map_items (take i rows)) → new ≡ max old (length row.items) → new ≡ longest (map_items (take (i + 1) rows))

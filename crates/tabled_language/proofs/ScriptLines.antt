@@ -1,5 +1,5 @@
 -- A script read line by line into a draft.
-use Rattle.tabled_language.proofs.Common.{[], ◌&&◌, ◌++◌, ◌+◌, ◌<◌, ◌∙◌, ◌∷◌, ◌≡◌, ◌≢◌, ◌≤◌, AllByRecursion, Bool, Draft, Err, Fault, Faulty, IsUtf8-from_is_utf8, LackEach, Line, LineEnds, List, None, Ok, Option, OutOfMemory, OutOfPlace, ReadError, ReadsLine, ReadsScript, RecordLine, Rectangle, Result, ScriptEnds, ShapeLine, Some, SpanLine, State, all-append, anchor_in, and_from, and_parts, ap, append-nil, append_assoc, arith, behind, bytes_eq, cond, count_by-le-length, draft_of, eqb, false, false_from_ne_true, fault_behind, fault_of, first_fault, is_in_place, is_ok, is_plain, keeping_asks, length, length-append, length-map, length-slice_split, lines_of, meaning_of, none-some, not-true, or_right, parts_lack_separator, reads_anchor, reads_shape, refl, remove, says_line, script_or_fault, slice_index_or, step_line, steps, sym, takes, texts_of, true, whole, with_line, words_fault, words_of, ℕ}
+use Rattle.tabled_language.proofs.Common.{[], ◌&&◌, ◌++◌, ◌+◌, ◌<◌, ◌∙◌, ◌∷◌, ◌≡◌, ◌≢◌, ◌≤◌, AllByRecursion, Bool, Draft, EndsScript, Err, Fault, Faulty, IsUtf8-from_is_utf8, LackEach, Line, LineEnds, List, None, Ok, Option, OutOfMemory, OutOfPlace, ReadError, ReadsLine, ReadsScript, RecordLine, Rectangle, Result, ShapeLine, Some, SpanLine, State, all-append, anchor_in, and_from, and_parts, ap, append-nil, append_assoc, arith, behind, bytes_eq, cond, count_by-le-length, draft_of, eqb, false, false_from_ne_true, fault_behind, fault_of, first_fault, in_line, is_in_place, is_ok, is_plain, keeping_asks, length, length-append, length-map, length-slice_split, lines_of, meaning_of, none-some, not-true, or_right, parts_lack_separator, reads_anchor, reads_shape, refl, remove, says_line, script_or_fault, slice_index_or, step_line, steps, sym, takes, texts_of, true, whole, with_line, words_fault, words_of, ℕ}
 use Rattle.std.specs.Prelude.{codes, map}
 use Rattle.std.proofs.lemmas.Slice.Eq.{bytes_eq-Decides}
 use Rattle.tabled_language.specs.Memory.{line_asks, lines_ask, words_ask}
@@ -35,39 +35,39 @@ has_read-counts input line rest number draft h =
 
 -- a line without a fault stands in its place
 in_its_place : (earlier : List Line) (line : Line) → fault_of earlier line ≡ None → is_in_place earlier line ≡ true
-in_its_place earlier line fine = by (is_in_place earlier line) fine
+in_its_place earlier line fine = told_in_place (is_in_place earlier line) fine
   where
-    by : (b : Bool) → cond b (words_fault line) (Some OutOfPlace) ≡ None → b ≡ true
-    by true e = refl
-    by false e = absurd (none-some OutOfPlace (sym e))
+    told_in_place : (b : Bool) → cond b (words_fault line) (Some OutOfPlace) ≡ None → b ≡ true
+    told_in_place true e = refl
+    told_in_place false e = absurd (none-some OutOfPlace (sym e))
 
 -- words that say an anchor ask for memory in their place
 words_ask-span : (in_place : Line → Bool) (words : List (List ℕ)) (anchor : Rectangle) → anchor_in (meaning_of (Some words)) ≡ Some anchor → in_place (meaning_of (Some words)) ≡ true → words_ask in_place words ≡ true
 words_ask-span in_place [] anchor is here = absurd (none-some anchor is)
-words_ask-span in_place (verb ∷ texts) anchor is here = by (bytes_eq verb (codes "row")) (bytes_eq verb (codes "shape")) (bytes_eq verb (codes "span")) is here
+words_ask-span in_place (verb ∷ texts) anchor is here = whichever_verb (bytes_eq verb (codes "row")) (bytes_eq verb (codes "shape")) (bytes_eq verb (codes "span")) is here
   where
-    kept : (read : Result Rectangle Fault) → anchor_in (SpanLine read) ≡ Some anchor → is_ok read ≡ true
-    kept (Ok e) is = refl
-    kept (Err fault) is = absurd (none-some anchor is)
+    anchor_is_read : (read : Result Rectangle Fault) → anchor_in (SpanLine read) ≡ Some anchor → is_ok read ≡ true
+    anchor_is_read (Ok e) is = refl
+    anchor_is_read (Err fault) is = absurd (none-some anchor is)
 
-    no_step : (read : Result (State → State) Fault) → anchor_in (step_line read) ≡ None
-    no_step (Ok step) = refl
-    no_step (Err fault) = refl
+    step_has_no_anchor : (read : Result (State → State) Fault) → anchor_in (step_line read) ≡ None
+    step_has_no_anchor (Ok step) = refl
+    step_has_no_anchor (Err fault) = refl
 
-    by : (row shape span : Bool) → anchor_in (cond row (RecordLine texts) (cond shape (ShapeLine (whole reads_shape texts)) (cond span (SpanLine (whole reads_anchor texts)) (step_line (whole (behind steps verb) texts))))) ≡ Some anchor → in_place (cond row (RecordLine texts) (cond shape (ShapeLine (whole reads_shape texts)) (cond span (SpanLine (whole reads_anchor texts)) (step_line (whole (behind steps verb) texts))))) ≡ true → cond row (in_place (RecordLine texts)) (cond shape false (cond span (in_place (SpanLine (whole reads_anchor texts)) && keeping_asks reads_anchor texts) (keeping_asks (behind steps verb) texts))) ≡ true
-    by true shape span is here = here
-    by false true span is here = absurd (none-some anchor is)
-    by false false true is here = and_from _ _ here (or_right (reads_anchor.asks texts) _ (kept (whole reads_anchor texts) is))
-    by false false false is here = absurd (none-some anchor (sym (no_step (whole (behind steps verb) texts)) ∙ is))
+    whichever_verb : (row shape span : Bool) → anchor_in (cond row (RecordLine texts) (cond shape (ShapeLine (whole reads_shape texts)) (cond span (SpanLine (whole reads_anchor texts)) (step_line (whole (behind steps verb) texts))))) ≡ Some anchor → in_place (cond row (RecordLine texts) (cond shape (ShapeLine (whole reads_shape texts)) (cond span (SpanLine (whole reads_anchor texts)) (step_line (whole (behind steps verb) texts))))) ≡ true → cond row (in_place (RecordLine texts)) (cond shape false (cond span (in_place (SpanLine (whole reads_anchor texts)) && keeping_asks reads_anchor texts) (keeping_asks (behind steps verb) texts))) ≡ true
+    whichever_verb true shape span is here = here
+    whichever_verb false true span is here = absurd (none-some anchor is)
+    whichever_verb false false true is here = and_from _ _ here (or_right (reads_anchor.asks texts) _ (anchor_is_read (whole reads_anchor texts) is))
+    whichever_verb false false false is here = absurd (none-some anchor (sym (step_has_no_anchor (whole (behind steps verb) texts)) ∙ is))
 
 -- so does a line
 line_asks-span : (in_place : Line → Bool) (line : List ℕ) (anchor : Rectangle) → anchor_in (says_line line) ≡ Some anchor → in_place (says_line line) ≡ true → line_asks in_place line ≡ true
 line_asks-span in_place [] anchor is here = absurd (none-some anchor is)
-line_asks-span in_place (b ∷ bs) anchor is here = by (is_plain (b ∷ bs)) refl
+line_asks-span in_place (b ∷ bs) anchor is here = plain_or_not (is_plain (b ∷ bs)) refl
   where
-    by : (plain : Bool) → is_plain (b ∷ bs) ≡ plain → cond plain (words_ask in_place (words_of (b ∷ bs))) true ≡ true
-    by false e = refl
-    by true e =
+    plain_or_not : (plain : Bool) → is_plain (b ∷ bs) ≡ plain → cond plain (words_ask in_place (words_of (b ∷ bs))) true ≡ true
+    plain_or_not false e = refl
+    plain_or_not true e =
         let parts = and_parts _ _ e in
         let said : says_line (b ∷ bs) ≡ meaning_of (Some (words_of (b ∷ bs))) = ap meaning_of (texts_of-plain (b ∷ bs) (IsUtf8-from_is_utf8 (b ∷ bs) parts.0) (not-true _ parts.1)) in
         words_ask-span in_place (words_of (b ∷ bs)) anchor (ap anchor_in (sym said) ∙ is) (ap in_place (sym said) ∙ here)
@@ -116,7 +116,7 @@ has_read-fault {all} {rest} {number} {draft} line fault h bad =
     rw (first, h.counted) refl
 
 -- a script ends with the line that isn't read
-pub script_ends : (input line : List ℕ) (rest : List (List ℕ)) (number : ℕ) (draft : Draft) (error : ReadError) → HasRead (lines_of input) (line ∷ rest) number draft → LineEnds (fault_behind draft (says_line line)) (line_asks (takes draft) line) error → ScriptEnds input (number + 1, error)
+pub script_ends : (input line : List ℕ) (rest : List (List ℕ)) (number : ℕ) (draft : Draft) (error : ReadError) → HasRead (lines_of input) (line ∷ rest) number draft → LineEnds (fault_behind draft (says_line line)) (line_asks (takes draft) line) error → EndsScript input (in_line (number + 1) error)
 script_ends input line rest number draft (Faulty fault) h told = has_read-fault line fault h told
 script_ends input line rest number draft OutOfMemory h told =
     h.memory (lines_ask-here h.earlier line rest (line_asks-alike (is_in_place h.earlier) (takes draft) line (λ l. place_told h.earlier l h.sound ∙ ap (λ d. takes d l) (sym h.is)) ∙ told))

@@ -10,6 +10,8 @@ use Rattle.tabled_steps.specs.declared.step.Step.{Step}
 use Rattle.tabled_language.specs.declared.draft.Draft.{Draft as Drafted}
 use Rattle.tabled_language.specs.declared.fault.Fault.{Fault}
 use Rattle.tabled_language.specs.declared.fault.Fault.TheVariants.{OutOfPlace}
+use Rattle.tabled_language.specs.declared.fault.ParseError.{ParseError}
+use Rattle.tabled_language.specs.declared.fault.ParseError.TheVariants as parse_error
 use Rattle.tabled_language.specs.declared.fault.ReadError.{ReadError}
 use Rattle.tabled_language.specs.declared.fault.ReadError.TheVariants.{Faulty, OutOfMemory}
 use Rattle.tabled_language.specs.declared.lent.LentText.{LentText}
@@ -55,13 +57,23 @@ draft_in d = record { shape = d.shape; records = map (map bytes_of) (map_items d
 abbrev pub script_in : List (Vec LentText) → SpanMap → List Step → Script
 script_in records spans steps = record { records = map (map bytes_of) (map_items records); spans = spans; steps = map after steps }
 
--- an answer in memory is the script that is meant, or the number of a line and its fault
-abbrev pub IsAnswer : Result Script (ℕ × Fault) → Result Scripted (ℕ × Fault) → Type 0
-IsAnswer meant answer = MatchResult answer (λ s. meant ≡ Ok (script_in s.records.items s.spans s.steps.items)) (λ fault. meant ≡ Err fault)
+-- what is meant is the script that is in memory
+abbrev pub IsScript : Result Script (ℕ × Fault) → Scripted → Type 0
+IsScript meant s = meant ≡ Ok (script_in s.records.items s.spans s.steps.items)
 
--- an answer is what the lines of a draft mean, where none of them is faulty by itself
-abbrev pub AnswersDraft : Draft → Result Scripted (ℕ × Fault) → Type 0
-AnswersDraft d answer = (lines : List Line) → first_fault fault_of [] lines ≡ None → d ≡ draft_of lines → IsAnswer (script_or_fault lines) answer
+-- why bytes aren't read as a script: the number of the first faulty line and its fault; or memory, where some is asked for
+abbrev pub EndsScript : List ℕ → ParseError → Type 0
+EndsScript input (parse_error.Faulty line fault) = parse input ≡ Err (line, fault)
+EndsScript input parse_error.OutOfMemory = asks_memory input ≡ true
+
+-- the lines of a draft, none of which is faulty by itself, mean this
+abbrev pub DraftMeans : Draft → Result Script (ℕ × Fault) → Type 0
+DraftMeans d meant = (lines : List Line) → first_fault fault_of [] lines ≡ None → d ≡ draft_of lines → script_or_fault lines ≡ meant
+
+-- why a draft becomes no script: the fault that its lines mean; or memory, where there are anchors
+abbrev pub EndsDraft : Draft → ParseError → Type 0
+EndsDraft d (parse_error.Faulty line fault) = DraftMeans d (Err (line, fault))
+EndsDraft d parse_error.OutOfMemory = 0 < length d.anchors
 
 -- why a line isn't read: its fault, or memory where it asks for some
 abbrev pub LineEnds : Option Fault → Bool → ReadError → Type 0
@@ -86,7 +98,7 @@ pub record ReadsScript (input : List ℕ) (draft : Draft) : Type 0 where
   pub is : draft ≡ draft_of (map says_line (lines_of input))
   pub asks : 0 < length draft.anchors → asks_memory input ≡ true
 
--- why a script isn't read, with the number of the line: the fault of the first faulty one, or memory where it asks for some
-abbrev pub ScriptEnds : List ℕ → ℕ × ReadError → Type 0
-ScriptEnds input (number, Faulty fault) = parse input ≡ Err (number, fault)
-ScriptEnds input (number, OutOfMemory) = asks_memory input ≡ true
+-- why a script isn't read, by why one of its lines isn't, and the number of that line
+abbrev pub in_line : ℕ → ReadError → ParseError
+in_line line (Faulty fault) = parse_error.Faulty line fault
+in_line line OutOfMemory = parse_error.OutOfMemory

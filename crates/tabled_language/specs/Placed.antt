@@ -1,9 +1,12 @@
 -- Rectangles that come one after another, each with a place of its own.
-use Rattle.std.specs.Prelude.{◌≡◌, ◌<◌, ◌≤◌, ℕ, ◌&&◌, Bool, true, false, length, get_or, take, List, [], ◌∷◌, ◌++◌, MatchResult, Result, not}
+use Rattle.std.specs.Prelude.{◌≡◌, ◌<◌, ◌≤◌, ℕ, ◌&&◌, Bool, true, false, length, get_or, take, List, [], ◌∷◌, ◌++◌, not}
 use Rattle.std.specs.FinMap.{from_entries}
 use Rattle.std.specs.List.{AllByRecursion, list_any}
 use Rattle.tabled_grid.specs.Anchors.{lies_inside, meets}
 use Rattle.tabled_grid.specs.Spans.{IsSpanSize, Rectangle, SpanMap}
+use Rattle.tabled_language.specs.declared.fault.Fault.TheVariants.{SpanMisfits}
+use Rattle.tabled_language.specs.declared.fault.ParseError.{ParseError}
+use Rattle.tabled_language.specs.declared.fault.ParseError.TheVariants.{Faulty, OutOfMemory}
 
 -- a rectangle lies inside a table, and shares no cell with those of anchors
 abbrev pub has_place : ℕ → ℕ → List Rectangle → Rectangle → Bool
@@ -24,10 +27,6 @@ pub record IsFirstMisfit (rows columns : ℕ) (es : List Rectangle) (i : ℕ) : 
   pub before : fit_in rows columns (take i es) ≡ true
   pub there : (d : Rectangle) → has_place rows columns (take i es) (get_or es i d) ≡ false
 
--- an answer is the merged cells of anchors that all have places, or the index of the first that has none
-abbrev pub MergesOrMisfits : ℕ → ℕ → List Rectangle → Result SpanMap ℕ → Type 0
-MergesOrMisfits rows columns es answer = MatchResult answer (λ spans. (fit_in rows columns es ≡ true) × (spans ≡ from_entries es)) (λ misfit. IsFirstMisfit rows columns es misfit)
-
 -- anchors in the order of their lines, and the numbers of these lines
 pub record NumberedAnchors : Type 0 where
   pub anchors : List Rectangle
@@ -37,6 +36,11 @@ pub record NumberedAnchors : Type 0 where
 abbrev pub AreSpanLines : NumberedAnchors → Type 0
 AreSpanLines es = record { sizes : AllByRecursion (λ (e : Rectangle). IsSpanSize e.1) es.anchors; numbered : length es.anchors ≤ length es.numbers }
 
--- an answer is the merged cells of anchors that all have places, or the number of the line of the first that has none
-abbrev pub MergesOrNames : ℕ → ℕ → NumberedAnchors → Result SpanMap ℕ → Type 0
-MergesOrNames rows columns es answer = MatchResult answer (λ spans. (fit_in rows columns es.anchors ≡ true) × (spans ≡ from_entries es.anchors)) (λ number. (i : ℕ) × IsFirstMisfit rows columns es.anchors i × (number ≡ get_or es.numbers i 0))
+-- all anchors have places, and these are their merged cells
+abbrev pub IsMerged : ℕ → ℕ → NumberedAnchors → SpanMap → Type 0
+IsMerged rows columns es spans = (fit_in rows columns es.anchors ≡ true) × (spans ≡ from_entries es.anchors)
+
+-- why anchors aren't merged: the first that has no place, with the number of its line; or memory, where there are anchors
+abbrev pub EndsMerge : ℕ → ℕ → NumberedAnchors → ParseError → Type 0
+EndsMerge rows columns es (Faulty line fault) = (fault ≡ SpanMisfits) × (i : ℕ) × IsFirstMisfit rows columns es.anchors i × (line ≡ get_or es.numbers i 0)
+EndsMerge rows columns es OutOfMemory = 0 < length es.anchors

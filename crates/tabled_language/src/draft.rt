@@ -5,7 +5,7 @@ ghost use Rattle.std.specs.Option.{option_map};
 ghost use Rattle.tabled_language.specs.Drafts.{shape_misfit};
 ghost use Rattle.tabled_language.specs.declared.fault.Fault.TheVariants.{ShapeDiffers};
 
-use crate::fault::{Fault, ReadError};
+use crate::fault::{Fault, ParseError};
 use crate::lent::LentText;
 use crate::padding::longest;
 use crate::script::Script;
@@ -13,7 +13,7 @@ use crate::spans::SpanLines;
 use crate::text_parts::Fields;
 use crate::texts::{escaped_texts, lent_texts, plain};
 use crate::words::{Read, Words};
-use std::alloc::{AllocError, Global};
+use std::alloc::Global;
 use tabled_grid::records::CellText;
 use tabled_steps::Step;
 
@@ -36,14 +36,14 @@ pub(crate) struct Draft<'a> {
 }
 
 impl<'a> Draft<'a> {
-    ghost use Rattle.std.specs.Prelude.{◌≡◌, ◌<◌, false, true, [], ℕ, map, IfOk, None, OnErr, Some, length};
+    ghost use Rattle.std.specs.Prelude.{◌≡◌, false, true, [], ℕ, map, MatchResult, None, Ok, Some};
     ghost use Rattle.std.specs.List.{AllByRecursion};
     ghost use Rattle.tabled_language.specs.Drafts.{takes};
     ghost use Rattle.tabled_language.specs.Lent.{bytes_of};
     ghost use Rattle.tabled_language.specs.Line.{has_byte, says_line, meaning_of, words_of};
     ghost use Rattle.tabled_language.specs.Memory.{line_asks, span_asks, step_asks};
     ghost use Rattle.tabled_language.specs.Output.{IsOwnWord};
-    ghost use Rattle.tabled_language.specs.Parsing.{AnswersDraft, IsPlaced, ReadsLine, ReadsWords, draft_in};
+    ghost use Rattle.tabled_language.specs.Parsing.{DraftMeans, EndsDraft, IsPlaced, ReadsLine, ReadsWords, draft_in, script_in};
     ghost use Rattle.tabled_language.specs.Verb.{RecordLine, says_shape, says_span, says_step};
 
     pub(crate) fn new(alloc: Global) -> Self
@@ -73,7 +73,7 @@ impl<'a> Draft<'a> {
         }
         match escaped_texts(alloc, line)? {
             Some(texts) => self.read_texts(alloc, number, texts),
-            None => Err(ReadError::Faulty(Fault::Escape)),
+            None => Err(Fault::Escape.into()),
         }
     }
 
@@ -137,11 +137,11 @@ impl<'a> Draft<'a> {
             || !self.spans.is_empty()
             || !self.steps.is_empty()
         {
-            return Err(ReadError::Faulty(Fault::OutOfPlace));
+            return Err(Fault::OutOfPlace.into());
         }
         let (rows, columns) = words.shape()?;
         if words.left() > 0 {
-            return Err(ReadError::Faulty(Fault::WordCount));
+            return Err(Fault::WordCount.into());
         }
         self.shape = Some(Shape {
             line: number,
@@ -156,7 +156,7 @@ impl<'a> Draft<'a> {
         ensures { IsPlaced (draft_in self.now) (RecordLine []) result }
     {
         if !self.spans.is_empty() || !self.steps.is_empty() {
-            return Err(ReadError::Faulty(Fault::OutOfPlace));
+            return Err(Fault::OutOfPlace.into());
         }
         Ok(())
     }
@@ -166,11 +166,11 @@ impl<'a> Draft<'a> {
         ensures { ReadsLine (draft_in self.old) number (says_span words.entry) (span_asks (takes (draft_in self.old)) words.entry) result (draft_in self.new) }
     {
         if !self.steps.is_empty() {
-            return Err(ReadError::Faulty(Fault::OutOfPlace));
+            return Err(Fault::OutOfPlace.into());
         }
         let anchor = words.anchor()?;
         if words.left() > 0 {
-            return Err(ReadError::Faulty(Fault::WordCount));
+            return Err(Fault::WordCount.into());
         }
         self.spans.push(number, anchor)?;
         Ok(())
@@ -182,19 +182,16 @@ impl<'a> Draft<'a> {
     {
         let step = words.step(alloc, verb)?;
         if words.left() > 0 {
-            return Err(ReadError::Faulty(Fault::WordCount));
+            return Err(Fault::WordCount.into());
         }
         self.steps.push(step)?;
         Ok(())
     }
 
-    /// The script, or the number of the line whose shape or rectangle doesn't fit the records.
-    pub(crate) fn checked(
-        self,
-        alloc: Global,
-    ) -> Result<Result<Script<'a>, (usize, Fault)>, AllocError>
-        ensures script { IfOk result (AnswersDraft (draft_in self.entry)) }
-        ensures memory { OnErr result (0 < length self.entry.spans.anchors) }
+    /// The script, or the line whose shape or rectangle doesn't fit the records. It takes no memory where there are no
+    /// anchors.
+    pub(crate) fn into_script(self, alloc: Global) -> Result<Script<'a>, ParseError>
+        ensures { MatchResult result (λ s. DraftMeans (draft_in self.entry) (Ok (script_in s.records.items s.spans s.steps.items))) (EndsDraft (draft_in self.entry)) }
     {
         let Draft {
             shape,
@@ -204,17 +201,18 @@ impl<'a> Draft<'a> {
         } = self;
         let rows = records.len();
         let columns = longest(&records);
-        if let Some(number) = misshaped(shape, rows, columns) {
-            return Ok(Err((number, Fault::ShapeDiffers)));
+        if let Some(line) = misshaped(shape, rows, columns) {
+            return Err(ParseError::Faulty {
+                line,
+                fault: Fault::ShapeDiffers,
+            });
         }
-        match spans.merged(alloc, rows, columns)? {
-            Ok(spans) => Ok(Ok(Script {
-                records,
-                spans,
-                steps,
-            })),
-            Err(line) => Ok(Err((line, Fault::SpanMisfits))),
-        }
+        let spans = spans.merged(alloc, rows, columns)?;
+        Ok(Script {
+            records,
+            spans,
+            steps,
+        })
     }
 }
 

@@ -1,6 +1,8 @@
-//! What is wrong with a line of a script, and why reading one ends early.
+//! What is wrong with a line of a script, and why reading one, or a whole script, ends early.
 
 use std::alloc::{AllocError, AllocFailed};
+use std::error::Error;
+use std::fmt;
 
 /// What is wrong with a line of a script.
 #[derive(Clone, Copy, Debug, PartialEq, Eq)]
@@ -35,11 +37,62 @@ impl Fault {
     }
 }
 
+/// Why bytes were not read as a script.
+///
+/// Of this project.
+#[derive(Clone, Copy, Debug, PartialEq, Eq)]
+pub enum ParseError {
+    /// They are no script: the number of the first faulty line, counted from 1, and what is wrong with it.
+    Faulty { line: usize, fault: Fault },
+    /// Memory was refused.
+    OutOfMemory,
+}
+
+impl fmt::Display for ParseError {
+    fn fmt<W: fmt::Write>(&self, f: &mut fmt::Formatter<W>) -> fmt::Result {
+        match self {
+            ParseError::Faulty { line, fault } => {
+                let number = fault.number();
+                write!(f, "line {line}: fault {number}")
+            }
+            ParseError::OutOfMemory => write!(f, "out of memory"),
+        }
+    }
+}
+
+impl Error for ParseError {}
+
+impl From<AllocError> for ParseError {
+    ghost use Rattle.std.specs.Prelude.{◌≡◌};
+    ghost use Rattle.tabled_language.specs.declared.fault.ParseError.TheVariants.{OutOfMemory};
+
+    ghost from_gives = { λ _ e. e ≡ OutOfMemory };
+
+    fn from(_refused: AllocError) -> ParseError {
+        ParseError::OutOfMemory
+    }
+}
+
 /// Why a line, or a part of it, was not read.
 #[derive(Clone, Copy, Debug, PartialEq, Eq)]
 pub(crate) enum ReadError {
     Faulty(Fault),
     OutOfMemory,
+}
+
+impl ReadError {
+    ghost use Rattle.std.specs.Prelude.{◌≡◌};
+    ghost use Rattle.tabled_language.specs.Parsing.{in_line};
+
+    /// Why a script isn't read: this, in the line of a number.
+    pub(crate) fn in_line(self, line: usize) -> ParseError
+        ensures { result ≡ in_line line self }
+    {
+        match self {
+            ReadError::Faulty(fault) => ParseError::Faulty { line, fault },
+            ReadError::OutOfMemory => ParseError::OutOfMemory,
+        }
+    }
 }
 
 impl From<Fault> for ReadError {

@@ -1,6 +1,6 @@
 //! The words after a verb that are one of a few.
 
-use crate::fault::{Fault, ReadError};
+use crate::fault::Fault;
 use crate::words::{Read, Words};
 use tabled_grid::config::Offset;
 use tabled_grid::records::Axis;
@@ -20,7 +20,7 @@ impl<'a> Words<'a> {
             "right" => Ok(Rotate::Right),
             "top" => Ok(Rotate::Top),
             "bottom" => Ok(Rotate::Bottom),
-            _ => Err(ReadError::Faulty(Fault::UnknownWord)),
+            _ => Err(Fault::UnknownWord.into()),
         }
     }
 
@@ -30,7 +30,7 @@ impl<'a> Words<'a> {
         match self.word()? {
             "rows" => Ok(Axis::Rows),
             "columns" => Ok(Axis::Columns),
-            _ => Err(ReadError::Faulty(Fault::UnknownWord)),
+            _ => Err(Fault::UnknownWord.into()),
         }
     }
 
@@ -53,7 +53,7 @@ impl<'a> Words<'a> {
                 let n = self.number()?;
                 Ok(Offset::End(n))
             }
-            _ => Err(ReadError::Faulty(Fault::UnknownWord)),
+            _ => Err(Fault::UnknownWord.into()),
         }
     }
 
@@ -63,7 +63,7 @@ impl<'a> Words<'a> {
         match self.word()? {
             "vertical" => Ok(Axis::Rows),
             "horizontal" => Ok(Axis::Columns),
-            _ => Err(ReadError::Faulty(Fault::UnknownWord)),
+            _ => Err(Fault::UnknownWord.into()),
         }
     }
 
@@ -73,7 +73,7 @@ impl<'a> Words<'a> {
         match self.word()? {
             "column" => Ok(Axis::Rows),
             "row" => Ok(Axis::Columns),
-            _ => Err(ReadError::Faulty(Fault::UnknownWord)),
+            _ => Err(Fault::UnknownWord.into()),
         }
     }
 
@@ -83,7 +83,7 @@ impl<'a> Words<'a> {
         match self.word()? {
             "zip" => Ok(Behavior::Zip),
             "concat" => Ok(Behavior::Concat),
-            _ => Err(ReadError::Faulty(Fault::UnknownWord)),
+            _ => Err(Fault::UnknownWord.into()),
         }
     }
 
@@ -93,7 +93,7 @@ impl<'a> Words<'a> {
         match self.word()? {
             "clean" => Ok(Display::Clean),
             "retain" => Ok(Display::Retain),
-            _ => Err(ReadError::Faulty(Fault::UnknownWord)),
+            _ => Err(Fault::UnknownWord.into()),
         }
     }
 }

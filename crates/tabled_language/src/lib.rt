@@ -21,7 +21,7 @@ mod walk;
 mod word;
 mod words;
 
-pub use fault::Fault;
+pub use fault::{Fault, ParseError};
 pub use lent::LentText;
 pub use padding::padded;
 pub use plain::PlainText;

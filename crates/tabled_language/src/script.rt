@@ -1,18 +1,17 @@
 //! A script: its records, its merged cells and its steps.
 
-ghost use Rattle.std.specs.Prelude.{◌≡◌, false, IfOk, MatchResult, OnErr, true};
+ghost use Rattle.std.specs.Prelude.{◌≡◌, false, IfErr, IfOk, MatchResult};
 ghost use Rattle.tabled_language.specs.Line.{has_byte};
-ghost use Rattle.tabled_language.specs.Memory.{asks_memory};
 ghost use Rattle.tabled_language.specs.Script.{parse};
-ghost use Rattle.tabled_language.specs.Parsing.{IsAnswer, ReadsScript, ScriptEnds, draft_in};
+ghost use Rattle.tabled_language.specs.Parsing.{EndsScript, IsScript, ReadsScript, draft_in};
 
 use crate::draft::Draft;
-use crate::fault::{Fault, ReadError};
+use crate::fault::ParseError;
 use crate::lent::LentText;
 use crate::parts::Parts;
 use crate::text_parts::Lines;
 use crate::texts::plain;
-use std::alloc::{AllocError, Global};
+use std::alloc::Global;
 use tabled_grid::config::SpannedConfig;
 use tabled_steps::Step;
 
@@ -26,8 +25,8 @@ pub struct Script<'a> {
 }
 
 /// What the lines of bytes say, or the number of the line that isn't read and why.
-fn read_lines<'a>(alloc: Global, input: &'a [u8]) -> Result<Draft<'a>, (usize, ReadError)>
-    ensures { MatchResult result (λ d. ReadsScript input.now (draft_in d)) (ScriptEnds input.now) }
+fn read_lines<'a>(alloc: Global, input: &'a [u8]) -> Result<Draft<'a>, ParseError>
+    ensures { MatchResult result (λ d. ReadsScript input.now (draft_in d)) (EndsScript input.now) }
 {
     // To test all bytes at once takes less than to test those of each line.
     match plain(input) {
@@ -37,31 +36,31 @@ fn read_lines<'a>(alloc: Global, input: &'a [u8]) -> Result<Draft<'a>, (usize, R
 }
 
 /// The same, of any bytes.
-fn read_each_line<'a>(alloc: Global, input: &'a [u8]) -> Result<Draft<'a>, (usize, ReadError)>
-    ensures { MatchResult result (λ d. ReadsScript input.now (draft_in d)) (ScriptEnds input.now) }
+fn read_each_line<'a>(alloc: Global, input: &'a [u8]) -> Result<Draft<'a>, ParseError>
+    ensures { MatchResult result (λ d. ReadsScript input.now (draft_in d)) (EndsScript input.now) }
 {
     let mut draft = Draft::new(alloc);
     let mut number = 0;
     for line in Parts::new(input, b'\n') {
         number += 1;
         if let Err(error) = draft.read_line(alloc, number, line) {
-            return Err((number, error));
+            return Err(error.in_line(number));
         }
     }
     Ok(draft)
 }
 
 /// The same, of a text without escapes.
-fn read_plain_lines<'a>(alloc: Global, text: &'a str) -> Result<Draft<'a>, (usize, ReadError)>
+fn read_plain_lines<'a>(alloc: Global, text: &'a str) -> Result<Draft<'a>, ParseError>
     requires { has_byte 92 text.now ≡ false }
-    ensures { MatchResult result (λ d. ReadsScript text.now (draft_in d)) (ScriptEnds text.now) }
+    ensures { MatchResult result (λ d. ReadsScript text.now (draft_in d)) (EndsScript text.now) }
 {
     let mut draft = Draft::new(alloc);
     let mut number = 0;
     for line in Lines::new(text) {
         number += 1;
         if let Err(error) = draft.read_plain(alloc, number, line) {
-            return Err((number, error));
+            return Err(error.in_line(number));
         }
     }
     Ok(draft)
@@ -73,16 +72,9 @@ fn read_plain_lines<'a>(alloc: Global, text: &'a str) -> Result<Draft<'a>, (usiz
 /// Want of memory is answered only where memory is asked for before the first fault is found.
 ///
 /// Of this project.
-pub fn parse<'a>(
-    alloc: Global,
-    input: &'a [u8],
-) -> Result<Result<Script<'a>, (usize, Fault)>, AllocError>
-    ensures script { IfOk result (IsAnswer (parse input.now)) }
-    ensures memory { OnErr result (asks_memory input.now ≡ true) }
+pub fn parse<'a>(alloc: Global, input: &'a [u8]) -> Result<Script<'a>, ParseError>
+    ensures script { IfOk result (IsScript (parse input.now)) }
+    ensures error { IfErr result (EndsScript input.now) }
 {
-    match read_lines(alloc, input) {
-        Ok(read) => read.checked(alloc),
-        Err((number, ReadError::Faulty(fault))) => Ok(Err((number, fault))),
-        Err((_, ReadError::OutOfMemory)) => Err(AllocError),
-    }
+    read_lines(alloc, input)?.into_script(alloc)
 }

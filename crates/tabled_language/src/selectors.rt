@@ -1,6 +1,6 @@
 //! Selectors read from the words of a line.
 
-use crate::fault::{Fault, ReadError};
+use crate::fault::Fault;
 use crate::words::{Read, Words};
 use std::alloc::Global;
 use tabled_steps::Select;
@@ -28,7 +28,7 @@ impl<'a> Words<'a> {
     {
         let word = self.word()?;
         if depth == 0 {
-            return Err(ReadError::Faulty(Fault::SelectorDepth));
+            return Err(Fault::SelectorDepth.into());
         }
         self.selector_behind(alloc, depth - 1, word)
     }
@@ -133,7 +133,7 @@ impl<'a> Words<'a> {
                 let (first_column, end_column) = self.two_numbers()?;
                 Ok(Select::Segment(first_row, end_row, first_column, end_column))
             }
-            _ => Err(ReadError::Faulty(Fault::UnknownWord)),
+            _ => Err(Fault::UnknownWord.into()),
         }
     }
 }

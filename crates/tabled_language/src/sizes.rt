@@ -1,6 +1,6 @@
 //! The words after `shape` and `span`.
 
-use crate::fault::{Fault, ReadError};
+use crate::fault::Fault;
 use crate::words::{Read, Words};
 use tabled_grid::config::{Position, Rectangle, Size};
 
@@ -38,7 +38,7 @@ impl<'a> Words<'a> {
     {
         let width = self.extent()?;
         if height == 1 && width == 1 {
-            return Err(ReadError::Faulty(Fault::NumberRange));
+            return Err(Fault::NumberRange.into());
         }
         Ok(width)
     }

@@ -1,11 +1,12 @@
 //! What `span` lines say, and the merged cells that their anchors make.
 
-ghost use Rattle.std.specs.Prelude.{false, true, ◌≡◌, ◌+◌, ◌<◌, ◌≤◌, IfOk, OnErr, length};
+ghost use Rattle.std.specs.Prelude.{false, true, ◌≡◌, IfOk};
 ghost use Rattle.std.specs.FinMap.{from_entries, from_sorted};
 ghost use Rattle.std.specs.List.{AllByRecursion};
 ghost use Rattle.tabled_grid.specs.Spans.{AreAnchors, IsSpanSize, Rectangle, position_cmp};
-ghost use Rattle.tabled_language.specs.Placed.{IsFirstMisfit, MergesOrMisfits, fit_in};
+ghost use Rattle.tabled_language.specs.Placed.{IsFirstMisfit, fit_in};
 
+use crate::fault::{Fault, ParseError};
 use crate::walk::have_places;
 use std::alloc::{AllocError, Global};
 use std::marker::Model;
@@ -30,10 +31,10 @@ impl Model for SpanLines {
 }
 
 impl SpanLines {
-    ghost use Rattle.std.specs.Prelude.{[], ◌≡◌, ◌<◌, ◌∷◌, ◌++◌, IfOk, OnErr, length};
+    ghost use Rattle.std.specs.Prelude.{[], ◌≡◌, ◌∷◌, ◌++◌, IfOk, MatchResult};
     ghost use Rattle.tabled_grid.specs.Spans.{IsSpanSize};
     ghost use Rattle.tabled_language.specs.Drafts.{is_nil};
-    ghost use Rattle.tabled_language.specs.Placed.{MergesOrNames};
+    ghost use Rattle.tabled_language.specs.Placed.{EndsMerge, IsMerged};
 
     pub(crate) fn new(alloc: Global) -> Self
         ensures { result ≡ record { anchors = []; numbers = [] } }
@@ -61,48 +62,33 @@ impl SpanLines {
         Ok(())
     }
 
-    /// The merged cells of the anchors, or the number of the first line whose rectangle leaves the table or
-    /// shares a cell with that of one before it. It takes no memory where there are no anchors.
+    /// The merged cells of the anchors, or the first line whose rectangle leaves the table or shares a cell with that of
+    /// one before it. It takes no memory where there are no anchors.
+    ///
+    /// One sort and one walk decide whether all fit. Where not, the first misfit is searched from the end, by
+    /// steps that double, and then by halves: what fits still fits with fewer anchors.
     pub(crate) fn merged(
         &self,
         alloc: Global,
         rows: usize,
         columns: usize,
-    ) -> Result<Result<SpannedConfig, usize>, AllocError>
-        ensures answer { IfOk result (MergesOrNames rows columns self.now) }
-        ensures memory { OnErr result (0 < length self.now.anchors) }
+    ) -> Result<SpannedConfig, ParseError>
+        ensures { MatchResult result (IsMerged rows columns self.now) (EndsMerge rows columns self.now) }
     {
-        match merged_or_misfit(alloc, &self.anchors, rows, columns)? {
-            Ok(spans) => Ok(Ok(spans)),
-            Err(misfit) => Ok(Err(self.numbers[misfit])),
+        let anchors = self.anchors.as_slice();
+        if anchors.is_empty() {
+            return Ok(SpannedConfig::new(alloc));
         }
+        let mut sorted = Vec::with_capacity(alloc, anchors.len())?;
+        if fit(alloc, &mut sorted, anchors, rows, columns)? {
+            return Ok(SpannedConfig::from_anchors(sorted));
+        }
+        let misfit = first_misfit(alloc, sorted, anchors, rows, columns)?;
+        Err(ParseError::Faulty {
+            line: self.numbers[misfit],
+            fault: Fault::SpanMisfits,
+        })
     }
-}
-
-/// The merged cells of anchors, or the index of the first whose rectangle leaves the table or shares a
-/// cell with that of one before it. It takes no memory where there are no anchors.
-///
-/// One sort and one walk decide whether all fit. Where not, the first misfit is searched from the end, by
-/// steps that double, and then by halves: what fits still fits with fewer anchors.
-fn merged_or_misfit(
-    alloc: Global,
-    anchors: &[Rectangle],
-    rows: usize,
-    columns: usize,
-) -> Result<Result<SpannedConfig, usize>, AllocError>
-    requires { AllByRecursion (λ (e : Rectangle). IsSpanSize e.1) anchors.now }
-    ensures answer { IfOk result (MergesOrMisfits rows columns anchors.now) }
-    ensures memory { OnErr result (0 < length anchors.now) }
-{
-    if anchors.is_empty() {
-        return Ok(Ok(SpannedConfig::new(alloc)));
-    }
-    let mut sorted = Vec::with_capacity(alloc, anchors.len())?;
-    if fit(alloc, &mut sorted, anchors, rows, columns)? {
-        return Ok(Ok(SpannedConfig::from_anchors(sorted)));
-    }
-    let misfit = first_misfit(alloc, sorted, anchors, rows, columns)?;
-    Ok(Err(misfit))
 }
 
 /// Puts anchors in order into a vector, whose old ones go, and says whether all have places. Then the

@@ -1,6 +1,6 @@
 //! Steps read from the verb of a line and the words after it.
 
-use crate::fault::{Fault, ReadError};
+use crate::fault::Fault;
 use crate::words::{Read, Words};
 use std::alloc::Global;
 use tabled_grid::records::{Axis, Text, VecRecords};
@@ -51,7 +51,7 @@ impl<'a> Words<'a> {
             (7, "vpanelw") => self.cut_panel(alloc),
             (6, "vmerge") => Ok(Step::MergeVertical(Merge::vertical())),
             (6, "hmerge") => Ok(Step::MergeHorizontal(Merge::horizontal())),
-            _ => Err(ReadError::Faulty(Fault::UnknownWord)),
+            _ => Err(Fault::UnknownWord.into()),
         }
     }
 
@@ -192,7 +192,7 @@ impl<'a> Words<'a> {
                 Ok(Step::RemoveColumns(start, end))
             }
             (5, "named") => Ok(Step::RemoveNamed(self.text(alloc)?)),
-            _ => Err(ReadError::Faulty(Fault::UnknownWord)),
+            _ => Err(Fault::UnknownWord.into()),
         }
     }
 
@@ -221,7 +221,7 @@ impl<'a> Words<'a> {
                 let records = VecRecords::new(alloc, cells)?;
                 Ok(Table::from_records(alloc, records))
             }
-            _ => Err(ReadError::Faulty(Fault::WordCount)),
+            _ => Err(Fault::WordCount.into()),
         }
     }
 

@@ -66,11 +66,11 @@ impl<'a> Words<'a> {
         match &mut self.source {
             Source::Line(words) => match words.next() {
                 Some(word) => Ok(word),
-                None => Err(ReadError::Faulty(Fault::WordCount)),
+                None => Err(Fault::WordCount.into()),
             },
             Source::Texts(texts) => match texts.next() {
                 Some(text) => Ok(text.text()),
-                None => Err(ReadError::Faulty(Fault::WordCount)),
+                None => Err(Fault::WordCount.into()),
             },
         }
     }
@@ -89,7 +89,7 @@ impl<'a> Words<'a> {
         let word = self.word()?;
         match number_of(word) {
             Some(number) => Ok(number),
-            None => Err(ReadError::Faulty(Fault::NumberRange)),
+            None => Err(Fault::NumberRange.into()),
         }
     }
 
@@ -107,7 +107,7 @@ impl<'a> Words<'a> {
         let word = self.word()?;
         match integer_of(word) {
             Some(number) => Ok(number),
-            None => Err(ReadError::Faulty(Fault::NumberRange)),
+            None => Err(Fault::NumberRange.into()),
         }
     }
 
@@ -117,7 +117,7 @@ impl<'a> Words<'a> {
     {
         let number = self.number()?;
         if number == 0 {
-            return Err(ReadError::Faulty(Fault::NumberRange));
+            return Err(Fault::NumberRange.into());
         }
         Ok(number)
     }
@@ -129,7 +129,7 @@ impl<'a> Words<'a> {
         let word = self.word()?;
         match size_of(word) {
             Some(number) => Ok(number),
-            None => Err(ReadError::Faulty(Fault::NumberRange)),
+            None => Err(Fault::NumberRange.into()),
         }
     }
 
@@ -140,7 +140,7 @@ impl<'a> Words<'a> {
     {
         let number = self.size()?;
         if number == 0 {
-            return Err(ReadError::Faulty(Fault::NumberRange));
+            return Err(Fault::NumberRange.into());
         }
         Ok(number)
     }

@@ -155,7 +155,7 @@ impl<'a> Case<'a> {
 fn steps(alloc: Global, words: &str) -> Option<Vec<Step>> {
     let lines = words.replace(alloc, "; ", "\n").ok()?;
     let lines = lines.as_str().replace(alloc, ' ', "\t").ok()?;
-    Some(parse(alloc, lines.as_bytes()).ok()?.ok()?.steps)
+    Some(parse(alloc, lines.as_bytes()).ok()?.steps)
 }
 
 /// Whether a step that is refused leaves the first of its writes. Others leave the table as it was.

@@ -1,5 +1,10 @@
 -- What was answered, by the status that it ends with.
-use Rattle.tabled_script.proofs.Common.{◌≡◌, ◌⊎◌, Err, IfOk, IsOk, MatchResult, Ok, OnOk, Result, arith, inl, inr, ℕ}
+use Rattle.tabled_script.proofs.Common.{◌≡◌, ◌⊎◌, Appends, Err, IfOk, IsOk, List, MatchResult, Ok, OnOk, Option, Result, arith, inl, inr, refl, ℕ}
+use Rattle.std.specs.Prelude.{◌-◌}
+use Rattle.tabled_language.specs.Script.{parse}
+use Rattle.tabled_language.specs.declared.fault.Fault.{Fault}
+use Rattle.tabled_script.specs.Answer.{Answers, fault_line}
+use Rattle.tabled_script.specs.declared.form.Form.{Form}
 
 -- the status of what was answered
 abbrev pub Finished : {U E A : Type 0} → ℕ → Result (Result U E × ℕ) A → Type 0 → Type 0 → Type 0
@@ -29,6 +34,11 @@ of_script (Ok (Ok u, n)) state undrawn table faults said (inl done) = inl (done.
 of_script (Ok (Ok u, n)) state undrawn table faults said (inr none) = inr (none.0, inl none.1)
 of_script (Ok (Err e, n)) state undrawn table faults said means = tt
 of_script (Err e) state undrawn table faults said means = tt
+
+-- what says the first fault answers its script
+pub of_fault : {U E : Type 0} (said : Result U E) (how : Form) (n : ℕ) (input : List ℕ) (old new : Option (List ℕ)) (line counted : ℕ) (fault : Fault) → parse input ≡ Err (line, fault) → counted ≡ line - n → OnOk said (Appends old new (fault_line (counted, fault))) → OnOk said (Answers how n input old new 2)
+of_fault (Ok u) how n input old new line counted fault is counts written = inr (refl, inr ((line, fault), is, rw counts at written))
+of_fault (Err e) how n input old new line counted fault is counts written = tt
 
 -- two facts of what was written, as one
 pub on_ok_both : {T E : Type 0} (r : Result T E) (P Q R : Type 0) → (P → Q → R) → OnOk r P → OnOk r Q → OnOk r R

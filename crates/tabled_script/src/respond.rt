@@ -17,7 +17,7 @@ use crate::telling::tell_fault;
 use std::alloc::{AllocError, Global};
 use std::io::{self, Read, Write};
 use tabled_grid::config::SpannedConfig;
-use tabled_language::{Fault, LentText, Script, padded, parse};
+use tabled_language::{Fault, LentText, ParseError, Script, padded, parse};
 use tabled_steps::{Step, run};
 
 /// The table was written.
@@ -81,16 +81,17 @@ fn reply<W: Write, E: Write>(
     ensures answered { IfOk result (λ answered. OnOk answered.0 (Answers request.now.form source.entry.before source.entry.bytes.now (W.contents writer.old) (W.contents writer.new) answered.1)) }
     ensures refused { OnErr result (W.contents writer.new ≡ W.contents writer.old) }
 {
-    match parse(alloc, source.bytes)? {
+    match parse(alloc, source.bytes) {
         Ok(script) => show(alloc, request, source, script, writer, errors),
-        Err(fault) => {
-            let counted = (fault.0.saturating_sub(source.before), fault.1);
+        Err(ParseError::Faulty { line, fault }) => {
+            let counted = (line.saturating_sub(source.before), fault);
             let said = say(alloc, counted, writer)?;
             if request.tells_faults {
-                tell_fault(alloc, source, fault, errors);
+                tell_fault(alloc, source, (line, fault), errors);
             }
             Ok((said, FAULTY))
         }
+        Err(ParseError::OutOfMemory) => Err(AllocError),
     }
 }
 

@@ -5,7 +5,7 @@ use tabled_grid::config::SpannedConfig;
 use tabled_grid::records::{
     CellText, ExactRecords, PeekableRecords, Records, RecordsMut, Resizable,
 };
-use tabled_language::{LentText, Script, padded, parse};
+use tabled_language::{LentText, ParseError, Script, padded, parse};
 use tabled_steps::run;
 
 /// Does the steps of a script to a store, or answers the number of the first faulty line.
@@ -21,9 +21,10 @@ where
     requires { R.is_well_formed records.old }
     ensures { R.is_well_formed records.new }
 {
-    let script = match parse(alloc, input)? {
+    let script = match parse(alloc, input) {
         Ok(script) => script,
-        Err((line, _)) => return Ok(Some(line)),
+        Err(ParseError::Faulty { line, .. }) => return Ok(Some(line)),
+        Err(ParseError::OutOfMemory) => return Err(AllocError),
     };
     match run(alloc, records, cfg, script.steps) {
         Ok(()) => Ok(None),
@@ -31,30 +32,24 @@ where
     }
 }
 
-/// The rows and columns of a script's own table after its steps, or the number of its first faulty line.
-pub fn ends_with(alloc: Global, input: &[u8]) -> Result<Result<(usize, usize), usize>, AllocError> {
-    let script = match parse(alloc, input)? {
-        Ok(script) => script,
-        Err((line, _)) => return Ok(Err(line)),
-    };
+/// The rows and columns of a script's own table after its steps.
+pub fn ends_with(alloc: Global, input: &[u8]) -> Result<(usize, usize), ParseError> {
     let Script {
         records,
         mut spans,
         steps,
-    } = script;
+    } = parse(alloc, input)?;
     let mut cells = padded(records)?;
     match run(alloc, &mut cells, &mut spans, steps) {
-        Ok(()) => Ok(Ok((cells.count_rows(), cells.count_columns()))),
-        Err((_, error)) => Err(error),
+        Ok(()) => Ok((cells.count_rows(), cells.count_columns())),
+        Err((_, error)) => Err(error.into()),
     }
 }
 
 /// The words that the records of a script lend, each behind a tab.
-pub fn lent_words(alloc: Global, input: &[u8]) -> Result<String, AllocError> {
+pub fn lent_words(alloc: Global, input: &[u8]) -> Result<String, ParseError> {
+    let script = parse(alloc, input)?;
     let mut words = String::new(alloc);
-    let Ok(script) = parse(alloc, input)? else {
-        return Ok(words);
-    };
     for record in &script.records {
         for text in record {
             let LentText::Lent(plain) = text else {

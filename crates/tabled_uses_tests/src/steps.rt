@@ -6,6 +6,7 @@ use tabled_grid::config::{Position, SpannedConfig};
 use tabled_grid::records::{
     CellText, ExactRecords, PeekableRecords, Records, RecordsMut, Resizable,
 };
+use tabled_language::{Fault, ParseError};
 use tabled_testing::{flat, is_word, merged, nested, spelled_merged};
 use tabled_uses::language::{does, ends_with, lent_words};
 use tabled_uses::steps::runs;
@@ -65,10 +66,16 @@ fn scripts_end_with_their_tables(rt: HostRuntime) -> Result<(), Fail> {
         ("row\ta\nrow\tb\tc\n", Ok((2, 2))),
         ("row\ta\\tb\tc\nset\tcolumn\t1\tx\nheader\tN\n", Ok((2, 2))),
         ("row\ta\tb\tc\nrotate\tleft\n", Ok((3, 1))),
-        ("row\ta\nspin\n", Err(2)),
+        (
+            "row\ta\nspin\n",
+            Err(ParseError::Faulty {
+                line: 2,
+                fault: Fault::UnknownWord,
+            }),
+        ),
     ] {
         assert!(rt;
-            ends_with(rt.alloc(), script.as_bytes())? == want,
+            ends_with(rt.alloc(), script.as_bytes()) == want,
             "{script:?}"
         );
     }

@@ -6,7 +6,7 @@ use super::rearranged::{REARRANGED, TABLE};
 use std::alloc::{AllocError, Global};
 use std::test::Fail;
 use tabled_draw::{Look, picture_with};
-use tabled_language::{Script, padded, parse};
+use tabled_language::{ParseError, Script, padded, parse};
 use tabled_steps::run;
 
 /// The picture of the table that a script makes, and none of a faulty script.
@@ -20,9 +20,10 @@ pub(crate) fn drawn_in(
     script: &str,
     look: &Look<'_>,
 ) -> Result<Option<String>, AllocError> {
-    match parse(alloc, script.as_bytes())? {
+    match parse(alloc, script.as_bytes()) {
         Ok(script) => Ok(Some(drawn_after(alloc, script, look)?)),
-        Err(_) => Ok(None),
+        Err(ParseError::Faulty { .. }) => Ok(None),
+        Err(ParseError::OutOfMemory) => Err(AllocError),
     }
 }
 

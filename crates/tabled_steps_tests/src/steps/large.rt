@@ -5,7 +5,7 @@ use std::alloc::{AllocError, Global};
 use std::test::Fail;
 use tabled_grid::config::SpannedConfig;
 use tabled_grid::records::{ExactRecords, Records, Resizable};
-use tabled_language::parse;
+use tabled_language::{Fault, ParseError, parse};
 use tabled_steps::run;
 use tabled_testing::flat;
 
@@ -49,12 +49,10 @@ fn lines(alloc: Global, line: &str, many: usize, last: &str) -> Result<String, A
     Ok(script)
 }
 
-/// The rows and the steps of a script, or its first faulty line and the fault.
-fn read(alloc: Global, script: &str) -> Result<Result<(usize, usize), (usize, u8)>, AllocError> {
-    match parse(alloc, script.as_bytes())? {
-        Ok(script) => Ok(Ok((script.records.len(), script.steps.len()))),
-        Err((line, fault)) => Ok(Err((line, fault.number()))),
-    }
+/// The rows and the steps of a script.
+fn read(alloc: Global, script: &str) -> Result<(usize, usize), ParseError> {
+    let script = parse(alloc, script.as_bytes())?;
+    Ok((script.records.len(), script.steps.len()))
 }
 
 #[test]
@@ -64,10 +62,17 @@ fn many_lines_are_read(rt: HostRuntime) -> Result<(), Fail> {
         ("row\ta\n", "vmerge\n", Ok((100_000, 1))),
         ("set\tall\tx\n", "", Ok((0, 100_000))),
         ("\n", "row\n", Ok((1, 0))),
-        ("vmerge\n", "row\ta\n", Err((100_001, 6))),
+        (
+            "vmerge\n",
+            "row\ta\n",
+            Err(ParseError::Faulty {
+                line: 100_001,
+                fault: Fault::OutOfPlace,
+            }),
+        ),
     ] {
         let script = lines(alloc, line, 100_000, last)?;
-        assert!(rt; read(alloc, script.as_str())? == want, "{line:?}");
+        assert!(rt; read(alloc, script.as_str()) == want, "{line:?}");
     }
     Ok(())
 }

@@ -10,7 +10,7 @@ use tabled_steps::Step;
 /// A step of the words of its line.
 fn line(alloc: Global, words: &str) -> Option<Step> {
     let line = words.replace(alloc, ' ', "\t").ok()?;
-    parse(alloc, line.as_bytes()).ok()?.ok()?.steps.pop()
+    parse(alloc, line.as_bytes()).ok()?.steps.pop()
 }
 
 /// A step of one line, or one of the steps of two.

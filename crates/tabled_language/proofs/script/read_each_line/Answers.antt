@@ -13,7 +13,7 @@ read_line-requires c = (rw c.in-Some.ensures.steps at c.loop-line.invariant).lac
 
 pub returns-in-Err : goal.returns-in-Err
 returns-in-Err c =
-    script_ends c.args.input.now c.in-Some.line.now c.next.new.self c.loop-line.number (draft_in c.loop-line.draft) c.in-Err.error (rw c.in-Some.ensures.steps at c.loop-line.invariant) (rw c.in-Err.is at c.read_line.ensures)
+    rw c.in_line.ensures (script_ends c.args.input.now c.in-Some.line.now c.next.new.self c.loop-line.number (draft_in c.loop-line.draft) c.in-Err.error (rw c.in-Some.ensures.steps at c.loop-line.invariant) (rw c.in-Err.is at c.read_line.ensures))
 
 pub loop-line-preserved : goal.loop-line-preserved
 loop-line-preserved c =

@@ -19,7 +19,7 @@ read_plain-requires-clause-no_escape c = (rw c.in-Some.ensures.steps at c.loop-l
 
 pub returns-in-Err : goal.returns-in-Err
 returns-in-Err c =
-    script_ends c.args.text.now c.in-Some.line.now c.next.new.self c.loop-line.number (draft_in c.loop-line.draft) c.in-Err.error (rw c.in-Some.ensures.steps at c.loop-line.invariant.read) (rw c.in-Err.is at c.read_plain.ensures)
+    rw c.in_line.ensures (script_ends c.args.text.now c.in-Some.line.now c.next.new.self c.loop-line.number (draft_in c.loop-line.draft) c.in-Err.error (rw c.in-Some.ensures.steps at c.loop-line.invariant.read) (rw c.in-Err.is at c.read_plain.ensures))
 
 pub loop-line-preserved : goal.loop-line-preserved
 loop-line-preserved c =
