@@ -5,7 +5,7 @@ use super::styles::alignments;
 use std::alloc::{AllocError, Global};
 use std::test::Fail;
 use tabled_draw::{Alignment, draw_markdown};
-use tabled_language::{Script, padded, parse};
+use tabled_language::{ParseError, Script, padded, parse};
 use tabled_steps::run;
 
 /// Alignments, lines of a script, and after a line `=` the lines of Markdown, with an empty line before the next case.
@@ -38,9 +38,10 @@ cspan\t-1\tcell\t1\t1
 
 /// The table of a script as Markdown, and nothing of a faulty one.
 fn marked(alloc: Global, script: &str, aligns: &[Alignment]) -> Result<String, AllocError> {
-    match parse(alloc, script.as_bytes())? {
+    match parse(alloc, script.as_bytes()) {
         Ok(script) => marked_after(alloc, script, aligns),
-        Err(_) => Ok(String::new(alloc)),
+        Err(ParseError::Faulty { .. }) => Ok(String::new(alloc)),
+        Err(ParseError::OutOfMemory) => Err(AllocError),
     }
 }
 
