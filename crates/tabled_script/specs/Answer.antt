@@ -86,6 +86,10 @@ Faults n input old new = (fault : ℕ × Fault) × (parse input ≡ Err fault) �
 abbrev pub Answers : Form → ℕ → List ℕ → Option (List ℕ) → Option (List ℕ) → ℕ → Type 0
 Answers how n input old new status = ((status ≡ 0) × ShowsTable how input old new) ⊎ ((status ≡ 2) × (LeavesUndrawn how old new ⊎ Faults n input old new))
 
+-- one of the program's statuses
+abbrev pub IsStatus : ℕ → Type 0
+IsStatus status = (status ≡ 0) ⊎ ((status ≡ 2) ⊎ ((status ≡ 3) ⊎ (status ≡ 4)))
+
 -- what comes of an answer: 4 where writing failed; its own status, and nothing more is written; or 3 where memory ran out, and this was written
 abbrev pub Finishes : {U E A : Type 0} → Result (Result U E × ℕ) A → ℕ → Option (List ℕ) → Option (List ℕ) → Type 0
 Finishes answered status old new = (status ≡ 4) ⊎ MatchResult answered (λ a. IsOk a.0 × (status ≡ a.1) × (new ≡ old)) (λ _. (status ≡ 3) × Appends old new memory_line)

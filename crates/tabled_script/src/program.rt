@@ -4,7 +4,7 @@ ghost use Rattle.std.specs.Prelude.{◌≡◌, ◌-◌, ◌⊎◌, ℕ, Ok, Err,
 ghost use Rattle.std.specs.Io.KnownBytes.{Appends};
 ghost use Rattle.tabled_grid.specs.Spans.{AreSpanSizes};
 ghost use Rattle.tabled_script.specs.Again.{FitsAtEnd, GivesAgain};
-ghost use Rattle.tabled_script.specs.Answer.{LeavesUndrawn, ShowsState, ended, fault_line, memory_line, output_of, picture_of};
+ghost use Rattle.tabled_script.specs.Answer.{IsStatus, LeavesUndrawn, ShowsState, ended, fault_line, memory_line, output_of, picture_of};
 ghost use Rattle.tabled_script.specs.Asked.{FileFaults, StandBefore, whole_script};
 ghost use Rattle.tabled_language.specs.Script.{Script as Meaning, parse};
 ghost use Rattle.tabled_language.specs.declared.fault.Fault.{Fault};
@@ -29,7 +29,7 @@ use tabled_draw::Style;
 /// Nothing of the output is written before all lines are read. With 0, 2 and 3 the writer was
 /// flushed, too.
 pub fn run_script<R: Read, W: Write>(alloc: Global, reader: &mut R, writer: &mut W) -> u8
-    ensures known { (result ≡ 0) ⊎ ((result ≡ 2) ⊎ ((result ≡ 3) ⊎ (result ≡ 4))) }
+    ensures known { IsStatus result }
     ensures done { result ≡ 0 → IfSome (R.remaining reader.old) (λ input.
         (script : Meaning) × (parse input ≡ Ok script) × Appends (W.contents writer.old) (W.contents writer.new) (output_of script)) }
     ensures again { result ≡ 0 → IfSome (R.remaining reader.old) (λ input.
@@ -55,7 +55,7 @@ pub fn run_script<R: Read, W: Write>(alloc: Global, reader: &mut R, writer: &mut
 /// - 0: the picture was written, of the table and its merged cells that fit after the script's steps.
 /// - 2, 3, 4: as those of `run_script`. Nothing of the picture is written with 2 or 3.
 pub fn draw_script<R: Read, W: Write>(alloc: Global, reader: &mut R, writer: &mut W) -> u8
-    ensures known { (result ≡ 0) ⊎ ((result ≡ 2) ⊎ ((result ≡ 3) ⊎ (result ≡ 4))) }
+    ensures known { IsStatus result }
     ensures done { result ≡ 0 → IfSome (R.remaining reader.old) (λ input.
         (script : Meaning) × (parse input ≡ Ok script) × Appends (W.contents writer.old) (W.contents writer.new) (picture_of script)) }
     ensures sizes { result ≡ 0 → IfSome (R.remaining reader.old) (λ input.
@@ -100,7 +100,7 @@ pub fn answer<R: Read, W: Write, E: Write>(
     writer: &mut W,
     errors: &mut E,
 ) -> u8
-    ensures known { (result ≡ 0) ⊎ ((result ≡ 2) ⊎ ((result ≡ 3) ⊎ (result ≡ 4))) }
+    ensures known { IsStatus result }
     ensures done { result ≡ 0 → IfSome (R.remaining reader.old) (λ input.
         (rows : List (List (List ℕ))) × StandBefore request.now.file rows
         × (script : Meaning) × (parse (whole_script rows input request.now.steps.items) ≡ Ok script)

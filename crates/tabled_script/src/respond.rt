@@ -6,7 +6,7 @@ ghost use Rattle.std.specs.String.{string_bytes};
 ghost use Rattle.tabled_grid.specs.Grid.{IsEven, grid_of, map_items};
 ghost use Rattle.tabled_language.specs.Script.{parse};
 ghost use Rattle.tabled_language.specs.declared.fault.Fault.{Fault};
-ghost use Rattle.tabled_script.specs.Answer.{Answers, Faults, Finishes, LeavesUndrawn, ShowsState, ShowsTable, ended, fault_line, memory_line};
+ghost use Rattle.tabled_script.specs.Answer.{Answers, Faults, Finishes, IsStatus, LeavesUndrawn, ShowsState, ShowsTable, ended, fault_line, memory_line};
 ghost use Rattle.tabled_script.specs.InMemory.{said_by, state_in};
 ghost use Rattle.tabled_steps.specs.States.{after_all};
 
@@ -49,7 +49,7 @@ pub(crate) fn respond<R: Read, W: Write, E: Write>(
     writer: &mut W,
     errors: &mut E,
 ) -> u8
-    ensures known { (result ≡ 0) ⊎ ((result ≡ 2) ⊎ ((result ≡ 3) ⊎ (result ≡ 4))) }
+    ensures known { IsStatus result }
     ensures done { result ≡ 0 → IfSome (R.remaining reader.old) (λ input. ShowsTable request.now.form (before.items ++ (input ++ request.now.steps.items)) (W.contents writer.old) (W.contents writer.new)) }
     ensures faulty { result ≡ 2 → IfSome (R.remaining reader.old) (λ input. LeavesUndrawn request.now.form (W.contents writer.old) (W.contents writer.new) ⊎ Faults skipped (before.items ++ (input ++ request.now.steps.items)) (W.contents writer.old) (W.contents writer.new)) }
     ensures memory { result ≡ 3 → Appends (W.contents writer.old) (W.contents writer.new) memory_line }
