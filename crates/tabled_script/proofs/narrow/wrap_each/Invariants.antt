@@ -5,9 +5,9 @@ use Rattle.tabled_script.specs.Narrow.{wrapped_each}
 use Rattle.tabled_script.proofs.narrow.wrap_each.Given as goal
 
 abbrev pub invariant-loop-cut : goal.invariant-loop-cut
-invariant-loop-cut g l = record {
-  can : (goal.iterator-loop-cut g).can_next l.cut-iterator;
-  ends : (goal.iterator-loop-cut g).is_finite l.cut-iterator;
+invariant-loop-cut l = record {
+  can : goal.iterator-loop-cut.can_next l.cut-iterator;
+  ends : goal.iterator-loop-cut.is_finite l.cut-iterator;
   counted : into_iter_len l.cut-iterator ≡ length (into_iter_items l.cut-iterator);
   even : IsEven (grid_of (map_items l.records.items));
   same : wrapped_each (into_iter_items l.cut-iterator) (texts_in l.records.items) ≡ wrapped_each l.fn.cuts.items (texts_in l.fn.records.items);
