@@ -4,7 +4,7 @@ ghost use Rattle.std.specs.Prelude.{◌≡◌, OnOk, OnErr, IsOk, Option, Some};
 ghost use Rattle.tabled_grid.specs.Grid.{Grid};
 ghost use Rattle.tabled_grid.specs.declared.config.entity.Entity.{Entity};
 ghost use Rattle.tabled_grid.specs.declared.config.entity.Entity.TheVariants.{Global};
-ghost use Rattle.tabled_options.specs.Does.{ActsLike, Change};
+ghost use Rattle.tabled_options.specs.Does.{ActsLike, Change, Same};
 
 use std::alloc::{AllocError, Global};
 use tabled_grid::config::Entity;
@@ -20,14 +20,15 @@ pub trait CellOption<R: GridStore, C> {
     /// What it does on an entity where it isn't refused.
     ghost does: { Self → Entity → Change R.Cell C };
 
-    /// What it leaves where it is refused for memory.
-    ghost leaves: { Self → Entity → Change R.Cell C };
+    /// What it leaves where it is refused for memory: all as it was, where nothing else is said.
+    ghost leaves: { Self → Entity → Change R.Cell C } = { λ _ _. Same };
 
-    /// The condition of use.
-    ghost can_change: { Self → Type 0 };
+    /// The condition of use. There is none, where nothing else is said.
+    ghost can_change: { Self → Type 0 } = { λ _. Unit {0} };
 
-    /// It takes no memory on an entity at this grid and configuration, so that it can't be refused.
-    ghost never_refused: { Self → Entity → Grid R.Cell → C → Type 0 };
+    /// It takes no memory on an entity at this grid and configuration, so that it can't be refused. Nothing is
+    /// promised, where nothing else is said.
+    ghost never_refused: { Self → Entity → Grid R.Cell → C → Type 0 } = { λ _ _ _ _. ⊥ };
 
     /// The second option may stand for the first, as its copies may.
     ghost is_like: { Self → Self → Type 0 } = { λ first second. second ≡ first };

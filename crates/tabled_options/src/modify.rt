@@ -121,8 +121,6 @@ where
 
     ghost can_change = { λ s. O.can_list s.0 × (M.can_change s.1 × CopiesAlike M.is_clone M.is_like s.1) };
 
-    ghost never_refused = { λ _ _ _. ⊥ };
-
     ghost hint = { λ s. M.hint s.1 };
 
     fn change(

@@ -96,8 +96,6 @@ impl<R: GridStore, C, D> TableOption<R, C, D> for EmptySettings {
 
     ghost leaves = { λ _ _ _ _ _. ⊥ };
 
-    ghost can_change = { λ _. Unit {0} };
-
     ghost never_refused = { λ _ _ _. Unit {0} };
 
     fn change(
@@ -121,8 +119,6 @@ impl<R: GridStore, C> CellOption<R, C> for EmptySettings {
     ghost does = { λ _ _. Same };
 
     ghost leaves = { λ _ _ _ _ _ _. ⊥ };
-
-    ghost can_change = { λ _. Unit {0} };
 
     ghost never_refused = { λ _ _ _ _. Unit {0} };
 

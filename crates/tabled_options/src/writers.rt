@@ -22,8 +22,6 @@ where
 
     ghost leaves = { λ s e. DoesFirstWrites R.Cell.text_of (text_writes (string_bytes s) e) };
 
-    ghost can_change = { λ _. Unit {0} };
-
     ghost never_refused = { λ _ e g _. inside e g.rows g.columns ≡ [] };
 
     ghost is_like = { λ first second. string_bytes second ≡ string_bytes first };
@@ -60,8 +58,6 @@ where
     ghost does = { λ s e. DoesWrites R.Cell.text_of (text_writes s.0.now e) };
 
     ghost leaves = { λ s e. DoesFirstWrites R.Cell.text_of (text_writes s.0.now e) };
-
-    ghost can_change = { λ _. Unit {0} };
 
     ghost never_refused = { λ _ e g _. inside e g.rows g.columns ≡ [] };
 

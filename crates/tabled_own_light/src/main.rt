@@ -47,10 +47,6 @@ where
 
     ghost leaves = { λ _ _ _ _ _. Unit {0} };
 
-    ghost can_change = { λ _. Unit {0} };
-
-    ghost never_refused = { λ _ _ _. ⊥ };
-
     fn change(
         self,
         alloc: Global,

@@ -5,7 +5,6 @@ ghost use Rattle.std.specs.Fmt.{decimal};
 ghost use Rattle.std.specs.Prelude.{◌≡◌, ◌<◌, OnErr, OnOk};
 ghost use Rattle.tabled_grid.specs.Entity.{place};
 ghost use Rattle.tabled_grid.specs.Grid.{WritesText};
-ghost use Rattle.tabled_options.specs.Does.{Same};
 ghost use Rattle.tabled_own_option.specs.RowNumbers.{NumbersRows};
 
 use std::alloc::{AllocError, Global};
@@ -34,12 +33,6 @@ where
     R::Cell: CellText,
 {
     ghost does = { λ _. NumbersRows R.Cell.text_of };
-
-    ghost leaves = { λ _. Same };
-
-    ghost can_change = { λ _. Unit {0} };
-
-    ghost never_refused = { λ _ _ _. ⊥ };
 
     fn change(
         self,

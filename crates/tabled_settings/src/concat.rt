@@ -6,7 +6,6 @@ ghost use Rattle.std.specs.String.{string_bytes};
 ghost use Rattle.tabled_grid.specs.Grid.{map_grid};
 ghost use Rattle.tabled_grid.specs.declared.records.axis.Axis.TheVariants.{Columns, Rows};
 ghost use Rattle.tabled_carry.specs.Images.{carried};
-ghost use Rattle.tabled_options.specs.Does.{Same};
 ghost use Rattle.tabled_settings.specs.Joined.{Fills, FillsTo, GrowsTo, JoinsAt, as_texts, corner_of, joined_places, text_put, widened};
 ghost use Rattle.std.proofs.Common.{rules};
 
@@ -103,12 +102,6 @@ where
     R::Cell: CellText,
 {
     ghost does = { λ s g c h d. JoinsAt R.Cell.is_blank R.Cell.text_of (corner_of s.0 g.rows g.columns) s.1 s.2 g h × (d ≡ carried (joined_places (corner_of s.0 g.rows g.columns) s.1 g.rows g.columns) g.rows g.columns c) };
-
-    ghost leaves = { λ _. Same };
-
-    ghost can_change = { λ _. Unit {0} };
-
-    ghost never_refused = { λ _ _ _. ⊥ };
 
     fn change(
         self,

@@ -3,7 +3,6 @@
 ghost use Rattle.std.specs.Prelude.{◌≡◌, OnErr, OnOk};
 ghost use Rattle.tabled_grid.specs.declared.records.axis.Axis.{Axis};
 ghost use Rattle.tabled_grid.specs.declared.records.axis.Axis.TheVariants.{Columns, Rows};
-ghost use Rattle.tabled_options.specs.Does.{Same};
 ghost use Rattle.tabled_settings.specs.Rearranged.{Removes};
 ghost use Rattle.std.proofs.Common.{rules};
 
@@ -86,11 +85,7 @@ where
 {
     ghost does = { λ s. Removes T.lines (L.locates s) };
 
-    ghost leaves = { λ _. Same };
-
     ghost can_change = { λ s. L.can_locate s };
-
-    ghost never_refused = { λ _ _ _. ⊥ };
 
     fn change(
         mut self,

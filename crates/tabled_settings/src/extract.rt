@@ -5,7 +5,6 @@ ghost use Rattle.std.specs.declared.ops.Bound.TheVariants.{Unbounded};
 ghost use Rattle.tabled_grid.specs.Places.{ReadsThrough};
 ghost use Rattle.tabled_grid.specs.Fitting.{Fits};
 ghost use Rattle.tabled_carry.specs.Images.{carried};
-ghost use Rattle.tabled_options.specs.Does.{Same};
 ghost use Rattle.tabled_settings.specs.Rearranged.{extracted, part, window};
 ghost use Rattle.std.proofs.Common.{rules};
 
@@ -90,10 +89,6 @@ where
     R::Cell: Blank,
 {
     ghost does = { λ s g c h d. ReadsThrough (extracted (A.bounds_of s.0) (B.bounds_of s.1) g.rows g.columns) g h × (d ≡ carried (extracted (A.bounds_of s.0) (B.bounds_of s.1) g.rows g.columns) g.rows g.columns c) };
-
-    ghost leaves = { λ _. Same };
-
-    ghost can_change = { λ _. Unit {0} };
 
     ghost never_refused = { λ _ g c. Fits c g.rows g.columns };
 

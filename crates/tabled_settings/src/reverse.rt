@@ -6,7 +6,6 @@ ghost use Rattle.tabled_grid.specs.declared.records.axis.Axis.TheVariants.{Colum
 ghost use Rattle.tabled_grid.specs.Axis.{count_of, in_line, line_of};
 ghost use Rattle.tabled_grid.specs.Places.{ReadsThrough};
 ghost use Rattle.tabled_grid.specs.Fitting.{Fits};
-ghost use Rattle.tabled_options.specs.Does.{Same};
 ghost use Rattle.tabled_settings.specs.Places.{lines_from};
 ghost use Rattle.tabled_settings.specs.Rearranged.{carried_if, limit_end, reversed, reversed_index, reverses};
 ghost use Rattle.std.proofs.Common.{rules};
@@ -97,10 +96,6 @@ where
     R::Cell: Blank,
 {
     ghost does = { λ s g c h d. ReadsThrough (reversed s.axis s.start s.limit g.rows g.columns) g h × (d ≡ carried_if (reverses s.axis s.start s.limit g.rows g.columns) (reversed s.axis s.start s.limit g.rows g.columns) g.rows g.columns c) };
-
-    ghost leaves = { λ _. Same };
-
-    ghost can_change = { λ _. Unit {0} };
 
     ghost never_refused = { λ s g c. (reverses s.axis s.start s.limit g.rows g.columns ≡ false) ⊎ Fits c g.rows g.columns };
 

@@ -1,7 +1,6 @@
 //! Tables turned by a quarter, or upside down.
 
 ghost use Rattle.std.specs.Prelude.{◌≡◌, ◌⊎◌, IsOk, OnErr, OnOk};
-ghost use Rattle.tabled_options.specs.Does.{Same};
 ghost use Rattle.tabled_settings.specs.declared.rotate.Rotate.TheVariants.{Bottom, Top};
 ghost use Rattle.tabled_grid.specs.Fitting.{Fits};
 ghost use Rattle.tabled_settings.specs.Rearranged.{IsRotated, Rearranges, quarter_of, rotated};
@@ -44,10 +43,6 @@ where
     R::Cell: Blank,
 {
     ghost does = { λ s g. Rearranges (rotated s g.rows g.columns) g };
-
-    ghost leaves = { λ _. Same };
-
-    ghost can_change = { λ _. Unit {0} };
 
     ghost never_refused = { λ s g c. ((s ≡ Top) ⊎ (s ≡ Bottom)) × Fits c g.rows g.columns };
 

@@ -3,7 +3,6 @@
 ghost use Rattle.std.specs.Prelude.{◌≡◌, false};
 ghost use Rattle.tabled_grid.specs.Grid.{map_grid};
 ghost use Rattle.tabled_grid.specs.declared.records.axis.Axis.TheVariants.{Columns, Rows};
-ghost use Rattle.tabled_options.specs.Does.{Same};
 ghost use Rattle.tabled_grid.specs.declared.records.piece_order.PieceOrder.TheVariants.{Concat, Zip};
 ghost use Rattle.tabled_settings.specs.declared.split.Display.TheVariants.{Clean, Retain};
 ghost use Rattle.tabled_settings.specs.PiecePlaces.{Splits, split_places};
@@ -142,10 +141,6 @@ where
     R::Cell: CellText,
 {
     ghost does = { λ s g c h d. Splits R.Cell.is_blank R.Cell.text_of s g h × (d ≡ carried_if (has_pieces s g.rows g.columns) (split_places s (map_grid R.Cell.text_of g)) g.rows g.columns c) };
-
-    ghost leaves = { λ _. Same };
-
-    ghost can_change = { λ _. Unit {0} };
 
     ghost never_refused = { λ s g _. has_pieces s g.rows g.columns ≡ false };
 

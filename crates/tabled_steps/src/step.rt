@@ -149,8 +149,6 @@ where
 
     ghost leaves = { λ s. Leaves R.Cell.is_blank R.Cell.text_of s };
 
-    ghost can_change = { λ _. Unit {0} };
-
     ghost never_refused = { λ s. TakesNoMemory R.Cell.is_blank R.Cell.text_of s };
 
     fn change(

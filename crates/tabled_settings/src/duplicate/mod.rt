@@ -64,8 +64,6 @@ where
 
     ghost can_change = { λ s. Dst.can_list s.0 × Src.can_list s.1 };
 
-    ghost never_refused = { λ _ _ _. ⊥ };
-
     fn change(
         self,
         alloc: Global,

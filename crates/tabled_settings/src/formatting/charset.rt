@@ -108,8 +108,6 @@ where
 
     ghost leaves = { λ s e. DoesFirstWrites R.Cell.text_of (charset_writes s e) };
 
-    ghost can_change = { λ _. Unit {0} };
-
     ghost never_refused = { λ s e g _. (is_set s ≡ false) ⊎ (inside e g.rows g.columns ≡ []) };
 
     fn change(
@@ -138,8 +136,6 @@ where
     ghost does = { λ s. DoesWrites R.Cell.text_of (charset_writes s Global) };
 
     ghost leaves = { λ s. DoesFirstWrites R.Cell.text_of (charset_writes s Global) };
-
-    ghost can_change = { λ _. Unit {0} };
 
     ghost never_refused = { λ s g _. (is_set s ≡ false) ⊎ (inside Global g.rows g.columns ≡ []) };
 

@@ -91,8 +91,6 @@ where
 
     ghost leaves = { λ s e. DoesFirstWrites R.Cell.text_of (wrap_writes s e) };
 
-    ghost can_change = { λ _. Unit {0} };
-
     ghost never_refused = { λ _ e g _. inside e g.rows g.columns ≡ [] };
 
     fn change(
@@ -121,8 +119,6 @@ where
     ghost does = { λ s. DoesWrites R.Cell.text_of (wrap_writes s Global) };
 
     ghost leaves = { λ s. DoesFirstWrites R.Cell.text_of (wrap_writes s Global) };
-
-    ghost can_change = { λ _. Unit {0} };
 
     ghost never_refused = { λ _ g _. inside Global g.rows g.columns ≡ [] };
 

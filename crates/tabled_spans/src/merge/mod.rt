@@ -4,7 +4,6 @@ ghost use Rattle.std.specs.Prelude.{◌≡◌, IsOk, OnErr, OnOk};
 ghost use Rattle.tabled_grid.specs.Grid.{map_grid};
 ghost use Rattle.tabled_grid.specs.declared.config.entity.Entity.TheVariants.{Global};
 ghost use Rattle.tabled_grid.specs.declared.records.axis.Axis.TheVariants.{Columns, Rows};
-ghost use Rattle.tabled_options.specs.Does.{Same};
 ghost use Rattle.tabled_spans.specs.Runs.{MergesRuns, NamesNoNeighbours};
 ghost use Rattle.std.proofs.Common.{rules};
 
@@ -74,12 +73,6 @@ where
 {
     ghost does = { λ _ g c h d. (h ≡ g) × MergesRuns Rows Global (map_grid R.Cell.text_of g) c d };
 
-    ghost leaves = { λ _. Same };
-
-    ghost can_change = { λ _. Unit {0} };
-
-    ghost never_refused = { λ _ _ _. ⊥ };
-
     fn change(
         self,
         alloc: Global,
@@ -109,10 +102,6 @@ where
     R::Cell: CellText,
 {
     ghost does = { λ _ e g c h d. (h ≡ g) × MergesRuns Rows e (map_grid R.Cell.text_of g) c d };
-
-    ghost leaves = { λ _ _. Same };
-
-    ghost can_change = { λ _. Unit {0} };
 
     ghost never_refused = { λ _ e g _. NamesNoNeighbours Rows e g };
 
@@ -149,12 +138,6 @@ where
 {
     ghost does = { λ _ g c h d. (h ≡ g) × MergesRuns Columns Global (map_grid R.Cell.text_of g) c d };
 
-    ghost leaves = { λ _. Same };
-
-    ghost can_change = { λ _. Unit {0} };
-
-    ghost never_refused = { λ _ _ _. ⊥ };
-
     fn change(
         self,
         alloc: Global,
@@ -184,10 +167,6 @@ where
     R::Cell: CellText,
 {
     ghost does = { λ _ e g c h d. (h ≡ g) × MergesRuns Columns e (map_grid R.Cell.text_of g) c d };
-
-    ghost leaves = { λ _ _. Same };
-
-    ghost can_change = { λ _. Unit {0} };
 
     ghost never_refused = { λ _ e g _. NamesNoNeighbours Columns e g };
 

@@ -3,7 +3,6 @@
 ghost use Rattle.std.specs.Prelude.{◌≡◌, false};
 ghost use Rattle.std.specs.String.{string_bytes};
 ghost use Rattle.tabled_grid.specs.declared.records.axis.Axis.TheVariants.{Rows};
-ghost use Rattle.tabled_options.specs.Does.{Same};
 ghost use Rattle.tabled_spans.specs.Panels.{Panels, has_room};
 ghost use Rattle.std.proofs.Common.{rules};
 
@@ -51,10 +50,6 @@ where
     R::Cell: CellText,
 {
     ghost does = { λ s g. Panels R.Cell.is_blank R.Cell.text_of Rows g.rows s g };
-
-    ghost leaves = { λ _. Same };
-
-    ghost can_change = { λ _. Unit {0} };
 
     ghost never_refused = { λ _ g c. has_room Rows g.rows g c ≡ false };
 

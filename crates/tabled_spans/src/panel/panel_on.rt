@@ -3,7 +3,6 @@
 ghost use Rattle.std.specs.Prelude.{◌≡◌, ◌<◌, ◌≤◌, false, IfOk, OnErr, OnOk};
 ghost use Rattle.std.specs.String.{string_bytes};
 ghost use Rattle.tabled_grid.specs.Along.{count_along, without_line};
-ghost use Rattle.tabled_options.specs.Does.{Same};
 ghost use Rattle.tabled_spans.specs.PanelSteps.{InsertsLine};
 ghost use Rattle.tabled_spans.specs.Panels.{Panels, has_room};
 ghost use Rattle.tabled_spans.specs.Spanned.{with_span};
@@ -121,10 +120,6 @@ where
     R::Cell: CellText,
 {
     ghost does = { λ s. Panels R.Cell.is_blank R.Cell.text_of T.lines s.0 s.1 };
-
-    ghost leaves = { λ _. Same };
-
-    ghost can_change = { λ _. Unit {0} };
 
     ghost never_refused = { λ s g c. has_room T.lines s.0 g c ≡ false };
 

@@ -111,8 +111,6 @@ where
 
     ghost leaves = { λ size. SpansFirst R.Cell.text_of T.lines size };
 
-    ghost can_change = { λ _. Unit {0} };
-
     ghost never_refused = { λ size e g _. SpanTakesNoMemory size e g.rows g.columns };
 
     fn change(

@@ -25,8 +25,6 @@ impl<R: GridStore, C> CellOption<R, C> for Nothing {
 
     ghost leaves = { λ _ _ _ _ _ _. ⊥ };
 
-    ghost can_change = { λ _. Unit {0} };
-
     ghost never_refused = { λ _ _ _ _. Unit {0} };
 
     ghost hint = { λ _. None };

@@ -3,7 +3,6 @@
 ghost use Rattle.std.specs.Prelude.{◌≡◌, ◌++◌, OnOk, OnErr};
 ghost use Rattle.std.specs.Char.{encode_utf8};
 ghost use Rattle.std.proofs.Common.{rules};
-ghost use Rattle.tabled_options.specs.Does.{Same};
 
 use std::alloc::{AllocError, Global};
 use std::cell::Cell;
@@ -77,12 +76,6 @@ impl Letter {
 impl<R: GridStore, D> TableOption<R, Log, D> for Letter {
     ghost does = { λ s g c h d. (h ≡ g) × (d ≡ c ++ encode_utf8 s.letter) };
 
-    ghost leaves = { λ _. Same };
-
-    ghost can_change = { λ _. Unit {0} };
-
-    ghost never_refused = { λ _ _ _. ⊥ };
-
     ghost hint = { λ s. s.hint };
 
     fn change(
@@ -104,12 +97,6 @@ impl<R: GridStore, D> TableOption<R, Log, D> for Letter {
 
 impl<R: GridStore> CellOption<R, Log> for Letter {
     ghost does = { λ s _ g c h d. (h ≡ g) × (d ≡ c ++ encode_utf8 s.letter) };
-
-    ghost leaves = { λ _ _. Same };
-
-    ghost can_change = { λ _. Unit {0} };
-
-    ghost never_refused = { λ _ _ _ _. ⊥ };
 
     ghost hint = { λ s. s.hint };
 

@@ -3,7 +3,6 @@
 ghost use Rattle.std.specs.Prelude.{◌≡◌};
 ghost use Rattle.std.proofs.Common.{rules};
 ghost use Rattle.tabled_grid.specs.Resized.{InsertsRow};
-ghost use Rattle.tabled_options.specs.Does.{Same};
 
 use std::alloc::{AllocError, Global};
 use tabled_grid::config::Entity;
@@ -20,12 +19,6 @@ where
     R::Cell: Blank,
 {
     ghost does = { λ _ g c h d. InsertsRow R.Cell.is_blank g h g.rows × (d ≡ c) };
-
-    ghost leaves = { λ _. Same };
-
-    ghost can_change = { λ _. Unit {0} };
-
-    ghost never_refused = { λ _ _ _. ⊥ };
 
     fn change(
         self,
