@@ -77,7 +77,7 @@ impl<'a> Draft<'a> {
         }
     }
 
-    /// The same of a line without escapes.
+    /// Adds what a line without escapes says, or says why it isn't read.
     pub(crate) fn read_plain(&mut self, alloc: Global, number: usize, line: &'a str) -> Read<()>
         requires no_newline { has_byte 10 line.now ≡ false }
         requires no_escape { has_byte 92 line.now ≡ false }

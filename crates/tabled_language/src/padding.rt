@@ -45,7 +45,7 @@ fn pad_each(records: &mut [Vec<LentText>], columns: usize) -> Result<(), AllocEr
     Ok(())
 }
 
-/// The same in one.
+/// Puts empty texts last in a record, up to a length.
 fn pad(row: &mut Vec<LentText>, columns: usize) -> Result<(), AllocError>
     ensures { OnOk result (texts_in_row row.new ≡ padded_to columns [] (texts_in_row row.old)) }
 {

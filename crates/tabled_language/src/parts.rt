@@ -77,7 +77,7 @@ pub(crate) fn first_place(bytes: &[u8], at: u8) -> Option<usize>
     }
 }
 
-/// The same, for a place that is within a few bytes.
+/// The first place of a byte, sought in parts of eight bytes, which finds a near one soonest.
 fn near_place(bytes: &[u8], at: u8) -> Option<usize>
     ensures { IsFirstPlace at bytes.now result }
 {
@@ -85,7 +85,7 @@ fn near_place(bytes: &[u8], at: u8) -> Option<usize>
     place_by(8, bytes, at)
 }
 
-/// The same, for a place that is further away.
+/// The first place of a byte, sought in blocks, which finds a far one soonest.
 fn far_place(bytes: &[u8], at: u8) -> Option<usize>
     ensures { IsFirstPlace at bytes.now result }
 {
@@ -99,7 +99,7 @@ fn far_place(bytes: &[u8], at: u8) -> Option<usize>
     }
 }
 
-/// The same, in one part of n bytes after another.
+/// The first place of a byte, sought in one part of n bytes after another.
 #[inline(always)]
 fn place_by(n: usize, bytes: &[u8], at: u8) -> Option<usize>
     requires some { 0 < n }
@@ -119,7 +119,7 @@ fn place_by(n: usize, bytes: &[u8], at: u8) -> Option<usize>
     }
 }
 
-/// The same, among at most 255 bytes. Those of a block are compared all at once before one is sought.
+/// The first place of a byte among at most 255 bytes. Those of a block are compared all at once before one is sought.
 #[inline(always)]
 fn place_in_part(bytes: &[u8], at: u8) -> Option<usize>
     requires { length bytes.now < 256 }
@@ -131,7 +131,7 @@ fn place_in_part(bytes: &[u8], at: u8) -> Option<usize>
     place_among(bytes, at)
 }
 
-/// The same, byte by byte.
+/// The first place of a byte, sought byte by byte.
 fn place_among(bytes: &[u8], at: u8) -> Option<usize>
     ensures { IsFirstPlace at bytes.now result }
 {

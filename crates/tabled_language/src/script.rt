@@ -35,7 +35,7 @@ fn read_lines<'a>(alloc: Global, input: &'a [u8]) -> Result<Draft<'a>, ParseErro
     }
 }
 
-/// The same, of any bytes.
+/// What the lines of any bytes say.
 fn read_each_line<'a>(alloc: Global, input: &'a [u8]) -> Result<Draft<'a>, ParseError>
     ensures { MatchResult result (λ d. ReadsScript input.now (draft_in d)) (EndsScript input.now) }
 {
@@ -50,7 +50,7 @@ fn read_each_line<'a>(alloc: Global, input: &'a [u8]) -> Result<Draft<'a>, Parse
     Ok(draft)
 }
 
-/// The same, of a text without escapes.
+/// What the lines of a text without escapes say.
 fn read_plain_lines<'a>(alloc: Global, text: &'a str) -> Result<Draft<'a>, ParseError>
     requires { has_byte 92 text.now ≡ false }
     ensures { MatchResult result (λ d. ReadsScript text.now (draft_in d)) (EndsScript text.now) }

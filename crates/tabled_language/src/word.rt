@@ -63,7 +63,7 @@ fn text_of_word(alloc: Global, word: &[u8]) -> Result<Option<String>, AllocError
     Ok(String::from_utf8(bytes).ok())
 }
 
-/// The same, lent where the word has no escape.
+/// The text of a word, lent where it has no escape.
 pub(crate) fn lent_text<'a>(
     alloc: Global,
     word: &'a [u8],

@@ -88,7 +88,7 @@ impl<O, M> Model for ModifyList<O, M> {
 }
 
 impl<O, M> ModifyList<O, M> {
-    /// The same, and then another option on each entity.
+    /// This option on each entity that is listed, and then another one.
     ///
     /// Ported from `tabled::settings::ModifyList::with`.
     pub fn with<N>(self, option: N) -> ModifyList<O, Settings<M, N>>

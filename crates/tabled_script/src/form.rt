@@ -25,7 +25,7 @@ pub enum Form {
     /// A picture of it in a style, with those of its merged cells that fit. Texts are aligned by columns: the last
     /// alignment counts for all columns behind it, and without one they stand to the left.
     Picture(Style, Vec<Alignment>),
-    /// The same of at most n columns: where that is needed, the lines of texts are cut between words, those of the widest
+    /// A picture of at most n columns: where that is needed, the lines of texts are cut between words, those of the widest
     /// columns first, and where no word is short enough, in words.
     NarrowPicture(usize, Style, Vec<Alignment>),
     /// Markdown, in which each row takes one line: texts are escaped, and of merged cells the first has the text.

@@ -183,7 +183,7 @@ pub(crate) fn hold_escaped(held: &mut Held, bytes: &[u8])
     hold_each(held, bytes);
 }
 
-/// The same, byte by byte.
+/// Holds the word that stands for bytes, byte by byte.
 // A call of its own keeps `hold_escaped` small.
 #[inline(never)]
 fn hold_each(held: &mut Held, bytes: &[u8])
@@ -212,7 +212,7 @@ fn is_plain(text: &[u8]) -> bool
     is_plain_part(rest)
 }
 
-/// The same, byte by byte.
+/// Says whether a text is a word as it is, byte by byte.
 fn is_plain_part(text: &[u8]) -> bool
     ensures { IsTrue result → escaped text.now ≡ text.now }
 {

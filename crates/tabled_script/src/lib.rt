@@ -17,8 +17,6 @@ mod refusal;
 mod request;
 mod respond;
 mod source;
-#[cfg(test)]
-mod streams;
 mod telling;
 #[cfg(test)]
 mod tests;

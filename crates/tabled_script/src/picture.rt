@@ -38,7 +38,7 @@ pub(crate) fn write_picture<W: Write>(
     Ok(write_drawing(drawing, writer))
 }
 
-/// The same with a picture of at most n columns, between whose words texts are wrapped where that is needed. None where
+/// Writes a picture of at most n columns, between whose words texts are wrapped where that is needed. None where
 /// no picture is that narrow: then nothing is written.
 pub(crate) fn write_narrow_picture<W: Write>(
     alloc: Global,
