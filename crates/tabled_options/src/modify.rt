@@ -131,12 +131,8 @@ where
         _dimension: &mut D,
     ) -> Result<(), AllocError> {
         let ModifyList { object, option } = self;
-        let mut entities = object.cells(alloc, records)?;
-        while let Some(entity) = entities.next() {
-            let copy = option.clone()?;
-            copy.change(alloc, records, cfg, entity)?;
-        }
-        Ok(())
+        let entities = object.cells(alloc, records)?;
+        option.change_each(alloc, records, cfg, entities)
     }
 
     fn hint_change(&self) -> Option<Entity> {
