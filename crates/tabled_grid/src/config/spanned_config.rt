@@ -1,16 +1,16 @@
 //! Which cells are merged.
 
-ghost use Rattle.std.specs.Prelude.{◌≡◌, ◌<◌, ◌≤◌, ◌↔◌, ◌⊎◌, IfOk, IsOk, IsSome, IsTrue, OnErr, OnOk, SomeIff, T, length};
+ghost use Rattle.std.specs.Prelude.{◌≡◌, ◌<◌, ◌≤◌, ◌↔◌, ◌⊎◌, IfOk, IsOk, IsSome, IsTrue, OnErr, OnOk, SomeIff};
 ghost use Rattle.std.specs.FinMap as map;
-ghost use Rattle.std.specs.FinMap.{is_sorted};
 ghost use Rattle.std.specs.List.{AllByRecursion};
 ghost use Rattle.tabled_grid.specs.Rectangles.{column_spans, is_covered_across, is_covered_down, row_spans};
 ghost use Rattle.tabled_grid.specs.Hidden.{drop_hidden, is_visible};
 ghost use Rattle.tabled_grid.specs.Shifts.{is_crossed, shifted};
-ghost use Rattle.tabled_grid.specs.Spans.{AreAnchors, AreSpanSizes, IsSizeAt, IsSpanSize, position_cmp, size_at, sized, with_column_span, with_row_span, with_size, with_sizes};
+ghost use Rattle.tabled_grid.specs.Spans.{AreAnchors, AreSorted, AreSpanSizes, IsSizeAt, IsSpanSize, map_of, rectangles, size_at, sized, with_column_span, with_row_span, with_size, with_sizes};
 
 use crate::config::position::Position;
-use crate::config::size::{Rectangle, Size};
+use crate::config::rectangle::Rectangle;
+use crate::config::size::Size;
 use crate::config::{anchors, shifts};
 use crate::records::Axis;
 use std::alloc::{AllocError, Global};
@@ -24,19 +24,18 @@ use std::marker::Model;
 /// Ported from the spans of `tabled::grid::config::SpannedConfig`.
 #[derive(Drop)]
 pub struct SpannedConfig {
-    /// The anchors and the size of each, row by row.
+    /// All rectangles, row by row.
     anchors: Vec<Rectangle>,
 }
 
 impl Model for SpannedConfig {
-    ghost use Rattle.std.specs.FinMap as map;
-    ghost use Rattle.tabled_grid.specs.Spans.{AreAnchors, SpanMap, span_code};
+    ghost use Rattle.tabled_grid.specs.Spans.{AreAnchors, SpanMap, map_of, span_code};
 
     ghost Value = { SpanMap };
 
     ghost coded = { span_code };
 
-    ghost view = { λ a. map.from_sorted a.anchors.items };
+    ghost view = { λ a. map_of a.anchors.items };
 
     ghost invariant = { λ a. AreAnchors a.anchors.items };
 }
@@ -54,13 +53,13 @@ impl SpannedConfig {
         config
     }
 
-    /// The rectangles of a list of anchors, which stand row by row, each once, with more than one cell each.
+    /// The rectangles of a list, of more than one cell each, which stand row by row, one at each anchor.
     ///
     /// Of this project.
     #[doc(hidden)]
     pub fn from_anchors(anchors: Vec<Rectangle>) -> Self
         requires { AreAnchors anchors.items }
-        ensures anchors { result ≡ map.from_sorted anchors.items }
+        ensures anchors { result ≡ map_of anchors.items }
         ensures sizes { AreSpanSizes result }
     {
         let config = SpannedConfig { anchors };
@@ -148,7 +147,7 @@ impl SpannedConfig {
     ///
     /// Of this project.
     pub fn set_sizes(&mut self, alloc: Global, sizes: &[Rectangle]) -> Result<(), AllocError>
-        requires sorted { T (is_sorted position_cmp sizes.now) }
+        requires sorted { AreSorted sizes.now }
         requires each { AllByRecursion IsSizeAt sizes.now }
         ensures ok { OnOk result (self.new ≡ with_sizes self.old sizes.now) }
         ensures err { OnErr result (self.new ≡ self.old) }
@@ -167,23 +166,23 @@ impl SpannedConfig {
         }
     }
 
-    /// The anchors of all rectangles and the size of each, row by row.
+    /// All rectangles, row by row.
     ///
     /// Of this project.
     pub fn anchors(&self) -> &[Rectangle]
-        ensures anchors { result.now ≡ map.entries self.now }
+        ensures anchors { result.now ≡ rectangles self.now }
         ensures sizes { AreSpanSizes self.now }
     {
         self.keeps_sizes();
         &self.anchors
     }
 
-    /// The anchors of all rectangles and the size of each, row by row, in a list to write into.
+    /// All rectangles, row by row, in a list to write into.
     ///
     /// Of this project.
     #[doc(hidden)]
     pub fn into_anchors(self) -> Vec<Rectangle>
-        ensures anchors { result.items ≡ map.entries self }
+        ensures anchors { result.items ≡ rectangles self }
         ensures sizes { AreSpanSizes self }
     {
         self.keeps_sizes();
@@ -301,7 +300,7 @@ impl SpannedConfig {
         ensures sizes { AreSpanSizes self.new }
         ensures promised { (size ≡ sized 1 1) ⊎ IsSome (map.get self.old pos) → IsOk result }
     {
-        let set = if size.height == 1 && size.width == 1 {
+        let set = if size.is_cell() {
             self.remove(pos);
             Ok(())
         } else {
@@ -320,11 +319,11 @@ impl SpannedConfig {
     {
         match anchors::search(&self.anchors, pos) {
             Ok(i) => {
-                self.anchors[i] = (pos, size);
+                self.anchors[i] = Rectangle { first: pos, size };
                 Ok(())
             }
             Err(i) => {
-                self.anchors.insert(i, (pos, size))?;
+                self.anchors.insert(i, Rectangle { first: pos, size })?;
                 Ok(())
             }
         }
@@ -358,11 +357,8 @@ impl SpannedConfig {
     {
         self.keeps_sizes();
         match anchors::search(&self.anchors, pos) {
-            Ok(i) => self.anchors[i].1,
-            Err(_) => Size {
-                height: 1,
-                width: 1,
-            },
+            Ok(i) => self.anchors[i].size,
+            Err(_) => Size::CELL,
         }
     }
 }
