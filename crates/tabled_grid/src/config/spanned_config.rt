@@ -3,6 +3,7 @@
 ghost use Rattle.std.specs.Prelude.{◌≡◌, ◌<◌, ◌≤◌, ◌↔◌, ◌⊎◌, IfOk, IsOk, IsSome, IsTrue, OnErr, OnOk, SomeIff};
 ghost use Rattle.std.specs.FinMap as map;
 ghost use Rattle.std.specs.List.{AllByRecursion};
+ghost use Rattle.tabled_grid.specs.Axis.{with_span};
 ghost use Rattle.tabled_grid.specs.Rectangles.{column_spans, is_covered_across, is_covered_down, row_spans};
 ghost use Rattle.tabled_grid.specs.Hidden.{drop_hidden, is_visible};
 ghost use Rattle.tabled_grid.specs.Shifts.{is_crossed, shifted};
@@ -67,6 +68,22 @@ impl SpannedConfig {
         config
     }
 
+    /// The size of the rectangle that is anchored at a place, that of one cell where there is none.
+    ///
+    /// Of this project: the original has a call for the height and one for the width.
+    pub fn size(&self, pos: Position) -> Size
+        ensures value { result ≡ size_at self.now pos }
+        ensures sizes { AreSpanSizes self.now }
+        ensures height { 1 ≤ result.height }
+        ensures width { 1 ≤ result.width }
+    {
+        self.keeps_sizes();
+        match anchors::search(&self.anchors, pos) {
+            Ok(i) => self.anchors[i].size,
+            Err(_) => Size::CELL,
+        }
+    }
+
     /// The width of the rectangle that is anchored at a place, if that is above 1.
     ///
     /// Ported from `tabled::grid::config::SpannedConfig::get_column_span`.
@@ -89,15 +106,38 @@ impl SpannedConfig {
         (height > 1).then_some(height)
     }
 
-    /// Sets the width of the rectangle that is anchored at a place, and leaves its height. A width of 0
-    /// changes nothing. A rectangle of one cell is none.
+    /// Sets how many rows, or columns, the rectangle takes that is anchored at a place, and leaves its other
+    /// side. A number of 0 changes nothing. A rectangle of one cell is none.
     ///
     /// Memory is taken only for a new anchor. Refused, it changes nothing.
+    ///
+    /// Of this project: the original has `set_row_span` and `set_column_span`.
+    pub fn set_span(
+        &mut self,
+        _alloc: Global,
+        axis: Axis,
+        pos: Position,
+        many: usize,
+    ) -> Result<(), AllocError>
+        ensures ok { OnOk result (self.new ≡ with_span axis self.old pos many) }
+        ensures err { OnErr result (self.new ≡ self.old) }
+        ensures sizes { AreSpanSizes self.new }
+        ensures promised { (many ≤ 1) ⊎ IsSome (map.get self.old pos) → IsOk result }
+    {
+        if many == 0 {
+            self.keeps_sizes();
+            return Ok(());
+        }
+        let size = axis.resized(self.size(pos), many);
+        self.set_size(pos, size)
+    }
+
+    /// Sets the width of the rectangle that is anchored at a place, as `set_span` does.
     ///
     /// Ported from `tabled::grid::config::SpannedConfig::set_column_span`.
     pub fn set_column_span(
         &mut self,
-        _alloc: Global,
+        alloc: Global,
         pos: Position,
         width: usize,
     ) -> Result<(), AllocError>
@@ -106,23 +146,15 @@ impl SpannedConfig {
         ensures sizes { AreSpanSizes self.new }
         ensures promised { (width ≤ 1) ⊎ IsSome (map.get self.old pos) → IsOk result }
     {
-        if width == 0 {
-            self.keeps_sizes();
-            return Ok(());
-        }
-        let height = self.size(pos).height;
-        self.set_size(pos, Size { height, width })
+        self.set_span(alloc, Axis::Columns, pos, width)
     }
 
-    /// Sets the height of the rectangle that is anchored at a place, and leaves its width. A height of 0
-    /// changes nothing. A rectangle of one cell is none.
-    ///
-    /// Memory is taken only for a new anchor. Refused, it changes nothing.
+    /// Sets the height of the rectangle that is anchored at a place, as `set_span` does.
     ///
     /// Ported from `tabled::grid::config::SpannedConfig::set_row_span`.
     pub fn set_row_span(
         &mut self,
-        _alloc: Global,
+        alloc: Global,
         pos: Position,
         height: usize,
     ) -> Result<(), AllocError>
@@ -131,12 +163,7 @@ impl SpannedConfig {
         ensures sizes { AreSpanSizes self.new }
         ensures promised { (height ≤ 1) ⊎ IsSome (map.get self.old pos) → IsOk result }
     {
-        if height == 0 {
-            self.keeps_sizes();
-            return Ok(());
-        }
-        let width = self.size(pos).width;
-        self.set_size(pos, Size { height, width })
+        self.set_span(alloc, Axis::Rows, pos, height)
     }
 
     /// Sets the sizes of many rectangles at once, where that of one cell stands for no anchor. The places
@@ -346,19 +373,5 @@ impl SpannedConfig {
         ensures { AreSpanSizes self.now }
     {
         let _ = &self.anchors;
-    }
-
-    /// The size at a place, that of one cell where there is no anchor.
-    fn size(&self, pos: Position) -> Size
-        ensures value { result ≡ size_at self.now pos }
-        ensures sizes { AreSpanSizes self.now }
-        ensures height { 1 ≤ result.height }
-        ensures width { 1 ≤ result.width }
-    {
-        self.keeps_sizes();
-        match anchors::search(&self.anchors, pos) {
-            Ok(i) => self.anchors[i].size,
-            Err(_) => Size::CELL,
-        }
     }
 }
