@@ -1,63 +1,62 @@
 -- Anchors that stand beside a rectangle are passed over.
-use Rattle.tabled_grid.proofs.Common.{[], ◌+◌, ◌<◌, ◌∷◌, ◌≡◌, ◌≤◌, ◌⊎◌, Bool, Equal, Err, IsBinarySearchResult, Less, List, Position, Rectangle, T, and_from, ap, ap₂, arith, below_all, cases_lt, common_steps, cond, false, false_from_ne_true, get_or, holds, inl, inr, is_sorted, length, list_all, map, meets, not, not_from_false, position_cmp, refl, sized, subst, suc, take, true, unless_held, zero, ℕ}
+use Rattle.tabled_grid.proofs.Common.{[], ◌+◌, ◌<◌, ◌∷◌, ◌≡◌, ◌≤◌, ◌⊎◌, AreSorted, Bool, Equal, Err, IsBinarySearchResult, Less, List, Position, Rectangle, and_from, ap, ap₂, arith, cases_lt, common_steps, cond, false, false_from_ne_true, get_or, holds, inl, inr, length, list_all, map, meets, not, not_from_false, position_cmp, rectangle, refl, sized, subst, suc, take, true, unless_held, zero, ℕ}
 use Rattle.tabled_grid.proofs.Geometry.{In}
 use Rattle.tabled_grid.proofs.PassedAnchors.{Earlier, earlier, meets-true}
-use Rattle.tabled_grid.proofs.SortedEntries.{below_at, searchable}
-use Rattle.tabled_grid.proofs.Spans.{positions_exact, positions_total}
-use Rattle.tabled_grid.proofs.SpanMaps.{halves, holds-from, holds-true, less}
+use Rattle.tabled_grid.proofs.SortedEntries.{Below, below_at, halves, less, positions_exact, searchable}
+use Rattle.tabled_grid.proofs.SpanMaps.{holds-from, holds-true}
 
 -- of anchors in order one before another comes before it
-pub before : (es : List Rectangle) (j i : ℕ) (d : Rectangle) → T (is_sorted position_cmp es) → j < i → i < length es → position_cmp (get_or es j d).0 (get_or es i d).0 ≡ Less
+pub before : (es : List Rectangle) (j i : ℕ) (d : Rectangle) → AreSorted es → j < i → i < length es → position_cmp (get_or es j d).first (get_or es i d).first ≡ Less
 before [] j i d up h within = absurd (omega arith)
 before (e ∷ es) zero zero d up h within = absurd (omega arith)
-before (e ∷ es) zero (suc i) d up h within = below_at position_cmp e.0 es i d (halves _ _ up).0 (omega arith)
+before (e ∷ es) zero (suc i) d up h within = below_at e.first es i d (halves _ _ up).0 (omega arith)
 before (e ∷ es) (suc j) zero d up h within = absurd (omega arith)
 before (e ∷ es) (suc j) (suc i) d up h within = before es j i d (halves _ _ up).1 (omega arith) (omega arith)
 
 -- what stands before the place that a search finds, or where it would stand, comes before that place
-pub before_found : (es : List Rectangle) (p : Position) (i : ℕ) → T (is_sorted position_cmp es) → i < length es → ((d : Rectangle) → position_cmp (get_or es i d).0 p ≡ Equal) → (j : ℕ) (d : Rectangle) → j < i → position_cmp (get_or es j d).0 p ≡ Less
-before_found es p i up within at j d h = subst (λ q. position_cmp (get_or es j d).0 q ≡ Less) (positions_exact _ _ (at d)) (before es j i d up h within)
+pub before_found : (es : List Rectangle) (p : Position) (i : ℕ) → AreSorted es → i < length es → ((d : Rectangle) → position_cmp (get_or es i d).first p ≡ Equal) → (j : ℕ) (d : Rectangle) → j < i → position_cmp (get_or es j d).first p ≡ Less
+before_found es p i up within at j d h = subst (λ q. position_cmp (get_or es j d).first q ≡ Less) (positions_exact _ _ (at d)) (before es j i d up h within)
 
-pub before_missed : (es : List Rectangle) (p : Position) (i : ℕ) → T (is_sorted position_cmp es) → IsBinarySearchResult (λ (e : Rectangle). position_cmp e.0 p) es (Err i) → (j : ℕ) (d : Rectangle) → j < i → position_cmp (get_or es j d).0 p ≡ Less
-before_missed es p i up at j d h = (at (searchable position_cmp positions_total positions_exact es p up)).0 j d (omega arith) h
+pub before_missed : (es : List Rectangle) (p : Position) (i : ℕ) → AreSorted es → IsBinarySearchResult (λ (e : Rectangle). position_cmp e.first p) es (Err i) → (j : ℕ) (d : Rectangle) → j < i → position_cmp (get_or es j d).first p ≡ Less
+before_missed es p i up at j d h = (at (searchable es p up)).0 j d (omega arith) h
 
 -- the row that a rectangle reaches next, from a place outside of it on
 pub record Reaches (by : Rectangle) (pos : Position) (row : ℕ) : Type 0 where
-  pub here : pos.col < by.0.col → row ≡ pos.row
-  pub next : by.0.col ≤ pos.col → row ≤ pos.row + 1
+  pub here : pos.col < by.first.col → row ≡ pos.row
+  pub next : by.first.col ≤ pos.col → row ≤ pos.row + 1
 
-pub reaches_here : (by : Rectangle) (pos : Position) (row : ℕ) → pos.col < by.0.col → row ≡ pos.row → Reaches by pos row
+pub reaches_here : (by : Rectangle) (pos : Position) (row : ℕ) → pos.col < by.first.col → row ≡ pos.row → Reaches by pos row
 reaches_here by pos row l is = record { here = λ h. is; next = λ h. absurd (omega arith) }
 
-pub reaches_next : (by : Rectangle) (pos : Position) (row : ℕ) → by.0.col ≤ pos.col → row ≤ pos.row + 1 → Reaches by pos row
+pub reaches_next : (by : Rectangle) (pos : Position) (row : ℕ) → by.first.col ≤ pos.col → row ≤ pos.row + 1 → Reaches by pos row
 reaches_next by pos row r is = record { here = λ h. absurd (omega arith); next = λ h. is }
 
 module _ (by : Rectangle) (pos : Position) (row : ℕ) (reaches : Reaches by pos row) (out : holds by pos ≡ false) where
-  out_of : (p : Position) → Earlier pos p → (p.row < row) ⊎ ((p.row ≡ row) × (p.col < by.0.col)) → (pos.col < by.0.col) ⊎ (by.0.col ≤ pos.col) → In by p → ⊥
+  out_of : (p : Position) → Earlier pos p → (p.row < row) ⊎ ((p.row ≡ row) × (p.col < by.first.col)) → (pos.col < by.first.col) ⊎ (by.first.col ≤ pos.col) → In by p → ⊥
   out_of p after until (inl l) h = grind (arith, common_steps)
   out_of p after until (inr r) h = grind (arith, common_steps, holds-from)
 
-  pub passed_over : (es : List Rectangle) (i : ℕ) → T (below_all position_cmp pos es) → ((j : ℕ) (d : Rectangle) → j < i → position_cmp (get_or es j d).0 (record { row = row; col = by.0.col }) ≡ Less) → i ≤ length es → map (unless_held by) (take i es) ≡ take i es
+  pub passed_over : (es : List Rectangle) (i : ℕ) → Below pos es → ((j : ℕ) (d : Rectangle) → j < i → position_cmp (get_or es j d).first (record { row = row; col = by.first.col }) ≡ Less) → i ≤ length es → map (unless_held by) (take i es) ≡ take i es
   passed_over [] zero below until within = refl
   passed_over [] (suc i) below until within = refl
   passed_over (e ∷ es) zero below until within = refl
   passed_over (e ∷ es) (suc i) below until within =
-      let after = earlier pos e.0 (less _ (halves _ _ below).0) in
-      let stop = earlier e.0 (record { row = row; col = by.0.col }) (until 0 e (omega arith)) in
-      let free : holds by e.0 ≡ false = false_from_ne_true _ (λ t. out_of e.0 after stop (cases_lt pos.col by.0.col) (holds-true by e.0 t)) in
-      ap₂ (λ x xs. x ∷ xs) (ap (λ (b : Bool). cond b (e.0, sized 0 0) e) free) (passed_over es i (halves _ _ below).1 (λ j d h. until (suc j) d (omega arith)) (omega arith))
+      let after = earlier pos e.first (less _ (halves _ _ below).0) in
+      let stop = earlier e.first (record { row = row; col = by.first.col }) (until 0 e (omega arith)) in
+      let free : holds by e.first ≡ false = false_from_ne_true _ (λ t. out_of e.first after stop (cases_lt pos.col by.first.col) (holds-true by e.first t)) in
+      ap₂ (λ x xs. x ∷ xs) (ap (λ (b : Bool). cond b (rectangle e.first (sized 0 0)) e) free) (passed_over es i (halves _ _ below).1 (λ j d h. until (suc j) d (omega arith)) (omega arith))
 
 -- what stands in a row after a place that is right of a rectangle doesn't meet it
-module _ (from : Rectangle) (pos : Position) (row : ℕ) (next : row ≤ pos.row + 1) (right : from.0.col + from.1.width ≤ pos.col) where
-  pub apart_beyond : (es : List Rectangle) (i : ℕ) → T (below_all position_cmp pos es) → ((j : ℕ) (d : Rectangle) → j < i → position_cmp (get_or es j d).0 (record { row = row; col = 0 }) ≡ Less) → i ≤ length es → list_all (λ (e : Rectangle). not (meets from e)) (take i es) ≡ true
+module _ (from : Rectangle) (pos : Position) (row : ℕ) (next : row ≤ pos.row + 1) (right : from.first.col + from.size.width ≤ pos.col) where
+  pub apart_beyond : (es : List Rectangle) (i : ℕ) → Below pos es → ((j : ℕ) (d : Rectangle) → j < i → position_cmp (get_or es j d).first (record { row = row; col = 0 }) ≡ Less) → i ≤ length es → list_all (λ (e : Rectangle). not (meets from e)) (take i es) ≡ true
   apart_beyond [] zero below until within = refl
   apart_beyond [] (suc i) below until within = refl
   apart_beyond (e ∷ es) zero below until within = refl
   apart_beyond (e ∷ es) (suc i) below until within =
-      and_from _ _ (not_from_false _ (false_from_ne_true _ (λ t. out (earlier pos e.0 (less _ (halves _ _ below).0)) (earlier e.0 (record { row = row; col = 0 }) (until 0 e (omega arith))) (meets-true from e t).right)))
+      and_from _ _ (not_from_false _ (false_from_ne_true _ (λ t. out (earlier pos e.first (less _ (halves _ _ below).0)) (earlier e.first (record { row = row; col = 0 }) (until 0 e (omega arith))) (meets-true from e t).right)))
       (apart_beyond es i (halves _ _ below).1 (λ j d h. until (suc j) d (omega arith)) (omega arith))
     where
-      out : Earlier pos e.0 → (e.0.row < row) ⊎ ((e.0.row ≡ row) × (e.0.col < 0)) → e.0.col < from.0.col + from.1.width → ⊥
+      out : Earlier pos e.first → (e.first.row < row) ⊎ ((e.first.row ≡ row) × (e.first.col < 0)) → e.first.col < from.first.col + from.size.width → ⊥
       out (inl a) (inl u) h = omega (arith, a, u)
       out (inl a) (inr u) h = omega (arith, u.1)
       out (inr a) u h = omega (arith, a.1)

@@ -51,8 +51,9 @@ pub use Rattle.tabled_grid.specs.Places.{FillsThrough, IsShapedAs, Places, Takes
 pub use Rattle.tabled_grid.specs.Rectangles.{holds, reaches_across, reaches_down}
 pub use Rattle.tabled_grid.specs.Resized.{AreBlanks, InsertsBlank, InsertsColumn, InsertsRow, with_cell_if, with_cells_swapped, with_column, with_columns_swapped, with_row, with_rows_swapped, without_column, without_row}
 pub use Rattle.tabled_grid.specs.Shifts.{crosses_line, is_crossed, shifted, shifted_in, shifted_place}
-pub use Rattle.tabled_grid.specs.Spans.{AreAnchors, AreSpanSizes, IsSizeAt, IsSpanSize, Rectangle, SpanMap, position_cmp, size_at, sized, with_column_span, with_row_span, with_size, with_sizes}
+pub use Rattle.tabled_grid.specs.Spans.{AreAnchors, AreSorted, AreSpanSizes, IsSizeAt, IsSpanSize, SpanMap, is_cell, map_of, of_pairs, pairs, position_cmp, rectangle, rectangles, size_at, sized, with_column_span, with_row_span, with_size, with_sizes}
 pub use Rattle.tabled_grid.specs.declared.config.position.Position.{Position}
+pub use Rattle.tabled_grid.specs.declared.config.rectangle.Rectangle.{Rectangle}
 pub use Rattle.tabled_grid.specs.declared.config.size.Size.{Size}
 pub use Rattle.tabled_grid.specs.declared.records.axis.Axis.{Axis}
 pub use Rattle.tabled_grid.specs.declared.records.axis.Axis.TheVariants.{Columns, Rows}

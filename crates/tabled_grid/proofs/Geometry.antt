@@ -1,5 +1,5 @@
 -- Rectangles given by a size at each place, and what holds in the middle of a span option.
-use Rattle.tabled_grid.proofs.Common.{◌+◌, ◌<◌, ◌∙◌, ◌≡◌, ◌≢◌, ◌≤◌, ◌⊎◌, Position, Rectangle, Size, ap, arith, cases_eq, cases_lt, common_steps, inl, inr, place, sized, subst, sym, ℕ}
+use Rattle.tabled_grid.proofs.Common.{◌+◌, ◌<◌, ◌∙◌, ◌≡◌, ◌≢◌, ◌≤◌, ◌⊎◌, Position, Rectangle, Size, ap, arith, cases_eq, cases_lt, common_steps, inl, inr, inside, place, rectangle, sized, subst, sym, ℕ}
 pub use Rattle.tabled_grid.specs.Midway.{Flat, Hooked, In, Narrow, Sizes, LieWithin}
 
 -- no rectangle is empty
@@ -9,7 +9,7 @@ pub record Full (s : Sizes) : Type 0 where
 
 -- no other rectangle holds the place
 abbrev pub Visible : Sizes → Position → Type 0
-Visible s p = (a : Position) → In (a, s a) p → a ≡ p
+Visible s p = (a : Position) → In (rectangle a (s a)) p → a ≡ p
 
 -- a width at a place, and all else as it was
 pub record Widened (s t : Sizes) (p : Position) (w : ℕ) : Type 0 where
@@ -21,7 +21,7 @@ cases_place a b = grind (arith, common_steps, cases_eq)
 
 module _ (s : Sizes) (p : Position) (w : ℕ) (full : Full s) (hooked : Hooked s) (visible : (k : ℕ) → p.col ≤ k → k < p.col + w → Visible s (place p.row k)) where
   -- another rectangle that meets the widened one begins in it: not above it
-  not_above : (b q : Position) → b ≢ p → In (p, sized (s p).height w) q → In (b, s b) q → b.row < p.row → ⊥
+  not_above : (b q : Position) → b ≢ p → In (rectangle p (sized (s p).height w)) q → In (rectangle b (s b)) q → b.row < p.row → ⊥
   not_above b q apart new old above = at (cases_lt b.col p.col)
     where
       at : (b.col < p.col) ⊎ (p.col ≤ b.col) → ⊥
@@ -33,16 +33,16 @@ module _ (s : Sizes) (p : Position) (w : ℕ) (full : Full s) (hooked : Hooked s
           omega (arith, ap (λ (x : Position). x.row) same)
 
   -- and not left of it
-  not_left : (b q : Position) → b ≢ p → In (p, sized (s p).height w) q → In (b, s b) q → p.row ≤ b.row → b.col < p.col → ⊥
+  not_left : (b q : Position) → b ≢ p → In (rectangle p (sized (s p).height w)) q → In (rectangle b (s b)) q → p.row ≤ b.row → b.col < p.col → ⊥
   not_left b q apart new old below left = at (cases_lt p.row b.row)
     where
-      crossing : p.row < b.row → In (p, s p) (place b.row p.col)
+      crossing : p.row < b.row → In (rectangle p (s p)) (place b.row p.col)
       crossing under = record { top = omega arith; bottom = omega (arith, old.top, new.bottom); left = omega arith; right = omega (arith, full.width p) }
 
-      crossed : In (b, s b) (place b.row p.col)
+      crossed : In (rectangle b (s b)) (place b.row p.col)
       crossed = record { top = omega arith; bottom = omega (arith, full.height b); left = omega arith; right = omega (arith, new.left, old.right) }
 
-      hooks : p.row < b.row → In (p, s p) b ⊎ In (b, s b) p → ⊥
+      hooks : p.row < b.row → In (rectangle p (s p)) b ⊎ In (rectangle b (s b)) p → ⊥
       hooks under (inl h) = omega (arith, h.left)
       hooks under (inr h) = omega (arith, h.top)
 
@@ -52,10 +52,10 @@ module _ (s : Sizes) (p : Position) (w : ℕ) (full : Full s) (hooked : Hooked s
           let same = visible p.col (omega arith) (omega (arith, new.left, new.right)) b (record { top = omega arith; bottom = omega (arith, full.height b); left = omega arith; right = omega (arith, new.left, old.right) }) in
           omega (arith, ap (λ (x : Position). x.col) same)
 
-  begins_in : (b q : Position) → b ≢ p → In (p, sized (s p).height w) q → In (b, s b) q → In (p, sized (s p).height w) b
+  begins_in : (b q : Position) → b ≢ p → In (rectangle p (sized (s p).height w)) q → In (rectangle b (s b)) q → In (rectangle p (sized (s p).height w)) b
   begins_in b q apart new old = by_row (cases_lt b.row p.row) (cases_lt b.col p.col)
     where
-      by_row : (b.row < p.row) ⊎ (p.row ≤ b.row) → (b.col < p.col) ⊎ (p.col ≤ b.col) → In (p, sized (s p).height w) b
+      by_row : (b.row < p.row) ⊎ (p.row ≤ b.row) → (b.col < p.col) ⊎ (p.col ≤ b.col) → In (rectangle p (sized (s p).height w)) b
       by_row (inl above) c = absurd (not_above b q apart new old above)
       by_row (inr below) (inl left) = absurd (not_left b q apart new old below left)
       by_row (inr below) (inr right) = record { top = below; bottom = omega (arith, old.top, new.bottom); left = right; right = omega (arith, old.left, new.right) }
@@ -63,19 +63,19 @@ module _ (s : Sizes) (p : Position) (w : ℕ) (full : Full s) (hooked : Hooked s
   pub hooked_widened : (t : Sizes) → Widened s t p w → Hooked t
   hooked_widened t is = record { hook = hook }
     where
-      hook_at : (a b q : Position) → (a ≡ p) ⊎ (a ≢ p) → (b ≡ p) ⊎ (b ≢ p) → In (a, t a) q → In (b, t b) q → In (a, t a) b ⊎ In (b, t b) a
-      hook_at a b q (inl e) (inl f) ha hb = inl (subst (λ (x : Position). In (a, t a) x) (e ∙ sym f) (record { top = omega arith; bottom = omega (arith, ha.top, ha.bottom); left = omega arith; right = omega (arith, ha.left, ha.right) }))
+      hook_at : (a b q : Position) → (a ≡ p) ⊎ (a ≢ p) → (b ≡ p) ⊎ (b ≢ p) → In (rectangle a (t a)) q → In (rectangle b (t b)) q → In (rectangle a (t a)) b ⊎ In (rectangle b (t b)) a
+      hook_at a b q (inl e) (inl f) ha hb = inl (subst (λ (x : Position). In (rectangle a (t a)) x) (e ∙ sym f) (record { top = omega arith; bottom = omega (arith, ha.top, ha.bottom); left = omega arith; right = omega (arith, ha.left, ha.right) }))
       hook_at a b q (inl e) (inr n) ha hb =
-          let new = subst (λ (x : Position). In (x, t x) q) e ha in
+          let new = subst (λ (x : Position). In (rectangle x (t x)) q) e ha in
           let inside = begins_in b q n (rw is.here at new) (rw (is.others b n) at hb) in
-          inl (subst (λ (x : Position). In (x, t x) b) (sym e) (rw is.here inside))
+          inl (subst (λ (x : Position). In (rectangle x (t x)) b) (sym e) (rw is.here inside))
       hook_at a b q (inr n) (inl f) ha hb =
-          let new = subst (λ (x : Position). In (x, t x) q) f hb in
+          let new = subst (λ (x : Position). In (rectangle x (t x)) q) f hb in
           let inside = begins_in a q n (rw is.here at new) (rw (is.others a n) at ha) in
-          inr (subst (λ (x : Position). In (x, t x) a) (sym f) (rw is.here inside))
+          inr (subst (λ (x : Position). In (rectangle x (t x)) a) (sym f) (rw is.here inside))
       hook_at a b q (inr n) (inr k) ha hb = rw (is.others a n, is.others b k) (hooked.hook a b q (rw (is.others a n) at ha) (rw (is.others b k) at hb))
 
-      hook : (a b q : Position) → In (a, t a) q → In (b, t b) q → In (a, t a) b ⊎ In (b, t b) a
+      hook : (a b q : Position) → In (rectangle a (t a)) q → In (rectangle b (t b)) q → In (rectangle a (t a)) b ⊎ In (rectangle b (t b)) a
       hook a b q = hook_at a b q (cases_place a p) (cases_place b p)
 
 -- the place, with rows and columns exchanged
@@ -90,13 +90,13 @@ flip_size size = sized size.width size.height
 abbrev pub flipped : Sizes → Sizes
 flipped s p = flip_size (s (flip p))
 
-pub In-flip : (e : Rectangle) (p : Position) → In e p → In (flip e.0, flip_size e.1) (flip p)
+pub In-flip : (e : Rectangle) (p : Position) → In e p → In (rectangle (flip e.first) (flip_size e.size)) (flip p)
 In-flip e p i = record { top = i.left; bottom = i.right; left = i.top; right = i.bottom }
 
 pub hooked_flipped : (s : Sizes) → Hooked s → Hooked (flipped s)
 hooked_flipped s hooked = record { hook = λ a b p ha hb. back a b (hooked.hook (flip a) (flip b) (flip p) (In-flip _ p ha) (In-flip _ p hb)) }
   where
-    back : (a b : Position) → In (flip a, s (flip a)) (flip b) ⊎ In (flip b, s (flip b)) (flip a) → In (a, flipped s a) b ⊎ In (b, flipped s b) a
+    back : (a b : Position) → In (rectangle (flip a) (s (flip a))) (flip b) ⊎ In (rectangle (flip b) (s (flip b))) (flip a) → In (rectangle a (flipped s a)) b ⊎ In (rectangle b (flipped s b)) a
     back a b (inl h) = inl (In-flip _ (flip b) h)
     back a b (inr h) = inr (In-flip _ (flip a) h)
 

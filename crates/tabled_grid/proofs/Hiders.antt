@@ -1,10 +1,11 @@
 -- How many anchors hide a place, and how that follows the map.
-use Rattle.tabled_grid.proofs.Common.{[], ◌*◌, ◌+◌, ◌<◌, ◌||◌, ◌∙◌, ◌∷◌, ◌-◌, ◌%◌, ◌≡◌, ◌≢◌, ◌≤◌, ◌⊎◌, AllByRecursion, Bool, IsNumbered, List, None, Option, Position, Rectangle, Size, Some, SpanMap, Stepped, Steps, T, ap, ap₂, arith, below_all, beyond, cases_Bool, cases_lt, common_steps, cond, count_by, entries, entries-from_sorted, entries_sorted, eq_by_cmp, false, false_from_ne_true, find, find-where_key, from_sorted, get, get-entries, get-from_sorted, get_or, hiders_in, hiders_of, hides, inl, inr, is_hidden, is_sorted, is_sorted-where_key, length, list_any, lt-ltb, mul-le-mul_right, nat_lt, not, place, position_cmp, refl, replicate, rules, same_map, size_at, sized, subst, sym, table, take, tied_itself, true, unwrap_or, where_key, with_size, ℕ}
+use Rattle.tabled_grid.proofs.Common.{[], ◌%◌, ◌*◌, ◌+◌, ◌-◌, ◌<◌, ◌||◌, ◌∙◌, ◌∷◌, ◌≡◌, ◌≢◌, ◌≤◌, ◌⊎◌, AllByRecursion, AreSorted, Bool, IsNumbered, List, None, Option, Position, Rectangle, Size, Some, SpanMap, Stepped, Steps, ap, ap₂, arith, beyond, cases_Bool, cases_lt, common_steps, cond, count_by, eq_by_cmp, false, false_from_ne_true, find, find-where_key, get, get_or, hiders_in, hiders_of, hides, inl, inr, is_hidden, length, list_any, lt-ltb, map_of, mul-le-mul_right, nat_lt, not, pairs, place, position_cmp, rectangle, rectangles, refl, replicate, rules, same_map, size_at, sized, subst, sym, table, take, tied_itself, true, unwrap_or, with_size, ℕ}
 use Rattle.std.proofs.Math.Nat.{add-mod_right, mod-eq_of_lt}
 use Rattle.std.proofs.lemmas.List.Sums.{count_by_more_no, count_by_more_yes, sum_by-cons, sum_by-take-le}
 use Rattle.tabled_grid.proofs.PassedAnchors.{Earlier, earlier}
-use Rattle.tabled_grid.proofs.Spans.{positions_exact, positions_total}
-use Rattle.tabled_grid.proofs.SpanMaps.{equal, found_above, halves, less, size_at-with_size, with_size-other}
+use Rattle.tabled_grid.proofs.Members.{sorted-filter}
+use Rattle.tabled_grid.proofs.SortedEntries.{Below, elsewhere, find_at, get-map_of, get-rectangles, halves, less, none_below, pairs-filter, positions_exact, positions_total, rectangles-map_of, rectangles_sorted}
+use Rattle.tabled_grid.proofs.SpanMaps.{equal, size_at-with_size, with_size-other}
 use Rattle.tabled_grid.proofs.Stepping.{hides-true}
 use Rattle.tabled_grid.proofs.Tables.{table-zero}
 
@@ -25,7 +26,7 @@ module _ {X : Type 0} (test : X → Bool) where
       by (inr t) rest = ap (λ b. b || list_any test xs) t ∙ rest ∙ ap (nat_lt 0) (sym (count-no x xs t))
 
 pub hidden-counts : (m : SpanMap) (p : Position) → is_hidden m p ≡ nat_lt 0 (hiders_of m p)
-hidden-counts m p = any-counts (hides p) (entries m)
+hidden-counts m p = any-counts (hides p) (rectangles m)
 
 -- the place of a cell in the list of a shape's cells
 abbrev code : ℕ → Position → ℕ
@@ -36,98 +37,94 @@ code-less columns p q (inl above) h = search (rules, mul-le-mul_right)
 code-less columns p q (inr beside) h = grind (arith, common_steps)
 
 -- what hides a place comes before it
-hider-before : (columns : ℕ) (p : Position) (e : Rectangle) → p.col < columns → hides p e ≡ true → (e.0.col < columns) × (code columns e.0 < code columns p)
+hider-before : (columns : ℕ) (p : Position) (e : Rectangle) → p.col < columns → hides p e ≡ true → (e.first.col < columns) × (code columns e.first < code columns p)
 hider-before columns p e h t = grind (arith, common_steps, hides-true, code-less, cases_lt)
 
 -- those that hide a place, if they begin from place k on, are at most the places from there up to it
-few : (columns k : ℕ) (p : Position) (es : List Rectangle) → T (is_sorted position_cmp es) → p.col < columns → k ≤ code columns p → AllByRecursion (λ (e : Rectangle). hides p e ≡ true → k ≤ code columns e.0) es → hiders_in es p + k ≤ code columns p
+few : (columns k : ℕ) (p : Position) (es : List Rectangle) → AreSorted es → p.col < columns → k ≤ code columns p → AllByRecursion (λ (e : Rectangle). hides p e ≡ true → k ≤ code columns e.first) es → hiders_in es p + k ≤ code columns p
 few columns k p [] up h l all = omega (arith, l)
 few columns k p (e ∷ es) up h l all = by (cases_Bool (hides p e)) (few columns k p es (halves _ _ up).1 h l all.1) (λ j below rest. few columns j p es (halves _ _ up).1 h below rest)
   where
-    after : (fs : List Rectangle) → hides p e ≡ true → T (below_all position_cmp e.0 fs) → AllByRecursion (λ (f : Rectangle). hides p f ≡ true → code columns e.0 + 1 ≤ code columns f.0) fs
+    after : (fs : List Rectangle) → hides p e ≡ true → Below e.first fs → AllByRecursion (λ (f : Rectangle). hides p f ≡ true → code columns e.first + 1 ≤ code columns f.first) fs
     after [] t below = tt
-    after (f ∷ fs) t below = ((λ u. omega (arith, code-less columns e.0 f.0 (earlier e.0 f.0 (less _ (halves _ _ below).0)) (hider-before columns p e h t).0)), after fs t (halves _ _ below).1)
+    after (f ∷ fs) t below = ((λ u. omega (arith, code-less columns e.first f.first (earlier e.first f.first (less _ (halves _ _ below).0)) (hider-before columns p e h t).0)), after fs t (halves _ _ below).1)
 
-    by : (hides p e ≡ true) ⊎ (hides p e ≡ false) → hiders_in es p + k ≤ code columns p → ((j : ℕ) → j ≤ code columns p → AllByRecursion (λ (f : Rectangle). hides p f ≡ true → j ≤ code columns f.0) es → hiders_in es p + j ≤ code columns p) → hiders_in (e ∷ es) p + k ≤ code columns p
+    by : (hides p e ≡ true) ⊎ (hides p e ≡ false) → hiders_in es p + k ≤ code columns p → ((j : ℕ) → j ≤ code columns p → AllByRecursion (λ (f : Rectangle). hides p f ≡ true → j ≤ code columns f.first) es → hiders_in es p + j ≤ code columns p) → hiders_in (e ∷ es) p + k ≤ code columns p
     by (inl t) same go =
-        let more = go (code columns e.0 + 1) (omega (arith, (hider-before columns p e h t).1)) (after es t (halves _ _ up).0) in
+        let more = go (code columns e.first + 1) (omega (arith, (hider-before columns p e h t).1)) (after es t (halves _ _ up).0) in
         omega (arith, more, all.0 t, count-yes (hides p) e es t)
     by (inr t) same go = omega (arith, same, count-no (hides p) e es t)
 
-from_start : (columns : ℕ) (p : Position) (es : List Rectangle) → AllByRecursion (λ (e : Rectangle). hides p e ≡ true → 0 ≤ code columns e.0) es
+from_start : (columns : ℕ) (p : Position) (es : List Rectangle) → AllByRecursion (λ (e : Rectangle). hides p e ≡ true → 0 ≤ code columns e.first) es
 from_start columns p [] = tt
 from_start columns p (e ∷ es) = ((λ t. omega arith), from_start columns p es)
 
 -- so their number is below a limit where that of the shape's cells is
-pub hiders-fit : (limit rows columns : ℕ) (p : Position) (es : List Rectangle) → T (is_sorted position_cmp es) → p.row < rows → p.col < columns → rows * columns < limit → hiders_in es p < limit
+pub hiders-fit : (limit rows columns : ℕ) (p : Position) (es : List Rectangle) → AreSorted es → p.row < rows → p.col < columns → rows * columns < limit → hiders_in es p < limit
 hiders-fit limit rows columns p es up row col fits =
     let before : hiders_in es p + 0 ≤ code columns p = few columns 0 p es up col (omega arith) (from_start columns p es) in
     let inside : (p.row + 1) * columns ≤ rows * columns = mul-le-mul_right columns (omega arith) in
     omega (arith, before, inside)
 
--- the entries of a map but that at a place
+-- the rectangles of a map but that at a place
 rest : SpanMap → Position → List Rectangle
-rest m a = where_key position_cmp (λ q. not (eq_by_cmp position_cmp a q)) (entries m)
+rest m a = elsewhere a (rectangles m)
 
 rest-same : (m n : SpanMap) (a : Position) → ((q : Position) → q ≢ a → get n q ≡ get m q) → rest n a ≡ rest m a
 unfolding rest
-rest-same m n a same = sym (entries-from_sorted position_cmp (rest n a) (up n)) ∙ ap entries (same_map positions_total positions_exact _ _ each) ∙ entries-from_sorted position_cmp (rest m a) (up m)
+rest-same m n a same = sym (rectangles-map_of (rest n a) (up n)) ∙ ap rectangles (same_map positions_total positions_exact (map_of (rest n a)) (map_of (rest m a)) each) ∙ rectangles-map_of (rest m a) (up m)
   where
-    up : (k : SpanMap) → T (is_sorted position_cmp (rest k a))
-    up k = is_sorted-where_key position_cmp (λ q. not (eq_by_cmp position_cmp a q)) (entries k) (entries_sorted k)
+    up : (k : SpanMap) → AreSorted (rest k a)
+    up k = sorted-filter (λ (e : Rectangle). not (eq_by_cmp position_cmp a e.first)) (rectangles k) (rectangles_sorted k)
 
-    found : (k : SpanMap) (q : Position) → get (from_sorted {R = position_cmp} (rest k a)) q ≡ cond (not (eq_by_cmp position_cmp a q)) (get k q) None
-    found k q = get-from_sorted position_cmp (rest k a) q (up k) ∙ find-where_key position_cmp (λ x. not (eq_by_cmp position_cmp a x)) q (λ x t. ap (λ y. not (eq_by_cmp position_cmp a y)) (sym (positions_exact q x t))) (entries k) ∙ ap (λ v. cond (not (eq_by_cmp position_cmp a q)) v None) (sym (get-entries k q))
+    found : (k : SpanMap) (q : Position) → get (map_of (rest k a)) q ≡ cond (not (eq_by_cmp position_cmp a q)) (get k q) None
+    found k q = get-map_of (rest k a) q (up k) ∙ ap (find position_cmp q) (pairs-filter (λ x. not (eq_by_cmp position_cmp a x)) (rectangles k)) ∙ find-where_key position_cmp (λ x. not (eq_by_cmp position_cmp a x)) q (λ x t. ap (λ y. not (eq_by_cmp position_cmp a y)) (sym (positions_exact q x t))) (pairs (rectangles k)) ∙ ap (λ v. cond (not (eq_by_cmp position_cmp a q)) v None) (sym (get-rectangles k q))
 
-    each : (q : Position) → get (from_sorted {R = position_cmp} (rest n a)) q ≡ get (from_sorted {R = position_cmp} (rest m a)) q
+    each : (q : Position) → get (map_of (rest n a)) q ≡ get (map_of (rest m a)) q
     each q = grind (arith, common_steps, found, cases_Bool, tied_itself, positions_total)
 
--- nothing is found at a place below all
-none_below : (a : Position) (es : List Rectangle) → T (below_all position_cmp a es) → find position_cmp a es ≡ None
-none_below a es below = grind (arith, common_steps, tied_itself, positions_total, found_above, positions_exact)
-
 -- a place of one cell is none that an entry may have for nothing
-counts-apart : (test : Rectangle → Bool) (a : Position) (es : List Rectangle) → test (a, sized 1 1) ≡ false → T (is_sorted position_cmp es) → count_by test es ≡ count_by test (where_key position_cmp (λ q. not (eq_by_cmp position_cmp a q)) es) + cond (test (a, unwrap_or (find position_cmp a es) (sized 1 1))) 1 0
+counts-apart : (test : Rectangle → Bool) (a : Position) (es : List Rectangle) → test (rectangle a (sized 1 1)) ≡ false → AreSorted es → count_by test es ≡ count_by test (elsewhere a es) + cond (test (rectangle a (unwrap_or (find_at a es) (sized 1 1)))) 1 0
 counts-apart test a [] one up = ap (λ (b : Bool). 0 + cond b 1 0) (sym one)
-counts-apart test a (e ∷ es) one up = by (cases_Bool (eq_by_cmp position_cmp a e.0)) (cases_Bool (test e)) (counts-apart test a es one (halves _ _ up).1)
+counts-apart test a (e ∷ es) one up = by (cases_Bool (eq_by_cmp position_cmp a e.first)) (cases_Bool (test e)) (counts-apart test a es one (halves _ _ up).1)
   where
     others : List Rectangle
-    others = where_key position_cmp (λ q. not (eq_by_cmp position_cmp a q)) es
+    others = elsewhere a es
 
     at : Option Size → ℕ
-    at v = cond (test (a, unwrap_or v (sized 1 1))) 1 0
+    at v = cond (test (rectangle a (unwrap_or v (sized 1 1)))) 1 0
 
-    kept : (b : Bool) → eq_by_cmp position_cmp a e.0 ≡ b → where_key position_cmp (λ q. not (eq_by_cmp position_cmp a q)) (e ∷ es) ≡ cond (not b) (e ∷ others) others
+    kept : (b : Bool) → eq_by_cmp position_cmp a e.first ≡ b → elsewhere a (e ∷ es) ≡ cond (not b) (e ∷ others) others
     kept b t = ap (λ c. cond (not c) (e ∷ others) others) t
 
-    looked : (b : Bool) → eq_by_cmp position_cmp a e.0 ≡ b → find position_cmp a (e ∷ es) ≡ cond b (Some e.1) (find position_cmp a es)
-    looked b t = ap (λ c. cond c (Some e.1) (find position_cmp a es)) t
+    looked : (b : Bool) → eq_by_cmp position_cmp a e.first ≡ b → find_at a (e ∷ es) ≡ cond b (Some e.size) (find_at a es)
+    looked b t = ap (λ c. cond c (Some e.size) (find_at a es)) t
 
-    here : eq_by_cmp position_cmp a e.0 ≡ true → at (find position_cmp a es) ≡ 0
-    here t = ap at (none_below a es (subst (λ x. T (below_all position_cmp x es)) (sym (positions_exact a e.0 (equal _ t))) (halves _ _ up).0)) ∙ ap (λ (b : Bool). cond b 1 0) one
+    here : eq_by_cmp position_cmp a e.first ≡ true → at (find_at a es) ≡ 0
+    here t = ap at (none_below a es (subst (λ x. Below x es) (sym (positions_exact a e.first (equal _ t))) (halves _ _ up).0)) ∙ ap (λ (b : Bool). cond b 1 0) one
 
-    this : eq_by_cmp position_cmp a e.0 ≡ true → at (Some e.1) ≡ cond (test e) 1 0
-    this t = ap (λ x. cond (test (x, e.1)) 1 0) (positions_exact a e.0 (equal _ t))
+    this : eq_by_cmp position_cmp a e.first ≡ true → at (Some e.size) ≡ cond (test e) 1 0
+    this t = ap (λ x. cond (test (rectangle x e.size)) 1 0) (positions_exact a e.first (equal _ t))
 
-    by : (eq_by_cmp position_cmp a e.0 ≡ true) ⊎ (eq_by_cmp position_cmp a e.0 ≡ false) → (test e ≡ true) ⊎ (test e ≡ false) → count_by test es ≡ count_by test others + at (find position_cmp a es) → count_by test (e ∷ es) ≡ count_by test (where_key position_cmp (λ q. not (eq_by_cmp position_cmp a q)) (e ∷ es)) + at (find position_cmp a (e ∷ es))
+    by : (eq_by_cmp position_cmp a e.first ≡ true) ⊎ (eq_by_cmp position_cmp a e.first ≡ false) → (test e ≡ true) ⊎ (test e ≡ false) → count_by test es ≡ count_by test others + at (find_at a es) → count_by test (e ∷ es) ≡ count_by test (elsewhere a (e ∷ es)) + at (find_at a (e ∷ es))
     by (inl t) c go =
-        let value : at (find position_cmp a (e ∷ es)) ≡ cond (test e) 1 0 = ap at (looked true t) ∙ this t in
+        let value : at (find_at a (e ∷ es)) ≡ cond (test e) 1 0 = ap at (looked true t) ∙ this t in
         rw (kept true t, value) (omega (arith, go, here t, sum_by-cons (λ y. cond (test y) 1 0) e es))
     by (inr f) c go =
         rw (kept false f, looked false f) (omega (arith, go, sum_by-cons (λ y. cond (test y) 1 0) e es, sum_by-cons (λ y. cond (test y) 1 0) e others))
 
-one_cell_hides_none : (a p : Position) → hides p (a, sized 1 1) ≡ false
-one_cell_hides_none a p = false_from_ne_true _ (λ t. let at = hides-true (a, sized 1 1) p t in at.other (ap₂ place (omega (arith, at.holds.top, at.holds.bottom)) (omega (arith, at.holds.left, at.holds.right))))
+one_cell_hides_none : (a p : Position) → hides p (rectangle a (sized 1 1)) ≡ false
+one_cell_hides_none a p = false_from_ne_true _ (λ t. let at = hides-true (rectangle a (sized 1 1)) p t in at.other (ap₂ place (omega (arith, at.holds.top, at.holds.bottom)) (omega (arith, at.holds.left, at.holds.right))))
 
 -- an anchor hides a place, or not, beside all others
-hiders-apart : (m : SpanMap) (a p : Position) → hiders_of m p ≡ hiders_in (rest m a) p + cond (hides p (a, size_at m a)) 1 0
+hiders-apart : (m : SpanMap) (a p : Position) → hiders_of m p ≡ hiders_in (rest m a) p + cond (hides p (rectangle a (size_at m a))) 1 0
 unfolding rest
-hiders-apart m a p = counts-apart (hides p) a (entries m) (one_cell_hides_none a p) (entries_sorted m) ∙ ap (λ v. hiders_in (rest m a) p + cond (hides p (a, unwrap_or v (sized 1 1))) 1 0) (sym (get-entries m a))
+hiders-apart m a p = counts-apart (hides p) a (rectangles m) (one_cell_hides_none a p) (rectangles_sorted m) ∙ ap (λ v. hiders_in (rest m a) p + cond (hides p (rectangle a (unwrap_or v (sized 1 1)))) 1 0) (sym (get-rectangles m a))
 
-hiders-with : (m : SpanMap) (a p : Position) (new : Size) → hiders_of (with_size m a new) p ≡ hiders_in (rest m a) p + cond (hides p (a, new)) 1 0
+hiders-with : (m : SpanMap) (a p : Position) (new : Size) → hiders_of (with_size m a new) p ≡ hiders_in (rest m a) p + cond (hides p (rectangle a new)) 1 0
 hiders-with m a p new =
     hiders-apart (with_size m a new) a p
-    ∙ ap₂ (λ es size. hiders_in es p + cond (hides p (a, size)) 1 0) (rest-same m (with_size m a new) a (λ q n. with_size-other m a new q n)) (size_at-with_size m a new)
+    ∙ ap₂ (λ es size. hiders_in es p + cond (hides p (rectangle a size)) 1 0) (rest-same m (with_size m a new) a (λ q n. with_size-other m a new q n)) (size_at-with_size m a new)
 
 abbrev number : Bool → ℕ
 number b = cond b 1 0
@@ -152,32 +149,32 @@ module _ (m : SpanMap) (a : Position) (old new : Size) (first : Position) (rows 
   at i j = beyond first (place i j)
 
   few_of : (n : SpanMap) (i j : ℕ) → i < rows → j < columns → hiders_of n (at i j) < limit
-  few_of n i j h k = hiders-fit limit (first.row + rows) (first.col + columns) (at i j) (entries n) (entries_sorted n) (omega arith) (omega arith) fits.cells
+  few_of n i j h k = hiders-fit limit (first.row + rows) (first.col + columns) (at i j) (rectangles n) (rectangles_sorted n) (omega arith) (omega arith) fits.cells
 
-  taken : Stepped (λ p. hides (beyond first p) (a, old)) (limit - 1) limit rows columns (λ p. hiders_of m (beyond first p)) (λ p. hiders_in (rest m a) (beyond first p))
+  taken : Stepped (λ p. hides (beyond first p) (rectangle a old)) (limit - 1) limit rows columns (λ p. hiders_of m (beyond first p)) (λ p. hiders_in (rest m a) (beyond first p))
   taken = record {
-    here = λ i j h k t. sym (one-less _ _ limit (was i j ∙ ap (λ n. hiders_in (rest m a) (at i j) + n) (one-if (hides (at i j) (a, old)) t)) (few_of m i j h k));
-    others = λ i j h k t. omega (arith, was i j, none-if (hides (at i j) (a, old)) t);
+    here = λ i j h k t. sym (one-less _ _ limit (was i j ∙ ap (λ n. hiders_in (rest m a) (at i j) + n) (one-if (hides (at i j) (rectangle a old)) t)) (few_of m i j h k));
+    others = λ i j h k t. omega (arith, was i j, none-if (hides (at i j) (rectangle a old)) t);
   }
     where
-      was : (i j : ℕ) → hiders_of m (at i j) ≡ hiders_in (rest m a) (at i j) + cond (hides (at i j) (a, old)) 1 0
-      was i j = hiders-apart m a (at i j) ∙ ap (λ size. hiders_in (rest m a) (at i j) + cond (hides (at i j) (a, size)) 1 0) has
+      was : (i j : ℕ) → hiders_of m (at i j) ≡ hiders_in (rest m a) (at i j) + cond (hides (at i j) (rectangle a old)) 1 0
+      was i j = hiders-apart m a (at i j) ∙ ap (λ size. hiders_in (rest m a) (at i j) + cond (hides (at i j) (rectangle a size)) 1 0) has
 
-  given : Stepped (λ p. hides (beyond first p) (a, new)) 1 limit rows columns (λ p. hiders_in (rest m a) (beyond first p)) (λ p. hiders_of (with_size m a new) (beyond first p))
+  given : Stepped (λ p. hides (beyond first p) (rectangle a new)) 1 limit rows columns (λ p. hiders_in (rest m a) (beyond first p)) (λ p. hiders_of (with_size m a new) (beyond first p))
   given = record {
-    here = λ i j h k t. sym (one_more-is _ _ limit (is i j ∙ ap (λ n. hiders_in (rest m a) (at i j) + n) (one-if (hides (at i j) (a, new)) t)) (few_of (with_size m a new) i j h k));
-    others = λ i j h k t. omega (arith, is i j, none-if (hides (at i j) (a, new)) t);
+    here = λ i j h k t. sym (one_more-is _ _ limit (is i j ∙ ap (λ n. hiders_in (rest m a) (at i j) + n) (one-if (hides (at i j) (rectangle a new)) t)) (few_of (with_size m a new) i j h k));
+    others = λ i j h k t. omega (arith, is i j, none-if (hides (at i j) (rectangle a new)) t);
   }
     where
-      is : (i j : ℕ) → hiders_of (with_size m a new) (at i j) ≡ hiders_in (rest m a) (at i j) + cond (hides (at i j) (a, new)) 1 0
+      is : (i j : ℕ) → hiders_of (with_size m a new) (at i j) ≡ hiders_in (rest m a) (at i j) + cond (hides (at i j) (rectangle a new)) 1 0
       is i j = hiders-with m a (at i j) new
 
   -- a rectangle is taken away, and another given
-  pub hiders-replaced : (xs ys zs : List ℕ) → Steps xs ys (λ p. hides (beyond first p) (a, old)) (limit - 1) limit rows columns → Steps ys zs (λ p. hides (beyond first p) (a, new)) 1 limit rows columns → xs ≡ table (λ p. hiders_of m (beyond first p)) rows columns → zs ≡ table (λ p. hiders_of (with_size m a new) (beyond first p)) rows columns
+  pub hiders-replaced : (xs ys zs : List ℕ) → Steps xs ys (λ p. hides (beyond first p) (rectangle a old)) (limit - 1) limit rows columns → Steps ys zs (λ p. hides (beyond first p) (rectangle a new)) 1 limit rows columns → xs ≡ table (λ p. hiders_of m (beyond first p)) rows columns → zs ≡ table (λ p. hiders_of (with_size m a new) (beyond first p)) rows columns
   hiders-replaced xs ys zs back on is = on.is (λ p. hiders_in (rest m a) (beyond first p)) (λ p. hiders_of (with_size m a new) (beyond first p)) given (back.is (λ p. hiders_of m (beyond first p)) (λ p. hiders_in (rest m a) (beyond first p)) taken is)
 
 -- one anchor of a sorted list more
-pub hiders-more : (es : List Rectangle) (n : ℕ) (d : Rectangle) (xs ys : List ℕ) (first : Position) (step limit rows columns : ℕ) → T (is_sorted position_cmp es) → n < length es → IsNumbered limit first rows columns → step ≡ 1 → Steps xs ys (λ p. hides (beyond first p) (get_or es n d)) step limit rows columns → xs ≡ table (λ p. hiders_in (take n es) (beyond first p)) rows columns → ys ≡ table (λ p. hiders_in (take (n + 1) es) (beyond first p)) rows columns
+pub hiders-more : (es : List Rectangle) (n : ℕ) (d : Rectangle) (xs ys : List ℕ) (first : Position) (step limit rows columns : ℕ) → AreSorted es → n < length es → IsNumbered limit first rows columns → step ≡ 1 → Steps xs ys (λ p. hides (beyond first p) (get_or es n d)) step limit rows columns → xs ≡ table (λ p. hiders_in (take n es) (beyond first p)) rows columns → ys ≡ table (λ p. hiders_in (take (n + 1) es) (beyond first p)) rows columns
 hiders-more es n d xs ys first step limit rows columns up here fits one steps is = steps.is (λ p. hiders_in (take n es) (beyond first p)) (λ p. hiders_in (take (n + 1) es) (beyond first p)) (record {
   here = λ i j h k t. sym (ap (λ s. (hiders_in (take n es) (beyond first (place i j)) + s) % limit) one ∙ one_more-is _ _ limit
       (omega (arith, count_by_more_yes (hides (beyond first (place i j))) es n d here t))

@@ -1,28 +1,29 @@
 -- Anchors that are marked where another holds them, from the last to the first, and what is left of them.
-use Rattle.tabled_grid.proofs.Common.{[], ◌&&◌, ◌++◌, ◌+◌, ◌<◌, ◌||◌, ◌∙◌, ◌∷◌, ◌≡◌, AllByRecursion, Bool, IsSpanSize, List, Position, Rectangle, T, ap, ap₂, arith, below_all, common_steps, cond, drop, drop_at, drop_more, dropped, false, false_from_ne_true, filter, get_or, get_or-take, get_or_append_left, holds, inl, inr, is_hidden_in, is_lt, is_sorted, length, length-take, lt-ltb, map, marked, nat_lt, not, position_cmp, refl, same_place, sized, subst, suc, sym, take, true, unless_held, ℕ}
+use Rattle.tabled_grid.proofs.Common.{[], ◌&&◌, ◌++◌, ◌+◌, ◌<◌, ◌||◌, ◌∙◌, ◌∷◌, ◌≡◌, AllByRecursion, AreSorted, Bool, IsSpanSize, List, Position, Rectangle, T, ap, ap₂, arith, common_steps, cond, drop, drop_at, drop_more, dropped, false, false_from_ne_true, filter, get_or, get_or-take, get_or_append_left, holds, inl, inr, is_hidden_in, is_lt, length, length-take, lt-ltb, map, marked, nat_lt, not, position_cmp, rectangle, refl, same_place, sized, subst, suc, sym, take, true, unless_held, ℕ}
 use Rattle.tabled_grid.proofs.Geometry.{In}
-use Rattle.tabled_grid.proofs.SpanMaps.{both, halves, holds-true, less, same_place-self}
+use Rattle.tabled_grid.proofs.SortedEntries.{Below, both, halves, less}
+use Rattle.tabled_grid.proofs.SpanMaps.{holds-true, same_place-self}
 use Rattle.tabled_grid.proofs.PassedAnchors.{Earlier, earlier, places_apart}
 
 -- a mark keeps the place
-place_kept : (by e : Rectangle) → (unless_held by e).0 ≡ e.0
+place_kept : (by e : Rectangle) → (unless_held by e).first ≡ e.first
 place_kept by e = grind (arith, common_steps)
 
-below_held : (x : Position) (by : Rectangle) (es : List Rectangle) → T (below_all position_cmp x es) → T (below_all position_cmp x (map (unless_held by) es))
+below_held : (x : Position) (by : Rectangle) (es : List Rectangle) → Below x es → Below x (map (unless_held by) es)
 below_held x by [] h = tt
 below_held x by (e ∷ es) h = both _ _ (subst (λ p. T (is_lt (position_cmp x p))) (sym (place_kept by e)) (halves _ _ h).0) (below_held x by es (halves _ _ h).1)
 
-sorted_held : (by : Rectangle) (es : List Rectangle) → T (is_sorted position_cmp es) → T (is_sorted position_cmp (map (unless_held by) es))
+sorted_held : (by : Rectangle) (es : List Rectangle) → AreSorted es → AreSorted (map (unless_held by) es)
 sorted_held by [] h = tt
-sorted_held by (e ∷ es) h = both _ _ (subst (λ p. T (below_all position_cmp p (map (unless_held by) es))) (sym (place_kept by e)) (below_held e.0 by es (halves _ _ h).0)) (sorted_held by es (halves _ _ h).1)
+sorted_held by (e ∷ es) h = both _ _ (subst (λ p. Below p (map (unless_held by) es)) (sym (place_kept by e)) (below_held e.first by es (halves _ _ h).0)) (sorted_held by es (halves _ _ h).1)
 
-below_marked : (x : Position) (es : List Rectangle) → T (below_all position_cmp x es) → T (below_all position_cmp x (marked es))
+below_marked : (x : Position) (es : List Rectangle) → Below x es → Below x (marked es)
 below_marked x [] h = tt
 below_marked x (e ∷ es) h = both _ _ (halves _ _ h).0 (below_held x e (marked es) (below_marked x es (halves _ _ h).1))
 
-sorted_marked : (es : List Rectangle) → T (is_sorted position_cmp es) → T (is_sorted position_cmp (marked es))
+sorted_marked : (es : List Rectangle) → AreSorted es → AreSorted (marked es)
 sorted_marked [] h = tt
-sorted_marked (e ∷ es) h = both _ _ (below_held e.0 e (marked es) (below_marked e.0 es (halves _ _ h).0)) (sorted_held e (marked es) (sorted_marked es (halves _ _ h).1))
+sorted_marked (e ∷ es) h = both _ _ (below_held e.first e (marked es) (below_marked e.first es (halves _ _ h).0)) (sorted_held e (marked es) (sorted_marked es (halves _ _ h).1))
 
 -- the anchors before an index as they were, and the others marked
 abbrev pub marked_from : List Rectangle → ℕ → List Rectangle
@@ -35,66 +36,66 @@ module _ (old : List Rectangle) (i : ℕ) (here : i < length old) where
   pub at_mark : (d : Rectangle) → get_or (marked_from old (i + 1)) i d ≡ get_or old i d
   at_mark d = get_or_append_left (take (i + 1) old) (marked (drop (i + 1) old)) d i (omega (arith, front)) ∙ get_or-take (i + 1) old i d (omega arith)
 
-  pub sorted_mark : (d : Rectangle) → ((n : ℕ) → T (is_sorted position_cmp (drop n old))) → T (is_sorted position_cmp (get_or (marked_from old (i + 1)) i d ∷ drop (i + 1) (marked_from old (i + 1))))
+  pub sorted_mark : (d : Rectangle) → ((n : ℕ) → AreSorted (drop n old)) → AreSorted (get_or (marked_from old (i + 1)) i d ∷ drop (i + 1) (marked_from old (i + 1)))
   sorted_mark d up = grind (arith, common_steps, drop_more, both, below_marked, halves, sorted_marked, at_mark, drop_at, front)
 
 -- what has a size is left of the marked
 abbrev pub has_size : Rectangle → Bool
-has_size e = nat_lt 0 e.1.height
+has_size e = nat_lt 0 e.size.height
 
-sized_held : (by : Rectangle) (es : List Rectangle) → filter has_size (map (unless_held by) es) ≡ filter (λ (e : Rectangle). not (holds by e.0)) (filter has_size es)
+sized_held : (by : Rectangle) (es : List Rectangle) → filter has_size (map (unless_held by) es) ≡ filter (λ (e : Rectangle). not (holds by e.first)) (filter has_size es)
 sized_held by [] = refl
-sized_held by (e ∷ es) = either (holds by e.0) refl (has_size e) refl (sized_held by es)
+sized_held by (e ∷ es) = either (holds by e.first) refl (has_size e) refl (sized_held by es)
   where
-    either : (b : Bool) → holds by e.0 ≡ b → (s : Bool) → has_size e ≡ s → filter has_size (map (unless_held by) es) ≡ filter (λ (f : Rectangle). not (holds by f.0)) (filter has_size es) → filter has_size (cond b (e.0, sized 0 0) e ∷ map (unless_held by) es) ≡ filter (λ (f : Rectangle). not (holds by f.0)) (cond s (e ∷ filter has_size es) (filter has_size es))
+    either : (b : Bool) → holds by e.first ≡ b → (s : Bool) → has_size e ≡ s → filter has_size (map (unless_held by) es) ≡ filter (λ (f : Rectangle). not (holds by f.first)) (filter has_size es) → filter has_size (cond b (rectangle e.first (sized 0 0)) e ∷ map (unless_held by) es) ≡ filter (λ (f : Rectangle). not (holds by f.first)) (cond s (e ∷ filter has_size es) (filter has_size es))
     either true is true has go = rw is go
     either true is false has go = go
     either false is true has go = rw (is, has) (ap (λ fs. e ∷ fs) go)
     either false is false has go = rw has go
 
 -- an anchor's rectangle and other tests, of anchors that come after it
-hidden_later : (h : Position → Bool) (e : Rectangle) (fs : List Rectangle) → T (below_all position_cmp e.0 fs) → filter (λ (f : Rectangle). not ((holds e f.0 && not (same_place e.0 f.0)) || h f.0)) fs ≡ filter (λ (f : Rectangle). not (holds e f.0)) (filter (λ (f : Rectangle). not (h f.0)) fs)
+hidden_later : (h : Position → Bool) (e : Rectangle) (fs : List Rectangle) → Below e.first fs → filter (λ (f : Rectangle). not ((holds e f.first && not (same_place e.first f.first)) || h f.first)) fs ≡ filter (λ (f : Rectangle). not (holds e f.first)) (filter (λ (f : Rectangle). not (h f.first)) fs)
 hidden_later h e [] below = refl
-hidden_later h e (f ∷ fs) below = either (holds e f.0) refl (h f.0) refl (places_apart e.0 f.0 (less _ (halves _ _ below).0)).0 (hidden_later h e fs (halves _ _ below).1)
+hidden_later h e (f ∷ fs) below = either (holds e f.first) refl (h f.first) refl (places_apart e.first f.first (less _ (halves _ _ below).0)).0 (hidden_later h e fs (halves _ _ below).1)
   where
     rest : List Rectangle → List Rectangle
-    rest gs = filter (λ (g : Rectangle). not ((holds e g.0 && not (same_place e.0 g.0)) || h g.0)) gs
+    rest gs = filter (λ (g : Rectangle). not ((holds e g.first && not (same_place e.first g.first)) || h g.first)) gs
 
-    either : (b : Bool) → holds e f.0 ≡ b → (s : Bool) → h f.0 ≡ s → same_place e.0 f.0 ≡ false → filter (λ (g : Rectangle). not ((holds e g.0 && not (same_place e.0 g.0)) || h g.0)) fs ≡ filter (λ (g : Rectangle). not (holds e g.0)) (filter (λ (g : Rectangle). not (h g.0)) fs) →
-        cond (not ((b && not (same_place e.0 f.0)) || s)) (f ∷ filter (λ (g : Rectangle). not ((holds e g.0 && not (same_place e.0 g.0)) || h g.0)) fs) (filter (λ (g : Rectangle). not ((holds e g.0 && not (same_place e.0 g.0)) || h g.0)) fs) ≡ filter (λ (g : Rectangle). not (holds e g.0)) (cond (not s) (f ∷ filter (λ (g : Rectangle). not (h g.0)) fs) (filter (λ (g : Rectangle). not (h g.0)) fs))
+    either : (b : Bool) → holds e f.first ≡ b → (s : Bool) → h f.first ≡ s → same_place e.first f.first ≡ false → filter (λ (g : Rectangle). not ((holds e g.first && not (same_place e.first g.first)) || h g.first)) fs ≡ filter (λ (g : Rectangle). not (holds e g.first)) (filter (λ (g : Rectangle). not (h g.first)) fs) →
+        cond (not ((b && not (same_place e.first f.first)) || s)) (f ∷ filter (λ (g : Rectangle). not ((holds e g.first && not (same_place e.first g.first)) || h g.first)) fs) (filter (λ (g : Rectangle). not ((holds e g.first && not (same_place e.first g.first)) || h g.first)) fs) ≡ filter (λ (g : Rectangle). not (holds e g.first)) (cond (not s) (f ∷ filter (λ (g : Rectangle). not (h g.first)) fs) (filter (λ (g : Rectangle). not (h g.first)) fs))
     either true is true hid same go = rw same go
     either true is false hid same go = rw (same, is) go
     either false is true hid same go = go
     either false is false hid same go = rw is (ap (λ gs. f ∷ gs) go)
 
 -- nothing that comes later holds a place
-none_later : (p : Position) (es : List Rectangle) → T (below_all position_cmp p es) → is_hidden_in es p ≡ false
+none_later : (p : Position) (es : List Rectangle) → Below p es → is_hidden_in es p ≡ false
 none_later p [] below = refl
-none_later p (e ∷ es) below = ap (λ b. (b && not (same_place e.0 p)) || is_hidden_in es p) (out (earlier p e.0 (less _ (halves _ _ below).0))) ∙ none_later p es (halves _ _ below).1
+none_later p (e ∷ es) below = ap (λ b. (b && not (same_place e.first p)) || is_hidden_in es p) (out (earlier p e.first (less _ (halves _ _ below).0))) ∙ none_later p es (halves _ _ below).1
   where
-    not_in : Earlier p e.0 → In e p → ⊥
+    not_in : Earlier p e.first → In e p → ⊥
     not_in (inl l) h = omega (arith, h.top)
     not_in (inr l) h = omega (arith, h.left)
 
-    out : Earlier p e.0 → holds e p ≡ false
+    out : Earlier p e.first → holds e p ≡ false
     out l = false_from_ne_true _ (λ t. not_in l (holds-true e p t))
 
-pub sized_marked : (es : List Rectangle) → T (is_sorted position_cmp es) → AllByRecursion (λ (e : Rectangle). IsSpanSize e.1) es → filter has_size (marked es) ≡ dropped es
+pub sized_marked : (es : List Rectangle) → AreSorted es → AllByRecursion (λ (e : Rectangle). IsSpanSize e.size) es → filter has_size (marked es) ≡ dropped es
 sized_marked [] up sizes = refl
 sized_marked (e ∷ es) up sizes =
     let rest = sized_marked es (halves _ _ up).1 sizes.1 in
-    rw (lt-ltb 0 e.1.height (omega (arith, sizes.0.height)), sized_held e (marked es), rest)
+    rw (lt-ltb 0 e.size.height (omega (arith, sizes.0.height)), sized_held e (marked es), rest)
     (ap (λ fs. e ∷ fs) (sym (hidden_later (is_hidden_in es) e es (halves _ _ up).0)) ∙ sym shown)
   where
-    self : (holds e e.0 && not (same_place e.0 e.0)) ≡ false
-    self = rw (same_place-self e.0) (either (holds e e.0))
+    self : (holds e e.first && not (same_place e.first e.first)) ≡ false
+    self = rw (same_place-self e.first) (either (holds e e.first))
       where
         either : (b : Bool) → (b && false) ≡ false
         either true = refl
         either false = refl
 
-    shown : dropped (e ∷ es) ≡ e ∷ filter (λ (f : Rectangle). not (is_hidden_in (e ∷ es) f.0)) es
-    shown = ap (λ b. cond (not b) (e ∷ filter (λ (f : Rectangle). not (is_hidden_in (e ∷ es) f.0)) es) (filter (λ (f : Rectangle). not (is_hidden_in (e ∷ es) f.0)) es)) (ap₂ (λ a b. a || b) self (none_later e.0 es (halves _ _ up).0))
+    shown : dropped (e ∷ es) ≡ e ∷ filter (λ (f : Rectangle). not (is_hidden_in (e ∷ es) f.first)) es
+    shown = ap (λ b. cond (not b) (e ∷ filter (λ (f : Rectangle). not (is_hidden_in (e ∷ es) f.first)) es) (filter (λ (f : Rectangle). not (is_hidden_in (e ∷ es) f.first)) es)) (ap₂ (λ a b. a || b) self (none_later e.first es (halves _ _ up).0))
 
 length_held : (by : Rectangle) (es : List Rectangle) → length (map (unless_held by) es) ≡ length es
 length_held by [] = refl

@@ -1,6 +1,7 @@
--- What stands in a list.
-use Rattle.tabled_grid.proofs.Common.{[], ◌++◌, ◌+◌, ◌-◌, ◌<◌, ◌∙◌, ◌∷◌, ◌≡◌, ◌≤◌, ◌⊎◌, Bool, Greater, IsAntisymmetric, IsTotalOrder, Less, List, Ordering, Position, Some, T, and_from, and_parts, ap, ap₂, arith, below_all, block, cases_Bool, cases_eq, common_steps, cond, false, filter, find, flat_map, inl, inr, is_eq, is_lt, is_sorted, list_all, list_any, map, none-some, or_cases, or_left, or_right, ordering_reverse, place, range_with_len, refl, row_places, same_Some, subst, suc, sym, tied_itself, true, zero, ℕ}
-use Rattle.tabled_grid.proofs.SpanMaps.{both, equal, halves, less}
+-- What stands in a list, and what a map of a list of rectangles finds.
+use Rattle.tabled_grid.proofs.Common.{[], ◌++◌, ◌+◌, ◌-◌, ◌<◌, ◌∙◌, ◌∷◌, ◌≡◌, ◌≤◌, ◌⊎◌, AreSorted, Bool, Less, List, Position, Rectangle, Size, Some, T, and_from, and_parts, ap, ap₂, arith, block, cases_Bool, cases_eq, common_steps, cond, false, filter, flat_map, inl, inr, is_eq, is_lt, list_all, list_any, map, none-some, or_cases, or_left, or_right, place, position_cmp, range_with_len, rectangle, refl, row_places, same_Some, subst, suc, sym, tied_itself, true, zero, ℕ}
+use Rattle.tabled_grid.proofs.SortedEntries.{Below, above, both, find_at, halves, less, positions_exact, positions_total}
+use Rattle.tabled_grid.proofs.SpanMaps.{equal}
 
 abbrev pub Member : {A : Type 0} → A → List A → Type 0
 Member x [] = ⊥
@@ -130,52 +131,50 @@ block-from a b c d p h =
     flat_map-from (row_places c d) p.row p (range_with_len a (b - a)) (range-from p.row a (b - a) h.top low)
     (map-from (place p.row) p.col (range_with_len c (d - c)) (range-from p.col c (d - c) h.left far))
 
-module _ {K X : Type 0} (R : K → K → Ordering) (o : IsTotalOrder R) (exact : IsAntisymmetric R) where
-  pub find-member : (es : List (K × X)) (k : K) (v : X) → find R k es ≡ Some v → Member (k, v) es
-  find-member [] k v is = absurd (none-some v is)
-  find-member (e ∷ es) k v is = by (cases_Bool (is_eq (R k e.0))) (find-member es k v)
-    where
-      by : (is_eq (R k e.0) ≡ true) ⊎ (is_eq (R k e.0) ≡ false) → (find R k es ≡ Some v → Member (k, v) es) → Member (k, v) (e ∷ es)
-      by (inl t) go = inl (ap₂ (λ x y. (x, y)) (exact k e.0 (equal _ t)) (sym (same_Some _ _ (sym (ap (λ c. cond c (Some e.1) (find R k es)) t) ∙ is))))
-      by (inr f) go = inr (go (subst (λ b. cond b (Some e.1) (find R k es) ≡ Some v) f is))
+-- what a map finds at a place stands in the list of its rectangles
+pub find-member : (es : List Rectangle) (p : Position) (size : Size) → find_at p es ≡ Some size → Member (rectangle p size) es
+find-member [] p size is = absurd (none-some size is)
+find-member (e ∷ es) p size is = by (cases_Bool (is_eq (position_cmp p e.first))) (find-member es p size)
+  where
+    by : (is_eq (position_cmp p e.first) ≡ true) ⊎ (is_eq (position_cmp p e.first) ≡ false) → (find_at p es ≡ Some size → Member (rectangle p size) es) → Member (rectangle p size) (e ∷ es)
+    by (inl t) go = inl (ap₂ rectangle (positions_exact p e.first (equal _ t)) (sym (same_Some _ _ (sym (ap (λ c. cond c (Some e.size) (find_at p es)) t) ∙ is))))
+    by (inr f) go = inr (go (subst (λ b. cond b (Some e.size) (find_at p es) ≡ Some size) f is))
 
-  -- a key that stands in a list is found, with one of its values
-  pub member-find : (es : List (K × X)) (k : K) (v : X) → Member (k, v) es → (w : X) × (find R k es ≡ Some w)
-  member-find [] k v none = absurd none
-  member-find (e ∷ es) k v here = by here (cases_Bool (is_eq (R k e.0))) (member-find es k v)
-    where
-      by : ((k, v) ≡ e) ⊎ Member (k, v) es → (is_eq (R k e.0) ≡ true) ⊎ (is_eq (R k e.0) ≡ false) → (Member (k, v) es → (w : X) × (find R k es ≡ Some w)) → (w : X) × (find R k (e ∷ es) ≡ Some w)
-      by m (inl t) go = (e.1, ap (λ c. cond c (Some e.1) (find R k es)) t)
-      by (inl e') (inr f) go =
-          let tied : is_eq (R k e.0) ≡ true = ap (λ (y : K × X). is_eq (R k y.0)) (sym e') ∙ ap is_eq (tied_itself o k) in
-          let never : true ≡ false = sym tied ∙ f in cc
-      by (inr m) (inr f) go = let rest = go m in (rest.0, ap (λ c. cond c (Some e.1) (find R k es)) f ∙ rest.1)
+-- at the anchor of a rectangle of a list one is found
+pub member-find : (es : List Rectangle) (f : Rectangle) → Member f es → (w : Size) × (find_at f.first es ≡ Some w)
+member-find [] f none = absurd none
+member-find (e ∷ es) f here = by here (cases_Bool (is_eq (position_cmp f.first e.first))) (member-find es f)
+  where
+    by : (f ≡ e) ⊎ Member f es → (is_eq (position_cmp f.first e.first) ≡ true) ⊎ (is_eq (position_cmp f.first e.first) ≡ false) → (Member f es → (w : Size) × (find_at f.first es ≡ Some w)) → (w : Size) × (find_at f.first (e ∷ es) ≡ Some w)
+    by m (inl t) go = (e.size, ap (λ c. cond c (Some e.size) (find_at f.first es)) t)
+    by (inl same) (inr n) go =
+        let tied : is_eq (position_cmp f.first e.first) ≡ true = ap (λ (y : Rectangle). is_eq (position_cmp f.first y.first)) (sym same) ∙ ap is_eq (tied_itself positions_total f.first) in
+        let never : true ≡ false = sym tied ∙ n in cc
+    by (inr m) (inr n) go = let rest = go m in (rest.0, ap (λ c. cond c (Some e.size) (find_at f.first es)) n ∙ rest.1)
 
-  pub below-member : (k : K) (es : List (K × X)) (q : K) (v : X) → T (below_all R k es) → Member (q, v) es → R k q ≡ Less
-  below-member k [] q v below none = absurd none
-  below-member k (e ∷ es) q v below (inl same) = ap (λ (y : K × X). R k y.0) same ∙ less _ (halves _ _ below).0
-  below-member k (e ∷ es) q v below (inr m) = below-member k es q v (halves _ _ below).1 m
+pub below-member : (p : Position) (es : List Rectangle) (f : Rectangle) → Below p es → Member f es → position_cmp p f.first ≡ Less
+below-member p [] f below none = absurd none
+below-member p (e ∷ es) f below (inl same) = ap (λ (y : Rectangle). position_cmp p y.first) same ∙ less _ (halves _ _ below).0
+below-member p (e ∷ es) f below (inr m) = below-member p es f (halves _ _ below).1 m
 
-  -- in a sorted list each key has one value
-  pub sorted-find : (es : List (K × X)) (k : K) (v : X) → T (is_sorted R es) → Member (k, v) es → find R k es ≡ Some v
-  sorted-find [] k v up none = absurd none
-  sorted-find (e ∷ es) k v up (inl same) = grind (arith, common_steps, tied_itself)
-  sorted-find (e ∷ es) k v up (inr m) =
-      let above : R k e.0 ≡ Greater = o.antisymm k e.0 ∙ ap ordering_reverse (below-member e.0 es k v (halves _ _ up).0 m) in
-      ap (λ r. cond (is_eq r) (Some e.1) (find R k es)) above ∙ sorted-find es k v (halves _ _ up).1 m
+-- in a sorted list one rectangle is anchored at each place
+pub sorted-find : (es : List Rectangle) (f : Rectangle) → AreSorted es → Member f es → find_at f.first es ≡ Some f.size
+sorted-find [] f up none = absurd none
+sorted-find (e ∷ es) f up (inl same) = subst (λ (g : Rectangle). find_at g.first (e ∷ es) ≡ Some g.size) (sym same) (ap (λ r. cond (is_eq r) (Some e.size) (find_at e.first es)) (tied_itself positions_total e.first))
+sorted-find (e ∷ es) f up (inr m) = ap (λ r. cond (is_eq r) (Some e.size) (find_at f.first es)) (above e.first f.first (below-member e.first es f (halves _ _ up).0 m)) ∙ sorted-find es f (halves _ _ up).1 m
 
-  below-filter : (test : K × X → Bool) (k : K) (es : List (K × X)) → T (below_all R k es) → T (below_all R k (filter test es))
-  below-filter test k [] below = tt
-  below-filter test k (e ∷ es) below = by (test e) (halves _ _ below) (below-filter test k es)
-    where
-      by : (b : Bool) → T (is_lt (R k e.0)) × T (below_all R k es) → (T (below_all R k es) → T (below_all R k (filter test es))) → T (below_all R k (cond b (e ∷ filter test es) (filter test es)))
-      by true parts go = both _ _ parts.0 (go parts.1)
-      by false parts go = go parts.1
+below-filter : (test : Rectangle → Bool) (p : Position) (es : List Rectangle) → Below p es → Below p (filter test es)
+below-filter test p [] below = tt
+below-filter test p (e ∷ es) below = by (test e) (halves _ _ below) (below-filter test p es)
+  where
+    by : (b : Bool) → T (is_lt (position_cmp p e.first)) × Below p es → (Below p es → Below p (filter test es)) → Below p (cond b (e ∷ filter test es) (filter test es))
+    by true parts go = both _ _ parts.0 (go parts.1)
+    by false parts go = go parts.1
 
-  pub sorted-filter : (test : K × X → Bool) (es : List (K × X)) → T (is_sorted R es) → T (is_sorted R (filter test es))
-  sorted-filter test [] up = tt
-  sorted-filter test (e ∷ es) up = by (test e) (halves _ _ up) (sorted-filter test es)
-    where
-      by : (b : Bool) → T (below_all R e.0 es) × T (is_sorted R es) → (T (is_sorted R es) → T (is_sorted R (filter test es))) → T (is_sorted R (cond b (e ∷ filter test es) (filter test es)))
-      by true parts go = both _ _ (below-filter test e.0 es parts.0) (go parts.1)
-      by false parts go = go parts.1
+pub sorted-filter : (test : Rectangle → Bool) (es : List Rectangle) → AreSorted es → AreSorted (filter test es)
+sorted-filter test [] up = tt
+sorted-filter test (e ∷ es) up = by (test e) (halves _ _ up) (sorted-filter test es)
+  where
+    by : (b : Bool) → Below e.first es × AreSorted es → (AreSorted es → AreSorted (filter test es)) → AreSorted (cond b (e ∷ filter test es) (filter test es))
+    by true parts go = both _ _ (below-filter test e.first es parts.0) (go parts.1)
+    by false parts go = go parts.1

@@ -1,11 +1,10 @@
 -- Sorted anchors and sorted sizes, merged from the front.
-use Rattle.tabled_grid.proofs.Common.{[], ◌&&◌, ◌++◌, ◌+◌, ◌<◌, ◌==◌, ◌∙◌, ◌∷◌, ◌≡◌, ◌≤◌, ◌⊎◌, AllByRecursion, AreAnchors, Bool, Equal, Greater, IsSizeAt, IsSpanSize, Less, List, Ordering, Position, Rectangle, Size, T, anchor_of, and_from, ap, append_assoc, arith, below_all, by_order, cases_Bool, cases_lt, common_steps, cond, drop, drop-cons, drop_more, drop_of_length-le, eq_by_cmp, false, from_sorted, get_or, inl, inr, is_eq, is_lt, is_sorted, length, not, ordering_reverse, position_cmp, put, refl, subst, sym, true, where_key, with_size, with_size_in, with_sizes, with_sizes_in, without_first_at, ℕ}
-use Rattle.tabled_grid.proofs.Spans.{Makes, positions_exact, positions_total, with_anchor, without_anchor}
-use Rattle.tabled_grid.proofs.SortedEntries.{above, is_less}
-use Rattle.tabled_grid.proofs.SpanMaps.{both, halves, less}
+use Rattle.tabled_grid.proofs.Common.{[], ◌++◌, ◌+◌, ◌<◌, ◌∙◌, ◌∷◌, ◌≡◌, ◌≤◌, ◌⊎◌, AllByRecursion, AreAnchors, AreSorted, Bool, Equal, Greater, IsSizeAt, IsSpanSize, Less, List, Ordering, Position, Rectangle, Size, T, anchor_of, and_from, ap, append_assoc, arith, by_order, cases_Bool, cases_lt, common_steps, cond, drop, drop-cons, drop_more, drop_of_length-le, eq_by_cmp, false, filter, get_or, inl, inr, is_cell, is_eq, is_lt, length, map_of, not, of_pairs, ordering_reverse, pairs, position_cmp, put, rectangle, refl, subst, sym, true, with_size, with_size_in, with_sizes, with_sizes_in, without_first_at, ℕ}
+use Rattle.tabled_grid.proofs.Spans.{Makes, with_anchor, without_anchor}
+use Rattle.tabled_grid.proofs.SortedEntries.{Below, above, both, elsewhere, halves, is_less, less, of_pairs-pairs, pairs-of_pairs, positions_exact, positions_total}
 
 is_one : Rectangle → Bool
-is_one c = (c.1.height == 1) && (c.1.width == 1)
+is_one c = is_cell c.size
 
 differs : Position → Position → Bool
 differs p q = not (eq_by_cmp position_cmp p q)
@@ -14,66 +13,63 @@ differs p q = not (eq_by_cmp position_cmp p q)
 pub kept : Rectangle → List Rectangle → List Rectangle
 kept c es = cond (is_one c) es (c ∷ es)
 
-abbrev pub Below : Position → List Rectangle → Type 0
-Below p es = T (below_all position_cmp p es)
-
 -- what is below a place is below all that the place is below
 pub below_more : (p q : Position) (es : List Rectangle) → position_cmp p q ≡ Less → Below q es → Below p es
 below_more p q [] h b = tt
-below_more p q (e ∷ es) h b = let parts = halves _ _ b in both _ _ (is_less _ (positions_total.trans p q e.0 h (less _ parts.0))) (below_more p q es h parts.1)
+below_more p q (e ∷ es) h b = let parts = halves _ _ b in both _ _ (is_less _ (positions_total.trans p q e.first h (less _ parts.0))) (below_more p q es h parts.1)
 
 -- a size at a place after the first anchor leaves that anchor first
-after_first : (e c : Rectangle) (es : List Rectangle) → position_cmp e.0 c.0 ≡ Less → with_size_in (e ∷ es) c ≡ e ∷ with_size_in es c
+after_first : (e c : Rectangle) (es : List Rectangle) → position_cmp e.first c.first ≡ Less → with_size_in (e ∷ es) c ≡ e ∷ with_size_in es c
 unfolding is_one differs
 after_first e c es h = either (cases_Bool (is_one c))
   where
     either : (is_one c ≡ true) ⊎ (is_one c ≡ false) → with_size_in (e ∷ es) c ≡ e ∷ with_size_in es c
-    either (inl t) = rw (t, above positions_total e.0 c.0 h) refl
-    either (inr f) = rw (f, above positions_total e.0 c.0 h) refl
+    either (inl t) = rw (t, above e.first c.first h) refl
+    either (inr f) = rw (f, above e.first c.first h) refl
 
 -- sizes after the first anchor leave it first
-pub first_stays : (e : Rectangle) (es sizes : List Rectangle) → Below e.0 sizes → with_sizes_in (e ∷ es) sizes ≡ e ∷ with_sizes_in es sizes
+pub first_stays : (e : Rectangle) (es sizes : List Rectangle) → Below e.first sizes → with_sizes_in (e ∷ es) sizes ≡ e ∷ with_sizes_in es sizes
 first_stays e es [] b = refl
 first_stays e es (c ∷ sizes) b =
     let parts = halves _ _ b in
     ap (λ xs. with_sizes_in xs sizes) (after_first e c es (less _ parts.0)) ∙ first_stays e (with_size_in es c) sizes parts.1
 
 -- no anchor after a place is at it
-none_at : (p : Position) (es : List Rectangle) → Below p es → where_key position_cmp (differs p) es ≡ es
+none_at : (p : Position) (es : List Rectangle) → Below p es → filter (λ (e : Rectangle). differs p e.first) es ≡ es
 unfolding differs
 none_at p [] b = refl
 none_at p (e ∷ es) b =
     let parts = halves _ _ b in
-    let first : position_cmp p e.0 ≡ Less = less _ parts.0 in
+    let first : position_cmp p e.first ≡ Less = less _ parts.0 in
     rw first (ap (λ xs. e ∷ xs) (none_at p es parts.1))
 
 -- a size before all anchors
-pub before : (c : Rectangle) (es : List Rectangle) → Below c.0 es → with_size_in es c ≡ kept c es
+pub before : (c : Rectangle) (es : List Rectangle) → Below c.first es → with_size_in es c ≡ kept c es
 unfolding kept is_one differs
 before c es b = either (cases_Bool (is_one c))
   where
-    put_first : (xs : List Rectangle) → Below c.0 xs → put position_cmp c.0 c.1 xs ≡ c ∷ xs
+    put_first : (xs : List Rectangle) → Below c.first xs → put position_cmp c.first c.size (pairs xs) ≡ pairs (c ∷ xs)
     put_first [] below = refl
-    put_first (x ∷ xs) below = let first : position_cmp c.0 x.0 ≡ Less = less _ (halves _ _ below).0 in rw first refl
+    put_first (x ∷ xs) below = let first : position_cmp c.first x.first ≡ Less = less _ (halves _ _ below).0 in rw first refl
 
     either : (is_one c ≡ true) ⊎ (is_one c ≡ false) → with_size_in es c ≡ kept c es
-    either (inl t) = rw t (none_at c.0 es b)
-    either (inr f) = rw f (put_first es b)
+    either (inl t) = rw t (none_at c.first es b)
+    either (inr f) = rw f (ap of_pairs (put_first es b) ∙ of_pairs-pairs (c ∷ es))
 
 -- a size at the place of the first anchor
-pub here : (c e : Rectangle) (es : List Rectangle) → position_cmp e.0 c.0 ≡ Equal → Below e.0 es → with_size_in (e ∷ es) c ≡ kept c es
+pub here : (c e : Rectangle) (es : List Rectangle) → position_cmp e.first c.first ≡ Equal → Below e.first es → with_size_in (e ∷ es) c ≡ kept c es
 unfolding kept is_one differs
 here c e es same b = either (cases_Bool (is_one c))
   where
-    at : e.0 ≡ c.0
-    at = positions_exact e.0 c.0 same
+    at : e.first ≡ c.first
+    at = positions_exact e.first c.first same
 
-    tied : position_cmp c.0 e.0 ≡ Equal
-    tied = positions_total.antisymm c.0 e.0 ∙ ap ordering_reverse same
+    tied : position_cmp c.first e.first ≡ Equal
+    tied = positions_total.antisymm c.first e.first ∙ ap ordering_reverse same
 
     either : (is_one c ≡ true) ⊎ (is_one c ≡ false) → with_size_in (e ∷ es) c ≡ kept c es
-    either (inl t) = rw (t, tied) (none_at c.0 es (subst (λ p. Below p es) at b))
-    either (inr f) = rw (f, tied) (ap (λ p. (p, c.1) ∷ es) at)
+    either (inl t) = rw (t, tied) (none_at c.first es (subst (λ p. Below p es) at b))
+    either (inr f) = rw (f, tied) (ap (λ p. rectangle p c.size ∷ of_pairs (pairs es)) at ∙ of_pairs-pairs (c ∷ es))
 
 -- what is kept of a size stands in front of what follows
 behind : (c : Rectangle) (merged rest : List Rectangle) → (merged ++ anchor_of c) ++ rest ≡ merged ++ kept c rest
@@ -85,7 +81,7 @@ behind c merged rest = either (cases_Bool (is_one c))
     either (inr f) = rw f (append_assoc merged (c ∷ []) rest)
 
 -- sizes after one that was set leave it first
-pub kept_stays : (c : Rectangle) (es sizes : List Rectangle) → Below c.0 sizes → with_sizes_in (kept c es) sizes ≡ kept c (with_sizes_in es sizes)
+pub kept_stays : (c : Rectangle) (es sizes : List Rectangle) → Below c.first sizes → with_sizes_in (kept c es) sizes ≡ kept c (with_sizes_in es sizes)
 unfolding kept
 kept_stays c es sizes b = either (cases_Bool (is_one c))
   where
@@ -96,27 +92,27 @@ kept_stays c es sizes b = either (cases_Bool (is_one c))
 -- no anchor is before a place, where the first is not
 pub starts_from : Position → List Rectangle → Bool
 starts_from p [] = true
-starts_from p (e ∷ es) = not (is_lt (position_cmp e.0 p))
+starts_from p (e ∷ es) = not (is_lt (position_cmp e.first p))
 
 -- a size where no anchor is before it
-at_front : (c : Rectangle) (es : List Rectangle) → T (is_sorted position_cmp es) → T (starts_from c.0 es) → with_size_in es c ≡ kept c (without_first_at c.0 es)
+at_front : (c : Rectangle) (es : List Rectangle) → AreSorted es → T (starts_from c.first es) → with_size_in es c ≡ kept c (without_first_at c.first es)
 unfolding starts_from
 at_front c [] up from = before c [] tt
-at_front c (e ∷ es) up from = either (position_cmp e.0 c.0) refl from
+at_front c (e ∷ es) up from = either (position_cmp e.first c.first) refl from
   where
-    either : (o : Ordering) → position_cmp e.0 c.0 ≡ o → T (not (is_lt o)) → with_size_in (e ∷ es) c ≡ kept c (cond (is_eq o) es (e ∷ es))
+    either : (o : Ordering) → position_cmp e.first c.first ≡ o → T (not (is_lt o)) → with_size_in (e ∷ es) c ≡ kept c (cond (is_eq o) es (e ∷ es))
     either Less is below = absurd below
     either Equal is below = here c e es is (halves _ _ up).0
     either Greater is below =
-        let first : position_cmp c.0 e.0 ≡ Less = positions_total.antisymm c.0 e.0 ∙ ap ordering_reverse is in
-        before c (e ∷ es) (both _ _ (is_less _ first) (below_more c.0 e.0 es first (halves _ _ up).0))
+        let first : position_cmp c.first e.first ≡ Less = positions_total.antisymm c.first e.first ∙ ap ordering_reverse is in
+        before c (e ∷ es) (both _ _ (is_less _ first) (below_more c.first e.first es first (halves _ _ up).0))
 
-rest_sorted : (c : Rectangle) (es : List Rectangle) → T (is_sorted position_cmp es) → T (is_sorted position_cmp (without_first_at c.0 es))
+rest_sorted : (c : Rectangle) (es : List Rectangle) → AreSorted es → AreSorted (without_first_at c.first es)
 rest_sorted c [] up = tt
-rest_sorted c (e ∷ es) up = elim (is_eq (position_cmp e.0 c.0)) as (λ b. T (is_sorted position_cmp (cond b es (e ∷ es)))) [ true ↦ (halves _ _ up).1 | false ↦ up ]
+rest_sorted c (e ∷ es) up = elim (is_eq (position_cmp e.first c.first)) as (λ b. AreSorted (cond b es (e ∷ es))) [ true ↦ (halves _ _ up).1 | false ↦ up ]
 
 -- from the next anchor on none is before a place, where it is not, or there is none left
-pub starts_at : (anchors : List Rectangle) (next : ℕ) (d : Rectangle) (p : Position) → next < length anchors → is_lt (position_cmp (get_or anchors next d).0 p) ≡ false → T (starts_from p (drop next anchors))
+pub starts_at : (anchors : List Rectangle) (next : ℕ) (d : Rectangle) (p : Position) → next < length anchors → is_lt (position_cmp (get_or anchors next d).first p) ≡ false → T (starts_from p (drop next anchors))
 unfolding starts_from
 starts_at anchors next d p within late = rw (drop-cons anchors next d within) (subst (λ b. T (not b)) (sym late) tt)
 
@@ -126,64 +122,64 @@ starts_past anchors next p past = rw (drop_of_length-le anchors past) tt
 
 -- the sizes left, set on the anchors left, stand after what is merged
 pub record IsMerged (merged anchors sizes all_anchors all_sizes : List Rectangle) : Type 0 where
-  pub sorted : T (is_sorted position_cmp anchors)
-  pub sizes_sorted : T (is_sorted position_cmp sizes)
+  pub sorted : AreSorted anchors
+  pub sizes_sorted : AreSorted sizes
   pub is : merged ++ with_sizes_in anchors sizes ≡ with_sizes_in all_anchors all_sizes
 
-pub begun : (anchors sizes : List Rectangle) → T (is_sorted position_cmp anchors) → T (is_sorted position_cmp sizes) → IsMerged [] anchors sizes anchors sizes
+pub begun : (anchors sizes : List Rectangle) → AreSorted anchors → AreSorted sizes → IsMerged [] anchors sizes anchors sizes
 begun anchors sizes up rising = record { sorted = up; sizes_sorted = rising; is = refl }
 
 module _ (merged all_anchors all_sizes : List Rectangle) where
   -- an anchor before the next size
-  pub anchor_passed : (e c : Rectangle) (es cs : List Rectangle) → position_cmp e.0 c.0 ≡ Less → IsMerged merged (e ∷ es) (c ∷ cs) all_anchors all_sizes → IsMerged (merged ++ (e ∷ [])) es (c ∷ cs) all_anchors all_sizes
+  pub anchor_passed : (e c : Rectangle) (es cs : List Rectangle) → position_cmp e.first c.first ≡ Less → IsMerged merged (e ∷ es) (c ∷ cs) all_anchors all_sizes → IsMerged (merged ++ (e ∷ [])) es (c ∷ cs) all_anchors all_sizes
   anchor_passed e c es cs first m = grind (arith, common_steps, both, is_less, below_more, halves, append_assoc, first_stays)
 
   -- a size, where no anchor left is before it
-  pub size_passed : (c : Rectangle) (es cs : List Rectangle) → T (starts_from c.0 es) → IsMerged merged es (c ∷ cs) all_anchors all_sizes → IsMerged (merged ++ anchor_of c) (without_first_at c.0 es) cs all_anchors all_sizes
+  pub size_passed : (c : Rectangle) (es cs : List Rectangle) → T (starts_from c.first es) → IsMerged merged es (c ∷ cs) all_anchors all_sizes → IsMerged (merged ++ anchor_of c) (without_first_at c.first es) cs all_anchors all_sizes
   unfolding kept starts_from
   size_passed c es cs from m =
-      let step : with_size_in es c ≡ kept c (without_first_at c.0 es) = at_front c es m.sorted from in
+      let step : with_size_in es c ≡ kept c (without_first_at c.first es) = at_front c es m.sorted from in
       record {
         sorted = rest_sorted c es m.sorted;
         sizes_sorted = (halves _ _ m.sizes_sorted).1;
-        is = behind c merged (with_sizes_in (without_first_at c.0 es) cs) ∙ ap (λ xs. merged ++ xs) (sym (kept_stays c (without_first_at c.0 es) cs (halves _ _ m.sizes_sorted).0) ∙ ap (λ xs. with_sizes_in xs cs) (sym step)) ∙ m.is;
+        is = behind c merged (with_sizes_in (without_first_at c.first es) cs) ∙ ap (λ xs. merged ++ xs) (sym (kept_stays c (without_first_at c.first es) cs (halves _ _ m.sizes_sorted).0) ∙ ap (λ xs. with_sizes_in xs cs) (sym step)) ∙ m.is;
       }
 
 abbrev HasSize : Rectangle → Type 0
-HasSize e = IsSpanSize e.1
+HasSize e = IsSpanSize e.size
 
 -- a size that is not that of one cell
-span_size : (c : Rectangle) → IsSizeAt c → is_one c ≡ false → IsSpanSize c.1
+span_size : (c : Rectangle) → IsSizeAt c → is_one c ≡ false → IsSpanSize c.size
 unfolding is_one
-span_size c size other = record { height = size.height; width = size.width; merges = either (cases_lt 1 c.1.height) (cases_lt 1 c.1.width) }
+span_size c size other = record { height = size.height; width = size.width; merges = either (cases_lt 1 c.size.height) (cases_lt 1 c.size.width) }
   where
-    either : (1 < c.1.height) ⊎ (c.1.height ≤ 1) → (1 < c.1.width) ⊎ (c.1.width ≤ 1) → (1 < c.1.height) ⊎ (1 < c.1.width)
+    either : (1 < c.size.height) ⊎ (c.size.height ≤ 1) → (1 < c.size.width) ⊎ (c.size.width ≤ 1) → (1 < c.size.height) ⊎ (1 < c.size.width)
     either (inl h) w = inl h
     either (inr h) (inl w) = inr w
     either (inr h) (inr w) = grind (arith, common_steps, and_from)
 
-sizes_put : (p : Position) (size : Size) (es : List Rectangle) → IsSpanSize size → AllByRecursion HasSize es → AllByRecursion HasSize (put position_cmp p size es)
+sizes_put : (p : Position) (size : Size) (es : List Rectangle) → IsSpanSize size → AllByRecursion HasSize es → AllByRecursion HasSize (of_pairs (put position_cmp p size (pairs es)))
 sizes_put p size [] ok all = (ok, tt)
-sizes_put p size (e ∷ es) ok all = elim (position_cmp p e.0) as (λ o. AllByRecursion HasSize (by_order o ((p, size) ∷ e ∷ es) ((e.0, size) ∷ es) (e ∷ put position_cmp p size es))) [
-  | Less ↦ (ok, all)
-  | Equal ↦ (ok, all.1)
+sizes_put p size (e ∷ es) ok all = elim (position_cmp p e.first) as (λ o. AllByRecursion HasSize (of_pairs (by_order o ((p, size) ∷ pairs (e ∷ es)) ((e.first, size) ∷ pairs es) ((e.first, e.size) ∷ put position_cmp p size (pairs es))))) [
+  | Less ↦ (ok, subst (AllByRecursion HasSize) (sym (of_pairs-pairs (e ∷ es))) all)
+  | Equal ↦ (ok, subst (AllByRecursion HasSize) (sym (of_pairs-pairs es)) all.1)
   | Greater ↦ (all.0, sizes_put p size es ok all.1)
 ]
 
-sizes_where : (q : Position → Bool) (es : List Rectangle) → AllByRecursion HasSize es → AllByRecursion HasSize (where_key position_cmp q es)
-sizes_where q [] all = tt
-sizes_where q (e ∷ es) all = elim (q e.0) as (λ b. AllByRecursion HasSize (cond b (e ∷ where_key position_cmp q es) (where_key position_cmp q es))) [ true ↦ (all.0, sizes_where q es all.1) | false ↦ sizes_where q es all.1 ]
+sizes_elsewhere : (p : Position) (es : List Rectangle) → AllByRecursion HasSize es → AllByRecursion HasSize (elsewhere p es)
+sizes_elsewhere p [] all = tt
+sizes_elsewhere p (e ∷ es) all = elim (not (eq_by_cmp position_cmp p e.first)) as (λ b. AllByRecursion HasSize (cond b (e ∷ elsewhere p es) (elsewhere p es))) [ true ↦ (all.0, sizes_elsewhere p es all.1) | false ↦ sizes_elsewhere p es all.1 ]
 
 -- a list of anchors with a size makes the map with that size
-with_size_makes : (es : List Rectangle) (c : Rectangle) → AreAnchors es → IsSizeAt c → Makes (with_size_in es c) (with_size (from_sorted es) c.0 c.1)
+with_size_makes : (es : List Rectangle) (c : Rectangle) → AreAnchors es → IsSizeAt c → Makes (with_size_in es c) (with_size (map_of es) c.first c.size)
 unfolding is_one
 with_size_makes es c valid size = either (cases_Bool (is_one c))
   where
-    either : (is_one c ≡ true) ⊎ (is_one c ≡ false) → Makes (with_size_in es c) (with_size (from_sorted es) c.0 c.1)
-    either (inl t) = rw t (without_anchor es valid c.0 (where_key position_cmp (λ q. not (eq_by_cmp position_cmp c.0 q)) es) (sizes_where _ es valid.sizes) refl)
-    either (inr f) = rw f (with_anchor es valid c.0 (put position_cmp c.0 c.1 es) c.1 (sizes_put c.0 c.1 es (span_size c size f) valid.sizes) refl)
+    either : (is_one c ≡ true) ⊎ (is_one c ≡ false) → Makes (with_size_in es c) (with_size (map_of es) c.first c.size)
+    either (inl t) = rw t (without_anchor es valid c.first (elsewhere c.first es) (sizes_elsewhere c.first es valid.sizes) refl)
+    either (inr f) = rw f (with_anchor es valid c.first (of_pairs (put position_cmp c.first c.size (pairs es))) c.size (sizes_put c.first c.size es (span_size c size f) valid.sizes) (pairs-of_pairs _))
 
-pub with_sizes_make : (es sizes : List Rectangle) → AreAnchors es → AllByRecursion IsSizeAt sizes → Makes (with_sizes_in es sizes) (with_sizes (from_sorted es) sizes)
+pub with_sizes_make : (es sizes : List Rectangle) → AreAnchors es → AllByRecursion IsSizeAt sizes → Makes (with_sizes_in es sizes) (with_sizes (map_of es) sizes)
 with_sizes_make es [] valid all = record { valid = valid; is = refl }
 with_sizes_make es (c ∷ sizes) valid all =
     let one = with_size_makes es c valid all.0 in
@@ -192,8 +188,11 @@ with_sizes_make es (c ∷ sizes) valid all =
 
 -- the same at two places of the lists
 module _ (merged anchors sizes : List Rectangle) (next k : ℕ) (d : Rectangle) where
-  pub anchor_step : next < length anchors → k < length sizes → is_lt (position_cmp (get_or anchors next d).0 (get_or sizes k d).0) ≡ true → IsMerged merged (drop next anchors) (drop k sizes) anchors sizes → IsMerged (merged ++ (get_or anchors next d ∷ [])) (drop (next + 1) anchors) (drop k sizes) anchors sizes
-  anchor_step within here first m = grind (arith, common_steps, drop_more, anchor_passed, less)
+  pub anchor_step : next < length anchors → k < length sizes → is_lt (position_cmp (get_or anchors next d).first (get_or sizes k d).first) ≡ true → IsMerged merged (drop next anchors) (drop k sizes) anchors sizes → IsMerged (merged ++ (get_or anchors next d ∷ [])) (drop (next + 1) anchors) (drop k sizes) anchors sizes
+  anchor_step within here first m =
+      rw (drop_more sizes k d here)
+      (anchor_passed merged anchors sizes (get_or anchors next d) (get_or sizes k d) (drop (next + 1) anchors) (drop (k + 1) sizes) (less _ (subst T (sym first) tt))
+      (rw (← drop_more anchors next d within, ← drop_more sizes k d here) m))
 
-  pub size_step : (rest : List Rectangle) → k < length sizes → T (starts_from (get_or sizes k d).0 (drop next anchors)) → rest ≡ without_first_at (get_or sizes k d).0 (drop next anchors) → IsMerged merged (drop next anchors) (drop k sizes) anchors sizes → IsMerged (merged ++ anchor_of (get_or sizes k d)) rest (drop (k + 1) sizes) anchors sizes
+  pub size_step : (rest : List Rectangle) → k < length sizes → T (starts_from (get_or sizes k d).first (drop next anchors)) → rest ≡ without_first_at (get_or sizes k d).first (drop next anchors) → IsMerged merged (drop next anchors) (drop k sizes) anchors sizes → IsMerged (merged ++ anchor_of (get_or sizes k d)) rest (drop (k + 1) sizes) anchors sizes
   size_step rest here from is m = rw is (size_passed merged anchors sizes (get_or sizes k d) (drop next anchors) (drop (k + 1) sizes) from (rw (← drop_more sizes k d here) m))

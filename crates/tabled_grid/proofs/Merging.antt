@@ -1,6 +1,6 @@
 -- How rectangles lie while spans are set, and once hidden anchors are dropped. What is said of columns is
 -- said of rows with rows and columns exchanged.
-use Rattle.tabled_grid.proofs.Common.{[], ◌+◌, ◌<◌, ◌∙◌, ◌∷◌, ◌≡◌, ◌≢◌, ◌≤◌, ◌⊎◌, AllByRecursion, AreSpanSizes, Fits, IsSpanSize, List, Midway, None, Position, Size, Some, SpanMap, arith, common_steps, drop_hidden, false, false_from_ne_true, fold, get, holds, inl, inr, is_visible, nat_eq, place, refl, rules, size_at, sized, subst, sym, true, with_column_span, with_row_span, with_size, ℕ}
+use Rattle.tabled_grid.proofs.Common.{[], ◌+◌, ◌<◌, ◌∙◌, ◌∷◌, ◌≡◌, ◌≢◌, ◌≤◌, ◌⊎◌, AllByRecursion, AreSpanSizes, Fits, IsSpanSize, List, Midway, None, Position, Size, Some, SpanMap, arith, common_steps, drop_hidden, false, false_from_ne_true, fold, get, holds, inl, inr, is_visible, nat_eq, place, rectangle, refl, rules, size_at, sized, subst, sym, true, with_column_span, with_row_span, with_size, ℕ}
 use borrow.Author.Tests.{eqb-true}
 use Rattle.tabled_grid.proofs.Geometry.{Flat, Hooked, In, Narrow, Widened, LieWithin, cases_place, flat_flipped, flat_widened, flip, flip_size, flipped, full_flipped, hooked_flat, hooked_flipped, hooked_widened, narrow_flipped, visible_flipped, within_flipped, within_widened}
 use Rattle.tabled_grid.proofs.SpanMaps.{At, at, full, holds-from, holds-true, kept, kept_or_one, none, size_at-none, size_at-some, size_at-with_size, size_at-with_size-other, sizes-drop_hidden, sizes-with_size, some, visible, with_size-other}
@@ -10,18 +10,18 @@ use Rattle.tabled_grid.proofs.SpanMaps.{At, at, full, holds-from, holds-true, ke
 hooked_fits : (m : SpanMap) (rows columns : ℕ) → Fits m rows columns → Hooked (size_at m)
 hooked_fits m rows columns fits = record { hook = λ a b p ha hb. by_anchor a b p ha hb (at m a) (at m b) }
   where
-    alone : (a b p : Position) → get m a ≡ None → In (a, size_at m a) p → In (b, size_at m b) p → In (b, size_at m b) a
+    alone : (a b p : Position) → get m a ≡ None → In (rectangle a (size_at m a)) p → In (rectangle b (size_at m b)) p → In (rectangle b (size_at m b)) a
     alone a b p e ha hb = let h = rw (size_at-none m a e) at ha in record { top = omega (arith, h.top, h.bottom, hb.top, hb.bottom); bottom = omega (arith, h.top, h.bottom, hb.top, hb.bottom); left = omega (arith, h.left, h.right, hb.left, hb.right); right = omega (arith, h.left, h.right, hb.left, hb.right) }
 
-    itself : (a p : Position) → In (a, size_at m a) p → In (a, size_at m a) a
+    itself : (a p : Position) → In (rectangle a (size_at m a)) p → In (rectangle a (size_at m a)) a
     itself a p ha = record { top = omega arith; bottom = omega (arith, ha.top, ha.bottom); left = omega arith; right = omega (arith, ha.left, ha.right) }
 
-    by_anchor : (a b p : Position) → In (a, size_at m a) p → In (b, size_at m b) p → At m a → At m b → In (a, size_at m a) b ⊎ In (b, size_at m b) a
+    by_anchor : (a b p : Position) → In (rectangle a (size_at m a)) p → In (rectangle b (size_at m b)) p → At m a → At m b → In (rectangle a (size_at m a)) b ⊎ In (rectangle b (size_at m b)) a
     by_anchor a b p ha hb (none e) c = inr (alone a b p e ha hb)
     by_anchor a b p ha hb (some s e) (none f) = inl (alone b a p f hb ha)
     by_anchor a b p ha hb (some s e) (some t f) =
-        let same = fits.apart a b s t p e f (holds-from (a, s) p (rw (size_at-some m a s e) at ha)) (holds-from (b, t) p (rw (size_at-some m b t f) at hb)) in
-        inl (subst (λ (x : Position). In (a, size_at m a) x) same (itself a p ha))
+        let same = fits.apart a b s t p e f (holds-from (rectangle a s) p (rw (size_at-some m a s e) at ha)) (holds-from (rectangle b t) p (rw (size_at-some m b t f) at hb)) in
+        inl (subst (λ (x : Position). In (rectangle a (size_at m a)) x) same (itself a p ha))
 
 -- before the first span is set
 pub midway : (m : SpanMap) (rows columns : ℕ) → Fits m rows columns → Midway m rows columns
@@ -54,15 +54,15 @@ fits_dropped m rows columns mid = record { sizes = sizes-drop_hidden m mid.sizes
         let more = (mid.sizes.each a size was.had).merges in
         (subst (λ (s : Size). a.row + s.height ≤ rows) is (mid.within.tall a (rw is more)), subst (λ (s : Size). a.col + s.width ≤ columns) is (mid.within.wide a (rw is more)))
 
-    by_hook : (a b : Position) → is_visible m a ≡ true → is_visible m b ≡ true → In (a, size_at m a) b ⊎ In (b, size_at m b) a → a ≡ b
+    by_hook : (a b : Position) → is_visible m a ≡ true → is_visible m b ≡ true → In (rectangle a (size_at m a)) b ⊎ In (rectangle b (size_at m b)) a → a ≡ b
     by_hook a b sa sb (inl h) = visible m b sb a h
     by_hook a b sa sb (inr h) = sym (visible m a sa b h)
 
-    apart : (a b : Position) (s t : Size) (p : Position) → get (drop_hidden m) a ≡ Some s → get (drop_hidden m) b ≡ Some t → holds (a, s) p ≡ true → holds (b, t) p ≡ true → a ≡ b
+    apart : (a b : Position) (s t : Size) (p : Position) → get (drop_hidden m) a ≡ Some s → get (drop_hidden m) b ≡ Some t → holds (rectangle a s) p ≡ true → holds (rectangle b t) p ≡ true → a ≡ b
     apart a b s t p ha hb ia ib =
         let ka = kept m a s ha in
         let kb = kept m b t hb in
-        by_hook a b ka.shown kb.shown (mid.hooked.hook a b p (rw (size_at-some m a s ka.had) (holds-true (a, s) p ia)) (rw (size_at-some m b t kb.had) (holds-true (b, t) p ib)))
+        by_hook a b ka.shown kb.shown (mid.hooked.hook a b p (rw (size_at-some m a s ka.had) (holds-true (rectangle a s) p ia)) (rw (size_at-some m b t kb.had) (holds-true (rectangle b t) p ib)))
 
 -- widths and heights that are set
 
@@ -135,8 +135,8 @@ pub narrow_dropped : (m : SpanMap) → Narrow (size_at m) → Narrow (size_at (d
 narrow_dropped m narrow = grind (arith, common_steps, kept_or_one)
 
 -- a rectangle that shares no cell with another's, and lies inside, is set beside rectangles that fit
-pub fits_with : (m : SpanMap) (p : Position) (size : Size) (rows columns : ℕ) → IsSpanSize size → p.row + size.height ≤ rows → p.col + size.width ≤ columns → ((a q : Position) (s : Size) → get m a ≡ Some s → In (a, s) q → In (p, size) q → a ≡ p) → Fits m rows columns → Fits (with_size m p size) rows columns
-fits_with m p size rows columns merges tall wide free fits = record { sizes = sizes-with_size m p size merges.height merges.width fits.sizes; inside = λ a s has. inside_at a s has (cases_place a p); apart = λ a b s t q ha hb ia ib. apart a b s t q ha hb (holds-true (a, s) q ia) (holds-true (b, t) q ib) (cases_place a p) (cases_place b p) }
+pub fits_with : (m : SpanMap) (p : Position) (size : Size) (rows columns : ℕ) → IsSpanSize size → p.row + size.height ≤ rows → p.col + size.width ≤ columns → ((a q : Position) (s : Size) → get m a ≡ Some s → In (rectangle a s) q → In (rectangle p size) q → a ≡ p) → Fits m rows columns → Fits (with_size m p size) rows columns
+fits_with m p size rows columns merges tall wide free fits = record { sizes = sizes-with_size m p size merges.height merges.width fits.sizes; inside = λ a s has. inside_at a s has (cases_place a p); apart = λ a b s t q ha hb ia ib. apart a b s t q ha hb (holds-true (rectangle a s) q ia) (holds-true (rectangle b t) q ib) (cases_place a p) (cases_place b p) }
   where
     here : (s : Size) → get (with_size m p size) p ≡ Some s → s ≡ size
     here s has = sym (size_at-some (with_size m p size) p s has) ∙ size_at-with_size m p size
@@ -150,7 +150,7 @@ fits_with m p size rows columns merges tall wide free fits = record { sizes = si
         rw (e, is) (tall, wide)
     inside_at a s has (inr n) = fits.inside a s (there a s n has)
 
-    apart : (a b : Position) (s t : Size) (q : Position) → get (with_size m p size) a ≡ Some s → get (with_size m p size) b ≡ Some t → In (a, s) q → In (b, t) q → (a ≡ p) ⊎ (a ≢ p) → (b ≡ p) ⊎ (b ≢ p) → a ≡ b
+    apart : (a b : Position) (s t : Size) (q : Position) → get (with_size m p size) a ≡ Some s → get (with_size m p size) b ≡ Some t → In (rectangle a s) q → In (rectangle b t) q → (a ≡ p) ⊎ (a ≢ p) → (b ≡ p) ⊎ (b ≢ p) → a ≡ b
     apart a b s t q ha hb ia ib (inl e) (inl f) = e ∙ sym f
     apart a b s t q ha hb ia ib (inl e) (inr n) =
         let is = here s (subst (λ x. get (with_size m p size) x ≡ Some s) e ha) in
@@ -158,4 +158,4 @@ fits_with m p size rows columns merges tall wide free fits = record { sizes = si
     apart a b s t q ha hb ia ib (inr n) (inl f) =
         let is = here t (subst (λ x. get (with_size m p size) x ≡ Some t) f hb) in
         free a q s (there a s n ha) ia (rw (← is, ← f) ib) ∙ sym f
-    apart a b s t q ha hb ia ib (inr n) (inr k) = fits.apart a b s t q (there a s n ha) (there b t k hb) (holds-from (a, s) q ia) (holds-from (b, t) q ib)
+    apart a b s t q ha hb ia ib (inr n) (inr k) = fits.apart a b s t q (there a s n ha) (there b t k hb) (holds-from (rectangle a s) q ia) (holds-from (rectangle b t) q ib)

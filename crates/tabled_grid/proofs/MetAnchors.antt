@@ -1,11 +1,12 @@
 -- Anchors that are marked where another's rectangle meets theirs, from the first to the last, and what is left without them.
-use Rattle.tabled_grid.proofs.Common.{[], ◌&&◌, ◌++◌, ◌+◌, ◌-◌, ◌<◌, ◌||◌, ◌∙◌, ◌∷◌, ◌≡◌, ◌≤◌, Bool, Less, List, Position, Rectangle, T, and_parts, and_right, ap, append-nil, ap₂, arith, below_all, common_steps, cond, drop, drop-drop, drop-set-lt, drop_all, drop_at, drop_more, false, filter, filter_more, fits_among, get_or, get_or_default, is_sorted, length, length-drop, length-replicate, length-take, lies_inside, list_all, list_any, map, meets, not, not-true, or_right, position_cmp, refl, replicate, same_place, set, subst, suc, sym, take, take-add, take-append-drop, take_all, take_at, take_more, take_more_set, true, with_met, zero, ℕ}
+use Rattle.tabled_grid.proofs.Common.{[], ◌&&◌, ◌++◌, ◌+◌, ◌-◌, ◌<◌, ◌||◌, ◌∙◌, ◌∷◌, ◌≡◌, ◌≤◌, AreSorted, Bool, Less, List, Position, Rectangle, and_parts, and_right, ap, append-nil, ap₂, arith, common_steps, cond, drop, drop-drop, drop-set-lt, drop_all, drop_at, drop_more, false, filter, filter_more, fits_among, get_or, get_or_default, length, length-drop, length-replicate, length-take, lies_inside, list_all, list_any, map, meets, not, not-true, or_right, position_cmp, refl, replicate, same_place, set, subst, suc, sym, take, take-add, take-append-drop, take_all, take_at, take_more, take_more_set, true, with_met, zero, ℕ}
 use Rattle.std.proofs.Common.{append_assoc, length-append}
 use Rattle.std.proofs.lemmas.List.Folds.{list_all-append, list_any_more}
 use borrow.Rule.Slice.PartMut.{put_mid}
 use Rattle.tabled_grid.proofs.BesideAnchors.{before}
 use Rattle.tabled_grid.proofs.PassedAnchors.{all_after, apart_over, places_apart, sorted_drop}
-use Rattle.tabled_grid.proofs.SpanMaps.{halves, less, same_place-self}
+use Rattle.tabled_grid.proofs.SortedEntries.{Below, halves, less}
+use Rattle.tabled_grid.proofs.SpanMaps.{same_place-self}
 
 module _ (by : Rectangle) where
   or_false : (a b : Bool) → b ≡ false → (a || b) ≡ a
@@ -90,23 +91,23 @@ marks-written i len old new rest here full long = grind (arith, common_steps, dr
 
 -- of a rectangle and another one of a list: they are one, or share no cell
 abbrev clear : Rectangle → Rectangle → Bool
-clear e f = same_place e.0 f.0 || not (meets e f)
+clear e f = same_place e.first f.first || not (meets e f)
 
-clear-before : (e : Rectangle) (n : ℕ) (fs : List Rectangle) → ((j : ℕ) (d : Rectangle) → j < n → position_cmp (get_or fs j d).0 e.0 ≡ Less) → n ≤ length fs → list_all (clear e) (take n fs) ≡ not (list_any (λ (f : Rectangle). meets f e) (take n fs))
+clear-before : (e : Rectangle) (n : ℕ) (fs : List Rectangle) → ((j : ℕ) (d : Rectangle) → j < n → position_cmp (get_or fs j d).first e.first ≡ Less) → n ≤ length fs → list_all (clear e) (take n fs) ≡ not (list_any (λ (f : Rectangle). meets f e) (take n fs))
 clear-before e zero fs below within = refl
 clear-before e (suc n) [] below within = absurd (omega arith)
 clear-before e (suc n) (f ∷ fs) below within =
     let rest = clear-before e n fs (λ j d h. below (suc j) d (omega arith)) (omega arith) in
-    ap (λ b. clear e f && b) rest ∙ neither (same_place e.0 f.0) (meets e f) (list_any (λ (g : Rectangle). meets g e) (take n fs)) (places_apart f.0 e.0 (below 0 e (omega arith))).1 ∙ ap (λ m. not (m || list_any (λ (g : Rectangle). meets g e) (take n fs))) (meets-turned e f)
+    ap (λ b. clear e f && b) rest ∙ neither (same_place e.first f.first) (meets e f) (list_any (λ (g : Rectangle). meets g e) (take n fs)) (places_apart f.first e.first (below 0 e (omega arith))).1 ∙ ap (λ m. not (m || list_any (λ (g : Rectangle). meets g e) (take n fs))) (meets-turned e f)
   where
     neither : (same met any : Bool) → same ≡ false → ((same || not met) && not any) ≡ not (met || any)
     neither true met any h = cc
     neither false true any h = refl
     neither false false any h = refl
 
-clear-after : (e : Rectangle) (fs : List Rectangle) → T (below_all position_cmp e.0 fs) → list_all (clear e) fs ≡ list_all (λ (f : Rectangle). not (meets e f)) fs
+clear-after : (e : Rectangle) (fs : List Rectangle) → Below e.first fs → list_all (clear e) fs ≡ list_all (λ (f : Rectangle). not (meets e f)) fs
 clear-after e [] below = refl
-clear-after e (f ∷ fs) below = ap₂ (λ a b. a && b) (ap (λ same. same || not (meets e f)) (places_apart e.0 f.0 (less _ (halves _ _ below).0)).0) (clear-after e fs (halves _ _ below).1)
+clear-after e (f ∷ fs) below = ap₂ (λ a b. a && b) (ap (λ same. same || not (meets e f)) (places_apart e.first f.first (less _ (halves _ _ below).0)).0) (clear-after e fs (halves _ _ below).1)
 
 module _ (rows columns : ℕ) (es : List Rectangle) where
   -- those before an index that fit are kept, and those from there on are marked that one before the index meets
@@ -131,18 +132,18 @@ module _ (rows columns : ℕ) (es : List Rectangle) where
         parts : (x y : Bool) (xs ys : List Bool) → x ∷ xs ≡ y ∷ ys → (x ≡ y) × (xs ≡ ys)
         parts x y xs ys same = (cc, cc)
 
-    fits-here : T (is_sorted position_cmp es) → fits_among rows columns es (get_or es i d) ≡ (lies_inside rows columns (get_or es i d) && (not (get_or marks i false) && list_all (λ (f : Rectangle). not (meets (get_or es i d) f)) (drop (i + 1) es)))
+    fits-here : AreSorted es → fits_among rows columns es (get_or es i d) ≡ (lies_inside rows columns (get_or es i d) && (not (get_or marks i false) && list_all (λ (f : Rectangle). not (meets (get_or es i d) f)) (drop (i + 1) es)))
     fits-here up =
         let e = get_or es i d in
-        let later : T (below_all position_cmp e.0 (drop (i + 1) es)) = (halves _ _ (subst (λ fs. T (is_sorted position_cmp fs)) (drop_more es i d here) (sorted_drop i es up))).0 in
+        let later : Below e.first (drop (i + 1) es) = (halves _ _ (subst AreSorted (drop_more es i d here) (sorted_drop i es up))).0 in
         ap (λ b. lies_inside rows columns e && b)
         (ap (list_all (clear e)) (sym (take-append-drop i es)) ∙ list_all-append (clear e) (take i es) (drop i es)
         ∙ ap₂ (λ a b. a && b)
-        (clear-before e i es (λ j c h. subst (λ (p : Position). position_cmp (get_or es j c).0 p ≡ Less) (ap (λ (f : Rectangle). f.0) (get_or_default es i c d here)) (before es j i c up h here)) (omega arith) ∙ ap not (sym heads.0))
-        (ap (list_all (clear e)) (drop_more es i d here) ∙ ap (λ same. (same || not (meets e e)) && list_all (clear e) (drop (i + 1) es)) (same_place-self e.0) ∙ clear-after e (drop (i + 1) es) later))
+        (clear-before e i es (λ j c h. subst (λ (p : Position). position_cmp (get_or es j c).first p ≡ Less) (ap (λ (f : Rectangle). f.first) (get_or_default es i c d here)) (before es j i c up h here)) (omega arith) ∙ ap not (sym heads.0))
+        (ap (list_all (clear e)) (drop_more es i d here) ∙ ap (λ same. (same || not (meets e e)) && list_all (clear e) (drop (i + 1) es)) (same_place-self e.first) ∙ clear-after e (drop (i + 1) es) later))
 
     -- the marks, of which those after the index are written anew as a slice, and the anchor at the index if it fits
-    pub kept-more : T (is_sorted position_cmp es) → (now new rest : List Bool) (len : ℕ) (newer : List Rectangle) (alone met unset : Bool) → now ≡ marks → len ≡ length now → length new ≡ length (take (length now - (i + 1)) (drop (i + 1) now)) →
+    pub kept-more : AreSorted es → (now new rest : List Bool) (len : ℕ) (newer : List Rectangle) (alone met unset : Bool) → now ≡ marks → len ≡ length now → length new ≡ length (take (length now - (i + 1)) (drop (i + 1) now)) →
         new ≡ with_met (get_or es i d) (take (length es - (i + 1)) (drop (i + 1) es)) (take (length now - (i + 1)) (drop (i + 1) now)) →
         alone ≡ list_all (λ (f : Rectangle). not (meets (get_or es i d) f)) (take (length es - (i + 1)) (drop (i + 1) es)) → met ≡ get_or marks i unset →
         newer ≡ cond ((alone && not met) && lies_inside rows columns (get_or es i d)) (kept ++ get_or es i d ∷ []) kept → Kept (i + 1) newer (take len (put_mid (i + 1) (length now - (i + 1)) now new ++ rest))

@@ -1,8 +1,8 @@
 -- Anchors left of a rectangle, of which the nearest in a row stands for the others.
-use Rattle.tabled_grid.proofs.Common.{[], ◌+◌, ◌-◌, ◌<◌, ◌∙◌, ◌∷◌, ◌≡◌, ◌≤◌, AllByRecursion, AreAnchors, Bool, IsSpanSize, Less, List, Position, Rectangle, T, all-drop, and_from, and_parts, ap, arith, below_all, cases_lt, common_steps, drop, drop-drop, drop_more, false, false_from_ne_true, get_or, inl, inr, is_sorted, length, lie_well, lies_inside, list_all, meets, not, not_from_false, position_cmp, refl, subst, suc, sym, take, true, zero, ℕ}
+use Rattle.tabled_grid.proofs.Common.{[], ◌+◌, ◌-◌, ◌<◌, ◌∙◌, ◌∷◌, ◌≡◌, ◌≤◌, AllByRecursion, AreAnchors, AreSorted, Bool, IsSpanSize, Less, List, Position, Rectangle, all-drop, and_from, and_parts, ap, arith, cases_lt, common_steps, drop, drop-drop, drop_more, false, false_from_ne_true, get_or, inl, inr, length, lie_well, lies_inside, list_all, meets, not, not_from_false, position_cmp, rectangle, refl, subst, suc, sym, take, true, zero, ℕ}
 use Rattle.tabled_grid.specs.Apart.{AreApart}
 use Rattle.tabled_grid.proofs.PassedAnchors.{Earlier, all_after, apart_sorted, earlier, meets-from, meets-true, sorted_drop}
-use Rattle.tabled_grid.proofs.SpanMaps.{halves, less}
+use Rattle.tabled_grid.proofs.SortedEntries.{Below, halves, less}
 
 never : {P : Type 0} (b : Bool) → b ≡ true → b ≡ false → P
 never b h k = cc
@@ -24,7 +24,7 @@ apart_drop (suc n) [] apart = tt
 apart_drop (suc n) (e ∷ es) apart = apart_drop n es apart.1
 
 pub anchors_drop : (n : ℕ) (es : List Rectangle) → AreAnchors es → AreAnchors (drop n es)
-anchors_drop n es valid = record { sorted = sorted_drop n es valid.sorted; sizes = all-drop (λ (e : Rectangle). IsSpanSize e.1) n es valid.sizes }
+anchors_drop n es valid = record { sorted = sorted_drop n es valid.sorted; sizes = all-drop (λ (e : Rectangle). IsSpanSize e.size) n es valid.sizes }
 
 -- the last of anchors that lie well lie well
 pub well_drop : (rows columns n : ℕ) (es : List Rectangle) → lie_well rows columns es ≡ true → lie_well rows columns (drop n es) ≡ true
@@ -36,30 +36,30 @@ pub ill_drop : (rows columns n : ℕ) (es : List Rectangle) → lie_well rows co
 ill_drop rows columns n es ill = false_from_ne_true _ (λ well. never _ (well_drop rows columns n es well) ill)
 
 -- of two that are apart in one row, the first ends before the second
-ends_before : (e f : Rectangle) → 1 ≤ e.1.height → 1 ≤ f.1.height → e.0.row ≡ f.0.row → e.0.col < f.0.col → meets e f ≡ false → e.0.col + e.1.width ≤ f.0.col
+ends_before : (e f : Rectangle) → 1 ≤ e.size.height → 1 ≤ f.size.height → e.first.row ≡ f.first.row → e.first.col < f.first.col → meets e f ≡ false → e.first.col + e.size.width ≤ f.first.col
 ends_before e f tall high same before apart = grind (arith, common_steps, cases_lt, never, meets-from)
 
 -- where anchors stand from a place to a rectangle in one row, all but the last of them are apart from it
-pub near_passed : (from : Rectangle) (pos : Position) (es : List Rectangle) (i n : ℕ) → n ≤ i - 1 → T (is_sorted position_cmp es) → AllByRecursion (λ (e : Rectangle). IsSpanSize e.1) es → AreApart es → T (below_all position_cmp pos es) →
-    ((j : ℕ) (d : Rectangle) → j < i → position_cmp (get_or es j d).0 (record { row = pos.row; col = from.0.col }) ≡ Less) → i ≤ length es → list_all (λ (e : Rectangle). not (meets from e)) (take n es) ≡ true
+pub near_passed : (from : Rectangle) (pos : Position) (es : List Rectangle) (i n : ℕ) → n ≤ i - 1 → AreSorted es → AllByRecursion (λ (e : Rectangle). IsSpanSize e.size) es → AreApart es → Below pos es →
+    ((j : ℕ) (d : Rectangle) → j < i → position_cmp (get_or es j d).first (record { row = pos.row; col = from.first.col }) ≡ Less) → i ≤ length es → list_all (λ (e : Rectangle). not (meets from e)) (take n es) ≡ true
 near_passed from pos es i zero some up sizes apart below until within = refl
 near_passed from pos [] i (suc n) some up sizes apart below until within = absurd (omega arith)
 near_passed from pos (e ∷ []) i (suc n) some up sizes apart below until within = absurd (omega arith)
 near_passed from pos (e ∷ f ∷ es) i (suc n) some up sizes apart below until within =
-    let first : (e.0.row ≡ pos.row) × (e.0.col < from.0.col) = in_row e.0 (earlier pos e.0 (less _ (halves _ _ below).0)) (earlier e.0 _ (until 0 e (omega arith))) in
-    let second : (f.0.row ≡ pos.row) × (f.0.col < from.0.col) = in_row f.0 (earlier pos f.0 (less _ (halves _ _ (halves _ _ below).1).0)) (earlier f.0 _ (until 1 e (omega arith))) in
-    let between = in_order (earlier e.0 f.0 (less _ (halves _ _ (halves _ _ up).0).0)) (first.0 ∙ sym second.0) in
+    let first : (e.first.row ≡ pos.row) × (e.first.col < from.first.col) = in_row e.first (earlier pos e.first (less _ (halves _ _ below).0)) (earlier e.first _ (until 0 e (omega arith))) in
+    let second : (f.first.row ≡ pos.row) × (f.first.col < from.first.col) = in_row f.first (earlier pos f.first (less _ (halves _ _ (halves _ _ below).1).0)) (earlier f.first _ (until 1 e (omega arith))) in
+    let between = in_order (earlier e.first f.first (less _ (halves _ _ (halves _ _ up).0).0)) (first.0 ∙ sym second.0) in
     let ends = ends_before e f sizes.0.height sizes.1.0.height (first.0 ∙ sym second.0) between (false_from_not _ (and_parts _ _ apart.0).0) in
     and_from _ _ (not_from_false _ (false_from_ne_true _ (λ t. let m = meets-true from e t in absurd (omega (arith, m.left, ends, second.1)))))
     (near_passed from pos (f ∷ es) (i - 1) n (omega arith) (halves _ _ up).1 sizes.1 apart.1 (halves _ _ below).1 (λ j d h. until (suc j) d (omega arith)) (omega arith))
   where
-    in_row : (p : Position) → Earlier pos p → Earlier p (record { row = pos.row; col = from.0.col }) → (p.row ≡ pos.row) × (p.col < from.0.col)
+    in_row : (p : Position) → Earlier pos p → Earlier p (record { row = pos.row; col = from.first.col }) → (p.row ≡ pos.row) × (p.col < from.first.col)
     in_row p (inl a) (inl u) = absurd (omega (arith, a, u))
     in_row p (inl a) (inr u) = absurd (omega (arith, a, u.0))
     in_row p (inr a) (inl u) = absurd (omega (arith, a.0, u))
     in_row p (inr a) (inr u) = (u.0, u.1)
 
-    in_order : Earlier e.0 f.0 → e.0.row ≡ f.0.row → e.0.col < f.0.col
+    in_order : Earlier e.first f.first → e.first.row ≡ f.first.row → e.first.col < f.first.col
     in_order (inl l) same = absurd (omega (arith, l, same))
     in_order (inr l) same = l.1
 
@@ -70,10 +70,10 @@ after_in es first k low = grind (arith, common_steps, drop-drop, all_after)
 pub apart_after : (es : List Rectangle) (first k : ℕ) → first ≤ k → AreApart (drop first es) → AreApart (take (length es - (k + 1)) (drop (k + 1) es))
 apart_after es first k low apart = subst AreApart (after_in es first k low) (apart_drop ((k + 1) - first) (drop first es) apart)
 
-pub anchors_after : (a : Rectangle) (es : List Rectangle) (first k : ℕ) (d : Rectangle) → first ≤ k → k < length es → AreAnchors (a ∷ drop first es) → AreAnchors (((get_or es k d).0, a.1) ∷ take (length es - (k + 1)) (drop (k + 1) es))
+pub anchors_after : (a : Rectangle) (es : List Rectangle) (first k : ℕ) (d : Rectangle) → first ≤ k → k < length es → AreAnchors (a ∷ drop first es) → AreAnchors (rectangle (get_or es k d).first a.size ∷ take (length es - (k + 1)) (drop (k + 1) es))
 anchors_after a es first k d low here valid = record {
   sorted = apart_sorted a es first k d low here valid.sorted;
-  sizes = (valid.sizes.0, subst (λ fs. AllByRecursion (λ (e : Rectangle). IsSpanSize e.1) fs) (after_in es first k low) (all-drop (λ (e : Rectangle). IsSpanSize e.1) ((k + 1) - first) (drop first es) valid.sizes.1));
+  sizes = (valid.sizes.0, subst (λ fs. AllByRecursion (λ (e : Rectangle). IsSpanSize e.size) fs) (after_in es first k low) (all-drop (λ (e : Rectangle). IsSpanSize e.size) ((k + 1) - first) (drop first es) valid.sizes.1));
 }
 
 -- the anchors from an index on, the first of which is this one

@@ -1,7 +1,8 @@
 -- Going through sorted anchors from one on, and stopping once they are past its rectangle.
-use Rattle.tabled_grid.proofs.Common.{[], ◌&&◌, ◌++◌, ◌+◌, ◌-◌, ◌<◌, ◌∙◌, ◌∷◌, ◌≡◌, ◌≤◌, ◌⊎◌, Bool, Less, List, Position, Rectangle, T, and_from, and_parts, ap, ap₂, arith, common_steps, cond, drop, drop-drop, drop-set-lt, drop_more, drop_more_same, false, false_from_ne_true, get_or, get_or-drop, get_or_default, holds, inl, inr, is_past, is_sorted, length, length-drop, list_all, lt-ltb, map, map-append, map_more, meets, not, or_cases, position_cmp, ranked, refl, same_place, set, sized, subst, suc, sym, take, take-add, take-append-drop, take_all, take_more, take_more_set, true, unless_held, zero, ℕ}
+use Rattle.tabled_grid.proofs.Common.{[], ◌&&◌, ◌++◌, ◌+◌, ◌-◌, ◌<◌, ◌∙◌, ◌∷◌, ◌≡◌, ◌≤◌, ◌⊎◌, AreSorted, Bool, Less, List, Position, Rectangle, and_from, and_parts, ap, ap₂, arith, common_steps, cond, drop, drop-drop, drop-set-lt, drop_more, drop_more_same, false, false_from_ne_true, get_or, get_or-drop, get_or_default, holds, inl, inr, is_past, length, length-drop, list_all, lt-ltb, map, map-append, map_more, meets, not, or_cases, position_cmp, ranked, rectangle, refl, same_place, set, sized, subst, suc, sym, take, take-add, take-append-drop, take_all, take_more, take_more_set, true, unless_held, zero, ℕ}
 use Rattle.std.proofs.Common.{append_assoc}
-use Rattle.tabled_grid.proofs.SpanMaps.{holds-true, halves, less, same_place-apart}
+use Rattle.tabled_grid.proofs.SortedEntries.{halves, less}
+use Rattle.tabled_grid.proofs.SpanMaps.{holds-true, same_place-apart}
 
 -- the first comes before the second, row by row
 abbrev pub Earlier : Position → Position → Type 0
@@ -19,8 +20,8 @@ places_apart p q h = (same_place-apart p q (later_apart p q (earlier p q h)), sa
 
 -- what the test says
 pub record IsPast (a : Rectangle) (p : Position) : Type 0 where
-  pub after : a.0.row ≤ p.row
-  pub below : (a.0.row + a.1.height ≤ p.row) ⊎ ((a.0.row + a.1.height ≡ p.row + 1) × (a.0.col + a.1.width ≤ p.col))
+  pub after : a.first.row ≤ p.row
+  pub below : (a.first.row + a.size.height ≤ p.row) ⊎ ((a.first.row + a.size.height ≡ p.row + 1) × (a.first.col + a.size.width ≤ p.col))
 
 pub past-true : (a : Rectangle) (p : Position) → is_past a p ≡ true → IsPast a p
 past-true a p t = grind (arith, common_steps, and_parts, or_cases)
@@ -34,10 +35,10 @@ past_out a p past = grind (arith, common_steps, false_from_ne_true, holds-true)
 
 -- two rectangles share a cell
 pub record Meets (a b : Rectangle) : Type 0 where
-  pub above : a.0.row < b.0.row + b.1.height
-  pub below : b.0.row < a.0.row + a.1.height
-  pub left : a.0.col < b.0.col + b.1.width
-  pub right : b.0.col < a.0.col + a.1.width
+  pub above : a.first.row < b.first.row + b.size.height
+  pub below : b.first.row < a.first.row + a.size.height
+  pub left : a.first.col < b.first.col + b.size.width
+  pub right : b.first.col < a.first.col + a.size.width
 
 pub meets-true : (a b : Rectangle) → meets a b ≡ true → Meets a b
 meets-true a b t = grind (arith, common_steps, and_parts)
@@ -45,23 +46,23 @@ meets-true a b t = grind (arith, common_steps, and_parts)
 pub meets-from : (a b : Rectangle) → Meets a b → meets a b ≡ true
 meets-from a b m = and_from _ _ (and_from _ _ (lt-ltb _ _ m.above) (lt-ltb _ _ m.below)) (and_from _ _ (lt-ltb _ _ m.left) (lt-ltb _ _ m.right))
 
-pub past_apart : (a b : Rectangle) → IsPast a b.0 → meets a b ≡ false
+pub past_apart : (a b : Rectangle) → IsPast a b.first → meets a b ≡ false
 past_apart a b past = grind (arith, common_steps, false_from_ne_true, meets-true)
 
 -- a list in order whose first is past an anchor's rectangle
-past_first : (a e f : Rectangle) (es : List Rectangle) → T (is_sorted position_cmp (e ∷ f ∷ es)) → IsPast a e.0 → IsPast a f.0
-past_first a e f es up past = past_later a e.0 f.0 past (earlier e.0 f.0 (less _ (halves _ _ (halves _ _ up).0).0))
+past_first : (a e f : Rectangle) (es : List Rectangle) → AreSorted (e ∷ f ∷ es) → IsPast a e.first → IsPast a f.first
+past_first a e f es up past = past_later a e.first f.first past (earlier e.first f.first (less _ (halves _ _ (halves _ _ up).0).0))
 
-pub none_held : (a e : Rectangle) (es : List Rectangle) → T (is_sorted position_cmp (e ∷ es)) → IsPast a e.0 → map (unless_held a) (e ∷ es) ≡ e ∷ es
-none_held a e [] up past = ap (λ b. cond b (e.0, sized 0 0) e ∷ []) (past_out a e.0 past)
-none_held a e (f ∷ es) up past = ap₂ (λ x xs. x ∷ xs) (ap (λ b. cond b (e.0, sized 0 0) e) (past_out a e.0 past)) (none_held a f es (halves _ _ up).1 (past_first a e f es up past))
+pub none_held : (a e : Rectangle) (es : List Rectangle) → AreSorted (e ∷ es) → IsPast a e.first → map (unless_held a) (e ∷ es) ≡ e ∷ es
+none_held a e [] up past = ap (λ b. cond b (rectangle e.first (sized 0 0)) e ∷ []) (past_out a e.first past)
+none_held a e (f ∷ es) up past = ap₂ (λ x xs. x ∷ xs) (ap (λ b. cond b (rectangle e.first (sized 0 0)) e) (past_out a e.first past)) (none_held a f es (halves _ _ up).1 (past_first a e f es up past))
 
-pub none_meets : (a e : Rectangle) (es : List Rectangle) → T (is_sorted position_cmp (e ∷ es)) → IsPast a e.0 → list_all (λ (f : Rectangle). not (meets a f)) (e ∷ es) ≡ true
+pub none_meets : (a e : Rectangle) (es : List Rectangle) → AreSorted (e ∷ es) → IsPast a e.first → list_all (λ (f : Rectangle). not (meets a f)) (e ∷ es) ≡ true
 none_meets a e [] up past = and_from _ _ (ap not (past_apart a e past)) refl
 none_meets a e (f ∷ es) up past = and_from _ _ (ap not (past_apart a e past)) (none_meets a f es (halves _ _ up).1 (past_first a e f es up past))
 
 -- what is left of a list in order is in order
-pub sorted_drop : (n : ℕ) (es : List Rectangle) → T (is_sorted position_cmp es) → T (is_sorted position_cmp (drop n es))
+pub sorted_drop : (n : ℕ) (es : List Rectangle) → AreSorted es → AreSorted (drop n es)
 sorted_drop zero es up = up
 sorted_drop (suc n) [] up = tt
 sorted_drop (suc n) (e ∷ es) up = sorted_drop n es (halves _ _ up).1
@@ -111,60 +112,60 @@ module _ (by : Rectangle) (old new : List Rectangle) (first k : ℕ) (d : Rectan
   is_item : get_or old k (get_or new k d) ≡ get_or new k d
   is_item = left_item old new k (get_or new k d) changed.left ∙ get_or_default new k (get_or new k d) d here
 
-  pub hidden_held : holds by (get_or new k d).0 ≡ true → ChangedTo (unless_held by) old first (set new k ((get_or new k d).0, sized 0 0)) (k + 1)
+  pub hidden_held : holds by (get_or new k d).first ≡ true → ChangedTo (unless_held by) old first (set new k (rectangle (get_or new k d).first (sized 0 0))) (k + 1)
   hidden_held held = grind (arith, common_steps, changed_more, is_item, take_more_set, drop-set-lt, drop_more_same)
 
-  pub hidden_other : holds by (get_or new k d).0 ≡ false → ChangedTo (unless_held by) old first new (k + 1)
+  pub hidden_other : holds by (get_or new k d).first ≡ false → ChangedTo (unless_held by) old first new (k + 1)
   hidden_other out = grind (arith, common_steps, changed_more, is_item, take_more, drop_more_same)
 
   -- the anchors after it, as a slice of those that are gone through
   after_is : take (length new - (k + 1)) (drop (k + 1) new) ≡ drop (k + 1) new
   after_is = take_all (length new - (k + 1)) (drop (k + 1) new) (omega (arith, length-drop (k + 1) new))
 
-  pub sorted_after : T (is_sorted position_cmp (by ∷ drop first old)) → T (is_sorted position_cmp (get_or new k d ∷ take (length new - (k + 1)) (drop (k + 1) new)))
+  pub sorted_after : AreSorted (by ∷ drop first old) → AreSorted (get_or new k d ∷ take (length new - (k + 1)) (drop (k + 1) new))
   sorted_after up =
       let within : k < length old = omega arith in
       let e = get_or new k d in
       let rest : drop k old ≡ e ∷ drop (k + 1) old = drop_more old k e within ∙ ap (λ x. x ∷ drop (k + 1) old) is_item in
       let at : first + (k - first) ≡ k = omega arith in
       let sorted = sorted_drop (k - first) (drop first old) (halves _ _ up).1 in
-      subst (λ es. T (is_sorted position_cmp es)) (drop-drop (k - first) first old ∙ ap (λ n. drop n old) at ∙ rest ∙ ap (λ xs. e ∷ xs) (sym (drop_more_same new old k changed.left) ∙ sym after_is)) sorted
+      subst AreSorted (drop-drop (k - first) first old ∙ ap (λ n. drop n old) at ∙ rest ∙ ap (λ xs. e ∷ xs) (sym (drop_more_same new old k changed.left) ∙ sym after_is)) sorted
 
-  pub hidden_over : (n : ℕ) → holds by (get_or new k d).0 ≡ false → map (unless_held by) (take n (take (length new - (k + 1)) (drop (k + 1) new))) ≡ take n (take (length new - (k + 1)) (drop (k + 1) new)) → ChangedTo (unless_held by) old first new (k + (1 + n))
+  pub hidden_over : (n : ℕ) → holds by (get_or new k d).first ≡ false → map (unless_held by) (take n (take (length new - (k + 1)) (drop (k + 1) new))) ≡ take n (take (length new - (k + 1)) (drop (k + 1) new)) → ChangedTo (unless_held by) old first new (k + (1 + n))
   hidden_over n out free =
       let same_rest : take (length new - (k + 1)) (drop (k + 1) new) ≡ drop (k + 1) old = after_is ∙ drop_more_same new old k changed.left in
       let all : (k + 1) + n ≡ k + (1 + n) = omega arith in
       subst (λ m. ChangedTo (unless_held by) old first new m) all
       (changed_over (unless_held by) old first new (k + 1) n (omega arith) (hidden_other out) (subst (λ xs. map (unless_held by) (take n xs) ≡ take n xs) same_rest free))
 
-  pub hidden_past : T (is_sorted position_cmp (by ∷ drop first old)) → is_past by (get_or new k d).0 ≡ true → new ≡ take first old ++ map (unless_held by) (drop first old)
+  pub hidden_past : AreSorted (by ∷ drop first old) → is_past by (get_or new k d).first ≡ true → new ≡ take first old ++ map (unless_held by) (drop first old)
   hidden_past up past =
       let within : k < length old = omega arith in
       let e = get_or new k d in
       let rest : drop k old ≡ e ∷ drop (k + 1) old = drop_more old k e within ∙ ap (λ x. x ∷ drop (k + 1) old) is_item in
       let sorted = sorted_drop (k - first) (drop first old) (halves _ _ up).1 in
       let at : first + (k - first) ≡ k = omega arith in
-      let up_here = subst (λ es. T (is_sorted position_cmp es)) (drop-drop (k - first) first old ∙ ap (λ n. drop n old) at ∙ rest) sorted in
-      changed_all (unless_held by) old first new k low changed (ap (map (unless_held by)) rest ∙ none_held by e (drop (k + 1) old) up_here (past-true by e.0 past) ∙ sym rest)
+      let up_here = subst AreSorted (drop-drop (k - first) first old ∙ ap (λ n. drop n old) at ∙ rest) sorted in
+      changed_all (unless_held by) old first new k low changed (ap (map (unless_held by)) rest ∙ none_held by e (drop (k + 1) old) up_here (past-true by e.first past) ∙ sym rest)
 
 -- none of the rest meets once one is past
-pub apart_past : (a : Rectangle) (es : List Rectangle) (first k : ℕ) (d : Rectangle) → first ≤ k → k < length es → T (is_sorted position_cmp (a ∷ drop first es)) → is_past a (get_or es k d).0 ≡ true → list_all (λ (e : Rectangle). not (meets a e)) (drop k es) ≡ true
+pub apart_past : (a : Rectangle) (es : List Rectangle) (first k : ℕ) (d : Rectangle) → first ≤ k → k < length es → AreSorted (a ∷ drop first es) → is_past a (get_or es k d).first ≡ true → list_all (λ (e : Rectangle). not (meets a e)) (drop k es) ≡ true
 apart_past a es first k d low here up past =
     let e = get_or es k d in
     let sorted = sorted_drop (k - first) (drop first es) (halves _ _ up).1 in
     let at : first + (k - first) ≡ k = omega arith in
     let rest = drop_more es k d here in
-    let up_here = subst (λ fs. T (is_sorted position_cmp fs)) (drop-drop (k - first) first es ∙ ap (λ n. drop n es) at ∙ rest) sorted in
-    ap (list_all (λ (f : Rectangle). not (meets a f))) rest ∙ none_meets a e (drop (k + 1) es) up_here (past-true a e.0 past)
+    let up_here = subst AreSorted (drop-drop (k - first) first es ∙ ap (λ n. drop n es) at ∙ rest) sorted in
+    ap (list_all (λ (f : Rectangle). not (meets a f))) rest ∙ none_meets a e (drop (k + 1) es) up_here (past-true a e.first past)
 
 -- the anchors after one, as a slice of those that are gone through
 pub all_after : (es : List Rectangle) (k : ℕ) → take (length es - (k + 1)) (drop (k + 1) es) ≡ drop (k + 1) es
 all_after es k = take_all (length es - (k + 1)) (drop (k + 1) es) (omega (arith, length-drop (k + 1) es))
 
-pub apart_sorted : (a : Rectangle) (es : List Rectangle) (first k : ℕ) (d : Rectangle) → first ≤ k → k < length es → T (is_sorted position_cmp (a ∷ drop first es)) → T (is_sorted position_cmp (get_or es k d ∷ take (length es - (k + 1)) (drop (k + 1) es)))
+pub apart_sorted : (a : Rectangle) (es : List Rectangle) (first k : ℕ) (d : Rectangle) → first ≤ k → k < length es → AreSorted (a ∷ drop first es) → AreSorted (get_or es k d ∷ take (length es - (k + 1)) (drop (k + 1) es))
 apart_sorted a es first k d low here up =
     let at : first + (k - first) ≡ k = omega arith in
-    subst (λ fs. T (is_sorted position_cmp fs)) (drop-drop (k - first) first es ∙ ap (λ n. drop n es) at ∙ drop_more es k d here ∙ ap (λ fs. get_or es k d ∷ fs) (sym (all_after es k))) (sorted_drop (k - first) (drop first es) (halves _ _ up).1)
+    subst AreSorted (drop-drop (k - first) first es ∙ ap (λ n. drop n es) at ∙ drop_more es k d here ∙ ap (λ fs. get_or es k d ∷ fs) (sym (all_after es k))) (sorted_drop (k - first) (drop first es) (halves _ _ up).1)
 
 -- the first n pass, so all do just where the others do
 passed : (test : Rectangle → Bool) (n : ℕ) (es : List Rectangle) → list_all test (take n es) ≡ true → list_all test (drop n es) ≡ list_all test es

@@ -1,8 +1,7 @@
 -- Anchors when a line is put in: one after another in a list, and in the map that it makes.
-use Rattle.tabled_grid.proofs.Common.{[], ◌<◌, ◌∷◌, ◌≡◌, ◌≤◌, AllByRecursion, AreAnchors, Axis, Bool, Columns, IsSpanSize, Less, List, None, Option, Position, Rectangle, Rows, Some, T, ap, ap₂, arith, below_all, cases_Bool, common_steps, filter, get_or, inl, inr, is_some, is_sorted, length, line_of, map, next_line, none-some, position_cmp, ranked, refl, same_Some, set, shifted_in, shifted_place, suc, unwrap_or, zero, ℕ}
+use Rattle.tabled_grid.proofs.Common.{[], ◌<◌, ◌∷◌, ◌≡◌, ◌≤◌, AllByRecursion, AreAnchors, AreSorted, Axis, Bool, Columns, IsSpanSize, Less, List, None, Option, Position, Rectangle, Rows, Some, ap, ap₂, arith, cases_Bool, common_steps, filter, get_or, inl, inr, is_some, length, line_of, map, next_line, none-some, position_cmp, ranked, rectangle, refl, same_Some, set, shifted_in, shifted_place, suc, unwrap_or, zero, ℕ}
 use Rattle.tabled_grid.proofs.PassedAnchors.{Earlier, earlier}
-use Rattle.tabled_grid.proofs.SortedEntries.{is_less}
-use Rattle.tabled_grid.proofs.SpanMaps.{both, halves, less}
+use Rattle.tabled_grid.proofs.SortedEntries.{Below, both, halves, is_less, less}
 
 -- a list whose first k items were changed
 abbrev pub first_changed : {X : Type 0} → (X → X) → ℕ → List X → List X
@@ -28,10 +27,10 @@ module _ {X : Type 0} (f : X → X) where
 
 -- the anchor where it is once a line is put in, or where it was if no index is left
 abbrev pub shifted_or_kept : Axis → ℕ → Rectangle → Rectangle
-shifted_or_kept axis from e = (unwrap_or (shifted_place axis from e.0) e.0, e.1)
+shifted_or_kept axis from e = rectangle (unwrap_or (shifted_place axis from e.first) e.first) e.size
 
 abbrev pub has_place : Axis → ℕ → Rectangle → Bool
-has_place axis from e = is_some (shifted_place axis from e.0)
+has_place axis from e = is_some (shifted_place axis from e.first)
 
 -- where a place comes to
 pub data Comes (axis : Axis) (from : ℕ) (p q : Position) : Type 0 where
@@ -42,11 +41,11 @@ module _ (axis : Axis) (from : ℕ) where
   -- those with an index left, each moved
   pub moved_one_by_one : (es : List Rectangle) → map (shifted_or_kept axis from) (filter (has_place axis from) es) ≡ shifted_in axis from es
   moved_one_by_one [] = refl
-  moved_one_by_one (e ∷ es) = either (shifted_place axis from e.0) refl (moved_one_by_one es)
+  moved_one_by_one (e ∷ es) = either (shifted_place axis from e.first) refl (moved_one_by_one es)
     where
-      either : (s : Option Position) → shifted_place axis from e.0 ≡ s → map (shifted_or_kept axis from) (filter (has_place axis from) es) ≡ shifted_in axis from es → map (shifted_or_kept axis from) (filter (has_place axis from) (e ∷ es)) ≡ shifted_in axis from (e ∷ es)
+      either : (s : Option Position) → shifted_place axis from e.first ≡ s → map (shifted_or_kept axis from) (filter (has_place axis from) es) ≡ shifted_in axis from es → map (shifted_or_kept axis from) (filter (has_place axis from) (e ∷ es)) ≡ shifted_in axis from (e ∷ es)
       either None is rest = rw is rest
-      either (Some p) is rest = rw is (ap₂ (λ (x : Rectangle) xs. x ∷ xs) (ap (λ s. (unwrap_or s e.0, e.1)) is) rest)
+      either (Some p) is rest = rw is (ap₂ (λ (x : Rectangle) xs. x ∷ xs) (ap (λ s. rectangle (unwrap_or s e.first) e.size) is) rest)
 
   pub comes : (p q : Position) → shifted_place axis from p ≡ Some q → Comes axis from p q
   comes p q is = grind (arith, common_steps, cases_Bool, same_Some, none-some)
@@ -71,27 +70,27 @@ pub from_earlier : (p q : Position) → Earlier p q → position_cmp p q ≡ Les
 from_earlier p q e = grind (arith, common_steps, ranked)
 
 module _ (axis : Axis) (from : ℕ) where
-  below_shifted : (x y : Position) (es : List Rectangle) → shifted_place axis from x ≡ Some y → T (below_all position_cmp x es) → T (below_all position_cmp y (shifted_in axis from es))
+  below_shifted : (x y : Position) (es : List Rectangle) → shifted_place axis from x ≡ Some y → Below x es → Below y (shifted_in axis from es)
   below_shifted x y [] is h = tt
-  below_shifted x y (e ∷ es) is h = either (shifted_place axis from e.0) refl (below_shifted x y es is (halves _ _ h).1)
+  below_shifted x y (e ∷ es) is h = either (shifted_place axis from e.first) refl (below_shifted x y es is (halves _ _ h).1)
     where
-      either : (s : Option Position) → shifted_place axis from e.0 ≡ s → T (below_all position_cmp y (shifted_in axis from es)) → T (below_all position_cmp y (shifted_in axis from (e ∷ es)))
+      either : (s : Option Position) → shifted_place axis from e.first ≡ s → Below y (shifted_in axis from es) → Below y (shifted_in axis from (e ∷ es))
       either None js rest = rw js rest
-      either (Some p) js rest = rw js (both _ _ (is_less _ (from_earlier y p (next_later axis from x e.0 y p (earlier x e.0 (less _ (halves _ _ h).0)) (comes axis from x y is) (comes axis from e.0 p js)))) rest)
+      either (Some p) js rest = rw js (both _ _ (is_less _ (from_earlier y p (next_later axis from x e.first y p (earlier x e.first (less _ (halves _ _ h).0)) (comes axis from x y is) (comes axis from e.first p js)))) rest)
 
-  pub sorted_shifted : (es : List Rectangle) → T (is_sorted position_cmp es) → T (is_sorted position_cmp (shifted_in axis from es))
+  pub sorted_shifted : (es : List Rectangle) → AreSorted es → AreSorted (shifted_in axis from es)
   sorted_shifted [] h = tt
-  sorted_shifted (e ∷ es) h = either (shifted_place axis from e.0) refl (sorted_shifted es (halves _ _ h).1)
+  sorted_shifted (e ∷ es) h = either (shifted_place axis from e.first) refl (sorted_shifted es (halves _ _ h).1)
     where
-      either : (s : Option Position) → shifted_place axis from e.0 ≡ s → T (is_sorted position_cmp (shifted_in axis from es)) → T (is_sorted position_cmp (shifted_in axis from (e ∷ es)))
+      either : (s : Option Position) → shifted_place axis from e.first ≡ s → AreSorted (shifted_in axis from es) → AreSorted (shifted_in axis from (e ∷ es))
       either None js rest = rw js rest
-      either (Some p) js rest = rw js (both _ _ (below_shifted e.0 p es js (halves _ _ h).0) rest)
+      either (Some p) js rest = rw js (both _ _ (below_shifted e.first p es js (halves _ _ h).0) rest)
 
-  sizes_shifted : (es : List Rectangle) → AllByRecursion (λ (e : Rectangle). IsSpanSize e.1) es → AllByRecursion (λ (e : Rectangle). IsSpanSize e.1) (shifted_in axis from es)
+  sizes_shifted : (es : List Rectangle) → AllByRecursion (λ (e : Rectangle). IsSpanSize e.size) es → AllByRecursion (λ (e : Rectangle). IsSpanSize e.size) (shifted_in axis from es)
   sizes_shifted [] h = h
-  sizes_shifted (e ∷ es) h = either (shifted_place axis from e.0) refl (sizes_shifted es h.1)
+  sizes_shifted (e ∷ es) h = either (shifted_place axis from e.first) refl (sizes_shifted es h.1)
     where
-      either : (s : Option Position) → shifted_place axis from e.0 ≡ s → AllByRecursion (λ (e : Rectangle). IsSpanSize e.1) (shifted_in axis from es) → AllByRecursion (λ (e : Rectangle). IsSpanSize e.1) (shifted_in axis from (e ∷ es))
+      either : (s : Option Position) → shifted_place axis from e.first ≡ s → AllByRecursion (λ (e : Rectangle). IsSpanSize e.size) (shifted_in axis from es) → AllByRecursion (λ (e : Rectangle). IsSpanSize e.size) (shifted_in axis from (e ∷ es))
       either None js rest = rw js rest
       either (Some p) js rest = rw js (h.0, rest)
 

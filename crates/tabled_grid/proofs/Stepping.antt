@@ -52,23 +52,23 @@ pub record EachTo (old new : List ℕ) (first : Position) (anchor : Rectangle) (
 -- what it is for an anchor to hide a place
 pub record Hides (anchor : Rectangle) (p : Position) : Type 0 where
   pub holds : In anchor p
-  pub other : anchor.0 ≢ p
+  pub other : anchor.first ≢ p
 
 pub hides-true : (anchor : Rectangle) (p : Position) → hides p anchor ≡ true → Hides anchor p
 hides-true anchor p t = grind (arith, common_steps, and_parts, holds-true, false≢true, not_from_true, same_place-self)
 
 hides-from : (anchor : Rectangle) (p : Position) → Hides anchor p → hides p anchor ≡ true
-hides-from anchor p h = and_from _ _ (holds-from anchor p h.holds) (not_from_false _ (same_place-apart anchor.0 p h.other))
+hides-from anchor p h = and_from _ _ (holds-from anchor p h.holds) (not_from_false _ (same_place-apart anchor.first p h.other))
 
-pub each_starts : (xs : List ℕ) (first : Position) (anchor : Rectangle) (i step limit rows columns : ℕ) → i + first.row ≤ max anchor.0.row first.row → EachTo xs xs first anchor i step limit rows columns
+pub each_starts : (xs : List ℕ) (first : Position) (anchor : Rectangle) (i step limit rows columns : ℕ) → i + first.row ≤ max anchor.first.row first.row → EachTo xs xs first anchor i step limit rows columns
 each_starts xs first anchor i step limit rows columns low = grind (arith, common_steps, steps_nowhere, false_from_ne_true, and_parts, hides-true)
 
 -- where the first of an anchor's columns is another's place
 abbrev pub Begins : Position → Rectangle → ℕ → ℕ → ℕ → Type 0
-Begins first anchor i left columns = (j : ℕ) → j < columns → (left ≤ j) ↔ ((anchor.0.col ≤ first.col + j) × (first.row + i ≡ anchor.0.row → first.col + j ≡ anchor.0.col → ⊥))
+Begins first anchor i left columns = (j : ℕ) → j < columns → (left ≤ j) ↔ ((anchor.first.col ≤ first.col + j) × (first.row + i ≡ anchor.first.row → first.col + j ≡ anchor.first.col → ⊥))
 
 -- one row more
-pub each_more : (old xs ys : List ℕ) (first : Position) (anchor : Rectangle) (i left right step limit rows columns : ℕ) → EachTo old xs first anchor i step limit rows columns → Steps xs ys (in_run i (left, right)) step limit rows columns → anchor.0.row ≤ first.row + i → first.row + i < anchor.0.row + anchor.1.height → Begins first anchor i left columns → ((j : ℕ) → j < columns → (j < right) ↔ (first.col + j < anchor.0.col + anchor.1.width)) → EachTo old ys first anchor (i + 1) step limit rows columns
+pub each_more : (old xs ys : List ℕ) (first : Position) (anchor : Rectangle) (i left right step limit rows columns : ℕ) → EachTo old xs first anchor i step limit rows columns → Steps xs ys (in_run i (left, right)) step limit rows columns → anchor.first.row ≤ first.row + i → first.row + i < anchor.first.row + anchor.size.height → Begins first anchor i left columns → ((j : ℕ) → j < columns → (j < right) ↔ (first.col + j < anchor.first.col + anchor.size.width)) → EachTo old ys first anchor (i + 1) step limit rows columns
 each_more old xs ys first anchor i left right step limit rows columns so run low high begins end = record {
   steps = steps_joined old xs ys (λ p. hides (beyond first p) anchor && nat_lt p.row i) (in_run i (left, right)) (λ p. hides (beyond first p) anchor && nat_lt p.row (i + 1)) step limit rows columns
       (λ r c h k. both_ways _ _ (to r c k) (λ t. from r c k (or_cases _ _ t)))
@@ -96,11 +96,11 @@ each_more old xs ys first anchor i left right step limit rows columns so run low
         })) (lt-ltb _ _ (omega (arith, at.row)))
 
 -- all rows of the block that the rectangle has
-pub each_done : (old xs : List ℕ) (first : Position) (anchor : Rectangle) (i step limit rows columns : ℕ) → EachTo old xs first anchor i step limit rows columns → ((r : ℕ) → r < rows → first.row + r < anchor.0.row + anchor.1.height → r < i) → Steps old xs (λ p. hides (beyond first p) anchor) step limit rows columns
+pub each_done : (old xs : List ℕ) (first : Position) (anchor : Rectangle) (i step limit rows columns : ℕ) → EachTo old xs first anchor i step limit rows columns → ((r : ℕ) → r < rows → first.row + r < anchor.first.row + anchor.size.height → r < i) → Steps old xs (λ p. hides (beyond first p) anchor) step limit rows columns
 each_done old xs first anchor i step limit rows columns so past = steps_same old xs _ _ step limit rows columns (λ r c h k. both_ways _ _ (λ t. (and_parts _ _ t).0) (λ t. and_from _ _ t (lt-ltb _ _ (past r h (hides-true anchor (beyond first (place r c)) t).holds.bottom)))) so.steps
 
-pub begins_after : (first : Position) (anchor : Rectangle) (i left columns : ℕ) → first.col + columns < 2 ^ 64 → first.row + i ≡ anchor.0.row → left ≡ min (anchor.0.col + 1) 18446744073709551615 - first.col → Begins first anchor i left columns
+pub begins_after : (first : Position) (anchor : Rectangle) (i left columns : ℕ) → first.col + columns < 2 ^ 64 → first.row + i ≡ anchor.first.row → left ≡ min (anchor.first.col + 1) 18446744073709551615 - first.col → Begins first anchor i left columns
 begins_after first anchor i left columns fits row is = grind (arith, common_steps, cases_eq)
 
-pub begins_at : (first : Position) (anchor : Rectangle) (i left columns : ℕ) → (first.row + i ≡ anchor.0.row → ⊥) → left ≡ anchor.0.col - first.col → Begins first anchor i left columns
+pub begins_at : (first : Position) (anchor : Rectangle) (i left columns : ℕ) → (first.row + i ≡ anchor.first.row → ⊥) → left ≡ anchor.first.col - first.col → Begins first anchor i left columns
 begins_at first anchor i left columns apart is = λ j h. (λ l. (omega arith, λ e f. apart e), λ b. omega (arith, b.0))

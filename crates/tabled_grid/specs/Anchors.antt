@@ -1,41 +1,42 @@
--- Lists of anchors with their sizes, row by row.
+-- Lists of rectangles, row by row.
 use Rattle.std.specs.Prelude.{◌+◌, ◌&&◌, ◌||◌, ◌==◌, ℕ, Bool, true, if◌then◌else◌, List, [], ◌∷◌, map, nat_le, nat_lt, not}
-use Rattle.std.specs.FinMap.Entries.{put, where_key}
+use Rattle.std.specs.FinMap.Entries.{put}
 use Rattle.std.specs.List.{filter, fold, list_all, list_any}
 use Rattle.std.specs.Ordering.{eq_by_cmp, is_eq}
 use Rattle.tabled_grid.specs.declared.config.position.Position.{Position}
 use Rattle.tabled_grid.specs.Rectangles.{holds}
 use Rattle.tabled_grid.specs.Entity.{same_place}
-use Rattle.tabled_grid.specs.Spans.{Rectangle, position_cmp, sized}
+use Rattle.tabled_grid.specs.Spans.{is_cell, of_pairs, pairs, position_cmp, rectangle, sized}
+use Rattle.tabled_grid.specs.declared.config.rectangle.Rectangle.{Rectangle}
 
--- the anchors with a size at a place, where the size of one cell is no anchor
+-- the rectangles with one more, in place of that at its anchor, where one of one cell is none
 abbrev pub with_size_in : List Rectangle → Rectangle → List Rectangle
-with_size_in es e = if (e.1.height == 1) && (e.1.width == 1) then where_key position_cmp (λ p. not (eq_by_cmp position_cmp e.0 p)) es else put position_cmp e.0 e.1 es
+with_size_in es e = if is_cell e.size then filter (λ (f : Rectangle). not (eq_by_cmp position_cmp e.first f.first)) es else of_pairs (put position_cmp e.first e.size (pairs es))
 
--- the anchors with one size after another
+-- the rectangles with one more after another
 abbrev pub with_sizes_in : List Rectangle → List Rectangle → List Rectangle
 with_sizes_in es sizes = fold with_size_in es sizes
 
--- an anchor of a size, of which the size of one cell is none
+-- a rectangle, of which one of one cell is none
 abbrev pub anchor_of : Rectangle → List Rectangle
-anchor_of e = if (e.1.height == 1) && (e.1.width == 1) then [] else e ∷ []
+anchor_of e = if is_cell e.size then [] else e ∷ []
 
 -- sorted anchors without the first one, if that is at a place
 abbrev pub without_first_at : Position → List Rectangle → List Rectangle
 without_first_at p [] = []
-without_first_at p (e ∷ es) = if is_eq (position_cmp e.0 p) then es else e ∷ es
+without_first_at p (e ∷ es) = if is_eq (position_cmp e.first p) then es else e ∷ es
 
 -- another anchor's rectangle holds the place
 abbrev pub is_hidden_in : List Rectangle → Position → Bool
-is_hidden_in es p = list_any (λ (e : Rectangle). holds e p && not (same_place e.0 p)) es
+is_hidden_in es p = list_any (λ (e : Rectangle). holds e p && not (same_place e.first p)) es
 
 -- the anchors that are not hidden
 abbrev pub dropped : List Rectangle → List Rectangle
-dropped es = filter (λ (e : Rectangle). not (is_hidden_in es e.0)) es
+dropped es = filter (λ (e : Rectangle). not (is_hidden_in es e.first)) es
 
 -- the anchor, with an empty size where another's rectangle holds it
 abbrev pub unless_held : Rectangle → Rectangle → Rectangle
-unless_held by e = if holds by e.0 then (e.0, sized 0 0) else e
+unless_held by e = if holds by e.first then rectangle e.first (sized 0 0) else e
 
 -- the anchors, with an empty size where the rectangle of one before holds them
 abbrev pub marked : List Rectangle → List Rectangle
@@ -44,15 +45,15 @@ marked (e ∷ es) = e ∷ map (unless_held e) (marked es)
 
 -- the place comes after all cells of the rectangle
 abbrev pub is_past : Rectangle → Position → Bool
-is_past a p = nat_le a.0.row p.row && (nat_le (a.0.row + a.1.height) p.row || ((a.0.row + a.1.height == p.row + 1) && nat_le (a.0.col + a.1.width) p.col))
+is_past a p = nat_le a.first.row p.row && (nat_le (a.first.row + a.size.height) p.row || ((a.first.row + a.size.height == p.row + 1) && nat_le (a.first.col + a.size.width) p.col))
 
 -- the rectangles of two anchors share a cell
 abbrev pub meets : Rectangle → Rectangle → Bool
-meets a b = (nat_lt a.0.row (b.0.row + b.1.height) && nat_lt b.0.row (a.0.row + a.1.height)) && (nat_lt a.0.col (b.0.col + b.1.width) && nat_lt b.0.col (a.0.col + a.1.width))
+meets a b = (nat_lt a.first.row (b.first.row + b.size.height) && nat_lt b.first.row (a.first.row + a.size.height)) && (nat_lt a.first.col (b.first.col + b.size.width) && nat_lt b.first.col (a.first.col + a.size.width))
 
 -- the rectangle lies inside a table
 abbrev pub lies_inside : ℕ → ℕ → Rectangle → Bool
-lies_inside rows columns e = nat_le (e.0.row + e.1.height) rows && nat_le (e.0.col + e.1.width) columns
+lies_inside rows columns e = nat_le (e.first.row + e.size.height) rows && nat_le (e.first.col + e.size.width) columns
 
 -- all rectangles lie inside a table, and none meets one after it
 abbrev pub lie_well : ℕ → ℕ → List Rectangle → Bool

@@ -4,7 +4,7 @@ use Rattle.tabled_grid.specs.Entity.{place}
 use Rattle.tabled_grid.specs.declared.config.position.Position.{Position}
 use Rattle.tabled_grid.specs.declared.records.axis.Axis.{Axis}
 use Rattle.tabled_grid.specs.declared.records.axis.Axis.TheVariants.{Rows, Columns}
-use Rattle.tabled_grid.specs.Spans.{sized}
+use Rattle.tabled_grid.specs.Spans.{SpanMap, sized, with_column_span, with_row_span}
 use Rattle.tabled_grid.specs.declared.config.size.Size.{Size}
 
 -- columns for rows, rows for columns
@@ -45,3 +45,8 @@ lines_in Columns size = size.width
 abbrev pub resized : Axis → Size → ℕ → Size
 resized Rows size many = sized many size.width
 resized Columns size many = sized size.height many
+
+-- the map with a height or a width at a place, of which 0 changes nothing
+abbrev pub with_span : Axis → SpanMap → Position → ℕ → SpanMap
+with_span Rows = with_row_span
+with_span Columns = with_column_span

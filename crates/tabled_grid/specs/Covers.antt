@@ -1,15 +1,15 @@
 -- How many anchors hide each cell of a table.
 use Rattle.std.specs.Prelude.{◌≡◌, ◌+◌, ◌*◌, ◌<◌, ◌%◌, ◌^◌, ◌==◌, ℕ, ◌&&◌, Bool, true, false, List, map, nat_le, nat_lt, not}
-use Rattle.std.specs.FinMap.{entries}
 use Rattle.std.specs.List.{count_by}
 use Rattle.tabled_grid.specs.Entity.{block, place, same_place}
 use Rattle.tabled_grid.specs.Rectangles.{holds}
-use Rattle.tabled_grid.specs.Spans.{Rectangle, SpanMap}
+use Rattle.tabled_grid.specs.Spans.{SpanMap, rectangles}
 use Rattle.tabled_grid.specs.declared.config.position.Position.{Position}
+use Rattle.tabled_grid.specs.declared.config.rectangle.Rectangle.{Rectangle}
 
 -- the rectangle of an anchor at another place holds the place
 abbrev pub hides : Position → Rectangle → Bool
-hides p e = holds e p && not (same_place e.0 p)
+hides p e = holds e p && not (same_place e.first p)
 
 -- how many anchors of a list hide the place
 abbrev pub hiders_in : List Rectangle → Position → ℕ
@@ -17,7 +17,7 @@ hiders_in es p = count_by (hides p) es
 
 -- how many anchors hide the place
 abbrev pub hiders_of : SpanMap → Position → ℕ
-hiders_of m p = hiders_in (entries m) p
+hiders_of m p = hiders_in (rectangles m) p
 
 -- a number for each place of a shape, row by row
 abbrev pub table : (Position → ℕ) → ℕ → ℕ → List ℕ

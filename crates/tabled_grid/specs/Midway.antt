@@ -1,7 +1,8 @@
 -- What holds of rectangles while a span option sets one after another: they may meet, and lie inside.
 use Rattle.std.specs.Prelude.{◌≡◌, ◌+◌, ◌<◌, ◌≤◌, ◌⊎◌, ℕ}
-use Rattle.tabled_grid.specs.Spans.{AreSpanSizes, Rectangle, SpanMap, size_at}
+use Rattle.tabled_grid.specs.Spans.{AreSpanSizes, SpanMap, rectangle, size_at}
 use Rattle.tabled_grid.specs.declared.config.position.Position.{Position}
+use Rattle.tabled_grid.specs.declared.config.rectangle.Rectangle.{Rectangle}
 use Rattle.tabled_grid.specs.declared.config.size.Size.{Size}
 
 -- the size of the rectangle at each place, that of one cell where nothing is merged
@@ -10,14 +11,14 @@ Sizes = Position → Size
 
 -- the place is in the rectangle
 pub record In (e : Rectangle) (p : Position) : Type 0 where
-  pub top : e.0.row ≤ p.row
-  pub bottom : p.row < e.0.row + e.1.height
-  pub left : e.0.col ≤ p.col
-  pub right : p.col < e.0.col + e.1.width
+  pub top : e.first.row ≤ p.row
+  pub bottom : p.row < e.first.row + e.size.height
+  pub left : e.first.col ≤ p.col
+  pub right : p.col < e.first.col + e.size.width
 
 -- of two rectangles that share a cell, one has its first cell in the other
 pub record Hooked (s : Sizes) : Type 0 where
-  pub hook : (a b p : Position) → In (a, s a) p → In (b, s b) p → In (a, s a) b ⊎ In (b, s b) a
+  pub hook : (a b p : Position) → In (rectangle a (s a)) p → In (rectangle b (s b)) p → In (rectangle a (s a)) b ⊎ In (rectangle b (s b)) a
 
 -- each rectangle of more than one cell lies inside a table
 pub record LieWithin (s : Sizes) (rows columns : ℕ) : Type 0 where

@@ -1,11 +1,11 @@
 -- Merged cells when a line, which is a row or a column, is put in: anchors from it on go one further.
 use Rattle.std.specs.Prelude.{◌+◌, ◌^◌, ◌&&◌, if◌then◌else◌, ℕ, Bool, List, None, Option, Some, filter_map, nat_lt}
-use Rattle.std.specs.FinMap as map
 use Rattle.std.specs.List.{list_any}
 use Rattle.std.specs.Option.{option_map}
 use Rattle.tabled_grid.specs.Axis.{line_of, lines_in, next_line}
-use Rattle.tabled_grid.specs.Spans.{Rectangle, SpanMap}
+use Rattle.tabled_grid.specs.Spans.{SpanMap, map_of, rectangle, rectangles}
 use Rattle.tabled_grid.specs.declared.config.position.Position.{Position}
+use Rattle.tabled_grid.specs.declared.config.rectangle.Rectangle.{Rectangle}
 use Rattle.tabled_grid.specs.declared.records.axis.Axis.{Axis}
 
 -- where a place is once a line is put in before line `from`: none where no index is left for it
@@ -14,7 +14,7 @@ shifted_place axis from p = if nat_lt (line_of axis p) from then Some p else (if
 
 -- an anchor there, with the size that it had
 abbrev pub shifted_anchor : Axis → ℕ → Rectangle → Option Rectangle
-shifted_anchor axis from e = option_map (λ (p : Position). (p, e.1)) (shifted_place axis from e.0)
+shifted_anchor axis from e = option_map (λ (p : Position). rectangle p e.size) (shifted_place axis from e.first)
 
 -- the anchors of a list where they are once a line is put in
 abbrev pub shifted_in : Axis → ℕ → List Rectangle → List Rectangle
@@ -22,12 +22,12 @@ shifted_in axis from es = filter_map (shifted_anchor axis from) es
 
 -- the map once a line is put in before line `from`: all its anchors from there on go one further, at once
 abbrev pub shifted : Axis → ℕ → SpanMap → SpanMap
-shifted axis from m = map.from_sorted (shifted_in axis from (map.entries m))
+shifted axis from m = map_of (shifted_in axis from (rectangles m))
 
 -- the rectangle of an anchor begins before a line and holds a cell of it
 abbrev pub crosses_line : Axis → ℕ → Rectangle → Bool
-crosses_line axis line e = nat_lt (line_of axis e.0) line && nat_lt line (line_of axis e.0 + lines_in axis e.1)
+crosses_line axis line e = nat_lt (line_of axis e.first) line && nat_lt line (line_of axis e.first + lines_in axis e.size)
 
 -- one of the rectangles does
 abbrev pub is_crossed : Axis → ℕ → SpanMap → Bool
-is_crossed axis line m = list_any (crosses_line axis line) (map.entries m)
+is_crossed axis line m = list_any (crosses_line axis line) (rectangles m)

@@ -1,38 +1,27 @@
 //! Sorted lists of anchors: which are hidden, and whether their rectangles lie well.
 
-ghost use Rattle.std.specs.Prelude.{false, true, ◌≡◌, ◌+◌, ◌≤◌, ◌∷◌, ◌++◌, IfOk, OnOk, T, drop, length, map, nat_lt, not, take};
-ghost use Rattle.std.specs.FinMap.{is_sorted};
+ghost use Rattle.std.specs.Prelude.{false, true, ◌≡◌, ◌≤◌, ◌∷◌, ◌++◌, IfOk, OnOk, drop, length, map, nat_lt, not, take};
 ghost use Rattle.std.specs.List.{AllWithin, filter, list_all, list_any};
 ghost use Rattle.std.specs.declared.cmp.Ordering.TheVariants.{Less};
 ghost use Rattle.std.specs.List.Sorted.{IsBinarySearchResult, IsSearchInRange};
-ghost use Rattle.tabled_grid.specs.Anchors.{dropped, is_hidden_in, is_past, lie_well, lies_inside, marked, meets, unless_held, anchor_of, with_sizes_in, without_first_at};
+ghost use Rattle.tabled_grid.specs.Anchors.{dropped, is_hidden_in, is_past, lie_well, marked, meets, unless_held, anchor_of, with_sizes_in, without_first_at};
 ghost use Rattle.tabled_grid.specs.Apart.{AreApart};
 ghost use Rattle.tabled_grid.specs.Rectangles.{heights_in, holds, reaches_across, reaches_down, widths_in};
-ghost use Rattle.tabled_grid.specs.Entity.{same_place};
-ghost use Rattle.tabled_grid.specs.Spans.{AreAnchors, Rectangle, position_cmp};
+ghost use Rattle.tabled_grid.specs.Spans.{AreAnchors, AreSorted, position_cmp, rectangle};
+ghost use Rattle.tabled_grid.specs.declared.config.rectangle.Rectangle.{Rectangle};
 
 use crate::config::position::Position;
-use crate::config::size::{Rectangle, Size};
+use crate::config::rectangle::{Rectangle, begins_before};
+use crate::config::size::Size;
 use std::alloc::{AllocError, Global};
 
 /// The index of the anchor at a place, or else that where it would stand.
 #[doc(hidden)]
 pub fn search(anchors: &[Rectangle], pos: Position) -> Result<usize, usize>
     ensures within { IsSearchInRange result (length anchors.now) }
-    ensures found { IsBinarySearchResult (λ (anchor : Rectangle). position_cmp anchor.0 pos) anchors.now result }
+    ensures found { IsBinarySearchResult (λ (anchor : Rectangle). position_cmp anchor.first pos) anchors.now result }
 {
-    anchors.binary_search_by_key(&pos, |anchor| anchor.0)
-}
-
-/// Says whether a rectangle holds a place.
-fn holds(anchor: Rectangle, pos: Position) -> bool
-    ensures { result ≡ holds anchor pos }
-{
-    let (first, size) = anchor;
-    first.row <= pos.row
-        && pos.row - first.row < size.height
-        && first.col <= pos.col
-        && pos.col - first.col < size.width
+    anchors.binary_search_by_key(&pos, |anchor| anchor.first)
 }
 
 /// Says whether the rectangle of an anchor at another place holds a place.
@@ -41,7 +30,7 @@ pub(super) fn is_hidden(anchors: &[Rectangle], pos: Position) -> bool
 {
     anchors
         .iter()
-        .any(|anchor| holds(*anchor, pos) && !is_same(anchor.0, pos))
+        .any(|anchor| anchor.holds(pos) && anchor.first != pos)
 }
 
 /// Says whether the rectangle of an anchor to the left in a place's row reaches it across.
@@ -49,7 +38,7 @@ pub(super) fn is_covered_across(anchors: &[Rectangle], pos: Position) -> bool
     ensures { result ≡ list_any (λ (e : Rectangle). reaches_across e pos) anchors.now }
 {
     anchors.iter().any(|anchor| {
-        let (first, size) = *anchor;
+        let Rectangle { first, size } = *anchor;
         first.row == pos.row && first.col < pos.col && pos.col - first.col < size.width
     })
 }
@@ -59,7 +48,7 @@ pub(super) fn is_covered_down(anchors: &[Rectangle], pos: Position) -> bool
     ensures { result ≡ list_any (λ (e : Rectangle). reaches_down e pos) anchors.now }
 {
     anchors.iter().any(|anchor| {
-        let (first, size) = *anchor;
+        let Rectangle { first, size } = *anchor;
         first.col == pos.col && first.row < pos.row && pos.row - first.row < size.height
     })
 }
@@ -74,8 +63,8 @@ pub(super) fn widths(
     anchors
         .iter()
         .filter_map(|anchor| {
-            let (pos, size) = *anchor;
-            (size.width > 1).then_some((pos, size.width))
+            let Rectangle { first, size } = *anchor;
+            (size.width > 1).then_some((first, size.width))
         })
         .collect(alloc)
 }
@@ -90,24 +79,17 @@ pub(super) fn heights(
     anchors
         .iter()
         .filter_map(|anchor| {
-            let (pos, size) = *anchor;
-            (size.height > 1).then_some((pos, size.height))
+            let Rectangle { first, size } = *anchor;
+            (size.height > 1).then_some((first, size.height))
         })
         .collect(alloc)
-}
-
-/// Says whether two places are one.
-fn is_same(a: Position, b: Position) -> bool
-    ensures { result ≡ same_place a b }
-{
-    a.row == b.row && a.col == b.col
 }
 
 /// Says whether a place comes after all cells of an anchor's rectangle, row by row.
 pub(super) fn is_past(anchor: Rectangle, pos: Position) -> bool
     ensures { result ≡ is_past anchor pos }
 {
-    let (first, size) = anchor;
+    let Rectangle { first, size } = anchor;
     if pos.row < first.row {
         return false;
     }
@@ -119,21 +101,24 @@ pub(super) fn is_past(anchor: Rectangle, pos: Position) -> bool
 /// Marks the anchors from an index on that an anchor before them holds, by an empty size.
 fn hide(anchors: &mut [Rectangle], first: usize, by: Rectangle)
     requires within { first ≤ length anchors.old }
-    requires sorted { T (is_sorted position_cmp (by ∷ drop first anchors.old)) }
+    requires sorted { AreSorted (by ∷ drop first anchors.old) }
     ensures { anchors.new ≡ take first anchors.old ++ map (unless_held by) (drop first anchors.old) }
 {
     let mut k = first;
     while k < anchors.len() {
-        let pos = anchors[k].0;
+        let pos = anchors[k].first;
         if is_past(by, pos) {
             return;
         }
-        if holds(by, pos) {
+        if by.holds(pos) {
             let empty = Size {
                 height: 0,
                 width: 0,
             };
-            anchors[k] = (pos, empty);
+            anchors[k] = Rectangle {
+                first: pos,
+                size: empty,
+            };
             k += 1;
         } else {
             k += 1 + beside(&anchors[k + 1..], by, pos);
@@ -144,12 +129,12 @@ fn hide(anchors: &mut [Rectangle], first: usize, by: Rectangle)
 /// How many of the anchors after a place outside of a rectangle stand there before the row that the
 /// rectangle next reaches, and before the rectangle in that row.
 fn beside(anchors: &[Rectangle], by: Rectangle, pos: Position) -> usize
-    requires sorted { T (is_sorted position_cmp ((pos, by.1) ∷ anchors.now)) }
+    requires sorted { AreSorted (rectangle pos by.size ∷ anchors.now) }
     requires out { holds by pos ≡ false }
     ensures within { result ≤ length anchors.now }
     ensures free { map (unless_held by) (take result anchors.now) ≡ take result anchors.now }
 {
-    let left = by.0.col;
+    let left = by.first.col;
     let row = if pos.col < left {
         pos.row
     } else {
@@ -162,7 +147,7 @@ fn beside(anchors: &[Rectangle], by: Rectangle, pos: Position) -> usize
 
 /// Marks the anchors that another holds, by an empty size.
 fn mark_hidden(anchors: &mut [Rectangle])
-    requires { T (is_sorted position_cmp anchors.old) }
+    requires { AreSorted anchors.old }
     ensures { anchors.new ≡ marked anchors.old }
 {
     for i in (0..anchors.len()).rev() {
@@ -182,28 +167,9 @@ pub(super) fn drop_hidden(anchors: &mut Vec<Rectangle>)
 
 /// Removes the anchors of an empty size.
 fn drop_empty(anchors: &mut Vec<Rectangle>)
-    ensures { anchors.new.items ≡ filter (λ (e : Rectangle). nat_lt 0 e.1.height) anchors.old.items }
+    ensures { anchors.new.items ≡ filter (λ (e : Rectangle). nat_lt 0 e.size.height) anchors.old.items }
 {
-    anchors.retain(|anchor| anchor.1.height > 0);
-}
-
-/// Says whether the rectangles of two anchors share a cell.
-pub(super) fn meet(a: Rectangle, b: Rectangle) -> bool
-    ensures { result ≡ meets a b }
-{
-    let (p, size) = a;
-    let (q, other) = b;
-    begins_before(p.row, q.row, other.height)
-        && begins_before(q.row, p.row, size.height)
-        && begins_before(p.col, q.col, other.width)
-        && begins_before(q.col, p.col, size.width)
-}
-
-/// Says whether an index is below the end of n indexes from another on.
-fn begins_before(index: usize, first: usize, many: usize) -> bool
-    ensures { result ≡ nat_lt index (first + many) }
-{
-    index < first || index - first < many
+    anchors.retain(|anchor| anchor.size.height > 0);
 }
 
 /// Says whether no rectangle after an anchor's meets it, where those lie apart from one another.
@@ -219,13 +185,13 @@ fn is_apart(anchors: &[Rectangle], first: usize, from: Rectangle) -> bool
     let mut k = first;
     while k < anchors.len() {
         let anchor = anchors[k];
-        if is_past(from, anchor.0) {
+        if is_past(from, anchor.first) {
             return true;
         }
-        if meet(from, anchor) {
+        if from.meets(anchor) {
             return false;
         }
-        k += 1 + beyond(&anchors[k + 1..], from, anchor.0);
+        k += 1 + beyond(&anchors[k + 1..], from, anchor.first);
     }
     true
 }
@@ -233,12 +199,12 @@ fn is_apart(anchors: &[Rectangle], first: usize, from: Rectangle) -> bool
 /// How many of the anchors after a place need no test: those in its row, where it is right of a
 /// rectangle, and those left of the rectangle but the nearest, where it is left of it.
 fn beyond(anchors: &[Rectangle], from: Rectangle, pos: Position) -> usize
-    requires anchors { AreAnchors ((pos, from.1) ∷ anchors.now) }
+    requires anchors { AreAnchors (rectangle pos from.size ∷ anchors.now) }
     requires apart { AreApart anchors.now }
     ensures within { result ≤ length anchors.now }
     ensures apart { list_all (λ (e : Rectangle). not (meets from e)) (take result anchors.now) ≡ true }
 {
-    let left = from.0.col;
+    let left = from.first.col;
     if pos.col < left {
         return count_before(anchors, Position::new(pos.row, left)).saturating_sub(1);
     }
@@ -247,11 +213,11 @@ fn beyond(anchors: &[Rectangle], from: Rectangle, pos: Position) -> usize
 
 /// How many of the anchors after a place stand in its row, where it is right of a rectangle.
 pub(super) fn rest_of_row(anchors: &[Rectangle], from: Rectangle, pos: Position) -> usize
-    requires { T (is_sorted position_cmp ((pos, from.1) ∷ anchors.now)) }
+    requires { AreSorted (rectangle pos from.size ∷ anchors.now) }
     ensures within { result ≤ length anchors.now }
     ensures apart { list_all (λ (e : Rectangle). not (meets from e)) (take result anchors.now) ≡ true }
 {
-    let (first, size) = from;
+    let Rectangle { first, size } = from;
     if begins_before(pos.col, first.col, size.width) {
         return 0;
     }
@@ -260,24 +226,13 @@ pub(super) fn rest_of_row(anchors: &[Rectangle], from: Rectangle, pos: Position)
 
 /// How many anchors stand before a place.
 fn count_before(anchors: &[Rectangle], pos: Position) -> usize
-    requires { T (is_sorted position_cmp anchors.now) }
+    requires { AreSorted anchors.now }
     ensures within { result ≤ length anchors.now }
-    ensures before { AllWithin (λ (e : Rectangle). position_cmp e.0 pos ≡ Less) anchors.now 0 result }
+    ensures before { AllWithin (λ (e : Rectangle). position_cmp e.first pos ≡ Less) anchors.now 0 result }
 {
     match search(anchors, pos) {
         Ok(i) | Err(i) => i,
     }
-}
-
-/// Says whether the rectangle of an anchor lies inside a table.
-pub(super) fn is_inside(anchor: Rectangle, rows: usize, columns: usize) -> bool
-    ensures { result ≡ lies_inside rows columns anchor }
-{
-    let (first, size) = anchor;
-    size.height <= rows
-        && first.row <= rows - size.height
-        && size.width <= columns
-        && first.col <= columns - size.width
 }
 
 /// Says whether all rectangles lie inside a table and no two of them share a cell.
@@ -287,7 +242,7 @@ pub(super) fn fit(anchors: &[Rectangle], rows: usize, columns: usize) -> bool
 {
     for first in (0..anchors.len()).rev() {
         let anchor = anchors[first];
-        if !is_inside(anchor, rows, columns) || !is_apart(anchors, first + 1, anchor) {
+        if !anchor.is_inside(rows, columns) || !is_apart(anchors, first + 1, anchor) {
             return false;
         }
     }
@@ -300,8 +255,8 @@ pub(super) fn merge(
     anchors: &[Rectangle],
     sizes: &[Rectangle],
 ) -> Result<Vec<Rectangle>, AllocError>
-    requires anchors { T (is_sorted position_cmp anchors.now) }
-    requires sizes { T (is_sorted position_cmp sizes.now) }
+    requires anchors { AreSorted anchors.now }
+    requires sizes { AreSorted sizes.now }
     ensures { IfOk result (λ merged. merged.items ≡ with_sizes_in anchors.now sizes.now) }
 {
     let Some(count) = anchors.len().checked_add(sizes.len()) else {
@@ -310,13 +265,14 @@ pub(super) fn merge(
     let mut merged = Vec::with_capacity(alloc, count)?;
     let mut next = 0;
     for k in 0..sizes.len() {
-        let (pos, size) = sizes[k];
-        while next < anchors.len() && anchors[next].0.cmp(&pos).is_lt() {
+        let size = sizes[k];
+        let pos = size.first;
+        while next < anchors.len() && anchors[next].first.cmp(&pos).is_lt() {
             merged.push(anchors[next])?;
             next += 1;
         }
         next = after(anchors, next, pos);
-        push_anchor(&mut merged, pos, size)?;
+        push_anchor(&mut merged, size)?;
     }
     merged.extend_from_slice(&anchors[next..])?;
     Ok(merged)
@@ -328,20 +284,20 @@ fn after(anchors: &[Rectangle], next: usize, pos: Position) -> usize
     ensures within { result ≤ length anchors.now }
     ensures after { drop result anchors.now ≡ without_first_at pos (drop next anchors.now) }
 {
-    if next < anchors.len() && anchors[next].0.cmp(&pos).is_eq() {
+    if next < anchors.len() && anchors[next].first.cmp(&pos).is_eq() {
         next + 1
     } else {
         next
     }
 }
 
-/// Puts an anchor of a size last, unless the size is that of one cell.
-fn push_anchor(anchors: &mut Vec<Rectangle>, pos: Position, size: Size) -> Result<(), AllocError>
-    ensures { OnOk result (anchors.new.items ≡ anchors.old.items ++ anchor_of (pos, size)) }
+/// Puts a rectangle last, unless it is one cell.
+fn push_anchor(anchors: &mut Vec<Rectangle>, anchor: Rectangle) -> Result<(), AllocError>
+    ensures { OnOk result (anchors.new.items ≡ anchors.old.items ++ anchor_of anchor) }
 {
-    if size.height == 1 && size.width == 1 {
+    if anchor.size.is_cell() {
         return Ok(());
     }
-    anchors.push((pos, size))?;
+    anchors.push(anchor)?;
     Ok(())
 }

@@ -1,15 +1,15 @@
 //! Which cells of a table are hidden, for quick answers.
 
-ghost use Rattle.std.specs.Prelude.{◌≡◌, ◌+◌, ◌*◌, ◌<◌, ◌≤◌, ◌^◌, ℕ, T, IfOk, IsOk, take};
-ghost use Rattle.std.specs.FinMap.{is_sorted};
+ghost use Rattle.std.specs.Prelude.{◌≡◌, ◌+◌, ◌*◌, ◌<◌, ◌≤◌, ◌^◌, ℕ, IfOk, IsOk, take};
 ghost use Rattle.tabled_grid.specs.CellCounts.{CountsBlock, IsFew, IsMany, counts_of};
 ghost use Rattle.tabled_grid.specs.Covers.{beyond, cover_in, cover_of, hiders_in, hiders_of, table};
 ghost use Rattle.tabled_grid.specs.Hidden.{is_hidden};
-ghost use Rattle.tabled_grid.specs.Spans.{SpanMap, position_cmp, size_at, with_size};
+ghost use Rattle.tabled_grid.specs.Spans.{AreSorted, SpanMap, size_at, with_size};
 
 use crate::config::hiders::{count_each, follow};
 use crate::config::position::Position;
-use crate::config::size::{Rectangle, Size};
+use crate::config::rectangle::Rectangle;
+use crate::config::size::Size;
 use crate::config::spanned_config::SpannedConfig;
 use std::alloc::{AllocError, Global};
 use std::marker::Model;
@@ -137,7 +137,7 @@ impl CellCounts {
         rows: usize,
         columns: usize,
     ) -> Result<Self, AllocError>
-        requires sorted { T (is_sorted position_cmp anchors.now) }
+        requires sorted { AreSorted anchors.now }
         requires bottom { first.row + rows < 2 ^ 64 }
         requires right { first.col + columns < 2 ^ 64 }
         ensures count { IfOk result (λ _. rows * columns < 2 ^ 64) }
@@ -189,7 +189,7 @@ impl CellCounts {
 
 /// Counts the anchors that hide each cell of a small block.
 fn count_few(anchors: &[Rectangle], first: Position, rows: usize, columns: usize) -> [u128; FEW]
-    requires sorted { T (is_sorted position_cmp anchors.now) }
+    requires sorted { AreSorted anchors.now }
     requires few { rows * columns ≤ 8 }
     requires bottom { first.row + rows < 2 ^ 64 }
     requires right { first.col + columns < 2 ^ 64 }
@@ -210,7 +210,7 @@ fn count_many(
     rows: usize,
     columns: usize,
 ) -> Result<Vec<usize>, AllocError>
-    requires sorted { T (is_sorted position_cmp anchors.now) }
+    requires sorted { AreSorted anchors.now }
     requires bottom { first.row + rows < 2 ^ 64 }
     requires right { first.col + columns < 2 ^ 64 }
     ensures is_many { IfOk result (λ counts. IsMany counts.items first rows columns) }

@@ -1,14 +1,14 @@
 //! Merged cells that fit a table.
 
-ghost use Rattle.std.specs.Prelude.{◌≡◌, ◌∷◌, ◌↔◌, IfOk, IsOk, IsTrue, OnErr, OnOk, T, length, not};
-ghost use Rattle.std.specs.FinMap.{is_sorted};
+ghost use Rattle.std.specs.Prelude.{◌≡◌, ◌∷◌, ◌↔◌, IfOk, IsOk, IsTrue, OnErr, OnOk, length, not};
 ghost use Rattle.std.specs.List.{list_all};
 ghost use Rattle.tabled_grid.specs.Anchors.{meets};
 ghost use Rattle.tabled_grid.specs.Fitting.{Fits, fitting, keep_fitting, with_met};
-ghost use Rattle.tabled_grid.specs.Spans.{AreSpanSizes, Rectangle, position_cmp};
+ghost use Rattle.tabled_grid.specs.Spans.{AreSorted, AreSpanSizes};
+ghost use Rattle.tabled_grid.specs.declared.config.rectangle.Rectangle.{Rectangle};
 
-use crate::config::anchors::{self, is_inside, is_past, meet, rest_of_row};
-use crate::config::size::Rectangle;
+use crate::config::anchors::{self, is_past, rest_of_row};
+use crate::config::rectangle::Rectangle;
 use crate::config::spanned_config::SpannedConfig;
 use std::alloc::{AllocError, Global};
 
@@ -69,7 +69,7 @@ fn fitting(
     rows: usize,
     columns: usize,
 ) -> Result<Vec<Rectangle>, AllocError>
-    requires { T (is_sorted position_cmp anchors.now) }
+    requires { AreSorted anchors.now }
     ensures { IfOk result (λ kept. kept.items ≡ fitting rows columns anchors.now) }
 {
     let mut marks = vec![in alloc; false; anchors.len()]?;
@@ -78,7 +78,7 @@ fn fitting(
         let from = anchors[i];
         let is_met = marks[i];
         let alone = mark_met(&anchors[i + 1..], &mut marks[i + 1..], from);
-        if alone && !is_met && is_inside(from, rows, columns) {
+        if alone && !is_met && from.is_inside(rows, columns) {
             kept.push(from)?;
         }
     }
@@ -88,7 +88,7 @@ fn fitting(
 /// Marks the anchors after one that its rectangle meets, and says whether there are none.
 fn mark_met(anchors: &[Rectangle], marks: &mut [bool], from: Rectangle) -> bool
     requires marks { length marks.old ≡ length anchors.now }
-    requires sorted { T (is_sorted position_cmp (from ∷ anchors.now)) }
+    requires sorted { AreSorted (from ∷ anchors.now) }
     ensures alone { result ≡ list_all (λ (e : Rectangle). not (meets from e)) anchors.now }
     ensures marked { marks.new ≡ with_met from anchors.now marks.old }
 {
@@ -96,15 +96,15 @@ fn mark_met(anchors: &[Rectangle], marks: &mut [bool], from: Rectangle) -> bool
     let mut k = 0;
     while k < anchors.len() {
         let anchor = anchors[k];
-        if is_past(from, anchor.0) {
+        if is_past(from, anchor.first) {
             return alone;
         }
-        if meet(from, anchor) {
+        if from.meets(anchor) {
             alone = false;
             marks[k] = true;
             k += 1;
         } else {
-            k += 1 + rest_of_row(&anchors[k + 1..], from, anchor.0);
+            k += 1 + rest_of_row(&anchors[k + 1..], from, anchor.first);
         }
     }
     alone

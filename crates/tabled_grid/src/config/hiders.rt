@@ -1,13 +1,13 @@
 //! Work on the numbers of anchors that hide each cell of a block, row by row.
 
-ghost use Rattle.std.specs.Prelude.{◌≡◌, ◌+◌, ◌*◌, ◌-◌, ◌^◌, ◌<◌, ◌≤◌, T, length, map, max, min, replicate};
-ghost use Rattle.std.specs.FinMap.{is_sorted};
+ghost use Rattle.std.specs.Prelude.{◌≡◌, ◌+◌, ◌*◌, ◌-◌, ◌^◌, ◌<◌, ◌≤◌, length, map, max, min, replicate};
 ghost use Rattle.tabled_grid.specs.Covers.{IsNumbered, Steps, beyond, hiders_in, hiders_of, hides, in_run, table};
-ghost use Rattle.tabled_grid.specs.Spans.{SpanMap, position_cmp, size_at, with_size};
+ghost use Rattle.tabled_grid.specs.Spans.{AreSorted, SpanMap, size_at, with_size};
 
 use crate::config::count::Count;
 use crate::config::position::Position;
-use crate::config::size::{Rectangle, Size};
+use crate::config::rectangle::Rectangle;
+use crate::config::size::Size;
 
 /// Counts for each cell of a block, from none on, the anchors that hide it.
 pub(super) fn count_each<N: Count>(
@@ -18,7 +18,7 @@ pub(super) fn count_each<N: Count>(
     columns: usize,
 )
     requires none { map N.value hiders.old ≡ replicate (rows * columns) 0 }
-    requires sorted { T (is_sorted position_cmp anchors.now) }
+    requires sorted { AreSorted anchors.now }
     requires fits { IsNumbered N.limit first rows columns }
     ensures size { length hiders.new ≡ rows * columns }
     ensures counted { map N.value hiders.new ≡ table (λ p. hiders_in anchors.now (beyond first p)) rows columns }
@@ -43,8 +43,16 @@ pub(super) fn follow<N: Count>(
     ensures size { length hiders.new ≡ rows * columns }
     ensures map { (m : SpanMap) → size_at m pos ≡ old → map N.value hiders.old ≡ table (λ p. hiders_of m (beyond first p)) rows columns → map N.value hiders.new ≡ table (λ p. hiders_of (with_size m pos new) (beyond first p)) rows columns }
 {
-    step_each(hiders, first, rows, columns, (pos, old), N::greatest());
-    step_each(hiders, first, rows, columns, (pos, new), N::one());
+    let was = Rectangle {
+        first: pos,
+        size: old,
+    };
+    let is = Rectangle {
+        first: pos,
+        size: new,
+    };
+    step_each(hiders, first, rows, columns, was, N::greatest());
+    step_each(hiders, first, rows, columns, is, N::one());
 }
 
 /// Steps the number of each cell of a block that an anchor hides, round the limit.
@@ -61,7 +69,7 @@ pub(super) fn step_each<N: Count>(
     ensures size { length hiders.new ≡ rows * columns }
     ensures steps { Steps (map N.value hiders.old) (map N.value hiders.new) (λ p. hides (beyond first p) anchor) (N.value step) N.limit rows columns }
 {
-    let (at, size) = anchor;
+    let Rectangle { first: at, size } = anchor;
     let top = at.row.saturating_sub(first.row);
     let bottom = at.row.saturating_add(size.height).saturating_sub(first.row);
     let right = at.col.saturating_add(size.width).saturating_sub(first.col);

@@ -4,27 +4,29 @@ ghost use Rattle.std.specs.Prelude.{◌≡◌, map};
 ghost use Rattle.std.specs.Option.{unwrap_or};
 ghost use Rattle.std.specs.List.{list_any};
 ghost use Rattle.tabled_grid.specs.Shifts.{crosses_line, shifted_in, shifted_place};
-ghost use Rattle.tabled_grid.specs.Spans.{Rectangle};
+ghost use Rattle.tabled_grid.specs.Spans.{rectangle};
+ghost use Rattle.tabled_grid.specs.declared.config.rectangle.Rectangle.{Rectangle};
 
 use crate::config::position::Position;
-use crate::config::size::Rectangle;
+use crate::config::rectangle::Rectangle;
 use crate::records::Axis;
 
 /// Moves all anchors from a line on one line further. One that has no index left goes away.
 pub(super) fn shift(anchors: &mut Vec<Rectangle>, axis: Axis, from: usize)
     ensures { anchors.new.items ≡ shifted_in axis from anchors.old.items }
 {
-    anchors.retain(|anchor| place_once_shifted(axis, from, anchor.0).is_some());
+    anchors.retain(|anchor| place_once_shifted(axis, from, anchor.first).is_some());
     shift_each(anchors, axis, from);
 }
 
 /// Moves anchors from a line on one line further, where an index is left.
 fn shift_each(anchors: &mut [Rectangle], axis: Axis, from: usize)
-    ensures { anchors.new ≡ map (λ (e : Rectangle). (unwrap_or (shifted_place axis from e.0) e.0, e.1)) anchors.old }
+    ensures { anchors.new ≡ map (λ (e : Rectangle). rectangle (unwrap_or (shifted_place axis from e.first) e.first) e.size) anchors.old }
 {
     for k in 0..anchors.len() {
-        let (pos, size) = anchors[k];
-        anchors[k] = (place_once_shifted(axis, from, pos).unwrap_or(pos), size);
+        let Rectangle { first, size } = anchors[k];
+        let first = place_once_shifted(axis, from, first).unwrap_or(first);
+        anchors[k] = Rectangle { first, size };
     }
 }
 
@@ -33,9 +35,8 @@ pub(super) fn cross(anchors: &[Rectangle], axis: Axis, line: usize) -> bool
     ensures { result ≡ list_any (crosses_line axis line) anchors.now }
 {
     anchors.iter().any(|anchor| {
-        let (pos, size) = *anchor;
-        let first = axis.line_of(pos);
-        first < line && line - first < axis.lines_in(size)
+        let first = axis.line_of(anchor.first);
+        first < line && line - first < axis.lines_in(anchor.size)
     })
 }
 

@@ -1,6 +1,6 @@
 //! Heights and widths of rectangles.
 
-use crate::config::position::Position;
+ghost use Rattle.std.specs.Prelude.{◌≡◌};
 
 /// How many rows and how many columns a rectangle of cells takes.
 ///
@@ -11,7 +11,19 @@ pub struct Size {
     pub width: usize,
 }
 
-/// A rectangle of cells: the place that it is anchored at, which is its first cell, and its size.
-///
-/// Of this project.
-pub type Rectangle = (Position, Size);
+impl Size {
+    ghost use Rattle.tabled_grid.specs.Spans.{is_cell};
+
+    /// One row and one column.
+    pub const CELL: Size = Size {
+        height: 1,
+        width: 1,
+    };
+
+    /// Says whether this is the size of one cell.
+    pub fn is_cell(self) -> bool
+        ensures { result ≡ is_cell self }
+    {
+        self.height == 1 && self.width == 1
+    }
+}

@@ -1,16 +1,17 @@
 //! Which cells are merged.
 
-ghost use Rattle.std.specs.Prelude.{◌≡◌, ◌<◌, ◌≤◌, ◌↔◌, ◌⊎◌, IfOk, IsOk, IsSome, IsTrue, OnErr, OnOk, SomeIff, T, length};
+ghost use Rattle.std.specs.Prelude.{◌≡◌, ◌<◌, ◌≤◌, ◌↔◌, ◌⊎◌, IfOk, IsOk, IsSome, IsTrue, OnErr, OnOk, SomeIff};
 ghost use Rattle.std.specs.FinMap as map;
-ghost use Rattle.std.specs.FinMap.{is_sorted};
 ghost use Rattle.std.specs.List.{AllByRecursion};
+ghost use Rattle.tabled_grid.specs.Axis.{with_span};
 ghost use Rattle.tabled_grid.specs.Rectangles.{column_spans, is_covered_across, is_covered_down, row_spans};
 ghost use Rattle.tabled_grid.specs.Hidden.{drop_hidden, is_visible};
 ghost use Rattle.tabled_grid.specs.Shifts.{is_crossed, shifted};
-ghost use Rattle.tabled_grid.specs.Spans.{AreAnchors, AreSpanSizes, IsSizeAt, IsSpanSize, position_cmp, size_at, sized, with_column_span, with_row_span, with_size, with_sizes};
+ghost use Rattle.tabled_grid.specs.Spans.{AreAnchors, AreSorted, AreSpanSizes, IsSizeAt, IsSpanSize, map_of, rectangles, size_at, sized, with_column_span, with_row_span, with_size, with_sizes};
 
 use crate::config::position::Position;
-use crate::config::size::{Rectangle, Size};
+use crate::config::rectangle::Rectangle;
+use crate::config::size::Size;
 use crate::config::{anchors, shifts};
 use crate::records::Axis;
 use std::alloc::{AllocError, Global};
@@ -24,19 +25,18 @@ use std::marker::Model;
 /// Ported from the spans of `tabled::grid::config::SpannedConfig`.
 #[derive(Drop)]
 pub struct SpannedConfig {
-    /// The anchors and the size of each, row by row.
+    /// All rectangles, row by row.
     anchors: Vec<Rectangle>,
 }
 
 impl Model for SpannedConfig {
-    ghost use Rattle.std.specs.FinMap as map;
-    ghost use Rattle.tabled_grid.specs.Spans.{AreAnchors, SpanMap, span_code};
+    ghost use Rattle.tabled_grid.specs.Spans.{AreAnchors, SpanMap, map_of, span_code};
 
     ghost Value = { SpanMap };
 
     ghost coded = { span_code };
 
-    ghost view = { λ a. map.from_sorted a.anchors.items };
+    ghost view = { λ a. map_of a.anchors.items };
 
     ghost invariant = { λ a. AreAnchors a.anchors.items };
 }
@@ -54,18 +54,34 @@ impl SpannedConfig {
         config
     }
 
-    /// The rectangles of a list of anchors, which stand row by row, each once, with more than one cell each.
+    /// The rectangles of a list, of more than one cell each, which stand row by row, one at each anchor.
     ///
     /// Of this project.
     #[doc(hidden)]
     pub fn from_anchors(anchors: Vec<Rectangle>) -> Self
         requires { AreAnchors anchors.items }
-        ensures anchors { result ≡ map.from_sorted anchors.items }
+        ensures anchors { result ≡ map_of anchors.items }
         ensures sizes { AreSpanSizes result }
     {
         let config = SpannedConfig { anchors };
         config.keeps_sizes();
         config
+    }
+
+    /// The size of the rectangle that is anchored at a place, that of one cell where there is none.
+    ///
+    /// Of this project: the original has a call for the height and one for the width.
+    pub fn size(&self, pos: Position) -> Size
+        ensures value { result ≡ size_at self.now pos }
+        ensures sizes { AreSpanSizes self.now }
+        ensures height { 1 ≤ result.height }
+        ensures width { 1 ≤ result.width }
+    {
+        self.keeps_sizes();
+        match anchors::search(&self.anchors, pos) {
+            Ok(i) => self.anchors[i].size,
+            Err(_) => Size::CELL,
+        }
     }
 
     /// The width of the rectangle that is anchored at a place, if that is above 1.
@@ -90,15 +106,38 @@ impl SpannedConfig {
         (height > 1).then_some(height)
     }
 
-    /// Sets the width of the rectangle that is anchored at a place, and leaves its height. A width of 0
-    /// changes nothing. A rectangle of one cell is none.
+    /// Sets how many rows, or columns, the rectangle takes that is anchored at a place, and leaves its other
+    /// side. A number of 0 changes nothing. A rectangle of one cell is none.
     ///
     /// Memory is taken only for a new anchor. Refused, it changes nothing.
+    ///
+    /// Of this project: the original has `set_row_span` and `set_column_span`.
+    pub fn set_span(
+        &mut self,
+        _alloc: Global,
+        axis: Axis,
+        pos: Position,
+        many: usize,
+    ) -> Result<(), AllocError>
+        ensures ok { OnOk result (self.new ≡ with_span axis self.old pos many) }
+        ensures err { OnErr result (self.new ≡ self.old) }
+        ensures sizes { AreSpanSizes self.new }
+        ensures promised { (many ≤ 1) ⊎ IsSome (map.get self.old pos) → IsOk result }
+    {
+        if many == 0 {
+            self.keeps_sizes();
+            return Ok(());
+        }
+        let size = axis.resized(self.size(pos), many);
+        self.set_size(pos, size)
+    }
+
+    /// Sets the width of the rectangle that is anchored at a place, as `set_span` does.
     ///
     /// Ported from `tabled::grid::config::SpannedConfig::set_column_span`.
     pub fn set_column_span(
         &mut self,
-        _alloc: Global,
+        alloc: Global,
         pos: Position,
         width: usize,
     ) -> Result<(), AllocError>
@@ -107,23 +146,15 @@ impl SpannedConfig {
         ensures sizes { AreSpanSizes self.new }
         ensures promised { (width ≤ 1) ⊎ IsSome (map.get self.old pos) → IsOk result }
     {
-        if width == 0 {
-            self.keeps_sizes();
-            return Ok(());
-        }
-        let height = self.size(pos).height;
-        self.set_size(pos, Size { height, width })
+        self.set_span(alloc, Axis::Columns, pos, width)
     }
 
-    /// Sets the height of the rectangle that is anchored at a place, and leaves its width. A height of 0
-    /// changes nothing. A rectangle of one cell is none.
-    ///
-    /// Memory is taken only for a new anchor. Refused, it changes nothing.
+    /// Sets the height of the rectangle that is anchored at a place, as `set_span` does.
     ///
     /// Ported from `tabled::grid::config::SpannedConfig::set_row_span`.
     pub fn set_row_span(
         &mut self,
-        _alloc: Global,
+        alloc: Global,
         pos: Position,
         height: usize,
     ) -> Result<(), AllocError>
@@ -132,12 +163,7 @@ impl SpannedConfig {
         ensures sizes { AreSpanSizes self.new }
         ensures promised { (height ≤ 1) ⊎ IsSome (map.get self.old pos) → IsOk result }
     {
-        if height == 0 {
-            self.keeps_sizes();
-            return Ok(());
-        }
-        let width = self.size(pos).width;
-        self.set_size(pos, Size { height, width })
+        self.set_span(alloc, Axis::Rows, pos, height)
     }
 
     /// Sets the sizes of many rectangles at once, where that of one cell stands for no anchor. The places
@@ -148,7 +174,7 @@ impl SpannedConfig {
     ///
     /// Of this project.
     pub fn set_sizes(&mut self, alloc: Global, sizes: &[Rectangle]) -> Result<(), AllocError>
-        requires sorted { T (is_sorted position_cmp sizes.now) }
+        requires sorted { AreSorted sizes.now }
         requires each { AllByRecursion IsSizeAt sizes.now }
         ensures ok { OnOk result (self.new ≡ with_sizes self.old sizes.now) }
         ensures err { OnErr result (self.new ≡ self.old) }
@@ -167,23 +193,23 @@ impl SpannedConfig {
         }
     }
 
-    /// The anchors of all rectangles and the size of each, row by row.
+    /// All rectangles, row by row.
     ///
     /// Of this project.
     pub fn anchors(&self) -> &[Rectangle]
-        ensures anchors { result.now ≡ map.entries self.now }
+        ensures anchors { result.now ≡ rectangles self.now }
         ensures sizes { AreSpanSizes self.now }
     {
         self.keeps_sizes();
         &self.anchors
     }
 
-    /// The anchors of all rectangles and the size of each, row by row, in a list to write into.
+    /// All rectangles, row by row, in a list to write into.
     ///
     /// Of this project.
     #[doc(hidden)]
     pub fn into_anchors(self) -> Vec<Rectangle>
-        ensures anchors { result.items ≡ map.entries self }
+        ensures anchors { result.items ≡ rectangles self }
         ensures sizes { AreSpanSizes self }
     {
         self.keeps_sizes();
@@ -301,7 +327,7 @@ impl SpannedConfig {
         ensures sizes { AreSpanSizes self.new }
         ensures promised { (size ≡ sized 1 1) ⊎ IsSome (map.get self.old pos) → IsOk result }
     {
-        let set = if size.height == 1 && size.width == 1 {
+        let set = if size.is_cell() {
             self.remove(pos);
             Ok(())
         } else {
@@ -320,11 +346,11 @@ impl SpannedConfig {
     {
         match anchors::search(&self.anchors, pos) {
             Ok(i) => {
-                self.anchors[i] = (pos, size);
+                self.anchors[i] = Rectangle { first: pos, size };
                 Ok(())
             }
             Err(i) => {
-                self.anchors.insert(i, (pos, size))?;
+                self.anchors.insert(i, Rectangle { first: pos, size })?;
                 Ok(())
             }
         }
@@ -347,22 +373,5 @@ impl SpannedConfig {
         ensures { AreSpanSizes self.now }
     {
         let _ = &self.anchors;
-    }
-
-    /// The size at a place, that of one cell where there is no anchor.
-    fn size(&self, pos: Position) -> Size
-        ensures value { result ≡ size_at self.now pos }
-        ensures sizes { AreSpanSizes self.now }
-        ensures height { 1 ≤ result.height }
-        ensures width { 1 ≤ result.width }
-    {
-        self.keeps_sizes();
-        match anchors::search(&self.anchors, pos) {
-            Ok(i) => self.anchors[i].1,
-            Err(_) => Size {
-                height: 1,
-                width: 1,
-            },
-        }
     }
 }

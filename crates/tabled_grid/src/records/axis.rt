@@ -1,6 +1,6 @@
 //! Rows or columns of a store.
 
-ghost use Rattle.std.specs.Prelude.{◌≡◌, ◌<◌};
+ghost use Rattle.std.specs.Prelude.{◌≡◌, ◌<◌, ◌≤◌};
 ghost use Rattle.std.specs.List.{swap};
 ghost use Rattle.tabled_grid.specs.Along.{along, count_along};
 ghost use Rattle.tabled_grid.specs.Axis.{across, count_of, in_line, line_of, lines_in, place_in, resized};
@@ -95,7 +95,9 @@ impl Axis {
     /// The size with n lines.
     #[doc(hidden)]
     pub fn resized(self, size: Size, many: usize) -> Size
-        ensures { result ≡ resized self size many }
+        ensures size { result ≡ resized self size many }
+        ensures height { 1 ≤ size.height → 1 ≤ many → 1 ≤ result.height }
+        ensures width { 1 ≤ size.width → 1 ≤ many → 1 ≤ result.width }
     {
         match self {
             Axis::Rows => Size {

@@ -1,10 +1,10 @@
 //! Stores that can grow and shrink.
 
 ghost use Rattle.std.specs.Prelude.{◌≡◌, ◌<◌, ◌≤◌, IsOk, OnErr, OnOk};
-ghost use Rattle.tabled_grid.specs.Along.{count_along, first_along};
+ghost use Rattle.tabled_grid.specs.Along.{count_along, first_along, without_line};
 ghost use Rattle.tabled_grid.specs.Bulk.{AddsColumns, AddsRows, transposed};
 ghost use Rattle.tabled_grid.specs.Grid.{IsEmptyWithoutRows, IsInside};
-ghost use Rattle.tabled_grid.specs.AddedLines.{AddsLines};
+ghost use Rattle.tabled_grid.specs.AddedLines.{AddsLines, InsertsLine};
 ghost use Rattle.tabled_grid.specs.Axis.{across};
 ghost use Rattle.tabled_grid.specs.Pieces.{cut_places};
 ghost use Rattle.tabled_grid.specs.Places.{FillsThrough};
@@ -268,6 +268,38 @@ where
         match axis {
             Axis::Rows => self.push_rows(alloc, many),
             Axis::Columns => self.push_columns(alloc, many),
+        }
+    }
+
+    /// Inserts a row, or a column, of blanks before another, or last. Without rows there is no column, and
+    /// none is inserted. Refused, it leaves the store as it was.
+    ///
+    /// Of this project.
+    fn insert_line(&mut self, alloc: Global, axis: Axis, line: usize) -> Result<(), AllocError>
+        requires well { Self.is_well_formed self.old }
+        requires within { line ≤ count_along axis (Self.grid self.old) }
+        ensures well { Self.is_well_formed self.new }
+        ensures ok { OnOk result (InsertsLine Self.Cell.is_blank axis (Self.grid self.old) (Self.grid self.new) line) }
+        ensures err { OnErr result (Self.grid self.new ≡ Self.grid self.old) }
+    {
+        match axis {
+            Axis::Rows => self.insert_row(alloc, line),
+            Axis::Columns => self.insert_column(alloc, line),
+        }
+    }
+
+    /// Removes a row, or a column. The last row takes all columns with it.
+    ///
+    /// Of this project.
+    fn remove_line(&mut self, axis: Axis, line: usize)
+        requires well { Self.is_well_formed self.old }
+        requires within { line < count_along axis (Self.grid self.old) }
+        ensures well { Self.is_well_formed self.new }
+        ensures removed { Self.grid self.new ≡ without_line axis line (Self.grid self.old) }
+    {
+        match axis {
+            Axis::Rows => self.remove_row(line),
+            Axis::Columns => self.remove_column(line),
         }
     }
 

@@ -15,5 +15,5 @@ beyond-requires-clause-apart c = apart_after c.args.anchors.now c.args.first c.l
 pub loop-k-preserved : goal.loop-k-preserved
 loop-k-preserved c = record {
   low = omega (arith, c.loop-k.invariant.low);
-  rest = apart_over c.args.from c.args.anchors.now c.loop-k.k c.beyond.result _ _ c.loop-k-test.true (sym c.meet.ensures ∙ c.if-meet.false) c.beyond.ensures.apart c.loop-k.invariant.rest;
+  rest = apart_over c.args.from c.args.anchors.now c.loop-k.k c.beyond.result _ _ c.loop-k-test.true (sym c.meets.ensures ∙ c.if-meets.false) c.beyond.ensures.apart c.loop-k.invariant.rest;
 }

@@ -1,5 +1,4 @@
-use Rattle.tabled_grid.proofs.Common.{◌+◌, ◌-◌, ◌<◌, ◌∙◌, ◌∷◌, ◌≡◌, Rectangle, ap, arith, drop, get_or, is_sorted, length, position_cmp, sized, subst, sym}
-use Rattle.std.proofs.Common.{T}
+use Rattle.tabled_grid.proofs.Common.{◌+◌, ◌-◌, ◌<◌, ◌∙◌, ◌∷◌, ◌≡◌, AreSorted, Rectangle, ap, arith, drop, get_or, length, place, rectangle, sized, subst, sym}
 use Rattle.tabled_grid.proofs.MarkedAnchors.{marked_from, sorted_mark}
 use Rattle.tabled_grid.proofs.PassedAnchors.{sorted_drop}
 use Rattle.tabled_grid.proofs.config.anchors.mark_hidden.Goals as goal
@@ -11,5 +10,5 @@ hide-requires-clause-sorted c =
     let here : i < length old = omega arith in
     let back : i + 1 ≡ c.loop-i.i = omega arith in
     let e : c.loop-i.anchors ≡ marked_from old (i + 1) = c.loop-i.invariant ∙ ap (marked_from old) (sym back) in
-    let d : Rectangle = (record { row = 0; col = 0 }, sized 0 0) in
-    subst (λ xs. T (is_sorted position_cmp (get_or xs i d ∷ drop (i + 1) xs))) (sym e) (sorted_mark old i here d (λ n. sorted_drop n old c.requires))
+    let d : Rectangle = rectangle (place 0 0) (sized 0 0) in
+    subst (λ xs. AreSorted (get_or xs i d ∷ drop (i + 1) xs)) (sym e) (sorted_mark old i here d (λ n. sorted_drop n old c.requires))

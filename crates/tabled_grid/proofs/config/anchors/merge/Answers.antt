@@ -1,9 +1,9 @@
-use Rattle.tabled_grid.proofs.Common.{◌∙◌, Rectangle, T, ap, arith, drop, get_or, is_lt, sized, sym}
+use Rattle.tabled_grid.proofs.Common.{◌∙◌, Rectangle, T, ap, arith, drop, get_or, is_lt, place, rectangle, sized, sym}
 use Rattle.tabled_grid.proofs.MergedAnchors.{anchor_step, size_step, starts_at, starts_from, starts_past}
 use Rattle.tabled_grid.proofs.config.anchors.merge.Goals as goal
 
 abbrev none : Rectangle
-none = (record { row = 0; col = 0 }, sized 0 0)
+none = rectangle (place 0 0) (sized 0 0)
 
 pub loop-next-preserved : goal.loop-next-preserved
 loop-next-preserved c = record {
@@ -13,7 +13,7 @@ loop-next-preserved c = record {
 
 pub loop-k-preserved : goal.loop-k-preserved
 loop-k-preserved c =
-    let from : T (starts_from (get_or c.args.sizes.now c.loop-k.k none).0 (drop c.loop-next.next c.args.anchors.now)) = elim c.loop-next-test.branch [
+    let from : T (starts_from (get_or c.args.sizes.now c.loop-k.k none).first (drop c.loop-next.next c.args.anchors.now)) = elim c.loop-next-test.branch [
       | goal.then-loop-next-test+else-is_lt w ↦ starts_at c.args.anchors.now c.loop-next.next none _ w.loop-next-test.true (ap is_lt (sym w.cmp.ensures) ∙ sym w.is_lt.ensures ∙ w.if-is_lt.false)
       | goal.else-loop-next-test w ↦ starts_past c.args.anchors.now c.loop-next.next _ (omega (arith, w.loop-next-test.false))
     ] in

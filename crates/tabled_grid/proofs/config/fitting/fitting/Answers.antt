@@ -1,5 +1,5 @@
-use Rattle.tabled_grid.proofs.Common.{[], ◌&&◌, ◌++◌, ◌∙◌, ◌∷◌, ◌≡◌, Global, Rectangle, and_from, and_left, and_right, ap, cond, cond-false, cond-true, drop_more, get_or, is_sorted, lies_inside, not, not_from_false, not_from_true, position_cmp, sized, subst, sym}
-use Rattle.std.proofs.Common.{T, Vec}
+use Rattle.tabled_grid.proofs.Common.{[], ◌&&◌, ◌++◌, ◌∙◌, ◌∷◌, ◌≡◌, AreSorted, Global, Rectangle, and_from, and_left, and_right, ap, cond, cond-false, cond-true, drop_more, get_or, lies_inside, not, not_from_false, not_from_true, place, rectangle, sized, subst, sym}
+use Rattle.std.proofs.Common.{Vec}
 use Rattle.tabled_grid.proofs.MetAnchors.{kept-more, kept-none}
 use Rattle.tabled_grid.proofs.PassedAnchors.{all_after, sorted_drop}
 use Rattle.tabled_grid.proofs.config.fitting.fitting.Goals as goal
@@ -11,13 +11,13 @@ pub mark_met-alone-requires-clause-sorted : goal.mark_met-alone-requires-clause-
 mark_met-alone-requires-clause-sorted c =
     let es = c.args.anchors.now in
     let i = c.loop-i.i in
-    let d : Rectangle = (record { row = 0; col = 0 }, sized 0 0) in
-    subst (λ fs. T (is_sorted position_cmp fs)) (drop_more es i d c.loop-i-test.true ∙ ap (λ fs. get_or es i d ∷ fs) (sym (all_after es i))) (sorted_drop i es c.requires)
+    let d : Rectangle = rectangle (place 0 0) (sized 0 0) in
+    subst AreSorted (drop_more es i d c.loop-i-test.true ∙ ap (λ fs. get_or es i d ∷ fs) (sym (all_after es i))) (sorted_drop i es c.requires)
 
 pub loop-i-preserved : goal.loop-i-preserved
 loop-i-preserved c =
     let es = c.args.anchors.now in
-    let d : Rectangle = (record { row = 0; col = 0 }, sized 0 0) in
+    let d : Rectangle = rectangle (place 0 0) (sized 0 0) in
     let e : Rectangle = get_or es c.loop-i.i d in
     let alone = c.mark_met-alone.result in
     let met = c.index-is_met.result.now in

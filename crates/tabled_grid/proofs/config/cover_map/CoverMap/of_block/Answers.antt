@@ -1,5 +1,6 @@
-use Rattle.tabled_grid.proofs.Common.{T, entries_sorted, is_sorted, position_cmp, subst, sym}
+use Rattle.tabled_grid.proofs.Common.{AreSorted, subst, sym}
+use Rattle.tabled_grid.proofs.SortedEntries.{rectangles_sorted}
 use Rattle.tabled_grid.proofs.config.cover_map.CoverMap.of_block.Goals as goal
 
 pub of-requires-clause-sorted : goal.of-requires-clause-sorted
-of-requires-clause-sorted c = subst (λ es. T (is_sorted position_cmp es)) (sym c.anchors.ensures.anchors) (entries_sorted c.args.cfg.now)
+of-requires-clause-sorted c = subst AreSorted (sym c.anchors.ensures.anchors) (rectangles_sorted c.args.cfg.now)

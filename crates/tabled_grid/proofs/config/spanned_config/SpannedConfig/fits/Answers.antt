@@ -1,6 +1,7 @@
-use Rattle.tabled_grid.proofs.Common.{Decides, Fits, SpanMap, entries, lie_well, subst}
+use Rattle.tabled_grid.proofs.Common.{Decides, Fits, SpanMap, lie_well, rectangles, subst}
 use Rattle.tabled_grid.proofs.FittingAnchors.{fits_decided}
-use Rattle.tabled_grid.proofs.SortedAnchors.{anchors-of, from-entries}
+use Rattle.tabled_grid.proofs.SortedAnchors.{anchors-of}
+use Rattle.tabled_grid.proofs.SortedEntries.{map_of-rectangles}
 use Rattle.tabled_grid.proofs.config.spanned_config.SpannedConfig.fits.Goals as goal
 
 pub fit-requires : goal.fit-requires
@@ -8,6 +9,6 @@ fit-requires c = rw c.anchors.ensures.anchors (anchors-of c.args.self.now c.anch
 
 pub returns-clause-fits : goal.returns-clause-fits
 returns-clause-fits c =
-    let anchors = entries c.args.self.now in
+    let anchors = rectangles c.args.self.now in
     let decided = fits_decided c.args.rows c.args.columns anchors (anchors-of c.args.self.now c.anchors.ensures.sizes) in
-    rw (c.fit.ensures, c.anchors.ensures.anchors) (subst (λ (map : SpanMap). Decides (lie_well c.args.rows c.args.columns anchors) (Fits map c.args.rows c.args.columns)) (from-entries c.args.self.now) decided)
+    rw (c.fit.ensures, c.anchors.ensures.anchors) (subst (λ (map : SpanMap). Decides (lie_well c.args.rows c.args.columns anchors) (Fits map c.args.rows c.args.columns)) (map_of-rectangles c.args.self.now) decided)

@@ -1,6 +1,6 @@
-use Rattle.tabled_grid.proofs.Common.{Err, false≢true, get-from_sorted, position_cmp}
-use Rattle.tabled_grid.proofs.SortedEntries.{searched}
-use Rattle.tabled_grid.proofs.Spans.{insert_anchor, positions_exact, positions_total, set_anchor}
+use Rattle.tabled_grid.proofs.Common.{Err, false≢true}
+use Rattle.tabled_grid.proofs.SortedEntries.{get-map_of, searched}
+use Rattle.tabled_grid.proofs.Spans.{insert_anchor, set_anchor}
 use Rattle.tabled_grid.proofs.config.spanned_config.SpannedConfig.insert.Goals as goal
 
 pub invariant_of-self : goal.invariant_of-self
@@ -20,5 +20,5 @@ pub returns-in_err-insert-in-Err-clause-promised : goal.returns-in_err-insert-in
 returns-in_err-insert-in-Err-clause-promised c =
     let anchors = c.self.inside.anchors.items in
     let up = c.self.invariant.sorted in
-    let missed = searched position_cmp positions_total positions_exact anchors c.args.pos (Err c.in-Err.i) up (rw c.deref.ensures.value at c.in-Err.ensures.within) (rw c.deref.ensures.value at c.in-Err.ensures.found) in
-    λ some. absurd (false≢true (rw (← c.self.view_is, get-from_sorted position_cmp anchors c.args.pos up, missed) at some))
+    let missed = searched anchors c.args.pos (Err c.in-Err.i) up (rw c.deref.ensures.value at c.in-Err.ensures.within) (rw c.deref.ensures.value at c.in-Err.ensures.found) in
+    λ some. absurd (false≢true (rw (← c.self.view_is, get-map_of anchors c.args.pos up, missed) at some))

@@ -1,5 +1,6 @@
-use Rattle.tabled_grid.proofs.Common.{ap, entries-from_sorted, from_sorted, position_cmp, shifted_in, sym}
+use Rattle.tabled_grid.proofs.Common.{ap, map_of, shifted_in, sym}
 use Rattle.tabled_grid.proofs.Shifts.{anchors_shifted}
+use Rattle.tabled_grid.proofs.SortedEntries.{rectangles-map_of}
 use Rattle.tabled_grid.proofs.config.spanned_config.SpannedConfig.shift.Goals as goal
 
 pub invariant_of-self : goal.invariant_of-self
@@ -8,4 +9,4 @@ invariant_of-self c = rw c.shift.ensures (anchors_shifted c.args.axis c.args.fro
 pub returns-clause-shifted : goal.returns-clause-shifted
 returns-clause-shifted c =
     rw (← c.self.view_is, c.shift.ensures)
-    (ap (λ es. from_sorted (shifted_in c.args.axis c.args.from es)) (sym (entries-from_sorted position_cmp c.self.inside.anchors.items c.self.invariant.sorted)))
+    (ap (λ es. map_of (shifted_in c.args.axis c.args.from es)) (sym (rectangles-map_of c.self.inside.anchors.items c.self.invariant.sorted)))
