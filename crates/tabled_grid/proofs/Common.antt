@@ -32,7 +32,7 @@ pub use Rattle.tabled_grid.proofs.Lists.{all-append, all-drop, all-insert, all-m
 pub use Rattle.tabled_grid.proofs.RowByRow.{Changed, changed_all, changed_more, changed_next, first_left, same_cells, same_lens}
 pub use Rattle.tabled_grid.specs.AddedLines.{AddsLines}
 pub use Rattle.tabled_grid.specs.Along.{count_along, first_along, without_line}
-pub use Rattle.tabled_grid.specs.Anchors.{anchor_of, dropped, is_hidden_in, is_past, lie_well, lies_inside, marked, meets, unless_held, with_size_in, with_sizes_in, without_first_at}
+pub use Rattle.tabled_grid.specs.Anchors.{anchor_of, are_apart, dropped, is_hidden_in, is_past, lie_well, lies_inside, marked, meets, unless_held, with_size_in, with_sizes_in, without_first_at}
 pub use Rattle.tabled_grid.specs.Axis.{across, count_of, line_of, lines_in, next_line, place_in}
 pub use Rattle.tabled_grid.specs.Bulk.{AddsColumns, AddsRows, Exchanges, cell_in, transposed, transposed_rows, turned_places, with_items_behind}
 pub use Rattle.tabled_grid.specs.CellCounts.{CountsBlock, IsFew, IsMany, counts_of}

@@ -1,11 +1,9 @@
 -- What is left once the rectangles that do not fit have gone.
-use Rattle.tabled_grid.proofs.Common.{◌+◌, ◌||◌, ◌∙◌, ◌≡◌, ◌≤◌, ◌⊎◌, All-filter, All-from_recursion, AreAnchors, AreSpanSizes, Fits, List, None, Option, Position, Rectangle, Size, Some, SpanMap, and_from, and_parts, ap, cases_Bool, false, fits_among, fitting, get, holds, inl, inr, keep_fitting, le-leb, leb-true, lies_inside, list_all, map_of, meets, not, not_from_false, or_cases, or_left, or_right, rectangle, rectangles, recursion_from_All, refl, rules, same_map, same_place, subst, sym, true, ℕ}
-use Rattle.tabled_grid.proofs.FittingAnchors.{shared, sharing}
+use Rattle.tabled_grid.proofs.Common.{◌||◌, ◌∙◌, ◌≡◌, ◌⊎◌, All-filter, All-from_recursion, AreAnchors, AreSpanSizes, Fits, List, None, Option, Position, Rectangle, Size, Some, SpanMap, and_from, and_parts, ap, are_apart, cases_Bool, false, fits_among, fitting, get, inl, inr, keep_fitting, lies_inside, list_all, map_of, meets, not, not_from_false, or_cases, or_left, or_right, rectangle, rectangles, recursion_from_All, refl, rules, same_map, same_place, subst, sym, true, ℕ}
+use Rattle.tabled_grid.proofs.FittingAnchors.{apart-from, fits_well, has, one_anchor, room}
 pub use Rattle.tabled_grid.proofs.SortedAnchors.{anchors-of}
-use Rattle.tabled_grid.proofs.PassedAnchors.{meets-true}
 use Rattle.tabled_grid.proofs.SpanMaps.{same_place-self, same_place-true}
 use Rattle.tabled_grid.proofs.SortedEntries.{get-map_of, map_of-rectangles, positions_exact, positions_total}
-use Rattle.tabled_grid.proofs.Spans.{span_sizes}
 use Rattle.tabled_grid.proofs.Members.{Member, all-from, all-member, filter-from, filter-member, find-member, sorted-filter, sorted-find}
 
 pub anchors-fitting : (rows columns : ℕ) (es : List Rectangle) → AreAnchors es → AreAnchors (fitting rows columns es)
@@ -13,28 +11,21 @@ anchors-fitting rows columns es valid = search (rules, sorted-filter, recursion_
 
 -- those that are left fit
 pub fitting-fits : (rows columns : ℕ) (es : List Rectangle) → AreAnchors es → Fits (map_of (fitting rows columns es)) rows columns
-fitting-fits rows columns es valid = record { sizes = span_sizes (fitting rows columns es) left; inside = inside; apart = apart }
+fitting-fits rows columns es valid =
+    fits_well rows columns (fitting rows columns es) left
+    (and_from (list_all (lies_inside rows columns) (fitting rows columns es)) (are_apart (fitting rows columns es))
+    (all-from (lies_inside rows columns) (fitting rows columns es) (λ e m. (parts e (filter-member (fits_among rows columns es) e es m).1).0))
+    (apart-from (fitting rows columns es) left.sorted (λ e f m n t. alone e f t (or_cases (same_place e.first f.first) (not (meets e f)) (all-member (λ (g : Rectangle). same_place e.first g.first || not (meets e g)) f es (parts e (filter-member (fits_among rows columns es) e es m).1).1 (filter-member (fits_among rows columns es) f es n).0)))))
   where
     left : AreAnchors (fitting rows columns es)
     left = anchors-fitting rows columns es valid
 
-    kept : (a : Position) (s : Size) → get (map_of (fitting rows columns es)) a ≡ Some s → Member (rectangle a s) es × (fits_among rows columns es (rectangle a s) ≡ true)
-    kept a s h = filter-member (fits_among rows columns es) (rectangle a s) es (find-member (fitting rows columns es) a s (sym (get-map_of (fitting rows columns es) a left.sorted) ∙ h))
+    parts : (e : Rectangle) → fits_among rows columns es e ≡ true → (lies_inside rows columns e ≡ true) × (list_all (λ (f : Rectangle). same_place e.first f.first || not (meets e f)) es ≡ true)
+    parts e t = and_parts (lies_inside rows columns e) (list_all (λ (f : Rectangle). same_place e.first f.first || not (meets e f)) es) t
 
-    inside : (a : Position) (s : Size) → get (map_of (fitting rows columns es)) a ≡ Some s → (a.row + s.height ≤ rows) × (a.col + s.width ≤ columns)
-    inside a s h =
-        let parts = and_parts (lies_inside rows columns (rectangle a s)) (list_all (λ (f : Rectangle). same_place a f.first || not (meets (rectangle a s) f)) es) (kept a s h).1 in
-        let room = and_parts _ _ parts.0 in
-        (leb-true _ _ room.0, leb-true _ _ room.1)
-
-    apart : (a b : Position) (s t : Size) (p : Position) → get (map_of (fitting rows columns es)) a ≡ Some s → get (map_of (fitting rows columns es)) b ≡ Some t → holds (rectangle a s) p ≡ true → holds (rectangle b t) p ≡ true → a ≡ b
-    apart a b s t p ha hb ia ib =
-        let parts = and_parts (lies_inside rows columns (rectangle a s)) (list_all (λ (f : Rectangle). same_place a f.first || not (meets (rectangle a s) f)) es) (kept a s ha).1 in
-        by (or_cases (same_place a b) (not (meets (rectangle a s) (rectangle b t))) (all-member (λ (f : Rectangle). same_place a f.first || not (meets (rectangle a s) f)) (rectangle b t) es parts.1 (kept b t hb).0))
-      where
-        by : (same_place a b ≡ true) ⊎ (not (meets (rectangle a s) (rectangle b t)) ≡ true) → a ≡ b
-        by (inl same) = same_place-true a b same
-        by (inr out) = let never : true ≡ false = sym out ∙ ap not (sharing a b s t p ia ib) in cc
+    alone : (e f : Rectangle) → meets e f ≡ true → (same_place e.first f.first ≡ true) ⊎ (not (meets e f) ≡ true) → e.first ≡ f.first
+    alone e f met (inl same) = same_place-true e.first f.first same
+    alone e f met (inr out) = let never : true ≡ false = sym out ∙ ap not met in cc
 
 -- where all fit, all are left
 pub fitting-all : (rows columns : ℕ) (es : List Rectangle) → AreAnchors es → Fits (map_of es) rows columns → map_of (fitting rows columns es) ≡ map_of es
@@ -43,25 +34,12 @@ fitting-all rows columns es valid fits = same_map positions_total positions_exac
     left : AreAnchors (fitting rows columns es)
     left = anchors-fitting rows columns es valid
 
-    has : (f : Rectangle) → Member f es → get (map_of es) f.first ≡ Some f.size
-    has f m = get-map_of es f.first valid.sorted ∙ sorted-find es f valid.sorted m
-
-    alone : (e f : Rectangle) → Member e es → Member f es → (same_place e.first f.first || not (meets e f)) ≡ true
-    alone e f m n = either (cases_Bool (meets e f))
-      where
-        either : (meets e f ≡ true) ⊎ (meets e f ≡ false) → (same_place e.first f.first || not (meets e f)) ≡ true
-        either (inr out) = or_right (same_place e.first f.first) (not (meets e f)) (not_from_false (meets e f) out)
-        either (inl met) =
-            let s = fits.sizes.each e.first e.size (has e m) in
-            let t = fits.sizes.each f.first f.size (has f n) in
-            let cell = shared e.first f.first e.size f.size s.height s.width t.height t.width (meets-true e f met) in
-            let anchor = fits.apart e.first f.first e.size f.size cell.0 (has e m) (has f n) cell.1 cell.2 in
-            or_left (same_place e.first f.first) (not (meets e f)) (subst (λ (p : Position). same_place e.first p ≡ true) anchor (same_place-self e.first))
+    alone : (e f : Rectangle) → Member e es → Member f es → (meets e f ≡ true) ⊎ (meets e f ≡ false) → (same_place e.first f.first || not (meets e f)) ≡ true
+    alone e f m n (inl met) = or_left (same_place e.first f.first) (not (meets e f)) (subst (λ (p : Position). same_place e.first p ≡ true) (one_anchor rows columns es valid fits e f m n met) (same_place-self e.first))
+    alone e f m n (inr out) = or_right (same_place e.first f.first) (not (meets e f)) (not_from_false (meets e f) out)
 
     stays : (e : Rectangle) → Member e es → fits_among rows columns es e ≡ true
-    stays e m =
-        let room = fits.inside e.first e.size (has e m) in
-        and_from (lies_inside rows columns e) (list_all (λ (f : Rectangle). same_place e.first f.first || not (meets e f)) es) (and_from _ _ (le-leb _ _ room.0) (le-leb _ _ room.1)) (all-from (λ (f : Rectangle). same_place e.first f.first || not (meets e f)) es (λ f n. alone e f m n))
+    stays e m = and_from (lies_inside rows columns e) (list_all (λ (f : Rectangle). same_place e.first f.first || not (meets e f)) es) (room rows columns es valid fits e m) (all-from (λ (f : Rectangle). same_place e.first f.first || not (meets e f)) es (λ f n. alone e f m n (cases_Bool (meets e f))))
 
     over : (q : Position) (s : Size) → get (map_of es) q ≡ Some s → get (map_of (fitting rows columns es)) q ≡ Some s
     over q s h =
@@ -69,7 +47,7 @@ fitting-all rows columns es valid fits = same_map positions_total positions_exac
         get-map_of (fitting rows columns es) q left.sorted ∙ sorted-find (fitting rows columns es) (rectangle q s) left.sorted (filter-from (fits_among rows columns es) (rectangle q s) es m (stays (rectangle q s) m))
 
     back : (q : Position) (s : Size) → get (map_of (fitting rows columns es)) q ≡ Some s → get (map_of es) q ≡ Some s
-    back q s h = has (rectangle q s) (filter-member (fits_among rows columns es) (rectangle q s) es (find-member (fitting rows columns es) q s (sym (get-map_of (fitting rows columns es) q left.sorted) ∙ h))).0
+    back q s h = has rows columns es valid (rectangle q s) (filter-member (fits_among rows columns es) (rectangle q s) es (find-member (fitting rows columns es) q s (sym (get-map_of (fitting rows columns es) q left.sorted) ∙ h))).0
 
     by : (q : Position) (x : Option Size) → get (map_of es) q ≡ x → (y : Option Size) → get (map_of (fitting rows columns es)) q ≡ y → get (map_of (fitting rows columns es)) q ≡ get (map_of es) q
     by q (Some s) h y k = over q s h ∙ sym h

@@ -4,7 +4,7 @@ use Rattle.std.proofs.Common.{append_assoc, length-append}
 use Rattle.std.proofs.lemmas.List.Folds.{list_all-append, list_any_more}
 use borrow.Rule.Slice.PartMut.{put_mid}
 use Rattle.tabled_grid.proofs.BesideAnchors.{before}
-use Rattle.tabled_grid.proofs.PassedAnchors.{all_after, apart_over, places_apart, sorted_drop}
+use Rattle.tabled_grid.proofs.PassedAnchors.{all_after, apart_over, meets-turned, places_apart, sorted_drop}
 use Rattle.tabled_grid.proofs.SortedEntries.{Below, halves, less}
 use Rattle.tabled_grid.proofs.SpanMaps.{same_place-self}
 
@@ -73,17 +73,6 @@ module _ (by : Rectangle) where
   pub marks-map : (t u : Rectangle → Bool) → ((e : Rectangle) → (t e || meets by e) ≡ u e) → (es : List Rectangle) → with_met by es (map t es) ≡ map u es
   marks-map t u more [] = refl
   marks-map t u more (e ∷ es) = ap₂ (λ x xs. x ∷ xs) (more e) (marks-map t u more es)
-
--- two meet, whichever is named first
-pub both-turned : (a b : Bool) → (a && b) ≡ (b && a)
-both-turned true true = refl
-both-turned true false = refl
-both-turned false true = refl
-both-turned false false = refl
-
--- two rectangles share a cell either way
-pub meets-turned : (a b : Rectangle) → meets a b ≡ meets b a
-meets-turned a b = grind (arith, common_steps, both-turned)
 
 -- the marks from an index on are written anew, as a slice of a vector
 marks-written : (i len : ℕ) (old new rest : List Bool) → i < length old → len ≡ length old → length new ≡ length old - (i + 1) → (length (take len (put_mid (i + 1) (length old - (i + 1)) old new ++ rest)) ≡ length old) × (drop (i + 1) (take len (put_mid (i + 1) (length old - (i + 1)) old new ++ rest)) ≡ new)

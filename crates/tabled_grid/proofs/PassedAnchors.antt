@@ -46,6 +46,16 @@ meets-true a b t = grind (arith, common_steps, and_parts)
 pub meets-from : (a b : Rectangle) → Meets a b → meets a b ≡ true
 meets-from a b m = and_from _ _ (and_from _ _ (lt-ltb _ _ m.above) (lt-ltb _ _ m.below)) (and_from _ _ (lt-ltb _ _ m.left) (lt-ltb _ _ m.right))
 
+both-turned : (a b : Bool) → (a && b) ≡ (b && a)
+both-turned true true = refl
+both-turned true false = refl
+both-turned false true = refl
+both-turned false false = refl
+
+-- two rectangles share a cell either way
+pub meets-turned : (a b : Rectangle) → meets a b ≡ meets b a
+meets-turned a b = grind (arith, common_steps, both-turned)
+
 pub past_apart : (a b : Rectangle) → IsPast a b.first → meets a b ≡ false
 past_apart a b past = grind (arith, common_steps, false_from_ne_true, meets-true)
 

@@ -55,7 +55,11 @@ meets a b = (nat_lt a.first.row (b.first.row + b.size.height) && nat_lt b.first.
 abbrev pub lies_inside : ℕ → ℕ → Rectangle → Bool
 lies_inside rows columns e = nat_le (e.first.row + e.size.height) rows && nat_le (e.first.col + e.size.width) columns
 
--- all rectangles lie inside a table, and none meets one after it
+-- none of the rectangles meets one after it
+abbrev pub are_apart : List Rectangle → Bool
+are_apart [] = true
+are_apart (e ∷ es) = list_all (λ (f : Rectangle). not (meets e f)) es && are_apart es
+
+-- all rectangles lie inside a table, and no two of them share a cell
 abbrev pub lie_well : ℕ → ℕ → List Rectangle → Bool
-lie_well rows columns [] = true
-lie_well rows columns (e ∷ es) = lies_inside rows columns e && (list_all (λ (f : Rectangle). not (meets e f)) es && lie_well rows columns es)
+lie_well rows columns es = list_all (lies_inside rows columns) es && are_apart es

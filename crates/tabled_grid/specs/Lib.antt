@@ -1,7 +1,6 @@
 pub mod AddedLines
 pub mod Along
 pub mod Anchors
-pub mod Apart
 pub mod Axis
 pub mod Bounds
 pub mod Bulk

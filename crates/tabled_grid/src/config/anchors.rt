@@ -4,8 +4,7 @@ ghost use Rattle.std.specs.Prelude.{false, true, ◌≡◌, ◌≤◌, ◌∷◌
 ghost use Rattle.std.specs.List.{AllWithin, filter, list_all, list_any};
 ghost use Rattle.std.specs.declared.cmp.Ordering.TheVariants.{Less};
 ghost use Rattle.std.specs.List.Sorted.{IsBinarySearchResult, IsSearchInRange};
-ghost use Rattle.tabled_grid.specs.Anchors.{dropped, is_hidden_in, is_past, lie_well, marked, meets, unless_held, anchor_of, with_sizes_in, without_first_at};
-ghost use Rattle.tabled_grid.specs.Apart.{AreApart};
+ghost use Rattle.tabled_grid.specs.Anchors.{are_apart, dropped, is_hidden_in, is_past, lie_well, marked, meets, unless_held, anchor_of, with_sizes_in, without_first_at};
 ghost use Rattle.tabled_grid.specs.Rectangles.{heights_in, holds, reaches_across, reaches_down, widths_in};
 ghost use Rattle.tabled_grid.specs.Spans.{AreAnchors, AreSorted, position_cmp, rectangle};
 ghost use Rattle.tabled_grid.specs.declared.config.rectangle.Rectangle.{Rectangle};
@@ -179,7 +178,7 @@ fn drop_empty(anchors: &mut Vec<Rectangle>)
 fn is_apart(anchors: &[Rectangle], first: usize, from: Rectangle) -> bool
     requires within { first ≤ length anchors.now }
     requires anchors { AreAnchors (from ∷ drop first anchors.now) }
-    requires apart { AreApart (drop first anchors.now) }
+    requires apart { are_apart (drop first anchors.now) ≡ true }
     ensures { result ≡ list_all (λ (e : Rectangle). not (meets from e)) (drop first anchors.now) }
 {
     let mut k = first;
@@ -200,7 +199,7 @@ fn is_apart(anchors: &[Rectangle], first: usize, from: Rectangle) -> bool
 /// rectangle, and those left of the rectangle but the nearest, where it is left of it.
 fn beyond(anchors: &[Rectangle], from: Rectangle, pos: Position) -> usize
     requires anchors { AreAnchors (rectangle pos from.size ∷ anchors.now) }
-    requires apart { AreApart anchors.now }
+    requires apart { are_apart anchors.now ≡ true }
     ensures within { result ≤ length anchors.now }
     ensures apart { list_all (λ (e : Rectangle). not (meets from e)) (take result anchors.now) ≡ true }
 {

@@ -1,5 +1,5 @@
-use Rattle.tabled_grid.proofs.Common.{◌+◌, ◌-◌, ◌<◌, ◌∙◌, ◌≡◌, Rectangle, arith, drop, length, lie_well, place, rectangle, sized, subst, sym, true}
-use Rattle.tabled_grid.proofs.NearAnchors.{anchors_from, apart_from_well, ill_met, ill_outside}
+use Rattle.tabled_grid.proofs.Common.{◌+◌, ◌-◌, ◌<◌, ◌∙◌, ◌≡◌, Rectangle, and_parts, arith, drop, length, lie_well, place, rectangle, sized, subst, sym, true}
+use Rattle.tabled_grid.proofs.NearAnchors.{anchors_from, ill_met, ill_outside}
 use Rattle.tabled_grid.proofs.config.anchors.fit.Goals as goal
 
 pub is_apart-requires-clause-anchors : goal.is_apart-requires-clause-anchors
@@ -10,7 +10,7 @@ is_apart-requires-clause-anchors c =
 pub is_apart-requires-clause-apart : goal.is_apart-requires-clause-apart
 is_apart-requires-clause-apart c =
     let back : c.loop-first.first ≡ c.loop-first.first - 1 + 1 = omega arith in
-    apart_from_well c.args.rows c.args.columns _ (subst (λ n. lie_well c.args.rows c.args.columns (drop n c.args.anchors.now) ≡ true) back c.loop-first.invariant)
+    (and_parts _ _ (subst (λ n. lie_well c.args.rows c.args.columns (drop n c.args.anchors.now) ≡ true) back c.loop-first.invariant)).1
 
 pub returns-then-not-is_inside : goal.returns-then-not-is_inside
 returns-then-not-is_inside c =
