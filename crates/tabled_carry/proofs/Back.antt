@@ -1,5 +1,5 @@
 -- A map of places and one that leads back.
-use Rattle.tabled_carry.proofs.Common.{◌∙◌, ◌≡◌, AreSpanSizes, Carries, CarriesAll, Fits, HasArea, In, IsImage, LeadsBack, Places, Position, Rectangle, Size, Some, SpanMap, ap, carried, get, image, keep_fitting-all, subst, ℕ}
+use Rattle.tabled_carry.proofs.Common.{◌∙◌, ◌≡◌, AreSpanSizes, Carries, CarriesAll, Fits, HasArea, In, IsImage, LeadsBack, Places, Position, Rectangle, Size, Some, SpanMap, ap, carried, get, image, keep_fitting-all, rectangle, subst, ℕ}
 use Rattle.tabled_carry.proofs.RectanglesCarried.{carries_one, image_fits, image_is, image_one, takes_one}
 
 module _ (there back : Places) (leads : LeadsBack there back) where
@@ -15,17 +15,17 @@ module _ (there back : Places) (leads : LeadsBack there back) where
   pub image_back : (m n : SpanMap) → AreSpanSizes m → IsImage there m n → CarriesAll there m → IsImage back n m
   image_back m n sizes is all = record { comes = comes; goes = goes }
     where
-      full : (a : Position) (s : Size) → get m a ≡ Some s → HasArea (a, s)
+      full : (a : Position) (s : Size) → get m a ≡ Some s → HasArea (rectangle a s)
       full a s h = let size = sizes.each a s h in record { height = size.height; width = size.width }
 
-      comes : (a : Position) (s : Size) → get m a ≡ Some s → (b : Position) × (t : Size) × (get n b ≡ Some t) × Carries back (b, t) (a, s) × HasArea (a, s)
-      comes a s h = let f = all.each a s h in (f.0.0, f.0.1, is.goes a f.0.0 s f.0.1 h f.1 f.2, carries_back (a, s) f.0 f.1, full a s h)
+      comes : (a : Position) (s : Size) → get m a ≡ Some s → (b : Position) × (t : Size) × (get n b ≡ Some t) × Carries back (rectangle b t) (rectangle a s) × HasArea (rectangle a s)
+      comes a s h = let f = all.each a s h in (f.0.first, f.0.size, is.goes a f.0.first s f.0.size h f.1 f.2, carries_back (rectangle a s) f.0 f.1, full a s h)
 
-      goes : (b a : Position) (t s : Size) → get n b ≡ Some t → Carries back (b, t) (a, s) → HasArea (a, s) → get m a ≡ Some s
+      goes : (b a : Position) (t s : Size) → get n b ≡ Some t → Carries back (rectangle b t) (rectangle a s) → HasArea (rectangle a s) → get m a ≡ Some s
       goes b a t s h c whole =
           let o = is.comes b t h in
-          let one = carries_one back (b, t) (o.0, o.1) (a, s) (full o.0 o.1 o.2) whole (carries_back (o.0, o.1) (b, t) o.3) c in
-          subst (λ (e : Rectangle). get m e.0 ≡ Some e.1) one o.2
+          let one = carries_one back (rectangle b t) (rectangle o.0 o.1) (rectangle a s) (full o.0 o.1 o.2) whole (carries_back (rectangle o.0 o.1) (rectangle b t) o.3) c in
+          subst (λ (e : Rectangle). get m e.first ≡ Some e.size) one o.2
 
   -- so the image of the image is the map
   pub image_twice : (m : SpanMap) (rows columns : ℕ) → Fits m rows columns → CarriesAll there m → image back (image there m) ≡ m

@@ -1,5 +1,7 @@
 -- What is carried along fits the new table.
-use Rattle.tabled_carry.proofs.Common.{[], ◌∙◌, ◌∷◌, ◌≡◌, AreSpanSizes, Carries, Fits, HasArea, In, KeepsPlaces, List, Places, Position, Rectangle, Size, Some, SpanMap, Takes, ap, arith, carried, empty, empty_of_len, entries, entries-from_sorted, false, filter, fitting, from_entries, from_sorted, get, images, keep_fitting, keep_fitting-fits, len-entries, length, position_cmp, rectangles, refl, subst, sym, ℕ}
+use Rattle.tabled_carry.proofs.Common.{[], ◌∙◌, ◌∷◌, ◌≡◌, AreSpanSizes, Carries, Fits, HasArea, In, KeepsPlaces, List, Places, Position, Rectangle, Size, Some, SpanMap, Takes, ap, arith, carried, empty, empty_of_len, false, filter, fitting, from_entries, get, images, keep_fitting, keep_fitting-fits, len-entries, length, map_of, pairs, position_cmp, rectangle, rectangles, rectangles-map_of, rectangles_inside, refl, subst, sym, ℕ}
+use Rattle.std.specs.FinMap.{entries}
+use Rattle.tabled_grid.proofs.SortedEntries.{pairs-of_pairs}
 use Rattle.tabled_carry.proofs.RectanglesCarried.{carries_one, image_fits, image_is, image_one}
 
 no_images : (fs : List Rectangle) → filter (λ (f : Rectangle). false) fs ≡ []
@@ -7,11 +9,11 @@ no_images [] = refl
 no_images (f ∷ fs) = no_images fs
 
 -- where nothing is merged, nothing is carried
-pub carried-none : (places : Places) (rows columns : ℕ) (m : SpanMap) → entries m ≡ [] → carried places rows columns m ≡ m
+pub carried-none : (places : Places) (rows columns : ℕ) (m : SpanMap) → rectangles m ≡ [] → carried places rows columns m ≡ m
 carried-none places rows columns m none =
-    let kept : entries (keep_fitting rows columns m) ≡ [] = ap (λ (es : List Rectangle). entries (from_sorted {R = position_cmp} (fitting rows columns es))) none ∙ entries-from_sorted position_cmp [] tt in
-    let gone : carried places rows columns m ≡ empty = ap (λ (es : List Rectangle). from_entries {R = position_cmp} (images places es)) kept ∙ ap (λ (es : List Rectangle). from_entries {R = position_cmp} es) (no_images (rectangles places.rows places.columns)) in
-    gone ∙ sym (empty_of_len m (len-entries m ∙ ap length none))
+    let kept : rectangles (keep_fitting rows columns m) ≡ [] = ap (λ (es : List Rectangle). rectangles (map_of (fitting rows columns es))) none ∙ rectangles-map_of [] tt in
+    let gone : carried places rows columns m ≡ empty = ap (λ (es : List Rectangle). from_entries {R = position_cmp} (pairs (images places es))) kept ∙ ap (λ (es : List Rectangle). from_entries {R = position_cmp} (pairs es)) (no_images (rectangles_inside places.rows places.columns)) in
+    gone ∙ sym (empty_of_len m (len-entries m ∙ ap length (sym (pairs-of_pairs (entries m)) ∙ ap pairs none)))
 
 -- what is carried along fits the new table, whatever the map of places
 pub carried-fits : (places : Places) (rows columns : ℕ) (m : SpanMap) → AreSpanSizes m → Fits (carried places rows columns m) places.rows places.columns
@@ -30,17 +32,17 @@ carried-stays places rows columns m sizes keeps =
     fits : Fits kept rows columns
     fits = keep_fitting-fits rows columns m sizes
 
-    full : (a : Position) (s : Size) → get kept a ≡ Some s → HasArea (a, s)
+    full : (a : Position) (s : Size) → get kept a ≡ Some s → HasArea (rectangle a s)
     full a s h = let size = fits.sizes.each a s h in record { height = size.height; width = size.width }
 
-    stays : (a : Position) (s : Size) → get kept a ≡ Some s → Carries places (a, s) (a, s)
+    stays : (a : Position) (s : Size) → get kept a ≡ Some s → Carries places (rectangle a s) (rectangle a s)
     stays a s h =
         let inside = fits.inside a s h in
-        let takes : (p : Position) → In (a, s) p → Takes places p p = λ p i. keeps.stays p (omega (arith, i.bottom, inside.0)) (omega (arith, i.right, inside.1)) in
-        record { all = λ p i. (p, takes p i); only = λ p q t i. subst (λ (x : Position). In (a, s) x) (sym (keeps.alone p q t)) i; from = λ p i. (p, i, takes p i) }
+        let takes : (p : Position) → In (rectangle a s) p → Takes places p p = λ p i. keeps.stays p (omega (arith, i.bottom, inside.0)) (omega (arith, i.right, inside.1)) in
+        record { all = λ p i. (p, takes p i); only = λ p q t i. subst (λ (x : Position). In (rectangle a s) x) (sym (keeps.alone p q t)) i; from = λ p i. (p, i, takes p i) }
 
-    comes : (b : Position) (t : Size) → get kept b ≡ Some t → (a : Position) × (s : Size) × (get kept a ≡ Some s) × Carries places (a, s) (b, t) × HasArea (b, t)
+    comes : (b : Position) (t : Size) → get kept b ≡ Some t → (a : Position) × (s : Size) × (get kept a ≡ Some s) × Carries places (rectangle a s) (rectangle b t) × HasArea (rectangle b t)
     comes b t h = (b, t, h, stays b t h, full b t h)
 
-    goes : (a b : Position) (s t : Size) → get kept a ≡ Some s → Carries places (a, s) (b, t) → HasArea (b, t) → get kept b ≡ Some t
-    goes a b s t h c whole = subst (λ (e : Rectangle). get kept e.0 ≡ Some e.1) (carries_one places (a, s) (a, s) (b, t) (full a s h) whole (stays a s h) c) h
+    goes : (a b : Position) (s t : Size) → get kept a ≡ Some s → Carries places (rectangle a s) (rectangle b t) → HasArea (rectangle b t) → get kept b ≡ Some t
+    goes a b s t h c whole = subst (λ (e : Rectangle). get kept e.first ≡ Some e.size) (carries_one places (rectangle a s) (rectangle a s) (rectangle b t) (full a s h) whole (stays a s h) c) h

@@ -1,16 +1,16 @@
 -- Merged cells once a row or a column is put in.
-use Rattle.tabled_carry.proofs.Common.{[], ◌+◌, ◌∷◌, ◌≡◌, ◌≤◌, ◌⊎◌, Columns, Fits, List, Position, Rectangle, Size, Some, SpanMap, arith, cases_Bool, cond, crosses_line, entries, eqb-true, false, false_from_ne_true, fits_beside, get, inl, inr, is_crossed, line_of, list_any, ltb-true, nat_eq, nat_lt, refl, shifted, true, ℕ}
+use Rattle.tabled_carry.proofs.Common.{[], ◌+◌, ◌∷◌, ◌≡◌, ◌≤◌, ◌⊎◌, Columns, Fits, List, Position, Rectangle, Size, Some, SpanMap, arith, cases_Bool, cond, crosses_line, eqb-true, false, false_from_ne_true, fits_beside, get, inl, inr, is_crossed, line_of, list_any, ltb-true, nat_eq, nat_lt, rectangles, refl, shifted, true, ℕ}
 use Rattle.tabled_grid.specs.declared.records.axis.Axis.{Axis}
 
 none_cross : (axis : Axis) (es : List Rectangle) → list_any (crosses_line axis 0) es ≡ false
 none_cross axis [] = refl
 none_cross axis (e ∷ es) =
-    let before : nat_lt (line_of axis e.0) 0 ≡ false = false_from_ne_true _ (λ t. omega (arith, ltb-true _ _ t)) in
+    let before : nat_lt (line_of axis e.first) 0 ≡ false = false_from_ne_true _ (λ t. omega (arith, ltb-true _ _ t)) in
     rw (before, none_cross axis es) refl
 
 -- no rectangle begins before the first line
 pub none_crosses_the_first : (axis : Axis) (m : SpanMap) → is_crossed axis 0 m ≡ false
-none_crosses_the_first axis m = none_cross axis (entries m)
+none_crosses_the_first axis m = none_cross axis (rectangles m)
 
 -- without rows nothing is put in, and there are no merged cells
 pub fits_beside_rows : (m : SpanMap) (j rows columns : ℕ) → is_crossed Columns j m ≡ false → Fits m rows columns → Fits (shifted Columns j m) rows (cond (nat_eq rows 0) columns (columns + 1))

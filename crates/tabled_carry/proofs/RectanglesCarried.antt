@@ -1,11 +1,11 @@
 -- Rectangles carried along fit the new table, and the map of them is the image.
-use Rattle.tabled_carry.proofs.Common.{◌+◌, ◌-◌, ◌<◌, ◌∙◌, ◌≡◌, ◌≤◌, ◌⊎◌, Bool, Carries, Fits, HasArea, In, IsImage, IsSpanSize, Member, None, Option, Places, Position, Rectangle, Size, Some, SpanMap, Takes, alike, all-from, all-member, and_from, and_parts, any-from, any-member, ap, ap₂, arith, block, block-from, block-member, carries, cases_lt, cells_in, common_steps, entries, entries_sorted, false, filter-from, filter-member, find-member, flat_map-from, flat_map-member, get, get-entries, get-from_entries, holds, holds-from, holds-true, image, images, inl, inr, list_all, list_any, map, map-from, map-member, member-find, old_place_passes, place, position_cmp, positions_exact, positions_total, rectangles, refl, same_Some, same_map, same_place, same_place-self, same_place-true, sized, sorted-find, subst, sym, true, ℕ}
+use Rattle.tabled_carry.proofs.Common.{◌+◌, ◌-◌, ◌<◌, ◌∙◌, ◌≡◌, ◌≤◌, ◌⊎◌, Bool, Carries, Fits, HasArea, In, IsImage, IsSpanSize, Member, None, Option, Places, Position, Rectangle, Size, Some, SpanMap, Takes, alike, all-from, all-member, and_from, and_parts, any-from, any-member, ap, ap₂, arith, block, block-from, block-member, carries, cases_lt, cells_in, common_steps, false, filter-from, filter-member, find-member, flat_map-from, flat_map-member, get, get-from_entries, get-rectangles, holds, holds-from, holds-true, image, images, inl, inr, list_all, list_any, map, map-from, map-member, member-find, old_place_passes, pairs, place, positions_exact, positions_total, rectangle, rectangles, rectangles_inside, rectangles_sorted, refl, same_Some, same_map, same_place, same_place-self, same_place-true, sized, sorted-find, subst, sym, true, ℕ}
 
 -- the first and the last cell of a rectangle
 abbrev last_of : Rectangle → Position
-last_of f = place (f.0.row + (f.1.height - 1)) (f.0.col + (f.1.width - 1))
+last_of f = place (f.first.row + (f.size.height - 1)) (f.first.col + (f.size.width - 1))
 
-pub first_in : (f : Rectangle) → HasArea f → In f f.0
+pub first_in : (f : Rectangle) → HasArea f → In f f.first
 first_in f full = record { top = omega arith; bottom = omega (arith, full.height); left = omega arith; right = omega (arith, full.width) }
 
 last_in : (f : Rectangle) → HasArea f → In f (last_of f)
@@ -14,15 +14,15 @@ last_in f full = record { top = omega arith; bottom = omega (arith, full.height)
 -- rectangles with the same cells are one
 pub same_cells : (f g : Rectangle) → HasArea f → HasArea g → ((p : Position) → In f p → In g p) → ((p : Position) → In g p → In f p) → f ≡ g
 same_cells f g full full' to back =
-    let a = to f.0 (first_in f full) in
-    let b = back g.0 (first_in g full') in
+    let a = to f.first (first_in f full) in
+    let b = back g.first (first_in g full') in
     let c = to (last_of f) (last_in f full) in
     let d = back (last_of g) (last_in g full') in
-    let row : f.0.row ≡ g.0.row = omega (arith, a.top, b.top) in
-    let col : f.0.col ≡ g.0.col = omega (arith, a.left, b.left) in
-    let height : f.1.height ≡ g.1.height = omega (arith, row, c.bottom, d.bottom, full.height, full'.height) in
-    let width : f.1.width ≡ g.1.width = omega (arith, col, c.right, d.right, full.width, full'.width) in
-    ap₂ (λ p s. (p, s)) (ap₂ place row col) (ap₂ sized height width)
+    let row : f.first.row ≡ g.first.row = omega (arith, a.top, b.top) in
+    let col : f.first.col ≡ g.first.col = omega (arith, a.left, b.left) in
+    let height : f.size.height ≡ g.size.height = omega (arith, row, c.bottom, d.bottom, full.height, full'.height) in
+    let width : f.size.width ≡ g.size.width = omega (arith, col, c.right, d.right, full.width, full'.width) in
+    ap₂ rectangle (ap₂ place row col) (ap₂ sized height width)
 
 module _ (places : Places) where
   -- a new place has one old place
@@ -34,32 +34,32 @@ module _ (places : Places) where
   carries_one e f g full full' c d = same_cells f g full full' (λ p h. let t = c.from p h in d.only p t.0 t.2 t.1) (λ p h. let t = d.from p h in c.only p t.0 t.2 t.1)
 
   -- more than one cell goes to more than one
-  pub carries_more : (e f : Rectangle) → HasArea f → Carries places e f → IsSpanSize e.1 → IsSpanSize f.1
-  carries_more e f full c size = record { height = full.height; width = full.width; merges = by (cases_lt 1 f.1.height) (cases_lt 1 f.1.width) }
+  pub carries_more : (e f : Rectangle) → HasArea f → Carries places e f → IsSpanSize e.size → IsSpanSize f.size
+  carries_more e f full c size = record { height = full.height; width = full.width; merges = by (cases_lt 1 f.size.height) (cases_lt 1 f.size.width) }
     where
-      first : In e e.0
+      first : In e e.first
       first = first_in e (record { height = size.height; width = size.width })
 
       -- two cells that have the one place are one
-      alone : f.1.height ≤ 1 → f.1.width ≤ 1 → (q : Position) → In e q → q ≡ e.0
+      alone : f.size.height ≤ 1 → f.size.width ≤ 1 → (q : Position) → In e q → q ≡ e.first
       alone low thin q h =
           let t = c.all q h in
-          let u = c.all e.0 first in
+          let u = c.all e.first first in
           let i = c.only t.0 q t.1 h in
-          let j = c.only u.0 e.0 u.1 first in
+          let j = c.only u.0 e.first u.1 first in
           let row : t.0.row ≡ u.0.row = omega (arith, i.top, i.bottom, j.top, j.bottom, low) in
           let col : t.0.col ≡ u.0.col = omega (arith, i.left, i.right, j.left, j.right, thin) in
-          takes_one u.0 q e.0 (subst (λ x. Takes places x q) (ap₂ place row col) t.1) u.1
+          takes_one u.0 q e.first (subst (λ x. Takes places x q) (ap₂ place row col) t.1) u.1
 
-      never : f.1.height ≤ 1 → f.1.width ≤ 1 → (1 < e.1.height) ⊎ (1 < e.1.width) → ⊥
+      never : f.size.height ≤ 1 → f.size.width ≤ 1 → (1 < e.size.height) ⊎ (1 < e.size.width) → ⊥
       never low thin (inl tall) =
-          let same = alone low thin (place (e.0.row + 1) e.0.col) (record { top = omega arith; bottom = omega (arith, tall); left = omega arith; right = omega (arith, size.width) }) in
+          let same = alone low thin (place (e.first.row + 1) e.first.col) (record { top = omega arith; bottom = omega (arith, tall); left = omega arith; right = omega (arith, size.width) }) in
           omega (arith, ap (λ (x : Position). x.row) same)
       never low thin (inr wide) =
-          let same = alone low thin (place e.0.row (e.0.col + 1)) (record { top = omega arith; bottom = omega (arith, size.height); left = omega arith; right = omega (arith, wide) }) in
+          let same = alone low thin (place e.first.row (e.first.col + 1)) (record { top = omega arith; bottom = omega (arith, size.height); left = omega arith; right = omega (arith, wide) }) in
           omega (arith, ap (λ (x : Position). x.col) same)
 
-      by : (1 < f.1.height) ⊎ (f.1.height ≤ 1) → (1 < f.1.width) ⊎ (f.1.width ≤ 1) → (1 < f.1.height) ⊎ (1 < f.1.width)
+      by : (1 < f.size.height) ⊎ (f.size.height ≤ 1) → (1 < f.size.width) ⊎ (f.size.width ≤ 1) → (1 < f.size.height) ⊎ (1 < f.size.width)
       by (inl tall) w = inl tall
       by (inr low) (inl wide) = inr wide
       by (inr low) (inr thin) = absurd (never low thin size.merges)
@@ -69,25 +69,25 @@ module _ (places : Places) where
   image_fits old new rows columns is fits = record { sizes = record { each = sizes }; inside = inside; apart = apart }
     where
       sizes : (b : Position) (t : Size) → get new b ≡ Some t → IsSpanSize t
-      sizes b t has = let c = is.comes b t has in carries_more (c.0, c.1) (b, t) c.4 c.3 (fits.sizes.each c.0 c.1 c.2)
+      sizes b t has = let c = is.comes b t has in carries_more (rectangle c.0 c.1) (rectangle b t) c.4 c.3 (fits.sizes.each c.0 c.1 c.2)
 
       inside : (b : Position) (t : Size) → get new b ≡ Some t → (b.row + t.height ≤ places.rows) × (b.col + t.width ≤ places.columns)
       inside b t has =
           let c = is.comes b t has in
-          let last = (c.3.from (last_of (b, t)) (last_in (b, t) c.4)).2 in
+          let last = (c.3.from (last_of (rectangle b t)) (last_in (rectangle b t) c.4)).2 in
           (omega (arith, last.row, c.4.height), omega (arith, last.col, c.4.width))
 
-      meet : (a b p : Position) (s t : Size) (c : (k : Position) × (z : Size) × (get old k ≡ Some z) × Carries places (k, z) (a, s) × HasArea (a, s)) (d : (k : Position) × (z : Size) × (get old k ≡ Some z) × Carries places (k, z) (b, t) × HasArea (b, t)) → In (a, s) p → In (b, t) p → a ≡ b
+      meet : (a b p : Position) (s t : Size) (c : (k : Position) × (z : Size) × (get old k ≡ Some z) × Carries places (rectangle k z) (rectangle a s) × HasArea (rectangle a s)) (d : (k : Position) × (z : Size) × (get old k ≡ Some z) × Carries places (rectangle k z) (rectangle b t) × HasArea (rectangle b t)) → In (rectangle a s) p → In (rectangle b t) p → a ≡ b
       meet a b p s t c d ha hb =
           let q = c.3.from p ha in
           let r = d.3.from p hb in
           let one = takes_one p q.0 r.0 q.2 r.2 in
-          let anchor = fits.apart c.0 d.0 c.1 d.1 q.0 c.2 d.2 (holds-from _ _ q.1) (holds-from _ _ (subst (λ x. In (d.0, d.1) x) (sym one) r.1)) in
+          let anchor = fits.apart c.0 d.0 c.1 d.1 q.0 c.2 d.2 (holds-from _ _ q.1) (holds-from _ _ (subst (λ x. In (rectangle d.0 d.1) x) (sym one) r.1)) in
           let size = same_Some _ _ (sym c.2 ∙ ap (get old) anchor ∙ d.2) in
-          let other : Carries places (c.0, c.1) (b, t) = subst (λ e. Carries places e (b, t)) (ap₂ (λ k z. (k, z)) (sym anchor) (sym size)) d.3 in
-          ap (λ (f : Rectangle). f.0) (carries_one (c.0, c.1) (a, s) (b, t) c.4 d.4 c.3 other)
+          let other : Carries places (rectangle c.0 c.1) (rectangle b t) = subst (λ e. Carries places e (rectangle b t)) (ap₂ rectangle (sym anchor) (sym size)) d.3 in
+          ap (λ (f : Rectangle). f.first) (carries_one (rectangle c.0 c.1) (rectangle a s) (rectangle b t) c.4 d.4 c.3 other)
 
-      apart : (a b : Position) (s t : Size) (p : Position) → get new a ≡ Some s → get new b ≡ Some t → holds (a, s) p ≡ true → holds (b, t) p ≡ true → a ≡ b
+      apart : (a b : Position) (s t : Size) (p : Position) → get new a ≡ Some s → get new b ≡ Some t → holds (rectangle a s) p ≡ true → holds (rectangle b t) p ≡ true → a ≡ b
       apart a b s t p ha hb ia ib = meet a b p s t (is.comes a s ha) (is.comes b t hb) (holds-true _ _ ia) (holds-true _ _ ib)
 
   -- a map has one image
@@ -127,7 +127,7 @@ module _ (places : Places) where
   cell_from f p h = block-from _ _ _ _ p (record { top = h.top; bottom = h.bottom; left = h.left; right = h.right })
 
   -- the test says what the record says
-  carries-true : (e f : Rectangle) → (f.0.row + f.1.height ≤ places.rows) × (f.0.col + f.1.width ≤ places.columns) → carries places e f ≡ true → Carries places e f
+  carries-true : (e f : Rectangle) → (f.first.row + f.size.height ≤ places.rows) × (f.first.col + f.size.width ≤ places.columns) → carries places e f ≡ true → Carries places e f
   carries-true e f inside h = record { all = all; only = only; from = from }
     where
       new : Position → Bool
@@ -185,53 +185,53 @@ module _ (places : Places) where
           any-from (λ (p : Position). old_place_passes (same_place q) (places.old_place p)) t.0 (cells_in f) (cell_from f t.0 (c.only t.0 q t.1 i)) (passed-from (same_place q) (places.old_place t.0) q t.1.from (same_place-self q))
 
   -- the rectangles inside a table
-  rectangle-member : (f : Rectangle) → Member f (rectangles places.rows places.columns) → HasArea f × (f.0.row + f.1.height ≤ places.rows) × (f.0.col + f.1.width ≤ places.columns)
+  rectangle-member : (f : Rectangle) → Member f (rectangles_inside places.rows places.columns) → HasArea f × (f.first.row + f.size.height ≤ places.rows) × (f.first.col + f.size.width ≤ places.columns)
   rectangle-member f m = grind (arith, common_steps, flat_map-member, map-member, block-member)
 
-  rectangle-from : (f : Rectangle) → HasArea f → f.0.row + f.1.height ≤ places.rows → f.0.col + f.1.width ≤ places.columns → Member f (rectangles places.rows places.columns)
+  rectangle-from : (f : Rectangle) → HasArea f → f.first.row + f.size.height ≤ places.rows → f.first.col + f.size.width ≤ places.columns → Member f (rectangles_inside places.rows places.columns)
   rectangle-from f full tall wide =
-      let height : f.1.height - 1 + 1 ≡ f.1.height = omega (arith, full.height) in
-      let width : f.1.width - 1 + 1 ≡ f.1.width = omega (arith, full.width) in
-      let within : Member f.0 (block 0 places.rows 0 places.columns) = block-from 0 places.rows 0 places.columns f.0 (record { top = omega arith; bottom = omega (arith, full.height, tall); left = omega arith; right = omega (arith, full.width, wide) }) in
-      let last : Member (place (f.1.height - 1) (f.1.width - 1)) (block 0 (places.rows - f.0.row) 0 (places.columns - f.0.col)) = block-from 0 (places.rows - f.0.row) 0 (places.columns - f.0.col) (place (f.1.height - 1) (f.1.width - 1)) (record { top = omega arith; bottom = omega (arith, full.height, tall); left = omega arith; right = omega (arith, full.width, wide) }) in
-      let made = map-from (λ (last : Position). (f.0, sized (last.row + 1) (last.col + 1))) (place (f.1.height - 1) (f.1.width - 1)) (block 0 (places.rows - f.0.row) 0 (places.columns - f.0.col)) last in
-      let f' : Rectangle = (f.0, sized (f.1.height - 1 + 1) (f.1.width - 1 + 1)) in
-      let same : f' ≡ f = ap₂ (λ h w. (f.0, sized h w)) height width in
-      flat_map-from (λ (p : Position). map (λ (last : Position). (p, sized (last.row + 1) (last.col + 1))) (block 0 (places.rows - p.row) 0 (places.columns - p.col))) f.0 f (block 0 places.rows 0 places.columns) within
-      (subst (λ g. Member g (map (λ (last : Position). (f.0, sized (last.row + 1) (last.col + 1))) (block 0 (places.rows - f.0.row) 0 (places.columns - f.0.col)))) same made)
+      let height : f.size.height - 1 + 1 ≡ f.size.height = omega (arith, full.height) in
+      let width : f.size.width - 1 + 1 ≡ f.size.width = omega (arith, full.width) in
+      let within : Member f.first (block 0 places.rows 0 places.columns) = block-from 0 places.rows 0 places.columns f.first (record { top = omega arith; bottom = omega (arith, full.height, tall); left = omega arith; right = omega (arith, full.width, wide) }) in
+      let last : Member (place (f.size.height - 1) (f.size.width - 1)) (block 0 (places.rows - f.first.row) 0 (places.columns - f.first.col)) = block-from 0 (places.rows - f.first.row) 0 (places.columns - f.first.col) (place (f.size.height - 1) (f.size.width - 1)) (record { top = omega arith; bottom = omega (arith, full.height, tall); left = omega arith; right = omega (arith, full.width, wide) }) in
+      let made = map-from (λ (last : Position). rectangle f.first (sized (last.row + 1) (last.col + 1))) (place (f.size.height - 1) (f.size.width - 1)) (block 0 (places.rows - f.first.row) 0 (places.columns - f.first.col)) last in
+      let f' : Rectangle = rectangle f.first (sized (f.size.height - 1 + 1) (f.size.width - 1 + 1)) in
+      let same : f' ≡ f = ap₂ (λ h w. rectangle f.first (sized h w)) height width in
+      flat_map-from (λ (p : Position). map (λ (last : Position). rectangle p (sized (last.row + 1) (last.col + 1))) (block 0 (places.rows - p.row) 0 (places.columns - p.col))) f.first f (block 0 places.rows 0 places.columns) within
+      (subst (λ g. Member g (map (λ (last : Position). rectangle f.first (sized (last.row + 1) (last.col + 1))) (block 0 (places.rows - f.first.row) 0 (places.columns - f.first.col)))) same made)
 
   -- the defined map is the image, where rectangles share no cell
   pub image_is : (m : SpanMap) (rows columns : ℕ) → Fits m rows columns → IsImage places m (image places m)
   image_is m rows columns fits = record { comes = comes; goes = goes }
     where
       test : Rectangle → Bool
-      test f = list_any (λ (e : Rectangle). carries places e f) (entries m)
+      test f = list_any (λ (e : Rectangle). carries places e f) (rectangles m)
 
-      of_member : (b : Position) (t : Size) → Member (b, t) (images places (entries m)) → (a : Position) × (s : Size) × (get m a ≡ Some s) × Carries places (a, s) (b, t) × HasArea (b, t)
+      of_member : (b : Position) (t : Size) → Member (rectangle b t) (images places (rectangles m)) → (a : Position) × (s : Size) × (get m a ≡ Some s) × Carries places (rectangle a s) (rectangle b t) × HasArea (rectangle b t)
       of_member b t h =
-          let parts = filter-member test (b, t) (rectangles places.rows places.columns) h in
-          let room = rectangle-member (b, t) parts.0 in
-          let e = any-member (λ (e : Rectangle). carries places e (b, t)) (entries m) parts.1 in
-          let here = sorted-find position_cmp positions_total positions_exact (entries m) e.0.0 e.0.1 (entries_sorted m) e.1 in
-          (e.0.0, e.0.1, get-entries m e.0.0 ∙ here, carries-true e.0 (b, t) (room.1, room.2) e.2, room.0)
+          let parts = filter-member test (rectangle b t) (rectangles_inside places.rows places.columns) h in
+          let room = rectangle-member (rectangle b t) parts.0 in
+          let e = any-member (λ (e : Rectangle). carries places e (rectangle b t)) (rectangles m) parts.1 in
+          let here = sorted-find (rectangles m) e.0 (rectangles_sorted m) e.1 in
+          (e.0.first, e.0.size, get-rectangles m e.0.first ∙ here, carries-true e.0 (rectangle b t) (room.1, room.2) e.2, room.0)
 
-      comes : (b : Position) (t : Size) → get (image places m) b ≡ Some t → (a : Position) × (s : Size) × (get m a ≡ Some s) × Carries places (a, s) (b, t) × HasArea (b, t)
-      comes b t h = of_member b t (find-member position_cmp positions_total positions_exact (images places (entries m)) b t (sym (get-from_entries positions_total (images places (entries m)) b) ∙ h))
+      comes : (b : Position) (t : Size) → get (image places m) b ≡ Some t → (a : Position) × (s : Size) × (get m a ≡ Some s) × Carries places (rectangle a s) (rectangle b t) × HasArea (rectangle b t)
+      comes b t h = of_member b t (find-member (images places (rectangles m)) b t (sym (get-from_entries positions_total (pairs (images places (rectangles m))) b) ∙ h))
 
-      goes : (a b : Position) (s t : Size) → get m a ≡ Some s → Carries places (a, s) (b, t) → HasArea (b, t) → get (image places m) b ≡ Some t
+      goes : (a b : Position) (s t : Size) → get m a ≡ Some s → Carries places (rectangle a s) (rectangle b t) → HasArea (rectangle b t) → get (image places m) b ≡ Some t
       goes a b s t has c full =
-          let l = last_in (b, t) full in
-          let end = (c.from (last_of (b, t)) l).2 in
-          let inside = rectangle-from (b, t) full (omega (arith, end.row, full.height)) (omega (arith, end.col, full.width)) in
-          let entry = find-member position_cmp positions_total positions_exact (entries m) a s (sym (get-entries m a) ∙ has) in
-          let member = filter-from test (b, t) (rectangles places.rows places.columns) inside (any-from (λ (e : Rectangle). carries places e (b, t)) (a, s) (entries m) entry (carries-from (a, s) (b, t) c)) in
-          let found = member-find position_cmp positions_total positions_exact (images places (entries m)) b t member in
-          let got = get-from_entries positions_total (images places (entries m)) b ∙ found.1 in
+          let l = last_in (rectangle b t) full in
+          let end = (c.from (last_of (rectangle b t)) l).2 in
+          let inside = rectangle-from (rectangle b t) full (omega (arith, end.row, full.height)) (omega (arith, end.col, full.width)) in
+          let entry = find-member (rectangles m) a s (sym (get-rectangles m a) ∙ has) in
+          let member = filter-from test (rectangle b t) (rectangles_inside places.rows places.columns) inside (any-from (λ (e : Rectangle). carries places e (rectangle b t)) (rectangle a s) (rectangles m) entry (carries-from (rectangle a s) (rectangle b t) c)) in
+          let found = member-find (images places (rectangles m)) (rectangle b t) member in
+          let got = get-from_entries positions_total (pairs (images places (rectangles m))) b ∙ found.1 in
           let d = comes b found.0 got in
-          let q = c.from b (first_in (b, t) full) in
-          let r = d.3.from b (first_in (b, found.0) d.4) in
+          let q = c.from b (first_in (rectangle b t) full) in
+          let r = d.3.from b (first_in (rectangle b found.0) d.4) in
           let one = takes_one b q.0 r.0 q.2 r.2 in
-          let anchor = fits.apart a d.0 s d.1 q.0 has d.2 (holds-from _ _ q.1) (holds-from _ _ (subst (λ x. In (d.0, d.1) x) (sym one) r.1)) in
+          let anchor = fits.apart a d.0 s d.1 q.0 has d.2 (holds-from _ _ q.1) (holds-from _ _ (subst (λ x. In (rectangle d.0 d.1) x) (sym one) r.1)) in
           let size = same_Some _ _ (sym has ∙ ap (get m) anchor ∙ d.2) in
-          let other : Carries places (a, s) (b, found.0) = subst (λ e. Carries places e (b, found.0)) (ap₂ (λ k z. (k, z)) (sym anchor) (sym size)) d.3 in
-          got ∙ ap (λ (f : Rectangle). Some f.1) (carries_one (a, s) (b, found.0) (b, t) d.4 full other c)
+          let other : Carries places (rectangle a s) (rectangle b found.0) = subst (λ e. Carries places e (rectangle b found.0)) (ap₂ rectangle (sym anchor) (sym size)) d.3 in
+          got ∙ ap (λ (f : Rectangle). Some f.size) (carries_one (rectangle a s) (rectangle b found.0) (rectangle b t) d.4 full other c)

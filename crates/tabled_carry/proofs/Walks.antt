@@ -1,5 +1,5 @@
 -- Going through the cells of a rectangle, row by row.
-use Rattle.tabled_carry.proofs.Common.{◌*◌, ◌+◌, ◌-◌, ◌<◌, ◌^◌, ◌∙◌, ◌≡◌, ◌≤◌, ◌⊎◌, Around, Between, Carries, HasArea, In, Places, Position, Rectangle, Takes, ap, ap₂, arith, cells_in, common_steps, inl, inr, length, max, min, place, sized, subst, sym, ℕ}
+use Rattle.tabled_carry.proofs.Common.{◌*◌, ◌+◌, ◌-◌, ◌<◌, ◌^◌, ◌∙◌, ◌≡◌, ◌≤◌, ◌⊎◌, Around, Between, Carries, HasArea, In, Places, Position, Rectangle, Takes, ap, ap₂, arith, cells_in, common_steps, holds, inl, inr, length, max, min, place, rectangle, sized, subst, sym, ℕ}
 use Rattle.tabled_carry.proofs.Pigeonhole.{Once, length-block, once-block, paired}
 use Rattle.tabled_carry.proofs.RectanglesCarried.{cell_from, cell_in, same_cells, takes_one}
 
@@ -16,18 +16,18 @@ pub walked : (e : Rectangle) (i j : ℕ) (q : Position) → place i j ≡ q → 
 walked e i j q at r h = grind (arith, common_steps, before-more)
 
 -- no cell comes before the first one
-none_before : (e : Rectangle) (i j : ℕ) → i ≡ e.0.row → j ≡ e.0.col → (r : Position) → In e r → Before i j r → ⊥
+none_before : (e : Rectangle) (i j : ℕ) → i ≡ e.first.row → j ≡ e.first.col → (r : Position) → In e r → Before i j r → ⊥
 none_before e i j row col r h (inl b) = omega (arith, h.top, row, b)
 none_before e i j row col r h (inr b) = omega (arith, h.left, col, b.1)
 
-pub first_walked : (e : Rectangle) (i j : ℕ) (q : Position) → place i j ≡ q → (i ≡ e.0.row) × (j ≡ e.0.col) → (r : Position) → In e r × Before i (j + 1) r → r ≡ q
+pub first_walked : (e : Rectangle) (i j : ℕ) (q : Position) → place i j ≡ q → (i ≡ e.first.row) × (j ≡ e.first.col) → (r : Position) → In e r × Before i (j + 1) r → r ≡ q
 first_walked e i j q at first r h = grind (arith, common_steps, walked, none_before)
 
 once-cells : (f : Rectangle) → Once (cells_in f)
-once-cells f = once-block f.0.row (f.0.row + f.1.height) f.0.col (f.0.col + f.1.width)
+once-cells f = once-block f.first.row (f.first.row + f.size.height) f.first.col (f.first.col + f.size.width)
 
-length-cells : (f : Rectangle) → length (cells_in f) ≡ f.1.height * f.1.width
-length-cells f = length-block f.0.row (f.0.row + f.1.height) f.0.col (f.0.col + f.1.width) ∙ ap₂ (λ n m. n * m) (omega arith) (omega arith)
+length-cells : (f : Rectangle) → length (cells_in f) ≡ f.size.height * f.size.width
+length-cells f = length-block f.first.row (f.first.row + f.size.height) f.first.col (f.first.col + f.size.width) ∙ ap₂ (λ n m. n * m) (omega arith) (omega arith)
 
 module _ (places : Places) (e : Rectangle) where
   -- where all cells go to a rectangle that has no more, each of its cells comes from one of them
@@ -68,33 +68,33 @@ module _ (places : Places) (e : Rectangle) where
   -- corners around the new places of all cells, and the rectangle between them
   module _ (first last : Position) (a : Around places e (In e) first last) where
     abbrev between : Rectangle
-    between = (first, sized (last.row - first.row + 1) (last.col - first.col + 1))
+    between = rectangle first (sized (last.row - first.row + 1) (last.col - first.col + 1))
 
     -- which is the image, where it has as many cells as the old rectangle
-    pub between-carries : (last.row - first.row + 1) * (last.col - first.col + 1) ≡ e.1.height * e.1.width → Carries places e (first, sized (last.row - first.row + 1) (last.col - first.col + 1))
+    pub between-carries : (last.row - first.row + 1) * (last.col - first.col + 1) ≡ e.size.height * e.size.width → Carries places e (rectangle first (sized (last.row - first.row + 1) (last.col - first.col + 1)))
     between-carries many = record { all = λ q h. let t = a.each q h in (t.0, t.1); only = only; from = from }
       where
-        only : (p q : Position) → Takes places p q → In e q → In (first, sized (last.row - first.row + 1) (last.col - first.col + 1)) p
+        only : (p q : Position) → Takes places p q → In e q → In (rectangle first (sized (last.row - first.row + 1) (last.col - first.col + 1))) p
         only p q t h =
             let n = a.each q h in
             let row : p.row ≡ n.0.row = ap (λ (x : Position). x.row) (n.3 p t) in
             let col : p.col ≡ n.0.col = ap (λ (x : Position). x.col) (n.3 p t) in
             record { top = omega (arith, row, n.2.top); bottom = omega (arith, row, n.2.top, n.2.bottom); left = omega (arith, col, n.2.left); right = omega (arith, col, n.2.left, n.2.right) }
 
-        from : (p : Position) → In (first, sized (last.row - first.row + 1) (last.col - first.col + 1)) p → (q : Position) × In e q × Takes places p q
+        from : (p : Position) → In (rectangle first (sized (last.row - first.row + 1) (last.col - first.col + 1))) p → (q : Position) × In e q × Takes places p q
         from p h =
             (filled between (λ q m. let t = a.each q m in (t.0, only t.0 q t.1 m, t.1))).1 (omega (arith, length-cells e, length-cells between, many)) p h
 
     -- and the image is no other rectangle
-    pub between-one : (g : Rectangle) → Carries places e g → HasArea g → (first, sized (last.row - first.row + 1) (last.col - first.col + 1)) ≡ g
+    pub between-one : (g : Rectangle) → Carries places e g → HasArea g → (rectangle first (sized (last.row - first.row + 1) (last.col - first.col + 1))) ≡ g
     between-one g c full = same_cells between g (record { height = omega arith; width = omega arith }) full to back
       where
-        to : (p : Position) → In (first, sized (last.row - first.row + 1) (last.col - first.col + 1)) p → In g p
+        to : (p : Position) → In (rectangle first (sized (last.row - first.row + 1) (last.col - first.col + 1))) p → In g p
         to p h =
             let l = a.least g c.only in
             record { top = omega (arith, l.0.top, h.top); bottom = omega (arith, l.1.bottom, h.bottom, a.order.bottom); left = omega (arith, l.0.left, h.left); right = omega (arith, l.1.right, h.right, a.order.right) }
 
-        back : (p : Position) → In g p → In (first, sized (last.row - first.row + 1) (last.col - first.col + 1)) p
+        back : (p : Position) → In g p → In (rectangle first (sized (last.row - first.row + 1) (last.col - first.col + 1))) p
         back p h =
             let q = c.from p h in
             let n = a.each q.0 q.1 in
@@ -103,7 +103,7 @@ module _ (places : Places) (e : Rectangle) where
             record { top = omega (arith, row, n.2.top); bottom = omega (arith, row, n.2.top, n.2.bottom); left = omega (arith, col, n.2.left); right = omega (arith, col, n.2.left, n.2.right) }
 
     -- and has as many cells
-    pub carried-many : (g : Rectangle) → Carries places e g → HasArea g → (last.row - first.row + 1) * (last.col - first.col + 1) ≡ e.1.height * e.1.width
+    pub carried-many : (g : Rectangle) → Carries places e g → HasArea g → (last.row - first.row + 1) * (last.col - first.col + 1) ≡ e.size.height * e.size.width
     carried-many g c full =
         let one : between ≡ g = between-one g c full in
         let to = (filled g (λ q m. let t = c.all q m in (t.0, c.only t.0 q t.1 m, t.1))).0 in

@@ -7,8 +7,9 @@ use Rattle.tabled_grid.specs.Fitting.{keep_fitting}
 use Rattle.tabled_grid.specs.Midway.{In}
 use Rattle.tabled_grid.specs.Places.{Places}
 use Rattle.tabled_grid.specs.Rectangles.{holds}
-use Rattle.tabled_grid.specs.Spans.{Rectangle, SpanMap, sized}
+use Rattle.tabled_grid.specs.Spans.{SpanMap, pairs, rectangle, rectangles, sized}
 use Rattle.tabled_grid.specs.declared.config.position.Position.{Position}
+use Rattle.tabled_grid.specs.declared.config.rectangle.Rectangle.{Rectangle}
 use Rattle.tabled_grid.specs.declared.config.size.Size.{Size}
 
 -- a rectangle of a map lies inside a table, and shares no cell with another one
@@ -16,11 +17,11 @@ pub record IsFree (m : SpanMap) (rows columns : ℕ) (a : Position) (s : Size) :
   pub here : finite.get m a ≡ Some s
   pub bottom : a.row + s.height ≤ rows
   pub right : a.col + s.width ≤ columns
-  pub alone : (b : Position) (t : Size) (p : Position) → finite.get m b ≡ Some t → In (a, s) p → In (b, t) p → a ≡ b
+  pub alone : (b : Position) (t : Size) (p : Position) → finite.get m b ≡ Some t → In (rectangle a s) p → In (rectangle b t) p → a ≡ b
 
 -- the cells of a rectangle, row by row
 abbrev pub cells_in : Rectangle → List Position
-cells_in e = block e.0.row (e.0.row + e.1.height) e.0.col (e.0.col + e.1.width)
+cells_in e = block e.first.row (e.first.row + e.size.height) e.first.col (e.first.col + e.size.width)
 
 -- an old place that passes a test
 abbrev pub old_place_passes : (Position → Bool) → Option Position → Bool
@@ -38,16 +39,16 @@ carries places e f =
     && list_all (λ (q : Position). list_any (λ (p : Position). old_place_passes (same_place q) (places.old_place p)) (cells_in f)) (cells_in e)
 
 -- the rectangles inside a table
-abbrev pub rectangles : ℕ → ℕ → List Rectangle
-rectangles rows columns = flat_map (λ (p : Position). map (λ (last : Position). (p, sized (last.row + 1) (last.col + 1))) (block 0 (rows - p.row) 0 (columns - p.col))) (block 0 rows 0 columns)
+abbrev pub rectangles_inside : ℕ → ℕ → List Rectangle
+rectangles_inside rows columns = flat_map (λ (p : Position). map (λ (last : Position). rectangle p (sized (last.row + 1) (last.col + 1))) (block 0 (rows - p.row) 0 (columns - p.col))) (block 0 rows 0 columns)
 
 -- the rectangles of a new table that carry one of the old ones
 abbrev pub images : Places → List Rectangle → List Rectangle
-images places es = filter (λ (f : Rectangle). list_any (λ (e : Rectangle). carries places e f) es) (rectangles places.rows places.columns)
+images places es = filter (λ (f : Rectangle). list_any (λ (e : Rectangle). carries places e f) es) (rectangles_inside places.rows places.columns)
 
 -- the map of these
 abbrev pub image : Places → SpanMap → SpanMap
-image places m = finite.from_entries (images places (finite.entries m))
+image places m = finite.from_entries (pairs (images places (rectangles m)))
 
 -- what becomes of merged cells when the cells of a table of r rows and c columns move
 abbrev pub carried : Places → ℕ → ℕ → SpanMap → SpanMap
@@ -67,13 +68,13 @@ pub record Carries (places : Places) (e f : Rectangle) : Type 0 where
 
 -- a rectangle is not empty
 pub record HasArea (f : Rectangle) : Type 0 where
-  pub height : 1 ≤ f.1.height
-  pub width : 1 ≤ f.1.width
+  pub height : 1 ≤ f.size.height
+  pub width : 1 ≤ f.size.width
 
 -- the new map has just the rectangles that carry one of the old map
 pub record IsImage (places : Places) (old new : SpanMap) : Type 0 where
-  pub comes : (b : Position) (t : Size) → finite.get new b ≡ Some t → (a : Position) × (s : Size) × (finite.get old a ≡ Some s) × Carries places (a, s) (b, t) × HasArea (b, t)
-  pub goes : (a b : Position) (s t : Size) → finite.get old a ≡ Some s → Carries places (a, s) (b, t) → HasArea (b, t) → finite.get new b ≡ Some t
+  pub comes : (b : Position) (t : Size) → finite.get new b ≡ Some t → (a : Position) × (s : Size) × (finite.get old a ≡ Some s) × Carries places (rectangle a s) (rectangle b t) × HasArea (rectangle b t)
+  pub goes : (a b : Position) (s t : Size) → finite.get old a ≡ Some s → Carries places (rectangle a s) (rectangle b t) → HasArea (rectangle b t) → finite.get new b ≡ Some t
 
 -- what goes from a place comes back to it
 pub record LeadsBack (there back : Places) : Type 0 where
@@ -82,7 +83,7 @@ pub record LeadsBack (there back : Places) : Type 0 where
 
 -- each rectangle of a map is carried to one
 pub record CarriesAll (places : Places) (m : SpanMap) : Type 0 where
-  pub each : (a : Position) (s : Size) → finite.get m a ≡ Some s → (f : Rectangle) × Carries places (a, s) f × HasArea f
+  pub each : (a : Position) (s : Size) → finite.get m a ≡ Some s → (f : Rectangle) × Carries places (rectangle a s) f × HasArea f
 
 -- the cells of a table of r rows and c columns keep their places, and no other cell comes to one
 pub record KeepsPlaces (places : Places) (rows columns : ℕ) : Type 0 where

@@ -2,9 +2,8 @@
 
 ghost use Rattle.std.specs.Prelude.{◌≡◌, IfOk, IsNone, IsOk};
 ghost use Rattle.std.specs.Option.{IfSome};
-ghost use Rattle.std.specs.FinMap.{from_sorted};
 ghost use Rattle.tabled_grid.specs.Fitting.{Fits, keep_fitting};
-ghost use Rattle.tabled_grid.specs.Spans.{AreAnchors, AreSpanSizes};
+ghost use Rattle.tabled_grid.specs.Spans.{AreAnchors, AreSpanSizes, map_of};
 ghost use Rattle.tabled_carry.specs.Images.{carried, image};
 
 use crate::images::MovesRectangles;
@@ -81,9 +80,9 @@ fn carried_fitting<M: MovesRectangles>(
 /// Puts the rectangles that those of a list are carried to in their stead, row by row.
 fn carry<M: MovesRectangles>(moves: &M, anchors: &mut Vec<Rectangle>, rows: usize, columns: usize)
     requires anchors { AreAnchors anchors.old.items }
-    requires fits { Fits (from_sorted anchors.old.items) rows columns }
+    requires fits { Fits (map_of anchors.old.items) rows columns }
     ensures anchors { AreAnchors anchors.new.items }
-    ensures image { from_sorted anchors.new.items ≡ image (M.places moves.now) (from_sorted anchors.old.items) }
+    ensures image { map_of anchors.new.items ≡ image (M.places moves.now) (map_of anchors.old.items) }
 {
     let mut count = 0;
     for index in 0..anchors.len() {

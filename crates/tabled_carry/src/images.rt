@@ -6,7 +6,7 @@ ghost use Rattle.tabled_grid.specs.Entity.{place};
 ghost use Rattle.tabled_grid.specs.Midway.{In};
 ghost use Rattle.tabled_grid.specs.Places.{Places};
 ghost use Rattle.tabled_grid.specs.declared.config.position.Position.{Position};
-ghost use Rattle.tabled_grid.specs.Spans.{Rectangle};
+ghost use Rattle.tabled_grid.specs.declared.config.rectangle.Rectangle.{Rectangle};
 ghost use Rattle.tabled_carry.specs.Corners.{Around};
 ghost use Rattle.tabled_carry.specs.Images.{Carries, HasArea, Takes};
 
@@ -32,8 +32,8 @@ pub trait MovesRectangles: Moves {
     /// By default it looks at the new place of each cell.
     fn new_rectangle(&self, of: Rectangle) -> Option<Rectangle>
         requires full { HasArea of }
-        requires bottom { of.0.row + of.1.height < 2 ^ 64 }
-        requires right { of.0.col + of.1.width < 2 ^ 64 }
+        requires bottom { of.first.row + of.size.height < 2 ^ 64 }
+        requires right { of.first.col + of.size.width < 2 ^ 64 }
         ensures carries { IfSome result (λ f. Carries (Self.places self.now) of f) }
         ensures full { IfSome result HasArea }
         ensures finds { (f : Rectangle) → Carries (Self.places self.now) of f → HasArea f → result ≡ Some f }
@@ -65,12 +65,12 @@ impl Corners {
 /// The corners of the new places of all cells of a rectangle, if each has one.
 fn around<M: Moves>(moves: &M, of: Rectangle) -> Option<Corners>
     requires full { HasArea of }
-    requires bottom { of.0.row + of.1.height < 2 ^ 64 }
-    requires right { of.0.col + of.1.width < 2 ^ 64 }
+    requires bottom { of.first.row + of.size.height < 2 ^ 64 }
+    requires right { of.first.col + of.size.width < 2 ^ 64 }
     ensures around { IfSome result (λ corners. Around (M.places moves.now) of (In of) corners.first corners.last) }
     ensures none { IsNone result → (q : Position) × In of q × ((p : Position) → Takes (M.places moves.now) p q → ⊥) }
 {
-    let (first, size) = of;
+    let Rectangle { first, size } = of;
     let mut corners: Option<Corners> = None;
     for i in first.row..first.row + size.height {
         for j in first.col..first.col + size.width {
@@ -89,17 +89,16 @@ fn around<M: Moves>(moves: &M, of: Rectangle) -> Option<Corners>
 
 /// How many cells a rectangle has.
 fn count_of(rectangle: Rectangle) -> u128
-    ensures { result ≡ rectangle.1.height * rectangle.1.width }
+    ensures { result ≡ rectangle.size.height * rectangle.size.width }
 {
-    let (_, size) = rectangle;
-    size.height as u128 * size.width as u128
+    rectangle.size.height as u128 * rectangle.size.width as u128
 }
 
 /// The rectangle that a rectangle is carried to, if there is one, by the new place of each cell.
 pub fn image_of<M: Moves>(moves: &M, of: Rectangle) -> Option<Rectangle>
     requires full { HasArea of }
-    requires bottom { of.0.row + of.1.height < 2 ^ 64 }
-    requires right { of.0.col + of.1.width < 2 ^ 64 }
+    requires bottom { of.first.row + of.size.height < 2 ^ 64 }
+    requires right { of.first.col + of.size.width < 2 ^ 64 }
     ensures carries { IfSome result (λ f. Carries (M.places moves.now) of f) }
     ensures full { IfSome result HasArea }
     ensures finds { (f : Rectangle) → Carries (M.places moves.now) of f → HasArea f → result ≡ Some f }
@@ -109,7 +108,7 @@ pub fn image_of<M: Moves>(moves: &M, of: Rectangle) -> Option<Rectangle>
         height: last.row - first.row + 1,
         width: last.col - first.col + 1,
     };
-    let image = (first, size);
+    let image = Rectangle { first, size };
     // No two cells come to one place: as many places are those of all cells.
     if count_of(image) == count_of(of) {
         Some(image)

@@ -2,7 +2,8 @@
 
 ghost use Rattle.std.specs.Prelude.{◌≡◌, length};
 ghost use Rattle.std.specs.List.Sorted.{IsPermutation, IsSortedByKey};
-ghost use Rattle.tabled_grid.specs.Spans.{Rectangle, position_cmp};
+ghost use Rattle.tabled_grid.specs.Spans.{position_cmp};
+ghost use Rattle.tabled_grid.specs.declared.config.rectangle.Rectangle.{Rectangle};
 
 use tabled_grid::config::Rectangle;
 
@@ -13,11 +14,11 @@ use tabled_grid::config::Rectangle;
 pub(crate) fn sort(rectangles: &mut [Rectangle])
     ensures permutation { IsPermutation rectangles.old rectangles.new }
     ensures len { length rectangles.new ≡ length rectangles.old }
-    ensures sorted { IsSortedByKey (λ (f : Rectangle). f.0) position_cmp rectangles.new }
+    ensures sorted { IsSortedByKey (λ (f : Rectangle). f.first) position_cmp rectangles.new }
 {
     reverse_descending(rectangles);
     reverse_descending_rows(rectangles);
-    rectangles.sort_unstable_by_key(|rectangle| rectangle.0);
+    rectangles.sort_unstable_by_key(|rectangle| rectangle.first);
 }
 
 /// Puts rectangles into the opposite order whose first one stands after the last one.
@@ -26,7 +27,7 @@ fn reverse_descending(rectangles: &mut [Rectangle])
     ensures len { length rectangles.new ≡ length rectangles.old }
 {
     if let (Some(first), Some(last)) = (rectangles.first(), rectangles.last()) {
-        if first.0 > last.0 {
+        if first.first > last.first {
             rectangles.reverse();
         }
     }
@@ -39,7 +40,7 @@ fn reverse_descending_rows(rectangles: &mut [Rectangle])
 {
     let mut start = 0;
     for end in 1..rectangles.len() {
-        if rectangles[end].0.row != rectangles[start].0.row {
+        if rectangles[end].first.row != rectangles[start].first.row {
             reverse_descending(&mut rectangles[start..end]);
             start = end;
         }

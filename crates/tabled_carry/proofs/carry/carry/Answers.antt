@@ -1,4 +1,4 @@
-use Rattle.tabled_carry.proofs.Common.{[], ◌++◌, ◌+◌, ◌<◌, ◌∙◌, ◌≡◌, ◌≤◌, AreAnchors, Carries, List, Rectangle, ap, arith, drop, from_sorted, get_or, length, none-some, position_cmp, subst, sym, take, take_all, ℕ}
+use Rattle.tabled_carry.proofs.Common.{[], ◌++◌, ◌+◌, ◌<◌, ◌∙◌, ◌≡◌, ◌≤◌, AreAnchors, Carries, List, Rectangle, ap, arith, drop, get_or, length, map_of, none-some, subst, sym, take, take_all, ℕ}
 use Rattle.std.proofs.Math.Seq.{take-append_seam}
 use Rattle.tabled_carry.proofs.Carrying.{Images, images-anchors, images-make, images-sorted, next-inside, next-none, next-some, rising-sorted}
 use Rattle.tabled_carry.proofs.InPlace.{underway-none, underway-some}
@@ -13,8 +13,8 @@ module _ (g : _) (c : After-index g) where
   read : get_or c.args.anchors.now.items c.loop-index.index c.index.result.now ≡ c.index.result.now
   read = sym (c.loop-index.invariant.rest c.loop-index.index c.index.result.now (omega arith)) ∙ sym c.index.ensures
 
-  inside : (c.index.result.now.0.row + c.index.result.now.1.height ≤ c.args.rows) × (c.index.result.now.0.col + c.index.result.now.1.width ≤ c.args.columns)
-  inside = subst (λ (e : Rectangle). (e.0.row + e.1.height ≤ c.args.rows) × (e.0.col + e.1.width ≤ c.args.columns)) read (next-inside (g.M.Moves.places c.args.moves.now) c.args.anchors.now.items [] c.loop-index.index c.args.rows c.args.columns c.index.result.now c.requires.anchors c.requires.fits here)
+  inside : (c.index.result.now.first.row + c.index.result.now.size.height ≤ c.args.rows) × (c.index.result.now.first.col + c.index.result.now.size.width ≤ c.args.columns)
+  inside = subst (λ (e : Rectangle). (e.first.row + e.size.height ≤ c.args.rows) × (e.first.col + e.size.width ≤ c.args.columns)) read (next-inside (g.M.Moves.places c.args.moves.now) c.args.anchors.now.items [] c.loop-index.index c.args.rows c.args.columns c.index.result.now c.requires.anchors c.requires.fits here)
 
 pub new_rectangle-requires-clause-bottom : goal.new_rectangle-requires-clause-bottom
 new_rectangle-requires-clause-bottom g c =
@@ -65,4 +65,4 @@ returns-clause-image g c =
     let old = c.args.anchors.now.items in
     let ys = c.sort.new.rectangles in
     let im = sorted g (goal.at.returns-clause-image g c).After-sort in
-    ap (λ (zs : List Rectangle). from_sorted {R = position_cmp} zs) (written c.truncate.new.self.len ys c.truncate.new.self.items (c.sort.ensures.len ∙ c.deref_mut.ensures.len)) ∙ images-make places old ys c.args.rows c.args.columns c.requires.anchors c.requires.fits im (rising-sorted places old ys c.sort.ensures.sorted im)
+    ap map_of (written c.truncate.new.self.len ys c.truncate.new.self.items (c.sort.ensures.len ∙ c.deref_mut.ensures.len)) ∙ images-make places old ys c.args.rows c.args.columns c.requires.anchors c.requires.fits im (rising-sorted places old ys c.sort.ensures.sorted im)

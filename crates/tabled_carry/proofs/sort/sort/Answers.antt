@@ -5,4 +5,4 @@ pub returns-clause-permutation : goal.returns-clause-permutation
 returns-clause-permutation c = IsPermutation-trans _ _ _ c.reverse_descending.ensures.permutation (IsPermutation-trans _ _ _ c.reverse_descending_rows.ensures.permutation c.sort_unstable_by_key.ensures.permutation)
 
 pub returns-clause-sorted : goal.returns-clause-sorted
-returns-clause-sorted c = c.sort_unstable_by_key.ensures.sorted (λ (f : Rectangle). f.0) (answers_always _ _ _ (λ f a r h called. search rules))
+returns-clause-sorted c = c.sort_unstable_by_key.ensures.sorted (λ (f : Rectangle). f.first) (answers_always _ _ _ (λ f a r h called. search rules))
