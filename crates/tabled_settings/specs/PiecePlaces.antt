@@ -49,11 +49,13 @@ pub record Splits {A : Type 0} (is_blank : A → Type 0) (text_of : A → List �
   pub cells : FillsThrough is_blank (split_places s (map_grid text_of old)) old new
   pub unsplit : has_pieces s old.rows old.columns ≡ false → new ≡ old
 
--- lines are cut into pieces, and the merged cells are carried along where there are some
+-- the merged cells of a table of these texts, once its lines are cut: as they were where there are no pieces
+abbrev pub spans_of_split : Split → Grid (List ℕ) → SpanMap → SpanMap
+spans_of_split s g m = carried_if (has_pieces s g.rows g.columns) (split_places s g) g.rows g.columns m
+
+-- the lines of a table are cut, and the merged cells are carried along
 abbrev pub SplitsTable : {A : Type 0} → (A → Type 0) → (A → List ℕ) → Split → Change A SpanMap
-SplitsTable is_blank text_of split old cfg new new_cfg =
-    let places = split_places split (map_grid text_of old) in
-    Splits is_blank text_of split old new × (new_cfg ≡ carried_if (has_pieces split old.rows old.columns) places old.rows old.columns cfg)
+SplitsTable is_blank text_of s old cfg new new_cfg = Splits is_blank text_of s old new × (new_cfg ≡ spans_of_split s (map_grid text_of old) cfg)
 
 -- the pieces of line i, one after the other, cut at a width
 abbrev pub glued_line : {A : Type 0} → PieceOrder → ℕ → ℕ → ℕ → List (List A) → ℕ → List A

@@ -66,12 +66,6 @@ reversed_index s e n i = if nat_le e n && (nat_le s i && nat_lt i e) then s + e 
 abbrev pub reversed : Axis → ℕ → Offset → ℕ → ℕ → Places
 reversed axis start limit rows columns = lines_from axis (reversed_index start (limit_end limit start (count_of axis rows columns)) (count_of axis rows columns)) rows columns
 
--- lines are put in the opposite order, and the merged cells are carried along where there are some
-abbrev pub ReversesTable : {A : Type 0} → Reverse → Change A SpanMap
-ReversesTable reverse old cfg new new_cfg =
-    let places = reversed reverse.axis reverse.start reverse.limit old.rows old.columns in
-    ReadsThrough places old new × (new_cfg ≡ carried_if (reverses reverse.axis reverse.start reverse.limit old.rows old.columns) places old.rows old.columns cfg)
-
 -- how many of n indexes are in a range
 abbrev pub count_in : (Bound ℕ × Bound ℕ) → ℕ → ℕ
 count_in range n = min (end_index range.1 n) n - first_index range.0
@@ -113,6 +107,14 @@ IsRotated rotate old new = ReadsThrough (rotated rotate old.rows old.columns) ol
 -- a table is another one, reversed
 abbrev pub IsReversed : {A : Type 0} → Reverse → Grid A → Grid A → Type 0
 IsReversed reverse old new = ReadsThrough (reversed reverse.axis reverse.start reverse.limit old.rows old.columns) old new
+
+-- the merged cells of a table of r rows and c columns, once lines are reversed: as they were where there are none to reverse
+abbrev pub spans_of_reversal : Reverse → ℕ → ℕ → SpanMap → SpanMap
+spans_of_reversal reverse rows columns m = carried_if (reverses reverse.axis reverse.start reverse.limit rows columns) (reversed reverse.axis reverse.start reverse.limit rows columns) rows columns m
+
+-- lines of a table are reversed, and the merged cells are carried along
+abbrev pub ReversesTable : {A : Type 0} → Reverse → Change A SpanMap
+ReversesTable reverse old cfg new new_cfg = IsReversed reverse old new × (new_cfg ≡ spans_of_reversal reverse old.rows old.columns cfg)
 
 -- the merged cells of a table that is rotated
 abbrev pub spans_rotated : Rotate → ℕ → ℕ → SpanMap → SpanMap

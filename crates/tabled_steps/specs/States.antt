@@ -16,11 +16,11 @@ use Rattle.tabled_settings.specs.Charsets.{charset_writes}
 use Rattle.tabled_settings.specs.Wraps.{wrap_writes}
 use Rattle.tabled_settings.specs.Dups.{dup_writes}
 use Rattle.tabled_carry.specs.Images.{carried}
-use Rattle.tabled_settings.specs.Joined.{corner_of, joined_places}
-use Rattle.tabled_settings.specs.PiecePlaces.{glued, split_places}
-use Rattle.tabled_settings.specs.Pieces.{has_pieces, split}
+use Rattle.tabled_settings.specs.Joined.{spans_of_join}
+use Rattle.tabled_settings.specs.PiecePlaces.{glued, spans_of_split}
+use Rattle.tabled_settings.specs.Pieces.{split}
 use Rattle.tabled_grid.specs.Places.{Places}
-use Rattle.tabled_settings.specs.Rearranged.{carried_if, extracted, removed, reversed, reverses, rotated}
+use Rattle.tabled_settings.specs.Rearranged.{extracted, removed, reversed, rotated, spans_of_reversal}
 use Rattle.tabled_settings.specs.declared.reverse.Reverse.{Reverse}
 use Rattle.tabled_settings.specs.declared.split.Display.TheVariants.{Retain}
 use Rattle.tabled_settings.specs.declared.split.Split.{Split}
@@ -84,16 +84,15 @@ rearrange places s = record { texts = read (places s.texts.rows s.texts.columns)
 
 -- lines in the opposite order, where the limit isn't past the table
 abbrev pub reverse : Reverse → State → State
-reverse r s = let places = reversed r.axis r.start r.limit s.texts.rows s.texts.columns in
-    record { texts = read places s.texts; spans = carried_if (reverses r.axis r.start r.limit s.texts.rows s.texts.columns) places s.texts.rows s.texts.columns s.spans }
+reverse r s = record { texts = read (reversed r.axis r.start r.limit s.texts.rows s.texts.columns) s.texts; spans = spans_of_reversal r s.texts.rows s.texts.columns s.spans }
 
 -- rows or columns cut into pieces
 abbrev pub cut_lines : Split → State → State
-cut_lines how s = record { texts = split how s.texts; spans = carried_if (has_pieces how s.texts.rows s.texts.columns) (split_places how s.texts) s.texts.rows s.texts.columns s.spans }
+cut_lines how s = record { texts = split how s.texts; spans = spans_of_split how s.texts s.spans }
 
 -- a second table joined to the texts
 abbrev pub join : Axis → Grid (List ℕ) → List ℕ → State → State
-join axis second default s = record { texts = joined_tables axis second default s.texts; spans = carried (joined_places (corner_of axis s.texts.rows s.texts.columns) second s.texts.rows s.texts.columns) s.texts.rows s.texts.columns s.spans }
+join axis second default s = record { texts = joined_tables axis second default s.texts; spans = spans_of_join axis second s.texts.rows s.texts.columns s.spans }
 
 -- the rows, or the columns, of a range taken away
 abbrev pub remove_range : Axis → ℕ → ℕ → State → State
