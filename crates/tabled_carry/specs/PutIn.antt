@@ -12,11 +12,11 @@ abbrev pub FitsGrid : {A : Type 0} → SpanMap → Grid A → Type 0
 FitsGrid m g = Fits m g.rows g.columns
 
 -- a row of cells is put in before row i, and merged cells from there on go one row down
-pub record PutsInRow {A : Type 0} (i : ℕ) (row : List A) (g : Grid A) (m : SpanMap) (h : Grid A) (n : SpanMap) : Type 0 where
-  pub grid : h ≡ with_row g i row
-  pub merged : n ≡ shifted Rows i m
+pub record PutsInRow {A : Type 0} (i : ℕ) (row : List A) (old : Grid A) (cfg : SpanMap) (new : Grid A) (new_cfg : SpanMap) : Type 0 where
+  pub grid : new ≡ with_row old i row
+  pub merged : new_cfg ≡ shifted Rows i cfg
 
 -- a column of cells is put in before column j, and merged cells from there on go one column to the right
-pub record PutsInColumn {A : Type 0} (j : ℕ) (column : List A) (g : Grid A) (m : SpanMap) (h : Grid A) (n : SpanMap) : Type 0 where
-  pub grid : h ≡ with_column g j column
-  pub merged : n ≡ shifted Columns j m
+pub record PutsInColumn {A : Type 0} (j : ℕ) (column : List A) (old : Grid A) (cfg : SpanMap) (new : Grid A) (new_cfg : SpanMap) : Type 0 where
+  pub grid : new ≡ with_column old j column
+  pub merged : new_cfg ≡ shifted Columns j cfg

@@ -1,64 +1,98 @@
 //! Maps of merged cells, carried along when the cells of a table move.
 
-ghost use Rattle.std.specs.Prelude.{◌≡◌, IfOk, IsNone, IsOk};
-ghost use Rattle.std.specs.Option.{IfSome};
+ghost use Rattle.std.specs.Prelude.{◌≡◌, IfOk, IsOk};
 ghost use Rattle.tabled_grid.specs.Fitting.{Fits, keep_fitting};
 ghost use Rattle.tabled_grid.specs.Spans.{AreAnchors, AreSpanSizes, map_of};
+ghost use Rattle.tabled_carry.specs.Found.{IsFoundOf};
 ghost use Rattle.tabled_carry.specs.Images.{carried, image};
 
 use crate::images::MovesRectangles;
 use crate::sort::sort;
 use std::alloc::{AllocError, Global};
+use std::marker::Model;
 use std::mem;
 use tabled_grid::config::{Rectangle, SpannedConfig};
 
-/// What becomes of the merged cells of a table (`rows x columns`) whose cells keep their places: those that do
-/// not fit go. None where all fit, and the map stays as it is.
+/// The merged cells of a table (`rows x columns`) that fit it, found before its cells move. A contract sees it
+/// as what was found: that shape, and those that fit, or none where all do.
 ///
-/// It takes memory only where one doesn't fit.
-pub fn kept_in_place(
-    alloc: Global,
-    cfg: &SpannedConfig,
+/// Of this project.
+#[derive(Drop)]
+pub struct FittingSpans {
     rows: usize,
     columns: usize,
-) -> Result<Option<SpannedConfig>, AllocError>
-    ensures kept { IfOk result (λ new. IfSome new (λ kept. kept ≡ keep_fitting rows columns cfg.now)) }
-    ensures same { IfOk result (λ new. IsNone new → keep_fitting rows columns cfg.now ≡ cfg.now) }
-    ensures sizes { AreSpanSizes cfg.now }
-    ensures promised { Fits cfg.now rows columns → IsOk result }
-{
-    if cfg.fits(rows, columns) {
-        return Ok(None);
-    }
-    Ok(Some(cfg.fitting(alloc, rows, columns)?))
+    /// None where all fit.
+    fitting: Option<SpannedConfig>,
 }
 
-/// Carries the merged cells of a table along when its cells have moved. It was `rows x columns` before: those
-/// that did not fit it go, and each of the others goes to where the new places of its cells form a rectangle,
-/// or else comes apart.
-///
-/// It is given what `kept_in_place` made of them before the cells moved, and takes no memory.
-pub fn carry_along<M: MovesRectangles>(
-    alloc: Global,
-    moves: &M,
-    cfg: &mut SpannedConfig,
-    kept: Option<SpannedConfig>,
-    rows: usize,
-    columns: usize,
-)
-    requires kept { IfSome kept (λ kept. kept ≡ keep_fitting rows columns cfg.old) }
-    requires same { IsNone kept → keep_fitting rows columns cfg.old ≡ cfg.old }
-    ensures carried { cfg.new ≡ carried (M.places moves.now) rows columns cfg.old }
-    ensures sizes { AreSpanSizes cfg.new }
-{
-    // The list tells that the sizes are right.
-    let _ = cfg.anchors();
-    let fitting = match kept {
-        Some(kept) => kept,
-        // No merged cells stand in meanwhile, which takes no memory.
-        None => mem::replace(cfg, SpannedConfig::new(alloc)),
-    };
-    *cfg = carried_fitting(moves, fitting, rows, columns);
+impl Model for FittingSpans {
+    ghost use Rattle.tabled_carry.specs.Found.{Found, found_code};
+
+    ghost Value = { Found };
+
+    ghost coded = { found_code };
+
+    ghost view = { λ a. record { rows = a.rows; columns = a.columns; fitting = a.fitting } };
+}
+
+impl FittingSpans {
+    /// Those of a table's merged cells. It takes memory only where one doesn't fit.
+    pub fn of(
+        alloc: Global,
+        cfg: &SpannedConfig,
+        rows: usize,
+        columns: usize,
+    ) -> Result<Self, AllocError>
+        ensures found { IfOk result (IsFoundOf cfg.now) }
+        ensures rows { IfOk result (λ found. found.rows ≡ rows) }
+        ensures columns { IfOk result (λ found. found.columns ≡ columns) }
+        ensures sizes { AreSpanSizes cfg.now }
+        ensures promised { Fits cfg.now rows columns → IsOk result }
+    {
+        let fitting = if cfg.fits(rows, columns) {
+            None
+        } else {
+            Some(cfg.fitting(alloc, rows, columns)?)
+        };
+        Ok(FittingSpans {
+            rows,
+            columns,
+            fitting,
+        })
+    }
+
+    /// Takes the others away from the merged cells that these were found of, where cells kept their places.
+    pub fn stay(self, cfg: &mut SpannedConfig)
+        requires { IsFoundOf cfg.old self }
+        ensures { cfg.new ≡ keep_fitting self.rows self.columns cfg.old }
+    {
+        if let Some(fitting) = self.fitting {
+            *cfg = fitting;
+        }
+    }
+
+    /// Carries the merged cells that these were found of along, where cells have moved: those that did not fit
+    /// the table go, and each of the others goes to where the new places of its cells form a rectangle, or else
+    /// comes apart. It takes no memory.
+    pub fn carry_along<M: MovesRectangles>(self, alloc: Global, moves: &M, cfg: &mut SpannedConfig)
+        requires { IsFoundOf cfg.old self }
+        ensures carried { cfg.new ≡ carried (M.places moves.now) self.rows self.columns cfg.old }
+        ensures sizes { AreSpanSizes cfg.new }
+    {
+        // The list tells that the sizes are right.
+        let _ = cfg.anchors();
+        let FittingSpans {
+            rows,
+            columns,
+            fitting,
+        } = self;
+        let fitting = match fitting {
+            Some(fitting) => fitting,
+            // No merged cells stand in meanwhile, which takes no memory.
+            None => mem::replace(cfg, SpannedConfig::new(alloc)),
+        };
+        *cfg = carried_fitting(moves, fitting, rows, columns);
+    }
 }
 
 /// What becomes of merged cells that fit a table.

@@ -48,7 +48,7 @@ pub fn merged_cells_stay_with_their_cells()
 /// Merged cells that fit do so once a row, or a column, is put in that none of them crosses. None crosses
 /// the first one.
 pub fn merged_cells_fit_once_a_line_is_put_in<A>()
-    ensures rows { (i : ℕ) (row : List A) (g h : Grid A) (m n : SpanMap) → PutsInRow i row g m h n → is_crossed Rows i m ≡ false → FitsGrid m g → FitsGrid n h }
-    ensures columns { (j : ℕ) (column : List A) (g h : Grid A) (m n : SpanMap) → PutsInColumn j column g m h n → is_crossed Columns j m ≡ false → FitsGrid m g → FitsGrid n h }
+    ensures rows { (i : ℕ) (row : List A) (old new : Grid A) (cfg new_cfg : SpanMap) → PutsInRow i row old cfg new new_cfg → is_crossed Rows i cfg ≡ false → FitsGrid cfg old → FitsGrid new_cfg new }
+    ensures columns { (j : ℕ) (column : List A) (old new : Grid A) (cfg new_cfg : SpanMap) → PutsInColumn j column old cfg new new_cfg → is_crossed Columns j cfg ≡ false → FitsGrid cfg old → FitsGrid new_cfg new }
     ensures first { (axis : Axis) (m : SpanMap) → is_crossed axis 0 m ≡ false }
 {}

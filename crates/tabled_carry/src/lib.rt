@@ -6,5 +6,5 @@ mod images;
 pub mod laws;
 mod sort;
 
-pub use carry::{carry_along, kept_in_place};
+pub use carry::FittingSpans;
 pub use images::{Moves, MovesRectangles, image_of};

@@ -33,7 +33,7 @@ fn reverse_descending(rectangles: &mut [Rectangle])
     }
 }
 
-/// The same of those of each row.
+/// Puts those of each row into the opposite order whose first one stands after the last one.
 fn reverse_descending_rows(rectangles: &mut [Rectangle])
     ensures permutation { IsPermutation rectangles.old rectangles.new }
     ensures len { length rectangles.new ≡ length rectangles.old }

@@ -1,5 +1,6 @@
 -- Rearrangements keep merged cells inside the table and apart.
-use Rattle.tabled_settings.proofs.Common.{◌≡◌, Axis, Bool, Fits, Grid, JoinsAt, List, Offset, OptionKeeps, Places, ReadsThrough, Rearranges, Removes, Same, SpanMap, Split, Splits, ap, carried, carried-fits, carried_if, corner_of, false, has_pieces, joined_places, map_grid, refl, removed, reversed, reverses, split_places, true, ℕ}
+use Rattle.tabled_settings.proofs.Common.{◌≡◌, Axis, Bool, Fits, Grid, JoinsTables, List, OptionKeeps, Places, Rearranges, Removes, ReversesTable, Same, SpanMap, Split, SplitsTable, ap, carried, carried-fits, carried_if, corner_of, false, has_pieces, joined_places, map_grid, refl, removed, reversed, reverses, split_places, true, ℕ}
+use Rattle.tabled_settings.specs.declared.reverse.Reverse.{Reverse}
 use Rattle.tabled_spans.proofs.PanelGeometry.{same_fits}
 
 -- what is carried along fits the new shape
@@ -18,35 +19,35 @@ module _ {A : Type 0} where
   -- cells that are read through a map of places
   pub rearranged_keeps : (places : Grid A → Places) → OptionKeeps FitsIn (λ g. Rearranges (places g) g) Same
   rearranged_keeps places = record {
-    done = λ g c h d fits does. carried_fit (places g) g.rows g.columns h.rows h.columns c d fits does.0.rows does.0.columns does.1;
+    done = λ old cfg new new_cfg fits does. carried_fit (places old) old.rows old.columns new.rows new.columns cfg new_cfg fits does.0.rows does.0.columns does.1;
     refused = same_fits;
   }
 
   -- lines in the opposite order
-  pub reversal_keeps : (axis : Axis) (start : ℕ) (limit : Offset) → OptionKeeps FitsIn (λ g c h d. ReadsThrough (reversed axis start limit g.rows g.columns) g h × (d ≡ carried_if (reverses axis start limit g.rows g.columns) (reversed axis start limit g.rows g.columns) g.rows g.columns c)) Same
-  reversal_keeps axis start limit = record {
-    done = λ g c h d fits does. carried_if_fit (reverses axis start limit g.rows g.columns) (reversed axis start limit g.rows g.columns) g.rows g.columns h.rows h.columns c d fits does.0.rows does.0.columns (λ _. (does.0.rows, does.0.columns)) does.1;
+  pub reversal_keeps : (r : Reverse) → OptionKeeps FitsIn (ReversesTable r) Same
+  reversal_keeps r = record {
+    done = λ old cfg new new_cfg fits does. carried_if_fit (reverses r.axis r.start r.limit old.rows old.columns) (reversed r.axis r.start r.limit old.rows old.columns) old.rows old.columns new.rows new.columns cfg new_cfg fits does.0.rows does.0.columns (λ _. (does.0.rows, does.0.columns)) does.1;
     refused = same_fits;
   }
 
   module _ (is_blank : A → Type 0) (text_of : A → List ℕ) where
     -- lines that are cut
-    pub split_keeps : (s : Split) → OptionKeeps FitsIn (λ g c h d. Splits is_blank text_of s g h × (d ≡ carried_if (has_pieces s g.rows g.columns) (split_places s (map_grid text_of g)) g.rows g.columns c)) Same
+    pub split_keeps : (s : Split) → OptionKeeps FitsIn (SplitsTable is_blank text_of s) Same
     split_keeps s = record {
-      done = λ g c h d fits does. carried_if_fit (has_pieces s g.rows g.columns) (split_places s (map_grid text_of g)) g.rows g.columns h.rows h.columns c d fits does.0.cells.reads.rows does.0.cells.reads.columns (λ none. let same = does.0.unsplit none in (ap (λ (x : Grid A). x.rows) same, ap (λ (x : Grid A). x.columns) same)) does.1;
+      done = λ old cfg new new_cfg fits does. carried_if_fit (has_pieces s old.rows old.columns) (split_places s (map_grid text_of old)) old.rows old.columns new.rows new.columns cfg new_cfg fits does.0.cells.reads.rows does.0.cells.reads.columns (λ none. let same = does.0.unsplit none in (ap (λ (x : Grid A). x.rows) same, ap (λ (x : Grid A). x.columns) same)) does.1;
       refused = same_fits;
     }
 
   -- lines that a location finds, taken away
   pub removal_keeps : (axis : Axis) (locates : Grid A → List ℕ → Type 0) → OptionKeeps FitsIn (Removes axis locates) Same
   removal_keeps axis locates = record {
-    done = λ g c h d fits does. carried_fit (removed axis does.found g.rows g.columns) g.rows g.columns h.rows h.columns c d fits does.rearranged.0.rows does.rearranged.0.columns does.rearranged.1;
+    done = λ old cfg new new_cfg fits does. carried_fit (removed axis does.found old.rows old.columns) old.rows old.columns new.rows new.columns cfg new_cfg fits does.rearranged.0.rows does.rearranged.0.columns does.rearranged.1;
     refused = same_fits;
   }
 
   -- two tables that are joined
-  pub join_keeps : (is_blank : A → Type 0) (text_of : A → List ℕ) (axis : Axis) (second : Grid (List ℕ)) (default : List ℕ) → OptionKeeps FitsIn (λ g c h d. JoinsAt is_blank text_of (corner_of axis g.rows g.columns) second default g h × (d ≡ carried (joined_places (corner_of axis g.rows g.columns) second g.rows g.columns) g.rows g.columns c)) Same
+  pub join_keeps : (is_blank : A → Type 0) (text_of : A → List ℕ) (axis : Axis) (second : Grid (List ℕ)) (default : List ℕ) → OptionKeeps FitsIn (JoinsTables is_blank text_of axis second default) Same
   join_keeps is_blank text_of axis second default = record {
-    done = λ g c h d fits does. carried_fit (joined_places (corner_of axis g.rows g.columns) second g.rows g.columns) g.rows g.columns h.rows h.columns c d fits does.0.first.rows does.0.first.columns does.1;
+    done = λ old cfg new new_cfg fits does. carried_fit (joined_places (corner_of axis old.rows old.columns) second old.rows old.columns) old.rows old.columns new.rows new.columns cfg new_cfg fits does.0.first.rows does.0.first.columns does.1;
     refused = same_fits;
   }

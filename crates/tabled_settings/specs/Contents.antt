@@ -35,7 +35,7 @@ abbrev pub AnswersAs : {F : Type 0} → (F → List ℕ → List ℕ → F → T
 AnswersAs asked false f old new next = asked f old new next
 AnswersAs asked true f old new next = AskedByLine asked f old new × (next ≡ f)
 
--- the same of a closure beside whether it is asked line by line
+-- what a closure answers that stands beside whether it is asked line by line, which stays
 abbrev pub AnswersContent : {F : Type 0} → (F → List ℕ → List ℕ → F → Type 0) → Asking (F × Bool)
 AnswersContent asked s p old new t = (t.1 ≡ s.1) × AnswersAs asked s.1 s.0 old new t.0
 

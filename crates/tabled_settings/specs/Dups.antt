@@ -24,11 +24,11 @@ round_writes texts rows columns entities = flat_map (λ e. round_from 0 texts (i
 abbrev pub texts_to : Entity → List (List ℕ) → Grid (List ℕ) → List Write
 texts_to e texts g = round_from 0 texts (inside e g.rows g.columns)
 
--- the same for each of some entities
+-- texts for the cells that entities name in a grid, for each entity from the first text on
 abbrev pub texts_to_each : List Entity → List (List ℕ) → Grid (List ℕ) → List Write
 texts_to_each entities texts g = round_writes texts g.rows g.columns entities
 
--- the same where there are texts, and else no writes
+-- texts for what entities name, for each from the first text on, and no writes where there are no texts
 abbrev pub rounds : List (List ℕ) → ℕ → ℕ → List Entity → List Write
 rounds [] rows columns entities = []
 rounds (text ∷ texts) rows columns entities = round_writes (text ∷ texts) rows columns entities
@@ -51,8 +51,8 @@ dup_writes sources targets g = rounds (source_texts g sources) g.rows g.columns 
 
 -- the texts of a source, written to what a destination lists in the old grid
 abbrev pub Duplicates : {A C : Type 0} → (A → List ℕ) → (Grid A → List Entity → Type 0) → (Grid A → List Entity → Type 0) → Change A C
-Duplicates text_of destination source g c h d = (sources : List Entity) × (targets : List Entity) × source g sources × destination g targets × DoesWrites text_of (dup_writes sources targets) g c h d
+Duplicates text_of destination source old cfg new new_cfg = (sources : List Entity) × (targets : List Entity) × source old sources × destination old targets × DoesWrites text_of (dup_writes sources targets) old cfg new new_cfg
 
 -- no change, or the first of these writes
 abbrev pub DuplicatesFirst : {A C : Type 0} → (A → List ℕ) → (Grid A → List Entity → Type 0) → (Grid A → List Entity → Type 0) → Change A C
-DuplicatesFirst text_of destination source = SameOr (λ g c h d. (sources : List Entity) × (targets : List Entity) × source g sources × destination g targets × DoesFirstWrites text_of (dup_writes sources targets) g c h d)
+DuplicatesFirst text_of destination source = SameOr (λ old cfg new new_cfg. (sources : List Entity) × (targets : List Entity) × source old sources × destination old targets × DoesFirstWrites text_of (dup_writes sources targets) old cfg new new_cfg)

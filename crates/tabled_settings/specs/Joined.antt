@@ -8,6 +8,9 @@ use Rattle.tabled_grid.specs.declared.config.position.Position.{Position}
 use Rattle.tabled_grid.specs.declared.records.axis.Axis.{Axis}
 use Rattle.tabled_grid.specs.declared.records.axis.Axis.TheVariants.{Rows, Columns}
 use Rattle.tabled_grid.specs.Places.{Places, ReadsThrough}
+use Rattle.tabled_grid.specs.Spans.{SpanMap}
+use Rattle.tabled_carry.specs.Images.{carried}
+use Rattle.tabled_options.specs.Does.{Change}
 
 -- a larger shape, in which the old places stay where they are
 abbrev pub widened : ℕ → ℕ → ℕ → ℕ → Places
@@ -43,6 +46,14 @@ pub record JoinsAt {A : Type 0} (is_blank : A → Type 0) (text_of : A → List 
   pub first : ReadsThrough (joined_places corner second old.rows old.columns) old new
   pub others : (a b : ℕ) → a < new.rows → b < new.columns → (old.rows ≤ a) ⊎ (old.columns ≤ b) → cell_at (map_grid text_of new) (place a b) ≡ Some (joined_text corner second default a b)
   pub blanks : (a b : ℕ) → a < new.rows → b < new.columns → (old.rows ≤ a) ⊎ (old.columns ≤ b) → text_put corner second default a b ≡ None → HasBlank is_blank new (place a b)
+
+-- the merged cells of a table of r rows and c columns, once a second one is joined
+abbrev pub spans_of_join : Axis → Grid (List ℕ) → ℕ → ℕ → SpanMap → SpanMap
+spans_of_join axis second rows columns m = carried (joined_places (corner_of axis rows columns) second rows columns) rows columns m
+
+-- a second table is joined, below the first one or right of it, and the merged cells are carried along
+abbrev pub JoinsTables : {A : Type 0} → (A → Type 0) → (A → List ℕ) → Axis → Grid (List ℕ) → List ℕ → Change A SpanMap
+JoinsTables is_blank text_of axis second default old cfg new new_cfg = JoinsAt is_blank text_of (corner_of axis old.rows old.columns) second default old new × (new_cfg ≡ spans_of_join axis second old.rows old.columns cfg)
 
 -- a grid of a larger shape, with the old cells where they were and blanks elsewhere
 pub record GrowsTo {A : Type 0} (is_blank : A → Type 0) (rows columns : ℕ) (old new : Grid A) : Type 0 where

@@ -7,13 +7,16 @@ use Rattle.tabled_grid.specs.Grid.{Grid, map_grid}
 use Rattle.tabled_grid.specs.Axis.{across, count_of, in_line, line_of}
 use Rattle.tabled_grid.specs.Pieces.{cut_places, piece_index}
 use Rattle.tabled_grid.specs.Places.{FillsThrough, Places}
+use Rattle.tabled_grid.specs.Spans.{SpanMap}
 use Rattle.tabled_grid.specs.declared.config.position.Position.{Position}
 use Rattle.tabled_grid.specs.declared.records.axis.Axis.{Axis}
 use Rattle.tabled_grid.specs.declared.records.piece_order.PieceOrder.{PieceOrder}
+use Rattle.tabled_options.specs.Does.{Change}
 use Rattle.tabled_settings.specs.declared.split.Display.{Display}
 use Rattle.tabled_settings.specs.declared.split.Display.TheVariants.{Clean, Retain}
 use Rattle.tabled_settings.specs.declared.split.Split.{Split}
 use Rattle.tabled_settings.specs.Pieces.{has_pieces, is_text, split, staying, oriented}
+use Rattle.tabled_settings.specs.Rearranged.{carried_if}
 
 -- each place keeps its cell
 abbrev pub same_places : ℕ → ℕ → Places
@@ -45,6 +48,14 @@ pub record Splits {A : Type 0} (is_blank : A → Type 0) (text_of : A → List �
   pub texts : map_grid text_of new ≡ split s (map_grid text_of old)
   pub cells : FillsThrough is_blank (split_places s (map_grid text_of old)) old new
   pub unsplit : has_pieces s old.rows old.columns ≡ false → new ≡ old
+
+-- the merged cells of a table of these texts, once its lines are cut: as they were where there are no pieces
+abbrev pub spans_of_split : Split → Grid (List ℕ) → SpanMap → SpanMap
+spans_of_split s g m = carried_if (has_pieces s g.rows g.columns) (split_places s g) g.rows g.columns m
+
+-- the lines of a table are cut, and the merged cells are carried along
+abbrev pub SplitsTable : {A : Type 0} → (A → Type 0) → (A → List ℕ) → Split → Change A SpanMap
+SplitsTable is_blank text_of s old cfg new new_cfg = Splits is_blank text_of s old new × (new_cfg ≡ spans_of_split s (map_grid text_of old) cfg)
 
 -- the pieces of line i, one after the other, cut at a width
 abbrev pub glued_line : {A : Type 0} → PieceOrder → ℕ → ℕ → ℕ → List (List A) → ℕ → List A

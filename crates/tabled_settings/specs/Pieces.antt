@@ -39,7 +39,7 @@ piece_at s pieces rows t = piece s.index (nth_piece s.behavior (length rows) pie
 abbrev pub stays_at : Split → ℕ → List (List (List ℕ)) → ℕ → Bool
 stays_at s pieces rows t = stays s.display (nth_piece s.behavior (length rows) pieces t).1 (piece_at s pieces rows t)
 
--- the same of the pieces of the rows, or of the columns, of a grid
+-- the piece of the rows, or of the columns, of a grid that comes t-th stays
 abbrev pub stays_in : Split → ℕ → Grid (List ℕ) → ℕ → Bool
 stays_in s pieces g t = stays_at s pieces (oriented s.lines g).cells t
 

@@ -23,7 +23,7 @@ use Rattle.tabled_settings.specs.Places.{lines_from}
 
 -- the cells are read through a map of places, and the merged cells are carried along
 abbrev pub Rearranges : {A : Type 0} → Places → Change A SpanMap
-Rearranges places g c h d = ReadsThrough places g h × (d ≡ carried places g.rows g.columns c)
+Rearranges places old cfg new new_cfg = ReadsThrough places old new × (new_cfg ≡ carried places old.rows old.columns cfg)
 
 -- merged cells, carried along where cells move, and else as they are
 abbrev pub carried_if : Bool → Places → ℕ → ℕ → SpanMap → SpanMap
@@ -95,18 +95,26 @@ abbrev pub removed : Axis → List ℕ → ℕ → ℕ → Places
 removed axis found rows columns = kept_lines axis (left_over (is_located found) (count_of axis rows columns)) rows columns
 
 -- the lines that are located are taken away, and the merged cells are carried along
-pub record Removes {A : Type 0} (axis : Axis) (locates : Grid A → List ℕ → Type 0) (g : Grid A) (c : SpanMap) (h : Grid A) (d : SpanMap) : Type 0 where
+pub record Removes {A : Type 0} (axis : Axis) (locates : Grid A → List ℕ → Type 0) (old : Grid A) (cfg : SpanMap) (new : Grid A) (new_cfg : SpanMap) : Type 0 where
   pub found : List ℕ
-  pub located : locates g found
-  pub rearranged : Rearranges (removed axis found g.rows g.columns) g c h d
+  pub located : locates old found
+  pub rearranged : Rearranges (removed axis found old.rows old.columns) old cfg new new_cfg
 
 -- a table is another one, rotated
 abbrev pub IsRotated : {A : Type 0} → Rotate → Grid A → Grid A → Type 0
-IsRotated rotate g h = ReadsThrough (rotated rotate g.rows g.columns) g h
+IsRotated rotate old new = ReadsThrough (rotated rotate old.rows old.columns) old new
 
 -- a table is another one, reversed
 abbrev pub IsReversed : {A : Type 0} → Reverse → Grid A → Grid A → Type 0
-IsReversed reverse g h = ReadsThrough (reversed reverse.axis reverse.start reverse.limit g.rows g.columns) g h
+IsReversed reverse old new = ReadsThrough (reversed reverse.axis reverse.start reverse.limit old.rows old.columns) old new
+
+-- the merged cells of a table of r rows and c columns, once lines are reversed: as they were where there are none to reverse
+abbrev pub spans_of_reversal : Reverse → ℕ → ℕ → SpanMap → SpanMap
+spans_of_reversal reverse rows columns m = carried_if (reverses reverse.axis reverse.start reverse.limit rows columns) (reversed reverse.axis reverse.start reverse.limit rows columns) rows columns m
+
+-- lines of a table are reversed, and the merged cells are carried along
+abbrev pub ReversesTable : {A : Type 0} → Reverse → Change A SpanMap
+ReversesTable reverse old cfg new new_cfg = IsReversed reverse old new × (new_cfg ≡ spans_of_reversal reverse old.rows old.columns cfg)
 
 -- the merged cells of a table that is rotated
 abbrev pub spans_rotated : Rotate → ℕ → ℕ → SpanMap → SpanMap
@@ -122,4 +130,4 @@ half_rotated rows columns = record { rows = rows; columns = columns; old_place =
 
 -- a table is another one, with its rows and its columns in the opposite order
 abbrev pub IsHalfRotated : {A : Type 0} → Grid A → Grid A → Type 0
-IsHalfRotated g h = ReadsThrough (half_rotated g.rows g.columns) g h
+IsHalfRotated old new = ReadsThrough (half_rotated old.rows old.columns) old new

@@ -18,31 +18,31 @@ abbrev pub AnswersInTurn : {S : Type 0} → Asking S → S → Grid (List ℕ) �
 AnswersInTurn asks first g writes last = FoldsTo (λ s (w : Write) t. asks s w.place (text_at g w.place) w.text t) first writes last
 
 -- the answers to these places and their old texts, written there
-pub record RewritesAt {S : Type 0} (asks : Asking S) (first : S) (places : List Position) (g h : Grid (List ℕ)) : Type 0 where
+pub record RewritesAt {S : Type 0} (asks : Asking S) (first : S) (places : List Position) (old new : Grid (List ℕ)) : Type 0 where
   pub writes : List Write
   pub last : S
   pub at : map (λ (w : Write). w.place) writes ≡ places
-  pub answers : AnswersInTurn asks first g writes last
-  pub is : h ≡ with_writes writes g
+  pub answers : AnswersInTurn asks first old writes last
+  pub is : new ≡ with_writes writes old
 
--- the same for the places before one of these
-pub record RewritesUntil {S : Type 0} (asks : Asking S) (first : S) (places : List Position) (g h : Grid (List ℕ)) : Type 0 where
+-- the answers to the places before one of these and to their old texts, written there
+pub record RewritesUntil {S : Type 0} (asks : Asking S) (first : S) (places : List Position) (old new : Grid (List ℕ)) : Type 0 where
   pub count : ℕ
   pub within : count < length places
-  pub before : RewritesAt asks first (take count places) g h
+  pub before : RewritesAt asks first (take count places) old new
 
 -- the answers to the cells inside that an entity names, row by row
 abbrev pub Rewritten : {A S : Type 0} → (A → List ℕ) → Asking S → S → Entity → Grid A → Grid A → Type 0
-Rewritten text_of asks first e g h = RewritesAt asks first (inside e g.rows g.columns) (map_grid text_of g) (map_grid text_of h)
+Rewritten text_of asks first e old new = RewritesAt asks first (inside e old.rows old.columns) (map_grid text_of old) (map_grid text_of new)
 
--- the same for the cells before one of them
+-- the answers to the cells before one of those inside that an entity names
 abbrev pub FirstRewritten : {A S : Type 0} → (A → List ℕ) → Asking S → S → Entity → Grid A → Grid A → Type 0
-FirstRewritten text_of asks first e g h = RewritesUntil asks first (inside e g.rows g.columns) (map_grid text_of g) (map_grid text_of h)
+FirstRewritten text_of asks first e old new = RewritesUntil asks first (inside e old.rows old.columns) (map_grid text_of old) (map_grid text_of new)
 
--- the answers to them, and the configuration as it was
+-- the answers to the cells that an entity names, and the configuration as it was
 abbrev pub Rewrites : {A C S : Type 0} → (A → List ℕ) → Asking S → S → Entity → Change A C
-Rewrites text_of asks first e g c h d = Rewritten text_of asks first e g h × (d ≡ c)
+Rewrites text_of asks first e old cfg new new_cfg = Rewritten text_of asks first e old new × (new_cfg ≡ cfg)
 
--- the same for the cells before one of them
+-- the answers to the cells before one of these, and the configuration as it was
 abbrev pub RewritesBefore : {A C S : Type 0} → (A → List ℕ) → Asking S → S → Entity → Change A C
-RewritesBefore text_of asks first e g c h d = FirstRewritten text_of asks first e g h × (d ≡ c)
+RewritesBefore text_of asks first e old cfg new new_cfg = FirstRewritten text_of asks first e old new × (new_cfg ≡ cfg)

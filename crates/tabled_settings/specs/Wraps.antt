@@ -74,7 +74,7 @@ pub record IsWrappedLine (n : ℕ) (line new : List ℕ) : Type 0 where
   pub kept : filter is_of_word new ≡ filter is_of_word (map (fitted n) line)
   pub same : columns_in line ≤ n → new ≡ line
 
--- the same of a text, line by line
+-- a text wrapped, line by line: no line is too wide, and all that is neither a blank nor a newline is there in order
 pub record IsWrapped (n : ℕ) (text new : List ℕ) : Type 0 where
   pub narrow : IsNarrow n new
   pub kept : filter is_of_word new ≡ filter is_of_word (map (fitted n) text)

@@ -5,13 +5,12 @@ ghost use Rattle.std.specs.Option.{option_copied};
 ghost use Rattle.std.specs.String.{string_bytes};
 ghost use Rattle.tabled_grid.specs.Grid.{map_grid};
 ghost use Rattle.tabled_grid.specs.declared.records.axis.Axis.TheVariants.{Columns, Rows};
-ghost use Rattle.tabled_carry.specs.Images.{carried};
-ghost use Rattle.tabled_settings.specs.Joined.{Fills, FillsTo, GrowsTo, JoinsAt, as_texts, corner_of, joined_places, text_put, widened};
+ghost use Rattle.tabled_settings.specs.Joined.{Fills, FillsTo, GrowsTo, JoinsAt, JoinsTables, as_texts, corner_of, text_put};
 ghost use Rattle.std.proofs.Common.{rules};
 
 use std::alloc::{AllocError, Global};
 use std::marker::Model;
-use tabled_carry::kept_in_place;
+use tabled_carry::FittingSpans;
 use tabled_grid::config::{Entity, Position, SpannedConfig};
 use tabled_grid::records::{
     Axis, CellText, ExactRecords, PeekableRecords, Records, RecordsMut, Resizable, Text, VecRecords,
@@ -101,7 +100,7 @@ where
     R: Records + ExactRecords + Resizable + RecordsMut<String>,
     R::Cell: CellText,
 {
-    ghost does = { λ s g c h d. JoinsAt R.Cell.is_blank R.Cell.text_of (corner_of s.0 g.rows g.columns) s.1 s.2 g h × (d ≡ carried (joined_places (corner_of s.0 g.rows g.columns) s.1 g.rows g.columns) g.rows g.columns c) };
+    ghost does = { λ s. JoinsTables R.Cell.is_blank R.Cell.text_of s.0 s.1 s.2 };
 
     fn change(
         self,
@@ -115,7 +114,7 @@ where
         let corner = corner_of(self.axis, rows, columns);
         let second = self.second.get_records();
         let growth = Growth::of(rows, columns, corner, second)?;
-        let spans = kept_in_place(alloc, cfg, rows, columns)?;
+        let fitting = FittingSpans::of(alloc, cfg, rows, columns)?;
         join(
             alloc,
             records,
@@ -124,9 +123,7 @@ where
             second,
             self.default.as_str(),
         )?;
-        if let Some(spans) = spans {
-            *cfg = spans;
-        }
+        fitting.stay(cfg);
         Ok(())
     }
 

@@ -10,7 +10,7 @@ use crate::kept_lines::Kept;
 use crate::lines;
 use std::alloc::{AllocError, Global};
 use std::marker::{Model, PhantomData};
-use tabled_carry::{carry_along, kept_in_place};
+use tabled_carry::FittingSpans;
 use tabled_grid::config::{Entity, SpannedConfig};
 use tabled_grid::records::{Axis, Blank, ExactRecords, Records, Resizable};
 pub use tabled_grid::records::{Target, TargetColumn, TargetRow};
@@ -134,8 +134,8 @@ where
         return Ok(());
     }
     let left = Kept::unmarked(alloc, axis, &gone, rows, columns)?;
-    let kept = kept_in_place(alloc, cfg, rows, columns)?;
+    let fitting = FittingSpans::of(alloc, cfg, rows, columns)?;
     lines::remove(axis, records, &gone);
-    carry_along(alloc, &left, cfg, kept, rows, columns);
+    fitting.carry_along(alloc, &left, cfg);
     Ok(())
 }

@@ -2,17 +2,15 @@
 
 ghost use Rattle.std.specs.Prelude.{◌≡◌, ◌+◌, ◌<◌, ◌^◌};
 ghost use Rattle.std.specs.declared.ops.Bound.TheVariants.{Unbounded};
-ghost use Rattle.tabled_grid.specs.Places.{ReadsThrough};
 ghost use Rattle.tabled_grid.specs.Fitting.{Fits};
-ghost use Rattle.tabled_carry.specs.Images.{carried};
-ghost use Rattle.tabled_settings.specs.Rearranged.{extracted, part, window};
+ghost use Rattle.tabled_settings.specs.Rearranged.{Rearranges, extracted, part, window};
 ghost use Rattle.std.proofs.Common.{rules};
 
 use crate::lines;
 use std::alloc::{AllocError, Global};
 use std::marker::Model;
 use std::ops::{Range, RangeFull};
-use tabled_carry::{Moves, MovesRectangles, carry_along, kept_in_place};
+use tabled_carry::{FittingSpans, Moves, MovesRectangles};
 use tabled_grid::config::{Entity, Position, SpannedConfig, ToBounds};
 use tabled_grid::records::{Axis, Blank, ExactRecords, Records, Resizable};
 use tabled_options::TableOption;
@@ -88,7 +86,7 @@ where
     R: Records + ExactRecords + Resizable,
     R::Cell: Blank,
 {
-    ghost does = { λ s g c h d. ReadsThrough (extracted (A.bounds_of s.0) (B.bounds_of s.1) g.rows g.columns) g h × (d ≡ carried (extracted (A.bounds_of s.0) (B.bounds_of s.1) g.rows g.columns) g.rows g.columns c) };
+    ghost does = { λ s old. Rearranges (extracted (A.bounds_of s.0) (B.bounds_of s.1) old.rows old.columns) old };
 
     ghost never_refused = { λ _ g c. Fits c g.rows g.columns };
 
@@ -104,10 +102,10 @@ where
         let in_rows = self.rows.to_range(rows);
         let in_columns = self.columns.to_range(columns);
         let part = Window::of(&in_rows, &in_columns, rows, columns);
-        let kept = kept_in_place(alloc, cfg, rows, columns)?;
+        let fitting = FittingSpans::of(alloc, cfg, rows, columns)?;
         lines::keep(Axis::Rows, records, in_rows);
         lines::keep(Axis::Columns, records, in_columns);
-        carry_along(alloc, &part, cfg, kept, rows, columns);
+        fitting.carry_along(alloc, &part, cfg);
         Ok(())
     }
 

@@ -4,15 +4,14 @@ ghost use Rattle.std.specs.Prelude.{◌≡◌, ◌<◌, ◌≤◌, ◌⊎◌, If
 ghost use Rattle.tabled_grid.specs.declared.config.offset.Offset.TheVariants.{End};
 ghost use Rattle.tabled_grid.specs.declared.records.axis.Axis.TheVariants.{Columns, Rows};
 ghost use Rattle.tabled_grid.specs.Axis.{count_of, in_line, line_of};
-ghost use Rattle.tabled_grid.specs.Places.{ReadsThrough};
 ghost use Rattle.tabled_grid.specs.Fitting.{Fits};
 ghost use Rattle.tabled_settings.specs.Places.{lines_from};
-ghost use Rattle.tabled_settings.specs.Rearranged.{carried_if, limit_end, reversed, reversed_index, reverses};
+ghost use Rattle.tabled_settings.specs.Rearranged.{ReversesTable, limit_end, reversed_index, reverses};
 ghost use Rattle.std.proofs.Common.{rules};
 
 use crate::lines;
 use std::alloc::{AllocError, Global};
-use tabled_carry::{Moves, MovesRectangles, carry_along, image_of, kept_in_place};
+use tabled_carry::{FittingSpans, Moves, MovesRectangles, image_of};
 use tabled_grid::config::{Entity, Offset, Position, Rectangle, Size, SpannedConfig};
 use tabled_grid::records::{Axis, Blank, ExactRecords, Records, Resizable};
 use tabled_options::TableOption;
@@ -95,7 +94,7 @@ where
     R: Records + ExactRecords + Resizable,
     R::Cell: Blank,
 {
-    ghost does = { λ s g c h d. ReadsThrough (reversed s.axis s.start s.limit g.rows g.columns) g h × (d ≡ carried_if (reverses s.axis s.start s.limit g.rows g.columns) (reversed s.axis s.start s.limit g.rows g.columns) g.rows g.columns c) };
+    ghost does = { ReversesTable };
 
     ghost never_refused = { λ s g c. (reverses s.axis s.start s.limit g.rows g.columns ≡ false) ⊎ Fits c g.rows g.columns };
 
@@ -119,9 +118,9 @@ where
             rows,
             columns,
         };
-        let kept = kept_in_place(alloc, cfg, rows, columns)?;
+        let fitting = FittingSpans::of(alloc, cfg, rows, columns)?;
         lines::reverse(self.axis, records, self.start, end);
-        carry_along(alloc, &mirror, cfg, kept, rows, columns);
+        fitting.carry_along(alloc, &mirror, cfg);
         Ok(())
     }
 

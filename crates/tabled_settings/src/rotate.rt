@@ -8,7 +8,7 @@ ghost use Rattle.std.proofs.Common.{rules};
 
 use crate::lines;
 use std::alloc::{AllocError, Global};
-use tabled_carry::{Moves, MovesRectangles, carry_along, kept_in_place};
+use tabled_carry::{FittingSpans, Moves, MovesRectangles};
 use tabled_grid::config::{Entity, Position, Rectangle, Size, SpannedConfig};
 use tabled_grid::records::{Axis, Blank, ExactRecords, Records, Resizable};
 use tabled_options::TableOption;
@@ -42,7 +42,7 @@ where
     R: Records + ExactRecords + Resizable,
     R::Cell: Blank,
 {
-    ghost does = { λ s g. Rearranges (rotated s g.rows g.columns) g };
+    ghost does = { λ s old. Rearranges (rotated s old.rows old.columns) old };
 
     ghost never_refused = { λ s g c. ((s ≡ Top) ⊎ (s ≡ Bottom)) × Fits c g.rows g.columns };
 
@@ -60,9 +60,9 @@ where
             rows,
             columns,
         };
-        let kept = kept_in_place(alloc, cfg, rows, columns)?;
+        let fitting = FittingSpans::of(alloc, cfg, rows, columns)?;
         rotate_cells(alloc, &rotation.rotate, records)?;
-        carry_along(alloc, &rotation, cfg, kept, rows, columns);
+        fitting.carry_along(alloc, &rotation, cfg);
         Ok(())
     }
 

@@ -1,19 +1,17 @@
 //! Tables with their rows or columns cut into pieces.
 
 ghost use Rattle.std.specs.Prelude.{◌≡◌, false};
-ghost use Rattle.tabled_grid.specs.Grid.{map_grid};
 ghost use Rattle.tabled_grid.specs.declared.records.axis.Axis.TheVariants.{Columns, Rows};
 ghost use Rattle.tabled_grid.specs.declared.records.piece_order.PieceOrder.TheVariants.{Concat, Zip};
 ghost use Rattle.tabled_settings.specs.declared.split.Display.TheVariants.{Clean, Retain};
-ghost use Rattle.tabled_settings.specs.PiecePlaces.{Splits, split_places};
+ghost use Rattle.tabled_settings.specs.PiecePlaces.{SplitsTable};
 ghost use Rattle.tabled_settings.specs.Pieces.{has_pieces};
-ghost use Rattle.tabled_settings.specs.Rearranged.{carried_if};
 ghost use Rattle.std.proofs.Common.{rules};
 
 use crate::cuts::{CleanCut, Cut};
 use crate::{lines, pieces};
 use std::alloc::{AllocError, Global};
-use tabled_carry::{carry_along, kept_in_place};
+use tabled_carry::FittingSpans;
 use tabled_grid::config::{Entity, SpannedConfig};
 pub use tabled_grid::records::PieceOrder as Behavior;
 use tabled_grid::records::{Axis, CellText, ExactRecords, PeekableRecords, Records, Resizable};
@@ -140,7 +138,7 @@ where
     R: Records + ExactRecords + PeekableRecords + Resizable,
     R::Cell: CellText,
 {
-    ghost does = { λ s g c h d. Splits R.Cell.is_blank R.Cell.text_of s g h × (d ≡ carried_if (has_pieces s g.rows g.columns) (split_places s (map_grid R.Cell.text_of g)) g.rows g.columns c) };
+    ghost does = { SplitsTable R.Cell.is_blank R.Cell.text_of };
 
     ghost never_refused = { λ s g _. has_pieces s g.rows g.columns ≡ false };
 
@@ -172,15 +170,15 @@ where
             Display::Clean => {
                 let kept = pieces::kept_pieces(alloc, records, &cut)?;
                 let clean = CleanCut { cut, kept };
-                let spans = kept_in_place(alloc, cfg, rows, columns)?;
+                let fitting = FittingSpans::of(alloc, cfg, rows, columns)?;
                 records.cut(alloc, self.lines, self.behavior, self.index)?;
                 lines::keep_some(self.lines, records, &clean.kept);
-                carry_along(alloc, &clean, cfg, spans, rows, columns);
+                fitting.carry_along(alloc, &clean, cfg);
             }
             Display::Retain => {
-                let spans = kept_in_place(alloc, cfg, rows, columns)?;
+                let fitting = FittingSpans::of(alloc, cfg, rows, columns)?;
                 records.cut(alloc, self.lines, self.behavior, self.index)?;
-                carry_along(alloc, &cut, cfg, spans, rows, columns);
+                fitting.carry_along(alloc, &cut, cfg);
             }
         }
         Ok(())

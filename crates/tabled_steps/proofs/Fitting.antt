@@ -39,7 +39,7 @@ module _ {A : Type 0} (is_blank : A → Type 0) (text_of : A → List ℕ) where
   step_keeps (step.MergeHorizontal _) _ = merges Columns Global
   step_keeps (step.Merge axis select) _ = on_entities select _ _ (merges axis)
   step_keeps (step.Rotate rotate) _ = rearranged_keeps (λ g. rotated rotate g.rows g.columns)
-  step_keeps (step.Reverse how) _ = reversal_keeps how.axis how.start how.limit
+  step_keeps (step.Reverse how) _ = reversal_keeps how
   step_keeps (step.Split how) _ = split_keeps is_blank text_of how
   step_keeps (step.Concat concat) _ = join_keeps is_blank text_of concat.0 concat.1 concat.2
   step_keeps (step.Extract a b k l) _ = rearranged_keeps (λ g. extracted (half_open a b) (half_open k l) g.rows g.columns)

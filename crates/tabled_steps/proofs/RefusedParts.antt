@@ -1,5 +1,5 @@
 -- A refused step is refused in one of its parts, and the parts before that one are done.
-use Rattle.tabled_steps.proofs.Common.{[], ◌++◌, ◌+◌, ◌<◌, ◌∙◌, ◌∷◌, ◌≡◌, Change, Does, Each, EachUntil, EachUntilAt, Grid, IsEven-map_grid, Leaves, List, Some, SpanMap, Step, ap, append-nil, append_assoc, arith, flattened, inl, inr, length, length-append, parts, refl, same_Some, slice_get, state_of, subst, suc, sym, take, zero, ℕ}
+use Rattle.tabled_steps.proofs.Common.{[], ◌++◌, ◌+◌, ◌∙◌, ◌∷◌, ◌≡◌, Change, Does, Each, EachUntil, EachUntilAt, Grid, IsEven-map_grid, Leaves, List, Some, SpanMap, Step, ap, append-nil, append_assoc, arith, flattened, inl, inr, length, length-append, parts, refl, same_Some, slice_get, state_of, suc, sym, take, zero, ℕ}
 use Rattle.std.proofs.lemmas.List.{take-append-le}
 use Rattle.std.proofs.lemmas.Option.{slice_get_within}
 use Rattle.tabled_grid.proofs.AddedLines.{front_read}

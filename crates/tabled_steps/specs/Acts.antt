@@ -22,40 +22,11 @@ use Rattle.tabled_steps.specs.declared.step.Step.TheVariants as step
 
 -- whatever one change makes, another makes, too
 abbrev pub Makes : {A C : Type 0} → Change A C → Change A C → Type 0
-Makes {A} {C} change other = (g : Grid A) (c : C) (h : Grid A) (d : C) → change g c h d → other g c h d
-
--- a step does, and leaves where it is refused, just what an option does and leaves
-pub record ActsAs {A : Type 0} (is_blank : A → Type 0) (text_of : A → List ℕ) (step : Step) (does leaves : Change A SpanMap) : Type 0 where
-  pub done : (g : Grid A) (c : SpanMap) (h : Grid A) (d : SpanMap) → (Does is_blank text_of step g c h d → does g c h d) × (does g c h d → Does is_blank text_of step g c h d)
-  pub refused : (g : Grid A) (c : SpanMap) (h : Grid A) (d : SpanMap) → (Leaves is_blank text_of step g c h d → leaves g c h d) × (leaves g c h d → Leaves is_blank text_of step g c h d)
-
--- the same of an option of some type
-abbrev pub ActsAsOption : {A X R D : Type 0} → (A → Type 0) → (A → List ℕ) → Step → TableOptionOf X R SpanMap D A → X → Type 0
-ActsAsOption is_blank text_of step how x = ActsAs is_blank text_of step (how.does x) (how.leaves x)
-
--- so does a kind of step for a kind of option, whatever the option is
-abbrev pub ActAs : {A X R D : Type 0} → (A → Type 0) → (A → List ℕ) → (X → Step) → TableOptionOf X R SpanMap D A → Type 0
-ActAs {A} {X} is_blank text_of step how = (x : X) → ActsAsOption is_blank text_of (step x) how x
-
--- the same of a kind of option on each entity that a selector lists
-abbrev pub ActOnListed : {A X R I : Type 0} → (A → Type 0) → (A → List ℕ) → ObjectOf Select R I A → (X → Select → Step) → CellOptionOf X R SpanMap A → Type 0
-ActOnListed {A} {X} is_blank text_of object step how = (x : X) (select : Select) → ActsAs is_blank text_of (step x select) (EachListed (object.lists select) (how.does x)) (SameOr (EachListedUntil (object.lists select) (how.does x) (λ e. SameOr (how.leaves x e))))
-
--- two steps in one act as two options one after the other, where each of the steps acts as its option
-abbrev pub InTurn : {A X Y R D : Type 0} → (A → Type 0) → (A → List ℕ) → TableOptionOf X R SpanMap D A → TableOptionOf Y R SpanMap D A → TableOptionOf (X × Y) R SpanMap D A → X → Y → Type 0
-InTurn is_blank text_of how next both x y = (p : _) (first : Step) (q : _) (second : Step) → ActsAsOption is_blank text_of first how x → ActsAsOption is_blank text_of second next y → ActsAsOption is_blank text_of (step.Both' p first q second) both (x, y)
+Makes {A} {C} change other = (old : Grid A) (cfg : C) (new : Grid A) (new_cfg : C) → change old cfg new new_cfg → other old cfg new new_cfg
 
 -- two relations hold of the same grids and lists
 abbrev pub ListTheSame : {A X : Type 0} → (Grid A → List X → Type 0) → (Grid A → List X → Type 0) → Type 0
 ListTheSame {A} {X} lists others = (g : Grid A) (items : List X) → (lists g items → others g items) × (others g items → lists g items)
-
--- a kind of step on what two selectors name acts as an option on two objects, where these list that
-abbrev pub ActOnObjects : {A X Y R I J D : Type 0} → (A → Type 0) → (A → List ℕ) → (Select → Select → Step) → ObjectOf X R I A → ObjectOf Y R J A → TableOptionOf (X × Y) R SpanMap D A → X × Y → Type 0
-ActOnObjects is_blank text_of step to from how x = (destination source : Select) → ListTheSame (to.lists x.0) (Names text_of destination) → ListTheSame (from.lists x.1) (Names text_of source) → ActsAsOption is_blank text_of (step destination source) how x
-
--- a kind of step on a range of rows and one of columns acts as an option on two ranges, where these have the same bounds
-abbrev pub ActWithin : {A X Y R D : Type 0} → (A → Type 0) → (A → List ℕ) → (ℕ → ℕ → ℕ → ℕ → Step) → BoundsOf X → BoundsOf Y → TableOptionOf (X × Y) R SpanMap D A → X × Y → Type 0
-ActWithin is_blank text_of step rows columns how x = (a b m n : ℕ) → rows.bounds_of x.0 ≡ half_open a b → columns.bounds_of x.1 ≡ half_open m n → ActsAsOption is_blank text_of (step a b m n) how x
 
 -- the step that takes away the rows, or the columns, of a range
 abbrev pub range_removed : Axis → ℕ → ℕ → Step
@@ -66,14 +37,44 @@ range_removed Columns = step.RemoveColumns
 abbrev pub IndexesAlong : {A : Type 0} → Axis → ℕ → ℕ → Grid A → List ℕ → Type 0
 IndexesAlong axis a b g found = found ≡ indexes (half_open a b) (count_along axis g)
 
--- that step acts as an option that takes away lines, where it takes rows, or columns, and its location finds those of the range
-abbrev pub RemovesRange : {A X R I J N : Type 0} → (A → Type 0) → (A → List ℕ) → Axis → Axis → LocationOf X R ℕ I J A → TableOptionOf X R SpanMap N A → X → Type 0
-RemovesRange is_blank text_of axis lines location how x = (a b : ℕ) → lines ≡ axis → ListTheSame (location.locates x) (IndexesAlong axis a b) → ActsAsOption is_blank text_of (range_removed axis a b) how x
-
 -- these are the columns with a text in the first row
 abbrev pub ColumnsNamed : {A : Type 0} → (A → List ℕ) → List ℕ → Grid A → List ℕ → Type 0
 ColumnsNamed text_of name g found = found ≡ columns_with name (map_grid text_of g)
 
--- the same of the step that takes away the columns of a name
-abbrev pub RemovesNamed : {A X R I J N : Type 0} → (A → Type 0) → (A → List ℕ) → Axis → LocationOf X R ℕ I J A → TableOptionOf X R SpanMap N A → X → Type 0
-RemovesNamed is_blank text_of lines location how x = (name : _) → lines ≡ Columns → ListTheSame (location.locates x) (ColumnsNamed text_of (string_bytes name)) → ActsAsOption is_blank text_of (step.RemoveNamed name) how x
+module _ {A : Type 0} (is_blank : A → Type 0) (text_of : A → List ℕ) where
+  -- a step does, and leaves where it is refused, just what an option does and leaves
+  pub record ActsAs (step : Step) (does leaves : Change A SpanMap) : Type 0 where
+    pub done : (old : Grid A) (cfg : SpanMap) (new : Grid A) (new_cfg : SpanMap) → (Does is_blank text_of step old cfg new new_cfg → does old cfg new new_cfg) × (does old cfg new new_cfg → Does is_blank text_of step old cfg new new_cfg)
+    pub refused : (old : Grid A) (cfg : SpanMap) (new : Grid A) (new_cfg : SpanMap) → (Leaves is_blank text_of step old cfg new new_cfg → leaves old cfg new new_cfg) × (leaves old cfg new new_cfg → Leaves is_blank text_of step old cfg new new_cfg)
+
+  -- a step acts as an option of some type
+  abbrev pub ActsAsOption : {X R D : Type 0} → Step → TableOptionOf X R SpanMap D A → X → Type 0
+  ActsAsOption step how x = ActsAs step (how.does x) (how.leaves x)
+
+  -- a kind of step acts as a kind of option, whatever the option is
+  abbrev pub ActAs : {X R D : Type 0} → (X → Step) → TableOptionOf X R SpanMap D A → Type 0
+  ActAs {X} step how = (x : X) → ActsAsOption (step x) how x
+
+  -- a kind of step with a selector acts as a kind of option on each entity that the selector lists
+  abbrev pub ActOnListed : {X R I : Type 0} → ObjectOf Select R I A → (X → Select → Step) → CellOptionOf X R SpanMap A → Type 0
+  ActOnListed {X} object step how = (x : X) (select : Select) → ActsAs (step x select) (EachListed (object.lists select) (how.does x)) (SameOr (EachListedUntil (object.lists select) (how.does x) (λ e. SameOr (how.leaves x e))))
+
+  -- two steps in one act as two options one after the other, where each of the steps acts as its option
+  abbrev pub InTurn : {X Y R D : Type 0} → TableOptionOf X R SpanMap D A → TableOptionOf Y R SpanMap D A → TableOptionOf (X × Y) R SpanMap D A → X → Y → Type 0
+  InTurn how next both x y = (p : _) (first : Step) (q : _) (second : Step) → ActsAsOption first how x → ActsAsOption second next y → ActsAsOption (step.Both' p first q second) both (x, y)
+
+  -- a kind of step on what two selectors name acts as an option on two objects, where these list that
+  abbrev pub ActOnObjects : {X Y R I J D : Type 0} → (Select → Select → Step) → ObjectOf X R I A → ObjectOf Y R J A → TableOptionOf (X × Y) R SpanMap D A → X × Y → Type 0
+  ActOnObjects step to from how x = (destination source : Select) → ListTheSame (to.lists x.0) (Names text_of destination) → ListTheSame (from.lists x.1) (Names text_of source) → ActsAsOption (step destination source) how x
+
+  -- a kind of step on a range of rows and one of columns acts as an option on two ranges, where these have the same bounds
+  abbrev pub ActWithin : {X Y R D : Type 0} → (ℕ → ℕ → ℕ → ℕ → Step) → BoundsOf X → BoundsOf Y → TableOptionOf (X × Y) R SpanMap D A → X × Y → Type 0
+  ActWithin step rows columns how x = (a b m n : ℕ) → rows.bounds_of x.0 ≡ half_open a b → columns.bounds_of x.1 ≡ half_open m n → ActsAsOption (step a b m n) how x
+
+  -- the step that takes away a range acts as an option that takes away lines, where it takes rows, or columns, and its location finds those of the range
+  abbrev pub RemovesRange : {X R I J N : Type 0} → Axis → Axis → LocationOf X R ℕ I J A → TableOptionOf X R SpanMap N A → X → Type 0
+  RemovesRange axis lines location how x = (a b : ℕ) → lines ≡ axis → ListTheSame (location.locates x) (IndexesAlong axis a b) → ActsAsOption (range_removed axis a b) how x
+
+  -- the step that takes away the columns of a name acts as such an option, where it takes columns, and its location finds those of the name
+  abbrev pub RemovesNamed : {X R I J N : Type 0} → Axis → LocationOf X R ℕ I J A → TableOptionOf X R SpanMap N A → X → Type 0
+  RemovesNamed lines location how x = (name : _) → lines ≡ Columns → ListTheSame (location.locates x) (ColumnsNamed text_of (string_bytes name)) → ActsAsOption (step.RemoveNamed name) how x

@@ -24,7 +24,7 @@ use Rattle.tabled_steps.specs.Selected.{selected}
 abbrev pub named_places : ℕ → ℕ → List Entity → List (List Position)
 named_places rows columns = map (λ (e : Entity). inside e rows columns)
 
--- the same of the entities in groups
+-- the places of a table that the entities in groups name, of each
 abbrev pub unrolled : ℕ → ℕ → List Group → List (List Position)
 unrolled rows columns = flat_map (λ (r : Group). replicate r.count (inside r.entity rows columns))
 
@@ -61,11 +61,11 @@ AreRepresentatives text_of select g representatives = (groups : List Group) × A
 -- what is done and left on an entity depends on the places alone that it names, the shape stays, and to do it
 -- on one that names none once more changes nothing
 pub record IsLocal {A : Type 0} (does leaves : Entity → Change A SpanMap) : Type 0 where
-  pub rows : (e : Entity) (g : Grid A) (c : SpanMap) (h : Grid A) (d : SpanMap) → does e g c h d → h.rows ≡ g.rows
-  pub columns : (e : Entity) (g : Grid A) (c : SpanMap) (h : Grid A) (d : SpanMap) → does e g c h d → h.columns ≡ g.columns
-  pub alike : (e f : Entity) (g : Grid A) (c : SpanMap) (h : Grid A) (d : SpanMap) → inside e g.rows g.columns ≡ inside f g.rows g.columns → does f g c h d → does e g c h d
-  pub again : (e : Entity) (g : Grid A) (c : SpanMap) (h : Grid A) (d : SpanMap) → inside e g.rows g.columns ≡ [] → does e g c h d → does e h d h d
-  pub left_alike : (e f : Entity) (g : Grid A) (c : SpanMap) (h : Grid A) (d : SpanMap) → inside e g.rows g.columns ≡ inside f g.rows g.columns → leaves f g c h d → leaves e g c h d
+  pub rows : (e : Entity) (old : Grid A) (cfg : SpanMap) (new : Grid A) (new_cfg : SpanMap) → does e old cfg new new_cfg → new.rows ≡ old.rows
+  pub columns : (e : Entity) (old : Grid A) (cfg : SpanMap) (new : Grid A) (new_cfg : SpanMap) → does e old cfg new new_cfg → new.columns ≡ old.columns
+  pub alike : (e f : Entity) (old : Grid A) (cfg : SpanMap) (new : Grid A) (new_cfg : SpanMap) → inside e old.rows old.columns ≡ inside f old.rows old.columns → does f old cfg new new_cfg → does e old cfg new new_cfg
+  pub again : (e : Entity) (old : Grid A) (cfg : SpanMap) (new : Grid A) (new_cfg : SpanMap) → inside e old.rows old.columns ≡ [] → does e old cfg new new_cfg → does e new new_cfg new new_cfg
+  pub left_alike : (e f : Entity) (old : Grid A) (cfg : SpanMap) (new : Grid A) (new_cfg : SpanMap) → inside e old.rows old.columns ≡ inside f old.rows old.columns → leaves f old cfg new new_cfg → leaves e old cfg new new_cfg
 
 -- the entities that are left to go over
 abbrev pub entities_left : Entities → List Entity

@@ -16,11 +16,11 @@ use Rattle.tabled_settings.specs.Charsets.{charset_writes}
 use Rattle.tabled_settings.specs.Wraps.{wrap_writes}
 use Rattle.tabled_settings.specs.Dups.{dup_writes}
 use Rattle.tabled_carry.specs.Images.{carried}
-use Rattle.tabled_settings.specs.Joined.{corner_of, joined_places}
-use Rattle.tabled_settings.specs.PiecePlaces.{glued, split_places}
-use Rattle.tabled_settings.specs.Pieces.{has_pieces, split}
+use Rattle.tabled_settings.specs.Joined.{spans_of_join}
+use Rattle.tabled_settings.specs.PiecePlaces.{glued, spans_of_split}
+use Rattle.tabled_settings.specs.Pieces.{split}
 use Rattle.tabled_grid.specs.Places.{Places}
-use Rattle.tabled_settings.specs.Rearranged.{carried_if, extracted, removed, reversed, reverses, rotated}
+use Rattle.tabled_settings.specs.Rearranged.{extracted, removed, reversed, rotated, spans_of_reversal}
 use Rattle.tabled_settings.specs.declared.reverse.Reverse.{Reverse}
 use Rattle.tabled_settings.specs.declared.split.Display.TheVariants.{Retain}
 use Rattle.tabled_settings.specs.declared.split.Split.{Split}
@@ -74,7 +74,7 @@ put_panel axis line text s = if has_room axis line s.texts s.spans then record {
 abbrev pub merge : Axis → State → Entity → State
 merge axis s e = record s { spans = with_sizes s.spans (runs axis e s.texts s.spans) }
 
--- the same of all cells
+-- a rectangle for each run of equal neighbours among all cells
 abbrev pub merge_all : Axis → State → State
 merge_all axis s = merge axis s Global
 
@@ -84,16 +84,15 @@ rearrange places s = record { texts = read (places s.texts.rows s.texts.columns)
 
 -- lines in the opposite order, where the limit isn't past the table
 abbrev pub reverse : Reverse → State → State
-reverse r s = let places = reversed r.axis r.start r.limit s.texts.rows s.texts.columns in
-    record { texts = read places s.texts; spans = carried_if (reverses r.axis r.start r.limit s.texts.rows s.texts.columns) places s.texts.rows s.texts.columns s.spans }
+reverse r s = record { texts = read (reversed r.axis r.start r.limit s.texts.rows s.texts.columns) s.texts; spans = spans_of_reversal r s.texts.rows s.texts.columns s.spans }
 
 -- rows or columns cut into pieces
 abbrev pub cut_lines : Split → State → State
-cut_lines how s = record { texts = split how s.texts; spans = carried_if (has_pieces how s.texts.rows s.texts.columns) (split_places how s.texts) s.texts.rows s.texts.columns s.spans }
+cut_lines how s = record { texts = split how s.texts; spans = spans_of_split how s.texts s.spans }
 
 -- a second table joined to the texts
 abbrev pub join : Axis → Grid (List ℕ) → List ℕ → State → State
-join axis second default s = record { texts = joined_tables axis second default s.texts; spans = carried (joined_places (corner_of axis s.texts.rows s.texts.columns) second s.texts.rows s.texts.columns) s.texts.rows s.texts.columns s.spans }
+join axis second default s = record { texts = joined_tables axis second default s.texts; spans = spans_of_join axis second s.texts.rows s.texts.columns s.spans }
 
 -- the rows, or the columns, of a range taken away
 abbrev pub remove_range : Axis → ℕ → ℕ → State → State
@@ -136,11 +135,14 @@ after_all (x ∷ xs) s = after_all xs (after x s)
 
 -- the texts and the merged cells become what a formula makes of them
 abbrev pub Becomes : {A : Type 0} → (A → List ℕ) → (State → State) → Change A SpanMap
-Becomes text_of formula g c h d = state_of text_of h d ≡ formula (state_of text_of g c)
+Becomes text_of formula old cfg new new_cfg = state_of text_of new new_cfg ≡ formula (state_of text_of old cfg)
 
 -- changes for each item, in stores of two kinds, make equal texts and merged cells of equal ones
 abbrev pub EndAlike : {A B X : Type 0} → (A → List ℕ) → (B → List ℕ) → (X → Change A SpanMap) → (X → Change B SpanMap) → List X → Type 0
-EndAlike {A} {B} text_of other_text_of does other_does items = (g : Grid A) (c : SpanMap) (h : Grid A) (d : SpanMap) (k : Grid B) (m : SpanMap) (l : Grid B) (n : SpanMap) → Each does items g c h d → Each other_does items k m l n → state_of text_of g c ≡ state_of other_text_of k m → state_of text_of h d ≡ state_of other_text_of l n
+EndAlike {A} {B} text_of other_text_of does other_does items =
+    (old : Grid A) (cfg : SpanMap) (new : Grid A) (new_cfg : SpanMap) (other : Grid B) (other_cfg : SpanMap) (other_new : Grid B) (other_new_cfg : SpanMap)
+    → Each does items old cfg new new_cfg → Each other_does items other other_cfg other_new other_new_cfg
+    → state_of text_of old cfg ≡ state_of other_text_of other other_cfg → state_of text_of new new_cfg ≡ state_of other_text_of other_new other_new_cfg
 
 -- a table with a row and a column is the pieces of its split glued together, where all were kept
 pub record IsUndone (how : Split) (old new : State) : Type 0 where
@@ -167,14 +169,14 @@ pub record IsUndoneMidway (how : Split) (old : State) (rest : List Step) (new : 
 abbrev pub AreUndone : List Step → State → State → Type 0
 AreUndone steps old new = (first rest : List Step) (split : Split) → steps ≡ first ++ step.Split split ∷ rest → IsUndoneMidway split (after_all first old) rest new
 
--- the same of the tables before the steps and after them
+-- each split among steps that lead from one table to another is undone by gluing where it is made
 abbrev pub SplitsAreUndone : {A : Type 0} → (A → List ℕ) → List Step → Change A SpanMap
-SplitsAreUndone text_of steps g c h d = AreUndone (flattened steps) (state_of text_of g c) (state_of text_of h d)
+SplitsAreUndone text_of steps old cfg new new_cfg = AreUndone (flattened steps) (state_of text_of old cfg) (state_of text_of new new_cfg)
 
 -- step k is refused in one of its parts, the parts before that one are done, and each split among these is undone by gluing where it is made
-pub record SplitsAreUndoneBefore {A : Type 0} (is_blank : A → Type 0) (text_of : A → List ℕ) (steps : List Step) (k : ℕ) (g : Grid A) (c : SpanMap) (h : Grid A) (d : SpanMap) : Type 0 where
+pub record SplitsAreUndoneBefore {A : Type 0} (is_blank : A → Type 0) (text_of : A → List ℕ) (steps : List Step) (k : ℕ) (old : Grid A) (cfg : SpanMap) (new : Grid A) (new_cfg : SpanMap) : Type 0 where
   pub part : ℕ
   pub not_before : length (flattened (take k steps)) ≤ part
   pub within : part < length (flattened (take (suc k) steps))
-  pub refused : EachUntilAt (Does is_blank text_of) (Leaves is_blank text_of) (flattened steps) part g c h d
-  pub undone : AreUndone (take part (flattened steps)) (state_of text_of g c) (state_of text_of refused.grid refused.configuration)
+  pub refused : EachUntilAt (Does is_blank text_of) (Leaves is_blank text_of) (flattened steps) part old cfg new new_cfg
+  pub undone : AreUndone (take part (flattened steps)) (state_of text_of old cfg) (state_of text_of refused.grid refused.configuration)

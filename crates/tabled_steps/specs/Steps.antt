@@ -14,16 +14,12 @@ use Rattle.tabled_select.specs.Locators.{columns_with}
 use Rattle.tabled_settings.specs.Charsets.{charset_writes, is_set}
 use Rattle.tabled_settings.specs.Wraps.{wrap_writes}
 use Rattle.tabled_settings.specs.Dups.{Duplicates, DuplicatesFirst}
-use Rattle.tabled_carry.specs.Images.{carried}
-use Rattle.tabled_settings.specs.Joined.{JoinsAt, corner_of, joined_places}
-use Rattle.tabled_settings.specs.PiecePlaces.{Splits, split_places}
+use Rattle.tabled_settings.specs.Joined.{JoinsTables}
+use Rattle.tabled_settings.specs.PiecePlaces.{SplitsTable}
 use Rattle.tabled_settings.specs.Pieces.{has_pieces}
-use Rattle.tabled_grid.specs.Places.{ReadsThrough}
 use Rattle.tabled_grid.specs.Fitting.{Fits}
-use Rattle.tabled_settings.specs.Rearranged.{Rearranges, carried_if, extracted, removed, reversed, reverses, rotated}
-use Rattle.tabled_settings.specs.declared.reverse.Reverse.{Reverse}
+use Rattle.tabled_settings.specs.Rearranged.{Rearranges, ReversesTable, extracted, removed, reverses, rotated}
 use Rattle.tabled_settings.specs.declared.rotate.Rotate.TheVariants.{Bottom, Top}
-use Rattle.tabled_settings.specs.declared.split.Split.{Split}
 use Rattle.tabled_grid.specs.Bounds.{indexes}
 use Rattle.tabled_spans.specs.Panels.{Panels, has_room}
 use Rattle.tabled_spans.specs.Runs.{MergesRuns, NamesNoNeighbours}
@@ -33,90 +29,80 @@ use Rattle.tabled_steps.specs.declared.select.Select.{Select}
 use Rattle.tabled_steps.specs.declared.step.Step.{Step}
 use Rattle.tabled_steps.specs.declared.step.Step.TheVariants as step
 
--- these are the entities that a selector names in a table
-abbrev pub Names : {A : Type 0} → (A → List ℕ) → Select → Grid A → List Entity → Type 0
-Names text_of select g entities = entities ≡ selected (map_grid text_of g) select
+module _ {A : Type 0} (text_of : A → List ℕ) where
+  -- these are the entities that a selector names in a table
+  abbrev pub Names : Select → Grid A → List Entity → Type 0
+  Names select g entities = entities ≡ selected (map_grid text_of g) select
 
--- lines in the opposite order, and the merged cells carried along where there are some
-abbrev pub Reverses : {A : Type 0} → Reverse → Change A SpanMap
-Reverses r g c h d = ReadsThrough (reversed r.axis r.start r.limit g.rows g.columns) g h × (d ≡ carried_if (reverses r.axis r.start r.limit g.rows g.columns) (reversed r.axis r.start r.limit g.rows g.columns) g.rows g.columns c)
+  -- runs of equal neighbours among the cells of an entity are merged, and cells stay
+  abbrev pub Merges : Axis → Entity → Change A SpanMap
+  Merges axis e old cfg new new_cfg = (new ≡ old) × MergesRuns axis e (map_grid text_of old) cfg new_cfg
 
--- lines cut into pieces, and the merged cells carried along where there are some
-abbrev pub Cuts : {A : Type 0} → (A → Type 0) → (A → List ℕ) → Split → Change A SpanMap
-Cuts is_blank text_of s g c h d = Splits is_blank text_of s g h × (d ≡ carried_if (has_pieces s g.rows g.columns) (split_places s (map_grid text_of g)) g.rows g.columns c)
+  -- nothing, or the changes for the entities that a selector names before one, and what the refused change for that one leaves
+  abbrev pub LeavesFirst : Select → (Entity → Change A SpanMap) → (Entity → Change A SpanMap) → Change A SpanMap
+  LeavesFirst select does leaves = SameOr (EachListedUntil (Names select) does (λ e. SameOr (leaves e)))
 
--- a second table is joined, and the merged cells are carried along
-abbrev pub JoinsTables : {A : Type 0} → (A → Type 0) → (A → List ℕ) → Axis → Grid (List ℕ) → List ℕ → Change A SpanMap
-JoinsTables is_blank text_of axis second default g c h d = JoinsAt is_blank text_of (corner_of axis g.rows g.columns) second default g h × (d ≡ carried (joined_places (corner_of axis g.rows g.columns) second g.rows g.columns) g.rows g.columns c)
+module _ {A : Type 0} (is_blank : A → Type 0) (text_of : A → List ℕ) where
+  -- what a step does
+  abbrev pub Does : Step → Change A SpanMap
+  Does (step.Set select text) = EachListed (Names text_of select) (λ e. DoesWrites text_of (text_writes (string_bytes text) e))
+  Does (step.Dup destination source) = Duplicates text_of (Names text_of destination) (Names text_of source)
+  Does (step.Charset charset select) = EachListed (Names text_of select) (λ e. DoesWrites text_of (charset_writes charset e))
+  Does (step.Wrap wrap select) = EachListed (Names text_of select) (λ e. DoesWrites text_of (wrap_writes wrap e))
+  Does (step.ColumnSpan size select) = EachListed (Names text_of select) (Spans text_of Columns size)
+  Does (step.RowSpan size select) = EachListed (Names text_of select) (Spans text_of Rows size)
+  Does (step.HorizontalPanel panel) = Panels is_blank text_of Rows panel.0 panel.1
+  Does (step.VerticalPanel panel) = Panels is_blank text_of Columns panel.0 panel.1
+  Does (step.Header text) = Panels is_blank text_of Rows 0 text
+  Does (step.Footer text) = λ old. Panels is_blank text_of Rows old.rows text old
+  Does (step.MergeVertical _) = Merges text_of Rows Global
+  Does (step.MergeHorizontal _) = Merges text_of Columns Global
+  Does (step.Merge axis select) = EachListed (Names text_of select) (Merges text_of axis)
+  Does (step.Rotate rotate) = λ old. Rearranges (rotated rotate old.rows old.columns) old
+  Does (step.Reverse reverse) = ReversesTable reverse
+  Does (step.Split split) = SplitsTable is_blank text_of split
+  Does (step.Concat concat) = JoinsTables is_blank text_of concat.0 concat.1 concat.2
+  Does (step.Extract a b c d) = λ old. Rearranges (extracted (half_open a b) (half_open c d) old.rows old.columns) old
+  Does (step.RemoveRows a b) = λ old. Rearranges (removed Rows (indexes (half_open a b) old.rows) old.rows old.columns) old
+  Does (step.RemoveColumns a b) = λ old. Rearranges (removed Columns (indexes (half_open a b) old.columns) old.rows old.columns) old
+  Does (step.RemoveNamed name) = λ old. Rearranges (removed Columns (columns_with (string_bytes name) (map_grid text_of old)) old.rows old.columns) old
+  Does (step.Both' _ first _ second) = Then (Does first) (Does second)
 
--- runs of equal neighbours among the cells of an entity are merged, and cells stay
-abbrev pub Merges : {A : Type 0} → (A → List ℕ) → Axis → Entity → Change A SpanMap
-Merges text_of axis e g c h d = (h ≡ g) × MergesRuns axis e (map_grid text_of g) c d
+  -- what a refused step leaves
+  abbrev pub Leaves : Step → Change A SpanMap
+  Leaves (step.Set select text) = LeavesFirst text_of select (λ e. DoesWrites text_of (text_writes (string_bytes text) e)) (λ e. DoesFirstWrites text_of (text_writes (string_bytes text) e))
+  Leaves (step.Dup destination source) = DuplicatesFirst text_of (Names text_of destination) (Names text_of source)
+  Leaves (step.Charset charset select) = LeavesFirst text_of select (λ e. DoesWrites text_of (charset_writes charset e)) (λ e. DoesFirstWrites text_of (charset_writes charset e))
+  Leaves (step.Wrap wrap select) = LeavesFirst text_of select (λ e. DoesWrites text_of (wrap_writes wrap e)) (λ e. DoesFirstWrites text_of (wrap_writes wrap e))
+  Leaves (step.ColumnSpan size select) = LeavesFirst text_of select (Spans text_of Columns size) (SpansFirst text_of Columns size)
+  Leaves (step.RowSpan size select) = LeavesFirst text_of select (Spans text_of Rows size) (SpansFirst text_of Rows size)
+  Leaves (step.Merge axis select) = LeavesFirst text_of select (Merges text_of axis) (λ _. Same)
+  Leaves (step.Both' _ first _ second) = ThenLeaves (Does first) (Leaves first) (Leaves second)
+  Leaves _ = Same
 
--- what a step does
-abbrev pub Does : {A : Type 0} → (A → Type 0) → (A → List ℕ) → Step → Change A SpanMap
-Does is_blank text_of (step.Set select text) = EachListed (Names text_of select) (λ e. DoesWrites text_of (text_writes (string_bytes text) e))
-Does is_blank text_of (step.Dup destination source) = Duplicates text_of (Names text_of destination) (Names text_of source)
-Does is_blank text_of (step.Charset charset select) = EachListed (Names text_of select) (λ e. DoesWrites text_of (charset_writes charset e))
-Does is_blank text_of (step.Wrap wrap select) = EachListed (Names text_of select) (λ e. DoesWrites text_of (wrap_writes wrap e))
-Does is_blank text_of (step.ColumnSpan size select) = EachListed (Names text_of select) (Spans text_of Columns size)
-Does is_blank text_of (step.RowSpan size select) = EachListed (Names text_of select) (Spans text_of Rows size)
-Does is_blank text_of (step.HorizontalPanel panel) = Panels is_blank text_of Rows panel.0 panel.1
-Does is_blank text_of (step.VerticalPanel panel) = Panels is_blank text_of Columns panel.0 panel.1
-Does is_blank text_of (step.Header text) = Panels is_blank text_of Rows 0 text
-Does is_blank text_of (step.Footer text) = λ g. Panels is_blank text_of Rows g.rows text g
-Does is_blank text_of (step.MergeVertical _) = Merges text_of Rows Global
-Does is_blank text_of (step.MergeHorizontal _) = Merges text_of Columns Global
-Does is_blank text_of (step.Merge axis select) = EachListed (Names text_of select) (Merges text_of axis)
-Does is_blank text_of (step.Rotate rotate) = λ g. Rearranges (rotated rotate g.rows g.columns) g
-Does is_blank text_of (step.Reverse reverse) = Reverses reverse
-Does is_blank text_of (step.Split split) = Cuts is_blank text_of split
-Does is_blank text_of (step.Concat concat) = JoinsTables is_blank text_of concat.0 concat.1 concat.2
-Does is_blank text_of (step.Extract a b c d) = λ g. Rearranges (extracted (half_open a b) (half_open c d) g.rows g.columns) g
-Does is_blank text_of (step.RemoveRows a b) = λ g. Rearranges (removed Rows (indexes (half_open a b) g.rows) g.rows g.columns) g
-Does is_blank text_of (step.RemoveColumns a b) = λ g. Rearranges (removed Columns (indexes (half_open a b) g.columns) g.rows g.columns) g
-Does is_blank text_of (step.RemoveNamed name) = λ g. Rearranges (removed Columns (columns_with (string_bytes name) (map_grid text_of g)) g.rows g.columns) g
-Does is_blank text_of (step.Both' _ first _ second) = Then (Does is_blank text_of first) (Does is_blank text_of second)
+  -- a step that takes no memory on a table, and so is not refused: with a selector, on a single entity
+  abbrev pub TakesNoMemory : Step → Grid A → SpanMap → Type 0
+  TakesNoMemory (step.Set select _) old cfg = IsSomeAnd (single select) (λ e. inside e old.rows old.columns ≡ [])
+  TakesNoMemory (step.Charset charset select) old cfg = IsSomeAnd (single select) (λ e. (is_set charset ≡ false) ⊎ (inside e old.rows old.columns ≡ []))
+  TakesNoMemory (step.Wrap _ select) old cfg = IsSomeAnd (single select) (λ e. inside e old.rows old.columns ≡ [])
+  TakesNoMemory (step.ColumnSpan size select) old cfg = IsSomeAnd (single select) (λ e. SpanTakesNoMemory size e old.rows old.columns)
+  TakesNoMemory (step.RowSpan size select) old cfg = IsSomeAnd (single select) (λ e. SpanTakesNoMemory size e old.rows old.columns)
+  TakesNoMemory (step.Merge axis select) old cfg = IsSomeAnd (single select) (λ e. NamesNoNeighbours axis e old)
+  TakesNoMemory (step.HorizontalPanel panel) old cfg = has_room Rows panel.0 old cfg ≡ false
+  TakesNoMemory (step.VerticalPanel panel) old cfg = has_room Columns panel.0 old cfg ≡ false
+  TakesNoMemory (step.Header _) old cfg = has_room Rows 0 old cfg ≡ false
+  TakesNoMemory (step.Footer _) old cfg = has_room Rows old.rows old cfg ≡ false
+  TakesNoMemory (step.Rotate rotate) old cfg = ((rotate ≡ Top) ⊎ (rotate ≡ Bottom)) × Fits cfg old.rows old.columns
+  TakesNoMemory (step.Reverse r) old cfg = (reverses r.axis r.start r.limit old.rows old.columns ≡ false) ⊎ Fits cfg old.rows old.columns
+  TakesNoMemory (step.Extract _ _ _ _) old cfg = Fits cfg old.rows old.columns
+  TakesNoMemory (step.Split split) old cfg = has_pieces split old.rows old.columns ≡ false
+  TakesNoMemory (step.Both' _ first _ second) old cfg = TakesNoMemory first old cfg × AfterNeverRefused (Does first) (TakesNoMemory second) old cfg
+  TakesNoMemory _ old cfg = ⊥
 
--- nothing, or the changes for the entities that a selector names before one, and what the refused change for that one leaves
-abbrev pub LeavesFirst : {A : Type 0} → (A → List ℕ) → Select → (Entity → Change A SpanMap) → (Entity → Change A SpanMap) → Change A SpanMap
-LeavesFirst text_of select does leaves = SameOr (EachListedUntil (Names text_of select) does (λ e. SameOr (leaves e)))
+  -- a step that takes memory is refused, and leaves what it leaves
+  abbrev pub Refused : Step → Change A SpanMap
+  Refused step old cfg new new_cfg = Leaves step old cfg new new_cfg × (TakesNoMemory step old cfg → ⊥)
 
--- what a refused step leaves
-abbrev pub Leaves : {A : Type 0} → (A → Type 0) → (A → List ℕ) → Step → Change A SpanMap
-Leaves is_blank text_of (step.Set select text) = LeavesFirst text_of select (λ e. DoesWrites text_of (text_writes (string_bytes text) e)) (λ e. DoesFirstWrites text_of (text_writes (string_bytes text) e))
-Leaves is_blank text_of (step.Dup destination source) = DuplicatesFirst text_of (Names text_of destination) (Names text_of source)
-Leaves is_blank text_of (step.Charset charset select) = LeavesFirst text_of select (λ e. DoesWrites text_of (charset_writes charset e)) (λ e. DoesFirstWrites text_of (charset_writes charset e))
-Leaves is_blank text_of (step.Wrap wrap select) = LeavesFirst text_of select (λ e. DoesWrites text_of (wrap_writes wrap e)) (λ e. DoesFirstWrites text_of (wrap_writes wrap e))
-Leaves is_blank text_of (step.ColumnSpan size select) = LeavesFirst text_of select (Spans text_of Columns size) (SpansFirst text_of Columns size)
-Leaves is_blank text_of (step.RowSpan size select) = LeavesFirst text_of select (Spans text_of Rows size) (SpansFirst text_of Rows size)
-Leaves is_blank text_of (step.Merge axis select) = LeavesFirst text_of select (Merges text_of axis) (λ _. Same)
-Leaves is_blank text_of (step.Both' _ first _ second) = ThenLeaves (Does is_blank text_of first) (Leaves is_blank text_of first) (Leaves is_blank text_of second)
-Leaves is_blank text_of _ = Same
-
--- a step that takes no memory on a table, and so is not refused: with a selector, on a single entity
-abbrev pub TakesNoMemory : {A : Type 0} → (A → Type 0) → (A → List ℕ) → Step → Grid A → SpanMap → Type 0
-TakesNoMemory is_blank text_of (step.Set select _) g c = IsSomeAnd (single select) (λ e. inside e g.rows g.columns ≡ [])
-TakesNoMemory is_blank text_of (step.Charset charset select) g c = IsSomeAnd (single select) (λ e. (is_set charset ≡ false) ⊎ (inside e g.rows g.columns ≡ []))
-TakesNoMemory is_blank text_of (step.Wrap _ select) g c = IsSomeAnd (single select) (λ e. inside e g.rows g.columns ≡ [])
-TakesNoMemory is_blank text_of (step.ColumnSpan size select) g c = IsSomeAnd (single select) (λ e. SpanTakesNoMemory size e g.rows g.columns)
-TakesNoMemory is_blank text_of (step.RowSpan size select) g c = IsSomeAnd (single select) (λ e. SpanTakesNoMemory size e g.rows g.columns)
-TakesNoMemory is_blank text_of (step.Merge axis select) g c = IsSomeAnd (single select) (λ e. NamesNoNeighbours axis e g)
-TakesNoMemory is_blank text_of (step.HorizontalPanel panel) g c = has_room Rows panel.0 g c ≡ false
-TakesNoMemory is_blank text_of (step.VerticalPanel panel) g c = has_room Columns panel.0 g c ≡ false
-TakesNoMemory is_blank text_of (step.Header _) g c = has_room Rows 0 g c ≡ false
-TakesNoMemory is_blank text_of (step.Footer _) g c = has_room Rows g.rows g c ≡ false
-TakesNoMemory is_blank text_of (step.Rotate rotate) g c = ((rotate ≡ Top) ⊎ (rotate ≡ Bottom)) × Fits c g.rows g.columns
-TakesNoMemory is_blank text_of (step.Reverse r) g c = (reverses r.axis r.start r.limit g.rows g.columns ≡ false) ⊎ Fits c g.rows g.columns
-TakesNoMemory is_blank text_of (step.Extract _ _ _ _) g c = Fits c g.rows g.columns
-TakesNoMemory is_blank text_of (step.Split split) g c = has_pieces split g.rows g.columns ≡ false
-TakesNoMemory is_blank text_of (step.Both' _ first _ second) g c = TakesNoMemory is_blank text_of first g c × AfterNeverRefused (Does is_blank text_of first) (TakesNoMemory is_blank text_of second) g c
-TakesNoMemory is_blank text_of _ g c = ⊥
-
--- a step that takes memory is refused, and leaves what it leaves
-abbrev pub Refused : {A : Type 0} → (A → Type 0) → (A → List ℕ) → Step → Change A SpanMap
-Refused is_blank text_of step g c h d = Leaves is_blank text_of step g c h d × (TakesNoMemory is_blank text_of step g c → ⊥)
-
--- the steps before step k are done, and that one is refused
-abbrev pub RefusedAt : {A : Type 0} → (A → Type 0) → (A → List ℕ) → List Step → ℕ → Change A SpanMap
-RefusedAt is_blank text_of = EachUntilAt (Does is_blank text_of) (Refused is_blank text_of)
+  -- the steps before step k are done, and that one is refused
+  abbrev pub RefusedAt : List Step → ℕ → Change A SpanMap
+  RefusedAt = EachUntilAt Does Refused

@@ -14,7 +14,7 @@ use tabled_carry::laws::{
     carried_rectangles_are_the_images, carried_rectangles_fit, carried_there_and_back_is_as_it_was,
     fitting_rectangles_are_the_free_ones, merged_cells_stay_with_their_cells, there_is_one_image,
 };
-use tabled_carry::{MovesRectangles, carry_along, kept_in_place};
+use tabled_carry::{FittingSpans, MovesRectangles};
 use tabled_grid::config::{Position, Rectangle, Size, SpannedConfig};
 use tabled_grid::records::{
     Blank, CellText, ExactRecords, PeekableRecords, Records, RecordsMut, Resizable,
@@ -99,9 +99,7 @@ pub fn keeps_what_fits(
 ) -> Result<(), AllocError>
     ensures { OnOk result (cfg.new ≡ keep_fitting rows columns cfg.old) }
 {
-    if let Some(kept) = kept_in_place(alloc, cfg, rows, columns)? {
-        *cfg = kept;
-    }
+    FittingSpans::of(alloc, cfg, rows, columns)?.stay(cfg);
     Ok(())
 }
 
@@ -129,8 +127,7 @@ pub fn carries_along<M: MovesRectangles>(
     ensures err { OnErr result (cfg.new ≡ cfg.old) }
     ensures promised { Fits cfg.old rows columns → IsOk result }
 {
-    let kept = kept_in_place(alloc, cfg, rows, columns)?;
-    carry_along(alloc, moves, cfg, kept, rows, columns);
+    FittingSpans::of(alloc, cfg, rows, columns)?.carry_along(alloc, moves, cfg);
     Ok(())
 }
 

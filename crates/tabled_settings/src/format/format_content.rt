@@ -50,7 +50,7 @@ impl<F> FormatContent<F> {
         }
     }
 
-    /// The same, asked for one line of a text after another.
+    /// What is asked for one line of a text after another.
     ///
     /// A line ends at a newline, or at a carriage return and a newline. A last newline begins no line, and
     /// the empty text has none. The answers are written with a newline between each two. Each cell
@@ -136,7 +136,7 @@ where
     ghost acts_like = { Prim.search rules };
 }
 
-/// The same for all cells of the table.
+/// Asks for all cells of the table.
 impl<F, R, C, D> TableOption<R, C, D> for FormatContent<F>
 where
     F: FnMut(Global, &str) -> Result<String, AllocError> + Clone + Drop,

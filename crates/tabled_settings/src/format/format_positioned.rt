@@ -86,7 +86,7 @@ where
     ghost acts_like = { Prim.search rules };
 }
 
-/// The same for all cells of the table.
+/// Asks for all cells of the table.
 impl<F, R, C, D> TableOption<R, C, D> for FormatContentPositioned<F>
 where
     F: FnMut(Global, &str, Position) -> Result<String, AllocError> + Drop,

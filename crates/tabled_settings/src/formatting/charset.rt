@@ -55,8 +55,8 @@ impl Charset {
         }
     }
 
-    /// The same, and control characters but the newline are taken out. A tab becomes as many spaces as are
-    /// set, and none where no size is.
+    /// What takes control characters but the newline out, too. A tab becomes as many spaces as are set, and none
+    /// where no size is.
     ///
     /// Ported from `tabled::settings::formatting::Charset::clean`.
     pub fn clean(self) -> Self
@@ -68,7 +68,7 @@ impl Charset {
         }
     }
 
-    /// The same, and a tab becomes n spaces.
+    /// What replaces a tab by n spaces, too.
     ///
     /// Ported from `tabled::settings::formatting::Charset::tab_size`.
     pub fn tab_size(self, size: usize) -> Self
@@ -127,7 +127,7 @@ where
     ghost acts_like = { Prim.search rules };
 }
 
-/// The same for all cells of the table.
+/// Recodes the texts of all cells of the table.
 impl<R, C, D> TableOption<R, C, D> for Charset
 where
     R: Records + ExactRecords + PeekableRecords + RecordsMut<String>,

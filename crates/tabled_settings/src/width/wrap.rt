@@ -68,8 +68,8 @@ impl Wrap {
         }
     }
 
-    /// The same, and lines are cut between words, parted by blanks, or anywhere. A word that is wider than a line
-    /// begins one, and is cut. A blank at a cut goes.
+    /// Whether lines are cut between words, parted by blanks, or anywhere. A word that is wider than a line begins
+    /// one, and is cut. A blank at a cut goes.
     ///
     /// Ported from `tabled::settings::width::Wrap::keep_words`.
     pub fn keep_words(self, on: bool) -> Self
@@ -110,7 +110,7 @@ where
     ghost acts_like = { Prim.search rules };
 }
 
-/// The same for all cells of the table.
+/// Wraps the texts of all cells of the table.
 impl<R, C, D> TableOption<R, C, D> for Wrap
 where
     R: Records + ExactRecords + PeekableRecords + RecordsMut<String>,
@@ -253,7 +253,7 @@ fn place(width: usize, keep_words: bool, used: usize, c: char, rest: &str) -> Pl
     place_in_line(width, used, c)
 }
 
-/// The same of a character that is put in any case.
+/// What is put for a character that is put in any case, where its line has some columns already.
 fn place_in_line(width: usize, used: usize, c: char) -> Placed
     requires { used ≤ width }
     ensures { result ≡ placed_in_line width used c }

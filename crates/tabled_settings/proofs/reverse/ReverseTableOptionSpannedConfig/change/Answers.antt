@@ -9,5 +9,5 @@ returns-clause-ok g c =
     let end = c.in-Some.ensures.some in
     let grid = g.R.GridStore.grid c.args.records.now in (
       reversed_done _ _ _ _ _ c.count-count.ensures.count _ _ end.0 end.2 c.reverse.ensures.reversed,
-      reversal_carried c.args.self.axis c.args.self.start c.args.self.limit grid.rows grid.columns _ _ c.in-Some.end c.count-count.result _ _ c.count_rows-rows.ensures.rows c.count_columns-columns.ensures.columns (c.count-count.ensures.count ∙ sym (counted c.args.self.axis grid)) end.0 end.1 end.2 c.carry_along.ensures.carried,
+      reversal_carried c.args.self.axis c.args.self.start c.args.self.limit grid.rows grid.columns _ _ c.in-Some.end c.count-count.result _ _ c.count_rows-rows.ensures.rows c.count_columns-columns.ensures.columns (c.count-count.ensures.count ∙ sym (counted c.args.self.axis grid)) end.0 end.1 end.2 (rw (c.in_ok-fitting.ensures.rows, c.in_ok-fitting.ensures.columns) at c.carry_along.ensures.carried),
     )

@@ -1,4 +1,4 @@
-use Rattle.tabled_settings.proofs.Common.{◌*◌, ◌<◌, IsStrictlyIncreasing, List, across, arith, div_ceil, get_or, length, subst, sym, ℕ}
+use Rattle.tabled_settings.proofs.Common.{◌*◌, ◌<◌, ◌∙◌, IsStrictlyIncreasing, List, across, arith, div_ceil, get_or, length, subst, sym, ℕ}
 use Rattle.tabled_settings.proofs.PiecePlaces.{clean_places, clean_splits, retained_places, retained_splits, spans_carried}
 use Rattle.tabled_settings.proofs.PiecesDone.{CanBeCut, kept_below, kept_rising, lines_counted}
 use Rattle.tabled_settings.proofs.split.SplitTableOptionSpannedConfig.change.Goals as goal
@@ -40,7 +40,7 @@ returns-in_ok-cut-in-Clean-clause-ok g c =
     let can = can_be_cut g (goal.at.returns-in_ok-cut-in-Clean-clause-ok g c).After-is_none in
     let kept = c.in_ok-kept-in-Clean.ensures in (
       clean_splits text_of _ _ _ _ can g.R.Cell.Blank.is_blank g.met.R.Cell.CellText.blank_is_empty _ (rw (← can.count, ← can.wide) at c.in_ok-cut-in-Clean.ensures.ok) _ _ c.in-Clean.is kept (rw c.deref.ensures.value at c.keep_some.ensures.kept),
-      spans_carried text_of _ _ _ _ can _ _ _ _ _ (clean_places text_of _ _ _ _ can _ c.in-Clean.is kept) c.count_rows-rows.ensures.rows c.count_columns-columns.ensures.columns c.carry_along.ensures.carried,
+      spans_carried text_of _ _ _ _ can _ _ _ _ _ (clean_places text_of _ _ _ _ can _ c.in-Clean.is kept) (c.in_ok-fitting-in-Clean.ensures.rows ∙ c.count_rows-rows.ensures.rows) (c.in_ok-fitting-in-Clean.ensures.columns ∙ c.count_columns-columns.ensures.columns) c.carry_along.ensures.carried,
     )
 
 pub returns-in_ok-cut-in-Retain-clause-ok : goal.returns-in_ok-cut-in-Retain-clause-ok
@@ -48,5 +48,5 @@ returns-in_ok-cut-in-Retain-clause-ok g c =
     let text_of = g.R.Cell.CellText.text_of in
     let can = can_be_cut g (goal.at.returns-in_ok-cut-in-Retain-clause-ok g c).After-is_none in (
       retained_splits text_of _ _ _ _ can g.R.Cell.Blank.is_blank g.met.R.Cell.CellText.blank_is_empty _ (rw (← can.count, ← can.wide) at c.in_ok-cut-in-Retain.ensures.ok) c.in-Retain.is,
-      spans_carried text_of _ _ _ _ can _ _ _ _ _ (retained_places text_of _ _ _ _ can c.in-Retain.is) c.count_rows-rows.ensures.rows c.count_columns-columns.ensures.columns c.carry_along-in-Retain.ensures.carried,
+      spans_carried text_of _ _ _ _ can _ _ _ _ _ (retained_places text_of _ _ _ _ can c.in-Retain.is) (c.in_ok-fitting-in-Retain.ensures.rows ∙ c.count_rows-rows.ensures.rows) (c.in_ok-fitting-in-Retain.ensures.columns ∙ c.count_columns-columns.ensures.columns) c.carry_along-in-Retain.ensures.carried,
     )
