@@ -11,6 +11,7 @@ pub mod OwnerRows
 pub mod Owners
 pub mod Picture
 pub mod Rests
+pub mod Runs
 pub mod Sent
 pub mod Sizes
 pub mod Standing

@@ -13,6 +13,7 @@ mod markdown;
 mod marks;
 mod owners;
 mod pictures;
+mod sheet;
 mod style;
 mod texts;
 mod width;

@@ -1,4 +1,4 @@
-use Rattle.tabled_draw.proofs.Common.{[], ◌+◌, ◌-◌, ◌<◌, ◌∙◌, ◌≡◌, ◌≤◌, AreLeft, AreUnmerged, IsBetween, IsOwnerRow, None, Rows, add-zero, add_assoc, ap, ap₂, arith, begun, border, bytes_in, cond, entries, get_or, heights, is_drawn, left_of, length, map_grid, place, refl, size_if, subst, sym, top, true}
+use Rattle.tabled_draw.proofs.Common.{[], ◌+◌, ◌-◌, ◌<◌, ◌∙◌, ◌≡◌, ◌≤◌, AreLeft, AreUnmerged, IsOwnerRow, None, Rows, add-zero, add_assoc, ap, ap₂, arith, begun, border, bytes_in, cond, entries, get_or, heights, is_drawn, left_of, length, map_grid, place, refl, size_if, subst, sym, top, true}
 use Rattle.tabled_draw.proofs.Sizes.{start-next}
 use Rattle.tabled_draw.proofs.Rows.{all-below, border-text, end-inside, first-below, in-row, left-in_row, left-next_row, more-below}
 use Rattle.tabled_draw.proofs.Sent.{draws-as, draws-then}
@@ -11,14 +11,11 @@ write_border-requires-clause-inside g c = rw (c.requires.long, c.deref-3.ensures
 pub write_border-requires-clause-unmerged : goal.write_border-requires-clause-unmerged
 write_border-requires-clause-unmerged g c =
     let t = map_grid g.R.Cell.CellText.text_of (g.R.GridStore.grid c.args.records.now) in
-    λ unmerged. subst (λ a. AreUnmerged c.args.rows (length c.args.rests.now.items) c.args.i a c.deref-4.result.now) (c.deref.ensures.value ∙ sym c.deref-3.ensures.value)
-    (subst (λ b. AreUnmerged c.args.rows (length c.args.rests.now.items) c.args.i c.deref.result.now b) (c.deref-2.ensures.value ∙ sym c.deref-4.ensures.value)
+    λ unmerged. subst (λ a. AreUnmerged c.args.sheet.now.rows (length c.args.rests.now.items) c.args.i a c.deref-4.result.now) (c.deref.ensures.value ∙ sym c.deref-3.ensures.value)
+    (subst (λ b. AreUnmerged c.args.sheet.now.rows (length c.args.rests.now.items) c.args.i c.deref.result.now b) (c.deref-2.ensures.value ∙ sym c.deref-4.ensures.value)
     (subst (λ n. AreUnmerged n (length c.args.rests.now.items) c.args.i c.deref.result.now c.deref-2.result.now) (sym c.requires.rows)
     (subst (λ n. AreUnmerged t.rows n c.args.i c.deref.result.now c.deref-2.result.now) (sym c.requires.long)
     (c.are_unmerged-is_unmerged.ensures unmerged t c.requires.row c.requires.wide c.requires.fits (rw c.deref.ensures.value c.requires.above) (rw c.deref-2.ensures.value c.write_owners-after.ensures.here)))))
-
-pub write_border-requires-clause-between : goal.write_border-requires-clause-between
-write_border-requires-clause-between g c = subst (λ n. IsBetween c.args.look.now.style n c.args.edges.now c.args.between.now) (sym c.requires.long) c.requires.between
 
 pub write_row_line-requires-clause-inside : goal.write_row_line-requires-clause-inside
 write_row_line-requires-clause-inside g c = rw (c.loop-y.invariant.long, c.deref-in-loop-y.ensures.value) (end-inside c.args.spans.now _ _ (c.args.i + 1) c.write_owners-after.new.here.items c.requires.fits c.write_owners-after.ensures.here)
@@ -28,12 +25,12 @@ loop-y-init g c =
     let t = map_grid g.R.Cell.CellText.text_of (g.R.GridStore.grid c.args.records.now) in
     let m = c.args.spans.now in
     let i = c.args.i in
-    let style = c.args.look.now.style in
-    let aligns = c.args.look.now.alignments.now in
+    let style = c.args.sheet.now.look.style in
+    let aligns = c.args.sheet.now.look.alignments.now in
     let old = bytes_in c.args.rests.now.items in
     let cut = bytes_in c.write_border.new.rests.items in
     let new = bytes_in c.begin.new.rests.items in
-    let drawn = is_drawn style.rows c.args.rows i in
+    let drawn = is_drawn style.rows c.args.sheet.now.rows i in
     let size : border Rows style t i ≡ size_if drawn = ap (λ n. size_if (is_drawn style.rows n i)) (sym c.requires.rows) in
     let over : IsOwnerRow t.rows t.columns m i c.deref-3.result.now = rw c.deref-3.ensures.value c.requires.above in
     let under : IsOwnerRow t.rows t.columns m (i + 1) c.deref-4.result.now = rw c.deref-4.ensures.value c.write_owners-after.ensures.here in
@@ -44,7 +41,7 @@ loop-y-init g c =
           (λ j less. c.in_ok-write_border.ensures.rests j (omega (arith, less, c.requires.long)) ∙ ap₂ (λ a b. cond drawn (left_of j a b (get_or old j [])) (get_or old j [])) (over.each (j + 1) (omega (arith, less))) (under.each (j + 1) (omega (arith, less))))
           (λ j less. c.begin.ensures.begun j less ∙ ap (λ a. begun t a (place i j) (get_or cut j [])) (again.each (j + 1) (omega (arith, less)))));
       drawn = draws-as
-          (border-text style aligns t m c.requires.fits c.args.edges.now c.requires.edges i (top style t (entries m) i) c.args.rows c.deref-3.result.now c.deref-4.result.now c.args.rests.now.items c.requires.rows refl over under c.requires.left c.requires.long ∙ first-below style aligns t (entries m) i)
+          (border-text style aligns t m c.requires.fits c.args.sheet.now.edges.now c.requires.edges i (top style t (entries m) i) c.args.sheet.now.rows c.deref-3.result.now c.deref-4.result.now c.args.rests.now.items c.requires.rows refl over under c.requires.left c.requires.long ∙ first-below style aligns t (entries m) i)
           c.in_ok-write_border.ensures.draws;
     }
 
@@ -54,8 +51,8 @@ loop-y-preserved g c =
     let m = c.args.spans.now in
     let i = c.args.i in
     let y = c.loop-y._y in
-    let style = c.args.look.now.style in
-    let aligns = c.args.look.now.alignments.now in
+    let style = c.args.sheet.now.look.style in
+    let aligns = c.args.sheet.now.look.alignments.now in
     let n = top style t (entries m) i + border Rows style t i + y in
     let old = bytes_in c.loop-y.rests.items in
     let new = bytes_in c.write_row_line.new.rests.items in
@@ -63,7 +60,7 @@ loop-y-preserved g c =
     let own = c.write_owners-after.ensures.here in
     let within : i < t.rows = c.requires.row in
     let low : top style t (entries m) (i + 1 - 1) + border Rows style t (i + 1 - 1) ≤ n = (let same : top style t (entries m) (i + 1 - 1) + border Rows style t (i + 1 - 1) ≡ top style t (entries m) i + border Rows style t i = ap (λ k. top style t (entries m) k + border Rows style t k) (omega arith) in omega (arith, same)) in
-    let edges = c.args.edges.now in
+    let edges = c.args.sheet.now.edges.now in
     record {
       long = c.in_ok-write_row_line.ensures.long ∙ c.loop-y.invariant.long;
       left = subst (λ k. AreLeft style t m (i + 1) k new) (add_assoc (top style t (entries m) i + border Rows style t i) y 1) (left-in_row style t m c.requires.fits (i + 1) n old new (omega arith) (omega (arith, within)) low c.loop-y.invariant.left
@@ -78,8 +75,8 @@ returns g c =
     let t = map_grid g.R.Cell.CellText.text_of (g.R.GridStore.grid c.args.records.now) in
     let m = c.args.spans.now in
     let i = c.args.i in
-    let style = c.args.look.now.style in
-    let aligns = c.args.look.now.alignments.now in
+    let style = c.args.sheet.now.look.style in
+    let aligns = c.args.sheet.now.look.alignments.now in
     let y : c.loop-y._y ≡ get_or (heights style t (entries m)) i 0 = (let e : c.loop-y._y ≡ c.args.height = omega (arith, c.loop-y-test.false, c.loop-y.auto._y-end) in e ∙ c.requires.height) in
     let next : top style t (entries m) (i + 1) ≡ top style t (entries m) i + (border Rows style t i + get_or (heights style t (entries m)) i 0 + 0) = start-next Rows style t (entries m) i in
     record {
