@@ -7,11 +7,11 @@ use Rattle.tabled_draw.specs.Borders.{are_none, arms, border, corner_if, differ,
 use Rattle.tabled_draw.specs.Each.{each}
 use Rattle.tabled_draw.specs.Owners.{owner}
 use Rattle.tabled_draw.specs.Picture.{top}
-use Rattle.tabled_draw.specs.Sizes.{text_of_cell}
+use Rattle.tabled_draw.specs.Sizes.{pad, text_of_cell}
 use Rattle.tabled_draw.specs.Texts.{lines_shown}
 use Rattle.tabled_draw.specs.declared.alignment.Alignment.{Alignment}
 use Rattle.tabled_draw.specs.declared.style.Style.{Style}
-use Rattle.tabled_grid.specs.declared.records.axis.Axis.TheVariants.{Rows}
+use Rattle.tabled_grid.specs.declared.records.axis.Axis.TheVariants.{Columns, Rows}
 use Rattle.tabled_grid.specs.Entity.{same_place}
 use Rattle.tabled_grid.specs.Grid.{Grid}
 use Rattle.tabled_grid.specs.declared.config.position.Position.{Position}
@@ -55,7 +55,7 @@ level style drawn edges j = replicate (slice_index_or edges (j + 1) 0 - slice_in
 -- what an owner shows in a column: its text, if it begins there
 abbrev pub text_inside : List Alignment → Bool → List ℕ → ℕ → Option Rectangle → List ℕ → List ℕ
 text_inside aligns drawn edges j None text = []
-text_inside aligns drawn edges j (Some o) text = if o.0.col == j then cell (alignment_in aligns j) text (slice_index_or edges (j + o.1.width) 0 - slice_index_or edges j 0 - size_if drawn - 2) else []
+text_inside aligns drawn edges j (Some o) text = if o.0.col == j then cell (alignment_in aligns j) text (slice_index_or edges (j + o.1.width) 0 - slice_index_or edges j 0 - size_if drawn - pad Columns) else []
 
 -- what stands in a column: a border, or what an owner shows
 abbrev pub column_if : Style → List Alignment → Bool → Bool → List ℕ → ℕ → Option Rectangle → List ℕ → List ℕ

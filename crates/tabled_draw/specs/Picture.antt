@@ -6,7 +6,7 @@ use Rattle.tabled_draw.specs.Alignments.{aligned, alignment_in}
 use Rattle.tabled_draw.specs.Borders.{are_none, arms, border, differ, mark}
 use Rattle.tabled_draw.specs.Each.{each}
 use Rattle.tabled_draw.specs.Owners.{owner}
-use Rattle.tabled_draw.specs.Sizes.{heights, room, start_of, text_of_cell, widths}
+use Rattle.tabled_draw.specs.Sizes.{heights, pad, room, start_of, text_of_cell, widths}
 use Rattle.tabled_draw.specs.Texts.{lines_shown}
 use Rattle.tabled_draw.specs.declared.alignment.Alignment.{Alignment}
 use Rattle.tabled_draw.specs.declared.style.Style.{Style}
@@ -46,7 +46,7 @@ abbrev pub column_between : Style → List Alignment → Grid (List ℕ) → Lis
 column_between style aligns g es n u d j =
     let at = owner g.rows g.columns es in
     if differ (at u (j + 1)) (at d (j + 1))
-    then replicate (slice_index_or (widths style g es) j 0 + 2) style.horizontal
+    then replicate (slice_index_or (widths style g es) j 0 + pad Columns) style.horizontal
     else shows_in style aligns g es n j (at u (j + 1))
 
 -- the n-th line of the picture, in row u or between the rows u and d
@@ -73,7 +73,7 @@ picture style aligns g es =
 
 -- lines, with a newline after each
 abbrev pub with_newlines : List (List ℕ) → List ℕ
-with_newlines lines = flat_map (λ picture_line. picture_line ++ (10 ∷ [])) lines
+with_newlines lines = flat_map (λ line. line ++ (10 ∷ [])) lines
 
 -- the characters of the lines of a row, each line with a newline
 abbrev pub row_text : Style → List Alignment → Grid (List ℕ) → SpanMap → ℕ → List ℕ

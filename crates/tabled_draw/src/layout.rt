@@ -11,7 +11,7 @@ ghost use Rattle.tabled_grid.specs.Grid.{IsInside, map_grid};
 ghost use Rattle.tabled_grid.specs.Fitting.{Fits};
 ghost use Rattle.tabled_grid.specs.declared.records.axis.Axis.TheVariants.{Rows, Columns};
 
-use crate::borders::line_size;
+use crate::borders::{line_size, pad};
 use crate::growth::{grow_all, plus};
 use crate::owners::{clear, owner_row, write_owners};
 use crate::style::{Lines, Style};
@@ -173,7 +173,7 @@ fn edges(alloc: Global, lines: Lines, widths: &[usize]) -> Result<Vec<usize>, Al
     for k in 0..widths.len() {
         edge = plus(
             plus(plus(edge, line_size(lines, widths.len(), k))?, widths[k])?,
-            2,
+            pad(Axis::Columns),
         )?;
         edges.push(edge)?;
     }

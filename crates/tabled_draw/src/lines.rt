@@ -8,13 +8,14 @@ ghost use Rattle.tabled_draw.specs.Sent.{Draws};
 ghost use Rattle.tabled_grid.specs.Spans.{Rectangle};
 
 use crate::alignment::alignment_in;
-use crate::borders::{corner, differ, is_drawn, is_drawn_after, size_if};
+use crate::borders::{corner, differ, is_drawn, is_drawn_after, pad, size_if};
 use crate::marks::{draw, draw_known, draw_many};
 use crate::sheet::Sheet;
 use crate::texts::write_cell;
 use std::alloc::{AllocError, Global};
 use std::io::{self, Write};
 use tabled_grid::config::{Rectangle, Size};
+use tabled_grid::records::Axis;
 use tabled_held::Held;
 
 /// Writes a line of a row: borders between its owners, and their texts. Of each text that begins here, the lines that
@@ -325,7 +326,7 @@ fn write_inside<'a, W: Write>(
         Some((at, Size { width, .. })) if at.col == j => {
             let room = sheet.edges[j + width]
                 .saturating_sub(sheet.edges[j])
-                .saturating_sub(size_if(drawn) + 2);
+                .saturating_sub(size_if(drawn) + pad(Axis::Columns));
             write_cell(
                 writer,
                 held,
