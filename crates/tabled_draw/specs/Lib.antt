@@ -1,4 +1,5 @@
 pub mod Alignments
+pub mod Bands
 pub mod Borders
 pub mod Each
 pub mod Laid

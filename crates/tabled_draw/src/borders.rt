@@ -4,8 +4,8 @@ ghost use Rattle.std.specs.Prelude.{◌≡◌, ◌+◌, ◌<◌, ℕ};
 ghost use Rattle.tabled_draw.specs.Borders.{corner_if, differ, is_drawn, line_size, lines_around, size_if, weight};
 ghost use Rattle.tabled_draw.specs.Sizes.{pad};
 
+use crate::owners::Owner;
 use crate::style::{Lines, Style};
-use tabled_grid::config::Rectangle;
 use tabled_grid::records::Axis;
 
 /// Says whether the k-th line is drawn of those around n rows, or n columns. The 0-th is before the first of them, and the
@@ -74,7 +74,7 @@ pub(crate) fn lines_around(axis: Axis, style: &Style) -> Lines
 
 /// Says whether a border lies between two places.
 #[inline(always)]
-pub(crate) fn differ(a: Option<Rectangle>, b: Option<Rectangle>) -> bool
+pub(crate) fn differ(a: Owner, b: Owner) -> bool
     ensures { result ≡ differ a b }
 {
     match (a, b) {

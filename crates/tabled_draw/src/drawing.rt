@@ -2,6 +2,7 @@
 
 ghost use Rattle.std.specs.Prelude.{◌≡◌, ◌+◌, ◌<◌, IfOk, IsTrue, OnOk, length, slice_index_or};
 ghost use Rattle.std.specs.FinMap.{entries};
+ghost use Rattle.tabled_draw.specs.Bands.{HasRoom, IsBand, IsSheet};
 ghost use Rattle.tabled_draw.specs.Borders.{is_drawn};
 ghost use Rattle.tabled_draw.specs.Laid.{AreEdges, IsLaidOut};
 ghost use Rattle.tabled_draw.specs.Lines.{AreUnmerged, EndInside, begun};
@@ -14,19 +15,20 @@ ghost use Rattle.tabled_grid.specs.Grid.{IsInside, map_grid};
 ghost use Rattle.tabled_grid.specs.Fitting.{Fits};
 ghost use Rattle.tabled_grid.specs.Spans.{AreSpanSizes};
 
+use crate::band::Band;
 use crate::borders::is_drawn;
 use crate::layout::{Layout, layout_of};
 use crate::lines::{line_between, write_border_line, write_known_line, write_row_line};
 use crate::look::Look;
 use crate::marks::run_of;
-use crate::owners::{are_unmerged, clear, write_owners};
+use crate::owners::{Owner, are_unmerged, clear, write_owners};
 use crate::sheet::Sheet;
 use crate::style::Style;
 use std::alloc::{AllocError, Global};
 use std::io::{self, Write};
 use std::marker::Model;
 use std::mem;
-use tabled_grid::config::{Position, Rectangle, SpannedConfig};
+use tabled_grid::config::{Position, SpannedConfig};
 use tabled_grid::records::{CellText, ExactRecords, PeekableRecords, Records};
 use tabled_held::Held;
 
@@ -112,6 +114,7 @@ where
             look: *look,
             rows,
             columns,
+            heights: &layout.heights,
             edges: &layout.edges,
             level: &level,
             between: &[],
@@ -138,7 +141,7 @@ where
             spans,
             look,
             layout,
-            mut rests,
+            rests,
             level,
             between,
             mut held,
@@ -146,8 +149,8 @@ where
         let Layout {
             edges,
             heights,
-            mut above,
-            mut here,
+            above,
+            here,
         } = layout;
         if heights.is_empty() || rests.is_empty() {
             return Ok(());
@@ -156,13 +159,18 @@ where
             look,
             rows: heights.len(),
             columns: rests.len(),
+            heights: &heights,
             edges: &edges,
             level: &level,
             between: &between,
         };
-        write_lines(
-            writer, &mut held, records, &spans, &sheet, &heights, &mut above, &mut here, &mut rests,
-        )?;
+        let mut band = Band {
+            above,
+            here,
+            next: 0,
+            rests,
+        };
+        write_lines(writer, &mut held, records, &spans, &sheet, &mut band)?;
         held.send(writer);
         held.take_outcome()?;
         Ok(())
@@ -176,40 +184,40 @@ fn write_lines<'a, W, R>(
     records: &'a R,
     spans: &SpannedConfig,
     sheet: &Sheet<'_>,
-    heights: &[usize],
-    above: &mut Vec<Option<Rectangle>>,
-    here: &mut Vec<Option<Rectangle>>,
-    rests: &mut Vec<&'a str>,
+    band: &mut Band<'a>,
 ) -> io::Result<()>
 where
     W: Write,
     R: Records + ExactRecords + PeekableRecords,
     R::Cell: CellText,
     requires well { R.is_well_formed records.now }
-    requires laid { IsLaidOut sheet.now.look.style (map_grid R.Cell.text_of (R.grid records.now)) spans.now sheet.now.edges.now heights.now above.old.items here.old.items rests.old.items sheet.now.level.now sheet.now.between.now held.old }
-    requires rows { sheet.now.rows ≡ (R.grid records.now).rows }
-    requires columns { sheet.now.columns ≡ (R.grid records.now).columns }
+    requires sheet { IsSheet (map_grid R.Cell.text_of (R.grid records.now)) spans.now sheet.now }
+    requires room { HasRoom (R.grid records.now).columns band.old.above.items band.old.here.items band.old.rests.items }
+    requires next { band.old.next ≡ 0 }
     requires high { 0 < (R.grid records.now).rows }
     requires wide { 0 < (R.grid records.now).columns }
     ensures { OnOk result (Draws (W.contents writer.old) held.old (W.contents writer.new) held.new (picture_text sheet.now.look.style sheet.now.look.alignments.now (map_grid R.Cell.text_of (R.grid records.now)) spans.now)) }
 {
-    clear(above);
-    let mut next = 0;
-    let rows = heights.len();
-    for i in 0..rows {
-        next = write_row(
-            writer, held, records, spans, sheet, i, heights[i], next, above, here, rests,
-        )?;
-        mem::swap(above, here);
+    clear(&mut band.above);
+    for i in 0..sheet.rows {
+        write_row(writer, held, records, spans, sheet, i, band)?;
     }
-    clear(here);
+    clear(&mut band.here);
     let is_unmerged = spans.anchors().is_empty();
-    write_border(writer, held, sheet, rows, is_unmerged, above, here, rests)?;
+    write_border(
+        writer,
+        held,
+        sheet,
+        sheet.rows,
+        is_unmerged,
+        &band.above,
+        &band.here,
+        &mut band.rests,
+    )?;
     Ok(())
 }
 
-/// Makes the owners of a row, and writes the line above it and the lines in it. Gives the number of the anchors up to
-/// the end of the row.
+/// Writes the line above row i and the lines in it, and goes on to the line below it.
 fn write_row<'a, W, R>(
     writer: &mut W,
     held: &mut Held,
@@ -217,43 +225,38 @@ fn write_row<'a, W, R>(
     spans: &SpannedConfig,
     sheet: &Sheet<'_>,
     i: usize,
-    height: usize,
-    next: usize,
-    above: &Vec<Option<Rectangle>>,
-    here: &mut Vec<Option<Rectangle>>,
-    rests: &mut Vec<&'a str>,
-) -> io::Result<usize>
+    band: &mut Band<'a>,
+) -> io::Result<()>
 where
     W: Write,
     R: Records + ExactRecords + PeekableRecords,
     R::Cell: CellText,
     requires well { R.is_well_formed records.now }
-    requires fits { Fits spans.now ((R.grid records.now).rows) ((R.grid records.now).columns) }
-    requires edges { AreEdges sheet.now.look.style (map_grid R.Cell.text_of (R.grid records.now)) spans.now sheet.now.edges.now }
-    requires rows { sheet.now.rows ≡ (R.grid records.now).rows }
-    requires columns { sheet.now.columns ≡ (R.grid records.now).columns }
+    requires sheet { IsSheet (map_grid R.Cell.text_of (R.grid records.now)) spans.now sheet.now }
     requires row { i < (R.grid records.now).rows }
     requires wide { 0 < (R.grid records.now).columns }
-    requires height { height ≡ slice_index_or (heights sheet.now.look.style (map_grid R.Cell.text_of (R.grid records.now)) (entries spans.now)) i 0 }
-    requires next { next ≡ count_before i 0 (entries spans.now) }
-    requires above { IsOwnerRow ((R.grid records.now).rows) ((R.grid records.now).columns) spans.now i above.now.items }
-    requires here { length here.old.items ≡ (R.grid records.now).columns + 2 }
-    requires long { length rests.old.items ≡ (R.grid records.now).columns }
-    requires left { AreLeftAbove sheet.now.look.style (map_grid R.Cell.text_of (R.grid records.now)) spans.now i rests.old.items }
-    ensures next { IfOk result (λ next. next ≡ count_before (i + 1) 0 (entries spans.now)) }
-    ensures here { OnOk result (IsOwnerRow ((R.grid records.now).rows) ((R.grid records.now).columns) spans.now (i + 1) here.new.items) }
-    ensures long { OnOk result (length rests.new.items ≡ (R.grid records.now).columns) }
+    requires band { IsBand sheet.now.look.style (map_grid R.Cell.text_of (R.grid records.now)) spans.now i band.old.above.items band.old.here.items band.old.next band.old.rests.items }
+    ensures band { OnOk result (IsBand sheet.now.look.style (map_grid R.Cell.text_of (R.grid records.now)) spans.now (i + 1) band.new.above.items band.new.here.items band.new.next band.new.rests.items) }
     ensures draws { OnOk result (Draws (W.contents writer.old) held.old (W.contents writer.new) held.new (row_text sheet.now.look.style sheet.now.look.alignments.now (map_grid R.Cell.text_of (R.grid records.now)) spans.now i)) }
-    ensures left { OnOk result (AreLeftAbove sheet.now.look.style (map_grid R.Cell.text_of (R.grid records.now)) spans.now (i + 1) rests.new.items) }
 {
-    let after = write_owners(records, spans, next, i, above, here);
-    let is_unmerged = are_unmerged(spans, above, here, i);
-    write_border(writer, held, sheet, i, is_unmerged, above, here, rests)?;
-    begin(records, i, here, rests);
-    for _y in 0..height {
-        write_row_line(writer, held, sheet, here, rests)?;
+    band.next = write_owners(records, spans, band.next, i, &band.above, &mut band.here);
+    let is_unmerged = are_unmerged(spans, &band.above, &band.here, i);
+    write_border(
+        writer,
+        held,
+        sheet,
+        i,
+        is_unmerged,
+        &band.above,
+        &band.here,
+        &mut band.rests,
+    )?;
+    begin(records, i, &band.here, &mut band.rests);
+    for _y in 0..sheet.heights[i] {
+        write_row_line(writer, held, sheet, &band.here, &mut band.rests)?;
     }
-    Ok(after)
+    mem::swap(&mut band.above, &mut band.here);
+    Ok(())
 }
 
 /// Writes the line above a row, or below the last one, if it is drawn. It may be known that no cells are merged.
@@ -263,8 +266,8 @@ fn write_border<'a, W: Write>(
     sheet: &Sheet<'_>,
     i: usize,
     is_unmerged: bool,
-    above: &[Option<Rectangle>],
-    below: &[Option<Rectangle>],
+    above: &[Owner],
+    below: &[Owner],
     rests: &mut Vec<&'a str>,
 ) -> io::Result<()>
     requires above { length above.now ≡ length rests.old.items + 2 }
@@ -288,7 +291,7 @@ fn write_border<'a, W: Write>(
 }
 
 /// Sets the texts whose cells begin in a row.
-fn begin<'a, R>(records: &'a R, i: usize, here: &[Option<Rectangle>], rests: &mut Vec<&'a str>)
+fn begin<'a, R>(records: &'a R, i: usize, here: &[Owner], rests: &mut Vec<&'a str>)
 where
     R: Records + ExactRecords + PeekableRecords,
     R::Cell: CellText,
@@ -305,12 +308,7 @@ where
 }
 
 /// The text at a place, if its owner begins there, else another one.
-fn text_at<'a, R>(
-    records: &'a R,
-    owner: Option<Rectangle>,
-    pos: Position,
-    other: &'a str,
-) -> &'a str
+fn text_at<'a, R>(records: &'a R, owner: Owner, pos: Position, other: &'a str) -> &'a str
 where
     R: Records + ExactRecords + PeekableRecords,
     R::Cell: CellText,

@@ -2,6 +2,7 @@
 #![tactic(auto)]
 
 mod alignment;
+mod band;
 mod borders;
 mod drawing;
 mod growth;

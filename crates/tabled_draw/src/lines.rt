@@ -10,21 +10,23 @@ ghost use Rattle.tabled_grid.specs.Spans.{Rectangle};
 use crate::alignment::alignment_in;
 use crate::borders::{corner, differ, is_drawn, is_drawn_after, pad, size_if};
 use crate::marks::{draw, draw_known, draw_many};
+use crate::owners::Owner;
 use crate::sheet::Sheet;
 use crate::texts::write_cell;
 use std::alloc::{AllocError, Global};
 use std::io::{self, Write};
-use tabled_grid::config::{Rectangle, Size};
+use tabled_grid::config::Size;
 use tabled_grid::records::Axis;
 use tabled_held::Held;
 
 /// Writes a line of a row: borders between its owners, and their texts. Of each text that begins here, the lines that
 /// are left are cut by one.
+#[inline(always)]
 pub(crate) fn write_row_line<'a, W: Write>(
     writer: &mut W,
     held: &mut Held,
     sheet: &Sheet<'_>,
-    owners: &[Option<Rectangle>],
+    owners: &[Owner],
     rests: &mut Vec<&'a str>,
 ) -> io::Result<()>
     requires owners { length owners.now ≡ length rests.old.items + 2 }
@@ -66,8 +68,8 @@ pub(crate) fn write_border_line<'a, W: Write>(
     writer: &mut W,
     held: &mut Held,
     sheet: &Sheet<'_>,
-    above: &[Option<Rectangle>],
-    below: &[Option<Rectangle>],
+    above: &[Owner],
+    below: &[Owner],
     rests: &mut Vec<&'a str>,
 ) -> io::Result<()>
     requires above { length above.now ≡ length rests.old.items + 2 }
@@ -207,8 +209,8 @@ fn write_upright<W: Write>(
     sheet: &Sheet<'_>,
     upright: &[u8],
     drawn: bool,
-    before: Option<Rectangle>,
-    after: Option<Rectangle>,
+    before: Owner,
+    after: Owner,
 )
     requires { upright.now ≡ encode_utf8 sheet.now.look.style.vertical }
     ensures { Draws (W.contents writer.old) held.old (W.contents writer.new) held.new (edge sheet.now.look.style true drawn before after before after) }
@@ -226,8 +228,8 @@ fn write_corner<W: Write>(
     held: &mut Held,
     sheet: &Sheet<'_>,
     drawn: bool,
-    above: (Option<Rectangle>, Option<Rectangle>),
-    below: (Option<Rectangle>, Option<Rectangle>),
+    above: (Owner, Owner),
+    below: (Owner, Owner),
     beside: (bool, bool),
 )
     requires left { beside.0 ≡ differ above.0 below.0 }
@@ -252,7 +254,7 @@ fn write_column<W: Write>(
     drawn: bool,
     apart: bool,
     j: usize,
-    owner: Option<Rectangle>,
+    owner: Owner,
     rests: &mut Vec<&str>,
 )
     requires end { (o : Rectangle) → owner ≡ Some o → o.0.col ≡ j → j + o.1.width < length sheet.now.edges.now }
@@ -294,7 +296,7 @@ fn write_crossing<W: Write>(
     sheet: &Sheet<'_>,
     drawn: bool,
     j: usize,
-    owner: Option<Rectangle>,
+    owner: Owner,
     rests: &mut Vec<&str>,
 )
     requires end { (o : Rectangle) → owner ≡ Some o → o.0.col ≡ j → j + o.1.width < length sheet.now.edges.now }
@@ -314,7 +316,7 @@ fn write_inside<'a, W: Write>(
     sheet: &Sheet<'_>,
     drawn: bool,
     j: usize,
-    owner: Option<Rectangle>,
+    owner: Owner,
     rest: &'a str,
 ) -> &'a str
     requires end { (o : Rectangle) → owner ≡ Some o → o.0.col ≡ j → j + o.1.width < length sheet.now.edges.now }

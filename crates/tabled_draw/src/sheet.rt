@@ -12,6 +12,8 @@ pub(crate) struct Sheet<'a> {
     pub(crate) look: Look<'a>,
     pub(crate) rows: usize,
     pub(crate) columns: usize,
+    /// How high each row is.
+    pub(crate) heights: &'a [usize],
     /// Where the left edge of each column stands, and the last edge.
     pub(crate) edges: &'a [usize],
     /// A run of the style's level border.

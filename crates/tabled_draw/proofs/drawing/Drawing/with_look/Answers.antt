@@ -21,7 +21,7 @@ invariant_of-result g c =
         rests = ap length (c.in_ok-rests.ensures.items_if_clones_equal (λ y e. e)) ∙ length-replicate _ _ ∙ c.count_columns-columns.ensures.columns;
         level = c.in_ok-level.ensures;
         between = subst (λ n. IsBetween c.args.look.now.style n c.in_ok-layout.layout.edges.items c.in_ok-between.between.items) c.count_columns-columns.ensures.columns
-            (subst (λ e. IsBetween c.args.look.now.style c.count_columns-columns.result e c.in_ok-between.between.items) c.deref.ensures.value c.in_ok-between.ensures.between);
+            (subst (λ e. IsBetween c.args.look.now.style c.count_columns-columns.result e c.in_ok-between.between.items) c.deref-2.ensures.value c.in_ok-between.ensures.between);
         unused = c.in_ok-between.ensures.none;
       },
     )
