@@ -191,8 +191,8 @@ module _ (style : Style) (aligns : List Alignment) (g : Grid (List ℕ)) (es : L
       by (inr high) (inr wide) = some (omega (arith, high)) (omega (arith, wide))
 
 module _ (style : Style) (aligns : List Alignment) (g : Grid (List ℕ)) (es : List Rectangle) (fine : IsFine style) (well : LieWell g.rows g.columns es) where
-  pub equally-wide : AllByRecursion (λ picture_line. text_width picture_line ≡ left style g es g.columns + border Columns style g g.columns) (picture style aligns g es)
-  equally-wide = all-lines style aligns g es (λ picture_line. text_width picture_line ≡ left style g es g.columns + border Columns style g g.columns) (λ n u d wide line. line-wide style aligns g es fine well n u d line wide)
+  pub equally-wide : AllByRecursion (λ line. text_width line ≡ left style g es g.columns + border Columns style g g.columns) (picture style aligns g es)
+  equally-wide = all-lines style aligns g es (λ line. text_width line ≡ left style g es g.columns + border Columns style g g.columns) (λ n u d wide line. line-wide style aligns g es fine well n u d line wide)
 
   -- ---- what a cell shows
 

@@ -16,6 +16,7 @@ pub mod Owned
 pub mod PictureWidths
 pub mod Replaced
 pub mod Rows
+pub mod Runs
 pub mod Sent
 pub mod Shares
 pub mod Shown

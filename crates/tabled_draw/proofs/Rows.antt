@@ -174,7 +174,7 @@ end-inside m rows columns i row fits is = record { each = λ j o less e begin. (
 -- ---- lines with a newline after each
 
 pub ended-more : (xs : List (List ℕ)) (x : List ℕ) → with_newlines (xs ++ (x ∷ [])) ≡ with_newlines xs ++ (x ++ (10 ∷ []))
-ended-more xs x = flat_map-append (λ picture_line. picture_line ++ (10 ∷ [])) xs (x ∷ []) ∙ ap (λ ys. with_newlines xs ++ ys) (append-nil (x ++ (10 ∷ [])))
+ended-more xs x = flat_map-append (λ line. line ++ (10 ∷ [])) xs (x ∷ []) ∙ ap (λ ys. with_newlines xs ++ ys) (append-nil (x ++ (10 ∷ [])))
 
 module _ (style : Style) (aligns : List Alignment) (g : Grid (List ℕ)) (m : SpanMap) (fits : Fits m g.rows g.columns) (edges : List ℕ) (laid : AreEdges style g m edges) where
   next-of : (u d n : ℕ) (texts : List (List ℕ)) → AreLeft style g m u n texts → AreNext style aligns g m fits edges laid n u d texts
@@ -223,10 +223,10 @@ module _ (style : Style) (aligns : List Alignment) (g : Grid (List ℕ)) (es : L
   all-below i y is = ap (λ k. with_newlines (lines_below i k)) is
 
   pub more-rows : (i : ℕ) → with_newlines (each i (lines_of_row style aligns g es)) ++ with_newlines (lines_of_row style aligns g es i) ≡ with_newlines (each (i + 1) (lines_of_row style aligns g es))
-  more-rows i = sym (flat_map-append (λ picture_line. picture_line ++ (10 ∷ [])) (each i (lines_of_row style aligns g es)) (lines_of_row style aligns g es i)) ∙ ap with_newlines (sym (each-more (lines_of_row style aligns g es) i))
+  more-rows i = sym (flat_map-append (λ line. line ++ (10 ∷ [])) (each i (lines_of_row style aligns g es)) (lines_of_row style aligns g es i)) ∙ ap with_newlines (sym (each-more (lines_of_row style aligns g es) i))
 
   pub all-rows : (i : ℕ) → i ≡ g.rows → 0 < g.rows → 0 < g.columns → with_newlines (each i (lines_of_row style aligns g es)) ++ with_newlines (border_line style aligns g es g.rows) ≡ with_newlines (picture style aligns g es)
   all-rows i is high wide =
       ap (λ k. with_newlines (each k (lines_of_row style aligns g es)) ++ with_newlines (border_line style aligns g es g.rows)) is
-      ∙ sym (flat_map-append (λ picture_line. picture_line ++ (10 ∷ [])) (each g.rows (lines_of_row style aligns g es)) (border_line style aligns g es g.rows))
+      ∙ sym (flat_map-append (λ line. line ++ (10 ∷ [])) (each g.rows (lines_of_row style aligns g es)) (border_line style aligns g es g.rows))
       ∙ ap with_newlines (sym (cond-false ((g.rows == 0) || (g.columns == 0)) [] (each g.rows (lines_of_row style aligns g es) ++ border_line style aligns g es g.rows) (ap₂ (λ x y. x || y) (ne_eqb g.rows 0 (λ e. omega (arith, e))) (ne_eqb g.columns 0 (λ e. omega (arith, e))))))

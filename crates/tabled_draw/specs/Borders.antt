@@ -1,11 +1,11 @@
 -- Borders: which lines are drawn, and the characters of straight borders and of corners.
 use Rattle.std.specs.Prelude.{◌+◌, ◌==◌, ◌&&◌, ◌||◌, if◌then◌else◌, ℕ, Bool, false, true, List, Option, None, Some, nat_lt, not, slice_index_or}
+use Rattle.tabled_draw.specs.Owners.{Owner}
 use Rattle.tabled_draw.specs.declared.style.Lines.{Lines}
 use Rattle.tabled_draw.specs.declared.style.Style.{Style}
 use Rattle.tabled_grid.specs.Along.{count_along}
 use Rattle.tabled_grid.specs.Entity.{same_place}
 use Rattle.tabled_grid.specs.Grid.{Grid}
-use Rattle.tabled_grid.specs.Spans.{Rectangle}
 use Rattle.tabled_grid.specs.declared.records.axis.Axis.{Axis}
 use Rattle.tabled_grid.specs.declared.records.axis.Axis.TheVariants.{Rows, Columns}
 
@@ -35,7 +35,7 @@ border axis style g k = line_size (lines_around axis style) (count_along axis g)
 -- ---- what borders look like
 
 -- a border lies between two places that have not one owner: outside the table there is none
-abbrev pub differ : Option Rectangle → Option Rectangle → Bool
+abbrev pub differ : Owner → Owner → Bool
 differ None None = false
 differ None (Some q) = true
 differ (Some p) None = true
@@ -49,7 +49,7 @@ pub record Arms : Type 0 where
   pub left : Bool
 
 -- the arms where four places meet, two above two
-abbrev pub arms : Option Rectangle → Option Rectangle → Option Rectangle → Option Rectangle → Arms
+abbrev pub arms : Owner → Owner → Owner → Owner → Arms
 arms a b c d = record { up = differ a b; right = differ b d; down = differ c d; left = differ a c }
 
 -- the arms of the upper left corner of row i and column j, where no cells are merged

@@ -1,4 +1,5 @@
 pub mod Alignments
+pub mod Bands
 pub mod Borders
 pub mod Each
 pub mod Laid
@@ -11,6 +12,7 @@ pub mod OwnerRows
 pub mod Owners
 pub mod Picture
 pub mod Rests
+pub mod Runs
 pub mod Sent
 pub mod Sizes
 pub mod Standing

@@ -5,13 +5,13 @@ use Rattle.std.specs.List.{All, after_first}
 use Rattle.tabled_draw.specs.Alignments.{aligned, alignment_in}
 use Rattle.tabled_draw.specs.Borders.{are_none, arms, border, corner_if, differ, is_drawn, mark, size_if, unmerged_arms}
 use Rattle.tabled_draw.specs.Each.{each}
-use Rattle.tabled_draw.specs.Owners.{owner}
+use Rattle.tabled_draw.specs.Owners.{Owner, owner}
 use Rattle.tabled_draw.specs.Picture.{top}
-use Rattle.tabled_draw.specs.Sizes.{text_of_cell}
+use Rattle.tabled_draw.specs.Sizes.{pad, text_of_cell}
 use Rattle.tabled_draw.specs.Texts.{lines_shown}
 use Rattle.tabled_draw.specs.declared.alignment.Alignment.{Alignment}
 use Rattle.tabled_draw.specs.declared.style.Style.{Style}
-use Rattle.tabled_grid.specs.declared.records.axis.Axis.TheVariants.{Rows}
+use Rattle.tabled_grid.specs.declared.records.axis.Axis.TheVariants.{Columns, Rows}
 use Rattle.tabled_grid.specs.Entity.{same_place}
 use Rattle.tabled_grid.specs.Grid.{Grid}
 use Rattle.tabled_grid.specs.declared.config.position.Position.{Position}
@@ -34,7 +34,7 @@ abbrev pub ArePlain : List ℕ → Type 0
 ArePlain bytes = All (λ b. (31 < b) × (b < 127)) bytes
 
 -- what stands at an edge, where four places meet, or two in a row: nothing where no arm meets
-abbrev pub edge : Style → Bool → Bool → Option Rectangle → Option Rectangle → Option Rectangle → Option Rectangle → List ℕ
+abbrev pub edge : Style → Bool → Bool → Owner → Owner → Owner → Owner → List ℕ
 edge style is_row drawn a b c d =
     let meeting = arms a b c d in
     if are_none meeting then [] else replicate (size_if drawn) (mark style is_row meeting)
@@ -44,7 +44,7 @@ abbrev pub cell : Alignment → List ℕ → ℕ → List ℕ
 cell alignment text space = aligned alignment space (first_line text)
 
 -- an owner begins in a column
-abbrev pub begins : ℕ → Option Rectangle → Bool
+abbrev pub begins : ℕ → Owner → Bool
 begins j None = false
 begins j (Some o) = o.0.col == j
 
@@ -53,43 +53,43 @@ abbrev pub level : Style → Bool → List ℕ → ℕ → List ℕ
 level style drawn edges j = replicate (slice_index_or edges (j + 1) 0 - slice_index_or edges j 0 - size_if drawn) style.horizontal
 
 -- what an owner shows in a column: its text, if it begins there
-abbrev pub text_inside : List Alignment → Bool → List ℕ → ℕ → Option Rectangle → List ℕ → List ℕ
+abbrev pub text_inside : List Alignment → Bool → List ℕ → ℕ → Owner → List ℕ → List ℕ
 text_inside aligns drawn edges j None text = []
-text_inside aligns drawn edges j (Some o) text = if o.0.col == j then cell (alignment_in aligns j) text (slice_index_or edges (j + o.1.width) 0 - slice_index_or edges j 0 - size_if drawn - 2) else []
+text_inside aligns drawn edges j (Some o) text = if o.0.col == j then cell (alignment_in aligns j) text (slice_index_or edges (j + o.1.width) 0 - slice_index_or edges j 0 - size_if drawn - pad Columns) else []
 
 -- what stands in a column: a border, or what an owner shows
-abbrev pub column_if : Style → List Alignment → Bool → Bool → List ℕ → ℕ → Option Rectangle → List ℕ → List ℕ
+abbrev pub column_if : Style → List Alignment → Bool → Bool → List ℕ → ℕ → Owner → List ℕ → List ℕ
 column_if style aligns drawn apart edges j a text = if apart then level style drawn edges j else text_inside aligns drawn edges j a text
 
 -- the same, by the owners above and below
-abbrev pub column : Style → List Alignment → Bool → List ℕ → ℕ → Option Rectangle → Option Rectangle → List ℕ → List ℕ
+abbrev pub column : Style → List Alignment → Bool → List ℕ → ℕ → Owner → Owner → List ℕ → List ℕ
 column style aligns drawn edges j a b text = column_if style aligns drawn (differ a b) edges j a text
 
 -- what is left of the text in a column, once its owner has shown a line
-abbrev pub left_inside : ℕ → Option Rectangle → List ℕ → List ℕ
+abbrev pub left_inside : ℕ → Owner → List ℕ → List ℕ
 left_inside j a text = if begins j a then after_line text else text
 
 -- what is left of it, once a border is drawn, or what its owner shows
-abbrev pub left_if : ℕ → Bool → Option Rectangle → List ℕ → List ℕ
+abbrev pub left_if : ℕ → Bool → Owner → List ℕ → List ℕ
 left_if j apart a text = if apart then text else left_inside j a text
 
 -- the same, by the owners above and below
-abbrev pub left_of : ℕ → Option Rectangle → Option Rectangle → List ℕ → List ℕ
+abbrev pub left_of : ℕ → Owner → Owner → List ℕ → List ℕ
 left_of j a b text = left_if j (differ a b) a text
 
 -- the edge before a column
-abbrev pub edge_before : Style → ℕ → Bool → List (Option Rectangle) → List (Option Rectangle) → ℕ → List ℕ
+abbrev pub edge_before : Style → ℕ → Bool → List Owner → List Owner → ℕ → List ℕ
 edge_before style columns is_row above below j =
     edge style is_row (is_drawn style.columns columns j) (slice_index_or above j None) (slice_index_or above (j + 1) None) (slice_index_or below j None) (slice_index_or below (j + 1) None)
 
 -- an edge and the column after it
-abbrev pub stretches : Style → List Alignment → ℕ → Bool → List ℕ → List (Option Rectangle) → List (Option Rectangle) → List (List ℕ) → ℕ → List ℕ
+abbrev pub stretches : Style → List Alignment → ℕ → Bool → List ℕ → List Owner → List Owner → List (List ℕ) → ℕ → List ℕ
 stretches style aligns columns is_row edges above below texts j =
     edge_before style columns is_row above below j
     ++ column style aligns (is_drawn style.columns columns j) edges j (slice_index_or above (j + 1) None) (slice_index_or below (j + 1) None) (slice_index_or texts j [])
 
 -- a line in a row or between two, whose owners are known
-unfoldable pub drawn_line : Style → List Alignment → ℕ → Bool → List ℕ → List (Option Rectangle) → List (Option Rectangle) → List (List ℕ) → List ℕ
+unfoldable pub drawn_line : Style → List Alignment → ℕ → Bool → List ℕ → List Owner → List Owner → List (List ℕ) → List ℕ
 drawn_line style aligns columns is_row edges above below texts =
     (each columns (stretches style aligns columns is_row edges above below texts) ++ edge_before style columns is_row above below columns) ++ (10 ∷ [])
 
@@ -119,11 +119,11 @@ pub record IsBetween (style : Style) (columns : ℕ) (edges bytes : List ℕ) : 
   pub is : bytes ≢ [] → bytes ≡ encode_utf8_all (line_between style columns edges)
 
 -- the rows above and below a line have no merged cell
-pub record AreUnmerged (rows columns i : ℕ) (above below : List (Option Rectangle)) : Type 0 where
+pub record AreUnmerged (rows columns i : ℕ) (above below : List Owner) : Type 0 where
   pub each : (j : ℕ) → j ≤ columns → arms (slice_index_or above j None) (slice_index_or above (j + 1) None) (slice_index_or below j None) (slice_index_or below (j + 1) None) ≡ unmerged_arms rows columns i j
 
 -- the owners of a row have ends inside the table
-pub record EndInside (columns : ℕ) (row : List (Option Rectangle)) : Type 0 where
+pub record EndInside (columns : ℕ) (row : List Owner) : Type 0 where
   pub each : (j : ℕ) (o : Rectangle) → j < columns → slice_index_or row (j + 1) None ≡ Some o → o.0.col ≡ j → j + o.1.width < columns + 1
 
 -- in each column, the lines that are left are those from the n-th of the picture on of the owner in row i that begins there
@@ -131,6 +131,6 @@ pub record AreLeft (style : Style) (g : Grid (List ℕ)) (m : SpanMap) (i n : �
   pub each : (j : ℕ) (o : Rectangle) → j < g.columns → owner g.rows g.columns (entries m) i (j + 1) ≡ Some o → o.0.col ≡ j → (y : ℕ) → slice_index_or (lines_shown (slice_index_or texts j [])) y [] ≡ slice_index_or (lines_shown (text_of_cell g o.0)) (n - top style g (entries m) o.0.row - border Rows style g o.0.row + y) []
 
 -- the text at a place, if its owner begins there, else another one
-abbrev pub begun : Grid (List ℕ) → Option Rectangle → Position → List ℕ → List ℕ
+abbrev pub begun : Grid (List ℕ) → Owner → Position → List ℕ → List ℕ
 begun g None p text = text
 begun g (Some o) p text = if same_place o.0 p then text_of_cell g p else text

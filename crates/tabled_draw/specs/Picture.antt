@@ -1,12 +1,12 @@
 -- The picture of a table: its lines, each a list of characters.
-use Rattle.std.specs.Prelude.{◌+◌, ◌-◌, ◌==◌, ◌||◌, ◌++◌, if◌then◌else◌, ℕ, List, [], ◌∷◌, Option, None, Some, encode_utf8_all, replicate, slice_index_or}
+use Rattle.std.specs.Prelude.{◌+◌, ◌-◌, ◌==◌, ◌||◌, ◌++◌, if◌then◌else◌, ℕ, List, [], ◌∷◌, None, Some, encode_utf8_all, replicate, slice_index_or}
 use Rattle.std.specs.FinMap.{entries}
 use Rattle.std.specs.List.{flat_map}
 use Rattle.tabled_draw.specs.Alignments.{aligned, alignment_in}
 use Rattle.tabled_draw.specs.Borders.{are_none, arms, border, differ, mark}
 use Rattle.tabled_draw.specs.Each.{each}
-use Rattle.tabled_draw.specs.Owners.{owner}
-use Rattle.tabled_draw.specs.Sizes.{heights, room, start_of, text_of_cell, widths}
+use Rattle.tabled_draw.specs.Owners.{Owner, owner}
+use Rattle.tabled_draw.specs.Sizes.{heights, pad, room, start_of, text_of_cell, widths}
 use Rattle.tabled_draw.specs.Texts.{lines_shown}
 use Rattle.tabled_draw.specs.declared.alignment.Alignment.{Alignment}
 use Rattle.tabled_draw.specs.declared.style.Style.{Style}
@@ -30,7 +30,7 @@ shows style aligns g es n o =
     aligned (alignment_in aligns o.0.col) (room Columns (border Columns style g) (widths style g es) o.0.col o.1.width) (slice_index_or (lines_shown (text_of_cell g o.0)) (n - top style g es o.0.row - border Rows style g o.0.row) [])
 
 -- the same in a column, if the cell begins there: elsewhere nothing
-abbrev pub shows_in : Style → List Alignment → Grid (List ℕ) → List Rectangle → ℕ → ℕ → Option Rectangle → List ℕ
+abbrev pub shows_in : Style → List Alignment → Grid (List ℕ) → List Rectangle → ℕ → ℕ → Owner → List ℕ
 shows_in style aligns g es n j None = []
 shows_in style aligns g es n j (Some o) = if o.0.col == j then shows style aligns g es n o else []
 
@@ -46,7 +46,7 @@ abbrev pub column_between : Style → List Alignment → Grid (List ℕ) → Lis
 column_between style aligns g es n u d j =
     let at = owner g.rows g.columns es in
     if differ (at u (j + 1)) (at d (j + 1))
-    then replicate (slice_index_or (widths style g es) j 0 + 2) style.horizontal
+    then replicate (slice_index_or (widths style g es) j 0 + pad Columns) style.horizontal
     else shows_in style aligns g es n j (at u (j + 1))
 
 -- the n-th line of the picture, in row u or between the rows u and d
@@ -73,7 +73,7 @@ picture style aligns g es =
 
 -- lines, with a newline after each
 abbrev pub with_newlines : List (List ℕ) → List ℕ
-with_newlines lines = flat_map (λ picture_line. picture_line ++ (10 ∷ [])) lines
+with_newlines lines = flat_map (λ line. line ++ (10 ∷ [])) lines
 
 -- the characters of the lines of a row, each line with a newline
 abbrev pub row_text : Style → List Alignment → Grid (List ℕ) → SpanMap → ℕ → List ℕ

@@ -7,7 +7,7 @@ use Rattle.tabled_draw.specs.Each.{is_in_range}
 use Rattle.tabled_draw.specs.Marks.{IsFine, IsFineMark}
 use Rattle.tabled_draw.specs.Owners.{owner_in}
 use Rattle.tabled_draw.specs.Picture.{left, picture, top}
-use Rattle.tabled_draw.specs.Sizes.{text_of_cell}
+use Rattle.tabled_draw.specs.Sizes.{pad, text_of_cell}
 use Rattle.tabled_draw.specs.Texts.{text_width, lines_shown}
 use Rattle.tabled_draw.specs.declared.alignment.Alignment.{Alignment}
 use Rattle.tabled_draw.specs.declared.style.Style.{Style}
@@ -60,11 +60,11 @@ text_line g p k = slice_index_or (lines_shown (text_of_cell g p)) k []
 
 -- how many columns stand between a blank after a cell's left border and a line of its text
 abbrev pub indent_of : Style → List Alignment → Grid (List ℕ) → List Rectangle → Position → ℕ → ℕ
-indent_of style aligns g es p k = indent (alignment_in aligns p.col) (inner_width style g es p - 2 - text_width (text_line g p k))
+indent_of style aligns g es p k = indent (alignment_in aligns p.col) (inner_width style g es p - pad Columns - text_width (text_line g p k))
 
 -- what stands between a cell's borders in one of its lines: a line of its text, with blanks before and behind it
 abbrev pub inner_line : Style → List Alignment → Grid (List ℕ) → List Rectangle → Position → ℕ → List ℕ
-inner_line style aligns g es p k = aligned (alignment_in aligns p.col) (inner_width style g es p - 2) (text_line g p k)
+inner_line style aligns g es p k = aligned (alignment_in aligns p.col) (inner_width style g es p - pad Columns) (text_line g p k)
 
 -- characters stand in the n-th line of a picture, after some columns, with some characters of borders right before and
 -- right behind them
@@ -86,7 +86,7 @@ pub record ShowsTexts (style : Style) (aligns : List Alignment) (g : Grid (List 
   pub alone : (p : Position) → IsSeen g es p → (k : ℕ) → k < inner_height style g es p
       → StandsFramed (picture style aligns g es) (inner_top style g es p + k) (left style g es p.col) (border Columns style g p.col) (border Columns style g (p.col + (owner_in es p).1.width)) (inner_line style aligns g es p k)
   pub high : (p : Position) → IsSeen g es p → length (lines_shown (text_of_cell g p)) ≤ inner_height style g es p
-  pub wide : (p : Position) → IsSeen g es p → (k : ℕ) → text_width (text_line g p k) + 2 ≤ inner_width style g es p
+  pub wide : (p : Position) → IsSeen g es p → (k : ℕ) → text_width (text_line g p k) + pad Columns ≤ inner_width style g es p
 
 -- so are texts shown in a style whose characters are one column wide
 abbrev pub ShowsAllTexts : Style → List Alignment → Grid (List ℕ) → List Rectangle → Type 0

@@ -2,14 +2,18 @@
 
 ghost use Rattle.std.specs.Prelude.{◌≡◌, ◌+◌, ◌<◌, ℕ};
 ghost use Rattle.tabled_draw.specs.Borders.{corner_if, differ, is_drawn, line_size, lines_around, size_if, weight};
+ghost use Rattle.tabled_draw.specs.Sizes.{pad};
 
+use crate::owners::Owner;
 use crate::style::{Lines, Style};
-use tabled_grid::config::Rectangle;
 use tabled_grid::records::Axis;
 
-/// Says whether the k-th line is drawn of those around n rows or columns.
+/// Says whether the k-th line is drawn of those around n rows, or n columns. The 0-th is before the first of them, and the
+/// n-th behind the last one. There is none behind that.
+///
+/// Of this project.
 #[inline(always)]
-pub(crate) fn is_drawn(lines: Lines, n: usize, k: usize) -> bool
+pub fn is_drawn(lines: Lines, n: usize, k: usize) -> bool
     ensures { result ≡ is_drawn lines n k }
 {
     (k == 0 && lines.first)
@@ -34,12 +38,28 @@ pub(crate) fn size_if(drawn: bool) -> usize
     if drawn { 1 } else { 0 }
 }
 
-/// The size of the k-th of the lines around n rows or columns.
+/// How many lines of a picture, or columns, the k-th of the lines around n rows, or n columns, takes: one if it is drawn,
+/// else none.
+///
+/// Of this project.
 #[inline(always)]
-pub(crate) fn line_size(lines: Lines, n: usize, k: usize) -> usize
+pub fn line_size(lines: Lines, n: usize, k: usize) -> usize
     ensures { result ≡ line_size lines n k }
 {
     size_if(is_drawn(lines, n, k))
+}
+
+/// What stands beside a text: a blank before it and one after it, and nothing above and below.
+///
+/// Of this project.
+#[inline(always)]
+pub fn pad(axis: Axis) -> usize
+    ensures { result ≡ pad axis }
+{
+    match axis {
+        Axis::Rows => 0,
+        Axis::Columns => 2,
+    }
 }
 
 /// The lines around the rows, or the columns.
@@ -54,7 +74,7 @@ pub(crate) fn lines_around(axis: Axis, style: &Style) -> Lines
 
 /// Says whether a border lies between two places.
 #[inline(always)]
-pub(crate) fn differ(a: Option<Rectangle>, b: Option<Rectangle>) -> bool
+pub(crate) fn differ(a: Owner, b: Owner) -> bool
     ensures { result ≡ differ a b }
 {
     match (a, b) {

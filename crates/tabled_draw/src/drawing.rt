@@ -2,9 +2,10 @@
 
 ghost use Rattle.std.specs.Prelude.{◌≡◌, ◌+◌, ◌<◌, IfOk, IsTrue, OnOk, length, slice_index_or};
 ghost use Rattle.std.specs.FinMap.{entries};
+ghost use Rattle.tabled_draw.specs.Bands.{HasRoom, IsBand, IsSheet};
 ghost use Rattle.tabled_draw.specs.Borders.{is_drawn};
 ghost use Rattle.tabled_draw.specs.Laid.{AreEdges, IsLaidOut};
-ghost use Rattle.tabled_draw.specs.Lines.{AreUnmerged, EndInside, IsBetween, begun};
+ghost use Rattle.tabled_draw.specs.Lines.{AreUnmerged, EndInside, begun};
 ghost use Rattle.tabled_draw.specs.OwnerRows.{IsOwnerRow, count_before};
 ghost use Rattle.tabled_draw.specs.Picture.{drawn, drawn_with, picture_text, row_text};
 ghost use Rattle.tabled_draw.specs.Rests.{AreBegun, AreCutIf, AreLeftAbove, border_of_rests};
@@ -14,17 +15,20 @@ ghost use Rattle.tabled_grid.specs.Grid.{IsInside, map_grid};
 ghost use Rattle.tabled_grid.specs.Fitting.{Fits};
 ghost use Rattle.tabled_grid.specs.Spans.{AreSpanSizes};
 
+use crate::band::Band;
 use crate::borders::is_drawn;
 use crate::layout::{Layout, layout_of};
 use crate::lines::{line_between, write_border_line, write_known_line, write_row_line};
 use crate::look::Look;
-use crate::owners::{are_unmerged, clear, write_owners};
+use crate::marks::run_of;
+use crate::owners::{Owner, are_unmerged, clear, write_owners};
+use crate::sheet::Sheet;
 use crate::style::Style;
 use std::alloc::{AllocError, Global};
 use std::io::{self, Write};
 use std::marker::Model;
 use std::mem;
-use tabled_grid::config::{Position, Rectangle, SpannedConfig};
+use tabled_grid::config::{Position, SpannedConfig};
 use tabled_grid::records::{CellText, ExactRecords, PeekableRecords, Records};
 use tabled_held::Held;
 
@@ -44,6 +48,8 @@ where
     layout: Layout,
     /// What is left of the text that begins in each column.
     rests: Vec<&'a str>,
+    /// A run of the style's level border.
+    level: Vec<u8>,
     /// The line between two rows without merged cells, if its bytes are kept.
     between: Vec<u8>,
     held: Held,
@@ -64,7 +70,7 @@ where
 
     ghost view = { λ a. picture_bytes a.look.style a.look.alignments.now (map_grid R.Cell.text_of (R.grid a.records.now)) (entries a.spans) };
 
-    ghost invariant = { λ a. R.is_well_formed a.records.now × IsLaidOut a.look.style (map_grid R.Cell.text_of (R.grid a.records.now)) a.spans a.layout.edges.items a.layout.heights.items a.layout.above.items a.layout.here.items a.rests.items a.between.items a.held };
+    ghost invariant = { λ a. R.is_well_formed a.records.now × IsLaidOut a.look.style (map_grid R.Cell.text_of (R.grid a.records.now)) a.spans a.layout.edges.items a.layout.heights.items a.layout.above.items a.layout.here.items a.rests.items a.level.items a.between.items a.held };
 }
 
 impl<'a, R> Drawing<'a, R>
@@ -103,13 +109,24 @@ where
         let layout = layout_of(alloc, records, &spans, &look.style)?;
         let rests = vec![in alloc; ""; columns]?;
         let mut held = Held::new(alloc)?;
-        let between = line_between(alloc, &mut held, look, &layout.edges, rows, columns)?;
+        let level = run_of(alloc, look.style.horizontal)?;
+        let sheet = Sheet {
+            look: *look,
+            rows,
+            columns,
+            heights: &layout.heights,
+            edges: &layout.edges,
+            level: &level,
+            between: &[],
+        };
+        let between = line_between(alloc, &mut held, &sheet)?;
         Ok(Drawing {
             records,
             spans,
             look: *look,
             layout,
             rests,
+            level,
             between,
             held,
         })
@@ -124,23 +141,36 @@ where
             spans,
             look,
             layout,
-            mut rests,
+            rests,
+            level,
             between,
             mut held,
         } = self;
         let Layout {
             edges,
             heights,
-            mut above,
-            mut here,
+            above,
+            here,
         } = layout;
         if heights.is_empty() || rests.is_empty() {
             return Ok(());
         }
-        write_lines(
-            writer, &mut held, records, &spans, &look, &edges, &between, &heights, &mut above,
-            &mut here, &mut rests,
-        )?;
+        let sheet = Sheet {
+            look,
+            rows: heights.len(),
+            columns: rests.len(),
+            heights: &heights,
+            edges: &edges,
+            level: &level,
+            between: &between,
+        };
+        let mut band = Band {
+            above,
+            here,
+            next: 0,
+            rests,
+        };
+        write_lines(writer, &mut held, records, &spans, &sheet, &mut band)?;
         held.send(writer);
         held.take_outcome()?;
         Ok(())
@@ -153,152 +183,115 @@ fn write_lines<'a, W, R>(
     held: &mut Held,
     records: &'a R,
     spans: &SpannedConfig,
-    look: &Look<'_>,
-    edges: &[usize],
-    between: &[u8],
-    heights: &[usize],
-    above: &mut Vec<Option<Rectangle>>,
-    here: &mut Vec<Option<Rectangle>>,
-    rests: &mut Vec<&'a str>,
+    sheet: &Sheet<'_>,
+    band: &mut Band<'a>,
 ) -> io::Result<()>
 where
     W: Write,
     R: Records + ExactRecords + PeekableRecords,
     R::Cell: CellText,
     requires well { R.is_well_formed records.now }
-    requires laid { IsLaidOut look.now.style (map_grid R.Cell.text_of (R.grid records.now)) spans.now edges.now heights.now above.old.items here.old.items rests.old.items between.now held.old }
+    requires sheet { IsSheet (map_grid R.Cell.text_of (R.grid records.now)) spans.now sheet.now }
+    requires room { HasRoom (R.grid records.now).columns band.old.above.items band.old.here.items band.old.rests.items }
+    requires next { band.old.next ≡ 0 }
     requires high { 0 < (R.grid records.now).rows }
     requires wide { 0 < (R.grid records.now).columns }
-    ensures { OnOk result (Draws (W.contents writer.old) held.old (W.contents writer.new) held.new (picture_text look.now.style look.now.alignments.now (map_grid R.Cell.text_of (R.grid records.now)) spans.now)) }
+    ensures { OnOk result (Draws (W.contents writer.old) held.old (W.contents writer.new) held.new (picture_text sheet.now.look.style sheet.now.look.alignments.now (map_grid R.Cell.text_of (R.grid records.now)) spans.now)) }
 {
-    clear(above);
-    let mut next = 0;
-    let rows = heights.len();
-    for i in 0..rows {
-        next = write_row(
-            writer, held, records, spans, look, edges, between, rows, i, heights[i], next, above,
-            here, rests,
-        )?;
-        mem::swap(above, here);
+    clear(&mut band.above);
+    for i in 0..sheet.rows {
+        write_row(writer, held, records, spans, sheet, i, band)?;
     }
-    clear(here);
+    clear(&mut band.here);
     let is_unmerged = spans.anchors().is_empty();
     write_border(
         writer,
         held,
-        look,
-        edges,
-        between,
-        rows,
-        rows,
+        sheet,
+        sheet.rows,
         is_unmerged,
-        above,
-        here,
-        rests,
+        &band.above,
+        &band.here,
+        &mut band.rests,
     )?;
     Ok(())
 }
 
-/// Makes the owners of a row, and writes the line above it and the lines in it. Gives the number of the anchors up to
-/// the end of the row.
+/// Writes the line above row i and the lines in it, and goes on to the line below it.
 fn write_row<'a, W, R>(
     writer: &mut W,
     held: &mut Held,
     records: &'a R,
     spans: &SpannedConfig,
-    look: &Look<'_>,
-    edges: &[usize],
-    between: &[u8],
-    rows: usize,
+    sheet: &Sheet<'_>,
     i: usize,
-    height: usize,
-    next: usize,
-    above: &Vec<Option<Rectangle>>,
-    here: &mut Vec<Option<Rectangle>>,
-    rests: &mut Vec<&'a str>,
-) -> io::Result<usize>
+    band: &mut Band<'a>,
+) -> io::Result<()>
 where
     W: Write,
     R: Records + ExactRecords + PeekableRecords,
     R::Cell: CellText,
     requires well { R.is_well_formed records.now }
-    requires fits { Fits spans.now ((R.grid records.now).rows) ((R.grid records.now).columns) }
-    requires edges { AreEdges look.now.style (map_grid R.Cell.text_of (R.grid records.now)) spans.now edges.now }
-    requires between { IsBetween look.now.style ((R.grid records.now).columns) edges.now between.now }
-    requires rows { rows ≡ (R.grid records.now).rows }
+    requires sheet { IsSheet (map_grid R.Cell.text_of (R.grid records.now)) spans.now sheet.now }
     requires row { i < (R.grid records.now).rows }
     requires wide { 0 < (R.grid records.now).columns }
-    requires height { height ≡ slice_index_or (heights look.now.style (map_grid R.Cell.text_of (R.grid records.now)) (entries spans.now)) i 0 }
-    requires next { next ≡ count_before i 0 (entries spans.now) }
-    requires above { IsOwnerRow ((R.grid records.now).rows) ((R.grid records.now).columns) spans.now i above.now.items }
-    requires here { length here.old.items ≡ (R.grid records.now).columns + 2 }
-    requires long { length rests.old.items ≡ (R.grid records.now).columns }
-    requires left { AreLeftAbove look.now.style (map_grid R.Cell.text_of (R.grid records.now)) spans.now i rests.old.items }
-    ensures next { IfOk result (λ next. next ≡ count_before (i + 1) 0 (entries spans.now)) }
-    ensures here { OnOk result (IsOwnerRow ((R.grid records.now).rows) ((R.grid records.now).columns) spans.now (i + 1) here.new.items) }
-    ensures long { OnOk result (length rests.new.items ≡ (R.grid records.now).columns) }
-    ensures draws { OnOk result (Draws (W.contents writer.old) held.old (W.contents writer.new) held.new (row_text look.now.style look.now.alignments.now (map_grid R.Cell.text_of (R.grid records.now)) spans.now i)) }
-    ensures left { OnOk result (AreLeftAbove look.now.style (map_grid R.Cell.text_of (R.grid records.now)) spans.now (i + 1) rests.new.items) }
+    requires band { IsBand sheet.now.look.style (map_grid R.Cell.text_of (R.grid records.now)) spans.now i band.old.above.items band.old.here.items band.old.next band.old.rests.items }
+    ensures band { OnOk result (IsBand sheet.now.look.style (map_grid R.Cell.text_of (R.grid records.now)) spans.now (i + 1) band.new.above.items band.new.here.items band.new.next band.new.rests.items) }
+    ensures draws { OnOk result (Draws (W.contents writer.old) held.old (W.contents writer.new) held.new (row_text sheet.now.look.style sheet.now.look.alignments.now (map_grid R.Cell.text_of (R.grid records.now)) spans.now i)) }
 {
-    let after = write_owners(records, spans, next, i, above, here);
-    let is_unmerged = are_unmerged(spans, above, here, i);
+    band.next = write_owners(records, spans, band.next, i, &band.above, &mut band.here);
+    let is_unmerged = are_unmerged(spans, &band.above, &band.here, i);
     write_border(
         writer,
         held,
-        look,
-        edges,
-        between,
-        rows,
+        sheet,
         i,
         is_unmerged,
-        above,
-        here,
-        rests,
+        &band.above,
+        &band.here,
+        &mut band.rests,
     )?;
-    begin(records, i, here, rests);
-    for _y in 0..height {
-        write_row_line(writer, held, look, edges, here, rests)?;
+    begin(records, i, &band.here, &mut band.rests);
+    for _y in 0..sheet.heights[i] {
+        write_row_line(writer, held, sheet, &band.here, &mut band.rests)?;
     }
-    Ok(after)
+    mem::swap(&mut band.above, &mut band.here);
+    Ok(())
 }
 
 /// Writes the line above a row, or below the last one, if it is drawn. It may be known that no cells are merged.
 fn write_border<'a, W: Write>(
     writer: &mut W,
     held: &mut Held,
-    look: &Look<'_>,
-    edges: &[usize],
-    between: &[u8],
-    rows: usize,
+    sheet: &Sheet<'_>,
     i: usize,
     is_unmerged: bool,
-    above: &[Option<Rectangle>],
-    below: &[Option<Rectangle>],
+    above: &[Owner],
+    below: &[Owner],
     rests: &mut Vec<&'a str>,
 ) -> io::Result<()>
     requires above { length above.now ≡ length rests.old.items + 2 }
     requires below { length below.now ≡ length rests.old.items + 2 }
-    requires edges { length edges.now ≡ length rests.old.items + 1 }
-    requires between { IsBetween look.now.style (length rests.old.items) edges.now between.now }
+    requires columns { sheet.now.columns ≡ length rests.old.items }
     requires inside { EndInside (length rests.old.items) above.now }
-    requires unmerged { IsTrue is_unmerged → AreUnmerged rows (length rests.old.items) i above.now below.now }
+    requires unmerged { IsTrue is_unmerged → AreUnmerged sheet.now.rows (length rests.old.items) i above.now below.now }
     ensures long { length rests.new.items ≡ length rests.old.items }
-    ensures draws { OnOk result (Draws (W.contents writer.old) held.old (W.contents writer.new) held.new (border_of_rests look.now.style look.now.alignments.now rows i edges.now above.now below.now rests.old.items)) }
-    ensures rests { OnOk result (AreCutIf (is_drawn look.now.style.rows rows i) above.now below.now rests.old.items rests.new.items) }
+    ensures draws { OnOk result (Draws (W.contents writer.old) held.old (W.contents writer.new) held.new (border_of_rests sheet.now.look.style sheet.now.look.alignments.now sheet.now.rows i sheet.now.edges.now above.now below.now rests.old.items)) }
+    ensures rests { OnOk result (AreCutIf (is_drawn sheet.now.look.style.rows sheet.now.rows i) above.now below.now rests.old.items rests.new.items) }
 {
-    if !is_drawn(look.style.rows, rows, i) {
+    if !is_drawn(sheet.look.style.rows, sheet.rows, i) {
         return Ok(());
     }
     if is_unmerged {
-        write_known_line(writer, held, look, edges, between, rests.len(), rows, i)?;
+        write_known_line(writer, held, sheet, i)?;
         return Ok(());
     }
-    write_border_line(writer, held, look, edges, above, below, rests)?;
+    write_border_line(writer, held, sheet, above, below, rests)?;
     Ok(())
 }
 
 /// Sets the texts whose cells begin in a row.
-fn begin<'a, R>(records: &'a R, i: usize, here: &[Option<Rectangle>], rests: &mut Vec<&'a str>)
+fn begin<'a, R>(records: &'a R, i: usize, here: &[Owner], rests: &mut Vec<&'a str>)
 where
     R: Records + ExactRecords + PeekableRecords,
     R::Cell: CellText,
@@ -315,12 +308,7 @@ where
 }
 
 /// The text at a place, if its owner begins there, else another one.
-fn text_at<'a, R>(
-    records: &'a R,
-    owner: Option<Rectangle>,
-    pos: Position,
-    other: &'a str,
-) -> &'a str
+fn text_at<'a, R>(records: &'a R, owner: Owner, pos: Position, other: &'a str) -> &'a str
 where
     R: Records + ExactRecords + PeekableRecords,
     R::Cell: CellText,

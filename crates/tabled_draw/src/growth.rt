@@ -4,7 +4,7 @@ ghost use Rattle.std.specs.Prelude.{◌≡◌, ◌+◌, ◌<◌, ◌≤◌, ℕ,
 ghost use Rattle.std.specs.FinMap.{entries};
 ghost use Rattle.std.specs.List.{AllByRecursion, fold};
 ghost use Rattle.tabled_draw.specs.Each.{by_number};
-ghost use Rattle.tabled_draw.specs.Sizes.{grown_sizes, grown_for, in_order, pad, room};
+ghost use Rattle.tabled_draw.specs.Sizes.{grown_sizes, grown_for, in_order, room};
 ghost use Rattle.tabled_draw.specs.Borders.{line_size};
 ghost use Rattle.tabled_grid.specs.Along.{count_along};
 ghost use Rattle.tabled_grid.specs.Axis.{line_of, lines_in};
@@ -12,7 +12,7 @@ ghost use Rattle.tabled_grid.specs.Grid.{map_grid};
 ghost use Rattle.tabled_grid.specs.Fitting.{Fits};
 ghost use Rattle.tabled_grid.specs.Spans.{Rectangle};
 
-use crate::borders::{line_size, lines_around};
+use crate::borders::{line_size, lines_around, pad};
 use crate::style::{Lines, Style};
 use crate::texts::asked;
 use std::alloc::{AllocError, Global};
@@ -61,16 +61,6 @@ fn put_in_order(
     order.sort_by_key(|rectangle| axis.line_of(rectangle.0))?;
     order.sort_by_key(|rectangle| axis.lines_in(rectangle.1))?;
     Ok(order)
-}
-
-/// What stands beside a text: a blank before it and one after it, and nothing above and below.
-fn pad(axis: Axis) -> usize
-    ensures { result ≡ pad axis }
-{
-    match axis {
-        Axis::Rows => 0,
-        Axis::Columns => 2,
-    }
 }
 
 /// Lets n sizes grow by what they lack, with the lines that are drawn between them.

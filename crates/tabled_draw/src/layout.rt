@@ -11,14 +11,14 @@ ghost use Rattle.tabled_grid.specs.Grid.{IsInside, map_grid};
 ghost use Rattle.tabled_grid.specs.Fitting.{Fits};
 ghost use Rattle.tabled_grid.specs.declared.records.axis.Axis.TheVariants.{Rows, Columns};
 
-use crate::borders::line_size;
+use crate::borders::{line_size, pad};
 use crate::growth::{grow_all, plus};
-use crate::owners::{clear, owner_row, write_owners};
+use crate::owners::{Owner, clear, owner_row, write_owners};
 use crate::style::{Lines, Style};
 use crate::texts::asked;
 use std::alloc::{AllocError, Global};
 use std::mem;
-use tabled_grid::config::{Position, Rectangle, SpannedConfig};
+use tabled_grid::config::{Position, SpannedConfig};
 use tabled_grid::records::{Axis, CellText, ExactRecords, PeekableRecords, Records};
 
 /// Where columns and rows lie, and room for the owners of the places of two rows.
@@ -28,8 +28,8 @@ pub(crate) struct Layout {
     pub(crate) edges: Vec<usize>,
     /// How high each row is.
     pub(crate) heights: Vec<usize>,
-    pub(crate) above: Vec<Option<Rectangle>>,
-    pub(crate) here: Vec<Option<Rectangle>>,
+    pub(crate) above: Vec<Owner>,
+    pub(crate) here: Vec<Owner>,
 }
 
 /// Lays out a table.
@@ -76,8 +76,8 @@ where
 fn raise_all<R>(
     records: &R,
     spans: &SpannedConfig,
-    above: &mut Vec<Option<Rectangle>>,
-    here: &mut Vec<Option<Rectangle>>,
+    above: &mut Vec<Owner>,
+    here: &mut Vec<Owner>,
     widths: &mut Vec<usize>,
     heights: &mut Vec<usize>,
 )
@@ -109,7 +109,7 @@ fn raise_row<R>(
     records: &R,
     spans: &SpannedConfig,
     i: usize,
-    here: &Vec<Option<Rectangle>>,
+    here: &Vec<Owner>,
     widths: &mut Vec<usize>,
     heights: &mut Vec<usize>,
 )
@@ -134,7 +134,7 @@ where
 /// column wide, and its row's height if the owner is one row high.
 fn raise<R>(
     records: &R,
-    owner: Option<Rectangle>,
+    owner: Owner,
     pos: Position,
     widths: &mut Vec<usize>,
     heights: &mut Vec<usize>,
@@ -173,7 +173,7 @@ fn edges(alloc: Global, lines: Lines, widths: &[usize]) -> Result<Vec<usize>, Al
     for k in 0..widths.len() {
         edge = plus(
             plus(plus(edge, line_size(lines, widths.len(), k))?, widths[k])?,
-            2,
+            pad(Axis::Columns),
         )?;
         edges.push(edge)?;
     }

@@ -2,6 +2,7 @@
 #![tactic(auto)]
 
 mod alignment;
+mod band;
 mod borders;
 mod drawing;
 mod growth;
@@ -13,11 +14,13 @@ mod markdown;
 mod marks;
 mod owners;
 mod pictures;
+mod sheet;
 mod style;
 mod texts;
 mod width;
 
 pub use alignment::Alignment;
+pub use borders::{is_drawn, line_size, pad};
 pub use drawing::Drawing;
 pub use look::Look;
 pub use markdown::{draw_markdown, markdown_texts};

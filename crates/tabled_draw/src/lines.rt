@@ -8,48 +8,50 @@ ghost use Rattle.tabled_draw.specs.Sent.{Draws};
 ghost use Rattle.tabled_grid.specs.Spans.{Rectangle};
 
 use crate::alignment::alignment_in;
-use crate::borders::{corner, differ, is_drawn, is_drawn_after, size_if};
-use crate::look::Look;
+use crate::borders::{corner, differ, is_drawn, is_drawn_after, pad, size_if};
 use crate::marks::{draw, draw_known, draw_many};
+use crate::owners::Owner;
+use crate::sheet::Sheet;
 use crate::texts::write_cell;
 use std::alloc::{AllocError, Global};
 use std::io::{self, Write};
-use tabled_grid::config::{Rectangle, Size};
+use tabled_grid::config::Size;
+use tabled_grid::records::Axis;
 use tabled_held::Held;
 
 /// Writes a line of a row: borders between its owners, and their texts. Of each text that begins here, the lines that
 /// are left are cut by one.
+#[inline(always)]
 pub(crate) fn write_row_line<'a, W: Write>(
     writer: &mut W,
     held: &mut Held,
-    look: &Look<'_>,
-    edges: &[usize],
-    owners: &[Option<Rectangle>],
+    sheet: &Sheet<'_>,
+    owners: &[Owner],
     rests: &mut Vec<&'a str>,
 ) -> io::Result<()>
     requires owners { length owners.now ≡ length rests.old.items + 2 }
-    requires edges { length edges.now ≡ length rests.old.items + 1 }
+    requires columns { sheet.now.columns ≡ length rests.old.items }
     requires inside { EndInside (length rests.old.items) owners.now }
     ensures long { length rests.new.items ≡ length rests.old.items }
-    ensures draws { OnOk result (Draws (W.contents writer.old) held.old (W.contents writer.new) held.new (line_of_rests look.now.style look.now.alignments.now true edges.now owners.now owners.now rests.old.items)) }
+    ensures draws { OnOk result (Draws (W.contents writer.old) held.old (W.contents writer.new) held.new (line_of_rests sheet.now.look.style sheet.now.look.alignments.now true sheet.now.edges.now owners.now owners.now rests.old.items)) }
     ensures rests { OnOk result (AreCut owners.now owners.now rests.old.items rests.new.items) }
 {
-    let lines = look.style.columns;
+    let lines = sheet.look.style.columns;
     let columns = rests.len();
     let mut room = [0; 4];
-    let upright = look.style.vertical.encode_utf8(&mut room).as_bytes();
+    let upright = sheet.look.style.vertical.encode_utf8(&mut room).as_bytes();
     let mut drawn = is_drawn(lines, columns, 0);
     for j in 0..columns {
         let owner = owners[j + 1];
-        write_upright(writer, held, look, upright, drawn, owners[j], owner);
-        rests[j] = write_inside(writer, held, look, drawn, edges, j, owner, rests[j]);
+        write_upright(writer, held, sheet, upright, drawn, owners[j], owner);
+        rests[j] = write_inside(writer, held, sheet, drawn, j, owner, rests[j]);
         drawn = is_drawn_after(lines, j);
     }
     let drawn = is_drawn(lines, columns, columns);
     write_upright(
         writer,
         held,
-        look,
+        sheet,
         upright,
         drawn,
         owners[columns],
@@ -65,21 +67,20 @@ pub(crate) fn write_row_line<'a, W: Write>(
 pub(crate) fn write_border_line<'a, W: Write>(
     writer: &mut W,
     held: &mut Held,
-    look: &Look<'_>,
-    edges: &[usize],
-    above: &[Option<Rectangle>],
-    below: &[Option<Rectangle>],
+    sheet: &Sheet<'_>,
+    above: &[Owner],
+    below: &[Owner],
     rests: &mut Vec<&'a str>,
 ) -> io::Result<()>
     requires above { length above.now ≡ length rests.old.items + 2 }
     requires below { length below.now ≡ length rests.old.items + 2 }
-    requires edges { length edges.now ≡ length rests.old.items + 1 }
+    requires columns { sheet.now.columns ≡ length rests.old.items }
     requires inside { EndInside (length rests.old.items) above.now }
     ensures long { length rests.new.items ≡ length rests.old.items }
-    ensures draws { OnOk result (Draws (W.contents writer.old) held.old (W.contents writer.new) held.new (line_of_rests look.now.style look.now.alignments.now false edges.now above.now below.now rests.old.items)) }
+    ensures draws { OnOk result (Draws (W.contents writer.old) held.old (W.contents writer.new) held.new (line_of_rests sheet.now.look.style sheet.now.look.alignments.now false sheet.now.edges.now above.now below.now rests.old.items)) }
     ensures rests { OnOk result (AreCut above.now below.now rests.old.items rests.new.items) }
 {
-    let lines = look.style.columns;
+    let lines = sheet.look.style.columns;
     let columns = rests.len();
     let mut drawn = is_drawn(lines, columns, 0);
     let mut left = differ(above[0], below[0]);
@@ -90,13 +91,13 @@ pub(crate) fn write_border_line<'a, W: Write>(
         write_corner(
             writer,
             held,
-            look,
+            sheet,
             drawn,
             (above[j], over),
             (below[j], under),
             (left, right),
         );
-        write_column(writer, held, look, drawn, right, edges, j, over, rests);
+        write_column(writer, held, sheet, drawn, right, j, over, rests);
         drawn = is_drawn_after(lines, j);
         left = right;
     }
@@ -105,7 +106,7 @@ pub(crate) fn write_border_line<'a, W: Write>(
     write_corner(
         writer,
         held,
-        look,
+        sheet,
         drawn,
         (above[columns], above[columns + 1]),
         (below[columns], below[columns + 1]),
@@ -120,28 +121,25 @@ pub(crate) fn write_border_line<'a, W: Write>(
 fn write_unmerged_line<W: Write>(
     writer: &mut W,
     held: &mut Held,
-    look: &Look<'_>,
-    edges: &[usize],
-    columns: usize,
-    rows: usize,
+    sheet: &Sheet<'_>,
     i: usize,
 ) -> io::Result<()>
-    requires edges { length edges.now ≡ columns + 1 }
-    ensures draws { OnOk result (Draws (W.contents writer.old) held.old (W.contents writer.new) held.new (unmerged_line look.now.style rows columns i edges.now)) }
+    ensures draws { OnOk result (Draws (W.contents writer.old) held.old (W.contents writer.new) held.new (unmerged_line sheet.now.look.style sheet.now.rows sheet.now.columns i sheet.now.edges.now)) }
 {
-    let lines = look.style.columns;
+    let lines = sheet.look.style.columns;
+    let columns = sheet.columns;
     let up = 0 < i;
-    let down = i < rows;
-    let inner = corner(&look.style, up, true, down, true);
-    let mut mark = corner(&look.style, up, true, down, false);
+    let down = i < sheet.rows;
+    let inner = corner(&sheet.look.style, up, true, down, true);
+    let mut mark = corner(&sheet.look.style, up, true, down, false);
     let mut drawn = is_drawn(lines, columns, 0);
     for j in 0..columns {
         write_mark(writer, held, drawn, mark);
-        write_level(writer, held, look, drawn, edges, j);
+        write_level(writer, held, sheet, drawn, j);
         mark = inner;
         drawn = is_drawn_after(lines, j);
     }
-    let last = corner(&look.style, up, false, down, 0 < columns);
+    let last = corner(&sheet.look.style, up, false, down, 0 < columns);
     write_mark(writer, held, is_drawn(lines, columns, columns), last);
     held.push(writer, b'\n');
     held.take_outcome()?;
@@ -153,21 +151,18 @@ fn write_unmerged_line<W: Write>(
 pub(crate) fn line_between(
     alloc: Global,
     held: &mut Held,
-    look: &Look<'_>,
-    edges: &[usize],
-    rows: usize,
-    columns: usize,
+    sheet: &Sheet<'_>,
 ) -> Result<Vec<u8>, AllocError>
-    requires edges { length edges.now ≡ columns + 1 }
     requires none { held.old.bytes ≡ [] }
     ensures none { OnOk result (held.new.bytes ≡ []) }
-    ensures between { IfOk result (λ line. IsBetween look.now.style columns edges.now line.items) }
+    ensures between { IfOk result (λ line. IsBetween sheet.now.look.style sheet.now.columns sheet.now.edges.now line.items) }
 {
     let mut line = Vec::new(alloc);
-    if rows < 3 || !look.style.rows.inner || rows.saturating_mul(columns) < edges[columns] / 8 {
+    let cells = sheet.rows.saturating_mul(sheet.columns);
+    if sheet.rows < 3 || !sheet.look.style.rows.inner || cells < sheet.edges[sheet.columns] / 8 {
         return Ok(line);
     }
-    if write_unmerged_line(&mut line, held, look, edges, columns, 2, 1).is_err() {
+    if write_unmerged_line(&mut line, held, sheet, 1).is_err() {
         return Err(AllocError);
     }
     held.send(&mut line);
@@ -182,22 +177,16 @@ pub(crate) fn line_between(
 pub(crate) fn write_known_line<W: Write>(
     writer: &mut W,
     held: &mut Held,
-    look: &Look<'_>,
-    edges: &[usize],
-    between: &[u8],
-    columns: usize,
-    rows: usize,
+    sheet: &Sheet<'_>,
     i: usize,
 ) -> io::Result<()>
-    requires edges { length edges.now ≡ columns + 1 }
-    requires between { IsBetween look.now.style columns edges.now between.now }
-    ensures draws { OnOk result (Draws (W.contents writer.old) held.old (W.contents writer.new) held.new (unmerged_line look.now.style rows columns i edges.now)) }
+    ensures draws { OnOk result (Draws (W.contents writer.old) held.old (W.contents writer.new) held.new (unmerged_line sheet.now.look.style sheet.now.rows sheet.now.columns i sheet.now.edges.now)) }
 {
-    if between.is_empty() || i == 0 || rows <= i {
-        write_unmerged_line(writer, held, look, edges, columns, rows, i)?;
+    if sheet.between.is_empty() || i == 0 || sheet.rows <= i {
+        write_unmerged_line(writer, held, sheet, i)?;
         return Ok(());
     }
-    held.write(writer, between);
+    held.write(writer, sheet.between);
     held.take_outcome()?;
     Ok(())
 }
@@ -217,17 +206,17 @@ fn write_mark<W: Write>(writer: &mut W, held: &mut Held, drawn: bool, mark: Opti
 fn write_upright<W: Write>(
     writer: &mut W,
     held: &mut Held,
-    look: &Look<'_>,
+    sheet: &Sheet<'_>,
     upright: &[u8],
     drawn: bool,
-    before: Option<Rectangle>,
-    after: Option<Rectangle>,
+    before: Owner,
+    after: Owner,
 )
-    requires { upright.now ≡ encode_utf8 look.now.style.vertical }
-    ensures { Draws (W.contents writer.old) held.old (W.contents writer.new) held.new (edge look.now.style true drawn before after before after) }
+    requires { upright.now ≡ encode_utf8 sheet.now.look.style.vertical }
+    ensures { Draws (W.contents writer.old) held.old (W.contents writer.new) held.new (edge sheet.now.look.style true drawn before after before after) }
 {
     if drawn && differ(before, after) {
-        draw_known(writer, held, look.style.vertical, upright);
+        draw_known(writer, held, sheet.look.style.vertical, upright);
     }
 }
 
@@ -237,22 +226,22 @@ fn write_upright<W: Write>(
 fn write_corner<W: Write>(
     writer: &mut W,
     held: &mut Held,
-    look: &Look<'_>,
+    sheet: &Sheet<'_>,
     drawn: bool,
-    above: (Option<Rectangle>, Option<Rectangle>),
-    below: (Option<Rectangle>, Option<Rectangle>),
+    above: (Owner, Owner),
+    below: (Owner, Owner),
     beside: (bool, bool),
 )
     requires left { beside.0 ≡ differ above.0 below.0 }
     requires right { beside.1 ≡ differ above.1 below.1 }
-    ensures { Draws (W.contents writer.old) held.old (W.contents writer.new) held.new (edge look.now.style false drawn above.0 above.1 below.0 below.1) }
+    ensures { Draws (W.contents writer.old) held.old (W.contents writer.new) held.new (edge sheet.now.look.style false drawn above.0 above.1 below.0 below.1) }
 {
     if !drawn {
         return;
     }
     let up = differ(above.0, above.1);
     let down = differ(below.0, below.1);
-    let corner = corner(&look.style, up, beside.1, down, beside.0);
+    let corner = corner(&sheet.look.style, up, beside.1, down, beside.0);
     write_mark(writer, held, drawn, corner);
 }
 
@@ -261,44 +250,42 @@ fn write_corner<W: Write>(
 fn write_column<W: Write>(
     writer: &mut W,
     held: &mut Held,
-    look: &Look<'_>,
+    sheet: &Sheet<'_>,
     drawn: bool,
     apart: bool,
-    edges: &[usize],
     j: usize,
-    owner: Option<Rectangle>,
+    owner: Owner,
     rests: &mut Vec<&str>,
 )
-    requires end { (o : Rectangle) → owner ≡ Some o → o.0.col ≡ j → j + o.1.width < length edges.now }
-    requires col { j + 1 < length edges.now }
+    requires end { (o : Rectangle) → owner ≡ Some o → o.0.col ≡ j → j + o.1.width < length sheet.now.edges.now }
+    requires col { j + 1 < length sheet.now.edges.now }
     requires rest { j < length rests.old.items }
-    ensures draws { Draws (W.contents writer.old) held.old (W.contents writer.new) held.new (column_if look.now.style look.now.alignments.now drawn apart edges.now j owner (slice_index_or (bytes_in rests.old.items) j [])) }
+    ensures draws { Draws (W.contents writer.old) held.old (W.contents writer.new) held.new (column_if sheet.now.look.style sheet.now.look.alignments.now drawn apart sheet.now.edges.now j owner (slice_index_or (bytes_in rests.old.items) j [])) }
     ensures rests { IsCutAt j apart owner rests.old.items rests.new.items }
 {
     if apart {
-        write_level(writer, held, look, drawn, edges, j);
+        write_level(writer, held, sheet, drawn, j);
     } else {
-        write_crossing(writer, held, look, drawn, edges, j, owner, rests);
+        write_crossing(writer, held, sheet, drawn, j, owner, rests);
     }
 }
 
 /// Writes the border in a column, as wide as its inside.
 #[inline(always)]
-fn write_level<W: Write>(
-    writer: &mut W,
-    held: &mut Held,
-    look: &Look<'_>,
-    drawn: bool,
-    edges: &[usize],
-    j: usize,
-)
-    requires col { j + 1 < length edges.now }
-    ensures { Draws (W.contents writer.old) held.old (W.contents writer.new) held.new (level look.now.style drawn edges.now j) }
+fn write_level<W: Write>(writer: &mut W, held: &mut Held, sheet: &Sheet<'_>, drawn: bool, j: usize)
+    requires col { j + 1 < length sheet.now.edges.now }
+    ensures { Draws (W.contents writer.old) held.old (W.contents writer.new) held.new (level sheet.now.look.style drawn sheet.now.edges.now j) }
 {
-    let inside = edges[j + 1]
-        .saturating_sub(edges[j])
+    let inside = sheet.edges[j + 1]
+        .saturating_sub(sheet.edges[j])
         .saturating_sub(size_if(drawn));
-    draw_many(writer, held, look.style.horizontal, inside);
+    draw_many(
+        writer,
+        held,
+        sheet.look.style.horizontal,
+        sheet.level,
+        inside,
+    );
 }
 
 /// Writes what an owner that lies above and below shows in a column.
@@ -306,20 +293,19 @@ fn write_level<W: Write>(
 fn write_crossing<W: Write>(
     writer: &mut W,
     held: &mut Held,
-    look: &Look<'_>,
+    sheet: &Sheet<'_>,
     drawn: bool,
-    edges: &[usize],
     j: usize,
-    owner: Option<Rectangle>,
+    owner: Owner,
     rests: &mut Vec<&str>,
 )
-    requires end { (o : Rectangle) → owner ≡ Some o → o.0.col ≡ j → j + o.1.width < length edges.now }
-    requires col { j < length edges.now }
+    requires end { (o : Rectangle) → owner ≡ Some o → o.0.col ≡ j → j + o.1.width < length sheet.now.edges.now }
+    requires col { j < length sheet.now.edges.now }
     requires rest { j < length rests.old.items }
-    ensures draws { Draws (W.contents writer.old) held.old (W.contents writer.new) held.new (text_inside look.now.alignments.now drawn edges.now j owner (slice_index_or (bytes_in rests.old.items) j [])) }
+    ensures draws { Draws (W.contents writer.old) held.old (W.contents writer.new) held.new (text_inside sheet.now.look.alignments.now drawn sheet.now.edges.now j owner (slice_index_or (bytes_in rests.old.items) j [])) }
     ensures rests { IsCutAt j false owner rests.old.items rests.new.items }
 {
-    rests[j] = write_inside(writer, held, look, drawn, edges, j, owner, rests[j]);
+    rests[j] = write_inside(writer, held, sheet, drawn, j, owner, rests[j]);
 }
 
 /// Writes what the owner of a column shows in it, and gives what is left there of a text.
@@ -327,24 +313,29 @@ fn write_crossing<W: Write>(
 fn write_inside<'a, W: Write>(
     writer: &mut W,
     held: &mut Held,
-    look: &Look<'_>,
+    sheet: &Sheet<'_>,
     drawn: bool,
-    edges: &[usize],
     j: usize,
-    owner: Option<Rectangle>,
+    owner: Owner,
     rest: &'a str,
 ) -> &'a str
-    requires end { (o : Rectangle) → owner ≡ Some o → o.0.col ≡ j → j + o.1.width < length edges.now }
-    requires col { j < length edges.now }
-    ensures draws { Draws (W.contents writer.old) held.old (W.contents writer.new) held.new (text_inside look.now.alignments.now drawn edges.now j owner rest.now) }
+    requires end { (o : Rectangle) → owner ≡ Some o → o.0.col ≡ j → j + o.1.width < length sheet.now.edges.now }
+    requires col { j < length sheet.now.edges.now }
+    ensures draws { Draws (W.contents writer.old) held.old (W.contents writer.new) held.new (text_inside sheet.now.look.alignments.now drawn sheet.now.edges.now j owner rest.now) }
     ensures rest { result.now ≡ left_inside j owner rest.now }
 {
     match owner {
         Some((at, Size { width, .. })) if at.col == j => {
-            let room = edges[j + width]
-                .saturating_sub(edges[j])
-                .saturating_sub(size_if(drawn) + 2);
-            write_cell(writer, held, alignment_in(look.alignments, j), rest, room)
+            let room = sheet.edges[j + width]
+                .saturating_sub(sheet.edges[j])
+                .saturating_sub(size_if(drawn) + pad(Axis::Columns));
+            write_cell(
+                writer,
+                held,
+                alignment_in(sheet.look.alignments, j),
+                rest,
+                room,
+            )
         }
         _ => rest,
     }

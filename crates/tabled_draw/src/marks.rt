@@ -1,10 +1,28 @@
 //! Characters on their way to a writer.
 
-ghost use Rattle.std.specs.Prelude.{◌≡◌, ◌∷◌, [], encode_utf8, replicate};
+ghost use Rattle.std.specs.Prelude.{◌≡◌, ◌∷◌, [], IfOk, encode_utf8, replicate};
+ghost use Rattle.tabled_draw.specs.Runs.{run_of};
 ghost use Rattle.tabled_draw.specs.Sent.{Draws};
 
+use std::alloc::{AllocError, Global};
 use std::io::Write;
 use tabled_held::Held;
+
+/// How often a run has its character.
+const RUN: usize = 64;
+
+/// A run: the bytes of a character, again and again, from which many of it are sent at once.
+pub(crate) fn run_of(alloc: Global, c: char) -> Result<Vec<u8>, AllocError>
+    ensures { IfOk result (λ run. run.items ≡ run_of c) }
+{
+    let mut bytes = [0; 4];
+    let bytes = c.encode_utf8(&mut bytes).as_bytes();
+    let mut run = Vec::new(alloc);
+    for _ in 0..RUN {
+        run.extend_from_slice(bytes)?;
+    }
+    Ok(run)
+}
 
 /// Sends a character, or holds it.
 #[inline(always)]
@@ -14,7 +32,7 @@ pub(crate) fn draw<W: Write>(writer: &mut W, held: &mut Held, c: char)
     if c.is_ascii() {
         held.push(writer, c as u8);
     } else {
-        draw_wide(writer, held, c, 1);
+        draw_wide(writer, held, c);
     }
 }
 
@@ -31,25 +49,28 @@ pub(crate) fn draw_known<W: Write>(writer: &mut W, held: &mut Held, c: char, byt
     }
 }
 
-/// Sends a character many times, or holds it as often.
+/// Sends a character many times, or holds it as often. A run of it is known.
 #[inline(always)]
-pub(crate) fn draw_many<W: Write>(writer: &mut W, held: &mut Held, c: char, count: usize)
+pub(crate) fn draw_many<W: Write>(
+    writer: &mut W,
+    held: &mut Held,
+    c: char,
+    run: &[u8],
+    count: usize,
+)
+    requires { run.now ≡ run_of c }
     ensures { Draws (W.contents writer.old) held.old (W.contents writer.new) held.new (replicate count c) }
 {
-    if c.is_ascii() {
-        held.repeat(writer, c as u8, count);
-    } else {
-        draw_wide(writer, held, c, count);
+    for _ in 0..count / RUN {
+        held.write(writer, run);
     }
+    held.write(writer, &run[..count % RUN * (run.len() / RUN)]);
 }
 
-/// The same for a character of some bytes.
-fn draw_wide<W: Write>(writer: &mut W, held: &mut Held, c: char, count: usize)
-    ensures { Draws (W.contents writer.old) held.old (W.contents writer.new) held.new (replicate count c) }
+/// Sends a character of some bytes, or holds it.
+fn draw_wide<W: Write>(writer: &mut W, held: &mut Held, c: char)
+    ensures { Draws (W.contents writer.old) held.old (W.contents writer.new) held.new (c ∷ []) }
 {
     let mut bytes = [0; 4];
-    let bytes = c.encode_utf8(&mut bytes).as_bytes();
-    for _ in 0..count {
-        held.write(writer, bytes);
-    }
+    held.write(writer, c.encode_utf8(&mut bytes).as_bytes());
 }

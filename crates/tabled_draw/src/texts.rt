@@ -91,6 +91,7 @@ fn asked_by_lines(text: &str) -> Size
 
 /// Writes the first line of a text as it is shown and aligned in a room, with one blank more at both sides. Gives the
 /// lines after it.
+#[inline(always)]
 pub(crate) fn write_cell<'a, W: Write>(
     writer: &mut W,
     held: &mut Held,
@@ -154,6 +155,7 @@ fn free_beside(line: &Line<'_>, room: usize) -> usize
 }
 
 /// Writes a line as it is shown.
+#[inline(always)]
 fn write_shown<W: Write>(writer: &mut W, held: &mut Held, line: Line<'_>)
     ensures { Draws (W.contents writer.old) held.old (W.contents writer.new) held.new (shown_line line.entry.text.now) }
 {

@@ -1,4 +1,4 @@
-use Rattle.tabled_draw.proofs.Common.{◌+◌, ◌∙◌, ◌≡◌, AreUnmerged, Draws, IsBetween, IsOwnerRow, ap, ap₂, arith, border_line, border_of_rests, bytes_in, entries, length, map_grid, refl, subst, sym, top, with_newlines}
+use Rattle.tabled_draw.proofs.Common.{◌+◌, ◌∙◌, ◌≡◌, AreUnmerged, Draws, IsOwnerRow, ap, ap₂, arith, border_line, border_of_rests, bytes_in, entries, length, map_grid, refl, subst, sym, top, with_newlines}
 use Rattle.tabled_draw.proofs.Owned.{count-none, owner-below, owner-top, row-outside}
 use Rattle.tabled_draw.proofs.Rows.{all-rows, border-text, end-inside, left-outside, more-rows}
 use Rattle.tabled_draw.proofs.Sent.{draws-as, draws-none, draws-then}
@@ -8,59 +8,55 @@ use Rattle.tabled_draw.proofs.drawing.write_lines.Goals as goal
 pub loop-i-init : goal.loop-i-init
 loop-i-init g c =
     let t = map_grid g.R.Cell.CellText.text_of (g.R.GridStore.grid c.args.records.now) in
+    let m = c.args.spans.now in
+    let style = c.args.sheet.now.look.style in
     record {
-      above = row-outside _ _ c.args.spans.now 0 _ (owner-top _ _ (entries c.args.spans.now)) (c.clear.ensures.long ∙ c.requires.laid.above) c.clear.ensures.none;
-      here = c.requires.laid.here;
-      next = sym (count-none (entries c.args.spans.now));
-      long = c.requires.laid.rests;
-      left = left-outside c.args.look.now.style t c.args.spans.now c.requires.laid.fits (top c.args.look.now.style t (entries c.args.spans.now) 0) (bytes_in c.args.rests.now.items);
+      band = record {
+        above = row-outside _ _ m 0 _ (owner-top _ _ (entries m)) (c.clear.ensures.long ∙ c.requires.room.above) c.clear.ensures.none;
+        here = c.requires.room.here;
+        next = c.requires.next ∙ sym (count-none (entries m));
+        long = c.requires.room.long;
+        left = left-outside style t m c.requires.sheet.fits (top style t (entries m) 0) (bytes_in c.args.band.now.rests.items);
+      };
       drawn = draws-none;
     }
 
 pub loop-i-preserved : goal.loop-i-preserved
 loop-i-preserved g c =
     let t = map_grid g.R.Cell.CellText.text_of (g.R.GridStore.grid c.args.records.now) in
-    let m = c.args.spans.now in
     record {
-      above = rw c.swap.ensures.x_after c.in_ok-next.ensures.here;
-      here = rw c.swap.ensures.y_after c.loop-i.invariant.above.long;
-      next = c.in_ok-next.ensures.next;
-      long = c.in_ok-next.ensures.long;
-      left = c.in_ok-next.ensures.left;
-      drawn = draws-as (more-rows c.args.look.now.style c.args.look.now.alignments.now t (entries m) c.loop-i.i) (draws-then c.loop-i.invariant.drawn c.in_ok-next.ensures.draws);
+      band = c.in_ok-write_row.ensures.band;
+      drawn = draws-as (more-rows c.args.sheet.now.look.style c.args.sheet.now.look.alignments.now t (entries c.args.spans.now) c.loop-i.i) (draws-then c.loop-i.invariant.drawn c.in_ok-write_row.ensures.draws);
     }
 
 pub write_border-requires-clause-inside : goal.write_border-requires-clause-inside
-write_border-requires-clause-inside g c = rw (c.loop-i.invariant.long, c.deref.ensures.value) (end-inside c.args.spans.now _ _ c.loop-i.i c.loop-i.above.items c.requires.laid.fits c.loop-i.invariant.above)
-
-pub write_border-requires-clause-between : goal.write_border-requires-clause-between
-write_border-requires-clause-between g c = subst (λ n. IsBetween c.args.look.now.style n c.args.edges.now c.args.between.now) (sym c.loop-i.invariant.long) c.requires.laid.between
+write_border-requires-clause-inside g c = rw (c.loop-i.invariant.band.long, c.deref.ensures.value) (end-inside c.args.spans.now _ _ c.loop-i.i c.loop-i.band.above.items c.requires.sheet.fits c.loop-i.invariant.band.above)
 
 pub write_border-requires-clause-unmerged : goal.write_border-requires-clause-unmerged
 write_border-requires-clause-unmerged g c =
     let t = map_grid g.R.Cell.CellText.text_of (g.R.GridStore.grid c.args.records.now) in
     let m = c.args.spans.now in
-    let i : c.loop-i.i ≡ t.rows = omega (arith, c.loop-i-test.false, c.loop-i.auto.i-end, c.requires.laid.tall) in
-    let last : length c.args.heights.now ≡ c.loop-i.i = c.requires.laid.tall ∙ sym i in
-    let over : IsOwnerRow t.rows t.columns m c.loop-i.i c.deref.result.now = rw c.deref.ensures.value c.loop-i.invariant.above in
-    let under : IsOwnerRow t.rows t.columns m (c.loop-i.i + 1) c.deref-2.result.now = rw c.deref-2.ensures.value (row-outside t.rows t.columns m (c.loop-i.i + 1) c.clear-2.new.row.items (λ j. owner-below t.rows t.columns (entries m) (c.loop-i.i + 1) j (omega (arith, i))) (c.clear-2.ensures.long ∙ c.loop-i.invariant.here) c.clear-2.ensures.none) in
-    λ empty. subst (λ k. AreUnmerged (length c.args.heights.now) (length c.loop-i.rests.items) k c.deref.result.now c.deref-2.result.now) (sym last)
-    (unmerged-rows t m c.loop-i.i (length c.args.heights.now) (length c.loop-i.rests.items) c.deref.result.now c.deref-2.result.now c.requires.laid.tall c.loop-i.invariant.long c.requires.laid.fits c.requires.high c.requires.wide
+    let i : c.loop-i.i ≡ t.rows = omega (arith, c.loop-i-test.false, c.loop-i.auto.i-end, c.requires.sheet.rows) in
+    let last : c.args.sheet.now.rows ≡ c.loop-i.i = c.requires.sheet.rows ∙ sym i in
+    let over : IsOwnerRow t.rows t.columns m c.loop-i.i c.deref.result.now = rw c.deref.ensures.value c.loop-i.invariant.band.above in
+    let under : IsOwnerRow t.rows t.columns m (c.loop-i.i + 1) c.deref-2.result.now = rw c.deref-2.ensures.value (row-outside t.rows t.columns m (c.loop-i.i + 1) c.clear-2.new.row.items (λ j. owner-below t.rows t.columns (entries m) (c.loop-i.i + 1) j (omega (arith, i))) (c.clear-2.ensures.long ∙ c.loop-i.invariant.band.here) c.clear-2.ensures.none) in
+    λ empty. subst (λ k. AreUnmerged c.args.sheet.now.rows (length c.loop-i.band.rests.items) k c.deref.result.now c.deref-2.result.now) (sym last)
+    (unmerged-rows t m c.loop-i.i c.args.sheet.now.rows (length c.loop-i.band.rests.items) c.deref.result.now c.deref-2.result.now c.requires.sheet.rows c.loop-i.invariant.band.long c.requires.sheet.fits c.requires.high c.requires.wide
     (none-left _ _ _ c.anchors.ensures.anchors c.is_empty-is_unmerged.ensures empty) (omega (arith, i)) over under)
 
 pub returns : goal.returns
 returns g c =
     let t = map_grid g.R.Cell.CellText.text_of (g.R.GridStore.grid c.args.records.now) in
     let m = c.args.spans.now in
-    let i : c.loop-i.i ≡ t.rows = omega (arith, c.loop-i-test.false, c.loop-i.auto.i-end, c.requires.laid.tall) in
-    let over : IsOwnerRow t.rows t.columns m c.loop-i.i c.deref.result.now = rw c.deref.ensures.value c.loop-i.invariant.above in
-    let under : IsOwnerRow t.rows t.columns m (c.loop-i.i + 1) c.deref-2.result.now = rw c.deref-2.ensures.value (row-outside t.rows t.columns m (c.loop-i.i + 1) c.clear-2.new.row.items (λ j. owner-below t.rows t.columns (entries m) (c.loop-i.i + 1) j (omega (arith, i))) (c.clear-2.ensures.long ∙ c.loop-i.invariant.here) c.clear-2.ensures.none) in
-    let style = c.args.look.now.style in
-    let aligns = c.args.look.now.alignments.now in
-    let rows : length c.args.heights.now ≡ t.rows = c.requires.laid.tall in
-    let drawn : Draws (g.W.Write.contents c.loop-i.writer) c.loop-i.held (g.W.Write.contents c.write_border.new.writer) c.write_border.new.held (border_of_rests style aligns t.rows c.loop-i.i c.args.edges.now c.deref.result.now c.deref-2.result.now c.loop-i.rests.items) =
-    draws-as (ap₂ (λ n k. border_of_rests style aligns n k c.args.edges.now c.deref.result.now c.deref-2.result.now c.loop-i.rests.items) rows (rows ∙ sym i)) c.in_ok-write_border.ensures.draws in
+    let i : c.loop-i.i ≡ t.rows = omega (arith, c.loop-i-test.false, c.loop-i.auto.i-end, c.requires.sheet.rows) in
+    let over : IsOwnerRow t.rows t.columns m c.loop-i.i c.deref.result.now = rw c.deref.ensures.value c.loop-i.invariant.band.above in
+    let under : IsOwnerRow t.rows t.columns m (c.loop-i.i + 1) c.deref-2.result.now = rw c.deref-2.ensures.value (row-outside t.rows t.columns m (c.loop-i.i + 1) c.clear-2.new.row.items (λ j. owner-below t.rows t.columns (entries m) (c.loop-i.i + 1) j (omega (arith, i))) (c.clear-2.ensures.long ∙ c.loop-i.invariant.band.here) c.clear-2.ensures.none) in
+    let style = c.args.sheet.now.look.style in
+    let aligns = c.args.sheet.now.look.alignments.now in
+    let last : c.args.sheet.now.rows ≡ c.loop-i.i = c.requires.sheet.rows ∙ sym i in
+    let drawn : Draws (g.W.Write.contents c.loop-i.writer) c.loop-i.held (g.W.Write.contents c.write_border.new.writer) c.write_border.new.held (border_of_rests style aligns t.rows c.loop-i.i c.args.sheet.now.edges.now c.deref.result.now c.deref-2.result.now c.loop-i.band.rests.items) =
+    draws-as (ap₂ (λ n k. border_of_rests style aligns n k c.args.sheet.now.edges.now c.deref.result.now c.deref-2.result.now c.loop-i.band.rests.items) c.requires.sheet.rows last) c.in_ok-write_border.ensures.draws in
     draws-as (all-rows style aligns t (entries m) c.loop-i.i i c.requires.high c.requires.wide) (draws-then c.loop-i.invariant.drawn
-    (draws-as (border-text style aligns t m c.requires.laid.fits c.args.edges.now c.requires.laid.edges c.loop-i.i (top style t (entries m) c.loop-i.i) t.rows c.deref.result.now c.deref-2.result.now c.loop-i.rests.items refl refl over under c.loop-i.invariant.left c.loop-i.invariant.long
+    (draws-as (border-text style aligns t m c.requires.sheet.fits c.args.sheet.now.edges.now c.requires.sheet.edges c.loop-i.i (top style t (entries m) c.loop-i.i) t.rows c.deref.result.now c.deref-2.result.now c.loop-i.band.rests.items refl refl over under c.loop-i.invariant.band.left c.loop-i.invariant.band.long
     ∙ ap (λ k. with_newlines (border_line style aligns t (entries m) k)) i)
     drawn))

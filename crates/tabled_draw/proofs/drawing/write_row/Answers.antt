@@ -1,4 +1,4 @@
-use Rattle.tabled_draw.proofs.Common.{[], ◌+◌, ◌-◌, ◌<◌, ◌∙◌, ◌≡◌, ◌≤◌, AreLeft, AreUnmerged, IsBetween, IsOwnerRow, None, Rows, add-zero, add_assoc, ap, ap₂, arith, begun, border, bytes_in, cond, entries, get_or, heights, is_drawn, left_of, length, map_grid, place, refl, size_if, subst, sym, top, true}
+use Rattle.tabled_draw.proofs.Common.{[], ◌+◌, ◌-◌, ◌<◌, ◌∙◌, ◌≡◌, ◌≤◌, AreLeft, AreUnmerged, IsOwnerRow, None, Rows, add-zero, add_assoc, ap, ap₂, arith, begun, border, bytes_in, cond, entries, get_or, heights, is_drawn, left_of, length, map_grid, place, refl, size_if, subst, sym, top, true}
 use Rattle.tabled_draw.proofs.Sizes.{start-next}
 use Rattle.tabled_draw.proofs.Rows.{all-below, border-text, end-inside, first-below, in-row, left-in_row, left-next_row, more-below}
 use Rattle.tabled_draw.proofs.Sent.{draws-as, draws-then}
@@ -6,45 +6,45 @@ use Rattle.tabled_draw.specs.Lines.{drawn_line}
 use Rattle.tabled_draw.proofs.drawing.write_row.Goals as goal
 
 pub write_border-requires-clause-inside : goal.write_border-requires-clause-inside
-write_border-requires-clause-inside g c = rw (c.requires.long, c.deref-3.ensures.value) (end-inside c.args.spans.now _ _ c.args.i c.args.above.now.items c.requires.fits c.requires.above)
+write_border-requires-clause-inside g c = rw (c.requires.band.long, c.deref-3.ensures.value) (end-inside c.args.spans.now _ _ c.args.i c.args.band.now.above.items c.requires.sheet.fits c.requires.band.above)
 
 pub write_border-requires-clause-unmerged : goal.write_border-requires-clause-unmerged
 write_border-requires-clause-unmerged g c =
     let t = map_grid g.R.Cell.CellText.text_of (g.R.GridStore.grid c.args.records.now) in
-    λ unmerged. subst (λ a. AreUnmerged c.args.rows (length c.args.rests.now.items) c.args.i a c.deref-4.result.now) (c.deref.ensures.value ∙ sym c.deref-3.ensures.value)
-    (subst (λ b. AreUnmerged c.args.rows (length c.args.rests.now.items) c.args.i c.deref.result.now b) (c.deref-2.ensures.value ∙ sym c.deref-4.ensures.value)
-    (subst (λ n. AreUnmerged n (length c.args.rests.now.items) c.args.i c.deref.result.now c.deref-2.result.now) (sym c.requires.rows)
-    (subst (λ n. AreUnmerged t.rows n c.args.i c.deref.result.now c.deref-2.result.now) (sym c.requires.long)
-    (c.are_unmerged-is_unmerged.ensures unmerged t c.requires.row c.requires.wide c.requires.fits (rw c.deref.ensures.value c.requires.above) (rw c.deref-2.ensures.value c.write_owners-after.ensures.here)))))
-
-pub write_border-requires-clause-between : goal.write_border-requires-clause-between
-write_border-requires-clause-between g c = subst (λ n. IsBetween c.args.look.now.style n c.args.edges.now c.args.between.now) (sym c.requires.long) c.requires.between
+    λ unmerged. subst (λ a. AreUnmerged c.args.sheet.now.rows (length c.args.band.now.rests.items) c.args.i a c.deref-4.result.now) (c.deref.ensures.value ∙ sym c.deref-3.ensures.value)
+    (subst (λ b. AreUnmerged c.args.sheet.now.rows (length c.args.band.now.rests.items) c.args.i c.deref.result.now b) (c.deref-2.ensures.value ∙ sym c.deref-4.ensures.value)
+    (subst (λ n. AreUnmerged n (length c.args.band.now.rests.items) c.args.i c.deref.result.now c.deref-2.result.now) (sym c.requires.sheet.rows)
+    (subst (λ n. AreUnmerged t.rows n c.args.i c.deref.result.now c.deref-2.result.now) (sym c.requires.band.long)
+    (c.are_unmerged-is_unmerged.ensures unmerged t c.requires.row c.requires.wide c.requires.sheet.fits (rw c.deref.ensures.value c.requires.band.above) (rw c.deref-2.ensures.value c.write_owners-band.ensures.here)))))
 
 pub write_row_line-requires-clause-inside : goal.write_row_line-requires-clause-inside
-write_row_line-requires-clause-inside g c = rw (c.loop-y.invariant.long, c.deref-in-loop-y.ensures.value) (end-inside c.args.spans.now _ _ (c.args.i + 1) c.write_owners-after.new.here.items c.requires.fits c.write_owners-after.ensures.here)
+write_row_line-requires-clause-inside g c = rw (c.loop-y.invariant.long, c.deref-in-loop-y.ensures.value) (end-inside c.args.spans.now _ _ (c.args.i + 1) c.loop-y.band.here.items c.requires.sheet.fits (rw c.loop-y.invariant.here c.write_owners-band.ensures.here))
 
 pub loop-y-init : goal.loop-y-init
 loop-y-init g c =
     let t = map_grid g.R.Cell.CellText.text_of (g.R.GridStore.grid c.args.records.now) in
     let m = c.args.spans.now in
     let i = c.args.i in
-    let style = c.args.look.now.style in
-    let aligns = c.args.look.now.alignments.now in
-    let old = bytes_in c.args.rests.now.items in
+    let style = c.args.sheet.now.look.style in
+    let aligns = c.args.sheet.now.look.alignments.now in
+    let old = bytes_in c.args.band.now.rests.items in
     let cut = bytes_in c.write_border.new.rests.items in
     let new = bytes_in c.begin.new.rests.items in
-    let drawn = is_drawn style.rows c.args.rows i in
-    let size : border Rows style t i ≡ size_if drawn = ap (λ n. size_if (is_drawn style.rows n i)) (sym c.requires.rows) in
-    let over : IsOwnerRow t.rows t.columns m i c.deref-3.result.now = rw c.deref-3.ensures.value c.requires.above in
-    let under : IsOwnerRow t.rows t.columns m (i + 1) c.deref-4.result.now = rw c.deref-4.ensures.value c.write_owners-after.ensures.here in
-    let again : IsOwnerRow t.rows t.columns m (i + 1) c.deref-5.result.now = rw c.deref-5.ensures.value c.write_owners-after.ensures.here in
+    let drawn = is_drawn style.rows c.args.sheet.now.rows i in
+    let size : border Rows style t i ≡ size_if drawn = ap (λ n. size_if (is_drawn style.rows n i)) (sym c.requires.sheet.rows) in
+    let over : IsOwnerRow t.rows t.columns m i c.deref-3.result.now = rw c.deref-3.ensures.value c.requires.band.above in
+    let under : IsOwnerRow t.rows t.columns m (i + 1) c.deref-4.result.now = rw c.deref-4.ensures.value c.write_owners-band.ensures.here in
+    let again : IsOwnerRow t.rows t.columns m (i + 1) c.deref-5.result.now = rw c.deref-5.ensures.value c.write_owners-band.ensures.here in
     record {
+      above = refl;
+      here = refl;
+      next = refl;
       long = c.begin.ensures.long;
-      left = subst (λ n. AreLeft style t m (i + 1) n new) (ap (λ k. top style t (entries m) i + k) (sym size) ∙ sym (add-zero (top style t (entries m) i + border Rows style t i))) (left-next_row style t m c.requires.fits drawn i (top style t (entries m) i) old cut new c.requires.row refl size c.requires.left
-          (λ j less. c.in_ok-write_border.ensures.rests j (omega (arith, less, c.requires.long)) ∙ ap₂ (λ a b. cond drawn (left_of j a b (get_or old j [])) (get_or old j [])) (over.each (j + 1) (omega (arith, less))) (under.each (j + 1) (omega (arith, less))))
+      left = subst (λ n. AreLeft style t m (i + 1) n new) (ap (λ k. top style t (entries m) i + k) (sym size) ∙ sym (add-zero (top style t (entries m) i + border Rows style t i))) (left-next_row style t m c.requires.sheet.fits drawn i (top style t (entries m) i) old cut new c.requires.row refl size c.requires.band.left
+          (λ j less. c.in_ok-write_border.ensures.rests j (omega (arith, less, c.requires.band.long)) ∙ ap₂ (λ a b. cond drawn (left_of j a b (get_or old j [])) (get_or old j [])) (over.each (j + 1) (omega (arith, less))) (under.each (j + 1) (omega (arith, less))))
           (λ j less. c.begin.ensures.begun j less ∙ ap (λ a. begun t a (place i j) (get_or cut j [])) (again.each (j + 1) (omega (arith, less)))));
       drawn = draws-as
-          (border-text style aligns t m c.requires.fits c.args.edges.now c.requires.edges i (top style t (entries m) i) c.args.rows c.deref-3.result.now c.deref-4.result.now c.args.rests.now.items c.requires.rows refl over under c.requires.left c.requires.long ∙ first-below style aligns t (entries m) i)
+          (border-text style aligns t m c.requires.sheet.fits c.args.sheet.now.edges.now c.requires.sheet.edges i (top style t (entries m) i) c.args.sheet.now.rows c.deref-3.result.now c.deref-4.result.now c.args.band.now.rests.items c.requires.sheet.rows refl over under c.requires.band.left c.requires.band.long ∙ first-below style aligns t (entries m) i)
           c.in_ok-write_border.ensures.draws;
     }
 
@@ -54,22 +54,25 @@ loop-y-preserved g c =
     let m = c.args.spans.now in
     let i = c.args.i in
     let y = c.loop-y._y in
-    let style = c.args.look.now.style in
-    let aligns = c.args.look.now.alignments.now in
+    let style = c.args.sheet.now.look.style in
+    let aligns = c.args.sheet.now.look.alignments.now in
     let n = top style t (entries m) i + border Rows style t i + y in
-    let old = bytes_in c.loop-y.rests.items in
+    let old = bytes_in c.loop-y.band.rests.items in
     let new = bytes_in c.write_row_line.new.rests.items in
-    let here = c.write_owners-after.new.here.items in
-    let own = c.write_owners-after.ensures.here in
+    let here = c.loop-y.band.here.items in
+    let own : IsOwnerRow t.rows t.columns m (i + 1) here = rw c.loop-y.invariant.here c.write_owners-band.ensures.here in
     let within : i < t.rows = c.requires.row in
     let low : top style t (entries m) (i + 1 - 1) + border Rows style t (i + 1 - 1) ≤ n = (let same : top style t (entries m) (i + 1 - 1) + border Rows style t (i + 1 - 1) ≡ top style t (entries m) i + border Rows style t i = ap (λ k. top style t (entries m) k + border Rows style t k) (omega arith) in omega (arith, same)) in
-    let edges = c.args.edges.now in
+    let edges = c.args.sheet.now.edges.now in
     record {
+      above = c.loop-y.invariant.above;
+      here = c.loop-y.invariant.here;
+      next = c.loop-y.invariant.next;
       long = c.in_ok-write_row_line.ensures.long ∙ c.loop-y.invariant.long;
-      left = subst (λ k. AreLeft style t m (i + 1) k new) (add_assoc (top style t (entries m) i + border Rows style t i) y 1) (left-in_row style t m c.requires.fits (i + 1) n old new (omega arith) (omega (arith, within)) low c.loop-y.invariant.left
+      left = subst (λ k. AreLeft style t m (i + 1) k new) (add_assoc (top style t (entries m) i + border Rows style t i) y 1) (left-in_row style t m c.requires.sheet.fits (i + 1) n old new (omega arith) (omega (arith, within)) low c.loop-y.invariant.left
           (λ j less. c.in_ok-write_row_line.ensures.rests j (omega (arith, less, c.loop-y.invariant.long)) ∙ ap₂ (λ a b. left_of j a b (get_or old j [])) (ap (λ row. get_or row (j + 1) None) c.deref-in-loop-y.ensures.value ∙ own.each (j + 1) (omega (arith, less))) (ap (λ row. get_or row (j + 1) None) c.deref-in-loop-y.ensures.value ∙ own.each (j + 1) (omega (arith, less)))));
       drawn = draws-as (more-below style aligns t (entries m) i y) (draws-then c.loop-y.invariant.drawn (draws-as
-          (ap (λ a. drawn_line style aligns (length c.loop-y.rests.items) true edges a a old) c.deref-in-loop-y.ensures.value ∙ in-row style aligns t m c.requires.fits edges c.requires.edges i n here old (length c.loop-y.rests.items) own c.loop-y.invariant.left c.loop-y.invariant.long)
+          (ap (λ a. drawn_line style aligns (length c.loop-y.band.rests.items) true edges a a old) c.deref-in-loop-y.ensures.value ∙ in-row style aligns t m c.requires.sheet.fits edges c.requires.sheet.edges i n here old (length c.loop-y.band.rests.items) own c.loop-y.invariant.left c.loop-y.invariant.long)
           c.in_ok-write_row_line.ensures.draws));
     }
 
@@ -78,14 +81,18 @@ returns g c =
     let t = map_grid g.R.Cell.CellText.text_of (g.R.GridStore.grid c.args.records.now) in
     let m = c.args.spans.now in
     let i = c.args.i in
-    let style = c.args.look.now.style in
-    let aligns = c.args.look.now.alignments.now in
-    let y : c.loop-y._y ≡ get_or (heights style t (entries m)) i 0 = (let e : c.loop-y._y ≡ c.args.height = omega (arith, c.loop-y-test.false, c.loop-y.auto._y-end) in e ∙ c.requires.height) in
+    let style = c.args.sheet.now.look.style in
+    let aligns = c.args.sheet.now.look.alignments.now in
+    let e : c.loop-y._y ≡ get_or c.args.sheet.now.heights.now i 0 = omega (arith, c.loop-y-test.false, c.loop-y.auto._y-end) in
+    let y : c.loop-y._y ≡ get_or (heights style t (entries m)) i 0 = e ∙ ap (λ hs. get_or hs i 0) c.requires.sheet.high in
     let next : top style t (entries m) (i + 1) ≡ top style t (entries m) i + (border Rows style t i + get_or (heights style t (entries m)) i 0 + 0) = start-next Rows style t (entries m) i in
     record {
-      next = c.write_owners-after.ensures.next;
-      here = c.write_owners-after.ensures.here;
-      long = c.loop-y.invariant.long;
+      band = record {
+        above = rw (c.swap.ensures.x_after, c.loop-y.invariant.here) c.write_owners-band.ensures.here;
+        here = rw (c.swap.ensures.y_after, c.loop-y.invariant.above) c.requires.band.above.long;
+        next = c.loop-y.invariant.next ∙ c.write_owners-band.ensures.next;
+        long = c.loop-y.invariant.long;
+        left = subst (λ k. AreLeft style t m (i + 1) k (bytes_in c.loop-y.band.rests.items)) (omega (arith, y, next)) c.loop-y.invariant.left;
+      };
       draws = draws-as (all-below style aligns t (entries m) i c.loop-y._y y) c.loop-y.invariant.drawn;
-      left = subst (λ k. AreLeft style t m (i + 1) k (bytes_in c.loop-y.rests.items)) (omega (arith, y, next)) c.loop-y.invariant.left;
     }

@@ -1,8 +1,13 @@
-use Rattle.tabled_draw.proofs.Common.{[], ◌+◌, ◌∙◌, ◌≡◌, Draws, None, ap, ap₂, arith, bytes_in, column_if, each, edge, false, get_or, is_drawn, left_if, length, line_of_rests, lit<, stretches, subst, sym}
+use Rattle.tabled_draw.proofs.Common.{[], ◌+◌, ◌<◌, ◌∙◌, ◌≡◌, Draws, None, ap, ap₂, arith, bytes_in, column_if, each, edge, false, get_or, is_drawn, left_if, length, line_of_rests, lit<, stretches, subst, sym}
 use Rattle.tabled_draw.proofs.Each.{changed-at, each-more}
 use Rattle.tabled_draw.proofs.Sent.{draws-as, draws-byte, draws-then}
 use Rattle.tabled_draw.specs.Lines.{drawn_line}
 use Rattle.tabled_draw.proofs.lines.write_border_line.Goals as goal
+
+pub write_column-requires-clause-end : goal.write_column-requires-clause-end
+write_column-requires-clause-end g c = λ o owned begins.
+    let less : c.loop-j.j < length c.args.rests.now.items = omega (arith, c.loop-j-test.true, c.len-columns.ensures) in
+    omega (arith, c.requires.inside.each c.loop-j.j o less owned begins, c.requires.columns, c.args.sheet.now.long)
 
 pub loop-j-preserved : goal.loop-j-preserved
 loop-j-preserved g c =
@@ -11,16 +16,16 @@ loop-j-preserved g c =
     let text : get_or (bytes_in c.loop-j.rests.items) j [] ≡ get_or old j [] = c.loop-j.invariant.rests.left j (omega arith) in
     let a = get_or c.args.above.now (j + 1) None in
     let b = get_or c.args.below.now (j + 1) None in
-    let drawn : c.loop-j.drawn ≡ is_drawn c.args.look.now.style.columns c.len-columns.result j = c.loop-j.invariant.is_drawn c.loop-j-test.true in
+    let drawn : c.loop-j.drawn ≡ is_drawn c.args.sheet.now.look.style.columns c.len-columns.result j = c.loop-j.invariant.is_drawn c.loop-j-test.true in
     record {
       long = c.write_column.ensures.rests.long ∙ c.loop-j.invariant.long;
       rests = changed-at _ old c.loop-j.rests.items c.write_column.new.rests.items j c.differ-right.result a c.loop-j.invariant.rests c.write_column.ensures.rests (ap₂ (λ apart t. left_if j apart a t) c.differ-right.ensures text);
       is_drawn = λ more. c.is_drawn_after-drawn.ensures c.len-columns.result more;
       left = c.differ-right.ensures;
-      drawn = draws-as (sym (each-more (stretches c.args.look.now.style c.args.look.now.alignments.now c.len-columns.result false c.args.edges.now c.args.above.now c.args.below.now old) j))
+      drawn = draws-as (sym (each-more (stretches c.args.sheet.now.look.style c.args.sheet.now.look.alignments.now c.len-columns.result false c.args.sheet.now.edges.now c.args.above.now c.args.below.now old) j))
           (draws-then c.loop-j.invariant.drawn (draws-then
-          (draws-as (ap (λ d. edge c.args.look.now.style false d (get_or c.args.above.now j None) a (get_or c.args.below.now j None) b) drawn) c.write_corner.ensures)
-          (draws-as (ap₂ (λ d t. column_if c.args.look.now.style c.args.look.now.alignments.now d c.differ-right.result c.args.edges.now j a t) drawn text ∙ ap (λ apart. column_if c.args.look.now.style c.args.look.now.alignments.now (is_drawn c.args.look.now.style.columns c.len-columns.result j) apart c.args.edges.now j a (get_or old j [])) c.differ-right.ensures) c.write_column.ensures.draws)));
+          (draws-as (ap (λ d. edge c.args.sheet.now.look.style false d (get_or c.args.above.now j None) a (get_or c.args.below.now j None) b) drawn) c.write_corner.ensures)
+          (draws-as (ap₂ (λ d t. column_if c.args.sheet.now.look.style c.args.sheet.now.look.alignments.now d c.differ-right.result c.args.sheet.now.edges.now j a t) drawn text ∙ ap (λ apart. column_if c.args.sheet.now.look.style c.args.sheet.now.look.alignments.now (is_drawn c.args.sheet.now.look.style.columns c.len-columns.result j) apart c.args.sheet.now.edges.now j a (get_or old j [])) c.differ-right.ensures) c.write_column.ensures.draws)));
     }
 
 pub returns-clause-draws : goal.returns-clause-draws
@@ -29,8 +34,8 @@ returns-clause-draws g c =
     let old = bytes_in c.args.rests.now.items in
     let columns : c.len-columns.result ≡ length c.args.rests.now.items = omega (arith, c.len-columns.ensures) in
     let end : c.loop-j.j ≡ length c.args.rests.now.items = omega (arith, c.loop-j-test.false, c.loop-j.auto.j-end, c.len-columns.ensures) in
-    subst (λ held. Draws (g.W.Write.contents c.args.writer.now) c.args.held.now (g.W.Write.contents c.push.new.writer) held (line_of_rests c.args.look.now.style c.args.look.now.alignments.now false c.args.edges.now c.args.above.now c.args.below.now c.args.rests.now.items)) (sym c.in_ok-take_outcome.ensures.1)
-    (draws-as (ap (λ n. drawn_line c.args.look.now.style c.args.look.now.alignments.now n false c.args.edges.now c.args.above.now c.args.below.now old) columns) (draws-then (draws-then
-    (draws-as (ap (λ n. each n (stretches c.args.look.now.style c.args.look.now.alignments.now c.len-columns.result false c.args.edges.now c.args.above.now c.args.below.now old)) (end ∙ sym columns)) c.loop-j.invariant.drawn)
-    (draws-as (ap (λ d. edge c.args.look.now.style false d (get_or c.args.above.now c.len-columns.result None) (get_or c.args.above.now (c.len-columns.result + 1) None) (get_or c.args.below.now c.len-columns.result None) (get_or c.args.below.now (c.len-columns.result + 1) None)) c.is_drawn-drawn-2.ensures) c.write_corner-2.ensures))
+    subst (λ held. Draws (g.W.Write.contents c.args.writer.now) c.args.held.now (g.W.Write.contents c.push.new.writer) held (line_of_rests c.args.sheet.now.look.style c.args.sheet.now.look.alignments.now false c.args.sheet.now.edges.now c.args.above.now c.args.below.now c.args.rests.now.items)) (sym c.in_ok-take_outcome.ensures.1)
+    (draws-as (ap (λ n. drawn_line c.args.sheet.now.look.style c.args.sheet.now.look.alignments.now n false c.args.sheet.now.edges.now c.args.above.now c.args.below.now old) columns) (draws-then (draws-then
+    (draws-as (ap (λ n. each n (stretches c.args.sheet.now.look.style c.args.sheet.now.look.alignments.now c.len-columns.result false c.args.sheet.now.edges.now c.args.above.now c.args.below.now old)) (end ∙ sym columns)) c.loop-j.invariant.drawn)
+    (draws-as (ap (λ d. edge c.args.sheet.now.look.style false d (get_or c.args.above.now c.len-columns.result None) (get_or c.args.above.now (c.len-columns.result + 1) None) (get_or c.args.below.now c.len-columns.result None) (get_or c.args.below.now (c.len-columns.result + 1) None)) c.is_drawn-drawn-2.ensures) c.write_corner-2.ensures))
     (draws-byte _ _ _ _ 10 (lit< tt) c.push.ensures)))

@@ -8,6 +8,6 @@ returns g c =
     let j = c.args.j in
     let text : c.index.result.now.now ≡ get_or (bytes_in c.args.rests.now.items) j [] = text-in c.args.rests.now.items j c.index.result.now c.requires.rest c.index.ensures in
     record {
-      draws = draws-as (ap (text_inside c.args.look.now.alignments.now c.args.drawn c.args.edges.now j c.args.owner) text) c.write_inside.ensures.draws;
+      draws = draws-as (ap (text_inside c.args.sheet.now.look.alignments.now c.args.drawn c.args.sheet.now.edges.now j c.args.owner) text) c.write_inside.ensures.draws;
       rests = cut-set j c.args.owner c.args.rests.now.items c.write_inside.result c.requires.rest (c.write_inside.ensures.rest ∙ ap (left_inside j c.args.owner) text);
     }

@@ -8,7 +8,7 @@ use Rattle.tabled_draw.proofs.lines.write_row_line.Goals as goal
 pub write_inside-requires-clause-end : goal.write_inside-requires-clause-end
 write_inside-requires-clause-end g c = λ o owned begins.
     let less : c.loop-j.j < length c.args.rests.now.items = omega (arith, c.loop-j-test.true, c.len-columns.ensures) in
-    omega (arith, c.requires.inside.each c.loop-j.j o less owned begins, c.requires.edges)
+    omega (arith, c.requires.inside.each c.loop-j.j o less owned begins, c.requires.columns, c.args.sheet.now.long)
 
 pub loop-j-preserved : goal.loop-j-preserved
 loop-j-preserved g c =
@@ -18,15 +18,15 @@ loop-j-preserved g c =
     let text : c.index.result.now.now ≡ get_or old j [] = text-in c.loop-j.rests.items j c.index.result.now less c.index.ensures ∙ c.loop-j.invariant.rests.left j (omega arith) in
     let a = get_or c.args.owners.now (j + 1) None in
     let b = get_or c.args.owners.now (j + 1) None in
-    let drawn : c.loop-j.drawn ≡ is_drawn c.args.look.now.style.columns c.len-columns.result j = c.loop-j.invariant.is_drawn c.loop-j-test.true in
+    let drawn : c.loop-j.drawn ≡ is_drawn c.args.sheet.now.look.style.columns c.len-columns.result j = c.loop-j.invariant.is_drawn c.loop-j-test.true in
     record {
       long = length-set c.loop-j.rests.items j _ ∙ c.loop-j.invariant.long;
       rests = changed-more _ old c.loop-j.rests.items j c.write_inside.result c.loop-j.invariant.rests less (c.write_inside.ensures.rest ∙ ap (left_inside j a) text ∙ sym (cond-false (differ a a) (get_or old j []) (left_inside j a (get_or old j [])) (differ-self a)));
       is_drawn = λ more. c.is_drawn_after-drawn.ensures c.len-columns.result more;
-      drawn = draws-as (sym (each-more (stretches c.args.look.now.style c.args.look.now.alignments.now c.len-columns.result true c.args.edges.now c.args.owners.now c.args.owners.now old) j))
+      drawn = draws-as (sym (each-more (stretches c.args.sheet.now.look.style c.args.sheet.now.look.alignments.now c.len-columns.result true c.args.sheet.now.edges.now c.args.owners.now c.args.owners.now old) j))
           (draws-then c.loop-j.invariant.drawn (draws-then
-          (draws-as (ap (λ d. edge c.args.look.now.style true d (get_or c.args.owners.now j None) a (get_or c.args.owners.now j None) b) drawn) c.write_upright.ensures)
-          (draws-as (ap₂ (λ d t. text_inside c.args.look.now.alignments.now d c.args.edges.now j a t) drawn text ∙ sym (cond-false (differ a a) (level c.args.look.now.style (is_drawn c.args.look.now.style.columns c.len-columns.result j) c.args.edges.now j) (text_inside c.args.look.now.alignments.now (is_drawn c.args.look.now.style.columns c.len-columns.result j) c.args.edges.now j a (get_or old j [])) (differ-self a))) c.write_inside.ensures.draws)));
+          (draws-as (ap (λ d. edge c.args.sheet.now.look.style true d (get_or c.args.owners.now j None) a (get_or c.args.owners.now j None) b) drawn) c.write_upright.ensures)
+          (draws-as (ap₂ (λ d t. text_inside c.args.sheet.now.look.alignments.now d c.args.sheet.now.edges.now j a t) drawn text ∙ sym (cond-false (differ a a) (level c.args.sheet.now.look.style (is_drawn c.args.sheet.now.look.style.columns c.len-columns.result j) c.args.sheet.now.edges.now j) (text_inside c.args.sheet.now.look.alignments.now (is_drawn c.args.sheet.now.look.style.columns c.len-columns.result j) c.args.sheet.now.edges.now j a (get_or old j [])) (differ-self a))) c.write_inside.ensures.draws)));
     }
 
 pub returns-clause-draws : goal.returns-clause-draws
@@ -35,8 +35,8 @@ returns-clause-draws g c =
     let old = bytes_in c.args.rests.now.items in
     let columns : c.len-columns.result ≡ length c.args.rests.now.items = omega (arith, c.len-columns.ensures) in
     let end : c.loop-j.j ≡ length c.args.rests.now.items = omega (arith, c.loop-j-test.false, c.loop-j.auto.j-end, c.len-columns.ensures) in
-    subst (λ held. Draws (g.W.Write.contents c.args.writer.now) c.args.held.now (g.W.Write.contents c.push.new.writer) held (line_of_rests c.args.look.now.style c.args.look.now.alignments.now true c.args.edges.now c.args.owners.now c.args.owners.now c.args.rests.now.items)) (sym c.in_ok-take_outcome.ensures.1)
-    (draws-as (ap (λ n. drawn_line c.args.look.now.style c.args.look.now.alignments.now n true c.args.edges.now c.args.owners.now c.args.owners.now old) columns) (draws-then (draws-then
-    (draws-as (ap (λ n. each n (stretches c.args.look.now.style c.args.look.now.alignments.now c.len-columns.result true c.args.edges.now c.args.owners.now c.args.owners.now old)) (end ∙ sym columns)) c.loop-j.invariant.drawn)
-    (draws-as (ap (λ d. edge c.args.look.now.style true d (get_or c.args.owners.now c.len-columns.result None) (get_or c.args.owners.now (c.len-columns.result + 1) None) (get_or c.args.owners.now c.len-columns.result None) (get_or c.args.owners.now (c.len-columns.result + 1) None)) c.is_drawn-drawn-2.ensures) c.write_upright-2.ensures))
+    subst (λ held. Draws (g.W.Write.contents c.args.writer.now) c.args.held.now (g.W.Write.contents c.push.new.writer) held (line_of_rests c.args.sheet.now.look.style c.args.sheet.now.look.alignments.now true c.args.sheet.now.edges.now c.args.owners.now c.args.owners.now c.args.rests.now.items)) (sym c.in_ok-take_outcome.ensures.1)
+    (draws-as (ap (λ n. drawn_line c.args.sheet.now.look.style c.args.sheet.now.look.alignments.now n true c.args.sheet.now.edges.now c.args.owners.now c.args.owners.now old) columns) (draws-then (draws-then
+    (draws-as (ap (λ n. each n (stretches c.args.sheet.now.look.style c.args.sheet.now.look.alignments.now c.len-columns.result true c.args.sheet.now.edges.now c.args.owners.now c.args.owners.now old)) (end ∙ sym columns)) c.loop-j.invariant.drawn)
+    (draws-as (ap (λ d. edge c.args.sheet.now.look.style true d (get_or c.args.owners.now c.len-columns.result None) (get_or c.args.owners.now (c.len-columns.result + 1) None) (get_or c.args.owners.now c.len-columns.result None) (get_or c.args.owners.now (c.len-columns.result + 1) None)) c.is_drawn-drawn-2.ensures) c.write_upright-2.ensures))
     (draws-byte _ _ _ _ 10 (lit< tt) c.push.ensures)))

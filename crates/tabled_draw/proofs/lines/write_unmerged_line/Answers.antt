@@ -8,7 +8,7 @@ use Rattle.tabled_draw.proofs.lines.write_unmerged_line.Goals as goal
 
 pub loop-j-init : goal.loop-j-init
 loop-j-init g c = record {
-  mark = λ some. c.corner-mark.ensures ∙ ap (corner_if c.args.look.now.style) (same-arms _ _ _ _ _ _ _ _ refl (sym (lt-ltb 0 c.args.columns some)) refl (sym (le-ltb 0 0 (omega arith))));
+  mark = λ some. c.corner-mark.ensures ∙ ap (corner_if c.args.sheet.now.look.style) (same-arms _ _ _ _ _ _ _ _ refl (sym (lt-ltb 0 c.args.sheet.now.columns some)) refl (sym (le-ltb 0 0 (omega arith))));
   is_drawn = λ some. c.is_drawn-drawn.ensures;
   drawn = draws-none;
 }
@@ -16,27 +16,27 @@ loop-j-init g c = record {
 pub loop-j-preserved : goal.loop-j-preserved
 loop-j-preserved g c =
     let j = c.loop-j.j in
-    let drawn : c.loop-j.drawn ≡ is_drawn c.args.look.now.style.columns c.args.columns j = c.loop-j.invariant.is_drawn c.loop-j-test.true in
-    let mark : c.loop-j.mark ≡ corner_if c.args.look.now.style (unmerged_arms c.args.rows c.args.columns c.args.i j) = c.loop-j.invariant.mark c.loop-j-test.true in
+    let drawn : c.loop-j.drawn ≡ is_drawn c.args.sheet.now.look.style.columns c.args.sheet.now.columns j = c.loop-j.invariant.is_drawn c.loop-j-test.true in
+    let mark : c.loop-j.mark ≡ corner_if c.args.sheet.now.look.style (unmerged_arms c.args.sheet.now.rows c.args.sheet.now.columns c.args.i j) = c.loop-j.invariant.mark c.loop-j-test.true in
     record {
-      mark = λ more. c.corner-inner.ensures ∙ ap (corner_if c.args.look.now.style) (same-arms _ _ _ _ _ _ _ _ refl (sym (lt-ltb (j + 1) c.args.columns more)) refl (sym (lt-ltb 0 (j + 1) (omega arith))));
-      is_drawn = λ more. c.is_drawn_after-drawn.ensures c.args.columns more;
-      drawn = draws-as (sym (each-more (unmerged_stretch c.args.look.now.style c.args.rows c.args.columns c.args.i c.args.edges.now) j))
+      mark = λ more. c.corner-inner.ensures ∙ ap (corner_if c.args.sheet.now.look.style) (same-arms _ _ _ _ _ _ _ _ refl (sym (lt-ltb (j + 1) c.args.sheet.now.columns more)) refl (sym (lt-ltb 0 (j + 1) (omega arith))));
+      is_drawn = λ more. c.is_drawn_after-drawn.ensures c.args.sheet.now.columns more;
+      drawn = draws-as (sym (each-more (unmerged_stretch c.args.sheet.now.look.style c.args.sheet.now.rows c.args.sheet.now.columns c.args.i c.args.sheet.now.edges.now) j))
           (draws-then c.loop-j.invariant.drawn (draws-then
           (draws-as (ap₂ marked drawn mark) c.write_mark.ensures)
-          (draws-as (ap (λ d. level c.args.look.now.style d c.args.edges.now j) drawn) c.write_level.ensures)));
+          (draws-as (ap (λ d. level c.args.sheet.now.look.style d c.args.sheet.now.edges.now j) drawn) c.write_level.ensures)));
     }
 
 pub returns : goal.returns
 unfolding unmerged_line
 returns g c =
-    let columns = c.args.columns in
+    let columns = c.args.sheet.now.columns in
     let end : c.loop-j.j ≡ columns = omega (arith, c.loop-j-test.false, c.loop-j.auto.j-end) in
-    let last : c.corner-last.result ≡ corner_if c.args.look.now.style (unmerged_arms c.args.rows columns c.args.i columns) = c.corner-last.ensures ∙ ap (corner_if c.args.look.now.style) (same-arms (nat_lt 0 c.args.i) false (nat_lt c.args.i c.args.rows) (nat_lt 0 columns) (nat_lt 0 c.args.i) (nat_lt columns columns) (nat_lt c.args.i c.args.rows) (nat_lt 0 columns) refl (sym (le-ltb columns columns (omega arith))) refl refl) in
+    let last : c.corner-last.result ≡ corner_if c.args.sheet.now.look.style (unmerged_arms c.args.sheet.now.rows columns c.args.i columns) = c.corner-last.ensures ∙ ap (corner_if c.args.sheet.now.look.style) (same-arms (nat_lt 0 c.args.i) false (nat_lt c.args.i c.args.sheet.now.rows) (nat_lt 0 columns) (nat_lt 0 c.args.i) (nat_lt columns columns) (nat_lt c.args.i c.args.sheet.now.rows) (nat_lt 0 columns) refl (sym (le-ltb columns columns (omega arith))) refl refl) in
     record {
-      draws = subst (λ held. Draws (g.W.Write.contents c.args.writer.now) c.args.held.now (g.W.Write.contents c.push.new.writer) held (unmerged_line c.args.look.now.style c.args.rows columns c.args.i c.args.edges.now)) (sym c.in_ok-take_outcome.ensures.1)
+      draws = subst (λ held. Draws (g.W.Write.contents c.args.writer.now) c.args.held.now (g.W.Write.contents c.push.new.writer) held (unmerged_line c.args.sheet.now.look.style c.args.sheet.now.rows columns c.args.i c.args.sheet.now.edges.now)) (sym c.in_ok-take_outcome.ensures.1)
           (draws-then (draws-then
-          (draws-as (ap (λ n. each n (unmerged_stretch c.args.look.now.style c.args.rows columns c.args.i c.args.edges.now)) end) c.loop-j.invariant.drawn)
+          (draws-as (ap (λ n. each n (unmerged_stretch c.args.sheet.now.look.style c.args.sheet.now.rows columns c.args.i c.args.sheet.now.edges.now)) end) c.loop-j.invariant.drawn)
           (draws-as (ap₂ marked c.is_drawn.ensures last) c.write_mark-2.ensures))
           (draws-byte _ _ _ _ 10 (lit< tt) c.push.ensures));
     }

@@ -1,13 +1,10 @@
-use Rattle.tabled_draw.proofs.Common.{◌+◌, ◌∙◌, IsBetween, Rows, ap, entries, length, length-replicate, map_grid, subst, sym}
+use Rattle.tabled_draw.proofs.Common.{◌∙◌, IsBetween, Rows, ap, entries, length, length-replicate, map_grid, subst}
 use Rattle.tabled_draw.proofs.Fitting.{bytes-drawn, fits-of}
 use Rattle.tabled_draw.proofs.Sizes.{length-sizes}
 use Rattle.tabled_draw.proofs.drawing.Drawing.with_look.Goals as goal
 
 pub layout_of-requires-clause-fits : goal.layout_of-requires-clause-fits
 layout_of-requires-clause-fits g c = fits-of (map_grid g.R.Cell.CellText.text_of (g.R.GridStore.grid c.args.records.now)) _ c.in_ok-spans.spans _ _ c.count_rows-rows.ensures.rows c.count_columns-columns.ensures.columns c.in_ok-spans.ensures.fitting c.fitting.ensures.sizes
-
-pub line_between-requires-clause-edges : goal.line_between-requires-clause-edges
-line_between-requires-clause-edges g c = ap length c.deref.ensures.value ∙ c.in_ok-layout.ensures.edges.long ∙ ap (λ n. n + 1) (sym c.count_columns-columns.ensures.columns)
 
 pub invariant_of-result : goal.invariant_of-result
 invariant_of-result g c =
@@ -22,8 +19,9 @@ invariant_of-result g c =
         above = c.in_ok-layout.ensures.above;
         here = c.in_ok-layout.ensures.here;
         rests = ap length (c.in_ok-rests.ensures.items_if_clones_equal (λ y e. e)) ∙ length-replicate _ _ ∙ c.count_columns-columns.ensures.columns;
+        level = c.in_ok-level.ensures;
         between = subst (λ n. IsBetween c.args.look.now.style n c.in_ok-layout.layout.edges.items c.in_ok-between.between.items) c.count_columns-columns.ensures.columns
-            (subst (λ e. IsBetween c.args.look.now.style c.count_columns-columns.result e c.in_ok-between.between.items) c.deref.ensures.value c.in_ok-between.ensures.between);
+            (subst (λ e. IsBetween c.args.look.now.style c.count_columns-columns.result e c.in_ok-between.between.items) c.deref-2.ensures.value c.in_ok-between.ensures.between);
         unused = c.in_ok-between.ensures.none;
       },
     )
